@@ -1,0 +1,40 @@
+-- Ordered lists of checks, of which the first that fails decides, and what a call promises by such a list.
+use Rattle.std.specs.Prelude.{◌≡◌, ◌≢◌, ℕ, Bool, if◌then◌else◌, Result, Ok, Err, Option, Some, None}
+
+-- One check after another stands as a `do` over the `◌>>=◌` of Reading, with this where a check has no value.
+pub data Passed : Type 0 where
+  passed : Passed
+
+infixl 10 ◌>>◌
+abbrev pub ◌>>◌ : {A : Type 0} → Result Passed ℕ → Result A ℕ → Result A ℕ
+(Ok x) >> rest = rest
+(Err n) >> rest = Err n
+
+-- the check of that number
+abbrev pub require : ℕ → Bool → Result Passed ℕ
+require n test = if test then Ok passed else Err n
+
+-- the value, or the check of that number fails
+abbrev pub given : {A : Type 0} → ℕ → Option A → Result A ℕ
+given n (Some x) = Ok x
+given n None = Err n
+
+-- A call answers what the definition does: its value, or the number of its error. Where memory was
+-- refused, number 1, it says nothing.
+abbrev pub Answers : {A B E : Type 0} → (B → A) → (E → ℕ) → Result A ℕ → Result B E → Type 0
+Answers value number defined (Ok x) = defined ≡ Ok (value x)
+Answers value number defined (Err e) = number e ≢ 1 → defined ≡ Err (number e)
+
+-- The same of a call that takes no memory.
+abbrev pub AnswersOutright : {A B E : Type 0} → (B → A) → (E → ℕ) → Result A ℕ → Result B E → Type 0
+AnswersOutright value number defined (Ok x) = defined ≡ Ok (value x)
+AnswersOutright value number defined (Err e) = defined ≡ Err (number e)
+
+-- A call that may change a state does what the definition says. A refusal changes nothing; its number is
+-- the definition's, unless memory was refused.
+abbrev pub DoesAs : {A B E S : Type 0} → (B → A) → (E → ℕ) → Result (A × S) ℕ → S → S → Result B E → Type 0
+DoesAs value number defined old new (Ok x) = defined ≡ Ok (value x, new)
+DoesAs value number defined old new (Err e) = (new ≡ old) × (number e ≢ 1 → defined ≡ Err (number e))
+
+abbrev pub Does : {A E S : Type 0} → (E → ℕ) → Result (A × S) ℕ → S → S → Result A E → Type 0
+Does number defined old new result = DoesAs (λ x. x) number defined old new result
