@@ -1,0 +1,3 @@
+pub mod Kdf
+pub mod Keyed
+pub mod Lengths

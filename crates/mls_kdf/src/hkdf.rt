@@ -1,0 +1,56 @@
+//! HKDF (RFC 5869).
+
+ghost use Rattle.std.specs.Prelude.{◌≡◌, ℕ, ◌+◌, ◌-◌, ◌*◌, ◌<◌, ◌≤◌, ◌↔◌, [], ◌∷◌, ◌++◌, List, length, take, drop, IsErrOf, OnOk, OnErr};
+ghost use Rattle.mls_kdf.specs.Kdf.{joined, hmac, extract, expand, hkdf_block};
+ghost use Rattle.mls_kdf.specs.Keyed.{IsKeyed};
+ghost use Rattle.mls_kdf.specs.declared.TheConstants.{MAX_OUTPUT};
+
+use crate::{KdfError, KeyedHash, MAX_OUTPUT, Secret, hmac};
+
+/// A key made of input key material `ikm`, under a salt.
+#[tactic(auto, unfolding(crate::specs::Kdf::extract))]
+pub fn extract(salt: &[u8], ikm: &[u8]) -> Secret
+    ensures { result ≡ extract salt.now ikm.now }
+{
+    hmac(salt, &[ikm])
+}
+
+// The block with this number, from the one before; the first comes from none.
+fn next_block(keyed: &KeyedHash, previous: &[u8], info: &[&[u8]], number: u8) -> Secret
+    ensures { (prk : List ℕ) → IsKeyed keyed.now prk [] → result ≡ hmac prk (previous.now ++ joined info.now ++ number ∷ []) }
+{
+    let mut keyed = keyed.copy();
+    keyed.update(previous);
+    keyed.update_all(info);
+    keyed.update(&[number]);
+    keyed.finish()
+}
+
+// Writes the block at `at`, as far as there is room.
+fn put(out: &mut [u8], at: usize, block: &Secret)
+    requires { at ≤ length out.old }
+    ensures { out.new ≡ take at out.old ++ take (length out.old - at) block.now ++ drop (at + 32) out.old }
+{
+    let end = out.len().min(at + 32);
+    out[at..end].copy_from_slice(&block[..end - at]);
+}
+
+/// Fills `out` with a key made of `prk` and the pieces of `info`, one after another. More than 8,160
+/// bytes are refused with `OutputTooLong`, and `out` is as it was.
+pub fn expand(prk: &[u8], info: &[&[u8]], out: &mut [u8]) -> Result<(), KdfError>
+    ensures too_long { IsErrOf result KdfError.OutputTooLong ↔ (MAX_OUTPUT < length out.old) }
+    ensures ok { OnOk result (out.new ≡ expand prk.now (joined info.now) (length out.old)) }
+    ensures err { OnErr result (out.new ≡ out.old) }
+{
+    if out.len() > MAX_OUTPUT {
+        return Err(KdfError::OutputTooLong);
+    }
+    let keyed = KeyedHash::new(prk);
+    let mut block = [0; 32];
+    for i in 0..out.len().div_ceil(32) {
+        let previous: &[u8] = if i == 0 { &[] } else { &block };
+        block = next_block(&keyed, previous, info, (i + 1) as u8);
+        put(out, 32 * i, &block);
+    }
+    Ok(())
+}

@@ -1,0 +1,69 @@
+//! The labelled functions of RFC 9420 (sections 5.2 and 8). A label has at most 200 bytes, and a
+//! context or a value less than 2^30.
+
+ghost use Rattle.std.specs.Prelude.{◌≡◌, ◌+◌, ◌<◌, ◌≤◌, ◌^◌, ◌↔◌, length, IsErrOf, OnOk, OnErr};
+ghost use Rattle.mls_kdf.specs.Kdf.{expand_with_label, derive_secret, ref_hash};
+ghost use Rattle.mls_kdf.specs.declared.TheConstants.{MAX_OUTPUT};
+
+use crate::{KdfError, MAX_OUTPUT, Secret, content_header, expand, hash};
+
+// What stands before each label.
+const PREFIX: &[u8] = b"MLS 1.0 ";
+
+/// Fills `out` with a key made of `secret`, under a label and a context (ExpandWithLabel of RFC
+/// 9420, section 8). More than 8,160 bytes are refused with `OutputTooLong`, and `out` is as it was.
+pub fn expand_with_label(
+    secret: &[u8],
+    label: &str,
+    context: &[u8],
+    out: &mut [u8],
+) -> Result<(), KdfError>
+    requires label { length label.now ≤ 200 }
+    requires context { length context.now < 2 ^ 30 }
+    ensures too_long { IsErrOf result KdfError.OutputTooLong ↔ (MAX_OUTPUT < length out.old) }
+    ensures ok { OnOk result (out.new ≡ expand_with_label secret.now label.now context.now (length out.old)) }
+    ensures err { OnErr result (out.new ≡ out.old) }
+{
+    if out.len() > MAX_OUTPUT {
+        return Err(KdfError::OutputTooLong);
+    }
+    let length = (out.len() as u16).to_be_bytes();
+    let label_header = content_header(PREFIX.len() + label.len());
+    let context_header = content_header(context.len());
+    let info: [&[u8]; 6] = [
+        &length,
+        label_header.as_slice(),
+        PREFIX,
+        label.as_bytes(),
+        context_header.as_slice(),
+        context,
+    ];
+    expand(secret, &info, out)
+}
+
+/// A secret made of `secret`, under a label (DeriveSecret of RFC 9420, section 8).
+#[tactic(auto, unfolding(crate::specs::Kdf::derive_secret))]
+pub fn derive_secret(secret: &[u8], label: &str) -> Secret
+    requires { length label.now ≤ 200 }
+    ensures { result ≡ derive_secret secret.now label.now }
+{
+    let mut out = [0; 32];
+    expand_with_label(secret, label, &[], &mut out).unwrap();
+    out
+}
+
+/// The hash of a value under a label (RefHash of RFC 9420, section 5.2); the label is given in full.
+pub fn ref_hash(label: &str, value: &[u8]) -> Secret
+    requires label { length label.now ≤ 200 }
+    requires value { length value.now < 2 ^ 30 }
+    ensures { result ≡ ref_hash label.now value.now }
+{
+    let label_header = content_header(label.len());
+    let value_header = content_header(value.len());
+    hash(&[
+        label_header.as_slice(),
+        label.as_bytes(),
+        value_header.as_slice(),
+        value,
+    ])
+}

@@ -1,0 +1,55 @@
+//! The key functions of MLS over SHA-256: HMAC (RFC 2104), HKDF (RFC 5869), and the labelled
+//! functions of RFC 9420 (sections 5.2 and 8). No call takes memory: pieces are fed to the hasher.
+#![tactic(auto)]
+
+mod header;
+mod hkdf;
+mod keyed;
+mod labels;
+#[cfg(test)]
+mod tests;
+
+pub use header::content_header;
+pub use hkdf::{expand, extract};
+pub use keyed::{KeyedHash, hash, hmac};
+pub use labels::{derive_secret, expand_with_label, ref_hash};
+use thiserror::Error;
+
+/// A hash, or a secret of a hash's length.
+pub type Secret = [u8; 32];
+
+/// The random bytes that a call makes its keys of.
+pub type Seed = [u8; 32];
+
+/// The most bytes that a key can have: 255 blocks of 32.
+pub const MAX_OUTPUT: usize = 8160;
+
+/// Why a key is not made.
+#[derive(Clone, Copy, Debug, PartialEq, Eq, Error)]
+pub enum KdfError {
+    /// More than 255 blocks were asked for.
+    #[error("the output is too long")]
+    OutputTooLong,
+}
+
+impl KdfError {
+    ghost use Rattle.std.specs.Prelude.{◌≡◌, codes};
+
+    /// The number of the refusal.
+    pub fn number(self) -> u8
+        ensures { result ≡ 10 }
+    {
+        match self {
+            KdfError::OutputTooLong => 10,
+        }
+    }
+
+    /// The name of the refusal.
+    pub fn name(self) -> &'static str
+        ensures { result.now ≡ codes "OutputTooLong" }
+    {
+        match self {
+            KdfError::OutputTooLong => "OutputTooLong",
+        }
+    }
+}
