@@ -1,0 +1,31 @@
+-- The format of parents.
+use Rattle.std.specs.Prelude.{ℕ, ◌+◌, nat_le, refl}
+use Rattle.mls_wire.specs.Format.{Format}
+use Rattle.mls_wire.specs.CombineLaws.{IsNonempty}
+use Rattle.mls_wire.specs.Combine.{◌⨾◌, seen, guarded, byte_string, uint32}
+use Rattle.mls_wire.specs.Stateful.{Rule, vector_from}
+use Rattle.mls_leaf.specs.Nonempty.{byte_string_nonempty, first_nonempty, uint32_nonempty}
+use Rattle.mls_leaf.specs.Parent.{Parent}
+
+-- ---- (RFC 9420, section 7.1) encryption_key<V>, parent_hash<V>, unmerged_leaves: uint32<V>, strictly rising
+
+-- an entry that is no less than a bound
+abbrev pub entry_from : ℕ → Format ℕ
+entry_from low = guarded uint32 (nat_le low) 13
+
+pub entry_from_nonempty : (low : ℕ) → IsNonempty (entry_from low)
+entry_from_nonempty low v fits = uint32_nonempty v fits.0
+
+-- behind an entry the next one is above it
+abbrev pub rising : Rule ℕ ℕ
+rising = record { item = entry_from; next = λ low entry. entry + 1; nonempty = entry_from_nonempty }
+
+unfoldable pub parent_node : Format Parent
+parent_node = seen (byte_string ⨾ byte_string ⨾ vector_from rising 0)
+    (λ x. record { encryption_key = x.0; parent_hash = x.1.0; unmerged_leaves = x.1.1 })
+    (λ v. (v.encryption_key, (v.parent_hash, v.unmerged_leaves)))
+    (λ v. refl) (λ x _. refl)
+
+pub parent_node_nonempty : IsNonempty parent_node
+unfolding parent_node
+parent_node_nonempty v fits = first_nonempty byte_string (byte_string ⨾ vector_from rising 0) byte_string_nonempty (v.encryption_key, (v.parent_hash, v.unmerged_leaves)) fits
