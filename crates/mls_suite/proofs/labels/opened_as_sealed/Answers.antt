@@ -1,0 +1,5 @@
+use Rattle.mls_suite.specs.LabelLaws.{opens_sealed}
+use Rattle.mls_suite.proofs.labels.opened_as_sealed.Goals as goal
+
+pub returns : goal.returns
+returns g c = opens_sealed g.S.Suite.crypto g.met.S.Suite.lawful

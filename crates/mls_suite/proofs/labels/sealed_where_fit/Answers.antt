@@ -1,0 +1,5 @@
+use Rattle.mls_suite.specs.LabelLaws.{seals_where_fit}
+use Rattle.mls_suite.proofs.labels.sealed_where_fit.Goals as goal
+
+pub returns : goal.returns
+returns g c = seals_where_fit g.S.Suite.crypto g.met.S.Suite.lawful
