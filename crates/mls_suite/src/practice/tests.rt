@@ -1,5 +1,6 @@
 use super::*;
 use crate::boxes::stream_block;
+use crate::{decrypt_with_label, encrypt_with_label, sign_with_label, verify_with_label};
 use mls_kdf::KeyedHash;
 use std::test::Fail;
 
@@ -24,4 +25,113 @@ fn box_of_three_blocks(rt: HostRuntime) -> Result<(), Fail> {
     let opened = Glass::aead_open(rt.alloc(), &[1; 16], &[2; 12], b"aad", &ct)?.ok_or("shut")?;
     assert_eq!(rt; opened.as_slice(), pt.as_slice());
     Ok(())
+}
+
+// Values by Python's hashlib and hmac.
+#[test]
+fn keys_and_seals(rt: HostRuntime) -> Result<(), Fail> {
+    let alloc = rt.alloc();
+    let derived = [
+        0x23, 0x25, 0xdb, 0x2e, 0xe9, 0x5a, 0xf7, 0x14, 0xc4, 0x05, 0x7c, 0x1f, 0x90, 0x32, 0x92,
+        0xbc, 0x7b, 0xc8, 0x14, 0x7b, 0xcb, 0xf7, 0xca, 0x91, 0x35, 0x95, 0x09, 0x02, 0x49, 0x7d,
+        0x1f, 0x84,
+    ];
+    let pair = Glass::derive_key_pair(alloc, b"ikm")?;
+    assert_eq!(rt; pair.sk, derived);
+    assert_eq!(rt;
+        pair.pk.as_slice(),
+        Glass::public(alloc, &derived)?.as_slice()
+    );
+    let public = [
+        0xb5, 0x1d, 0xac, 0x3e, 0x8a, 0xea, 0x6f, 0x09, 0x33, 0x11, 0x60, 0x71, 0xc9, 0xf2, 0xe5,
+        0xd5, 0xad, 0x09, 0xff, 0x4e, 0xdc, 0x0e, 0x3f, 0x06, 0xbf, 0x03, 0xc7, 0x2d, 0xee, 0x48,
+        0x5d, 0x44,
+    ];
+    let pk = Glass::public(alloc, &[7; 32])?;
+    assert_eq!(rt; pk.as_slice(), public.as_slice());
+    let kem = [
+        0x83, 0x0f, 0x84, 0x7a, 0x0d, 0x7f, 0xe3, 0xa4, 0xe8, 0xbb, 0xb6, 0x14, 0x94, 0xf3, 0x94,
+        0xc4, 0x37, 0x19, 0x07, 0x42, 0xb6, 0x6d, 0xfd, 0x5e, 0xfe, 0x52, 0x1a, 0x35, 0x95, 0x0a,
+        0xe8, 0x5a,
+    ];
+    let ct = [
+        0x63, 0xfe, 0x58, 0x28, 0xb8, 0x24, 0x43, 0x63, 0x74, 0x61, 0x83, 0xd1, 0x4a, 0x38, 0x44,
+        0x35, 0x14, 0x0b, 0x28, 0xc4, 0xe2, 0xe3, 0xef, 0x34, 0x12, 0x48, 0xde, 0x7c, 0xdd, 0xc3,
+        0xac, 0x2f, 0xbc, 0x55, 0xcb, 0x2f,
+    ];
+    let sealed = Glass::seal(alloc, &pk, b"info", b"text", &[9; 32])?.ok_or("unfit")?;
+    assert_eq!(rt; sealed.kem.as_slice(), kem.as_slice());
+    assert_eq!(rt; sealed.ct.as_slice(), ct.as_slice());
+    let opened = Glass::unseal(alloc, &[7; 32], &kem, b"info", &ct)?.ok_or("shut")?;
+    assert_eq!(rt; opened.as_slice(), b"text".as_slice());
+    Ok(())
+}
+
+// Values by Python's hashlib and hmac.
+#[test]
+fn labelled_calls(rt: HostRuntime) -> Result<(), Fail> {
+    let alloc = rt.alloc();
+    let expected = [
+        0xbd, 0x5d, 0x51, 0xec, 0x94, 0x09, 0x4e, 0x08, 0xdd, 0x05, 0xc4, 0x7c, 0x19, 0xb3, 0x85,
+        0x3c, 0x6a, 0x4d, 0x92, 0x8c, 0x84, 0x1c, 0xd3, 0x40, 0x80, 0x09, 0x59, 0xc8, 0x40, 0xdc,
+        0x5e, 0x4f,
+    ];
+    let sig_public = Glass::sig_public(alloc, &[7; 32])?;
+    let signature = sign_with_label::<Glass>(alloc, &[7; 32], "LeafNodeTBS", b"leaf")?;
+    assert_eq!(rt; signature.as_slice(), expected.as_slice());
+    assert!(rt; verify_with_label::<Glass>(alloc, &sig_public, "LeafNodeTBS", b"leaf", &expected)?);
+    assert!(rt; !verify_with_label::<Glass>(alloc, &sig_public, "LeafNodeTBS", b"", &expected)?);
+    let ct = [
+        0x0b, 0xb4, 0x2c, 0x2f, 0xfd, 0x80, 0x18, 0x29, 0x96, 0xe6, 0x54, 0x7c, 0x50, 0xf2, 0x14,
+        0x11, 0xb1, 0xa6, 0xe7, 0x5e, 0x0a, 0x9e, 0xf3, 0xb5, 0x61, 0xe1, 0xc0, 0x80, 0xf2, 0xd2,
+        0x42, 0x48, 0x8e, 0xb7, 0xf8, 0xb4, 0xd2, 0xb2,
+    ];
+    let pk = Glass::public(alloc, &[7; 32])?;
+    let sealed = encrypt_with_label::<Glass>(
+        alloc, &pk, "Welcome", b"context", b"secret", &[9; 32],
+    )?.ok_or("unfit")?;
+    assert_eq!(rt; sealed.ct.as_slice(), ct.as_slice());
+    let opened = decrypt_with_label::<Glass>(
+        alloc,
+        &[7; 32],
+        "Welcome",
+        b"context",
+        &sealed.kem,
+        &ct,
+    )?.ok_or("shut")?;
+    assert_eq!(rt; opened.as_slice(), b"secret".as_slice());
+    Ok(())
+}
+
+#[test]
+fn sizes(rt: HostRuntime) -> Result<(), Fail> {
+    let alloc = rt.alloc();
+    let pk = Glass::public(alloc, &[1; 32])?;
+    let sealed = Glass::seal(alloc, &pk, b"info", &[5; 32], &[2; 32])?.ok_or("unfit")?;
+    assert_eq!(rt; (sealed.kem.len(), sealed.ct.len()), (32, 64));
+    assert!(rt; Glass::key_ok(&pk));
+    assert!(rt; !Glass::key_ok(&[0; 31]));
+    assert!(rt; Glass::seal(alloc, &[0; 31], b"info", &[5; 32], &[2; 32])?.is_none());
+    assert!(rt; Glass::unseal(alloc, &[1; 32], &sealed.kem, b"info", &[0; 31])?.is_none());
+    assert!(rt; Glass::aead_open(alloc, &[1; 16], &[2; 12], b"aad", &[0; 31])?.is_none());
+    Ok(())
+}
+
+// The counter of the stream has 32 bits and goes on from 0. Values by Python's hmac.
+#[test]
+fn counter_goes_on_from_zero(rt: HostRuntime) {
+    let keyed = KeyedHash::new(b"k");
+    let first = [
+        0x76, 0x67, 0x16, 0x1d, 0x7c, 0xa9, 0xd9, 0xfc, 0xfd, 0x70, 0xfc, 0x9a, 0x87, 0x5d, 0xd1,
+        0x22, 0xfe, 0x2b, 0xe1, 0x4f, 0x96, 0x5c, 0x95, 0x97, 0xb0, 0x3c, 0xd9, 0x89, 0x30, 0x6b,
+        0x0c, 0xb0,
+    ];
+    let greatest = [
+        0x6c, 0x04, 0xfa, 0x2b, 0x61, 0x78, 0x30, 0xe1, 0xa1, 0x74, 0x74, 0xa0, 0xc6, 0xbe, 0xd2,
+        0x34, 0x4c, 0xf4, 0xb1, 0x35, 0x51, 0x87, 0xbc, 0xbe, 0x95, 0xbc, 0xd5, 0xb3, 0x3a, 0xd6,
+        0x74, 0xc1,
+    ];
+    assert_eq!(rt; stream_block(&keyed, 0), first);
+    assert_eq!(rt; stream_block(&keyed, (1 << 32) - 1), greatest);
+    assert_eq!(rt; stream_block(&keyed, 1 << 32), first);
 }
