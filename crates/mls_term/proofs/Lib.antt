@@ -1,0 +1,14 @@
+pub mod Basics
+pub mod Shape
+pub mod Parents
+pub mod Named
+pub mod Resolutions
+pub mod Originals
+pub mod Adds
+pub mod Merges
+pub mod Counts
+pub mod Places
+pub mod Goods
+pub mod Members
+pub mod Entries
+pub mod Examples

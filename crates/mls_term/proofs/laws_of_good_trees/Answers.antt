@@ -1,0 +1,13 @@
+use Rattle.mls_term.proofs.laws_of_good_trees.Goals as goal
+use Rattle.mls_term.proofs.Goods.{good_single, good_update, good_remove, good_add, good_merge, good_passes}
+
+pub returns : goal.returns
+returns c =
+    record {
+      single = good_single;
+      update = good_update;
+      remove = good_remove;
+      add = good_add;
+      merge = good_merge;
+      passes = good_passes;
+    }

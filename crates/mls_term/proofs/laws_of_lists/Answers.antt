@@ -1,0 +1,18 @@
+use Rattle.mls_term.proofs.laws_of_lists.Goals as goal
+use Rattle.mls_term.proofs.Named.{named_range, fresh, lists-enter, rises-enter}
+use Rattle.mls_term.proofs.Parents.{parents-put, parents-grow, parents-trim}
+use Rattle.mls_term.proofs.Merges.{lists-merge, rises-merge}
+
+pub returns : goal.returns
+returns c =
+    record {
+      listed = named_range;
+      unlisted = fresh;
+      put = parents-put;
+      grow = parents-grow;
+      trim = parents-trim;
+      right_enter = λ b t i x p. lists-enter b t i x p.low p.high;
+      rising_enter = rises-enter;
+      right_merge = lists-merge;
+      rising_merge = rises-merge;
+    }

@@ -1,0 +1,17 @@
+pub mod Node
+pub mod Sets
+pub mod Term
+pub mod Resolution
+pub mod Way
+pub mod Places
+pub mod Edits
+pub mod Lists
+pub mod Inputs
+pub mod Hashes
+pub mod Merge
+pub mod Keys
+pub mod Held
+pub mod Good
+pub mod Equations
+pub mod Laws
+pub mod Examples

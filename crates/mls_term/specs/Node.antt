@@ -1,0 +1,27 @@
+-- What the nodes of a tree hold.
+use Rattle.std.specs.Prelude.{ℕ, List, Option, Some, None}
+use Rattle.mls_leaf.specs.declared.leaf.LeafNode.{LeafNode}
+use Rattle.mls_leaf.specs.declared.leaf.LeafSource.{LeafSource}
+use Rattle.mls_leaf.specs.declared.leaf.LeafSource.TheVariants.{KeyPackage, Update, Commit}
+
+-- a parent: its key, the hash that ties it to the parent above, and the leaves below it that don't have its secret
+-- (RFC 9420, 7.1)
+pub record Parent : Type 0 where
+  pub encryption_key : List ℕ
+  pub parent_hash : List ℕ
+  pub unmerged_leaves : List ℕ
+
+-- the parent hash that a source has: only that of a commit has one (RFC 9420, 7.2)
+abbrev pub source_hash : LeafSource → Option (List ℕ)
+source_hash (KeyPackage before after) = None
+source_hash Update = None
+source_hash (Commit hash) = Some hash
+
+-- the parent hash that a place has which may be blank (RFC 9420, 7.9)
+abbrev pub leaf_parent_hash : Option LeafNode → Option (List ℕ)
+leaf_parent_hash None = None
+leaf_parent_hash (Some v) = source_hash v.source
+
+abbrev pub own_parent_hash : Option Parent → Option (List ℕ)
+own_parent_hash None = None
+own_parent_hash (Some p) = Some p.parent_hash

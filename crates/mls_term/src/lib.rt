@@ -1,0 +1,121 @@
+//! Ratchet trees as terms: definitions and their laws. Each function does nothing, and its contract is the laws of one
+//! subject.
+#![tactic(auto)]
+
+ghost use Rattle.mls_term.specs.Laws.{WidthOfPerfect, SizeOfWidth, WidthOfPut, WidthOfEnter, WidthOfMerge, PerfectPut, PerfectEnter, PerfectGrow, PerfectTrim, PerfectMerge, FullTrim};
+ghost use Rattle.mls_term.specs.Laws.{LeavesOfPut, LeavesOfEnter, LeavesOfMerge, MembersOfGrow, MembersOfTrim, FirstBlankIsBlank, FirstBlankIsFirst, NoBlankIsFull, AddedIsThere, AddedElsewhere, AddedIsWider, RemovedElsewhere};
+ghost use Rattle.mls_term.specs.Laws.{MembersPut, MembersEnter, MembersMerge, MembersGrow, MembersTrim, KeysPut, KeysEnter, KeysMerge, KeysGrow, KeysTrim};
+ghost use Rattle.mls_term.specs.Laws.{ListedIsMember, BlankIsUnlisted, ParentsPut, ParentsGrow, ParentsTrim, ListsEnter, RisesEnter, ListsMerge, RisesMerge};
+ghost use Rattle.mls_term.specs.Laws.{MembersAreReached, ResolutionIsIn, ResolutionIsDistinct, OneIsHeld, OneIsHeldOfRest, OneIsFiltered, AddedJoins};
+ghost use Rattle.mls_term.specs.Laws.{OriginalOfNone, OriginalOfEnter, OriginalOfOthers, HashesOfEnter, ValidEnter, MergeHasHead, ValidMerge};
+ghost use Rattle.mls_term.specs.Laws.{GoodSingle, GoodUpdate, GoodRemove, GoodAdd, GoodMerge, GoodPasses};
+ghost use Rattle.mls_term.specs.Examples.{ResolutionWithUnmerged, FilteredPathOfFour, NextAddOfFour, AddBehindPath, RemovalHalves, RemovalKeeps, RemovalHalvesOften, PathOfTwo, TreeOfTwo};
+
+/// Widths and shapes: a perfect tree of height h has 2^h leaves, a tree two nodes a leaf less one, edits keep trees
+/// perfect, and trimming leaves no right half without a member.
+pub fn laws_of_shape()
+    ensures width_of_perfect { WidthOfPerfect }
+    ensures size_of_width { SizeOfWidth }
+    ensures width_of_put { WidthOfPut }
+    ensures width_of_enter { WidthOfEnter }
+    ensures width_of_merge { WidthOfMerge }
+    ensures perfect_put { PerfectPut }
+    ensures perfect_enter { PerfectEnter }
+    ensures perfect_grow { PerfectGrow }
+    ensures perfect_trim { PerfectTrim }
+    ensures perfect_merge { PerfectMerge }
+    ensures full_trim { FullTrim }
+{}
+
+/// Leaves under each edit: one changes, or none; an added leaf lands in its place, and a removal cuts no other member.
+pub fn laws_of_leaves()
+    ensures put { LeavesOfPut }
+    ensures enter { LeavesOfEnter }
+    ensures merge { LeavesOfMerge }
+    ensures grow { MembersOfGrow }
+    ensures trim { MembersOfTrim }
+    ensures first_blank { FirstBlankIsBlank }
+    ensures first { FirstBlankIsFirst }
+    ensures full { NoBlankIsFull }
+    ensures added { AddedIsThere }
+    ensures added_elsewhere { AddedElsewhere }
+    ensures wider { AddedIsWider }
+    ensures removed_elsewhere { RemovedElsewhere }
+{}
+
+/// A test that each member passes is kept by each edit, where the new leaf passes it.
+pub fn laws_of_members()
+    ensures put { MembersPut }
+    ensures enter { MembersEnter }
+    ensures merge { MembersMerge }
+    ensures grow { MembersGrow }
+    ensures trim { MembersTrim }
+{}
+
+/// A test that each encryption key passes is kept by each edit, where the new keys pass it.
+pub fn laws_of_keys()
+    ensures put { KeysPut }
+    ensures enter { KeysEnter }
+    ensures merge { KeysMerge }
+    ensures grow { KeysGrow }
+    ensures trim { KeysTrim }
+{}
+
+/// Lists of unmerged leaves name members below their parent, and stay right and rising under each edit.
+pub fn laws_of_lists()
+    ensures listed { ListedIsMember }
+    ensures unlisted { BlankIsUnlisted }
+    ensures put { ParentsPut }
+    ensures grow { ParentsGrow }
+    ensures trim { ParentsTrim }
+    ensures right_enter { ListsEnter }
+    ensures rising_enter { RisesEnter }
+    ensures right_merge { ListsMerge }
+    ensures rising_merge { RisesMerge }
+{}
+
+/// Resolutions stay in their tree and name no node twice, each member has the key of one node of each resolution over
+/// it, and two ways part at one parent of the filtered path.
+pub fn laws_of_resolutions()
+    ensures reached { MembersAreReached }
+    ensures within { ResolutionIsIn }
+    ensures distinct { ResolutionIsDistinct }
+    ensures held { OneIsHeld }
+    ensures held_of_rest { OneIsHeldOfRest }
+    ensures filtered { OneIsFiltered }
+    ensures added { AddedJoins }
+{}
+
+/// Original siblings are blind to adds, and each edit keeps parents parent-hash valid.
+pub fn laws_of_parent_hashes()
+    ensures original { OriginalOfNone }
+    ensures original_enter { OriginalOfEnter }
+    ensures original_others { OriginalOfOthers }
+    ensures field { HashesOfEnter }
+    ensures valid_enter { ValidEnter }
+    ensures head { MergeHasHead }
+    ensures valid_merge { ValidMerge }
+{}
+
+/// Good trees stay good under each edit.
+pub fn laws_of_good_trees()
+    ensures single { GoodSingle }
+    ensures update { GoodUpdate }
+    ensures remove { GoodRemove }
+    ensures add { GoodAdd }
+    ensures merge { GoodMerge }
+    ensures passes { GoodPasses }
+{}
+
+/// Small trees, worked out: resolutions, filtered paths, where adds go, removals that halve, and merged paths.
+pub fn worked_examples()
+    ensures resolution { ResolutionWithUnmerged }
+    ensures filtered { FilteredPathOfFour }
+    ensures next_add { NextAddOfFour }
+    ensures add_behind { AddBehindPath }
+    ensures halves { RemovalHalves }
+    ensures keeps { RemovalKeeps }
+    ensures halves_often { RemovalHalvesOften }
+    ensures path_of_two { PathOfTwo }
+    ensures tree_of_two { TreeOfTwo }
+{}
