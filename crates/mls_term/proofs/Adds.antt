@@ -1,11 +1,11 @@
 -- An add keeps every parent hash valid.
 use Rattle.std.proofs.Common.{◌≡◌, ℕ, ◌+◌, ◌*◌, ◌<◌, ◌≤◌, ◌==◌, nat_lt, nat_le, Bool, true, false, not, ◌&&◌, ◌||◌, List, filter, Option, Some, None, refl, sym, ◌∙◌, ap, ap₂, arith, inl, inr, eqb-true, ne_eqb, le-leb, lt-ltb, leb-true, ltb-true}
 use Rattle.std.proofs.lemmas.Bool.{true≢false, and_parts, and_from, or_cases, or_left, or_right, or_parts, cases_lt, false_from_ne_true}
+use Rattle.mls_leaf.specs.Parent.{Parent, inserted}
 use Rattle.mls_leaf.specs.declared.leaf.LeafNode.{LeafNode}
 use Rattle.mls_term.specs.Equations.{enter_left, enter_right, leaf_at_left, leaf_at_right}
-use Rattle.mls_term.specs.Node.{Parent}
 use Rattle.mls_term.specs.Term.{Term, Leaf, Branch, width, leaf_at}
-use Rattle.mls_term.specs.Sets.{has, with, within, leaf_numbers, is_same_set}
+use Rattle.mls_term.specs.Sets.{has, within, leaf_numbers, is_same_set}
 use Rattle.mls_term.specs.Resolution.{resolution}
 use Rattle.mls_term.specs.Edits.{enter, listing, with_leaf}
 use Rattle.mls_term.specs.Lists.{asked, all_parents, lists_here, lists, is_named}
@@ -35,18 +35,18 @@ drop false true v h = h refl
 drop false false v h = refl
 
 -- the listed leaves below a side, where the added one is below it and where it isn't
-within_in : (b n i : ℕ) (us : List ℕ) → b ≤ i → i < b + n → (d : ℕ) → has (leaf_numbers (within b n (with i us))) d ≡ (has (leaf_numbers (within b n us)) d || (2 * i == d))
+within_in : (b n i : ℕ) (us : List ℕ) → b ≤ i → i < b + n → (d : ℕ) → has (leaf_numbers (within b n (inserted i us))) d ≡ (has (leaf_numbers (within b n us)) d || (2 * i == d))
 within_in b n i us low high =
-    numbers_more i (within b n (with i us)) (within b n us) (λ u.
-    has-filter (λ x. nat_le b x && nat_lt x (b + n)) (with i us) u
+    numbers_more i (within b n (inserted i us)) (within b n us) (λ u.
+    has-filter (λ x. nat_le b x && nat_lt x (b + n)) (inserted i us) u
     ∙ ap (λ v. v && (nat_le b u && nat_lt u (b + n))) (has-with i us u)
     ∙ mix (has us u) (i == u) _ (λ e. let is : i ≡ u = eqb-true i u e in and_from (nat_le b u) _ (le-leb b u (omega arith)) (lt-ltb u (b + n) (omega arith)))
     ∙ ap (λ v. v || (i == u)) (sym (has-filter (λ x. nat_le b x && nat_lt x (b + n)) us u)))
 
-within_out : (b n i : ℕ) (us : List ℕ) → (b ≤ i → i < b + n → ⊥) → (d : ℕ) → has (leaf_numbers (within b n (with i us))) d ≡ has (leaf_numbers (within b n us)) d
+within_out : (b n i : ℕ) (us : List ℕ) → (b ≤ i → i < b + n → ⊥) → (d : ℕ) → has (leaf_numbers (within b n (inserted i us))) d ≡ has (leaf_numbers (within b n us)) d
 within_out b n i us out =
-    numbers_same (within b n (with i us)) (within b n us) (λ u.
-    has-filter (λ x. nat_le b x && nat_lt x (b + n)) (with i us) u
+    numbers_same (within b n (inserted i us)) (within b n us) (λ u.
+    has-filter (λ x. nat_le b x && nat_lt x (b + n)) (inserted i us) u
     ∙ ap (λ v. v && (nat_le b u && nat_lt u (b + n))) (has-with i us u)
     ∙ drop (has us u) (i == u) _ (λ e. false_from_ne_true _ (λ t.
     let is : i ≡ u = eqb-true i u e in
@@ -72,9 +72,9 @@ module _ (p : Parent) (i : ℕ) (x : LeafNode) (b : ℕ) (c : Term) (m : ℕ) (s
       ∙ ap (λ v. v && not (e == d)) (resolution-enter b c i x e low high none)
       ∙ mix (has (resolution b c) e) (2 * i == e) (not (e == d)) (λ t. ap not (ne_eqb e d (λ z. ne (eqb-true (2 * i) e t ∙ z))))
       ∙ ap (λ v. v || (2 * i == e)) (sym (has-filter (λ y. not (y == d)) (resolution b c) e)) in
-      let second : is_same_set (leaf_numbers (within b (width (enter b c i x)) (with i p.unmerged_leaves))) (filter (λ y. not (y == d)) (resolution b (enter b c i x))) ≡ true =
-      set_from (leaf_numbers (within b (width (enter b c i x)) (with i p.unmerged_leaves))) (filter (λ y. not (y == d)) (resolution b (enter b c i x))) (λ e.
-      ap (λ n. has (leaf_numbers (within b n (with i p.unmerged_leaves))) e) (width-enter b c i x)
+      let second : is_same_set (leaf_numbers (within b (width (enter b c i x)) (inserted i p.unmerged_leaves))) (filter (λ y. not (y == d)) (resolution b (enter b c i x))) ≡ true =
+      set_from (leaf_numbers (within b (width (enter b c i x)) (inserted i p.unmerged_leaves))) (filter (λ y. not (y == d)) (resolution b (enter b c i x))) (λ e.
+      ap (λ n. has (leaf_numbers (within b n (inserted i p.unmerged_leaves))) e) (width-enter b c i x)
       ∙ within_in b (width c) i p.unmerged_leaves low high e
       ∙ ap (λ v. v || (2 * i == e)) (set_at (leaf_numbers (within b (width c) p.unmerged_leaves)) (filter (λ y. not (y == d)) (resolution b c)) w.1 e)
       ∙ sym (rest e)) in
@@ -91,8 +91,8 @@ module _ (p : Parent) (i : ℕ) (x : LeafNode) (b : ℕ) (c : Term) (m : ℕ) (s
       let w = and_parts (is_some_bytes (hash_at b c d) (parent_hash p m s)) _ f.2 in
       let first : is_some_bytes (hash_at b c d) (parent_hash (with_leaf i p) m (enter m s i x)) ≡ true =
       ap (is_some_bytes (hash_at b c d)) (parent_hash-in p i m s ns x low high none) ∙ w.0 in
-      let second : is_same_set (leaf_numbers (within b (width c) (with i p.unmerged_leaves))) (filter (λ y. not (y == d)) (resolution b c)) ≡ true =
-      set_from (leaf_numbers (within b (width c) (with i p.unmerged_leaves))) (filter (λ y. not (y == d)) (resolution b c)) (λ e.
+      let second : is_same_set (leaf_numbers (within b (width c) (inserted i p.unmerged_leaves))) (filter (λ y. not (y == d)) (resolution b c)) ≡ true =
+      set_from (leaf_numbers (within b (width c) (inserted i p.unmerged_leaves))) (filter (λ y. not (y == d)) (resolution b c)) (λ e.
       within_out b (width c) i p.unmerged_leaves out e
       ∙ set_at (leaf_numbers (within b (width c) p.unmerged_leaves)) (filter (λ y. not (y == d)) (resolution b c)) w.1 e) in
       any_from (is_witness (with_leaf i p) b c m (enter m s i x)) (resolution b c) d f.1 (and_from _ _ first second)

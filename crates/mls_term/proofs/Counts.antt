@@ -1,11 +1,11 @@
 -- Lists with no value twice, by counting; and how often a tree has a key.
 use Rattle.std.proofs.Common.{◌≡◌, ℕ, zero, suc, ◌+◌, ◌*◌, ◌<◌, ◌≤◌, ◌==◌, nat_lt, nat_eq, Bool, true, false, cond, List, [], ◌∷◌, ◌++◌, Option, Some, None, refl, sym, ◌∙◌, ap, arith, inl, inr, eqb-true, eq-eqb, ne_eqb, leb, leb-true, lt-ltb, le-ltb}
 use Rattle.std.proofs.lemmas.Bool.{true≢false, and_parts, and_from, or_parts, cond-true, cond-false, cond_both, cases_lt, cases_Bool, false_from_ne_true}
+use Rattle.mls_leaf.specs.Parent.{Parent, rises_from}
 use Rattle.mls_leaf.specs.declared.leaf.LeafNode.{LeafNode}
 use Rattle.mls_term.specs.Equations.{enter_left, enter_right, leaf_at_left, leaf_at_right, merge_left, merge_right}
-use Rattle.mls_term.specs.Node.{Parent}
 use Rattle.mls_term.specs.Term.{Term, Leaf, Branch, width, size, height, blanks, has_leaf, leaf_at}
-use Rattle.mls_term.specs.Sets.{has, leaf_numbers, rises_from, same_bytes, count, is_distinct}
+use Rattle.mls_term.specs.Sets.{has, leaf_numbers, same_bytes, count, is_distinct}
 use Rattle.mls_term.specs.Resolution.{resolution}
 use Rattle.mls_term.specs.Edits.{put, enter, listing, grow, trim}
 use Rattle.mls_term.specs.Lists.{all_parents, lists_here, rises_here}

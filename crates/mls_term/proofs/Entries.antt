@@ -2,9 +2,9 @@
 use Rattle.std.proofs.Common.{◌≡◌, ℕ, ◌+◌, ◌*◌, ◌<◌, ◌≤◌, ◌==◌, nat_lt, nat_le, nat_eq, Bool, true, false, not, ◌&&◌, ◌||◌, cond, List, [], ◌∷◌, ◌++◌, length, map, filter, length-append, Option, Some, None, is_some, IsSome, refl, sym, ◌∙◌, ap, ap₂, arith, inl, inr, eqb-true, eq-eqb, ne_eqb, lt-ltb, le-ltb, le-leb, ltb-true, leb-true}
 use Rattle.std.proofs.lemmas.Bool.{true≢false, and_parts, and_from, or_left, or_right, cond-true, cond-false, cases_lt, cases_eq, cases_Bool, false_from_ne_true}
 use Rattle.std.proofs.lemmas.List.Elements.{filter-append}
+use Rattle.mls_leaf.specs.Parent.{Parent}
 use Rattle.mls_leaf.specs.declared.leaf.LeafNode.{LeafNode}
 use Rattle.mls_term.specs.Equations.{leaf_at_left, leaf_at_right, way_left, way_right}
-use Rattle.mls_term.specs.Node.{Parent}
 use Rattle.mls_term.specs.Term.{Term, Leaf, Branch, width, size, leaf_at}
 use Rattle.mls_term.specs.Sets.{has, leaf_numbers, count}
 use Rattle.mls_term.specs.Resolution.{resolution}

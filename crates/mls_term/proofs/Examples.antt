@@ -1,7 +1,7 @@
 -- Small trees, worked out.
 use Rattle.std.proofs.Common.{refl}
-use Rattle.mls_term.specs.Term.{width, size, height, blanks, has_leaf}
-use Rattle.mls_term.specs.Sets.{with}
+use Rattle.mls_leaf.specs.Parent.{inserted}
+use Rattle.mls_term.specs.Term.{width, size, has_leaf}
 use Rattle.mls_term.specs.Resolution.{resolution}
 use Rattle.mls_term.specs.Places.{at_node, resolution_at}
 use Rattle.mls_term.specs.Way.{way, filtered_way, filtered_path}
@@ -22,7 +22,7 @@ unfolding first_blank width
 next_add_of_four x y z = refl
 
 pub add_behind_path : AddBehindPath
-unfolding add merge_path merge enter with first_blank resolution width size
+unfolding add merge_path merge enter inserted first_blank resolution width size
 add_behind_path x y z w v key = refl
 
 pub removal_halves : RemovalHalves

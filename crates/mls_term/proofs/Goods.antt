@@ -1,18 +1,18 @@
 -- Good trees stay good.
-use Rattle.std.proofs.Common.{◌≡◌, ℕ, suc, ◌+◌, ◌<◌, ◌≤◌, nat_le, true, ◌&&◌, List, [], ◌∷◌, ◌++◌, Option, Some, None, Ok, refl, sym, ◌∙◌, arith, leb-true, le-leb}
+use Rattle.std.proofs.Common.{◌≡◌, ℕ, suc, ◌<◌, ◌≤◌, true, List, [], ◌∷◌, Option, Some, None, Ok, refl, arith, leb-true, le-leb}
 use Rattle.std.specs.List.{list_all}
 use Rattle.std.proofs.lemmas.Bool.{and_parts}
 use Rattle.mls_wire.specs.Checks.{passed}
 use Rattle.mls_leaf.specs.declared.leaf.LeafNode.{LeafNode}
 use Rattle.mls_term.specs.Term.{Term, Leaf, width, height, is_perfect, has_leaf, is_full_width, leaf_at}
-use Rattle.mls_term.specs.Sets.{same_bytes, count, is_distinct}
+use Rattle.mls_term.specs.Sets.{same_bytes, is_distinct}
 use Rattle.mls_term.specs.Edits.{put, enter, grow, trim, first_blank, place_for, room_for, place_in, add, update, remove}
 use Rattle.mls_term.specs.Lists.{all_parents, lists_here, rises_here}
 use Rattle.mls_term.specs.Hashes.{is_parent_hash_valid}
 use Rattle.mls_term.specs.Merge.{merge, IsPath}
 use Rattle.mls_term.specs.Keys.{gather, leaf_key, parent_key, leaf_signature, encryption_keys, signature_keys, all_members}
 use Rattle.mls_term.specs.Good.{Rules, IsGood, AreNew, has_good_shape, is_within, has_good_lists, has_good_hashes, has_distinct_keys, has_distinct_clients, is_all_signed, is_all_capable, is_all_fit, tree_checks}
-use Rattle.mls_term.proofs.Shape.{width-put, width-enter, perfect-put, perfect-enter, perfect-grow, perfect-trim, full-trim}
+use Rattle.mls_term.proofs.Shape.{width-put, perfect-put, perfect-enter, perfect-grow, perfect-trim, full-trim}
 use Rattle.mls_term.proofs.Parents.{parents-put, parents-grow, parents-trim}
 use Rattle.mls_term.proofs.Named.{fresh, lists-enter, rises-enter}
 use Rattle.mls_term.proofs.Adds.{valid-enter}

@@ -1,16 +1,16 @@
 -- A merged path: its head, and what holds of each parent.
 use Rattle.std.proofs.Common.{◌≡◌, ℕ, ◌+◌, ◌*◌, ◌<◌, ◌≤◌, ◌==◌, nat_lt, Bool, true, false, not, ◌&&◌, ◌||◌, cond, List, [], ◌∷◌, ◌++◌, length, filter, Option, Some, None, refl, sym, ◌∙◌, ap, arith, inl, inr, eqb-true, eq-eqb, ne_eqb, lt-ltb, le-ltb}
 use Rattle.std.proofs.lemmas.Bool.{true≢false, and_from, and_left, and_right, or_left, or_right, cond-true, cond-false, cond_both, cases_lt, cases_Bool, not-false}
+use Rattle.mls_leaf.specs.Parent.{Parent, rises_from}
 use Rattle.mls_leaf.specs.declared.leaf.LeafNode.{LeafNode}
 use Rattle.mls_term.specs.Equations.{merge_left, merge_right, path_hash_left, path_hash_right, path_length_left, path_length_right}
-use Rattle.mls_term.specs.Node.{Parent, source_hash}
+use Rattle.mls_term.specs.Node.{source_hash}
 use Rattle.mls_term.specs.Term.{Term, Leaf, Branch, width, size}
-use Rattle.mls_term.specs.Sets.{has, within, leaf_numbers, is_same_set, same_bytes, rises_from}
+use Rattle.mls_term.specs.Sets.{has, within, leaf_numbers, is_same_set, same_bytes}
 use Rattle.mls_term.specs.Resolution.{resolution}
 use Rattle.mls_term.specs.Lists.{asked, all_parents, lists_here, rises_here}
 use Rattle.mls_term.specs.Hashes.{parent_hash, hash_at, is_some_bytes, is_witness, has_witness, is_parent_hash_valid}
 use Rattle.mls_term.specs.Resolution.{is_empty, is_reached}
-use Rattle.mls_term.specs.Way.{path_length}
 use Rattle.mls_term.specs.Merge.{new_parent, keys_below, hash_below, merge, path_hash, HasHead, IsPath}
 use Rattle.mls_term.proofs.Basics.{any_from, has-filter, set_from, eqb_refl}
 use Rattle.mls_term.proofs.Parents.{parents_parts, parents_from}

@@ -1,11 +1,11 @@
 -- Where the leaves are that right lists name.
 use Rattle.std.proofs.Common.{◌≡◌, ℕ, ◌+◌, ◌<◌, ◌≤◌, nat_lt, nat_le, true, false, ◌&&◌, cond, Option, Some, None, is_some, refl, sym, ◌∙◌, ap, arith, subst, inl, inr, lt-ltb, le-ltb, ltb-true, leb-true, le-leb, eqb-true}
 use Rattle.std.proofs.lemmas.Bool.{true≢false, and_parts, and_from, or_cases, or_left, or_right, cond-true, cond-false, cases_lt, false_from_ne_true}
+use Rattle.mls_leaf.specs.Parent.{Parent, inserted}
 use Rattle.mls_leaf.specs.declared.leaf.LeafNode.{LeafNode}
 use Rattle.mls_term.specs.Equations.{enter_left, enter_right, leaf_at_left, leaf_at_right}
-use Rattle.mls_term.specs.Node.{Parent}
 use Rattle.mls_term.specs.Term.{Term, Leaf, Branch, width, leaf_at}
-use Rattle.mls_term.specs.Sets.{has, with}
+use Rattle.mls_term.specs.Sets.{has}
 use Rattle.mls_term.specs.Edits.{enter, listing}
 use Rattle.mls_term.specs.Lists.{asked, all_parents, may_list, is_listed, may_be_listed, lists_here, rises_here, lists, is_named}
 use Rattle.mls_term.proofs.Basics.{all_at, all_from, has-with, rises-with, eqb_refl}
@@ -147,7 +147,7 @@ unfolding lists_here
 asked_left b None l r i x low high h = refl
 asked_left b (Some p) l r i x low high h =
     let w = width-enter b l i x in
-    all_from (may_be_listed b (enter b l i x) r) (with i p.unmerged_leaves) (λ u e.
+    all_from (may_be_listed b (enter b l i x) r) (inserted i p.unmerged_leaves) (λ u e.
     elim (or_cases (has p.unmerged_leaves u) _ (sym (has-with i p.unmerged_leaves u) ∙ e)) [
       | inl k ↦ kept_left b l r i x u (all_at (may_be_listed b l r) p.unmerged_leaves u h k)
       | inr k ↦ subst (λ n. may_be_listed b (enter b l i x) r n ≡ true) (eqb-true i u k) (may_left b (enter b l i x) r i low (omega arith) (listed-enter b l i x))
@@ -158,7 +158,7 @@ unfolding lists_here
 asked_right b None l r i x low high h = refl
 asked_right b (Some p) l r i x low high h =
     let w = width-enter (b + width l) r i x in
-    all_from (may_be_listed b l (enter (b + width l) r i x)) (with i p.unmerged_leaves) (λ u e.
+    all_from (may_be_listed b l (enter (b + width l) r i x)) (inserted i p.unmerged_leaves) (λ u e.
     elim (or_cases (has p.unmerged_leaves u) _ (sym (has-with i p.unmerged_leaves u) ∙ e)) [
       | inl k ↦ kept_right b l r i x u (all_at (may_be_listed b l r) p.unmerged_leaves u h k)
       | inr k ↦ subst (λ n. may_be_listed b l (enter (b + width l) r i x) n ≡ true) (eqb-true i u k) (may_right b l (enter (b + width l) r i x) i low (omega arith) (listed-enter (b + width l) r i x))

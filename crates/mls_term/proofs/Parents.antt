@@ -1,8 +1,8 @@
 -- What holds of each parent: kept by every edit that only blanks parents, halves or doubles.
 use Rattle.std.proofs.Common.{◌≡◌, ℕ, zero, suc, ◌+◌, nat_lt, Bool, true, Option, None, refl, sym, ◌∙◌, ap}
 use Rattle.std.proofs.lemmas.Bool.{and_parts, and_from, cond_both}
+use Rattle.mls_leaf.specs.Parent.{Parent}
 use Rattle.mls_leaf.specs.declared.leaf.LeafNode.{LeafNode}
-use Rattle.mls_term.specs.Node.{Parent}
 use Rattle.mls_term.specs.Term.{Term, Leaf, Branch, width, height, blanks, has_leaf}
 use Rattle.mls_term.specs.Edits.{put, grow, trim}
 use Rattle.mls_term.specs.Lists.{asked, all_parents}

@@ -1,11 +1,11 @@
 -- What stands in a resolution.
 use Rattle.std.proofs.Common.{◌≡◌, ℕ, ◌+◌, ◌*◌, ◌<◌, ◌≤◌, ◌==◌, Bool, true, false, not, ◌||◌, List, [], ◌∷◌, ◌++◌, Option, Some, None, is_some, refl, sym, ◌∙◌, ap, arith, inl, inr, eqb-true, ne_eqb}
 use Rattle.std.proofs.lemmas.Bool.{true≢false, or_cases, or_from, or_parts, or_left, cond-false, cases_lt}
+use Rattle.mls_leaf.specs.Parent.{Parent, inserted}
 use Rattle.mls_leaf.specs.declared.leaf.LeafNode.{LeafNode}
 use Rattle.mls_term.specs.Equations.{enter_left, enter_right, leaf_at_left, leaf_at_right}
-use Rattle.mls_term.specs.Node.{Parent}
 use Rattle.mls_term.specs.Term.{Term, Leaf, Branch, width, size, has_leaf, leaf_at}
-use Rattle.mls_term.specs.Sets.{has, with, leaf_numbers}
+use Rattle.mls_term.specs.Sets.{has, leaf_numbers}
 use Rattle.mls_term.specs.Resolution.{resolution}
 use Rattle.mls_term.specs.Resolution.{is_empty, is_reached}
 use Rattle.mls_term.specs.Edits.{enter, listing}
@@ -70,8 +70,8 @@ resolution_range b (Branch None l r) d h e =
     ]
 
 -- an added leaf joins the resolution, and nobody else does
-has-leaf_numbers_with : (i : ℕ) (us : List ℕ) (d : ℕ) → has (leaf_numbers (with i us)) d ≡ (has (leaf_numbers us) d || (2 * i == d))
-has-leaf_numbers_with i us = numbers_more i (with i us) us (has-with i us)
+has-leaf_numbers_with : (i : ℕ) (us : List ℕ) (d : ℕ) → has (leaf_numbers (inserted i us)) d ≡ (has (leaf_numbers us) d || (2 * i == d))
+has-leaf_numbers_with i us = numbers_more i (inserted i us) us (has-with i us)
 
 or_over : (x y z : Bool) → (x || (y || z)) ≡ ((x || y) || z)
 or_over true y z = refl
@@ -113,7 +113,7 @@ resolution-enter b (Branch None l r) i x d low high e =
 resolution-enter b (Branch (Some p) l r) i x d low high e =
     elim (cases_lt i (b + width l)) [
       | inl k ↦ rw (enter_left b (Some p) l r i x k) ((
-          ap (λ n. (2 * b + n == d) || has (leaf_numbers (with i p.unmerged_leaves)) d) (size_from_width (enter b l i x) l (width-enter b l i x))
+          ap (λ n. (2 * b + n == d) || has (leaf_numbers (inserted i p.unmerged_leaves)) d) (size_from_width (enter b l i x) l (width-enter b l i x))
           ∙ ap (λ v. (2 * b + size l == d) || v) (has-leaf_numbers_with i p.unmerged_leaves d)
           ∙ or_over (2 * b + size l == d) _ _))
       | inr k ↦ rw (enter_right b (Some p) l r i x k) ((

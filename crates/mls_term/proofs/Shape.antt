@@ -1,10 +1,9 @@
 -- Widths, sizes and shapes.
-use Rattle.std.proofs.Common.{◌≡◌, ℕ, zero, suc, ◌+◌, ◌*◌, ◌^◌, ◌<◌, ◌≤◌, nat_lt, Bool, true, false, ◌||◌, Option, None, refl, sym, ◌∙◌, ap, arith, pow-suc, lt-ltb, le-ltb}
-use Rattle.std.proofs.lemmas.Bool.{true≢false, and_parts, and_from, cond-true, cond-false, cond_both}
+use Rattle.std.proofs.Common.{◌≡◌, ℕ, zero, suc, ◌+◌, ◌*◌, ◌^◌, ◌<◌, nat_lt, Bool, true, false, ◌||◌, Option, refl, sym, ◌∙◌, ap, arith, pow-suc}
+use Rattle.std.proofs.lemmas.Bool.{true≢false, and_parts, and_from, cond_both}
 use Rattle.mls_leaf.specs.declared.leaf.LeafNode.{LeafNode}
-use Rattle.mls_term.specs.Node.{Parent}
-use Rattle.mls_term.specs.Term.{Term, Leaf, Branch, width, size, height, is_perfect, blanks, has_leaf, is_full_width, leaf_at}
-use Rattle.mls_term.specs.Edits.{put, enter, listing, grow, trim}
+use Rattle.mls_term.specs.Term.{Term, Leaf, Branch, width, size, height, is_perfect, blanks, has_leaf, is_full_width}
+use Rattle.mls_term.specs.Edits.{put, enter, grow, trim}
 
 pub width_pos : (t : Term) → 0 < width t
 unfolding width

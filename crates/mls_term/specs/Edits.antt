@@ -1,9 +1,8 @@
 -- Edits of a tree whose first leaf is b.
 use Rattle.std.specs.Prelude.{ℕ, ◌+◌, nat_lt, if◌then◌else◌, Option, Some, None}
+use Rattle.mls_leaf.specs.Parent.{Parent, inserted}
 use Rattle.mls_leaf.specs.declared.leaf.LeafNode.{LeafNode}
-use Rattle.mls_term.specs.Node.{Parent}
 use Rattle.mls_term.specs.Term.{Term, Leaf, Branch, width, height, blanks, has_leaf}
-use Rattle.mls_term.specs.Sets.{with}
 
 -- leaf i replaced, and each parent over it blanked (RFC 9420, 7.7 and 12.1.2)
 unfoldable pub put : ℕ → Term → ℕ → Option LeafNode → Term
@@ -14,7 +13,7 @@ put b (Branch c l r) i x =
 -- a parent whose list has leaf i too; the list is a set, and i isn't entered twice
 abbrev pub with_leaf : ℕ → Parent → Parent
 with_leaf i p =
-    record { encryption_key = p.encryption_key; parent_hash = p.parent_hash; unmerged_leaves = with i p.unmerged_leaves }
+    record { encryption_key = p.encryption_key; parent_hash = p.parent_hash; unmerged_leaves = inserted i p.unmerged_leaves }
 
 -- the same of a place that may be blank
 abbrev pub listing : ℕ → Option Parent → Option Parent

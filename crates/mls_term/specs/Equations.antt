@@ -1,19 +1,19 @@
 -- What each definition gives in each case.
-use Rattle.std.specs.Prelude.{◌≡◌, ℕ, zero, suc, ◌+◌, ◌*◌, ◌<◌, ◌≤◌, ◌==◌, Bool, true, false, ◌&&◌, ◌||◌, cond, if◌then◌else◌, List, [], ◌∷◌, ◌++◌, map, filter, reverse, length, Option, Some, None, is_some}
+use Rattle.std.specs.Prelude.{◌≡◌, ℕ, suc, ◌+◌, ◌*◌, ◌<◌, ◌≤◌, Bool, true, false, ◌&&◌, ◌||◌, cond, if◌then◌else◌, List, [], ◌∷◌, ◌++◌, map, filter, reverse, length, Option, Some, None, is_some}
 use Rattle.std.proofs.Common.{append-nil, refl, sym, ◌∙◌, ap, arith, lt-ltb, le-ltb, eq-eqb, ne_eqb}
 use Rattle.std.proofs.lemmas.Bool.{cond-true, cond-false}
 use Rattle.std.proofs.lemmas.List.{reverse-append}
+use Rattle.mls_leaf.specs.Parent.{Parent}
 use Rattle.mls_leaf.specs.declared.leaf.LeafNode.{LeafNode}
-use Rattle.mls_term.specs.Node.{Parent}
-use Rattle.mls_term.specs.Inputs.{leaf_hash, branch_hash, sibling_hash}
+use Rattle.mls_term.specs.Inputs.{leaf_hash, branch_hash}
 use Rattle.mls_term.specs.Sets.{has, leaf_numbers}
-use Rattle.mls_term.specs.Term.{Term, Leaf, Branch, width, size, height, blanks, is_perfect, has_leaf, is_full_width, leaf_at, leaf_of}
+use Rattle.mls_term.specs.Term.{Term, Leaf, Branch, width, size, height, blanks, has_leaf, is_full_width, leaf_at, leaf_of}
 use Rattle.mls_term.specs.Resolution.{resolution, is_reached}
 use Rattle.mls_term.specs.Way.{Step, step_at, way, is_filtered, filtered_way, filtered_path, path_length}
 use Rattle.mls_term.specs.Places.{at_node}
 use Rattle.mls_term.specs.Edits.{put, enter, listing, grow, trim, or_else, first_blank, place_in, room_for, add, update, remove}
 use Rattle.mls_term.specs.Lists.{asked, all_parents}
-use Rattle.mls_term.specs.Hashes.{tree_hash, unlisting, original, parent_hash}
+use Rattle.mls_term.specs.Hashes.{tree_hash, unlisting, original}
 use Rattle.mls_term.specs.Merge.{new_parent, keys_below, hash_below, merge, path_hash}
 use Rattle.mls_term.specs.Keys.{gather, members, passes, all_members}
 

@@ -1,12 +1,11 @@
 -- Small trees, worked out.
 use Rattle.std.specs.Prelude.{◌≡◌, ℕ, List, [], ◌∷◌, Option, Some, None}
+use Rattle.mls_leaf.specs.Parent.{Parent}
 use Rattle.mls_leaf.specs.declared.leaf.LeafNode.{LeafNode}
-use Rattle.mls_term.specs.Node.{Parent}
 use Rattle.mls_term.specs.Term.{Term, Leaf, Branch, width}
-use Rattle.mls_term.specs.Places.{resolution_at, key_at}
+use Rattle.mls_term.specs.Places.{resolution_at}
 use Rattle.mls_term.specs.Way.{filtered_path}
 use Rattle.mls_term.specs.Edits.{place_in, add, remove}
-use Rattle.mls_term.specs.Hashes.{hash_at}
 use Rattle.mls_term.specs.Merge.{merge_path}
 
 abbrev pub member : LeafNode → Term

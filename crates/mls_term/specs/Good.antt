@@ -1,7 +1,7 @@
 -- What a good tree is.
-use Rattle.std.specs.Prelude.{◌≡◌, ℕ, nat_le, Bool, true, ◌&&◌, List, ◌∷◌, ◌++◌, Result, Ok}
+use Rattle.std.specs.Prelude.{◌≡◌, ℕ, nat_le, Bool, true, List, ◌∷◌, ◌++◌, Result}
 use Rattle.std.specs.List.{list_all}
-use Rattle.mls_wire.specs.Checks.{Passed, passed, require, ◌>>◌}
+use Rattle.mls_wire.specs.Checks.{Passed, require, ◌>>◌}
 use Rattle.mls_leaf.specs.declared.leaf.LeafNode.{LeafNode}
 use Rattle.mls_term.specs.Term.{Term, width, height, is_perfect, is_full_width}
 use Rattle.mls_term.specs.Sets.{same_bytes, is_distinct}

@@ -1,8 +1,8 @@
 -- Tree hashes, original siblings, parent hashes and their validity.
 use Rattle.std.specs.Prelude.{ℕ, ◌+◌, ◌*◌, ◌==◌, nat_lt, Bool, false, not, ◌&&◌, ◌||◌, if◌then◌else◌, List, filter, Option, Some, None}
 use Rattle.std.specs.List.{list_any}
-use Rattle.mls_leaf.specs.declared.leaf.LeafNode.{LeafNode}
-use Rattle.mls_term.specs.Node.{Parent, leaf_parent_hash, own_parent_hash}
+use Rattle.mls_leaf.specs.Parent.{Parent}
+use Rattle.mls_term.specs.Node.{leaf_parent_hash, own_parent_hash}
 use Rattle.mls_term.specs.Inputs.{leaf_hash, branch_hash, sibling_hash}
 use Rattle.mls_term.specs.Term.{Term, Leaf, Branch, width, size}
 use Rattle.mls_term.specs.Sets.{has, less, within, leaf_numbers, is_same_set, same_bytes}

@@ -1,7 +1,7 @@
 -- The hashes of nodes.
 use Rattle.std.specs.Prelude.{ℕ, List, [], Option}
+use Rattle.mls_leaf.specs.Parent.{Parent}
 use Rattle.mls_leaf.specs.declared.leaf.LeafNode.{LeafNode}
-use Rattle.mls_term.specs.Node.{Parent}
 
 -- the hash of a leaf by its number (RFC 9420, 7.8)
 pub leaf_hash : ℕ → Option LeafNode → List ℕ

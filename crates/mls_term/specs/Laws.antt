@@ -1,10 +1,10 @@
 -- The laws of trees as terms.
-use Rattle.std.specs.Prelude.{◌≡◌, ℕ, suc, ◌+◌, ◌*◌, ◌^◌, ◌<◌, ◌≤◌, ◌==◌, ◌||◌, Bool, true, false, not, nat_eq, if◌then◌else◌, List, [], ◌∷◌, ◌++◌, map, filter, length, Option, Some, None, is_some, IsSome, Ok}
+use Rattle.std.specs.Prelude.{◌≡◌, ℕ, suc, ◌+◌, ◌*◌, ◌^◌, ◌<◌, ◌≤◌, ◌==◌, ◌||◌, Bool, true, false, not, nat_eq, if◌then◌else◌, List, [], ◌∷◌, map, filter, length, Option, Some, None, is_some, IsSome, Ok}
 use Rattle.std.specs.List.{list_all}
+use Rattle.mls_leaf.specs.Parent.{Parent, inserted}
 use Rattle.mls_leaf.specs.declared.leaf.LeafNode.{LeafNode}
-use Rattle.mls_term.specs.Node.{Parent}
-use Rattle.mls_term.specs.Term.{Term, Leaf, Branch, width, size, is_perfect, has_leaf, is_full_width, leaf_at}
-use Rattle.mls_term.specs.Sets.{has, with, leaf_numbers, is_distinct}
+use Rattle.mls_term.specs.Term.{Term, Leaf, width, size, is_perfect, has_leaf, is_full_width, leaf_at}
+use Rattle.mls_term.specs.Sets.{has, leaf_numbers, is_distinct}
 use Rattle.mls_term.specs.Resolution.{resolution, is_reached}
 use Rattle.mls_term.specs.Way.{way, is_filtered, is_beside}
 use Rattle.mls_term.specs.Edits.{put, enter, grow, trim, first_blank, place_in, add, update, remove}
@@ -214,10 +214,10 @@ OriginalOfNone = (b : ℕ) (t : Term) → original [] b t ≡ t
 
 -- taking out a leaf that was added leaves the original, and so does taking out one that isn't there
 abbrev pub OriginalOfEnter : Type 0
-OriginalOfEnter = (b : ℕ) (t : Term) (i : ℕ) (us : List ℕ) (x : LeafNode) → IsIn b t i → is_named t i ≡ false → leaf_at b t i ≡ None → original (with i us) b (enter b t i x) ≡ original us b t
+OriginalOfEnter = (b : ℕ) (t : Term) (i : ℕ) (us : List ℕ) (x : LeafNode) → IsIn b t i → is_named t i ≡ false → leaf_at b t i ≡ None → original (inserted i us) b (enter b t i x) ≡ original us b t
 
 abbrev pub OriginalOfOthers : Type 0
-OriginalOfOthers = (b : ℕ) (t : Term) (j : ℕ) (us : List ℕ) → is_named t j ≡ false → (b ≤ j → j < b + width t → leaf_at b t j ≡ None) → original (with j us) b t ≡ original us b t
+OriginalOfOthers = (b : ℕ) (t : Term) (j : ℕ) (us : List ℕ) → is_named t j ≡ false → (b ≤ j → j < b + width t → leaf_at b t j ≡ None) → original (inserted j us) b t ≡ original us b t
 
 -- an add changes no other node's field
 abbrev pub HashesOfEnter : Type 0

@@ -1,9 +1,9 @@
 -- Properties of each parent, and right lists of unmerged leaves.
 use Rattle.std.specs.Prelude.{ℕ, ◌+◌, nat_lt, nat_le, Bool, true, false, ◌&&◌, ◌||◌, if◌then◌else◌, Option, Some, None, is_some}
 use Rattle.std.specs.List.{list_all}
-use Rattle.mls_term.specs.Node.{Parent}
+use Rattle.mls_leaf.specs.Parent.{Parent, rises_from}
 use Rattle.mls_term.specs.Term.{Term, Leaf, Branch, width}
-use Rattle.mls_term.specs.Sets.{has, rises_from}
+use Rattle.mls_term.specs.Sets.{has}
 
 -- what a test asks of a place that may be blank
 abbrev pub asked : (ℕ → Parent → Term → Term → Bool) → ℕ → Option Parent → Term → Term → Bool

@@ -1,7 +1,8 @@
 -- What a commit's path does to a tree.
 use Rattle.std.specs.Prelude.{◌≡◌, ℕ, ◌+◌, ◌*◌, ◌<◌, ◌≤◌, nat_lt, Bool, true, false, if◌then◌else◌, List, [], ◌∷◌, reverse, length, Option, Some, None}
+use Rattle.mls_leaf.specs.Parent.{Parent}
 use Rattle.mls_leaf.specs.declared.leaf.LeafNode.{LeafNode}
-use Rattle.mls_term.specs.Node.{Parent, source_hash}
+use Rattle.mls_term.specs.Node.{source_hash}
 use Rattle.mls_term.specs.Term.{Term, Leaf, Branch, width, size}
 use Rattle.mls_term.specs.Resolution.{resolution, is_reached}
 use Rattle.mls_term.specs.Way.{path_length}

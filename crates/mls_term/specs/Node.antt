@@ -1,15 +1,9 @@
 -- What the nodes of a tree hold.
 use Rattle.std.specs.Prelude.{ℕ, List, Option, Some, None}
+use Rattle.mls_leaf.specs.Parent.{Parent}
 use Rattle.mls_leaf.specs.declared.leaf.LeafNode.{LeafNode}
 use Rattle.mls_leaf.specs.declared.leaf.LeafSource.{LeafSource}
 use Rattle.mls_leaf.specs.declared.leaf.LeafSource.TheVariants.{KeyPackage, Update, Commit}
-
--- a parent: its key, the hash that ties it to the parent above, and the leaves below it that don't have its secret
--- (RFC 9420, 7.1)
-pub record Parent : Type 0 where
-  pub encryption_key : List ℕ
-  pub parent_hash : List ℕ
-  pub unmerged_leaves : List ℕ
 
 -- the parent hash that a source has: only that of a commit has one (RFC 9420, 7.2)
 abbrev pub source_hash : LeafSource → Option (List ℕ)

@@ -2,8 +2,8 @@
 -- A subtree is always read with the number of its first leaf, b. Leaf u is node 2 * u, and a branch is node
 -- 2 * b + size l, so that nodes have the numbers of an array in order (RFC 9420, appendix C).
 use Rattle.std.specs.Prelude.{ℕ, zero, suc, ◌+◌, nat_lt, Bool, true, false, ◌&&◌, ◌||◌, if◌then◌else◌, Option, None, is_some}
+use Rattle.mls_leaf.specs.Parent.{Parent}
 use Rattle.mls_leaf.specs.declared.leaf.LeafNode.{LeafNode}
-use Rattle.mls_term.specs.Node.{Parent}
 
 -- a binary tree, whose leaves and parents may be blank (RFC 9420, 7.1)
 pub data Term : Type 0 where

@@ -1,6 +1,6 @@
 -- The way from the root to a leaf, and the filtered direct path.
 use Rattle.std.specs.Prelude.{ℕ, ◌+◌, ◌*◌, nat_lt, nat_le, ◌&&◌, if◌then◌else◌, Bool, List, [], ◌∷◌, map, filter, reverse, length, Option}
-use Rattle.mls_term.specs.Node.{Parent}
+use Rattle.mls_leaf.specs.Parent.{Parent}
 use Rattle.mls_term.specs.Term.{Term, Leaf, Branch, width, size}
 use Rattle.mls_term.specs.Resolution.{is_reached}
 
