@@ -46,6 +46,7 @@ run_rises (suc fuel) low (b ∷ bytes) vs e =
     tested_is : (low : ℕ) (x y : ℕ × List ℕ) (b : Bool) → b ≡ nat_le low x.0 → chosen_by b 13 x ≡ Ok y → low ≤ y.0
     tested_is low x y true is e = subst (λ (z : ℕ × List ℕ). low ≤ z.0) (ok_is x y e) (leb-true low x.0 (sym is))
     tested_is low x y false is e = absurd cc
+
     passes_test : (read : List ℕ → Result (ℕ × List ℕ) ℕ) (low : ℕ) (bytes : List ℕ) (v : ℕ) (rest : List ℕ) → (read bytes >>= tested (nat_le low) 13) ≡ Ok (v, rest) → low ≤ v
     passes_test read low bytes v rest e =
         let a = bind_ok (read bytes) (tested (nat_le low) 13) (v, rest) e in
@@ -71,7 +72,7 @@ pub rising_added : (xs old new : List ℕ) (r : Result (Unit {0}) LeafError) →
 rising_added xs old new (Ok _) rise h = rw (run_spelling-rising 0 xs) ((RunFits-rising 0 xs rise h.0.0, h.0.1), h.1)
 rising_added xs old new (Err e) rise h =
     Refuses-whole ((vector uint32 uint32_nonempty).Fits xs) ((vector_from rising 0).Fits xs) e
-      (λ fits. (RunFits-entries 0 xs fits.0, subst (λ (l : List ℕ). length l < 2 ^ 30) (run_spelling-rising 0 xs) fits.1)) h
+    (λ fits. (RunFits-entries 0 xs fits.0, subst (λ (l : List ℕ). length l < 2 ^ 30) (run_spelling-rising 0 xs) fits.1)) h
 
 -- ---- a number put in
 

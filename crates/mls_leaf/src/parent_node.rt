@@ -143,7 +143,11 @@ impl ParentNode {
             parent_hash,
             unmerged_leaves,
         } = self;
-        (encryption_key, parent_hash, Items::from_vec(unmerged_leaves))
+        (
+            encryption_key,
+            parent_hash,
+            Items::from_vec(unmerged_leaves),
+        )
     }
 
     /// The public key.

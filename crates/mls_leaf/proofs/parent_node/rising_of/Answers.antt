@@ -16,4 +16,4 @@ pub returns-clause-rises : goal.returns-clause-rises
 returns-clause-rises c =
     let nil : c.loop-content.content ≡ [] = search rules in
     run_rises (length c.args.content) 0 c.args.content c.loop-content.entries.items
-      (is_done_from rising (run_at rising (length c.args.content) 0 c.args.content) c.loop-content.entries.items c.loop-content.least c.loop-content.content nil c.loop-content.invariant)
+    (is_done_from rising (run_at rising (length c.args.content) 0 c.args.content) c.loop-content.entries.items c.loop-content.least c.loop-content.content nil c.loop-content.invariant)
