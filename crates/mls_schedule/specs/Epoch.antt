@@ -1,0 +1,114 @@
+-- The key schedule (RFC 9420, 8) as functions on lists of bytes. A context is the bytes of a GroupContext.
+use Rattle.std.specs.Prelude.{ℕ, List, [], replicate, codes}
+use Rattle.sha2.specs.Sha256.{sha256}
+use Rattle.mls_kdf.specs.Kdf.{hmac, extract, expand_with_label, derive_secret}
+
+-- ---- what leads to an epoch (RFC 9420, 8)
+
+-- from the last epoch's init secret, the commit secret and the new context (RFC 9420, 8)
+unfoldable pub joiner_secret : List ℕ → List ℕ → List ℕ → List ℕ
+joiner_secret init commit_secret context = expand_with_label (extract init commit_secret) (codes "joiner") context 32
+
+-- the joiner secret with the pre-shared key, which is zeros here (RFC 9420, 8)
+unfoldable pub intermediate_secret : List ℕ → List ℕ
+intermediate_secret joiner = extract joiner (replicate 32 0)
+
+-- from the joiner secret (RFC 9420, 8)
+unfoldable pub welcome_secret : List ℕ → List ℕ
+welcome_secret joiner = derive_secret (intermediate_secret joiner) (codes "welcome")
+
+-- from the joiner secret and the new context (RFC 9420, 8)
+unfoldable pub epoch_secret : List ℕ → List ℕ → List ℕ
+epoch_secret joiner context = expand_with_label (intermediate_secret joiner) (codes "epoch") context 32
+
+-- the welcome secret of the next epoch, from init secret, commit secret and new context (RFC 9420, 8)
+unfoldable pub next_welcome_secret : List ℕ → List ℕ → List ℕ → List ℕ
+next_welcome_secret init commit_secret context = welcome_secret (joiner_secret init commit_secret context)
+
+-- the epoch secret of the next epoch, from init secret, commit secret and new context (RFC 9420, 8)
+unfoldable pub next_epoch_secret : List ℕ → List ℕ → List ℕ → List ℕ
+next_epoch_secret init commit_secret context = epoch_secret (joiner_secret init commit_secret context) context
+
+-- ---- what a Welcome's GroupInfo is sealed under (RFC 9420, 12.4.3.1)
+
+-- from the joiner secret (RFC 9420, 12.4.3.1)
+unfoldable pub welcome_key : List ℕ → List ℕ
+welcome_key joiner = expand_with_label (welcome_secret joiner) (codes "key") [] 16
+
+-- from the joiner secret (RFC 9420, 12.4.3.1)
+unfoldable pub welcome_nonce : List ℕ → List ℕ
+welcome_nonce joiner = expand_with_label (welcome_secret joiner) (codes "nonce") [] 12
+
+-- ---- what an epoch secret gives: the nine secrets (RFC 9420, 8)
+
+-- (RFC 9420, 8)
+unfoldable pub sender_data_secret : List ℕ → List ℕ
+sender_data_secret epoch = derive_secret epoch (codes "sender data")
+
+-- (RFC 9420, 8)
+unfoldable pub encryption_secret : List ℕ → List ℕ
+encryption_secret epoch = derive_secret epoch (codes "encryption")
+
+-- (RFC 9420, 8)
+unfoldable pub exporter_secret : List ℕ → List ℕ
+exporter_secret epoch = derive_secret epoch (codes "exporter")
+
+-- (RFC 9420, 8)
+unfoldable pub external_secret : List ℕ → List ℕ
+external_secret epoch = derive_secret epoch (codes "external")
+
+-- (RFC 9420, 8)
+unfoldable pub confirmation_key : List ℕ → List ℕ
+confirmation_key epoch = derive_secret epoch (codes "confirm")
+
+-- (RFC 9420, 8)
+unfoldable pub membership_key : List ℕ → List ℕ
+membership_key epoch = derive_secret epoch (codes "membership")
+
+-- (RFC 9420, 8)
+unfoldable pub resumption_psk : List ℕ → List ℕ
+resumption_psk epoch = derive_secret epoch (codes "resumption")
+
+-- (RFC 9420, 8)
+unfoldable pub epoch_authenticator : List ℕ → List ℕ
+epoch_authenticator epoch = derive_secret epoch (codes "authentication")
+
+-- (RFC 9420, 8)
+unfoldable pub init_secret : List ℕ → List ℕ
+init_secret epoch = derive_secret epoch (codes "init")
+
+-- the nine together (RFC 9420, 8)
+pub record NineSecrets : Type 0 where
+  pub sender_data : List ℕ
+  pub encryption : List ℕ
+  pub exporter : List ℕ
+  pub external : List ℕ
+  pub confirmation : List ℕ
+  pub membership : List ℕ
+  pub resumption : List ℕ
+  pub authenticator : List ℕ
+  pub init : List ℕ
+
+-- (RFC 9420, 8)
+unfoldable pub nine_secrets : List ℕ → NineSecrets
+nine_secrets epoch = record {
+  sender_data = sender_data_secret epoch;
+  encryption = encryption_secret epoch;
+  exporter = exporter_secret epoch;
+  external = external_secret epoch;
+  confirmation = confirmation_key epoch;
+  membership = membership_key epoch;
+  resumption = resumption_psk epoch;
+  authenticator = epoch_authenticator epoch;
+  init = init_secret epoch;
+}
+
+-- ---- what is made of them
+
+-- the tag over a confirmed transcript hash (RFC 9420, 6.1)
+unfoldable pub confirmation_tag : List ℕ → List ℕ → List ℕ
+confirmation_tag epoch confirmed = hmac (confirmation_key epoch) confirmed
+
+-- an exported secret of n bytes, under a label and a context (RFC 9420, 8.5)
+unfoldable pub exported : List ℕ → List ℕ → List ℕ → ℕ → List ℕ
+exported epoch label context n = expand_with_label (derive_secret (exporter_secret epoch) label) (codes "exported") (sha256 context) n

@@ -1,0 +1,236 @@
+//! The secrets of an epoch (RFC 9420, 8). A context is the bytes of the epoch's GroupContext, less than
+//! 2^30.
+
+ghost use Rattle.std.specs.Prelude.{◌≡◌, ◌<◌, ◌≤◌, ◌^◌, ◌↔◌, length, IsErrOf, OnOk, OnErr};
+ghost use Rattle.mls_kdf.specs.Kdf.{expand_with_label};
+ghost use Rattle.mls_kdf.specs.declared.TheConstants.{MAX_OUTPUT};
+ghost use Rattle.mls_schedule.specs.Epoch.{joiner_secret, welcome_secret, next_welcome_secret, welcome_key, welcome_nonce, intermediate_secret, epoch_secret, next_epoch_secret, sender_data_secret, encryption_secret, exporter_secret, external_secret, confirmation_key, membership_key, resumption_psk, epoch_authenticator, init_secret, confirmation_tag, exported};
+
+use crate::ScheduleError;
+use mls_kdf::{KdfError, Secret, Seed, derive_secret, expand_with_label, extract, hash, hmac};
+use std::marker::Model;
+
+/// The secrets of one epoch: the epoch secret, and the nine that are made of it.
+#[derive(Drop)]
+pub struct Epoch {
+    epoch: Secret,
+    sender_data: Secret,
+    encryption: Secret,
+    exporter: Secret,
+    external: Secret,
+    confirmation: Secret,
+    membership: Secret,
+    resumption: Secret,
+    authenticator: Secret,
+    init: Secret,
+}
+
+// An epoch is seen as its epoch secret.
+impl Model for Epoch {
+    ghost use Rattle.std.specs.Prelude.{List, ℕ};
+
+    ghost Value = { List ℕ };
+
+    ghost use Rattle.mls_schedule.specs.Held.{IsOfEpoch};
+
+    ghost view = { λ e. e.epoch };
+
+    ghost invariant = { IsOfEpoch };
+}
+
+/// An epoch with the secrets that lead to it.
+#[derive(Drop)]
+pub struct Start {
+    /// What a new member is given, to reach the epoch.
+    pub joiner: Secret,
+    /// What the key and the nonce of a Welcome's GroupInfo are made of.
+    pub welcome: Secret,
+    /// The epoch.
+    pub epoch: Epoch,
+}
+
+/// What a Welcome's GroupInfo is sealed under (RFC 9420, 12.4.3.1).
+#[derive(Drop)]
+pub struct WelcomeKey {
+    /// The key.
+    pub key: [u8; 16],
+    /// The nonce.
+    pub nonce: [u8; 12],
+}
+
+// A secret made under a label and a context.
+fn expanded(secret: &Secret, label: &str, context: &[u8]) -> Secret
+    requires label { length label.now ≤ 200 }
+    requires context { length context.now < 2 ^ 30 }
+    ensures { result ≡ expand_with_label secret.now label.now context.now 32 }
+{
+    let mut out = [0; 32];
+    expand_with_label(secret, label, context, &mut out).unwrap();
+    out
+}
+
+// The joiner secret, with zeros for the pre-shared key that there never is.
+#[tactic(auto, unfolding(crate::specs::Epoch::intermediate_secret))]
+fn intermediate_secret(joiner: &Secret) -> Secret
+    ensures { result ≡ intermediate_secret joiner.now }
+{
+    extract(joiner, &[0; 32])
+}
+
+impl Epoch {
+    /// The epoch with this epoch secret, as epoch 0 is made of its creator's seed.
+    #[tactic(auto, unfolding(crate::specs::Epoch::sender_data_secret, crate::specs::Epoch::encryption_secret, crate::specs::Epoch::exporter_secret, crate::specs::Epoch::external_secret, crate::specs::Epoch::confirmation_key, crate::specs::Epoch::membership_key, crate::specs::Epoch::resumption_psk, crate::specs::Epoch::epoch_authenticator, crate::specs::Epoch::init_secret))]
+    pub fn first(seed: &Seed) -> Epoch
+        ensures { result ≡ seed.now }
+    {
+        Epoch {
+            epoch: *seed,
+            sender_data: derive_secret(seed, "sender data"),
+            encryption: derive_secret(seed, "encryption"),
+            exporter: derive_secret(seed, "exporter"),
+            external: derive_secret(seed, "external"),
+            confirmation: derive_secret(seed, "confirm"),
+            membership: derive_secret(seed, "membership"),
+            resumption: derive_secret(seed, "resumption"),
+            authenticator: derive_secret(seed, "authentication"),
+            init: derive_secret(seed, "init"),
+        }
+    }
+
+    /// The epoch after one with this init secret, by a commit with this commit secret. The context is
+    /// the new epoch's.
+    #[tactic(auto, unfolding(crate::specs::Epoch::joiner_secret, crate::specs::Epoch::next_welcome_secret, crate::specs::Epoch::next_epoch_secret))]
+    pub fn next(init: &Secret, commit_secret: &Secret, context: &[u8]) -> Start
+        requires { length context.now < 2 ^ 30 }
+        ensures joiner { result.joiner ≡ joiner_secret init.now commit_secret.now context.now }
+        ensures welcome { result.welcome ≡ next_welcome_secret init.now commit_secret.now context.now }
+        ensures epoch { result.epoch ≡ next_epoch_secret init.now commit_secret.now context.now }
+    {
+        let joiner = expanded(&extract(init, commit_secret), "joiner", context);
+        Epoch::from_joiner(&joiner, context)
+    }
+
+    /// The epoch that a new member reaches from the joiner secret. The context is that epoch's.
+    #[tactic(auto, unfolding(crate::specs::Epoch::welcome_secret, crate::specs::Epoch::epoch_secret))]
+    pub fn from_joiner(joiner: &Secret, context: &[u8]) -> Start
+        requires { length context.now < 2 ^ 30 }
+        ensures joiner { result.joiner ≡ joiner.now }
+        ensures welcome { result.welcome ≡ welcome_secret joiner.now }
+        ensures epoch { result.epoch ≡ epoch_secret joiner.now context.now }
+    {
+        let intermediate = intermediate_secret(joiner);
+        let welcome = derive_secret(&intermediate, "welcome");
+        let epoch = expanded(&intermediate, "epoch", context);
+        Start {
+            joiner: *joiner,
+            welcome,
+            epoch: Epoch::first(&epoch),
+        }
+    }
+
+    /// The key and the nonce of a Welcome's GroupInfo, from the joiner secret.
+    #[tactic(auto, unfolding(crate::specs::Epoch::welcome_secret, crate::specs::Epoch::welcome_key, crate::specs::Epoch::welcome_nonce))]
+    pub fn welcome_key(joiner: &Secret) -> WelcomeKey
+        ensures key { result.key ≡ welcome_key joiner.now }
+        ensures nonce { result.nonce ≡ welcome_nonce joiner.now }
+    {
+        let welcome = derive_secret(&intermediate_secret(joiner), "welcome");
+        let mut key = [0; 16];
+        expand_with_label(&welcome, "key", &[], &mut key).unwrap();
+        let mut nonce = [0; 12];
+        expand_with_label(&welcome, "nonce", &[], &mut nonce).unwrap();
+        WelcomeKey { key, nonce }
+    }
+
+    /// The epoch secret.
+    pub fn epoch_secret(&self) -> &Secret
+        ensures { result.now ≡ self.now }
+    {
+        &self.epoch
+    }
+
+    /// The secret of sender data.
+    pub fn sender_data_secret(&self) -> &Secret
+        ensures { result.now ≡ sender_data_secret self.now }
+    {
+        &self.sender_data
+    }
+
+    /// The root of the secret tree.
+    pub fn encryption_secret(&self) -> &Secret
+        ensures { result.now ≡ encryption_secret self.now }
+    {
+        &self.encryption
+    }
+
+    /// The secret that exported secrets are made of.
+    pub fn exporter_secret(&self) -> &Secret
+        ensures { result.now ≡ exporter_secret self.now }
+    {
+        &self.exporter
+    }
+
+    /// The secret of external commits.
+    pub fn external_secret(&self) -> &Secret
+        ensures { result.now ≡ external_secret self.now }
+    {
+        &self.external
+    }
+
+    /// The key of confirmation tags.
+    pub fn confirmation_key(&self) -> &Secret
+        ensures { result.now ≡ confirmation_key self.now }
+    {
+        &self.confirmation
+    }
+
+    /// The key of membership tags.
+    pub fn membership_key(&self) -> &Secret
+        ensures { result.now ≡ membership_key self.now }
+    {
+        &self.membership
+    }
+
+    /// The secret for resumption.
+    pub fn resumption_psk(&self) -> &Secret
+        ensures { result.now ≡ resumption_psk self.now }
+    {
+        &self.resumption
+    }
+
+    /// What members compare to see that they agree.
+    pub fn epoch_authenticator(&self) -> &Secret
+        ensures { result.now ≡ epoch_authenticator self.now }
+    {
+        &self.authenticator
+    }
+
+    /// The init secret, from which the next epoch is made.
+    pub fn init_secret(&self) -> &Secret
+        ensures { result.now ≡ init_secret self.now }
+    {
+        &self.init
+    }
+
+    /// The tag, of 32 bytes, that confirms a transcript by its confirmed hash (RFC 9420, 6.1).
+    #[tactic(auto, unfolding(crate::specs::Epoch::confirmation_tag))]
+    pub fn confirmation_tag(&self, confirmed: &[u8]) -> Secret
+        ensures { result ≡ confirmation_tag self.now confirmed.now }
+    {
+        hmac(&self.confirmation, &[confirmed])
+    }
+
+    /// Fills `out` with a secret exported under a label of at most 200 bytes and a context (RFC 9420,
+    /// 8.5). More than 8,160 bytes are refused with `OutputTooLong`, and `out` is as it was.
+    #[tactic(auto, unfolding(crate::specs::Epoch::exported))]
+    pub fn export(&self, label: &str, context: &[u8], out: &mut [u8]) -> Result<(), ScheduleError>
+        requires { length label.now ≤ 200 }
+        ensures too_long { IsErrOf result (ScheduleError.Kdf KdfError.OutputTooLong) ↔ (MAX_OUTPUT < length out.old) }
+        ensures ok { OnOk result (out.new ≡ exported self.now label.now context.now (length out.old)) }
+        ensures err { OnErr result (out.new ≡ out.old) }
+    {
+        let secret = derive_secret(&self.exporter, label);
+        expand_with_label(&secret, "exported", &hash(&[context]), out)?;
+        Ok(())
+    }
+}

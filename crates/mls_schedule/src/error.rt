@@ -1,0 +1,44 @@
+//! What the schedule refuses.
+
+ghost use Rattle.std.specs.Prelude.{◌≡◌, codes};
+
+use mls_kdf::KdfError;
+use thiserror::Error;
+
+/// Why a secret is not exported.
+#[derive(Clone, Copy, Debug, PartialEq, Eq, Error)]
+pub enum ScheduleError {
+    /// A key is not made.
+    #[error("{0}")]
+    Kdf(KdfError),
+}
+
+impl From<KdfError> for ScheduleError {
+    ghost use Rattle.mls_schedule.specs.declared.error.ScheduleError.TheVariants.{Kdf};
+
+    ghost from_gives = { λ e r. r ≡ Kdf e };
+
+    fn from(error: KdfError) -> ScheduleError {
+        ScheduleError::Kdf(error)
+    }
+}
+
+impl ScheduleError {
+    /// The number of the refusal.
+    pub fn number(self) -> u8
+        ensures { result ≡ 10 }
+    {
+        match self {
+            ScheduleError::Kdf(error) => error.number(),
+        }
+    }
+
+    /// The name of the refusal.
+    pub fn name(self) -> &'static str
+        ensures { result.now ≡ codes "OutputTooLong" }
+    {
+        match self {
+            ScheduleError::Kdf(error) => error.name(),
+        }
+    }
+}
