@@ -1,5 +1,6 @@
 //! Key packages.
 
+ghost use Rattle.std.specs.Prelude.{◌≡◌};
 ghost use Rattle.mls_leaf.specs.KeyPackage.{key_package, key_package_nonempty};
 
 use crate::bytes::Bytes;
@@ -7,15 +8,28 @@ use crate::codec::{Codec, pass_empty, pass_mark};
 use crate::error::LeafError;
 use crate::leaf::LeafNode;
 use mls_wire::{Reader, Writer};
-use std::alloc::Global;
+use std::alloc::{AllocError, Global};
 
 /// What a client offers to those who add it to a group (RFC 9420, section 10).
-#[derive(Debug, Clone, Drop)]
+#[derive(Debug, Drop)]
 pub struct KeyPackage {
     pub cipher_suite: u16,
     pub init_key: Bytes,
     pub leaf_node: LeafNode,
     pub signature: Bytes,
+}
+
+impl Clone for KeyPackage {
+    ghost is_clone = { λ v w. w ≡ v };
+
+    fn clone(&self) -> Result<KeyPackage, AllocError> {
+        Ok(KeyPackage {
+            cipher_suite: self.cipher_suite,
+            init_key: self.init_key.clone()?,
+            leaf_node: self.leaf_node.clone()?,
+            signature: self.signature.clone()?,
+        })
+    }
 }
 
 impl Codec for KeyPackage {

@@ -1,5 +1,6 @@
 //! Nodes of a tree as they stand on the wire.
 
+ghost use Rattle.std.specs.Prelude.{◌≡◌};
 ghost use Rattle.mls_leaf.specs.Node.{node, node_nonempty};
 
 use crate::codec::Codec;
@@ -7,13 +8,24 @@ use crate::error::LeafError;
 use crate::leaf::LeafNode;
 use crate::parent_node::ParentNode;
 use mls_wire::{Reader, Writer};
-use std::alloc::Global;
+use std::alloc::{AllocError, Global};
 
 /// A node that is not blank (RFC 9420, section 12.4.3.3): a leaf or a parent.
-#[derive(Debug, Clone, Drop)]
+#[derive(Debug, Drop)]
 pub enum Node {
     Leaf(LeafNode),
     Parent(ParentNode),
+}
+
+impl Clone for Node {
+    ghost is_clone = { λ v w. w ≡ v };
+
+    fn clone(&self) -> Result<Node, AllocError> {
+        match self {
+            Node::Leaf(leaf) => Ok(Node::Leaf(leaf.clone()?)),
+            Node::Parent(parent) => Ok(Node::Parent(parent.clone()?)),
+        }
+    }
 }
 
 impl Codec for Node {

@@ -1,5 +1,6 @@
 //! Proposals.
 
+ghost use Rattle.std.specs.Prelude.{◌≡◌};
 ghost use Rattle.mls_leaf.specs.Proposal.{proposal, proposal_nonempty};
 
 use crate::codec::Codec;
@@ -7,14 +8,26 @@ use crate::error::LeafError;
 use crate::key_package::KeyPackage;
 use crate::leaf::LeafNode;
 use mls_wire::{Reader, Writer};
-use std::alloc::Global;
+use std::alloc::{AllocError, Global};
 
 /// A change that is put forward (RFC 9420, section 12.1). `Remove` names a leaf index.
-#[derive(Debug, Clone, Drop)]
+#[derive(Debug, Drop)]
 pub enum Proposal {
     Add(KeyPackage),
     Update(LeafNode),
     Remove(u32),
+}
+
+impl Clone for Proposal {
+    ghost is_clone = { λ v w. w ≡ v };
+
+    fn clone(&self) -> Result<Proposal, AllocError> {
+        match self {
+            Proposal::Add(key_package) => Ok(Proposal::Add(key_package.clone()?)),
+            Proposal::Update(leaf_node) => Ok(Proposal::Update(leaf_node.clone()?)),
+            Proposal::Remove(removed) => Ok(Proposal::Remove(*removed)),
+        }
+    }
 }
 
 impl Codec for Proposal {
