@@ -1,0 +1,56 @@
+//! Functions generic over a suite that use its laws through the bound, run at two suites.
+#![tactic(auto)]
+
+ghost use Rattle.std.specs.Prelude.{◌≡◌, ◌<◌, ◌≤◌, ◌^◌, length, IfOk, true};
+
+#[cfg(test)]
+mod tests;
+mod unchecked;
+
+use mls_suite::{
+    OutOfMemory, Suite, decrypt_with_label, encrypt_with_label, sign_with_label, verify_with_label,
+};
+use std::alloc::Global;
+pub use unchecked::Unchecked;
+
+/// Seals `pt` under a label and a context to the public key of `sk`, and opens it again: it is `pt`,
+/// in each suite.
+pub fn sealed_and_opened<S: Suite>(
+    alloc: Global,
+    sk: &[u8; 32],
+    label: &str,
+    context: &[u8],
+    pt: &[u8],
+    rnd: &[u8; 32],
+) -> Result<Vec<u8>, OutOfMemory>
+    requires label { length label.now ≤ 200 }
+    requires context { length context.now < 2 ^ 30 }
+    ensures { IfOk result (λ read. read.items ≡ pt.now) }
+{
+    let pk = S::public(alloc, sk)?;
+    let Some(sealed) = encrypt_with_label::<S>(alloc, &pk, label, context, pt, rnd)? else {
+        unreachable!()
+    };
+    let Some(read) = decrypt_with_label::<S>(alloc, sk, label, context, &sealed.kem, &sealed.ct)?
+    else {
+        unreachable!()
+    };
+    Ok(read)
+}
+
+/// Signs a content under a label, and verifies the signature: it holds, in each suite.
+pub fn signed_and_verified<S: Suite>(
+    alloc: Global,
+    sk: &[u8; 32],
+    label: &str,
+    content: &[u8],
+) -> Result<bool, OutOfMemory>
+    requires label { length label.now ≤ 200 }
+    requires content { length content.now < 2 ^ 30 }
+    ensures { IfOk result (λ good. good ≡ true) }
+{
+    let pk = S::sig_public(alloc, sk)?;
+    let signature = sign_with_label::<S>(alloc, sk, label, content)?;
+    let good = verify_with_label::<S>(alloc, &pk, label, content, &signature)?;
+    Ok(good)
+}
