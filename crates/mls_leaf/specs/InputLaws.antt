@@ -1,5 +1,5 @@
 -- What is signed is all of a spelling in front of the signature.
-use Rattle.std.proofs.Common.{◌≡◌, ℕ, List, [], ◌++◌, length, refl, append_assoc}
+use Rattle.std.proofs.Common.{◌≡◌, ◌++◌, append_assoc}
 use Rattle.mls_wire.specs.Reading.{opaque}
 use Rattle.mls_leaf.specs.Leaf.{leaf_node}
 use Rattle.mls_leaf.specs.KeyPackage.{key_package}

@@ -1,8 +1,8 @@
 -- The laws of lists that rise, and of the parents that hold them.
-use Rattle.std.proofs.Common.{◌≡◌, ℕ, zero, suc, ◌+◌, ◌<◌, ◌≤◌, Bool, true, false, cond, ◌&&◌, ltb, eqb, List, [], ◌∷◌, ◌++◌, length, get_or, take, drop, Result, Ok, Err, refl, sym, ap, subst, ◌∙◌, arith, inl, inr, ◌⊎◌, add-one, append_assoc, ◌^◌}
-use Rattle.std.specs.Prelude.{nat_le, nat_lt}
+use Rattle.std.proofs.Common.{◌≡◌, ℕ, zero, suc, ◌+◌, ◌<◌, ◌≤◌, Bool, true, false, cond, ◌&&◌, ltb, eqb, List, [], ◌∷◌, ◌++◌, length, get_or, take, drop, Result, Ok, Err, refl, sym, ap, subst, ◌∙◌, arith, inl, inr, append_assoc, ◌^◌}
+use Rattle.std.specs.Prelude.{nat_le}
 use Rattle.std.specs.List.{flat_map, AllByRecursion, insert}
-use Rattle.std.proofs.lemmas.Bool.{cases_lt, cases_order, and_parts, lt-ltb, le-ltb, le-leb, lt-leb, leb-true, eq-eqb, ne_eqb}
+use Rattle.std.proofs.lemmas.Bool.{cases_order, and_parts, lt-ltb, le-ltb, le-leb, lt-leb, leb-true, eq-eqb, ne_eqb}
 use Rattle.std.proofs.lemmas.List.{at_drop_more, at_drop_all, take_more, take-append-drop}
 use Rattle.mls_wire.specs.Reading.{◌>>=◌}
 use Rattle.mls_wire.specs.Laws.{bind_ok, ok_is}
@@ -10,7 +10,7 @@ use Rattle.mls_wire.specs.CombineLaws.{all_is, tested, chosen_by}
 use Rattle.mls_wire.specs.Combine.{vector, uint32}
 use Rattle.mls_wire.specs.Stateful.{run_at, run_spelling, RunFits, vector_from}
 use Rattle.mls_leaf.specs.declared.error.LeafError.{LeafError}
-use Rattle.mls_leaf.specs.Faults.{AddsSpelling, Refuses}
+use Rattle.mls_leaf.specs.Faults.{AddsSpelling}
 use Rattle.mls_leaf.specs.Codecs.{Refuses-whole}
 use Rattle.mls_leaf.specs.Nonempty.{uint32_nonempty}
 use Rattle.mls_leaf.specs.Parent.{rises_from, inserted}

@@ -1,4 +1,4 @@
-use Rattle.std.proofs.Common.{◌≡◌, ◌≤◌, length}
+use Rattle.std.proofs.Common.{length}
 use Rattle.mls_wire.specs.CombineLaws.{forgotten}
 use Rattle.mls_wire.specs.Stateful.{run_at}
 use Rattle.mls_leaf.specs.RunLoops.{PastFrom}

@@ -1,4 +1,4 @@
-use Rattle.std.proofs.Common.{◌≡◌, ◌+◌, [], length, rules}
+use Rattle.std.proofs.Common.{◌≡◌, [], length, rules}
 use Rattle.mls_wire.specs.Stateful.{run_at}
 use Rattle.mls_leaf.specs.RunLoops.{is_shorter, goes_on_from, is_done_from}
 use Rattle.mls_leaf.specs.ParentNode.{entry_from, entry_from_nonempty, rising}
