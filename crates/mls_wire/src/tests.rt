@@ -12,8 +12,8 @@ const REFUSALS: [(WireError, u8, &str); 6] = [
 
 /// A number of each size, a byte string, and a vector of one number.
 const FIELDS: [u8; 21] = [
-    0x01, 0x02, 0x03, 0x04, 0x05, 0x06, 0x07, 0x08, 0x09, 0x0a, 0x0b, 0x0c, 0x0d, 0x0e, 0x0f, 0x02, 0xaa, 0xbb,
-    0x02, 0x10, 0x11,
+    0x01, 0x02, 0x03, 0x04, 0x05, 0x06, 0x07, 0x08, 0x09, 0x0a, 0x0b, 0x0c, 0x0d, 0x0e, 0x0f, 0x02,
+    0xaa, 0xbb, 0x02, 0x10, 0x11,
 ];
 
 #[test]
@@ -37,7 +37,11 @@ fn headers(rt: HostRuntime) -> Result<(), Fail> {
     for (length, bytes) in rows {
         let header = length_header(length).ok_or("no header")?;
         assert_eq!(rt; header.as_slice(), bytes, "of {length}");
-        assert_eq!(rt; read_length(bytes), Ok((length, bytes.len())), "of {length}");
+        assert_eq!(rt;
+            read_length(bytes),
+            Ok((length, bytes.len())),
+            "of {length}"
+        );
     }
     assert_eq!(rt; length_header(1_073_741_824), None);
     one_spelling();
@@ -93,4 +97,20 @@ fn writes_fields(rt: HostRuntime) -> Result<(), Fail> {
     assert_eq!(rt; writer.bytes(), FIELDS.as_slice());
     assert_eq!(rt; writer.into_bytes().as_slice(), FIELDS.as_slice());
     Ok(())
+}
+
+/// Where a growth is refused, the call answers so, and the writer has just what it had before.
+#[test]
+fn refused_growths(rt: HostRuntime) {
+    let mut writer = Writer::new(rt.alloc());
+    for _ in 0..40 {
+        let before = writer.bytes().len();
+        match writer.opaque(&[0xaa, 0xbb]) {
+            Ok(()) => assert_eq!(rt; writer.bytes().len().wrapping_sub(before), 3),
+            Err(error) => {
+                assert_eq!(rt; error.number(), 1);
+                assert_eq!(rt; writer.bytes().len(), before);
+            }
+        }
+    }
 }
