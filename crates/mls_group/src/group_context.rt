@@ -1,6 +1,6 @@
 //! Group contexts (RFC 9420, 8.1).
 
-ghost use Rattle.mls_types.specs.GroupContext.{group_context, group_context_nonempty};
+ghost use Rattle.mls_group.specs.GroupContext.{group_context, group_context_nonempty};
 
 use mls_leaf::{Bytes, Codec, LeafError, pass_empty, pass_mark};
 use mls_wire::{Reader, Writer};

@@ -5,7 +5,7 @@ use Rattle.mls_wire.specs.Format.{Format}
 use Rattle.mls_wire.specs.CombineLaws.{IsNonempty}
 use Rattle.mls_wire.specs.Combine.{◌⨾◌, seen, behind, mark, empty_vector, byte_string, uint16, uint64, nothing}
 use Rattle.mls_leaf.specs.Nonempty.{behind_nonempty, mark_nonempty}
-use Rattle.mls_types.specs.declared.group_context.GroupContext.{GroupContext}
+use Rattle.mls_group.specs.declared.group_context.GroupContext.{GroupContext}
 
 -- uint16 version (1), uint16 cipher_suite, group_id<V>, uint64 epoch, tree_hash<V>, confirmed_transcript_hash<V>, Extension<V>
 unfoldable pub group_context : Format GroupContext

@@ -1,6 +1,6 @@
 //! Update paths (RFC 9420, 7.6).
 
-ghost use Rattle.mls_types.specs.UpdatePath.{hpke_ciphertext, update_path_node, update_path, hpke_ciphertext_nonempty, update_path_node_nonempty, update_path_nonempty};
+ghost use Rattle.mls_group.specs.UpdatePath.{hpke_ciphertext, update_path_node, update_path, hpke_ciphertext_nonempty, update_path_node_nonempty, update_path_nonempty};
 
 use mls_leaf::{Bytes, Codec, Items, LeafError, LeafNode};
 use mls_wire::{Reader, Writer};

@@ -5,9 +5,9 @@ use Rattle.mls_wire.specs.CombineLaws.{IsNonempty}
 use Rattle.mls_wire.specs.Combine.{◌⨾◌, seen, vector, byte_string}
 use Rattle.mls_leaf.specs.Nonempty.{byte_string_nonempty, first_nonempty}
 use Rattle.mls_leaf.specs.Leaf.{leaf_node, leaf_node_nonempty}
-use Rattle.mls_types.specs.declared.update_path.HpkeCiphertext.{HpkeCiphertext}
-use Rattle.mls_types.specs.declared.update_path.UpdatePathNode.{UpdatePathNode}
-use Rattle.mls_types.specs.declared.update_path.UpdatePath.{UpdatePath}
+use Rattle.mls_group.specs.declared.update_path.HpkeCiphertext.{HpkeCiphertext}
+use Rattle.mls_group.specs.declared.update_path.UpdatePathNode.{UpdatePathNode}
+use Rattle.mls_group.specs.declared.update_path.UpdatePath.{UpdatePath}
 
 -- kem_output<V>, ciphertext<V>
 unfoldable pub hpke_ciphertext : Format HpkeCiphertext

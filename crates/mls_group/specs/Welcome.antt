@@ -4,11 +4,11 @@ use Rattle.mls_wire.specs.Format.{Format}
 use Rattle.mls_wire.specs.CombineLaws.{IsNonempty}
 use Rattle.mls_wire.specs.Combine.{◌⨾◌, seen, vector, optional, byte_string, uint16}
 use Rattle.mls_leaf.specs.Nonempty.{byte_string_nonempty, uint16_nonempty, first_nonempty}
-use Rattle.mls_types.specs.UpdatePath.{hpke_ciphertext}
-use Rattle.mls_types.specs.declared.update_path.HpkeCiphertext.{HpkeCiphertext}
-use Rattle.mls_types.specs.declared.welcome.EncryptedGroupSecrets.{EncryptedGroupSecrets}
-use Rattle.mls_types.specs.declared.welcome.GroupSecrets.{GroupSecrets}
-use Rattle.mls_types.specs.declared.welcome.Welcome.{Welcome}
+use Rattle.mls_group.specs.UpdatePath.{hpke_ciphertext}
+use Rattle.mls_group.specs.declared.update_path.HpkeCiphertext.{HpkeCiphertext}
+use Rattle.mls_group.specs.declared.welcome.EncryptedGroupSecrets.{EncryptedGroupSecrets}
+use Rattle.mls_group.specs.declared.welcome.GroupSecrets.{GroupSecrets}
+use Rattle.mls_group.specs.declared.welcome.Welcome.{Welcome}
 
 -- new_member<V>, HPKECiphertext
 unfoldable pub encrypted_group_secrets : Format EncryptedGroupSecrets

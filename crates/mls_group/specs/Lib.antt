@@ -1,0 +1,16 @@
+pub mod Enclosed
+pub mod GroupContext
+pub mod GroupInfo
+pub mod UpdatePath
+pub mod Welcome
+pub use Rattle.mls_leaf.specs.Codecs
+pub use Rattle.mls_leaf.specs.Faults
+pub use Rattle.mls_leaf.specs.InputLaws
+pub use Rattle.mls_leaf.specs.Inputs
+pub use Rattle.mls_leaf.specs.KeyPackage
+pub use Rattle.mls_leaf.specs.Leaf
+pub use Rattle.mls_leaf.specs.Node
+pub use Rattle.mls_leaf.specs.Nonempty
+pub use Rattle.mls_leaf.specs.Parent
+pub use Rattle.mls_leaf.specs.ParentNode
+pub use Rattle.mls_leaf.specs.Proposal

@@ -1,0 +1,26 @@
+-- The inputs that are signed and tagged (RFC 9420, 6.1 and 6.2): each a list of bytes, its parts in order, and when no vector in it is too long.
+use Rattle.std.specs.Prelude.{ℕ, List, ◌++◌}
+use Rattle.std.specs.Int.{w16}
+use Rattle.mls_wire.specs.Reading.{uint}
+use Rattle.mls_types.specs.Content.{framed_content}
+use Rattle.mls_types.specs.SignedParts.{framed, auth_data, AuthDataFits}
+use Rattle.mls_types.specs.PublicMessage.{wire_format}
+use Rattle.mls_group.specs.GroupContext.{group_context}
+use Rattle.mls_types.specs.declared.content.FramedContent.{FramedContent}
+use Rattle.mls_types.specs.declared.signed.SignedContent.{SignedContent}
+use Rattle.mls_types.specs.declared.public_message.WireFormat.{WireFormat}
+use Rattle.mls_group.specs.declared.group_context.GroupContext.{GroupContext}
+
+-- FramedContentTBS (RFC 9420, 6.1): uint16 version (1), uint16 wire_format, FramedContent, GroupContext
+abbrev pub framed_content_tbs : WireFormat → FramedContent → GroupContext → List ℕ
+framed_content_tbs kind said context = uint w16 1 ++ wire_format.spell kind ++ framed_content.spell said ++ group_context.spell context
+
+abbrev pub FramedContentTbsFits : WireFormat → FramedContent → GroupContext → Type 0
+FramedContentTbsFits kind said context = wire_format.Fits kind × (framed_content.Fits said × group_context.Fits context)
+
+-- AuthenticatedContentTBM (RFC 9420, 6.2): FramedContentTBS, FramedContentAuthData
+abbrev pub authenticated_content_tbm : WireFormat → SignedContent → GroupContext → List ℕ
+authenticated_content_tbm kind said context = framed_content_tbs kind (framed said) context ++ auth_data said
+
+abbrev pub AuthenticatedContentTbmFits : WireFormat → SignedContent → GroupContext → Type 0
+AuthenticatedContentTbmFits kind said context = FramedContentTbsFits kind (framed said) context × AuthDataFits said

@@ -1,0 +1,69 @@
+//! The inputs that are signed and tagged (RFC 9420, 6.1 and 6.2).
+
+use crate::content::FramedContent;
+use crate::public_message::WireFormat;
+use crate::signed::SignedContent;
+use mls_group::GroupContext;
+use mls_leaf::{Codec, LeafError};
+use mls_wire::Writer;
+use std::alloc::Global;
+
+impl FramedContent {
+    ghost use Rattle.mls_types.specs.Signing.{framed_content_tbs, FramedContentTbsFits};
+    ghost use Rattle.mls_leaf.specs.Faults.{Writes};
+
+    /// The FramedContentTBS, which the sender signs (RFC 9420, 6.1).
+    /// TooLong where a vector in it has 2^30 bytes or more.
+    #[tactic(auto, using(mls_leaf::specs::Codecs::codecs))]
+    pub fn to_be_signed(&self, alloc: Global, wire_format: WireFormat, group_context: &GroupContext) -> Result<Vec<u8>, LeafError>
+        ensures { Writes (FramedContentTbsFits wire_format self.now group_context.now) (framed_content_tbs wire_format self.now group_context.now) result }
+    {
+        let mut writer = Writer::new(alloc);
+        writer.u16(1)?;
+        wire_format.write(alloc, &mut writer)?;
+        self.write(alloc, &mut writer)?;
+        group_context.write(alloc, &mut writer)?;
+        Ok(writer.into_bytes())
+    }
+}
+
+impl SignedContent {
+    ghost use Rattle.mls_types.specs.SignedParts.{framed};
+    ghost use Rattle.mls_types.specs.Signing.{framed_content_tbs, FramedContentTbsFits, authenticated_content_tbm, AuthenticatedContentTbmFits};
+    ghost use Rattle.mls_leaf.specs.Faults.{AddsInput, Writes};
+
+    /// The FramedContentTBS, which the sender signed (RFC 9420, 6.1).
+    /// TooLong where a vector in it has 2^30 bytes or more.
+    #[tactic(auto, using(mls_leaf::specs::Codecs::codecs))]
+    pub fn to_be_signed(&self, alloc: Global, wire_format: WireFormat, group_context: &GroupContext) -> Result<Vec<u8>, LeafError>
+        ensures { Writes (FramedContentTbsFits wire_format (framed self.now) group_context.now) (framed_content_tbs wire_format (framed self.now) group_context.now) result }
+    {
+        let mut writer = Writer::new(alloc);
+        self.add_to_be_signed(wire_format, group_context, alloc, &mut writer)?;
+        Ok(writer.into_bytes())
+    }
+
+    /// The AuthenticatedContentTBM, which the membership tag is of (RFC 9420, 6.2).
+    /// TooLong where a vector in it has 2^30 bytes or more.
+    #[tactic(auto, using(mls_leaf::specs::Codecs::codecs))]
+    pub fn to_be_tagged(&self, alloc: Global, wire_format: WireFormat, group_context: &GroupContext) -> Result<Vec<u8>, LeafError>
+        ensures { Writes (AuthenticatedContentTbmFits wire_format self.now group_context.now) (authenticated_content_tbm wire_format self.now group_context.now) result }
+    {
+        let mut writer = Writer::new(alloc);
+        self.add_to_be_signed(wire_format, group_context, alloc, &mut writer)?;
+        self.add_auth_data(alloc, &mut writer)?;
+        Ok(writer.into_bytes())
+    }
+
+    /// Adds the FramedContentTBS.
+    #[tactic(auto, using(mls_leaf::specs::Codecs::codecs))]
+    fn add_to_be_signed(&self, wire_format: WireFormat, group_context: &GroupContext, alloc: Global, writer: &mut Writer) -> Result<(), LeafError>
+        ensures { AddsInput (FramedContentTbsFits wire_format (framed self.now) group_context.now) (framed_content_tbs wire_format (framed self.now) group_context.now) writer.old result writer.new }
+    {
+        writer.u16(1)?;
+        wire_format.write(alloc, writer)?;
+        self.add_framed_content(alloc, writer)?;
+        group_context.write(alloc, writer)?;
+        Ok(())
+    }
+}
