@@ -1,10 +1,9 @@
 -- The way down to the node where the ways to two places part.
-use Rattle.std.proofs.Common.{◌≡◌, ℕ, zero, suc, ◌+◌, ◌-◌, ◌*◌, ◌^◌, ◌<◌, ◌≤◌, inl, inr, true, false, [], ◌∷◌, Option, Some, None, min, max, refl, sym, ◌∙◌, ap, subst, arith}
+use Rattle.std.proofs.Common.{◌≡◌, ℕ, suc, ◌+◌, ◌-◌, ◌*◌, ◌^◌, ◌<◌, ◌≤◌, inl, inr, true, false, [], ◌∷◌, Option, Some, None, min, max, refl, sym, ◌∙◌, ap, subst, arith}
 use Rattle.std.proofs.Math.Nat.{pow-suc}
 use Rattle.std.proofs.lemmas.Bool.{cases_order, cases_lt}
-use Rattle.mls_treemath.specs.Limits.{max_height}
 use Rattle.mls_treemath.specs.Paths.{Path, nodes_in, root_of, index_of, longer, path_to}
-use Rattle.mls_treemath.specs.Sizes.{nodes_in-suc, nodes_in-pow, suc-root_of, root_of-suc, root_of-zero, nodes_in-zero}
+use Rattle.mls_treemath.specs.Sizes.{nodes_in-suc, nodes_in-pow, suc-root_of, root_of-suc, nodes_in-zero}
 use Rattle.mls_treemath.specs.Ways.{Node, node_at, no_node, path_left, path_root, path_right}
 use Rattle.mls_treemath.specs.Steps.{common, height_of, parting, parting_among, common_ancestor_of, IsTreeOf}
 use Rattle.mls_treemath.specs.Descent.{apart, Reached}

@@ -1,5 +1,5 @@
 -- Laws: the common front of two ways leads to the lowest node over the ends of both.
-use Rattle.std.proofs.Common.{◌≡◌, ℕ, suc, ◌+◌, ◌≤◌, Bool, true, false, [], ◌∷◌, ◌++◌, length, refl, sym, ◌∙◌, ap, arith}
+use Rattle.std.proofs.Common.{◌≡◌, Bool, true, false, [], ◌∷◌, ◌++◌, refl, sym, ◌∙◌, ap}
 use Rattle.std.proofs.lemmas.List.{append-nil}
 use Rattle.mls_treemath.specs.Paths.{Path}
 use Rattle.mls_treemath.specs.Steps.{common}

@@ -1,11 +1,10 @@
 -- Laws: leaf i is node 2 i, and the bits of i lead to it; the bit that decides is a comparison with the middle.
-use Rattle.std.proofs.Common.{◌≡◌, ℕ, zero, suc, ◌+◌, ◌-◌, ◌*◌, ◌/◌, ◌%◌, ◌^◌, ◌==◌, nat_lt, ◌<◌, ◌≤◌, Bool, true, false, not, if◌then◌else◌, inl, inr, [], ◌∷◌, length, Some, refl, sym, ◌∙◌, ap, arith}
+use Rattle.std.proofs.Common.{◌≡◌, ℕ, zero, suc, ◌+◌, ◌-◌, ◌*◌, ◌/◌, ◌^◌, ◌==◌, nat_lt, ◌<◌, ◌≤◌, true, false, not, if◌then◌else◌, inl, inr, [], ◌∷◌, length, Some, refl, sym, ◌∙◌, ap, arith}
 use Rattle.std.specs.Int.{bit_at}
-use Rattle.std.proofs.Math.Nat.{pow-suc}
-use Rattle.std.proofs.lemmas.Nat.{div-mul-add, pow_pos}
+use Rattle.std.proofs.lemmas.Nat.{div-mul-add}
 use Rattle.std.proofs.lemmas.Bool.{cond-true, cond-false, lt-ltb, le-ltb, cases_lt}
-use Rattle.mls_treemath.specs.Paths.{Path, nodes_in, leaves_in, root_of, index_of, path_to, leaf_path}
-use Rattle.mls_treemath.specs.Sizes.{width_perfect, leaves_in-suc, leaves_in_pos, nodes_in-leaves, root_of-zero}
+use Rattle.mls_treemath.specs.Paths.{Path, nodes_in, leaves_in, index_of, path_to, leaf_path}
+use Rattle.mls_treemath.specs.Sizes.{width_perfect, leaves_in-suc, nodes_in-leaves, root_of-zero}
 use Rattle.mls_treemath.specs.Ways.{path_to-index_of}
 
 pub length-leaf_path : (h i : ℕ) → length (leaf_path h i) ≡ h

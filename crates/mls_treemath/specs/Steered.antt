@@ -1,6 +1,7 @@
--- The walks from a leaf, steered by comparison of leaf numbers as the terms of ratchet trees are: below a node of height h whose
--- first leaf is b, leaf i is on the left exactly where i < b + leaves_in h. Its first node is 2 b, and the node itself is that and the size of its left side.
-use Rattle.std.proofs.Common.{◌≡◌, ℕ, zero, suc, ◌+◌, ◌*◌, nat_lt, ◌<◌, ◌≤◌, Bool, true, false, not, if◌then◌else◌, inl, inr, List, [], ◌∷◌, ◌++◌, map, reverse, Some, refl, sym, ◌∙◌, ap, arith}
+-- The walks from a leaf, steered by comparison of leaf numbers, as the terms of ratchet trees are.
+-- Below a node of height h whose first leaf is b, leaf i is on the left exactly where i < b + leaves_in h.
+-- The first node there is 2 b, and the node itself is that and the size of its left side.
+use Rattle.std.proofs.Common.{◌≡◌, ℕ, zero, suc, ◌+◌, ◌*◌, nat_lt, ◌<◌, ◌≤◌, true, false, if◌then◌else◌, inl, inr, List, [], ◌∷◌, ◌++◌, map, reverse, Some, refl, sym, ◌∙◌, ap, arith}
 use Rattle.std.proofs.lemmas.List.{map-append, reverse-append}
 use Rattle.std.proofs.lemmas.Bool.{cond-true, cond-false, lt-ltb, le-ltb, cases_lt}
 use Rattle.mls_treemath.specs.Paths.{Path, nodes_in, leaves_in, root_of, index_of, leaf_path}

@@ -4,7 +4,7 @@ use Rattle.std.proofs.lemmas.List.{append-nil}
 use Rattle.std.proofs.lemmas.Bool.{cond-true, cond-false, lt-ltb, le-ltb, eq-eqb, ne_eqb, cases_order, cases_lt}
 use Rattle.mls_treemath.specs.Paths.{Path, nodes_in, root_of, index_of, longer, path_to, first_under}
 use Rattle.mls_treemath.specs.Steps.{level_in, height_left}
-use Rattle.mls_treemath.specs.Sizes.{nodes_in-suc, nodes_in-leaves, root_of-leaves, leaves_in_pos}
+use Rattle.mls_treemath.specs.Sizes.{nodes_in-suc}
 
 -- a node of a tree of height h, by its place x and its way
 pub record Node (h x : ℕ) : Type 0 where
