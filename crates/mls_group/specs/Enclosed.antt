@@ -1,5 +1,5 @@
 -- Vectors whose content is an input of its own, read to its end (RFC 9420, 2.1.2 and 12.4.3.3).
-use Rattle.std.proofs.Common.{◌≡◌, ℕ, ◌<◌, ◌≤◌, ◌^◌, ◌==◌, Bool, true, false, cond, eqb, List, [], ◌∷◌, ◌++◌, length, Option, Some, None, Result, Ok, Err, refl, sym, ap, subst, ◌∙◌, arith, if◌then◌else◌}
+use Rattle.std.proofs.Common.{◌≡◌, ℕ, ◌<◌, ◌^◌, ◌==◌, Bool, true, false, cond, eqb, List, [], ◌++◌, length, Option, Some, None, Result, Ok, Err, refl, sym, ap, subst, ◌∙◌, arith, if◌then◌else◌}
 use Rattle.std.specs.Int.{w16}
 use Rattle.std.proofs.lemmas.Bool.{eqb-true, ne_eqb}
 use Rattle.std.proofs.lemmas.List.{append-nil, nil_from_length}
@@ -151,7 +151,7 @@ chosen_passes false p r e = e
 pub one_passes : {V : Type 0} (a : Format V) (fault : ℕ) (bytes : List ℕ) → one_past a fault bytes ≡ passed (one_at a fault bytes)
 one_passes a fault bytes =
     chosen_passes (eqb (length bytes) 0) (a.pass bytes >>= alone_past fault) (a.read bytes >>= alone fault)
-      (ap (λ (r : Result (List ℕ) ℕ). r >>= alone_past fault) (a.passes bytes) ∙ alone_passes fault (a.read bytes))
+    (ap (λ (r : Result (List ℕ) ℕ). r >>= alone_past fault) (a.passes bytes) ∙ alone_passes fault (a.read bytes))
 
 -- no value, or one; the type of a second is read, and is the fault
 abbrev pub at_most_one : {V : Type 0} (a : Format V) → IsNonempty a → ℕ → Whole (Option V)
@@ -179,16 +179,16 @@ all_past w x = w.pass x.0 >>= λ _. Ok x.1
 pub enclosed_lawful : {V : Type 0} (w : Whole V) → IsLawful (λ v. opaque (w.spell v)) (λ v. w.Fits v × (length (w.spell v) < 2 ^ 30)) (λ bytes. opaque_at bytes >>= all_at w)
 enclosed_lawful {V} w = record {
   takes = λ bytes v rest fits e.
-    let s = bind_ok (opaque_at bytes) (all_at w) (v, rest) e in
-    let t = bind_ok (w.read s.0.0) (λ y. with_rest s.0.1 y) (v, rest) s.2 in
-    let first = opaque_takes bytes s.0.0 s.0.1 fits s.1 in
-    let second = w.takes s.0.0 t.0 (opaque_bytes bytes s.0.0 s.0.1 fits s.1) t.1 in
-    let made : Takes bytes (opaque (w.spell t.0)) s.0.1 × (w.Fits t.0 × (length (w.spell t.0) < 2 ^ 30)) =
-        subst (λ (l : List ℕ). Takes bytes (opaque l) s.0.1 × (w.Fits t.0 × (length l < 2 ^ 30))) second.0 (first.0, (second.1, first.1)) in
-    subst (λ (x : V × List ℕ). Takes bytes (opaque (w.spell x.0)) x.1 × (w.Fits x.0 × (length (w.spell x.0) < 2 ^ 30))) (ok_is (t.0, s.0.1) (v, rest) t.2) made;
+      let s = bind_ok (opaque_at bytes) (all_at w) (v, rest) e in
+      let t = bind_ok (w.read s.0.0) (λ y. with_rest s.0.1 y) (v, rest) s.2 in
+      let first = opaque_takes bytes s.0.0 s.0.1 fits s.1 in
+      let second = w.takes s.0.0 t.0 (opaque_bytes bytes s.0.0 s.0.1 fits s.1) t.1 in
+      let made : Takes bytes (opaque (w.spell t.0)) s.0.1 × (w.Fits t.0 × (length (w.spell t.0) < 2 ^ 30)) =
+      subst (λ (l : List ℕ). Takes bytes (opaque l) s.0.1 × (w.Fits t.0 × (length l < 2 ^ 30))) second.0 (first.0, (second.1, first.1)) in
+      subst (λ (x : V × List ℕ). Takes bytes (opaque (w.spell x.0)) x.1 × (w.Fits x.0 × (length (w.spell x.0) < 2 ^ 30))) (ok_is (t.0, s.0.1) (v, rest) t.2) made;
   again = λ v rest fits.
-    bound (opaque_at (opaque (w.spell v) ++ rest)) (w.spell v, rest) (all_at w) (opaque_again (w.spell v) rest fits.1)
-    ∙ bound (w.read (w.spell v)) v (λ y. with_rest rest y) (w.again v fits.0);
+      bound (opaque_at (opaque (w.spell v) ++ rest)) (w.spell v, rest) (all_at w) (opaque_again (w.spell v) rest fits.1)
+      ∙ bound (w.read (w.spell v)) v (λ y. with_rest rest y) (w.again v fits.0);
 }
 
 enclosed_one : {V : Type 0} (p : Result (Unit {0}) ℕ) (r : Result V ℕ) (rest : List ℕ) → p ≡ passed r → (p >>= λ _. Ok rest) ≡ rest_of (r >>= λ v. with_rest rest v)

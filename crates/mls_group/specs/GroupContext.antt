@@ -1,5 +1,5 @@
 -- The format of group contexts (RFC 9420, 8.1).
-use Rattle.std.specs.Prelude.{◌≡◌, ℕ, ◌<◌, ◌^◌, List, refl}
+use Rattle.std.specs.Prelude.{refl}
 use Rattle.std.proofs.Common.{lit<}
 use Rattle.mls_wire.specs.Format.{Format}
 use Rattle.mls_wire.specs.CombineLaws.{IsNonempty}

@@ -1,5 +1,5 @@
 -- The formats of group infos (RFC 9420, 12.4.3) and of the ratchet tree in them (12.4.3.3).
-use Rattle.std.specs.Prelude.{◌≡◌, ℕ, ◌<◌, ◌^◌, List, ◌++◌, length, Option, refl}
+use Rattle.std.specs.Prelude.{ℕ, ◌<◌, ◌^◌, List, ◌++◌, length, Option, refl}
 use Rattle.std.specs.Int.{w32}
 use Rattle.std.proofs.Common.{lit<}
 use Rattle.mls_wire.specs.Format.{Format}
@@ -11,7 +11,6 @@ use Rattle.mls_leaf.specs.Node.{node}
 use Rattle.mls_leaf.specs.declared.node.Node.{Node}
 use Rattle.mls_group.specs.Enclosed.{entire, at_most_one, enclosed}
 use Rattle.mls_group.specs.GroupContext.{group_context, group_context_nonempty}
-use Rattle.mls_group.specs.declared.group_context.GroupContext.{GroupContext}
 use Rattle.mls_group.specs.declared.group_info.GroupInfo.{GroupInfo}
 
 -- optional<Node><V> in node order

@@ -1,5 +1,5 @@
 -- The formats of update paths (RFC 9420, 7.6).
-use Rattle.std.specs.Prelude.{◌≡◌, ℕ, List, refl}
+use Rattle.std.specs.Prelude.{refl}
 use Rattle.mls_wire.specs.Format.{Format}
 use Rattle.mls_wire.specs.CombineLaws.{IsNonempty}
 use Rattle.mls_wire.specs.Combine.{◌⨾◌, seen, vector, byte_string}

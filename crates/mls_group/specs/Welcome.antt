@@ -1,11 +1,10 @@
 -- The formats of welcomes (RFC 9420, 12.4.3.1).
-use Rattle.std.specs.Prelude.{◌≡◌, ℕ, List, Option, refl}
+use Rattle.std.specs.Prelude.{refl}
 use Rattle.mls_wire.specs.Format.{Format}
 use Rattle.mls_wire.specs.CombineLaws.{IsNonempty}
 use Rattle.mls_wire.specs.Combine.{◌⨾◌, seen, vector, optional, byte_string, uint16}
 use Rattle.mls_leaf.specs.Nonempty.{byte_string_nonempty, uint16_nonempty, first_nonempty}
 use Rattle.mls_group.specs.UpdatePath.{hpke_ciphertext}
-use Rattle.mls_group.specs.declared.update_path.HpkeCiphertext.{HpkeCiphertext}
 use Rattle.mls_group.specs.declared.welcome.EncryptedGroupSecrets.{EncryptedGroupSecrets}
 use Rattle.mls_group.specs.declared.welcome.GroupSecrets.{GroupSecrets}
 use Rattle.mls_group.specs.declared.welcome.Welcome.{Welcome}

@@ -38,7 +38,11 @@ fn read_extensions(alloc: Global, reader: &mut Reader<'_>) -> Result<Option<Ratc
     if content.is_empty() {
         return Ok(None);
     }
-    pass_mark(&mut content, RATCHET_TREE_EXTENSION, LeafError::ExtensionNotAllowed)?;
+    pass_mark(
+        &mut content,
+        RATCHET_TREE_EXTENSION,
+        LeafError::ExtensionNotAllowed,
+    )?;
     let mut data = content.vector()?;
     let tree = RatchetTree::read(alloc, &mut data)?;
     data.finish()?;
@@ -58,7 +62,11 @@ fn check_extensions(reader: &mut Reader<'_>) -> Result<(), LeafError>
     if content.is_empty() {
         return Ok(());
     }
-    pass_mark(&mut content, RATCHET_TREE_EXTENSION, LeafError::ExtensionNotAllowed)?;
+    pass_mark(
+        &mut content,
+        RATCHET_TREE_EXTENSION,
+        LeafError::ExtensionNotAllowed,
+    )?;
     let mut data = content.vector()?;
     RatchetTree::check(&mut data)?;
     data.finish()?;
@@ -71,7 +79,11 @@ fn check_extensions(reader: &mut Reader<'_>) -> Result<(), LeafError>
 
 /// Adds the extensions of a group info.
 #[tactic(auto, using(mls_leaf::specs::Codecs::codecs), unfolding(crate::specs::GroupInfo::group_info_extensions))]
-fn write_extensions(ratchet_tree: &Option<RatchetTree>, alloc: Global, writer: &mut Writer) -> Result<(), LeafError>
+fn write_extensions(
+    ratchet_tree: &Option<RatchetTree>,
+    alloc: Global,
+    writer: &mut Writer,
+) -> Result<(), LeafError>
     ensures { AddsSpelling group_info_extensions ratchet_tree.now writer.old result writer.new }
 {
     let Some(tree) = ratchet_tree else {

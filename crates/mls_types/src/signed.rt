@@ -145,7 +145,11 @@ impl SignedContent {
 
     /// Adds the spelling of its FramedContent.
     #[tactic(auto, using(mls_leaf::specs::Codecs::codecs), unfolding(crate::specs::Content::framed_content, crate::specs::Content::content))]
-    pub(crate) fn add_framed_content(&self, alloc: Global, writer: &mut Writer) -> Result<(), LeafError>
+    pub(crate) fn add_framed_content(
+        &self,
+        alloc: Global,
+        writer: &mut Writer,
+    ) -> Result<(), LeafError>
         ensures { AddsSpelling framed_content (framed self.now) writer.old result writer.new }
     {
         self.group_id.write(alloc, writer)?;

@@ -15,7 +15,12 @@ impl FramedContent {
     /// The FramedContentTBS, which the sender signs (RFC 9420, 6.1).
     /// TooLong where a vector in it has 2^30 bytes or more.
     #[tactic(auto, using(mls_leaf::specs::Codecs::codecs))]
-    pub fn to_be_signed(&self, alloc: Global, wire_format: WireFormat, group_context: &GroupContext) -> Result<Vec<u8>, LeafError>
+    pub fn to_be_signed(
+        &self,
+        alloc: Global,
+        wire_format: WireFormat,
+        group_context: &GroupContext,
+    ) -> Result<Vec<u8>, LeafError>
         ensures { Writes (FramedContentTbsFits wire_format self.now group_context.now) (framed_content_tbs wire_format self.now group_context.now) result }
     {
         let mut writer = Writer::new(alloc);
@@ -35,7 +40,12 @@ impl SignedContent {
     /// The FramedContentTBS, which the sender signed (RFC 9420, 6.1).
     /// TooLong where a vector in it has 2^30 bytes or more.
     #[tactic(auto, using(mls_leaf::specs::Codecs::codecs))]
-    pub fn to_be_signed(&self, alloc: Global, wire_format: WireFormat, group_context: &GroupContext) -> Result<Vec<u8>, LeafError>
+    pub fn to_be_signed(
+        &self,
+        alloc: Global,
+        wire_format: WireFormat,
+        group_context: &GroupContext,
+    ) -> Result<Vec<u8>, LeafError>
         ensures { Writes (FramedContentTbsFits wire_format (framed self.now) group_context.now) (framed_content_tbs wire_format (framed self.now) group_context.now) result }
     {
         let mut writer = Writer::new(alloc);
@@ -46,7 +56,12 @@ impl SignedContent {
     /// The AuthenticatedContentTBM, which the membership tag is of (RFC 9420, 6.2).
     /// TooLong where a vector in it has 2^30 bytes or more.
     #[tactic(auto, using(mls_leaf::specs::Codecs::codecs))]
-    pub fn to_be_tagged(&self, alloc: Global, wire_format: WireFormat, group_context: &GroupContext) -> Result<Vec<u8>, LeafError>
+    pub fn to_be_tagged(
+        &self,
+        alloc: Global,
+        wire_format: WireFormat,
+        group_context: &GroupContext,
+    ) -> Result<Vec<u8>, LeafError>
         ensures { Writes (AuthenticatedContentTbmFits wire_format self.now group_context.now) (authenticated_content_tbm wire_format self.now group_context.now) result }
     {
         let mut writer = Writer::new(alloc);
@@ -57,7 +72,13 @@ impl SignedContent {
 
     /// Adds the FramedContentTBS.
     #[tactic(auto, using(mls_leaf::specs::Codecs::codecs))]
-    fn add_to_be_signed(&self, wire_format: WireFormat, group_context: &GroupContext, alloc: Global, writer: &mut Writer) -> Result<(), LeafError>
+    fn add_to_be_signed(
+        &self,
+        wire_format: WireFormat,
+        group_context: &GroupContext,
+        alloc: Global,
+        writer: &mut Writer,
+    ) -> Result<(), LeafError>
         ensures { AddsInput (FramedContentTbsFits wire_format (framed self.now) group_context.now) (framed_content_tbs wire_format (framed self.now) group_context.now) writer.old result writer.new }
     {
         writer.u16(1)?;

@@ -23,7 +23,7 @@ pub returns-in_default : goal.returns-in_default
 unfolding mls_message
 returns-in_default c =
     rw (c.in_ok-pass_mark.ensures, c.in_ok-u16.ensures)
-      (pass_other 1 c.in_ok-u16.field-0 public_message (case 3 welcome (case 4 group_info (case 5 key_package (others 7)))) c.u16.new.self 7 (λ e. absurd (omega arith))
-      (pass_other 3 c.in_ok-u16.field-0 welcome (case 4 group_info (case 5 key_package (others 7))) c.u16.new.self 7 (λ e. absurd (omega arith))
-      (pass_other 4 c.in_ok-u16.field-0 group_info (case 5 key_package (others 7)) c.u16.new.self 7 (λ e. absurd (omega arith))
-      (pass_other 5 c.in_ok-u16.field-0 key_package (others 7) c.u16.new.self 7 (λ e. absurd (omega arith)) refl))))
+    (pass_other 1 c.in_ok-u16.field-0 public_message (case 3 welcome (case 4 group_info (case 5 key_package (others 7)))) c.u16.new.self 7 (λ e. absurd (omega arith))
+    (pass_other 3 c.in_ok-u16.field-0 welcome (case 4 group_info (case 5 key_package (others 7))) c.u16.new.self 7 (λ e. absurd (omega arith))
+    (pass_other 4 c.in_ok-u16.field-0 group_info (case 5 key_package (others 7)) c.u16.new.self 7 (λ e. absurd (omega arith))
+    (pass_other 5 c.in_ok-u16.field-0 key_package (others 7) c.u16.new.self 7 (λ e. absurd (omega arith)) refl))))

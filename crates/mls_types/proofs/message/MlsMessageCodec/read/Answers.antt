@@ -17,8 +17,8 @@ unfolding mls_message
 returns-in_err-key_package-in-5 c =
     let p = err_from_is_err_and c.from_residual-in_err-key_package-in-5.result c.from_residual-in_err-key_package-in-5.ensures.1 in
     rw (p.1, p.2, c.in_ok-pass_mark.ensures, c.in_ok-u16.ensures, c.in-5.is)
-      (Fails-then c.in_err-key_package-in-5.field-0.0 _ _ (Fails-then c.in_err-key_package-in-5.field-0.0 _ _ (Fails-then c.in_err-key_package-in-5.field-0.0 _ _
-      (Fails-then c.in_err-key_package-in-5.field-0.0 _ _ (Fails-then c.in_err-key_package-in-5.field-0.0 _ _ c.in_err-key_package-in-5.ensures)))))
+    (Fails-then c.in_err-key_package-in-5.field-0.0 _ _ (Fails-then c.in_err-key_package-in-5.field-0.0 _ _ (Fails-then c.in_err-key_package-in-5.field-0.0 _ _
+    (Fails-then c.in_err-key_package-in-5.field-0.0 _ _ (Fails-then c.in_err-key_package-in-5.field-0.0 _ _ c.in_err-key_package-in-5.ensures)))))
 
 pub returns-in_ok-group_info-in-4 : goal.returns-in_ok-group_info-in-4
 unfolding mls_message
@@ -32,7 +32,7 @@ pub returns-in_default : goal.returns-in_default
 unfolding mls_message
 returns-in_default c =
     rw (c.in_ok-pass_mark.ensures, c.in_ok-u16.ensures) (ap (λ (x : Result (Bodies × List ℕ) ℕ). x >>= seen_read make_message)
-      (read_other 1 c.in_ok-u16.field-0 public_message (case 3 welcome (case 4 group_info (case 5 key_package (others 7)))) c.u16.new.self 7 (λ e. absurd (omega arith))
-      (read_other 3 c.in_ok-u16.field-0 welcome (case 4 group_info (case 5 key_package (others 7))) c.u16.new.self 7 (λ e. absurd (omega arith))
-      (read_other 4 c.in_ok-u16.field-0 group_info (case 5 key_package (others 7)) c.u16.new.self 7 (λ e. absurd (omega arith))
-      (read_other 5 c.in_ok-u16.field-0 key_package (others 7) c.u16.new.self 7 (λ e. absurd (omega arith)) refl)))))
+    (read_other 1 c.in_ok-u16.field-0 public_message (case 3 welcome (case 4 group_info (case 5 key_package (others 7)))) c.u16.new.self 7 (λ e. absurd (omega arith))
+    (read_other 3 c.in_ok-u16.field-0 welcome (case 4 group_info (case 5 key_package (others 7))) c.u16.new.self 7 (λ e. absurd (omega arith))
+    (read_other 4 c.in_ok-u16.field-0 group_info (case 5 key_package (others 7)) c.u16.new.self 7 (λ e. absurd (omega arith))
+    (read_other 5 c.in_ok-u16.field-0 key_package (others 7) c.u16.new.self 7 (λ e. absurd (omega arith)) refl)))))

@@ -21,7 +21,8 @@ returns-in_err-write-in-KeyPackage c =
 pub returns-in_ok-write-in-KeyPackage : goal.returns-in_ok-write-in-KeyPackage
 unfolding mls_message
 returns-in_ok-write-in-KeyPackage c =
-    rw c.in-KeyPackage.is
-      ((lit< tt, c.in_ok-write-in-KeyPackage.ensures.0),
-       added c.args.writer.now (uint w16 1) (uint w16 5) (key_package.spell c.in-KeyPackage.key_package) c.u16.new.self c.u16-in-KeyPackage.new.self c.write-in-KeyPackage.new.writer
-         c.in_ok-write-in-KeyPackage.ensures.1 c.in_ok-u16-in-KeyPackage.ensures c.in_ok-u16.ensures)
+    rw c.in-KeyPackage.is (
+      (lit< tt, c.in_ok-write-in-KeyPackage.ensures.0),
+      added c.args.writer.now (uint w16 1) (uint w16 5) (key_package.spell c.in-KeyPackage.key_package) c.u16.new.self c.u16-in-KeyPackage.new.self c.write-in-KeyPackage.new.writer
+          c.in_ok-write-in-KeyPackage.ensures.1 c.in_ok-u16-in-KeyPackage.ensures c.in_ok-u16.ensures,
+    )

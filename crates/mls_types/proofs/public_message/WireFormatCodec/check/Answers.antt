@@ -14,7 +14,7 @@ returns-in_default c =
     let bytes = c.u16.new.self in
     let t = c.in_ok-u16.field-0 in
     rw c.in_ok-u16.ensures
-      (pass_other 1 t nothing (case 3 nothing (case 4 nothing (case 5 nothing (others 7)))) bytes 7 (λ e. absurd (omega arith))
-      (pass_other 3 t nothing (case 4 nothing (case 5 nothing (others 7))) bytes 7 (λ e. absurd (omega arith))
-      (pass_other 4 t nothing (case 5 nothing (others 7)) bytes 7 (λ e. absurd (omega arith))
-      (pass_other 5 t nothing (others 7) bytes 7 (λ e. absurd (omega arith)) refl))))
+    (pass_other 1 t nothing (case 3 nothing (case 4 nothing (case 5 nothing (others 7)))) bytes 7 (λ e. absurd (omega arith))
+    (pass_other 3 t nothing (case 4 nothing (case 5 nothing (others 7))) bytes 7 (λ e. absurd (omega arith))
+    (pass_other 4 t nothing (case 5 nothing (others 7)) bytes 7 (λ e. absurd (omega arith))
+    (pass_other 5 t nothing (others 7) bytes 7 (λ e. absurd (omega arith)) refl))))

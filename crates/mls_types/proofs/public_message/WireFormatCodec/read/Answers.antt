@@ -16,7 +16,7 @@ returns-in_default c =
     let bytes = c.u16.new.self in
     let t = c.in_ok-u16.field-0 in
     rw c.in_ok-u16.ensures (ap (λ (x : Result (WireFormats × List ℕ) ℕ). x >>= seen_read make_wire_format)
-      (read_other 1 t nothing (case 3 nothing (case 4 nothing (case 5 nothing (others 7)))) bytes 7 (λ e. absurd (omega arith))
-      (read_other 3 t nothing (case 4 nothing (case 5 nothing (others 7))) bytes 7 (λ e. absurd (omega arith))
-      (read_other 4 t nothing (case 5 nothing (others 7)) bytes 7 (λ e. absurd (omega arith))
-      (read_other 5 t nothing (others 7) bytes 7 (λ e. absurd (omega arith)) refl)))))
+    (read_other 1 t nothing (case 3 nothing (case 4 nothing (case 5 nothing (others 7)))) bytes 7 (λ e. absurd (omega arith))
+    (read_other 3 t nothing (case 4 nothing (case 5 nothing (others 7))) bytes 7 (λ e. absurd (omega arith))
+    (read_other 4 t nothing (case 5 nothing (others 7)) bytes 7 (λ e. absurd (omega arith))
+    (read_other 5 t nothing (others 7) bytes 7 (λ e. absurd (omega arith)) refl)))))

@@ -20,6 +20,7 @@ pub returns : goal.returns
 returns c =
     let v = c.args.self.now in
     let first = c.in_ok-add_framed_content.ensures in
-    let second = c.in_ok-add_auth_data.ensures in
-    (signed_content_fits v first.0 second.0,
-     second.1 ∙ ap (λ (l : List ℕ). l ++ auth_data v) first.1 ∙ append_assoc c.args.writer.now (framed_content.spell (framed v)) (auth_data v) ∙ ap (λ (l : List ℕ). c.args.writer.now ++ l) (sym (signed_content_spelled v)))
+    let second = c.in_ok-add_auth_data.ensures in (
+      signed_content_fits v first.0 second.0,
+      second.1 ∙ ap (λ (l : List ℕ). l ++ auth_data v) first.1 ∙ append_assoc c.args.writer.now (framed_content.spell (framed v)) (auth_data v) ∙ ap (λ (l : List ℕ). c.args.writer.now ++ l) (sym (signed_content_spelled v)),
+    )
