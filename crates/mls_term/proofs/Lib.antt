@@ -12,3 +12,8 @@ pub mod Goods
 pub mod Members
 pub mod Entries
 pub mod Examples
+pub mod Arrays
+pub mod Numbers
+pub mod Reversed
+pub mod Parts
+pub mod Directs

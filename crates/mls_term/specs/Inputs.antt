@@ -1,16 +1,18 @@
 -- The hashes of nodes.
-use Rattle.std.specs.Prelude.{ℕ, List, [], Option}
+use Rattle.std.specs.Prelude.{ℕ, List, Option}
+use Rattle.sha2.specs.Sha256.{sha256}
 use Rattle.mls_leaf.specs.Parent.{Parent}
 use Rattle.mls_leaf.specs.declared.leaf.LeafNode.{LeafNode}
+use Rattle.mls_leaf.specs.Inputs.{tree_hash_input_of_leaf, tree_hash_input_of_parent, parent_hash_input}
 
 -- the hash of a leaf by its number (RFC 9420, 7.8)
-pub leaf_hash : ℕ → Option LeafNode → List ℕ
-leaf_hash i v = []
+unfoldable pub leaf_hash : ℕ → Option LeafNode → List ℕ
+leaf_hash i v = sha256 (tree_hash_input_of_leaf i v)
 
 -- the hash of a parent by the hashes of its sides (RFC 9420, 7.8)
-pub branch_hash : Option Parent → List ℕ → List ℕ → List ℕ
-branch_hash c left right = []
+unfoldable pub branch_hash : Option Parent → List ℕ → List ℕ → List ℕ
+branch_hash c left right = sha256 (tree_hash_input_of_parent c left right)
 
--- the parent hash of a parent by the hash of its original sibling (RFC 9420, 7.9)
-pub sibling_hash : List ℕ → List ℕ → List ℕ → List ℕ
-sibling_hash key hash sibling = []
+-- the parent hash by a parent's key, its own parent hash and the hash of its original sibling (RFC 9420, 7.9)
+unfoldable pub sibling_hash : List ℕ → List ℕ → List ℕ → List ℕ
+sibling_hash key hash sibling = sha256 (parent_hash_input key hash sibling)

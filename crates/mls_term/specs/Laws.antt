@@ -1,20 +1,26 @@
 -- The laws of trees as terms.
-use Rattle.std.specs.Prelude.{◌≡◌, ℕ, suc, ◌+◌, ◌*◌, ◌^◌, ◌<◌, ◌≤◌, ◌==◌, ◌||◌, Bool, true, false, not, nat_eq, if◌then◌else◌, List, [], ◌∷◌, map, filter, length, Option, Some, None, is_some, IsSome, Ok}
+use Rattle.std.specs.Prelude.{◌≡◌, ℕ, suc, ◌+◌, ◌*◌, ◌^◌, ◌<◌, ◌≤◌, ◌==◌, ◌||◌, Bool, true, false, not, nat_eq, if◌then◌else◌, List, [], ◌∷◌, map, filter, length, slice_index_or, Option, Some, None, is_some, IsSome, Ok}
 use Rattle.std.specs.List.{list_all}
 use Rattle.mls_leaf.specs.Parent.{Parent, inserted}
 use Rattle.mls_leaf.specs.declared.leaf.LeafNode.{LeafNode}
 use Rattle.mls_term.specs.Term.{Term, Leaf, width, size, is_perfect, has_leaf, is_full_width, leaf_at}
 use Rattle.mls_term.specs.Sets.{has, leaf_numbers, is_distinct}
 use Rattle.mls_term.specs.Resolution.{resolution, is_reached}
-use Rattle.mls_term.specs.Way.{way, is_filtered, is_beside}
+use Rattle.mls_term.specs.Way.{way, is_filtered, is_beside, filtered_path, path_length}
+use Rattle.mls_term.specs.Node.{source_hash}
+use Rattle.mls_term.specs.Places.{at_node}
+use Rattle.mls_treemath.specs.Paths.{Path, path_to, index_of}
+use Rattle.mls_treemath.specs.Steps.{above}
 use Rattle.mls_term.specs.Edits.{put, enter, grow, trim, first_blank, place_in, add, update, remove}
 use Rattle.mls_term.specs.Lists.{all_parents, lists_here, rises_here, is_named}
 use Rattle.mls_term.specs.Hashes.{original, hash_at, is_parent_hash_valid}
-use Rattle.mls_term.specs.Merge.{merge, HasHead, IsPath}
+use Rattle.mls_term.specs.Merge.{merge, merge_path, path_parent_hash, HasHead, IsPath}
 use Rattle.mls_term.specs.Keys.{leaf_key, encryption_keys, members, passes, all_members}
 use Rattle.mls_term.specs.Held.{holds, held}
 use Rattle.mls_wire.specs.Checks.{passed}
+use Rattle.mls_leaf.specs.declared.node.Node.{Node}
 use Rattle.mls_term.specs.Good.{Rules, IsGood, AreNew, tree_checks}
+use Rattle.mls_term.specs.Arrays.{leaf_in, term_of, in_order, to_nodes, from_nodes, node_at, under}
 
 -- leaf i is one of a tree whose first leaf is b
 pub record IsIn (b : ℕ) (t : Term) (i : ℕ) : Type 0 where
@@ -202,6 +208,10 @@ OneIsHeldOfRest = (b : ℕ) (t : Term) (j : ℕ) (us : List ℕ) → HasLists b 
 abbrev pub OneIsFiltered : Type 0
 OneIsFiltered = (b : ℕ) (t : Term) (i j : ℕ) → IsIn b t i → IsIn b t j → (j ≡ i → ⊥) → IsSome (leaf_at b t j) → map is_filtered (filter (λ s. is_beside s j) (way b t i)) ≡ true ∷ []
 
+-- the filtered path is as long as it says
+abbrev pub LengthOfPath : Type 0
+LengthOfPath = (b : ℕ) (t : Term) (i : ℕ) → length (filtered_path b t i) ≡ path_length b t i
+
 -- an added leaf joins the resolution, and nobody else does
 abbrev pub AddedJoins : Type 0
 AddedJoins = (b : ℕ) (t : Term) (i : ℕ) (x : LeafNode) (d : ℕ) → IsIn b t i → leaf_at b t i ≡ None → has (resolution b (enter b t i x)) d ≡ (has (resolution b t) d || 2 * i == d)
@@ -257,6 +267,38 @@ GoodAdd = (rules : Rules) (t : Term) (x : LeafNode) → IsGood rules t → width
 abbrev pub GoodMerge : Type 0
 GoodMerge = (rules : Rules) (t : Term) (i : ℕ) (ks : List (List ℕ)) (h : List ℕ) (x : LeafNode) → IsGood rules t → i < width t → IsPath 0 t i ks h x → AreNew rules i x ks (put 0 t i None) → IsGood rules (merge 0 t i ks h x)
 
+-- the same with the keys lowest first
+abbrev pub GoodMergePath : Type 0
+GoodMergePath = (rules : Rules) (t : Term) (i : ℕ) (x : LeafNode) (keys : List (List ℕ)) → IsGood rules t → i < width t → length keys ≡ path_length 0 t i → source_hash x.source ≡ Some (path_parent_hash t i keys) → AreNew rules i x keys (put 0 t i None) → IsGood rules (merge_path t i x keys)
+
 -- a good tree passes its checks, and of what passes them nothing else is asked but its shape
 abbrev pub GoodPasses : Type 0
 GoodPasses = (rules : Rules) (t : Term) → IsGood rules t → tree_checks rules t ≡ Ok passed
+
+-- ---- lists of nodes
+
+-- the list of a tree's nodes in order is that tree, and a list of nodes is a perfect tree
+abbrev pub TermOfInOrder : Type 0
+TermOfInOrder = (h : ℕ) (t : Term) → is_perfect h t ≡ true → term_of h (in_order t) ≡ t
+
+abbrev pub TermOfIsPerfect : Type 0
+TermOfIsPerfect = (h : ℕ) (xs : List (Option Node)) → is_perfect h (term_of h xs) ≡ true
+
+-- a tree of good shape that is sent is read again
+abbrev pub FromToNodes : Type 0
+FromToNodes = (limit h : ℕ) (t : Term) → is_perfect h t ≡ true → is_full_width t ≡ true → width t ≤ limit → from_nodes limit (to_nodes t) ≡ Ok t
+
+-- the node with a number stands at that place of the list, and leaf i at place 2 * i
+abbrev pub NodeInOrder : Type 0
+NodeInOrder = (b : ℕ) (t : Term) (n : ℕ) → node_at b t (2 * b + n) ≡ slice_index_or (in_order t) n None
+
+abbrev pub LeafIsNode : Type 0
+LeafIsNode = (b : ℕ) (t : Term) (i : ℕ) → IsIn b t i → leaf_in (node_at b t (2 * i)) ≡ leaf_at b t i
+
+-- and it is the root of the subtree that the way to that index leads to
+abbrev pub NodeOfWay : Type 0
+NodeOfWay = (h b : ℕ) (t : Term) (x : ℕ) (p : Path) → is_perfect h t ≡ true → path_to h x ≡ Some p → at_node None (λ c u. Some u) b t (2 * b + x) ≡ under p t
+
+-- the way to leaf i has the numbers of the ancestors of index 2 * i: it is that index's direct path
+abbrev pub WayIsDirectPath : Type 0
+WayIsDirectPath = (h b : ℕ) (t : Term) (i : ℕ) (p : Path) → is_perfect h t ≡ true → path_to h (2 * i) ≡ Some p → map (λ s. s.node) (way b t (b + i)) ≡ map (λ q. 2 * b + index_of h q) (above p)

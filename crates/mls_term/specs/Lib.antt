@@ -12,6 +12,7 @@ pub mod Merge
 pub mod Keys
 pub mod Held
 pub mod Good
+pub mod Arrays
 pub mod Equations
 pub mod Laws
 pub mod Examples

@@ -6,9 +6,10 @@ ghost use Rattle.mls_term.specs.Laws.{WidthOfPerfect, SizeOfWidth, WidthOfPut, W
 ghost use Rattle.mls_term.specs.Laws.{LeavesOfPut, LeavesOfEnter, LeavesOfMerge, MembersOfGrow, MembersOfTrim, FirstBlankIsBlank, FirstBlankIsFirst, NoBlankIsFull, AddedIsThere, AddedElsewhere, AddedIsWider, RemovedElsewhere};
 ghost use Rattle.mls_term.specs.Laws.{MembersPut, MembersEnter, MembersMerge, MembersGrow, MembersTrim, KeysPut, KeysEnter, KeysMerge, KeysGrow, KeysTrim};
 ghost use Rattle.mls_term.specs.Laws.{ListedIsMember, BlankIsUnlisted, ParentsPut, ParentsGrow, ParentsTrim, ListsEnter, RisesEnter, ListsMerge, RisesMerge};
-ghost use Rattle.mls_term.specs.Laws.{MembersAreReached, ResolutionIsIn, ResolutionIsDistinct, OneIsHeld, OneIsHeldOfRest, OneIsFiltered, AddedJoins};
+ghost use Rattle.mls_term.specs.Laws.{MembersAreReached, ResolutionIsIn, ResolutionIsDistinct, OneIsHeld, OneIsHeldOfRest, OneIsFiltered, LengthOfPath, AddedJoins};
 ghost use Rattle.mls_term.specs.Laws.{OriginalOfNone, OriginalOfEnter, OriginalOfOthers, HashesOfEnter, ValidEnter, MergeHasHead, ValidMerge};
-ghost use Rattle.mls_term.specs.Laws.{GoodSingle, GoodUpdate, GoodRemove, GoodAdd, GoodMerge, GoodPasses};
+ghost use Rattle.mls_term.specs.Laws.{GoodSingle, GoodUpdate, GoodRemove, GoodAdd, GoodMerge, GoodMergePath, GoodPasses};
+ghost use Rattle.mls_term.specs.Laws.{TermOfInOrder, TermOfIsPerfect, FromToNodes, NodeInOrder, LeafIsNode, NodeOfWay, WayIsDirectPath};
 ghost use Rattle.mls_term.specs.Examples.{ResolutionWithUnmerged, FilteredPathOfFour, NextAddOfFour, AddBehindPath, RemovalHalves, RemovalKeeps, RemovalHalvesOften, PathOfTwo, TreeOfTwo};
 
 /// Widths and shapes: a perfect tree of height h has 2^h leaves, a tree two nodes a leaf less one, edits keep trees
@@ -83,6 +84,7 @@ pub fn laws_of_resolutions()
     ensures held { OneIsHeld }
     ensures held_of_rest { OneIsHeldOfRest }
     ensures filtered { OneIsFiltered }
+    ensures path_length { LengthOfPath }
     ensures added { AddedJoins }
 {}
 
@@ -104,6 +106,7 @@ pub fn laws_of_good_trees()
     ensures remove { GoodRemove }
     ensures add { GoodAdd }
     ensures merge { GoodMerge }
+    ensures merge_path { GoodMergePath }
     ensures passes { GoodPasses }
 {}
 
@@ -118,4 +121,16 @@ pub fn worked_examples()
     ensures halves_often { RemovalHalvesOften }
     ensures path_of_two { PathOfTwo }
     ensures tree_of_two { TreeOfTwo }
+{}
+
+/// A perfect tree and the list of its nodes in order determine each other, and a tree that is sent without the blank
+/// nodes at its end is read again.
+pub fn laws_of_lists_of_nodes()
+    ensures term { TermOfInOrder }
+    ensures perfect { TermOfIsPerfect }
+    ensures sent { FromToNodes }
+    ensures node { NodeInOrder }
+    ensures leaf { LeafIsNode }
+    ensures way { NodeOfWay }
+    ensures direct_path { WayIsDirectPath }
 {}

@@ -1,5 +1,6 @@
 use Rattle.mls_term.proofs.laws_of_good_trees.Goals as goal
 use Rattle.mls_term.proofs.Goods.{good_single, good_update, good_remove, good_add, good_merge, good_passes}
+use Rattle.mls_term.proofs.Reversed.{good_merge_path}
 
 pub returns : goal.returns
 returns c =
@@ -9,5 +10,6 @@ returns c =
       remove = good_remove;
       add = good_add;
       merge = good_merge;
+      merge_path = good_merge_path;
       passes = good_passes;
     }

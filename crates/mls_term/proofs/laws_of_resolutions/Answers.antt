@@ -1,5 +1,6 @@
 use Rattle.mls_term.proofs.laws_of_resolutions.Goals as goal
 use Rattle.mls_term.proofs.Resolutions.{reached, resolution_range, resolution-enter}
+use Rattle.mls_term.proofs.Reversed.{length-filtered_path}
 use Rattle.mls_term.proofs.Counts.{resolution_distinct}
 use Rattle.mls_term.proofs.Entries.{one_held, one_held_of_rest, one_filtered}
 
@@ -12,5 +13,6 @@ returns c =
       held = λ b t j g p. one_held b t j g.right g.rising p.low p.high;
       held_of_rest = λ b t j us g p. one_held_of_rest b t j us g.right g.rising p.low p.high;
       filtered = λ b t i j p q. one_filtered b t i j p.low p.high q.low q.high;
+      path_length = length-filtered_path;
       added = λ b t i x d p. resolution-enter b t i x d p.low p.high;
     }

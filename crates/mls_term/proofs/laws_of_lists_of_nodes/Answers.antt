@@ -1,0 +1,16 @@
+use Rattle.mls_term.proofs.laws_of_lists_of_nodes.Goals as goal
+use Rattle.mls_term.proofs.Arrays.{term_of-in_order, perfect-term_of, from_to_nodes}
+use Rattle.mls_term.proofs.Numbers.{node-in_order, leaf-is_node, node-of_way}
+use Rattle.mls_term.proofs.Directs.{way_above}
+
+pub returns : goal.returns
+returns c =
+    record {
+      term = term_of-in_order;
+      perfect = perfect-term_of;
+      sent = from_to_nodes;
+      node = node-in_order;
+      leaf = λ b t i p. leaf-is_node b t i p.low p.high;
+      way = node-of_way;
+      direct_path = way_above;
+    }
