@@ -1,16 +1,15 @@
 -- The way to a leaf is the direct path of indices.
-use Rattle.std.proofs.Common.{◌≡◌, ℕ, zero, suc, ◌+◌, ◌-◌, ◌*◌, ◌^◌, ◌<◌, ◌≤◌, ◌==◌, Bool, true, false, List, [], ◌∷◌, map, Option, Some, None, refl, sym, ◌∙◌, ap, subst, arith, inl, inr}
+use Rattle.std.proofs.Common.{◌≡◌, ℕ, zero, suc, ◌+◌, ◌-◌, ◌*◌, ◌<◌, ◌≤◌, ◌==◌, Bool, true, false, List, [], ◌∷◌, map, Option, Some, None, refl, sym, ◌∙◌, ap, arith, inl, inr}
 use Rattle.std.proofs.lemmas.Bool.{true≢false, and_parts, cases_Bool, cond-true, cond-false}
-use Rattle.mls_leaf.specs.declared.leaf.LeafNode.{LeafNode}
 use Rattle.mls_leaf.specs.Parent.{Parent}
 use Rattle.mls_treemath.specs.Paths.{Path, nodes_in, root_of, index_of, path_to}
 use Rattle.mls_treemath.specs.Steps.{above}
 use Rattle.mls_term.specs.Equations.{way_leaf, way_left, way_right}
 use Rattle.mls_term.specs.Term.{Term, Leaf, Branch, width, size, is_perfect}
-use Rattle.mls_term.specs.Way.{Step, way}
+use Rattle.mls_term.specs.Way.{way}
 use Rattle.mls_term.proofs.Shape.{size-width}
 use Rattle.mls_term.proofs.Arrays.{nodes_in-leaves, size-perfect}
-use Rattle.mls_term.proofs.Numbers.{IsLonger, way_cases}
+use Rattle.mls_term.proofs.Numbers.{way_cases}
 
 -- the indices of the ancestors, of a way with one more step
 above_more : (h b : ℕ) (side : Bool) (p : Path) → map (λ q. 2 * b + index_of (suc h) q) (above (side ∷ p)) ≡ (2 * b + nodes_in h) ∷ map (λ q. 2 * b + index_of (suc h) (side ∷ q)) (above p)

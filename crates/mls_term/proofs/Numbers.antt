@@ -1,17 +1,17 @@
 -- What stands at a node's number.
-use Rattle.std.proofs.Common.{◌≡◌, ℕ, zero, suc, ◌+◌, ◌-◌, ◌*◌, ◌<◌, ◌≤◌, ◌==◌, nat_lt, Bool, true, false, List, [], ◌∷◌, ◌++◌, length, get_or, Option, Some, None, refl, sym, ◌∙◌, ap, arith, inl, inr, ◌⊎◌, eqb-true}
+use Rattle.std.proofs.Common.{◌≡◌, ℕ, zero, suc, ◌+◌, ◌-◌, ◌*◌, ◌<◌, ◌≤◌, ◌==◌, nat_lt, Bool, true, false, [], ◌∷◌, get_or, Option, Some, None, refl, sym, ◌∙◌, ap, arith, inl, inr, ◌⊎◌, eqb-true}
 use Rattle.std.proofs.lemmas.List.{get_or_at, get_or_append_left, get_or-append_right}
 use Rattle.std.proofs.lemmas.Bool.{true≢false, and_parts, cases_lt, cases_order, cases_Bool, cond-true, cond-false, ltb-true, ltb-false, eqb-false}
 use Rattle.mls_leaf.specs.declared.leaf.LeafNode.{LeafNode}
 use Rattle.mls_leaf.specs.Parent.{Parent}
-use Rattle.mls_leaf.specs.declared.node.Node.{Node}
-use Rattle.mls_leaf.specs.declared.node.Node.TheVariants.{Leaf as in_leaf, Parent as in_parent}
-use Rattle.mls_treemath.specs.Paths.{Path, nodes_in, longer, path_to}
+use Rattle.mls_treemath.specs.Paths.{Path, nodes_in, longer, path_to, leaf_path}
+use Rattle.mls_treemath.specs.Sizes.{width_perfect}
+use Rattle.mls_treemath.specs.Leaves.{path_to-leaf}
 use Rattle.mls_term.specs.Equations.{at_node_leaf, at_node_no_leaf, at_node_here, at_node_left, at_node_right, leaf_at_leaf, leaf_at_left, leaf_at_right}
 use Rattle.mls_term.specs.Term.{Term, Leaf, Branch, width, size, is_perfect, leaf_at}
 use Rattle.mls_term.specs.Places.{at_node}
 use Rattle.mls_term.specs.Arrays.{leaf_in, leaf_cell, parent_cell, in_order, own_node, node_at, under}
-use Rattle.mls_term.proofs.Shape.{size-width}
+use Rattle.mls_term.proofs.Shape.{size-width, width-perfect}
 use Rattle.mls_term.proofs.Arrays.{length-in_order, leaf_in-cell, size-perfect}
 
 node_of_leaf : (b : ℕ) (v : Option LeafNode) (n : ℕ) → at_node None own_node b (Leaf v) (2 * b + n) ≡ get_or (leaf_cell v ∷ []) n None
@@ -151,3 +151,24 @@ under_at (suc h) b (Branch c l r) x p perfect e =
 pub node-of_way : (h b : ℕ) (t : Term) (x : ℕ) (p : Path) → is_perfect h t ≡ true → path_to h x ≡ Some p → at_node None (λ c u. Some u) b t (2 * b + x) ≡ under p t
 unfolding itself
 node-of_way = under_at
+
+-- leaf i stands where its bits lead
+leaf_here : (b : ℕ) (t : Term) (i : ℕ) → b ≤ i → i < b + width t → at_node None itself b t (2 * i) ≡ Some (Leaf (leaf_at b t i))
+unfolding width itself
+leaf_here b (Leaf v) i low high =
+    at_node_leaf b v None itself (2 * i) (omega arith) ∙ ap (λ o. Some (Leaf o)) (sym (leaf_at_leaf b v i))
+leaf_here b (Branch c l r) i low high =
+    let s = size-width l in
+    elim (cases_lt i (b + width l)) [
+      | inl lt ↦ at_node_left None itself b c l r (2 * i) (omega arith) ∙ leaf_here b l i low lt ∙ ap (λ o. Some (Leaf o)) (sym (leaf_at_left b c l r i lt))
+      | inr ge ↦ at_node_right None itself b c l r (2 * i) (omega arith) ∙ leaf_here (b + width l) r i ge (omega arith) ∙ ap (λ o. Some (Leaf o)) (sym (leaf_at_right b c l r i ge))
+    ]
+
+pub leaf-by_bits : (h : ℕ) (t : Term) (i : ℕ) → is_perfect h t ≡ true → i < width t → under (leaf_path h i) t ≡ Some (Leaf (leaf_at 0 t i))
+leaf-by_bits h t i perfect lt =
+    let w = width-perfect h t perfect in
+    let n = width_perfect h in
+    let at : at_node None itself 0 t (2 * 0 + 2 * i) ≡ under (leaf_path h i) t = under_at h 0 t (2 * i) (leaf_path h i) perfect (path_to-leaf h i (omega arith)) in
+    sym at
+    ∙ ap (at_node None itself 0 t) (let e : 2 * 0 + 2 * i ≡ 2 * i = omega arith in e)
+    ∙ leaf_here 0 t i (omega arith) (omega arith)

@@ -1,12 +1,12 @@
 -- A list of nodes as the list of its left side, its root and the list of its right side.
-use Rattle.std.proofs.Common.{◌≡◌, ℕ, zero, suc, ◌+◌, ◌-◌, ◌*◌, ◌/◌, ◌^◌, ◌<◌, List, [], ◌∷◌, ◌++◌, length, get_or, take, drop, set, Option, None, refl, sym, ◌∙◌, ap, subst, arith, length-append, pow-suc}
+use Rattle.std.proofs.Common.{◌≡◌, ℕ, zero, suc, ◌+◌, ◌-◌, ◌/◌, ◌<◌, List, [], ◌∷◌, ◌++◌, length, get_or, take, drop, set, Option, None, sym, ◌∙◌, ap, subst, arith, pow-suc}
 use Rattle.std.proofs.lemmas.List.{length-take-le, length-drop, append_assoc, take-append-drop, drop_more, drop-set, take-set, take_rest, take_more_set, drop_all, append-nil, drop-set-lt}
 use Rattle.std.proofs.lemmas.Nat.{pow_pos}
 use borrow.Rule.Slice.PartMut.{put_mid}
 use Rattle.mls_leaf.specs.declared.node.Node.{Node}
 use Rattle.mls_treemath.specs.Paths.{nodes_in}
-use Rattle.mls_term.specs.Term.{Leaf, Branch}
-use Rattle.mls_term.specs.Arrays.{leaf_in, parent_in, term_of, HasMiddle}
+use Rattle.mls_term.specs.Term.{Branch}
+use Rattle.mls_term.specs.Arrays.{parent_in, term_of, HasMiddle}
 use Rattle.mls_term.proofs.Arrays.{nodes_in-more, nodes_in-leaves, term_of-parts}
 
 pub nodes_in_pos : (h : ℕ) → 0 < nodes_in h

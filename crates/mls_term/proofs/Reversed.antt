@@ -1,5 +1,5 @@
 -- A path whose keys are given lowest first.
-use Rattle.std.proofs.Common.{◌≡◌, ℕ, ◌+◌, ◌<◌, ◌≤◌, Bool, true, ◌&&◌, List, [], ◌∷◌, ◌++◌, length, map, reverse, filter, Some, None, refl, sym, ◌∙◌, ap, arith}
+use Rattle.std.proofs.Common.{◌≡◌, ℕ, ◌<◌, Bool, true, List, [], ◌∷◌, ◌++◌, length, map, reverse, Some, None, refl, ◌∙◌, ap, arith}
 use Rattle.std.specs.List.{list_all}
 use Rattle.std.proofs.lemmas.Bool.{and_parts, and_from}
 use Rattle.std.proofs.lemmas.List.{reverse-append, length-reverse, length-map}
@@ -8,9 +8,9 @@ use Rattle.mls_leaf.specs.declared.leaf.LeafNode.{LeafNode}
 use Rattle.mls_term.specs.Node.{source_hash}
 use Rattle.mls_term.specs.Term.{Term, width}
 use Rattle.mls_term.specs.Sets.{same_bytes, count, is_distinct}
-use Rattle.mls_term.specs.Way.{is_filtered, filtered_way, filtered_path, path_length}
+use Rattle.mls_term.specs.Way.{filtered_way, filtered_path, path_length}
 use Rattle.mls_term.specs.Edits.{put}
-use Rattle.mls_term.specs.Merge.{merge, merge_path, path_parent_hash, IsPath}
+use Rattle.mls_term.specs.Merge.{merge_path, path_parent_hash}
 use Rattle.mls_term.specs.Keys.{encryption_keys}
 use Rattle.mls_term.specs.Good.{Rules, IsGood, AreNew}
 use Rattle.mls_term.proofs.Counts.{bytes_true, count-append, distinct_at, distinct_from}

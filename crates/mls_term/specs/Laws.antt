@@ -9,7 +9,7 @@ use Rattle.mls_term.specs.Resolution.{resolution, is_reached}
 use Rattle.mls_term.specs.Way.{way, is_filtered, is_beside, filtered_path, path_length}
 use Rattle.mls_term.specs.Node.{source_hash}
 use Rattle.mls_term.specs.Places.{at_node}
-use Rattle.mls_treemath.specs.Paths.{Path, path_to, index_of}
+use Rattle.mls_treemath.specs.Paths.{Path, path_to, index_of, leaf_path}
 use Rattle.mls_treemath.specs.Steps.{above}
 use Rattle.mls_term.specs.Edits.{put, enter, grow, trim, first_blank, place_in, add, update, remove}
 use Rattle.mls_term.specs.Lists.{all_parents, lists_here, rises_here, is_named}
@@ -302,3 +302,7 @@ NodeOfWay = (h b : ℕ) (t : Term) (x : ℕ) (p : Path) → is_perfect h t ≡ t
 -- the way to leaf i has the numbers of the ancestors of index 2 * i: it is that index's direct path
 abbrev pub WayIsDirectPath : Type 0
 WayIsDirectPath = (h b : ℕ) (t : Term) (i : ℕ) (p : Path) → is_perfect h t ≡ true → path_to h (2 * i) ≡ Some p → map (λ s. s.node) (way b t (b + i)) ≡ map (λ q. 2 * b + index_of h q) (above p)
+
+-- leaf i stands where its bits lead from the root, the highest first: 0 to the left, 1 to the right
+abbrev pub LeafByBits : Type 0
+LeafByBits = (h : ℕ) (t : Term) (i : ℕ) → is_perfect h t ≡ true → i < width t → under (leaf_path h i) t ≡ Some (Leaf (leaf_at 0 t i))

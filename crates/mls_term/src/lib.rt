@@ -9,7 +9,7 @@ ghost use Rattle.mls_term.specs.Laws.{ListedIsMember, BlankIsUnlisted, ParentsPu
 ghost use Rattle.mls_term.specs.Laws.{MembersAreReached, ResolutionIsIn, ResolutionIsDistinct, OneIsHeld, OneIsHeldOfRest, OneIsFiltered, LengthOfPath, AddedJoins};
 ghost use Rattle.mls_term.specs.Laws.{OriginalOfNone, OriginalOfEnter, OriginalOfOthers, HashesOfEnter, ValidEnter, MergeHasHead, ValidMerge};
 ghost use Rattle.mls_term.specs.Laws.{GoodSingle, GoodUpdate, GoodRemove, GoodAdd, GoodMerge, GoodMergePath, GoodPasses};
-ghost use Rattle.mls_term.specs.Laws.{TermOfInOrder, TermOfIsPerfect, FromToNodes, NodeInOrder, LeafIsNode, NodeOfWay, WayIsDirectPath};
+ghost use Rattle.mls_term.specs.Laws.{TermOfInOrder, TermOfIsPerfect, FromToNodes, NodeInOrder, LeafIsNode, NodeOfWay, WayIsDirectPath, LeafByBits};
 ghost use Rattle.mls_term.specs.Examples.{ResolutionWithUnmerged, FilteredPathOfFour, NextAddOfFour, AddBehindPath, RemovalHalves, RemovalKeeps, RemovalHalvesOften, PathOfTwo, TreeOfTwo};
 
 /// Widths and shapes: a perfect tree of height h has 2^h leaves, a tree two nodes a leaf less one, edits keep trees
@@ -133,4 +133,5 @@ pub fn laws_of_lists_of_nodes()
     ensures leaf { LeafIsNode }
     ensures way { NodeOfWay }
     ensures direct_path { WayIsDirectPath }
+    ensures bits { LeafByBits }
 {}

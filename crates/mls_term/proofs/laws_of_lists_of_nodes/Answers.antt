@@ -1,6 +1,6 @@
 use Rattle.mls_term.proofs.laws_of_lists_of_nodes.Goals as goal
 use Rattle.mls_term.proofs.Arrays.{term_of-in_order, perfect-term_of, from_to_nodes}
-use Rattle.mls_term.proofs.Numbers.{node-in_order, leaf-is_node, node-of_way}
+use Rattle.mls_term.proofs.Numbers.{node-in_order, leaf-is_node, node-of_way, leaf-by_bits}
 use Rattle.mls_term.proofs.Directs.{way_above}
 
 pub returns : goal.returns
@@ -13,4 +13,5 @@ returns c =
       leaf = λ b t i p. leaf-is_node b t i p.low p.high;
       way = node-of_way;
       direct_path = way_above;
+      bits = leaf-by_bits;
     }
