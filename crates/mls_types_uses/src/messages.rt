@@ -1,4 +1,6 @@
-use super::*;
+//! Commits, messages, group contexts, group infos and welcomes.
+
+use mls_types::*;
 use mls_wire::WireError;
 use std::alloc::Global;
 use std::test::*;

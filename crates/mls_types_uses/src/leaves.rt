@@ -1,4 +1,6 @@
-use super::*;
+//! Leaves, parents, key packages, proposals and the inputs that are made of them.
+
+use mls_types::*;
 use mls_wire::WireError;
 use std::alloc::Global;
 use std::test::*;
