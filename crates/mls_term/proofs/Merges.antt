@@ -129,7 +129,7 @@ unfolding same_bytes
 bytes_refl [] = refl
 bytes_refl (x ∷ xs) = and_from (x == x) _ (eqb_refl x) (bytes_refl xs)
 
--- a parent with an empty list is tied to a side with such a head
+-- a parent with an empty list is parent-hash valid by a side with such a head
 witness_head : (p : Parent) (b : ℕ) (c : Term) (m : ℕ) (s : Term) → p.unmerged_leaves ≡ [] → HasHead b c (parent_hash p m s) → has_witness p b c m s ≡ true
 unfolding has_witness is_witness has
 witness_head p b c m s e g =

@@ -3,7 +3,7 @@ use Rattle.std.specs.Prelude.{◌≡◌, ℕ, suc, ◌+◌, ◌*◌, ◌^◌, �
 use Rattle.std.specs.List.{list_all}
 use Rattle.mls_leaf.specs.Parent.{Parent, inserted}
 use Rattle.mls_leaf.specs.declared.leaf.LeafNode.{LeafNode}
-use Rattle.mls_term.specs.Term.{Term, Leaf, width, size, is_perfect, has_leaf, is_full_width, leaf_at}
+use Rattle.mls_term.specs.Term.{Term, Leaf, width, size, height, is_perfect, has_leaf, is_full_width, leaf_at}
 use Rattle.mls_term.specs.Sets.{has, leaf_numbers, is_distinct}
 use Rattle.mls_term.specs.Resolution.{resolution, is_reached}
 use Rattle.mls_term.specs.Way.{way, is_filtered, is_beside, filtered_path, path_length}
@@ -19,7 +19,7 @@ use Rattle.mls_term.specs.Keys.{leaf_key, encryption_keys, members, passes, all_
 use Rattle.mls_term.specs.Held.{holds, held}
 use Rattle.mls_wire.specs.Checks.{passed}
 use Rattle.mls_leaf.specs.declared.node.Node.{Node}
-use Rattle.mls_term.specs.Good.{Rules, IsGood, AreNew, tree_checks}
+use Rattle.mls_term.specs.Good.{Rules, IsGood, AreNew, has_good_shape, is_within, tree_checks}
 use Rattle.mls_term.specs.Arrays.{leaf_in, term_of, in_order, to_nodes, from_nodes, node_at, under}
 
 -- leaf i is one of a tree whose first leaf is b
@@ -271,9 +271,13 @@ GoodMerge = (rules : Rules) (t : Term) (i : ℕ) (ks : List (List ℕ)) (h : Lis
 abbrev pub GoodMergePath : Type 0
 GoodMergePath = (rules : Rules) (t : Term) (i : ℕ) (x : LeafNode) (keys : List (List ℕ)) → IsGood rules t → i < width t → length keys ≡ path_length 0 t i → source_hash x.source ≡ Some (path_parent_hash t i keys) → AreNew rules i x keys (put 0 t i None) → IsGood rules (merge_path t i x keys)
 
--- a good tree passes its checks, and of what passes them nothing else is asked but its shape
+-- a good tree passes its checks
 abbrev pub GoodPasses : Type 0
 GoodPasses = (rules : Rules) (t : Term) → IsGood rules t → tree_checks rules t ≡ Ok passed
+
+-- and a tree of good shape and size that passes them is good
+abbrev pub GoodFromChecks : Type 0
+GoodFromChecks = (rules : Rules) (t : Term) → is_perfect (height t) t ≡ true → all_parents rises_here 0 t ≡ true → has_good_shape t ≡ true → is_within rules.limit t ≡ true → tree_checks rules t ≡ Ok passed → IsGood rules t
 
 -- ---- lists of nodes
 

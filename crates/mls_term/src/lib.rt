@@ -8,7 +8,7 @@ ghost use Rattle.mls_term.specs.Laws.{MembersPut, MembersEnter, MembersMerge, Me
 ghost use Rattle.mls_term.specs.Laws.{ListedIsMember, BlankIsUnlisted, ParentsPut, ParentsGrow, ParentsTrim, ListsEnter, RisesEnter, ListsMerge, RisesMerge};
 ghost use Rattle.mls_term.specs.Laws.{MembersAreReached, ResolutionIsIn, ResolutionIsDistinct, OneIsHeld, OneIsHeldOfRest, OneIsFiltered, LengthOfPath, AddedJoins};
 ghost use Rattle.mls_term.specs.Laws.{OriginalOfNone, OriginalOfEnter, OriginalOfOthers, HashesOfEnter, ValidEnter, MergeHasHead, ValidMerge};
-ghost use Rattle.mls_term.specs.Laws.{GoodSingle, GoodUpdate, GoodRemove, GoodAdd, GoodMerge, GoodMergePath, GoodPasses};
+ghost use Rattle.mls_term.specs.Laws.{GoodSingle, GoodUpdate, GoodRemove, GoodAdd, GoodMerge, GoodMergePath, GoodPasses, GoodFromChecks};
 ghost use Rattle.mls_term.specs.Laws.{TermOfInOrder, TermOfIsPerfect, FromToNodes, NodeInOrder, LeafIsNode, NodeOfWay, WayIsDirectPath, LeafByBits};
 ghost use Rattle.mls_term.specs.Examples.{ResolutionWithUnmerged, FilteredPathOfFour, NextAddOfFour, AddBehindPath, RemovalHalves, RemovalKeeps, RemovalHalvesOften, PathOfTwo, TreeOfTwo};
 
@@ -108,6 +108,7 @@ pub fn laws_of_good_trees()
     ensures merge { GoodMerge }
     ensures merge_path { GoodMergePath }
     ensures passes { GoodPasses }
+    ensures from_checks { GoodFromChecks }
 {}
 
 /// Small trees, worked out: resolutions, filtered paths, where adds go, removals that halve, and merged paths.

@@ -1,5 +1,5 @@
 use Rattle.mls_term.proofs.laws_of_good_trees.Goals as goal
-use Rattle.mls_term.proofs.Goods.{good_single, good_update, good_remove, good_add, good_merge, good_passes}
+use Rattle.mls_term.proofs.Goods.{good_single, good_update, good_remove, good_add, good_merge, good_passes, good_from_checks}
 use Rattle.mls_term.proofs.Reversed.{good_merge_path}
 
 pub returns : goal.returns
@@ -12,4 +12,5 @@ returns c =
       merge = good_merge;
       merge_path = good_merge_path;
       passes = good_passes;
+      from_checks = good_from_checks;
     }
