@@ -124,8 +124,8 @@ pub fn worked_examples()
     ensures tree_of_two { TreeOfTwo }
 {}
 
-/// A perfect tree and the list of its nodes in order determine each other, and a tree that is sent without the blank
-/// nodes at its end is read again.
+/// The list of a perfect tree's nodes in order stands for that tree, a tree that is sent without the blank nodes at
+/// its end is read again, and numbers, places, ways and bits name the same nodes.
 pub fn laws_of_lists_of_nodes()
     ensures term { TermOfInOrder }
     ensures perfect { TermOfIsPerfect }
