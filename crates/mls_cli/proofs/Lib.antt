@@ -1,0 +1,3 @@
+mod Trims
+mod Parts
+mod Names

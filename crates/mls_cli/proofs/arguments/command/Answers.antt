@@ -1,0 +1,13 @@
+use Rattle.std.proofs.Common.{ap, ap₂, ◌∙◌, ◌≡◌, codes, true}
+use Rattle.clap.specs.Words.{App, app_of, new_app, with_subcommand}
+use Rattle.clap.specs.Simple.{app_of_fields}
+use Rattle.mls_cli.specs.Arguments.{on_file}
+use Rattle.mls_cli.proofs.arguments.command.Goals as goal
+
+pub returns : goal.returns
+returns c =
+    let one : app_of c.in_ok-all.all ≡ with_subcommand (new_app (codes "mls")) (on_file (codes "show")).top =
+    c.in_ok-all.ensures.shape c.in_ok-show.ensures.local
+    ∙ ap₂ with_subcommand c.new.ensures.app (ap (λ (a : App). a.top) c.in_ok-show.ensures.app) in
+    ap app_of_fields c.subcommand_required.ensures
+    ∙ ap (λ (a : App). record a { top = record a.top { subcommand_required = true } }) one

@@ -1,0 +1,7 @@
+use Rattle.std.proofs.Common.{refl}
+use Rattle.clap.proofs.OnLiterals.{clap_on_literals}
+use Rattle.mls_cli.proofs.arguments.examples.Goals as goal
+
+pub returns : goal.returns
+unfolding clap_on_literals
+returns c = record { help = refl; missing = refl; shows = refl; taken = refl }

@@ -1,0 +1,10 @@
+pub mod Arguments
+pub mod File
+pub mod Text
+pub mod Engine
+pub mod Show
+pub mod Package
+pub mod Message
+pub mod Serving
+pub mod Public
+pub mod Group

@@ -1,0 +1,46 @@
+-- What a served job leaves.
+use Rattle.std.specs.Prelude.{◌≡◌, ◌≢◌, ◌⊎◌, ◌++◌, ◌==◌, ℕ, List, codes, Option, Result, Ok, Err}
+use Rattle.std.specs.Io.KnownBytes.{Appends, Keeps}
+use Rattle.clap.specs.Values.{kind_of}
+use Rattle.clap.specs.declared.error.Error.{Error}
+use Rattle.clap.specs.declared.error.kind.ErrorKind.TheVariants as kind
+use Rattle.mls_cli.specs.declared.tasks.Job.{Job}
+use Rattle.mls_cli.specs.declared.tasks.Job.TheVariants as job
+use Rattle.mls_cli.specs.Engine.{AppendsPart}
+use Rattle.mls_cli.specs.Show.{page_of}
+use Rattle.mls_cli.specs.Text.{lines_text}
+
+-- the output grows by the page of the text, with its status, or the status is 3 and it grows by a beginning
+abbrev pub Shows : {W : Type 0} → (W → Option (List ℕ)) → W → W → ℕ → List ℕ → Type 0
+Shows contents old new status text =
+    (Appends (contents old) (contents new) (lines_text (page_of text).entries) × (status ≡ (page_of text).status))
+    ⊎ ((status ≡ 3) × AppendsPart (contents old) (contents new) (lines_text (page_of text).entries))
+
+abbrev pub IfShow : Job → Type 0 → Type 0
+IfShow (job.Show file) P = P
+
+-- P, where the job is to show
+abbrev pub IfShows : {E : Type 0} → Result Job E → Type 0 → Type 0
+IfShows (Ok j) P = IfShow j P
+IfShows (Err e) P = Unit {0}
+
+-- ---- what is said of faults
+
+abbrev pub unreadable : List ℕ → List ℕ
+unreadable file = (codes "mls: cannot read " ++ file) ++ codes "\n"
+
+abbrev pub out_of_memory : List ℕ
+out_of_memory = codes "mls: out of memory\n"
+
+-- the text, or that memory ran out, or a beginning of one of them where a write fails
+abbrev pub Says : Option (List ℕ) → Option (List ℕ) → List ℕ → Type 0
+Says old new text = AppendsPart old new text ⊎ AppendsPart old new out_of_memory
+
+-- a request for help is answered with 0, a mistake in the words with 2, and want of memory or a failing
+-- write with 3; only help goes to the output
+abbrev pub Usage : Error → ℕ → Type 0 → Type 0
+Usage e status kept =
+    ((kind_of e ≡ kind.DisplayHelp) × ((status ≡ 0) ⊎ (status ≡ 3)))
+    ⊎ ((kind_of e ≡ kind.DisplayVersion) × ((status ≡ 0) ⊎ (status ≡ 3)))
+    ⊎ ((kind_of e ≡ kind.OutOfMemory) × (status ≡ 3) × kept)
+    ⊎ ((kind_of e ≢ kind.DisplayHelp) × (kind_of e ≢ kind.DisplayVersion) × ((status ≡ 2) ⊎ (status ≡ 3)) × kept)

@@ -1,0 +1,36 @@
+-- What `mls show` prints.
+use Rattle.std.specs.Prelude.{◌==◌, ℕ, List, [], ◌∷◌, codes, if◌then◌else◌, Option, Some, None, Result, Ok, Err}
+use Rattle.mls_cli.specs.File.{bytes_in}
+use Rattle.mls_cli.specs.Text.{Entry, entry, refusal}
+use Rattle.mls_cli.specs.Message.{text_of}
+
+-- what is printed, and the exit status
+pub record Page : Type 0 where
+  pub entries : List Entry
+  pub status : ℕ
+
+-- the name of each refusal that bytes can bring
+unfoldable pub refusal_name : ℕ → List ℕ
+refusal_name n =
+    if n == 1 then codes "OutOfMemory" else (if n == 2 then codes "Truncated" else (if n == 3 then codes "Trailing"
+    else (if n == 4 then codes "BadLength" else (if n == 5 then codes "NotMinimal" else (if n == 6 then codes "TooLong"
+    else (if n == 7 then codes "BadTag" else (if n == 8 then codes "NotHex" else (if n == 11 then codes "UnsupportedCredential"
+    else (if n == 12 then codes "UnsupportedProposal" else (if n == 13 then codes "NotRising"
+    else codes "ExtensionNotAllowed"))))))))))
+
+-- the one line of a refusal
+abbrev pub refused_page : ℕ → Page
+refused_page n = record { entries = entry [] (codes "refused") (refusal n (refusal_name n)) ∷ []; status = 1 }
+
+abbrev pub page_on : Result (List Entry) ℕ → Page
+page_on (Ok entries) = record { entries = entries; status = 0 }
+page_on (Err n) = refused_page n
+
+-- a file that is no hex text is refused with 8
+abbrev pub page_in : Option (List ℕ) → Page
+page_in None = refused_page 8
+page_in (Some bytes) = page_on (text_of bytes)
+
+-- what a file shows
+unfoldable pub page_of : List ℕ → Page
+page_of text = page_in (bytes_in text)

@@ -1,0 +1,108 @@
+//! The command line of `mls`, read with `clap`.
+
+ghost use Rattle.std.specs.Prelude.{◌≡◌, map, true, false, codes, Ok, Err, Some, None, IfOk, IfErr, IsSome, OnOk, ◌⊎◌, ◌∷◌, [], option_map};
+ghost use Rattle.clap.specs.Words.{app_of, shape_of, first_of, found_of, kind_of, rows_of, rule_of, subcommand_of, subcommand_rows_of, takes, fault_of, FailsBy, HasKind};
+ghost use Rattle.clap.specs.declared.Command.TheViews.{out-Command as fields_of};
+ghost use Rattle.mls_cli.specs.Arguments.{file_rule, mls, on_file, show, task_of, task_on, view};
+
+use crate::tasks::Job;
+use clap::error::ErrorKind;
+use clap::{Arg, ArgMatches, Command, Error};
+use std::alloc::{AllocError, Global};
+use std::convert::AsStr;
+
+fn file_arg<'a>(alloc: Global) -> Arg<'a>
+    ensures rule { rule_of result ≡ file_rule }
+    ensures local { result.global ≡ false }
+{
+    Arg::new(alloc, "FILE").required(true)
+}
+
+fn file_command<'a>(alloc: Global, name: &'a str) -> Result<Command<'a>, AllocError>
+    ensures app { IfOk result (λ c. app_of c ≡ on_file name.entry.now) }
+    ensures local { IfOk result (λ c. (fields_of c).has_globals ≡ false) }
+{
+    let file = file_arg(alloc);
+    Command::new(alloc, name).arg(file)
+}
+
+/// The command line: one of the subcommands, each with a FILE.
+fn command<'a>(alloc: Global) -> Result<Command<'a>, AllocError>
+    ensures { IfOk result (λ c. app_of c ≡ mls) }
+{
+    let show = file_command(alloc, "show")?;
+    let all = Command::new(alloc, "mls").subcommand(show)?;
+    Ok(all.subcommand_required(true))
+}
+
+/// The job that a subcommand's name and FILE stand for, or None where no subcommand has that name.
+fn job_on<'a>(name: &str, file: &'a str) -> Option<Job<'a>>
+    ensures { option_map view result ≡ task_on name.now file.entry.now }
+{
+    match name {
+        "show" => Some(Job::Show { file }),
+        _ => None,
+    }
+}
+
+/// The job that the words name, the program's own name first. A fault is `clap`'s own error: its
+/// text goes where `use_stderr` says.
+pub fn job<'a, S: AsStr>(alloc: Global, words: &'a [S]) -> Result<Job<'a>, Error>
+    // It is the subcommand and the FILE of clap's matches.
+    ensures named { IfOk result (λ job. task_of (subcommand_of mls (map S.text words.entry.now)) ≡ Some (view job)) }
+    // It comes only where clap finds no fault in the words.
+    ensures faultless { OnOk result (fault_of mls (map S.text words.entry.now) ≡ []) }
+    // Where clap finds a fault, it is the first that clap finds, unless memory runs out. Where it finds
+    // none, memory is wanting, or the matches name no job.
+    ensures fault { IfErr result (λ e. HasKind (fault_of mls (map S.text words.entry.now)) e
+        ⊎ ((fault_of mls (map S.text words.entry.now) ≡ []) × (task_of (subcommand_of mls (map S.text words.entry.now)) ≡ None)
+        × (kind_of e ≡ ErrorKind.ValueValidation))) }
+{
+    let matches = parsed(alloc, words)?;
+    match found_in(&matches) {
+        Some(job) => Ok(job),
+        None => Err(value_refused(alloc)?),
+    }
+}
+
+/// What clap makes of the words.
+fn parsed<'a, S: AsStr>(alloc: Global, words: &'a [S]) -> Result<ArgMatches<'a>, Error>
+    ensures rows { IfOk result (λ m. subcommand_rows_of m ≡ subcommand_of mls (map S.text words.entry.now)) }
+    ensures faults { FailsBy (fault_of mls (map S.text words.entry.now)) result }
+{
+    command(alloc)?.try_get_matches_from(words)
+}
+
+fn value_refused(alloc: Global) -> Result<Error, AllocError>
+    ensures { IfOk result (λ e. kind_of e ≡ ErrorKind.ValueValidation) }
+{
+    command(alloc)?.error(ErrorKind::ValueValidation, "a value that is not taken")
+}
+
+fn value_of<'a>(matches: &ArgMatches<'a>, id: &str) -> Option<&'a str>
+    ensures { option_map (λ s. s.now) result ≡ first_of id.now (rows_of (found_of matches.now)) }
+{
+    matches.get_str(id)
+}
+
+fn entered<'a, 'b>(matches: &'b ArgMatches<'a>) -> Option<(&'a str, &'b ArgMatches<'a>)>
+    ensures { option_map (λ p. (p.0.now, rows_of (found_of p.1.now))) result ≡ subcommand_rows_of matches.now }
+{
+    matches.subcommand()
+}
+
+fn found_in<'a>(matches: &ArgMatches<'a>) -> Option<Job<'a>>
+    ensures { option_map view result ≡ task_of (subcommand_rows_of matches.now) }
+{
+    let (name, inner) = entered(matches)?;
+    let file = value_of(inner, "FILE")?;
+    job_on(name, file)
+}
+
+/// Help is found first, and a job's words have no fault.
+pub fn examples()
+    ensures help { fault_of mls (codes "mls" ∷ codes "show" ∷ codes "--help" ∷ []) ≡ ErrorKind.DisplayHelp ∷ [] }
+    ensures missing { fault_of mls (codes "mls" ∷ codes "show" ∷ []) ≡ ErrorKind.MissingRequiredArgument ∷ [] }
+    ensures shows { task_of (subcommand_of mls (codes "mls" ∷ codes "show" ∷ codes "a" ∷ [])) ≡ Some (show (codes "a")) }
+    ensures taken { fault_of mls (codes "mls" ∷ codes "show" ∷ codes "a" ∷ []) ≡ [] }
+{}

@@ -1,0 +1,138 @@
+//! The jobs of the program, over any reader of FILE and any two writers.
+
+ghost use Rattle.std.specs.Prelude.{◌≡◌, ◌≤◌, Ok, Some, None, IfOk, IfErr, IfSome, IsOk, IsNone};
+ghost use Rattle.std.specs.Io.KnownBytes.{Appends, Keeps};
+ghost use Rattle.mls_cli.specs.Arguments.{file_of};
+ghost use Rattle.mls_cli.specs.Serving.{IfShow, IfShows, Says, Shows, Usage, out_of_memory as memory_text, unreadable};
+
+use crate::engine::{Fault, put};
+use crate::show::show;
+use crate::tasks::Job;
+use clap::Error;
+use clap::error::ErrorKind;
+use std::alloc::{AllocError, Global};
+use std::io::{Read, Write};
+
+/// Serves a job, or says why there is none, and answers the exit status: 0 good, 1 refused content,
+/// 2 usage, 3 a fault of the file, the output or memory. The file is None where it can't be opened.
+pub fn serve<R: Read + Drop, W: Write, E: Write>(
+    alloc: Global,
+    job: &Result<Job<'_>, Error>,
+    file: Option<R>,
+    out: &mut W,
+    err: &mut E,
+) -> u8
+    ensures status { result ≤ 3 }
+    // The output grows by the page of the text that the reader had.
+    ensures shows { IfShows job.now (IfSome file (λ reader. IfSome (R.remaining reader) (λ text. Shows W.contents out.old out.new result text))) }
+    // Without a file nothing is written but the fault.
+    ensures missing { IfOk job.now (λ j. IsNone file → (result ≡ 3) × Keeps (W.contents out.old) (W.contents out.new)
+        × Says (E.contents err.old) (E.contents err.new) (unreadable (file_of j))) }
+    // Without a job the words were a mistake or a request for help.
+    ensures usage { IfErr job.now (λ e. Usage e result (Keeps (W.contents out.old) (W.contents out.new))) }
+{
+    match job {
+        Ok(job) => match file {
+            Some(file) => serve_job(alloc, job, file, out, err),
+            None => {
+                cannot_read(alloc, job.file(), err);
+                3
+            }
+        },
+        Err(error) => usage(alloc, error, out, err),
+    }
+}
+
+fn serve_job<R: Read + Drop, W: Write, E: Write>(
+    alloc: Global,
+    job: &Job<'_>,
+    mut file: R,
+    out: &mut W,
+    err: &mut E,
+) -> u8
+    ensures status { result ≤ 3 }
+    ensures shows { IfShow job.now (IfSome (R.remaining file) (λ text. Shows W.contents out.old out.new result text)) }
+{
+    match job {
+        Job::Show { .. } => serve_show(alloc, job, &mut file, out, err),
+    }
+}
+
+fn serve_show<R: Read, W: Write, E: Write>(
+    alloc: Global,
+    job: &Job<'_>,
+    file: &mut R,
+    out: &mut W,
+    err: &mut E,
+) -> u8
+    ensures status { result ≤ 3 }
+    ensures page { IfSome (R.remaining file.old) (λ text. Shows W.contents out.old out.new result text) }
+{
+    match show(alloc, file, out) {
+        Ok(status) => status,
+        Err(fault) => {
+            say(alloc, fault, job, err);
+            3
+        }
+    }
+}
+
+/// Says why the program stopped, as far as that can be written.
+fn say<E: Write>(alloc: Global, fault: Fault, job: &Job<'_>, err: &mut E) {
+    match fault {
+        Fault::OutOfMemory => out_of_memory(err),
+        Fault::Read => cannot_read(alloc, job.file(), err),
+        Fault::Write => {}
+    }
+}
+
+/// Says that memory ran out, as far as that can be written.
+pub fn out_of_memory<E: Write>(err: &mut E)
+    ensures { Says (E.contents err.old) (E.contents err.new) memory_text }
+{
+    let _ = put(err, b"mls: out of memory\n");
+}
+
+fn unreadable_text(alloc: Global, file: &str) -> Result<Vec<u8>, AllocError>
+    ensures { IfOk result (λ text. text.items ≡ unreadable file.now) }
+{
+    let mut text = Vec::new(alloc);
+    text.extend_from_slice(b"mls: cannot read ")?;
+    text.extend_from_slice(file.as_bytes())?;
+    text.extend_from_slice(b"\n")?;
+    Ok(text)
+}
+
+fn cannot_read<E: Write>(alloc: Global, file: &str, err: &mut E)
+    ensures { Says (E.contents err.old) (E.contents err.new) (unreadable file.now) }
+{
+    match unreadable_text(alloc, file) {
+        Ok(text) => {
+            let _ = put(err, text.as_slice());
+        }
+        Err(_) => out_of_memory(err),
+    }
+}
+
+/// Help goes to the output with status 0, and a mistake to the errors with status 2.
+fn usage<W: Write, E: Write>(alloc: Global, error: &Error, out: &mut W, err: &mut E) -> u8
+    ensures status { result ≤ 3 }
+    ensures usage { Usage error.now result (Keeps (W.contents out.old) (W.contents out.new)) }
+{
+    if error.kind() == ErrorKind::OutOfMemory {
+        out_of_memory(err);
+        return 3;
+    }
+    let Ok(text) = error.to_string(alloc) else {
+        out_of_memory(err);
+        return 3;
+    };
+    if error.use_stderr() {
+        let _ = put(err, text.as_bytes());
+        return 2;
+    }
+    match put(out, text.as_bytes()) {
+        Ok(()) => 0,
+        Err(_) => 3,
+    }
+}

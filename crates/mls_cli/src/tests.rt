@@ -1,0 +1,218 @@
+ghost use Rattle.std.specs.Prelude.{Some};
+
+use crate::arguments::job;
+use crate::serving::serve;
+use std::io;
+use std::io::{ErrorKind, Read, Write};
+use std::test::Fail;
+
+const KEY_PACKAGE: &str =
+    "000100050001f00101aa01bb01cc000103626f6202000102f0010000020001010000000000000000ffffffffffffffff0001dd0001ee";
+
+const TEXT: &str =
+    "message: key_package\nbytes: 54\ncipher_suite: f001\ninit_key: aa\nleaf.encryption_key: bb\nleaf.signature_key: cc\nleaf.identity: 626f62\nleaf.versions: 0001\nleaf.cipher_suites: f001\nleaf.extensions: -\nleaf.proposals: -\nleaf.credentials: 0001\nleaf.source: key_package\nleaf.not_before: 0\nleaf.not_after: 18446744073709551615\nleaf.signature: dd\nsignature: ee\n";
+
+const USAGE: &str =
+    "error: the following required arguments were not provided:\n  <FILE>\n\nUsage: mls show <FILE>\n\nFor more information, try '--help'.\n";
+
+const UNKNOWN: &str =
+    "error: unrecognized subcommand 'replay'\n\nUsage: mls <COMMAND>\n\nFor more information, try '--help'.\n";
+
+/// Takes so many bytes, and then fails.
+#[derive(Drop)]
+struct Full {
+    held: Vec<u8>,
+    room: usize,
+}
+
+impl Write for Full {
+    ghost contents = { λ w. Some w.held.items };
+
+    fn write(&mut self, bytes: &[u8]) -> io::Result<usize> {
+        let n = bytes.len().min(self.room);
+        if n == 0 {
+            return Err(io::Error::from(ErrorKind::StorageFull));
+        }
+        self.held.extend_from_slice(&bytes[..n])?;
+        self.room -= n;
+        Ok(n)
+    }
+
+    fn flush(&mut self) -> io::Result<()> {
+        Ok(())
+    }
+}
+
+/// Gives its bytes, and then fails.
+#[derive(Drop)]
+struct Broken<'a> {
+    rest: &'a [u8],
+}
+
+impl Read for Broken<'_> {
+    fn read(&mut self, bytes: &mut [u8]) -> io::Result<usize> {
+        if self.rest.is_empty() {
+            return Err(io::Error::from(ErrorKind::Other));
+        }
+        self.rest.read(bytes)
+    }
+}
+
+#[test]
+fn shows_and_refuses(rt: HostRuntime) -> Result<(), Fail> {
+    let alloc = rt.alloc();
+    let longer = format!(in alloc; "\r\n\t {KEY_PACKAGE}00\n")?;
+    let table: [(&str, u8, &str); 6] = [
+        (KEY_PACKAGE, 0, TEXT),
+        (longer.as_str(), 1, "refused: 3 Trailing\n"),
+        (&KEY_PACKAGE[..106], 1, "refused: 2 Truncated\n"),
+        (
+            "000100050002f00101aa01bb01cc000103626f6202000102f0010000020001010000000000000000ffffffffffffffff0001dd0001ee",
+            1,
+            "refused: 7 BadTag\n",
+        ),
+        (
+            "000100050001f00101aa01bb01cc000203626f6202000102f0010000020001010000000000000000ffffffffffffffff0001dd0001ee",
+            1,
+            "refused: 11 UnsupportedCredential\n",
+        ),
+        ("0", 1, "refused: 8 NotHex\n"),
+    ];
+    let words = ["mls", "show", "FILE"];
+    let job = job(alloc, words.as_slice());
+    for (file, status, text) in table {
+        let mut out = Vec::new(alloc);
+        let mut err = Vec::new(alloc);
+        assert_eq!(rt;
+            serve(alloc, &job, Some(file.as_bytes()), &mut out, &mut err),
+            status
+        );
+        assert!(rt; out.as_slice() == text.as_bytes());
+        assert!(rt; err.is_empty());
+    }
+    Ok(())
+}
+
+#[test]
+fn shows_each_kind(rt: HostRuntime) -> Result<(), Fail> {
+    let alloc = rt.alloc();
+    let table: [(&str, u8, &str); 10] = [
+        (
+            "00010001016700000000000000000100000002000200030000000501aa01bb",
+            0,
+            "message: public_message\nbytes: 31\ngroup_id: 67\nepoch: 0\nsender: 2\nauthenticated_data: -\ncontent: proposal\nproposal: remove\nremoved: 5\nsignature: aa\nmembership_tag: bb\n",
+        ),
+        (
+            "00010001016700000000000000000200000002000200030000000501aa01bb",
+            1,
+            "refused: 7 BadTag\n",
+        ),
+        (
+            "000100010167000000000000000001000000020003000001aa01cc01bb",
+            0,
+            "message: public_message\nbytes: 29\ngroup_id: 67\nepoch: 0\nsender: 2\nauthenticated_data: -\ncontent: commit\nproposals: 0\npath_nodes: none\nsignature: aa\nconfirmation_tag: cc\nmembership_tag: bb\n",
+        ),
+        (
+            "00010001016700000000000000000100000002000102686901aa01bb",
+            0,
+            "message: public_message\nbytes: 28\ngroup_id: 67\nepoch: 0\nsender: 2\nauthenticated_data: -\ncontent: application\ndata: 6869\nsignature: aa\nmembership_tag: bb\n",
+        ),
+        (
+            "000100010167000000000000000001000000020002000201bb01cc000103626f6202000102f00100000200010302abcd0001dd01aa01bb",
+            0,
+            "message: public_message\nbytes: 55\ngroup_id: 67\nepoch: 0\nsender: 2\nauthenticated_data: -\ncontent: proposal\nproposal: update\nleaf.encryption_key: bb\nleaf.signature_key: cc\nleaf.identity: 626f62\nleaf.versions: 0001\nleaf.cipher_suites: f001\nleaf.extensions: -\nleaf.proposals: -\nleaf.credentials: 0001\nleaf.source: commit\nleaf.parent_hash: abcd\nleaf.signature: dd\nsignature: aa\nmembership_tag: bb\n",
+        ),
+        (
+            "00010001016700000000000000000100000002000200010001f00101aa01bb01cc000103626f6202000102f0010000020001010000000000000000ffffffffffffffff0001dd0001ee01aa01bb",
+            0,
+            "message: public_message\nbytes: 77\ngroup_id: 67\nepoch: 0\nsender: 2\nauthenticated_data: -\ncontent: proposal\nproposal: add\nadd.cipher_suite: f001\nadd.init_key: aa\nadd.leaf.encryption_key: bb\nadd.leaf.signature_key: cc\nadd.leaf.identity: 626f62\nadd.leaf.versions: 0001\nadd.leaf.cipher_suites: f001\nadd.leaf.extensions: -\nadd.leaf.proposals: -\nadd.leaf.credentials: 0001\nadd.leaf.source: key_package\nadd.leaf.not_before: 0\nadd.leaf.not_after: 18446744073709551615\nadd.leaf.signature: dd\nadd.signature: ee\nsignature: aa\nmembership_tag: bb\n",
+        ),
+        (
+            "00010003f0010000",
+            0,
+            "message: welcome\nbytes: 8\ncipher_suite: f001\nnew_members: 0\ngroup_info_bytes: 0\n",
+        ),
+        (
+            "00010003f0010702abcd01ee01ff03010203",
+            0,
+            "message: welcome\nbytes: 18\ncipher_suite: f001\nnew_members: 1\nnew_member: abcd\ngroup_info_bytes: 3\n",
+        ),
+        (
+            "000100040001f0010167000000000000000020111111111111111111111111111111111111111111111111111111111111111100000001cc0000000301dd",
+            0,
+            "message: group_info\nbytes: 62\ncipher_suite: f001\ngroup_id: 67\nepoch: 0\ntree_hash: 1111111111111111111111111111111111111111111111111111111111111111\nconfirmed_transcript_hash: -\ntree_nodes: none\nconfirmation_tag: cc\nsigner: 3\nsignature: dd\n",
+        ),
+        (
+            "000100040001f0010167000000000000000020111111111111111111111111111111111111111111111111111111111111111100002f00022c2b010101bb01cc000103626f6202000102f0010000020001010000000000000000ffffffffffffffff0001dd01cc0000000301dd",
+            0,
+            "message: group_info\nbytes: 109\ncipher_suite: f001\ngroup_id: 67\nepoch: 0\ntree_hash: 1111111111111111111111111111111111111111111111111111111111111111\nconfirmed_transcript_hash: -\ntree_nodes: 1\nconfirmation_tag: cc\nsigner: 3\nsignature: dd\n",
+        ),
+    ];
+    let words = ["mls", "show", "FILE"];
+    let job = job(alloc, words.as_slice());
+    for (file, status, text) in table {
+        let mut out = Vec::new(alloc);
+        let mut err = Vec::new(alloc);
+        assert_eq!(rt;
+            serve(alloc, &job, Some(file.as_bytes()), &mut out, &mut err),
+            status
+        );
+        assert!(rt; out.as_slice() == text.as_bytes());
+        assert!(rt; err.is_empty());
+    }
+    Ok(())
+}
+
+#[test]
+fn says_what_is_wrong(rt: HostRuntime) -> Result<(), Fail> {
+    let alloc = rt.alloc();
+    let table: [(&[&str], u8, &str); 3] = [
+        (&["mls", "show", "FILE"], 3, "mls: cannot read FILE\n"),
+        (&["mls", "show"], 2, USAGE),
+        (&["mls", "replay", "FILE"], 2, UNKNOWN),
+    ];
+    for (words, status, text) in table {
+        let mut out = Vec::new(alloc);
+        let mut err = Vec::new(alloc);
+        let none: Option<&[u8]> = None;
+        assert_eq!(rt;
+            serve(alloc, &job(alloc, words), none, &mut out, &mut err),
+            status
+        );
+        assert!(rt; out.is_empty());
+        assert!(rt; err.as_slice() == text.as_bytes());
+    }
+    Ok(())
+}
+
+#[test]
+fn stops_at_a_fault(rt: HostRuntime) -> Result<(), Fail> {
+    let alloc = rt.alloc();
+    let words = ["mls", "show", "FILE"];
+    let job = job(alloc, words.as_slice());
+    let mut full = Full {
+        held: Vec::new(alloc),
+        room: 10,
+    };
+    let mut err = Vec::new(alloc);
+    assert_eq!(rt;
+        serve(
+            alloc,
+            &job,
+            Some(KEY_PACKAGE.as_bytes()),
+            &mut full,
+            &mut err
+        ),
+        3
+    );
+    assert!(rt; full.held.as_slice() == b"message: k".as_slice());
+    assert!(rt; err.is_empty());
+    let mut out = Vec::new(alloc);
+    let broken = Broken {
+        rest: KEY_PACKAGE.as_bytes(),
+    };
+    assert_eq!(rt; serve(alloc, &job, Some(broken), &mut out, &mut err), 3);
+    assert!(rt; out.is_empty());
+    assert!(rt; err.as_slice() == b"mls: cannot read FILE\n".as_slice());
+    Ok(())
+}
