@@ -3,5 +3,3 @@
 
 #[cfg(test)]
 mod leaves;
-#[cfg(test)]
-mod messages;
