@@ -15,5 +15,4 @@ pub mod Examples
 pub mod Arrays
 pub mod Numbers
 pub mod Reversed
-pub mod Parts
 pub mod Directs

@@ -7,7 +7,7 @@ use Rattle.mls_leaf.specs.declared.node.Node.{Node}
 use Rattle.mls_treemath.specs.Paths.{nodes_in}
 use Rattle.mls_term.specs.Term.{Branch}
 use Rattle.mls_term.specs.Arrays.{parent_in, term_of, HasMiddle}
-use Rattle.mls_term.proofs.Arrays.{nodes_in-more, nodes_in-leaves, term_of-parts}
+use Rattle.mls_array.proofs.Sides.{nodes_in-more, nodes_in-leaves, term_of-parts}
 
 pub nodes_in_pos : (h : ℕ) → 0 < nodes_in h
 nodes_in_pos h = omega (arith, nodes_in-leaves h, pow_pos h)
