@@ -1,2 +1,7 @@
 pub mod Sides
 pub mod Parts
+pub mod Readings
+pub mod Resolving
+pub mod Filtered
+pub mod Taken
+pub mod Numbered

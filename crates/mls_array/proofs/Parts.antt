@@ -1,16 +1,13 @@
 -- A list of nodes as the list of its left side, its root and the list of its right side.
 use Rattle.std.proofs.Common.{◌≡◌, ℕ, zero, suc, ◌+◌, ◌-◌, ◌/◌, ◌<◌, List, [], ◌∷◌, ◌++◌, length, get_or, take, drop, set, Option, None, sym, ◌∙◌, ap, subst, arith, pow-suc}
 use Rattle.std.proofs.lemmas.List.{length-take-le, length-drop, append_assoc, take-append-drop, drop_more, drop-set, take-set, take_rest, take_more_set, drop_all, append-nil, drop-set-lt}
-use Rattle.std.proofs.lemmas.Nat.{pow_pos}
 use borrow.Rule.Slice.PartMut.{put_mid}
 use Rattle.mls_leaf.specs.declared.node.Node.{Node}
 use Rattle.mls_treemath.specs.Paths.{nodes_in}
+use Rattle.mls_treemath.specs.Sizes.{nodes_in-suc, nodes_in_pos}
 use Rattle.mls_term.specs.Term.{Branch}
 use Rattle.mls_term.specs.Arrays.{parent_in, term_of, HasMiddle}
-use Rattle.mls_array.proofs.Sides.{nodes_in-more, nodes_in-leaves, term_of-parts}
-
-pub nodes_in_pos : (h : ℕ) → 0 < nodes_in h
-nodes_in_pos h = omega (arith, nodes_in-leaves h, pow_pos h)
+use Rattle.mls_array.proofs.Sides.{nodes_in-leaves, term_of-parts}
 
 -- the middle of a tree of height above 0
 middle_at : (h n : ℕ) → n ≡ nodes_in h + suc (nodes_in h) → HasMiddle (suc h) n (nodes_in h)
@@ -27,7 +24,7 @@ middle_at h n sum =
 pub middle_of : (h n : ℕ) → 0 < h → n ≡ nodes_in h → HasMiddle h n (n / 2)
 middle_of zero n pos e = absurd (omega arith)
 middle_of (suc h) n pos e =
-    let sum : n ≡ nodes_in h + suc (nodes_in h) = e ∙ nodes_in-more h in
+    let sum : n ≡ nodes_in h + suc (nodes_in h) = e ∙ nodes_in-suc h in
     let half : nodes_in h ≡ n / 2 = omega arith in
     subst (HasMiddle (suc h) n) half (middle_at h n sum)
 

@@ -1,29 +1,21 @@
 -- The size of a tree, and a list in three parts as a tree.
-use Rattle.std.proofs.Common.{◌≡◌, ℕ, zero, suc, ◌+◌, ◌*◌, ◌^◌, List, [], ◌∷◌, ◌++◌, length, get_or, take, drop, Option, None, refl, sym, ◌∙◌, ap, arith, length-append, append_assoc, pow-suc}
+use Rattle.std.proofs.Common.{◌≡◌, ℕ, suc, ◌+◌, ◌*◌, ◌^◌, List, [], ◌∷◌, ◌++◌, length, get_or, take, drop, Option, None, refl, sym, ◌∙◌, ap, arith, length-append, append_assoc, pow-suc}
 use Rattle.std.proofs.lemmas.List.{take_at, drop_at, get_or_at}
 use Rattle.mls_leaf.specs.declared.node.Node.{Node}
 use Rattle.mls_treemath.specs.Paths.{nodes_in}
+use Rattle.mls_treemath.specs.Sizes.{nodes_in-pow}
 use Rattle.mls_term.specs.Term.{Leaf, Branch}
 use Rattle.mls_term.specs.Arrays.{leaf_in, parent_in, term_of}
 
-pub nodes_in-zero : nodes_in 0 ≡ 1
-unfolding nodes_in
-nodes_in-zero = refl
-
-pub nodes_in-more : (h : ℕ) → nodes_in (suc h) ≡ nodes_in h + suc (nodes_in h)
-unfolding nodes_in
-nodes_in-more h = refl
-
+-- one node more is twice the leaves
 pub nodes_in-leaves : (h : ℕ) → suc (nodes_in h) ≡ 2 * 2 ^ h
-unfolding nodes_in
-nodes_in-leaves zero = refl
-nodes_in-leaves (suc h) = omega (arith, nodes_in-leaves h, pow-suc 2 h)
+nodes_in-leaves h = omega (arith, nodes_in-pow h, pow-suc 2 h)
 
 pub term_of-zero : (xs : List (Option Node)) → term_of 0 xs ≡ Leaf (leaf_in (get_or xs 0 None))
 unfolding term_of
 term_of-zero xs = refl
 
-term_of-suc : (h : ℕ) (xs : List (Option Node)) → term_of (suc h) xs ≡ Branch (parent_in (get_or xs (nodes_in h) None)) (term_of h (take (nodes_in h) xs)) (term_of h (drop (suc (nodes_in h)) xs))
+pub term_of-suc : (h : ℕ) (xs : List (Option Node)) → term_of (suc h) xs ≡ Branch (parent_in (get_or xs (nodes_in h) None)) (term_of h (take (nodes_in h) xs)) (term_of h (drop (suc (nodes_in h)) xs))
 unfolding term_of
 term_of-suc h xs = refl
 

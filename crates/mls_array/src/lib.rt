@@ -5,6 +5,16 @@
 //! for. `first` is the number of the tree's first leaf, which the definitions carry along in the same way.
 #![tactic(auto)]
 
+mod lookup;
+mod members;
+mod order;
+mod path;
 mod places;
+mod resolutions;
 
+pub use lookup::{leaf, node};
+pub use members::{first_blank, has_leaf, member_count};
+pub use order::{alternates, has_last, height_for, pad, to_nodes};
+pub use path::filtered_path;
 pub use places::{leaf_in, parent_in};
+pub use resolutions::{is_reached, resolution, resolution_at};

@@ -1,0 +1,33 @@
+-- The filtered direct path of a leaf, by the root and its sides.
+use Rattle.std.proofs.Common.{◌≡◌, ℕ, ◌+◌, ◌*◌, ◌/◌, ◌<◌, ◌≤◌, if◌then◌else◌, List, [], ◌∷◌, ◌++◌, get_or, Option, None, ◌∙◌, ap, arith}
+use Rattle.mls_leaf.specs.declared.node.Node.{Node}
+use Rattle.mls_term.specs.Term.{Leaf, Branch, width, size}
+use Rattle.mls_term.specs.Resolution.{is_reached}
+use Rattle.mls_term.specs.Way.{filtered_path}
+use Rattle.mls_term.specs.Arrays.{leaf_in, parent_in, term_of}
+use Rattle.mls_term.specs.Equations.{filtered_path_leaf, filtered_path_left, filtered_path_right}
+use Rattle.mls_array.proofs.Sides.{term_of-zero}
+use Rattle.mls_array.proofs.Readings.{left_side, right_side, InParts}
+
+pub filtered_no_more : (b h i : ℕ) (xs : List (Option Node)) → h ≡ 0 → filtered_path b (term_of h xs) i ≡ []
+filtered_no_more b h i xs low =
+    ap (λ j. filtered_path b (term_of j xs) i) low
+    ∙ ap (λ t. filtered_path b t i) (term_of-zero xs)
+    ∙ filtered_path_leaf b (leaf_in (get_or xs 0 None)) i
+
+module _ (b h m i : ℕ) (xs : List (Option Node)) (n : Option Node) (parts : InParts h m xs n) where
+  pub filtered_left : i < b + (m / 2 + 1) → filtered_path b (term_of h xs) i ≡ filtered_path b (left_side h m xs) i ++ (if is_reached (b + (m / 2 + 1)) (right_side h m xs) then (2 * b + m) ∷ [] else [])
+  filtered_left lt =
+      let w = parts.left_width in
+      ap (λ t. filtered_path b t i) parts.is
+      ∙ filtered_path_left b (parent_in n) (left_side h m xs) (right_side h m xs) i (omega arith)
+      ∙ ap (λ k. filtered_path b (left_side h m xs) i ++ (if is_reached (b + k) (right_side h m xs) then (2 * b + size (left_side h m xs)) ∷ [] else [])) w
+      ∙ ap (λ k. filtered_path b (left_side h m xs) i ++ (if is_reached (b + (m / 2 + 1)) (right_side h m xs) then (2 * b + k) ∷ [] else [])) parts.left_size
+
+  pub filtered_right : b + (m / 2 + 1) ≤ i → filtered_path b (term_of h xs) i ≡ filtered_path (b + (m / 2 + 1)) (right_side h m xs) i ++ (if is_reached b (left_side h m xs) then (2 * b + m) ∷ [] else [])
+  filtered_right ge =
+      let w = parts.left_width in
+      ap (λ t. filtered_path b t i) parts.is
+      ∙ filtered_path_right b (parent_in n) (left_side h m xs) (right_side h m xs) i (omega arith)
+      ∙ ap (λ k. filtered_path (b + k) (right_side h m xs) i ++ (if is_reached b (left_side h m xs) then (2 * b + size (left_side h m xs)) ∷ [] else [])) w
+      ∙ ap (λ k. filtered_path (b + (m / 2 + 1)) (right_side h m xs) i ++ (if is_reached b (left_side h m xs) then (2 * b + k) ∷ [] else [])) parts.left_size

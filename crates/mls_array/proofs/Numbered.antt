@@ -1,0 +1,110 @@
+-- What stands at the number of a leaf or a node, by its place in the list.
+use Rattle.std.proofs.Common.{◌≡◌, ℕ, zero, suc, ◌+◌, ◌-◌, ◌*◌, ◌^◌, ◌<◌, ◌≤◌, List, [], ◌∷◌, ◌++◌, length, get_or, take, drop, Option, None, refl, sym, ◌∙◌, ap, inl, inr, arith, length-append, length-drop, pow-suc}
+use Rattle.std.proofs.lemmas.List.{get_or_at, get_or-take, get_or-drop, get_or_past, get_or_append_left, get_or-append_right, length-take-le}
+use Rattle.std.proofs.lemmas.Bool.{cases_lt, cases_order}
+use Rattle.mls_leaf.specs.declared.leaf.LeafNode.{LeafNode}
+use Rattle.mls_leaf.specs.declared.node.Node.{Node}
+use Rattle.mls_treemath.specs.Paths.{nodes_in}
+use Rattle.mls_treemath.specs.Sizes.{nodes_in-suc}
+use Rattle.mls_term.specs.Term.{Term, Leaf, Branch, width, size, leaf_at, leaf_of}
+use Rattle.mls_term.specs.Places.{at_node}
+use Rattle.mls_term.specs.Arrays.{leaf_in, leaf_cell, parent_in, parent_cell, term_of, in_order, own_node, node_at}
+use Rattle.mls_term.specs.Equations.{width_leaf, width_branch, size_leaf, size_branch, leaf_at_leaf, leaf_at_left, leaf_at_right, leaf_of_in, leaf_of_out, at_node_leaf, at_node_no_leaf, at_node_here, at_node_left, at_node_right}
+use Rattle.mls_array.specs.Standing.{Stands}
+use Rattle.mls_array.proofs.Sides.{nodes_in-leaves, term_of-zero, term_of-suc}
+use Rattle.mls_array.proofs.Readings.{width-term_of}
+
+-- ---- leaves
+
+-- leaf k from the first on is in the place 2 k
+leaf_in_place : (h b k : ℕ) (xs : List (Option Node)) → length xs ≡ nodes_in h → k < 2 ^ h → leaf_at b (term_of h xs) (b + k) ≡ leaf_in (get_or xs (2 * k) None)
+leaf_in_place zero b k xs all low =
+    let z : 0 ≡ 2 * k = omega arith in
+    ap (λ t. leaf_at b t (b + k)) (term_of-zero xs)
+    ∙ leaf_at_leaf b (leaf_in (get_or xs 0 None)) (b + k)
+    ∙ ap (λ j. leaf_in (get_or xs j None)) z
+leaf_in_place (suc h) b k xs all low =
+    let l : List (Option Node) = take (nodes_in h) xs in
+    let r : List (Option Node) = drop (suc (nodes_in h)) xs in
+    let sum : length xs ≡ nodes_in h + suc (nodes_in h) = all ∙ nodes_in-suc h in
+    let half : width (term_of h l) ≡ 2 ^ h = width-term_of h l in
+    let nodes : suc (nodes_in h) ≡ 2 * 2 ^ h = nodes_in-leaves h in
+    let twice : 2 ^ suc h ≡ 2 * 2 ^ h = omega (arith, pow-suc 2 h) in
+    ap (λ t. leaf_at b t (b + k)) (term_of-suc h xs)
+    ∙ elim (cases_lt k (2 ^ h)) [
+      | inl left ↦
+          leaf_at_left b (parent_in (get_or xs (nodes_in h) None)) (term_of h l) (term_of h r) (b + k) (omega arith)
+          ∙ leaf_in_place h b k l (length-take-le (nodes_in h) xs (omega arith)) left
+          ∙ ap leaf_in (get_or-take (nodes_in h) xs (2 * k) None (omega arith))
+      | inr right ↦
+          let j : ℕ = k - 2 ^ h in
+          let on : b + k ≡ b + width (term_of h l) + j = omega arith in
+          let place : suc (nodes_in h) + 2 * j ≡ 2 * k = omega arith in
+          leaf_at_right b (parent_in (get_or xs (nodes_in h) None)) (term_of h l) (term_of h r) (b + k) (omega arith)
+          ∙ ap (leaf_at (b + width (term_of h l)) (term_of h r)) on
+          ∙ leaf_in_place h (b + width (term_of h l)) j r (length-drop (suc (nodes_in h)) xs ∙ omega arith) (omega arith)
+          ∙ ap leaf_in (get_or-drop (suc (nodes_in h)) xs (2 * j) None ∙ ap (λ p. get_or xs p None) place)
+    ]
+
+pub leaf_of-term_of : (h i : ℕ) (xs : List (Option Node)) → length xs ≡ nodes_in h → leaf_of (term_of h xs) i ≡ leaf_in (get_or xs (2 * i) None)
+leaf_of-term_of h i xs all =
+    let w : width (term_of h xs) ≡ 2 ^ h = width-term_of h xs in
+    let nodes : suc (nodes_in h) ≡ 2 * 2 ^ h = nodes_in-leaves h in
+    elim (cases_lt i (2 ^ h)) [
+      | inl low ↦
+          let zero_on : i ≡ 0 + i = omega arith in
+          leaf_of_in (term_of h xs) i (omega arith) ∙ ap (leaf_at 0 (term_of h xs)) zero_on ∙ leaf_in_place h 0 i xs all low
+      | inr high ↦ leaf_of_out (term_of h xs) i (omega arith) ∙ sym (ap leaf_in (get_or_past xs (2 * i) None (omega arith)))
+    ]
+
+-- ---- nodes
+
+-- a leaf for each node but one, twice
+size-width : (t : Term) → size t + 1 ≡ 2 * width t
+unfolding width size
+size-width (Leaf v) = refl
+size-width (Branch c l r) = let a = size-width l in let b = size-width r in omega arith
+
+length-in_order : (t : Term) → length (in_order t) ≡ size t
+unfolding in_order size
+length-in_order (Leaf v) = refl
+length-in_order (Branch c l r) =
+    let a = length-in_order l in
+    let d = length-in_order r in
+    length-append (in_order l) (parent_cell c ∷ in_order r) ∙ (omega arith)
+
+node_of_leaf : (b : ℕ) (v : Option LeafNode) (n : ℕ) → at_node None own_node b (Leaf v) (2 * b + n) ≡ get_or (leaf_cell v ∷ []) n None
+node_of_leaf b v zero = at_node_leaf b v None own_node (2 * b + 0) (omega arith)
+node_of_leaf b v (suc n) = at_node_no_leaf b v None own_node (2 * b + suc n) (λ e. absurd (omega arith))
+
+-- the list has the nodes at their numbers
+node_in_order : (b : ℕ) (t : Term) (n : ℕ) → at_node None own_node b t (2 * b + n) ≡ get_or (in_order t) n None
+unfolding in_order
+node_in_order b (Leaf v) n = node_of_leaf b v n
+node_in_order b (Branch c l r) n =
+    let s = size-width l in
+    let len = length-in_order l in
+    elim (cases_order n (size l)) [
+      | inl e ↦
+          at_node_here None own_node b c l r (2 * b + n) (omega arith)
+          ∙ sym (get_or_at (in_order l) (parent_cell c) (in_order r) None n (len ∙ sym e))
+      | inr (inl lt) ↦
+          at_node_left None own_node b c l r (2 * b + n) (omega arith)
+          ∙ node_in_order b l n
+          ∙ sym (get_or_append_left (in_order l) (parent_cell c ∷ in_order r) None n (omega arith))
+      | inr (inr gt) ↦
+          let m : ℕ = n - suc (size l) in
+          at_node_right None own_node b c l r (2 * b + n) (omega arith)
+          ∙ ap (at_node None own_node (b + width l) r) (let e : 2 * b + n ≡ 2 * (b + width l) + m = omega arith in e)
+          ∙ node_in_order (b + width l) r m
+          ∙ ap (λ j. get_or (parent_cell c ∷ in_order r) j None) (let e : suc m ≡ n - size l = omega arith in e)
+          ∙ sym (get_or-append_right (in_order l) (parent_cell c ∷ in_order r) (size l) n None len (omega arith))
+    ]
+
+pub node_at-standing : (h x : ℕ) (xs : List (Option Node)) → Stands h xs → node_at 0 (term_of h xs) x ≡ get_or xs x None
+unfolding node_at
+node_at-standing h x xs stands =
+    let zero_on : x ≡ 2 * 0 + x = omega arith in
+    ap (at_node None own_node 0 (term_of h xs)) zero_on
+    ∙ node_in_order 0 (term_of h xs) x
+    ∙ ap (λ ys. get_or ys x None) stands.order

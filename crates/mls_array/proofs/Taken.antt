@@ -1,0 +1,53 @@
+-- The members and the blank leaves of a tree, by the root and its sides.
+use Rattle.std.proofs.Common.{◌≡◌, ℕ, ◌+◌, ◌/◌, Bool, true, false, ◌||◌, List, [], ◌∷◌, ◌++◌, length, get_or, Option, Some, None, sym, ◌∙◌, ap, length-append}
+use Rattle.mls_leaf.specs.declared.leaf.LeafNode.{LeafNode}
+use Rattle.mls_leaf.specs.declared.node.Node.{Node}
+use Rattle.mls_treemath.specs.Paths.{nodes_in}
+use Rattle.mls_term.specs.Term.{Leaf, Branch, width, has_leaf}
+use Rattle.mls_term.specs.Edits.{first_blank, or_else}
+use Rattle.mls_term.specs.Keys.{members}
+use Rattle.mls_term.specs.Arrays.{leaf_in, parent_in, term_of}
+use Rattle.mls_term.specs.Equations.{has_leaf_leaf, has_leaf_branch, first_blank_leaf, first_blank_blank_leaf, first_blank_branch, members_leaf, members_blank_leaf, members_branch}
+use Rattle.mls_array.proofs.Readings.{leaf_term, left_side, right_side, InParts}
+
+module _ (h : ℕ) (xs : List (Option Node)) (n : Option Node) (low : h ≡ 0) (all : length xs ≡ nodes_in h) (is : n ≡ get_or xs 0 n) where
+  term_some : (v : LeafNode) → Some v ≡ leaf_in n → term_of h xs ≡ Leaf (Some v)
+  term_some v some = leaf_term h xs n low all is ∙ ap Leaf (sym some)
+
+  term_none : None ≡ leaf_in n → term_of h xs ≡ Leaf None
+  term_none none = leaf_term h xs n low all is ∙ ap Leaf (sym none)
+
+  pub no_blank_leaf : (b : ℕ) (v : LeafNode) → Some v ≡ leaf_in n → first_blank b (term_of h xs) ≡ None
+  no_blank_leaf b v some = ap (first_blank b) (term_some v some) ∙ first_blank_leaf b v
+
+  pub blank_leaf : (b : ℕ) → None ≡ leaf_in n → first_blank b (term_of h xs) ≡ Some b
+  blank_leaf b none = ap (first_blank b) (term_none none) ∙ first_blank_blank_leaf b
+
+  pub taken_leaf : (v : LeafNode) → Some v ≡ leaf_in n → has_leaf (term_of h xs) ≡ true
+  taken_leaf v some = ap has_leaf (term_some v some) ∙ has_leaf_leaf (Some v)
+
+  pub no_leaf : None ≡ leaf_in n → has_leaf (term_of h xs) ≡ false
+  no_leaf none = ap has_leaf (term_none none) ∙ has_leaf_leaf None
+
+  pub one_member : (b : ℕ) (v : LeafNode) → Some v ≡ leaf_in n → length (members b (term_of h xs)) ≡ 1
+  one_member b v some = ap (λ t. length (members b t)) (term_some v some) ∙ ap length (members_leaf b v)
+
+  pub no_member : (b : ℕ) → None ≡ leaf_in n → length (members b (term_of h xs)) ≡ 0
+  no_member b none = ap (λ t. length (members b t)) (term_none none) ∙ ap length (members_blank_leaf b)
+
+module _ (h m : ℕ) (xs : List (Option Node)) (n : Option Node) (parts : InParts h m xs n) where
+  pub blank_sides : (b : ℕ) → first_blank b (term_of h xs) ≡ or_else (first_blank b (left_side h m xs)) (first_blank (b + (m / 2 + 1)) (right_side h m xs))
+  blank_sides b =
+      ap (first_blank b) parts.is
+      ∙ first_blank_branch b (parent_in n) (left_side h m xs) (right_side h m xs)
+      ∙ ap (λ k. or_else (first_blank b (left_side h m xs)) (first_blank (b + k) (right_side h m xs))) parts.left_width
+
+  pub leaf_sides : has_leaf (term_of h xs) ≡ (has_leaf (left_side h m xs) || has_leaf (right_side h m xs))
+  leaf_sides = ap has_leaf parts.is ∙ has_leaf_branch (parent_in n) (left_side h m xs) (right_side h m xs)
+
+  pub member_sides : (b : ℕ) → length (members b (term_of h xs)) ≡ length (members b (left_side h m xs)) + length (members (b + (m / 2 + 1)) (right_side h m xs))
+  member_sides b =
+      ap (λ t. length (members b t)) parts.is
+      ∙ ap length (members_branch b (parent_in n) (left_side h m xs) (right_side h m xs))
+      ∙ length-append (members b (left_side h m xs)) (members (b + width (left_side h m xs)) (right_side h m xs))
+      ∙ ap (λ k. length (members b (left_side h m xs)) + length (members (b + k) (right_side h m xs))) parts.left_width
