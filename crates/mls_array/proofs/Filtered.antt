@@ -1,7 +1,7 @@
 -- The filtered direct path of a leaf, by the root and its sides.
 use Rattle.std.proofs.Common.{◌≡◌, ℕ, ◌+◌, ◌*◌, ◌/◌, ◌<◌, ◌≤◌, if◌then◌else◌, List, [], ◌∷◌, ◌++◌, get_or, Option, None, ◌∙◌, ap, arith}
 use Rattle.mls_leaf.specs.declared.node.Node.{Node}
-use Rattle.mls_term.specs.Term.{Leaf, Branch, width, size}
+use Rattle.mls_term.specs.Term.{size}
 use Rattle.mls_term.specs.Resolution.{is_reached}
 use Rattle.mls_term.specs.Way.{filtered_path}
 use Rattle.mls_term.specs.Arrays.{leaf_in, parent_in, term_of}

@@ -5,3 +5,4 @@ pub mod Resolving
 pub mod Filtered
 pub mod Taken
 pub mod Numbered
+pub mod Sent

@@ -1,11 +1,11 @@
 -- Resolutions of a tree, by its root and its sides.
-use Rattle.std.proofs.Common.{◌≡◌, ℕ, zero, suc, ◌+◌, ◌*◌, ◌/◌, ◌<◌, not, Bool, true, false, ◌||◌, List, [], ◌∷◌, ◌++◌, length, get_or, Option, Some, None, refl, sym, ◌∙◌, ap, arith}
+use Rattle.std.proofs.Common.{◌≡◌, ℕ, ◌+◌, ◌*◌, ◌/◌, ◌<◌, not, true, false, ◌||◌, List, [], ◌∷◌, ◌++◌, length, get_or, Option, Some, None, refl, sym, ◌∙◌, ap, arith}
 use Rattle.mls_leaf.specs.Parent.{Parent}
 use Rattle.mls_leaf.specs.declared.leaf.LeafNode.{LeafNode}
 use Rattle.mls_leaf.specs.declared.node.Node.{Node}
 use Rattle.mls_treemath.specs.Paths.{nodes_in}
 use Rattle.mls_term.specs.Sets.{leaf_numbers}
-use Rattle.mls_term.specs.Term.{Term, Leaf, Branch, width, size}
+use Rattle.mls_term.specs.Term.{Leaf, Branch}
 use Rattle.mls_term.specs.Resolution.{resolution, is_empty, is_reached}
 use Rattle.mls_term.specs.Places.{at_node, resolution_at}
 use Rattle.mls_term.specs.Arrays.{leaf_in, parent_in, term_of}

@@ -1,9 +1,9 @@
 -- The members and the blank leaves of a tree, by the root and its sides.
-use Rattle.std.proofs.Common.{◌≡◌, ℕ, ◌+◌, ◌/◌, Bool, true, false, ◌||◌, List, [], ◌∷◌, ◌++◌, length, get_or, Option, Some, None, sym, ◌∙◌, ap, length-append}
+use Rattle.std.proofs.Common.{◌≡◌, ℕ, ◌+◌, ◌/◌, true, false, ◌||◌, List, length, get_or, Option, Some, None, sym, ◌∙◌, ap, length-append}
 use Rattle.mls_leaf.specs.declared.leaf.LeafNode.{LeafNode}
 use Rattle.mls_leaf.specs.declared.node.Node.{Node}
 use Rattle.mls_treemath.specs.Paths.{nodes_in}
-use Rattle.mls_term.specs.Term.{Leaf, Branch, width, has_leaf}
+use Rattle.mls_term.specs.Term.{Leaf, width, has_leaf}
 use Rattle.mls_term.specs.Edits.{first_blank, or_else}
 use Rattle.mls_term.specs.Keys.{members}
 use Rattle.mls_term.specs.Arrays.{leaf_in, parent_in, term_of}

@@ -1,13 +1,12 @@
 -- Laws: lists of nodes whose cells stand in their places stand for trees.
-use Rattle.std.proofs.Common.{◌≡◌, ℕ, zero, suc, ◌+◌, ◌<◌, Bool, true, false, not, ◌&&◌, List, [], ◌∷◌, ◌++◌, length, get_or, take, drop, Option, Some, None, refl, sym, ◌∙◌, ap, arith, length-drop}
-use Rattle.std.proofs.lemmas.List.{length-take-le, take-append-drop, drop_more}
-use Rattle.std.proofs.lemmas.Bool.{true≢false, and_parts}
+use Rattle.std.proofs.Common.{◌≡◌, ℕ, zero, suc, ◌+◌, ◌-◌, ◌<◌, ◌≤◌, nat_le, Bool, true, false, not, ◌&&◌, List, [], ◌∷◌, ◌++◌, length, get_or, take, drop, replicate, Option, Some, None, refl, sym, ◌∙◌, ap, subst, arith, length-append, length-drop, leb-true}
+use Rattle.std.proofs.lemmas.List.{length-take-le, length-replicate, take-append-drop, drop_more}
+use Rattle.std.proofs.lemmas.Bool.{true≢false, and_parts, cond_both}
 use Rattle.mls_leaf.specs.declared.node.Node.{Node}
 use Rattle.mls_leaf.specs.declared.node.Node.TheVariants.{Leaf as in_leaf, Parent as in_parent}
 use Rattle.mls_treemath.specs.Paths.{nodes_in}
-use Rattle.mls_treemath.specs.Sizes.{nodes_in-zero, nodes_in-suc}
-use Rattle.mls_term.specs.Term.{Term, Leaf, Branch}
-use Rattle.mls_term.specs.Arrays.{leaf_in, parent_in, leaf_cell, parent_cell, term_of, in_order, may_stand, alternates}
+use Rattle.mls_treemath.specs.Sizes.{nodes_in-zero, nodes_in-suc, nodes_in_pos}
+use Rattle.mls_term.specs.Arrays.{leaf_in, parent_in, leaf_cell, parent_cell, term_of, in_order, may_stand, alternates, height_from, height_for, padded}
 use Rattle.mls_array.specs.Standing.{Stands}
 
 -- ---- cells
@@ -116,3 +115,48 @@ in_order-term_of (suc h) xs all alternating =
 pub Stands-from_alternating : (h : ℕ) (xs : List (Option Node)) → length xs ≡ nodes_in h → alternates true xs ≡ true → Stands h xs
 Stands-from_alternating h xs all alternating =
     record { size = all; order = in_order-term_of h xs all alternating }
+
+-- ---- padded lists
+
+-- the least tree for some nodes has room for them
+height_from-holds : (more h n : ℕ) → n ≤ nodes_in (more + h) → n ≤ nodes_in (height_from more h n)
+unfolding height_from
+height_from-holds zero h n fits = subst (λ k. n ≤ nodes_in k) (let e : 0 + h ≡ h = omega arith in e) fits
+height_from-holds (suc more) h n fits =
+    cond_both (nat_le n (nodes_in h)) _ _ (λ k. n ≤ nodes_in k)
+    (λ e. leb-true n (nodes_in h) e)
+    (λ e. height_from-holds more (suc h) n (subst (λ k. n ≤ nodes_in k) (let e : suc more + h ≡ more + suc h = omega arith in e) fits))
+
+high_enough : (h : ℕ) → h < nodes_in h
+high_enough zero = nodes_in_pos 0
+high_enough (suc h) = let e = nodes_in-suc h in let d = high_enough h in omega arith
+
+pub height_for-holds : (n : ℕ) → n ≤ nodes_in (height_for n)
+unfolding height_for
+height_for-holds n = height_from-holds n 0 n (let e : n + 0 ≡ n = omega arith in let d = high_enough (n + 0) in omega arith)
+
+pub length-padded : (xs : List (Option Node)) → length (padded xs) ≡ nodes_in (height_for (length xs))
+unfolding padded
+length-padded xs =
+    let room = height_for-holds (length xs) in
+    length-append xs (replicate (nodes_in (height_for (length xs)) - length xs) None)
+    ∙ ap (λ k. length xs + k) (length-replicate (nodes_in (height_for (length xs)) - length xs) None)
+    ∙ omega arith
+
+alternates-blanks : (n : ℕ) (even : Bool) → alternates even (replicate n None) ≡ true
+unfolding alternates
+alternates-blanks zero even = refl
+alternates-blanks (suc n) even = alternates-blanks n (not even)
+
+pub alternates-padded : (xs : List (Option Node)) → alternates true xs ≡ true → alternates true (padded xs) ≡ true
+unfolding padded
+alternates-padded xs alternating =
+    let blanks : List (Option Node) = replicate (nodes_in (height_for (length xs)) - length xs) None in
+    alternates-append true xs blanks
+    ∙ ap (λ v. v && alternates (on_by (length xs) true) blanks) alternating
+    ∙ alternates-blanks (nodes_in (height_for (length xs)) - length xs) (on_by (length xs) true)
+
+-- nodes in their places stand for a tree once they are padded
+pub Stands-padded : (xs : List (Option Node)) → alternates true xs ≡ true → Stands (height_for (length xs)) (padded xs)
+Stands-padded xs alternating =
+    Stands-from_alternating (height_for (length xs)) (padded xs) (length-padded xs) (alternates-padded xs alternating)

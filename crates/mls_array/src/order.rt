@@ -1,6 +1,6 @@
 //! Lists of nodes from outside, and as they are sent (RFC 9420, 12.4.3.3).
 
-ghost use Rattle.std.specs.Prelude.{◌≡◌, ◌-◌, ◌≤◌, ◌++◌, length, take, replicate, None, OnOk, OnErr, IfOk};
+ghost use Rattle.std.specs.Prelude.{◌≡◌, ◌-◌, ◌≤◌, true, ◌++◌, length, take, replicate, None, OnOk, OnErr, IfOk, IsOk};
 ghost use Rattle.mls_term.specs.Arrays.{cut, has_last, may_stand, alternates, height_for};
 
 use mls_leaf::Node;
@@ -55,6 +55,7 @@ pub fn height_for(len: usize) -> u32
 pub fn pad(nodes: &mut Vec<Option<Node>>, to: usize) -> Result<(), AllocError>
     ensures ok { OnOk result (nodes.new.items ≡ nodes.old.items ++ replicate (to - length nodes.old.items) None) }
     ensures err { OnErr result (nodes.new.items ≡ nodes.old.items) }
+    ensures there { to ≤ length nodes.old.items → IsOk result }
 {
     let missing = to.saturating_sub(nodes.len());
     nodes.reserve(missing)?;
@@ -80,10 +81,7 @@ fn sent_len(nodes: &[Option<Node>]) -> usize
 }
 
 /// A copy of the nodes up to the last one that isn't blank, as they are sent.
-pub fn to_nodes(
-    alloc: Global,
-    nodes: &[Option<Node>],
-) -> Result<Vec<Option<Node>>, AllocError>
+pub fn to_nodes(alloc: Global, nodes: &[Option<Node>]) -> Result<Vec<Option<Node>>, AllocError>
     ensures { IfOk result (λ v. v.items ≡ cut nodes.now) }
 {
     Vec::from_clones(alloc, &nodes[..sent_len(nodes)])

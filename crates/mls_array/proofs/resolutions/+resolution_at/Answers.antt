@@ -1,4 +1,4 @@
-use Rattle.std.proofs.Common.{arith, sym, get_or, None, append-nil}
+use Rattle.std.proofs.Common.{arith, sym, append-nil}
 use Rattle.mls_array.proofs.Readings.{in_sides}
 use Rattle.mls_array.proofs.Resolving.{resolution_at_leaf, resolution_at_no_leaf, resolution_at_root, resolution_at_left, resolution_at_right}
 use Rattle.mls_array.proofs.resolutions.+resolution_at.Goals as goal

@@ -1,0 +1,21 @@
+use Rattle.std.proofs.Common.{◌≡◌, arith, sym, ◌∙◌, ap, take}
+use Rattle.mls_term.specs.Arrays.{cut}
+use Rattle.mls_array.proofs.Sent.{cut-front, cut-back, cut-none}
+use Rattle.mls_array.proofs.order.sent_len.Goals as goal
+
+pub returns-then-is_some-clause-cut : goal.returns-then-is_some-clause-cut
+returns-then-is_some-clause-cut c =
+    cut-front c.args.nodes.now c.loop-len.len _ (omega arith) (omega arith) c.index-nodes-len.is (sym c.is_some.ensures ∙ c.if-is_some.true)
+    ∙ c.loop-len.invariant.1
+
+pub loop-len-preserved : goal.loop-len-preserved
+loop-len-preserved c = (
+  omega arith,
+  cut-back c.args.nodes.now c.loop-len.len _ (omega arith) (omega arith) c.index-nodes-len.is (sym c.is_some.ensures ∙ c.if-is_some.false)
+      ∙ c.loop-len.invariant.1,
+)
+
+pub returns-clause-cut : goal.returns-clause-cut
+returns-clause-cut c =
+    let none : c.loop-len.len ≡ 0 = omega arith in
+    sym (sym c.loop-len.invariant.1 ∙ ap (λ k. cut (take k c.args.nodes.now)) none ∙ cut-none)
