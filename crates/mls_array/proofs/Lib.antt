@@ -1,2 +1,4 @@
 pub mod Sides
 pub mod Parts
+pub mod Standings
+pub mod Puts

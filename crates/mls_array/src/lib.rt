@@ -5,6 +5,8 @@
 //! for. `first` is the number of the tree's first leaf, which the definitions carry along in the same way.
 #![tactic(auto)]
 
+mod edits;
 mod places;
 
+pub use edits::put;
 pub use places::{leaf_in, parent_in};
