@@ -2,3 +2,5 @@ pub mod Sides
 pub mod Parts
 pub mod Standings
 pub mod Puts
+pub mod Listings
+pub mod Entries

@@ -8,5 +8,5 @@
 mod edits;
 mod places;
 
-pub use edits::put;
+pub use edits::{enter, put};
 pub use places::{leaf_in, parent_in};
