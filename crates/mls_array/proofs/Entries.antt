@@ -5,15 +5,16 @@ use borrow.Rule.Slice.PartMut.{put_mid}
 use Rattle.mls_leaf.specs.declared.leaf.LeafNode.{LeafNode}
 use Rattle.mls_leaf.specs.declared.node.Node.{Node}
 use Rattle.mls_treemath.specs.Paths.{nodes_in}
-use Rattle.mls_term.specs.Term.{Leaf, Branch}
+use Rattle.mls_term.specs.Term.{Branch}
 use Rattle.mls_term.specs.Edits.{enter, listing}
 use Rattle.mls_term.specs.Arrays.{leaf_in, parent_in, leaf_cell, parent_cell, term_of, in_order, HasMiddle}
 use Rattle.mls_term.specs.Equations.{enter_leaf, enter_left, enter_right}
 use Rattle.mls_array.specs.Cells.{unlisted}
 use Rattle.mls_array.specs.Standing.{Stands}
+use Rattle.mls_array.specs.StandingLaws.{in_order-leaf, width-term_of}
 use Rattle.mls_array.proofs.Sides.{term_of-zero}
 use Rattle.mls_array.proofs.Parts.{split, left_of_set, right_of_set}
-use Rattle.mls_array.proofs.Standings.{in_order-leaf, width-term_of, half, with_left, with_right, one_set}
+use Rattle.mls_array.proofs.Standings.{half, with_left, with_right, one_set}
 
 pub enter_one : (h b i : ℕ) (xs : List (Option Node)) (x : LeafNode) → h ≡ 0 → length xs ≡ nodes_in h → set xs 0 (leaf_cell (Some x)) ≡ in_order (enter b (term_of h xs) i x)
 enter_one h b i xs x low size =

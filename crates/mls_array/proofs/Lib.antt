@@ -4,3 +4,4 @@ pub mod Standings
 pub mod Puts
 pub mod Listings
 pub mod Entries
+pub mod Widths

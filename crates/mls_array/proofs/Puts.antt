@@ -1,17 +1,18 @@
 -- A put, one side at a time.
-use Rattle.std.proofs.Common.{◌≡◌, ℕ, ◌+◌, ◌-◌, ◌/◌, ◌^◌, ◌<◌, ◌≤◌, List, [], ◌∷◌, ◌++◌, length, get_or, take, drop, set, Option, None, refl, sym, ◌∙◌, ap, subst, arith}
+use Rattle.std.proofs.Common.{◌≡◌, ℕ, ◌+◌, ◌-◌, ◌/◌, ◌<◌, ◌≤◌, List, [], ◌∷◌, ◌++◌, length, get_or, take, drop, set, Option, None, sym, ◌∙◌, ap, arith}
 use borrow.Rule.Slice.PartMut.{put_mid}
 use Rattle.mls_leaf.specs.declared.leaf.LeafNode.{LeafNode}
 use Rattle.mls_leaf.specs.declared.node.Node.{Node}
 use Rattle.mls_treemath.specs.Paths.{nodes_in}
-use Rattle.mls_term.specs.Term.{Leaf, Branch}
+use Rattle.mls_term.specs.Term.{Branch}
 use Rattle.mls_term.specs.Edits.{put}
 use Rattle.mls_term.specs.Arrays.{leaf_in, parent_in, leaf_cell, term_of, in_order, HasMiddle}
 use Rattle.mls_term.specs.Equations.{put_leaf, put_left, put_right}
 use Rattle.mls_array.specs.Standing.{Stands}
+use Rattle.mls_array.specs.StandingLaws.{in_order-leaf, width-term_of}
 use Rattle.mls_array.proofs.Sides.{term_of-zero}
 use Rattle.mls_array.proofs.Parts.{split, left_of_set, right_of_set}
-use Rattle.mls_array.proofs.Standings.{in_order-leaf, width-term_of, half, with_left, with_right, one_set}
+use Rattle.mls_array.proofs.Standings.{half, with_left, with_right, one_set}
 
 pub put_one : (h b i : ℕ) (xs : List (Option Node)) (x : Option LeafNode) (c : Option Node) → h ≡ 0 → length xs ≡ nodes_in h → c ≡ leaf_cell x → set xs 0 c ≡ in_order (put b (term_of h xs) i x)
 put_one h b i xs x c low size is =

@@ -1,38 +1,19 @@
 -- Lists that stand for trees: their sides, and what an edit of a side makes of the whole.
-use Rattle.std.proofs.Common.{◌≡◌, ℕ, zero, suc, ◌+◌, ◌-◌, ◌*◌, ◌/◌, ◌^◌, ◌<◌, List, [], ◌∷◌, ◌++◌, length, get_or, take, drop, set, Option, None, refl, sym, ◌∙◌, ap, subst, arith, length-append, pow-suc}
+use Rattle.std.proofs.Common.{◌≡◌, ℕ, suc, ◌+◌, ◌-◌, ◌*◌, ◌/◌, ◌^◌, ◌<◌, List, [], ◌∷◌, ◌++◌, length, get_or, take, drop, set, Option, None, refl, sym, ◌∙◌, ap, subst, arith, length-append}
 use Rattle.std.proofs.lemmas.List.{take_at, drop_at, get_or_at, append_assoc, take-append-drop, drop_more, drop-set, take_more_set, drop_all, append-nil, length-drop}
 use borrow.Rule.Slice.PartMut.{put_mid}
 use Rattle.mls_leaf.specs.Parent.{Parent}
-use Rattle.mls_leaf.specs.declared.leaf.LeafNode.{LeafNode}
 use Rattle.mls_leaf.specs.declared.node.Node.{Node}
 use Rattle.mls_treemath.specs.Paths.{nodes_in}
-use Rattle.mls_treemath.specs.Sizes.{nodes_in-zero, nodes_in-suc}
-use Rattle.mls_term.specs.Term.{Term, Leaf, Branch, width}
-use Rattle.mls_term.specs.Arrays.{leaf_in, parent_in, leaf_cell, parent_cell, term_of, in_order, HasMiddle}
+use Rattle.mls_treemath.specs.Sizes.{nodes_in-zero}
+use Rattle.mls_term.specs.Term.{Term, Branch}
+use Rattle.mls_term.specs.Arrays.{parent_in, parent_cell, term_of, in_order, HasMiddle}
 use Rattle.mls_array.specs.Standing.{Stands}
-use Rattle.mls_array.proofs.Sides.{term_of-zero}
+use Rattle.mls_array.specs.StandingLaws.{in_order-branch, perfect-term_of, length-in_order}
 use Rattle.mls_array.proofs.Parts.{split, left_len, right_len, left_of_set, right_of_set}
 
-pub in_order-leaf : (v : Option LeafNode) → in_order (Leaf v) ≡ leaf_cell v ∷ []
-unfolding in_order
-in_order-leaf v = refl
-
-pub in_order-branch : (c : Option Parent) (l r : Term) → in_order (Branch c l r) ≡ in_order l ++ (parent_cell c ∷ in_order r)
-unfolding in_order
-in_order-branch c l r = refl
-
--- a tree that a list is read as has as many leaves and nodes as its height says
-pub width-term_of : (h : ℕ) (xs : List (Option Node)) → width (term_of h xs) ≡ 2 ^ h
-unfolding width term_of
-width-term_of zero xs = refl
-width-term_of (suc h) xs = omega (arith, width-term_of h (take (nodes_in h) xs), width-term_of h (drop (suc (nodes_in h)) xs), pow-suc 2 h)
-
-pub length-in_order-term_of : (h : ℕ) (xs : List (Option Node)) → length (in_order (term_of h xs)) ≡ nodes_in h
-unfolding in_order term_of
-length-in_order-term_of zero xs = sym nodes_in-zero
-length-in_order-term_of (suc h) xs =
-    length-append (in_order (term_of h (take (nodes_in h) xs))) (parent_cell (parent_in (get_or xs (nodes_in h) None)) ∷ in_order (term_of h (drop (suc (nodes_in h)) xs)))
-    ∙ omega (arith, length-in_order-term_of h (take (nodes_in h) xs), length-in_order-term_of h (drop (suc (nodes_in h)) xs), nodes_in-suc h)
+length-of_term : (h : ℕ) (xs : List (Option Node)) → length (in_order (term_of h xs)) ≡ nodes_in h
+length-of_term h xs = length-in_order h (term_of h xs) (perfect-term_of h xs)
 
 -- two lists with as many elements in front of a cell are equal part by part
 module _ (l l' r r' : List (Option Node)) (c c' : Option Node) (size : length l ≡ length l') (same : l ++ (c ∷ r) ≡ l' ++ (c' ∷ r')) where
@@ -86,7 +67,7 @@ module _ (h n m : ℕ) (xs : List (Option Node)) (at : HasMiddle h n m) (len : l
         ∙ three
 
     as_long : length (in_order (term_of (h - 1) (take m xs))) ≡ length (take m xs)
-    as_long = length-in_order-term_of (h - 1) (take m xs) ∙ sym (left_len h n m xs at len pos ∙ at.side)
+    as_long = length-of_term (h - 1) (take m xs) ∙ sym (left_len h n m xs at len pos ∙ at.side)
 
     pub left_stands : Stands (h - 1) (take m xs)
     left_stands = record { size = left_len h n m xs at len pos ∙ at.side; order = same_left _ _ _ _ _ _ as_long parts }

@@ -21,13 +21,7 @@ fn cell_of(leaf: Option<LeafNode>) -> Option<Node>
 }
 
 /// Replaces leaf i and blanks the parents over it; visits one node a level. Takes no memory.
-pub fn put(
-    nodes: &mut [Option<Node>],
-    height: u32,
-    first: u32,
-    i: u32,
-    leaf: Option<LeafNode>,
-)
+pub fn put(nodes: &mut [Option<Node>], height: u32, first: u32, i: u32, leaf: Option<LeafNode>)
     requires stands { Stands height nodes.old }
     requires fits { first + 2 ^ height ≤ 2 ^ 31 }
     ensures { nodes.new ≡ in_order (put first (term_of height nodes.old) i leaf) }

@@ -7,6 +7,8 @@
 
 mod edits;
 mod places;
+mod sizes;
 
 pub use edits::{enter, put};
 pub use places::{leaf_in, parent_in};
+pub use sizes::{grow, trim};

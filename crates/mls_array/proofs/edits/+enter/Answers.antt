@@ -1,4 +1,4 @@
-use Rattle.std.proofs.Common.{◌≡◌, ◌<◌, ◌∙◌, length, get_or, None, refl, ap, arith, rules}
+use Rattle.std.proofs.Common.{◌<◌, ◌∙◌, length, None, refl, ap, arith, rules}
 use Rattle.std.proofs.lemmas.List.{get_or_default}
 use Rattle.mls_term.specs.Edits.{listing}
 use Rattle.mls_term.specs.Arrays.{parent_in, parent_cell}
