@@ -6,3 +6,8 @@ pub mod Filtered
 pub mod Taken
 pub mod Numbered
 pub mod Sent
+pub mod Standings
+pub mod Puts
+pub mod Listings
+pub mod Entries
+pub mod Widths

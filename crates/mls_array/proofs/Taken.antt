@@ -3,11 +3,11 @@ use Rattle.std.proofs.Common.{◌≡◌, ℕ, ◌+◌, ◌/◌, true, false, ◌
 use Rattle.mls_leaf.specs.declared.leaf.LeafNode.{LeafNode}
 use Rattle.mls_leaf.specs.declared.node.Node.{Node}
 use Rattle.mls_treemath.specs.Paths.{nodes_in}
-use Rattle.mls_term.specs.Term.{Leaf, width, has_leaf}
+use Rattle.mls_term.specs.Term.{Leaf, width, has_leaf, is_full_width}
 use Rattle.mls_term.specs.Edits.{first_blank, or_else}
 use Rattle.mls_term.specs.Keys.{members}
 use Rattle.mls_term.specs.Arrays.{leaf_in, parent_in, term_of}
-use Rattle.mls_term.specs.Equations.{has_leaf_leaf, has_leaf_branch, first_blank_leaf, first_blank_blank_leaf, first_blank_branch, members_leaf, members_blank_leaf, members_branch}
+use Rattle.mls_term.specs.Equations.{has_leaf_leaf, has_leaf_branch, is_full_width_leaf, is_full_width_branch, first_blank_leaf, first_blank_blank_leaf, first_blank_branch, members_leaf, members_blank_leaf, members_branch}
 use Rattle.mls_array.proofs.Readings.{leaf_term, left_side, right_side, InParts}
 
 module _ (h : ℕ) (xs : List (Option Node)) (n : Option Node) (low : h ≡ 0) (all : length xs ≡ nodes_in h) (is : n ≡ get_or xs 0 n) where
@@ -25,6 +25,12 @@ module _ (h : ℕ) (xs : List (Option Node)) (n : Option Node) (low : h ≡ 0) (
 
   pub taken_leaf : (v : LeafNode) → Some v ≡ leaf_in n → has_leaf (term_of h xs) ≡ true
   taken_leaf v some = ap has_leaf (term_some v some) ∙ has_leaf_leaf (Some v)
+
+  pub full_leaf : (v : LeafNode) → Some v ≡ leaf_in n → is_full_width (term_of h xs) ≡ true
+  full_leaf v some = ap is_full_width (term_some v some) ∙ is_full_width_leaf (Some v)
+
+  pub empty_leaf : None ≡ leaf_in n → is_full_width (term_of h xs) ≡ false
+  empty_leaf none = ap is_full_width (term_none none) ∙ is_full_width_leaf None
 
   pub no_leaf : None ≡ leaf_in n → has_leaf (term_of h xs) ≡ false
   no_leaf none = ap has_leaf (term_none none) ∙ has_leaf_leaf None
@@ -44,6 +50,9 @@ module _ (h m : ℕ) (xs : List (Option Node)) (n : Option Node) (parts : InPart
 
   pub leaf_sides : has_leaf (term_of h xs) ≡ (has_leaf (left_side h m xs) || has_leaf (right_side h m xs))
   leaf_sides = ap has_leaf parts.is ∙ has_leaf_branch (parent_in n) (left_side h m xs) (right_side h m xs)
+
+  pub full_sides : is_full_width (term_of h xs) ≡ has_leaf (right_side h m xs)
+  full_sides = ap is_full_width parts.is ∙ is_full_width_branch (parent_in n) (left_side h m xs) (right_side h m xs)
 
   pub member_sides : (b : ℕ) → length (members b (term_of h xs)) ≡ length (members b (left_side h m xs)) + length (members (b + (m / 2 + 1)) (right_side h m xs))
   member_sides b =

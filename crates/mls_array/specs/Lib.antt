@@ -1,2 +1,4 @@
 pub mod Standing
 pub mod OrderLaws
+pub mod Cells
+pub mod StandingLaws

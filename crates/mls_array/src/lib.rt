@@ -5,16 +5,20 @@
 //! for. `first` is the number of the tree's first leaf, which the definitions carry along in the same way.
 #![tactic(auto)]
 
+mod edits;
 mod lookup;
 mod members;
 mod order;
 mod path;
 mod places;
 mod resolutions;
+mod sizes;
 
+pub use edits::{enter, put};
 pub use lookup::{leaf, node};
-pub use members::{first_blank, has_leaf, member_count};
+pub use members::{first_blank, has_leaf, is_full_width, member_count};
 pub use order::{alternates, has_last, height_for, pad, to_nodes};
 pub use path::filtered_path;
 pub use places::{leaf_in, parent_in};
 pub use resolutions::{is_reached, resolution, resolution_at};
+pub use sizes::{grow, trim};

@@ -3,7 +3,7 @@
 ghost use Rattle.std.specs.Prelude.{◌≡◌, ℕ, ◌+◌, ◌^◌, ◌≤◌, length};
 ghost use Rattle.mls_treemath.specs.Paths.{nodes_in};
 ghost use Rattle.mls_treemath.specs.Limits.{max_height};
-ghost use Rattle.mls_term.specs.Term.{has_leaf};
+ghost use Rattle.mls_term.specs.Term.{has_leaf, is_full_width};
 ghost use Rattle.mls_term.specs.Edits.{first_blank};
 ghost use Rattle.mls_term.specs.Keys.{members};
 ghost use Rattle.mls_term.specs.Arrays.{term_of};
@@ -47,6 +47,22 @@ pub fn has_leaf(nodes: &[Option<Node>], height: u32) -> bool
     let middle = middle_of(nodes.len(), height);
     let left = has_leaf(&nodes[..middle], height - 1);
     left || has_leaf(&nodes[middle + 1..], height - 1)
+}
+
+/// Whether no smaller tree would do: the right half has a member, or the only leaf is one.
+#[tactic(auto, using(mls_treemath::specs::Sizes::nodes_in_pos))]
+pub fn is_full_width(nodes: &[Option<Node>], height: u32) -> bool
+    requires shape { length nodes.now ≡ nodes_in height }
+    ensures { result ≡ is_full_width (term_of height nodes.now) }
+{
+    if height == 0 {
+        return match leaf_in(&nodes[0]) {
+            Some(_) => true,
+            None => false,
+        };
+    }
+    let middle = middle_of(nodes.len(), height);
+    has_leaf(&nodes[middle + 1..], height - 1)
 }
 
 /// How many members the tree has.

@@ -1,6 +1,6 @@
 //! Parents.
 
-ghost use Rattle.std.specs.Prelude.{◌≡◌, ℕ, ◌+◌, ◌<◌, ◌≤◌, Bool, true, false, List, length, Result, MatchResult, MatchOption, IfOk, IsOk, insert};
+ghost use Rattle.std.specs.Prelude.{◌≡◌, ℕ, ◌+◌, ◌<◌, ◌≤◌, ◌==◌, Bool, true, false, not, List, length, filter, Result, MatchResult, MatchOption, IfOk, IsOk, insert};
 ghost use Rattle.mls_wire.specs.CombineLaws.{forgotten};
 ghost use Rattle.mls_wire.specs.Stateful.{run_at, vector_from};
 ghost use Rattle.mls_leaf.specs.declared.error.LeafError.TheVariants.{NotRising};
@@ -183,6 +183,13 @@ impl ParentNode {
             self.unmerged_leaves.insert(place, leaf)?;
         }
         Ok(())
+    }
+
+    /// Takes a leaf out of the unmerged ones, which takes no memory.
+    pub fn remove_unmerged(&mut self, leaf: u32)
+        ensures { self.new ≡ record self.old { unmerged_leaves = filter (λ u. not (u == leaf)) self.old.unmerged_leaves } }
+    {
+        self.unmerged_leaves.retain(|entry| *entry != leaf);
     }
 }
 

@@ -1,0 +1,47 @@
+//! The size of a tree: halved where its right half has no member, or doubled.
+
+ghost use Rattle.std.specs.Prelude.{◌≡◌, ◌≤◌, ◌<◌, length, OnOk, OnErr};
+ghost use Rattle.mls_treemath.specs.Limits.{max_height};
+ghost use Rattle.mls_treemath.specs.Paths.{nodes_in};
+ghost use Rattle.mls_term.specs.Edits.{grow, trim};
+ghost use Rattle.mls_term.specs.Arrays.{term_of, in_order};
+ghost use Rattle.mls_array.specs.Standing.{Stands};
+
+use crate::members::has_leaf;
+use crate::places::middle_of;
+use mls_leaf::Node;
+use std::alloc::AllocError;
+
+/// Keeps the left half alone as long as the right half has no member, and answers the height (RFC 9420, 7.7). Takes no
+/// memory.
+pub fn trim(nodes: &mut Vec<Option<Node>>, height: u32) -> u32
+    requires { Stands height nodes.old.items }
+    ensures order { nodes.new.items ≡ in_order (trim (term_of height nodes.old.items)) }
+    ensures shape { length nodes.new.items ≡ nodes_in result }
+    ensures low { result ≤ height }
+{
+    if height == 0 {
+        return 0;
+    }
+    let middle = middle_of(nodes.len(), height);
+    if has_leaf(&nodes[middle + 1..], height - 1) {
+        return height;
+    }
+    nodes.truncate(middle);
+    trim(nodes, height - 1)
+}
+
+/// Twice the leaves: a blank root, the tree on its left, blank nodes on its right (RFC 9420, 7.7).
+pub fn grow(nodes: &mut Vec<Option<Node>>, height: u32) -> Result<(), AllocError>
+    requires stands { Stands height nodes.old.items }
+    requires low { height < max_height }
+    ensures ok { OnOk result (nodes.new.items ≡ in_order (grow (term_of height nodes.old.items))) }
+    ensures err { OnErr result (nodes.new.items ≡ nodes.old.items) }
+{
+    let count = nodes.len();
+    nodes.reserve(count + 1)?;
+    for _ in 0..count + 1 {
+        nodes.push_reserved(None);
+    }
+    Ok(())
+}
