@@ -4,6 +4,8 @@
 mod checks;
 mod error;
 mod leaf;
+#[cfg(test)]
+mod tests;
 
 pub use checks::{Source, key_package, replaced};
 pub use error::CheckError;
