@@ -1,0 +1,36 @@
+-- The checks in order: of a key package, and of a leaf that replaces another.
+use Rattle.std.specs.Prelude.{ℕ, ◌==◌, Bool, ◌&&◌, not, List, [], Result, codes}
+use Rattle.std.specs.Str.{bytes_eq}
+use Rattle.mls_wire.specs.Checks.{Passed, require, ◌>>◌}
+use Rattle.mls_wire.specs.Reading.{◌>>=◌}
+use Rattle.mls_leaf.specs.declared.leaf.LeafNode.{LeafNode}
+use Rattle.mls_leaf.specs.declared.key_package.KeyPackage.{KeyPackage}
+use Rattle.mls_leaf.specs.Inputs.{key_package_tbs}
+use Rattle.mls_suite.specs.Crypto.{Crypto}
+use Rattle.mls_suite.specs.Labels.{verify_with_label}
+use Rattle.mls_checks.specs.declared.checks.Source.{Source}
+use Rattle.mls_checks.specs.Leaf.{is_signed, is_capable, is_of_key_package, is_of, has_identity_of}
+
+-- whether the key package's signature is its own, by the leaf's signature key (RFC 9420, 10)
+unfoldable pub is_package_signed : Crypto → KeyPackage → Bool
+is_package_signed c p = verify_with_label c p.leaf_node.signature_key (codes "KeyPackageTBS") (key_package_tbs p) p.signature
+
+-- the checks of a key package (RFC 9420, 7.3 and 10.1)
+unfoldable pub key_package_checks : Crypto → KeyPackage → Result Passed ℕ
+key_package_checks c p = do
+  require 50 (is_of_key_package p.leaf_node.source)
+  require 51 (is_signed c [] 0 p.leaf_node)
+  require 52 (is_capable c.number p.leaf_node)
+  require 55 (p.cipher_suite == c.number)
+  require 56 (is_package_signed c p)
+  require 57 (not (bytes_eq p.init_key p.leaf_node.encryption_key))
+  require 36 (c.key_ok p.init_key && c.key_ok p.leaf_node.encryption_key)
+
+-- the checks of a leaf that was made for an update or a commit, and of the leaf that it replaces (RFC 9420, 7.3)
+unfoldable pub replaced_checks : Crypto → LeafNode → LeafNode → Source → List ℕ → ℕ → Result Passed ℕ
+replaced_checks c new old source group index = do
+  require 50 (is_of source new.source)
+  require 51 (is_signed c group index new)
+  require 52 (is_capable c.number new)
+  require 53 (has_identity_of old new)
+  require 54 (not (bytes_eq new.encryption_key old.encryption_key))

@@ -1,0 +1,44 @@
+-- What is asked of one leaf.
+use Rattle.std.specs.Prelude.{ℕ, ◌==◌, Bool, true, false, ◌&&◌, not, List, codes}
+use Rattle.std.specs.List.{list_any}
+use Rattle.std.specs.Str.{bytes_eq}
+use Rattle.mls_leaf.specs.declared.leaf.LeafNode.{LeafNode}
+use Rattle.mls_leaf.specs.declared.leaf.LeafSource.{LeafSource}
+use Rattle.mls_leaf.specs.declared.leaf.LeafSource.TheVariants.{KeyPackage as by_key_package, Update as by_update, Commit as by_commit}
+use Rattle.mls_leaf.specs.Inputs.{leaf_node_tbs}
+use Rattle.mls_suite.specs.Crypto.{Crypto}
+use Rattle.mls_suite.specs.Labels.{verify_with_label}
+use Rattle.mls_checks.specs.declared.checks.Source.{Source}
+use Rattle.mls_checks.specs.declared.checks.Source.TheVariants.{Update, Commit}
+
+-- whether the leaf's signature is its own, in a group and at a leaf index (RFC 9420, 7.2); for a leaf of a key package
+-- these two do not count
+unfoldable pub is_signed : Crypto → List ℕ → ℕ → LeafNode → Bool
+is_signed c group index v = verify_with_label c v.signature_key (codes "LeafNodeTBS") (leaf_node_tbs v group index) v.signature
+
+-- whether a list of the capabilities has this entry (RFC 9420, 7.2)
+abbrev pub lists : List ℕ → ℕ → Bool
+lists entries x = list_any (λ y. y == x) entries
+
+-- whether the leaf lists version 1, the suite and credential 1 (RFC 9420, 7.2)
+unfoldable pub is_capable : ℕ → LeafNode → Bool
+is_capable suite v = lists v.capabilities.versions 1 && lists v.capabilities.cipher_suites suite && lists v.capabilities.credentials 1
+
+-- whether the leaf was made for a key package (RFC 9420, 7.2)
+abbrev pub is_of_key_package : LeafSource → Bool
+is_of_key_package (by_key_package before after) = true
+is_of_key_package by_update = false
+is_of_key_package (by_commit hash) = false
+
+-- whether the leaf was made for an update, or for a commit (RFC 9420, 7.2)
+abbrev pub is_of : Source → LeafSource → Bool
+is_of Update (by_key_package before after) = false
+is_of Update by_update = true
+is_of Update (by_commit hash) = false
+is_of Commit (by_key_package before after) = false
+is_of Commit by_update = false
+is_of Commit (by_commit hash) = true
+
+-- whether both leaves have one signature key and one credential (RFC 9420, 7.3)
+unfoldable pub has_identity_of : LeafNode → LeafNode → Bool
+has_identity_of old new = bytes_eq new.signature_key old.signature_key && bytes_eq new.credential.identity old.credential.identity

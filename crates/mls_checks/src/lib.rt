@@ -1,0 +1,12 @@
+//! Checks of one leaf or one key package (RFC 9420, 7.2, 7.3 and 10.1), each with the number of the first that fails.
+#![tactic(auto)]
+
+mod checks;
+mod error;
+mod leaf;
+#[cfg(test)]
+mod tests;
+
+pub use checks::{Source, key_package, replaced};
+pub use error::CheckError;
+pub use leaf::{leaf_capable, leaf_signed};

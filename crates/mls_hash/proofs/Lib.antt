@@ -1,0 +1,4 @@
+pub mod Feeding
+pub mod Found
+pub mod Headers
+pub mod Parents
