@@ -11,3 +11,4 @@ pub mod Puts
 pub mod Listings
 pub mod Entries
 pub mod Widths
+pub mod Hashed

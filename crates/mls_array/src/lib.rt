@@ -6,6 +6,7 @@
 #![tactic(auto)]
 
 mod edits;
+mod hashes;
 mod lookup;
 mod members;
 mod order;
@@ -15,9 +16,10 @@ mod resolutions;
 mod sizes;
 
 pub use edits::{enter, put};
+pub use hashes::tree_hash;
 pub use lookup::{leaf, node};
 pub use members::{first_blank, has_leaf, is_full_width, member_count};
-pub use order::{alternates, has_last, height_for, pad, to_nodes};
+pub use order::{alternates, has_last, height_for, pad, pad_tree, to_nodes};
 pub use path::filtered_path;
 pub use places::{leaf_in, parent_in};
 pub use resolutions::{is_reached, resolution, resolution_at};

@@ -1,7 +1,7 @@
 //! Lists of nodes from outside, and as they are sent (RFC 9420, 12.4.3.3).
 
 ghost use Rattle.std.specs.Prelude.{◌≡◌, ◌-◌, ◌≤◌, true, ◌++◌, length, take, replicate, None, OnOk, OnErr, IfOk, IsOk};
-ghost use Rattle.mls_term.specs.Arrays.{cut, has_last, may_stand, alternates, height_for};
+ghost use Rattle.mls_term.specs.Arrays.{cut, has_last, may_stand, alternates, height_for, padded};
 
 use mls_leaf::Node;
 use std::alloc::{AllocError, Global};
@@ -43,7 +43,8 @@ pub fn alternates(nodes: &[Option<Node>]) -> bool
 
 /// The least height of a tree with at least `len` nodes.
 pub fn height_for(len: usize) -> u32
-    ensures { result ≡ height_for len }
+    ensures value { result ≡ height_for len }
+    ensures low { result ≤ 63 }
 {
     if len == 0 {
         return 0;
@@ -63,6 +64,19 @@ pub fn pad(nodes: &mut Vec<Option<Node>>, to: usize) -> Result<(), AllocError>
         nodes.push_reserved(None);
     }
     Ok(())
+}
+
+/// Adds blank nodes up to the least tree that holds all, and answers its height. Without memory for it all stays as it
+/// was.
+pub fn pad_tree(nodes: &mut Vec<Option<Node>>) -> Result<u32, AllocError>
+    ensures height { IfOk result (λ h. h ≡ height_for (length nodes.old.items)) }
+    ensures ok { OnOk result (nodes.new.items ≡ padded nodes.old.items) }
+    ensures err { OnErr result (nodes.new.items ≡ nodes.old.items) }
+{
+    let height = height_for(nodes.as_slice().len());
+    let leaves = 1usize << height;
+    pad(nodes, leaves - 1 + leaves)?;
+    Ok(height)
 }
 
 /// How many nodes there are up to the last one that isn't blank.

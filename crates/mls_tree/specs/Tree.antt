@@ -1,0 +1,54 @@
+-- A public tree as a value, and what its calls answer.
+use Rattle.std.specs.Prelude.{◌≡◌, ℕ, ◌^◌, ◌==◌, Bool, true, false, nat_lt, if◌then◌else◌, List, Option, Some, None, Result, Ok, Err}
+use Rattle.mls_wire.specs.Checks.{given, require, ◌>>◌}
+use Rattle.mls_wire.specs.Reading.{◌>>=◌}
+use Rattle.mls_leaf.specs.declared.node.Node.{Node}
+use Rattle.mls_leaf.specs.declared.leaf.LeafNode.{LeafNode}
+use Rattle.mls_treemath.specs.Limits.{max_height}
+use Rattle.mls_term.specs.Term.{Term, leaf_of, width}
+use Rattle.mls_term.specs.Edits.{first_blank, add, update, remove, place_in}
+use Rattle.mls_term.specs.Way.{filtered_path}
+use Rattle.mls_term.specs.Arrays.{term_of}
+
+-- the nodes in order, and the height
+pub record Tree : Type 0 where
+  pub levels : ℕ
+  pub listing : List (Option Node)
+
+-- the tree that it stands for (RFC 9420, 7.1)
+abbrev pub term : Tree → Term
+term t = term_of t.levels t.listing
+
+-- the most leaves of a tree
+abbrev pub max_leaves : ℕ
+max_leaves = 2 ^ max_height
+
+-- the leaf in a place, where 22 says that there is none
+abbrev pub member_at : Term → ℕ → Result LeafNode ℕ
+member_at t i = given 22 (leaf_of t i)
+
+-- the filtered direct path of a member (RFC 9420, 4.1.2)
+unfoldable pub path_answer : Term → ℕ → Result (List ℕ) ℕ
+path_answer t i = member_at t i >>= λ v. Ok (filtered_path 0 t i)
+
+-- what adding a leaf answers, and the tree after it (RFC 9420, 12.1.1): 21 where the largest tree has no blank leaf
+abbrev pub room_answer : Term → LeafNode → Option ℕ → Bool → Result (ℕ × Term) ℕ
+room_answer t x (Some i) is_largest = Ok (i, add t x)
+room_answer t x None true = Err 21
+room_answer t x None false = Ok (place_in t, add t x)
+
+unfoldable pub add_answer : Term → LeafNode → Result (ℕ × Term) ℕ
+add_answer t x = room_answer t x (first_blank 0 t) (width t == max_leaves)
+
+-- an update of a member's leaf (RFC 9420, 12.1.2)
+unfoldable pub update_answer : Term → ℕ → LeafNode → Result Term ℕ
+update_answer t i x = member_at t i >>= λ v. Ok (update t i x)
+
+-- a removal of a member (RFC 9420, 12.1.3)
+unfoldable pub remove_answer : Term → ℕ → Result Term ℕ
+remove_answer t i = member_at t i >>= λ v. Ok (remove t i)
+
+-- A call that may change a tree does what the definition says, and takes no memory: after a refusal the tree is as before.
+abbrev pub Changes : {E : Type 0} → (E → ℕ) → Result Term ℕ → Term → Term → Result (Unit {0}) E → Type 0
+Changes number defined old new (Ok _) = defined ≡ Ok new
+Changes number defined old new (Err e) = (new ≡ old) × (defined ≡ Err (number e))

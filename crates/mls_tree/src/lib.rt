@@ -1,0 +1,14 @@
+//! The public ratchet tree of a group (RFC 9420, sections 4 and 7).
+//!
+//! A [`PublicTree`] is one array of nodes in order. To its callers it is the tree that the array stands for, a
+//! recursive term: each call answers a function of that term, or makes one of the edits of it. A leaf is named by its
+//! leaf index, a node by its node index (RFC 9420, appendix C).
+#![tactic(auto)]
+
+mod error;
+#[cfg(test)]
+mod tests;
+mod tree;
+
+pub use error::TreeError;
+pub use tree::PublicTree;

@@ -1,0 +1,124 @@
+use crate::{PublicTree, TreeError};
+use mls_leaf::{Bytes, Capabilities, Credential, Items, LeafNode, LeafSource, Node, ParentNode};
+use std::alloc::{AllocError, Global};
+use std::test::*;
+
+fn numbers(alloc: Global) -> Items<u16> {
+    Items::from_vec(Vec::new(alloc))
+}
+
+fn byte(alloc: Global, b: u8) -> Result<Bytes, AllocError> {
+    let mut bytes = Vec::new(alloc);
+    bytes.push(b)?;
+    Ok(Bytes::from_vec(bytes))
+}
+
+/// A leaf with this byte as its encryption key.
+fn leaf(alloc: Global, key: u8) -> Result<LeafNode, AllocError> {
+    Ok(LeafNode {
+        encryption_key: byte(alloc, key)?,
+        signature_key: byte(alloc, key)?,
+        credential: Credential {
+            identity: byte(alloc, key)?,
+        },
+        capabilities: Capabilities {
+            versions: numbers(alloc),
+            cipher_suites: numbers(alloc),
+            extensions: numbers(alloc),
+            proposals: numbers(alloc),
+            credentials: numbers(alloc),
+        },
+        source: LeafSource::Update,
+        signature: byte(alloc, key)?,
+    })
+}
+
+/// The nodes of a tree, up to the last leaf that is taken: its leaves as listed.
+fn nodes_of(alloc: Global, taken: &[bool]) -> Result<Vec<Option<Node>>, AllocError> {
+    let mut nodes = Vec::new(alloc);
+    for is_taken in taken {
+        if !nodes.is_empty() {
+            nodes.push(None)?;
+        }
+        if *is_taken {
+            nodes.push(Some(Node::Leaf(leaf(alloc, 1)?)))?;
+        } else {
+            nodes.push(None)?;
+        }
+    }
+    Ok(nodes)
+}
+
+fn tree_of(alloc: Global, taken: &[bool]) -> Result<PublicTree, TreeError> {
+    PublicTree::from_nodes(nodes_of(alloc, taken)?)
+}
+
+/// A parent that lists one leaf.
+fn listing(alloc: Global, leaf: u32) -> Result<Option<Node>, AllocError> {
+    let mut leaves = Vec::new(alloc);
+    leaves.push(leaf)?;
+    let parent = ParentNode::new(byte(alloc, 9)?, byte(alloc, 9)?, Items::from_vec(leaves));
+    Ok(parent.ok().map(Node::Parent))
+}
+
+#[test]
+fn unmerged_leaves_are_in_the_resolution(rt: HostRuntime) -> Result<(), Fail> {
+    let alloc = rt.alloc();
+    let mut nodes = nodes_of(alloc, &[true, false, true, true])?;
+    nodes[5] = listing(alloc, 3)?;
+    let tree = PublicTree::from_nodes(nodes)?;
+    assert_eq!(rt; tree.resolution(3)?.as_slice(), [0, 5, 6].as_slice());
+    assert_eq!(rt; tree.resolution(7)?.len(), 0);
+    Ok(())
+}
+
+#[test]
+fn adds_go_to_the_leftmost_blank_leaf(rt: HostRuntime) -> Result<(), Fail> {
+    let alloc = rt.alloc();
+    let mut tree = tree_of(alloc, &[true, false, true, true])?;
+    assert_eq!(rt; tree.filtered_path(0)?.as_slice(), [3].as_slice());
+    assert!(rt; matches!(tree.filtered_path(1), Err(TreeError::NoSuchLeaf)));
+    assert_eq!(rt; tree.add(leaf(alloc, 2)?)?, 1);
+    assert_eq!(rt; tree.add(leaf(alloc, 3)?)?, 4);
+    assert_eq!(rt; (tree.leaf_count(), tree.member_count()), (8, 5));
+    Ok(())
+}
+
+/// How many leaves are left after a removal.
+fn leaves_without(alloc: Global, taken: &[bool], i: u32) -> Result<u32, TreeError> {
+    let mut tree = tree_of(alloc, taken)?;
+    tree.remove(i)?;
+    Ok(tree.leaf_count())
+}
+
+#[test]
+fn removals_halve(rt: HostRuntime) -> Result<(), Fail> {
+    let alloc = rt.alloc();
+    assert_eq!(rt; leaves_without(alloc, &[true, true, true, true, true], 4)?, 4);
+    assert_eq!(rt; leaves_without(alloc, &[true, true, true, true], 3)?, 4);
+    assert_eq!(rt; leaves_without(alloc, &[true, false, false, false, true], 4)?, 1);
+    Ok(())
+}
+
+#[test]
+fn shapes_that_no_tree_has(rt: HostRuntime) -> Result<(), Fail> {
+    let alloc = rt.alloc();
+    assert!(rt; matches!(tree_of(alloc, &[]), Err(TreeError::TreeShape)));
+    assert!(rt; matches!(tree_of(alloc, &[false]), Err(TreeError::TreeShape)));
+    assert!(rt; matches!(tree_of(alloc, &[true, false]), Err(TreeError::TreeShape)));
+    Ok(())
+}
+
+#[test]
+fn a_full_tree(rt: HostRuntime) -> Result<(), Fail> {
+    let alloc = rt.alloc();
+    let mut tree = PublicTree::single(alloc, leaf(alloc, 0)?)?;
+    for _ in 1..4096 {
+        tree.add(leaf(alloc, 0)?)?;
+    }
+    assert_eq!(rt; (tree.leaf_count(), tree.member_count()), (4096, 4096));
+    assert!(rt; matches!(tree.add(leaf(alloc, 0)?), Err(TreeError::TreeFull)));
+    assert_eq!(rt; (tree.leaf_count(), tree.member_count()), (4096, 4096));
+    assert_eq!(rt; tree.to_nodes()?.len(), 8191);
+    Ok(())
+}

@@ -1,0 +1,181 @@
+//! The public tree.
+
+ghost use Rattle.std.specs.Prelude.{◌≡◌, ◌^◌, Some, IfOk, length};
+ghost use Rattle.std.specs.Option.{option_copied};
+ghost use Rattle.mls_wire.specs.Checks.{Answers, DoesAs};
+ghost use Rattle.mls_term.specs.Term.{Leaf, leaf_of, width};
+ghost use Rattle.mls_term.specs.Places.{resolution_at};
+ghost use Rattle.mls_term.specs.Keys.{members};
+ghost use Rattle.mls_term.specs.Arrays.{from_nodes, to_nodes, node_at};
+ghost use Rattle.mls_tree.specs.Faults.{number_of};
+ghost use Rattle.mls_tree.specs.Tree.{term, max_leaves, path_answer, add_answer, update_answer, remove_answer, Changes};
+
+use crate::error::TreeError;
+use mls_array as array;
+use mls_leaf::{LeafNode, Node};
+use mls_treemath::MAX_HEIGHT;
+use std::alloc::{AllocError, Global};
+use std::marker::Model;
+
+/// The public tree of a group: at most 4,096 leaves, a power of two, each a member or blank, and the parents over them.
+/// Its methods use the allocator that it was made with.
+#[derive(Drop)]
+pub struct PublicTree {
+    nodes: Vec<Option<Node>>,
+    height: u32,
+}
+
+impl Model for PublicTree {
+    ghost use Rattle.std.specs.Prelude.{◌≤◌};
+    ghost use Rattle.mls_treemath.specs.Limits.{max_height};
+    ghost use Rattle.mls_array.specs.Standing.{Stands};
+    ghost use Rattle.mls_tree.specs.Tree.{Tree};
+
+    ghost Value = { Tree };
+
+    ghost view = { λ t. record { levels = t.height; listing = t.nodes.items } };
+
+    ghost invariant = { λ t. Stands t.height t.nodes.items × (t.height ≤ max_height) };
+}
+
+impl PublicTree {
+    /// The tree of one member.
+    pub fn single(alloc: Global, leaf: LeafNode) -> Result<PublicTree, AllocError>
+        ensures { IfOk result (λ t. term t ≡ Leaf (Some leaf)) }
+    {
+        let mut nodes = Vec::with_capacity(alloc, 1)?;
+        nodes.push(Some(Node::Leaf(leaf)))?;
+        Ok(PublicTree { nodes, height: 0 })
+    }
+
+    /// The tree of nodes in order, as it is sent (RFC 9420, 12.4.3.3): blank nodes follow up to the least tree that
+    /// holds them. Refused with `TreeShape` (20) where there are no nodes, the last one is blank, a leaf is at an odd or
+    /// a parent at an even place, or more than one leaf and no member in the right half; then with `TreeFull` (21)
+    /// above 4,096 leaves.
+    pub fn from_nodes(nodes: Vec<Option<Node>>) -> Result<PublicTree, TreeError>
+        ensures { Answers term number_of (from_nodes max_leaves nodes.items) result }
+    {
+        if !array::has_last(&nodes) || !array::alternates(&nodes) {
+            return Err(TreeError::TreeShape);
+        }
+        let height = array::height_for(nodes.len());
+        let mut nodes = nodes;
+        array::pad(&mut nodes, height)?;
+        if !array::is_full_width(&nodes, height) {
+            return Err(TreeError::TreeShape);
+        }
+        if height > MAX_HEIGHT {
+            return Err(TreeError::TreeFull);
+        }
+        Ok(PublicTree { nodes, height })
+    }
+
+    /// The nodes in order, as they are sent: all up to the last one that isn't blank (RFC 9420, 12.4.3.3).
+    pub fn to_nodes(&self) -> Result<Vec<Option<Node>>, AllocError>
+        ensures { IfOk result (λ v. v.items ≡ to_nodes (term self.now)) }
+    {
+        array::to_nodes(*self.nodes.allocator(), &self.nodes)
+    }
+
+    /// How many leaves it has, blank ones too.
+    pub fn leaf_count(&self) -> u32
+        ensures { result ≡ width (term self.now) }
+    {
+        1 << self.height
+    }
+
+    /// How many members it has.
+    pub fn member_count(&self) -> u32
+        ensures { result ≡ length (members 0 (term self.now)) }
+    {
+        array::member_count(&self.nodes, self.height)
+    }
+
+    /// The leaf of member i: None where it is blank or outside the tree.
+    pub fn leaf(&self, i: u32) -> Option<&LeafNode>
+        ensures { option_copied result ≡ leaf_of (term self.now) i }
+    {
+        array::leaf(&self.nodes, self.height, i)
+    }
+
+    /// Node x: None where it is blank or outside the tree.
+    pub fn node(&self, x: u32) -> Option<&Node>
+        ensures { option_copied result ≡ node_at 0 (term self.now) x }
+    {
+        array::node(&self.nodes, self.height, x)
+    }
+
+    /// The resolution of node x, as node indices (RFC 9420, 4.1.1); empty where the tree has no such node. An entry of
+    /// a list of unmerged leaves is any u32, so node indices are wider.
+    pub fn resolution(&self, x: u32) -> Result<Vec<u64>, AllocError>
+        ensures { IfOk result (λ v. v.items ≡ resolution_at 0 (term self.now) x) }
+    {
+        let mut nodes = Vec::new(*self.nodes.allocator());
+        array::resolution_at(&self.nodes, self.height, 0, x, &mut nodes)?;
+        Ok(nodes)
+    }
+
+    /// The filtered direct path of member i as node indices, the lowest first (RFC 9420, 4.1.2); `NoSuchLeaf` (22)
+    /// where no member is there.
+    pub fn filtered_path(&self, i: u32) -> Result<Vec<u32>, TreeError>
+        ensures { Answers (λ v. v.items) number_of (path_answer (term self.now) i) result }
+    {
+        if self.leaf(i).is_none() {
+            return Err(TreeError::NoSuchLeaf);
+        }
+        let mut nodes = Vec::new(*self.nodes.allocator());
+        array::filtered_path(&self.nodes, self.height, 0, i, &mut nodes)?;
+        Ok(nodes)
+    }
+
+    /// Adds a member at the leftmost blank leaf, in a tree of twice the leaves where none is blank, and answers its leaf
+    /// index (RFC 9420, 12.1.1). The largest tree with no blank leaf is refused with `TreeFull` (21).
+    pub fn add(&mut self, leaf: LeafNode) -> Result<u32, TreeError>
+        ensures { DoesAs (λ i. i) number_of (add_answer (term self.old) leaf) (term self.old) (term self.new) result }
+    {
+        let height = self.height;
+        match array::first_blank(&self.nodes, height, 0) {
+            Some(i) => {
+                array::enter(&mut self.nodes, height, 0, i, leaf)?;
+                Ok(i)
+            }
+            None => {
+                if height == MAX_HEIGHT {
+                    return Err(TreeError::TreeFull);
+                }
+                array::grow(&mut self.nodes, height)?;
+                self.height = height + 1;
+                let i = 1 << height;
+                array::put(&mut self.nodes, height + 1, 0, i, Some(leaf));
+                Ok(i)
+            }
+        }
+    }
+
+    /// Replaces the leaf of member i and blanks the parents over it (RFC 9420, 12.1.2); `NoSuchLeaf` (22) where no
+    /// member is there. Takes no memory.
+    pub fn update(&mut self, i: u32, leaf: LeafNode) -> Result<(), TreeError>
+        ensures { Changes number_of (update_answer (term self.old) i leaf) (term self.old) (term self.new) result }
+    {
+        if self.leaf(i).is_none() {
+            return Err(TreeError::NoSuchLeaf);
+        }
+        let height = self.height;
+        array::put(&mut self.nodes, height, 0, i, Some(leaf));
+        Ok(())
+    }
+
+    /// Blanks the leaf of member i and the parents over it, and halves the tree as long as its right half has no member
+    /// (RFC 9420, 12.1.3); `NoSuchLeaf` (22) where no member is there. Takes no memory.
+    pub fn remove(&mut self, i: u32) -> Result<(), TreeError>
+        ensures { Changes number_of (remove_answer (term self.old) i) (term self.old) (term self.new) result }
+    {
+        if self.leaf(i).is_none() {
+            return Err(TreeError::NoSuchLeaf);
+        }
+        let height = self.height;
+        array::put(&mut self.nodes, height, 0, i, None);
+        self.height = array::trim(&mut self.nodes, height);
+        Ok(())
+    }
+}
