@@ -17,6 +17,7 @@ mod sizes;
 
 pub use edits::{enter, put};
 pub use hashes::tree_hash;
+pub use mls_hash::Hash;
 pub use lookup::{leaf, node};
 pub use members::{first_blank, has_leaf, is_full_width, member_count};
 pub use order::{alternates, has_last, height_for, pad, pad_tree, to_nodes};

@@ -11,4 +11,5 @@ mod tests;
 mod tree;
 
 pub use error::TreeError;
+pub use mls_array::Hash;
 pub use tree::PublicTree;

@@ -6,12 +6,13 @@ ghost use Rattle.mls_wire.specs.Checks.{Answers, DoesAs};
 ghost use Rattle.mls_term.specs.Term.{Leaf, leaf_of, width};
 ghost use Rattle.mls_term.specs.Places.{resolution_at};
 ghost use Rattle.mls_term.specs.Keys.{members};
+ghost use Rattle.mls_term.specs.Hashes.{tree_hash};
 ghost use Rattle.mls_term.specs.Arrays.{from_nodes, to_nodes, node_at};
 ghost use Rattle.mls_tree.specs.Faults.{number_of};
 ghost use Rattle.mls_tree.specs.Tree.{term, max_leaves, path_answer, add_answer, update_answer, remove_answer, Changes};
 
 use crate::error::TreeError;
-use mls_array as array;
+use mls_array::{self as array, Hash};
 use mls_leaf::{LeafNode, Node};
 use mls_treemath::MAX_HEIGHT;
 use std::alloc::{AllocError, Global};
@@ -58,9 +59,8 @@ impl PublicTree {
         if !array::has_last(&nodes) || !array::alternates(&nodes) {
             return Err(TreeError::TreeShape);
         }
-        let height = array::height_for(nodes.len());
         let mut nodes = nodes;
-        array::pad(&mut nodes, height)?;
+        let height = array::pad_tree(&mut nodes)?;
         if !array::is_full_width(&nodes, height) {
             return Err(TreeError::TreeShape);
         }
@@ -126,6 +126,14 @@ impl PublicTree {
         let mut nodes = Vec::new(*self.nodes.allocator());
         array::filtered_path(&self.nodes, self.height, 0, i, &mut nodes)?;
         Ok(nodes)
+    }
+
+    /// The tree hash (RFC 9420, 7.8).
+    pub fn tree_hash(&mut self) -> Hash
+        ensures value { result ≡ tree_hash 0 (term self.old) }
+        ensures same { term self.new ≡ term self.old }
+    {
+        array::tree_hash(&self.nodes, self.height, 0)
     }
 
     /// Adds a member at the leftmost blank leaf, in a tree of twice the leaves where none is blank, and answers its leaf
