@@ -5,6 +5,7 @@
 //! leaf index, a node by its node index (RFC 9420, appendix C).
 #![tactic(auto)]
 
+mod edits;
 mod error;
 #[cfg(test)]
 mod tests;

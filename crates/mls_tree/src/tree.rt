@@ -1,6 +1,6 @@
 //! The public tree.
 
-ghost use Rattle.std.specs.Prelude.{◌≡◌, ◌^◌, Some, IfOk, length};
+ghost use Rattle.std.specs.Prelude.{◌≡◌, ◌^◌, Some, None, IfOk, IsSome, MatchResult, length};
 ghost use Rattle.std.specs.Option.{option_copied};
 ghost use Rattle.mls_wire.specs.Checks.{Answers, DoesAs};
 ghost use Rattle.mls_term.specs.Term.{Leaf, leaf_of, width};
@@ -9,8 +9,10 @@ ghost use Rattle.mls_term.specs.Keys.{members};
 ghost use Rattle.mls_term.specs.Hashes.{tree_hash};
 ghost use Rattle.mls_term.specs.Arrays.{from_nodes, to_nodes, node_at};
 ghost use Rattle.mls_tree.specs.Faults.{number_of};
+ghost use Rattle.mls_tree.specs.declared.error.TreeError.TheVariants.{NoSuchLeaf};
 ghost use Rattle.mls_tree.specs.Tree.{term, max_leaves, path_answer, add_answer, update_answer, remove_answer, Changes};
 
+use crate::edits;
 use crate::error::TreeError;
 use mls_array::{self as array, Hash};
 use mls_leaf::{LeafNode, Node};
@@ -98,6 +100,16 @@ impl PublicTree {
         array::leaf(&self.nodes, self.height, i)
     }
 
+    /// Refuses a leaf index at which no member is.
+    fn require_member(&self, i: u32) -> Result<(), TreeError>
+        ensures { MatchResult result (λ _. IsSome (leaf_of (term self.now) i)) (λ e. (e ≡ NoSuchLeaf) × (leaf_of (term self.now) i ≡ None)) }
+    {
+        match self.leaf(i) {
+            Some(_) => Ok(()),
+            None => Err(TreeError::NoSuchLeaf),
+        }
+    }
+
     /// Node x: None where it is blank or outside the tree.
     pub fn node(&self, x: u32) -> Option<&Node>
         ensures { option_copied result ≡ node_at 0 (term self.now) x }
@@ -120,9 +132,7 @@ impl PublicTree {
     pub fn filtered_path(&self, i: u32) -> Result<Vec<u32>, TreeError>
         ensures { Answers (λ v. v.items) number_of (path_answer (term self.now) i) result }
     {
-        if self.leaf(i).is_none() {
-            return Err(TreeError::NoSuchLeaf);
-        }
+        self.require_member(i)?;
         let mut nodes = Vec::new(*self.nodes.allocator());
         array::filtered_path(&self.nodes, self.height, 0, i, &mut nodes)?;
         Ok(nodes)
@@ -144,18 +154,16 @@ impl PublicTree {
         let height = self.height;
         match array::first_blank(&self.nodes, height, 0) {
             Some(i) => {
-                array::enter(&mut self.nodes, height, 0, i, leaf)?;
+                edits::enter(&mut self.nodes, height, i, leaf)?;
                 Ok(i)
             }
             None => {
                 if height == MAX_HEIGHT {
                     return Err(TreeError::TreeFull);
                 }
-                array::grow(&mut self.nodes, height)?;
+                edits::append(&mut self.nodes, height, leaf)?;
                 self.height = height + 1;
-                let i = 1 << height;
-                array::put(&mut self.nodes, height + 1, 0, i, Some(leaf));
-                Ok(i)
+                Ok(1 << height)
             }
         }
     }
@@ -165,11 +173,9 @@ impl PublicTree {
     pub fn update(&mut self, i: u32, leaf: LeafNode) -> Result<(), TreeError>
         ensures { Changes number_of (update_answer (term self.old) i leaf) (term self.old) (term self.new) result }
     {
-        if self.leaf(i).is_none() {
-            return Err(TreeError::NoSuchLeaf);
-        }
+        self.require_member(i)?;
         let height = self.height;
-        array::put(&mut self.nodes, height, 0, i, Some(leaf));
+        edits::put(&mut self.nodes, height, i, Some(leaf));
         Ok(())
     }
 
@@ -178,12 +184,10 @@ impl PublicTree {
     pub fn remove(&mut self, i: u32) -> Result<(), TreeError>
         ensures { Changes number_of (remove_answer (term self.old) i) (term self.old) (term self.new) result }
     {
-        if self.leaf(i).is_none() {
-            return Err(TreeError::NoSuchLeaf);
-        }
+        self.require_member(i)?;
         let height = self.height;
-        array::put(&mut self.nodes, height, 0, i, None);
-        self.height = array::trim(&mut self.nodes, height);
+        edits::put(&mut self.nodes, height, i, None);
+        self.height = edits::trim(&mut self.nodes, height);
         Ok(())
     }
 }
