@@ -1,5 +1,5 @@
 -- How long the values are that calls are made with.
-use Rattle.std.specs.Prelude.{ℕ, ◌<◌, ◌^◌, length}
+use Rattle.std.specs.Prelude.{◌<◌, ◌^◌, length}
 use Rattle.mls_wire.specs.Format.{Format}
 
 -- the value has a spelling, and one of fewer than 2^28 bytes

@@ -1,4 +1,3 @@
-use Rattle.std.proofs.Common.{◌≡◌}
 use Rattle.mls_leaf.specs.Inputs.{leaf_node_tbs, LeafNodeTbsFits}
 use Rattle.mls_checks.specs.Leaf.{is_signed}
 use Rattle.mls_checks.proofs.Signed.{written_or_wanting, written_is, leaf_tbs_fits, leaf_tbs_short}

@@ -1,4 +1,3 @@
-use Rattle.std.proofs.Common.{◌≡◌}
 use Rattle.mls_leaf.specs.Inputs.{key_package_tbs, KeyPackageTbsFits}
 use Rattle.mls_checks.specs.Checks.{is_package_signed}
 use Rattle.mls_checks.proofs.Signed.{written_or_wanting, written_is, package_tbs_fits, package_tbs_short}
