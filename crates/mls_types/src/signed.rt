@@ -1,5 +1,7 @@
 //! Signed contents: a framed content, and what vouches for it (RFC 9420, 6 and 6.1).
 
+ghost use Rattle.mls_wire.specs.Combine.{◌⨾◌, byte_string};
+ghost use Rattle.mls_types.specs.Commit.{commit};
 ghost use Rattle.mls_types.specs.Signed.{signed_tail, signed_content, signed_content_nonempty};
 ghost use Rattle.mls_leaf.specs.Faults.{ReadsFront, ReadsPast};
 
@@ -42,6 +44,27 @@ pub struct SignedContent {
     pub signature: Bytes,
 }
 
+/// Reads a value and the signature behind it.
+fn read_signed<T: Codec>(alloc: Global, reader: &mut Reader<'_>) -> Result<(T, Bytes), LeafError>
+    ensures { ReadsFront (T.format ⨾ byte_string) reader.old result reader.new }
+{
+    let value = T::read(alloc, reader)?;
+    let signature = Bytes::read(alloc, reader)?;
+    Ok((value, signature))
+}
+
+/// Reads a commit, the signature and the confirmation tag.
+fn read_commit(
+    alloc: Global,
+    reader: &mut Reader<'_>,
+) -> Result<(Commit, (Bytes, Bytes)), LeafError>
+    ensures { ReadsFront (commit ⨾ byte_string ⨾ byte_string) reader.old result reader.new }
+{
+    let made = Commit::read(alloc, reader)?;
+    let tags = read_signed::<Bytes>(alloc, reader)?;
+    Ok((made, tags))
+}
+
 /// Reads from the content's type on.
 #[tactic(auto, using(mls_leaf::specs::Codecs::codecs), unfolding(crate::specs::Signed::signed_tail))]
 fn read_tail(alloc: Global, reader: &mut Reader<'_>) -> Result<(SignedBody, Bytes), LeafError>
@@ -49,19 +72,15 @@ fn read_tail(alloc: Global, reader: &mut Reader<'_>) -> Result<(SignedBody, Byte
 {
     match reader.u8()? {
         1 => {
-            let data = Bytes::read(alloc, reader)?;
-            let signature = Bytes::read(alloc, reader)?;
+            let (data, signature) = read_signed::<Bytes>(alloc, reader)?;
             Ok((SignedBody::Application(data), signature))
         }
         2 => {
-            let proposal = Proposal::read(alloc, reader)?;
-            let signature = Bytes::read(alloc, reader)?;
+            let (proposal, signature) = read_signed::<Proposal>(alloc, reader)?;
             Ok((SignedBody::Proposal(proposal), signature))
         }
         3 => {
-            let commit = Commit::read(alloc, reader)?;
-            let signature = Bytes::read(alloc, reader)?;
-            let confirmation_tag = Bytes::read(alloc, reader)?;
+            let (commit, (signature, confirmation_tag)) = read_commit(alloc, reader)?;
             let body = SignedBody::Commit {
                 commit,
                 confirmation_tag,
