@@ -32,7 +32,8 @@ pub(crate) fn enter(
     ensures ok { OnOk result (StandsFor height nodes.new.items (enter 0 (term_of height nodes.old.items) i leaf)) }
     ensures err { OnErr result (nodes.new.items ≡ nodes.old.items) }
 {
-    array::enter(nodes, height, 0, i, leaf)
+    array::enter(nodes, height, 0, i, leaf)?;
+    Ok(())
 }
 
 /// Doubles the tree, and fills the first of the new leaves. The parents over it are blank.
