@@ -127,7 +127,8 @@ height_from-holds (suc more) h n fits =
     (λ e. leb-true n (nodes_in h) e)
     (λ e. height_from-holds more (suc h) n (subst (λ k. n ≤ nodes_in k) (let e : suc more + h ≡ more + suc h = omega arith in e) fits))
 
-high_enough : (h : ℕ) → h < nodes_in h
+-- a tree has more nodes than its height
+pub high_enough : (h : ℕ) → h < nodes_in h
 high_enough zero = nodes_in_pos 0
 high_enough (suc h) = let e = nodes_in-suc h in let d = high_enough h in omega arith
 

@@ -11,6 +11,8 @@ mod order;
 mod path;
 mod places;
 mod resolutions;
+#[cfg(test)]
+mod tests;
 
 pub use lookup::{leaf, node};
 pub use members::{first_blank, has_leaf, member_count};
