@@ -4,7 +4,8 @@ use Rattle.std.proofs.lemmas.List.{length-take-le, length-drop, append_assoc, ta
 use borrow.Rule.Slice.PartMut.{put_mid}
 use Rattle.mls_leaf.specs.declared.node.Node.{Node}
 use Rattle.mls_treemath.specs.Paths.{nodes_in}
-use Rattle.mls_treemath.specs.Sizes.{nodes_in-suc, nodes_in_pos}
+use Rattle.mls_treemath.specs.Sizes.{nodes_in-suc}
+pub use Rattle.mls_treemath.specs.Sizes.{nodes_in_pos}
 use Rattle.mls_term.specs.Term.{Branch}
 use Rattle.mls_term.specs.Arrays.{parent_in, term_of, HasMiddle}
 use Rattle.mls_array.proofs.Sides.{nodes_in-leaves, term_of-parts}

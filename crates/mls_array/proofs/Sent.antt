@@ -6,8 +6,9 @@ use Rattle.std.proofs.lemmas.Bool.{true≢false, cond-true, cond-false, cases_lt
 use Rattle.std.proofs.Math.Pow.{pow_mono}
 use Rattle.mls_leaf.specs.declared.node.Node.{Node}
 use Rattle.mls_treemath.specs.Paths.{nodes_in}
-use Rattle.mls_treemath.specs.Sizes.{nodes_in_pos, nodes_in-suc, nodes_in_up}
+use Rattle.mls_treemath.specs.Sizes.{nodes_in_up}
 use Rattle.mls_term.specs.Arrays.{before, cut, has_last, may_stand, alternates, height_from, height_for}
+use Rattle.mls_array.specs.OrderLaws.{high_enough}
 use Rattle.mls_array.proofs.Sides.{nodes_in-leaves}
 
 -- ---- the last node
@@ -86,10 +87,6 @@ least (suc more) j h n low high small enough =
       | inl lt ↦ omega arith
       | inr ge ↦ let z = nodes_in_up h j ge in absurd (true≢false (sym (le-leb n (nodes_in j) (omega arith)) ∙ e))
     ]
-
-high_enough : (h : ℕ) → h < nodes_in h
-high_enough zero = nodes_in_pos 0
-high_enough (suc h) = let e = nodes_in-suc h in let d = high_enough h in omega arith
 
 least_height : (h n : ℕ) → ((k : ℕ) → k < h → nodes_in k < n) → n ≤ nodes_in h → height_for n ≡ h
 unfolding height_for

@@ -6,7 +6,7 @@ use Rattle.mls_leaf.specs.declared.node.Node.{Node}
 use Rattle.mls_leaf.specs.declared.node.Node.TheVariants.{Leaf as in_leaf, Parent as in_parent}
 use Rattle.mls_treemath.specs.Paths.{nodes_in}
 use Rattle.mls_treemath.specs.Sizes.{nodes_in-zero, nodes_in-suc, nodes_in_pos}
-use Rattle.mls_term.specs.Arrays.{leaf_in, parent_in, leaf_cell, parent_cell, term_of, in_order, may_stand, alternates, height_from, height_for, padded}
+use Rattle.mls_term.specs.Arrays.{leaf_in, parent_in, leaf_cell, parent_cell, term_of, in_order, cut, to_nodes, may_stand, alternates, height_from, height_for, padded}
 use Rattle.mls_array.specs.Standing.{Stands}
 
 -- ---- cells
@@ -127,7 +127,8 @@ height_from-holds (suc more) h n fits =
     (λ e. leb-true n (nodes_in h) e)
     (λ e. height_from-holds more (suc h) n (subst (λ k. n ≤ nodes_in k) (let e : suc more + h ≡ more + suc h = omega arith in e) fits))
 
-high_enough : (h : ℕ) → h < nodes_in h
+-- a tree has more nodes than its height
+pub high_enough : (h : ℕ) → h < nodes_in h
 high_enough zero = nodes_in_pos 0
 high_enough (suc h) = let e = nodes_in-suc h in let d = high_enough h in omega arith
 
@@ -160,3 +161,8 @@ alternates-padded xs alternating =
 pub Stands-padded : (xs : List (Option Node)) → alternates true xs ≡ true → Stands (height_for (length xs)) (padded xs)
 Stands-padded xs alternating =
     Stands-from_alternating (height_for (length xs)) (padded xs) (length-padded xs) (alternates-padded xs alternating)
+
+-- what is sent of a tree
+pub to_nodes-standing : (h : ℕ) (xs : List (Option Node)) → Stands h xs → to_nodes (term_of h xs) ≡ cut xs
+unfolding to_nodes
+to_nodes-standing h xs stands = ap cut stands.order

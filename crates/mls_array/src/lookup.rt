@@ -10,7 +10,7 @@ ghost use Rattle.mls_array.specs.Standing.{Stands};
 use crate::places::leaf_in;
 use mls_leaf::{LeafNode, Node};
 
-/// Leaf `i` of a tree: None where it is blank or outside the tree.
+/// Leaf `i` of a tree of this height: None where it is blank or outside the tree.
 pub fn leaf(nodes: &[Option<Node>], height: u32, i: u32) -> Option<&LeafNode>
     requires { length nodes.now ≡ nodes_in height }
     ensures { option_copied result ≡ leaf_of (term_of height nodes.now) i }
@@ -22,7 +22,7 @@ pub fn leaf(nodes: &[Option<Node>], height: u32, i: u32) -> Option<&LeafNode>
     leaf_in(&nodes[place])
 }
 
-/// Node `x` of a tree: None where it is blank or outside the tree.
+/// Node `x` of a tree of this height: None where it is blank or outside the tree.
 pub fn node(nodes: &[Option<Node>], height: u32, x: u32) -> Option<&Node>
     requires { Stands height nodes.now }
     ensures { option_copied result ≡ node_at 0 (term_of height nodes.now) x }
