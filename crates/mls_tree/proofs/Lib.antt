@@ -1,1 +1,3 @@
 pub mod Growth
+pub mod Answering
+pub mod Singles

@@ -1,5 +1,7 @@
 //! What a tree refuses.
 
+ghost use Rattle.std.specs.Prelude.{◌≡◌};
+
 use std::alloc::{AllocError, AllocFailed};
 use thiserror::Error;
 
@@ -22,7 +24,6 @@ pub enum TreeError {
 }
 
 impl TreeError {
-    ghost use Rattle.std.specs.Prelude.{◌≡◌};
     ghost use Rattle.mls_tree.specs.Faults.{number_of, name_of};
 
     /// The number of the refusal.

@@ -76,7 +76,8 @@ impl PublicTree {
     pub fn to_nodes(&self) -> Result<Vec<Option<Node>>, AllocError>
         ensures { IfOk result (λ v. v.items ≡ to_nodes (term self.now)) }
     {
-        array::to_nodes(*self.nodes.allocator(), &self.nodes)
+        let sent = array::to_nodes(*self.nodes.allocator(), &self.nodes)?;
+        Ok(sent)
     }
 
     /// How many leaves it has, blank ones too.
@@ -132,7 +133,9 @@ impl PublicTree {
     pub fn filtered_path(&self, i: u32) -> Result<Vec<u32>, TreeError>
         ensures { Answers (λ v. v.items) number_of (path_answer (term self.now) i) result }
     {
-        self.require_member(i)?;
+        if let Err(error) = self.require_member(i) {
+            return Err(error);
+        }
         let mut nodes = Vec::new(*self.nodes.allocator());
         array::filtered_path(&self.nodes, self.height, 0, i, &mut nodes)?;
         Ok(nodes)
@@ -173,7 +176,9 @@ impl PublicTree {
     pub fn update(&mut self, i: u32, leaf: LeafNode) -> Result<(), TreeError>
         ensures { Changes number_of (update_answer (term self.old) i leaf) (term self.old) (term self.new) result }
     {
-        self.require_member(i)?;
+        if let Err(error) = self.require_member(i) {
+            return Err(error);
+        }
         let height = self.height;
         edits::put(&mut self.nodes, height, i, Some(leaf));
         Ok(())
@@ -184,7 +189,9 @@ impl PublicTree {
     pub fn remove(&mut self, i: u32) -> Result<(), TreeError>
         ensures { Changes number_of (remove_answer (term self.old) i) (term self.old) (term self.new) result }
     {
-        self.require_member(i)?;
+        if let Err(error) = self.require_member(i) {
+            return Err(error);
+        }
         let height = self.height;
         edits::put(&mut self.nodes, height, i, None);
         self.height = edits::trim(&mut self.nodes, height);
