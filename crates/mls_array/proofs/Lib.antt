@@ -5,3 +5,4 @@ pub mod Puts
 pub mod Listings
 pub mod Entries
 pub mod Widths
+pub mod Settings

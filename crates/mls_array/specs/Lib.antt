@@ -1,3 +1,5 @@
 pub mod Standing
 pub mod Cells
 pub mod StandingLaws
+pub mod Merging
+pub mod MergeLaws

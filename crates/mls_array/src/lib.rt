@@ -6,9 +6,11 @@
 #![tactic(auto)]
 
 mod edits;
+mod merges;
 mod places;
 mod sizes;
 
 pub use edits::{enter, put};
+pub use merges::merge;
 pub use places::{leaf_in, parent_in};
 pub use sizes::{grow, trim};
