@@ -50,7 +50,7 @@ set_way-new_parents b (Branch c l r) i ks h x =
 
 -- ---- the list after a merge stands for the merged tree
 
-perfect-set_way : (h b : ℕ) (t : Term) (i : ℕ) (ps : List (Option Parent)) (x : LeafNode) → is_perfect h t ≡ true → is_perfect h (set_way b t i ps x) ≡ true
+pub perfect-set_way : (h b : ℕ) (t : Term) (i : ℕ) (ps : List (Option Parent)) (x : LeafNode) → is_perfect h t ≡ true → is_perfect h (set_way b t i ps x) ≡ true
 unfolding is_perfect set_way
 perfect-set_way zero b (Leaf v) i ps x e = refl
 perfect-set_way (suc h) b (Leaf v) i ps x e = absurd (true≢false (sym e))
@@ -67,3 +67,6 @@ perfect-merge d b t i ks h x e =
 
 pub stands_for-merge : (d b i : ℕ) (ks : List (List ℕ)) (h : List ℕ) (x : LeafNode) (xs ys : List (Option Node)) → ys ≡ in_order (merge b (term_of d xs) i ks h x) → StandsFor d ys (merge b (term_of d xs) i ks h x)
 stands_for-merge d b i ks h x xs ys is = stands_for d _ ys (perfect-merge d b (term_of d xs) i ks h x (perfect-term_of d xs)) is
+
+pub stands_for-set_way : (h b i : ℕ) (ps : List (Option Parent)) (x : LeafNode) (xs ys : List (Option Node)) → ys ≡ in_order (set_way b (term_of h xs) i ps x) → StandsFor h ys (set_way b (term_of h xs) i ps x)
+stands_for-set_way h b i ps x xs ys is = stands_for h _ ys (perfect-set_way h b (term_of h xs) i ps x (perfect-term_of h xs)) is

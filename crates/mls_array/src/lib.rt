@@ -5,6 +5,8 @@
 //! for. `first` is the number of the tree's first leaf, which the definitions carry along in the same way.
 #![tactic(auto)]
 
+#[cfg(test)]
+mod edit_tests;
 mod edits;
 mod merges;
 mod places;

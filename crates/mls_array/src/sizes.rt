@@ -13,7 +13,7 @@ use mls_leaf::Node;
 use std::alloc::AllocError;
 
 /// Whether the tree has a member.
-#[tactic(auto, using(crate::proofs::Parts::nodes_in_pos))]
+#[tactic(auto, using(mls_treemath::specs::Sizes::nodes_in_pos))]
 fn has_leaf(nodes: &[Option<Node>], height: u32) -> bool
     requires { length nodes.now ≡ nodes_in height }
     ensures { result ≡ has_leaf (term_of height nodes.now) }

@@ -2,7 +2,7 @@ use Rattle.std.proofs.Common.{◌<◌, ◌∙◌, length, None, refl, ap, arith,
 use Rattle.std.proofs.lemmas.List.{get_or_default}
 use Rattle.mls_term.specs.Edits.{listing}
 use Rattle.mls_term.specs.Arrays.{parent_in, parent_cell}
-use Rattle.mls_array.proofs.Parts.{nodes_in_pos}
+use Rattle.mls_treemath.specs.Sizes.{nodes_in_pos}
 use Rattle.mls_array.proofs.Standings.{half, left_of, right_of, root_stands}
 use Rattle.mls_array.proofs.Entries.{enter_one, enter_in_left, enter_in_right, left_back, right_back}
 use Rattle.mls_array.proofs.edits.+enter.Goals as goal
