@@ -93,6 +93,10 @@ stands-in_order h t p = record { size = length-in_order h t p; order = ap in_ord
 pub stands_for : (h : ℕ) (t : Term) (ys : List (Option Node)) → is_perfect h t ≡ true → ys ≡ in_order t → StandsFor h ys t
 stands_for h t ys p is = subst (λ zs. StandsFor h zs t) (sym is) (record { stands = stands-in_order h t p; term = term_of-in_order h t p })
 
+-- one leaf, or a blank one
+pub stands_for-leaf : (v : Option LeafNode) → StandsFor 0 (leaf_cell v ∷ []) (Leaf v)
+stands_for-leaf v = record { stands = record { size = sym nodes_in-zero; order = ap in_order (term_of-leaf v) ∙ in_order-leaf v }; term = term_of-leaf v }
+
 -- ---- edits keep trees perfect
 
 pub perfect-put : (h b : ℕ) (t : Term) (i : ℕ) (x : Option LeafNode) → is_perfect h t ≡ true → is_perfect h (put b t i x) ≡ true

@@ -20,7 +20,7 @@ fn cell_of(leaf: Option<LeafNode>) -> Option<Node>
     }
 }
 
-/// Replaces leaf i and blanks the parents over it; visits one node a level. Takes no memory.
+/// Replaces leaf i and blanks the parents over it (RFC 9420, 12.1.2); visits one node a level. Takes no memory.
 pub fn put(nodes: &mut [Option<Node>], height: u32, first: u32, i: u32, leaf: Option<LeafNode>)
     requires stands { Stands height nodes.old }
     requires fits { first + 2 ^ height ≤ 2 ^ 31 }
@@ -69,8 +69,8 @@ fn unlist_leaf(node: &mut Option<Node>, leaf: u32, entered: bool)
     }
 }
 
-/// Fills leaf i, and enters it in the list of each parent over it that isn't blank. Where a list can't grow, those over
-/// it are as they were.
+/// Fills leaf i, and enters it in the list of each parent over it that isn't blank (RFC 9420, 12.1.1). The leaf is filled
+/// once all lists have it; where one can't grow, it is taken out of those above again.
 pub fn enter(
     nodes: &mut [Option<Node>],
     height: u32,

@@ -5,12 +5,15 @@
 //! for. `first` is the number of the tree's first leaf, which the definitions carry along in the same way.
 #![tactic(auto)]
 
+#[cfg(test)]
+mod edit_tests;
 mod edits;
 mod hashes;
 mod lookup;
 mod members;
 mod order;
 mod path;
+mod merges;
 mod places;
 mod resolutions;
 mod sizes;
@@ -24,6 +27,7 @@ pub use lookup::{leaf, node};
 pub use members::{first_blank, has_leaf, is_full_width, member_count};
 pub use order::{alternates, has_last, height_for, pad, pad_tree, to_nodes};
 pub use path::filtered_path;
+pub use merges::merge;
 pub use places::{leaf_in, parent_in};
 pub use resolutions::{is_reached, resolution, resolution_at};
 pub use sizes::{grow, trim};
