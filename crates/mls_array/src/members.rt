@@ -62,7 +62,8 @@ pub fn is_full_width(nodes: &[Option<Node>], height: u32) -> bool
         };
     }
     let middle = middle_of(nodes.len(), height);
-    has_leaf(&nodes[middle + 1..], height - 1)
+    let right = &nodes[middle + 1..];
+    has_leaf(right, height - 1)
 }
 
 /// How many members the tree has.

@@ -1,10 +1,9 @@
 -- A leaf beside a full tree.
 use Rattle.std.proofs.Common.{◌≡◌, ℕ, zero, suc, ◌+◌, ◌^◌, nat_lt, List, Option, Some, None, refl, sym, ◌∙◌, ap, arith, if◌then◌else◌}
-use Rattle.std.proofs.lemmas.Bool.{cond_both}
 use Rattle.mls_leaf.specs.declared.leaf.LeafNode.{LeafNode}
 use Rattle.mls_leaf.specs.declared.node.Node.{Node}
-use Rattle.mls_term.specs.Term.{Term, Leaf, Branch, width, height, blanks}
-use Rattle.mls_term.specs.Edits.{put, enter, grow, listing}
+use Rattle.mls_term.specs.Term.{Term, Branch, width, height, blanks}
+use Rattle.mls_term.specs.Edits.{put, enter, grow}
 use Rattle.mls_term.specs.Arrays.{term_of}
 use Rattle.mls_term.specs.Equations.{put_right, enter_right, grow_is}
 use Rattle.mls_array.specs.StandingLaws.{StandsFor, width-term_of}

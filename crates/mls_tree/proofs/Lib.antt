@@ -1,3 +1,5 @@
 pub mod Growth
 pub mod Answering
 pub mod Singles
+pub mod Receiving
+pub mod Adding

@@ -1,6 +1,6 @@
 -- A public tree as a value, and what its calls answer.
-use Rattle.std.specs.Prelude.{◌≡◌, ℕ, ◌^◌, ◌==◌, Bool, true, false, nat_lt, if◌then◌else◌, List, Option, Some, None, Result, Ok, Err}
-use Rattle.mls_wire.specs.Checks.{given, require, ◌>>◌}
+use Rattle.std.specs.Prelude.{◌≡◌, ℕ, ◌^◌, ◌==◌, Bool, true, false, List, Option, Some, None, Result, Ok, Err}
+use Rattle.mls_wire.specs.Checks.{given}
 use Rattle.mls_wire.specs.Reading.{◌>>=◌}
 use Rattle.mls_leaf.specs.declared.node.Node.{Node}
 use Rattle.mls_leaf.specs.declared.leaf.LeafNode.{LeafNode}

@@ -94,9 +94,15 @@ fn leaves_without(alloc: Global, taken: &[bool], i: u32) -> Result<u32, TreeErro
 #[test]
 fn removals_halve(rt: HostRuntime) -> Result<(), Fail> {
     let alloc = rt.alloc();
-    assert_eq!(rt; leaves_without(alloc, &[true, true, true, true, true], 4)?, 4);
+    assert_eq!(rt;
+        leaves_without(alloc, &[true, true, true, true, true], 4)?,
+        4
+    );
     assert_eq!(rt; leaves_without(alloc, &[true, true, true, true], 3)?, 4);
-    assert_eq!(rt; leaves_without(alloc, &[true, false, false, false, true], 4)?, 1);
+    assert_eq!(rt;
+        leaves_without(alloc, &[true, false, false, false, true], 4)?,
+        1
+    );
     Ok(())
 }
 

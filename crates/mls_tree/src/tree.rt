@@ -1,6 +1,6 @@
 //! The public tree.
 
-ghost use Rattle.std.specs.Prelude.{◌≡◌, ◌^◌, Some, None, IfOk, IsSome, MatchResult, length};
+ghost use Rattle.std.specs.Prelude.{◌≡◌, ◌^◌, Some, None, is_some, true, IfOk, MatchResult, length};
 ghost use Rattle.std.specs.Option.{option_copied};
 ghost use Rattle.mls_wire.specs.Checks.{Answers, DoesAs};
 ghost use Rattle.mls_term.specs.Term.{Leaf, leaf_of, width};
@@ -58,7 +58,10 @@ impl PublicTree {
     pub fn from_nodes(nodes: Vec<Option<Node>>) -> Result<PublicTree, TreeError>
         ensures { Answers term number_of (from_nodes max_leaves nodes.items) result }
     {
-        if !array::has_last(&nodes) || !array::alternates(&nodes) {
+        if !array::has_last(&nodes) {
+            return Err(TreeError::TreeShape);
+        }
+        if !array::alternates(&nodes) {
             return Err(TreeError::TreeShape);
         }
         let mut nodes = nodes;
@@ -103,7 +106,7 @@ impl PublicTree {
 
     /// Refuses a leaf index at which no member is.
     fn require_member(&self, i: u32) -> Result<(), TreeError>
-        ensures { MatchResult result (λ _. IsSome (leaf_of (term self.now) i)) (λ e. (e ≡ NoSuchLeaf) × (leaf_of (term self.now) i ≡ None)) }
+        ensures { MatchResult result (λ _. is_some (leaf_of (term self.now) i) ≡ true) (λ e. (e ≡ NoSuchLeaf) × (leaf_of (term self.now) i ≡ None)) }
     {
         match self.leaf(i) {
             Some(_) => Ok(()),
@@ -133,8 +136,9 @@ impl PublicTree {
     pub fn filtered_path(&self, i: u32) -> Result<Vec<u32>, TreeError>
         ensures { Answers (λ v. v.items) number_of (path_answer (term self.now) i) result }
     {
-        if let Err(error) = self.require_member(i) {
-            return Err(error);
+        match self.require_member(i) {
+            Err(error) => return Err(error),
+            Ok(()) => {}
         }
         let mut nodes = Vec::new(*self.nodes.allocator());
         array::filtered_path(&self.nodes, self.height, 0, i, &mut nodes)?;
@@ -176,8 +180,9 @@ impl PublicTree {
     pub fn update(&mut self, i: u32, leaf: LeafNode) -> Result<(), TreeError>
         ensures { Changes number_of (update_answer (term self.old) i leaf) (term self.old) (term self.new) result }
     {
-        if let Err(error) = self.require_member(i) {
-            return Err(error);
+        match self.require_member(i) {
+            Err(error) => return Err(error),
+            Ok(()) => {}
         }
         let height = self.height;
         edits::put(&mut self.nodes, height, i, Some(leaf));
@@ -189,8 +194,9 @@ impl PublicTree {
     pub fn remove(&mut self, i: u32) -> Result<(), TreeError>
         ensures { Changes number_of (remove_answer (term self.old) i) (term self.old) (term self.new) result }
     {
-        if let Err(error) = self.require_member(i) {
-            return Err(error);
+        match self.require_member(i) {
+            Err(error) => return Err(error),
+            Ok(()) => {}
         }
         let height = self.height;
         edits::put(&mut self.nodes, height, i, None);

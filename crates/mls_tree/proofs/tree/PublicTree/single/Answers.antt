@@ -1,4 +1,4 @@
-use Rattle.std.proofs.Common.{ap, ◌∙◌, arith}
+use Rattle.std.proofs.Common.{arith}
 use Rattle.mls_tree.proofs.Singles.{single_stands}
 use Rattle.mls_tree.proofs.tree.PublicTree.single.Goals as goal
 
