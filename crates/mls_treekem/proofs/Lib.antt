@@ -3,3 +3,7 @@ pub mod Meets
 pub mod Following
 pub mod OnePass
 pub mod Making
+pub mod Merged
+pub mod Sealing
+pub mod Lists
+pub mod Entries
