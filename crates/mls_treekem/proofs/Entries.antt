@@ -27,12 +27,12 @@ use Rattle.mls_treekem.proofs.Lists.{lists_left, lists_right, in_range}
 
 -- ---- the key at a node
 
-key_nil : (ss : List Step) (j d : ℕ) → key_for ss j [] d ≡ None
+pub key_nil : (ss : List Step) (j d : ℕ) → key_for ss j [] d ≡ None
 unfolding key_for
 key_nil [] j d = refl
 key_nil (s ∷ ss) j d = refl
 
-key_at_leaf : (b : ℕ) (v : Option LeafNode) (j : ℕ) (o : Option (List ℕ)) (ks : Keys) (d : ℕ) → key_in b (Leaf v) j (o ∷ ks) d ≡ (if d == 2 * j then o else None)
+pub key_at_leaf : (b : ℕ) (v : Option LeafNode) (j : ℕ) (o : Option (List ℕ)) (ks : Keys) (d : ℕ) → key_in b (Leaf v) j (o ∷ ks) d ≡ (if d == 2 * j then o else None)
 unfolding way key_for
 key_at_leaf b v j o ks d = refl
 

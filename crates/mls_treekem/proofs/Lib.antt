@@ -7,3 +7,8 @@ pub mod Merged
 pub mod Sealing
 pub mod Lists
 pub mod Entries
+pub mod Getters
+pub mod Receiving
+pub mod Joining
+pub mod Commits
+pub mod Wholes

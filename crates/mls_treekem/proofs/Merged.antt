@@ -26,12 +26,12 @@ pub open_merged : (c : Crypto) (context : List ℕ) (added : List ℕ) (b : ℕ)
     climb_open c context added (way b (merge b t i ms h x) i) j ks ns ≡ climb_open c context added (way b t i) j ks ns
 open_merged c context added b t i j ms h x ks ns = rw (way_merge b t i ms h x) (open_along c context added j (way b t i) ms h ks ns)
 
-count_along : (ss : List Step) (ms : List (List ℕ)) (h : List ℕ) → filtered_count (merged_way ss ms h) ≡ filtered_count ss
+pub count_along : (ss : List Step) (ms : List (List ℕ)) (h : List ℕ) → filtered_count (merged_way ss ms h) ≡ filtered_count ss
 unfolding merged_way filtered_count
 count_along [] ms h = refl
 count_along (s ∷ ss) ms h = ap (one_if (is_filtered s)) (count_along ss (keys_beside s.first s.other ms) (hash_beside s.first s.other ms h))
 
-secret_along : (ss : List Step) (ms : List (List ℕ)) (h start : List ℕ) → secret_above (merged_way ss ms h) start ≡ secret_above ss start
+pub secret_along : (ss : List Step) (ms : List (List ℕ)) (h start : List ℕ) → secret_above (merged_way ss ms h) start ≡ secret_above ss start
 secret_along ss ms h start = ap (chain start) (count_along ss ms h)
 
 made_along : (c : Crypto) (ss : List Step) (ms : List (List ℕ)) (h start sk : List ℕ) → made_keys c (merged_way ss ms h) start sk ≡ made_keys c ss start sk

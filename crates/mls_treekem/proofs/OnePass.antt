@@ -196,7 +196,7 @@ own_blank b (Branch p l r) i x n = elim (cases_lt i (b + width l)) [
       rw (put_right b p l r i x ri, way_right b None l (put (b + width l) r i x) i ri) (none_or (step_at None _ _ l) (way (b + width l) (put (b + width l) r i x) i) n refl (own_blank (b + width l) r i x n))
 ]
 
-own_leaf : (b : ℕ) (t : Term) (i : ℕ) (x : Option LeafNode) → leaf_at b (put b t i x) i ≡ x
+pub own_leaf : (b : ℕ) (t : Term) (i : ℕ) (x : Option LeafNode) → leaf_at b (put b t i x) i ≡ x
 own_leaf b (Leaf v) i x = unfold put leaf_at in refl
 own_leaf b (Branch p l r) i x = elim (cases_lt i (b + width l)) [
   | inl li ↦

@@ -1,10 +1,10 @@
 -- The laws of a member's private keys.
-use Rattle.std.specs.Prelude.{◌≡◌, ℕ, ◌*◌, not, Bool, true, false, nat_eq, List, [], ◌∷◌, map, filter, length, reverse, Option, Some, None, is_some, IsSome, Ok, ◌<◌}
+use Rattle.std.specs.Prelude.{◌≡◌, ℕ, ◌+◌, ◌*◌, ◌≤◌, not, Bool, true, false, nat_eq, List, [], ◌∷◌, map, filter, length, reverse, Option, Some, None, is_some, IsSome, Ok, ◌<◌}
 use Rattle.mls_group.specs.declared.update_path.UpdatePathNode.{UpdatePathNode}
 use Rattle.mls_leaf.specs.declared.leaf.LeafNode.{LeafNode}
 use Rattle.mls_suite.specs.Crypto.{Crypto, Lawful}
 use Rattle.mls_term.specs.Sets.{has, leaf_numbers, less, is_distinct}
-use Rattle.mls_term.specs.Term.{Term, leaf_at, has_leaf}
+use Rattle.mls_term.specs.Term.{Term, size, leaf_at, has_leaf}
 use Rattle.mls_term.specs.Resolution.{resolution, is_reached}
 use Rattle.mls_term.specs.Places.{key_at}
 use Rattle.mls_term.specs.Held.{holds}
@@ -89,6 +89,13 @@ RightAreBelow = (b : ℕ) (t : Term) → HasLists b t → ListsBelow b t
 -- a tree with a member has a resolution
 abbrev pub ResolutionFilled : Type 0
 ResolutionFilled = (b : ℕ) (t : Term) → has_leaf t ≡ true → is_reached b t ≡ true
+
+-- its nodes are nodes of the tree, each once
+abbrev pub ResolutionInPlace : Type 0
+ResolutionInPlace = (b : ℕ) (t : Term) (d : ℕ) → ListsBelow b t → has (resolution b t) d ≡ true → (2 * b ≤ d) × (d < 2 * b + size t)
+
+abbrev pub ResolutionDistinct : Type 0
+ResolutionDistinct = (b : ℕ) (t : Term) → ListsBelow b t → is_distinct nat_eq (resolution b t) ≡ true
 
 -- another member is beside the committer's way at just one parent, and that one is filtered
 abbrev pub OneFiltered : Type 0

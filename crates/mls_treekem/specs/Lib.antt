@@ -8,3 +8,4 @@ pub mod Join
 pub mod Pairs
 pub mod Lists
 pub mod Laws
+pub mod Whole

@@ -1,3 +1,106 @@
 //! The private keys of a tree's members: laws about paths that are made, received and joined by (RFC 9420, 7.4 to 7.7
 //! and 12.4.3.1). Each function does nothing, and its contract is the laws of one subject.
 #![tactic(auto)]
+
+ghost use Rattle.mls_treekem.specs.Laws.{TamePut, TameEnter, TameRefl, TameTrans, FollowTame, FollowGrow, FollowTrim, FollowOwn};
+ghost use Rattle.mls_treekem.specs.Laws.{FollowsTrans, FollowsTame, FollowsGrow, FollowsTrim, FollowEdit, FollowOwnEdit};
+ghost use Rattle.mls_treekem.specs.Laws.{RightAreBelow, ResolutionFilled, ResolutionInPlace, ResolutionDistinct, OneFiltered, KeyWhereHeld, OneEntry, EntryKey, PairsInOrder, PairsFound};
+ghost use Rattle.mls_treekem.specs.Laws.{ClimbIsChain, KeysAreChain, KeysOfSecrets, CountIsLength, MakingClimbs, MakeExact, MadePath, PathMade, PathHasKeys, MakeMerged, SealMerged, PathMerged};
+ghost use Rattle.mls_treekem.specs.Laws.{OpenMerged, ClimbExact, ClimbAgree, CommitAgree};
+ghost use Rattle.mls_treekem.specs.Laws.{TakeExact, TakeAgree, JoinAgree, EnteredLists, TameLists};
+ghost use Rattle.mls_treekem.specs.Whole.{FollowsUpdate, FollowsRemove, FollowsAdd, AddedIsListed, AddKeepsListed};
+ghost use Rattle.mls_treekem.specs.Whole.{SealedKeys, SealedWhereFit, RefusedWhereUnfit, SealedMerged, OpenedMerged, MadeExact, MadeMerged, LengthMerged, OpenedExact, OpenedAgrees, TakenAgrees, SecretForMerged};
+
+/// Exact keys follow the edits of a tree.
+pub fn laws_of_following()
+    ensures put { TamePut }
+    ensures enter { TameEnter }
+    ensures refl { TameRefl }
+    ensures trans { TameTrans }
+    ensures tame { FollowTame }
+    ensures grow { FollowGrow }
+    ensures trim { FollowTrim }
+    ensures own { FollowOwn }
+{}
+
+/// One pass over the edited tree follows all edits.
+pub fn laws_of_one_pass()
+    ensures trans { FollowsTrans }
+    ensures tame { FollowsTame }
+    ensures grow { FollowsGrow }
+    ensures trim { FollowsTrim }
+    ensures edit { FollowEdit }
+    ensures own { FollowOwnEdit }
+{}
+
+/// A commit reaches each other member at just one node, by just one key that the member has.
+pub fn laws_of_targets()
+    ensures right { RightAreBelow }
+    ensures filled { ResolutionFilled }
+    ensures in_place { ResolutionInPlace }
+    ensures distinct { ResolutionDistinct }
+    ensures one_filtered { OneFiltered }
+    ensures held { KeyWhereHeld }
+    ensures one_entry { OneEntry }
+    ensures entry_key { EntryKey }
+    ensures in_order { PairsInOrder }
+    ensures found { PairsFound }
+{}
+
+/// The committer's secrets are one chain, and its keys are exact.
+pub fn laws_of_making()
+    ensures chain { ClimbIsChain }
+    ensures keys { KeysAreChain }
+    ensures secrets { KeysOfSecrets }
+    ensures count { CountIsLength }
+    ensures climbs { MakingClimbs }
+    ensures exact { MakeExact }
+    ensures made { MadePath }
+    ensures fit { PathMade }
+    ensures path { PathHasKeys }
+    ensures merged { MakeMerged }
+    ensures seal_merged { SealMerged }
+    ensures path_merged { PathMerged }
+{}
+
+/// A receiver's keys stay exact, and what it opens is the committer's.
+pub fn laws_of_receiving()
+    ensures merged { OpenMerged }
+    ensures exact { ClimbExact }
+    ensures agree { ClimbAgree }
+    ensures commit { CommitAgree }
+{}
+
+/// A joiner's keys are exact, and what it takes is the committer's.
+pub fn laws_of_joining()
+    ensures exact { TakeExact }
+    ensures agree { TakeAgree }
+    ensures commit { JoinAgree }
+    ensures entered { EnteredLists }
+    ensures tame { TameLists }
+{}
+
+/// In whole trees: a member follows each edit of another's, and an added leaf stays listed.
+pub fn laws_of_edits()
+    ensures update { FollowsUpdate }
+    ensures remove { FollowsRemove }
+    ensures add { FollowsAdd }
+    ensures added { AddedIsListed }
+    ensures kept { AddKeepsListed }
+{}
+
+/// In whole trees: a path whose nodes come the lowest first, as it is sealed, opened and taken.
+pub fn laws_of_paths()
+    ensures keys { SealedKeys }
+    ensures fit { SealedWhereFit }
+    ensures unfit { RefusedWhereUnfit }
+    ensures seal_merged { SealedMerged }
+    ensures open_merged { OpenedMerged }
+    ensures made_exact { MadeExact }
+    ensures made_merged { MadeMerged }
+    ensures length_merged { LengthMerged }
+    ensures opened_exact { OpenedExact }
+    ensures opened_agrees { OpenedAgrees }
+    ensures taken_agrees { TakenAgrees }
+    ensures secret_merged { SecretForMerged }
+{}
