@@ -1,5 +1,5 @@
 -- A commit's path as a whole: made, received, and taken over.
-use Rattle.std.proofs.Common.{◌≡◌, ℕ, false, List, map, length, Option, Some, Ok, refl, sym, ◌∙◌, subst, ne_eqb}
+use Rattle.std.proofs.Common.{◌≡◌, ℕ, false, List, map, length, Some, Ok, refl, sym, ◌∙◌, subst, ne_eqb}
 use Rattle.std.proofs.lemmas.Bool.{cond-false}
 use Rattle.mls_group.specs.declared.update_path.UpdatePathNode.{UpdatePathNode}
 use Rattle.mls_leaf.specs.declared.leaf.LeafNode.{LeafNode}

@@ -1,19 +1,19 @@
 -- Exact keys follow the edits.
-use Rattle.std.proofs.Common.{◌≡◌, ℕ, ◌+◌, Bool, true, false, List, [], ◌∷◌, Option, Some, None, is_some, IsSome, refl, sym, ◌∙◌, ap, subst, inl, inr, arith, ◌||◌, ◌==◌, if◌then◌else◌, ne_eqb}
-use Rattle.std.proofs.lemmas.Bool.{cases_lt, cond_both, true≢false}
-use Rattle.mls_leaf.specs.Parent.{Parent, inserted}
+use Rattle.std.proofs.Common.{◌≡◌, ℕ, ◌+◌, Bool, true, false, List, [], ◌∷◌, Option, Some, None, is_some, IsSome, refl, sym, ◌∙◌, subst, inl, inr, arith, ◌||◌, ◌==◌, if◌then◌else◌, ne_eqb}
+use Rattle.std.proofs.lemmas.Bool.{cases_lt, true≢false}
+use Rattle.mls_leaf.specs.Parent.{Parent}
 use Rattle.mls_leaf.specs.declared.leaf.LeafNode.{LeafNode}
 use Rattle.mls_term.specs.Sets.{has}
 use Rattle.mls_term.specs.Term.{Term, Leaf, Branch, width, height, leaf_at, has_leaf, blanks}
 use Rattle.mls_term.specs.Way.{Step, way}
 use Rattle.mls_term.specs.Edits.{put, enter, listing, grow, trim}
-use Rattle.mls_term.specs.Equations.{put_left, put_right, enter_left, enter_right, way_left, way_right, leaf_at_left, leaf_at_right}
+use Rattle.mls_term.specs.Equations.{put_left, put_right, enter_left, enter_right, way_left, way_right}
 use Rattle.mls_term.specs.Laws.{IsIn}
 use Rattle.mls_term.proofs.Basics.{has-with}
 use Rattle.mls_term.proofs.Shape.{width-put, width-enter}
 use Rattle.mls_term.proofs.Members.{leaf_taken}
 use Rattle.mls_suite.specs.Crypto.{Crypto}
-use Rattle.mls_treekem.specs.Keys.{Keys, HoldsKey, Fits, IsOwnKey, Along, AlongWay, Exact, leaf_only}
+use Rattle.mls_treekem.specs.Keys.{Keys, HoldsKey, Fits, IsOwnKey, Along, Exact, leaf_only}
 use Rattle.mls_treekem.specs.Follow.{TameAt, TameAlong, Tame, follow, follow_trim}
 use Rattle.mls_treekem.proofs.Ways.{along_none, along_left, along_right, left_along, right_along, tame_left, tame_right}
 

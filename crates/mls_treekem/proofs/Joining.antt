@@ -1,9 +1,8 @@
 -- What a joiner takes: exact keys whatever comes, and the committer's secrets where the path is made.
-use Rattle.std.proofs.Common.{◌≡◌, ℕ, ◌+◌, ◌<◌, ◌≤◌, Bool, true, false, not, ◌&&◌, ◌||◌, ◌==◌, if◌then◌else◌, List, [], ◌∷◌, Option, Some, None, is_some, Result, Ok, Err, refl, ap, sym, ◌∙◌, subst, inl, inr, arith, eq-eqb}
+use Rattle.std.proofs.Common.{◌≡◌, ℕ, ◌+◌, ◌<◌, ◌≤◌, Bool, true, false, not, ◌&&◌, ◌||◌, ◌==◌, if◌then◌else◌, List, [], ◌∷◌, Option, Some, None, Result, Ok, Err, refl, ap, sym, ◌∙◌, subst, inl, inr, arith, eq-eqb}
 use Rattle.std.specs.Str.{bytes_eq}
 use Rattle.std.proofs.lemmas.Slice.Eq.{bytes_eq-Decides}
 use Rattle.std.proofs.lemmas.Bool.{and_parts, cases_lt, or_right}
-use Rattle.mls_wire.specs.Reading.{◌>>=◌}
 use Rattle.mls_leaf.specs.Parent.{Parent}
 use Rattle.mls_leaf.specs.declared.leaf.LeafNode.{LeafNode}
 use Rattle.mls_term.specs.Sets.{has}
@@ -19,7 +18,7 @@ use Rattle.mls_term.proofs.Shape.{width-enter}
 use Rattle.mls_term.proofs.Merges.{width-merge}
 use Rattle.mls_suite.specs.Crypto.{Crypto}
 use Rattle.mls_treekem.specs.Chain.{next_secret, chain, node_key, node_public}
-use Rattle.mls_treekem.specs.Keys.{Keys, HoldsKey, Fits, Along, AlongWay, Exact, rest, leaf_only}
+use Rattle.mls_treekem.specs.Keys.{Keys, HoldsKey, Fits, Along, AlongWay, Exact, leaf_only}
 use Rattle.mls_treekem.specs.Follow.{TameAt, TameAlong}
 use Rattle.mls_treekem.specs.Make.{Climb, one_if, filtered_count, secret_above, key_if, made_keys, climb_make, more_if, path_keys}
 use Rattle.mls_treekem.specs.Seal.{Choose}

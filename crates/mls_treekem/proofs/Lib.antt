@@ -12,3 +12,4 @@ pub mod Receiving
 pub mod Joining
 pub mod Commits
 pub mod Wholes
+pub mod Examples

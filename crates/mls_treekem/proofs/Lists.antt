@@ -1,6 +1,5 @@
 -- Lists of leaves below their parent: where the nodes of a resolution are, and that none stands twice.
-use Rattle.std.proofs.Common.{◌≡◌, ℕ, suc, ◌+◌, ◌*◌, ◌<◌, ◌≤◌, ◌==◌, Bool, true, false, nat_lt, nat_le, nat_eq, ◌&&◌, List, [], ◌∷◌, ◌++◌, Option, Some, None, refl, sym, ◌∙◌, ap, arith, inl, inr, eqb-true, ltb-true, leb-true}
-use Rattle.std.specs.List.{list_all}
+use Rattle.std.proofs.Common.{◌≡◌, ℕ, ◌+◌, ◌*◌, ◌<◌, ◌≤◌, ◌==◌, true, false, nat_lt, nat_le, nat_eq, ◌&&◌, Option, Some, None, refl, sym, ◌∙◌, arith, inl, inr, eqb-true, ltb-true, leb-true}
 use Rattle.std.proofs.lemmas.Bool.{true≢false, and_parts, and_from, or_cases, cases_lt, cases_Bool, cond_both, false_from_ne_true}
 use Rattle.mls_leaf.specs.Parent.{Parent}
 use Rattle.mls_term.specs.Term.{Term, Leaf, Branch, width, size}

@@ -1,5 +1,5 @@
 -- The committer's climb is the chain, and its keys are exact in the tree that it makes.
-use Rattle.std.proofs.Common.{◌≡◌, ℕ, zero, suc, ◌+◌, ◌*◌, ◌<◌, Bool, true, false, List, [], ◌∷◌, ◌++◌, map, filter, length, reverse, Option, Some, None, if◌then◌else◌, refl, sym, ap, ◌∙◌, subst, inl, inr, arith}
+use Rattle.std.proofs.Common.{◌≡◌, ℕ, zero, suc, ◌+◌, ◌*◌, ◌<◌, Bool, true, false, List, [], ◌∷◌, ◌++◌, map, filter, length, reverse, Some, if◌then◌else◌, refl, sym, ap, ◌∙◌, inl, inr, arith}
 use Rattle.std.proofs.lemmas.Bool.{cases_lt}
 use Rattle.std.proofs.lemmas.List.{reverse-append}
 use Rattle.mls_leaf.specs.declared.leaf.LeafNode.{LeafNode}
@@ -12,8 +12,8 @@ use Rattle.mls_term.proofs.Shape.{size_from_width}
 use Rattle.mls_term.proofs.Merges.{width-merge}
 use Rattle.mls_suite.specs.Crypto.{Crypto}
 use Rattle.mls_treekem.specs.Chain.{next_secret, chain, path_secrets, node_key, node_public, chain_keys}
-use Rattle.mls_treekem.specs.Keys.{Keys, Fits, Along, Exact}
-use Rattle.mls_treekem.specs.Make.{Climb, one_if, filtered_count, secret_above, key_if, made_keys, climb_make, climb_past, more_if, path_keys}
+use Rattle.mls_treekem.specs.Keys.{Fits, Along, Exact}
+use Rattle.mls_treekem.specs.Make.{one_if, filtered_count, secret_above, key_if, made_keys, climb_make, climb_past, more_if, path_keys}
 
 pub climb_is_chain : (c : Crypto) (ss : List Step) (start sk : List ℕ) → (climb_make c ss start sk).secret ≡ chain start (filtered_count ss)
 climb_is_chain c ss start sk = refl

@@ -1,5 +1,5 @@
 -- A path is made and opened alike in the tree before it is merged and after, and it has the committer's keys.
-use Rattle.std.proofs.Common.{◌≡◌, ℕ, ◌+◌, Bool, true, false, if◌then◌else◌, List, [], ◌∷◌, map, length, Option, refl, ap, ap₂, ◌∙◌, subst}
+use Rattle.std.proofs.Common.{◌≡◌, ℕ, ◌+◌, Bool, true, false, if◌then◌else◌, List, [], ◌∷◌, map, length, refl, ap, ap₂, ◌∙◌, subst}
 use Rattle.mls_wire.specs.Reading.{◌>>=◌}
 use Rattle.mls_group.specs.declared.update_path.UpdatePathNode.{UpdatePathNode}
 use Rattle.mls_leaf.specs.declared.leaf.LeafNode.{LeafNode}
@@ -9,8 +9,8 @@ use Rattle.mls_term.specs.Merge.{merge, keys_beside, hash_beside}
 use Rattle.mls_suite.specs.Crypto.{Crypto}
 use Rattle.mls_treekem.specs.Chain.{chain, node_key, node_public}
 use Rattle.mls_treekem.specs.Keys.{Keys, rest}
-use Rattle.mls_treekem.specs.Make.{Climb, one_if, filtered_count, secret_above, key_if, made_keys, climb_make, more_if, path_keys}
-use Rattle.mls_treekem.specs.Seal.{Choose, targets, seal_count, seal_all, with_ciphertexts, path_past, seal_along, IsNodeFor, IsPathOf}
+use Rattle.mls_treekem.specs.Make.{one_if, filtered_count, secret_above, key_if, made_keys, climb_make, more_if, path_keys}
+use Rattle.mls_treekem.specs.Seal.{Choose, targets, seal_count, seal_along, IsNodeFor, IsPathOf}
 use Rattle.mls_treekem.specs.Open.{left_by, past_parent, open_here, climb_open}
 use Rattle.mls_treekem.proofs.Making.{merged_way, way_merge}
 

@@ -6,7 +6,7 @@ use Rattle.mls_leaf.specs.declared.leaf.LeafNode.{LeafNode}
 use Rattle.mls_term.specs.Term.{Term, Leaf, Branch, width, size, height, leaf_at, has_leaf, blanks}
 use Rattle.mls_term.specs.Way.{Step, step_at, way}
 use Rattle.mls_term.specs.Edits.{put, grow, trim}
-use Rattle.mls_term.specs.Equations.{way_leaf, way_left, way_right, leaf_at_left, leaf_at_right, put_left, put_right}
+use Rattle.mls_term.specs.Equations.{way_left, way_right, leaf_at_left, leaf_at_right, put_left, put_right}
 use Rattle.mls_term.specs.Laws.{IsIn}
 use Rattle.mls_term.proofs.Shape.{width-put}
 use Rattle.mls_term.proofs.Members.{leaf_taken}

@@ -1,10 +1,9 @@
 -- What a receiver opens: exact keys whatever comes, and the committer's secrets where the path is made.
-use Rattle.std.proofs.Common.{◌≡◌, ℕ, zero, suc, ◌+◌, Bool, true, false, ◌&&◌, if◌then◌else◌, nat_lt, nat_le, List, [], ◌∷◌, map, length, Option, Some, None, is_some, IsSome, Result, Ok, Err, refl, ap, sym, ◌∙◌, subst, inl, inr, eq-eqb, ltb-true, leb-true}
+use Rattle.std.proofs.Common.{◌≡◌, ℕ, zero, suc, ◌+◌, Bool, true, false, if◌then◌else◌, nat_lt, nat_le, List, [], ◌∷◌, map, length, Option, Some, None, is_some, Result, Ok, Err, refl, ap, sym, subst, inl, inr, eq-eqb, ltb-true, leb-true}
 use Rattle.std.specs.Str.{bytes_eq}
 use Rattle.std.proofs.lemmas.Slice.Eq.{bytes_eq-Decides}
 use Rattle.std.proofs.lemmas.Bool.{and_parts, cases_lt}
 use Rattle.mls_wire.specs.Reading.{◌>>=◌}
-use Rattle.mls_wire.specs.Checks.{given}
 use Rattle.mls_kdf.specs.Lengths.{length-derive_secret}
 use Rattle.mls_group.specs.declared.update_path.HpkeCiphertext.{HpkeCiphertext}
 use Rattle.mls_group.specs.declared.update_path.UpdatePathNode.{UpdatePathNode}
@@ -23,10 +22,10 @@ use Rattle.mls_term.proofs.Merges.{width-merge}
 use Rattle.mls_suite.specs.Crypto.{Crypto, Lawful}
 use Rattle.mls_treekem.specs.Chain.{next_secret, chain, node_key, node_public}
 use Rattle.mls_treekem.specs.Keys.{Keys, Fits, AlongWay, Exact, rest, key_in}
-use Rattle.mls_treekem.specs.Make.{Climb, one_if, filtered_count, secret_above, key_if, made_keys, climb_make}
+use Rattle.mls_treekem.specs.Make.{Climb, one_if, filtered_count, secret_above, made_keys, climb_make}
 use Rattle.mls_treekem.specs.Lists.{ListsBelow}
 use Rattle.mls_treekem.specs.Seal.{Choose, targets, seal_secret, IsSealedTo, IsSealedToAll, IsNodeFor, IsPathOf}
-use Rattle.mls_treekem.specs.Open.{left_by, unseal_secret, of_32, open_with, open_first, first_ciphertexts, open_here, past_filtered, past_parent, climb_open, shared, held_count}
+use Rattle.mls_treekem.specs.Open.{left_by, open_with, open_first, first_ciphertexts, open_here, past_filtered, past_parent, climb_open, shared, held_count}
 use Rattle.mls_treekem.proofs.Following.{along_taken}
 use Rattle.mls_treekem.proofs.Meets.{Meets, meets_from, along_from}
 use Rattle.mls_treekem.proofs.Lists.{lists_left, lists_right}

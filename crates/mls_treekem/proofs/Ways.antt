@@ -1,9 +1,8 @@
 -- Tests on numbers, and a step down from a branch to the side of a leaf.
-use Rattle.std.proofs.Common.{◌≡◌, ℕ, ◌+◌, ◌*◌, ◌<◌, ◌≤◌, Bool, true, false, ◌&&◌, nat_lt, nat_le, List, [], ◌∷◌, Option, refl, sym, ◌∙◌, ap, inl, inr, arith}
+use Rattle.std.proofs.Common.{◌≡◌, ℕ, ◌+◌, ◌<◌, ◌≤◌, Bool, true, false, ◌&&◌, nat_lt, nat_le, List, [], ◌∷◌, Option, refl, sym, ◌∙◌, ap, inl, inr, arith}
 use Rattle.std.proofs.lemmas.Bool.{lt-ltb, le-ltb, le-leb, lt-leb, cases_lt}
 use Rattle.mls_leaf.specs.Parent.{Parent}
-use Rattle.mls_term.specs.Term.{Term, Leaf, Branch, width, size, leaf_at}
-use Rattle.mls_term.specs.Way.{way}
+use Rattle.mls_term.specs.Term.{Term, Branch, width, leaf_at}
 use Rattle.mls_term.specs.Equations.{way_left, way_right, leaf_at_left, leaf_at_right}
 use Rattle.mls_suite.specs.Crypto.{Crypto}
 use Rattle.mls_treekem.specs.Keys.{Keys, Along, AlongWay}

@@ -1,5 +1,5 @@
 -- The laws in whole trees.
-use Rattle.std.proofs.Common.{◌≡◌, ℕ, ◌+◌, ◌<◌, ◌≤◌, Bool, true, false, List, [], ◌∷◌, ◌++◌, map, reverse, length, Option, Some, None, is_some, IsSome, Result, Ok, Err, refl, ap, sym, ◌∙◌, subst, if◌then◌else◌, arith}
+use Rattle.std.proofs.Common.{◌≡◌, ℕ, true, false, List, [], ◌∷◌, ◌++◌, map, reverse, length, Option, Some, None, is_some, IsSome, Ok, Err, refl, ap, sym, ◌∙◌, subst, arith}
 use Rattle.std.specs.Option.{option_map}
 use Rattle.std.proofs.lemmas.Bool.{true≢false}
 use Rattle.std.proofs.lemmas.List.{reverse-reverse, reverse-append}
@@ -7,19 +7,19 @@ use Rattle.mls_wire.specs.Checks.{given}
 use Rattle.mls_group.specs.declared.update_path.UpdatePathNode.{UpdatePathNode}
 use Rattle.mls_leaf.specs.declared.leaf.LeafNode.{LeafNode}
 use Rattle.mls_term.specs.Sets.{has}
-use Rattle.mls_term.specs.Term.{Term, width, height, blanks, leaf_at}
-use Rattle.mls_term.specs.Way.{Step, step_at, way, is_beside, path_length}
+use Rattle.mls_term.specs.Term.{Term, height, blanks, leaf_at}
+use Rattle.mls_term.specs.Way.{Step, way, path_length}
 use Rattle.mls_term.specs.Edits.{put, enter, grow, trim, first_blank, place_for, room_for, place_in, add, update, remove}
 use Rattle.mls_term.specs.Merge.{merge, merge_path, keys_beside, hash_beside}
 use Rattle.mls_term.specs.Equations.{way_left}
 use Rattle.mls_term.specs.Laws.{IsIn}
 use Rattle.mls_term.proofs.Shape.{width-put}
-use Rattle.mls_term.proofs.Places.{first_blank_at, leaf_at-grown, width-grow}
+use Rattle.mls_term.proofs.Places.{first_blank_at, width-grow}
 use Rattle.mls_suite.specs.Crypto.{Crypto, Lawful}
-use Rattle.mls_treekem.specs.Chain.{chain, path_secrets, node_public, chain_keys}
+use Rattle.mls_treekem.specs.Chain.{chain, chain_keys}
 use Rattle.mls_treekem.specs.Keys.{Keys, Exact}
 use Rattle.mls_treekem.specs.Follow.{Tame, Follows}
-use Rattle.mls_treekem.specs.Make.{Climb, filtered_count, secret_above, made_keys, climb_make, path_keys}
+use Rattle.mls_treekem.specs.Make.{Climb, filtered_count, made_keys, path_keys}
 use Rattle.mls_treekem.specs.Lists.{ListsBelow}
 use Rattle.mls_treekem.specs.Seal.{sealed_path, seal_along, targets_fit, IsPathOf}
 use Rattle.mls_treekem.specs.Open.{opened_path, climb_open}
@@ -27,7 +27,7 @@ use Rattle.mls_treekem.specs.Join.{take_keys, AllList, secret_for}
 use Rattle.mls_treekem.specs.Laws.{AreTwo}
 use Rattle.mls_treekem.specs.Whole.{keys_of_path}
 use Rattle.mls_treekem.proofs.Following.{tame_refl, tame_put, tame_enter}
-use Rattle.mls_treekem.proofs.OnePass.{follows_trans, follows_tame, follows_grow, follows_trim, own_leaf}
+use Rattle.mls_treekem.proofs.OnePass.{follows_trans, follows_tame, follows_grow, follows_trim}
 use Rattle.mls_treekem.proofs.Making.{merged_way, way_merge, keys_are_chain, keys_of_secrets, count_is_length, make_exact}
 use Rattle.mls_treekem.proofs.Merged.{secret_along, make_merged, count_along, seal_merged, open_merged, path_has_keys}
 use Rattle.mls_treekem.proofs.Sealing.{made_path, path_some}

@@ -1,5 +1,5 @@
 -- The laws of a member's private keys.
-use Rattle.std.specs.Prelude.{◌≡◌, ℕ, ◌+◌, ◌*◌, ◌≤◌, not, Bool, true, false, nat_eq, List, [], ◌∷◌, map, filter, length, reverse, Option, Some, None, is_some, IsSome, Ok, ◌<◌}
+use Rattle.std.specs.Prelude.{◌≡◌, ℕ, ◌+◌, ◌*◌, ◌≤◌, true, false, nat_eq, List, [], ◌∷◌, map, filter, length, reverse, Option, Some, None, is_some, IsSome, Ok, ◌<◌}
 use Rattle.mls_group.specs.declared.update_path.UpdatePathNode.{UpdatePathNode}
 use Rattle.mls_leaf.specs.declared.leaf.LeafNode.{LeafNode}
 use Rattle.mls_suite.specs.Crypto.{Crypto, Lawful}
@@ -15,7 +15,7 @@ use Rattle.mls_term.specs.Laws.{IsIn, HasLists}
 use Rattle.mls_treekem.specs.Chain.{chain, path_secrets, node_public, chain_keys}
 use Rattle.mls_treekem.specs.Keys.{Keys, Exact, leaf_only, key_in}
 use Rattle.mls_treekem.specs.Follow.{Tame, follow, follow_trim, follow_edit, Follows}
-use Rattle.mls_treekem.specs.Make.{Climb, filtered_count, made_keys, climb_make, climb_past, path_keys}
+use Rattle.mls_treekem.specs.Make.{Climb, filtered_count, climb_make, climb_past, path_keys}
 use Rattle.mls_treekem.specs.Lists.{ListsBelow}
 use Rattle.mls_treekem.specs.Seal.{IsPathOf, seal_along, targets_fit}
 use Rattle.mls_treekem.specs.Open.{climb_open, shared, held_count}

@@ -9,3 +9,4 @@ pub mod Pairs
 pub mod Lists
 pub mod Laws
 pub mod Whole
+pub mod Examples

@@ -1,12 +1,12 @@
 -- The laws of a member's private keys in whole trees, as calls on them need them.
-use Rattle.std.specs.Prelude.{◌≡◌, ℕ, Bool, true, false, List, map, length, Option, Some, None, IsSome, Result, Ok, Err}
+use Rattle.std.specs.Prelude.{◌≡◌, ℕ, true, false, List, map, length, Some, IsSome, Ok, Err}
 use Rattle.mls_group.specs.declared.update_path.UpdatePathNode.{UpdatePathNode}
 use Rattle.mls_leaf.specs.declared.leaf.LeafNode.{LeafNode}
 use Rattle.mls_suite.specs.Crypto.{Crypto, Lawful}
 use Rattle.mls_term.specs.Sets.{has}
 use Rattle.mls_term.specs.Term.{Term, leaf_at}
 use Rattle.mls_term.specs.Way.{way, path_length}
-use Rattle.mls_term.specs.Edits.{grow, place_in, add, update, remove}
+use Rattle.mls_term.specs.Edits.{place_in, add, update, remove}
 use Rattle.mls_term.specs.Merge.{merge_path}
 use Rattle.mls_term.specs.Laws.{IsIn}
 use Rattle.mls_treekem.specs.Chain.{chain, path_secrets, node_public}

@@ -9,6 +9,7 @@ ghost use Rattle.mls_treekem.specs.Laws.{ClimbIsChain, KeysAreChain, KeysOfSecre
 ghost use Rattle.mls_treekem.specs.Laws.{OpenMerged, ClimbExact, ClimbAgree, CommitAgree};
 ghost use Rattle.mls_treekem.specs.Laws.{TakeExact, TakeAgree, JoinAgree, EnteredLists, TameLists};
 ghost use Rattle.mls_treekem.specs.Whole.{FollowsUpdate, FollowsRemove, FollowsAdd, AddedIsListed, AddKeepsListed};
+ghost use Rattle.mls_treekem.specs.Examples.{SecretOfOne, SecretOfFour, PathOfFour, TargetsOfFour, KeysOfMaker, KeysBeside, KeysAcross, TargetsBesideAdded};
 ghost use Rattle.mls_treekem.specs.Whole.{SealedKeys, SealedWhereFit, RefusedWhereUnfit, SealedMerged, OpenedMerged, MadeExact, MadeMerged, LengthMerged, OpenedExact, OpenedAgrees, TakenAgrees, SecretForMerged};
 
 /// Exact keys follow the edits of a tree.
@@ -103,4 +104,16 @@ pub fn laws_of_paths()
     ensures opened_agrees { OpenedAgrees }
     ensures taken_agrees { TakenAgrees }
     ensures secret_merged { SecretForMerged }
+{}
+
+/// Small trees, worked out: paths of one and of four members, and of four where one was just added.
+pub fn worked_examples()
+    ensures secret_of_one { SecretOfOne }
+    ensures secret_of_four { SecretOfFour }
+    ensures path_of_four { PathOfFour }
+    ensures targets_of_four { TargetsOfFour }
+    ensures keys_of_maker { KeysOfMaker }
+    ensures keys_beside { KeysBeside }
+    ensures keys_across { KeysAcross }
+    ensures targets_beside_added { TargetsBesideAdded }
 {}
