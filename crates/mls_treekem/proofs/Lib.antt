@@ -2,6 +2,7 @@ pub mod Ways
 pub mod Meets
 pub mod Following
 pub mod OnePass
+pub mod Heights
 pub mod Making
 pub mod Merged
 pub mod Sealing
@@ -13,3 +14,4 @@ pub mod Joining
 pub mod Commits
 pub mod Wholes
 pub mod Examples
+pub mod Chains

@@ -42,7 +42,7 @@ unfolding path_keys chain_keys filtered_count
 keys_are_chain c [] start = refl
 keys_are_chain c (s ∷ ss) start = keys_past c start (is_filtered s) (path_keys c ss start) (filtered_count ss) (keys_are_chain c ss start)
 
-map-append : {A B : Type 0} (f : A → B) (xs ys : List A) → map f (xs ++ ys) ≡ map f xs ++ map f ys
+pub map-append : {A B : Type 0} (f : A → B) (xs ys : List A) → map f (xs ++ ys) ≡ map f xs ++ map f ys
 map-append f [] ys = refl
 map-append f (x ∷ xs) ys = ap (λ zs. f x ∷ zs) (map-append f xs ys)
 

@@ -28,7 +28,7 @@ use Rattle.mls_treekem.specs.Laws.{AreTwo}
 use Rattle.mls_treekem.specs.Whole.{keys_of_path}
 use Rattle.mls_treekem.proofs.Following.{tame_refl, tame_put, tame_enter}
 use Rattle.mls_treekem.proofs.OnePass.{follows_trans, follows_tame, follows_grow, follows_trim}
-use Rattle.mls_treekem.proofs.Making.{merged_way, way_merge, keys_are_chain, keys_of_secrets, count_is_length, make_exact}
+use Rattle.mls_treekem.proofs.Making.{map-append, merged_way, way_merge, keys_are_chain, keys_of_secrets, count_is_length, make_exact}
 use Rattle.mls_treekem.proofs.Merged.{secret_along, make_merged, count_along, seal_merged, open_merged, path_has_keys}
 use Rattle.mls_treekem.proofs.Sealing.{made_path, path_some}
 use Rattle.mls_treekem.proofs.Receiving.{climb_exact, climb_agree}
@@ -102,10 +102,6 @@ add_keeps_listed t j x inside taken h =
     tame_lists j (way 0 (room_for (first_blank 0 t) t) j) (way 0 (enter 0 (room_for (first_blank 0 t) t) (place_in t) x) j) (room_lists t j (first_blank 0 t) inside h) tame.along
 
 -- ---- the highest first, and the lowest first
-
-map-append : {A B : Type 0} (f : A → B) (xs ys : List A) → map f (xs ++ ys) ≡ map f xs ++ map f ys
-map-append f [] ys = refl
-map-append f (x ∷ xs) ys = ap (λ zs. f x ∷ zs) (map-append f xs ys)
 
 map-reverse : {A B : Type 0} (f : A → B) (xs : List A) → map f (reverse xs) ≡ reverse (map f xs)
 map-reverse f [] = refl

@@ -43,6 +43,11 @@ unfoldable pub key_above : ℕ → Keys → Option (List ℕ)
 key_above n [] = None
 key_above n (o ∷ ks) = if length ks == n then o else key_above n ks
 
+-- the keys by their height above the leaf, on a way of any length: none where nothing is so high
+unfoldable pub on_way : List Step → Keys → Keys
+on_way [] ks = key_above 0 ks ∷ []
+on_way (s ∷ ss) ks = key_above (suc (length ss)) ks ∷ on_way ss ks
+
 -- the leaf's key, a new one where the leaf was updated
 abbrev pub leaf_key_after : Option (List ℕ) → Keys → Option (List ℕ)
 leaf_key_after (Some k) ks = Some k

@@ -14,7 +14,7 @@ use Rattle.mls_term.specs.Merge.{merge}
 use Rattle.mls_term.specs.Laws.{IsIn, HasLists}
 use Rattle.mls_treekem.specs.Chain.{chain, path_secrets, node_public, chain_keys}
 use Rattle.mls_treekem.specs.Keys.{Keys, Exact, leaf_only, key_in}
-use Rattle.mls_treekem.specs.Follow.{Tame, follow, follow_trim, follow_edit, Follows}
+use Rattle.mls_treekem.specs.Follow.{Tame, follow, follow_trim, on_way, follow_edit, Follows}
 use Rattle.mls_treekem.specs.Make.{Climb, filtered_count, climb_make, climb_past, path_keys}
 use Rattle.mls_treekem.specs.Lists.{ListsBelow}
 use Rattle.mls_treekem.specs.Seal.{IsPathOf, seal_along, targets_fit}
@@ -79,6 +79,17 @@ FollowEdit = (c : Crypto) (t t' : Term) (j : ℕ) (ks : Keys) → Exact c 0 t j 
 -- with an own update among them, whatever was held before
 abbrev pub FollowOwnEdit : Type 0
 FollowOwnEdit = (c : Crypto) (t t' : Term) (j : ℕ) (x : LeafNode) (k : List ℕ) (ks : Keys) → c.public k ≡ x.encryption_key → Follows j (put 0 t j (Some x)) t' → Exact c 0 t' j (follow_edit (Some k) (way 0 t' j) ks)
+
+-- exact keys stand on their way by their height, and a leaf's key alone does on any way to it
+abbrev pub ExactIsOnWay : Type 0
+ExactIsOnWay = (c : Crypto) (b : ℕ) (t : Term) (j : ℕ) (ks : Keys) → Exact c b t j ks → on_way (way b t j) ks ≡ ks
+
+abbrev pub LeafIsOnWay : Type 0
+LeafIsOnWay = (ss : List Step) (k : List ℕ) → on_way ss (Some k ∷ []) ≡ leaf_only ss k
+
+-- the pass drops keys of keys that stand so
+abbrev pub EditIsFollow : Type 0
+EditIsFollow = (ss : List Step) (ks : Keys) → follow_edit None ss ks ≡ follow ss (on_way ss ks)
 
 -- ---- targets
 

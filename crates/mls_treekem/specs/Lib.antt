@@ -10,3 +10,4 @@ pub mod Lists
 pub mod Laws
 pub mod Whole
 pub mod Examples
+pub mod Made

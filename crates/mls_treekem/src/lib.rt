@@ -1,9 +1,9 @@
-//! The private keys of a tree's members: laws about paths that are made, received and joined by (RFC 9420, 7.4 to 7.7
-//! and 12.4.3.1). Each function does nothing, and its contract is the laws of one subject.
+//! The private keys of a tree's members: paths that are made, received and joined by (RFC 9420, 7.4 to 7.7 and
+//! 12.4.3.1). Each function `laws_of_..` does nothing, and its contract is the laws of one subject.
 #![tactic(auto)]
 
 ghost use Rattle.mls_treekem.specs.Laws.{TamePut, TameEnter, TameRefl, TameTrans, FollowTame, FollowGrow, FollowTrim, FollowOwn};
-ghost use Rattle.mls_treekem.specs.Laws.{FollowsTrans, FollowsTame, FollowsGrow, FollowsTrim, FollowEdit, FollowOwnEdit};
+ghost use Rattle.mls_treekem.specs.Laws.{FollowsTrans, FollowsTame, FollowsGrow, FollowsTrim, FollowEdit, FollowOwnEdit, ExactIsOnWay, LeafIsOnWay, EditIsFollow};
 ghost use Rattle.mls_treekem.specs.Laws.{RightAreBelow, ResolutionFilled, ResolutionInPlace, ResolutionDistinct, OneFiltered, KeyWhereHeld, OneEntry, EntryKey, PairsInOrder, PairsFound};
 ghost use Rattle.mls_treekem.specs.Laws.{ClimbIsChain, KeysAreChain, KeysOfSecrets, CountIsLength, MakingClimbs, MakeExact, MadePath, PathMade, PathHasKeys, MakeMerged, SealMerged, PathMerged};
 ghost use Rattle.mls_treekem.specs.Laws.{OpenMerged, ClimbExact, ClimbAgree, CommitAgree};
@@ -11,6 +11,12 @@ ghost use Rattle.mls_treekem.specs.Laws.{TakeExact, TakeAgree, JoinAgree, Entere
 ghost use Rattle.mls_treekem.specs.Whole.{FollowsUpdate, FollowsRemove, FollowsAdd, AddedIsListed, AddKeepsListed};
 ghost use Rattle.mls_treekem.specs.Examples.{SecretOfOne, SecretOfFour, PathOfFour, TargetsOfFour, KeysOfMaker, KeysBeside, KeysAcross, TargetsBesideAdded};
 ghost use Rattle.mls_treekem.specs.Whole.{SealedKeys, SealedWhereFit, RefusedWhereUnfit, SealedMerged, OpenedMerged, MadeExact, MadeMerged, LengthMerged, OpenedExact, OpenedAgrees, TakenAgrees, SecretForMerged};
+
+mod private_path;
+mod secrets;
+
+pub use private_path::PrivatePath;
+pub use secrets::PathSecrets;
 
 /// Exact keys follow the edits of a tree.
 pub fn laws_of_following()
@@ -32,6 +38,9 @@ pub fn laws_of_one_pass()
     ensures trim { FollowsTrim }
     ensures edit { FollowEdit }
     ensures own { FollowOwnEdit }
+    ensures on_way { ExactIsOnWay }
+    ensures leaf { LeafIsOnWay }
+    ensures follow { EditIsFollow }
 {}
 
 /// A commit reaches each other member at just one node, by just one key that the member has.
