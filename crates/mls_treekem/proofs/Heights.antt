@@ -1,12 +1,11 @@
 -- Keys by their height above the leaf.
-use Rattle.std.proofs.Common.{◌≡◌, ℕ, suc, ◌≤◌, ◌==◌, if◌then◌else◌, List, [], ◌∷◌, length, Option, Some, None, is_some, refl, ap, ap₂, sym, ◌∙◌, arith, eq-eqb, ne_eqb}
+use Rattle.std.proofs.Common.{◌≡◌, ℕ, suc, ◌≤◌, if◌then◌else◌, List, [], ◌∷◌, length, Option, Some, None, is_some, refl, ap, ap₂, ◌∙◌, arith, eq-eqb, ne_eqb}
 use Rattle.std.proofs.lemmas.Bool.{cond-true, cond-false}
-use Rattle.mls_leaf.specs.declared.leaf.LeafNode.{LeafNode}
 use Rattle.mls_term.specs.Term.{Term, leaf_at}
 use Rattle.mls_term.specs.Way.{Step, way}
 use Rattle.mls_suite.specs.Crypto.{Crypto}
 use Rattle.mls_treekem.specs.Keys.{Keys, Fits, Exact, leaf_only}
-use Rattle.mls_treekem.specs.Follow.{follow, key_above, on_way, leaf_key_after, follow_edit}
+use Rattle.mls_treekem.specs.Follow.{follow, key_above, on_way, follow_edit}
 use Rattle.mls_treekem.proofs.OnePass.{along_length}
 
 module _ (n : ℕ) (o : Option (List ℕ)) (ks : Keys) where
