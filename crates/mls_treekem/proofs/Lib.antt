@@ -7,6 +7,7 @@ pub mod Making
 pub mod Merged
 pub mod Sealing
 pub mod Lists
+pub mod Below
 pub mod Entries
 pub mod Getters
 pub mod Receiving

@@ -91,11 +91,28 @@ LeafIsOnWay = (ss : List Step) (k : List ℕ) → on_way ss (Some k ∷ []) ≡ 
 abbrev pub EditIsFollow : Type 0
 EditIsFollow = (ss : List Step) (ks : Keys) → follow_edit None ss ks ≡ follow ss (on_way ss ks)
 
--- ---- targets
+-- ---- lists of unmerged leaves
 
--- right lists name leaves below their parent
+-- right lists name leaves below their parent, and the edits keep lists rising and of leaves below their parent
 abbrev pub RightAreBelow : Type 0
 RightAreBelow = (b : ℕ) (t : Term) → HasLists b t → ListsBelow b t
+
+abbrev pub BelowPut : Type 0
+BelowPut = (b : ℕ) (t : Term) (i : ℕ) (x : Option LeafNode) → ListsBelow b t → ListsBelow b (put b t i x)
+
+abbrev pub BelowEnter : Type 0
+BelowEnter = (b : ℕ) (t : Term) (i : ℕ) (x : LeafNode) → IsIn b t i → ListsBelow b t → ListsBelow b (enter b t i x)
+
+abbrev pub BelowGrow : Type 0
+BelowGrow = (t : Term) → ListsBelow 0 t → ListsBelow 0 (grow t)
+
+abbrev pub BelowTrim : Type 0
+BelowTrim = (b : ℕ) (t : Term) → ListsBelow b t → ListsBelow b (trim t)
+
+abbrev pub BelowMerge : Type 0
+BelowMerge = (b : ℕ) (t : Term) (i : ℕ) (ks : List (List ℕ)) (h : List ℕ) (x : LeafNode) → ListsBelow b t → ListsBelow b (merge b t i ks h x)
+
+-- ---- targets
 
 -- a tree with a member has a resolution
 abbrev pub ResolutionFilled : Type 0

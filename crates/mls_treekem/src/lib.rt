@@ -4,7 +4,8 @@
 
 ghost use Rattle.mls_treekem.specs.Laws.{TamePut, TameEnter, TameRefl, TameTrans, FollowTame, FollowGrow, FollowTrim, FollowOwn};
 ghost use Rattle.mls_treekem.specs.Laws.{FollowsTrans, FollowsTame, FollowsGrow, FollowsTrim, FollowEdit, FollowOwnEdit, ExactIsOnWay, LeafIsOnWay, EditIsFollow};
-ghost use Rattle.mls_treekem.specs.Laws.{RightAreBelow, ResolutionFilled, ResolutionInPlace, ResolutionDistinct, OneFiltered, KeyWhereHeld, OneEntry, EntryKey, PairsInOrder, PairsFound};
+ghost use Rattle.mls_treekem.specs.Laws.{RightAreBelow, BelowPut, BelowEnter, BelowGrow, BelowTrim, BelowMerge};
+ghost use Rattle.mls_treekem.specs.Laws.{ResolutionFilled, ResolutionInPlace, ResolutionDistinct, OneFiltered, KeyWhereHeld, OneEntry, EntryKey, PairsInOrder, PairsFound};
 ghost use Rattle.mls_treekem.specs.Laws.{ClimbIsChain, KeysAreChain, KeysOfSecrets, CountIsLength, MakingClimbs, MakeExact, MadePath, PathMade, PathHasKeys, MakeMerged, SealMerged, PathMerged};
 ghost use Rattle.mls_treekem.specs.Laws.{OpenMerged, ClimbExact, ClimbAgree, CommitAgree};
 ghost use Rattle.mls_treekem.specs.Laws.{TakeExact, TakeAgree, JoinAgree, EnteredLists, TameLists};
@@ -14,6 +15,8 @@ ghost use Rattle.mls_treekem.specs.Whole.{SealedKeys, SealedWhereFit, RefusedWhe
 
 mod private_path;
 mod secrets;
+#[cfg(test)]
+mod tests;
 
 pub use private_path::PrivatePath;
 pub use secrets::PathSecrets;
@@ -43,9 +46,18 @@ pub fn laws_of_one_pass()
     ensures follow { EditIsFollow }
 {}
 
+/// Lists of unmerged leaves name leaves below their parent, and the edits keep them so.
+pub fn laws_of_lists()
+    ensures right { RightAreBelow }
+    ensures put { BelowPut }
+    ensures enter { BelowEnter }
+    ensures grow { BelowGrow }
+    ensures trim { BelowTrim }
+    ensures merge { BelowMerge }
+{}
+
 /// A commit reaches each other member at just one node, by just one key that the member has.
 pub fn laws_of_targets()
-    ensures right { RightAreBelow }
     ensures filled { ResolutionFilled }
     ensures in_place { ResolutionInPlace }
     ensures distinct { ResolutionDistinct }
