@@ -1,12 +1,12 @@
 -- Edits keep lists of leaves below their parent.
-use Rattle.std.proofs.Common.{◌≡◌, ℕ, ◌+◌, ◌<◌, ◌≤◌, ◌==◌, Bool, true, nat_lt, nat_le, ◌&&◌, List, [], Option, Some, None, refl, sym, ◌∙◌, ap, arith, inl, inr, eqb-true, le-leb, lt-ltb}
+use Rattle.std.proofs.Common.{◌≡◌, ℕ, ◌+◌, ◌<◌, ◌≤◌, ◌==◌, true, nat_lt, nat_le, ◌&&◌, List, [], Option, Some, None, refl, sym, ◌∙◌, arith, inl, inr, eqb-true, le-leb, lt-ltb}
 use Rattle.std.specs.List.{list_all}
 use Rattle.std.proofs.lemmas.Bool.{and_from, or_cases, cases_lt}
 use Rattle.mls_leaf.specs.Parent.{Parent, inserted}
 use Rattle.mls_leaf.specs.declared.leaf.LeafNode.{LeafNode}
 use Rattle.mls_term.specs.Sets.{has}
 use Rattle.mls_term.specs.Term.{Term, Leaf, Branch, width}
-use Rattle.mls_term.specs.Edits.{with_leaf, listing, put, enter, grow, trim}
+use Rattle.mls_term.specs.Edits.{listing, put, enter, grow, trim}
 use Rattle.mls_term.specs.Lists.{asked, all_parents, rises_here}
 use Rattle.mls_term.specs.Merge.{merge}
 use Rattle.mls_term.specs.Equations.{enter_left, enter_right}

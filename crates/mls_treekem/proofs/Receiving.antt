@@ -130,15 +130,16 @@ opens c l context secret long b t f known (d ∷ ds) (x ∷ xs) a h e = by_key (
     by_key None q e rec = rec e
 
 -- each other side of a way has lists of leaves below
-abbrev pub GoodSides : List Step → Type 0
+unfoldable pub GoodSides : List Step → Type 0
 GoodSides [] = Unit {0}
 GoodSides (s ∷ ss) = ListsBelow s.first s.other × GoodSides ss
 
 good_at_leaf : (b : ℕ) (v : Option LeafNode) (i : ℕ) → GoodSides (way b (Leaf v) i)
-unfolding way
+unfolding way GoodSides
 good_at_leaf b v i = tt
 
 pub good_sides : (b : ℕ) (t : Term) (i : ℕ) → ListsBelow b t → GoodSides (way b t i)
+unfolding GoodSides
 good_sides b (Leaf v) i h = good_at_leaf b v i
 good_sides b (Branch p l r) i h = elim (cases_lt i (b + width l)) [
   | inl li ↦ rw (way_left b p l r i li) (lists_right b p l r h, good_sides b l i (lists_left b p l r h))
@@ -164,7 +165,7 @@ past_made c n ns m h =
 agree_along : (c : Crypto) (l : Lawful c) (context : List ℕ) (added : List ℕ) (j : ℕ) (start sk : List ℕ) → length start ≡ 32 → has added j ≡ false →
     (ss : List Step) (ks : Keys) (ns : List UpdatePathNode) → GoodSides ss → Meets c (Fits c j) j ss ks → IsPathOf c context added ss start ns →
     climb_open c context added ss j ks ns ≡ Ok (record { secret = secret_above ss start; keys = shared ss j (made_keys c ss start sk) ks })
-unfolding Meets IsPathOf climb_open shared made_keys filtered_count chain
+unfolding GoodSides Meets IsPathOf climb_open shared made_keys filtered_count chain
 agree_along c l context added j start sk long old [] ks ns good h path = absurd h
 agree_along c l context added j start sk long old (s ∷ ss) [] ns good h path = absurd h
 agree_along c l context added j start sk long old (s ∷ ss) (o ∷ ks) ns good h path =
