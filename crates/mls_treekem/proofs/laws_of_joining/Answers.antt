@@ -1,0 +1,14 @@
+use Rattle.mls_treekem.proofs.laws_of_joining.Goals as goal
+use Rattle.mls_term.specs.Way.{way}
+use Rattle.mls_treekem.proofs.Joining.{take_exact, take_agree, entered_lists, tame_lists}
+use Rattle.mls_treekem.proofs.Commits.{join_agree}
+
+pub returns : goal.returns
+returns c =
+    record {
+      exact = λ d t i j x sk secret m two. take_exact d t i j x sk secret m two.first two.second two.apart;
+      agree = λ d t i j h x y start sk own two. take_agree d t i j h x y start sk own two.first two.second two.apart;
+      commit = join_agree;
+      entered = entered_lists;
+      tame = λ b t t' j h tame. tame_lists j (way b t j) (way b t' j) h tame.along;
+    }

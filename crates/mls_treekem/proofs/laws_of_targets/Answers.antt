@@ -1,0 +1,20 @@
+use Rattle.mls_treekem.proofs.laws_of_targets.Goals as goal
+use Rattle.mls_term.proofs.Resolutions.{reached}
+use Rattle.mls_term.proofs.Entries.{one_filtered}
+use Rattle.mls_treekem.proofs.Lists.{in_range, all_distinct}
+use Rattle.mls_treekem.proofs.Entries.{key_where_held, one_entry, entry_key}
+use Rattle.mls_treekem.proofs.Getters.{pairs_in_order, pairs_found}
+
+pub returns : goal.returns
+returns c =
+    record {
+      filled = reached;
+      in_place = in_range;
+      distinct = all_distinct;
+      one_filtered = λ b t i j two. one_filtered b t i j two.first.low two.first.high two.second.low two.second.high two.apart;
+      held = key_where_held;
+      one_entry = one_entry;
+      entry_key = entry_key;
+      in_order = pairs_in_order;
+      found = pairs_found;
+    }

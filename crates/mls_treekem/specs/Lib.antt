@@ -1,0 +1,13 @@
+pub mod Chain
+pub mod Keys
+pub mod Follow
+pub mod Make
+pub mod Seal
+pub mod Open
+pub mod Join
+pub mod Pairs
+pub mod Lists
+pub mod Laws
+pub mod Whole
+pub mod Examples
+pub mod Made

@@ -1,0 +1,48 @@
+//! The private keys of a member.
+
+ghost use Rattle.std.specs.Prelude.{◌≡◌, ◌∷◌, [], Some};
+ghost use Rattle.mls_treekem.specs.Made.{all_keys};
+
+use mls_kdf::Secret;
+use std::alloc::Global;
+use std::marker::Model;
+
+/// The private keys that a member has, of its leaf and of nodes over it.
+#[derive(Drop)]
+pub struct PrivatePath {
+    leaf: u32,
+    own: Secret,
+    // By their height above the leaf, from the node right over it on; a node that is higher has none.
+    above: Vec<Option<Secret>>,
+}
+
+// The keys above the leaf are seen in the order of the way to it.
+impl Model for PrivatePath {
+    ghost use Rattle.std.specs.Prelude.{reverse};
+    ghost use Rattle.mls_treekem.specs.Made.{PrivateKeys};
+
+    ghost Value = { PrivateKeys };
+
+    ghost view = { λ p. record { leaf = p.leaf; own = p.own; above = reverse p.above.items } };
+}
+
+impl PrivatePath {
+    /// The keys of a member that has its leaf's alone. Takes no memory.
+    pub fn new(alloc: Global, leaf: u32, sk: Secret) -> PrivatePath
+        ensures leaf { result.leaf ≡ leaf }
+        ensures keys { all_keys result ≡ Some sk ∷ [] }
+    {
+        PrivatePath {
+            leaf,
+            own: sk,
+            above: Vec::new(alloc),
+        }
+    }
+
+    /// The member's leaf.
+    pub fn leaf(&self) -> u32
+        ensures { result ≡ self.now.leaf }
+    {
+        self.leaf
+    }
+}
