@@ -1,0 +1,5 @@
+//! `mls vectors`: test vectors, read from JSON, judged and reported.
+
+mod lookup;
+mod reading;
+mod shape;
