@@ -72,3 +72,6 @@ pub fn vectors_in_memory(alloc: Global, text: &[u8], out: &mut Vec<u8>) -> Resul
     let mut reader = text;
     vectors(alloc, &mut reader, out)
 }
+
+#[cfg(test)]
+mod tests;
