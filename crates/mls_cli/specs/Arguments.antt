@@ -1,7 +1,7 @@
 -- What the command line of `mls` is, and which job the matches of its words name.
-use Rattle.std.specs.Prelude.{◌≡◌, ℕ, List, [], ◌∷◌, codes, Option, Some, None, option_map, option_and_then, if◌then◌else◌, true, false}
+use Rattle.std.specs.Prelude.{List, codes, Option, Some, None, option_and_then, if◌then◌else◌, true}
 use Rattle.std.specs.Str.{bytes_eq}
-use Rattle.clap.specs.Words.{App, Row, Rule, Shape, Text, first_of, new_app, new_rule, with_rule, with_subcommand}
+use Rattle.clap.specs.Words.{App, Row, Rule, Text, first_of, new_app, new_rule, with_rule, with_subcommand}
 use Rattle.mls_cli.specs.declared.tasks.Job.{Job}
 use Rattle.mls_cli.specs.declared.tasks.Job.TheVariants.{Show, Vectors}
 

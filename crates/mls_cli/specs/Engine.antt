@@ -1,7 +1,7 @@
 -- What an engine writes.
 use Rattle.std.specs.Prelude.{◌≡◌, ℕ, List, ◌++◌, Option, Result, MatchResult}
 use Rattle.std.specs.Io.KnownBytes.{Appends}
-use Rattle.mls_cli.specs.Text.{Entry, lines_text}
+use Rattle.mls_cli.specs.Text.{lines_text}
 use Rattle.mls_cli.specs.Show.{Page}
 use Rattle.mls_cli.specs.declared.engine.Fault.{Fault}
 

@@ -1,7 +1,7 @@
 -- Strict looks into JSON: nothing where a value is of another kind.
-use Rattle.std.specs.Prelude.{◌==◌, nat_le, ℕ, Bool, true, false, List, codes, if◌then◌else◌, Option, Some, None, option_and_then}
+use Rattle.std.specs.Prelude.{◌==◌, nat_le, ℕ, Bool, false, List, if◌then◌else◌, Option, Some, None, option_and_then}
 use Rattle.std.specs.Str.{is_utf8}
-use Rattle.serde_json.specs.Data.{Data, Items, no_items, item, Members, no_members, member}
+use Rattle.serde_json.specs.Data.{Data, Items, Members}
 use Rattle.serde_json.specs.Events.{members_len}
 use Rattle.serde_json.specs.Find.{get, as_str, as_number, as_u64, as_array, as_object}
 use Rattle.serde_json.specs.Read.{read}

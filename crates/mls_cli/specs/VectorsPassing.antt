@@ -1,5 +1,5 @@
 -- Which vectors pass.
-use Rattle.std.specs.Prelude.{◌==◌, ◌&&◌, ◌^◌, nat_eq, nat_le, nat_lt, ℕ, Bool, true, false, List, length, if◌then◌else◌, Option, Some, None, Result, Ok, Err}
+use Rattle.std.specs.Prelude.{◌==◌, ◌&&◌, ◌^◌, nat_le, nat_lt, ℕ, Bool, List, length, Option, Some, None, Result, Ok, Err}
 use Rattle.std.specs.Str.{bytes_eq}
 use Rattle.mls_wire.specs.Reading as wire
 use Rattle.mls_kdf.specs.Kdf as kdf

@@ -3,7 +3,7 @@ use Rattle.std.specs.Prelude.{◌≡◌, ℕ, nat_le, List, [], ◌∷◌, lengt
 use Rattle.std.specs.Str.{bytes_eq}
 use Rattle.serde_json.specs.Data.{Data, Items, no_items, item}
 use Rattle.serde_json.specs.Find.{get, as_str, as_null, as_array}
-use Rattle.mls_cli.specs.Json.{◌>>=◌, require, is_object_of, text_at, whole, whole_at, items_at, data_in}
+use Rattle.mls_cli.specs.Json.{◌>>=◌, require, is_object_of, text_at, whole, whole_at, items_at}
 use Rattle.mls_cli.specs.Vectors.{Claim, header, hmac, hkdf, expand, treemath, message}
 use Rattle.mls_cli.specs.declared.vectors.shape.VectorsError.{VectorsError}
 use Rattle.mls_cli.specs.declared.vectors.shape.VectorsError.TheVariants as error

@@ -49,11 +49,7 @@ fn judge_file<W: Write>(alloc: Global, file: &[u8], out: &mut W) -> Result<u8, F
 }
 
 /// Writes the report on what a reader has, and answers the exit status: 0 where all vectors pass.
-pub fn vectors<R: Read, W: Write>(
-    alloc: Global,
-    file: &mut R,
-    out: &mut W,
-) -> Result<u8, Fault>
+pub fn vectors<R: Read, W: Write>(alloc: Global, file: &mut R, out: &mut W) -> Result<u8, Fault>
     // What is written is the report on what the reader had, or on a fault a beginning of it.
     ensures output { IfSome (R.remaining file.old) (λ text. Puts W.contents out.old out.new result (vectors_output text)) }
     ensures status { IfOk result (λ status. status ≤ 1) }

@@ -16,7 +16,10 @@ use std::alloc::Global;
 #[derive(Debug, Drop)]
 pub enum Vector {
     /// A length and its header, if it has one.
-    Header { length: u32, bytes: Option<Vec<u8>> },
+    Header {
+        length: u32,
+        bytes: Option<Vec<u8>>,
+    },
     /// The tag of a text under a key.
     Hmac {
         key: Vec<u8>,
@@ -46,7 +49,10 @@ pub enum Vector {
         copath: Vec<u32>,
     },
     /// Bytes, and the number that decoding gives.
-    Message { bytes: Vec<u8>, refused: u8 },
+    Message {
+        bytes: Vec<u8>,
+        refused: u8,
+    },
 }
 
 fn bytes_of(alloc: Global, text: &str) -> Result<Vec<u8>, VectorsError>

@@ -15,7 +15,10 @@ use std::alloc::{AllocError, AllocFailed, Global};
 #[derive(Debug, Drop)]
 pub enum VectorText<'a> {
     /// A length and its header, if it has one.
-    Header { length: u32, bytes: Option<&'a str> },
+    Header {
+        length: u32,
+        bytes: Option<&'a str>,
+    },
     /// The tag of a text under a key.
     Hmac {
         key: &'a str,
@@ -45,7 +48,10 @@ pub enum VectorText<'a> {
         copath: Vec<u32>,
     },
     /// Bytes, and the number that decoding gives.
-    Message { bytes: &'a str, refused: u8 },
+    Message {
+        bytes: &'a str,
+        refused: u8,
+    },
 }
 
 /// Why a file has no vectors.
@@ -195,7 +201,6 @@ fn numbers_at(alloc: Global, value: &Value, key: &str) -> Result<Vec<u32>, Vecto
         None => Err(VectorsError::BadJson),
     }
 }
-
 
 fn treemath(alloc: Global, value: &Value) -> Result<VectorText<'_>, VectorsError>
     ensures { Finds text_view result (treemath_in (view value.now)) }

@@ -23,7 +23,8 @@ const EXAMPLE: &str = r#"[
 ]
 "#;
 
-const ALL_PASS: &str = "0: pass\n1: pass\n2: pass\n3: pass\n4: pass\n5: pass\n6: pass\n7: pass\n8: pass\n9: pass\n10: pass\n11: pass\n12: pass\npassed 13 of 13\n";
+const ALL_PASS: &str =
+    "0: pass\n1: pass\n2: pass\n3: pass\n4: pass\n5: pass\n6: pass\n7: pass\n8: pass\n9: pass\n10: pass\n11: pass\n12: pass\npassed 13 of 13\n";
 
 const BAD_JSON: &str = "refused: 9 BadJson\n";
 
@@ -101,10 +102,16 @@ fn refuses_files(rt: HostRuntime) -> Result<(), Fail> {
         (r#"[{"kind":"header","length":1.0,"bytes":"01"}]"#, BAD_JSON),
         (r#"[{"kind":"header","length":1e0,"bytes":"01"}]"#, BAD_JSON),
         (r#"[{"kind":"header","length":-1,"bytes":"01"}]"#, BAD_JSON),
-        (r#"[{"kind":"header","length":4294967296,"bytes":null}]"#, BAD_JSON),
+        (
+            r#"[{"kind":"header","length":4294967296,"bytes":null}]"#,
+            BAD_JSON,
+        ),
         (r#"[{"kind":"header","length":1,"bytes":1}]"#, BAD_JSON),
         (r#"[{"kind":"header","length":1}]"#, BAD_JSON),
-        (r#"[{"kind":"header","length":1,"bytes":"01","more":1}]"#, BAD_JSON),
+        (
+            r#"[{"kind":"header","length":1,"bytes":"01","more":1}]"#,
+            BAD_JSON,
+        ),
         (r#"[{"kind":"message","bytes":"","refused":256}]"#, BAD_JSON),
         (
             r#"[{"kind":"treemath","leaves":1,"node":0,"direct_path":[],"copath":[0.5]}]"#,
@@ -112,7 +119,10 @@ fn refuses_files(rt: HostRuntime) -> Result<(), Fail> {
         ),
         (r#"[{"kind":"message","bytes":"0","refused":2}]"#, NOT_HEX),
         (r#"[{"kind":"header","length":1,"bytes":" 01"}]"#, NOT_HEX),
-        (r#"[{"kind":"message","bytes":"0","refused":2},{}]"#, BAD_JSON),
+        (
+            r#"[{"kind":"message","bytes":"0","refused":2},{}]"#,
+            BAD_JSON,
+        ),
     ];
     for (file, text) in table {
         let (status, out) = printed(alloc, file.as_bytes())?;
@@ -144,7 +154,9 @@ fn limits(rt: HostRuntime) -> Result<(), Fail> {
     ] {
         let label = repeated(alloc, "a", label)?;
         let okm = repeated(alloc, "00", okm)?;
-        let file = format!(in alloc; "[{{\"kind\":\"expand\",\"secret\":\"\",\"label\":\"{label}\",\"context\":\"\",\"out\":\"{okm}\"}}]")?;
+        let file = format!(in alloc;
+            "[{{\"kind\":\"expand\",\"secret\":\"\",\"label\":\"{label}\",\"context\":\"\",\"out\":\"{okm}\"}}]"
+        )?;
         let (status, out) = printed(alloc, file.as_bytes())?;
         assert_eq!(rt; status, 1);
         assert!(rt; out.as_slice() == text.as_bytes());

@@ -1,4 +1,4 @@
-use Rattle.std.proofs.Common.{◌≡◌, refl}
+use Rattle.std.proofs.Common.{refl}
 use Rattle.serde_json.proofs.Views.{members_len-members_view}
 use Rattle.mls_cli.proofs.vectors.lookup.has_members.Goals as goal
 

@@ -1,7 +1,6 @@
-use Rattle.std.proofs.Common.{◌≡◌, true, false, None, List, ℕ, Bool, Option, refl, rules, if◌then◌else◌}
+use Rattle.std.proofs.Common.{◌≡◌, true, false, None, List, ℕ, Bool, refl, rules, if◌then◌else◌}
 use Rattle.std.specs.Str.{is_utf8, IsUtf8}
 use Rattle.std.proofs.lemmas.Str.{is_utf8-from_IsUtf8, IsUtf8-from_is_utf8}
-use Rattle.serde_json.specs.Data.{Data}
 use Rattle.serde_json.specs.Read.{read}
 use Rattle.mls_cli.specs.Json.{data_in}
 use Rattle.mls_cli.proofs.vectors.reading.value_in.Goals as goal
