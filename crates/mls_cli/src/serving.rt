@@ -1,7 +1,7 @@
 //! The jobs of the program, over any reader of FILE and any two writers.
 
-ghost use Rattle.std.specs.Prelude.{◌≡◌, ◌≤◌, Ok, Some, None, IfOk, IfErr, IfSome, IsOk, IsNone};
-ghost use Rattle.std.specs.Io.KnownBytes.{Appends, Keeps};
+ghost use Rattle.std.specs.Prelude.{◌≡◌, ◌≤◌, Ok, Some, None, IfOk, IfErr, IfSome, IsNone};
+ghost use Rattle.std.specs.Io.KnownBytes.{Keeps};
 ghost use Rattle.mls_cli.specs.Arguments.{file_of};
 ghost use Rattle.mls_cli.specs.Engine.{Puts};
 ghost use Rattle.mls_cli.specs.Serving.{Leaves, Says, Usage, out_of_memory as memory_text, output_for, unreadable};

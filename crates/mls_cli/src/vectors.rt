@@ -6,7 +6,7 @@ mod report;
 mod shape;
 mod verdict;
 
-ghost use Rattle.std.specs.Prelude.{ℕ, List, ◌≡◌, ◌≢◌, ◌≤◌, ◌++◌, Some, Ok, map, IfOk, IfErr, IfSome, OnErr, IsErrOf};
+ghost use Rattle.std.specs.Prelude.{ℕ, List, ◌≡◌, ◌≢◌, ◌≤◌, ◌++◌, Ok, map, IfOk, IfErr, IfSome, OnErr, IsErrOf};
 ghost use Rattle.std.specs.Io.KnownBytes.{Keeps};
 ghost use Rattle.mls_cli.specs.Engine.{Puts};
 ghost use Rattle.mls_cli.specs.Vectors.{vector_view};

@@ -1,6 +1,6 @@
 //! Strict looks into JSON.
 
-ghost use Rattle.std.specs.Prelude.{◌≡◌, codes, option_map};
+ghost use Rattle.std.specs.Prelude.{◌≡◌, option_map};
 ghost use Rattle.serde_json.specs.View.{view, items_view};
 ghost use Rattle.mls_cli.specs.Json.{is_object_of, items_at, text_at, whole, whole_at};
 ghost use Rattle.mls_cli.specs.VectorsShape.{max_u8, max_u32};

@@ -1,6 +1,6 @@
 //! The vectors of a file, with their bytes.
 
-ghost use Rattle.std.specs.Prelude.{◌≡◌, ◌≢◌, Some, None, Ok, Err, map, option_map, IfOk, string_bytes};
+ghost use Rattle.std.specs.Prelude.{map, option_map};
 ghost use Rattle.serde_json.specs.View.{view};
 ghost use Rattle.mls_cli.specs.Json.{data_in};
 ghost use Rattle.mls_cli.specs.Vectors.{text_view, vector_view};

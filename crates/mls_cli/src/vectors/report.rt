@@ -1,10 +1,10 @@
 //! What is printed of verdicts.
 
-ghost use Rattle.std.specs.Prelude.{◌≡◌, ◌≢◌, ◌≤◌, ◌++◌, ◌∷◌, [], length, map, IfOk, IfErr, OnOk, OnErr};
+ghost use Rattle.std.specs.Prelude.{◌≡◌, ◌≢◌, ◌≤◌, ◌++◌, map, IfOk, IfErr, OnOk, OnErr};
 ghost use Rattle.std.specs.Fmt.{decimal};
 ghost use Rattle.std.specs.Io.KnownBytes.{Appends};
 ghost use Rattle.mls_cli.specs.Engine.{AppendsPart, Puts};
-ghost use Rattle.mls_cli.specs.VectorsReport.{entry_of, entry_text, passed_count, report_entries, report_output, report_status, report_text, total_entry, verdict_entries};
+ghost use Rattle.mls_cli.specs.VectorsReport.{entry_of, entry_text, passed_count, report_entries, report_output, report_status, report_text, verdict_entries};
 
 use crate::engine::{Fault, put};
 use std::alloc::{AllocError, Global};

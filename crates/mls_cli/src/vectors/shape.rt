@@ -1,6 +1,6 @@
 //! The shape of a vector file, with its hex texts as they stand.
 
-ghost use Rattle.std.specs.Prelude.{◌≡◌, ◌≤◌, Some, None, codes, length, map, option_map, option_and_then, IfSome};
+ghost use Rattle.std.specs.Prelude.{◌≡◌, map, option_map, option_and_then};
 ghost use Rattle.serde_json.specs.Find.{get};
 ghost use Rattle.serde_json.specs.View.{view, items_view};
 ghost use Rattle.mls_cli.specs.Vectors.{text_view};

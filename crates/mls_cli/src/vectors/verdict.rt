@@ -1,12 +1,11 @@
 //! Which vectors pass.
 
-ghost use Rattle.std.specs.Prelude.{◌≡◌, ℕ, ◌≤◌, ◌&&◌, nat_eq, nat_le, map, length, option_map, IfOk};
-ghost use Rattle.std.specs.Str.{bytes_eq};
+ghost use Rattle.std.specs.Prelude.{◌≡◌, map, option_map, IfOk};
 ghost use Rattle.mls_leaf.specs.Faults.{whole};
 ghost use Rattle.mls_types.specs.Message.{mls_message};
 ghost use Rattle.mls_cli.specs.Message.{input_limit};
 ghost use Rattle.mls_cli.specs.Vectors.{vector_view};
-ghost use Rattle.mls_cli.specs.VectorsPassing.{expand_passes, header_passes, hkdf_passes, hmac_passes, labelled_passes, message_passes, number_given, passes, treemath_passes};
+ghost use Rattle.mls_cli.specs.VectorsPassing.{expand_passes, header_passes, hkdf_passes, hmac_passes, labelled_passes, number_given, passes, treemath_passes};
 
 use crate::vectors::reading::Vector;
 use mls_kdf::{MAX_OUTPUT, expand, expand_with_label, extract, hmac};
