@@ -1,5 +1,5 @@
 -- Blanks at the end, taken one by one.
-use Rattle.std.proofs.Common.{◌≡◌, ◌∙◌, ℕ, List, [], ◌∷◌, ◌++◌, Bool, true, false, ap, refl, sym, rules}
+use Rattle.std.proofs.Common.{◌≡◌, ◌∙◌, ℕ, List, [], ◌∷◌, ◌++◌, true, false, ap, refl, sym}
 use Rattle.mls_cli.specs.File.{is_blank, kept_before, without_back}
 
 kept_blank : (b : ℕ) → is_blank b ≡ true → kept_before b [] ≡ []

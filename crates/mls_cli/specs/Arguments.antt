@@ -1,9 +1,9 @@
 -- What the command line of `mls` is, and which job the matches of its words name.
-use Rattle.std.specs.Prelude.{◌≡◌, ℕ, List, [], ◌∷◌, codes, Option, Some, None, option_map, option_and_then, if◌then◌else◌, true, false}
+use Rattle.std.specs.Prelude.{List, codes, Option, Some, None, option_and_then, if◌then◌else◌, true}
 use Rattle.std.specs.Str.{bytes_eq}
-use Rattle.clap.specs.Words.{App, Row, Rule, Shape, Text, first_of, new_app, new_rule, with_rule, with_subcommand}
+use Rattle.clap.specs.Words.{App, Row, Rule, Text, first_of, new_app, new_rule, with_rule, with_subcommand}
 use Rattle.mls_cli.specs.declared.tasks.Job.{Job}
-use Rattle.mls_cli.specs.declared.tasks.Job.TheVariants.{Show}
+use Rattle.mls_cli.specs.declared.tasks.Job.TheVariants.{Show, Vectors}
 
 -- a required FILE
 abbrev pub file_rule : Rule
@@ -18,18 +18,21 @@ needing_one a = record a { top = record a.top { subcommand_required = true } }
 
 -- the command line: one of the subcommands is required
 abbrev pub mls : App
-mls = needing_one (with_subcommand (new_app (codes "mls")) (on_file (codes "show")).top)
+mls = needing_one (with_subcommand (with_subcommand (new_app (codes "mls")) (on_file (codes "show")).top) (on_file (codes "vectors")).top)
 
 -- a job without where it lies in memory
 pub data Task : Type 0 where
   show : Text → Task
+  vectors : Text → Task
 
 abbrev pub view : Job → Task
 view (Show file) = show file.now
+view (Vectors file) = vectors file.now
 
 abbrev pub task_on : Text → Text → Option Task
 task_on name file =
     if bytes_eq name (codes "show") then Some (show file)
+    else if bytes_eq name (codes "vectors") then Some (vectors file)
     else None
 
 -- the job that a subcommand's name and matches stand for
@@ -39,3 +42,4 @@ task_of found = option_and_then
 
 abbrev pub file_of : Job → Text
 file_of (Show file) = file.now
+file_of (Vectors file) = file.now

@@ -8,3 +8,9 @@ pub mod Message
 pub mod Serving
 pub mod Public
 pub mod Group
+pub mod Json
+pub mod Vectors
+pub mod VectorsShape
+pub mod VectorsBytes
+pub mod VectorsPassing
+pub mod VectorsReport

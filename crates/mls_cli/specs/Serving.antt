@@ -1,28 +1,25 @@
 -- What a served job leaves.
-use Rattle.std.specs.Prelude.{◌≡◌, ◌≢◌, ◌⊎◌, ◌++◌, ◌==◌, ℕ, List, codes, Option, Result, Ok, Err}
-use Rattle.std.specs.Io.KnownBytes.{Appends, Keeps}
+use Rattle.std.specs.Prelude.{◌≡◌, ◌≢◌, ◌⊎◌, ◌++◌, ℕ, List, codes, Option}
+use Rattle.std.specs.Io.KnownBytes.{Appends}
 use Rattle.clap.specs.Values.{kind_of}
 use Rattle.clap.specs.declared.error.Error.{Error}
 use Rattle.clap.specs.declared.error.kind.ErrorKind.TheVariants as kind
 use Rattle.mls_cli.specs.declared.tasks.Job.{Job}
 use Rattle.mls_cli.specs.declared.tasks.Job.TheVariants as job
-use Rattle.mls_cli.specs.Engine.{AppendsPart}
+use Rattle.mls_cli.specs.Engine.{AppendsPart, Output, page_output}
 use Rattle.mls_cli.specs.Show.{page_of}
-use Rattle.mls_cli.specs.Text.{lines_text}
+use Rattle.mls_cli.specs.VectorsReport.{vectors_output}
 
--- the output grows by the page of the text, with its status, or the status is 3 and it grows by a beginning
-abbrev pub Shows : {W : Type 0} → (W → Option (List ℕ)) → W → W → ℕ → List ℕ → Type 0
-Shows contents old new status text =
-    (Appends (contents old) (contents new) (lines_text (page_of text).entries) × (status ≡ (page_of text).status))
-    ⊎ ((status ≡ 3) × AppendsPart (contents old) (contents new) (lines_text (page_of text).entries))
+-- what a job prints for a file of this text
+abbrev pub output_for : Job → List ℕ → Output
+output_for (job.Show file) text = page_output (page_of text)
+output_for (job.Vectors file) text = vectors_output text
 
-abbrev pub IfShow : Job → Type 0 → Type 0
-IfShow (job.Show file) P = P
-
--- P, where the job is to show
-abbrev pub IfShows : {E : Type 0} → Result Job E → Type 0 → Type 0
-IfShows (Ok j) P = IfShow j P
-IfShows (Err e) P = Unit {0}
+-- the output grows by the text, with its status, or the status is 3 and it grows by a beginning
+abbrev pub Leaves : {W : Type 0} → (W → Option (List ℕ)) → W → W → ℕ → Output → Type 0
+Leaves contents old new status output =
+    (Appends (contents old) (contents new) output.text × (status ≡ output.status))
+    ⊎ ((status ≡ 3) × AppendsPart (contents old) (contents new) output.text)
 
 -- ---- what is said of faults
 

@@ -1,5 +1,5 @@
 -- A text of lines `name: value`.
-use Rattle.std.specs.Prelude.{◌≡◌, ◌==◌, length, drop, if◌then◌else◌, ◌/◌, ◌%◌, ℕ, List, [], ◌∷◌, ◌++◌, codes, map}
+use Rattle.std.specs.Prelude.{◌==◌, length, drop, if◌then◌else◌, ◌/◌, ◌%◌, ℕ, List, [], ◌∷◌, ◌++◌, codes}
 use Rattle.std.specs.List.{flat_map}
 use Rattle.std.specs.Fmt.{decimal}
 use Rattle.hex.specs.Hex.{encode_lower}

@@ -3,7 +3,7 @@
 ghost use Rattle.std.specs.Prelude.{◌≡◌, map, true, false, codes, Ok, Err, Some, None, IfOk, IfErr, IsSome, OnOk, ◌⊎◌, ◌∷◌, [], option_map};
 ghost use Rattle.clap.specs.Words.{app_of, shape_of, first_of, found_of, kind_of, rows_of, rule_of, subcommand_of, subcommand_rows_of, takes, fault_of, FailsBy, HasKind};
 ghost use Rattle.clap.specs.declared.Command.TheViews.{out-Command as fields_of};
-ghost use Rattle.mls_cli.specs.Arguments.{file_rule, mls, on_file, show, task_of, task_on, view};
+ghost use Rattle.mls_cli.specs.Arguments.{file_rule, mls, on_file, show, task_of, task_on, vectors, view};
 
 use crate::tasks::Job;
 use clap::error::ErrorKind;
@@ -31,7 +31,9 @@ fn command<'a>(alloc: Global) -> Result<Command<'a>, AllocError>
     ensures { IfOk result (λ c. app_of c ≡ mls) }
 {
     let show = file_command(alloc, "show")?;
-    let all = Command::new(alloc, "mls").subcommand(show)?;
+    let vectors = file_command(alloc, "vectors")?;
+    let first = Command::new(alloc, "mls").subcommand(show)?;
+    let all = first.subcommand(vectors)?;
     Ok(all.subcommand_required(true))
 }
 
@@ -41,6 +43,7 @@ fn job_on<'a>(name: &str, file: &'a str) -> Option<Job<'a>>
 {
     match name {
         "show" => Some(Job::Show { file }),
+        "vectors" => Some(Job::Vectors { file }),
         _ => None,
     }
 }
@@ -104,5 +107,6 @@ pub fn examples()
     ensures help { fault_of mls (codes "mls" ∷ codes "show" ∷ codes "--help" ∷ []) ≡ ErrorKind.DisplayHelp ∷ [] }
     ensures missing { fault_of mls (codes "mls" ∷ codes "show" ∷ []) ≡ ErrorKind.MissingRequiredArgument ∷ [] }
     ensures shows { task_of (subcommand_of mls (codes "mls" ∷ codes "show" ∷ codes "a" ∷ [])) ≡ Some (show (codes "a")) }
+    ensures judges { task_of (subcommand_of mls (codes "mls" ∷ codes "vectors" ∷ codes "a" ∷ [])) ≡ Some (vectors (codes "a")) }
     ensures taken { fault_of mls (codes "mls" ∷ codes "show" ∷ codes "a" ∷ []) ≡ [] }
 {}

@@ -14,6 +14,7 @@ mod serving;
 mod show;
 mod tasks;
 mod text;
+mod vectors;
 
 use arguments::job;
 use serving::{out_of_memory, serve};

@@ -1,13 +1,15 @@
 //! The jobs of the program, over any reader of FILE and any two writers.
 
-ghost use Rattle.std.specs.Prelude.{◌≡◌, ◌≤◌, Ok, Some, None, IfOk, IfErr, IfSome, IsOk, IsNone};
-ghost use Rattle.std.specs.Io.KnownBytes.{Appends, Keeps};
+ghost use Rattle.std.specs.Prelude.{◌≡◌, ◌≤◌, Ok, Some, None, IfOk, IfErr, IfSome, IsNone};
+ghost use Rattle.std.specs.Io.KnownBytes.{Keeps};
 ghost use Rattle.mls_cli.specs.Arguments.{file_of};
-ghost use Rattle.mls_cli.specs.Serving.{IfShow, IfShows, Says, Shows, Usage, out_of_memory as memory_text, unreadable};
+ghost use Rattle.mls_cli.specs.Engine.{Puts};
+ghost use Rattle.mls_cli.specs.Serving.{Leaves, Says, Usage, out_of_memory as memory_text, output_for, unreadable};
 
 use crate::engine::{Fault, put};
 use crate::show::show;
 use crate::tasks::Job;
+use crate::vectors::vectors;
 use clap::Error;
 use clap::error::ErrorKind;
 use std::alloc::{AllocError, Global};
@@ -23,8 +25,8 @@ pub fn serve<R: Read + Drop, W: Write, E: Write>(
     err: &mut E,
 ) -> u8
     ensures status { result ≤ 3 }
-    // The output grows by the page of the text that the reader had.
-    ensures shows { IfShows job.now (IfSome file (λ reader. IfSome (R.remaining reader) (λ text. Shows W.contents out.old out.new result text))) }
+    // The output grows by what the job prints for the text that the reader had.
+    ensures prints { IfOk job.now (λ j. IfSome file (λ reader. IfSome (R.remaining reader) (λ text. Leaves W.contents out.old out.new result (output_for j text)))) }
     // Without a file nothing is written but the fault.
     ensures missing { IfOk job.now (λ j. IsNone file → (result ≡ 3) × Keeps (W.contents out.old) (W.contents out.new)
         × Says (E.contents err.old) (E.contents err.new) (unreadable (file_of j))) }
@@ -51,29 +53,30 @@ fn serve_job<R: Read + Drop, W: Write, E: Write>(
     err: &mut E,
 ) -> u8
     ensures status { result ≤ 3 }
-    ensures shows { IfShow job.now (IfSome (R.remaining file) (λ text. Shows W.contents out.old out.new result text)) }
+    ensures prints { IfSome (R.remaining file) (λ text. Leaves W.contents out.old out.new result (output_for job.now text)) }
 {
-    match job {
-        Job::Show { .. } => serve_show(alloc, job, &mut file, out, err),
-    }
-}
-
-fn serve_show<R: Read, W: Write, E: Write>(
-    alloc: Global,
-    job: &Job<'_>,
-    file: &mut R,
-    out: &mut W,
-    err: &mut E,
-) -> u8
-    ensures status { result ≤ 3 }
-    ensures page { IfSome (R.remaining file.old) (λ text. Shows W.contents out.old out.new result text) }
-{
-    match show(alloc, file, out) {
+    match print_job(alloc, job, &mut file, out) {
         Ok(status) => status,
         Err(fault) => {
             say(alloc, fault, job, err);
             3
         }
+    }
+}
+
+/// Prints what the job asks for, and answers the exit status.
+fn print_job<R: Read, W: Write>(
+    alloc: Global,
+    job: &Job<'_>,
+    file: &mut R,
+    out: &mut W,
+) -> Result<u8, Fault>
+    ensures prints { IfSome (R.remaining file.old) (λ text. Puts W.contents out.old out.new result (output_for job.now text)) }
+    ensures status { IfOk result (λ status. status ≤ 1) }
+{
+    match job {
+        Job::Show { .. } => show(alloc, file, out),
+        Job::Vectors { .. } => vectors(alloc, file, out),
     }
 }
 

@@ -18,7 +18,12 @@ use std::alloc::Global;
 use std::io::{Read, Write};
 
 /// Writes the line of a refusal.
-fn refuse<W: Write>(alloc: Global, number: u8, name: &'static str, out: &mut W) -> Result<u8, Fault>
+pub fn refuse<W: Write>(
+    alloc: Global,
+    number: u8,
+    name: &'static str,
+    out: &mut W,
+) -> Result<u8, Fault>
     requires { name.now ≡ refusal_name number }
     ensures page { Prints W.contents out.old out.new result (refused_page number) }
     ensures status { IfOk result (λ status. status ≤ 1) }

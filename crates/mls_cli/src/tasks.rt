@@ -8,6 +8,11 @@ pub enum Job<'a> {
         /// The file's path.
         file: &'a str,
     },
+    /// Judge the test vectors that stand as JSON in a file.
+    Vectors {
+        /// The file's path.
+        file: &'a str,
+    },
 }
 
 impl<'a> Job<'a> {
@@ -19,7 +24,7 @@ impl<'a> Job<'a> {
         ensures { result.now ≡ file_of self.now }
     {
         match self {
-            Job::Show { file } => file,
+            Job::Show { file } | Job::Vectors { file } => file,
         }
     }
 }

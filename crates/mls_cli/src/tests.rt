@@ -166,8 +166,9 @@ fn shows_each_kind(rt: HostRuntime) -> Result<(), Fail> {
 #[test]
 fn says_what_is_wrong(rt: HostRuntime) -> Result<(), Fail> {
     let alloc = rt.alloc();
-    let table: [(&[&str], u8, &str); 3] = [
+    let table: [(&[&str], u8, &str); 4] = [
         (&["mls", "show", "FILE"], 3, "mls: cannot read FILE\n"),
+        (&["mls", "vectors", "FILE"], 3, "mls: cannot read FILE\n"),
         (&["mls", "show"], 2, USAGE),
         (&["mls", "replay", "FILE"], 2, UNKNOWN),
     ];

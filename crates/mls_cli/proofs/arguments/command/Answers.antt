@@ -6,8 +6,11 @@ use Rattle.mls_cli.proofs.arguments.command.Goals as goal
 
 pub returns : goal.returns
 returns c =
-    let one : app_of c.in_ok-all.all ≡ with_subcommand (new_app (codes "mls")) (on_file (codes "show")).top =
-    c.in_ok-all.ensures.shape c.in_ok-show.ensures.local
+    let one : app_of c.in_ok-first.first ≡ with_subcommand (new_app (codes "mls")) (on_file (codes "show")).top =
+    c.in_ok-first.ensures.shape c.in_ok-show.ensures.local
     ∙ ap₂ with_subcommand c.new.ensures.app (ap (λ (a : App). a.top) c.in_ok-show.ensures.app) in
+    let two : app_of c.in_ok-all.all ≡ with_subcommand (with_subcommand (new_app (codes "mls")) (on_file (codes "show")).top) (on_file (codes "vectors")).top =
+    c.in_ok-all.ensures.shape c.in_ok-vectors.ensures.local
+    ∙ ap₂ with_subcommand one (ap (λ (a : App). a.top) c.in_ok-vectors.ensures.app) in
     ap app_of_fields c.subcommand_required.ensures
-    ∙ ap (λ (a : App). record a { top = record a.top { subcommand_required = true } }) one
+    ∙ ap (λ (a : App). record a { top = record a.top { subcommand_required = true } }) two

@@ -1,6 +1,4 @@
 use Rattle.std.proofs.Common.{List, ℕ, ap, Bor}
-use Rattle.std.specs.Io.KnownBytes.{Appends}
-use Rattle.std.proofs.KnownBytes.{Appends-kept}
 use Rattle.mls_cli.proofs.Parts.{grown, kept}
 use Rattle.mls_cli.proofs.engine.put.Goals as goal
 use Rattle.mls_cli.proofs.engine.put.Goals.{in-Ok, in-Err+else-ne}

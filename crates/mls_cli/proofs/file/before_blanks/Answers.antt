@@ -1,4 +1,4 @@
-use Rattle.std.proofs.Common.{◌∙◌, ◌≡◌, sym, true, false, rules}
+use Rattle.std.proofs.Common.{◌∙◌, ◌≡◌, true, false, rules}
 use Rattle.mls_cli.specs.File.{is_blank}
 use Rattle.mls_cli.proofs.Trims.{blank_end, other_end}
 use Rattle.mls_cli.proofs.file.before_blanks.Goals as goal
