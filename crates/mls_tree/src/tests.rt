@@ -65,7 +65,9 @@ fn listing(alloc: Global, leaf: u32) -> Result<Option<Node>, AllocError> {
 fn unmerged_leaves_are_in_the_resolution(rt: HostRuntime) -> Result<(), Fail> {
     let alloc = rt.alloc();
     let mut nodes = nodes_of(alloc, &[true, false, true, true])?;
-    nodes[5] = listing(alloc, 3)?;
+    if let Some(root) = nodes.get_mut(5) {
+        *root = listing(alloc, 3)?;
+    }
     let tree = PublicTree::from_nodes(nodes)?;
     assert_eq!(rt; tree.resolution(3)?.as_slice(), [0, 5, 6].as_slice());
     assert_eq!(rt; tree.resolution(7)?.len(), 0);

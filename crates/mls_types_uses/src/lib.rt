@@ -3,3 +3,5 @@
 
 #[cfg(test)]
 mod leaves;
+#[cfg(test)]
+mod messages;
