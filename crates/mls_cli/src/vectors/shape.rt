@@ -11,6 +11,9 @@ use crate::vectors::lookup::{has_members, items_at, text_at, u8_at, u32_at, u32_
 use serde_json::Value;
 use std::alloc::{AllocError, AllocFailed, Global};
 
+/// How many bytes a label may have.
+pub const MAX_LABEL: usize = 200;
+
 /// A vector, with its hex texts not yet read.
 #[derive(Debug, Drop)]
 pub enum VectorText<'a> {
@@ -143,7 +146,7 @@ fn label_at<'a>(value: &'a Value, key: &str) -> Option<&'a str>
     ensures { option_map (λ text. text.now) result ≡ label_at key.now (view value.now) }
 {
     let label = text_at(value, key)?;
-    if label.len() <= 200 {
+    if label.len() <= MAX_LABEL {
         Some(label)
     } else {
         None

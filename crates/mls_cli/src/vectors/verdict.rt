@@ -8,15 +8,13 @@ ghost use Rattle.mls_cli.specs.Vectors.{vector_view};
 ghost use Rattle.mls_cli.specs.VectorsPassing.{expand_passes, header_passes, hkdf_passes, hmac_passes, labelled_passes, number_given, passes, treemath_passes};
 
 use crate::vectors::reading::Vector;
+use crate::vectors::shape::MAX_LABEL;
 use mls_kdf::{MAX_OUTPUT, expand, expand_with_label, extract, hmac};
 use mls_leaf::Codec;
 use mls_treemath::{copath, direct_path};
 use mls_types::MlsMessage;
 use mls_wire::length_header;
 use std::alloc::{AllocError, Global};
-
-/// How many bytes a label may have.
-const MAX_LABEL: usize = 200;
 
 /// How many bytes a context may have, and one more.
 const CONTEXT_END: usize = 1 << 30;
