@@ -15,9 +15,6 @@ const PUBLIC_MESSAGE: &str = "00010001016700000000000000000100000002000200030000
 /// Its content: what is framed, and the signature.
 const SIGNED_CONTENT: &str = "016700000000000000000100000002000200030000000501aa";
 
-/// What of it is framed.
-const FRAMED_CONTENT: &str = "0167000000000000000001000000020002000300000005";
-
 /// Suite f001, group "g", epoch 0, a tree hash of 32 bytes 11, no transcript.
 const GROUP_CONTEXT: &str =
     "0001f001016700000000000000002011111111111111111111111111111111111111111111111111111111111111110000";
@@ -143,27 +140,6 @@ fn lengths_of(alloc: Global, content: &SignedContent) -> Result<(usize, usize), 
 fn signed_and_tagged(rt: HostRuntime) -> Result<(), Fail> {
     let content = value_of::<SignedContent>(rt.alloc(), SIGNED_CONTENT)?;
     assert!(rt; lengths_of(rt.alloc(), &content)? == (76, 78));
-    Ok(())
-}
-
-fn unsigned_length(
-    alloc: Global,
-    content: &FramedContent,
-    context: &GroupContext,
-) -> Result<usize, LeafError> {
-    let bytes = content.to_be_signed(alloc, WireFormat::PublicMessage, context)?;
-    Ok(bytes.len())
-}
-
-fn unsigned_length_of(alloc: Global, content: &FramedContent) -> Result<usize, LeafError> {
-    let context = value_of::<GroupContext>(alloc, GROUP_CONTEXT)?;
-    unsigned_length(alloc, content, &context)
-}
-
-#[test]
-fn signed_before(rt: HostRuntime) -> Result<(), Fail> {
-    let content = value_of::<FramedContent>(rt.alloc(), FRAMED_CONTENT)?;
-    assert_eq!(rt; unsigned_length_of(rt.alloc(), &content)?, 76);
     Ok(())
 }
 
