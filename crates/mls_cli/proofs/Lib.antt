@@ -1,3 +1,5 @@
 mod Trims
 mod Parts
 mod Names
+mod CheckNames
+mod SentTrees

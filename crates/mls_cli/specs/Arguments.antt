@@ -1,9 +1,11 @@
 -- What the command line of `mls` is, and which job the matches of its words name.
-use Rattle.std.specs.Prelude.{List, codes, Option, Some, None, option_and_then, if◌then◌else◌, true}
+use Rattle.std.specs.Prelude.{List, [], ◌∷◌, codes, Option, Some, None, option_and_then, option_map, unwrap_or, if◌then◌else◌, true}
 use Rattle.std.specs.Str.{bytes_eq}
 use Rattle.clap.specs.Words.{App, Row, Rule, Text, first_of, new_app, new_rule, with_rule, with_subcommand}
 use Rattle.mls_cli.specs.declared.tasks.Job.{Job}
-use Rattle.mls_cli.specs.declared.tasks.Job.TheVariants.{Show, Vectors}
+use Rattle.mls_cli.specs.declared.tasks.Job.TheVariants.{Show, Check, Vectors}
+use Rattle.mls_cli.specs.declared.tasks.SuiteChoice.{SuiteChoice}
+use Rattle.mls_cli.specs.declared.tasks.SuiteChoice.TheVariants.{Glass, X25519}
 
 -- a required FILE
 abbrev pub file_rule : Rule
@@ -13,33 +15,62 @@ file_rule = record (new_rule (codes "FILE")) { required = true }
 abbrev pub on_file : Text → App
 on_file name = with_rule (new_app name) file_rule
 
+-- an optional --suite SUITE, f001 where it isn't given, and an optional --group HEX
+abbrev pub suite_rule : Rule
+suite_rule = record (new_rule (codes "SUITE")) { long = Some (codes "suite"); defaults = codes "f001" ∷ [] }
+
+abbrev pub group_rule : Rule
+group_rule = record (new_rule (codes "HEX")) { long = Some (codes "group") }
+
+-- `check`, which takes a FILE and both options
+abbrev pub check_app : App
+check_app = with_rule (with_rule (on_file (codes "check")) suite_rule) group_rule
+
 abbrev pub needing_one : App → App
 needing_one a = record a { top = record a.top { subcommand_required = true } }
 
 -- the command line: one of the subcommands is required
 abbrev pub mls : App
-mls = needing_one (with_subcommand (with_subcommand (new_app (codes "mls")) (on_file (codes "show")).top) (on_file (codes "vectors")).top)
+mls = needing_one
+    (with_subcommand
+    (with_subcommand (with_subcommand (new_app (codes "mls")) (on_file (codes "show")).top) check_app.top)
+    (on_file (codes "vectors")).top)
 
 -- a job without where it lies in memory
 pub data Task : Type 0 where
   show : Text → Task
+  check : Text → SuiteChoice → Text → Task
   vectors : Text → Task
 
 abbrev pub view : Job → Task
 view (Show file) = show file.now
+view (Check file suite group) = check file.now suite group.now
 view (Vectors file) = vectors file.now
 
-abbrev pub task_on : Text → Text → Option Task
-task_on name file =
+-- a suite is named by its number in hex
+abbrev pub suite_of : Text → Option SuiteChoice
+suite_of text =
+    if bytes_eq text (codes "f001") then Some Glass
+    else if bytes_eq text (codes "0001") then Some X25519
+    else None
+
+-- there is no such job where the suite has another name
+abbrev pub check_on : Option Text → Option Text → Text → Option Task
+check_on suite group file = option_map (λ s. check file s (unwrap_or group [])) (option_and_then suite_of suite)
+
+abbrev pub task_on : Text → List Row → Text → Option Task
+task_on name rows file =
     if bytes_eq name (codes "show") then Some (show file)
+    else if bytes_eq name (codes "check") then check_on (first_of (codes "SUITE") rows) (first_of (codes "HEX") rows) file
     else if bytes_eq name (codes "vectors") then Some (vectors file)
     else None
 
 -- the job that a subcommand's name and matches stand for
 abbrev pub task_of : Option (Text × List Row) → Option Task
 task_of found = option_and_then
-    (λ p. option_and_then (task_on p.0) (first_of (codes "FILE") p.1)) found
+    (λ p. option_and_then (task_on p.0 p.1) (first_of (codes "FILE") p.1)) found
 
 abbrev pub file_of : Job → Text
 file_of (Show file) = file.now
+file_of (Check file suite group) = file.now
 file_of (Vectors file) = file.now

@@ -14,3 +14,5 @@ pub mod VectorsShape
 pub mod VectorsBytes
 pub mod VectorsPassing
 pub mod VectorsReport
+pub mod Check
+pub mod CheckFaults

@@ -8,11 +8,13 @@ use Rattle.mls_cli.specs.declared.tasks.Job.{Job}
 use Rattle.mls_cli.specs.declared.tasks.Job.TheVariants as job
 use Rattle.mls_cli.specs.Engine.{AppendsPart, Output, page_output}
 use Rattle.mls_cli.specs.Show.{page_of}
+use Rattle.mls_cli.specs.Check.{check_page}
 use Rattle.mls_cli.specs.VectorsReport.{vectors_output}
 
 -- what a job prints for a file of this text
 abbrev pub output_for : Job → List ℕ → Output
 output_for (job.Show file) text = page_output (page_of text)
+output_for (job.Check file suite group) text = page_output (check_page text group.now)
 output_for (job.Vectors file) text = vectors_output text
 
 -- the output grows by the text, with its status, or the status is 3 and it grows by a beginning

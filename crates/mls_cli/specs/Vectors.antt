@@ -19,6 +19,8 @@ pub data Claim : Type 0 where
   treemath : ℕ → ℕ → List ℕ → List ℕ → Claim
   -- bytes, and the number that decoding gives
   message : List ℕ → ℕ → Claim
+  -- bytes, and the tree hash
+  tree : List ℕ → List ℕ → Claim
 
 -- ---- of the code's values
 
@@ -29,6 +31,7 @@ text_view (unread.Hkdf salt ikm info prk okm) = hkdf salt.now ikm.now info.now p
 text_view (unread.Expand secret label context out) = expand secret.now label.now context.now out.now
 text_view (unread.Treemath leaves node direct_path copath) = treemath leaves node direct_path.items copath.items
 text_view (unread.Message bytes refused) = message bytes.now refused
+text_view (unread.Tree bytes tree_hash) = tree bytes.now tree_hash.now
 
 abbrev pub vector_view : Vector → Claim
 vector_view (vector.Header length bytes) = header length (option_map (λ v. v.items) bytes)
@@ -37,3 +40,4 @@ vector_view (vector.Hkdf salt ikm info prk okm) = hkdf salt.items ikm.items info
 vector_view (vector.Expand secret label context out) = expand secret.items (string_bytes label) context.items out.items
 vector_view (vector.Treemath leaves node direct_path copath) = treemath leaves node direct_path.items copath.items
 vector_view (vector.Message bytes refused) = message bytes.items refused
+vector_view (vector.Tree bytes tree_hash) = tree bytes.items tree_hash.items

@@ -4,7 +4,7 @@ use Rattle.std.specs.Result.{result_ok}
 use Rattle.std.specs.Global.{Vec}
 use Rattle.hex.specs.Hex.{decode_of}
 use Rattle.mls_cli.specs.Json.{◌>>=◌, data_in}
-use Rattle.mls_cli.specs.Vectors.{Claim, header, hmac, hkdf, expand, treemath, message, vector_view}
+use Rattle.mls_cli.specs.Vectors.{Claim, header, hmac, hkdf, expand, treemath, message, tree, vector_view}
 use Rattle.mls_cli.specs.VectorsShape.{texts_in}
 use Rattle.mls_cli.specs.declared.vectors.reading.Vector.{Vector}
 use Rattle.mls_cli.specs.declared.vectors.shape.VectorsError.{VectorsError}
@@ -41,6 +41,12 @@ expand_of secret label context out = do
   out ← bytes_of out
   Some (expand secret label context out)
 
+abbrev pub tree_of : List ℕ → List ℕ → Option Claim
+tree_of bytes tree_hash = do
+  bytes ← bytes_of bytes
+  tree_hash ← bytes_of tree_hash
+  Some (tree bytes tree_hash)
+
 abbrev pub claim_of : Claim → Option Claim
 claim_of (header length text) = header_of length text
 claim_of (hmac key text out) = hmac_of key text out
@@ -48,6 +54,7 @@ claim_of (hkdf salt ikm info prk okm) = hkdf_of salt ikm info prk okm
 claim_of (expand secret label context out) = expand_of secret label context out
 claim_of (treemath leaves node direct_path copath) = Some (treemath leaves node direct_path copath)
 claim_of (message text refused) = option_map (λ bytes. message bytes refused) (bytes_of text)
+claim_of (tree bytes tree_hash) = tree_of bytes tree_hash
 
 unfoldable pub claims_of : List Claim → Option (List Claim)
 claims_of [] = Some []

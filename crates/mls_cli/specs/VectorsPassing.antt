@@ -1,5 +1,5 @@
 -- Which vectors pass.
-use Rattle.std.specs.Prelude.{◌==◌, ◌&&◌, ◌^◌, nat_le, nat_lt, ℕ, Bool, List, length, Option, Some, None, Result, Ok, Err}
+use Rattle.std.specs.Prelude.{◌==◌, ◌&&◌, ◌^◌, nat_le, nat_lt, ℕ, Bool, false, List, length, Option, Some, None, Result, Ok, Err}
 use Rattle.std.specs.Str.{bytes_eq}
 use Rattle.mls_wire.specs.Reading as wire
 use Rattle.mls_kdf.specs.Kdf as kdf
@@ -7,8 +7,11 @@ use Rattle.mls_treemath.specs.Steps.{ancestors_of, copath_of}
 use Rattle.mls_leaf.specs.Faults.{whole}
 use Rattle.mls_types.specs.Message.{mls_message}
 use Rattle.mls_types.specs.declared.message.MlsMessage.{MlsMessage}
+use Rattle.mls_term.specs.Term.{Term}
+use Rattle.mls_term.specs.Hashes.{tree_hash as hash_of}
 use Rattle.mls_cli.specs.Message.{input_limit}
-use Rattle.mls_cli.specs.Vectors.{Claim, header, hmac, hkdf, expand, treemath, message}
+use Rattle.mls_cli.specs.Check.{tree_in}
+use Rattle.mls_cli.specs.Vectors.{Claim, header, hmac, hkdf, expand, treemath, message, tree}
 
 -- RFC 9420, section 2.1.2: the bytes are the header of a length, of which there is none from 2^30 on
 abbrev pub header_passes : ℕ → Option (List ℕ) → Bool
@@ -50,6 +53,15 @@ number_given (Err n) = n
 abbrev pub message_passes : List ℕ → ℕ → Bool
 message_passes bytes refused = number_given (whole mls_message input_limit bytes) == refused
 
+-- there is a tree, and it has that tree hash
+abbrev pub has_hash : Result Term ℕ → List ℕ → Bool
+has_hash (Ok t) tree_hash = bytes_eq (hash_of 0 t) tree_hash
+has_hash (Err n) tree_hash = false
+
+-- RFC 9420, section 12.4.3.3 and 7.8: the bytes are the nodes of a tree with that tree hash
+abbrev pub tree_passes : List ℕ → List ℕ → Bool
+tree_passes bytes tree_hash = has_hash (tree_in bytes) tree_hash
+
 -- the claim holds
 unfoldable pub passes : Claim → Bool
 passes (header length bytes) = header_passes length bytes
@@ -58,3 +70,4 @@ passes (hkdf salt ikm info prk okm) = hkdf_passes salt ikm info prk okm
 passes (expand secret label context out) = labelled_passes secret label context out
 passes (treemath leaves node direct_path copath) = treemath_passes leaves node direct_path copath
 passes (message bytes refused) = message_passes bytes refused
+passes (tree bytes tree_hash) = tree_passes bytes tree_hash

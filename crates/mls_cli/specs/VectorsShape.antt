@@ -4,7 +4,7 @@ use Rattle.std.specs.Str.{bytes_eq}
 use Rattle.serde_json.specs.Data.{Data, Items, no_items, item}
 use Rattle.serde_json.specs.Find.{get, as_str, as_null, as_array}
 use Rattle.mls_cli.specs.Json.{◌>>=◌, require, is_object_of, text_at, whole, whole_at, items_at}
-use Rattle.mls_cli.specs.Vectors.{Claim, header, hmac, hkdf, expand, treemath, message}
+use Rattle.mls_cli.specs.Vectors.{Claim, header, hmac, hkdf, expand, treemath, message, tree}
 use Rattle.mls_cli.specs.declared.vectors.shape.VectorsError.{VectorsError}
 use Rattle.mls_cli.specs.declared.vectors.shape.VectorsError.TheVariants as error
 
@@ -65,6 +65,12 @@ message_in d = require (is_object_of 3 d) (do
   refused ← whole_at max_u8 (codes "refused") d
   Some (message bytes refused))
 
+abbrev pub tree_in : Data → Option Claim
+tree_in d = require (is_object_of 3 d) (do
+  bytes ← text_at (codes "bytes") d
+  tree_hash ← text_at (codes "tree_hash") d
+  Some (tree bytes tree_hash))
+
 unfoldable pub numbers_of : Items → Option (List ℕ)
 numbers_of no_items = Some []
 numbers_of (item d ds) = do
@@ -91,6 +97,7 @@ plain_of kind d =
     else if bytes_eq kind (codes "hkdf") then hkdf_in d
     else if bytes_eq kind (codes "expand") then expand_in d
     else if bytes_eq kind (codes "message") then message_in d
+    else if bytes_eq kind (codes "tree") then tree_in d
     else None
 
 abbrev pub kind_of : List ℕ → Data → Option Claim

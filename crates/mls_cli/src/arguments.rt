@@ -3,9 +3,9 @@
 ghost use Rattle.std.specs.Prelude.{◌≡◌, map, true, false, codes, Ok, Err, Some, None, IfOk, IfErr, IsSome, OnOk, ◌⊎◌, ◌∷◌, [], option_map};
 ghost use Rattle.clap.specs.Words.{app_of, shape_of, first_of, found_of, kind_of, rows_of, rule_of, subcommand_of, subcommand_rows_of, takes, fault_of, FailsBy, HasKind};
 ghost use Rattle.clap.specs.declared.Command.TheViews.{out-Command as fields_of};
-ghost use Rattle.mls_cli.specs.Arguments.{file_rule, mls, on_file, show, task_of, task_on, vectors, view};
+ghost use Rattle.mls_cli.specs.Arguments.{check, check_app, check_on, file_rule, group_rule, mls, on_file, show, suite_of, suite_rule, task_of, task_on, vectors, view};
 
-use crate::tasks::Job;
+use crate::tasks::{Job, SuiteChoice};
 use clap::error::ErrorKind;
 use clap::{Arg, ArgMatches, Command, Error};
 use std::alloc::{AllocError, Global};
@@ -26,23 +26,80 @@ fn file_command<'a>(alloc: Global, name: &'a str) -> Result<Command<'a>, AllocEr
     Command::new(alloc, name).arg(file)
 }
 
+fn suite_arg<'a>(alloc: Global) -> Arg<'a>
+    ensures rule { rule_of result ≡ suite_rule }
+    ensures local { result.global ≡ false }
+{
+    Arg::new(alloc, "SUITE")
+        .long("suite")
+        .default_value("f001")
+        .help("The group's cipher suite, f001 or 0001")
+}
+
+fn group_arg<'a>(alloc: Global) -> Arg<'a>
+    ensures rule { rule_of result ≡ group_rule }
+    ensures local { result.global ≡ false }
+{
+    Arg::new(alloc, "HEX")
+        .long("group")
+        .help("The group's id, empty by default")
+}
+
+fn check_command<'a>(alloc: Global) -> Result<Command<'a>, AllocError>
+    ensures app { IfOk result (λ c. app_of c ≡ check_app) }
+    ensures local { IfOk result (λ c. (fields_of c).has_globals ≡ false) }
+{
+    let command = file_command(alloc, "check")?;
+    let with_suite = command.arg(suite_arg(alloc))?;
+    with_suite.arg(group_arg(alloc))
+}
+
 /// The command line: one of the subcommands, each with a FILE.
 fn command<'a>(alloc: Global) -> Result<Command<'a>, AllocError>
     ensures { IfOk result (λ c. app_of c ≡ mls) }
 {
     let show = file_command(alloc, "show")?;
+    let check = check_command(alloc)?;
     let vectors = file_command(alloc, "vectors")?;
     let first = Command::new(alloc, "mls").subcommand(show)?;
-    let all = first.subcommand(vectors)?;
+    let second = first.subcommand(check)?;
+    let all = second.subcommand(vectors)?;
     Ok(all.subcommand_required(true))
 }
 
-/// The job that a subcommand's name and FILE stand for, or None where no subcommand has that name.
-fn job_on<'a>(name: &str, file: &'a str) -> Option<Job<'a>>
-    ensures { option_map view result ≡ task_on name.now file.entry.now }
+/// The suite that a text names.
+fn suite_of(text: &str) -> Option<SuiteChoice>
+    ensures { result ≡ suite_of text.now }
+{
+    match text {
+        "f001" => Some(SuiteChoice::Glass),
+        "0001" => Some(SuiteChoice::X25519),
+        _ => None,
+    }
+}
+
+/// The check that the options and FILE stand for, or None where no suite has that name.
+fn check_on<'a>(suite: Option<&str>, group: Option<&'a str>, file: &'a str) -> Option<Job<'a>>
+    ensures { option_map view result ≡ check_on (option_map (λ s. s.now) suite.entry) (option_map (λ s. s.now) group.entry) file.entry.now }
+{
+    let suite = suite_of(suite?)?;
+    match group {
+        Some(group) => Some(Job::Check { file, suite, group }),
+        None => Some(Job::Check {
+            file,
+            suite,
+            group: "",
+        }),
+    }
+}
+
+/// The job that a subcommand's name, its matches and FILE stand for, or None where no subcommand has that name.
+fn job_on<'a>(name: &str, matches: &ArgMatches<'a>, file: &'a str) -> Option<Job<'a>>
+    ensures { option_map view result ≡ task_on name.now (rows_of (found_of matches.now)) file.entry.now }
 {
     match name {
         "show" => Some(Job::Show { file }),
+        "check" => check_on(value_of(matches, "SUITE"), value_of(matches, "HEX"), file),
         "vectors" => Some(Job::Vectors { file }),
         _ => None,
     }
@@ -79,7 +136,7 @@ fn parsed<'a, S: AsStr>(alloc: Global, words: &'a [S]) -> Result<ArgMatches<'a>,
 fn value_refused(alloc: Global) -> Result<Error, AllocError>
     ensures { IfOk result (λ e. kind_of e ≡ ErrorKind.ValueValidation) }
 {
-    command(alloc)?.error(ErrorKind::ValueValidation, "a value that is not taken")
+    command(alloc)?.error(ErrorKind::ValueValidation, "--suite takes f001 or 0001")
 }
 
 fn value_of<'a>(matches: &ArgMatches<'a>, id: &str) -> Option<&'a str>
@@ -99,7 +156,7 @@ fn found_in<'a>(matches: &ArgMatches<'a>) -> Option<Job<'a>>
 {
     let (name, inner) = entered(matches)?;
     let file = value_of(inner, "FILE")?;
-    job_on(name, file)
+    job_on(name, inner, file)
 }
 
 /// Help is found first, and a job's words have no fault.
@@ -108,5 +165,9 @@ pub fn examples()
     ensures missing { fault_of mls (codes "mls" ∷ codes "show" ∷ []) ≡ ErrorKind.MissingRequiredArgument ∷ [] }
     ensures shows { task_of (subcommand_of mls (codes "mls" ∷ codes "show" ∷ codes "a" ∷ [])) ≡ Some (show (codes "a")) }
     ensures judges { task_of (subcommand_of mls (codes "mls" ∷ codes "vectors" ∷ codes "a" ∷ [])) ≡ Some (vectors (codes "a")) }
+    ensures checks { task_of (subcommand_of mls (codes "mls" ∷ codes "check" ∷ codes "a" ∷ [])) ≡ Some (check (codes "a") SuiteChoice.Glass []) }
+    ensures chosen { task_of (subcommand_of mls (codes "mls" ∷ codes "check" ∷ codes "a" ∷ codes "--suite" ∷ codes "0001" ∷ codes "--group=67" ∷ []))
+        ≡ Some (check (codes "a") SuiteChoice.X25519 (codes "67")) }
+    ensures other { task_of (subcommand_of mls (codes "mls" ∷ codes "check" ∷ codes "a" ∷ codes "--suite=f002" ∷ [])) ≡ None }
     ensures taken { fault_of mls (codes "mls" ∷ codes "show" ∷ codes "a" ∷ []) ≡ [] }
 {}

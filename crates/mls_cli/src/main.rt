@@ -4,6 +4,8 @@
 ghost use Rattle.std.specs.Prelude.{◌≤◌, IfOk};
 
 mod arguments;
+mod check;
+mod check_error;
 mod engine;
 mod file;
 mod group;
@@ -14,6 +16,7 @@ mod serving;
 mod show;
 mod tasks;
 mod text;
+mod tree;
 mod vectors;
 
 use arguments::job;
@@ -62,5 +65,7 @@ fn run(rt: &HostRuntime) -> io::Result<u8>
     ))
 }
 
+#[cfg(test)]
+mod check_tests;
 #[cfg(test)]
 mod tests;

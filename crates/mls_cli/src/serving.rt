@@ -6,6 +6,7 @@ ghost use Rattle.mls_cli.specs.Arguments.{file_of};
 ghost use Rattle.mls_cli.specs.Engine.{Puts};
 ghost use Rattle.mls_cli.specs.Serving.{Leaves, Says, Usage, out_of_memory as memory_text, output_for, unreadable};
 
+use crate::check::check;
 use crate::engine::{Fault, put};
 use crate::show::show;
 use crate::tasks::Job;
@@ -76,6 +77,7 @@ fn print_job<R: Read, W: Write>(
 {
     match job {
         Job::Show { .. } => show(alloc, file, out),
+        Job::Check { group, .. } => check(alloc, file, group, out),
         Job::Vectors { .. } => vectors(alloc, file, out),
     }
 }

@@ -5,7 +5,7 @@ ghost use Rattle.serde_json.specs.View.{view};
 ghost use Rattle.mls_cli.specs.Json.{data_in};
 ghost use Rattle.mls_cli.specs.Vectors.{text_view, vector_view};
 ghost use Rattle.mls_cli.specs.VectorsShape.{Finds};
-ghost use Rattle.mls_cli.specs.VectorsBytes.{Decodes, Reads, bytes_of, claim_of, claims_in, claims_of, expand_of, header_of, hkdf_of, hmac_of};
+ghost use Rattle.mls_cli.specs.VectorsBytes.{Decodes, Reads, bytes_of, claim_of, claims_in, claims_of, expand_of, header_of, hkdf_of, hmac_of, tree_of};
 
 use crate::vectors::shape::{VectorText, VectorsError, texts_in};
 use hex::FromHexError;
@@ -52,6 +52,11 @@ pub enum Vector {
     Message {
         bytes: Vec<u8>,
         refused: u8,
+    },
+    /// The bytes of a tree, and its tree hash.
+    Tree {
+        bytes: Vec<u8>,
+        tree_hash: Vec<u8>,
     },
 }
 
@@ -137,6 +142,14 @@ fn expand(
     })
 }
 
+fn tree(alloc: Global, bytes: &str, tree_hash: &str) -> Result<Vector, VectorsError>
+    ensures { Decodes vector_view result (tree_of bytes.now tree_hash.now) }
+{
+    let bytes = bytes_of(alloc, bytes)?;
+    let tree_hash = bytes_of(alloc, tree_hash)?;
+    Ok(Vector::Tree { bytes, tree_hash })
+}
+
 fn vector_of(alloc: Global, text: &VectorText<'_>) -> Result<Vector, VectorsError>
     ensures { Decodes vector_view result (claim_of (text_view text.now)) }
 {
@@ -178,6 +191,7 @@ fn vector_of(alloc: Global, text: &VectorText<'_>) -> Result<Vector, VectorsErro
                 refused: *refused,
             })
         }
+        VectorText::Tree { bytes, tree_hash } => tree(alloc, bytes, tree_hash),
     }
 }
 

@@ -4,7 +4,7 @@ ghost use Rattle.std.specs.Prelude.{◌≡◌, map, option_map, option_and_then}
 ghost use Rattle.serde_json.specs.Find.{get};
 ghost use Rattle.serde_json.specs.View.{view, items_view};
 ghost use Rattle.mls_cli.specs.Vectors.{text_view};
-ghost use Rattle.mls_cli.specs.VectorsShape.{Finds, expand_in, header_in, hkdf_in, hmac_in, label_at, message_in, numbers_at, numbers_of, plain_of, text_of, text_or_null, texts_in, texts_of, treemath_in};
+ghost use Rattle.mls_cli.specs.VectorsShape.{Finds, expand_in, header_in, hkdf_in, hmac_in, label_at, message_in, numbers_at, numbers_of, plain_of, text_of, text_or_null, texts_in, texts_of, tree_in, treemath_in};
 ghost use Rattle.mls_cli.specs.declared.vectors.shape.VectorsError.TheVariants.{OutOfMemory};
 
 use crate::vectors::lookup::{has_members, items_at, text_at, u8_at, u32_at, u32_of};
@@ -54,6 +54,11 @@ pub enum VectorText<'a> {
     Message {
         bytes: &'a str,
         refused: u8,
+    },
+    /// The bytes of a tree, and its tree hash.
+    Tree {
+        bytes: &'a str,
+        tree_hash: &'a str,
     },
 }
 
@@ -182,6 +187,17 @@ fn message(value: &Value) -> Option<VectorText<'_>>
     Some(VectorText::Message { bytes, refused })
 }
 
+fn tree(value: &Value) -> Option<VectorText<'_>>
+    ensures { option_map text_view result ≡ tree_in (view value.now) }
+{
+    if !has_members(value, 3) {
+        return None;
+    }
+    let bytes = text_at(value, "bytes")?;
+    let tree_hash = text_at(value, "tree_hash")?;
+    Some(VectorText::Tree { bytes, tree_hash })
+}
+
 #[tactic(auto, unfolding(crate::specs::VectorsShape::numbers_of))]
 fn numbers_of(alloc: Global, values: &[Value]) -> Result<Vec<u32>, VectorsError>
     ensures { Finds (λ v. v.items) result (numbers_of (items_view values.now)) }
@@ -236,6 +252,7 @@ fn plain<'a>(kind: &str, value: &'a Value) -> Option<VectorText<'a>>
         "hkdf" => hkdf(value),
         "expand" => expand(value),
         "message" => message(value),
+        "tree" => tree(value),
         _ => None,
     }
 }

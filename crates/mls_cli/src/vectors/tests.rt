@@ -19,12 +19,13 @@ const EXAMPLE: &str = r#"[
   {"kind": "expand", "secret": "000102030405060708090a0b0c0d0e0f101112131415161718191a1b1c1d1e1f", "label": "path", "context": "636f6e74657874", "out": "f6f4935b326fb9f5e58e81737269e95e310f331e945d6809800c5c327774ea2b4a37e98cbe4dbc0fbc4cfdf5b5c5fc0b"},
   {"kind": "treemath", "leaves": 8, "node": 6, "direct_path": [5, 3, 7], "copath": [4, 1, 11]},
   {"kind": "message", "bytes": "000100050001f00101aa01bb01cc000103626f6202000102f0010000020001010000000000000000ffffffffffffffff0001dd0001ee", "refused": 0},
-  {"kind": "message", "bytes": "000100050001f00101aa01bb01cc000103626f6202000102f0010000020001010000000000000000ffffffffffffffff0001dd0001", "refused": 2}
+  {"kind": "message", "bytes": "000100050001f00101aa01bb01cc000103626f6202000102f0010000020001010000000000000000ffffffffffffffff0001dd0001", "refused": 2},
+  {"kind": "tree", "bytes": "2b010101bb01cc000103626f6202000102f0010000020001010000000000000000ffffffffffffffff0001dd", "tree_hash": "754879a771f78780e3bedb21d618103a3fa605220876b0115cf607c73d05b74c"}
 ]
 "#;
 
 const ALL_PASS: &str =
-    "0: pass\n1: pass\n2: pass\n3: pass\n4: pass\n5: pass\n6: pass\n7: pass\n8: pass\n9: pass\n10: pass\n11: pass\n12: pass\npassed 13 of 13\n";
+    "0: pass\n1: pass\n2: pass\n3: pass\n4: pass\n5: pass\n6: pass\n7: pass\n8: pass\n9: pass\n10: pass\n11: pass\n12: pass\n13: pass\npassed 14 of 14\n";
 
 const BAD_JSON: &str = "refused: 9 BadJson\n";
 
@@ -43,7 +44,7 @@ fn printed(alloc: Global, file: &[u8]) -> Result<(u8, Vec<u8>), AllocError> {
 #[test]
 fn judges(rt: HostRuntime) -> Result<(), Fail> {
     let alloc = rt.alloc();
-    let table: [(&str, u8, &str); 9] = [
+    let table: [(&str, u8, &str); 10] = [
         (EXAMPLE, 0, ALL_PASS),
         ("[]", 0, "passed 0 of 0\n"),
         (
@@ -77,6 +78,11 @@ fn judges(rt: HostRuntime) -> Result<(), Fail> {
             "0: fail\n1: pass\npassed 1 of 2\n",
         ),
         (
+            r#"[{"kind":"tree","bytes":"00","tree_hash":""},{"kind":"tree","bytes":"2b010101bb01cc000103626f6202000102f0010000020001010000000000000000ffffffffffffffff0001dd","tree_hash":"00"}]"#,
+            1,
+            "0: fail\n1: fail\npassed 0 of 2\n",
+        ),
+        (
             r#"[{"kind":"header","length":1,"bytes":"02","length":2}]"#,
             0,
             "0: pass\npassed 1 of 1\n",
@@ -98,7 +104,7 @@ fn refuses_files(rt: HostRuntime) -> Result<(), Fail> {
         ("{}", BAD_JSON),
         ("[7]", BAD_JSON),
         (r#"[{"length":1,"bytes":"01"}]"#, BAD_JSON),
-        (r#"[{"kind":"tree","bytes":"","tree_hash":""}]"#, BAD_JSON),
+        (r#"[{"kind":"tree","bytes":"","tree_hash":null}]"#, BAD_JSON),
         (r#"[{"kind":"header","length":1.0,"bytes":"01"}]"#, BAD_JSON),
         (r#"[{"kind":"header","length":1e0,"bytes":"01"}]"#, BAD_JSON),
         (r#"[{"kind":"header","length":-1,"bytes":"01"}]"#, BAD_JSON),

@@ -5,8 +5,9 @@ ghost use Rattle.mls_leaf.specs.Faults.{whole};
 ghost use Rattle.mls_types.specs.Message.{mls_message};
 ghost use Rattle.mls_cli.specs.Message.{input_limit};
 ghost use Rattle.mls_cli.specs.Vectors.{vector_view};
-ghost use Rattle.mls_cli.specs.VectorsPassing.{expand_passes, header_passes, hkdf_passes, hmac_passes, labelled_passes, number_given, passes, treemath_passes};
+ghost use Rattle.mls_cli.specs.VectorsPassing.{expand_passes, header_passes, hkdf_passes, hmac_passes, labelled_passes, number_given, passes, tree_passes, treemath_passes};
 
+use crate::tree::tree_in;
 use crate::vectors::reading::Vector;
 use crate::vectors::shape::MAX_LABEL;
 use mls_kdf::{MAX_OUTPUT, expand, expand_with_label, extract, hmac};
@@ -107,6 +108,21 @@ fn decoding_number(bytes: &[u8]) -> u8
     }
 }
 
+/// Whether bytes are the nodes of a tree with that tree hash.
+fn tree_passes(alloc: Global, bytes: &[u8], tree_hash: &[u8]) -> Result<bool, AllocError>
+    ensures { IfOk result (λ b. b ≡ tree_passes bytes.now tree_hash.now) }
+{
+    match tree_in(alloc, bytes) {
+        Ok(mut tree) => Ok(tree.tree_hash().as_slice() == tree_hash),
+        Err(error) => {
+            if error.number() == 1 {
+                return Err(AllocError);
+            }
+            Ok(false)
+        }
+    }
+}
+
 /// Whether a vector passes.
 #[tactic(auto, unfolding(crate::specs::VectorsPassing::passes))]
 pub fn passes(alloc: Global, vector: &Vector) -> Result<bool, AllocError>
@@ -157,6 +173,9 @@ pub fn passes(alloc: Global, vector: &Vector) -> Result<bool, AllocError>
             copath.as_slice(),
         ),
         Vector::Message { bytes, refused } => Ok(decoding_number(bytes.as_slice()) == *refused),
+        Vector::Tree { bytes, tree_hash } => {
+            tree_passes(alloc, bytes.as_slice(), tree_hash.as_slice())
+        }
     }
 }
 

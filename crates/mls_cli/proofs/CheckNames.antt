@@ -1,0 +1,18 @@
+-- The name of what `mls check` refuses follows from its number.
+use Rattle.std.proofs.Common.{◌≡◌, refl}
+use Rattle.mls_tree.specs.declared.error.TreeError.TheVariants as tree
+use Rattle.mls_cli.specs.CheckFaults.{name_of, number_of}
+use Rattle.mls_cli.specs.declared.check_error.CheckError.{CheckError}
+use Rattle.mls_cli.specs.declared.check_error.CheckError.TheVariants.{OutOfMemory, NotHex, Decoding, Tree}
+use Rattle.mls_cli.specs.Show.{refusal_name}
+use Rattle.mls_cli.proofs.Names.{named as leaf_named}
+
+pub named : (e : CheckError) → name_of e ≡ refusal_name (number_of e)
+unfolding refusal_name
+named OutOfMemory = refl
+named NotHex = refl
+named (Decoding e) = leaf_named e
+named (Tree tree.OutOfMemory) = refl
+named (Tree tree.TreeShape) = refl
+named (Tree tree.TreeFull) = refl
+named (Tree tree.NoSuchLeaf) = refl

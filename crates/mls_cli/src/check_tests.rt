@@ -1,0 +1,61 @@
+//! What `mls check` prints, by way of `serve`.
+
+use crate::arguments::job;
+use crate::serving::serve;
+use std::alloc::{AllocError, Global};
+use std::test::Fail;
+
+/// `examples/tree.hex`. The tree hash is Python's SHA-256 of `01 00000000 01` and the leaf.
+const TREE: &str =
+    "2b010101bb01cc000103626f6202000102f0010000020001010000000000000000ffffffffffffffff0001dd";
+
+const MISSING: &str =
+    "error: the following required arguments were not provided:\n  <FILE>\n\nUsage: mls check <FILE>\n\nFor more information, try '--help'.\n";
+
+const OTHER: &str =
+    "error: --suite takes f001 or 0001\n\nUsage: mls <COMMAND>\n\nFor more information, try '--help'.\n";
+
+const LINES: &str =
+    "leaves: 1\nmembers: 1\ntree_hash: 754879a771f78780e3bedb21d618103a3fa605220876b0115cf607c73d05b74c\n";
+
+/// The status and the text for words and a file.
+fn printed(alloc: Global, words: &[&str], file: &str) -> Result<(u8, Vec<u8>), AllocError> {
+    let job = job(alloc, words);
+    let mut out = Vec::new(alloc);
+    let mut err = Vec::new(alloc);
+    let status = serve(alloc, &job, Some(file.as_bytes()), &mut out, &mut err);
+    out.extend_from_slice(err.as_slice())?;
+    Ok((status, out))
+}
+
+#[test]
+fn checks_and_refuses(rt: HostRuntime) -> Result<(), Fail> {
+    let alloc = rt.alloc();
+    let table: [(&[&str], &str, u8, &str); 9] = [
+        (&["mls", "check", "FILE"], TREE, 0, LINES),
+        (
+            &["mls", "check", "FILE", "--suite", "0001", "--group", "67"],
+            TREE,
+            0,
+            LINES,
+        ),
+        (&["mls", "check", "FILE"], "00", 1, "refused: 20 TreeShape\n"),
+        (&["mls", "check", "FILE"], "0100", 1, "refused: 20 TreeShape\n"),
+        (&["mls", "check", "FILE"], "0", 1, "refused: 8 NotHex\n"),
+        (&["mls", "check", "FILE"], "02", 1, "refused: 2 Truncated\n"),
+        (
+            &["mls", "check", "FILE", "--group", "6"],
+            "02",
+            1,
+            "refused: 8 NotHex\n",
+        ),
+        (&["mls", "check"], "", 2, MISSING),
+        (&["mls", "check", "FILE", "--suite=f002"], "", 2, OTHER),
+    ];
+    for (words, file, status, text) in table {
+        let (answer, out) = printed(alloc, words, file)?;
+        assert_eq!(rt; answer, status);
+        assert!(rt; out.as_slice() == text.as_bytes());
+    }
+    Ok(())
+}
