@@ -12,3 +12,4 @@ pub mod Listings
 pub mod Entries
 pub mod Widths
 pub mod Hashed
+pub mod Merged
