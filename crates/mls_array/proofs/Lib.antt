@@ -13,3 +13,5 @@ pub mod Entries
 pub mod Widths
 pub mod Hashed
 pub mod Merged
+pub mod Sorts
+pub mod Gathered

@@ -4,3 +4,4 @@ pub mod Cells
 pub mod StandingLaws
 pub mod Merging
 pub mod MergingLaws
+pub mod Merged

@@ -5,6 +5,7 @@
 //! for. `first` is the number of the tree's first leaf, which the definitions carry along in the same way.
 #![tactic(auto)]
 
+mod distinct;
 mod edits;
 mod hashes;
 mod lookup;
@@ -12,10 +13,12 @@ mod members;
 mod merging;
 mod order;
 mod path;
+mod path_keys;
 mod places;
 mod resolutions;
 mod sizes;
 
+pub use distinct::are_distinct;
 pub use edits::{enter, put};
 pub use hashes::tree_hash;
 pub use lookup::{leaf, node};
@@ -24,6 +27,7 @@ pub use merging::{bytes_of, merge, path_hash, path_length, path_parents};
 pub use mls_hash::Hash;
 pub use order::{alternates, has_last, height_for, pad, pad_tree, to_nodes};
 pub use path::filtered_path;
+pub use path_keys::merged_keys;
 pub use places::{leaf_in, parent_in};
 pub use resolutions::{is_reached, resolution, resolution_at};
 pub use sizes::{grow, trim};
