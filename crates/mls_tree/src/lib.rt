@@ -7,6 +7,7 @@
 
 mod edits;
 mod error;
+mod paths;
 #[cfg(test)]
 mod tests;
 mod tree;
