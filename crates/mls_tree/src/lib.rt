@@ -7,6 +7,8 @@
 
 mod edits;
 mod error;
+#[cfg(test)]
+mod path_tests;
 mod paths;
 #[cfg(test)]
 mod tests;
