@@ -12,4 +12,6 @@ pub mod Listings
 pub mod Entries
 pub mod Widths
 pub mod Hashed
-pub mod Settings
+pub mod Merged
+pub mod Sorts
+pub mod Gathered

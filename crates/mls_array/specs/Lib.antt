@@ -3,4 +3,5 @@ pub mod OrderLaws
 pub mod Cells
 pub mod StandingLaws
 pub mod Merging
-pub mod MergeLaws
+pub mod MergingLaws
+pub mod Merged

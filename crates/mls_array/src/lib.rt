@@ -5,29 +5,31 @@
 //! for. `first` is the number of the tree's first leaf, which the definitions carry along in the same way.
 #![tactic(auto)]
 
-#[cfg(test)]
-mod edit_tests;
+mod distinct;
 mod edits;
 mod hashes;
 mod lookup;
 mod members;
-mod merges;
+mod merging;
 mod order;
 mod path;
+mod path_keys;
 mod places;
 mod resolutions;
 mod sizes;
 #[cfg(test)]
 mod tests;
 
+pub use distinct::are_distinct;
 pub use edits::{enter, put};
 pub use hashes::tree_hash;
 pub use lookup::{leaf, node};
 pub use members::{first_blank, has_leaf, is_full_width, member_count};
-pub use merges::merge;
+pub use merging::{bytes_of, merge, path_hash, path_length, path_parents};
 pub use mls_hash::Hash;
 pub use order::{alternates, has_last, height_for, pad, pad_tree, to_nodes};
 pub use path::filtered_path;
+pub use path_keys::merged_keys;
 pub use places::{leaf_in, parent_in};
 pub use resolutions::{is_reached, resolution, resolution_at};
 pub use sizes::{grow, trim};

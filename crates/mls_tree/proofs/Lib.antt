@@ -3,3 +3,4 @@ pub mod Answering
 pub mod Singles
 pub mod Receiving
 pub mod Adding
+pub mod Pathing

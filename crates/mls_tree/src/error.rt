@@ -21,6 +21,15 @@ pub enum TreeError {
     /// No member is at that leaf.
     #[error("no member is at that leaf")]
     NoSuchLeaf,
+    /// A commit's leaf hasn't the parent hash of its path.
+    #[error("the parent hash of the leaf isn't that of its path")]
+    ParentHashWrong,
+    /// Two nodes would have one encryption key.
+    #[error("two nodes have one encryption key")]
+    KeyRepeated,
+    /// A path hasn't as many keys as the filtered direct path has parents.
+    #[error("the path hasn't a key for each of its parents")]
+    PathLength,
 }
 
 impl TreeError {
@@ -35,6 +44,9 @@ impl TreeError {
             TreeError::TreeShape => 20,
             TreeError::TreeFull => 21,
             TreeError::NoSuchLeaf => 22,
+            TreeError::ParentHashWrong => 24,
+            TreeError::KeyRepeated => 25,
+            TreeError::PathLength => 30,
         }
     }
 
@@ -47,11 +59,15 @@ impl TreeError {
             TreeError::TreeShape => "TreeShape",
             TreeError::TreeFull => "TreeFull",
             TreeError::NoSuchLeaf => "NoSuchLeaf",
+            TreeError::ParentHashWrong => "ParentHashWrong",
+            TreeError::KeyRepeated => "KeyRepeated",
+            TreeError::PathLength => "PathLength",
         }
     }
 }
 
 impl From<AllocError> for TreeError {
+    ghost use Rattle.std.specs.Prelude.{◌≡◌};
     ghost use Rattle.mls_tree.specs.declared.error.TreeError.TheVariants.{OutOfMemory};
 
     ghost from_gives = { λ _ e. e ≡ OutOfMemory };
@@ -62,6 +78,7 @@ impl From<AllocError> for TreeError {
 }
 
 impl<T: Drop> From<AllocFailed<T>> for TreeError {
+    ghost use Rattle.std.specs.Prelude.{◌≡◌};
     ghost use Rattle.mls_tree.specs.declared.error.TreeError.TheVariants.{OutOfMemory};
 
     ghost from_gives = { λ _ e. e ≡ OutOfMemory };

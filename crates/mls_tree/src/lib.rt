@@ -8,6 +8,9 @@
 mod edits;
 mod error;
 #[cfg(test)]
+mod path_tests;
+mod paths;
+#[cfg(test)]
 mod tests;
 mod tree;
 

@@ -24,8 +24,8 @@ use std::marker::Model;
 /// Its methods use the allocator that it was made with.
 #[derive(Drop)]
 pub struct PublicTree {
-    nodes: Vec<Option<Node>>,
-    height: u32,
+    pub(crate) nodes: Vec<Option<Node>>,
+    pub(crate) height: u32,
 }
 
 impl Model for PublicTree {

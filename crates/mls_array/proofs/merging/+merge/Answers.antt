@@ -1,8 +1,8 @@
 use Rattle.std.proofs.Common.{◌<◌, length, refl, arith, rules}
 use Rattle.mls_treemath.specs.Sizes.{nodes_in_pos}
 use Rattle.mls_array.proofs.Standings.{half, left_of, right_of}
-use Rattle.mls_array.proofs.Settings.{set_way_one, set_in_left, set_in_right, path_merged}
-use Rattle.mls_array.proofs.merges.+merge.Goals as goal
+use Rattle.mls_array.proofs.Merged.{merge_one, merge_in_left, merge_in_right}
+use Rattle.mls_array.proofs.merging.+merge.Goals as goal
 
 pub bounds-nodes-0 : goal.bounds-nodes-0
 bounds-nodes-0 t c =
@@ -12,9 +12,7 @@ bounds-nodes-0 t c =
     search rules
 
 pub returns-then-height-eq0 : goal.returns-then-height-eq0
-returns-then-height-eq0 t c =
-    let way = set_way_one _ _ _ _ _ _ c.if-height-eq0.true c.requires.stands.size in
-    record { way = way; path = path_merged _ _ _ _ _ _ way }
+returns-then-height-eq0 t c = λ ks g made. merge_one _ _ _ _ _ _ _ c.if-height-eq0.true c.requires.stands.size
 
 pub merge-requires : goal.merge-requires
 merge-requires t c =
@@ -29,10 +27,8 @@ merge-requires-else-i-second t c =
 
 pub returns-then-i-second : goal.returns-then-i-second
 returns-then-i-second t c =
-    let way = set_in_left _ _ _ _ c.middle_of-middle.ensures refl (omega arith) c.requires.stands _ _ _ _ _ c.last_cell.ensures.others _ c.last_cell.ensures.cell _ c.if-i-second.true c.merge.ensures.way in
-    record { way = way; path = path_merged _ _ _ _ _ _ way }
+    merge_in_left _ _ _ _ c.middle_of-middle.ensures refl (omega arith) c.requires.stands _ _ _ _ _ _ _ c.next_cell.ensures.cell c.next_cell.ensures.rest _ c.if-i-second.true c.is_right_reached-wanted.ensures c.merge.ensures
 
 pub returns-else-i-second : goal.returns-else-i-second
 returns-else-i-second t c =
-    let way = set_in_right _ _ _ _ c.middle_of-middle.ensures refl (omega arith) c.requires.stands _ _ _ _ _ c.last_cell.ensures.others _ c.last_cell.ensures.cell _ c.if-i-second.false c.merge-else-i-second.ensures.way in
-    record { way = way; path = path_merged _ _ _ _ _ _ way }
+    merge_in_right _ _ _ _ c.middle_of-middle.ensures refl (omega arith) c.requires.stands _ _ _ _ _ _ _ c.next_cell-else-i-second.ensures.cell c.next_cell-else-i-second.ensures.rest _ c.if-i-second.false c.is_left_reached-wanted.ensures c.merge-else-i-second.ensures

@@ -1,0 +1,116 @@
+-- The encryption keys of a merged tree, by the root and its sides.
+use Rattle.std.proofs.Common.{◌≡◌, ℕ, ◌+◌, ◌-◌, ◌/◌, ◌<◌, ◌≤◌, Bool, List, [], ◌∷◌, ◌++◌, length, get_or, take, drop, Option, Some, None, refl, sym, ◌∙◌, ap, arith, append_assoc, append-nil}
+use Rattle.std.proofs.lemmas.List.{take_more, take_rest}
+use Rattle.std.specs.List.{flat_map}
+use Rattle.mls_leaf.specs.Parent.{Parent}
+use Rattle.mls_leaf.specs.declared.leaf.LeafNode.{LeafNode}
+use Rattle.mls_leaf.specs.declared.node.Node.{Node}
+use Rattle.mls_treemath.specs.Paths.{nodes_in}
+use Rattle.mls_term.specs.Term.{Term, Leaf, Branch}
+use Rattle.mls_term.specs.Resolution.{is_reached}
+use Rattle.mls_term.specs.Merge.{merge, new_parent, keys_below, parent_beside, keys_beside, hash_beside}
+use Rattle.mls_term.specs.Keys.{gather, encryption_keys, leaf_key, parent_key}
+use Rattle.mls_term.specs.Arrays.{leaf_in, parent_in, leaf_cell, parent_cell, term_of, in_order}
+use Rattle.mls_term.specs.Equations.{gather_leaf, gather_branch, merge_leaf, merge_left, merge_right}
+use Rattle.mls_array.specs.Standing.{Stands}
+use Rattle.mls_array.specs.StandingLaws.{in_order-leaf, in_order-branch}
+use Rattle.mls_array.specs.Merged.{cell_key}
+use Rattle.mls_array.proofs.Sides.{term_of-zero}
+use Rattle.mls_array.proofs.Readings.{left_side, right_side, InParts}
+
+flat_append : (xs ys : List (Option Node)) → flat_map cell_key (xs ++ ys) ≡ flat_map cell_key xs ++ flat_map cell_key ys
+flat_append [] ys = refl
+flat_append (x ∷ xs) ys = ap (λ zs. cell_key x ++ zs) (flat_append xs ys) ∙ sym (append_assoc (cell_key x) (flat_map cell_key xs) (flat_map cell_key ys))
+
+leaf_cell_key : (v : Option LeafNode) → flat_map cell_key (leaf_cell v ∷ []) ≡ leaf_key v
+leaf_cell_key None = refl
+leaf_cell_key (Some v) = refl
+
+parent_cell_key : (c : Option Parent) → cell_key (parent_cell c) ≡ parent_key c
+parent_cell_key None = refl
+parent_cell_key (Some p) = refl
+
+keys_in_order : (t : Term) → flat_map cell_key (in_order t) ≡ encryption_keys t
+keys_in_order (Leaf v) =
+    ap (flat_map cell_key) (in_order-leaf v) ∙ leaf_cell_key v ∙ sym (gather_leaf leaf_key parent_key v)
+keys_in_order (Branch c l r) =
+    ap (flat_map cell_key) (in_order-branch c l r)
+    ∙ flat_append (in_order l) (parent_cell c ∷ in_order r)
+    ∙ ap (λ ks. ks ++ (cell_key (parent_cell c) ++ flat_map cell_key (in_order r))) (keys_in_order l)
+    ∙ ap (λ ks. encryption_keys l ++ (ks ++ flat_map cell_key (in_order r))) (parent_cell_key c)
+    ∙ ap (λ ks. encryption_keys l ++ (parent_key c ++ ks)) (keys_in_order r)
+    ∙ sym (gather_branch c l r leaf_key parent_key)
+
+-- a list that stands for a tree has its keys
+pub standing_keys : (h : ℕ) (xs : List (Option Node)) → Stands h xs → flat_map cell_key xs ≡ encryption_keys (term_of h xs)
+standing_keys h xs stands = ap (flat_map cell_key) (sym stands.order) ∙ keys_in_order (term_of h xs)
+
+-- one more cell
+pub one_more_cell : (xs : List (Option Node)) (k : ℕ) (x : Option Node) (start : List (List ℕ)) → k < length xs → x ≡ get_or xs k x → (start ++ flat_map cell_key (take k xs)) ++ cell_key x ≡ start ++ flat_map cell_key (take (k + 1) xs)
+one_more_cell xs k x start lt is =
+    append_assoc start (flat_map cell_key (take k xs)) (cell_key x)
+    ∙ ap (λ ks. start ++ (flat_map cell_key (take k xs) ++ ks)) (sym (append-nil (cell_key x)))
+    ∙ ap (λ ks. start ++ ks) (sym (flat_append (take k xs) (x ∷ [])))
+    ∙ ap (λ y. start ++ flat_map cell_key (take k xs ++ (y ∷ []))) is
+    ∙ ap (λ ys. start ++ flat_map cell_key ys) (sym (take_more xs k x lt))
+
+pub keys_no_more : (b h i : ℕ) (xs : List (Option Node)) (ks : List (List ℕ)) (g : List ℕ) (x : LeafNode) → h ≡ 0 → encryption_keys (merge b (term_of h xs) i ks g x) ≡ x.encryption_key ∷ []
+keys_no_more b h i xs ks g x low =
+    ap (λ j. encryption_keys (merge b (term_of j xs) i ks g x)) low
+    ∙ ap (λ t. encryption_keys (merge b t i ks g x)) (term_of-zero xs)
+    ∙ ap encryption_keys (merge_leaf b (leaf_in (get_or xs 0 None)) i ks g x)
+    ∙ gather_leaf leaf_key parent_key (Some x)
+
+module _ (b h m i : ℕ) (xs : List (Option Node)) (n : Option Node) (parts : InParts h m xs n) (ks : List (List ℕ)) (g : List ℕ) (x : LeafNode) where
+  pub keys_in_left : i < b + (m / 2 + 1) → encryption_keys (merge b (term_of h xs) i ks g x) ≡ encryption_keys (merge b (left_side h m xs) i (keys_beside (b + (m / 2 + 1)) (right_side h m xs) ks) (hash_beside (b + (m / 2 + 1)) (right_side h m xs) ks g) x) ++ (parent_key (parent_beside (b + (m / 2 + 1)) (right_side h m xs) ks g) ++ encryption_keys (right_side h m xs))
+  keys_in_left lt =
+      let l = left_side h m xs in
+      let r = right_side h m xs in
+      let w = parts.left_width in
+      ap (λ t. encryption_keys (merge b t i ks g x)) parts.is
+      ∙ ap encryption_keys (merge_left b (parent_in n) (left_side h m xs) (right_side h m xs) i ks g x (omega arith))
+      ∙ ap (λ k. encryption_keys (Branch (parent_beside (b + k) (right_side h m xs) ks g) (merge b (left_side h m xs) i (keys_beside (b + k) (right_side h m xs) ks) (hash_beside (b + k) (right_side h m xs) ks g) x) (right_side h m xs))) w
+      ∙ gather_branch (parent_beside (b + (m / 2 + 1)) r ks g) (merge b l i (keys_beside (b + (m / 2 + 1)) r ks) (hash_beside (b + (m / 2 + 1)) r ks g) x) r leaf_key parent_key
+
+  pub keys_in_right : b + (m / 2 + 1) ≤ i → encryption_keys (merge b (term_of h xs) i ks g x) ≡ encryption_keys (left_side h m xs) ++ (parent_key (parent_beside b (left_side h m xs) ks g) ++ encryption_keys (merge (b + (m / 2 + 1)) (right_side h m xs) i (keys_beside b (left_side h m xs) ks) (hash_beside b (left_side h m xs) ks g) x))
+  keys_in_right ge =
+      let l = left_side h m xs in
+      let r = right_side h m xs in
+      let w = parts.left_width in
+      ap (λ t. encryption_keys (merge b t i ks g x)) parts.is
+      ∙ ap encryption_keys (merge_right b (parent_in n) (left_side h m xs) (right_side h m xs) i ks g x (omega arith))
+      ∙ ap (λ k. encryption_keys (Branch (parent_beside b (left_side h m xs) ks g) (left_side h m xs) (merge (b + k) (right_side h m xs) i (keys_beside b (left_side h m xs) ks) (hash_beside b (left_side h m xs) ks g) x))) w
+      ∙ gather_branch (parent_beside b l ks g) l (merge (b + (m / 2 + 1)) r i (keys_beside b l ks) (hash_beside b l ks g) x) leaf_key parent_key
+
+  pub left_gathered : (old mid top own cells lower : List (List ℕ)) (wanted : Bool) → i < b + (m / 2 + 1) → wanted ≡ is_reached (b + (m / 2 + 1)) (right_side h m xs) → lower ≡ keys_below wanted ks → own ≡ parent_key (new_parent wanted ks g) → ((d : List ℕ) → mid ≡ old ++ encryption_keys (merge b (left_side h m xs) i lower d x)) → top ≡ mid ++ own → cells ≡ encryption_keys (right_side h m xs) → top ++ cells ≡ old ++ encryption_keys (merge b (term_of h xs) i ks g x)
+  left_gathered old mid top own cells lower wanted lt reached are_lower is_own mids tops are_cells =
+      let r : Term = right_side h m xs in
+      let k : ℕ = b + (m / 2 + 1) in
+      let d : List ℕ = hash_beside k r ks g in
+      let one : List (List ℕ) = parent_key (parent_beside k r ks g) in
+      let deep : List (List ℕ) = encryption_keys (merge b (left_side h m xs) i (keys_beside k r ks) d x) in
+      ap (λ z. z ++ cells) tops
+      ∙ ap (λ z. (mid ++ own) ++ z) are_cells
+      ∙ ap (λ z. (mid ++ z) ++ encryption_keys r) (is_own ∙ ap (λ v. parent_key (new_parent v ks g)) reached)
+      ∙ ap (λ z. (z ++ one) ++ encryption_keys r) (mids d ∙ ap (λ js. old ++ encryption_keys (merge b (left_side h m xs) i js d x)) (are_lower ∙ ap (λ v. keys_below v ks) reached))
+      ∙ ap (λ z. z ++ encryption_keys r) (append_assoc old deep one)
+      ∙ append_assoc old (deep ++ one) (encryption_keys r)
+      ∙ ap (λ z. old ++ z) (append_assoc deep one (encryption_keys r))
+      ∙ ap (λ z. old ++ z) (sym (keys_in_left lt))
+
+  pub right_gathered : (old mid top own cells lower : List (List ℕ)) (wanted : Bool) → b + (m / 2 + 1) ≤ i → wanted ≡ is_reached b (left_side h m xs) → lower ≡ keys_below wanted ks → own ≡ parent_key (new_parent wanted ks g) → mid ≡ old ++ cells → top ≡ mid ++ own → cells ≡ encryption_keys (left_side h m xs) → top ++ encryption_keys (merge (b + (m / 2 + 1)) (right_side h m xs) i lower (hash_beside b (left_side h m xs) ks g) x) ≡ old ++ encryption_keys (merge b (term_of h xs) i ks g x)
+  right_gathered old mid top own cells lower wanted ge reached are_lower is_own mids tops are_cells =
+      let l : Term = left_side h m xs in
+      let r : Term = right_side h m xs in
+      let k : ℕ = b + (m / 2 + 1) in
+      let d : List ℕ = hash_beside b l ks g in
+      let one : List (List ℕ) = parent_key (parent_beside b l ks g) in
+      let deep : List (List ℕ) = encryption_keys (merge k r i (keys_beside b l ks) d x) in
+      ap (λ z. z ++ encryption_keys (merge k r i lower d x)) tops
+      ∙ ap (λ js. (mid ++ own) ++ encryption_keys (merge k r i js d x)) (are_lower ∙ ap (λ v. keys_below v ks) reached)
+      ∙ ap (λ z. (mid ++ z) ++ deep) (is_own ∙ ap (λ v. parent_key (new_parent v ks g)) reached)
+      ∙ ap (λ z. (z ++ one) ++ deep) (mids ∙ ap (λ z. old ++ z) are_cells)
+      ∙ ap (λ z. z ++ deep) (append_assoc old (encryption_keys l) one)
+      ∙ append_assoc old (encryption_keys l ++ one) deep
+      ∙ ap (λ z. old ++ z) (append_assoc (encryption_keys l) one deep)
+      ∙ ap (λ z. old ++ z) (sym (keys_in_right ge))

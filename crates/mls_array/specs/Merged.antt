@@ -1,0 +1,27 @@
+-- The encryption keys of a tree that is an array, as borrowed byte strings.
+use Rattle.std.specs.Prelude.{◌≡◌, ℕ, suc, ◌<◌, Bool, true, false, List, [], ◌∷◌, map, length, slice_index_or, Option, Some, None}
+use Rattle.std.specs.Borrow.{Bor}
+use Rattle.std.specs.Cmp.Lexicographic.{pointwise}
+use Rattle.std.specs.Prelude.{nat_eq}
+use Rattle.mls_leaf.specs.declared.node.Node.{Node}
+use Rattle.mls_leaf.specs.declared.node.Node.TheVariants.{Leaf as in_leaf, Parent as in_parent}
+
+-- the byte strings that are borrowed
+abbrev pub bytes_in : List (Bor (List ℕ)) → List (List ℕ)
+bytes_in xs = map (λ x. x.now) xs
+
+-- each differs from the one before it
+abbrev pub Differ : List (Bor (List ℕ)) → Type 0
+Differ xs = (k : ℕ) (d : Bor (List ℕ)) → suc k < length xs → pointwise nat_eq (slice_index_or xs k d).now (slice_index_or xs (suc k) d).now ≡ false
+
+-- one is the same as the one before it
+pub record Repeats (xs : List (Bor (List ℕ))) : Type 0 where
+  pub place : ℕ
+  pub within : suc place < length xs
+  pub same : (d : Bor (List ℕ)) → pointwise nat_eq (slice_index_or xs place d).now (slice_index_or xs (suc place) d).now ≡ true
+
+-- the encryption key in a cell, where it isn't blank
+abbrev pub cell_key : Option Node → List (List ℕ)
+cell_key None = []
+cell_key (Some (in_leaf v)) = v.encryption_key ∷ []
+cell_key (Some (in_parent p)) = p.encryption_key ∷ []

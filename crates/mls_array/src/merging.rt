@@ -1,0 +1,275 @@
+//! A path that is merged into a tree: the parents that it makes, and their parent hashes.
+
+ghost use Rattle.std.specs.Prelude.{◌≡◌, ℕ, ◌+◌, ◌-◌, ◌^◌, ◌<◌, ◌≤◌, ◌++◌, List, [], length, take, drop, reverse, IfOk, OnOk};
+ghost use Rattle.std.specs.Option.{option_to_list};
+ghost use Rattle.std.specs.Vec.Iter.{into_iter_items};
+ghost use Rattle.mls_treemath.specs.Paths.{nodes_in};
+ghost use Rattle.mls_term.specs.Way.{path_length};
+ghost use Rattle.mls_term.specs.Resolution.{is_reached};
+ghost use Rattle.mls_term.specs.Merge.{merge, path_hash, parent_beside, keys_beside, hash_beside};
+ghost use Rattle.mls_term.specs.Arrays.{term_of, in_order, parent_cell, HasMiddle};
+ghost use Rattle.mls_array.specs.Standing.{Stands};
+ghost use Rattle.mls_array.specs.Merging.{path_parents, first_if, rest_if, hash_bytes};
+
+use crate::hashes::tree_hash;
+use crate::places::middle_of;
+use crate::resolutions::is_reached;
+use mls_hash::{Hash, sibling_hash};
+use mls_leaf::{Bytes, Items, LeafNode, Node, ParentNode};
+use std::alloc::{AllocError, Global};
+use std::vec;
+
+/// How many parents the filtered direct path of a leaf takes in (RFC 9420, 4.1.2). Takes no memory.
+#[tactic(auto, using(mls_treemath::specs::Sizes::nodes_in_pos))]
+pub fn path_length(nodes: &[Option<Node>], height: u32, first: u32, leaf: u32) -> u32
+    requires shape { length nodes.now ≡ nodes_in height }
+    requires fits { first + 2 ^ height ≤ 2 ^ 31 }
+    ensures value { result ≡ path_length first (term_of height nodes.now) leaf }
+    ensures low { result ≤ height }
+{
+    if height == 0 {
+        return 0;
+    }
+    let middle = middle_of(nodes.len(), height);
+    let second = first + (middle / 2 + 1) as u32;
+    let left = &nodes[..middle];
+    let right = &nodes[middle + 1..];
+    if leaf < second {
+        u32::from(is_reached(right, height - 1)) + path_length(left, height - 1, first, leaf)
+    } else {
+        u32::from(is_reached(left, height - 1)) + path_length(right, height - 1, second, leaf)
+    }
+}
+
+/// The bytes of a parent hash: none above the highest parent of a path (RFC 9420, 7.9).
+pub fn bytes_of(hash: &Option<Hash>) -> &[u8]
+    ensures { result.now ≡ hash_bytes hash.now }
+{
+    match hash {
+        Some(hash) => hash,
+        None => &[],
+    }
+}
+
+/// The keys and the parent hash that a merge hands down below a parent with this other side. The keys are those of the
+/// parents from there on, the lowest first.
+fn handed_down<'a>(
+    side: &[Option<Node>],
+    height: u32,
+    first: u32,
+    keys: &'a [Bytes],
+    hash: Option<Hash>,
+) -> (&'a [Bytes], Option<Hash>)
+    requires shape { length side.now ≡ nodes_in height }
+    requires fits { first + 2 ^ height ≤ 2 ^ 31 }
+    ensures keys { reverse result.0.now ≡ keys_beside first (term_of height side.now) (reverse keys.now) }
+    ensures hash { hash_bytes result.1 ≡ hash_beside first (term_of height side.now) (reverse keys.now) (hash_bytes hash) }
+{
+    if !is_reached(side, height) {
+        return (keys, hash);
+    }
+    match keys {
+        [lower @ .., key] => {
+            let sibling = tree_hash(side, height, first);
+            let below = sibling_hash(key.as_slice(), bytes_of(&hash), &sibling);
+            (lower, Some(below))
+        }
+        [] => (keys, hash),
+    }
+}
+
+/// The parent hash that reaches a leaf when a path with these keys is merged, the lowest first (RFC 9420, 7.9). Takes no
+/// memory.
+#[tactic(auto, using(mls_treemath::specs::Sizes::nodes_in_pos))]
+pub fn path_hash(
+    nodes: &[Option<Node>],
+    height: u32,
+    first: u32,
+    leaf: u32,
+    keys: &[Bytes],
+    hash: Option<Hash>,
+) -> Option<Hash>
+    requires shape { length nodes.now ≡ nodes_in height }
+    requires fits { first + 2 ^ height ≤ 2 ^ 31 }
+    ensures { hash_bytes result ≡ path_hash first (term_of height nodes.now) leaf (reverse keys.now) (hash_bytes hash) }
+{
+    if height == 0 {
+        return hash;
+    }
+    let middle = middle_of(nodes.len(), height);
+    let second = first + (middle / 2 + 1) as u32;
+    let left = &nodes[..middle];
+    let right = &nodes[middle + 1..];
+    if leaf < second {
+        let (lower, below) = handed_down(right, height - 1, second, keys, hash);
+        path_hash(left, height - 1, first, leaf, lower, below)
+    } else {
+        let (lower, below) = handed_down(left, height - 1, first, keys, hash);
+        path_hash(right, height - 1, second, leaf, lower, below)
+    }
+}
+
+/// A parent that a merge makes: its list is empty.
+fn merged_parent(alloc: Global, key: Bytes, hash: &Option<Hash>) -> Result<ParentNode, AllocError>
+    ensures { IfOk result (λ p. p ≡ record { encryption_key = key; parent_hash = hash_bytes hash.now; unmerged_leaves = [] }) }
+{
+    let parent_hash = Bytes::from_vec(Vec::from_slice(alloc, bytes_of(hash))?);
+    match ParentNode::new(key, parent_hash, Items::from_vec(Vec::new(alloc))) {
+        Ok(parent) => Ok(parent),
+        Err(_) => unreachable!(),
+    }
+}
+
+/// Adds the parent that a merge makes, whose other side this is, where there is one, and answers the parent hash that it
+/// hands down. Its key is the last one, which is taken.
+fn add_parent(
+    alloc: Global,
+    side: &[Option<Node>],
+    height: u32,
+    first: u32,
+    keys: &mut Vec<Bytes>,
+    hash: Option<Hash>,
+    out: &mut Vec<ParentNode>,
+) -> Result<Option<Hash>, AllocError>
+    requires shape { length side.now ≡ nodes_in height }
+    requires fits { first + 2 ^ height ≤ 2 ^ 31 }
+    ensures parent { OnOk result (out.new.items ≡ out.old.items ++ option_to_list (parent_beside first (term_of height side.now) (reverse keys.old.items) (hash_bytes hash))) }
+    ensures keys { OnOk result (reverse keys.new.items ≡ keys_beside first (term_of height side.now) (reverse keys.old.items)) }
+    ensures hash { IfOk result (λ below. hash_bytes below ≡ hash_beside first (term_of height side.now) (reverse keys.old.items) (hash_bytes hash)) }
+{
+    if !is_reached(side, height) {
+        return Ok(hash);
+    }
+    match keys.pop() {
+        Some(key) => {
+            let sibling = tree_hash(side, height, first);
+            let below = sibling_hash(key.as_slice(), bytes_of(&hash), &sibling);
+            out.push(merged_parent(alloc, key, &hash)?)?;
+            Ok(Some(below))
+        }
+        None => Ok(hash),
+    }
+}
+
+/// Adds the parents that a merge makes over a leaf to `out`, the highest first. Their keys are the last ones, which are
+/// taken.
+#[tactic(auto, using(mls_treemath::specs::Sizes::nodes_in_pos))]
+fn add_parents(
+    alloc: Global,
+    nodes: &[Option<Node>],
+    height: u32,
+    first: u32,
+    leaf: u32,
+    keys: &mut Vec<Bytes>,
+    hash: Option<Hash>,
+    out: &mut Vec<ParentNode>,
+) -> Result<(), AllocError>
+    requires shape { length nodes.now ≡ nodes_in height }
+    requires fits { first + 2 ^ height ≤ 2 ^ 31 }
+    ensures { OnOk result (out.new.items ≡ out.old.items ++ path_parents first (term_of height nodes.now) leaf (reverse keys.old.items) (hash_bytes hash)) }
+{
+    if height == 0 {
+        return Ok(());
+    }
+    let middle = middle_of(nodes.len(), height);
+    let second = first + (middle / 2 + 1) as u32;
+    let left = &nodes[..middle];
+    let right = &nodes[middle + 1..];
+    if leaf < second {
+        let below = add_parent(alloc, right, height - 1, second, keys, hash, out)?;
+        add_parents(alloc, left, height - 1, first, leaf, keys, below, out)
+    } else {
+        let below = add_parent(alloc, left, height - 1, first, keys, hash, out)?;
+        add_parents(alloc, right, height - 1, second, leaf, keys, below, out)
+    }
+}
+
+/// The parents that a merge makes over a leaf, the highest first (RFC 9420, 7.5 and 7.9). Their keys are given lowest
+/// first, and the highest one's parent hash is empty.
+pub fn path_parents(
+    alloc: Global,
+    nodes: &[Option<Node>],
+    height: u32,
+    first: u32,
+    leaf: u32,
+    keys: Vec<Bytes>,
+) -> Result<Vec<ParentNode>, AllocError>
+    requires shape { length nodes.now ≡ nodes_in height }
+    requires fits { first + 2 ^ height ≤ 2 ^ 31 }
+    ensures { IfOk result (λ v. v.items ≡ path_parents first (term_of height nodes.now) leaf (reverse keys.items) []) }
+{
+    let mut keys = keys;
+    let mut out = Vec::new(alloc);
+    add_parents(alloc, nodes, height, first, leaf, &mut keys, None, &mut out)?;
+    Ok(out)
+}
+
+/// The cell of the next parent where one is wanted, and a blank one elsewhere.
+fn next_cell(wanted: bool, parents: &mut vec::IntoIter<ParentNode>) -> Option<Node>
+    ensures cell { result ≡ parent_cell (first_if wanted (into_iter_items parents.old)) }
+    ensures rest { into_iter_items parents.new ≡ rest_if wanted (into_iter_items parents.old) }
+{
+    if !wanted {
+        return None;
+    }
+    match parents.next() {
+        Some(parent) => Some(Node::Parent(parent)),
+        None => None,
+    }
+}
+
+/// Whether the left side of the root is reached.
+fn is_left_reached(nodes: &[Option<Node>], height: u32, middle: usize) -> bool
+    requires above_leaf { 0 < height }
+    requires middle { HasMiddle height (length nodes.now) middle }
+    ensures { (b : ℕ) → result ≡ is_reached b (term_of (height - 1) (take middle nodes.now)) }
+{
+    is_reached(&nodes[..middle], height - 1)
+}
+
+/// Whether its right side is.
+fn is_right_reached(nodes: &[Option<Node>], height: u32, middle: usize) -> bool
+    requires above_leaf { 0 < height }
+    requires middle { HasMiddle height (length nodes.now) middle }
+    ensures { (b : ℕ) → result ≡ is_reached b (term_of (height - 1) (drop (middle + 1) nodes.now)) }
+{
+    is_reached(&nodes[middle + 1..], height - 1)
+}
+
+/// Merges a path: replaces leaf i and blanks the parents over it, but for those of the filtered path, which are replaced
+/// by the given ones (RFC 9420, 7.5). Takes no memory.
+pub fn merge(
+    nodes: &mut [Option<Node>],
+    height: u32,
+    first: u32,
+    i: u32,
+    parents: &mut vec::IntoIter<ParentNode>,
+    leaf: LeafNode,
+)
+    requires stands { Stands height nodes.old }
+    requires fits { first + 2 ^ height ≤ 2 ^ 31 }
+    ensures { (ks : List (List ℕ)) (h : List ℕ) → into_iter_items parents.old ≡ path_parents first (term_of height nodes.old) i ks h → nodes.new ≡ in_order (merge first (term_of height nodes.old) i ks h leaf) }
+{
+    if height == 0 {
+        nodes[0] = Some(Node::Leaf(leaf));
+        return;
+    }
+    let middle = middle_of(nodes.len(), height);
+    let second = first + (middle / 2 + 1) as u32;
+    if i < second {
+        let wanted = is_right_reached(nodes, height, middle);
+        nodes[middle] = next_cell(wanted, parents);
+        merge(&mut nodes[..middle], height - 1, first, i, parents, leaf);
+    } else {
+        let wanted = is_left_reached(nodes, height, middle);
+        nodes[middle] = next_cell(wanted, parents);
+        merge(
+            &mut nodes[middle + 1..],
+            height - 1,
+            second,
+            i,
+            parents,
+            leaf,
+        );
+    }
+}

@@ -1,0 +1,13 @@
+use Rattle.std.proofs.Common.{[], reverse, ◌∙◌, ap}
+use Rattle.mls_term.specs.Merge.{path_hash, path_parent_hash}
+use Rattle.mls_term.specs.Arrays.{term_of}
+use Rattle.mls_tree.specs.Tree.{term}
+use Rattle.mls_tree.proofs.Pathing.{hash_is}
+use Rattle.mls_tree.proofs.tree.PublicTree.path_hash.Goals as goal
+
+pub returns : goal.returns
+returns c =
+    c.path_hash.ensures
+    ∙ ap (λ xs. path_hash 0 (term_of c.self.inside.height xs) c.args.i (reverse c.args.keys.now) []) c.deref.ensures.value
+    ∙ hash_is _ _ _
+    ∙ ap (λ t. path_parent_hash (term t) c.args.i c.args.keys.now) c.self.view_is

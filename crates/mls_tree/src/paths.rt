@@ -1,0 +1,146 @@
+//! A commit's path: the parent hash of its leaf, and its merge.
+
+ghost use Rattle.std.specs.Prelude.{◌≡◌, ◌≤◌, IfOk, OnOk, OnErr};
+ghost use Rattle.mls_wire.specs.Checks.{passed, Answers, AnswersOutright};
+ghost use Rattle.mls_treemath.specs.Limits.{max_height};
+ghost use Rattle.mls_term.specs.Node.{source_hash};
+ghost use Rattle.mls_term.specs.Sets.{same_bytes, is_distinct};
+ghost use Rattle.mls_term.specs.Way.{path_length};
+ghost use Rattle.mls_term.specs.Hashes.{is_some_bytes};
+ghost use Rattle.mls_term.specs.Keys.{encryption_keys};
+ghost use Rattle.mls_term.specs.Merge.{merge_path, path_parent_hash};
+ghost use Rattle.mls_term.specs.Arrays.{term_of};
+ghost use Rattle.mls_array.specs.Standing.{Stands};
+ghost use Rattle.mls_array.specs.StandingLaws.{StandsFor};
+ghost use Rattle.mls_array.specs.Merging.{hash_bytes};
+ghost use Rattle.mls_tree.specs.Faults.{number_of};
+ghost use Rattle.mls_tree.specs.Tree.{term};
+ghost use Rattle.mls_tree.specs.Paths.{path_checks, path_hash_answer, merge_checks, merge_answer, ChangesWhole};
+
+use crate::error::TreeError;
+use crate::tree::PublicTree;
+use mls_array::{self as array, Hash};
+use mls_leaf::{Bytes, LeafNode, LeafSource, Node};
+use std::alloc::AllocError;
+
+/// Merges a path with these keys, the lowest first.
+fn merge(
+    nodes: &mut Vec<Option<Node>>,
+    height: u32,
+    i: u32,
+    leaf: LeafNode,
+    keys: Vec<Bytes>,
+) -> Result<(), AllocError>
+    requires stands { Stands height nodes.old.items }
+    requires low { height ≤ max_height }
+    ensures ok { OnOk result (StandsFor height nodes.new.items (merge_path (term_of height nodes.old.items) i leaf keys.items)) }
+    ensures err { OnErr result (nodes.new.items ≡ nodes.old.items) }
+{
+    let alloc = *nodes.allocator();
+    let parents = array::path_parents(alloc, nodes, height, 0, i, keys)?;
+    let mut parents = parents.into_iter();
+    array::merge(nodes, height, 0, i, &mut parents, leaf);
+    Ok(())
+}
+
+impl PublicTree {
+    /// How many parents the filtered direct path of leaf i takes in.
+    fn path_length(&self, i: u32) -> u32
+        ensures { result ≡ path_length 0 (term self.now) i }
+    {
+        array::path_length(&self.nodes, self.height, 0, i)
+    }
+
+    /// The parent hash that reaches leaf i, where there is one.
+    fn path_hash(&self, i: u32, keys: &[Bytes]) -> Option<Hash>
+        ensures { hash_bytes result ≡ path_parent_hash (term self.now) i keys.now }
+    {
+        array::path_hash(&self.nodes, self.height, 0, i, keys, None)
+    }
+
+    /// Whether the merged tree has no encryption key twice.
+    fn keys_differ(&self, i: u32, leaf: &LeafNode, keys: &[Bytes]) -> Result<bool, AllocError>
+        ensures { IfOk result (λ b. b ≡ is_distinct same_bytes (encryption_keys (merge_path (term self.now) i leaf.now keys.now))) }
+    {
+        let mut all = Vec::new(*self.nodes.allocator());
+        array::merged_keys(&self.nodes, self.height, 0, i, leaf, keys, &mut all)?;
+        Ok(array::are_distinct(all))
+    }
+
+    /// Whether the leaf's source is a commit with the path's parent hash.
+    fn has_path_hash(&self, i: u32, leaf: &LeafNode, keys: &[Bytes]) -> bool
+        ensures { result ≡ is_some_bytes (source_hash leaf.now.source) (path_parent_hash (term self.now) i keys.now) }
+    {
+        match &leaf.source {
+            LeafSource::Commit { parent_hash } => {
+                let hash = self.path_hash(i, keys);
+                parent_hash.as_slice() == array::bytes_of(&hash)
+            }
+            _ => false,
+        }
+    }
+
+    /// Refuses a leaf index at which no member is, and then a number of keys that isn't that of the filtered path.
+    fn require_path(&self, i: u32, count: usize) -> Result<(), TreeError>
+        ensures { AnswersOutright (λ _. passed) number_of (path_checks (term self.now) i count) result }
+    {
+        if self.leaf(i).is_none() {
+            return Err(TreeError::NoSuchLeaf);
+        }
+        if count != self.path_length(i) as usize {
+            return Err(TreeError::PathLength);
+        }
+        Ok(())
+    }
+
+    /// The checks of a path before it is merged.
+    fn require_merge(&self, i: u32, leaf: &LeafNode, keys: &[Bytes]) -> Result<(), TreeError>
+        ensures { Answers (λ _. passed) number_of (merge_checks (term self.now) i leaf.now keys.now) result }
+    {
+        match self.require_path(i, keys.len()) {
+            Err(error) => return Err(error),
+            Ok(()) => {}
+        }
+        let differ = self.keys_differ(i, leaf, keys)?;
+        if !differ {
+            return Err(TreeError::KeyRepeated);
+        }
+        let right = self.has_path_hash(i, leaf, keys);
+        if !right {
+            return Err(TreeError::ParentHashWrong);
+        }
+        Ok(())
+    }
+
+    /// The parent hash that the leaf of a path with these keys must have, the lowest first: empty where the filtered
+    /// path is (RFC 9420, 7.9). Refused with `NoSuchLeaf` (22) where no member is at leaf i, then with `PathLength` (30)
+    /// where there aren't as many keys as its filtered path has parents.
+    pub fn path_parent_hash(&mut self, i: u32, keys: &[Bytes]) -> Result<Vec<u8>, TreeError>
+        ensures answer { Answers (λ v. v.items) number_of (path_hash_answer (term self.old) i keys.now) result }
+        ensures same { term self.new ≡ term self.old }
+    {
+        match self.require_path(i, keys.len()) {
+            Err(error) => return Err(error),
+            Ok(()) => {}
+        }
+        let hash = self.path_hash(i, keys);
+        Ok(Vec::from_slice(*self.nodes.allocator(), array::bytes_of(&hash))?)
+    }
+
+    /// Merges a commit's path: replaces the leaf of member i, gives the parents of its filtered path these keys, the
+    /// lowest first, and blanks the others over it (RFC 9420, 7.5). Refused with `NoSuchLeaf` (22) where no member is
+    /// there; then with `PathLength` (30) where there aren't as many keys as the filtered path has parents; then with
+    /// `KeyRepeated` (25) where two nodes of the merged tree have one encryption key; then with `ParentHashWrong` (24)
+    /// where the leaf's source isn't a commit with the path's parent hash. After a refusal the tree is as before.
+    pub fn merge_path(&mut self, i: u32, leaf: LeafNode, keys: Vec<Bytes>) -> Result<(), TreeError>
+        ensures { ChangesWhole number_of (merge_answer (term self.old) i leaf keys.items) (term self.old) (term self.new) result }
+    {
+        match self.require_merge(i, &leaf, &keys) {
+            Err(error) => return Err(error),
+            Ok(()) => {}
+        }
+        let height = self.height;
+        merge(&mut self.nodes, height, i, leaf, keys)?;
+        Ok(())
+    }
+}
