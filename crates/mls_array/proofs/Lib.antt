@@ -12,3 +12,6 @@ pub mod Listings
 pub mod Entries
 pub mod Widths
 pub mod Hashed
+pub mod Found
+pub mod Listed
+pub mod Original

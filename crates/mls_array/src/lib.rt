@@ -7,9 +7,11 @@
 
 mod edits;
 mod hashes;
+mod lists;
 mod lookup;
 mod members;
 mod order;
+mod originals;
 mod path;
 mod places;
 mod resolutions;
@@ -17,10 +19,12 @@ mod sizes;
 
 pub use edits::{enter, put};
 pub use hashes::tree_hash;
-pub use mls_hash::Hash;
+pub use lists::has_good_lists;
 pub use lookup::{leaf, node};
 pub use members::{first_blank, has_leaf, is_full_width, member_count};
+pub use mls_hash::Hash;
 pub use order::{alternates, has_last, height_for, pad, pad_tree, to_nodes};
+pub use originals::original_hash;
 pub use path::filtered_path;
 pub use places::{leaf_in, parent_in};
 pub use resolutions::{is_reached, resolution, resolution_at};
