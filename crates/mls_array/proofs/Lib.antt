@@ -15,3 +15,8 @@ pub mod Hashed
 pub mod Found
 pub mod Listed
 pub mod Original
+pub mod Others
+pub mod Same
+pub mod Candidates
+pub mod Hashings
+pub mod Ties

@@ -2,3 +2,4 @@ pub mod Standing
 pub mod OrderLaws
 pub mod Cells
 pub mod StandingLaws
+pub mod Witnesses

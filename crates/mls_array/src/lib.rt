@@ -16,6 +16,8 @@ mod path;
 mod places;
 mod resolutions;
 mod sizes;
+mod validity;
+mod witnesses;
 
 pub use edits::{enter, put};
 pub use hashes::tree_hash;
@@ -29,3 +31,4 @@ pub use path::filtered_path;
 pub use places::{leaf_in, parent_in};
 pub use resolutions::{is_reached, resolution, resolution_at};
 pub use sizes::{grow, trim};
+pub use validity::has_good_hashes;
