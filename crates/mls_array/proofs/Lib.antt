@@ -20,3 +20,5 @@ pub mod Same
 pub mod Candidates
 pub mod Hashings
 pub mod Ties
+pub mod Twins
+pub mod Gathers

@@ -3,3 +3,4 @@ pub mod OrderLaws
 pub mod Cells
 pub mod StandingLaws
 pub mod Witnesses
+pub mod Gathered

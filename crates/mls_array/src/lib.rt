@@ -7,6 +7,7 @@
 
 mod edits;
 mod hashes;
+mod keys;
 mod lists;
 mod lookup;
 mod members;
@@ -21,6 +22,7 @@ mod witnesses;
 
 pub use edits::{enter, put};
 pub use hashes::tree_hash;
+pub use keys::{has_distinct_clients, has_distinct_keys};
 pub use lists::has_good_lists;
 pub use lookup::{leaf, node};
 pub use members::{first_blank, has_leaf, is_full_width, member_count};

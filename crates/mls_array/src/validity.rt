@@ -20,7 +20,8 @@ use mls_hash::{Hash, branch_hash, leaf_hash, sibling_hash};
 use mls_leaf::{LeafSource, Node, ParentNode};
 use std::alloc::{AllocError, Global};
 
-fn same_bytes(left: &[u8], right: &[u8]) -> bool
+/// Whether two byte strings are equal.
+pub(crate) fn same_bytes(left: &[u8], right: &[u8]) -> bool
     ensures { result ≡ same_bytes left.now right.now }
 {
     left == right
