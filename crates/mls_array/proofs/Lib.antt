@@ -15,3 +15,13 @@ pub mod Hashed
 pub mod Merged
 pub mod Sorts
 pub mod Gathered
+pub mod Found
+pub mod Listed
+pub mod Original
+pub mod Others
+pub mod Same
+pub mod Candidates
+pub mod Hashings
+pub mod Ties
+pub mod Twins
+pub mod Gathers

@@ -5,3 +5,5 @@ pub mod StandingLaws
 pub mod Merging
 pub mod MergingLaws
 pub mod Merged
+pub mod Witnesses
+pub mod Gathered

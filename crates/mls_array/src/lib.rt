@@ -8,10 +8,13 @@
 mod distinct;
 mod edits;
 mod hashes;
+mod keys;
+mod lists;
 mod lookup;
 mod members;
 mod merging;
 mod order;
+mod originals;
 mod path;
 mod path_keys;
 mod places;
@@ -19,17 +22,23 @@ mod resolutions;
 mod sizes;
 #[cfg(test)]
 mod tests;
+mod validity;
+mod witnesses;
 
 pub use distinct::are_distinct;
 pub use edits::{enter, put};
 pub use hashes::tree_hash;
+pub use keys::{has_distinct_clients, has_distinct_keys};
+pub use lists::has_good_lists;
 pub use lookup::{leaf, node};
 pub use members::{first_blank, has_leaf, is_full_width, member_count};
 pub use merging::{bytes_of, merge, path_hash, path_length, path_parents};
 pub use mls_hash::Hash;
 pub use order::{alternates, has_last, height_for, pad, pad_tree, to_nodes};
+pub use originals::original_hash;
 pub use path::filtered_path;
 pub use path_keys::merged_keys;
 pub use places::{leaf_in, parent_in};
 pub use resolutions::{is_reached, resolution, resolution_at};
 pub use sizes::{grow, trim};
+pub use validity::has_good_hashes;

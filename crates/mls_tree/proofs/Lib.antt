@@ -4,3 +4,4 @@ pub mod Singles
 pub mod Receiving
 pub mod Adding
 pub mod Pathing
+pub mod Passing

@@ -1,3 +1,4 @@
 pub mod Tree
 pub mod Faults
 pub mod Paths
+pub mod Rules

@@ -1,0 +1,273 @@
+-- The one node of a resolution that a list of leaves doesn't have.
+use Rattle.std.proofs.Common.{◌≡◌, ℕ, ◌+◌, ◌-◌, ◌*◌, ◌/◌, ◌%◌, ◌<◌, ◌≤◌, ◌==◌, nat_lt, Bool, true, false, not, ◌&&◌, ◌||◌, List, [], ◌∷◌, filter, Option, Some, None, refl, sym, ◌∙◌, ap, inl, inr, arith, eqb-true, eq-eqb, lt-ltb, le-ltb, ne_eqb}
+use Rattle.std.specs.Prelude.{nat_le, nat_eq}
+use Rattle.std.specs.List.{list_all, list_any, find}
+use Rattle.std.proofs.lemmas.Bool.{true≢false, cases_Bool, and_parts, and_from, or_cases, or_left, or_right, le-leb, lt-leb}
+use Rattle.mls_leaf.specs.Parent.{Parent}
+use Rattle.mls_term.specs.Sets.{has, within, leaf_numbers, is_same_set}
+use Rattle.mls_term.specs.Term.{Term, width}
+use Rattle.mls_term.specs.Resolution.{resolution}
+use Rattle.mls_term.specs.Hashes.{hash_at, is_some_bytes, is_witness, has_witness, parent_hash}
+use Rattle.mls_array.specs.Witnesses.{numbers_in, others, first_off, kept, only_off, candidate}
+
+-- ---- lists as sets
+
+same_bool : (a b : Bool) → (a ≡ true → b ≡ true) → (b ≡ true → a ≡ true) → a ≡ b
+same_bool true true f g = refl
+same_bool true false f g = sym (f refl)
+same_bool false true f g = g refl
+same_bool false false f g = refl
+
+not_true : (a : Bool) → (a ≡ true → ⊥) → a ≡ false
+not_true true f = absurd (f refl)
+not_true false f = refl
+
+eqb_refl : (x : ℕ) → (x == x) ≡ true
+eqb_refl x = eq-eqb x x refl
+
+all_at : (p : ℕ → Bool) (xs : List ℕ) (x : ℕ) → list_all p xs ≡ true → has xs x ≡ true → p x ≡ true
+unfolding has
+all_at p [] x h e = absurd (true≢false (sym e))
+all_at p (y ∷ ys) x h e =
+    elim (or_cases (y == x) (has ys x) e) [
+      | inl k ↦ sym (ap p (eqb-true y x k)) ∙ (and_parts (p y) (list_all p ys) h).0
+      | inr k ↦ all_at p ys x (and_parts (p y) (list_all p ys) h).1 k
+    ]
+
+any_at : (p : ℕ → Bool) (xs : List ℕ) → list_any p xs ≡ true → (x : ℕ) × (has xs x ≡ true) × (p x ≡ true)
+unfolding has
+any_at p [] h = absurd (true≢false (sym h))
+any_at p (y ∷ ys) h =
+    elim (or_cases (p y) (list_any p ys) h) [
+      | inl k ↦ (y, or_left (y == y) (has ys y) (eqb_refl y), k)
+      | inr k ↦ let r = any_at p ys k in (r.0, or_right (y == r.0) (has ys r.0) r.1, r.2)
+    ]
+
+any_from : (p : ℕ → Bool) (xs : List ℕ) (x : ℕ) → has xs x ≡ true → p x ≡ true → list_any p xs ≡ true
+unfolding has
+any_from p [] x e h = absurd (true≢false (sym e))
+any_from p (y ∷ ys) x e h =
+    elim (or_cases (y == x) (has ys x) e) [
+      | inl k ↦ or_left (p y) (list_any p ys) (ap p (eqb-true y x k) ∙ h)
+      | inr k ↦ or_right (p y) (list_any p ys) (any_from p ys x k h)
+    ]
+
+pub has-filter : (p : ℕ → Bool) (xs : List ℕ) (x : ℕ) → has (filter p xs) x ≡ (has xs x && p x)
+unfolding has
+has-filter p [] x = refl
+has-filter p (y ∷ ys) x =
+    elim (cases_Bool (y == x)) [
+      | inl k ↦
+          let e : p y ≡ p x = ap p (eqb-true y x k) in
+          elim (cases_Bool (p y)) [
+            | inl t ↦ rw (t, k) (sym (sym e ∙ t))
+            | inr t ↦ rw (t, k) (has-filter p ys x ∙ rw (sym e ∙ t) (and_false (has ys x)))
+          ]
+      | inr k ↦
+          elim (cases_Bool (p y)) [
+            | inl t ↦ rw (t, k) (has-filter p ys x)
+            | inr t ↦ rw (t, k) (has-filter p ys x)
+          ]
+    ]
+  where
+    and_false : (b : Bool) → (b && false) ≡ false
+    and_false true = refl
+    and_false false = refl
+
+pub has-any : (xs : List ℕ) (x : ℕ) → list_any (λ y. nat_eq y x) xs ≡ has xs x
+unfolding has
+has-any [] x = refl
+has-any (y ∷ ys) x = ap (λ v. nat_eq y x || v) (has-any ys x)
+
+has-leaf_numbers : (us : List ℕ) (u : ℕ) → has (leaf_numbers us) (2 * u) ≡ has us u
+unfolding has
+has-leaf_numbers [] u = refl
+has-leaf_numbers (y ∷ ys) u =
+    let e : (2 * y == 2 * u) ≡ (y == u) = same_bool _ _ (λ k. let f : 2 * y ≡ 2 * u = eqb-true (2 * y) (2 * u) k in eq-eqb y u (omega arith)) (λ k. let f : y ≡ u = eqb-true y u k in eq-eqb (2 * y) (2 * u) (omega arith)) in
+    rw e (ap (λ v. (y == u) || v) (has-leaf_numbers ys u))
+
+of_leaf_numbers : (us : List ℕ) (d : ℕ) → has (leaf_numbers us) d ≡ true → (u : ℕ) × (d ≡ 2 * u)
+unfolding has
+of_leaf_numbers [] d h = absurd (true≢false (sym h))
+of_leaf_numbers (y ∷ ys) d h =
+    elim (or_cases (2 * y == d) (has (leaf_numbers ys) d) h) [
+      | inl k ↦ (y, sym (eqb-true (2 * y) d k))
+      | inr k ↦ of_leaf_numbers ys d k
+    ]
+
+set_at : (xs ys : List ℕ) → is_same_set xs ys ≡ true → (x : ℕ) → has xs x ≡ has ys x
+set_at xs ys h x =
+    let p = and_parts (list_all (has ys) xs) (list_all (has xs) ys) h in
+    same_bool _ _ (all_at (has ys) xs x p.0) (all_at (has xs) ys x p.1)
+
+-- ---- the leaves in a range
+
+and_not : (a b : Bool) → b ≡ false → (a && b) ≡ false
+and_not true b e = e
+and_not false b e = refl
+
+and_yes : (a b : Bool) → b ≡ true → (a && b) ≡ a
+and_yes true b e = e
+and_yes false b e = refl
+
+pub odd_off : (b e d : ℕ) (us : List ℕ) → d % 2 ≡ 1 → has (numbers_in b e us) d ≡ false
+odd_off b e d us odd =
+    not_true _ (λ h. let g = of_leaf_numbers (within b (e - b) us) d h in let twice : d ≡ 2 * g.0 = g.1 in absurd (omega arith))
+
+in_range : (b e d u : ℕ) (us : List ℕ) → d ≡ 2 * u → has (numbers_in b e us) d ≡ (has us u && (nat_le b u && nat_lt u (b + (e - b))))
+in_range b e d u us is =
+    ap (has (numbers_in b e us)) is ∙ has-leaf_numbers (within b (e - b) us) u ∙ has-filter (λ x. nat_le b x && nat_lt x (b + (e - b))) us u
+
+pub low_off : (b e d : ℕ) (us : List ℕ) → d % 2 < 1 → d / 2 < b → has (numbers_in b e us) d ≡ false
+low_off b e d us even low =
+    in_range b e d (d / 2) us (omega arith)
+    ∙ and_not (has us (d / 2)) _ (ap (λ v. v && nat_lt (d / 2) (b + (e - b))) (lt-leb b (d / 2) low))
+
+pub high_off : (b e d : ℕ) (us : List ℕ) → d % 2 < 1 → b ≤ e → e ≤ d / 2 → has (numbers_in b e us) d ≡ false
+high_off b e d us even order high =
+    in_range b e d (d / 2) us (omega arith)
+    ∙ and_not (has us (d / 2)) _ (and_not (nat_le b (d / 2)) _ (le-ltb (d / 2) (b + (e - b)) (omega arith)))
+
+pub between : (b e d : ℕ) (us : List ℕ) → d % 2 < 1 → b ≤ d / 2 → d / 2 < e → has (numbers_in b e us) d ≡ has us (d / 2)
+between b e d us even low high =
+    in_range b e d (d / 2) us (omega arith)
+    ∙ and_yes (has us (d / 2)) _ (and_from _ _ (le-leb b (d / 2) low) (lt-ltb (d / 2) (b + (e - b)) (omega arith)))
+
+-- ---- the tests of a leaf and a node
+
+pub out_low : (b e u d : ℕ) (xs : List ℕ) → u < b → (not (nat_le b u && nat_lt u (b + (e - b))) || has (others d xs) (2 * u)) ≡ true
+out_low b e u d xs low = rw (lt-leb b u low) refl
+
+pub out_high : (b e u d : ℕ) (xs : List ℕ) → b ≤ e → e ≤ u → (not (nat_le b u && nat_lt u (b + (e - b))) || has (others d xs) (2 * u)) ≡ true
+out_high b e u d xs order high =
+    ap (λ v. not v || has (others d xs) (2 * u)) (and_not (nat_le b u) _ (le-ltb u (b + (e - b)) (omega arith)))
+
+inside : (b e u d : ℕ) (xs : List ℕ) → b ≤ u → u < e → (not (nat_le b u && nat_lt u (b + (e - b))) || has (others d xs) (2 * u)) ≡ (has xs (2 * u) && not (2 * u == d))
+inside b e u d xs low high =
+    ap (λ v. not v || has (others d xs) (2 * u)) (and_from _ _ (le-leb b u low) (lt-ltb u (b + (e - b)) (omega arith)))
+    ∙ has-filter (λ x. not (x == d)) xs (2 * u)
+
+pub inside_same : (b e u d : ℕ) (xs : List ℕ) → b ≤ u → u < e → 2 * u ≡ d → (not (nat_le b u && nat_lt u (b + (e - b))) || has (others d xs) (2 * u)) ≡ false
+inside_same b e u d xs low high is =
+    inside b e u d xs low high ∙ and_not (has xs (2 * u)) _ (ap not (eq-eqb (2 * u) d is))
+
+pub inside_other : (b e u d : ℕ) (xs : List ℕ) → b ≤ u → u < e → (2 * u ≡ d → ⊥) → (not (nat_le b u && nat_lt u (b + (e - b))) || has (others d xs) (2 * u)) ≡ has xs (2 * u)
+inside_other b e u d xs low high other =
+    inside b e u d xs low high ∙ and_yes (has xs (2 * u)) _ (ap not (ne_eqb (2 * u) d other))
+
+-- ---- tests of what filters keep
+
+all_others : (p : ℕ → Bool) (d : ℕ) (xs : List ℕ) → list_all p (others d xs) ≡ list_all (λ x. (x == d) || p x) xs
+all_others p d [] = refl
+all_others p d (x ∷ xs) =
+    elim (cases_Bool (x == d)) [
+      | inl k ↦ rw k (all_others p d xs)
+      | inr k ↦ rw k (ap (λ v. p x && v) (all_others p d xs))
+    ]
+
+all_numbers : (p : ℕ → Bool) (b n : ℕ) (us : List ℕ) → list_all p (leaf_numbers (within b n us)) ≡ list_all (λ u. not (nat_le b u && nat_lt u (b + n)) || p (2 * u)) us
+all_numbers p b n [] = refl
+all_numbers p b n (u ∷ us) =
+    elim (cases_Bool (nat_le b u && nat_lt u (b + n))) [
+      | inl k ↦ rw k (ap (λ v. p (2 * u) && v) (all_numbers p b n us))
+      | inr k ↦ rw k (all_numbers p b n us)
+    ]
+
+pub not_others : (b e d : ℕ) (us xs : List ℕ) → list_all (λ x. (x == d) || has (numbers_in b e us) x) xs ≡ false → is_same_set (numbers_in b e us) (others d xs) ≡ false
+not_others b e d us xs none = and_not _ _ (all_others (has (numbers_in b e us)) d xs ∙ none)
+
+pub are_others : (b e d : ℕ) (us xs : List ℕ) → list_all (λ x. (x == d) || has (numbers_in b e us) x) xs ≡ true → is_same_set (numbers_in b e us) (others d xs) ≡ list_all (λ u. not (nat_le b u && nat_lt u (b + (e - b))) || has (others d xs) (2 * u)) us
+are_others b e d us xs all =
+    and_yes _ _ (all_others (has (numbers_in b e us)) d xs ∙ all)
+    ∙ all_numbers (has (others d xs)) b (e - b) us
+
+-- ---- the first node that passes a test
+
+pub find_here : (p : ℕ → Bool) (x : ℕ) (xs : List ℕ) → p x ≡ true → find p (x ∷ xs) ≡ Some x
+find_here p x xs e = rw e refl
+
+pub find_later : (p : ℕ → Bool) (x : ℕ) (xs : List ℕ) → p x ≡ false → find p (x ∷ xs) ≡ find p xs
+find_later p x xs e = rw e refl
+
+find_none : (p : ℕ → Bool) (xs : List ℕ) (x : ℕ) → find p xs ≡ None → has xs x ≡ true → p x ≡ false
+unfolding has
+find_none p [] x none e = absurd (true≢false (sym e))
+find_none p (y ∷ ys) x none e =
+    elim (cases_Bool (p y)) [
+      | inl t ↦ absurd (let f = sym (find_here p y ys t) ∙ none in impossible y f)
+      | inr t ↦
+          elim (or_cases (y == x) (has ys x) e) [
+            | inl k ↦ ap p (sym (eqb-true y x k)) ∙ t
+            | inr k ↦ find_none p ys x (sym (find_later p y ys t) ∙ none) k
+          ]
+    ]
+  where
+    impossible : (y : ℕ) → Some y ≡ None → ⊥
+    impossible y e = cc
+
+find_some : (p : ℕ → Bool) (xs : List ℕ) (d : ℕ) → find p xs ≡ Some d → (has xs d ≡ true) × (p d ≡ true)
+unfolding has
+find_some p [] d some = absurd (impossible some)
+  where
+    impossible : None ≡ Some d → ⊥
+    impossible e = cc
+find_some p (y ∷ ys) d some =
+    elim (cases_Bool (p y)) [
+      | inl t ↦ let is : y ≡ d = inner (sym (find_here p y ys t) ∙ some) in (or_left (y == d) (has ys d) (eq-eqb y d is), sym (ap p is) ∙ t)
+      | inr t ↦ let r = find_some p ys d (sym (find_later p y ys t) ∙ some) in (or_right (y == d) (has ys d) r.0, r.1)
+    ]
+  where
+    inner : Some y ≡ Some d → y ≡ d
+    inner e = cc
+
+-- ---- the only node that can be a witness
+
+-- whether there is a node, and it passes a test
+abbrev pub given : (ℕ → Bool) → Option ℕ → Bool
+given f None = false
+given f (Some d) = f d
+
+-- where a list is the other nodes, it doesn't have this one, and has all the others
+off : (ls xs : List ℕ) (d : ℕ) → is_same_set ls (others d xs) ≡ true → has ls d ≡ false
+off ls xs d same =
+    set_at ls (others d xs) same d ∙ has-filter (λ x. not (x == d)) xs d ∙ and_not (has xs d) _ (ap not (eqb_refl d))
+
+one : (ls xs : List ℕ) (d x : ℕ) → is_same_set ls (others x xs) ≡ true → has xs d ≡ true → has ls d ≡ false → d ≡ x
+one ls xs d x same there out =
+    elim (cases_Bool (d == x)) [
+      | inl k ↦ eqb-true d x k
+      | inr k ↦
+          absurd (true≢false (sym (
+          set_at ls (others x xs) same d ∙ has-filter (λ y. not (y == x)) xs d ∙ and_from _ _ there (ap not k)) ∙ out))
+    ]
+
+not_not : (a : Bool) → not a ≡ true → a ≡ false
+not_not true e = absurd (true≢false (sym e))
+not_not false e = refl
+
+tied_at : (ls xs : List ℕ) (f : ℕ → Bool) (o : Option ℕ) → first_off ls xs ≡ o → list_any (λ d. f d && is_same_set ls (others d xs)) xs ≡ given f (kept (λ d. is_same_set ls (others d xs)) o)
+tied_at ls xs f None e =
+    not_true _ (λ h.
+    let g = any_at (λ d. f d && is_same_set ls (others d xs)) xs h in
+    let p = and_parts (f g.0) _ g.2 in
+    let out : has ls g.0 ≡ false = off ls xs g.0 p.1 in
+    absurd (true≢false (sym (ap not out) ∙ find_none (λ x. not (has ls x)) xs g.0 e g.1)))
+tied_at ls xs f (Some d) e =
+    let s = find_some (λ x. not (has ls x)) xs d e in
+    let out : has ls d ≡ false = not_not (has ls d) s.1 in
+    elim (cases_Bool (is_same_set ls (others d xs))) [
+      | inl t ↦
+          rw t (same_bool _ _
+          (λ h. let g = any_at (λ d. f d && is_same_set ls (others d xs)) xs h in let p = and_parts (f g.0) _ g.2 in ap f (one ls xs d g.0 p.1 s.0 out) ∙ p.0)
+          (λ h. any_from (λ d. f d && is_same_set ls (others d xs)) xs d s.0 (and_from (f d) _ h t)))
+      | inr t ↦
+          rw t (not_true _ (λ h.
+          let g = any_at (λ d. f d && is_same_set ls (others d xs)) xs h in
+          let p = and_parts (f g.0) _ g.2 in
+          absurd (true≢false (sym (ap (λ x. is_same_set ls (others x xs)) (one ls xs d g.0 p.1 s.0 out) ∙ p.1) ∙ t))))
+    ]
+
+pub witness_is : (p : Parent) (b : ℕ) (c : Term) (m : ℕ) (s : Term) → has_witness p b c m s ≡ given (λ d. is_some_bytes (hash_at b c d) (parent_hash p m s)) (candidate p b c)
+unfolding has_witness is_witness candidate only_off
+witness_is p b c m s =
+    tied_at (leaf_numbers (within b (width c) p.unmerged_leaves)) (resolution b c) (λ d. is_some_bytes (hash_at b c d) (parent_hash p m s)) _ refl

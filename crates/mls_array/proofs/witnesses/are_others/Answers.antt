@@ -1,0 +1,12 @@
+use Rattle.std.proofs.Common.{sym, ◌∙◌}
+use Rattle.mls_array.proofs.Others.{not_others, are_others}
+use Rattle.mls_array.proofs.witnesses.are_others.Goals as goal
+
+pub returns-then-not-others_among : goal.returns-then-not-others_among
+returns-then-not-others_among c =
+    sym (not_others c.args.first c.args.end c.args.node c.args.leaves.now c.args.nodes.now (sym c.others_among.ensures ∙ c.if-not-others_among.true))
+
+pub returns : goal.returns
+returns c =
+    c.leaves_among.ensures
+    ∙ sym (are_others c.args.first c.args.end c.args.node c.args.leaves.now c.args.nodes.now (sym c.others_among.ensures ∙ c.if-not-others_among.false))

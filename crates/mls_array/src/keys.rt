@@ -1,0 +1,105 @@
+//! Keys that no two nodes share (RFC 9420, 7.3).
+
+ghost use Rattle.std.specs.Prelude.{◌≡◌, IfOk};
+ghost use Rattle.std.specs.Option.{option_copied};
+ghost use Rattle.std.specs.List.{flat_map};
+ghost use Rattle.mls_term.specs.Sets.{same_bytes, is_distinct};
+ghost use Rattle.mls_term.specs.Good.{has_distinct_keys, has_distinct_clients};
+ghost use Rattle.mls_term.specs.Arrays.{term_of};
+ghost use Rattle.mls_array.specs.Standing.{Stands};
+ghost use Rattle.mls_array.specs.Gathered.{texts, cell_key, cell_signature, one_or_none, has_twins};
+
+use crate::validity::same_bytes;
+use mls_leaf::Node;
+use std::alloc::{AllocError, Global};
+
+/// The encryption key in a place that isn't blank.
+fn key_of(node: &Option<Node>) -> Option<&[u8]>
+    ensures { one_or_none (option_copied result) ≡ cell_key node.now }
+{
+    match node {
+        Some(Node::Leaf(leaf)) => Some(leaf.encryption_key.as_slice()),
+        Some(Node::Parent(parent)) => Some(parent.encryption_key()),
+        None => None,
+    }
+}
+
+/// The signature key of the member in a place.
+fn signature_of(node: &Option<Node>) -> Option<&[u8]>
+    ensures { one_or_none (option_copied result) ≡ cell_signature node.now }
+{
+    match node {
+        Some(Node::Leaf(leaf)) => Some(leaf.signature_key.as_slice()),
+        _ => None,
+    }
+}
+
+/// All encryption keys.
+fn keys_of(alloc: Global, nodes: &[Option<Node>]) -> Result<Vec<&[u8]>, AllocError>
+    ensures { IfOk result (λ v. texts v.items ≡ flat_map cell_key nodes.now) }
+{
+    let mut keys = Vec::new(alloc);
+    for node in nodes {
+        if let Some(key) = key_of(node) {
+            keys.push(key)?;
+        }
+    }
+    Ok(keys)
+}
+
+/// All signature keys.
+fn signatures_of(alloc: Global, nodes: &[Option<Node>]) -> Result<Vec<&[u8]>, AllocError>
+    ensures { IfOk result (λ v. texts v.items ≡ flat_map cell_signature nodes.now) }
+{
+    let mut keys = Vec::new(alloc);
+    for node in nodes {
+        if let Some(key) = signature_of(node) {
+            keys.push(key)?;
+        }
+    }
+    Ok(keys)
+}
+
+/// Whether some key is the one before it.
+fn has_twins(keys: &[&[u8]]) -> bool
+    ensures { result ≡ has_twins (texts keys.now) }
+{
+    for i in 1..keys.len() {
+        if same_bytes(keys[i - 1], keys[i]) {
+            return true;
+        }
+    }
+    false
+}
+
+/// Whether no key stands twice: neighbours of the sorted keys are compared.
+fn are_distinct(mut keys: Vec<&[u8]>) -> Result<bool, AllocError>
+    ensures { IfOk result (λ b. b ≡ is_distinct same_bytes (texts keys.entry.items)) }
+{
+    keys.sort()?;
+    Ok(!has_twins(&keys))
+}
+
+/// Whether no two nodes have one encryption key.
+pub fn has_distinct_keys(
+    alloc: Global,
+    nodes: &[Option<Node>],
+    height: u32,
+) -> Result<bool, AllocError>
+    requires { Stands height nodes.now }
+    ensures { IfOk result (λ b. b ≡ has_distinct_keys (term_of height nodes.now)) }
+{
+    are_distinct(keys_of(alloc, nodes)?)
+}
+
+/// Whether no two members have one signature key.
+pub fn has_distinct_clients(
+    alloc: Global,
+    nodes: &[Option<Node>],
+    height: u32,
+) -> Result<bool, AllocError>
+    requires { Stands height nodes.now }
+    ensures { IfOk result (λ b. b ≡ has_distinct_clients (term_of height nodes.now)) }
+{
+    are_distinct(signatures_of(alloc, nodes)?)
+}
