@@ -18,7 +18,7 @@ module _ (n : ℕ) (o : Option (List ℕ)) (ks : Keys) where
   above_below e = cond-false _ _ _ (ne_eqb (length ks) n e)
 
 -- a key above all of a way is passed by
-lower : (ss : List Step) (o : Option (List ℕ)) (ks : Keys) → suc (length ss) ≤ length ks → on_way ss (o ∷ ks) ≡ on_way ss ks
+pub lower : (ss : List Step) (o : Option (List ℕ)) (ks : Keys) → suc (length ss) ≤ length ks → on_way ss (o ∷ ks) ≡ on_way ss ks
 unfolding on_way
 lower [] o ks h = ap (λ z. z ∷ []) (above_below 0 o ks (λ e. absurd (omega arith)))
 lower (s ∷ ss) o ks h = ap₂ (λ z zs. z ∷ zs) (above_below (suc (length ss)) o ks (λ e. absurd (omega arith))) (lower ss o ks (omega arith))

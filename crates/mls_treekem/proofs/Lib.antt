@@ -16,3 +16,7 @@ pub mod Commits
 pub mod Wholes
 pub mod Examples
 pub mod Chains
+pub mod Levels
+pub mod Placing
+pub mod Raised
+pub mod Followed

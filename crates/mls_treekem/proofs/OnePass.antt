@@ -30,7 +30,7 @@ along_length c F [] x ks h = own_length c x ks h
 along_length c F (s ∷ ss) x [] h = absurd h
 along_length c F (s ∷ ss) x (o ∷ ks) h = ap suc (along_length c F ss x ks h.1)
 
-no_key_above : (n : ℕ) (ks : Keys) → length ks ≤ n → key_above n ks ≡ None
+pub no_key_above : (n : ℕ) (ks : Keys) → length ks ≤ n → key_above n ks ≡ None
 unfolding key_above
 no_key_above n [] h = refl
 no_key_above n (o ∷ ks) h = let e = ne_eqb (length ks) n (λ e. omega arith) in rw e (no_key_above n ks (omega arith))

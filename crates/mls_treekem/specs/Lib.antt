@@ -11,3 +11,7 @@ pub mod Laws
 pub mod Whole
 pub mod Examples
 pub mod Made
+pub mod Faults
+pub mod Height
+pub mod Place
+pub mod Raise

@@ -13,11 +13,17 @@ ghost use Rattle.mls_treekem.specs.Whole.{FollowsUpdate, FollowsRemove, FollowsA
 ghost use Rattle.mls_treekem.specs.Examples.{SecretOfOne, SecretOfFour, PathOfFour, TargetsOfFour, KeysOfMaker, KeysBeside, KeysAcross, TargetsBesideAdded};
 ghost use Rattle.mls_treekem.specs.Whole.{SealedKeys, SealedWhereFit, RefusedWhereUnfit, SealedMerged, OpenedMerged, MadeExact, MadeMerged, LengthMerged, OpenedExact, OpenedAgrees, TakenAgrees, SecretForMerged};
 
+mod error;
+mod follow;
+mod keys;
+mod make;
+mod places;
 mod private_path;
 mod secrets;
 #[cfg(test)]
 mod tests;
 
+pub use error::TreeKemError;
 pub use private_path::PrivatePath;
 pub use secrets::PathSecrets;
 

@@ -10,20 +10,22 @@ use std::marker::Model;
 /// The private keys that a member has, of its leaf and of nodes over it.
 #[derive(Drop)]
 pub struct PrivatePath {
-    leaf: u32,
-    own: Secret,
+    pub(crate) leaf: u32,
+    pub(crate) own: Secret,
     // By their height above the leaf, from the node right over it on; a node that is higher has none.
-    above: Vec<Option<Secret>>,
+    pub(crate) above: Vec<Option<Secret>>,
 }
 
 // The keys above the leaf are seen in the order of the way to it.
 impl Model for PrivatePath {
-    ghost use Rattle.std.specs.Prelude.{reverse};
+    ghost use Rattle.std.specs.Prelude.{◌^◌, ◌<◌, ◌≤◌, length, reverse};
     ghost use Rattle.mls_treekem.specs.Made.{PrivateKeys};
 
     ghost Value = { PrivateKeys };
 
     ghost view = { λ p. record { leaf = p.leaf; own = p.own; above = reverse p.above.items } };
+
+    ghost invariant = { λ p. (length p.above.items ≤ 32) × (p.leaf < 2 ^ 32) };
 }
 
 impl PrivatePath {

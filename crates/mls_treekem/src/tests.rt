@@ -1,8 +1,11 @@
-//! The secrets of paths of no node and of two.
+//! Secrets of paths, and the keys that a member has.
 
-use crate::{PathSecrets, PrivatePath};
+use crate::{PathSecrets, PrivatePath, TreeKemError};
 use mls_kdf::derive_secret;
+use mls_leaf::{Bytes, Capabilities, Credential, Items, LeafNode, LeafSource};
 use mls_suite::{Glass, Suite};
+use mls_tree::PublicTree;
+use std::alloc::{AllocError, Global};
 use std::test::Fail;
 
 #[test]
@@ -25,5 +28,77 @@ fn secrets_of_paths(rt: HostRuntime) -> Result<(), Fail> {
 #[test]
 fn new_path(rt: HostRuntime) -> Result<(), Fail> {
     assert_eq!(rt; PrivatePath::new(rt.alloc(), 5, [1; 32]).leaf(), 5);
+    Ok(())
+}
+
+/// The numbers of the nodes that it has keys of.
+fn key_nodes(alloc: Global, path: &PrivatePath) -> Result<Vec<u64>, AllocError> {
+    let mut nodes = Vec::new(alloc);
+    for (node, _) in path.keys()?.iter() {
+        nodes.push(*node)?;
+    }
+    Ok(nodes)
+}
+
+#[test]
+fn keys_of_a_maker(rt: HostRuntime) -> Result<(), Fail> {
+    let mut path = PrivatePath::new(rt.alloc(), 1, [1; 32]);
+    assert_eq!(rt; key_nodes(rt.alloc(), &path)?.as_slice(), [2].as_slice());
+    let made = path.make_path::<Glass>(&[7; 32], &[1, 3])?;
+    assert_eq!(rt; made.pairs.len(), 2);
+    assert_eq!(rt; key_nodes(rt.alloc(), &path)?.as_slice(), [1, 2, 3].as_slice());
+    let keys = path.keys()?;
+    assert_eq!(rt; keys[0].1, made.pairs[0].sk);
+    assert_eq!(rt; keys[1].1, [1; 32]);
+    assert_eq!(rt; keys[2].1, made.pairs[1].sk);
+    Ok(())
+}
+
+fn byte(alloc: Global, b: u8) -> Result<Bytes, AllocError> {
+    let mut bytes = Vec::new(alloc);
+    bytes.push(b)?;
+    Ok(Bytes::from_vec(bytes))
+}
+
+fn numbers(alloc: Global) -> Items<u16> {
+    Items::from_vec(Vec::new(alloc))
+}
+
+fn member(alloc: Global, key: u8) -> Result<LeafNode, AllocError> {
+    Ok(LeafNode {
+        encryption_key: byte(alloc, key)?,
+        signature_key: byte(alloc, key)?,
+        credential: Credential {
+            identity: byte(alloc, key)?,
+        },
+        capabilities: Capabilities {
+            versions: numbers(alloc),
+            cipher_suites: numbers(alloc),
+            extensions: numbers(alloc),
+            proposals: numbers(alloc),
+            credentials: numbers(alloc),
+        },
+        source: LeafSource::Update,
+        signature: byte(alloc, key)?,
+    })
+}
+
+#[test]
+fn keys_of_blank_nodes_are_dropped(rt: HostRuntime) -> Result<(), Fail> {
+    let mut tree = PublicTree::single(rt.alloc(), member(rt.alloc(), 0)?)?;
+    let _ = tree.add(member(rt.alloc(), 1)?)?;
+    let mut path = PrivatePath::new(rt.alloc(), 1, [1; 32]);
+    let _ = path.make_path::<Glass>(&[7; 32], &[1])?;
+    path.follow_edit(&tree, Some(&[9; 32]))?;
+    let keys = path.keys()?;
+    assert_eq!(rt; keys.len(), 1);
+    assert_eq!(rt; (keys[0].0, keys[0].1), (2, [9; 32]));
+    Ok(())
+}
+
+#[test]
+fn refusals(rt: HostRuntime) -> Result<(), Fail> {
+    assert_eq!(rt; TreeKemError::KeyMissing.number(), 35);
+    assert_eq!(rt; TreeKemError::KeyMissing.name(), "KeyMissing");
     Ok(())
 }

@@ -1,0 +1,15 @@
+use Rattle.std.proofs.Common.{refl, ◌+◌, suc, if◌then◌else◌, None, reverse, ap, ap₂, ◌∙◌, length, arith}
+use Rattle.mls_tree.specs.Tree.{term}
+use Rattle.mls_treekem.specs.Follow.{key_above}
+use Rattle.mls_treekem.specs.Made.{all_keys}
+use Rattle.mls_treekem.proofs.Followed.{followed_none, followed_more, key_is, none_left, plus_one}
+use Rattle.mls_treekem.proofs.private_path.PrivatePath.+push_followed.Goals as goal
+
+pub returns-in_ok-push : goal.returns-in_ok-push
+returns-in_ok-push t c =
+    followed_more (term c.args.tree.now) (all_keys c.args.self.now) c.in-Some.place.now c.in-Some.below.now c.args.places.now c.push_followed.new.above.items _ (reverse c.args.above.now.items) _
+    c.in-Some.ensures.cases.0 c.in_ok-push_followed.ensures c.in_ok-push.ensures.items
+    (key_is _ _ _ _ _ _ c.key_if.ensures c.is_present.ensures (plus_one _ _ refl))
+
+pub returns-in_default : goal.returns-in_default
+returns-in_default t c = followed_none (term c.args.tree.now) (all_keys c.args.self.now) c.args.places.now _ (none_left _ c.in_default.ensures.cases)
