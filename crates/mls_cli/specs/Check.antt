@@ -27,12 +27,12 @@ tree_entries t =
     ∷ entry [] (codes "tree_hash") (bytes (tree_hash 0 t)) ∷ []
 
 -- as many bytes as an input may have, or 6
-abbrev pub short : List ℕ → Result (List ℕ) ℕ
-short bs = if nat_lt input_limit (length bs) then Err 6 else Ok bs
+abbrev pub within_limit : List ℕ → Result (List ℕ) ℕ
+within_limit bs = if nat_lt input_limit (length bs) then Err 6 else Ok bs
 
 -- a group's id, of which the hex digits are given
 unfoldable pub group_in : List ℕ → Result (List ℕ) ℕ
-group_in text = given 8 (decoded (decode_of text)) >>= short
+group_in text = given 8 (decoded (decode_of text)) >>= within_limit
 
 -- the lines of a tree's bytes for a group, or the number of the first fault
 unfoldable pub check_text : List ℕ → List ℕ → Result (List Entry) ℕ

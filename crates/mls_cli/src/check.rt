@@ -58,12 +58,7 @@ fn name_of(error: CheckError) -> &'static str
 }
 
 /// Writes the lines of a tree's bytes, or the line of their refusal.
-fn check_bytes<W: Write>(
-    alloc: Global,
-    bytes: &[u8],
-    group: &str,
-    out: &mut W,
-) -> Result<u8, Fault>
+fn check_bytes<W: Write>(alloc: Global, bytes: &[u8], group: &str, out: &mut W) -> Result<u8, Fault>
     ensures page { Prints W.contents out.old out.new result (page_on (check_text bytes.now group.now)) }
     ensures status { IfOk result (λ status. status ≤ 1) }
     ensures written { IfErr result (λ e. e ≢ Fault.Read) }
@@ -74,7 +69,7 @@ fn check_bytes<W: Write>(
             Ok(0)
         }
         Err(error) => {
-            if error.number() == 1 {
+            if error.is_memory() {
                 return Err(Fault::OutOfMemory);
             }
             refuse(alloc, error.number(), name_of(error), out)
@@ -84,12 +79,7 @@ fn check_bytes<W: Write>(
 
 /// Writes what a hex file's text brings.
 #[tactic(auto, unfolding(crate::specs::Check::check_page, crate::specs::Show::refusal_name))]
-fn check_file<W: Write>(
-    alloc: Global,
-    text: &[u8],
-    group: &str,
-    out: &mut W,
-) -> Result<u8, Fault>
+fn check_file<W: Write>(alloc: Global, text: &[u8], group: &str, out: &mut W) -> Result<u8, Fault>
     ensures page { Prints W.contents out.old out.new result (check_page text.now group.now) }
     ensures status { IfOk result (λ status. status ≤ 1) }
     ensures written { IfErr result (λ e. e ≢ Fault.Read) }
@@ -131,3 +121,6 @@ pub fn check_in_memory(
     let mut reader = text;
     check(alloc, &mut reader, group, out)
 }
+
+#[cfg(test)]
+mod tests;

@@ -1,6 +1,6 @@
 //! What `mls check` refuses.
 
-ghost use Rattle.std.specs.Prelude.{◌≡◌};
+ghost use Rattle.std.specs.Prelude.{◌≡◌, ◌↔◌, IsTrue};
 
 use mls_leaf::LeafError;
 use mls_tree::TreeError;
@@ -32,6 +32,13 @@ impl CheckError {
             CheckError::Decoding(error) => error.number(),
             CheckError::Tree(error) => error.number(),
         }
+    }
+
+    /// Whether a growth was refused.
+    pub fn is_memory(self) -> bool
+        ensures { IsTrue result ↔ (number_of self ≡ 1) }
+    {
+        self.number() == 1
     }
 
     /// The name of the refusal, as it is printed.

@@ -66,6 +66,4 @@ fn run(rt: &HostRuntime) -> io::Result<u8>
 }
 
 #[cfg(test)]
-mod check_tests;
-#[cfg(test)]
 mod tests;

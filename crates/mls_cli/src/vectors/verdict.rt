@@ -115,7 +115,7 @@ fn tree_passes(alloc: Global, bytes: &[u8], tree_hash: &[u8]) -> Result<bool, Al
     match tree_in(alloc, bytes) {
         Ok(mut tree) => Ok(tree.tree_hash().as_slice() == tree_hash),
         Err(error) => {
-            if error.number() == 1 {
+            if error.is_memory() {
                 return Err(AllocError);
             }
             Ok(false)

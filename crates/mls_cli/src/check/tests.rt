@@ -39,8 +39,18 @@ fn checks_and_refuses(rt: HostRuntime) -> Result<(), Fail> {
             0,
             LINES,
         ),
-        (&["mls", "check", "FILE"], "00", 1, "refused: 20 TreeShape\n"),
-        (&["mls", "check", "FILE"], "0100", 1, "refused: 20 TreeShape\n"),
+        (
+            &["mls", "check", "FILE"],
+            "00",
+            1,
+            "refused: 20 TreeShape\n",
+        ),
+        (
+            &["mls", "check", "FILE"],
+            "0100",
+            1,
+            "refused: 20 TreeShape\n",
+        ),
         (&["mls", "check", "FILE"], "0", 1, "refused: 8 NotHex\n"),
         (&["mls", "check", "FILE"], "02", 1, "refused: 2 Truncated\n"),
         (
