@@ -2,6 +2,7 @@
 
 use crate::arguments::job;
 use crate::serving::serve;
+use crate::tests::unless_out_of_memory;
 use std::alloc::{AllocError, Global};
 use std::test::Fail;
 
@@ -24,6 +25,7 @@ fn printed(alloc: Global, words: &[&str], file: &str) -> Result<(u8, Vec<u8>), A
     let mut out = Vec::new(alloc);
     let mut err = Vec::new(alloc);
     let status = serve(alloc, &job, Some(file.as_bytes()), &mut out, &mut err);
+    unless_out_of_memory(status, &err)?;
     out.extend_from_slice(err.as_slice())?;
     Ok((status, out))
 }

@@ -2,6 +2,7 @@
 
 use crate::arguments::job;
 use crate::serving::serve;
+use crate::tests::unless_out_of_memory;
 use std::alloc::{AllocError, Global};
 use std::test::Fail;
 
@@ -38,6 +39,7 @@ fn printed(alloc: Global, file: &[u8]) -> Result<(u8, Vec<u8>), AllocError> {
     let mut out = Vec::new(alloc);
     let mut err = Vec::new(alloc);
     let status = serve(alloc, &job, Some(file), &mut out, &mut err);
+    unless_out_of_memory(status, &err)?;
     Ok((status, out))
 }
 
