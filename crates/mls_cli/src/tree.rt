@@ -27,7 +27,8 @@ pub fn tree_in(alloc: Global, bytes: &[u8]) -> Result<PublicTree, CheckError>
 /// The lines of a tree: how many leaves and members it has, and its tree hash.
 #[tactic(auto, unfolding(crate::specs::Check::tree_entries))]
 pub fn tree_lines(alloc: Global, tree: &mut PublicTree) -> Result<Vec<Line>, AllocError>
-    ensures { IfOk result (λ lines. map entry_of lines.items ≡ tree_entries (term tree.old)) }
+    ensures lines { IfOk result (λ lines. map entry_of lines.items ≡ tree_entries (term tree.old)) }
+    ensures same { term tree.new ≡ term tree.old }
 {
     let hash = tree.tree_hash();
     let hash = Vec::from_slice(alloc, hash.as_slice())?;
