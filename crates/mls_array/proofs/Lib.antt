@@ -24,4 +24,3 @@ pub mod Candidates
 pub mod Hashings
 pub mod Ties
 pub mod Twins
-pub mod Gathers

@@ -7,3 +7,4 @@ pub mod MergingLaws
 pub mod Merged
 pub mod Witnesses
 pub mod Gathered
+pub mod GatheredLaws

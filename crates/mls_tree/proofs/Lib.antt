@@ -5,3 +5,5 @@ pub mod Receiving
 pub mod Adding
 pub mod Pathing
 pub mod Passing
+pub mod Fitting
+pub mod Checked

@@ -1,7 +1,7 @@
 -- The numbers and names of what a tree refuses.
 use Rattle.std.specs.Prelude.{ℕ, List, codes}
 use Rattle.mls_tree.specs.declared.error.TreeError.{TreeError}
-use Rattle.mls_tree.specs.declared.error.TreeError.TheVariants.{OutOfMemory, TreeShape, TreeFull, NoSuchLeaf, ParentHashWrong, KeyRepeated, PathLength}
+use Rattle.mls_tree.specs.declared.error.TreeError.TheVariants.{OutOfMemory, TreeShape, TreeFull, NoSuchLeaf, UnmergedWrong, ParentHashWrong, KeyRepeated, ClientRepeated, PathLength, BadKey, LeafSignature, LeafCapability}
 
 -- the number that the program answers
 abbrev pub number_of : TreeError → ℕ
@@ -9,9 +9,14 @@ number_of OutOfMemory = 1
 number_of TreeShape = 20
 number_of TreeFull = 21
 number_of NoSuchLeaf = 22
+number_of UnmergedWrong = 23
 number_of ParentHashWrong = 24
 number_of KeyRepeated = 25
+number_of ClientRepeated = 26
 number_of PathLength = 30
+number_of BadKey = 36
+number_of LeafSignature = 51
+number_of LeafCapability = 52
 
 -- the name, as it is printed
 abbrev pub name_of : TreeError → List ℕ
@@ -19,6 +24,11 @@ name_of OutOfMemory = codes "OutOfMemory"
 name_of TreeShape = codes "TreeShape"
 name_of TreeFull = codes "TreeFull"
 name_of NoSuchLeaf = codes "NoSuchLeaf"
+name_of UnmergedWrong = codes "UnmergedWrong"
 name_of ParentHashWrong = codes "ParentHashWrong"
 name_of KeyRepeated = codes "KeyRepeated"
+name_of ClientRepeated = codes "ClientRepeated"
 name_of PathLength = codes "PathLength"
+name_of BadKey = codes "BadKey"
+name_of LeafSignature = codes "LeafSignature"
+name_of LeafCapability = codes "LeafCapability"

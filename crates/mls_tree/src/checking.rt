@@ -1,18 +1,32 @@
-//! The checks of the members of a whole tree (RFC 9420, 7.3).
+//! The checks of a whole tree (RFC 9420, 7.3, 7.9.2 and 12.4.3.1).
 
-ghost use Rattle.std.specs.Prelude.{◌≡◌, ℕ, ◌<◌, ◌^◌, List, length};
+ghost use Rattle.std.specs.Prelude.{◌≡◌, ℕ, ◌<◌, ◌≤◌, ◌^◌, List, length, IfOk, IfSome};
 ghost use Rattle.std.specs.Option.{option_copied};
+ghost use Rattle.std.specs.List.{list_all};
+ghost use Rattle.mls_wire.specs.Checks.{passed, Answers};
 ghost use Rattle.mls_treemath.specs.Paths.{nodes_in};
-ghost use Rattle.mls_checks.specs.Leaf.{is_capable};
+ghost use Rattle.mls_treemath.specs.Limits.{max_height};
+ghost use Rattle.mls_checks.specs.Leaf.{is_signed, is_capable};
+ghost use Rattle.mls_checks.specs.Short.{IsShort};
+ghost use Rattle.mls_leaf.specs.Leaf.{leaf_node};
+ghost use Rattle.mls_term.specs.Term.{leaf_of};
 ghost use Rattle.mls_term.specs.Keys.{passes};
-ghost use Rattle.mls_term.specs.Good.{is_all_capable};
+ghost use Rattle.mls_term.specs.Good.{is_all_signed, is_all_capable, is_all_fit, tree_checks};
 ghost use Rattle.mls_term.specs.Arrays.{term_of};
+ghost use Rattle.mls_array.specs.Standing.{Stands};
+ghost use Rattle.mls_array.specs.Gathered.{cell_key};
 ghost use Rattle.mls_suite.specs.Crypto.{Crypto};
+ghost use Rattle.mls_tree.specs.Faults.{number_of};
 ghost use Rattle.mls_tree.specs.Rules.{rules_of};
+ghost use Rattle.mls_tree.specs.Tree.{term};
 
+use crate::error::TreeError;
+use crate::tree::PublicTree;
 use mls_array as array;
-use mls_checks::leaf_capable;
+use mls_checks::{leaf_capable, leaf_signed};
 use mls_leaf::{LeafNode, Node};
+use mls_suite::Suite;
+use std::alloc::{AllocError, Global};
 
 /// Whether a leaf has the capabilities, where it isn't blank.
 fn is_capable_or_blank(leaf: Option<&LeafNode>, suite: u16) -> bool
@@ -25,7 +39,7 @@ fn is_capable_or_blank(leaf: Option<&LeafNode>, suite: u16) -> bool
 }
 
 /// Whether each member has the capabilities that a group of this suite needs.
-pub(crate) fn all_capable(nodes: &[Option<Node>], height: u32, suite: u16) -> bool
+fn all_capable(nodes: &[Option<Node>], height: u32, suite: u16) -> bool
     requires shape { length nodes.now ≡ nodes_in height }
     requires fits { length nodes.now < 2 ^ 32 }
     ensures { (c : Crypto) (group : List ℕ) → c.number ≡ suite → result ≡ is_all_capable (rules_of c group) (term_of height nodes.now) }
@@ -37,4 +51,123 @@ pub(crate) fn all_capable(nodes: &[Option<Node>], height: u32, suite: u16) -> bo
         }
     }
     true
+}
+
+/// Whether a leaf's signature is its own, where it isn't blank.
+fn is_signed_or_blank<S: Suite>(
+    alloc: Global,
+    leaf: Option<&LeafNode>,
+    group_id: &[u8],
+    index: u32,
+) -> Result<bool, AllocError>
+    requires short { IfSome (option_copied leaf) (λ v. IsShort leaf_node v) }
+    requires group { length group_id.now < 2 ^ 28 }
+    ensures { IfOk result (λ b. b ≡ passes (is_signed S.crypto group_id.now) index (option_copied leaf.entry)) }
+{
+    match leaf {
+        Some(leaf) => leaf_signed::<S>(alloc, leaf, group_id, index),
+        None => Ok(true),
+    }
+}
+
+/// Whether each member's signature is its own.
+fn all_signed<S: Suite>(
+    alloc: Global,
+    nodes: &[Option<Node>],
+    height: u32,
+    group_id: &[u8],
+) -> Result<bool, AllocError>
+    requires shape { length nodes.now ≡ nodes_in height }
+    requires fits { length nodes.now < 2 ^ 32 }
+    requires group { length group_id.now < 2 ^ 28 }
+    requires short { (i : ℕ) → IfSome (leaf_of (term_of height nodes.now) i) (λ v. IsShort leaf_node v) }
+    ensures { IfOk result (λ b. b ≡ is_all_signed (rules_of S.crypto group_id.now) (term_of height nodes.now)) }
+{
+    let leaves = (nodes.len() / 2 + 1) as u32;
+    for i in 0..leaves {
+        if !is_signed_or_blank::<S>(alloc, array::leaf(nodes, height, i), group_id, i)? {
+            return Ok(false);
+        }
+    }
+    Ok(true)
+}
+
+/// Whether the encryption key in a place is fit for sealing, where it isn't blank.
+fn is_fit_or_blank<S: Suite>(node: &Option<Node>) -> bool
+    ensures { result ≡ list_all S.crypto.key_ok (cell_key node.now) }
+{
+    match node {
+        Some(Node::Leaf(leaf)) => S::key_ok(leaf.encryption_key.as_slice()),
+        Some(Node::Parent(parent)) => S::key_ok(parent.encryption_key()),
+        None => true,
+    }
+}
+
+/// Whether each encryption key is fit for sealing. Takes no memory.
+fn all_fit<S: Suite>(nodes: &[Option<Node>], height: u32) -> bool
+    requires { Stands height nodes.now }
+    ensures { (group : List ℕ) → result ≡ is_all_fit (rules_of S.crypto group) (term_of height nodes.now) }
+{
+    for node in nodes {
+        if !is_fit_or_blank::<S>(node) {
+            return false;
+        }
+    }
+    true
+}
+
+/// The checks of a whole tree in their order.
+#[tactic(auto, unfolding(mls_term::specs::Good::tree_checks))]
+fn check<S: Suite>(
+    alloc: Global,
+    nodes: &[Option<Node>],
+    height: u32,
+    group_id: &[u8],
+) -> Result<(), TreeError>
+    requires stands { Stands height nodes.now }
+    requires low { height ≤ max_height }
+    requires group { length group_id.now < 2 ^ 28 }
+    requires short { (i : ℕ) → IfSome (leaf_of (term_of height nodes.now) i) (λ v. IsShort leaf_node v) }
+    ensures { Answers (λ _. passed) number_of (tree_checks (rules_of S.crypto group_id.now) (term_of height nodes.now)) result }
+{
+    if !array::has_good_lists(nodes, height) {
+        return Err(TreeError::UnmergedWrong);
+    }
+    if !array::has_good_hashes(alloc, nodes, height)? {
+        return Err(TreeError::ParentHashWrong);
+    }
+    if !array::has_distinct_keys(alloc, nodes, height)? {
+        return Err(TreeError::KeyRepeated);
+    }
+    if !array::has_distinct_clients(alloc, nodes, height)? {
+        return Err(TreeError::ClientRepeated);
+    }
+    if !all_signed::<S>(alloc, nodes, height, group_id)? {
+        return Err(TreeError::LeafSignature);
+    }
+    if !all_capable(nodes, height, S::NUMBER) {
+        return Err(TreeError::LeafCapability);
+    }
+    if !all_fit::<S>(nodes, height) {
+        return Err(TreeError::BadKey);
+    }
+    Ok(())
+}
+
+impl PublicTree {
+    /// The checks of a whole tree, of which the first that fails is answered: `UnmergedWrong` (23) where a list of
+    /// unmerged leaves names a leaf that it may not (RFC 9420, 12.4.3.1); `ParentHashWrong` (24) where a parent isn't
+    /// parent-hash valid (RFC 9420, 7.9.2); `KeyRepeated` (25) where two nodes have one encryption key;
+    /// `ClientRepeated` (26) where two members have one signature key; `LeafSignature` (51) where a member's signature
+    /// isn't its own; `LeafCapability` (52) where a member lacks a capability (RFC 9420, 7.3); `BadKey` (36) where an
+    /// encryption key isn't fit for sealing.
+    pub fn check<S: Suite>(&mut self, group_id: &[u8]) -> Result<(), TreeError>
+        requires group { length group_id.now < 2 ^ 28 }
+        requires short { (i : ℕ) → IfSome (leaf_of (term self.old) i) (λ v. IsShort leaf_node v) }
+        ensures answer { Answers (λ _. passed) number_of (tree_checks (rules_of S.crypto group_id.now) (term self.old)) result }
+        ensures same { term self.new ≡ term self.old }
+    {
+        let alloc = *self.nodes.allocator();
+        check::<S>(alloc, &self.nodes, self.height, group_id)
+    }
 }

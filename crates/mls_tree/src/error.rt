@@ -21,15 +21,31 @@ pub enum TreeError {
     /// No member is at that leaf.
     #[error("no member is at that leaf")]
     NoSuchLeaf,
-    /// A commit's leaf hasn't the parent hash of its path.
-    #[error("the parent hash of the leaf isn't that of its path")]
+    /// A list of unmerged leaves names a leaf that isn't a member below its parent, or that a parent between doesn't
+    /// list.
+    #[error("a list of unmerged leaves is wrong")]
+    UnmergedWrong,
+    /// A commit's leaf hasn't the parent hash of its path, or a parent isn't parent-hash valid.
+    #[error("a parent hash is wrong")]
     ParentHashWrong,
-    /// Two nodes would have one encryption key.
+    /// Two nodes have, or would have, one encryption key.
     #[error("two nodes have one encryption key")]
     KeyRepeated,
+    /// Two members have one signature key.
+    #[error("two members have one signature key")]
+    ClientRepeated,
     /// A path hasn't as many keys as the filtered direct path has parents.
     #[error("the path hasn't a key for each of its parents")]
     PathLength,
+    /// A public key is not fit for sealing.
+    #[error("a key is not fit for use")]
+    BadKey,
+    /// A leaf's signature is not its own.
+    #[error("the leaf's signature does not verify")]
+    LeafSignature,
+    /// A leaf does not list the version, the suite or the credential.
+    #[error("the leaf lacks a capability")]
+    LeafCapability,
 }
 
 impl TreeError {
@@ -44,9 +60,14 @@ impl TreeError {
             TreeError::TreeShape => 20,
             TreeError::TreeFull => 21,
             TreeError::NoSuchLeaf => 22,
+            TreeError::UnmergedWrong => 23,
             TreeError::ParentHashWrong => 24,
             TreeError::KeyRepeated => 25,
+            TreeError::ClientRepeated => 26,
             TreeError::PathLength => 30,
+            TreeError::BadKey => 36,
+            TreeError::LeafSignature => 51,
+            TreeError::LeafCapability => 52,
         }
     }
 
@@ -59,9 +80,14 @@ impl TreeError {
             TreeError::TreeShape => "TreeShape",
             TreeError::TreeFull => "TreeFull",
             TreeError::NoSuchLeaf => "NoSuchLeaf",
+            TreeError::UnmergedWrong => "UnmergedWrong",
             TreeError::ParentHashWrong => "ParentHashWrong",
             TreeError::KeyRepeated => "KeyRepeated",
+            TreeError::ClientRepeated => "ClientRepeated",
             TreeError::PathLength => "PathLength",
+            TreeError::BadKey => "BadKey",
+            TreeError::LeafSignature => "LeafSignature",
+            TreeError::LeafCapability => "LeafCapability",
         }
     }
 }

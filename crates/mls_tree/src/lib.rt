@@ -5,7 +5,8 @@
 //! leaf index, a node by its node index (RFC 9420, appendix C).
 #![tactic(auto)]
 
-#[allow(dead_code)]
+#[cfg(test)]
+mod check_tests;
 mod checking;
 mod edits;
 mod error;

@@ -3,7 +3,7 @@ use Rattle.mls_term.specs.Sets.{same_bytes, is_distinct}
 use Rattle.mls_term.specs.Good.{has_distinct_keys}
 use Rattle.mls_term.specs.Arrays.{term_of}
 use Rattle.mls_array.specs.Gathered.{texts}
-use Rattle.mls_array.proofs.Gathers.{keys_standing}
+use Rattle.mls_array.specs.GatheredLaws.{keys_standing}
 use Rattle.mls_array.proofs.Ties.{ok_map}
 use Rattle.mls_array.proofs.keys.has_distinct_keys.Goals as goal
 

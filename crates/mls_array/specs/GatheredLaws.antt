@@ -1,4 +1,4 @@
--- What is gathered from a tree is gathered from its nodes in order.
+-- Laws: what is gathered from a tree is gathered from its nodes in order.
 use Rattle.std.proofs.Common.{◌≡◌, ℕ, ◌+◌, ◌<◌, List, [], ◌∷◌, ◌++◌, length, get_or, take, Option, Some, None, refl, sym, ◌∙◌, ap, append-nil}
 use Rattle.std.specs.List.{flat_map}
 use Rattle.std.proofs.lemmas.Grind.{flat_map-append}
@@ -21,7 +21,7 @@ module _ (f : Option LeafNode → List (List ℕ)) (g : Option Parent → List (
   of_parent None = sym blank
   of_parent (Some p) = refl
 
-  gather-in_order : (t : Term) → flat_map (cell_value f g) (in_order t) ≡ gather f g t
+  pub gather-in_order : (t : Term) → flat_map (cell_value f g) (in_order t) ≡ gather f g t
   unfolding gather in_order
   gather-in_order (Leaf v) = append-nil (cell_value f g (leaf_cell v)) ∙ of_leaf v
   gather-in_order (Branch c l r) =
