@@ -237,22 +237,31 @@ module _ (c : Crypto) (start own : List ℕ) where
 
 -- ---- what a call makes
 
-pub has_made : (c : Crypto) (start : List ℕ) (filtered : List ℕ) (p q : PrivateKeys) (pairs qs : List KeyPair) (xs ys : Keys) → ArePairsOf c (path_secrets start (length filtered)) pairs → qs ≡ pairs → ys ≡ [] → xs ≡ raised_all filtered (map (λ p. p.sk) qs) ys → q.leaf ≡ p.leaf → q.own ≡ p.own → q.above ≡ reverse xs → HasMade c start filtered p q
-unfolding filtered_path filtered_way nodes_of filtered_count keys_of made_keys
-has_made c start filtered p q pairs qs xs ys are same none raise leaf own above =
-    record {
-      leaf = leaf;
-      own = own;
-      keys = λ h t perfect low path.
-          let ss : List Step = way 0 t p.leaf in
-          let m : Made c start p.own ss = made_all c start p.own h ss low (have_levels h 0 t p.leaf perfect) in
-          let count : length filtered ≡ filtered_count ss = ap length path ∙ m.count in
-          let keys : map (λ p. p.sk) qs ≡ keys_of c start p.own (filtered_count ss) = ap (map (λ p. p.sk)) same ∙ are.private ∙ ap (λ n. map (node_key c) (path_secrets start n)) count in
-          let is : xs ≡ raised_all (nodes_of c start p.own ss) (keys_of c start p.own (filtered_count ss)) [] =
-          raise ∙ ap₂ (λ ns ks. raised_all ns ks ys) path keys ∙ ap (raised_all (nodes_of c start p.own ss) (keys_of c start p.own (filtered_count ss))) none in
-          ap₂ (λ a o. on_way ss (a ++ (Some o ∷ []))) (above ∙ ap reverse is) own
-          ∙ m.raises.keys;
-    }
+module _ (c : Crypto) (start : List ℕ) (filtered : List ℕ) (p q : PrivateKeys) (pairs qs : List KeyPair) (xs ys : Keys) (are : ArePairsOf c (path_secrets start (length filtered)) pairs) (same : qs ≡ pairs) (none : ys ≡ []) (raise : xs ≡ raised_all filtered (map (λ p. p.sk) qs) ys) where
+  raises_made : (h : ℕ) (t : Term) → is_perfect h t ≡ true → h ≤ 32 → filtered ≡ filtered_path 0 t p.leaf → Raises c start p.own (way 0 t p.leaf) xs
+  unfolding filtered_path filtered_way nodes_of filtered_count keys_of made_keys
+  raises_made h t perfect low path =
+      let ss : List Step = way 0 t p.leaf in
+      let m : Made c start p.own ss = made_all c start p.own h ss low (have_levels h 0 t p.leaf perfect) in
+      let count : length filtered ≡ filtered_count ss = ap length path ∙ m.count in
+      let keys : map (λ p. p.sk) qs ≡ keys_of c start p.own (filtered_count ss) = ap (map (λ p. p.sk)) same ∙ are.private ∙ ap (λ n. map (node_key c) (path_secrets start n)) count in
+      let is : xs ≡ raised_all (nodes_of c start p.own ss) (keys_of c start p.own (filtered_count ss)) [] =
+      raise ∙ ap₂ (λ ns ks. raised_all ns ks ys) path keys ∙ ap (raised_all (nodes_of c start p.own ss) (keys_of c start p.own (filtered_count ss))) none in
+      subst (λ zs. Raises c start p.own ss zs) (sym is) m.raises
+
+  pub has_made : q.leaf ≡ p.leaf → q.own ≡ p.own → q.above ≡ reverse xs → HasMade c start filtered p q
+  has_made leaf own above =
+      record {
+        leaf = leaf;
+        own = own;
+        keys = λ h t perfect low path. ap₂ (λ a o. on_way (way 0 t p.leaf) (a ++ (Some o ∷ []))) above own ∙ (raises_made h t perfect low path).keys;
+        low = λ h t perfect low path.
+            let r : Raises c start p.own (way 0 t p.leaf) xs = raises_made h t perfect low path in
+            let short : length xs ≤ length (way 0 t p.leaf) = r.low in
+            let high : length (way 0 t p.leaf) ≡ h = way_height h 0 t p.leaf perfect in
+            let long : length q.above ≡ length xs = ap length above ∙ length-reverse xs in
+            omega arith;
+      }
 
 length-raised : (h : ℕ) (k : List ℕ) (xs : Keys) (n : ℕ) → h ≤ n → length xs ≤ n → length (raised h k xs) ≤ n
 unfolding raised
