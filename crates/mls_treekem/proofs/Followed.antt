@@ -1,5 +1,5 @@
 -- Keys that are followed by code, the lowest one first.
-use Rattle.std.proofs.Common.{◌≡◌, ℕ, suc, ◌+◌, ◌<◌, ◌≤◌, if◌then◌else◌, List, [], ◌∷◌, ◌++◌, length, map, reverse, unwrap_or, Option, Some, None, is_some, Bool, refl, sym, subst, ◌∙◌, ap, ap₂, arith, append-nil, append_assoc}
+use Rattle.std.proofs.Common.{◌≡◌, ℕ, suc, ◌+◌, ◌≤◌, if◌then◌else◌, List, [], ◌∷◌, ◌++◌, length, map, reverse, unwrap_or, Option, Some, None, is_some, Bool, refl, sym, subst, ◌∙◌, ap, ap₂, arith, append-nil}
 use Rattle.std.proofs.lemmas.List.{length-map, length-reverse, reverse-reverse}
 use Rattle.std.proofs.Common.{Bor}
 use Rattle.std.specs.Option.{option_copied}
@@ -43,7 +43,7 @@ module _ (t : Term) (ks : Keys) where
   unfolding followed
   followed_low ps xs ys n none is low =
       let e : length xs ≡ length ps =
-          sym (length-reverse xs) ∙ ap length (is ∙ ap (λ z. followed ps ++ reverse z) none ∙ append-nil (followed ps)) ∙ length-follow (map (step_of t) ps) ks ∙ length-map ps (step_of t)
+      sym (length-reverse xs) ∙ ap length (is ∙ ap (λ z. followed ps ++ reverse z) none ∙ append-nil (followed ps)) ∙ length-follow (map (step_of t) ps) ks ∙ length-map ps (step_of t)
       in omega arith
 
 leaf_key : (own : Option (List ℕ)) (p : PrivateKeys) → Some (unwrap_or own p.own) ≡ leaf_key_after own (all_keys p)

@@ -1,12 +1,10 @@
 -- Keys by their height, and the pairs that they make.
-use Rattle.std.proofs.Common.{◌≡◌, ℕ, zero, suc, ◌+◌, ◌-◌, ◌*◌, ◌^◌, ◌<◌, ◌≤◌, nat_lt, Bool, true, false, if◌then◌else◌, List, [], ◌∷◌, ◌++◌, length, map, reverse, get_or, Option, Some, None, Result, OnOk, refl, subst, sym, ◌∙◌, ap, ap₂, inl, inr, arith, append-nil, append_assoc, length-append, eq-eqb, ne_eqb, lt-ltb, le-ltb, pow-suc}
+use Rattle.std.proofs.Common.{◌≡◌, ℕ, zero, suc, ◌+◌, ◌-◌, ◌*◌, ◌^◌, ◌<◌, ◌≤◌, true, List, [], ◌∷◌, ◌++◌, length, reverse, get_or, Option, Some, None, Result, OnOk, refl, subst, sym, ◌∙◌, ap, ap₂, inl, inr, arith, append-nil, append_assoc, eq-eqb, ne_eqb, lt-ltb, le-ltb, pow-suc}
 use Rattle.std.proofs.lemmas.Bool.{cond-true, cond-false, cases_lt, cases_eq, true≢false, and_parts}
-use Rattle.std.proofs.lemmas.List.{reverse-append, reverse-reverse, length-reverse, get_or-append_right, get_or_append_left, get_or_past, get_or_read}
-use Rattle.mls_leaf.specs.Parent.{Parent}
+use Rattle.std.proofs.lemmas.List.{reverse-append, reverse-reverse, length-reverse, get_or-append_right, get_or_append_left, get_or_past}
 use Rattle.mls_term.specs.Term.{Term, Leaf, Branch, width, size, is_perfect}
 use Rattle.mls_term.specs.Way.{way}
 use Rattle.mls_term.specs.Equations.{way_leaf, way_left, way_right}
-use Rattle.mls_term.specs.Laws.{IsIn}
 use Rattle.mls_term.proofs.Shape.{size-width, width-perfect}
 use Rattle.mls_treekem.specs.Keys.{Keys}
 use Rattle.mls_treekem.specs.Follow.{key_above, on_way}

@@ -1,5 +1,5 @@
 -- Keys that a path makes, put at the heights of their nodes.
-use Rattle.std.proofs.Common.{◌≡◌, ℕ, zero, suc, ◌+◌, ◌-◌, ◌*◌, ◌^◌, ◌<◌, ◌≤◌, ◌==◌, nat_lt, Bool, true, false, if◌then◌else◌, List, [], ◌∷◌, ◌++◌, length, map, filter, reverse, replicate, unwrap_or, Option, Some, None, refl, sym, subst, ◌∙◌, ap, ap₂, inl, inr, arith, append-nil, append_assoc, length-append, lt-ltb, le-ltb}
+use Rattle.std.proofs.Common.{◌≡◌, ℕ, zero, suc, ◌+◌, ◌-◌, ◌*◌, ◌^◌, ◌<◌, ◌≤◌, nat_lt, Bool, true, false, if◌then◌else◌, List, [], ◌∷◌, ◌++◌, length, map, filter, reverse, replicate, unwrap_or, Option, Some, None, refl, sym, subst, ◌∙◌, ap, ap₂, inl, inr, arith, append-nil, append_assoc, length-append, lt-ltb, le-ltb}
 use Rattle.std.proofs.lemmas.Bool.{true≢false, and_parts, cases_lt, cases_eq, cond-true, cond-false}
 use Rattle.std.proofs.lemmas.List.{length-reverse, length-replicate, reverse-append, map-append}
 use Rattle.mls_suite.specs.Crypto.{Crypto}
@@ -9,16 +9,15 @@ use Rattle.mls_treekem.specs.Chain.{chain, path_secrets, node_key}
 use Rattle.mls_treekem.specs.Keys.{Keys}
 use Rattle.mls_treekem.specs.Follow.{key_above, on_way}
 use Rattle.mls_treekem.specs.Make.{one_if, filtered_count, secret_above, key_if, made_keys}
-use Rattle.mls_treekem.specs.Made.{ArePairsOf, PrivateKeys, all_keys}
+use Rattle.mls_treekem.specs.Made.{ArePairsOf, PrivateKeys}
 use Rattle.mls_treekem.specs.Raise.{level_of, raised, raised_all, HasMade}
 use Rattle.mls_treekem.proofs.OnePass.{no_key_above}
 use Rattle.mls_treekem.proofs.Heights.{lower}
-use Rattle.mls_leaf.specs.Parent.{Parent}
 use Rattle.mls_treemath.specs.Paths.{Path, nodes_in, path_to, longer}
 use Rattle.mls_treemath.specs.Steps.{level_in, height_left}
-use Rattle.mls_treemath.specs.Ways.{path_left, path_root, path_right, path_to_within}
+use Rattle.mls_treemath.specs.Ways.{path_left, path_root, path_right}
 use Rattle.mls_term.specs.Term.{Term, Leaf, Branch, width, size, is_perfect}
-use Rattle.mls_term.specs.Way.{Step, step_at, way}
+use Rattle.mls_term.specs.Way.{Step, way}
 use Rattle.mls_term.specs.Equations.{way_leaf, way_left, way_right}
 use Rattle.mls_term.proofs.Shape.{size-width}
 use Rattle.mls_term.proofs.Arrays.{size-perfect, nodes_in-leaves}
@@ -168,11 +167,11 @@ module _ (c : Crypto) (start own : List ℕ) where
       let len : length padded ≡ length ss = length-append xs (replicate n None) ∙ ap (λ m. length xs + m) (length-replicate n None) ∙ (let z : length xs + n ≡ length ss = omega arith in z) in
       let lz : length zs ≡ suc (length ss) = length-end (reverse padded) (Some own) ∙ ap suc (length-reverse padded ∙ len) in
       let whole : reverse (raised (suc (length ss)) k xs) ++ (Some own ∷ []) ≡ Some k ∷ zs =
-          ap (λ ys. reverse ys ++ (Some own ∷ [])) (is_raised (length ss) k xs low) ∙ ap (λ ys. ys ++ (Some own ∷ [])) (reverse-end padded (Some k)) in
+      ap (λ ys. reverse ys ++ (Some own ∷ [])) (is_raised (length ss) k xs low) ∙ ap (λ ys. ys ++ (Some own ∷ [])) (reverse-end padded (Some k)) in
       let rest : on_way ss zs ≡ made_keys c ss start own =
-          ap (λ ys. on_way ss (ys ++ (Some own ∷ []))) (reverse-append xs (replicate n None))
-          ∙ ap (on_way ss) (append_assoc (reverse (replicate n None)) (reverse xs) (Some own ∷ []))
-          ∙ on_way_nones ss n (reverse xs ++ (Some own ∷ [])) ∙ r.keys in
+      ap (λ ys. on_way ss (ys ++ (Some own ∷ []))) (reverse-append xs (replicate n None))
+      ∙ ap (on_way ss) (append_assoc (reverse (replicate n None)) (reverse xs) (Some own ∷ []))
+      ∙ on_way_nones ss n (reverse xs ++ (Some own ∷ [])) ∙ r.keys in
       record {
         low = let e : length (raised (suc (length ss)) k xs) ≡ suc (length padded) = ap length (is_raised (length ss) k xs low) ∙ length-end padded (Some k) in omega arith;
         keys =
@@ -223,9 +222,9 @@ module _ (c : Crypto) (start own : List ℕ) where
       let n : filtered_count (s ∷ ss) ≡ suc (filtered_count ss) = ap (λ b. one_if b (filtered_count ss)) is_in in
       let xs : Keys = raised_all (nodes_of ss) (keys_of (filtered_count ss)) [] in
       let is : raised_all (nodes_of (s ∷ ss)) (keys_of (filtered_count (s ∷ ss))) [] ≡ raised (suc (length ss)) k xs =
-          ap₂ (λ ns ks. raised_all ns ks []) more (ap keys_of n ∙ keys_more (filtered_count ss))
-          ∙ raised_more s.node k (nodes_of ss) (keys_of (filtered_count ss)) [] (m.count ∙ sym (length-keys (filtered_count ss)))
-          ∙ ap (λ h. raised h k xs) l in
+      ap₂ (λ ns ks. raised_all ns ks []) more (ap keys_of n ∙ keys_more (filtered_count ss))
+      ∙ raised_more s.node k (nodes_of ss) (keys_of (filtered_count ss)) [] (m.count ∙ sym (length-keys (filtered_count ss)))
+      ∙ ap (λ h. raised h k xs) l in
       record {
         count = ap length more ∙ length-append (nodes_of ss) (s.node ∷ []) ∙ (let e = m.count in let z : length (nodes_of ss) + 1 ≡ suc (filtered_count ss) = omega arith in z) ∙ sym n;
         raises = subst (λ ys. Raises (s ∷ ss) ys) (sym is) (filtered_one s ss xs is_in m.raises);
@@ -238,22 +237,31 @@ module _ (c : Crypto) (start own : List ℕ) where
 
 -- ---- what a call makes
 
-pub has_made : (c : Crypto) (start : List ℕ) (filtered : List ℕ) (p q : PrivateKeys) (pairs qs : List KeyPair) (xs ys : Keys) → ArePairsOf c (path_secrets start (length filtered)) pairs → qs ≡ pairs → ys ≡ [] → xs ≡ raised_all filtered (map (λ p. p.sk) qs) ys → q.leaf ≡ p.leaf → q.own ≡ p.own → q.above ≡ reverse xs → HasMade c start filtered p q
-unfolding filtered_path filtered_way nodes_of filtered_count keys_of made_keys
-has_made c start filtered p q pairs qs xs ys are same none raise leaf own above =
-    record {
-      leaf = leaf;
-      own = own;
-      keys = λ h t perfect low path.
-          let ss : List Step = way 0 t p.leaf in
-          let m : Made c start p.own ss = made_all c start p.own h ss low (have_levels h 0 t p.leaf perfect) in
-          let count : length filtered ≡ filtered_count ss = ap length path ∙ m.count in
-          let keys : map (λ p. p.sk) qs ≡ keys_of c start p.own (filtered_count ss) = ap (map (λ p. p.sk)) same ∙ are.private ∙ ap (λ n. map (node_key c) (path_secrets start n)) count in
-          let is : xs ≡ raised_all (nodes_of c start p.own ss) (keys_of c start p.own (filtered_count ss)) [] =
-              raise ∙ ap₂ (λ ns ks. raised_all ns ks ys) path keys ∙ ap (raised_all (nodes_of c start p.own ss) (keys_of c start p.own (filtered_count ss))) none in
-          ap₂ (λ a o. on_way ss (a ++ (Some o ∷ []))) (above ∙ ap reverse is) own
-          ∙ m.raises.keys;
-    }
+module _ (c : Crypto) (start : List ℕ) (filtered : List ℕ) (p q : PrivateKeys) (pairs qs : List KeyPair) (xs ys : Keys) (are : ArePairsOf c (path_secrets start (length filtered)) pairs) (same : qs ≡ pairs) (none : ys ≡ []) (raise : xs ≡ raised_all filtered (map (λ p. p.sk) qs) ys) where
+  raises_made : (h : ℕ) (t : Term) → is_perfect h t ≡ true → h ≤ 32 → filtered ≡ filtered_path 0 t p.leaf → Raises c start p.own (way 0 t p.leaf) xs
+  unfolding filtered_path filtered_way nodes_of filtered_count keys_of made_keys
+  raises_made h t perfect low path =
+      let ss : List Step = way 0 t p.leaf in
+      let m : Made c start p.own ss = made_all c start p.own h ss low (have_levels h 0 t p.leaf perfect) in
+      let count : length filtered ≡ filtered_count ss = ap length path ∙ m.count in
+      let keys : map (λ p. p.sk) qs ≡ keys_of c start p.own (filtered_count ss) = ap (map (λ p. p.sk)) same ∙ are.private ∙ ap (λ n. map (node_key c) (path_secrets start n)) count in
+      let is : xs ≡ raised_all (nodes_of c start p.own ss) (keys_of c start p.own (filtered_count ss)) [] =
+      raise ∙ ap₂ (λ ns ks. raised_all ns ks ys) path keys ∙ ap (raised_all (nodes_of c start p.own ss) (keys_of c start p.own (filtered_count ss))) none in
+      subst (λ zs. Raises c start p.own ss zs) (sym is) m.raises
+
+  pub has_made : q.leaf ≡ p.leaf → q.own ≡ p.own → q.above ≡ reverse xs → HasMade c start filtered p q
+  has_made leaf own above =
+      record {
+        leaf = leaf;
+        own = own;
+        keys = λ h t perfect low path. ap₂ (λ a o. on_way (way 0 t p.leaf) (a ++ (Some o ∷ []))) above own ∙ (raises_made h t perfect low path).keys;
+        low = λ h t perfect low path.
+            let r : Raises c start p.own (way 0 t p.leaf) xs = raises_made h t perfect low path in
+            let short : length xs ≤ length (way 0 t p.leaf) = r.low in
+            let high : length (way 0 t p.leaf) ≡ h = way_height h 0 t p.leaf perfect in
+            let long : length q.above ≡ length xs = ap length above ∙ length-reverse xs in
+            omega arith;
+      }
 
 length-raised : (h : ℕ) (k : List ℕ) (xs : Keys) (n : ℕ) → h ≤ n → length xs ≤ n → length (raised h k xs) ≤ n
 unfolding raised
@@ -261,7 +269,7 @@ length-raised h k xs n a b = elim (cases_lt (length xs) h) [
   | inl lt ↦
       let m : ℕ = h - 1 - length xs in
       let e : length (raised h k xs) ≡ length xs + (m + 1) =
-          ap length (cond-true _ _ _ (lt-ltb (length xs) h lt)) ∙ length-append xs _ ∙ ap (λ z. length xs + z) (length-append (replicate m None) (Some k ∷ []) ∙ ap (λ z. z + 1) (length-replicate m None)) in
+      ap length (cond-true _ _ _ (lt-ltb (length xs) h lt)) ∙ length-append xs _ ∙ ap (λ z. length xs + z) (length-append (replicate m None) (Some k ∷ []) ∙ ap (λ z. z + 1) (length-replicate m None)) in
       omega arith
   | inr ge ↦ rw (cond-false (nat_lt (length xs) h) (xs ++ (replicate (h - 1 - length xs) None ++ (Some k ∷ []))) xs (le-ltb (length xs) h ge)) b
 ]

@@ -29,3 +29,4 @@ pub record HasMade (c : Crypto) (start : List ℕ) (filtered : List ℕ) (old ne
   pub leaf : new.leaf ≡ old.leaf
   pub own : new.own ≡ old.own
   pub keys : (h : ℕ) (t : Term) → is_perfect h t ≡ true → h ≤ 32 → filtered ≡ filtered_path 0 t old.leaf → on_way (way 0 t old.leaf) (all_keys new) ≡ made_keys c (way 0 t old.leaf) start old.own
+  pub low : (h : ℕ) (t : Term) → is_perfect h t ≡ true → h ≤ 32 → filtered ≡ filtered_path 0 t old.leaf → length new.above ≤ h

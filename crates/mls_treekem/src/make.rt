@@ -28,11 +28,7 @@ fn push_none(count: usize, above: &mut Vec<Option<Secret>>) -> Result<(), OutOfM
 }
 
 /// Puts a key so far above the leaf, where none is as high yet.
-fn put_key(
-    height: u32,
-    key: Secret,
-    above: &mut Vec<Option<Secret>>,
-) -> Result<(), OutOfMemory>
+fn put_key(height: u32, key: Secret, above: &mut Vec<Option<Secret>>) -> Result<(), OutOfMemory>
     ensures { OnOk result (above.new.items ≡ raised height key above.old.items) }
 {
     let height = height as usize;

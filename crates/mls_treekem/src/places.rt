@@ -36,12 +36,7 @@ pub(crate) fn side_of(height: u32) -> u32
 }
 
 /// Adds the parents over leaf `i` of a subtree of this height, the highest first.
-fn push_places(
-    height: u32,
-    first: u32,
-    i: u32,
-    places: &mut Vec<Place>,
-) -> Result<(), OutOfMemory>
+fn push_places(height: u32, first: u32, i: u32, places: &mut Vec<Place>) -> Result<(), OutOfMemory>
     requires low { height ≤ 31 }
     requires fits { first + 2 ^ height ≤ 2 ^ 31 }
     ensures { OnOk result (places.new.items ≡ places.old.items ++ places_from height first i) }

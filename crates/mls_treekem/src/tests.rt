@@ -46,7 +46,10 @@ fn keys_of_a_maker(rt: HostRuntime) -> Result<(), Fail> {
     assert_eq!(rt; key_nodes(rt.alloc(), &path)?.as_slice(), [2].as_slice());
     let made = path.make_path::<Glass>(&[7; 32], &[1, 3])?;
     assert_eq!(rt; made.pairs.len(), 2);
-    assert_eq!(rt; key_nodes(rt.alloc(), &path)?.as_slice(), [1, 2, 3].as_slice());
+    assert_eq!(rt;
+        key_nodes(rt.alloc(), &path)?.as_slice(),
+        [1, 2, 3].as_slice()
+    );
     let keys = path.keys()?;
     assert_eq!(rt; keys[0].1, made.pairs[0].sk);
     assert_eq!(rt; keys[1].1, [1; 32]);

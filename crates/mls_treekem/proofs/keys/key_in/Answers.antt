@@ -1,4 +1,4 @@
-use Rattle.std.proofs.Common.{None, sym, arith}
+use Rattle.std.proofs.Common.{None, sym}
 use Rattle.std.proofs.lemmas.List.{get_or_past}
 use Rattle.mls_treekem.proofs.keys.key_in.Goals as goal
 

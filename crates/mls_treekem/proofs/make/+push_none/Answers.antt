@@ -1,4 +1,3 @@
-use Rattle.std.proofs.Common.{◌-◌}
 use Rattle.mls_treekem.proofs.Levels.{on_ok_by}
 use Rattle.mls_treekem.proofs.Raised.{no_more, one_more}
 use Rattle.mls_treekem.proofs.make.+push_none.Goals as goal

@@ -1,4 +1,4 @@
-use Rattle.std.proofs.Common.{length, ap, sym}
+use Rattle.std.proofs.Common.{length, ap}
 use Rattle.mls_treekem.proofs.Raised.{not_raised, now_raised}
 use Rattle.mls_treekem.proofs.make.put_key.Goals as goal
 

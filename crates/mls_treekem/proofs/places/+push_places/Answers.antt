@@ -1,4 +1,3 @@
-use Rattle.std.proofs.Common.{◌-◌, ◌+◌, ◌^◌}
 use Rattle.mls_treekem.proofs.Levels.{on_ok_by}
 use Rattle.mls_treekem.proofs.Placing.{pushed_left, pushed_right, none_pushed}
 use Rattle.mls_treekem.proofs.places.+push_places.Goals as goal

@@ -1,4 +1,4 @@
-use Rattle.std.proofs.Common.{◌-◌, ◌^◌, ◌*◌, ◌∙◌, ap, sym, arith}
+use Rattle.std.proofs.Common.{◌-◌, ◌*◌, ◌∙◌, ap, sym, arith}
 use Rattle.std.proofs.lemmas.Nat.{one_shl, pow_pos}
 use Rattle.mls_treekem.proofs.Levels.{pow_pred}
 use Rattle.mls_treekem.proofs.places.side_of.Goals as goal

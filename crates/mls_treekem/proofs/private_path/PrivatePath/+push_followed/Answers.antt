@@ -1,6 +1,5 @@
-use Rattle.std.proofs.Common.{refl, ◌+◌, suc, if◌then◌else◌, None, reverse, ap, ap₂, ◌∙◌, length, arith}
+use Rattle.std.proofs.Common.{refl, reverse}
 use Rattle.mls_tree.specs.Tree.{term}
-use Rattle.mls_treekem.specs.Follow.{key_above}
 use Rattle.mls_treekem.specs.Made.{all_keys}
 use Rattle.mls_treekem.proofs.Followed.{followed_none, followed_more, key_is, none_left, plus_one}
 use Rattle.mls_treekem.proofs.private_path.PrivatePath.+push_followed.Goals as goal

@@ -1,4 +1,4 @@
-use Rattle.std.proofs.Common.{◌-◌, ◌+◌, ◌*◌, ◌++◌, ◌^◌, ap, ap₂, sym, subst, ◌∙◌}
+use Rattle.std.proofs.Common.{◌-◌, ◌+◌, ◌*◌, ◌++◌, ap, ap₂, sym, ◌∙◌}
 use Rattle.mls_treekem.specs.Height.{listed}
 use Rattle.mls_treekem.specs.Made.{all_keys}
 use Rattle.mls_treekem.specs.Pairs.{pair_of}
