@@ -6,7 +6,7 @@ use Rattle.std.proofs.Common.{w32}
 use Rattle.std.proofs.lemmas.Bool.{cases_eq}
 use Rattle.std.proofs.lemmas.Nat.{pow_pos, pow_below}
 use Rattle.std.proofs.lemmas.Nat.Bits.{bit_at-trailing_zeros, bit_at-pow_other}
-use Rattle.mls_array.specs.StandingLaws.{width-term_of, perfect-term_of}
+use Rattle.mls_term.proofs.Arrays.{width-term_of, perfect-term_of}
 use Rattle.mls_tree.specs.Tree.{Tree, term}
 use Rattle.mls_leaf.specs.Parent.{Parent}
 use Rattle.mls_leaf.specs.declared.node.Node.{Node}
