@@ -1,5 +1,7 @@
 use crate::{PublicTree, TreeError};
-use mls_leaf::{Bytes, Capabilities, Credential, Items, LeafNode, LeafSource};
+use mls_leaf::{
+    Bytes, Capabilities, Credential, Items, LeafNode, LeafSource, Node, parent_hash_input,
+};
 use std::alloc::{AllocError, Global};
 use std::test::*;
 
@@ -98,5 +100,79 @@ fn paths_that_are_refused(rt: HostRuntime) -> Result<(), Fail> {
         )
     );
     assert_eq!(rt; tree.resolution(1)?.as_slice(), [0, 2].as_slice());
+    Ok(())
+}
+
+/// The members that are numbered so, each with its number plus one as its key, in a tree of four leaves.
+fn four_without(alloc: Global, blank: &[u32]) -> Result<PublicTree, TreeError> {
+    let mut tree = two(alloc)?;
+    tree.add(leaf(alloc, 3, LeafSource::Update)?)?;
+    tree.add(leaf(alloc, 4, LeafSource::Update)?)?;
+    for i in blank {
+        tree.remove(*i)?;
+    }
+    Ok(tree)
+}
+
+/// Merges member i's path of one new key, and answers the parent hash that its leaf has.
+fn merged(alloc: Global, tree: &mut PublicTree, i: u32) -> Result<usize, TreeError> {
+    let hash = tree.path_parent_hash(i, &one_key(alloc, 9)?)?;
+    let length = hash.len();
+    let parent_hash = Bytes::from_vec(hash);
+    let new = leaf(alloc, 8, LeafSource::Commit { parent_hash })?;
+    tree.merge_path(i, new, one_key(alloc, 9)?)?;
+    Ok(length)
+}
+
+#[test]
+fn the_next_add_is_listed(rt: HostRuntime) -> Result<(), Fail> {
+    let alloc = rt.alloc();
+    let mut tree = four_without(alloc, &[1])?;
+    assert_eq!(rt; tree.filtered_path(0)?.as_slice(), [3].as_slice());
+    assert_eq!(rt; merged(alloc, &mut tree, 0)?, 32);
+    assert!(rt; tree.node(1).is_none());
+    assert_eq!(rt; tree.resolution(3)?.as_slice(), [3].as_slice());
+    assert_eq!(rt; tree.add(leaf(alloc, 7, LeafSource::Update)?)?, 1);
+    assert_eq!(rt; tree.resolution(3)?.as_slice(), [3, 2].as_slice());
+    assert_eq!(rt; tree.resolution(1)?.as_slice(), [0, 2].as_slice());
+    Ok(())
+}
+
+#[test]
+fn the_highest_filtered_node_is_below_the_root(rt: HostRuntime) -> Result<(), Fail> {
+    let alloc = rt.alloc();
+    let mut tree = four_without(alloc, &[0, 1])?;
+    assert_eq!(rt; tree.leaf_count(), 4);
+    assert_eq!(rt; tree.filtered_path(2)?.as_slice(), [5].as_slice());
+    assert_eq!(rt; merged(alloc, &mut tree, 2)?, 32);
+    assert!(rt; tree.node(3).is_none());
+    let is_empty = match tree.node(5) {
+        Some(Node::Parent(parent)) => parent.parent_hash().is_empty(),
+        _ => false,
+    };
+    assert!(rt; is_empty);
+    let input = parent_hash_input(alloc, &[9; 32], &[], &[7; 32])?;
+    assert_eq!(rt; input.len(), 67);
+    Ok(())
+}
+
+/// The number that a path of the one member is refused with, whose leaf has this parent hash, or 0.
+fn alone(alloc: Global, parent_hash: &[u8], keys: Vec<Bytes>) -> Result<u8, TreeError> {
+    let mut tree = PublicTree::single(alloc, leaf(alloc, 1, LeafSource::Update)?)?;
+    let parent_hash = Bytes::from_vec(parent_hash.to_vec(alloc)?);
+    let new = leaf(alloc, 2, LeafSource::Commit { parent_hash })?;
+    match tree.merge_path(0, new, keys) {
+        Ok(()) => Ok(0),
+        Err(TreeError::OutOfMemory) => Err(TreeError::OutOfMemory),
+        Err(error) => Ok(error.number()),
+    }
+}
+
+#[test]
+fn paths_of_one_member(rt: HostRuntime) -> Result<(), Fail> {
+    let alloc = rt.alloc();
+    assert_eq!(rt; alone(alloc, &[], Vec::new(alloc))?, 0);
+    assert_eq!(rt; alone(alloc, &[1], Vec::new(alloc))?, 24);
+    assert_eq!(rt; alone(alloc, &[], one_key(alloc, 3)?)?, 30);
     Ok(())
 }
