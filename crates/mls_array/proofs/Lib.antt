@@ -23,4 +23,3 @@ pub mod Same
 pub mod Candidates
 pub mod Hashings
 pub mod Ties
-pub mod Twins

@@ -1,16 +1,10 @@
 -- Keys that are gathered from a list of nodes.
-use Rattle.std.specs.Prelude.{ℕ, Bool, false, ◌||◌, List, [], ◌∷◌, map, Option, Some, None}
-use Rattle.std.specs.Borrow.{Bor}
+use Rattle.std.specs.Prelude.{ℕ, List, [], ◌∷◌, Option, Some, None}
 use Rattle.mls_leaf.specs.Parent.{Parent}
 use Rattle.mls_leaf.specs.declared.leaf.LeafNode.{LeafNode}
 use Rattle.mls_leaf.specs.declared.node.Node.{Node}
 use Rattle.mls_leaf.specs.declared.node.Node.TheVariants.{Leaf as in_leaf, Parent as in_parent}
-use Rattle.mls_term.specs.Sets.{same_bytes}
 use Rattle.mls_term.specs.Keys.{leaf_key, parent_key, leaf_signature}
-
--- what references point to
-abbrev pub texts : List (Bor (List ℕ)) → List (List ℕ)
-texts rs = map (λ r. r.now) rs
 
 -- what is gathered from a cell
 abbrev pub cell_value : (Option LeafNode → List (List ℕ)) → (Option Parent → List (List ℕ)) → Option Node → List (List ℕ)
@@ -29,9 +23,3 @@ cell_signature c = cell_value leaf_signature (λ p. []) c
 abbrev pub one_or_none : Option (List ℕ) → List (List ℕ)
 one_or_none None = []
 one_or_none (Some k) = k ∷ []
-
--- whether some byte string is the one before it
-unfoldable pub has_twins : List (List ℕ) → Bool
-has_twins [] = false
-has_twins (x ∷ []) = false
-has_twins (x ∷ y ∷ zs) = same_bytes x y || has_twins (y ∷ zs)

@@ -3,13 +3,13 @@
 ghost use Rattle.std.specs.Prelude.{◌≡◌, IfOk};
 ghost use Rattle.std.specs.Option.{option_copied};
 ghost use Rattle.std.specs.List.{flat_map};
-ghost use Rattle.mls_term.specs.Sets.{same_bytes, is_distinct};
 ghost use Rattle.mls_term.specs.Good.{has_distinct_keys, has_distinct_clients};
 ghost use Rattle.mls_term.specs.Arrays.{term_of};
 ghost use Rattle.mls_array.specs.Standing.{Stands};
-ghost use Rattle.mls_array.specs.Gathered.{texts, cell_key, cell_signature, one_or_none, has_twins};
+ghost use Rattle.mls_array.specs.Merged.{bytes_in};
+ghost use Rattle.mls_array.specs.Gathered.{cell_key, cell_signature, one_or_none};
 
-use crate::validity::same_bytes;
+use crate::distinct::are_distinct;
 use mls_leaf::Node;
 use std::alloc::{AllocError, Global};
 
@@ -36,7 +36,7 @@ fn signature_of(node: &Option<Node>) -> Option<&[u8]>
 
 /// All encryption keys.
 fn keys_of(alloc: Global, nodes: &[Option<Node>]) -> Result<Vec<&[u8]>, AllocError>
-    ensures { IfOk result (λ v. texts v.items ≡ flat_map cell_key nodes.now) }
+    ensures { IfOk result (λ v. bytes_in v.items ≡ flat_map cell_key nodes.now) }
 {
     let mut keys = Vec::new(alloc);
     for node in nodes {
@@ -49,7 +49,7 @@ fn keys_of(alloc: Global, nodes: &[Option<Node>]) -> Result<Vec<&[u8]>, AllocErr
 
 /// All signature keys.
 fn signatures_of(alloc: Global, nodes: &[Option<Node>]) -> Result<Vec<&[u8]>, AllocError>
-    ensures { IfOk result (λ v. texts v.items ≡ flat_map cell_signature nodes.now) }
+    ensures { IfOk result (λ v. bytes_in v.items ≡ flat_map cell_signature nodes.now) }
 {
     let mut keys = Vec::new(alloc);
     for node in nodes {
@@ -58,26 +58,6 @@ fn signatures_of(alloc: Global, nodes: &[Option<Node>]) -> Result<Vec<&[u8]>, Al
         }
     }
     Ok(keys)
-}
-
-/// Whether some key is the one before it.
-fn has_twins(keys: &[&[u8]]) -> bool
-    ensures { result ≡ has_twins (texts keys.now) }
-{
-    for i in 1..keys.len() {
-        if same_bytes(keys[i - 1], keys[i]) {
-            return true;
-        }
-    }
-    false
-}
-
-/// Whether no key stands twice: neighbours of the sorted keys are compared.
-fn are_distinct(mut keys: Vec<&[u8]>) -> Result<bool, AllocError>
-    ensures { IfOk result (λ b. b ≡ is_distinct same_bytes (texts keys.entry.items)) }
-{
-    keys.sort()?;
-    Ok(!has_twins(&keys))
 }
 
 /// Whether no two nodes have one encryption key.
@@ -89,7 +69,7 @@ pub fn has_distinct_keys(
     requires { Stands height nodes.now }
     ensures { IfOk result (λ b. b ≡ has_distinct_keys (term_of height nodes.now)) }
 {
-    are_distinct(keys_of(alloc, nodes)?)
+    Ok(are_distinct(keys_of(alloc, nodes)?))
 }
 
 /// Whether no two members have one signature key.
@@ -101,5 +81,5 @@ pub fn has_distinct_clients(
     requires { Stands height nodes.now }
     ensures { IfOk result (λ b. b ≡ has_distinct_clients (term_of height nodes.now)) }
 {
-    are_distinct(signatures_of(alloc, nodes)?)
+    Ok(are_distinct(signatures_of(alloc, nodes)?))
 }

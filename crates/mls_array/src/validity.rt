@@ -21,7 +21,7 @@ use mls_leaf::{LeafSource, Node, ParentNode};
 use std::alloc::{AllocError, Global};
 
 /// Whether two byte strings are equal.
-pub(crate) fn same_bytes(left: &[u8], right: &[u8]) -> bool
+fn same_bytes(left: &[u8], right: &[u8]) -> bool
     ensures { result ≡ same_bytes left.now right.now }
 {
     left == right

@@ -1,5 +1,5 @@
 -- What the checks of a whole tree are called with.
-use Rattle.std.proofs.Common.{◌≡◌, ℕ, ◌^◌, ◌<◌, ◌≤◌, List, length, Option, arith}
+use Rattle.std.proofs.Common.{ℕ, ◌^◌, ◌<◌, ◌≤◌, List, length, Option, arith}
 use Rattle.mls_leaf.specs.declared.node.Node.{Node}
 use Rattle.mls_treemath.specs.Limits.{max_height}
 use Rattle.mls_treemath.specs.Paths.{nodes_in}
