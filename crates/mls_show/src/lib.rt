@@ -1,11 +1,6 @@
 //! The lines of messages of Messaging Layer Security (RFC 9420), and the engine of `mls show`, which prints them.
 #![tactic(auto)]
 
-mod group;
-mod message;
-mod package;
-mod public;
-
 ghost use Rattle.std.specs.Prelude.{ℕ, List, ◌≡◌, ◌++◌, map, Some, IfOk, OnOk, OnErr, IfErr, IfSome, IsErrOf, ◌≢◌, ◌≤◌};
 ghost use Rattle.std.specs.Io.KnownBytes.{Appends, Keeps};
 ghost use Rattle.mls_leaf.specs.Faults.{number_of};
@@ -15,15 +10,21 @@ ghost use Rattle.mls_text.specs.Page.{page_on, refusal_name};
 ghost use Rattle.mls_show.specs.Message.{text_of};
 ghost use Rattle.mls_show.specs.Show.{page_in, page_of};
 
-pub use group::{group_info_lines, welcome_lines};
-pub use message::{message_lines, show_text};
 use mls_leaf::LeafError;
 use mls_text::{Fault, FileError, file_bytes, print_lines, read_whole, refuse};
 use mls_wire::WireError;
-pub use package::{key_package_lines, leaf_lines};
-pub use public::{count_field, proposal_lines, public_message_lines};
 use std::alloc::Global;
 use std::io::{Read, Write};
+
+mod group;
+mod message;
+mod package;
+mod public;
+
+pub use group::{group_info_lines, welcome_lines};
+pub use message::{message_lines, show_text};
+pub use package::{key_package_lines, leaf_lines};
+pub use public::{count_field, proposal_lines, public_message_lines};
 
 /// The refusal's name, as it is printed.
 fn name_of(error: LeafError) -> &'static str
