@@ -6,10 +6,10 @@ use Rattle.clap.specs.declared.error.Error.{Error}
 use Rattle.clap.specs.declared.error.kind.ErrorKind.TheVariants as kind
 use Rattle.mls_cli.specs.declared.tasks.Job.{Job}
 use Rattle.mls_cli.specs.declared.tasks.Job.TheVariants as job
-use Rattle.mls_cli.specs.Engine.{AppendsPart, Output, page_output}
-use Rattle.mls_cli.specs.Show.{page_of}
-use Rattle.mls_cli.specs.Check.{check_page}
-use Rattle.mls_cli.specs.VectorsReport.{vectors_output}
+use Rattle.mls_text.specs.Engine.{AppendsPart, Output, page_output}
+use Rattle.mls_show.specs.Show.{page_of}
+use Rattle.mls_check.specs.Check.{check_page}
+use Rattle.mls_vectors.specs.VectorsReport.{vectors_output}
 
 -- what a job prints for a file of this text
 abbrev pub output_for : Job → List ℕ → Output

@@ -4,20 +4,8 @@
 ghost use Rattle.std.specs.Prelude.{◌≤◌, IfOk};
 
 mod arguments;
-mod check;
-mod check_error;
-mod engine;
-mod file;
-mod group;
-mod message;
-mod package;
-mod public;
 mod serving;
-mod show;
 mod tasks;
-mod text;
-mod tree;
-mod vectors;
 
 use arguments::job;
 use serving::{out_of_memory, serve};

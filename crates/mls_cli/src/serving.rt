@@ -3,16 +3,16 @@
 ghost use Rattle.std.specs.Prelude.{◌≡◌, ◌≤◌, Ok, Some, None, IfOk, IfErr, IfSome, IsNone};
 ghost use Rattle.std.specs.Io.KnownBytes.{Keeps};
 ghost use Rattle.mls_cli.specs.Arguments.{file_of};
-ghost use Rattle.mls_cli.specs.Engine.{Puts};
+ghost use Rattle.mls_text.specs.Engine.{Puts};
 ghost use Rattle.mls_cli.specs.Serving.{Leaves, Says, Usage, out_of_memory as memory_text, output_for, unreadable};
 
-use crate::check::check;
-use crate::engine::{Fault, put};
-use crate::show::show;
 use crate::tasks::Job;
-use crate::vectors::vectors;
 use clap::Error;
 use clap::error::ErrorKind;
+use mls_check::check;
+use mls_show::show;
+use mls_text::{Fault, put};
+use mls_vectors::vectors;
 use std::alloc::{AllocError, Global};
 use std::io::{Read, Write};
 

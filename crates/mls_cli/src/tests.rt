@@ -1,3 +1,8 @@
+//! What `mls show` prints, and what the program says of faults.
+
+mod check;
+mod vectors;
+
 ghost use Rattle.std.specs.Prelude.{Some};
 
 use crate::arguments::job;

@@ -1,0 +1,2 @@
+mod CheckNames
+mod SentTrees

@@ -1,0 +1,40 @@
+-- The tree that bytes spell follows from their nodes.
+use Rattle.std.proofs.Common.{◌≡◌, ◌≢◌, ◌∙◌, ℕ, List, Option, Result, Ok, Err, ap, refl, sym}
+use Rattle.mls_wire.specs.Reading.{◌>>=◌}
+use Rattle.mls_wire.specs.declared.WireError.TheVariants as wire
+use Rattle.mls_leaf.specs.Faults.{Fails, number_of, whole}
+use Rattle.mls_leaf.specs.declared.error.LeafError.{LeafError}
+use Rattle.mls_leaf.specs.declared.error.LeafError.TheVariants.{Wire, BadTag, UnsupportedCredential, UnsupportedProposal, NotRising, ExtensionNotAllowed}
+use Rattle.mls_leaf.specs.declared.node.Node.{Node}
+use Rattle.mls_group.specs.GroupInfo.{ratchet_tree}
+use Rattle.mls_term.specs.Term.{Term}
+use Rattle.mls_term.specs.Arrays.{from_nodes}
+use Rattle.mls_tree.specs.Tree.{max_leaves}
+use Rattle.mls_check.specs.Check.{tree_in}
+use Rattle.mls_text.specs.File.{input_limit}
+
+-- a fault of the first part is the fault of the whole
+fault_then : {A B : Type 0} (e : LeafError) (r : Result A ℕ) (f : A → Result B ℕ) → Fails e r → number_of e ≢ 1 → (r >>= f) ≡ Err (number_of e)
+fault_then (Wire wire.OutOfMemory) r f h ne = absurd (ne refl)
+fault_then {A} {B} (Wire wire.Truncated) r f h ne = ap (λ (x : Result A ℕ). x >>= f) h
+fault_then {A} {B} (Wire wire.Trailing) r f h ne = ap (λ (x : Result A ℕ). x >>= f) h
+fault_then {A} {B} (Wire wire.BadLength) r f h ne = ap (λ (x : Result A ℕ). x >>= f) h
+fault_then {A} {B} (Wire wire.NotMinimal) r f h ne = ap (λ (x : Result A ℕ). x >>= f) h
+fault_then {A} {B} (Wire wire.TooLong) r f h ne = ap (λ (x : Result A ℕ). x >>= f) h
+fault_then {A} {B} BadTag r f h ne = ap (λ (x : Result A ℕ). x >>= f) h
+fault_then {A} {B} UnsupportedCredential r f h ne = ap (λ (x : Result A ℕ). x >>= f) h
+fault_then {A} {B} UnsupportedProposal r f h ne = ap (λ (x : Result A ℕ). x >>= f) h
+fault_then {A} {B} NotRising r f h ne = ap (λ (x : Result A ℕ). x >>= f) h
+fault_then {A} {B} ExtensionNotAllowed r f h ne = ap (λ (x : Result A ℕ). x >>= f) h
+
+-- bytes that spell no nodes spell no tree
+pub no_nodes : (bytes : List ℕ) (e : LeafError) → Fails e (whole ratchet_tree input_limit bytes) → number_of e ≢ 1 → tree_in bytes ≡ Err (number_of e)
+unfolding tree_in
+no_nodes bytes e h ne = fault_then e (whole ratchet_tree input_limit bytes) (from_nodes max_leaves) h ne
+
+-- else what the nodes stand for decides
+pub of_nodes : (bytes : List ℕ) (nodes items : List (Option Node)) (r : Result Term ℕ)
+    → whole ratchet_tree input_limit bytes ≡ Ok nodes → items ≡ nodes → from_nodes max_leaves items ≡ r → tree_in bytes ≡ r
+unfolding tree_in
+of_nodes bytes nodes items r e same h =
+    ap (λ (x : Result (List (Option Node)) ℕ). x >>= from_nodes max_leaves) e ∙ (ap (from_nodes max_leaves) (sym same) ∙ h)

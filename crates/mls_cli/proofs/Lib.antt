@@ -1,5 +1,0 @@
-mod Trims
-mod Parts
-mod Names
-mod CheckNames
-mod SentTrees

@@ -1,0 +1,5 @@
+pub mod Package
+pub mod Public
+pub mod Group
+pub mod Message
+pub mod Show

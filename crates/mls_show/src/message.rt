@@ -1,0 +1,65 @@
+//! The lines of messages.
+
+ghost use Rattle.std.specs.Prelude.{◌≡◌, [], map, length, IfOk, Ok};
+ghost use Rattle.mls_leaf.specs.Faults.{Gives};
+ghost use Rattle.mls_text.specs.Text.{entry_of};
+ghost use Rattle.mls_show.specs.Message.{head_entries, message_entries, text_of};
+
+use crate::group::{group_info_lines, welcome_lines};
+use crate::package::key_package_lines;
+use crate::public::public_message_lines;
+use mls_leaf::{Codec, LeafError};
+use mls_text::{Field, Line, joined, line_of};
+use mls_types::MlsMessage;
+use std::alloc::{AllocError, Global};
+
+fn head_lines(alloc: Global, kind: &'static str, size: usize) -> Result<Vec<Line>, AllocError>
+    ensures { IfOk result (λ lines. map entry_of lines.items ≡ head_entries kind.entry.now size) }
+{
+    Ok(vec![in alloc;
+        line_of("", "message", Field::Word(kind)),
+        line_of("", "bytes", Field::Number(size as u64)),
+    ]?)
+}
+
+/// The lines of a message that is spelled in so many bytes.
+#[tactic(auto, unfolding(crate::specs::Message::message_entries))]
+pub fn message_lines(
+    alloc: Global,
+    size: usize,
+    message: MlsMessage,
+) -> Result<Vec<Line>, AllocError>
+    ensures { IfOk result (λ lines. map entry_of lines.items ≡ message_entries size message) }
+{
+    match message {
+        MlsMessage::KeyPackage(key_package) => {
+            let lines = head_lines(alloc, "key_package", size)?;
+            let lines = joined(lines, key_package_lines(alloc, "", key_package)?)?;
+            Ok(lines)
+        }
+        MlsMessage::PublicMessage(message) => {
+            let lines = head_lines(alloc, "public_message", size)?;
+            let lines = joined(lines, public_message_lines(alloc, message)?)?;
+            Ok(lines)
+        }
+        MlsMessage::Welcome(welcome) => {
+            let lines = head_lines(alloc, "welcome", size)?;
+            let lines = joined(lines, welcome_lines(alloc, &welcome)?)?;
+            Ok(lines)
+        }
+        MlsMessage::GroupInfo(info) => {
+            let lines = head_lines(alloc, "group_info", size)?;
+            let lines = joined(lines, group_info_lines(alloc, info)?)?;
+            Ok(lines)
+        }
+    }
+}
+
+/// The lines of the MLSMessage that the bytes spell, or its first fault (2 to 7, 11 to 14).
+pub fn show_text(alloc: Global, bytes: &[u8]) -> Result<Vec<Line>, LeafError>
+    ensures { Gives (λ lines. map entry_of lines.items) result (text_of bytes.now) }
+{
+    let message = MlsMessage::decode(alloc, bytes)?;
+    let lines = message_lines(alloc, bytes.len(), message)?;
+    Ok(lines)
+}

@@ -1,0 +1,3 @@
+mod Trims
+pub mod Parts
+pub mod Names

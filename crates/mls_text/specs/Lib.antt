@@ -1,0 +1,4 @@
+pub mod Text
+pub mod Engine
+pub mod File
+pub mod Page

@@ -1,0 +1,71 @@
+-- A text of lines `name: value`.
+use Rattle.std.specs.Prelude.{◌==◌, length, drop, if◌then◌else◌, ◌/◌, ◌%◌, ℕ, List, [], ◌∷◌, ◌++◌, codes}
+use Rattle.std.specs.List.{flat_map}
+use Rattle.std.specs.Fmt.{decimal}
+use Rattle.hex.specs.Hex.{encode_lower}
+use Rattle.mls_text.specs.declared.text.Field.{Field}
+use Rattle.mls_text.specs.declared.text.Field.TheVariants as field
+use Rattle.mls_text.specs.declared.text.Line.{Line}
+
+-- what stands behind a name: bytes, a list of uint16, a uint16 in hex, a number, a word, or a
+-- refusal's number and name
+pub data Shown : Type 0 where
+  bytes : List ℕ → Shown
+  numbers : List ℕ → Shown
+  digits : ℕ → Shown
+  number : ℕ → Shown
+  word : List ℕ → Shown
+  refusal : ℕ → List ℕ → Shown
+
+-- a line: its name, and what stands behind it
+pub record Entry : Type 0 where
+  pub name : List ℕ
+  pub shown : Shown
+
+-- the name behind a prefix
+abbrev pub entry : List ℕ → List ℕ → Shown → Entry
+entry prefix name shown = record { name = prefix ++ name; shown = shown }
+
+-- `-` for nothing
+abbrev pub or_dash : List ℕ → List ℕ
+or_dash bs = if length bs == 0 then codes "-" else bs
+
+-- a uint16 as four hex digits
+abbrev pub four_digits : ℕ → List ℕ
+four_digits n = encode_lower (n / 256 ∷ n % 256 ∷ [])
+
+-- a comma before each
+abbrev pub with_commas : List ℕ → List ℕ
+with_commas ns = flat_map (λ n. 44 ∷ four_digits n) ns
+
+-- joined by commas
+abbrev pub joined_by_commas : List ℕ → List ℕ
+joined_by_commas ns = drop 1 (with_commas ns)
+
+abbrev pub shown_text : Shown → List ℕ
+shown_text (bytes bs) = or_dash (encode_lower bs)
+shown_text (numbers ns) = or_dash (joined_by_commas ns)
+shown_text (digits n) = four_digits n
+shown_text (number n) = decimal n
+shown_text (word w) = w
+shown_text (refusal n name) = decimal n ++ 32 ∷ name
+
+-- a name, a colon and a space, what stands behind, and a line feed
+abbrev pub line_text : Entry → List ℕ
+line_text e = ((e.name ++ codes ": ") ++ shown_text e.shown) ++ 10 ∷ []
+
+abbrev pub lines_text : List Entry → List ℕ
+lines_text entries = flat_map line_text entries
+
+-- ---- the same, of the code's values
+
+abbrev pub shown_by : Field → Shown
+shown_by (field.Bytes bs) = bytes bs
+shown_by (field.Numbers ns) = numbers ns
+shown_by (field.Digits n) = digits n
+shown_by (field.Number n) = number n
+shown_by (field.Word w) = word w.now
+shown_by (field.Refusal n name) = refusal n name.now
+
+unfoldable pub entry_of : Line → Entry
+entry_of l = record { name = l.prefix.now ++ l.name.now; shown = shown_by l.field }

@@ -1,0 +1,157 @@
+//! Lines `name: value`, as data and as bytes.
+
+ghost use Rattle.std.specs.Prelude.{◌≡◌, ◌++◌, ◌∷◌, [], map, IfOk, OnOk, drop};
+ghost use Rattle.std.specs.Fmt.{decimal};
+ghost use Rattle.hex.specs.Hex.{encode_lower};
+ghost use Rattle.mls_text.specs.Text.{entry, entry_of, four_digits, or_dash, line_text, joined_by_commas, shown_by, shown_text, with_commas};
+
+use mls_leaf::{Bytes, Items};
+use std::alloc::{AllocError, Global};
+
+/// What stands behind a name.
+#[derive(Debug, Drop)]
+pub enum Field {
+    /// Lower-case hex digits, `-` where there are no bytes.
+    Bytes(Bytes),
+    /// Four hex digits each, joined by commas, `-` where there are none.
+    Numbers(Items<u16>),
+    /// Four hex digits.
+    Digits(u16),
+    /// A number in decimal.
+    Number(u64),
+    /// A word as it stands.
+    Word(&'static str),
+    /// A refusal's number in decimal, a space, and its name.
+    Refusal(u8, &'static str),
+}
+
+/// A name, which may have a front of its own, and what stands behind it.
+#[derive(Debug, Drop)]
+pub struct Line {
+    /// What stands before the name.
+    pub prefix: &'static str,
+    /// The name.
+    pub name: &'static str,
+    /// What stands behind it.
+    pub field: Field,
+}
+
+/// A line of these parts.
+#[tactic(auto, unfolding(crate::specs::Text::entry_of))]
+pub fn line_of(prefix: &'static str, name: &'static str, field: Field) -> Line
+    ensures { entry_of result ≡ entry prefix.entry.now name.entry.now (shown_by field) }
+{
+    Line {
+        prefix,
+        name,
+        field,
+    }
+}
+
+/// The lines of both, in turn.
+pub fn joined(mut lines: Vec<Line>, mut more: Vec<Line>) -> Result<Vec<Line>, AllocError>
+    ensures { IfOk result (λ all. map entry_of all.items ≡ map entry_of lines.items ++ map entry_of more.items) }
+{
+    lines.append(&mut more)?;
+    Ok(lines)
+}
+
+/// The lines with one more.
+pub fn ended(mut lines: Vec<Line>, last: Line) -> Result<Vec<Line>, AllocError>
+    ensures { IfOk result (λ all. map entry_of all.items ≡ map entry_of lines.items ++ entry_of last ∷ []) }
+{
+    lines.push(last)?;
+    Ok(lines)
+}
+
+/// The bytes of a line, its line feed with it.
+#[tactic(auto, unfolding(crate::specs::Text::entry_of))]
+pub fn line_bytes(alloc: Global, line: &Line) -> Result<Vec<u8>, AllocError>
+    ensures { IfOk result (λ bytes. bytes.items ≡ line_text (entry_of line.now)) }
+{
+    let mut text = Vec::new(alloc);
+    text.extend_from_slice(line.prefix.as_bytes())?;
+    text.extend_from_slice(line.name.as_bytes())?;
+    text.extend_from_slice(b": ")?;
+    push_field(alloc, &mut text, &line.field)?;
+    text.push(b'\n')?;
+    Ok(text)
+}
+
+fn push_field(alloc: Global, text: &mut Vec<u8>, field: &Field) -> Result<(), AllocError>
+    ensures { OnOk result (text.new.items ≡ text.old.items ++ shown_text (shown_by field.now)) }
+{
+    match field {
+        Field::Bytes(bytes) => push_hex(alloc, text, bytes.as_slice()),
+        Field::Numbers(numbers) => push_numbers(alloc, text, numbers.as_slice()),
+        Field::Digits(number) => push_digits(alloc, text, *number),
+        Field::Number(number) => push_number(alloc, text, *number),
+        Field::Word(word) => text.extend_from_slice(word.as_bytes()),
+        Field::Refusal(number, name) => push_refusal(alloc, text, *number, name),
+    }
+}
+
+fn push_hex(alloc: Global, text: &mut Vec<u8>, bytes: &[u8]) -> Result<(), AllocError>
+    ensures { OnOk result (text.new.items ≡ text.old.items ++ or_dash (encode_lower bytes.now)) }
+{
+    let digits = hex::encode(alloc, bytes)?;
+    push_or_dash(text, digits.as_bytes())
+}
+
+fn push_or_dash(text: &mut Vec<u8>, value: &[u8]) -> Result<(), AllocError>
+    ensures { OnOk result (text.new.items ≡ text.old.items ++ or_dash value.now) }
+{
+    if value.is_empty() {
+        return text.extend_from_slice(b"-");
+    }
+    text.extend_from_slice(value)
+}
+
+fn push_number(alloc: Global, text: &mut Vec<u8>, number: u64) -> Result<(), AllocError>
+    ensures { OnOk result (text.new.items ≡ text.old.items ++ decimal number) }
+{
+    text.extend_from_slice(number.to_string(alloc)?.as_bytes())
+}
+
+fn push_refusal(alloc: Global, text: &mut Vec<u8>, number: u8, name: &str) -> Result<(), AllocError>
+    ensures { OnOk result (text.new.items ≡ text.old.items ++ (decimal number ++ 32 ∷ name.now)) }
+{
+    push_number(alloc, text, u64::from(number))?;
+    text.push(b' ')?;
+    text.extend_from_slice(name.as_bytes())
+}
+
+fn push_digits(alloc: Global, text: &mut Vec<u8>, number: u16) -> Result<(), AllocError>
+    ensures { OnOk result (text.new.items ≡ text.old.items ++ four_digits number) }
+{
+    let pair = [(number / 256) as u8, (number % 256) as u8];
+    let digits = hex::encode(alloc, pair.as_slice())?;
+    text.extend_from_slice(digits.as_bytes())
+}
+
+fn push_numbers(alloc: Global, text: &mut Vec<u8>, numbers: &[u16]) -> Result<(), AllocError>
+    ensures { OnOk result (text.new.items ≡ text.old.items ++ or_dash (joined_by_commas numbers.now)) }
+{
+    let mut list = Vec::new(alloc);
+    push_more(alloc, &mut list, numbers)?;
+    push_or_dash(text, behind_first(list.as_slice()))
+}
+
+fn behind_first(bytes: &[u8]) -> &[u8]
+    ensures { result.now ≡ drop 1 bytes.now }
+{
+    match bytes {
+        [] => bytes,
+        [_, rest @ ..] => rest,
+    }
+}
+
+fn push_more(alloc: Global, text: &mut Vec<u8>, numbers: &[u16]) -> Result<(), AllocError>
+    ensures { OnOk result (text.new.items ≡ text.old.items ++ with_commas numbers.now) }
+{
+    for number in numbers {
+        text.push(b',')?;
+        push_digits(alloc, text, *number)?;
+    }
+    Ok(())
+}
