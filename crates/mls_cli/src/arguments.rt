@@ -11,19 +11,25 @@ use clap::{Arg, ArgMatches, Command, Error};
 use std::alloc::{AllocError, Global};
 use std::convert::AsStr;
 
-fn file_arg<'a>(alloc: Global) -> Arg<'a>
+fn file_arg<'a>(alloc: Global, help: &'a str) -> Arg<'a>
     ensures rule { rule_of result ≡ file_rule }
     ensures local { result.global ≡ false }
 {
-    Arg::new(alloc, "FILE").required(true)
+    Arg::new(alloc, "FILE").required(true).help(help)
 }
 
-fn file_command<'a>(alloc: Global, name: &'a str) -> Result<Command<'a>, AllocError>
+/// A subcommand that takes a FILE, with what help says of both.
+fn file_command<'a>(
+    alloc: Global,
+    name: &'a str,
+    about: &'a str,
+    file: &'a str,
+) -> Result<Command<'a>, AllocError>
     ensures app { IfOk result (λ c. app_of c ≡ on_file name.entry.now) }
     ensures local { IfOk result (λ c. (fields_of c).has_globals ≡ false) }
 {
-    let file = file_arg(alloc);
-    Command::new(alloc, name).arg(file)
+    let file = file_arg(alloc, file);
+    Command::new(alloc, name).about(about).arg(file)
 }
 
 fn suite_arg<'a>(alloc: Global) -> Arg<'a>
@@ -49,7 +55,12 @@ fn check_command<'a>(alloc: Global) -> Result<Command<'a>, AllocError>
     ensures app { IfOk result (λ c. app_of c ≡ check_app) }
     ensures local { IfOk result (λ c. (fields_of c).has_globals ≡ false) }
 {
-    let command = file_command(alloc, "check")?;
+    let command = file_command(
+        alloc,
+        "check",
+        "Checks a ratchet tree",
+        "A ratchet tree in hex",
+    )?;
     let with_suite = command.arg(suite_arg(alloc))?;
     with_suite.arg(group_arg(alloc))
 }
@@ -58,9 +69,19 @@ fn check_command<'a>(alloc: Global) -> Result<Command<'a>, AllocError>
 fn command<'a>(alloc: Global) -> Result<Command<'a>, AllocError>
     ensures { IfOk result (λ c. app_of c ≡ mls) }
 {
-    let show = file_command(alloc, "show")?;
+    let show = file_command(
+        alloc,
+        "show",
+        "Prints a message field by field",
+        "An MLSMessage in hex",
+    )?;
     let check = check_command(alloc)?;
-    let vectors = file_command(alloc, "vectors")?;
+    let vectors = file_command(
+        alloc,
+        "vectors",
+        "Judges test vectors",
+        "A JSON array of vectors",
+    )?;
     let first = Command::new(alloc, "mls").subcommand(show)?;
     let second = first.subcommand(check)?;
     let all = second.subcommand(vectors)?;
