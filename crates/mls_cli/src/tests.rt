@@ -24,6 +24,12 @@ const USAGE: &str =
 const UNKNOWN: &str =
     "error: unrecognized subcommand 'replay'\n\nUsage: mls <COMMAND>\n\nFor more information, try '--help'.\n";
 
+const HELP: &str =
+    "Usage: mls <COMMAND>\n\nCommands:\n  show     Prints a message field by field\n  check    Checks a ratchet tree\n  vectors  Judges test vectors\n  help     Print this message or the help of the given subcommand(s)\n\nOptions:\n  -h, --help  Print help\n";
+
+const SHOW_HELP: &str =
+    "Prints a message field by field\n\nUsage: mls show <FILE>\n\nArguments:\n  <FILE>  An MLSMessage in hex\n\nOptions:\n  -h, --help  Print help\n";
+
 /// Ends a test where the program found no memory: what it says then is right, but not what the test looks for.
 pub fn unless_out_of_memory(status: u8, err: &[u8]) -> Result<(), AllocError> {
     if status == 3 && err == b"mls: out of memory\n".as_slice() {
@@ -193,6 +199,27 @@ fn says_what_is_wrong(rt: HostRuntime) -> Result<(), Fail> {
         assert_eq!(rt; answer, status);
         assert!(rt; out.is_empty());
         assert!(rt; err.as_slice() == text.as_bytes());
+    }
+    Ok(())
+}
+
+#[test]
+fn prints_help(rt: HostRuntime) -> Result<(), Fail> {
+    let alloc = rt.alloc();
+    let table: [(&[&str], &str); 3] = [
+        (&["mls", "--help"], HELP),
+        (&["mls", "help", "show"], SHOW_HELP),
+        (&["mls", "show", "--help"], SHOW_HELP),
+    ];
+    for (words, text) in table {
+        let mut out = Vec::new(alloc);
+        let mut err = Vec::new(alloc);
+        let none: Option<&[u8]> = None;
+        let answer = serve(alloc, &job(alloc, words), none, &mut out, &mut err);
+        unless_out_of_memory(answer, &err)?;
+        assert_eq!(rt; answer, 0);
+        assert!(rt; out.as_slice() == text.as_bytes());
+        assert!(rt; err.is_empty());
     }
     Ok(())
 }
