@@ -1,20 +1,16 @@
 -- The encryption keys of a merged tree, by the root and its sides.
-use Rattle.std.proofs.Common.{◌≡◌, ℕ, ◌+◌, ◌-◌, ◌/◌, ◌<◌, ◌≤◌, Bool, List, [], ◌∷◌, ◌++◌, length, get_or, take, drop, Option, Some, None, refl, sym, ◌∙◌, ap, arith, append_assoc, append-nil}
-use Rattle.std.proofs.lemmas.List.{take_more, take_rest}
+use Rattle.std.proofs.Common.{◌≡◌, ℕ, ◌+◌, ◌/◌, ◌<◌, ◌≤◌, Bool, List, [], ◌∷◌, ◌++◌, length, get_or, take, Option, Some, None, sym, ◌∙◌, ap, arith, append_assoc, append-nil}
+use Rattle.std.proofs.lemmas.List.{take_more}
 use Rattle.std.proofs.lemmas.Grind.{flat_map-append}
 use Rattle.std.specs.List.{flat_map}
-use Rattle.mls_leaf.specs.Parent.{Parent}
 use Rattle.mls_leaf.specs.declared.leaf.LeafNode.{LeafNode}
 use Rattle.mls_leaf.specs.declared.node.Node.{Node}
-use Rattle.mls_treemath.specs.Paths.{nodes_in}
-use Rattle.mls_term.specs.Term.{Term, Leaf, Branch}
+use Rattle.mls_term.specs.Term.{Term, Branch}
 use Rattle.mls_term.specs.Resolution.{is_reached}
 use Rattle.mls_term.specs.Merge.{merge, new_parent, keys_below, parent_beside, keys_beside, hash_beside}
-use Rattle.mls_term.specs.Keys.{gather, encryption_keys, leaf_key, parent_key}
-use Rattle.mls_term.specs.Arrays.{leaf_in, parent_in, leaf_cell, parent_cell, term_of, in_order}
+use Rattle.mls_term.specs.Keys.{encryption_keys, leaf_key, parent_key}
+use Rattle.mls_term.specs.Arrays.{leaf_in, parent_in, term_of}
 use Rattle.mls_term.specs.Equations.{gather_leaf, gather_branch, merge_leaf, merge_left, merge_right}
-use Rattle.mls_array.specs.Standing.{Stands}
-use Rattle.mls_array.specs.StandingLaws.{in_order-leaf, in_order-branch}
 use Rattle.mls_array.specs.Gathered.{cell_key}
 use Rattle.mls_term.specs.ArrayLaws.{term_of-zero}
 use Rattle.mls_array.proofs.Readings.{left_side, right_side, InParts}

@@ -1,13 +1,11 @@
 -- The tree hashes of all subtrees, by the root and its sides, and a tree that is its own original.
-use Rattle.std.proofs.Common.{◌≡◌, ℕ, ◌+◌, ◌-◌, ◌/◌, List, [], ◌∷◌, ◌++◌, length, get_or, Option, Some, None, refl, sym, ◌∙◌, ap, arith, length-append, append_assoc}
+use Rattle.std.proofs.Common.{◌≡◌, ℕ, ◌+◌, ◌-◌, ◌/◌, List, [], ◌∷◌, ◌++◌, length, get_or, Option, refl, sym, ◌∙◌, ap, arith, length-append, append_assoc}
 use Rattle.std.proofs.lemmas.List.{get_or_at}
-use Rattle.mls_leaf.specs.Parent.{Parent}
 use Rattle.mls_leaf.specs.declared.node.Node.{Node}
 use Rattle.mls_treemath.specs.Paths.{nodes_in}
-use Rattle.mls_term.specs.Sets.{has, less}
 use Rattle.mls_term.specs.Term.{Term, Leaf, Branch, width, size}
 use Rattle.mls_term.specs.Inputs.{leaf_hash}
-use Rattle.mls_term.specs.Hashes.{tree_hash, unlisting, original}
+use Rattle.mls_term.specs.Hashes.{tree_hash}
 use Rattle.mls_term.specs.Arrays.{leaf_in, term_of}
 use Rattle.mls_term.specs.Equations.{tree_hash_leaf}
 use Rattle.mls_array.specs.Witnesses.{hashes_of}

@@ -10,11 +10,10 @@ use Rattle.mls_leaf.specs.declared.leaf.LeafNode.{LeafNode}
 use Rattle.mls_leaf.specs.declared.node.Node.{Node}
 use Rattle.mls_treemath.specs.Paths.{nodes_in}
 use Rattle.mls_term.specs.Term.{Term, Leaf, Branch, width}
-use Rattle.mls_term.specs.Sets.{has, less}
 use Rattle.mls_term.specs.Inputs.{sibling_hash}
 use Rattle.mls_term.specs.Resolution.{is_reached}
 use Rattle.mls_term.specs.Way.{path_length}
-use Rattle.mls_term.specs.Hashes.{tree_hash, unlisting, original, parent_hash}
+use Rattle.mls_term.specs.Hashes.{tree_hash, parent_hash}
 use Rattle.mls_term.specs.Merge.{new_parent, keys_below, hash_below, merge, path_hash, parent_beside, keys_beside, hash_beside}
 use Rattle.mls_term.specs.Arrays.{leaf_in, parent_in, leaf_cell, parent_cell, term_of, in_order, HasMiddle}
 use Rattle.mls_term.specs.Equations.{path_length_leaf, path_length_left, path_length_right, path_hash_leaf, path_hash_left, path_hash_right, merge_leaf, merge_left, merge_right}

@@ -1,5 +1,5 @@
 -- What stands at the number of a leaf or a node, by its place in the list.
-use Rattle.std.proofs.Common.{◌≡◌, ℕ, zero, suc, ◌+◌, ◌-◌, ◌*◌, ◌^◌, ◌<◌, List, [], ◌∷◌, length, get_or, take, drop, Option, None, refl, sym, ◌∙◌, ap, inl, inr, arith, length-append, length-drop, pow-suc}
+use Rattle.std.proofs.Common.{◌≡◌, ℕ, zero, suc, ◌+◌, ◌-◌, ◌*◌, ◌^◌, ◌<◌, List, [], ◌∷◌, length, get_or, take, drop, Option, None, sym, ◌∙◌, ap, inl, inr, arith, length-drop, pow-suc}
 use Rattle.std.proofs.lemmas.List.{get_or_at, get_or-take, get_or-drop, get_or_past, get_or_append_left, get_or-append_right, length-take-le}
 use Rattle.std.proofs.lemmas.Bool.{cases_lt, cases_order}
 use Rattle.mls_leaf.specs.declared.leaf.LeafNode.{LeafNode}

@@ -1,5 +1,5 @@
 -- The one node of a resolution that a list of leaves doesn't have.
-use Rattle.std.proofs.Common.{◌≡◌, ℕ, ◌+◌, ◌-◌, ◌*◌, ◌/◌, ◌%◌, ◌<◌, ◌≤◌, ◌==◌, nat_lt, Bool, true, false, not, ◌&&◌, ◌||◌, List, [], ◌∷◌, filter, Option, Some, None, refl, sym, ◌∙◌, ap, inl, inr, arith, eqb-true, eq-eqb, lt-ltb, le-ltb, ne_eqb}
+use Rattle.std.proofs.Common.{◌≡◌, ℕ, ◌+◌, ◌-◌, ◌*◌, ◌/◌, ◌%◌, ◌<◌, ◌≤◌, ◌==◌, nat_lt, Bool, true, false, not, ◌&&◌, ◌||◌, List, [], ◌∷◌, Option, Some, None, refl, sym, ◌∙◌, ap, inl, inr, arith, eqb-true, eq-eqb, lt-ltb, le-ltb, ne_eqb}
 use Rattle.std.specs.Prelude.{nat_le, nat_eq}
 use Rattle.std.specs.List.{list_all, list_any, find}
 use Rattle.std.proofs.lemmas.Bool.{true≢false, cases_Bool, and_parts, and_from, or_cases, or_left, or_right, le-leb, lt-leb}
@@ -8,7 +8,7 @@ use Rattle.mls_term.specs.Sets.{has, within, leaf_numbers, is_same_set}
 use Rattle.mls_term.specs.Term.{Term, width}
 use Rattle.mls_term.specs.Resolution.{resolution}
 use Rattle.mls_term.specs.Hashes.{hash_at, is_some_bytes, is_witness, has_witness, parent_hash}
-use Rattle.mls_term.specs.SetLaws.{same_bool, eqb_refl, all_at, any_at, any_from, has-filter, has-leaf_numbers, of_leaf_numbers, set_at}
+use Rattle.mls_term.specs.SetLaws.{same_bool, eqb_refl, any_at, any_from, has-filter, has-leaf_numbers, of_leaf_numbers, set_at}
 use Rattle.mls_array.specs.Witnesses.{numbers_in, others, first_off, kept, only_off, candidate}
 
 -- ---- lists as sets

@@ -1,12 +1,11 @@
 -- What is read of a list that stands for a tree.
-use Rattle.std.proofs.Common.{◌≡◌, ℕ, zero, suc, ◌+◌, ◌-◌, ◌*◌, ◌/◌, ◌^◌, ◌<◌, List, length, get_or, take, drop, Option, None, refl, sym, ◌∙◌, ap, arith, pow-suc}
+use Rattle.std.proofs.Common.{◌≡◌, ℕ, ◌+◌, ◌-◌, ◌*◌, ◌/◌, ◌^◌, ◌<◌, List, length, get_or, take, drop, Option, None, refl, sym, ◌∙◌, ap, arith}
 use Rattle.std.proofs.lemmas.List.{get_or_read, get_or_default, take_rest}
 use Rattle.mls_leaf.specs.declared.node.Node.{Node}
 use Rattle.mls_treemath.specs.Paths.{nodes_in}
-use Rattle.mls_treemath.specs.Sizes.{nodes_in-zero, nodes_in-suc, nodes_in_pos}
+use Rattle.mls_treemath.specs.Sizes.{nodes_in_pos}
 use Rattle.mls_term.specs.Term.{Term, Leaf, Branch, width, size}
 use Rattle.mls_term.specs.Arrays.{leaf_in, parent_in, term_of, HasMiddle}
-use Rattle.mls_term.specs.Equations.{width_leaf, size_leaf, width_branch, size_branch}
 use Rattle.mls_term.specs.ArrayLaws.{term_of-zero, size-term_of, width-term_of}
 use Rattle.mls_array.proofs.Parts.{split}
 

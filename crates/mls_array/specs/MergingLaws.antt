@@ -1,10 +1,8 @@
 -- Laws: the list of a merged tree stands for that tree.
-use Rattle.std.proofs.Common.{◌≡◌, ℕ, zero, suc, ◌+◌, nat_lt, true, List, Option, refl, sym}
-use Rattle.std.proofs.lemmas.Bool.{true≢false, and_parts, and_from, cond_both}
+use Rattle.std.proofs.Common.{◌≡◌, ℕ, List, Option}
 use Rattle.mls_leaf.specs.declared.leaf.LeafNode.{LeafNode}
 use Rattle.mls_leaf.specs.declared.node.Node.{Node}
-use Rattle.mls_term.specs.Term.{Term, Leaf, Branch, width, is_perfect}
-use Rattle.mls_term.specs.Merge.{merge, keys_beside, hash_beside}
+use Rattle.mls_term.specs.Merge.{merge}
 use Rattle.mls_term.specs.Arrays.{term_of, in_order}
 use Rattle.mls_term.specs.PlaceLaws.{perfect-merge}
 use Rattle.mls_term.specs.ArrayLaws.{perfect-term_of}

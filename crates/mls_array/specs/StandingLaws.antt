@@ -1,15 +1,14 @@
 -- Laws: the list of a tree's nodes in order stands for that tree, also after each edit.
-use Rattle.std.proofs.Common.{◌≡◌, ℕ, zero, suc, ◌+◌, ◌^◌, ◌<◌, nat_lt, true, List, [], ◌∷◌, ◌++◌, length, take, drop, Option, Some, None, refl, sym, ◌∙◌, ap, subst, arith, inl, inr, length-append, append_assoc, add-one, pow-suc}
-use Rattle.std.proofs.lemmas.Bool.{true≢false, and_parts, and_from, cond_both, cases_lt}
-use Rattle.std.proofs.lemmas.List.{take_at, drop_at, get_or_at}
+use Rattle.std.proofs.Common.{◌≡◌, ℕ, suc, ◌+◌, ◌<◌, true, List, [], ◌∷◌, ◌++◌, length, Option, refl, sym, ◌∙◌, ap, subst, arith, inl, inr, add-one}
+use Rattle.std.proofs.lemmas.Bool.{cases_lt}
 use Rattle.mls_leaf.specs.Parent.{Parent}
 use Rattle.mls_leaf.specs.declared.leaf.LeafNode.{LeafNode}
 use Rattle.mls_leaf.specs.declared.node.Node.{Node}
 use Rattle.mls_treemath.specs.Paths.{nodes_in}
-use Rattle.mls_treemath.specs.Sizes.{nodes_in-zero, nodes_in-suc, nodes_in_up}
-use Rattle.mls_term.specs.Term.{Term, Leaf, Branch, width, height, is_perfect, blanks, has_leaf}
+use Rattle.mls_treemath.specs.Sizes.{nodes_in-suc, nodes_in_up}
+use Rattle.mls_term.specs.Term.{Term, Leaf, Branch, height, is_perfect}
 use Rattle.mls_term.specs.Edits.{put, enter, grow, trim}
-use Rattle.mls_term.specs.Arrays.{leaf_in, parent_in, leaf_cell, parent_cell, term_of, in_order}
+use Rattle.mls_term.specs.Arrays.{leaf_cell, parent_cell, term_of, in_order}
 use Rattle.mls_term.specs.ShapeLaws.{height-perfect, perfect-put, perfect-enter, perfect-grow, perfect-trim}
 use Rattle.mls_term.specs.ArrayLaws.{perfect-term_of, length-in_order, size-perfect, term_of-in_order}
 use Rattle.mls_array.specs.Standing.{Stands}
