@@ -11,8 +11,9 @@ use Rattle.mls_term.specs.Arrays.{leaf_in, parent_in, leaf_cell, parent_cell, te
 use Rattle.mls_term.specs.Equations.{enter_leaf, enter_left, enter_right}
 use Rattle.mls_array.specs.Cells.{unlisted}
 use Rattle.mls_array.specs.Standing.{Stands}
-use Rattle.mls_array.specs.StandingLaws.{in_order-leaf, width-term_of}
-use Rattle.mls_array.proofs.Sides.{term_of-zero}
+use Rattle.mls_term.specs.ArrayLaws.{width-term_of}
+use Rattle.mls_array.specs.StandingLaws.{in_order-leaf}
+use Rattle.mls_term.specs.ArrayLaws.{term_of-zero}
 use Rattle.mls_array.proofs.Parts.{split, left_of_set, right_of_set}
 use Rattle.mls_array.proofs.Standings.{half, with_left, with_right, one_set}
 

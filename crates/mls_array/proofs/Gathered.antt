@@ -1,56 +1,26 @@
 -- The encryption keys of a merged tree, by the root and its sides.
-use Rattle.std.proofs.Common.{◌≡◌, ℕ, ◌+◌, ◌-◌, ◌/◌, ◌<◌, ◌≤◌, Bool, List, [], ◌∷◌, ◌++◌, length, get_or, take, drop, Option, Some, None, refl, sym, ◌∙◌, ap, arith, append_assoc, append-nil}
-use Rattle.std.proofs.lemmas.List.{take_more, take_rest}
+use Rattle.std.proofs.Common.{◌≡◌, ℕ, ◌+◌, ◌/◌, ◌<◌, ◌≤◌, Bool, List, [], ◌∷◌, ◌++◌, length, get_or, take, Option, Some, None, sym, ◌∙◌, ap, arith, append_assoc, append-nil}
+use Rattle.std.proofs.lemmas.List.{take_more}
+use Rattle.std.proofs.lemmas.Grind.{flat_map-append}
 use Rattle.std.specs.List.{flat_map}
-use Rattle.mls_leaf.specs.Parent.{Parent}
 use Rattle.mls_leaf.specs.declared.leaf.LeafNode.{LeafNode}
 use Rattle.mls_leaf.specs.declared.node.Node.{Node}
-use Rattle.mls_treemath.specs.Paths.{nodes_in}
-use Rattle.mls_term.specs.Term.{Term, Leaf, Branch}
+use Rattle.mls_term.specs.Term.{Term, Branch}
 use Rattle.mls_term.specs.Resolution.{is_reached}
 use Rattle.mls_term.specs.Merge.{merge, new_parent, keys_below, parent_beside, keys_beside, hash_beside}
-use Rattle.mls_term.specs.Keys.{gather, encryption_keys, leaf_key, parent_key}
-use Rattle.mls_term.specs.Arrays.{leaf_in, parent_in, leaf_cell, parent_cell, term_of, in_order}
+use Rattle.mls_term.specs.Keys.{encryption_keys, leaf_key, parent_key}
+use Rattle.mls_term.specs.Arrays.{leaf_in, parent_in, term_of}
 use Rattle.mls_term.specs.Equations.{gather_leaf, gather_branch, merge_leaf, merge_left, merge_right}
-use Rattle.mls_array.specs.Standing.{Stands}
-use Rattle.mls_array.specs.StandingLaws.{in_order-leaf, in_order-branch}
-use Rattle.mls_array.specs.Merged.{cell_key}
-use Rattle.mls_array.proofs.Sides.{term_of-zero}
+use Rattle.mls_array.specs.Gathered.{cell_key}
+use Rattle.mls_term.specs.ArrayLaws.{term_of-zero}
 use Rattle.mls_array.proofs.Readings.{left_side, right_side, InParts}
-
-flat_append : (xs ys : List (Option Node)) → flat_map cell_key (xs ++ ys) ≡ flat_map cell_key xs ++ flat_map cell_key ys
-flat_append [] ys = refl
-flat_append (x ∷ xs) ys = ap (λ zs. cell_key x ++ zs) (flat_append xs ys) ∙ sym (append_assoc (cell_key x) (flat_map cell_key xs) (flat_map cell_key ys))
-
-leaf_cell_key : (v : Option LeafNode) → flat_map cell_key (leaf_cell v ∷ []) ≡ leaf_key v
-leaf_cell_key None = refl
-leaf_cell_key (Some v) = refl
-
-parent_cell_key : (c : Option Parent) → cell_key (parent_cell c) ≡ parent_key c
-parent_cell_key None = refl
-parent_cell_key (Some p) = refl
-
-keys_in_order : (t : Term) → flat_map cell_key (in_order t) ≡ encryption_keys t
-keys_in_order (Leaf v) =
-    ap (flat_map cell_key) (in_order-leaf v) ∙ leaf_cell_key v ∙ sym (gather_leaf leaf_key parent_key v)
-keys_in_order (Branch c l r) =
-    ap (flat_map cell_key) (in_order-branch c l r)
-    ∙ flat_append (in_order l) (parent_cell c ∷ in_order r)
-    ∙ ap (λ ks. ks ++ (cell_key (parent_cell c) ++ flat_map cell_key (in_order r))) (keys_in_order l)
-    ∙ ap (λ ks. encryption_keys l ++ (ks ++ flat_map cell_key (in_order r))) (parent_cell_key c)
-    ∙ ap (λ ks. encryption_keys l ++ (parent_key c ++ ks)) (keys_in_order r)
-    ∙ sym (gather_branch c l r leaf_key parent_key)
-
--- a list that stands for a tree has its keys
-pub standing_keys : (h : ℕ) (xs : List (Option Node)) → Stands h xs → flat_map cell_key xs ≡ encryption_keys (term_of h xs)
-standing_keys h xs stands = ap (flat_map cell_key) (sym stands.order) ∙ keys_in_order (term_of h xs)
 
 -- one more cell
 pub one_more_cell : (xs : List (Option Node)) (k : ℕ) (x : Option Node) (start : List (List ℕ)) → k < length xs → x ≡ get_or xs k x → (start ++ flat_map cell_key (take k xs)) ++ cell_key x ≡ start ++ flat_map cell_key (take (k + 1) xs)
 one_more_cell xs k x start lt is =
     append_assoc start (flat_map cell_key (take k xs)) (cell_key x)
     ∙ ap (λ ks. start ++ (flat_map cell_key (take k xs) ++ ks)) (sym (append-nil (cell_key x)))
-    ∙ ap (λ ks. start ++ ks) (sym (flat_append (take k xs) (x ∷ [])))
+    ∙ ap (λ ks. start ++ ks) (sym (flat_map-append cell_key (take k xs) (x ∷ [])))
     ∙ ap (λ y. start ++ flat_map cell_key (take k xs ++ (y ∷ []))) is
     ∙ ap (λ ys. start ++ flat_map cell_key ys) (sym (take_more xs k x lt))
 

@@ -1,13 +1,11 @@
 -- The tree hashes of all subtrees, by the root and its sides, and a tree that is its own original.
-use Rattle.std.proofs.Common.{◌≡◌, ℕ, ◌+◌, ◌-◌, ◌/◌, List, [], ◌∷◌, ◌++◌, length, get_or, Option, Some, None, refl, sym, ◌∙◌, ap, arith, length-append, append_assoc}
+use Rattle.std.proofs.Common.{◌≡◌, ℕ, ◌+◌, ◌-◌, ◌/◌, List, [], ◌∷◌, ◌++◌, length, get_or, Option, refl, sym, ◌∙◌, ap, arith, length-append, append_assoc}
 use Rattle.std.proofs.lemmas.List.{get_or_at}
-use Rattle.mls_leaf.specs.Parent.{Parent}
 use Rattle.mls_leaf.specs.declared.node.Node.{Node}
 use Rattle.mls_treemath.specs.Paths.{nodes_in}
-use Rattle.mls_term.specs.Sets.{has, less}
 use Rattle.mls_term.specs.Term.{Term, Leaf, Branch, width, size}
 use Rattle.mls_term.specs.Inputs.{leaf_hash}
-use Rattle.mls_term.specs.Hashes.{tree_hash, unlisting, original}
+use Rattle.mls_term.specs.Hashes.{tree_hash}
 use Rattle.mls_term.specs.Arrays.{leaf_in, term_of}
 use Rattle.mls_term.specs.Equations.{tree_hash_leaf}
 use Rattle.mls_array.specs.Witnesses.{hashes_of}
@@ -60,21 +58,3 @@ last-hashes_of b (Branch c l r) =
 pub no_length : (us : List ℕ) → length us ≡ 0 → us ≡ []
 no_length [] e = refl
 no_length (u ∷ us) e = absurd (omega arith)
-
-less_none : (xs : List ℕ) → less [] xs ≡ xs
-unfolding has
-less_none [] = refl
-less_none (x ∷ xs) = ap (λ ys. x ∷ ys) (less_none xs)
-
-unlisting_none : (c : Option Parent) → unlisting [] c ≡ c
-unlisting_none None = refl
-unlisting_none (Some p) =
-    ap (λ qs. let r : Parent = record { encryption_key = p.encryption_key; parent_hash = p.parent_hash; unmerged_leaves = qs } in Some r) (less_none p.unmerged_leaves)
-
-pub original_none : (b : ℕ) (t : Term) → original [] b t ≡ t
-unfolding original has
-original_none b (Leaf v) = refl
-original_none b (Branch c l r) =
-    ap (λ d. Branch d (original [] b l) (original [] (b + width l) r)) (unlisting_none c)
-    ∙ ap (λ t. Branch c t (original [] (b + width l) r)) (original_none b l)
-    ∙ ap (λ t. Branch c l t) (original_none (b + width l) r)

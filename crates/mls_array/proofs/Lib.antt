@@ -1,4 +1,3 @@
-pub mod Sides
 pub mod Parts
 pub mod Readings
 pub mod Resolving

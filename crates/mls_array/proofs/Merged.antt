@@ -10,18 +10,19 @@ use Rattle.mls_leaf.specs.declared.leaf.LeafNode.{LeafNode}
 use Rattle.mls_leaf.specs.declared.node.Node.{Node}
 use Rattle.mls_treemath.specs.Paths.{nodes_in}
 use Rattle.mls_term.specs.Term.{Term, Leaf, Branch, width}
-use Rattle.mls_term.specs.Sets.{has, less}
 use Rattle.mls_term.specs.Inputs.{sibling_hash}
 use Rattle.mls_term.specs.Resolution.{is_reached}
 use Rattle.mls_term.specs.Way.{path_length}
-use Rattle.mls_term.specs.Hashes.{tree_hash, unlisting, original, parent_hash}
+use Rattle.mls_term.specs.Hashes.{tree_hash, parent_hash}
 use Rattle.mls_term.specs.Merge.{new_parent, keys_below, hash_below, merge, path_hash, parent_beside, keys_beside, hash_beside}
 use Rattle.mls_term.specs.Arrays.{leaf_in, parent_in, leaf_cell, parent_cell, term_of, in_order, HasMiddle}
 use Rattle.mls_term.specs.Equations.{path_length_leaf, path_length_left, path_length_right, path_hash_leaf, path_hash_left, path_hash_right, merge_leaf, merge_left, merge_right}
+use Rattle.mls_term.specs.MemberLaws.{original-none}
 use Rattle.mls_array.specs.Standing.{Stands}
-use Rattle.mls_array.specs.StandingLaws.{in_order-leaf, width-term_of}
+use Rattle.mls_term.specs.ArrayLaws.{width-term_of}
+use Rattle.mls_array.specs.StandingLaws.{in_order-leaf}
 use Rattle.mls_array.specs.Merging.{path_parents, first_if, rest_if}
-use Rattle.mls_array.proofs.Sides.{term_of-zero}
+use Rattle.mls_term.specs.ArrayLaws.{term_of-zero}
 use Rattle.mls_array.proofs.Parts.{split, left_of_set, right_of_set}
 use Rattle.mls_array.proofs.Readings.{left_side, right_side, InParts}
 use Rattle.mls_array.proofs.Standings.{half, with_left, with_right, one_set}
@@ -32,28 +33,9 @@ pub rises_none : rises [] ≡ true
 unfolding rises_from
 rises_none = refl
 
-less_none : (xs : List ℕ) → less [] xs ≡ xs
-unfolding has
-less_none [] = refl
-less_none (x ∷ xs) = ap (λ ys. x ∷ ys) (less_none xs)
-
-unlisting_none : (c : Option Parent) → unlisting [] c ≡ c
-unlisting_none None = refl
-unlisting_none (Some p) =
-    ap (λ us. let r : Parent = record { encryption_key = p.encryption_key; parent_hash = p.parent_hash; unmerged_leaves = us } in Some r) (less_none p.unmerged_leaves)
-
--- the original of a side that a parent with an empty list has is that side
-original_none : (b : ℕ) (t : Term) → original [] b t ≡ t
-unfolding original has
-original_none b (Leaf v) = refl
-original_none b (Branch c l r) =
-    ap (λ d. Branch d (original [] b l) (original [] (b + width l) r)) (unlisting_none c)
-    ∙ ap (λ t. Branch c t (original [] (b + width l) r)) (original_none b l)
-    ∙ ap (λ t. Branch c l t) (original_none (b + width l) r)
-
 made_hash : (b : ℕ) (t : Term) (key h : List ℕ) → hash_below (Some (record { encryption_key = key; parent_hash = h; unmerged_leaves = [] })) b t h ≡ sibling_hash key h (tree_hash b t)
 unfolding parent_hash
-made_hash b t key h = ap (λ s. sibling_hash key h (tree_hash b s)) (original_none b t)
+made_hash b t key h = ap (λ s. sibling_hash key h (tree_hash b s)) (original-none b t)
 
 made_below : (f : Bool) (b : ℕ) (t : Term) (ks more : List (List ℕ)) (key h : List ℕ) → f ≡ true → ks ≡ key ∷ more → hash_below (new_parent f ks h) b t h ≡ sibling_hash key h (tree_hash b t)
 made_below f b t ks more key h e k =

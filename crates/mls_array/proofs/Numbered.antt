@@ -1,5 +1,5 @@
 -- What stands at the number of a leaf or a node, by its place in the list.
-use Rattle.std.proofs.Common.{◌≡◌, ℕ, zero, suc, ◌+◌, ◌-◌, ◌*◌, ◌^◌, ◌<◌, List, [], ◌∷◌, length, get_or, take, drop, Option, None, refl, sym, ◌∙◌, ap, inl, inr, arith, length-append, length-drop, pow-suc}
+use Rattle.std.proofs.Common.{◌≡◌, ℕ, zero, suc, ◌+◌, ◌-◌, ◌*◌, ◌^◌, ◌<◌, List, [], ◌∷◌, length, get_or, take, drop, Option, None, sym, ◌∙◌, ap, inl, inr, arith, length-drop, pow-suc}
 use Rattle.std.proofs.lemmas.List.{get_or_at, get_or-take, get_or-drop, get_or_past, get_or_append_left, get_or-append_right, length-take-le}
 use Rattle.std.proofs.lemmas.Bool.{cases_lt, cases_order}
 use Rattle.mls_leaf.specs.declared.leaf.LeafNode.{LeafNode}
@@ -10,9 +10,11 @@ use Rattle.mls_term.specs.Term.{Term, Leaf, Branch, width, size, leaf_at, leaf_o
 use Rattle.mls_term.specs.Places.{at_node}
 use Rattle.mls_term.specs.Arrays.{leaf_in, leaf_cell, parent_in, parent_cell, term_of, in_order, own_node, node_at}
 use Rattle.mls_term.specs.Equations.{leaf_at_leaf, leaf_at_left, leaf_at_right, leaf_of_in, leaf_of_out, at_node_leaf, at_node_no_leaf, at_node_here, at_node_left, at_node_right}
+use Rattle.mls_term.specs.ShapeLaws.{size-width}
+use Rattle.mls_term.specs.ArrayLaws.{length-in_order}
 use Rattle.mls_array.specs.Standing.{Stands}
-use Rattle.mls_array.proofs.Sides.{nodes_in-leaves, term_of-zero, term_of-suc}
-use Rattle.mls_array.proofs.Readings.{width-term_of}
+use Rattle.mls_term.specs.ArrayLaws.{nodes_in-leaves, term_of-zero, term_of-suc}
+use Rattle.mls_term.specs.ArrayLaws.{width-term_of}
 
 -- ---- leaves
 
@@ -58,20 +60,6 @@ leaf_of-term_of h i xs all =
     ]
 
 -- ---- nodes
-
--- a leaf for each node but one, twice
-size-width : (t : Term) → size t + 1 ≡ 2 * width t
-unfolding width size
-size-width (Leaf v) = refl
-size-width (Branch c l r) = let a = size-width l in let b = size-width r in omega arith
-
-length-in_order : (t : Term) → length (in_order t) ≡ size t
-unfolding in_order size
-length-in_order (Leaf v) = refl
-length-in_order (Branch c l r) =
-    let a = length-in_order l in
-    let d = length-in_order r in
-    length-append (in_order l) (parent_cell c ∷ in_order r) ∙ (omega arith)
 
 node_of_leaf : (b : ℕ) (v : Option LeafNode) (n : ℕ) → at_node None own_node b (Leaf v) (2 * b + n) ≡ get_or (leaf_cell v ∷ []) n None
 node_of_leaf b v zero = at_node_leaf b v None own_node (2 * b + 0) (omega arith)

@@ -9,7 +9,7 @@ use Rattle.mls_term.specs.Inputs.{leaf_hash, branch_hash}
 use Rattle.mls_term.specs.Hashes.{tree_hash, unlisting, original}
 use Rattle.mls_term.specs.Arrays.{leaf_in, parent_in, term_of}
 use Rattle.mls_term.specs.Equations.{tree_hash_leaf, tree_hash_branch, original_leaf, original_branch}
-use Rattle.mls_array.proofs.Sides.{term_of-zero}
+use Rattle.mls_term.specs.ArrayLaws.{term_of-zero}
 use Rattle.mls_array.proofs.Readings.{leaf_term, left_side, right_side, InParts}
 
 pub added_leaf : (us : List ℕ) (b h : ℕ) (xs : List (Option Node)) → h ≡ 0 → has us b ≡ true → tree_hash b (original us b (term_of h xs)) ≡ leaf_hash b None

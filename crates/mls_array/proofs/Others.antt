@@ -1,5 +1,5 @@
 -- The one node of a resolution that a list of leaves doesn't have.
-use Rattle.std.proofs.Common.{◌≡◌, ℕ, ◌+◌, ◌-◌, ◌*◌, ◌/◌, ◌%◌, ◌<◌, ◌≤◌, ◌==◌, nat_lt, Bool, true, false, not, ◌&&◌, ◌||◌, List, [], ◌∷◌, filter, Option, Some, None, refl, sym, ◌∙◌, ap, inl, inr, arith, eqb-true, eq-eqb, lt-ltb, le-ltb, ne_eqb}
+use Rattle.std.proofs.Common.{◌≡◌, ℕ, ◌+◌, ◌-◌, ◌*◌, ◌/◌, ◌%◌, ◌<◌, ◌≤◌, ◌==◌, nat_lt, Bool, true, false, not, ◌&&◌, ◌||◌, List, [], ◌∷◌, Option, Some, None, refl, sym, ◌∙◌, ap, inl, inr, arith, eqb-true, eq-eqb, lt-ltb, le-ltb, ne_eqb}
 use Rattle.std.specs.Prelude.{nat_le, nat_eq}
 use Rattle.std.specs.List.{list_all, list_any, find}
 use Rattle.std.proofs.lemmas.Bool.{true≢false, cases_Bool, and_parts, and_from, or_cases, or_left, or_right, le-leb, lt-leb}
@@ -8,97 +8,19 @@ use Rattle.mls_term.specs.Sets.{has, within, leaf_numbers, is_same_set}
 use Rattle.mls_term.specs.Term.{Term, width}
 use Rattle.mls_term.specs.Resolution.{resolution}
 use Rattle.mls_term.specs.Hashes.{hash_at, is_some_bytes, is_witness, has_witness, parent_hash}
+use Rattle.mls_term.specs.SetLaws.{same_bool, eqb_refl, any_at, any_from, has-filter, has-leaf_numbers, of_leaf_numbers, set_at}
 use Rattle.mls_array.specs.Witnesses.{numbers_in, others, first_off, kept, only_off, candidate}
 
 -- ---- lists as sets
-
-same_bool : (a b : Bool) → (a ≡ true → b ≡ true) → (b ≡ true → a ≡ true) → a ≡ b
-same_bool true true f g = refl
-same_bool true false f g = sym (f refl)
-same_bool false true f g = g refl
-same_bool false false f g = refl
 
 not_true : (a : Bool) → (a ≡ true → ⊥) → a ≡ false
 not_true true f = absurd (f refl)
 not_true false f = refl
 
-eqb_refl : (x : ℕ) → (x == x) ≡ true
-eqb_refl x = eq-eqb x x refl
-
-all_at : (p : ℕ → Bool) (xs : List ℕ) (x : ℕ) → list_all p xs ≡ true → has xs x ≡ true → p x ≡ true
-unfolding has
-all_at p [] x h e = absurd (true≢false (sym e))
-all_at p (y ∷ ys) x h e =
-    elim (or_cases (y == x) (has ys x) e) [
-      | inl k ↦ sym (ap p (eqb-true y x k)) ∙ (and_parts (p y) (list_all p ys) h).0
-      | inr k ↦ all_at p ys x (and_parts (p y) (list_all p ys) h).1 k
-    ]
-
-any_at : (p : ℕ → Bool) (xs : List ℕ) → list_any p xs ≡ true → (x : ℕ) × (has xs x ≡ true) × (p x ≡ true)
-unfolding has
-any_at p [] h = absurd (true≢false (sym h))
-any_at p (y ∷ ys) h =
-    elim (or_cases (p y) (list_any p ys) h) [
-      | inl k ↦ (y, or_left (y == y) (has ys y) (eqb_refl y), k)
-      | inr k ↦ let r = any_at p ys k in (r.0, or_right (y == r.0) (has ys r.0) r.1, r.2)
-    ]
-
-any_from : (p : ℕ → Bool) (xs : List ℕ) (x : ℕ) → has xs x ≡ true → p x ≡ true → list_any p xs ≡ true
-unfolding has
-any_from p [] x e h = absurd (true≢false (sym e))
-any_from p (y ∷ ys) x e h =
-    elim (or_cases (y == x) (has ys x) e) [
-      | inl k ↦ or_left (p y) (list_any p ys) (ap p (eqb-true y x k) ∙ h)
-      | inr k ↦ or_right (p y) (list_any p ys) (any_from p ys x k h)
-    ]
-
-pub has-filter : (p : ℕ → Bool) (xs : List ℕ) (x : ℕ) → has (filter p xs) x ≡ (has xs x && p x)
-unfolding has
-has-filter p [] x = refl
-has-filter p (y ∷ ys) x =
-    elim (cases_Bool (y == x)) [
-      | inl k ↦
-          let e : p y ≡ p x = ap p (eqb-true y x k) in
-          elim (cases_Bool (p y)) [
-            | inl t ↦ rw (t, k) (sym (sym e ∙ t))
-            | inr t ↦ rw (t, k) (has-filter p ys x ∙ rw (sym e ∙ t) (and_false (has ys x)))
-          ]
-      | inr k ↦
-          elim (cases_Bool (p y)) [
-            | inl t ↦ rw (t, k) (has-filter p ys x)
-            | inr t ↦ rw (t, k) (has-filter p ys x)
-          ]
-    ]
-  where
-    and_false : (b : Bool) → (b && false) ≡ false
-    and_false true = refl
-    and_false false = refl
-
 pub has-any : (xs : List ℕ) (x : ℕ) → list_any (λ y. nat_eq y x) xs ≡ has xs x
 unfolding has
 has-any [] x = refl
 has-any (y ∷ ys) x = ap (λ v. nat_eq y x || v) (has-any ys x)
-
-has-leaf_numbers : (us : List ℕ) (u : ℕ) → has (leaf_numbers us) (2 * u) ≡ has us u
-unfolding has
-has-leaf_numbers [] u = refl
-has-leaf_numbers (y ∷ ys) u =
-    let e : (2 * y == 2 * u) ≡ (y == u) = same_bool _ _ (λ k. let f : 2 * y ≡ 2 * u = eqb-true (2 * y) (2 * u) k in eq-eqb y u (omega arith)) (λ k. let f : y ≡ u = eqb-true y u k in eq-eqb (2 * y) (2 * u) (omega arith)) in
-    rw e (ap (λ v. (y == u) || v) (has-leaf_numbers ys u))
-
-of_leaf_numbers : (us : List ℕ) (d : ℕ) → has (leaf_numbers us) d ≡ true → (u : ℕ) × (d ≡ 2 * u)
-unfolding has
-of_leaf_numbers [] d h = absurd (true≢false (sym h))
-of_leaf_numbers (y ∷ ys) d h =
-    elim (or_cases (2 * y == d) (has (leaf_numbers ys) d) h) [
-      | inl k ↦ (y, sym (eqb-true (2 * y) d k))
-      | inr k ↦ of_leaf_numbers ys d k
-    ]
-
-set_at : (xs ys : List ℕ) → is_same_set xs ys ≡ true → (x : ℕ) → has xs x ≡ has ys x
-set_at xs ys h x =
-    let p = and_parts (list_all (has ys) xs) (list_all (has xs) ys) h in
-    same_bool _ _ (all_at (has ys) xs x p.0) (all_at (has xs) ys x p.1)
 
 -- ---- the leaves in a range
 

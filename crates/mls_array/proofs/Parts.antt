@@ -8,7 +8,7 @@ use Rattle.mls_treemath.specs.Sizes.{nodes_in-suc}
 pub use Rattle.mls_treemath.specs.Sizes.{nodes_in_pos}
 use Rattle.mls_term.specs.Term.{Branch}
 use Rattle.mls_term.specs.Arrays.{parent_in, term_of, HasMiddle}
-use Rattle.mls_array.proofs.Sides.{nodes_in-leaves, term_of-parts}
+use Rattle.mls_term.specs.ArrayLaws.{nodes_in-leaves, term_of-parts}
 
 -- the middle of a tree of height above 0
 middle_at : (h n : ℕ) → n ≡ nodes_in h + suc (nodes_in h) → HasMiddle (suc h) n (nodes_in h)

@@ -1,38 +1,13 @@
 -- What is read of a list that stands for a tree.
-use Rattle.std.proofs.Common.{◌≡◌, ℕ, zero, suc, ◌+◌, ◌-◌, ◌*◌, ◌/◌, ◌^◌, ◌<◌, List, length, get_or, take, drop, Option, None, refl, sym, ◌∙◌, ap, arith, pow-suc}
+use Rattle.std.proofs.Common.{◌≡◌, ℕ, ◌+◌, ◌-◌, ◌*◌, ◌/◌, ◌^◌, ◌<◌, List, length, get_or, take, drop, Option, None, refl, sym, ◌∙◌, ap, arith}
 use Rattle.std.proofs.lemmas.List.{get_or_read, get_or_default, take_rest}
 use Rattle.mls_leaf.specs.declared.node.Node.{Node}
 use Rattle.mls_treemath.specs.Paths.{nodes_in}
-use Rattle.mls_treemath.specs.Sizes.{nodes_in-zero, nodes_in-suc, nodes_in_pos}
+use Rattle.mls_treemath.specs.Sizes.{nodes_in_pos}
 use Rattle.mls_term.specs.Term.{Term, Leaf, Branch, width, size}
 use Rattle.mls_term.specs.Arrays.{leaf_in, parent_in, term_of, HasMiddle}
-use Rattle.mls_term.specs.Equations.{width_leaf, size_leaf, width_branch, size_branch}
-use Rattle.mls_array.proofs.Sides.{term_of-zero, term_of-suc}
+use Rattle.mls_term.specs.ArrayLaws.{term_of-zero, size-term_of, width-term_of}
 use Rattle.mls_array.proofs.Parts.{split}
-
--- ---- how large the tree is
-
-pub size-term_of : (h : ℕ) (xs : List (Option Node)) → size (term_of h xs) ≡ nodes_in h
-size-term_of zero xs = ap size (term_of-zero xs) ∙ size_leaf (leaf_in (get_or xs 0 None)) ∙ sym nodes_in-zero
-size-term_of (suc h) xs =
-    let l : Term = term_of h (take (nodes_in h) xs) in
-    let r : Term = term_of h (drop (suc (nodes_in h)) xs) in
-    ap size (term_of-suc h xs)
-    ∙ size_branch (parent_in (get_or xs (nodes_in h) None)) l r
-    ∙ ap (λ k. k + suc (size r)) (size-term_of h (take (nodes_in h) xs))
-    ∙ ap (λ k. nodes_in h + suc k) (size-term_of h (drop (suc (nodes_in h)) xs))
-    ∙ sym (nodes_in-suc h)
-
-pub width-term_of : (h : ℕ) (xs : List (Option Node)) → width (term_of h xs) ≡ 2 ^ h
-width-term_of zero xs = ap width (term_of-zero xs) ∙ width_leaf (leaf_in (get_or xs 0 None))
-width-term_of (suc h) xs =
-    let l : Term = term_of h (take (nodes_in h) xs) in
-    let r : Term = term_of h (drop (suc (nodes_in h)) xs) in
-    ap width (term_of-suc h xs)
-    ∙ width_branch (parent_in (get_or xs (nodes_in h) None)) l r
-    ∙ ap (λ k. k + width r) (width-term_of h (take (nodes_in h) xs))
-    ∙ ap (λ k. 2 ^ h + k) (width-term_of h (drop (suc (nodes_in h)) xs))
-    ∙ omega (arith, pow-suc 2 h)
 
 -- ---- its root
 

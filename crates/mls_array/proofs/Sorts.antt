@@ -1,6 +1,6 @@
 -- Byte strings that differ from one another, by sorting them.
-use Rattle.std.proofs.Common.{◌≡◌, ℕ, zero, suc, ◌+◌, ◌-◌, ◌<◌, ◌≤◌, ◌==◌, Bool, true, false, cond, List, [], ◌∷◌, map, length, get_or, refl, sym, ◌∙◌, ap, subst, arith, inl, inr, eqb-true, eq-eqb, ne_eqb, add-one, nat_eq, ◌&&◌, Bor}
-use Rattle.std.proofs.lemmas.Bool.{true≢false, and_parts, and_from, cond-true, cond-false, cond_both, cases_Bool}
+use Rattle.std.proofs.Common.{◌≡◌, ℕ, zero, suc, ◌+◌, ◌-◌, ◌<◌, ◌≤◌, ◌==◌, Bool, true, false, cond, List, [], ◌∷◌, length, get_or, refl, sym, ◌∙◌, ap, subst, arith, inl, inr, eq-eqb, ne_eqb, add-one, nat_eq, ◌&&◌, Bor}
+use Rattle.std.proofs.lemmas.Bool.{true≢false, and_from, cases_Bool}
 use Rattle.std.proofs.lemmas.List.{get_or_default}
 use Rattle.std.proofs.lemmas.List.Sorted.{sum_by-IsPermutation, IsPermutation-map}
 use Rattle.std.proofs.lemmas.List.Sums.{sum_by-cons}
@@ -13,44 +13,11 @@ use Rattle.std.specs.Cmp.{both_ways}
 use Rattle.std.specs.Bool.{MatchBool, ⊤}
 use Rattle.std.specs.Cmp.Lexicographic.{pointwise, slice_cmp, nat_list_cmp_total, texts_ties, same_text}
 use Rattle.mls_term.specs.Sets.{same_bytes, count, is_distinct}
+use Rattle.mls_term.specs.MergeLaws.{bytes_refl}
+use Rattle.mls_term.specs.CountLaws.{bytes_true, distinct_at, distinct_from}
 use Rattle.mls_array.specs.Merged.{Differ, Repeats, bytes_in}
 
 -- ---- counting
-
-bytes_refl : (xs : List ℕ) → same_bytes xs xs ≡ true
-unfolding same_bytes
-bytes_refl [] = refl
-bytes_refl (x ∷ xs) = and_from (x == x) _ (eq-eqb x x refl) (bytes_refl xs)
-
-bytes_true : (xs ys : List ℕ) → same_bytes xs ys ≡ true → xs ≡ ys
-unfolding same_bytes
-bytes_true [] [] h = refl
-bytes_true [] (y ∷ ys) h = absurd (true≢false (sym h))
-bytes_true (x ∷ xs) [] h = absurd (true≢false (sym h))
-bytes_true (x ∷ xs) (y ∷ ys) h =
-    let p = and_parts (x == y) _ h in
-    ap (λ z. z ∷ xs) (eqb-true x y p.0) ∙ ap (λ zs. y ∷ zs) (bytes_true xs ys p.1)
-
-distinct_at : (xs : List (List ℕ)) → is_distinct same_bytes xs ≡ true → (x : List ℕ) → count same_bytes x xs ≤ 1
-unfolding count is_distinct
-distinct_at [] h x = omega arith
-distinct_at (y ∷ ys) h x =
-    let p = and_parts (count same_bytes y ys == 0) _ h in
-    let none : count same_bytes y ys ≡ 0 = eqb-true (count same_bytes y ys) 0 p.0 in
-    let rest = distinct_at ys p.1 x in
-    elim (cases_Bool (same_bytes y x)) [
-      | inl k ↦ rw k (let e : count same_bytes x ys ≡ 0 = ap (λ z. count same_bytes z ys) (sym (bytes_true y x k)) ∙ none in omega arith)
-      | inr k ↦ rw k (omega arith)
-    ]
-
-distinct_from : (xs : List (List ℕ)) → ((x : List ℕ) → count same_bytes x xs ≤ 1) → is_distinct same_bytes xs ≡ true
-unfolding count is_distinct
-distinct_from [] h = refl
-distinct_from (y ∷ ys) h =
-    let here = rw (bytes_refl y) at (h y) in
-    and_from (count same_bytes y ys == 0) _
-    (eq-eqb (count same_bytes y ys) 0 (omega arith))
-    (distinct_from ys (λ x. let le = h x in omega arith))
 
 count_nil : (x : List ℕ) → count same_bytes x [] ≡ 0
 unfolding count
@@ -93,8 +60,8 @@ count_moved x xs ys moved = count_sum x ys ∙ sum_by-IsPermutation (hit x) xs y
 distinct_moved : (xs ys : List (List ℕ)) → IsPermutation xs ys → is_distinct same_bytes ys ≡ is_distinct same_bytes xs
 distinct_moved xs ys moved =
     both_ways (is_distinct same_bytes ys) (is_distinct same_bytes xs)
-    (λ e. distinct_from xs (λ x. subst (λ n. n ≤ 1) (count_moved x xs ys moved) (distinct_at ys e x)))
-    (λ e. distinct_from ys (λ x. subst (λ n. n ≤ 1) (sym (count_moved x xs ys moved)) (distinct_at xs e x)))
+    (λ e. distinct_from same_bytes bytes_refl xs (λ x. subst (λ n. n ≤ 1) (count_moved x xs ys moved) (distinct_at same_bytes bytes_true ys e x)))
+    (λ e. distinct_from same_bytes bytes_refl ys (λ x. subst (λ n. n ≤ 1) (sym (count_moved x xs ys moved)) (distinct_at same_bytes bytes_true xs e x)))
 
 -- ---- order
 

@@ -9,11 +9,12 @@ use Rattle.mls_treemath.specs.Sizes.{nodes_in-zero}
 use Rattle.mls_term.specs.Term.{Term, Branch}
 use Rattle.mls_term.specs.Arrays.{parent_in, parent_cell, term_of, in_order, HasMiddle}
 use Rattle.mls_array.specs.Standing.{Stands}
-use Rattle.mls_array.specs.StandingLaws.{in_order-branch, perfect-term_of, length-in_order}
+use Rattle.mls_term.specs.ArrayLaws.{perfect-term_of}
+use Rattle.mls_array.specs.StandingLaws.{in_order-branch, length-perfect}
 use Rattle.mls_array.proofs.Parts.{split, left_len, right_len, left_of_set, right_of_set}
 
 length-of_term : (h : ℕ) (xs : List (Option Node)) → length (in_order (term_of h xs)) ≡ nodes_in h
-length-of_term h xs = length-in_order h (term_of h xs) (perfect-term_of h xs)
+length-of_term h xs = length-perfect h (term_of h xs) (perfect-term_of h xs)
 
 -- two lists with as many elements in front of a cell are equal part by part
 module _ (l l' r r' : List (Option Node)) (c c' : Option Node) (size : length l ≡ length l') (same : l ++ (c ∷ r) ≡ l' ++ (c' ∷ r')) where

@@ -14,7 +14,8 @@ use Rattle.mls_array.specs.Witnesses.{candidate, hashes_of}
 use Rattle.mls_array.proofs.Others.{given, witness_is}
 use Rattle.mls_array.proofs.Listed.{each_sides}
 use Rattle.mls_array.proofs.Parts.{left_len, right_len}
-use Rattle.mls_array.proofs.Readings.{left_side, right_side, InParts, in_sides, size-term_of}
+use Rattle.mls_term.specs.ArrayLaws.{size-term_of}
+use Rattle.mls_array.proofs.Readings.{left_side, right_side, InParts, in_sides}
 use Rattle.mls_array.proofs.Hashings.{length-hashes_of, hashes_sides}
 
 pub ok_map : {A E : Type 0} (P Q : A → Type 0) (r : Result A E) → ((v : A) → P v → Q v) → IfOk r P → IfOk r Q

@@ -11,7 +11,7 @@ use Rattle.mls_term.specs.Arrays.{leaf_in, parent_in, term_of, in_order, HasMidd
 use Rattle.mls_term.specs.Equations.{has_leaf_leaf, has_leaf_branch, trim_leaf, trim_full, trim_empty, grow_is}
 use Rattle.mls_array.specs.Standing.{Stands}
 use Rattle.mls_array.specs.StandingLaws.{in_order-leaf, in_order-branch, height-term_of}
-use Rattle.mls_array.proofs.Sides.{term_of-zero}
+use Rattle.mls_term.specs.ArrayLaws.{term_of-zero}
 use Rattle.mls_array.proofs.Parts.{split}
 use Rattle.mls_array.proofs.Standings.{left_stands}
 

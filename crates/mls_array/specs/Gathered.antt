@@ -1,5 +1,5 @@
 -- Keys that are gathered from a list of nodes.
-use Rattle.std.specs.Prelude.{ℕ, List, [], ◌∷◌, Option, Some, None}
+use Rattle.std.specs.Prelude.{ℕ, List, [], Option, Some, None}
 use Rattle.mls_leaf.specs.Parent.{Parent}
 use Rattle.mls_leaf.specs.declared.leaf.LeafNode.{LeafNode}
 use Rattle.mls_leaf.specs.declared.node.Node.{Node}
@@ -18,8 +18,3 @@ cell_key c = cell_value leaf_key parent_key c
 
 abbrev pub cell_signature : Option Node → List (List ℕ)
 cell_signature c = cell_value leaf_signature (λ p. []) c
-
--- a byte string that may be there, as a list
-abbrev pub one_or_none : Option (List ℕ) → List (List ℕ)
-one_or_none None = []
-one_or_none (Some k) = k ∷ []

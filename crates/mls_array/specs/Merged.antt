@@ -1,10 +1,8 @@
--- The encryption keys of a tree that is an array, as borrowed byte strings.
-use Rattle.std.specs.Prelude.{◌≡◌, ℕ, suc, ◌<◌, Bool, true, false, List, [], ◌∷◌, map, length, slice_index_or, Option, Some, None}
+-- Borrowed byte strings, and whether each differs from the one before it.
+use Rattle.std.specs.Prelude.{◌≡◌, ℕ, suc, ◌<◌, true, false, List, map, length, slice_index_or}
 use Rattle.std.specs.Borrow.{Bor}
 use Rattle.std.specs.Cmp.Lexicographic.{pointwise}
 use Rattle.std.specs.Prelude.{nat_eq}
-use Rattle.mls_leaf.specs.declared.node.Node.{Node}
-use Rattle.mls_leaf.specs.declared.node.Node.TheVariants.{Leaf as in_leaf, Parent as in_parent}
 
 -- the byte strings that are borrowed
 abbrev pub bytes_in : List (Bor (List ℕ)) → List (List ℕ)
@@ -19,9 +17,3 @@ pub record Repeats (xs : List (Bor (List ℕ))) : Type 0 where
   pub place : ℕ
   pub within : suc place < length xs
   pub same : (d : Bor (List ℕ)) → pointwise nat_eq (slice_index_or xs place d).now (slice_index_or xs (suc place) d).now ≡ true
-
--- the encryption key in a cell, where it isn't blank
-abbrev pub cell_key : Option Node → List (List ℕ)
-cell_key None = []
-cell_key (Some (in_leaf v)) = v.encryption_key ∷ []
-cell_key (Some (in_parent p)) = p.encryption_key ∷ []

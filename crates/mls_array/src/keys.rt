@@ -1,32 +1,22 @@
 //! Keys that no two nodes share (RFC 9420, 7.3).
 
 ghost use Rattle.std.specs.Prelude.{◌≡◌, IfOk};
-ghost use Rattle.std.specs.Option.{option_copied};
+ghost use Rattle.std.specs.Option.{option_copied, option_to_list};
 ghost use Rattle.std.specs.List.{flat_map};
 ghost use Rattle.mls_term.specs.Good.{has_distinct_keys, has_distinct_clients};
 ghost use Rattle.mls_term.specs.Arrays.{term_of};
 ghost use Rattle.mls_array.specs.Standing.{Stands};
 ghost use Rattle.mls_array.specs.Merged.{bytes_in};
-ghost use Rattle.mls_array.specs.Gathered.{cell_key, cell_signature, one_or_none};
+ghost use Rattle.mls_array.specs.Gathered.{cell_key, cell_signature};
 
 use crate::distinct::are_distinct;
+use crate::path_keys::{push_cell_keys, push_key};
 use mls_leaf::Node;
 use std::alloc::{AllocError, Global};
 
-/// The encryption key in a place that isn't blank.
-fn key_of(node: &Option<Node>) -> Option<&[u8]>
-    ensures { one_or_none (option_copied result) ≡ cell_key node.now }
-{
-    match node {
-        Some(Node::Leaf(leaf)) => Some(leaf.encryption_key.as_slice()),
-        Some(Node::Parent(parent)) => Some(parent.encryption_key()),
-        None => None,
-    }
-}
-
 /// The signature key of the member in a place.
 fn signature_of(node: &Option<Node>) -> Option<&[u8]>
-    ensures { one_or_none (option_copied result) ≡ cell_signature node.now }
+    ensures { option_to_list (option_copied result) ≡ cell_signature node.now }
 {
     match node {
         Some(Node::Leaf(leaf)) => Some(leaf.signature_key.as_slice()),
@@ -39,11 +29,7 @@ fn keys_of(alloc: Global, nodes: &[Option<Node>]) -> Result<Vec<&[u8]>, AllocErr
     ensures { IfOk result (λ v. bytes_in v.items ≡ flat_map cell_key nodes.now) }
 {
     let mut keys = Vec::new(alloc);
-    for node in nodes {
-        if let Some(key) = key_of(node) {
-            keys.push(key)?;
-        }
-    }
+    push_cell_keys(nodes, &mut keys)?;
     Ok(keys)
 }
 
@@ -53,9 +39,7 @@ fn signatures_of(alloc: Global, nodes: &[Option<Node>]) -> Result<Vec<&[u8]>, Al
 {
     let mut keys = Vec::new(alloc);
     for node in nodes {
-        if let Some(key) = signature_of(node) {
-            keys.push(key)?;
-        }
+        push_key(signature_of(node), &mut keys)?;
     }
     Ok(keys)
 }

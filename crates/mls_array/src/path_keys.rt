@@ -7,7 +7,8 @@ ghost use Rattle.mls_term.specs.Merge.{merge, new_parent, keys_below};
 ghost use Rattle.mls_term.specs.Keys.{encryption_keys, parent_key};
 ghost use Rattle.mls_term.specs.Arrays.{term_of};
 ghost use Rattle.mls_array.specs.Standing.{Stands};
-ghost use Rattle.mls_array.specs.Merged.{bytes_in, cell_key};
+ghost use Rattle.mls_array.specs.Merged.{bytes_in};
+ghost use Rattle.mls_array.specs.Gathered.{cell_key};
 
 use crate::places::middle_of;
 use crate::resolutions::is_reached;
@@ -26,7 +27,7 @@ fn key_in(node: &Option<Node>) -> Option<&[u8]>
 }
 
 /// Adds a key, where there is one.
-fn push_key<'a>(key: Option<&'a [u8]>, out: &mut Vec<&'a [u8]>) -> Result<(), AllocError>
+pub(crate) fn push_key<'a>(key: Option<&'a [u8]>, out: &mut Vec<&'a [u8]>) -> Result<(), AllocError>
     ensures { OnOk result (bytes_in out.new.items ≡ bytes_in out.old.items ++ option_to_list (option_copied key.entry)) }
 {
     if let Some(key) = key {
@@ -36,7 +37,10 @@ fn push_key<'a>(key: Option<&'a [u8]>, out: &mut Vec<&'a [u8]>) -> Result<(), Al
 }
 
 /// Adds the encryption keys of some cells.
-fn push_cell_keys<'a>(nodes: &'a [Option<Node>], out: &mut Vec<&'a [u8]>) -> Result<(), AllocError>
+pub(crate) fn push_cell_keys<'a>(
+    nodes: &'a [Option<Node>],
+    out: &mut Vec<&'a [u8]>,
+) -> Result<(), AllocError>
     ensures { OnOk result (bytes_in out.new.items ≡ bytes_in out.old.items ++ flat_map cell_key nodes.now) }
 {
     for node in nodes {

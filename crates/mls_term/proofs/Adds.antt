@@ -10,11 +10,11 @@ use Rattle.mls_term.specs.Resolution.{resolution}
 use Rattle.mls_term.specs.Edits.{enter, listing, with_leaf}
 use Rattle.mls_term.specs.Lists.{asked, all_parents, lists_here, lists, is_named}
 use Rattle.mls_term.specs.Hashes.{parent_hash, hash_at, is_some_bytes, is_witness, has_witness, is_parent_hash_valid}
-use Rattle.mls_term.proofs.Basics.{numbers_more, numbers_same, any_at, any_from, has-filter, has-with, set_at, set_from}
-use Rattle.mls_term.proofs.Shape.{width-enter}
-use Rattle.mls_term.proofs.Parents.{parents_parts, parents_from}
-use Rattle.mls_term.proofs.Named.{fresh}
-use Rattle.mls_term.proofs.Resolutions.{resolution-enter, unnamed, hash_at-enter}
+use Rattle.mls_term.specs.SetLaws.{numbers_more, numbers_same, any_at, any_from, has-filter, has-with, set_at, set_from}
+use Rattle.mls_term.specs.ShapeLaws.{width-enter}
+use Rattle.mls_term.specs.ParentLaws.{parents_parts, parents_from}
+use Rattle.mls_term.specs.NamedLaws.{fresh}
+use Rattle.mls_term.specs.ResolutionLaws.{resolution-enter, unnamed, hash_at-enter}
 use Rattle.mls_term.proofs.Originals.{parent_hash-out, parent_hash-in}
 
 or_false : (y : Bool) → (y || false) ≡ y

@@ -7,8 +7,8 @@ use Rattle.mls_treemath.specs.Steps.{above}
 use Rattle.mls_term.specs.Equations.{way_leaf, way_left, way_right}
 use Rattle.mls_term.specs.Term.{Term, Leaf, Branch, width, size, is_perfect}
 use Rattle.mls_term.specs.Way.{way}
-use Rattle.mls_term.proofs.Shape.{size-width}
-use Rattle.mls_term.proofs.Arrays.{nodes_in-leaves, size-perfect}
+use Rattle.mls_term.specs.ShapeLaws.{size-width}
+use Rattle.mls_term.specs.ArrayLaws.{nodes_in-leaves, size-perfect}
 use Rattle.mls_term.proofs.Numbers.{way_cases}
 
 -- the indices of the ancestors, of a way with one more step

@@ -12,14 +12,14 @@ use Rattle.mls_term.specs.Hashes.{is_parent_hash_valid}
 use Rattle.mls_term.specs.Merge.{merge, IsPath}
 use Rattle.mls_term.specs.Keys.{gather, leaf_key, parent_key, leaf_signature, encryption_keys, signature_keys, all_members}
 use Rattle.mls_term.specs.Good.{Rules, IsGood, AreNew, has_good_shape, is_within, has_good_lists, has_good_hashes, has_distinct_keys, has_distinct_clients, is_all_signed, is_all_capable, is_all_fit, tree_checks}
-use Rattle.mls_term.proofs.Shape.{width-put, perfect-put, perfect-enter, perfect-grow, perfect-trim, full-trim}
-use Rattle.mls_term.proofs.Parents.{parents-put, parents-grow, parents-trim}
-use Rattle.mls_term.proofs.Named.{fresh, lists-enter, rises-enter}
+use Rattle.mls_term.specs.ShapeLaws.{width-put, perfect-put, perfect-enter, perfect-grow, perfect-trim, full-trim}
+use Rattle.mls_term.specs.ParentLaws.{parents-put, parents-grow, parents-trim}
+use Rattle.mls_term.specs.NamedLaws.{fresh, lists-enter, rises-enter}
 use Rattle.mls_term.proofs.Adds.{valid-enter}
-use Rattle.mls_term.proofs.Merges.{width-merge, valid-merge, lists-merge, rises-merge}
-use Rattle.mls_term.proofs.Counts.{distinct-put, distinct-remove, distinct-grow, distinct-enter, distinct-merge, key-listing, key_step, no_step}
-use Rattle.mls_term.proofs.Places.{first_blank_at, leaf_at-grow, width-grow, width-trim, full-put, full-enter, full-merge, full-grow, perfect-merge, perfect_itself}
-use Rattle.mls_term.proofs.Members.{members-put, members-enter, members-merge, all_members-grow, all_members-trim, keys-put, keys-enter, keys-merge, keys-grow, keys-trim}
+use Rattle.mls_term.specs.MergeLaws.{width-merge, valid-merge, lists-merge, rises-merge}
+use Rattle.mls_term.specs.CountLaws.{distinct-put, distinct-remove, distinct-grow, distinct-enter, distinct-merge, key-listing, key_step, no_step}
+use Rattle.mls_term.specs.PlaceLaws.{first_blank_at, leaf_at-grow, width-grow, width-trim, full-put, full-enter, full-merge, full-grow, perfect-merge, perfect_itself}
+use Rattle.mls_term.specs.MemberLaws.{members-put, members-enter, members-merge, all_members-grow, all_members-trim, keys-put, keys-enter, keys-merge, keys-grow, keys-trim}
 
 within_from : (limit : ℕ) (t : Term) → width t ≤ limit → is_within limit t ≡ true
 unfolding is_within

@@ -11,8 +11,8 @@ use Rattle.mls_term.specs.Equations.{at_node_leaf, at_node_no_leaf, at_node_here
 use Rattle.mls_term.specs.Term.{Term, Leaf, Branch, width, size, is_perfect, leaf_at}
 use Rattle.mls_term.specs.Places.{at_node}
 use Rattle.mls_term.specs.Arrays.{leaf_in, leaf_cell, parent_cell, in_order, own_node, node_at, under}
-use Rattle.mls_term.proofs.Shape.{size-width, width-perfect}
-use Rattle.mls_term.proofs.Arrays.{length-in_order, leaf_in-cell, size-perfect}
+use Rattle.mls_term.specs.ShapeLaws.{size-width, width-perfect}
+use Rattle.mls_term.specs.ArrayLaws.{length-in_order, leaf_in-cell, size-perfect}
 
 node_of_leaf : (b : ℕ) (v : Option LeafNode) (n : ℕ) → at_node None own_node b (Leaf v) (2 * b + n) ≡ get_or (leaf_cell v ∷ []) n None
 node_of_leaf b v zero = at_node_leaf b v None own_node (2 * b + 0) (omega arith)

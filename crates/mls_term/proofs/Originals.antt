@@ -10,8 +10,8 @@ use Rattle.mls_term.specs.Edits.{enter, listing, with_leaf}
 use Rattle.mls_term.specs.Lists.{lists, is_named}
 use Rattle.mls_term.specs.Inputs.{sibling_hash}
 use Rattle.mls_term.specs.Hashes.{original, unlisting, tree_hash, parent_hash}
-use Rattle.mls_term.proofs.Basics.{has-with, eqb_refl}
-use Rattle.mls_term.proofs.Shape.{width-enter}
+use Rattle.mls_term.specs.SetLaws.{has-with, eqb_refl}
+use Rattle.mls_term.specs.ShapeLaws.{width-enter}
 
 or_false : (y : Bool) → (y || false) ≡ y
 or_false true = refl

@@ -13,8 +13,8 @@ use Rattle.mls_term.specs.Edits.{put}
 use Rattle.mls_term.specs.Merge.{merge_path, path_parent_hash}
 use Rattle.mls_term.specs.Keys.{encryption_keys}
 use Rattle.mls_term.specs.Good.{Rules, IsGood, AreNew}
-use Rattle.mls_term.proofs.Counts.{bytes_true, count-append, distinct_at, distinct_from}
-use Rattle.mls_term.proofs.Merges.{bytes_refl}
+use Rattle.mls_term.specs.CountLaws.{bytes_true, count-append, distinct_at, distinct_from}
+use Rattle.mls_term.specs.MergeLaws.{bytes_refl}
 use Rattle.mls_term.proofs.Goods.{good_merge}
 
 -- the list of a filtered path is as long as that

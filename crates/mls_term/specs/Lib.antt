@@ -16,3 +16,14 @@ pub mod Arrays
 pub mod Equations
 pub mod Laws
 pub mod Examples
+pub mod SetLaws
+pub mod ShapeLaws
+pub mod ParentLaws
+pub mod NamedLaws
+pub mod ResolutionLaws
+pub mod MergeLaws
+pub mod CountLaws
+pub mod PlaceLaws
+pub mod MemberLaws
+pub mod EntryLaws
+pub mod ArrayLaws

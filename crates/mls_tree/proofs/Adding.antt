@@ -9,7 +9,8 @@ use Rattle.mls_term.specs.Term.{Term, width}
 use Rattle.mls_term.specs.Edits.{first_blank, enter, grow, add, place_for, room_for}
 use Rattle.mls_term.specs.Arrays.{term_of}
 use Rattle.mls_term.specs.Equations.{add_is}
-use Rattle.mls_array.specs.StandingLaws.{StandsFor, width-term_of}
+use Rattle.mls_term.specs.ArrayLaws.{width-term_of}
+use Rattle.mls_array.specs.StandingLaws.{StandsFor}
 use Rattle.mls_tree.specs.Tree.{Tree, term, max_leaves, add_answer}
 
 module _ (t : Term) (x : LeafNode) where

@@ -7,3 +7,4 @@ pub mod Pathing
 pub mod Passing
 pub mod Fitting
 pub mod Checked
+pub mod Halves

@@ -12,7 +12,7 @@ use Rattle.mls_term.specs.Good.{is_all_capable}
 use Rattle.mls_term.specs.Arrays.{term_of}
 use Rattle.mls_tree.specs.Rules.{rules_of}
 use Rattle.mls_term.specs.Equations.{leaf_at_leaf, leaf_at_left, leaf_at_right, leaf_of_in, all_members_leaf, all_members_branch}
-use Rattle.mls_array.specs.StandingLaws.{width-term_of}
+use Rattle.mls_term.specs.ArrayLaws.{width-term_of}
 
 -- whether the n leaves from leaf i on pass a test
 abbrev pub rest : (ℕ → LeafNode → Bool) → (ℕ → Option LeafNode) → ℕ → ℕ → Bool

@@ -1,4 +1,5 @@
 use crate::{PublicTree, TreeError};
+use mls_array as array;
 use mls_leaf::{
     Bytes, Capabilities, Credential, Items, LeafNode, LeafSource, Node, parent_hash_input,
 };
@@ -135,6 +136,9 @@ fn the_next_add_is_listed(rt: HostRuntime) -> Result<(), Fail> {
     assert_eq!(rt; tree.add(leaf(alloc, 7, LeafSource::Update)?)?, 1);
     assert_eq!(rt; tree.resolution(3)?.as_slice(), [3, 2].as_slice());
     assert_eq!(rt; tree.resolution(1)?.as_slice(), [0, 2].as_slice());
+    assert!(rt; tree.node(5).is_none());
+    assert!(rt; array::has_good_lists(&tree.nodes, tree.height));
+    assert!(rt; array::has_good_hashes(alloc, &tree.nodes, tree.height)?);
     Ok(())
 }
 
@@ -145,6 +149,7 @@ fn the_highest_filtered_node_is_below_the_root(rt: HostRuntime) -> Result<(), Fa
     assert_eq!(rt; tree.leaf_count(), 4);
     assert_eq!(rt; tree.filtered_path(2)?.as_slice(), [5].as_slice());
     assert_eq!(rt; merged(alloc, &mut tree, 2)?, 32);
+    assert!(rt; tree.node(1).is_none());
     assert!(rt; tree.node(3).is_none());
     let is_empty = match tree.node(5) {
         Some(Node::Parent(parent)) => parent.parent_hash().is_empty(),

@@ -11,11 +11,11 @@ use Rattle.mls_term.specs.Lists.{asked, all_parents, rises_here}
 use Rattle.mls_term.specs.Merge.{merge}
 use Rattle.mls_term.specs.Equations.{enter_left, enter_right}
 use Rattle.mls_term.specs.Laws.{IsIn}
-use Rattle.mls_term.proofs.Basics.{all_at, all_from, has-with}
-use Rattle.mls_term.proofs.Shape.{width-enter}
-use Rattle.mls_term.proofs.Parents.{parents_parts, parents_from, parents-put, parents-grow, parents-trim}
-use Rattle.mls_term.proofs.Named.{rises-enter}
-use Rattle.mls_term.proofs.Merges.{free-merge, rises-merge}
+use Rattle.mls_term.specs.SetLaws.{all_at, all_from, has-with}
+use Rattle.mls_term.specs.ShapeLaws.{width-enter}
+use Rattle.mls_term.specs.ParentLaws.{parents_parts, parents_from, parents-put, parents-grow, parents-trim}
+use Rattle.mls_term.specs.NamedLaws.{rises-enter}
+use Rattle.mls_term.specs.MergeLaws.{free-merge, rises-merge}
 use Rattle.mls_treekem.specs.Lists.{below_here, ListsBelow}
 
 pub below_put : (b : ℕ) (t : Term) (i : ℕ) (x : Option LeafNode) → ListsBelow b t → ListsBelow b (put b t i x)

@@ -8,8 +8,8 @@ use Rattle.mls_term.specs.Term.{Term, width, leaf_at}
 use Rattle.mls_term.specs.Way.{way}
 use Rattle.mls_term.specs.Merge.{merge}
 use Rattle.mls_term.specs.Laws.{IsIn}
-use Rattle.mls_term.proofs.Merges.{width-merge}
-use Rattle.mls_term.proofs.Places.{leaf_at-put, leaf_at-merge}
+use Rattle.mls_term.specs.MergeLaws.{width-merge}
+use Rattle.mls_term.specs.PlaceLaws.{leaf_at-put, leaf_at-merge}
 use Rattle.mls_suite.specs.Crypto.{Crypto, Lawful}
 use Rattle.mls_treekem.specs.Keys.{Keys, Exact, leaf_only}
 use Rattle.mls_treekem.specs.Make.{Climb, climb_make, path_keys}

@@ -12,10 +12,10 @@ use Rattle.mls_term.specs.Held.{holds}
 use Rattle.mls_term.specs.Way.{Step, way}
 use Rattle.mls_term.specs.Equations.{way_left, way_right, at_node_leaf, at_node_here, at_node_left, at_node_right}
 use Rattle.mls_term.specs.Laws.{IsIn}
-use Rattle.mls_term.proofs.Basics.{eqb_refl, of_leaf_numbers, has-leaf_numbers}
-use Rattle.mls_term.proofs.Shape.{size-width}
-use Rattle.mls_term.proofs.Parents.{parents_parts}
-use Rattle.mls_term.proofs.Counts.{count_none, count_once}
+use Rattle.mls_term.specs.SetLaws.{eqb_refl, of_leaf_numbers, has-leaf_numbers}
+use Rattle.mls_term.specs.ShapeLaws.{size-width}
+use Rattle.mls_term.specs.ParentLaws.{parents_parts}
+use Rattle.mls_term.specs.CountLaws.{count_none, count_once}
 use Rattle.mls_suite.specs.Crypto.{Crypto}
 use Rattle.mls_treekem.specs.Keys.{Keys, HoldsKey, Fits, IsOwnKey, Along, AlongWay, Exact, key_for, key_in}
 use Rattle.mls_treekem.specs.Make.{one_if}

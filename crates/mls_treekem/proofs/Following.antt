@@ -9,9 +9,9 @@ use Rattle.mls_term.specs.Way.{Step, way}
 use Rattle.mls_term.specs.Edits.{put, enter, listing, grow, trim}
 use Rattle.mls_term.specs.Equations.{put_left, put_right, enter_left, enter_right, way_left, way_right}
 use Rattle.mls_term.specs.Laws.{IsIn}
-use Rattle.mls_term.proofs.Basics.{has-with}
-use Rattle.mls_term.proofs.Shape.{width-put, width-enter}
-use Rattle.mls_term.proofs.Members.{leaf_taken}
+use Rattle.mls_term.specs.SetLaws.{has-with}
+use Rattle.mls_term.specs.ShapeLaws.{width-put, width-enter}
+use Rattle.mls_term.specs.MemberLaws.{leaf_taken}
 use Rattle.mls_suite.specs.Crypto.{Crypto}
 use Rattle.mls_treekem.specs.Keys.{Keys, HoldsKey, Fits, IsOwnKey, Along, Exact, leaf_only}
 use Rattle.mls_treekem.specs.Follow.{TameAt, TameAlong, Tame, follow, follow_trim}

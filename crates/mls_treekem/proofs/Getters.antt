@@ -5,7 +5,7 @@ use Rattle.mls_leaf.specs.Parent.{Parent}
 use Rattle.mls_term.specs.Term.{Term, Leaf, Branch, width, size}
 use Rattle.mls_term.specs.Way.{way}
 use Rattle.mls_term.specs.Laws.{IsIn}
-use Rattle.mls_term.proofs.Shape.{size-width}
+use Rattle.mls_term.specs.ShapeLaws.{size-width}
 use Rattle.mls_treekem.specs.Keys.{Keys, key_in}
 use Rattle.mls_treekem.specs.Pairs.{Pair, pair_of, pairs, find_key, AllAfter, IsInOrder}
 use Rattle.mls_treekem.proofs.Entries.{key_nil, key_at_leaf, key_here, key_left, key_right, key_outside}

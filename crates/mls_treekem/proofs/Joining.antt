@@ -13,9 +13,9 @@ use Rattle.mls_term.specs.Merge.{merge, new_parent, keys_below, hash_below, pare
 use Rattle.mls_term.specs.Hashes.{parent_hash}
 use Rattle.mls_term.specs.Equations.{way_left, way_right, merge_left, merge_right, enter_left, enter_right}
 use Rattle.mls_term.specs.Laws.{IsIn}
-use Rattle.mls_term.proofs.Basics.{has-with}
-use Rattle.mls_term.proofs.Shape.{width-enter}
-use Rattle.mls_term.proofs.Merges.{width-merge}
+use Rattle.mls_term.specs.SetLaws.{has-with}
+use Rattle.mls_term.specs.ShapeLaws.{width-enter}
+use Rattle.mls_term.specs.MergeLaws.{width-merge}
 use Rattle.mls_suite.specs.Crypto.{Crypto}
 use Rattle.mls_treekem.specs.Chain.{next_secret, chain, node_key, node_public}
 use Rattle.mls_treekem.specs.Keys.{Keys, HoldsKey, Fits, Along, AlongWay, Exact, leaf_only}

@@ -5,7 +5,7 @@ use Rattle.std.proofs.lemmas.List.{reverse-append, reverse-reverse, length-rever
 use Rattle.mls_term.specs.Term.{Term, Leaf, Branch, width, size, is_perfect}
 use Rattle.mls_term.specs.Way.{way}
 use Rattle.mls_term.specs.Equations.{way_leaf, way_left, way_right}
-use Rattle.mls_term.proofs.Shape.{size-width, width-perfect}
+use Rattle.mls_term.specs.ShapeLaws.{size-width, width-perfect}
 use Rattle.mls_treekem.specs.Keys.{Keys}
 use Rattle.mls_treekem.specs.Follow.{key_above, on_way}
 use Rattle.mls_treekem.specs.Height.{pairs_from, listed, ArePairs}

@@ -7,10 +7,10 @@ use Rattle.mls_term.specs.Sets.{has, leaf_numbers, count, is_distinct}
 use Rattle.mls_term.specs.Resolution.{resolution}
 use Rattle.mls_term.specs.Lists.{asked, all_parents, may_be_listed, lists_here, rises_here}
 use Rattle.mls_term.specs.Laws.{HasLists}
-use Rattle.mls_term.proofs.Basics.{eqb_refl, all_at, all_from, has-append, of_leaf_numbers}
-use Rattle.mls_term.proofs.Shape.{size-width}
-use Rattle.mls_term.proofs.Parents.{parents_parts, parents_from}
-use Rattle.mls_term.proofs.Counts.{count-append, distinct_from, count_none, count_once}
+use Rattle.mls_term.specs.SetLaws.{eqb_refl, all_at, all_from, has-append, of_leaf_numbers}
+use Rattle.mls_term.specs.ShapeLaws.{size-width}
+use Rattle.mls_term.specs.ParentLaws.{parents_parts, parents_from}
+use Rattle.mls_term.specs.CountLaws.{count-append, distinct_from, count_none, count_once}
 use Rattle.mls_treekem.specs.Lists.{below_here, ListsBelow}
 
 -- ---- right lists are such lists

@@ -8,8 +8,8 @@ use Rattle.mls_term.specs.Sets.{has}
 use Rattle.mls_term.specs.Way.{Step, step_at, way, is_filtered, filtered_way, path_length}
 use Rattle.mls_term.specs.Merge.{merge, new_parent, keys_below, hash_below, parent_beside, keys_beside, hash_beside}
 use Rattle.mls_term.specs.Equations.{way_left, way_right, merge_left, merge_right, leaf_at_left, leaf_at_right}
-use Rattle.mls_term.proofs.Shape.{size_from_width}
-use Rattle.mls_term.proofs.Merges.{width-merge}
+use Rattle.mls_term.specs.ShapeLaws.{size_from_width}
+use Rattle.mls_term.specs.MergeLaws.{width-merge}
 use Rattle.mls_suite.specs.Crypto.{Crypto}
 use Rattle.mls_treekem.specs.Chain.{next_secret, chain, path_secrets, node_key, node_public, chain_keys}
 use Rattle.mls_treekem.specs.Keys.{Fits, Along, Exact}

@@ -8,8 +8,8 @@ use Rattle.mls_term.specs.Way.{Step, step_at, way}
 use Rattle.mls_term.specs.Edits.{put, grow, trim}
 use Rattle.mls_term.specs.Equations.{way_left, way_right, leaf_at_left, leaf_at_right, put_left, put_right}
 use Rattle.mls_term.specs.Laws.{IsIn}
-use Rattle.mls_term.proofs.Shape.{width-put}
-use Rattle.mls_term.proofs.Members.{leaf_taken}
+use Rattle.mls_term.specs.ShapeLaws.{width-put}
+use Rattle.mls_term.specs.MemberLaws.{leaf_taken}
 use Rattle.mls_suite.specs.Crypto.{Crypto}
 use Rattle.mls_treekem.specs.Keys.{Keys, Fits, IsOwnKey, Along, Exact}
 use Rattle.mls_treekem.specs.Follow.{TameAt, TameAlong, Tame, key_above, follow_edit, parent_above, Follows}

@@ -6,7 +6,7 @@ use Rattle.std.proofs.Common.{w32}
 use Rattle.std.proofs.lemmas.Bool.{cases_eq}
 use Rattle.std.proofs.lemmas.Nat.{pow_pos, pow_below}
 use Rattle.std.proofs.lemmas.Nat.Bits.{bit_at-trailing_zeros, bit_at-pow_other}
-use Rattle.mls_term.proofs.Arrays.{width-term_of, perfect-term_of}
+use Rattle.mls_term.specs.ArrayLaws.{width-term_of, perfect-term_of}
 use Rattle.mls_tree.specs.Tree.{Tree, term}
 use Rattle.mls_leaf.specs.Parent.{Parent}
 use Rattle.mls_leaf.specs.declared.node.Node.{Node}
@@ -16,7 +16,7 @@ use Rattle.mls_term.specs.Places.{at_node, resolution_at}
 use Rattle.mls_term.specs.Resolution.{resolution}
 use Rattle.mls_term.specs.Way.{Step, step_at, way}
 use Rattle.mls_term.specs.Equations.{way_leaf, way_left, way_right, at_node_leaf, at_node_here, at_node_left, at_node_right}
-use Rattle.mls_term.proofs.Shape.{size-width, width-perfect, width_pos}
+use Rattle.mls_term.specs.ShapeLaws.{size-width, width-perfect, width_pos}
 use Rattle.mls_treekem.specs.declared.places.Place.{Place}
 use Rattle.mls_treekem.specs.Place.{place, places_from, subtree_at, step_of, IsPlaced, ArePlaced, IsWay}
 use Rattle.mls_treekem.proofs.Levels.{pow_pred}

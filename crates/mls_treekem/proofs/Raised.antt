@@ -19,8 +19,8 @@ use Rattle.mls_treemath.specs.Ways.{path_left, path_root, path_right}
 use Rattle.mls_term.specs.Term.{Term, Leaf, Branch, width, size, is_perfect}
 use Rattle.mls_term.specs.Way.{Step, way}
 use Rattle.mls_term.specs.Equations.{way_leaf, way_left, way_right}
-use Rattle.mls_term.proofs.Shape.{size-width}
-use Rattle.mls_term.proofs.Arrays.{size-perfect, nodes_in-leaves}
+use Rattle.mls_term.specs.ShapeLaws.{size-width}
+use Rattle.mls_term.specs.ArrayLaws.{size-perfect, nodes_in-leaves}
 use Rattle.mls_treekem.proofs.Levels.{way_height, above_take, above_pass, length-end, reverse-cons, reverse-end}
 
 -- node n has level k in a perfect tree of height h whose first leaf is b

@@ -16,9 +16,9 @@ use Rattle.mls_term.specs.Way.{Step, way, is_filtered, is_beside}
 use Rattle.mls_term.specs.Merge.{merge, new_parent, keys_below, keys_beside, hash_beside}
 use Rattle.mls_term.specs.Equations.{way_left, way_right}
 use Rattle.mls_term.specs.Laws.{IsIn}
-use Rattle.mls_term.proofs.Resolutions.{reached}
-use Rattle.mls_term.proofs.Members.{leaf_taken}
-use Rattle.mls_term.proofs.Merges.{width-merge}
+use Rattle.mls_term.specs.ResolutionLaws.{reached}
+use Rattle.mls_term.specs.MemberLaws.{leaf_taken}
+use Rattle.mls_term.specs.MergeLaws.{width-merge}
 use Rattle.mls_suite.specs.Crypto.{Crypto, Lawful}
 use Rattle.mls_treekem.specs.Chain.{next_secret, chain, node_key, node_public}
 use Rattle.mls_treekem.specs.Keys.{Keys, Fits, AlongWay, Exact, rest, key_in}

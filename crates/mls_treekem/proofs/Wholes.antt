@@ -13,8 +13,8 @@ use Rattle.mls_term.specs.Edits.{put, enter, grow, trim, first_blank, place_for,
 use Rattle.mls_term.specs.Merge.{merge, merge_path, keys_beside, hash_beside}
 use Rattle.mls_term.specs.Equations.{way_left}
 use Rattle.mls_term.specs.Laws.{IsIn}
-use Rattle.mls_term.proofs.Shape.{width-put}
-use Rattle.mls_term.proofs.Places.{first_blank_at, width-grow}
+use Rattle.mls_term.specs.ShapeLaws.{width-put}
+use Rattle.mls_term.specs.PlaceLaws.{first_blank_at, width-grow}
 use Rattle.mls_suite.specs.Crypto.{Crypto, Lawful}
 use Rattle.mls_treekem.specs.Chain.{chain, chain_keys}
 use Rattle.mls_treekem.specs.Keys.{Keys, Exact}

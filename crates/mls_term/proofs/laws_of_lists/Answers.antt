@@ -1,7 +1,7 @@
 use Rattle.mls_term.proofs.laws_of_lists.Goals as goal
-use Rattle.mls_term.proofs.Named.{named_range, fresh, lists-enter, rises-enter}
-use Rattle.mls_term.proofs.Parents.{parents-put, parents-grow, parents-trim}
-use Rattle.mls_term.proofs.Merges.{lists-merge, rises-merge}
+use Rattle.mls_term.specs.NamedLaws.{named_range, fresh, lists-enter, rises-enter}
+use Rattle.mls_term.specs.ParentLaws.{parents-put, parents-grow, parents-trim}
+use Rattle.mls_term.specs.MergeLaws.{lists-merge, rises-merge}
 
 pub returns : goal.returns
 returns c =

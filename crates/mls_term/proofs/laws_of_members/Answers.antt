@@ -1,5 +1,5 @@
 use Rattle.mls_term.proofs.laws_of_members.Goals as goal
-use Rattle.mls_term.proofs.Members.{members-put, members-enter, members-merge, all_members-grow, all_members-trim}
+use Rattle.mls_term.specs.MemberLaws.{members-put, members-enter, members-merge, all_members-grow, all_members-trim}
 
 pub returns : goal.returns
 returns c =

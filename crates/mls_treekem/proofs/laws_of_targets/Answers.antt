@@ -1,6 +1,6 @@
 use Rattle.mls_treekem.proofs.laws_of_targets.Goals as goal
-use Rattle.mls_term.proofs.Resolutions.{reached}
-use Rattle.mls_term.proofs.Entries.{one_filtered}
+use Rattle.mls_term.specs.ResolutionLaws.{reached}
+use Rattle.mls_term.specs.EntryLaws.{one_filtered}
 use Rattle.mls_treekem.proofs.Lists.{in_range, all_distinct}
 use Rattle.mls_treekem.proofs.Entries.{key_where_held, one_entry, entry_key}
 use Rattle.mls_treekem.proofs.Getters.{pairs_in_order, pairs_found}

@@ -1,6 +1,7 @@
 use Rattle.std.proofs.Common.{◌≡◌, ◌++◌, take}
 use Rattle.std.specs.List.{flat_map}
-use Rattle.mls_array.specs.Merged.{bytes_in, cell_key}
+use Rattle.mls_array.specs.Merged.{bytes_in}
+use Rattle.mls_array.specs.Gathered.{cell_key}
 use Rattle.mls_array.proofs.path_keys.push_cell_keys.Given as goal
 
 abbrev pub invariant-loop-node : goal.invariant-loop-node

@@ -2,7 +2,7 @@ use Rattle.std.proofs.Common.{◌++◌, length, ◌∙◌, ap}
 use Rattle.mls_term.specs.Good.{has_good_hashes}
 use Rattle.mls_term.specs.Arrays.{term_of}
 use Rattle.mls_array.specs.Witnesses.{hashes_of}
-use Rattle.mls_array.proofs.Readings.{size-term_of}
+use Rattle.mls_term.specs.ArrayLaws.{size-term_of}
 use Rattle.mls_array.proofs.Hashings.{length-hashes_of}
 use Rattle.mls_array.proofs.validity.has_good_hashes.Goals as goal
 

@@ -12,9 +12,9 @@ use Rattle.mls_term.specs.Lists.{asked, all_parents, lists_here, rises_here}
 use Rattle.mls_term.specs.Hashes.{parent_hash, hash_at, is_some_bytes, is_witness, has_witness, is_parent_hash_valid}
 use Rattle.mls_term.specs.Resolution.{is_empty, is_reached}
 use Rattle.mls_term.specs.Merge.{new_parent, keys_below, hash_below, merge, path_hash, HasHead, IsPath}
-use Rattle.mls_term.proofs.Basics.{any_from, has-filter, set_from, eqb_refl}
-use Rattle.mls_term.proofs.Parents.{parents_parts, parents_from}
-use Rattle.mls_term.proofs.Shape.{size-width}
+use Rattle.mls_term.specs.SetLaws.{any_from, has-filter, set_from, eqb_refl}
+use Rattle.mls_term.specs.ParentLaws.{parents_parts, parents_from}
+use Rattle.mls_term.specs.ShapeLaws.{size-width}
 
 empty_is : (xs : List ℕ) → is_empty xs ≡ true → xs ≡ []
 empty_is [] e = refl

@@ -9,7 +9,7 @@ use Rattle.mls_treemath.specs.Paths.{nodes_in}
 use Rattle.mls_term.specs.Term.{Term, Leaf, Branch, width, size, is_perfect, has_leaf, is_full_width}
 use Rattle.mls_term.specs.Good.{is_within}
 use Rattle.mls_term.specs.Arrays.{leaf_in, parent_in, leaf_cell, parent_cell, term_of, in_order, before, cut, to_nodes, has_last, may_stand, alternates, height_from, height_for, padded, sent_term, from_nodes}
-use Rattle.mls_term.proofs.Shape.{size-width, width-perfect}
+use Rattle.mls_term.specs.ShapeLaws.{size-width, width-perfect}
 
 -- ---- how many nodes a tree has
 

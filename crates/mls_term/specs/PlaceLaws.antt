@@ -8,8 +8,8 @@ use Rattle.mls_term.specs.Edits.{put, enter, grow, trim, listing, or_else, first
 use Rattle.mls_term.specs.Resolution.{is_reached}
 use Rattle.mls_term.specs.Merge.{new_parent, keys_below, hash_below, merge}
 use Rattle.mls_term.specs.Keys.{members}
-use Rattle.mls_term.proofs.Shape.{width_pos, width-put, width-enter, height-perfect}
-use Rattle.mls_term.proofs.Merges.{width-merge}
+use Rattle.mls_term.specs.ShapeLaws.{width_pos, width-put, width-enter, height-perfect}
+use Rattle.mls_term.specs.MergeLaws.{width-merge}
 
 or_cases_option : (i : ℕ) (o p : Option ℕ) → or_else o p ≡ Some i → (o ≡ Some i) ⊎ (p ≡ Some i)
 or_cases_option i None p e = inr e

@@ -6,7 +6,7 @@ use Rattle.mls_leaf.specs.declared.leaf.LeafNode.{LeafNode}
 use Rattle.mls_term.specs.Term.{Term, Leaf, Branch, width, height, blanks, has_leaf}
 use Rattle.mls_term.specs.Edits.{put, grow, trim}
 use Rattle.mls_term.specs.Lists.{asked, all_parents}
-use Rattle.mls_term.proofs.Shape.{width-put}
+use Rattle.mls_term.specs.ShapeLaws.{width-put}
 
 module _ (q : ℕ → Parent → Term → Term → Bool) where
   pub parents_parts : (b : ℕ) (c : Option Parent) (l r : Term) → all_parents q b (Branch c l r) ≡ true → (asked q b c l r ≡ true) × (all_parents q b l ≡ true) × (all_parents q (b + width l) r ≡ true)

@@ -13,10 +13,10 @@ use Rattle.mls_term.specs.Hashes.{original, unlisting}
 use Rattle.mls_term.specs.Resolution.{is_reached}
 use Rattle.mls_term.specs.Merge.{new_parent, keys_below, merge}
 use Rattle.mls_term.specs.Keys.{gather, leaf_key, parent_key, encryption_keys, passes, all_members}
-use Rattle.mls_term.proofs.Shape.{width-put, width-enter}
-use Rattle.mls_term.proofs.Merges.{width-merge}
-use Rattle.mls_term.proofs.Counts.{key-listing}
-use Rattle.mls_term.proofs.Places.{first_blank_at, leaf_at-enter, leaf_at-put, leaf_at-grow, leaf_at-grown, leaf_at-trim, width-grow}
+use Rattle.mls_term.specs.ShapeLaws.{width-put, width-enter}
+use Rattle.mls_term.specs.MergeLaws.{width-merge}
+use Rattle.mls_term.specs.CountLaws.{key-listing}
+use Rattle.mls_term.specs.PlaceLaws.{first_blank_at, leaf_at-enter, leaf_at-put, leaf_at-grow, leaf_at-grown, leaf_at-trim, width-grow}
 
 module _ (p : ℕ → LeafNode → Bool) where
   members_at_leaf : (b : ℕ) (v : Option LeafNode) → all_members p b (Leaf v) ≡ passes p b v

@@ -12,12 +12,12 @@ use Rattle.mls_term.specs.Lists.{all_parents, may_list, lists_here, rises_here}
 use Rattle.mls_term.specs.Resolution.{is_reached}
 use Rattle.mls_term.specs.Held.{holds, held}
 use Rattle.mls_term.specs.Way.{Step, step_at, way, is_filtered, is_beside}
-use Rattle.mls_term.proofs.Basics.{same_bool, of_leaf_numbers, has-leaf_numbers, eqb_refl}
-use Rattle.mls_term.proofs.Shape.{size-width}
-use Rattle.mls_term.proofs.Parents.{parents_parts}
-use Rattle.mls_term.proofs.Resolutions.{resolution_range, reached}
-use Rattle.mls_term.proofs.Counts.{count_none, count_once}
-use Rattle.mls_term.proofs.Members.{leaf_taken}
+use Rattle.mls_term.specs.SetLaws.{same_bool, of_leaf_numbers, has-leaf_numbers, eqb_refl}
+use Rattle.mls_term.specs.ShapeLaws.{size-width}
+use Rattle.mls_term.specs.ParentLaws.{parents_parts}
+use Rattle.mls_term.specs.ResolutionLaws.{resolution_range, reached}
+use Rattle.mls_term.specs.CountLaws.{count_none, count_once}
+use Rattle.mls_term.specs.MemberLaws.{leaf_taken}
 
 tally-append : (p : ℕ → Bool) (xs ys : List ℕ) → length (filter p (xs ++ ys)) ≡ length (filter p xs) + length (filter p ys)
 tally-append p xs ys = ap length (filter-append p xs ys) ∙ length-append (filter p xs) (filter p ys)

@@ -12,11 +12,11 @@ use Rattle.mls_term.specs.Lists.{all_parents, lists_here, rises_here}
 use Rattle.mls_term.specs.Resolution.{is_reached}
 use Rattle.mls_term.specs.Merge.{new_parent, keys_below, hash_below, merge}
 use Rattle.mls_term.specs.Keys.{gather, parent_key}
-use Rattle.mls_term.proofs.Basics.{of_leaf_numbers, eqb_refl}
-use Rattle.mls_term.proofs.Shape.{size-width}
-use Rattle.mls_term.proofs.Parents.{parents_parts}
-use Rattle.mls_term.proofs.Resolutions.{resolution_range}
-use Rattle.mls_term.proofs.Merges.{bytes_refl}
+use Rattle.mls_term.specs.SetLaws.{of_leaf_numbers, eqb_refl}
+use Rattle.mls_term.specs.ShapeLaws.{size-width}
+use Rattle.mls_term.specs.ParentLaws.{parents_parts}
+use Rattle.mls_term.specs.ResolutionLaws.{resolution_range}
+use Rattle.mls_term.specs.MergeLaws.{bytes_refl}
 
 pub bytes_true : (xs ys : List ℕ) → same_bytes xs ys ≡ true → xs ≡ ys
 unfolding same_bytes

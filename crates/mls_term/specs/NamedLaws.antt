@@ -8,9 +8,9 @@ use Rattle.mls_term.specs.Term.{Term, Leaf, Branch, width, leaf_at}
 use Rattle.mls_term.specs.Sets.{has}
 use Rattle.mls_term.specs.Edits.{enter, listing}
 use Rattle.mls_term.specs.Lists.{asked, all_parents, may_list, is_listed, may_be_listed, lists_here, rises_here, lists, is_named}
-use Rattle.mls_term.proofs.Basics.{all_at, all_from, has-with, rises-with, eqb_refl}
-use Rattle.mls_term.proofs.Shape.{width-enter}
-use Rattle.mls_term.proofs.Parents.{parents_parts, parents_from}
+use Rattle.mls_term.specs.SetLaws.{all_at, all_from, has-with, rises-with, eqb_refl}
+use Rattle.mls_term.specs.ShapeLaws.{width-enter}
+use Rattle.mls_term.specs.ParentLaws.{parents_parts, parents_from}
 
 module _ (b : ℕ) (c : Option Parent) (l r : Term) (u : ℕ) where
   listed_left : u < b + width l → is_listed b (Branch c l r) u ≡ (may_list c u && is_listed b l u)

@@ -12,10 +12,10 @@ use Rattle.mls_term.specs.Edits.{enter, listing}
 use Rattle.mls_term.specs.Lists.{all_parents, lists_here, is_named}
 use Rattle.mls_term.specs.Hashes.{hash_at}
 use Rattle.mls_term.specs.Node.{own_parent_hash}
-use Rattle.mls_term.proofs.Basics.{has-append, has-with, has-leaf_numbers, of_leaf_numbers, numbers_more}
-use Rattle.mls_term.proofs.Shape.{size-width, width-enter, size_from_width}
-use Rattle.mls_term.proofs.Parents.{parents_parts}
-use Rattle.mls_term.proofs.Named.{named_range}
+use Rattle.mls_term.specs.SetLaws.{has-append, has-with, has-leaf_numbers, of_leaf_numbers, numbers_more}
+use Rattle.mls_term.specs.ShapeLaws.{size-width, width-enter, size_from_width}
+use Rattle.mls_term.specs.ParentLaws.{parents_parts}
+use Rattle.mls_term.specs.NamedLaws.{named_range}
 
 -- a tree with a taken leaf reaches somebody
 pub resolution_nonempty : (b : ℕ) (t : Term) → has_leaf t ≡ true → is_empty (resolution b t) ≡ false
