@@ -1,6 +1,6 @@
 -- What the calls on a commit's path answer.
 use Rattle.std.specs.Prelude.{◌≡◌, ◌≢◌, ℕ, ◌==◌, List, length, Result, Ok, Err}
-use Rattle.mls_wire.specs.Checks.{Passed, given, require, ◌>>◌}
+use Rattle.mls_wire.specs.Checks.{Passed, require, ◌>>◌}
 use Rattle.mls_wire.specs.Reading.{◌>>=◌}
 use Rattle.mls_leaf.specs.declared.leaf.LeafNode.{LeafNode}
 use Rattle.mls_term.specs.Node.{source_hash}
