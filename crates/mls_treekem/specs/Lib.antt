@@ -15,3 +15,4 @@ pub mod Faults
 pub mod Height
 pub mod Place
 pub mod Raise
+pub mod Climbing
