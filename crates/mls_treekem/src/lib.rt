@@ -18,6 +18,7 @@ mod error;
 mod follow;
 mod keys;
 mod make;
+mod open;
 mod places;
 mod private_path;
 mod secrets;
