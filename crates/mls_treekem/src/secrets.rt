@@ -21,7 +21,7 @@ pub struct PathSecrets {
 
 /// The path secret of the next node above.
 #[tactic(auto, unfolding(crate::specs::Chain::next_secret))]
-fn next_secret(secret: &Secret) -> Secret
+pub(crate) fn next_secret(secret: &Secret) -> Secret
     ensures { result ≡ next_secret secret.now }
 {
     derive_secret(secret, "path")
@@ -29,7 +29,7 @@ fn next_secret(secret: &Secret) -> Secret
 
 /// The key pair of the node with a path secret.
 #[tactic(auto, unfolding(crate::specs::Chain::node_key))]
-fn node_pair<S: Suite>(alloc: Global, secret: &Secret) -> Result<KeyPair, OutOfMemory>
+pub(crate) fn node_pair<S: Suite>(alloc: Global, secret: &Secret) -> Result<KeyPair, OutOfMemory>
     ensures private { IfOk result (λ pair. pair.sk ≡ node_key S.crypto secret.now) }
     ensures public { IfOk result (λ pair. pair.pk.items ≡ node_public S.crypto secret.now) }
 {

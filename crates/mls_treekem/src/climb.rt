@@ -1,0 +1,57 @@
+//! A climb over a leaf, from a path secret upwards (RFC 9420, 7.4).
+
+ghost use Rattle.std.specs.Prelude.{◌≡◌, ◌+◌, ◌&&◌, nat_le, nat_lt, IfOk};
+ghost use Rattle.mls_wire.specs.Checks.{Answers};
+ghost use Rattle.mls_treekem.specs.Climbing.{climb_of, past_key, past_blank};
+ghost use Rattle.mls_treekem.specs.Faults.{number_of};
+
+use crate::TreeKemError;
+use crate::places::Place;
+use crate::secrets::{next_secret, node_pair};
+use mls_kdf::Secret;
+use mls_suite::{OutOfMemory, Suite};
+
+/// Where a climb stands. It is made with the secret that it begins with, and the keys below.
+#[derive(Drop)]
+pub(crate) struct Climb {
+    /// The path secret of the next node.
+    pub(crate) secret: Secret,
+    /// The private keys so far, the lowest node's first, without the leaf's.
+    pub(crate) above: Vec<Option<Secret>>,
+}
+
+impl Climb {
+    /// Goes past a node with this public key: takes its private key, and the next secret. `PathKeyMismatch` (34) where
+    /// the derived public key is another (RFC 9420, 7.5).
+    pub(crate) fn past_key<S: Suite>(self, public_key: &[u8]) -> Result<Climb, TreeKemError>
+        ensures { Answers climb_of number_of (past_key S.crypto public_key.now (climb_of self)) result }
+    {
+        let mut climb = self;
+        let alloc = *climb.above.allocator();
+        let pair = node_pair::<S>(alloc, &climb.secret)?;
+        if pair.pk.as_slice() != public_key {
+            return Err(TreeKemError::PathKeyMismatch);
+        }
+        climb.above.push(Some(pair.sk))?;
+        climb.secret = next_secret(&climb.secret);
+        Ok(climb)
+    }
+
+    /// Goes past a node that has no key.
+    pub(crate) fn past_blank(self) -> Result<Climb, OutOfMemory>
+        ensures { IfOk result (λ m. climb_of m ≡ past_blank (climb_of self)) }
+    {
+        let mut climb = self;
+        climb.above.push(None)?;
+        Ok(climb)
+    }
+}
+
+impl Place {
+    /// Whether a leaf is below the child beside.
+    pub(crate) fn is_beside(&self, leaf: u32) -> bool
+        ensures { result ≡ nat_le self.now.first leaf && nat_lt leaf (self.now.first + self.now.leaves) }
+    {
+        self.first <= leaf && leaf - self.first < self.leaves
+    }
+}
