@@ -20,3 +20,4 @@ pub mod Levels
 pub mod Placing
 pub mod Raised
 pub mod Followed
+pub mod Taking

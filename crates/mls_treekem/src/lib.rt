@@ -21,6 +21,7 @@ mod make;
 mod places;
 mod private_path;
 mod secrets;
+mod take;
 #[cfg(test)]
 mod tests;
 
