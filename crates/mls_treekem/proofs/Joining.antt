@@ -34,16 +34,16 @@ Sound c j p None = Unit {0}
 Sound c j None (Some k) = ⊥
 Sound c j (Some p) (Some k) = (has p.unmerged_leaves j ≡ false) × (c.public k ≡ p.encryption_key)
 
-record Sounds (c : Crypto) (j : ℕ) (p : Option Parent) (m m' : Climb) : Type 0 where
-  top : Option (List ℕ)
-  keys_are : m'.keys ≡ top ∷ m.keys
-  sound : Sound c j p top
+pub record Sounds (c : Crypto) (j : ℕ) (p : Option Parent) (m m' : Climb) : Type 0 where
+  pub top : Option (List ℕ)
+  pub keys_are : m'.keys ≡ top ∷ m.keys
+  pub sound : Sound c j p top
 
 not_and : (a b : Bool) → (not a && b) ≡ true → (a ≡ false) × (b ≡ true)
 not_and true b h = cc
 not_and false b h = (refl, h)
 
-sounds : (c : Crypto) (j : ℕ) (p : Option Parent) (m m' : Climb) → past_present c j p m ≡ Ok m' → Sounds c j p m m'
+pub sounds : (c : Crypto) (j : ℕ) (p : Option Parent) (m m' : Climb) → past_present c j p m ≡ Ok m' → Sounds c j p m m'
 sounds c j None m m' h =
     let made : Climb = record { secret = m.secret; keys = None ∷ m.keys } in
     let e : made ≡ m' = cc in

@@ -21,3 +21,4 @@ pub mod Placing
 pub mod Raised
 pub mod Followed
 pub mod Opened
+pub mod Taking

@@ -1,11 +1,11 @@
 -- What a joiner takes from a path secret.
-use Rattle.std.specs.Prelude.{◌≡◌, ℕ, not, ◌&&◌, ◌||◌, if◌then◌else◌, Bool, true, false, List, [], ◌∷◌, Option, Some, None, is_some, Result, Ok, Err}
+use Rattle.std.specs.Prelude.{◌≡◌, ℕ, nat_lt, not, ◌&&◌, ◌||◌, if◌then◌else◌, Bool, true, false, List, [], ◌∷◌, Option, Some, None, is_some, Result, Ok, Err}
 use Rattle.std.specs.Str.{bytes_eq}
 use Rattle.mls_wire.specs.Reading.{◌>>=◌}
 use Rattle.mls_leaf.specs.Parent.{Parent}
 use Rattle.mls_suite.specs.Crypto.{Crypto}
 use Rattle.mls_term.specs.Sets.{has}
-use Rattle.mls_term.specs.Term.{Term}
+use Rattle.mls_term.specs.Term.{Term, width}
 use Rattle.mls_term.specs.Way.{Step, way, is_beside}
 use Rattle.mls_treekem.specs.Chain.{next_secret, node_key, node_public}
 use Rattle.mls_treekem.specs.Keys.{Keys, rest, leaf_only}
@@ -49,6 +49,10 @@ is_complete j (s ∷ ss) (o ∷ ks) = is_due j s.parent o && is_complete j ss ks
 unfoldable pub take_keys : Crypto → Term → ℕ → ℕ → List ℕ → List ℕ → Result Climb ℕ
 take_keys c t i j sk secret =
     climb_take c (way 0 t i) j (leaf_only (way 0 t j) sk) secret >>= λ m. if is_complete j (way 0 t j) m.keys then Ok m else Err 35
+
+-- the same with any signer: 34 where it is outside the tree
+unfoldable pub take_answer : Crypto → Term → ℕ → ℕ → List ℕ → List ℕ → Result Climb ℕ
+take_answer c t i j sk secret = if nat_lt i (width t) then take_keys c t i j sk secret else Err 34
 
 -- ---- a tree that a joiner meets
 

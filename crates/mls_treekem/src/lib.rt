@@ -22,6 +22,7 @@ mod open;
 mod places;
 mod private_path;
 mod secrets;
+mod take;
 #[cfg(test)]
 mod tests;
 

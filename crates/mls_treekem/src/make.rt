@@ -17,7 +17,7 @@ fn height_of(node: u32) -> u32
 }
 
 /// Adds places with no key.
-fn push_none(count: usize, above: &mut Vec<Option<Secret>>) -> Result<(), OutOfMemory>
+pub(crate) fn push_none(count: usize, above: &mut Vec<Option<Secret>>) -> Result<(), OutOfMemory>
     ensures { OnOk result (above.new.items ≡ above.old.items ++ replicate count None) }
 {
     if count == 0 {

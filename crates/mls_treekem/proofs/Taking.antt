@@ -1,0 +1,239 @@
+-- What a joiner takes, as code goes over the parents.
+use Rattle.std.proofs.Common.{◌≡◌, ◌≢◌, ℕ, zero, suc, ◌+◌, ◌≤◌, ◌<◌, Bool, true, false, not, nat_eq, nat_lt, nat_le, ◌&&◌, ◌||◌, if◌then◌else◌, List, [], ◌∷◌, ◌++◌, length, map, reverse, replicate, Option, Some, None, is_some, Result, Ok, Err, refl, sym, subst, ◌∙◌, ap, ap₂, arith, lt-ltb, le-ltb}
+use Rattle.std.specs.List.{list_any}
+use Rattle.std.specs.Str.{bytes_eq}
+use Rattle.std.proofs.lemmas.Bool.{cond-true, cond-false}
+use Rattle.std.proofs.lemmas.List.{length-map, length-replicate, length-reverse}
+use Rattle.mls_wire.specs.Checks.{Answers}
+use Rattle.mls_wire.specs.Reading.{◌>>=◌}
+use Rattle.mls_leaf.specs.Parent.{Parent}
+use Rattle.mls_term.specs.Sets.{has}
+use Rattle.mls_term.specs.Term.{Term, width, is_perfect}
+use Rattle.mls_term.specs.Way.{Step, way, is_beside}
+use Rattle.mls_term.proofs.Shape.{width-perfect}
+use Rattle.mls_suite.specs.Crypto.{Crypto}
+use Rattle.mls_treekem.specs.declared.places.Place.{Place}
+use Rattle.mls_treekem.specs.Chain.{next_secret, node_key, node_public}
+use Rattle.mls_treekem.specs.Climbing.{with_own}
+use Rattle.mls_treekem.specs.Keys.{Keys, rest, leaf_only}
+use Rattle.mls_treekem.specs.Make.{Climb}
+use Rattle.mls_treekem.specs.Join.{past_present, is_present, climb_take, is_due, is_complete, take_keys, take_answer}
+use Rattle.mls_treekem.specs.Place.{subtree_at, step_of, IsPlaced, ArePlaced, IsWay}
+use Rattle.mls_treekem.proofs.Levels.{reverse-end, way_height}
+use Rattle.mls_treekem.proofs.Receiving.{bind_ok}
+use Rattle.mls_treekem.proofs.Joining.{sounds}
+
+-- ---- one place
+
+pub is_listed : (xs : List ℕ) (x : ℕ) → list_any (λ y. nat_eq y x) xs ≡ has xs x
+unfolding has
+is_listed [] x = refl
+is_listed (y ∷ ys) x = ap (λ b. nat_eq y x || b) (is_listed ys x)
+
+beside_is : (t : Term) (h j : ℕ) (p : Place) → IsPlaced t h p → (nat_le p.first j && nat_lt j (p.first + p.leaves)) ≡ is_beside (step_of t p) j
+unfolding step_of
+beside_is t h j p at = ap (λ n. nat_le p.first j && nat_lt j (p.first + n)) (at.leaves ∙ sym (width-perfect h (subtree_at t p.beside) at.perfect))
+
+pub is_there : (p : Option Parent) (there : Bool) (m : Climb) → there ≡ is_some p → there ≡ true → is_present p m ≡ Ok m
+is_there (Some p) there m e f = refl
+is_there None there m e f = cc
+
+pub is_blank : (p : Option Parent) (there : Bool) (m : Climb) → there ≡ is_some p → there ≡ false → is_present p m ≡ Err 34
+is_blank (Some p) there m e f = cc
+is_blank None there m e f = refl
+
+-- ---- no keys
+
+nones_end : (n : ℕ) → replicate {A = Option (List ℕ)} n None ++ (None ∷ []) ≡ None ∷ replicate n None
+nones_end zero = refl
+nones_end (suc n) = ap (λ zs. None ∷ zs) (nones_end n)
+
+nones_back : (n : ℕ) → reverse (replicate {A = Option (List ℕ)} n None) ≡ replicate n None
+nones_back zero = refl
+nones_back (suc n) = ap reverse (sym (nones_end n)) ∙ reverse-end (replicate n None) None ∙ ap (λ zs. None ∷ zs) (nones_back n)
+
+pub nones_pushed : (n : ℕ) (none ks : Keys) → none ≡ [] → ks ≡ none ++ replicate n None → reverse ks ≡ replicate n None
+nones_pushed n none ks e f = ap reverse (f ∙ ap (λ zs. zs ++ replicate n None) e) ∙ nones_back n
+
+only_is : (ss : List Step) (own : List ℕ) → leaf_only ss own ≡ replicate (length ss) None ++ (Some own ∷ [])
+unfolding leaf_only
+only_is [] own = refl
+only_is (s ∷ ss) own = ap (λ zs. None ∷ zs) (only_is ss own)
+
+-- ---- steps of a climb
+
+pub answers_by : {A B E : Type 0} (value : B → A) (number : E → ℕ) (x y : Result A ℕ) (r : Result B E) → x ≡ y → Answers value number y r → Answers value number x r
+answers_by value number x y r e h = subst (λ z. Answers value number z r) (sym e) h
+
+abbrev pub taken_over : Crypto → Term → ℕ → List ℕ → List Place → Result Climb ℕ
+taken_over c t j secret ps = climb_take c (map (step_of t) ps) j (replicate (length ps) None) secret
+
+module _ (c : Crypto) (t : Term) (j : ℕ) (secret : List ℕ) where
+  pub take_none : (ps : List Place) → ps ≡ [] → taken_over c t j secret ps ≡ Err 34
+  unfolding climb_take
+  take_none ps e = rw e refl
+
+  module _ (p : Place) (ps all : List Place) (is : all ≡ p ∷ ps) (placed : ArePlaced t all) (test : Bool) (test_is : test ≡ (nat_le p.first j && nat_lt j (p.first + p.leaves))) where
+    beside : test ≡ is_beside (step_of t p) j
+    unfolding ArePlaced
+    beside = let both : ArePlaced t (p ∷ ps) = subst (λ z. ArePlaced t z) is placed in test_is ∙ beside_is t (length ps) j p both.0
+
+    pub lower_placed : ArePlaced t ps
+    unfolding ArePlaced
+    lower_placed = let both : ArePlaced t (p ∷ ps) = subst (λ z. ArePlaced t z) is placed in both.1
+
+    pub take_here : test ≡ true → taken_over c t j secret all ≡ (is_present (step_of t p).parent (record { secret = secret; keys = replicate (length ps) None }) >>= λ m. past_present c j (step_of t p).parent m)
+    unfolding climb_take
+    take_here e = let b : is_beside (step_of t p) j ≡ true = sym beside ∙ e in rw (is, b) refl
+
+    pub take_below : test ≡ false → taken_over c t j secret all ≡ (taken_over c t j secret ps >>= λ m. past_present c j (step_of t p).parent m)
+    unfolding climb_take
+    take_below e = let b : is_beside (step_of t p) j ≡ false = sym beside ∙ e in rw (is, b) refl
+
+pub bound : {A B : Type 0} (x : Result A ℕ) (f : A → Result B ℕ) (y : A) → x ≡ Ok y → (x >>= f) ≡ f y
+bound x f y e = rw e refl
+
+pub unbound : {A B : Type 0} (x : Result A ℕ) (f : A → Result B ℕ) (n : ℕ) → x ≡ Err n → (x >>= f) ≡ Err n
+unbound x f n e = rw e refl
+
+-- ---- which keys are there
+
+module _ (t : Term) (j : ℕ) where
+  pub complete_none : (ps : List Place) (ks : Keys) → ps ≡ [] → true ≡ is_complete j (map (step_of t) ps) ks
+  unfolding is_complete
+  complete_none ps ks e = rw e refl
+
+  pub complete_short : (p : Place) (ps all : List Place) (ks : Keys) → all ≡ p ∷ ps → ks ≡ [] → false ≡ is_complete j (map (step_of t) all) (reverse ks)
+  unfolding is_complete
+  complete_short p ps all ks e f = rw (e, f) refl
+
+  module _ (p : Place) (ps all : List Place) (o : Option (List ℕ)) (ks top : Keys) (is : all ≡ p ∷ ps) (keys_are : top ≡ ks ++ (o ∷ [])) (due : Bool) (due_is : due ≡ is_due j (step_of t p).parent o) where
+    complete_more : is_complete j (map (step_of t) all) (reverse top) ≡ (is_due j (step_of t p).parent o && is_complete j (map (step_of t) ps) (reverse ks))
+    unfolding is_complete
+    complete_more = ap₂ (λ qs zs. is_complete j (map (step_of t) qs) zs) is (ap reverse keys_are ∙ reverse-end ks o)
+
+    pub complete_here : (lower : Bool) → due ≡ true → lower ≡ is_complete j (map (step_of t) ps) (reverse ks) → lower ≡ is_complete j (map (step_of t) all) (reverse top)
+    complete_here lower d e = e ∙ sym (complete_more ∙ ap (λ b. b && is_complete j (map (step_of t) ps) (reverse ks)) (sym due_is ∙ d))
+
+    pub complete_not : due ≡ false → due ≡ is_complete j (map (step_of t) all) (reverse top)
+    complete_not d = d ∙ sym (complete_more ∙ ap (λ b. b && is_complete j (map (step_of t) ps) (reverse ks)) (sym due_is ∙ d))
+
+complete_with : (j : ℕ) (ss : List Step) (ks zs : Keys) → length ks ≡ length ss → is_complete j ss (ks ++ zs) ≡ is_complete j ss ks
+unfolding is_complete
+complete_with j [] ks zs e = refl
+complete_with j (s ∷ ss) [] zs e = absurd (omega arith)
+complete_with j (s ∷ ss) (o ∷ ks) zs e = ap (λ b. is_due j s.parent o && b) (complete_with j ss ks zs (omega arith))
+
+-- ---- a climb with the leaf's key below
+
+abbrev owned : List ℕ → Result Climb ℕ → Result Climb ℕ
+owned own (Ok m) = Ok (with_own own m)
+owned own (Err e) = Err e
+
+abbrev up : Crypto → Climb → Climb
+up c m = record { secret = next_secret m.secret; keys = Some (node_key c m.secret) ∷ m.keys }
+
+module _ (c : Crypto) (j : ℕ) (own : List ℕ) where
+  parent_with : (p : Option Parent) (m : Climb) → past_present c j p (with_own own m) ≡ owned own (past_present c j p m)
+  parent_with None m = refl
+  parent_with (Some p) m = by_test (not (has p.unmerged_leaves j) && bytes_eq (node_public c m.secret) p.encryption_key)
+    where
+      by_test : (t : Bool) → if◌then◌else◌ {A = Result Climb ℕ} t (Ok (up c (with_own own m))) (Err 34) ≡ owned own (if◌then◌else◌ {A = Result Climb ℕ} t (Ok (up c m)) (Err 34))
+      by_test true = refl
+      by_test false = refl
+
+  past_with : (p : Option Parent) (r : Result Climb ℕ) → (owned own r >>= λ m. past_present c j p m) ≡ owned own (r >>= λ m. past_present c j p m)
+  past_with p (Ok m) = parent_with p m
+  past_with p (Err e) = refl
+
+  take_with : (ss : List Step) (ks : Keys) (secret : List ℕ) → length ks ≡ length ss → climb_take c ss j (ks ++ (Some own ∷ [])) secret ≡ owned own (climb_take c ss j ks secret)
+  unfolding climb_take
+  take_with [] ks secret e = refl
+  take_with (s ∷ ss) [] secret e = absurd (omega arith)
+  take_with (s ∷ ss) (o ∷ ks) secret e =
+      ap (λ r. r >>= λ m. past_present c j s.parent m) (by_side (is_beside s j) s.parent (take_with ss ks secret (omega arith)))
+      ∙ past_with s.parent (if is_beside s j then is_present s.parent (record { secret = secret; keys = ks }) else climb_take c ss j ks secret)
+    where
+      by_side : (t : Bool) (p : Option Parent) → climb_take c ss j (ks ++ (Some own ∷ [])) secret ≡ owned own (climb_take c ss j ks secret) →
+          (if t then is_present p (record { secret = secret; keys = ks ++ (Some own ∷ []) }) else climb_take c ss j (ks ++ (Some own ∷ [])) secret)
+          ≡ owned own (if t then is_present p (record { secret = secret; keys = ks }) else climb_take c ss j ks secret)
+      by_side true None rec = refl
+      by_side true (Some p) rec = refl
+      by_side false p rec = rec
+
+same_present : (p : Option Parent) (m m' : Climb) → is_present p m ≡ Ok m' → m ≡ m'
+same_present None m m' h = cc
+same_present (Some p) m m' h = cc
+
+take_length : (c : Crypto) (j : ℕ) (ss : List Step) (ks : Keys) (secret : List ℕ) (m : Climb) → length ks ≡ length ss → climb_take c ss j ks secret ≡ Ok m → length m.keys ≡ length ss
+unfolding climb_take
+take_length c j [] ks secret m e h = cc
+take_length c j (s ∷ ss) [] secret m e h = absurd (omega arith)
+take_length c j (s ∷ ss) (o ∷ ks) secret m e h =
+    let b = bind_ok (if is_beside s j then is_present s.parent (record { secret = secret; keys = ks }) else climb_take c ss j ks secret) (λ z. past_present c j s.parent z) m h in
+    let p = sounds c j s.parent b.0 m b.2 in
+    let n : length ks ≡ length ss = omega arith in
+    ap length p.keys_are ∙ ap suc (by_side (is_beside s j) b.0 b.1 n (take_length c j ss ks secret b.0 n))
+  where
+    by_side : (t : Bool) (m0 : Climb) → (if t then is_present s.parent (record { secret = secret; keys = ks }) else climb_take c ss j ks secret) ≡ Ok m0 → length ks ≡ length ss →
+        (climb_take c ss j ks secret ≡ Ok m0 → length m0.keys ≡ length ss) → length m0.keys ≡ length ss
+    by_side true m0 f n rec =
+        let made : Climb = record { secret = secret; keys = ks } in
+        ap (λ (z : Climb). length z.keys) (sym (same_present s.parent made m0 f)) ∙ n
+    by_side false m0 f n rec = rec f
+
+-- ---- the whole of it
+
+pub take_outside : (c : Crypto) (t : Term) (i j : ℕ) (own secret : List ℕ) → width t ≤ i → take_answer c t i j own secret ≡ Err 34
+unfolding take_answer
+take_outside c t i j own secret ge = cond-false _ _ _ (le-ltb i (width t) ge)
+
+module _ (c : Crypto) (h : ℕ) (t : Term) (perfect : is_perfect h t ≡ true) (i j leaf : ℕ) (leaf_is : j ≡ leaf) (own secret : List ℕ) (ps qs : List Place) (signers : IsWay t i ps) (joiners : IsWay t j qs) (inside : i < width t) where
+  length_is : (k : ℕ) (rs : List Place) → IsWay t k rs → length rs ≡ h
+  length_is k rs w = sym (length-map rs (step_of t)) ∙ ap length w.steps ∙ way_height h 0 t k perfect
+
+  nones_long : length (replicate {A = Option (List ℕ)} (length ps) None) ≡ length (map (step_of t) ps)
+  nones_long = length-replicate (length ps) None ∙ sym (length-map ps (step_of t))
+
+  only_own : leaf_only (way 0 t j) own ≡ replicate (length ps) None ++ (Some own ∷ [])
+  only_own = only_is (way 0 t j) own ∙ ap (λ n. replicate n None ++ (Some own ∷ [])) (way_height h 0 t j perfect ∙ sym (length_is i ps signers))
+
+  climb_is : climb_take c (way 0 t i) j (leaf_only (way 0 t j) own) secret ≡ owned own (taken_over c t j secret ps)
+  climb_is =
+      ap₂ (λ ss ks. climb_take c ss j ks secret) (sym signers.steps) only_own
+      ∙ take_with c j own (map (step_of t) ps) (replicate (length ps) None) secret nones_long
+
+  checked : Climb → Result Climb ℕ
+  checked m = if is_complete j (way 0 t j) m.keys then Ok m else Err 35
+
+  take_is : take_answer c t i leaf own secret ≡ (owned own (taken_over c t j secret ps) >>= λ m. checked m)
+  unfolding take_answer take_keys checked
+  take_is =
+      ap (λ k. take_answer c t i k own secret) (sym leaf_is)
+      ∙ cond-true _ _ _ (lt-ltb i (width t) inside)
+      ∙ ap (λ r. r >>= λ m. checked m) climb_is
+
+  keys_long : (m : Climb) → taken_over c t j secret ps ≡ Ok m → length m.keys ≡ length ps
+  keys_long m e = take_length c j (map (step_of t) ps) (replicate (length ps) None) secret m nones_long e ∙ length-map ps (step_of t)
+
+  checked_is : (m : Climb) (done : Bool) → taken_over c t j secret ps ≡ Ok m → done ≡ is_complete j (map (step_of t) qs) m.keys → checked (with_own own m) ≡ (if done then Ok (with_own own m) else Err 35)
+  unfolding checked
+  checked_is m done e is =
+      let long : length m.keys ≡ length (way 0 t j) = keys_long m e ∙ length_is i ps signers ∙ sym (way_height h 0 t j perfect) in
+      ap (λ b. if◌then◌else◌ {A = Result Climb ℕ} b (Ok (with_own own m)) (Err 35))
+      (complete_with j (way 0 t j) m.keys (Some own ∷ []) long ∙ sym (is ∙ ap (λ ss. is_complete j ss m.keys) joiners.steps))
+
+  taken_is : (m : Climb) (done : Bool) → taken_over c t j secret ps ≡ Ok m → done ≡ is_complete j (map (step_of t) qs) m.keys → take_answer c t i leaf own secret ≡ (if done then Ok (with_own own m) else Err 35)
+  taken_is m done e is = take_is ∙ ap (λ r. owned own r >>= λ z. checked z) e ∙ checked_is m done e is
+
+  pub take_whole : (m : Climb) (done : Bool) → taken_over c t j secret ps ≡ Ok m → done ≡ is_complete j (map (step_of t) qs) m.keys → done ≡ true → take_answer c t i leaf own secret ≡ Ok (with_own own m)
+  take_whole m done e is d = taken_is m done e is ∙ cond-true _ _ _ d
+
+  pub take_missing : (m : Climb) (done : Bool) → taken_over c t j secret ps ≡ Ok m → done ≡ is_complete j (map (step_of t) qs) m.keys → done ≡ false → take_answer c t i leaf own secret ≡ Err 35
+  take_missing m done e is d = taken_is m done e is ∙ cond-false _ _ _ d
+
+  pub take_refused : (n : ℕ) → taken_over c t j secret ps ≡ Err n → take_answer c t i leaf own secret ≡ Err n
+  take_refused n e = take_is ∙ ap (λ r. owned own r >>= λ z. checked z) e
+
+  pub take_low : (m : Climb) (ks : Keys) → taken_over c t j secret ps ≡ Ok m → m.keys ≡ reverse ks → length ks ≤ 31
+  take_low m ks e is = let n : length ks ≡ length ps = sym (length-reverse ks) ∙ ap length (sym is) ∙ keys_long m e in let low = signers.low in omega arith

@@ -1,0 +1,11 @@
+use Rattle.std.proofs.Common.{◌∙◌, ap, sym, Ok}
+use Rattle.mls_treekem.specs.Keys.{Keys}
+use Rattle.mls_treekem.specs.Make.{Climb}
+use Rattle.mls_treekem.proofs.Taking.{is_there, nones_pushed}
+use Rattle.mls_treekem.proofs.take.start.Goals as goal
+
+pub returns : goal.returns
+returns c =
+    let at : Keys → Climb = λ zs. record { secret = c.args.secret.now; keys = zs } in
+    is_there _ _ _ c.is_present.ensures c.if-not-is_present.false
+    ∙ ap (λ zs. Ok (at zs)) (sym (nones_pushed c.args.height _ _ c.new-above.ensures.items c.in_ok-push_none.ensures))

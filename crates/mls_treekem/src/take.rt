@@ -1,0 +1,168 @@
+//! What a joiner takes from a path secret.
+
+ghost use Rattle.std.specs.Prelude.{◌≡◌, ◌≤◌, length, map, replicate, reverse, None, IfOk, OnErr};
+ghost use Rattle.std.specs.Option.{option_copied};
+ghost use Rattle.mls_wire.specs.Checks.{Answers};
+ghost use Rattle.mls_term.specs.Sets.{has};
+ghost use Rattle.mls_tree.specs.Tree.{term};
+ghost use Rattle.mls_treekem.specs.Climbing.{climb_of, with_own};
+ghost use Rattle.mls_treekem.specs.Faults.{number_of};
+ghost use Rattle.mls_treekem.specs.Join.{past_present, is_present, climb_take, is_due, is_complete, take_answer};
+ghost use Rattle.mls_treekem.specs.Made.{taken_by};
+ghost use Rattle.mls_treekem.specs.Place.{step_of, ArePlaced};
+
+use crate::climb::Climb;
+use crate::make::push_none;
+use crate::places::{Place, parents_over};
+use crate::{PrivatePath, TreeKemError};
+use mls_kdf::Secret;
+use mls_leaf::ParentNode;
+use mls_suite::Suite;
+use mls_tree::PublicTree;
+use std::alloc::Global;
+
+/// Whether a parent lists a leaf as unmerged.
+fn lists(parent: &ParentNode, leaf: u32) -> bool
+    ensures { result ≡ has parent.now.unmerged_leaves leaf }
+{
+    parent.unmerged_leaves().contains(&leaf)
+}
+
+/// The climb at the parent where the ways part, which is so far above the leaves: 34 where it is blank.
+fn start(
+    alloc: Global,
+    tree: &PublicTree,
+    place: &Place,
+    height: usize,
+    secret: &Secret,
+) -> Result<Climb, TreeKemError>
+    ensures { Answers climb_of number_of (is_present (step_of (term tree.now) place.now).parent (record { secret = secret.now; keys = replicate height None })) result }
+{
+    if !place.is_present(tree) {
+        return Err(TreeKemError::PathKeyMismatch);
+    }
+    let mut above = Vec::new(alloc);
+    push_none(height, &mut above)?;
+    Ok(Climb {
+        secret: *secret,
+        above,
+    })
+}
+
+/// The climb past a parent: a blank one takes no step; 34 where another one lists the joiner or hasn't the derived key.
+fn past_parent<S: Suite>(
+    tree: &PublicTree,
+    place: &Place,
+    joiner: u32,
+    climb: Climb,
+) -> Result<Climb, TreeKemError>
+    ensures { Answers climb_of number_of (past_present S.crypto joiner (step_of (term tree.now) place.now).parent (climb_of climb)) result }
+{
+    let Some(parent) = place.parent(tree) else {
+        return Ok(climb.past_blank()?);
+    };
+    if lists(parent, joiner) {
+        return Err(TreeKemError::PathKeyMismatch);
+    }
+    climb.past_key::<S>(parent.encryption_key())
+}
+
+/// The joiner's climb over the parents above the signer, from the one where the ways part: 34 where there is none.
+fn climb_along<S: Suite>(
+    alloc: Global,
+    tree: &PublicTree,
+    places: &[Place],
+    joiner: u32,
+    secret: &Secret,
+) -> Result<Climb, TreeKemError>
+    requires { ArePlaced (term tree.now) places.now }
+    ensures { Answers climb_of number_of (climb_take S.crypto (map (step_of (term tree.now)) places.now) joiner (replicate (length places.now) None) secret.now) result }
+{
+    let Some((place, lower)) = places.split_first() else {
+        return Err(TreeKemError::PathKeyMismatch);
+    };
+    if place.is_beside(joiner) {
+        return match start(alloc, tree, place, lower.len(), secret) {
+            Ok(climb) => past_parent::<S>(tree, place, joiner, climb),
+            Err(error) => Err(error),
+        };
+    }
+    match climb_along::<S>(alloc, tree, lower, joiner, secret) {
+        Ok(climb) => past_parent::<S>(tree, place, joiner, climb),
+        Err(error) => Err(error),
+    }
+}
+
+/// Whether a parent is blank, lists the joiner, or has a key.
+fn is_due(parent: Option<&ParentNode>, joiner: u32, key: &Option<Secret>) -> bool
+    ensures { result ≡ is_due joiner (option_copied parent.entry) key.now }
+{
+    match parent {
+        Some(parent) => lists(parent, joiner) || key.is_some(),
+        None => true,
+    }
+}
+
+/// Whether so is each of these parents; their keys come the lowest one's first.
+fn is_complete(tree: &PublicTree, places: &[Place], joiner: u32, above: &[Option<Secret>]) -> bool
+    ensures { result ≡ is_complete joiner (map (step_of (term tree.now)) places.now) (reverse above.now) }
+{
+    let Some((place, lower)) = places.split_first() else {
+        return true;
+    };
+    let Some((key, lower_keys)) = above.split_last() else {
+        return false;
+    };
+    is_due(place.parent(tree), joiner, key) && is_complete(tree, lower, joiner, lower_keys)
+}
+
+impl PrivatePath {
+    /// What the member takes.
+    fn taken<S: Suite>(
+        &self,
+        tree: &PublicTree,
+        signer: u32,
+        secret: &Secret,
+    ) -> Result<Climb, TreeKemError>
+        ensures answer { Answers (λ m. with_own self.now.own (climb_of m)) number_of (take_answer S.crypto (term tree.now) signer self.now.leaf self.now.own secret.now) result }
+        ensures low { IfOk result (λ m. length m.above.items ≤ 31) }
+    {
+        if signer >= tree.leaf_count() {
+            return Err(TreeKemError::PathKeyMismatch);
+        }
+        let alloc = *self.above.allocator();
+        let joiner = self.leaf();
+        let signers = parents_over(alloc, tree, signer)?;
+        let joiners = parents_over(alloc, tree, joiner)?;
+        let climb = match climb_along::<S>(alloc, tree, &signers, joiner, secret) {
+            Ok(climb) => climb,
+            Err(error) => return Err(error),
+        };
+        if !is_complete(tree, &joiners, joiner, &climb.above) {
+            return Err(TreeKemError::KeyMissing);
+        }
+        Ok(climb)
+    }
+
+    /// Takes a path secret as a joiner, in a whole tree with the signer's path: the secret is that of the parent where the
+    /// ways of signer and joiner part, from there up each parent that isn't blank takes a step, and the keys that were
+    /// held above the leaf are dropped (RFC 9420, 12.4.3.1). Answers the commit secret. Refused with `PathKeyMismatch` (34)
+    /// where the signer is outside the tree or the joiner itself, the first of those parents is blank, or one lists the
+    /// joiner or has another public key than the derived one; then with `KeyMissing` (35) where a parent over the joiner
+    /// isn't blank, doesn't list it and got no key. After a refusal the keys are as before.
+    pub fn take_secret<S: Suite>(
+        &mut self,
+        tree: &PublicTree,
+        signer: u32,
+        secret: &Secret,
+    ) -> Result<Secret, TreeKemError>
+        ensures answer { Answers (taken_by self.new) number_of (take_answer S.crypto (term tree.now) signer self.old.leaf self.old.own secret.now) result }
+        ensures leaf { self.new.leaf ≡ self.old.leaf }
+        ensures own { self.new.own ≡ self.old.own }
+        ensures err { OnErr result (self.new ≡ self.old) }
+    {
+        let Climb { secret, above } = self.taken::<S>(tree, signer, secret)?;
+        self.above = above;
+        Ok(secret)
+    }
+}
