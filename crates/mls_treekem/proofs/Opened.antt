@@ -18,7 +18,7 @@ use Rattle.mls_term.specs.Places.{resolution_at}
 use Rattle.mls_term.specs.Resolution.{is_empty}
 use Rattle.mls_term.specs.Way.{Step, way, is_filtered, is_beside}
 use Rattle.mls_term.specs.Equations.{way_leaf, way_left, way_right}
-use Rattle.mls_term.proofs.Shape.{size-width, width-perfect}
+use Rattle.mls_term.specs.ShapeLaws.{size-width, width-perfect}
 use Rattle.mls_treekem.specs.declared.climb.Climb.{Climb as Standing}
 use Rattle.mls_treekem.specs.declared.places.Place.{Place}
 use Rattle.mls_treekem.specs.Climbing.{climb_of, with_own}

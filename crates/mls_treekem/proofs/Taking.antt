@@ -10,7 +10,7 @@ use Rattle.mls_leaf.specs.Parent.{Parent}
 use Rattle.mls_term.specs.Sets.{has}
 use Rattle.mls_term.specs.Term.{Term, width, is_perfect}
 use Rattle.mls_term.specs.Way.{Step, way, is_beside}
-use Rattle.mls_term.proofs.Shape.{width-perfect}
+use Rattle.mls_term.specs.ShapeLaws.{width-perfect}
 use Rattle.mls_suite.specs.Crypto.{Crypto}
 use Rattle.mls_treekem.specs.declared.places.Place.{Place}
 use Rattle.mls_treekem.specs.Chain.{next_secret, node_key, node_public}

@@ -1,5 +1,5 @@
 use Rattle.std.proofs.Common.{Ok, reverse, sym, ◌∙◌, ap}
-use Rattle.mls_term.proofs.Arrays.{perfect-term_of}
+use Rattle.mls_term.specs.ArrayLaws.{perfect-term_of}
 use Rattle.mls_tree.specs.Tree.{term}
 use Rattle.mls_treekem.specs.Climbing.{climb_of, with_own}
 use Rattle.mls_treekem.proofs.Followed.{way_read}
