@@ -60,7 +60,8 @@ tally_count x (y ∷ ys) =
     let rest = tally_count x ys in
     elim (cases_Bool (y == x)) [ inl t ↦ rw t (omega arith) | inr t ↦ rw t (omega arith) ]
 
-count_some : (xs : List ℕ) (x : ℕ) → has xs x ≡ true → 0 < count nat_eq x xs
+-- a number that a list has is there at least once
+pub count_some : (xs : List ℕ) (x : ℕ) → has xs x ≡ true → 0 < count nat_eq x xs
 unfolding has count
 count_some [] x h = absurd (true≢false (sym h))
 count_some (y ∷ ys) x h =

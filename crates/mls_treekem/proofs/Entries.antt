@@ -16,6 +16,7 @@ use Rattle.mls_term.specs.SetLaws.{eqb_refl, of_leaf_numbers, has-leaf_numbers}
 use Rattle.mls_term.specs.ShapeLaws.{size-width}
 use Rattle.mls_term.specs.ParentLaws.{parents_parts}
 use Rattle.mls_term.specs.CountLaws.{count_none, count_once}
+use Rattle.mls_term.specs.EntryLaws.{count_some}
 use Rattle.mls_suite.specs.Crypto.{Crypto}
 use Rattle.mls_treekem.specs.Keys.{Keys, HoldsKey, Fits, IsOwnKey, Along, AlongWay, Exact, key_for, key_in}
 use Rattle.mls_treekem.specs.Make.{one_if}
@@ -144,15 +145,6 @@ held_at f x (d ∷ ds) h =
     more : (t : Bool) → held_count f ds ≡ count nat_eq x ds → one_if t (held_count f ds) ≡ cond t 1 0 + count nat_eq x ds
     more true e = omega arith
     more false e = omega arith
-
-count_some : (xs : List ℕ) (x : ℕ) → has xs x ≡ true → 0 < count nat_eq x xs
-unfolding has count
-count_some [] x h = absurd (true≢false (sym h))
-count_some (y ∷ ys) x h =
-    elim (cases_Bool (y == x)) [
-      | inl t ↦ rw t (omega arith)
-      | inr t ↦ rw t (let rest = count_some ys x (sym (ap (λ v. v || has ys x) t) ∙ h) in omega arith)
-    ]
 
 -- ---- the one entry
 
