@@ -1,5 +1,5 @@
 -- What a joiner takes, as code goes over the parents.
-use Rattle.std.proofs.Common.{◌≡◌, ◌≢◌, ℕ, zero, suc, ◌+◌, ◌≤◌, ◌<◌, Bool, true, false, not, nat_eq, nat_lt, nat_le, ◌&&◌, ◌||◌, if◌then◌else◌, List, [], ◌∷◌, ◌++◌, length, map, reverse, replicate, Option, Some, None, is_some, Result, Ok, Err, refl, sym, subst, ◌∙◌, ap, ap₂, arith, lt-ltb, le-ltb}
+use Rattle.std.proofs.Common.{◌≡◌, ℕ, zero, suc, ◌+◌, ◌≤◌, ◌<◌, Bool, true, false, not, nat_eq, nat_lt, nat_le, ◌&&◌, ◌||◌, if◌then◌else◌, List, [], ◌∷◌, ◌++◌, length, map, reverse, replicate, Option, Some, None, is_some, Result, Ok, Err, refl, sym, subst, ◌∙◌, ap, ap₂, arith, lt-ltb, le-ltb}
 use Rattle.std.specs.List.{list_any}
 use Rattle.std.specs.Str.{bytes_eq}
 use Rattle.std.proofs.lemmas.Bool.{cond-true, cond-false}
@@ -15,7 +15,7 @@ use Rattle.mls_suite.specs.Crypto.{Crypto}
 use Rattle.mls_treekem.specs.declared.places.Place.{Place}
 use Rattle.mls_treekem.specs.Chain.{next_secret, node_key, node_public}
 use Rattle.mls_treekem.specs.Climbing.{with_own}
-use Rattle.mls_treekem.specs.Keys.{Keys, rest, leaf_only}
+use Rattle.mls_treekem.specs.Keys.{Keys, leaf_only}
 use Rattle.mls_treekem.specs.Make.{Climb}
 use Rattle.mls_treekem.specs.Join.{past_present, is_present, climb_take, is_due, is_complete, take_keys, take_answer}
 use Rattle.mls_treekem.specs.Place.{subtree_at, step_of, IsPlaced, ArePlaced, IsWay}
