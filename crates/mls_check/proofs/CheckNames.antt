@@ -5,7 +5,7 @@ use Rattle.mls_check.specs.CheckFaults.{name_of, number_of}
 use Rattle.mls_check.specs.declared.check_error.CheckError.{CheckError}
 use Rattle.mls_check.specs.declared.check_error.CheckError.TheVariants.{OutOfMemory, NotHex, Decoding, Tree}
 use Rattle.mls_text.specs.Page.{refusal_name}
-use Rattle.mls_text.proofs.Names.{named as leaf_named}
+use Rattle.mls_text.specs.Names.{named as leaf_named}
 
 pub named : (e : CheckError) → name_of e ≡ refusal_name (number_of e)
 unfolding refusal_name

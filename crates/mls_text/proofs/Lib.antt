@@ -1,3 +1,1 @@
 mod Trims
-pub mod Parts
-pub mod Names

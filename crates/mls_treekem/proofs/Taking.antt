@@ -1,5 +1,5 @@
 -- What a joiner takes, as code goes over the parents.
-use Rattle.std.proofs.Common.{◌≡◌, ◌≢◌, ℕ, zero, suc, ◌+◌, ◌≤◌, ◌<◌, Bool, true, false, not, nat_eq, nat_lt, nat_le, ◌&&◌, ◌||◌, if◌then◌else◌, List, [], ◌∷◌, ◌++◌, length, map, reverse, replicate, Option, Some, None, is_some, Result, Ok, Err, refl, sym, subst, ◌∙◌, ap, ap₂, arith, lt-ltb, le-ltb}
+use Rattle.std.proofs.Common.{◌≡◌, ℕ, zero, suc, ◌+◌, ◌≤◌, ◌<◌, Bool, true, false, not, nat_eq, nat_lt, nat_le, ◌&&◌, ◌||◌, if◌then◌else◌, List, [], ◌∷◌, ◌++◌, length, map, reverse, replicate, Option, Some, None, is_some, Result, Ok, Err, refl, sym, subst, ◌∙◌, ap, ap₂, arith, lt-ltb, le-ltb}
 use Rattle.std.specs.List.{list_any}
 use Rattle.std.specs.Str.{bytes_eq}
 use Rattle.std.proofs.lemmas.Bool.{cond-true, cond-false}
@@ -14,8 +14,11 @@ use Rattle.mls_term.specs.ShapeLaws.{width-perfect}
 use Rattle.mls_suite.specs.Crypto.{Crypto}
 use Rattle.mls_treekem.specs.declared.places.Place.{Place}
 use Rattle.mls_treekem.specs.Chain.{next_secret, node_key, node_public}
-use Rattle.mls_treekem.specs.Climbing.{with_own}
-use Rattle.mls_treekem.specs.Keys.{Keys, rest, leaf_only}
+use Rattle.mls_treekem.specs.declared.climb.Climb.{Climb as Standing}
+use Rattle.mls_treekem.specs.declared.error.TreeKemError.{TreeKemError}
+use Rattle.mls_treekem.specs.Climbing.{climb_of, with_own}
+use Rattle.mls_treekem.specs.Faults.{number_of}
+use Rattle.mls_treekem.specs.Keys.{Keys, leaf_only}
 use Rattle.mls_treekem.specs.Make.{Climb}
 use Rattle.mls_treekem.specs.Join.{past_present, is_present, climb_take, is_due, is_complete, take_keys, take_answer}
 use Rattle.mls_treekem.specs.Place.{subtree_at, step_of, IsPlaced, ArePlaced, IsWay}
@@ -62,9 +65,6 @@ only_is (s ∷ ss) own = ap (λ zs. None ∷ zs) (only_is ss own)
 
 -- ---- steps of a climb
 
-pub answers_by : {A B E : Type 0} (value : B → A) (number : E → ℕ) (x y : Result A ℕ) (r : Result B E) → x ≡ y → Answers value number y r → Answers value number x r
-answers_by value number x y r e h = subst (λ z. Answers value number z r) (sym e) h
-
 abbrev pub taken_over : Crypto → Term → ℕ → List ℕ → List Place → Result Climb ℕ
 taken_over c t j secret ps = climb_take c (map (step_of t) ps) j (replicate (length ps) None) secret
 
@@ -82,19 +82,34 @@ module _ (c : Crypto) (t : Term) (j : ℕ) (secret : List ℕ) where
     unfolding ArePlaced
     lower_placed = let both : ArePlaced t (p ∷ ps) = subst (λ z. ArePlaced t z) is placed in both.1
 
-    pub take_here : test ≡ true → taken_over c t j secret all ≡ (is_present (step_of t p).parent (record { secret = secret; keys = replicate (length ps) None }) >>= λ m. past_present c j (step_of t p).parent m)
+    abbrev past : Climb → Result Climb ℕ
+    past m = past_present c j (step_of t p).parent m
+
+    abbrev start : Result Climb ℕ
+    start = is_present (step_of t p).parent (record { secret = secret; keys = replicate (length ps) None })
+
+    take_here : test ≡ true → taken_over c t j secret all ≡ (start >>= λ m. past m)
     unfolding climb_take
     take_here e = let b : is_beside (step_of t p) j ≡ true = sym beside ∙ e in rw (is, b) refl
 
-    pub take_below : test ≡ false → taken_over c t j secret all ≡ (taken_over c t j secret ps >>= λ m. past_present c j (step_of t p).parent m)
+    take_below : test ≡ false → taken_over c t j secret all ≡ (taken_over c t j secret ps >>= λ m. past m)
     unfolding climb_take
     take_below e = let b : is_beside (step_of t p) j ≡ false = sym beside ∙ e in rw (is, b) refl
 
-pub bound : {A B : Type 0} (x : Result A ℕ) (f : A → Result B ℕ) (y : A) → x ≡ Ok y → (x >>= f) ≡ f y
-bound x f y e = rw e refl
+    goes_on : (x : Result Climb ℕ) (m : Standing) (r : Result Standing TreeKemError) → taken_over c t j secret all ≡ (x >>= λ m. past m) → x ≡ Ok (climb_of m) → Answers climb_of number_of (past (climb_of m)) r → Answers climb_of number_of (taken_over c t j secret all) r
+    goes_on x m r e f h = subst (λ z. Answers climb_of number_of z r) (sym (e ∙ ap (λ y. y >>= λ m. past m) f)) h
 
-pub unbound : {A B : Type 0} (x : Result A ℕ) (f : A → Result B ℕ) (n : ℕ) → x ≡ Err n → (x >>= f) ≡ Err n
-unbound x f n e = rw e refl
+    pub from_here : test ≡ true → (m : Standing) (r : Result Standing TreeKemError) → start ≡ Ok (climb_of m) → Answers climb_of number_of (past (climb_of m)) r → Answers climb_of number_of (taken_over c t j secret all) r
+    from_here e m r f h = goes_on start m r (take_here e) f h
+
+    pub from_below : test ≡ false → (m : Standing) (r : Result Standing TreeKemError) → taken_over c t j secret ps ≡ Ok (climb_of m) → Answers climb_of number_of (past (climb_of m)) r → Answers climb_of number_of (taken_over c t j secret all) r
+    from_below e m r f h = goes_on (taken_over c t j secret ps) m r (take_below e) f h
+
+    pub not_here : test ≡ true → (n : ℕ) → start ≡ Err n → taken_over c t j secret all ≡ Err n
+    not_here e n f = take_here e ∙ ap (λ y. y >>= λ m. past m) f
+
+    pub not_below : test ≡ false → (n : ℕ) → taken_over c t j secret ps ≡ Err n → taken_over c t j secret all ≡ Err n
+    not_below e n f = take_below e ∙ ap (λ y. y >>= λ m. past m) f
 
 -- ---- which keys are there
 

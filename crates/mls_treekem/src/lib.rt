@@ -24,6 +24,8 @@ mod private_path;
 mod secrets;
 mod take;
 #[cfg(test)]
+mod take_tests;
+#[cfg(test)]
 mod tests;
 
 pub use error::TreeKemError;

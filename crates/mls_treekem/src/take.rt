@@ -147,7 +147,7 @@ impl PrivatePath {
     /// Takes a path secret as a joiner, in a whole tree with the signer's path: the secret is that of the parent where the
     /// ways of signer and joiner part, from there up each parent that isn't blank takes a step, and the keys that were
     /// held above the leaf are dropped (RFC 9420, 12.4.3.1). Answers the commit secret. Refused with `PathKeyMismatch` (34)
-    /// where the signer is outside the tree or the joiner itself, the first of those parents is blank, or one lists the
+    /// where signer and joiner are not two leaves of the tree, the first of those parents is blank, or one lists the
     /// joiner or has another public key than the derived one; then with `KeyMissing` (35) where a parent over the joiner
     /// isn't blank, doesn't list it and got no key. After a refusal the keys are as before.
     pub fn take_secret<S: Suite>(

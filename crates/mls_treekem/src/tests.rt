@@ -32,7 +32,7 @@ fn new_path(rt: HostRuntime) -> Result<(), Fail> {
 }
 
 /// The numbers of the nodes that it has keys of.
-fn key_nodes(alloc: Global, path: &PrivatePath) -> Result<Vec<u64>, AllocError> {
+pub(crate) fn key_nodes(alloc: Global, path: &PrivatePath) -> Result<Vec<u64>, AllocError> {
     let mut nodes = Vec::new(alloc);
     for (node, _) in path.keys()?.iter() {
         nodes.push(*node)?;
@@ -40,7 +40,7 @@ fn key_nodes(alloc: Global, path: &PrivatePath) -> Result<Vec<u64>, AllocError> 
     Ok(nodes)
 }
 
-fn key_at(keys: &[(u64, Secret)], i: usize) -> Secret {
+pub(crate) fn key_at(keys: &[(u64, Secret)], i: usize) -> Secret {
     match keys.get(i) {
         Some(key) => key.1,
         None => [0; 32],
@@ -81,7 +81,7 @@ fn numbers(alloc: Global) -> Items<u16> {
     Items::from_vec(Vec::new(alloc))
 }
 
-fn member(alloc: Global, key: u8) -> Result<LeafNode, AllocError> {
+pub(crate) fn member(alloc: Global, key: u8) -> Result<LeafNode, AllocError> {
     Ok(LeafNode {
         encryption_key: byte(alloc, key)?,
         signature_key: byte(alloc, key)?,

@@ -1,5 +1,5 @@
 use Rattle.std.proofs.Common.{◌∙◌}
-use Rattle.mls_text.proofs.Names.{named}
+use Rattle.mls_text.specs.Names.{named}
 use Rattle.mls_show.proofs.name_of.Goals as goal
 
 pub returns : goal.returns

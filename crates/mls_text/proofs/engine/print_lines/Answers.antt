@@ -1,6 +1,6 @@
 use Rattle.std.proofs.Common.{arith}
 use Rattle.mls_text.specs.Text.{entry_of, line_text}
-use Rattle.mls_text.proofs.Parts.{part_of_lines}
+use Rattle.mls_text.specs.Parts.{part_of_lines}
 use Rattle.mls_text.proofs.engine.print_lines.Goals as goal
 
 pub returns-in_err-print_line-clause-part : goal.returns-in_err-print_line-clause-part

@@ -1,5 +1,5 @@
 use Rattle.std.proofs.Common.{List, ℕ, ap, Bor}
-use Rattle.mls_text.proofs.Parts.{grown, kept}
+use Rattle.mls_text.specs.Parts.{grown, kept}
 use Rattle.mls_text.proofs.engine.put.Goals as goal
 use Rattle.mls_text.proofs.engine.put.Goals.{in-Ok, in-Err+else-ne}
 

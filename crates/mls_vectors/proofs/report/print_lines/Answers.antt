@@ -2,7 +2,7 @@ use Rattle.std.proofs.Common.{arith, false, get_or}
 use Rattle.std.proofs.lemmas.List.{get_or_default}
 use Rattle.mls_vectors.specs.VectorsReport.{entry_of, entry_text}
 use Rattle.mls_vectors.specs.declared.report.ReportLine.TheVariants.{Verdict}
-use Rattle.mls_text.proofs.Parts.{part_of_lines}
+use Rattle.mls_text.specs.Parts.{part_of_lines}
 use Rattle.mls_vectors.proofs.report.print_lines.Goals as goal
 
 pub returns-in_err-print_line-clause-part : goal.returns-in_err-print_line-clause-part

@@ -1,6 +1,6 @@
 use Rattle.std.proofs.Common.{◌≤◌, ◌<◌, ◌∙◌, ap, refl, reverse, map, arith}
 use Rattle.mls_term.specs.ArrayLaws.{perfect-term_of}
-use Rattle.mls_term.specs.Term.{Term, width}
+use Rattle.mls_term.specs.Term.{width}
 use Rattle.mls_tree.specs.Tree.{Tree, term}
 use Rattle.mls_treekem.specs.Climbing.{climb_of}
 use Rattle.mls_treekem.specs.Join.{is_complete}
