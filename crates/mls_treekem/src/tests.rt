@@ -32,7 +32,7 @@ fn new_path(rt: HostRuntime) -> Result<(), Fail> {
 }
 
 /// The numbers of the nodes that it has keys of.
-fn key_nodes(alloc: Global, path: &PrivatePath) -> Result<Vec<u64>, AllocError> {
+pub(crate) fn key_nodes(alloc: Global, path: &PrivatePath) -> Result<Vec<u64>, AllocError> {
     let mut nodes = Vec::new(alloc);
     for (node, _) in path.keys()?.iter() {
         nodes.push(*node)?;
@@ -81,7 +81,7 @@ fn numbers(alloc: Global) -> Items<u16> {
     Items::from_vec(Vec::new(alloc))
 }
 
-fn member(alloc: Global, key: u8) -> Result<LeafNode, AllocError> {
+pub(crate) fn member(alloc: Global, key: u8) -> Result<LeafNode, AllocError> {
     Ok(LeafNode {
         encryption_key: byte(alloc, key)?,
         signature_key: byte(alloc, key)?,
