@@ -19,6 +19,8 @@ mod follow;
 mod keys;
 mod make;
 mod open;
+#[cfg(test)]
+mod open_tests;
 mod places;
 mod private_path;
 mod secrets;
