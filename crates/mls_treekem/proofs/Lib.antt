@@ -20,3 +20,5 @@ pub mod Levels
 pub mod Placing
 pub mod Raised
 pub mod Followed
+pub mod Beside
+pub mod Sent

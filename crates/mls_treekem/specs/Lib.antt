@@ -15,3 +15,5 @@ pub mod Faults
 pub mod Height
 pub mod Place
 pub mod Raise
+pub mod Beside
+pub mod Seeds

@@ -19,12 +19,16 @@ mod keys;
 mod make;
 mod places;
 mod private_path;
+mod seal;
+#[cfg(test)]
+mod seal_tests;
 mod secrets;
 #[cfg(test)]
 mod tests;
 
 pub use error::TreeKemError;
 pub use private_path::PrivatePath;
+pub use seal::{seal_path, seal_seed};
 pub use secrets::PathSecrets;
 
 /// Exact keys follow the edits of a tree.
