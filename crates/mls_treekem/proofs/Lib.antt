@@ -22,3 +22,5 @@ pub mod Raised
 pub mod Followed
 pub mod Opened
 pub mod Taking
+pub mod Beside
+pub mod Sent

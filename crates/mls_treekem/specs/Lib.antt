@@ -17,3 +17,5 @@ pub mod Place
 pub mod Raise
 pub mod Climbing
 pub mod Opening
+pub mod Beside
+pub mod Seeds

@@ -23,6 +23,9 @@ mod open;
 mod open_tests;
 mod places;
 mod private_path;
+mod seal;
+#[cfg(test)]
+mod seal_tests;
 mod secrets;
 mod take;
 #[cfg(test)]
@@ -32,6 +35,7 @@ mod tests;
 
 pub use error::TreeKemError;
 pub use private_path::PrivatePath;
+pub use seal::{seal_path, seal_seed};
 pub use secrets::PathSecrets;
 
 /// Exact keys follow the edits of a tree.

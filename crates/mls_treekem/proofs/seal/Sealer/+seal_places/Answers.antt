@@ -1,0 +1,86 @@
+use Rattle.std.proofs.Common.{◌≡◌, suc, ◌+◌, ◌%◌, ◌^◌, arith, refl, ap, length, length-append, ◌∙◌}
+use Rattle.mls_tree.specs.Tree.{term}
+use Rattle.mls_treekem.specs.Faults.{number_of}
+use Rattle.mls_treekem.proofs.Followed.{none_left}
+use Rattle.mls_treekem.proofs.Sent.{along_none, count_none, numbers_none, placed_here, placed_below, least_below, along_same, count_same, numbers_same, count_one, numbers_more, along_more, along_fails, below_fails}
+use Rattle.mls_treekem.proofs.seal.Sealer.+seal_places.Goals as goal
+
+pub returns-in_default-clause-answer : goal.returns-in_default-clause-answer
+returns-in_default-clause-answer g t c =
+    λ start n made le.
+    along_none (term c.args.self.now.tree.now) c.args.places.now (none_left _ c.in_default.ensures.cases) g.S.Suite.crypto c.args.self.now.context.now c.args.self.now.added.now c.args.self.now.seed.now start c.new.result.items c.new.ensures.items
+
+pub returns-in_default-clause-count : goal.returns-in_default-clause-count
+returns-in_default-clause-count g t c = count_none (term c.args.self.now.tree.now) c.args.places.now (none_left _ c.in_default.ensures.cases) c.new.result.items c.new.ensures.items
+
+pub returns-in_default-clause-seals : goal.returns-in_default-clause-seals
+returns-in_default-clause-seals g t c = numbers_none (term c.args.self.now.tree.now) c.args.places.now (none_left _ c.in_default.ensures.cases) c.args.self.now.added.now
+
+pub seal_places-requires : goal.seal_places-requires
+seal_places-requires g t c =
+    λ ks within. (
+      omega (arith, c.decreases, c.in-Some.ensures.cases.1),
+      (within, (c.requires.context, placed_below (term c.args.self.now.tree.now) c.in-Some.place.now c.in-Some.below.now c.args.places.now c.in-Some.ensures.cases.0 c.requires.placed)),
+    )
+
+pub returns-in-Err-clause-answer : goal.returns-in-Err-clause-answer
+returns-in-Err-clause-answer g t c =
+    λ start n made le other.
+    below_fails (term c.args.self.now.tree.now) c.in-Some.place.now c.in-Some.below.now c.args.places.now c.in-Some.ensures.cases.0 g.S.Suite.crypto c.args.self.now.context.now c.args.self.now.added.now c.args.self.now.seed.now start (number_of c.in-Err.error)
+    (c.in-Err.ensures.answer start n made (least_below (term c.args.self.now.tree.now) c.in-Some.place.now c.in-Some.below.now c.args.places.now c.in-Some.ensures.cases.0 n le) other)
+
+pub returns-then-is_empty-clause-answer : goal.returns-then-is_empty-clause-answer
+returns-then-is_empty-clause-answer g t c =
+    λ start n made le.
+    along_same (term c.args.self.now.tree.now) c.in-Some.place.now c.in-Some.below.now c.args.places.now c.in-Some.ensures.cases.0 c.requires.placed c.as_slice-reached.result.now (c.as_slice-reached.ensures.value ∙ c.in_ok-resolution.ensures)
+    _ c.is_empty.ensures c.if-is_empty.true g.S.Suite.crypto c.args.self.now.context.now c.args.self.now.added.now c.args.self.now.seed.now start c.in-Ok.made.nodes.items
+    (c.in-Ok.ensures.answer start n made (least_below (term c.args.self.now.tree.now) c.in-Some.place.now c.in-Some.below.now c.args.places.now c.in-Some.ensures.cases.0 n le))
+
+pub returns-then-is_empty-clause-count : goal.returns-then-is_empty-clause-count
+returns-then-is_empty-clause-count g t c =
+    count_same (term c.args.self.now.tree.now) c.in-Some.place.now c.in-Some.below.now c.args.places.now c.in-Some.ensures.cases.0 c.requires.placed c.as_slice-reached.result.now (c.as_slice-reached.ensures.value ∙ c.in_ok-resolution.ensures)
+    _ c.is_empty.ensures c.if-is_empty.true _ c.in-Ok.ensures.count
+
+pub returns-then-is_empty-clause-seals : goal.returns-then-is_empty-clause-seals
+returns-then-is_empty-clause-seals g t c =
+    numbers_same (term c.args.self.now.tree.now) c.in-Some.place.now c.in-Some.below.now c.args.places.now c.in-Some.ensures.cases.0 c.requires.placed c.as_slice-reached.result.now (c.as_slice-reached.ensures.value ∙ c.in_ok-resolution.ensures)
+    _ c.is_empty.ensures c.if-is_empty.true c.args.self.now.added.now _ c.in-Ok.ensures.seals
+
+pub seal_node-requires-clause-placed : goal.seal_node-requires-clause-placed
+seal_node-requires-clause-placed g t c = placed_here (term c.args.self.now.tree.now) c.in-Some.place.now c.in-Some.below.now c.args.places.now c.in-Some.ensures.cases.0 c.requires.placed
+
+pub returns-in-Err-seal_node-clause-answer : goal.returns-in-Err-seal_node-clause-answer
+returns-in-Err-seal_node-clause-answer g t c =
+    λ start n made le other.
+    let count = ap length c.as_slice-count.ensures.value ∙ c.in-Ok.ensures.count in
+    let all = count_one (term c.args.self.now.tree.now) c.in-Some.place.now c.in-Some.below.now c.args.places.now c.in-Some.ensures.cases.0 c.requires.placed c.as_slice-reached.result.now (c.as_slice-reached.ensures.value ∙ c.in_ok-resolution.ensures)
+    _ c.is_empty.ensures c.if-is_empty.false _ count in
+    along_fails (term c.args.self.now.tree.now) c.in-Some.place.now c.in-Some.below.now c.args.places.now c.in-Some.ensures.cases.0 c.requires.placed c.as_slice-reached.result.now (c.as_slice-reached.ensures.value ∙ c.in_ok-resolution.ensures)
+    _ c.is_empty.ensures c.if-is_empty.false g.S.Suite.crypto c.args.self.now.context.now c.args.self.now.added.now c.args.self.now.seed.now start
+    _ _ count c.in-Ok.ensures.seals c.as_slice-reached.result.now refl (number_of c.in-Err-seal_node.error)
+    (c.in-Err-seal_node.ensures.answer start n made (omega arith) other)
+
+pub returns-clause-answer : goal.returns-clause-answer
+returns-clause-answer g t c =
+    λ start n made le.
+    let count = ap length c.as_slice-count.ensures.value ∙ c.in-Ok.ensures.count in
+    let all = count_one (term c.args.self.now.tree.now) c.in-Some.place.now c.in-Some.below.now c.args.places.now c.in-Some.ensures.cases.0 c.requires.placed c.as_slice-reached.result.now (c.as_slice-reached.ensures.value ∙ c.in_ok-resolution.ensures)
+    _ c.is_empty.ensures c.if-is_empty.false _ count in
+    along_more (term c.args.self.now.tree.now) c.in-Some.place.now c.in-Some.below.now c.args.places.now c.in-Some.ensures.cases.0 c.requires.placed c.as_slice-reached.result.now (c.as_slice-reached.ensures.value ∙ c.in_ok-resolution.ensures)
+    _ c.is_empty.ensures c.if-is_empty.false g.S.Suite.crypto c.args.self.now.context.now c.args.self.now.added.now c.args.self.now.seed.now start
+    _ _ count c.in-Ok.ensures.seals c.as_slice-reached.result.now refl c.in-Ok-seal_node.node c.in-Ok.made.nodes.items c.push.new.self.items
+    (c.in-Ok-seal_node.ensures.answer start n made (omega arith))
+    (c.in-Ok.ensures.answer start n made (omega (arith, all)))
+    c.in_ok-push.ensures.items
+
+pub returns-clause-count : goal.returns-clause-count
+returns-clause-count g t c =
+    let all = count_one (term c.args.self.now.tree.now) c.in-Some.place.now c.in-Some.below.now c.args.places.now c.in-Some.ensures.cases.0 c.requires.placed c.as_slice-reached.result.now (c.as_slice-reached.ensures.value ∙ c.in_ok-resolution.ensures)
+    _ c.is_empty.ensures c.if-is_empty.false _ (c.in-Ok.ensures.count) in
+    ap length c.in_ok-push.ensures.items ∙ length-append _ _ ∙ (let z : length c.in-Ok.made.nodes.items + 1 ≡ suc (length c.in-Ok.made.nodes.items) = omega arith in z) ∙ all
+
+pub returns-clause-seals : goal.returns-clause-seals
+returns-clause-seals g t c =
+    numbers_more (term c.args.self.now.tree.now) c.in-Some.place.now c.in-Some.below.now c.args.places.now c.in-Some.ensures.cases.0 c.requires.placed c.as_slice-reached.result.now (c.as_slice-reached.ensures.value ∙ c.in_ok-resolution.ensures)
+    _ c.is_empty.ensures c.if-is_empty.false c.args.self.now.added.now _ _ (length c.in-Ok-seal_node.node.ciphertexts) c.in-Ok.ensures.seals
+    c.in-Ok-seal_node.ensures.seals (c.low_bits.ensures ∙ ap (λ xs. length xs % 2 ^ 32) c.as_slice.ensures)

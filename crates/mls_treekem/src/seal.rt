@@ -1,0 +1,258 @@
+//! A commit's path, sealed to those who need it (RFC 9420, 7.5 and 7.6).
+
+ghost use Rattle.std.specs.Prelude.{◌≡◌, ℕ, ◌<◌, ◌≤◌, ◌^◌, ◌%◌, List, length, map, reverse, IfOk};
+ghost use Rattle.std.specs.Option.{option_copied, option_map};
+ghost use Rattle.mls_wire.specs.Checks.{given, Answers};
+ghost use Rattle.mls_term.specs.Sets.{has, leaf_numbers, less};
+ghost use Rattle.mls_term.specs.Places.{key_at};
+ghost use Rattle.mls_term.specs.Way.{path_length};
+ghost use Rattle.mls_tree.specs.Tree.{term};
+ghost use Rattle.mls_treekem.specs.Beside.{cell_key};
+ghost use Rattle.mls_treekem.specs.Chain.{chain, node_public};
+ghost use Rattle.mls_treekem.specs.Faults.{number_of};
+ghost use Rattle.mls_treekem.specs.Made.{AreOfChain};
+ghost use Rattle.mls_treekem.specs.Make.{filtered_count};
+ghost use Rattle.mls_treekem.specs.Place.{subtree_at, step_of, IsPlaced, ArePlaced};
+ghost use Rattle.mls_treekem.specs.Seal.{seal_to, seal_all, seal_along, seal_count, sealed_path, with_ciphertexts};
+ghost use Rattle.mls_treekem.specs.Seeds.{seal_seed};
+
+use crate::places::{Place, parents_over};
+use crate::{PathSecrets, TreeKemError};
+use mls_group::{HpkeCiphertext, UpdatePathNode};
+use mls_kdf::{Secret, expand_with_label};
+use mls_leaf::{Bytes, Items, Node};
+use mls_suite::{Suite, encrypt_with_label};
+use mls_tree::PublicTree;
+use std::alloc::Global;
+
+/// The randomness of seal number `i` of a commit, from 0 on: the seals of its path come first, node by node, the lowest
+/// first, and then those of its Welcome in the order of adds. Takes no memory.
+#[tactic(auto, unfolding(crate::specs::Seeds::seal_seed, mls_wire::specs::Reading::uint))]
+pub fn seal_seed(seed: &Secret, i: u32) -> Secret
+    ensures { result ≡ seal_seed seed.now i }
+{
+    let mut out = [0; 32];
+    expand_with_label(seed, "seed seal", &i.to_be_bytes(), &mut out).unwrap();
+    out
+}
+
+/// Whether a node is one of these leaves.
+fn is_one_of(leaves: &[u32], node: u64) -> bool
+    ensures { result ≡ has (leaf_numbers leaves.now) node }
+{
+    for leaf in leaves {
+        if 2 * u64::from(*leaf) == node {
+            return true;
+        }
+    }
+    false
+}
+
+/// The encryption key of what stands at a node.
+fn key_of(node: Option<&Node>) -> Option<&[u8]>
+    ensures { option_copied result ≡ cell_key (option_copied node.entry) }
+{
+    match node {
+        Some(Node::Leaf(leaf)) => Some(leaf.encryption_key.as_slice()),
+        Some(Node::Parent(parent)) => Some(parent.encryption_key()),
+        None => None,
+    }
+}
+
+impl Place {
+    /// The encryption key of a node that is below the other child, or is that child: None where it is blank or
+    /// elsewhere. An entry of a list of unmerged leaves may be anywhere.
+    fn key_beside<'a>(&self, tree: &'a PublicTree, node: u64) -> Option<&'a [u8]>
+        requires { (h : ℕ) × IsPlaced (term tree.now) h self.now }
+        ensures { option_copied result ≡ key_at self.now.first (subtree_at (term tree.now) self.now.beside) node }
+    {
+        let start = 2 * u64::from(self.first);
+        let end = start + 2 * u64::from(self.leaves) - 1;
+        if node < start || node >= end || node >= 2 * u64::from(tree.leaf_count()) {
+            return None;
+        }
+        key_of(tree.node(node as u32))
+    }
+}
+
+/// A path secret sealed to a public key: `BadKey` (36) where there is none, or it isn't fit.
+fn seal_to<S: Suite>(
+    alloc: Global,
+    context: &[u8],
+    secret: &Secret,
+    key: Option<&[u8]>,
+    rnd: &Secret,
+) -> Result<HpkeCiphertext, TreeKemError>
+    requires { length context.now < 2 ^ 30 }
+    ensures { Answers (λ x. x) number_of (given 36 (seal_to S.crypto context.now secret.now (option_copied key.entry) rnd.now)) result }
+{
+    let Some(pk) = key else {
+        return Err(TreeKemError::BadKey);
+    };
+    match encrypt_with_label::<S>(alloc, pk, "UpdatePathNode", context, secret, rnd)? {
+        Some(sealed) => Ok(HpkeCiphertext {
+            kem_output: Bytes::from_vec(sealed.kem),
+            ciphertext: Bytes::from_vec(sealed.ct),
+        }),
+        None => Err(TreeKemError::BadKey),
+    }
+}
+
+/// The nodes of a path as far as it is sealed, the lowest first, and the number of the next seal.
+#[derive(Drop)]
+struct SealedNodes {
+    nodes: Vec<UpdatePathNode>,
+    seals: u32,
+}
+
+/// What a commit's path is sealed with, at each of its nodes.
+#[derive(Clone, Copy)]
+struct Sealer<'a> {
+    tree: &'a PublicTree,
+    added: &'a [u32],
+    path: &'a PathSecrets,
+    context: &'a [u8],
+    seed: &'a Secret,
+}
+
+impl Sealer<'_> {
+    /// A path secret sealed to the nodes that aren't leaves just added, of those that reach all members beside a place;
+    /// seals are numbered from `first` on. `BadKey` (36) where a key is missing or isn't fit.
+    fn seal_all<S: Suite>(
+        &self,
+        alloc: Global,
+        place: &Place,
+        reached: &[u64],
+        secret: &Secret,
+        first: u32,
+    ) -> Result<Vec<HpkeCiphertext>, TreeKemError>
+        requires context { length self.now.context.now < 2 ^ 30 }
+        requires placed { (h : ℕ) × IsPlaced (term self.now.tree.now) h place.now }
+        ensures { Answers (λ v. v.items) number_of (given 36 (seal_all S.crypto self.now.context.now secret.now place.now.first (subtree_at (term self.now.tree.now) place.now.beside) (seal_seed self.now.seed.now) first (less (leaf_numbers self.now.added.now) reached.now))) result }
+    {
+        let mut sealed = Vec::new(alloc);
+        let mut number = first;
+        for node in reached {
+            if is_one_of(self.added, *node) {
+                continue;
+            }
+            let key = place.key_beside(self.tree, *node);
+            let rnd = seal_seed(self.seed, number);
+            match seal_to::<S>(alloc, self.context, secret, key, &rnd) {
+                Ok(ciphertext) => sealed.push(ciphertext)?,
+                Err(error) => return Err(error),
+            }
+            number = number.wrapping_add(1);
+        }
+        Ok(sealed)
+    }
+
+    /// The node of a path at a place: the public key of path secret number `count`, and that secret sealed.
+    fn seal_node<S: Suite>(
+        &self,
+        alloc: Global,
+        place: &Place,
+        reached: &[u64],
+        count: usize,
+        first: u32,
+    ) -> Result<UpdatePathNode, TreeKemError>
+        requires context { length self.now.context.now < 2 ^ 30 }
+        requires placed { (h : ℕ) × IsPlaced (term self.now.tree.now) h place.now }
+        ensures answer { (start : List ℕ) (n : ℕ) → AreOfChain S.crypto start n self.now.path.now → count < n → Answers (λ x. x) number_of (given 36 (with_ciphertexts (node_public S.crypto (chain start count)) (seal_all S.crypto self.now.context.now (chain start count) place.now.first (subtree_at (term self.now.tree.now) place.now.beside) (seal_seed self.now.seed.now) first (less (leaf_numbers self.now.added.now) reached.now)))) result }
+        ensures seals { IfOk result (λ x. length x.ciphertexts ≡ length (less (leaf_numbers self.now.added.now) reached.now)) }
+    {
+        let Some(secret) = self.path.secrets.get(count) else {
+            return Err(TreeKemError::BadKey);
+        };
+        let Some(pair) = self.path.pairs.get(count) else {
+            return Err(TreeKemError::BadKey);
+        };
+        let ciphertexts = match self.seal_all::<S>(alloc, place, reached, secret, first) {
+            Ok(ciphertexts) => ciphertexts,
+            Err(error) => return Err(error),
+        };
+        let key = Vec::from_slice(alloc, &pair.pk)?;
+        Ok(UpdatePathNode {
+            encryption_key: Bytes::from_vec(key),
+            ciphertexts: Items::from_vec(ciphertexts),
+        })
+    }
+
+    /// The path at these places, the highest first.
+    fn seal_places<S: Suite>(
+        &self,
+        alloc: Global,
+        places: &[Place],
+    ) -> Result<SealedNodes, TreeKemError>
+        requires context { length self.now.context.now < 2 ^ 30 }
+        requires placed { ArePlaced (term self.now.tree.now) places.now }
+        ensures answer { (start : List ℕ) (n : ℕ) → AreOfChain S.crypto start n self.now.path.now → filtered_count (map (step_of (term self.now.tree.now)) places.now) ≤ n → Answers (λ m. m.nodes.items) number_of (given 36 (option_map reverse (seal_along S.crypto self.now.context.now self.now.added.now (seal_seed self.now.seed.now) (map (step_of (term self.now.tree.now)) places.now) start))) result }
+        ensures count { IfOk result (λ m. length m.nodes.items ≡ filtered_count (map (step_of (term self.now.tree.now)) places.now)) }
+        ensures seals { IfOk result (λ m. m.seals ≡ seal_count self.now.added.now (map (step_of (term self.now.tree.now)) places.now) % 2 ^ 32) }
+    {
+        let Some((place, below)) = places.split_first() else {
+            return Ok(SealedNodes {
+                nodes: Vec::new(alloc),
+                seals: 0,
+            });
+        };
+        let mut made = match self.seal_places::<S>(alloc, below) {
+            Ok(made) => made,
+            Err(error) => return Err(error),
+        };
+        let resolution = self.tree.resolution(place.beside)?;
+        let reached = resolution.as_slice();
+        if reached.is_empty() {
+            return Ok(made);
+        }
+        let count = made.nodes.as_slice().len();
+        let node = match self.seal_node::<S>(alloc, place, reached, count, made.seals) {
+            Ok(node) => node,
+            Err(error) => return Err(error),
+        };
+        made.seals = made
+            .seals
+            .wrapping_add(low_bits(node.ciphertexts.as_slice().len()));
+        made.nodes.push(node)?;
+        Ok(made)
+    }
+}
+
+/// The low 32 bits of a number.
+fn low_bits(n: usize) -> u32
+    ensures { result ≡ n % 2 ^ 32 }
+{
+    (n % (1 << 32)) as u32
+}
+
+/// The nodes of the path that a committer sends, the lowest first: the public key of each node of its filtered direct
+/// path, and its path secret sealed to the resolution of its child on the copath, without the leaves just added
+/// (RFC 9420, 7.5 and 7.6). The tree is the one after the edits, before the path is merged or after; `path` has the
+/// secrets of as many nodes as the filtered direct path; the context is the group's, below 2^30 bytes; `seed` is the
+/// commit's. Refused with `BadKey` (36) exactly where a node that a secret is sealed to has no key, or one that isn't
+/// fit.
+pub fn seal_path<S: Suite>(
+    alloc: Global,
+    tree: &PublicTree,
+    committer: u32,
+    added: &[u32],
+    path: &PathSecrets,
+    context: &[u8],
+    seed: &Secret,
+) -> Result<Vec<UpdatePathNode>, TreeKemError>
+    requires { length context.now < 2 ^ 30 }
+    ensures { (start : List ℕ) → AreOfChain S.crypto start (path_length 0 (term tree.now) committer) path.now → Answers (λ v. v.items) number_of (sealed_path S.crypto context.now added.now (seal_seed seed.now) (term tree.now) committer start) result }
+{
+    let places = parents_over(alloc, tree, committer)?;
+    let sealer = Sealer {
+        tree,
+        added,
+        path,
+        context,
+        seed,
+    };
+    match sealer.seal_places::<S>(alloc, &places) {
+        Ok(made) => Ok(made.nodes),
+        Err(error) => Err(error),
+    }
+}

@@ -1,0 +1,143 @@
+//! Paths that are sealed in small trees.
+
+use crate::{PathSecrets, TreeKemError, seal_path, seal_seed};
+use mls_group::UpdatePathNode;
+use mls_kdf::{Secret, derive_secret};
+use mls_leaf::{Bytes, Capabilities, Credential, Items, LeafNode, LeafSource};
+use mls_suite::{Glass, Suite, decrypt_with_label};
+use mls_tree::{PublicTree, TreeError};
+use std::alloc::{AllocError, Global};
+use std::test::Fail;
+
+// By Python's hmac and hashlib: ExpandWithLabel of 32 bytes 09, "seed seal" and the number 0x01020304.
+const SEED: Secret = [
+    0x78, 0xb5, 0xf7, 0x8a, 0x15, 0x43, 0x37, 0x44, 0xc5, 0xb8, 0x20, 0xad, 0x2a, 0xf4, 0x4c, 0xc3,
+    0xea, 0x8c, 0x23, 0xef, 0x69, 0x10, 0xa9, 0x0e, 0x1f, 0xcd, 0x5b, 0x37, 0xb3, 0x64, 0xdd, 0x94,
+];
+
+#[test]
+fn seeds_of_seals(rt: HostRuntime) -> Result<(), Fail> {
+    assert_eq!(rt; seal_seed(&[9; 32], 0x0102_0304), SEED);
+    Ok(())
+}
+
+fn empty(alloc: Global) -> Bytes {
+    Bytes::from_vec(Vec::new(alloc))
+}
+
+fn numbers(alloc: Global) -> Items<u16> {
+    Items::from_vec(Vec::new(alloc))
+}
+
+fn member(alloc: Global, key: Vec<u8>) -> LeafNode {
+    LeafNode {
+        encryption_key: Bytes::from_vec(key),
+        signature_key: empty(alloc),
+        credential: Credential {
+            identity: empty(alloc),
+        },
+        capabilities: Capabilities {
+            versions: numbers(alloc),
+            cipher_suites: numbers(alloc),
+            extensions: numbers(alloc),
+            proposals: numbers(alloc),
+            credentials: numbers(alloc),
+        },
+        source: LeafSource::Update,
+        signature: empty(alloc),
+    }
+}
+
+/// The public key of 32 such bytes.
+fn public(alloc: Global, byte: u8) -> Result<Vec<u8>, AllocError> {
+    Glass::public(alloc, &[byte; 32])
+}
+
+/// Four members, of which the last has this key.
+fn four(alloc: Global, last: Vec<u8>) -> Result<PublicTree, TreeError> {
+    let mut tree = PublicTree::single(alloc, member(alloc, public(alloc, 0)?))?;
+    tree.add(member(alloc, public(alloc, 1)?))?;
+    tree.add(member(alloc, public(alloc, 2)?))?;
+    tree.add(member(alloc, last))?;
+    Ok(tree)
+}
+
+/// The path that leaf 1 sends.
+fn sealed(
+    alloc: Global,
+    tree: &PublicTree,
+    added: &[u32],
+) -> Result<Vec<UpdatePathNode>, TreeKemError> {
+    let path = PathSecrets::new::<Glass>(alloc, &[7; 32], 2)?;
+    seal_path::<Glass>(alloc, tree, 1, added, &path, b"context", &[9; 32])
+}
+
+fn count_at(nodes: &[UpdatePathNode], i: usize) -> usize {
+    match nodes.get(i) {
+        Some(node) => node.ciphertexts.as_slice().len(),
+        None => 99,
+    }
+}
+
+/// Whether a ciphertext of a node opens to this secret by the key of 32 such bytes.
+fn opens(
+    alloc: Global,
+    nodes: &[UpdatePathNode],
+    i: usize,
+    place: usize,
+    byte: u8,
+    secret: &Secret,
+) -> Result<bool, AllocError> {
+    let Some(node) = nodes.get(i) else {
+        return Ok(false);
+    };
+    let Some(sealed) = node.ciphertexts.as_slice().get(place) else {
+        return Ok(false);
+    };
+    let kem = sealed.kem_output.as_slice();
+    let ct = sealed.ciphertext.as_slice();
+    let sk = [byte; 32];
+    match decrypt_with_label::<Glass>(alloc, &sk, "UpdatePathNode", b"context", kem, ct)? {
+        Some(opened) => Ok(opened.as_slice() == secret.as_slice()),
+        None => Ok(false),
+    }
+}
+
+#[test]
+fn a_path_of_four(rt: HostRuntime) -> Result<(), Fail> {
+    let alloc = rt.alloc();
+    let tree = four(alloc, public(alloc, 3)?)?;
+    assert_eq!(rt; tree.filtered_path(1)?.as_slice(), [1, 3].as_slice());
+    let nodes = sealed(alloc, &tree, &[])?;
+    assert_eq!(rt; nodes.len(), 2);
+    assert_eq!(rt; count_at(&nodes, 0), 1);
+    assert_eq!(rt; count_at(&nodes, 1), 2);
+    let second = derive_secret(&[7; 32], "path");
+    assert!(rt; opens(alloc, &nodes, 0, 0, 0, &[7; 32])?);
+    assert!(rt; opens(alloc, &nodes, 1, 0, 2, &second)?);
+    assert!(rt; opens(alloc, &nodes, 1, 1, 3, &second)?);
+    Ok(())
+}
+
+#[test]
+fn a_leaf_just_added_is_left_out(rt: HostRuntime) -> Result<(), Fail> {
+    let alloc = rt.alloc();
+    let tree = four(alloc, public(alloc, 3)?)?;
+    let nodes = sealed(alloc, &tree, &[2])?;
+    assert_eq!(rt; count_at(&nodes, 1), 1);
+    let second = derive_secret(&[7; 32], "path");
+    assert!(rt; opens(alloc, &nodes, 1, 0, 3, &second)?);
+    let nodes = sealed(alloc, &tree, &[2, 3])?;
+    assert_eq!(rt; nodes.len(), 2);
+    assert_eq!(rt; count_at(&nodes, 1), 0);
+    Ok(())
+}
+
+#[test]
+fn a_key_that_is_not_fit(rt: HostRuntime) -> Result<(), Fail> {
+    let alloc = rt.alloc();
+    let tree = four(alloc, Vec::new(alloc))?;
+    assert!(rt; matches!(sealed(alloc, &tree, &[]), Err(TreeKemError::BadKey)));
+    assert_eq!(rt; sealed(alloc, &tree, &[3])?.len(), 2);
+    Ok(())
+}
