@@ -1,6 +1,5 @@
 -- What is opened along a committer's way, as code goes over it.
 use Rattle.std.proofs.Common.{◌≡◌, ℕ, suc, ◌+◌, ◌-◌, ◌*◌, ◌^◌, ◌<◌, ◌≤◌, Bool, true, false, not, ◌&&◌, ◌||◌, ◌==◌, nat_lt, nat_le, if◌then◌else◌, List, [], ◌∷◌, ◌++◌, length, map, reverse, drop, get_or, codes, Option, Some, None, Result, Ok, Err, refl, sym, subst, ◌∙◌, ap, ap₂, inl, inr, arith, drop-cons, eq-eqb, ne_eqb}
-use Rattle.std.specs.List.{list_any}
 use Rattle.std.specs.Option.{option_map}
 use Rattle.std.specs.Str.{bytes_eq}
 use Rattle.std.proofs.lemmas.Bool.{cond-true, cond-false, cases_lt, true≢false, and_parts}
@@ -145,27 +144,22 @@ module _ {A : Type 0} (f : A → List ℕ) (c : Crypto) (context k : List ℕ) (
 
 -- ---- the first node whose key is held
 
-has-added : (us : List ℕ) (d : ℕ) → list_any (λ u. 2 * u == d) us ≡ has (leaf_numbers us) d
-unfolding has
-has-added [] d = refl
-has-added (u ∷ us) d = ap (λ z. (2 * u == d) || z) (has-added us d)
-
 module _ (c : Crypto) (context : List ℕ) (f : ℕ → Option (List ℕ)) (us : List ℕ) (d : ℕ) (ds : List ℕ) where
-  pub first_added : (xs : List HpkeCiphertext) → list_any (λ u. 2 * u == d) us ≡ true → open_first c context f (less (leaf_numbers us) (d ∷ ds)) xs ≡ open_first c context f (less (leaf_numbers us) ds) xs
-  first_added xs e = let k = sym (has-added us d) ∙ e in rw k refl
+  pub first_added : (xs : List HpkeCiphertext) → has (leaf_numbers us) d ≡ true → open_first c context f (less (leaf_numbers us) (d ∷ ds)) xs ≡ open_first c context f (less (leaf_numbers us) ds) xs
+  first_added xs e = rw e refl
 
-  kept : list_any (λ u. 2 * u == d) us ≡ false → less (leaf_numbers us) (d ∷ ds) ≡ d ∷ less (leaf_numbers us) ds
-  kept e = let k = sym (has-added us d) ∙ e in rw k refl
+  kept : has (leaf_numbers us) d ≡ false → less (leaf_numbers us) (d ∷ ds) ≡ d ∷ less (leaf_numbers us) ds
+  kept e = rw e refl
 
-  pub first_missing : (xs : List HpkeCiphertext) → list_any (λ u. 2 * u == d) us ≡ false → xs ≡ [] → open_first c context f (less (leaf_numbers us) (d ∷ ds)) xs ≡ Err 32
+  pub first_missing : (xs : List HpkeCiphertext) → has (leaf_numbers us) d ≡ false → xs ≡ [] → open_first c context f (less (leaf_numbers us) (d ∷ ds)) xs ≡ Err 32
   unfolding open_first
   first_missing xs e none = ap₂ (λ ns ys. open_first c context f ns ys) (kept e) none
 
-  pub first_held : (xs : List HpkeCiphertext) (x : HpkeCiphertext) (ys : List HpkeCiphertext) (k : List ℕ) → list_any (λ u. 2 * u == d) us ≡ false → xs ≡ x ∷ ys → f d ≡ Some k → open_first c context f (less (leaf_numbers us) (d ∷ ds)) xs ≡ secret_in c context k x
+  pub first_held : (xs : List HpkeCiphertext) (x : HpkeCiphertext) (ys : List HpkeCiphertext) (k : List ℕ) → has (leaf_numbers us) d ≡ false → xs ≡ x ∷ ys → f d ≡ Some k → open_first c context f (less (leaf_numbers us) (d ∷ ds)) xs ≡ secret_in c context k x
   unfolding open_first
   first_held xs x ys k e is key = ap₂ (λ ns zs. open_first c context f ns zs) (kept e) is ∙ rw key refl
 
-  pub first_other : (xs : List HpkeCiphertext) (x : HpkeCiphertext) (ys : List HpkeCiphertext) → list_any (λ u. 2 * u == d) us ≡ false → xs ≡ x ∷ ys → f d ≡ None → open_first c context f (less (leaf_numbers us) (d ∷ ds)) xs ≡ open_first c context f (less (leaf_numbers us) ds) ys
+  pub first_other : (xs : List HpkeCiphertext) (x : HpkeCiphertext) (ys : List HpkeCiphertext) → has (leaf_numbers us) d ≡ false → xs ≡ x ∷ ys → f d ≡ None → open_first c context f (less (leaf_numbers us) (d ∷ ds)) xs ≡ open_first c context f (less (leaf_numbers us) ds) ys
   unfolding open_first
   first_other xs x ys e is key = ap₂ (λ ns zs. open_first c context f ns zs) (kept e) is ∙ rw key refl
 
@@ -197,16 +191,16 @@ module _ (c : Crypto) (context : List ℕ) (h b : ℕ) (p : PrivateKeys) (added 
     here : (t : Term) → is_perfect h t ≡ true → open_first c context (key_of b t p) (less (leaf_numbers added) nodes) xs ≡ open_first c context (key_of b t p) (less (leaf_numbers added) (get_or nodes n 0 ∷ drop (n + 1) nodes)) ys
     here t e = same t e ∙ ap (λ ds. open_first c context (key_of b t p) (less (leaf_numbers added) ds) ys) at_node
 
-    pub same_added : list_any (λ u. 2 * u == get_or nodes n 0) added ≡ true → SameFirst c context h b p added nodes xs (n + 1) ys
+    pub same_added : has (leaf_numbers added) (get_or nodes n 0) ≡ true → SameFirst c context h b p added nodes xs (n + 1) ys
     same_added is t e = here t e ∙ first_added c context (key_of b t p) added (get_or nodes n 0) (drop (n + 1) nodes) ys is
 
-    pub same_other : (x : HpkeCiphertext) (zs : List HpkeCiphertext) (key : Option (List ℕ)) → list_any (λ u. 2 * u == get_or nodes n 0) added ≡ false → ys ≡ x ∷ zs → IsKeyOf h b p (get_or nodes n 0) key → key ≡ None → SameFirst c context h b p added nodes xs (n + 1) zs
+    pub same_other : (x : HpkeCiphertext) (zs : List HpkeCiphertext) (key : Option (List ℕ)) → has (leaf_numbers added) (get_or nodes n 0) ≡ false → ys ≡ x ∷ zs → IsKeyOf h b p (get_or nodes n 0) key → key ≡ None → SameFirst c context h b p added nodes xs (n + 1) zs
     same_other x zs key isnt split is none t e = here t e ∙ first_other c context (key_of b t p) added (get_or nodes n 0) (drop (n + 1) nodes) ys x zs isnt split (sym (is t e) ∙ none)
 
-    pub same_missing : list_any (λ u. 2 * u == get_or nodes n 0) added ≡ false → ys ≡ [] → (t : Term) → is_perfect h t ≡ true → open_first c context (key_of b t p) (less (leaf_numbers added) nodes) xs ≡ Err 32
+    pub same_missing : has (leaf_numbers added) (get_or nodes n 0) ≡ false → ys ≡ [] → (t : Term) → is_perfect h t ≡ true → open_first c context (key_of b t p) (less (leaf_numbers added) nodes) xs ≡ Err 32
     same_missing isnt none t e = here t e ∙ first_missing c context (key_of b t p) added (get_or nodes n 0) (drop (n + 1) nodes) ys isnt none
 
-    pub same_held : (x : HpkeCiphertext) (zs : List HpkeCiphertext) (key : Option (List ℕ)) (k : List ℕ) → list_any (λ u. 2 * u == get_or nodes n 0) added ≡ false → ys ≡ x ∷ zs → IsKeyOf h b p (get_or nodes n 0) key → key ≡ Some k → (t : Term) → is_perfect h t ≡ true → open_first c context (key_of b t p) (less (leaf_numbers added) nodes) xs ≡ secret_in c context k x
+    pub same_held : (x : HpkeCiphertext) (zs : List HpkeCiphertext) (key : Option (List ℕ)) (k : List ℕ) → has (leaf_numbers added) (get_or nodes n 0) ≡ false → ys ≡ x ∷ zs → IsKeyOf h b p (get_or nodes n 0) key → key ≡ Some k → (t : Term) → is_perfect h t ≡ true → open_first c context (key_of b t p) (less (leaf_numbers added) nodes) xs ≡ secret_in c context k x
     same_held x zs key k isnt split is held t e = here t e ∙ first_held c context (key_of b t p) added (get_or nodes n 0) (drop (n + 1) nodes) ys x zs k isnt split (sym (is t e) ∙ held)
 
 -- ---- keys by their height

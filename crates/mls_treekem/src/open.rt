@@ -1,7 +1,6 @@
 //! What a member takes of a path that it receives (RFC 9420, 7.5 and 7.6).
 
 ghost use Rattle.std.specs.Prelude.{◌≡◌, ◌+◌, ◌*◌, ◌^◌, ◌<◌, ◌≤◌, ◌==◌, not, length, map, reverse, IfOk, OnErr};
-ghost use Rattle.std.specs.List.{list_any};
 ghost use Rattle.mls_wire.specs.Checks.{Answers, AnswersOutright};
 ghost use Rattle.mls_term.specs.Places.{resolution_at};
 ghost use Rattle.mls_term.specs.Resolution.{is_empty};
@@ -14,6 +13,7 @@ ghost use Rattle.mls_treekem.specs.Place.{step_of, IsPlaced, ArePlaced};
 
 use crate::climb::Climb;
 use crate::places::{Place, parents_over, side_of};
+use crate::seal::is_one_of;
 use crate::{PrivatePath, TreeKemError};
 use mls_group::{HpkeCiphertext, UpdatePathNode};
 use mls_kdf::Secret;
@@ -53,13 +53,6 @@ fn open_secret<S: Suite>(
         Some(bytes) => secret_of(&bytes),
         None => Err(TreeKemError::OpenFailed),
     }
-}
-
-/// Whether a node is the leaf of a member that was just added.
-fn is_added(added: &[u32], node: u64) -> bool
-    ensures { result ≡ list_any (λ u. 2 * u == node) added.now }
-{
-    added.iter().any(|leaf| 2 * (*leaf as u64) == node)
 }
 
 /// Whether the filtered direct path takes a parent in.
@@ -143,7 +136,7 @@ impl PrivatePath {
         let alloc = *self.above.allocator();
         let mut sealed = ciphertexts;
         for node in nodes {
-            if is_added(added, *node) {
+            if is_one_of(added, *node) {
                 continue;
             }
             let Some((ciphertext, others)) = sealed.split_first() else {

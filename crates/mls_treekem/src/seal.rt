@@ -37,7 +37,7 @@ pub fn seal_seed(seed: &Secret, i: u32) -> Secret
 }
 
 /// Whether a node is one of these leaves.
-fn is_one_of(leaves: &[u32], node: u64) -> bool
+pub(crate) fn is_one_of(leaves: &[u32], node: u64) -> bool
     ensures { result ≡ has (leaf_numbers leaves.now) node }
 {
     for leaf in leaves {
