@@ -28,10 +28,6 @@ secret_in c context k x = given 32 (unseal_secret c context k x) >>= of_32
 abbrev pub keys_on : Term → PrivateKeys → Keys
 keys_on t p = on_way (way 0 t p.leaf) (all_keys p)
 
--- a climb to a secret that gives a member its keys
-abbrev pub climb_to : List ℕ → PrivateKeys → Climb
-climb_to secret p = record { secret = secret; keys = all_keys p }
-
 -- the key that a member has for a node of a tree whose first leaf is b
 abbrev pub key_of : ℕ → Term → PrivateKeys → ℕ → Option (List ℕ)
 key_of b t p n = key_in b t p.leaf (on_way (way b t p.leaf) (all_keys p)) n
