@@ -20,4 +20,5 @@ pub mod Levels
 pub mod Placing
 pub mod Raised
 pub mod Followed
+pub mod Opened
 pub mod Taking

@@ -16,3 +16,4 @@ pub mod Height
 pub mod Place
 pub mod Raise
 pub mod Climbing
+pub mod Opening

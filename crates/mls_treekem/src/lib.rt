@@ -18,6 +18,9 @@ mod error;
 mod follow;
 mod keys;
 mod make;
+mod open;
+#[cfg(test)]
+mod open_tests;
 mod places;
 mod private_path;
 mod secrets;

@@ -1,0 +1,5 @@
+use Rattle.mls_treekem.proofs.Opened.{SameFirst}
+use Rattle.mls_treekem.proofs.private_path.PrivatePath.open_first.Given as goal
+
+abbrev pub invariant-loop-node : goal.invariant-loop-node
+invariant-loop-node g l = SameFirst g.S.Suite.crypto l.context l.height l.first l.self l.added l.nodes l.ciphertexts l.node-index l.sealed

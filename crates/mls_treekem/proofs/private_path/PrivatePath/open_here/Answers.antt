@@ -1,0 +1,30 @@
+use Rattle.std.proofs.Common.{reverse, sym, ◌∙◌, ap}
+use Rattle.mls_tree.specs.Tree.{term}
+use Rattle.mls_treekem.specs.Open.{first_ciphertexts}
+use Rattle.mls_treekem.specs.Place.{subtree_at}
+use Rattle.mls_treekem.proofs.Followed.{none_left}
+use Rattle.mls_treekem.proofs.Opened.{here_ok, here_err, here_missing, last_first}
+use Rattle.mls_treekem.proofs.private_path.PrivatePath.open_here.Goals as goal
+
+pub returns-in_default : goal.returns-in_default
+returns-in_default g c =
+    λ ss long _.
+    here_missing g.S.Suite.crypto c.args.context.now c.args.added.now (term c.args.tree.now) c.args.height c.args.place.now c.requires.placed c.args.self.now ss long c.args.path.now (none_left _ c.in_default.ensures.cases)
+
+pub returns-in-Ok : goal.returns-in-Ok
+returns-in-Ok g c =
+    λ ss long.
+    here_ok g.S.Suite.crypto c.args.context.now c.args.added.now (term c.args.tree.now) c.args.height c.args.place.now c.requires.placed c.args.self.now ss long c.deref.result.now (reverse c.args.path.now) c.as_slice-ciphertexts.result.now
+    c.in-Ok.secret c.in_ok-above.above.items
+    (c.deref.ensures.value ∙ c.in_ok-nodes.ensures)
+    (ap first_ciphertexts (last_first _ _ _ c.in-Some.ensures.cases.0) ∙ sym c.as_slice-ciphertexts.ensures)
+    (c.in-Ok.ensures (subtree_at (term c.args.tree.now) c.args.place.now.beside) c.requires.placed.perfect)
+    c.in_ok-above.ensures
+
+pub returns : goal.returns
+returns g c =
+    λ ss long ne.
+    here_err g.S.Suite.crypto c.args.context.now c.args.added.now (term c.args.tree.now) c.args.height c.args.place.now c.requires.placed c.args.self.now ss long c.deref.result.now (reverse c.args.path.now) c.as_slice-ciphertexts.result.now _
+    (c.deref.ensures.value ∙ c.in_ok-nodes.ensures)
+    (ap first_ciphertexts (last_first _ _ _ c.in-Some.ensures.cases.0) ∙ sym c.as_slice-ciphertexts.ensures)
+    (c.in-Err.ensures (subtree_at (term c.args.tree.now) c.args.place.now.beside) c.requires.placed.perfect ne)

@@ -1,0 +1,60 @@
+-- What a member's climb along a committer's way is made of.
+use Rattle.std.specs.Prelude.{◌≡◌, ℕ, true, List, [], ◌∷◌, ◌++◌, length, reverse, Option, Some, Result}
+use Rattle.mls_wire.specs.Checks.{given, Answers}
+use Rattle.mls_wire.specs.Reading.{◌>>=◌}
+use Rattle.mls_group.specs.declared.update_path.HpkeCiphertext.{HpkeCiphertext}
+use Rattle.mls_group.specs.declared.update_path.UpdatePathNode.{UpdatePathNode}
+use Rattle.mls_suite.specs.Crypto.{Crypto}
+use Rattle.mls_term.specs.Sets.{leaf_numbers, less}
+use Rattle.mls_term.specs.Term.{Term, is_perfect}
+use Rattle.mls_term.specs.Way.{Step, way}
+use Rattle.mls_treekem.specs.declared.climb.Climb.{Climb as Standing}
+use Rattle.mls_treekem.specs.declared.error.TreeKemError.{TreeKemError}
+use Rattle.mls_treekem.specs.declared.places.Place.{Place}
+use Rattle.mls_treekem.specs.Climbing.{climb_of, with_own}
+use Rattle.mls_treekem.specs.Faults.{number_of}
+use Rattle.mls_treekem.specs.Follow.{on_way}
+use Rattle.mls_treekem.specs.Keys.{Keys, key_in}
+use Rattle.mls_treekem.specs.Made.{PrivateKeys, all_keys}
+use Rattle.mls_treekem.specs.Make.{Climb}
+use Rattle.mls_treekem.specs.Open.{unseal_secret, of_32, open_first, open_here, climb_open}
+use Rattle.mls_treekem.specs.Place.{step_of}
+
+-- the path secret in a ciphertext: 32 where it doesn't open, 33 where that isn't 32 bytes (RFC 9420, 7.6)
+abbrev pub secret_in : Crypto → List ℕ → List ℕ → HpkeCiphertext → Result (List ℕ) ℕ
+secret_in c context k x = given 32 (unseal_secret c context k x) >>= of_32
+
+-- a member's keys on its way in a whole tree, by their height
+abbrev pub keys_on : Term → PrivateKeys → Keys
+keys_on t p = on_way (way 0 t p.leaf) (all_keys p)
+
+-- a climb to a secret that gives a member its keys
+abbrev pub climb_to : List ℕ → PrivateKeys → Climb
+climb_to secret p = record { secret = secret; keys = all_keys p }
+
+-- the key that a member has for a node of a tree whose first leaf is b
+abbrev pub key_of : ℕ → Term → PrivateKeys → ℕ → Option (List ℕ)
+key_of b t p n = key_in b t p.leaf (on_way (way b t p.leaf) (all_keys p)) n
+
+-- it is the same in each perfect tree of this height
+abbrev pub IsKeyOf : ℕ → ℕ → PrivateKeys → ℕ → Option (List ℕ) → Type 0
+IsKeyOf h b p n key = (t : Term) → is_perfect h t ≡ true → key ≡ key_of b t p n
+
+-- keys above the leaf, the lowest first, are a member's up to this height
+abbrev pub AreKeysUpTo : ℕ → PrivateKeys → Keys → Type 0
+AreKeysUpTo h p above = (ss : List Step) → length ss ≡ h → reverse above ++ (Some p.own ∷ []) ≡ on_way ss (all_keys p)
+
+-- the path secret that is sealed to the first of some nodes whose key a member has, without the leaves just added
+abbrev pub OpensFirst : Crypto → List ℕ → ℕ → ℕ → PrivateKeys → List ℕ → List ℕ → List HpkeCiphertext → Result (List ℕ) TreeKemError → Type 0
+OpensFirst c context h b p added nodes xs result =
+    (t : Term) → is_perfect h t ≡ true → Answers (λ s. s) number_of (open_first c context (key_of b t p) (less (leaf_numbers added) nodes) xs) result
+
+-- what is opened at a place, with the keys below
+abbrev pub OpensHere : Crypto → List ℕ → List ℕ → Term → ℕ → Place → PrivateKeys → List UpdatePathNode → Result Standing TreeKemError → Type 0
+OpensHere c context added t h q p path result =
+    (ss : List Step) → length ss ≡ h → Answers (λ m. with_own p.own (climb_of m)) number_of (open_here c context added (step_of t q) p.leaf (on_way ss (all_keys p)) (reverse path)) result
+
+-- a climb along a way
+abbrev pub OpensAlong : Crypto → List ℕ → List ℕ → List Step → PrivateKeys → List UpdatePathNode → Result Standing TreeKemError → Type 0
+OpensAlong c context added ss p path result =
+    Answers (λ m. with_own p.own (climb_of m)) number_of (climb_open c context added ss p.leaf (on_way ss (all_keys p)) (reverse path)) result

@@ -1,0 +1,259 @@
+//! What a member takes of a path that it receives (RFC 9420, 7.5 and 7.6).
+
+ghost use Rattle.std.specs.Prelude.{◌≡◌, ◌+◌, ◌*◌, ◌^◌, ◌<◌, ◌≤◌, ◌==◌, not, length, map, reverse, IfOk, OnErr};
+ghost use Rattle.std.specs.List.{list_any};
+ghost use Rattle.mls_wire.specs.Checks.{Answers, AnswersOutright};
+ghost use Rattle.mls_term.specs.Places.{resolution_at};
+ghost use Rattle.mls_term.specs.Resolution.{is_empty};
+ghost use Rattle.mls_tree.specs.Tree.{term};
+ghost use Rattle.mls_treekem.specs.Climbing.{climb_of};
+ghost use Rattle.mls_treekem.specs.Faults.{number_of};
+ghost use Rattle.mls_treekem.specs.Open.{of_32, left_by, past_parent, opened_path};
+ghost use Rattle.mls_treekem.specs.Opening.{secret_in, keys_on, climb_to, IsKeyOf, AreKeysUpTo, OpensFirst, OpensHere, OpensAlong};
+ghost use Rattle.mls_treekem.specs.Place.{step_of, IsPlaced, ArePlaced};
+
+use crate::climb::Climb;
+use crate::places::{Place, parents_over, side_of};
+use crate::{PrivatePath, TreeKemError};
+use mls_group::{HpkeCiphertext, UpdatePathNode};
+use mls_kdf::Secret;
+use mls_suite::{OutOfMemory, Suite, decrypt_with_label};
+use mls_tree::PublicTree;
+use std::alloc::Global;
+
+/// The path secret that these bytes are: `SecretLength` (33) unless there are 32.
+fn secret_of(bytes: &[u8]) -> Result<Secret, TreeKemError>
+    ensures { AnswersOutright (λ s. s) number_of (of_32 bytes.now) result }
+{
+    match <[u8; 32]>::try_from(bytes) {
+        Ok(secret) => Ok(secret),
+        Err(_) => Err(TreeKemError::SecretLength),
+    }
+}
+
+/// The path secret in a ciphertext (RFC 9420, 7.6): `OpenFailed` (32) where the key doesn't open it.
+fn open_secret<S: Suite>(
+    alloc: Global,
+    key: &Secret,
+    sealed: &HpkeCiphertext,
+    context: &[u8],
+) -> Result<Secret, TreeKemError>
+    requires { length context.now < 2 ^ 30 }
+    ensures { Answers (λ s. s) number_of (secret_in S.crypto context.now key.now sealed.now) result }
+{
+    let opened = decrypt_with_label::<S>(
+        alloc,
+        key,
+        "UpdatePathNode",
+        context,
+        sealed.kem_output.as_slice(),
+        sealed.ciphertext.as_slice(),
+    )?;
+    match opened {
+        Some(bytes) => secret_of(&bytes),
+        None => Err(TreeKemError::OpenFailed),
+    }
+}
+
+/// Whether a node is the leaf of a member that was just added.
+fn is_added(added: &[u32], node: u64) -> bool
+    ensures { result ≡ list_any (λ u. 2 * u == node) added.now }
+{
+    added.iter().any(|leaf| 2 * (*leaf as u64) == node)
+}
+
+/// Whether the filtered direct path takes a parent in.
+fn is_filtered(tree: &PublicTree, place: &Place) -> Result<bool, OutOfMemory>
+    ensures { IfOk result (λ b. b ≡ not (is_empty (resolution_at 0 (term tree.now) place.now.beside))) }
+{
+    let nodes = tree.resolution(place.beside)?;
+    Ok(!nodes.is_empty())
+}
+
+/// The nodes of the path below a parent.
+fn nodes_below(is_filtered: bool, path: &[UpdatePathNode]) -> &[UpdatePathNode]
+    ensures { reverse result.now ≡ left_by is_filtered (reverse path.now) }
+{
+    if !is_filtered {
+        return path;
+    }
+    match path.split_last() {
+        Some((_, below)) => below,
+        None => path,
+    }
+}
+
+/// Goes past a parent, for which the highest node of the path is made where it is filtered (RFC 9420, 7.5).
+fn past_parent<S: Suite>(
+    is_filtered: bool,
+    path: &[UpdatePathNode],
+    climb: Climb,
+) -> Result<Climb, TreeKemError>
+    ensures { Answers climb_of number_of (past_parent S.crypto is_filtered (reverse path.now) (climb_of climb)) result }
+{
+    if !is_filtered {
+        return Ok(climb.past_blank()?);
+    }
+    match path.split_last() {
+        Some((node, _)) => climb.past_key::<S>(node.encryption_key.as_slice()),
+        None => Err(TreeKemError::PathKeyMismatch),
+    }
+}
+
+impl PrivatePath {
+    /// The key of a node of a perfect subtree that has this first leaf.
+    fn key_of(&self, height: u32, first: u64, node: u64) -> Option<Secret>
+        requires low { height ≤ 31 }
+        requires fits { first + 2 ^ height ≤ 2 ^ 33 }
+        ensures { IsKeyOf height first self.now node result }
+    {
+        let leaf = self.leaf() as u64;
+        if height == 0 {
+            if node == 2 * leaf {
+                return self.key_at(0);
+            }
+            return None;
+        }
+        let half = side_of(height) as u64;
+        if node == 2 * first + (2 * half - 1) {
+            return self.key_at(height);
+        }
+        if leaf < first + half {
+            self.key_of(height - 1, first, node)
+        } else {
+            self.key_of(height - 1, first + half, node)
+        }
+    }
+
+    /// The path secret that is sealed to the first of some nodes whose key is held (RFC 9420, 7.6): `OpenFailed` (32)
+    /// where none is.
+    fn open_first<S: Suite>(
+        &self,
+        height: u32,
+        first: u32,
+        nodes: &[u64],
+        added: &[u32],
+        ciphertexts: &[HpkeCiphertext],
+        context: &[u8],
+    ) -> Result<Secret, TreeKemError>
+        requires context { length context.now < 2 ^ 30 }
+        requires low { height ≤ 31 }
+        ensures { OpensFirst S.crypto context.now height first self.now added.now nodes.now ciphertexts.now result }
+    {
+        let alloc = *self.above.allocator();
+        let mut sealed = ciphertexts;
+        for node in nodes {
+            if is_added(added, *node) {
+                continue;
+            }
+            let Some((ciphertext, others)) = sealed.split_first() else {
+                return Err(TreeKemError::OpenFailed);
+            };
+            if let Some(key) = self.key_of(height, first as u64, *node) {
+                return open_secret::<S>(alloc, &key, ciphertext, context);
+            }
+            sealed = others;
+        }
+        Err(TreeKemError::OpenFailed)
+    }
+
+    /// The keys up to this height, the lowest first, without the leaf's.
+    fn keys_up_to(&self, height: u32) -> Result<Vec<Option<Secret>>, OutOfMemory>
+        ensures { IfOk result (λ v. AreKeysUpTo height self.now v.items) }
+    {
+        let mut above = Vec::new(*self.above.allocator());
+        for i in 0..height {
+            above.push(self.key_at(i + 1))?;
+        }
+        Ok(above)
+    }
+
+    /// What is opened at the parent where the ways part, with the keys below.
+    fn open_here<S: Suite>(
+        &self,
+        tree: &PublicTree,
+        place: &Place,
+        height: u32,
+        added: &[u32],
+        path: &[UpdatePathNode],
+        context: &[u8],
+    ) -> Result<Climb, TreeKemError>
+        requires context { length context.now < 2 ^ 30 }
+        requires low { height ≤ 31 }
+        requires placed { IsPlaced (term tree.now) height place.now }
+        ensures { OpensHere S.crypto context.now added.now (term tree.now) height place.now self.now path.now result }
+    {
+        let Some((node, _)) = path.split_last() else {
+            return Err(TreeKemError::OpenFailed);
+        };
+        let nodes = tree.resolution(place.beside)?;
+        let above = self.keys_up_to(height)?;
+        let ciphertexts = node.ciphertexts.as_slice();
+        match self.open_first::<S>(height, place.first, &nodes, added, ciphertexts, context) {
+            Ok(secret) => Ok(Climb { secret, above }),
+            Err(error) => Err(error),
+        }
+    }
+
+    /// The member's climb along the committer's way, whose parents are given with the highest first.
+    fn climb_along<S: Suite>(
+        &self,
+        tree: &PublicTree,
+        places: &[Place],
+        added: &[u32],
+        path: &[UpdatePathNode],
+        context: &[u8],
+    ) -> Result<Climb, TreeKemError>
+        requires context { length context.now < 2 ^ 30 }
+        requires low { length places.now ≤ 31 }
+        requires placed { ArePlaced (term tree.now) places.now }
+        ensures { OpensAlong S.crypto context.now added.now (map (step_of (term tree.now)) places.now) self.now path.now result }
+    {
+        let Some((place, below)) = places.split_first() else {
+            return Err(TreeKemError::OpenFailed);
+        };
+        let is_filtered = is_filtered(tree, place)?;
+        if place.is_beside(self.leaf()) {
+            let height = below.len() as u32;
+            return match self.open_here::<S>(tree, place, height, added, path, context) {
+                Ok(climb) => past_parent::<S>(is_filtered, path, climb),
+                Err(error) => Err(error),
+            };
+        }
+        let rest = nodes_below(is_filtered, path);
+        match self.climb_along::<S>(tree, below, added, rest, context) {
+            Ok(climb) => past_parent::<S>(is_filtered, path, climb),
+            Err(error) => Err(error),
+        }
+    }
+
+    /// Takes the commit secret and its new keys of a path that leaf `committer` made, whose nodes come the lowest
+    /// first. The tree is the one after the commit's edits, and `added` are the leaves that it added. `OpenFailed` (32)
+    /// where no ciphertext is for the member or its doesn't open, `SecretLength` (33) where that hasn't 32 bytes,
+    /// `PathKeyMismatch` (34) where a derived public key isn't the path's, the lowest node's first (RFC 9420, 7.5).
+    /// After a refusal the keys are as before.
+    pub fn open_path<S: Suite>(
+        &mut self,
+        tree: &PublicTree,
+        committer: u32,
+        added: &[u32],
+        path: &[UpdatePathNode],
+        context: &[u8],
+    ) -> Result<Secret, TreeKemError>
+        requires { length context.now < 2 ^ 30 }
+        ensures answer { Answers (λ secret. climb_to secret self.new) number_of (opened_path S.crypto context.now added.now (term tree.now) committer self.old.leaf (keys_on (term tree.now) self.old) path.now) result }
+        ensures leaf { self.new.leaf ≡ self.old.leaf }
+        ensures err { OnErr result (self.new ≡ self.old) }
+    {
+        let alloc = *self.above.allocator();
+        let places = parents_over(alloc, tree, committer)?;
+        match self.climb_along::<S>(tree, &places, added, path, context) {
+            Ok(climb) => {
+                let Climb { secret, above } = climb;
+                self.above = above;
+                Ok(secret)
+            }
+            Err(error) => Err(error),
+        }
+    }
+}

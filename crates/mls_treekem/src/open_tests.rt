@@ -1,0 +1,170 @@
+//! Leaf 1's path in a tree of four members, as the others open it.
+
+use crate::tests::{key_nodes, member};
+use crate::{PathSecrets, PrivatePath, TreeKemError};
+use mls_group::{HpkeCiphertext, UpdatePathNode};
+use mls_kdf::{Secret, derive_secret};
+use mls_leaf::{Bytes, Items};
+use mls_suite::{Glass, Suite, encrypt_with_label};
+use mls_tree::PublicTree;
+use std::alloc::Global;
+use std::test::Fail;
+
+/// The first path secret.
+const START: Secret = [7; 32];
+
+fn four(alloc: Global) -> Result<PublicTree, Fail> {
+    let mut tree = PublicTree::single(alloc, member(alloc, 1)?)?;
+    let _ = tree.add(member(alloc, 2)?)?;
+    let _ = tree.add(member(alloc, 3)?)?;
+    let _ = tree.add(member(alloc, 4)?)?;
+    Ok(tree)
+}
+
+/// A text sealed to the key of a private key of 32 such bytes.
+fn sealed(alloc: Global, key: u8, text: &[u8]) -> Result<HpkeCiphertext, Fail> {
+    let pk = Glass::public(alloc, &[key; 32])?;
+    let made = encrypt_with_label::<Glass>(
+        alloc,
+        &pk,
+        "UpdatePathNode",
+        b"context",
+        text,
+        &[9; 32],
+    )?;
+    match made {
+        Some(sealed) => Ok(HpkeCiphertext {
+            kem_output: Bytes::from_vec(sealed.kem),
+            ciphertext: Bytes::from_vec(sealed.ct),
+        }),
+        None => Err("a key that isn't fit".into()),
+    }
+}
+
+/// The node of a path secret, with a text that is sealed to some keys.
+fn node(alloc: Global, secret: &Secret, keys: &[u8], text: &[u8]) -> Result<UpdatePathNode, Fail> {
+    let pair = Glass::derive_key_pair(alloc, &derive_secret(secret, "node"))?;
+    let mut ciphertexts = Vec::new(alloc);
+    for key in keys {
+        ciphertexts.push(sealed(alloc, *key, text)?)?;
+    }
+    Ok(UpdatePathNode {
+        encryption_key: Bytes::from_vec(pair.pk),
+        ciphertexts: Items::from_vec(ciphertexts),
+    })
+}
+
+/// Leaf 1's path, whose highest node is that of a path secret, with a text sealed to some keys.
+fn path(
+    alloc: Global,
+    highest: &Secret,
+    keys: &[u8],
+    text: &[u8],
+) -> Result<Vec<UpdatePathNode>, Fail> {
+    let mut nodes = Vec::new(alloc);
+    nodes.push(node(alloc, &START, &[1], &START)?)?;
+    nodes.push(node(alloc, highest, keys, text)?)?;
+    Ok(nodes)
+}
+
+/// The path secret of the root.
+fn second() -> Secret {
+    derive_secret(&START, "path")
+}
+
+/// The nodes of leaf i's keys after it opened leaf 1's path in a commit that added these leaves.
+fn nodes_after(
+    alloc: Global,
+    i: u32,
+    key: u8,
+    added: &[u32],
+    keys: &[u8],
+) -> Result<Vec<u64>, Fail> {
+    let tree = four(alloc)?;
+    let mut own = PrivatePath::new(alloc, i, [key; 32]);
+    let nodes = path(alloc, &second(), keys, &second())?;
+    let commit_secret = own.open_path::<Glass>(&tree, 1, added, &nodes, b"context")?;
+    let made = PathSecrets::new::<Glass>(alloc, &START, 2)?;
+    if commit_secret != made.commit_secret {
+        return Err("another commit secret".into());
+    }
+    Ok(key_nodes(alloc, &own)?)
+}
+
+#[test]
+fn opened_by_each_member(rt: HostRuntime) -> Result<(), Fail> {
+    let alloc = rt.alloc();
+    let first = nodes_after(alloc, 0, 1, &[], &[3, 4])?;
+    assert_eq!(rt; first.as_slice(), [0, 1, 3].as_slice());
+    let third = nodes_after(alloc, 2, 3, &[], &[3, 4])?;
+    assert_eq!(rt; third.as_slice(), [3, 4].as_slice());
+    let fourth = nodes_after(alloc, 3, 4, &[], &[3, 4])?;
+    assert_eq!(rt; fourth.as_slice(), [3, 6].as_slice());
+    Ok(())
+}
+
+#[test]
+fn added_leaves_have_no_ciphertext(rt: HostRuntime) -> Result<(), Fail> {
+    let fourth = nodes_after(rt.alloc(), 3, 4, &[2], &[4])?;
+    assert_eq!(rt; fourth.as_slice(), [3, 6].as_slice());
+    Ok(())
+}
+
+/// The number that leaf 2 refuses a path with, whose keys are then as before, or 0.
+fn refused(alloc: Global, nodes: &[UpdatePathNode]) -> Result<u8, Fail> {
+    let tree = four(alloc)?;
+    let mut own = PrivatePath::new(alloc, 2, [3; 32]);
+    match own.open_path::<Glass>(&tree, 1, &[], nodes, b"context") {
+        Ok(_) => Ok(0),
+        Err(TreeKemError::OutOfMemory) => Err(TreeKemError::OutOfMemory.into()),
+        Err(error) => {
+            if key_nodes(alloc, &own)?.as_slice() == [4].as_slice() {
+                Ok(error.number())
+            } else {
+                Err("keys changed".into())
+            }
+        }
+    }
+}
+
+/// The number that leaf 2 refuses the path with, whose highest node has this path secret, or 0.
+fn refused_path(alloc: Global, highest: &Secret, keys: &[u8], text: &[u8]) -> Result<u8, Fail> {
+    let nodes = path(alloc, highest, keys, text)?;
+    refused(alloc, &nodes)
+}
+
+#[test]
+fn paths_that_are_refused(rt: HostRuntime) -> Result<(), Fail> {
+    let alloc = rt.alloc();
+    let text = second();
+    assert_eq!(rt; refused_path(alloc, &text, &[3, 4], &text)?, 0);
+    assert_eq!(rt; refused_path(alloc, &text, &[4, 4], &text)?, 32);
+    assert_eq!(rt; refused_path(alloc, &text, &[], &text)?, 32);
+    assert_eq!(rt; refused_path(alloc, &text, &[3, 4], &[5; 31])?, 33);
+    assert_eq!(rt; refused_path(alloc, &[8; 32], &[3, 4], &text)?, 34);
+    Ok(())
+}
+
+#[test]
+fn a_changed_ciphertext(rt: HostRuntime) -> Result<(), Fail> {
+    let alloc = rt.alloc();
+    let HpkeCiphertext {
+        kem_output,
+        ciphertext,
+    } = sealed(alloc, 3, &second())?;
+    let mut changed = ciphertext.into_vec();
+    if let Some(byte) = changed.first_mut() {
+        *byte ^= 1;
+    }
+    let mut ciphertexts = Vec::new(alloc);
+    ciphertexts.push(HpkeCiphertext {
+        kem_output,
+        ciphertext: Bytes::from_vec(changed),
+    })?;
+    let mut nodes = path(alloc, &second(), &[], &second())?;
+    if let Some(node) = nodes.last_mut() {
+        node.ciphertexts = Items::from_vec(ciphertexts);
+    }
+    assert_eq!(rt; refused(alloc, &nodes)?, 32);
+    Ok(())
+}
