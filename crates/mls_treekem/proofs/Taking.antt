@@ -10,7 +10,6 @@ use Rattle.mls_leaf.specs.Parent.{Parent}
 use Rattle.mls_term.specs.Sets.{has}
 use Rattle.mls_term.specs.Term.{Term, width, is_perfect}
 use Rattle.mls_term.specs.Way.{Step, way, is_beside}
-use Rattle.mls_term.specs.ShapeLaws.{width-perfect}
 use Rattle.mls_suite.specs.Crypto.{Crypto}
 use Rattle.mls_treekem.specs.declared.places.Place.{Place}
 use Rattle.mls_treekem.specs.Chain.{next_secret, node_key, node_public}
@@ -21,10 +20,11 @@ use Rattle.mls_treekem.specs.Faults.{number_of}
 use Rattle.mls_treekem.specs.Keys.{Keys, leaf_only}
 use Rattle.mls_treekem.specs.Make.{Climb}
 use Rattle.mls_treekem.specs.Join.{past_present, is_present, climb_take, is_due, is_complete, take_keys, take_answer}
-use Rattle.mls_treekem.specs.Place.{subtree_at, step_of, IsPlaced, ArePlaced, IsWay}
+use Rattle.mls_treekem.specs.Place.{step_of, ArePlaced, IsWay}
 use Rattle.mls_treekem.proofs.Levels.{reverse-end, way_height}
 use Rattle.mls_treekem.proofs.Receiving.{bind_ok}
 use Rattle.mls_treekem.proofs.Joining.{sounds}
+use Rattle.mls_treekem.proofs.Opened.{beside_is, first_placed}
 
 -- ---- one place
 
@@ -33,17 +33,9 @@ unfolding has
 is_listed [] x = refl
 is_listed (y ∷ ys) x = ap (λ b. nat_eq y x || b) (is_listed ys x)
 
-beside_is : (t : Term) (h j : ℕ) (p : Place) → IsPlaced t h p → (nat_le p.first j && nat_lt j (p.first + p.leaves)) ≡ is_beside (step_of t p) j
-unfolding step_of
-beside_is t h j p at = ap (λ n. nat_le p.first j && nat_lt j (p.first + n)) (at.leaves ∙ sym (width-perfect h (subtree_at t p.beside) at.perfect))
-
 pub is_there : (p : Option Parent) (there : Bool) (m : Climb) → there ≡ is_some p → there ≡ true → is_present p m ≡ Ok m
 is_there (Some p) there m e f = refl
 is_there None there m e f = cc
-
-pub is_blank : (p : Option Parent) (there : Bool) (m : Climb) → there ≡ is_some p → there ≡ false → is_present p m ≡ Err 34
-is_blank (Some p) there m e f = cc
-is_blank None there m e f = refl
 
 -- ---- no keys
 
@@ -75,12 +67,7 @@ module _ (c : Crypto) (t : Term) (j : ℕ) (secret : List ℕ) where
 
   module _ (p : Place) (ps all : List Place) (is : all ≡ p ∷ ps) (placed : ArePlaced t all) (test : Bool) (test_is : test ≡ (nat_le p.first j && nat_lt j (p.first + p.leaves))) where
     beside : test ≡ is_beside (step_of t p) j
-    unfolding ArePlaced
-    beside = let both : ArePlaced t (p ∷ ps) = subst (λ z. ArePlaced t z) is placed in test_is ∙ beside_is t (length ps) j p both.0
-
-    pub lower_placed : ArePlaced t ps
-    unfolding ArePlaced
-    lower_placed = let both : ArePlaced t (p ∷ ps) = subst (λ z. ArePlaced t z) is placed in both.1
+    beside = test_is ∙ beside_is t (length ps) p (first_placed t p ps all is placed) j
 
     abbrev past : Climb → Result Climb ℕ
     past m = past_present c j (step_of t p).parent m

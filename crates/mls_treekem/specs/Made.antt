@@ -4,7 +4,6 @@ use Rattle.mls_suite.specs.Crypto.{Crypto}
 use Rattle.mls_suite.specs.declared.KeyPair.{KeyPair}
 use Rattle.mls_treekem.specs.Chain.{chain, path_secrets, node_key, node_public}
 use Rattle.mls_treekem.specs.Keys.{Keys}
-use Rattle.mls_treekem.specs.Make.{Climb}
 use Rattle.mls_treekem.specs.declared.secrets.PathSecrets.{PathSecrets}
 
 -- key pairs are those of some path secrets
@@ -27,7 +26,3 @@ pub record PrivateKeys : Type 0 where
 -- all its keys, the highest first
 abbrev pub all_keys : PrivateKeys → Keys
 all_keys p = p.above ++ (Some p.own ∷ [])
-
--- a member that has all keys of a climb, and its secret
-abbrev pub taken_by : PrivateKeys → List ℕ → Climb
-taken_by p secret = record { secret = secret; keys = all_keys p }

@@ -8,7 +8,7 @@ ghost use Rattle.mls_tree.specs.Tree.{term};
 ghost use Rattle.mls_treekem.specs.Climbing.{climb_of, with_own};
 ghost use Rattle.mls_treekem.specs.Faults.{number_of};
 ghost use Rattle.mls_treekem.specs.Join.{past_present, is_present, climb_take, is_due, is_complete, take_answer};
-ghost use Rattle.mls_treekem.specs.Made.{taken_by};
+ghost use Rattle.mls_treekem.specs.Opening.{climb_to};
 ghost use Rattle.mls_treekem.specs.Place.{step_of, ArePlaced};
 
 use crate::climb::Climb;
@@ -156,7 +156,7 @@ impl PrivatePath {
         signer: u32,
         secret: &Secret,
     ) -> Result<Secret, TreeKemError>
-        ensures answer { Answers (taken_by self.new) number_of (take_answer S.crypto (term tree.now) signer self.old.leaf self.old.own secret.now) result }
+        ensures answer { Answers (λ s. climb_to s self.new) number_of (take_answer S.crypto (term tree.now) signer self.old.leaf self.old.own secret.now) result }
         ensures leaf { self.new.leaf ≡ self.old.leaf }
         ensures own { self.new.own ≡ self.old.own }
         ensures err { OnErr result (self.new ≡ self.old) }
