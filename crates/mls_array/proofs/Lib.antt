@@ -14,7 +14,6 @@ pub mod Hashed
 pub mod Merged
 pub mod Sorts
 pub mod Gathered
-pub mod Found
 pub mod Listed
 pub mod Original
 pub mod Others

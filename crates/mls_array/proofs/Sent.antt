@@ -70,32 +70,6 @@ cut-back xs n (Some y) some within is blank = absurd (true≢false blank)
 
 -- ---- the least height
 
-least : (more j h n : ℕ) → j ≤ h → h ≤ more + j → ((k : ℕ) → k < h → nodes_in k < n) → n ≤ nodes_in h → height_from more j n ≡ h
-unfolding height_from
-least zero j h n low high small enough = omega arith
-least (suc more) j h n low high small enough =
-    elim (cases_Bool (nat_le n (nodes_in j))) [
-      | inl e ↦ cond-true _ _ _ e ∙ not_below (leb-true n (nodes_in j) e)
-      | inr e ↦ cond-false _ _ _ e ∙ least more (suc j) h n (above e) (omega arith) small enough
-    ]
-  where
-    not_below : n ≤ nodes_in j → j ≡ h
-    not_below le = elim (cases_lt j h) [ inl lt ↦ absurd (let z = small j lt in omega arith) | inr ge ↦ omega arith ]
-
-    above : nat_le n (nodes_in j) ≡ false → suc j ≤ h
-    above e = elim (cases_lt j h) [
-      | inl lt ↦ omega arith
-      | inr ge ↦ let z = nodes_in_up h j ge in absurd (true≢false (sym (le-leb n (nodes_in j) (omega arith)) ∙ e))
-    ]
-
-least_height : (h n : ℕ) → ((k : ℕ) → k < h → nodes_in k < n) → n ≤ nodes_in h → height_for n ≡ h
-unfolding height_for
-least_height h n small enough = least n 0 h n (omega arith) (fits h small) small enough
-  where
-    fits : (h : ℕ) → ((k : ℕ) → k < h → nodes_in k < n) → h ≤ n + 0
-    fits zero small = omega arith
-    fits (suc j) small = let a = small j (omega arith) in let d = high_enough j in omega arith
-
 pub height_for-zero : height_for 0 ≡ 0
 height_for-zero = least_height 0 0 (λ k lt. absurd (omega arith)) (omega arith)
 

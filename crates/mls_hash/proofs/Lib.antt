@@ -1,4 +1,3 @@
 pub mod Feeding
-pub mod Found
 pub mod Headers
 pub mod Parents

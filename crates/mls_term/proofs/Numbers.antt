@@ -12,39 +12,7 @@ use Rattle.mls_term.specs.Term.{Term, Leaf, Branch, width, size, is_perfect, lea
 use Rattle.mls_term.specs.Places.{at_node}
 use Rattle.mls_term.specs.Arrays.{leaf_in, leaf_cell, parent_cell, in_order, own_node, node_at, under}
 use Rattle.mls_term.specs.ShapeLaws.{size-width, width-perfect}
-use Rattle.mls_term.specs.ArrayLaws.{length-in_order, leaf_in-cell, size-perfect}
-
-node_of_leaf : (b : ℕ) (v : Option LeafNode) (n : ℕ) → at_node None own_node b (Leaf v) (2 * b + n) ≡ get_or (leaf_cell v ∷ []) n None
-node_of_leaf b v zero = at_node_leaf b v None own_node (2 * b + 0) (omega arith)
-node_of_leaf b v (suc n) = at_node_no_leaf b v None own_node (2 * b + suc n) (λ e. absurd (omega arith))
-
--- the list has the nodes at their numbers
-node_in_order : (b : ℕ) (t : Term) (n : ℕ) → at_node None own_node b t (2 * b + n) ≡ get_or (in_order t) n None
-unfolding in_order
-node_in_order b (Leaf v) n = node_of_leaf b v n
-node_in_order b (Branch c l r) n =
-    let s = size-width l in
-    let len = length-in_order l in
-    elim (cases_order n (size l)) [
-      | inl e ↦
-          at_node_here None own_node b c l r (2 * b + n) (omega arith)
-          ∙ sym (get_or_at (in_order l) (parent_cell c) (in_order r) None n (len ∙ sym e))
-      | inr (inl lt) ↦
-          at_node_left None own_node b c l r (2 * b + n) (omega arith)
-          ∙ node_in_order b l n
-          ∙ sym (get_or_append_left (in_order l) (parent_cell c ∷ in_order r) None n (omega arith))
-      | inr (inr gt) ↦
-          let m : ℕ = n - suc (size l) in
-          at_node_right None own_node b c l r (2 * b + n) (omega arith)
-          ∙ ap (at_node None own_node (b + width l) r) (let e : 2 * b + n ≡ 2 * (b + width l) + m = omega arith in e)
-          ∙ node_in_order (b + width l) r m
-          ∙ ap (λ j. get_or (parent_cell c ∷ in_order r) j None) (let e : suc m ≡ n - size l = omega arith in e)
-          ∙ sym (get_or-append_right (in_order l) (parent_cell c ∷ in_order r) (size l) n None len (omega arith))
-    ]
-
-pub node-in_order : (b : ℕ) (t : Term) (n : ℕ) → node_at b t (2 * b + n) ≡ get_or (in_order t) n None
-unfolding node_at
-node-in_order = node_in_order
+use Rattle.mls_term.specs.ArrayLaws.{leaf_in-cell, node-in_order, size-perfect}
 
 leaf_is_node : (b : ℕ) (t : Term) (i : ℕ) → b ≤ i → i < b + width t → leaf_in (at_node None own_node b t (2 * i)) ≡ leaf_at b t i
 unfolding width

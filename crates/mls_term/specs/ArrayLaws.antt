@@ -235,6 +235,40 @@ cut_member (Branch c l r) h =
       | inr k ↦ let e = cut_root c l r (cut_member r k) in omega arith
     ]
 
+-- ---- nodes
+
+node_of_leaf : (b : ℕ) (v : Option LeafNode) (n : ℕ) → at_node None own_node b (Leaf v) (2 * b + n) ≡ get_or (leaf_cell v ∷ []) n None
+node_of_leaf b v zero = at_node_leaf b v None own_node (2 * b + 0) (omega arith)
+node_of_leaf b v (suc n) = at_node_no_leaf b v None own_node (2 * b + suc n) (λ e. absurd (omega arith))
+
+-- the list has the nodes at their numbers
+node_in_order : (b : ℕ) (t : Term) (n : ℕ) → at_node None own_node b t (2 * b + n) ≡ get_or (in_order t) n None
+unfolding in_order
+node_in_order b (Leaf v) n = node_of_leaf b v n
+node_in_order b (Branch c l r) n =
+    let s = size-width l in
+    let len = length-in_order l in
+    elim (cases_order n (size l)) [
+      | inl e ↦
+          at_node_here None own_node b c l r (2 * b + n) (omega arith)
+          ∙ sym (get_or_at (in_order l) (parent_cell c) (in_order r) None n (len ∙ sym e))
+      | inr (inl lt) ↦
+          at_node_left None own_node b c l r (2 * b + n) (omega arith)
+          ∙ node_in_order b l n
+          ∙ sym (get_or_append_left (in_order l) (parent_cell c ∷ in_order r) None n (omega arith))
+      | inr (inr gt) ↦
+          let m : ℕ = n - suc (size l) in
+          at_node_right None own_node b c l r (2 * b + n) (omega arith)
+          ∙ ap (at_node None own_node (b + width l) r) (let e : 2 * b + n ≡ 2 * (b + width l) + m = omega arith in e)
+          ∙ node_in_order (b + width l) r m
+          ∙ ap (λ j. get_or (parent_cell c ∷ in_order r) j None) (let e : suc m ≡ n - size l = omega arith in e)
+          ∙ sym (get_or-append_right (in_order l) (parent_cell c ∷ in_order r) (size l) n None len (omega arith))
+    ]
+
+pub node-in_order : (b : ℕ) (t : Term) (n : ℕ) → node_at b t (2 * b + n) ≡ get_or (in_order t) n None
+unfolding node_at
+node-in_order = node_in_order
+
 -- ---- the least height
 
 least : (more j h n : ℕ) → j ≤ h → h ≤ more + j → ((k : ℕ) → k < h → nodes_in k < n) → n ≤ nodes_in h → height_from more j n ≡ h
@@ -255,9 +289,9 @@ least (suc more) j h n low high small enough =
       | inr ge ↦ let z = no_fewer h j ge in absurd (true≢false (sym (le-leb n (nodes_in j) (omega arith)) ∙ e))
     ]
 
-height_at : (h n : ℕ) → ((k : ℕ) → k < h → nodes_in k < n) → n ≤ nodes_in h → 0 < n → height_for n ≡ h
+pub least_height : (h n : ℕ) → ((k : ℕ) → k < h → nodes_in k < n) → n ≤ nodes_in h → height_for n ≡ h
 unfolding height_for
-height_at h n small enough some = least n 0 h n (omega arith) (fits h small) small enough
+least_height h n small enough = least n 0 h n (omega arith) (fits h small) small enough
   where
     fits : (h : ℕ) → ((k : ℕ) → k < h → nodes_in k < n) → h ≤ n + 0
     fits zero small = omega arith
@@ -293,7 +327,7 @@ sent_height h t p f =
     let w = (was_cut (in_order t)).sum in
     let e = length-in_order t in
     let s = size-perfect h t p in
-    height_at h (length (cut (in_order t))) (sent_long h t p f) (omega arith) (sent_some t f)
+    least_height h (length (cut (in_order t))) (sent_long h t p f) (omega arith)
 
 sent_list : (h : ℕ) (t : Term) → is_perfect h t ≡ true → is_full_width t ≡ true → padded (cut (in_order t)) ≡ in_order t
 unfolding padded

@@ -17,6 +17,7 @@ pub mod Equations
 pub mod Laws
 pub mod Examples
 pub mod SetLaws
+pub mod SearchLaws
 pub mod ShapeLaws
 pub mod ParentLaws
 pub mod NamedLaws

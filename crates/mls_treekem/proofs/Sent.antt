@@ -34,21 +34,9 @@ use Rattle.mls_treekem.proofs.Making.{count_is_length}
 
 -- ---- seals by the low bits of their number
 
--- four bytes are the number's lowest ones
-same_bytes : (a b : ℕ) → a % 2 ^ 32 ≡ b % 2 ^ 32 → to_be_bytes w32 a ≡ to_be_bytes w32 b
-same_bytes a b e =
-    let first : a / 2 ^ 24 % 256 ≡ b / 2 ^ 24 % 256 = omega arith in
-    let second : a / 2 ^ 16 % 256 ≡ b / 2 ^ 16 % 256 = omega arith in
-    let third : a / 2 ^ 8 % 256 ≡ b / 2 ^ 8 % 256 = omega arith in
-    let fourth : a % 256 ≡ b % 256 = omega arith in
-    ap (λ (x : ℕ). x ∷ a / 2 ^ 16 % 256 ∷ a / 2 ^ 8 % 256 ∷ a % 256 ∷ []) first
-    ∙ ap (λ (x : ℕ). b / 2 ^ 24 % 256 ∷ x ∷ a / 2 ^ 8 % 256 ∷ a % 256 ∷ []) second
-    ∙ ap (λ (x : ℕ). b / 2 ^ 24 % 256 ∷ b / 2 ^ 16 % 256 ∷ x ∷ a % 256 ∷ []) third
-    ∙ ap (λ (x : ℕ). b / 2 ^ 24 % 256 ∷ b / 2 ^ 16 % 256 ∷ b / 2 ^ 8 % 256 ∷ x ∷ []) fourth
-
 seed_low : (seed : List ℕ) (i j : ℕ) → i % 2 ^ 32 ≡ j % 2 ^ 32 → seal_seed seed i ≡ seal_seed seed j
 unfolding seal_seed uint
-seed_low seed i j e = ap (λ bytes. expand_with_label seed (codes "seed seal") bytes 32) (same_bytes i j e)
+seed_low seed i j e = ap (λ bytes. expand_with_label seed (codes "seed seal") bytes 32) (low_bytes i j e)
 
 module _ (c : Crypto) (context secret : List ℕ) (b : ℕ) (t : Term) (seed : List ℕ) where
   pub sealed_low : (i j : ℕ) (ds : List ℕ) → i % 2 ^ 32 ≡ j % 2 ^ 32 → seal_all c context secret b t (seal_seed seed) i ds ≡ seal_all c context secret b t (seal_seed seed) j ds
