@@ -1,2 +1,4 @@
 mod CheckNames
 mod SentTrees
+mod ShortLeaves
+mod Orders

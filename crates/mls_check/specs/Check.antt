@@ -1,5 +1,5 @@
 -- What `mls check` prints.
-use Rattle.std.specs.Prelude.{nat_lt, ℕ, List, [], ◌∷◌, codes, length, if◌then◌else◌, Option, Some, None, Result, Ok, Err}
+use Rattle.std.specs.Prelude.{nat_lt, ◌==◌, ℕ, Bool, List, [], ◌∷◌, ◌++◌, codes, length, if◌then◌else◌, Option, Some, None, is_some, Result, Ok, Err}
 use Rattle.hex.specs.Hex.{decode_of}
 use Rattle.mls_wire.specs.Checks.{given}
 use Rattle.mls_wire.specs.Reading.{◌>>=◌}
@@ -8,11 +8,14 @@ use Rattle.mls_group.specs.GroupInfo.{ratchet_tree}
 use Rattle.mls_term.specs.Term.{Term, width}
 use Rattle.mls_term.specs.Keys.{members}
 use Rattle.mls_term.specs.Hashes.{tree_hash}
+use Rattle.mls_term.specs.Good.{has_good_lists, has_good_hashes, has_distinct_keys, has_distinct_clients, is_all_signed, is_all_capable, is_all_fit}
 use Rattle.mls_term.specs.Arrays.{from_nodes}
+use Rattle.mls_suite.specs.Crypto.{Crypto}
 use Rattle.mls_tree.specs.Tree.{max_leaves}
+use Rattle.mls_tree.specs.Rules.{rules_of}
 use Rattle.mls_text.specs.File.{bytes_in, decoded, input_limit}
-use Rattle.mls_text.specs.Text.{Entry, entry, bytes, number}
-use Rattle.mls_text.specs.Page.{Page, page_on, refused_page}
+use Rattle.mls_text.specs.Text.{Entry, entry, bytes, number, word}
+use Rattle.mls_text.specs.Page.{Page, refused_page}
 
 -- RFC 9420, section 12.4.3.3: the tree that the bytes spell, or the number of the first fault
 unfoldable pub tree_in : List ℕ → Result Term ℕ
@@ -33,18 +36,78 @@ within_limit bs = if nat_lt input_limit (length bs) then Err 6 else Ok bs
 unfoldable pub group_in : List ℕ → Result (List ℕ) ℕ
 group_in text = given 8 (decoded (decode_of text)) >>= within_limit
 
--- the lines of a tree's bytes for a group, or the number of the first fault
-unfoldable pub check_text : List ℕ → List ℕ → Result (List Entry) ℕ
-check_text spelled group = do
-  id ← group_in group
-  tree ← tree_in spelled
-  Ok (tree_entries tree)
+-- ---- lines, and the first check that fails
+
+-- what is printed, and the number of the first check that failed
+pub record Report : Type 0 where
+  pub entries : List Entry
+  pub refusal : Option ℕ
+
+-- nothing is left to check
+abbrev pub all_passed : Report
+all_passed = record { entries = []; refusal = None }
+
+-- the check of that number fails: its refusal is the last line
+abbrev pub failed : ℕ → Report
+failed n = record { entries = (refused_page n).entries; refusal = Some n }
+
+-- lines, and what is printed behind them
+abbrev pub behind : List Entry → Report → Report
+behind entries r = record { entries = entries ++ r.entries; refusal = r.refusal }
+
+-- a check by its number: where it holds its line, and then the others
+abbrev pub step : ℕ → Bool → Entry → Report → Report
+step n holds line others = if holds then behind (line ∷ []) others else failed n
+
+-- the line of a check that was made, and of one by the suite's own functions, which isn't made under suite 0x0001
+abbrev pub ok_line : List ℕ → Entry
+ok_line name = entry [] name (word (codes "ok"))
+
+unfoldable pub suite_word : ℕ → List ℕ
+suite_word suite = if suite == 1 then codes "not checked" else codes "ok"
+
+abbrev pub suite_line : Crypto → List ℕ → Entry
+suite_line c name = entry [] name (word (suite_word c.number))
+
+-- the checks of a good tree in their order (RFC 9420, 7.3, 7.9.2 and 12.4.3.1), each with its line
+unfoldable pub rules_report : Crypto → List ℕ → Term → Report
+rules_report c group t =
+    step 23 (has_good_lists t) (ok_line (codes "unmerged"))
+    (step 24 (has_good_hashes t) (ok_line (codes "parent_hashes"))
+    (step 25 (has_distinct_keys t) (ok_line (codes "keys"))
+    (step 26 (has_distinct_clients t) (ok_line (codes "clients"))
+    (step 51 (is_all_signed (rules_of c group) t) (suite_line c (codes "signatures"))
+    (step 52 (is_all_capable (rules_of c group) t) (ok_line (codes "capabilities"))
+    (step 36 (is_all_fit (rules_of c group) t) (suite_line c (codes "key_forms"))
+    all_passed))))))
+
+abbrev pub tree_report : Crypto → List ℕ → Term → Report
+tree_report c group t = behind (tree_entries t) (rules_report c group t)
+
+abbrev pub report_on : Crypto → List ℕ → Result Term ℕ → Report
+report_on c group (Ok t) = tree_report c group t
+report_on c group (Err n) = failed n
+
+-- what is printed of the tree's bytes under a suite, for the group with that id
+unfoldable pub check_text : Crypto → List ℕ → List ℕ → Report
+check_text c spelled group = report_on c group (tree_in spelled)
+
+-- ---- pages
+
+-- 0 where no check failed, else 1
+abbrev pub report_page : Report → Page
+report_page r = record { entries = r.entries; status = if is_some r.refusal then 1 else 0 }
+
+-- a group's text that is no group's id is refused before the tree is looked at
+abbrev pub check_page_on : Crypto → List ℕ → Result (List ℕ) ℕ → Page
+check_page_on c spelled (Ok group) = report_page (check_text c spelled group)
+check_page_on c spelled (Err n) = refused_page n
 
 -- a file that is no hex text is refused with 8, before the group's text is looked at
-abbrev pub check_page_in : Option (List ℕ) → List ℕ → Page
-check_page_in None group = refused_page 8
-check_page_in (Some spelled) group = page_on (check_text spelled group)
+abbrev pub check_page_in : Crypto → Option (List ℕ) → List ℕ → Page
+check_page_in c None group = refused_page 8
+check_page_in c (Some spelled) group = check_page_on c spelled (group_in group)
 
--- what is printed for a file's text and a group's
-unfoldable pub check_page : List ℕ → List ℕ → Page
-check_page text group = check_page_in (bytes_in text) group
+-- what is printed under a suite for a file's text and a group's
+unfoldable pub check_page : Crypto → List ℕ → List ℕ → Page
+check_page c text group = check_page_in c (bytes_in text) group

@@ -1,2 +1,5 @@
 pub mod Check
 pub mod CheckFaults
+pub mod Reports
+pub mod Short
+pub mod Unchecked

@@ -1,4 +1,4 @@
-//! Ratchet trees as they are sent (RFC 9420, 12.4.3.3), and their lines. `mls vectors` reads trees by the same call.
+//! Ratchet trees as they are sent (RFC 9420, 12.4.3.3), and their lines.
 
 ghost use Rattle.std.specs.Prelude.{◌≡◌, map, IfOk};
 ghost use Rattle.mls_wire.specs.Checks.{Answers};
@@ -6,6 +6,7 @@ ghost use Rattle.mls_tree.specs.Tree.{term};
 ghost use Rattle.mls_text.specs.Text.{entry_of};
 ghost use Rattle.mls_check.specs.Check.{tree_entries, tree_in};
 ghost use Rattle.mls_check.specs.CheckFaults.{number_of};
+ghost use Rattle.mls_check.specs.Short.{HasShortLeaves};
 
 use crate::check_error::CheckError;
 use mls_group::RatchetTree;
@@ -17,7 +18,9 @@ use std::alloc::{AllocError, Global};
 /// The tree that the bytes spell: refused with the fault of decoding (2 to 7, 11 to 14), and else with that of its
 /// shape (20) or its size (21).
 pub fn tree_in(alloc: Global, bytes: &[u8]) -> Result<PublicTree, CheckError>
-    ensures { Answers term number_of (tree_in bytes.now) result }
+    ensures tree { Answers term number_of (tree_in bytes.now) result }
+    // An input is short, and so are the leaves in it.
+    ensures short { IfOk result (λ tree. HasShortLeaves (term tree)) }
 {
     let nodes = RatchetTree::decode(alloc, bytes)?;
     let tree = PublicTree::from_nodes(nodes.into_vec())?;

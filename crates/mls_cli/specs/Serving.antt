@@ -4,17 +4,27 @@ use Rattle.std.specs.Io.KnownBytes.{Appends}
 use Rattle.clap.specs.Values.{kind_of}
 use Rattle.clap.specs.declared.error.Error.{Error}
 use Rattle.clap.specs.declared.error.kind.ErrorKind.TheVariants as kind
+use Rattle.mls_suite.specs.Crypto.{Crypto}
+use Rattle.mls_suite.specs.Glass.{glass}
+use Rattle.mls_cli.specs.declared.tasks.SuiteChoice.{SuiteChoice}
+use Rattle.mls_cli.specs.declared.tasks.SuiteChoice.TheVariants as choice
 use Rattle.mls_cli.specs.declared.tasks.Job.{Job}
 use Rattle.mls_cli.specs.declared.tasks.Job.TheVariants as job
 use Rattle.mls_text.specs.Engine.{AppendsPart, Output, page_output}
 use Rattle.mls_show.specs.Show.{page_of}
 use Rattle.mls_check.specs.Check.{check_page}
+use Rattle.mls_check.specs.Unchecked.{unchecked}
 use Rattle.mls_vectors.specs.VectorsReport.{vectors_output}
+
+-- the suite by which a tree is checked: for 0x0001 one that checks no signature and no key's form
+abbrev pub crypto_of : SuiteChoice → Crypto
+crypto_of choice.Glass = glass
+crypto_of choice.X25519 = unchecked
 
 -- what a job prints for a file of this text
 abbrev pub output_for : Job → List ℕ → Output
 output_for (job.Show file) text = page_output (page_of text)
-output_for (job.Check file suite group) text = page_output (check_page text group.now)
+output_for (job.Check file suite group) text = page_output (check_page (crypto_of suite) text group.now)
 output_for (job.Vectors file) text = vectors_output text
 
 -- the output grows by the text, with its status, or the status is 3 and it grows by a beginning

@@ -6,11 +6,12 @@ ghost use Rattle.mls_cli.specs.Arguments.{file_of};
 ghost use Rattle.mls_text.specs.Engine.{Puts};
 ghost use Rattle.mls_cli.specs.Serving.{Leaves, Says, Usage, out_of_memory as memory_text, output_for, unreadable};
 
-use crate::tasks::Job;
+use crate::tasks::{Job, SuiteChoice};
 use clap::Error;
 use clap::error::ErrorKind;
-use mls_check::check;
+use mls_check::{Unchecked, check};
 use mls_show::show;
+use mls_suite::Glass;
 use mls_text::{Fault, put};
 use mls_vectors::vectors;
 use std::alloc::{AllocError, Global};
@@ -77,7 +78,10 @@ fn print_job<R: Read, W: Write>(
 {
     match job {
         Job::Show { .. } => show(alloc, file, out),
-        Job::Check { group, .. } => check(alloc, file, group, out),
+        Job::Check { suite, group, .. } => match suite {
+            SuiteChoice::Glass => check::<Glass, R, W>(alloc, file, group, out),
+            SuiteChoice::X25519 => check::<Unchecked, R, W>(alloc, file, group, out),
+        },
         Job::Vectors { .. } => vectors(alloc, file, out),
     }
 }

@@ -17,7 +17,10 @@ const OTHER: &str =
     "error: --suite takes f001 or 0001\n\nUsage: mls <COMMAND>\n\nFor more information, try '--help'.\n";
 
 const LINES: &str =
-    "leaves: 1\nmembers: 1\ntree_hash: 754879a771f78780e3bedb21d618103a3fa605220876b0115cf607c73d05b74c\n";
+    "leaves: 1\nmembers: 1\ntree_hash: 754879a771f78780e3bedb21d618103a3fa605220876b0115cf607c73d05b74c\nunmerged: ok\nparent_hashes: ok\nkeys: ok\nclients: ok\nrefused: 51 LeafSignature\n";
+
+const LINES_OF_SUITE_1: &str =
+    "leaves: 1\nmembers: 1\ntree_hash: 754879a771f78780e3bedb21d618103a3fa605220876b0115cf607c73d05b74c\nunmerged: ok\nparent_hashes: ok\nkeys: ok\nclients: ok\nsignatures: not checked\nrefused: 52 LeafCapability\n";
 
 /// The status and the text for words and a file.
 fn printed(alloc: Global, words: &[&str], file: &str) -> Result<(u8, Vec<u8>), AllocError> {
@@ -34,12 +37,12 @@ fn printed(alloc: Global, words: &[&str], file: &str) -> Result<(u8, Vec<u8>), A
 fn checks_and_refuses(rt: HostRuntime) -> Result<(), Fail> {
     let alloc = rt.alloc();
     let table: [(&[&str], &str, u8, &str); 9] = [
-        (&["mls", "check", "FILE"], TREE, 0, LINES),
+        (&["mls", "check", "FILE"], TREE, 1, LINES),
         (
             &["mls", "check", "FILE", "--suite", "0001", "--group", "67"],
             TREE,
-            0,
-            LINES,
+            1,
+            LINES_OF_SUITE_1,
         ),
         (
             &["mls", "check", "FILE"],

@@ -1,0 +1,13 @@
+use Rattle.std.proofs.Common.{take, ap, ◌∙◌}
+use Rattle.mls_check.specs.Reports.{report_of, rule_entries}
+use Rattle.mls_check.proofs.Orders.{all_lines, lines_or_wanting}
+use Rattle.mls_check.proofs.report.tree_report.Goals as goal
+
+pub returns-in-Ok : goal.returns-in-Ok
+unfolding report_of
+returns-in-Ok g c =
+    all_lines g.S.Suite.crypto _ _ _ _ _ _ c.in-Ok.ensures.answer c.in_ok-lines.ensures.same c.in_ok-joined-in-Ok.ensures c.in_ok-lines.ensures.lines c.in_ok-more-in-Ok.ensures
+
+pub returns : goal.returns
+returns g c =
+    lines_or_wanting g.S.Suite.crypto _ _ _ _ _ _ _ _ c.refused.ensures.memory c.refused.ensures.report c.in-Err.ensures.answer c.in_ok-lines.ensures.same c.in_ok-joined-in-Err.ensures c.in_ok-lines.ensures.lines (c.in_ok-more-in-Err.ensures ∙ ap (λ k. take k (rule_entries g.S.Suite.crypto)) c.lines_before.ensures)
