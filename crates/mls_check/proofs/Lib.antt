@@ -1,4 +1,6 @@
+mod Cells
 mod CheckNames
+mod GoodTrees
+mod Orders
 mod SentTrees
 mod ShortLeaves
-mod Orders

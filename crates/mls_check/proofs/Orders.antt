@@ -33,7 +33,7 @@ by_order c true true true true true false fit = refl
 by_order c true true true true true true false = refl
 by_order c true true true true true true true = refl
 
-rules-by_order : (c : Crypto) (group : List ℕ) (t : Term) → rules_report c group t ≡ report_by c (tree_checks (rules_of c group) t)
+pub rules-by_order : (c : Crypto) (group : List ℕ) (t : Term) → rules_report c group t ≡ report_by c (tree_checks (rules_of c group) t)
 unfolding rules_report tree_checks
 rules-by_order c group t =
     by_order c (has_good_lists t) (has_good_hashes t) (has_distinct_keys t) (has_distinct_clients t)

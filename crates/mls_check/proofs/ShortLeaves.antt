@@ -1,8 +1,7 @@
 -- The leaves of a tree that an input spells are short, since they are parts of it.
-use Rattle.std.proofs.Common.{◌≡◌, ℕ, zero, suc, ◌+◌, ◌-◌, ◌^◌, ◌<◌, ◌≤◌, Bool, true, false, cond, List, [], ◌∷◌, ◌++◌, length, get_or, take, drop, Option, Some, None, Result, Ok, Err, refl, sym, ◌∙◌, ap, subst, inl, inr, arith, length-append, length-take, lt-ltb}
-use Rattle.std.specs.Prelude.{IfSome, replicate, nat_lt}
+use Rattle.std.proofs.Common.{◌≡◌, ℕ, zero, suc, ◌+◌, ◌^◌, ◌<◌, ◌≤◌, Bool, true, false, cond, List, [], ◌∷◌, ◌++◌, length, get_or, take, drop, Option, Some, None, Result, Ok, Err, refl, sym, ◌∙◌, ap, subst, inl, inr, arith, length-append, lt-ltb}
+use Rattle.std.specs.Prelude.{IfSome, nat_lt}
 use Rattle.std.specs.List.{flat_map, AllByRecursion}
-use Rattle.std.proofs.lemmas.List.{get_or-take, get_or-drop, get_or_past, get_or_append_left, get_or-append_right}
 use Rattle.std.proofs.lemmas.Bool.{cases_lt, cond-true}
 use Rattle.std.specs.Int.{w8}
 use Rattle.mls_wire.specs.Checks.{require, ◌>>◌}
@@ -23,57 +22,30 @@ use Rattle.mls_term.specs.Arrays.{leaf_in, term_of, padded, height_for, sent_ter
 use Rattle.mls_tree.specs.Tree.{max_leaves}
 use Rattle.mls_text.specs.File.{input_limit}
 use Rattle.mls_check.specs.Short.{HasShortLeaves}
+use Rattle.mls_check.proofs.Cells.{Cells, of_front, of_back, of_padded}
 
 -- the leaf in a cell is short, where there is one
 abbrev ShortCell : Option Node → Type 0
 ShortCell c = IfSome (leaf_in c) (λ v. IsShort leaf_node v)
 
--- each cell of a list is so
-abbrev ShortCells : List (Option Node) → Type 0
-ShortCells xs = (k : ℕ) → ShortCell (get_or xs k None)
-
--- ---- of a list, of its parts, and of the tree that it stands for
-
-of_front : (n : ℕ) (xs : List (Option Node)) → ShortCells xs → ShortCells (take n xs)
-of_front n xs all k =
-    elim (cases_lt k n) [
-      | inl low ↦ subst ShortCell (sym (get_or-take n xs k None low)) (all k)
-      | inr high ↦ subst ShortCell (sym (get_or_past (take n xs) k None (omega (arith, length-take n xs)))) tt
-    ]
-
-of_back : (n : ℕ) (xs : List (Option Node)) → ShortCells xs → ShortCells (drop n xs)
-of_back n xs all k = subst ShortCell (sym (get_or-drop n xs k None)) (all (n + k))
+-- ---- of the tree that a list stands for
 
 either : (t : Bool) (x y : Option LeafNode) → IfSome x (λ v. IsShort leaf_node v) → IfSome y (λ v. IsShort leaf_node v) → IfSome (cond t x y) (λ v. IsShort leaf_node v)
 either true x y first second = first
 either false x y first second = second
 
-of_cells : (h b i : ℕ) (xs : List (Option Node)) → ShortCells xs → IfSome (leaf_at b (term_of h xs) i) (λ v. IsShort leaf_node v)
+of_cells : (h b i : ℕ) (xs : List (Option Node)) → Cells ShortCell xs → IfSome (leaf_at b (term_of h xs) i) (λ v. IsShort leaf_node v)
 unfolding term_of leaf_at
 of_cells zero b i xs all = all 0
 of_cells (suc h) b i xs all =
     let l : Term = term_of h (take (nodes_in h) xs) in
     either (nat_lt i (b + width l)) _ _
-    (of_cells h b i (take (nodes_in h) xs) (of_front (nodes_in h) xs all))
-    (of_cells h (b + width l) i (drop (suc (nodes_in h)) xs) (of_back (suc (nodes_in h)) xs all))
+    (of_cells h b i (take (nodes_in h) xs) (of_front ShortCell tt (nodes_in h) xs all))
+    (of_cells h (b + width l) i (drop (suc (nodes_in h)) xs) (of_back ShortCell (suc (nodes_in h)) xs all))
 
-of_tree : (h : ℕ) (xs : List (Option Node)) → ShortCells xs → HasShortLeaves (term_of h xs)
+of_tree : (h : ℕ) (xs : List (Option Node)) → Cells ShortCell xs → HasShortLeaves (term_of h xs)
 unfolding leaf_of
 of_tree h xs all i = either (nat_lt i (width (term_of h xs))) _ _ (of_cells h 0 i xs all) tt
-
--- ---- blank nodes at the end change nothing
-
-of_blanks : (n k : ℕ) → ShortCell (get_or (replicate n None) k None)
-of_blanks zero k = tt
-of_blanks (suc n) zero = tt
-of_blanks (suc n) (suc k) = of_blanks n k
-
-of_padded : (n : ℕ) (xs : List (Option Node)) → ShortCells xs → ShortCells (xs ++ replicate n None)
-of_padded n xs all k =
-    elim (cases_lt k (length xs)) [
-      | inl low ↦ subst ShortCell (sym (get_or_append_left xs (replicate n None) None k low)) (all k)
-      | inr high ↦ subst ShortCell (sym (get_or-append_right xs (replicate n None) (length xs) k None refl high)) (of_blanks n (k - length xs))
-    ]
 
 -- ---- what an input spells
 
@@ -106,7 +78,7 @@ short_within (Some (in_parent p)) n lt w = tt
 short_leaves : (xs : List (Option Node)) → AllByRecursion (optional node).Fits xs → length (flat_map (optional node).spell xs) < 2 ^ 28 → HasShortLeaves (sent_term xs)
 unfolding sent_term padded
 short_leaves xs fits lt =
-    of_tree (height_for (length xs)) _ (of_padded _ xs (λ k. short_within (get_or xs k None) (length (flat_map (optional node).spell xs)) lt (of_spelled xs fits k)))
+    of_tree (height_for (length xs)) _ (of_padded ShortCell tt _ xs (λ k. short_within (get_or xs k None) (length (flat_map (optional node).spell xs)) lt (of_spelled xs fits k)))
 
 -- ---- of an input
 
@@ -125,14 +97,15 @@ within_limit bytes xs e =
     differ : (ys : List (Option Node)) → too_long ≡ Ok ys → ⊥
     differ ys h = absurd cc
 
-sent : (a b c d : Bool) (s t : Term) → (require 20 a >> (require 20 b >> (require 20 c >> (require 21 d >> Ok s)))) ≡ Ok t → s ≡ t
-sent true true true true s t e = cc
+-- which tree nodes stand for, and what was asked of it
+sent : (a b c d : Bool) (s t : Term) → (require 20 a >> (require 20 b >> (require 20 c >> (require 21 d >> Ok s)))) ≡ Ok t → (s ≡ t) × (c ≡ true) × (d ≡ true)
+sent true true true true s t e = (cc, refl, refl)
 sent true true true false s t e = absurd cc
 sent true true false d s t e = absurd cc
 sent true false c d s t e = absurd cc
 sent false b c d s t e = absurd cc
 
-sent_is : (xs : List (Option Node)) (t : Term) → from_nodes max_leaves xs ≡ Ok t → sent_term xs ≡ t
+pub sent_is : (xs : List (Option Node)) (t : Term) → from_nodes max_leaves xs ≡ Ok t → (sent_term xs ≡ t) × (is_full_width (sent_term xs) ≡ true) × (is_within max_leaves (sent_term xs) ≡ true)
 unfolding from_nodes
 sent_is xs t e = sent (has_last xs) (alternates true xs) (is_full_width (sent_term xs)) (is_within max_leaves (sent_term xs)) (sent_term xs) t e
 
@@ -143,5 +116,5 @@ input_short bytes nodes items t spells read same e =
     let text : List ℕ = flat_map (optional node).spell nodes in
     let limit : length bytes ≤ input_limit = within_limit bytes nodes read in
     let parts : length bytes ≡ length (header (length text)) + length text = ap length spells.spelled ∙ length-append (header (length text)) text in
-    let is : sent_term nodes ≡ t = sent_is nodes t (ap (from_nodes max_leaves) (sym same) ∙ e) in
-    subst HasShortLeaves is (short_leaves nodes spells.fits.0 (omega arith))
+    let is = sent_is nodes t (ap (from_nodes max_leaves) (sym same) ∙ e) in
+    subst HasShortLeaves is.0 (short_leaves nodes spells.fits.0 (omega arith))

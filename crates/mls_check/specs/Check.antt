@@ -1,5 +1,5 @@
 -- What `mls check` prints.
-use Rattle.std.specs.Prelude.{nat_lt, ◌==◌, ℕ, Bool, List, [], ◌∷◌, ◌++◌, codes, length, if◌then◌else◌, Option, Some, None, is_some, Result, Ok, Err}
+use Rattle.std.specs.Prelude.{◌≡◌, nat_lt, ◌==◌, ℕ, Bool, List, [], ◌∷◌, ◌++◌, codes, length, if◌then◌else◌, Option, Some, None, is_some, Result, Ok, Err}
 use Rattle.hex.specs.Hex.{decode_of}
 use Rattle.mls_wire.specs.Checks.{given}
 use Rattle.mls_wire.specs.Reading.{◌>>=◌}
@@ -8,7 +8,7 @@ use Rattle.mls_group.specs.GroupInfo.{ratchet_tree}
 use Rattle.mls_term.specs.Term.{Term, width}
 use Rattle.mls_term.specs.Keys.{members}
 use Rattle.mls_term.specs.Hashes.{tree_hash}
-use Rattle.mls_term.specs.Good.{has_good_lists, has_good_hashes, has_distinct_keys, has_distinct_clients, is_all_signed, is_all_capable, is_all_fit}
+use Rattle.mls_term.specs.Good.{IsGood, has_good_lists, has_good_hashes, has_distinct_keys, has_distinct_clients, is_all_signed, is_all_capable, is_all_fit}
 use Rattle.mls_term.specs.Arrays.{from_nodes}
 use Rattle.mls_suite.specs.Crypto.{Crypto}
 use Rattle.mls_tree.specs.Tree.{max_leaves}
@@ -91,6 +91,12 @@ report_on c group (Err n) = failed n
 -- what is printed of the tree's bytes under a suite, for the group with that id
 unfoldable pub check_text : Crypto → List ℕ → List ℕ → Report
 check_text c spelled group = report_on c group (tree_in spelled)
+
+-- the bytes spell a good tree of the group under a suite (RFC 9420, 7.3, 7.9.2, 12.4.3.1 and 12.4.3.3)
+pub record SpellsGoodTree (c : Crypto) (group spelled : List ℕ) : Type 0 where
+  pub tree : Term
+  pub is_read : tree_in spelled ≡ Ok tree
+  pub good : IsGood (rules_of c group) tree
 
 -- ---- pages
 

@@ -1,11 +1,11 @@
 //! What the checks of a tree bring: a line of each that passed, and the first that failed.
 
-ghost use Rattle.std.specs.Prelude.{◌≡◌, ◌≢◌, ℕ, ◌<◌, ◌≤◌, ◌^◌, length, map, take, IfOk};
+ghost use Rattle.std.specs.Prelude.{◌≡◌, ◌≢◌, ◌↔◌, ℕ, ◌<◌, ◌≤◌, ◌^◌, length, map, take, IfOk};
 ghost use Rattle.mls_tree.specs.Faults.{number_of as tree_number_of};
 ghost use Rattle.mls_tree.specs.Tree.{term};
 ghost use Rattle.mls_text.specs.Page.{refusal_name};
 ghost use Rattle.mls_text.specs.Text.{entry_of};
-ghost use Rattle.mls_check.specs.Check.{behind, check_text, failed, suite_word, tree_report};
+ghost use Rattle.mls_check.specs.Check.{SpellsGoodTree, behind, check_text, failed, suite_word, tree_report};
 ghost use Rattle.mls_check.specs.CheckFaults.{number_of};
 ghost use Rattle.mls_check.specs.Reports.{lines_before, report_of, rule_entries};
 ghost use Rattle.mls_check.specs.Short.{HasShortLeaves};
@@ -131,12 +131,9 @@ fn tree_report<S: Suite>(
     }
 }
 
-/// The lines of the tree that the bytes spell, for the group with this id: how many leaves and members it has and its
-/// tree hash, then a line of each check of a good tree as long as they pass (RFC 9420, 7.3, 7.9.2 and 12.4.3.1), in
-/// the order of `PublicTree::check`. The first fault ends them with the line of its refusal: that of decoding (2 to 7,
-/// 11 to 14), of the tree's shape (20) and size (21), and then of the checks (23 to 26, 51, 52, 36).
+/// The report of the tree that the bytes spell, or of their fault.
 #[tactic(auto, unfolding(crate::specs::Check::check_text))]
-pub fn check_text<S: Suite>(
+fn bytes_report<S: Suite>(
     alloc: Global,
     bytes: &[u8],
     group_id: &[u8],
@@ -148,4 +145,21 @@ pub fn check_text<S: Suite>(
         Ok(tree) => tree_report::<S>(alloc, tree, group_id),
         Err(error) => refused(Vec::new(alloc), error),
     }
+}
+
+/// The lines of the tree that the bytes spell, for the group with this id: how many leaves and members it has and its
+/// tree hash, then a line of each check of a good tree as long as they pass (RFC 9420, 7.3, 7.9.2 and 12.4.3.1), in
+/// the order of `PublicTree::check`. The first fault ends them with the line of its refusal: that of decoding (2 to 7,
+/// 11 to 14), of the tree's shape (20) and size (21), and then of the checks (23 to 26, 51, 52, 36).
+pub fn check_text<S: Suite>(
+    alloc: Global,
+    bytes: &[u8],
+    group_id: &[u8],
+) -> Result<Report, AllocError>
+    requires { length group_id.now ≤ INPUT_LIMIT }
+    ensures report { IfOk result (λ report. report_of report ≡ check_text S.crypto bytes.now group_id.now) }
+    // Nothing is refused just where the bytes spell a good tree of the group.
+    ensures good { IfOk result (λ report. (report.refusal ≡ None) ↔ SpellsGoodTree S.crypto group_id.now bytes.now) }
+{
+    bytes_report::<S>(alloc, bytes, group_id)
 }

@@ -221,11 +221,12 @@ impl PrivatePath {
         }
     }
 
-    /// Takes the commit secret and its new keys of a path that leaf `committer` made, whose nodes come the lowest
-    /// first. The tree is the one after the commit's edits, and `added` are the leaves that it added. `OpenFailed` (32)
-    /// where no ciphertext is for the member or its doesn't open, `SecretLength` (33) where that hasn't 32 bytes,
-    /// `PathKeyMismatch` (34) where a derived public key isn't the path's, the lowest node's first (RFC 9420, 7.5).
-    /// After a refusal the keys are as before.
+    /// Takes the commit secret and the new keys of a path that leaf `committer` made, whose nodes come the lowest first
+    /// (RFC 9420, 7.5). The tree is the one after the commit's edits, with the path merged or not, and `added` are the
+    /// leaves that the commit added. Keys of nodes that the path blanks are dropped. `OpenFailed` (32) where no
+    /// ciphertext is for the member or its own doesn't open, `SecretLength` (33) where what it holds hasn't 32 bytes,
+    /// `PathKeyMismatch` (34) where a derived public key isn't the one that the path gives. After a refusal the keys are
+    /// as before. A context has fewer than 2^30 bytes.
     pub fn open_path<S: Suite>(
         &mut self,
         tree: &PublicTree,
