@@ -16,7 +16,7 @@ use Rattle.mls_leaf.specs.ParentLaws.{rises_from-nil, rises_from-more}
 use Rattle.mls_leaf.specs.ParentNode.{parent_node, rising}
 use Rattle.mls_leaf.specs.declared.node.Node.{Node}
 use Rattle.mls_leaf.specs.declared.node.Node.TheVariants.{Leaf as in_leaf, Parent as in_parent}
-use Rattle.mls_leaf.proofs.Whole.{whole_takes}
+use Rattle.mls_leaf.specs.WholeLaws.{whole_takes}
 use Rattle.mls_group.specs.GroupInfo.{ratchet_tree}
 use Rattle.mls_suite.specs.Crypto.{Crypto}
 use Rattle.mls_treemath.specs.Paths.{nodes_in}
@@ -25,7 +25,7 @@ use Rattle.mls_term.specs.Lists.{all_parents, asked, rises_here}
 use Rattle.mls_term.specs.Good.{IsGood, has_good_shape, is_within, tree_checks}
 use Rattle.mls_term.specs.Arrays.{parent_in, term_of, padded, height_for, sent_term, from_nodes}
 use Rattle.mls_term.specs.ArrayLaws.{perfect-term_of}
-use Rattle.mls_term.proofs.Goods.{good_from_checks, good_passes}
+use Rattle.mls_term.specs.GoodLaws.{good_from_checks, good_passes}
 use Rattle.mls_term.specs.PlaceLaws.{perfect_itself}
 use Rattle.mls_tree.specs.Rules.{rules_of}
 use Rattle.mls_tree.specs.Tree.{max_leaves}

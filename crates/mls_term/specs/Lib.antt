@@ -28,3 +28,4 @@ pub mod PlaceLaws
 pub mod MemberLaws
 pub mod EntryLaws
 pub mod ArrayLaws
+pub mod GoodLaws

@@ -1,5 +1,6 @@
 use Rattle.mls_term.proofs.laws_of_good_trees.Goals as goal
-use Rattle.mls_term.proofs.Goods.{good_single, good_update, good_remove, good_add, good_merge, good_passes, good_from_checks}
+use Rattle.mls_term.specs.GoodLaws.{good_passes, good_from_checks}
+use Rattle.mls_term.proofs.Goods.{good_single, good_update, good_remove, good_add, good_merge}
 use Rattle.mls_term.proofs.Reversed.{good_merge_path}
 
 pub returns : goal.returns

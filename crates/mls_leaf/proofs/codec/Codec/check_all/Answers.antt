@@ -1,5 +1,5 @@
 use Rattle.mls_leaf.specs.declared.codec.TheConstants.{INPUT_LIMIT}
-use Rattle.mls_leaf.proofs.Whole.{whole_told}
+use Rattle.mls_leaf.specs.WholeLaws.{whole_told}
 use Rattle.mls_leaf.proofs.codec.Codec.check_all.Goals as goal
 
 pub returns : goal.returns
