@@ -5,10 +5,9 @@ ghost use Rattle.mls_wire.specs.Checks.{Answers, AnswersOutright};
 ghost use Rattle.mls_term.specs.Places.{resolution_at};
 ghost use Rattle.mls_term.specs.Resolution.{is_empty};
 ghost use Rattle.mls_tree.specs.Tree.{term};
-ghost use Rattle.mls_treekem.specs.Climbing.{climb_of};
+ghost use Rattle.mls_treekem.specs.Climbing.{climb_of, climb_to};
 ghost use Rattle.mls_treekem.specs.Faults.{number_of};
 ghost use Rattle.mls_treekem.specs.Open.{of_32, left_by, past_parent, opened_path};
-ghost use Rattle.mls_treekem.specs.Made.{taken_by};
 ghost use Rattle.mls_treekem.specs.Opening.{secret_in, keys_on, IsKeyOf, AreKeysUpTo, OpensFirst, OpensHere, OpensAlong};
 ghost use Rattle.mls_treekem.specs.Place.{step_of, IsPlaced, ArePlaced};
 
@@ -236,7 +235,7 @@ impl PrivatePath {
         context: &[u8],
     ) -> Result<Secret, TreeKemError>
         requires { length context.now < 2 ^ 30 }
-        ensures answer { Answers (taken_by self.new) number_of (opened_path S.crypto context.now added.now (term tree.now) committer self.old.leaf (keys_on (term tree.now) self.old) path.now) result }
+        ensures answer { Answers (λ s. climb_to s self.new) number_of (opened_path S.crypto context.now added.now (term tree.now) committer self.old.leaf (keys_on (term tree.now) self.old) path.now) result }
         ensures leaf { self.new.leaf ≡ self.old.leaf }
         ensures err { OnErr result (self.new ≡ self.old) }
     {
