@@ -10,6 +10,7 @@ use Rattle.mls_leaf.specs.Parent.{Parent}
 use Rattle.mls_term.specs.Sets.{has}
 use Rattle.mls_term.specs.Term.{Term, width, is_perfect}
 use Rattle.mls_term.specs.Way.{Step, way, is_beside}
+use Rattle.mls_term.specs.Laws.{IsIn}
 use Rattle.mls_suite.specs.Crypto.{Crypto}
 use Rattle.mls_treekem.specs.declared.places.Place.{Place}
 use Rattle.mls_treekem.specs.Chain.{next_secret, node_key, node_public}
@@ -190,6 +191,10 @@ pub take_outside : (c : Crypto) (t : Term) (i j : ℕ) (own secret : List ℕ) �
 unfolding take_answer
 take_outside c t i j own secret ge = cond-false _ _ _ (le-ltb i (width t) ge)
 
+pub take_inside : (c : Crypto) (t : Term) (i j : ℕ) (own secret : List ℕ) → IsIn 0 t i → take_answer c t i j own secret ≡ take_keys c t i j own secret
+unfolding take_answer
+take_inside c t i j own secret here = let lt : i < width t = (let high : i < 0 + width t = here.high in omega arith) in cond-true _ _ _ (lt-ltb i (width t) lt)
+
 module _ (c : Crypto) (h : ℕ) (t : Term) (perfect : is_perfect h t ≡ true) (i j leaf : ℕ) (leaf_is : j ≡ leaf) (own secret : List ℕ) (ps qs : List Place) (signers : IsWay t i ps) (joiners : IsWay t j qs) (inside : i < width t) where
   length_is : (k : ℕ) (rs : List Place) → IsWay t k rs → length rs ≡ h
   length_is k rs w = sym (length-map rs (step_of t)) ∙ ap length w.steps ∙ way_height h 0 t k perfect
@@ -209,10 +214,10 @@ module _ (c : Crypto) (h : ℕ) (t : Term) (perfect : is_perfect h t ≡ true) (
   checked m = if is_complete j (way 0 t j) m.keys then Ok m else Err 35
 
   take_is : take_answer c t i leaf own secret ≡ (owned own (taken_over c t j secret ps) >>= λ m. checked m)
-  unfolding take_answer take_keys checked
+  unfolding take_keys checked
   take_is =
       ap (λ k. take_answer c t i k own secret) (sym leaf_is)
-      ∙ cond-true _ _ _ (lt-ltb i (width t) inside)
+      ∙ take_inside c t i j own secret (record { low = omega arith; high = omega arith })
       ∙ ap (λ r. r >>= λ m. checked m) climb_is
 
   keys_long : (m : Climb) → taken_over c t j secret ps ≡ Ok m → length m.keys ≡ length ps

@@ -19,7 +19,7 @@ use Rattle.mls_treekem.specs.Make.{Climb, filtered_count, climb_make, climb_past
 use Rattle.mls_treekem.specs.Lists.{ListsBelow}
 use Rattle.mls_treekem.specs.Seal.{IsPathOf, seal_along, targets_fit}
 use Rattle.mls_treekem.specs.Open.{climb_open, shared, held_count}
-use Rattle.mls_treekem.specs.Join.{take_keys, AllList, secret_for}
+use Rattle.mls_treekem.specs.Join.{take_keys, take_answer, AllList, secret_for}
 use Rattle.mls_treekem.specs.Pairs.{pairs, find_key, IsInOrder}
 
 -- two leaves of a tree
@@ -227,6 +227,10 @@ CommitAgree = (c : Crypto) → Lawful c → (context : List ℕ) (added : List �
 -- whatever is accepted, a joiner's keys are exact
 abbrev pub TakeExact : Type 0
 TakeExact = (c : Crypto) (t : Term) (i j : ℕ) (x : LeafNode) (sk secret : List ℕ) (m : Climb) → AreTwo 0 t i j → leaf_at 0 t j ≡ Some x → c.public sk ≡ x.encryption_key → take_keys c t i j sk secret ≡ Ok m → Exact c 0 t j m.keys
+
+-- a call with a signer of the tree answers just that
+abbrev pub TakeInside : Type 0
+TakeInside = (c : Crypto) (t : Term) (i j : ℕ) (sk secret : List ℕ) → IsIn 0 t i → take_answer c t i j sk secret ≡ take_keys c t i j sk secret
 
 -- in a tree with a path that was made, a joiner that the parents over it list takes the committer's commit secret and keys
 abbrev pub TakeAgree : Type 0
