@@ -11,7 +11,7 @@ use Rattle.mls_term.specs.Places.{at_node}
 use Rattle.mls_term.specs.Arrays.{leaf_in, leaf_cell, parent_in, parent_cell, term_of, in_order, own_node, node_at}
 use Rattle.mls_term.specs.Equations.{leaf_at_leaf, leaf_at_left, leaf_at_right, leaf_of_in, leaf_of_out, at_node_leaf, at_node_no_leaf, at_node_here, at_node_left, at_node_right}
 use Rattle.mls_term.specs.ShapeLaws.{size-width}
-use Rattle.mls_term.specs.ArrayLaws.{length-in_order}
+use Rattle.mls_term.specs.ArrayLaws.{node-in_order}
 use Rattle.mls_array.specs.Standing.{Stands}
 use Rattle.mls_term.specs.ArrayLaws.{nodes_in-leaves, term_of-zero, term_of-suc}
 use Rattle.mls_term.specs.ArrayLaws.{width-term_of}

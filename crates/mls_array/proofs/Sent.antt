@@ -9,7 +9,7 @@ use Rattle.mls_treemath.specs.Paths.{nodes_in}
 use Rattle.mls_treemath.specs.Sizes.{nodes_in_up}
 use Rattle.mls_term.specs.Arrays.{before, cut, has_last, may_stand, alternates, height_from, height_for}
 use Rattle.mls_array.specs.OrderLaws.{high_enough}
-use Rattle.mls_term.specs.ArrayLaws.{nodes_in-leaves}
+use Rattle.mls_term.specs.ArrayLaws.{nodes_in-leaves, least_height}
 
 -- ---- the last node
 

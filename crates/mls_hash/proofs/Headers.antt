@@ -3,6 +3,7 @@ use Rattle.std.proofs.Common.{◌≡◌, ℕ, ◌+◌, ◌%◌, ◌/◌, ◌^◌
 use Rattle.std.specs.Int.{w32, to_be_bytes}
 use Rattle.std.proofs.lemmas.Bool.{le-ltb}
 use Rattle.mls_wire.specs.Reading.{header}
+use Rattle.mls_wire.specs.Laws.{low_bytes}
 
 pub wrapped_header : (n : ℕ) → 2 ^ 30 ≤ n → to_be_bytes w32 ((n % 2 ^ 32 + 2 ^ 31) % 2 ^ 32) ≡ header n
 unfolding header

@@ -1,14 +1,16 @@
 -- Trees as lists of their nodes in order.
 use Rattle.std.proofs.Common.{◌≡◌, ℕ, zero, suc, ◌+◌, ◌-◌, ◌*◌, ◌^◌, ◌<◌, ◌≤◌, nat_le, Bool, true, false, not, ◌&&◌, List, [], ◌∷◌, ◌++◌, length, get_or, take, drop, replicate, Option, Some, None, Ok, refl, sym, ◌∙◌, ap, arith, inl, inr, length-append, append_assoc, append-nil, le-leb, leb-true, pow-suc}
-use Rattle.std.proofs.lemmas.List.{take_at, drop_at, get_or_at}
-use Rattle.std.proofs.lemmas.Bool.{true≢false, and_parts, and_from, or_cases, or_right, cond-true, cond-false, cases_lt, cases_Bool}
+use Rattle.std.proofs.lemmas.List.{take_at, drop_at, get_or_at, get_or_append_left, get_or-append_right}
+use Rattle.std.proofs.lemmas.Bool.{true≢false, and_parts, and_from, or_cases, or_right, cond-true, cond-false, cases_lt, cases_order, cases_Bool}
 use Rattle.mls_leaf.specs.Parent.{Parent}
 use Rattle.mls_leaf.specs.declared.leaf.LeafNode.{LeafNode}
 use Rattle.mls_leaf.specs.declared.node.Node.{Node}
 use Rattle.mls_treemath.specs.Paths.{nodes_in}
 use Rattle.mls_term.specs.Term.{Term, Leaf, Branch, width, size, is_perfect, has_leaf, is_full_width}
 use Rattle.mls_term.specs.Good.{is_within}
-use Rattle.mls_term.specs.Arrays.{leaf_in, parent_in, leaf_cell, parent_cell, term_of, in_order, before, cut, to_nodes, has_last, may_stand, alternates, height_from, height_for, padded, sent_term, from_nodes}
+use Rattle.mls_term.specs.Places.{at_node}
+use Rattle.mls_term.specs.Equations.{at_node_leaf, at_node_no_leaf, at_node_here, at_node_left, at_node_right}
+use Rattle.mls_term.specs.Arrays.{leaf_in, parent_in, leaf_cell, parent_cell, own_node, node_at, term_of, in_order, before, cut, to_nodes, has_last, may_stand, alternates, height_from, height_for, padded, sent_term, from_nodes}
 use Rattle.mls_term.specs.ShapeLaws.{size-width, width-perfect}
 
 -- ---- how many nodes a tree has

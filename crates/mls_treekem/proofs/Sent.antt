@@ -17,6 +17,7 @@ use Rattle.mls_suite.specs.Labels.{encrypt_with_label}
 use Rattle.mls_suite.specs.Made.{sealing_of}
 use Rattle.mls_suite.specs.declared.KeyPair.{KeyPair}
 use Rattle.mls_suite.specs.declared.Sealed.{Sealed}
+use Rattle.mls_wire.specs.Laws.{low_bytes}
 use Rattle.mls_term.specs.Sets.{has, leaf_numbers, less}
 use Rattle.mls_term.specs.Term.{Term}
 use Rattle.mls_term.specs.Places.{key_at, resolution_at}
