@@ -27,7 +27,7 @@ use Rattle.mls_treekem.specs.Chain.{chain, path_secrets, node_key, node_public}
 use Rattle.mls_treekem.specs.Made.{AreOfChain}
 use Rattle.mls_treekem.specs.Make.{one_if, filtered_count, secret_above}
 use Rattle.mls_treekem.specs.Seal.{targets, seal_count, ciphertext_of, seal_secret, seal_to, cons_both, seal_all, with_ciphertexts, path_past, seal_along, sealed_path}
-use Rattle.mls_treekem.specs.Seeds.{seal_seed}
+use Rattle.mls_treekem.specs.Seeds.{seal_seed, seals_in}
 use Rattle.mls_treekem.specs.Place.{subtree_at, step_of, IsPlaced, ArePlaced, IsWay}
 use Rattle.mls_treekem.specs.declared.places.Place.{Place}
 use Rattle.mls_treekem.specs.declared.secrets.PathSecrets.{PathSecrets}
@@ -227,6 +227,27 @@ module _ (xs : List ℕ) (k n : ℕ) where
   unfolding has
   none_there ge inv = sym (ap (λ ys. has (leaf_numbers ys) n) (drop_all k xs ge)) ∙ inv
 
+-- ---- how many seals there are
+
+seals_pushed : (ns : List UpdatePathNode) (x : UpdatePathNode) → seals_in (ns ++ (x ∷ [])) ≡ seals_in ns + length x.ciphertexts
+unfolding seals_in
+seals_pushed [] x = omega arith
+seals_pushed (n ∷ ns) x = let e = seals_pushed ns x in omega arith
+
+module _ (xs : List UpdatePathNode) (k : ℕ) where
+  pub count_next : (x : UpdatePathNode) → k < length xs → x ≡ get_or xs k x → (n m : ℕ) → m ≡ length x.ciphertexts % 2 ^ 32 → (n + seals_in (drop k xs)) % 2 ^ 32 ≡ seals_in xs % 2 ^ 32 → ((n + m) % 2 ^ 32 + seals_in (drop (k + 1) xs)) % 2 ^ 32 ≡ seals_in xs % 2 ^ 32
+  unfolding seals_in
+  count_next x lt is n m m_is inv =
+      let next : seals_in (drop k xs) ≡ length x.ciphertexts + seals_in (drop (k + 1) xs) =
+      ap seals_in (drop_more xs k x lt) ∙ ap (λ (y : UpdatePathNode). length y.ciphertexts + seals_in (drop (k + 1) xs)) (sym is) in
+      omega arith
+
+  pub count_end : length xs ≤ k → (n : ℕ) → n < 2 ^ 32 → (n + seals_in (drop k xs)) % 2 ^ 32 ≡ seals_in xs % 2 ^ 32 → n ≡ seals_in xs % 2 ^ 32
+  unfolding seals_in
+  count_end ge n fits inv =
+      let none : seals_in (drop k xs) ≡ 0 = ap seals_in (drop_all k xs ge) in
+      omega arith
+
 -- ---- the nodes along a way
 
 -- the node of a parent that the filtered direct path takes in
@@ -328,9 +349,9 @@ module _ (t : Term) (all : List Place) (none : all ≡ []) where
   unfolding filtered_count
   count_none ns e = ap length e ∙ sym (ap (λ ps. filtered_count (map (step_of t) ps)) none)
 
-  pub numbers_none : (added : List ℕ) → 0 ≡ seal_count added (map (step_of t) all) % 2 ^ 32
-  unfolding seal_count
-  numbers_none added = sym (ap (λ ps. seal_count added (map (step_of t) ps) % 2 ^ 32) none)
+  pub numbers_none : (added : List ℕ) (ns : List UpdatePathNode) → ns ≡ [] → seals_in ns ≡ seal_count added (map (step_of t) all)
+  unfolding seal_count seals_in
+  numbers_none added ns e = ap seals_in e ∙ sym (ap (λ ps. seal_count added (map (step_of t) ps)) none)
 
 filtered_by : (xs : List ℕ) (b : Bool) → b ≡ (length xs == 0) → not (is_empty xs) ≡ not b
 filtered_by [] b e = ap not (sym (e ∙ eq-eqb 0 0 refl))
@@ -368,8 +389,8 @@ module _ (t : Term) (p : Place) (ps all : List Place) (whole : all ≡ p ∷ ps)
       pub count_same : (n : ℕ) → n ≡ filtered_count (map (step_of t) ps) → n ≡ filtered_count (map (step_of t) all)
       count_same n h = h ∙ sym (ap (λ qs. filtered_count (map (step_of t) qs)) whole ∙ count_out [] (step_of t p) (map (step_of t) ps) left_out)
 
-      pub numbers_same : (added : List ℕ) (n : ℕ) → n ≡ seal_count added (map (step_of t) ps) % 2 ^ 32 → n ≡ seal_count added (map (step_of t) all) % 2 ^ 32
-      numbers_same added n h = h ∙ ap (λ m. m % 2 ^ 32) (sym (ap (λ qs. seal_count added (map (step_of t) qs)) whole ∙ numbers_out added (step_of t p) (map (step_of t) ps) left_out))
+      pub numbers_same : (added : List ℕ) (n : ℕ) → n ≡ seal_count added (map (step_of t) ps) → n ≡ seal_count added (map (step_of t) all)
+      numbers_same added n h = h ∙ sym (ap (λ qs. seal_count added (map (step_of t) qs)) whole ∙ numbers_out added (step_of t p) (map (step_of t) ps) left_out)
 
     -- where it does
     module _ (b : Bool) (b_is : b ≡ (length reached == 0)) (in_path : b ≡ false) where
@@ -379,12 +400,13 @@ module _ (t : Term) (p : Place) (ps all : List Place) (whole : all ≡ p ∷ ps)
       pub count_one : (n : ℕ) → n ≡ filtered_count (map (step_of t) ps) → suc n ≡ filtered_count (map (step_of t) all)
       count_one n h = ap suc h ∙ sym (ap (λ qs. filtered_count (map (step_of t) qs)) whole ∙ count_in [] (step_of t p) (map (step_of t) ps) taken_in)
 
-      pub numbers_more : (added : List ℕ) (i j m : ℕ) → i ≡ seal_count added (map (step_of t) ps) % 2 ^ 32 → m ≡ length (less (leaf_numbers added) reached) → j ≡ m % 2 ^ 32 → (i + j) % 2 ^ 32 ≡ seal_count added (map (step_of t) all) % 2 ^ 32
+      pub numbers_more : (added : List ℕ) (x : UpdatePathNode) (ns zs : List UpdatePathNode) → seals_in ns ≡ seal_count added (map (step_of t) ps) → length x.ciphertexts ≡ length (less (leaf_numbers added) reached) → zs ≡ ns ++ (x ∷ []) → seals_in zs ≡ seal_count added (map (step_of t) all)
       unfolding targets
-      numbers_more added i j m i_is m_is j_is =
+      numbers_more added x ns zs below here pushed =
           let all_is : seal_count added (map (step_of t) all) ≡ length (targets added (step_of t p)) + seal_count added (map (step_of t) ps) =
           ap (λ qs. seal_count added (map (step_of t) qs)) whole ∙ numbers_in added (step_of t p) (map (step_of t) ps) taken_in in
-          let more : m ≡ length (targets added (step_of t p)) = m_is ∙ ap (λ xs. length (less (leaf_numbers added) xs)) resolved in
+          let more : length x.ciphertexts ≡ length (targets added (step_of t p)) = here ∙ ap (λ xs. length (less (leaf_numbers added) xs)) resolved in
+          let sum : seals_in zs ≡ seals_in ns + length x.ciphertexts = ap seals_in pushed ∙ seals_pushed ns x in
           omega arith
 
       module _ (c : Crypto) (context added seed start : List ℕ) (k i : ℕ) (k_is : k ≡ filtered_count (map (step_of t) ps)) (i_is : i ≡ seal_count added (map (step_of t) ps) % 2 ^ 32) (xs : List ℕ) (xs_is : xs ≡ reached) where
@@ -426,3 +448,6 @@ module _ (t : Term) (i : ℕ) (ps qs : List Place) (w : IsWay t i ps) (same : qs
   pub whole_path : (c : Crypto) (context added seed start : List ℕ) (r : Result (List UpdatePathNode) ℕ) → along c context added seed (map (step_of t) qs) start ≡ r → sealed_path c context added (seal_seed seed) t i start ≡ r
   unfolding sealed_path
   whole_path c context added seed start r h = ap (λ ss. along c context added seed ss start) (sym steps_are) ∙ h
+
+  pub whole_seals : (added : List ℕ) (n : ℕ) → n ≡ seal_count added (map (step_of t) qs) → n ≡ seal_count added (way 0 t i)
+  whole_seals added n h = h ∙ ap (seal_count added) steps_are

@@ -35,7 +35,7 @@ mod tests;
 
 pub use error::TreeKemError;
 pub use private_path::PrivatePath;
-pub use seal::{seal_path, seal_seed};
+pub use seal::{seal_path, seal_seed, seals_in};
 pub use secrets::PathSecrets;
 
 /// Exact keys follow the edits of a tree.

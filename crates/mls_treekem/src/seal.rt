@@ -5,7 +5,7 @@ ghost use Rattle.std.specs.Option.{option_copied, option_map};
 ghost use Rattle.mls_wire.specs.Checks.{given, Answers};
 ghost use Rattle.mls_term.specs.Sets.{has, leaf_numbers, less};
 ghost use Rattle.mls_term.specs.Places.{key_at};
-ghost use Rattle.mls_term.specs.Way.{path_length};
+ghost use Rattle.mls_term.specs.Way.{way, path_length};
 ghost use Rattle.mls_tree.specs.Tree.{term};
 ghost use Rattle.mls_treekem.specs.Beside.{cell_key};
 ghost use Rattle.mls_treekem.specs.Chain.{chain, node_public};
@@ -14,7 +14,7 @@ ghost use Rattle.mls_treekem.specs.Made.{AreOfChain};
 ghost use Rattle.mls_treekem.specs.Make.{filtered_count};
 ghost use Rattle.mls_treekem.specs.Place.{subtree_at, step_of, IsPlaced, ArePlaced};
 ghost use Rattle.mls_treekem.specs.Seal.{seal_to, seal_all, seal_along, seal_count, sealed_path, with_ciphertexts};
-ghost use Rattle.mls_treekem.specs.Seeds.{seal_seed};
+ghost use Rattle.mls_treekem.specs.Seeds.{seal_seed, seals_in};
 
 use crate::places::{Place, parents_over};
 use crate::{PathSecrets, TreeKemError};
@@ -34,6 +34,25 @@ pub fn seal_seed(seed: &Secret, i: u32) -> Secret
     let mut out = [0; 32];
     expand_with_label(seed, "seed seal", &i.to_be_bytes(), &mut out).unwrap();
     out
+}
+
+/// The low 32 bits of a number.
+fn low_bits(n: usize) -> u32
+    ensures { result ≡ n % 2 ^ 32 }
+{
+    (n % (1 << 32)) as u32
+}
+
+/// How many seals nodes of a path have, as a uint32 that wraps: the number of the first seal of the commit's Welcome.
+/// Takes no memory.
+pub fn seals_in(nodes: &[UpdatePathNode]) -> u32
+    ensures { result ≡ seals_in nodes.now % 2 ^ 32 }
+{
+    let mut count: u32 = 0;
+    for node in nodes {
+        count = count.wrapping_add(low_bits(node.ciphertexts.as_slice().len()));
+    }
+    count
 }
 
 /// Whether a node is one of these leaves.
@@ -96,13 +115,6 @@ fn seal_to<S: Suite>(
         }),
         None => Err(TreeKemError::BadKey),
     }
-}
-
-/// The nodes of a path as far as it is sealed, the lowest first, and the number of the next seal.
-#[derive(Drop)]
-struct SealedNodes {
-    nodes: Vec<UpdatePathNode>,
-    seals: u32,
 }
 
 /// What a commit's path is sealed with, at each of its nodes.
@@ -183,46 +195,34 @@ impl Sealer<'_> {
         &self,
         alloc: Global,
         places: &[Place],
-    ) -> Result<SealedNodes, TreeKemError>
+    ) -> Result<Vec<UpdatePathNode>, TreeKemError>
         requires context { length self.now.context.now < 2 ^ 30 }
         requires placed { ArePlaced (term self.now.tree.now) places.now }
-        ensures answer { (start : List ℕ) (n : ℕ) → AreOfChain S.crypto start n self.now.path.now → filtered_count (map (step_of (term self.now.tree.now)) places.now) ≤ n → Answers (λ m. m.nodes.items) number_of (given 36 (option_map reverse (seal_along S.crypto self.now.context.now self.now.added.now (seal_seed self.now.seed.now) (map (step_of (term self.now.tree.now)) places.now) start))) result }
-        ensures count { IfOk result (λ m. length m.nodes.items ≡ filtered_count (map (step_of (term self.now.tree.now)) places.now)) }
-        ensures seals { IfOk result (λ m. m.seals ≡ seal_count self.now.added.now (map (step_of (term self.now.tree.now)) places.now) % 2 ^ 32) }
+        ensures answer { (start : List ℕ) (n : ℕ) → AreOfChain S.crypto start n self.now.path.now → filtered_count (map (step_of (term self.now.tree.now)) places.now) ≤ n → Answers (λ v. v.items) number_of (given 36 (option_map reverse (seal_along S.crypto self.now.context.now self.now.added.now (seal_seed self.now.seed.now) (map (step_of (term self.now.tree.now)) places.now) start))) result }
+        ensures count { IfOk result (λ v. length v.items ≡ filtered_count (map (step_of (term self.now.tree.now)) places.now)) }
+        ensures seals { IfOk result (λ v. seals_in v.items ≡ seal_count self.now.added.now (map (step_of (term self.now.tree.now)) places.now)) }
     {
         let Some((place, below)) = places.split_first() else {
-            return Ok(SealedNodes {
-                nodes: Vec::new(alloc),
-                seals: 0,
-            });
+            return Ok(Vec::new(alloc));
         };
-        let mut made = match self.seal_places::<S>(alloc, below) {
-            Ok(made) => made,
+        let mut nodes = match self.seal_places::<S>(alloc, below) {
+            Ok(nodes) => nodes,
             Err(error) => return Err(error),
         };
         let resolution = self.tree.resolution(place.beside)?;
         let reached = resolution.as_slice();
         if reached.is_empty() {
-            return Ok(made);
+            return Ok(nodes);
         }
-        let count = made.nodes.as_slice().len();
-        let node = match self.seal_node::<S>(alloc, place, reached, count, made.seals) {
+        let count = nodes.as_slice().len();
+        let first = seals_in(&nodes);
+        let node = match self.seal_node::<S>(alloc, place, reached, count, first) {
             Ok(node) => node,
             Err(error) => return Err(error),
         };
-        made.seals = made
-            .seals
-            .wrapping_add(low_bits(node.ciphertexts.as_slice().len()));
-        made.nodes.push(node)?;
-        Ok(made)
+        nodes.push(node)?;
+        Ok(nodes)
     }
-}
-
-/// The low 32 bits of a number.
-fn low_bits(n: usize) -> u32
-    ensures { result ≡ n % 2 ^ 32 }
-{
-    (n % (1 << 32)) as u32
 }
 
 /// The nodes of the path that a committer sends, the lowest first: the public key of each node of its filtered direct
@@ -241,7 +241,8 @@ pub fn seal_path<S: Suite>(
     seed: &Secret,
 ) -> Result<Vec<UpdatePathNode>, TreeKemError>
     requires { length context.now < 2 ^ 30 }
-    ensures { (start : List ℕ) → AreOfChain S.crypto start (path_length 0 (term tree.now) committer) path.now → Answers (λ v. v.items) number_of (sealed_path S.crypto context.now added.now (seal_seed seed.now) (term tree.now) committer start) result }
+    ensures answer { (start : List ℕ) → AreOfChain S.crypto start (path_length 0 (term tree.now) committer) path.now → Answers (λ v. v.items) number_of (sealed_path S.crypto context.now added.now (seal_seed seed.now) (term tree.now) committer start) result }
+    ensures seals { IfOk result (λ v. seals_in v.items ≡ seal_count added.now (way 0 (term tree.now) committer)) }
 {
     let places = parents_over(alloc, tree, committer)?;
     let sealer = Sealer {
@@ -252,7 +253,7 @@ pub fn seal_path<S: Suite>(
         seed,
     };
     match sealer.seal_places::<S>(alloc, &places) {
-        Ok(made) => Ok(made.nodes),
+        Ok(nodes) => Ok(nodes),
         Err(error) => Err(error),
     }
 }

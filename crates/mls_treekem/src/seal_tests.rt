@@ -1,6 +1,6 @@
 //! Paths that are sealed in small trees.
 
-use crate::{PathSecrets, TreeKemError, seal_path, seal_seed};
+use crate::{PathSecrets, TreeKemError, seal_path, seal_seed, seals_in};
 use mls_group::UpdatePathNode;
 use mls_kdf::{Secret, derive_secret};
 use mls_leaf::{Bytes, Capabilities, Credential, Items, LeafNode, LeafSource};
@@ -112,6 +112,7 @@ fn a_path_of_four(rt: HostRuntime) -> Result<(), Fail> {
     assert_eq!(rt; nodes.len(), 2);
     assert_eq!(rt; count_at(&nodes, 0), 1);
     assert_eq!(rt; count_at(&nodes, 1), 2);
+    assert_eq!(rt; seals_in(&nodes), 3);
     let second = derive_secret(&[7; 32], "path");
     assert!(rt; opens(alloc, &nodes, 0, 0, 0, &[7; 32])?);
     assert!(rt; opens(alloc, &nodes, 1, 0, 2, &second)?);

@@ -1,6 +1,7 @@
 use Rattle.std.proofs.Common.{◌≡◌, suc, ◌+◌, ◌%◌, ◌^◌, arith, refl, ap, length, length-append, ◌∙◌}
 use Rattle.mls_tree.specs.Tree.{term}
 use Rattle.mls_treekem.specs.Faults.{number_of}
+use Rattle.mls_treekem.specs.Seeds.{seals_in}
 use Rattle.mls_treekem.proofs.Followed.{none_left}
 use Rattle.mls_treekem.proofs.Sent.{along_none, count_none, numbers_none, placed_here, placed_below, least_below, along_same, count_same, numbers_same, count_one, numbers_more, along_more, along_fails, below_fails}
 use Rattle.mls_treekem.proofs.seal.Sealer.+seal_places.Goals as goal
@@ -14,7 +15,7 @@ pub returns-in_default-clause-count : goal.returns-in_default-clause-count
 returns-in_default-clause-count g t c = count_none (term c.args.self.now.tree.now) c.args.places.now (none_left _ c.in_default.ensures.cases) c.new.result.items c.new.ensures.items
 
 pub returns-in_default-clause-seals : goal.returns-in_default-clause-seals
-returns-in_default-clause-seals g t c = numbers_none (term c.args.self.now.tree.now) c.args.places.now (none_left _ c.in_default.ensures.cases) c.args.self.now.added.now
+returns-in_default-clause-seals g t c = numbers_none (term c.args.self.now.tree.now) c.args.places.now (none_left _ c.in_default.ensures.cases) c.args.self.now.added.now c.new.result.items c.new.ensures.items
 
 pub seal_places-requires : goal.seal_places-requires
 seal_places-requires g t c =
@@ -33,7 +34,7 @@ pub returns-then-is_empty-clause-answer : goal.returns-then-is_empty-clause-answ
 returns-then-is_empty-clause-answer g t c =
     λ start n made le.
     along_same (term c.args.self.now.tree.now) c.in-Some.place.now c.in-Some.below.now c.args.places.now c.in-Some.ensures.cases.0 c.requires.placed c.as_slice-reached.result.now (c.as_slice-reached.ensures.value ∙ c.in_ok-resolution.ensures)
-    _ c.is_empty.ensures c.if-is_empty.true g.S.Suite.crypto c.args.self.now.context.now c.args.self.now.added.now c.args.self.now.seed.now start c.in-Ok.made.nodes.items
+    _ c.is_empty.ensures c.if-is_empty.true g.S.Suite.crypto c.args.self.now.context.now c.args.self.now.added.now c.args.self.now.seed.now start c.in-Ok.nodes.items
     (c.in-Ok.ensures.answer start n made (least_below (term c.args.self.now.tree.now) c.in-Some.place.now c.in-Some.below.now c.args.places.now c.in-Some.ensures.cases.0 n le))
 
 pub returns-then-is_empty-clause-count : goal.returns-then-is_empty-clause-count
@@ -57,7 +58,7 @@ returns-in-Err-seal_node-clause-answer g t c =
     _ c.is_empty.ensures c.if-is_empty.false _ count in
     along_fails (term c.args.self.now.tree.now) c.in-Some.place.now c.in-Some.below.now c.args.places.now c.in-Some.ensures.cases.0 c.requires.placed c.as_slice-reached.result.now (c.as_slice-reached.ensures.value ∙ c.in_ok-resolution.ensures)
     _ c.is_empty.ensures c.if-is_empty.false g.S.Suite.crypto c.args.self.now.context.now c.args.self.now.added.now c.args.self.now.seed.now start
-    _ _ count c.in-Ok.ensures.seals c.as_slice-reached.result.now refl (number_of c.in-Err-seal_node.error)
+    _ _ count (c.seals_in-first.ensures ∙ ap (λ xs. seals_in xs % 2 ^ 32) c.deref.ensures.value ∙ ap (λ n. n % 2 ^ 32) c.in-Ok.ensures.seals) c.as_slice-reached.result.now refl (number_of c.in-Err-seal_node.error)
     (c.in-Err-seal_node.ensures.answer start n made (omega arith) other)
 
 pub returns-clause-answer : goal.returns-clause-answer
@@ -68,7 +69,7 @@ returns-clause-answer g t c =
     _ c.is_empty.ensures c.if-is_empty.false _ count in
     along_more (term c.args.self.now.tree.now) c.in-Some.place.now c.in-Some.below.now c.args.places.now c.in-Some.ensures.cases.0 c.requires.placed c.as_slice-reached.result.now (c.as_slice-reached.ensures.value ∙ c.in_ok-resolution.ensures)
     _ c.is_empty.ensures c.if-is_empty.false g.S.Suite.crypto c.args.self.now.context.now c.args.self.now.added.now c.args.self.now.seed.now start
-    _ _ count c.in-Ok.ensures.seals c.as_slice-reached.result.now refl c.in-Ok-seal_node.node c.in-Ok.made.nodes.items c.push.new.self.items
+    _ _ count (c.seals_in-first.ensures ∙ ap (λ xs. seals_in xs % 2 ^ 32) c.deref.ensures.value ∙ ap (λ n. n % 2 ^ 32) c.in-Ok.ensures.seals) c.as_slice-reached.result.now refl c.in-Ok-seal_node.node c.in-Ok.nodes.items c.push.new.self.items
     (c.in-Ok-seal_node.ensures.answer start n made (omega arith))
     (c.in-Ok.ensures.answer start n made (omega (arith, all)))
     c.in_ok-push.ensures.items
@@ -77,10 +78,9 @@ pub returns-clause-count : goal.returns-clause-count
 returns-clause-count g t c =
     let all = count_one (term c.args.self.now.tree.now) c.in-Some.place.now c.in-Some.below.now c.args.places.now c.in-Some.ensures.cases.0 c.requires.placed c.as_slice-reached.result.now (c.as_slice-reached.ensures.value ∙ c.in_ok-resolution.ensures)
     _ c.is_empty.ensures c.if-is_empty.false _ (c.in-Ok.ensures.count) in
-    ap length c.in_ok-push.ensures.items ∙ length-append _ _ ∙ (let z : length c.in-Ok.made.nodes.items + 1 ≡ suc (length c.in-Ok.made.nodes.items) = omega arith in z) ∙ all
+    ap length c.in_ok-push.ensures.items ∙ length-append _ _ ∙ (let z : length c.in-Ok.nodes.items + 1 ≡ suc (length c.in-Ok.nodes.items) = omega arith in z) ∙ all
 
 pub returns-clause-seals : goal.returns-clause-seals
 returns-clause-seals g t c =
     numbers_more (term c.args.self.now.tree.now) c.in-Some.place.now c.in-Some.below.now c.args.places.now c.in-Some.ensures.cases.0 c.requires.placed c.as_slice-reached.result.now (c.as_slice-reached.ensures.value ∙ c.in_ok-resolution.ensures)
-    _ c.is_empty.ensures c.if-is_empty.false c.args.self.now.added.now _ _ (length c.in-Ok-seal_node.node.ciphertexts) c.in-Ok.ensures.seals
-    c.in-Ok-seal_node.ensures.seals (c.low_bits.ensures ∙ ap (λ xs. length xs % 2 ^ 32) c.as_slice.ensures)
+    _ c.is_empty.ensures c.if-is_empty.false c.args.self.now.added.now c.in-Ok-seal_node.node c.in-Ok.nodes.items c.push.new.self.items c.in-Ok.ensures.seals c.in-Ok-seal_node.ensures.seals c.in_ok-push.ensures.items
