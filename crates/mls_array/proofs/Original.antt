@@ -1,15 +1,19 @@
 -- Tree hashes of original trees, by the root and its sides.
-use Rattle.std.proofs.Common.{◌≡◌, ℕ, ◌+◌, ◌/◌, true, false, List, length, get_or, Option, None, ◌∙◌, ap, refl, arith}
-use Rattle.std.proofs.lemmas.Bool.{cond-true, cond-false}
+use Rattle.std.proofs.Common.{◌≡◌, ℕ, ◌+◌, ◌/◌, true, false, not, ◌&&◌, List, [], ◌∷◌, length, get_or, Option, Some, None, sym, ◌∙◌, ap, refl, arith}
+use Rattle.std.specs.List.{list_all}
+use Rattle.std.proofs.lemmas.Bool.{and_parts, cond-true, cond-false}
+use Rattle.mls_leaf.specs.Parent.{Parent}
 use Rattle.mls_leaf.specs.declared.node.Node.{Node}
 use Rattle.mls_treemath.specs.Paths.{nodes_in}
-use Rattle.mls_term.specs.Sets.{has}
+use Rattle.mls_term.specs.Sets.{has, less, same_bytes}
 use Rattle.mls_term.specs.Term.{Term, Leaf, Branch, width}
 use Rattle.mls_term.specs.Inputs.{leaf_hash, branch_hash}
 use Rattle.mls_term.specs.Hashes.{tree_hash, unlisting, original}
 use Rattle.mls_term.specs.Arrays.{leaf_in, parent_in, term_of}
 use Rattle.mls_term.specs.Equations.{tree_hash_leaf, tree_hash_branch, original_leaf, original_branch}
 use Rattle.mls_term.specs.ArrayLaws.{term_of-zero}
+use Rattle.mls_term.specs.CountLaws.{bytes_true}
+use Rattle.mls_array.specs.Witnesses.{listed}
 use Rattle.mls_array.proofs.Readings.{leaf_term, left_side, right_side, InParts}
 
 pub added_leaf : (us : List ℕ) (b h : ℕ) (xs : List (Option Node)) → h ≡ 0 → has us b ≡ true → tree_hash b (original us b (term_of h xs)) ≡ leaf_hash b None
@@ -20,12 +24,37 @@ added_leaf us b h xs low there =
     ∙ ap (λ v. tree_hash b (Leaf v)) (cond-true _ _ _ there)
     ∙ tree_hash_leaf b None
 
-pub kept_leaf : (us : List ℕ) (b h : ℕ) (xs : List (Option Node)) (n : Option Node) → h ≡ 0 → length xs ≡ nodes_in h → n ≡ get_or xs 0 n → has us b ≡ false → tree_hash b (original us b (term_of h xs)) ≡ leaf_hash b (leaf_in n)
-kept_leaf us b h xs n low all is gone =
-    ap (λ t. tree_hash b (original us b t)) (leaf_term h xs n low all is)
-    ∙ ap (tree_hash b) (original_leaf b (leaf_in n) us)
-    ∙ ap (λ v. tree_hash b (Leaf v)) (cond-false _ _ _ gone)
-    ∙ tree_hash_leaf b (leaf_in n)
+-- where a leaf isn't among them, its hash stays
+pub same_leaf : (us : List ℕ) (b h : ℕ) (xs : List (Option Node)) → h ≡ 0 → has us b ≡ false → tree_hash b (term_of h xs) ≡ tree_hash b (original us b (term_of h xs))
+same_leaf us b h xs low gone =
+    ap (λ j. tree_hash b (term_of j xs)) low
+    ∙ ap (tree_hash b) (term_of-zero xs)
+    ∙ ap (λ v. tree_hash b (Leaf v)) (sym (cond-false _ _ _ gone))
+    ∙ ap (tree_hash b) (sym (original_leaf b (leaf_in (get_or xs 0 None)) us))
+    ∙ ap (λ t. tree_hash b (original us b t)) (sym (term_of-zero xs))
+    ∙ ap (λ j. tree_hash b (original us b (term_of j xs))) (sym low)
+
+-- and a list that has none of them stays
+less_kept : (us xs : List ℕ) → list_all (λ u. not (has us u)) xs ≡ true → less us xs ≡ xs
+less_kept us [] e = refl
+less_kept us (x ∷ xs) e =
+    let p = and_parts (not (has us x)) (list_all (λ u. not (has us u)) xs) e in
+    rw p.0 (ap (λ ys. x ∷ ys) (less_kept us xs p.1))
+
+pub unlisting_kept : (us : List ℕ) (c : Option Parent) → list_all (λ u. not (has us u)) (listed c) ≡ true → unlisting us c ≡ c
+unlisting_kept us None e = refl
+unlisting_kept us (Some p) e =
+    ap (λ ys. let r : Parent = record { encryption_key = p.encryption_key; parent_hash = p.parent_hash; unmerged_leaves = ys } in Some r) (less_kept us p.unmerged_leaves e)
+
+-- so a root whose sides keep their hashes keeps its own
+pub same_root : (us l l' r r' own : List ℕ) (c : Option Parent) → own ≡ branch_hash c l' r' → (same_bytes l l' && (same_bytes r r' && list_all (λ u. not (has us u)) (listed c))) ≡ true → own ≡ branch_hash (unlisting us c) l r
+same_root us l l' r r' own c is same =
+    let p = and_parts (same_bytes l l') _ same in
+    let q = and_parts (same_bytes r r') (list_all (λ u. not (has us u)) (listed c)) p.1 in
+    is
+    ∙ ap (λ d. branch_hash d l' r') (sym (unlisting_kept us c q.1))
+    ∙ ap (λ x. branch_hash (unlisting us c) x r') (sym (bytes_true l l' p.0))
+    ∙ ap (branch_hash (unlisting us c) l) (sym (bytes_true r r' q.0))
 
 -- an original tree is as wide
 pub width-original : (us : List ℕ) (b : ℕ) (t : Term) → width (original us b t) ≡ width t

@@ -32,6 +32,11 @@ only_off ls xs = kept (λ d. is_same_set ls (others d xs)) (first_off ls xs)
 unfoldable pub candidate : Parent → ℕ → Term → Option ℕ
 candidate p b c = only_off (leaf_numbers (within b (width c) p.unmerged_leaves)) (resolution b c)
 
+-- the leaves that a place lists, none where it is blank
+abbrev pub listed : Option Parent → List ℕ
+listed None = []
+listed (Some p) = p.unmerged_leaves
+
 -- the tree hashes of all subtrees of a tree whose first leaf is b: those of the left side, those of the right side, its own
 unfoldable pub hashes_of : ℕ → Term → List (List ℕ)
 hashes_of b (Leaf v) = tree_hash b (Leaf v) ∷ []

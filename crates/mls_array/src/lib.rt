@@ -35,7 +35,6 @@ pub use members::{first_blank, has_leaf, is_full_width, member_count};
 pub use merging::{bytes_of, merge, path_hash, path_length, path_parents};
 pub use mls_hash::Hash;
 pub use order::{alternates, has_last, height_for, pad, pad_tree, to_nodes};
-pub use originals::original_hash;
 pub use path::filtered_path;
 pub use path_keys::merged_keys;
 pub use places::{leaf_in, parent_in};

@@ -1,34 +1,131 @@
 //! Tree hashes of trees as they were before some leaves were added (RFC 9420, 7.9).
 
-ghost use Rattle.std.specs.Prelude.{◌≡◌, ◌+◌, ◌^◌, ◌≤◌, true, length};
+ghost use Rattle.std.specs.Prelude.{◌≡◌, ℕ, ◌+◌, ◌^◌, ◌<◌, ◌≤◌, ◌&&◌, true, not, length};
+ghost use Rattle.std.specs.List.{list_all};
+ghost use Rattle.std.specs.Option.{option_copied};
 ghost use Rattle.mls_leaf.specs.Parent.{rises};
 ghost use Rattle.mls_treemath.specs.Paths.{nodes_in};
-ghost use Rattle.mls_term.specs.Hashes.{original, tree_hash};
+ghost use Rattle.mls_term.specs.Sets.{has, same_bytes};
+ghost use Rattle.mls_term.specs.Term.{Term};
+ghost use Rattle.mls_term.specs.Inputs.{branch_hash};
+ghost use Rattle.mls_term.specs.Hashes.{tree_hash, unlisting, original};
 ghost use Rattle.mls_term.specs.Arrays.{term_of};
+ghost use Rattle.mls_array.specs.Witnesses.{hashes_of, listed};
 
 use crate::lists::has;
-use crate::places::{leaf_in, middle_of, parent_in};
+use crate::places::{middle_of, parent_in};
+use crate::validity::same_bytes;
 use mls_hash::{Hash, branch_hash_without, leaf_hash};
-use mls_leaf::Node;
+use mls_leaf::{Node, ParentNode};
 
-/// The tree hash of a tree as it was before the leaves `unmerged` were added: they are blank, and no list has them.
-/// Takes no memory.
+/// The last of the tree hashes of all subtrees of a tree: its own.
+fn last_of(hashes: &[Hash]) -> Hash
+    requires { 0 < length hashes.now }
+    ensures { (b : ℕ) (t : Term) → hashes.now ≡ hashes_of b t → result ≡ tree_hash b t }
+{
+    hashes[hashes.len() - 1]
+}
+
+/// The unmerged leaves of a place that may be blank.
+fn listed(parent: Option<&ParentNode>) -> &[u32]
+    ensures { result.now ≡ listed (option_copied parent.entry) }
+{
+    match parent {
+        Some(parent) => parent.unmerged_leaves(),
+        None => &[],
+    }
+}
+
+/// Whether a list has none of some leaves.
+fn has_none(leaves: &[u32], unmerged: &[u32]) -> bool
+    requires { rises unmerged.now ≡ true }
+    ensures { result ≡ list_all (λ u. not (has unmerged.now u)) leaves.now }
+{
+    for leaf in leaves {
+        if has(unmerged, *leaf) {
+            return false;
+        }
+    }
+    true
+}
+
+/// Whether a root keeps its hash: its sides have the hashes that they had, and it lists none of the leaves.
+fn keeps_hash(
+    parent: Option<&ParentNode>,
+    unmerged: &[u32],
+    left: &Hash,
+    right: &Hash,
+    old_left: &Hash,
+    old_right: &Hash,
+) -> bool
+    requires { rises unmerged.now ≡ true }
+    ensures { result ≡ (same_bytes left.now old_left.now && (same_bytes right.now old_right.now && list_all (λ u. not (has unmerged.now u)) (listed (option_copied parent.entry)))) }
+{
+    if !same_bytes(left, old_left) {
+        return false;
+    }
+    if !same_bytes(right, old_right) {
+        return false;
+    }
+    has_none(listed(parent), unmerged)
+}
+
+/// The tree hash of an original by those of its sides. It is `own`, the tree hash of the tree, where its root lists none
+/// of the leaves and its sides have the hashes that they had, `old_left` and `old_right`.
+fn original_root(
+    parent: Option<&ParentNode>,
+    unmerged: &[u32],
+    left: &Hash,
+    right: &Hash,
+    old_left: &Hash,
+    old_right: &Hash,
+    own: &Hash,
+) -> Hash
+    requires rise { rises unmerged.now ≡ true }
+    requires own { own.now ≡ branch_hash (option_copied parent) old_left.now old_right.now }
+    ensures { result ≡ branch_hash (unlisting unmerged.now (option_copied parent.entry)) left.now right.now }
+{
+    if keeps_hash(parent, unmerged, left, right, old_left, old_right) {
+        return *own;
+    }
+    branch_hash_without(unmerged, parent, left, right)
+}
+
+/// The tree hash of a side as it was before some leaves were added, where `hashes` are the tree hashes of its subtrees:
+/// only the subtrees that the leaves change are hashed.
 #[tactic(auto, using(mls_treemath::specs::Sizes::nodes_in_pos))]
-pub fn original_hash(nodes: &[Option<Node>], height: u32, first: u32, unmerged: &[u32]) -> Hash
+pub(crate) fn original_of(
+    nodes: &[Option<Node>],
+    hashes: &[Hash],
+    height: u32,
+    first: u32,
+    unmerged: &[u32],
+) -> Hash
     requires shape { length nodes.now ≡ nodes_in height }
+    requires long { length hashes.now ≡ nodes_in height }
     requires fits { first + 2 ^ height ≤ 2 ^ 31 }
     requires rise { rises unmerged.now ≡ true }
+    requires hashed { hashes.now ≡ hashes_of first (term_of height nodes.now) }
     ensures { result ≡ tree_hash first (original unmerged.now first (term_of height nodes.now)) }
 {
+    if unmerged.is_empty() {
+        return last_of(hashes);
+    }
     if height == 0 {
         if has(unmerged, first) {
             return leaf_hash(first, None);
         }
-        return leaf_hash(first, leaf_in(&nodes[0]));
+        return last_of(hashes);
     }
     let middle = middle_of(nodes.len(), height);
     let second = first + (middle / 2 + 1) as u32;
-    let left = original_hash(&nodes[..middle], height - 1, first, unmerged);
-    let right = original_hash(&nodes[middle + 1..], height - 1, second, unmerged);
-    branch_hash_without(unmerged, parent_in(&nodes[middle]), &left, &right)
+    let lower = &hashes[..middle];
+    let upper = &hashes[middle..2 * middle];
+    let left = original_of(&nodes[..middle], lower, height - 1, first, unmerged);
+    let right = original_of(&nodes[middle + 1..], upper, height - 1, second, unmerged);
+    let old_left = last_of(lower);
+    let old_right = last_of(upper);
+    let own = last_of(hashes);
+    let parent = parent_in(&nodes[middle]);
+    original_root(parent, unmerged, &left, &right, &old_left, &old_right, &own)
 }

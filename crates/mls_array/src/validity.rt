@@ -1,19 +1,19 @@
 //! Whether parents are parent-hash valid (RFC 9420, 7.9.2).
 
 ghost use Rattle.std.specs.Prelude.{◌≡◌, ℕ, ◌+◌, ◌*◌, ◌^◌, ◌<◌, ◌≤◌, ◌++◌, true, length, Option, OnOk, IfOk};
-ghost use Rattle.mls_leaf.specs.Parent.{Parent, rises};
+ghost use Rattle.mls_leaf.specs.Parent.{Parent};
 ghost use Rattle.mls_treemath.specs.Paths.{nodes_in};
 ghost use Rattle.mls_treemath.specs.Limits.{max_height};
 ghost use Rattle.mls_term.specs.Node.{leaf_parent_hash, own_parent_hash};
 ghost use Rattle.mls_term.specs.Sets.{same_bytes};
 ghost use Rattle.mls_term.specs.Term.{Term, Branch, width};
 ghost use Rattle.mls_term.specs.Lists.{asked, all_parents};
-ghost use Rattle.mls_term.specs.Hashes.{tree_hash, original, hash_at, is_some_bytes, has_witness, is_parent_hash_valid};
+ghost use Rattle.mls_term.specs.Hashes.{tree_hash, hash_at, is_some_bytes, has_witness, is_parent_hash_valid};
 ghost use Rattle.mls_term.specs.Good.{has_good_hashes};
 ghost use Rattle.mls_term.specs.Arrays.{leaf_in, parent_in, term_of};
 ghost use Rattle.mls_array.specs.Witnesses.{hashes_of};
 
-use crate::originals::original_hash;
+use crate::originals::original_of;
 use crate::places::{leaf_in, middle_of, parent_in};
 use crate::witnesses::candidate;
 use mls_hash::{Hash, branch_hash, leaf_hash, sibling_hash};
@@ -21,7 +21,7 @@ use mls_leaf::{LeafSource, Node, ParentNode};
 use std::alloc::{AllocError, Global};
 
 /// Whether two byte strings are equal.
-fn same_bytes(left: &[u8], right: &[u8]) -> bool
+pub(crate) fn same_bytes(left: &[u8], right: &[u8]) -> bool
     ensures { result ≡ same_bytes left.now right.now }
 {
     left == right
@@ -100,26 +100,6 @@ fn push_hashes(
     let hash = branch_hash(parent_in(&nodes[middle]), &left, &right);
     out.push(hash)?;
     Ok(hash)
-}
-
-/// The tree hash of a side as it was before some leaves were added, where `hashes` are the tree hashes of its subtrees.
-fn original_of(
-    nodes: &[Option<Node>],
-    hashes: &[Hash],
-    height: u32,
-    first: u32,
-    unmerged: &[u32],
-) -> Hash
-    requires shape { length nodes.now ≡ nodes_in height }
-    requires fits { first + 2 ^ height ≤ 2 ^ 31 }
-    requires rise { rises unmerged.now ≡ true }
-    requires hashed { hashes.now ≡ hashes_of first (term_of height nodes.now) }
-    ensures { result ≡ tree_hash first (original unmerged.now first (term_of height nodes.now)) }
-{
-    if unmerged.is_empty() {
-        return hashes[hashes.len() - 1];
-    }
-    original_hash(nodes, height, first, unmerged)
 }
 
 /// Whether the left side has a node that ties it to its parent.

@@ -1,11 +1,14 @@
-use Rattle.std.proofs.Common.{◌≡◌, ◌+◌, ◌/◌, Some, None}
+use Rattle.std.proofs.Common.{◌≡◌, ◌+◌, ◌/◌, Some, None, sym, ◌∙◌}
 use Rattle.mls_array.specs.Witnesses.{candidate}
 use Rattle.mls_array.proofs.Readings.{right_side, in_sides}
-use Rattle.mls_array.proofs.Ties.{left_hashes, untied, tied, right_tie}
+use Rattle.mls_array.proofs.Ties.{left_count, left_hashes, untied, tied, right_tie}
 use Rattle.mls_array.proofs.validity.right_ties.Goals as goal
 
 pub original_of-sibling-requires-clause-hashed : goal.original_of-sibling-requires-clause-hashed
 original_of-sibling-requires-clause-hashed c = left_hashes c.args.first c.args.height c.middle_of-middle.result c.args.nodes.now c.args.hashes.now c.middle_of-middle.ensures c.requires.above_leaf c.requires.shape c.requires.hashed
+
+pub original_of-sibling-requires-clause-long : goal.original_of-sibling-requires-clause-long
+original_of-sibling-requires-clause-long c = left_count c.args.height c.middle_of-middle.result c.args.nodes.now c.args.hashes.now c.middle_of-middle.ensures c.requires.above_leaf (c.requires.long ∙ sym c.requires.shape)
 
 pub returns-in-None : goal.returns-in-None
 returns-in-None c =

@@ -1,4 +1,0 @@
-use Rattle.mls_array.proofs.originals.+original_hash.Given as goal
-
-abbrev pub decreases-original_hash : goal.decreases-original_hash
-decreases-original_hash l = l.height
