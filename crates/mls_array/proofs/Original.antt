@@ -1,10 +1,9 @@
 -- Tree hashes of original trees, by the root and its sides.
-use Rattle.std.proofs.Common.{◌≡◌, ℕ, ◌+◌, ◌/◌, true, false, not, ◌&&◌, List, [], ◌∷◌, length, get_or, Option, Some, None, sym, ◌∙◌, ap, refl, arith}
+use Rattle.std.proofs.Common.{◌≡◌, ℕ, ◌+◌, ◌/◌, true, false, not, ◌&&◌, List, [], ◌∷◌, get_or, Option, Some, None, sym, ◌∙◌, ap, refl, arith}
 use Rattle.std.specs.List.{list_all}
 use Rattle.std.proofs.lemmas.Bool.{and_parts, cond-true, cond-false}
 use Rattle.mls_leaf.specs.Parent.{Parent}
 use Rattle.mls_leaf.specs.declared.node.Node.{Node}
-use Rattle.mls_treemath.specs.Paths.{nodes_in}
 use Rattle.mls_term.specs.Sets.{has, less, same_bytes}
 use Rattle.mls_term.specs.Term.{Term, Leaf, Branch, width}
 use Rattle.mls_term.specs.Inputs.{leaf_hash, branch_hash}
@@ -14,7 +13,7 @@ use Rattle.mls_term.specs.Equations.{tree_hash_leaf, tree_hash_branch, original_
 use Rattle.mls_term.specs.ArrayLaws.{term_of-zero}
 use Rattle.mls_term.specs.CountLaws.{bytes_true}
 use Rattle.mls_array.specs.Witnesses.{listed}
-use Rattle.mls_array.proofs.Readings.{leaf_term, left_side, right_side, InParts}
+use Rattle.mls_array.proofs.Readings.{left_side, right_side, InParts}
 
 pub added_leaf : (us : List ℕ) (b h : ℕ) (xs : List (Option Node)) → h ≡ 0 → has us b ≡ true → tree_hash b (original us b (term_of h xs)) ≡ leaf_hash b None
 added_leaf us b h xs low there =
