@@ -2,6 +2,8 @@
 use Rattle.std.proofs.Common.{◌≡◌, ℕ, ◌+◌, ◌-◌, ◌*◌, ◌/◌, ◌%◌, ◌<◌, ◌≤◌, ◌==◌, nat_lt, Bool, true, false, not, ◌&&◌, ◌||◌, List, [], ◌∷◌, Option, Some, None, refl, sym, ◌∙◌, ap, inl, inr, arith, eqb-true, eq-eqb, lt-ltb, le-ltb, ne_eqb}
 use Rattle.std.specs.Prelude.{nat_le, nat_eq}
 use Rattle.std.specs.List.{list_all, list_any, find}
+use Rattle.std.specs.List.Sorted.{IsPermutation}
+use Rattle.std.proofs.lemmas.List.Sorted.{list_any-IsPermutation}
 use Rattle.std.proofs.lemmas.Bool.{true≢false, cases_Bool, and_parts, and_from, or_cases, or_left, or_right, le-leb, lt-leb}
 use Rattle.mls_leaf.specs.Parent.{Parent}
 use Rattle.mls_term.specs.Sets.{has, within, leaf_numbers, is_same_set}
@@ -17,10 +19,18 @@ not_true : (a : Bool) → (a ≡ true → ⊥) → a ≡ false
 not_true true f = absurd (f refl)
 not_true false f = refl
 
-pub has-any : (xs : List ℕ) (x : ℕ) → list_any (λ y. nat_eq y x) xs ≡ has xs x
+has-any : (xs : List ℕ) (x : ℕ) → list_any (λ y. nat_eq y x) xs ≡ has xs x
 unfolding has
 has-any [] x = refl
 has-any (y ∷ ys) x = ap (λ v. nat_eq y x || v) (has-any ys x)
+
+-- what a list has doesn't depend on its order
+has_moved : (xs ys : List ℕ) (x : ℕ) → IsPermutation xs ys → has ys x ≡ has xs x
+has_moved xs ys x moved = sym (sym (has-any xs x) ∙ list_any-IsPermutation (λ y. nat_eq y x) xs ys moved ∙ has-any ys x)
+
+others_moved : (d : ℕ) (xs ys : List ℕ) (x : ℕ) → IsPermutation xs ys → has (others d ys) x ≡ has (others d xs) x
+others_moved d xs ys x moved =
+    has-filter (λ y. not (y == d)) ys x ∙ ap (λ v. v && not (x == d)) (has_moved xs ys x moved) ∙ sym (has-filter (λ y. not (y == d)) xs x)
 
 -- ---- the leaves in a range
 
@@ -102,6 +112,13 @@ pub are_others : (b e d : ℕ) (us xs : List ℕ) → list_all (λ x. (x == d) |
 are_others b e d us xs all =
     and_yes _ _ (all_others (has (numbers_in b e us)) d xs ∙ all)
     ∙ all_numbers (has (others d xs)) b (e - b) us
+
+-- of leaves in the other nodes, where these are sorted
+pub leaves_moved : (b e d : ℕ) (us xs ys : List ℕ) → IsPermutation xs ys → list_all (λ u. not (nat_le b u && nat_lt u (b + (e - b))) || has (others d ys) (2 * u)) us ≡ list_all (λ u. not (nat_le b u && nat_lt u (b + (e - b))) || has (others d xs) (2 * u)) us
+leaves_moved b e d [] xs ys moved = refl
+leaves_moved b e d (u ∷ us) xs ys moved =
+    ap (λ v. (not (nat_le b u && nat_lt u (b + (e - b))) || v) && list_all (λ w. not (nat_le b w && nat_lt w (b + (e - b))) || has (others d ys) (2 * w)) us) (others_moved d xs ys (2 * u) moved)
+    ∙ ap (λ v. (not (nat_le b u && nat_lt u (b + (e - b))) || has (others d xs) (2 * u)) && v) (leaves_moved b e d us xs ys moved)
 
 -- ---- the first node that passes a test
 

@@ -2,6 +2,7 @@
 
 ghost use Rattle.std.specs.Prelude.{◌≡◌, ◌+◌, ◌-◌, ◌*◌, ◌^◌, ◌≤◌, ◌<◌, ◌==◌, ◌&&◌, ◌||◌, nat_le, nat_lt, not, true, length, IfOk};
 ghost use Rattle.std.specs.List.{list_all};
+ghost use Rattle.std.specs.List.Sorted.{IsNonDecreasing};
 ghost use Rattle.mls_leaf.specs.Parent.{rises};
 ghost use Rattle.mls_treemath.specs.Paths.{nodes_in};
 ghost use Rattle.mls_term.specs.Sets.{has, is_same_set};
@@ -66,9 +67,10 @@ fn others_among(leaves: &[u32], first: u32, end: u32, nodes: &[u64], node: u64) 
     true
 }
 
-/// Whether a leaf is outside, or another node than this one and among the nodes.
+/// Whether a leaf is outside, or another node than this one and among the sorted nodes.
 fn is_out_or_other(leaf: u32, first: u32, end: u32, nodes: &[u64], node: u64) -> bool
-    requires { first ≤ end }
+    requires order { first ≤ end }
+    requires sorted { IsNonDecreasing nodes.now }
     ensures { result ≡ (not (nat_le first leaf && nat_lt leaf (first + (end - first))) || has (others node nodes.now) (2 * leaf)) }
 {
     if leaf < first || leaf >= end {
@@ -78,12 +80,13 @@ fn is_out_or_other(leaf: u32, first: u32, end: u32, nodes: &[u64], node: u64) ->
     if x == node {
         return false;
     }
-    nodes.contains(&x)
+    nodes.binary_search(&x).is_ok()
 }
 
-/// Whether all leaves from `first` on, below `end`, are among the nodes without one of them.
+/// Whether all leaves from `first` on, below `end`, are among the sorted nodes without one of them.
 fn leaves_among(leaves: &[u32], first: u32, end: u32, nodes: &[u64], node: u64) -> bool
-    requires { first ≤ end }
+    requires order { first ≤ end }
+    requires sorted { IsNonDecreasing nodes.now }
     ensures { result ≡ list_all (λ u. not (nat_le first u && nat_lt u (first + (end - first))) || has (others node nodes.now) (2 * u)) leaves.now }
 {
     for leaf in leaves {
@@ -94,20 +97,22 @@ fn leaves_among(leaves: &[u32], first: u32, end: u32, nodes: &[u64], node: u64) 
     true
 }
 
-/// Whether the leaves are the nodes without one of them.
-fn are_others(leaves: &[u32], first: u32, end: u32, nodes: &[u64], node: u64) -> bool
+/// Whether the leaves are the nodes without one of them. Sorts the nodes to search them, which takes no memory.
+fn are_others(leaves: &[u32], first: u32, end: u32, nodes: &mut [u64], node: u64) -> bool
     requires rise { rises leaves.now ≡ true }
     requires order { first ≤ end }
-    ensures { result ≡ is_same_set (numbers_in first end leaves.now) (others node nodes.now) }
+    ensures { result ≡ is_same_set (numbers_in first end leaves.now) (others node nodes.old) }
 {
     if !others_among(leaves, first, end, nodes, node) {
         return false;
     }
+    nodes.sort_unstable();
     leaves_among(leaves, first, end, nodes, node)
 }
 
 /// The only node that can tie a side, whose leaves are those from `first` on, below `end`, to a parent over it: its
-/// resolution is this node and the leaves that the parent lists below it. Leaves the resolution in `found`.
+/// resolution is this node and the leaves that the parent lists below it. `found` is room for the resolution, and may hold
+/// it sorted. Besides the walk for it, n nodes and leaves take time in proportion to n log n.
 pub(crate) fn candidate(
     parent: &ParentNode,
     nodes: &[Option<Node>],

@@ -1,9 +1,9 @@
--- Whether a number is in a rising list, as a search by halves finds it.
+-- Whether a number is in a sorted list, as a search by halves finds it.
 use Rattle.std.proofs.Common.{◌≡◌, ◌≢◌, ℕ, zero, suc, ◌+◌, ◌<◌, ◌≤◌, Bool, true, false, List, [], ◌∷◌, length, get_or, Result, Ok, Err, refl, sym, ap, ◌∙◌, arith, inl, inr, eqb, eq-eqb, nat_cmp}
 use Rattle.std.specs.Prelude.{nat_le, is_ok, is_err, not, ◌||◌}
-use Rattle.std.specs.List.Sorted.{IsBinarySearchResult}
+use Rattle.std.specs.List.Sorted.{IsBinarySearchResult, IsNonDecreasing}
 use Rattle.std.proofs.lemmas.Bool.{and_parts, leb-true, ne_eqb, cases_lt}
-use Rattle.std.proofs.lemmas.List.Sorted.{searched}
+use Rattle.std.proofs.lemmas.List.Sorted.{searched, IsNonDecreasingBy-from_default}
 use Rattle.mls_leaf.specs.Parent.{rises_from}
 use Rattle.mls_leaf.specs.ParentLaws.{rises_from-cons}
 use Rattle.mls_term.specs.Sets.{has}
@@ -42,14 +42,18 @@ unfolding has
 has_nowhere [] x none = refl
 has_nowhere (y ∷ xs) x none = ap (λ (b : Bool). b || has xs x) (ne_eqb y x (none 0 (omega arith))) ∙ has_nowhere xs x (λ k lt. none (suc k) (omega arith))
 
--- a search finds what the list has
-pub found : (xs : List ℕ) (x : ℕ) (r : Result ℕ ℕ) → rises_from 0 xs ≡ true → IsBinarySearchResult (λ y. nat_cmp y x) xs r → is_ok r ≡ has xs x
-found xs x (Ok i) rise h =
-    let at = searched xs x (Ok i) h (λ a b. rising_is_sorted 0 xs a b rise) in
+-- a search of a sorted list finds what it has
+pub found_sorted : (xs : List ℕ) (x : ℕ) (r : Result ℕ ℕ) → IsNonDecreasing xs → IsBinarySearchResult (λ y. nat_cmp y x) xs r → is_ok r ≡ has xs x
+found_sorted xs x (Ok i) up h =
+    let at = searched xs x (Ok i) h (λ a b. up a b 0) in
     sym (has_there xs i x at.0 at.1)
-found xs x (Err i) rise h =
-    let at = searched xs x (Err i) h (λ a b. rising_is_sorted 0 xs a b rise) in
+found_sorted xs x (Err i) up h =
+    let at = searched xs x (Err i) h (λ a b. up a b 0) in
     sym (has_nowhere xs x (λ k lt e. elim (cases_lt k i) [ inl below ↦ absurd (omega (arith, at.1 k below)) | inr above ↦ absurd (omega (arith, at.2 k above lt)) ]))
+
+-- and so it does of a rising one
+pub found : (xs : List ℕ) (x : ℕ) (r : Result ℕ ℕ) → rises_from 0 xs ≡ true → IsBinarySearchResult (λ y. nat_cmp y x) xs r → is_ok r ≡ has xs x
+found xs x r rise h = found_sorted xs x r (IsNonDecreasingBy-from_default (λ y. y) xs 0 (λ i j. rising_is_sorted 0 xs i j rise)) h
 
 pub not_found : (xs : List ℕ) (x : ℕ) (r : Result ℕ ℕ) → rises_from 0 xs ≡ true → IsBinarySearchResult (λ y. nat_cmp y x) xs r → is_err r ≡ not (has xs x)
 not_found xs x r rise h = other r ∙ ap not (found xs x r rise h)
