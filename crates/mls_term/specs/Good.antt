@@ -84,7 +84,25 @@ pub record IsGood (rules : Rules) (t : Term) : Type 0 where
   pub capable : is_all_capable rules t ≡ true
   pub fit : is_all_fit rules t ≡ true
 
--- a new leaf for place i, and new parents' keys, pass the checks beside those of a tree
+-- a tree that is good but that keys and clients may repeat in it (25 and 26), as between two proposals of one commit
+pub record IsSound (rules : Rules) (t : Term) : Type 0 where
+  pub perfect : is_perfect (height t) t ≡ true
+  pub rising : all_parents rises_here 0 t ≡ true
+  pub shape : has_good_shape t ≡ true
+  pub within : is_within rules.limit t ≡ true
+  pub lists : has_good_lists t ≡ true
+  pub hashes : has_good_hashes t ≡ true
+  pub signed : is_all_signed rules t ≡ true
+  pub capable : is_all_capable rules t ≡ true
+  pub fit : is_all_fit rules t ≡ true
+
+-- a new leaf for place i, and new parents' keys, pass the checks that are made of each alone
+pub record AreFit (rules : Rules) (i : ℕ) (x : LeafNode) (ks : List (List ℕ)) : Type 0 where
+  pub signed : rules.is_signed i x ≡ true
+  pub capable : rules.is_capable x ≡ true
+  pub fit : list_all rules.is_fit (x.encryption_key ∷ ks) ≡ true
+
+-- and those beside a tree's too: no key of them and no client stands there or twice
 pub record AreNew (rules : Rules) (i : ℕ) (x : LeafNode) (ks : List (List ℕ)) (t : Term) : Type 0 where
   pub keys : is_distinct same_bytes (x.encryption_key ∷ (ks ++ encryption_keys t)) ≡ true
   pub clients : is_distinct same_bytes (x.signature_key ∷ signature_keys t) ≡ true

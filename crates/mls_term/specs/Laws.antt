@@ -19,7 +19,7 @@ use Rattle.mls_term.specs.Keys.{leaf_key, encryption_keys, members, passes, all_
 use Rattle.mls_term.specs.Held.{holds, held}
 use Rattle.mls_wire.specs.Checks.{passed}
 use Rattle.mls_leaf.specs.declared.node.Node.{Node}
-use Rattle.mls_term.specs.Good.{Rules, IsGood, AreNew, has_good_shape, is_within, tree_checks}
+use Rattle.mls_term.specs.Good.{Rules, IsGood, AreNew, has_good_shape, is_within, tree_checks, IsSound, AreFit, has_distinct_keys, has_distinct_clients}
 use Rattle.mls_term.specs.Arrays.{leaf_in, term_of, in_order, to_nodes, from_nodes, node_at, under}
 
 -- leaf i is one of a tree whose first leaf is b
@@ -270,6 +270,26 @@ GoodMerge = (rules : Rules) (t : Term) (i : ℕ) (ks : List (List ℕ)) (h : Lis
 -- the same with the keys lowest first
 abbrev pub GoodMergePath : Type 0
 GoodMergePath = (rules : Rules) (t : Term) (i : ℕ) (x : LeafNode) (keys : List (List ℕ)) → IsGood rules t → i < width t → length keys ≡ path_length 0 t i → source_hash x.source ≡ Some (path_parent_hash t i keys) → AreNew rules i x keys (put 0 t i None) → IsGood rules (merge_path t i x keys)
+
+-- a good tree is a sound one in which no key and no client repeats
+abbrev pub SoundOfGood : Type 0
+SoundOfGood = (rules : Rules) (t : Term) → IsGood rules t → IsSound rules t
+
+abbrev pub GoodOfSound : Type 0
+GoodOfSound = (rules : Rules) (t : Term) → IsSound rules t → has_distinct_keys t ≡ true → has_distinct_clients t ≡ true → IsGood rules t
+
+-- each edit keeps a sound tree, where the new leaf and the path's keys pass the checks that are made of each alone
+abbrev pub SoundUpdate : Type 0
+SoundUpdate = (rules : Rules) (t : Term) (i : ℕ) (x : LeafNode) → IsSound rules t → i < width t → AreFit rules i x [] → IsSound rules (update t i x)
+
+abbrev pub SoundRemove : Type 0
+SoundRemove = (rules : Rules) (t : Term) (i : ℕ) → IsSound rules t → i < width t → has_leaf (put 0 t i None) ≡ true → IsSound rules (remove t i)
+
+abbrev pub SoundAdd : Type 0
+SoundAdd = (rules : Rules) (t : Term) (x : LeafNode) → IsSound rules t → width (add t x) ≤ rules.limit → AreFit rules (place_in t) x [] → IsSound rules (add t x)
+
+abbrev pub SoundMergePath : Type 0
+SoundMergePath = (rules : Rules) (t : Term) (i : ℕ) (x : LeafNode) (keys : List (List ℕ)) → IsSound rules t → i < width t → length keys ≡ path_length 0 t i → source_hash x.source ≡ Some (path_parent_hash t i keys) → AreFit rules i x keys → IsSound rules (merge_path t i x keys)
 
 -- a good tree passes its checks
 abbrev pub GoodPasses : Type 0

@@ -28,4 +28,9 @@ pub mod PlaceLaws
 pub mod MemberLaws
 pub mod EntryLaws
 pub mod ArrayLaws
+pub mod OriginalLaws
+pub mod AddLaws
 pub mod GoodLaws
+pub mod SoundLaws
+pub mod KeptLaws
+pub mod PathLaws

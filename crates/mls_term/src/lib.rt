@@ -8,7 +8,7 @@ ghost use Rattle.mls_term.specs.Laws.{MembersPut, MembersEnter, MembersMerge, Me
 ghost use Rattle.mls_term.specs.Laws.{ListedIsMember, BlankIsUnlisted, ParentsPut, ParentsGrow, ParentsTrim, ListsEnter, RisesEnter, ListsMerge, RisesMerge};
 ghost use Rattle.mls_term.specs.Laws.{MembersAreReached, ResolutionIsIn, ResolutionIsDistinct, OneIsHeld, OneIsHeldOfRest, OneIsFiltered, LengthOfPath, AddedJoins};
 ghost use Rattle.mls_term.specs.Laws.{OriginalOfNone, OriginalOfEnter, OriginalOfOthers, HashesOfEnter, ValidEnter, MergeHasHead, ValidMerge};
-ghost use Rattle.mls_term.specs.Laws.{GoodSingle, GoodUpdate, GoodRemove, GoodAdd, GoodMerge, GoodMergePath, GoodPasses, GoodFromChecks};
+ghost use Rattle.mls_term.specs.Laws.{GoodSingle, GoodUpdate, GoodRemove, GoodAdd, GoodMerge, GoodMergePath, SoundOfGood, GoodOfSound, SoundUpdate, SoundRemove, SoundAdd, SoundMergePath, GoodPasses, GoodFromChecks};
 ghost use Rattle.mls_term.specs.Laws.{TermOfInOrder, TermOfIsPerfect, FromToNodes, NodeInOrder, LeafIsNode, NodeOfWay, WayIsDirectPath, LeafByBits};
 ghost use Rattle.mls_term.specs.Examples.{ResolutionWithUnmerged, FilteredPathOfFour, NextAddOfFour, AddBehindPath, RemovalHalves, RemovalKeeps, RemovalHalvesOften, PathOfTwo, TreeOfTwo};
 
@@ -99,7 +99,7 @@ pub fn laws_of_parent_hashes()
     ensures valid_merge { ValidMerge }
 {}
 
-/// Good trees stay good under each edit.
+/// Good trees stay good under each edit; so do sound trees, which are good but that keys and clients may repeat.
 pub fn laws_of_good_trees()
     ensures single { GoodSingle }
     ensures update { GoodUpdate }
@@ -107,6 +107,12 @@ pub fn laws_of_good_trees()
     ensures add { GoodAdd }
     ensures merge { GoodMerge }
     ensures merge_path { GoodMergePath }
+    ensures sound { SoundOfGood }
+    ensures from_sound { GoodOfSound }
+    ensures sound_update { SoundUpdate }
+    ensures sound_remove { SoundRemove }
+    ensures sound_add { SoundAdd }
+    ensures sound_merge_path { SoundMergePath }
     ensures passes { GoodPasses }
     ensures from_checks { GoodFromChecks }
 {}

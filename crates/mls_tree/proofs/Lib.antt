@@ -8,3 +8,4 @@ pub mod Passing
 pub mod Fitting
 pub mod Checked
 pub mod Halves
+pub mod Keeping

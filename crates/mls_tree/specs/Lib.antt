@@ -2,3 +2,4 @@ pub mod Tree
 pub mod Faults
 pub mod Paths
 pub mod Rules
+pub mod Kept

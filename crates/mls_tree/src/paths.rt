@@ -1,6 +1,6 @@
 //! A commit's path: the parent hash of its leaf, and its merge.
 
-ghost use Rattle.std.specs.Prelude.{◌≡◌, ◌≤◌, IfOk, OnOk, OnErr};
+ghost use Rattle.std.specs.Prelude.{◌≡◌, ◌≤◌, None, true, IfOk, OnOk, OnErr};
 ghost use Rattle.mls_wire.specs.Checks.{passed, Answers, AnswersOutright};
 ghost use Rattle.mls_treemath.specs.Limits.{max_height};
 ghost use Rattle.mls_term.specs.Node.{source_hash};
@@ -8,12 +8,15 @@ ghost use Rattle.mls_term.specs.Sets.{same_bytes, is_distinct};
 ghost use Rattle.mls_term.specs.Way.{path_length};
 ghost use Rattle.mls_term.specs.Hashes.{is_some_bytes};
 ghost use Rattle.mls_term.specs.Keys.{encryption_keys};
+ghost use Rattle.mls_term.specs.Edits.{put};
 ghost use Rattle.mls_term.specs.Merge.{merge_path, path_parent_hash};
+ghost use Rattle.mls_term.specs.Good.{Rules, IsGood, IsSound, AreNew, AreFit, has_distinct_clients};
 ghost use Rattle.mls_term.specs.Arrays.{term_of};
 ghost use Rattle.mls_array.specs.Standing.{Stands};
 ghost use Rattle.mls_array.specs.StandingLaws.{StandsFor};
 ghost use Rattle.mls_array.specs.Merging.{hash_bytes};
 ghost use Rattle.mls_tree.specs.Faults.{number_of};
+ghost use Rattle.mls_tree.specs.Kept.{KeepsGood};
 ghost use Rattle.mls_tree.specs.Tree.{term};
 ghost use Rattle.mls_tree.specs.Paths.{path_checks, path_hash_answer, merge_checks, merge_answer, ChangesWhole};
 
@@ -133,7 +136,11 @@ impl PublicTree {
     /// `KeyRepeated` (25) where two nodes of the merged tree have one encryption key; then with `ParentHashWrong` (24)
     /// where the leaf's source isn't a commit with the path's parent hash. After a refusal the tree is as before.
     pub fn merge_path(&mut self, i: u32, leaf: LeafNode, keys: Vec<Bytes>) -> Result<(), TreeError>
-        ensures { ChangesWhole number_of (merge_answer (term self.old) i leaf keys.items) (term self.old) (term self.new) result }
+        ensures answer { ChangesWhole number_of (merge_answer (term self.old) i leaf keys.items) (term self.old) (term self.new) result }
+        // A good tree stays good where the leaf and the keys pass the checks.
+        ensures good { OnOk result (KeepsGood (λ rules. AreNew rules i leaf keys.items (put 0 (term self.old) i None)) (term self.old) (term self.new)) }
+        // A sound tree becomes good, as keys are checked here, where no client repeats in the merged tree.
+        ensures checked { OnOk result ((rules : Rules) → AreFit rules i leaf keys.items → has_distinct_clients (term self.new) ≡ true → IsSound rules (term self.old) → IsGood rules (term self.new)) }
     {
         match self.require_merge(i, &leaf, &keys) {
             Err(error) => return Err(error),

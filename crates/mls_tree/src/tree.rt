@@ -1,15 +1,18 @@
 //! The public tree.
 
-ghost use Rattle.std.specs.Prelude.{◌≡◌, ◌^◌, Some, None, is_some, true, IfOk, MatchResult, length};
+ghost use Rattle.std.specs.Prelude.{◌≡◌, ◌<◌, ◌≤◌, ◌^◌, [], Some, None, is_some, true, IfOk, OnOk, MatchResult, length};
 ghost use Rattle.std.specs.Option.{option_copied};
 ghost use Rattle.mls_wire.specs.Checks.{Answers, DoesAs};
-ghost use Rattle.mls_term.specs.Term.{Leaf, leaf_of, width};
+ghost use Rattle.mls_term.specs.Term.{Leaf, has_leaf, leaf_of, width};
 ghost use Rattle.mls_term.specs.Places.{resolution_at};
 ghost use Rattle.mls_term.specs.Keys.{members};
 ghost use Rattle.mls_term.specs.Hashes.{tree_hash};
 ghost use Rattle.mls_term.specs.Arrays.{from_nodes, to_nodes, node_at};
+ghost use Rattle.mls_term.specs.Edits.{put, place_in};
+ghost use Rattle.mls_term.specs.Good.{Rules, IsGood, AreNew, AreFit};
 ghost use Rattle.mls_tree.specs.Faults.{number_of};
 ghost use Rattle.mls_tree.specs.declared.error.TreeError.TheVariants.{NoSuchLeaf};
+ghost use Rattle.mls_tree.specs.Kept.{KeepsGood, KeepsSound};
 ghost use Rattle.mls_tree.specs.Tree.{term, max_leaves, path_answer, add_answer, update_answer, remove_answer, Changes};
 
 use crate::edits;
@@ -44,7 +47,9 @@ impl Model for PublicTree {
 impl PublicTree {
     /// The tree of one member.
     pub fn single(alloc: Global, leaf: LeafNode) -> Result<PublicTree, AllocError>
-        ensures { IfOk result (λ t. term t ≡ Leaf (Some leaf)) }
+        ensures tree { IfOk result (λ t. term t ≡ Leaf (Some leaf)) }
+        // It is good where the leaf passes the checks.
+        ensures good { IfOk result (λ t. (rules : Rules) → 0 < rules.limit → AreNew rules 0 leaf [] (Leaf None) → IsGood rules (term t)) }
     {
         let mut nodes = Vec::with_capacity(alloc, 1)?;
         nodes.push(Some(Node::Leaf(leaf)))?;
@@ -156,7 +161,10 @@ impl PublicTree {
     /// Adds a member at the leftmost blank leaf, in a tree of twice the leaves where none is blank, and answers its leaf
     /// index (RFC 9420, 12.1.1). The largest tree with no blank leaf is refused with `TreeFull` (21).
     pub fn add(&mut self, leaf: LeafNode) -> Result<u32, TreeError>
-        ensures { DoesAs (λ i. i) number_of (add_answer (term self.old) leaf) (term self.old) (term self.new) result }
+        ensures answer { DoesAs (λ i. i) number_of (add_answer (term self.old) leaf) (term self.old) (term self.new) result }
+        // A good tree stays good where the leaf passes the checks, and a sound one sound.
+        ensures good { OnOk result (KeepsGood (λ rules. (max_leaves ≤ rules.limit) × AreNew rules (place_in (term self.old)) leaf [] (term self.old)) (term self.old) (term self.new)) }
+        ensures sound { OnOk result (KeepsSound (λ rules. (max_leaves ≤ rules.limit) × AreFit rules (place_in (term self.old)) leaf []) (term self.old) (term self.new)) }
     {
         let height = self.height;
         match array::first_blank(&self.nodes, height, 0) {
@@ -178,7 +186,10 @@ impl PublicTree {
     /// Replaces the leaf of member i and blanks the parents over it (RFC 9420, 12.1.2); `NoSuchLeaf` (22) where no
     /// member is there. Takes no memory.
     pub fn update(&mut self, i: u32, leaf: LeafNode) -> Result<(), TreeError>
-        ensures { Changes number_of (update_answer (term self.old) i leaf) (term self.old) (term self.new) result }
+        ensures answer { Changes number_of (update_answer (term self.old) i leaf) (term self.old) (term self.new) result }
+        // A good tree stays good where the leaf passes the checks, and a sound one sound.
+        ensures good { OnOk result (KeepsGood (λ rules. AreNew rules i leaf [] (put 0 (term self.old) i None)) (term self.old) (term self.new)) }
+        ensures sound { OnOk result (KeepsSound (λ rules. AreFit rules i leaf []) (term self.old) (term self.new)) }
     {
         match self.require_member(i) {
             Err(error) => return Err(error),
@@ -192,7 +203,10 @@ impl PublicTree {
     /// Blanks the leaf of member i and the parents over it, and halves the tree as long as its right half has no member
     /// (RFC 9420, 12.1.3); `NoSuchLeaf` (22) where no member is there. Takes no memory.
     pub fn remove(&mut self, i: u32) -> Result<(), TreeError>
-        ensures { Changes number_of (remove_answer (term self.old) i) (term self.old) (term self.new) result }
+        ensures answer { Changes number_of (remove_answer (term self.old) i) (term self.old) (term self.new) result }
+        // A good tree stays good where another member is left, and a sound one sound.
+        ensures good { OnOk result (KeepsGood (λ _. has_leaf (put 0 (term self.old) i None) ≡ true) (term self.old) (term self.new)) }
+        ensures sound { OnOk result (KeepsSound (λ _. has_leaf (put 0 (term self.old) i None) ≡ true) (term self.old) (term self.new)) }
     {
         match self.require_member(i) {
             Err(error) => return Err(error),

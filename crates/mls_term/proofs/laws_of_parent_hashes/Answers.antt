@@ -1,8 +1,8 @@
 use Rattle.mls_term.proofs.laws_of_parent_hashes.Goals as goal
 use Rattle.mls_term.specs.MemberLaws.{original-none}
-use Rattle.mls_term.proofs.Originals.{original-enter, original-with}
+use Rattle.mls_term.specs.OriginalLaws.{original-enter, original-with}
 use Rattle.mls_term.specs.ResolutionLaws.{hash_at-enter}
-use Rattle.mls_term.proofs.Adds.{valid-add}
+use Rattle.mls_term.specs.AddLaws.{valid-add}
 use Rattle.mls_term.specs.MergeLaws.{merge_head, valid-merge}
 
 pub returns : goal.returns

@@ -1,6 +1,6 @@
 use Rattle.mls_term.proofs.laws_of_resolutions.Goals as goal
 use Rattle.mls_term.specs.ResolutionLaws.{reached, resolution_range, resolution-enter}
-use Rattle.mls_term.proofs.Reversed.{length-filtered_path}
+use Rattle.mls_term.specs.PathLaws.{length-filtered_path}
 use Rattle.mls_term.specs.CountLaws.{resolution_distinct}
 use Rattle.mls_term.specs.EntryLaws.{one_held, one_held_of_rest, one_filtered}
 

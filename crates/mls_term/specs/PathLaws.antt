@@ -12,10 +12,11 @@ use Rattle.mls_term.specs.Way.{filtered_way, filtered_path, path_length}
 use Rattle.mls_term.specs.Edits.{put}
 use Rattle.mls_term.specs.Merge.{merge_path, path_parent_hash}
 use Rattle.mls_term.specs.Keys.{encryption_keys}
-use Rattle.mls_term.specs.Good.{Rules, IsGood, AreNew}
+use Rattle.mls_term.specs.Good.{Rules, IsGood, IsSound, AreNew, AreFit}
 use Rattle.mls_term.specs.CountLaws.{bytes_true, count-append, distinct_at, distinct_from}
 use Rattle.mls_term.specs.MergeLaws.{bytes_refl}
-use Rattle.mls_term.proofs.Goods.{good_merge}
+use Rattle.mls_term.specs.SoundLaws.{sound_merge}
+use Rattle.mls_term.specs.KeptLaws.{good_merge}
 
 -- the list of a filtered path is as long as that
 pub length-filtered_path : (b : ℕ) (t : Term) (i : ℕ) → length (filtered_path b t i) ≡ path_length b t i
@@ -64,6 +65,19 @@ good_merge_path rules t i x keys g in_it long hash new =
     (record {
       keys = distinct-reverse x.encryption_key keys (encryption_keys (put 0 t i None)) new.keys;
       clients = new.clients;
+      signed = new.signed;
+      capable = new.capable;
+      fit = and_from (rules.is_fit x.encryption_key) _ fit.0 (all-reverse rules.is_fit keys fit.1);
+    })
+
+-- the same of a sound tree
+pub sound_merge_path : (rules : Rules) (t : Term) (i : ℕ) (x : LeafNode) (keys : List (List ℕ)) → IsSound rules t → i < width t → length keys ≡ path_length 0 t i → source_hash x.source ≡ Some (path_parent_hash t i keys) → AreFit rules i x keys → IsSound rules (merge_path t i x keys)
+unfolding merge_path path_parent_hash
+sound_merge_path rules t i x keys g in_it long hash new =
+    let fit = and_parts (rules.is_fit x.encryption_key) (list_all rules.is_fit keys) new.fit in
+    sound_merge rules t i (reverse keys) [] x g in_it
+    (record { keys = length-reverse keys ∙ long; hash = hash })
+    (record {
       signed = new.signed;
       capable = new.capable;
       fit = and_from (rules.is_fit x.encryption_key) _ fit.0 (all-reverse rules.is_fit keys fit.1);

@@ -15,7 +15,7 @@ use Rattle.mls_term.specs.ShapeLaws.{width-enter}
 use Rattle.mls_term.specs.ParentLaws.{parents_parts, parents_from}
 use Rattle.mls_term.specs.NamedLaws.{fresh}
 use Rattle.mls_term.specs.ResolutionLaws.{resolution-enter, unnamed, hash_at-enter}
-use Rattle.mls_term.proofs.Originals.{parent_hash-out, parent_hash-in}
+use Rattle.mls_term.specs.OriginalLaws.{parent_hash-out, parent_hash-in}
 
 or_false : (y : Bool) → (y || false) ≡ y
 or_false true = refl
