@@ -1,5 +1,5 @@
 -- What the edits of a tree keep.
-use Rattle.std.proofs.Common.{◌≡◌, ℕ, ◌<◌, ◌≤◌, ◌^◌, ◌==◌, Bool, true, false, List, [], length, Option, Some, None, is_some, Ok, Err, refl, sym, ◌∙◌, ap, subst, arith, inl, inr, ◌⊎◌, eqb-true}
+use Rattle.std.proofs.Common.{◌≡◌, ℕ, ◌<◌, ◌≤◌, ◌^◌, ◌==◌, Bool, true, false, List, [], length, Option, Some, None, is_some, Result, Ok, Err, refl, sym, ◌∙◌, ap, subst, arith, inl, inr, ◌⊎◌, eqb-true}
 use Rattle.std.proofs.Math.Pow.{pow_mono}
 use Rattle.std.proofs.lemmas.Bool.{true≢false, cases_Bool, cases_lt}
 use Rattle.mls_wire.specs.Checks.{passed}
@@ -53,14 +53,18 @@ module _ (t u : Term) (i : ℕ) (some : is_some (leaf_of t i) ≡ true) where
 
 -- ---- adds
 
+term_or : Term → Result (ℕ × Term) ℕ → Term
+term_or d (Ok p) = p.1
+term_or d (Err n) = d
+
 added : (t : Term) (x : LeafNode) (k : ℕ) (u : Term) → add_answer t x ≡ Ok (k, u) → add t x ≡ u
-unfolding add_answer
+unfolding add_answer add term_or
 added t x k u e = go (first_blank 0 t) (width t == max_leaves) e
   where
     go : (o : Option ℕ) (b : Bool) → room_answer t x o b ≡ Ok (k, u) → add t x ≡ u
-    go (Some j) b a = cc
+    go (Some j) b a = ap (term_or u) a
     go None true a = absurd cc
-    go None false a = cc
+    go None false a = ap (term_or u) a
 
 module _ (t : Term) (x : LeafNode) (k h : ℕ) (xs : List (Option Node)) (e : add_answer t x ≡ Ok (k, term_of h xs)) (low : h ≤ max_height) where
   narrow : (limit : ℕ) → max_leaves ≤ limit → width (add t x) ≤ limit
