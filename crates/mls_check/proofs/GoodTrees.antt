@@ -10,6 +10,7 @@ use Rattle.mls_wire.specs.Format.{IsBytes}
 use Rattle.mls_wire.specs.Laws.{bind_ok}
 use Rattle.mls_wire.specs.Stateful.{RunFits}
 use Rattle.mls_leaf.specs.Faults.{whole}
+use Rattle.mls_leaf.specs.Limits.{input_limit}
 use Rattle.mls_leaf.specs.Node.{node}
 use Rattle.mls_leaf.specs.Parent.{Parent, rises_from}
 use Rattle.mls_leaf.specs.ParentLaws.{rises_from-nil, rises_from-more}
@@ -29,7 +30,6 @@ use Rattle.mls_term.specs.GoodLaws.{good_from_checks, good_passes}
 use Rattle.mls_term.specs.PlaceLaws.{perfect_itself}
 use Rattle.mls_tree.specs.Rules.{rules_of}
 use Rattle.mls_tree.specs.Tree.{max_leaves}
-use Rattle.mls_text.specs.File.{input_limit}
 use Rattle.mls_check.specs.Check.{SpellsGoodTree, check_text, report_on, tree_in}
 use Rattle.mls_check.specs.Reports.{report_by, report_of}
 use Rattle.mls_check.specs.declared.report.Report as declared

@@ -3,6 +3,7 @@ use Rattle.std.proofs.Common.{◌≡◌, ◌≢◌, ◌∙◌, ℕ, List, Option
 use Rattle.mls_wire.specs.Reading.{◌>>=◌}
 use Rattle.mls_wire.specs.declared.WireError.TheVariants as wire
 use Rattle.mls_leaf.specs.Faults.{Fails, number_of, whole}
+use Rattle.mls_leaf.specs.Limits.{input_limit}
 use Rattle.mls_leaf.specs.declared.error.LeafError.{LeafError}
 use Rattle.mls_leaf.specs.declared.error.LeafError.TheVariants.{Wire, BadTag, UnsupportedCredential, UnsupportedProposal, NotRising, ExtensionNotAllowed}
 use Rattle.mls_leaf.specs.declared.node.Node.{Node}
@@ -11,7 +12,6 @@ use Rattle.mls_term.specs.Term.{Term}
 use Rattle.mls_term.specs.Arrays.{from_nodes}
 use Rattle.mls_tree.specs.Tree.{max_leaves}
 use Rattle.mls_check.specs.Check.{tree_in}
-use Rattle.mls_text.specs.File.{input_limit}
 
 -- a fault of the first part is the fault of the whole
 fault_then : {A B : Type 0} (e : LeafError) (r : Result A ℕ) (f : A → Result B ℕ) → Fails e r → number_of e ≢ 1 → (r >>= f) ≡ Err (number_of e)

@@ -9,6 +9,7 @@ use Rattle.mls_wire.specs.Reading.{header, uint}
 use Rattle.mls_wire.specs.Combine.{optional}
 use Rattle.mls_leaf.specs.Faults.{Spells, whole}
 use Rattle.mls_leaf.specs.Leaf.{leaf_node}
+use Rattle.mls_leaf.specs.Limits.{input_limit}
 use Rattle.mls_leaf.specs.Node.{node}
 use Rattle.mls_leaf.specs.declared.leaf.LeafNode.{LeafNode}
 use Rattle.mls_leaf.specs.declared.node.Node.{Node}
@@ -20,7 +21,6 @@ use Rattle.mls_term.specs.Term.{Term, leaf_at, leaf_of, width, is_full_width}
 use Rattle.mls_term.specs.Good.{is_within}
 use Rattle.mls_term.specs.Arrays.{leaf_in, term_of, padded, height_for, sent_term, has_last, alternates, from_nodes}
 use Rattle.mls_tree.specs.Tree.{max_leaves}
-use Rattle.mls_text.specs.File.{input_limit}
 use Rattle.mls_check.specs.Short.{HasShortLeaves}
 use Rattle.mls_check.proofs.Cells.{Cells, of_front, of_back, of_padded}
 

@@ -4,6 +4,7 @@ use Rattle.hex.specs.Hex.{decode_of}
 use Rattle.mls_wire.specs.Checks.{given}
 use Rattle.mls_wire.specs.Reading.{◌>>=◌}
 use Rattle.mls_leaf.specs.Faults.{whole}
+use Rattle.mls_leaf.specs.Limits.{input_limit}
 use Rattle.mls_group.specs.GroupInfo.{ratchet_tree}
 use Rattle.mls_term.specs.Term.{Term, width}
 use Rattle.mls_term.specs.Keys.{members}
@@ -13,7 +14,7 @@ use Rattle.mls_term.specs.Arrays.{from_nodes}
 use Rattle.mls_suite.specs.Crypto.{Crypto}
 use Rattle.mls_tree.specs.Tree.{max_leaves}
 use Rattle.mls_tree.specs.Rules.{rules_of}
-use Rattle.mls_text.specs.File.{bytes_in, decoded, input_limit}
+use Rattle.mls_text.specs.File.{bytes_in, decoded}
 use Rattle.mls_text.specs.Text.{Entry, entry, bytes, number, word}
 use Rattle.mls_text.specs.Page.{Page, refused_page}
 

@@ -9,6 +9,7 @@ mod unchecked;
 ghost use Rattle.std.specs.Prelude.{ℕ, List, ◌≡◌, ◌++◌, length, IfOk, OnErr, IfErr, IfSome, IsErrOf, ◌≢◌, ◌≤◌};
 ghost use Rattle.std.specs.Io.KnownBytes.{Keeps};
 ghost use Rattle.mls_wire.specs.Checks.{Answers};
+ghost use Rattle.mls_leaf.specs.Limits.{input_limit};
 ghost use Rattle.mls_text.specs.Engine.{Prints};
 ghost use Rattle.mls_text.specs.Text.{lines_text};
 ghost use Rattle.mls_text.specs.Page.{refusal_name};
@@ -33,7 +34,7 @@ pub use unchecked::Unchecked;
 #[tactic(auto, unfolding(crate::specs::Check::group_in))]
 fn group_bytes(alloc: Global, text: &str) -> Result<Vec<u8>, CheckError>
     ensures id { Answers (λ bytes. bytes.items) number_of (group_in text.now) result }
-    ensures limit { IfOk result (λ bytes. length bytes.items ≤ INPUT_LIMIT) }
+    ensures limit { IfOk result (λ bytes. length bytes.items ≤ input_limit) }
 {
     match hex::decode(alloc, text) {
         Ok(bytes) => {
@@ -68,7 +69,7 @@ fn check_tree<S: Suite, W: Write>(
     group_id: &[u8],
     out: &mut W,
 ) -> Result<u8, Fault>
-    requires { length group_id.now ≤ INPUT_LIMIT }
+    requires { length group_id.now ≤ input_limit }
     ensures page { Prints W.contents out.old out.new result (report_page (check_text S.crypto bytes.now group_id.now)) }
     ensures status { IfOk result (λ status. status ≤ 1) }
     ensures written { IfErr result (λ e. e ≢ Fault.Read) }

@@ -1,6 +1,7 @@
 //! What the checks of a tree bring: a line of each that passed, and the first that failed.
 
 ghost use Rattle.std.specs.Prelude.{◌≡◌, ◌≢◌, ◌↔◌, ℕ, ◌<◌, ◌≤◌, ◌^◌, length, map, take, IfOk};
+ghost use Rattle.mls_leaf.specs.Limits.{input_limit};
 ghost use Rattle.mls_tree.specs.Faults.{number_of as tree_number_of};
 ghost use Rattle.mls_tree.specs.Tree.{term};
 ghost use Rattle.mls_text.specs.Page.{refusal_name};
@@ -12,7 +13,6 @@ ghost use Rattle.mls_check.specs.Short.{HasShortLeaves};
 
 use crate::check_error::CheckError;
 use crate::tree::{tree_in, tree_lines};
-use mls_leaf::INPUT_LIMIT;
 use mls_suite::Suite;
 use mls_text::{Field, Line, ended, joined, line_of};
 use mls_tree::{PublicTree, TreeError};
@@ -138,7 +138,7 @@ fn bytes_report<S: Suite>(
     bytes: &[u8],
     group_id: &[u8],
 ) -> Result<Report, AllocError>
-    requires { length group_id.now ≤ INPUT_LIMIT }
+    requires { length group_id.now ≤ input_limit }
     ensures { IfOk result (λ report. report_of report ≡ check_text S.crypto bytes.now group_id.now) }
 {
     match tree_in(alloc, bytes) {
@@ -156,7 +156,7 @@ pub fn check_text<S: Suite>(
     bytes: &[u8],
     group_id: &[u8],
 ) -> Result<Report, AllocError>
-    requires { length group_id.now ≤ INPUT_LIMIT }
+    requires { length group_id.now ≤ input_limit }
     ensures report { IfOk result (λ report. report_of report ≡ check_text S.crypto bytes.now group_id.now) }
     // Nothing is refused just where the bytes spell a good tree of the group.
     ensures good { IfOk result (λ report. (report.refusal ≡ None) ↔ SpellsGoodTree S.crypto group_id.now bytes.now) }

@@ -2,10 +2,10 @@
 use Rattle.std.specs.Prelude.{ℕ, List, [], ◌∷◌, ◌++◌, codes, length, Result, Ok}
 use Rattle.mls_wire.specs.Reading.{◌>>=◌}
 use Rattle.mls_leaf.specs.Faults.{whole}
+use Rattle.mls_leaf.specs.Limits.{input_limit}
 use Rattle.mls_types.specs.Message.{mls_message}
 use Rattle.mls_types.specs.declared.message.MlsMessage.{MlsMessage}
 use Rattle.mls_types.specs.declared.message.MlsMessage.TheVariants as message
-use Rattle.mls_text.specs.File.{input_limit}
 use Rattle.mls_text.specs.Text.{Entry, entry, number, word}
 use Rattle.mls_show.specs.Package.{key_package_entries}
 use Rattle.mls_show.specs.Public.{public_message_entries}

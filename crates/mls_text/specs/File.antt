@@ -30,7 +30,3 @@ decoded (Err e) = None
 -- the bytes of a hex file, where it is one
 abbrev pub bytes_in : List ℕ → Option (List ℕ)
 bytes_in text = decoded (decode_of (trimmed text))
-
--- how many bytes an input may have
-abbrev pub input_limit : ℕ
-input_limit = 4194304

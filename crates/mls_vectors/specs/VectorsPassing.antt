@@ -5,11 +5,11 @@ use Rattle.mls_wire.specs.Reading as wire
 use Rattle.mls_kdf.specs.Kdf as kdf
 use Rattle.mls_treemath.specs.Steps.{ancestors_of, copath_of}
 use Rattle.mls_leaf.specs.Faults.{whole}
+use Rattle.mls_leaf.specs.Limits.{input_limit}
 use Rattle.mls_types.specs.Message.{mls_message}
 use Rattle.mls_types.specs.declared.message.MlsMessage.{MlsMessage}
 use Rattle.mls_term.specs.Term.{Term}
 use Rattle.mls_term.specs.Hashes.{tree_hash as hash_of}
-use Rattle.mls_text.specs.File.{input_limit}
 use Rattle.mls_check.specs.Check.{tree_in}
 use Rattle.mls_vectors.specs.Vectors.{Claim, header, hmac, hkdf, expand, treemath, message, tree}
 

@@ -2,8 +2,8 @@
 
 ghost use Rattle.std.specs.Prelude.{◌≡◌, map, option_map, IfOk};
 ghost use Rattle.mls_leaf.specs.Faults.{whole};
+ghost use Rattle.mls_leaf.specs.Limits.{input_limit};
 ghost use Rattle.mls_types.specs.Message.{mls_message};
-ghost use Rattle.mls_text.specs.File.{input_limit};
 ghost use Rattle.mls_vectors.specs.Vectors.{vector_view};
 ghost use Rattle.mls_vectors.specs.VectorsPassing.{expand_passes, header_passes, hkdf_passes, hmac_passes, labelled_passes, number_given, passes, tree_passes, treemath_passes};
 

@@ -1,6 +1,6 @@
-use Rattle.mls_leaf.specs.declared.codec.TheConstants.{INPUT_LIMIT}
+use Rattle.mls_leaf.specs.Limits.{input_limit}
 use Rattle.mls_leaf.specs.WholeLaws.{whole_told}
 use Rattle.mls_leaf.proofs.codec.Codec.check_all.Goals as goal
 
 pub returns : goal.returns
-returns g c = whole_told g.Self.Codec.format INPUT_LIMIT c.args.bytes.now c.all_past.result c.all_past.ensures
+returns g c = whole_told g.Self.Codec.format input_limit c.args.bytes.now c.all_past.result c.all_past.ensures
