@@ -1,5 +1,5 @@
 -- The lines of Welcomes and GroupInfos.
-use Rattle.std.specs.Prelude.{ℕ, List, [], ◌∷◌, ◌++◌, codes, length, map, Option, Some, None}
+use Rattle.std.specs.Prelude.{ℕ, List, [], ◌∷◌, ◌++◌, codes, length, map, option_map, Option}
 use Rattle.mls_leaf.specs.declared.node.Node.{Node}
 use Rattle.mls_group.specs.declared.group_context.GroupContext.{GroupContext}
 use Rattle.mls_group.specs.declared.group_info.GroupInfo.{GroupInfo}
@@ -12,9 +12,7 @@ use Rattle.mls_show.specs.Public.{counted}
 abbrev pub member_entry : EncryptedGroupSecrets → Entry
 member_entry s = entry [] (codes "new_member") (bytes s.new_member)
 
-abbrev pub members_entries : List EncryptedGroupSecrets → List Entry
-members_entries secrets = map member_entry secrets
-
+-- the suite, and how many members are new
 abbrev pub front_entries : ℕ → ℕ → List Entry
 front_entries cipher_suite members =
     entry [] (codes "cipher_suite") (digits cipher_suite) ∷ entry [] (codes "new_members") (number members) ∷ []
@@ -23,7 +21,7 @@ front_entries cipher_suite members =
 unfoldable pub welcome_entries : Welcome → List Entry
 welcome_entries w =
     (front_entries w.cipher_suite (length w.secrets)
-    ++ members_entries w.secrets)
+    ++ map member_entry w.secrets)
     ++ entry [] (codes "group_info_bytes") (number (length w.encrypted_group_info)) ∷ []
 
 -- RFC 9420, section 8.1: a GroupContext
@@ -35,10 +33,9 @@ context_entries c =
     ∷ entry [] (codes "tree_hash") (bytes c.tree_hash)
     ∷ entry [] (codes "confirmed_transcript_hash") (bytes c.confirmed_transcript_hash) ∷ []
 
--- how many nodes a tree has
+-- RFC 9420, section 12.4.3.3: how many nodes the tree has, if it is there
 abbrev pub tree_nodes : Option (List (Option Node)) → Option ℕ
-tree_nodes None = None
-tree_nodes (Some nodes) = Some (length nodes)
+tree_nodes tree = option_map length tree
 
 -- a tree's count of nodes, and what the signer adds
 abbrev pub signer_entries : Option ℕ → List ℕ → ℕ → List ℕ → List Entry

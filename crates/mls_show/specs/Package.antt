@@ -1,5 +1,5 @@
--- The lines of leaves and KeyPackages. Each name stands behind a prefix, which tells where the leaf or the
--- KeyPackage stands: it is empty, or `add.` in a proposal.
+-- The lines of leaves and KeyPackages. Each name stands behind a prefix, which is `add.` in a proposal to add, and
+-- else empty.
 use Rattle.std.specs.Prelude.{ℕ, List, [], ◌∷◌, ◌++◌, codes}
 use Rattle.mls_leaf.specs.declared.leaf.Credential.{Credential}
 use Rattle.mls_leaf.specs.declared.leaf.Capabilities.{Capabilities}
@@ -9,7 +9,7 @@ use Rattle.mls_leaf.specs.declared.leaf.LeafNode.{LeafNode}
 use Rattle.mls_leaf.specs.declared.key_package.KeyPackage.{KeyPackage}
 use Rattle.mls_text.specs.Text.{Entry, entry, bytes, numbers, digits, number, word}
 
--- RFC 9420, section 5.3 and 7.2: the keys and the credential of a leaf
+-- RFC 9420, sections 5.3 and 7.2: the keys and the credential of a leaf
 abbrev pub identity_entries : List ℕ → List ℕ → List ℕ → Credential → List Entry
 identity_entries prefix encryption_key signature_key credential =
     entry prefix (codes "leaf.encryption_key") (bytes encryption_key)
@@ -44,6 +44,7 @@ leaf_entries prefix v =
     ++ source_entries prefix v.source)
     ++ entry prefix (codes "leaf.signature") (bytes v.signature) ∷ []
 
+-- RFC 9420, section 10: what stands in front of the leaf of a KeyPackage
 abbrev pub front_entries : List ℕ → ℕ → List ℕ → List Entry
 front_entries prefix cipher_suite init_key =
     entry prefix (codes "cipher_suite") (digits cipher_suite) ∷ entry prefix (codes "init_key") (bytes init_key) ∷ []

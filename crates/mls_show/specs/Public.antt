@@ -1,5 +1,5 @@
 -- The lines of public messages.
-use Rattle.std.specs.Prelude.{ℕ, List, [], ◌∷◌, ◌++◌, codes, length, Option, Some, None}
+use Rattle.std.specs.Prelude.{ℕ, List, [], ◌∷◌, ◌++◌, codes, length, option_map, Option, Some, None}
 use Rattle.mls_leaf.specs.declared.proposal.Proposal as proposals
 use Rattle.mls_leaf.specs.declared.proposal.Proposal.TheVariants as proposal
 use Rattle.mls_group.specs.declared.update_path.UpdatePath.{UpdatePath}
@@ -8,6 +8,7 @@ use Rattle.mls_types.specs.declared.content.Sender.{Sender}
 use Rattle.mls_types.specs.declared.content.Sender.TheVariants as sender
 use Rattle.mls_types.specs.declared.signed.SignedBody.{SignedBody}
 use Rattle.mls_types.specs.declared.signed.SignedBody.TheVariants as body
+use Rattle.mls_types.specs.declared.signed.SignedContent.{SignedContent}
 use Rattle.mls_types.specs.declared.public_message.PublicMessage.{PublicMessage}
 use Rattle.mls_text.specs.Text.{Entry, Shown, entry, bytes, number, word}
 use Rattle.mls_show.specs.Package.{key_package_entries, leaf_entries}
@@ -17,6 +18,7 @@ abbrev pub counted : Option ℕ → Shown
 counted None = word (codes "none")
 counted (Some n) = number n
 
+-- the leaf of a sender
 abbrev pub leaf_index : Sender → ℕ
 leaf_index (sender.Member index) = index
 
@@ -43,13 +45,9 @@ proposal_entries (proposal.Add v) = worded (codes "proposal") (codes "add") ++ k
 proposal_entries (proposal.Update v) = worded (codes "proposal") (codes "update") ++ leaf_entries [] v
 proposal_entries (proposal.Remove removed) = remove_entries removed
 
-abbrev pub nodes_of : Option UpdatePath → Option ℕ
-nodes_of None = None
-nodes_of (Some path) = Some (length path.nodes)
-
--- how many nodes the path of a commit has
+-- RFC 9420, section 7.6: how many nodes the path of a commit has, if it is there
 abbrev pub path_nodes : Commit → Option ℕ
-path_nodes c = nodes_of c.path
+path_nodes c = option_map (λ (path : UpdatePath). length path.nodes) c.path
 
 -- RFC 9420, section 12.4: a commit, with what authenticates it
 abbrev pub commit_entries : ℕ → Option ℕ → List ℕ → List ℕ → List Entry
@@ -73,15 +71,16 @@ proposed_entries v signature =
     (worded (codes "content") (codes "proposal") ++ proposal_entries v)
     ++ entry [] (codes "signature") (bytes signature) ∷ []
 
--- RFC 9420, sections 6 and 6.1: a content, with what authenticates it
+-- RFC 9420, sections 6 and 6.1: the kind and the body of a content, with what authenticates it
 abbrev pub body_entries : SignedBody → List ℕ → List Entry
 body_entries (body.Application text) signature = application_entries text signature
 body_entries (body.Proposal v) signature = proposed_entries v signature
 body_entries (body.Commit c confirmation_tag) signature = commit_entries (length c.proposals) (path_nodes c) signature confirmation_tag
 
+-- RFC 9420, sections 6 and 6.1: a signed content, from its group on
+abbrev pub content_entries : SignedContent → List Entry
+content_entries c = frame_entries c.group_id c.epoch c.sender c.authenticated_data ++ body_entries c.body c.signature
+
 -- RFC 9420, section 6.2: a public message
 unfoldable pub public_message_entries : PublicMessage → List Entry
-public_message_entries m =
-    (frame_entries m.content.group_id m.content.epoch m.content.sender m.content.authenticated_data
-    ++ body_entries m.content.body m.content.signature)
-    ++ entry [] (codes "membership_tag") (bytes m.membership_tag) ∷ []
+public_message_entries m = content_entries m.content ++ entry [] (codes "membership_tag") (bytes m.membership_tag) ∷ []

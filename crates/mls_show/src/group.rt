@@ -2,7 +2,7 @@
 
 ghost use Rattle.std.specs.Prelude.{◌≡◌, ◌++◌, map, length, option_map, IfOk};
 ghost use Rattle.mls_text.specs.Text.{entry_of};
-ghost use Rattle.mls_show.specs.Group.{context_entries, front_entries, group_info_entries, member_entry, members_entries, signer_entries, tree_nodes, welcome_entries};
+ghost use Rattle.mls_show.specs.Group.{context_entries, front_entries, group_info_entries, member_entry, signer_entries, tree_nodes, welcome_entries};
 
 use crate::public::count_field;
 use mls_leaf::Bytes;

@@ -1,6 +1,6 @@
 //! The lines of messages.
 
-ghost use Rattle.std.specs.Prelude.{◌≡◌, [], map, length, IfOk, Ok};
+ghost use Rattle.std.specs.Prelude.{◌≡◌, ◌++◌, [], map, length, IfOk, Ok};
 ghost use Rattle.mls_leaf.specs.Faults.{Gives};
 ghost use Rattle.mls_text.specs.Text.{entry_of};
 ghost use Rattle.mls_show.specs.Message.{head_entries, message_entries, text_of};
@@ -22,6 +22,18 @@ fn head_lines(alloc: Global, kind: &'static str, size: usize) -> Result<Vec<Line
     ]?)
 }
 
+/// The lines with those that begin each message in front of them.
+fn behind_head(
+    alloc: Global,
+    kind: &'static str,
+    size: usize,
+    lines: Vec<Line>,
+) -> Result<Vec<Line>, AllocError>
+    ensures { IfOk result (λ all. map entry_of all.items ≡ head_entries kind.entry.now size ++ map entry_of lines.items) }
+{
+    joined(head_lines(alloc, kind, size)?, lines)
+}
+
 /// The lines of a message that is spelled in so many bytes.
 #[tactic(auto, unfolding(crate::specs::Message::message_entries))]
 pub fn message_lines(
@@ -33,24 +45,20 @@ pub fn message_lines(
 {
     match message {
         MlsMessage::KeyPackage(key_package) => {
-            let lines = head_lines(alloc, "key_package", size)?;
-            let lines = joined(lines, key_package_lines(alloc, "", key_package)?)?;
-            Ok(lines)
+            let lines = key_package_lines(alloc, "", key_package)?;
+            behind_head(alloc, "key_package", size, lines)
         }
         MlsMessage::PublicMessage(message) => {
-            let lines = head_lines(alloc, "public_message", size)?;
-            let lines = joined(lines, public_message_lines(alloc, message)?)?;
-            Ok(lines)
+            let lines = public_message_lines(alloc, message)?;
+            behind_head(alloc, "public_message", size, lines)
         }
         MlsMessage::Welcome(welcome) => {
-            let lines = head_lines(alloc, "welcome", size)?;
-            let lines = joined(lines, welcome_lines(alloc, &welcome)?)?;
-            Ok(lines)
+            let lines = welcome_lines(alloc, &welcome)?;
+            behind_head(alloc, "welcome", size, lines)
         }
         MlsMessage::GroupInfo(info) => {
-            let lines = head_lines(alloc, "group_info", size)?;
-            let lines = joined(lines, group_info_lines(alloc, info)?)?;
-            Ok(lines)
+            let lines = group_info_lines(alloc, info)?;
+            behind_head(alloc, "group_info", size, lines)
         }
     }
 }

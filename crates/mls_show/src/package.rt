@@ -130,8 +130,7 @@ pub fn key_package_lines(
         leaf_node,
         signature,
     } = key_package;
-    let lines = front_lines(alloc, prefix, cipher_suite, init_key)?;
-    let lines = joined(lines, leaf_lines(alloc, prefix, leaf_node)?)?;
-    let lines = ended(lines, line_of(prefix, "signature", Field::Bytes(signature)))?;
-    Ok(lines)
+    let leaf = leaf_lines(alloc, prefix, leaf_node)?;
+    let lines = joined(front_lines(alloc, prefix, cipher_suite, init_key)?, leaf)?;
+    ended(lines, line_of(prefix, "signature", Field::Bytes(signature)))
 }

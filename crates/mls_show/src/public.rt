@@ -2,7 +2,7 @@
 
 ghost use Rattle.std.specs.Prelude.{◌≡◌, ◌++◌, map, length, option_map, IfOk};
 ghost use Rattle.mls_text.specs.Text.{entry_of, shown_by};
-ghost use Rattle.mls_show.specs.Public.{application_entries, body_entries, commit_entries, counted, frame_entries, leaf_index, path_nodes, proposal_entries, proposed_entries, public_message_entries, remove_entries, worded};
+ghost use Rattle.mls_show.specs.Public.{application_entries, body_entries, commit_entries, content_entries, counted, frame_entries, leaf_index, path_nodes, proposal_entries, proposed_entries, public_message_entries, remove_entries, worded};
 
 use crate::package::{key_package_lines, leaf_lines};
 use mls_leaf::{Bytes, Proposal};
@@ -52,6 +52,18 @@ fn worded(alloc: Global, name: &'static str, word: &'static str) -> Result<Vec<L
     Ok(vec![in alloc; line_of("", name, Field::Word(word))]?)
 }
 
+/// The lines behind a line of one word.
+fn behind_word(
+    alloc: Global,
+    name: &'static str,
+    word: &'static str,
+    lines: Vec<Line>,
+) -> Result<Vec<Line>, AllocError>
+    ensures { IfOk result (λ all. map entry_of all.items ≡ worded name.entry.now word.entry.now ++ map entry_of lines.items) }
+{
+    joined(worded(alloc, name, word)?, lines)
+}
+
 fn remove_lines(alloc: Global, removed: u32) -> Result<Vec<Line>, AllocError>
     ensures { IfOk result (λ lines. map entry_of lines.items ≡ remove_entries removed) }
 {
@@ -68,14 +80,12 @@ pub fn proposal_lines(alloc: Global, proposal: Proposal) -> Result<Vec<Line>, Al
 {
     match proposal {
         Proposal::Add(key_package) => {
-            let kind = worded(alloc, "proposal", "add")?;
-            let lines = joined(kind, key_package_lines(alloc, "add.", key_package)?)?;
-            Ok(lines)
+            let lines = key_package_lines(alloc, "add.", key_package)?;
+            behind_word(alloc, "proposal", "add", lines)
         }
         Proposal::Update(leaf_node) => {
-            let kind = worded(alloc, "proposal", "update")?;
-            let lines = joined(kind, leaf_lines(alloc, "", leaf_node)?)?;
-            Ok(lines)
+            let lines = leaf_lines(alloc, "", leaf_node)?;
+            behind_word(alloc, "proposal", "update", lines)
         }
         Proposal::Remove(removed) => remove_lines(alloc, removed),
     }
@@ -129,10 +139,9 @@ fn proposed_lines(
 ) -> Result<Vec<Line>, AllocError>
     ensures { IfOk result (λ lines. map entry_of lines.items ≡ proposed_entries proposal signature) }
 {
-    let kind = worded(alloc, "content", "proposal")?;
-    let lines = joined(kind, proposal_lines(alloc, proposal)?)?;
-    let lines = ended(lines, line_of("", "signature", Field::Bytes(signature)))?;
-    Ok(lines)
+    let lines = proposal_lines(alloc, proposal)?;
+    let lines = behind_word(alloc, "content", "proposal", lines)?;
+    ended(lines, line_of("", "signature", Field::Bytes(signature)))
 }
 
 fn body_lines(alloc: Global, body: SignedBody, signature: Bytes) -> Result<Vec<Line>, AllocError>
@@ -157,6 +166,22 @@ fn body_lines(alloc: Global, body: SignedBody, signature: Bytes) -> Result<Vec<L
     }
 }
 
+fn content_lines(alloc: Global, content: SignedContent) -> Result<Vec<Line>, AllocError>
+    ensures { IfOk result (λ lines. map entry_of lines.items ≡ content_entries content) }
+{
+    let SignedContent {
+        group_id,
+        epoch,
+        sender,
+        authenticated_data,
+        body,
+        signature,
+    } = content;
+    let body = body_lines(alloc, body, signature)?;
+    let frame = frame_lines(alloc, group_id, epoch, sender, authenticated_data)?;
+    joined(frame, body)
+}
+
 /// The lines of a public message, from its group's identifier on.
 #[tactic(auto, unfolding(crate::specs::Public::public_message_entries))]
 pub fn public_message_lines(alloc: Global, message: PublicMessage) -> Result<Vec<Line>, AllocError>
@@ -166,19 +191,9 @@ pub fn public_message_lines(alloc: Global, message: PublicMessage) -> Result<Vec
         content,
         membership_tag,
     } = message;
-    let SignedContent {
-        group_id,
-        epoch,
-        sender,
-        authenticated_data,
-        body,
-        signature,
-    } = content;
-    let lines = frame_lines(alloc, group_id, epoch, sender, authenticated_data)?;
-    let lines = joined(lines, body_lines(alloc, body, signature)?)?;
-    let lines = ended(
+    let lines = content_lines(alloc, content)?;
+    ended(
         lines,
         line_of("", "membership_tag", Field::Bytes(membership_tag)),
-    )?;
-    Ok(lines)
+    )
 }

@@ -1,28 +1,25 @@
 -- What a hex file holds: its text without the blanks at both ends, as bytes.
-use Rattle.std.specs.Prelude.{◌==◌, ◌||◌, ℕ, Bool, List, [], ◌∷◌, if◌then◌else◌, Option, Some, None, Result, Ok, Err}
+use Rattle.std.specs.Prelude.{◌==◌, ◌||◌, ℕ, Bool, List, [], ◌∷◌, if◌then◌else◌, reverse, Option, Some, None, Result, Ok, Err}
 use Rattle.hex.specs.Hex.{decode_of}
 
 -- a space, a tab, a carriage return or a line feed
 abbrev pub is_blank : ℕ → Bool
 is_blank b = b == 32 || (b == 9 || (b == 13 || b == 10))
 
+-- without the blanks in front
 unfoldable pub without_front : List ℕ → List ℕ
 without_front [] = []
 without_front (b ∷ bs) = if is_blank b then without_front bs else b ∷ bs
 
--- a byte before the rest, unless both are blank
-abbrev pub kept_before : ℕ → List ℕ → List ℕ
-kept_before b [] = if is_blank b then [] else b ∷ []
-kept_before b (c ∷ cs) = b ∷ c ∷ cs
-
-unfoldable pub without_back : List ℕ → List ℕ
-without_back [] = []
-without_back (b ∷ bs) = kept_before b (without_back bs)
+-- without the blanks at the end: read backwards, they stand in front
+abbrev pub without_back : List ℕ → List ℕ
+without_back text = reverse (without_front (reverse text))
 
 -- the text without the blanks at both ends
 abbrev pub trimmed : List ℕ → List ℕ
 trimmed text = without_back (without_front text)
 
+-- what was decoded, if it was
 abbrev pub decoded : {E : Type 0} → Result (List ℕ) E → Option (List ℕ)
 decoded (Ok bytes) = Some bytes
 decoded (Err e) = None

@@ -1,6 +1,6 @@
 -- A text of lines `name: value`.
-use Rattle.std.specs.Prelude.{◌==◌, length, drop, if◌then◌else◌, ◌/◌, ◌%◌, ℕ, List, [], ◌∷◌, ◌++◌, codes}
-use Rattle.std.specs.List.{flat_map}
+use Rattle.std.specs.Prelude.{◌==◌, length, if◌then◌else◌, ◌/◌, ◌%◌, ℕ, List, [], ◌∷◌, ◌++◌, codes}
+use Rattle.std.specs.List.{flat_map, join_by}
 use Rattle.std.specs.Fmt.{decimal}
 use Rattle.hex.specs.Hex.{encode_lower}
 use Rattle.mls_text.specs.declared.text.Field.{Field}
@@ -26,33 +26,26 @@ pub record Entry : Type 0 where
 abbrev pub entry : List ℕ → List ℕ → Shown → Entry
 entry prefix name shown = record { name = prefix ++ name; shown = shown }
 
--- `-` for nothing
-abbrev pub or_dash : List ℕ → List ℕ
-or_dash bs = if length bs == 0 then codes "-" else bs
+-- a list as its text, or `-` where it is empty
+abbrev pub or_dash : {X : Type 0} → (List X → List ℕ) → List X → List ℕ
+or_dash text xs = if length xs == 0 then codes "-" else text xs
 
 -- a uint16 as four hex digits
 abbrev pub four_digits : ℕ → List ℕ
 four_digits n = encode_lower (n / 256 ∷ n % 256 ∷ [])
 
--- a comma before each
-abbrev pub with_commas : List ℕ → List ℕ
-with_commas ns = flat_map (λ n. 44 ∷ four_digits n) ns
-
--- joined by commas
-abbrev pub joined_by_commas : List ℕ → List ℕ
-joined_by_commas ns = drop 1 (with_commas ns)
-
+-- byte strings in lower-case hex, lists of uint16 as four digits each with commas between them
 abbrev pub shown_text : Shown → List ℕ
-shown_text (bytes bs) = or_dash (encode_lower bs)
-shown_text (numbers ns) = or_dash (joined_by_commas ns)
+shown_text (bytes bs) = or_dash encode_lower bs
+shown_text (numbers ns) = or_dash (join_by four_digits (codes ",")) ns
 shown_text (digits n) = four_digits n
 shown_text (number n) = decimal n
 shown_text (word w) = w
-shown_text (refusal n name) = decimal n ++ 32 ∷ name
+shown_text (refusal n name) = decimal n ++ codes " " ++ name
 
 -- a name, a colon and a space, what stands behind, and a line feed
 abbrev pub line_text : Entry → List ℕ
-line_text e = ((e.name ++ codes ": ") ++ shown_text e.shown) ++ 10 ∷ []
+line_text e = ((e.name ++ codes ": ") ++ shown_text e.shown) ++ codes "\n"
 
 abbrev pub lines_text : List Entry → List ℕ
 lines_text entries = flat_map line_text entries

@@ -35,7 +35,7 @@ fn after_blanks(text: &[u8]) -> &[u8]
     rest
 }
 
-#[tactic(auto, unfolding(crate::specs::File::without_back))]
+#[tactic(auto, unfolding(crate::specs::File::without_front))]
 fn before_blanks(text: &[u8]) -> &[u8]
     ensures { result.now ≡ without_back text.now }
 {

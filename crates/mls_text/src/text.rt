@@ -1,9 +1,10 @@
 //! Lines `name: value`, as data and as bytes.
 
-ghost use Rattle.std.specs.Prelude.{◌≡◌, ◌++◌, ◌∷◌, [], map, IfOk, OnOk, drop};
+ghost use Rattle.std.specs.Prelude.{◌≡◌, ◌++◌, ◌∷◌, [], codes, map, IfOk, OnOk};
 ghost use Rattle.std.specs.Fmt.{decimal};
+ghost use Rattle.std.specs.List.{flat_map, join_by};
 ghost use Rattle.hex.specs.Hex.{encode_lower};
-ghost use Rattle.mls_text.specs.Text.{entry, entry_of, four_digits, or_dash, line_text, joined_by_commas, shown_by, shown_text, with_commas};
+ghost use Rattle.mls_text.specs.Text.{entry, entry_of, four_digits, or_dash, line_text, shown_by, shown_text};
 
 use mls_leaf::{Bytes, Items};
 use std::alloc::{AllocError, Global};
@@ -92,19 +93,12 @@ fn push_field(alloc: Global, text: &mut Vec<u8>, field: &Field) -> Result<(), Al
 }
 
 fn push_hex(alloc: Global, text: &mut Vec<u8>, bytes: &[u8]) -> Result<(), AllocError>
-    ensures { OnOk result (text.new.items ≡ text.old.items ++ or_dash (encode_lower bytes.now)) }
+    ensures { OnOk result (text.new.items ≡ text.old.items ++ or_dash encode_lower bytes.now) }
 {
-    let digits = hex::encode(alloc, bytes)?;
-    push_or_dash(text, digits.as_bytes())
-}
-
-fn push_or_dash(text: &mut Vec<u8>, value: &[u8]) -> Result<(), AllocError>
-    ensures { OnOk result (text.new.items ≡ text.old.items ++ or_dash value.now) }
-{
-    if value.is_empty() {
+    if bytes.is_empty() {
         return text.extend_from_slice(b"-");
     }
-    text.extend_from_slice(value)
+    text.extend_from_slice(hex::encode(alloc, bytes)?.as_bytes())
 }
 
 fn push_number(alloc: Global, text: &mut Vec<u8>, number: u64) -> Result<(), AllocError>
@@ -114,7 +108,7 @@ fn push_number(alloc: Global, text: &mut Vec<u8>, number: u64) -> Result<(), All
 }
 
 fn push_refusal(alloc: Global, text: &mut Vec<u8>, number: u8, name: &str) -> Result<(), AllocError>
-    ensures { OnOk result (text.new.items ≡ text.old.items ++ (decimal number ++ 32 ∷ name.now)) }
+    ensures { OnOk result (text.new.items ≡ text.old.items ++ (decimal number ++ codes " " ++ name.now)) }
 {
     push_number(alloc, text, u64::from(number))?;
     text.push(b' ')?;
@@ -130,24 +124,20 @@ fn push_digits(alloc: Global, text: &mut Vec<u8>, number: u16) -> Result<(), All
 }
 
 fn push_numbers(alloc: Global, text: &mut Vec<u8>, numbers: &[u16]) -> Result<(), AllocError>
-    ensures { OnOk result (text.new.items ≡ text.old.items ++ or_dash (joined_by_commas numbers.now)) }
+    ensures { OnOk result (text.new.items ≡ text.old.items ++ or_dash (join_by four_digits (codes ",")) numbers.now) }
 {
-    let mut list = Vec::new(alloc);
-    push_more(alloc, &mut list, numbers)?;
-    push_or_dash(text, behind_first(list.as_slice()))
-}
-
-fn behind_first(bytes: &[u8]) -> &[u8]
-    ensures { result.now ≡ drop 1 bytes.now }
-{
-    match bytes {
-        [] => bytes,
-        [_, rest @ ..] => rest,
+    match numbers {
+        [] => text.extend_from_slice(b"-"),
+        [first, more @ ..] => {
+            push_digits(alloc, text, *first)?;
+            push_more(alloc, text, more)
+        }
     }
 }
 
+/// Each number behind a comma.
 fn push_more(alloc: Global, text: &mut Vec<u8>, numbers: &[u16]) -> Result<(), AllocError>
-    ensures { OnOk result (text.new.items ≡ text.old.items ++ with_commas numbers.now) }
+    ensures { OnOk result (text.new.items ≡ text.old.items ++ flat_map (λ n. codes "," ++ four_digits n) numbers.now) }
 {
     for number in numbers {
         text.push(b',')?;

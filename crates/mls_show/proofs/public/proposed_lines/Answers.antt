@@ -1,5 +1,4 @@
-use Rattle.std.proofs.Common.{refl}
 use Rattle.mls_show.proofs.public.proposed_lines.Goals as goal
 
 pub returns : goal.returns
-returns c = rw (c.in_ok-lines-2.ensures, c.in_ok-lines.ensures, c.in_ok-kind.ensures, c.in_ok-proposal_lines.ensures, c.line_of.ensures) refl
+returns c = rw (c.in_ok-lines-2.ensures, c.in_ok-lines.ensures, c.line_of.ensures) at c.ended.ensures
