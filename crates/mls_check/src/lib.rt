@@ -25,7 +25,7 @@ use mls_text::{Fault, FileError, file_bytes, print_lines, read_whole, refuse};
 use mls_wire::WireError;
 use report::name_of;
 pub use report::{Report, check_text};
-use std::alloc::Global;
+use std::alloc::{AllocError, Global};
 use std::io::{Read, Write};
 pub use tree::{tree_in, tree_lines};
 pub use unchecked::Unchecked;
@@ -138,18 +138,21 @@ pub fn check<S: Suite, R: Read, W: Write>(
     check_file::<S, W>(alloc, text.as_slice(), group, out)
 }
 
-/// `check` over memory.
+/// `check` over memory, whose only fault is want of memory.
 pub fn check_in_memory<S: Suite>(
     alloc: Global,
     text: &[u8],
     group: &str,
     out: &mut Vec<u8>,
-) -> Result<u8, Fault>
+) -> Result<u8, AllocError>
     ensures page { IfOk result (λ status. (out.new.items ≡ out.old.items ++ lines_text (check_page S.crypto text.now group.now).entries) × (status ≡ (check_page S.crypto text.now group.now).status)) }
     ensures part { OnErr result ((done rest : List ℕ) × (lines_text (check_page S.crypto text.now group.now).entries ≡ done ++ rest) × (out.new.items ≡ out.old.items ++ done)) }
 {
-    let mut reader = text;
-    check::<S, &[u8], Vec<u8>>(alloc, &mut reader, group, out)
+    match check_file::<S, Vec<u8>>(alloc, text, group, out) {
+        Ok(status) => Ok(status),
+        // Nothing is read, and a `Vec` refuses a write only for want of memory.
+        Err(_) => Err(AllocError),
+    }
 }
 
 #[cfg(test)]

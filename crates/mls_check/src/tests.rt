@@ -20,10 +20,8 @@ const ODD: &str =
 /// The status and the text for a file and a group's id in hex, under a suite.
 fn printed<S: Suite>(alloc: Global, file: &str, group: &str) -> Result<(u8, Vec<u8>), AllocError> {
     let mut out = Vec::new(alloc);
-    match check_in_memory::<S>(alloc, file.as_bytes(), group, &mut out) {
-        Ok(status) => Ok((status, out)),
-        Err(_) => Err(AllocError),
-    }
+    let status = check_in_memory::<S>(alloc, file.as_bytes(), group, &mut out)?;
+    Ok((status, out))
 }
 
 /// Whether each file brings its status and its text under a suite. A row is file, group, status and text.

@@ -13,7 +13,7 @@ ghost use Rattle.mls_show.specs.Show.{page_in, page_of};
 use mls_leaf::LeafError;
 use mls_text::{Fault, FileError, file_bytes, print_lines, read_whole, refuse};
 use mls_wire::WireError;
-use std::alloc::Global;
+use std::alloc::{AllocError, Global};
 use std::io::{Read, Write};
 
 mod group;
@@ -75,11 +75,14 @@ pub fn show<R: Read, W: Write>(alloc: Global, file: &mut R, out: &mut W) -> Resu
     show_file(alloc, text.as_slice(), out)
 }
 
-/// `show` over memory.
-pub fn show_in_memory(alloc: Global, text: &[u8], out: &mut Vec<u8>) -> Result<u8, Fault>
+/// `show` over memory, whose only fault is want of memory.
+pub fn show_in_memory(alloc: Global, text: &[u8], out: &mut Vec<u8>) -> Result<u8, AllocError>
     ensures page { IfOk result (λ status. (out.new.items ≡ out.old.items ++ lines_text (page_of text.now).entries) × (status ≡ (page_of text.now).status)) }
     ensures part { OnErr result ((done rest : List ℕ) × (lines_text (page_of text.now).entries ≡ done ++ rest) × (out.new.items ≡ out.old.items ++ done)) }
 {
-    let mut reader = text;
-    show(alloc, &mut reader, out)
+    match show_file(alloc, text, out) {
+        Ok(status) => Ok(status),
+        // Nothing is read, and a `Vec` refuses a write only for want of memory.
+        Err(_) => Err(AllocError),
+    }
 }
