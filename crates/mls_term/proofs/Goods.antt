@@ -1,8 +1,7 @@
 -- Good trees stay good.
-use Rattle.std.proofs.Common.{◌≡◌, ℕ, suc, ◌<◌, ◌≤◌, Bool, true, false, List, [], ◌∷◌, Option, Some, None, Result, Ok, Err, refl, arith, leb-true, le-leb}
+use Rattle.std.proofs.Common.{◌≡◌, ℕ, suc, ◌<◌, ◌≤◌, true, List, [], ◌∷◌, Option, Some, None, refl, arith, leb-true, le-leb}
 use Rattle.std.specs.List.{list_all}
 use Rattle.std.proofs.lemmas.Bool.{and_parts}
-use Rattle.mls_wire.specs.Checks.{Passed, passed, require, ◌>>◌}
 use Rattle.mls_leaf.specs.declared.leaf.LeafNode.{LeafNode}
 use Rattle.mls_term.specs.Term.{Term, Leaf, width, height, is_perfect, has_leaf, is_full_width, leaf_at}
 use Rattle.mls_term.specs.Sets.{same_bytes, is_distinct}
@@ -11,7 +10,7 @@ use Rattle.mls_term.specs.Lists.{all_parents, lists_here, rises_here}
 use Rattle.mls_term.specs.Hashes.{is_parent_hash_valid}
 use Rattle.mls_term.specs.Merge.{merge, IsPath}
 use Rattle.mls_term.specs.Keys.{gather, leaf_key, parent_key, leaf_signature, encryption_keys, signature_keys, all_members}
-use Rattle.mls_term.specs.Good.{Rules, IsGood, AreNew, has_good_shape, is_within, has_good_lists, has_good_hashes, has_distinct_keys, has_distinct_clients, is_all_signed, is_all_capable, is_all_fit, tree_checks}
+use Rattle.mls_term.specs.Good.{Rules, IsGood, AreNew, has_good_shape, is_within, has_good_lists, has_good_hashes, has_distinct_keys, has_distinct_clients, is_all_signed, is_all_capable, is_all_fit}
 use Rattle.mls_term.specs.ShapeLaws.{width-put, perfect-put, perfect-enter, perfect-grow, perfect-trim, full-trim}
 use Rattle.mls_term.specs.ParentLaws.{parents-put, parents-grow, parents-trim}
 use Rattle.mls_term.specs.NamedLaws.{fresh, lists-enter, rises-enter}
