@@ -1,8 +1,5 @@
 -- The encryption keys of a merged tree, by the root and its sides.
-use Rattle.std.proofs.Common.{◌≡◌, ℕ, ◌+◌, ◌/◌, ◌<◌, ◌≤◌, Bool, List, [], ◌∷◌, ◌++◌, length, get_or, take, Option, Some, None, sym, ◌∙◌, ap, arith, append_assoc, append-nil}
-use Rattle.std.proofs.lemmas.List.{take_more}
-use Rattle.std.proofs.lemmas.Grind.{flat_map-append}
-use Rattle.std.specs.List.{flat_map}
+use Rattle.std.proofs.Common.{◌≡◌, ℕ, ◌+◌, ◌/◌, ◌<◌, ◌≤◌, Bool, List, [], ◌∷◌, ◌++◌, get_or, Option, Some, None, sym, ◌∙◌, ap, arith, append_assoc}
 use Rattle.mls_leaf.specs.declared.leaf.LeafNode.{LeafNode}
 use Rattle.mls_leaf.specs.declared.node.Node.{Node}
 use Rattle.mls_term.specs.Term.{Term, Branch}
@@ -11,18 +8,8 @@ use Rattle.mls_term.specs.Merge.{merge, new_parent, keys_below, parent_beside, k
 use Rattle.mls_term.specs.Keys.{encryption_keys, leaf_key, parent_key}
 use Rattle.mls_term.specs.Arrays.{leaf_in, parent_in, term_of}
 use Rattle.mls_term.specs.Equations.{gather_leaf, gather_branch, merge_leaf, merge_left, merge_right}
-use Rattle.mls_array.specs.Gathered.{cell_key}
 use Rattle.mls_term.specs.ArrayLaws.{term_of-zero}
 use Rattle.mls_array.proofs.Readings.{left_side, right_side, InParts}
-
--- one more cell
-pub one_more_cell : (xs : List (Option Node)) (k : ℕ) (x : Option Node) (start : List (List ℕ)) → k < length xs → x ≡ get_or xs k x → (start ++ flat_map cell_key (take k xs)) ++ cell_key x ≡ start ++ flat_map cell_key (take (k + 1) xs)
-one_more_cell xs k x start lt is =
-    append_assoc start (flat_map cell_key (take k xs)) (cell_key x)
-    ∙ ap (λ ks. start ++ (flat_map cell_key (take k xs) ++ ks)) (sym (append-nil (cell_key x)))
-    ∙ ap (λ ks. start ++ ks) (sym (flat_map-append cell_key (take k xs) (x ∷ [])))
-    ∙ ap (λ y. start ++ flat_map cell_key (take k xs ++ (y ∷ []))) is
-    ∙ ap (λ ys. start ++ flat_map cell_key ys) (sym (take_more xs k x lt))
 
 pub keys_no_more : (b h i : ℕ) (xs : List (Option Node)) (ks : List (List ℕ)) (g : List ℕ) (x : LeafNode) → h ≡ 0 → encryption_keys (merge b (term_of h xs) i ks g x) ≡ x.encryption_key ∷ []
 keys_no_more b h i xs ks g x low =

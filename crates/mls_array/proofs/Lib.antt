@@ -17,7 +17,6 @@ pub mod Gathered
 pub mod Listed
 pub mod Original
 pub mod Others
-pub mod Same
 pub mod Candidates
 pub mod Hashings
 pub mod Ties

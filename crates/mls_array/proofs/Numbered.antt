@@ -1,16 +1,13 @@
 -- What stands at the number of a leaf or a node, by its place in the list.
-use Rattle.std.proofs.Common.{◌≡◌, ℕ, zero, suc, ◌+◌, ◌-◌, ◌*◌, ◌^◌, ◌<◌, List, [], ◌∷◌, length, get_or, take, drop, Option, None, sym, ◌∙◌, ap, inl, inr, arith, length-drop, pow-suc}
-use Rattle.std.proofs.lemmas.List.{get_or_at, get_or-take, get_or-drop, get_or_past, get_or_append_left, get_or-append_right, length-take-le}
-use Rattle.std.proofs.lemmas.Bool.{cases_lt, cases_order}
-use Rattle.mls_leaf.specs.declared.leaf.LeafNode.{LeafNode}
+use Rattle.std.proofs.Common.{◌≡◌, ℕ, zero, suc, ◌+◌, ◌-◌, ◌*◌, ◌^◌, ◌<◌, List, length, get_or, take, drop, Option, None, sym, ◌∙◌, ap, inl, inr, arith, length-drop, pow-suc}
+use Rattle.std.proofs.lemmas.List.{get_or-take, get_or-drop, get_or_past, length-take-le}
+use Rattle.std.proofs.lemmas.Bool.{cases_lt}
 use Rattle.mls_leaf.specs.declared.node.Node.{Node}
 use Rattle.mls_treemath.specs.Paths.{nodes_in}
 use Rattle.mls_treemath.specs.Sizes.{nodes_in-suc}
-use Rattle.mls_term.specs.Term.{Term, Leaf, Branch, width, size, leaf_at, leaf_of}
-use Rattle.mls_term.specs.Places.{at_node}
-use Rattle.mls_term.specs.Arrays.{leaf_in, leaf_cell, parent_in, parent_cell, term_of, in_order, own_node, node_at}
-use Rattle.mls_term.specs.Equations.{leaf_at_leaf, leaf_at_left, leaf_at_right, leaf_of_in, leaf_of_out, at_node_leaf, at_node_no_leaf, at_node_here, at_node_left, at_node_right}
-use Rattle.mls_term.specs.ShapeLaws.{size-width}
+use Rattle.mls_term.specs.Term.{width, leaf_at, leaf_of}
+use Rattle.mls_term.specs.Arrays.{leaf_in, parent_in, term_of, node_at}
+use Rattle.mls_term.specs.Equations.{leaf_at_leaf, leaf_at_left, leaf_at_right, leaf_of_in, leaf_of_out}
 use Rattle.mls_term.specs.ArrayLaws.{node-in_order}
 use Rattle.mls_array.specs.Standing.{Stands}
 use Rattle.mls_term.specs.ArrayLaws.{nodes_in-leaves, term_of-zero, term_of-suc}

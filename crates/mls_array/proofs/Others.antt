@@ -4,25 +4,16 @@ use Rattle.std.specs.Prelude.{nat_le, nat_eq}
 use Rattle.std.specs.List.{list_all, list_any, find}
 use Rattle.std.specs.List.Sorted.{IsPermutation}
 use Rattle.std.proofs.lemmas.List.Sorted.{list_any-IsPermutation}
-use Rattle.std.proofs.lemmas.Bool.{true≢false, cases_Bool, and_parts, and_from, or_cases, or_left, or_right, le-leb, lt-leb}
+use Rattle.std.proofs.lemmas.Bool.{true≢false, cases_Bool, and_parts, and_from, or_cases, or_left, or_right, le-leb, lt-leb, and_right, not-true, false_from_ne_true}
 use Rattle.mls_leaf.specs.Parent.{Parent}
 use Rattle.mls_term.specs.Sets.{has, within, leaf_numbers, is_same_set}
 use Rattle.mls_term.specs.Term.{Term, width}
 use Rattle.mls_term.specs.Resolution.{resolution}
 use Rattle.mls_term.specs.Hashes.{hash_at, is_some_bytes, is_witness, has_witness, parent_hash}
-use Rattle.mls_term.specs.SetLaws.{same_bool, eqb_refl, any_at, any_from, has-filter, has-leaf_numbers, of_leaf_numbers, set_at}
+use Rattle.mls_term.specs.SetLaws.{same_bool, eqb_refl, any_at, any_from, has-filter, has-leaf_numbers, of_leaf_numbers, set_at, has-any}
 use Rattle.mls_array.specs.Witnesses.{numbers_in, others, first_off, kept, only_off, candidate}
 
 -- ---- lists as sets
-
-not_true : (a : Bool) → (a ≡ true → ⊥) → a ≡ false
-not_true true f = absurd (f refl)
-not_true false f = refl
-
-has-any : (xs : List ℕ) (x : ℕ) → list_any (λ y. nat_eq y x) xs ≡ has xs x
-unfolding has
-has-any [] x = refl
-has-any (y ∷ ys) x = ap (λ v. nat_eq y x || v) (has-any ys x)
 
 -- what a list has doesn't depend on its order
 has_moved : (xs ys : List ℕ) (x : ℕ) → IsPermutation xs ys → has ys x ≡ has xs x
@@ -34,17 +25,13 @@ others_moved d xs ys x moved =
 
 -- ---- the leaves in a range
 
-and_not : (a b : Bool) → b ≡ false → (a && b) ≡ false
-and_not true b e = e
-and_not false b e = refl
-
 and_yes : (a b : Bool) → b ≡ true → (a && b) ≡ a
 and_yes true b e = e
 and_yes false b e = refl
 
 pub odd_off : (b e d : ℕ) (us : List ℕ) → d % 2 ≡ 1 → has (numbers_in b e us) d ≡ false
 odd_off b e d us odd =
-    not_true _ (λ h. let g = of_leaf_numbers (within b (e - b) us) d h in let twice : d ≡ 2 * g.0 = g.1 in absurd (omega arith))
+    false_from_ne_true _ (λ h. let g = of_leaf_numbers (within b (e - b) us) d h in let twice : d ≡ 2 * g.0 = g.1 in absurd (omega arith))
 
 in_range : (b e d u : ℕ) (us : List ℕ) → d ≡ 2 * u → has (numbers_in b e us) d ≡ (has us u && (nat_le b u && nat_lt u (b + (e - b))))
 in_range b e d u us is =
@@ -53,12 +40,12 @@ in_range b e d u us is =
 pub low_off : (b e d : ℕ) (us : List ℕ) → d % 2 < 1 → d / 2 < b → has (numbers_in b e us) d ≡ false
 low_off b e d us even low =
     in_range b e d (d / 2) us (omega arith)
-    ∙ and_not (has us (d / 2)) _ (ap (λ v. v && nat_lt (d / 2) (b + (e - b))) (lt-leb b (d / 2) low))
+    ∙ and_right (has us (d / 2)) _ (ap (λ v. v && nat_lt (d / 2) (b + (e - b))) (lt-leb b (d / 2) low))
 
 pub high_off : (b e d : ℕ) (us : List ℕ) → d % 2 < 1 → b ≤ e → e ≤ d / 2 → has (numbers_in b e us) d ≡ false
 high_off b e d us even order high =
     in_range b e d (d / 2) us (omega arith)
-    ∙ and_not (has us (d / 2)) _ (and_not (nat_le b (d / 2)) _ (le-ltb (d / 2) (b + (e - b)) (omega arith)))
+    ∙ and_right (has us (d / 2)) _ (and_right (nat_le b (d / 2)) _ (le-ltb (d / 2) (b + (e - b)) (omega arith)))
 
 pub between : (b e d : ℕ) (us : List ℕ) → d % 2 < 1 → b ≤ d / 2 → d / 2 < e → has (numbers_in b e us) d ≡ has us (d / 2)
 between b e d us even low high =
@@ -67,13 +54,6 @@ between b e d us even low high =
 
 -- ---- the tests of a leaf and a node
 
-pub out_low : (b e u d : ℕ) (xs : List ℕ) → u < b → (not (nat_le b u && nat_lt u (b + (e - b))) || has (others d xs) (2 * u)) ≡ true
-out_low b e u d xs low = rw (lt-leb b u low) refl
-
-pub out_high : (b e u d : ℕ) (xs : List ℕ) → b ≤ e → e ≤ u → (not (nat_le b u && nat_lt u (b + (e - b))) || has (others d xs) (2 * u)) ≡ true
-out_high b e u d xs order high =
-    ap (λ v. not v || has (others d xs) (2 * u)) (and_not (nat_le b u) _ (le-ltb u (b + (e - b)) (omega arith)))
-
 inside : (b e u d : ℕ) (xs : List ℕ) → b ≤ u → u < e → (not (nat_le b u && nat_lt u (b + (e - b))) || has (others d xs) (2 * u)) ≡ (has xs (2 * u) && not (2 * u == d))
 inside b e u d xs low high =
     ap (λ v. not v || has (others d xs) (2 * u)) (and_from _ _ (le-leb b u low) (lt-ltb u (b + (e - b)) (omega arith)))
@@ -81,7 +61,7 @@ inside b e u d xs low high =
 
 pub inside_same : (b e u d : ℕ) (xs : List ℕ) → b ≤ u → u < e → 2 * u ≡ d → (not (nat_le b u && nat_lt u (b + (e - b))) || has (others d xs) (2 * u)) ≡ false
 inside_same b e u d xs low high is =
-    inside b e u d xs low high ∙ and_not (has xs (2 * u)) _ (ap not (eq-eqb (2 * u) d is))
+    inside b e u d xs low high ∙ and_right (has xs (2 * u)) _ (ap not (eq-eqb (2 * u) d is))
 
 pub inside_other : (b e u d : ℕ) (xs : List ℕ) → b ≤ u → u < e → (2 * u ≡ d → ⊥) → (not (nat_le b u && nat_lt u (b + (e - b))) || has (others d xs) (2 * u)) ≡ has xs (2 * u)
 inside_other b e u d xs low high other =
@@ -106,7 +86,7 @@ all_numbers p b n (u ∷ us) =
     ]
 
 pub not_others : (b e d : ℕ) (us xs : List ℕ) → list_all (λ x. (x == d) || has (numbers_in b e us) x) xs ≡ false → is_same_set (numbers_in b e us) (others d xs) ≡ false
-not_others b e d us xs none = and_not _ _ (all_others (has (numbers_in b e us)) d xs ∙ none)
+not_others b e d us xs none = and_right _ _ (all_others (has (numbers_in b e us)) d xs ∙ none)
 
 pub are_others : (b e d : ℕ) (us xs : List ℕ) → list_all (λ x. (x == d) || has (numbers_in b e us) x) xs ≡ true → is_same_set (numbers_in b e us) (others d xs) ≡ list_all (λ u. not (nat_le b u && nat_lt u (b + (e - b))) || has (others d xs) (2 * u)) us
 are_others b e d us xs all =
@@ -169,7 +149,7 @@ given f (Some d) = f d
 -- where a list is the other nodes, it doesn't have this one, and has all the others
 off : (ls xs : List ℕ) (d : ℕ) → is_same_set ls (others d xs) ≡ true → has ls d ≡ false
 off ls xs d same =
-    set_at ls (others d xs) same d ∙ has-filter (λ x. not (x == d)) xs d ∙ and_not (has xs d) _ (ap not (eqb_refl d))
+    set_at ls (others d xs) same d ∙ has-filter (λ x. not (x == d)) xs d ∙ and_right (has xs d) _ (ap not (eqb_refl d))
 
 one : (ls xs : List ℕ) (d x : ℕ) → is_same_set ls (others x xs) ≡ true → has xs d ≡ true → has ls d ≡ false → d ≡ x
 one ls xs d x same there out =
@@ -180,27 +160,23 @@ one ls xs d x same there out =
           set_at ls (others x xs) same d ∙ has-filter (λ y. not (y == x)) xs d ∙ and_from _ _ there (ap not k)) ∙ out))
     ]
 
-not_not : (a : Bool) → not a ≡ true → a ≡ false
-not_not true e = absurd (true≢false (sym e))
-not_not false e = refl
-
 tied_at : (ls xs : List ℕ) (f : ℕ → Bool) (o : Option ℕ) → first_off ls xs ≡ o → list_any (λ d. f d && is_same_set ls (others d xs)) xs ≡ given f (kept (λ d. is_same_set ls (others d xs)) o)
 tied_at ls xs f None e =
-    not_true _ (λ h.
+    false_from_ne_true _ (λ h.
     let g = any_at (λ d. f d && is_same_set ls (others d xs)) xs h in
     let p = and_parts (f g.0) _ g.2 in
     let out : has ls g.0 ≡ false = off ls xs g.0 p.1 in
     absurd (true≢false (sym (ap not out) ∙ find_none (λ x. not (has ls x)) xs g.0 e g.1)))
 tied_at ls xs f (Some d) e =
     let s = find_some (λ x. not (has ls x)) xs d e in
-    let out : has ls d ≡ false = not_not (has ls d) s.1 in
+    let out : has ls d ≡ false = not-true (has ls d) s.1 in
     elim (cases_Bool (is_same_set ls (others d xs))) [
       | inl t ↦
           rw t (same_bool _ _
           (λ h. let g = any_at (λ d. f d && is_same_set ls (others d xs)) xs h in let p = and_parts (f g.0) _ g.2 in ap f (one ls xs d g.0 p.1 s.0 out) ∙ p.0)
           (λ h. any_from (λ d. f d && is_same_set ls (others d xs)) xs d s.0 (and_from (f d) _ h t)))
       | inr t ↦
-          rw t (not_true _ (λ h.
+          rw t (false_from_ne_true _ (λ h.
           let g = any_at (λ d. f d && is_same_set ls (others d xs)) xs h in
           let p = and_parts (f g.0) _ g.2 in
           absurd (true≢false (sym (ap (λ x. is_same_set ls (others x xs)) (one ls xs d g.0 p.1 s.0 out) ∙ p.1) ∙ t))))

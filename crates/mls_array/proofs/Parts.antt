@@ -1,7 +1,6 @@
 -- A list of nodes as the list of its left side, its root and the list of its right side.
-use Rattle.std.proofs.Common.{◌≡◌, ℕ, zero, suc, ◌+◌, ◌-◌, ◌/◌, ◌<◌, List, [], ◌∷◌, ◌++◌, length, get_or, take, drop, set, Option, None, sym, ◌∙◌, ap, subst, arith, pow-suc}
-use Rattle.std.proofs.lemmas.List.{length-take-le, length-drop, append_assoc, take-append-drop, drop_more, drop-set, take-set, take_rest, take_more_set, drop_all, append-nil, drop-set-lt}
-use borrow.Rule.Slice.PartMut.{put_mid}
+use Rattle.std.proofs.Common.{◌≡◌, ℕ, zero, suc, ◌+◌, ◌-◌, ◌/◌, ◌<◌, List, ◌∷◌, ◌++◌, length, get_or, take, drop, set, Option, None, sym, ◌∙◌, ap, subst, arith, pow-suc}
+use Rattle.std.proofs.lemmas.List.{length-take-le, length-drop, take-append-drop, drop_more, take-set, take_rest, drop-set-lt}
 use Rattle.mls_leaf.specs.declared.node.Node.{Node}
 use Rattle.mls_treemath.specs.Paths.{nodes_in}
 use Rattle.mls_treemath.specs.Sizes.{nodes_in-suc}
@@ -50,22 +49,6 @@ module _ (h n m : ℕ) (xs : List (Option Node)) (at : HasMiddle h n m) (len : l
       let whole : xs ≡ take m xs ++ get_or xs m None ∷ drop (m + 1) xs =
       sym (take-append-drop m xs) ∙ ap (λ ys. take m xs ++ ys) (drop_more xs m None root_in) in
       ap (term_of h) whole ∙ in_parts (take m xs) (drop (m + 1) xs) (get_or xs m None) left_len
-
-  -- after the root is set to c and the left side to sub
-  pub left_set : (sub : List (Option Node)) (c : Option Node) → length sub ≡ m → term_of h (sub ++ drop m (set xs m c)) ≡ Branch (parent_in c) (term_of (h - 1) sub) (term_of (h - 1) (drop (m + 1) xs))
-  left_set sub c e = ap (λ ys. term_of h (sub ++ ys)) (drop-set xs m c root_in) ∙ in_parts sub (drop (m + 1) xs) c e
-
-  -- after the root is set to c and the right side to sub
-  pub right_set : (sub : List (Option Node)) (c : Option Node) → length sub ≡ m → term_of h (put_mid (m + 1) (length (set xs m c) - (m + 1)) (set xs m c) sub) ≡ Branch (parent_in c) (term_of (h - 1) (take m xs)) (term_of (h - 1) sub)
-  right_set sub c e =
-      let front : take (m + 1) (set xs m c) ≡ take m xs ++ c ∷ [] = take_more_set xs m c root_in in
-      let none : drop (length (set xs m c) - (m + 1)) (drop (m + 1) (set xs m c)) ≡ [] =
-      drop_all (length (set xs m c) - (m + 1)) (drop (m + 1) (set xs m c)) (simp length-drop (omega arith)) in
-      ap (λ ys. term_of h (ys ++ (sub ++ drop (length (set xs m c) - (m + 1)) (drop (m + 1) (set xs m c))))) front
-      ∙ ap (λ ys. term_of h ((take m xs ++ c ∷ []) ++ (sub ++ ys))) none
-      ∙ ap (λ ys. term_of h ((take m xs ++ c ∷ []) ++ ys)) (append-nil sub)
-      ∙ ap (term_of h) (append_assoc (take m xs) (c ∷ []) sub)
-      ∙ in_parts (take m xs) sub c left_len
 
   pub left_of_set : (c : Option Node) → take m (set xs m c) ≡ take m xs
   left_of_set c = take-set xs m c

@@ -1,14 +1,12 @@
 -- Lists of nodes as they are sent: the last node, what is cut at the end, and the least height.
-use Rattle.std.proofs.Common.{◌≡◌, ℕ, zero, suc, ◌+◌, ◌-◌, ◌*◌, ◌^◌, ◌<◌, ◌≤◌, nat_le, Bool, true, false, not, ◌&&◌, List, [], ◌∷◌, ◌++◌, length, get_or, slice_get, take, drop, Option, Some, None, is_some, unwrap_or, refl, sym, ◌∙◌, ap, inl, inr, arith, pow-suc, le-leb, leb-true}
+use Rattle.std.proofs.Common.{◌≡◌, ℕ, zero, suc, ◌+◌, ◌-◌, ◌*◌, ◌^◌, ◌<◌, ◌≤◌, Bool, true, false, not, ◌&&◌, List, [], ◌∷◌, ◌++◌, length, get_or, slice_get, take, drop, Option, Some, None, is_some, unwrap_or, refl, sym, ◌∙◌, ap, arith, pow-suc}
 use Rattle.std.proofs.lemmas.List.{take_more, get_or_read, at_drop_more, at_drop_all}
 use Rattle.std.proofs.lemmas.Option.{unwrap_or-slice_get}
-use Rattle.std.proofs.lemmas.Bool.{true≢false, cond-true, cond-false, cases_lt, cases_Bool}
+use Rattle.std.proofs.lemmas.Bool.{true≢false}
 use Rattle.std.proofs.Math.Pow.{pow_mono}
 use Rattle.mls_leaf.specs.declared.node.Node.{Node}
 use Rattle.mls_treemath.specs.Paths.{nodes_in}
-use Rattle.mls_treemath.specs.Sizes.{nodes_in_up}
-use Rattle.mls_term.specs.Arrays.{before, cut, has_last, may_stand, alternates, height_from, height_for}
-use Rattle.mls_array.specs.OrderLaws.{high_enough}
+use Rattle.mls_term.specs.Arrays.{before, cut, has_last, may_stand, alternates, height_for}
 use Rattle.mls_term.specs.ArrayLaws.{nodes_in-leaves, least_height}
 
 -- ---- the last node

@@ -12,6 +12,7 @@ use Rattle.std.specs.declared.cmp.Ordering.TheVariants.{Less, Equal, Greater}
 use Rattle.std.specs.Cmp.{both_ways}
 use Rattle.std.specs.Bool.{MatchBool, ⊤}
 use Rattle.std.specs.Cmp.Lexicographic.{pointwise, slice_cmp, nat_list_cmp_total, texts_ties, same_text}
+use Rattle.std.proofs.Math.Bool.{and-false}
 use Rattle.mls_term.specs.Sets.{same_bytes, count, is_distinct}
 use Rattle.mls_term.specs.MergeLaws.{bytes_refl}
 use Rattle.mls_term.specs.CountLaws.{bytes_true, distinct_at, distinct_from}
@@ -135,11 +136,7 @@ same_found (x ∷ (y ∷ ys)) zero lt same =
     ∙ ap (λ v. v && is_distinct same_bytes (bytes_in (y ∷ ys))) (found x.now y.now (bytes_in ys) (ap (λ z. same_bytes y.now z) alike ∙ bytes_refl y.now))
 same_found (x ∷ (y ∷ ys)) (suc k) lt same =
     distinct_cons x.now (bytes_in (y ∷ ys))
-    ∙ ap (λ v. (count same_bytes x.now (bytes_in (y ∷ ys)) == 0) && v) (same_found (y ∷ ys) k (omega arith) same) ∙ and_false (count same_bytes x.now (bytes_in (y ∷ ys)) == 0)
-  where
-    and_false : (v : Bool) → (v && false) ≡ false
-    and_false true = refl
-    and_false false = refl
+    ∙ ap (λ v. (count same_bytes x.now (bytes_in (y ∷ ys)) == 0) && v) (same_found (y ∷ ys) k (omega arith) same) ∙ and-false (count same_bytes x.now (bytes_in (y ∷ ys)) == 0)
 
 -- what the test of neighbours answers, after a sort
 pub answer_of : (xs ys : List (Bor (List ℕ))) (r : Bool) → IsPermutation xs ys → IsSorted (λ x y. slice_cmp nat_cmp x.now y.now) ys → MatchBool r (Differ ys) (Repeats ys) → r ≡ is_distinct same_bytes (bytes_in xs)

@@ -46,9 +46,6 @@ module _ (h m : ℕ) (xs : List (Option Node)) (n : Option Node) (parts : InPart
 -- ---- the hashes of the sides
 
 module _ (b h m : ℕ) (xs : List (Option Node)) (hs : List (List ℕ)) (at : HasMiddle h (length xs) m) (pos : 0 < h) (shape : length xs ≡ nodes_in h) (hashed : hs ≡ hashes_of b (term_of h xs)) where
-  pub all_long : length hs ≡ m + m + 1
-  all_long = ap length hashed ∙ length-hashes_of b (term_of h xs) ∙ size-term_of h xs ∙ sym shape ∙ at.whole
-
   left_long : length (hashes_of b (left_side h m xs)) ≡ m
   left_long = length-hashes_of b (left_side h m xs) ∙ (in_sides h m xs at pos).left_size
 

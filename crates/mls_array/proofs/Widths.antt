@@ -1,14 +1,13 @@
 -- Members of the two sides, and trees that shrink and grow.
-use Rattle.std.proofs.Common.{◌≡◌, ℕ, zero, suc, ◌+◌, ◌-◌, ◌<◌, true, false, ◌||◌, List, ◌∷◌, ◌++◌, length, get_or, take, drop, replicate, Option, None, is_some, refl, sym, ◌∙◌, ap, subst, arith}
-use Rattle.std.proofs.lemmas.List.{get_or_default, take_rest, replicate-append-replicate}
-use Rattle.mls_leaf.specs.declared.leaf.LeafNode.{LeafNode}
+use Rattle.std.proofs.Common.{◌≡◌, ℕ, zero, suc, ◌+◌, ◌-◌, ◌<◌, true, false, ◌||◌, List, ◌∷◌, ◌++◌, length, get_or, take, drop, replicate, Option, None, refl, sym, ◌∙◌, ap, subst, arith}
+use Rattle.std.proofs.lemmas.List.{take_rest, replicate-append-replicate}
 use Rattle.mls_leaf.specs.declared.node.Node.{Node}
 use Rattle.mls_treemath.specs.Paths.{nodes_in}
-use Rattle.mls_treemath.specs.Sizes.{nodes_in-zero, nodes_in-suc, nodes_in_pos}
+use Rattle.mls_treemath.specs.Sizes.{nodes_in-zero, nodes_in-suc}
 use Rattle.mls_term.specs.Term.{height, blanks, has_leaf}
 use Rattle.mls_term.specs.Edits.{grow, trim}
 use Rattle.mls_term.specs.Arrays.{leaf_in, parent_in, term_of, in_order, HasMiddle}
-use Rattle.mls_term.specs.Equations.{has_leaf_leaf, has_leaf_branch, trim_leaf, trim_full, trim_empty, grow_is}
+use Rattle.mls_term.specs.Equations.{has_leaf_branch, trim_leaf, trim_full, trim_empty, grow_is}
 use Rattle.mls_array.specs.Standing.{Stands}
 use Rattle.mls_array.specs.StandingLaws.{in_order-leaf, in_order-branch, height-term_of}
 use Rattle.mls_term.specs.ArrayLaws.{term_of-zero}
@@ -16,15 +15,6 @@ use Rattle.mls_array.proofs.Parts.{split}
 use Rattle.mls_array.proofs.Standings.{left_stands}
 
 -- ---- members
-
--- a leaf, by the cell that was read
-pub member_one : (h : ℕ) (xs : List (Option Node)) (n : Option Node) (v : Option LeafNode) → h ≡ 0 → length xs ≡ nodes_in h → n ≡ get_or xs 0 n → v ≡ leaf_in n → has_leaf (term_of h xs) ≡ is_some v
-member_one h xs n v low size is read =
-    ap (λ j. has_leaf (term_of j xs)) low
-    ∙ ap has_leaf (term_of-zero xs)
-    ∙ has_leaf_leaf (leaf_in (get_or xs 0 None))
-    ∙ ap (λ c. is_some (leaf_in c)) (get_or_default xs 0 None n (omega (arith, nodes_in_pos h)) ∙ sym is)
-    ∙ ap is_some (sym read)
 
 module _ (h m : ℕ) (xs : List (Option Node)) (at : HasMiddle h (length xs) m) (pos : 0 < h) where
   -- the right side, as the code has it

@@ -1,8 +1,7 @@
 -- Laws: what is gathered from a tree is gathered from its nodes in order.
-use Rattle.std.proofs.Common.{◌≡◌, ℕ, ◌+◌, ◌<◌, List, [], ◌∷◌, ◌++◌, length, get_or, take, Option, Some, None, refl, sym, ◌∙◌, ap, append-nil}
+use Rattle.std.proofs.Common.{◌≡◌, ℕ, List, [], ◌∷◌, ◌++◌, Option, Some, None, refl, sym, ◌∙◌, ap, append-nil}
 use Rattle.std.specs.List.{flat_map}
 use Rattle.std.proofs.lemmas.Grind.{flat_map-append}
-use Rattle.std.proofs.lemmas.List.{take_more}
 use Rattle.mls_leaf.specs.Parent.{Parent}
 use Rattle.mls_leaf.specs.declared.leaf.LeafNode.{LeafNode}
 use Rattle.mls_leaf.specs.declared.node.Node.{Node}
@@ -37,10 +36,3 @@ keys_standing h xs stands =
 pub signatures_standing : (h : ℕ) (xs : List (Option Node)) → Stands h xs → flat_map cell_signature xs ≡ gather leaf_signature (λ c. []) (term_of h xs)
 signatures_standing h xs stands =
     ap (flat_map cell_signature) (sym stands.order) ∙ gather-in_order leaf_signature (λ c. []) refl refl (term_of h xs)
-
--- one cell more
-pub gathered_more : (f : Option Node → List (List ℕ)) (xs : List (Option Node)) (i : ℕ) (d : Option Node) (more : List (List ℕ)) → i < length xs → more ≡ f (get_or xs i d) → flat_map f (take (i + 1) xs) ≡ flat_map f (take i xs) ++ more
-gathered_more f xs i d more lt is =
-    ap (flat_map f) (take_more xs i d lt)
-    ∙ flat_map-append f (take i xs) (get_or xs i d ∷ [])
-    ∙ ap (λ ys. flat_map f (take i xs) ++ ys) (append-nil (f (get_or xs i d)) ∙ sym is)

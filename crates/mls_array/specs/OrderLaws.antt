@@ -2,6 +2,7 @@
 use Rattle.std.proofs.Common.{◌≡◌, ℕ, zero, suc, ◌+◌, ◌-◌, ◌<◌, ◌≤◌, nat_le, Bool, true, false, not, ◌&&◌, List, [], ◌∷◌, ◌++◌, length, get_or, take, drop, replicate, Option, Some, None, refl, sym, ◌∙◌, ap, subst, arith, length-append, length-drop, leb-true}
 use Rattle.std.proofs.lemmas.List.{length-take-le, length-replicate, take-append-drop, drop_more}
 use Rattle.std.proofs.lemmas.Bool.{true≢false, and_parts, cond_both}
+use Rattle.std.proofs.Math.Bool.{and_assoc, not-not}
 use Rattle.mls_leaf.specs.declared.node.Node.{Node}
 use Rattle.mls_leaf.specs.declared.node.Node.TheVariants.{Leaf as in_leaf, Parent as in_parent}
 use Rattle.mls_treemath.specs.Paths.{nodes_in}
@@ -19,11 +20,7 @@ on_by (suc n) even = on_by n (not even)
 alternates-append : (even : Bool) (xs ys : List (Option Node)) → alternates even (xs ++ ys) ≡ (alternates even xs && alternates (on_by (length xs) even) ys)
 unfolding alternates on_by
 alternates-append even [] ys = refl
-alternates-append even (c ∷ xs) ys = ap (λ v. may_stand even c && v) (alternates-append (not even) xs ys) ∙ regroup (may_stand even c) (alternates (not even) xs) (alternates (on_by (length xs) (not even)) ys)
-  where
-    regroup : (a b d : Bool) → (a && (b && d)) ≡ ((a && b) && d)
-    regroup true b d = refl
-    regroup false b d = refl
+alternates-append even (c ∷ xs) ys = ap (λ v. may_stand even c && v) (alternates-append (not even) xs ys) ∙ sym (and_assoc (may_stand even c) (alternates (not even) xs) (alternates (on_by (length xs) (not even)) ys))
 
 on_by-add : (n m : ℕ) (even : Bool) → on_by (n + m) even ≡ on_by m (on_by n even)
 unfolding on_by
@@ -39,11 +36,7 @@ on_by-nodes_in (suc h) even =
     ∙ on_by-add (nodes_in h) (suc (nodes_in h)) even
     ∙ ap (λ v. on_by (nodes_in h) (not v)) (on_by-nodes_in h even)
     ∙ on_by-nodes_in h (not (not even))
-    ∙ thrice even
-  where
-    thrice : (v : Bool) → not (not (not v)) ≡ not v
-    thrice true = refl
-    thrice false = refl
+    ∙ not-not (not even)
 
 leaf_cell-in : (c : Option Node) → may_stand true c ≡ true → leaf_cell (leaf_in c) ≡ c
 leaf_cell-in None e = refl

@@ -1,6 +1,7 @@
 -- An add keeps every parent hash valid.
 use Rattle.std.proofs.Common.{◌≡◌, ℕ, ◌+◌, ◌*◌, ◌<◌, ◌≤◌, ◌==◌, nat_lt, nat_le, Bool, true, false, not, ◌&&◌, ◌||◌, List, filter, Option, Some, None, refl, sym, ◌∙◌, ap, ap₂, arith, inl, inr, eqb-true, ne_eqb, le-leb, lt-ltb, leb-true, ltb-true}
 use Rattle.std.proofs.lemmas.Bool.{true≢false, and_parts, and_from, or_cases, or_left, or_right, or_parts, cases_lt, false_from_ne_true}
+use Rattle.std.proofs.Math.Bool.{or-false}
 use Rattle.mls_leaf.specs.Parent.{Parent, inserted}
 use Rattle.mls_leaf.specs.declared.leaf.LeafNode.{LeafNode}
 use Rattle.mls_term.specs.Equations.{enter_left, enter_right, leaf_at_left, leaf_at_right}
@@ -17,15 +18,11 @@ use Rattle.mls_term.specs.NamedLaws.{fresh}
 use Rattle.mls_term.specs.ResolutionLaws.{resolution-enter, unnamed, hash_at-enter}
 use Rattle.mls_term.specs.OriginalLaws.{parent_hash-out, parent_hash-in}
 
-or_false : (y : Bool) → (y || false) ≡ y
-or_false true = refl
-or_false false = refl
-
 -- one more that passes, and one more that doesn't
 mix : (a e v : Bool) → (e ≡ true → v ≡ true) → ((a || e) && v) ≡ ((a && v) || e)
 mix true true true h = refl
 mix true true false h = h refl
-mix true false v h = sym (or_false v)
+mix true false v h = sym (or-false v)
 mix false true v h = h refl
 mix false false v h = refl
 

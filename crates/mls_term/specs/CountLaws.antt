@@ -8,7 +8,7 @@ use Rattle.mls_term.specs.Term.{Term, Leaf, Branch, width, size, height, blanks,
 use Rattle.mls_term.specs.Sets.{has, leaf_numbers, same_bytes, count, is_distinct}
 use Rattle.mls_term.specs.Resolution.{resolution}
 use Rattle.mls_term.specs.Edits.{put, enter, listing, grow, trim}
-use Rattle.mls_term.specs.Lists.{all_parents, lists_here, rises_here}
+use Rattle.mls_term.specs.Lists.{all_parents, rises_here}
 use Rattle.mls_term.specs.Resolution.{is_reached}
 use Rattle.mls_term.specs.Merge.{new_parent, keys_below, hash_below, merge}
 use Rattle.mls_term.specs.Keys.{gather, parent_key}
@@ -17,6 +17,7 @@ use Rattle.mls_term.specs.ShapeLaws.{size-width}
 use Rattle.mls_term.specs.ParentLaws.{parents_parts}
 use Rattle.mls_term.specs.ResolutionLaws.{resolution_range}
 use Rattle.mls_term.specs.MergeLaws.{bytes_refl}
+use Rattle.mls_term.specs.NamedLaws.{IsBound}
 
 pub bytes_true : (xs ys : List ℕ) → same_bytes xs ys ≡ true → xs ≡ ys
 unfolding same_bytes
@@ -84,11 +85,11 @@ count_once low (u ∷ us) d h =
       | inr k ↦ rw k (let rest = count_once (u + 1) us d p.1 in omega arith)
     ]
 
-resolution_once : (b : ℕ) (t : Term) (d : ℕ) → all_parents lists_here b t ≡ true → all_parents rises_here b t ≡ true → count nat_eq d (resolution b t) ≤ 1
+resolution_once : (test : ℕ → Parent → Term → Term → Bool) → IsBound test → (b : ℕ) (t : Term) (d : ℕ) → all_parents test b t ≡ true → all_parents rises_here b t ≡ true → count nat_eq d (resolution b t) ≤ 1
 unfolding resolution count rises_here
-resolution_once b (Leaf None) d h g = omega arith
-resolution_once b (Leaf (Some v)) d h g = cond_both (2 * b == d) 1 0 (λ n. n + 0 ≤ 1) (λ _. omega arith) (λ _. omega arith)
-resolution_once b (Branch (Some p) l r) d h g =
+resolution_once test bound b (Leaf None) d h g = omega arith
+resolution_once test bound b (Leaf (Some v)) d h g = cond_both (2 * b == d) 1 0 (λ n. n + 0 ≤ 1) (λ _. omega arith) (λ _. omega arith)
+resolution_once test bound b (Branch (Some p) l r) d h g =
     let s = size-width l in
     elim (cases_Bool (2 * b + size l == d)) [
       | inl k ↦ rw k (
@@ -97,24 +98,24 @@ resolution_once b (Branch (Some p) l r) d h g =
           omega arith)
       | inr k ↦ rw k (let rest = count_once 0 p.unmerged_leaves d (parents_parts rises_here b (Some p) l r g).0 in omega arith)
     ]
-resolution_once b (Branch None l r) d h g =
+resolution_once test bound b (Branch None l r) d h g =
     let s = size-width l in
-    let p = parents_parts lists_here b None l r h in
+    let p = parents_parts test b None l r h in
     let q = parents_parts rises_here b None l r g in
     let sum = count-append nat_eq d (resolution b l) (resolution (b + width l) r) in
-    let left = resolution_once b l d p.1 q.1 in
-    let right = resolution_once (b + width l) r d p.2 q.2 in
+    let left = resolution_once test bound b l d p.1 q.1 in
+    let right = resolution_once test bound (b + width l) r d p.2 q.2 in
     elim (cases_lt d (2 * (b + width l))) [
       | inl k ↦
-          let none = count_none (resolution (b + width l) r) d (false_from_ne_true _ (λ e. let f = (resolution_range (b + width l) r d p.2 e).0 in absurd (omega arith))) in
+          let none = count_none (resolution (b + width l) r) d (false_from_ne_true _ (λ e. let f = (resolution_range test bound (b + width l) r d p.2 e).0 in absurd (omega arith))) in
           omega arith
       | inr k ↦
-          let none = count_none (resolution b l) d (false_from_ne_true _ (λ e. let f = (resolution_range b l d p.1 e).1 in absurd (omega arith))) in
+          let none = count_none (resolution b l) d (false_from_ne_true _ (λ e. let f = (resolution_range test bound b l d p.1 e).1 in absurd (omega arith))) in
           omega arith
     ]
 
-pub resolution_distinct : (b : ℕ) (t : Term) → all_parents lists_here b t ≡ true → all_parents rises_here b t ≡ true → is_distinct nat_eq (resolution b t) ≡ true
-resolution_distinct b t h g = distinct_from nat_eq eqb_refl (resolution b t) (λ d. resolution_once b t d h g)
+pub resolution_distinct : (test : ℕ → Parent → Term → Term → Bool) → IsBound test → (b : ℕ) (t : Term) → all_parents test b t ≡ true → all_parents rises_here b t ≡ true → is_distinct nat_eq (resolution b t) ≡ true
+resolution_distinct test bound b t h g = distinct_from nat_eq eqb_refl (resolution b t) (λ d. resolution_once test bound b t d h g)
 
 -- how often a tree has a key, after each edit
 module _ (f : Option LeafNode → List (List ℕ)) (g : Option Parent → List (List ℕ)) (leaf : f None ≡ []) (blank : g None ≡ []) (y : List ℕ) where

@@ -8,7 +8,7 @@ use Rattle.mls_term.specs.Equations.{leaf_at_left, leaf_at_right, way_left, way_
 use Rattle.mls_term.specs.Term.{Term, Leaf, Branch, width, size, leaf_at}
 use Rattle.mls_term.specs.Sets.{has, leaf_numbers, count}
 use Rattle.mls_term.specs.Resolution.{resolution}
-use Rattle.mls_term.specs.Lists.{all_parents, may_list, lists_here, rises_here}
+use Rattle.mls_term.specs.Lists.{all_parents, may_list, rises_here}
 use Rattle.mls_term.specs.Resolution.{is_reached}
 use Rattle.mls_term.specs.Held.{holds, held}
 use Rattle.mls_term.specs.Way.{Step, step_at, way, is_filtered, is_beside}
@@ -18,6 +18,7 @@ use Rattle.mls_term.specs.ParentLaws.{parents_parts}
 use Rattle.mls_term.specs.ResolutionLaws.{resolution_range, reached}
 use Rattle.mls_term.specs.CountLaws.{count_none, count_once}
 use Rattle.mls_term.specs.MemberLaws.{leaf_taken}
+use Rattle.mls_term.specs.NamedLaws.{IsBound}
 
 tally-append : (p : ℕ → Bool) (xs ys : List ℕ) → length (filter p (xs ++ ys)) ≡ length (filter p xs) + length (filter p ys)
 tally-append p xs ys = ap length (filter-append p xs ys) ∙ length-append (filter p xs) (filter p ys)
@@ -61,7 +62,7 @@ tally_count x (y ∷ ys) =
     elim (cases_Bool (y == x)) [ inl t ↦ rw t (omega arith) | inr t ↦ rw t (omega arith) ]
 
 -- a number that a list has is there at least once
-pub count_some : (xs : List ℕ) (x : ℕ) → has xs x ≡ true → 0 < count nat_eq x xs
+count_some : (xs : List ℕ) (x : ℕ) → has xs x ≡ true → 0 < count nat_eq x xs
 unfolding has count
 count_some [] x h = absurd (true≢false (sym h))
 count_some (y ∷ ys) x h =
@@ -118,11 +119,11 @@ holds_leaf b (Branch c l r) j u low high =
     ]
 
 -- each taken leaf has the key of one node of a resolution
-pub one_held : (b : ℕ) (t : Term) (j : ℕ) → all_parents lists_here b t ≡ true → all_parents rises_here b t ≡ true → b ≤ j → j < b + width t → IsSome (leaf_at b t j) → length (held b t j) ≡ 1
+pub one_held : (test : ℕ → Parent → Term → Term → Bool) → IsBound test → (b : ℕ) (t : Term) (j : ℕ) → all_parents test b t ≡ true → all_parents rises_here b t ≡ true → b ≤ j → j < b + width t → IsSome (leaf_at b t j) → length (held b t j) ≡ 1
 unfolding resolution width leaf_at rises_here
-one_held b (Leaf None) j h g low high some = absurd (true≢false (sym some))
-one_held b (Leaf (Some v)) j h g low high some = alone b v j
-one_held b (Branch (Some p) l r) j h g low high some =
+one_held test bound b (Leaf None) j h g low high some = absurd (true≢false (sym some))
+one_held test bound b (Leaf (Some v)) j h g low high some = alone b v j
+one_held test bound b (Branch (Some p) l r) j h g low high some =
     let q = holds b (Branch (Some p) l r) j in
     let own = holds_own b (Some p) l r j (2 * b + size l) refl in
     let once = count_once 0 p.unmerged_leaves (2 * j) (parents_parts rises_here b (Some p) l r g).0 in
@@ -145,42 +146,42 @@ one_held b (Branch (Some p) l r) j h g low high some =
   where
     wide : (c : Option Parent) → j < b + (width l + width r) → j < b + width (Branch c l r)
     wide c k = k
-one_held b (Branch None l r) j h g low high some =
+one_held test bound b (Branch None l r) j h g low high some =
     let s = size-width l in
-    let p = parents_parts lists_here b None l r h in
+    let p = parents_parts test b None l r h in
     let w = parents_parts rises_here b None l r g in
     let q = holds b (Branch None l r) j in
     let sum = tally-append q (resolution b l) (resolution (b + width l) r) in
     elim (cases_lt j (b + width l)) [
       | inl lt ↦
-          let here = one_held b l j p.1 w.1 low lt (sym (ap is_some (leaf_at_left b None l r j lt)) ∙ some) in
+          let here = one_held test bound b l j p.1 w.1 low lt (sym (ap is_some (leaf_at_left b None l r j lt)) ∙ some) in
           let left : length (filter q (resolution b l)) ≡ length (filter (holds b l j) (resolution b l)) = tally_agree q (holds b l j) (resolution b l) (λ d e.
-          let f = (resolution_range b l d p.1 e).1 in holds_left b None l r j d (λ k. absurd (omega arith)) lt) in
+          let f = (resolution_range test bound b l d p.1 e).1 in holds_left b None l r j d (λ k. absurd (omega arith)) lt) in
           let right : length (filter q (resolution (b + width l) r)) ≡ 0 = tally_none q (resolution (b + width l) r) (λ d e.
-          let f = (resolution_range (b + width l) r d p.2 e).0 in
+          let f = (resolution_range test bound (b + width l) r d p.2 e).0 in
           holds_left b None l r j d (λ k. absurd (omega arith)) lt
           ∙ false_from_ne_true _ (λ k. let z = (holds_range b l j d k).1 in absurd (omega arith))) in
           omega arith
       | inr ge ↦
-          let here = one_held (b + width l) r j p.2 w.2 ge (omega arith) (sym (ap is_some (leaf_at_right b None l r j ge)) ∙ some) in
+          let here = one_held test bound (b + width l) r j p.2 w.2 ge (omega arith) (sym (ap is_some (leaf_at_right b None l r j ge)) ∙ some) in
           let right : length (filter q (resolution (b + width l) r)) ≡ length (filter (holds (b + width l) r j) (resolution (b + width l) r)) = tally_agree q (holds (b + width l) r j) (resolution (b + width l) r) (λ d e.
-          let f = (resolution_range (b + width l) r d p.2 e).0 in holds_right b None l r j d (λ k. absurd (omega arith)) ge) in
+          let f = (resolution_range test bound (b + width l) r d p.2 e).0 in holds_right b None l r j d (λ k. absurd (omega arith)) ge) in
           let left : length (filter q (resolution b l)) ≡ 0 = tally_none q (resolution b l) (λ d e.
-          let f = (resolution_range b l d p.1 e).1 in
+          let f = (resolution_range test bound b l d p.1 e).1 in
           holds_right b None l r j d (λ k. absurd (omega arith)) ge
           ∙ false_from_ne_true _ (λ k. let z = (holds_range (b + width l) r j d k).0 in absurd (omega arith))) in
           omega arith
     ]
 
 -- and still does where some other leaves are taken out
-pub one_held_of_rest : (b : ℕ) (t : Term) (j : ℕ) (us : List ℕ) → all_parents lists_here b t ≡ true → all_parents rises_here b t ≡ true → b ≤ j → j < b + width t → IsSome (leaf_at b t j) → has us j ≡ false → length (filter (holds b t j) (filter (λ d. not (has (leaf_numbers us) d)) (resolution b t))) ≡ 1
-one_held_of_rest b t j us h g low high some out =
+pub one_held_of_rest : (test : ℕ → Parent → Term → Term → Bool) → IsBound test → (b : ℕ) (t : Term) (j : ℕ) (us : List ℕ) → all_parents test b t ≡ true → all_parents rises_here b t ≡ true → b ≤ j → j < b + width t → IsSome (leaf_at b t j) → has us j ≡ false → length (filter (holds b t j) (filter (λ d. not (has (leaf_numbers us) d)) (resolution b t))) ≡ 1
+one_held_of_rest test bound b t j us h g low high some out =
     tally_kept (holds b t j) (λ d. not (has (leaf_numbers us) d)) (resolution b t) (λ d _ e.
     ap not (false_from_ne_true (has (leaf_numbers us) d) (λ k.
     let f = of_leaf_numbers us d k in
     let is : f.0 ≡ j = eqb-true f.0 j (sym (holds_leaf b t j f.0 low high) ∙ sym (ap (holds b t j) f.1) ∙ e) in
     true≢false (sym f.2 ∙ ap (has us) is ∙ out))))
-    ∙ one_held b t j h g low high some
+    ∙ one_held test bound b t j h g low high some
 
 pub leaf_reached : (b : ℕ) (t : Term) (j : ℕ) → IsSome (leaf_at b t j) → is_reached b t ≡ true
 leaf_reached b t j some = reached b t (leaf_taken b t j some)

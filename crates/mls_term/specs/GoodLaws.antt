@@ -9,20 +9,17 @@ pub good_passes : (rules : Rules) (t : Term) → IsGood rules t → tree_checks 
 unfolding tree_checks
 good_passes rules t g = rw (g.lists, g.hashes, g.keys, g.clients, g.signed, g.capable, g.fit) refl
 
+refused : {A : Type 0} {x : A} (n : ℕ) → Err n ≡ Ok x → ⊥
+refused n z = cc
+
 -- and of a tree of good shape and size that passes them nothing else is asked
 require_parts : (n : ℕ) (test : Bool) (rest : Result Passed ℕ) → (require n test >> rest) ≡ Ok passed → (test ≡ true) × (rest ≡ Ok passed)
 require_parts n true rest e = (refl, e)
 require_parts n false rest e = absurd (refused n e)
-  where
-    refused : {A : Type 0} {x : A} (n : ℕ) → Err n ≡ Ok x → ⊥
-    refused n z = cc
 
 required : (n : ℕ) (test : Bool) → require n test ≡ Ok passed → test ≡ true
 required n true e = refl
 required n false e = absurd (refused n e)
-  where
-    refused : {A : Type 0} {x : A} (n : ℕ) → Err n ≡ Ok x → ⊥
-    refused n z = cc
 
 pub good_from_checks : (rules : Rules) (t : Term) → is_perfect (height t) t ≡ true → all_parents rises_here 0 t ≡ true → has_good_shape t ≡ true → is_within rules.limit t ≡ true → tree_checks rules t ≡ Ok passed → IsGood rules t
 unfolding tree_checks

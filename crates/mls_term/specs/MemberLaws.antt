@@ -5,7 +5,7 @@ use Rattle.std.proofs.lemmas.Bool.{true≢false, and_parts, and_from, or_left, o
 use Rattle.std.proofs.lemmas.List.Folds.{list_all-append}
 use Rattle.mls_leaf.specs.Parent.{Parent}
 use Rattle.mls_leaf.specs.declared.leaf.LeafNode.{LeafNode}
-use Rattle.mls_term.specs.Equations.{enter_left, enter_right, leaf_at_left, leaf_at_right, merge_left, merge_right, put_left, put_right}
+use Rattle.mls_term.specs.Equations.{enter_left, enter_right, leaf_at_left, leaf_at_right, merge_left, merge_right, put_left, put_right, all_members_leaf}
 use Rattle.mls_term.specs.Term.{Term, Leaf, Branch, width, height, blanks, has_leaf, leaf_at}
 use Rattle.mls_term.specs.Sets.{has, less}
 use Rattle.mls_term.specs.Edits.{put, enter, grow, trim, listing, first_blank, place_for, room_for, place_in, add, remove}
@@ -19,11 +19,6 @@ use Rattle.mls_term.specs.CountLaws.{key-listing}
 use Rattle.mls_term.specs.PlaceLaws.{first_blank_at, leaf_at-enter, leaf_at-put, leaf_at-grow, leaf_at-grown, leaf_at-trim, width-grow}
 
 module _ (p : ℕ → LeafNode → Bool) where
-  members_at_leaf : (b : ℕ) (v : Option LeafNode) → all_members p b (Leaf v) ≡ passes p b v
-  unfolding all_members
-  members_at_leaf b None = refl
-  members_at_leaf b (Some v) = refl
-
   members_from : (b m : ℕ) (c : Option Parent) (l r : Term) → m ≡ b + width l → all_members p b l ≡ true → all_members p m r ≡ true → all_members p b (Branch c l r) ≡ true
   unfolding all_members
   members_from b m c l r e h g = and_from _ _ h (ap (λ n. all_members p n r) (sym e) ∙ g)
@@ -34,7 +29,7 @@ module _ (p : ℕ → LeafNode → Bool) where
 
   put_of_leaf : (b : ℕ) (v : Option LeafNode) (i : ℕ) (x : Option LeafNode) → b ≡ i → passes p i x ≡ true → all_members p b (put b (Leaf v) i x) ≡ true
   unfolding put
-  put_of_leaf b v i x e h = members_at_leaf b x ∙ ap (λ n. passes p n x) e ∙ h
+  put_of_leaf b v i x e h = all_members_leaf p b x ∙ ap (λ n. passes p n x) e ∙ h
 
   pub members-put : (b : ℕ) (t : Term) (i : ℕ) (x : Option LeafNode) → b ≤ i → i < b + width t → passes p i x ≡ true → all_members p b t ≡ true → all_members p b (put b t i x) ≡ true
   unfolding width
@@ -48,7 +43,7 @@ module _ (p : ℕ → LeafNode → Bool) where
 
   enter_of_leaf : (b : ℕ) (v : Option LeafNode) (i : ℕ) (x : LeafNode) → b ≡ i → p i x ≡ true → all_members p b (enter b (Leaf v) i x) ≡ true
   unfolding enter
-  enter_of_leaf b v i x e h = members_at_leaf b (Some x) ∙ ap (λ n. p n x) e ∙ h
+  enter_of_leaf b v i x e h = all_members_leaf p b (Some x) ∙ ap (λ n. p n x) e ∙ h
 
   pub members-enter : (b : ℕ) (t : Term) (i : ℕ) (x : LeafNode) → b ≤ i → i < b + width t → p i x ≡ true → all_members p b t ≡ true → all_members p b (enter b t i x) ≡ true
   unfolding width
@@ -62,7 +57,7 @@ module _ (p : ℕ → LeafNode → Bool) where
 
   merge_of_leaf : (b : ℕ) (v : Option LeafNode) (i : ℕ) (ks : List (List ℕ)) (h : List ℕ) (x : LeafNode) → b ≡ i → p i x ≡ true → all_members p b (merge b (Leaf v) i ks h x) ≡ true
   unfolding merge
-  merge_of_leaf b v i ks h x e g = members_at_leaf b (Some x) ∙ ap (λ n. p n x) e ∙ g
+  merge_of_leaf b v i ks h x e g = all_members_leaf p b (Some x) ∙ ap (λ n. p n x) e ∙ g
 
   pub members-merge : (b : ℕ) (t : Term) (i : ℕ) (ks : List (List ℕ)) (h : List ℕ) (x : LeafNode) → b ≤ i → i < b + width t → p i x ≡ true → all_members p b t ≡ true → all_members p b (merge b t i ks h x) ≡ true
   unfolding width

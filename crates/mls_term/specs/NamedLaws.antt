@@ -1,5 +1,5 @@
 -- Where the leaves are that right lists name.
-use Rattle.std.proofs.Common.{◌≡◌, ℕ, ◌+◌, ◌<◌, ◌≤◌, nat_lt, nat_le, true, false, ◌&&◌, cond, Option, Some, None, is_some, refl, sym, ◌∙◌, ap, arith, subst, inl, inr, lt-ltb, le-ltb, ltb-true, leb-true, le-leb, eqb-true}
+use Rattle.std.proofs.Common.{◌≡◌, ℕ, ◌+◌, ◌<◌, ◌≤◌, nat_lt, nat_le, true, false, ◌&&◌, cond, Option, Some, None, is_some, refl, sym, ◌∙◌, ap, arith, subst, inl, inr, lt-ltb, le-ltb, ltb-true, leb-true, le-leb, eqb-true, Bool}
 use Rattle.std.proofs.lemmas.Bool.{true≢false, and_parts, and_from, or_cases, or_left, or_right, cond-true, cond-false, cases_lt, false_from_ne_true}
 use Rattle.mls_leaf.specs.Parent.{Parent, inserted}
 use Rattle.mls_leaf.specs.declared.leaf.LeafNode.{LeafNode}
@@ -48,6 +48,14 @@ listed_taken b (Branch c l r) u h =
       | inl k ↦ ap is_some (leaf_at_left b c l r u k) ∙ listed_taken b l u (and_parts (may_list c u) _ (sym (listed_left b c l r u k) ∙ h)).1
       | inr k ↦ ap is_some (leaf_at_right b c l r u k) ∙ listed_taken (b + width l) r u (and_parts (may_list c u) _ (sym (listed_right b c l r u k) ∙ h)).1
     ]
+
+-- that a test lets a parent list only leaves below it
+abbrev pub IsBound : (ℕ → Parent → Term → Term → Bool) → Type 0
+IsBound test = (b : ℕ) (p : Parent) (l r : Term) (u : ℕ) → test b p l r ≡ true → has p.unmerged_leaves u ≡ true → (b ≤ u) × (u < b + (width l + width r))
+
+pub lists_bound : IsBound lists_here
+unfolding lists_here
+lists_bound b p l r u h e = let f = may_parts b l r u (all_at (may_be_listed b l r) p.unmerged_leaves u h e) in (f.0, f.1)
 
 -- a leaf that some parent lists is below it, and taken
 pub named_range : (b : ℕ) (t : Term) (u : ℕ) → all_parents lists_here b t ≡ true → is_named t u ≡ true → (b ≤ u) × (u < b + width t) × (is_some (leaf_at b t u) ≡ true)

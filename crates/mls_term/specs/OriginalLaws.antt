@@ -1,6 +1,7 @@
 -- An original sibling is blind to an added leaf.
 use Rattle.std.proofs.Common.{◌≡◌, ℕ, ◌+◌, ◌<◌, ◌≤◌, ◌==◌, nat_lt, Bool, true, false, ◌||◌, cond, List, [], ◌∷◌, Option, Some, None, refl, sym, ◌∙◌, ap, arith, inl, inr, eqb-true, eq-eqb}
 use Rattle.std.proofs.lemmas.Bool.{true≢false, or_parts, or_right, cond-true, cond_both, cases_lt, cases_Bool}
+use Rattle.std.proofs.Math.Bool.{or-false}
 use Rattle.mls_leaf.specs.Parent.{Parent, inserted}
 use Rattle.mls_leaf.specs.declared.leaf.LeafNode.{LeafNode}
 use Rattle.mls_term.specs.Equations.{enter_left, enter_right, leaf_at_left, leaf_at_right}
@@ -13,10 +14,6 @@ use Rattle.mls_term.specs.Hashes.{original, unlisting, tree_hash, parent_hash}
 use Rattle.mls_term.specs.SetLaws.{has-with, eqb_refl}
 use Rattle.mls_term.specs.ShapeLaws.{width-enter}
 
-or_false : (y : Bool) → (y || false) ≡ y
-or_false true = refl
-or_false false = refl
-
 cond_same : (x : Bool) (v : Option LeafNode) → cond x v v ≡ v
 cond_same true v = refl
 cond_same false v = refl
@@ -28,7 +25,7 @@ less-with j us [] h = refl
 less-with j us (q ∷ qs) h =
     let p = or_parts (q == j) (has qs j) h in
     let e : (j == q) ≡ false = elim (cases_Bool (j == q)) [ inl k ↦ absurd (true≢false (sym (eq-eqb q j (sym (eqb-true j q k))) ∙ p.0)) | inr k ↦ k ] in
-    let w : has (inserted j us) q ≡ has us q = has-with j us q ∙ ap (λ v. has us q || v) e ∙ or_false (has us q) in
+    let w : has (inserted j us) q ≡ has us q = has-with j us q ∙ ap (λ v. has us q || v) e ∙ or-false (has us q) in
     let rest = less-with j us qs p.1 in
     rw (w, rest) refl
 
@@ -63,7 +60,7 @@ original-with b (Leaf v) j us n e =
           let is : j ≡ b = eqb-true j b k in
           let none : v ≡ None = e (omega arith) (omega arith) in
           ap (λ w. Leaf (cond (has (inserted j us) b) None w)) none ∙ ap Leaf (cond_same (has (inserted j us) b) None ∙ sym (cond_same (has us b) None)) ∙ sym (ap (λ w. Leaf (cond (has us b) None w)) none)
-      | inr k ↦ ap (λ w. Leaf (cond w None v)) (has-with j us b ∙ ap (λ w. has us b || w) k ∙ or_false (has us b))
+      | inr k ↦ ap (λ w. Leaf (cond w None v)) (has-with j us b ∙ ap (λ w. has us b || w) k ∙ or-false (has us b))
     ]
 original-with b (Branch c l r) j us n e =
     let p = or_parts (lists c j) _ n in

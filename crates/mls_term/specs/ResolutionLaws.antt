@@ -1,6 +1,7 @@
 -- What stands in a resolution.
 use Rattle.std.proofs.Common.{◌≡◌, ℕ, ◌+◌, ◌*◌, ◌<◌, ◌≤◌, ◌==◌, Bool, true, false, not, ◌||◌, List, [], ◌∷◌, ◌++◌, Option, Some, None, is_some, refl, sym, ◌∙◌, ap, arith, inl, inr, eqb-true, ne_eqb}
-use Rattle.std.proofs.lemmas.Bool.{true≢false, or_cases, or_from, or_parts, or_left, cond-false, cases_lt}
+use Rattle.std.proofs.lemmas.Bool.{true≢false, or_cases, or_from, or_parts, cond-false, cases_lt}
+use Rattle.std.proofs.Math.Bool.{or-false, or_assoc}
 use Rattle.mls_leaf.specs.Parent.{Parent, inserted}
 use Rattle.mls_leaf.specs.declared.leaf.LeafNode.{LeafNode}
 use Rattle.mls_term.specs.Equations.{enter_left, enter_right, leaf_at_left, leaf_at_right}
@@ -9,13 +10,13 @@ use Rattle.mls_term.specs.Sets.{has, leaf_numbers}
 use Rattle.mls_term.specs.Resolution.{resolution}
 use Rattle.mls_term.specs.Resolution.{is_empty, is_reached}
 use Rattle.mls_term.specs.Edits.{enter, listing}
-use Rattle.mls_term.specs.Lists.{all_parents, lists_here, is_named}
+use Rattle.mls_term.specs.Lists.{all_parents, is_named}
 use Rattle.mls_term.specs.Hashes.{hash_at}
 use Rattle.mls_term.specs.Node.{own_parent_hash}
 use Rattle.mls_term.specs.SetLaws.{has-append, has-with, has-leaf_numbers, of_leaf_numbers, numbers_more}
 use Rattle.mls_term.specs.ShapeLaws.{size-width, width-enter, size_from_width}
 use Rattle.mls_term.specs.ParentLaws.{parents_parts}
-use Rattle.mls_term.specs.NamedLaws.{named_range}
+use Rattle.mls_term.specs.NamedLaws.{IsBound}
 
 -- a tree with a taken leaf reaches somebody
 pub resolution_nonempty : (b : ℕ) (t : Term) → has_leaf t ≡ true → is_empty (resolution b t) ≡ false
@@ -41,41 +42,37 @@ pub reached : (b : ℕ) (t : Term) → has_leaf t ≡ true → is_reached b t �
 reached b t h = ap not (resolution_nonempty b t h)
 
 -- every node of a resolution is in the tree
-pub resolution_range : (b : ℕ) (t : Term) (d : ℕ) → all_parents lists_here b t ≡ true → has (resolution b t) d ≡ true → (2 * b ≤ d) × (d < 2 * b + size t)
+pub resolution_range : (test : ℕ → Parent → Term → Term → Bool) → IsBound test → (b : ℕ) (t : Term) (d : ℕ) → all_parents test b t ≡ true → has (resolution b t) d ≡ true → (2 * b ≤ d) × (d < 2 * b + size t)
 unfolding resolution has size
-resolution_range b (Leaf None) d h e = absurd (true≢false (sym e))
-resolution_range b (Leaf (Some v)) d h e =
+resolution_range test bound b (Leaf None) d h e = absurd (true≢false (sym e))
+resolution_range test bound b (Leaf (Some v)) d h e =
     let k : 2 * b ≡ d = eqb-true (2 * b) d (elim (or_cases (2 * b == d) false e) [ inl k ↦ k | inr k ↦ absurd (true≢false (sym k)) ]) in
     (omega arith, omega arith)
-resolution_range b (Branch (Some p) l r) d h e =
+resolution_range test bound b (Branch (Some p) l r) d h e =
     let sl = size-width l in
     let sr = size-width r in
     elim (or_cases (2 * b + size l == d) _ e) [
       | inl k ↦ let f : 2 * b + size l ≡ d = eqb-true (2 * b + size l) d k in (omega arith, omega arith)
       | inr k ↦
           let g = of_leaf_numbers p.unmerged_leaves d k in
-          let f = named_range b (Branch (Some p) l r) g.0 h (unfold is_named in or_left (has p.unmerged_leaves g.0) _ g.2) in
+          let f = bound b p l r g.0 (parents_parts test b (Some p) l r h).0 g.2 in
           let low = f.0 in
-          let high : g.0 < b + (width l + width r) = unfold width in f.1 in
+          let high = f.1 in
           let is = g.1 in
           (omega arith, omega arith)
     ]
-resolution_range b (Branch None l r) d h e =
+resolution_range test bound b (Branch None l r) d h e =
     let sl = size-width l in
     let sr = size-width r in
-    let p = parents_parts lists_here b None l r h in
+    let p = parents_parts test b None l r h in
     elim (or_cases (has (resolution b l) d) _ (sym (has-append (resolution b l) (resolution (b + width l) r) d) ∙ e)) [
-      | inl k ↦ let f = resolution_range b l d p.1 k in let low = f.0 in let high = f.1 in (low, omega arith)
-      | inr k ↦ let f = resolution_range (b + width l) r d p.2 k in let low = f.0 in let high = f.1 in (omega arith, omega arith)
+      | inl k ↦ let f = resolution_range test bound b l d p.1 k in let low = f.0 in let high = f.1 in (low, omega arith)
+      | inr k ↦ let f = resolution_range test bound (b + width l) r d p.2 k in let low = f.0 in let high = f.1 in (omega arith, omega arith)
     ]
 
 -- an added leaf joins the resolution, and nobody else does
 has-leaf_numbers_with : (i : ℕ) (us : List ℕ) (d : ℕ) → has (leaf_numbers (inserted i us)) d ≡ (has (leaf_numbers us) d || (2 * i == d))
 has-leaf_numbers_with i us = numbers_more i (inserted i us) us (has-with i us)
-
-or_over : (x y z : Bool) → (x || (y || z)) ≡ ((x || y) || z)
-or_over true y z = refl
-or_over false y z = refl
 
 or_past : (x y z : Bool) → ((x || z) || y) ≡ ((x || y) || z)
 or_past true y z = refl
@@ -86,11 +83,7 @@ or_past false false false = refl
 
 resolution-enter_leaf : (b i : ℕ) (x : LeafNode) (d : ℕ) → b ≡ i → has (resolution b (enter b (Leaf None) i x)) d ≡ (2 * i == d)
 unfolding enter resolution has
-resolution-enter_leaf b i x d is = ap (λ n. (2 * n == d) || false) is ∙ none (2 * i == d)
-  where
-    none : (y : Bool) → (y || false) ≡ y
-    none true = refl
-    none false = refl
+resolution-enter_leaf b i x d is = ap (λ n. (2 * n == d) || false) is ∙ or-false (2 * i == d)
 
 pub resolution-enter : (b : ℕ) (t : Term) (i : ℕ) (x : LeafNode) (d : ℕ) → b ≤ i → i < b + width t → leaf_at b t i ≡ None → has (resolution b (enter b t i x)) d ≡ (has (resolution b t) d || (2 * i == d))
 unfolding width resolution has leaf_at
@@ -107,7 +100,7 @@ resolution-enter b (Branch None l r) i x d low high e =
       | inr k ↦ rw (enter_right b None l r i x k) ((
           has-append (resolution b l) _ d
           ∙ ap (λ v. has (resolution b l) d || v) (resolution-enter (b + width l) r i x d k (omega arith) (sym (leaf_at_right b None l r i k) ∙ e))
-          ∙ or_over (has (resolution b l) d) _ _
+          ∙ sym (or_assoc (has (resolution b l) d) _ _)
           ∙ ap (λ v. v || (2 * i == d)) (sym (has-append (resolution b l) (resolution (b + width l) r) d))))
     ]
 resolution-enter b (Branch (Some p) l r) i x d low high e =
@@ -115,10 +108,10 @@ resolution-enter b (Branch (Some p) l r) i x d low high e =
       | inl k ↦ rw (enter_left b (Some p) l r i x k) ((
           ap (λ n. (2 * b + n == d) || has (leaf_numbers (inserted i p.unmerged_leaves)) d) (size_from_width (enter b l i x) l (width-enter b l i x))
           ∙ ap (λ v. (2 * b + size l == d) || v) (has-leaf_numbers_with i p.unmerged_leaves d)
-          ∙ or_over (2 * b + size l == d) _ _))
+          ∙ sym (or_assoc (2 * b + size l == d) _ _)))
       | inr k ↦ rw (enter_right b (Some p) l r i x k) ((
           ap (λ v. (2 * b + size l == d) || v) (has-leaf_numbers_with i p.unmerged_leaves d)
-          ∙ or_over (2 * b + size l == d) _ _))
+          ∙ sym (or_assoc (2 * b + size l == d) _ _)))
     ]
 
 -- a leaf that no list names and that isn't taken in a tree is not in its resolution

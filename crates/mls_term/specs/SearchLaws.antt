@@ -4,6 +4,7 @@ use Rattle.std.specs.Prelude.{nat_le, is_ok, is_err, not, ◌||◌}
 use Rattle.std.specs.List.Sorted.{IsBinarySearchResult, IsNonDecreasing}
 use Rattle.std.proofs.lemmas.Bool.{and_parts, leb-true, ne_eqb, cases_lt}
 use Rattle.std.proofs.lemmas.List.Sorted.{searched, IsNonDecreasingBy-from_default}
+use Rattle.std.proofs.Math.Bool.{or-true}
 use Rattle.mls_leaf.specs.Parent.{rises_from}
 use Rattle.mls_leaf.specs.ParentLaws.{rises_from-cons}
 use Rattle.mls_term.specs.Sets.{has}
@@ -31,11 +32,7 @@ has_there : (xs : List ℕ) (i x : ℕ) → i < length xs → get_or xs i 0 ≡ 
 unfolding has
 has_there [] i x lt e = absurd (omega arith)
 has_there (y ∷ xs) zero x lt e = ap (λ (b : Bool). b || has xs x) (eq-eqb y x e)
-has_there (y ∷ xs) (suc i) x lt e = ap (λ (b : Bool). eqb y x || b) (has_there xs i x (omega arith) e) ∙ or_true (eqb y x)
-  where
-    or_true : (b : Bool) → (b || true) ≡ true
-    or_true true = refl
-    or_true false = refl
+has_there (y ∷ xs) (suc i) x lt e = ap (λ (b : Bool). eqb y x || b) (has_there xs i x (omega arith) e) ∙ or-true (eqb y x)
 
 has_nowhere : (xs : List ℕ) (x : ℕ) → ((k : ℕ) → k < length xs → get_or xs k 0 ≢ x) → has xs x ≡ false
 unfolding has

@@ -1,5 +1,6 @@
 -- What each member passes, one leaf after another.
 use Rattle.std.proofs.Common.{◌≡◌, ℕ, zero, suc, ◌+◌, ◌-◌, ◌/◌, ◌^◌, ◌<◌, ◌≤◌, Bool, true, false, ◌&&◌, List, length, Option, refl, sym, ◌∙◌, ap, arith, add-one, pow-suc}
+use Rattle.std.proofs.Math.Bool.{and-true, and_assoc}
 use Rattle.mls_leaf.specs.declared.leaf.LeafNode.{LeafNode}
 use Rattle.mls_leaf.specs.declared.node.Node.{Node}
 use Rattle.mls_treemath.specs.Paths.{nodes_in}
@@ -20,14 +21,6 @@ rest p f i zero = true
 rest p f i (suc n) = passes p i (f i) && rest p f (suc i) n
 
 module _ (p : ℕ → LeafNode → Bool) where
-  and_true : (a : Bool) → (a && true) ≡ a
-  and_true true = refl
-  and_true false = refl
-
-  regroup : (a b d : Bool) → (a && (b && d)) ≡ ((a && b) && d)
-  regroup true b d = refl
-  regroup false b d = refl
-
   rest-add : (f : ℕ → Option LeafNode) (i n m : ℕ) → rest p f i (n + m) ≡ (rest p f i n && rest p f (i + n) m)
   rest-add f i zero m =
       let e : 0 + m ≡ m = omega arith in
@@ -38,7 +31,7 @@ module _ (p : ℕ → LeafNode → Bool) where
       let g : suc i + n ≡ i + suc n = omega arith in
       ap (rest p f i) e
       ∙ ap (λ v. passes p i (f i) && v) (rest-add f (suc i) n m ∙ ap (λ j. rest p f (suc i) n && rest p f j m) g)
-      ∙ regroup (passes p i (f i)) (rest p f (suc i) n) (rest p f (i + suc n) m)
+      ∙ sym (and_assoc (passes p i (f i)) (rest p f (suc i) n) (rest p f (i + suc n) m))
 
   rest-same : (f g : ℕ → Option LeafNode) (i n : ℕ) → ((j : ℕ) → i ≤ j → j < i + n → f j ≡ g j) → rest p f i n ≡ rest p g i n
   rest-same f g i zero same = refl
@@ -49,7 +42,7 @@ module _ (p : ℕ → LeafNode → Bool) where
   all_rest : (b : ℕ) (t : Term) → all_members p b t ≡ rest p (leaf_at b t) b (width t)
   unfolding width
   all_rest b (Leaf v) =
-      all_members_leaf p b v ∙ ap (passes p b) (sym (leaf_at_leaf b v b)) ∙ sym (and_true (passes p b (leaf_at b (Leaf v) b)))
+      all_members_leaf p b v ∙ ap (passes p b) (sym (leaf_at_leaf b v b)) ∙ sym (and-true (passes p b (leaf_at b (Leaf v) b)))
   all_rest b (Branch c l r) =
       all_members_branch b c l r p
       ∙ ap (λ v. v && all_members p (b + width l) r) (all_rest b l ∙ rest-same (leaf_at b l) (leaf_at b (Branch c l r)) b (width l) (λ j low high. sym (leaf_at_left b c l r j high)))

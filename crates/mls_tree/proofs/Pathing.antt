@@ -1,5 +1,5 @@
 -- What the calls on a commit's path answer, case by case.
-use Rattle.std.proofs.Common.{◌≡◌, ℕ, ◌==◌, Bool, true, false, not, List, [], ◌∷◌, length, reverse, Option, Some, None, is_some, Ok, Err, refl, sym, ◌∙◌, ap, subst, nat_eq}
+use Rattle.std.proofs.Common.{◌≡◌, ℕ, ◌==◌, Bool, true, false, not, List, [], length, reverse, Option, Some, None, is_some, Ok, Err, refl, sym, ◌∙◌, ap, subst, nat_eq}
 use Rattle.std.proofs.lemmas.Bool.{true≢false}
 use Rattle.std.specs.Borrow.{Bor}
 use Rattle.std.specs.Option.{option_copied}
@@ -20,6 +20,7 @@ use Rattle.mls_term.specs.Arrays.{term_of, in_order}
 use Rattle.mls_array.specs.StandingLaws.{StandsFor}
 use Rattle.mls_array.specs.MergingLaws.{stands_for-merge}
 use Rattle.mls_tree.specs.Paths.{path_checks, path_hash_answer, merge_checks, merge_answer}
+use Rattle.mls_term.specs.SetLaws.{same-pointwise}
 
 -- ---- whole trees
 
@@ -35,19 +36,12 @@ pub hash_is : (t : Term) (i : ℕ) (keys : List (List ℕ)) → path_hash 0 t i 
 unfolding path_parent_hash
 hash_is t i keys = refl
 
-same_pointwise : (xs ys : List ℕ) → pointwise nat_eq xs ys ≡ same_bytes xs ys
-unfolding same_bytes
-same_pointwise [] [] = refl
-same_pointwise [] (y ∷ ys) = refl
-same_pointwise (x ∷ xs) [] = refl
-same_pointwise (x ∷ xs) (y ∷ ys) = rw (same_pointwise xs ys) refl
-
 pub hash_test : (r : Bool) (a b h g : List ℕ) (s : LeafSource) → r ≡ pointwise nat_eq a b → a ≡ h → b ≡ g → s ≡ Commit h → r ≡ is_some_bytes (source_hash s) g
 hash_test r a b h g s is left right commit =
     is
     ∙ ap (λ x. pointwise nat_eq x b) left
     ∙ ap (λ y. pointwise nat_eq h y) right
-    ∙ same_pointwise h g
+    ∙ same-pointwise h g
     ∙ sym (ap (λ s. is_some_bytes (source_hash s) g) commit)
 
 -- ---- members

@@ -1,6 +1,7 @@
 -- Exact keys follow the edits.
-use Rattle.std.proofs.Common.{◌≡◌, ℕ, ◌+◌, Bool, true, false, List, [], ◌∷◌, Option, Some, None, is_some, IsSome, refl, sym, ◌∙◌, subst, inl, inr, arith, ◌||◌, ◌==◌, if◌then◌else◌, ne_eqb}
+use Rattle.std.proofs.Common.{◌≡◌, ℕ, ◌+◌, Bool, true, false, List, [], ◌∷◌, Option, Some, None, is_some, IsSome, refl, sym, ◌∙◌, subst, inl, inr, arith, ◌==◌, if◌then◌else◌, ne_eqb}
 use Rattle.std.proofs.lemmas.Bool.{cases_lt, true≢false}
+use Rattle.std.proofs.Math.Bool.{or-false}
 use Rattle.mls_leaf.specs.Parent.{Parent}
 use Rattle.mls_leaf.specs.declared.leaf.LeafNode.{LeafNode}
 use Rattle.mls_term.specs.Sets.{has}
@@ -43,15 +44,11 @@ tame_put j b (Branch p l r) i x ne hi hj = elim (cases_lt i (b + width l)) [
   ])
 ]
 
-or_false : (a : Bool) → (a || false) ≡ a
-or_false true = refl
-or_false false = refl
-
 tame_listing : (j i : ℕ) (p : Option Parent) → (j ≡ i → ⊥) → TameAt j p (listing i p)
 tame_listing j i None ne = tt
 tame_listing j i (Some p) ne =
     let e : (i == j) ≡ false = ne_eqb i j (λ h. ne (sym h)) in
-    (refl, sym (has-with i p.unmerged_leaves j ∙ rw e (or_false (has p.unmerged_leaves j))))
+    (refl, sym (has-with i p.unmerged_leaves j ∙ rw e (or-false (has p.unmerged_leaves j))))
 
 pub tame_enter : (j b : ℕ) (t : Term) (i : ℕ) (x : LeafNode) → (j ≡ i → ⊥) → IsIn b t i → IsIn b t j → Tame j b t (enter b t i x)
 unfolding width

@@ -1,8 +1,9 @@
 -- What a joiner takes: exact keys whatever comes, and the committer's secrets where the path is made.
-use Rattle.std.proofs.Common.{◌≡◌, ℕ, ◌+◌, ◌<◌, ◌≤◌, Bool, true, false, not, ◌&&◌, ◌||◌, ◌==◌, if◌then◌else◌, List, [], ◌∷◌, Option, Some, None, Result, Ok, Err, refl, ap, sym, ◌∙◌, subst, inl, inr, arith, eq-eqb}
+use Rattle.std.proofs.Common.{◌≡◌, ℕ, ◌+◌, ◌<◌, ◌≤◌, Bool, true, false, not, ◌&&◌, ◌==◌, if◌then◌else◌, List, [], ◌∷◌, Option, Some, None, Result, Ok, Err, refl, ap, sym, ◌∙◌, subst, inl, inr, arith, eq-eqb}
 use Rattle.std.specs.Str.{bytes_eq}
 use Rattle.std.proofs.lemmas.Slice.Eq.{bytes_eq-Decides}
 use Rattle.std.proofs.lemmas.Bool.{and_parts, cases_lt, or_right}
+use Rattle.std.proofs.Math.Bool.{or-false}
 use Rattle.mls_leaf.specs.Parent.{Parent}
 use Rattle.mls_leaf.specs.declared.leaf.LeafNode.{LeafNode}
 use Rattle.mls_term.specs.Sets.{has}
@@ -59,7 +60,7 @@ sounds c j (Some p) m m' h = by_test (not (has p.unmerged_leaves j) && bytes_eq 
         record { top = Some (node_key c m.secret); keys_are = sym (ap (λ (z : Climb). z.keys) q); sound = (f.0, (bytes_eq-Decides (node_public c m.secret) p.encryption_key).0 f.1) }
     by_test false e h = cc
 
-present_is : (p : Option Parent) (m m' : Climb) → is_present p m ≡ Ok m' → m ≡ m'
+pub present_is : (p : Option Parent) (m m' : Climb) → is_present p m ≡ Ok m' → m ≡ m'
 present_is None m m' h = cc
 present_is (Some p) m m' h = cc
 
@@ -89,14 +90,10 @@ unfolding Along leaf_only
 own_sound c j [] x sk h = h
 own_sound c j (s ∷ ss) x sk h = (tt, own_sound c j ss x sk h)
 
-or_none : (a : Bool) → (a || false) ≡ true → a ≡ true
-or_none true h = refl
-or_none false h = h
-
 fits_from : (c : Crypto) (j : ℕ) (p : Option Parent) (o : Option (List ℕ)) → Sound c j p o → is_due j p o ≡ true → Fits c j p o
 fits_from c j None None h d = tt
 fits_from c j None (Some k) h d = absurd h
-fits_from c j (Some p) None h d = subst (λ (t : Bool). HoldsKey c t p None) (sym (or_none (has p.unmerged_leaves j) d)) tt
+fits_from c j (Some p) None h d = subst (λ (t : Bool). HoldsKey c t p None) (sym d ∙ or-false (has p.unmerged_leaves j)) tt
 fits_from c j (Some p) (Some k) h d = subst (λ (t : Bool). HoldsKey c t p (Some k)) (sym h.0) h.1
 
 exact_from : (c : Crypto) (j : ℕ) (ss : List Step) (x : Option LeafNode) (ks : Keys) → Along c (Sound c j) ss x ks → is_complete j ss ks ≡ true → Along c (Fits c j) ss x ks
@@ -143,11 +140,6 @@ unfolding Along is_complete
 complete_from c j [] x ks h = refl
 complete_from c j (s ∷ ss) x [] h = absurd h
 complete_from c j (s ∷ ss) x (o ∷ ks) h = let e : is_due j s.parent o ≡ true = h.0 in rw e (complete_from c j ss x ks h.1)
-
--- a parent that is merged with a new key is due no other
-due_new : (j : ℕ) (k g : List ℕ) → Due j (Some (record { encryption_key = k; parent_hash = g; unmerged_leaves = [] })) (Some k)
-unfolding has
-due_new j k g = refl
 
 -- the keys that the joiner shares with the committer are due in the merged tree
 shared_due : (c : Crypto) (j : ℕ) (start sk : List ℕ) (ss : List Step) (h : List ℕ) (ks : Keys) → Meets c (Due j) j ss ks →

@@ -147,9 +147,6 @@ are_pairs p ps n lt low e h t perfect room inside =
 
 -- a list of pairs with those of one side, and the root's
 module _ (h b j : ℕ) (ks : Keys) (ne : h ≡ 0 → ⊥) where
-  top : ℕ
-  top = 2 * b + (2 * 2 ^ (h - 1) - 1)
-
   whole : pairs_from h b j ks ≡ pairs_from (suc (h - 1)) b j ks
   whole = ap (λ n. pairs_from n b j ks) (let z : h ≡ suc (h - 1) = omega arith in z)
 

@@ -11,18 +11,12 @@ use Rattle.mls_term.specs.Equations.{way_left, way_right, merge_left, merge_righ
 use Rattle.mls_term.specs.ShapeLaws.{size_from_width}
 use Rattle.mls_term.specs.MergeLaws.{width-merge}
 use Rattle.mls_suite.specs.Crypto.{Crypto}
-use Rattle.mls_treekem.specs.Chain.{next_secret, chain, path_secrets, node_key, node_public, chain_keys}
+use Rattle.mls_treekem.specs.Chain.{chain, path_secrets, node_key, node_public, chain_keys}
 use Rattle.mls_treekem.specs.Keys.{Fits, Along, Exact}
 use Rattle.mls_treekem.specs.Make.{one_if, filtered_count, secret_above, key_if, made_keys, climb_make, climb_past, more_if, path_keys}
 
 pub climb_is_chain : (c : Crypto) (ss : List Step) (start sk : List ℕ) → (climb_make c ss start sk).secret ≡ chain start (filtered_count ss)
 climb_is_chain c ss start sk = refl
-
--- a parent more
-pub chain_past : (start : List ℕ) (t : Bool) (n : ℕ) → chain start (one_if t n) ≡ (if t then next_secret (chain start n) else chain start n)
-unfolding chain
-chain_past start true n = refl
-chain_past start false n = refl
 
 pub making_climbs : (c : Crypto) (s : Step) (ss : List Step) (start sk : List ℕ) → climb_make c (s ∷ ss) start sk ≡ climb_past c (is_filtered s) (climb_make c ss start sk)
 unfolding filtered_count made_keys chain

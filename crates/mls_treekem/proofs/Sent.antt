@@ -1,7 +1,6 @@
 -- A path that code seals.
-use Rattle.std.proofs.Common.{◌≡◌, ℕ, zero, suc, ◌+◌, ◌*◌, ◌/◌, ◌%◌, ◌^◌, ◌<◌, ◌≤◌, ◌==◌, not, ◌||◌, if◌then◌else◌, Bool, true, false, List, [], ◌∷◌, ◌++◌, length, map, reverse, get_or, drop, Option, Some, None, Result, Ok, Err, Bor, refl, sym, subst, ◌∙◌, ap, ap₂, inl, inr, arith, eq-eqb, ne_eqb, append-nil, append_assoc, length-append}
+use Rattle.std.proofs.Common.{◌≡◌, ℕ, zero, suc, ◌+◌, ◌*◌, ◌%◌, ◌^◌, ◌<◌, ◌≤◌, ◌==◌, not, ◌||◌, if◌then◌else◌, Bool, true, false, List, [], ◌∷◌, ◌++◌, length, map, reverse, get_or, drop, Option, Some, None, Result, Ok, Err, Bor, refl, sym, subst, ◌∙◌, ap, ap₂, inl, inr, arith, eq-eqb, ne_eqb, append-nil, append_assoc, length-append}
 use Rattle.std.specs.Prelude.{codes}
-use Rattle.std.specs.Int.{w32, to_be_bytes}
 use Rattle.std.specs.List.{slice_get}
 use Rattle.std.specs.Option.{option_map, option_copied}
 use Rattle.std.proofs.lemmas.Bool.{cases_lt}
@@ -94,18 +93,11 @@ more_onto : (xs : List HpkeCiphertext) (x : HpkeCiphertext) (o : Option (List Hp
 more_onto xs x None = refl
 more_onto xs x (Some ys) = ap Some (sym (append_assoc xs (x ∷ []) ys))
 
-none_onto : (o : Option (List HpkeCiphertext)) → o ≡ onto [] o
-none_onto None = refl
-none_onto (Some ys) = refl
-
 -- what is left from place k on
 abbrev pub left_from : List ℕ → List ℕ → ℕ → List ℕ
 left_from us xs k = less (leaf_numbers us) (drop k xs)
 
 module _ (us xs : List ℕ) (k : ℕ) (lt : k < length xs) where
-  left_skipped : has (leaf_numbers us) (get_or xs k 0) ≡ true → left_from us xs k ≡ left_from us xs (k + 1)
-  left_skipped is = ap (less (leaf_numbers us)) (drop_more xs k 0 lt) ∙ rw is refl
-
   left_kept : has (leaf_numbers us) (get_or xs k 0) ≡ false → left_from us xs k ≡ get_or xs k 0 ∷ left_from us xs (k + 1)
   left_kept is = ap (less (leaf_numbers us)) (drop_more xs k 0 lt) ∙ rw is refl
 
@@ -115,13 +107,7 @@ SealsLeft c context secret b t seed us xs first ys i k =
     seal_all c context secret b t (seal_seed seed) first (less (leaf_numbers us) xs) ≡ onto ys (seal_all c context secret b t (seal_seed seed) i (left_from us xs k))
 
 module _ (c : Crypto) (context secret : List ℕ) (b : ℕ) (t : Term) (seed us xs : List ℕ) (first : ℕ) where
-  pub seals_start : (ys : List HpkeCiphertext) → ys ≡ [] → SealsLeft c context secret b t seed us xs first ys first 0
-  seals_start ys e = none_onto (seal_all c context secret b t (seal_seed seed) first (less (leaf_numbers us) xs)) ∙ ap (λ zs. onto zs (seal_all c context secret b t (seal_seed seed) first (less (leaf_numbers us) xs))) (sym e)
-
   module _ (k : ℕ) (ys : List HpkeCiphertext) (i : ℕ) (inv : SealsLeft c context secret b t seed us xs first ys i k) where
-    pub seals_skip : k < length xs → has (leaf_numbers us) (get_or xs k 0) ≡ true → SealsLeft c context secret b t seed us xs first ys i (k + 1)
-    seals_skip lt is = inv ∙ ap (λ ds. onto ys (seal_all c context secret b t (seal_seed seed) i ds)) (left_skipped us xs k lt is)
-
     first_left : k < length xs → has (leaf_numbers us) (get_or xs k 0) ≡ false → (o : Option HpkeCiphertext) → seal_to c context secret (key_at b t (get_or xs k 0)) (seal_seed seed i) ≡ o → seal_all c context secret b t (seal_seed seed) first (less (leaf_numbers us) xs) ≡ onto ys (cons_both o (seal_all c context secret b t (seal_seed seed) (suc i) (left_from us xs (k + 1))))
     unfolding seal_all
     first_left lt is o e =
@@ -438,9 +424,6 @@ module _ (t : Term) (p : Place) (ps all : List Place) (whole : all ≡ p ∷ ps)
 module _ (t : Term) (i : ℕ) (ps qs : List Place) (w : IsWay t i ps) (same : qs ≡ ps) where
   steps_are : map (step_of t) qs ≡ way 0 t i
   steps_are = ap (map (step_of t)) same ∙ w.steps
-
-  pub all_placed : ArePlaced t qs
-  all_placed = subst (ArePlaced t) (sym same) w.placed
 
   pub all_filtered : filtered_count (map (step_of t) qs) ≤ path_length 0 t i
   all_filtered = let e = count_is_length 0 t i in omega (arith, ap filtered_count steps_are)

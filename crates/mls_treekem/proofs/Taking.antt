@@ -1,6 +1,5 @@
 -- What a joiner takes, as code goes over the parents.
-use Rattle.std.proofs.Common.{◌≡◌, ℕ, zero, suc, ◌+◌, ◌≤◌, ◌<◌, Bool, true, false, not, nat_eq, nat_lt, nat_le, ◌&&◌, ◌||◌, if◌then◌else◌, List, [], ◌∷◌, ◌++◌, length, map, reverse, replicate, Option, Some, None, is_some, Result, Ok, Err, refl, sym, subst, ◌∙◌, ap, ap₂, arith, lt-ltb, le-ltb}
-use Rattle.std.specs.List.{list_any}
+use Rattle.std.proofs.Common.{◌≡◌, ℕ, zero, suc, ◌+◌, ◌≤◌, ◌<◌, Bool, true, false, not, nat_lt, nat_le, ◌&&◌, if◌then◌else◌, List, [], ◌∷◌, ◌++◌, length, map, reverse, replicate, Option, Some, None, is_some, Result, Ok, Err, refl, sym, subst, ◌∙◌, ap, ap₂, arith, lt-ltb, le-ltb}
 use Rattle.std.specs.Str.{bytes_eq}
 use Rattle.std.proofs.lemmas.Bool.{cond-true, cond-false}
 use Rattle.std.proofs.lemmas.List.{length-map, length-replicate, length-reverse}
@@ -24,15 +23,10 @@ use Rattle.mls_treekem.specs.Join.{past_present, is_present, climb_take, is_due,
 use Rattle.mls_treekem.specs.Place.{step_of, ArePlaced, IsWay}
 use Rattle.mls_treekem.proofs.Levels.{reverse-end, way_height}
 use Rattle.mls_treekem.proofs.Receiving.{bind_ok}
-use Rattle.mls_treekem.proofs.Joining.{sounds}
+use Rattle.mls_treekem.proofs.Joining.{sounds, present_is}
 use Rattle.mls_treekem.proofs.Opened.{beside_is, first_placed}
 
 -- ---- one place
-
-pub is_listed : (xs : List ℕ) (x : ℕ) → list_any (λ y. nat_eq y x) xs ≡ has xs x
-unfolding has
-is_listed [] x = refl
-is_listed (y ∷ ys) x = ap (λ b. nat_eq y x || b) (is_listed ys x)
 
 pub is_there : (p : Option Parent) (there : Bool) (m : Climb) → there ≡ is_some p → there ≡ true → is_present p m ≡ Ok m
 is_there (Some p) there m e f = refl
@@ -164,10 +158,6 @@ module _ (c : Crypto) (j : ℕ) (own : List ℕ) where
       by_side true (Some p) rec = refl
       by_side false p rec = rec
 
-same_present : (p : Option Parent) (m m' : Climb) → is_present p m ≡ Ok m' → m ≡ m'
-same_present None m m' h = cc
-same_present (Some p) m m' h = cc
-
 take_length : (c : Crypto) (j : ℕ) (ss : List Step) (ks : Keys) (secret : List ℕ) (m : Climb) → length ks ≡ length ss → climb_take c ss j ks secret ≡ Ok m → length m.keys ≡ length ss
 unfolding climb_take
 take_length c j [] ks secret m e h = cc
@@ -182,7 +172,7 @@ take_length c j (s ∷ ss) (o ∷ ks) secret m e h =
         (climb_take c ss j ks secret ≡ Ok m0 → length m0.keys ≡ length ss) → length m0.keys ≡ length ss
     by_side true m0 f n rec =
         let made : Climb = record { secret = secret; keys = ks } in
-        ap (λ (z : Climb). length z.keys) (sym (same_present s.parent made m0 f)) ∙ n
+        ap (λ (z : Climb). length z.keys) (sym (present_is s.parent made m0 f)) ∙ n
     by_side false m0 f n rec = rec f
 
 -- ---- the whole of it

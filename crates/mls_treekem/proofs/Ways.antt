@@ -1,6 +1,6 @@
 -- Tests on numbers, and a step down from a branch to the side of a leaf.
-use Rattle.std.proofs.Common.{◌≡◌, ℕ, ◌+◌, ◌<◌, ◌≤◌, Bool, true, false, ◌&&◌, nat_lt, nat_le, List, [], ◌∷◌, Option, refl, sym, ◌∙◌, ap, inl, inr, arith}
-use Rattle.std.proofs.lemmas.Bool.{lt-ltb, le-ltb, le-leb, lt-leb, cases_lt}
+use Rattle.std.proofs.Common.{◌≡◌, ℕ, ◌+◌, ◌<◌, ◌≤◌, true, false, ◌&&◌, nat_lt, nat_le, List, [], ◌∷◌, Option, sym, ◌∙◌, ap, inl, inr, arith}
+use Rattle.std.proofs.lemmas.Bool.{lt-ltb, le-ltb, le-leb, lt-leb, cases_lt, and_right}
 use Rattle.mls_leaf.specs.Parent.{Parent}
 use Rattle.mls_term.specs.Term.{Term, Branch, width, leaf_at}
 use Rattle.mls_term.specs.Equations.{way_left, way_right, leaf_at_left, leaf_at_right}
@@ -14,12 +14,8 @@ within a n j h k = let e = le-leb a j h in let f = lt-ltb j (a + n) k in rw (e, 
 pub below : (a n j : ℕ) → j < a → (nat_le a j && nat_lt j (a + n)) ≡ false
 below a n j h = let e = lt-leb a j h in rw e
 
-and_false : (t : Bool) → (t && false) ≡ false
-and_false true = refl
-and_false false = refl
-
 pub beyond : (a n j : ℕ) → a + n ≤ j → (nat_le a j && nat_lt j (a + n)) ≡ false
-beyond a n j h = let e = le-ltb j (a + n) h in rw e (and_false (nat_le a j))
+beyond a n j h = and_right (nat_le a j) _ (le-ltb j (a + n) h)
 
 -- ---- keys along the way to a leaf of one side
 

@@ -16,7 +16,6 @@ use Rattle.mls_treekem.specs.Faults.{number_of}
 use Rattle.mls_treekem.specs.Follow.{on_way}
 use Rattle.mls_treekem.specs.Keys.{Keys, key_in}
 use Rattle.mls_treekem.specs.Made.{PrivateKeys, all_keys}
-use Rattle.mls_treekem.specs.Make.{Climb}
 use Rattle.mls_treekem.specs.Open.{unseal_secret, of_32, open_first, open_here, climb_open}
 use Rattle.mls_treekem.specs.Place.{step_of}
 

@@ -18,6 +18,8 @@ mod error;
 mod follow;
 mod keys;
 mod make;
+#[cfg(test)]
+mod members;
 mod open;
 #[cfg(test)]
 mod open_tests;

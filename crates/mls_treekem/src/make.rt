@@ -1,6 +1,6 @@
 //! A committer's new keys.
 
-ghost use Rattle.std.specs.Prelude.{◌≡◌, ◌≤◌, ◌++◌, None, length, map, replicate, IfOk, OnOk, OnErr};
+ghost use Rattle.std.specs.Prelude.{◌≡◌, ◌++◌, None, length, map, replicate, IfOk, OnOk, OnErr};
 ghost use Rattle.mls_treekem.specs.Made.{AreOfChain};
 ghost use Rattle.mls_treekem.specs.Raise.{level_of, raised, raised_all, HasMade};
 

@@ -1,25 +1,16 @@
 //! Leaf 1's path in a tree of four members, as the others open it.
 
-use crate::tests::{key_nodes, member};
+use crate::members::{four, key_nodes};
 use crate::{PathSecrets, PrivatePath, TreeKemError};
 use mls_group::{HpkeCiphertext, UpdatePathNode};
 use mls_kdf::{Secret, derive_secret};
 use mls_leaf::{Bytes, Items};
 use mls_suite::{Glass, Suite, encrypt_with_label};
-use mls_tree::PublicTree;
 use std::alloc::Global;
 use std::test::Fail;
 
 /// The first path secret.
 const START: Secret = [7; 32];
-
-fn four(alloc: Global) -> Result<PublicTree, Fail> {
-    let mut tree = PublicTree::single(alloc, member(alloc, 1)?)?;
-    let _ = tree.add(member(alloc, 2)?)?;
-    let _ = tree.add(member(alloc, 3)?)?;
-    let _ = tree.add(member(alloc, 4)?)?;
-    Ok(tree)
-}
 
 /// A text sealed to the key of a private key of 32 such bytes.
 fn sealed(alloc: Global, key: u8, text: &[u8]) -> Result<HpkeCiphertext, Fail> {
@@ -62,7 +53,7 @@ fn path(
     text: &[u8],
 ) -> Result<Vec<UpdatePathNode>, Fail> {
     let mut nodes = Vec::new(alloc);
-    nodes.push(node(alloc, &START, &[1], &START)?)?;
+    nodes.push(node(alloc, &START, &[0], &START)?)?;
     nodes.push(node(alloc, highest, keys, text)?)?;
     Ok(nodes)
 }
@@ -73,15 +64,9 @@ fn second() -> Secret {
 }
 
 /// The nodes of leaf i's keys after it opened leaf 1's path in a commit that added these leaves.
-fn nodes_after(
-    alloc: Global,
-    i: u32,
-    key: u8,
-    added: &[u32],
-    keys: &[u8],
-) -> Result<Vec<u64>, Fail> {
+fn nodes_after(alloc: Global, i: u8, added: &[u32], keys: &[u8]) -> Result<Vec<u64>, Fail> {
     let tree = four(alloc)?;
-    let mut own = PrivatePath::new(alloc, i, [key; 32]);
+    let mut own = PrivatePath::new(alloc, u32::from(i), [i; 32]);
     let nodes = path(alloc, &second(), keys, &second())?;
     let commit_secret = own.open_path::<Glass>(&tree, 1, added, &nodes, b"context")?;
     let made = PathSecrets::new::<Glass>(alloc, &START, 2)?;
@@ -94,18 +79,18 @@ fn nodes_after(
 #[test]
 fn opened_by_each_member(rt: HostRuntime) -> Result<(), Fail> {
     let alloc = rt.alloc();
-    let first = nodes_after(alloc, 0, 1, &[], &[3, 4])?;
+    let first = nodes_after(alloc, 0, &[], &[2, 3])?;
     assert_eq!(rt; first.as_slice(), [0, 1, 3].as_slice());
-    let third = nodes_after(alloc, 2, 3, &[], &[3, 4])?;
+    let third = nodes_after(alloc, 2, &[], &[2, 3])?;
     assert_eq!(rt; third.as_slice(), [3, 4].as_slice());
-    let fourth = nodes_after(alloc, 3, 4, &[], &[3, 4])?;
+    let fourth = nodes_after(alloc, 3, &[], &[2, 3])?;
     assert_eq!(rt; fourth.as_slice(), [3, 6].as_slice());
     Ok(())
 }
 
 #[test]
 fn added_leaves_have_no_ciphertext(rt: HostRuntime) -> Result<(), Fail> {
-    let fourth = nodes_after(rt.alloc(), 3, 4, &[2], &[4])?;
+    let fourth = nodes_after(rt.alloc(), 3, &[2], &[3])?;
     assert_eq!(rt; fourth.as_slice(), [3, 6].as_slice());
     Ok(())
 }
@@ -113,7 +98,7 @@ fn added_leaves_have_no_ciphertext(rt: HostRuntime) -> Result<(), Fail> {
 /// The number that leaf 2 refuses a path with, whose keys are then as before, or 0.
 fn refused(alloc: Global, nodes: &[UpdatePathNode]) -> Result<u8, Fail> {
     let tree = four(alloc)?;
-    let mut own = PrivatePath::new(alloc, 2, [3; 32]);
+    let mut own = PrivatePath::new(alloc, 2, [2; 32]);
     match own.open_path::<Glass>(&tree, 1, &[], nodes, b"context") {
         Ok(_) => Ok(0),
         Err(TreeKemError::OutOfMemory) => Err(TreeKemError::OutOfMemory.into()),
@@ -137,11 +122,11 @@ fn refused_path(alloc: Global, highest: &Secret, keys: &[u8], text: &[u8]) -> Re
 fn paths_that_are_refused(rt: HostRuntime) -> Result<(), Fail> {
     let alloc = rt.alloc();
     let text = second();
-    assert_eq!(rt; refused_path(alloc, &text, &[3, 4], &text)?, 0);
-    assert_eq!(rt; refused_path(alloc, &text, &[4, 4], &text)?, 32);
+    assert_eq!(rt; refused_path(alloc, &text, &[2, 3], &text)?, 0);
+    assert_eq!(rt; refused_path(alloc, &text, &[3, 3], &text)?, 32);
     assert_eq!(rt; refused_path(alloc, &text, &[], &text)?, 32);
-    assert_eq!(rt; refused_path(alloc, &text, &[3, 4], &[5; 31])?, 33);
-    assert_eq!(rt; refused_path(alloc, &[8; 32], &[3, 4], &text)?, 34);
+    assert_eq!(rt; refused_path(alloc, &text, &[2, 3], &[5; 31])?, 33);
+    assert_eq!(rt; refused_path(alloc, &[8; 32], &[2, 3], &text)?, 34);
     Ok(())
 }
 
@@ -151,7 +136,7 @@ fn a_changed_ciphertext(rt: HostRuntime) -> Result<(), Fail> {
     let HpkeCiphertext {
         kem_output,
         ciphertext,
-    } = sealed(alloc, 3, &second())?;
+    } = sealed(alloc, 2, &second())?;
     let mut changed = ciphertext.into_vec();
     if let Some(byte) = changed.first_mut() {
         *byte ^= 1;

@@ -1,11 +1,11 @@
 //! Paths that are sealed in small trees.
 
+use crate::members::{four, leaf};
 use crate::{PathSecrets, TreeKemError, seal_path, seal_seed, seals_in};
 use mls_group::UpdatePathNode;
 use mls_kdf::{Secret, derive_secret};
-use mls_leaf::{Bytes, Capabilities, Credential, Items, LeafNode, LeafSource};
-use mls_suite::{Glass, Suite, decrypt_with_label};
-use mls_tree::{PublicTree, TreeError};
+use mls_suite::{Glass, decrypt_with_label};
+use mls_tree::PublicTree;
 use std::alloc::{AllocError, Global};
 use std::test::Fail;
 
@@ -19,47 +19,6 @@ const SEED: Secret = [
 fn seeds_of_seals(rt: HostRuntime) -> Result<(), Fail> {
     assert_eq!(rt; seal_seed(&[9; 32], 0x0102_0304), SEED);
     Ok(())
-}
-
-fn empty(alloc: Global) -> Bytes {
-    Bytes::from_vec(Vec::new(alloc))
-}
-
-fn numbers(alloc: Global) -> Items<u16> {
-    Items::from_vec(Vec::new(alloc))
-}
-
-fn member(alloc: Global, key: Vec<u8>) -> LeafNode {
-    LeafNode {
-        encryption_key: Bytes::from_vec(key),
-        signature_key: empty(alloc),
-        credential: Credential {
-            identity: empty(alloc),
-        },
-        capabilities: Capabilities {
-            versions: numbers(alloc),
-            cipher_suites: numbers(alloc),
-            extensions: numbers(alloc),
-            proposals: numbers(alloc),
-            credentials: numbers(alloc),
-        },
-        source: LeafSource::Update,
-        signature: empty(alloc),
-    }
-}
-
-/// The public key of 32 such bytes.
-fn public(alloc: Global, byte: u8) -> Result<Vec<u8>, AllocError> {
-    Glass::public(alloc, &[byte; 32])
-}
-
-/// Four members, of which the last has this key.
-fn four(alloc: Global, last: Vec<u8>) -> Result<PublicTree, TreeError> {
-    let mut tree = PublicTree::single(alloc, member(alloc, public(alloc, 0)?))?;
-    tree.add(member(alloc, public(alloc, 1)?))?;
-    tree.add(member(alloc, public(alloc, 2)?))?;
-    tree.add(member(alloc, last))?;
-    Ok(tree)
 }
 
 /// The path that leaf 1 sends.
@@ -106,7 +65,7 @@ fn opens(
 #[test]
 fn a_path_of_four(rt: HostRuntime) -> Result<(), Fail> {
     let alloc = rt.alloc();
-    let tree = four(alloc, public(alloc, 3)?)?;
+    let tree = four(alloc)?;
     assert_eq!(rt; tree.filtered_path(1)?.as_slice(), [1, 3].as_slice());
     let nodes = sealed(alloc, &tree, &[])?;
     assert_eq!(rt; nodes.len(), 2);
@@ -123,7 +82,7 @@ fn a_path_of_four(rt: HostRuntime) -> Result<(), Fail> {
 #[test]
 fn a_leaf_just_added_is_left_out(rt: HostRuntime) -> Result<(), Fail> {
     let alloc = rt.alloc();
-    let tree = four(alloc, public(alloc, 3)?)?;
+    let tree = four(alloc)?;
     let nodes = sealed(alloc, &tree, &[2])?;
     assert_eq!(rt; count_at(&nodes, 1), 1);
     let second = derive_secret(&[7; 32], "path");
@@ -137,7 +96,8 @@ fn a_leaf_just_added_is_left_out(rt: HostRuntime) -> Result<(), Fail> {
 #[test]
 fn a_key_that_is_not_fit(rt: HostRuntime) -> Result<(), Fail> {
     let alloc = rt.alloc();
-    let tree = four(alloc, Vec::new(alloc))?;
+    let mut tree = four(alloc)?;
+    tree.update(3, leaf(alloc, Vec::new(alloc)))?;
     assert!(rt; matches!(sealed(alloc, &tree, &[]), Err(TreeKemError::BadKey)));
     assert_eq!(rt; sealed(alloc, &tree, &[3])?.len(), 2);
     Ok(())

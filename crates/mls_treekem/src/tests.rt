@@ -1,11 +1,10 @@
 //! Secrets of paths, and the keys that a member has.
 
+use crate::members::{key_at, key_nodes, member};
 use crate::{PathSecrets, PrivatePath, TreeKemError};
 use mls_kdf::{Secret, derive_secret};
-use mls_leaf::{Bytes, Capabilities, Credential, Items, LeafNode, LeafSource};
 use mls_suite::{Glass, KeyPair, Suite};
 use mls_tree::PublicTree;
-use std::alloc::{AllocError, Global};
 use std::test::Fail;
 
 #[test]
@@ -31,22 +30,6 @@ fn new_path(rt: HostRuntime) -> Result<(), Fail> {
     Ok(())
 }
 
-/// The numbers of the nodes that it has keys of.
-pub(crate) fn key_nodes(alloc: Global, path: &PrivatePath) -> Result<Vec<u64>, AllocError> {
-    let mut nodes = Vec::new(alloc);
-    for (node, _) in path.keys()?.iter() {
-        nodes.push(*node)?;
-    }
-    Ok(nodes)
-}
-
-pub(crate) fn key_at(keys: &[(u64, Secret)], i: usize) -> Secret {
-    match keys.get(i) {
-        Some(key) => key.1,
-        None => [0; 32],
-    }
-}
-
 fn made_at(pairs: &[KeyPair], i: usize) -> Secret {
     match pairs.get(i) {
         Some(pair) => pair.sk,
@@ -69,35 +52,6 @@ fn keys_of_a_maker(rt: HostRuntime) -> Result<(), Fail> {
     assert_eq!(rt; key_at(&keys, 1), [1; 32]);
     assert_eq!(rt; key_at(&keys, 2), made_at(&made.pairs, 1));
     Ok(())
-}
-
-fn byte(alloc: Global, b: u8) -> Result<Bytes, AllocError> {
-    let mut bytes = Vec::new(alloc);
-    bytes.push(b)?;
-    Ok(Bytes::from_vec(bytes))
-}
-
-fn numbers(alloc: Global) -> Items<u16> {
-    Items::from_vec(Vec::new(alloc))
-}
-
-pub(crate) fn member(alloc: Global, key: u8) -> Result<LeafNode, AllocError> {
-    Ok(LeafNode {
-        encryption_key: byte(alloc, key)?,
-        signature_key: byte(alloc, key)?,
-        credential: Credential {
-            identity: byte(alloc, key)?,
-        },
-        capabilities: Capabilities {
-            versions: numbers(alloc),
-            cipher_suites: numbers(alloc),
-            extensions: numbers(alloc),
-            proposals: numbers(alloc),
-            credentials: numbers(alloc),
-        },
-        source: LeafSource::Update,
-        signature: byte(alloc, key)?,
-    })
 }
 
 #[test]

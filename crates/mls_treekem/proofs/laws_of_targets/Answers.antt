@@ -1,7 +1,9 @@
 use Rattle.mls_treekem.proofs.laws_of_targets.Goals as goal
-use Rattle.mls_term.specs.ResolutionLaws.{reached}
+use Rattle.mls_term.specs.ResolutionLaws.{reached, resolution_range}
+use Rattle.mls_term.specs.CountLaws.{resolution_distinct}
 use Rattle.mls_term.specs.EntryLaws.{one_filtered}
-use Rattle.mls_treekem.proofs.Lists.{in_range, all_distinct}
+use Rattle.mls_treekem.specs.Lists.{below_here}
+use Rattle.mls_treekem.proofs.Lists.{below_bound}
 use Rattle.mls_treekem.proofs.Entries.{key_where_held, one_entry, entry_key}
 use Rattle.mls_treekem.proofs.Getters.{pairs_in_order, pairs_found}
 
@@ -9,8 +11,8 @@ pub returns : goal.returns
 returns c =
     record {
       filled = reached;
-      in_place = in_range;
-      distinct = all_distinct;
+      in_place = λ b t d h. resolution_range below_here below_bound b t d h.below;
+      distinct = λ b t h. resolution_distinct below_here below_bound b t h.below h.rising;
       one_filtered = λ b t i j two. one_filtered b t i j two.first.low two.first.high two.second.low two.second.high two.apart;
       held = key_where_held;
       one_entry = one_entry;

@@ -1,11 +1,11 @@
 use Rattle.std.proofs.Common.{◌∙◌, ap}
 use Rattle.std.specs.List.{list_any}
 use Rattle.std.proofs.Common.{nat_eq}
-use Rattle.mls_treekem.proofs.Taking.{is_listed}
+use Rattle.mls_term.specs.SetLaws.{has-any}
 use Rattle.mls_treekem.proofs.take.lists.Goals as goal
 
 pub returns : goal.returns
 returns c =
     c.contains.ensures.value
     ∙ ap (list_any (λ y. nat_eq y c.args.leaf)) c.unmerged_leaves.ensures.entries
-    ∙ is_listed c.args.parent.now.unmerged_leaves c.args.leaf
+    ∙ has-any c.args.parent.now.unmerged_leaves c.args.leaf
