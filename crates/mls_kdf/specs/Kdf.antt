@@ -27,6 +27,10 @@ hmac key text = sha256 (padded_key 0x5c key ++ sha256 (padded_key 0x36 key ++ te
 
 -- ---- HKDF (RFC 5869, 2)
 
+-- the most bytes of one expansion, 255 hashes (RFC 5869, 2.3); MAX_OUTPUT in the code
+abbrev pub max_output : ℕ
+max_output = 8160
+
 -- HKDF-Extract: salt, input key material (RFC 5869, 2.2)
 unfoldable pub extract : List ℕ → List ℕ → List ℕ
 extract salt ikm = hmac salt ikm

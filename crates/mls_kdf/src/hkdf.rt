@@ -1,9 +1,8 @@
 //! HKDF (RFC 5869).
 
 ghost use Rattle.std.specs.Prelude.{◌≡◌, ℕ, ◌+◌, ◌-◌, ◌*◌, ◌<◌, ◌≤◌, ◌↔◌, [], ◌∷◌, ◌++◌, List, length, take, drop, IsErrOf, OnOk, OnErr};
-ghost use Rattle.mls_kdf.specs.Kdf.{joined, hmac, extract, expand, hkdf_block};
+ghost use Rattle.mls_kdf.specs.Kdf.{joined, hmac, extract, expand, hkdf_block, max_output};
 ghost use Rattle.mls_kdf.specs.Keyed.{IsKeyed};
-ghost use Rattle.mls_kdf.specs.declared.TheConstants.{MAX_OUTPUT};
 
 use crate::{KdfError, KeyedHash, MAX_OUTPUT, Secret, hmac};
 
@@ -38,7 +37,7 @@ fn put(out: &mut [u8], at: usize, block: &Secret)
 /// Fills `out` with a key made of `prk` and the pieces of `info`, one after another. More than 8,160
 /// bytes are refused with `OutputTooLong`, and `out` is as it was.
 pub fn expand(prk: &[u8], info: &[&[u8]], out: &mut [u8]) -> Result<(), KdfError>
-    ensures too_long { IsErrOf result KdfError.OutputTooLong ↔ (MAX_OUTPUT < length out.old) }
+    ensures too_long { IsErrOf result KdfError.OutputTooLong ↔ (max_output < length out.old) }
     ensures ok { OnOk result (out.new ≡ expand prk.now (joined info.now) (length out.old)) }
     ensures err { OnErr result (out.new ≡ out.old) }
 {

@@ -2,8 +2,7 @@
 //! context or a value less than 2^30.
 
 ghost use Rattle.std.specs.Prelude.{◌≡◌, ◌+◌, ◌<◌, ◌≤◌, ◌^◌, ◌↔◌, length, IsErrOf, OnOk, OnErr};
-ghost use Rattle.mls_kdf.specs.Kdf.{expand_with_label, derive_secret, ref_hash};
-ghost use Rattle.mls_kdf.specs.declared.TheConstants.{MAX_OUTPUT};
+ghost use Rattle.mls_kdf.specs.Kdf.{expand_with_label, derive_secret, ref_hash, max_output};
 
 use crate::{KdfError, MAX_OUTPUT, Secret, content_header, expand, hash};
 
@@ -20,7 +19,7 @@ pub fn expand_with_label(
 ) -> Result<(), KdfError>
     requires label { length label.now ≤ 200 }
     requires context { length context.now < 2 ^ 30 }
-    ensures too_long { IsErrOf result KdfError.OutputTooLong ↔ (MAX_OUTPUT < length out.old) }
+    ensures too_long { IsErrOf result KdfError.OutputTooLong ↔ (max_output < length out.old) }
     ensures ok { OnOk result (out.new ≡ expand_with_label secret.now label.now context.now (length out.old)) }
     ensures err { OnErr result (out.new ≡ out.old) }
 {

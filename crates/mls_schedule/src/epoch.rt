@@ -2,8 +2,7 @@
 //! 2^30.
 
 ghost use Rattle.std.specs.Prelude.{◌≡◌, ◌<◌, ◌≤◌, ◌^◌, ◌↔◌, length, IsErrOf, OnOk, OnErr};
-ghost use Rattle.mls_kdf.specs.Kdf.{expand_with_label};
-ghost use Rattle.mls_kdf.specs.declared.TheConstants.{MAX_OUTPUT};
+ghost use Rattle.mls_kdf.specs.Kdf.{expand_with_label, max_output};
 ghost use Rattle.mls_schedule.specs.Epoch.{joiner_secret, welcome_secret, next_welcome_secret, welcome_key, welcome_nonce, intermediate_secret, epoch_secret, next_epoch_secret, sender_data_secret, encryption_secret, exporter_secret, external_secret, confirmation_key, membership_key, resumption_psk, epoch_authenticator, init_secret, confirmation_tag, exported};
 
 use crate::ScheduleError;
@@ -225,7 +224,7 @@ impl Epoch {
     #[tactic(auto, unfolding(crate::specs::Epoch::exported))]
     pub fn export(&self, label: &str, context: &[u8], out: &mut [u8]) -> Result<(), ScheduleError>
         requires { length label.now ≤ 200 }
-        ensures too_long { IsErrOf result (ScheduleError.Kdf KdfError.OutputTooLong) ↔ (MAX_OUTPUT < length out.old) }
+        ensures too_long { IsErrOf result (ScheduleError.Kdf KdfError.OutputTooLong) ↔ (max_output < length out.old) }
         ensures ok { OnOk result (out.new ≡ exported self.now label.now context.now (length out.old)) }
         ensures err { OnErr result (out.new ≡ out.old) }
     {
