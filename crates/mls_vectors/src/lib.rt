@@ -17,7 +17,7 @@ use mls_text::{Fault, read_whole, refuse};
 use reading::{Vector, vectors_of};
 use report::report;
 use shape::VectorsError;
-use std::alloc::Global;
+use std::alloc::{AllocError, Global};
 use std::io::{Read, Write};
 use verdict::verdicts;
 
@@ -60,11 +60,14 @@ pub fn vectors<R: Read, W: Write>(alloc: Global, file: &mut R, out: &mut W) -> R
     judge_file(alloc, text.as_slice(), out)
 }
 
-/// `vectors` over memory.
-pub fn vectors_in_memory(alloc: Global, text: &[u8], out: &mut Vec<u8>) -> Result<u8, Fault>
+/// `vectors` over memory, whose only fault is want of memory.
+pub fn vectors_in_memory(alloc: Global, text: &[u8], out: &mut Vec<u8>) -> Result<u8, AllocError>
     ensures output { IfOk result (λ status. (out.new.items ≡ out.old.items ++ (vectors_output text.now).text) × (status ≡ (vectors_output text.now).status)) }
     ensures part { OnErr result ((done rest : List ℕ) × ((vectors_output text.now).text ≡ done ++ rest) × (out.new.items ≡ out.old.items ++ done)) }
 {
-    let mut reader = text;
-    vectors(alloc, &mut reader, out)
+    match judge_file(alloc, text, out) {
+        Ok(status) => Ok(status),
+        // Nothing is read, and a `Vec` refuses a write only for want of memory.
+        Err(_) => Err(AllocError),
+    }
 }
