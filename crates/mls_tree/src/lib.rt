@@ -11,6 +11,8 @@ mod checking;
 mod edits;
 mod error;
 #[cfg(test)]
+mod members;
+#[cfg(test)]
 mod path_tests;
 mod paths;
 #[cfg(test)]

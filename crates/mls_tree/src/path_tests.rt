@@ -1,45 +1,14 @@
+use crate::members::{byte, leaf, member};
 use crate::{PublicTree, TreeError};
 use mls_array as array;
-use mls_leaf::{
-    Bytes, Capabilities, Credential, Items, LeafNode, LeafSource, Node, parent_hash_input,
-};
+use mls_leaf::{Bytes, LeafNode, LeafSource, Node, parent_hash_input};
 use std::alloc::{AllocError, Global};
 use std::test::*;
 
-fn byte(alloc: Global, b: u8) -> Result<Bytes, AllocError> {
-    let mut bytes = Vec::new(alloc);
-    bytes.push(b)?;
-    Ok(Bytes::from_vec(bytes))
-}
-
-fn numbers(alloc: Global) -> Items<u16> {
-    Items::from_vec(Vec::new(alloc))
-}
-
-/// A leaf with this byte as its encryption key.
-fn leaf(alloc: Global, key: u8, source: LeafSource) -> Result<LeafNode, AllocError> {
-    Ok(LeafNode {
-        encryption_key: byte(alloc, key)?,
-        signature_key: byte(alloc, key)?,
-        credential: Credential {
-            identity: byte(alloc, key)?,
-        },
-        capabilities: Capabilities {
-            versions: numbers(alloc),
-            cipher_suites: numbers(alloc),
-            extensions: numbers(alloc),
-            proposals: numbers(alloc),
-            credentials: numbers(alloc),
-        },
-        source,
-        signature: byte(alloc, key)?,
-    })
-}
-
 /// Two members, with the keys 1 and 2.
 fn two(alloc: Global) -> Result<PublicTree, TreeError> {
-    let mut tree = PublicTree::single(alloc, leaf(alloc, 1, LeafSource::Update)?)?;
-    tree.add(leaf(alloc, 2, LeafSource::Update)?)?;
+    let mut tree = PublicTree::single(alloc, member(alloc, 1)?)?;
+    tree.add(member(alloc, 2)?)?;
     Ok(tree)
 }
 
@@ -107,8 +76,8 @@ fn paths_that_are_refused(rt: HostRuntime) -> Result<(), Fail> {
 /// The members that are numbered so, each with its number plus one as its key, in a tree of four leaves.
 fn four_without(alloc: Global, blank: &[u32]) -> Result<PublicTree, TreeError> {
     let mut tree = two(alloc)?;
-    tree.add(leaf(alloc, 3, LeafSource::Update)?)?;
-    tree.add(leaf(alloc, 4, LeafSource::Update)?)?;
+    tree.add(member(alloc, 3)?)?;
+    tree.add(member(alloc, 4)?)?;
     for i in blank {
         tree.remove(*i)?;
     }
@@ -133,7 +102,7 @@ fn the_next_add_is_listed(rt: HostRuntime) -> Result<(), Fail> {
     assert_eq!(rt; merged(alloc, &mut tree, 0)?, 32);
     assert!(rt; tree.node(1).is_none());
     assert_eq!(rt; tree.resolution(3)?.as_slice(), [3].as_slice());
-    assert_eq!(rt; tree.add(leaf(alloc, 7, LeafSource::Update)?)?, 1);
+    assert_eq!(rt; tree.add(member(alloc, 7)?)?, 1);
     assert_eq!(rt; tree.resolution(3)?.as_slice(), [3, 2].as_slice());
     assert_eq!(rt; tree.resolution(1)?.as_slice(), [0, 2].as_slice());
     assert!(rt; tree.node(5).is_none());
@@ -163,7 +132,7 @@ fn the_highest_filtered_node_is_below_the_root(rt: HostRuntime) -> Result<(), Fa
 
 /// The number that a path of the one member is refused with, whose leaf has this parent hash, or 0.
 fn alone(alloc: Global, parent_hash: &[u8], keys: Vec<Bytes>) -> Result<u8, TreeError> {
-    let mut tree = PublicTree::single(alloc, leaf(alloc, 1, LeafSource::Update)?)?;
+    let mut tree = PublicTree::single(alloc, member(alloc, 1)?)?;
     let parent_hash = Bytes::from_vec(parent_hash.to_vec(alloc)?);
     let new = leaf(alloc, 2, LeafSource::Commit { parent_hash })?;
     match tree.merge_path(0, new, keys) {

@@ -1,37 +1,8 @@
+use crate::members::{byte, member};
 use crate::{PublicTree, TreeError};
-use mls_leaf::{Bytes, Capabilities, Credential, Items, LeafNode, LeafSource, Node, ParentNode};
+use mls_leaf::{Items, Node, ParentNode};
 use std::alloc::{AllocError, Global};
 use std::test::*;
-
-fn numbers(alloc: Global) -> Items<u16> {
-    Items::from_vec(Vec::new(alloc))
-}
-
-fn byte(alloc: Global, b: u8) -> Result<Bytes, AllocError> {
-    let mut bytes = Vec::new(alloc);
-    bytes.push(b)?;
-    Ok(Bytes::from_vec(bytes))
-}
-
-/// A leaf with this byte as its encryption key.
-fn leaf(alloc: Global, key: u8) -> Result<LeafNode, AllocError> {
-    Ok(LeafNode {
-        encryption_key: byte(alloc, key)?,
-        signature_key: byte(alloc, key)?,
-        credential: Credential {
-            identity: byte(alloc, key)?,
-        },
-        capabilities: Capabilities {
-            versions: numbers(alloc),
-            cipher_suites: numbers(alloc),
-            extensions: numbers(alloc),
-            proposals: numbers(alloc),
-            credentials: numbers(alloc),
-        },
-        source: LeafSource::Update,
-        signature: byte(alloc, key)?,
-    })
-}
 
 /// The nodes of a tree, up to the last leaf that is taken: its leaves as listed.
 fn nodes_of(alloc: Global, taken: &[bool]) -> Result<Vec<Option<Node>>, AllocError> {
@@ -41,7 +12,7 @@ fn nodes_of(alloc: Global, taken: &[bool]) -> Result<Vec<Option<Node>>, AllocErr
             nodes.push(None)?;
         }
         if *is_taken {
-            nodes.push(Some(Node::Leaf(leaf(alloc, 1)?)))?;
+            nodes.push(Some(Node::Leaf(member(alloc, 1)?)))?;
         } else {
             nodes.push(None)?;
         }
@@ -80,8 +51,8 @@ fn adds_go_to_the_leftmost_blank_leaf(rt: HostRuntime) -> Result<(), Fail> {
     let mut tree = tree_of(alloc, &[true, false, true, true])?;
     assert_eq!(rt; tree.filtered_path(0)?.as_slice(), [3].as_slice());
     assert!(rt; matches!(tree.filtered_path(1), Err(TreeError::NoSuchLeaf)));
-    assert_eq!(rt; tree.add(leaf(alloc, 2)?)?, 1);
-    assert_eq!(rt; tree.add(leaf(alloc, 3)?)?, 4);
+    assert_eq!(rt; tree.add(member(alloc, 2)?)?, 1);
+    assert_eq!(rt; tree.add(member(alloc, 3)?)?, 4);
     assert_eq!(rt; (tree.leaf_count(), tree.member_count()), (8, 5));
     Ok(())
 }
@@ -120,12 +91,12 @@ fn shapes_that_no_tree_has(rt: HostRuntime) -> Result<(), Fail> {
 #[test]
 fn a_full_tree(rt: HostRuntime) -> Result<(), Fail> {
     let alloc = rt.alloc();
-    let mut tree = PublicTree::single(alloc, leaf(alloc, 0)?)?;
+    let mut tree = PublicTree::single(alloc, member(alloc, 0)?)?;
     for _ in 1..4096 {
-        tree.add(leaf(alloc, 0)?)?;
+        tree.add(member(alloc, 0)?)?;
     }
     assert_eq!(rt; (tree.leaf_count(), tree.member_count()), (4096, 4096));
-    assert!(rt; matches!(tree.add(leaf(alloc, 0)?), Err(TreeError::TreeFull)));
+    assert!(rt; matches!(tree.add(member(alloc, 0)?), Err(TreeError::TreeFull)));
     assert_eq!(rt; (tree.leaf_count(), tree.member_count()), (4096, 4096));
     assert_eq!(rt; tree.to_nodes()?.len(), 8191);
     Ok(())
