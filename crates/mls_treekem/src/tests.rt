@@ -71,6 +71,20 @@ fn keys_of_a_maker(rt: HostRuntime) -> Result<(), Fail> {
     Ok(())
 }
 
+#[test]
+fn a_copy_has_the_same_keys(rt: HostRuntime) -> Result<(), Fail> {
+    let mut path = PrivatePath::new(rt.alloc(), 1, [1; 32]);
+    let made = path.make_path::<Glass>(&[7; 32], &[1, 3])?;
+    let copy = path.clone()?;
+    assert_eq!(rt; copy.leaf(), 1);
+    assert_eq!(rt;
+        key_nodes(rt.alloc(), &copy)?.as_slice(),
+        [1, 2, 3].as_slice()
+    );
+    assert_eq!(rt; key_at(&copy.keys()?, 2), made_at(&made.pairs, 1));
+    Ok(())
+}
+
 fn byte(alloc: Global, b: u8) -> Result<Bytes, AllocError> {
     let mut bytes = Vec::new(alloc);
     bytes.push(b)?;
