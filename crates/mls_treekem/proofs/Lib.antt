@@ -22,5 +22,6 @@ pub mod Raised
 pub mod Followed
 pub mod Opened
 pub mod Taking
+pub mod Due
 pub mod Beside
 pub mod Sent

@@ -8,7 +8,7 @@ ghost use Rattle.mls_treekem.specs.Laws.{RightAreBelow, BelowPut, BelowEnter, Be
 ghost use Rattle.mls_treekem.specs.Laws.{ResolutionFilled, ResolutionInPlace, ResolutionDistinct, OneFiltered, KeyWhereHeld, OneEntry, EntryKey, PairsInOrder, PairsFound};
 ghost use Rattle.mls_treekem.specs.Laws.{ClimbIsChain, KeysAreChain, KeysOfSecrets, CountIsLength, MakingClimbs, MakeExact, MadePath, PathMade, PathHasKeys, MakeMerged, SealMerged, PathMerged};
 ghost use Rattle.mls_treekem.specs.Laws.{OpenMerged, ClimbExact, ClimbAgree, CommitAgree};
-ghost use Rattle.mls_treekem.specs.Laws.{TakeExact, TakeInside, TakeAgree, JoinAgree, EnteredLists, TameLists};
+ghost use Rattle.mls_treekem.specs.Laws.{TakeExact, TakeInside, LeafHasDue, LeafExact, TakeAgree, JoinAgree, EnteredLists, TameLists};
 ghost use Rattle.mls_treekem.specs.Whole.{FollowsUpdate, FollowsRemove, FollowsAdd, AddedIsListed, AddKeepsListed};
 ghost use Rattle.mls_treekem.specs.Examples.{SecretOfOne, SecretOfFour, PathOfFour, TargetsOfFour, KeysOfMaker, KeysBeside, KeysAcross, TargetsBesideAdded};
 ghost use Rattle.mls_treekem.specs.Whole.{SealedKeys, SealedWhereFit, RefusedWhereUnfit, SealedMerged, OpenedMerged, MadeExact, MadeMerged, LengthMerged, OpenedExact, OpenedAgrees, TakenAgrees, SecretForMerged};
@@ -114,6 +114,8 @@ pub fn laws_of_receiving()
 pub fn laws_of_joining()
     ensures exact { TakeExact }
     ensures inside { TakeInside }
+    ensures leaf_due { LeafHasDue }
+    ensures leaf_exact { LeafExact }
     ensures agree { TakeAgree }
     ensures commit { JoinAgree }
     ensures entered { EnteredLists }
