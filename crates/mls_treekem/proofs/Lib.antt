@@ -14,6 +14,7 @@ pub mod Receiving
 pub mod Joining
 pub mod Commits
 pub mod Wholes
+pub mod Members
 pub mod Examples
 pub mod Chains
 pub mod Levels
