@@ -6,6 +6,7 @@ pub mod Heights
 pub mod Making
 pub mod Merged
 pub mod Sealing
+pub mod Fitted
 pub mod Lists
 pub mod Below
 pub mod Entries

@@ -1,5 +1,6 @@
 -- The laws of a member's private keys in whole trees, as calls on them need them.
 use Rattle.std.specs.Prelude.{◌≡◌, ℕ, true, false, List, map, length, reverse, Some, IsSome, Ok, Err}
+use Rattle.std.specs.List.{list_all}
 use Rattle.mls_group.specs.declared.update_path.UpdatePathNode.{UpdatePathNode}
 use Rattle.mls_leaf.specs.declared.leaf.LeafNode.{LeafNode}
 use Rattle.mls_suite.specs.Crypto.{Crypto, Lawful}
@@ -7,8 +8,9 @@ use Rattle.mls_term.specs.Sets.{has}
 use Rattle.mls_term.specs.Term.{Term, leaf_at}
 use Rattle.mls_term.specs.Way.{way, filtered_way, filtered_path, path_length}
 use Rattle.mls_term.specs.Edits.{place_in, add, update, remove}
+use Rattle.mls_term.specs.Keys.{encryption_keys}
 use Rattle.mls_term.specs.Merge.{merge_path}
-use Rattle.mls_term.specs.Laws.{IsIn}
+use Rattle.mls_term.specs.Laws.{IsIn, HasLists}
 use Rattle.mls_treekem.specs.Chain.{chain, path_secrets, node_public}
 use Rattle.mls_treekem.specs.Keys.{Keys, Exact}
 use Rattle.mls_treekem.specs.Follow.{Follows}
@@ -58,6 +60,10 @@ SealedWhereFit = (c : Crypto) → Lawful c → (context : List ℕ) (added : Lis
 
 abbrev pub RefusedWhereUnfit : Type 0
 RefusedWhereUnfit = (c : Crypto) → Lawful c → (context : List ℕ) (added : List ℕ) (rnd : ℕ → List ℕ) (t : Term) (i : ℕ) (start : List ℕ) → targets_fit c added (way 0 t i) ≡ false → sealed_path c context added rnd t i start ≡ Err 36
+
+-- so in a tree of right lists and fit keys one is made
+abbrev pub FitTargets : Type 0
+FitTargets = (c : Crypto) (added : List ℕ) (t : Term) (i : ℕ) → HasLists 0 t → list_all c.key_ok (encryption_keys t) ≡ true → targets_fit c added (way 0 t i) ≡ true
 
 -- it is sealed and opened in the tree before it is merged and after, alike
 abbrev pub SealedMerged : Type 0

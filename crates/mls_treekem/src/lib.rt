@@ -12,7 +12,7 @@ ghost use Rattle.mls_treekem.specs.Laws.{TakeExact, TakeInside, LeafHasDue, Leaf
 ghost use Rattle.mls_treekem.specs.Whole.{FollowsUpdate, FollowsRemove, FollowsAdd, AddedIsListed, AddKeepsListed};
 ghost use Rattle.mls_treekem.specs.Examples.{SecretOfOne, SecretOfFour, PathOfFour, TargetsOfFour, KeysOfMaker, KeysBeside, KeysAcross, TargetsBesideAdded};
 ghost use Rattle.mls_treekem.specs.Members.{ExactWhole, ExactMade, ExactFollowed, ExactUpdated, ExactOpened, ExactTaken, ExactAlone};
-ghost use Rattle.mls_treekem.specs.Whole.{SealedKeys, SealedLengths, SealedWhereFit, RefusedWhereUnfit, SealedMerged, OpenedMerged, MadeExact, MadeMerged, LengthMerged, FilteredMerged, OpenedExact, OpenedAgrees, TakenAgrees, SecretForMerged};
+ghost use Rattle.mls_treekem.specs.Whole.{SealedKeys, SealedLengths, SealedWhereFit, RefusedWhereUnfit, FitTargets, SealedMerged, OpenedMerged, MadeExact, MadeMerged, LengthMerged, FilteredMerged, OpenedExact, OpenedAgrees, TakenAgrees, SecretForMerged};
 
 mod climb;
 mod error;
@@ -138,6 +138,7 @@ pub fn laws_of_paths()
     ensures lengths { SealedLengths }
     ensures fit { SealedWhereFit }
     ensures unfit { RefusedWhereUnfit }
+    ensures fit_targets { FitTargets }
     ensures seal_merged { SealedMerged }
     ensures open_merged { OpenedMerged }
     ensures made_exact { MadeExact }
