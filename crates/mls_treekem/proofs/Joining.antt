@@ -1,5 +1,5 @@
 -- What a joiner takes: exact keys whatever comes, and the committer's secrets where the path is made.
-use Rattle.std.proofs.Common.{◌≡◌, ℕ, ◌+◌, ◌<◌, ◌≤◌, Bool, true, false, not, ◌&&◌, ◌==◌, if◌then◌else◌, List, [], ◌∷◌, Option, Some, None, Result, Ok, Err, refl, ap, sym, ◌∙◌, subst, inl, inr, arith, eq-eqb}
+use Rattle.std.proofs.Common.{◌≡◌, ℕ, ◌+◌, ◌<◌, ◌≤◌, ◌↔◌, Bool, true, false, not, ◌&&◌, ◌||◌, ◌==◌, if◌then◌else◌, List, [], ◌∷◌, Option, Some, None, Result, Ok, Err, refl, ap, sym, ◌∙◌, subst, inl, inr, arith, eq-eqb}
 use Rattle.std.specs.Str.{bytes_eq}
 use Rattle.std.proofs.lemmas.Slice.Eq.{bytes_eq-Decides}
 use Rattle.std.proofs.lemmas.Bool.{and_parts, cases_lt, or_right}
@@ -20,11 +20,12 @@ use Rattle.mls_term.specs.MergeLaws.{width-merge}
 use Rattle.mls_suite.specs.Crypto.{Crypto}
 use Rattle.mls_treekem.specs.Chain.{next_secret, chain, node_key, node_public}
 use Rattle.mls_treekem.specs.Keys.{Keys, HoldsKey, Fits, Along, AlongWay, Exact, leaf_only}
-use Rattle.mls_treekem.specs.Follow.{TameAt, TameAlong}
+use Rattle.mls_treekem.specs.Follow.{TameAt, TameAlong, on_way}
 use Rattle.mls_treekem.specs.Make.{Climb, one_if, filtered_count, secret_above, key_if, made_keys, climb_make, more_if, path_keys}
 use Rattle.mls_treekem.specs.Seal.{Choose}
 use Rattle.mls_treekem.specs.Open.{shared}
 use Rattle.mls_treekem.specs.Join.{past_present, is_present, climb_take, is_due, is_complete, take_keys, ListsAt, AllList, secret_for}
+use Rattle.mls_treekem.proofs.Heights.{leaf_is_on_way}
 use Rattle.mls_treekem.proofs.Meets.{Meets, meets_from, along_from}
 use Rattle.mls_treekem.proofs.Making.{merged_way, way_merge}
 use Rattle.mls_treekem.proofs.Receiving.{bind_ok, beside_filtered}
@@ -120,6 +121,37 @@ take_exact c t i j x sk secret m hi hj ne leaf own e =
         let q : z ≡ m = cc in
         subst (λ (w : Climb). Exact c 0 t j w.keys) q (exact_from c j (way 0 t j) (leaf_at 0 t j) z.keys h f)
     by_test z false f e h = cc
+
+-- ---- without a path secret
+
+here_due : (j : ℕ) (p : Option Parent) → ListsAt j p → is_due j p None ≡ true
+here_due j None l = refl
+here_due j (Some p) l = rw l refl
+
+due_here : (j : ℕ) (p : Option Parent) → is_due j p None ≡ true → ListsAt j p
+due_here j None d = tt
+due_here j (Some p) d = or_none (has p.unmerged_leaves j) d
+
+listed_due : (j : ℕ) (ss : List Step) (sk : List ℕ) → AllList j ss → is_complete j ss (leaf_only ss sk) ≡ true
+unfolding AllList is_complete leaf_only
+listed_due j [] sk a = refl
+listed_due j (s ∷ ss) sk a = let e = here_due j s.parent a.0 in rw e (listed_due j ss sk a.1)
+
+due_listed : (j : ℕ) (ss : List Step) (sk : List ℕ) → is_complete j ss (leaf_only ss sk) ≡ true → AllList j ss
+unfolding AllList is_complete leaf_only
+due_listed j [] sk d = tt
+due_listed j (s ∷ ss) sk d =
+    let e = and_parts (is_due j s.parent None) (is_complete j ss (leaf_only ss sk)) d in
+    (due_here j s.parent e.0, due_listed j ss sk e.1)
+
+pub leaf_due : (j : ℕ) (ss : List Step) (sk : List ℕ) → (is_complete j ss (on_way ss (Some sk ∷ [])) ≡ true) ↔ AllList j ss
+leaf_due j ss sk = subst (λ (ks : Keys). (is_complete j ss ks ≡ true) ↔ AllList j ss) (sym (leaf_is_on_way ss sk)) (due_listed j ss sk, listed_due j ss sk)
+
+pub leaf_exact : (c : Crypto) (t : Term) (j : ℕ) (x : LeafNode) (sk : List ℕ) → leaf_at 0 t j ≡ Some x → c.public sk ≡ x.encryption_key → is_complete j (way 0 t j) (on_way (way 0 t j) (Some sk ∷ [])) ≡ true → Exact c 0 t j (on_way (way 0 t j) (Some sk ∷ []))
+leaf_exact c t j x sk leaf own =
+    let sound : AlongWay c (Sound c j) 0 t j (leaf_only (way 0 t j) sk) = rw leaf (own_sound c j (way 0 t j) x sk own) in
+    subst (λ (ks : Keys). is_complete j (way 0 t j) ks ≡ true → Exact c 0 t j ks) (sym (leaf_is_on_way (way 0 t j) sk))
+    (exact_from c j (way 0 t j) (leaf_at 0 t j) (leaf_only (way 0 t j) sk) sound)
 
 -- ---- a tree that was made
 

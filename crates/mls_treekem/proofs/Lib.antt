@@ -6,6 +6,7 @@ pub mod Heights
 pub mod Making
 pub mod Merged
 pub mod Sealing
+pub mod Fitted
 pub mod Lists
 pub mod Below
 pub mod Entries
@@ -14,6 +15,7 @@ pub mod Receiving
 pub mod Joining
 pub mod Commits
 pub mod Wholes
+pub mod Members
 pub mod Examples
 pub mod Chains
 pub mod Levels
@@ -22,5 +24,6 @@ pub mod Raised
 pub mod Followed
 pub mod Opened
 pub mod Taking
+pub mod Due
 pub mod Beside
 pub mod Sent

@@ -1,14 +1,15 @@
 -- The laws in whole trees.
-use Rattle.std.proofs.Common.{◌≡◌, ℕ, true, false, List, [], ◌∷◌, ◌++◌, map, reverse, length, Option, Some, None, is_some, IsSome, Ok, Err, refl, ap, sym, ◌∙◌, subst, arith}
+use Rattle.std.proofs.Common.{◌≡◌, ℕ, suc, Bool, true, false, if◌then◌else◌, List, [], ◌∷◌, ◌++◌, map, filter, reverse, length, Option, Some, None, is_some, IsSome, Ok, Err, refl, ap, ap₂, sym, ◌∙◌, subst, arith}
 use Rattle.std.specs.Option.{option_map}
 use Rattle.std.proofs.lemmas.Bool.{true≢false}
 use Rattle.std.proofs.lemmas.List.{reverse-reverse, reverse-append}
 use Rattle.mls_wire.specs.Checks.{given}
+use Rattle.mls_group.specs.declared.update_path.HpkeCiphertext.{HpkeCiphertext}
 use Rattle.mls_group.specs.declared.update_path.UpdatePathNode.{UpdatePathNode}
 use Rattle.mls_leaf.specs.declared.leaf.LeafNode.{LeafNode}
 use Rattle.mls_term.specs.Sets.{has}
 use Rattle.mls_term.specs.Term.{Term, height, blanks, leaf_at}
-use Rattle.mls_term.specs.Way.{Step, way, path_length}
+use Rattle.mls_term.specs.Way.{Step, way, is_filtered, filtered_way, filtered_path, path_length}
 use Rattle.mls_term.specs.Edits.{put, enter, grow, trim, first_blank, place_for, room_for, place_in, add, update, remove}
 use Rattle.mls_term.specs.Merge.{merge, merge_path, keys_beside, hash_beside}
 use Rattle.mls_term.specs.Equations.{way_left}
@@ -17,18 +18,18 @@ use Rattle.mls_term.specs.ShapeLaws.{width-put}
 use Rattle.mls_term.specs.PlaceLaws.{first_blank_at, width-grow}
 use Rattle.mls_suite.specs.Crypto.{Crypto, Lawful}
 use Rattle.mls_treekem.specs.Chain.{chain, chain_keys}
-use Rattle.mls_treekem.specs.Keys.{Keys, Exact}
+use Rattle.mls_treekem.specs.Keys.{Keys, Exact, rest}
 use Rattle.mls_treekem.specs.Follow.{Tame, Follows}
-use Rattle.mls_treekem.specs.Make.{Climb, filtered_count, made_keys, path_keys}
+use Rattle.mls_treekem.specs.Make.{Climb, filtered_count, secret_above, made_keys, path_keys}
 use Rattle.mls_treekem.specs.Lists.{ListsBelow}
-use Rattle.mls_treekem.specs.Seal.{sealed_path, seal_along, targets_fit, IsPathOf}
+use Rattle.mls_treekem.specs.Seal.{Choose, targets, sealed_path, seal_along, targets_fit, IsSealedToAll, IsNodeFor, IsPathOf}
 use Rattle.mls_treekem.specs.Open.{opened_path, climb_open}
 use Rattle.mls_treekem.specs.Join.{take_keys, AllList, secret_for}
 use Rattle.mls_treekem.specs.Laws.{AreTwo}
 use Rattle.mls_treekem.specs.Whole.{keys_of_path}
 use Rattle.mls_treekem.proofs.Following.{tame_refl, tame_put, tame_enter}
 use Rattle.mls_treekem.proofs.OnePass.{follows_trans, follows_tame, follows_grow, follows_trim}
-use Rattle.mls_treekem.proofs.Making.{map-append, merged_way, way_merge, keys_are_chain, keys_of_secrets, count_is_length, make_exact}
+use Rattle.mls_treekem.proofs.Making.{map-append, merged_step, merged_way, way_merge, keys_are_chain, keys_of_secrets, count_is_length, make_exact}
 use Rattle.mls_treekem.proofs.Merged.{secret_along, make_merged, count_along, seal_merged, open_merged, path_has_keys}
 use Rattle.mls_treekem.proofs.Sealing.{made_path, path_some}
 use Rattle.mls_treekem.proofs.Receiving.{climb_exact, climb_agree}
@@ -145,6 +146,35 @@ sealed_keys c context added rnd t i start path h =
     ∙ ap reverse (p ∙ sym (reversed_keys c t i start))
     ∙ reverse-reverse (keys_of_path c t i start)
 
+-- a ciphertext for each node
+all_sealed : (c : Crypto) (context secret : List ℕ) (b : ℕ) (t : Term) (ds : List ℕ) (xs : List HpkeCiphertext) → IsSealedToAll c context secret b t ds xs → length xs ≡ length ds
+unfolding IsSealedToAll
+all_sealed c context secret b t [] [] p = refl
+all_sealed c context secret b t [] (x ∷ xs) p = absurd p
+all_sealed c context secret b t (d ∷ ds) [] p = absurd p
+all_sealed c context secret b t (d ∷ ds) (x ∷ xs) p = ap suc (all_sealed c context secret b t ds xs p.1)
+
+path_lengths : (c : Crypto) (context : List ℕ) (added : List ℕ) (start : List ℕ) (ss : List Step) (ns : List UpdatePathNode) → IsPathOf c context added ss start ns → map (λ n. length n.ciphertexts) ns ≡ map (λ s. length (targets added s)) (filter is_filtered ss)
+unfolding IsPathOf
+path_lengths c context added start [] ns p = ap (λ zs. map (λ (n : UpdatePathNode). length n.ciphertexts) zs) p
+path_lengths c context added start (s ∷ ss) ns p = by_test (is_filtered s) ns p (path_lengths c context added start ss)
+  where
+    by_test : (t : Bool) (ns : List UpdatePathNode) →
+        Choose t (IsNodeFor c context added s (secret_above ss start) ns × IsPathOf c context added ss start (rest ns)) (IsPathOf c context added ss start ns) →
+        ((ns : List UpdatePathNode) → IsPathOf c context added ss start ns → map (λ n. length n.ciphertexts) ns ≡ map (λ s. length (targets added s)) (filter is_filtered ss)) →
+        map (λ n. length n.ciphertexts) ns ≡ map (λ s. length (targets added s)) (if t then s ∷ filter is_filtered ss else filter is_filtered ss)
+    by_test true [] p rec = absurd p.0
+    by_test true (n ∷ ns) p rec = ap₂ (λ k ks. k ∷ ks) (all_sealed c context (secret_above ss start) s.first s.other (targets added s) n.ciphertexts p.0.1) (rec ns p.1)
+    by_test false ns p rec = rec ns p
+
+pub sealed_lengths : (c : Crypto) (context : List ℕ) (added : List ℕ) (rnd : ℕ → List ℕ) (t : Term) (i : ℕ) (start : List ℕ) (path : List UpdatePathNode) → sealed_path c context added rnd t i start ≡ Ok path → map (λ n. length n.ciphertexts) path ≡ reverse (map (λ s. length (targets added s)) (filtered_way 0 t i))
+unfolding filtered_way
+sealed_lengths c context added rnd t i start path h =
+    let s = sealed_is c context added rnd t i start path h in
+    ap (map (λ (n : UpdatePathNode). length n.ciphertexts)) s.turned
+    ∙ map-reverse (λ (n : UpdatePathNode). length n.ciphertexts) s.nodes
+    ∙ ap reverse (path_lengths c context added start (way 0 t i) s.nodes (made_path c context added rnd (way 0 t i) start s.nodes s.sealed))
+
 is_there : {A : Type 0} (o : Option A) → is_some o ≡ true → (x : A) × (o ≡ Some x)
 is_there (Some x) h = (x, refl)
 is_there None h = cc
@@ -186,6 +216,24 @@ length_merged t i x keys =
     ∙ ap filtered_count (way_merge 0 t i (reverse keys) [] x)
     ∙ count_along (way 0 t i) (reverse keys) []
     ∙ count_is_length 0 t i
+
+filtered_more : (t : Bool) (s s' : Step) (xs ys : List Step) → s'.node ≡ s.node → map (λ (z : Step). z.node) xs ≡ map (λ (z : Step). z.node) ys → map (λ (z : Step). z.node) (if t then s' ∷ xs else xs) ≡ map (λ (z : Step). z.node) (if t then s ∷ ys else ys)
+filtered_more true s s' xs ys e f = ap₂ (λ n ns. n ∷ ns) e f
+filtered_more false s s' xs ys e f = f
+
+filtered_along : (ss : List Step) (ms : List (List ℕ)) (h : List ℕ) → map (λ (z : Step). z.node) (filter is_filtered (merged_way ss ms h)) ≡ map (λ (z : Step). z.node) (filter is_filtered ss)
+unfolding merged_way
+filtered_along [] ms h = refl
+filtered_along (s ∷ ss) ms h =
+    let ms' : List (List ℕ) = keys_beside s.first s.other ms in
+    let h' : List ℕ = hash_beside s.first s.other ms h in
+    filtered_more (is_filtered s) s (merged_step s ms h) (filter is_filtered (merged_way ss ms' h')) (filter is_filtered ss) refl (filtered_along ss ms' h')
+
+pub filtered_merged : (t : Term) (i : ℕ) (x : LeafNode) (keys : List (List ℕ)) → filtered_path 0 (merge_path t i x keys) i ≡ filtered_path 0 t i
+unfolding filtered_path filtered_way merge_path
+filtered_merged t i x keys =
+    ap (λ ss. reverse (map (λ (z : Step). z.node) (filter is_filtered ss))) (way_merge 0 t i (reverse keys) [] x)
+    ∙ ap reverse (filtered_along (way 0 t i) (reverse keys) [])
 
 pub opened_exact : (c : Crypto) (context : List ℕ) (added : List ℕ) (t : Term) (i j : ℕ) (x : LeafNode) (ks : Keys) (path : List UpdatePathNode) (m : Climb) → AreTwo 0 t i j → Exact c 0 t j ks → opened_path c context added t i j ks path ≡ Ok m → Exact c 0 (merge_path t i x (map (λ n. n.encryption_key) path)) j m.keys
 unfolding opened_path merge_path

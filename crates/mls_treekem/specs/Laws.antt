@@ -1,5 +1,5 @@
 -- The laws of a member's private keys.
-use Rattle.std.specs.Prelude.{◌≡◌, ℕ, ◌+◌, ◌*◌, ◌≤◌, true, false, nat_eq, List, [], ◌∷◌, map, filter, length, reverse, Option, Some, None, is_some, IsSome, Ok, ◌<◌}
+use Rattle.std.specs.Prelude.{◌≡◌, ℕ, ◌+◌, ◌*◌, ◌≤◌, ◌↔◌, true, false, nat_eq, List, [], ◌∷◌, map, filter, length, reverse, Option, Some, None, is_some, IsSome, Ok, ◌<◌}
 use Rattle.mls_group.specs.declared.update_path.UpdatePathNode.{UpdatePathNode}
 use Rattle.mls_leaf.specs.declared.leaf.LeafNode.{LeafNode}
 use Rattle.mls_suite.specs.Crypto.{Crypto, Lawful}
@@ -19,7 +19,7 @@ use Rattle.mls_treekem.specs.Make.{Climb, filtered_count, climb_make, climb_past
 use Rattle.mls_treekem.specs.Lists.{ListsBelow}
 use Rattle.mls_treekem.specs.Seal.{IsPathOf, seal_along, targets_fit}
 use Rattle.mls_treekem.specs.Open.{climb_open, shared, held_count}
-use Rattle.mls_treekem.specs.Join.{take_keys, take_answer, AllList, secret_for}
+use Rattle.mls_treekem.specs.Join.{is_complete, take_keys, take_answer, AllList, secret_for}
 use Rattle.mls_treekem.specs.Pairs.{pairs, find_key, IsInOrder}
 
 -- two leaves of a tree
@@ -231,6 +231,14 @@ TakeExact = (c : Crypto) (t : Term) (i j : ℕ) (x : LeafNode) (sk secret : List
 -- a call with a signer of the tree answers just that
 abbrev pub TakeInside : Type 0
 TakeInside = (c : Crypto) (t : Term) (i j : ℕ) (sk secret : List ℕ) → IsIn 0 t i → take_answer c t i j sk secret ≡ take_keys c t i j sk secret
+
+-- without a path secret: a joiner that has its leaf's key alone has all that is due exactly where each parent over it
+-- lists it, and then its keys are exact
+abbrev pub LeafHasDue : Type 0
+LeafHasDue = (j : ℕ) (ss : List Step) (sk : List ℕ) → (is_complete j ss (on_way ss (Some sk ∷ [])) ≡ true) ↔ AllList j ss
+
+abbrev pub LeafExact : Type 0
+LeafExact = (c : Crypto) (t : Term) (j : ℕ) (x : LeafNode) (sk : List ℕ) → leaf_at 0 t j ≡ Some x → c.public sk ≡ x.encryption_key → is_complete j (way 0 t j) (on_way (way 0 t j) (Some sk ∷ [])) ≡ true → Exact c 0 t j (on_way (way 0 t j) (Some sk ∷ []))
 
 -- in a tree with a path that was made, a joiner that the parents over it list takes the committer's commit secret and keys
 abbrev pub TakeAgree : Type 0

@@ -19,3 +19,4 @@ pub mod Climbing
 pub mod Opening
 pub mod Beside
 pub mod Seeds
+pub mod Members

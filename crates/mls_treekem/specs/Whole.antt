@@ -1,20 +1,22 @@
 -- The laws of a member's private keys in whole trees, as calls on them need them.
-use Rattle.std.specs.Prelude.{◌≡◌, ℕ, true, false, List, map, length, Some, IsSome, Ok, Err}
+use Rattle.std.specs.Prelude.{◌≡◌, ℕ, true, false, List, map, length, reverse, Some, IsSome, Ok, Err}
+use Rattle.std.specs.List.{list_all}
 use Rattle.mls_group.specs.declared.update_path.UpdatePathNode.{UpdatePathNode}
 use Rattle.mls_leaf.specs.declared.leaf.LeafNode.{LeafNode}
 use Rattle.mls_suite.specs.Crypto.{Crypto, Lawful}
 use Rattle.mls_term.specs.Sets.{has}
 use Rattle.mls_term.specs.Term.{Term, leaf_at}
-use Rattle.mls_term.specs.Way.{way, path_length}
+use Rattle.mls_term.specs.Way.{way, filtered_way, filtered_path, path_length}
 use Rattle.mls_term.specs.Edits.{place_in, add, update, remove}
+use Rattle.mls_term.specs.Keys.{encryption_keys}
 use Rattle.mls_term.specs.Merge.{merge_path}
-use Rattle.mls_term.specs.Laws.{IsIn}
+use Rattle.mls_term.specs.Laws.{IsIn, HasLists}
 use Rattle.mls_treekem.specs.Chain.{chain, path_secrets, node_public}
 use Rattle.mls_treekem.specs.Keys.{Keys, Exact}
 use Rattle.mls_treekem.specs.Follow.{Follows}
 use Rattle.mls_treekem.specs.Make.{Climb, made_keys}
 use Rattle.mls_treekem.specs.Lists.{ListsBelow}
-use Rattle.mls_treekem.specs.Seal.{sealed_path, targets_fit}
+use Rattle.mls_treekem.specs.Seal.{targets, sealed_path, targets_fit}
 use Rattle.mls_treekem.specs.Open.{opened_path}
 use Rattle.mls_treekem.specs.Join.{take_keys, AllList, secret_for}
 use Rattle.mls_treekem.specs.Laws.{AreTwo}
@@ -48,12 +50,20 @@ keys_of_path c t i start = map (node_public c) (path_secrets start (path_length 
 abbrev pub SealedKeys : Type 0
 SealedKeys = (c : Crypto) (context : List ℕ) (added : List ℕ) (rnd : ℕ → List ℕ) (t : Term) (i : ℕ) (start : List ℕ) (path : List UpdatePathNode) → sealed_path c context added rnd t i start ≡ Ok path → map (λ n. n.encryption_key) path ≡ keys_of_path c t i start
 
+-- and each of its nodes a ciphertext for each node that its secret is sealed to
+abbrev pub SealedLengths : Type 0
+SealedLengths = (c : Crypto) (context : List ℕ) (added : List ℕ) (rnd : ℕ → List ℕ) (t : Term) (i : ℕ) (start : List ℕ) (path : List UpdatePathNode) → sealed_path c context added rnd t i start ≡ Ok path → map (λ n. length n.ciphertexts) path ≡ reverse (map (λ s. length (targets added s)) (filtered_way 0 t i))
+
 -- it is refused with 36 exactly where some key that is sealed to isn't fit
 abbrev pub SealedWhereFit : Type 0
 SealedWhereFit = (c : Crypto) → Lawful c → (context : List ℕ) (added : List ℕ) (rnd : ℕ → List ℕ) (t : Term) (i : ℕ) (start : List ℕ) → targets_fit c added (way 0 t i) ≡ true → (path : List UpdatePathNode) × (sealed_path c context added rnd t i start ≡ Ok path)
 
 abbrev pub RefusedWhereUnfit : Type 0
 RefusedWhereUnfit = (c : Crypto) → Lawful c → (context : List ℕ) (added : List ℕ) (rnd : ℕ → List ℕ) (t : Term) (i : ℕ) (start : List ℕ) → targets_fit c added (way 0 t i) ≡ false → sealed_path c context added rnd t i start ≡ Err 36
+
+-- so in a tree of right lists and fit keys one is made
+abbrev pub FitTargets : Type 0
+FitTargets = (c : Crypto) (added : List ℕ) (t : Term) (i : ℕ) → HasLists 0 t → list_all c.key_ok (encryption_keys t) ≡ true → targets_fit c added (way 0 t i) ≡ true
 
 -- it is sealed and opened in the tree before it is merged and after, alike
 abbrev pub SealedMerged : Type 0
@@ -72,6 +82,10 @@ MadeMerged = (c : Crypto) (t : Term) (i : ℕ) (x : LeafNode) (keys : List (List
 
 abbrev pub LengthMerged : Type 0
 LengthMerged = (t : Term) (i : ℕ) (x : LeafNode) (keys : List (List ℕ)) → path_length 0 (merge_path t i x keys) i ≡ path_length 0 t i
+
+-- as the filtered direct path is
+abbrev pub FilteredMerged : Type 0
+FilteredMerged = (t : Term) (i : ℕ) (x : LeafNode) (keys : List (List ℕ)) → filtered_path 0 (merge_path t i x keys) i ≡ filtered_path 0 t i
 
 -- whatever path is accepted, a member's keys are exact in the tree with that path
 abbrev pub OpenedExact : Type 0

@@ -8,10 +8,11 @@ ghost use Rattle.mls_treekem.specs.Laws.{RightAreBelow, BelowPut, BelowEnter, Be
 ghost use Rattle.mls_treekem.specs.Laws.{ResolutionFilled, ResolutionInPlace, ResolutionDistinct, OneFiltered, KeyWhereHeld, OneEntry, EntryKey, PairsInOrder, PairsFound};
 ghost use Rattle.mls_treekem.specs.Laws.{ClimbIsChain, KeysAreChain, KeysOfSecrets, CountIsLength, MakingClimbs, MakeExact, MadePath, PathMade, PathHasKeys, MakeMerged, SealMerged, PathMerged};
 ghost use Rattle.mls_treekem.specs.Laws.{OpenMerged, ClimbExact, ClimbAgree, CommitAgree};
-ghost use Rattle.mls_treekem.specs.Laws.{TakeExact, TakeInside, TakeAgree, JoinAgree, EnteredLists, TameLists};
+ghost use Rattle.mls_treekem.specs.Laws.{TakeExact, TakeInside, LeafHasDue, LeafExact, TakeAgree, JoinAgree, EnteredLists, TameLists};
 ghost use Rattle.mls_treekem.specs.Whole.{FollowsUpdate, FollowsRemove, FollowsAdd, AddedIsListed, AddKeepsListed};
 ghost use Rattle.mls_treekem.specs.Examples.{SecretOfOne, SecretOfFour, PathOfFour, TargetsOfFour, KeysOfMaker, KeysBeside, KeysAcross, TargetsBesideAdded};
-ghost use Rattle.mls_treekem.specs.Whole.{SealedKeys, SealedWhereFit, RefusedWhereUnfit, SealedMerged, OpenedMerged, MadeExact, MadeMerged, LengthMerged, OpenedExact, OpenedAgrees, TakenAgrees, SecretForMerged};
+ghost use Rattle.mls_treekem.specs.Members.{ExactWhole, ExactMade, ExactFollowed, ExactUpdated, ExactOpened, ExactTaken, ExactAlone};
+ghost use Rattle.mls_treekem.specs.Whole.{SealedKeys, SealedLengths, SealedWhereFit, RefusedWhereUnfit, FitTargets, SealedMerged, OpenedMerged, MadeExact, MadeMerged, LengthMerged, FilteredMerged, OpenedExact, OpenedAgrees, TakenAgrees, SecretForMerged};
 
 mod climb;
 mod error;
@@ -116,6 +117,8 @@ pub fn laws_of_receiving()
 pub fn laws_of_joining()
     ensures exact { TakeExact }
     ensures inside { TakeInside }
+    ensures leaf_due { LeafHasDue }
+    ensures leaf_exact { LeafExact }
     ensures agree { TakeAgree }
     ensures commit { JoinAgree }
     ensures entered { EnteredLists }
@@ -134,17 +137,31 @@ pub fn laws_of_edits()
 /// In whole trees: a path whose nodes come the lowest first, as it is sealed, opened and taken.
 pub fn laws_of_paths()
     ensures keys { SealedKeys }
+    ensures lengths { SealedLengths }
     ensures fit { SealedWhereFit }
     ensures unfit { RefusedWhereUnfit }
+    ensures fit_targets { FitTargets }
     ensures seal_merged { SealedMerged }
     ensures open_merged { OpenedMerged }
     ensures made_exact { MadeExact }
     ensures made_merged { MadeMerged }
     ensures length_merged { LengthMerged }
+    ensures filtered_merged { FilteredMerged }
     ensures opened_exact { OpenedExact }
     ensures opened_agrees { OpenedAgrees }
     ensures taken_agrees { TakenAgrees }
     ensures secret_merged { SecretForMerged }
+{}
+
+/// In whole trees: each call leaves a member with exact keys, whichever the calls before it were.
+pub fn laws_of_members()
+    ensures whole { ExactWhole }
+    ensures made { ExactMade }
+    ensures followed { ExactFollowed }
+    ensures updated { ExactUpdated }
+    ensures opened { ExactOpened }
+    ensures taken { ExactTaken }
+    ensures alone { ExactAlone }
 {}
 
 /// Small trees, worked out: paths of one and of four members, and of four where one was just added.

@@ -80,7 +80,7 @@ pub(crate) fn parents_over(
 }
 
 /// The parent at a node: None where it is blank or a leaf.
-fn parent_in(node: Option<&Node>) -> Option<&ParentNode>
+pub(crate) fn parent_in(node: Option<&Node>) -> Option<&ParentNode>
     ensures { option_copied result ≡ parent_in (option_copied node.entry) }
 {
     match node {

@@ -4,7 +4,7 @@ ghost use Rattle.std.specs.Prelude.{◌≡◌, ◌∷◌, [], Some};
 ghost use Rattle.mls_treekem.specs.Made.{all_keys};
 
 use mls_kdf::Secret;
-use std::alloc::Global;
+use std::alloc::{AllocError, Global};
 use std::marker::Model;
 
 /// The private keys that a member has, of its leaf and of nodes over it.
@@ -26,6 +26,19 @@ impl Model for PrivatePath {
     ghost view = { λ p. record { leaf = p.leaf; own = p.own; above = reverse p.above.items } };
 
     ghost invariant = { λ p. (length p.above.items ≤ 32) × (p.leaf < 2 ^ 32) };
+}
+
+// A copy, so that a call can follow edits and open a path, and leave the member as before where that refuses.
+impl Clone for PrivatePath {
+    ghost is_clone = { λ v w. w ≡ v };
+
+    fn clone(&self) -> Result<PrivatePath, AllocError> {
+        Ok(PrivatePath {
+            leaf: self.leaf,
+            own: self.own,
+            above: Vec::from_slice(*self.above.allocator(), &self.above)?,
+        })
+    }
 }
 
 impl PrivatePath {

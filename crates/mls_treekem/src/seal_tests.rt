@@ -1,7 +1,7 @@
 //! Paths that are sealed in small trees.
 
 use crate::members::{four, leaf};
-use crate::{PathSecrets, TreeKemError, seal_path, seal_seed, seals_in};
+use crate::{PathSecrets, PrivatePath, TreeKemError, seal_path, seal_seed, seals_in};
 use mls_group::UpdatePathNode;
 use mls_kdf::{Secret, derive_secret};
 use mls_suite::{Glass, decrypt_with_label};
@@ -76,6 +76,21 @@ fn a_path_of_four(rt: HostRuntime) -> Result<(), Fail> {
     assert!(rt; opens(alloc, &nodes, 0, 0, 0, &[7; 32])?);
     assert!(rt; opens(alloc, &nodes, 1, 0, 2, &second)?);
     assert!(rt; opens(alloc, &nodes, 1, 1, 3, &second)?);
+    Ok(())
+}
+
+#[test]
+fn a_sealed_path_is_opened(rt: HostRuntime) -> Result<(), Fail> {
+    let alloc = rt.alloc();
+    let tree = four(alloc, public(alloc, 3)?)?;
+    let nodes = sealed(alloc, &tree, &[])?;
+    let made = PathSecrets::new::<Glass>(alloc, &[7; 32], 2)?;
+    let mut beside = PrivatePath::new(alloc, 0, [0; 32]);
+    let taken = beside.open_path::<Glass>(&tree, 1, &[], &nodes, b"context")?;
+    assert_eq!(rt; taken, made.commit_secret);
+    let mut across = PrivatePath::new(alloc, 3, [3; 32]);
+    let taken = across.open_path::<Glass>(&tree, 1, &[], &nodes, b"context")?;
+    assert_eq!(rt; taken, made.commit_secret);
     Ok(())
 }
 

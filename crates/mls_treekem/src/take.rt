@@ -1,6 +1,6 @@
-//! What a joiner takes from a path secret.
+//! What a joiner takes from a path secret, and which keys it must have.
 
-ghost use Rattle.std.specs.Prelude.{◌≡◌, ◌≤◌, length, map, replicate, reverse, None, IfOk, OnErr};
+ghost use Rattle.std.specs.Prelude.{◌≡◌, ◌+◌, ◌^◌, ◌≤◌, true, false, length, map, replicate, reverse, None, IfOk, OnErr, MatchResult};
 ghost use Rattle.std.specs.Option.{option_copied};
 ghost use Rattle.mls_wire.specs.Checks.{Answers};
 ghost use Rattle.mls_term.specs.Sets.{has};
@@ -8,11 +8,13 @@ ghost use Rattle.mls_tree.specs.Tree.{term};
 ghost use Rattle.mls_treekem.specs.Climbing.{climb_of, with_own, climb_to};
 ghost use Rattle.mls_treekem.specs.Faults.{number_of};
 ghost use Rattle.mls_treekem.specs.Join.{past_present, is_present, climb_take, is_due, is_complete, take_answer};
-ghost use Rattle.mls_treekem.specs.Place.{step_of, ArePlaced};
+ghost use Rattle.mls_treekem.specs.Opening.{has_due_on, has_due};
+ghost use Rattle.mls_treekem.specs.Place.{places_from, step_of, ArePlaced};
+ghost use Rattle.mls_treekem.specs.declared.error.TreeKemError.TheVariants.{KeyMissing};
 
 use crate::climb::Climb;
 use crate::make::push_none;
-use crate::places::{Place, parents_over};
+use crate::places::{Place, parent_in, parents_over, side_of};
 use crate::{PrivatePath, TreeKemError};
 use mls_kdf::Secret;
 use mls_leaf::ParentNode;
@@ -163,5 +165,38 @@ impl PrivatePath {
         let Climb { secret, above } = self.taken::<S>(tree, signer, secret)?;
         self.above = above;
         Ok(secret)
+    }
+
+    /// Whether each parent over the member in a subtree of this height is blank, lists it, or has a key.
+    fn has_due_keys(&self, tree: &PublicTree, height: u32, first: u32) -> bool
+        requires low { height ≤ 31 }
+        requires fits { first + 2 ^ height ≤ 2 ^ 31 }
+        ensures { result ≡ has_due_on self.now (map (step_of (term tree.now)) (places_from height first self.now.leaf)) }
+    {
+        if height == 0 {
+            return true;
+        }
+        let leaf = self.leaf();
+        let half = side_of(height);
+        let parent = parent_in(tree.node(2 * first + (2 * half - 1)));
+        if !is_due(parent, leaf, &self.key_at(height)) {
+            return false;
+        }
+        if leaf < first + half {
+            self.has_due_keys(tree, height - 1, first)
+        } else {
+            self.has_due_keys(tree, height - 1, first + half)
+        }
+    }
+
+    /// Checks the keys of a joiner that gets no path secret, in a whole tree (RFC 9420, 12.4.3.1). Refused with
+    /// `KeyMissing` (35) exactly where a parent over it isn't blank, doesn't list it and has no key here. Takes no memory.
+    pub fn require_keys(&self, tree: &PublicTree) -> Result<(), TreeKemError>
+        ensures { MatchResult result (λ _. has_due (term tree.now) self.now ≡ true) (λ e. (e ≡ KeyMissing) × (has_due (term tree.now) self.now ≡ false)) }
+    {
+        if !self.has_due_keys(tree, tree.leaf_count().trailing_zeros(), 0) {
+            return Err(TreeKemError::KeyMissing);
+        }
+        Ok(())
     }
 }

@@ -115,3 +115,12 @@ fn a_parent_below_lists_the_joiner(rt: HostRuntime) -> Result<(), Fail> {
     );
     Ok(())
 }
+
+#[test]
+fn a_joiner_without_a_path_secret(rt: HostRuntime) -> Result<(), Fail> {
+    let joiner = PrivatePath::new(rt.alloc(), 1, [2; 32]);
+    assert_eq!(rt; joiner.require_keys(&two(rt.alloc(), &[1])?), Ok(()));
+    let missing = joiner.require_keys(&two(rt.alloc(), &[])?);
+    assert_eq!(rt; missing, Err(TreeKemError::KeyMissing));
+    Ok(())
+}

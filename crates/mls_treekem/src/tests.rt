@@ -55,6 +55,20 @@ fn keys_of_a_maker(rt: HostRuntime) -> Result<(), Fail> {
 }
 
 #[test]
+fn a_copy_has_the_same_keys(rt: HostRuntime) -> Result<(), Fail> {
+    let mut path = PrivatePath::new(rt.alloc(), 1, [1; 32]);
+    let made = path.make_path::<Glass>(&[7; 32], &[1, 3])?;
+    let copy = path.clone()?;
+    assert_eq!(rt; copy.leaf(), 1);
+    assert_eq!(rt;
+        key_nodes(rt.alloc(), &copy)?.as_slice(),
+        [1, 2, 3].as_slice()
+    );
+    assert_eq!(rt; key_at(&copy.keys()?, 2), made_at(&made.pairs, 1));
+    Ok(())
+}
+
+#[test]
 fn keys_of_blank_nodes_are_dropped(rt: HostRuntime) -> Result<(), Fail> {
     let mut tree = PublicTree::single(rt.alloc(), member(rt.alloc(), 0)?)?;
     let _ = tree.add(member(rt.alloc(), 1)?)?;

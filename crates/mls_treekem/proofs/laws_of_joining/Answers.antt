@@ -1,6 +1,6 @@
 use Rattle.mls_treekem.proofs.laws_of_joining.Goals as goal
 use Rattle.mls_term.specs.Way.{way}
-use Rattle.mls_treekem.proofs.Joining.{take_exact, take_agree, entered_lists, tame_lists}
+use Rattle.mls_treekem.proofs.Joining.{take_exact, leaf_due, leaf_exact, take_agree, entered_lists, tame_lists}
 use Rattle.mls_treekem.proofs.Commits.{join_agree}
 use Rattle.mls_treekem.proofs.Taking.{take_inside}
 
@@ -9,6 +9,8 @@ returns c =
     record {
       exact = λ d t i j x sk secret m two. take_exact d t i j x sk secret m two.first two.second two.apart;
       inside = λ c t i j sk secret here. take_inside c t i j sk secret here;
+      leaf_due = leaf_due;
+      leaf_exact = leaf_exact;
       agree = λ d t i j h x y start sk own two. take_agree d t i j h x y start sk own two.first two.second two.apart;
       commit = join_agree;
       entered = entered_lists;
