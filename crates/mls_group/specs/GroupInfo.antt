@@ -13,22 +13,22 @@ use Rattle.mls_group.specs.Enclosed.{entire, at_most_one, enclosed}
 use Rattle.mls_group.specs.GroupContext.{group_context, group_context_nonempty}
 use Rattle.mls_group.specs.declared.group_info.GroupInfo.{GroupInfo}
 
--- optional<Node><V> in node order
+-- ratchet_tree (RFC 9420, 12.4.3.3): optional<Node><V> in node order
 abbrev pub ratchet_tree : Format (List (Option Node))
 ratchet_tree = vector (optional node) (optional_nonempty node)
 
--- uint16 type (2), and behind a header the tree, to the end
+-- Extension (RFC 9420, 7.2 and 17.3): uint16 type (2, else 14), and data<V>, all of which is the tree
 abbrev pub tree_extension : Format (List (Option Node))
 tree_extension = behind (mark 2 14 (lit< tt)) (enclosed (entire ratchet_tree))
 
 pub tree_extension_nonempty : IsNonempty tree_extension
 tree_extension_nonempty = behind_nonempty (mark 2 14 (lit< tt)) (enclosed (entire ratchet_tree)) (mark_nonempty 2 14 (lit< tt))
 
--- Extension<V>: no extension, or that of the ratchet tree
+-- Extension<V> of a GroupInfo (RFC 9420, 12.4.3): no extension, or the ratchet tree's; a second one is 14
 unfoldable pub group_info_extensions : Format (Option (List (Option Node)))
 group_info_extensions = enclosed (at_most_one tree_extension tree_extension_nonempty 14)
 
--- GroupContext, Extension<V>, confirmation_tag<V>, uint32 signer, signature<V>
+-- GroupInfo (RFC 9420, 12.4.3): GroupContext, Extension<V>, confirmation_tag<V>, uint32 signer, signature<V>
 unfoldable pub group_info : Format GroupInfo
 group_info = seen (group_context ⨾ group_info_extensions ⨾ byte_string ⨾ uint32 ⨾ byte_string)
     (λ x. record { group_context = x.0; ratchet_tree = x.1.0; confirmation_tag = x.1.1.0; signer = x.1.1.1.0; signature = x.1.1.1.1 })
@@ -43,5 +43,6 @@ group_info_nonempty v fits = first_nonempty group_context (group_info_extensions
 abbrev pub group_info_tbs : GroupInfo → List ℕ
 group_info_tbs v = group_context.spell v.group_context ++ group_info_extensions.spell v.ratchet_tree ++ opaque v.confirmation_tag ++ uint w32 v.signer
 
+-- no vector in it is too long
 abbrev pub GroupInfoTbsFits : GroupInfo → Type 0
 GroupInfoTbsFits v = group_context.Fits v.group_context × (group_info_extensions.Fits v.ratchet_tree × ((length v.confirmation_tag < 2 ^ 30) × (v.signer < 2 ^ 32)))

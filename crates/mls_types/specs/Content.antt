@@ -15,8 +15,9 @@ use Rattle.mls_types.specs.declared.content.Content as contents
 use Rattle.mls_types.specs.declared.content.Content.TheVariants.{Application, Proposal, Commit}
 use Rattle.mls_types.specs.declared.content.FramedContent.{FramedContent}
 
--- ---- uint8 type, then 1: uint32 leaf index
+-- ---- Sender (RFC 9420, 6)
 
+-- what stands behind each type
 abbrev pub Senders : Type 0
 Senders = ℕ ⊎ ⊥
 
@@ -34,6 +35,7 @@ pub sender_back : (x : Senders) → sender_parts (make_sender x) ≡ x
 sender_back (inl leaf) = refl
 sender_back (inr x) = absurd x
 
+-- uint8 type, then 1 (member): uint32 leaf index; another type is 7
 unfoldable pub sender : Format Sender
 sender = seen (by_uint8 (case 1 uint32 (others 7))) make_sender sender_parts sender_there (λ x _. sender_back x)
 
@@ -41,8 +43,9 @@ pub sender_nonempty : IsNonempty sender
 unfolding sender
 sender_nonempty v fits = by_uint8_nonempty (case 1 uint32 (others 7)) (sender_parts v) fits
 
--- ---- uint8 content type, then 1: application data<V>; 2: Proposal; 3: Commit
+-- ---- the content of a FramedContent (RFC 9420, 6)
 
+-- what stands behind each content type
 abbrev pub Contents : Type 0
 Contents = List ℕ ⊎ (proposals.Proposal ⊎ (commits.Commit ⊎ ⊥))
 
@@ -68,6 +71,7 @@ content_back (inr (inl x)) = refl
 content_back (inr (inr (inl x))) = refl
 content_back (inr (inr (inr x))) = absurd x
 
+-- uint8 content type, then 1: application data<V>; 2: Proposal; 3: Commit; another type is 7
 unfoldable pub content : Format contents.Content
 content = seen (by_uint8 (case 1 byte_string (case 2 proposal (case 3 commit (others 7))))) make_content content_parts content_there (λ x _. content_back x)
 
@@ -75,8 +79,9 @@ pub content_nonempty : IsNonempty content
 unfolding content
 content_nonempty v fits = by_uint8_nonempty (case 1 byte_string (case 2 proposal (case 3 commit (others 7)))) (content_parts v) fits
 
--- ---- group_id<V>, uint64 epoch, Sender, authenticated_data<V>, the content behind its type
+-- ---- FramedContent (RFC 9420, 6)
 
+-- group_id<V>, uint64 epoch, Sender, authenticated_data<V>, the content behind its type
 unfoldable pub framed_content : Format FramedContent
 framed_content = seen (byte_string ⨾ uint64 ⨾ sender ⨾ byte_string ⨾ content)
     (λ x. record { group_id = x.0; epoch = x.1.0; sender = x.1.1.0; authenticated_data = x.1.1.1.0; content = x.1.1.1.1 })

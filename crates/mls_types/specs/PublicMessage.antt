@@ -1,4 +1,4 @@
--- The formats of public messages and of what is signed and hashed in them (RFC 9420, 6 and 6.2).
+-- The formats of wire formats, of public messages and of what is hashed of them (RFC 9420, 6, 6.2 and 17.2).
 use Rattle.std.specs.Prelude.{◌≡◌, ℕ, List, refl}
 use Rattle.std.proofs.Common.{◌⊎◌, inl, inr}
 use Rattle.mls_wire.specs.Format.{Format}
@@ -12,8 +12,9 @@ use Rattle.mls_types.specs.declared.public_message.WireFormat.TheVariants.{Publi
 use Rattle.mls_types.specs.declared.public_message.PublicMessage as messages
 use Rattle.mls_types.specs.declared.public_message.AuthenticatedContent.{AuthenticatedContent}
 
--- ---- uint16: 1 PublicMessage, 3 Welcome, 4 GroupInfo, 5 KeyPackage
+-- ---- WireFormat (RFC 9420, 6 and 17.2)
 
+-- nothing stands behind any of them
 abbrev pub WireFormats : Type 0
 WireFormats = Unit {0} ⊎ (Unit {0} ⊎ (Unit {0} ⊎ (Unit {0} ⊎ ⊥)))
 
@@ -43,6 +44,7 @@ wire_format_back (inr (inr (inl x))) = refl
 wire_format_back (inr (inr (inr (inl x)))) = refl
 wire_format_back (inr (inr (inr (inr x)))) = absurd x
 
+-- uint16: 1 PublicMessage, 3 Welcome, 4 GroupInfo, 5 KeyPackage; another is 7
 unfoldable pub wire_format : Format formats.WireFormat
 wire_format = seen (by_uint16 (case 1 nothing (case 3 nothing (case 4 nothing (case 5 nothing (others 7)))))) make_wire_format wire_format_parts wire_format_there (λ x _. wire_format_back x)
 
@@ -50,8 +52,9 @@ pub wire_format_nonempty : IsNonempty wire_format
 unfolding wire_format
 wire_format_nonempty v fits = by_uint16_nonempty (case 1 nothing (case 3 nothing (case 4 nothing (case 5 nothing (others 7))))) (wire_format_parts v) fits
 
--- ---- FramedContent, FramedContentAuthData, membership_tag<V>
+-- ---- PublicMessage (RFC 9420, 6.2)
 
+-- FramedContent, FramedContentAuthData, membership_tag<V>
 unfoldable pub public_message : Format messages.PublicMessage
 public_message = seen (signed_content ⨾ byte_string) (λ x. record { content = x.0; membership_tag = x.1 }) (λ v. (v.content, v.membership_tag)) (λ v. refl) (λ x _. refl)
 
@@ -59,8 +62,9 @@ pub public_message_nonempty : IsNonempty public_message
 unfolding public_message
 public_message_nonempty v fits = first_nonempty signed_content byte_string signed_content_nonempty (v.content, v.membership_tag) fits
 
--- ---- uint16 wire_format, FramedContent, FramedContentAuthData
+-- ---- AuthenticatedContent (RFC 9420, 6)
 
+-- uint16 wire_format, FramedContent, FramedContentAuthData
 unfoldable pub authenticated_content : Format AuthenticatedContent
 authenticated_content = seen (wire_format ⨾ signed_content) (λ x. record { wire_format = x.0; content = x.1 }) (λ v. (v.wire_format, v.content)) (λ v. refl) (λ x _. refl)
 

@@ -1,5 +1,5 @@
 -- The format of signed contents: a framed content and its FramedContentAuthData (RFC 9420, 6 and 6.1).
--- A confirmation tag stands just behind a commit: the cases go over all fields from the content's type on.
+-- There is a confirmation tag only where the content is a commit: so the cases go over all fields from the content's type on.
 use Rattle.std.specs.Prelude.{◌≡◌, ℕ, List, refl}
 use Rattle.std.proofs.Common.{◌⊎◌, inl, inr}
 use Rattle.mls_wire.specs.Format.{Format}
@@ -17,9 +17,11 @@ use Rattle.mls_types.specs.declared.signed.SignedContent.{SignedContent}
 
 -- ---- from the content's type on
 
+-- what is said, with a commit's tag, and the signature
 abbrev pub Tail : Type 0
 Tail = SignedBody × List ℕ
 
+-- the fields behind each content type
 abbrev pub Tails : Type 0
 Tails = (List ℕ × List ℕ) ⊎ ((proposals.Proposal × List ℕ) ⊎ ((commits.Commit × (List ℕ × List ℕ)) ⊎ ⊥))
 
@@ -54,11 +56,13 @@ tail_back (inr (inl x)) = refl
 tail_back (inr (inr (inl x))) = refl
 tail_back (inr (inr (inr x))) = absurd x
 
--- uint8 content type, then 1: application data<V>, signature<V>; 2: Proposal, signature<V>; 3: Commit, signature<V>, confirmation_tag<V>
+-- (RFC 9420, 6 and 6.1) uint8 content type, then 1: application data<V>, signature<V>; 2: Proposal, signature<V>;
+-- 3: Commit, signature<V>, confirmation_tag<V>; another type is 7
 unfoldable pub signed_tail : Format Tail
 signed_tail = seen (by_uint8 (case 1 (byte_string ⨾ byte_string) (case 2 (proposal ⨾ byte_string) (case 3 (commit ⨾ byte_string ⨾ byte_string) (others 7))))) make_tail tail_parts tail_there (λ x _. tail_back x)
 
--- group_id<V>, uint64 epoch, Sender, authenticated_data<V>, and what stands from the content's type on
+-- FramedContent, FramedContentAuthData (RFC 9420, 6 and 6.1): group_id<V>, uint64 epoch, Sender, authenticated_data<V>,
+-- and what stands from the content's type on
 unfoldable pub signed_content : Format SignedContent
 signed_content = seen (byte_string ⨾ uint64 ⨾ sender ⨾ byte_string ⨾ signed_tail)
     (λ x. record { group_id = x.0; epoch = x.1.0; sender = x.1.1.0; authenticated_data = x.1.1.1.0; body = x.1.1.1.1.0; signature = x.1.1.1.1.1 })

@@ -20,22 +20,23 @@ bare (Application text) = says.Application text
 bare (Proposal made) = says.Proposal made
 bare (Commit made tag) = says.Commit made
 
--- the FramedContent of a signed content
+-- the FramedContent of a signed content (RFC 9420, 6)
 abbrev pub framed : SignedContent → FramedContent
 framed v = record { group_id = v.group_id; epoch = v.epoch; sender = v.sender; authenticated_data = v.authenticated_data; content = bare v.body }
 
--- confirmation_tag<V> behind a commit, and nothing behind other contents
+-- for a commit confirmation_tag<V>, else nothing
 abbrev pub tag_spelling : SignedBody → List ℕ
 tag_spelling (Application text) = []
 tag_spelling (Proposal made) = []
 tag_spelling (Commit made tag) = opaque tag
 
+-- the tag, if there is one, isn't too long
 abbrev pub TagFits : SignedBody → Type 0
 TagFits (Application text) = Unit {0}
 TagFits (Proposal made) = Unit {0}
 TagFits (Commit made tag) = length tag < 2 ^ 30
 
--- the FramedContentAuthData: signature<V>, and for a commit confirmation_tag<V>
+-- FramedContentAuthData (RFC 9420, 6.1): signature<V>, and for a commit confirmation_tag<V>
 abbrev pub auth_data : SignedContent → List ℕ
 auth_data v = opaque v.signature ++ tag_spelling v.body
 

@@ -2,7 +2,7 @@
 
 ghost use Rattle.mls_types.specs.PublicMessage.{wire_format, public_message, authenticated_content, wire_format_nonempty, public_message_nonempty, authenticated_content_nonempty};
 
-use crate::signed::SignedContent;
+use crate::signed::{SignedContent, read_signed};
 use mls_leaf::{Bytes, Codec, LeafError};
 use mls_wire::{Reader, Writer};
 use std::alloc::Global;
@@ -23,10 +23,10 @@ pub enum WireFormat {
 /// A content that is signed, and not encrypted (RFC 9420, 6.2).
 #[derive(Debug, Clone, Drop)]
 pub struct PublicMessage {
-    /// The content with its authentication data.
-    pub content: SignedContent,
     /// The tag that shows that the sender is a member.
     pub membership_tag: Bytes,
+    /// The content with its authentication data. It comes last, so that a failed clone has no large part to drop.
+    pub content: SignedContent,
 }
 
 /// A signed content with the kind of message that it is sent in (RFC 9420, 6).
@@ -95,8 +95,7 @@ impl Codec for PublicMessage {
 
     #[tactic(auto, using(mls_leaf::specs::Codecs::codecs), unfolding(crate::specs::PublicMessage::public_message))]
     fn read(alloc: Global, reader: &mut Reader<'_>) -> Result<PublicMessage, LeafError> {
-        let content = SignedContent::read(alloc, reader)?;
-        let membership_tag = Bytes::read(alloc, reader)?;
+        let (content, membership_tag) = read_signed::<SignedContent>(alloc, reader)?;
         Ok(PublicMessage {
             content,
             membership_tag,

@@ -1,7 +1,6 @@
 //! Signed contents: a framed content, and what vouches for it (RFC 9420, 6 and 6.1).
 
 ghost use Rattle.mls_wire.specs.Combine.{◌⨾◌, byte_string};
-ghost use Rattle.mls_types.specs.Commit.{commit};
 ghost use Rattle.mls_types.specs.Signed.{signed_tail, signed_content, signed_content_nonempty};
 ghost use Rattle.mls_leaf.specs.Faults.{ReadsFront, ReadsPast};
 
@@ -38,14 +37,17 @@ pub struct SignedContent {
     pub sender: Sender,
     /// What the sender adds for the application.
     pub authenticated_data: Bytes,
-    /// What it says, and for a commit the confirmation tag.
-    pub body: SignedBody,
     /// The sender's signature.
     pub signature: Bytes,
+    /// What it says, and for a commit the confirmation tag. It comes last, so that a failed clone has no large part to drop.
+    pub body: SignedBody,
 }
 
-/// Reads a value and the signature behind it.
-fn read_signed<T: Codec>(alloc: Global, reader: &mut Reader<'_>) -> Result<(T, Bytes), LeafError>
+/// Reads a value and the signature or the tag behind it. It is generic, so that its proof goes into no parts of the value.
+pub(crate) fn read_signed<T: Codec>(
+    alloc: Global,
+    reader: &mut Reader<'_>,
+) -> Result<(T, Bytes), LeafError>
     ensures { ReadsFront (T.format ⨾ byte_string) reader.old result reader.new }
 {
     let value = T::read(alloc, reader)?;
@@ -53,16 +55,16 @@ fn read_signed<T: Codec>(alloc: Global, reader: &mut Reader<'_>) -> Result<(T, B
     Ok((value, signature))
 }
 
-/// Reads a commit, the signature and the confirmation tag.
-fn read_commit(
+/// Reads a value, the signature and the confirmation tag.
+fn read_confirmed<T: Codec>(
     alloc: Global,
     reader: &mut Reader<'_>,
-) -> Result<(Commit, (Bytes, Bytes)), LeafError>
-    ensures { ReadsFront (commit ⨾ byte_string ⨾ byte_string) reader.old result reader.new }
+) -> Result<(T, (Bytes, Bytes)), LeafError>
+    ensures { ReadsFront (T.format ⨾ byte_string ⨾ byte_string) reader.old result reader.new }
 {
-    let made = Commit::read(alloc, reader)?;
+    let value = T::read(alloc, reader)?;
     let tags = read_signed::<Bytes>(alloc, reader)?;
-    Ok((made, tags))
+    Ok((value, tags))
 }
 
 /// Reads from the content's type on.
@@ -80,7 +82,7 @@ fn read_tail(alloc: Global, reader: &mut Reader<'_>) -> Result<(SignedBody, Byte
             Ok((SignedBody::Proposal(proposal), signature))
         }
         3 => {
-            let (commit, (signature, confirmation_tag)) = read_commit(alloc, reader)?;
+            let (commit, (signature, confirmation_tag)) = read_confirmed::<Commit>(alloc, reader)?;
             let body = SignedBody::Commit {
                 commit,
                 confirmation_tag,

@@ -1,0 +1,114 @@
+//! Signed contents: spelled, made, signed, tagged and named.
+
+use crate::digits::{GROUP_CONTEXT, answer, bytes_of, spelled, value_of};
+use mls_types::*;
+use std::alloc::{AllocError, Global};
+use std::test::*;
+
+/// The removal of leaf 5, by leaf 2 in the group "g" at epoch 0.
+const FRAMED_CONTENT: &str = "0167000000000000000001000000020002000300000005";
+
+/// The same with a signature.
+const SIGNED_CONTENT: &str = "016700000000000000000100000002000200030000000501aa";
+
+/// Version 1, wire format 1, the framed content and the group context.
+const FRAMED_CONTENT_TBS: &str =
+    "0001000101670000000000000000010000000200020003000000050001f001016700000000000000002011111111111111111111111111111111111111111111111111111111111111110000";
+
+/// All that, and the signature.
+const AUTHENTICATED_CONTENT_TBM: &str =
+    "0001000101670000000000000000010000000200020003000000050001f00101670000000000000000201111111111111111111111111111111111111111111111111111111111111111000001aa";
+
+/// An empty commit by the same leaf.
+const FRAMED_COMMIT: &str = "01670000000000000000010000000200030000";
+
+/// The same with a signature and a confirmation tag.
+const SIGNED_COMMIT: &str = "0167000000000000000001000000020003000001aa01bb";
+
+#[test]
+fn contents(rt: HostRuntime) -> Result<(), Fail> {
+    let alloc = rt.alloc();
+    assert_eq!(rt; answer::<FramedContent>(alloc, FRAMED_CONTENT)?, 0);
+    assert_eq!(rt; answer::<SignedContent>(alloc, SIGNED_CONTENT)?, 0);
+    assert_eq!(rt; answer::<SignedContent>(alloc, SIGNED_COMMIT)?, 0);
+    let data = "016700000000000000000100000002000101dd01aa";
+    assert_eq!(rt; answer::<SignedContent>(alloc, data)?, 0);
+    let no_tag = "0167000000000000000001000000020003000001aa";
+    assert_eq!(rt; answer::<SignedContent>(alloc, no_tag)?, 2);
+    let other_content = "0167000000000000000001000000020004";
+    assert_eq!(rt; answer::<SignedContent>(alloc, other_content)?, 7);
+    Ok(())
+}
+
+/// Whether the proposal in this AuthenticatedContent has this reference.
+fn is_named(alloc: Global, content: &str, reference: &str) -> Result<bool, AllocError> {
+    let bytes = bytes_of(alloc, content)?;
+    let wanted = bytes_of(alloc, reference)?;
+    if bytes.len() > 1_000 {
+        return Ok(false);
+    }
+    Ok(proposal_reference(&bytes).as_slice() == wanted.as_slice())
+}
+
+#[test]
+fn authenticated_contents(rt: HostRuntime) -> Result<(), Fail> {
+    let alloc = rt.alloc();
+    let public = "0001016700000000000000000100000002000200030000000501aa";
+    assert_eq!(rt; answer::<AuthenticatedContent>(alloc, public)?, 0);
+    assert_eq!(rt; answer::<AuthenticatedContent>(alloc, "0002")?, 7);
+    // SHA-256 by Python's hashlib
+    let reference = "0ac5a8252add8d939c5b9a100f61a508e44b4f2291b3b7027d0964aeb6dc0223";
+    assert!(rt; is_named(alloc, public, reference)?);
+    Ok(())
+}
+
+/// The spelling of a framed content with the signature aa and, if it is a commit, the tag bb.
+fn signed_with(alloc: Global, framed: &str) -> Result<Vec<u8>, LeafError> {
+    let signature = Bytes::from_vec(bytes_of(alloc, "aa")?);
+    let confirmation_tag = Bytes::from_vec(bytes_of(alloc, "bb")?);
+    let content = value_of::<FramedContent>(alloc, framed)?;
+    let content = SignedContent::new(Box::into_inner(content), signature, confirmation_tag);
+    spelled(content, alloc)
+}
+
+fn framed_of(alloc: Global, signed: &str) -> Result<Vec<u8>, LeafError> {
+    let content = value_of::<SignedContent>(alloc, signed)?;
+    content.encode_framed_content(alloc)
+}
+
+#[test]
+fn signed_and_framed(rt: HostRuntime) -> Result<(), Fail> {
+    let alloc = rt.alloc();
+    assert!(rt; signed_with(alloc, FRAMED_CONTENT)? == bytes_of(alloc, SIGNED_CONTENT)?);
+    assert!(rt; signed_with(alloc, FRAMED_COMMIT)? == bytes_of(alloc, SIGNED_COMMIT)?);
+    assert!(rt; framed_of(alloc, SIGNED_CONTENT)? == bytes_of(alloc, FRAMED_CONTENT)?);
+    assert!(rt; framed_of(alloc, SIGNED_COMMIT)? == bytes_of(alloc, FRAMED_COMMIT)?);
+    Ok(())
+}
+
+fn signed_of_framed(alloc: Global) -> Result<Vec<u8>, LeafError> {
+    let context = value_of::<GroupContext>(alloc, GROUP_CONTEXT)?;
+    let content = value_of::<FramedContent>(alloc, FRAMED_CONTENT)?;
+    content.to_be_signed(alloc, WireFormat::PublicMessage, &context)
+}
+
+fn signed_of_content(alloc: Global) -> Result<Vec<u8>, LeafError> {
+    let context = value_of::<GroupContext>(alloc, GROUP_CONTEXT)?;
+    let content = value_of::<SignedContent>(alloc, SIGNED_CONTENT)?;
+    content.to_be_signed(alloc, WireFormat::PublicMessage, &context)
+}
+
+fn tagged_of_content(alloc: Global) -> Result<Vec<u8>, LeafError> {
+    let context = value_of::<GroupContext>(alloc, GROUP_CONTEXT)?;
+    let content = value_of::<SignedContent>(alloc, SIGNED_CONTENT)?;
+    content.to_be_tagged(alloc, WireFormat::PublicMessage, &context)
+}
+
+#[test]
+fn signed_and_tagged(rt: HostRuntime) -> Result<(), Fail> {
+    let alloc = rt.alloc();
+    assert!(rt; signed_of_framed(alloc)? == bytes_of(alloc, FRAMED_CONTENT_TBS)?);
+    assert!(rt; signed_of_content(alloc)? == bytes_of(alloc, FRAMED_CONTENT_TBS)?);
+    assert!(rt; tagged_of_content(alloc)? == bytes_of(alloc, AUTHENTICATED_CONTENT_TBM)?);
+    Ok(())
+}
