@@ -5,13 +5,11 @@ ghost use Rattle.std.specs.Prelude.{◌≡◌, ◌<◌, ◌≤◌, ◌^◌, leng
 
 #[cfg(test)]
 mod tests;
-mod unchecked;
 
 use mls_suite::{
     OutOfMemory, Suite, decrypt_with_label, encrypt_with_label, sign_with_label, verify_with_label,
 };
 use std::alloc::Global;
-pub use unchecked::Unchecked;
 
 /// Seals `pt` under a label and a context to the public key of `sk`, and opens it again: it is `pt`,
 /// in each suite.

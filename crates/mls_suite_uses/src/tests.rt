@@ -1,4 +1,5 @@
 use super::*;
+use mls_check::Unchecked;
 use mls_suite::Glass;
 use std::test::Fail;
 
