@@ -30,9 +30,16 @@ text_at key d = option_and_then as_str (get key d)
 abbrev pub up_to : ℕ → ℕ → Option ℕ
 up_to limit n = if nat_le n limit then Some n else None
 
--- a number that is written as a whole one, at most the limit
+-- a number that is written as a whole one, below 2^64
+abbrev pub whole_number : Data → Option ℕ
+whole_number d = option_and_then as_u64 (as_number d)
+
+abbrev pub number_at : List ℕ → Data → Option ℕ
+number_at key d = option_and_then whole_number (get key d)
+
+-- the same, at most the limit
 abbrev pub whole : ℕ → Data → Option ℕ
-whole limit d = option_and_then (up_to limit) (option_and_then as_u64 (as_number d))
+whole limit d = option_and_then (up_to limit) (whole_number d)
 
 abbrev pub whole_at : ℕ → List ℕ → Data → Option ℕ
 whole_at limit key d = option_and_then (whole limit) (get key d)

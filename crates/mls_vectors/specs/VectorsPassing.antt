@@ -53,7 +53,7 @@ number_given (Err n) = n
 abbrev pub message_passes : List ℕ → ℕ → Bool
 message_passes bytes refused = number_given (whole mls_message input_limit bytes) == refused
 
--- there is a tree, and it has that tree hash
+-- there is a tree, and it has that tree hash; its first leaf is leaf 0
 abbrev pub has_hash : Result Term ℕ → List ℕ → Bool
 has_hash (Ok t) tree_hash = bytes_eq (hash_of 0 t) tree_hash
 has_hash (Err n) tree_hash = false

@@ -3,17 +3,14 @@ use Rattle.std.specs.Prelude.{◌≡◌, ℕ, nat_le, List, [], ◌∷◌, lengt
 use Rattle.std.specs.Str.{bytes_eq}
 use Rattle.serde_json.specs.Data.{Data, Items, no_items, item}
 use Rattle.serde_json.specs.Find.{get, as_str, as_null, as_array}
-use Rattle.mls_vectors.specs.Json.{◌>>=◌, require, is_object_of, text_at, whole, whole_at, items_at}
+use Rattle.mls_vectors.specs.Json.{◌>>=◌, require, is_object_of, text_at, number_at, whole, whole_at, items_at}
 use Rattle.mls_vectors.specs.Vectors.{Claim, header, hmac, hkdf, expand, treemath, message, tree}
 use Rattle.mls_vectors.specs.declared.shape.VectorsError.{VectorsError}
 use Rattle.mls_vectors.specs.declared.shape.VectorsError.TheVariants as error
 
--- the greatest uint32 and the greatest uint8
+-- the greatest uint32
 abbrev pub max_u32 : ℕ
 max_u32 = 4294967295
-
-abbrev pub max_u8 : ℕ
-max_u8 = 255
 
 -- a text, or null
 abbrev pub text_or_null : Data → Option (Option (List ℕ))
@@ -62,7 +59,7 @@ expand_in d = require (is_object_of 5 d) (do
 abbrev pub message_in : Data → Option Claim
 message_in d = require (is_object_of 3 d) (do
   bytes ← text_at (codes "bytes") d
-  refused ← whole_at max_u8 (codes "refused") d
+  refused ← number_at (codes "refused") d
   Some (message bytes refused))
 
 abbrev pub tree_in : Data → Option Claim

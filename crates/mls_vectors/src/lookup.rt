@@ -2,8 +2,8 @@
 
 ghost use Rattle.std.specs.Prelude.{◌≡◌, option_map};
 ghost use Rattle.serde_json.specs.View.{view, items_view};
-ghost use Rattle.mls_vectors.specs.Json.{is_object_of, items_at, text_at, whole, whole_at};
-ghost use Rattle.mls_vectors.specs.VectorsShape.{max_u8, max_u32};
+ghost use Rattle.mls_vectors.specs.Json.{is_object_of, items_at, number_at, text_at, whole, whole_at};
+ghost use Rattle.mls_vectors.specs.VectorsShape.{max_u32};
 
 use serde_json::Value;
 
@@ -50,14 +50,9 @@ pub fn u32_at(value: &Value, key: &str) -> Option<u32>
     u32_of(value.get(key)?)
 }
 
-/// The uint8 at a key.
-pub fn u8_at(value: &Value, key: &str) -> Option<u8>
-    ensures { result ≡ whole_at max_u8 key.now (view value.now) }
+/// The uint64 at a key.
+pub fn u64_at(value: &Value, key: &str) -> Option<u64>
+    ensures { result ≡ number_at key.now (view value.now) }
 {
-    let number = value.get(key)?.as_u64()?;
-    if number <= u64::from(u8::MAX) {
-        Some(number as u8)
-    } else {
-        None
-    }
+    value.get(key)?.as_u64()
 }

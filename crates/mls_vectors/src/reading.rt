@@ -51,7 +51,7 @@ pub enum Vector {
     /// Bytes, and the number that decoding gives.
     Message {
         bytes: Vec<u8>,
-        refused: u8,
+        refused: u64,
     },
     /// The bytes of a tree, and its tree hash.
     Tree {

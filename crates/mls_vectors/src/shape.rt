@@ -7,7 +7,7 @@ ghost use Rattle.mls_vectors.specs.Vectors.{text_view};
 ghost use Rattle.mls_vectors.specs.VectorsShape.{Finds, expand_in, header_in, hkdf_in, hmac_in, label_at, message_in, numbers_at, numbers_of, plain_of, text_of, text_or_null, texts_in, texts_of, tree_in, treemath_in};
 ghost use Rattle.mls_vectors.specs.declared.shape.VectorsError.TheVariants.{OutOfMemory};
 
-use crate::lookup::{has_members, items_at, text_at, u8_at, u32_at, u32_of};
+use crate::lookup::{has_members, items_at, text_at, u32_at, u32_of, u64_at};
 use serde_json::Value;
 use std::alloc::{AllocError, AllocFailed, Global};
 
@@ -53,7 +53,7 @@ pub enum VectorText<'a> {
     /// Bytes, and the number that decoding gives.
     Message {
         bytes: &'a str,
-        refused: u8,
+        refused: u64,
     },
     /// The bytes of a tree, and its tree hash.
     Tree {
@@ -183,7 +183,7 @@ fn message(value: &Value) -> Option<VectorText<'_>>
         return None;
     }
     let bytes = text_at(value, "bytes")?;
-    let refused = u8_at(value, "refused")?;
+    let refused = u64_at(value, "refused")?;
     Some(VectorText::Message { bytes, refused })
 }
 

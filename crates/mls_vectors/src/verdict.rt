@@ -172,7 +172,9 @@ pub fn passes(alloc: Global, vector: &Vector) -> Result<bool, AllocError>
             direct_path.as_slice(),
             copath.as_slice(),
         ),
-        Vector::Message { bytes, refused } => Ok(decoding_number(bytes.as_slice()) == *refused),
+        Vector::Message { bytes, refused } => {
+            Ok(u64::from(decoding_number(bytes.as_slice())) == *refused)
+        }
         Vector::Tree { bytes, tree_hash } => {
             tree_passes(alloc, bytes.as_slice(), tree_hash.as_slice())
         }

@@ -46,7 +46,7 @@ fn printed(alloc: Global, file: &[u8]) -> Result<(u8, Vec<u8>), AllocError> {
 #[test]
 fn judges(rt: HostRuntime) -> Result<(), Fail> {
     let alloc = rt.alloc();
-    let table: [(&str, u8, &str); 10] = [
+    let table: [(&str, u8, &str); 11] = [
         (EXAMPLE, 0, ALL_PASS),
         ("[]", 0, "passed 0 of 0\n"),
         (
@@ -80,6 +80,11 @@ fn judges(rt: HostRuntime) -> Result<(), Fail> {
             "0: fail\n1: pass\npassed 1 of 2\n",
         ),
         (
+            r#"[{"kind":"message","bytes":"","refused":18446744073709551615}]"#,
+            1,
+            "0: fail\npassed 0 of 1\n",
+        ),
+        (
             r#"[{"kind":"tree","bytes":"00","tree_hash":""},{"kind":"tree","bytes":"2b010101bb01cc000103626f6202000102f0010000020001010000000000000000ffffffffffffffff0001dd","tree_hash":"00"}]"#,
             1,
             "0: fail\n1: fail\npassed 0 of 2\n",
@@ -101,7 +106,7 @@ fn judges(rt: HostRuntime) -> Result<(), Fail> {
 #[test]
 fn refuses_files(rt: HostRuntime) -> Result<(), Fail> {
     let alloc = rt.alloc();
-    let table: [(&str, &str); 17] = [
+    let table: [(&str, &str); 18] = [
         ("[", BAD_JSON),
         ("{}", BAD_JSON),
         ("[7]", BAD_JSON),
@@ -120,7 +125,11 @@ fn refuses_files(rt: HostRuntime) -> Result<(), Fail> {
             r#"[{"kind":"header","length":1,"bytes":"01","more":1}]"#,
             BAD_JSON,
         ),
-        (r#"[{"kind":"message","bytes":"","refused":256}]"#, BAD_JSON),
+        (
+            r#"[{"kind":"message","bytes":"","refused":18446744073709551616}]"#,
+            BAD_JSON,
+        ),
+        (r#"[{"kind":"message","bytes":"","refused":-0}]"#, BAD_JSON),
         (
             r#"[{"kind":"treemath","leaves":1,"node":0,"direct_path":[],"copath":[0.5]}]"#,
             BAD_JSON,
