@@ -36,6 +36,11 @@ mls = needing_one
     (with_subcommand (with_subcommand (new_app (codes "mls")) (on_file (codes "show")).top) check_app.top)
     (on_file (codes "vectors")).top)
 
+-- the words with the program's name as the first
+abbrev pub named_mls : List Text → List Text
+named_mls [] = []
+named_mls (first ∷ rest) = codes "mls" ∷ rest
+
 -- a job without where it lies in memory
 pub data Task : Type 0 where
   show : Text → Task

@@ -1,7 +1,8 @@
 //! `mls`: shows messages of Messaging Layer Security (RFC 9420).
 #![tactic(auto)]
 
-ghost use Rattle.std.specs.Prelude.{◌≤◌, IfOk};
+ghost use Rattle.std.specs.Prelude.{◌≡◌, ◌≤◌, map, IfOk, string_bytes};
+ghost use Rattle.mls_cli.specs.Arguments.{named_mls};
 
 mod arguments;
 mod serving;
@@ -25,7 +26,9 @@ fn main(rt: HostRuntime) -> ExitCode {
 }
 
 /// The words with `mls` as the first, since usage texts name the program by it.
-fn named_mls(alloc: Global, mut words: Vec<String>) -> Result<Vec<String>, AllocError> {
+fn named_mls(alloc: Global, mut words: Vec<String>) -> Result<Vec<String>, AllocError>
+    ensures { IfOk result (λ named. map string_bytes named.items ≡ named_mls (map string_bytes words.items)) }
+{
     if let Some(first) = words.first_mut() {
         *first = String::from_str(alloc, "mls")?;
     }
