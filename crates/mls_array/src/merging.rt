@@ -58,23 +58,23 @@ fn handed_down<'a>(
     height: u32,
     first: u32,
     keys: &'a [Bytes],
-    hash: Option<Hash>,
+    above: Option<Hash>,
 ) -> (&'a [Bytes], Option<Hash>)
     requires shape { length side.now ≡ nodes_in height }
     requires fits { first + 2 ^ height ≤ 2 ^ 31 }
     ensures keys { reverse result.0.now ≡ keys_beside first (term_of height side.now) (reverse keys.now) }
-    ensures hash { hash_bytes result.1 ≡ hash_beside first (term_of height side.now) (reverse keys.now) (hash_bytes hash) }
+    ensures hash { hash_bytes result.1 ≡ hash_beside first (term_of height side.now) (reverse keys.now) (hash_bytes above) }
 {
     if !is_reached(side, height) {
-        return (keys, hash);
+        return (keys, above);
     }
     match keys {
         [lower @ .., key] => {
             let sibling = tree_hash(side, height, first);
-            let below = sibling_hash(key.as_slice(), bytes_of(&hash), &sibling);
+            let below = sibling_hash(key.as_slice(), bytes_of(&above), &sibling);
             (lower, Some(below))
         }
-        [] => (keys, hash),
+        [] => (keys, above),
     }
 }
 
@@ -128,31 +128,31 @@ fn add_parent(
     height: u32,
     first: u32,
     keys: &mut Vec<Bytes>,
-    hash: Option<Hash>,
+    above: Option<Hash>,
     out: &mut Vec<ParentNode>,
 ) -> Result<Option<Hash>, AllocError>
     requires shape { length side.now ≡ nodes_in height }
     requires fits { first + 2 ^ height ≤ 2 ^ 31 }
-    ensures parent { OnOk result (out.new.items ≡ out.old.items ++ option_to_list (parent_beside first (term_of height side.now) (reverse keys.old.items) (hash_bytes hash))) }
+    ensures parent { OnOk result (out.new.items ≡ out.old.items ++ option_to_list (parent_beside first (term_of height side.now) (reverse keys.old.items) (hash_bytes above))) }
     ensures keys { OnOk result (reverse keys.new.items ≡ keys_beside first (term_of height side.now) (reverse keys.old.items)) }
-    ensures hash { IfOk result (λ below. hash_bytes below ≡ hash_beside first (term_of height side.now) (reverse keys.old.items) (hash_bytes hash)) }
+    ensures hash { IfOk result (λ below. hash_bytes below ≡ hash_beside first (term_of height side.now) (reverse keys.old.items) (hash_bytes above)) }
 {
     if !is_reached(side, height) {
-        return Ok(hash);
+        return Ok(above);
     }
     match keys.pop() {
         Some(key) => {
             let sibling = tree_hash(side, height, first);
-            let below = sibling_hash(key.as_slice(), bytes_of(&hash), &sibling);
-            out.push(merged_parent(alloc, key, &hash)?)?;
+            let below = sibling_hash(key.as_slice(), bytes_of(&above), &sibling);
+            out.push(merged_parent(alloc, key, &above)?)?;
             Ok(Some(below))
         }
-        None => Ok(hash),
+        None => Ok(above),
     }
 }
 
-/// Adds the parents that a merge makes over a leaf to `out`, the highest first. Their keys are the last ones, which are
-/// taken.
+/// Adds the parents that a merge makes over a leaf to `out`, the highest first, and answers the parent hash that reaches
+/// the leaf. Their keys are the last ones, which are taken.
 #[tactic(auto, using(mls_treemath::specs::Sizes::nodes_in_pos))]
 fn add_parents(
     alloc: Global,
@@ -163,13 +163,14 @@ fn add_parents(
     keys: &mut Vec<Bytes>,
     hash: Option<Hash>,
     out: &mut Vec<ParentNode>,
-) -> Result<(), AllocError>
+) -> Result<Option<Hash>, AllocError>
     requires shape { length nodes.now ≡ nodes_in height }
     requires fits { first + 2 ^ height ≤ 2 ^ 31 }
-    ensures { OnOk result (out.new.items ≡ out.old.items ++ path_parents first (term_of height nodes.now) leaf (reverse keys.old.items) (hash_bytes hash)) }
+    ensures parents { OnOk result (out.new.items ≡ out.old.items ++ path_parents first (term_of height nodes.now) leaf (reverse keys.old.items) (hash_bytes hash)) }
+    ensures hash { IfOk result (λ below. hash_bytes below ≡ path_hash first (term_of height nodes.now) leaf (reverse keys.old.items) (hash_bytes hash)) }
 {
     if height == 0 {
-        return Ok(());
+        return Ok(hash);
     }
     let middle = middle_of(nodes.len(), height);
     let second = first + (middle / 2 + 1) as u32;
@@ -184,8 +185,17 @@ fn add_parents(
     }
 }
 
-/// The parents that a merge makes over a leaf, the highest first (RFC 9420, 7.5 and 7.9). Their keys are given lowest
-/// first, and the highest one's parent hash is empty.
+/// What a merge writes over a leaf, and what it hands down to it.
+#[derive(Drop)]
+pub struct MergedPath {
+    /// The parents, the highest first.
+    pub parents: Vec<ParentNode>,
+    /// The parent hash that reaches the leaf: None, which stands for no bytes, where there is no parent.
+    pub hash: Option<Hash>,
+}
+
+/// The parents that a merge makes over a leaf, and the parent hash that reaches it (RFC 9420, 7.5 and 7.9). Their keys
+/// are given lowest first, and the highest one's parent hash is empty. Each node beside the path is hashed once.
 pub fn path_parents(
     alloc: Global,
     nodes: &[Option<Node>],
@@ -193,15 +203,25 @@ pub fn path_parents(
     first: u32,
     leaf: u32,
     keys: Vec<Bytes>,
-) -> Result<Vec<ParentNode>, AllocError>
+) -> Result<MergedPath, AllocError>
     requires shape { length nodes.now ≡ nodes_in height }
     requires fits { first + 2 ^ height ≤ 2 ^ 31 }
-    ensures { IfOk result (λ v. v.items ≡ path_parents first (term_of height nodes.now) leaf (reverse keys.items) []) }
+    ensures parents { IfOk result (λ p. p.parents.items ≡ path_parents first (term_of height nodes.now) leaf (reverse keys.items) []) }
+    ensures hash { IfOk result (λ p. hash_bytes p.hash ≡ path_hash first (term_of height nodes.now) leaf (reverse keys.items) []) }
 {
     let mut keys = keys;
-    let mut out = Vec::new(alloc);
-    add_parents(alloc, nodes, height, first, leaf, &mut keys, None, &mut out)?;
-    Ok(out)
+    let mut parents = Vec::new(alloc);
+    let hash = add_parents(
+        alloc,
+        nodes,
+        height,
+        first,
+        leaf,
+        &mut keys,
+        None,
+        &mut parents,
+    )?;
+    Ok(MergedPath { parents, hash })
 }
 
 /// The cell of the next parent where one is wanted, and a blank one elsewhere.

@@ -1,6 +1,6 @@
 //! A commit's path: the parent hash of its leaf, and its merge.
 
-ghost use Rattle.std.specs.Prelude.{◌≡◌, ◌≤◌, None, true, IfOk, OnOk, OnErr};
+ghost use Rattle.std.specs.Prelude.{◌≡◌, ℕ, ◌≤◌, List, [], reverse, None, true, IfOk, OnOk};
 ghost use Rattle.mls_wire.specs.Checks.{passed, Answers, AnswersOutright};
 ghost use Rattle.mls_treemath.specs.Limits.{max_height};
 ghost use Rattle.mls_term.specs.Node.{source_hash};
@@ -14,7 +14,7 @@ ghost use Rattle.mls_term.specs.Good.{Rules, IsGood, IsSound, AreNew, AreFit, ha
 ghost use Rattle.mls_term.specs.Arrays.{term_of};
 ghost use Rattle.mls_array.specs.Standing.{Stands};
 ghost use Rattle.mls_array.specs.StandingLaws.{StandsFor};
-ghost use Rattle.mls_array.specs.Merging.{hash_bytes};
+ghost use Rattle.mls_array.specs.Merging.{hash_bytes, path_parents};
 ghost use Rattle.mls_tree.specs.Faults.{number_of};
 ghost use Rattle.mls_tree.specs.Kept.{KeepsGood};
 ghost use Rattle.mls_tree.specs.Tree.{term};
@@ -22,28 +22,34 @@ ghost use Rattle.mls_tree.specs.Paths.{path_checks, path_hash_answer, merge_chec
 
 use crate::error::TreeError;
 use crate::tree::PublicTree;
-use mls_array::{self as array, Hash};
-use mls_leaf::{Bytes, LeafNode, LeafSource, Node};
+use mls_array::{self as array, Hash, MergedPath};
+use mls_leaf::{Bytes, LeafNode, LeafSource, Node, ParentNode};
 use std::alloc::AllocError;
 
-/// Merges a path with these keys, the lowest first.
+/// Merges a path whose parents these are, the highest first. Takes no memory.
 fn merge(
     nodes: &mut Vec<Option<Node>>,
     height: u32,
     i: u32,
     leaf: LeafNode,
-    keys: Vec<Bytes>,
-) -> Result<(), AllocError>
+    parents: Vec<ParentNode>,
+)
     requires stands { Stands height nodes.old.items }
     requires low { height ≤ max_height }
-    ensures ok { OnOk result (StandsFor height nodes.new.items (merge_path (term_of height nodes.old.items) i leaf keys.items)) }
-    ensures err { OnErr result (nodes.new.items ≡ nodes.old.items) }
+    ensures { (keys : List (List ℕ)) → parents.items ≡ path_parents 0 (term_of height nodes.old.items) i (reverse keys) [] → StandsFor height nodes.new.items (merge_path (term_of height nodes.old.items) i leaf keys) }
 {
-    let alloc = *nodes.allocator();
-    let parents = array::path_parents(alloc, nodes, height, 0, i, keys)?;
     let mut parents = parents.into_iter();
     array::merge(nodes, height, 0, i, &mut parents, leaf);
-    Ok(())
+}
+
+/// Whether the leaf's source is a commit with this parent hash.
+fn has_parent_hash(leaf: &LeafNode, hash: &[u8]) -> bool
+    ensures { result ≡ is_some_bytes (source_hash leaf.now.source) hash.now }
+{
+    match &leaf.source {
+        LeafSource::Commit { parent_hash } => parent_hash.as_slice() == hash,
+        _ => false,
+    }
 }
 
 impl PublicTree {
@@ -61,6 +67,16 @@ impl PublicTree {
         array::path_hash(&self.nodes, self.height, 0, i, keys, None)
     }
 
+    /// The parents over leaf i, the highest first, and the parent hash that reaches it.
+    fn merged_path(&self, i: u32, keys: Vec<Bytes>) -> Result<MergedPath, AllocError>
+        ensures parents { IfOk result (λ p. p.parents.items ≡ path_parents 0 (term self.now) i (reverse keys.items) []) }
+        ensures hash { IfOk result (λ p. hash_bytes p.hash ≡ path_parent_hash (term self.now) i keys.items) }
+    {
+        let alloc = *self.nodes.allocator();
+        let path = array::path_parents(alloc, &self.nodes, self.height, 0, i, keys)?;
+        Ok(path)
+    }
+
     /// Whether the merged tree has no encryption key twice.
     fn keys_differ(&self, i: u32, leaf: &LeafNode, keys: &[Bytes]) -> Result<bool, AllocError>
         ensures { IfOk result (λ b. b ≡ is_distinct same_bytes (encryption_keys (merge_path (term self.now) i leaf.now keys.now))) }
@@ -68,19 +84,6 @@ impl PublicTree {
         let mut all = Vec::new(*self.nodes.allocator());
         array::merged_keys(&self.nodes, self.height, 0, i, leaf, keys, &mut all)?;
         Ok(array::are_distinct(all))
-    }
-
-    /// Whether the leaf's source is a commit with the path's parent hash.
-    fn has_path_hash(&self, i: u32, leaf: &LeafNode, keys: &[Bytes]) -> bool
-        ensures { result ≡ is_some_bytes (source_hash leaf.now.source) (path_parent_hash (term self.now) i keys.now) }
-    {
-        match &leaf.source {
-            LeafSource::Commit { parent_hash } => {
-                let hash = self.path_hash(i, keys);
-                parent_hash.as_slice() == array::bytes_of(&hash)
-            }
-            _ => false,
-        }
     }
 
     /// Refuses a leaf index at which no member is, and then a number of keys that isn't that of the filtered path.
@@ -96,23 +99,31 @@ impl PublicTree {
         Ok(())
     }
 
-    /// The checks of a path before it is merged.
-    fn require_merge(&self, i: u32, leaf: &LeafNode, keys: &[Bytes]) -> Result<(), TreeError>
-        ensures { Answers (λ _. passed) number_of (merge_checks (term self.now) i leaf.now keys.now) result }
+    /// The parents of a path that may be merged, the highest first. They come with the parent hash that the last check
+    /// wants, so no hash is made twice.
+    fn require_merge(
+        &self,
+        i: u32,
+        leaf: &LeafNode,
+        keys: Vec<Bytes>,
+    ) -> Result<Vec<ParentNode>, TreeError>
+        ensures checks { Answers (λ _. passed) number_of (merge_checks (term self.now) i leaf.now keys.items) result }
+        ensures parents { IfOk result (λ v. v.items ≡ path_parents 0 (term self.now) i (reverse keys.items) []) }
     {
         match self.require_path(i, keys.len()) {
             Err(error) => return Err(error),
             Ok(()) => {}
         }
-        let differ = self.keys_differ(i, leaf, keys)?;
+        let differ = self.keys_differ(i, leaf, &keys)?;
         if !differ {
             return Err(TreeError::KeyRepeated);
         }
-        let right = self.has_path_hash(i, leaf, keys);
+        let path = self.merged_path(i, keys)?;
+        let right = has_parent_hash(leaf, array::bytes_of(&path.hash));
         if !right {
             return Err(TreeError::ParentHashWrong);
         }
-        Ok(())
+        Ok(path.parents)
     }
 
     /// The parent hash that the leaf of a path with these keys must have, the lowest first: empty where the filtered
@@ -142,12 +153,12 @@ impl PublicTree {
         // A sound tree becomes good, as keys are checked here, where no client repeats in the merged tree.
         ensures checked { OnOk result ((rules : Rules) → AreFit rules i leaf keys.items → has_distinct_clients (term self.new) ≡ true → IsSound rules (term self.old) → IsGood rules (term self.new)) }
     {
-        match self.require_merge(i, &leaf, &keys) {
+        let parents = match self.require_merge(i, &leaf, keys) {
             Err(error) => return Err(error),
-            Ok(()) => {}
-        }
+            Ok(parents) => parents,
+        };
         let height = self.height;
-        merge(&mut self.nodes, height, i, leaf, keys)?;
+        merge(&mut self.nodes, height, i, leaf, parents);
         Ok(())
     }
 }

@@ -6,13 +6,13 @@ use Rattle.mls_array.specs.Merging.{path_parents}
 use Rattle.mls_tree.proofs.Pathing.{merged_stands}
 use Rattle.mls_tree.proofs.paths.merge.Goals as goal
 
-pub returns-clause-ok : goal.returns-clause-ok
-returns-clause-ok c =
-    let made =
+pub returns : goal.returns
+returns c = λ keys made.
+    let taken =
     c.into_iter-parents.ensures.rest
-    ∙ c.in_ok-parents.ensures
-    ∙ ap (λ xs. path_parents 0 (term_of c.args.height xs) c.args.i (reverse c.args.keys.items) []) (c.deref.ensures.value ∙ sym c.deref_mut.ensures.value) in
-    merged_stands c.args.height c.args.nodes.now.items _ c.args.i c.args.leaf c.args.keys.items
+    ∙ made
+    ∙ ap (λ xs. path_parents 0 (term_of c.args.height xs) c.args.i (reverse keys) []) (sym c.deref_mut.ensures.value) in
+    merged_stands c.args.height c.args.nodes.now.items _ c.args.i c.args.leaf keys
     (with_items_is c.args.nodes.now c.merge.new.nodes (c.merge.auto.nodes ∙ c.deref_mut.ensures.len)
-    ∙ c.merge.ensures (reverse c.args.keys.items) [] made
-    ∙ ap (λ xs. in_order (merge 0 (term_of c.args.height xs) c.args.i (reverse c.args.keys.items) [] c.args.leaf)) c.deref_mut.ensures.value)
+    ∙ c.merge.ensures (reverse keys) [] taken
+    ∙ ap (λ xs. in_order (merge 0 (term_of c.args.height xs) c.args.i (reverse keys) [] c.args.leaf)) c.deref_mut.ensures.value)

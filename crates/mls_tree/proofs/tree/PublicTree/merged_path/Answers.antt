@@ -1,0 +1,20 @@
+use Rattle.std.proofs.Common.{[], reverse, ◌∙◌, ap}
+use Rattle.mls_term.specs.Merge.{path_hash, path_parent_hash}
+use Rattle.mls_term.specs.Arrays.{term_of}
+use Rattle.mls_array.specs.Merging.{path_parents}
+use Rattle.mls_tree.specs.Tree.{term}
+use Rattle.mls_tree.proofs.Pathing.{hash_is}
+use Rattle.mls_tree.proofs.tree.PublicTree.merged_path.Goals as goal
+
+pub returns-clause-parents : goal.returns-clause-parents
+returns-clause-parents c =
+    c.in_ok-path.ensures.parents
+    ∙ ap (λ xs. path_parents 0 (term_of c.self.inside.height xs) c.args.i (reverse c.args.keys.items) []) c.deref.ensures.value
+    ∙ ap (λ t. path_parents 0 (term t) c.args.i (reverse c.args.keys.items) []) c.self.view_is
+
+pub returns-clause-hash : goal.returns-clause-hash
+returns-clause-hash c =
+    c.in_ok-path.ensures.hash
+    ∙ ap (λ xs. path_hash 0 (term_of c.self.inside.height xs) c.args.i (reverse c.args.keys.items) []) c.deref.ensures.value
+    ∙ hash_is _ _ _
+    ∙ ap (λ t. path_parent_hash (term t) c.args.i c.args.keys.items) c.self.view_is
