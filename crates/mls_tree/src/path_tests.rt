@@ -1,7 +1,10 @@
 use crate::members::{byte, leaf, member};
-use crate::{PublicTree, TreeError};
+use crate::{Hash, PublicTree, TreeError};
 use mls_array as array;
-use mls_leaf::{Bytes, LeafNode, LeafSource, Node, parent_hash_input};
+use mls_leaf::{
+    Bytes, LeafError, LeafNode, LeafSource, Node, parent_hash_input, tree_hash_input_of_leaf,
+};
+use sha2::{Digest, Sha256};
 use std::alloc::{AllocError, Global};
 use std::test::*;
 
@@ -84,13 +87,20 @@ fn four_without(alloc: Global, blank: &[u32]) -> Result<PublicTree, TreeError> {
     Ok(tree)
 }
 
-/// Merges member i's path of one new key, and answers the parent hash that its leaf has.
+/// A key of 32 bytes.
+fn long_key(alloc: Global) -> Result<Vec<Bytes>, AllocError> {
+    let mut keys = Vec::new(alloc);
+    keys.push(Bytes::from_vec(Vec::from_slice(alloc, &[9; 32])?))?;
+    Ok(keys)
+}
+
+/// Merges member i's path of one new key, and answers the length of the parent hash that its leaf has.
 fn merged(alloc: Global, tree: &mut PublicTree, i: u32) -> Result<usize, TreeError> {
-    let hash = tree.path_parent_hash(i, &one_key(alloc, 9)?)?;
+    let hash = tree.path_parent_hash(i, &long_key(alloc)?)?;
     let length = hash.len();
     let parent_hash = Bytes::from_vec(hash);
     let new = leaf(alloc, 8, LeafSource::Commit { parent_hash })?;
-    tree.merge_path(i, new, one_key(alloc, 9)?)?;
+    tree.merge_path(i, new, long_key(alloc)?)?;
     Ok(length)
 }
 
@@ -125,8 +135,48 @@ fn the_highest_filtered_node_is_below_the_root(rt: HostRuntime) -> Result<(), Fa
         _ => false,
     };
     assert!(rt; is_empty);
-    let input = parent_hash_input(alloc, &[9; 32], &[], &[7; 32])?;
+    Ok(())
+}
+
+fn sha256(text: &[u8]) -> Hash {
+    let mut hasher = Sha256::new();
+    hasher.update(text);
+    hasher.finalize()
+}
+
+/// The input of node 5's parent hash, whose other side is leaf 3.
+fn input_of_node_5(alloc: Global, tree: &PublicTree) -> Result<Vec<u8>, LeafError> {
+    let sibling = sha256(&tree_hash_input_of_leaf(alloc, 3, tree.leaf(3))?);
+    match tree.node(5) {
+        Some(Node::Parent(parent)) => parent_hash_input(
+            alloc,
+            parent.encryption_key(),
+            parent.parent_hash(),
+            &sibling,
+        ),
+        _ => Ok(Vec::new(alloc)),
+    }
+}
+
+/// Whether leaf 2 has this parent hash.
+fn leaf_has_hash(tree: &PublicTree, hash: &[u8]) -> bool {
+    match tree.leaf(2) {
+        Some(leaf) => match &leaf.source {
+            LeafSource::Commit { parent_hash } => parent_hash.as_slice() == hash,
+            _ => false,
+        },
+        None => false,
+    }
+}
+
+#[test]
+fn the_highest_parent_hash_is_of_an_empty_one(rt: HostRuntime) -> Result<(), Fail> {
+    let alloc = rt.alloc();
+    let mut tree = four_without(alloc, &[0, 1])?;
+    merged(alloc, &mut tree, 2)?;
+    let input = input_of_node_5(alloc, &tree)?;
     assert_eq!(rt; input.len(), 67);
+    assert!(rt; leaf_has_hash(&tree, &sha256(&input)));
     Ok(())
 }
 
