@@ -15,4 +15,4 @@ alone x t is short i =
     subst (λ s. IfSome (leaf_of s i) (λ v. IsShort leaf_node v)) (sym is) (either (nat_lt i (width (Leaf (Some x)))) x short)
 
 pub returns : goal.returns
-returns c = alone c.args.leaf _ c.in_ok-tree.ensures c.requires
+returns c = alone c.args.leaf _ c.in_ok-tree.ensures.tree c.requires
