@@ -96,9 +96,9 @@ fn added_leaves_have_no_ciphertext(rt: HostRuntime) -> Result<(), Fail> {
 }
 
 /// The number that leaf i refuses a path with, whose keys are then as before, or 0.
-fn refused(alloc: Global, i: u32, key: u8, nodes: &[UpdatePathNode]) -> Result<u8, Fail> {
+fn refused(alloc: Global, i: u8, nodes: &[UpdatePathNode]) -> Result<u8, Fail> {
     let tree = four(alloc)?;
-    let mut own = PrivatePath::new(alloc, i, [key; 32]);
+    let mut own = PrivatePath::new(alloc, u32::from(i), [i; 32]);
     let before = key_nodes(alloc, &own)?;
     match own.open_path::<Glass>(&tree, 1, &[], nodes, b"context") {
         Ok(_) => Ok(0),
@@ -116,7 +116,7 @@ fn refused(alloc: Global, i: u32, key: u8, nodes: &[UpdatePathNode]) -> Result<u
 /// The number that leaf 2 refuses the path with, whose highest node has this path secret, or 0.
 fn refused_path(alloc: Global, highest: &Secret, keys: &[u8], text: &[u8]) -> Result<u8, Fail> {
     let nodes = path(alloc, highest, keys, text)?;
-    refused(alloc, 2, 3, &nodes)
+    refused(alloc, 2, &nodes)
 }
 
 #[test]
@@ -134,8 +134,8 @@ fn paths_that_are_refused(rt: HostRuntime) -> Result<(), Fail> {
 #[test]
 fn another_chain_above(rt: HostRuntime) -> Result<(), Fail> {
     let alloc = rt.alloc();
-    let nodes = path(alloc, &[8; 32], &[3, 4], &second())?;
-    assert_eq!(rt; refused(alloc, 0, 1, &nodes)?, 34);
+    let nodes = path(alloc, &[8; 32], &[2, 3], &second())?;
+    assert_eq!(rt; refused(alloc, 0, &nodes)?, 34);
     Ok(())
 }
 
@@ -159,6 +159,6 @@ fn a_changed_ciphertext(rt: HostRuntime) -> Result<(), Fail> {
     if let Some(node) = nodes.last_mut() {
         node.ciphertexts = Items::from_vec(ciphertexts);
     }
-    assert_eq!(rt; refused(alloc, 2, 3, &nodes)?, 32);
+    assert_eq!(rt; refused(alloc, 2, &nodes)?, 32);
     Ok(())
 }

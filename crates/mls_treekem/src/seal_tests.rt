@@ -82,7 +82,7 @@ fn a_path_of_four(rt: HostRuntime) -> Result<(), Fail> {
 #[test]
 fn a_sealed_path_is_opened(rt: HostRuntime) -> Result<(), Fail> {
     let alloc = rt.alloc();
-    let tree = four(alloc, public(alloc, 3)?)?;
+    let tree = four(alloc)?;
     let nodes = sealed(alloc, &tree, &[])?;
     let made = PathSecrets::new::<Glass>(alloc, &[7; 32], 2)?;
     let mut beside = PrivatePath::new(alloc, 0, [0; 32]);
