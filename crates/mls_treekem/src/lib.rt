@@ -19,8 +19,6 @@ mod error;
 mod follow;
 mod keys;
 mod make;
-#[cfg(test)]
-mod members;
 mod open;
 #[cfg(test)]
 mod open_tests;
@@ -30,6 +28,8 @@ mod seal;
 #[cfg(test)]
 mod seal_tests;
 mod secrets;
+#[cfg(test)]
+mod small_trees;
 mod take;
 #[cfg(test)]
 mod take_tests;

@@ -1,6 +1,6 @@
 //! Leaf 1's path in a tree of four members, as the others open it.
 
-use crate::members::{four, key_nodes};
+use crate::small_trees::{four, key_nodes};
 use crate::{PathSecrets, PrivatePath, TreeKemError};
 use mls_group::{HpkeCiphertext, UpdatePathNode};
 use mls_kdf::{Secret, derive_secret};

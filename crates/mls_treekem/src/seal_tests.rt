@@ -1,6 +1,6 @@
 //! Paths that are sealed in small trees.
 
-use crate::members::{four, leaf};
+use crate::small_trees::{four, leaf};
 use crate::{PathSecrets, PrivatePath, TreeKemError, seal_path, seal_seed, seals_in};
 use mls_group::UpdatePathNode;
 use mls_kdf::{Secret, derive_secret};

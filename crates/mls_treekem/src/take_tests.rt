@@ -1,6 +1,6 @@
 //! What a joiner takes.
 
-use crate::members::{key_at, key_nodes, member};
+use crate::small_trees::{key_at, key_nodes, member};
 use crate::{PrivatePath, TreeKemError};
 use mls_kdf::{Secret, derive_secret};
 use mls_leaf::{Bytes, Items, Node, ParentNode};

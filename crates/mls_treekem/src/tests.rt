@@ -1,6 +1,6 @@
 //! Secrets of paths, and the keys that a member has.
 
-use crate::members::{key_at, key_nodes, member};
+use crate::small_trees::{key_at, key_nodes, member};
 use crate::{PathSecrets, PrivatePath, TreeKemError};
 use mls_kdf::{Secret, derive_secret};
 use mls_suite::{Glass, KeyPair, Suite};
