@@ -18,6 +18,7 @@ use Rattle.mls_term.specs.Laws.{HasLists}
 use Rattle.mls_term.specs.SetLaws.{all_at, all_from, has-append, has-filter, of_leaf_numbers}
 use Rattle.mls_term.specs.ShapeLaws.{size-width}
 use Rattle.mls_term.specs.ParentLaws.{parents_parts}
+use Rattle.mls_term.specs.NamedLaws.{lists_bound}
 use Rattle.mls_term.specs.ResolutionLaws.{resolution_range}
 use Rattle.mls_treekem.specs.Seal.{targets, is_fit, all_fit, targets_fit}
 
@@ -81,9 +82,9 @@ module _ (c : Crypto) where
       let m = parents_parts lists_here b None l r k in
       let f = ok_parts None l r h in
       elim (or_cases (has (resolution b l) d) _ (sym (has-append (resolution b l) (resolution (b + width l) r) d) ∙ e)) [
-        | inl q ↦ ap (is_fit c) (at_node_left None own_key b None l r d (resolution_range b l d m.1 q).1) ∙ reached_fit b l d m.1 f.0 q
+        | inl q ↦ ap (is_fit c) (at_node_left None own_key b None l r d (resolution_range lists_here lists_bound b l d m.1 q).1) ∙ reached_fit b l d m.1 f.0 q
         | inr q ↦
-            let low : 2 * (b + width l) ≤ d = (resolution_range (b + width l) r d m.2 q).0 in
+            let low : 2 * (b + width l) ≤ d = (resolution_range lists_here lists_bound (b + width l) r d m.2 q).0 in
             ap (is_fit c) (at_node_right None own_key b None l r d (omega arith)) ∙ reached_fit (b + width l) r d m.2 f.2 q
       ]
 

@@ -130,7 +130,7 @@ here_due j (Some p) l = rw l refl
 
 due_here : (j : ℕ) (p : Option Parent) → is_due j p None ≡ true → ListsAt j p
 due_here j None d = tt
-due_here j (Some p) d = or_none (has p.unmerged_leaves j) d
+due_here j (Some p) d = sym (or-false (has p.unmerged_leaves j)) ∙ d
 
 listed_due : (j : ℕ) (ss : List Step) (sk : List ℕ) → AllList j ss → is_complete j ss (leaf_only ss sk) ≡ true
 unfolding AllList is_complete leaf_only
