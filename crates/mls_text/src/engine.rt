@@ -23,7 +23,8 @@ pub enum Fault {
 
 /// All bytes that the reader has left.
 pub fn read_whole<R: Read>(alloc: Global, file: &mut R) -> Result<Vec<u8>, Fault>
-    ensures { IfOk result (λ bytes. IfSome (R.remaining file.old) (λ all. bytes.items ≡ all)) }
+    ensures whole { IfOk result (λ bytes. IfSome (R.remaining file.old) (λ all. bytes.items ≡ all)) }
+    ensures read { IfErr result (λ e. e ≢ Fault.Write) }
 {
     let mut bytes = Vec::new(alloc);
     match file.read_to_end(&mut bytes) {
@@ -32,7 +33,9 @@ pub fn read_whole<R: Read>(alloc: Global, file: &mut R) -> Result<Vec<u8>, Fault
     }
 }
 
-fn read_fault(error: &io::Error) -> Fault {
+fn read_fault(error: &io::Error) -> Fault
+    ensures { result ≢ Fault.Write }
+{
     match error.kind() {
         ErrorKind::OutOfMemory => Fault::OutOfMemory,
         _ => Fault::Read,

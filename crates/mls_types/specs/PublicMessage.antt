@@ -1,12 +1,11 @@
 -- The formats of wire formats, of public messages and of what is hashed of them (RFC 9420, 6, 6.2 and 17.2).
-use Rattle.std.specs.Prelude.{◌≡◌, ℕ, List, refl}
+use Rattle.std.specs.Prelude.{◌≡◌, refl}
 use Rattle.std.proofs.Common.{◌⊎◌, inl, inr}
 use Rattle.mls_wire.specs.Format.{Format}
 use Rattle.mls_wire.specs.CombineLaws.{IsNonempty}
 use Rattle.mls_wire.specs.Combine.{◌⨾◌, seen, nothing, case, others, by_uint16, byte_string}
 use Rattle.mls_leaf.specs.Nonempty.{first_nonempty, by_uint16_nonempty}
 use Rattle.mls_types.specs.Signed.{signed_content, signed_content_nonempty}
-use Rattle.mls_types.specs.declared.signed.SignedContent.{SignedContent}
 use Rattle.mls_types.specs.declared.public_message.WireFormat as formats
 use Rattle.mls_types.specs.declared.public_message.WireFormat.TheVariants.{PublicMessage, Welcome, GroupInfo, KeyPackage}
 use Rattle.mls_types.specs.declared.public_message.PublicMessage as messages

@@ -1,4 +1,4 @@
-use Rattle.std.proofs.Common.{refl, ap, arith, ◌≡◌, ℕ, List, Result, Err}
+use Rattle.std.proofs.Common.{refl, ap, arith, ℕ, List, Result}
 use Rattle.mls_wire.specs.Reading.{◌>>=◌}
 use Rattle.mls_wire.specs.CombineLaws.{seen_read}
 use Rattle.mls_wire.specs.Combine.{case, others, nothing}

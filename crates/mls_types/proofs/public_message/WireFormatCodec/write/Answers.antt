@@ -1,4 +1,4 @@
-use Rattle.std.proofs.Common.{lit<, ◌<◌, ◌^◌}
+use Rattle.std.proofs.Common.{lit<}
 use Rattle.std.proofs.lemmas.List.{append-nil}
 use Rattle.mls_types.specs.PublicMessage.{wire_format}
 use Rattle.mls_types.proofs.public_message.WireFormatCodec.write.Goals as goal
