@@ -7,7 +7,7 @@ ghost use Rattle.std.specs.Prelude.{Some};
 
 use crate::arguments::job;
 use crate::serving::serve;
-use std::alloc::AllocError;
+use std::alloc::{AllocError, Global};
 use std::io;
 use std::io::{ErrorKind, Read, Write};
 use std::test::Fail;
@@ -31,11 +31,22 @@ const SHOW_HELP: &str =
     "Prints a message field by field\n\nUsage: mls show <FILE>\n\nArguments:\n  <FILE>  An MLSMessage in hex\n\nOptions:\n  -h, --help  Print help\n";
 
 /// Ends a test where the program found no memory: what it says then is right, but not what the test looks for.
-pub fn unless_out_of_memory(status: u8, err: &[u8]) -> Result<(), AllocError> {
+fn unless_out_of_memory(status: u8, err: &[u8]) -> Result<(), AllocError> {
     if status == 3 && err == b"mls: out of memory\n".as_slice() {
         return Err(AllocError);
     }
     Ok(())
+}
+
+/// The status for words and a file, and what is printed: on the output, and behind it on the errors.
+pub fn printed(alloc: Global, words: &[&str], file: &[u8]) -> Result<(u8, Vec<u8>), AllocError> {
+    let job = job(alloc, words);
+    let mut out = Vec::new(alloc);
+    let mut err = Vec::new(alloc);
+    let status = serve(alloc, &job, Some(file), &mut out, &mut err);
+    unless_out_of_memory(status, &err)?;
+    out.extend_from_slice(err.as_slice())?;
+    Ok((status, out))
 }
 
 /// Takes so many bytes, and then fails.
@@ -99,15 +110,10 @@ fn shows_and_refuses(rt: HostRuntime) -> Result<(), Fail> {
         ("0", 1, "refused: 8 NotHex\n"),
     ];
     let words = ["mls", "show", "FILE"];
-    let job = job(alloc, words.as_slice());
     for (file, status, text) in table {
-        let mut out = Vec::new(alloc);
-        let mut err = Vec::new(alloc);
-        let answer = serve(alloc, &job, Some(file.as_bytes()), &mut out, &mut err);
-        unless_out_of_memory(answer, &err)?;
+        let (answer, out) = printed(alloc, words.as_slice(), file.as_bytes())?;
         assert_eq!(rt; answer, status);
         assert!(rt; out.as_slice() == text.as_bytes());
-        assert!(rt; err.is_empty());
     }
     Ok(())
 }
@@ -168,15 +174,10 @@ fn shows_each_kind(rt: HostRuntime) -> Result<(), Fail> {
         ),
     ];
     let words = ["mls", "show", "FILE"];
-    let job = job(alloc, words.as_slice());
     for (file, status, text) in table {
-        let mut out = Vec::new(alloc);
-        let mut err = Vec::new(alloc);
-        let answer = serve(alloc, &job, Some(file.as_bytes()), &mut out, &mut err);
-        unless_out_of_memory(answer, &err)?;
+        let (answer, out) = printed(alloc, words.as_slice(), file.as_bytes())?;
         assert_eq!(rt; answer, status);
         assert!(rt; out.as_slice() == text.as_bytes());
-        assert!(rt; err.is_empty());
     }
     Ok(())
 }

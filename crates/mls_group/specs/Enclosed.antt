@@ -6,12 +6,7 @@ use Rattle.std.proofs.lemmas.List.{append-nil, nil_from_length}
 use Rattle.mls_wire.specs.Reading.{◌>>=◌, rest_of, uint_at, opaque, opaque_at}
 use Rattle.mls_wire.specs.Format.{IsBytes, Takes, IsLawful, Format}
 use Rattle.mls_wire.specs.Laws.{bind_ok, bound, ok_is, opaque_takes, opaque_again, opaque_bytes}
-use Rattle.mls_wire.specs.CombineLaws.{IsNonempty}
-
--- whether reading succeeds
-abbrev pub passed : {V : Type 0} → Result V ℕ → Result (Unit {0}) ℕ
-passed (Ok v) = Ok tt
-passed (Err e) = Err e
+use Rattle.mls_wire.specs.CombineLaws.{IsNonempty, forgotten, ended, ended_past, entire_takes, entire_again, entire_passes}
 
 -- The spelling of each value that has one, and reading all of the bytes, which gives a value or the number of the first fault.
 pub record Whole (V : Type 0) : Type 1 where
@@ -22,50 +17,9 @@ pub record Whole (V : Type 0) : Type 1 where
   pub again : (v : V) → Fits v → read (spell v) ≡ Ok v
   -- reading past all of the bytes, with no value made
   pub pass : List ℕ → Result (Unit {0}) ℕ
-  pub passes : (bytes : List ℕ) → pass bytes ≡ passed (read bytes)
-
-abbrev ok_of : {V : Type 0} → V → Result V ℕ
-ok_of v = Ok v
-
-value_is : {V : Type 0} (x y : V) → ok_of x ≡ ok_of y → x ≡ y
-value_is x y e = cc
-
--- a test that went one way
-if_first : {A : Type 0} (b : Bool) (d : ℕ) (x y : A) → cond b (Ok x) (Err d) ≡ Ok y → (b ≡ true) × (x ≡ y)
-if_first true d x y e = (refl, cc)
-if_first false d x y e = absurd cc
+  pub passes : (bytes : List ℕ) → pass bytes ≡ forgotten (read bytes)
 
 -- ---- one value, and no byte behind it
-
-abbrev pub ended : {V : Type 0} → V × List ℕ → Result V ℕ
-ended x = if length x.1 == 0 then Ok x.0 else Err 3
-
-abbrev pub ended_past : List ℕ → Result (Unit {0}) ℕ
-ended_past rest = if length rest == 0 then Ok tt else Err 3
-
-pub entire_takes : {V : Type 0} (a : Format V) (bytes : List ℕ) (v : V) → IsBytes bytes → (a.read bytes >>= ended) ≡ Ok v → (bytes ≡ a.spell v) × a.Fits v
-entire_takes {V} a bytes v fits e =
-    let s = bind_ok (a.read bytes) ended v e in
-    let g = if_first (eqb (length s.0.1) 0) 3 s.0.0 v s.2 in
-    let t = a.lawful.takes bytes s.0.0 s.0.1 fits s.1 in
-    let nil : s.0.1 ≡ [] = nil_from_length s.0.1 (eqb-true _ _ g.0) in
-    subst (λ (x : V). (bytes ≡ a.spell x) × a.Fits x) g.1 (t.0.parts ∙ ap (λ (l : List ℕ). a.spell s.0.0 ++ l) nil ∙ append-nil (a.spell s.0.0), t.1)
-
-pub entire_again : {V : Type 0} (a : Format V) (v : V) → a.Fits v → (a.read (a.spell v) >>= ended) ≡ Ok v
-entire_again a v fits =
-    let read : a.read (a.spell v) ≡ Ok (v, []) = ap a.read (sym (append-nil (a.spell v))) ∙ a.lawful.again v [] fits in
-    rw read refl
-
-if_passed : {V : Type 0} (b : Bool) (d : ℕ) (v : V) → cond b (Ok tt) (Err d) ≡ passed (cond b (Ok v) (Err d))
-if_passed true d v = refl
-if_passed false d v = refl
-
-ended_passes : {V : Type 0} (r : Result (V × List ℕ) ℕ) → (rest_of r >>= ended_past) ≡ passed (r >>= ended)
-ended_passes (Ok x) = if_passed (eqb (length x.1) 0) 3 x.0
-ended_passes (Err e) = refl
-
-pub entire_passes : {V : Type 0} (a : Format V) (bytes : List ℕ) → (a.pass bytes >>= ended_past) ≡ passed (a.read bytes >>= ended)
-entire_passes a bytes = ap (λ (r : Result (List ℕ) ℕ). r >>= ended_past) (a.passes bytes) ∙ ended_passes (a.read bytes)
 
 -- one value; bytes left behind it are 3
 abbrev pub entire : {V : Type 0} → Format V → Whole V
@@ -113,7 +67,7 @@ alone_takes false fault v r o e = absurd (no_second r fault o e)
 one_takes_by : {V : Type 0} (a : Format V) (fault : ℕ) (bytes : List ℕ) (o : Option V) (b : Bool) → b ≡ eqb (length bytes) 0 → IsBytes bytes → cond b (Ok None) (a.read bytes >>= alone fault) ≡ Ok o → (bytes ≡ one_spelling_of a o) × OneFits a o
 one_takes_by {V} a fault bytes o true is fits e =
     let nil : bytes ≡ [] = nil_from_length bytes (eqb-true _ _ (sym is)) in
-    subst (λ (x : Option V). (bytes ≡ one_spelling_of a x) × OneFits a x) (value_is None o e) (nil, tt)
+    subst (λ (x : Option V). (bytes ≡ one_spelling_of a x) × OneFits a x) (ok_is None o e) (nil, tt)
 one_takes_by {V} a fault bytes o false is fits e =
     let s = bind_ok (a.read bytes) (alone fault) o e in
     let g = alone_takes (eqb (length s.0.1) 0) fault s.0.0 (uint_at w16 s.0.1) o s.2 in
@@ -134,21 +88,21 @@ one_again a nonempty fault (Some v) fits =
     let read : a.read (a.spell v) ≡ Ok (v, []) = ap a.read (sym (append-nil (a.spell v))) ∙ a.lawful.again v [] fits in
     rw (some, read) refl
 
-second_passed : {A : Type 0} (r : Result (ℕ × List ℕ) ℕ) (fault : ℕ) (b : Bool) (v : A) → cond b (Ok tt) (r >>= λ _. Err fault) ≡ passed (cond b (Ok (Some v)) (r >>= λ _. Err fault))
+second_passed : {A : Type 0} (r : Result (ℕ × List ℕ) ℕ) (fault : ℕ) (b : Bool) (v : A) → cond b (Ok tt) (r >>= λ _. Err fault) ≡ forgotten (cond b (Ok (Some v)) (r >>= λ _. Err fault))
 second_passed (Ok x) fault true v = refl
 second_passed (Ok x) fault false v = refl
 second_passed (Err e) fault true v = refl
 second_passed (Err e) fault false v = refl
 
-alone_passes : {V : Type 0} (fault : ℕ) (r : Result (V × List ℕ) ℕ) → (rest_of r >>= alone_past fault) ≡ passed (r >>= alone fault)
+alone_passes : {V : Type 0} (fault : ℕ) (r : Result (V × List ℕ) ℕ) → (rest_of r >>= alone_past fault) ≡ forgotten (r >>= alone fault)
 alone_passes fault (Ok x) = second_passed (uint_at w16 x.1) fault (eqb (length x.1) 0) x.0
 alone_passes fault (Err e) = refl
 
-chosen_passes : {V : Type 0} (b : Bool) (p : Result (Unit {0}) ℕ) (r : Result (Option V) ℕ) → p ≡ passed r → cond b (Ok tt) p ≡ passed (cond b (Ok None) r)
+chosen_passes : {V : Type 0} (b : Bool) (p : Result (Unit {0}) ℕ) (r : Result (Option V) ℕ) → p ≡ forgotten r → cond b (Ok tt) p ≡ forgotten (cond b (Ok None) r)
 chosen_passes true p r e = refl
 chosen_passes false p r e = e
 
-pub one_passes : {V : Type 0} (a : Format V) (fault : ℕ) (bytes : List ℕ) → one_past a fault bytes ≡ passed (one_at a fault bytes)
+pub one_passes : {V : Type 0} (a : Format V) (fault : ℕ) (bytes : List ℕ) → one_past a fault bytes ≡ forgotten (one_at a fault bytes)
 one_passes a fault bytes =
     chosen_passes (eqb (length bytes) 0) (a.pass bytes >>= alone_past fault) (a.read bytes >>= alone fault)
     (ap (λ (r : Result (List ℕ) ℕ). r >>= alone_past fault) (a.passes bytes) ∙ alone_passes fault (a.read bytes))
@@ -191,7 +145,7 @@ enclosed_lawful {V} w = record {
       ∙ bound (w.read (w.spell v)) v (λ y. with_rest rest y) (w.again v fits.0);
 }
 
-enclosed_one : {V : Type 0} (p : Result (Unit {0}) ℕ) (r : Result V ℕ) (rest : List ℕ) → p ≡ passed r → (p >>= λ _. Ok rest) ≡ rest_of (r >>= λ v. with_rest rest v)
+enclosed_one : {V : Type 0} (p : Result (Unit {0}) ℕ) (r : Result V ℕ) (rest : List ℕ) → p ≡ forgotten r → (p >>= λ _. Ok rest) ≡ rest_of (r >>= λ v. with_rest rest v)
 enclosed_one p (Ok v) rest e = ap (λ (q : Result (Unit {0}) ℕ). q >>= λ _. Ok rest) e
 enclosed_one p (Err f) rest e = ap (λ (q : Result (Unit {0}) ℕ). q >>= λ _. Ok rest) e
 

@@ -6,7 +6,7 @@ use Rattle.std.proofs.lemmas.Bool.{cases_order, and_parts, lt-ltb, le-ltb, le-le
 use Rattle.std.proofs.lemmas.List.{at_drop_more, at_drop_all, take_more, take-append-drop}
 use Rattle.mls_wire.specs.Reading.{◌>>=◌}
 use Rattle.mls_wire.specs.Laws.{bind_ok, ok_is}
-use Rattle.mls_wire.specs.CombineLaws.{all_is, tested, chosen_by}
+use Rattle.mls_wire.specs.CombineLaws.{tested, chosen_by}
 use Rattle.mls_wire.specs.Combine.{vector, uint32}
 use Rattle.mls_wire.specs.Stateful.{run_at, run_spelling, RunFits, vector_from}
 use Rattle.mls_leaf.specs.declared.error.LeafError.{LeafError}
@@ -35,13 +35,13 @@ rises_from-stops low x xs lt = rises_from-cons low x xs ∙ ap (λ (b : Bool). b
 -- ---- what is read rises
 
 pub run_rises : (fuel low : ℕ) (bytes vs : List ℕ) → run_at rising fuel low bytes ≡ Ok vs → rises_from low vs ≡ true
-run_rises fuel low [] vs e = subst (λ (l : List ℕ). rises_from low l ≡ true) (all_is [] vs e) (rises_from-nil low)
+run_rises fuel low [] vs e = subst (λ (l : List ℕ). rises_from low l ≡ true) (ok_is [] vs e) (rises_from-nil low)
 run_rises zero low (b ∷ bytes) vs e = absurd cc
 run_rises (suc fuel) low (b ∷ bytes) vs e =
     let a = bind_ok ((rising.item low).read (b ∷ bytes)) (λ first. run_at rising fuel (rising.next low first.0) first.1 >>= λ others. Ok (first.0 ∷ others)) vs e in
     let t = bind_ok (run_at rising fuel (rising.next low a.0.0) a.0.1) (λ others. Ok (a.0.0 ∷ others)) vs a.2 in
     let passed = passes_test uint32.read low (b ∷ bytes) a.0.0 a.0.1 a.1 in
-    subst (λ (l : List ℕ). rises_from low l ≡ true) (all_is (a.0.0 ∷ t.0) vs t.2) (rises_from-more low a.0.0 t.0 passed ∙ run_rises fuel (a.0.0 + 1) a.0.1 t.0 t.1)
+    subst (λ (l : List ℕ). rises_from low l ≡ true) (ok_is (a.0.0 ∷ t.0) vs t.2) (rises_from-more low a.0.0 t.0 passed ∙ run_rises fuel (a.0.0 + 1) a.0.1 t.0 t.1)
   where
     tested_is : (low : ℕ) (x y : ℕ × List ℕ) (b : Bool) → b ≡ nat_le low x.0 → chosen_by b 13 x ≡ Ok y → low ≤ y.0
     tested_is low x y true is e = subst (λ (z : ℕ × List ℕ). low ≤ z.0) (ok_is x y e) (leb-true low x.0 (sym is))

@@ -3,14 +3,14 @@ use Rattle.std.proofs.Common.{◌≡◌, ℕ, zero, suc, ◌<◌, ◌≤◌, Lis
 use Rattle.std.proofs.lemmas.List.{append-nil, length-append}
 use Rattle.mls_wire.specs.Reading.{◌>>=◌}
 use Rattle.mls_wire.specs.Format.{Format, IsBytes}
-use Rattle.mls_wire.specs.CombineLaws.{IsNonempty, forgotten}
+use Rattle.mls_wire.specs.CombineLaws.{IsNonempty, forgotten, forgotten_step}
 use Rattle.mls_wire.specs.Stateful.{Rule, run_at}
 
 -- what was read before, and what is still read
 abbrev pub with_front : {V : Type 0} → List V → Result (List V) ℕ → Result (List V) ℕ
 with_front front read = read >>= λ vs. Ok (front ++ vs)
 
-abbrev good_all : {V : Type 0} → List V → Result (List V) ℕ
+abbrev pub good_all : {V : Type 0} → List V → Result (List V) ℕ
 good_all l = Ok l
 
 pub regroup : {V : Type 0} (front : List V) (v : V) (read : Result (List V) ℕ) → with_front front (read >>= λ vs. Ok (v ∷ vs)) ≡ with_front (front ++ v ∷ []) read
@@ -30,7 +30,7 @@ pub record GoesOnFrom {S V : Type 0} (rule : Rule S V) (total : Result (List V) 
   pub enough : length bytes ≤ fuel
   pub so_far : with_front front (run_at rule fuel s bytes) ≡ total
 
-nothing_in_front : {V : Type 0} (read : Result (List V) ℕ) → with_front [] read ≡ read
+pub nothing_in_front : {V : Type 0} (read : Result (List V) ℕ) → with_front [] read ≡ read
 nothing_in_front (Ok vs) = refl
 nothing_in_front (Err f) = refl
 
@@ -75,10 +75,6 @@ pub record PastFrom {S V : Type 0} (rule : Rule S V) (total : Result (Unit {0}) 
 
 pub past_begins_from : {S V : Type 0} (rule : Rule S V) (s : S) (bytes : List ℕ) → PastFrom rule (forgotten (run_at rule (length bytes) s bytes)) s bytes
 past_begins_from rule s bytes = record { fuel = length bytes; enough = omega arith; so_far = refl }
-
-forgotten_step : {V : Type 0} (v : V) (read : Result (List V) ℕ) → forgotten read ≡ forgotten (read >>= λ vs. Ok (v ∷ vs))
-forgotten_step v (Ok vs) = refl
-forgotten_step v (Err e) = refl
 
 past_step_from : {S V : Type 0} (rule : Rule S V) (total : Result (Unit {0}) ℕ) (s : S) (fuel : ℕ) (bytes rest : List ℕ) (v : V) → length rest < length bytes → length bytes ≤ fuel → (rule.item s).read bytes ≡ Ok (v, rest)
     → forgotten (run_at rule fuel s bytes) ≡ total → PastFrom rule total (rule.next s v) rest

@@ -4,7 +4,7 @@ use Rattle.std.proofs.Math.Nat.{pow-suc}
 use Rattle.std.proofs.lemmas.Bool.{cases_order, cases_lt}
 use Rattle.mls_treemath.specs.Paths.{Path, nodes_in, root_of, index_of, longer, path_to}
 use Rattle.mls_treemath.specs.Sizes.{nodes_in-suc, nodes_in-pow, suc-root_of, root_of-suc, nodes_in-zero}
-use Rattle.mls_treemath.specs.Ways.{Node, node_at, no_node, path_left, path_root, path_right}
+use Rattle.mls_treemath.specs.Ways.{Node, node_at, no_node, path_left, path_root, path_right, same_some}
 use Rattle.mls_treemath.specs.Steps.{common, height_of, parting, parting_among, common_ancestor_of, IsTreeOf}
 use Rattle.mls_treemath.specs.Descent.{apart, Reached}
 use Rattle.mls_treemath.proofs.Moves.{limit_fits, nodes_of}
@@ -12,9 +12,6 @@ use Rattle.mls_treemath.proofs.Moves.{limit_fits, nodes_of}
 apart_at : (h u v : ℕ) (p q : Path) → path_to h u ≡ Some p → path_to h v ≡ Some q → apart h u v ≡ Some (index_of h (common p q))
 unfolding parting
 apart_at h u v p q to_u to_v = ap (λ o. parting h o (path_to h v)) to_u ∙ ap (parting h (Some p)) to_v
-
-same_some : {a b : ℕ} → Some a ≡ Some b → a ≡ b
-same_some s = cc
 
 -- both on the left side
 apart_left : (h u v z : ℕ) → u < nodes_in h → v < nodes_in h → apart h u v ≡ Some z → apart (suc h) u v ≡ Some z

@@ -13,10 +13,10 @@ pub record Node (h x : ℕ) : Type 0 where
   pub short : length way ≤ h
   pub place : x ≡ index_of h way
 
-no_some : {A : Type 0} {y : A} → None ≡ Some y → ⊥
+pub no_some : {A : Type 0} {y : A} → None ≡ Some y → ⊥
 no_some e = cc
 
-same_some : {A : Type 0} {a b : A} → Some a ≡ Some b → a ≡ b
+pub same_some : {A : Type 0} {a b : A} → Some a ≡ Some b → a ≡ b
 same_some s = cc
 
 -- the way in a larger tree: on its left side, at its root, and on its right side

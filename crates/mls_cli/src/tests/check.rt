@@ -1,9 +1,6 @@
 //! What `mls check` prints, by way of `serve`.
 
-use crate::arguments::job;
-use crate::serving::serve;
-use crate::tests::unless_out_of_memory;
-use std::alloc::{AllocError, Global};
+use crate::tests::printed;
 use std::test::Fail;
 
 /// `examples/tree.hex`. The tree hash is Python's SHA-256 of `01 00000000 01` and the leaf.
@@ -21,17 +18,6 @@ const LINES: &str =
 
 const LINES_OF_SUITE_1: &str =
     "leaves: 1\nmembers: 1\ntree_hash: 754879a771f78780e3bedb21d618103a3fa605220876b0115cf607c73d05b74c\nunmerged: ok\nparent_hashes: ok\nkeys: ok\nclients: ok\nsignatures: not checked\nrefused: 52 LeafCapability\n";
-
-/// The status and the text for words and a file.
-fn printed(alloc: Global, words: &[&str], file: &str) -> Result<(u8, Vec<u8>), AllocError> {
-    let job = job(alloc, words);
-    let mut out = Vec::new(alloc);
-    let mut err = Vec::new(alloc);
-    let status = serve(alloc, &job, Some(file.as_bytes()), &mut out, &mut err);
-    unless_out_of_memory(status, &err)?;
-    out.extend_from_slice(err.as_slice())?;
-    Ok((status, out))
-}
 
 #[test]
 fn checks_and_refuses(rt: HostRuntime) -> Result<(), Fail> {
@@ -68,7 +54,7 @@ fn checks_and_refuses(rt: HostRuntime) -> Result<(), Fail> {
         (&["mls", "check", "FILE", "--suite=f002"], "", 2, OTHER),
     ];
     for (words, file, status, text) in table {
-        let (answer, out) = printed(alloc, words, file)?;
+        let (answer, out) = printed(alloc, words, file.as_bytes())?;
         assert_eq!(rt; answer, status);
         assert!(rt; out.as_slice() == text.as_bytes());
     }

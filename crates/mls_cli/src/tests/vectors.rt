@@ -1,8 +1,6 @@
 //! What `mls vectors` prints, by way of `serve`.
 
-use crate::arguments::job;
-use crate::serving::serve;
-use crate::tests::unless_out_of_memory;
+use crate::tests::printed;
 use std::alloc::{AllocError, Global};
 use std::test::Fail;
 
@@ -32,16 +30,7 @@ const BAD_JSON: &str = "refused: 9 BadJson\n";
 
 const NOT_HEX: &str = "refused: 8 NotHex\n";
 
-/// The status and the text for a file.
-fn printed(alloc: Global, file: &[u8]) -> Result<(u8, Vec<u8>), AllocError> {
-    let words = ["mls", "vectors", "FILE"];
-    let job = job(alloc, words.as_slice());
-    let mut out = Vec::new(alloc);
-    let mut err = Vec::new(alloc);
-    let status = serve(alloc, &job, Some(file), &mut out, &mut err);
-    unless_out_of_memory(status, &err)?;
-    Ok((status, out))
-}
+const WORDS: &[&str] = &["mls", "vectors", "FILE"];
 
 #[test]
 fn judges(rt: HostRuntime) -> Result<(), Fail> {
@@ -96,7 +85,7 @@ fn judges(rt: HostRuntime) -> Result<(), Fail> {
         ),
     ];
     for (file, status, text) in table {
-        let (answer, out) = printed(alloc, file.as_bytes())?;
+        let (answer, out) = printed(alloc, WORDS, file.as_bytes())?;
         assert_eq!(rt; answer, status, "for {file}");
         assert!(rt; out.as_slice() == text.as_bytes());
     }
@@ -142,11 +131,11 @@ fn refuses_files(rt: HostRuntime) -> Result<(), Fail> {
         ),
     ];
     for (file, text) in table {
-        let (status, out) = printed(alloc, file.as_bytes())?;
+        let (status, out) = printed(alloc, WORDS, file.as_bytes())?;
         assert_eq!(rt; status, 1, "for {file}");
         assert!(rt; out.as_slice() == text.as_bytes());
     }
-    let (status, out) = printed(alloc, b"[\xff]")?;
+    let (status, out) = printed(alloc, WORDS, b"[\xff]")?;
     assert_eq!(rt; status, 1);
     assert!(rt; out.as_slice() == BAD_JSON.as_bytes());
     Ok(())
@@ -174,7 +163,7 @@ fn limits(rt: HostRuntime) -> Result<(), Fail> {
         let file = format!(in alloc;
             "[{{\"kind\":\"expand\",\"secret\":\"\",\"label\":\"{label}\",\"context\":\"\",\"out\":\"{okm}\"}}]"
         )?;
-        let (status, out) = printed(alloc, file.as_bytes())?;
+        let (status, out) = printed(alloc, WORDS, file.as_bytes())?;
         assert_eq!(rt; status, 1);
         assert!(rt; out.as_slice() == text.as_bytes());
     }
