@@ -1,6 +1,7 @@
 -- The one node of a resolution that a list of leaves doesn't have.
 use Rattle.std.proofs.Common.{◌≡◌, ℕ, ◌+◌, ◌-◌, ◌*◌, ◌/◌, ◌%◌, ◌<◌, ◌≤◌, ◌==◌, nat_lt, Bool, true, false, not, ◌&&◌, ◌||◌, List, [], ◌∷◌, Option, Some, None, refl, sym, ◌∙◌, ap, inl, inr, arith, eqb-true, eq-eqb, lt-ltb, le-ltb, ne_eqb}
 use Rattle.std.specs.Prelude.{nat_le, nat_eq}
+use Rattle.std.specs.Cmp.{both_ways}
 use Rattle.std.specs.List.{list_all, list_any, find}
 use Rattle.std.specs.List.Sorted.{IsPermutation}
 use Rattle.std.proofs.lemmas.List.Sorted.{list_any-IsPermutation}
@@ -10,7 +11,7 @@ use Rattle.mls_term.specs.Sets.{has, within, leaf_numbers, is_same_set}
 use Rattle.mls_term.specs.Term.{Term, width}
 use Rattle.mls_term.specs.Resolution.{resolution}
 use Rattle.mls_term.specs.Hashes.{hash_at, is_some_bytes, is_witness, has_witness, parent_hash}
-use Rattle.mls_term.specs.SetLaws.{same_bool, eqb_refl, any_at, any_from, has-filter, has-leaf_numbers, of_leaf_numbers, set_at, has-any}
+use Rattle.mls_term.specs.SetLaws.{eqb_refl, any_at, any_from, has-filter, has-leaf_numbers, of_leaf_numbers, set_at, has-any}
 use Rattle.mls_array.specs.Witnesses.{numbers_in, others, first_off, kept, only_off, candidate}
 
 -- ---- lists as sets
@@ -172,7 +173,7 @@ tied_at ls xs f (Some d) e =
     let out : has ls d ≡ false = not-true (has ls d) s.1 in
     elim (cases_Bool (is_same_set ls (others d xs))) [
       | inl t ↦
-          rw t (same_bool _ _
+          rw t (both_ways _ _
           (λ h. let g = any_at (λ d. f d && is_same_set ls (others d xs)) xs h in let p = and_parts (f g.0) _ g.2 in ap f (one ls xs d g.0 p.1 s.0 out) ∙ p.0)
           (λ h. any_from (λ d. f d && is_same_set ls (others d xs)) xs d s.0 (and_from (f d) _ h t)))
       | inr t ↦

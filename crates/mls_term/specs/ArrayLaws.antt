@@ -6,6 +6,7 @@ use Rattle.mls_leaf.specs.Parent.{Parent}
 use Rattle.mls_leaf.specs.declared.leaf.LeafNode.{LeafNode}
 use Rattle.mls_leaf.specs.declared.node.Node.{Node}
 use Rattle.mls_treemath.specs.Paths.{nodes_in}
+use Rattle.mls_treemath.specs.Sizes.{nodes_in-zero, nodes_in-suc, nodes_in_up}
 use Rattle.mls_term.specs.Term.{Term, Leaf, Branch, width, size, is_perfect, has_leaf, is_full_width}
 use Rattle.mls_term.specs.Good.{is_within}
 use Rattle.mls_term.specs.Places.{at_node}
@@ -15,37 +16,15 @@ use Rattle.mls_term.specs.ShapeLaws.{size-width, width-perfect}
 
 -- ---- how many nodes a tree has
 
-nodes_in-zero : nodes_in 0 ≡ 1
-unfolding nodes_in
-nodes_in-zero = refl
-
-pub nodes_in-more : (h : ℕ) → nodes_in (suc h) ≡ nodes_in h + suc (nodes_in h)
-unfolding nodes_in
-nodes_in-more h = refl
-
 pub nodes_in-leaves : (h : ℕ) → suc (nodes_in h) ≡ 2 * 2 ^ h
 unfolding nodes_in
 nodes_in-leaves zero = refl
 nodes_in-leaves (suc h) = omega (arith, nodes_in-leaves h, pow-suc 2 h)
 
--- no fewer than its height, and more the higher it is
+-- no fewer than its height
 high_enough : (h : ℕ) → suc h ≤ nodes_in h
 high_enough zero = let e = nodes_in-zero in omega arith
-high_enough (suc h) = let e = nodes_in-more h in let d = high_enough h in omega arith
-
-rises_by : (h k : ℕ) → nodes_in h ≤ nodes_in (k + h)
-rises_by h zero = let e : nodes_in (zero + h) ≡ nodes_in h = ap nodes_in (omega arith) in omega arith
-rises_by h (suc k) =
-    let f : nodes_in (suc k + h) ≡ nodes_in (suc (k + h)) = ap nodes_in (omega arith) in
-    let e = nodes_in-more (k + h) in
-    let d = rises_by h k in
-    omega arith
-
-no_fewer : (h j : ℕ) → h ≤ j → nodes_in h ≤ nodes_in j
-no_fewer h j le =
-    let d = rises_by h (j - h) in
-    let e : nodes_in (j - h + h) ≡ nodes_in j = ap nodes_in (omega arith) in
-    omega arith
+high_enough (suc h) = let e = nodes_in-suc h in let d = high_enough h in omega arith
 
 -- ---- a list as a tree
 
@@ -288,7 +267,7 @@ least (suc more) j h n low high small enough =
     above : nat_le n (nodes_in j) ≡ false → suc j ≤ h
     above e = elim (cases_lt j h) [
       | inl lt ↦ omega arith
-      | inr ge ↦ let z = no_fewer h j ge in absurd (true≢false (sym (le-leb n (nodes_in j) (omega arith)) ∙ e))
+      | inr ge ↦ let z = nodes_in_up h j ge in absurd (true≢false (sym (le-leb n (nodes_in j) (omega arith)) ∙ e))
     ]
 
 pub least_height : (h n : ℕ) → ((k : ℕ) → k < h → nodes_in k < n) → n ≤ nodes_in h → height_for n ≡ h
@@ -313,7 +292,7 @@ sent_long (suc h) (Branch c l r) p f k lt =
     let q = and_parts (is_perfect h l) (is_perfect h r) p in
     let e = cut_root c l r (cut_member r f) in
     let s = size-perfect h l q.0 in
-    let m = no_fewer k h (omega arith) in
+    let m = nodes_in_up k h (omega arith) in
     omega arith
 
 sent_some : (t : Term) → is_full_width t ≡ true → 0 < length (cut (in_order t))

@@ -1,5 +1,6 @@
 -- A member has the key of one node of a resolution, and its way parts from another's at one parent.
 use Rattle.std.proofs.Common.{◌≡◌, ℕ, ◌+◌, ◌*◌, ◌<◌, ◌≤◌, ◌==◌, nat_lt, nat_le, nat_eq, Bool, true, false, not, ◌&&◌, ◌||◌, cond, List, [], ◌∷◌, ◌++◌, length, map, filter, length-append, Option, Some, None, is_some, IsSome, refl, sym, ◌∙◌, ap, ap₂, arith, inl, inr, eqb-true, eq-eqb, ne_eqb, lt-ltb, le-ltb, le-leb, ltb-true, leb-true}
+use Rattle.std.specs.Cmp.{both_ways}
 use Rattle.std.proofs.lemmas.Bool.{true≢false, and_parts, and_from, or_left, or_right, cond-true, cond-false, cases_lt, cases_eq, cases_Bool, false_from_ne_true}
 use Rattle.std.proofs.lemmas.List.Elements.{filter-append}
 use Rattle.mls_leaf.specs.Parent.{Parent}
@@ -12,7 +13,7 @@ use Rattle.mls_term.specs.Lists.{all_parents, may_list, rises_here}
 use Rattle.mls_term.specs.Resolution.{is_reached}
 use Rattle.mls_term.specs.Held.{holds, held}
 use Rattle.mls_term.specs.Way.{Step, step_at, way, is_filtered, is_beside}
-use Rattle.mls_term.specs.SetLaws.{same_bool, of_leaf_numbers, has-leaf_numbers, eqb_refl}
+use Rattle.mls_term.specs.SetLaws.{of_leaf_numbers, has-leaf_numbers, eqb_refl}
 use Rattle.mls_term.specs.ShapeLaws.{size-width}
 use Rattle.mls_term.specs.ParentLaws.{parents_parts}
 use Rattle.mls_term.specs.ResolutionLaws.{resolution_range, reached}
@@ -98,7 +99,7 @@ holds_range b (Branch c l r) j d h =
     ]
 
 twice : (u j : ℕ) → (u == j) ≡ (2 * u == 2 * j)
-twice u j = same_bool _ _ (λ k. let f : u ≡ j = eqb-true u j k in eq-eqb (2 * u) (2 * j) (omega arith)) (λ k. let f : 2 * u ≡ 2 * j = eqb-true (2 * u) (2 * j) k in eq-eqb u j (omega arith))
+twice u j = both_ways _ _ (λ k. let f : u ≡ j = eqb-true u j k in eq-eqb (2 * u) (2 * j) (omega arith)) (λ k. let f : 2 * u ≡ 2 * j = eqb-true (2 * u) (2 * j) k in eq-eqb u j (omega arith))
 
 holds_at_leaf : (b : ℕ) (v : Option LeafNode) (j u : ℕ) → b ≡ j → holds b (Leaf v) j (2 * u) ≡ (u == j)
 unfolding holds

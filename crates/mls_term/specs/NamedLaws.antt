@@ -2,13 +2,14 @@
 use Rattle.std.proofs.Common.{◌≡◌, ℕ, ◌+◌, ◌<◌, ◌≤◌, nat_lt, nat_le, true, false, ◌&&◌, cond, Option, Some, None, is_some, refl, sym, ◌∙◌, ap, arith, subst, inl, inr, lt-ltb, le-ltb, ltb-true, leb-true, le-leb, eqb-true, Bool}
 use Rattle.std.proofs.lemmas.Bool.{true≢false, and_parts, and_from, or_cases, or_left, or_right, cond-true, cond-false, cases_lt, false_from_ne_true}
 use Rattle.mls_leaf.specs.Parent.{Parent, inserted}
+use Rattle.mls_leaf.specs.ParentLaws.{rises_from-inserted}
 use Rattle.mls_leaf.specs.declared.leaf.LeafNode.{LeafNode}
 use Rattle.mls_term.specs.Equations.{enter_left, enter_right, leaf_at_left, leaf_at_right}
 use Rattle.mls_term.specs.Term.{Term, Leaf, Branch, width, leaf_at}
 use Rattle.mls_term.specs.Sets.{has}
 use Rattle.mls_term.specs.Edits.{enter, listing}
 use Rattle.mls_term.specs.Lists.{asked, all_parents, may_list, is_listed, may_be_listed, lists_here, rises_here, lists, is_named}
-use Rattle.mls_term.specs.SetLaws.{all_at, all_from, has-with, rises-with, eqb_refl}
+use Rattle.mls_term.specs.SetLaws.{all_at, all_from, has-with, eqb_refl}
 use Rattle.mls_term.specs.ShapeLaws.{width-enter}
 use Rattle.mls_term.specs.ParentLaws.{parents_parts, parents_from}
 
@@ -186,7 +187,7 @@ lists-enter b (Branch c l r) i x low high h =
 asked_rises : (b i : ℕ) (c : Option Parent) (l r s t : Term) → asked rises_here b c l r ≡ true → asked rises_here b (listing i c) s t ≡ true
 unfolding rises_here
 asked_rises b i None l r s t h = refl
-asked_rises b i (Some p) l r s t h = rises-with 0 i p.unmerged_leaves (omega arith) h
+asked_rises b i (Some p) l r s t h = rises_from-inserted 0 i p.unmerged_leaves (omega arith) h
 
 pub rises-enter : (b : ℕ) (t : Term) (i : ℕ) (x : LeafNode) → all_parents rises_here b t ≡ true → all_parents rises_here b (enter b t i x) ≡ true
 rises-enter b (Leaf v) i x h = unfold all_parents enter in refl
