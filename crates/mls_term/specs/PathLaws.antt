@@ -24,10 +24,11 @@ unfolding filtered_path path_length
 length-filtered_path b t i =
     length-reverse (map (λ s. s.node) (filtered_way b t i)) ∙ length-map (filtered_way b t i) (λ s. s.node)
 
--- a list the other way round has the same values as often
-reverse-cons : {A : Type 0} (x : A) (xs : List A) → reverse (x ∷ xs) ≡ reverse xs ++ (x ∷ [])
+-- a list the other way round
+pub reverse-cons : {A : Type 0} (x : A) (xs : List A) → reverse (x ∷ xs) ≡ reverse xs ++ (x ∷ [])
 reverse-cons x xs = reverse-append (x ∷ []) xs
 
+-- it has the same values as often
 count-reverse : (y : List ℕ) (xs : List (List ℕ)) → count same_bytes y (reverse xs) ≡ count same_bytes y xs
 count-reverse y [] = refl
 count-reverse y (x ∷ xs) =

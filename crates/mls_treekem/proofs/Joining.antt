@@ -4,6 +4,7 @@ use Rattle.std.specs.Str.{bytes_eq}
 use Rattle.std.proofs.lemmas.Slice.Eq.{bytes_eq-Decides}
 use Rattle.std.proofs.lemmas.Bool.{and_parts, cases_lt, or_right}
 use Rattle.std.proofs.Math.Bool.{or-false}
+use Rattle.mls_wire.specs.Laws.{bind_ok}
 use Rattle.mls_leaf.specs.Parent.{Parent}
 use Rattle.mls_leaf.specs.declared.leaf.LeafNode.{LeafNode}
 use Rattle.mls_term.specs.Sets.{has}
@@ -28,7 +29,7 @@ use Rattle.mls_treekem.specs.Join.{past_present, is_present, climb_take, is_due,
 use Rattle.mls_treekem.proofs.Heights.{leaf_is_on_way}
 use Rattle.mls_treekem.proofs.Meets.{Meets, meets_from, along_from}
 use Rattle.mls_treekem.proofs.Making.{merged_way, way_merge}
-use Rattle.mls_treekem.proofs.Receiving.{bind_ok, beside_filtered}
+use Rattle.mls_treekem.proofs.Receiving.{beside_filtered}
 
 -- a key that is had is the parent's, which doesn't list the leaf
 abbrev pub Sound : Crypto → ℕ → Option Parent → Option (List ℕ) → Type 0

@@ -3,9 +3,10 @@ use Rattle.std.proofs.Common.{◌≡◌, ℕ, zero, suc, ◌+◌, ◌-◌, ◌*�
 use Rattle.std.proofs.lemmas.Bool.{cond-true, cond-false, cases_lt, cases_eq, true≢false, and_parts}
 use Rattle.std.proofs.lemmas.List.{reverse-append, reverse-reverse, length-reverse, get_or-append_right, get_or_append_left, get_or_past}
 use Rattle.mls_term.specs.Term.{Term, Leaf, Branch, width, size, is_perfect}
-use Rattle.mls_term.specs.Way.{way}
+use Rattle.mls_term.specs.Way.{Step, way}
 use Rattle.mls_term.specs.Equations.{way_leaf, way_left, way_right}
 use Rattle.mls_term.specs.ShapeLaws.{size-width, width-perfect}
+use Rattle.mls_term.specs.PathLaws.{reverse-cons}
 use Rattle.mls_treekem.specs.Keys.{Keys}
 use Rattle.mls_treekem.specs.Follow.{key_above, on_way}
 use Rattle.mls_treekem.specs.Height.{pairs_from, listed, ArePairs}
@@ -40,9 +41,6 @@ get_past xs x i e = elim (cases_lt i (length xs)) [
   | inr k ↦ get_or_past (xs ++ (x ∷ [])) i None (omega (arith, length-end xs x)) ∙ sym (get_or_past xs i None k)
 ]
 
-pub reverse-cons : {A : Type 0} (x : A) (xs : List A) → reverse (x ∷ xs) ≡ reverse xs ++ (x ∷ [])
-reverse-cons x xs = reverse-append (x ∷ []) xs
-
 pub reverse-end : {A : Type 0} (xs : List A) (x : A) → reverse (xs ++ (x ∷ [])) ≡ x ∷ reverse xs
 reverse-end xs x = reverse-append xs (x ∷ [])
 
@@ -66,6 +64,21 @@ module _ (p : PrivateKeys) (above : Keys) (n : ℕ) (is : reverse above ≡ p.ab
       sym (ap (λ k. key_above k (all_keys p)) (let z : n ≡ suc (n - 1) = omega arith in z)
       ∙ above_is p.above (Some p.own) (n - 1)
       ∙ ap (λ zs. get_or zs (n - 1) None) same_keys)
+
+-- ---- keys read on a way
+
+pub length-on_way : (ss : List Step) (ks : Keys) → length (on_way ss ks) ≡ suc (length ss)
+unfolding on_way
+length-on_way [] ks = refl
+length-on_way (s ∷ ss) ks = ap suc (length-on_way ss ks)
+
+-- ways of one length give the same keys
+pub same_length : (ss ts : List Step) (ks : Keys) → length ss ≡ length ts → on_way ss ks ≡ on_way ts ks
+unfolding on_way
+same_length [] [] ks e = refl
+same_length [] (t ∷ ts) ks e = absurd (omega arith)
+same_length (s ∷ ss) [] ks e = absurd (omega arith)
+same_length (s ∷ ss) (t ∷ ts) ks e = let k : length ss ≡ length ts = omega arith in ap₂ (λ n zs. key_above (suc n) ks ∷ zs) k (same_length ss ts ks k)
 
 -- ---- pairs
 

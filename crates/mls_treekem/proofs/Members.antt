@@ -23,18 +23,13 @@ use Rattle.mls_treekem.specs.Raise.{HasMade}
 use Rattle.mls_treekem.specs.Whole.{keys_of_path}
 use Rattle.mls_treekem.proofs.Heights.{exact_is_on_way}
 use Rattle.mls_treekem.proofs.Joining.{take_exact, leaf_exact}
-use Rattle.mls_treekem.proofs.Levels.{above_take, above_pass, length-end, way_height}
+use Rattle.mls_treekem.proofs.Levels.{above_take, above_pass, length-end, length-on_way, same_length, way_height}
 use Rattle.mls_treekem.proofs.Making.{merged_way, way_merge}
 use Rattle.mls_treekem.proofs.OnePass.{along_length, no_key_above, follow_edit_exact, own_edit_exact}
 use Rattle.mls_treekem.proofs.Taking.{take_inside}
 use Rattle.mls_treekem.proofs.Wholes.{made_exact, opened_exact}
 
 -- ---- keys read on a way
-
-length-on_way : (ss : List Step) (ks : Keys) → length (on_way ss ks) ≡ suc (length ss)
-unfolding on_way
-length-on_way [] ks = refl
-length-on_way (s ∷ ss) ks = ap suc (length-on_way ss ks)
 
 low_same : (ss : List Step) (ks : Keys) (n : ℕ) → n ≤ length ss → key_above n (on_way ss ks) ≡ key_above n ks
 unfolding on_way
@@ -54,13 +49,6 @@ follow_same : (ss ts : List Step) (ks : Keys) → length ks ≤ suc (length ss) 
 unfolding follow_edit
 follow_same ss [] ks room = ap (λ o. o ∷ []) (key_same ss ks 0 room)
 follow_same ss (t ∷ ts) ks room = ap₂ (λ o zs. (if is_some t.parent then o else None) ∷ zs) (key_same ss ks (suc (length ts)) room) (follow_same ss ts ks room)
-
-same_long : (ss ts : List Step) (ks : Keys) → length ss ≡ length ts → on_way ss ks ≡ on_way ts ks
-unfolding on_way
-same_long [] [] ks e = refl
-same_long [] (t ∷ ts) ks e = absurd (omega arith)
-same_long (s ∷ ss) [] ks e = absurd (omega arith)
-same_long (s ∷ ss) (t ∷ ts) ks e = let z : length ss ≡ length ts = omega arith in ap₂ (λ n zs. key_above (suc n) ks ∷ zs) z (same_long ss ts ks z)
 
 length-merged : (ss : List Step) (ms : List (List ℕ)) (h : List ℕ) → length (merged_way ss ms h) ≡ length ss
 unfolding merged_way
@@ -91,7 +79,7 @@ exact_made c h t x start old new perfect room own made =
     let long : length (way 0 u old.leaf) ≡ length (way 0 t old.leaf) = way_long t old.leaf x (keys_of_path c t old.leaf start) in
     let high : length (way 0 t old.leaf) ≡ h = way_height h 0 t old.leaf perfect in
     let few : length new.above ≤ h = made.low h t perfect room refl in
-    let same : on_way (way 0 u old.leaf) (all_keys new) ≡ made_keys c (way 0 t old.leaf) start old.own = same_long (way 0 u old.leaf) (way 0 t old.leaf) (all_keys new) long ∙ made.keys h t perfect room refl in
+    let same : on_way (way 0 u old.leaf) (all_keys new) ≡ made_keys c (way 0 t old.leaf) start old.own = same_length (way 0 u old.leaf) (way 0 t old.leaf) (all_keys new) long ∙ made.keys h t perfect room refl in
     let exact : Exact c 0 u old.leaf (on_way (way 0 u old.leaf) (all_keys new)) = subst (λ (ks : Keys). Exact c 0 u old.leaf ks) (sym same) (made_exact c t old.leaf x start old.own own) in
     record {
       keys = subst (λ j. Exact c 0 u j (on_way (way 0 u j) (all_keys new))) (sym made.leaf) exact;

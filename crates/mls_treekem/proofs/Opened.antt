@@ -6,6 +6,7 @@ use Rattle.std.proofs.lemmas.Bool.{cond-true, cond-false, cases_lt, true≢false
 use Rattle.std.proofs.lemmas.List.{drop_all, length-reverse, length-map}
 use Rattle.mls_wire.specs.Checks.{given, Answers, AnswersOutright}
 use Rattle.mls_wire.specs.Reading.{◌>>=◌}
+use Rattle.mls_wire.specs.Laws.{bind_ok}
 use Rattle.mls_group.specs.declared.update_path.HpkeCiphertext.{HpkeCiphertext}
 use Rattle.mls_group.specs.declared.update_path.UpdatePathNode.{UpdatePathNode}
 use Rattle.mls_suite.specs.Crypto.{Crypto}
@@ -32,8 +33,7 @@ use Rattle.mls_treekem.specs.Open.{left_by, unseal_secret, of_32, open_first, fi
 use Rattle.mls_treekem.specs.Opening.{secret_in, keys_on, key_of, IsKeyOf, AreKeysUpTo, OpensAlong}
 use Rattle.mls_treekem.specs.Place.{subtree_at, step_of, IsPlaced, ArePlaced, IsWay}
 use Rattle.mls_treekem.specs.Seal.{targets}
-use Rattle.mls_treekem.proofs.Receiving.{bind_ok}
-use Rattle.mls_treekem.proofs.Levels.{way_height, reverse-end, own_above, length-end}
+use Rattle.mls_treekem.proofs.Levels.{way_height, reverse-end, own_above, length-end, length-on_way, same_length}
 
 -- ---- answers by an equal definition
 
@@ -204,13 +204,6 @@ module _ (c : Crypto) (context : List ℕ) (h b : ℕ) (p : PrivateKeys) (added 
     same_held x zs key k isnt split is held t e = here t e ∙ first_held c context (key_of b t p) added (get_or nodes n 0) (drop (n + 1) nodes) ys x zs k isnt split (sym (is t e) ∙ held)
 
 -- ---- keys by their height
-
-same_length : (ss ts : List Step) (ks : Keys) → length ss ≡ length ts → on_way ss ks ≡ on_way ts ks
-unfolding on_way
-same_length [] [] ks e = refl
-same_length [] (t ∷ ts) ks e = absurd (omega arith)
-same_length (s ∷ ss) [] ks e = absurd (omega arith)
-same_length (s ∷ ss) (t ∷ ts) ks e = let k : length ss ≡ length ts = omega arith in ap₂ (λ n zs. key_above (suc n) ks ∷ zs) k (same_length ss ts ks k)
 
 pub keys_none : (p : PrivateKeys) (xs : Keys) → xs ≡ [] → AreKeysUpTo 0 p xs
 unfolding on_way
@@ -412,11 +405,6 @@ climb_length c context added (s ∷ ss) j (o ∷ ks) ns m long e =
         let same : made ≡ m0 = cc (b.2) in
         sym (ap (λ (z : Climb). length z.keys) same) ∙ omega arith
     by_side false m0 e rec = rec e
-
-length-on_way : (ss : List Step) (ks : Keys) → length (on_way ss ks) ≡ suc (length ss)
-unfolding on_way
-length-on_way [] ks = refl
-length-on_way (s ∷ ss) ks = ap suc (length-on_way ss ks)
 
 above_length : (c : Crypto) (context : List ℕ) (added : List ℕ) (t : Term) (ps : List Place) (p : PrivateKeys) (ns : List UpdatePathNode) (m : Standing) →
     climb_open c context added (map (step_of t) ps) p.leaf (on_way (map (step_of t) ps) (all_keys p)) ns ≡ Ok (with_own p.own (climb_of m)) → length m.above.items ≡ length ps

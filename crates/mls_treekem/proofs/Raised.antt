@@ -21,7 +21,8 @@ use Rattle.mls_term.specs.Way.{Step, way}
 use Rattle.mls_term.specs.Equations.{way_leaf, way_left, way_right}
 use Rattle.mls_term.specs.ShapeLaws.{size-width}
 use Rattle.mls_term.specs.ArrayLaws.{size-perfect, nodes_in-leaves}
-use Rattle.mls_treekem.proofs.Levels.{way_height, above_take, above_pass, length-end, reverse-cons, reverse-end}
+use Rattle.mls_term.specs.PathLaws.{reverse-cons}
+use Rattle.mls_treekem.proofs.Levels.{way_height, above_take, above_pass, length-end, reverse-end}
 
 -- node n has level k in a perfect tree of height h whose first leaf is b
 record HasLevel (h b n k : ℕ) : Type 0 where

@@ -3,7 +3,7 @@ use Rattle.std.proofs.Common.{◌≡◌, ℕ, zero, suc, ◌+◌, Bool, true, fa
 use Rattle.std.specs.Str.{bytes_eq}
 use Rattle.std.proofs.lemmas.Slice.Eq.{bytes_eq-Decides}
 use Rattle.std.proofs.lemmas.Bool.{and_parts, cases_lt}
-use Rattle.mls_wire.specs.Reading.{◌>>=◌}
+use Rattle.mls_wire.specs.Laws.{bind_ok}
 use Rattle.mls_kdf.specs.Lengths.{length-derive_secret}
 use Rattle.mls_group.specs.declared.update_path.HpkeCiphertext.{HpkeCiphertext}
 use Rattle.mls_group.specs.declared.update_path.UpdatePathNode.{UpdatePathNode}
@@ -32,10 +32,6 @@ use Rattle.mls_treekem.proofs.Lists.{lists_left, lists_right}
 use Rattle.mls_treekem.proofs.Entries.{one_entry, entry_key}
 use Rattle.mls_treekem.proofs.Making.{merged_way, way_merge}
 use Rattle.mls_treekem.proofs.Sealing.{unsealed}
-
-pub bind_ok : {A B : Type 0} (r : Result A ℕ) (f : A → Result B ℕ) (y : B) → (r >>= f) ≡ Ok y → (x : A) × (r ≡ Ok x) × (f x ≡ Ok y)
-bind_ok (Ok x) f y h = (x, refl, h)
-bind_ok (Err e) f y h = cc
 
 abbrev keys_of : List UpdatePathNode → List (List ℕ)
 keys_of ns = map (λ n. n.encryption_key) ns

@@ -5,6 +5,7 @@ use Rattle.std.proofs.lemmas.Bool.{cond-true, cond-false}
 use Rattle.std.proofs.lemmas.List.{length-map, length-replicate, length-reverse}
 use Rattle.mls_wire.specs.Checks.{Answers}
 use Rattle.mls_wire.specs.Reading.{◌>>=◌}
+use Rattle.mls_wire.specs.Laws.{bind_ok}
 use Rattle.mls_leaf.specs.Parent.{Parent}
 use Rattle.mls_term.specs.Sets.{has}
 use Rattle.mls_term.specs.Term.{Term, width, is_perfect}
@@ -22,7 +23,6 @@ use Rattle.mls_treekem.specs.Make.{Climb}
 use Rattle.mls_treekem.specs.Join.{past_present, is_present, climb_take, is_due, is_complete, take_keys, take_answer}
 use Rattle.mls_treekem.specs.Place.{step_of, ArePlaced, IsWay}
 use Rattle.mls_treekem.proofs.Levels.{reverse-end, way_height}
-use Rattle.mls_treekem.proofs.Receiving.{bind_ok}
 use Rattle.mls_treekem.proofs.Joining.{sounds, present_is}
 use Rattle.mls_treekem.proofs.Opened.{beside_is, first_placed}
 
