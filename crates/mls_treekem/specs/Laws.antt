@@ -4,8 +4,8 @@ use Rattle.mls_group.specs.declared.update_path.UpdatePathNode.{UpdatePathNode}
 use Rattle.mls_leaf.specs.declared.leaf.LeafNode.{LeafNode}
 use Rattle.mls_suite.specs.Crypto.{Crypto, Lawful}
 use Rattle.mls_term.specs.Sets.{has, leaf_numbers, less, is_distinct}
-use Rattle.mls_term.specs.Term.{Term, size, leaf_at, has_leaf}
-use Rattle.mls_term.specs.Resolution.{resolution, is_reached}
+use Rattle.mls_term.specs.Term.{Term, size, leaf_at}
+use Rattle.mls_term.specs.Resolution.{resolution}
 use Rattle.mls_term.specs.Places.{key_at}
 use Rattle.mls_term.specs.Held.{holds}
 use Rattle.mls_term.specs.Way.{Step, way, is_filtered, is_beside, path_length}
@@ -114,11 +114,7 @@ BelowMerge = (b : ℕ) (t : Term) (i : ℕ) (ks : List (List ℕ)) (h : List ℕ
 
 -- ---- targets
 
--- a tree with a member has a resolution
-abbrev pub ResolutionFilled : Type 0
-ResolutionFilled = (b : ℕ) (t : Term) → has_leaf t ≡ true → is_reached b t ≡ true
-
--- its nodes are nodes of the tree, each once
+-- a resolution's nodes are nodes of the tree, each once
 abbrev pub ResolutionInPlace : Type 0
 ResolutionInPlace = (b : ℕ) (t : Term) (d : ℕ) → ListsBelow b t → has (resolution b t) d ≡ true → (2 * b ≤ d) × (d < 2 * b + size t)
 

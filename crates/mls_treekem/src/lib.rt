@@ -2,10 +2,11 @@
 //! 12.4.3.1). Each function `laws_of_..` does nothing, and its contract is the laws of one subject.
 #![tactic(auto)]
 
+ghost use Rattle.mls_term.specs.Laws.{MembersAreReached};
 ghost use Rattle.mls_treekem.specs.Laws.{TamePut, TameEnter, TameRefl, TameTrans, FollowTame, FollowGrow, FollowTrim, FollowOwn};
 ghost use Rattle.mls_treekem.specs.Laws.{FollowsTrans, FollowsTame, FollowsGrow, FollowsTrim, FollowEdit, FollowOwnEdit, ExactIsOnWay, LeafIsOnWay, EditIsFollow};
 ghost use Rattle.mls_treekem.specs.Laws.{RightAreBelow, BelowPut, BelowEnter, BelowGrow, BelowTrim, BelowMerge};
-ghost use Rattle.mls_treekem.specs.Laws.{ResolutionFilled, ResolutionInPlace, ResolutionDistinct, OneFiltered, KeyWhereHeld, OneEntry, EntryKey, PairsInOrder, PairsFound};
+ghost use Rattle.mls_treekem.specs.Laws.{ResolutionInPlace, ResolutionDistinct, OneFiltered, KeyWhereHeld, OneEntry, EntryKey, PairsInOrder, PairsFound};
 ghost use Rattle.mls_treekem.specs.Laws.{ClimbIsChain, KeysAreChain, KeysOfSecrets, CountIsLength, MakingClimbs, MakeExact, MadePath, PathMade, PathHasKeys, MakeMerged, SealMerged, PathMerged};
 ghost use Rattle.mls_treekem.specs.Laws.{OpenMerged, ClimbExact, ClimbAgree, CommitAgree};
 ghost use Rattle.mls_treekem.specs.Laws.{TakeExact, TakeInside, LeafHasDue, LeafExact, TakeAgree, JoinAgree, EnteredLists, TameLists};
@@ -78,7 +79,7 @@ pub fn laws_of_lists()
 
 /// A commit reaches each other member at just one node, by just one key that the member has.
 pub fn laws_of_targets()
-    ensures filled { ResolutionFilled }
+    ensures filled { MembersAreReached }
     ensures in_place { ResolutionInPlace }
     ensures distinct { ResolutionDistinct }
     ensures one_filtered { OneFiltered }
