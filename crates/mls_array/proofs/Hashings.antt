@@ -1,4 +1,4 @@
--- The tree hashes of all subtrees, by the root and its sides, and a tree that is its own original.
+-- The tree hashes of all subtrees, by the root and its sides.
 use Rattle.std.proofs.Common.{◌≡◌, ℕ, ◌+◌, ◌-◌, ◌/◌, List, [], ◌∷◌, ◌++◌, length, get_or, Option, refl, sym, ◌∙◌, ap, arith, length-append, append_assoc}
 use Rattle.std.proofs.lemmas.List.{get_or_at}
 use Rattle.mls_leaf.specs.declared.node.Node.{Node}
@@ -52,9 +52,3 @@ last-hashes_of b (Leaf v) = refl
 last-hashes_of b (Branch c l r) =
     ap (λ ys. get_or ys (length ys - 1) []) (sym (append_assoc (hashes_of b l) (hashes_of (b + width l) r) (tree_hash b (Branch c l r) ∷ [])))
     ∙ last_at (hashes_of b l ++ hashes_of (b + width l) r) (tree_hash b (Branch c l r))
-
--- ---- originals
-
-pub no_length : (us : List ℕ) → length us ≡ 0 → us ≡ []
-no_length [] e = refl
-no_length (u ∷ us) e = absurd (omega arith)

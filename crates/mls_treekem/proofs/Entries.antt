@@ -1,6 +1,7 @@
 -- In the resolution of a tree over a member, just one node has a key that the member has.
 use Rattle.std.proofs.Common.{◌≡◌, ℕ, ◌+◌, ◌*◌, ◌<◌, ◌≤◌, ◌⊎◌, Bool, true, false, not, ◌==◌, if◌then◌else◌, List, [], ◌∷◌, Option, Some, None, is_some, refl, ap, sym, ◌∙◌, subst, inl, inr, arith, eq-eqb, ne_eqb, lt-ltb, le-ltb, suc, length, filter}
 use Rattle.std.proofs.lemmas.Bool.{cond-true, cond-false, cases_lt, cases_eq, cases_Bool}
+use Rattle.std.proofs.lemmas.Option.{none-some}
 use Rattle.mls_leaf.specs.Parent.{Parent}
 use Rattle.mls_leaf.specs.declared.leaf.LeafNode.{LeafNode}
 use Rattle.mls_term.specs.Term.{Term, Leaf, Branch, width, size, leaf_at}
@@ -156,9 +157,6 @@ parent_entry c j (Some p) k h = by_list (has p.unmerged_leaves j) h
     by_list true h = absurd h
     by_list false h = ap Some (sym h)
 
-none_some : (k : List ℕ) → ◌≡◌ {A = Option (List ℕ)} None (Some k) → ⊥
-none_some k e = cc
-
 pub entry_key : (c : Crypto) (b : ℕ) (t : Term) (j : ℕ) (ks : Keys) (d : ℕ) (k : List ℕ) → IsIn b t j → Exact c b t j ks → key_in b t j ks d ≡ Some k → key_at b t d ≡ Some (c.public k)
 unfolding key_at width
 entry_key c b (Leaf v) j [] d k hj h e = absurd (own_none c v (at_leaf c (Fits c j) b v j [] h))
@@ -166,7 +164,7 @@ entry_key c b (Leaf v) j (o ∷ ks) d k hj h e = elim (cases_eq d (2 * j)) [
   | inl q ↦
       at_node_leaf b v None own_key d (omega arith)
       ∙ own_entry c v j o ks k (at_leaf c (Fits c j) b v j (o ∷ ks) h) (sym (key_at_leaf b v j o ks d ∙ cond-true _ _ _ (eq-eqb d (2 * j) q)) ∙ e)
-  | inr n ↦ absurd (none_some k (sym (key_at_leaf b v j o ks d ∙ cond-false _ _ _ (ne_eqb d (2 * j) n)) ∙ e))
+  | inr n ↦ absurd (none-some k (sym (key_at_leaf b v j o ks d ∙ cond-false _ _ _ (ne_eqb d (2 * j) n)) ∙ e))
 ]
 entry_key c b (Branch p l r) j [] d k hj h e = absurd (along_none c (Fits c j) b p l r j h)
 entry_key c b (Branch p l r) j (o ∷ ks) d k hj h e = elim (cases_eq d (2 * b + size l)) [
@@ -182,13 +180,13 @@ entry_key c b (Branch p l r) j (o ∷ ks) d k hj h e = elim (cases_eq d (2 * b +
             let f = sym (key_left b p l r j o ks d n lj) ∙ e in
             elim (cases_lt d (2 * b + size l)) [
               | inl ld ↦ at_node_left None own_key b p l r d ld ∙ entry_key c b l j ks d k inside (along_left c (Fits c j) b p l r j o ks lj h).1 f
-              | inr rd ↦ absurd (none_some k (sym (key_outside b l j ks d inside (inr rd)) ∙ f))
+              | inr rd ↦ absurd (none-some k (sym (key_outside b l j ks d inside (inr rd)) ∙ f))
             ]
         | inr rj ↦
             let inside : IsIn (b + width l) r j = record { low = rj; high = omega arith } in
             let f = sym (key_right b p l r j o ks d n rj) ∙ e in
             elim (cases_lt d (2 * b + size l)) [
-              | inl ld ↦ absurd (none_some k (sym (key_outside (b + width l) r j ks d inside (inl (omega arith))) ∙ f))
+              | inl ld ↦ absurd (none-some k (sym (key_outside (b + width l) r j ks d inside (inl (omega arith))) ∙ f))
               | inr rd ↦ at_node_right None own_key b p l r d (omega arith) ∙ entry_key c (b + width l) r j ks d k inside (along_right c (Fits c j) b p l r j o ks rj h).1 f
             ]
       ]

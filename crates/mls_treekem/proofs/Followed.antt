@@ -68,10 +68,6 @@ is_some-copied (Some x) = refl
 pub key_is : (ks : Keys) (key : Option (List ℕ)) (test there : Bool) (n m : ℕ) → key ≡ (if test then key_above n ks else None) → test ≡ there → n ≡ suc m → key ≡ (if there then key_above (suc m) ks else None)
 key_is ks key test there n m e f g = e ∙ ap₂ (λ b k. if b then key_above k ks else None) f g
 
-pub none_left : {A : Type 0} (xs : List A) → length xs ≡ 0 → xs ≡ []
-none_left [] e = refl
-none_left (x ∷ xs) e = absurd (omega arith)
-
 pub way_read : (t : Term) (i : ℕ) (ps qs : List Place) → IsWay t i ps → qs ≡ ps → IsWay t i qs
 way_read t i ps qs w e = subst (λ z. IsWay t i z) (sym e) w
 

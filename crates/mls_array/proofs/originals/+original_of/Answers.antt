@@ -1,17 +1,17 @@
 use Rattle.std.proofs.Common.{length, arith, sym, ◌∙◌, ap, eqb-true}
+use Rattle.std.proofs.lemmas.List.{nil_from_length}
 use Rattle.mls_term.specs.Hashes.{tree_hash, original}
 use Rattle.mls_term.specs.Arrays.{term_of}
 use Rattle.mls_term.specs.MemberLaws.{original-none}
 use Rattle.mls_array.proofs.Readings.{in_parts}
 use Rattle.mls_array.proofs.Hashed.{hash_sides}
-use Rattle.mls_array.proofs.Hashings.{no_length}
 use Rattle.mls_array.proofs.Original.{added_leaf, same_leaf, original_sides}
 use Rattle.mls_array.proofs.Ties.{left_shape, right_shape, left_count, right_count, left_hashes, right_hashes}
 use Rattle.mls_array.proofs.originals.+original_of.Goals as goal
 
 pub returns-then-is_empty : goal.returns-then-is_empty
 returns-then-is_empty t c =
-    let none = no_length c.args.unmerged.now (eqb-true (length c.args.unmerged.now) 0 (sym c.is_empty.ensures ∙ c.if-is_empty.true)) in
+    let none = nil_from_length c.args.unmerged.now (eqb-true (length c.args.unmerged.now) 0 (sym c.is_empty.ensures ∙ c.if-is_empty.true)) in
     c.last_of.ensures _ _ c.requires.hashed
     ∙ ap (tree_hash c.args.first) (sym (original-none c.args.first (term_of c.args.height c.args.nodes.now)))
     ∙ ap (λ us. tree_hash c.args.first (original us c.args.first (term_of c.args.height c.args.nodes.now))) (sym none)

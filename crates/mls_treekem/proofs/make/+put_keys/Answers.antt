@@ -1,5 +1,5 @@
+use Rattle.std.proofs.lemmas.List.{nil_from_length}
 use Rattle.mls_treekem.proofs.Levels.{on_ok_by}
-use Rattle.mls_treekem.proofs.Followed.{none_left}
 use Rattle.mls_treekem.proofs.Raised.{raise_first, raise_none, raise_no_pair}
 use Rattle.mls_treekem.proofs.make.+put_keys.Goals as goal
 
@@ -11,7 +11,7 @@ returns t c =
     c.put_keys.ensures
 
 pub returns-in_default : goal.returns-in_default
-returns-in_default t c = raise_none c.args.nodes.now c.args.pairs.now _ (none_left _ c.in_default.ensures.cases)
+returns-in_default t c = raise_none c.args.nodes.now c.args.pairs.now _ (nil_from_length _ c.in_default.ensures.cases)
 
 pub returns-in_default-split_first : goal.returns-in_default-split_first
-returns-in_default-split_first t c = raise_no_pair c.args.nodes.now c.args.pairs.now _ (none_left _ c.in_default-split_first.ensures.cases)
+returns-in_default-split_first t c = raise_no_pair c.args.nodes.now c.args.pairs.now _ (nil_from_length _ c.in_default-split_first.ensures.cases)

@@ -1,13 +1,13 @@
 use Rattle.std.proofs.Common.{rules}
+use Rattle.std.proofs.lemmas.List.{nil_from_length}
 use Rattle.mls_tree.specs.Tree.{term}
 use Rattle.mls_treekem.specs.Faults.{number_of}
-use Rattle.mls_treekem.proofs.Followed.{none_left}
 use Rattle.mls_treekem.proofs.Opened.{others_placed}
 use Rattle.mls_treekem.proofs.Taking.{take_none, from_here, from_below, not_here, not_below}
 use Rattle.mls_treekem.proofs.take.+climb_along.Goals as goal
 
 pub returns-in_default : goal.returns-in_default
-returns-in_default g t c = λ _. take_none g.S.Suite.crypto (term c.args.tree.now) c.args.joiner c.args.secret.now c.args.places.now (none_left _ c.in_default.ensures.cases)
+returns-in_default g t c = λ _. take_none g.S.Suite.crypto (term c.args.tree.now) c.args.joiner c.args.secret.now c.args.places.now (nil_from_length _ c.in_default.ensures.cases)
 
 pub climb_along-requires : goal.climb_along-requires
 climb_along-requires g t c κs within = (search rules, (search rules, others_placed (term c.args.tree.now) c.in-Some.place.now c.in-Some.lower.now c.args.places.now c.in-Some.ensures.cases.0 c.requires))

@@ -1,15 +1,14 @@
 use Rattle.std.proofs.Common.{rules, map, reverse}
-use Rattle.std.proofs.lemmas.List.{length-map}
+use Rattle.std.proofs.lemmas.List.{length-map, nil_from_length}
 use Rattle.mls_tree.specs.Tree.{term}
 use Rattle.mls_treekem.specs.Made.{all_keys}
 use Rattle.mls_treekem.specs.Place.{step_of}
-use Rattle.mls_treekem.proofs.Followed.{none_left}
 use Rattle.mls_treekem.proofs.Opened.{along_none, first_placed, others_placed, is_beside_of, beside_ok, beside_err, other_ok, other_err}
 use Rattle.mls_treekem.proofs.private_path.PrivatePath.+climb_along.Goals as goal
 
 pub returns-in_default : goal.returns-in_default
 returns-in_default g t c =
-    λ _. along_none g.S.Suite.crypto c.args.context.now c.args.added.now (term c.args.tree.now) c.args.places.now c.args.self.now.leaf (all_keys c.args.self.now) (reverse c.args.path.now) (none_left _ c.in_default.ensures.cases)
+    λ _. along_none g.S.Suite.crypto c.args.context.now c.args.added.now (term c.args.tree.now) c.args.places.now c.args.self.now.leaf (all_keys c.args.self.now) (reverse c.args.path.now) (nil_from_length _ c.in_default.ensures.cases)
 
 pub open_here-requires-clause-placed : goal.open_here-requires-clause-placed
 open_here-requires-clause-placed g t c = first_placed _ _ _ _ c.in-Some.ensures.cases.0 c.requires.placed

@@ -1,7 +1,8 @@
 use Rattle.std.proofs.Common.{refl, reverse}
+use Rattle.std.proofs.lemmas.List.{nil_from_length}
 use Rattle.mls_tree.specs.Tree.{term}
 use Rattle.mls_treekem.specs.Made.{all_keys}
-use Rattle.mls_treekem.proofs.Followed.{followed_none, followed_more, key_is, none_left, plus_one}
+use Rattle.mls_treekem.proofs.Followed.{followed_none, followed_more, key_is, plus_one}
 use Rattle.mls_treekem.proofs.private_path.PrivatePath.+push_followed.Goals as goal
 
 pub returns-in_ok-push : goal.returns-in_ok-push
@@ -11,4 +12,4 @@ returns-in_ok-push t c =
     (key_is _ _ _ _ _ _ c.key_if.ensures c.is_present.ensures (plus_one _ _ refl))
 
 pub returns-in_default : goal.returns-in_default
-returns-in_default t c = followed_none (term c.args.tree.now) (all_keys c.args.self.now) c.args.places.now _ (none_left _ c.in_default.ensures.cases)
+returns-in_default t c = followed_none (term c.args.tree.now) (all_keys c.args.self.now) c.args.places.now _ (nil_from_length _ c.in_default.ensures.cases)

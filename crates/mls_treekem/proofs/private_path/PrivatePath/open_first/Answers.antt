@@ -1,6 +1,6 @@
 use Rattle.std.proofs.Common.{refl, sym, ◌∙◌}
+use Rattle.std.proofs.lemmas.List.{nil_from_length}
 use Rattle.mls_treekem.specs.Faults.{number_of}
-use Rattle.mls_treekem.proofs.Followed.{none_left}
 use Rattle.mls_treekem.proofs.Opened.{answers_by, same_end, same_added, same_other, same_missing, same_held}
 use Rattle.mls_treekem.proofs.private_path.PrivatePath.open_first.Goals as goal
 
@@ -16,7 +16,7 @@ pub returns-in_default : goal.returns-in_default
 returns-in_default g c =
     λ t e _.
     same_missing g.S.Suite.crypto c.args.context.now c.args.height c.args.first c.args.self.now c.args.added.now c.args.nodes.now c.args.ciphertexts.now c.loop-node.node-index c.loop-node.sealed.now c.loop-node.invariant c.loop-node-test.true
-    (sym c.is_one_of.ensures ∙ c.if-is_one_of.false) (none_left _ c.in_default.ensures.cases) t e
+    (sym c.is_one_of.ensures ∙ c.if-is_one_of.false) (nil_from_length _ c.in_default.ensures.cases) t e
 
 pub returns-in-Some-key_of : goal.returns-in-Some-key_of
 returns-in-Some-key_of g c =

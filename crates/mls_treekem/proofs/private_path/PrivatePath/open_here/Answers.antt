@@ -1,15 +1,15 @@
 use Rattle.std.proofs.Common.{reverse, sym, ◌∙◌, ap}
+use Rattle.std.proofs.lemmas.List.{nil_from_length}
 use Rattle.mls_tree.specs.Tree.{term}
 use Rattle.mls_treekem.specs.Open.{first_ciphertexts}
 use Rattle.mls_treekem.specs.Place.{subtree_at}
-use Rattle.mls_treekem.proofs.Followed.{none_left}
 use Rattle.mls_treekem.proofs.Opened.{here_ok, here_err, here_missing, last_first}
 use Rattle.mls_treekem.proofs.private_path.PrivatePath.open_here.Goals as goal
 
 pub returns-in_default : goal.returns-in_default
 returns-in_default g c =
     λ ss long _.
-    here_missing g.S.Suite.crypto c.args.context.now c.args.added.now (term c.args.tree.now) c.args.height c.args.place.now c.requires.placed c.args.self.now ss long c.args.path.now (none_left _ c.in_default.ensures.cases)
+    here_missing g.S.Suite.crypto c.args.context.now c.args.added.now (term c.args.tree.now) c.args.height c.args.place.now c.requires.placed c.args.self.now ss long c.args.path.now (nil_from_length _ c.in_default.ensures.cases)
 
 pub returns-in-Ok : goal.returns-in-Ok
 returns-in-Ok g c =

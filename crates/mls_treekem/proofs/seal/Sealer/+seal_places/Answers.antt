@@ -1,21 +1,21 @@
 use Rattle.std.proofs.Common.{◌≡◌, suc, ◌+◌, ◌%◌, ◌^◌, arith, refl, ap, length, length-append, ◌∙◌}
+use Rattle.std.proofs.lemmas.List.{nil_from_length}
 use Rattle.mls_tree.specs.Tree.{term}
 use Rattle.mls_treekem.specs.Faults.{number_of}
 use Rattle.mls_treekem.specs.Seeds.{seals_in}
-use Rattle.mls_treekem.proofs.Followed.{none_left}
 use Rattle.mls_treekem.proofs.Sent.{along_none, count_none, numbers_none, placed_here, placed_below, least_below, along_same, count_same, numbers_same, count_one, numbers_more, along_more, along_fails, below_fails}
 use Rattle.mls_treekem.proofs.seal.Sealer.+seal_places.Goals as goal
 
 pub returns-in_default-clause-answer : goal.returns-in_default-clause-answer
 returns-in_default-clause-answer g t c =
     λ start n made le.
-    along_none (term c.args.self.now.tree.now) c.args.places.now (none_left _ c.in_default.ensures.cases) g.S.Suite.crypto c.args.self.now.context.now c.args.self.now.added.now c.args.self.now.seed.now start c.new.result.items c.new.ensures.items
+    along_none (term c.args.self.now.tree.now) c.args.places.now (nil_from_length _ c.in_default.ensures.cases) g.S.Suite.crypto c.args.self.now.context.now c.args.self.now.added.now c.args.self.now.seed.now start c.new.result.items c.new.ensures.items
 
 pub returns-in_default-clause-count : goal.returns-in_default-clause-count
-returns-in_default-clause-count g t c = count_none (term c.args.self.now.tree.now) c.args.places.now (none_left _ c.in_default.ensures.cases) c.new.result.items c.new.ensures.items
+returns-in_default-clause-count g t c = count_none (term c.args.self.now.tree.now) c.args.places.now (nil_from_length _ c.in_default.ensures.cases) c.new.result.items c.new.ensures.items
 
 pub returns-in_default-clause-seals : goal.returns-in_default-clause-seals
-returns-in_default-clause-seals g t c = numbers_none (term c.args.self.now.tree.now) c.args.places.now (none_left _ c.in_default.ensures.cases) c.args.self.now.added.now c.new.result.items c.new.ensures.items
+returns-in_default-clause-seals g t c = numbers_none (term c.args.self.now.tree.now) c.args.places.now (nil_from_length _ c.in_default.ensures.cases) c.args.self.now.added.now c.new.result.items c.new.ensures.items
 
 pub seal_places-requires : goal.seal_places-requires
 seal_places-requires g t c =
