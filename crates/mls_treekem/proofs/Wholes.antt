@@ -1,12 +1,13 @@
 -- The laws in whole trees.
-use Rattle.std.proofs.Common.{◌≡◌, ℕ, suc, Bool, true, false, if◌then◌else◌, List, [], ◌∷◌, ◌++◌, map, filter, reverse, length, Option, Some, None, is_some, IsSome, Ok, Err, refl, ap, ap₂, sym, ◌∙◌, subst, arith}
+use Rattle.std.proofs.Common.{◌≡◌, ℕ, suc, Bool, true, false, if◌then◌else◌, List, [], ◌∷◌, map, filter, reverse, length, Option, Some, None, is_some, IsSome, Ok, Err, refl, ap, ap₂, sym, ◌∙◌, subst, arith}
 use Rattle.std.specs.Option.{option_map}
 use Rattle.std.proofs.lemmas.Bool.{true≢false}
-use Rattle.std.proofs.lemmas.List.{reverse-reverse, reverse-append}
+use Rattle.std.proofs.lemmas.List.{reverse-reverse}
 use Rattle.mls_wire.specs.Checks.{given}
 use Rattle.mls_group.specs.declared.update_path.HpkeCiphertext.{HpkeCiphertext}
 use Rattle.mls_group.specs.declared.update_path.UpdatePathNode.{UpdatePathNode}
 use Rattle.mls_leaf.specs.declared.leaf.LeafNode.{LeafNode}
+use Rattle.mls_treemath.specs.Steered.{map_reverse}
 use Rattle.mls_term.specs.Sets.{has}
 use Rattle.mls_term.specs.Term.{Term, height, blanks, leaf_at}
 use Rattle.mls_term.specs.Way.{Step, way, is_filtered, filtered_way, filtered_path, path_length}
@@ -29,7 +30,7 @@ use Rattle.mls_treekem.specs.Laws.{AreTwo}
 use Rattle.mls_treekem.specs.Whole.{keys_of_path}
 use Rattle.mls_treekem.proofs.Following.{tame_refl, tame_put, tame_enter}
 use Rattle.mls_treekem.proofs.OnePass.{follows_trans, follows_tame, follows_grow, follows_trim}
-use Rattle.mls_treekem.proofs.Making.{map-append, merged_step, merged_way, way_merge, keys_are_chain, keys_of_secrets, count_is_length, make_exact}
+use Rattle.mls_treekem.proofs.Making.{merged_step, merged_way, way_merge, keys_are_chain, keys_of_secrets, count_is_length, make_exact}
 use Rattle.mls_treekem.proofs.Merged.{secret_along, make_merged, count_along, seal_merged, open_merged, path_has_keys}
 use Rattle.mls_treekem.proofs.Sealing.{made_path, path_some}
 use Rattle.mls_treekem.proofs.Receiving.{climb_exact, climb_agree}
@@ -104,14 +105,6 @@ add_keeps_listed t j x inside taken h =
 
 -- ---- the highest first, and the lowest first
 
-map-reverse : {A B : Type 0} (f : A → B) (xs : List A) → map f (reverse xs) ≡ reverse (map f xs)
-map-reverse f [] = refl
-map-reverse f (x ∷ xs) =
-    ap (map f) (reverse-append (x ∷ []) xs)
-    ∙ map-append f (reverse xs) (x ∷ [])
-    ∙ ap (λ zs. zs ++ (f x ∷ [])) (map-reverse f xs)
-    ∙ sym (reverse-append (f x ∷ []) (map f xs))
-
 -- the keys of a path, the highest first
 pub reversed_keys : (c : Crypto) (t : Term) (i : ℕ) (start : List ℕ) → reverse (keys_of_path c t i start) ≡ path_keys c (way 0 t i) start
 reversed_keys c t i start =
@@ -142,7 +135,7 @@ sealed_keys c context added rnd t i start path h =
     let s = sealed_is c context added rnd t i start path h in
     let p = path_has_keys c context added start (way 0 t i) s.nodes (made_path c context added rnd (way 0 t i) start s.nodes s.sealed) in
     ap (map (λ (n : UpdatePathNode). n.encryption_key)) s.turned
-    ∙ map-reverse (λ (n : UpdatePathNode). n.encryption_key) s.nodes
+    ∙ map_reverse (λ (n : UpdatePathNode). n.encryption_key) s.nodes
     ∙ ap reverse (p ∙ sym (reversed_keys c t i start))
     ∙ reverse-reverse (keys_of_path c t i start)
 
@@ -172,7 +165,7 @@ unfolding filtered_way
 sealed_lengths c context added rnd t i start path h =
     let s = sealed_is c context added rnd t i start path h in
     ap (map (λ (n : UpdatePathNode). length n.ciphertexts)) s.turned
-    ∙ map-reverse (λ (n : UpdatePathNode). length n.ciphertexts) s.nodes
+    ∙ map_reverse (λ (n : UpdatePathNode). length n.ciphertexts) s.nodes
     ∙ ap reverse (path_lengths c context added start (way 0 t i) s.nodes (made_path c context added rnd (way 0 t i) start s.nodes s.sealed))
 
 is_there : {A : Type 0} (o : Option A) → is_some o ≡ true → (x : A) × (o ≡ Some x)
@@ -238,7 +231,7 @@ filtered_merged t i x keys =
 pub opened_exact : (c : Crypto) (context : List ℕ) (added : List ℕ) (t : Term) (i j : ℕ) (x : LeafNode) (ks : Keys) (path : List UpdatePathNode) (m : Climb) → AreTwo 0 t i j → Exact c 0 t j ks → opened_path c context added t i j ks path ≡ Ok m → Exact c 0 (merge_path t i x (map (λ n. n.encryption_key) path)) j m.keys
 unfolding opened_path merge_path
 opened_exact c context added t i j x ks path m two exact h =
-    subst (λ (zs : List (List ℕ)). Exact c 0 (merge 0 t i zs [] x) j m.keys) (map-reverse (λ (n : UpdatePathNode). n.encryption_key) path)
+    subst (λ (zs : List (List ℕ)). Exact c 0 (merge 0 t i zs [] x) j m.keys) (map_reverse (λ (n : UpdatePathNode). n.encryption_key) path)
     (climb_exact c context added 0 t i j ks (reverse path) [] x m two.first two.second two.apart exact h)
 
 pub opened_agrees : (c : Crypto) → Lawful c → (context : List ℕ) (added : List ℕ) (rnd : ℕ → List ℕ) (t : Term) (i j : ℕ) (start : List ℕ) (ks : Keys) (path : List UpdatePathNode) → length start ≡ 32 → AreTwo 0 t i j → ListsBelow 0 t → Exact c 0 t j ks → has added j ≡ false → sealed_path c context added rnd t i start ≡ Ok path →

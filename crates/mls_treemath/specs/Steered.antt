@@ -178,7 +178,7 @@ fork_of-way (suc h) b i j = elim (cases_lt i (b + leaves_in h)) [
 
 -- ---- in a whole tree of n leaves
 
-map_reverse : {A B : Type 0} (f : A → B) (xs : List A) → map f (reverse xs) ≡ reverse (map f xs)
+pub map_reverse : {A B : Type 0} (f : A → B) (xs : List A) → map f (reverse xs) ≡ reverse (map f xs)
 map_reverse f [] = refl
 map_reverse f (x ∷ xs) =
     ap (map f) (reverse-append (x ∷ []) xs) ∙ map-append f (reverse xs) (x ∷ [])
