@@ -82,7 +82,7 @@ pub leaf_in-cell : (v : Option LeafNode) → leaf_in (leaf_cell v) ≡ v
 leaf_in-cell None = refl
 leaf_in-cell (Some v) = refl
 
-parent_in-cell : (c : Option Parent) → parent_in (parent_cell c) ≡ c
+pub parent_in-cell : (c : Option Parent) → parent_in (parent_cell c) ≡ c
 parent_in-cell None = refl
 parent_in-cell (Some p) = refl
 

@@ -1,17 +1,18 @@
 -- The places of the parents over a leaf stand for the way to it.
-use Rattle.std.proofs.Common.{◌≡◌, ℕ, zero, suc, ◌+◌, ◌-◌, ◌*◌, ◌^◌, ◌<◌, ◌≤◌, true, List, [], ◌∷◌, ◌++◌, length, map, Option, Some, None, refl, sym, subst, ◌∙◌, ap, ap₂, inl, inr, arith, lt-ltb, le-ltb, append-nil, append_assoc}
+use Rattle.std.proofs.Common.{◌≡◌, ℕ, zero, suc, ◌+◌, ◌-◌, ◌*◌, ◌^◌, ◌<◌, ◌≤◌, true, List, [], ◌∷◌, ◌++◌, length, map, Option, None, refl, sym, subst, ◌∙◌, ap, ap₂, inl, inr, arith, lt-ltb, le-ltb, append-nil, append_assoc}
 use Rattle.std.proofs.lemmas.Bool.{cond-true, cond-false, cases_lt, true≢false, and_parts}
+use Rattle.std.proofs.Math.Pow.{pow_mono}
 use Rattle.std.specs.Int.{bit_at, trailing_zeros}
 use Rattle.std.proofs.Common.{w32}
 use Rattle.std.proofs.lemmas.Bool.{cases_eq}
 use Rattle.std.proofs.lemmas.Nat.{pow_pos, pow_below}
 use Rattle.std.proofs.lemmas.Nat.Bits.{bit_at-trailing_zeros, bit_at-pow_other}
-use Rattle.mls_term.specs.ArrayLaws.{width-term_of, perfect-term_of}
+use Rattle.mls_term.specs.ArrayLaws.{width-term_of, perfect-term_of, parent_in-cell}
 use Rattle.mls_tree.specs.Tree.{Tree, term}
 use Rattle.mls_leaf.specs.Parent.{Parent}
 use Rattle.mls_leaf.specs.declared.node.Node.{Node}
 use Rattle.mls_term.specs.Term.{Term, Leaf, Branch, width, size, is_perfect}
-use Rattle.mls_term.specs.Arrays.{parent_in, parent_cell, own_node, node_at}
+use Rattle.mls_term.specs.Arrays.{parent_in, own_node, node_at}
 use Rattle.mls_term.specs.Places.{at_node, resolution_at}
 use Rattle.mls_term.specs.Resolution.{resolution}
 use Rattle.mls_term.specs.Way.{Step, step_at, way}
@@ -91,11 +92,7 @@ module _ (whole : Term) (b : ℕ) (c : Option Parent) (l r : Term) (part : IsPar
   unfolding node_at size
   parent_here =
       ap parent_in (part (Option Node) None own_node (2 * b + size l) (omega arith) (omega arith) ∙ at_node_here None own_node b c l r (2 * b + size l) refl)
-      ∙ cell c
-    where
-      cell : (c : Option Parent) → parent_in (parent_cell c) ≡ c
-      cell None = refl
-      cell (Some p) = refl
+      ∙ parent_in-cell c
 
 -- the step to a part, and its place
 module _ (whole : Term) (h b : ℕ) (t : Term) (part : IsPart whole b t) (perfect : is_perfect h t ≡ true) where
@@ -174,12 +171,6 @@ is_way t h i e low =
 
 -- ---- the height of a public tree, by its number of leaves
 
-pow_le : (i j : ℕ) → i ≤ j → 2 ^ i ≤ 2 ^ j
-pow_le i j h = elim (cases_eq i j) [
-  | inl e ↦ rw e (let z : 2 ^ j ≤ 2 ^ j = omega arith in z)
-  | inr ne ↦ let p : 2 ^ i < 2 ^ j = pow_below i j (let z : i < j = omega (arith, ne) in z) in omega arith
-]
-
 zeros : (h : ℕ) → h < 32 → trailing_zeros w32 (2 ^ h) ≡ h
 zeros h lt =
     let z : ℕ = trailing_zeros w32 (2 ^ h) in
@@ -195,7 +186,7 @@ width_levels t = width-term_of t.levels t.listing
 levels_low : (t : Tree) (n : ℕ) → n ≡ width (term t) → n < 2 ^ 32 → t.levels < 32
 levels_low t n e lt = elim (cases_lt t.levels 32) [
   | inl k ↦ k
-  | inr k ↦ absurd (let p : 2 ^ 32 ≤ 2 ^ t.levels = pow_le 32 t.levels k in omega (arith, width_levels t))
+  | inr k ↦ absurd (let p : 2 ^ 32 ≤ 2 ^ t.levels = pow_mono {i = 32} {j = t.levels} k in omega (arith, width_levels t))
 ]
 
 module _ (t : Tree) (n : ℕ) (e : n ≡ width (term t)) (lt : n < 2 ^ 32) where
@@ -206,7 +197,7 @@ module _ (t : Tree) (n : ℕ) (e : n ≡ width (term t)) (lt : n < 2 ^ 32) where
   zeros_low = let l = levels_low t n e lt in omega (arith, zeros_are)
 
   pub zeros_fit : 0 + 2 ^ trailing_zeros w32 n ≤ 2 ^ 31
-  zeros_fit = let p = pow_le (trailing_zeros w32 n) 31 zeros_low in omega arith
+  zeros_fit = let p : 2 ^ trailing_zeros w32 n ≤ 2 ^ 31 = pow_mono {i = trailing_zeros w32 n} {j = 31} zeros_low in omega arith
 
   pub way_found : (i : ℕ) (ps : List Place) → ps ≡ places_from (trailing_zeros w32 n) 0 i → IsWay (term t) i ps
   way_found i ps is = rw (is, zeros_are) (is_way (term t) t.levels i (perfect-term_of t.levels t.listing) (omega (arith, levels_low t n e lt)))
