@@ -1,5 +1,5 @@
 -- A path that code seals.
-use Rattle.std.proofs.Common.{◌≡◌, ℕ, zero, suc, ◌+◌, ◌*◌, ◌%◌, ◌^◌, ◌<◌, ◌≤◌, ◌==◌, not, ◌||◌, if◌then◌else◌, Bool, true, false, List, [], ◌∷◌, ◌++◌, length, map, reverse, get_or, drop, Option, Some, None, Result, Ok, Err, Bor, refl, sym, subst, ◌∙◌, ap, ap₂, inl, inr, arith, eq-eqb, ne_eqb, append-nil, append_assoc, length-append}
+use Rattle.std.proofs.Common.{◌≡◌, ◌≢◌, ℕ, zero, suc, ◌+◌, ◌*◌, ◌%◌, ◌^◌, ◌<◌, ◌≤◌, ◌==◌, not, ◌||◌, if◌then◌else◌, Bool, true, false, List, [], ◌∷◌, ◌++◌, length, map, reverse, get_or, drop, Option, Some, None, Result, Ok, Err, Bor, refl, sym, subst, ◌∙◌, ap, ap₂, inl, inr, arith, eq-eqb, ne_eqb, append-nil, append_assoc, length-append}
 use Rattle.std.specs.Prelude.{codes}
 use Rattle.std.specs.List.{slice_get}
 use Rattle.std.specs.Option.{option_map, option_copied}
@@ -22,6 +22,9 @@ use Rattle.mls_term.specs.Term.{Term}
 use Rattle.mls_term.specs.Places.{key_at, resolution_at}
 use Rattle.mls_term.specs.Resolution.{resolution, is_empty}
 use Rattle.mls_term.specs.Way.{Step, way, is_filtered, path_length}
+use Rattle.mls_treekem.specs.declared.error.TreeKemError.{TreeKemError}
+use Rattle.mls_treekem.specs.declared.error.TreeKemError.TheVariants as error
+use Rattle.mls_treekem.specs.Faults.{number_of, IsMemoryOrKey}
 use Rattle.mls_treekem.specs.Chain.{chain, path_secrets, node_key, node_public}
 use Rattle.mls_treekem.specs.Made.{AreOfChain}
 use Rattle.mls_treekem.specs.Make.{one_if, filtered_count, secret_above}
@@ -65,6 +68,15 @@ given_some None x e = cc
 pub given_none : {A : Type 0} (o : Option A) (n : ℕ) → given 36 o ≡ Err n → (o ≡ None) × (n ≡ 36)
 given_none (Some y) n e = cc
 given_none None n e = (refl, cc)
+
+-- a refusal for want of a key is no other
+pub of_keys : {A : Type 0} (o : Option A) (e : TreeKemError) → (number_of e ≢ 1 → given 36 o ≡ Err (number_of e)) → IsMemoryOrKey e
+of_keys o error.OutOfMemory h = tt
+of_keys o error.BadKey h = tt
+of_keys o error.OpenFailed h = let n : 32 ≡ 36 = (given_none o 32 (h (λ x. absurd (omega (arith, x))))).1 in absurd (omega (arith, n))
+of_keys o error.SecretLength h = let n : 33 ≡ 36 = (given_none o 33 (h (λ x. absurd (omega (arith, x))))).1 in absurd (omega (arith, n))
+of_keys o error.PathKeyMismatch h = let n : 34 ≡ 36 = (given_none o 34 (h (λ x. absurd (omega (arith, x))))).1 in absurd (omega (arith, n))
+of_keys o error.KeyMissing h = let n : 35 ≡ 36 = (given_none o 35 (h (λ x. absurd (omega (arith, x))))).1 in absurd (omega (arith, n))
 
 pub none_given : {A B : Type 0} (o : Option A) (p : Option B) (n : ℕ) → given 36 o ≡ Err n → (o ≡ None → p ≡ None) → given 36 p ≡ Err n
 none_given o p n e f = let g = given_none o n e in ap (given 36) (f g.0) ∙ ap Err (sym g.1)

@@ -20,3 +20,9 @@ name_of SecretLength = codes "SecretLength"
 name_of PathKeyMismatch = codes "PathKeyMismatch"
 name_of KeyMissing = codes "KeyMissing"
 name_of BadKey = codes "BadKey"
+
+-- want of memory, or a key that is missing or isn't fit
+abbrev pub IsMemoryOrKey : TreeKemError → Type 0
+IsMemoryOrKey OutOfMemory = Unit {0}
+IsMemoryOrKey BadKey = Unit {0}
+IsMemoryOrKey e = ⊥

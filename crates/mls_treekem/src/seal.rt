@@ -1,6 +1,6 @@
 //! A commit's path, sealed to those who need it (RFC 9420, 7.5 and 7.6).
 
-ghost use Rattle.std.specs.Prelude.{◌≡◌, ℕ, ◌<◌, ◌≤◌, ◌^◌, ◌%◌, List, length, map, reverse, IfOk};
+ghost use Rattle.std.specs.Prelude.{◌≡◌, ℕ, ◌<◌, ◌≤◌, ◌^◌, ◌%◌, List, length, map, reverse, IfOk, IfErr};
 ghost use Rattle.std.specs.Option.{option_copied, option_map};
 ghost use Rattle.mls_wire.specs.Checks.{given, Answers};
 ghost use Rattle.mls_term.specs.Sets.{has, leaf_numbers, less};
@@ -9,7 +9,7 @@ ghost use Rattle.mls_term.specs.Way.{way, path_length};
 ghost use Rattle.mls_tree.specs.Tree.{term};
 ghost use Rattle.mls_treekem.specs.Beside.{cell_key};
 ghost use Rattle.mls_treekem.specs.Chain.{chain, node_public};
-ghost use Rattle.mls_treekem.specs.Faults.{number_of};
+ghost use Rattle.mls_treekem.specs.Faults.{number_of, IsMemoryOrKey};
 ghost use Rattle.mls_treekem.specs.Made.{AreOfChain};
 ghost use Rattle.mls_treekem.specs.Make.{filtered_count};
 ghost use Rattle.mls_treekem.specs.Place.{subtree_at, step_of, IsPlaced, ArePlaced};
@@ -172,6 +172,7 @@ impl Sealer<'_> {
         requires placed { (h : ℕ) × IsPlaced (term self.now.tree.now) h place.now }
         ensures answer { (start : List ℕ) (n : ℕ) → AreOfChain S.crypto start n self.now.path.now → count < n → Answers (λ x. x) number_of (given 36 (with_ciphertexts (node_public S.crypto (chain start count)) (seal_all S.crypto self.now.context.now (chain start count) place.now.first (subtree_at (term self.now.tree.now) place.now.beside) (seal_seed self.now.seed.now) first (less (leaf_numbers self.now.added.now) reached.now)))) result }
         ensures seals { IfOk result (λ x. length x.ciphertexts ≡ length (less (leaf_numbers self.now.added.now) reached.now)) }
+        ensures refused { IfErr result IsMemoryOrKey }
     {
         let Some(secret) = self.path.secrets.get(count) else {
             return Err(TreeKemError::BadKey);
@@ -201,6 +202,7 @@ impl Sealer<'_> {
         ensures answer { (start : List ℕ) (n : ℕ) → AreOfChain S.crypto start n self.now.path.now → filtered_count (map (step_of (term self.now.tree.now)) places.now) ≤ n → Answers (λ v. v.items) number_of (given 36 (option_map reverse (seal_along S.crypto self.now.context.now self.now.added.now (seal_seed self.now.seed.now) (map (step_of (term self.now.tree.now)) places.now) start))) result }
         ensures count { IfOk result (λ v. length v.items ≡ filtered_count (map (step_of (term self.now.tree.now)) places.now)) }
         ensures seals { IfOk result (λ v. seals_in v.items ≡ seal_count self.now.added.now (map (step_of (term self.now.tree.now)) places.now)) }
+        ensures refused { IfErr result IsMemoryOrKey }
     {
         let Some((place, below)) = places.split_first() else {
             return Ok(Vec::new(alloc));
@@ -230,7 +232,7 @@ impl Sealer<'_> {
 /// (RFC 9420, 7.5 and 7.6). The tree is the one after the edits, before the path is merged or after; `path` has the
 /// secrets of as many nodes as the filtered direct path; the context is the group's, below 2^30 bytes; `seed` is the
 /// commit's. Refused with `BadKey` (36) exactly where a node that a secret is sealed to has no key, or one that isn't
-/// fit.
+/// fit, and with no other number whatever `path` is.
 pub fn seal_path<S: Suite>(
     alloc: Global,
     tree: &PublicTree,
@@ -243,6 +245,7 @@ pub fn seal_path<S: Suite>(
     requires { length context.now < 2 ^ 30 }
     ensures answer { (start : List ℕ) → AreOfChain S.crypto start (path_length 0 (term tree.now) committer) path.now → Answers (λ v. v.items) number_of (sealed_path S.crypto context.now added.now (seal_seed seed.now) (term tree.now) committer start) result }
     ensures seals { IfOk result (λ v. seals_in v.items ≡ seal_count added.now (way 0 (term tree.now) committer)) }
+    ensures refused { IfErr result IsMemoryOrKey }
 {
     let places = parents_over(alloc, tree, committer)?;
     let sealer = Sealer {

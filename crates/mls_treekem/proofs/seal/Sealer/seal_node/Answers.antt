@@ -7,7 +7,7 @@ use Rattle.mls_treekem.specs.Faults.{number_of}
 use Rattle.mls_treekem.specs.Place.{subtree_at}
 use Rattle.mls_treekem.specs.Seal.{seal_all}
 use Rattle.mls_treekem.specs.Seeds.{seal_seed}
-use Rattle.mls_treekem.proofs.Sent.{few_secrets, few_pairs, secret_is, public_is, node_made, node_refused, length-sealed, given_some}
+use Rattle.mls_treekem.proofs.Sent.{few_secrets, few_pairs, secret_is, public_is, node_made, node_refused, length-sealed, given_some, of_keys}
 use Rattle.mls_treekem.proofs.seal.Sealer.seal_node.Goals as goal
 
 pub returns-in_default-clause-answer : goal.returns-in_default-clause-answer
@@ -40,3 +40,6 @@ pub returns-clause-seals : goal.returns-clause-seals
 returns-clause-seals g c =
     ap length c.from_vec-2.ensures
     ∙ length-sealed g.S.Suite.crypto c.args.self.now.context.now c.in-Some.secret.now c.args.place.now.first (subtree_at (term c.args.self.now.tree.now) c.args.place.now.beside) c.args.self.now.seed.now c.args.first _ c.in-Ok.ciphertexts.items (given_some _ _ c.in-Ok.ensures)
+
+pub returns-in-Err-clause-refused : goal.returns-in-Err-clause-refused
+returns-in-Err-clause-refused g c = of_keys _ c.in-Err.error c.in-Err.ensures
