@@ -76,7 +76,7 @@ OpenedMerged = (c : Crypto) (context : List ℕ) (added : List ℕ) (t : Term) (
 abbrev pub MadeExact : Type 0
 MadeExact = (c : Crypto) (t : Term) (i : ℕ) (x : LeafNode) (start sk : List ℕ) → c.public sk ≡ x.encryption_key → Exact c 0 (merge_path t i x (keys_of_path c t i start)) i (made_keys c (way 0 t i) start sk)
 
--- and its secrets and keys are the same read in that tree
+-- and they are the same read in that tree, as is the number of its secrets
 abbrev pub MadeMerged : Type 0
 MadeMerged = (c : Crypto) (t : Term) (i : ℕ) (x : LeafNode) (keys : List (List ℕ)) (start sk : List ℕ) → made_keys c (way 0 (merge_path t i x keys) i) start sk ≡ made_keys c (way 0 t i) start sk
 
@@ -101,6 +101,6 @@ abbrev pub TakenAgrees : Type 0
 TakenAgrees = (c : Crypto) (t : Term) (i j : ℕ) (x y : LeafNode) (start own : List ℕ) → AreTwo 0 t i j → leaf_at 0 t j ≡ Some y → c.public own ≡ y.encryption_key → AllList j (way 0 t j) →
     (m : Climb) × (take_keys c (merge_path t i x (keys_of_path c t i start)) i j own (secret_for (way 0 t i) j start) ≡ Ok m) × (m.secret ≡ chain start (path_length 0 t i))
 
--- that secret is one of the committer's
+-- the secret that a joiner is sent is the same, read in the tree before the path or after
 abbrev pub SecretForMerged : Type 0
 SecretForMerged = (t : Term) (i j : ℕ) (x : LeafNode) (keys : List (List ℕ)) (start : List ℕ) → secret_for (way 0 (merge_path t i x keys) i) j start ≡ secret_for (way 0 t i) j start
