@@ -190,7 +190,8 @@ impl PrivatePath {
     }
 
     /// Checks the keys of a joiner that gets no path secret, in a whole tree (RFC 9420, 12.4.3.1). Refused with
-    /// `KeyMissing` (35) exactly where a parent over it isn't blank, doesn't list it and has no key here. Takes no memory.
+    /// `KeyMissing` (35) exactly where a parent over it isn't blank, doesn't list it and has no key here; the parents over
+    /// a leaf outside the tree are those over its last leaf. Takes no memory.
     pub fn require_keys(&self, tree: &PublicTree) -> Result<(), TreeKemError>
         ensures { MatchResult result (λ _. has_due (term tree.now) self.now ≡ true) (λ e. (e ≡ KeyMissing) × (has_due (term tree.now) self.now ≡ false)) }
     {
