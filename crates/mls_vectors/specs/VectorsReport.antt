@@ -5,7 +5,7 @@ use Rattle.mls_text.specs.Page.{Page, refused}
 use Rattle.mls_text.specs.declared.page.Ending.{Ending}
 use Rattle.mls_text.specs.declared.page.Ending.TheVariants.{Good, Failed}
 use Rattle.mls_vectors.specs.Vectors.{Claim}
-use Rattle.mls_vectors.specs.VectorsBytes.{claims_in}
+use Rattle.mls_vectors.specs.VectorsFile.{claims_in}
 use Rattle.mls_vectors.specs.VectorsPassing.{passes}
 use Rattle.mls_vectors.specs.declared.report.ReportLine.{ReportLine}
 use Rattle.mls_vectors.specs.declared.report.ReportLine.TheVariants as code

@@ -1,10 +1,8 @@
 //! Test vectors, read from JSON, judged and reported: what `mls vectors` prints of a file.
 #![tactic(auto)]
 
-mod lookup;
 mod reading;
 mod report;
-mod shape;
 mod verdict;
 
 ghost use Rattle.std.specs.Prelude.{◌≡◌, Ok, map, IfOk};
@@ -12,11 +10,11 @@ ghost use Rattle.mls_text.specs.Page.{page_of};
 ghost use Rattle.mls_vectors.specs.Vectors.{vector_view};
 ghost use Rattle.mls_vectors.specs.VectorsReport.{entry_of, page_on, vectors_page};
 
+use mls_json::JsonError;
 use mls_text::{Page, refused_page};
-use reading::{Vector, vectors_of};
+use reading::{Vector, vectors_in};
 pub use report::ReportLine;
 use report::report;
-use shape::VectorsError;
 use std::alloc::{AllocError, Global};
 use verdict::verdicts;
 
@@ -33,10 +31,9 @@ fn judged(alloc: Global, vectors: &[Vector]) -> Result<Page<ReportLine>, AllocEr
 pub fn vectors_page(alloc: Global, text: &[u8]) -> Result<Page<ReportLine>, AllocError>
     ensures { IfOk result (λ page. page_of entry_of page ≡ vectors_page text.now) }
 {
-    match vectors_of(alloc, text) {
+    match vectors_in(alloc, text) {
         Ok(vectors) => judged(alloc, vectors.as_slice()),
-        Err(VectorsError::NotHex) => Ok(refused_page(alloc, 8)),
-        Err(VectorsError::BadJson) => Ok(refused_page(alloc, 9)),
-        Err(VectorsError::OutOfMemory) => Err(AllocError),
+        Err(JsonError::OutOfMemory) => Err(AllocError),
+        Err(error) => Ok(refused_page(alloc, error.number())),
     }
 }

@@ -2,8 +2,7 @@
 
 ghost use Rattle.std.specs.Prelude.{◌≡◌, option_map};
 ghost use Rattle.serde_json.specs.View.{view, items_view};
-ghost use Rattle.mls_vectors.specs.Json.{is_object_of, items_at, number_at, text_at, whole, whole_at};
-ghost use Rattle.mls_vectors.specs.VectorsShape.{max_u32};
+ghost use Rattle.mls_json.specs.Json.{bool_at, is_object_of, items_at, max_u16, max_u32, number_at, text_at, text_if_any, whole, whole_at};
 
 use serde_json::Value;
 
@@ -55,4 +54,33 @@ pub fn u64_at(value: &Value, key: &str) -> Option<u64>
     ensures { result ≡ number_at key.now (view value.now) }
 {
     value.get(key)?.as_u64()
+}
+
+/// The uint16 at a key.
+pub fn u16_at(value: &Value, key: &str) -> Option<u16>
+    ensures { result ≡ whole_at max_u16 key.now (view value.now) }
+{
+    let number = value.get(key)?.as_u64()?;
+    if number <= u64::from(u16::MAX) {
+        Some(number as u16)
+    } else {
+        None
+    }
+}
+
+/// Whether the value at a key is true; None where it is neither true nor false.
+pub fn bool_at(value: &Value, key: &str) -> Option<bool>
+    ensures { result ≡ bool_at key.now (view value.now) }
+{
+    value.get(key)?.as_bool()
+}
+
+/// The text at a key that may be missing.
+pub fn text_if_any<'a>(value: &'a Value, key: &str) -> Option<Option<&'a str>>
+    ensures { option_map (λ found. option_map (λ text. text.now) found) result ≡ text_if_any key.now (view value.now) }
+{
+    match value.get(key) {
+        Some(member) => Some(Some(member.as_str()?)),
+        None => Some(None),
+    }
 }

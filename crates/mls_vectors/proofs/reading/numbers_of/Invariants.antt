@@ -1,7 +1,7 @@
 use Rattle.std.proofs.Common.{◌≡◌, ◌++◌, ℕ, drop, List, option_map}
 use Rattle.serde_json.specs.View.{items_view}
-use Rattle.mls_vectors.specs.VectorsShape.{numbers_of}
-use Rattle.mls_vectors.proofs.shape.numbers_of.Given as goal
+use Rattle.mls_vectors.specs.VectorsFile.{numbers_of}
+use Rattle.mls_vectors.proofs.reading.numbers_of.Given as goal
 
 abbrev pub invariant-loop-value : goal.invariant-loop-value
 invariant-loop-value l =

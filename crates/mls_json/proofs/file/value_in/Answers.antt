@@ -2,8 +2,8 @@ use Rattle.std.proofs.Common.{◌≡◌, true, false, None, List, ℕ, Bool, ref
 use Rattle.std.specs.Str.{is_utf8, IsUtf8}
 use Rattle.std.proofs.lemmas.Str.{is_utf8-from_IsUtf8, IsUtf8-from_is_utf8}
 use Rattle.serde_json.specs.Read.{read}
-use Rattle.mls_vectors.specs.Json.{data_in}
-use Rattle.mls_vectors.proofs.reading.value_in.Goals as goal
+use Rattle.mls_json.specs.Json.{data_in}
+use Rattle.mls_json.proofs.file.value_in.Goals as goal
 
 pub returns-in-Ok : goal.returns-in-Ok
 unfolding data_in

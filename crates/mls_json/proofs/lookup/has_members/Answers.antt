@@ -1,6 +1,6 @@
 use Rattle.std.proofs.Common.{refl}
 use Rattle.serde_json.proofs.Views.{members_len-members_view}
-use Rattle.mls_vectors.proofs.lookup.has_members.Goals as goal
+use Rattle.mls_json.proofs.lookup.has_members.Goals as goal
 
 pub returns-in-Some : goal.returns-in-Some
 returns-in-Some c =
