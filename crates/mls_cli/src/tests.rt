@@ -8,6 +8,7 @@ ghost use Rattle.std.specs.Prelude.{Some};
 use crate::arguments::{job, no_text};
 use crate::serving::serve;
 use crate::tasks::{Job, NoJob};
+use crate::tests::vectors::repeated;
 use mls_text::{In, Out};
 use std::alloc::{AllocError, Global};
 use std::io;
@@ -215,6 +216,22 @@ fn shows_each_kind(rt: HostRuntime) -> Result<(), Fail> {
         assert_eq!(rt; answer, status);
         assert!(rt; out.as_slice() == text.as_bytes());
     }
+    Ok(())
+}
+
+/// A text longer than what one write of the system may take is written whole.
+#[test]
+fn shows_long_texts(rt: HostRuntime) -> Result<(), Fail> {
+    let alloc = rt.alloc();
+    let digits = repeated(alloc, "6a", 5000)?;
+    let file = format!(in alloc; "0001000101670000000000000000010000000200015388{digits}01aa01bb")?;
+    let text = format!(in alloc;
+        "message: public_message\nbytes: 5027\ngroup_id: 67\nepoch: 0\nsender: 2\nauthenticated_data: -\ncontent: application\ndata: {digits}\nsignature: aa\nmembership_tag: bb\n"
+    )?;
+    let words = ["mls", "show", "FILE"];
+    let (status, out) = printed(alloc, words.as_slice(), file.as_bytes())?;
+    assert_eq!(rt; status, 0);
+    assert!(rt; out.as_slice() == text.as_bytes());
     Ok(())
 }
 

@@ -1,6 +1,7 @@
 //! What is read.
 
 ghost use Rattle.std.specs.Prelude.{ℕ, List, Bool, Option, Some, true, false, ◌≡◌, IfOk, IfErr, IfSome, ◌≢◌, ◌↔◌};
+ghost use Rattle.std.specs.IoError.{error_kind};
 ghost use Rattle.mls_text.specs.Ends.{read_failed};
 
 use crate::fault::Fault;
@@ -87,11 +88,13 @@ impl Input for &[u8] {
 }
 
 fn read_fault(error: &io::Error) -> Fault
-    ensures { result ≢ Fault.Write }
+    ensures memory { error_kind error.now ≡ ErrorKind.OutOfMemory → result ≡ Fault.OutOfMemory }
+    ensures other { error_kind error.now ≢ ErrorKind.OutOfMemory → result ≡ Fault.Read }
 {
-    match error.kind() {
-        ErrorKind::OutOfMemory => Fault::OutOfMemory,
-        _ => Fault::Read,
+    if error.kind() == ErrorKind::OutOfMemory {
+        Fault::OutOfMemory
+    } else {
+        Fault::Read
     }
 }
 
