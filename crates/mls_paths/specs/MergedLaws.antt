@@ -12,6 +12,7 @@ use Rattle.mls_paths.specs.Keys.{Keys, rest}
 use Rattle.mls_paths.specs.Make.{one_if, filtered_count, secret_above, key_if, made_keys, climb_make, more_if, path_keys}
 use Rattle.mls_paths.specs.Seal.{Choose, targets, seal_count, seal_along, IsNodeFor, IsPathOf}
 use Rattle.mls_paths.specs.Open.{left_by, past_parent, open_here, climb_open}
+use Rattle.mls_paths.specs.Laws.{CountMerged}
 use Rattle.mls_paths.specs.MakeLaws.{merged_way, way_merge}
 
 open_along : (c : Crypto) (context : List ℕ) (added : List ℕ) (j : ℕ) (ss : List Step) (ms : List (List ℕ)) (h : List ℕ) (ks : Keys) (ns : List UpdatePathNode) →
@@ -55,6 +56,9 @@ seals_along : (added : List ℕ) (ss : List Step) (ms : List (List ℕ)) (h : Li
 unfolding merged_way seal_count targets
 seals_along added [] ms h = refl
 seals_along added (s ∷ ss) ms h = ap (λ n. (if is_filtered s then length (targets added s) else 0) + n) (seals_along added ss (keys_beside s.first s.other ms) (hash_beside s.first s.other ms h))
+
+pub count_merged : CountMerged
+count_merged added b t i ms h x = ap (seal_count added) (way_merge b t i ms h x) ∙ seals_along added (way b t i) ms h
 
 sealed_along : (c : Crypto) (context : List ℕ) (added : List ℕ) (rnd : ℕ → List ℕ) (ss : List Step) (ms : List (List ℕ)) (h start : List ℕ) →
     seal_along c context added rnd (merged_way ss ms h) start ≡ seal_along c context added rnd ss start

@@ -6,8 +6,8 @@ ghost use Rattle.mls_term.specs.Laws.{MembersAreReached};
 ghost use Rattle.mls_paths.specs.Laws.{TamePut, TameEnter, TameRefl, TameTrans, FollowTame, FollowGrow, FollowTrim, FollowOwn};
 ghost use Rattle.mls_paths.specs.Laws.{FollowsTrans, FollowsTame, FollowsGrow, FollowsTrim, FollowEdit, FollowOwnEdit, ExactIsOnWay, LeafIsOnWay, EditIsFollow};
 ghost use Rattle.mls_paths.specs.Laws.{RightAreBelow, BelowPut, BelowEnter, BelowGrow, BelowTrim, BelowMerge};
-ghost use Rattle.mls_paths.specs.Laws.{ResolutionInPlace, ResolutionDistinct, OneFiltered, KeyWhereHeld, OneEntry, EntryKey, PairsInOrder, PairsFound};
-ghost use Rattle.mls_paths.specs.Laws.{ClimbIsChain, KeysAreChain, KeysOfSecrets, CountIsLength, MakingClimbs, MakeExact, MadePath, PathMade, PathHasKeys, MakeMerged, SealMerged, PathMerged};
+ghost use Rattle.mls_paths.specs.Laws.{ResolutionInPlace, ResolutionDistinct, OneFiltered, OneNode, KeyWhereHeld, OneEntry, OneTarget, EntryKey, PairsInOrder, PairsFound};
+ghost use Rattle.mls_paths.specs.Laws.{KeysAreChain, KeysOfSecrets, CountIsLength, MakingClimbs, MakeExact, MadePath, PathMade, PathHasKeys, SeedWraps, MakeMerged, SealMerged, CountMerged, PathMerged};
 ghost use Rattle.mls_paths.specs.Laws.{OpenMerged, ClimbExact, ClimbAgree, CommitAgree};
 ghost use Rattle.mls_paths.specs.Laws.{TakeExact, TakeInside, LeafHasDue, LeafExact, TakeAgree, JoinAgree, EnteredLists, TameLists};
 ghost use Rattle.mls_paths.specs.Whole.{FollowsUpdate, FollowsRemove, FollowsAdd, AddedIsListed, AddKeepsListed};
@@ -56,8 +56,10 @@ pub fn laws_of_targets()
     ensures in_place { ResolutionInPlace }
     ensures distinct { ResolutionDistinct }
     ensures one_filtered { OneFiltered }
+    ensures one_node { OneNode }
     ensures held { KeyWhereHeld }
     ensures one_entry { OneEntry }
+    ensures one_target { OneTarget }
     ensures entry_key { EntryKey }
     ensures in_order { PairsInOrder }
     ensures found { PairsFound }
@@ -65,7 +67,6 @@ pub fn laws_of_targets()
 
 /// The committer's secrets are one chain, and its keys are exact.
 pub fn laws_of_making()
-    ensures chain { ClimbIsChain }
     ensures keys { KeysAreChain }
     ensures secrets { KeysOfSecrets }
     ensures count { CountIsLength }
@@ -74,8 +75,10 @@ pub fn laws_of_making()
     ensures made { MadePath }
     ensures fit { PathMade }
     ensures path { PathHasKeys }
+    ensures wraps { SeedWraps }
     ensures merged { MakeMerged }
     ensures seal_merged { SealMerged }
+    ensures count_merged { CountMerged }
     ensures path_merged { PathMerged }
 {}
 
