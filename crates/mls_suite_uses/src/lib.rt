@@ -1,12 +1,15 @@
 //! Callers that are generic over a suite: two that use its laws through the bound, and an auditor's check of a tree.
+//! Also a suite for authors of suites to copy.
 #![tactic(auto)]
 
 ghost use Rattle.std.specs.Prelude.{◌≡◌, ◌<◌, ◌≤◌, ◌^◌, length, IfOk, true};
 
+mod bare;
 #[cfg(test)]
 mod tests;
 mod trees;
 
+pub use bare::Bare;
 use mls_suite::{
     OutOfMemory, Suite, decrypt_with_label, encrypt_with_label, sign_with_label, verify_with_label,
 };

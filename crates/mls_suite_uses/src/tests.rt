@@ -22,9 +22,10 @@ fn works<S: Suite>(alloc: Global) -> Result<bool, OutOfMemory> {
 }
 
 #[test]
-fn two_suites(rt: HostRuntime) -> Result<(), Fail> {
+fn three_suites(rt: HostRuntime) -> Result<(), Fail> {
     assert!(rt; works::<Glass>(rt.alloc())?);
     assert!(rt; works::<Unchecked>(rt.alloc())?);
+    assert!(rt; works::<Bare>(rt.alloc())?);
     Ok(())
 }
 
