@@ -13,7 +13,8 @@ ghost use Rattle.mls_paths.specs.Laws.{TakeExact, TakeInside, LeafHasDue, LeafEx
 ghost use Rattle.mls_paths.specs.Whole.{FollowsUpdate, FollowsRemove, FollowsAdd, AddedIsListed, AddKeepsListed};
 ghost use Rattle.mls_paths.specs.Examples.{SecretOfOne, SecretOfFour, PathOfFour, TargetsOfFour, KeysOfMaker, KeysBeside, KeysAcross, TargetsBesideAdded};
 ghost use Rattle.mls_paths.specs.Members.{ExactWhole, ExactMade, ExactFollowed, ExactUpdated, ExactOpened, ExactTaken, ExactAlone};
-ghost use Rattle.mls_paths.specs.Whole.{SealedKeys, SealedLengths, SealedWhereFit, RefusedWhereUnfit, FitTargets, SealedMerged, OpenedMerged, MadeExact, MadeMerged, LengthMerged, FilteredMerged, OpenedExact, OpenedAgrees, TakenAgrees, SecretForMerged};
+ghost use Rattle.mls_paths.specs.Whole.{SealedKeys, SealedLengths, SealedWhereFit, RefusedWhereUnfit, FitTargets, SealedMerged, OpenedMerged, MadeExact, MadeMerged, LengthMerged, FilteredMerged, OpenedExact, OpenedAgrees, OpenedIsSent, SecretAtAncestor, TakenAgrees, SecretForMerged};
+ghost use Rattle.mls_paths.specs.Whole.{RefusedUnopened, JudgedByKeys};
 
 /// Exact keys follow the edits of a tree.
 pub fn laws_of_following()
@@ -126,8 +127,16 @@ pub fn laws_of_paths()
     ensures filtered_merged { FilteredMerged }
     ensures opened_exact { OpenedExact }
     ensures opened_agrees { OpenedAgrees }
+    ensures opened_secret { OpenedIsSent }
+    ensures at_ancestor { SecretAtAncestor }
     ensures taken_agrees { TakenAgrees }
     ensures secret_merged { SecretForMerged }
+{}
+
+/// In whole trees: any path, whoever made it, is accepted just where its keys are those of the secret that was opened.
+pub fn laws_of_any_path()
+    ensures unopened { RefusedUnopened }
+    ensures judged { JudgedByKeys }
 {}
 
 /// In whole trees: each call leaves a member with exact keys, whichever the calls before it were.
