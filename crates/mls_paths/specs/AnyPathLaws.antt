@@ -34,10 +34,13 @@ module _ (c : Crypto) (secret : List ℕ) where
         inl (on, g.1, ap (λ z. z >>= λ m. past_parent c false ns m) g.2, g.3)
     | inr s ↦ inr (s.0, ap (λ z. z >>= λ m. past_parent c false ns m) s.1)
   ]
-  past n true [] r h = inr (λ e. cc, elim h [
-    | inl g ↦ ap (λ z. z >>= λ m. past_parent c true [] m) g.2
-    | inr s ↦ ap (λ z. z >>= λ m. past_parent c true [] m) s.1
-  ])
+  past n true [] r h = inr (
+    λ e. cc,
+    elim h [
+      | inl g ↦ ap (λ z. z >>= λ m. past_parent c true [] m) g.2
+      | inr s ↦ ap (λ z. z >>= λ m. past_parent c true [] m) s.1
+    ],
+  )
   past n true (k ∷ ns) r h = elim h [
     | inl g ↦ by_test g (bytes_eq (node_public c g.0.secret) k.encryption_key) refl
     | inr s ↦ inr (λ e. s.0 (let tails : take n (keys_of ns) ≡ chain_keys c secret n = cc in tails), ap (λ z. z >>= λ m. past_parent c true (k ∷ ns) m) s.1)
@@ -50,11 +53,13 @@ module _ (c : Crypto) (secret : List ℕ) where
           let same : k.encryption_key ≡ node_public c (chain secret n) = sym ((bytes_eq-Decides (node_public c g.0.secret) k.encryption_key).0 e) ∙ ap (node_public c) g.3 in
           inl (on, ap₂ (λ x xs. x ∷ xs) same g.1, ap (λ z. z >>= λ m. past_parent c true (k ∷ ns) m) g.2 ∙ rw e refl, ap next_secret g.3)
       by_test g false e =
-          inr (λ q.
-          let heads : k.encryption_key ≡ node_public c (chain secret n) = cc in
-          let same : node_public c g.0.secret ≡ k.encryption_key = ap (node_public c) g.3 ∙ sym heads in
-          true≢false (sym ((bytes_eq-Decides (node_public c g.0.secret) k.encryption_key).1 same) ∙ e),
-          ap (λ z. z >>= λ m. past_parent c true (k ∷ ns) m) g.2 ∙ rw e refl)
+          inr (
+            λ q.
+                let heads : k.encryption_key ≡ node_public c (chain secret n) = cc in
+                let same : node_public c g.0.secret ≡ k.encryption_key = ap (node_public c) g.3 ∙ sym heads in
+                true≢false (sym ((bytes_eq-Decides (node_public c g.0.secret) k.encryption_key).1 same) ∙ e),
+            ap (λ z. z >>= λ m. past_parent c true (k ∷ ns) m) g.2 ∙ rw e refl,
+          )
 
   module _ (context : List ℕ) (added : List ℕ) (j : ℕ) where
     goes_on : (ss : List Step) (ks : Keys) (ns : List UpdatePathNode) → opened_along c context added ss j ks ns ≡ Ok secret →

@@ -73,6 +73,10 @@ SealedMerged = (c : Crypto) (context : List ℕ) (added : List ℕ) (rnd : ℕ �
 abbrev pub OpenedMerged : Type 0
 OpenedMerged = (c : Crypto) (context : List ℕ) (added : List ℕ) (t : Term) (i j : ℕ) (x : LeafNode) (keys : List (List ℕ)) (ks : Keys) (path : List UpdatePathNode) → opened_path c context added (merge_path t i x keys) i j ks path ≡ opened_path c context added t i j ks path
 
+-- as is the secret that is opened
+abbrev pub SecretMerged : Type 0
+SecretMerged = (c : Crypto) (context : List ℕ) (added : List ℕ) (t : Term) (i j : ℕ) (x : LeafNode) (keys : List (List ℕ)) (ks : Keys) (path : List UpdatePathNode) → opened_secret c context added (merge_path t i x keys) i j ks path ≡ opened_secret c context added t i j ks path
+
 -- the committer's keys are exact in the tree with its path
 abbrev pub MadeExact : Type 0
 MadeExact = (c : Crypto) (t : Term) (i : ℕ) (x : LeafNode) (start sk : List ℕ) → c.public sk ≡ x.encryption_key → Exact c 0 (merge_path t i x (keys_of_path c t i start)) i (made_keys c (way 0 t i) start sk)

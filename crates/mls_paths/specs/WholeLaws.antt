@@ -27,11 +27,11 @@ use Rattle.mls_paths.specs.Seal.{Choose, targets, sealed_path, seal_along, targe
 use Rattle.mls_paths.specs.Open.{opened_along, opened_secret, opened_path, climb_open}
 use Rattle.mls_paths.specs.Join.{take_keys, AllList, secret_for}
 use Rattle.mls_paths.specs.Laws.{AreTwo}
-use Rattle.mls_paths.specs.Whole.{keys_of_path, OpenedIsSent}
+use Rattle.mls_paths.specs.Whole.{keys_of_path, SecretMerged, OpenedIsSent}
 use Rattle.mls_paths.specs.FollowLaws.{tame_refl, tame_put, tame_enter}
 use Rattle.mls_paths.specs.OnePassLaws.{follows_trans, follows_tame, follows_grow, follows_trim}
 use Rattle.mls_paths.specs.MakeLaws.{merged_step, merged_way, way_merge, keys_are_chain, keys_of_secrets, count_is_length, make_exact}
-use Rattle.mls_paths.specs.MergedLaws.{secret_along, make_merged, count_along, seal_merged, open_merged, path_has_keys}
+use Rattle.mls_paths.specs.MergedLaws.{secret_along, make_merged, count_along, seal_merged, open_merged, opened_along_merged, path_has_keys}
 use Rattle.mls_paths.specs.SealLaws.{made_path, path_some}
 use Rattle.mls_paths.specs.OpenLaws.{climb_exact, climb_agree, opened_along_is, good_sides}
 use Rattle.mls_paths.specs.MeetLaws.{meets_from}
@@ -195,6 +195,10 @@ sealed_merged c context added rnd t i x keys start = ap (λ o. given 36 (option_
 pub opened_merged : (c : Crypto) (context : List ℕ) (added : List ℕ) (t : Term) (i j : ℕ) (x : LeafNode) (keys : List (List ℕ)) (ks : Keys) (path : List UpdatePathNode) → opened_path c context added (merge_path t i x keys) i j ks path ≡ opened_path c context added t i j ks path
 unfolding opened_path merge_path
 opened_merged c context added t i j x keys ks path = open_merged c context added 0 t i j (reverse keys) [] x ks (reverse path)
+
+pub secret_merged : SecretMerged
+unfolding opened_secret merge_path
+secret_merged c context added t i j x keys ks path = opened_along_merged c context added 0 t i j (reverse keys) [] x ks (reverse path)
 
 pub made_exact : (c : Crypto) (t : Term) (i : ℕ) (x : LeafNode) (start sk : List ℕ) → c.public sk ≡ x.encryption_key → Exact c 0 (merge_path t i x (keys_of_path c t i start)) i (made_keys c (way 0 t i) start sk)
 made_exact c t i x start sk h = subst (λ (u : Term). Exact c 0 u i (made_keys c (way 0 t i) start sk)) (sym (merge_of c t i x start)) (make_exact c 0 t i [] x start sk h)
