@@ -32,4 +32,6 @@ pub mod OpenLaws
 pub mod JoinLaws
 pub mod CommitLaws
 pub mod WholeLaws
+pub mod AnyPathLaws
+pub mod ForkLaws
 pub mod MemberLaws

@@ -45,7 +45,7 @@ keys_of_secrets c start (suc k) =
     ∙ reverse-append (map (node_public c) (path_secrets start k)) (node_public c (chain start k) ∷ [])
     ∙ ap (λ zs. node_public c (chain start k) ∷ zs) (keys_of_secrets c start k)
 
-count_filtered : (ss : List Step) → filtered_count ss ≡ length (filter is_filtered ss)
+pub count_filtered : (ss : List Step) → filtered_count ss ≡ length (filter is_filtered ss)
 unfolding filtered_count
 count_filtered [] = refl
 count_filtered (s ∷ ss) = by_test (is_filtered s) (count_filtered ss)

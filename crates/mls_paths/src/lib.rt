@@ -12,8 +12,9 @@ ghost use Rattle.mls_paths.specs.Laws.{OpenMerged, ClimbExact, ClimbAgree, Commi
 ghost use Rattle.mls_paths.specs.Laws.{TakeExact, TakeInside, LeafHasDue, LeafExact, TakeAgree, JoinAgree, EnteredLists, TameLists};
 ghost use Rattle.mls_paths.specs.Whole.{FollowsUpdate, FollowsRemove, FollowsAdd, AddedIsListed, AddKeepsListed};
 ghost use Rattle.mls_paths.specs.Examples.{SecretOfOne, SecretOfFour, PathOfFour, TargetsOfFour, KeysOfMaker, KeysBeside, KeysAcross, TargetsBesideAdded};
-ghost use Rattle.mls_paths.specs.Members.{ExactWhole, ExactMade, ExactFollowed, ExactUpdated, ExactOpened, ExactTaken, ExactAlone};
-ghost use Rattle.mls_paths.specs.Whole.{SealedKeys, SealedLengths, SealedWhereFit, RefusedWhereUnfit, FitTargets, SealedMerged, OpenedMerged, MadeExact, MadeMerged, LengthMerged, FilteredMerged, OpenedExact, OpenedAgrees, TakenAgrees, SecretForMerged};
+ghost use Rattle.mls_paths.specs.Members.{ExactWhole, ExactMade, ExactFollowed, ExactUpdated, ExactOpened, KeysMerged, ExactReceived, MadeReceived, ShownAreDue, ExactTaken, ExactAlone};
+ghost use Rattle.mls_paths.specs.Whole.{SealedKeys, SealedLengths, SealedWhereFit, RefusedWhereUnfit, FitTargets, SealedMerged, OpenedMerged, SecretMerged, MadeExact, MadeMerged, LengthMerged, FilteredMerged, OpenedExact, OpenedAgrees, OpenedIsSent, SecretAtAncestor, TakenAgrees, SecretForMerged};
+ghost use Rattle.mls_paths.specs.Whole.{RefusedUnopened, JudgedByKeys};
 
 /// Exact keys follow the edits of a tree.
 pub fn laws_of_following()
@@ -120,14 +121,23 @@ pub fn laws_of_paths()
     ensures fit_targets { FitTargets }
     ensures seal_merged { SealedMerged }
     ensures open_merged { OpenedMerged }
+    ensures opened_merged { SecretMerged }
     ensures made_exact { MadeExact }
     ensures made_merged { MadeMerged }
     ensures length_merged { LengthMerged }
     ensures filtered_merged { FilteredMerged }
     ensures opened_exact { OpenedExact }
     ensures opened_agrees { OpenedAgrees }
+    ensures opened_secret { OpenedIsSent }
+    ensures at_ancestor { SecretAtAncestor }
     ensures taken_agrees { TakenAgrees }
     ensures secret_merged { SecretForMerged }
+{}
+
+/// In whole trees: any path, whoever made it, is accepted just where its keys are those of the secret that was opened.
+pub fn laws_of_any_path()
+    ensures unopened { RefusedUnopened }
+    ensures judged { JudgedByKeys }
 {}
 
 /// In whole trees: each call leaves a member with exact keys, whichever the calls before it were.
@@ -137,6 +147,10 @@ pub fn laws_of_members()
     ensures followed { ExactFollowed }
     ensures updated { ExactUpdated }
     ensures opened { ExactOpened }
+    ensures keys_merged { KeysMerged }
+    ensures received { ExactReceived }
+    ensures made_received { MadeReceived }
+    ensures shown { ShownAreDue }
     ensures taken { ExactTaken }
     ensures alone { ExactAlone }
 {}
