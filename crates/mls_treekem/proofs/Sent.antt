@@ -25,15 +25,15 @@ use Rattle.mls_term.specs.Way.{Step, way, is_filtered, path_length}
 use Rattle.mls_treekem.specs.declared.error.TreeKemError.{TreeKemError}
 use Rattle.mls_treekem.specs.declared.error.TreeKemError.TheVariants as error
 use Rattle.mls_treekem.specs.Faults.{number_of, IsMemoryOrKey}
-use Rattle.mls_treekem.specs.Chain.{chain, path_secrets, node_key, node_public}
-use Rattle.mls_treekem.specs.Made.{AreOfChain}
-use Rattle.mls_treekem.specs.Make.{one_if, filtered_count, secret_above}
-use Rattle.mls_treekem.specs.Seal.{targets, seal_count, ciphertext_of, seal_secret, seal_to, cons_both, seal_all, with_ciphertexts, path_past, seal_along, sealed_path}
-use Rattle.mls_treekem.specs.Seeds.{seal_seed, seals_in}
+use Rattle.mls_paths.specs.Chain.{chain, path_secrets, node_key, node_public}
+use Rattle.mls_treekem.specs.Secrets.{AreOfChain}
+use Rattle.mls_paths.specs.Make.{one_if, filtered_count, secret_above}
+use Rattle.mls_paths.specs.Seal.{targets, seal_count, ciphertext_of, seal_secret, seal_to, cons_both, seal_all, with_ciphertexts, path_past, seal_along, sealed_path}
+use Rattle.mls_paths.specs.Seeds.{seal_seed, seals_in}
 use Rattle.mls_treekem.specs.Place.{subtree_at, step_of, IsPlaced, ArePlaced, IsWay}
 use Rattle.mls_treekem.specs.declared.places.Place.{Place}
 use Rattle.mls_treekem.specs.declared.secrets.PathSecrets.{PathSecrets}
-use Rattle.mls_treekem.proofs.Making.{count_is_length}
+use Rattle.mls_paths.specs.MakeLaws.{count_is_length}
 
 -- ---- seals by the low bits of their number
 

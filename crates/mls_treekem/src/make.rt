@@ -1,8 +1,9 @@
 //! A committer's new keys.
 
 ghost use Rattle.std.specs.Prelude.{◌≡◌, ◌++◌, None, length, map, replicate, IfOk, OnOk, OnErr};
-ghost use Rattle.mls_treekem.specs.Made.{AreOfChain};
-ghost use Rattle.mls_treekem.specs.Raise.{level_of, raised, raised_all, HasMade};
+ghost use Rattle.mls_treekem.specs.Secrets.{AreOfChain};
+ghost use Rattle.mls_treekem.specs.Raised.{level_of, raised, raised_all};
+ghost use Rattle.mls_paths.specs.Make.{HasMade};
 
 use crate::{PathSecrets, PrivatePath};
 use mls_kdf::Secret;

@@ -8,13 +8,13 @@ ghost use Rattle.mls_term.specs.Places.{key_at};
 ghost use Rattle.mls_term.specs.Way.{way, path_length};
 ghost use Rattle.mls_tree.specs.Tree.{term};
 ghost use Rattle.mls_treekem.specs.Beside.{cell_key};
-ghost use Rattle.mls_treekem.specs.Chain.{chain, node_public};
+ghost use Rattle.mls_paths.specs.Chain.{chain, node_public};
 ghost use Rattle.mls_treekem.specs.Faults.{number_of, IsMemoryOrKey};
-ghost use Rattle.mls_treekem.specs.Made.{AreOfChain};
-ghost use Rattle.mls_treekem.specs.Make.{filtered_count};
+ghost use Rattle.mls_treekem.specs.Secrets.{AreOfChain};
+ghost use Rattle.mls_paths.specs.Make.{filtered_count};
 ghost use Rattle.mls_treekem.specs.Place.{subtree_at, step_of, IsPlaced, ArePlaced};
-ghost use Rattle.mls_treekem.specs.Seal.{seal_to, seal_all, seal_along, seal_count, sealed_path, with_ciphertexts};
-ghost use Rattle.mls_treekem.specs.Seeds.{seal_seed, seals_in};
+ghost use Rattle.mls_paths.specs.Seal.{seal_to, seal_all, seal_along, seal_count, sealed_path, with_ciphertexts};
+ghost use Rattle.mls_paths.specs.Seeds.{seal_seed, seals_in};
 
 use crate::places::{Place, parents_over};
 use crate::{PathSecrets, TreeKemError};
@@ -27,7 +27,7 @@ use std::alloc::Global;
 
 /// The randomness of seal number `i` of a commit, from 0 on: the seals of its path come first, node by node, the lowest
 /// first, and then those of its Welcome in the order of adds. Takes no memory.
-#[tactic(auto, unfolding(crate::specs::Seeds::seal_seed, mls_wire::specs::Reading::uint))]
+#[tactic(auto, unfolding(mls_paths::specs::Seeds::seal_seed, mls_wire::specs::Reading::uint))]
 pub fn seal_seed(seed: &Secret, i: u32) -> Secret
     ensures { result ≡ seal_seed seed.now i }
 {

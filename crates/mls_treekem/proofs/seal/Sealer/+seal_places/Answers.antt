@@ -2,7 +2,7 @@ use Rattle.std.proofs.Common.{◌≡◌, suc, ◌+◌, ◌%◌, ◌^◌, arith, 
 use Rattle.std.proofs.lemmas.List.{nil_from_length}
 use Rattle.mls_tree.specs.Tree.{term}
 use Rattle.mls_treekem.specs.Faults.{number_of}
-use Rattle.mls_treekem.specs.Seeds.{seals_in}
+use Rattle.mls_paths.specs.Seeds.{seals_in}
 use Rattle.mls_treekem.proofs.Sent.{along_none, count_none, numbers_none, placed_here, placed_below, least_below, along_same, count_same, numbers_same, count_one, numbers_more, along_more, along_fails, below_fails}
 use Rattle.mls_treekem.proofs.seal.Sealer.+seal_places.Goals as goal
 

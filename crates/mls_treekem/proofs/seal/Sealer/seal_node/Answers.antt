@@ -2,11 +2,11 @@ use Rattle.std.proofs.Common.{[], ap, sym, ◌∙◌, length}
 use Rattle.mls_wire.specs.Checks.{given}
 use Rattle.mls_term.specs.Sets.{leaf_numbers, less}
 use Rattle.mls_tree.specs.Tree.{term}
-use Rattle.mls_treekem.specs.Chain.{chain, node_public}
+use Rattle.mls_paths.specs.Chain.{chain, node_public}
 use Rattle.mls_treekem.specs.Faults.{number_of}
 use Rattle.mls_treekem.specs.Place.{subtree_at}
-use Rattle.mls_treekem.specs.Seal.{seal_all}
-use Rattle.mls_treekem.specs.Seeds.{seal_seed}
+use Rattle.mls_paths.specs.Seal.{seal_all}
+use Rattle.mls_paths.specs.Seeds.{seal_seed}
 use Rattle.mls_treekem.proofs.Sent.{few_secrets, few_pairs, secret_is, public_is, node_made, node_refused, length-sealed, given_some, of_keys}
 use Rattle.mls_treekem.proofs.seal.Sealer.seal_node.Goals as goal
 

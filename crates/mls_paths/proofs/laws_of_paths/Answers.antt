@@ -1,0 +1,23 @@
+use Rattle.mls_paths.proofs.laws_of_paths.Goals as goal
+use Rattle.mls_paths.specs.FitLaws.{fit_targets}
+use Rattle.mls_paths.specs.WholeLaws.{sealed_keys, sealed_lengths, sealed_where_fit, refused_where_unfit, sealed_merged, opened_merged, made_exact, made_merged, length_merged, filtered_merged, opened_exact, opened_agrees, taken_agrees, secret_for_merged}
+
+pub returns : goal.returns
+returns c =
+    record {
+      keys = sealed_keys;
+      lengths = sealed_lengths;
+      fit = sealed_where_fit;
+      unfit = refused_where_unfit;
+      fit_targets = fit_targets;
+      seal_merged = sealed_merged;
+      open_merged = opened_merged;
+      made_exact = made_exact;
+      made_merged = made_merged;
+      length_merged = length_merged;
+      filtered_merged = filtered_merged;
+      opened_exact = opened_exact;
+      opened_agrees = opened_agrees;
+      taken_agrees = taken_agrees;
+      secret_merged = secret_for_merged;
+    }
