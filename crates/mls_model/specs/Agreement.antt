@@ -24,7 +24,7 @@ use Rattle.mls_term.specs.Arrays.{in_order}
 use Rattle.mls_term.specs.Good.{IsGood}
 use Rattle.mls_term.specs.Hashes.{tree_hash}
 use Rattle.mls_tree.specs.Rules.{rules_of}
-use Rattle.mls_treekem.specs.Members.{HasExact}
+use Rattle.mls_paths.specs.Members.{HasExact}
 use Rattle.mls_schedule.specs.Epoch.{nine_secrets, confirmation_tag}
 use Rattle.mls_schedule.specs.Twins.{Twins}
 use Rattle.mls_model.specs.Public.{Used}

@@ -2,7 +2,6 @@
 use Rattle.std.specs.Prelude.{ℕ, nat_lt, nat_le, Bool, true, false, ◌&&◌, List, [], length, codes, Option, Some, None, Result}
 use Rattle.std.specs.List.{list_all}
 use Rattle.mls_wire.specs.Checks.{Passed, require}
-use Rattle.mls_kdf.specs.Kdf.{hmac}
 use Rattle.mls_leaf.specs.Faults.{whole}
 use Rattle.mls_leaf.specs.Limits.{input_limit}
 use Rattle.mls_group.specs.declared.group_context.GroupContext.{GroupContext}
@@ -24,7 +23,7 @@ use Rattle.mls_types.specs.declared.signed.SignedBody.TheVariants as body
 use Rattle.mls_types.specs.declared.signed.SignedContent.{SignedContent}
 use Rattle.mls_suite.specs.Crypto.{Crypto}
 use Rattle.mls_suite.specs.Labels.{sign_with_label, verify_with_label}
-use Rattle.mls_schedule.specs.Epoch.{membership_key}
+use Rattle.mls_schedule.specs.Epoch.{membership_tag}
 use Rattle.mls_model.specs.Member.{Member}
 
 -- ---- whole messages
@@ -71,12 +70,12 @@ unfoldable pub is_content_signed : Crypto → List ℕ → SignedContent → Gro
 is_content_signed c key v context = verify_with_label c key (codes "FramedContentTBS") (framed_content_tbs format.PublicMessage (framed v) context) v.signature
 
 -- the membership tag of a signed content, by the epoch secret (RFC 9420, 6.2)
-unfoldable pub membership_tag : List ℕ → SignedContent → GroupContext → List ℕ
-membership_tag epoch v context = hmac (membership_key epoch) (authenticated_content_tbm format.PublicMessage v context)
+unfoldable pub content_tag : List ℕ → SignedContent → GroupContext → List ℕ
+content_tag epoch v context = membership_tag epoch (authenticated_content_tbm format.PublicMessage v context)
 
 -- the message of a signed content, as a member sends it (RFC 9420, 6 and 6.2)
 unfoldable pub sent_by : Member → SignedContent → List ℕ
-sent_by m v = mls_message.spell (message.PublicMessage (record { content = v; membership_tag = membership_tag m.epoch v m.public.context }))
+sent_by m v = mls_message.spell (message.PublicMessage (record { content = v; membership_tag = content_tag m.epoch v m.public.context }))
 
 -- the reference of a proposal (RFC 9420, 5.2)
 unfoldable pub reference_of : SignedContent → List ℕ

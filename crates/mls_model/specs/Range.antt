@@ -1,5 +1,5 @@
 -- What Rust's types say of the events that code can have, and statements over lists have to say for themselves.
-use Rattle.std.specs.Prelude.{ℕ, ◌<◌, ◌^◌, List}
+use Rattle.std.specs.Prelude.{◌<◌, ◌^◌}
 use Rattle.std.specs.List.{AllByRecursion}
 use Rattle.mls_wire.specs.Format.{IsBytes}
 use Rattle.mls_model.specs.declared.event.Source.{Source}
