@@ -6,7 +6,7 @@ ghost use Rattle.mls_leaf.specs.Parent.{rises};
 ghost use Rattle.mls_treemath.specs.Paths.{nodes_in};
 ghost use Rattle.mls_treemath.specs.Limits.{max_height};
 ghost use Rattle.mls_term.specs.Sets.{has};
-ghost use Rattle.mls_term.specs.Lists.{may_list, is_listed, may_be_listed, lists_here, asked, all_parents};
+ghost use Rattle.mls_term.specs.Lists.{may_list, is_listed, may_be_listed, lists_here, rises_here, asked, all_parents};
 ghost use Rattle.mls_term.specs.Good.{has_good_lists};
 ghost use Rattle.mls_term.specs.Arrays.{parent_in, term_of};
 
@@ -82,6 +82,7 @@ fn may_be_listed(
 }
 
 /// Whether a parent over these two sides lists only what it may list.
+#[tactic(auto, unfolding(mls_term::specs::Lists::rises_here))]
 fn lists_here(
     parent: &ParentNode,
     left: &[Option<Node>],
@@ -94,7 +95,9 @@ fn lists_here(
     requires right_shape { length right.now ≡ nodes_in height }
     requires middle { second ≡ first + 2 ^ height }
     requires fits { second + 2 ^ height ≤ 2 ^ 31 }
-    ensures { result ≡ lists_here first parent.now (term_of height left.now) (term_of height right.now) }
+    ensures right { result ≡ lists_here first parent.now (term_of height left.now) (term_of height right.now) }
+    // Its list rises, as every parent's does.
+    ensures rising { rises_here first parent.now (term_of height left.now) (term_of height right.now) ≡ true }
 {
     for leaf in parent.unmerged_leaves() {
         if !may_be_listed(left, right, height, first, second, *leaf) {
@@ -117,7 +120,8 @@ fn root_lists(
     requires right_shape { length right.now ≡ nodes_in height }
     requires middle { second ≡ first + 2 ^ height }
     requires fits { second + 2 ^ height ≤ 2 ^ 31 }
-    ensures { result ≡ asked lists_here first (parent_in root.now) (term_of height left.now) (term_of height right.now) }
+    ensures right { result ≡ asked lists_here first (parent_in root.now) (term_of height left.now) (term_of height right.now) }
+    ensures rising { asked rises_here first (parent_in root.now) (term_of height left.now) (term_of height right.now) ≡ true }
 {
     match parent_in(root) {
         Some(parent) => lists_here(parent, left, right, height, first, second),
@@ -130,7 +134,8 @@ fn root_lists(
 fn each_lists(nodes: &[Option<Node>], height: u32, first: u32) -> bool
     requires shape { length nodes.now ≡ nodes_in height }
     requires fits { first + 2 ^ height ≤ 2 ^ 31 }
-    ensures { result ≡ all_parents lists_here first (term_of height nodes.now) }
+    ensures right { result ≡ all_parents lists_here first (term_of height nodes.now) }
+    ensures rising { result ≡ true → all_parents rises_here first (term_of height nodes.now) ≡ true }
 {
     if height == 0 {
         return true;
@@ -148,11 +153,13 @@ fn each_lists(nodes: &[Option<Node>], height: u32, first: u32) -> bool
     each_lists(right, height - 1, second)
 }
 
-/// Whether each unmerged leaf is a member below its parent, and each parent between lists it too. Takes no memory.
+/// Whether each unmerged leaf is a member below its parent, and each parent between lists it too. Takes no memory. Each
+/// list that it has gone over rises.
 pub fn has_good_lists(nodes: &[Option<Node>], height: u32) -> bool
     requires shape { length nodes.now ≡ nodes_in height }
     requires low { height ≤ max_height }
-    ensures { result ≡ has_good_lists (term_of height nodes.now) }
+    ensures right { result ≡ has_good_lists (term_of height nodes.now) }
+    ensures rising { result ≡ true → all_parents rises_here 0 (term_of height nodes.now) ≡ true }
 {
     each_lists(nodes, height, 0)
 }

@@ -1,9 +1,9 @@
 //! The checks of a whole tree (RFC 9420, 7.3, 7.9.2 and 12.4.3.1).
 
-ghost use Rattle.std.specs.Prelude.{◌≡◌, ℕ, ◌<◌, ◌≤◌, ◌^◌, List, length, IfOk, IfSome};
+ghost use Rattle.std.specs.Prelude.{◌≡◌, ℕ, ◌<◌, ◌≤◌, ◌^◌, true, List, length, IfOk, OnOk, IfSome};
 ghost use Rattle.std.specs.Option.{option_copied};
 ghost use Rattle.std.specs.List.{list_all};
-ghost use Rattle.mls_wire.specs.Checks.{passed, Answers};
+ghost use Rattle.mls_wire.specs.Checks.{passed, require, Answers};
 ghost use Rattle.mls_treemath.specs.Paths.{nodes_in};
 ghost use Rattle.mls_treemath.specs.Limits.{max_height};
 ghost use Rattle.mls_checks.specs.Leaf.{is_signed, is_capable};
@@ -11,12 +11,14 @@ ghost use Rattle.mls_checks.specs.Short.{IsShort};
 ghost use Rattle.mls_leaf.specs.Leaf.{leaf_node};
 ghost use Rattle.mls_term.specs.Term.{leaf_of};
 ghost use Rattle.mls_term.specs.Keys.{passes};
-ghost use Rattle.mls_term.specs.Good.{is_all_signed, is_all_capable, is_all_fit, tree_checks};
+ghost use Rattle.mls_term.specs.Lists.{all_parents, rises_here};
+ghost use Rattle.mls_term.specs.Good.{IsGood, has_good_shape, has_good_lists, has_distinct_keys, has_distinct_clients, is_all_signed, is_all_capable, is_all_fit, tree_checks};
 ghost use Rattle.mls_term.specs.Arrays.{term_of};
 ghost use Rattle.mls_array.specs.Standing.{Stands};
 ghost use Rattle.mls_array.specs.Gathered.{cell_key};
 ghost use Rattle.mls_suite.specs.Crypto.{Crypto};
 ghost use Rattle.mls_tree.specs.Faults.{number_of};
+ghost use Rattle.mls_tree.specs.Refusals.{RefusesOutright};
 ghost use Rattle.mls_tree.specs.Rules.{rules_of};
 ghost use Rattle.mls_tree.specs.Tree.{term};
 
@@ -128,7 +130,9 @@ fn check<S: Suite>(
     requires low { height ≤ max_height }
     requires group { length group_id.now < 2 ^ 28 }
     requires short { (i : ℕ) → IfSome (leaf_of (term_of height nodes.now) i) (λ v. IsShort leaf_node v) }
-    ensures { Answers (λ _. passed) number_of (tree_checks (rules_of S.crypto group_id.now) (term_of height nodes.now)) result }
+    ensures answer { Answers (λ _. passed) number_of (tree_checks (rules_of S.crypto group_id.now) (term_of height nodes.now)) result }
+    ensures lists { RefusesOutright number_of (require 23 (has_good_lists (term_of height nodes.now))) result }
+    ensures rising { OnOk result (all_parents rises_here 0 (term_of height nodes.now) ≡ true) }
 {
     if !array::has_good_lists(nodes, height) {
         return Err(TreeError::UnmergedWrong);
@@ -160,14 +164,31 @@ impl PublicTree {
     /// parent-hash valid (RFC 9420, 7.9.2); `KeyRepeated` (25) where two nodes have one encryption key;
     /// `ClientRepeated` (26) where two members have one signature key; `LeafSignature` (51) where a member's signature
     /// isn't its own; `LeafCapability` (52) where a member lacks a capability (RFC 9420, 7.3); `BadKey` (36) where an
-    /// encryption key isn't fit for sealing.
+    /// encryption key isn't fit for sealing. A tree of good shape that is accepted is good.
     pub fn check<S: Suite>(&mut self, group_id: &[u8]) -> Result<(), TreeError>
         requires group { length group_id.now < 2 ^ 28 }
         requires short { (i : ℕ) → IfSome (leaf_of (term self.old) i) (λ v. IsShort leaf_node v) }
         ensures answer { Answers (λ _. passed) number_of (tree_checks (rules_of S.crypto group_id.now) (term self.old)) result }
+        // 23 comes whatever memory there is.
+        ensures refused { RefusesOutright number_of (require 23 (has_good_lists (term self.old))) result }
+        ensures good { OnOk result (has_good_shape (term self.old) ≡ true → IsGood (rules_of S.crypto group_id.now) (term self.old)) }
         ensures same { term self.new ≡ term self.old }
     {
         let alloc = *self.nodes.allocator();
         check::<S>(alloc, &self.nodes, self.height, group_id)
+    }
+
+    /// Whether no two nodes have one encryption key (RFC 9420, 7.3).
+    pub fn has_distinct_keys(&self) -> Result<bool, AllocError>
+        ensures { IfOk result (λ b. b ≡ has_distinct_keys (term self.now)) }
+    {
+        array::has_distinct_keys(*self.nodes.allocator(), &self.nodes, self.height)
+    }
+
+    /// Whether no two members have one signature key (RFC 9420, 7.3).
+    pub fn has_distinct_clients(&self) -> Result<bool, AllocError>
+        ensures { IfOk result (λ b. b ≡ has_distinct_clients (term self.now)) }
+    {
+        array::has_distinct_clients(*self.nodes.allocator(), &self.nodes, self.height)
     }
 }

@@ -1,6 +1,6 @@
 //! A commit's path: the parent hash of its leaf, and its merge.
 
-ghost use Rattle.std.specs.Prelude.{◌≡◌, ℕ, ◌≤◌, List, [], reverse, None, true, IfOk, OnOk};
+ghost use Rattle.std.specs.Prelude.{◌≡◌, ℕ, ◌≤◌, List, [], reverse, length, None, IfOk, OnOk};
 ghost use Rattle.mls_wire.specs.Checks.{passed, Answers, AnswersOutright};
 ghost use Rattle.mls_treemath.specs.Limits.{max_height};
 ghost use Rattle.mls_term.specs.Node.{source_hash};
@@ -10,13 +10,14 @@ ghost use Rattle.mls_term.specs.Hashes.{is_some_bytes};
 ghost use Rattle.mls_term.specs.Keys.{encryption_keys};
 ghost use Rattle.mls_term.specs.Edits.{put};
 ghost use Rattle.mls_term.specs.Merge.{merge_path, path_parent_hash};
-ghost use Rattle.mls_term.specs.Good.{Rules, IsGood, IsSound, AreNew, AreFit, has_distinct_clients};
+ghost use Rattle.mls_term.specs.Good.{AreNew};
 ghost use Rattle.mls_term.specs.Arrays.{term_of};
 ghost use Rattle.mls_array.specs.Standing.{Stands};
 ghost use Rattle.mls_array.specs.StandingLaws.{StandsFor};
 ghost use Rattle.mls_array.specs.Merging.{hash_bytes, path_parents};
 ghost use Rattle.mls_tree.specs.Faults.{number_of};
-ghost use Rattle.mls_tree.specs.Kept.{KeepsGood};
+ghost use Rattle.mls_tree.specs.Kept.{KeepsGood, MergesGood};
+ghost use Rattle.mls_tree.specs.Refusals.{RefusesOutright};
 ghost use Rattle.mls_tree.specs.Tree.{term};
 ghost use Rattle.mls_tree.specs.Paths.{path_checks, path_hash_answer, merge_checks, merge_answer, ChangesWhole};
 
@@ -108,6 +109,7 @@ impl PublicTree {
         keys: Vec<Bytes>,
     ) -> Result<Vec<ParentNode>, TreeError>
         ensures checks { Answers (λ _. passed) number_of (merge_checks (term self.now) i leaf.now keys.items) result }
+        ensures refused { RefusesOutright number_of (path_checks (term self.now) i (length keys.items)) result }
         ensures parents { IfOk result (λ v. v.items ≡ path_parents 0 (term self.now) i (reverse keys.items) []) }
     {
         match self.require_path(i, keys.len()) {
@@ -131,6 +133,7 @@ impl PublicTree {
     /// where there aren't as many keys as its filtered path has parents.
     pub fn path_parent_hash(&mut self, i: u32, keys: &[Bytes]) -> Result<Vec<u8>, TreeError>
         ensures answer { Answers (λ v. v.items) number_of (path_hash_answer (term self.old) i keys.now) result }
+        ensures refused { RefusesOutright number_of (path_checks (term self.old) i (length keys.now)) result }
         ensures same { term self.new ≡ term self.old }
     {
         match self.require_path(i, keys.len()) {
@@ -148,10 +151,13 @@ impl PublicTree {
     /// where the leaf's source isn't a commit with the path's parent hash. After a refusal the tree is as before.
     pub fn merge_path(&mut self, i: u32, leaf: LeafNode, keys: Vec<Bytes>) -> Result<(), TreeError>
         ensures answer { ChangesWhole number_of (merge_answer (term self.old) i leaf keys.items) (term self.old) (term self.new) result }
+        // 22 and 30 come whatever memory there is.
+        ensures refused { RefusesOutright number_of (path_checks (term self.old) i (length keys.items)) result }
         // A good tree stays good where the leaf and the keys pass the checks.
         ensures good { OnOk result (KeepsGood (λ rules. AreNew rules i leaf keys.items (put 0 (term self.old) i None)) (term self.old) (term self.new)) }
-        // A sound tree becomes good, as keys are checked here, where no client repeats in the merged tree.
-        ensures checked { OnOk result ((rules : Rules) → AreFit rules i leaf keys.items → has_distinct_clients (term self.new) ≡ true → IsSound rules (term self.old) → IsGood rules (term self.new)) }
+        // A sound tree becomes good, as keys are checked here, where no client repeats in it and the leaf keeps its
+        // signature key.
+        ensures checked { OnOk result (MergesGood i leaf keys.items (term self.old) (term self.new)) }
     {
         let parents = match self.require_merge(i, &leaf, keys) {
             Err(error) => return Err(error),

@@ -1,18 +1,19 @@
 //! The public tree.
 
-ghost use Rattle.std.specs.Prelude.{◌≡◌, ◌<◌, ◌≤◌, [], Some, None, is_some, true, IfOk, OnOk, MatchResult, length};
+ghost use Rattle.std.specs.Prelude.{◌≡◌, ◌<◌, ◌≤◌, ◌&&◌, [], Some, None, is_some, true, IfOk, OnOk, MatchResult, length};
 ghost use Rattle.std.specs.Option.{option_copied};
-ghost use Rattle.mls_wire.specs.Checks.{Answers, DoesAs};
+ghost use Rattle.mls_wire.specs.Checks.{Answers, DoesAs, require};
 ghost use Rattle.mls_term.specs.Term.{Leaf, has_leaf, leaf_of, width};
 ghost use Rattle.mls_term.specs.Places.{resolution_at};
 ghost use Rattle.mls_term.specs.Keys.{members};
 ghost use Rattle.mls_term.specs.Hashes.{tree_hash};
-ghost use Rattle.mls_term.specs.Arrays.{from_nodes, to_nodes, node_at};
+ghost use Rattle.mls_term.specs.Arrays.{has_last, alternates, from_nodes, to_nodes, node_at};
 ghost use Rattle.mls_term.specs.Edits.{put, place_in};
-ghost use Rattle.mls_term.specs.Good.{Rules, IsGood, AreNew, AreFit};
+ghost use Rattle.mls_term.specs.Good.{Rules, IsGood, AreNew, AreFit, has_good_shape};
 ghost use Rattle.mls_tree.specs.Faults.{number_of};
 ghost use Rattle.mls_tree.specs.declared.error.TreeError.TheVariants.{NoSuchLeaf};
 ghost use Rattle.mls_tree.specs.Kept.{KeepsGood, KeepsSound};
+ghost use Rattle.mls_tree.specs.Refusals.{RefusesOutright};
 ghost use Rattle.mls_tree.specs.Tree.{term, max_leaves, path_answer, add_answer, update_answer, remove_answer, Changes};
 
 use crate::edits;
@@ -61,7 +62,10 @@ impl PublicTree {
     /// a parent at an even place, or more than one leaf and no member in the right half; then with `TreeFull` (21)
     /// above 4,096 leaves.
     pub fn from_nodes(nodes: Vec<Option<Node>>) -> Result<PublicTree, TreeError>
-        ensures { Answers term number_of (from_nodes max_leaves nodes.items) result }
+        ensures answer { Answers term number_of (from_nodes max_leaves nodes.items) result }
+        // 20 comes whatever memory there is, where the nodes alone show it.
+        ensures refused { RefusesOutright number_of (require 20 (has_last nodes.items && alternates true nodes.items)) result }
+        ensures shape { IfOk result (λ t. has_good_shape (term t) ≡ true) }
     {
         if !array::has_last(&nodes) {
             return Err(TreeError::TreeShape);
@@ -90,7 +94,8 @@ impl PublicTree {
 
     /// How many leaves it has, blank ones too.
     pub fn leaf_count(&self) -> u32
-        ensures { result ≡ width (term self.now) }
+        ensures width { result ≡ width (term self.now) }
+        ensures small { result ≤ max_leaves }
     {
         1 << self.height
     }
@@ -139,7 +144,8 @@ impl PublicTree {
     /// The filtered direct path of member i as node indices, the lowest first (RFC 9420, 4.1.2); `NoSuchLeaf` (22)
     /// where no member is there.
     pub fn filtered_path(&self, i: u32) -> Result<Vec<u32>, TreeError>
-        ensures { Answers (λ v. v.items) number_of (path_answer (term self.now) i) result }
+        ensures answer { Answers (λ v. v.items) number_of (path_answer (term self.now) i) result }
+        ensures refused { RefusesOutright number_of (path_answer (term self.now) i) result }
     {
         match self.require_member(i) {
             Err(error) => return Err(error),
@@ -159,9 +165,11 @@ impl PublicTree {
     }
 
     /// Adds a member at the leftmost blank leaf, in a tree of twice the leaves where none is blank, and answers its leaf
-    /// index (RFC 9420, 12.1.1). The largest tree with no blank leaf is refused with `TreeFull` (21).
+    /// index (RFC 9420, 12.1.1). Refused with `TreeFull` (21) where that tree would have more than 4,096 leaves, whatever
+    /// memory there is.
     pub fn add(&mut self, leaf: LeafNode) -> Result<u32, TreeError>
         ensures answer { DoesAs (λ i. i) number_of (add_answer (term self.old) leaf) (term self.old) (term self.new) result }
+        ensures refused { RefusesOutright number_of (add_answer (term self.old) leaf) result }
         // A good tree stays good where the leaf passes the checks, and a sound one sound.
         ensures good { OnOk result (KeepsGood (λ rules. (max_leaves ≤ rules.limit) × AreNew rules (place_in (term self.old)) leaf [] (term self.old)) (term self.old) (term self.new)) }
         ensures sound { OnOk result (KeepsSound (λ rules. (max_leaves ≤ rules.limit) × AreFit rules (place_in (term self.old)) leaf []) (term self.old) (term self.new)) }
@@ -187,6 +195,7 @@ impl PublicTree {
     /// member is there. Takes no memory.
     pub fn update(&mut self, i: u32, leaf: LeafNode) -> Result<(), TreeError>
         ensures answer { Changes number_of (update_answer (term self.old) i leaf) (term self.old) (term self.new) result }
+        ensures refused { RefusesOutright number_of (update_answer (term self.old) i leaf) result }
         // A good tree stays good where the leaf passes the checks, and a sound one sound.
         ensures good { OnOk result (KeepsGood (λ rules. AreNew rules i leaf [] (put 0 (term self.old) i None)) (term self.old) (term self.new)) }
         ensures sound { OnOk result (KeepsSound (λ rules. AreFit rules i leaf []) (term self.old) (term self.new)) }
