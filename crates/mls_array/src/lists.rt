@@ -11,7 +11,8 @@ ghost use Rattle.mls_term.specs.Good.{has_good_lists};
 ghost use Rattle.mls_term.specs.Arrays.{parent_in, term_of};
 
 use crate::places::{leaf_in, middle_of, parent_in};
-use mls_leaf::{Node, ParentNode};
+use mls_leaf::ParentNode;
+use mls_slot::Slot;
 
 /// Whether a rising list has a leaf.
 pub(crate) fn has(leaves: &[u32], leaf: u32) -> bool
@@ -33,7 +34,7 @@ fn may_list(parent: Option<&ParentNode>, leaf: u32) -> bool
 
 /// Whether a leaf is taken, and each parent over it lists it.
 #[tactic(auto, using(mls_treemath::specs::Sizes::nodes_in_pos))]
-fn is_listed(nodes: &[Option<Node>], height: u32, first: u32, leaf: u32) -> bool
+fn is_listed(nodes: &[Slot], height: u32, first: u32, leaf: u32) -> bool
     requires shape { length nodes.now ≡ nodes_in height }
     requires fits { first + 2 ^ height ≤ 2 ^ 31 }
     ensures { result ≡ is_listed first (term_of height nodes.now) leaf }
@@ -58,8 +59,8 @@ fn is_listed(nodes: &[Option<Node>], height: u32, first: u32, leaf: u32) -> bool
 
 /// Whether a parent over these two sides may list a leaf: it is below it, and each parent between lists it.
 fn may_be_listed(
-    left: &[Option<Node>],
-    right: &[Option<Node>],
+    left: &[Slot],
+    right: &[Slot],
     height: u32,
     first: u32,
     second: u32,
@@ -85,8 +86,8 @@ fn may_be_listed(
 #[tactic(auto, unfolding(mls_term::specs::Lists::rises_here))]
 fn lists_here(
     parent: &ParentNode,
-    left: &[Option<Node>],
-    right: &[Option<Node>],
+    left: &[Slot],
+    right: &[Slot],
     height: u32,
     first: u32,
     second: u32,
@@ -109,9 +110,9 @@ fn lists_here(
 
 /// The same of the root of a tree, which may be blank.
 fn root_lists(
-    root: &Option<Node>,
-    left: &[Option<Node>],
-    right: &[Option<Node>],
+    root: &Slot,
+    left: &[Slot],
+    right: &[Slot],
     height: u32,
     first: u32,
     second: u32,
@@ -131,7 +132,7 @@ fn root_lists(
 
 /// Whether each parent of a tree lists only what it may list.
 #[tactic(auto, using(mls_treemath::specs::Sizes::nodes_in_pos))]
-fn each_lists(nodes: &[Option<Node>], height: u32, first: u32) -> bool
+fn each_lists(nodes: &[Slot], height: u32, first: u32) -> bool
     requires shape { length nodes.now ≡ nodes_in height }
     requires fits { first + 2 ^ height ≤ 2 ^ 31 }
     ensures right { result ≡ all_parents lists_here first (term_of height nodes.now) }
@@ -155,7 +156,7 @@ fn each_lists(nodes: &[Option<Node>], height: u32, first: u32) -> bool
 
 /// Whether each unmerged leaf is a member below its parent, and each parent between lists it too. Takes no memory. Each
 /// list that it has gone over rises.
-pub fn has_good_lists(nodes: &[Option<Node>], height: u32) -> bool
+pub fn has_good_lists(nodes: &[Slot], height: u32) -> bool
     requires shape { length nodes.now ≡ nodes_in height }
     requires low { height ≤ max_height }
     ensures right { result ≡ has_good_lists (term_of height nodes.now) }

@@ -27,6 +27,7 @@ use crate::tree::PublicTree;
 use mls_array as array;
 use mls_checks::{leaf_capable, leaf_signed};
 use mls_leaf::{LeafNode, Node};
+use mls_slot::Slot;
 use mls_suite::Suite;
 use std::alloc::{AllocError, Global};
 
@@ -41,7 +42,7 @@ fn is_capable_or_blank(leaf: Option<&LeafNode>, suite: u16) -> bool
 }
 
 /// Whether each member has the capabilities that a group of this suite needs.
-fn all_capable(nodes: &[Option<Node>], height: u32, suite: u16) -> bool
+fn all_capable(nodes: &[Slot], height: u32, suite: u16) -> bool
     requires shape { length nodes.now ≡ nodes_in height }
     requires fits { length nodes.now < 2 ^ 32 }
     ensures { (c : Crypto) (group : List ℕ) → c.number ≡ suite → result ≡ is_all_capable (rules_of c group) (term_of height nodes.now) }
@@ -75,7 +76,7 @@ fn is_signed_or_blank<S: Suite>(
 /// Whether each member's signature is its own.
 fn all_signed<S: Suite>(
     alloc: Global,
-    nodes: &[Option<Node>],
+    nodes: &[Slot],
     height: u32,
     group_id: &[u8],
 ) -> Result<bool, AllocError>
@@ -95,10 +96,10 @@ fn all_signed<S: Suite>(
 }
 
 /// Whether the encryption key in a place is fit for sealing, where it isn't blank.
-fn is_fit_or_blank<S: Suite>(node: &Option<Node>) -> bool
+fn is_fit_or_blank<S: Suite>(node: &Slot) -> bool
     ensures { result ≡ list_all S.crypto.key_ok (cell_key node.now) }
 {
-    match node {
+    match node.node() {
         Some(Node::Leaf(leaf)) => S::key_ok(leaf.encryption_key.as_slice()),
         Some(Node::Parent(parent)) => S::key_ok(parent.encryption_key()),
         None => true,
@@ -106,7 +107,7 @@ fn is_fit_or_blank<S: Suite>(node: &Option<Node>) -> bool
 }
 
 /// Whether each encryption key is fit for sealing. Takes no memory.
-fn all_fit<S: Suite>(nodes: &[Option<Node>], height: u32) -> bool
+fn all_fit<S: Suite>(nodes: &[Slot], height: u32) -> bool
     requires { Stands height nodes.now }
     ensures { (group : List ℕ) → result ≡ is_all_fit (rules_of S.crypto group) (term_of height nodes.now) }
 {
@@ -122,7 +123,7 @@ fn all_fit<S: Suite>(nodes: &[Option<Node>], height: u32) -> bool
 #[tactic(auto, unfolding(mls_term::specs::Good::tree_checks))]
 fn check<S: Suite>(
     alloc: Global,
-    nodes: &[Option<Node>],
+    nodes: &[Slot],
     height: u32,
     group_id: &[u8],
 ) -> Result<(), TreeError>

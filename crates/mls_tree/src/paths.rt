@@ -24,17 +24,12 @@ ghost use Rattle.mls_tree.specs.Paths.{path_checks, path_hash_answer, merge_chec
 use crate::error::TreeError;
 use crate::tree::PublicTree;
 use mls_array::{self as array, Hash, MergedPath};
-use mls_leaf::{Bytes, LeafNode, LeafSource, Node, ParentNode};
+use mls_leaf::{Bytes, LeafNode, LeafSource};
+use mls_slot::{SharedLeaf, SharedParent, Slot};
 use std::alloc::AllocError;
 
 /// Merges a path whose parents these are, the highest first. Takes no memory.
-fn merge(
-    nodes: &mut Vec<Option<Node>>,
-    height: u32,
-    i: u32,
-    leaf: LeafNode,
-    parents: Vec<ParentNode>,
-)
+fn merge(nodes: &mut Vec<Slot>, height: u32, i: u32, leaf: SharedLeaf, parents: Vec<SharedParent>)
     requires stands { Stands height nodes.old.items }
     requires low { height ≤ max_height }
     ensures { (keys : List (List ℕ)) → parents.items ≡ path_parents 0 (term_of height nodes.old.items) i (reverse keys) [] → StandsFor height nodes.new.items (merge_path (term_of height nodes.old.items) i leaf keys) }
@@ -107,7 +102,7 @@ impl PublicTree {
         i: u32,
         leaf: &LeafNode,
         keys: Vec<Bytes>,
-    ) -> Result<Vec<ParentNode>, TreeError>
+    ) -> Result<Vec<SharedParent>, TreeError>
         ensures checks { Answers (λ _. passed) number_of (merge_checks (term self.now) i leaf.now keys.items) result }
         ensures refused { RefusesOutright number_of (path_checks (term self.now) i (length keys.items)) result }
         ensures parents { IfOk result (λ v. v.items ≡ path_parents 0 (term self.now) i (reverse keys.items) []) }
@@ -164,6 +159,7 @@ impl PublicTree {
             Ok(parents) => parents,
         };
         let height = self.height;
+        let leaf = SharedLeaf::new(*self.nodes.allocator(), leaf)?;
         merge(&mut self.nodes, height, i, leaf, parents);
         Ok(())
     }

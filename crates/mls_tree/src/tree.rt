@@ -14,21 +14,24 @@ ghost use Rattle.mls_tree.specs.Faults.{number_of};
 ghost use Rattle.mls_tree.specs.declared.error.TreeError.TheVariants.{NoSuchLeaf};
 ghost use Rattle.mls_tree.specs.Kept.{KeepsGood, KeepsSound};
 ghost use Rattle.mls_tree.specs.Refusals.{RefusesOutright};
+ghost use Rattle.mls_tree.specs.Paths.{ChangesWhole};
 ghost use Rattle.mls_tree.specs.Tree.{term, max_leaves, path_answer, add_answer, update_answer, remove_answer, Changes};
 
 use crate::edits;
 use crate::error::TreeError;
 use mls_array::{self as array, Hash};
 use mls_leaf::{LeafNode, Node};
+use mls_slot::{SharedLeaf, Slot};
 use mls_treemath::MAX_HEIGHT;
 use std::alloc::{AllocError, Global};
 use std::marker::Model;
 
 /// The public tree of a group: at most 4,096 leaves, a power of two, each a member or blank, and the parents over them.
-/// Its methods use the allocator that it was made with.
+/// Its methods use the allocator that it was made with. A copy shares the nodes, and an edit copies only those that it
+/// changes.
 #[derive(Drop)]
 pub struct PublicTree {
-    pub(crate) nodes: Vec<Option<Node>>,
+    pub(crate) nodes: Vec<Slot>,
     pub(crate) height: u32,
 }
 
@@ -53,7 +56,8 @@ impl PublicTree {
         ensures good { IfOk result (λ t. (rules : Rules) → 0 < rules.limit → AreNew rules 0 leaf [] (Leaf None) → IsGood rules (term t)) }
     {
         let mut nodes = Vec::with_capacity(alloc, 1)?;
-        nodes.push(Some(Node::Leaf(leaf)))?;
+        let leaf = SharedLeaf::new(alloc, leaf)?;
+        nodes.push(leaf.into_slot())?;
         Ok(PublicTree { nodes, height: 0 })
     }
 
@@ -61,7 +65,7 @@ impl PublicTree {
     /// holds them. Refused with `TreeShape` (20) where there are no nodes, the last one is blank, a leaf is at an odd or
     /// a parent at an even place, or more than one leaf and no member in the right half; then with `TreeFull` (21)
     /// above 4,096 leaves.
-    pub fn from_nodes(nodes: Vec<Option<Node>>) -> Result<PublicTree, TreeError>
+    pub fn from_nodes(nodes: Vec<Slot>) -> Result<PublicTree, TreeError>
         ensures answer { Answers term number_of (from_nodes max_leaves nodes.items) result }
         // 20 comes whatever memory there is, where the nodes alone show it.
         ensures refused { RefusesOutright number_of (require 20 (has_last nodes.items && alternates true nodes.items)) result }
@@ -84,8 +88,9 @@ impl PublicTree {
         Ok(PublicTree { nodes, height })
     }
 
-    /// The nodes in order, as they are sent: all up to the last one that isn't blank (RFC 9420, 12.4.3.3).
-    pub fn to_nodes(&self) -> Result<Vec<Option<Node>>, AllocError>
+    /// The nodes in order, as they are sent: all up to the last one that isn't blank (RFC 9420, 12.4.3.3). They are
+    /// shared with the tree.
+    pub fn to_nodes(&self) -> Result<Vec<Slot>, AllocError>
         ensures { IfOk result (λ v. v.items ≡ to_nodes (term self.now)) }
     {
         let sent = array::to_nodes(*self.nodes.allocator(), &self.nodes)?;
@@ -175,8 +180,10 @@ impl PublicTree {
         ensures sound { OnOk result (KeepsSound (λ rules. (max_leaves ≤ rules.limit) × AreFit rules (place_in (term self.old)) leaf []) (term self.old) (term self.new)) }
     {
         let height = self.height;
+        let alloc = *self.nodes.allocator();
         match array::first_blank(&self.nodes, height, 0) {
             Some(i) => {
+                let leaf = SharedLeaf::new(alloc, leaf)?;
                 edits::enter(&mut self.nodes, height, i, leaf)?;
                 Ok(i)
             }
@@ -184,6 +191,7 @@ impl PublicTree {
                 if height == MAX_HEIGHT {
                     return Err(TreeError::TreeFull);
                 }
+                let leaf = SharedLeaf::new(alloc, leaf)?;
                 edits::append(&mut self.nodes, height, leaf)?;
                 self.height = height + 1;
                 Ok(1 << height)
@@ -192,9 +200,9 @@ impl PublicTree {
     }
 
     /// Replaces the leaf of member i and blanks the parents over it (RFC 9420, 12.1.2); `NoSuchLeaf` (22) where no
-    /// member is there. Takes no memory.
+    /// member is there. After a refusal the tree is as before.
     pub fn update(&mut self, i: u32, leaf: LeafNode) -> Result<(), TreeError>
-        ensures answer { Changes number_of (update_answer (term self.old) i leaf) (term self.old) (term self.new) result }
+        ensures answer { ChangesWhole number_of (update_answer (term self.old) i leaf) (term self.old) (term self.new) result }
         ensures refused { RefusesOutright number_of (update_answer (term self.old) i leaf) result }
         // A good tree stays good where the leaf passes the checks, and a sound one sound.
         ensures good { OnOk result (KeepsGood (λ rules. AreNew rules i leaf [] (put 0 (term self.old) i None)) (term self.old) (term self.new)) }
@@ -204,6 +212,7 @@ impl PublicTree {
             Err(error) => return Err(error),
             Ok(()) => {}
         }
+        let leaf = SharedLeaf::new(*self.nodes.allocator(), leaf)?;
         let height = self.height;
         edits::put(&mut self.nodes, height, i, Some(leaf));
         Ok(())
@@ -225,5 +234,16 @@ impl PublicTree {
         edits::put(&mut self.nodes, height, i, None);
         self.height = edits::trim(&mut self.nodes, height);
         Ok(())
+    }
+}
+
+impl Clone for PublicTree {
+    ghost is_clone = { λ t u. u ≡ t };
+
+    fn clone(&self) -> Result<PublicTree, AllocError> {
+        Ok(PublicTree {
+            nodes: self.nodes.clone()?,
+            height: self.height,
+        })
     }
 }

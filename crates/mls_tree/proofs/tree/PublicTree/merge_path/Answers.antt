@@ -18,7 +18,7 @@ pub returns-clause-answer : goal.returns-clause-answer
 returns-clause-answer c =
     let made = c.in-Ok.ensures.parents ∙ ap (λ t. path_parents 0 (term t) c.args.i (reverse c.args.keys.items) []) (sym c.self.view_is) in
     merge_done _ _ _ _ c.in-Ok.ensures.checks
-    ∙ ap Ok (ap (λ t. merge_path (term t) c.args.i c.args.leaf c.args.keys.items) (sym c.self.view_is) ∙ sym (c.merge.ensures c.args.keys.items made).term)
+    ∙ ap Ok (ap (λ t. merge_path (term t) c.args.i c.args.leaf c.args.keys.items) (sym c.self.view_is) ∙ sym (rw c.in_ok-leaf.ensures at (c.merge.ensures c.args.keys.items made).term))
 
 pub returns-clause-good : goal.returns-clause-good
 returns-clause-good c = merge_new _ _ _ _ _ (returns-clause-answer c)
