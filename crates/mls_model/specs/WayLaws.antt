@@ -23,7 +23,8 @@ use Rattle.mls_model.specs.Commit.{Change, body}
 use Rattle.mls_model.specs.Member.{Pending, Member, kept_under, used_by, left}
 use Rattle.mls_model.specs.Messages.{decoded, public_in, sender_leaf, is_handshake, reference_of}
 use Rattle.mls_model.specs.Verdict.{framing_checks, proposal_verdict, climbed, entered, commit_verdict, content_verdict, received, own_pending, pending_or_received, verdict}
-use Rattle.mls_model.specs.Receipts.{WasRemoved, HasFollowed, ProposalDid, ContentDid, DidPending, DidOther, reached_epoch, framing_did, did_receive, did_take}
+use Rattle.mls_model.specs.Found.{WasRemoved, HasFollowed, ProposalDid, ContentDid, DidPending, DidOther, reached_epoch}
+use Rattle.mls_model.specs.Receipts.{framing_did, did_receive, did_take}
 use Rattle.mls_model.specs.Ways.{IsOther, IsTaken, IsProposal, IsCommit, IsUsing, IsChanging, keys_for, Takes, Takes.follows_own, Takes.knows, Takes.keeps, Takes.leaves, Takes.follows, TakenSo, Refuses, Refuses.gone, Refuses.unread, Refuses.no_public, Refuses.unframed, Refuses.unfit, Refuses.last_epoch, Refuses.unknown, Refuses.unsound, Refuses.closed, Refuses.untagged, RefusedSo}
 
 is_active : (b : Bool) → not b ≡ true → b ≡ false

@@ -21,7 +21,7 @@ use Rattle.mls_model.specs.Commit.{Change, body}
 use Rattle.mls_model.specs.Member.{Member, kept_under, used_by, named, first_own_key, followed}
 use Rattle.mls_model.specs.Messages.{decoded, public_in, sender_leaf, reference_of}
 use Rattle.mls_model.specs.Verdict.{framing_checks, climbed, own_pending, verdict}
-use Rattle.mls_model.specs.Receipts.{IsFramed, WasKnown, IsNowKept, WasRemoved, HasFollowed, DidPending, reached_epoch}
+use Rattle.mls_model.specs.Found.{IsFramed, WasKnown, IsNowKept, WasRemoved, HasFollowed, DidPending, reached_epoch}
 
 -- ---- what stands before a way is chosen
 

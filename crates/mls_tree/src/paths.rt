@@ -19,7 +19,7 @@ ghost use Rattle.mls_tree.specs.Faults.{number_of};
 ghost use Rattle.mls_tree.specs.Kept.{KeepsGood, MergesGood};
 ghost use Rattle.mls_tree.specs.Refusals.{RefusesOutright};
 ghost use Rattle.mls_tree.specs.Tree.{term};
-ghost use Rattle.mls_tree.specs.Paths.{path_checks, path_hash_answer, merge_checks, merge_answer, ChangesWhole};
+ghost use Rattle.mls_tree.specs.Paths.{path_checks, path_hash_answer, counts_answer, merge_checks, merge_answer, ChangesWhole};
 
 use crate::error::TreeError;
 use crate::tree::PublicTree;
@@ -121,6 +121,22 @@ impl PublicTree {
             return Err(TreeError::ParentHashWrong);
         }
         Ok(path.parents)
+    }
+
+    /// How many ciphertexts each node of a path of member i has, the lowest first, where these leaves were just added: one
+    /// for each node of the resolution of its child on the copath that isn't one of them (RFC 9420, 7.6). `NoSuchLeaf`
+    /// (22) where no member is at leaf i, whatever memory there is.
+    pub fn ciphertext_counts(&self, i: u32, added: &[u32]) -> Result<Vec<usize>, TreeError>
+        ensures answer { Answers (λ v. v.items) number_of (counts_answer (term self.now) i added.now) result }
+        ensures refused { RefusesOutright number_of (counts_answer (term self.now) i added.now) result }
+    {
+        match self.require_member(i) {
+            Err(error) => return Err(error),
+            Ok(()) => {}
+        }
+        let mut counts = Vec::new(*self.nodes.allocator());
+        array::ciphertext_counts(&self.nodes, self.height, 0, i, added, &mut counts)?;
+        Ok(counts)
     }
 
     /// The parent hash that the leaf of a path with these keys must have, the lowest first: empty where the filtered

@@ -120,7 +120,7 @@ impl PublicTree {
     }
 
     /// Refuses a leaf index at which no member is.
-    fn require_member(&self, i: u32) -> Result<(), TreeError>
+    pub(crate) fn require_member(&self, i: u32) -> Result<(), TreeError>
         ensures { MatchResult result (λ _. is_some (leaf_of (term self.now) i) ≡ true) (λ e. (e ≡ NoSuchLeaf) × (leaf_of (term self.now) i ≡ None)) }
     {
         match self.leaf(i) {
