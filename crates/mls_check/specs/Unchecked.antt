@@ -1,6 +1,6 @@
 -- A suite that checks nothing: every key is fit and empty, every signature holds, and what is sealed lies open.
 use Rattle.std.specs.Prelude.{◌≡◌, ℕ, true, List, [], replicate, Some, refl}
-use Rattle.std.proofs.Common.{arith}
+use Rattle.std.proofs.Common.{arith, lit<}
 use Rattle.mls_suite.specs.Crypto.{Crypto, Lawful, Sealing}
 
 abbrev pub lying : List ℕ → Sealing
@@ -32,6 +32,7 @@ unchecked_lawful = record {
   opens = λ key nonce aad pt. refl;
   public_ok = λ sk. refl;
   seals = λ pk info pt rnd. refl;
+  number_short = lit< tt;
   public_short = λ sk. omega arith;
   sig_public_short = λ sk. omega arith;
   sign_short = λ sk m. omega arith;

@@ -1,7 +1,9 @@
 //! What the checks of a tree bring: a line of each that passed, and the first that failed.
 
-ghost use Rattle.std.specs.Prelude.{◌≡◌, ◌≢◌, ◌↔◌, ℕ, ◌<◌, ◌≤◌, ◌^◌, length, map, take, IfOk};
+ghost use Rattle.std.specs.Prelude.{◌≡◌, ◌≢◌, ◌↔◌, ℕ, ◌<◌, ◌≤◌, ◌^◌, length, map, take, Err, IfOk, IsOk};
+ghost use Rattle.mls_leaf.specs.Faults.{whole};
 ghost use Rattle.mls_leaf.specs.Limits.{input_limit};
+ghost use Rattle.mls_group.specs.GroupInfo.{ratchet_tree};
 ghost use Rattle.mls_tree.specs.Faults.{number_of as tree_number_of};
 ghost use Rattle.mls_tree.specs.Tree.{term};
 ghost use Rattle.mls_text.specs.Page.{page_of, refused};
@@ -31,6 +33,7 @@ pub enum SuiteChecks {
 fn refused(lines: Vec<Line>, error: CheckError) -> Result<Page<Line>, AllocError>
     ensures memory { IfOk result (λ page. number_of error ≢ 1) }
     ensures page { IfOk result (λ page. page_of entry_of page ≡ behind (map entry_of lines.items) (refused (number_of error))) }
+    ensures outright { number_of error ≢ 1 → IsOk result }
 {
     if error.is_memory() {
         return Err(AllocError);
@@ -129,7 +132,8 @@ fn bytes_page<S: Suite>(
     group_id: &[u8],
 ) -> Result<Page<Line>, AllocError>
     requires { length group_id.now ≤ input_limit }
-    ensures { IfOk result (λ page. page_of entry_of page ≡ check_text S.crypto own bytes.now group_id.now) }
+    ensures page { IfOk result (λ page. page_of entry_of page ≡ check_text S.crypto own bytes.now group_id.now) }
+    ensures outright { (n : ℕ) → whole ratchet_tree input_limit bytes.now ≡ Err n → IsOk result }
 {
     match tree_in(alloc, bytes) {
         Ok(tree) => tree_page::<S>(alloc, own, tree, group_id),
@@ -149,6 +153,8 @@ pub fn check_text<S: Suite>(
 ) -> Result<Page<Line>, AllocError>
     requires { length group_id.now ≤ input_limit }
     ensures page { IfOk result (λ page. page_of entry_of page ≡ check_text S.crypto own bytes.now group_id.now) }
+    // Bytes that spell no nodes are refused whatever memory there is.
+    ensures outright { (n : ℕ) → whole ratchet_tree input_limit bytes.now ≡ Err n → IsOk result }
     // Nothing is refused just where the bytes spell a good tree of the group.
     ensures good { IfOk result (λ page. (page.ending ≡ Ending.Good) ↔ SpellsGoodTree S.crypto group_id.now bytes.now) }
 {

@@ -90,7 +90,7 @@ pub record NineSecrets : Type 0 where
   pub init : List ℕ
 
 -- (RFC 9420, 8)
-unfoldable pub nine_secrets : List ℕ → NineSecrets
+abbrev pub nine_secrets : List ℕ → NineSecrets
 nine_secrets epoch = record {
   sender_data = sender_data_secret epoch;
   encryption = encryption_secret epoch;
@@ -108,6 +108,10 @@ nine_secrets epoch = record {
 -- the tag over a confirmed transcript hash (RFC 9420, 6.1)
 unfoldable pub confirmation_tag : List ℕ → List ℕ → List ℕ
 confirmation_tag epoch confirmed = hmac (confirmation_key epoch) confirmed
+
+-- the tag over what a member says, as AuthenticatedContentTBM (RFC 9420, 6.2)
+unfoldable pub membership_tag : List ℕ → List ℕ → List ℕ
+membership_tag epoch said = hmac (membership_key epoch) said
 
 -- an exported secret of n bytes, under a label and a context (RFC 9420, 8.5)
 unfoldable pub exported : List ℕ → List ℕ → List ℕ → ℕ → List ℕ

@@ -1,7 +1,7 @@
 -- How long the secrets and hashes of an epoch are.
 use Rattle.std.specs.Prelude.{◌≡◌, ℕ, List, length}
 use Rattle.mls_kdf.specs.Lengths.{length-sha256, length-hmac, length-expand_with_label, length-derive_secret}
-use Rattle.mls_schedule.specs.Epoch.{joiner_secret, welcome_secret, epoch_secret, next_welcome_secret, next_epoch_secret, welcome_key, welcome_nonce, sender_data_secret, encryption_secret, exporter_secret, external_secret, confirmation_key, membership_key, resumption_psk, epoch_authenticator, init_secret, confirmation_tag, exported}
+use Rattle.mls_schedule.specs.Epoch.{joiner_secret, welcome_secret, epoch_secret, next_welcome_secret, next_epoch_secret, welcome_key, welcome_nonce, sender_data_secret, encryption_secret, exporter_secret, external_secret, confirmation_key, membership_key, resumption_psk, epoch_authenticator, init_secret, confirmation_tag, membership_tag, exported}
 use Rattle.mls_schedule.specs.Transcript.{confirmed_hash, interim_hash}
 
 pub length-joiner_secret : (init commit_secret context : List ℕ) → length (joiner_secret init commit_secret context) ≡ 32
@@ -71,6 +71,10 @@ length-init_secret epoch = length-derive_secret epoch _
 pub length-confirmation_tag : (epoch confirmed : List ℕ) → length (confirmation_tag epoch confirmed) ≡ 32
 unfolding confirmation_tag
 length-confirmation_tag epoch confirmed = length-hmac _ confirmed
+
+pub length-membership_tag : (epoch said : List ℕ) → length (membership_tag epoch said) ≡ 32
+unfolding membership_tag
+length-membership_tag epoch said = length-hmac _ said
 
 pub length-exported : (epoch label context : List ℕ) (n : ℕ) → length (exported epoch label context n) ≡ n
 unfolding exported

@@ -2,8 +2,8 @@
 //! 2^30.
 
 ghost use Rattle.std.specs.Prelude.{◌≡◌, ◌<◌, ◌≤◌, ◌^◌, ◌↔◌, length, IsErrOf, OnOk, OnErr};
-ghost use Rattle.mls_kdf.specs.Kdf.{expand_with_label, max_output};
-ghost use Rattle.mls_schedule.specs.Epoch.{joiner_secret, welcome_secret, next_welcome_secret, welcome_key, welcome_nonce, intermediate_secret, epoch_secret, next_epoch_secret, sender_data_secret, encryption_secret, exporter_secret, external_secret, confirmation_key, membership_key, resumption_psk, epoch_authenticator, init_secret, confirmation_tag, exported};
+ghost use Rattle.mls_kdf.specs.Kdf.{joined, expand_with_label, max_output};
+ghost use Rattle.mls_schedule.specs.Epoch.{joiner_secret, welcome_secret, next_welcome_secret, welcome_key, welcome_nonce, intermediate_secret, epoch_secret, next_epoch_secret, nine_secrets, confirmation_tag, membership_tag, exported};
 
 use crate::ScheduleError;
 use mls_kdf::{KdfError, Secret, Seed, derive_secret, expand_with_label, extract, hash, hmac};
@@ -150,63 +150,63 @@ impl Epoch {
 
     /// The secret of sender data.
     pub fn sender_data_secret(&self) -> &Secret
-        ensures { result.now ≡ sender_data_secret self.now }
+        ensures { result.now ≡ (nine_secrets self.now).sender_data }
     {
         &self.sender_data
     }
 
     /// The root of the secret tree.
     pub fn encryption_secret(&self) -> &Secret
-        ensures { result.now ≡ encryption_secret self.now }
+        ensures { result.now ≡ (nine_secrets self.now).encryption }
     {
         &self.encryption
     }
 
     /// The secret that exported secrets are made of.
     pub fn exporter_secret(&self) -> &Secret
-        ensures { result.now ≡ exporter_secret self.now }
+        ensures { result.now ≡ (nine_secrets self.now).exporter }
     {
         &self.exporter
     }
 
     /// The secret of external commits.
     pub fn external_secret(&self) -> &Secret
-        ensures { result.now ≡ external_secret self.now }
+        ensures { result.now ≡ (nine_secrets self.now).external }
     {
         &self.external
     }
 
     /// The key of confirmation tags.
     pub fn confirmation_key(&self) -> &Secret
-        ensures { result.now ≡ confirmation_key self.now }
+        ensures { result.now ≡ (nine_secrets self.now).confirmation }
     {
         &self.confirmation
     }
 
     /// The key of membership tags.
     pub fn membership_key(&self) -> &Secret
-        ensures { result.now ≡ membership_key self.now }
+        ensures { result.now ≡ (nine_secrets self.now).membership }
     {
         &self.membership
     }
 
     /// The secret for resumption.
     pub fn resumption_psk(&self) -> &Secret
-        ensures { result.now ≡ resumption_psk self.now }
+        ensures { result.now ≡ (nine_secrets self.now).resumption }
     {
         &self.resumption
     }
 
     /// What members compare to see that they agree.
     pub fn epoch_authenticator(&self) -> &Secret
-        ensures { result.now ≡ epoch_authenticator self.now }
+        ensures { result.now ≡ (nine_secrets self.now).authenticator }
     {
         &self.authenticator
     }
 
     /// The init secret, from which the next epoch is made.
     pub fn init_secret(&self) -> &Secret
-        ensures { result.now ≡ init_secret self.now }
+        ensures { result.now ≡ (nine_secrets self.now).init }
     {
         &self.init
     }
@@ -217,6 +217,15 @@ impl Epoch {
         ensures { result ≡ confirmation_tag self.now confirmed.now }
     {
         hmac(&self.confirmation, &[confirmed])
+    }
+
+    /// The tag, of 32 bytes, by which a member shows that it is one: over what it says, as
+    /// AuthenticatedContentTBM, given in pieces, one after another (RFC 9420, 6.2).
+    #[tactic(auto, unfolding(crate::specs::Epoch::membership_tag))]
+    pub fn membership_tag(&self, said: &[&[u8]]) -> Secret
+        ensures { result ≡ membership_tag self.now (joined said.now) }
+    {
+        hmac(&self.membership, said)
     }
 
     /// Fills `out` with a secret exported under a label of at most 200 bytes and a context (RFC 9420,

@@ -1,21 +1,17 @@
 //! What holds of any epochs: laws, each the contract of a function that does nothing.
 
-ghost use Rattle.mls_schedule.specs.Laws.{JoinerReachesNext, EqualEpochsShareSecrets, EqualOrTwins, TwinsShareTags};
+ghost use Rattle.mls_schedule.specs.Laws.{JoinerReachesNext, EqualOrTwins, TwinsShareTags};
 
-/// A law: from the joiner secret and the context of the next epoch, a new member reaches that epoch,
-/// with the same epoch secret and the same welcome secret.
-pub fn joiner_reaches_next()
-    ensures { JoinerReachesNext }
-{}
-
-/// A law: equal epoch secrets give equal nine secrets.
-pub fn equal_epochs_share_secrets()
-    ensures { EqualEpochsShareSecrets }
-{}
-
-/// A law: two epoch secrets with one confirmation tag over a confirmed hash are equal, or twins.
+/// A law: two epochs with one confirmation tag over a confirmed hash have one epoch secret and the
+/// same nine secrets, or they are twins.
 pub fn equal_or_twins()
     ensures { EqualOrTwins }
+{}
+
+/// A law: a new member that was given some joiner secret, and finds the tag that the commit's maker
+/// sent, has the maker's epoch secret and nine secrets, or the two epochs are twins.
+pub fn joiner_reaches_next()
+    ensures { JoinerReachesNext }
 {}
 
 /// A law: twins are different, and have one confirmation tag.

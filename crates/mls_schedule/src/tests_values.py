@@ -83,6 +83,10 @@ def confirmation_tag(epoch, confirmed):
     return tag(derive_secret(epoch, b"confirm"), confirmed)
 
 
+def membership_tag(epoch, said):
+    return tag(derive_secret(epoch, b"membership"), said)
+
+
 def confirmed_hash(interim, wire_format, content, signature):
     return sha256(interim + wire_format.to_bytes(2, "big") + content + opaque(signature))
 
@@ -104,6 +108,7 @@ def values():
         yield "epoch 0: " + label.decode(), secret
     first_tag = confirmation_tag(seed, b"")
     yield "epoch 0: tag", first_tag
+    yield "epoch 0: membership tag", membership_tag(seed, b"what is said")
     first_interim = interim_hash(b"", first_tag)
     yield "epoch 0: interim hash", first_interim
 

@@ -1,7 +1,7 @@
 //! The lines of messages.
 
 ghost use Rattle.std.specs.Prelude.{◌≡◌, ◌++◌, [], map, length, IfOk, Ok};
-ghost use Rattle.mls_leaf.specs.Faults.{Gives};
+ghost use Rattle.mls_leaf.specs.Faults.{FaultsOutright, Gives};
 ghost use Rattle.mls_text.specs.Text.{entry_of};
 ghost use Rattle.mls_show.specs.Message.{headed, message_entries, text_of};
 
@@ -60,7 +60,9 @@ pub fn message_lines(
 
 /// The lines of the MLSMessage that the bytes spell, or its first fault (2 to 7, 11 to 14).
 pub fn show_text(alloc: Global, bytes: &[u8]) -> Result<Vec<Line>, LeafError>
-    ensures { Gives (λ lines. map entry_of lines.items) result (text_of bytes.now) }
+    ensures lines { Gives (λ lines. map entry_of lines.items) result (text_of bytes.now) }
+    // A fault is answered whatever memory there is.
+    ensures outright { FaultsOutright (text_of bytes.now) result }
 {
     let message = MlsMessage::decode(alloc, bytes)?;
     let lines = message_lines(alloc, bytes.len(), message)?;

@@ -1,5 +1,5 @@
 -- The practice suite is lawful.
-use Rattle.std.proofs.Common.{◌≡◌, ℕ, suc, ◌+◌, ◌-◌, Bool, true, false, List, [], ◌∷◌, ◌++◌, length, Some, None, ap, sym, ◌∙◌, refl, arith, length-append}
+use Rattle.std.proofs.Common.{◌≡◌, ℕ, suc, lit<, ◌+◌, ◌-◌, Bool, true, false, List, [], ◌∷◌, ◌++◌, length, Some, None, ap, sym, ◌∙◌, refl, arith, length-append}
 use Rattle.std.specs.Prelude.{bit_xor, nat_lt, nat_eq, is_some, if◌then◌else◌}
 use Rattle.std.specs.Int.Bits.{xor_assoc, xor_self, xor_zero_r}
 use Rattle.std.specs.Str.{bytes_eq}
@@ -103,6 +103,7 @@ glass_lawful = record {
   opens = λ key nonce aad pt. unbox-boxed _ pt;
   public_ok = λ sk. is_32 _ (length-glass_public sk);
   seals = seals;
+  number_short = lit< tt;
   public_short = λ sk. omega (arith, length-glass_public sk);
   sig_public_short = λ sk. omega (arith, length-glass_sig_public sk);
   sign_short = λ sk m. omega (arith, length-hmac (glass_sig_public sk) m);

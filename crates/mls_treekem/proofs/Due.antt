@@ -8,10 +8,9 @@ use Rattle.mls_term.specs.Term.{Term, width}
 use Rattle.mls_term.specs.Arrays.{parent_in, node_at}
 use Rattle.mls_tree.specs.Tree.{Tree, term}
 use Rattle.mls_treekem.specs.declared.places.Place.{Place}
-use Rattle.mls_treekem.specs.Follow.{key_above, on_way}
-use Rattle.mls_treekem.specs.Join.{is_due, is_complete}
-use Rattle.mls_treekem.specs.Made.{PrivateKeys, all_keys}
-use Rattle.mls_treekem.specs.Opening.{has_due_on, has_due}
+use Rattle.mls_paths.specs.Follow.{key_above, on_way}
+use Rattle.mls_paths.specs.Join.{is_due, is_complete, has_due_on, has_due}
+use Rattle.mls_paths.specs.Keys.{PrivateKeys, all_keys}
 use Rattle.mls_treekem.specs.Place.{place, places_from, step_of}
 use Rattle.mls_treekem.proofs.Placing.{length-places, places_left, places_right, way_found}
 

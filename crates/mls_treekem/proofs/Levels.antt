@@ -1,36 +1,20 @@
 -- Keys by their height, and the pairs that they make.
-use Rattle.std.proofs.Common.{◌≡◌, ℕ, zero, suc, ◌+◌, ◌-◌, ◌*◌, ◌^◌, ◌<◌, ◌≤◌, true, List, [], ◌∷◌, ◌++◌, length, reverse, get_or, Option, Some, None, Result, OnOk, refl, subst, sym, ◌∙◌, ap, ap₂, inl, inr, arith, append-nil, append_assoc, eq-eqb, ne_eqb, lt-ltb, le-ltb, pow-suc}
+use Rattle.std.proofs.Common.{◌≡◌, ℕ, zero, suc, ◌+◌, ◌-◌, ◌*◌, ◌^◌, ◌<◌, ◌≤◌, true, List, [], ◌∷◌, ◌++◌, length, reverse, get_or, Option, Some, None, Result, OnOk, refl, subst, sym, ◌∙◌, ap, ap₂, inl, inr, arith, append-nil, append_assoc, lt-ltb, le-ltb, pow-suc}
 use Rattle.std.proofs.lemmas.Bool.{cond-true, cond-false, cases_lt, cases_eq, true≢false, and_parts}
-use Rattle.std.proofs.lemmas.List.{reverse-append, reverse-reverse, length-reverse, get_or-append_right, get_or_append_left, get_or_past}
+use Rattle.std.proofs.lemmas.List.{reverse-reverse, length-reverse, get_or-append_right, get_or_append_left, get_or_past}
 use Rattle.mls_term.specs.Term.{Term, Leaf, Branch, width, size, is_perfect}
-use Rattle.mls_term.specs.Way.{Step, way}
+use Rattle.mls_term.specs.Way.{way}
 use Rattle.mls_term.specs.Equations.{way_leaf, way_left, way_right}
 use Rattle.mls_term.specs.ShapeLaws.{size-width, width-perfect}
 use Rattle.mls_term.specs.PathLaws.{reverse-cons}
-use Rattle.mls_treekem.specs.Keys.{Keys}
-use Rattle.mls_treekem.specs.Follow.{key_above, on_way}
-use Rattle.mls_treekem.specs.Height.{pairs_from, listed, ArePairs}
-use Rattle.mls_treekem.specs.Made.{PrivateKeys, all_keys}
-use Rattle.mls_treekem.specs.Pairs.{Pair, pair_of, pairs}
-use Rattle.mls_treekem.proofs.OnePass.{no_key_above}
+use Rattle.mls_paths.specs.Keys.{Keys, PrivateKeys, all_keys}
+use Rattle.mls_paths.specs.Follow.{key_above, on_way}
+use Rattle.mls_paths.specs.Height.{pairs_from, listed, ArePairs}
+use Rattle.mls_paths.specs.Pairs.{Pair, pair_of, pairs}
+use Rattle.mls_paths.specs.OnePassLaws.{no_key_above}
+use Rattle.mls_paths.specs.HeightLaws.{above_take, above_pass, length-end, own_above, way_height}
 
 -- ---- a key with others above the leaf's
-
-pub above_take : (n : ℕ) (o : Option (List ℕ)) (ks : Keys) → length ks ≡ n → key_above n (o ∷ ks) ≡ o
-unfolding key_above
-above_take n o ks e = cond-true _ _ _ (eq-eqb (length ks) n e)
-
-pub above_pass : (n : ℕ) (o : Option (List ℕ)) (ks : Keys) → (length ks ≡ n → ⊥) → key_above n (o ∷ ks) ≡ key_above n ks
-unfolding key_above
-above_pass n o ks e = cond-false _ _ _ (ne_eqb (length ks) n e)
-
-pub length-end : (xs : Keys) (o : Option (List ℕ)) → length (xs ++ (o ∷ [])) ≡ suc (length xs)
-length-end [] o = refl
-length-end (x ∷ xs) o = ap suc (length-end xs o)
-
-pub own_above : (xs : Keys) (o : Option (List ℕ)) → key_above 0 (xs ++ (o ∷ [])) ≡ o
-own_above [] o = above_take 0 o [] refl
-own_above (x ∷ xs) o = above_pass 0 x (xs ++ (o ∷ [])) (λ e. absurd (omega (arith, length-end xs o))) ∙ own_above xs o
 
 get_end : (xs : Keys) (x : Option (List ℕ)) (i : ℕ) → length xs ≡ i → get_or (xs ++ (x ∷ [])) i None ≡ x
 get_end xs x i e = get_or-append_right xs (x ∷ []) (length xs) i None refl (omega arith) ∙ ap (λ k. get_or (x ∷ []) k None) (let z : i - length xs ≡ 0 = omega arith in z)
@@ -40,9 +24,6 @@ get_past xs x i e = elim (cases_lt i (length xs)) [
   | inl k ↦ get_or_append_left xs (x ∷ []) None i k
   | inr k ↦ get_or_past (xs ++ (x ∷ [])) i None (omega (arith, length-end xs x)) ∙ sym (get_or_past xs i None k)
 ]
-
-pub reverse-end : {A : Type 0} (xs : List A) (x : A) → reverse (xs ++ (x ∷ [])) ≡ x ∷ reverse xs
-reverse-end xs x = reverse-append xs (x ∷ [])
 
 pub above_is : (xs : Keys) (o : Option (List ℕ)) (i : ℕ) → key_above (suc i) (xs ++ (o ∷ [])) ≡ get_or (reverse xs) i None
 above_is [] o i = no_key_above (suc i) (o ∷ []) (omega arith) ∙ sym (get_or_past [] i None (omega arith))
@@ -67,19 +48,6 @@ module _ (p : PrivateKeys) (above : Keys) (n : ℕ) (is : reverse above ≡ p.ab
 
 -- ---- keys read on a way
 
-pub length-on_way : (ss : List Step) (ks : Keys) → length (on_way ss ks) ≡ suc (length ss)
-unfolding on_way
-length-on_way [] ks = refl
-length-on_way (s ∷ ss) ks = ap suc (length-on_way ss ks)
-
--- ways of one length give the same keys
-pub same_length : (ss ts : List Step) (ks : Keys) → length ss ≡ length ts → on_way ss ks ≡ on_way ts ks
-unfolding on_way
-same_length [] [] ks e = refl
-same_length [] (t ∷ ts) ks e = absurd (omega arith)
-same_length (s ∷ ss) [] ks e = absurd (omega arith)
-same_length (s ∷ ss) (t ∷ ts) ks e = let k : length ss ≡ length ts = omega arith in ap₂ (λ n zs. key_above (suc n) ks ∷ zs) k (same_length ss ts ks k)
-
 -- ---- pairs
 
 pub pow_pred : (h : ℕ) → (h ≡ 0 → ⊥) → 2 ^ h ≡ 2 * 2 ^ (h - 1)
@@ -93,18 +61,6 @@ pairs_left h b j ks lt = cond-true _ _ _ (lt-ltb j (b + 2 ^ h) lt)
 pub pairs_right : (h b j : ℕ) (ks : Keys) → b + 2 ^ h ≤ j → pairs_from (suc h) b j ks ≡ pair_of (2 * b + (2 * 2 ^ h - 1)) (key_above (suc h) ks) ++ pairs_from h (b + 2 ^ h) j ks
 unfolding pairs_from
 pairs_right h b j ks ge = cond-false _ _ _ (le-ltb j (b + 2 ^ h) ge)
-
-pub way_height : (h b : ℕ) (t : Term) (j : ℕ) → is_perfect h t ≡ true → length (way b t j) ≡ h
-unfolding is_perfect
-way_height zero b (Leaf v) j e = ap length (way_leaf b v j)
-way_height (suc h) b (Leaf v) j e = absurd (true≢false (sym e))
-way_height zero b (Branch c l r) j e = absurd (true≢false (sym e))
-way_height (suc h) b (Branch c l r) j e =
-    let p = and_parts (is_perfect h l) (is_perfect h r) e in
-    elim (cases_lt j (b + width l)) [
-      | inl k ↦ ap length (way_left b c l r j k) ∙ ap suc (way_height h b l j p.0)
-      | inr k ↦ ap length (way_right b c l r j k) ∙ ap suc (way_height h (b + width l) r j p.1)
-    ]
 
 pub pairs_from-term : (h b : ℕ) (t : Term) (j : ℕ) (ks : Keys) → is_perfect h t ≡ true → pairs b t j (on_way (way b t j) ks) ≡ pairs_from h b j ks
 unfolding is_perfect pairs pairs_from on_way

@@ -24,16 +24,16 @@ use Rattle.mls_treekem.specs.declared.places.Place.{Place}
 use Rattle.mls_treekem.specs.Climbing.{climb_of, with_own}
 use Rattle.mls_treekem.specs.Faults.{number_of}
 use Rattle.mls_treekem.specs.declared.error.TreeKemError.{TreeKemError}
-use Rattle.mls_treekem.specs.Chain.{next_secret, node_key, node_public}
-use Rattle.mls_treekem.specs.Follow.{key_above, on_way}
-use Rattle.mls_treekem.specs.Keys.{Keys, key_for, key_in}
-use Rattle.mls_treekem.specs.Made.{PrivateKeys, all_keys}
-use Rattle.mls_treekem.specs.Make.{Climb}
-use Rattle.mls_treekem.specs.Open.{left_by, unseal_secret, of_32, open_first, first_ciphertexts, open_here, past_parent, climb_open, opened_path}
-use Rattle.mls_treekem.specs.Opening.{secret_in, keys_on, key_of, IsKeyOf, AreKeysUpTo, OpensAlong}
+use Rattle.mls_paths.specs.Chain.{next_secret, node_key, node_public}
+use Rattle.mls_paths.specs.Follow.{key_above, on_way}
+use Rattle.mls_paths.specs.Keys.{Keys, key_for, key_in, PrivateKeys, all_keys}
+use Rattle.mls_paths.specs.Make.{Climb}
+use Rattle.mls_paths.specs.Open.{left_by, unseal_secret, of_32, open_first, first_ciphertexts, open_here, past_parent, climb_open, opened_path, secret_in}
+use Rattle.mls_paths.specs.Height.{keys_on}
+use Rattle.mls_treekem.specs.Opening.{key_of, IsKeyOf, AreKeysUpTo, OpensAlong}
 use Rattle.mls_treekem.specs.Place.{subtree_at, step_of, IsPlaced, ArePlaced, IsWay}
-use Rattle.mls_treekem.specs.Seal.{targets}
-use Rattle.mls_treekem.proofs.Levels.{way_height, reverse-end, own_above, length-end, length-on_way, same_length}
+use Rattle.mls_paths.specs.Seal.{targets}
+use Rattle.mls_paths.specs.HeightLaws.{way_height, reverse-end, own_above, length-end, length-on_way, same_length}
 
 -- ---- answers by an equal definition
 

@@ -4,25 +4,23 @@ use Rattle.std.proofs.lemmas.Bool.{true≢false, and_parts, cases_lt, cases_eq, 
 use Rattle.std.proofs.lemmas.List.{length-reverse, length-replicate, reverse-append, map-append}
 use Rattle.mls_suite.specs.Crypto.{Crypto}
 use Rattle.mls_suite.specs.declared.KeyPair.{KeyPair}
-use Rattle.mls_term.specs.Way.{is_filtered, filtered_way, filtered_path}
-use Rattle.mls_treekem.specs.Chain.{chain, path_secrets, node_key}
-use Rattle.mls_treekem.specs.Keys.{Keys}
-use Rattle.mls_treekem.specs.Follow.{key_above, on_way}
-use Rattle.mls_treekem.specs.Make.{one_if, filtered_count, secret_above, key_if, made_keys}
-use Rattle.mls_treekem.specs.Made.{ArePairsOf, PrivateKeys}
-use Rattle.mls_treekem.specs.Raise.{level_of, raised, raised_all, HasMade}
-use Rattle.mls_treekem.proofs.OnePass.{no_key_above}
-use Rattle.mls_treekem.proofs.Heights.{lower}
+use Rattle.mls_term.specs.Way.{is_filtered, filtered_way, filtered_path, Step, way}
+use Rattle.mls_paths.specs.Chain.{chain, path_secrets, node_key}
+use Rattle.mls_paths.specs.Keys.{Keys, PrivateKeys}
+use Rattle.mls_paths.specs.Follow.{key_above, on_way}
+use Rattle.mls_paths.specs.Make.{one_if, filtered_count, secret_above, key_if, made_keys, HasMade}
+use Rattle.mls_treekem.specs.Secrets.{ArePairsOf}
+use Rattle.mls_treekem.specs.Raised.{level_of, raised, raised_all, IsRaised}
+use Rattle.mls_paths.specs.OnePassLaws.{no_key_above}
+use Rattle.mls_paths.specs.HeightLaws.{lower, way_height, above_take, above_pass, length-end, reverse-end}
 use Rattle.mls_treemath.specs.Paths.{Path, nodes_in, path_to, longer}
 use Rattle.mls_treemath.specs.Steps.{level_in, height_left}
 use Rattle.mls_treemath.specs.Ways.{path_left, path_root, path_right}
 use Rattle.mls_term.specs.Term.{Term, Leaf, Branch, width, size, is_perfect}
-use Rattle.mls_term.specs.Way.{Step, way}
 use Rattle.mls_term.specs.Equations.{way_leaf, way_left, way_right}
 use Rattle.mls_term.specs.ShapeLaws.{size-width}
 use Rattle.mls_term.specs.ArrayLaws.{size-perfect, nodes_in-leaves}
 use Rattle.mls_term.specs.PathLaws.{reverse-cons}
-use Rattle.mls_treekem.proofs.Levels.{way_height, above_take, above_pass, length-end, reverse-end}
 
 -- node n has level k in a perfect tree of height h whose first leaf is b
 record HasLevel (h b n k : ℕ) : Type 0 where
@@ -249,6 +247,11 @@ module _ (c : Crypto) (start : List ℕ) (filtered : List ℕ) (p q : PrivateKey
       let is : xs ≡ raised_all (nodes_of c start p.own ss) (keys_of c start p.own (filtered_count ss)) [] =
       raise ∙ ap₂ (λ ns ks. raised_all ns ks ys) path keys ∙ ap (raised_all (nodes_of c start p.own ss) (keys_of c start p.own (filtered_count ss))) none in
       subst (λ zs. Raises c start p.own ss zs) (sym is) m.raises
+
+  pub raised_is : q.leaf ≡ p.leaf → q.own ≡ p.own → q.above ≡ reverse xs → IsRaised c start filtered p q
+  raised_is leaf own above =
+      let keys : map (λ p. p.sk) qs ≡ map (node_key c) (path_secrets start (length filtered)) = ap (map (λ p. p.sk)) same ∙ are.private in
+      record { leaf = leaf; own = own; above = above ∙ ap reverse (raise ∙ ap₂ (raised_all filtered) keys none) }
 
   pub has_made : q.leaf ≡ p.leaf → q.own ≡ p.own → q.above ≡ reverse xs → HasMade c start filtered p q
   has_made leaf own above =

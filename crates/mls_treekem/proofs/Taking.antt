@@ -1,5 +1,5 @@
 -- What a joiner takes, as code goes over the parents.
-use Rattle.std.proofs.Common.{◌≡◌, ℕ, zero, suc, ◌+◌, ◌≤◌, ◌<◌, Bool, true, false, not, nat_lt, nat_le, ◌&&◌, if◌then◌else◌, List, [], ◌∷◌, ◌++◌, length, map, reverse, replicate, Option, Some, None, is_some, Result, Ok, Err, refl, sym, subst, ◌∙◌, ap, ap₂, arith, lt-ltb, le-ltb}
+use Rattle.std.proofs.Common.{◌≡◌, ℕ, zero, suc, ◌+◌, ◌≤◌, ◌<◌, Bool, true, false, not, nat_lt, nat_le, ◌&&◌, if◌then◌else◌, List, [], ◌∷◌, ◌++◌, length, map, reverse, replicate, Option, Some, None, is_some, Result, Ok, Err, refl, sym, subst, ◌∙◌, ap, ap₂, arith, le-ltb}
 use Rattle.std.specs.Str.{bytes_eq}
 use Rattle.std.proofs.lemmas.Bool.{cond-true, cond-false}
 use Rattle.std.proofs.lemmas.List.{length-map, length-replicate, length-reverse}
@@ -10,20 +10,19 @@ use Rattle.mls_leaf.specs.Parent.{Parent}
 use Rattle.mls_term.specs.Sets.{has}
 use Rattle.mls_term.specs.Term.{Term, width, is_perfect}
 use Rattle.mls_term.specs.Way.{Step, way, is_beside}
-use Rattle.mls_term.specs.Laws.{IsIn}
 use Rattle.mls_suite.specs.Crypto.{Crypto}
 use Rattle.mls_treekem.specs.declared.places.Place.{Place}
-use Rattle.mls_treekem.specs.Chain.{next_secret, node_key, node_public}
+use Rattle.mls_paths.specs.Chain.{next_secret, node_key, node_public}
 use Rattle.mls_treekem.specs.declared.climb.Climb.{Climb as Standing}
 use Rattle.mls_treekem.specs.declared.error.TreeKemError.{TreeKemError}
 use Rattle.mls_treekem.specs.Climbing.{climb_of, with_own}
 use Rattle.mls_treekem.specs.Faults.{number_of}
-use Rattle.mls_treekem.specs.Keys.{Keys, leaf_only}
-use Rattle.mls_treekem.specs.Make.{Climb}
-use Rattle.mls_treekem.specs.Join.{past_present, is_present, climb_take, is_due, is_complete, take_keys, take_answer}
+use Rattle.mls_paths.specs.Keys.{Keys, leaf_only}
+use Rattle.mls_paths.specs.Make.{Climb}
+use Rattle.mls_paths.specs.Join.{past_present, is_present, climb_take, is_due, is_complete, take_keys, take_answer}
 use Rattle.mls_treekem.specs.Place.{step_of, ArePlaced, IsWay}
-use Rattle.mls_treekem.proofs.Levels.{reverse-end, way_height}
-use Rattle.mls_treekem.proofs.Joining.{sounds, present_is}
+use Rattle.mls_paths.specs.HeightLaws.{reverse-end, way_height}
+use Rattle.mls_paths.specs.JoinLaws.{sounds, present_is, take_inside}
 use Rattle.mls_treekem.proofs.Opened.{beside_is, first_placed}
 
 -- ---- one place
@@ -180,10 +179,6 @@ take_length c j (s ∷ ss) (o ∷ ks) secret m e h =
 pub take_outside : (c : Crypto) (t : Term) (i j : ℕ) (own secret : List ℕ) → width t ≤ i → take_answer c t i j own secret ≡ Err 34
 unfolding take_answer
 take_outside c t i j own secret ge = cond-false _ _ _ (le-ltb i (width t) ge)
-
-pub take_inside : (c : Crypto) (t : Term) (i j : ℕ) (own secret : List ℕ) → IsIn 0 t i → take_answer c t i j own secret ≡ take_keys c t i j own secret
-unfolding take_answer
-take_inside c t i j own secret here = let lt : i < width t = (let high : i < 0 + width t = here.high in omega arith) in cond-true _ _ _ (lt-ltb i (width t) lt)
 
 module _ (c : Crypto) (h : ℕ) (t : Term) (perfect : is_perfect h t ≡ true) (i j leaf : ℕ) (leaf_is : j ≡ leaf) (own secret : List ℕ) (ps qs : List Place) (signers : IsWay t i ps) (joiners : IsWay t j qs) (inside : i < width t) where
   length_is : (k : ℕ) (rs : List Place) → IsWay t k rs → length rs ≡ h

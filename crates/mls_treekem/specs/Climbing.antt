@@ -2,9 +2,8 @@
 use Rattle.std.specs.Prelude.{ℕ, if◌then◌else◌, List, [], ◌∷◌, ◌++◌, reverse, Some, None, Result, Ok, Err}
 use Rattle.std.specs.Str.{bytes_eq}
 use Rattle.mls_suite.specs.Crypto.{Crypto}
-use Rattle.mls_treekem.specs.Chain.{next_secret, node_key, node_public}
-use Rattle.mls_treekem.specs.Made.{PrivateKeys, all_keys}
-use Rattle.mls_treekem.specs.Make.{Climb}
+use Rattle.mls_paths.specs.Chain.{next_secret, node_key, node_public}
+use Rattle.mls_paths.specs.Make.{Climb}
 use Rattle.mls_treekem.specs.declared.climb.Climb.{Climb as Standing}
 
 -- a climb, without the leaf's key
@@ -14,10 +13,6 @@ climb_of m = record { secret = m.secret; keys = reverse m.above.items }
 -- and with it
 abbrev pub with_own : List ℕ → Climb → Climb
 with_own own m = record { secret = m.secret; keys = m.keys ++ (Some own ∷ []) }
-
--- a climb to a secret that gives a member its keys
-abbrev pub climb_to : List ℕ → PrivateKeys → Climb
-climb_to secret p = record { secret = secret; keys = all_keys p }
 
 -- past a node with this public key: 34 where the derived one differs (RFC 9420, 7.5)
 abbrev pub past_key : Crypto → List ℕ → Climb → Result Climb ℕ

@@ -1,7 +1,6 @@
 -- What a member's climb along a committer's way is made of.
-use Rattle.std.specs.Prelude.{◌≡◌, ℕ, Bool, true, List, [], ◌∷◌, ◌++◌, length, reverse, Option, Some, Result}
-use Rattle.mls_wire.specs.Checks.{given, Answers}
-use Rattle.mls_wire.specs.Reading.{◌>>=◌}
+use Rattle.std.specs.Prelude.{◌≡◌, ℕ, true, List, [], ◌∷◌, ◌++◌, length, reverse, Option, Some, Result}
+use Rattle.mls_wire.specs.Checks.{Answers}
 use Rattle.mls_group.specs.declared.update_path.HpkeCiphertext.{HpkeCiphertext}
 use Rattle.mls_group.specs.declared.update_path.UpdatePathNode.{UpdatePathNode}
 use Rattle.mls_suite.specs.Crypto.{Crypto}
@@ -13,27 +12,10 @@ use Rattle.mls_treekem.specs.declared.error.TreeKemError.{TreeKemError}
 use Rattle.mls_treekem.specs.declared.places.Place.{Place}
 use Rattle.mls_treekem.specs.Climbing.{climb_of, with_own}
 use Rattle.mls_treekem.specs.Faults.{number_of}
-use Rattle.mls_treekem.specs.Follow.{on_way}
-use Rattle.mls_treekem.specs.Join.{is_complete}
-use Rattle.mls_treekem.specs.Keys.{Keys, key_in}
-use Rattle.mls_treekem.specs.Made.{PrivateKeys, all_keys}
-use Rattle.mls_treekem.specs.Open.{unseal_secret, of_32, open_first, open_here, climb_open}
+use Rattle.mls_paths.specs.Follow.{on_way}
+use Rattle.mls_paths.specs.Keys.{Keys, key_in, PrivateKeys, all_keys}
+use Rattle.mls_paths.specs.Open.{open_first, open_here, climb_open}
 use Rattle.mls_treekem.specs.Place.{step_of}
-
--- the path secret in a ciphertext: 32 where it doesn't open, 33 where that isn't 32 bytes (RFC 9420, 7.6)
-abbrev pub secret_in : Crypto → List ℕ → List ℕ → HpkeCiphertext → Result (List ℕ) ℕ
-secret_in c context k x = given 32 (unseal_secret c context k x) >>= of_32
-
--- a member's keys on its way in a whole tree, by their height
-abbrev pub keys_on : Term → PrivateKeys → Keys
-keys_on t p = on_way (way 0 t p.leaf) (all_keys p)
-
--- whether a member has each key that is due on a way, and on its own in a whole tree (RFC 9420, 12.4.3.1)
-abbrev pub has_due_on : PrivateKeys → List Step → Bool
-has_due_on p ss = is_complete p.leaf ss (on_way ss (all_keys p))
-
-abbrev pub has_due : Term → PrivateKeys → Bool
-has_due t p = has_due_on p (way 0 t p.leaf)
 
 -- the key that a member has for a node of a tree whose first leaf is b
 abbrev pub key_of : ℕ → Term → PrivateKeys → ℕ → Option (List ℕ)

@@ -5,10 +5,13 @@ ghost use Rattle.mls_wire.specs.Checks.{Answers, AnswersOutright};
 ghost use Rattle.mls_term.specs.Places.{resolution_at};
 ghost use Rattle.mls_term.specs.Resolution.{is_empty};
 ghost use Rattle.mls_tree.specs.Tree.{term};
-ghost use Rattle.mls_treekem.specs.Climbing.{climb_of, climb_to};
+ghost use Rattle.mls_treekem.specs.Climbing.{climb_of};
+ghost use Rattle.mls_paths.specs.Make.{climb_to};
 ghost use Rattle.mls_treekem.specs.Faults.{number_of};
-ghost use Rattle.mls_treekem.specs.Open.{of_32, left_by, past_parent, opened_path};
-ghost use Rattle.mls_treekem.specs.Opening.{secret_in, keys_on, IsKeyOf, AreKeysUpTo, OpensFirst, OpensHere, OpensAlong};
+ghost use Rattle.mls_paths.specs.Open.{of_32, left_by, past_parent, opened_path};
+ghost use Rattle.mls_paths.specs.Open.{secret_in};
+ghost use Rattle.mls_paths.specs.Height.{keys_on};
+ghost use Rattle.mls_treekem.specs.Opening.{IsKeyOf, AreKeysUpTo, OpensFirst, OpensHere, OpensAlong};
 ghost use Rattle.mls_treekem.specs.Place.{step_of, IsPlaced, ArePlaced};
 
 use crate::climb::Climb;

@@ -5,10 +5,11 @@ ghost use Rattle.std.specs.Option.{option_copied};
 ghost use Rattle.mls_wire.specs.Checks.{Answers};
 ghost use Rattle.mls_term.specs.Sets.{has};
 ghost use Rattle.mls_tree.specs.Tree.{term};
-ghost use Rattle.mls_treekem.specs.Climbing.{climb_of, with_own, climb_to};
+ghost use Rattle.mls_treekem.specs.Climbing.{climb_of, with_own};
+ghost use Rattle.mls_paths.specs.Make.{climb_to};
 ghost use Rattle.mls_treekem.specs.Faults.{number_of};
-ghost use Rattle.mls_treekem.specs.Join.{past_present, is_present, climb_take, is_due, is_complete, take_answer};
-ghost use Rattle.mls_treekem.specs.Opening.{has_due_on, has_due};
+ghost use Rattle.mls_paths.specs.Join.{past_present, is_present, climb_take, is_due, is_complete, take_answer};
+ghost use Rattle.mls_paths.specs.Join.{has_due_on, has_due};
 ghost use Rattle.mls_treekem.specs.Place.{places_from, step_of, ArePlaced};
 ghost use Rattle.mls_treekem.specs.declared.error.TreeKemError.TheVariants.{KeyMissing};
 

@@ -1,5 +1,5 @@
-use Rattle.mls_schedule.specs.Laws.{equal_or_twins_lem}
+use Rattle.mls_schedule.specs.Laws.{one_or_twins}
 use Rattle.mls_schedule.proofs.laws.equal_or_twins.Goals as goal
 
 pub returns : goal.returns
-returns c = equal_or_twins_lem
+returns c = one_or_twins

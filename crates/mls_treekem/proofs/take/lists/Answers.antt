@@ -1,6 +1,5 @@
-use Rattle.std.proofs.Common.{◌∙◌, ap}
+use Rattle.std.proofs.Common.{◌∙◌, ap, nat_eq}
 use Rattle.std.specs.List.{list_any}
-use Rattle.std.proofs.Common.{nat_eq}
 use Rattle.mls_term.specs.SetLaws.{has-any}
 use Rattle.mls_treekem.proofs.take.lists.Goals as goal
 

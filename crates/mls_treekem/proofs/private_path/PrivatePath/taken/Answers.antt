@@ -3,7 +3,7 @@ use Rattle.mls_term.specs.ArrayLaws.{perfect-term_of}
 use Rattle.mls_term.specs.Term.{width}
 use Rattle.mls_tree.specs.Tree.{Tree, term}
 use Rattle.mls_treekem.specs.Climbing.{climb_of}
-use Rattle.mls_treekem.specs.Join.{is_complete}
+use Rattle.mls_paths.specs.Join.{is_complete}
 use Rattle.mls_treekem.specs.Place.{IsWay, step_of}
 use Rattle.mls_treekem.proofs.Followed.{way_read}
 use Rattle.mls_treekem.proofs.Taking.{take_outside, take_whole, take_missing, take_refused, take_low}

@@ -1,6 +1,6 @@
 use Rattle.std.proofs.Common.{◌≡◌}
-use Rattle.mls_treekem.specs.Chain.{chain, path_secrets}
-use Rattle.mls_treekem.specs.Made.{ArePairsOf}
+use Rattle.mls_paths.specs.Chain.{chain, path_secrets}
+use Rattle.mls_treekem.specs.Secrets.{ArePairsOf}
 use Rattle.mls_treekem.proofs.secrets.PathSecrets.new.Given as goal
 
 abbrev pub invariant-loop : goal.invariant-loop

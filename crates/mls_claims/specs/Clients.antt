@@ -1,0 +1,109 @@
+-- The members of a tree as a list, and their signature keys.
+use Rattle.std.proofs.Common.{◌≡◌, ℕ, ◌+◌, ◌<◌, ◌≤◌, ◌==◌, Bool, true, false, List, [], ◌∷◌, ◌++◌, map, Option, Some, None, refl, sym, ap, ap₂, ◌∙◌, inl, inr, arith, eqb-true, subst}
+use Rattle.std.specs.Prelude.{◌≢◌}
+use Rattle.std.specs.Str.{bytes_eq}
+use Rattle.std.proofs.lemmas.Bool.{cases_lt, and_parts, and_from}
+use Rattle.std.proofs.lemmas.Slice.Eq.{bytes_eq-Decides}
+use Rattle.mls_leaf.specs.declared.leaf.LeafNode.{LeafNode}
+use Rattle.mls_term.specs.Equations.{leaf_at_left, leaf_at_right}
+use Rattle.mls_term.specs.Good.{has_distinct_clients}
+use Rattle.mls_term.specs.Keys.{gather, signature_keys, members}
+use Rattle.mls_term.specs.SetLaws.{eqb_refl}
+use Rattle.mls_term.specs.Sets.{same_bytes, count, is_distinct}
+use Rattle.mls_term.specs.Term.{Term, Leaf, Branch, width, leaf_at, leaf_of}
+use Rattle.mls_claims.specs.One.{IsOneOf, one_left, one_right}
+use Rattle.mls_claims.specs.Sent.{leaf_is_in}
+
+-- the signature key of a member
+abbrev pub client_of : ℕ × LeafNode → List ℕ
+client_of m = m.1.signature_key
+
+-- ---- what stands at a place is among the members
+
+map_both : (xs ys : List (ℕ × LeafNode)) → map client_of (xs ++ ys) ≡ map client_of xs ++ map client_of ys
+map_both [] ys = refl
+map_both (x ∷ xs) ys = ap (λ zs. client_of x ∷ zs) (map_both xs ys)
+
+pub clients_are : (b : ℕ) (t : Term) → signature_keys t ≡ map client_of (members b t)
+unfolding gather members
+clients_are b (Leaf None) = refl
+clients_are b (Leaf (Some v)) = refl
+clients_are b (Branch c l r) =
+    ap₂ (λ (xs ys : List (List ℕ)). xs ++ ys) (clients_are b l) (clients_are (b + width l) r) ∙ sym (map_both (members b l) (members (b + width l) r))
+
+here_by : (b : ℕ) (v : Option LeafNode) (i : ℕ) (x : LeafNode) → i ≡ b → v ≡ Some x → IsOneOf (i, x) (members b (Leaf v))
+unfolding members IsOneOf
+here_by b None i x at is = absurd cc
+here_by b (Some v) i x at is = inl (ap₂ (λ (n : ℕ) (y : LeafNode). (n, y)) (sym at) (let e : v ≡ x = cc in e))
+
+pub member_in : (b : ℕ) (t : Term) (i : ℕ) (x : LeafNode) → b ≤ i → i < b + width t → leaf_at b t i ≡ Some x → IsOneOf (i, x) (members b t)
+unfolding leaf_at members width
+member_in b (Leaf v) i x low high is = here_by b v i x (omega arith) is
+member_in b (Branch c l r) i x low high is = elim (cases_lt i (b + width l)) [
+  | inl lt ↦ one_left (i, x) (members b l) (members (b + width l) r) (member_in b l i x low lt (sym (leaf_at_left b c l r i lt) ∙ is))
+  | inr ge ↦ one_right (i, x) (members b l) (members (b + width l) r) (member_in (b + width l) r i x ge (omega arith) (sym (leaf_at_right b c l r i ge) ∙ is))
+]
+
+pub is_member : (t : Term) (i : ℕ) (x : LeafNode) → leaf_of t i ≡ Some x → IsOneOf (i, x) (members 0 t)
+is_member t i x is = let at = leaf_is_in t i x is in let low = at.0 in member_in 0 t i x (omega arith) (omega arith) at.1
+
+-- ---- a value of a list is counted
+
+same_self : (xs : List ℕ) → same_bytes xs xs ≡ true
+unfolding same_bytes
+same_self [] = refl
+same_self (x ∷ xs) = and_from _ _ (eqb_refl x) (same_self xs)
+
+count_here : (x y : List ℕ) (xs : List (List ℕ)) → x ≡ y → 0 < count same_bytes y (x ∷ xs)
+unfolding count
+count_here x y xs e = let s : same_bytes x y ≡ true = subst (λ (z : List ℕ). same_bytes x z ≡ true) e (same_self x) in rw s (omega arith)
+
+count_there : (x y : List ℕ) (xs : List (List ℕ)) → 0 < count same_bytes y xs → 0 < count same_bytes y (x ∷ xs)
+unfolding count
+count_there x y xs lt = omega arith
+
+pub counted : {A : Type 0} (f : A → List ℕ) (y : List ℕ) (xs : List A) (q : A) → IsOneOf q xs → f q ≡ y → 0 < count same_bytes y (map f xs)
+unfolding IsOneOf
+counted f y [] q is e = absurd is
+counted f y (x ∷ xs) q (inl same) e = count_here (f x) y (map f xs) (ap f same ∙ e)
+counted f y (x ∷ xs) q (inr is) e = count_there (f x) y (map f xs) (counted f y xs q is e)
+
+-- so what is distinct has no other of its kind
+pub no_other : {A : Type 0} (f : A → List ℕ) (x : A) (xs : List A) (q : A) → is_distinct same_bytes (map f (x ∷ xs)) ≡ true → IsOneOf q xs → f q ≡ f x → ⊥
+unfolding is_distinct
+no_other f x xs q d is e =
+    let p = and_parts (count same_bytes (f x) (map f xs) == 0) (is_distinct same_bytes (map f xs)) d in
+    let none = eqb-true _ _ p.0 in
+    let some = counted f (f x) xs q is e in
+    omega arith
+
+pub distinct_rest : {A : Type 0} (f : A → List ℕ) (x : A) (xs : List A) → is_distinct same_bytes (map f (x ∷ xs)) ≡ true → is_distinct same_bytes (map f xs) ≡ true
+unfolding is_distinct
+distinct_rest f x xs d = (and_parts (count same_bytes (f x) (map f xs) == 0) (is_distinct same_bytes (map f xs)) d).1
+
+pub one_alone : {A : Type 0} (f : A → List ℕ) (xs : List A) (p q : A) → is_distinct same_bytes (map f xs) ≡ true → IsOneOf p xs → IsOneOf q xs → f p ≡ f q → p ≡ q
+unfolding IsOneOf
+one_alone f [] p q d a b e = absurd a
+one_alone f (x ∷ xs) p q d (inl a) (inl b) e = sym a ∙ b
+one_alone f (x ∷ xs) p q d (inl a) (inr b) e = absurd (no_other f x xs q d b (sym e ∙ ap f (sym a)))
+one_alone f (x ∷ xs) p q d (inr a) (inl b) e = absurd (no_other f x xs p d a (e ∙ ap f (sym b)))
+one_alone f (x ∷ xs) p q d (inr a) (inr b) e = one_alone f xs p q (distinct_rest f x xs d) a b e
+
+-- ---- clients
+
+distinct_members : (t : Term) → has_distinct_clients t ≡ true → is_distinct same_bytes (map client_of (members 0 t)) ≡ true
+unfolding has_distinct_clients
+distinct_members t d = ap (is_distinct same_bytes) (sym (clients_are 0 t)) ∙ d
+
+-- members of one signature key are one
+pub one_client : (t : Term) (p q : ℕ × LeafNode) → has_distinct_clients t ≡ true → IsOneOf p (members 0 t) → IsOneOf q (members 0 t) → client_of p ≡ client_of q → p ≡ q
+one_client t p q d a b e = one_alone client_of (members 0 t) p q (distinct_members t d) a b e
+
+-- so members at two leaves have two
+apart_by : (b : Bool) (x y : List ℕ) → bytes_eq x y ≡ b → (x ≡ y → ⊥) → b ≡ false
+apart_by true x y e ne = absurd (ne ((bytes_eq-Decides x y).0 e))
+apart_by false x y e ne = refl
+
+pub clients_apart : (t : Term) (i j : ℕ) (x y : LeafNode) → has_distinct_clients t ≡ true → leaf_of t i ≡ Some x → leaf_of t j ≡ Some y → i ≢ j → bytes_eq x.signature_key y.signature_key ≡ false
+clients_apart t i j x y d a b ne =
+    apart_by _ x.signature_key y.signature_key refl (λ e. ne (ap (λ (p : ℕ × LeafNode). p.0) (one_client t (i, x) (j, y) d (is_member t i x a) (is_member t j y b) e)))

@@ -1,0 +1,145 @@
+-- What holds of each world that a list of events leaves.
+use Rattle.std.specs.Prelude.{◌≡◌, ◌≢◌, ℕ, ◌+◌, true, false, List, length, slice_get, Option, Some, None, Result, Ok, Err}
+use Rattle.std.specs.List.{AllByRecursion, list_any}
+use Rattle.std.specs.Str.{bytes_eq}
+use Rattle.mls_leaf.specs.KeyPackage.{key_package}
+use Rattle.mls_types.specs.declared.message.MlsMessage.{MlsMessage}
+use Rattle.mls_types.specs.declared.message.MlsMessage.TheVariants as message
+use Rattle.mls_suite.specs.Crypto.{Crypto, Lawful}
+use Rattle.mls_term.specs.Sets.{has}
+use Rattle.mls_model.specs.declared.effect.Effect.TheVariants.{Advanced, Removed}
+use Rattle.mls_model.specs.declared.event.Source.{Source}
+use Rattle.mls_model.specs.declared.event.Source.TheVariants.{Given, Message}
+use Rattle.mls_model.specs.declared.event.Event.{Event}
+use Rattle.mls_model.specs.declared.event.Event.TheVariants.{Deliver, Join}
+use Rattle.mls_model.specs.declared.event.Reply.TheVariants.{Delivered, Joined, Refused}
+use Rattle.mls_model.specs.Member.{Pending}
+use Rattle.mls_model.specs.Messages.{decoded}
+use Rattle.mls_model.specs.Verdict.{own_pending}
+use Rattle.mls_model.specs.Journal.{Entry, Journal, CommitMade, with_entry, list_in, removes_in, is_homemade}
+use Rattle.mls_model.specs.World.{World, Entrant, Seat, empty_world, bytes_of, made_for}
+use Rattle.mls_model.specs.Run.{answer, step, run}
+use Rattle.mls_model.specs.Range.{IsInRange}
+use Rattle.mls_model.specs.Agreement.{Agree, AgreeSecret, AgreeOrTwins, HasGoodTree, HasExactKeys, Keeps}
+
+-- member k, which wasn't removed
+pub record IsActive (w : World) (k : ℕ) (s : Seat) : Type 0 where
+  pub is : slice_get w.seats k ≡ Some s
+  pub active : s.member.gone ≡ false
+
+-- ---- agreement
+
+-- members with one journal hold one public state
+abbrev pub AgreeByJournal : World → Type 0
+AgreeByJournal w = (i j : ℕ) (s t : Seat) → IsActive w i s → IsActive w j t → s.journal ≡ t.journal → Agree s.member t.member
+
+-- with one homemade journal they hold the same secrets
+abbrev pub AgreeSecretIfHomemade : World → Type 0
+AgreeSecretIfHomemade w = (i j : ℕ) (s t : Seat) → IsActive w i s → IsActive w j t → s.journal ≡ t.journal → is_homemade w.made s.journal ≡ true → AgreeSecret s.member t.member
+
+-- with one journal of any kind they do too, or their epoch secrets are twins
+abbrev pub AgreeByConfirmation : World → Type 0
+AgreeByConfirmation w = (i j : ℕ) (s t : Seat) → IsActive w i s → IsActive w j t → s.journal ≡ t.journal → AgreeOrTwins s.member t.member
+
+-- ---- acceptance
+
+-- the member follows a commit into the next epoch, and its journal has one more entry
+pub record Follows (c : Crypto) (w : World) (k : ℕ) (s : Seat) (source : Source) (e : Entry) : Type 0 where
+  pub after : Seat
+  pub reply : (step c w (Deliver k source)).0 ≡ Delivered (Advanced (s.member.public.context.epoch + 1))
+  pub is_after : slice_get (step c w (Deliver k source)).1.seats k ≡ Some after
+  pub journal : after.journal ≡ with_entry s.journal e
+
+-- or answers that it was removed, just where the commit removes it
+pub record Accepts (c : Crypto) (w : World) (k : ℕ) (s : Seat) (source : Source) (e : Entry) : Type 0 where
+  pub removed : has (removes_in s.member.kept (list_in e.commit)) s.member.keys.leaf ≡ true → (step c w (Deliver k source)).0 ≡ Delivered Removed
+  pub follows : has (removes_in s.member.kept (list_in e.commit)) s.member.keys.leaf ≡ false → Follows c w k s source e
+
+-- a commit that was made at a homemade journal is accepted by every other active member that has that journal and keeps
+-- under each reference that the commit names the very message that the maker named
+abbrev pub AcceptsHomemade : Crypto → World → Type 0
+AcceptsHomemade c w = (n k : ℕ) (d : CommitMade) (s : Seat) (source : Source) → slice_get w.made n ≡ Some d → is_homemade w.made d.journal ≡ true →
+    IsActive w k s → k ≢ d.maker → s.journal ≡ d.journal → Keeps s.member.kept (list_in d.entry.commit) d.entry.names →
+    bytes_of w source ≡ Ok d.entry.commit → Accepts c w k s source d.entry
+
+-- ---- joins
+
+-- the candidate becomes the next member, with this journal
+pub record Joins (c : Crypto) (w : World) (n : ℕ) (source : Source) (j : Journal) : Type 0 where
+  pub epoch : ℕ
+  pub after : Seat
+  pub reply : (step c w (Join n source)).0 ≡ Joined (length w.seats) epoch
+  pub is_after : slice_get (step c w (Join n source)).1.seats (length w.seats) ≡ Some after
+  pub journal : after.journal ≡ j
+
+-- a candidate that isn't spent, and whose own KeyPackage a commit adds
+pub record IsAdded (w : World) (n : ℕ) (e : Entrant) (d : CommitMade) : Type 0 where
+  pub is : slice_get w.entrants n ≡ Some e
+  pub unspent : e.is_spent ≡ false
+  pub adds : list_any (bytes_eq (key_package.spell e.candidate.offered)) d.adds ≡ true
+
+-- by the number of a Welcome that was made, whatever the journal, those whom its commit adds join, with the maker's
+-- journal and that commit
+abbrev pub JoinsByNumber : Crypto → World → Type 0
+JoinsByNumber c w = (i n number : ℕ) (bytes : List ℕ) (d : CommitMade) (e : Entrant) → slice_get w.made i ≡ Some d → d.welcome ≡ Some (number, bytes) →
+    IsAdded w n e d → Joins c w n (Message number) (with_entry d.journal d.entry)
+
+-- a source is these bytes, given as such
+abbrev pub IsGiven : Source → List ℕ → Type 0
+IsGiven (Given given) bytes = given.items ≡ bytes
+IsGiven (Message n) bytes = ⊥
+
+-- by its bytes they join too, with the journal of the first such Welcome that has these bytes
+abbrev pub JoinsByBytes : Crypto → World → Type 0
+JoinsByBytes c w = (i n number : ℕ) (bytes : List ℕ) (source : Source) (d : CommitMade) (e : Entrant) → slice_get w.made i ≡ Some d → d.welcome ≡ Some (number, bytes) →
+    IsGiven source bytes → IsAdded w n e d → (f : CommitMade) × (made_for w.made source e.candidate ≡ Some f) × Joins c w n source (with_entry f.journal f.entry)
+
+-- ---- keys and trees, whatever bytes came
+
+abbrev pub KeysAreExact : Crypto → World → Type 0
+KeysAreExact c w = (k : ℕ) (s : Seat) → IsActive w k s → HasExactKeys c s.member
+
+abbrev pub TreesAreGood : Crypto → World → Type 0
+TreesAreGood c w = (k : ℕ) (s : Seat) → IsActive w k s → HasGoodTree c s.member
+
+-- ---- refusals
+
+-- an event that is refused names the first check that fails, and changes nothing
+abbrev pub RefusalsChangeNothing : Crypto → World → Type 0
+RefusalsChangeNothing c w = (e : Event) (n : ℕ) → (step c w e).0 ≡ Refused n → (answer c w e ≡ Err n) × ((step c w e).1 ≡ w)
+
+-- ---- the maker of a commit
+
+-- while it holds a commit as its pending one, it follows it
+abbrev pub FollowsOwn : Crypto → World → Type 0
+FollowsOwn c w = (k : ℕ) (s : Seat) (p : Pending) (source : Source) → IsActive w k s → s.member.pending ≡ Some p → bytes_of w source ≡ Ok p.message →
+    (step c w (Deliver k source)).0 ≡ Delivered (Advanced p.public.context.epoch)
+
+abbrev pub epoch_of_message : Result MlsMessage ℕ → Option ℕ
+epoch_of_message (Ok (message.PublicMessage v)) = Some v.content.epoch
+epoch_of_message other = None
+
+-- else, in the epoch of the commit, it answers 48
+abbrev pub RefusesOwn : Crypto → World → Type 0
+RefusesOwn c w = (n : ℕ) (d : CommitMade) (s : Seat) (source : Source) → slice_get w.made n ≡ Some d → IsActive w d.maker s →
+    epoch_of_message (decoded d.entry.commit) ≡ Some s.member.public.context.epoch → own_pending s.member.pending d.entry.commit ≡ None →
+    bytes_of w source ≡ Ok d.entry.commit → (step c w (Deliver d.maker source)).0 ≡ Refused 48
+
+-- ---- the whole
+
+pub record Headline (c : Crypto) (w : World) : Type 0 where
+  pub public : AgreeByJournal w
+  pub secret : AgreeSecretIfHomemade w
+  pub confirmed : AgreeByConfirmation w
+  pub accepted : AcceptsHomemade c w
+  pub joined_by_number : JoinsByNumber c w
+  pub joined_by_bytes : JoinsByBytes c w
+  pub keys : KeysAreExact c w
+  pub trees : TreesAreGood c w
+  pub refused : RefusalsChangeNothing c w
+  pub own : FollowsOwn c w
+  pub own_refused : RefusesOwn c w
+
+-- for every lawful suite and every list of events
+abbrev pub HoldsOnRuns : Type 0
+HoldsOnRuns = (c : Crypto) → Lawful c → (events : List Event) → AllByRecursion IsInRange events → Headline c (run c empty_world events)

@@ -1,0 +1,96 @@
+-- What a candidate does with a Welcome (RFC 9420, 12.4.3.1): the first check that fails, by its number, or the new member
+-- and the GroupInfo that was opened.
+use Rattle.std.specs.Prelude.{ℕ, Bool, false, not, List, [], codes, find, Option, Some, None, Result, Ok}
+use Rattle.std.specs.Str.{bytes_eq}
+use Rattle.mls_wire.specs.Checks.{Passed, require, given, ◌>>◌}
+use Rattle.mls_wire.specs.Reading.{◌>>=◌}
+use Rattle.mls_leaf.specs.Leaf.{leaf_node}
+use Rattle.mls_leaf.specs.declared.leaf.LeafNode.{LeafNode}
+use Rattle.mls_group.specs.GroupContext.{group_context}
+use Rattle.mls_group.specs.GroupInfo.{group_info_tbs}
+use Rattle.mls_group.specs.declared.group_context.GroupContext.{GroupContext}
+use Rattle.mls_group.specs.declared.group_info.GroupInfo.{GroupInfo}
+use Rattle.mls_suite.specs.Crypto.{Crypto}
+use Rattle.mls_suite.specs.Labels.{verify_with_label}
+use Rattle.mls_term.specs.Term.{Term, leaf_of}
+use Rattle.mls_term.specs.Arrays.{from_nodes}
+use Rattle.mls_term.specs.Good.{tree_checks}
+use Rattle.mls_term.specs.Hashes.{tree_hash}
+use Rattle.mls_term.specs.Keys.{members}
+use Rattle.mls_tree.specs.Rules.{rules_of}
+use Rattle.mls_tree.specs.Tree.{max_leaves}
+use Rattle.mls_paths.specs.Join.{take_answer, has_due}
+use Rattle.mls_paths.specs.Keys.{PrivateKeys}
+use Rattle.mls_schedule.specs.Epoch.{epoch_secret, confirmation_tag}
+use Rattle.mls_schedule.specs.Transcript.{interim_hash}
+use Rattle.mls_model.specs.Member.{Member, with_keys}
+use Rattle.mls_model.specs.Candidate.{Candidate}
+use Rattle.mls_model.specs.Opening.{Opened, opened_welcome}
+
+-- ---- the group that it tells of
+
+-- its tree: 76 there is none, 20 and 21 its shape and size, 77 its hash, then the checks of a whole tree (RFC 9420,
+-- 12.4.3.1 and 12.4.3.3)
+unfoldable pub joined_tree : Crypto → GroupInfo → Result Term ℕ
+joined_tree c info = do
+  nodes ← given 76 info.ratchet_tree
+  t ← from_nodes max_leaves nodes
+  require 77 (bytes_eq info.group_context.tree_hash (tree_hash 0 t))
+  tree_checks (rules_of c info.group_context.group_id) t
+  Ok t
+
+-- 78 the signer is no member, or the candidate itself; 79 its signature
+unfoldable pub signer_checks : Crypto → Candidate → GroupInfo → Term → Result Passed ℕ
+signer_checks c k info t = do
+  signer ← given 78 (leaf_of t info.signer)
+  require 78 (not (bytes_eq signer.signature_key k.offered.leaf_node.signature_key))
+  require 79 (verify_with_label c signer.signature_key (codes "GroupInfoTBS") (group_info_tbs info) info.signature)
+
+-- whether two leaves are one: they are spelled alike
+abbrev pub is_same_leaf : LeafNode → LeafNode → Bool
+is_same_leaf x y = bytes_eq (leaf_node.spell x) (leaf_node.spell y)
+
+-- the first leaf that is the candidate's (RFC 9420, 12.4.3.1)
+unfoldable pub place_of : LeafNode → Term → Option (ℕ × LeafNode)
+place_of leaf t = find (λ (x : ℕ × LeafNode). is_same_leaf x.1 leaf) (members 0 t)
+
+-- the joiner's keys: with a path secret those that it gives, else its leaf's alone; 34, and 35 where one that is due is
+-- missing
+unfoldable pub joined_keys : Crypto → Term → ℕ → PrivateKeys → Option (List ℕ) → Result PrivateKeys ℕ
+joined_keys c t signer alone None = require 35 (has_due t alone) >> Ok alone
+joined_keys c t signer alone (Some secret) = take_answer c t signer alone.leaf alone.own secret >>= λ climb. Ok (with_keys alone climb.keys)
+
+-- ---- the whole
+
+-- the new member, and the GroupInfo that it opened
+pub record Joined : Type 0 where
+  pub member : Member
+  pub info : List ℕ
+
+-- the new member of an opened Welcome: the checks of tree and signer, 80 no leaf is the candidate's, 34 and 35, 65 the
+-- confirmation tag
+unfoldable pub member_of : Crypto → Candidate → Opened → Result Joined ℕ
+member_of c k o = do
+  t ← joined_tree c o.info
+  signer_checks c k o.info t
+  place ← given 80 (place_of k.offered.leaf_node t)
+  keys ← joined_keys c t o.info.signer (record { leaf = place.0; own = k.leaf; above = [] }) o.path_secret
+  let context : GroupContext = o.info.group_context
+  let epoch = epoch_secret o.joiner (group_context.spell context)
+  require 65 (bytes_eq o.info.confirmation_tag (confirmation_tag epoch context.confirmed_transcript_hash))
+  Ok (record {
+    member = record {
+      gone = false;
+      public = record { context = context; tree = t; interim = interim_hash context.confirmed_transcript_hash o.info.confirmation_tag };
+      epoch = epoch;
+      keys = keys;
+      signing = k.signing;
+      kept = [];
+      pending = None;
+    };
+    info = o.bytes;
+  })
+
+-- of any bytes (RFC 9420, 12.4.3.1)
+unfoldable pub join_verdict : Crypto → Candidate → List ℕ → Result Joined ℕ
+join_verdict c k bytes = opened_welcome c k bytes >>= λ o. member_of c k o

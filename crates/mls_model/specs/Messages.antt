@@ -1,0 +1,82 @@
+-- What members sign, tag and hash of their messages.
+use Rattle.std.specs.Prelude.{ℕ, nat_lt, nat_le, Bool, true, false, ◌&&◌, List, [], length, codes, Option, Some, None, Result}
+use Rattle.std.specs.List.{list_all}
+use Rattle.mls_wire.specs.Checks.{Passed, require}
+use Rattle.mls_leaf.specs.Faults.{whole}
+use Rattle.mls_leaf.specs.Limits.{input_limit}
+use Rattle.mls_group.specs.declared.group_context.GroupContext.{GroupContext}
+use Rattle.mls_types.specs.Message.{mls_message}
+use Rattle.mls_types.specs.PublicMessage.{authenticated_content}
+use Rattle.mls_types.specs.Reference.{proposal_reference}
+use Rattle.mls_types.specs.SignedParts.{framed}
+use Rattle.mls_types.specs.Signing.{framed_content_tbs, authenticated_content_tbm}
+use Rattle.mls_types.specs.declared.content.Content.{Content}
+use Rattle.mls_types.specs.declared.content.FramedContent.{FramedContent}
+use Rattle.mls_types.specs.declared.content.Sender.{Sender}
+use Rattle.mls_types.specs.declared.content.Sender.TheVariants as sender
+use Rattle.mls_types.specs.declared.message.MlsMessage.{MlsMessage}
+use Rattle.mls_types.specs.declared.message.MlsMessage.TheVariants as message
+use Rattle.mls_types.specs.declared.public_message.PublicMessage.{PublicMessage}
+use Rattle.mls_types.specs.declared.public_message.WireFormat.TheVariants as format
+use Rattle.mls_types.specs.declared.signed.SignedBody.{SignedBody}
+use Rattle.mls_types.specs.declared.signed.SignedBody.TheVariants as body
+use Rattle.mls_types.specs.declared.signed.SignedContent.{SignedContent}
+use Rattle.mls_suite.specs.Crypto.{Crypto}
+use Rattle.mls_suite.specs.Labels.{sign_with_label, verify_with_label}
+use Rattle.mls_schedule.specs.Epoch.{membership_tag}
+use Rattle.mls_model.specs.Member.{Member}
+
+-- ---- whole messages
+
+-- the message that all of the bytes are, or the number of the first fault (RFC 9420, 6)
+unfoldable pub decoded : List ℕ → Result MlsMessage ℕ
+decoded bytes = whole mls_message input_limit bytes
+
+-- whether each entry of a list is a byte, as all are that code has
+unfoldable pub are_bytes : List ℕ → Bool
+are_bytes bytes = list_all (λ (b : ℕ). nat_lt b 256) bytes
+
+-- 6 where what was made is larger than a message may be, or no bytes
+unfoldable pub is_within_limit : List ℕ → Result Passed ℕ
+is_within_limit bytes = require 6 (nat_le (length bytes) input_limit && are_bytes bytes)
+
+-- the PublicMessage that a message is (RFC 9420, 6)
+abbrev pub public_in : MlsMessage → Option PublicMessage
+public_in (message.PublicMessage v) = Some v
+public_in other = None
+
+-- ---- contents
+
+-- the leaf of a sender (RFC 9420, 6)
+abbrev pub sender_leaf : Sender → ℕ
+sender_leaf (sender.Member leaf) = leaf
+
+-- whether a content is a proposal or a commit
+abbrev pub is_handshake : SignedBody → Bool
+is_handshake (body.Application text) = false
+is_handshake other = true
+
+-- a content of a member in its epoch (RFC 9420, 6)
+unfoldable pub said_by : Member → Content → FramedContent
+said_by m content =
+    record { group_id = m.public.context.group_id; epoch = m.public.context.epoch; sender = sender.Member m.keys.leaf; authenticated_data = []; content = content }
+
+-- its signature under the context of the epoch (RFC 9420, 6.1)
+unfoldable pub content_signature : Crypto → List ℕ → FramedContent → GroupContext → List ℕ
+content_signature c signing said context = sign_with_label c signing (codes "FramedContentTBS") (framed_content_tbs format.PublicMessage said context)
+
+-- whether a signature is that of a signature key (RFC 9420, 6.1)
+unfoldable pub is_content_signed : Crypto → List ℕ → SignedContent → GroupContext → Bool
+is_content_signed c key v context = verify_with_label c key (codes "FramedContentTBS") (framed_content_tbs format.PublicMessage (framed v) context) v.signature
+
+-- the membership tag of a signed content, by the epoch secret (RFC 9420, 6.2)
+unfoldable pub content_tag : List ℕ → SignedContent → GroupContext → List ℕ
+content_tag epoch v context = membership_tag epoch (authenticated_content_tbm format.PublicMessage v context)
+
+-- the message of a signed content, as a member sends it (RFC 9420, 6 and 6.2)
+unfoldable pub sent_by : Member → SignedContent → List ℕ
+sent_by m v = mls_message.spell (message.PublicMessage (record { content = v; membership_tag = content_tag m.epoch v m.public.context }))
+
+-- the reference of a proposal (RFC 9420, 5.2)
+unfoldable pub reference_of : SignedContent → List ℕ
+reference_of v = proposal_reference (authenticated_content.spell (record { wire_format = format.PublicMessage; content = v }))

@@ -1,0 +1,27 @@
+-- What Rust's types say of the events that code can have, and statements over lists have to say for themselves.
+use Rattle.std.specs.Prelude.{◌<◌, ◌^◌}
+use Rattle.std.specs.List.{AllByRecursion}
+use Rattle.mls_wire.specs.Format.{IsBytes}
+use Rattle.mls_model.specs.declared.event.Source.{Source}
+use Rattle.mls_model.specs.declared.event.Source.TheVariants.{Given, Message}
+use Rattle.mls_model.specs.declared.event.WorldItem.{WorldItem}
+use Rattle.mls_model.specs.declared.event.WorldItem.TheVariants.{RefOf, Add, Remove}
+use Rattle.mls_model.specs.declared.event.Event.{Event}
+use Rattle.mls_model.specs.declared.event.Event.TheVariants as event
+
+abbrev pub IsSourceInRange : Source → Type 0
+IsSourceInRange (Given bytes) = IsBytes bytes.items
+IsSourceInRange (Message n) = Unit {0}
+
+abbrev pub IsItemInRange : WorldItem → Type 0
+IsItemInRange (RefOf source) = IsSourceInRange source
+IsItemInRange (Add source) = IsSourceInRange source
+IsItemInRange (Remove leaf) = leaf < 2 ^ 32
+
+-- an event whose given bytes are bytes, and whose leaves have 32 bits
+unfoldable pub IsInRange : Event → Type 0
+IsInRange (event.ProposeAdd k source) = IsSourceInRange source
+IsInRange (event.Commit k items path seed) = AllByRecursion IsItemInRange items.items
+IsInRange (event.Deliver k source) = IsSourceInRange source
+IsInRange (event.Join n source) = IsSourceInRange source
+IsInRange other = Unit {0}
