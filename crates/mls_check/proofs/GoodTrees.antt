@@ -33,9 +33,9 @@ use Rattle.mls_tree.specs.Tree.{max_leaves}
 use Rattle.mls_check.specs.Check.{SpellsGoodTree, check_text, report_on, tree_in}
 use Rattle.mls_check.specs.Reports.{report_by, report_of}
 use Rattle.mls_check.specs.declared.report.Report as declared
-use Rattle.mls_check.proofs.Cells.{Cells, of_front, of_back, of_padded}
+use Rattle.mls_tree.specs.Cells.{Cells, of_front, of_back, of_padded}
 use Rattle.mls_check.proofs.Orders.{rules-by_order}
-use Rattle.mls_check.proofs.ShortLeaves.{sent_is}
+use Rattle.mls_tree.specs.Sent.{sent_is}
 
 -- ---- the lists of a tree that bytes spell rise
 

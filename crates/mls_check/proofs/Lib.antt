@@ -1,4 +1,3 @@
-mod Cells
 mod CheckNames
 mod GoodTrees
 mod Orders
