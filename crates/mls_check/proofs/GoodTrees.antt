@@ -38,9 +38,9 @@ use Rattle.mls_text.specs.declared.text.Line.{Line}
 use Rattle.mls_check.specs.Check.{SpellsGoodTree, check_text, report_on, tree_in}
 use Rattle.mls_check.specs.Reports.{report_by}
 use Rattle.mls_check.specs.declared.report.SuiteChecks.{SuiteChecks}
-use Rattle.mls_check.proofs.Cells.{Cells, of_front, of_back, of_padded}
+use Rattle.mls_tree.specs.Cells.{Cells, of_front, of_back, of_padded}
 use Rattle.mls_check.proofs.Orders.{rules-by_order}
-use Rattle.mls_check.proofs.ShortLeaves.{sent_is}
+use Rattle.mls_tree.specs.Sent.{sent_is}
 
 -- ---- the lists of a tree that bytes spell rise
 

@@ -1,4 +1,3 @@
-mod Cells
 mod GoodTrees
 mod Orders
 mod SentTrees

@@ -11,7 +11,7 @@ ghost use Rattle.mls_text.specs.Text.{entry_of};
 ghost use Rattle.mls_check.specs.Check.{SpellsGoodTree, behind, check_text, suite_word, tree_report};
 ghost use Rattle.mls_check.specs.CheckFaults.{number_of};
 ghost use Rattle.mls_check.specs.Reports.{lines_before, rule_entries};
-ghost use Rattle.mls_check.specs.Short.{HasShortLeaves};
+ghost use Rattle.mls_tree.specs.Short.{HasShortLeaves};
 
 use crate::check_error::CheckError;
 use crate::tree::{tree_in, tree_lines};
