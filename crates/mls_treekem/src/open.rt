@@ -59,7 +59,7 @@ fn open_secret<S: Suite>(
 }
 
 /// Whether the filtered direct path takes a parent in.
-fn is_filtered(tree: &PublicTree, place: &Place) -> Result<bool, OutOfMemory>
+pub(crate) fn is_filtered(tree: &PublicTree, place: &Place) -> Result<bool, OutOfMemory>
     ensures { IfOk result (λ b. b ≡ not (is_empty (resolution_at 0 (term tree.now) place.now.beside))) }
 {
     let nodes = tree.resolution(place.beside)?;

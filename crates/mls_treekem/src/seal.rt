@@ -17,24 +17,13 @@ ghost use Rattle.mls_paths.specs.Seal.{seal_to, seal_all, seal_count, sealed_pat
 ghost use Rattle.mls_paths.specs.Seeds.{seal_seed, seals_in};
 
 use crate::places::{Place, parents_over};
-use crate::{PathSecrets, TreeKemError};
+use crate::{PathSecrets, TreeKemError, seal_seed};
 use mls_group::{HpkeCiphertext, UpdatePathNode};
-use mls_kdf::{Secret, expand_with_label};
+use mls_kdf::Secret;
 use mls_leaf::{Bytes, Items, Node};
 use mls_suite::{Suite, encrypt_with_label};
 use mls_tree::PublicTree;
 use std::alloc::Global;
-
-/// The randomness of seal number `i` of a commit, from 0 on: the seals of its path come first, node by node, the lowest
-/// first, and then those of its Welcome in the order of adds. Takes no memory.
-#[tactic(auto, unfolding(mls_paths::specs::Seeds::seal_seed, mls_wire::specs::Reading::uint))]
-pub fn seal_seed(seed: &Secret, i: u32) -> Secret
-    ensures { result ≡ seal_seed seed.now i }
-{
-    let mut out = [0; 32];
-    expand_with_label(seed, "seed seal", &i.to_be_bytes(), &mut out).unwrap();
-    out
-}
 
 /// The low 32 bits of a number.
 fn low_bits(n: usize) -> u32
