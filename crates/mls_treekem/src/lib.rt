@@ -3,6 +3,8 @@
 #![tactic(auto)]
 
 mod climb;
+#[cfg(test)]
+mod commit_tests;
 mod error;
 mod follow;
 mod joiner;
