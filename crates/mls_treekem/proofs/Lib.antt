@@ -8,3 +8,4 @@ pub mod Taking
 pub mod Due
 pub mod Beside
 pub mod Sent
+pub mod Joiners

@@ -1,22 +1,16 @@
 -- A path that code seals.
-use Rattle.std.proofs.Common.{◌≡◌, ◌≢◌, ℕ, zero, suc, ◌+◌, ◌*◌, ◌%◌, ◌^◌, ◌<◌, ◌≤◌, ◌==◌, not, ◌||◌, if◌then◌else◌, Bool, true, false, List, [], ◌∷◌, ◌++◌, length, map, reverse, get_or, drop, Option, Some, None, Result, Ok, Err, Bor, refl, sym, subst, ◌∙◌, ap, ap₂, inl, inr, arith, eq-eqb, ne_eqb, append-nil, append_assoc, length-append}
+use Rattle.std.proofs.Common.{◌≡◌, ◌≢◌, ℕ, suc, ◌+◌, ◌*◌, ◌%◌, ◌^◌, ◌<◌, ◌≤◌, ◌==◌, not, ◌||◌, if◌then◌else◌, Bool, true, false, List, [], ◌∷◌, ◌++◌, length, map, reverse, get_or, drop, Option, Some, None, Result, Ok, Err, Bor, refl, sym, subst, ◌∙◌, ap, ap₂, arith, eq-eqb, ne_eqb, append-nil, append_assoc}
 use Rattle.std.specs.Prelude.{codes}
 use Rattle.std.specs.List.{slice_get}
 use Rattle.std.specs.Option.{option_map, option_copied}
-use Rattle.std.proofs.lemmas.Bool.{cases_lt}
-use Rattle.std.proofs.lemmas.List.{drop_more, drop_all, length-map, get_or_append_left, get_or_at, reverse-append}
-use Rattle.std.proofs.lemmas.Option.{slice_get-map, slice_get-get_or, slice_get_read}
-use Rattle.mls_wire.specs.Reading.{uint}
+use Rattle.std.proofs.lemmas.List.{drop_more, drop_all, reverse-append}
 use Rattle.mls_wire.specs.Checks.{given}
-use Rattle.mls_kdf.specs.Kdf.{expand_with_label}
 use Rattle.mls_group.specs.declared.update_path.HpkeCiphertext.{HpkeCiphertext}
 use Rattle.mls_group.specs.declared.update_path.UpdatePathNode.{UpdatePathNode}
 use Rattle.mls_suite.specs.Crypto.{Crypto}
 use Rattle.mls_suite.specs.Labels.{encrypt_with_label}
 use Rattle.mls_suite.specs.Made.{sealing_of}
-use Rattle.mls_suite.specs.declared.KeyPair.{KeyPair}
 use Rattle.mls_suite.specs.declared.Sealed.{Sealed}
-use Rattle.mls_wire.specs.Laws.{low_bytes}
 use Rattle.mls_term.specs.Sets.{has, leaf_numbers, less}
 use Rattle.mls_term.specs.Term.{Term}
 use Rattle.mls_term.specs.Places.{key_at, resolution_at}
@@ -25,10 +19,9 @@ use Rattle.mls_term.specs.Way.{Step, way, is_filtered, path_length}
 use Rattle.mls_treekem.specs.declared.error.TreeKemError.{TreeKemError}
 use Rattle.mls_treekem.specs.declared.error.TreeKemError.TheVariants as error
 use Rattle.mls_treekem.specs.Faults.{number_of, IsMemoryOrKey}
-use Rattle.mls_paths.specs.Chain.{chain, path_secrets, node_key, node_public}
 use Rattle.mls_treekem.specs.Secrets.{AreOfChain, public_keys}
 use Rattle.mls_treekem.specs.Sealing.{sealed_along}
-use Rattle.mls_paths.specs.Make.{one_if, filtered_count, secret_above}
+use Rattle.mls_paths.specs.Make.{one_if, filtered_count}
 use Rattle.mls_paths.specs.Seal.{targets, seal_count, ciphertext_of, seal_secret, seal_to, cons_both, seal_all, with_ciphertexts, path_past, node_with, seal_with, sealed_path, sealed_with}
 use Rattle.mls_paths.specs.Seeds.{seal_seed, seals_in}
 use Rattle.mls_treekem.specs.Place.{subtree_at, step_of, IsPlaced, ArePlaced, IsWay}

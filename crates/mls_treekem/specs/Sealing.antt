@@ -1,5 +1,5 @@
 -- What code answers as it seals a path, from the lowest node up.
-use Rattle.std.specs.Prelude.{◌≡◌, ℕ, List, map, reverse, Option, Result}
+use Rattle.std.specs.Prelude.{◌≡◌, ℕ, List, reverse, Result}
 use Rattle.std.specs.List.{slice_get}
 use Rattle.std.specs.Option.{option_map}
 use Rattle.mls_wire.specs.Checks.{given, Answers}

@@ -17,24 +17,13 @@ ghost use Rattle.mls_paths.specs.Seal.{seal_to, seal_all, seal_count, sealed_pat
 ghost use Rattle.mls_paths.specs.Seeds.{seal_seed, seals_in};
 
 use crate::places::{Place, parents_over};
-use crate::{PathSecrets, TreeKemError};
+use crate::{PathSecrets, TreeKemError, seal_seed};
 use mls_group::{HpkeCiphertext, UpdatePathNode};
-use mls_kdf::{Secret, expand_with_label};
+use mls_kdf::Secret;
 use mls_leaf::{Bytes, Items, Node};
 use mls_suite::{Suite, encrypt_with_label};
 use mls_tree::PublicTree;
 use std::alloc::Global;
-
-/// The randomness of seal number `i` of a commit, from 0 on: the seals of its path come first, node by node, the lowest
-/// first, and then those of its Welcome in the order of adds. Takes no memory.
-#[tactic(auto, unfolding(mls_paths::specs::Seeds::seal_seed, mls_wire::specs::Reading::uint))]
-pub fn seal_seed(seed: &Secret, i: u32) -> Secret
-    ensures { result ≡ seal_seed seed.now i }
-{
-    let mut out = [0; 32];
-    expand_with_label(seed, "seed seal", &i.to_be_bytes(), &mut out).unwrap();
-    out
-}
 
 /// The low 32 bits of a number.
 fn low_bits(n: usize) -> u32
@@ -150,10 +139,8 @@ impl Sealer<'_> {
             }
             let key = place.key_beside(self.tree, *node);
             let rnd = seal_seed(self.seed, number);
-            match seal_to::<S>(alloc, self.context, secret, key, &rnd) {
-                Ok(ciphertext) => sealed.push(ciphertext)?,
-                Err(error) => return Err(error),
-            }
+            let ciphertext = seal_to::<S>(alloc, self.context, secret, key, &rnd)?;
+            sealed.push(ciphertext)?;
             number = number.wrapping_add(1);
         }
         Ok(sealed)
@@ -180,10 +167,7 @@ impl Sealer<'_> {
         let Some(pair) = self.path.pairs.get(count) else {
             return Err(TreeKemError::BadKey);
         };
-        let ciphertexts = match self.seal_all::<S>(alloc, place, reached, secret, first) {
-            Ok(ciphertexts) => ciphertexts,
-            Err(error) => return Err(error),
-        };
+        let ciphertexts = self.seal_all::<S>(alloc, place, reached, secret, first)?;
         let key = Vec::from_slice(alloc, &pair.pk)?;
         Ok(UpdatePathNode {
             encryption_key: Bytes::from_vec(key),
@@ -207,10 +191,7 @@ impl Sealer<'_> {
         let Some((place, below)) = places.split_first() else {
             return Ok(Vec::new(alloc));
         };
-        let mut nodes = match self.seal_places::<S>(alloc, below) {
-            Ok(nodes) => nodes,
-            Err(error) => return Err(error),
-        };
+        let mut nodes = self.seal_places::<S>(alloc, below)?;
         let resolution = self.tree.resolution(place.beside)?;
         let reached = resolution.as_slice();
         if reached.is_empty() {
@@ -218,10 +199,7 @@ impl Sealer<'_> {
         }
         let count = nodes.as_slice().len();
         let first = seals_in(&nodes);
-        let node = match self.seal_node::<S>(alloc, place, reached, count, first) {
-            Ok(node) => node,
-            Err(error) => return Err(error),
-        };
+        let node = self.seal_node::<S>(alloc, place, reached, count, first)?;
         nodes.push(node)?;
         Ok(nodes)
     }
@@ -256,8 +234,5 @@ pub fn seal_path<S: Suite>(
         context,
         seed,
     };
-    match sealer.seal_places::<S>(alloc, &places) {
-        Ok(nodes) => Ok(nodes),
-        Err(error) => Err(error),
-    }
+    sealer.seal_places::<S>(alloc, &places)
 }

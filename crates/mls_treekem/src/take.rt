@@ -84,15 +84,11 @@ fn climb_along<S: Suite>(
         return Err(TreeKemError::PathKeyMismatch);
     };
     if place.is_beside(joiner) {
-        return match start(alloc, tree, place, lower.len(), secret) {
-            Ok(climb) => past_parent::<S>(tree, place, joiner, climb),
-            Err(error) => Err(error),
-        };
+        let climb = start(alloc, tree, place, lower.len(), secret)?;
+        return past_parent::<S>(tree, place, joiner, climb);
     }
-    match climb_along::<S>(alloc, tree, lower, joiner, secret) {
-        Ok(climb) => past_parent::<S>(tree, place, joiner, climb),
-        Err(error) => Err(error),
-    }
+    let climb = climb_along::<S>(alloc, tree, lower, joiner, secret)?;
+    past_parent::<S>(tree, place, joiner, climb)
 }
 
 /// Whether a parent is blank, lists the joiner, or has a key.
@@ -136,10 +132,7 @@ impl PrivatePath {
         let joiner = self.leaf();
         let signers = parents_over(alloc, tree, signer)?;
         let joiners = parents_over(alloc, tree, joiner)?;
-        let climb = match climb_along::<S>(alloc, tree, &signers, joiner, secret) {
-            Ok(climb) => climb,
-            Err(error) => return Err(error),
-        };
+        let climb = climb_along::<S>(alloc, tree, &signers, joiner, secret)?;
         if !is_complete(tree, &joiners, joiner, &climb.above) {
             return Err(TreeKemError::KeyMissing);
         }
