@@ -91,7 +91,7 @@ refused_commit : (c : Crypto) (m : Member) (bytes : List ℕ) (n : ℕ) (v : Pub
     if has (removed used) m.keys.leaf then Ok (Removed, left m) else (climbed c m (sender_leaf v.content.sender) change (keys_for m commit change) commit.path >>= λ climb. entered m change climb tag))) ≡ Err n → Refuses c m bytes n
 refused_commit c m bytes n v commit tag p false f r e h = last_epoch v commit tag p f cc
 refused_commit c m bytes n v commit tag p true f (Ok used) e h = refused_body c m bytes n v commit tag used p (record { below = f; uses = e }) _ refl h
-refused_commit c m bytes n v commit tag p true f (Err k) e h = let same : k ≡ n = cc in unknown v commit tag p (e ∙ ap (λ (i : ℕ). Err i) same)
+refused_commit c m bytes n v commit tag p true f (Err k) e h = let same : k ≡ n = cc in unknown v commit tag p f (e ∙ ap (λ (i : ℕ). Err i) same)
 
 refused_proposal : (c : Crypto) (m : Member) (bytes : List ℕ) (n : ℕ) (v : PublicMessage) (said : Proposal) → IsProposal c m bytes v said → (b : Bool) → is_some (kept_under m.kept (reference_of v.content)) ≡ b → (x y : Effect × Member) (r : Result Passed ℕ) →
     proposal_checks c m.public (sender_leaf v.content.sender) said ≡ r → (if b then Ok x else (r >> Ok y)) ≡ Err n → Refuses c m bytes n

@@ -70,9 +70,12 @@ pub data Takes (c : Crypto) (m : Member) (bytes : List ℕ) (x : Effect × Membe
   follows : (v : PublicMessage) (commit : Commit) (tag : List ℕ) (used : List Used) (change : Change) → IsCommit c m bytes v commit tag → IsChanging c m v.content commit used change →
       HasFollowed c m v.content commit tag used change x → Takes c m bytes x
 
--- a verdict that takes bytes does so in one of these ways
+-- a verdict takes bytes just where one of these ways is there, with what that way says
 abbrev pub TakenSo : Type 0
 TakenSo = (c : Crypto) (m : Member) (bytes : List ℕ) (x : Effect × Member) → verdict c m bytes ≡ Ok x → Takes c m bytes x
+
+abbrev pub SoTaken : Type 0
+SoTaken = (c : Crypto) (m : Member) (bytes : List ℕ) (x : Effect × Member) → Takes c m bytes x → verdict c m bytes ≡ Ok x
 
 -- ---- the ten in which they are refused
 
@@ -90,7 +93,8 @@ pub data Refuses (c : Crypto) (m : Member) (bytes : List ℕ) (n : ℕ) : Type 0
   -- there is no epoch after this
   last_epoch : (v : PublicMessage) (commit : Commit) (tag : List ℕ) → IsCommit c m bytes v commit tag → nat_lt m.public.context.epoch (2 ^ 64 - 1) ≡ false → n ≡ 66 → Refuses c m bytes n
   -- a proposal isn't kept
-  unknown : (v : PublicMessage) (commit : Commit) (tag : List ℕ) → IsCommit c m bytes v commit tag → used_by m.kept (sender_leaf v.content.sender) commit.proposals ≡ Err n → Refuses c m bytes n
+  unknown : (v : PublicMessage) (commit : Commit) (tag : List ℕ) → IsCommit c m bytes v commit tag → nat_lt m.public.context.epoch (2 ^ 64 - 1) ≡ true →
+      used_by m.kept (sender_leaf v.content.sender) commit.proposals ≡ Err n → Refuses c m bytes n
   -- what is public fails its checks
   unsound : (v : PublicMessage) (commit : Commit) (tag : List ℕ) (used : List Used) → IsCommit c m bytes v commit tag → IsUsing m v.content commit used →
       body c m.public (sender_leaf v.content.sender) used commit (framed v.content) v.content.signature ≡ Err n → Refuses c m bytes n
@@ -102,6 +106,9 @@ pub data Refuses (c : Crypto) (m : Member) (bytes : List ℕ) (n : ℕ) : Type 0
       has (removed used) m.keys.leaf ≡ false → climbed c m (sender_leaf v.content.sender) change (keys_for m commit change) commit.path ≡ Ok climb →
       bytes_eq tag (confirmation_tag (reached_epoch m change climb) change.context.confirmed_transcript_hash) ≡ false → n ≡ 65 → Refuses c m bytes n
 
--- a verdict that refuses bytes does so in one of these
+-- a verdict refuses bytes just where one of these is there, with its number
 abbrev pub RefusedSo : Type 0
 RefusedSo = (c : Crypto) (m : Member) (bytes : List ℕ) (n : ℕ) → verdict c m bytes ≡ Err n → Refuses c m bytes n
+
+abbrev pub SoRefused : Type 0
+SoRefused = (c : Crypto) (m : Member) (bytes : List ℕ) (n : ℕ) → Refuses c m bytes n → verdict c m bytes ≡ Err n

@@ -1,4 +1,4 @@
-use Rattle.mls_model.proofs.laws.laws_of_runs.Goals as goal
+use Rattle.mls_model.proofs.laws_of_runs.Goals as goal
 use Rattle.mls_model.specs.RunLaws.{run_in_parts, replies_in_parts, one_reply_each, refused_leave, answered_step}
 
 pub returns : goal.returns
