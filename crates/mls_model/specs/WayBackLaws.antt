@@ -1,5 +1,5 @@
 -- Each of the ways that are listed leads to its verdict.
-use Rattle.std.proofs.Common.{◌≡◌, ℕ, ◌^◌, ◌-◌, nat_lt, Bool, true, false, not, List, Option, Some, None, is_some, Result, Ok, Err, refl, ap, sym, ◌∙◌}
+use Rattle.std.proofs.Common.{◌≡◌, ℕ, true, false, not, List, Option, Some, Result, Ok, Err, refl, ap, sym, ◌∙◌}
 use Rattle.std.specs.Str.{bytes_eq}
 use Rattle.mls_leaf.specs.declared.proposal.Proposal.{Proposal}
 use Rattle.mls_types.specs.declared.commit.Commit.{Commit}
@@ -11,7 +11,7 @@ use Rattle.mls_model.specs.Member.{Pending, Member}
 use Rattle.mls_model.specs.Verdict.{proposal_verdict, entered, commit_verdict, content_verdict, received, own_pending, verdict}
 use Rattle.mls_model.specs.Found.{DidPending, reached_epoch}
 use Rattle.mls_model.specs.Receipts.{framing_passes}
-use Rattle.mls_model.specs.Ways.{IsOther, IsTaken, IsProposal, IsCommit, Taking, Taking.follows_own, Taking.knows, Taking.keeps, Taking.leaves, Taking.follows, SoTaken, Refusing, Refusing.gone, Refusing.unread, Refusing.no_public, Refusing.unframed, Refusing.unfit, Refusing.last_epoch, Refusing.unknown, Refusing.unsound, Refusing.closed, Refusing.untagged, SoRefused}
+use Rattle.mls_model.specs.Ways.{IsOther, IsTaken, IsProposal, IsCommit, Taking.follows_own, Taking.knows, Taking.keeps, Taking.leaves, Taking.follows, SoTaken, Refusing.gone, Refusing.unread, Refusing.no_public, Refusing.unframed, Refusing.unfit, Refusing.last_epoch, Refusing.unknown, Refusing.unsound, Refusing.closed, Refusing.untagged, SoRefused}
 
 -- ---- down to the content
 
