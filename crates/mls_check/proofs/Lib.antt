@@ -1,5 +1,4 @@
 mod Cells
-mod CheckNames
 mod GoodTrees
 mod Orders
 mod SentTrees

@@ -1,5 +1,6 @@
 -- What a joiner takes from a path secret.
 use Rattle.std.specs.Prelude.{◌≡◌, ℕ, nat_lt, not, ◌&&◌, ◌||◌, if◌then◌else◌, Bool, true, false, List, [], ◌∷◌, Option, Some, None, is_some, Result, Ok, Err}
+use Rattle.std.specs.List.{slice_get}
 use Rattle.std.specs.Str.{bytes_eq}
 use Rattle.mls_wire.specs.Reading.{◌>>=◌}
 use Rattle.mls_leaf.specs.Parent.{Parent}
@@ -9,7 +10,7 @@ use Rattle.mls_term.specs.Term.{Term, width}
 use Rattle.mls_term.specs.Way.{Step, way, is_beside}
 use Rattle.mls_paths.specs.Chain.{next_secret, node_key, node_public}
 use Rattle.mls_paths.specs.Keys.{Keys, rest, leaf_only, PrivateKeys, all_keys}
-use Rattle.mls_paths.specs.Make.{Climb, secret_above}
+use Rattle.mls_paths.specs.Make.{Climb, filtered_count, secret_above}
 use Rattle.mls_paths.specs.Follow.{on_way}
 
 -- past a parent: a blank one takes no step, another one doesn't list the joiner and has the derived public key, else 34
@@ -70,6 +71,11 @@ AllList j (s ∷ ss) = ListsAt j s.parent × AllList j ss
 unfoldable pub secret_for : List Step → ℕ → List ℕ → List ℕ
 secret_for [] j start = start
 secret_for (s ∷ ss) j start = if is_beside s j then secret_above ss start else secret_for ss j start
+
+-- among a path's secrets, the lowest node's first: that of the parent where a way and j's part, where there is one
+unfoldable pub secret_among : List Step → ℕ → List (List ℕ) → Option (List ℕ)
+secret_among [] j secrets = None
+secret_among (s ∷ ss) j secrets = if is_beside s j then slice_get secrets (filtered_count ss) else secret_among ss j secrets
 
 -- ---- the keys that are due
 

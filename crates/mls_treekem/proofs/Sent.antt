@@ -26,20 +26,18 @@ use Rattle.mls_treekem.specs.declared.error.TreeKemError.{TreeKemError}
 use Rattle.mls_treekem.specs.declared.error.TreeKemError.TheVariants as error
 use Rattle.mls_treekem.specs.Faults.{number_of, IsMemoryOrKey}
 use Rattle.mls_paths.specs.Chain.{chain, path_secrets, node_key, node_public}
-use Rattle.mls_treekem.specs.Secrets.{AreOfChain}
+use Rattle.mls_treekem.specs.Secrets.{AreOfChain, public_keys}
+use Rattle.mls_treekem.specs.Sealing.{sealed_along}
 use Rattle.mls_paths.specs.Make.{one_if, filtered_count, secret_above}
-use Rattle.mls_paths.specs.Seal.{targets, seal_count, ciphertext_of, seal_secret, seal_to, cons_both, seal_all, with_ciphertexts, path_past, seal_along, sealed_path}
+use Rattle.mls_paths.specs.Seal.{targets, seal_count, ciphertext_of, seal_secret, seal_to, cons_both, seal_all, with_ciphertexts, path_past, node_with, seal_with, sealed_path, sealed_with}
 use Rattle.mls_paths.specs.Seeds.{seal_seed, seals_in}
 use Rattle.mls_treekem.specs.Place.{subtree_at, step_of, IsPlaced, ArePlaced, IsWay}
 use Rattle.mls_treekem.specs.declared.places.Place.{Place}
 use Rattle.mls_treekem.specs.declared.secrets.PathSecrets.{PathSecrets}
-use Rattle.mls_paths.specs.MakeLaws.{count_is_length}
+use Rattle.mls_paths.specs.SeedLaws.{seed_low}
+use Rattle.mls_paths.specs.SecretLaws.{sealed_of_chain}
 
 -- ---- seals by the low bits of their number
-
-seed_low : (seed : List ℕ) (i j : ℕ) → i % 2 ^ 32 ≡ j % 2 ^ 32 → seal_seed seed i ≡ seal_seed seed j
-unfolding seal_seed uint
-seed_low seed i j e = ap (λ bytes. expand_with_label seed (codes "seed seal") bytes 32) (low_bytes i j e)
 
 module _ (c : Crypto) (context secret : List ℕ) (b : ℕ) (t : Term) (seed : List ℕ) where
   pub sealed_low : (i j : ℕ) (ds : List ℕ) → i % 2 ^ 32 ≡ j % 2 ^ 32 → seal_all c context secret b t (seal_seed seed) i ds ≡ seal_all c context secret b t (seal_seed seed) j ds
@@ -148,66 +146,6 @@ module _ (c : Crypto) (context secret : List ℕ) (b : ℕ) (t : Term) (seed us 
         inv ∙ ap (λ ds. onto ys (seal_all c context secret b t (seal_seed seed) i (less (leaf_numbers us) ds))) (drop_all k xs ge)
         ∙ ap Some (append-nil ys)
 
--- ---- the secrets of a path
-
-length-secrets : (start : List ℕ) (n : ℕ) → length (path_secrets start n) ≡ n
-unfolding path_secrets
-length-secrets start zero = refl
-length-secrets start (suc n) =
-    let e = length-secrets start n in
-    length-append (path_secrets start n) (chain start n ∷ []) ∙ (let z : length (path_secrets start n) + 1 ≡ suc n = omega arith in z)
-
-secret_or : (start : List ℕ) (n k : ℕ) → k < n → get_or (path_secrets start n) k [] ≡ chain start k
-unfolding path_secrets
-secret_or start zero k lt = absurd (omega arith)
-secret_or start (suc n) k lt = elim (cases_lt k n) [
-  | inl l ↦ get_or_append_left (path_secrets start n) (chain start n ∷ []) [] k (omega (arith, length-secrets start n)) ∙ secret_or start n k l
-  | inr g ↦
-      let same : k ≡ n = omega arith in
-      get_or_at (path_secrets start n) (chain start n) [] [] k (length-secrets start n ∙ sym same) ∙ ap (chain start) (sym same)
-]
-
-module _ (c : Crypto) (start : List ℕ) (n : ℕ) (path : PathSecrets) (made : AreOfChain c start n path) (k : ℕ) (lt : k < n) where
-  length-made : length path.secrets.items ≡ n
-  length-made = ap length made.secrets ∙ length-secrets start n
-
-  length-pairs : length path.pairs.items ≡ n
-  length-pairs =
-      sym (length-map path.pairs.items (λ p. p.sk)) ∙ ap length made.pairs.private ∙ length-map (path_secrets start n) (node_key c) ∙ length-secrets start n
-
-  pub few_secrets : (xs : List (List ℕ)) → xs ≡ path.secrets.items → length xs ≤ k → ⊥
-  few_secrets xs is low = omega (arith, ap length is, length-made)
-
-  pub few_pairs : (ps : List KeyPair) → ps ≡ path.pairs.items → length ps ≤ k → ⊥
-  few_pairs ps is low = omega (arith, ap length is, length-pairs)
-
-  pub secret_is : (xs : List (List ℕ)) → xs ≡ path.secrets.items → (s : List ℕ) → s ≡ get_or xs k [] → s ≡ chain start k
-  secret_is xs is s e = e ∙ ap (λ ys. get_or ys k []) (is ∙ made.secrets) ∙ secret_or start n k lt
-
-  pub public_is : (ps : List KeyPair) → ps ≡ path.pairs.items → (p : KeyPair) → p ≡ get_or ps k p → p.pk.items ≡ node_public c (chain start k)
-  public_is ps is p e =
-      let read : slice_get path.pairs.items k ≡ Some p = slice_get_read path.pairs.items n k p (sym length-pairs) lt (e ∙ ap (λ qs. get_or qs k p) is) in
-      some_is p.pk.items (node_public c (chain start k))
-      (sym (ap (option_map (λ p. p.pk.items)) read)
-      ∙ sym (slice_get-map (λ p. p.pk.items) path.pairs.items k)
-      ∙ ap (λ xs. slice_get xs k) made.pairs.public
-      ∙ slice_get-map (node_public c) (path_secrets start n) k
-      ∙ ap (option_map (node_public c)) (slice_get-get_or (path_secrets start n) k [] (omega (arith, length-secrets start n)) ∙ ap Some (secret_or start n k lt)))
-    where
-      some_is : (x y : List ℕ) → Some x ≡ Some y → x ≡ y
-      some_is x y e = cc
-
--- ---- one node
-
-module _ (k : List ℕ) (o : Option (List HpkeCiphertext)) where
-  pub node_made : (xs : List HpkeCiphertext) → given 36 o ≡ Ok xs → (key : List ℕ) → key ≡ k → (ys : List HpkeCiphertext) → ys ≡ xs → given 36 (with_ciphertexts k o) ≡ Ok (record { encryption_key = key; ciphertexts = ys })
-  node_made xs e key key_is ys ys_is =
-      ap (λ z. given 36 (with_ciphertexts k z)) (given_some o xs e)
-      ∙ ap₂ (λ k xs. Ok (let n : UpdatePathNode = record { encryption_key = k; ciphertexts = xs } in n)) (sym key_is) (sym ys_is)
-
-  pub node_refused : (n : ℕ) → given 36 o ≡ Err n → given 36 (with_ciphertexts k o) ≡ Err n
-  node_refused n e = none_given o (with_ciphertexts k o) n e (λ none. ap (with_ciphertexts k) none)
-
 -- ---- whether a node is one of some leaves, from place k on
 
 module _ (xs : List ℕ) (k n : ℕ) where
@@ -249,13 +187,15 @@ module _ (xs : List UpdatePathNode) (k : ℕ) where
 -- ---- the nodes along a way
 
 -- the node of a parent that the filtered direct path takes in
-abbrev pub node_for : Crypto → List ℕ → List ℕ → List ℕ → Step → List Step → List ℕ → Option UpdatePathNode
-node_for c context added seed s ss start =
-    with_ciphertexts (node_public c (secret_above ss start)) (seal_all c context (secret_above ss start) s.first s.other (seal_seed seed) (seal_count added ss) (targets added s))
+abbrev pub node_for : Crypto → List ℕ → List ℕ → List ℕ → Step → List Step → List (List ℕ) → List (List ℕ) → Option UpdatePathNode
+node_for c context added seed s ss secrets keys =
+    node_with c context s.first s.other (seal_seed seed) (seal_count added ss) (targets added s) (slice_get secrets (filtered_count ss)) (slice_get keys (filtered_count ss))
 
--- what code answers along a way
-abbrev pub along : Crypto → List ℕ → List ℕ → List ℕ → List Step → List ℕ → Result (List UpdatePathNode) ℕ
-along c context added seed ss start = given 36 (option_map reverse (seal_along c context added (seal_seed seed) ss start))
+-- seals are the same by the low bits of their number
+node_low : (c : Crypto) (context : List ℕ) (b : ℕ) (t : Term) (seed : List ℕ) (i j : ℕ) (ds : List ℕ) (o k : Option (List ℕ)) → i % 2 ^ 32 ≡ j % 2 ^ 32 → node_with c context b t (seal_seed seed) i ds o k ≡ node_with c context b t (seal_seed seed) j ds o k
+node_low c context b t seed i j ds (Some secret) (Some k) e = ap (with_ciphertexts k) (sealed_low c context secret b t seed i j ds e)
+node_low c context b t seed i j ds (Some secret) None e = refl
+node_low c context b t seed i j ds None k e = refl
 
 past_none : (b : Bool) (o : Option UpdatePathNode) → path_past b o None ≡ None
 past_none true (Some x) = refl
@@ -274,42 +214,41 @@ pushed (Some y) (Some ys) x ns e f =
 pushed (Some y) None x ns e f = cc
 pushed None os x ns e f = cc
 
-module _ (c : Crypto) (context added seed : List ℕ) (s : Step) (ss : List Step) (start : List ℕ) where
-  step_is : (b : Bool) → is_filtered s ≡ b → seal_along c context added (seal_seed seed) (s ∷ ss) start ≡ path_past b (node_for c context added seed s ss start) (seal_along c context added (seal_seed seed) ss start)
-  unfolding seal_along
-  step_is b e = ap (λ z. path_past z (node_for c context added seed s ss start) (seal_along c context added (seal_seed seed) ss start)) e
+module _ (c : Crypto) (context added seed : List ℕ) (s : Step) (ss : List Step) (secrets keys : List (List ℕ)) where
+  step_is : (b : Bool) → is_filtered s ≡ b → seal_with c context added (seal_seed seed) secrets keys (s ∷ ss) ≡ path_past b (node_for c context added seed s ss secrets keys) (seal_with c context added (seal_seed seed) secrets keys ss)
+  unfolding seal_with
+  step_is b e = ap (λ z. path_past z (node_for c context added seed s ss secrets keys) (seal_with c context added (seal_seed seed) secrets keys ss)) e
 
-  pub along_out : is_filtered s ≡ false → (ns : List UpdatePathNode) → along c context added seed ss start ≡ Ok ns → along c context added seed (s ∷ ss) start ≡ Ok ns
+  pub along_out : is_filtered s ≡ false → (ns : List UpdatePathNode) → sealed_along c context added seed secrets keys ss ≡ Ok ns → sealed_along c context added seed secrets keys (s ∷ ss) ≡ Ok ns
   along_out e ns h = ap (λ o. given 36 (option_map reverse o)) (step_is false e) ∙ h
 
-  pub along_in : is_filtered s ≡ true → (x : UpdatePathNode) (ns zs : List UpdatePathNode) → given 36 (node_for c context added seed s ss start) ≡ Ok x → along c context added seed ss start ≡ Ok ns → zs ≡ ns ++ (x ∷ []) → along c context added seed (s ∷ ss) start ≡ Ok zs
+  pub along_in : is_filtered s ≡ true → (x : UpdatePathNode) (ns zs : List UpdatePathNode) → given 36 (node_for c context added seed s ss secrets keys) ≡ Ok x → sealed_along c context added seed secrets keys ss ≡ Ok ns → zs ≡ ns ++ (x ∷ []) → sealed_along c context added seed secrets keys (s ∷ ss) ≡ Ok zs
   along_in e x ns zs here below more =
       ap (given 36)
       (ap (option_map reverse) (step_is true e)
-      ∙ pushed (node_for c context added seed s ss start) (seal_along c context added (seal_seed seed) ss start) x ns (given_some _ x here) (given_some _ ns below))
+      ∙ pushed (node_for c context added seed s ss secrets keys) (seal_with c context added (seal_seed seed) secrets keys ss) x ns (given_some _ x here) (given_some _ ns below))
       ∙ ap Ok (sym more)
 
-  pub refused_below : (n : ℕ) → along c context added seed ss start ≡ Err n → along c context added seed (s ∷ ss) start ≡ Err n
+  pub refused_below : (n : ℕ) → sealed_along c context added seed secrets keys ss ≡ Err n → sealed_along c context added seed secrets keys (s ∷ ss) ≡ Err n
   refused_below n h =
-      none_given (option_map reverse (seal_along c context added (seal_seed seed) ss start)) (option_map reverse (seal_along c context added (seal_seed seed) (s ∷ ss) start)) n h
+      none_given (option_map reverse (seal_with c context added (seal_seed seed) secrets keys ss)) (option_map reverse (seal_with c context added (seal_seed seed) secrets keys (s ∷ ss))) n h
       (λ none.
       ap (option_map reverse)
       (step_is (is_filtered s) refl
-      ∙ ap (path_past (is_filtered s) (node_for c context added seed s ss start)) (reversed_none _ none)
-      ∙ past_none (is_filtered s) (node_for c context added seed s ss start)))
+      ∙ ap (path_past (is_filtered s) (node_for c context added seed s ss secrets keys)) (reversed_none _ none)
+      ∙ past_none (is_filtered s) (node_for c context added seed s ss secrets keys)))
 
-  pub refused_here : is_filtered s ≡ true → (n : ℕ) → given 36 (node_for c context added seed s ss start) ≡ Err n → along c context added seed (s ∷ ss) start ≡ Err n
+  pub refused_here : is_filtered s ≡ true → (n : ℕ) → given 36 (node_for c context added seed s ss secrets keys) ≡ Err n → sealed_along c context added seed secrets keys (s ∷ ss) ≡ Err n
   refused_here e n h =
-      none_given (node_for c context added seed s ss start) (option_map reverse (seal_along c context added (seal_seed seed) (s ∷ ss) start)) n h
-      (λ none. ap (option_map reverse) (step_is true e ∙ ap (λ o. cons_both o (seal_along c context added (seal_seed seed) ss start)) none))
+      none_given (node_for c context added seed s ss secrets keys) (option_map reverse (seal_with c context added (seal_seed seed) secrets keys (s ∷ ss))) n h
+      (λ none. ap (option_map reverse) (step_is true e ∙ ap (λ o. cons_both o (seal_with c context added (seal_seed seed) secrets keys ss)) none))
 
   -- the node that code makes
-  pub node_same : (k i : ℕ) (reached : List ℕ) → k ≡ filtered_count ss → i ≡ seal_count added ss % 2 ^ 32 → reached ≡ resolution s.first s.other → with_ciphertexts (node_public c (chain start k)) (seal_all c context (chain start k) s.first s.other (seal_seed seed) i (less (leaf_numbers added) reached)) ≡ node_for c context added seed s ss start
+  pub node_same : (k i : ℕ) (reached : List ℕ) → k ≡ filtered_count ss → i ≡ seal_count added ss % 2 ^ 32 → reached ≡ resolution s.first s.other → node_with c context s.first s.other (seal_seed seed) i (less (leaf_numbers added) reached) (slice_get secrets k) (slice_get keys k) ≡ node_for c context added seed s ss secrets keys
   unfolding targets
   node_same k i reached e f g =
-      ap₂ (λ k xs. with_ciphertexts (node_public c (chain start k)) (seal_all c context (chain start k) s.first s.other (seal_seed seed) i (less (leaf_numbers added) xs))) e g
-      ∙ ap (with_ciphertexts (node_public c (chain start (filtered_count ss))))
-      (sealed_low c context (chain start (filtered_count ss)) s.first s.other seed i (seal_count added ss) (less (leaf_numbers added) (resolution s.first s.other)) (omega (arith, f)))
+      ap₂ (λ k xs. node_with c context s.first s.other (seal_seed seed) i (less (leaf_numbers added) xs) (slice_get secrets k) (slice_get keys k)) e g
+      ∙ node_low c context s.first s.other seed i (seal_count added ss) (less (leaf_numbers added) (resolution s.first s.other)) (slice_get secrets (filtered_count ss)) (slice_get keys (filtered_count ss)) (omega (arith, f))
 
 module _ (added : List ℕ) (s : Step) (ss : List Step) where
   count_out : is_filtered s ≡ false → filtered_count (s ∷ ss) ≡ filtered_count ss
@@ -319,14 +258,6 @@ module _ (added : List ℕ) (s : Step) (ss : List Step) where
   count_in : is_filtered s ≡ true → filtered_count (s ∷ ss) ≡ suc (filtered_count ss)
   unfolding filtered_count
   count_in e = ap (λ b. one_if b (filtered_count ss)) e
-
-  count_least : filtered_count ss ≤ filtered_count (s ∷ ss)
-  unfolding filtered_count
-  count_least = by_test (is_filtered s)
-    where
-      by_test : (b : Bool) → filtered_count ss ≤ one_if b (filtered_count ss)
-      by_test true = omega arith
-      by_test false = omega arith
 
   numbers_out : is_filtered s ≡ false → seal_count added (s ∷ ss) ≡ seal_count added ss
   unfolding seal_count
@@ -339,9 +270,9 @@ module _ (added : List ℕ) (s : Step) (ss : List Step) where
 -- ---- the places of a way
 
 module _ (t : Term) (all : List Place) (none : all ≡ []) where
-  pub along_none : (c : Crypto) (context added seed start : List ℕ) (ns : List UpdatePathNode) → ns ≡ [] → along c context added seed (map (step_of t) all) start ≡ Ok ns
-  unfolding seal_along
-  along_none c context added seed start ns e = ap (λ ps. along c context added seed (map (step_of t) ps) start) none ∙ ap Ok (sym e)
+  pub along_none : (c : Crypto) (context added seed : List ℕ) (secrets keys : List (List ℕ)) (ns : List UpdatePathNode) → ns ≡ [] → sealed_along c context added seed secrets keys (map (step_of t) all) ≡ Ok ns
+  unfolding seal_with
+  along_none c context added seed secrets keys ns e = ap (λ ps. sealed_along c context added seed secrets keys (map (step_of t) ps)) none ∙ ap Ok (sym e)
 
   pub count_none : (ns : List UpdatePathNode) → ns ≡ [] → length ns ≡ filtered_count (map (step_of t) all)
   unfolding filtered_count
@@ -364,9 +295,6 @@ module _ (t : Term) (p : Place) (ps all : List Place) (whole : all ≡ p ∷ ps)
   unfolding ArePlaced
   placed_below at = let both : ArePlaced t (p ∷ ps) = subst (ArePlaced t) whole at in both.1
 
-  pub least_below : (n : ℕ) → filtered_count (map (step_of t) all) ≤ n → filtered_count (map (step_of t) ps) ≤ n
-  least_below n le = let l = count_least [] (step_of t p) (map (step_of t) ps) in omega (arith, ap (λ qs. filtered_count (map (step_of t) qs)) whole)
-
   module _ (at : ArePlaced t all) (reached : List ℕ) (reached_is : reached ≡ resolution_at 0 t p.beside) where
     resolved : reached ≡ resolution (step_of t p).first (step_of t p).other
     unfolding step_of
@@ -380,9 +308,9 @@ module _ (t : Term) (p : Place) (ps all : List Place) (whole : all ≡ p ∷ ps)
       left_out : is_filtered (step_of t p) ≡ false
       left_out = filtered_is b b_is ∙ ap not out
 
-      pub along_same : (c : Crypto) (context added seed start : List ℕ) (ns : List UpdatePathNode) → along c context added seed (map (step_of t) ps) start ≡ Ok ns → along c context added seed (map (step_of t) all) start ≡ Ok ns
-      along_same c context added seed start ns h =
-          ap (λ qs. along c context added seed (map (step_of t) qs) start) whole ∙ along_out c context added seed (step_of t p) (map (step_of t) ps) start left_out ns h
+      pub along_same : (c : Crypto) (context added seed : List ℕ) (secrets keys : List (List ℕ)) (ns : List UpdatePathNode) → sealed_along c context added seed secrets keys (map (step_of t) ps) ≡ Ok ns → sealed_along c context added seed secrets keys (map (step_of t) all) ≡ Ok ns
+      along_same c context added seed secrets keys ns h =
+          ap (λ qs. sealed_along c context added seed secrets keys (map (step_of t) qs)) whole ∙ along_out c context added seed (step_of t p) (map (step_of t) ps) secrets keys left_out ns h
 
       pub count_same : (n : ℕ) → n ≡ filtered_count (map (step_of t) ps) → n ≡ filtered_count (map (step_of t) all)
       count_same n h = h ∙ sym (ap (λ qs. filtered_count (map (step_of t) qs)) whole ∙ count_out [] (step_of t p) (map (step_of t) ps) left_out)
@@ -407,29 +335,29 @@ module _ (t : Term) (p : Place) (ps all : List Place) (whole : all ≡ p ∷ ps)
           let sum : seals_in zs ≡ seals_in ns + length x.ciphertexts = ap seals_in pushed ∙ seals_pushed ns x in
           omega arith
 
-      module _ (c : Crypto) (context added seed start : List ℕ) (k i : ℕ) (k_is : k ≡ filtered_count (map (step_of t) ps)) (i_is : i ≡ seal_count added (map (step_of t) ps) % 2 ^ 32) (xs : List ℕ) (xs_is : xs ≡ reached) where
+      module _ (c : Crypto) (context added seed : List ℕ) (secrets keys : List (List ℕ)) (k i : ℕ) (k_is : k ≡ filtered_count (map (step_of t) ps)) (i_is : i ≡ seal_count added (map (step_of t) ps) % 2 ^ 32) (xs : List ℕ) (xs_is : xs ≡ reached) where
         here : Option UpdatePathNode
-        here = with_ciphertexts (node_public c (chain start k)) (seal_all c context (chain start k) p.first (subtree_at t p.beside) (seal_seed seed) i (less (leaf_numbers added) xs))
+        here = node_with c context p.first (subtree_at t p.beside) (seal_seed seed) i (less (leaf_numbers added) xs) (slice_get secrets k) (slice_get keys k)
 
-        here_is : here ≡ node_for c context added seed (step_of t p) (map (step_of t) ps) start
+        here_is : here ≡ node_for c context added seed (step_of t p) (map (step_of t) ps) secrets keys
         unfolding here step_of
-        here_is = node_same c context added seed (step_of t p) (map (step_of t) ps) start k i xs k_is i_is (xs_is ∙ resolved)
+        here_is = node_same c context added seed (step_of t p) (map (step_of t) ps) secrets keys k i xs k_is i_is (xs_is ∙ resolved)
 
-        pub along_more : (x : UpdatePathNode) (ns zs : List UpdatePathNode) → given 36 (with_ciphertexts (node_public c (chain start k)) (seal_all c context (chain start k) p.first (subtree_at t p.beside) (seal_seed seed) i (less (leaf_numbers added) xs))) ≡ Ok x → along c context added seed (map (step_of t) ps) start ≡ Ok ns → zs ≡ ns ++ (x ∷ []) → along c context added seed (map (step_of t) all) start ≡ Ok zs
+        pub along_more : (x : UpdatePathNode) (ns zs : List UpdatePathNode) → given 36 (node_with c context p.first (subtree_at t p.beside) (seal_seed seed) i (less (leaf_numbers added) xs) (slice_get secrets k) (slice_get keys k)) ≡ Ok x → sealed_along c context added seed secrets keys (map (step_of t) ps) ≡ Ok ns → zs ≡ ns ++ (x ∷ []) → sealed_along c context added seed secrets keys (map (step_of t) all) ≡ Ok zs
         unfolding here
         along_more x ns zs made below pushed =
-            ap (λ qs. along c context added seed (map (step_of t) qs) start) whole
-            ∙ along_in c context added seed (step_of t p) (map (step_of t) ps) start taken_in x ns zs (ap (given 36) (sym here_is) ∙ made) below pushed
+            ap (λ qs. sealed_along c context added seed secrets keys (map (step_of t) qs)) whole
+            ∙ along_in c context added seed (step_of t p) (map (step_of t) ps) secrets keys taken_in x ns zs (ap (given 36) (sym here_is) ∙ made) below pushed
 
-        pub along_fails : (n : ℕ) → given 36 (with_ciphertexts (node_public c (chain start k)) (seal_all c context (chain start k) p.first (subtree_at t p.beside) (seal_seed seed) i (less (leaf_numbers added) xs))) ≡ Err n → along c context added seed (map (step_of t) all) start ≡ Err n
+        pub along_fails : (n : ℕ) → given 36 (node_with c context p.first (subtree_at t p.beside) (seal_seed seed) i (less (leaf_numbers added) xs) (slice_get secrets k) (slice_get keys k)) ≡ Err n → sealed_along c context added seed secrets keys (map (step_of t) all) ≡ Err n
         unfolding here
         along_fails n fails =
-            ap (λ qs. along c context added seed (map (step_of t) qs) start) whole
-            ∙ refused_here c context added seed (step_of t p) (map (step_of t) ps) start taken_in n (ap (given 36) (sym here_is) ∙ fails)
+            ap (λ qs. sealed_along c context added seed secrets keys (map (step_of t) qs)) whole
+            ∙ refused_here c context added seed (step_of t p) (map (step_of t) ps) secrets keys taken_in n (ap (given 36) (sym here_is) ∙ fails)
 
-  pub below_fails : (c : Crypto) (context added seed start : List ℕ) (n : ℕ) → along c context added seed (map (step_of t) ps) start ≡ Err n → along c context added seed (map (step_of t) all) start ≡ Err n
-  below_fails c context added seed start n fails =
-      ap (λ qs. along c context added seed (map (step_of t) qs) start) whole ∙ refused_below c context added seed (step_of t p) (map (step_of t) ps) start n fails
+  pub below_fails : (c : Crypto) (context added seed : List ℕ) (secrets keys : List (List ℕ)) (n : ℕ) → sealed_along c context added seed secrets keys (map (step_of t) ps) ≡ Err n → sealed_along c context added seed secrets keys (map (step_of t) all) ≡ Err n
+  below_fails c context added seed secrets keys n fails =
+      ap (λ qs. sealed_along c context added seed secrets keys (map (step_of t) qs)) whole ∙ refused_below c context added seed (step_of t p) (map (step_of t) ps) secrets keys n fails
 
 -- ---- the whole way
 
@@ -437,12 +365,17 @@ module _ (t : Term) (i : ℕ) (ps qs : List Place) (w : IsWay t i ps) (same : qs
   steps_are : map (step_of t) qs ≡ way 0 t i
   steps_are = ap (map (step_of t)) same ∙ w.steps
 
-  pub all_filtered : filtered_count (map (step_of t) qs) ≤ path_length 0 t i
-  all_filtered = let e = count_is_length 0 t i in omega (arith, ap filtered_count steps_are)
-
-  pub whole_path : (c : Crypto) (context added seed start : List ℕ) (r : Result (List UpdatePathNode) ℕ) → along c context added seed (map (step_of t) qs) start ≡ r → sealed_path c context added (seal_seed seed) t i start ≡ r
-  unfolding sealed_path
-  whole_path c context added seed start r h = ap (λ ss. along c context added seed ss start) (sym steps_are) ∙ h
+  pub whole_path : (c : Crypto) (context added seed : List ℕ) (secrets keys : List (List ℕ)) (r : Result (List UpdatePathNode) ℕ) → sealed_along c context added seed secrets keys (map (step_of t) qs) ≡ r → sealed_with c context added (seal_seed seed) secrets keys t i ≡ r
+  unfolding sealed_with
+  whole_path c context added seed secrets keys r h = ap (sealed_along c context added seed secrets keys) (sym steps_are) ∙ h
 
   pub whole_seals : (added : List ℕ) (n : ℕ) → n ≡ seal_count added (map (step_of t) qs) → n ≡ seal_count added (way 0 t i)
   whole_seals added n h = h ∙ ap (seal_count added) steps_are
+
+-- ---- a path whose secrets are a chain's
+
+pub chain_path : (c : Crypto) (context added seed : List ℕ) (t : Term) (i : ℕ) (start : List ℕ) (path : PathSecrets) → AreOfChain c start (path_length 0 t i) path →
+    sealed_path c context added (seal_seed seed) t i start ≡ sealed_with c context added (seal_seed seed) path.secrets.items (public_keys path) t i
+chain_path c context added seed t i start path made =
+    sym (sealed_of_chain c context added (seal_seed seed) t i start (path_length 0 t i) (omega arith))
+    ∙ sym (ap₂ (λ xs ks. sealed_with c context added (seal_seed seed) xs ks t i) made.secrets made.pairs.public)

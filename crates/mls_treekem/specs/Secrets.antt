@@ -15,3 +15,7 @@ pub record AreOfChain (c : Crypto) (start : List ℕ) (n : ℕ) (made : PathSecr
   pub secrets : made.secrets.items ≡ path_secrets start n
   pub pairs : ArePairsOf c (path_secrets start n) made.pairs.items
   pub commit_secret : made.commit_secret ≡ chain start n
+
+-- the public keys of a path
+abbrev pub public_keys : PathSecrets → List (List ℕ)
+public_keys made = map (λ p. p.pk.items) made.pairs.items

@@ -1,19 +1,19 @@
 //! A commit's path, sealed to those who need it (RFC 9420, 7.5 and 7.6).
 
 ghost use Rattle.std.specs.Prelude.{◌≡◌, ℕ, ◌<◌, ◌≤◌, ◌^◌, ◌%◌, List, length, map, reverse, IfOk, IfErr};
-ghost use Rattle.std.specs.Option.{option_copied, option_map};
+ghost use Rattle.std.specs.Option.{option_copied};
 ghost use Rattle.mls_wire.specs.Checks.{given, Answers};
 ghost use Rattle.mls_term.specs.Sets.{has, leaf_numbers, less};
 ghost use Rattle.mls_term.specs.Places.{key_at};
 ghost use Rattle.mls_term.specs.Way.{way, path_length};
 ghost use Rattle.mls_tree.specs.Tree.{term};
 ghost use Rattle.mls_treekem.specs.Beside.{cell_key};
-ghost use Rattle.mls_paths.specs.Chain.{chain, node_public};
 ghost use Rattle.mls_treekem.specs.Faults.{number_of, IsMemoryOrKey};
-ghost use Rattle.mls_treekem.specs.Secrets.{AreOfChain};
+ghost use Rattle.mls_treekem.specs.Secrets.{AreOfChain, public_keys};
+ghost use Rattle.mls_treekem.specs.Sealing.{SealsNode, sealed_along};
 ghost use Rattle.mls_paths.specs.Make.{filtered_count};
 ghost use Rattle.mls_treekem.specs.Place.{subtree_at, step_of, IsPlaced, ArePlaced};
-ghost use Rattle.mls_paths.specs.Seal.{seal_to, seal_all, seal_along, seal_count, sealed_path, with_ciphertexts};
+ghost use Rattle.mls_paths.specs.Seal.{seal_to, seal_all, seal_count, sealed_path, sealed_with};
 ghost use Rattle.mls_paths.specs.Seeds.{seal_seed, seals_in};
 
 use crate::places::{Place, parents_over};
@@ -170,7 +170,7 @@ impl Sealer<'_> {
     ) -> Result<UpdatePathNode, TreeKemError>
         requires context { length self.now.context.now < 2 ^ 30 }
         requires placed { (h : ℕ) × IsPlaced (term self.now.tree.now) h place.now }
-        ensures answer { (start : List ℕ) (n : ℕ) → AreOfChain S.crypto start n self.now.path.now → count < n → Answers (λ x. x) number_of (given 36 (with_ciphertexts (node_public S.crypto (chain start count)) (seal_all S.crypto self.now.context.now (chain start count) place.now.first (subtree_at (term self.now.tree.now) place.now.beside) (seal_seed self.now.seed.now) first (less (leaf_numbers self.now.added.now) reached.now)))) result }
+        ensures answer { SealsNode S.crypto self.now.context.now self.now.added.now self.now.seed.now (term self.now.tree.now) place.now reached.now self.now.path.now count first result }
         ensures seals { IfOk result (λ x. length x.ciphertexts ≡ length (less (leaf_numbers self.now.added.now) reached.now)) }
         ensures refused { IfErr result IsMemoryOrKey }
     {
@@ -199,7 +199,7 @@ impl Sealer<'_> {
     ) -> Result<Vec<UpdatePathNode>, TreeKemError>
         requires context { length self.now.context.now < 2 ^ 30 }
         requires placed { ArePlaced (term self.now.tree.now) places.now }
-        ensures answer { (start : List ℕ) (n : ℕ) → AreOfChain S.crypto start n self.now.path.now → filtered_count (map (step_of (term self.now.tree.now)) places.now) ≤ n → Answers (λ v. v.items) number_of (given 36 (option_map reverse (seal_along S.crypto self.now.context.now self.now.added.now (seal_seed self.now.seed.now) (map (step_of (term self.now.tree.now)) places.now) start))) result }
+        ensures answer { Answers (λ v. v.items) number_of (sealed_along S.crypto self.now.context.now self.now.added.now self.now.seed.now self.now.path.now.secrets.items (public_keys self.now.path.now) (map (step_of (term self.now.tree.now)) places.now)) result }
         ensures count { IfOk result (λ v. length v.items ≡ filtered_count (map (step_of (term self.now.tree.now)) places.now)) }
         ensures seals { IfOk result (λ v. seals_in v.items ≡ seal_count self.now.added.now (map (step_of (term self.now.tree.now)) places.now)) }
         ensures refused { IfErr result IsMemoryOrKey }
@@ -229,10 +229,10 @@ impl Sealer<'_> {
 
 /// The nodes of the path that a committer sends, the lowest first: the public key of each node of its filtered direct
 /// path, and its path secret sealed to the resolution of its child on the copath, without the leaves just added
-/// (RFC 9420, 7.5 and 7.6). The tree is the one after the edits, before the path is merged or after; `path` has the
-/// secrets of as many nodes as the filtered direct path; the context is the group's, below 2^30 bytes; `seed` is the
-/// commit's. Refused with `BadKey` (36) exactly where a node that a secret is sealed to has no key, or one that isn't
-/// fit, and with no other number whatever `path` is.
+/// (RFC 9420, 7.5 and 7.6). The tree is the one after the edits, before the path is merged or after; `path` has a secret
+/// and a key pair for each node of the filtered direct path, the lowest first, and any more are left out; the context is
+/// the group's, below 2^30 bytes; `seed` is the commit's. Refused with `BadKey` (36) exactly where a node that a secret is
+/// sealed to has no key, or one that isn't fit, or `path` has too few secrets or key pairs.
 pub fn seal_path<S: Suite>(
     alloc: Global,
     tree: &PublicTree,
@@ -243,7 +243,8 @@ pub fn seal_path<S: Suite>(
     seed: &Secret,
 ) -> Result<Vec<UpdatePathNode>, TreeKemError>
     requires { length context.now < 2 ^ 30 }
-    ensures answer { (start : List ℕ) → AreOfChain S.crypto start (path_length 0 (term tree.now) committer) path.now → Answers (λ v. v.items) number_of (sealed_path S.crypto context.now added.now (seal_seed seed.now) (term tree.now) committer start) result }
+    ensures answer { Answers (λ v. v.items) number_of (sealed_with S.crypto context.now added.now (seal_seed seed.now) path.now.secrets.items (public_keys path.now) (term tree.now) committer) result }
+    ensures chain { (start : List ℕ) → AreOfChain S.crypto start (path_length 0 (term tree.now) committer) path.now → Answers (λ v. v.items) number_of (sealed_path S.crypto context.now added.now (seal_seed seed.now) (term tree.now) committer start) result }
     ensures seals { IfOk result (λ v. seals_in v.items ≡ seal_count added.now (way 0 (term tree.now) committer)) }
     ensures refused { IfErr result IsMemoryOrKey }
 {

@@ -4,3 +4,4 @@ pub mod VectorsShape
 pub mod VectorsBytes
 pub mod VectorsPassing
 pub mod VectorsReport
+pub mod ReportLaws
