@@ -1,4 +1,4 @@
-use Rattle.mls_model.proofs.laws.laws_of_commits.Goals as goal
+use Rattle.mls_model.proofs.laws_of_commits.Goals as goal
 use Rattle.mls_model.specs.CommitLaws.{next_is_refused, next_is_body, names_in_order, names_are_held}
 
 pub returns : goal.returns

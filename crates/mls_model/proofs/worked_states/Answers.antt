@@ -1,4 +1,4 @@
-use Rattle.mls_model.proofs.laws.worked_states.Goals as goal
+use Rattle.mls_model.proofs.worked_states.Goals as goal
 use Rattle.mls_model.proofs.Examples.{halves_and_doubles, keys_of_cut_nodes, taken_again, taken_by_same, removed_by_list, updated_twice, updated_and_removed, committer_first, committer_removed, uses_kept, uses_unknown}
 
 pub returns : goal.returns
