@@ -1,6 +1,6 @@
 -- A leaf entered, one side at a time.
-use Rattle.std.proofs.Common.{◌≡◌, ℕ, ◌+◌, ◌-◌, ◌/◌, ◌<◌, ◌≤◌, Bool, if◌then◌else◌, List, ◌++◌, length, get_or, take, drop, set, Option, Some, None, sym, ◌∙◌, ap, arith}
-use Rattle.std.proofs.lemmas.List.{get_or-set_same, get_or_default, set-set, set-get_or, take-append-drop}
+use Rattle.std.proofs.Common.{◌≡◌, ℕ, ◌+◌, ◌-◌, ◌/◌, ◌<◌, ◌≤◌, List, ◌++◌, length, get_or, take, drop, set, Option, Some, None, sym, ◌∙◌, ap, arith}
+use Rattle.std.proofs.lemmas.List.{get_or_default, set-set, set-get_or, take-append-drop}
 use borrow.Rule.Slice.PartMut.{put_mid}
 use Rattle.mls_leaf.specs.declared.leaf.LeafNode.{LeafNode}
 use Rattle.mls_leaf.specs.declared.node.Node.{Node}
@@ -9,7 +9,6 @@ use Rattle.mls_term.specs.Term.{Branch}
 use Rattle.mls_term.specs.Edits.{enter, listing}
 use Rattle.mls_term.specs.Arrays.{leaf_in, parent_in, leaf_cell, parent_cell, term_of, in_order, HasMiddle}
 use Rattle.mls_term.specs.Equations.{enter_leaf, enter_left, enter_right}
-use Rattle.mls_array.specs.Cells.{unlisted}
 use Rattle.mls_array.specs.Standing.{Stands}
 use Rattle.mls_term.specs.ArrayLaws.{width-term_of}
 use Rattle.mls_array.specs.StandingLaws.{in_order-leaf}
@@ -54,26 +53,24 @@ module _ (h n m : ℕ) (xs : List (Option Node)) (at : HasMiddle h n m) (len : l
       ap (λ c. put_mid (m + 1) (length (set xs m c) - (m + 1)) (set xs m c) sub) root
       ∙ entered_right sub high (is ∙ ap (λ ys. in_order (enter (b + (m / 2 + 1)) (term_of (h - 1) ys) i x)) (right_of_set h n m xs at len pos d))
 
--- where a side stayed, and the root is taken back, the list is as it was
-taken_back : (m i : ℕ) (xs ys : List (Option Node)) (d e p q : Option Node) (entered : Bool) → m < length xs → ys ≡ set xs m d → (if entered then unlisted i d else d) ≡ get_or xs m p → e ≡ (if entered then unlisted i (get_or ys m q) else get_or ys m q) → set ys m e ≡ xs
-taken_back m i xs ys d e p q entered within kept undone is =
-    let there : get_or ys m q ≡ d = ap (λ zs. get_or zs m q) kept ∙ get_or-set_same xs m d q within in
-    let back : e ≡ get_or xs m None = is ∙ ap (λ c. if entered then unlisted i c else c) there ∙ undone ∙ get_or_default xs m p None within in
-    ap (λ zs. set zs m e) kept ∙ set-set xs m d e ∙ ap (set xs m) back ∙ set-get_or xs m None
+-- where a side stayed, and the root is put back, the list is as it was
+put_back : (m : ℕ) (xs ys : List (Option Node)) (d e p : Option Node) → m < length xs → ys ≡ set xs m d → e ≡ get_or xs m p → set ys m e ≡ xs
+put_back m xs ys d e p within kept back =
+    ap (λ zs. set zs m e) kept ∙ set-set xs m d e ∙ ap (set xs m) (back ∙ get_or_default xs m p None within) ∙ set-get_or xs m None
 
-module _ (h n m : ℕ) (xs : List (Option Node)) (at : HasMiddle h n m) (len : length xs ≡ n) (i : ℕ) (sub : List (Option Node)) (d e p q : Option Node) (entered : Bool) (undone : (if entered then unlisted i d else d) ≡ get_or xs m p) where
+module _ (h n m : ℕ) (xs : List (Option Node)) (at : HasMiddle h n m) (len : length xs ≡ n) (sub : List (Option Node)) (d e p : Option Node) where
   within : m < length xs
   within = let w : n ≡ m + m + 1 = at.whole in omega arith
 
-  pub left_back : sub ≡ take m (set xs m d) → e ≡ (if entered then unlisted i (get_or (sub ++ drop m (set xs m d)) m q) else get_or (sub ++ drop m (set xs m d)) m q) → set (sub ++ drop m (set xs m d)) m e ≡ xs
-  left_back same is =
+  pub left_back : sub ≡ take m (set xs m d) → e ≡ get_or xs m p → set (sub ++ drop m (set xs m d)) m e ≡ xs
+  left_back same back =
       let kept = ap (λ ys. ys ++ drop m (set xs m d)) same ∙ take-append-drop m (set xs m d) in
-      taken_back m i xs (sub ++ drop m (set xs m d)) d e p q entered within kept undone is
+      put_back m xs (sub ++ drop m (set xs m d)) d e p within kept back
 
-  pub right_back : sub ≡ take (length (set xs m d) - (m + 1)) (drop (m + 1) (set xs m d)) → e ≡ (if entered then unlisted i (get_or (put_mid (m + 1) (length (set xs m d) - (m + 1)) (set xs m d) sub) m q) else get_or (put_mid (m + 1) (length (set xs m d) - (m + 1)) (set xs m d) sub) m q) → set (put_mid (m + 1) (length (set xs m d) - (m + 1)) (set xs m d) sub) m e ≡ xs
-  right_back same is =
+  pub right_back : sub ≡ take (length (set xs m d) - (m + 1)) (drop (m + 1) (set xs m d)) → e ≡ get_or xs m p → set (put_mid (m + 1) (length (set xs m d) - (m + 1)) (set xs m d) sub) m e ≡ xs
+  right_back same back =
       let kept =
       ap (λ ys. take (m + 1) (set xs m d) ++ (ys ++ drop (length (set xs m d) - (m + 1)) (drop (m + 1) (set xs m d)))) same
       ∙ ap (λ ys. take (m + 1) (set xs m d) ++ ys) (take-append-drop (length (set xs m d) - (m + 1)) (drop (m + 1) (set xs m d)))
       ∙ take-append-drop (m + 1) (set xs m d) in
-      taken_back m i xs (put_mid (m + 1) (length (set xs m d) - (m + 1)) (set xs m d) sub) d e p q entered within kept undone is
+      put_back m xs (put_mid (m + 1) (length (set xs m d) - (m + 1)) (set xs m d) sub) d e p within kept back

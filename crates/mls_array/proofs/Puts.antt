@@ -42,3 +42,13 @@ module _ (h n m : ℕ) (xs : List (Option Node)) (at : HasMiddle h n m) (len : l
       ∙ ap (λ w. in_order (Branch None l (put (b + w) r i x))) (sym wide)
       ∙ ap in_order (sym (put_right b (parent_in (get_or xs m None)) l r i x (omega (arith, wide))))
       ∙ ap (λ t. in_order (put b t i x)) (sym (split h n m xs at len pos))
+
+  pub put_left_blank : (sub : List (Option Node)) (d : Option Node) → d ≡ None → i < b + (m / 2 + 1) → sub ≡ in_order (put b (term_of (h - 1) (take m (set xs m d))) i x) → sub ++ drop m (set xs m d) ≡ in_order (put b (term_of h xs) i x)
+  put_left_blank sub d blank low is =
+      ap (λ c. sub ++ drop m (set xs m c)) blank
+      ∙ put_in_left sub low (is ∙ ap (λ c. in_order (put b (term_of (h - 1) (take m (set xs m c))) i x)) blank)
+
+  pub put_right_blank : (sub : List (Option Node)) (d : Option Node) → d ≡ None → b + (m / 2 + 1) ≤ i → sub ≡ in_order (put (b + (m / 2 + 1)) (term_of (h - 1) (take (length (set xs m d) - (m + 1)) (drop (m + 1) (set xs m d)))) i x) → put_mid (m + 1) (length (set xs m d) - (m + 1)) (set xs m d) sub ≡ in_order (put b (term_of h xs) i x)
+  put_right_blank sub d blank high is =
+      ap (λ c. put_mid (m + 1) (length (set xs m c) - (m + 1)) (set xs m c) sub) blank
+      ∙ put_in_right sub high (is ∙ ap (λ c. in_order (put (b + (m / 2 + 1)) (term_of (h - 1) (take (length (set xs m c) - (m + 1)) (drop (m + 1) (set xs m c)))) i x)) blank)

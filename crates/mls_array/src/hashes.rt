@@ -7,11 +7,11 @@ ghost use Rattle.mls_term.specs.Arrays.{term_of};
 
 use crate::places::{leaf_in, middle_of, parent_in};
 use mls_hash::{Hash, branch_hash, leaf_hash};
-use mls_leaf::Node;
+use mls_slot::Slot;
 
 /// The tree hash (RFC 9420, 7.8). Takes no memory.
 #[tactic(auto, using(mls_treemath::specs::Sizes::nodes_in_pos))]
-pub fn tree_hash(nodes: &[Option<Node>], height: u32, first: u32) -> Hash
+pub fn tree_hash(nodes: &[Slot], height: u32, first: u32) -> Hash
     requires shape { length nodes.now ≡ nodes_in height }
     requires fits { first + 2 ^ height ≤ 2 ^ 31 }
     ensures { result ≡ tree_hash first (term_of height nodes.now) }

@@ -12,20 +12,21 @@ ghost use Rattle.mls_array.specs.Gathered.{cell_key, cell_signature};
 use crate::distinct::are_distinct;
 use crate::path_keys::{push_cell_keys, push_key};
 use mls_leaf::Node;
+use mls_slot::Slot;
 use std::alloc::{AllocError, Global};
 
 /// The signature key of the member in a place.
-fn signature_of(node: &Option<Node>) -> Option<&[u8]>
+fn signature_of(node: &Slot) -> Option<&[u8]>
     ensures { option_to_list (option_copied result) ≡ cell_signature node.now }
 {
-    match node {
+    match node.node() {
         Some(Node::Leaf(leaf)) => Some(leaf.signature_key.as_slice()),
         _ => None,
     }
 }
 
 /// All encryption keys.
-fn keys_of(alloc: Global, nodes: &[Option<Node>]) -> Result<Vec<&[u8]>, AllocError>
+fn keys_of(alloc: Global, nodes: &[Slot]) -> Result<Vec<&[u8]>, AllocError>
     ensures { IfOk result (λ v. bytes_in v.items ≡ flat_map cell_key nodes.now) }
 {
     let mut keys = Vec::new(alloc);
@@ -34,7 +35,7 @@ fn keys_of(alloc: Global, nodes: &[Option<Node>]) -> Result<Vec<&[u8]>, AllocErr
 }
 
 /// All signature keys.
-fn signatures_of(alloc: Global, nodes: &[Option<Node>]) -> Result<Vec<&[u8]>, AllocError>
+fn signatures_of(alloc: Global, nodes: &[Slot]) -> Result<Vec<&[u8]>, AllocError>
     ensures { IfOk result (λ v. bytes_in v.items ≡ flat_map cell_signature nodes.now) }
 {
     let mut keys = Vec::new(alloc);
@@ -45,11 +46,7 @@ fn signatures_of(alloc: Global, nodes: &[Option<Node>]) -> Result<Vec<&[u8]>, Al
 }
 
 /// Whether no two nodes have one encryption key.
-pub fn has_distinct_keys(
-    alloc: Global,
-    nodes: &[Option<Node>],
-    height: u32,
-) -> Result<bool, AllocError>
+pub fn has_distinct_keys(alloc: Global, nodes: &[Slot], height: u32) -> Result<bool, AllocError>
     requires { Stands height nodes.now }
     ensures { IfOk result (λ b. b ≡ has_distinct_keys (term_of height nodes.now)) }
 {
@@ -57,11 +54,7 @@ pub fn has_distinct_keys(
 }
 
 /// Whether no two members have one signature key.
-pub fn has_distinct_clients(
-    alloc: Global,
-    nodes: &[Option<Node>],
-    height: u32,
-) -> Result<bool, AllocError>
+pub fn has_distinct_clients(alloc: Global, nodes: &[Slot], height: u32) -> Result<bool, AllocError>
     requires { Stands height nodes.now }
     ensures { IfOk result (λ b. b ≡ has_distinct_clients (term_of height nodes.now)) }
 {

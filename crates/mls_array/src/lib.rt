@@ -5,6 +5,7 @@
 //! for. `first` is the number of the tree's first leaf, which the definitions carry along in the same way.
 #![tactic(auto)]
 
+mod counts;
 mod distinct;
 mod edits;
 mod hashes;
@@ -25,6 +26,7 @@ mod tests;
 mod validity;
 mod witnesses;
 
+pub use counts::ciphertext_counts;
 pub use distinct::are_distinct;
 pub use edits::{enter, put};
 pub use hashes::tree_hash;

@@ -6,12 +6,13 @@ ghost use Rattle.mls_leaf.specs.Parent.{rises};
 ghost use Rattle.mls_treemath.specs.Paths.{nodes_in};
 ghost use Rattle.mls_treemath.specs.Limits.{max_height};
 ghost use Rattle.mls_term.specs.Sets.{has};
-ghost use Rattle.mls_term.specs.Lists.{may_list, is_listed, may_be_listed, lists_here, asked, all_parents};
+ghost use Rattle.mls_term.specs.Lists.{may_list, is_listed, may_be_listed, lists_here, rises_here, asked, all_parents};
 ghost use Rattle.mls_term.specs.Good.{has_good_lists};
 ghost use Rattle.mls_term.specs.Arrays.{parent_in, term_of};
 
 use crate::places::{leaf_in, middle_of, parent_in};
-use mls_leaf::{Node, ParentNode};
+use mls_leaf::ParentNode;
+use mls_slot::Slot;
 
 /// Whether a rising list has a leaf.
 pub(crate) fn has(leaves: &[u32], leaf: u32) -> bool
@@ -33,7 +34,7 @@ fn may_list(parent: Option<&ParentNode>, leaf: u32) -> bool
 
 /// Whether a leaf is taken, and each parent over it lists it.
 #[tactic(auto, using(mls_treemath::specs::Sizes::nodes_in_pos))]
-fn is_listed(nodes: &[Option<Node>], height: u32, first: u32, leaf: u32) -> bool
+fn is_listed(nodes: &[Slot], height: u32, first: u32, leaf: u32) -> bool
     requires shape { length nodes.now ≡ nodes_in height }
     requires fits { first + 2 ^ height ≤ 2 ^ 31 }
     ensures { result ≡ is_listed first (term_of height nodes.now) leaf }
@@ -58,8 +59,8 @@ fn is_listed(nodes: &[Option<Node>], height: u32, first: u32, leaf: u32) -> bool
 
 /// Whether a parent over these two sides may list a leaf: it is below it, and each parent between lists it.
 fn may_be_listed(
-    left: &[Option<Node>],
-    right: &[Option<Node>],
+    left: &[Slot],
+    right: &[Slot],
     height: u32,
     first: u32,
     second: u32,
@@ -82,10 +83,11 @@ fn may_be_listed(
 }
 
 /// Whether a parent over these two sides lists only what it may list.
+#[tactic(auto, unfolding(mls_term::specs::Lists::rises_here))]
 fn lists_here(
     parent: &ParentNode,
-    left: &[Option<Node>],
-    right: &[Option<Node>],
+    left: &[Slot],
+    right: &[Slot],
     height: u32,
     first: u32,
     second: u32,
@@ -94,7 +96,9 @@ fn lists_here(
     requires right_shape { length right.now ≡ nodes_in height }
     requires middle { second ≡ first + 2 ^ height }
     requires fits { second + 2 ^ height ≤ 2 ^ 31 }
-    ensures { result ≡ lists_here first parent.now (term_of height left.now) (term_of height right.now) }
+    ensures right { result ≡ lists_here first parent.now (term_of height left.now) (term_of height right.now) }
+    // Its list rises, as every parent's does.
+    ensures rising { rises_here first parent.now (term_of height left.now) (term_of height right.now) ≡ true }
 {
     for leaf in parent.unmerged_leaves() {
         if !may_be_listed(left, right, height, first, second, *leaf) {
@@ -106,9 +110,9 @@ fn lists_here(
 
 /// The same of the root of a tree, which may be blank.
 fn root_lists(
-    root: &Option<Node>,
-    left: &[Option<Node>],
-    right: &[Option<Node>],
+    root: &Slot,
+    left: &[Slot],
+    right: &[Slot],
     height: u32,
     first: u32,
     second: u32,
@@ -117,7 +121,8 @@ fn root_lists(
     requires right_shape { length right.now ≡ nodes_in height }
     requires middle { second ≡ first + 2 ^ height }
     requires fits { second + 2 ^ height ≤ 2 ^ 31 }
-    ensures { result ≡ asked lists_here first (parent_in root.now) (term_of height left.now) (term_of height right.now) }
+    ensures right { result ≡ asked lists_here first (parent_in root.now) (term_of height left.now) (term_of height right.now) }
+    ensures rising { asked rises_here first (parent_in root.now) (term_of height left.now) (term_of height right.now) ≡ true }
 {
     match parent_in(root) {
         Some(parent) => lists_here(parent, left, right, height, first, second),
@@ -127,10 +132,11 @@ fn root_lists(
 
 /// Whether each parent of a tree lists only what it may list.
 #[tactic(auto, using(mls_treemath::specs::Sizes::nodes_in_pos))]
-fn each_lists(nodes: &[Option<Node>], height: u32, first: u32) -> bool
+fn each_lists(nodes: &[Slot], height: u32, first: u32) -> bool
     requires shape { length nodes.now ≡ nodes_in height }
     requires fits { first + 2 ^ height ≤ 2 ^ 31 }
-    ensures { result ≡ all_parents lists_here first (term_of height nodes.now) }
+    ensures right { result ≡ all_parents lists_here first (term_of height nodes.now) }
+    ensures rising { result ≡ true → all_parents rises_here first (term_of height nodes.now) ≡ true }
 {
     if height == 0 {
         return true;
@@ -148,11 +154,13 @@ fn each_lists(nodes: &[Option<Node>], height: u32, first: u32) -> bool
     each_lists(right, height - 1, second)
 }
 
-/// Whether each unmerged leaf is a member below its parent, and each parent between lists it too. Takes no memory.
-pub fn has_good_lists(nodes: &[Option<Node>], height: u32) -> bool
+/// Whether each unmerged leaf is a member below its parent, and each parent between lists it too. Takes no memory. Each
+/// list that it has gone over rises.
+pub fn has_good_lists(nodes: &[Slot], height: u32) -> bool
     requires shape { length nodes.now ≡ nodes_in height }
     requires low { height ≤ max_height }
-    ensures { result ≡ has_good_lists (term_of height nodes.now) }
+    ensures right { result ≡ has_good_lists (term_of height nodes.now) }
+    ensures rising { result ≡ true → all_parents rises_here 0 (term_of height nodes.now) ≡ true }
 {
     each_lists(nodes, height, 0)
 }

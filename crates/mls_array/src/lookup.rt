@@ -9,9 +9,10 @@ ghost use Rattle.mls_array.specs.Standing.{Stands};
 
 use crate::places::leaf_in;
 use mls_leaf::{LeafNode, Node};
+use mls_slot::Slot;
 
 /// Leaf `i` of a tree of this height: None where it is blank or outside the tree.
-pub fn leaf(nodes: &[Option<Node>], height: u32, i: u32) -> Option<&LeafNode>
+pub fn leaf(nodes: &[Slot], height: u32, i: u32) -> Option<&LeafNode>
     requires { length nodes.now ≡ nodes_in height }
     ensures { option_copied result ≡ leaf_of (term_of height nodes.now) i }
 {
@@ -23,7 +24,7 @@ pub fn leaf(nodes: &[Option<Node>], height: u32, i: u32) -> Option<&LeafNode>
 }
 
 /// Node `x` of a tree of this height: None where it is blank or outside the tree.
-pub fn node(nodes: &[Option<Node>], height: u32, x: u32) -> Option<&Node>
+pub fn node(nodes: &[Slot], height: u32, x: u32) -> Option<&Node>
     requires { Stands height nodes.now }
     ensures { option_copied result ≡ node_at 0 (term_of height nodes.now) x }
 {
@@ -31,5 +32,5 @@ pub fn node(nodes: &[Option<Node>], height: u32, x: u32) -> Option<&Node>
     if place >= nodes.len() {
         return None;
     }
-    nodes[place].as_ref()
+    nodes[place].node()
 }

@@ -9,11 +9,11 @@ ghost use Rattle.mls_term.specs.Keys.{members};
 ghost use Rattle.mls_term.specs.Arrays.{term_of};
 
 use crate::places::{leaf_in, middle_of};
-use mls_leaf::Node;
+use mls_slot::Slot;
 
 /// The number of the leftmost blank leaf.
 #[tactic(auto, using(mls_treemath::specs::Sizes::nodes_in_pos))]
-pub fn first_blank(nodes: &[Option<Node>], height: u32, first: u32) -> Option<u32>
+pub fn first_blank(nodes: &[Slot], height: u32, first: u32) -> Option<u32>
     requires shape { length nodes.now ≡ nodes_in height }
     requires fits { first + 2 ^ height ≤ 2 ^ 31 }
     ensures { result ≡ first_blank first (term_of height nodes.now) }
@@ -34,7 +34,7 @@ pub fn first_blank(nodes: &[Option<Node>], height: u32, first: u32) -> Option<u3
 
 /// Whether the tree has a member.
 #[tactic(auto, using(mls_treemath::specs::Sizes::nodes_in_pos))]
-pub fn has_leaf(nodes: &[Option<Node>], height: u32) -> bool
+pub fn has_leaf(nodes: &[Slot], height: u32) -> bool
     requires shape { length nodes.now ≡ nodes_in height }
     ensures { result ≡ has_leaf (term_of height nodes.now) }
 {
@@ -51,7 +51,7 @@ pub fn has_leaf(nodes: &[Option<Node>], height: u32) -> bool
 
 /// Whether no smaller tree would do: the right half has a member, or the only leaf is one.
 #[tactic(auto, using(mls_treemath::specs::Sizes::nodes_in_pos))]
-pub fn is_full_width(nodes: &[Option<Node>], height: u32) -> bool
+pub fn is_full_width(nodes: &[Slot], height: u32) -> bool
     requires shape { length nodes.now ≡ nodes_in height }
     ensures { result ≡ is_full_width (term_of height nodes.now) }
 {
@@ -68,7 +68,7 @@ pub fn is_full_width(nodes: &[Option<Node>], height: u32) -> bool
 
 /// How many members the tree has.
 #[tactic(auto, using(mls_treemath::specs::Sizes::nodes_in_pos))]
-pub fn member_count(nodes: &[Option<Node>], height: u32) -> u32
+pub fn member_count(nodes: &[Slot], height: u32) -> u32
     requires shape { length nodes.now ≡ nodes_in height }
     requires low { height ≤ max_height }
     ensures count { (b : ℕ) → result ≡ length (members b (term_of height nodes.now)) }

@@ -15,13 +15,14 @@ use crate::hashes::tree_hash;
 use crate::places::middle_of;
 use crate::resolutions::is_reached;
 use mls_hash::{Hash, sibling_hash};
-use mls_leaf::{Bytes, Items, LeafNode, Node, ParentNode};
+use mls_leaf::{Bytes, Items, ParentNode};
+use mls_slot::{SharedLeaf, SharedParent, Slot};
 use std::alloc::{AllocError, Global};
 use std::vec;
 
 /// How many parents the filtered direct path of a leaf takes in (RFC 9420, 4.1.2). Takes no memory.
 #[tactic(auto, using(mls_treemath::specs::Sizes::nodes_in_pos))]
-pub fn path_length(nodes: &[Option<Node>], height: u32, first: u32, leaf: u32) -> u32
+pub fn path_length(nodes: &[Slot], height: u32, first: u32, leaf: u32) -> u32
     requires shape { length nodes.now ≡ nodes_in height }
     requires fits { first + 2 ^ height ≤ 2 ^ 31 }
     ensures value { result ≡ path_length first (term_of height nodes.now) leaf }
@@ -54,7 +55,7 @@ pub fn bytes_of(hash: &Option<Hash>) -> &[u8]
 /// The keys and the parent hash that a merge hands down below a parent with this other side. The keys are those of the
 /// parents from there on, the lowest first.
 fn handed_down<'a>(
-    side: &[Option<Node>],
+    side: &[Slot],
     height: u32,
     first: u32,
     keys: &'a [Bytes],
@@ -82,7 +83,7 @@ fn handed_down<'a>(
 /// memory.
 #[tactic(auto, using(mls_treemath::specs::Sizes::nodes_in_pos))]
 pub fn path_hash(
-    nodes: &[Option<Node>],
+    nodes: &[Slot],
     height: u32,
     first: u32,
     leaf: u32,
@@ -110,12 +111,12 @@ pub fn path_hash(
 }
 
 /// A parent that a merge makes: its list is empty.
-fn merged_parent(alloc: Global, key: Bytes, hash: &Option<Hash>) -> Result<ParentNode, AllocError>
+fn merged_parent(alloc: Global, key: Bytes, hash: &Option<Hash>) -> Result<SharedParent, AllocError>
     ensures { IfOk result (λ p. p ≡ record { encryption_key = key; parent_hash = hash_bytes hash.now; unmerged_leaves = [] }) }
 {
     let parent_hash = Bytes::from_vec(Vec::from_slice(alloc, bytes_of(hash))?);
     match ParentNode::new(key, parent_hash, Items::from_vec(Vec::new(alloc))) {
-        Ok(parent) => Ok(parent),
+        Ok(parent) => SharedParent::new(alloc, parent),
         Err(_) => unreachable!(),
     }
 }
@@ -124,12 +125,12 @@ fn merged_parent(alloc: Global, key: Bytes, hash: &Option<Hash>) -> Result<Paren
 /// hands down. Its key is the last one, which is taken.
 fn add_parent(
     alloc: Global,
-    side: &[Option<Node>],
+    side: &[Slot],
     height: u32,
     first: u32,
     keys: &mut Vec<Bytes>,
     above: Option<Hash>,
-    out: &mut Vec<ParentNode>,
+    out: &mut Vec<SharedParent>,
 ) -> Result<Option<Hash>, AllocError>
     requires shape { length side.now ≡ nodes_in height }
     requires fits { first + 2 ^ height ≤ 2 ^ 31 }
@@ -156,13 +157,13 @@ fn add_parent(
 #[tactic(auto, using(mls_treemath::specs::Sizes::nodes_in_pos))]
 fn add_parents(
     alloc: Global,
-    nodes: &[Option<Node>],
+    nodes: &[Slot],
     height: u32,
     first: u32,
     leaf: u32,
     keys: &mut Vec<Bytes>,
     hash: Option<Hash>,
-    out: &mut Vec<ParentNode>,
+    out: &mut Vec<SharedParent>,
 ) -> Result<Option<Hash>, AllocError>
     requires shape { length nodes.now ≡ nodes_in height }
     requires fits { first + 2 ^ height ≤ 2 ^ 31 }
@@ -189,7 +190,7 @@ fn add_parents(
 #[derive(Drop)]
 pub struct MergedPath {
     /// The parents, the highest first.
-    pub parents: Vec<ParentNode>,
+    pub parents: Vec<SharedParent>,
     /// The parent hash that reaches the leaf: None, which stands for no bytes, where there is no parent.
     pub hash: Option<Hash>,
 }
@@ -198,7 +199,7 @@ pub struct MergedPath {
 /// are given lowest first, and the highest one's parent hash is empty. Each node beside the path is hashed once.
 pub fn path_parents(
     alloc: Global,
-    nodes: &[Option<Node>],
+    nodes: &[Slot],
     height: u32,
     first: u32,
     leaf: u32,
@@ -225,21 +226,21 @@ pub fn path_parents(
 }
 
 /// The cell of the next parent where one is wanted, and a blank one elsewhere.
-fn next_cell(wanted: bool, parents: &mut vec::IntoIter<ParentNode>) -> Option<Node>
+fn next_cell(wanted: bool, parents: &mut vec::IntoIter<SharedParent>) -> Slot
     ensures cell { result ≡ parent_cell (first_if wanted (into_iter_items parents.old)) }
     ensures rest { into_iter_items parents.new ≡ rest_if wanted (into_iter_items parents.old) }
 {
     if !wanted {
-        return None;
+        return Slot::blank();
     }
     match parents.next() {
-        Some(parent) => Some(Node::Parent(parent)),
-        None => None,
+        Some(parent) => parent.into_slot(),
+        None => Slot::blank(),
     }
 }
 
 /// Whether the left side of the root is reached.
-fn is_left_reached(nodes: &[Option<Node>], height: u32, middle: usize) -> bool
+fn is_left_reached(nodes: &[Slot], height: u32, middle: usize) -> bool
     requires above_leaf { 0 < height }
     requires middle { HasMiddle height (length nodes.now) middle }
     ensures { (b : ℕ) → result ≡ is_reached b (term_of (height - 1) (take middle nodes.now)) }
@@ -248,7 +249,7 @@ fn is_left_reached(nodes: &[Option<Node>], height: u32, middle: usize) -> bool
 }
 
 /// Whether its right side is.
-fn is_right_reached(nodes: &[Option<Node>], height: u32, middle: usize) -> bool
+fn is_right_reached(nodes: &[Slot], height: u32, middle: usize) -> bool
     requires above_leaf { 0 < height }
     requires middle { HasMiddle height (length nodes.now) middle }
     ensures { (b : ℕ) → result ≡ is_reached b (term_of (height - 1) (drop (middle + 1) nodes.now)) }
@@ -259,19 +260,19 @@ fn is_right_reached(nodes: &[Option<Node>], height: u32, middle: usize) -> bool
 /// Merges a path: replaces leaf i and blanks the parents over it, but for those of the filtered path, which are replaced
 /// by the given ones (RFC 9420, 7.5). Takes no memory.
 pub fn merge(
-    nodes: &mut [Option<Node>],
+    nodes: &mut [Slot],
     height: u32,
     first: u32,
     i: u32,
-    parents: &mut vec::IntoIter<ParentNode>,
-    leaf: LeafNode,
+    parents: &mut vec::IntoIter<SharedParent>,
+    leaf: SharedLeaf,
 )
     requires stands { Stands height nodes.old }
     requires fits { first + 2 ^ height ≤ 2 ^ 31 }
     ensures { (ks : List (List ℕ)) (h : List ℕ) → into_iter_items parents.old ≡ path_parents first (term_of height nodes.old) i ks h → nodes.new ≡ in_order (merge first (term_of height nodes.old) i ks h leaf) }
 {
     if height == 0 {
-        nodes[0] = Some(Node::Leaf(leaf));
+        nodes[0] = leaf.into_slot();
         return;
     }
     let middle = middle_of(nodes.len(), height);

@@ -4,23 +4,24 @@ ghost use Rattle.std.specs.Prelude.{◌≡◌, ◌-◌, ◌≤◌, true, ◌++�
 ghost use Rattle.mls_term.specs.Arrays.{cut, has_last, may_stand, alternates, height_for, padded};
 
 use mls_leaf::Node;
+use mls_slot::Slot;
 use std::alloc::{AllocError, Global};
 
 /// Whether there is a last node, and it isn't blank.
-pub fn has_last(nodes: &[Option<Node>]) -> bool
+pub fn has_last(nodes: &[Slot]) -> bool
     ensures { result ≡ has_last nodes.now }
 {
     match nodes.last() {
-        Some(node) => node.is_some(),
+        Some(node) => node.is_taken(),
         None => false,
     }
 }
 
 /// Whether a node may stand at an even place, or at an odd one.
-fn may_stand(even: bool, node: &Option<Node>) -> bool
+fn may_stand(even: bool, node: &Slot) -> bool
     ensures { result ≡ may_stand even node.now }
 {
-    match node {
+    match node.node() {
         Some(Node::Leaf(_)) => even,
         Some(Node::Parent(_)) => !even,
         None => true,
@@ -28,7 +29,7 @@ fn may_stand(even: bool, node: &Option<Node>) -> bool
 }
 
 /// Whether leaves stand at even places alone, and parents at odd ones.
-pub fn alternates(nodes: &[Option<Node>]) -> bool
+pub fn alternates(nodes: &[Slot]) -> bool
     ensures { result ≡ alternates true nodes.now }
 {
     let mut even = true;
@@ -53,7 +54,7 @@ pub fn height_for(len: usize) -> u32
 }
 
 /// Adds blank nodes up to a length. Without memory for it all stays as it was.
-pub fn pad(nodes: &mut Vec<Option<Node>>, to: usize) -> Result<(), AllocError>
+pub fn pad(nodes: &mut Vec<Slot>, to: usize) -> Result<(), AllocError>
     ensures ok { OnOk result (nodes.new.items ≡ nodes.old.items ++ replicate (to - length nodes.old.items) None) }
     ensures err { OnErr result (nodes.new.items ≡ nodes.old.items) }
     ensures there { to ≤ length nodes.old.items → IsOk result }
@@ -61,14 +62,14 @@ pub fn pad(nodes: &mut Vec<Option<Node>>, to: usize) -> Result<(), AllocError>
     let missing = to.saturating_sub(nodes.len());
     nodes.reserve(missing)?;
     for _ in 0..missing {
-        nodes.push_reserved(None);
+        nodes.push_reserved(Slot::blank());
     }
     Ok(())
 }
 
 /// Adds blank nodes up to the least tree that holds all, and answers its height. Without memory for it all stays as it
 /// was.
-pub fn pad_tree(nodes: &mut Vec<Option<Node>>) -> Result<u32, AllocError>
+pub fn pad_tree(nodes: &mut Vec<Slot>) -> Result<u32, AllocError>
     ensures height { IfOk result (λ h. h ≡ height_for (length nodes.old.items)) }
     ensures ok { OnOk result (nodes.new.items ≡ padded nodes.old.items) }
     ensures err { OnErr result (nodes.new.items ≡ nodes.old.items) }
@@ -80,13 +81,13 @@ pub fn pad_tree(nodes: &mut Vec<Option<Node>>) -> Result<u32, AllocError>
 }
 
 /// How many nodes there are up to the last one that isn't blank.
-fn sent_len(nodes: &[Option<Node>]) -> usize
+fn sent_len(nodes: &[Slot]) -> usize
     ensures within { result ≤ length nodes.now }
     ensures cut { take result nodes.now ≡ cut nodes.now }
 {
     let mut len = nodes.len();
     while len > 0 {
-        if nodes[len - 1].is_some() {
+        if nodes[len - 1].is_taken() {
             return len;
         }
         len -= 1;
@@ -95,7 +96,7 @@ fn sent_len(nodes: &[Option<Node>]) -> usize
 }
 
 /// A copy of the nodes up to the last one that isn't blank, as they are sent.
-pub fn to_nodes(alloc: Global, nodes: &[Option<Node>]) -> Result<Vec<Option<Node>>, AllocError>
+pub fn to_nodes(alloc: Global, nodes: &[Slot]) -> Result<Vec<Slot>, AllocError>
     ensures { IfOk result (λ v. v.items ≡ cut nodes.now) }
 {
     Vec::from_clones(alloc, &nodes[..sent_len(nodes)])

@@ -16,7 +16,8 @@ use crate::lists::has;
 use crate::places::{middle_of, parent_in};
 use crate::validity::same_bytes;
 use mls_hash::{Hash, branch_hash_without, leaf_hash};
-use mls_leaf::{Node, ParentNode};
+use mls_leaf::ParentNode;
+use mls_slot::Slot;
 
 /// The last of the tree hashes of all subtrees of a tree: its own.
 fn last_of(hashes: &[Hash]) -> Hash
@@ -95,7 +96,7 @@ fn original_root(
 /// only the subtrees that the leaves change are hashed.
 #[tactic(auto, using(mls_treemath::specs::Sizes::nodes_in_pos))]
 pub(crate) fn original_of(
-    nodes: &[Option<Node>],
+    nodes: &[Slot],
     hashes: &[Hash],
     height: u32,
     first: u32,

@@ -7,7 +7,7 @@ ghost use Rattle.mls_term.specs.Arrays.{term_of};
 
 use crate::places::middle_of;
 use crate::resolutions::is_reached;
-use mls_leaf::Node;
+use mls_slot::Slot;
 use std::alloc::AllocError;
 
 /// Adds a number where a test holds.
@@ -23,7 +23,7 @@ fn push_if(test: bool, x: u32, out: &mut Vec<u32>) -> Result<(), AllocError>
 /// Adds the filtered direct path of a leaf to `out`, the lowest node first (RFC 9420, 4.1.2).
 #[tactic(auto, using(mls_treemath::specs::Sizes::nodes_in_pos))]
 pub fn filtered_path(
-    nodes: &[Option<Node>],
+    nodes: &[Slot],
     height: u32,
     first: u32,
     leaf: u32,

@@ -13,13 +13,14 @@ ghost use Rattle.mls_array.specs.Gathered.{cell_key};
 use crate::places::middle_of;
 use crate::resolutions::is_reached;
 use mls_leaf::{Bytes, LeafNode, Node};
+use mls_slot::Slot;
 use std::alloc::AllocError;
 
 /// The encryption key in a cell that isn't blank.
-fn key_in(node: &Option<Node>) -> Option<&[u8]>
+fn key_in(node: &Slot) -> Option<&[u8]>
     ensures { option_to_list (option_copied result) ≡ cell_key node.now }
 {
-    match node {
+    match node.node() {
         Some(Node::Leaf(leaf)) => Some(leaf.encryption_key.as_slice()),
         Some(Node::Parent(parent)) => Some(parent.encryption_key()),
         None => None,
@@ -38,7 +39,7 @@ pub(crate) fn push_key<'a>(key: Option<&'a [u8]>, out: &mut Vec<&'a [u8]>) -> Re
 
 /// Adds the encryption keys of some cells.
 pub(crate) fn push_cell_keys<'a>(
-    nodes: &'a [Option<Node>],
+    nodes: &'a [Slot],
     out: &mut Vec<&'a [u8]>,
 ) -> Result<(), AllocError>
     ensures { OnOk result (bytes_in out.new.items ≡ bytes_in out.old.items ++ flat_map cell_key nodes.now) }
@@ -66,7 +67,7 @@ fn last_if(wanted: bool, keys: &[Bytes]) -> (Option<&[u8]>, &[Bytes])
 /// Adds the encryption keys of the tree that a merge makes, in node order. The keys of its path are given lowest first.
 #[tactic(auto, using(mls_treemath::specs::Sizes::nodes_in_pos))]
 pub fn merged_keys<'a>(
-    nodes: &'a [Option<Node>],
+    nodes: &'a [Slot],
     height: u32,
     first: u32,
     i: u32,

@@ -6,6 +6,7 @@ ghost use Rattle.mls_treemath.specs.Paths.{nodes_in};
 ghost use Rattle.mls_term.specs.Arrays.{leaf_in, parent_in, HasMiddle};
 
 use mls_leaf::{LeafNode, Node, ParentNode};
+use mls_slot::Slot;
 
 /// Where the root stands among the nodes of a tree that is more than a leaf.
 pub(crate) fn middle_of(len: usize, height: u32) -> usize
@@ -17,20 +18,20 @@ pub(crate) fn middle_of(len: usize, height: u32) -> usize
 }
 
 /// The leaf in a place: None where it is blank or holds a parent.
-pub fn leaf_in(node: &Option<Node>) -> Option<&LeafNode>
+pub fn leaf_in(node: &Slot) -> Option<&LeafNode>
     ensures { option_copied result ≡ leaf_in node.now }
 {
-    match node {
+    match node.node() {
         Some(Node::Leaf(leaf)) => Some(leaf),
         _ => None,
     }
 }
 
 /// The parent in a place: None where it is blank or holds a leaf.
-pub fn parent_in(node: &Option<Node>) -> Option<&ParentNode>
+pub fn parent_in(node: &Slot) -> Option<&ParentNode>
     ensures { option_copied result ≡ parent_in node.now }
 {
-    match node {
+    match node.node() {
         Some(Node::Parent(parent)) => Some(parent),
         _ => None,
     }

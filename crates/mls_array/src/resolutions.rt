@@ -8,7 +8,8 @@ ghost use Rattle.mls_term.specs.Places.{resolution_at};
 ghost use Rattle.mls_term.specs.Arrays.{term_of};
 
 use crate::places::{leaf_in, middle_of, parent_in};
-use mls_leaf::{Node, ParentNode};
+use mls_leaf::ParentNode;
+use mls_slot::Slot;
 use std::alloc::AllocError;
 
 /// Adds the node numbers of a parent's unmerged leaves.
@@ -24,7 +25,7 @@ fn push_unmerged(parent: &ParentNode, out: &mut Vec<u64>) -> Result<(), AllocErr
 /// Adds the resolution of the tree to `out`, as node numbers (RFC 9420, 4.1.1).
 #[tactic(auto, using(mls_treemath::specs::Sizes::nodes_in_pos))]
 pub fn resolution(
-    nodes: &[Option<Node>],
+    nodes: &[Slot],
     height: u32,
     first: u32,
     out: &mut Vec<u64>,
@@ -56,7 +57,7 @@ pub fn resolution(
 /// Adds the resolution of node `x`: nothing where no node has that number.
 #[tactic(auto, using(mls_treemath::specs::Sizes::nodes_in_pos))]
 pub fn resolution_at(
-    nodes: &[Option<Node>],
+    nodes: &[Slot],
     height: u32,
     first: u32,
     x: u32,
@@ -86,7 +87,7 @@ pub fn resolution_at(
 
 /// Whether the resolution isn't empty.
 #[tactic(auto, using(mls_treemath::specs::Sizes::nodes_in_pos))]
-pub fn is_reached(nodes: &[Option<Node>], height: u32) -> bool
+pub fn is_reached(nodes: &[Slot], height: u32) -> bool
     requires shape { length nodes.now ≡ nodes_in height }
     ensures { (b : ℕ) → result ≡ is_reached b (term_of height nodes.now) }
 {

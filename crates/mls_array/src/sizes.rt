@@ -9,12 +9,12 @@ ghost use Rattle.mls_array.specs.Standing.{Stands};
 
 use crate::members::has_leaf;
 use crate::places::middle_of;
-use mls_leaf::Node;
+use mls_slot::Slot;
 use std::alloc::AllocError;
 
 /// Keeps the left half alone as long as the right half has no member, and answers the height (RFC 9420, 7.7). Takes no
 /// memory.
-pub fn trim(nodes: &mut Vec<Option<Node>>, height: u32) -> u32
+pub fn trim(nodes: &mut Vec<Slot>, height: u32) -> u32
     requires { Stands height nodes.old.items }
     ensures order { nodes.new.items ≡ in_order (trim (term_of height nodes.old.items)) }
     ensures shape { length nodes.new.items ≡ nodes_in result }
@@ -32,7 +32,7 @@ pub fn trim(nodes: &mut Vec<Option<Node>>, height: u32) -> u32
 }
 
 /// Twice the leaves: a blank root, the tree on its left, blank nodes on its right (RFC 9420, 7.7).
-pub fn grow(nodes: &mut Vec<Option<Node>>, height: u32) -> Result<(), AllocError>
+pub fn grow(nodes: &mut Vec<Slot>, height: u32) -> Result<(), AllocError>
     requires stands { Stands height nodes.old.items }
     requires low { height < max_height }
     ensures ok { OnOk result (nodes.new.items ≡ in_order (grow (term_of height nodes.old.items))) }
@@ -41,7 +41,7 @@ pub fn grow(nodes: &mut Vec<Option<Node>>, height: u32) -> Result<(), AllocError
     let count = nodes.len();
     nodes.reserve(count + 1)?;
     for _ in 0..count + 1 {
-        nodes.push_reserved(None);
+        nodes.push_reserved(Slot::blank());
     }
     Ok(())
 }

@@ -3,6 +3,7 @@ ghost use Rattle.mls_treemath.specs.Paths.{nodes_in};
 
 use super::*;
 use mls_leaf::{Codec, LeafError, LeafNode, Node, ParentNode};
+use mls_slot::Slot;
 use std::alloc::Global;
 use std::test::*;
 
@@ -17,16 +18,19 @@ const Y: [u8; 4] = [1, 0xbb, 0, 0];
 
 // A node of the example of RFC 9420, 4.1.1: X[B] over A, B, a blank leaf and D, and Y over E and F, beside a
 // blank leaf and H.
-fn example_node(alloc: Global, x: usize) -> Result<Option<Node>, LeafError> {
+fn example_node(alloc: Global, x: usize) -> Result<Slot, LeafError> {
     match x {
-        0 | 2 | 6 | 8 | 10 | 14 => Ok(Some(Node::Leaf(LeafNode::decode(alloc, &LEAF)?))),
-        3 => Ok(Some(Node::Parent(ParentNode::decode(alloc, &X)?))),
-        9 => Ok(Some(Node::Parent(ParentNode::decode(alloc, &Y)?))),
-        _ => Ok(None),
+        0 | 2 | 6 | 8 | 10 | 14 => Ok(Slot::of(
+            alloc,
+            Node::Leaf(LeafNode::decode(alloc, &LEAF)?),
+        )?),
+        3 => Ok(Slot::of(alloc, Node::Parent(ParentNode::decode(alloc, &X)?))?),
+        9 => Ok(Slot::of(alloc, Node::Parent(ParentNode::decode(alloc, &Y)?))?),
+        _ => Ok(Slot::blank()),
     }
 }
 
-fn example(alloc: Global) -> Result<Vec<Option<Node>>, LeafError>
+fn example(alloc: Global) -> Result<Vec<Slot>, LeafError>
     ensures { IfOk result (λ nodes. vec_len nodes ≡ nodes_in 3) }
 {
     let mut nodes = Vec::new(alloc);

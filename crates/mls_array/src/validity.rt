@@ -17,7 +17,8 @@ use crate::originals::original_of;
 use crate::places::{leaf_in, middle_of, parent_in};
 use crate::witnesses::candidate;
 use mls_hash::{Hash, branch_hash, leaf_hash, sibling_hash};
-use mls_leaf::{LeafSource, Node, ParentNode};
+use mls_leaf::{LeafSource, ParentNode};
+use mls_slot::Slot;
 use std::alloc::{AllocError, Global};
 
 /// Whether two byte strings are equal.
@@ -28,7 +29,7 @@ pub(crate) fn same_bytes(left: &[u8], right: &[u8]) -> bool
 }
 
 /// Whether a place holds a leaf with this parent hash.
-fn leaf_has_hash(node: &Option<Node>, hash: &Hash) -> bool
+fn leaf_has_hash(node: &Slot, hash: &Hash) -> bool
     ensures { result ≡ is_some_bytes (leaf_parent_hash (leaf_in node.now)) hash.now }
 {
     match leaf_in(node) {
@@ -41,7 +42,7 @@ fn leaf_has_hash(node: &Option<Node>, hash: &Hash) -> bool
 }
 
 /// Whether a place holds a parent with this parent hash.
-fn parent_has_hash(node: &Option<Node>, hash: &Hash) -> bool
+fn parent_has_hash(node: &Slot, hash: &Hash) -> bool
     ensures { result ≡ is_some_bytes (own_parent_hash (parent_in node.now)) hash.now }
 {
     match parent_in(node) {
@@ -52,7 +53,7 @@ fn parent_has_hash(node: &Option<Node>, hash: &Hash) -> bool
 
 /// Whether a node of a tree has this parent hash.
 #[tactic(auto, using(mls_treemath::specs::Sizes::nodes_in_pos))]
-fn has_hash(nodes: &[Option<Node>], height: u32, first: u32, node: u64, hash: &Hash) -> bool
+fn has_hash(nodes: &[Slot], height: u32, first: u32, node: u64, hash: &Hash) -> bool
     requires shape { length nodes.now ≡ nodes_in height }
     requires fits { first + 2 ^ height ≤ 2 ^ 31 }
     ensures { result ≡ is_some_bytes (hash_at first (term_of height nodes.now) node) hash.now }
@@ -78,7 +79,7 @@ fn has_hash(nodes: &[Option<Node>], height: u32, first: u32, node: u64, hash: &H
 /// Adds the tree hashes of all subtrees to `out`, the tree's own last, and answers that one.
 #[tactic(auto, using(mls_treemath::specs::Sizes::nodes_in_pos))]
 fn push_hashes(
-    nodes: &[Option<Node>],
+    nodes: &[Slot],
     height: u32,
     first: u32,
     out: &mut Vec<Hash>,
@@ -105,7 +106,7 @@ fn push_hashes(
 /// Whether the left side has a node that ties it to its parent.
 fn left_ties(
     parent: &ParentNode,
-    nodes: &[Option<Node>],
+    nodes: &[Slot],
     hashes: &[Hash],
     height: u32,
     first: u32,
@@ -137,7 +138,7 @@ fn left_ties(
 /// Whether the right side has one.
 fn right_ties(
     parent: &ParentNode,
-    nodes: &[Option<Node>],
+    nodes: &[Slot],
     hashes: &[Hash],
     height: u32,
     first: u32,
@@ -169,7 +170,7 @@ fn right_ties(
 
 /// Whether the root of a tree above a leaf is parent-hash valid, where it isn't blank.
 fn root_is_valid(
-    nodes: &[Option<Node>],
+    nodes: &[Slot],
     hashes: &[Hash],
     height: u32,
     first: u32,
@@ -197,7 +198,7 @@ fn root_is_valid(
 /// Whether each parent of a tree is parent-hash valid.
 #[tactic(auto, using(mls_treemath::specs::Sizes::nodes_in_pos))]
 fn each_is_valid(
-    nodes: &[Option<Node>],
+    nodes: &[Slot],
     hashes: &[Hash],
     height: u32,
     first: u32,
@@ -237,11 +238,7 @@ fn each_is_valid(
 }
 
 /// Whether each parent is parent-hash valid.
-pub fn has_good_hashes(
-    alloc: Global,
-    nodes: &[Option<Node>],
-    height: u32,
-) -> Result<bool, AllocError>
+pub fn has_good_hashes(alloc: Global, nodes: &[Slot], height: u32) -> Result<bool, AllocError>
     requires shape { length nodes.now ≡ nodes_in height }
     requires low { height ≤ max_height }
     ensures { IfOk result (λ v. v ≡ has_good_hashes (term_of height nodes.now)) }

@@ -11,7 +11,8 @@ ghost use Rattle.mls_array.specs.Witnesses.{numbers_in, others, first_off, candi
 
 use crate::lists::has;
 use crate::resolutions::resolution;
-use mls_leaf::{Node, ParentNode};
+use mls_leaf::ParentNode;
+use mls_slot::Slot;
 use std::alloc::AllocError;
 
 /// Whether a node is one of the leaves of a rising list from `first` on, below `end`.
@@ -115,7 +116,7 @@ fn are_others(leaves: &[u32], first: u32, end: u32, nodes: &mut [u64], node: u64
 /// it sorted. Besides the walk for it, n nodes and leaves take time in proportion to n log n.
 pub(crate) fn candidate(
     parent: &ParentNode,
-    nodes: &[Option<Node>],
+    nodes: &[Slot],
     height: u32,
     first: u32,
     end: u32,

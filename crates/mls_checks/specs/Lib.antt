@@ -2,3 +2,5 @@ pub mod Faults
 pub mod Short
 pub mod Leaf
 pub mod Checks
+pub mod Laws
+pub mod LeafLaws

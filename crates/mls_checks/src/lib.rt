@@ -3,10 +3,12 @@
 
 mod checks;
 mod error;
+mod laws;
 mod leaf;
 #[cfg(test)]
 mod tests;
 
 pub use checks::{Source, key_package, replaced};
 pub use error::CheckError;
+pub use laws::laws_of_leaves;
 pub use leaf::{leaf_capable, leaf_signed};

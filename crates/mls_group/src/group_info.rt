@@ -4,12 +4,13 @@ ghost use Rattle.mls_leaf.specs.Faults.{ReadsFront, ReadsPast, AddsSpelling};
 ghost use Rattle.mls_group.specs.GroupInfo.{group_info_extensions, group_info, group_info_nonempty};
 
 use crate::group_context::GroupContext;
-use mls_leaf::{Bytes, Codec, Items, LeafError, Node, pass_mark};
+use mls_leaf::{Bytes, Codec, Items, LeafError, pass_mark};
+use mls_slot::Slot;
 use mls_wire::{Reader, Writer};
 use std::alloc::Global;
 
-/// The nodes of a ratchet tree in node order (RFC 9420, 12.4.3.3).
-pub type RatchetTree = Items<Option<Node>>;
+/// The nodes of a ratchet tree in node order (RFC 9420, 12.4.3.3), which may be shared with a tree made of them.
+pub type RatchetTree = Items<Slot>;
 
 /// The number of the ratchet tree's extension (RFC 9420, 17.3).
 const RATCHET_TREE_EXTENSION: u16 = 2;

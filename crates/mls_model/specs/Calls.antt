@@ -6,6 +6,7 @@ use Rattle.mls_wire.specs.Checks.{require, ◌>>◌}
 use Rattle.mls_wire.specs.Reading.{◌>>=◌}
 use Rattle.mls_types.specs.declared.commit.ProposalOrRef.{ProposalOrRef}
 use Rattle.mls_suite.specs.Crypto.{Crypto}
+use Rattle.mls_paths.specs.Seeds.{sign_seed}
 use Rattle.mls_model.specs.declared.effect.Effect.{Effect}
 use Rattle.mls_model.specs.declared.effect.Effect.TheVariants.{Advanced}
 use Rattle.mls_model.specs.declared.event.Source.{Source}
@@ -15,7 +16,7 @@ use Rattle.mls_model.specs.declared.event.Reply.TheVariants as reply
 use Rattle.mls_model.specs.declared.origin.Origin.TheVariants as from
 use Rattle.mls_model.specs.Member.{Member, with_pending, without_pending}
 use Rattle.mls_model.specs.Verdict.{verdict}
-use Rattle.mls_model.specs.Candidate.{signing_of, new_candidate, package_message, created}
+use Rattle.mls_model.specs.Candidate.{new_candidate, package_message, created}
 use Rattle.mls_model.specs.Propose.{proposed_add, proposed_update, proposed_remove}
 use Rattle.mls_model.specs.Make.{Made, make}
 use Rattle.mls_model.specs.Join.{join_verdict}
@@ -27,7 +28,7 @@ use Rattle.mls_model.specs.World.{World, Entrant, Seat, with_message, with_membe
 -- 93 a candidate has the signature key already
 unfoldable pub candidate_answer : Crypto → World → List ℕ → List ℕ → Result (Reply × World) ℕ
 candidate_answer c w identity seed = do
-  require 93 (not (list_any (λ (e : Entrant). bytes_eq e.candidate.offered.leaf_node.signature_key (c.sig_public (signing_of seed))) w.entrants))
+  require 93 (not (list_any (λ (e : Entrant). bytes_eq e.candidate.offered.leaf_node.signature_key (c.sig_public (sign_seed seed))) w.entrants))
   k ← new_candidate c identity seed
   Ok (
     reply.Candidate (length w.entrants) (length w.messages),

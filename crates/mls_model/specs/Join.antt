@@ -50,7 +50,7 @@ signer_checks c k info t = do
 abbrev pub is_same_leaf : LeafNode → LeafNode → Bool
 is_same_leaf x y = bytes_eq (leaf_node.spell x) (leaf_node.spell y)
 
--- the first leaf that is the candidate's
+-- the first leaf that is the candidate's (RFC 9420, 12.4.3.1)
 unfoldable pub place_of : LeafNode → Term → Option (ℕ × LeafNode)
 place_of leaf t = find (λ (x : ℕ × LeafNode). is_same_leaf x.1 leaf) (members 0 t)
 
@@ -62,6 +62,7 @@ joined_keys c t signer alone (Some secret) = take_answer c t signer alone.leaf a
 
 -- ---- the whole
 
+-- the new member, and the GroupInfo that it opened
 pub record Joined : Type 0 where
   pub member : Member
   pub info : List ℕ
@@ -90,5 +91,6 @@ member_of c k o = do
     info = o.bytes;
   })
 
+-- of any bytes (RFC 9420, 12.4.3.1)
 unfoldable pub join_verdict : Crypto → Candidate → List ℕ → Result Joined ℕ
 join_verdict c k bytes = opened_welcome c k bytes >>= λ o. member_of c k o

@@ -36,7 +36,8 @@ abbrev pub is_none_or_32 : Option (List ℕ) → Bool
 is_none_or_32 None = true
 is_none_or_32 (Some secret) = length secret == 32
 
--- what is sealed in a candidate's entry: 73 where it doesn't open, is no GroupSecrets, or has a secret that isn't 32 bytes
+-- what is sealed in a candidate's entry (RFC 9420, 12.4.3.1): 73 where it doesn't open, is no GroupSecrets, or has a secret
+-- that isn't 32 bytes
 unfoldable pub opened_secrets : Crypto → Candidate → Welcome → EncryptedGroupSecrets → Result GroupSecrets ℕ
 opened_secrets c k w entry = do
   bytes ← given 73 (decrypt_with_label c k.init (codes "Welcome") w.encrypted_group_info entry.encrypted_group_secrets.kem_output entry.encrypted_group_secrets.ciphertext)
@@ -45,7 +46,8 @@ opened_secrets c k w entry = do
   require 73 (is_none_or_32 secrets.path_secret)
   Ok secrets
 
--- what a Welcome gave to a candidate: the joiner secret, a path secret or none, and the GroupInfo with its bytes
+-- what a Welcome gave to a candidate (RFC 9420, 12.4.3.1): the joiner secret, a path secret or none, and the GroupInfo with
+-- its bytes
 pub record Opened : Type 0 where
   pub joiner : List ℕ
   pub path_secret : Option (List ℕ)

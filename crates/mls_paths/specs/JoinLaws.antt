@@ -243,7 +243,7 @@ own_at_leaf : (b : ℕ) (v : Option LeafNode) (i j : ℕ) (ks : List (List ℕ))
 unfolding merge way
 own_at_leaf b v i j ks h x own = refl
 
-own_merge : (b : ℕ) (t : Term) (i j : ℕ) (ks : List (List ℕ)) (h : List ℕ) (x : LeafNode) (own : List ℕ) → leaf_only (way b (merge b t i ks h x) j) own ≡ leaf_only (way b t j) own
+pub own_merge : (b : ℕ) (t : Term) (i j : ℕ) (ks : List (List ℕ)) (h : List ℕ) (x : LeafNode) (own : List ℕ) → leaf_only (way b (merge b t i ks h x) j) own ≡ leaf_only (way b t j) own
 unfolding leaf_only
 own_merge b (Leaf v) i j ks h x own = own_at_leaf b v i j ks h x own
 own_merge b (Branch p l r) i j ks h x own = elim (cases_lt i (b + width l)) [

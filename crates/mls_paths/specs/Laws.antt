@@ -1,5 +1,6 @@
 -- The laws of a member's private keys.
-use Rattle.std.specs.Prelude.{◌≡◌, ℕ, ◌+◌, ◌*◌, ◌≤◌, ◌↔◌, true, false, nat_eq, List, [], ◌∷◌, map, filter, length, reverse, Option, Some, None, is_some, IsSome, Ok, ◌<◌}
+use Rattle.std.specs.Prelude.{◌≡◌, ℕ, ◌+◌, ◌*◌, ◌≤◌, ◌↔◌, true, false, nat_eq, List, [], ◌∷◌, map, filter, length, reverse, Option, Some, None, is_some, IsSome, Ok, ◌<◌, ◌%◌, ◌^◌}
+use Rattle.std.specs.List.{flat_map}
 use Rattle.mls_group.specs.declared.update_path.UpdatePathNode.{UpdatePathNode}
 use Rattle.mls_leaf.specs.declared.leaf.LeafNode.{LeafNode}
 use Rattle.mls_suite.specs.Crypto.{Crypto, Lawful}
@@ -8,7 +9,7 @@ use Rattle.mls_term.specs.Term.{Term, size, leaf_at}
 use Rattle.mls_term.specs.Resolution.{resolution}
 use Rattle.mls_term.specs.Places.{key_at}
 use Rattle.mls_term.specs.Held.{holds}
-use Rattle.mls_term.specs.Way.{Step, way, is_filtered, is_beside, path_length}
+use Rattle.mls_term.specs.Way.{Step, way, is_filtered, filtered_way, is_beside, path_length}
 use Rattle.mls_term.specs.Edits.{put, enter, grow, trim}
 use Rattle.mls_term.specs.Merge.{merge}
 use Rattle.mls_term.specs.Laws.{IsIn, HasLists}
@@ -17,7 +18,8 @@ use Rattle.mls_paths.specs.Keys.{Keys, Exact, leaf_only, key_in}
 use Rattle.mls_paths.specs.Follow.{Tame, follow, follow_trim, on_way, follow_edit, Follows}
 use Rattle.mls_paths.specs.Make.{Climb, filtered_count, climb_make, climb_past, path_keys}
 use Rattle.mls_paths.specs.Lists.{ListsBelow}
-use Rattle.mls_paths.specs.Seal.{IsPathOf, seal_along, targets_fit}
+use Rattle.mls_paths.specs.Seeds.{seal_seed}
+use Rattle.mls_paths.specs.Seal.{targets, seal_count, IsPathOf, seal_along, targets_fit}
 use Rattle.mls_paths.specs.Open.{climb_open, shared, held_count}
 use Rattle.mls_paths.specs.Join.{is_complete, take_keys, take_answer, AllList, secret_for}
 use Rattle.mls_paths.specs.Pairs.{pairs, find_key, IsInOrder}
@@ -125,6 +127,10 @@ ResolutionDistinct = (b : ℕ) (t : Term) → ListsBelow b t → is_distinct nat
 abbrev pub OneFiltered : Type 0
 OneFiltered = (b : ℕ) (t : Term) (i j : ℕ) → AreTwo b t i j → IsSome (leaf_at b t j) → map is_filtered (filter (λ s. is_beside s j) (way b t i)) ≡ true ∷ []
 
+-- so just one node of the path is made for the side that another member is on
+abbrev pub OneNode : Type 0
+OneNode = (b : ℕ) (t : Term) (i j : ℕ) → AreTwo b t i j → IsSome (leaf_at b t j) → length (filter (λ s. is_beside s j) (filtered_way b t i)) ≡ 1
+
 -- a member with exact keys has one just where it has to
 abbrev pub KeyWhereHeld : Type 0
 KeyWhereHeld = (c : Crypto) (b : ℕ) (t : Term) (j : ℕ) (ks : Keys) (d : ℕ) → IsIn b t j → Exact c b t j ks → is_some (key_in b t j ks d) ≡ holds b t j d
@@ -132,6 +138,10 @@ KeyWhereHeld = (c : Crypto) (b : ℕ) (t : Term) (j : ℕ) (ks : Keys) (d : ℕ)
 -- of the nodes that reach a member's subtree, less the leaves just added, it has the key of just one
 abbrev pub OneEntry : Type 0
 OneEntry = (c : Crypto) (added : List ℕ) (b : ℕ) (t : Term) (j : ℕ) (ks : Keys) → ListsBelow b t → IsIn b t j → Exact c b t j ks → has added j ≡ false → held_count (key_in b t j ks) (less (leaf_numbers added) (resolution b t)) ≡ 1
+
+-- and among the targets of all nodes of a path
+abbrev pub OneTarget : Type 0
+OneTarget = (c : Crypto) (added : List ℕ) (b : ℕ) (t : Term) (i j : ℕ) (ks : Keys) → AreTwo b t i j → ListsBelow b t → Exact c b t j ks → has added j ≡ false → held_count (key_in b t j ks) (flat_map (targets added) (filtered_way b t i)) ≡ 1
 
 -- a private key that a member has at a node is the one of the node's public key
 abbrev pub EntryKey : Type 0
@@ -146,10 +156,7 @@ PairsFound = (b : ℕ) (t : Term) (j : ℕ) (ks : Keys) (d : ℕ) → IsIn b t j
 
 -- ---- making
 
--- the commit secret is as many steps on as there are filtered parents, and the keys are those of the steps
-abbrev pub ClimbIsChain : Type 0
-ClimbIsChain = (c : Crypto) (ss : List Step) (start sk : List ℕ) → (climb_make c ss start sk).secret ≡ chain start (filtered_count ss)
-
+-- the path's keys are those of the chain, as many as there are filtered parents
 abbrev pub KeysAreChain : Type 0
 KeysAreChain = (c : Crypto) (ss : List Step) (start : List ℕ) → path_keys c ss start ≡ chain_keys c start (filtered_count ss)
 
@@ -180,12 +187,20 @@ PathHasKeys = (c : Crypto) (context : List ℕ) (added : List ℕ) (start : List
 abbrev pub PathMade : Type 0
 PathMade = (c : Crypto) → Lawful c → (context : List ℕ) (added : List ℕ) (rnd : ℕ → List ℕ) (ss : List Step) (start : List ℕ) → is_some (seal_along c context added rnd ss start) ≡ targets_fit c added ss
 
+-- a seal's number counts by its low 32 bits
+abbrev pub SeedWraps : Type 0
+SeedWraps = (seed : List ℕ) (n : ℕ) → seal_seed seed n ≡ seal_seed seed (n % 2 ^ 32)
+
 -- secrets and seals are the same in the tree with a path merged
 abbrev pub MakeMerged : Type 0
 MakeMerged = (c : Crypto) (b : ℕ) (t : Term) (i : ℕ) (ms : List (List ℕ)) (h : List ℕ) (x : LeafNode) (start sk : List ℕ) → climb_make c (way b (merge b t i ms h x) i) start sk ≡ climb_make c (way b t i) start sk
 
 abbrev pub SealMerged : Type 0
 SealMerged = (c : Crypto) (context : List ℕ) (added : List ℕ) (rnd : ℕ → List ℕ) (b : ℕ) (t : Term) (i : ℕ) (ms : List (List ℕ)) (h : List ℕ) (x : LeafNode) (start : List ℕ) → seal_along c context added rnd (way b (merge b t i ms h x) i) start ≡ seal_along c context added rnd (way b t i) start
+
+-- as is the number of seals
+abbrev pub CountMerged : Type 0
+CountMerged = (added : List ℕ) (b : ℕ) (t : Term) (i : ℕ) (ms : List (List ℕ)) (h : List ℕ) (x : LeafNode) → seal_count added (way b (merge b t i ms h x) i) ≡ seal_count added (way b t i)
 
 abbrev pub PathMerged : Type 0
 PathMerged = (c : Crypto) (context : List ℕ) (added : List ℕ) (b : ℕ) (t : Term) (i : ℕ) (ms : List (List ℕ)) (h : List ℕ) (x : LeafNode) (start : List ℕ) (ns : List UpdatePathNode) → IsPathOf c context added (way b (merge b t i ms h x) i) start ns → IsPathOf c context added (way b t i) start ns

@@ -19,6 +19,7 @@ pub mod FollowLaws
 pub mod OnePassLaws
 pub mod HeightLaws
 pub mod MakeLaws
+pub mod SeedLaws
 pub mod MergedLaws
 pub mod SealLaws
 pub mod FitLaws
@@ -26,8 +27,11 @@ pub mod ListLaws
 pub mod BelowLaws
 pub mod EntryLaws
 pub mod PairLaws
+pub mod TargetLaws
 pub mod OpenLaws
 pub mod JoinLaws
 pub mod CommitLaws
 pub mod WholeLaws
+pub mod AnyPathLaws
+pub mod ForkLaws
 pub mod MemberLaws

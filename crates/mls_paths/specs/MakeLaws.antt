@@ -15,9 +15,6 @@ use Rattle.mls_paths.specs.Chain.{chain, path_secrets, node_key, node_public, ch
 use Rattle.mls_paths.specs.Keys.{Fits, Along, Exact}
 use Rattle.mls_paths.specs.Make.{one_if, filtered_count, secret_above, key_if, made_keys, climb_make, climb_past, more_if, path_keys}
 
-pub climb_is_chain : (c : Crypto) (ss : List Step) (start sk : List ℕ) → (climb_make c ss start sk).secret ≡ chain start (filtered_count ss)
-climb_is_chain c ss start sk = refl
-
 pub making_climbs : (c : Crypto) (s : Step) (ss : List Step) (start sk : List ℕ) → climb_make c (s ∷ ss) start sk ≡ climb_past c (is_filtered s) (climb_make c ss start sk)
 unfolding filtered_count made_keys chain
 making_climbs c s ss start sk = by_test (is_filtered s)
@@ -48,7 +45,7 @@ keys_of_secrets c start (suc k) =
     ∙ reverse-append (map (node_public c) (path_secrets start k)) (node_public c (chain start k) ∷ [])
     ∙ ap (λ zs. node_public c (chain start k) ∷ zs) (keys_of_secrets c start k)
 
-count_filtered : (ss : List Step) → filtered_count ss ≡ length (filter is_filtered ss)
+pub count_filtered : (ss : List Step) → filtered_count ss ≡ length (filter is_filtered ss)
 unfolding filtered_count
 count_filtered [] = refl
 count_filtered (s ∷ ss) = by_test (is_filtered s) (count_filtered ss)

@@ -7,21 +7,25 @@ use Rattle.mls_suite.specs.Crypto.{Crypto}
 use Rattle.mls_term.specs.Term.{Term, is_perfect, leaf_at}
 use Rattle.mls_term.specs.Way.{Step, way, filtered_path}
 use Rattle.mls_term.specs.Edits.{put}
-use Rattle.mls_term.specs.Merge.{merge_path, keys_beside, hash_beside}
+use Rattle.mls_term.specs.Merge.{merge, merge_path, keys_beside, hash_beside}
 use Rattle.mls_paths.specs.Make.{climb_to, made_keys, HasMade}
 use Rattle.mls_paths.specs.Follow.{key_above, on_way, follow_edit, Follows}
-use Rattle.mls_paths.specs.Height.{HasFollowed, keys_on}
+use Rattle.mls_paths.specs.Height.{HasFollowed, keys_on, listed}
 use Rattle.mls_paths.specs.Join.{take_answer, is_complete, has_due}
-use Rattle.mls_paths.specs.Keys.{Keys, Fits, Exact, PrivateKeys, all_keys}
+use Rattle.mls_paths.specs.Keys.{Keys, Fits, Exact, PrivateKeys, all_keys, leaf_only, key_in}
 use Rattle.mls_paths.specs.Laws.{AreTwo}
-use Rattle.mls_paths.specs.Members.{HasExact}
-use Rattle.mls_paths.specs.Open.{opened_path}
+use Rattle.mls_paths.specs.Members.{HasExact, KeysMerged, with_nodes, ExactReceived, IsReceived, MadeReceived, AreDue, ShownAreDue}
+use Rattle.mls_paths.specs.Open.{opened_secret, opened_path}
+use Rattle.mls_paths.specs.Pairs.{pairs, find_key, IsInOrder}
+use Rattle.mls_paths.specs.EntryLaws.{key_where_held, entry_key}
+use Rattle.mls_paths.specs.PairLaws.{pairs_in_order, pairs_found}
+use Rattle.mls_term.specs.Laws.{IsIn}
 use Rattle.mls_paths.specs.Whole.{keys_of_path}
 use Rattle.mls_paths.specs.HeightLaws.{exact_is_on_way, above_take, above_pass, length-end, length-on_way, same_length, way_height}
-use Rattle.mls_paths.specs.JoinLaws.{take_exact, leaf_exact, take_inside}
+use Rattle.mls_paths.specs.JoinLaws.{take_exact, leaf_exact, take_inside, own_merge}
 use Rattle.mls_paths.specs.MakeLaws.{merged_way, way_merge}
 use Rattle.mls_paths.specs.OnePassLaws.{along_length, no_key_above, follow_edit_exact, own_edit_exact}
-use Rattle.mls_paths.specs.WholeLaws.{made_exact, opened_exact}
+use Rattle.mls_paths.specs.WholeLaws.{made_exact, opened_exact, opened_merged, secret_merged, opened_agrees, opened_is_sent}
 
 -- ---- keys read on a way
 
@@ -96,6 +100,63 @@ pub exact_opened : (c : Crypto) (context : List ℕ) (added : List ℕ) (t : Ter
 exact_opened c context added t i x path s old new two had opens leaf =
     at_leaf c (merge_path t i x (map (λ (n : UpdatePathNode). n.encryption_key) path)) new old.leaf leaf
     (opened_exact c context added t i old.leaf x (keys_on t old) path (climb_to s new) two had.keys opens)
+
+-- ---- received
+
+length-own : (ss : List Step) (k : List ℕ) → length (leaf_only ss k) ≡ suc (length ss)
+unfolding leaf_only
+length-own [] k = refl
+length-own (s ∷ ss) k = ap suc (length-own ss k)
+
+-- a merge leaves each way as long as it was
+pub any_way_long : (t : Term) (i j : ℕ) (x : LeafNode) (keys : List (List ℕ)) → length (way 0 (merge_path t i x keys) j) ≡ length (way 0 t j)
+unfolding merge_path
+any_way_long t i j x keys =
+    let e = own_merge 0 t i j (reverse keys) [] x [] in
+    let f = sym (length-own (way 0 (merge 0 t i (reverse keys) [] x) j) []) ∙ ap length e ∙ length-own (way 0 t j) [] in
+    omega (arith, f)
+
+pub keys_merged : KeysMerged
+keys_merged t i x keys p = same_length (way 0 (merge_path t i x keys) p.leaf) (way 0 t p.leaf) (all_keys p) (any_way_long t i p.leaf x keys)
+
+-- what is opened on the tree with a path is what is opened before it is merged
+opened_after : (c : Crypto) (context added : List ℕ) (t : Term) (i : ℕ) (x : LeafNode) (path : List UpdatePathNode) (p : PrivateKeys) → opened_path c context added (with_nodes t i x path) i p.leaf (keys_on (with_nodes t i x path) p) path ≡ opened_path c context added t i p.leaf (keys_on t p) path
+opened_after c context added t i x path p =
+    let keys : List (List ℕ) = map (λ (n : UpdatePathNode). n.encryption_key) path in
+    ap (λ ks. opened_path c context added (merge_path t i x keys) i p.leaf ks path) (keys_merged t i x keys p) ∙ opened_merged c context added t i p.leaf x keys (keys_on t p) path
+
+pub exact_received : ExactReceived
+exact_received c context added t i x path s old new two had opens leaf =
+    exact_opened c context added t i x path s old new two had (sym (opened_after c context added t i x path old) ∙ opens) leaf
+
+pub made_received : MadeReceived
+made_received c l context added rnd t i x start p path long two good had old sealed =
+    let keys : List (List ℕ) = map (λ (n : UpdatePathNode). n.encryption_key) path in
+    let agree = opened_agrees c l context added rnd t i p.leaf start (keys_on t p) path long two good had.keys old sealed in
+    record {
+      climb = agree.0;
+      opens = opened_after c context added t i x path p ∙ agree.1;
+      opened =
+          ap (λ ks. opened_secret c context added (merge_path t i x keys) i p.leaf ks path) (keys_merged t i x keys p)
+          ∙ secret_merged c context added t i p.leaf x keys (keys_on t p) path
+          ∙ opened_is_sent c l context added rnd t i p.leaf start (keys_on t p) path long two good had.keys old sealed;
+      secret = agree.2;
+      exact = opened_exact c context added t i p.leaf x (keys_on t p) path agree.0 two had.keys agree.1;
+    }
+
+-- ---- the keys that are shown
+
+pub shown_are_due : ShownAreDue
+shown_are_due c h t p ps perfect inside had are =
+    let high : length (way 0 t p.leaf) ≡ h = way_height h 0 t p.leaf perfect in
+    let few : length p.above ≤ length (way 0 t p.leaf) = had.low in
+    let shown : listed ps ≡ pairs 0 t p.leaf (keys_on t p) = are h t perfect (omega arith) inside in
+    let found : (d : ℕ) → find_key d (listed ps) ≡ key_in 0 t p.leaf (keys_on t p) d = λ d. ap (find_key d) shown ∙ pairs_found 0 t p.leaf (keys_on t p) d inside in
+    record {
+      in_order = subst IsInOrder (sym shown) (pairs_in_order 0 t p.leaf (keys_on t p) inside);
+      due = λ d. ap is_some (found d) ∙ key_where_held c 0 t p.leaf (keys_on t p) d inside had.keys;
+      fit = λ d k e. entry_key c 0 t p.leaf (keys_on t p) d k inside had.keys (sym (found d) ∙ e);
+    }
 
 pub exact_taken : (c : Crypto) (t : Term) (i : ℕ) (x : LeafNode) (secret s : List ℕ) (old new : PrivateKeys) → AreTwo 0 t i old.leaf → leaf_at 0 t old.leaf ≡ Some x → c.public old.own ≡ x.encryption_key → take_answer c t i old.leaf old.own secret ≡ Ok (climb_to s new) → new.leaf ≡ old.leaf → HasExact c t new
 exact_taken c t i x secret s old new two leaf own takes same =

@@ -1,19 +1,27 @@
 -- The keys of a member from call to call.
-use Rattle.std.specs.Prelude.{◌≡◌, ℕ, ◌≤◌, true, List, [], ◌∷◌, map, length, Some, None, Ok}
+use Rattle.std.specs.Prelude.{◌≡◌, ℕ, ◌≤◌, true, List, [], ◌∷◌, map, length, Some, None, Ok, is_some, false}
 use Rattle.mls_group.specs.declared.update_path.UpdatePathNode.{UpdatePathNode}
 use Rattle.mls_leaf.specs.declared.leaf.LeafNode.{LeafNode}
-use Rattle.mls_suite.specs.Crypto.{Crypto}
+use Rattle.mls_suite.specs.Crypto.{Crypto, Lawful}
 use Rattle.mls_term.specs.Term.{Term, is_perfect, leaf_at}
-use Rattle.mls_term.specs.Way.{way, filtered_path}
+use Rattle.mls_term.specs.Way.{way, filtered_path, path_length}
 use Rattle.mls_term.specs.Edits.{put}
 use Rattle.mls_term.specs.Merge.{merge_path}
-use Rattle.mls_paths.specs.Make.{climb_to, HasMade}
+use Rattle.mls_paths.specs.Make.{climb_to, HasMade, Climb}
 use Rattle.mls_paths.specs.Follow.{Follows}
-use Rattle.mls_paths.specs.Height.{HasFollowed, keys_on}
-use Rattle.mls_paths.specs.Join.{take_answer, has_due}
+use Rattle.mls_paths.specs.Height.{listed, ArePairs, HasFollowed, keys_on}
+use Rattle.mls_paths.specs.Join.{take_answer, has_due, secret_for}
 use Rattle.mls_paths.specs.Keys.{Exact, PrivateKeys, all_keys}
 use Rattle.mls_paths.specs.Laws.{AreTwo}
-use Rattle.mls_paths.specs.Open.{opened_path}
+use Rattle.mls_paths.specs.Open.{opened_secret, opened_path}
+use Rattle.mls_paths.specs.Seal.{sealed_path}
+use Rattle.mls_paths.specs.Pairs.{find_key, IsInOrder}
+use Rattle.mls_paths.specs.Lists.{ListsBelow}
+use Rattle.mls_paths.specs.Chain.{chain}
+use Rattle.mls_term.specs.Sets.{has}
+use Rattle.mls_term.specs.Places.{key_at}
+use Rattle.mls_term.specs.Held.{holds}
+use Rattle.mls_term.specs.Laws.{IsIn}
 use Rattle.mls_paths.specs.Whole.{keys_of_path}
 
 -- a member's keys are exact on its way in a whole tree, and none is higher
@@ -24,6 +32,8 @@ pub record HasExact (c : Crypto) (t : Term) (p : PrivateKeys) : Type 0 where
 -- so are keys that are exact as they stand
 abbrev pub ExactWhole : Type 0
 ExactWhole = (c : Crypto) (t : Term) (p : PrivateKeys) → Exact c 0 t p.leaf (all_keys p) → HasExact c t p
+
+-- ---- made, followed and opened
 
 -- the committer's in the tree with its path
 abbrev pub ExactMade : Type 0
@@ -39,6 +49,48 @@ ExactUpdated = (c : Crypto) (t t' : Term) (x : LeafNode) (k : List ℕ) (old new
 -- after it opened a path of leaf i, in the tree with that path
 abbrev pub ExactOpened : Type 0
 ExactOpened = (c : Crypto) (context : List ℕ) (added : List ℕ) (t : Term) (i : ℕ) (x : LeafNode) (path : List UpdatePathNode) (s : List ℕ) (old new : PrivateKeys) → AreTwo 0 t i old.leaf → HasExact c t old → opened_path c context added t i old.leaf (keys_on t old) path ≡ Ok (climb_to s new) → new.leaf ≡ old.leaf → HasExact c (merge_path t i x (map (λ n. n.encryption_key) path)) new
+
+-- ---- received: the edits are followed, the path is merged, and then it is opened, on the tree with it
+
+-- a member's keys on that tree are those on the tree before it
+abbrev pub KeysMerged : Type 0
+KeysMerged = (t : Term) (i : ℕ) (x : LeafNode) (keys : List (List ℕ)) (p : PrivateKeys) → keys_on (merge_path t i x keys) p ≡ keys_on t p
+
+-- the tree with a path whose nodes come the lowest first
+abbrev pub with_nodes : Term → ℕ → LeafNode → List UpdatePathNode → Term
+with_nodes t i x path = merge_path t i x (map (λ n. n.encryption_key) path)
+
+-- whatever path is accepted, the keys are exact
+abbrev pub ExactReceived : Type 0
+ExactReceived = (c : Crypto) (context : List ℕ) (added : List ℕ) (t : Term) (i : ℕ) (x : LeafNode) (path : List UpdatePathNode) (s : List ℕ) (old new : PrivateKeys) → AreTwo 0 t i old.leaf → HasExact c t old →
+    opened_path c context added (with_nodes t i x path) i old.leaf (keys_on (with_nodes t i x path) old) path ≡ Ok (climb_to s new) → new.leaf ≡ old.leaf → HasExact c (with_nodes t i x path) new
+
+-- a member takes the committer's commit secret, by the committer's secret of the parent where both ways part, and has
+-- exact keys
+pub record IsReceived (c : Crypto) (context added : List ℕ) (t : Term) (i : ℕ) (x : LeafNode) (start : List ℕ) (p : PrivateKeys) (path : List UpdatePathNode) : Type 0 where
+  pub climb : Climb
+  pub opens : opened_path c context added (with_nodes t i x path) i p.leaf (keys_on (with_nodes t i x path) p) path ≡ Ok climb
+  pub opened : opened_secret c context added (with_nodes t i x path) i p.leaf (keys_on (with_nodes t i x path) p) path ≡ Ok (secret_for (way 0 t i) p.leaf start)
+  pub secret : climb.secret ≡ chain start (path_length 0 t i)
+  pub exact : Exact c 0 (with_nodes t i x path) p.leaf climb.keys
+
+-- so does each member that wasn't just added, of a path that was made
+abbrev pub MadeReceived : Type 0
+MadeReceived = (c : Crypto) → Lawful c → (context : List ℕ) (added : List ℕ) (rnd : ℕ → List ℕ) (t : Term) (i : ℕ) (x : LeafNode) (start : List ℕ) (p : PrivateKeys) (path : List UpdatePathNode) → length start ≡ 32 → AreTwo 0 t i p.leaf → ListsBelow 0 t → HasExact c t p → has added p.leaf ≡ false → sealed_path c context added rnd t i start ≡ Ok path → IsReceived c context added t i x start p path
+
+-- ---- which keys are shown
+
+-- numbers of nodes with keys are in order, a node is among them just where the member has to have its key, and the key
+-- is its node's
+pub record AreDue (c : Crypto) (t : Term) (p : PrivateKeys) (ps : List (ℕ × List ℕ)) : Type 0 where
+  pub in_order : IsInOrder (listed ps)
+  pub due : (d : ℕ) → is_some (find_key d (listed ps)) ≡ holds 0 t p.leaf d
+  pub fit : (d : ℕ) (k : List ℕ) → find_key d (listed ps) ≡ Some k → key_at 0 t d ≡ Some (c.public k)
+
+abbrev pub ShownAreDue : Type 0
+ShownAreDue = (c : Crypto) (h : ℕ) (t : Term) (p : PrivateKeys) (ps : List (ℕ × List ℕ)) → is_perfect h t ≡ true → IsIn 0 t p.leaf → HasExact c t p → ArePairs p ps → AreDue c t p ps
+
+-- ---- joined
 
 -- a joiner's, with a path secret and without one
 abbrev pub ExactTaken : Type 0

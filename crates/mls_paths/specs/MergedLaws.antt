@@ -8,10 +8,11 @@ use Rattle.mls_term.specs.Way.{Step, way, is_filtered, is_beside}
 use Rattle.mls_term.specs.Merge.{merge, keys_beside, hash_beside}
 use Rattle.mls_suite.specs.Crypto.{Crypto}
 use Rattle.mls_paths.specs.Chain.{chain, node_key, node_public}
-use Rattle.mls_paths.specs.Keys.{Keys, rest}
+use Rattle.mls_paths.specs.Keys.{Keys, rest, key_in}
 use Rattle.mls_paths.specs.Make.{one_if, filtered_count, secret_above, key_if, made_keys, climb_make, more_if, path_keys}
 use Rattle.mls_paths.specs.Seal.{Choose, targets, seal_count, seal_along, IsNodeFor, IsPathOf}
-use Rattle.mls_paths.specs.Open.{left_by, past_parent, open_here, climb_open}
+use Rattle.mls_paths.specs.Open.{left_by, open_first, first_ciphertexts, opened_along, past_parent, open_here, climb_open}
+use Rattle.mls_paths.specs.Laws.{CountMerged}
 use Rattle.mls_paths.specs.MakeLaws.{merged_way, way_merge}
 
 open_along : (c : Crypto) (context : List ℕ) (added : List ℕ) (j : ℕ) (ss : List Step) (ms : List (List ℕ)) (h : List ℕ) (ks : Keys) (ns : List UpdatePathNode) →
@@ -21,6 +22,18 @@ open_along c context added j [] ms h ks ns = refl
 open_along c context added j (s ∷ ss) ms h ks ns =
     ap (λ z. (if is_beside s j then open_here c context added s j (rest ks) ns else z) >>= λ m. past_parent c (is_filtered s) ns m)
     (open_along c context added j ss (keys_beside s.first s.other ms) (hash_beside s.first s.other ms h) (rest ks) (left_by (is_filtered s) ns))
+
+secret_open_along : (c : Crypto) (context : List ℕ) (added : List ℕ) (j : ℕ) (ss : List Step) (ms : List (List ℕ)) (h : List ℕ) (ks : Keys) (ns : List UpdatePathNode) →
+    opened_along c context added (merged_way ss ms h) j ks ns ≡ opened_along c context added ss j ks ns
+unfolding merged_way opened_along targets
+secret_open_along c context added j [] ms h ks ns = refl
+secret_open_along c context added j (s ∷ ss) ms h ks ns =
+    ap (λ z. if is_beside s j then open_first c context (key_in s.first s.other j (rest ks)) (targets added s) (first_ciphertexts ns) else z)
+    (secret_open_along c context added j ss (keys_beside s.first s.other ms) (hash_beside s.first s.other ms h) (rest ks) (left_by (is_filtered s) ns))
+
+pub opened_along_merged : (c : Crypto) (context : List ℕ) (added : List ℕ) (b : ℕ) (t : Term) (i j : ℕ) (ms : List (List ℕ)) (h : List ℕ) (x : LeafNode) (ks : Keys) (ns : List UpdatePathNode) →
+    opened_along c context added (way b (merge b t i ms h x) i) j ks ns ≡ opened_along c context added (way b t i) j ks ns
+opened_along_merged c context added b t i j ms h x ks ns = rw (way_merge b t i ms h x) (secret_open_along c context added j (way b t i) ms h ks ns)
 
 pub open_merged : (c : Crypto) (context : List ℕ) (added : List ℕ) (b : ℕ) (t : Term) (i j : ℕ) (ms : List (List ℕ)) (h : List ℕ) (x : LeafNode) (ks : Keys) (ns : List UpdatePathNode) →
     climb_open c context added (way b (merge b t i ms h x) i) j ks ns ≡ climb_open c context added (way b t i) j ks ns
@@ -55,6 +68,9 @@ seals_along : (added : List ℕ) (ss : List Step) (ms : List (List ℕ)) (h : Li
 unfolding merged_way seal_count targets
 seals_along added [] ms h = refl
 seals_along added (s ∷ ss) ms h = ap (λ n. (if is_filtered s then length (targets added s) else 0) + n) (seals_along added ss (keys_beside s.first s.other ms) (hash_beside s.first s.other ms h))
+
+pub count_merged : CountMerged
+count_merged added b t i ms h x = ap (seal_count added) (way_merge b t i ms h x) ∙ seals_along added (way b t i) ms h
 
 sealed_along : (c : Crypto) (context : List ℕ) (added : List ℕ) (rnd : ℕ → List ℕ) (ss : List Step) (ms : List (List ℕ)) (h start : List ℕ) →
     seal_along c context added rnd (merged_way ss ms h) start ≡ seal_along c context added rnd ss start

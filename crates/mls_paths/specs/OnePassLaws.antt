@@ -184,16 +184,16 @@ none_at_leaf : (b : ℕ) (v : Option LeafNode) (i n : ℕ) → parent_above n (w
 unfolding way parent_above
 none_at_leaf b v i n = refl
 
-own_blank : (b : ℕ) (t : Term) (i : ℕ) (x : Option LeafNode) (n : ℕ) → parent_above n (way b (put b t i x) i) ≡ None
+pub blank_above : (b : ℕ) (t : Term) (i : ℕ) (x : Option LeafNode) (n : ℕ) → parent_above n (way b (put b t i x) i) ≡ None
 unfolding put
-own_blank b (Leaf v) i x n = none_at_leaf b x i n
-own_blank b (Branch p l r) i x n = elim (cases_lt i (b + width l)) [
+blank_above b (Leaf v) i x n = none_at_leaf b x i n
+blank_above b (Branch p l r) i x n = elim (cases_lt i (b + width l)) [
   | inl li ↦
       let w = width-put b l i x in
       let k : i < b + width (put b l i x) = omega arith in
-      rw (put_left b p l r i x li, way_left b None (put b l i x) r i k) (none_or (step_at None _ _ r) (way b (put b l i x) i) n refl (own_blank b l i x n))
+      rw (put_left b p l r i x li, way_left b None (put b l i x) r i k) (none_or (step_at None _ _ r) (way b (put b l i x) i) n refl (blank_above b l i x n))
   | inr ri ↦
-      rw (put_right b p l r i x ri, way_right b None l (put (b + width l) r i x) i ri) (none_or (step_at None _ _ l) (way (b + width l) (put (b + width l) r i x) i) n refl (own_blank (b + width l) r i x n))
+      rw (put_right b p l r i x ri, way_right b None l (put (b + width l) r i x) i ri) (none_or (step_at None _ _ l) (way (b + width l) (put (b + width l) r i x) i) n refl (blank_above (b + width l) r i x n))
 ]
 
 pub own_leaf : (b : ℕ) (t : Term) (i : ℕ) (x : Option LeafNode) → leaf_at b (put b t i x) i ≡ x
@@ -224,4 +224,12 @@ own_edit_exact c t t' j x k ks h f =
     let leaf : Some x ≡ leaf_at 0 t' j = sym (own_leaf 0 t j (Some x)) ∙ f.leaf in
     subst (λ (y : Option LeafNode). Along c (Fits c j) (way 0 t' j) y (follow_edit (Some k) (way 0 t' j) ks)) leaf
     (blank_along c j x k ks h (way 0 t' j)
-    (λ n _. blank_from j (parent_above n (way 0 (put 0 t j (Some x)) j)) (parent_above n (way 0 t' j)) (own_blank 0 t j (Some x) n) (f.above n)))
+    (λ n _. blank_from j (parent_above n (way 0 (put 0 t j (Some x)) j)) (parent_above n (way 0 t' j)) (blank_above 0 t j (Some x) n) (f.above n)))
+
+-- so two trees are alike for a leaf that was put into both
+pub follows_put : (t u : Term) (j : ℕ) (x : Option LeafNode) → Follows j (put 0 t j x) (put 0 u j x)
+follows_put t u j x =
+    record {
+      above = λ n. subst (TameAt j (parent_above n (way 0 (put 0 t j x) j))) (sym (blank_above 0 u j x n)) tt;
+      leaf = own_leaf 0 t j x ∙ sym (own_leaf 0 u j x);
+    }

@@ -29,9 +29,13 @@ unseal_secret c context sk x = decrypt_with_label c sk (codes "UpdatePathNode") 
 abbrev pub of_32 : List ℕ → Result (List ℕ) ℕ
 of_32 secret = if length secret == 32 then Ok secret else Err 33
 
--- the path secret in a ciphertext by a key, where there is one: 32 where it doesn't open
+-- the path secret in a ciphertext: 32 where it doesn't open, 33 where that isn't 32 bytes (RFC 9420, 7.6)
+abbrev pub secret_in : Crypto → List ℕ → List ℕ → HpkeCiphertext → Result (List ℕ) ℕ
+secret_in c context k x = given 32 (unseal_secret c context k x) >>= of_32
+
+-- the same by a key, where there is one
 abbrev pub open_with : Crypto → List ℕ → Option (List ℕ) → HpkeCiphertext → Result (List ℕ) ℕ → Result (List ℕ) ℕ
-open_with c context (Some k) x later = given 32 (unseal_secret c context k x) >>= of_32
+open_with c context (Some k) x later = secret_in c context k x
 open_with c context None x later = later
 
 -- the path secret that is sealed to the first node whose key is held: 32 where none is (RFC 9420, 7.6)
@@ -49,6 +53,23 @@ first_ciphertexts (n ∷ ns) = n.ciphertexts
 abbrev pub open_here : Crypto → List ℕ → List ℕ → Step → ℕ → Keys → List UpdatePathNode → Result Climb ℕ
 open_here c context added s j ks ns =
     open_first c context (key_in s.first s.other j ks) (targets added s) (first_ciphertexts ns) >>= λ secret. Ok (record { secret = secret; keys = ks })
+
+-- the path secret that member j opens there, along the committer's way
+unfoldable pub opened_along : Crypto → List ℕ → List ℕ → List Step → ℕ → Keys → List UpdatePathNode → Result (List ℕ) ℕ
+opened_along c context added [] j ks ns = Err 32
+opened_along c context added (s ∷ ss) j ks ns =
+    if is_beside s j then open_first c context (key_in s.first s.other j (rest ks)) (targets added s) (first_ciphertexts ns)
+    else opened_along c context added ss j (rest ks) (left_by (is_filtered s) ns)
+
+-- and of the path of leaf i in a whole tree, whose nodes come the lowest first: 32 where no ciphertext is for the member
+-- or its own doesn't open, 33 where that isn't 32 bytes (RFC 9420, 7.6)
+unfoldable pub opened_secret : Crypto → List ℕ → List ℕ → Term → ℕ → ℕ → Keys → List UpdatePathNode → Result (List ℕ) ℕ
+opened_secret c context added t i j ks path = opened_along c context added (way 0 t i) j ks (reverse path)
+
+-- how many parents of the filtered direct path there are, from that one up
+unfoldable pub filtered_from : List Step → ℕ → ℕ
+filtered_from [] j = 0
+filtered_from (s ∷ ss) j = one_if (is_filtered s) (if is_beside s j then 0 else filtered_from ss j)
 
 -- ---- and above it
 
@@ -90,7 +111,3 @@ shared (s ∷ ss) j (m ∷ ms) ks = m ∷ (if is_beside s j then rest ks else sh
 unfoldable pub held_count : (ℕ → Option (List ℕ)) → List ℕ → ℕ
 held_count keys [] = 0
 held_count keys (d ∷ ds) = one_if (is_some (keys d)) (held_count keys ds)
-
--- the path secret in a ciphertext: 32 where it doesn't open, 33 where that isn't 32 bytes (RFC 9420, 7.6)
-abbrev pub secret_in : Crypto → List ℕ → List ℕ → HpkeCiphertext → Result (List ℕ) ℕ
-secret_in c context k x = given 32 (unseal_secret c context k x) >>= of_32

@@ -25,7 +25,8 @@ use Rattle.mls_paths.specs.Keys.{Keys, Fits, AlongWay, Exact, rest, key_in}
 use Rattle.mls_paths.specs.Make.{Climb, one_if, filtered_count, secret_above, made_keys, climb_make}
 use Rattle.mls_paths.specs.Lists.{ListsBelow}
 use Rattle.mls_paths.specs.Seal.{Choose, targets, seal_secret, IsSealedTo, IsSealedToAll, IsNodeFor, IsPathOf}
-use Rattle.mls_paths.specs.Open.{left_by, open_with, open_first, first_ciphertexts, open_here, past_filtered, past_parent, climb_open, shared, held_count}
+use Rattle.mls_paths.specs.Open.{opened_along, left_by, open_with, open_first, first_ciphertexts, open_here, past_filtered, past_parent, climb_open, shared, held_count}
+use Rattle.mls_paths.specs.Join.{secret_for}
 use Rattle.mls_paths.specs.FollowLaws.{along_taken}
 use Rattle.mls_paths.specs.MeetLaws.{Meets, meets_from, along_from}
 use Rattle.mls_paths.specs.ListLaws.{lists_left, lists_right}
@@ -158,6 +159,40 @@ past_made c n ns m h =
     let e : bytes_eq (node_public c m.secret) n.encryption_key ≡ true = (bytes_eq-Decides (node_public c m.secret) n.encryption_key).1 (sym h) in
     rw e refl
 
+-- at the parent where the ways part, a member opens what was sealed for its side
+opened_here : (c : Crypto) (l : Lawful c) (context : List ℕ) (added : List ℕ) (j : ℕ) (s : Step) (secret : List ℕ) (ks : Keys) (ns : List UpdatePathNode) → length secret ≡ 32 → has added j ≡ false → ListsBelow s.first s.other → is_beside s j ≡ true → AlongWay c (Fits c j) s.first s.other j ks → IsNodeFor c context added s secret ns →
+    open_first c context (key_in s.first s.other j ks) (targets added s) (first_ciphertexts ns) ≡ Ok secret
+opened_here c l context added j s secret ks [] long old good e h node = absurd node
+opened_here c l context added j s secret ks (n ∷ ns) long old good e h node =
+    let inside : IsIn s.first s.other j = beside_in s j e in
+    let one : held_count (key_in s.first s.other j ks) (targets added s) ≡ 1 = unfold targets in one_entry c added s.first s.other j ks good inside h old in
+    opens c l context secret long s.first s.other (key_in s.first s.other j ks)
+    (λ (d : ℕ) (k : List ℕ) (q : key_in s.first s.other j ks d ≡ Some k). entry_key c s.first s.other j ks d k inside h q)
+    (targets added s) n.ciphertexts 0 node.1 one
+
+pub opened_along_is : (c : Crypto) (l : Lawful c) (context : List ℕ) (added : List ℕ) (j : ℕ) (start : List ℕ) → length start ≡ 32 → has added j ≡ false →
+    (ss : List Step) (ks : Keys) (ns : List UpdatePathNode) → GoodSides ss → Meets c (Fits c j) j ss ks → IsPathOf c context added ss start ns →
+    opened_along c context added ss j ks ns ≡ Ok (secret_for ss j start)
+unfolding GoodSides Meets IsPathOf opened_along secret_for
+opened_along_is c l context added j start long old [] ks ns good h path = absurd h
+opened_along_is c l context added j start long old (s ∷ ss) [] ns good h path = absurd h
+opened_along_is c l context added j start long old (s ∷ ss) (o ∷ ks) ns good h path =
+    by_tests (is_beside s j) (is_filtered s) refl refl h.1 path (opened_along_is c l context added j start long old ss ks (left_by (is_filtered s) ns) good.1)
+  where
+    secret : List ℕ
+    secret = secret_above ss start
+
+    by_tests : (u t : Bool) → is_beside s j ≡ u → is_filtered s ≡ t →
+        Choose u (AlongWay c (Fits c j) s.first s.other j ks) (Meets c (Fits c j) j ss ks) →
+        Choose t (IsNodeFor c context added s secret ns × IsPathOf c context added ss start (rest ns)) (IsPathOf c context added ss start ns) →
+        (Meets c (Fits c j) j ss ks → IsPathOf c context added ss start (left_by (is_filtered s) ns) → opened_along c context added ss j ks (left_by (is_filtered s) ns) ≡ Ok (secret_for ss j start)) →
+        (if u then open_first c context (key_in s.first s.other j ks) (targets added s) (first_ciphertexts ns) else opened_along c context added ss j ks (left_by (is_filtered s) ns))
+        ≡ Ok (if u then secret else secret_for ss j start)
+    by_tests true false e f h path rec = let g = beside_filtered c (Fits c j) s j ks h in absurd (cc (f, g))
+    by_tests true true e f h path rec = opened_here c l context added j s secret ks ns (chain_length start (filtered_count ss) long) old good.0 e h path.0
+    by_tests false true e f h path rec = rec h (rw f path.1)
+    by_tests false false e f h path rec = rec h (rw f path)
+
 agree_along : (c : Crypto) (l : Lawful c) (context : List ℕ) (added : List ℕ) (j : ℕ) (start sk : List ℕ) → length start ≡ 32 → has added j ≡ false →
     (ss : List Step) (ks : Keys) (ns : List UpdatePathNode) → GoodSides ss → Meets c (Fits c j) j ss ks → IsPathOf c context added ss start ns →
     climb_open c context added ss j ks ns ≡ Ok (record { secret = secret_above ss start; keys = shared ss j (made_keys c ss start sk) ks })
@@ -180,14 +215,7 @@ agree_along c l context added j start sk long old (s ∷ ss) (o ∷ ks) ns good 
 
     here : (ns : List UpdatePathNode) → is_beside s j ≡ true → AlongWay c (Fits c j) s.first s.other j ks → IsNodeFor c context added s secret ns →
         open_here c context added s j ks ns ≡ Ok (record { secret = secret; keys = ks })
-    here [] e h n = absurd n
-    here (n ∷ ns) e h node =
-        let inside : IsIn s.first s.other j = beside_in s j e in
-        let one : held_count (key_in s.first s.other j ks) (targets added s) ≡ 1 = unfold targets in one_entry c added s.first s.other j ks good.0 inside h old in
-        let q = opens c l context secret (chain_length start (filtered_count ss) long) s.first s.other (key_in s.first s.other j ks)
-        (λ (d : ℕ) (k : List ℕ) (q : key_in s.first s.other j ks d ≡ Some k). entry_key c s.first s.other j ks d k inside h q)
-        (targets added s) n.ciphertexts 0 node.1 one in
-        rw q refl
+    here ns e h node = let q = opened_here c l context added j s secret ks ns (chain_length start (filtered_count ss) long) old good.0 e h node in rw q refl
 
     by_tests : (u t : Bool) → is_beside s j ≡ u → is_filtered s ≡ t →
         Choose u (AlongWay c (Fits c j) s.first s.other j ks) (Meets c (Fits c j) j ss ks) →

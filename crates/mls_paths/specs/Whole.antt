@@ -1,23 +1,24 @@
 -- The laws of a member's private keys in whole trees, as calls on them need them.
-use Rattle.std.specs.Prelude.{◌≡◌, ℕ, true, false, List, map, length, reverse, Some, IsSome, Ok, Err}
-use Rattle.std.specs.List.{list_all}
+use Rattle.std.specs.Prelude.{◌≡◌, ℕ, true, false, List, map, length, reverse, Some, IsSome, Ok, Err, ◌*◌, take}
+use Rattle.std.specs.List.{list_all, slice_get}
+use Rattle.mls_treemath.specs.Steps.{height_of, common_ancestor_of}
 use Rattle.mls_group.specs.declared.update_path.UpdatePathNode.{UpdatePathNode}
 use Rattle.mls_leaf.specs.declared.leaf.LeafNode.{LeafNode}
 use Rattle.mls_suite.specs.Crypto.{Crypto, Lawful}
 use Rattle.mls_term.specs.Sets.{has}
-use Rattle.mls_term.specs.Term.{Term, leaf_at}
+use Rattle.mls_term.specs.Term.{Term, width, is_perfect, leaf_at}
 use Rattle.mls_term.specs.Way.{way, filtered_way, filtered_path, path_length}
 use Rattle.mls_term.specs.Edits.{place_in, add, update, remove}
 use Rattle.mls_term.specs.Keys.{encryption_keys}
 use Rattle.mls_term.specs.Merge.{merge_path}
 use Rattle.mls_term.specs.Laws.{IsIn, HasLists}
-use Rattle.mls_paths.specs.Chain.{chain, path_secrets, node_public}
+use Rattle.mls_paths.specs.Chain.{chain, chain_keys, path_secrets, node_public}
 use Rattle.mls_paths.specs.Keys.{Keys, Exact}
 use Rattle.mls_paths.specs.Follow.{Follows}
 use Rattle.mls_paths.specs.Make.{Climb, made_keys}
 use Rattle.mls_paths.specs.Lists.{ListsBelow}
 use Rattle.mls_paths.specs.Seal.{targets, sealed_path, targets_fit}
-use Rattle.mls_paths.specs.Open.{opened_path}
+use Rattle.mls_paths.specs.Open.{opened_secret, filtered_from, opened_path}
 use Rattle.mls_paths.specs.Join.{take_keys, AllList, secret_for}
 use Rattle.mls_paths.specs.Laws.{AreTwo}
 
@@ -72,6 +73,10 @@ SealedMerged = (c : Crypto) (context : List ℕ) (added : List ℕ) (rnd : ℕ �
 abbrev pub OpenedMerged : Type 0
 OpenedMerged = (c : Crypto) (context : List ℕ) (added : List ℕ) (t : Term) (i j : ℕ) (x : LeafNode) (keys : List (List ℕ)) (ks : Keys) (path : List UpdatePathNode) → opened_path c context added (merge_path t i x keys) i j ks path ≡ opened_path c context added t i j ks path
 
+-- as is the secret that is opened
+abbrev pub SecretMerged : Type 0
+SecretMerged = (c : Crypto) (context : List ℕ) (added : List ℕ) (t : Term) (i j : ℕ) (x : LeafNode) (keys : List (List ℕ)) (ks : Keys) (path : List UpdatePathNode) → opened_secret c context added (merge_path t i x keys) i j ks path ≡ opened_secret c context added t i j ks path
+
 -- the committer's keys are exact in the tree with its path
 abbrev pub MadeExact : Type 0
 MadeExact = (c : Crypto) (t : Term) (i : ℕ) (x : LeafNode) (start sk : List ℕ) → c.public sk ≡ x.encryption_key → Exact c 0 (merge_path t i x (keys_of_path c t i start)) i (made_keys c (way 0 t i) start sk)
@@ -95,6 +100,43 @@ OpenedExact = (c : Crypto) (context : List ℕ) (added : List ℕ) (t : Term) (i
 abbrev pub OpenedAgrees : Type 0
 OpenedAgrees = (c : Crypto) → Lawful c → (context : List ℕ) (added : List ℕ) (rnd : ℕ → List ℕ) (t : Term) (i j : ℕ) (start : List ℕ) (ks : Keys) (path : List UpdatePathNode) → length start ≡ 32 → AreTwo 0 t i j → ListsBelow 0 t → Exact c 0 t j ks → has added j ≡ false → sealed_path c context added rnd t i start ≡ Ok path →
     (m : Climb) × (opened_path c context added t i j ks path ≡ Ok m) × (m.secret ≡ chain start (path_length 0 t i))
+
+-- what it opens is the committer's path secret of the parent where both ways part, the one that a joiner there is sent
+abbrev pub OpenedIsSent : Type 0
+OpenedIsSent = (c : Crypto) → Lawful c → (context : List ℕ) (added : List ℕ) (rnd : ℕ → List ℕ) (t : Term) (i j : ℕ) (start : List ℕ) (ks : Keys) (path : List UpdatePathNode) → length start ≡ 32 → AreTwo 0 t i j → ListsBelow 0 t → Exact c 0 t j ks → has added j ≡ false → sealed_path c context added rnd t i start ≡ Ok path →
+    opened_secret c context added t i j ks path ≡ Ok (secret_for (way 0 t i) j start)
+
+-- that secret is the chain's at the number which the lowest node over both leaves has in the filtered direct path
+pub record IsAtAncestor (t : Term) (i j : ℕ) (start : List ℕ) : Type 0 where
+  pub number : ℕ
+  pub node : ℕ
+  pub over_both : common_ancestor_of (width t) (2 * i) (2 * j) ≡ Some node
+  pub in_path : slice_get (filtered_path 0 t i) number ≡ Some node
+  pub secret : secret_for (way 0 t i) j start ≡ chain start number
+
+abbrev pub SecretAtAncestor : Type 0
+SecretAtAncestor = (h : ℕ) (t : Term) (i j : ℕ) (start : List ℕ) → is_perfect h t ≡ true → height_of (width t) ≡ Some h → AreTwo 0 t i j → IsSome (leaf_at 0 t j) → IsAtAncestor t i j start
+
+-- ---- any path, whoever made it
+
+-- where no secret is opened, it is refused with that number
+abbrev pub RefusedUnopened : Type 0
+RefusedUnopened = (c : Crypto) (context : List ℕ) (added : List ℕ) (t : Term) (i j : ℕ) (ks : Keys) (path : List UpdatePathNode) (n : ℕ) → opened_secret c context added t i j ks path ≡ Err n → opened_path c context added t i j ks path ≡ Err n
+
+-- the keys of a path from the parent up where the ways part, the highest first
+abbrev pub keys_from : Term → ℕ → ℕ → List UpdatePathNode → List (List ℕ)
+keys_from t i j path = take (filtered_from (way 0 t i) j) (map (λ n. n.encryption_key) (reverse path))
+
+-- where a secret was opened, the path is accepted just where those keys are the public keys of the chain from it, and then
+-- the commit secret is the chain's end; else 34
+pub record IsJudged (c : Crypto) (context added : List ℕ) (t : Term) (i j : ℕ) (ks : Keys) (path : List UpdatePathNode) (secret : List ℕ) : Type 0 where
+  pub right : keys_from t i j path ≡ chain_keys c secret (filtered_from (way 0 t i) j) → (m : Climb) × (opened_path c context added t i j ks path ≡ Ok m) × (m.secret ≡ chain secret (filtered_from (way 0 t i) j))
+  pub wrong : (keys_from t i j path ≡ chain_keys c secret (filtered_from (way 0 t i) j) → ⊥) → opened_path c context added t i j ks path ≡ Err 34
+
+abbrev pub JudgedByKeys : Type 0
+JudgedByKeys = (c : Crypto) (context : List ℕ) (added : List ℕ) (t : Term) (i j : ℕ) (ks : Keys) (path : List UpdatePathNode) (secret : List ℕ) → opened_secret c context added t i j ks path ≡ Ok secret → IsJudged c context added t i j ks path secret
+
+-- ---- a joiner
 
 -- a joiner that the parents over it list takes the committer's commit secret in the tree with the path
 abbrev pub TakenAgrees : Type 0

@@ -19,21 +19,22 @@ use Rattle.mls_term.specs.ShapeLaws.{width-put}
 use Rattle.mls_term.specs.PlaceLaws.{first_blank_at, width-grow}
 use Rattle.mls_suite.specs.Crypto.{Crypto, Lawful}
 use Rattle.mls_paths.specs.Chain.{chain, chain_keys}
-use Rattle.mls_paths.specs.Keys.{Keys, Exact, rest}
+use Rattle.mls_paths.specs.Keys.{Keys, Fits, Exact, rest}
 use Rattle.mls_paths.specs.Follow.{Tame, Follows}
 use Rattle.mls_paths.specs.Make.{Climb, filtered_count, secret_above, made_keys, path_keys}
 use Rattle.mls_paths.specs.Lists.{ListsBelow}
 use Rattle.mls_paths.specs.Seal.{Choose, targets, sealed_path, seal_along, targets_fit, IsSealedToAll, IsNodeFor, IsPathOf}
-use Rattle.mls_paths.specs.Open.{opened_path, climb_open}
+use Rattle.mls_paths.specs.Open.{opened_along, opened_secret, opened_path, climb_open}
 use Rattle.mls_paths.specs.Join.{take_keys, AllList, secret_for}
 use Rattle.mls_paths.specs.Laws.{AreTwo}
-use Rattle.mls_paths.specs.Whole.{keys_of_path}
+use Rattle.mls_paths.specs.Whole.{keys_of_path, SecretMerged, OpenedIsSent}
 use Rattle.mls_paths.specs.FollowLaws.{tame_refl, tame_put, tame_enter}
 use Rattle.mls_paths.specs.OnePassLaws.{follows_trans, follows_tame, follows_grow, follows_trim}
 use Rattle.mls_paths.specs.MakeLaws.{merged_step, merged_way, way_merge, keys_are_chain, keys_of_secrets, count_is_length, make_exact}
-use Rattle.mls_paths.specs.MergedLaws.{secret_along, make_merged, count_along, seal_merged, open_merged, path_has_keys}
+use Rattle.mls_paths.specs.MergedLaws.{secret_along, make_merged, count_along, seal_merged, open_merged, opened_along_merged, path_has_keys}
 use Rattle.mls_paths.specs.SealLaws.{made_path, path_some}
-use Rattle.mls_paths.specs.OpenLaws.{climb_exact, climb_agree}
+use Rattle.mls_paths.specs.OpenLaws.{climb_exact, climb_agree, opened_along_is, good_sides}
+use Rattle.mls_paths.specs.MeetLaws.{meets_from}
 use Rattle.mls_paths.specs.JoinLaws.{take_agree, entered_lists, tame_lists}
 
 -- ---- edits
@@ -195,6 +196,10 @@ pub opened_merged : (c : Crypto) (context : List ℕ) (added : List ℕ) (t : Te
 unfolding opened_path merge_path
 opened_merged c context added t i j x keys ks path = open_merged c context added 0 t i j (reverse keys) [] x ks (reverse path)
 
+pub secret_merged : SecretMerged
+unfolding opened_secret merge_path
+secret_merged c context added t i j x keys ks path = opened_along_merged c context added 0 t i j (reverse keys) [] x ks (reverse path)
+
 pub made_exact : (c : Crypto) (t : Term) (i : ℕ) (x : LeafNode) (start sk : List ℕ) → c.public sk ≡ x.encryption_key → Exact c 0 (merge_path t i x (keys_of_path c t i start)) i (made_keys c (way 0 t i) start sk)
 made_exact c t i x start sk h = subst (λ (u : Term). Exact c 0 u i (made_keys c (way 0 t i) start sk)) (sym (merge_of c t i x start)) (make_exact c 0 t i [] x start sk h)
 
@@ -243,6 +248,15 @@ opened_agrees c l context added rnd t i j start ks path long two good exact old 
     let agree = climb_agree c l context added 0 t i j start start ks s.nodes long two.first two.second two.apart good exact old p in
     let turned : reverse path ≡ s.nodes = ap reverse s.turned ∙ reverse-reverse s.nodes in
     (_, ap (climb_open c context added (way 0 t i) j ks) turned ∙ agree, ap (chain start) (count_is_length 0 t i))
+
+pub opened_is_sent : OpenedIsSent
+unfolding opened_secret
+opened_is_sent c l context added rnd t i j start ks path long two good exact old h =
+    let s = sealed_is c context added rnd t i start path h in
+    let p : IsPathOf c context added (way 0 t i) start s.nodes = made_path c context added rnd (way 0 t i) start s.nodes s.sealed in
+    let turned : reverse path ≡ s.nodes = ap reverse s.turned ∙ reverse-reverse s.nodes in
+    ap (opened_along c context added (way 0 t i) j ks) turned
+    ∙ opened_along_is c l context added j start long old (way 0 t i) ks s.nodes (good_sides 0 t i good) (meets_from c (Fits c j) i j two.apart 0 t ks two.first two.second exact) p
 
 pub taken_agrees : (c : Crypto) (t : Term) (i j : ℕ) (x y : LeafNode) (start own : List ℕ) → AreTwo 0 t i j → leaf_at 0 t j ≡ Some y → c.public own ≡ y.encryption_key → AllList j (way 0 t j) →
     (m : Climb) × (take_keys c (merge_path t i x (keys_of_path c t i start)) i j own (secret_for (way 0 t i) j start) ≡ Ok m) × (m.secret ≡ chain start (path_length 0 t i))

@@ -6,14 +6,15 @@ ghost use Rattle.mls_term.specs.Laws.{MembersAreReached};
 ghost use Rattle.mls_paths.specs.Laws.{TamePut, TameEnter, TameRefl, TameTrans, FollowTame, FollowGrow, FollowTrim, FollowOwn};
 ghost use Rattle.mls_paths.specs.Laws.{FollowsTrans, FollowsTame, FollowsGrow, FollowsTrim, FollowEdit, FollowOwnEdit, ExactIsOnWay, LeafIsOnWay, EditIsFollow};
 ghost use Rattle.mls_paths.specs.Laws.{RightAreBelow, BelowPut, BelowEnter, BelowGrow, BelowTrim, BelowMerge};
-ghost use Rattle.mls_paths.specs.Laws.{ResolutionInPlace, ResolutionDistinct, OneFiltered, KeyWhereHeld, OneEntry, EntryKey, PairsInOrder, PairsFound};
-ghost use Rattle.mls_paths.specs.Laws.{ClimbIsChain, KeysAreChain, KeysOfSecrets, CountIsLength, MakingClimbs, MakeExact, MadePath, PathMade, PathHasKeys, MakeMerged, SealMerged, PathMerged};
+ghost use Rattle.mls_paths.specs.Laws.{ResolutionInPlace, ResolutionDistinct, OneFiltered, OneNode, KeyWhereHeld, OneEntry, OneTarget, EntryKey, PairsInOrder, PairsFound};
+ghost use Rattle.mls_paths.specs.Laws.{KeysAreChain, KeysOfSecrets, CountIsLength, MakingClimbs, MakeExact, MadePath, PathMade, PathHasKeys, SeedWraps, MakeMerged, SealMerged, CountMerged, PathMerged};
 ghost use Rattle.mls_paths.specs.Laws.{OpenMerged, ClimbExact, ClimbAgree, CommitAgree};
 ghost use Rattle.mls_paths.specs.Laws.{TakeExact, TakeInside, LeafHasDue, LeafExact, TakeAgree, JoinAgree, EnteredLists, TameLists};
 ghost use Rattle.mls_paths.specs.Whole.{FollowsUpdate, FollowsRemove, FollowsAdd, AddedIsListed, AddKeepsListed};
 ghost use Rattle.mls_paths.specs.Examples.{SecretOfOne, SecretOfFour, PathOfFour, TargetsOfFour, KeysOfMaker, KeysBeside, KeysAcross, TargetsBesideAdded};
-ghost use Rattle.mls_paths.specs.Members.{ExactWhole, ExactMade, ExactFollowed, ExactUpdated, ExactOpened, ExactTaken, ExactAlone};
-ghost use Rattle.mls_paths.specs.Whole.{SealedKeys, SealedLengths, SealedWhereFit, RefusedWhereUnfit, FitTargets, SealedMerged, OpenedMerged, MadeExact, MadeMerged, LengthMerged, FilteredMerged, OpenedExact, OpenedAgrees, TakenAgrees, SecretForMerged};
+ghost use Rattle.mls_paths.specs.Members.{ExactWhole, ExactMade, ExactFollowed, ExactUpdated, ExactOpened, KeysMerged, ExactReceived, MadeReceived, ShownAreDue, ExactTaken, ExactAlone};
+ghost use Rattle.mls_paths.specs.Whole.{SealedKeys, SealedLengths, SealedWhereFit, RefusedWhereUnfit, FitTargets, SealedMerged, OpenedMerged, SecretMerged, MadeExact, MadeMerged, LengthMerged, FilteredMerged, OpenedExact, OpenedAgrees, OpenedIsSent, SecretAtAncestor, TakenAgrees, SecretForMerged};
+ghost use Rattle.mls_paths.specs.Whole.{RefusedUnopened, JudgedByKeys};
 
 /// Exact keys follow the edits of a tree.
 pub fn laws_of_following()
@@ -56,8 +57,10 @@ pub fn laws_of_targets()
     ensures in_place { ResolutionInPlace }
     ensures distinct { ResolutionDistinct }
     ensures one_filtered { OneFiltered }
+    ensures one_node { OneNode }
     ensures held { KeyWhereHeld }
     ensures one_entry { OneEntry }
+    ensures one_target { OneTarget }
     ensures entry_key { EntryKey }
     ensures in_order { PairsInOrder }
     ensures found { PairsFound }
@@ -65,7 +68,6 @@ pub fn laws_of_targets()
 
 /// The committer's secrets are one chain, and its keys are exact.
 pub fn laws_of_making()
-    ensures chain { ClimbIsChain }
     ensures keys { KeysAreChain }
     ensures secrets { KeysOfSecrets }
     ensures count { CountIsLength }
@@ -74,8 +76,10 @@ pub fn laws_of_making()
     ensures made { MadePath }
     ensures fit { PathMade }
     ensures path { PathHasKeys }
+    ensures wraps { SeedWraps }
     ensures merged { MakeMerged }
     ensures seal_merged { SealMerged }
+    ensures count_merged { CountMerged }
     ensures path_merged { PathMerged }
 {}
 
@@ -117,14 +121,23 @@ pub fn laws_of_paths()
     ensures fit_targets { FitTargets }
     ensures seal_merged { SealedMerged }
     ensures open_merged { OpenedMerged }
+    ensures opened_merged { SecretMerged }
     ensures made_exact { MadeExact }
     ensures made_merged { MadeMerged }
     ensures length_merged { LengthMerged }
     ensures filtered_merged { FilteredMerged }
     ensures opened_exact { OpenedExact }
     ensures opened_agrees { OpenedAgrees }
+    ensures opened_secret { OpenedIsSent }
+    ensures at_ancestor { SecretAtAncestor }
     ensures taken_agrees { TakenAgrees }
     ensures secret_merged { SecretForMerged }
+{}
+
+/// In whole trees: any path, whoever made it, is accepted just where its keys are those of the secret that was opened.
+pub fn laws_of_any_path()
+    ensures unopened { RefusedUnopened }
+    ensures judged { JudgedByKeys }
 {}
 
 /// In whole trees: each call leaves a member with exact keys, whichever the calls before it were.
@@ -134,6 +147,10 @@ pub fn laws_of_members()
     ensures followed { ExactFollowed }
     ensures updated { ExactUpdated }
     ensures opened { ExactOpened }
+    ensures keys_merged { KeysMerged }
+    ensures received { ExactReceived }
+    ensures made_received { MadeReceived }
+    ensures shown { ShownAreDue }
     ensures taken { ExactTaken }
     ensures alone { ExactAlone }
 {}

@@ -1,15 +1,20 @@
-//! Functions generic over a suite that use its laws through the bound, run at two suites.
+//! Callers that are generic over a suite: two that use its laws through the bound, and an auditor's check of a tree.
+//! Also a suite for authors of suites to copy.
 #![tactic(auto)]
 
 ghost use Rattle.std.specs.Prelude.{◌≡◌, ◌<◌, ◌≤◌, ◌^◌, length, IfOk, true};
 
+mod bare;
 #[cfg(test)]
 mod tests;
+mod trees;
 
+pub use bare::Bare;
 use mls_suite::{
     OutOfMemory, Suite, decrypt_with_label, encrypt_with_label, sign_with_label, verify_with_label,
 };
 use std::alloc::Global;
+pub use trees::checked_tree_hash;
 
 /// Seals `pt` under a label and a context to the public key of `sk`, and opens it again: it is `pt`,
 /// in each suite.

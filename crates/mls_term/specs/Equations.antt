@@ -9,7 +9,7 @@ use Rattle.mls_term.specs.Inputs.{leaf_hash, branch_hash}
 use Rattle.mls_term.specs.Sets.{has, leaf_numbers}
 use Rattle.mls_term.specs.Term.{Term, Leaf, Branch, width, size, height, blanks, has_leaf, is_full_width, leaf_at, leaf_of}
 use Rattle.mls_term.specs.Resolution.{resolution, is_reached}
-use Rattle.mls_term.specs.Way.{Step, step_at, way, is_filtered, filtered_way, filtered_path, path_length}
+use Rattle.mls_term.specs.Way.{Step, step_at, way, is_filtered, filtered_way, filtered_path, path_length, target_count, ciphertext_counts}
 use Rattle.mls_term.specs.Places.{at_node}
 use Rattle.mls_term.specs.Edits.{put, enter, listing, grow, trim, or_else, first_blank, place_in, room_for, add, update, remove}
 use Rattle.mls_term.specs.Lists.{asked, all_parents}
@@ -51,6 +51,10 @@ module _ (b : ℕ) (v : Option LeafNode) where
   pub filtered_path_leaf : (i : ℕ) → filtered_path b (Leaf v) i ≡ []
   unfolding filtered_path filtered_way way
   filtered_path_leaf i = refl
+
+  pub ciphertext_counts_leaf : (i : ℕ) (added : List ℕ) → ciphertext_counts b (Leaf v) i added ≡ []
+  unfolding ciphertext_counts filtered_way way
+  ciphertext_counts_leaf i added = refl
 
   pub path_length_leaf : (i : ℕ) → path_length b (Leaf v) i ≡ 0
   unfolding path_length filtered_way way
@@ -233,9 +237,9 @@ module _ (b : ℕ) (c : Option Parent) (l r : Term) (i : ℕ) where
   way_right h = cond-false _ _ _ (le-ltb i (b + width l) h)
 
 -- one more filtered parent at the top of a way
-filtered_more : (s : Step) (f : Bool) (ss : List Step) → is_filtered s ≡ f → reverse (map (λ s. s.node) (filter is_filtered (s ∷ ss))) ≡ reverse (map (λ s. s.node) (filter is_filtered ss)) ++ (if f then s.node ∷ [] else [])
-filtered_more s true ss e = rw e (reverse-append (s.node ∷ []) (map (λ s. s.node) (filter is_filtered ss)))
-filtered_more s false ss e = rw e (sym (append-nil (reverse (map (λ s. s.node) (filter is_filtered ss)))))
+filtered_more : {A : Type 0} (g : Step → A) (s : Step) (f : Bool) (ss : List Step) → is_filtered s ≡ f → reverse (map g (filter is_filtered (s ∷ ss))) ≡ reverse (map g (filter is_filtered ss)) ++ (if f then g s ∷ [] else [])
+filtered_more g s true ss e = rw e (reverse-append (g s ∷ []) (map g (filter is_filtered ss)))
+filtered_more g s false ss e = rw e (sym (append-nil (reverse (map g (filter is_filtered ss)))))
 
 longer_by : (s : Step) (f : Bool) (ss : List Step) → is_filtered s ≡ f → length (filter is_filtered (s ∷ ss)) ≡ cond f 1 0 + length (filter is_filtered ss)
 longer_by s true ss e = rw e (omega arith)
@@ -244,11 +248,19 @@ longer_by s false ss e = rw e (omega arith)
 module _ (b : ℕ) (c : Option Parent) (l r : Term) (i : ℕ) where
   pub filtered_path_left : i < b + width l → filtered_path b (Branch c l r) i ≡ filtered_path b l i ++ (if is_reached (b + width l) r then (2 * b + size l) ∷ [] else [])
   unfolding filtered_path filtered_way
-  filtered_path_left h = ap (λ ss. reverse (map (λ s. s.node) (filter is_filtered ss))) (way_left b c l r i h) ∙ filtered_more (step_at c (2 * b + size l) (b + width l) r) (is_reached (b + width l) r) (way b l i) refl
+  filtered_path_left h = ap (λ ss. reverse (map (λ s. s.node) (filter is_filtered ss))) (way_left b c l r i h) ∙ filtered_more (λ (s : Step). s.node) (step_at c (2 * b + size l) (b + width l) r) (is_reached (b + width l) r) (way b l i) refl
 
   pub filtered_path_right : b + width l ≤ i → filtered_path b (Branch c l r) i ≡ filtered_path (b + width l) r i ++ (if is_reached b l then (2 * b + size l) ∷ [] else [])
   unfolding filtered_path filtered_way
-  filtered_path_right h = ap (λ ss. reverse (map (λ s. s.node) (filter is_filtered ss))) (way_right b c l r i h) ∙ filtered_more (step_at c (2 * b + size l) b l) (is_reached b l) (way (b + width l) r i) refl
+  filtered_path_right h = ap (λ ss. reverse (map (λ s. s.node) (filter is_filtered ss))) (way_right b c l r i h) ∙ filtered_more (λ (s : Step). s.node) (step_at c (2 * b + size l) b l) (is_reached b l) (way (b + width l) r i) refl
+
+  pub ciphertext_counts_left : (added : List ℕ) → i < b + width l → ciphertext_counts b (Branch c l r) i added ≡ ciphertext_counts b l i added ++ (if is_reached (b + width l) r then target_count added (b + width l) r ∷ [] else [])
+  unfolding ciphertext_counts filtered_way
+  ciphertext_counts_left added h = ap (λ ss. reverse (map (λ (s : Step). target_count added s.first s.other) (filter is_filtered ss))) (way_left b c l r i h) ∙ filtered_more (λ (s : Step). target_count added s.first s.other) (step_at c (2 * b + size l) (b + width l) r) (is_reached (b + width l) r) (way b l i) refl
+
+  pub ciphertext_counts_right : (added : List ℕ) → b + width l ≤ i → ciphertext_counts b (Branch c l r) i added ≡ ciphertext_counts (b + width l) r i added ++ (if is_reached b l then target_count added b l ∷ [] else [])
+  unfolding ciphertext_counts filtered_way
+  ciphertext_counts_right added h = ap (λ ss. reverse (map (λ (s : Step). target_count added s.first s.other) (filter is_filtered ss))) (way_right b c l r i h) ∙ filtered_more (λ (s : Step). target_count added s.first s.other) (step_at c (2 * b + size l) b l) (is_reached b l) (way (b + width l) r i) refl
 
   pub path_length_left : i < b + width l → path_length b (Branch c l r) i ≡ cond (is_reached (b + width l) r) 1 0 + path_length b l i
   unfolding path_length filtered_way

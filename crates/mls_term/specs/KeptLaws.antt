@@ -1,6 +1,5 @@
 -- Good trees stay good.
 use Rattle.std.proofs.Common.{◌≡◌, ℕ, ◌<◌, ◌≤◌, true, List, [], ◌∷◌, Option, Some, None, refl, arith, le-leb}
-use Rattle.std.specs.List.{list_all}
 use Rattle.mls_leaf.specs.declared.leaf.LeafNode.{LeafNode}
 use Rattle.mls_term.specs.Term.{Term, Leaf, width, height, is_perfect, has_leaf, is_full_width}
 use Rattle.mls_term.specs.Sets.{same_bytes, is_distinct}

@@ -1,9 +1,9 @@
 -- The laws of trees as terms.
-use Rattle.std.specs.Prelude.{◌≡◌, ℕ, suc, ◌+◌, ◌*◌, ◌^◌, ◌<◌, ◌≤◌, ◌==◌, ◌||◌, Bool, true, false, not, nat_eq, if◌then◌else◌, List, [], ◌∷◌, map, filter, length, slice_index_or, Option, Some, None, is_some, IsSome, Ok}
+use Rattle.std.specs.Prelude.{◌≡◌, ℕ, suc, ◌+◌, ◌*◌, ◌^◌, ◌<◌, ◌≤◌, ◌==◌, ◌||◌, Bool, true, false, not, nat_eq, if◌then◌else◌, List, [], ◌∷◌, map, filter, length, slice_index_or, Option, Some, None, is_some, is_none, IsSome, Ok, ◌⊎◌, ◌&&◌}
 use Rattle.std.specs.List.{list_all}
 use Rattle.mls_leaf.specs.Parent.{Parent, inserted}
 use Rattle.mls_leaf.specs.declared.leaf.LeafNode.{LeafNode}
-use Rattle.mls_term.specs.Term.{Term, Leaf, width, size, height, is_perfect, has_leaf, is_full_width, leaf_at}
+use Rattle.mls_term.specs.Term.{Term, Leaf, width, size, height, is_perfect, has_leaf, is_full_width, leaf_at, leaf_of}
 use Rattle.mls_term.specs.Sets.{has, leaf_numbers, is_distinct}
 use Rattle.mls_term.specs.Resolution.{resolution, is_reached}
 use Rattle.mls_term.specs.Way.{way, is_filtered, is_beside, filtered_path, path_length}
@@ -13,13 +13,13 @@ use Rattle.mls_treemath.specs.Paths.{Path, path_to, index_of, leaf_path}
 use Rattle.mls_treemath.specs.Steps.{above}
 use Rattle.mls_term.specs.Edits.{put, enter, grow, trim, first_blank, place_in, add, update, remove}
 use Rattle.mls_term.specs.Lists.{all_parents, lists_here, rises_here, is_named}
-use Rattle.mls_term.specs.Hashes.{original, hash_at, is_parent_hash_valid}
+use Rattle.mls_term.specs.Hashes.{tree_hash, original, hash_at, is_parent_hash_valid}
 use Rattle.mls_term.specs.Merge.{merge, merge_path, path_parent_hash, HasHead, IsPath}
-use Rattle.mls_term.specs.Keys.{leaf_key, encryption_keys, members, passes, all_members}
+use Rattle.mls_term.specs.Keys.{leaf_key, encryption_keys, signature_keys, members, passes, all_members}
 use Rattle.mls_term.specs.Held.{holds, held}
 use Rattle.mls_wire.specs.Checks.{passed}
 use Rattle.mls_leaf.specs.declared.node.Node.{Node}
-use Rattle.mls_term.specs.Good.{Rules, IsGood, AreNew, has_good_shape, is_within, tree_checks, IsSound, AreFit, has_distinct_keys, has_distinct_clients}
+use Rattle.mls_term.specs.Good.{Rules, IsGood, AreNew, has_good_shape, is_within, tree_checks, IsSound, AreFit, has_good_lists, has_good_hashes, has_distinct_keys, has_distinct_clients}
 use Rattle.mls_term.specs.Arrays.{leaf_in, term_of, in_order, to_nodes, from_nodes, node_at, under}
 
 -- leaf i is one of a tree whose first leaf is b
@@ -31,6 +31,11 @@ pub record IsIn (b : ℕ) (t : Term) (i : ℕ) : Type 0 where
 pub record HasLists (b : ℕ) (t : Term) : Type 0 where
   pub right : all_parents lists_here b t ≡ true
   pub rising : all_parents rises_here b t ≡ true
+
+-- lists of a whole tree are right, and each parent is parent-hash valid
+pub record IsTied (t : Term) : Type 0 where
+  pub lists : has_good_lists t ≡ true
+  pub hashes : has_good_hashes t ≡ true
 
 -- ---- shape
 
@@ -117,6 +122,14 @@ AddedIsWider = (t : Term) (x : LeafNode) → width t ≤ width (add t x)
 abbrev pub RemovedElsewhere : Type 0
 RemovedElsewhere = (t : Term) (i j : ℕ) → i < width t → j < width t → (j ≡ i → ⊥) → IsSome (leaf_at 0 t j) → (j < width (remove t i)) × (leaf_at 0 (remove t i) j ≡ leaf_at 0 t j)
 
+-- an added leaf makes a tree too large just where it has the most leaves and none of them is blank
+abbrev pub AddedIsWithin : Type 0
+AddedIsWithin = (k : ℕ) (t : Term) (x : LeafNode) → is_perfect (height t) t ≡ true → width t ≤ 2 ^ k → is_within (2 ^ k) (add t x) ≡ not (is_none (first_blank 0 t) && (width t == 2 ^ k))
+
+-- what all members pass, each member passes
+abbrev pub EachMemberPasses : Type 0
+EachMemberPasses = (p : ℕ → LeafNode → Bool) (b : ℕ) (t : Term) (j : ℕ) (x : LeafNode) → all_members p b t ≡ true → IsIn b t j → leaf_at b t j ≡ Some x → p j x ≡ true
+
 -- members that pass a test still do after each edit, where the new leaf passes it at its number
 abbrev pub MembersPut : Type 0
 MembersPut = (p : ℕ → LeafNode → Bool) (b : ℕ) (t : Term) (i : ℕ) (x : Option LeafNode) → IsIn b t i → passes p i x ≡ true → all_members p b t ≡ true → all_members p b (put b t i x) ≡ true
@@ -132,6 +145,19 @@ MembersGrow = (p : ℕ → LeafNode → Bool) (b : ℕ) (t : Term) → all_membe
 
 abbrev pub MembersTrim : Type 0
 MembersTrim = (p : ℕ → LeafNode → Bool) (b : ℕ) (t : Term) → all_members p b t ≡ true → all_members p b (trim t) ≡ true
+
+-- ---- clients
+
+-- a merge keeps the list of signature keys where the leaf keeps its own; so clients repeat after it where they did before
+abbrev pub ClientsMerge : Type 0
+ClientsMerge = (b : ℕ) (t : Term) (i : ℕ) (ks : List (List ℕ)) (h : List ℕ) (x old : LeafNode) → leaf_at b t i ≡ Some old → x.signature_key ≡ old.signature_key → signature_keys (merge b t i ks h x) ≡ signature_keys t
+
+abbrev pub ClientsMergePath : Type 0
+ClientsMergePath = (t : Term) (i : ℕ) (x old : LeafNode) (keys : List (List ℕ)) → leaf_of t i ≡ Some old → x.signature_key ≡ old.signature_key → has_distinct_clients (merge_path t i x keys) ≡ has_distinct_clients t
+
+-- where no client repeats, a signature key is that of one leaf
+abbrev pub OneLeafOfClient : Type 0
+OneLeafOfClient = (t : Term) (i j : ℕ) (x y : LeafNode) → has_distinct_clients t ≡ true → leaf_of t i ≡ Some x → leaf_of t j ≡ Some y → x.signature_key ≡ y.signature_key → i ≡ j
 
 -- ---- keys: those that pass a test still do after each edit, where the new ones pass it; so no edit brings another key
 
@@ -182,6 +208,32 @@ ListsMerge = (b : ℕ) (t : Term) (i : ℕ) (ks : List (List ℕ)) (h : List ℕ
 
 abbrev pub RisesMerge : Type 0
 RisesMerge = (b : ℕ) (t : Term) (i : ℕ) (ks : List (List ℕ)) (h : List ℕ) (x : LeafNode) → all_parents rises_here b t ≡ true → all_parents rises_here b (merge b t i ks h x) ≡ true
+
+-- so each edit of a whole tree keeps lists right
+abbrev pub RightUpdate : Type 0
+RightUpdate = (t : Term) (i : ℕ) (x : LeafNode) → has_good_lists t ≡ true → has_good_lists (update t i x) ≡ true
+
+abbrev pub RightRemove : Type 0
+RightRemove = (t : Term) (i : ℕ) → has_good_lists t ≡ true → has_good_lists (remove t i) ≡ true
+
+abbrev pub RightAdd : Type 0
+RightAdd = (t : Term) (x : LeafNode) → has_good_lists t ≡ true → has_good_lists (add t x) ≡ true
+
+abbrev pub RightMergePath : Type 0
+RightMergePath = (t : Term) (i : ℕ) (x : LeafNode) (keys : List (List ℕ)) → has_good_lists t ≡ true → has_good_lists (merge_path t i x keys) ≡ true
+
+-- and rising
+abbrev pub RisingUpdate : Type 0
+RisingUpdate = (t : Term) (i : ℕ) (x : LeafNode) → all_parents rises_here 0 t ≡ true → all_parents rises_here 0 (update t i x) ≡ true
+
+abbrev pub RisingRemove : Type 0
+RisingRemove = (t : Term) (i : ℕ) → all_parents rises_here 0 t ≡ true → all_parents rises_here 0 (remove t i) ≡ true
+
+abbrev pub RisingAdd : Type 0
+RisingAdd = (t : Term) (x : LeafNode) → all_parents rises_here 0 t ≡ true → all_parents rises_here 0 (add t x) ≡ true
+
+abbrev pub RisingMergePath : Type 0
+RisingMergePath = (t : Term) (i : ℕ) (x : LeafNode) (keys : List (List ℕ)) → all_parents rises_here 0 t ≡ true → all_parents rises_here 0 (merge_path t i x keys) ≡ true
 
 -- ---- resolutions
 
@@ -244,6 +296,31 @@ MergeHasHead = (b : ℕ) (t : Term) (i : ℕ) (ks : List (List ℕ)) (h : List �
 -- a merge keeps every parent parent-hash valid, where the new leaf has the path's parent hash
 abbrev pub ValidMerge : Type 0
 ValidMerge = (b : ℕ) (t : Term) (i : ℕ) (ks : List (List ℕ)) (h : List ℕ) (x : LeafNode) → IsPath b t i ks h x → all_parents is_parent_hash_valid b t ≡ true → all_parents is_parent_hash_valid b (merge b t i ks h x) ≡ true
+
+-- each edit of a whole tree keeps its lists right and its parents parent-hash valid, whatever else holds of it: a merge
+-- where the path has its keys and the leaf the path's parent hash
+abbrev pub TiedUpdate : Type 0
+TiedUpdate = (t : Term) (i : ℕ) (x : LeafNode) → IsTied t → IsTied (update t i x)
+
+abbrev pub TiedRemove : Type 0
+TiedRemove = (t : Term) (i : ℕ) → IsTied t → IsTied (remove t i)
+
+abbrev pub TiedAdd : Type 0
+TiedAdd = (t : Term) (x : LeafNode) → IsTied t → IsTied (add t x)
+
+abbrev pub TiedMergePath : Type 0
+TiedMergePath = (t : Term) (i : ℕ) (x : LeafNode) (keys : List (List ℕ)) → length keys ≡ path_length 0 t i → source_hash x.source ≡ Some (path_parent_hash t i keys) → IsTied t → IsTied (merge_path t i x keys)
+
+-- a tree hash has 32 bytes
+abbrev pub LengthOfTreeHash : Type 0
+LengthOfTreeHash = (b : ℕ) (t : Term) → length (tree_hash b t) ≡ 32
+
+-- a path's parent hash has 32 bytes or none, and none where the filtered path takes no parent in
+abbrev pub LengthOfPathHash : Type 0
+LengthOfPathHash = (t : Term) (i : ℕ) (keys : List (List ℕ)) → (length (path_parent_hash t i keys) ≡ 0) ⊎ (length (path_parent_hash t i keys) ≡ 32)
+
+abbrev pub PathHashIsEmpty : Type 0
+PathHashIsEmpty = (t : Term) (i : ℕ) (keys : List (List ℕ)) → length keys ≡ path_length 0 t i → length (path_parent_hash t i keys) ≡ (if path_length 0 t i == 0 then 0 else 32)
 
 -- ---- good trees
 

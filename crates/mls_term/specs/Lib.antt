@@ -34,3 +34,8 @@ pub mod GoodLaws
 pub mod SoundLaws
 pub mod KeptLaws
 pub mod PathLaws
+pub mod TakenLaws
+pub mod LimitLaws
+pub mod WholeLaws
+pub mod ClientLaws
+pub mod LengthLaws

@@ -1,5 +1,5 @@
 -- Sound trees stay sound, and a good tree is a sound one in which nothing repeats.
-use Rattle.std.proofs.Common.{◌≡◌, ℕ, suc, ◌<◌, ◌≤◌, true, List, [], ◌∷◌, Option, Some, None, refl, arith, leb-true, le-leb}
+use Rattle.std.proofs.Common.{◌≡◌, ℕ, suc, ◌<◌, ◌≤◌, true, List, [], Option, Some, None, refl, arith, leb-true, le-leb}
 use Rattle.std.specs.List.{list_all}
 use Rattle.std.proofs.lemmas.Bool.{and_parts}
 use Rattle.mls_leaf.specs.declared.leaf.LeafNode.{LeafNode}
@@ -18,11 +18,11 @@ use Rattle.mls_term.specs.MergeLaws.{width-merge, valid-merge, lists-merge, rise
 use Rattle.mls_term.specs.PlaceLaws.{first_blank_at, leaf_at-grow, width-grow, width-trim, full-put, full-enter, full-merge, full-grow, perfect-merge, perfect_itself}
 use Rattle.mls_term.specs.MemberLaws.{members-put, members-enter, members-merge, all_members-grow, all_members-trim, keys-put, keys-enter, keys-merge, keys-grow, keys-trim}
 
-within_from : (limit : ℕ) (t : Term) → width t ≤ limit → is_within limit t ≡ true
+pub within_from : (limit : ℕ) (t : Term) → width t ≤ limit → is_within limit t ≡ true
 unfolding is_within
 within_from limit t le = le-leb (width t) limit le
 
-within_at : (limit : ℕ) (t : Term) → is_within limit t ≡ true → width t ≤ limit
+pub within_at : (limit : ℕ) (t : Term) → is_within limit t ≡ true → width t ≤ limit
 unfolding is_within
 within_at limit t h = leb-true (width t) limit h
 

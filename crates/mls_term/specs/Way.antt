@@ -2,7 +2,8 @@
 use Rattle.std.specs.Prelude.{ℕ, ◌+◌, ◌*◌, nat_lt, nat_le, ◌&&◌, if◌then◌else◌, Bool, List, [], ◌∷◌, map, filter, reverse, length, Option}
 use Rattle.mls_leaf.specs.Parent.{Parent}
 use Rattle.mls_term.specs.Term.{Term, Leaf, Branch, width, size}
-use Rattle.mls_term.specs.Resolution.{is_reached}
+use Rattle.mls_term.specs.Sets.{less, leaf_numbers}
+use Rattle.mls_term.specs.Resolution.{resolution, is_reached}
 
 -- a node of the way: what it holds, its number, and its other side with that side's first leaf
 pub record Step : Type 0 where
@@ -41,3 +42,12 @@ filtered_path b t i = reverse (map (λ s. s.node) (filtered_way b t i))
 -- how many parents it takes in
 unfoldable pub path_length : ℕ → Term → ℕ → ℕ
 path_length b t i = length (filtered_way b t i)
+
+-- how many nodes a path secret is sealed to on a parent's other side, whose first leaf is m: those that reach all its
+-- members, without the leaves just added (RFC 9420, 7.6)
+abbrev pub target_count : List ℕ → ℕ → Term → ℕ
+target_count added m s = length (less (leaf_numbers added) (resolution m s))
+
+-- how many ciphertexts each node of leaf i's path has, the lowest first (RFC 9420, 7.6 and 12.4.2)
+unfoldable pub ciphertext_counts : ℕ → Term → ℕ → List ℕ → List ℕ
+ciphertext_counts b t i added = reverse (map (λ (s : Step). target_count added s.first s.other) (filtered_way b t i))

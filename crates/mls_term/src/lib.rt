@@ -3,11 +3,11 @@
 #![tactic(auto)]
 
 ghost use Rattle.mls_term.specs.Laws.{WidthOfPerfect, SizeOfWidth, WidthOfPut, WidthOfEnter, WidthOfMerge, PerfectPut, PerfectEnter, PerfectGrow, PerfectTrim, PerfectMerge, FullTrim};
-ghost use Rattle.mls_term.specs.Laws.{LeavesOfPut, LeavesOfEnter, LeavesOfMerge, MembersOfGrow, MembersOfTrim, FirstBlankIsBlank, FirstBlankIsFirst, NoBlankIsFull, AddedIsThere, AddedElsewhere, AddedIsWider, RemovedElsewhere};
-ghost use Rattle.mls_term.specs.Laws.{MembersPut, MembersEnter, MembersMerge, MembersGrow, MembersTrim, KeysPut, KeysEnter, KeysMerge, KeysGrow, KeysTrim};
-ghost use Rattle.mls_term.specs.Laws.{ListedIsMember, BlankIsUnlisted, ParentsPut, ParentsGrow, ParentsTrim, ListsEnter, RisesEnter, ListsMerge, RisesMerge};
+ghost use Rattle.mls_term.specs.Laws.{LeavesOfPut, LeavesOfEnter, LeavesOfMerge, MembersOfGrow, MembersOfTrim, FirstBlankIsBlank, FirstBlankIsFirst, NoBlankIsFull, AddedIsThere, AddedElsewhere, AddedIsWider, AddedIsWithin, RemovedElsewhere};
+ghost use Rattle.mls_term.specs.Laws.{EachMemberPasses, ClientsMerge, ClientsMergePath, OneLeafOfClient, MembersPut, MembersEnter, MembersMerge, MembersGrow, MembersTrim, KeysPut, KeysEnter, KeysMerge, KeysGrow, KeysTrim};
+ghost use Rattle.mls_term.specs.Laws.{ListedIsMember, BlankIsUnlisted, ParentsPut, ParentsGrow, ParentsTrim, ListsEnter, RisesEnter, ListsMerge, RisesMerge, RightUpdate, RightRemove, RightAdd, RightMergePath, RisingUpdate, RisingRemove, RisingAdd, RisingMergePath};
 ghost use Rattle.mls_term.specs.Laws.{MembersAreReached, ResolutionIsIn, ResolutionIsDistinct, OneIsHeld, OneIsHeldOfRest, OneIsFiltered, LengthOfPath, AddedJoins};
-ghost use Rattle.mls_term.specs.Laws.{OriginalOfNone, OriginalOfEnter, OriginalOfOthers, HashesOfEnter, ValidEnter, MergeHasHead, ValidMerge};
+ghost use Rattle.mls_term.specs.Laws.{OriginalOfNone, OriginalOfEnter, OriginalOfOthers, HashesOfEnter, ValidEnter, MergeHasHead, ValidMerge, TiedUpdate, TiedRemove, TiedAdd, TiedMergePath, LengthOfTreeHash, LengthOfPathHash, PathHashIsEmpty};
 ghost use Rattle.mls_term.specs.Laws.{GoodSingle, GoodUpdate, GoodRemove, GoodAdd, GoodMerge, GoodMergePath, SoundOfGood, GoodOfSound, SoundUpdate, SoundRemove, SoundAdd, SoundMergePath, GoodPasses, GoodFromChecks};
 ghost use Rattle.mls_term.specs.Laws.{TermOfInOrder, TermOfIsPerfect, FromToNodes, NodeInOrder, LeafIsNode, NodeOfWay, WayIsDirectPath, LeafByBits};
 ghost use Rattle.mls_term.specs.Examples.{ResolutionWithUnmerged, FilteredPathOfFour, NextAddOfFour, AddBehindPath, RemovalHalves, RemovalKeeps, RemovalHalvesOften, PathOfTwo, TreeOfTwo};
@@ -28,7 +28,8 @@ pub fn laws_of_shape()
     ensures full_trim { FullTrim }
 {}
 
-/// Leaves under each edit: one changes, or none; an added leaf lands in its place, and a removal cuts no other member.
+/// Leaves under each edit: one changes, or none; an added leaf lands in its place, and makes a tree too large just where
+/// it is full; a removal cuts no other member.
 pub fn laws_of_leaves()
     ensures put { LeavesOfPut }
     ensures enter { LeavesOfEnter }
@@ -41,16 +42,25 @@ pub fn laws_of_leaves()
     ensures added { AddedIsThere }
     ensures added_elsewhere { AddedElsewhere }
     ensures wider { AddedIsWider }
+    ensures within { AddedIsWithin }
     ensures removed_elsewhere { RemovedElsewhere }
 {}
 
-/// A test that each member passes is kept by each edit, where the new leaf passes it.
+/// A test that each member passes is kept by each edit, where the new leaf passes it; what all pass each passes.
 pub fn laws_of_members()
+    ensures each { EachMemberPasses }
     ensures put { MembersPut }
     ensures enter { MembersEnter }
     ensures merge { MembersMerge }
     ensures grow { MembersGrow }
     ensures trim { MembersTrim }
+{}
+
+/// A merge keeps the signature keys where the leaf keeps its own, and where none stands twice each is that of one leaf.
+pub fn laws_of_clients()
+    ensures merge { ClientsMerge }
+    ensures merge_path { ClientsMergePath }
+    ensures one { OneLeafOfClient }
 {}
 
 /// A test that each encryption key passes is kept by each edit, where the new keys pass it.
@@ -73,6 +83,14 @@ pub fn laws_of_lists()
     ensures rising_enter { RisesEnter }
     ensures right_merge { ListsMerge }
     ensures rising_merge { RisesMerge }
+    ensures right_update { RightUpdate }
+    ensures right_remove { RightRemove }
+    ensures right_add { RightAdd }
+    ensures right_merge_path { RightMergePath }
+    ensures rising_update { RisingUpdate }
+    ensures rising_remove { RisingRemove }
+    ensures rising_add { RisingAdd }
+    ensures rising_merge_path { RisingMergePath }
 {}
 
 /// Resolutions stay in their tree and name no node twice, each member has the key of one node of each resolution over
@@ -88,7 +106,8 @@ pub fn laws_of_resolutions()
     ensures added { AddedJoins }
 {}
 
-/// Original siblings are blind to adds, and each edit keeps parents parent-hash valid.
+/// Original siblings are blind to adds, each edit keeps parents parent-hash valid where lists are right, and hashes have
+/// 32 bytes.
 pub fn laws_of_parent_hashes()
     ensures original { OriginalOfNone }
     ensures original_enter { OriginalOfEnter }
@@ -97,6 +116,13 @@ pub fn laws_of_parent_hashes()
     ensures valid_enter { ValidEnter }
     ensures head { MergeHasHead }
     ensures valid_merge { ValidMerge }
+    ensures tied_update { TiedUpdate }
+    ensures tied_remove { TiedRemove }
+    ensures tied_add { TiedAdd }
+    ensures tied_merge_path { TiedMergePath }
+    ensures tree_hash { LengthOfTreeHash }
+    ensures path_hash { LengthOfPathHash }
+    ensures no_path { PathHashIsEmpty }
 {}
 
 /// Good trees stay good under each edit; so do sound trees, which are good but that keys and clients may repeat.

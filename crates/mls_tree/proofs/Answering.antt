@@ -1,11 +1,12 @@
 -- What the calls of a public tree answer, case by case.
-use Rattle.std.proofs.Common.{◌≡◌, ℕ, true, Option, Some, None, is_some, Ok, Err, refl, sym}
+use Rattle.std.proofs.Common.{◌≡◌, ℕ, true, List, Option, Some, None, is_some, Ok, Err, refl, sym}
 use Rattle.std.proofs.lemmas.Bool.{true≢false}
 use Rattle.mls_leaf.specs.declared.leaf.LeafNode.{LeafNode}
 use Rattle.mls_term.specs.Term.{Term, leaf_of}
 use Rattle.mls_term.specs.Edits.{update, remove}
-use Rattle.mls_term.specs.Way.{filtered_path}
+use Rattle.mls_term.specs.Way.{filtered_path, ciphertext_counts}
 use Rattle.mls_tree.specs.Tree.{path_answer, update_answer, remove_answer}
+use Rattle.mls_tree.specs.Paths.{counts_answer}
 
 module _ (t : Term) (i : ℕ) where
   pub path_refused : leaf_of t i ≡ None → path_answer t i ≡ Err 22
@@ -17,6 +18,18 @@ module _ (t : Term) (i : ℕ) where
   path_found some = go (leaf_of t i) some refl
     where
       go : (o : Option LeafNode) → is_some o ≡ true → leaf_of t i ≡ o → path_answer t i ≡ Ok (filtered_path 0 t i)
+      go None none e = absurd (true≢false (sym none))
+      go (Some v) some e = rw e refl
+
+  pub counts_refused : (added : List ℕ) → leaf_of t i ≡ None → counts_answer t i added ≡ Err 22
+  unfolding counts_answer
+  counts_refused added none = rw none refl
+
+  pub counts_found : (added : List ℕ) → is_some (leaf_of t i) ≡ true → counts_answer t i added ≡ Ok (ciphertext_counts 0 t i added)
+  unfolding counts_answer
+  counts_found added some = go (leaf_of t i) some refl
+    where
+      go : (o : Option LeafNode) → is_some o ≡ true → leaf_of t i ≡ o → counts_answer t i added ≡ Ok (ciphertext_counts 0 t i added)
       go None none e = absurd (true≢false (sym none))
       go (Some v) some e = rw e refl
 

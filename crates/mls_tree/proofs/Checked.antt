@@ -1,10 +1,17 @@
--- What the checks of a whole tree are called with.
-use Rattle.std.proofs.Common.{ℕ, ◌^◌, ◌<◌, ◌≤◌, List, length, Option, arith}
+-- What the checks of a whole tree are called with, and what they show.
+use Rattle.std.proofs.Common.{◌≡◌, ℕ, ◌^◌, ◌<◌, ◌≤◌, true, List, length, Option, Result, Ok, Err, OnOk, arith, ap, sym, ◌∙◌}
+use Rattle.mls_wire.specs.Checks.{passed, Answers}
 use Rattle.mls_leaf.specs.declared.node.Node.{Node}
 use Rattle.mls_treemath.specs.Limits.{max_height}
 use Rattle.mls_treemath.specs.Paths.{nodes_in}
 use Rattle.mls_treemath.specs.Sizes.{nodes_in-pow, nodes_in_up}
+use Rattle.mls_term.specs.Term.{Term, height, is_perfect}
+use Rattle.mls_term.specs.Lists.{all_parents, rises_here}
+use Rattle.mls_term.specs.Good.{Rules, IsGood, has_good_shape, is_within, tree_checks}
+use Rattle.mls_term.specs.GoodLaws.{good_from_checks}
 use Rattle.mls_array.specs.Standing.{Stands}
+use Rattle.mls_tree.specs.declared.error.TreeError.{TreeError}
+use Rattle.mls_tree.specs.Faults.{number_of}
 
 -- a tree of a height that is allowed has fewer than 2^32 nodes
 pub size_fits : (h : ℕ) (xs : List (Option Node)) → Stands h xs → h ≤ max_height → length xs < 2 ^ 32
@@ -13,3 +20,9 @@ size_fits h xs stands low =
     let up : nodes_in h ≤ nodes_in 12 = nodes_in_up h 12 low in
     let top = nodes_in-pow 12 in
     omega arith
+
+-- a tree of good shape that its checks accept is good, as its lists rise
+pub good_checked : {A : Type 0} (rules : Rules) (s t : Term) → s ≡ t → (r : Result A TreeError) → Answers (λ _. passed) number_of (tree_checks rules s) r → OnOk r (all_parents rises_here 0 s ≡ true) → is_perfect (height t) t ≡ true → is_within rules.limit t ≡ true → OnOk r (has_good_shape t ≡ true → IsGood rules t)
+good_checked rules s t at (Ok v) answer rising perfect within = λ shape.
+    good_from_checks rules t perfect (ap (all_parents rises_here 0) (sym at) ∙ rising) shape within (ap (tree_checks rules) (sym at) ∙ answer)
+good_checked rules s t at (Err e) answer rising perfect within = tt

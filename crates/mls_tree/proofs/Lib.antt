@@ -9,3 +9,4 @@ pub mod Fitting
 pub mod Checked
 pub mod Halves
 pub mod Keeping
+pub mod Refused

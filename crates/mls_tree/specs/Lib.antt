@@ -3,3 +3,8 @@ pub mod Faults
 pub mod Paths
 pub mod Rules
 pub mod Kept
+pub mod Refusals
+pub mod Perfect
+pub mod Steps
+pub mod Laws
+pub mod FitLaws

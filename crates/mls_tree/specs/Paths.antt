@@ -6,7 +6,7 @@ use Rattle.mls_leaf.specs.declared.leaf.LeafNode.{LeafNode}
 use Rattle.mls_term.specs.Node.{source_hash}
 use Rattle.mls_term.specs.Sets.{same_bytes, is_distinct}
 use Rattle.mls_term.specs.Term.{Term}
-use Rattle.mls_term.specs.Way.{path_length}
+use Rattle.mls_term.specs.Way.{path_length, ciphertext_counts}
 use Rattle.mls_term.specs.Hashes.{is_some_bytes}
 use Rattle.mls_term.specs.Keys.{encryption_keys}
 use Rattle.mls_term.specs.Merge.{merge_path, path_parent_hash}
@@ -19,6 +19,11 @@ path_checks t i n = member_at t i >>= λ v. require 30 (n == path_length 0 t i)
 -- the parent hash that the leaf of a path with these keys must have (RFC 9420, 7.9)
 unfoldable pub path_hash_answer : Term → ℕ → List (List ℕ) → Result (List ℕ) ℕ
 path_hash_answer t i keys = path_checks t i (length keys) >> Ok (path_parent_hash t i keys)
+
+-- how many ciphertexts each node of a member's path has, the lowest first, where these leaves were just added (RFC 9420,
+-- 7.6 and 12.4.2); 22 where no member is at leaf i
+unfoldable pub counts_answer : Term → ℕ → List ℕ → Result (List ℕ) ℕ
+counts_answer t i added = member_at t i >>= λ v. Ok (ciphertext_counts 0 t i added)
 
 -- the same checks, then 25 where two nodes of the merged tree have one encryption key, and 24 where the leaf's source
 -- isn't a commit with that parent hash (RFC 9420, 7.9.2 and 12.4.2)

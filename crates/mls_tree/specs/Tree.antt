@@ -1,13 +1,14 @@
 -- A public tree as a value, and what its calls answer.
-use Rattle.std.specs.Prelude.{◌≡◌, ℕ, ◌^◌, ◌==◌, Bool, true, false, List, Option, Some, None, Result, Ok, Err}
-use Rattle.mls_wire.specs.Checks.{given}
+use Rattle.std.specs.Prelude.{◌≡◌, ℕ, ◌^◌, List, Option, Result, Ok, Err}
+use Rattle.mls_wire.specs.Checks.{require, given, ◌>>◌}
 use Rattle.mls_wire.specs.Reading.{◌>>=◌}
 use Rattle.mls_leaf.specs.declared.node.Node.{Node}
 use Rattle.mls_leaf.specs.declared.leaf.LeafNode.{LeafNode}
 use Rattle.mls_treemath.specs.Limits.{max_height}
-use Rattle.mls_term.specs.Term.{Term, leaf_of, width}
-use Rattle.mls_term.specs.Edits.{first_blank, add, update, remove, place_in}
+use Rattle.mls_term.specs.Term.{Term, leaf_of}
+use Rattle.mls_term.specs.Edits.{add, update, remove, place_in}
 use Rattle.mls_term.specs.Way.{filtered_path}
+use Rattle.mls_term.specs.Good.{is_within}
 use Rattle.mls_term.specs.Arrays.{term_of}
 
 -- the nodes in order, and the height
@@ -31,14 +32,9 @@ member_at t i = given 22 (leaf_of t i)
 unfoldable pub path_answer : Term → ℕ → Result (List ℕ) ℕ
 path_answer t i = member_at t i >>= λ v. Ok (filtered_path 0 t i)
 
--- what adding a leaf answers, and the tree after it (RFC 9420, 12.1.1): 21 where the largest tree has no blank leaf
-abbrev pub room_answer : Term → LeafNode → Option ℕ → Bool → Result (ℕ × Term) ℕ
-room_answer t x (Some i) is_largest = Ok (i, add t x)
-room_answer t x None true = Err 21
-room_answer t x None false = Ok (place_in t, add t x)
-
+-- what adding a leaf answers, and the tree after it (RFC 9420, 12.1.1): 21 where that tree would be too large
 unfoldable pub add_answer : Term → LeafNode → Result (ℕ × Term) ℕ
-add_answer t x = room_answer t x (first_blank 0 t) (width t == max_leaves)
+add_answer t x = require 21 (is_within max_leaves (add t x)) >> Ok (place_in t, add t x)
 
 -- an update of a member's leaf (RFC 9420, 12.1.2)
 unfoldable pub update_answer : Term → ℕ → LeafNode → Result Term ℕ

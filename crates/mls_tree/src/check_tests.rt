@@ -5,7 +5,8 @@ ghost use Rattle.mls_term.specs.Term.{leaf_of};
 ghost use Rattle.mls_tree.specs.Tree.{term};
 
 use crate::{PublicTree, TreeError};
-use mls_leaf::{Bytes, Codec, Items, LeafNode, Node, ParentNode};
+use mls_leaf::{Bytes, Codec, Items, LeafNode, ParentNode};
+use mls_slot::{SharedLeaf, SharedParent, Slot};
 use mls_suite::Glass;
 use std::alloc::{AllocError, Global};
 use std::test::*;
@@ -113,10 +114,17 @@ fn half_empty(
     requires right { IsShort leaf_node right }
     ensures { IfOk result (λ t. (i : ℕ) → IfSome (leaf_of (term t) i) (λ v. IsShort leaf_node v)) }
 {
-    let left = Some(Node::Leaf(left));
-    let parent = Some(Node::Parent(parent));
-    let right = Some(Node::Leaf(right));
-    let nodes = Vec::from_array(alloc, [left, parent, None, None, right, None, None])?;
+    let left = SharedLeaf::new(alloc, left)?;
+    let parent = SharedParent::new(alloc, parent)?;
+    let right = SharedLeaf::new(alloc, right)?;
+    let mut nodes = Vec::new(alloc);
+    nodes.push(left.into_slot())?;
+    nodes.push(parent.into_slot())?;
+    nodes.push(Slot::blank())?;
+    nodes.push(Slot::blank())?;
+    nodes.push(right.into_slot())?;
+    nodes.push(Slot::blank())?;
+    nodes.push(Slot::blank())?;
     Ok(PublicTree { nodes, height: 2 })
 }
 

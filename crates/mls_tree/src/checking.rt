@@ -1,9 +1,9 @@
 //! The checks of a whole tree (RFC 9420, 7.3, 7.9.2 and 12.4.3.1).
 
-ghost use Rattle.std.specs.Prelude.{◌≡◌, ℕ, ◌<◌, ◌≤◌, ◌^◌, List, length, IfOk, IfSome};
+ghost use Rattle.std.specs.Prelude.{◌≡◌, ℕ, ◌<◌, ◌≤◌, ◌^◌, true, List, length, IfOk, OnOk, IfSome};
 ghost use Rattle.std.specs.Option.{option_copied};
 ghost use Rattle.std.specs.List.{list_all};
-ghost use Rattle.mls_wire.specs.Checks.{passed, Answers};
+ghost use Rattle.mls_wire.specs.Checks.{passed, require, Answers};
 ghost use Rattle.mls_treemath.specs.Paths.{nodes_in};
 ghost use Rattle.mls_treemath.specs.Limits.{max_height};
 ghost use Rattle.mls_checks.specs.Leaf.{is_signed, is_capable};
@@ -11,12 +11,14 @@ ghost use Rattle.mls_checks.specs.Short.{IsShort};
 ghost use Rattle.mls_leaf.specs.Leaf.{leaf_node};
 ghost use Rattle.mls_term.specs.Term.{leaf_of};
 ghost use Rattle.mls_term.specs.Keys.{passes};
-ghost use Rattle.mls_term.specs.Good.{is_all_signed, is_all_capable, is_all_fit, tree_checks};
+ghost use Rattle.mls_term.specs.Lists.{all_parents, rises_here};
+ghost use Rattle.mls_term.specs.Good.{IsGood, has_good_shape, has_good_lists, has_distinct_keys, has_distinct_clients, is_all_signed, is_all_capable, is_all_fit, tree_checks};
 ghost use Rattle.mls_term.specs.Arrays.{term_of};
 ghost use Rattle.mls_array.specs.Standing.{Stands};
 ghost use Rattle.mls_array.specs.Gathered.{cell_key};
 ghost use Rattle.mls_suite.specs.Crypto.{Crypto};
 ghost use Rattle.mls_tree.specs.Faults.{number_of};
+ghost use Rattle.mls_tree.specs.Refusals.{RefusesOutright};
 ghost use Rattle.mls_tree.specs.Rules.{rules_of};
 ghost use Rattle.mls_tree.specs.Tree.{term};
 
@@ -25,6 +27,7 @@ use crate::tree::PublicTree;
 use mls_array as array;
 use mls_checks::{leaf_capable, leaf_signed};
 use mls_leaf::{LeafNode, Node};
+use mls_slot::Slot;
 use mls_suite::Suite;
 use std::alloc::{AllocError, Global};
 
@@ -39,7 +42,7 @@ fn is_capable_or_blank(leaf: Option<&LeafNode>, suite: u16) -> bool
 }
 
 /// Whether each member has the capabilities that a group of this suite needs.
-fn all_capable(nodes: &[Option<Node>], height: u32, suite: u16) -> bool
+fn all_capable(nodes: &[Slot], height: u32, suite: u16) -> bool
     requires shape { length nodes.now ≡ nodes_in height }
     requires fits { length nodes.now < 2 ^ 32 }
     ensures { (c : Crypto) (group : List ℕ) → c.number ≡ suite → result ≡ is_all_capable (rules_of c group) (term_of height nodes.now) }
@@ -73,7 +76,7 @@ fn is_signed_or_blank<S: Suite>(
 /// Whether each member's signature is its own.
 fn all_signed<S: Suite>(
     alloc: Global,
-    nodes: &[Option<Node>],
+    nodes: &[Slot],
     height: u32,
     group_id: &[u8],
 ) -> Result<bool, AllocError>
@@ -93,10 +96,10 @@ fn all_signed<S: Suite>(
 }
 
 /// Whether the encryption key in a place is fit for sealing, where it isn't blank.
-fn is_fit_or_blank<S: Suite>(node: &Option<Node>) -> bool
+fn is_fit_or_blank<S: Suite>(node: &Slot) -> bool
     ensures { result ≡ list_all S.crypto.key_ok (cell_key node.now) }
 {
-    match node {
+    match node.node() {
         Some(Node::Leaf(leaf)) => S::key_ok(leaf.encryption_key.as_slice()),
         Some(Node::Parent(parent)) => S::key_ok(parent.encryption_key()),
         None => true,
@@ -104,7 +107,7 @@ fn is_fit_or_blank<S: Suite>(node: &Option<Node>) -> bool
 }
 
 /// Whether each encryption key is fit for sealing. Takes no memory.
-fn all_fit<S: Suite>(nodes: &[Option<Node>], height: u32) -> bool
+fn all_fit<S: Suite>(nodes: &[Slot], height: u32) -> bool
     requires { Stands height nodes.now }
     ensures { (group : List ℕ) → result ≡ is_all_fit (rules_of S.crypto group) (term_of height nodes.now) }
 {
@@ -120,7 +123,7 @@ fn all_fit<S: Suite>(nodes: &[Option<Node>], height: u32) -> bool
 #[tactic(auto, unfolding(mls_term::specs::Good::tree_checks))]
 fn check<S: Suite>(
     alloc: Global,
-    nodes: &[Option<Node>],
+    nodes: &[Slot],
     height: u32,
     group_id: &[u8],
 ) -> Result<(), TreeError>
@@ -128,7 +131,9 @@ fn check<S: Suite>(
     requires low { height ≤ max_height }
     requires group { length group_id.now < 2 ^ 28 }
     requires short { (i : ℕ) → IfSome (leaf_of (term_of height nodes.now) i) (λ v. IsShort leaf_node v) }
-    ensures { Answers (λ _. passed) number_of (tree_checks (rules_of S.crypto group_id.now) (term_of height nodes.now)) result }
+    ensures answer { Answers (λ _. passed) number_of (tree_checks (rules_of S.crypto group_id.now) (term_of height nodes.now)) result }
+    ensures lists { RefusesOutright number_of (require 23 (has_good_lists (term_of height nodes.now))) result }
+    ensures rising { OnOk result (all_parents rises_here 0 (term_of height nodes.now) ≡ true) }
 {
     if !array::has_good_lists(nodes, height) {
         return Err(TreeError::UnmergedWrong);
@@ -160,14 +165,31 @@ impl PublicTree {
     /// parent-hash valid (RFC 9420, 7.9.2); `KeyRepeated` (25) where two nodes have one encryption key;
     /// `ClientRepeated` (26) where two members have one signature key; `LeafSignature` (51) where a member's signature
     /// isn't its own; `LeafCapability` (52) where a member lacks a capability (RFC 9420, 7.3); `BadKey` (36) where an
-    /// encryption key isn't fit for sealing.
+    /// encryption key isn't fit for sealing. A tree of good shape that is accepted is good.
     pub fn check<S: Suite>(&mut self, group_id: &[u8]) -> Result<(), TreeError>
         requires group { length group_id.now < 2 ^ 28 }
         requires short { (i : ℕ) → IfSome (leaf_of (term self.old) i) (λ v. IsShort leaf_node v) }
         ensures answer { Answers (λ _. passed) number_of (tree_checks (rules_of S.crypto group_id.now) (term self.old)) result }
+        // 23 comes whatever memory there is.
+        ensures refused { RefusesOutright number_of (require 23 (has_good_lists (term self.old))) result }
+        ensures good { OnOk result (has_good_shape (term self.old) ≡ true → IsGood (rules_of S.crypto group_id.now) (term self.old)) }
         ensures same { term self.new ≡ term self.old }
     {
         let alloc = *self.nodes.allocator();
         check::<S>(alloc, &self.nodes, self.height, group_id)
+    }
+
+    /// Whether no two nodes have one encryption key (RFC 9420, 7.3).
+    pub fn has_distinct_keys(&self) -> Result<bool, AllocError>
+        ensures { IfOk result (λ b. b ≡ has_distinct_keys (term self.now)) }
+    {
+        array::has_distinct_keys(*self.nodes.allocator(), &self.nodes, self.height)
+    }
+
+    /// Whether no two members have one signature key (RFC 9420, 7.3).
+    pub fn has_distinct_clients(&self) -> Result<bool, AllocError>
+        ensures { IfOk result (λ b. b ≡ has_distinct_clients (term self.now)) }
+    {
+        array::has_distinct_clients(*self.nodes.allocator(), &self.nodes, self.height)
     }
 }

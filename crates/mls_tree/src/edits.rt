@@ -8,11 +8,11 @@ ghost use Rattle.mls_array.specs.Standing.{Stands};
 ghost use Rattle.mls_array.specs.StandingLaws.{StandsFor};
 
 use mls_array as array;
-use mls_leaf::{LeafNode, Node};
+use mls_slot::{SharedLeaf, Slot};
 use std::alloc::AllocError;
 
 /// Replaces leaf i and blanks the parents over it.
-pub(crate) fn put(nodes: &mut Vec<Option<Node>>, height: u32, i: u32, leaf: Option<LeafNode>)
+pub(crate) fn put(nodes: &mut Vec<Slot>, height: u32, i: u32, leaf: Option<SharedLeaf>)
     requires stands { Stands height nodes.old.items }
     requires low { height ≤ max_height }
     ensures { StandsFor height nodes.new.items (put 0 (term_of height nodes.old.items) i leaf) }
@@ -22,10 +22,10 @@ pub(crate) fn put(nodes: &mut Vec<Option<Node>>, height: u32, i: u32, leaf: Opti
 
 /// Fills leaf i, and enters it in the list of each parent over it.
 pub(crate) fn enter(
-    nodes: &mut Vec<Option<Node>>,
+    nodes: &mut Vec<Slot>,
     height: u32,
     i: u32,
-    leaf: LeafNode,
+    leaf: SharedLeaf,
 ) -> Result<(), AllocError>
     requires stands { Stands height nodes.old.items }
     requires low { height ≤ max_height }
@@ -37,11 +37,7 @@ pub(crate) fn enter(
 }
 
 /// Doubles the tree, and fills the first of the new leaves. The parents over it are blank.
-pub(crate) fn append(
-    nodes: &mut Vec<Option<Node>>,
-    height: u32,
-    leaf: LeafNode,
-) -> Result<(), AllocError>
+pub(crate) fn append(nodes: &mut Vec<Slot>, height: u32, leaf: SharedLeaf) -> Result<(), AllocError>
     requires stands { Stands height nodes.old.items }
     requires low { height < max_height }
     ensures ok { OnOk result (StandsFor (height + 1) nodes.new.items (enter 0 (grow (term_of height nodes.old.items)) (2 ^ height) leaf)) }
@@ -53,7 +49,7 @@ pub(crate) fn append(
 }
 
 /// Keeps the left half alone as long as the right half has no member, and answers the height.
-pub(crate) fn trim(nodes: &mut Vec<Option<Node>>, height: u32) -> u32
+pub(crate) fn trim(nodes: &mut Vec<Slot>, height: u32) -> u32
     requires { Stands height nodes.old.items }
     ensures order { StandsFor result nodes.new.items (trim (term_of height nodes.old.items)) }
     ensures low { result ≤ height }

@@ -10,6 +10,7 @@ mod check_tests;
 mod checking;
 mod edits;
 mod error;
+mod laws;
 #[cfg(test)]
 mod members;
 #[cfg(test)]
@@ -20,5 +21,6 @@ mod tests;
 mod tree;
 
 pub use error::TreeError;
+pub use laws::laws_of_leaves;
 pub use mls_array::Hash;
 pub use tree::PublicTree;

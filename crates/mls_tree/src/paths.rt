@@ -1,6 +1,6 @@
 //! A commit's path: the parent hash of its leaf, and its merge.
 
-ghost use Rattle.std.specs.Prelude.{◌≡◌, ℕ, ◌≤◌, List, [], reverse, None, true, IfOk, OnOk};
+ghost use Rattle.std.specs.Prelude.{◌≡◌, ℕ, ◌≤◌, List, [], reverse, length, None, IfOk, OnOk};
 ghost use Rattle.mls_wire.specs.Checks.{passed, Answers, AnswersOutright};
 ghost use Rattle.mls_treemath.specs.Limits.{max_height};
 ghost use Rattle.mls_term.specs.Node.{source_hash};
@@ -10,30 +10,26 @@ ghost use Rattle.mls_term.specs.Hashes.{is_some_bytes};
 ghost use Rattle.mls_term.specs.Keys.{encryption_keys};
 ghost use Rattle.mls_term.specs.Edits.{put};
 ghost use Rattle.mls_term.specs.Merge.{merge_path, path_parent_hash};
-ghost use Rattle.mls_term.specs.Good.{Rules, IsGood, IsSound, AreNew, AreFit, has_distinct_clients};
+ghost use Rattle.mls_term.specs.Good.{AreNew};
 ghost use Rattle.mls_term.specs.Arrays.{term_of};
 ghost use Rattle.mls_array.specs.Standing.{Stands};
 ghost use Rattle.mls_array.specs.StandingLaws.{StandsFor};
 ghost use Rattle.mls_array.specs.Merging.{hash_bytes, path_parents};
 ghost use Rattle.mls_tree.specs.Faults.{number_of};
-ghost use Rattle.mls_tree.specs.Kept.{KeepsGood};
+ghost use Rattle.mls_tree.specs.Kept.{KeepsGood, MergesGood};
+ghost use Rattle.mls_tree.specs.Refusals.{RefusesOutright};
 ghost use Rattle.mls_tree.specs.Tree.{term};
-ghost use Rattle.mls_tree.specs.Paths.{path_checks, path_hash_answer, merge_checks, merge_answer, ChangesWhole};
+ghost use Rattle.mls_tree.specs.Paths.{path_checks, path_hash_answer, counts_answer, merge_checks, merge_answer, ChangesWhole};
 
 use crate::error::TreeError;
 use crate::tree::PublicTree;
 use mls_array::{self as array, Hash, MergedPath};
-use mls_leaf::{Bytes, LeafNode, LeafSource, Node, ParentNode};
+use mls_leaf::{Bytes, LeafNode, LeafSource};
+use mls_slot::{SharedLeaf, SharedParent, Slot};
 use std::alloc::AllocError;
 
 /// Merges a path whose parents these are, the highest first. Takes no memory.
-fn merge(
-    nodes: &mut Vec<Option<Node>>,
-    height: u32,
-    i: u32,
-    leaf: LeafNode,
-    parents: Vec<ParentNode>,
-)
+fn merge(nodes: &mut Vec<Slot>, height: u32, i: u32, leaf: SharedLeaf, parents: Vec<SharedParent>)
     requires stands { Stands height nodes.old.items }
     requires low { height ≤ max_height }
     ensures { (keys : List (List ℕ)) → parents.items ≡ path_parents 0 (term_of height nodes.old.items) i (reverse keys) [] → StandsFor height nodes.new.items (merge_path (term_of height nodes.old.items) i leaf keys) }
@@ -106,8 +102,9 @@ impl PublicTree {
         i: u32,
         leaf: &LeafNode,
         keys: Vec<Bytes>,
-    ) -> Result<Vec<ParentNode>, TreeError>
+    ) -> Result<Vec<SharedParent>, TreeError>
         ensures checks { Answers (λ _. passed) number_of (merge_checks (term self.now) i leaf.now keys.items) result }
+        ensures refused { RefusesOutright number_of (path_checks (term self.now) i (length keys.items)) result }
         ensures parents { IfOk result (λ v. v.items ≡ path_parents 0 (term self.now) i (reverse keys.items) []) }
     {
         match self.require_path(i, keys.len()) {
@@ -126,11 +123,28 @@ impl PublicTree {
         Ok(path.parents)
     }
 
+    /// How many ciphertexts each node of a path of member i has, the lowest first, where these leaves were just added: one
+    /// for each node of the resolution of its child on the copath that isn't one of them (RFC 9420, 7.6). `NoSuchLeaf`
+    /// (22) where no member is at leaf i, whatever memory there is.
+    pub fn ciphertext_counts(&self, i: u32, added: &[u32]) -> Result<Vec<usize>, TreeError>
+        ensures answer { Answers (λ v. v.items) number_of (counts_answer (term self.now) i added.now) result }
+        ensures refused { RefusesOutright number_of (counts_answer (term self.now) i added.now) result }
+    {
+        match self.require_member(i) {
+            Err(error) => return Err(error),
+            Ok(()) => {}
+        }
+        let mut counts = Vec::new(*self.nodes.allocator());
+        array::ciphertext_counts(&self.nodes, self.height, 0, i, added, &mut counts)?;
+        Ok(counts)
+    }
+
     /// The parent hash that the leaf of a path with these keys must have, the lowest first: empty where the filtered
     /// path is (RFC 9420, 7.9). Refused with `NoSuchLeaf` (22) where no member is at leaf i, then with `PathLength` (30)
     /// where there aren't as many keys as its filtered path has parents.
     pub fn path_parent_hash(&mut self, i: u32, keys: &[Bytes]) -> Result<Vec<u8>, TreeError>
         ensures answer { Answers (λ v. v.items) number_of (path_hash_answer (term self.old) i keys.now) result }
+        ensures refused { RefusesOutright number_of (path_checks (term self.old) i (length keys.now)) result }
         ensures same { term self.new ≡ term self.old }
     {
         match self.require_path(i, keys.len()) {
@@ -148,16 +162,20 @@ impl PublicTree {
     /// where the leaf's source isn't a commit with the path's parent hash. After a refusal the tree is as before.
     pub fn merge_path(&mut self, i: u32, leaf: LeafNode, keys: Vec<Bytes>) -> Result<(), TreeError>
         ensures answer { ChangesWhole number_of (merge_answer (term self.old) i leaf keys.items) (term self.old) (term self.new) result }
+        // 22 and 30 come whatever memory there is.
+        ensures refused { RefusesOutright number_of (path_checks (term self.old) i (length keys.items)) result }
         // A good tree stays good where the leaf and the keys pass the checks.
         ensures good { OnOk result (KeepsGood (λ rules. AreNew rules i leaf keys.items (put 0 (term self.old) i None)) (term self.old) (term self.new)) }
-        // A sound tree becomes good, as keys are checked here, where no client repeats in the merged tree.
-        ensures checked { OnOk result ((rules : Rules) → AreFit rules i leaf keys.items → has_distinct_clients (term self.new) ≡ true → IsSound rules (term self.old) → IsGood rules (term self.new)) }
+        // A sound tree becomes good, as keys are checked here, where no client repeats in it and the leaf keeps its
+        // signature key.
+        ensures checked { OnOk result (MergesGood i leaf keys.items (term self.old) (term self.new)) }
     {
         let parents = match self.require_merge(i, &leaf, keys) {
             Err(error) => return Err(error),
             Ok(parents) => parents,
         };
         let height = self.height;
+        let leaf = SharedLeaf::new(*self.nodes.allocator(), leaf)?;
         merge(&mut self.nodes, height, i, leaf, parents);
         Ok(())
     }

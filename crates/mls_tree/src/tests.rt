@@ -1,20 +1,21 @@
 use crate::members::{byte, member};
 use crate::{PublicTree, TreeError};
 use mls_leaf::{Items, Node, ParentNode};
+use mls_slot::Slot;
 use std::alloc::{AllocError, Global};
 use std::test::*;
 
 /// The nodes of a tree, up to the last leaf that is taken: its leaves as listed.
-fn nodes_of(alloc: Global, taken: &[bool]) -> Result<Vec<Option<Node>>, AllocError> {
+fn nodes_of(alloc: Global, taken: &[bool]) -> Result<Vec<Slot>, AllocError> {
     let mut nodes = Vec::new(alloc);
     for is_taken in taken {
         if !nodes.is_empty() {
-            nodes.push(None)?;
+            nodes.push(Slot::blank())?;
         }
         if *is_taken {
-            nodes.push(Some(Node::Leaf(member(alloc, 1)?)))?;
+            nodes.push(Slot::of(alloc, Node::Leaf(member(alloc, 1)?))?)?;
         } else {
-            nodes.push(None)?;
+            nodes.push(Slot::blank())?;
         }
     }
     Ok(nodes)
@@ -25,11 +26,14 @@ fn tree_of(alloc: Global, taken: &[bool]) -> Result<PublicTree, TreeError> {
 }
 
 /// A parent that lists one leaf.
-fn listing(alloc: Global, leaf: u32) -> Result<Option<Node>, AllocError> {
+fn listing(alloc: Global, leaf: u32) -> Result<Slot, AllocError> {
     let mut leaves = Vec::new(alloc);
     leaves.push(leaf)?;
     let parent = ParentNode::new(byte(alloc, 9)?, byte(alloc, 9)?, Items::from_vec(leaves));
-    Ok(parent.ok().map(Node::Parent))
+    match parent {
+        Ok(parent) => Slot::of(alloc, Node::Parent(parent)),
+        Err(_) => Ok(Slot::blank()),
+    }
 }
 
 #[test]

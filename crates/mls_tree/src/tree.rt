@@ -1,33 +1,37 @@
 //! The public tree.
 
-ghost use Rattle.std.specs.Prelude.{◌≡◌, ◌<◌, ◌≤◌, [], Some, None, is_some, true, IfOk, OnOk, MatchResult, length};
+ghost use Rattle.std.specs.Prelude.{◌≡◌, ◌<◌, ◌≤◌, ◌&&◌, [], Some, None, is_some, true, IfOk, OnOk, MatchResult, length};
 ghost use Rattle.std.specs.Option.{option_copied};
-ghost use Rattle.mls_wire.specs.Checks.{Answers, DoesAs};
+ghost use Rattle.mls_wire.specs.Checks.{Answers, DoesAs, require};
 ghost use Rattle.mls_term.specs.Term.{Leaf, has_leaf, leaf_of, width};
 ghost use Rattle.mls_term.specs.Places.{resolution_at};
 ghost use Rattle.mls_term.specs.Keys.{members};
 ghost use Rattle.mls_term.specs.Hashes.{tree_hash};
-ghost use Rattle.mls_term.specs.Arrays.{from_nodes, to_nodes, node_at};
+ghost use Rattle.mls_term.specs.Arrays.{has_last, alternates, from_nodes, to_nodes, node_at};
 ghost use Rattle.mls_term.specs.Edits.{put, place_in};
-ghost use Rattle.mls_term.specs.Good.{Rules, IsGood, AreNew, AreFit};
+ghost use Rattle.mls_term.specs.Good.{Rules, IsGood, AreNew, AreFit, has_good_shape};
 ghost use Rattle.mls_tree.specs.Faults.{number_of};
 ghost use Rattle.mls_tree.specs.declared.error.TreeError.TheVariants.{NoSuchLeaf};
 ghost use Rattle.mls_tree.specs.Kept.{KeepsGood, KeepsSound};
+ghost use Rattle.mls_tree.specs.Refusals.{RefusesOutright};
+ghost use Rattle.mls_tree.specs.Paths.{ChangesWhole};
 ghost use Rattle.mls_tree.specs.Tree.{term, max_leaves, path_answer, add_answer, update_answer, remove_answer, Changes};
 
 use crate::edits;
 use crate::error::TreeError;
 use mls_array::{self as array, Hash};
 use mls_leaf::{LeafNode, Node};
+use mls_slot::{SharedLeaf, Slot};
 use mls_treemath::MAX_HEIGHT;
 use std::alloc::{AllocError, Global};
 use std::marker::Model;
 
 /// The public tree of a group: at most 4,096 leaves, a power of two, each a member or blank, and the parents over them.
-/// Its methods use the allocator that it was made with.
+/// Its methods use the allocator that it was made with. A copy shares the nodes, and an edit copies only those that it
+/// changes.
 #[derive(Drop)]
 pub struct PublicTree {
-    pub(crate) nodes: Vec<Option<Node>>,
+    pub(crate) nodes: Vec<Slot>,
     pub(crate) height: u32,
 }
 
@@ -52,7 +56,8 @@ impl PublicTree {
         ensures good { IfOk result (λ t. (rules : Rules) → 0 < rules.limit → AreNew rules 0 leaf [] (Leaf None) → IsGood rules (term t)) }
     {
         let mut nodes = Vec::with_capacity(alloc, 1)?;
-        nodes.push(Some(Node::Leaf(leaf)))?;
+        let leaf = SharedLeaf::new(alloc, leaf)?;
+        nodes.push(leaf.into_slot())?;
         Ok(PublicTree { nodes, height: 0 })
     }
 
@@ -60,8 +65,11 @@ impl PublicTree {
     /// holds them. Refused with `TreeShape` (20) where there are no nodes, the last one is blank, a leaf is at an odd or
     /// a parent at an even place, or more than one leaf and no member in the right half; then with `TreeFull` (21)
     /// above 4,096 leaves.
-    pub fn from_nodes(nodes: Vec<Option<Node>>) -> Result<PublicTree, TreeError>
-        ensures { Answers term number_of (from_nodes max_leaves nodes.items) result }
+    pub fn from_nodes(nodes: Vec<Slot>) -> Result<PublicTree, TreeError>
+        ensures answer { Answers term number_of (from_nodes max_leaves nodes.items) result }
+        // 20 comes whatever memory there is, where the nodes alone show it.
+        ensures refused { RefusesOutright number_of (require 20 (has_last nodes.items && alternates true nodes.items)) result }
+        ensures shape { IfOk result (λ t. has_good_shape (term t) ≡ true) }
     {
         if !array::has_last(&nodes) {
             return Err(TreeError::TreeShape);
@@ -80,8 +88,9 @@ impl PublicTree {
         Ok(PublicTree { nodes, height })
     }
 
-    /// The nodes in order, as they are sent: all up to the last one that isn't blank (RFC 9420, 12.4.3.3).
-    pub fn to_nodes(&self) -> Result<Vec<Option<Node>>, AllocError>
+    /// The nodes in order, as they are sent: all up to the last one that isn't blank (RFC 9420, 12.4.3.3). They are
+    /// shared with the tree.
+    pub fn to_nodes(&self) -> Result<Vec<Slot>, AllocError>
         ensures { IfOk result (λ v. v.items ≡ to_nodes (term self.now)) }
     {
         let sent = array::to_nodes(*self.nodes.allocator(), &self.nodes)?;
@@ -90,7 +99,8 @@ impl PublicTree {
 
     /// How many leaves it has, blank ones too.
     pub fn leaf_count(&self) -> u32
-        ensures { result ≡ width (term self.now) }
+        ensures width { result ≡ width (term self.now) }
+        ensures small { result ≤ max_leaves }
     {
         1 << self.height
     }
@@ -110,7 +120,7 @@ impl PublicTree {
     }
 
     /// Refuses a leaf index at which no member is.
-    fn require_member(&self, i: u32) -> Result<(), TreeError>
+    pub(crate) fn require_member(&self, i: u32) -> Result<(), TreeError>
         ensures { MatchResult result (λ _. is_some (leaf_of (term self.now) i) ≡ true) (λ e. (e ≡ NoSuchLeaf) × (leaf_of (term self.now) i ≡ None)) }
     {
         match self.leaf(i) {
@@ -139,7 +149,8 @@ impl PublicTree {
     /// The filtered direct path of member i as node indices, the lowest first (RFC 9420, 4.1.2); `NoSuchLeaf` (22)
     /// where no member is there.
     pub fn filtered_path(&self, i: u32) -> Result<Vec<u32>, TreeError>
-        ensures { Answers (λ v. v.items) number_of (path_answer (term self.now) i) result }
+        ensures answer { Answers (λ v. v.items) number_of (path_answer (term self.now) i) result }
+        ensures refused { RefusesOutright number_of (path_answer (term self.now) i) result }
     {
         match self.require_member(i) {
             Err(error) => return Err(error),
@@ -159,16 +170,20 @@ impl PublicTree {
     }
 
     /// Adds a member at the leftmost blank leaf, in a tree of twice the leaves where none is blank, and answers its leaf
-    /// index (RFC 9420, 12.1.1). The largest tree with no blank leaf is refused with `TreeFull` (21).
+    /// index (RFC 9420, 12.1.1). Refused with `TreeFull` (21) where that tree would have more than 4,096 leaves, whatever
+    /// memory there is.
     pub fn add(&mut self, leaf: LeafNode) -> Result<u32, TreeError>
         ensures answer { DoesAs (λ i. i) number_of (add_answer (term self.old) leaf) (term self.old) (term self.new) result }
+        ensures refused { RefusesOutright number_of (add_answer (term self.old) leaf) result }
         // A good tree stays good where the leaf passes the checks, and a sound one sound.
         ensures good { OnOk result (KeepsGood (λ rules. (max_leaves ≤ rules.limit) × AreNew rules (place_in (term self.old)) leaf [] (term self.old)) (term self.old) (term self.new)) }
         ensures sound { OnOk result (KeepsSound (λ rules. (max_leaves ≤ rules.limit) × AreFit rules (place_in (term self.old)) leaf []) (term self.old) (term self.new)) }
     {
         let height = self.height;
+        let alloc = *self.nodes.allocator();
         match array::first_blank(&self.nodes, height, 0) {
             Some(i) => {
+                let leaf = SharedLeaf::new(alloc, leaf)?;
                 edits::enter(&mut self.nodes, height, i, leaf)?;
                 Ok(i)
             }
@@ -176,6 +191,7 @@ impl PublicTree {
                 if height == MAX_HEIGHT {
                     return Err(TreeError::TreeFull);
                 }
+                let leaf = SharedLeaf::new(alloc, leaf)?;
                 edits::append(&mut self.nodes, height, leaf)?;
                 self.height = height + 1;
                 Ok(1 << height)
@@ -184,9 +200,10 @@ impl PublicTree {
     }
 
     /// Replaces the leaf of member i and blanks the parents over it (RFC 9420, 12.1.2); `NoSuchLeaf` (22) where no
-    /// member is there. Takes no memory.
+    /// member is there. After a refusal the tree is as before.
     pub fn update(&mut self, i: u32, leaf: LeafNode) -> Result<(), TreeError>
-        ensures answer { Changes number_of (update_answer (term self.old) i leaf) (term self.old) (term self.new) result }
+        ensures answer { ChangesWhole number_of (update_answer (term self.old) i leaf) (term self.old) (term self.new) result }
+        ensures refused { RefusesOutright number_of (update_answer (term self.old) i leaf) result }
         // A good tree stays good where the leaf passes the checks, and a sound one sound.
         ensures good { OnOk result (KeepsGood (λ rules. AreNew rules i leaf [] (put 0 (term self.old) i None)) (term self.old) (term self.new)) }
         ensures sound { OnOk result (KeepsSound (λ rules. AreFit rules i leaf []) (term self.old) (term self.new)) }
@@ -195,6 +212,7 @@ impl PublicTree {
             Err(error) => return Err(error),
             Ok(()) => {}
         }
+        let leaf = SharedLeaf::new(*self.nodes.allocator(), leaf)?;
         let height = self.height;
         edits::put(&mut self.nodes, height, i, Some(leaf));
         Ok(())
@@ -216,5 +234,16 @@ impl PublicTree {
         edits::put(&mut self.nodes, height, i, None);
         self.height = edits::trim(&mut self.nodes, height);
         Ok(())
+    }
+}
+
+impl Clone for PublicTree {
+    ghost is_clone = { λ t u. u ≡ t };
+
+    fn clone(&self) -> Result<PublicTree, AllocError> {
+        Ok(PublicTree {
+            nodes: self.nodes.clone()?,
+            height: self.height,
+        })
     }
 }

@@ -4,6 +4,7 @@ use crate::small_trees::{key_at, key_nodes, member};
 use crate::{PrivatePath, TreeKemError};
 use mls_kdf::{Secret, derive_secret};
 use mls_leaf::{Bytes, Items, Node, ParentNode};
+use mls_slot::Slot;
 use mls_suite::{Glass, Suite};
 use mls_tree::PublicTree;
 use std::alloc::{AllocError, Global};
@@ -11,17 +12,17 @@ use std::test::Fail;
 
 const SECRET: Secret = [7; 32];
 
-fn leaf(alloc: Global, key: u8) -> Result<Option<Node>, AllocError> {
-    Ok(Some(Node::Leaf(member(alloc, key)?)))
+fn leaf(alloc: Global, key: u8) -> Result<Slot, AllocError> {
+    Slot::of(alloc, Node::Leaf(member(alloc, key)?))
 }
 
 /// A parent with the public key of the path secret, which lists these leaves.
-fn parent(alloc: Global, listed: &[u32]) -> Result<Option<Node>, Fail> {
+fn parent(alloc: Global, listed: &[u32]) -> Result<Slot, Fail> {
     let pair = Glass::derive_key_pair(alloc, &derive_secret(&SECRET, "node"))?;
     let list = Items::from_vec(Vec::from_slice(alloc, listed)?);
     let hash = Bytes::from_vec(Vec::new(alloc));
     let parent = ParentNode::new(Bytes::from_vec(pair.pk), hash, list)?;
-    Ok(Some(Node::Parent(parent)))
+    Ok(Slot::of(alloc, Node::Parent(parent))?)
 }
 
 /// Two members, and a root that lists these.
@@ -34,7 +35,7 @@ fn two(alloc: Global, listed: &[u32]) -> Result<PublicTree, Fail> {
 }
 
 /// Two members, the last of which is under a parent that lists these.
-fn half(alloc: Global, nodes: &mut Vec<Option<Node>>, listed: &[u32]) -> Result<(), Fail> {
+fn half(alloc: Global, nodes: &mut Vec<Slot>, listed: &[u32]) -> Result<(), Fail> {
     nodes.push(leaf(alloc, 2)?)?;
     nodes.push(parent(alloc, listed)?)?;
     nodes.push(leaf(alloc, 3)?)?;
@@ -45,7 +46,7 @@ fn half(alloc: Global, nodes: &mut Vec<Option<Node>>, listed: &[u32]) -> Result<
 fn four(alloc: Global, listed: &[u32]) -> Result<PublicTree, Fail> {
     let mut nodes = Vec::new(alloc);
     nodes.push(leaf(alloc, 0)?)?;
-    nodes.push(None)?;
+    nodes.push(Slot::blank())?;
     nodes.push(leaf(alloc, 1)?)?;
     nodes.push(parent(alloc, &[])?)?;
     half(alloc, &mut nodes, listed)?;

@@ -1,12 +1,12 @@
 use Rattle.mls_paths.proofs.laws_of_making.Goals as goal
-use Rattle.mls_paths.specs.MakeLaws.{climb_is_chain, keys_are_chain, keys_of_secrets, count_is_length, making_climbs, make_exact}
+use Rattle.mls_paths.specs.MakeLaws.{keys_are_chain, keys_of_secrets, count_is_length, making_climbs, make_exact}
+use Rattle.mls_paths.specs.SeedLaws.{seed_wraps}
 use Rattle.mls_paths.specs.SealLaws.{made_path, path_some}
-use Rattle.mls_paths.specs.MergedLaws.{path_has_keys, make_merged, seal_merged, path_merged}
+use Rattle.mls_paths.specs.MergedLaws.{path_has_keys, make_merged, seal_merged, count_merged, path_merged}
 
 pub returns : goal.returns
 returns c =
     record {
-      chain = climb_is_chain;
       keys = keys_are_chain;
       secrets = keys_of_secrets;
       count = count_is_length;
@@ -15,7 +15,9 @@ returns c =
       made = made_path;
       fit = path_some;
       path = path_has_keys;
+      wraps = seed_wraps;
       merged = make_merged;
       seal_merged = seal_merged;
+      count_merged = count_merged;
       path_merged = path_merged;
     }

@@ -1,6 +1,7 @@
 use Rattle.mls_paths.proofs.laws_of_paths.Goals as goal
 use Rattle.mls_paths.specs.FitLaws.{fit_targets}
-use Rattle.mls_paths.specs.WholeLaws.{sealed_keys, sealed_lengths, sealed_where_fit, refused_where_unfit, sealed_merged, opened_merged, made_exact, made_merged, length_merged, filtered_merged, opened_exact, opened_agrees, taken_agrees, secret_for_merged}
+use Rattle.mls_paths.specs.ForkLaws.{secret_at_ancestor}
+use Rattle.mls_paths.specs.WholeLaws.{sealed_keys, sealed_lengths, sealed_where_fit, refused_where_unfit, sealed_merged, opened_merged, secret_merged, made_exact, made_merged, length_merged, filtered_merged, opened_exact, opened_agrees, opened_is_sent, taken_agrees, secret_for_merged}
 
 pub returns : goal.returns
 returns c =
@@ -12,12 +13,15 @@ returns c =
       fit_targets = fit_targets;
       seal_merged = sealed_merged;
       open_merged = opened_merged;
+      opened_merged = secret_merged;
       made_exact = made_exact;
       made_merged = made_merged;
       length_merged = length_merged;
       filtered_merged = filtered_merged;
       opened_exact = opened_exact;
       opened_agrees = opened_agrees;
+      opened_secret = opened_is_sent;
+      at_ancestor = secret_at_ancestor;
       taken_agrees = taken_agrees;
       secret_merged = secret_for_merged;
     }

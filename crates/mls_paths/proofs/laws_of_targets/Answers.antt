@@ -4,6 +4,7 @@ use Rattle.mls_term.specs.CountLaws.{resolution_distinct}
 use Rattle.mls_term.specs.EntryLaws.{one_filtered}
 use Rattle.mls_paths.specs.Lists.{below_here}
 use Rattle.mls_paths.specs.ListLaws.{below_bound}
+use Rattle.mls_paths.specs.TargetLaws.{one_node, one_target}
 use Rattle.mls_paths.specs.EntryLaws.{key_where_held, one_entry, entry_key}
 use Rattle.mls_paths.specs.PairLaws.{pairs_in_order, pairs_found}
 
@@ -14,8 +15,10 @@ returns c =
       in_place = λ b t d h. resolution_range below_here below_bound b t d h.below;
       distinct = λ b t h. resolution_distinct below_here below_bound b t h.below h.rising;
       one_filtered = λ b t i j two. one_filtered b t i j two.first.low two.first.high two.second.low two.second.high two.apart;
+      one_node = one_node;
       held = key_where_held;
       one_entry = one_entry;
+      one_target = one_target;
       entry_key = entry_key;
       in_order = pairs_in_order;
       found = pairs_found;

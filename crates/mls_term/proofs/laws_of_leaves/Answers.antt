@@ -1,6 +1,7 @@
 use Rattle.mls_term.proofs.laws_of_leaves.Goals as goal
 use Rattle.mls_term.specs.PlaceLaws.{leaf_at-put, leaf_at-enter, leaf_at-merge, members-grow, members-trim, first_blank_at, first_blank_first, first_blank_none}
 use Rattle.mls_term.specs.MemberLaws.{add_there, add_elsewhere, add_wider, remove_elsewhere}
+use Rattle.mls_term.specs.LimitLaws.{add_within}
 
 pub returns : goal.returns
 returns c =
@@ -16,5 +17,6 @@ returns c =
       added = add_there;
       added_elsewhere = add_elsewhere;
       wider = add_wider;
+      within = add_within;
       removed_elsewhere = remove_elsewhere;
     }

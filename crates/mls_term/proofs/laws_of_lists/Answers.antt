@@ -2,6 +2,7 @@ use Rattle.mls_term.proofs.laws_of_lists.Goals as goal
 use Rattle.mls_term.specs.NamedLaws.{named_range, fresh, lists-enter, rises-enter}
 use Rattle.mls_term.specs.ParentLaws.{parents-put, parents-grow, parents-trim}
 use Rattle.mls_term.specs.MergeLaws.{lists-merge, rises-merge}
+use Rattle.mls_term.specs.WholeLaws.{right_update, right_remove, right_add, right_merge_path, rising_update, rising_remove, rising_add, rising_merge_path}
 
 pub returns : goal.returns
 returns c =
@@ -15,4 +16,12 @@ returns c =
       rising_enter = rises-enter;
       right_merge = lists-merge;
       rising_merge = rises-merge;
+      right_update = right_update;
+      right_remove = right_remove;
+      right_add = right_add;
+      right_merge_path = right_merge_path;
+      rising_update = rising_update;
+      rising_remove = rising_remove;
+      rising_add = rising_add;
+      rising_merge_path = rising_merge_path;
     }

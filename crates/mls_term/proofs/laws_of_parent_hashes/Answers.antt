@@ -4,6 +4,8 @@ use Rattle.mls_term.specs.OriginalLaws.{original-enter, original-with}
 use Rattle.mls_term.specs.ResolutionLaws.{hash_at-enter}
 use Rattle.mls_term.specs.AddLaws.{valid-add}
 use Rattle.mls_term.specs.MergeLaws.{merge_head, valid-merge}
+use Rattle.mls_term.specs.WholeLaws.{tied_update, tied_remove, tied_add, tied_merge_path}
+use Rattle.mls_term.specs.LengthLaws.{length-tree_hash, none_or_long, length-path_parent_hash}
 
 pub returns : goal.returns
 returns c =
@@ -15,4 +17,11 @@ returns c =
       valid_enter = λ b t i x p. valid-add b t i x p.low p.high;
       head = merge_head;
       valid_merge = valid-merge;
+      tied_update = tied_update;
+      tied_remove = tied_remove;
+      tied_add = tied_add;
+      tied_merge_path = tied_merge_path;
+      tree_hash = length-tree_hash;
+      path_hash = none_or_long;
+      no_path = length-path_parent_hash;
     }

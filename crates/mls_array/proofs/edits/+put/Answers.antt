@@ -1,7 +1,7 @@
 use Rattle.std.proofs.Common.{◌<◌, length, refl, arith, rules}
 use Rattle.mls_treemath.specs.Sizes.{nodes_in_pos}
 use Rattle.mls_array.proofs.Standings.{half, left_of, right_of}
-use Rattle.mls_array.proofs.Puts.{put_one, put_in_left, put_in_right}
+use Rattle.mls_array.proofs.Puts.{put_one, put_left_blank, put_right_blank}
 use Rattle.mls_array.proofs.edits.+put.Goals as goal
 
 pub bounds-nodes-0 : goal.bounds-nodes-0
@@ -12,7 +12,7 @@ bounds-nodes-0 t c =
     search rules
 
 pub returns-then-height-eq0 : goal.returns-then-height-eq0
-returns-then-height-eq0 t c = put_one _ _ _ _ _ _ c.if-height-eq0.true c.requires.stands.size c.cell_of.ensures
+returns-then-height-eq0 t c = put_one _ _ _ _ _ _ c.if-height-eq0.true c.requires.stands.size c.slot_of.ensures
 
 pub put-requires : goal.put-requires
 put-requires t c =
@@ -27,8 +27,8 @@ put-requires-else-i-second t c =
 
 pub returns-then-i-second : goal.returns-then-i-second
 returns-then-i-second t c =
-    put_in_left _ _ _ _ c.middle_of-middle.ensures refl (omega arith) c.requires.stands _ _ _ _ c.if-i-second.true c.put.ensures
+    put_left_blank _ _ _ _ c.middle_of-middle.ensures refl (omega arith) c.requires.stands _ _ _ _ _ c.blank.ensures c.if-i-second.true c.put.ensures
 
 pub returns-else-i-second : goal.returns-else-i-second
 returns-else-i-second t c =
-    put_in_right _ _ _ _ c.middle_of-middle.ensures refl (omega arith) c.requires.stands _ _ _ _ c.if-i-second.false c.put-else-i-second.ensures
+    put_right_blank _ _ _ _ c.middle_of-middle.ensures refl (omega arith) c.requires.stands _ _ _ _ _ c.blank.ensures c.if-i-second.false c.put-else-i-second.ensures

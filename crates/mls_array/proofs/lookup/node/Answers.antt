@@ -10,6 +10,6 @@ returns-then-place-nodes c =
 
 pub returns : goal.returns
 returns c =
-    c.as_ref.ensures.value
+    c.node.ensures
     ∙ get_or_read c.args.nodes.now c.args.x _ (omega arith) c.index-nodes-place.is None
     ∙ sym (node_at-standing c.args.height c.args.x c.args.nodes.now c.requires)

@@ -1,4 +1,4 @@
-use Rattle.std.proofs.Common.{◌<◌, length, refl, arith, rules}
+use Rattle.std.proofs.Common.{◌<◌, ◌∙◌, length, set, ap, refl, arith, rules}
 use Rattle.mls_treemath.specs.Sizes.{nodes_in_pos}
 use Rattle.mls_array.proofs.Standings.{half, left_of, right_of}
 use Rattle.mls_array.proofs.Merged.{merge_one, merge_in_left, merge_in_right}
@@ -12,7 +12,7 @@ bounds-nodes-0 t c =
     search rules
 
 pub returns-then-height-eq0 : goal.returns-then-height-eq0
-returns-then-height-eq0 t c = λ ks g made. merge_one _ _ _ _ _ _ _ c.if-height-eq0.true c.requires.stands.size
+returns-then-height-eq0 t c = λ ks g made. ap (set c.args.nodes.now 0) c.into_slot.ensures ∙ merge_one _ _ _ _ _ _ _ c.if-height-eq0.true c.requires.stands.size
 
 pub merge-requires : goal.merge-requires
 merge-requires t c =

@@ -3,15 +3,15 @@ use Rattle.mls_term.specs.Arrays.{cut}
 use Rattle.mls_array.proofs.Sent.{cut-front, cut-back, cut-none}
 use Rattle.mls_array.proofs.order.sent_len.Goals as goal
 
-pub returns-then-is_some-clause-cut : goal.returns-then-is_some-clause-cut
-returns-then-is_some-clause-cut c =
-    cut-front c.args.nodes.now c.loop-len.len _ (omega arith) (omega arith) c.index-nodes-len.is (sym c.is_some.ensures ∙ c.if-is_some.true)
+pub returns-then-is_taken-clause-cut : goal.returns-then-is_taken-clause-cut
+returns-then-is_taken-clause-cut c =
+    cut-front c.args.nodes.now c.loop-len.len _ (omega arith) (omega arith) c.index-nodes-len.is (sym c.is_taken.ensures ∙ c.if-is_taken.true)
     ∙ c.loop-len.invariant.1
 
 pub loop-len-preserved : goal.loop-len-preserved
 loop-len-preserved c = (
   omega arith,
-  cut-back c.args.nodes.now c.loop-len.len _ (omega arith) (omega arith) c.index-nodes-len.is (sym c.is_some.ensures ∙ c.if-is_some.false)
+  cut-back c.args.nodes.now c.loop-len.len _ (omega arith) (omega arith) c.index-nodes-len.is (sym c.is_taken.ensures ∙ c.if-is_taken.false)
       ∙ c.loop-len.invariant.1,
 )
 

@@ -4,14 +4,24 @@ use Rattle.mls_term.specs.Arrays.{term_of}
 use Rattle.mls_tree.specs.Tree.{term}
 use Rattle.mls_tree.specs.Faults.{number_of}
 use Rattle.mls_tree.proofs.Answering.{path_refused, path_found}
+use Rattle.mls_tree.proofs.Refused.{one_number, not_refused}
 use Rattle.mls_tree.proofs.tree.PublicTree.filtered_path.Goals as goal
 
-pub returns-in-Err : goal.returns-in-Err
-returns-in-Err c = λ _. path_refused _ _ c.in-Err.ensures.1 ∙ ap (λ e. Err (number_of e)) (sym c.in-Err.ensures.0)
+pub returns-in-Err-clause-answer : goal.returns-in-Err-clause-answer
+returns-in-Err-clause-answer c = λ _. path_refused _ _ c.in-Err.ensures.1 ∙ ap (λ e. Err (number_of e)) (sym c.in-Err.ensures.0)
 
-pub returns : goal.returns
-returns c =
+pub returns-clause-answer : goal.returns-clause-answer
+returns-clause-answer c =
     path_found _ _ c.in-Ok.ensures
     ∙ ap (λ t. Ok (filtered_path 0 (term t) c.args.i)) (sym c.self.view_is)
     ∙ ap (λ xs. Ok (filtered_path 0 (term_of c.self.inside.height xs) c.args.i)) (sym c.deref.ensures.value)
     ∙ ap Ok (sym (rw c.new-nodes.ensures.items at c.in_ok-filtered_path.ensures))
+
+pub returns-in-Err-clause-refused : goal.returns-in-Err-clause-refused
+returns-in-Err-clause-refused c = one_number _ _ (path_refused _ _ c.in-Err.ensures.1 ∙ ap (λ e. Err (number_of e)) (sym c.in-Err.ensures.0))
+
+pub returns-in_err-filtered_path-clause-refused : goal.returns-in_err-filtered_path-clause-refused
+returns-in_err-filtered_path-clause-refused c = λ n h. absurd (not_refused _ _ (path_found _ _ c.in-Ok.ensures) n h)
+
+pub returns-clause-refused : goal.returns-clause-refused
+returns-clause-refused c = not_refused _ _ (path_found _ _ c.in-Ok.ensures)

@@ -2,7 +2,7 @@ use Rattle.std.proofs.Common.{Ok, [], reverse, refl, sym, ◌∙◌, ap}
 use Rattle.mls_term.specs.Merge.{merge_path}
 use Rattle.mls_array.specs.Merging.{path_parents}
 use Rattle.mls_tree.specs.Tree.{term}
-use Rattle.mls_tree.proofs.Keeping.{merge_good, merge_new}
+use Rattle.mls_tree.proofs.Keeping.{merge_checked, merge_new}
 use Rattle.mls_tree.proofs.Pathing.{merge_refused, merge_done}
 use Rattle.mls_tree.proofs.tree.PublicTree.merge_path.Goals as goal
 
@@ -18,10 +18,10 @@ pub returns-clause-answer : goal.returns-clause-answer
 returns-clause-answer c =
     let made = c.in-Ok.ensures.parents ∙ ap (λ t. path_parents 0 (term t) c.args.i (reverse c.args.keys.items) []) (sym c.self.view_is) in
     merge_done _ _ _ _ c.in-Ok.ensures.checks
-    ∙ ap Ok (ap (λ t. merge_path (term t) c.args.i c.args.leaf c.args.keys.items) (sym c.self.view_is) ∙ sym (c.merge.ensures c.args.keys.items made).term)
+    ∙ ap Ok (ap (λ t. merge_path (term t) c.args.i c.args.leaf c.args.keys.items) (sym c.self.view_is) ∙ sym (rw c.in_ok-leaf.ensures at (c.merge.ensures c.args.keys.items made).term))
 
 pub returns-clause-good : goal.returns-clause-good
-returns-clause-good c = merge_new _ _ _ _ c.in-Ok.ensures.checks _ (returns-clause-answer c)
+returns-clause-good c = merge_new _ _ _ _ _ (returns-clause-answer c)
 
 pub returns-clause-checked : goal.returns-clause-checked
-returns-clause-checked c = merge_good _ _ _ _ c.in-Ok.ensures.checks _ (returns-clause-answer c)
+returns-clause-checked c = merge_checked _ _ _ _ _ (returns-clause-answer c)

@@ -19,7 +19,7 @@ returns-clause-answer c =
     ∙ sym c.trim-self-inside.ensures.order.term)
 
 pub returns-clause-good : goal.returns-clause-good
-returns-clause-good c = remove_good _ _ c.args.i c.in-Ok.ensures (returns-clause-answer c)
+returns-clause-good c = remove_good _ _ c.args.i (returns-clause-answer c)
 
 pub returns-clause-sound : goal.returns-clause-sound
-returns-clause-sound c = remove_sound _ _ c.args.i c.in-Ok.ensures (returns-clause-answer c)
+returns-clause-sound c = remove_sound _ _ c.args.i (returns-clause-answer c)

@@ -5,10 +5,10 @@ use Rattle.mls_tree.proofs.Singles.{single_stands}
 use Rattle.mls_tree.proofs.tree.PublicTree.single.Goals as goal
 
 pub invariant_of-result : goal.invariant_of-result
-invariant_of-result c = ((single_stands c.args.leaf _ (rw c.in_ok-nodes.ensures.items at c.in_ok-push.ensures.items)).stands, omega arith)
+invariant_of-result c = ((single_stands c.args.leaf _ (rw (c.in_ok-nodes.ensures.items, c.into_slot.ensures, c.in_ok-leaf.ensures) at c.in_ok-push.ensures.items)).stands, omega arith)
 
 pub returns-clause-tree : goal.returns-clause-tree
-returns-clause-tree c = (single_stands c.args.leaf _ (rw c.in_ok-nodes.ensures.items at c.in_ok-push.ensures.items)).term
+returns-clause-tree c = (single_stands c.args.leaf _ (rw (c.in_ok-nodes.ensures.items, c.into_slot.ensures, c.in_ok-leaf.ensures) at c.in_ok-push.ensures.items)).term
 
 pub returns-clause-good : goal.returns-clause-good
 returns-clause-good c rules room new =

@@ -5,18 +5,28 @@ use Rattle.mls_tree.specs.Tree.{term}
 use Rattle.mls_tree.specs.Faults.{number_of}
 use Rattle.mls_tree.proofs.Keeping.{update_good, update_sound}
 use Rattle.mls_tree.proofs.Answering.{update_refused, update_done}
+use Rattle.mls_tree.proofs.Refused.{one_number, not_refused}
 use Rattle.mls_tree.proofs.tree.PublicTree.update.Goals as goal
 
 pub returns-in-Err-clause-answer : goal.returns-in-Err-clause-answer
-returns-in-Err-clause-answer c = (refl, update_refused _ _ c.args.leaf c.in-Err.ensures.1 ∙ ap (λ e. Rattle.std.proofs.Common.Err (number_of e)) (sym c.in-Err.ensures.0))
+returns-in-Err-clause-answer c = (refl, λ _. update_refused _ _ c.args.leaf c.in-Err.ensures.1 ∙ ap (λ e. Rattle.std.proofs.Common.Err (number_of e)) (sym c.in-Err.ensures.0))
 
 pub returns-clause-answer : goal.returns-clause-answer
 returns-clause-answer c =
     update_done _ _ c.args.leaf c.in-Ok.ensures
-    ∙ ap Ok (update_is _ c.args.i c.args.leaf ∙ ap (λ t. put 0 (term t) c.args.i (Some c.args.leaf)) (sym c.self.view_is) ∙ sym c.put.ensures.term)
+    ∙ ap Ok (update_is _ c.args.i c.args.leaf ∙ ap (λ t. put 0 (term t) c.args.i (Some c.args.leaf)) (sym c.self.view_is) ∙ sym (rw c.in_ok-leaf.ensures at c.put.ensures.term))
 
 pub returns-clause-good : goal.returns-clause-good
-returns-clause-good c = update_good _ _ c.args.i c.in-Ok.ensures c.args.leaf (returns-clause-answer c)
+returns-clause-good c = update_good _ _ c.args.i c.args.leaf (returns-clause-answer c)
 
 pub returns-clause-sound : goal.returns-clause-sound
-returns-clause-sound c = update_sound _ _ c.args.i c.in-Ok.ensures c.args.leaf (returns-clause-answer c)
+returns-clause-sound c = update_sound _ _ c.args.i c.args.leaf (returns-clause-answer c)
+
+pub returns-in-Err-clause-refused : goal.returns-in-Err-clause-refused
+returns-in-Err-clause-refused c = one_number _ _ (update_refused _ _ c.args.leaf c.in-Err.ensures.1 ∙ ap (λ e. Rattle.std.proofs.Common.Err (number_of e)) (sym c.in-Err.ensures.0))
+
+pub returns-clause-refused : goal.returns-clause-refused
+returns-clause-refused c = not_refused _ _ (update_done _ _ c.args.leaf c.in-Ok.ensures)
+
+pub returns-in_err-leaf-clause-refused : goal.returns-in_err-leaf-clause-refused
+returns-in_err-leaf-clause-refused c = λ n h. absurd (not_refused _ _ (update_done _ _ c.args.leaf c.in-Ok.ensures) n h)

@@ -1,0 +1,91 @@
+//! How many ciphertexts the nodes of a path have.
+
+ghost use Rattle.std.specs.Prelude.{◌≡◌, ◌+◌, ◌^◌, ◌≤◌, [], ◌∷◌, ◌++◌, length, if◌then◌else◌, IfOk, OnOk};
+ghost use Rattle.mls_treemath.specs.Paths.{nodes_in};
+ghost use Rattle.mls_term.specs.Sets.{has, less, leaf_numbers};
+ghost use Rattle.mls_term.specs.Resolution.{is_reached};
+ghost use Rattle.mls_term.specs.Way.{target_count, ciphertext_counts};
+ghost use Rattle.mls_term.specs.Arrays.{term_of};
+
+use crate::places::middle_of;
+use crate::resolutions::{is_reached, resolution};
+use mls_slot::Slot;
+use std::alloc::AllocError;
+
+/// Whether a node is one of these leaves.
+fn is_one_of(leaves: &[u32], node: u64) -> bool
+    ensures { result ≡ has (leaf_numbers leaves.now) node }
+{
+    for leaf in leaves {
+        if 2 * u64::from(*leaf) == node {
+            return true;
+        }
+    }
+    false
+}
+
+/// How many nodes aren't among these leaves.
+fn count_others(nodes: &[u64], leaves: &[u32]) -> usize
+    ensures { result ≡ length (less (leaf_numbers leaves.now) nodes.now) }
+{
+    let mut count = 0usize;
+    for node in nodes {
+        if is_one_of(leaves, *node) {
+            continue;
+        }
+        count += 1;
+    }
+    count
+}
+
+/// Adds to `out` how many nodes of a side's resolution aren't leaves just added, where it has any node.
+fn push_count(
+    side: &[Slot],
+    height: u32,
+    first: u32,
+    added: &[u32],
+    out: &mut Vec<usize>,
+) -> Result<(), AllocError>
+    requires shape { length side.now ≡ nodes_in height }
+    requires fits { first + 2 ^ height ≤ 2 ^ 31 }
+    ensures { OnOk result (out.new.items ≡ out.old.items ++ (if is_reached first (term_of height side.now) then target_count added.now first (term_of height side.now) ∷ [] else [])) }
+{
+    if !is_reached(side, height) {
+        return Ok(());
+    }
+    let mut nodes = Vec::new(*out.allocator());
+    resolution(side, height, first, &mut nodes)?;
+    out.push(count_others(&nodes, added))?;
+    Ok(())
+}
+
+/// Adds to `out` how many ciphertexts each node of a leaf's path has, the lowest first (RFC 9420, 7.6): one for each node
+/// of the resolution of its other side, without the leaves just added.
+#[tactic(auto, using(mls_treemath::specs::Sizes::nodes_in_pos))]
+pub fn ciphertext_counts(
+    nodes: &[Slot],
+    height: u32,
+    first: u32,
+    leaf: u32,
+    added: &[u32],
+    out: &mut Vec<usize>,
+) -> Result<(), AllocError>
+    requires shape { length nodes.now ≡ nodes_in height }
+    requires fits { first + 2 ^ height ≤ 2 ^ 31 }
+    ensures { OnOk result (out.new.items ≡ out.old.items ++ ciphertext_counts first (term_of height nodes.now) leaf added.now) }
+{
+    if height == 0 {
+        return Ok(());
+    }
+    let middle = middle_of(nodes.len(), height);
+    let second = first + (middle / 2 + 1) as u32;
+    let left = &nodes[..middle];
+    let right = &nodes[middle + 1..];
+    if leaf < second {
+        ciphertext_counts(left, height - 1, first, leaf, added, out)?;
+        push_count(right, height - 1, second, added, out)
+    } else {
+        ciphertext_counts(right, height - 1, second, leaf, added, out)?;
+        push_count(left, height - 1, first, added, out)
+    }
+}

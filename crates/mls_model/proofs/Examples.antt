@@ -1,0 +1,58 @@
+-- Small states, worked out.
+use Rattle.std.proofs.Common.{refl}
+use Rattle.mls_term.specs.Term.{width, height, leaf_at, leaf_of, has_leaf, blanks}
+use Rattle.mls_term.specs.Sets.{has, count, same_bytes, is_distinct}
+use Rattle.mls_term.specs.Edits.{put, enter, grow, trim, first_blank, add, remove}
+use Rattle.mls_term.specs.Keys.{gather}
+use Rattle.mls_term.specs.Good.{is_within, has_distinct_keys, has_distinct_clients}
+use Rattle.mls_term.specs.Way.{way}
+use Rattle.mls_tree.specs.Tree.{add_answer, remove_answer}
+use Rattle.mls_paths.specs.Follow.{key_above, follow_edit}
+use Rattle.mls_model.specs.Proposals.{full_checks, updates, updated, removed, adds}
+use Rattle.mls_model.specs.Commit.{all_updated, all_removed, all_added, edited}
+use Rattle.mls_model.specs.Member.{kept_under, used_by, above_leaf, of_leaf, with_keys, followed}
+use Rattle.mls_model.specs.Examples.{HalvesAndDoubles, KeysOfCutNodes, TakenAgain, TakenBySame, RemovedByList, UpdatedTwice, UpdatedAndRemoved, CommitterFirst, CommitterRemoved, UsesKept, UsesUnknown}
+
+pub halves_and_doubles : HalvesAndDoubles
+unfolding edited full_checks updates updated removed adds all_updated all_removed all_added remove_answer add_answer remove add put enter grow trim first_blank has_leaf leaf_at leaf_of blanks height width has count same_bytes is_distinct gather is_within has_distinct_keys has_distinct_clients
+halves_and_doubles c context interim key hash = refl
+
+pub keys_of_cut_nodes : KeysOfCutNodes
+unfolding followed with_keys above_leaf of_leaf follow_edit key_above way width
+keys_of_cut_nodes own key = refl
+
+pub taken_again : TakenAgain
+unfolding edited full_checks updates updated removed adds all_updated all_removed all_added remove_answer add_answer remove add put enter grow trim first_blank has_leaf leaf_at leaf_of width has count same_bytes is_distinct gather is_within has_distinct_keys has_distinct_clients
+taken_again c context interim = refl
+
+pub taken_by_same : TakenBySame
+unfolding edited full_checks updates updated removed adds all_updated all_removed all_added remove_answer add_answer remove add put enter grow trim first_blank has_leaf leaf_at leaf_of width has count same_bytes is_distinct gather is_within has_distinct_keys has_distinct_clients
+taken_by_same c context interim = refl
+
+pub removed_by_list : RemovedByList
+unfolding removed has
+removed_by_list = refl
+
+pub updated_twice : UpdatedTwice
+unfolding edited full_checks updates updated removed has count is_distinct
+updated_twice c context interim = refl
+
+pub updated_and_removed : UpdatedAndRemoved
+unfolding edited full_checks updates updated removed has count is_distinct
+updated_and_removed c context interim = refl
+
+pub committer_first : CommitterFirst
+unfolding edited full_checks updates updated removed has count is_distinct
+committer_first c context interim = refl
+
+pub committer_removed : CommitterRemoved
+unfolding edited full_checks updates updated removed has count is_distinct
+committer_removed c context interim = refl
+
+pub uses_kept : UsesKept
+unfolding used_by kept_under
+uses_kept message = refl
+
+pub uses_unknown : UsesUnknown
+unfolding used_by kept_under
+uses_unknown message = refl

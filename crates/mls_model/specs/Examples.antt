@@ -1,0 +1,110 @@
+-- Small states, worked out: what commits make of trees and keys, which journals are homemade, and what worlds answer. The
+-- suite and all that a statement doesn't look at are variables.
+use Rattle.std.specs.Prelude.{◌≡◌, ℕ, true, false, List, [], ◌∷◌, Some, None, Ok, Err}
+use Rattle.mls_leaf.specs.declared.leaf.LeafNode.{LeafNode}
+use Rattle.mls_leaf.specs.declared.leaf.LeafSource.TheVariants as made_for
+use Rattle.mls_leaf.specs.declared.key_package.KeyPackage.{KeyPackage}
+use Rattle.mls_leaf.specs.declared.proposal.Proposal.{Proposal}
+use Rattle.mls_leaf.specs.declared.proposal.Proposal.TheVariants as proposal
+use Rattle.mls_group.specs.declared.group_context.GroupContext.{GroupContext}
+use Rattle.mls_types.specs.declared.commit.ProposalOrRef.TheVariants as listed
+use Rattle.mls_suite.specs.Crypto.{Crypto}
+use Rattle.mls_term.specs.Term.{Term, Branch}
+use Rattle.mls_term.specs.Sets.{has}
+use Rattle.mls_term.specs.Examples.{member, blank, over, listing_these}
+use Rattle.mls_model.specs.Public.{PublicState, Used}
+use Rattle.mls_model.specs.Proposals.{removed}
+use Rattle.mls_model.specs.Commit.{edited}
+use Rattle.mls_model.specs.Member.{Kept, used_by, followed}
+
+-- ---- what a commit makes of a tree
+
+-- a leaf whose keys are this one byte, and a KeyPackage with that leaf
+abbrev pub leaf_with : ℕ → LeafNode
+leaf_with n = record {
+  encryption_key = n ∷ [];
+  signature_key = n ∷ [];
+  credential = record { identity = [] };
+  capabilities = record { versions = []; cipher_suites = []; extensions = []; proposals = []; credentials = [] };
+  source = made_for.Update;
+  signature = [];
+}
+
+abbrev pub package_with : ℕ → KeyPackage
+package_with n = record { cipher_suite = 1; init_key = []; leaf_node = leaf_with n; signature = [] }
+
+abbrev pub member_with : ℕ → Term
+member_with n = member (leaf_with n)
+
+-- four members with the keys 1 to 4
+abbrev pub four_members : Term
+four_members = over (over (member_with 1) (member_with 2)) (over (member_with 3) (member_with 4))
+
+abbrev pub state_with : GroupContext → List ℕ → Term → PublicState
+state_with context interim t = record { context = context; tree = t; interim = interim }
+
+-- a proposal that was kept, of this sender
+abbrev pub use_of : ℕ → Proposal → Used
+use_of sender said = record { proposal = said; sender = sender; is_full = false }
+
+-- 8 leaves, members 0, 1 and 4, and a parent over leaves 0 to 3: a commit that removes leaf 4 and adds one halves the tree
+-- twice and then doubles it. It has 4 leaves, the new one is leaf 2, and that parent was cut off
+abbrev pub HalvesAndDoubles : Type 0
+HalvesAndDoubles = (c : Crypto) (context : GroupContext) (interim key hash : List ℕ) →
+    edited c (state_with context interim (over (Branch (listing_these key hash []) (over (member_with 1) (member_with 2)) (over blank blank)) (over (over (member_with 3) blank) (over blank blank)))) 0
+    (use_of 1 (proposal.Remove 4) ∷ use_of 1 (proposal.Add (package_with 5)) ∷ [])
+    ≡ Ok (record { tree = over (over (member_with 1) (member_with 2)) (over (member_with 5) blank); added = 2 ∷ [] })
+
+-- and the key that leaf 0 had for it is gone
+abbrev pub KeysOfCutNodes : Type 0
+KeysOfCutNodes = (own key : List ℕ) →
+    followed None (over (over (member_with 1) (member_with 2)) (over (member_with 5) blank)) (record { leaf = 0; own = own; above = None ∷ Some key ∷ None ∷ [] })
+    ≡ record { leaf = 0; own = own; above = None ∷ None ∷ [] }
+
+-- of 4 members leaf 1 is removed and another added: it stands at leaf 1
+abbrev pub TakenAgain : Type 0
+TakenAgain = (c : Crypto) (context : GroupContext) (interim : List ℕ) →
+    edited c (state_with context interim four_members) 0 (use_of 2 (proposal.Remove 1) ∷ use_of 2 (proposal.Add (package_with 5)) ∷ [])
+    ≡ Ok (record { tree = over (over (member_with 1) (member_with 5)) (over (member_with 3) (member_with 4)); added = 1 ∷ [] })
+
+-- even where it is the very leaf that was removed, so that the tree is as before. That leaf 1 is removed is told by the
+-- list of removes alone
+abbrev pub TakenBySame : Type 0
+TakenBySame = (c : Crypto) (context : GroupContext) (interim : List ℕ) →
+    edited c (state_with context interim four_members) 0 (use_of 2 (proposal.Remove 1) ∷ use_of 2 (proposal.Add (package_with 2)) ∷ [])
+    ≡ Ok (record { tree = four_members; added = 1 ∷ [] })
+
+abbrev pub RemovedByList : Type 0
+RemovedByList = has (removed (use_of 2 (proposal.Remove 1) ∷ use_of 2 (proposal.Add (package_with 2)) ∷ [])) 1 ≡ true
+
+-- two updates of one leaf, or one that is removed too, are refused; before that an update of the committer, and before that
+-- its removal
+abbrev pub UpdatedTwice : Type 0
+UpdatedTwice = (c : Crypto) (context : GroupContext) (interim : List ℕ) →
+    edited c (state_with context interim four_members) 0 (use_of 1 (proposal.Update (leaf_with 5)) ∷ use_of 1 (proposal.Update (leaf_with 6)) ∷ []) ≡ Err 63
+
+abbrev pub UpdatedAndRemoved : Type 0
+UpdatedAndRemoved = (c : Crypto) (context : GroupContext) (interim : List ℕ) →
+    edited c (state_with context interim four_members) 0 (use_of 2 (proposal.Remove 1) ∷ use_of 1 (proposal.Update (leaf_with 6)) ∷ []) ≡ Err 63
+
+abbrev pub CommitterFirst : Type 0
+CommitterFirst = (c : Crypto) (context : GroupContext) (interim : List ℕ) →
+    edited c (state_with context interim four_members) 1 (use_of 2 (proposal.Remove 1) ∷ use_of 1 (proposal.Update (leaf_with 6)) ∷ []) ≡ Err 61
+
+abbrev pub CommitterRemoved : Type 0
+CommitterRemoved = (c : Crypto) (context : GroupContext) (interim : List ℕ) →
+    edited c (state_with context interim four_members) 1 (use_of 2 (proposal.Remove 1) ∷ use_of 2 (proposal.Remove 1) ∷ []) ≡ Err 62
+
+-- ---- which proposals it uses
+
+abbrev pub kept_under_7 : List ℕ → Kept
+kept_under_7 message = record { reference = 7 ∷ []; message = message; proposal = proposal.Remove 3; sender = 2; own_key = None }
+
+-- the kept one with its sender, the full one with the committer
+abbrev pub UsesKept : Type 0
+UsesKept = (message : List ℕ) →
+    used_by (kept_under_7 message ∷ []) 1 (listed.Proposal (proposal.Remove 0) ∷ listed.Reference (7 ∷ []) ∷ [])
+    ≡ Ok (record { proposal = proposal.Remove 0; sender = 1; is_full = true } ∷ use_of 2 (proposal.Remove 3) ∷ [])
+
+abbrev pub UsesUnknown : Type 0
+UsesUnknown = (message : List ℕ) → used_by (kept_under_7 message ∷ []) 1 (listed.Reference (7 ∷ []) ∷ listed.Reference (8 ∷ []) ∷ []) ≡ Err 60

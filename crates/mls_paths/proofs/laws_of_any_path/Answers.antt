@@ -1,0 +1,9 @@
+use Rattle.mls_paths.proofs.laws_of_any_path.Goals as goal
+use Rattle.mls_paths.specs.AnyPathLaws.{refused_unopened, judged_by_keys}
+
+pub returns : goal.returns
+returns c =
+    record {
+      unopened = refused_unopened;
+      judged = judged_by_keys;
+    }

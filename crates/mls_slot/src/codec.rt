@@ -1,0 +1,50 @@
+//! Places as they stand on the wire: an optional node (RFC 9420, 12.4.3.3).
+
+ghost use Rattle.mls_wire.specs.Combine.{optional};
+ghost use Rattle.mls_leaf.specs.Node.{node};
+ghost use Rattle.mls_leaf.specs.Nonempty.{optional_nonempty};
+
+use crate::slot::Slot;
+use mls_leaf::{Codec, LeafError, Node};
+use mls_wire::{Reader, Writer};
+use std::alloc::Global;
+
+impl Codec for Slot {
+    ghost format = { optional node };
+
+    ghost nonempty = { optional_nonempty node };
+
+    #[tactic(auto, using(mls_leaf::specs::Codecs::codecs))]
+    fn read(alloc: Global, reader: &mut Reader<'_>) -> Result<Slot, LeafError> {
+        match reader.u8()? {
+            0 => Ok(Slot::blank()),
+            1 => {
+                let node = Node::read(alloc, reader)?;
+                let slot = Slot::of(alloc, node)?;
+                Ok(slot)
+            }
+            _ => Err(LeafError::BadTag),
+        }
+    }
+
+    #[tactic(auto, using(mls_leaf::specs::Codecs::codecs))]
+    fn check(reader: &mut Reader<'_>) -> Result<(), LeafError> {
+        match reader.u8()? {
+            0 => Ok(()),
+            1 => Node::check(reader),
+            _ => Err(LeafError::BadTag),
+        }
+    }
+
+    #[tactic(auto, using(mls_leaf::specs::Codecs::codecs))]
+    fn write(&self, alloc: Global, writer: &mut Writer) -> Result<(), LeafError> {
+        match self.node() {
+            None => writer.u8(0)?,
+            Some(node) => {
+                writer.u8(1)?;
+                node.write(alloc, writer)?;
+            }
+        }
+        Ok(())
+    }
+}

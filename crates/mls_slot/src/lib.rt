@@ -1,0 +1,11 @@
+//! Places of a ratchet tree that share their nodes with the copies of the tree.
+#![tactic(auto)]
+
+mod codec;
+mod kinds;
+mod slot;
+#[cfg(test)]
+mod tests;
+
+pub use kinds::{SharedLeaf, SharedParent};
+pub use slot::Slot;

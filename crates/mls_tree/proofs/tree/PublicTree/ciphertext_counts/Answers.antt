@@ -1,0 +1,27 @@
+use Rattle.std.proofs.Common.{ap, ◌∙◌, sym, Ok, Err}
+use Rattle.mls_term.specs.Way.{ciphertext_counts}
+use Rattle.mls_term.specs.Arrays.{term_of}
+use Rattle.mls_tree.specs.Tree.{term}
+use Rattle.mls_tree.specs.Faults.{number_of}
+use Rattle.mls_tree.proofs.Answering.{counts_refused, counts_found}
+use Rattle.mls_tree.proofs.Refused.{one_number, not_refused}
+use Rattle.mls_tree.proofs.tree.PublicTree.ciphertext_counts.Goals as goal
+
+pub returns-in-Err-clause-answer : goal.returns-in-Err-clause-answer
+returns-in-Err-clause-answer c = λ _. counts_refused _ _ c.args.added.now c.in-Err.ensures.1 ∙ ap (λ e. Err (number_of e)) (sym c.in-Err.ensures.0)
+
+pub returns-clause-answer : goal.returns-clause-answer
+returns-clause-answer c =
+    counts_found _ _ c.args.added.now c.in-Ok.ensures
+    ∙ ap (λ t. Ok (ciphertext_counts 0 (term t) c.args.i c.args.added.now)) (sym c.self.view_is)
+    ∙ ap (λ xs. Ok (ciphertext_counts 0 (term_of c.self.inside.height xs) c.args.i c.args.added.now)) (sym c.deref.ensures.value)
+    ∙ ap Ok (sym (rw c.new-counts.ensures.items at c.in_ok-ciphertext_counts.ensures))
+
+pub returns-in-Err-clause-refused : goal.returns-in-Err-clause-refused
+returns-in-Err-clause-refused c = one_number _ _ (counts_refused _ _ c.args.added.now c.in-Err.ensures.1 ∙ ap (λ e. Err (number_of e)) (sym c.in-Err.ensures.0))
+
+pub returns-in_err-ciphertext_counts-clause-refused : goal.returns-in_err-ciphertext_counts-clause-refused
+returns-in_err-ciphertext_counts-clause-refused c = λ n h. absurd (not_refused _ _ (counts_found _ _ c.args.added.now c.in-Ok.ensures) n h)
+
+pub returns-clause-refused : goal.returns-clause-refused
+returns-clause-refused c = not_refused _ _ (counts_found _ _ c.args.added.now c.in-Ok.ensures)
