@@ -25,7 +25,8 @@ use Rattle.mls_model.specs.PublicOf.{used_by_names, public_after_body, public_af
 use Rattle.mls_model.specs.Verdict.{received}
 use Rattle.mls_claims.specs.Used.{AreGoodKept, used_by_entry}
 use Rattle.mls_claims.specs.Makes.{commit_of, said_of, tag_of, content_of, made_of, make_did}
-use Rattle.mls_claims.specs.Receipts.{WasRemoved, HasFollowed, CommitDid, ContentDid, reached_epoch, did_receive}
+use Rattle.mls_model.specs.Found.{WasRemoved, HasFollowed, CommitDid, ContentDid, reached_epoch}
+use Rattle.mls_model.specs.Receipts.{did_receive}
 use Rattle.mls_claims.specs.Sent.{sent_of, made_fits}
 
 abbrev into_state : PublicState → Result PublicState ℕ

@@ -26,7 +26,7 @@ use Rattle.mls_tree.specs.Rules.{rules_of}
 use Rattle.mls_tree.specs.Tree.{max_leaves}
 use Rattle.mls_model.specs.Agreement.{NodeFits}
 use Rattle.mls_claims.specs.Nodes.{LeafFits, ParentShort, PartsFit}
-use Rattle.mls_claims.specs.Steps.{required}
+use Rattle.mls_wire.specs.CheckLaws.{require_ok}
 
 -- ---- what holds of each cell, and of a blank one
 
@@ -145,10 +145,10 @@ record IsSent (xs : List (Option Node)) (t : Term) : Type 0 where
 sent_is : (xs : List (Option Node)) (t : Term) → from_nodes max_leaves xs ≡ Ok t → IsSent xs t
 unfolding from_nodes
 sent_is xs t h =
-    let s1 = required 20 (has_last xs) _ _ h in
-    let s2 = required 20 (alternates true xs) _ _ s1.1 in
-    let s3 = required 20 (is_full_width (sent_term xs)) _ _ s2.1 in
-    let s4 = required 21 (is_within max_leaves (sent_term xs)) _ _ s3.1 in
+    let s1 = require_ok 20 (has_last xs) _ _ h in
+    let s2 = require_ok 20 (alternates true xs) _ _ s1.1 in
+    let s3 = require_ok 20 (is_full_width (sent_term xs)) _ _ s2.1 in
+    let s4 = require_ok 21 (is_within max_leaves (sent_term xs)) _ _ s3.1 in
     record { is = ok_is _ _ s4.1; full = s3.0; within = s4.0 }
 
 -- it is good where its checks pass, and its parts have a spelling

@@ -1,5 +1,5 @@
 -- A good member stays good over the commits that it makes, and a candidate that creates a group is one.
-use Rattle.std.proofs.Common.{◌≡◌, ℕ, ◌<◌, ◌^◌, ◌==◌, Bool, false, List, [], ◌∷◌, ◌++◌, length, Option, Some, None, Ok, refl, sym, subst, arith, lit<, eqb-true}
+use Rattle.std.proofs.Common.{◌≡◌, ℕ, ◌<◌, ◌^◌, Bool, false, List, [], ◌∷◌, ◌++◌, length, Option, Some, None, Ok, refl, sym, subst, arith, lit<}
 use Rattle.std.specs.List.{AllByRecursion}
 use Rattle.std.specs.Int.{w16, w64}
 use Rattle.mls_wire.specs.Checks.{passed}
@@ -16,7 +16,6 @@ use Rattle.mls_types.specs.Commit.{proposal_or_ref}
 use Rattle.mls_types.specs.declared.commit.ProposalOrRef.{ProposalOrRef}
 use Rattle.mls_suite.specs.Crypto.{Crypto}
 use Rattle.mls_checks.specs.Checks.{key_package_checks}
-use Rattle.mls_checks.specs.Leaf.{is_of_key_package, is_signed, is_capable}
 use Rattle.mls_term.specs.Arrays.{in_order}
 use Rattle.mls_term.specs.Good.{IsGood}
 use Rattle.mls_term.specs.Hashes.{tree_hash}
@@ -36,12 +35,13 @@ use Rattle.mls_model.specs.Member.{Member}
 use Rattle.mls_model.specs.Messages.{is_within_limit}
 use Rattle.mls_schedule.specs.Epoch.{confirmation_tag}
 use Rattle.mls_schedule.specs.Transcript.{interim_hash}
-use Rattle.mls_laws.proofs.Sound.{package_fit}
+use Rattle.mls_checks.specs.LeafLaws.{package_steps}
+use Rattle.mls_tree.specs.FitLaws.{package_fit}
 use Rattle.mls_claims.specs.Fit.{short_first, short_last, short_text}
-use Rattle.mls_claims.specs.Grown.{length-tree_hash}
+use Rattle.mls_term.specs.LengthLaws.{length-tree_hash}
 use Rattle.mls_claims.specs.Pends.{made_pends}
 use Rattle.mls_claims.specs.Spelled.{package_leaf}
-use Rattle.mls_claims.specs.Steps.{required, checked, stepped}
+use Rattle.mls_wire.specs.CheckLaws.{then_ok, bind_ok}
 use Rattle.mls_claims.specs.Still.{pending_good}
 use Rattle.mls_claims.specs.Welcomed.{within_is}
 
@@ -50,7 +50,7 @@ use Rattle.mls_claims.specs.Welcomed.{within_is}
 pub committed_good : (c : Crypto) (m : Member) (list : List ProposalOrRef) (wants_path : Bool) (seed : List ℕ) (x : (List ℕ × Option (List ℕ)) × Member) → IsGoodMember c m → AllByRecursion proposal_or_ref.Fits list → committed c m list wants_path seed ≡ Ok x → IsGoodMember c x.1
 unfolding committed
 committed_good c m list wants_path seed x good fits h =
-    let s = stepped _ _ _ h in
+    let s = bind_ok _ _ _ h in
     subst (λ (y : (List ℕ × Option (List ℕ)) × Member). IsGoodMember c y.1) (ok_is _ x s.2)
     (pending_good c m s.0.pending good (made_pends c m list s.0 (record { good = good; fits = fits; wants_path = wants_path; seed = seed; is = s.1 })))
 
@@ -71,15 +71,6 @@ first_context_fits c group t n lt =
 suite_fits : (k : KeyPackage) → key_package.Fits k → k.cipher_suite < 2 ^ 16
 unfolding key_package
 suite_fits k f = f.0
-
-suite_is : (c : Crypto) (k : KeyPackage) → key_package_checks c k ≡ Ok passed → k.cipher_suite ≡ c.number
-unfolding key_package_checks
-suite_is c k h =
-    let s1 = required 50 (is_of_key_package k.leaf_node.source) _ _ h in
-    let s2 = required 51 (is_signed c [] 0 k.leaf_node) _ _ s1.1 in
-    let s3 = required 52 (is_capable c.number k.leaf_node) _ _ s2.1 in
-    let s4 = required 55 (k.cipher_suite == c.number) _ _ s3.1 in
-    eqb-true _ _ s4.0
 
 alone_good : (c : Crypto) (group : List ℕ) (k : KeyPackage) → key_package_checks c k ≡ Ok passed → IsGood (rules_of c group) (Leaf (Some k.leaf_node))
 unfolding is_distinct count gather
@@ -117,7 +108,7 @@ first_good : (c : Crypto) (k : Candidate) (group seed : List ℕ) → IsGoodCand
 unfolding first_member first_context
 first_good c k group seed good low =
     let short = within_is _ low in
-    let n : c.number < 2 ^ 16 = subst (λ (z : ℕ). z < 2 ^ 16) (suite_is c k.offered good.checked) (suite_fits k.offered good.package_of) in
+    let n : c.number < 2 ^ 16 = subst (λ (z : ℕ). z < 2 ^ 16) (package_steps c k.offered good.checked).suite (suite_fits k.offered good.package_of) in
     record {
       tree = alone_good c group k.offered good.checked;
       hash = refl;
@@ -135,5 +126,5 @@ first_good c k group seed good low =
 pub created_good : (c : Crypto) (k : Candidate) (group seed : List ℕ) (m : Member) → IsGoodCandidate c k → created c k group seed ≡ Ok m → IsGoodMember c m
 unfolding created first_member
 created_good c k group seed m good h =
-    let s = checked _ _ _ h in
+    let s = then_ok _ _ _ h in
     subst (IsGoodMember c) (ok_is (first_member c k group seed) m s.1) (first_good c k group seed good s.0)

@@ -39,10 +39,11 @@ use Rattle.mls_laws.proofs.Own.{used_have_passed, used_are_owned}
 use Rattle.mls_laws.proofs.Signatures.{signatures_next}
 use Rattle.mls_claims.specs.Next.{IsNext, is_next}
 use Rattle.mls_claims.specs.One.{IsOneOf}
-use Rattle.mls_claims.specs.Receipts.{IsFramed, IsNowKept, WasRemoved, HasFollowed, CommitDid, ContentDid, ReceivedDid, DidPending, DidOther, reached_epoch, did_receive, did_take}
+use Rattle.mls_model.specs.Found.{IsFramed, IsNowKept, WasRemoved, HasFollowed, CommitDid, ContentDid, ReceivedDid, DidPending, DidOther, reached_epoch}
+use Rattle.mls_model.specs.Receipts.{did_receive, did_take}
 use Rattle.mls_claims.specs.Spelled.{commit_in}
 use Rattle.mls_claims.specs.Stays.{taken}
-use Rattle.mls_claims.specs.Steps.{stepped}
+use Rattle.mls_wire.specs.CheckLaws.{bind_ok}
 use Rattle.mls_claims.specs.Still.{keeping_good, left_good}
 
 abbrev framed_of : PublicMessage → FramedContent
@@ -124,7 +125,7 @@ after_is P e m x q h = subst P (ap (λ (y : Effect × Member). y.1) q) h
 -- ---- a commit
 
 -- its committer isn't the member itself, since it keeps proposals alone
-other_committer : (c : Crypto) (m : Member) (bytes : List ℕ) (v : PublicMessage) (x : Commit) (tag : List ℕ) → IsGoodMember c m → decoded bytes ≡ Ok (message.PublicMessage v) → IsFramed c m v bytes → v.content.body ≡ body_of.Commit x tag → sender_leaf v.content.sender ≢ m.keys.leaf
+pub other_committer : (c : Crypto) (m : Member) (bytes : List ℕ) (v : PublicMessage) (x : Commit) (tag : List ℕ) → IsGoodMember c m → decoded bytes ≡ Ok (message.PublicMessage v) → IsFramed c m v bytes → v.content.body ≡ body_of.Commit x tag → sender_leaf v.content.sender ≢ m.keys.leaf
 other_committer c m bytes v x tag good reads framed says same =
     let kept : is_kept m.kept bytes ≡ true = own_is_kept (sender_leaf v.content.sender) m.keys.leaf (is_kept m.kept bytes) framed.other same in
     let k = kept_as c m m.kept bytes good.kept kept in
@@ -177,7 +178,7 @@ tree_with change tag q e = ap (λ (y : PublicState). y.tree) e
 pub pending_leads : (c : Crypto) (m : Member) (p : Pending) → IsGoodMember c m → IsGoodPending c m p → IsGoodMember c (advanced m p.public p.epoch p.keys)
 unfolding next_public
 pending_leads c m p good h =
-    let s = stepped _ _ _ h.next in
+    let s = bind_ok _ _ _ h.next in
     let change : Change = s.0 in
     let public : public_with change h.tag ≡ p.public = ok_is _ _ s.2 in
     let mine : IsSome (leaf_of m.public.tree m.keys.leaf) = taken _ _ good.own good.is_own in

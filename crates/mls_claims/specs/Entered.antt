@@ -52,7 +52,7 @@ use Rattle.mls_claims.specs.One.{at_one, was_found}
 use Rattle.mls_claims.specs.Sent.{leaf_is_in}
 use Rattle.mls_claims.specs.Spelled.{one_spelled, package_leaf}
 use Rattle.mls_claims.specs.Stays.{inside}
-use Rattle.mls_claims.specs.Steps.{required, checked, stepped, was_given}
+use Rattle.mls_wire.specs.CheckLaws.{require_ok, then_ok, bind_ok, given_ok}
 
 -- ---- what was opened
 
@@ -79,16 +79,16 @@ pub record HasOpened (c : Crypto) (o : Opened) : Type 0 where
 pub has_opened : (c : Crypto) (k : Candidate) (bytes : List ℕ) (o : Opened) → opened_welcome c k bytes ≡ Ok o → HasOpened c o
 unfolding opened_welcome
 has_opened c k bytes o h =
-    let s1 = stepped (decoded bytes) _ _ h in
-    let s2 = stepped (given 70 (welcome_in s1.0)) _ _ s1.2 in
-    let s3 = required 71 (s2.0.cipher_suite == c.number) _ _ s2.2 in
-    let s4 = stepped (given 72 (find (λ (e : EncryptedGroupSecrets). bytes_eq e.new_member (package_reference k.offered)) s2.0.secrets)) _ _ s3.1 in
-    let s5 = stepped (opened_secrets c k s2.0 s4.0) _ _ s4.2 in
-    let s6 = required 74 (length s5.0.psks == 0) _ _ s5.2 in
-    let s7 = stepped (given 75 (c.aead_open (welcome_key s5.0.joiner_secret) (welcome_nonce s5.0.joiner_secret) [] s2.0.encrypted_group_info)) _ _ s6.1 in
-    let s8 = required 75 (are_bytes s7.0) _ _ s7.2 in
-    let s9 = stepped (or_fault 75 (whole group_info input_limit s7.0)) _ _ s8.1 in
-    let s10 = required 71 (s9.0.group_context.cipher_suite == c.number) _ _ s9.2 in
+    let s1 = bind_ok (decoded bytes) _ _ h in
+    let s2 = bind_ok (given 70 (welcome_in s1.0)) _ _ s1.2 in
+    let s3 = require_ok 71 (s2.0.cipher_suite == c.number) _ _ s2.2 in
+    let s4 = bind_ok (given 72 (find (λ (e : EncryptedGroupSecrets). bytes_eq e.new_member (package_reference k.offered)) s2.0.secrets)) _ _ s3.1 in
+    let s5 = bind_ok (opened_secrets c k s2.0 s4.0) _ _ s4.2 in
+    let s6 = require_ok 74 (length s5.0.psks == 0) _ _ s5.2 in
+    let s7 = bind_ok (given 75 (c.aead_open (welcome_key s5.0.joiner_secret) (welcome_nonce s5.0.joiner_secret) [] s2.0.encrypted_group_info)) _ _ s6.1 in
+    let s8 = require_ok 75 (are_bytes s7.0) _ _ s7.2 in
+    let s9 = bind_ok (or_fault 75 (whole group_info input_limit s7.0)) _ _ s8.1 in
+    let s10 = require_ok 71 (s9.0.group_context.cipher_suite == c.number) _ _ s9.2 in
     subst (HasOpened c) (ok_is _ o s10.1) (record { bytes = are_from s7.0 s8.0; reads = no_fault 75 (whole group_info input_limit s7.0) s9.0 s9.1; suite = eqb-true _ _ s10.0 })
 
 -- what it has, has a spelling
@@ -121,11 +121,11 @@ pub record TreeDid (c : Crypto) (info : GroupInfo) (t : Term) : Type 0 where
 pub tree_did : (c : Crypto) (info : GroupInfo) (t : Term) → joined_tree c info ≡ Ok t → TreeDid c info t
 unfolding joined_tree
 tree_did c info t h =
-    let s1 = stepped (given 76 info.ratchet_tree) _ _ h in
-    let s2 = stepped (from_nodes max_leaves s1.0) _ _ s1.2 in
-    let s3 = required 77 (bytes_eq info.group_context.tree_hash (tree_hash 0 s2.0)) _ _ s2.2 in
-    let s4 = checked (tree_checks (rules_of c info.group_context.group_id) s2.0) _ _ s3.1 in
-    subst (TreeDid c info) (ok_is s2.0 t s4.1) (record { nodes = s1.0; are_nodes = was_given 76 info.ratchet_tree s1.0 s1.1; sent = s2.1; hash = (bytes_eq-Decides _ _).0 s3.0; checks = s4.0 })
+    let s1 = bind_ok (given 76 info.ratchet_tree) _ _ h in
+    let s2 = bind_ok (from_nodes max_leaves s1.0) _ _ s1.2 in
+    let s3 = require_ok 77 (bytes_eq info.group_context.tree_hash (tree_hash 0 s2.0)) _ _ s2.2 in
+    let s4 = then_ok (tree_checks (rules_of c info.group_context.group_id) s2.0) _ _ s3.1 in
+    subst (TreeDid c info) (ok_is s2.0 t s4.1) (record { nodes = s1.0; are_nodes = given_ok 76 info.ratchet_tree s1.0 s1.1; sent = s2.1; hash = (bytes_eq-Decides _ _).0 s3.0; checks = s4.0 })
 
 -- ---- the signer
 
@@ -137,9 +137,9 @@ pub record SignerDid (k : Candidate) (info : GroupInfo) (t : Term) : Type 0 wher
 pub signer_did : (c : Crypto) (k : Candidate) (info : GroupInfo) (t : Term) → signer_checks c k info t ≡ Ok passed → SignerDid k info t
 unfolding signer_checks
 signer_did c k info t h =
-    let s1 = stepped (given 78 (leaf_of t info.signer)) _ _ h in
-    let s2 = required 78 (not (bytes_eq s1.0.signature_key k.offered.leaf_node.signature_key)) _ _ s1.2 in
-    record { leaf = s1.0; is_leaf = was_given 78 (leaf_of t info.signer) s1.0 s1.1; other = s2.0 }
+    let s1 = bind_ok (given 78 (leaf_of t info.signer)) _ _ h in
+    let s2 = require_ok 78 (not (bytes_eq s1.0.signature_key k.offered.leaf_node.signature_key)) _ _ s1.2 in
+    record { leaf = s1.0; is_leaf = given_ok 78 (leaf_of t info.signer) s1.0 s1.1; other = s2.0 }
 
 -- ---- the whole
 
@@ -174,12 +174,12 @@ pub record MemberDid (c : Crypto) (k : Candidate) (o : Opened) (joined : Joined)
 pub member_did : (c : Crypto) (k : Candidate) (o : Opened) (joined : Joined) → member_of c k o ≡ Ok joined → MemberDid c k o joined
 unfolding member_of alone_at joined_by
 member_did c k o joined h =
-    let s1 = stepped (joined_tree c o.info) _ _ h in
-    let s2 = checked (signer_checks c k o.info s1.0) _ _ s1.2 in
-    let s3 = stepped (given 80 (place_of k.offered.leaf_node s1.0)) _ _ s2.1 in
-    let s4 = stepped (joined_keys c s1.0 o.info.signer (record { leaf = s3.0.0; own = k.leaf; above = [] }) o.path_secret) _ _ s3.2 in
-    let s5 = required 65 (bytes_eq o.info.confirmation_tag (confirmation_tag (epoch_secret o.joiner (group_context.spell o.info.group_context)) o.info.group_context.confirmed_transcript_hash)) _ _ s4.2 in
-    record { tree = s1.0; is_tree = s1.1; signer = s2.0; place = s3.0; is_place = was_given 80 (place_of k.offered.leaf_node s1.0) s3.0 s3.1; keys = s4.0; are_keys = s4.1; confirmed = s5.0; is = ok_is _ joined s5.1 }
+    let s1 = bind_ok (joined_tree c o.info) _ _ h in
+    let s2 = then_ok (signer_checks c k o.info s1.0) _ _ s1.2 in
+    let s3 = bind_ok (given 80 (place_of k.offered.leaf_node s1.0)) _ _ s2.1 in
+    let s4 = bind_ok (joined_keys c s1.0 o.info.signer (record { leaf = s3.0.0; own = k.leaf; above = [] }) o.path_secret) _ _ s3.2 in
+    let s5 = require_ok 65 (bytes_eq o.info.confirmation_tag (confirmation_tag (epoch_secret o.joiner (group_context.spell o.info.group_context)) o.info.group_context.confirmed_transcript_hash)) _ _ s4.2 in
+    record { tree = s1.0; is_tree = s1.1; signer = s2.0; place = s3.0; is_place = given_ok 80 (place_of k.offered.leaf_node s1.0) s3.0 s3.1; keys = s4.0; are_keys = s4.1; confirmed = s5.0; is = ok_is _ joined s5.1 }
 
 -- ---- its keys
 
@@ -199,10 +199,10 @@ keys_did : (c : Crypto) (k : Candidate) (t : Term) (i leaf : ℕ) (x y : LeafNod
     joined_keys c t i (alone_at k leaf) secret ≡ Ok keys → KeysDid c t leaf keys
 unfolding joined_keys alone_at
 keys_did c k t i leaf x y None keys there here ne own h =
-    let s = required 35 (has_due t (alone_at k leaf)) _ _ h in
+    let s = require_ok 35 (has_due t (alone_at k leaf)) _ _ h in
     subst (KeysDid c t leaf) (ok_is (alone_at k leaf) keys s.1) (keys_alone c k t leaf x (leaf_is_in t leaf x here).1 own s.0)
 keys_did c k t i leaf x y (Some secret) keys there here ne own h =
-    let s = stepped (take_answer c t i leaf k.leaf secret) _ _ h in
+    let s = bind_ok (take_answer c t i leaf k.leaf secret) _ _ h in
     let hi = inside t i y there in
     let exact = take_exact c t i leaf x k.leaf secret s.0 hi (inside t leaf x here) ne (leaf_is_in t leaf x here).1 own (sym (take_inside c t i leaf k.leaf secret hi) ∙ s.1) in
     subst (KeysDid c t leaf) (ok_is _ keys s.2) (record { exact = exact_written c t (alone_at k leaf) s.0.keys exact; same = written_at (alone_at k leaf) s.0.keys })
@@ -251,7 +251,7 @@ became_good c k o t keys good opened context tree is_good parts own exact = reco
 pub joined_good : (c : Crypto) (k : Candidate) (bytes : List ℕ) (joined : Joined) → IsGoodCandidate c k → join_verdict c k bytes ≡ Ok joined → IsGoodMember c joined.member
 unfolding join_verdict
 joined_good c k bytes joined good h =
-    let s = stepped (opened_welcome c k bytes) _ _ h in
+    let s = bind_ok (opened_welcome c k bytes) _ _ h in
     let o : Opened = s.0 in
     let opened = has_opened c k bytes o s.1 in
     let m = member_did c k o joined s.2 in

@@ -38,8 +38,9 @@ use Rattle.mls_model.specs.PublicOf.{Creations, used_by_names, public_after, pub
 use Rattle.mls_model.specs.Verdict.{received, verdict}
 use Rattle.mls_claims.specs.Along.{entry_at, list_at, tag_at, received_along, made_along}
 use Rattle.mls_claims.specs.Entered.{HasOpened, has_opened, TreeDid, tree_did, MemberDid, member_did, joined_by}
-use Rattle.mls_claims.specs.Receipts.{DidPending, DidOther, did_take}
-use Rattle.mls_claims.specs.Steps.{required, checked, stepped}
+use Rattle.mls_model.specs.Found.{DidPending, DidOther}
+use Rattle.mls_model.specs.Receipts.{did_take}
+use Rattle.mls_wire.specs.CheckLaws.{require_ok, then_ok, bind_ok}
 use Rattle.mls_claims.specs.Used.{used_by_entry}
 
 -- ---- where a journal leads
@@ -160,7 +161,7 @@ opened_along c creations k o joined opened d =
 pub joins_along : JoinsAlong
 unfolding join_verdict
 joins_along c creations k bytes joined h =
-    let s = stepped (opened_welcome c k bytes) _ _ h in
+    let s = bind_ok (opened_welcome c k bytes) _ _ h in
     let opened = has_opened c k bytes s.0 s.1 in
     let d = member_did c k s.0 joined s.2 in
     let along = opened_along c creations k s.0 joined opened d in
@@ -194,7 +195,7 @@ pending_along c m p bytes good h same =
     let list : list_in bytes ≡ h.commit.proposals = list_at bytes h.said h.commit h.tag reads h.says in
     let used : used_by_names m.keys.leaf h.commit.proposals (names_in m.kept (list_in bytes)) ≡ Ok h.used =
     ap (λ (l : List ProposalOrRef). used_by_names m.keys.leaf h.commit.proposals (names_in m.kept l)) list ∙ used_by_entry c m m.kept m.keys.leaf h.commit.proposals h.used good.kept h.uses in
-    let s = stepped (body c m.public m.keys.leaf h.used h.commit (framed h.said.content) h.said.content.signature) _ _ h.next in
+    let s = bind_ok (body c m.public m.keys.leaf h.used h.commit (framed h.said.content) h.said.content.signature) _ _ h.next in
     entry_at c m.public bytes (names_in m.kept (list_in bytes)) h.said h.commit h.tag h.used s.0 reads h.says
     (ap (λ (i : ℕ). used_by_names i h.commit.proposals (names_in m.kept (list_in bytes))) h.from ∙ used)
     (ap (λ (i : ℕ). body c m.public i h.used h.commit (framed h.said.content) h.said.content.signature) h.from ∙ s.1)
@@ -258,20 +259,20 @@ dropped_same m = record { public = refl; epoch = refl; keys = refl; signing = re
 
 once_same : (m : Member) (k : Kept) (o : Option Kept) (x : List ℕ × Member) → kept_once m k o ≡ Ok x → IsSameState m x.1
 once_same m k None x h = subst (λ (y : List ℕ × Member). IsSameState m y.1) (ok_is _ x h) (keeping_same m k)
-once_same m k (Some old) x h = subst (λ (y : List ℕ × Member). IsSameState m y.1) (ok_is _ x (required _ _ _ _ h).1) (same_itself m)
+once_same m k (Some old) x h = subst (λ (y : List ℕ × Member). IsSameState m y.1) (ok_is _ x (require_ok _ _ _ _ h).1) (same_itself m)
 
 proposed_same : (c : Crypto) (m : Member) (said : Proposal) (own_key : Option (List ℕ)) (x : List ℕ × Member) → proposed c m said own_key ≡ Ok x → IsSameState m x.1
 unfolding proposed
 proposed_same c m said own_key x h =
-    let s1 = required 40 (not m.gone) _ _ h in
-    let s2 = checked (proposal_checks c m.public m.keys.leaf said) _ _ s1.1 in
-    let s3 = checked (is_within_limit (sent_by m (proposal_by c m said))) _ _ s2.1 in
+    let s1 = require_ok 40 (not m.gone) _ _ h in
+    let s2 = then_ok (proposal_checks c m.public m.keys.leaf said) _ _ s1.1 in
+    let s3 = then_ok (is_within_limit (sent_by m (proposal_by c m said))) _ _ s2.1 in
     once_same m _ (kept_under m.kept (reference_of (proposal_by c m said))) x s3.1
 
 committed_same : (c : Crypto) (m : Member) (list : List ProposalOrRef) (wants_path : Bool) (seed : List ℕ) (x : (List ℕ × Option (List ℕ)) × Member) → committed c m list wants_path seed ≡ Ok x → IsSameState m x.1
 unfolding committed
 committed_same c m list wants_path seed x h =
-    let s = stepped (make c m list wants_path seed) _ _ h in
+    let s = bind_ok (make c m list wants_path seed) _ _ h in
     subst (λ (y : (List ℕ × Option (List ℕ)) × Member). IsSameState m y.1) (ok_is _ x s.2) (pending_same m s.0.pending)
 
 pub calls_keep_state : CallsKeepState

@@ -1,8 +1,5 @@
-pub mod Kept
 pub mod Used
-pub mod Steps
 pub mod Makes
-pub mod Receipts
 pub mod Fit
 pub mod Sent
 pub mod Framing

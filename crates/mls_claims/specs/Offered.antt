@@ -19,16 +19,17 @@ use Rattle.mls_suite.specs.LabelLaws.{verifies_signed}
 use Rattle.mls_checks.specs.Checks.{is_package_signed, key_package_checks}
 use Rattle.mls_checks.specs.Leaf.{is_of_key_package, is_signed, is_capable}
 use Rattle.mls_model.specs.Agreement.{IsGoodCandidate}
-use Rattle.mls_model.specs.Candidate.{Candidate, init_key_of, leaf_key_of, signing_of, unsigned_leaf, signed_leaf, made_capabilities, offered_leaf, unsigned_package, signed_package, package_message, new_candidate}
+use Rattle.mls_model.specs.Candidate.{Candidate, init_key_of, leaf_key_of, unsigned_leaf, signed_leaf, made_capabilities, offered_leaf, unsigned_package, signed_package, package_message, new_candidate}
+use Rattle.mls_paths.specs.Seeds.{sign_seed}
 use Rattle.mls_model.specs.Messages.{is_within_limit}
 use Rattle.mls_claims.specs.Fit.{short_first, short_last, short_text, capabilities_fit, made_leaf_fits}
 use Rattle.mls_claims.specs.GoodMembers.{CandidatesGood}
-use Rattle.mls_claims.specs.Steps.{required, checked}
+use Rattle.mls_wire.specs.CheckLaws.{require_ok, then_ok}
 use Rattle.mls_claims.specs.Welcomed.{within_is}
 
 -- the KeyPackage of an identity and a seed
 unfoldable offered_by : Crypto → List ℕ → List ℕ → KeyPackage
-offered_by c identity seed = signed_package c (signing_of seed) (unsigned_package c identity seed)
+offered_by c identity seed = signed_package c (sign_seed seed) (unsigned_package c identity seed)
 
 -- ---- it has a spelling
 
@@ -67,7 +68,7 @@ offered_fits c identity seed n lt = package_fits c.number (c.public (init_key_of
 
 leaf_signed : (c : Crypto) → Lawful c → (identity seed : List ℕ) → is_signed c [] 0 (offered_leaf c identity seed) ≡ true
 unfolding is_signed offered_leaf signed_leaf unsigned_leaf leaf_content leaf_node_tbs
-leaf_signed c laws identity seed = verifies_signed c laws (signing_of seed) (codes "LeafNodeTBS") _
+leaf_signed c laws identity seed = verifies_signed c laws (sign_seed seed) (codes "LeafNodeTBS") _
 
 leaf_capable : (c : Crypto) (identity seed : List ℕ) → is_capable c.number (offered_leaf c identity seed) ≡ true
 unfolding is_capable offered_leaf signed_leaf unsigned_leaf made_capabilities
@@ -79,7 +80,7 @@ leaf_source_is c identity seed = refl
 
 package_signed : (c : Crypto) → Lawful c → (identity seed : List ℕ) → is_package_signed c (offered_by c identity seed) ≡ true
 unfolding is_package_signed offered_by signed_package unsigned_package offered_leaf signed_leaf unsigned_leaf key_package_tbs
-package_signed c laws identity seed = verifies_signed c laws (signing_of seed) (codes "KeyPackageTBS") _
+package_signed c laws identity seed = verifies_signed c laws (sign_seed seed) (codes "KeyPackageTBS") _
 
 keys_fit : (c : Crypto) → Lawful c → (identity seed : List ℕ) → (c.key_ok (offered_by c identity seed).init_key && c.key_ok (offered_by c identity seed).leaf_node.encryption_key) ≡ true
 unfolding offered_by signed_package unsigned_package offered_leaf signed_leaf unsigned_leaf
@@ -101,7 +102,7 @@ passes_all c k e1 e2 e3 e4 e5 e6 e7 = rw (e1, e2, e3, e4, e5, e6, e7) refl
 -- ---- the whole
 
 unfoldable made_by : Crypto → List ℕ → List ℕ → Candidate
-made_by c identity seed = record { offered = offered_by c identity seed; init = init_key_of c seed; leaf = leaf_key_of c seed; signing = signing_of seed }
+made_by c identity seed = record { offered = offered_by c identity seed; init = init_key_of c seed; leaf = leaf_key_of c seed; signing = sign_seed seed }
 
 made_good : (c : Crypto) → Lawful c → (identity seed : List ℕ) → not (bytes_eq (offered_by c identity seed).init_key (offered_by c identity seed).leaf_node.encryption_key) ≡ true → is_within_limit (package_message (offered_by c identity seed)) ≡ Ok passed →
     IsGoodCandidate c (made_by c identity seed)
@@ -119,6 +120,6 @@ made_good c laws identity seed other low =
 pub candidate_good : CandidatesGood
 unfolding new_candidate made_by offered_by
 candidate_good c laws identity seed k h =
-    let s1 = required 57 (not (bytes_eq (offered_by c identity seed).init_key (offered_by c identity seed).leaf_node.encryption_key)) _ _ h in
-    let s2 = checked (is_within_limit (package_message (offered_by c identity seed))) _ _ s1.1 in
+    let s1 = require_ok 57 (not (bytes_eq (offered_by c identity seed).init_key (offered_by c identity seed).leaf_node.encryption_key)) _ _ h in
+    let s2 = then_ok (is_within_limit (package_message (offered_by c identity seed))) _ _ s1.1 in
     subst (IsGoodCandidate c) (ok_is (made_by c identity seed) k s2.1) (made_good c laws identity seed s1.0 s2.0)

@@ -36,7 +36,7 @@ use Rattle.mls_model.specs.Propose.{proposal_by, kept_once, proposed, proposed_a
 use Rattle.mls_claims.specs.Fit.{short_first, short_last, short_text, capabilities_fit, made_leaf_fits, update_source_fits}
 use Rattle.mls_claims.specs.Sent.{ReadsBack, message_fits, leaf_short, leaf_is_in, context_fits}
 use Rattle.mls_claims.specs.Stays.{taken}
-use Rattle.mls_claims.specs.Steps.{required, passes, checked, stepped}
+use Rattle.mls_wire.specs.CheckLaws.{require_ok, required, then_ok, bind_ok}
 use Rattle.mls_claims.specs.Still.{keeping_good}
 use Rattle.mls_claims.specs.Welcomed.{within_is}
 
@@ -115,14 +115,14 @@ kept_good c m x own good key checks reads = record {
 
 once_good : (c : Crypto) (m : Member) (k : Kept) (o : Option Kept) (x : List ℕ × Member) → IsGoodMember c m → IsGoodKept c m k → kept_once m k o ≡ Ok x → IsGoodMember c x.1
 once_good c m k None x good new h = subst (λ (y : List ℕ × Member). IsGoodMember c y.1) (ok_is _ x h) (keeping_good c m k good new)
-once_good c m k (Some old) x good new h = subst (λ (y : List ℕ × Member). IsGoodMember c y.1) (ok_is _ x (required _ _ _ _ h).1) good
+once_good c m k (Some old) x good new h = subst (λ (y : List ℕ × Member). IsGoodMember c y.1) (ok_is _ x (require_ok _ _ _ _ h).1) good
 
 pub proposed_good : (c : Crypto) (m : Member) (x : Proposal) (own : Option (List ℕ)) (y : List ℕ × Member) → IsGoodMember c m → FitsIfShort x → (proposal_checks c m.public m.keys.leaf x ≡ Ok passed → HasOwnKey c x own) → proposed c m x own ≡ Ok y → IsGoodMember c y.1
 unfolding proposed kept_as
 proposed_good c m x own y good fits key h =
-    let s1 = required _ _ _ _ h in
-    let s2 = checked _ _ _ s1.1 in
-    let s3 = checked _ _ _ s2.1 in
+    let s1 = require_ok _ _ _ _ h in
+    let s2 = then_ok _ _ _ s1.1 in
+    let s3 = then_ok _ _ _ s2.1 in
     once_good c m (kept_as c m x own) (kept_under m.kept (reference_of (proposal_by c m x))) y good (kept_good c m x own good (key s2.0) s2.0 (proposal_reads c m x good fits s3.0)) s3.1
 
 -- ---- the three proposals
@@ -150,8 +150,8 @@ new_leaf_key c m old seed = refl
 pub updated_good : (c : Crypto) (m : Member) (seed : List ℕ) (y : List ℕ × Member) → IsGoodMember c m → proposed_update c m seed ≡ Ok y → IsGoodMember c y.1
 unfolding proposed_update
 updated_good c m seed y good h =
-    let s1 = required 40 (not m.gone) _ _ h in
-    let s2 = stepped (member_at m.public.tree m.keys.leaf) _ _ s1.1 in
+    let s1 = require_ok 40 (not m.gone) _ _ h in
+    let s2 = bind_ok (member_at m.public.tree m.keys.leaf) _ _ s1.1 in
     let x : LeafNode = updated_leaf c m s2.0 seed in
     proposed_good c m (proposes.Update x) (Some (leaf_key_of c seed)) y good (update_fits x (new_leaf_fits c m s2.0 seed (context_fits c m good).suite)) (λ _. (leaf_key_of c seed, refl, new_leaf_key c m s2.0 seed)) s2.2
 
@@ -166,7 +166,7 @@ remove_fits i l lt = (lit< tt, l)
 
 is_member_at : (c : Crypto) (m : Member) (i : ℕ) → proposal_checks c m.public m.keys.leaf (proposes.Remove i) ≡ Ok passed → IsSome (leaf_of m.public.tree i)
 unfolding proposal_checks
-is_member_at c m i h = passes _ _ h
+is_member_at c m i h = required _ _ _ h
 
 low_leaf : (c : Crypto) (m : Member) (i : ℕ) → IsGoodMember c m → IsSome (leaf_of m.public.tree i) → i < 2 ^ 32
 unfolding is_within
@@ -178,7 +178,7 @@ low_leaf c m i good there =
 
 was_checked : (c : Crypto) (m : Member) (x : Proposal) (own : Option (List ℕ)) (y : List ℕ × Member) → proposed c m x own ≡ Ok y → proposal_checks c m.public m.keys.leaf x ≡ Ok passed
 unfolding proposed
-was_checked c m x own y h = (checked _ _ _ (required _ _ _ _ h).1).0
+was_checked c m x own y h = (then_ok _ _ _ (require_ok _ _ _ _ h).1).0
 
 pub removed_good : (c : Crypto) (m : Member) (i : ℕ) (y : List ℕ × Member) → IsGoodMember c m → proposed_remove c m i ≡ Ok y → IsGoodMember c y.1
 unfolding proposed_remove

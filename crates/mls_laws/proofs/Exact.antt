@@ -26,7 +26,7 @@ use Rattle.mls_model.specs.Verdict.{climbed}
 use Rattle.mls_laws.specs.Laws.{IsRenewed}
 use Rattle.mls_laws.specs.Keys.{MemberStands, WithAllKeys, FollowedExact, KeysNext}
 use Rattle.mls_laws.proofs.Inversion.{edited_steps, with_path_steps, body_steps}
-use Rattle.mls_laws.proofs.Places.{taken_at, some_at, is_in}
+use Rattle.mls_term.specs.TakenLaws.{taken_at, some_at, taken_in}
 use Rattle.mls_laws.proofs.Staying.{kept_by, edits_renew}
 
 -- ---- keys and their last one
@@ -175,5 +175,5 @@ keys_next c m i used commit said signature change own climb h maker some apart r
     let second = member_stands c m.public i used change.edits own m.keys.leaf b.edits some r owns in
     let keys = followed own change.edits.tree m.keys in
     let same : keys.leaf ≡ m.keys.leaf = (has_followed own change.edits.tree m.keys).leaf in
-    let two : AreTwo 0 change.edits.tree i m.keys.leaf = record { first = is_in change.edits.tree i x.0 first; second = is_in change.edits.tree m.keys.leaf second.leaf (taken_at change.edits.tree m.keys.leaf second.leaf second.is_leaf); apart = λ q. apart (sym q) } in
+    let two : AreTwo 0 change.edits.tree i m.keys.leaf = record { first = taken_in change.edits.tree i x.0 first; second = taken_in change.edits.tree m.keys.leaf second.leaf (taken_at change.edits.tree m.keys.leaf second.leaf second.is_leaf); apart = λ q. apart (sym q) } in
     climbed_exact c m i change keys climb same (subst (AreTwo 0 change.edits.tree i) (sym same) two) (followed_exact c m.public i used change.edits own m.keys b.edits some r owns had) commit.path b.merged takes
