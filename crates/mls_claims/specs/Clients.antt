@@ -1,35 +1,21 @@
--- The members of a tree as a list, and their signature keys.
-use Rattle.std.proofs.Common.{◌≡◌, ℕ, ◌+◌, ◌<◌, ◌≤◌, ◌==◌, Bool, true, false, List, [], ◌∷◌, ◌++◌, map, Option, Some, None, refl, sym, ap, ap₂, ◌∙◌, inl, inr, arith, eqb-true, subst}
+-- The members of a tree as a list, and values that stand once in one.
+use Rattle.std.proofs.Common.{◌≡◌, ℕ, ◌+◌, ◌<◌, ◌≤◌, ◌==◌, Bool, true, false, List, [], ◌∷◌, map, Option, Some, None, refl, sym, ap, ap₂, ◌∙◌, inl, inr, arith, eqb-true, subst}
 use Rattle.std.specs.Prelude.{◌≢◌}
 use Rattle.std.specs.Str.{bytes_eq}
 use Rattle.std.proofs.lemmas.Bool.{cases_lt, and_parts, and_from}
 use Rattle.std.proofs.lemmas.Slice.Eq.{bytes_eq-Decides}
 use Rattle.mls_leaf.specs.declared.leaf.LeafNode.{LeafNode}
-use Rattle.mls_term.specs.Equations.{leaf_at_left, leaf_at_right}
+use Rattle.mls_term.specs.Equations.{leaf_at_left, leaf_at_right, leaf_of_in}
 use Rattle.mls_term.specs.Good.{has_distinct_clients}
-use Rattle.mls_term.specs.Keys.{gather, signature_keys, members}
+use Rattle.mls_term.specs.ClientLaws.{one_client}
+use Rattle.mls_term.specs.Keys.{members}
 use Rattle.mls_term.specs.SetLaws.{eqb_refl}
 use Rattle.mls_term.specs.Sets.{same_bytes, count, is_distinct}
 use Rattle.mls_term.specs.Term.{Term, Leaf, Branch, width, leaf_at, leaf_of}
-use Rattle.mls_claims.specs.One.{IsOneOf, one_left, one_right}
+use Rattle.mls_claims.specs.One.{IsOneOf, one_left, one_right, one_parted}
 use Rattle.mls_claims.specs.Sent.{leaf_is_in}
 
--- the signature key of a member
-abbrev pub client_of : ℕ × LeafNode → List ℕ
-client_of m = m.1.signature_key
-
 -- ---- what stands at a place is among the members
-
-map_both : (xs ys : List (ℕ × LeafNode)) → map client_of (xs ++ ys) ≡ map client_of xs ++ map client_of ys
-map_both [] ys = refl
-map_both (x ∷ xs) ys = ap (λ zs. client_of x ∷ zs) (map_both xs ys)
-
-pub clients_are : (b : ℕ) (t : Term) → signature_keys t ≡ map client_of (members b t)
-unfolding gather members
-clients_are b (Leaf None) = refl
-clients_are b (Leaf (Some v)) = refl
-clients_are b (Branch c l r) =
-    ap₂ (λ (xs ys : List (List ℕ)). xs ++ ys) (clients_are b l) (clients_are (b + width l) r) ∙ sym (map_both (members b l) (members (b + width l) r))
 
 here_by : (b : ℕ) (v : Option LeafNode) (i : ℕ) (x : LeafNode) → i ≡ b → v ≡ Some x → IsOneOf (i, x) (members b (Leaf v))
 unfolding members IsOneOf
@@ -46,6 +32,35 @@ member_in b (Branch c l r) i x low high is = elim (cases_lt i (b + width l)) [
 
 pub is_member : (t : Term) (i : ℕ) (x : LeafNode) → leaf_of t i ≡ Some x → IsOneOf (i, x) (members 0 t)
 is_member t i x is = let at = leaf_is_in t i x is in let low = at.0 in member_in 0 t i x (omega arith) (omega arith) at.1
+
+-- and who is among them stands there
+pub record StandsAt (b : ℕ) (t : Term) (q : ℕ × LeafNode) : Type 0 where
+  pub low : b ≤ q.0
+  pub high : q.0 < b + width t
+  pub is : leaf_at b t q.0 ≡ Some q.1
+
+stands_by : (b : ℕ) (v : Option LeafNode) (q : ℕ × LeafNode) → IsOneOf q (members b (Leaf v)) → StandsAt b (Leaf v) q
+unfolding members IsOneOf leaf_at width
+stands_by b None q is = absurd is
+stands_by b (Some x) q (inl e) = subst (StandsAt b (Leaf (Some x))) e (record { low = omega arith; high = omega arith; is = refl })
+stands_by b (Some x) q (inr is) = absurd is
+
+pub member_stands : (b : ℕ) (t : Term) (q : ℕ × LeafNode) → IsOneOf q (members b t) → StandsAt b t q
+unfolding members width
+member_stands b (Leaf v) q is = stands_by b v q is
+member_stands b (Branch c l r) q is = elim (one_parted q (members b l) (members (b + width l) r) is) [
+  | inl a ↦
+      let s = member_stands b l q a in
+      let lt : q.0 < b + width l = s.high in
+      record { low = s.low; high = omega arith; is = leaf_at_left b c l r q.0 lt ∙ s.is }
+  | inr a ↦
+      let s = member_stands (b + width l) r q a in
+      let ge : b + width l ≤ q.0 = s.low in
+      record { low = omega arith; high = omega (arith, s.high); is = leaf_at_right b c l r q.0 ge ∙ s.is }
+]
+
+pub stands_in : (t : Term) (q : ℕ × LeafNode) → IsOneOf q (members 0 t) → leaf_of t q.0 ≡ Some q.1
+stands_in t q is = let s = member_stands 0 t q is in leaf_of_in t q.0 (omega (arith, s.high)) ∙ s.is
 
 -- ---- a value of a list is counted
 
@@ -81,29 +96,13 @@ pub distinct_rest : {A : Type 0} (f : A → List ℕ) (x : A) (xs : List A) → 
 unfolding is_distinct
 distinct_rest f x xs d = (and_parts (count same_bytes (f x) (map f xs) == 0) (is_distinct same_bytes (map f xs)) d).1
 
-pub one_alone : {A : Type 0} (f : A → List ℕ) (xs : List A) (p q : A) → is_distinct same_bytes (map f xs) ≡ true → IsOneOf p xs → IsOneOf q xs → f p ≡ f q → p ≡ q
-unfolding IsOneOf
-one_alone f [] p q d a b e = absurd a
-one_alone f (x ∷ xs) p q d (inl a) (inl b) e = sym a ∙ b
-one_alone f (x ∷ xs) p q d (inl a) (inr b) e = absurd (no_other f x xs q d b (sym e ∙ ap f (sym a)))
-one_alone f (x ∷ xs) p q d (inr a) (inl b) e = absurd (no_other f x xs p d a (e ∙ ap f (sym b)))
-one_alone f (x ∷ xs) p q d (inr a) (inr b) e = one_alone f xs p q (distinct_rest f x xs d) a b e
-
 -- ---- clients
 
-distinct_members : (t : Term) → has_distinct_clients t ≡ true → is_distinct same_bytes (map client_of (members 0 t)) ≡ true
-unfolding has_distinct_clients
-distinct_members t d = ap (is_distinct same_bytes) (sym (clients_are 0 t)) ∙ d
-
--- members of one signature key are one
-pub one_client : (t : Term) (p q : ℕ × LeafNode) → has_distinct_clients t ≡ true → IsOneOf p (members 0 t) → IsOneOf q (members 0 t) → client_of p ≡ client_of q → p ≡ q
-one_client t p q d a b e = one_alone client_of (members 0 t) p q (distinct_members t d) a b e
-
--- so members at two leaves have two
+-- members at two leaves have two signature keys
 apart_by : (b : Bool) (x y : List ℕ) → bytes_eq x y ≡ b → (x ≡ y → ⊥) → b ≡ false
 apart_by true x y e ne = absurd (ne ((bytes_eq-Decides x y).0 e))
 apart_by false x y e ne = refl
 
 pub clients_apart : (t : Term) (i j : ℕ) (x y : LeafNode) → has_distinct_clients t ≡ true → leaf_of t i ≡ Some x → leaf_of t j ≡ Some y → i ≢ j → bytes_eq x.signature_key y.signature_key ≡ false
 clients_apart t i j x y d a b ne =
-    apart_by _ x.signature_key y.signature_key refl (λ e. ne (ap (λ (p : ℕ × LeafNode). p.0) (one_client t (i, x) (j, y) d (is_member t i x a) (is_member t j y b) e)))
+    apart_by _ x.signature_key y.signature_key refl (λ e. ne (one_client t i j x y d a b e))

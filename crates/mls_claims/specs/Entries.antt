@@ -16,7 +16,7 @@ use Rattle.mls_model.specs.Proposals.{package_reference}
 use Rattle.mls_model.specs.Welcome.{entry_for, entries_for}
 use Rattle.mls_claims.specs.Clients.{no_other, distinct_rest}
 use Rattle.mls_claims.specs.One.{IsOneOf}
-use Rattle.mls_claims.specs.Steps.{stepped}
+use Rattle.mls_wire.specs.CheckLaws.{bind_ok}
 use Rattle.mls_claims.specs.Welcomed.{entry_did}
 
 -- whether a KeyPackage, as it is spelled, is one of these
@@ -61,8 +61,8 @@ made_first : (c : Crypto) (context : List ℕ) (secrets rnd : ℕ → List ℕ) 
     entries_for c context secrets rnd n ((x, j) ∷ joiners) ≡ Ok entries → MadeFirst c context secrets rnd n x j joiners entries
 unfolding entries_for
 made_first c context secrets rnd n x j joiners entries h =
-    let s = stepped _ _ _ h in
-    let t = stepped _ _ _ s.2 in
+    let s = bind_ok _ _ _ h in
+    let t = bind_ok _ _ _ s.2 in
     record { first = s.0; is_first = s.1; others = t.0; are_others = t.1; all = ok_is _ _ t.2 }
 
 found_here : (k : KeyPackage) (e : EncryptedGroupSecrets) (es : List EncryptedGroupSecrets) (b : Bool) → is_for k e ≡ b → cond b (Some e) (find (is_for k) es) ≡ find (is_for k) (e ∷ es)

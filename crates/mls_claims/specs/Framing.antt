@@ -17,7 +17,8 @@ use Rattle.mls_model.specs.Make.{MadePath}
 use Rattle.mls_model.specs.Verdict.{framing_checks, is_kept}
 use Rattle.mls_model.specs.Agreement.{Agree, AgreeSecret, IsGoodMember}
 use Rattle.mls_claims.specs.Makes.{commit_of, said_of, signature_of, content_of}
-use Rattle.mls_claims.specs.Receipts.{IsFramed, framing_passes}
+use Rattle.mls_model.specs.Found.{IsFramed}
+use Rattle.mls_model.specs.Receipts.{framing_passes}
 use Rattle.mls_claims.specs.Sent.{sent_of}
 
 -- ---- agreement

@@ -3,7 +3,6 @@ use Rattle.std.proofs.Common.{◌≡◌, ℕ, ◌+◌, ◌-◌, ◌<◌, ◌≤�
 use Rattle.std.specs.List.{AllByRecursion}
 use Rattle.std.proofs.lemmas.Bool.{ltb-true, leb-true}
 use Rattle.mls_wire.specs.Laws.{ok_is}
-use Rattle.mls_kdf.specs.Lengths.{length-sha256}
 use Rattle.mls_leaf.specs.KeyPackage.{key_package}
 use Rattle.mls_leaf.specs.Leaf.{leaf_node}
 use Rattle.mls_leaf.specs.declared.leaf.LeafNode.{LeafNode}
@@ -18,10 +17,9 @@ use Rattle.mls_schedule.specs.Transcript.{confirmed_hash}
 use Rattle.mls_types.specs.Content.{framed_content}
 use Rattle.mls_term.specs.Arrays.{in_order}
 use Rattle.mls_term.specs.Good.{is_within, has_good_lists}
-use Rattle.mls_term.specs.Hashes.{tree_hash}
-use Rattle.mls_term.specs.Inputs.{leaf_hash, branch_hash}
+use Rattle.mls_term.specs.LengthLaws.{length-tree_hash}
 use Rattle.mls_term.specs.Merge.{merge_path}
-use Rattle.mls_term.specs.Term.{Term, Leaf, Branch, width}
+use Rattle.mls_term.specs.Term.{Term, width}
 use Rattle.mls_paths.specs.ListLaws.{right_are_below}
 use Rattle.mls_model.specs.Agreement.{NodeFits}
 use Rattle.mls_model.specs.Commit.{Edits, Change, edited, node_keys, merged, body}
@@ -68,11 +66,6 @@ good_nodes_fit c p t good parts =
     nodes_fit 0 t (omega arith) parts lists.below lists.rising
 
 -- ---- the context
-
-pub length-tree_hash : (b : ℕ) (t : Term) → length (tree_hash b t) ≡ 32
-unfolding tree_hash leaf_hash branch_hash
-length-tree_hash b (Leaf v) = length-sha256 _
-length-tree_hash b (Branch c l r) = length-sha256 _
 
 next_context_fits : (old : GroupContext) (t : Term) (hash : List ℕ) → group_context.Fits old → old.epoch + 1 < 2 ^ 64 → length hash ≡ 32 → group_context.Fits (confirmed_context (provisional_context old t) hash)
 unfolding group_context provisional_context confirmed_context

@@ -16,7 +16,8 @@ use Rattle.mls_paths.specs.Join.{secret_for}
 use Rattle.mls_paths.specs.Make.{filtered_count}
 use Rattle.mls_paths.specs.Seeds.{seal_seed}
 use Rattle.mls_model.specs.Agreement.{IsGoodCandidate}
-use Rattle.mls_model.specs.Candidate.{Candidate, path_start_of}
+use Rattle.mls_model.specs.Candidate.{Candidate}
+use Rattle.mls_paths.specs.Seeds.{path_seed}
 use Rattle.mls_model.specs.Claims.{IsMade}
 use Rattle.mls_model.specs.Commit.{Edits, Change, public_with}
 use Rattle.mls_model.specs.Journal.{adds_in, used_of}
@@ -39,7 +40,7 @@ use Rattle.mls_claims.specs.One.{IsOneOf, at_one}
 use Rattle.mls_claims.specs.Sent.{sent_of, made_fits}
 use Rattle.mls_claims.specs.Spelled.{one_spelled, commit_in, used_fit, adds_fit}
 use Rattle.mls_claims.specs.Stays.{taken}
-use Rattle.mls_claims.specs.Steps.{stepped}
+use Rattle.mls_wire.specs.CheckLaws.{bind_ok}
 use Rattle.mls_claims.specs.Used.{IsUsedAlike, used_for_other}
 use Rattle.mls_claims.specs.Welcomed.{encrypted_info, Welcomes, welcome_did}
 
@@ -59,13 +60,13 @@ unfolding secret_for
 secret_32 [] j start h = h
 secret_32 (s ∷ ss) j start h = side_32 (is_beside s j) (chain start (filtered_count ss)) (secret_for ss j start) (chain_32 start (filtered_count ss) h) (secret_32 ss j start h)
 
-start_32 : (seed : List ℕ) → length (path_start_of seed) ≡ 32
-unfolding path_start_of
+start_32 : (seed : List ℕ) → length (path_seed seed) ≡ 32
+unfolding path_seed
 start_32 seed = length-derive_secret _ _
 
 pub sent_32 : (path : Option UpdatePath) (m : Member) (e : Edits) (seed : List ℕ) (j : ℕ) → is_none_or_32 (path_secret_for path m e seed j) ≡ true
 sent_32 None m e seed j = refl
-sent_32 (Some path) m e seed j = eq-eqb _ _ (secret_32 (way 0 e.tree m.keys.leaf) j (path_start_of seed) (start_32 seed))
+sent_32 (Some path) m e seed j = eq-eqb _ _ (secret_32 (way 0 e.tree m.keys.leaf) j (path_seed seed) (start_32 seed))
 
 -- ---- what was added
 
@@ -74,7 +75,7 @@ welcome_some : (c : Crypto) (m : Member) (change : Change) (path : MadePath) (jo
     welcome_message c (signed_info c m.signing (unsigned_info (public_with change tag) tag m.keys.leaf)) joiner (λ j. secrets_with joiner (path_secret_for path.path m change.edits seed j)) (seal_seed seed) (path_seals path.path) xs ≡ Ok bytes
 welcome_some c m change path joiner tag seed [] bytes h = absurd cc
 welcome_some c m change path joiner tag seed (x ∷ xs) bytes h =
-    let s = stepped _ _ _ h in
+    let s = bind_ok _ _ _ h in
     let e : s.0 ≡ bytes = cc in
     s.1 ∙ ap Ok e
 

@@ -1,8 +1,5 @@
-pub mod Kept
 pub mod Used
-pub mod Steps
 pub mod Makes
-pub mod Receipts
 pub mod Fit
 pub mod Sent
 pub mod Framing
@@ -24,3 +21,12 @@ pub mod Info
 pub mod Next
 pub mod Joins
 pub mod Joiners
+pub mod Still
+pub mod Delivered
+pub mod Proposing
+pub mod Committed
+pub mod Cells
+pub mod Entered
+pub mod GoodMembers
+pub mod Offered
+pub mod Journals

@@ -1,5 +1,5 @@
 -- The next public state of a commit that a good member found to pass.
-use Rattle.std.proofs.Common.{◌≡◌, ℕ, ◌+◌, ◌-◌, ◌^◌, nat_lt, true, List, Option, Some, None, IsSome, Ok, refl, sym, ap, subst, ◌∙◌}
+use Rattle.std.proofs.Common.{◌≡◌, ℕ, ◌+◌, ◌-◌, ◌^◌, nat_lt, true, List, Option, Some, None, IsSome, Ok, refl, sym, ap, ap₂, subst, ◌∙◌}
 use Rattle.std.specs.List.{AllByRecursion}
 use Rattle.std.proofs.lemmas.Slice.Eq.{bytes_eq-Decides}
 use Rattle.mls_leaf.specs.Leaf.{leaf_node}
@@ -10,6 +10,7 @@ use Rattle.mls_types.specs.declared.commit.Commit.{Commit}
 use Rattle.mls_types.specs.declared.content.FramedContent.{FramedContent}
 use Rattle.mls_suite.specs.Crypto.{Crypto}
 use Rattle.mls_term.specs.Arrays.{in_order}
+use Rattle.mls_term.specs.ClientLaws.{one_client}
 use Rattle.mls_term.specs.Good.{IsGood, has_distinct_clients}
 use Rattle.mls_term.specs.Hashes.{tree_hash}
 use Rattle.mls_term.specs.Keys.{members}
@@ -22,7 +23,7 @@ use Rattle.mls_model.specs.Member.{Member, used_by}
 use Rattle.mls_model.specs.Public.{Used}
 use Rattle.mls_laws.proofs.Next.{good_next, context_of_tree}
 use Rattle.mls_laws.proofs.Own.{used_have_passed}
-use Rattle.mls_claims.specs.Clients.{is_member, one_client}
+use Rattle.mls_claims.specs.Clients.{is_member, stands_in}
 use Rattle.mls_claims.specs.Grown.{parts_next, good_nodes_fit, context_next}
 use Rattle.mls_claims.specs.Nodes.{LeafFits, PartsFit, parts_of}
 use Rattle.mls_claims.specs.One.{IsOneOf, at_one, all_both, finds_one}
@@ -39,8 +40,12 @@ pub record IsNext (c : Crypto) (change : Change) : Type 0 where
   pub parts : PartsFit change.tree
   pub nodes : AllByRecursion NodeFits (in_order change.tree)
 
-pub is_next : (c : Crypto) (m : Member) (i : ℕ) (used : List Used) (x : Commit) (said : FramedContent) (signature : List ℕ) (change : Change) → IsGoodMember c m → IsSome (leaf_of m.public.tree i) →
+-- so is that of each commit of a member that a good member finds to pass
+abbrev pub NextStatesGood : Type 0
+NextStatesGood = (c : Crypto) (m : Member) (i : ℕ) (used : List Used) (x : Commit) (said : FramedContent) (signature : List ℕ) (change : Change) → IsGoodMember c m → IsSome (leaf_of m.public.tree i) →
     nat_lt m.public.context.epoch (2 ^ 64 - 1) ≡ true → commit.Fits x → used_by m.kept i x.proposals ≡ Ok used → body c m.public i used x said signature ≡ Ok change → IsNext c change
+
+pub is_next : NextStatesGood
 is_next c m i used x said signature change good there below fits uses h =
     let tree = good_next c m.public i used x said signature change good.tree (used_have_passed c m i x.proposals used good.kept uses) there h in
     let context = context_of_tree c m.public i used x said signature change h in
@@ -74,4 +79,6 @@ unfolding place_of
 place_found t j x d parts fits is =
     let here : IsOneOf (j, x) (members 0 t) = is_member t j x is in
     finds_one (λ (q : ℕ × LeafNode). is_same_leaf q.1 x) (j, x) (members 0 t) here ((bytes_eq-Decides (leaf_node.spell x) (leaf_node.spell x)).1 refl)
-    (λ q a same. one_client t q (j, x) d a here (ap (λ (y : LeafNode). y.signature_key) (one_spelled leaf_node q.1 x (at_one FitsAt q (members 0 t) (members_fit 0 t parts) a) fits ((bytes_eq-Decides _ _).0 same))))
+    (λ q a same.
+    let leaf : q.1 ≡ x = one_spelled leaf_node q.1 x (at_one FitsAt q (members 0 t) (members_fit 0 t parts) a) fits ((bytes_eq-Decides _ _).0 same) in
+    ap₂ (λ (i : ℕ) (y : LeafNode). (i, y)) (one_client t q.0 j q.1 x d (stands_in t q a) is (ap (λ (y : LeafNode). y.signature_key) leaf)) leaf)

@@ -33,13 +33,13 @@ use Rattle.mls_paths.specs.Seeds.{seal_seed}
 use Rattle.mls_paths.specs.Whole.{keys_of_path}
 use Rattle.mls_paths.specs.WholeLaws.{sealed_keys, opened_agrees}
 use Rattle.mls_model.specs.Public.{PublicState, Used, provisional_context, confirmed_context}
-use Rattle.mls_model.specs.Candidate.{path_start_of}
+use Rattle.mls_paths.specs.Seeds.{path_seed}
 use Rattle.mls_model.specs.Proposals.{is_path_required}
 use Rattle.mls_model.specs.Commit.{Edits, Change, edited, node_keys, cipher_counts, due_counts, with_path, merged, body}
 use Rattle.mls_model.specs.Member.{Member, first_own_key, named, with_keys, followed}
 use Rattle.mls_model.specs.Make.{MadePath, committed_leaf, no_path}
 use Rattle.mls_model.specs.Verdict.{climbed}
-use Rattle.mls_claims.specs.Steps.{required, checked, stepped}
+use Rattle.mls_wire.specs.CheckLaws.{require_ok, then_ok, bind_ok}
 use Rattle.mls_claims.specs.Makes.{commit_of}
 use Rattle.mls_claims.specs.Sent.{IsNewPath}
 
@@ -65,9 +65,9 @@ BodyDid = (c : Crypto) (p : PublicState) (committer : ℕ) (used : List Used) (c
 pub body_did : BodyDid
 unfolding body provisional_context confirmed_context
 body_did c p committer used commit said signature change h =
-    let s1 = stepped _ _ _ h in
-    let s2 = required _ _ _ _ s1.2 in
-    let s3 = stepped _ _ _ s2.1 in
+    let s1 = bind_ok _ _ _ h in
+    let s2 = require_ok _ _ _ _ s1.2 in
+    let s3 = bind_ok _ _ _ s2.1 in
     let is = ok_is _ _ s3.2 in
     let e : s1.0 ≡ change.edits = ap (λ (x : Change). x.edits) is in
     let t : s3.0 ≡ change.tree = ap (λ (x : Change). x.tree) is in
@@ -96,11 +96,11 @@ record IsMerged (c : Crypto) (p : PublicState) (committer : ℕ) (e : Edits) (pa
 with_path_did : (c : Crypto) (p : PublicState) (committer : ℕ) (e : Edits) (path : UpdatePath) (t : Term) → with_path c p committer e path ≡ Ok t → IsMerged c p committer e path t
 unfolding with_path
 with_path_did c p committer e path t h =
-    let s1 = stepped _ _ _ h in
-    let s2 = checked _ _ _ s1.2 in
-    let s3 = required _ _ _ _ s2.1 in
-    let s4 = required _ _ _ _ s3.1 in
-    let s5 = required _ _ _ _ s4.1 in
+    let s1 = bind_ok _ _ _ h in
+    let s2 = then_ok _ _ _ s1.2 in
+    let s3 = require_ok _ _ _ _ s2.1 in
+    let s4 = require_ok _ _ _ _ s3.1 in
+    let s5 = require_ok _ _ _ _ s4.1 in
     record { old = s1.0; is_old = s1.1; checks = s2.0; nodes = s3.0; ciphers = s4.0; fit = s5.0; merges = s5.1 }
 
 pub merged_did : (c : Crypto) (p : PublicState) (committer : ℕ) (e : Edits) (path : UpdatePath) (t : Term) → merged c p committer e (Some path) ≡ Ok t → merge_answer e.tree committer path.leaf_node (node_keys path) ≡ Ok t
@@ -127,9 +127,9 @@ pub record Climbs (c : Crypto) (m : Member) (committer : ℕ) (list : List Propo
 -- with a path
 climbs_path : (c : Crypto) → Lawful c → (maker m : Member) (list : List ProposalOrRef) (e : Edits) (seed : List ℕ) (path : MadePath) (change : Change) (new : IsNewPath c maker e seed path) →
     change.edits ≡ e → change.provisional ≡ provisional_context maker.public.context new.tree → Stays c m maker.keys.leaf list change.edits → Climbs c m maker.keys.leaf list path change
-unfolding climbed followed with_keys path_start_of
+unfolding climbed followed with_keys path_seed
 climbs_path c laws maker m list e seed path change new same context stays =
-    let start : List ℕ = path_start_of seed in
+    let start : List ℕ = path_seed seed in
     let i : ℕ = maker.keys.leaf in
     let keys : PrivateKeys = followed (first_own_key (named m.kept list)) change.edits.tree m.keys in
     let spelled : List ℕ = group_context.spell change.provisional in
@@ -169,7 +169,7 @@ one_tree c maker e seed path t new h =
     let made : UpdatePath = record { leaf_node = committed_leaf c maker e new.old seed; nodes = new.nodes } in
     let done : merge_answer e.tree maker.keys.leaf made.leaf_node (node_keys made) ≡ Ok t =
     merged_did c maker.public maker.keys.leaf e made t (sym (ap (λ (x : Option UpdatePath). merged c maker.public maker.keys.leaf e x) new.path_is) ∙ h) in
-    let keys : node_keys made ≡ keys_of_path c e.tree maker.keys.leaf (path_start_of seed) = sealed_keys c _ e.added (seal_seed seed) e.tree maker.keys.leaf (path_start_of seed) new.nodes new.nodes_are in
+    let keys : node_keys made ≡ keys_of_path c e.tree maker.keys.leaf (path_seed seed) = sealed_keys c _ e.added (seal_seed seed) e.tree maker.keys.leaf (path_seed seed) new.nodes new.nodes_are in
     ok_is t new.tree (sym done ∙ ap (λ (ks : List (List ℕ)). merge_answer e.tree maker.keys.leaf made.leaf_node ks) keys ∙ new.tree_is)
 
 pub receiver_climbs : ReceiverClimbs

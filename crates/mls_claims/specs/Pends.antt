@@ -17,14 +17,15 @@ use Rattle.mls_paths.specs.Members.{HasExact}
 use Rattle.mls_paths.specs.Whole.{keys_of_path}
 use Rattle.mls_paths.specs.WholeLaws.{made_exact}
 use Rattle.mls_model.specs.Public.{PublicState}
-use Rattle.mls_model.specs.Candidate.{leaf_key_of, path_start_of, unsigned_leaf, signed_leaf}
+use Rattle.mls_model.specs.Candidate.{leaf_key_of, unsigned_leaf, signed_leaf}
+use Rattle.mls_paths.specs.Seeds.{path_seed}
 use Rattle.mls_model.specs.Commit.{Edits, merged, public_with, next_public}
 use Rattle.mls_model.specs.Member.{Member, with_keys, followed}
 use Rattle.mls_model.specs.Messages.{decoded}
 use Rattle.mls_model.specs.Make.{MadePath, Made, committed_leaf, no_path}
 use Rattle.mls_model.specs.Agreement.{IsGoodMember, IsGoodPending}
 use Rattle.mls_model.specs.Claims.{IsMade}
-use Rattle.mls_claims.specs.Steps.{checked}
+use Rattle.mls_wire.specs.CheckLaws.{then_ok}
 use Rattle.mls_claims.specs.Makes.{commit_of, said_of, tag_of, content_of, made_of, Makes, make_did}
 use Rattle.mls_claims.specs.Sent.{IsNewPath, ReadsBack, sent_of, path_did, made_fits}
 use Rattle.mls_claims.specs.Opened.{IsChange, body_did, same_edits, one_tree}
@@ -51,7 +52,7 @@ made_back c old ss start sk =
 
 pub merge_is : (t : Term) (i : ℕ) (x : LeafNode) (keys : List (List ℕ)) (u : Term) → merge_answer t i x keys ≡ Ok u → merge_path t i x keys ≡ u
 unfolding merge_answer
-merge_is t i x keys u h = ok_is _ _ (checked _ _ _ h).1
+merge_is t i x keys u h = ok_is _ _ (then_ok _ _ _ h).1
 
 leaf_key_is : (c : Crypto) (m : Member) (e : Edits) (old : LeafNode) (seed : List ℕ) → c.public (leaf_key_of c seed) ≡ (committed_leaf c m e old seed).encryption_key
 unfolding committed_leaf signed_leaf unsigned_leaf
@@ -61,7 +62,7 @@ keys_with_path : (c : Crypto) (m : Member) (e : Edits) (seed : List ℕ) (path :
 unfolding with_keys
 keys_with_path c m e seed path new =
     let i : ℕ = m.keys.leaf in
-    let start : List ℕ = path_start_of seed in
+    let start : List ℕ = path_seed seed in
     let sk : List ℕ = leaf_key_of c seed in
     let x : LeafNode = committed_leaf c m e new.old seed in
     let p : PrivateKeys = with_keys m.keys (made_keys c (way 0 e.tree i) start sk) in
@@ -122,6 +123,7 @@ pends_by c m list made is k =
       decodes = ap (λ (x : Made). decoded x.commit) k.made_is ∙ reads.decodes;
       says = body_is c m list k.path k.change;
       from = sender_is c m list k.path k.change;
+      below = k.below;
       uses = k.uses;
       next = next_is c m list is.wants_path is.seed made k;
       confirmed = refl;

@@ -27,10 +27,10 @@ use Rattle.mls_model.specs.Make.{MadePath, Made}
 use Rattle.mls_model.specs.Verdict.{framing_checks, climbed, entered, commit_verdict, content_verdict, received, own_pending, verdict}
 use Rattle.mls_model.specs.Agreement.{Agree, AgreeSecret, Keeps, IsGoodMember, IsGoodPending, IsGoodIfPending}
 use Rattle.mls_model.specs.Journal.{names_in, removes_in}
-use Rattle.mls_model.specs.Claims.{IsMade, FollowsTo, Receives}
+use Rattle.mls_model.specs.Claims.{IsMade, Receives}
 use Rattle.mls_claims.specs.Used.{used_alike, removes_in_lem}
 use Rattle.mls_claims.specs.Makes.{commit_of, said_of, signature_of, joiner_of, epoch_of, tag_of, content_of, made_of, Makes, make_did}
-use Rattle.mls_claims.specs.Receipts.{reached_epoch}
+use Rattle.mls_model.specs.Found.{reached_epoch}
 use Rattle.mls_claims.specs.Sent.{sent_of, path_did, made_fits}
 use Rattle.mls_claims.specs.Framing.{one_public, made_is_framed}
 use Rattle.mls_claims.specs.Opened.{IsChange, body_did, Stays, Climbs, receiver_climbs}
@@ -95,7 +95,8 @@ same_epoch maker m path change climb e s =
 pub record Meets (c : Crypto) (maker m : Member) (list : List ProposalOrRef) (wants_path : Bool) (seed : List ℕ) (made : Made) : Type 0 where
   pub made_by : Makes c maker list wants_path seed made
   pub below : nat_lt m.public.context.epoch (2 ^ 64 - 1) ≡ true
-  pub is_verdict : verdict c m made.commit ≡ commit_verdict c m (content_of c maker list made_by.path made_by.change) (commit_of list made_by.path) (tag_of maker made_by.path made_by.change)
+  pub reads : decoded made.commit ≡ Ok (message.PublicMessage (sent_of c maker list made_by.path made_by.change))
+  pub is_received : received c m made.commit ≡ commit_verdict c m (content_of c maker list made_by.path made_by.change) (commit_of list made_by.path) (tag_of maker made_by.path made_by.change)
   pub uses : used_by m.kept maker.keys.leaf list ≡ Ok made_by.used
   pub change_is : body c m.public maker.keys.leaf made_by.used (commit_of list made_by.path) (said_of maker list made_by.path) (signature_of c maker list made_by.path) ≡ Ok made_by.change
 
@@ -108,33 +109,39 @@ pub sender_is : (c : Crypto) (maker : Member) (list : List ProposalOrRef) (path 
 unfolding sent_of content_of said_of Rattle.mls_model.specs.Messages.said_by
 sender_is c maker list path change = refl
 
-pub meets : (c : Crypto) → Lawful c → (maker m : Member) (list : List ProposalOrRef) (made : Made) (is : IsMade c maker list made) → IsGoodMember c m → m.gone ≡ false → maker.keys.leaf ≢ m.keys.leaf → Agree maker m → AgreeSecret maker m →
+pub meets : (c : Crypto) → Lawful c → (maker m : Member) (list : List ProposalOrRef) (made : Made) (is : IsMade c maker list made) → IsGoodMember c m → maker.keys.leaf ≢ m.keys.leaf → Agree maker m → AgreeSecret maker m →
     Keeps m.kept list (names_in maker.kept list) → Meets c maker m list is.wants_path is.seed made
-meets c laws maker m list made is good active apart agree secret keeps =
+meets c laws maker m list made is good apart agree secret keeps =
     let k = make_did c maker list is.wants_path is.seed made is.is in
     let v : PublicMessage = sent_of c maker list k.path k.change in
     let reads : decoded made.commit ≡ Ok (message.PublicMessage v) = (made_fits c maker list is.wants_path is.seed made k is.good is.fits).decodes in
-    let free : own_pending m.pending made.commit ≡ None = not_pending c m m.pending made.commit v good.pending reads (λ e. apart (sym (sender_is c maker list k.path k.change) ∙ e)) in
     let passes : framing_checks c m v made.commit ≡ Ok passed = made_is_framed c laws maker m list k.path k.change made.commit is.good apart agree secret in
     let one : maker.public ≡ m.public = one_public maker m agree in
     record {
       made_by = k;
       below = subst (λ (p : PublicState). nat_lt p.context.epoch (2 ^ 64 - 1) ≡ true) one k.below;
-      is_verdict = verdict_by c m made.commit active free ∙ received_by c m made.commit v reads passes ∙ is_commit c m maker list k.path k.change made.commit;
+      reads = reads;
+      is_received = received_by c m made.commit v reads passes ∙ is_commit c m maker list k.path k.change made.commit;
       uses = used_alike c maker m maker.keys.leaf list k.used is.good.kept good.kept keeps k.uses;
       change_is = subst (λ (p : PublicState). body c p maker.keys.leaf k.used (commit_of list k.path) (said_of maker list k.path) (signature_of c maker list k.path) ≡ Ok k.change) one k.change_is;
     }
 
 -- the one that is removed
 removed_claim : (c : Crypto) (maker m : Member) (list : List ProposalOrRef) (wants_path : Bool) (seed : List ℕ) (made : Made) (k : Meets c maker m list wants_path seed made) → has (removed k.made_by.used) m.keys.leaf ≡ true →
-    verdict c m made.commit ≡ Ok (Removed, left m)
+    received c m made.commit ≡ Ok (Removed, left m)
 unfolding content_of commit_of said_of Rattle.mls_model.specs.Messages.said_by
 removed_claim c maker m list wants_path seed made k gone =
-    k.is_verdict ∙ removed_by c m (content_of c maker list k.made_by.path k.made_by.change) (commit_of list k.made_by.path) (tag_of maker k.made_by.path k.made_by.change) k.made_by.used k.made_by.change k.below k.uses k.change_is gone
+    k.is_received ∙ removed_by c m (content_of c maker list k.made_by.path k.made_by.change) (commit_of list k.made_by.path) (tag_of maker k.made_by.path k.made_by.change) k.made_by.used k.made_by.change k.below k.uses k.change_is gone
 
--- one that follows
+-- one that follows, where it doesn't take the bytes for its pending commit
+pub record FollowsOther (c : Crypto) (m : Member) (made : Made) : Type 0 where
+  pub after : Member
+  pub is : received c m made.commit ≡ Ok (Advanced (m.public.context.epoch + 1), after)
+  pub public : after.public ≡ made.pending.public
+  pub epoch : after.epoch ≡ made.pending.epoch
+
 follows_claim : (c : Crypto) → Lawful c → (maker m : Member) (list : List ProposalOrRef) (wants_path : Bool) (seed : List ℕ) (made : Made) (k : Meets c maker m list wants_path seed made) → AgreeSecret maker m → Agree maker m →
-    has (removed k.made_by.used) m.keys.leaf ≡ false → Stays c m maker.keys.leaf list k.made_by.edits → FollowsTo c m made
+    has (removed k.made_by.used) m.keys.leaf ≡ false → Stays c m maker.keys.leaf list k.made_by.edits → FollowsOther c m made
 unfolding content_of commit_of said_of Rattle.mls_model.specs.Messages.said_by made_of tag_of advanced
 follows_claim c laws maker m list wants_path seed made k secret agree here stays =
     let s = k.made_by in
@@ -149,28 +156,44 @@ follows_claim c laws maker m list wants_path seed made k secret agree here stays
     let after : Member = advanced m (public_with s.change tag) (reached_epoch m s.change climbs.climb) (with_keys m.keys climbs.climb.keys) in
     record {
       after = after;
-      is = k.is_verdict
+      is = k.is_received
           ∙ advanced_by c m (content_of c maker list s.path s.change) (commit_of list s.path) tag s.used s.change climbs.climb k.below k.uses k.change_is here climbs.is confirmed
           ∙ ap (λ (n : ℕ). into n after) next;
       public = ap (λ (x : Made). x.pending.public) s.made_is;
       epoch = epoch ∙ ap (λ (x : Made). x.pending.epoch) s.made_is;
     }
 
+-- what a receiver does with bytes that it doesn't take for its pending commit
+pub record ReceivesOther (c : Crypto) (m : Member) (list : List ProposalOrRef) (made : Made) : Type 0 where
+  pub removed : has (removes_in m.kept list) m.keys.leaf ≡ true → received c m made.commit ≡ Ok (Removed, left m)
+  pub follows : has (removes_in m.kept list) m.keys.leaf ≡ false → FollowsOther c m made
+  pub taken : m.gone ≡ false → verdict c m made.commit ≡ received c m made.commit
+
 -- The receivers' claim, where a member that a commit doesn't remove stands in the tree of its edits.
 abbrev pub ReceiversOfStaying : Type 0
-ReceiversOfStaying = (c : Crypto) → Lawful c → (maker m : Member) (list : List ProposalOrRef) (made : Made) → IsMade c maker list made → IsGoodMember c m → m.gone ≡ false → maker.keys.leaf ≢ m.keys.leaf → Agree maker m → AgreeSecret maker m →
+ReceiversOfStaying = (c : Crypto) → Lawful c → (maker m : Member) (list : List ProposalOrRef) (made : Made) → IsMade c maker list made → IsGoodMember c m → maker.keys.leaf ≢ m.keys.leaf → Agree maker m → AgreeSecret maker m →
     Keeps m.kept list (names_in maker.kept list) →
     ((used : List Used) (e : Edits) → used_by m.kept maker.keys.leaf list ≡ Ok used → edited c m.public maker.keys.leaf used ≡ Ok e → has (removed used) m.keys.leaf ≡ false → Stays c m maker.keys.leaf list e) →
-    Receives c m list made
+    ReceivesOther c m list made
 
 pub receivers_of_staying : ReceiversOfStaying
-receivers_of_staying c laws maker m list made is good active apart agree secret keeps staying =
-    let k = meets c laws maker m list made is good active apart agree secret keeps in
+receivers_of_staying c laws maker m list made is good apart agree secret keeps staying =
+    let k = meets c laws maker m list made is good apart agree secret keeps in
     let names : removes_in m.kept list ≡ removed k.made_by.used = removes_in_lem m.kept maker.keys.leaf list k.made_by.used k.uses in
     let one : maker.public ≡ m.public = one_public maker m agree in
     let edits : edited c m.public maker.keys.leaf k.made_by.used ≡ Ok k.made_by.edits = subst (λ (p : PublicState). edited c p maker.keys.leaf k.made_by.used ≡ Ok k.made_by.edits) one k.made_by.edits_are in
+    let v : PublicMessage = sent_of c maker list k.made_by.path k.made_by.change in
+    let free : own_pending m.pending made.commit ≡ None = not_pending c m m.pending made.commit v good.pending k.reads (λ e. apart (sym (sender_is c maker list k.made_by.path k.made_by.change) ∙ e)) in
     record {
       removed = λ e. removed_claim c maker m list is.wants_path is.seed made k (sym (ap (λ (xs : List ℕ). has xs m.keys.leaf) names) ∙ e);
       follows = λ e. let here = sym (ap (λ (xs : List ℕ). has xs m.keys.leaf) names) ∙ e in
           follows_claim c laws maker m list is.wants_path is.seed made k secret agree here (staying k.made_by.used k.made_by.edits k.uses edits here);
+      taken = λ active. verdict_by c m made.commit active free;
     }
+
+-- as a verdict
+pub receives_by : (c : Crypto) (m : Member) (list : List ProposalOrRef) (made : Made) → m.gone ≡ false → ReceivesOther c m list made → Receives c m list made
+receives_by c m list made active r = record {
+  removed = λ e. r.taken active ∙ r.removed e;
+  follows = λ e. let f = r.follows e in record { after = f.after; is = r.taken active ∙ f.is; public = f.public; epoch = f.epoch };
+}

@@ -1,5 +1,5 @@
 -- A commit that a good member makes reads back.
-use Rattle.std.proofs.Common.{◌≡◌, ℕ, ◌<◌, ◌≤◌, ◌^◌, nat_lt, Bool, true, false, cond, List, [], ◌++◌, length, Option, Some, None, Ok, refl, sym, ap, subst, ◌∙◌, ◌⊎◌, inl, inr, arith, lit<}
+use Rattle.std.proofs.Common.{◌≡◌, ℕ, ◌<◌, ◌≤◌, ◌^◌, nat_lt, Bool, true, false, cond, List, [], ◌++◌, length, Option, Some, None, Result, Ok, refl, sym, ap, subst, ◌∙◌, ◌⊎◌, inl, inr, arith, lit<}
 use Rattle.std.specs.Int.{w8, w16, w64}
 use Rattle.std.specs.List.{AllByRecursion}
 use Rattle.std.proofs.lemmas.Bool.{ltb-true, leb-true, and_parts}
@@ -42,14 +42,15 @@ use Rattle.mls_paths.specs.Seal.{sealed_path}
 use Rattle.mls_paths.specs.Seeds.{seal_seed}
 use Rattle.mls_paths.specs.Whole.{keys_of_path}
 use Rattle.mls_model.specs.Public.{Used, provisional_context}
-use Rattle.mls_model.specs.Candidate.{leaf_key_of, path_start_of, unsigned_leaf, signed_leaf}
+use Rattle.mls_model.specs.Candidate.{leaf_key_of, unsigned_leaf, signed_leaf}
+use Rattle.mls_paths.specs.Seeds.{path_seed}
 use Rattle.mls_model.specs.Commit.{Edits, Change}
 use Rattle.mls_model.specs.Member.{Member}
 use Rattle.mls_model.specs.Messages.{decoded, is_within_limit, said_by, content_tag, sent_by}
 use Rattle.mls_model.specs.Make.{MadePath, Made, committed_leaf, new_path, no_path}
 use Rattle.mls_model.specs.Agreement.{IsGoodMember}
-use Rattle.mls_claims.specs.Steps.{passes, checked, stepped, was_given, either_way}
-use Rattle.mls_claims.specs.Fit.{short_first, short_last, short_text, capabilities_fit, commit_leaf_fits, LeafFitsIfShort, commit_fits}
+use Rattle.mls_wire.specs.CheckLaws.{required, then_ok, bind_ok, given_ok}
+use Rattle.mls_claims.specs.Fit.{short_first, short_last, short_text, capabilities_fit, made_leaf_fits, commit_source_fits, LeafFitsIfShort, commit_fits}
 use Rattle.mls_claims.specs.Makes.{commit_of, said_of, signature_of, tag_of, content_of, message_of, made_of, path_for, Makes}
 
 -- ---- the path of a made commit
@@ -59,11 +60,11 @@ pub record IsNewPath (c : Crypto) (m : Member) (e : Edits) (seed : List ℕ) (pa
   pub is_old : leaf_of m.public.tree m.keys.leaf ≡ Some old
   pub checks : replaced_checks c (committed_leaf c m e old seed) old replaced_for.Commit m.public.context.group_id m.keys.leaf ≡ Ok passed
   pub tree : Term
-  pub tree_is : merge_answer e.tree m.keys.leaf (committed_leaf c m e old seed) (keys_of_path c e.tree m.keys.leaf (path_start_of seed)) ≡ Ok tree
+  pub tree_is : merge_answer e.tree m.keys.leaf (committed_leaf c m e old seed) (keys_of_path c e.tree m.keys.leaf (path_seed seed)) ≡ Ok tree
   pub nodes : List UpdatePathNode
-  pub nodes_are : sealed_path c (group_context.spell (provisional_context m.public.context tree)) e.added (seal_seed seed) e.tree m.keys.leaf (path_start_of seed) ≡ Ok nodes
+  pub nodes_are : sealed_path c (group_context.spell (provisional_context m.public.context tree)) e.added (seal_seed seed) e.tree m.keys.leaf (path_seed seed) ≡ Ok nodes
   pub path_is : path.path ≡ Some (record { leaf_node = committed_leaf c m e old seed; nodes = nodes })
-  pub climb_is : path.climb ≡ climb_make c (way 0 e.tree m.keys.leaf) (path_start_of seed) (leaf_key_of c seed)
+  pub climb_is : path.climb ≡ climb_make c (way 0 e.tree m.keys.leaf) (path_seed seed) (leaf_key_of c seed)
 
 abbrev pub PathDid : Type 0
 PathDid = (c : Crypto) (m : Member) (used : List Used) (e : Edits) (wants_path : Bool) (seed : List ℕ) (path : MadePath) → path_for c m used e wants_path seed ≡ Ok path →
@@ -72,14 +73,14 @@ PathDid = (c : Crypto) (m : Member) (used : List Used) (e : Edits) (wants_path :
 new_path_did : (c : Crypto) (m : Member) (e : Edits) (seed : List ℕ) (path : MadePath) → new_path c m e seed ≡ Ok path → IsNewPath c m e seed path
 unfolding new_path
 new_path_did c m e seed path h =
-    let s1 = stepped _ _ _ h in
-    let s2 = checked _ _ _ s1.2 in
-    let s3 = stepped _ _ _ s2.1 in
-    let s4 = stepped _ _ _ s3.2 in
+    let s1 = bind_ok _ _ _ h in
+    let s2 = then_ok _ _ _ s1.2 in
+    let s3 = bind_ok _ _ _ s2.1 in
+    let s4 = bind_ok _ _ _ s3.2 in
     let is = ok_is _ _ s4.2 in
     record {
       old = s1.0;
-      is_old = was_given _ _ _ s1.1;
+      is_old = given_ok _ _ _ s1.1;
       checks = s2.0;
       tree = s3.0;
       tree_is = s3.1;
@@ -88,6 +89,11 @@ new_path_did c m e seed path h =
       path_is = sym (ap (λ (p : MadePath). p.path) is);
       climb_is = sym (ap (λ (p : MadePath). p.climb) is);
     }
+
+-- which way a test went
+either_way : {A P Q : Type 0} (b : Bool) (x y : Result A ℕ) (z : A) → cond b x y ≡ Ok z → (b ≡ true → x ≡ Ok z → P) → (b ≡ false → y ≡ Ok z → Q) → P ⊎ Q
+either_way true x y z e f g = inl (f refl e)
+either_way false x y z e f g = inr (g refl e)
 
 pub path_did : PathDid
 unfolding path_for
@@ -108,7 +114,7 @@ no_some p e = absurd cc
 
 new_leaf_fits : (c : Crypto) (m : Member) (e : Edits) (old : LeafNode) (seed : List ℕ) → c.number < 2 ^ 16 → length (leaf_node.spell (committed_leaf c m e old seed)) < 2 ^ 30 → leaf_node.Fits (committed_leaf c m e old seed)
 unfolding committed_leaf signed_leaf unsigned_leaf
-new_leaf_fits c m e old seed n lt = commit_leaf_fits _ _ _ _ _ _ (capabilities_fit c n) lt
+new_leaf_fits c m e old seed n lt = made_leaf_fits _ _ _ _ _ _ (capabilities_fit c n) (commit_source_fits _) lt
 
 pub path_leaf_fits : (c : Crypto) (m : Member) (e : Edits) (seed : List ℕ) (path : MadePath) → c.number < 2 ^ 16 → IsNewPath c m e seed path ⊎ (path ≡ no_path m e) → LeafFitsIfShort path.path
 unfolding no_path
@@ -143,7 +149,7 @@ content_fits group at leaf x signature tag g a l fits lt =
 
 -- ---- the message
 
-message_fits : (v : SignedContent) (tag : List ℕ) →
+pub message_fits : (v : SignedContent) (tag : List ℕ) →
     let p : PublicMessage = record { content = v; membership_tag = tag } in
     (length (signed_content.spell v) < 2 ^ 30 → signed_content.Fits v) → length (mls_message.spell (message.PublicMessage p)) < 2 ^ 30 → mls_message.Fits (message.PublicMessage p)
 unfolding mls_message public_message
@@ -215,7 +221,7 @@ MadeFits = (c : Crypto) (m : Member) (list : List ProposalOrRef) (wants_path : B
 
 within_is : (bytes : List ℕ) → is_within_limit bytes ≡ Ok passed → length bytes ≤ input_limit
 unfolding is_within_limit
-within_is bytes h = leb-true _ _ (and_parts _ _ (passes _ _ h)).0
+within_is bytes h = leb-true _ _ (and_parts _ _ (required _ _ _ h)).0
 
 sent_fits : (c : Crypto) (m : Member) (list : List ProposalOrRef) (path : MadePath) (change : Change) → IsGoodMember c m → AllByRecursion proposal_or_ref.Fits list → LeafFitsIfShort path.path →
     length (mls_message.spell (message.PublicMessage (sent_of c m list path change))) < 2 ^ 30 → mls_message.Fits (message.PublicMessage (sent_of c m list path change))

@@ -3,7 +3,7 @@ use Rattle.std.proofs.Common.{◌≡◌, ℕ, false, List, Option, Some, IsSome,
 use Rattle.std.specs.Prelude.{◌≢◌}
 use Rattle.mls_leaf.specs.declared.leaf.LeafNode.{LeafNode}
 use Rattle.mls_types.specs.declared.commit.ProposalOrRef.{ProposalOrRef}
-use Rattle.mls_suite.specs.Crypto.{Crypto}
+use Rattle.mls_suite.specs.Crypto.{Crypto, Lawful}
 use Rattle.mls_term.specs.Good.{has_good_lists}
 use Rattle.mls_term.specs.Laws.{IsIn}
 use Rattle.mls_term.specs.Sets.{has}
@@ -24,7 +24,11 @@ use Rattle.mls_laws.proofs.Sound.{edits_good}
 use Rattle.mls_laws.proofs.Staying.{edits_follow_committer}
 use Rattle.mls_claims.specs.Opened.{Stays}
 use Rattle.mls_claims.specs.Sent.{leaf_is_in}
-use Rattle.mls_claims.specs.Received.{receivers_of_staying}
+use Rattle.mls_model.specs.Agreement.{Agree, AgreeSecret, Keeps}
+use Rattle.mls_model.specs.Claims.{IsMade}
+use Rattle.mls_model.specs.Journal.{names_in}
+use Rattle.mls_model.specs.Make.{Made}
+use Rattle.mls_claims.specs.Received.{ReceivesOther, receivers_of_staying, receives_by}
 
 -- ---- the whole
 
@@ -59,7 +63,15 @@ member_stays c m i list used e x good apart is uses edits here =
 
 -- A made commit passes the verdict of each active member at another leaf that agrees with its maker, in secrets too, and
 -- keeps the proposals that it names.
-pub receivers_hold : ReceiversClaim
-receivers_hold c laws maker m list made is good active apart agree secret keeps =
-    receivers_of_staying c laws maker m list made is good active apart agree secret keeps
+-- a made commit is received by each good member at another leaf that agrees with its maker, removed or not before
+abbrev pub MadeIsReceived : Type 0
+MadeIsReceived = (c : Crypto) → Lawful c → (maker m : Member) (list : List ProposalOrRef) (made : Made) → IsMade c maker list made → IsGoodMember c m → maker.keys.leaf ≢ m.keys.leaf → Agree maker m → AgreeSecret maker m →
+    Keeps m.kept list (names_in maker.kept list) → ReceivesOther c m list made
+
+pub made_is_received : MadeIsReceived
+made_is_received c laws maker m list made is good apart agree secret keeps =
+    receivers_of_staying c laws maker m list made is good apart agree secret keeps
     (λ used e uses edits here. member_stays c m maker.keys.leaf list used e is.good.own good apart (ap (λ (t : Term). leaf_of t maker.keys.leaf) (sym agree.tree) ∙ is.good.is_own) uses edits here)
+
+pub receivers_hold : ReceiversClaim
+receivers_hold c laws maker m list made is good active apart agree secret keeps = receives_by c m list made active (made_is_received c laws maker m list made is good apart agree secret keeps)

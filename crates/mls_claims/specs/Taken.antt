@@ -14,7 +14,7 @@ use Rattle.mls_paths.specs.Laws.{AreTwo}
 use Rattle.mls_paths.specs.Make.{Climb}
 use Rattle.mls_paths.specs.Whole.{keys_of_path}
 use Rattle.mls_paths.specs.WholeLaws.{taken_agrees}
-use Rattle.mls_model.specs.Candidate.{path_start_of}
+use Rattle.mls_paths.specs.Seeds.{path_seed}
 use Rattle.mls_model.specs.Commit.{Edits, merged}
 use Rattle.mls_model.specs.Member.{Member, with_keys}
 use Rattle.mls_model.specs.Make.{MadePath, committed_leaf, no_path, path_secret_for}
@@ -51,7 +51,7 @@ pub keys_taken : KeysTaken
 unfolding no_path
 keys_taken c m e seed path t j y own (inl new) h two leaf public lists =
     let i : ℕ = m.keys.leaf in
-    let start : List ℕ = path_start_of seed in
+    let start : List ℕ = path_seed seed in
     let x : LeafNode = committed_leaf c m e new.old seed in
     let u : Term = merge_path e.tree i x (keys_of_path c e.tree i start) in
     let tree : u ≡ t = merge_is e.tree i x (keys_of_path c e.tree i start) new.tree new.tree_is ∙ sym (one_tree c m e seed path t new h) in

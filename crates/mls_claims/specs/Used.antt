@@ -2,13 +2,13 @@
 use Rattle.std.proofs.Common.{◌≡◌, ℕ, suc, ◌≤◌, length, arith, Bool, true, false, cond, List, [], ◌∷◌, Option, Some, None, Result, Ok, refl, sym, ap, subst, ◌∙◌}
 use Rattle.std.specs.Prelude.{option_map, find}
 use Rattle.std.specs.List.{AllByRecursion}
-use Rattle.mls_wire.specs.Checks.{given}
 use Rattle.mls_wire.specs.Reading.{◌>>=◌}
 use Rattle.mls_wire.specs.Laws.{bind_ok, ok_is}
 use Rattle.mls_types.specs.declared.commit.ProposalOrRef.{ProposalOrRef}
 use Rattle.mls_types.specs.declared.commit.ProposalOrRef.TheVariants as listed
 use Rattle.mls_suite.specs.Crypto.{Crypto}
 use Rattle.mls_model.specs.Agreement.{Keeps, IsGoodKept}
+use Rattle.mls_model.specs.CommitLaws.{names_in_order}
 use Rattle.mls_model.specs.Journal.{names_in, used_of, removes_in}
 use Rattle.mls_model.specs.Member.{Kept, Member, kept_under, used_one, used_by, named}
 use Rattle.mls_model.specs.Proposals.{adds, removed}
@@ -68,32 +68,11 @@ used_by_names_lem c m kept i (listed.Reference r ∷ xs) (b ∷ bs) good h =
     let u : used_in b ≡ Ok (record { proposal = k.0.proposal; sender = k.0.sender; is_full = false }) = subst (λ (x : List ℕ). used_in x ≡ Ok (record { proposal = k.0.proposal; sender = k.0.sender; is_full = false })) k.2 (used_kept c m k.0 g) in
     rw (k.1, u, used_by_names_lem c m kept i xs bs good h.1) refl
 
--- a list whose references are all kept: the names of its own
-keeps_at : (kept : List Kept) (r : List ℕ) (xs : List ProposalOrRef) (o : Option Kept) (i : ℕ) (us : List Used) → kept_under kept r ≡ o →
-    ((given 60 o >>= λ k. Ok (record { proposal = k.proposal; sender = k.sender; is_full = false })) >>= λ u. used_by kept i xs >>= λ vs. Ok (u ∷ vs)) ≡ Ok us →
-    (k : Kept) × (kept_under kept r ≡ Some k) × ((vs : List Used) × (used_by kept i xs ≡ Ok vs))
-keeps_at kept r xs None i us e f = absurd cc
-keeps_at kept r xs (Some k) i us e f =
-    let s = bind_ok (used_by kept i xs) (λ vs. Ok (record { proposal = k.proposal; sender = k.sender; is_full = false } ∷ vs)) us f in
-    (k, e, (s.0, s.1))
-
+-- one more reference that is kept names its message
 keeps_more : (kept : List Kept) (r : List ℕ) (xs : List ProposalOrRef) (k : Kept) → kept_under kept r ≡ Some k → Keeps kept xs (names_in kept xs) →
     Keeps kept (listed.Reference r ∷ xs) (names_in kept (listed.Reference r ∷ xs))
 unfolding Keeps names_in named
 keeps_more kept r xs k e h = rw e (ap (option_map (λ (x : Kept). x.message)) e, h)
-
-abbrev pub KeepsOwn : Type 0
-KeepsOwn = (kept : List Kept) (i : ℕ) (list : List ProposalOrRef) (us : List Used) → used_by kept i list ≡ Ok us → Keeps kept list (names_in kept list)
-
-pub keeps_own : KeepsOwn
-unfolding used_by Keeps names_in named
-keeps_own kept i [] us e = tt
-keeps_own kept i (listed.Proposal said ∷ xs) us e =
-    let s = bind_ok (used_by kept i xs) (λ vs. Ok (record { proposal = said; sender = i; is_full = true } ∷ vs)) us e in
-    keeps_own kept i xs s.0 s.1
-keeps_own kept i (listed.Reference r ∷ xs) us e =
-    let k = keeps_at kept r xs (kept_under kept r) i us refl e in
-    keeps_more kept r xs k.0 k.1 (keeps_own kept i xs k.2.0 k.2.1)
 
 -- ---- what is used, by an entry and by another member
 
@@ -102,7 +81,7 @@ UsedByEntry = (c : Crypto) (m : Member) (kept : List Kept) (i : ℕ) (list : Lis
     used_by_names i list (names_in kept list) ≡ Ok us
 
 pub used_by_entry : UsedByEntry
-used_by_entry c m kept i list us good e = sym (used_by_names_lem c m kept i list (names_in kept list) good (keeps_own kept i list us e)) ∙ e
+used_by_entry c m kept i list us good e = sym (used_by_names_lem c m kept i list (names_in kept list) good (names_in_order kept i list us e)) ∙ e
 
 -- who keeps what a maker's list names uses what the maker does
 abbrev pub UsedAlike : Type 0

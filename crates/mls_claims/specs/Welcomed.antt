@@ -33,7 +33,7 @@ use Rattle.mls_model.specs.Messages.{decoded, are_bytes, is_within_limit}
 use Rattle.mls_model.specs.Opening.{is_none_or_32, opened_secrets, Opened, opened_welcome}
 use Rattle.mls_model.specs.Proposals.{package_reference}
 use Rattle.mls_model.specs.Welcome.{secrets_with, entry_for, entries_for, welcome_message}
-use Rattle.mls_claims.specs.Steps.{passes, checked, stepped, was_given}
+use Rattle.mls_wire.specs.CheckLaws.{required, then_ok, bind_ok, given_ok}
 use Rattle.mls_claims.specs.Fit.{short_first, short_last, short_text, cipher_fits, all_fit}
 
 -- ---- how a Welcome was made
@@ -58,9 +58,9 @@ WelcomeDid = (c : Crypto) (info : GroupInfo) (joiner : List ℕ) (secrets : ℕ 
 pub welcome_did : WelcomeDid
 unfolding welcome_message welcome_of encrypted_info
 welcome_did c info joiner secrets rnd n joiners bytes h =
-    let s1 = checked _ _ _ h in
-    let s2 = stepped _ _ _ s1.1 in
-    let s3 = checked _ _ _ s2.2 in
+    let s1 = then_ok _ _ _ h in
+    let s2 = bind_ok _ _ _ s1.1 in
+    let s3 = then_ok _ _ _ s2.2 in
     record { entries = s2.0; entries_are = s2.1; info_short = s1.0; bytes_are = ok_is _ _ s3.1; short = s3.0 }
 
 -- ---- it reads back
@@ -88,11 +88,11 @@ welcome_fits w n lt =
 
 pub within_is : (bytes : List ℕ) → is_within_limit bytes ≡ Ok passed → length bytes ≤ input_limit
 unfolding is_within_limit
-within_is bytes h = leb-true _ _ (and_parts _ _ (passes _ _ h)).0
+within_is bytes h = leb-true _ _ (and_parts _ _ (required _ _ _ h)).0
 
 bytes_are : (bytes : List ℕ) → is_within_limit bytes ≡ Ok passed → are_bytes bytes ≡ true
 unfolding is_within_limit
-bytes_are bytes h = (and_parts _ _ (passes _ _ h)).1
+bytes_are bytes h = (and_parts _ _ (required _ _ _ h)).1
 
 abbrev pub WelcomeReads : Type 0
 WelcomeReads = (c : Crypto) → c.number < 2 ^ 16 → (info : GroupInfo) (joiner : List ℕ) (secrets : ℕ → List ℕ) (rnd : ℕ → List ℕ) (n : ℕ) (joiners : List (KeyPackage × ℕ)) (bytes : List ℕ)
@@ -158,7 +158,7 @@ pub record IsEntry (c : Crypto) (context : List ℕ) (offered : KeyPackage) (sec
 
 pub entry_did : (c : Crypto) (context : List ℕ) (offered : KeyPackage) (secrets rnd : List ℕ) (entry : EncryptedGroupSecrets) → entry_for c context offered secrets rnd ≡ Ok entry → IsEntry c context offered secrets rnd entry
 unfolding entry_for
-entry_did c context offered secrets rnd entry h = let s = stepped _ _ _ h in record { sealing = s.0; seals = was_given _ _ _ s.1; is = ok_is _ _ s.2 }
+entry_did c context offered secrets rnd entry h = let s = bind_ok _ _ _ h in record { sealing = s.0; seals = given_ok _ _ _ s.1; is = ok_is _ _ s.2 }
 
 abbrev pub SecretsOpen : Type 0
 SecretsOpen = (c : Crypto) → Lawful c → (k : Candidate) (offered : KeyPackage) (w : Welcome) (joiner : List ℕ) (path_secret : Option (List ℕ)) (rnd : List ℕ) (entry : EncryptedGroupSecrets) →

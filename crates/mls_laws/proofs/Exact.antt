@@ -26,7 +26,7 @@ use Rattle.mls_model.specs.Verdict.{climbed}
 use Rattle.mls_laws.specs.Laws.{IsRenewed}
 use Rattle.mls_laws.specs.Keys.{MemberStands, WithAllKeys, FollowedExact, KeysNext}
 use Rattle.mls_laws.proofs.Inversion.{edited_steps, with_path_steps, body_steps}
-use Rattle.mls_laws.proofs.Places.{taken_at, some_at, is_in}
+use Rattle.mls_term.specs.TakenLaws.{taken_at, some_at, taken_in}
 use Rattle.mls_laws.proofs.Staying.{kept_by, edits_renew}
 
 -- ---- keys and their last one
@@ -126,15 +126,20 @@ followed_exact c p i used e (Some key) old h some r own had =
 
 -- ---- the path
 
+-- exact keys are so when they are written into a member at their leaf
+pub exact_written : (c : Crypto) (t : Term) (old : PrivateKeys) (ks : Keys) → Exact c 0 t old.leaf ks → HasExact c t (with_keys old ks)
+exact_written c t old ks exact =
+    let ends = along_ends c (Fits c old.leaf) (way 0 t old.leaf) (leaf_at 0 t old.leaf) ks exact in
+    let back = keys_back old ends.0 ks ends.1 in
+    let at = subst (λ j. Exact c 0 t j ks) (sym (leaf_with old ks)) exact in
+    exact_whole c t (with_keys old ks) (subst (λ (zs : Keys). Exact c 0 t (with_keys old ks).leaf zs) (sym back) at)
+
 path_exact : (c : Crypto) (context added : List ℕ) (t : Term) (i : ℕ) (path : UpdatePath) (old keys : PrivateKeys) (climb : Climb) → AreTwo 0 t i keys.leaf → keys.leaf ≡ old.leaf → HasExact c t keys → opened_path c context added t i keys.leaf (keys_on t keys) path.nodes ≡ Ok climb →
     HasExact c (merge_path t i path.leaf_node (node_keys path)) (with_keys old climb.keys)
 path_exact c context added t i path old keys climb two same had opens =
     let u = merge_path t i path.leaf_node (node_keys path) in
     let exact = opened_exact c context added t i keys.leaf path.leaf_node (keys_on t keys) path.nodes climb two had.keys opens in
-    let ends = along_ends c (Fits c keys.leaf) (way 0 u keys.leaf) (leaf_at 0 u keys.leaf) climb.keys exact in
-    let back = keys_back old ends.0 climb.keys ends.1 in
-    let at = subst (λ j. Exact c 0 u j climb.keys) (same ∙ sym (leaf_with old climb.keys)) exact in
-    exact_whole c u (with_keys old climb.keys) (subst (λ (ks : Keys). Exact c 0 u (with_keys old climb.keys).leaf ks) (sym back) at)
+    exact_written c u old climb.keys (subst (λ j. Exact c 0 u j climb.keys) same exact)
 
 -- where the member stands after the edits
 pub member_stands : MemberStands
@@ -170,5 +175,5 @@ keys_next c m i used commit said signature change own climb h maker some apart r
     let second = member_stands c m.public i used change.edits own m.keys.leaf b.edits some r owns in
     let keys = followed own change.edits.tree m.keys in
     let same : keys.leaf ≡ m.keys.leaf = (has_followed own change.edits.tree m.keys).leaf in
-    let two : AreTwo 0 change.edits.tree i m.keys.leaf = record { first = is_in change.edits.tree i x.0 first; second = is_in change.edits.tree m.keys.leaf second.leaf (taken_at change.edits.tree m.keys.leaf second.leaf second.is_leaf); apart = λ q. apart (sym q) } in
+    let two : AreTwo 0 change.edits.tree i m.keys.leaf = record { first = taken_in change.edits.tree i x.0 first; second = taken_in change.edits.tree m.keys.leaf second.leaf (taken_at change.edits.tree m.keys.leaf second.leaf second.is_leaf); apart = λ q. apart (sym q) } in
     climbed_exact c m i change keys climb same (subst (AreTwo 0 change.edits.tree i) (sym same) two) (followed_exact c m.public i used change.edits own m.keys b.edits some r owns had) commit.path b.merged takes

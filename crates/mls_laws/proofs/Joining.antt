@@ -1,9 +1,9 @@
 -- Members that are added.
-use Rattle.std.proofs.Common.{◌≡◌, ℕ, suc, ◌≤◌, true, List, [], ◌∷◌, length, Ok, sym, ◌∙◌, ap, subst}
+use Rattle.std.proofs.Common.{◌≡◌, ℕ, suc, ◌≤◌, List, [], ◌∷◌, length, Ok, sym, ◌∙◌, ap, subst}
 use Rattle.std.specs.List.{AllByRecursion, zip}
 use Rattle.mls_leaf.specs.declared.leaf.LeafNode.{LeafNode}
 use Rattle.mls_leaf.specs.declared.key_package.KeyPackage.{KeyPackage}
-use Rattle.mls_term.specs.Term.{Term, width, height, is_perfect, leaf_of}
+use Rattle.mls_term.specs.Term.{Term, width, leaf_of}
 use Rattle.mls_term.specs.Way.{way}
 use Rattle.mls_term.specs.Edits.{add, place_in}
 use Rattle.mls_tree.specs.Tree.{max_leaves}
@@ -13,7 +13,7 @@ use Rattle.mls_model.specs.Proposals.{updates, updated, removed, adds}
 use Rattle.mls_model.specs.Commit.{Edits, all_added}
 use Rattle.mls_laws.specs.Laws.{IsJoiner, EditsAdd, AddsCounted}
 use Rattle.mls_laws.proofs.Inversion.{edited_steps}
-use Rattle.mls_laws.proofs.Places.{Taken, taken_at, at_taken, some_at, is_in, some_leaf, place_free, taken_add, add_taken}
+use Rattle.mls_term.specs.TakenLaws.{Taken, taken_at, at_taken, some_at, taken_in, taken_some, place_free, taken_add, add_taken}
 use Rattle.mls_laws.proofs.Folds.{adds_first, adds_none, adds_keep, all_any}
 use Rattle.mls_laws.proofs.Staying.{still_here, still_after_updates, still_after_removes}
 
@@ -22,11 +22,11 @@ record IsListed (j : ℕ) (x : LeafNode) (t : Term) : Type 0 where
   taken : Taken j x t
   listed : AllList j (way 0 t j)
 
-listed_added : (j : ℕ) (x : LeafNode) (t : Term) (y : KeyPackage) → Unit {0} → (is_perfect (height t) t ≡ true → width t ≤ max_leaves → width (add t y.leaf_node) ≤ max_leaves) → IsListed j x t → IsListed j x (add t y.leaf_node)
+listed_added : (j : ℕ) (x : LeafNode) (t : Term) (y : KeyPackage) → Unit {0} → width (add t y.leaf_node) ≤ max_leaves → IsListed j x t → IsListed j x (add t y.leaf_node)
 listed_added j x t y any within h =
     record {
       taken = taken_add t j x y.leaf_node h.taken;
-      listed = add_keeps_listed t j y.leaf_node (is_in t j x h.taken) (some_leaf t j x h.taken) h.listed;
+      listed = add_keeps_listed t j y.leaf_node (taken_in t j x h.taken) (taken_some t j x h.taken) h.listed;
     }
 
 joiner_of : (i : ℕ) (e : Edits) (k : KeyPackage) (j : ℕ) → (i ≡ j → ⊥) → IsListed j k.leaf_node e.tree → IsJoiner i e (k, j)

@@ -4,7 +4,7 @@ use Rattle.std.proofs.lemmas.Bool.{cases_lt, eqb-false, true≢false, and_parts}
 use Rattle.std.specs.List.{AllByRecursion}
 use Rattle.mls_leaf.specs.declared.leaf.LeafNode.{LeafNode}
 use Rattle.mls_leaf.specs.declared.key_package.KeyPackage.{KeyPackage}
-use Rattle.mls_term.specs.Term.{Term, Leaf, Branch, width, height, is_perfect, leaf_of}
+use Rattle.mls_term.specs.Term.{Term, Leaf, Branch, width, leaf_of}
 use Rattle.mls_term.specs.Sets.{has, count, is_distinct}
 use Rattle.mls_term.specs.Way.{Step, way}
 use Rattle.mls_term.specs.Edits.{put, add, place_in, remove}
@@ -23,7 +23,7 @@ use Rattle.mls_model.specs.Commit.{Edits, all_updated, all_removed, all_added}
 use Rattle.mls_laws.specs.Steps.{IsEdited}
 use Rattle.mls_laws.specs.Laws.{IsKept, EditsFollow, EditsFollowCommitter, IsRenewed, EditsRenew}
 use Rattle.mls_laws.proofs.Inversion.{edited_steps}
-use Rattle.mls_laws.proofs.Places.{Taken, taken_at, at_taken, some_at, is_in, some_leaf, taken_put, put_taken, taken_remove, place_free, taken_add}
+use Rattle.mls_term.specs.TakenLaws.{Taken, taken_at, at_taken, some_at, taken_in, taken_some, taken_put, put_taken, taken_remove, place_free, taken_add}
 use Rattle.mls_laws.proofs.Folds.{updates_first, adds_first, adds_none, updates_keep, removes_keep, adds_keep, all_any}
 
 -- ---- lists of numbers
@@ -72,7 +72,7 @@ module _ (j : ℕ) (x : LeafNode) (start : Term) where
   still_here h = record { taken = h; follows = follows_refl j start }
 
   two_of : (t : Term) (i : ℕ) → i < width t → (j ≡ i → ⊥) → Taken j x t → AreTwo 0 t i j
-  two_of t i inside ne h = record { first = record { low = omega arith; high = omega arith }; second = is_in t j x h; apart = ne }
+  two_of t i inside ne h = record { first = record { low = omega arith; high = omega arith }; second = taken_in t j x h; apart = ne }
 
   still_updated : (t : Term) (u : ℕ × LeafNode) → (j ≡ u.0 → ⊥) → u.0 < width t → IsStill j x start t → IsStill j x start (put 0 t u.0 (Some u.1))
   still_updated t u ne inside s =
@@ -85,14 +85,14 @@ module _ (j : ℕ) (x : LeafNode) (start : Term) where
   still_removed t i ne inside s =
       record {
         taken = taken_remove t i j x inside ne s.taken;
-        follows = follows_trans j start t (remove t i) s.follows (follows_remove t i j (two_of t i inside ne s.taken) (some_leaf t j x s.taken));
+        follows = follows_trans j start t (remove t i) s.follows (follows_remove t i j (two_of t i inside ne s.taken) (taken_some t j x s.taken));
       }
 
-  still_added : (t : Term) (y : KeyPackage) → Unit {0} → (is_perfect (height t) t ≡ true → width t ≤ max_leaves → width (add t y.leaf_node) ≤ max_leaves) → IsStill j x start t → IsStill j x start (add t y.leaf_node)
+  still_added : (t : Term) (y : KeyPackage) → Unit {0} → width (add t y.leaf_node) ≤ max_leaves → IsStill j x start t → IsStill j x start (add t y.leaf_node)
   still_added t y any within s =
       record {
         taken = taken_add t j x y.leaf_node s.taken;
-        follows = follows_trans j start t (add t y.leaf_node) s.follows (follows_add t j y.leaf_node (is_in t j x s.taken) (some_leaf t j x s.taken));
+        follows = follows_trans j start t (add t y.leaf_node) s.follows (follows_add t j y.leaf_node (taken_in t j x s.taken) (taken_some t j x s.taken));
       }
 
   pub still_after_updates : (us : List (ℕ × LeafNode)) → has (map (λ (u : ℕ × LeafNode). u.0) us) j ≡ false → (t s : Term) → all_updated t us ≡ Ok s → IsStill j x start t → IsStill j x start s
