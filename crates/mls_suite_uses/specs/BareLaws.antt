@@ -40,4 +40,5 @@ bare_lawful = record {
   public_short = λ sk. omega (arith, length-fitted sk);
   sig_public_short = λ sk. omega (arith, length-fitted sk);
   sign_short = λ sk m. omega arith;
+  number_short = lit< tt;
 }
