@@ -39,7 +39,7 @@ some_bytes x = Some x
 
 -- ---- what an entry says
 
-entry_at : (c : Crypto) (p : PublicState) (bytes : List ℕ) (names : List (List ℕ)) (v : PublicMessage) (commit : Commit) (tag : List ℕ) (used : List Used) (change : Change) →
+pub entry_at : (c : Crypto) (p : PublicState) (bytes : List ℕ) (names : List (List ℕ)) (v : PublicMessage) (commit : Commit) (tag : List ℕ) (used : List Used) (change : Change) →
     decoded bytes ≡ Ok (message.PublicMessage v) → v.content.body ≡ body_of.Commit commit tag → used_by_names (sender_leaf v.content.sender) commit.proposals names ≡ Ok used →
     body c p (sender_leaf v.content.sender) used commit (framed v.content) v.content.signature ≡ Ok change → public_after c p (record { commit = bytes; names = names }) ≡ Ok (public_with change tag)
 unfolding public_after next_public
@@ -50,11 +50,11 @@ entry_at c p bytes names v commit tag used change d b u h =
         used_by_names (sender_leaf v.sender) commit.proposals names ≡ Ok used → body c p (sender_leaf v.sender) used commit (framed v) v.signature ≡ Ok change → public_after_body c p names v (body_of.Commit commit tag) ≡ Ok (public_with change tag)
     next_at c p names v commit tag used change u h = rw (u, h) refl
 
-list_at : (bytes : List ℕ) (v : PublicMessage) (commit : Commit) (tag : List ℕ) → decoded bytes ≡ Ok (message.PublicMessage v) → v.content.body ≡ body_of.Commit commit tag → list_in bytes ≡ commit.proposals
+pub list_at : (bytes : List ℕ) (v : PublicMessage) (commit : Commit) (tag : List ℕ) → decoded bytes ≡ Ok (message.PublicMessage v) → v.content.body ≡ body_of.Commit commit tag → list_in bytes ≡ commit.proposals
 unfolding list_in
 list_at bytes v commit tag d b = rw (d, b) refl
 
-tag_at : (bytes : List ℕ) (v : PublicMessage) (commit : Commit) (tag : List ℕ) → decoded bytes ≡ Ok (message.PublicMessage v) → v.content.body ≡ body_of.Commit commit tag → tag_of_message (decoded bytes) ≡ Some tag
+pub tag_at : (bytes : List ℕ) (v : PublicMessage) (commit : Commit) (tag : List ℕ) → decoded bytes ≡ Ok (message.PublicMessage v) → v.content.body ≡ body_of.Commit commit tag → tag_of_message (decoded bytes) ≡ Some tag
 tag_at bytes v commit tag d b = rw (d, b) refl
 
 -- ---- a commit that was followed

@@ -5,13 +5,13 @@ use Rattle.std.specs.Str.{bytes_eq}
 use Rattle.std.proofs.lemmas.Bool.{cases_lt, and_parts, and_from}
 use Rattle.std.proofs.lemmas.Slice.Eq.{bytes_eq-Decides}
 use Rattle.mls_leaf.specs.declared.leaf.LeafNode.{LeafNode}
-use Rattle.mls_term.specs.Equations.{leaf_at_left, leaf_at_right}
+use Rattle.mls_term.specs.Equations.{leaf_at_left, leaf_at_right, leaf_of_in}
 use Rattle.mls_term.specs.Good.{has_distinct_clients}
 use Rattle.mls_term.specs.Keys.{gather, signature_keys, members}
 use Rattle.mls_term.specs.SetLaws.{eqb_refl}
 use Rattle.mls_term.specs.Sets.{same_bytes, count, is_distinct}
 use Rattle.mls_term.specs.Term.{Term, Leaf, Branch, width, leaf_at, leaf_of}
-use Rattle.mls_claims.specs.One.{IsOneOf, one_left, one_right}
+use Rattle.mls_claims.specs.One.{IsOneOf, one_left, one_right, one_parted}
 use Rattle.mls_claims.specs.Sent.{leaf_is_in}
 
 -- the signature key of a member
@@ -46,6 +46,35 @@ member_in b (Branch c l r) i x low high is = elim (cases_lt i (b + width l)) [
 
 pub is_member : (t : Term) (i : ℕ) (x : LeafNode) → leaf_of t i ≡ Some x → IsOneOf (i, x) (members 0 t)
 is_member t i x is = let at = leaf_is_in t i x is in let low = at.0 in member_in 0 t i x (omega arith) (omega arith) at.1
+
+-- and who is among them stands there
+pub record StandsAt (b : ℕ) (t : Term) (q : ℕ × LeafNode) : Type 0 where
+  pub low : b ≤ q.0
+  pub high : q.0 < b + width t
+  pub is : leaf_at b t q.0 ≡ Some q.1
+
+stands_by : (b : ℕ) (v : Option LeafNode) (q : ℕ × LeafNode) → IsOneOf q (members b (Leaf v)) → StandsAt b (Leaf v) q
+unfolding members IsOneOf leaf_at width
+stands_by b None q is = absurd is
+stands_by b (Some x) q (inl e) = subst (StandsAt b (Leaf (Some x))) e (record { low = omega arith; high = omega arith; is = refl })
+stands_by b (Some x) q (inr is) = absurd is
+
+pub member_stands : (b : ℕ) (t : Term) (q : ℕ × LeafNode) → IsOneOf q (members b t) → StandsAt b t q
+unfolding members width
+member_stands b (Leaf v) q is = stands_by b v q is
+member_stands b (Branch c l r) q is = elim (one_parted q (members b l) (members (b + width l) r) is) [
+  | inl a ↦
+      let s = member_stands b l q a in
+      let lt : q.0 < b + width l = s.high in
+      record { low = s.low; high = omega arith; is = leaf_at_left b c l r q.0 lt ∙ s.is }
+  | inr a ↦
+      let s = member_stands (b + width l) r q a in
+      let ge : b + width l ≤ q.0 = s.low in
+      record { low = omega arith; high = omega (arith, s.high); is = leaf_at_right b c l r q.0 ge ∙ s.is }
+]
+
+pub stands_in : (t : Term) (q : ℕ × LeafNode) → IsOneOf q (members 0 t) → leaf_of t q.0 ≡ Some q.1
+stands_in t q is = let s = member_stands 0 t q is in leaf_of_in t q.0 (omega (arith, s.high)) ∙ s.is
 
 -- ---- a value of a list is counted
 

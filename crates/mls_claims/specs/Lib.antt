@@ -24,3 +24,12 @@ pub mod Info
 pub mod Next
 pub mod Joins
 pub mod Joiners
+pub mod Still
+pub mod Delivered
+pub mod Proposing
+pub mod Committed
+pub mod Cells
+pub mod Entered
+pub mod GoodMembers
+pub mod Offered
+pub mod Journals

@@ -62,3 +62,9 @@ unfolding IsOneOf
 was_found test p [] e = absurd cc
 was_found {A} test p (x ∷ xs) e =
     picked_by (λ (y : A). IsOneOf y (x ∷ xs) × (test y ≡ true)) x p (test x) (find test xs) (λ t. (inl refl, t)) (λ f. let r = was_found test p xs f in (inr r.0, r.1)) e
+
+pub one_parted : {A : Type 0} (x : A) (xs ys : List A) → IsOneOf x (xs ++ ys) → IsOneOf x xs ⊎ IsOneOf x ys
+unfolding IsOneOf
+one_parted x [] ys is = inr is
+one_parted x (y ∷ xs) ys (inl e) = inl (inl e)
+one_parted x (y ∷ xs) ys (inr is) = elim (one_parted x xs ys is) [ inl a ↦ inl (inr a) | inr b ↦ inr b ]

@@ -122,6 +122,7 @@ pends_by c m list made is k =
       decodes = ap (λ (x : Made). decoded x.commit) k.made_is ∙ reads.decodes;
       says = body_is c m list k.path k.change;
       from = sender_is c m list k.path k.change;
+      below = k.below;
       uses = k.uses;
       next = next_is c m list is.wants_path is.seed made k;
       confirmed = refl;

@@ -49,7 +49,7 @@ use Rattle.mls_model.specs.Messages.{decoded, is_within_limit, said_by, content_
 use Rattle.mls_model.specs.Make.{MadePath, Made, committed_leaf, new_path, no_path}
 use Rattle.mls_model.specs.Agreement.{IsGoodMember}
 use Rattle.mls_claims.specs.Steps.{passes, checked, stepped, was_given, either_way}
-use Rattle.mls_claims.specs.Fit.{short_first, short_last, short_text, capabilities_fit, commit_leaf_fits, LeafFitsIfShort, commit_fits}
+use Rattle.mls_claims.specs.Fit.{short_first, short_last, short_text, capabilities_fit, made_leaf_fits, commit_source_fits, LeafFitsIfShort, commit_fits}
 use Rattle.mls_claims.specs.Makes.{commit_of, said_of, signature_of, tag_of, content_of, message_of, made_of, path_for, Makes}
 
 -- ---- the path of a made commit
@@ -108,7 +108,7 @@ no_some p e = absurd cc
 
 new_leaf_fits : (c : Crypto) (m : Member) (e : Edits) (old : LeafNode) (seed : List ℕ) → c.number < 2 ^ 16 → length (leaf_node.spell (committed_leaf c m e old seed)) < 2 ^ 30 → leaf_node.Fits (committed_leaf c m e old seed)
 unfolding committed_leaf signed_leaf unsigned_leaf
-new_leaf_fits c m e old seed n lt = commit_leaf_fits _ _ _ _ _ _ (capabilities_fit c n) lt
+new_leaf_fits c m e old seed n lt = made_leaf_fits _ _ _ _ _ _ (capabilities_fit c n) (commit_source_fits _) lt
 
 pub path_leaf_fits : (c : Crypto) (m : Member) (e : Edits) (seed : List ℕ) (path : MadePath) → c.number < 2 ^ 16 → IsNewPath c m e seed path ⊎ (path ≡ no_path m e) → LeafFitsIfShort path.path
 unfolding no_path
@@ -143,7 +143,7 @@ content_fits group at leaf x signature tag g a l fits lt =
 
 -- ---- the message
 
-message_fits : (v : SignedContent) (tag : List ℕ) →
+pub message_fits : (v : SignedContent) (tag : List ℕ) →
     let p : PublicMessage = record { content = v; membership_tag = tag } in
     (length (signed_content.spell v) < 2 ^ 30 → signed_content.Fits v) → length (mls_message.spell (message.PublicMessage p)) < 2 ^ 30 → mls_message.Fits (message.PublicMessage p)
 unfolding mls_message public_message

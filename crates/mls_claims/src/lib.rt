@@ -2,6 +2,8 @@
 #![tactic(auto)]
 
 ghost use Rattle.mls_model.specs.Claims.{ReceiversClaim, JoinersClaim};
+ghost use Rattle.mls_claims.specs.GoodMembers.{CandidatesGood, CreatorsGood, JoinersGood, AddsKeepGood, UpdatesKeepGood, RemovesKeepGood, CommitsKeepGood, DropsKeepGood, DeliveriesKeepGood};
+ghost use Rattle.mls_claims.specs.Journals.{PublicAgreement, SecretAgreement, CreationsAlong, JoinsAlong, JoinsHereAlong, DeliveriesAlong, StatesAlong, CallsKeepState};
 ghost use Rattle.mls_claims.specs.Kept.{HeldByNames};
 ghost use Rattle.mls_claims.specs.Makes.{MakeDid};
 ghost use Rattle.mls_claims.specs.Receipts.{FramingDid, FramingPasses, DidReceive, DidTake};
@@ -82,4 +84,30 @@ pub fn laws_of_welcomes()
 /// The candidates whose own KeyPackages a commit that was made adds.
 pub fn laws_of_joiners()
     ensures claim { JoinersClaim }
+{}
+
+/// Good members are kept, whatever bytes they meet.
+pub fn laws_of_good_members()
+    ensures candidates { CandidatesGood }
+    ensures creators { CreatorsGood }
+    ensures joiners { JoinersGood }
+    ensures adds { AddsKeepGood }
+    ensures updates { UpdatesKeepGood }
+    ensures removes { RemovesKeepGood }
+    ensures commits { CommitsKeepGood }
+    ensures drops { DropsKeepGood }
+    ensures deliveries { DeliveriesKeepGood }
+{}
+
+/// Public agreement: each step leads to the public state that the journal says, so that members with one journal have
+/// one public state, and one epoch secret or two with one confirmation tag.
+pub fn laws_of_journals()
+    ensures public { PublicAgreement }
+    ensures secret { SecretAgreement }
+    ensures creations { CreationsAlong }
+    ensures joins { JoinsAlong }
+    ensures joins_here { JoinsHereAlong }
+    ensures deliveries { DeliveriesAlong }
+    ensures states { StatesAlong }
+    ensures calls { CallsKeepState }
 {}

@@ -126,15 +126,20 @@ followed_exact c p i used e (Some key) old h some r own had =
 
 -- ---- the path
 
+-- exact keys are so when they are written into a member at their leaf
+pub exact_written : (c : Crypto) (t : Term) (old : PrivateKeys) (ks : Keys) → Exact c 0 t old.leaf ks → HasExact c t (with_keys old ks)
+exact_written c t old ks exact =
+    let ends = along_ends c (Fits c old.leaf) (way 0 t old.leaf) (leaf_at 0 t old.leaf) ks exact in
+    let back = keys_back old ends.0 ks ends.1 in
+    let at = subst (λ j. Exact c 0 t j ks) (sym (leaf_with old ks)) exact in
+    exact_whole c t (with_keys old ks) (subst (λ (zs : Keys). Exact c 0 t (with_keys old ks).leaf zs) (sym back) at)
+
 path_exact : (c : Crypto) (context added : List ℕ) (t : Term) (i : ℕ) (path : UpdatePath) (old keys : PrivateKeys) (climb : Climb) → AreTwo 0 t i keys.leaf → keys.leaf ≡ old.leaf → HasExact c t keys → opened_path c context added t i keys.leaf (keys_on t keys) path.nodes ≡ Ok climb →
     HasExact c (merge_path t i path.leaf_node (node_keys path)) (with_keys old climb.keys)
 path_exact c context added t i path old keys climb two same had opens =
     let u = merge_path t i path.leaf_node (node_keys path) in
     let exact = opened_exact c context added t i keys.leaf path.leaf_node (keys_on t keys) path.nodes climb two had.keys opens in
-    let ends = along_ends c (Fits c keys.leaf) (way 0 u keys.leaf) (leaf_at 0 u keys.leaf) climb.keys exact in
-    let back = keys_back old ends.0 climb.keys ends.1 in
-    let at = subst (λ j. Exact c 0 u j climb.keys) (same ∙ sym (leaf_with old climb.keys)) exact in
-    exact_whole c u (with_keys old climb.keys) (subst (λ (ks : Keys). Exact c 0 u (with_keys old climb.keys).leaf ks) (sym back) at)
+    exact_written c u old climb.keys (subst (λ j. Exact c 0 u j climb.keys) same exact)
 
 -- where the member stands after the edits
 pub member_stands : MemberStands

@@ -1,5 +1,5 @@
 -- When members agree, and what is good of a member and of a candidate.
-use Rattle.std.specs.Prelude.{◌≡◌, ◌≢◌, ◌⊎◌, ℕ, List, [], ◌∷◌, option_map, Option, Some, None, Ok, IsSome}
+use Rattle.std.specs.Prelude.{◌≡◌, ◌≢◌, ◌⊎◌, ℕ, ◌-◌, ◌^◌, nat_lt, true, List, [], ◌∷◌, option_map, Option, Some, None, Ok, IsSome}
 use Rattle.std.specs.List.{AllByRecursion}
 use Rattle.mls_wire.specs.Checks.{passed}
 use Rattle.mls_leaf.specs.KeyPackage.{key_package}
@@ -106,6 +106,7 @@ pub record IsGoodPending (c : Crypto) (m : Member) (p : Pending) : Type 0 where
   pub fits : mls_message.Fits (message.PublicMessage said)
   pub says : said.content.body ≡ body.Commit commit tag
   pub from : sender_leaf said.content.sender ≡ m.keys.leaf
+  pub below : nat_lt m.public.context.epoch (2 ^ 64 - 1) ≡ true
   pub uses : used_by m.kept m.keys.leaf commit.proposals ≡ Ok used
   pub next : next_public c m.public m.keys.leaf used commit (framed said.content) said.content.signature tag ≡ Ok p.public
   pub confirmed : tag ≡ confirmation_tag p.epoch p.public.context.confirmed_transcript_hash
