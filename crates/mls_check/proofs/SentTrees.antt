@@ -58,3 +58,9 @@ no_memory UnsupportedCredential read n out h = λ one. absurd (omega arith)
 no_memory UnsupportedProposal read n out h = λ one. absurd (omega arith)
 no_memory NotRising read n out h = λ one. absurd (omega arith)
 no_memory ExtensionNotAllowed read n out h = λ one. absurd (omega arith)
+
+-- bytes that spell a tree spell nodes
+pub no_tree : (bytes : List ℕ) (t : Term) (n : ℕ) → tree_in bytes ≡ Ok t → whole ratchet_tree input_limit bytes ≡ Err n → ⊥
+unfolding tree_in
+no_tree bytes t n is h =
+    let refused : tree_in bytes ≡ Err n = ap (λ (x : Result (List (Option Node)) ℕ). x >>= from_nodes max_leaves) h in cc
