@@ -5,11 +5,12 @@ use Rattle.std.proofs.Math.Pow.{pow_mono}
 use Rattle.std.specs.Int.{bit_at, trailing_zeros}
 use Rattle.std.proofs.lemmas.Nat.{pow_pos, pow_below}
 use Rattle.std.proofs.lemmas.Nat.Bits.{bit_at-trailing_zeros, bit_at-pow_other}
-use Rattle.mls_term.specs.ArrayLaws.{width-term_of, perfect-term_of, parent_in-cell}
+use Rattle.mls_term.specs.ArrayLaws.{parent_in-cell}
 use Rattle.mls_tree.specs.Tree.{Tree, term}
+use Rattle.mls_tree.specs.Perfect.{perfect, width_is}
 use Rattle.mls_leaf.specs.Parent.{Parent}
 use Rattle.mls_leaf.specs.declared.node.Node.{Node}
-use Rattle.mls_term.specs.Term.{Term, Leaf, Branch, width, size, is_perfect}
+use Rattle.mls_term.specs.Term.{Term, Leaf, Branch, width, size, height, is_perfect}
 use Rattle.mls_term.specs.Arrays.{parent_in, own_node, node_at}
 use Rattle.mls_term.specs.Places.{at_node, resolution_at}
 use Rattle.mls_term.specs.Resolution.{resolution}
@@ -178,24 +179,21 @@ zeros h lt =
       | inr ne ↦ absurd (let one : bit_at (2 ^ h) z ≡ 1 = p.1 in let none : bit_at (2 ^ h) z ≡ 0 = bit_at-pow_other h z ne in omega arith)
     ]
 
-pub width_levels : (t : Tree) → width (term t) ≡ 2 ^ t.levels
-width_levels t = width-term_of t.levels t.listing
-
-levels_low : (t : Tree) (n : ℕ) → n ≡ width (term t) → n < 2 ^ 32 → t.levels < 32
-levels_low t n e lt = elim (cases_lt t.levels 32) [
+height_low : (t : Tree) (n : ℕ) → n ≡ width (term t) → n < 2 ^ 32 → height (term t) < 32
+height_low t n e lt = elim (cases_lt (height (term t)) 32) [
   | inl k ↦ k
-  | inr k ↦ absurd (let p : 2 ^ 32 ≤ 2 ^ t.levels = pow_mono {i = 32} {j = t.levels} k in omega (arith, width_levels t))
+  | inr k ↦ absurd (let p : 2 ^ 32 ≤ 2 ^ (height (term t)) = pow_mono {i = 32} {j = height (term t)} k in omega (arith, width_is t))
 ]
 
 module _ (t : Tree) (n : ℕ) (e : n ≡ width (term t)) (lt : n < 2 ^ 32) where
-  pub zeros_are : trailing_zeros w32 n ≡ t.levels
-  zeros_are = ap (trailing_zeros w32) (e ∙ width_levels t) ∙ zeros t.levels (levels_low t n e lt)
+  pub zeros_are : trailing_zeros w32 n ≡ height (term t)
+  zeros_are = ap (trailing_zeros w32) (e ∙ width_is t) ∙ zeros (height (term t)) (height_low t n e lt)
 
   pub zeros_low : trailing_zeros w32 n ≤ 31
-  zeros_low = let l = levels_low t n e lt in omega (arith, zeros_are)
+  zeros_low = let l = height_low t n e lt in omega (arith, zeros_are)
 
   pub zeros_fit : 0 + 2 ^ trailing_zeros w32 n ≤ 2 ^ 31
   zeros_fit = let p : 2 ^ trailing_zeros w32 n ≤ 2 ^ 31 = pow_mono {i = trailing_zeros w32 n} {j = 31} zeros_low in omega arith
 
   pub way_found : (i : ℕ) (ps : List Place) → ps ≡ places_from (trailing_zeros w32 n) 0 i → IsWay (term t) i ps
-  way_found i ps is = rw (is, zeros_are) (is_way (term t) t.levels i (perfect-term_of t.levels t.listing) (omega (arith, levels_low t n e lt)))
+  way_found i ps is = rw (is, zeros_are) (is_way (term t) (height (term t)) i (perfect t) (omega (arith, height_low t n e lt)))

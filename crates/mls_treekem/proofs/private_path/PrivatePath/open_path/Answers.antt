@@ -1,7 +1,8 @@
 use Rattle.std.proofs.lemmas.Result.{err_from_is_err_and}
 use Rattle.std.proofs.Common.{Ok, reverse, sym, ◌∙◌, ap}
-use Rattle.mls_term.specs.ArrayLaws.{perfect-term_of}
+use Rattle.mls_term.specs.Term.{height}
 use Rattle.mls_tree.specs.Tree.{term}
+use Rattle.mls_tree.specs.Perfect.{perfect}
 use Rattle.mls_treekem.specs.Climbing.{climb_of, with_own}
 use Rattle.mls_treekem.proofs.Followed.{way_read}
 use Rattle.mls_treekem.proofs.Opening.{above_low, opened_is}
@@ -15,7 +16,7 @@ invariant_of-self g c =
 pub returns-clause-answer : goal.returns-clause-answer
 returns-clause-answer g c =
     let w = way_read _ _ _ _ c.in_ok-places.ensures c.deref.ensures.value in
-    sym (opened_is g.S.Suite.crypto c.args.context.now c.args.added.now (term c.args.tree.now) c.args.tree.now.levels c.args.committer c.deref.result.now c.args.self.now c.args.path.now (perfect-term_of c.args.tree.now.levels c.args.tree.now.listing) w)
+    sym (opened_is g.S.Suite.crypto c.args.context.now c.args.added.now (term c.args.tree.now) (height (term c.args.tree.now)) c.args.committer c.deref.result.now c.args.self.now c.args.path.now (perfect c.args.tree.now) w)
     ∙ c.in_ok-climb.ensures
     ∙ ap (λ o. Ok (with_own o (climb_of c.in_ok-climb.climb))) (sym (ap (λ p. p.own) c.self.view_is))
 
@@ -24,5 +25,5 @@ returns-in_err-climb-clause-answer g c =
     let p = err_from_is_err_and c.from_residual-in_err-climb.result c.from_residual-in_err-climb.ensures.1 in
     rw (p.1, p.2) (λ ne.
     let w = way_read _ _ _ _ c.in_ok-places.ensures c.deref.ensures.value in
-    sym (opened_is g.S.Suite.crypto c.args.context.now c.args.added.now (term c.args.tree.now) c.args.tree.now.levels c.args.committer c.deref.result.now c.args.self.now c.args.path.now (perfect-term_of c.args.tree.now.levels c.args.tree.now.listing) w)
+    sym (opened_is g.S.Suite.crypto c.args.context.now c.args.added.now (term c.args.tree.now) (height (term c.args.tree.now)) c.args.committer c.deref.result.now c.args.self.now c.args.path.now (perfect c.args.tree.now) w)
     ∙ c.in_err-climb.ensures ne)
