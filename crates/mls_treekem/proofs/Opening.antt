@@ -19,9 +19,8 @@ use Rattle.mls_term.specs.Resolution.{is_empty}
 use Rattle.mls_term.specs.Way.{Step, way, is_filtered, is_beside}
 use Rattle.mls_term.specs.Equations.{way_leaf, way_left, way_right}
 use Rattle.mls_term.specs.ShapeLaws.{size-width, width-perfect}
-use Rattle.mls_treekem.specs.declared.climb.Climb.{Climb as Standing}
 use Rattle.mls_treekem.specs.declared.places.Place.{Place}
-use Rattle.mls_treekem.specs.Climbing.{climb_of, with_own}
+use Rattle.mls_treekem.specs.Climbing.{with_own}
 use Rattle.mls_treekem.specs.Faults.{number_of}
 use Rattle.mls_treekem.specs.declared.error.TreeKemError.{TreeKemError}
 use Rattle.mls_paths.specs.Chain.{next_secret, node_key, node_public}
@@ -287,8 +286,8 @@ past_own c own true (n ∷ ns) m = by_test (bytes_eq (node_public c m.secret) n.
     by_test true = refl
     by_test false = refl
 
-pub past_with_own : {E : Type 0} (number : E → ℕ) (c : Crypto) (own : List ℕ) (b : Bool) (ns : List UpdatePathNode) (m : Climb) (r : Result Standing E) →
-    Answers climb_of number (past_parent c b ns m) r → Answers (λ z. with_own own (climb_of z)) number (past_parent c b ns (with_own own m)) r
+pub past_with_own : {E : Type 0} (number : E → ℕ) (c : Crypto) (own : List ℕ) (b : Bool) (ns : List UpdatePathNode) (m : Climb) (r : Result Climb E) →
+    Answers (λ z. z) number (past_parent c b ns m) r → Answers (λ z. with_own own z) number (past_parent c b ns (with_own own m)) r
 past_with_own number c own b ns m (Ok z) h = past_own c own b ns m ∙ ap (λ r. r >>= λ z. Ok (with_own own z)) h
 past_with_own number c own b ns m (Err e) h = λ ne. past_own c own b ns m ∙ ap (λ r. r >>= λ z. Ok (with_own own z)) (h ne)
 
@@ -321,18 +320,18 @@ module _ (c : Crypto) (context : List ℕ) (added : List ℕ) (t : Term) (q : Pl
   over : climb_open c context added (map (step_of t) ps) p.leaf (on_way (map (step_of t) ps) (all_keys p)) (reverse path) ≡ climb_open c context added (step_of t q ∷ map (step_of t) below) p.leaf (on_way (step_of t q ∷ map (step_of t) below) (all_keys p)) (reverse path)
   over = ap (λ qs. climb_open c context added (map (step_of t) qs) p.leaf (on_way (map (step_of t) qs) (all_keys p)) (reverse path)) split
 
-  past : (m : Standing) (r : Result Standing TreeKemError) →
-      climb_open c context added (step_of t q ∷ map (step_of t) below) p.leaf (on_way (step_of t q ∷ map (step_of t) below) (all_keys p)) (reverse path) ≡ past_parent c (is_filtered (step_of t q)) (reverse path) (with_own p.own (climb_of m)) →
-      Answers climb_of number_of (past_parent c flag (reverse path) (climb_of m)) r → OpensAlong c context added (map (step_of t) ps) p path r
+  past : (m : Climb) (r : Result Climb TreeKemError) →
+      climb_open c context added (step_of t q ∷ map (step_of t) below) p.leaf (on_way (step_of t q ∷ map (step_of t) below) (all_keys p)) (reverse path) ≡ past_parent c (is_filtered (step_of t q)) (reverse path) (with_own p.own m) →
+      Answers (λ z. z) number_of (past_parent c flag (reverse path) m) r → OpensAlong c context added (map (step_of t) ps) p path r
   past m r e h =
-      answers_by (λ z. with_own p.own (climb_of z)) number_of _ _ r
-      (ap (λ b. past_parent c b (reverse path) (with_own p.own (climb_of m))) is_flag ∙ sym (over ∙ e))
-      (past_with_own number_of c p.own flag (reverse path) (climb_of m) r h)
+      answers_by (λ z. with_own p.own z) number_of _ _ r
+      (ap (λ b. past_parent c b (reverse path) (with_own p.own m)) is_flag ∙ sym (over ∙ e))
+      (past_with_own number_of c p.own flag (reverse path) m r h)
 
-  pub beside_ok : (m : Standing) (r : Result Standing TreeKemError) → beside ≡ true →
-      open_here c context added (step_of t q) p.leaf (on_way (map (step_of t) below) (all_keys p)) (reverse path) ≡ Ok (with_own p.own (climb_of m)) →
-      Answers climb_of number_of (past_parent c flag (reverse path) (climb_of m)) r → OpensAlong c context added (map (step_of t) ps) p path r
-  beside_ok m r is opened h = past m r (along_here c context added (step_of t q) (map (step_of t) below) p.leaf (all_keys p) (reverse path) (Ok (with_own p.own (climb_of m))) (is_side ∙ is) opened) h
+  pub beside_ok : (m : Climb) (r : Result Climb TreeKemError) → beside ≡ true →
+      open_here c context added (step_of t q) p.leaf (on_way (map (step_of t) below) (all_keys p)) (reverse path) ≡ Ok (with_own p.own m) →
+      Answers (λ z. z) number_of (past_parent c flag (reverse path) m) r → OpensAlong c context added (map (step_of t) ps) p path r
+  beside_ok m r is opened h = past m r (along_here c context added (step_of t q) (map (step_of t) below) p.leaf (all_keys p) (reverse path) (Ok (with_own p.own m)) (is_side ∙ is) opened) h
 
   pub beside_err : (e : ℕ) → beside ≡ true →
       open_here c context added (step_of t q) p.leaf (on_way (map (step_of t) below) (all_keys p)) (reverse path) ≡ Err e →
@@ -343,12 +342,12 @@ module _ (c : Crypto) (context : List ℕ) (added : List ℕ) (t : Term) (q : Pl
     is_left : reverse rest ≡ left_by (is_filtered (step_of t q)) (reverse path)
     is_left = left ∙ ap (λ b. left_by b (reverse path)) is_flag
 
-    pub other_ok : (m : Standing) (r : Result Standing TreeKemError) → beside ≡ false →
-        climb_open c context added (map (step_of t) below) p.leaf (on_way (map (step_of t) below) (all_keys p)) (reverse rest) ≡ Ok (with_own p.own (climb_of m)) →
-        Answers climb_of number_of (past_parent c flag (reverse path) (climb_of m)) r → OpensAlong c context added (map (step_of t) ps) p path r
+    pub other_ok : (m : Climb) (r : Result Climb TreeKemError) → beside ≡ false →
+        climb_open c context added (map (step_of t) below) p.leaf (on_way (map (step_of t) below) (all_keys p)) (reverse rest) ≡ Ok (with_own p.own m) →
+        Answers (λ z. z) number_of (past_parent c flag (reverse path) m) r → OpensAlong c context added (map (step_of t) ps) p path r
     other_ok m r is opened h =
         past m r
-        (along_below c context added (step_of t q) (map (step_of t) below) p.leaf (all_keys p) (reverse path) (Ok (with_own p.own (climb_of m))) (is_side ∙ is)
+        (along_below c context added (step_of t q) (map (step_of t) below) p.leaf (all_keys p) (reverse path) (Ok (with_own p.own m)) (is_side ∙ is)
         (ap (λ ns. climb_open c context added (map (step_of t) below) p.leaf (on_way (map (step_of t) below) (all_keys p)) ns) (sym is_left) ∙ opened))
         h
 
@@ -406,15 +405,15 @@ climb_length c context added (s ∷ ss) j (o ∷ ks) ns m long e =
         sym (ap (λ (z : Climb). length z.keys) same) ∙ omega arith
     by_side false m0 e rec = rec e
 
-above_length : (c : Crypto) (context : List ℕ) (added : List ℕ) (t : Term) (ps : List Place) (p : PrivateKeys) (ns : List UpdatePathNode) (m : Standing) →
-    climb_open c context added (map (step_of t) ps) p.leaf (on_way (map (step_of t) ps) (all_keys p)) ns ≡ Ok (with_own p.own (climb_of m)) → length m.above.items ≡ length ps
+above_length : (c : Crypto) (context : List ℕ) (added : List ℕ) (t : Term) (ps : List Place) (p : PrivateKeys) (ns : List UpdatePathNode) (m : Climb) →
+    climb_open c context added (map (step_of t) ps) p.leaf (on_way (map (step_of t) ps) (all_keys p)) ns ≡ Ok (with_own p.own m) → length m.keys ≡ length ps
 above_length c context added t ps p ns m e =
     let ss : List Step = map (step_of t) ps in
-    let k = climb_length c context added ss p.leaf (on_way ss (all_keys p)) ns (with_own p.own (climb_of m)) (length-on_way ss (all_keys p)) e in
-    omega (arith, k, length-end (reverse m.above.items) (Some p.own), length-reverse m.above.items, length-map ps (step_of t))
+    let k = climb_length c context added ss p.leaf (on_way ss (all_keys p)) ns (with_own p.own m) (length-on_way ss (all_keys p)) e in
+    omega (arith, k, length-end m.keys (Some p.own), length-map ps (step_of t))
 
-pub above_low : (c : Crypto) (context : List ℕ) (added : List ℕ) (t : Term) (i : ℕ) (ps : List Place) (p : PrivateKeys) (ns : List UpdatePathNode) (m : Standing) → IsWay t i ps →
-    climb_open c context added (map (step_of t) ps) p.leaf (on_way (map (step_of t) ps) (all_keys p)) ns ≡ Ok (with_own p.own (climb_of m)) → length m.above.items ≤ 32
+pub above_low : (c : Crypto) (context : List ℕ) (added : List ℕ) (t : Term) (i : ℕ) (ps : List Place) (p : PrivateKeys) (ns : List UpdatePathNode) (m : Climb) → IsWay t i ps →
+    climb_open c context added (map (step_of t) ps) p.leaf (on_way (map (step_of t) ps) (all_keys p)) ns ≡ Ok (with_own p.own m) → length m.keys ≤ 32
 above_low c context added t i ps p ns m w e = let l = w.low in omega (arith, above_length c context added t ps p ns m e)
 
 -- ---- the whole path

@@ -5,7 +5,6 @@ ghost use Rattle.mls_wire.specs.Checks.{Answers, AnswersOutright};
 ghost use Rattle.mls_term.specs.Places.{resolution_at};
 ghost use Rattle.mls_term.specs.Resolution.{is_empty};
 ghost use Rattle.mls_tree.specs.Tree.{term};
-ghost use Rattle.mls_treekem.specs.Climbing.{climb_of};
 ghost use Rattle.mls_paths.specs.Make.{climb_to};
 ghost use Rattle.mls_treekem.specs.Faults.{number_of};
 ghost use Rattle.mls_paths.specs.Open.{of_32, left_by, past_parent, opened_path};
@@ -85,7 +84,7 @@ fn past_parent<S: Suite>(
     path: &[UpdatePathNode],
     climb: Climb,
 ) -> Result<Climb, TreeKemError>
-    ensures { Answers climb_of number_of (past_parent S.crypto is_filtered (reverse path.now) (climb_of climb)) result }
+    ensures { Answers (λ m. m) number_of (past_parent S.crypto is_filtered (reverse path.now) climb) result }
 {
     if !is_filtered {
         return Ok(climb.past_blank()?);
