@@ -1,18 +1,11 @@
 use Rattle.std.proofs.lemmas.Result.{err_from_is_err_and}
-<<<<<<< HEAD
-use Rattle.std.proofs.Common.{Ok, reverse, sym, ◌∙◌, ap}
-use Rattle.mls_term.specs.Term.{height}
-use Rattle.mls_tree.specs.Tree.{term}
-use Rattle.mls_tree.specs.Perfect.{perfect}
-use Rattle.mls_treekem.specs.Climbing.{climb_of, with_own}
-=======
 use Rattle.std.proofs.Common.{Ok, length, reverse, sym, ◌∙◌, ap, arith}
 use Rattle.std.proofs.lemmas.List.{length-reverse}
 use Rattle.mls_paths.specs.Make.{Climb}
-use Rattle.mls_term.specs.ArrayLaws.{perfect-term_of}
+use Rattle.mls_term.specs.Term.{height}
 use Rattle.mls_tree.specs.Tree.{term}
+use Rattle.mls_tree.specs.Perfect.{perfect}
 use Rattle.mls_treekem.specs.Climbing.{with_own}
->>>>>>> 4d09e5cfad68dc60840bf1f9a849559a49d07da8
 use Rattle.mls_treekem.proofs.Followed.{way_read}
 use Rattle.mls_treekem.proofs.Opening.{above_low, opened_is}
 use Rattle.mls_treekem.proofs.private_path.PrivatePath.open_path.Goals as goal

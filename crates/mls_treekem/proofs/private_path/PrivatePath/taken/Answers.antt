@@ -2,12 +2,8 @@ use Rattle.std.proofs.lemmas.Result.{err_from_is_err_and}
 use Rattle.std.proofs.Common.{◌≤◌, ◌<◌, ◌∙◌, ap, refl, reverse, map, arith}
 use Rattle.mls_term.specs.Term.{width, height}
 use Rattle.mls_tree.specs.Tree.{Tree, term}
-<<<<<<< HEAD
 use Rattle.mls_tree.specs.Perfect.{perfect}
-use Rattle.mls_treekem.specs.Climbing.{climb_of}
-=======
 use Rattle.mls_paths.specs.Make.{Climb}
->>>>>>> 4d09e5cfad68dc60840bf1f9a849559a49d07da8
 use Rattle.mls_paths.specs.Join.{is_complete}
 use Rattle.mls_treekem.specs.Place.{IsWay, step_of}
 use Rattle.mls_treekem.proofs.Followed.{way_read}
@@ -36,16 +32,10 @@ returns-then-not-is_complete-clause-answer g c = λ _.
     let inside : c.args.signer < width (term tree) = omega arith in
     let signers : IsWay (term tree) c.args.signer c.deref.result.now = way_read (term tree) c.args.signer c.in_ok-signers.signers.items c.deref.result.now c.in_ok-signers.ensures c.deref.ensures.value in
     let joiners : IsWay (term tree) c.leaf-joiner.result c.deref-2.result.now = way_read (term tree) c.leaf-joiner.result c.in_ok-joiners.joiners.items c.deref-2.result.now c.in_ok-joiners.ensures c.deref-2.ensures.value in
-<<<<<<< HEAD
-    let done = c.is_complete.ensures ∙ ap (λ ks. is_complete c.leaf-joiner.result (map (step_of (term tree)) c.deref-2.result.now) (reverse ks)) c.deref-3.ensures.value in
-    take_missing g.S.Suite.crypto (height (term tree)) (term tree) (perfect tree) c.args.signer c.leaf-joiner.result c.args.self.now.leaf c.leaf-joiner.ensures c.args.self.now.own c.args.secret.now
-    c.deref.result.now c.deref-2.result.now signers joiners inside (climb_of c.in_ok-climb.climb) c.is_complete.result c.in_ok-climb.ensures done c.if-not-is_complete.true
-=======
     let done = c.is_complete.ensures ∙ ap (λ ks. is_complete c.leaf-joiner.result (map (step_of (term tree)) c.deref-2.result.now) (reverse ks)) c.deref-3.ensures.value
     ∙ ap (λ (m : Climb). is_complete c.leaf-joiner.result (map (step_of (term tree)) c.deref-2.result.now) m.keys) c.climb.view_is in
-    take_missing g.S.Suite.crypto tree.levels (term tree) (perfect-term_of tree.levels tree.listing) c.args.signer c.leaf-joiner.result c.args.self.now.leaf c.leaf-joiner.ensures c.args.self.now.own c.args.secret.now
+    take_missing g.S.Suite.crypto (height (term tree)) (term tree) (perfect tree) c.args.signer c.leaf-joiner.result c.args.self.now.leaf c.leaf-joiner.ensures c.args.self.now.own c.args.secret.now
     c.deref.result.now c.deref-2.result.now signers joiners inside c.in_ok-climb.climb c.is_complete.result c.in_ok-climb.ensures done c.if-not-is_complete.true
->>>>>>> 4d09e5cfad68dc60840bf1f9a849559a49d07da8
 
 pub returns-clause-answer : goal.returns-clause-answer
 returns-clause-answer g c =
@@ -53,16 +43,10 @@ returns-clause-answer g c =
     let inside : c.args.signer < width (term tree) = omega arith in
     let signers : IsWay (term tree) c.args.signer c.deref.result.now = way_read (term tree) c.args.signer c.in_ok-signers.signers.items c.deref.result.now c.in_ok-signers.ensures c.deref.ensures.value in
     let joiners : IsWay (term tree) c.leaf-joiner.result c.deref-2.result.now = way_read (term tree) c.leaf-joiner.result c.in_ok-joiners.joiners.items c.deref-2.result.now c.in_ok-joiners.ensures c.deref-2.ensures.value in
-<<<<<<< HEAD
-    let done = c.is_complete.ensures ∙ ap (λ ks. is_complete c.leaf-joiner.result (map (step_of (term tree)) c.deref-2.result.now) (reverse ks)) c.deref-3.ensures.value in
-    take_whole g.S.Suite.crypto (height (term tree)) (term tree) (perfect tree) c.args.signer c.leaf-joiner.result c.args.self.now.leaf c.leaf-joiner.ensures c.args.self.now.own c.args.secret.now
-    c.deref.result.now c.deref-2.result.now signers joiners inside (climb_of c.in_ok-climb.climb) c.is_complete.result c.in_ok-climb.ensures done c.if-not-is_complete.false
-=======
     let done = c.is_complete.ensures ∙ ap (λ ks. is_complete c.leaf-joiner.result (map (step_of (term tree)) c.deref-2.result.now) (reverse ks)) c.deref-3.ensures.value
     ∙ ap (λ (m : Climb). is_complete c.leaf-joiner.result (map (step_of (term tree)) c.deref-2.result.now) m.keys) c.climb.view_is in
-    take_whole g.S.Suite.crypto tree.levels (term tree) (perfect-term_of tree.levels tree.listing) c.args.signer c.leaf-joiner.result c.args.self.now.leaf c.leaf-joiner.ensures c.args.self.now.own c.args.secret.now
+    take_whole g.S.Suite.crypto (height (term tree)) (term tree) (perfect tree) c.args.signer c.leaf-joiner.result c.args.self.now.leaf c.leaf-joiner.ensures c.args.self.now.own c.args.secret.now
     c.deref.result.now c.deref-2.result.now signers joiners inside c.in_ok-climb.climb c.is_complete.result c.in_ok-climb.ensures done c.if-not-is_complete.false
->>>>>>> 4d09e5cfad68dc60840bf1f9a849559a49d07da8
 
 pub returns-clause-low : goal.returns-clause-low
 returns-clause-low g c =
@@ -70,10 +54,5 @@ returns-clause-low g c =
     let inside : c.args.signer < width (term tree) = omega arith in
     let signers : IsWay (term tree) c.args.signer c.deref.result.now = way_read (term tree) c.args.signer c.in_ok-signers.signers.items c.deref.result.now c.in_ok-signers.ensures c.deref.ensures.value in
     let joiners : IsWay (term tree) c.leaf-joiner.result c.in_ok-joiners.joiners.items = c.in_ok-joiners.ensures in
-<<<<<<< HEAD
     take_low g.S.Suite.crypto (height (term tree)) (term tree) (perfect tree) c.args.signer c.leaf-joiner.result c.args.self.now.leaf c.leaf-joiner.ensures c.args.self.now.own c.args.secret.now
-    c.deref.result.now c.in_ok-joiners.joiners.items signers joiners inside (climb_of c.in_ok-climb.climb) c.in_ok-climb.climb.above.items c.in_ok-climb.ensures refl
-=======
-    take_low g.S.Suite.crypto tree.levels (term tree) (perfect-term_of tree.levels tree.listing) c.args.signer c.leaf-joiner.result c.args.self.now.leaf c.leaf-joiner.ensures c.args.self.now.own c.args.secret.now
     c.deref.result.now c.in_ok-joiners.joiners.items signers joiners inside c.in_ok-climb.climb c.in_ok-climb.ensures
->>>>>>> 4d09e5cfad68dc60840bf1f9a849559a49d07da8
