@@ -2,6 +2,7 @@ use Rattle.mls_model.proofs.laws_of_refusals.Goals as goal
 use Rattle.mls_model.specs.RefusalLaws.{verdict_refused}
 use Rattle.mls_model.specs.CallRefusals.{add_refused, update_refused, remove_refused, make_refused, candidate_refused, create_refused}
 use Rattle.mls_model.specs.JoinRefusals.{join_refused}
+use Rattle.mls_model.specs.WorldRefusals.{event_refused}
 
 pub returns : goal.returns
 returns c =
@@ -14,4 +15,5 @@ returns c =
       candidate = candidate_refused;
       create = create_refused;
       join = join_refused;
+      event = event_refused;
     }
