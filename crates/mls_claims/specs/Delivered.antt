@@ -59,7 +59,7 @@ unfolding decoded
 message_fits bytes v are h = (whole_takes mls_message input_limit bytes (message.PublicMessage v) are h).fits
 
 -- a message that is kept is a proposal, kept under its reference
-kept_as : (c : Crypto) (m : Member) (kept : List Kept) (bytes : List ℕ) → AllByRecursion (IsGoodKept c m) kept → is_kept kept bytes ≡ true → (k : Kept) × IsGoodKept c m k × IsOneOf k kept × (k.message ≡ bytes)
+pub kept_as : (c : Crypto) (m : Member) (kept : List Kept) (bytes : List ℕ) → AllByRecursion (IsGoodKept c m) kept → is_kept kept bytes ≡ true → (k : Kept) × IsGoodKept c m k × IsOneOf k kept × (k.message ≡ bytes)
 unfolding IsOneOf
 kept_as c m [] bytes good h = absurd (true≢false (sym h))
 kept_as c m (k ∷ ks) bytes good h = by_test (bytes_eq k.message bytes) refl h (kept_as c m ks bytes good.1)

@@ -168,6 +168,14 @@ joins_along c creations k bytes joined h =
     subst (λ (j : Joined). StandsAlong c creations (JoinedBy j.info) [] j.member) d.is
     (subst (λ (b : List ℕ). StandsAlong c creations (JoinedBy b) [] (joined_by k s.0 d.tree d.keys).member) (sym (info_is k s.0 d.tree d.keys)) along)
 
+-- it has a confirmation tag
+pub joins_tag : (c : Crypto) (k : Candidate) (bytes : List ℕ) (joined : Joined) → join_verdict c k bytes ≡ Ok joined → (tag : List ℕ) × (last_tag (JoinedBy joined.info) [] ≡ Some tag)
+unfolding join_verdict
+joins_tag c k bytes joined h =
+    let s = bind_ok (opened_welcome c k bytes) _ _ h in
+    let d = member_did c k s.0 joined s.2 in
+    (s.0.info.confirmation_tag, ap (λ (i : List ℕ). last_tag (JoinedBy i) []) (sym (ap (λ (j : Joined). j.info) d.is) ∙ info_is k s.0 d.tree d.keys) ∙ tag_of_opened c s.0 (has_opened c k bytes s.0 s.1))
+
 -- ---- commits
 
 -- with one more entry

@@ -58,7 +58,7 @@ more c creations origin entries e p q a b = rw a b
 abbrev entry_with : List ℕ → List (List ℕ) → Entry
 entry_with commit names = record { commit = commit; names = names }
 
-step_public : (c : Crypto) (made : List CommitMade) (j : Journal) (before : Member) (e : Entry) (m : Member) → IsGoodMember c before → Steps c made j before e m → public_after c before.public e ≡ Ok m.public
+pub step_public : (c : Crypto) (made : List CommitMade) (j : Journal) (before : Member) (e : Entry) (m : Member) → IsGoodMember c before → Steps c made j before e m → public_after c before.public e ≡ Ok m.public
 step_public c made j before e m good (inl f) =
     let a = received_along c before e.commit f.epoch f.after good.kept f.is in
     ap (λ (x : Entry). public_after c before.public x) (sym f.entry) ∙ a.public ∙ ap Ok f.same.public
@@ -203,7 +203,7 @@ followed_secret c laws before maker list call e m good is agree secret commit na
         sym f.same.epoch ∙ ap (λ (x : Member). x.epoch) (one_member f.epoch (before.public.context.epoch + 1) f.after o.after (received c before call.commit) h o.is) ∙ o.epoch
 
 -- who began at one creation began with one secret
-began_secret : (c : Crypto) (creations : Creations) (made : List CommitMade) (origin : Origin) (m n : Member) → is_creation origin ≡ true → Begins c creations origin m → Begins c creations origin n → m.epoch ≡ n.epoch
+pub began_secret : (c : Crypto) (creations : Creations) (made : List CommitMade) (origin : Origin) (m n : Member) → is_creation origin ≡ true → Begins c creations origin m → Begins c creations origin n → m.epoch ≡ n.epoch
 began_secret c creations made (Creation k) m n h a b =
     let one : a.first ≡ b.first = first_is a.first b.first (slice_get creations k) a.is b.is in
     sym a.same.epoch ∙ ap (λ (x : Member). x.epoch) one ∙ b.same.epoch
