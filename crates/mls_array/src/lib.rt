@@ -8,6 +8,7 @@
 mod distinct;
 mod edits;
 mod hashes;
+mod kept;
 mod keys;
 mod lists;
 mod lookup;
@@ -27,7 +28,7 @@ mod witnesses;
 
 pub use distinct::are_distinct;
 pub use edits::{enter, put};
-pub use hashes::tree_hash;
+pub use kept::Hashes;
 pub use keys::{has_distinct_clients, has_distinct_keys};
 pub use lists::has_good_lists;
 pub use lookup::{leaf, node};

@@ -29,7 +29,7 @@ use Rattle.mls_tree.proofs.Answering.{update_done, remove_done}
 use Rattle.mls_tree.proofs.Pathing.{no_member, wrong_length, right_length, merge_unfit, merge_repeats, merge_untied, merge_done}
 
 -- a member's place is inside
-inside : (t : Term) (i : ℕ) → is_some (leaf_of t i) ≡ true → i < width t
+pub inside : (t : Term) (i : ℕ) → is_some (leaf_of t i) ≡ true → i < width t
 inside t i some = elim (cases_lt i (width t)) [ inl low ↦ low | inr high ↦ absurd (true≢false (sym some ∙ ap is_some (leaf_of_out t i high))) ]
 
 module _ (t u : Term) (i : ℕ) (some : is_some (leaf_of t i) ≡ true) where
@@ -90,7 +90,7 @@ some_bytes None h e = absurd (true≢false (sym e))
 some_bytes (Some v) h e = ap Some (bytes_true v h e)
 
 module _ (t : Term) (i : ℕ) (x : LeafNode) (keys : List (List ℕ)) (e : merge_checks t i x keys ≡ Ok passed) where
-  has_member : is_some (leaf_of t i) ≡ true
+  pub has_member : is_some (leaf_of t i) ≡ true
   has_member = elim (some_or_none (leaf_of t i)) [ inl some ↦ some | inr none ↦ absurd (let a = merge_unfit t i x keys 22 (no_member t i (length keys) none) in cc) ]
 
   is_long : (length keys == path_length 0 t i) ≡ true

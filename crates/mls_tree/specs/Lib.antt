@@ -3,3 +3,4 @@ pub mod Faults
 pub mod Paths
 pub mod Rules
 pub mod Kept
+pub mod Cold

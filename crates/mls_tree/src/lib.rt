@@ -11,6 +11,9 @@ mod checking;
 mod edits;
 mod error;
 #[cfg(test)]
+mod hash_tests;
+mod laws;
+#[cfg(test)]
 mod members;
 #[cfg(test)]
 mod path_tests;
@@ -20,5 +23,6 @@ mod tests;
 mod tree;
 
 pub use error::TreeError;
+pub use laws::hashing_costs;
 pub use mls_array::Hash;
 pub use tree::PublicTree;

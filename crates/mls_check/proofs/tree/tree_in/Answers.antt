@@ -11,12 +11,12 @@ returns-in_err-nodes-clause-tree c =
 pub returns-in_err-tree-clause-tree : goal.returns-in_err-tree-clause-tree
 returns-in_err-tree-clause-tree c =
     let p = err_from_is_err_and c.from_residual-in_err-tree.result c.from_residual-in_err-tree.ensures.1 in
-    rw (p.1, p.2) (λ ne. of_nodes c.args.bytes.now c.in_ok-nodes.nodes c.into_vec.result.items _ c.in_ok-nodes.ensures.exact c.into_vec.ensures (c.in_err-tree.ensures ne))
+    rw (p.1, p.2) (λ ne. of_nodes c.args.bytes.now c.in_ok-nodes.nodes c.into_vec.result.items _ c.in_ok-nodes.ensures.exact c.into_vec.ensures (c.in_err-tree.ensures.answer ne))
 
 pub returns-clause-tree : goal.returns-clause-tree
 returns-clause-tree c =
-    of_nodes c.args.bytes.now c.in_ok-nodes.nodes c.into_vec.result.items _ c.in_ok-nodes.ensures.exact c.into_vec.ensures c.in_ok-tree.ensures
+    of_nodes c.args.bytes.now c.in_ok-nodes.nodes c.into_vec.result.items _ c.in_ok-nodes.ensures.exact c.into_vec.ensures c.in_ok-tree.ensures.answer
 
 pub returns-clause-short : goal.returns-clause-short
 returns-clause-short c =
-    input_short c.args.bytes.now c.in_ok-nodes.nodes c.into_vec.result.items _ c.in_ok-nodes.ensures.found c.in_ok-nodes.ensures.exact c.into_vec.ensures c.in_ok-tree.ensures
+    input_short c.args.bytes.now c.in_ok-nodes.nodes c.into_vec.result.items _ c.in_ok-nodes.ensures.found c.in_ok-nodes.ensures.exact c.into_vec.ensures c.in_ok-tree.ensures.answer

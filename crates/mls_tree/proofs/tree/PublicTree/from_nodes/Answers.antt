@@ -1,14 +1,17 @@
+use Rattle.mls_tree.proofs.Keepings.{cold_by}
 use Rattle.std.proofs.Common.{true, ap, ◌∙◌, sym, length, arith}
 use Rattle.mls_term.specs.Term.{is_full_width}
 use Rattle.mls_term.specs.Arrays.{has_last, alternates, term_of}
 use Rattle.mls_tree.proofs.Receiving.{no_last, misplaced, stands_as, half_empty, too_large, received}
+use Rattle.mls_term.specs.ArrayLaws.{size-term_of}
+use Rattle.mls_tree.proofs.Chilling.{new_tree}
 use Rattle.mls_tree.proofs.tree.PublicTree.from_nodes.Goals as goal
 
-pub returns-then-not-has_last : goal.returns-then-not-has_last
-returns-then-not-has_last c = λ _. no_last _ (ap has_last (sym c.deref.ensures.value) ∙ sym c.has_last.ensures ∙ c.if-not-has_last.true)
+pub returns-then-not-has_last-clause-answer : goal.returns-then-not-has_last-clause-answer
+returns-then-not-has_last-clause-answer c = λ _. no_last _ (ap has_last (sym c.deref.ensures.value) ∙ sym c.has_last.ensures ∙ c.if-not-has_last.true)
 
-pub returns-then-not-alternates : goal.returns-then-not-alternates
-returns-then-not-alternates c =
+pub returns-then-not-alternates-clause-answer : goal.returns-then-not-alternates-clause-answer
+returns-then-not-alternates-clause-answer c =
     let last = ap has_last (sym c.deref.ensures.value) ∙ sym c.has_last.ensures ∙ c.if-not-has_last.false in
     λ _. misplaced _ last (ap (alternates true) (sym c.deref-2.ensures.value) ∙ sym c.alternates.ensures ∙ c.if-not-alternates.true)
 
@@ -20,15 +23,15 @@ is_full_width-requires c =
       shape = ap length c.deref-3.ensures.value ∙ (stands_as c.args.nodes.items last placed _ _ c.in_ok-height.ensures.height c.in_ok-height.ensures.ok).size;
     }
 
-pub returns-then-not-is_full_width : goal.returns-then-not-is_full_width
-returns-then-not-is_full_width c =
+pub returns-then-not-is_full_width-clause-answer : goal.returns-then-not-is_full_width-clause-answer
+returns-then-not-is_full_width-clause-answer c =
     let last = ap has_last (sym c.deref.ensures.value) ∙ sym c.has_last.ensures ∙ c.if-not-has_last.false in
     let placed = ap (alternates true) (sym c.deref-2.ensures.value) ∙ sym c.alternates.ensures ∙ c.if-not-alternates.false in
     λ _. half_empty c.args.nodes.items last placed _ _ c.in_ok-height.ensures.height c.in_ok-height.ensures.ok
     (ap (λ xs. is_full_width (term_of c.in_ok-height.height xs)) (sym c.deref-3.ensures.value) ∙ sym c.is_full_width.ensures ∙ c.if-not-is_full_width.true)
 
-pub returns-then-height-gt-MAX_HEIGHT : goal.returns-then-height-gt-MAX_HEIGHT
-returns-then-height-gt-MAX_HEIGHT c =
+pub returns-then-height-gt-MAX_HEIGHT-clause-answer : goal.returns-then-height-gt-MAX_HEIGHT-clause-answer
+returns-then-height-gt-MAX_HEIGHT-clause-answer c =
     let last = ap has_last (sym c.deref.ensures.value) ∙ sym c.has_last.ensures ∙ c.if-not-has_last.false in
     let placed = ap (alternates true) (sym c.deref-2.ensures.value) ∙ sym c.alternates.ensures ∙ c.if-not-alternates.false in
     λ _. too_large c.args.nodes.items last placed _ _ c.in_ok-height.ensures.height c.in_ok-height.ensures.ok
@@ -39,12 +42,20 @@ pub invariant_of-result : goal.invariant_of-result
 invariant_of-result c =
     let last = ap has_last (sym c.deref.ensures.value) ∙ sym c.has_last.ensures ∙ c.if-not-has_last.false in
     let placed = ap (alternates true) (sym c.deref-2.ensures.value) ∙ sym c.alternates.ensures ∙ c.if-not-alternates.false in
-    (stands_as c.args.nodes.items last placed _ _ c.in_ok-height.ensures.height c.in_ok-height.ensures.ok, let low = c.if-height-gt-MAX_HEIGHT.false in omega arith)
+    let stands = stands_as c.args.nodes.items last placed _ _ c.in_ok-height.ensures.height c.in_ok-height.ensures.ok in
+    (stands, let low = c.if-height-gt-MAX_HEIGHT.false in omega arith, cold_by c.in_ok-height.height _ _ _ _ c.in_ok-hashes.ensures (c.len.ensures ∙ c.pad_tree.new.nodes.ok.0 ∙ stands.size))
 
-pub returns : goal.returns
-returns c =
+pub returns-clause-answer : goal.returns-clause-answer
+returns-clause-answer c =
     let last = ap has_last (sym c.deref.ensures.value) ∙ sym c.has_last.ensures ∙ c.if-not-has_last.false in
     let placed = ap (alternates true) (sym c.deref-2.ensures.value) ∙ sym c.alternates.ensures ∙ c.if-not-alternates.false in
     received c.args.nodes.items last placed _ _ c.in_ok-height.ensures.height c.in_ok-height.ensures.ok
     (ap (λ xs. is_full_width (term_of c.in_ok-height.height xs)) (sym c.deref-3.ensures.value) ∙ sym c.is_full_width.ensures ∙ c.if-not-is_full_width.false)
     (let low = c.if-height-gt-MAX_HEIGHT.false in omega arith)
+
+pub returns-clause-cold : goal.returns-clause-cold
+returns-clause-cold c =
+    let last = ap has_last (sym c.deref.ensures.value) ∙ sym c.has_last.ensures ∙ c.if-not-has_last.false in
+    let placed = ap (alternates true) (sym c.deref-2.ensures.value) ∙ sym c.alternates.ensures ∙ c.if-not-alternates.false in
+    let stands = stands_as c.args.nodes.items last placed _ _ c.in_ok-height.ensures.height c.in_ok-height.ensures.ok in
+    new_tree _ _ (ap (λ h. h.kept) c.in_ok-hashes.ensures) (c.len.ensures ∙ c.pad_tree.new.nodes.ok.0 ∙ stands.size ∙ sym (size-term_of c.in_ok-height.height _)) (ap (λ h. h.done) c.in_ok-hashes.ensures)

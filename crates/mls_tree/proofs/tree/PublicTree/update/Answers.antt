@@ -5,6 +5,9 @@ use Rattle.mls_tree.specs.Tree.{term}
 use Rattle.mls_tree.specs.Faults.{number_of}
 use Rattle.mls_tree.proofs.Keeping.{update_good, update_sound}
 use Rattle.mls_tree.proofs.Answering.{update_refused, update_done}
+use Rattle.mls_tree.proofs.Keepings.{kept_long, kept-put}
+use Rattle.mls_term.specs.ArrayLaws.{perfect-term_of}
+use Rattle.mls_tree.proofs.Chilling.{edited_in}
 use Rattle.mls_tree.proofs.tree.PublicTree.update.Goals as goal
 
 pub returns-in-Err-clause-answer : goal.returns-in-Err-clause-answer
@@ -20,3 +23,14 @@ returns-clause-good c = update_good _ _ c.args.i c.in-Ok.ensures c.args.leaf (re
 
 pub returns-clause-sound : goal.returns-clause-sound
 returns-clause-sound c = update_sound _ _ c.args.i c.in-Ok.ensures c.args.leaf (returns-clause-answer c)
+
+pub drop_way-requires-clause-shape : goal.drop_way-requires-clause-shape
+drop_way-requires-clause-shape c = kept_long c.self.inside.height c.self.inside.nodes.items _ c.self.invariant.2
+
+pub invariant_of-self : goal.invariant_of-self
+invariant_of-self c =
+    (c.put.ensures.stands, c.self.invariant.1, kept-put _ _ _ c.self.invariant.2 _ _ _ _ _ (c.drop_way.ensures.kept _ (perfect-term_of _ _)) c.put.ensures)
+
+pub returns-clause-cold : goal.returns-clause-cold
+returns-clause-cold c =
+    edited_in c.self.inside.height c.args.i c.self.inside.nodes.items _ _ _ c.self.view_is c.self.invariant.2 c.in-Ok.ensures _ _ _ (c.drop_way.ensures.kept _ (perfect-term_of _ _)) c.drop_way.ensures.done
