@@ -1,7 +1,7 @@
 -- What the edits of a tree keep.
-use Rattle.std.proofs.Common.{◌≡◌, ℕ, ◌≤◌, true, List, [], None, Ok, sym, ◌∙◌, ap, subst, arith}
+use Rattle.std.proofs.Common.{◌≡◌, ℕ, ◌≤◌, true, List, [], None, is_some, Ok, sym, ◌∙◌, ap, subst, arith}
 use Rattle.mls_leaf.specs.declared.leaf.LeafNode.{LeafNode}
-use Rattle.mls_term.specs.Term.{Term, width, has_leaf}
+use Rattle.mls_term.specs.Term.{Term, width, has_leaf, leaf_of}
 use Rattle.mls_term.specs.Edits.{put, add, place_in}
 use Rattle.mls_term.specs.Good.{IsGood, IsSound, AreNew, AreFit, has_distinct_keys, has_distinct_clients}
 use Rattle.mls_term.specs.Equations.{update_is}
@@ -62,3 +62,6 @@ module _ (t u : Term) (i : ℕ) (x : LeafNode) (keys : List (List ℕ)) (e : mer
   merge_new rules new g =
       let s = merge_steps t i x keys u e in
       subst (IsGood rules) (sym s.tree) (good_merge_path rules t i x keys g s.inside s.path.count s.hash new)
+
+  pub merge_member : is_some (leaf_of t i) ≡ true
+  merge_member = ap is_some (merge_steps t i x keys u e).path.member
