@@ -84,9 +84,28 @@ fn entries(alloc: Global, digits: &str) -> Result<u8, LeafError> {
     }
 }
 
+/// Whether the first entry of the welcome is for this reference, with this ciphertext.
+fn is_first(alloc: Global, digits: &str, reference: u8, ciphertext: u8) -> Result<bool, LeafError> {
+    let bytes = bytes_of(alloc, digits)?;
+    match MessageView::read(&bytes)? {
+        MessageView::Welcome(welcome) => match welcome.secrets.walk().next() {
+            Some(entry) => {
+                let entry = EncryptedGroupSecretsView::of(&entry);
+                Ok(
+                    entry.new_member == [reference].as_slice()
+                        && entry.ciphertext == [ciphertext].as_slice(),
+                )
+            }
+            None => Ok(false),
+        },
+        _ => Ok(false),
+    }
+}
+
 #[test]
 fn walks(rt: HostRuntime) -> Result<(), Fail> {
     assert_eq!(rt; entries(rt.alloc(), WELCOME)?, 2);
+    assert!(rt; is_first(rt.alloc(), WELCOME, 0xaa, 0xcc)?);
     assert_eq!(rt; entries(rt.alloc(), "00010003f0010000")?, 0);
     Ok(())
 }

@@ -5,3 +5,4 @@ pub mod Shown
 pub mod PublicLaws
 pub mod MessageLaws
 pub mod Fed
+pub mod Entries

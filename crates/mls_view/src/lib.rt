@@ -3,6 +3,7 @@
 
 mod auth;
 mod content;
+mod entries;
 mod inputs;
 mod message;
 mod part;
@@ -11,6 +12,7 @@ mod welcome;
 
 pub use auth::AuthDataView;
 pub use content::{ContentView, FramedContentView};
+pub use entries::{EncryptedGroupSecretsView, ProposalOrRefView};
 pub use message::MessageView;
 pub use part::{Part, Walk};
 pub use public_message::PublicMessageView;
