@@ -230,7 +230,8 @@ pub record IsShared (c : Crypto) (context : List ℕ) (added : List ℕ) (b : �
 
 -- so it is with each path that is made, at each member that was not just added
 abbrev pub CommitAgree : Type 0
-CommitAgree = (c : Crypto) → Lawful c → (context : List ℕ) (added : List ℕ) (rnd : ℕ → List ℕ) (b : ℕ) (t : Term) (i j : ℕ) (h : List ℕ) (x : LeafNode) (start sk : List ℕ) (ks : Keys) (ns : List UpdatePathNode) → length start ≡ 32 → AreTwo b t i j → ListsBelow b t → Exact c b t j ks → has added j ≡ false → c.public sk ≡ x.encryption_key → seal_along c context added rnd (way b t i) start ≡ Some ns →
+CommitAgree = (c : Crypto) → Lawful c → (context : List ℕ) (added : List ℕ) (rnd : ℕ → List ℕ) (b : ℕ) (t : Term) (i j : ℕ) (h : List ℕ) (x : LeafNode) (start sk : List ℕ) (ks : Keys) (ns : List UpdatePathNode) →
+    length start ≡ 32 → AreTwo b t i j → ListsBelow b t → Exact c b t j ks → has added j ≡ false → c.public sk ≡ x.encryption_key → seal_along c context added rnd (way b t i) start ≡ Some ns →
     IsShared c context added b t i j h x start sk ks ns
 
 -- ---- joining

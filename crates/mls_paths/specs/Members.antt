@@ -48,7 +48,8 @@ ExactUpdated = (c : Crypto) (t t' : Term) (x : LeafNode) (k : List ℕ) (old new
 
 -- after it opened a path of leaf i, in the tree with that path
 abbrev pub ExactOpened : Type 0
-ExactOpened = (c : Crypto) (context : List ℕ) (added : List ℕ) (t : Term) (i : ℕ) (x : LeafNode) (path : List UpdatePathNode) (s : List ℕ) (old new : PrivateKeys) → AreTwo 0 t i old.leaf → HasExact c t old → opened_path c context added t i old.leaf (keys_on t old) path ≡ Ok (climb_to s new) → new.leaf ≡ old.leaf → HasExact c (merge_path t i x (map (λ n. n.encryption_key) path)) new
+ExactOpened = (c : Crypto) (context : List ℕ) (added : List ℕ) (t : Term) (i : ℕ) (x : LeafNode) (path : List UpdatePathNode) (s : List ℕ) (old new : PrivateKeys) → AreTwo 0 t i old.leaf → HasExact c t old →
+    opened_path c context added t i old.leaf (keys_on t old) path ≡ Ok (climb_to s new) → new.leaf ≡ old.leaf → HasExact c (merge_path t i x (map (λ n. n.encryption_key) path)) new
 
 -- ---- received: the edits are followed, the path is merged, and then it is opened, on the tree with it
 
@@ -76,7 +77,8 @@ pub record IsReceived (c : Crypto) (context added : List ℕ) (t : Term) (i : �
 
 -- so does each member that wasn't just added, of a path that was made
 abbrev pub MadeReceived : Type 0
-MadeReceived = (c : Crypto) → Lawful c → (context : List ℕ) (added : List ℕ) (rnd : ℕ → List ℕ) (t : Term) (i : ℕ) (x : LeafNode) (start : List ℕ) (p : PrivateKeys) (path : List UpdatePathNode) → length start ≡ 32 → AreTwo 0 t i p.leaf → ListsBelow 0 t → HasExact c t p → has added p.leaf ≡ false → sealed_path c context added rnd t i start ≡ Ok path → IsReceived c context added t i x start p path
+MadeReceived = (c : Crypto) → Lawful c → (context : List ℕ) (added : List ℕ) (rnd : ℕ → List ℕ) (t : Term) (i : ℕ) (x : LeafNode) (start : List ℕ) (p : PrivateKeys) (path : List UpdatePathNode) →
+    length start ≡ 32 → AreTwo 0 t i p.leaf → ListsBelow 0 t → HasExact c t p → has added p.leaf ≡ false → sealed_path c context added rnd t i start ≡ Ok path → IsReceived c context added t i x start p path
 
 -- ---- which keys are shown
 

@@ -3,7 +3,7 @@ use Rattle.std.proofs.Common.{◌≡◌, ℕ, suc, ◌+◌, ◌-◌, ◌*◌, �
 use Rattle.std.specs.Option.{option_map}
 use Rattle.std.specs.Str.{bytes_eq}
 use Rattle.std.proofs.lemmas.Bool.{cond-true, cond-false, cases_lt, true≢false, and_parts}
-use Rattle.std.proofs.lemmas.List.{drop_all, length-reverse, length-map}
+use Rattle.std.proofs.lemmas.List.{drop_all, length-map}
 use Rattle.mls_wire.specs.Checks.{given, Answers, AnswersOutright}
 use Rattle.mls_wire.specs.Reading.{◌>>=◌}
 use Rattle.mls_wire.specs.Laws.{bind_ok}

@@ -2,7 +2,7 @@
 use Rattle.std.proofs.Common.{◌≡◌, ℕ, zero, suc, ◌+◌, ◌≤◌, ◌<◌, Bool, true, false, not, nat_lt, nat_le, ◌&&◌, if◌then◌else◌, List, [], ◌∷◌, ◌++◌, length, map, reverse, replicate, Option, Some, None, is_some, Result, Ok, Err, refl, sym, subst, ◌∙◌, ap, ap₂, arith, le-ltb}
 use Rattle.std.specs.Str.{bytes_eq}
 use Rattle.std.proofs.lemmas.Bool.{cond-true, cond-false}
-use Rattle.std.proofs.lemmas.List.{length-map, length-replicate, length-reverse}
+use Rattle.std.proofs.lemmas.List.{length-map, length-replicate}
 use Rattle.mls_wire.specs.Checks.{Answers}
 use Rattle.mls_wire.specs.Reading.{◌>>=◌}
 use Rattle.mls_wire.specs.Laws.{bind_ok}

@@ -1,5 +1,5 @@
 -- A climb as code has it.
-use Rattle.std.specs.Prelude.{ℕ, List, [], ◌∷◌, ◌++◌, reverse, Some}
+use Rattle.std.specs.Prelude.{ℕ, List, [], ◌∷◌, ◌++◌, Some}
 use Rattle.mls_paths.specs.Make.{Climb}
 
 -- a climb with the leaf's key, which code leaves out

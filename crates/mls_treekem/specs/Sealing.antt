@@ -1,5 +1,5 @@
 -- What code answers as it seals a path, from the lowest node up.
-use Rattle.std.specs.Prelude.{◌≡◌, ℕ, List, reverse, Result}
+use Rattle.std.specs.Prelude.{ℕ, List, reverse, Result}
 use Rattle.std.specs.List.{slice_get}
 use Rattle.std.specs.Option.{option_map}
 use Rattle.mls_wire.specs.Checks.{given, Answers}
@@ -19,9 +19,9 @@ use Rattle.mls_treekem.specs.Place.{subtree_at}
 use Rattle.mls_treekem.specs.Secrets.{public_keys}
 
 -- a path secret sealed at a place of a tree to some nodes, without the leaves just added; seals are numbered from i on
-abbrev pub SealsAll : Crypto → List ℕ → List ℕ → List ℕ → Term → Place → List ℕ → List ℕ → ℕ → Result (List HpkeCiphertext) ℕ → Type 0
-SealsAll c context added seed t p reached secret i r =
-    given 36 (seal_all c context secret p.first (subtree_at t p.beside) (seal_seed seed) i (less (leaf_numbers added) reached)) ≡ r
+abbrev pub sealed_beside : Crypto → List ℕ → List ℕ → List ℕ → Term → Place → List ℕ → List ℕ → ℕ → Result (List HpkeCiphertext) ℕ
+sealed_beside c context added seed t p reached secret i =
+    given 36 (seal_all c context secret p.first (subtree_at t p.beside) (seal_seed seed) i (less (leaf_numbers added) reached))
 
 -- the node of a path at a place: with key pair number k and path secret number k
 abbrev pub SealsNode : Crypto → List ℕ → List ℕ → List ℕ → Term → Place → List ℕ → PathSecrets → ℕ → ℕ → Result UpdatePathNode TreeKemError → Type 0

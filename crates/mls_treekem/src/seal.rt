@@ -10,10 +10,10 @@ ghost use Rattle.mls_tree.specs.Tree.{term};
 ghost use Rattle.mls_treekem.specs.Beside.{cell_key};
 ghost use Rattle.mls_treekem.specs.Faults.{number_of, IsMemoryOrKey};
 ghost use Rattle.mls_treekem.specs.Secrets.{AreOfChain, public_keys};
-ghost use Rattle.mls_treekem.specs.Sealing.{SealsNode, sealed_along};
+ghost use Rattle.mls_treekem.specs.Sealing.{sealed_beside, SealsNode, sealed_along};
 ghost use Rattle.mls_paths.specs.Make.{filtered_count};
 ghost use Rattle.mls_treekem.specs.Place.{subtree_at, step_of, IsPlaced, ArePlaced};
-ghost use Rattle.mls_paths.specs.Seal.{seal_to, seal_all, seal_count, sealed_path, sealed_with};
+ghost use Rattle.mls_paths.specs.Seal.{seal_to, seal_count, sealed_path, sealed_with};
 ghost use Rattle.mls_paths.specs.Seeds.{seal_seed, seals_in};
 
 use crate::places::{Place, parents_over};
@@ -129,7 +129,7 @@ impl Sealer<'_> {
     ) -> Result<Vec<HpkeCiphertext>, TreeKemError>
         requires context { length self.now.context.now < 2 ^ 30 }
         requires placed { (h : ℕ) × IsPlaced (term self.now.tree.now) h place.now }
-        ensures { Answers (λ v. v.items) number_of (given 36 (seal_all S.crypto self.now.context.now secret.now place.now.first (subtree_at (term self.now.tree.now) place.now.beside) (seal_seed self.now.seed.now) first (less (leaf_numbers self.now.added.now) reached.now))) result }
+        ensures { Answers (λ v. v.items) number_of (sealed_beside S.crypto self.now.context.now self.now.added.now self.now.seed.now (term self.now.tree.now) place.now reached.now secret.now first) result }
     {
         let mut sealed = Vec::new(alloc);
         let mut number = first;
