@@ -10,7 +10,6 @@ use Rattle.mls_leaf.specs.declared.proposal.Proposal.TheVariants as proposal
 use Rattle.mls_group.specs.GroupContext.{group_context}
 use Rattle.mls_group.specs.GroupInfo.{group_info}
 use Rattle.mls_group.specs.declared.group_info.GroupInfo.{GroupInfo}
-use Rattle.mls_group.specs.declared.welcome.Welcome.{Welcome}
 use Rattle.mls_types.specs.Message.{mls_message}
 use Rattle.mls_types.specs.declared.commit.Commit.{Commit}
 use Rattle.mls_types.specs.SignedParts.{signed_with}

@@ -53,7 +53,7 @@ use Rattle.mls_model.specs.Messages.{decoded, sender_leaf, is_handshake, is_cont
 use Rattle.mls_model.specs.Verdict.{is_kept, framing_checks, climbed}
 use Rattle.mls_model.specs.WayLaws.{refused_so}
 use Rattle.mls_model.specs.Ways.{Refusing, Refusing.gone, Refusing.unread, Refusing.no_public, Refusing.unframed, Refusing.unfit, Refusing.last_epoch, Refusing.unknown, Refusing.unsound, Refusing.closed, Refusing.untagged}
-use Rattle.mls_model.specs.Refusals.{proposal_numbers, body_numbers, framing_numbers, verdict_numbers, VerdictNumbers}
+use Rattle.mls_model.specs.Refusals.{proposal_numbers, body_numbers, verdict_numbers, VerdictNumbers}
 
 -- ---- one of some numbers
 
