@@ -4,7 +4,6 @@ use Rattle.std.specs.Str.{bytes_eq}
 use Rattle.mls_wire.specs.Checks.{given}
 use Rattle.mls_leaf.specs.Limits.{input_limit}
 use Rattle.mls_leaf.specs.WholeLaws.{is_input_fault, is_input_answered}
-use Rattle.mls_leaf.specs.declared.proposal.Proposal.{Proposal}
 use Rattle.mls_group.specs.declared.update_path.HpkeCiphertext.{HpkeCiphertext}
 use Rattle.mls_group.specs.declared.update_path.UpdatePath.{UpdatePath}
 use Rattle.mls_group.specs.declared.update_path.UpdatePathNode.{UpdatePathNode}
@@ -24,7 +23,7 @@ use Rattle.mls_paths.specs.Keys.{Keys, PrivateKeys, rest, key_in}
 use Rattle.mls_paths.specs.Seal.{targets}
 use Rattle.mls_paths.specs.Make.{Climb}
 use Rattle.mls_paths.specs.Open.{unseal_secret, of_32, open_with, open_first, past_parent, open_here, climb_open, opened_path, left_by, first_ciphertexts}
-use Rattle.mls_model.specs.Commit.{Change, body}
+use Rattle.mls_model.specs.Commit.{Change}
 use Rattle.mls_model.specs.Member.{Kept, Member, kept_under, used_one, used_by}
 use Rattle.mls_model.specs.Messages.{decoded, sender_leaf, is_handshake, is_content_signed, content_tag}
 use Rattle.mls_model.specs.Verdict.{is_kept, framing_checks, climbed}
