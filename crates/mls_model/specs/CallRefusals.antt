@@ -10,7 +10,6 @@ use Rattle.mls_leaf.specs.declared.proposal.Proposal.TheVariants as proposal
 use Rattle.mls_group.specs.GroupContext.{group_context}
 use Rattle.mls_group.specs.GroupInfo.{group_info}
 use Rattle.mls_group.specs.declared.group_info.GroupInfo.{GroupInfo}
-use Rattle.mls_group.specs.declared.welcome.Welcome.{Welcome}
 use Rattle.mls_types.specs.Message.{mls_message}
 use Rattle.mls_types.specs.declared.commit.Commit.{Commit}
 use Rattle.mls_types.specs.SignedParts.{signed_with}
@@ -39,7 +38,9 @@ use Rattle.mls_model.specs.Propose.{proposal_by, kept_once, updated_leaf, propos
 use Rattle.mls_model.specs.Welcome.{unsigned_info, signed_info, secrets_with, entry_for, entries_for, welcome_message}
 use Rattle.mls_model.specs.Make.{MadePath, committed_leaf, new_path, no_path, path_secret_for, path_seals, welcome_if, make}
 use Rattle.mls_model.specs.Refusals.{proposal_numbers, body_numbers, proposed_numbers, make_numbers, AddNumbers, UpdateNumbers, RemoveNumbers, MakeNumbers, CandidateNumbers, CreateNumbers}
-use Rattle.mls_model.specs.RefusalLaws.{is_one, widen, bind_refused, then_refused, test_refused, last_refused, given_refused, if_refused, proposal_refused, replaced_refused, merge_refused, edited_refused, body_refused, used_refused}
+use Rattle.mls_model.specs.RefusedSteps.{is_one, widen, bind_refused, then_refused, test_refused, last_refused, given_refused, if_refused}
+use Rattle.mls_model.specs.RefusalLaws.{proposal_refused, replaced_refused, merge_refused, edited_refused, body_refused}
+use Rattle.mls_model.specs.VerdictRefusals.{used_refused}
 
 limit_refused : (bytes : List ℕ) (n : ℕ) → is_within_limit bytes ≡ Err n → 6 ≡ n
 unfolding is_within_limit

@@ -37,7 +37,7 @@ use Rattle.mls_model.specs.Candidate.{Candidate}
 use Rattle.mls_model.specs.Opening.{Opened, welcome_in, or_fault, is_none_or_32, opened_secrets, opened_welcome}
 use Rattle.mls_model.specs.Join.{joined_tree, signer_checks, place_of, joined_keys, member_of, join_verdict}
 use Rattle.mls_model.specs.Refusals.{join_numbers, JoinNumbers}
-use Rattle.mls_model.specs.RefusalLaws.{is_one, left_of, right_of, bind_refused, then_refused, test_refused, last_refused, given_refused, if_refused}
+use Rattle.mls_model.specs.RefusedSteps.{is_one, left_of, right_of, bind_refused, then_refused, test_refused, last_refused, given_refused, if_refused}
 
 -- ---- the Welcome
 

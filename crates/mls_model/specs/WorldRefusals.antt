@@ -27,7 +27,8 @@ use Rattle.mls_model.specs.World.{World, Entrant, seat_at, entrant_at, bytes_of,
 use Rattle.mls_model.specs.Calls.{candidate_answer, create_answer, propose_add_answer, propose_update_answer, propose_remove_answer, commit_answer, drop_answer, deliver_answer, join_answer}
 use Rattle.mls_model.specs.Run.{answer}
 use Rattle.mls_model.specs.Refusals.{verdict_numbers, proposed_numbers, make_numbers, join_numbers}
-use Rattle.mls_model.specs.RefusalLaws.{is_one, widen, left_of, right_of, bind_refused, test_refused, given_refused, verdict_refused}
+use Rattle.mls_model.specs.RefusedSteps.{is_one, widen, left_of, right_of, bind_refused, test_refused, given_refused}
+use Rattle.mls_model.specs.VerdictRefusals.{verdict_refused}
 use Rattle.mls_model.specs.CallRefusals.{add_refused, update_refused, remove_refused, make_refused, candidate_refused, create_refused}
 use Rattle.mls_model.specs.JoinRefusals.{join_refused}
 
