@@ -124,7 +124,7 @@ after_is P e m x q h = subst P (ap (λ (y : Effect × Member). y.1) q) h
 -- ---- a commit
 
 -- its committer isn't the member itself, since it keeps proposals alone
-other_committer : (c : Crypto) (m : Member) (bytes : List ℕ) (v : PublicMessage) (x : Commit) (tag : List ℕ) → IsGoodMember c m → decoded bytes ≡ Ok (message.PublicMessage v) → IsFramed c m v bytes → v.content.body ≡ body_of.Commit x tag → sender_leaf v.content.sender ≢ m.keys.leaf
+pub other_committer : (c : Crypto) (m : Member) (bytes : List ℕ) (v : PublicMessage) (x : Commit) (tag : List ℕ) → IsGoodMember c m → decoded bytes ≡ Ok (message.PublicMessage v) → IsFramed c m v bytes → v.content.body ≡ body_of.Commit x tag → sender_leaf v.content.sender ≢ m.keys.leaf
 other_committer c m bytes v x tag good reads framed says same =
     let kept : is_kept m.kept bytes ≡ true = own_is_kept (sender_leaf v.content.sender) m.keys.leaf (is_kept m.kept bytes) framed.other same in
     let k = kept_as c m m.kept bytes good.kept kept in

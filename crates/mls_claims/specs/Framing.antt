@@ -53,7 +53,7 @@ same_bytes_pass x y e = (bytes_eq-Decides x y).1 e
 another_leaf : (i j : ℕ) (rest : Bool) → i ≢ j → (not (i == j) || rest) ≡ true
 another_leaf i j rest apart = ap (λ (b : Bool). not b || rest) (ne_eqb i j apart)
 
-is_framed : (c : Crypto) → Lawful c → (maker m : Member) (list : List ProposalOrRef) (path : MadePath) (change : Change) (bytes : List ℕ) →
+pub is_framed : (c : Crypto) → Lawful c → (maker m : Member) (list : List ProposalOrRef) (path : MadePath) (change : Change) (bytes : List ℕ) →
     IsGoodMember c maker → maker.keys.leaf ≢ m.keys.leaf → Agree maker m → AgreeSecret maker m → IsFramed c m (sent_of c maker list path change) bytes
 unfolding sent_of content_of said_of said_by commit_of
 is_framed c laws maker m list path change bytes good apart agree secret = record {
