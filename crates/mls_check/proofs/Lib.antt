@@ -1,5 +1,3 @@
-mod Cells
-mod CheckNames
 mod GoodTrees
 mod Orders
 mod SentTrees

@@ -1,8 +1,8 @@
 -- The tree that bytes spell follows from their nodes.
-use Rattle.std.proofs.Common.{◌≡◌, ◌≢◌, ◌∙◌, ℕ, List, Option, Result, Ok, Err, ap, refl, sym}
+use Rattle.std.proofs.Common.{◌≡◌, ◌≢◌, ◌∙◌, ℕ, List, Option, Result, Ok, Err, ap, arith, refl, sym}
 use Rattle.mls_wire.specs.Reading.{◌>>=◌}
 use Rattle.mls_wire.specs.declared.WireError.TheVariants as wire
-use Rattle.mls_leaf.specs.Faults.{Fails, number_of, whole}
+use Rattle.mls_leaf.specs.Faults.{Fails, Outright, number_of, whole}
 use Rattle.mls_leaf.specs.Limits.{input_limit}
 use Rattle.mls_leaf.specs.declared.error.LeafError.{LeafError}
 use Rattle.mls_leaf.specs.declared.error.LeafError.TheVariants.{Wire, BadTag, UnsupportedCredential, UnsupportedProposal, NotRising, ExtensionNotAllowed}
@@ -38,3 +38,29 @@ pub of_nodes : (bytes : List ℕ) (nodes items : List (Option Node)) (r : Result
 unfolding tree_in
 of_nodes bytes nodes items r e same h =
     ap (λ (x : Result (List (Option Node)) ℕ). x >>= from_nodes max_leaves) e ∙ (ap (from_nodes max_leaves) (sym same) ∙ h)
+
+-- ---- refusals that need no memory
+
+-- what is read is no fault
+pub read_twice : {V : Type 0} (read : Result V ℕ) (v : V) (n : ℕ) → read ≡ Ok v → read ≡ Err n → ⊥
+read_twice read v n e h = cc
+
+-- a fault that is answered outright isn't want of memory
+pub no_memory : {V : Type 0} (e : LeafError) (read : Result V ℕ) (n : ℕ) → Outright read e → read ≡ Err n → number_of e ≢ 1
+no_memory (Wire wire.OutOfMemory) read n out h = λ one. absurd (read_twice read out.0 n out.1 h)
+no_memory (Wire wire.Truncated) read n out h = λ one. absurd (omega arith)
+no_memory (Wire wire.Trailing) read n out h = λ one. absurd (omega arith)
+no_memory (Wire wire.BadLength) read n out h = λ one. absurd (omega arith)
+no_memory (Wire wire.NotMinimal) read n out h = λ one. absurd (omega arith)
+no_memory (Wire wire.TooLong) read n out h = λ one. absurd (omega arith)
+no_memory BadTag read n out h = λ one. absurd (omega arith)
+no_memory UnsupportedCredential read n out h = λ one. absurd (omega arith)
+no_memory UnsupportedProposal read n out h = λ one. absurd (omega arith)
+no_memory NotRising read n out h = λ one. absurd (omega arith)
+no_memory ExtensionNotAllowed read n out h = λ one. absurd (omega arith)
+
+-- bytes that spell a tree spell nodes
+pub no_tree : (bytes : List ℕ) (t : Term) (n : ℕ) → tree_in bytes ≡ Ok t → whole ratchet_tree input_limit bytes ≡ Err n → ⊥
+unfolding tree_in
+no_tree bytes t n is h =
+    let refused : tree_in bytes ≡ Err n = ap (λ (x : Result (List (Option Node)) ℕ). x >>= from_nodes max_leaves) h in cc

@@ -1,5 +1,5 @@
 -- What `mls check` prints.
-use Rattle.std.specs.Prelude.{◌≡◌, nat_lt, ◌==◌, ℕ, Bool, List, [], ◌∷◌, ◌++◌, codes, length, if◌then◌else◌, Option, Some, None, is_some, Result, Ok, Err}
+use Rattle.std.specs.Prelude.{◌≡◌, nat_lt, ℕ, Bool, List, [], ◌∷◌, ◌++◌, codes, length, if◌then◌else◌, Option, Some, None, Result, Ok, Err}
 use Rattle.hex.specs.Hex.{decode_of}
 use Rattle.mls_wire.specs.Checks.{given}
 use Rattle.mls_wire.specs.Reading.{◌>>=◌}
@@ -16,7 +16,9 @@ use Rattle.mls_tree.specs.Tree.{max_leaves}
 use Rattle.mls_tree.specs.Rules.{rules_of}
 use Rattle.mls_text.specs.File.{bytes_in, decoded}
 use Rattle.mls_text.specs.Text.{Entry, entry, bytes, number, word}
-use Rattle.mls_text.specs.Page.{Page, refused_page}
+use Rattle.mls_text.specs.Page.{Page, good, refused}
+use Rattle.mls_check.specs.declared.report.SuiteChecks.{SuiteChecks}
+use Rattle.mls_check.specs.declared.report.SuiteChecks.TheVariants.{Made, Left}
 
 -- RFC 9420, section 12.4.3.3: the tree that the bytes spell, or the number of the first fault
 unfoldable pub tree_in : List ℕ → Result Term ℕ
@@ -39,59 +41,52 @@ group_in text = given 8 (decoded (decode_of text)) >>= within_limit
 
 -- ---- lines, and the first check that fails
 
--- what is printed, and the number of the first check that failed
-pub record Report : Type 0 where
-  pub entries : List Entry
-  pub refusal : Option ℕ
-
 -- nothing is left to check
-abbrev pub all_passed : Report
-all_passed = record { entries = []; refusal = None }
-
--- the check of that number fails: its refusal is the last line
-abbrev pub failed : ℕ → Report
-failed n = record { entries = (refused_page n).entries; refusal = Some n }
+abbrev pub all_passed : Page Entry
+all_passed = good []
 
 -- lines, and what is printed behind them
-abbrev pub behind : List Entry → Report → Report
-behind entries r = record { entries = entries ++ r.entries; refusal = r.refusal }
+abbrev pub behind : List Entry → Page Entry → Page Entry
+behind entries p = record { entries = entries ++ p.entries; ending = p.ending }
 
 -- a check by its number: where it holds its line, and then the others
-abbrev pub step : ℕ → Bool → Entry → Report → Report
-step n holds line others = if holds then behind (line ∷ []) others else failed n
+abbrev pub step : ℕ → Bool → Entry → Page Entry → Page Entry
+step n holds line others = if holds then behind (line ∷ []) others else refused n
 
--- the line of a check that was made, and of one by the suite's own functions, which isn't made under suite 0x0001
+-- the line of a check that was made
 abbrev pub ok_line : List ℕ → Entry
 ok_line name = entry [] name (word (codes "ok"))
 
-unfoldable pub suite_word : ℕ → List ℕ
-suite_word suite = if suite == 1 then codes "not checked" else codes "ok"
+-- the line of a check by the suite's own functions, which a suite that checks nothing leaves out
+abbrev pub suite_word : SuiteChecks → List ℕ
+suite_word Made = codes "ok"
+suite_word Left = codes "not checked"
 
-abbrev pub suite_line : Crypto → List ℕ → Entry
-suite_line c name = entry [] name (word (suite_word c.number))
+abbrev pub suite_line : SuiteChecks → List ℕ → Entry
+suite_line own name = entry [] name (word (suite_word own))
 
 -- the checks of a good tree in their order (RFC 9420, 7.3, 7.9.2 and 12.4.3.1), each with its line
-unfoldable pub rules_report : Crypto → List ℕ → Term → Report
-rules_report c group t =
+unfoldable pub rules_report : Crypto → SuiteChecks → List ℕ → Term → Page Entry
+rules_report c own group t =
     step 23 (has_good_lists t) (ok_line (codes "unmerged"))
     (step 24 (has_good_hashes t) (ok_line (codes "parent_hashes"))
     (step 25 (has_distinct_keys t) (ok_line (codes "keys"))
     (step 26 (has_distinct_clients t) (ok_line (codes "clients"))
-    (step 51 (is_all_signed (rules_of c group) t) (suite_line c (codes "signatures"))
+    (step 51 (is_all_signed (rules_of c group) t) (suite_line own (codes "signatures"))
     (step 52 (is_all_capable (rules_of c group) t) (ok_line (codes "capabilities"))
-    (step 36 (is_all_fit (rules_of c group) t) (suite_line c (codes "key_forms"))
+    (step 36 (is_all_fit (rules_of c group) t) (suite_line own (codes "key_forms"))
     all_passed))))))
 
-abbrev pub tree_report : Crypto → List ℕ → Term → Report
-tree_report c group t = behind (tree_entries t) (rules_report c group t)
+abbrev pub tree_report : Crypto → SuiteChecks → List ℕ → Term → Page Entry
+tree_report c own group t = behind (tree_entries t) (rules_report c own group t)
 
-abbrev pub report_on : Crypto → List ℕ → Result Term ℕ → Report
-report_on c group (Ok t) = tree_report c group t
-report_on c group (Err n) = failed n
+abbrev pub report_on : Crypto → SuiteChecks → List ℕ → Result Term ℕ → Page Entry
+report_on c own group (Ok t) = tree_report c own group t
+report_on c own group (Err n) = refused n
 
--- what is printed of the tree's bytes under a suite, for the group with that id
-unfoldable pub check_text : Crypto → List ℕ → List ℕ → Report
-check_text c spelled group = report_on c group (tree_in spelled)
+-- what is printed of the tree's bytes under a suite, for the group with that id, and what of the suite's own checks
+unfoldable pub check_text : Crypto → SuiteChecks → List ℕ → List ℕ → Page Entry
+check_text c own spelled group = report_on c own group (tree_in spelled)
 
 -- the bytes spell a good tree of the group under a suite (RFC 9420, 7.3, 7.9.2, 12.4.3.1 and 12.4.3.3)
 pub record SpellsGoodTree (c : Crypto) (group spelled : List ℕ) : Type 0 where
@@ -101,20 +96,16 @@ pub record SpellsGoodTree (c : Crypto) (group spelled : List ℕ) : Type 0 where
 
 -- ---- pages
 
--- 0 where no check failed, else 1
-abbrev pub report_page : Report → Page
-report_page r = record { entries = r.entries; status = if is_some r.refusal then 1 else 0 }
-
 -- a group's text that is no group's id is refused before the tree is looked at
-abbrev pub check_page_on : Crypto → List ℕ → Result (List ℕ) ℕ → Page
-check_page_on c spelled (Ok group) = report_page (check_text c spelled group)
-check_page_on c spelled (Err n) = refused_page n
+abbrev pub check_page_on : Crypto → SuiteChecks → List ℕ → Result (List ℕ) ℕ → Page Entry
+check_page_on c own spelled (Ok group) = check_text c own spelled group
+check_page_on c own spelled (Err n) = refused n
 
 -- a file that is no hex text is refused with 8, before the group's text is looked at
-abbrev pub check_page_in : Crypto → Option (List ℕ) → List ℕ → Page
-check_page_in c None group = refused_page 8
-check_page_in c (Some spelled) group = check_page_on c spelled (group_in group)
+abbrev pub check_page_in : Crypto → SuiteChecks → Option (List ℕ) → List ℕ → Page Entry
+check_page_in c own None group = refused 8
+check_page_in c own (Some spelled) group = check_page_on c own spelled (group_in group)
 
 -- what is printed under a suite for a file's text and a group's
-unfoldable pub check_page : Crypto → List ℕ → List ℕ → Page
-check_page c text group = check_page_in c (bytes_in text) group
+unfoldable pub check_page : Crypto → SuiteChecks → List ℕ → List ℕ → Page Entry
+check_page c own text group = check_page_in c own (bytes_in text) group

@@ -1,7 +1,7 @@
--- The numbers and names of what `mls check` refuses.
-use Rattle.std.specs.Prelude.{ℕ, List, codes}
-use Rattle.mls_leaf.specs.Faults.{number_of as leaf_number_of, name_of as leaf_name_of}
-use Rattle.mls_tree.specs.Faults.{number_of as tree_number_of, name_of as tree_name_of}
+-- The numbers of what `mls check` refuses.
+use Rattle.std.specs.Prelude.{ℕ}
+use Rattle.mls_leaf.specs.Faults.{number_of as leaf_number_of}
+use Rattle.mls_tree.specs.Faults.{number_of as tree_number_of}
 use Rattle.mls_check.specs.declared.check_error.CheckError.{CheckError}
 use Rattle.mls_check.specs.declared.check_error.CheckError.TheVariants.{OutOfMemory, NotHex, Decoding, Tree}
 
@@ -11,10 +11,3 @@ number_of OutOfMemory = 1
 number_of NotHex = 8
 number_of (Decoding e) = leaf_number_of e
 number_of (Tree e) = tree_number_of e
-
--- the name that is printed
-abbrev pub name_of : CheckError → List ℕ
-name_of OutOfMemory = codes "OutOfMemory"
-name_of NotHex = codes "NotHex"
-name_of (Decoding e) = leaf_name_of e
-name_of (Tree e) = tree_name_of e

@@ -1,5 +1,4 @@
 pub mod Check
 pub mod CheckFaults
 pub mod Reports
-pub mod Short
 pub mod Unchecked

@@ -3,6 +3,7 @@
 ghost use Rattle.std.specs.Prelude.{◌≡◌, ◌↔◌, IsTrue};
 
 use mls_leaf::LeafError;
+use mls_text::refusal_name as name_of;
 use mls_tree::TreeError;
 use std::alloc::AllocError;
 
@@ -20,7 +21,8 @@ pub enum CheckError {
 }
 
 impl CheckError {
-    ghost use Rattle.mls_check.specs.CheckFaults.{number_of, name_of};
+    ghost use Rattle.mls_text.specs.Refusals.{refusal_name};
+    ghost use Rattle.mls_check.specs.CheckFaults.{number_of};
 
     /// The number of the refusal.
     pub fn number(self) -> u8
@@ -43,14 +45,9 @@ impl CheckError {
 
     /// The name of the refusal, as it is printed.
     pub fn name(self) -> &'static str
-        ensures { result.now ≡ name_of self }
+        ensures { result.now ≡ refusal_name (number_of self) }
     {
-        match self {
-            CheckError::OutOfMemory => "OutOfMemory",
-            CheckError::NotHex => "NotHex",
-            CheckError::Decoding(error) => error.name(),
-            CheckError::Tree(error) => error.name(),
-        }
+        name_of(self.number())
     }
 }
 

@@ -6,27 +6,23 @@ mod report;
 mod tree;
 mod unchecked;
 
-ghost use Rattle.std.specs.Prelude.{ℕ, List, ◌≡◌, ◌++◌, length, IfOk, OnErr, IfErr, IfSome, IsErrOf, ◌≢◌, ◌≤◌};
-ghost use Rattle.std.specs.Io.KnownBytes.{Keeps};
+ghost use Rattle.std.specs.Prelude.{◌≡◌, ◌≤◌, ◌%◌, length, IfOk, IsOk};
 ghost use Rattle.mls_wire.specs.Checks.{Answers};
 ghost use Rattle.mls_leaf.specs.Limits.{input_limit};
-ghost use Rattle.mls_text.specs.Engine.{Prints};
-ghost use Rattle.mls_text.specs.Text.{lines_text};
-ghost use Rattle.mls_text.specs.Page.{refusal_name};
-ghost use Rattle.mls_check.specs.Check.{check_page, check_page_on, check_text, group_in, report_page};
+ghost use Rattle.mls_text.specs.File.{trimmed};
+ghost use Rattle.mls_text.specs.Page.{page_of};
+ghost use Rattle.mls_text.specs.Text.{entry_of};
+ghost use Rattle.mls_check.specs.Check.{check_page, check_page_on, group_in};
 ghost use Rattle.mls_check.specs.CheckFaults.{number_of};
-ghost use Rattle.mls_check.specs.Reports.{report_of};
 
 pub use check_error::CheckError;
 use hex::FromHexError;
 use mls_leaf::{INPUT_LIMIT, LeafError};
 use mls_suite::Suite;
-use mls_text::{Fault, FileError, file_bytes, print_lines, read_whole, refuse};
+use mls_text::{FileError, Line, Page, file_bytes, refused_page};
 use mls_wire::WireError;
-use report::name_of;
-pub use report::{Report, check_text};
+pub use report::{SuiteChecks, check_text};
 use std::alloc::{AllocError, Global};
-use std::io::{Read, Write};
 pub use tree::{tree_in, tree_lines};
 pub use unchecked::Unchecked;
 
@@ -48,110 +44,43 @@ fn group_bytes(alloc: Global, text: &str) -> Result<Vec<u8>, CheckError>
     }
 }
 
-/// Writes a report, and answers the exit status.
-#[tactic(auto, unfolding(crate::specs::Reports::report_of))]
-fn print_report<W: Write>(alloc: Global, report: &Report, out: &mut W) -> Result<u8, Fault>
-    ensures page { Prints W.contents out.old out.new result (report_page (report_of report.now)) }
-    ensures status { IfOk result (λ status. status ≤ 1) }
-    ensures written { IfErr result (λ e. e ≢ Fault.Read) }
-{
-    print_lines(alloc, report.lines.as_slice(), out)?;
-    match report.refusal {
-        Some(_) => Ok(1),
-        None => Ok(0),
-    }
-}
-
-/// Writes the lines of a tree's bytes for a group's id.
-fn check_tree<S: Suite, W: Write>(
+/// What is printed of a tree's bytes for a group's id in hex.
+fn bytes_page<S: Suite>(
     alloc: Global,
-    bytes: &[u8],
-    group_id: &[u8],
-    out: &mut W,
-) -> Result<u8, Fault>
-    requires { length group_id.now ≤ input_limit }
-    ensures page { Prints W.contents out.old out.new result (report_page (check_text S.crypto bytes.now group_id.now)) }
-    ensures status { IfOk result (λ status. status ≤ 1) }
-    ensures written { IfErr result (λ e. e ≢ Fault.Read) }
-{
-    match check_text::<S>(alloc, bytes, group_id) {
-        Ok(report) => print_report(alloc, &report, out),
-        Err(_) => Err(Fault::OutOfMemory),
-    }
-}
-
-/// Writes the lines of a tree's bytes for a group's id in hex, or the line of its refusal.
-fn check_bytes<S: Suite, W: Write>(
-    alloc: Global,
+    own: SuiteChecks,
     bytes: &[u8],
     group: &str,
-    out: &mut W,
-) -> Result<u8, Fault>
-    ensures page { Prints W.contents out.old out.new result (check_page_on S.crypto bytes.now (group_in group.now)) }
-    ensures status { IfOk result (λ status. status ≤ 1) }
-    ensures written { IfErr result (λ e. e ≢ Fault.Read) }
+) -> Result<Page<Line>, AllocError>
+    ensures { IfOk result (λ page. page_of entry_of page ≡ check_page_on S.crypto own bytes.now (group_in group.now)) }
 {
     match group_bytes(alloc, group) {
-        Ok(group_id) => check_tree::<S, W>(alloc, bytes, group_id.as_slice(), out),
+        Ok(group_id) => check_text::<S>(alloc, own, bytes, group_id.as_slice()),
         Err(error) => {
             if error.is_memory() {
-                return Err(Fault::OutOfMemory);
+                return Err(AllocError);
             }
-            refuse(alloc, error.number(), name_of(error), out)
+            Ok(refused_page(alloc, error.number()))
         }
     }
 }
 
-/// Writes what a hex file's text brings.
-#[tactic(auto, unfolding(crate::specs::Check::check_page, mls_text::specs::Page::refusal_name))]
-fn check_file<S: Suite, W: Write>(
+/// What is printed of a file's text: the lines of the tree that stands in it as hex digits, for the group with this id in
+/// hex, or the refusal of the file or of the id (8, 6).
+#[tactic(auto, unfolding(crate::specs::Check::check_page))]
+pub fn check_page<S: Suite>(
     alloc: Global,
+    own: SuiteChecks,
     text: &[u8],
     group: &str,
-    out: &mut W,
-) -> Result<u8, Fault>
-    ensures page { Prints W.contents out.old out.new result (check_page S.crypto text.now group.now) }
-    ensures status { IfOk result (λ status. status ≤ 1) }
-    ensures written { IfErr result (λ e. e ≢ Fault.Read) }
+) -> Result<Page<Line>, AllocError>
+    ensures page { IfOk result (λ page. page_of entry_of page ≡ check_page S.crypto own text.now group.now) }
+    // An odd number of digits is refused before anything grows.
+    ensures odd { length (trimmed text.now) % 2 ≡ 1 → IsOk result }
 {
     match file_bytes(alloc, text) {
-        Ok(bytes) => check_bytes::<S, W>(alloc, bytes.as_slice(), group, out),
-        Err(FileError::NotHex) => refuse(alloc, 8, "NotHex", out),
-        Err(FileError::OutOfMemory) => Err(Fault::OutOfMemory),
-    }
-}
-
-/// Writes the lines of the tree that a reader has, for the group with this id, and answers the exit status.
-pub fn check<S: Suite, R: Read, W: Write>(
-    alloc: Global,
-    file: &mut R,
-    group: &str,
-    out: &mut W,
-) -> Result<u8, Fault>
-    // What is written is the page of what the reader had, or on a fault a beginning of it.
-    ensures page { IfSome (R.remaining file.old) (λ text. Prints W.contents out.old out.new result (check_page S.crypto text group.now)) }
-    ensures status { IfOk result (λ status. status ≤ 1) }
-    // A read that fails leaves the output as it was.
-    ensures unread { IsErrOf result Fault.Read → Keeps (W.contents out.old) (W.contents out.new) }
-{
-    let text = read_whole(alloc, file)?;
-    check_file::<S, W>(alloc, text.as_slice(), group, out)
-}
-
-/// `check` over memory, whose only fault is want of memory.
-pub fn check_in_memory<S: Suite>(
-    alloc: Global,
-    text: &[u8],
-    group: &str,
-    out: &mut Vec<u8>,
-) -> Result<u8, AllocError>
-    ensures page { IfOk result (λ status. (out.new.items ≡ out.old.items ++ lines_text (check_page S.crypto text.now group.now).entries) × (status ≡ (check_page S.crypto text.now group.now).status)) }
-    ensures part { OnErr result ((done rest : List ℕ) × (lines_text (check_page S.crypto text.now group.now).entries ≡ done ++ rest) × (out.new.items ≡ out.old.items ++ done)) }
-{
-    match check_file::<S, Vec<u8>>(alloc, text, group, out) {
-        Ok(status) => Ok(status),
-        // Nothing is read, and a `Vec` refuses a write only for want of memory.
-        Err(_) => Err(AllocError),
+        Ok(bytes) => bytes_page::<S>(alloc, own, bytes.as_slice(), group),
+        Err(FileError::NotHex) => Ok(refused_page(alloc, 8)),
+        Err(FileError::OutOfMemory) => Err(AllocError),
     }
 }
 

@@ -2,6 +2,7 @@
 
 use super::*;
 use mls_suite::Glass;
+use mls_text::print_page;
 use std::alloc::AllocError;
 use std::test::Fail;
 
@@ -18,16 +19,29 @@ const ODD: &str =
     "4190010120229800b4d728ad0141f588fef32fa17b9f067fe306063db26e189b7cd2adda5a20db08ed06d0ae96dfda3100301cd064676571dbce976ffae2942556268881455f000105616c69636502000102f00100000200010320fdf15627604a683b6ada6309c89ac4df817ede06c9545a805919630f92092e0d0020dfec853ddc3ed771cc06c58fe9fa2f3080b2b752c9357785cc6a1b27f231c7cc010220bfe6ee21c80171c3ec2fc0efa5a189abe731361b13a76f9dff72fe9eb697e9f620ca4a43bde726c6cdc7968b490171d45b2b89a8b4618c05125382f0cecb99952a0000010220f5e5604ae523c6ca88e5502a24044b6a353d672dcc1f9c2177c3ab3876cd3e0f00000101200347e66841a09f8efd4d7c7b6b67ea015240c96bad8b688a467d9a849d4de19b200a8e960e536b58cb33c6182dc9b1910817568fa05797237c2f9b04610f07d4d50001056361726f6c02000102f0010000020001010000000000000000ffffffffffffffff0020a60fd413153c88977aee7a4f7d221974ded793884ec5518dd3225beff25d7568";
 
 /// The status and the text for a file and a group's id in hex, under a suite.
-fn printed<S: Suite>(alloc: Global, file: &str, group: &str) -> Result<(u8, Vec<u8>), AllocError> {
+fn printed<S: Suite>(
+    alloc: Global,
+    own: SuiteChecks,
+    file: &str,
+    group: &str,
+) -> Result<(u8, Vec<u8>), AllocError> {
+    let page = check_page::<S>(alloc, own, file.as_bytes(), group)?;
     let mut out = Vec::new(alloc);
-    let status = check_in_memory::<S>(alloc, file.as_bytes(), group, &mut out)?;
-    Ok((status, out))
+    match print_page(alloc, &page, &mut out) {
+        Ok(status) => Ok((status, out)),
+        // A `Vec` refuses a write only for want of memory.
+        Err(_) => Err(AllocError),
+    }
 }
 
 /// Whether each file brings its status and its text under a suite. A row is file, group, status and text.
-fn agrees<S: Suite>(alloc: Global, rows: &[(&str, &str, u8, &str)]) -> Result<bool, AllocError> {
+fn agrees<S: Suite>(
+    alloc: Global,
+    own: SuiteChecks,
+    rows: &[(&str, &str, u8, &str)],
+) -> Result<bool, AllocError> {
     for (file, group, status, text) in rows {
-        let (answer, out) = printed::<S>(alloc, file, group)?;
+        let (answer, out) = printed::<S>(alloc, own, file, group)?;
         if answer != *status || out.as_slice() != text.as_bytes() {
             return Ok(false);
         }
@@ -51,7 +65,7 @@ fn prints_a_line_of_each_check(rt: HostRuntime) -> Result<(), Fail> {
             "leaves: 4\nmembers: 2\ntree_hash: 072fda648df0dc804580e7a2556644a8c15e7b4f8dc259b7bfe501508862e3bf\nunmerged: ok\nparent_hashes: ok\nkeys: ok\nclients: ok\nsignatures: ok\ncapabilities: ok\nkey_forms: ok\n",
         ),
     ];
-    assert!(rt; agrees::<Glass>(rt.alloc(), &rows)?);
+    assert!(rt; agrees::<Glass>(rt.alloc(), SuiteChecks::Made, &rows)?);
     Ok(())
 }
 
@@ -76,7 +90,7 @@ fn ends_with_the_refusal(rt: HostRuntime) -> Result<(), Fail> {
         ("02", "6", 1, "refused: 8 NotHex\n"),
         ("0", "67", 1, "refused: 8 NotHex\n"),
     ];
-    assert!(rt; agrees::<Glass>(rt.alloc(), &rows)?);
+    assert!(rt; agrees::<Glass>(rt.alloc(), SuiteChecks::Made, &rows)?);
     Ok(())
 }
 
@@ -120,7 +134,7 @@ fn refuses_at_each_check(rt: HostRuntime) -> Result<(), Fail> {
             "leaves: 1\nmembers: 1\ntree_hash: d4fac541696ac974865150d2e1121e5b52e787c6f3f2c353e21901b13c0ea2a9\nunmerged: ok\nparent_hashes: ok\nkeys: ok\nclients: ok\nsignatures: ok\ncapabilities: ok\nrefused: 36 BadKey\n",
         ),
     ];
-    assert!(rt; agrees::<Glass>(rt.alloc(), &rows)?);
+    assert!(rt; agrees::<Glass>(rt.alloc(), SuiteChecks::Made, &rows)?);
     Ok(())
 }
 
@@ -140,6 +154,19 @@ fn checks_no_signature_of_suite_1(rt: HostRuntime) -> Result<(), Fail> {
             "leaves: 1\nmembers: 1\ntree_hash: 6d5fdbd73a1a876c9a35d91ed4824530d9494fe94c2832035340099694936230\nunmerged: ok\nparent_hashes: ok\nkeys: ok\nclients: ok\nsignatures: not checked\ncapabilities: ok\nkey_forms: not checked\n",
         ),
     ];
-    assert!(rt; agrees::<Unchecked>(rt.alloc(), &rows)?);
+    assert!(rt; agrees::<Unchecked>(rt.alloc(), SuiteChecks::Left, &rows)?);
+    Ok(())
+}
+
+#[test]
+fn says_what_is_checked(rt: HostRuntime) -> Result<(), Fail> {
+    let rows: [(&str, &str, u8, &str); 1] = [(
+        "2b010101bb01cc000103626f620200010200010000020001010000000000000000ffffffffffffffff0001dd",
+        "",
+        0,
+        "leaves: 1\nmembers: 1\ntree_hash: 6d5fdbd73a1a876c9a35d91ed4824530d9494fe94c2832035340099694936230\nunmerged: ok\nparent_hashes: ok\nkeys: ok\nclients: ok\nsignatures: ok\ncapabilities: ok\nkey_forms: ok\n",
+    )];
+    // The word goes by what the caller says of the suite, not by the suite's number.
+    assert!(rt; agrees::<Unchecked>(rt.alloc(), SuiteChecks::Made, &rows)?);
     Ok(())
 }

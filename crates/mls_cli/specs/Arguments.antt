@@ -1,11 +1,16 @@
 -- What the command line of `mls` is, and which job the matches of its words name.
-use Rattle.std.specs.Prelude.{List, [], ◌∷◌, codes, Option, Some, None, option_and_then, option_map, unwrap_or, if◌then◌else◌, true}
+use Rattle.std.specs.Prelude.{◌≡◌, ◌≢◌, ◌⊎◌, List, [], ◌∷◌, codes, Option, Some, None, option_and_then, option_map, unwrap_or, if◌then◌else◌, true}
 use Rattle.std.specs.Str.{bytes_eq}
 use Rattle.clap.specs.Words.{App, Row, Rule, Text, first_of, new_app, new_rule, with_rule, with_subcommand}
+use Rattle.clap.specs.Kinds.{IsAmong, Kinds}
+use Rattle.clap.specs.declared.error.kind.ErrorKind.{ErrorKind}
+use Rattle.clap.specs.declared.error.kind.ErrorKind.TheVariants as kind
+use Rattle.mls_cli.specs.declared.tasks.NoJob.{NoJob}
+use Rattle.mls_cli.specs.declared.tasks.NoJob.TheVariants as no_job
 use Rattle.mls_cli.specs.declared.tasks.Job.{Job}
 use Rattle.mls_cli.specs.declared.tasks.Job.TheVariants.{Show, Check, Vectors}
 use Rattle.mls_cli.specs.declared.tasks.SuiteChoice.{SuiteChoice}
-use Rattle.mls_cli.specs.declared.tasks.SuiteChoice.TheVariants.{Glass, X25519}
+use Rattle.mls_cli.specs.declared.tasks.SuiteChoice.TheVariants.{Glass, Unchecked}
 
 -- a required FILE
 abbrev pub file_rule : Rule
@@ -26,10 +31,11 @@ group_rule = record (new_rule (codes "HEX")) { long = Some (codes "group") }
 abbrev pub check_app : App
 check_app = with_rule (with_rule (on_file (codes "check")) suite_rule) group_rule
 
+-- one of the subcommands is required, but for `--version`
 abbrev pub needing_one : App → App
-needing_one a = record a { top = record a.top { subcommand_required = true } }
+needing_one a = record a { top = record a.top { has_version = true; subcommand_required = true } }
 
--- the command line: one of the subcommands is required
+-- the command line
 abbrev pub mls : App
 mls = needing_one
     (with_subcommand
@@ -56,7 +62,7 @@ view (Vectors file) = vectors file.now
 abbrev pub suite_of : Text → Option SuiteChoice
 suite_of text =
     if bytes_eq text (codes "f001") then Some Glass
-    else if bytes_eq text (codes "0001") then Some X25519
+    else if bytes_eq text (codes "0001") then Some Unchecked
     else None
 
 -- there is no such job where the suite has another name
@@ -79,3 +85,25 @@ abbrev pub file_of : Job → Text
 file_of (Show file) = file.now
 file_of (Check file suite group) = file.now
 file_of (Vectors file) = file.now
+
+-- ---- where there is no job
+
+abbrev pub IsHelp : ErrorKind → Type 0
+IsHelp k = (k ≡ kind.DisplayHelp) ⊎ (k ≡ kind.DisplayVersion)
+
+abbrev pub IsMistake : ErrorKind → Type 0
+IsMistake k = (k ≢ kind.DisplayHelp) × (k ≢ kind.DisplayVersion) × (k ≢ kind.OutOfMemory)
+
+-- whether something is shown or called a mistake goes by the kind of clap's error; memory may run out at any
+abbrev pub ComesOf : NoJob → ErrorKind → Type 0
+ComesOf (no_job.Shown text) k = IsHelp k
+ComesOf (no_job.Mistaken text) k = IsMistake k
+ComesOf no_job.OutOfMemory k = Unit {0}
+
+-- a kind that clap finds in the words, or that of a value that clap lets through
+abbrev pub IsFault : Kinds → Option Task → ErrorKind → Type 0
+IsFault kinds task k =
+    (k ≡ kind.OutOfMemory) ⊎ IsAmong k kinds ⊎ ((kinds ≡ []) × (task ≡ None) × (k ≡ kind.InvalidValue))
+
+abbrev pub Explains : Kinds → Option Task → NoJob → Type 0
+Explains kinds task e = (k : ErrorKind) × ComesOf e k × IsFault kinds task k

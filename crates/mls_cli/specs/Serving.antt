@@ -1,81 +1,99 @@
 -- What a served job leaves.
-use Rattle.std.specs.Prelude.{◌≡◌, ◌≢◌, ◌≤◌, ◌⊎◌, ◌++◌, ℕ, List, [], codes, Option}
+use Rattle.std.specs.Prelude.{◌≡◌, ◌≤◌, ◌⊎◌, ◌++◌, ℕ, Bool, true, false, List, [], codes, Option, Some, None, string_bytes}
 use Rattle.std.specs.Io.KnownBytes.{Appends, Keeps}
-use Rattle.clap.specs.Values.{kind_of}
-use Rattle.clap.specs.declared.error.Error.{Error}
-use Rattle.clap.specs.declared.error.kind.ErrorKind.TheVariants as kind
 use Rattle.mls_suite.specs.Crypto.{Crypto}
 use Rattle.mls_suite.specs.Glass.{glass}
-use Rattle.mls_cli.specs.Arguments.{file_of}
+use Rattle.mls_cli.specs.declared.tasks.NoJob.{NoJob}
+use Rattle.mls_cli.specs.declared.tasks.NoJob.TheVariants as no_job
 use Rattle.mls_cli.specs.declared.tasks.SuiteChoice.{SuiteChoice}
 use Rattle.mls_cli.specs.declared.tasks.SuiteChoice.TheVariants as choice
 use Rattle.mls_cli.specs.declared.tasks.Job.{Job}
 use Rattle.mls_cli.specs.declared.tasks.Job.TheVariants as job
-use Rattle.mls_text.specs.Engine.{AppendsPart, Output, page_output}
-use Rattle.mls_text.specs.declared.engine.Fault.{Fault}
-use Rattle.mls_text.specs.declared.engine.Fault.TheVariants as fault
-use Rattle.mls_show.specs.Show.{page_of}
+use Rattle.mls_text.specs.Ends.{AppendsPart, Cut}
+use Rattle.mls_text.specs.Page.{Printout, printout}
+use Rattle.mls_text.specs.Text.{line_text}
+use Rattle.mls_text.specs.declared.fault.Fault.{Fault}
+use Rattle.mls_text.specs.declared.fault.Fault.TheVariants as fault
+use Rattle.mls_show.specs.Show.{page_of as show_page}
 use Rattle.mls_check.specs.Check.{check_page}
 use Rattle.mls_check.specs.Unchecked.{unchecked}
-use Rattle.mls_vectors.specs.VectorsReport.{vectors_output}
+use Rattle.mls_check.specs.declared.report.SuiteChecks.{SuiteChecks}
+use Rattle.mls_check.specs.declared.report.SuiteChecks.TheVariants.{Made, Left}
+use Rattle.mls_vectors.specs.VectorsReport.{entry_text, vectors_page}
 
--- the suite by which a tree is checked: for 0x0001 one that checks no signature and no key's form
+-- the suite by which a tree is checked, and whether it makes the checks that are its own functions
 abbrev pub crypto_of : SuiteChoice → Crypto
 crypto_of choice.Glass = glass
-crypto_of choice.X25519 = unchecked
+crypto_of choice.Unchecked = unchecked
+
+abbrev pub checks_of : SuiteChoice → SuiteChecks
+checks_of choice.Glass = Made
+checks_of choice.Unchecked = Left
 
 -- what a job prints for a file of this text
-abbrev pub output_for : Job → List ℕ → Output
-output_for (job.Show file) text = page_output (page_of text)
-output_for (job.Check file suite group) text = page_output (check_page (crypto_of suite) text group.now)
-output_for (job.Vectors file) text = vectors_output text
+abbrev pub printout_for : Job → List ℕ → Printout
+printout_for (job.Show file) text = printout line_text (show_page text)
+printout_for (job.Check file suite group) text = printout line_text (check_page (crypto_of suite) (checks_of suite) text group.now)
+printout_for (job.Vectors file) text = printout entry_text (vectors_page text)
 
--- the output grows by the text, with its status, or the status is 3 and it grows by a beginning
-abbrev pub Leaves : {W : Type 0} → (W → Option (List ℕ)) → W → W → ℕ → Output → Type 0
-Leaves contents old new status output =
-    (Appends (contents old) (contents new) output.text × (status ≡ output.status))
-    ⊎ ((status ≡ 3) × AppendsPart (contents old) (contents new) output.text)
+-- the output grows by the text, with its status, or the status is 3 and it grows by less than the text
+abbrev pub Leaves : Option (List ℕ) → Option (List ℕ) → ℕ → Printout → Type 0
+Leaves old new status p =
+    (Appends old new p.text × (status ≡ p.status))
+    ⊎ ((status ≡ 3) × Cut old new p.text)
 
 -- ---- what is said on the errors
 
 abbrev pub unreadable : List ℕ → List ℕ
-unreadable file = (codes "mls: cannot read " ++ file) ++ codes "\n"
+unreadable file = codes "mls: cannot read " ++ (file ++ codes "\n")
 
 abbrev pub out_of_memory : List ℕ
 out_of_memory = codes "mls: out of memory\n"
 
--- what is said of a fault; of a write that failed nothing
-abbrev pub fault_text : Fault → Job → List ℕ
-fault_text fault.OutOfMemory job = out_of_memory
-fault_text fault.Read job = unreadable (file_of job)
-fault_text fault.Write job = []
+-- what is said of a fault while a file is read and printed; of a write that failed nothing
+abbrev pub fault_text : List ℕ → Fault → List ℕ
+fault_text file fault.OutOfMemory = out_of_memory
+fault_text file fault.Read = unreadable file
+fault_text file fault.Write = []
 
--- A fault ends a job with status 3, and its text is said, or a beginning of it. A file that can't be read leaves the
--- output as it was.
-abbrev pub Stops : ℕ → Type 0 → Option (List ℕ) → Option (List ℕ) → Job → Fault → Type 0
-Stops status kept old new job why =
-    (status ≡ 3) × AppendsPart old new (fault_text why job) × (why ≡ fault.Read → kept)
+-- the errors grow by the text, or they have failed, and grow by less than that
+abbrev pub Said : Option (List ℕ) → Option (List ℕ) → Bool → List ℕ → Type 0
+Said old new failed text = Appends old new text ⊎ ((failed ≡ true) × AppendsPart old new text)
 
--- a job says nothing, or it stops at a fault
-abbrev pub Tells : ℕ → Type 0 → Option (List ℕ) → Option (List ℕ) → Job → Type 0
-Tells status kept old new job = ((status ≤ 1) × Keeps old new) ⊎ ((why : Fault) × Stops status kept old new job why)
+-- ---- what a fault comes of
 
--- ---- where the words name no job
+-- whether there is no file, or it has failed
+abbrev pub unread : {I : Type 0} → (I → Bool) → Option I → Bool
+unread failed None = true
+unread failed (Some file) = failed file
 
-abbrev pub IsHelp : Error → Type 0
-IsHelp e = (kind_of e ≡ kind.DisplayHelp) ⊎ (kind_of e ≡ kind.DisplayVersion)
+-- a file that can't be read, else an output that has failed, else want of memory
+abbrev pub cause : Bool → Bool → Fault
+cause true written = fault.Read
+cause false true = fault.Write
+cause false false = fault.OutOfMemory
 
-abbrev pub IsMistake : Error → Type 0
-IsMistake e = (kind_of e ≢ kind.DisplayHelp) × (kind_of e ≢ kind.DisplayVersion) × (kind_of e ≢ kind.OutOfMemory)
+-- ---- how the program ends
 
--- Status 3, and nothing is said but that memory ran out, or a beginning of it.
-abbrev pub Wants : ℕ → Option (List ℕ) → Option (List ℕ) → Type 0
-Wants status old new = (status ≡ 3) × AppendsPart old new out_of_memory
+-- A job's end, by whether its file can't be read and whether its output has failed: a status of the job, where nothing
+-- has failed and nothing is said; or 3, and what has failed is said.
+abbrev pub Ends : List ℕ → ℕ → Bool → Bool → Option (List ℕ) → Option (List ℕ) → Bool → Type 0
+Ends file status unreadable written old new failed =
+    ((status ≤ 1) × (unreadable ≡ false) × (written ≡ false) × Keeps old new)
+    ⊎ ((status ≡ 3) × Said old new failed (fault_text file (cause unreadable written)))
 
--- A request for help is answered with 0, and nothing is said on the errors. A mistake is answered with 2, and the
--- output stays as it was; so it does where memory had run out before. Want of memory, or of room for help, ends with 3.
-abbrev pub Usage : Error → ℕ → Type 0 → Option (List ℕ) → Option (List ℕ) → Type 0
-Usage e status kept old new =
-    (IsHelp e → ((status ≡ 0) × Keeps old new) ⊎ Wants status old new)
-    × (IsMistake e → kept × ((status ≡ 2) ⊎ Wants status old new))
-    × (kind_of e ≡ kind.OutOfMemory → kept × Wants status old new)
+-- a text is written, with status 0; or it can't be, with status 3
+abbrev pub ShowsHelp : List ℕ → ℕ → Option (List ℕ) → Option (List ℕ) → Bool → Option (List ℕ) → Option (List ℕ) → Bool → Type 0
+ShowsHelp text status out_old out_new written old new failed =
+    ((status ≡ 0) × Appends out_old out_new text × (written ≡ false) × Keeps old new)
+    ⊎ ((status ≡ 3) × AppendsPart out_old out_new text × Said old new failed (fault_text [] (cause false written)))
+
+-- Without a job: help is written. A mistake is said, with status 2, and
+-- so is want of memory, with 3; the output stays as it was.
+abbrev pub EndsUnasked : NoJob → ℕ → Option (List ℕ) → Option (List ℕ) → Bool → Option (List ℕ) → Option (List ℕ) → Bool → Type 0
+EndsUnasked (no_job.Shown text) status out_old out_new written old new failed =
+    ShowsHelp (string_bytes text) status out_old out_new written old new failed
+EndsUnasked (no_job.Mistaken text) status out_old out_new written old new failed =
+    (status ≡ 2) × Keeps out_old out_new × Said old new failed (string_bytes text)
+EndsUnasked no_job.OutOfMemory status out_old out_new written old new failed =
+    (status ≡ 3) × Keeps out_old out_new × Said old new failed out_of_memory

@@ -3,13 +3,20 @@
 ghost use Rattle.std.specs.Prelude.{◌≡◌, map, true, false, codes, Ok, Err, Some, None, IfOk, IfErr, IsSome, OnOk, ◌⊎◌, ◌∷◌, [], option_map};
 ghost use Rattle.clap.specs.Words.{app_of, shape_of, first_of, found_of, kind_of, rows_of, rule_of, subcommand_of, subcommand_rows_of, takes, fault_of, FailsBy, HasKind};
 ghost use Rattle.clap.specs.declared.Command.TheViews.{out-Command as fields_of};
-ghost use Rattle.mls_cli.specs.Arguments.{check, check_app, check_on, file_rule, group_rule, mls, on_file, show, suite_of, suite_rule, task_of, task_on, vectors, view};
+ghost use Rattle.mls_cli.specs.Arguments.{ComesOf, Explains, check, check_app, check_on, file_rule, group_rule, mls, needing_one, on_file, show, suite_of, suite_rule, task_of, task_on, vectors, view};
 
-use crate::tasks::{Job, SuiteChoice};
+use crate::tasks::{Job, NoJob, SuiteChoice};
 use clap::error::ErrorKind;
 use clap::{Arg, ArgMatches, Command, Error};
 use std::alloc::{AllocError, Global};
 use std::convert::AsStr;
+
+/// What `--version` says behind the program's name.
+const VERSION: &str = "0.1.0";
+
+/// What stands below the usage.
+const EXIT_STATUS: &str =
+    "Exit status:\n  0  the content is good\n  1  it is refused, or vectors fail\n  2  the command line is wrong\n  3  a file, the output or memory failed";
 
 fn file_arg<'a>(alloc: Global, help: &'a str) -> Arg<'a>
     ensures rule { rule_of result ≡ file_rule }
@@ -59,10 +66,21 @@ fn check_command<'a>(alloc: Global) -> Result<Command<'a>, AllocError>
         alloc,
         "check",
         "Checks a ratchet tree",
-        "A ratchet tree in hex",
+        "A ratchet tree in hex, or - for the standard input",
     )?;
     let with_suite = command.arg(suite_arg(alloc))?;
     with_suite.arg(group_arg(alloc))
+}
+
+/// What help says of the whole, and that a subcommand is required.
+fn described<'a>(command: Command<'a>) -> Command<'a>
+    ensures { app_of result ≡ needing_one (app_of command.entry) }
+{
+    command
+        .about("Shows and checks messages of Messaging Layer Security (RFC 9420)")
+        .after_help(EXIT_STATUS)
+        .version(VERSION)
+        .subcommand_required(true)
 }
 
 /// The command line: one of the subcommands, each with a FILE.
@@ -73,19 +91,19 @@ fn command<'a>(alloc: Global) -> Result<Command<'a>, AllocError>
         alloc,
         "show",
         "Prints a message field by field",
-        "An MLSMessage in hex",
+        "An MLSMessage in hex, or - for the standard input",
     )?;
     let check = check_command(alloc)?;
     let vectors = file_command(
         alloc,
         "vectors",
         "Judges test vectors",
-        "A JSON array of vectors",
+        "A JSON array of vectors, or - for the standard input",
     )?;
     let first = Command::new(alloc, "mls").subcommand(show)?;
     let second = first.subcommand(check)?;
     let all = second.subcommand(vectors)?;
-    Ok(all.subcommand_required(true))
+    Ok(described(all))
 }
 
 /// The suite that a text names.
@@ -94,7 +112,7 @@ fn suite_of(text: &str) -> Option<SuiteChoice>
 {
     match text {
         "f001" => Some(SuiteChoice::Glass),
-        "0001" => Some(SuiteChoice::X25519),
+        "0001" => Some(SuiteChoice::Unchecked),
         _ => None,
     }
 }
@@ -126,23 +144,22 @@ fn job_on<'a>(name: &str, matches: &ArgMatches<'a>, file: &'a str) -> Option<Job
     }
 }
 
-/// The job that the words name, the program's own name first. A fault is `clap`'s own error: its
-/// text goes where `use_stderr` says.
-pub fn job<'a, S: AsStr>(alloc: Global, words: &'a [S]) -> Result<Job<'a>, Error>
+/// The job that the words name, the program's own name first.
+pub fn job<'a, S: AsStr>(alloc: Global, words: &'a [S]) -> Result<Job<'a>, NoJob>
     // It is the subcommand and the FILE of clap's matches.
     ensures named { IfOk result (λ job. task_of (subcommand_of mls (map S.text words.entry.now)) ≡ Some (view job)) }
     // It comes only where clap finds no fault in the words.
     ensures faultless { OnOk result (fault_of mls (map S.text words.entry.now) ≡ []) }
     // Where clap finds a fault, it is the first that clap finds, unless memory runs out. Where it finds
     // none, memory is wanting, or the matches name no job.
-    ensures fault { IfErr result (λ e. HasKind (fault_of mls (map S.text words.entry.now)) e
-        ⊎ ((fault_of mls (map S.text words.entry.now) ≡ []) × (task_of (subcommand_of mls (map S.text words.entry.now)) ≡ None)
-        × (kind_of e ≡ ErrorKind.ValueValidation))) }
+    ensures fault { IfErr result (Explains (fault_of mls (map S.text words.entry.now)) (task_of (subcommand_of mls (map S.text words.entry.now)))) }
 {
-    let matches = parsed(alloc, words)?;
-    match found_in(&matches) {
-        Some(job) => Ok(job),
-        None => Err(value_refused(alloc)?),
+    match parsed(alloc, words) {
+        Ok(matches) => match found_in(&matches) {
+            Some(job) => Ok(job),
+            None => Err(suite_refused(alloc, suite_in(&matches))),
+        },
+        Err(error) => Err(no_job(alloc, &error)),
     }
 }
 
@@ -154,10 +171,71 @@ fn parsed<'a, S: AsStr>(alloc: Global, words: &'a [S]) -> Result<ArgMatches<'a>,
     command(alloc)?.try_get_matches_from(words)
 }
 
-fn value_refused(alloc: Global) -> Result<Error, AllocError>
-    ensures { IfOk result (λ e. kind_of e ≡ ErrorKind.ValueValidation) }
+/// The text of clap's error, and where it goes.
+fn no_job(alloc: Global, error: &Error) -> NoJob
+    ensures { ComesOf result (kind_of error.now) }
 {
-    command(alloc)?.error(ErrorKind::ValueValidation, "--suite takes f001 or 0001")
+    if error.kind() == ErrorKind::OutOfMemory {
+        return NoJob::OutOfMemory;
+    }
+    match error.to_string(alloc) {
+        Ok(text) => {
+            if error.use_stderr() {
+                NoJob::Mistaken(text)
+            } else {
+                NoJob::Shown(text)
+            }
+        }
+        Err(_) => NoJob::OutOfMemory,
+    }
+}
+
+/// That no suite has the name.
+fn suite_refused(alloc: Global, suite: &str) -> NoJob
+    ensures { ComesOf result ErrorKind.InvalidValue }
+{
+    match suite_error(alloc, suite) {
+        Ok(error) => no_job(alloc, &error),
+        Err(_) => NoJob::OutOfMemory,
+    }
+}
+
+/// As clap says it of a value that isn't among those that are possible, with the usage of `mls check`.
+fn suite_error(alloc: Global, suite: &str) -> Result<Error, AllocError>
+    ensures { IfOk result (λ e. kind_of e ≡ ErrorKind.InvalidValue) }
+{
+    let message = format!(in alloc;
+        "invalid value '{suite}' for '--suite <SUITE>'\n  [possible values: f001, 0001]"
+    )?;
+    let mut check = check_command(alloc)?.bin_name("mls check")?;
+    check.error(ErrorKind::InvalidValue, message.as_str())
+}
+
+/// The suite that the words name.
+fn suite_in<'a>(matches: &ArgMatches<'a>) -> &'a str {
+    match matches.subcommand() {
+        Some((_, inner)) => inner.get_str("SUITE").unwrap_or(""),
+        None => "",
+    }
+}
+
+/// A word of the command line is no text.
+pub fn no_text(alloc: Global) -> NoJob
+    ensures { ComesOf result ErrorKind.InvalidValue }
+{
+    match no_text_error(alloc) {
+        Ok(error) => no_job(alloc, &error),
+        Err(_) => NoJob::OutOfMemory,
+    }
+}
+
+fn no_text_error(alloc: Global) -> Result<Error, AllocError>
+    ensures { IfOk result (λ e. kind_of e ≡ ErrorKind.InvalidValue) }
+{
+    command(alloc)?.error(
+        ErrorKind::InvalidValue,
+        "invalid UTF-8 was detected in one or more arguments",
+    )
 }
 
 fn value_of<'a>(matches: &ArgMatches<'a>, id: &str) -> Option<&'a str>
@@ -180,15 +258,16 @@ fn found_in<'a>(matches: &ArgMatches<'a>) -> Option<Job<'a>>
     job_on(name, inner, file)
 }
 
-/// Help is found first, and a job's words have no fault.
+/// Help is found first, so is the version, and a job's words have no fault.
 pub fn examples()
     ensures help { fault_of mls (codes "mls" ∷ codes "show" ∷ codes "--help" ∷ []) ≡ ErrorKind.DisplayHelp ∷ [] }
+    ensures version { fault_of mls (codes "mls" ∷ codes "--version" ∷ []) ≡ ErrorKind.DisplayVersion ∷ [] }
     ensures missing { fault_of mls (codes "mls" ∷ codes "show" ∷ []) ≡ ErrorKind.MissingRequiredArgument ∷ [] }
     ensures shows { task_of (subcommand_of mls (codes "mls" ∷ codes "show" ∷ codes "a" ∷ [])) ≡ Some (show (codes "a")) }
     ensures judges { task_of (subcommand_of mls (codes "mls" ∷ codes "vectors" ∷ codes "a" ∷ [])) ≡ Some (vectors (codes "a")) }
     ensures checks { task_of (subcommand_of mls (codes "mls" ∷ codes "check" ∷ codes "a" ∷ [])) ≡ Some (check (codes "a") SuiteChoice.Glass []) }
     ensures chosen { task_of (subcommand_of mls (codes "mls" ∷ codes "check" ∷ codes "a" ∷ codes "--suite" ∷ codes "0001" ∷ codes "--group=67" ∷ []))
-        ≡ Some (check (codes "a") SuiteChoice.X25519 (codes "67")) }
+        ≡ Some (check (codes "a") SuiteChoice.Unchecked (codes "67")) }
     ensures other { task_of (subcommand_of mls (codes "mls" ∷ codes "check" ∷ codes "a" ∷ codes "--suite=f002" ∷ [])) ≡ None }
     ensures taken { fault_of mls (codes "mls" ∷ codes "show" ∷ codes "a" ∷ []) ≡ [] }
 {}

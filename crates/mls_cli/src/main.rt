@@ -1,28 +1,27 @@
-//! `mls`: shows messages of Messaging Layer Security (RFC 9420).
+//! `mls`: shows and checks messages of Messaging Layer Security (RFC 9420).
 #![tactic(auto)]
 
-ghost use Rattle.std.specs.Prelude.{◌≡◌, ◌≤◌, map, IfOk, string_bytes};
+ghost use Rattle.std.specs.Prelude.{◌≡◌, map, false, IfOk, IfSome, string_bytes};
+ghost use Rattle.mls_text.specs.Ends.{in_failed};
 ghost use Rattle.mls_cli.specs.Arguments.{named_mls};
 
 mod arguments;
 mod serving;
+mod source;
 mod tasks;
 
-use arguments::job;
-use serving::{out_of_memory, serve};
+use arguments::{job, no_text};
+use mls_text::{In, Out};
+use serving::serve;
+use source::Source;
 use std::alloc::{AllocError, Global};
 use std::fs::File;
-use std::io;
+use std::io::ErrorKind;
 use std::process::ExitCode;
+use tasks::{Job, NoJob};
 
 fn main(rt: HostRuntime) -> ExitCode {
-    match run(&rt) {
-        Ok(status) => ExitCode::from(status),
-        Err(_) => {
-            out_of_memory(&mut rt.stderr());
-            ExitCode::from(3)
-        }
-    }
+    ExitCode::from(run(&rt))
 }
 
 /// The words with `mls` as the first, since usage texts name the program by it.
@@ -35,25 +34,60 @@ fn named_mls(alloc: Global, mut words: Vec<String>) -> Result<Vec<String>, Alloc
     Ok(words)
 }
 
-/// Serves the job that the words name, and answers the exit status.
-fn run(rt: &HostRuntime) -> io::Result<u8>
-    ensures { IfOk result (λ status. status ≤ 3) }
-{
+/// The words of the command line.
+fn words_in(rt: &HostRuntime) -> Result<Vec<String>, NoJob> {
     let alloc = rt.alloc();
-    let words: Vec<String> = std::env::args(rt)?.collect(alloc)?;
-    let words = named_mls(alloc, words)?;
-    let job = job(alloc, words.as_slice());
-    let mut file = match &job {
-        Ok(job) => File::open(rt, job.file()).ok(),
+    match std::env::args(rt) {
+        Ok(words) => Ok(named_mls(alloc, words.collect(alloc)?)?),
+        Err(error) => {
+            if error.kind() == ErrorKind::OutOfMemory {
+                Err(NoJob::OutOfMemory)
+            } else {
+                Err(no_text(alloc))
+            }
+        }
+    }
+}
+
+/// What stands under a path, if it can be opened: `-` is the standard input.
+fn opened(rt: &HostRuntime, path: &str) -> Option<In<Source>>
+    ensures { IfSome result (λ source. in_failed source ≡ false) }
+{
+    if path == "-" {
+        return Some(In::new(Source::Standard(rt.stdin())));
+    }
+    match File::open(rt, path) {
+        Ok(file) => Some(In::new(Source::Opened(file))),
         Err(_) => None,
-    };
-    Ok(serve(
-        alloc,
-        &job,
-        file.as_mut(),
-        &mut rt.stdout(),
-        &mut rt.stderr(),
-    ))
+    }
+}
+
+/// What the job reads, if there is a job and its file can be opened.
+fn file_of(rt: &HostRuntime, job: &Result<Job<'_>, NoJob>) -> Option<In<Source>>
+    ensures { IfSome result (λ source. in_failed source ≡ false) }
+{
+    match job {
+        Ok(job) => opened(rt, job.file()),
+        Err(_) => None,
+    }
+}
+
+/// Serves the job that the words name, and answers the exit status.
+fn run(rt: &HostRuntime) -> u8 {
+    let alloc = rt.alloc();
+    let mut out = Out::new(rt.stdout());
+    let mut err = Out::new(rt.stderr());
+    match words_in(rt) {
+        Ok(words) => {
+            let job = job(alloc, words.as_slice());
+            let mut file = file_of(rt, &job);
+            serve(alloc, &job, &mut file, &mut out, &mut err)
+        }
+        Err(no_job) => {
+            let mut none: Option<In<Source>> = None;
+            serve(alloc, &Err(no_job), &mut none, &mut out, &mut err)
+        }
+    }
 }
 
 #[cfg(test)]

@@ -1,146 +1,201 @@
-//! The jobs of the program, over any reader of FILE and any two writers.
+//! The jobs of the program, over any FILE, any output and any writer of errors.
 
-ghost use Rattle.std.specs.Prelude.{◌≡◌, ◌≤◌, Ok, Some, None, IfOk, IfErr, IfSome, IsErrOf, IsNone};
-ghost use Rattle.std.specs.Io.KnownBytes.{Keeps};
+ghost use Rattle.std.specs.Prelude.{is_some, ◌≡◌, ◌≢◌, ◌≤◌, [], true, false, Ok, Err, Some, None, IfOk, IfErr, IfSome, OnOk, OnErr};
+ghost use Rattle.std.specs.Io.KnownBytes.{Appends, Keeps};
+ghost use Rattle.mls_text.specs.Ends.{AppendsPart, out_failed, out_writer, read_failed, write_failed};
+ghost use Rattle.mls_text.specs.Page.{Prints, page_of};
+ghost use Rattle.mls_text.specs.Text.{entry_of};
+ghost use Rattle.mls_check.specs.Check.{check_page};
 ghost use Rattle.mls_cli.specs.Arguments.{file_of};
-ghost use Rattle.mls_text.specs.Engine.{AppendsPart, Puts};
-ghost use Rattle.mls_cli.specs.Serving.{Leaves, Tells, Usage, fault_text, out_of_memory as memory_text, output_for, unreadable};
+ghost use Rattle.mls_cli.specs.Serving.{Ends, EndsUnasked, Leaves, Said, ShowsHelp, checks_of, crypto_of, fault_text, out_of_memory as memory_text, printout_for, unread, unreadable};
 
-use crate::tasks::{Job, SuiteChoice};
-use clap::Error;
-use clap::error::ErrorKind;
-use mls_check::{Unchecked, check};
-use mls_show::show;
+use crate::tasks::{Job, NoJob, SuiteChoice};
+use mls_check::{SuiteChecks, Unchecked, check_page};
+use mls_show::show_page;
 use mls_suite::Glass;
-use mls_text::{Fault, put};
-use mls_vectors::vectors;
-use std::alloc::Global;
-use std::io::{Read, Write};
+use mls_text::{Fault, Input, Line, Out, Output, Page, print_made_page};
+use mls_vectors::vectors_page;
+use std::alloc::{AllocError, Global};
+use std::io::Write;
 
 /// Serves a job, or says why there is none, and answers the exit status: 0 good, 1 refused content,
 /// 2 usage, 3 a fault of the file, the output or memory. The file is None where it can't be opened.
-pub fn serve<R: Read + Drop, W: Write, E: Write>(
+pub fn serve<I: Input, O: Output, E: Write>(
     alloc: Global,
-    job: &Result<Job<'_>, Error>,
-    file: Option<R>,
-    out: &mut W,
-    err: &mut E,
+    job: &Result<Job<'_>, NoJob>,
+    file: &mut Option<I>,
+    out: &mut O,
+    err: &mut Out<E>,
 ) -> u8
-    ensures status { result ≤ 3 }
+    requires fresh_file { IfSome file.old (λ reader. I.failed reader ≡ false) }
+    requires fresh_out { O.failed out.old ≡ false }
     // The output grows by what the job prints for the text that the reader had.
-    ensures prints { IfOk job.now (λ j. IfSome file (λ reader. IfSome (R.remaining reader) (λ text. Leaves W.contents out.old out.new result (output_for j text)))) }
-    // The errors stay as they were, or grow by what is said of a fault.
-    ensures tells { IfOk job.now (λ j. Tells result (Keeps (W.contents out.old) (W.contents out.new)) (E.contents err.old) (E.contents err.new) j) }
-    // Without a file nothing is written but that it can't be read.
-    ensures missing { IfOk job.now (λ j. IsNone file → (result ≡ 3) × Keeps (W.contents out.old) (W.contents out.new)
-        × AppendsPart (E.contents err.old) (E.contents err.new) (unreadable (file_of j))) }
-    // Without a job the words were a mistake or a request for help, or memory ran out.
-    ensures usage { IfErr job.now (λ e. Usage e result (Keeps (W.contents out.old) (W.contents out.new)) (E.contents err.old) (E.contents err.new)) }
+    ensures prints { IfOk job.now (λ j. IfSome file.old (λ reader. IfSome (I.remaining reader) (λ text.
+        Leaves (O.contents out.old) (O.contents out.new) result (printout_for j text)))) }
+    // Either nothing failed and nothing is said, or the status is 3 and what failed is said.
+    ensures ends { IfOk job.now (λ j. Ends (file_of j) result (unread I.failed file.new) (O.failed out.new)
+        (E.contents (out_writer err.old)) (E.contents (out_writer err.new)) (out_failed err.new)) }
+    // A file that can't be read leaves the output as it was.
+    ensures unread { IfOk job.now (λ j. unread I.failed file.new ≡ true → Keeps (O.contents out.old) (O.contents out.new)) }
+    // Without a job help or the version is written, or a mistake or want of memory said.
+    ensures unasked { IfErr job.now (λ e. EndsUnasked e result (O.contents out.old) (O.contents out.new) (O.failed out.new)
+        (E.contents (out_writer err.old)) (E.contents (out_writer err.new)) (out_failed err.new)) }
+    ensures same { is_some file.new ≡ is_some file.old }
 {
     match job {
-        Ok(job) => match file {
-            Some(file) => serve_job(alloc, job, file, out, err),
-            None => {
-                cannot_read(job.file(), err);
-                3
-            }
-        },
-        Err(error) => usage(alloc, error, out, err),
+        Ok(job) => serve_job(alloc, job, file, out, err),
+        Err(no_job) => answer(no_job, out, err),
     }
 }
 
-fn serve_job<R: Read + Drop, W: Write, E: Write>(
+fn serve_job<I: Input, O: Output, E: Write>(
     alloc: Global,
     job: &Job<'_>,
-    mut file: R,
-    out: &mut W,
-    err: &mut E,
+    file: &mut Option<I>,
+    out: &mut O,
+    err: &mut Out<E>,
 ) -> u8
-    ensures prints { IfSome (R.remaining file) (λ text. Leaves W.contents out.old out.new result (output_for job.now text)) }
-    ensures tells { Tells result (Keeps (W.contents out.old) (W.contents out.new)) (E.contents err.old) (E.contents err.new) job.now }
+    requires fresh_file { IfSome file.old (λ reader. I.failed reader ≡ false) }
+    requires fresh_out { O.failed out.old ≡ false }
+    ensures prints { IfSome file.old (λ reader. IfSome (I.remaining reader) (λ text.
+        Leaves (O.contents out.old) (O.contents out.new) result (printout_for job.now text))) }
+    ensures ends { Ends (file_of job.now) result (unread I.failed file.new) (O.failed out.new)
+        (E.contents (out_writer err.old)) (E.contents (out_writer err.new)) (out_failed err.new) }
+    ensures unread { unread I.failed file.new ≡ true → Keeps (O.contents out.old) (O.contents out.new) }
+    ensures same { is_some file.new ≡ is_some file.old }
 {
-    match print_job(alloc, job, &mut file, out) {
-        Ok(status) => status,
-        Err(fault) => {
-            say(fault, job, err);
+    match file {
+        None => {
+            say(Fault::Read, job.file(), err);
+            3
+        }
+        Some(reader) => match print_job(alloc, job, reader, out) {
+            Ok(status) => status,
+            Err(fault) => {
+                say(fault, job.file(), err);
+                3
+            }
+        },
+    }
+}
+
+/// Prints what the job asks for, and answers the exit status.
+fn print_job<I: Input, O: Output>(
+    alloc: Global,
+    job: &Job<'_>,
+    file: &mut I,
+    out: &mut O,
+) -> Result<u8, Fault>
+    ensures prints { IfSome (I.remaining file.old) (λ text. Prints (O.contents out.old) (O.contents out.new) result (printout_for job.now text)) }
+    ensures status { IfOk result (λ status. status ≤ 1) }
+    // A fault of the output comes just where a write has failed, and one of the file where a read has.
+    ensures write { O.failed out.new ≡ write_failed (O.failed out.old) result }
+    ensures read { I.failed file.new ≡ read_failed (I.failed file.old) result }
+    ensures unread { result ≡ Err Fault.Read → Keeps (O.contents out.old) (O.contents out.new) }
+{
+    let text = file.read_all(alloc)?;
+    print_text(alloc, job, text.as_slice(), out)
+}
+
+/// Prints what the job asks for of a file's text.
+fn print_text<O: Output>(
+    alloc: Global,
+    job: &Job<'_>,
+    text: &[u8],
+    out: &mut O,
+) -> Result<u8, Fault>
+    ensures prints { Prints (O.contents out.old) (O.contents out.new) result (printout_for job.now text.now) }
+    ensures status { IfOk result (λ status. status ≤ 1) }
+    ensures write { O.failed out.new ≡ write_failed (O.failed out.old) result }
+    ensures written { IfErr result (λ e. e ≢ Fault.Read) }
+{
+    match job {
+        Job::Show { .. } => print_made_page(alloc, show_page(alloc, text), out),
+        Job::Check { suite, group, .. } => {
+            print_made_page(alloc, checked(alloc, *suite, text, group), out)
+        }
+        Job::Vectors { .. } => print_made_page(alloc, vectors_page(alloc, text), out),
+    }
+}
+
+/// What is printed of a tree's file under the chosen suite.
+fn checked(
+    alloc: Global,
+    suite: SuiteChoice,
+    text: &[u8],
+    group: &str,
+) -> Result<Page<Line>, AllocError>
+    ensures { IfOk result (λ page. page_of entry_of page ≡ check_page (crypto_of suite) (checks_of suite) text.now group.now) }
+{
+    match suite {
+        SuiteChoice::Glass => check_page::<Glass>(alloc, SuiteChecks::Made, text, group),
+        SuiteChoice::Unchecked => check_page::<Unchecked>(alloc, SuiteChecks::Left, text, group),
+    }
+}
+
+/// Says why the program stopped.
+fn say<E: Write>(fault: Fault, file: &str, err: &mut Out<E>)
+    ensures { Said (E.contents (out_writer err.old)) (E.contents (out_writer err.new)) (out_failed err.new) (fault_text file.now fault) }
+{
+    match fault {
+        Fault::OutOfMemory => say_out_of_memory(err),
+        Fault::Read => say_unreadable(file, err),
+        Fault::Write => {}
+    }
+}
+
+fn say_out_of_memory<E: Write>(err: &mut Out<E>)
+    ensures { Said (E.contents (out_writer err.old)) (E.contents (out_writer err.new)) (out_failed err.new) memory_text }
+{
+    let _ = err.put(b"mls: out of memory\n");
+}
+
+fn say_unreadable<E: Write>(file: &str, err: &mut Out<E>)
+    ensures { Said (E.contents (out_writer err.old)) (E.contents (out_writer err.new)) (out_failed err.new) (unreadable file.now) }
+{
+    let _ = put_unreadable(file, err);
+}
+
+fn put_unreadable<E: Write>(file: &str, err: &mut Out<E>) -> Result<(), Fault>
+    ensures whole { OnOk result (Appends (E.contents (out_writer err.old)) (E.contents (out_writer err.new)) (unreadable file.now)) }
+    ensures part { OnErr result (AppendsPart (E.contents (out_writer err.old)) (E.contents (out_writer err.new)) (unreadable file.now)) }
+    ensures fault { out_failed err.new ≡ write_failed (out_failed err.old) result }
+    ensures written { IfErr result (λ e. e ≡ Fault.Write) }
+{
+    err.put(b"mls: cannot read ")?;
+    err.put(file.as_bytes())?;
+    err.put(b"\n")
+}
+
+/// Help goes to the output with status 0, a mistake to the errors with status 2.
+fn answer<O: Output, E: Write>(no_job: &NoJob, out: &mut O, err: &mut Out<E>) -> u8
+    requires { O.failed out.old ≡ false }
+    ensures { EndsUnasked no_job.now result (O.contents out.old) (O.contents out.new) (O.failed out.new)
+        (E.contents (out_writer err.old)) (E.contents (out_writer err.new)) (out_failed err.new) }
+{
+    match no_job {
+        NoJob::Shown(text) => show_help(text.as_str(), out, err),
+        NoJob::Mistaken(text) => {
+            let _ = err.put(text.as_bytes());
+            2
+        }
+        NoJob::OutOfMemory => {
+            say_out_of_memory(err);
             3
         }
     }
 }
 
-/// Prints what the job asks for, and answers the exit status.
-fn print_job<R: Read, W: Write>(
-    alloc: Global,
-    job: &Job<'_>,
-    file: &mut R,
-    out: &mut W,
-) -> Result<u8, Fault>
-    ensures prints { IfSome (R.remaining file.old) (λ text. Puts W.contents out.old out.new result (output_for job.now text)) }
-    ensures status { IfOk result (λ status. status ≤ 1) }
-    ensures unread { IsErrOf result Fault.Read → Keeps (W.contents out.old) (W.contents out.new) }
+fn show_help<O: Output, E: Write>(text: &str, out: &mut O, err: &mut Out<E>) -> u8
+    requires { O.failed out.old ≡ false }
+    ensures { ShowsHelp text.now result (O.contents out.old) (O.contents out.new) (O.failed out.new)
+        (E.contents (out_writer err.old)) (E.contents (out_writer err.new)) (out_failed err.new) }
 {
-    match job {
-        Job::Show { .. } => show(alloc, file, out),
-        Job::Check { suite, group, .. } => match suite {
-            SuiteChoice::Glass => check::<Glass, R, W>(alloc, file, group, out),
-            SuiteChoice::X25519 => check::<Unchecked, R, W>(alloc, file, group, out),
-        },
-        Job::Vectors { .. } => vectors(alloc, file, out),
-    }
-}
-
-/// Says why the program stopped, as far as that can be written.
-fn say<E: Write>(fault: Fault, job: &Job<'_>, err: &mut E)
-    ensures { AppendsPart (E.contents err.old) (E.contents err.new) (fault_text fault job.now) }
-{
-    match fault {
-        Fault::OutOfMemory => out_of_memory(err),
-        Fault::Read => cannot_read(job.file(), err),
-        Fault::Write => {}
-    }
-}
-
-/// Says that memory ran out, as far as that can be written.
-pub fn out_of_memory<E: Write>(err: &mut E)
-    ensures { AppendsPart (E.contents err.old) (E.contents err.new) memory_text }
-{
-    let _ = put(err, b"mls: out of memory\n");
-}
-
-/// Says that a file can't be read, as far as that can be written.
-fn cannot_read<E: Write>(file: &str, err: &mut E)
-    ensures { AppendsPart (E.contents err.old) (E.contents err.new) (unreadable file.now) }
-{
-    let _ = put_unreadable(file, err);
-}
-
-fn put_unreadable<E: Write>(file: &str, err: &mut E) -> Result<(), Fault>
-    ensures { AppendsPart (E.contents err.old) (E.contents err.new) (unreadable file.now) }
-{
-    put(err, b"mls: cannot read ")?;
-    put(err, file.as_bytes())?;
-    put(err, b"\n")
-}
-
-/// Help goes to the output with status 0, and a mistake to the errors with status 2.
-fn usage<W: Write, E: Write>(alloc: Global, error: &Error, out: &mut W, err: &mut E) -> u8
-    ensures status { result ≤ 3 }
-    ensures usage { Usage error.now result (Keeps (W.contents out.old) (W.contents out.new)) (E.contents err.old) (E.contents err.new) }
-{
-    if error.kind() == ErrorKind::OutOfMemory {
-        out_of_memory(err);
-        return 3;
-    }
-    let Ok(text) = error.to_string(alloc) else {
-        out_of_memory(err);
-        return 3;
-    };
-    if error.use_stderr() {
-        let _ = put(err, text.as_bytes());
-        return 2;
-    }
-    match put(out, text.as_bytes()) {
+    match out.put(text.as_bytes()) {
         Ok(()) => 0,
-        Err(_) => 3,
+        Err(fault) => {
+            say(fault, "", err);
+            3
+        }
     }
 }

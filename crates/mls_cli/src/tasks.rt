@@ -1,12 +1,14 @@
 //! What the program can be asked to do.
 
+use std::alloc::AllocError;
+
 /// A cipher suite under which a tree can be checked.
 #[derive(Clone, Copy, Debug, PartialEq, Eq)]
 pub enum SuiteChoice {
     /// 0xF001, the practice suite.
     Glass,
-    /// 0x0001, of which no signature and no form of a key is checked.
-    X25519,
+    /// 0x0001, by a suite that checks no signature and no form of a key.
+    Unchecked,
 }
 
 /// What the program is asked to do, as the words of its command line name it.
@@ -14,12 +16,12 @@ pub enum SuiteChoice {
 pub enum Job<'a> {
     /// Print the MLSMessage that stands as hex digits in a file.
     Show {
-        /// The file's path.
+        /// The file's path, `-` for the standard input.
         file: &'a str,
     },
     /// Check the ratchet tree that stands as hex digits in a file.
     Check {
-        /// The file's path.
+        /// The file's path, `-` for the standard input.
         file: &'a str,
         /// The group's cipher suite.
         suite: SuiteChoice,
@@ -28,7 +30,7 @@ pub enum Job<'a> {
     },
     /// Judge the test vectors that stand as JSON in a file.
     Vectors {
-        /// The file's path.
+        /// The file's path, `-` for the standard input.
         file: &'a str,
     },
 }
@@ -44,5 +46,27 @@ impl<'a> Job<'a> {
         match self {
             Job::Show { file } | Job::Check { file, .. } | Job::Vectors { file } => file,
         }
+    }
+}
+
+/// Why the words of the command line name no job.
+#[derive(Debug, Drop)]
+pub enum NoJob {
+    /// Help or the version is asked for, with this text.
+    Shown(String),
+    /// The words are a mistake, of which this is said.
+    Mistaken(String),
+    /// A growth was refused.
+    OutOfMemory,
+}
+
+impl From<AllocError> for NoJob {
+    ghost use Rattle.std.specs.Prelude.{◌≡◌};
+    ghost use Rattle.mls_cli.specs.declared.tasks.NoJob.TheVariants.{OutOfMemory};
+
+    ghost from_gives = { λ _ e. e ≡ OutOfMemory };
+
+    fn from(_error: AllocError) -> NoJob {
+        NoJob::OutOfMemory
     }
 }

@@ -5,8 +5,11 @@ mod vectors;
 
 ghost use Rattle.std.specs.Prelude.{Some};
 
-use crate::arguments::job;
+use crate::arguments::{job, no_text};
 use crate::serving::serve;
+use crate::tasks::{Job, NoJob};
+use crate::tests::vectors::repeated;
+use mls_text::{In, Out};
 use std::alloc::{AllocError, Global};
 use std::io;
 use std::io::{ErrorKind, Read, Write};
@@ -25,28 +28,55 @@ const UNKNOWN: &str =
     "error: unrecognized subcommand 'replay'\n\nUsage: mls <COMMAND>\n\nFor more information, try '--help'.\n";
 
 const HELP: &str =
-    "Usage: mls <COMMAND>\n\nCommands:\n  show     Prints a message field by field\n  check    Checks a ratchet tree\n  vectors  Judges test vectors\n  help     Print this message or the help of the given subcommand(s)\n\nOptions:\n  -h, --help  Print help\n";
+    "Shows and checks messages of Messaging Layer Security (RFC 9420)\n\nUsage: mls <COMMAND>\n\nCommands:\n  show     Prints a message field by field\n  check    Checks a ratchet tree\n  vectors  Judges test vectors\n  help     Print this message or the help of the given subcommand(s)\n\nOptions:\n  -h, --help     Print help\n  -V, --version  Print version\n\nExit status:\n  0  the content is good\n  1  it is refused, or vectors fail\n  2  the command line is wrong\n  3  a file, the output or memory failed\n";
 
 const SHOW_HELP: &str =
-    "Prints a message field by field\n\nUsage: mls show <FILE>\n\nArguments:\n  <FILE>  An MLSMessage in hex\n\nOptions:\n  -h, --help  Print help\n";
+    "Prints a message field by field\n\nUsage: mls show <FILE>\n\nArguments:\n  <FILE>  An MLSMessage in hex, or - for the standard input\n\nOptions:\n  -h, --help  Print help\n";
+
+const NO_TEXT: &str =
+    "error: invalid UTF-8 was detected in one or more arguments\n\nUsage: mls <COMMAND>\n\nFor more information, try '--help'.\n";
+
+const OUT_OF_MEMORY: &str = "mls: out of memory\n";
+
+/// What the program leaves: its status, its output and its errors.
+#[derive(Drop)]
+struct Outcome {
+    status: u8,
+    out: Vec<u8>,
+    err: Vec<u8>,
+}
 
 /// Ends a test where the program found no memory: what it says then is right, but not what the test looks for.
 fn unless_out_of_memory(status: u8, err: &[u8]) -> Result<(), AllocError> {
-    if status == 3 && err == b"mls: out of memory\n".as_slice() {
+    if status == 3 && err == OUT_OF_MEMORY.as_bytes() {
         return Err(AllocError);
     }
     Ok(())
 }
 
+/// What the program leaves for words or the lack of them, and a file, where it can be opened.
+fn served(
+    alloc: Global,
+    job: &Result<Job<'_>, NoJob>,
+    file: Option<&[u8]>,
+) -> Result<Outcome, AllocError> {
+    let mut file = file;
+    let mut out = Vec::new(alloc);
+    let mut held = Vec::new(alloc);
+    let status = serve(alloc, job, &mut file, &mut out, &mut Out::new(&mut held));
+    unless_out_of_memory(status, held.as_slice())?;
+    Ok(Outcome {
+        status,
+        out,
+        err: held,
+    })
+}
+
 /// The status for words and a file, and what is printed: on the output, and behind it on the errors.
 pub fn printed(alloc: Global, words: &[&str], file: &[u8]) -> Result<(u8, Vec<u8>), AllocError> {
-    let job = job(alloc, words);
-    let mut out = Vec::new(alloc);
-    let mut err = Vec::new(alloc);
-    let status = serve(alloc, &job, Some(file), &mut out, &mut err);
-    unless_out_of_memory(status, &err)?;
-    out.extend_from_slice(err.as_slice())?;
-    Ok((status, out))
+    let mut left = served(alloc, &job(alloc, words), Some(file))?;
+    left.out.extend_from_slice(left.err.as_slice())?;
+    Ok((left.status, left.out))
 }
 
 /// Takes so many bytes, and then fails.
@@ -72,6 +102,13 @@ impl Write for Full {
     fn flush(&mut self) -> io::Result<()> {
         Ok(())
     }
+}
+
+/// A writer with so much room, which wants no memory later.
+fn with_room(alloc: Global, room: usize) -> Result<Full, AllocError> {
+    let mut held = Vec::new(alloc);
+    held.reserve(room)?;
+    Ok(Full { held, room })
 }
 
 /// Gives its bytes, and then fails.
@@ -182,6 +219,22 @@ fn shows_each_kind(rt: HostRuntime) -> Result<(), Fail> {
     Ok(())
 }
 
+/// A text longer than what one write of the system may take is written whole.
+#[test]
+fn shows_long_texts(rt: HostRuntime) -> Result<(), Fail> {
+    let alloc = rt.alloc();
+    let digits = repeated(alloc, "6a", 5000)?;
+    let file = format!(in alloc; "0001000101670000000000000000010000000200015388{digits}01aa01bb")?;
+    let text = format!(in alloc;
+        "message: public_message\nbytes: 5027\ngroup_id: 67\nepoch: 0\nsender: 2\nauthenticated_data: -\ncontent: application\ndata: {digits}\nsignature: aa\nmembership_tag: bb\n"
+    )?;
+    let words = ["mls", "show", "FILE"];
+    let (status, out) = printed(alloc, words.as_slice(), file.as_bytes())?;
+    assert_eq!(rt; status, 0);
+    assert!(rt; out.as_slice() == text.as_bytes());
+    Ok(())
+}
+
 #[test]
 fn says_what_is_wrong(rt: HostRuntime) -> Result<(), Fail> {
     let alloc = rt.alloc();
@@ -192,68 +245,121 @@ fn says_what_is_wrong(rt: HostRuntime) -> Result<(), Fail> {
         (&["mls", "replay", "FILE"], 2, UNKNOWN),
     ];
     for (words, status, text) in table {
-        let mut out = Vec::new(alloc);
-        let mut err = Vec::new(alloc);
-        let none: Option<&[u8]> = None;
-        let answer = serve(alloc, &job(alloc, words), none, &mut out, &mut err);
-        unless_out_of_memory(answer, &err)?;
-        assert_eq!(rt; answer, status);
-        assert!(rt; out.is_empty());
-        assert!(rt; err.as_slice() == text.as_bytes());
+        let left = served(alloc, &job(alloc, words), None)?;
+        assert_eq!(rt; left.status, status);
+        assert!(rt; left.out.is_empty());
+        assert!(rt; left.err.as_slice() == text.as_bytes());
     }
+    let left = served(alloc, &Err(no_text(alloc)), None)?;
+    assert_eq!(rt; left.status, 2);
+    assert!(rt; left.out.is_empty());
+    assert!(rt; left.err.as_slice() == NO_TEXT.as_bytes());
     Ok(())
 }
 
 #[test]
 fn prints_help(rt: HostRuntime) -> Result<(), Fail> {
     let alloc = rt.alloc();
-    let table: [(&[&str], &str); 3] = [
+    let table: [(&[&str], &str); 5] = [
         (&["mls", "--help"], HELP),
         (&["mls", "help", "show"], SHOW_HELP),
         (&["mls", "show", "--help"], SHOW_HELP),
+        (&["mls", "--version"], "mls 0.1.0\n"),
+        (&["mls", "-V"], "mls 0.1.0\n"),
     ];
     for (words, text) in table {
-        let mut out = Vec::new(alloc);
-        let mut err = Vec::new(alloc);
-        let none: Option<&[u8]> = None;
-        let answer = serve(alloc, &job(alloc, words), none, &mut out, &mut err);
-        unless_out_of_memory(answer, &err)?;
-        assert_eq!(rt; answer, 0);
-        assert!(rt; out.as_slice() == text.as_bytes());
-        assert!(rt; err.is_empty());
+        let left = served(alloc, &job(alloc, words), None)?;
+        assert_eq!(rt; left.status, 0);
+        assert!(rt; left.out.as_slice() == text.as_bytes());
+        assert!(rt; left.err.is_empty());
     }
     Ok(())
 }
 
 #[test]
-fn stops_at_a_fault(rt: HostRuntime) -> Result<(), Fail> {
+fn says_that_memory_is_wanting(rt: HostRuntime) -> Result<(), Fail> {
+    let alloc = rt.alloc();
+    let mut none: Option<&[u8]> = None;
+    let mut out = Vec::new(alloc);
+    let mut held = Vec::new(alloc);
+    let status = serve(
+        alloc,
+        &Err(NoJob::OutOfMemory),
+        &mut none,
+        &mut out,
+        &mut Out::new(&mut held),
+    );
+    assert_eq!(rt; status, 3);
+    assert!(rt; out.is_empty());
+    // The errors' own `Vec` may want memory too.
+    assert!(rt; held.as_slice() == OUT_OF_MEMORY.as_bytes() || held.is_empty());
+    Ok(())
+}
+
+#[test]
+fn stops_where_a_write_fails(rt: HostRuntime) -> Result<(), Fail> {
+    let alloc = rt.alloc();
+    let words: [&[&str]; 2] = [&["mls", "show", "FILE"], &["mls", "--help"]];
+    for (words, text) in words.into_iter().zip([TEXT, HELP]) {
+        // Each write fails in turn, and the last room takes all of the text.
+        for room in 0..text.len() + 1 {
+            let mut full = with_room(alloc, room)?;
+            let mut file = Some(KEY_PACKAGE.as_bytes());
+            let mut held = Vec::new(alloc);
+            let job = job(alloc, words);
+            let status = serve(
+                alloc,
+                &job,
+                &mut file,
+                &mut Out::new(&mut full),
+                &mut Out::new(&mut held),
+            );
+            unless_out_of_memory(status, held.as_slice())?;
+            assert_eq!(rt; status, if room < text.len() { 3 } else { 0 });
+            assert!(rt; full.held.as_slice() == &text.as_bytes()[..room]);
+            assert!(rt; held.is_empty());
+        }
+    }
+    Ok(())
+}
+
+#[test]
+fn stops_where_a_read_fails(rt: HostRuntime) -> Result<(), Fail> {
     let alloc = rt.alloc();
     let words = ["mls", "show", "FILE"];
     let job = job(alloc, words.as_slice());
-    let mut full = Full {
-        held: Vec::new(alloc),
-        room: 10,
-    };
-    let mut err = Vec::new(alloc);
-    let answer = serve(
-        alloc,
-        &job,
-        Some(KEY_PACKAGE.as_bytes()),
-        &mut full,
-        &mut err,
-    );
-    unless_out_of_memory(answer, &err)?;
-    assert_eq!(rt; answer, 3);
-    assert!(rt; full.held.as_slice() == b"message: k".as_slice());
-    assert!(rt; err.is_empty());
-    let mut out = Vec::new(alloc);
-    let broken = Broken {
-        rest: KEY_PACKAGE.as_bytes(),
-    };
-    let answer = serve(alloc, &job, Some(broken), &mut out, &mut err);
-    unless_out_of_memory(answer, &err)?;
-    assert_eq!(rt; answer, 3);
-    assert!(rt; out.is_empty());
-    assert!(rt; err.as_slice() == b"mls: cannot read FILE\n".as_slice());
+    for given in 0..KEY_PACKAGE.len() + 1 {
+        let mut out = Vec::new(alloc);
+        let mut held = Vec::new(alloc);
+        let mut broken = Some(In::new(Broken {
+            rest: &KEY_PACKAGE.as_bytes()[..given],
+        }));
+        let status = serve(alloc, &job, &mut broken, &mut out, &mut Out::new(&mut held));
+        unless_out_of_memory(status, held.as_slice())?;
+        assert_eq!(rt; status, 3);
+        assert!(rt; out.is_empty());
+        assert!(rt; held.as_slice() == b"mls: cannot read FILE\n".as_slice());
+    }
+    Ok(())
+}
+
+#[test]
+fn says_what_fails_as_far_as_it_can(rt: HostRuntime) -> Result<(), Fail> {
+    let alloc = rt.alloc();
+    let text = b"mls: cannot read FILE\n";
+    let words = ["mls", "show", "FILE"];
+    let job = job(alloc, words.as_slice());
+    for room in 0..text.len() + 1 {
+        let mut none: Option<&[u8]> = None;
+        let mut out = Vec::new(alloc);
+        let mut full = with_room(alloc, room)?;
+        let status = serve(alloc, &job, &mut none, &mut out, &mut Out::new(&mut full));
+        if let Err(NoJob::OutOfMemory) = &job {
+            return Err(Fail::from(AllocError));
+        }
+        assert_eq!(rt; status, 3);
+        assert!(rt; out.is_empty());
+        assert!(rt; full.held.as_slice() == &text.as_slice()[..room]);
+    }
     Ok(())
 }

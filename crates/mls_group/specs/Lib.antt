@@ -1,6 +1,8 @@
+pub mod Answered
 pub mod Enclosed
 pub mod GroupContext
 pub mod GroupInfo
+pub mod GroupInfoLaws
 pub mod UpdatePath
 pub mod Welcome
 pub use Rattle.mls_leaf.specs.Codecs

@@ -1,6 +1,7 @@
 //! Group contexts (RFC 9420, 8.1).
 
 ghost use Rattle.mls_group.specs.GroupContext.{group_context, group_context_nonempty};
+ghost use Rattle.mls_group.specs.Answered.{group_context_faults};
 
 use mls_leaf::{Bytes, Codec, LeafError, pass_empty, pass_mark};
 use mls_wire::{Reader, Writer};
@@ -25,6 +26,8 @@ impl Codec for GroupContext {
     ghost format = { group_context };
 
     ghost nonempty = { group_context_nonempty };
+
+    ghost faults = { group_context_faults };
 
     #[tactic(auto, using(mls_leaf::specs::Codecs::codecs), unfolding(crate::specs::GroupContext::group_context))]
     fn read(alloc: Global, reader: &mut Reader<'_>) -> Result<GroupContext, LeafError> {

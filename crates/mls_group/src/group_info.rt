@@ -2,6 +2,7 @@
 
 ghost use Rattle.mls_leaf.specs.Faults.{ReadsFront, ReadsPast, AddsSpelling};
 ghost use Rattle.mls_group.specs.GroupInfo.{group_info_extensions, group_info, group_info_nonempty};
+ghost use Rattle.mls_group.specs.Answered.{group_info_faults};
 
 use crate::group_context::GroupContext;
 use mls_leaf::{Bytes, Codec, Items, LeafError, pass_mark};
@@ -104,6 +105,8 @@ impl Codec for GroupInfo {
     ghost format = { group_info };
 
     ghost nonempty = { group_info_nonempty };
+
+    ghost faults = { group_info_faults };
 
     #[tactic(auto, using(mls_leaf::specs::Codecs::codecs), unfolding(crate::specs::GroupInfo::group_info))]
     fn read(alloc: Global, reader: &mut Reader<'_>) -> Result<GroupInfo, LeafError> {

@@ -1,6 +1,7 @@
 //! Update paths (RFC 9420, 7.6).
 
 ghost use Rattle.mls_group.specs.UpdatePath.{hpke_ciphertext, update_path_node, update_path, hpke_ciphertext_nonempty, update_path_node_nonempty, update_path_nonempty};
+ghost use Rattle.mls_group.specs.Answered.{hpke_ciphertext_faults, update_path_node_faults, update_path_faults};
 
 use mls_leaf::{Bytes, Codec, Items, LeafError, LeafNode};
 use mls_wire::{Reader, Writer};
@@ -38,6 +39,8 @@ impl Codec for HpkeCiphertext {
 
     ghost nonempty = { hpke_ciphertext_nonempty };
 
+    ghost faults = { hpke_ciphertext_faults };
+
     #[tactic(auto, using(mls_leaf::specs::Codecs::codecs), unfolding(crate::specs::UpdatePath::hpke_ciphertext))]
     fn read(alloc: Global, reader: &mut Reader<'_>) -> Result<HpkeCiphertext, LeafError> {
         let kem_output = Bytes::read(alloc, reader)?;
@@ -68,6 +71,8 @@ impl Codec for UpdatePathNode {
 
     ghost nonempty = { update_path_node_nonempty };
 
+    ghost faults = { update_path_node_faults };
+
     #[tactic(auto, using(mls_leaf::specs::Codecs::codecs), unfolding(crate::specs::UpdatePath::update_path_node))]
     fn read(alloc: Global, reader: &mut Reader<'_>) -> Result<UpdatePathNode, LeafError> {
         let encryption_key = Bytes::read(alloc, reader)?;
@@ -97,6 +102,8 @@ impl Codec for UpdatePath {
     ghost format = { update_path };
 
     ghost nonempty = { update_path_nonempty };
+
+    ghost faults = { update_path_faults };
 
     #[tactic(auto, using(mls_leaf::specs::Codecs::codecs), unfolding(crate::specs::UpdatePath::update_path))]
     fn read(alloc: Global, reader: &mut Reader<'_>) -> Result<UpdatePath, LeafError> {

@@ -1,6 +1,7 @@
 //! Welcomes, and what is sealed in them (RFC 9420, 12.4.3.1).
 
 ghost use Rattle.mls_group.specs.Welcome.{encrypted_group_secrets, group_secrets, welcome, encrypted_group_secrets_nonempty, group_secrets_nonempty, welcome_nonempty};
+ghost use Rattle.mls_group.specs.Answered.{encrypted_group_secrets_faults, group_secrets_faults, welcome_faults};
 
 use crate::update_path::HpkeCiphertext;
 use mls_leaf::{Bytes, Codec, Items, LeafError};
@@ -43,6 +44,8 @@ impl Codec for EncryptedGroupSecrets {
 
     ghost nonempty = { encrypted_group_secrets_nonempty };
 
+    ghost faults = { encrypted_group_secrets_faults };
+
     #[tactic(auto, using(mls_leaf::specs::Codecs::codecs), unfolding(crate::specs::Welcome::encrypted_group_secrets))]
     fn read(alloc: Global, reader: &mut Reader<'_>) -> Result<EncryptedGroupSecrets, LeafError> {
         let new_member = Bytes::read(alloc, reader)?;
@@ -72,6 +75,8 @@ impl Codec for GroupSecrets {
     ghost format = { group_secrets };
 
     ghost nonempty = { group_secrets_nonempty };
+
+    ghost faults = { group_secrets_faults };
 
     #[tactic(auto, using(mls_leaf::specs::Codecs::codecs), unfolding(crate::specs::Welcome::group_secrets))]
     fn read(alloc: Global, reader: &mut Reader<'_>) -> Result<GroupSecrets, LeafError> {
@@ -106,6 +111,8 @@ impl Codec for Welcome {
     ghost format = { welcome };
 
     ghost nonempty = { welcome_nonempty };
+
+    ghost faults = { welcome_faults };
 
     #[tactic(auto, using(mls_leaf::specs::Codecs::codecs), unfolding(crate::specs::Welcome::welcome))]
     fn read(alloc: Global, reader: &mut Reader<'_>) -> Result<Welcome, LeafError> {

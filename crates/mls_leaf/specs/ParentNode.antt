@@ -2,6 +2,7 @@
 use Rattle.std.specs.Prelude.{ℕ, ◌+◌, nat_le, refl}
 use Rattle.mls_wire.specs.Format.{Format}
 use Rattle.mls_wire.specs.CombineLaws.{IsNonempty}
+use Rattle.mls_wire.specs.Answered.{HasFaults, pair_faults, seen_answered, guarded_faults, vector_from_faults, byte_string_faults, uint32_faults}
 use Rattle.mls_wire.specs.Combine.{◌⨾◌, seen, guarded, byte_string, uint32}
 use Rattle.mls_wire.specs.Stateful.{Rule, vector_from}
 use Rattle.mls_leaf.specs.Nonempty.{byte_string_nonempty, first_nonempty, uint32_nonempty}
@@ -29,3 +30,12 @@ parent_node = seen (byte_string ⨾ byte_string ⨾ vector_from rising 0)
 pub parent_node_nonempty : IsNonempty parent_node
 unfolding parent_node
 parent_node_nonempty v fits = first_nonempty byte_string (byte_string ⨾ vector_from rising 0) byte_string_nonempty (v.encryption_key, (v.parent_hash, v.unmerged_leaves)) fits
+
+entry_faults : (low : ℕ) → HasFaults (entry_from low)
+entry_faults low = guarded_faults (nat_le low) 13 refl uint32_faults
+
+pub parent_node_faults : HasFaults parent_node
+unfolding parent_node
+parent_node_faults =
+    let parts = pair_faults byte_string_faults (pair_faults byte_string_faults (vector_from_faults rising 0 entry_faults)) in
+    record { answers = seen_answered _ parts }

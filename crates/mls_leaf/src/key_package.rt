@@ -2,6 +2,7 @@
 
 ghost use Rattle.std.specs.Prelude.{◌≡◌};
 ghost use Rattle.mls_leaf.specs.KeyPackage.{key_package, key_package_nonempty};
+ghost use Rattle.mls_leaf.specs.Answered.{key_package_faults};
 
 use crate::bytes::Bytes;
 use crate::codec::{Codec, pass_empty, pass_mark};
@@ -36,6 +37,8 @@ impl Codec for KeyPackage {
     ghost format = { key_package };
 
     ghost nonempty = { key_package_nonempty };
+
+    ghost faults = { key_package_faults };
 
     #[tactic(auto, using(crate::specs::Codecs::codecs), unfolding(crate::specs::KeyPackage::key_package))]
     fn read(alloc: Global, reader: &mut Reader<'_>) -> Result<KeyPackage, LeafError> {

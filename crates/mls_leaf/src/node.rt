@@ -2,6 +2,7 @@
 
 ghost use Rattle.std.specs.Prelude.{◌≡◌};
 ghost use Rattle.mls_leaf.specs.Node.{node, node_nonempty};
+ghost use Rattle.mls_leaf.specs.Answered.{node_faults};
 
 use crate::codec::Codec;
 use crate::error::LeafError;
@@ -32,6 +33,8 @@ impl Codec for Node {
     ghost format = { node };
 
     ghost nonempty = { node_nonempty };
+
+    ghost faults = { node_faults };
 
     #[tactic(auto, using(crate::specs::Codecs::codecs), unfolding(crate::specs::Node::node))]
     fn read(alloc: Global, reader: &mut Reader<'_>) -> Result<Node, LeafError> {

@@ -6,7 +6,7 @@ ghost use Rattle.mls_wire.specs.Stateful.{run_at, vector_from};
 ghost use Rattle.mls_leaf.specs.declared.error.LeafError.TheVariants.{NotRising};
 ghost use Rattle.mls_leaf.specs.Faults.{Gives, AddsSpelling, ReadsFrontNow, ReadsAllPast};
 ghost use Rattle.mls_leaf.specs.Parent.{Parent, rises, inserted};
-ghost use Rattle.mls_leaf.specs.ParentNode.{entry_from, rising, parent_node, parent_node_nonempty};
+ghost use Rattle.mls_leaf.specs.ParentNode.{entry_from, rising, parent_node, parent_node_nonempty, parent_node_faults};
 
 use crate::bytes::Bytes;
 use crate::codec::Codec;
@@ -197,6 +197,8 @@ impl Codec for ParentNode {
     ghost format = { parent_node };
 
     ghost nonempty = { parent_node_nonempty };
+
+    ghost faults = { parent_node_faults };
 
     #[tactic(auto, using(crate::specs::Codecs::codecs), unfolding(crate::specs::ParentNode::parent_node))]
     fn read(alloc: Global, reader: &mut Reader<'_>) -> Result<ParentNode, LeafError> {

@@ -2,6 +2,7 @@
 
 ghost use Rattle.std.specs.Prelude.{◌≡◌};
 ghost use Rattle.mls_leaf.specs.Proposal.{proposal, proposal_nonempty};
+ghost use Rattle.mls_leaf.specs.Answered.{proposal_faults};
 
 use crate::codec::Codec;
 use crate::error::LeafError;
@@ -34,6 +35,8 @@ impl Codec for Proposal {
     ghost format = { proposal };
 
     ghost nonempty = { proposal_nonempty };
+
+    ghost faults = { proposal_faults };
 
     #[tactic(auto, using(crate::specs::Codecs::codecs), unfolding(crate::specs::Proposal::proposal))]
     fn read(alloc: Global, reader: &mut Reader<'_>) -> Result<Proposal, LeafError> {

@@ -14,8 +14,7 @@ use Rattle.mls_types.specs.declared.signed.SignedBody.TheVariants as body_of
 use Rattle.mls_types.specs.declared.signed.SignedContent.{SignedContent}
 use Rattle.mls_suite.specs.Crypto.{Crypto}
 use Rattle.mls_model.specs.declared.effect.Effect.{Effect}
-use Rattle.mls_model.specs.Commit.{body}
-use Rattle.mls_model.specs.Member.{Pending, Member, named}
+use Rattle.mls_model.specs.Member.{Pending, Member}
 use Rattle.mls_model.specs.Messages.{public_in}
 use Rattle.mls_model.specs.Verdict.{framing_checks, proposal_verdict, entered, commit_verdict, content_verdict, received, own_pending, pending_or_received, verdict}
 use Rattle.mls_model.specs.Found.{IsFramed, ProposalDid, WasRemoved, reached_epoch, HasFollowed, CommitDid, ContentDid, ReceivedDid, DidPending, DidOther, VerdictDid}

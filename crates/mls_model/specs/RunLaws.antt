@@ -1,15 +1,18 @@
 -- What holds of runs by their definition alone.
 use Rattle.std.proofs.Common.{◌≡◌, ℕ, suc, Bool, true, false, List, [], ◌∷◌, ◌++◌, length, Result, Ok, Err, refl, ap, sym, ◌∙◌}
+use Rattle.std.proofs.lemmas.Slice.Eq.{bytes_eq-Decides}
 use Rattle.mls_wire.specs.Laws.{ok_is}
 use Rattle.mls_wire.specs.CheckLaws.{bind_ok, then_ok}
 use Rattle.mls_wire.specs.Checks.{require}
 use Rattle.mls_suite.specs.Crypto.{Crypto}
+use Rattle.mls_model.specs.declared.effect.Effect.TheVariants.{Advanced}
 use Rattle.mls_model.specs.declared.event.Source.{Source}
 use Rattle.mls_model.specs.declared.event.WorldItem.{WorldItem}
 use Rattle.mls_model.specs.declared.event.Event.{Event}
 use Rattle.mls_model.specs.declared.event.Event.TheVariants as event
 use Rattle.mls_model.specs.declared.event.Reply.{Reply}
 use Rattle.mls_model.specs.declared.event.Reply.TheVariants as reply
+use Rattle.mls_model.specs.Member.{advanced}
 use Rattle.mls_model.specs.Verdict.{verdict}
 use Rattle.mls_model.specs.Candidate.{new_candidate, created}
 use Rattle.mls_model.specs.Propose.{proposed_add, proposed_update, proposed_remove}
@@ -18,7 +21,10 @@ use Rattle.mls_model.specs.Join.{join_verdict}
 use Rattle.mls_model.specs.World.{World, seat_at, entrant_at, bytes_of, package_of, items_of}
 use Rattle.mls_model.specs.Calls.{candidate_answer, create_answer, propose_add_answer, propose_update_answer, propose_remove_answer, commit_answer, drop_answer, deliver_answer, join_answer}
 use Rattle.mls_model.specs.Run.{answer, step_by, step, run, replies}
-use Rattle.mls_model.specs.Headline.{RefusalsChangeNothing}
+use Rattle.mls_model.specs.Headline.{RefusalsChangeNothing, FollowsOwn}
+use Rattle.mls_model.specs.Found.{DidPending}
+use Rattle.mls_model.specs.Ways.{Taking.follows_own}
+use Rattle.mls_model.specs.WayBackLaws.{so_taken}
 
 -- ---- lists put together
 
@@ -129,3 +135,18 @@ AnsweredStep = (c : Crypto) (w : World) (e : Event) (x : Reply × World) → ans
 pub answered_step : AnsweredStep
 unfolding step
 answered_step c w e x h = ap (step_by w) h
+
+-- ---- the own pending commit
+
+-- in every world an active member follows its pending commit, from wherever the bytes come
+abbrev pub OwnIsFollowed : Type 0
+OwnIsFollowed = (c : Crypto) (w : World) → FollowsOwn c w
+
+pub own_is_followed : OwnIsFollowed
+unfolding step answer deliver_answer
+own_is_followed c w k s p source a pending b =
+    let took : DidPending s.member p.message (Advanced p.public.context.epoch, advanced s.member p.public p.epoch p.keys) =
+    record { pending = p; is_pending = pending; is_message = (bytes_eq-Decides p.message p.message).1 refl; is = refl } in
+    let v : verdict c s.member p.message ≡ Ok (Advanced p.public.context.epoch, advanced s.member p.public p.epoch p.keys) =
+    so_taken c s.member p.message _ (follows_own a.active took) in
+    rw (a.is, b, v) refl

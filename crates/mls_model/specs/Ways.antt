@@ -61,47 +61,54 @@ keys_for m commit change = followed (first_own_key (named m.kept commit.proposal
 
 -- ---- the five ways in which bytes are taken
 
-pub data Takes (c : Crypto) (m : Member) (bytes : List ℕ) (x : Effect × Member) : Type 0 where
-  follows_own : m.gone ≡ false → DidPending m bytes x → Takes c m bytes x
-  knows : (v : PublicMessage) (said : Proposal) → IsProposal c m bytes v said → WasKnown m v.content x → Takes c m bytes x
-  keeps : (v : PublicMessage) (said : Proposal) → IsProposal c m bytes v said → IsNowKept c m v.content bytes said x → Takes c m bytes x
+pub data Taking (c : Crypto) (m : Member) (bytes : List ℕ) (x : Effect × Member) : Type 0 where
+  follows_own : m.gone ≡ false → DidPending m bytes x → Taking c m bytes x
+  knows : (v : PublicMessage) (said : Proposal) → IsProposal c m bytes v said → WasKnown m v.content x → Taking c m bytes x
+  keeps : (v : PublicMessage) (said : Proposal) → IsProposal c m bytes v said → IsNowKept c m v.content bytes said x → Taking c m bytes x
   leaves : (v : PublicMessage) (commit : Commit) (tag : List ℕ) (used : List Used) (change : Change) → IsCommit c m bytes v commit tag → IsChanging c m v.content commit used change →
-      WasRemoved m used x → Takes c m bytes x
+      WasRemoved m used x → Taking c m bytes x
   follows : (v : PublicMessage) (commit : Commit) (tag : List ℕ) (used : List Used) (change : Change) → IsCommit c m bytes v commit tag → IsChanging c m v.content commit used change →
-      HasFollowed c m v.content commit tag used change x → Takes c m bytes x
+      HasFollowed c m v.content commit tag used change x → Taking c m bytes x
 
--- a verdict that takes bytes does so in one of these ways
+-- a verdict takes bytes just where one of these ways is there, with what that way says
 abbrev pub TakenSo : Type 0
-TakenSo = (c : Crypto) (m : Member) (bytes : List ℕ) (x : Effect × Member) → verdict c m bytes ≡ Ok x → Takes c m bytes x
+TakenSo = (c : Crypto) (m : Member) (bytes : List ℕ) (x : Effect × Member) → verdict c m bytes ≡ Ok x → Taking c m bytes x
+
+abbrev pub SoTaken : Type 0
+SoTaken = (c : Crypto) (m : Member) (bytes : List ℕ) (x : Effect × Member) → Taking c m bytes x → verdict c m bytes ≡ Ok x
 
 -- ---- the ten in which they are refused
 
-pub data Refuses (c : Crypto) (m : Member) (bytes : List ℕ) (n : ℕ) : Type 0 where
+pub data Refusing (c : Crypto) (m : Member) (bytes : List ℕ) (n : ℕ) : Type 0 where
   -- it was removed
-  gone : m.gone ≡ true → n ≡ 40 → Refuses c m bytes n
+  gone : m.gone ≡ true → n ≡ 40 → Refusing c m bytes n
   -- they are no message, or no PublicMessage
-  unread : IsOther m bytes → decoded bytes ≡ Err n → Refuses c m bytes n
-  no_public : (w : MlsMessage) → IsOther m bytes → decoded bytes ≡ Ok w → public_in w ≡ None → n ≡ 41 → Refuses c m bytes n
+  unread : IsOther m bytes → decoded bytes ≡ Err n → Refusing c m bytes n
+  no_public : (w : MlsMessage) → IsOther m bytes → decoded bytes ≡ Ok w → public_in w ≡ None → n ≡ 41 → Refusing c m bytes n
   -- 42 to 48
-  unframed : (v : PublicMessage) → IsOther m bytes → decoded bytes ≡ Ok (message.PublicMessage v) → framing_checks c m v bytes ≡ Err n → Refuses c m bytes n
+  unframed : (v : PublicMessage) → IsOther m bytes → decoded bytes ≡ Ok (message.PublicMessage v) → framing_checks c m v bytes ≡ Err n → Refusing c m bytes n
   -- a proposal that isn't kept fails its checks
   unfit : (v : PublicMessage) (said : Proposal) → IsProposal c m bytes v said → is_some (kept_under m.kept (reference_of v.content)) ≡ false →
-      proposal_checks c m.public (sender_leaf v.content.sender) said ≡ Err n → Refuses c m bytes n
+      proposal_checks c m.public (sender_leaf v.content.sender) said ≡ Err n → Refusing c m bytes n
   -- there is no epoch after this
-  last_epoch : (v : PublicMessage) (commit : Commit) (tag : List ℕ) → IsCommit c m bytes v commit tag → nat_lt m.public.context.epoch (2 ^ 64 - 1) ≡ false → n ≡ 66 → Refuses c m bytes n
+  last_epoch : (v : PublicMessage) (commit : Commit) (tag : List ℕ) → IsCommit c m bytes v commit tag → nat_lt m.public.context.epoch (2 ^ 64 - 1) ≡ false → n ≡ 66 → Refusing c m bytes n
   -- a proposal isn't kept
-  unknown : (v : PublicMessage) (commit : Commit) (tag : List ℕ) → IsCommit c m bytes v commit tag → used_by m.kept (sender_leaf v.content.sender) commit.proposals ≡ Err n → Refuses c m bytes n
+  unknown : (v : PublicMessage) (commit : Commit) (tag : List ℕ) → IsCommit c m bytes v commit tag → nat_lt m.public.context.epoch (2 ^ 64 - 1) ≡ true →
+      used_by m.kept (sender_leaf v.content.sender) commit.proposals ≡ Err n → Refusing c m bytes n
   -- what is public fails its checks
   unsound : (v : PublicMessage) (commit : Commit) (tag : List ℕ) (used : List Used) → IsCommit c m bytes v commit tag → IsUsing m v.content commit used →
-      body c m.public (sender_leaf v.content.sender) used commit (framed v.content) v.content.signature ≡ Err n → Refuses c m bytes n
+      body c m.public (sender_leaf v.content.sender) used commit (framed v.content) v.content.signature ≡ Err n → Refusing c m bytes n
   -- the path doesn't open
   closed : (v : PublicMessage) (commit : Commit) (tag : List ℕ) (used : List Used) (change : Change) → IsCommit c m bytes v commit tag → IsChanging c m v.content commit used change →
-      has (removed used) m.keys.leaf ≡ false → climbed c m (sender_leaf v.content.sender) change (keys_for m commit change) commit.path ≡ Err n → Refuses c m bytes n
+      has (removed used) m.keys.leaf ≡ false → climbed c m (sender_leaf v.content.sender) change (keys_for m commit change) commit.path ≡ Err n → Refusing c m bytes n
   -- the confirmation tag isn't that of the next epoch
   untagged : (v : PublicMessage) (commit : Commit) (tag : List ℕ) (used : List Used) (change : Change) (climb : Climb) → IsCommit c m bytes v commit tag → IsChanging c m v.content commit used change →
       has (removed used) m.keys.leaf ≡ false → climbed c m (sender_leaf v.content.sender) change (keys_for m commit change) commit.path ≡ Ok climb →
-      bytes_eq tag (confirmation_tag (reached_epoch m change climb) change.context.confirmed_transcript_hash) ≡ false → n ≡ 65 → Refuses c m bytes n
+      bytes_eq tag (confirmation_tag (reached_epoch m change climb) change.context.confirmed_transcript_hash) ≡ false → n ≡ 65 → Refusing c m bytes n
 
--- a verdict that refuses bytes does so in one of these
+-- a verdict refuses bytes just where one of these is there, with its number
 abbrev pub RefusedSo : Type 0
-RefusedSo = (c : Crypto) (m : Member) (bytes : List ℕ) (n : ℕ) → verdict c m bytes ≡ Err n → Refuses c m bytes n
+RefusedSo = (c : Crypto) (m : Member) (bytes : List ℕ) (n : ℕ) → verdict c m bytes ≡ Err n → Refusing c m bytes n
+
+abbrev pub SoRefused : Type 0
+SoRefused = (c : Crypto) (m : Member) (bytes : List ℕ) (n : ℕ) → Refusing c m bytes n → verdict c m bytes ≡ Err n

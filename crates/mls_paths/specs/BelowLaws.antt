@@ -6,32 +6,31 @@ use Rattle.mls_leaf.specs.Parent.{Parent, inserted}
 use Rattle.mls_leaf.specs.declared.leaf.LeafNode.{LeafNode}
 use Rattle.mls_term.specs.Sets.{has}
 use Rattle.mls_term.specs.Term.{Term, Leaf, Branch, width}
-use Rattle.mls_term.specs.Edits.{listing, put, enter, grow, trim}
+use Rattle.mls_term.specs.Edits.{listing, enter}
 use Rattle.mls_term.specs.Lists.{asked, all_parents, rises_here}
-use Rattle.mls_term.specs.Merge.{merge}
 use Rattle.mls_term.specs.Equations.{enter_left, enter_right}
-use Rattle.mls_term.specs.Laws.{IsIn}
 use Rattle.mls_term.specs.SetLaws.{all_at, all_from, has-with}
 use Rattle.mls_term.specs.ShapeLaws.{width-enter}
 use Rattle.mls_term.specs.ParentLaws.{parents_parts, parents_from, parents-put, parents-grow, parents-trim}
 use Rattle.mls_term.specs.NamedLaws.{rises-enter}
 use Rattle.mls_term.specs.MergeLaws.{free-merge, rises-merge}
-use Rattle.mls_paths.specs.Lists.{below_here, ListsBelow}
+use Rattle.mls_paths.specs.Lists.{below_here}
+use Rattle.mls_paths.specs.Laws.{BelowEnter, BelowGrow, BelowMerge, BelowPut, BelowTrim}
 
-pub below_put : (b : ℕ) (t : Term) (i : ℕ) (x : Option LeafNode) → ListsBelow b t → ListsBelow b (put b t i x)
+pub below_put : BelowPut
 below_put b t i x h = record { below = parents-put below_here b t i x h.below; rising = parents-put rises_here b t i x h.rising }
 
-pub below_grow : (t : Term) → ListsBelow 0 t → ListsBelow 0 (grow t)
+pub below_grow : BelowGrow
 below_grow t h = record { below = parents-grow below_here 0 t h.below; rising = parents-grow rises_here 0 t h.rising }
 
-pub below_trim : (b : ℕ) (t : Term) → ListsBelow b t → ListsBelow b (trim t)
+pub below_trim : BelowTrim
 below_trim b t h = record { below = parents-trim below_here b t h.below; rising = parents-trim rises_here b t h.rising }
 
 free : (b : ℕ) (p : Parent) (l r : Term) → p.unmerged_leaves ≡ [] → below_here b p l r ≡ true
 unfolding below_here
 free b p l r e = rw e refl
 
-pub below_merge : (b : ℕ) (t : Term) (i : ℕ) (ks : List (List ℕ)) (h : List ℕ) (x : LeafNode) → ListsBelow b t → ListsBelow b (merge b t i ks h x)
+pub below_merge : BelowMerge
 below_merge b t i ks h x k = record { below = free-merge below_here free b t i ks h x k.below; rising = rises-merge b t i ks h x k.rising }
 
 with_one : (b n i : ℕ) (us : List ℕ) → b ≤ i → i < b + n → list_all (λ u. nat_le b u && nat_lt u (b + n)) us ≡ true → list_all (λ u. nat_le b u && nat_lt u (b + n)) (inserted i us) ≡ true
@@ -62,5 +61,5 @@ parents_enter b (Branch c l r) i x low high h =
           (asked_with b c l r l (enter (b + width l) r i x) i refl (width-enter (b + width l) r i x) low high p.0) p.1 refl (parents_enter (b + width l) r i x ge (omega arith) p.2))
     ]
 
-pub below_enter : (b : ℕ) (t : Term) (i : ℕ) (x : LeafNode) → IsIn b t i → ListsBelow b t → ListsBelow b (enter b t i x)
+pub below_enter : BelowEnter
 below_enter b t i x inside h = record { below = parents_enter b t i x inside.low inside.high h.below; rising = rises-enter b t i x h.rising }

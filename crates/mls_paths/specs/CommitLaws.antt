@@ -1,32 +1,26 @@
 -- A commit's path as a whole: made, received, and taken over.
-use Rattle.std.proofs.Common.{◌≡◌, ℕ, false, List, map, length, Some, Ok, refl, sym, ◌∙◌, subst, ne_eqb}
+use Rattle.std.proofs.Common.{◌≡◌, ℕ, List, map, Some, Ok, refl, sym, ◌∙◌, subst, ne_eqb}
 use Rattle.std.proofs.lemmas.Bool.{cond-false}
-use Rattle.mls_group.specs.declared.update_path.UpdatePathNode.{UpdatePathNode}
 use Rattle.mls_leaf.specs.declared.leaf.LeafNode.{LeafNode}
-use Rattle.mls_term.specs.Sets.{has}
 use Rattle.mls_term.specs.Term.{Term, width, leaf_at}
 use Rattle.mls_term.specs.Way.{way}
 use Rattle.mls_term.specs.Merge.{merge}
 use Rattle.mls_term.specs.Laws.{IsIn}
 use Rattle.mls_term.specs.MergeLaws.{width-merge}
 use Rattle.mls_term.specs.PlaceLaws.{leaf_at-put, leaf_at-merge}
-use Rattle.mls_suite.specs.Crypto.{Crypto, Lawful}
-use Rattle.mls_paths.specs.Keys.{Keys, Exact, leaf_only}
+use Rattle.mls_paths.specs.Keys.{Exact, leaf_only}
 use Rattle.mls_paths.specs.Make.{Climb, climb_make, path_keys}
-use Rattle.mls_paths.specs.Lists.{ListsBelow}
-use Rattle.mls_paths.specs.Seal.{IsPathOf, seal_along}
+use Rattle.mls_paths.specs.Seal.{IsPathOf}
 use Rattle.mls_paths.specs.Open.{climb_open, shared}
-use Rattle.mls_paths.specs.Join.{take_keys, AllList, secret_for}
-use Rattle.mls_paths.specs.Laws.{AreTwo, IsShared, IsJoined}
+use Rattle.mls_paths.specs.Join.{take_keys, secret_for}
+use Rattle.mls_paths.specs.Laws.{CommitAgree, JoinAgree}
 use Rattle.mls_paths.specs.MakeLaws.{make_exact}
 use Rattle.mls_paths.specs.MergedLaws.{path_has_keys}
 use Rattle.mls_paths.specs.SealLaws.{made_path}
 use Rattle.mls_paths.specs.OpenLaws.{climb_exact, climb_agree}
 use Rattle.mls_paths.specs.JoinLaws.{take_exact, take_agree}
 
-pub commit_agree : (c : Crypto) (l : Lawful c) (context : List ℕ) (added : List ℕ) (rnd : ℕ → List ℕ) (b : ℕ) (t : Term) (i j : ℕ) (h : List ℕ) (x : LeafNode) (start sk : List ℕ) (ks : Keys) (ns : List UpdatePathNode) →
-    length start ≡ 32 → AreTwo b t i j → ListsBelow b t → Exact c b t j ks → has added j ≡ false → c.public sk ≡ x.encryption_key → seal_along c context added rnd (way b t i) start ≡ Some ns →
-    IsShared c context added b t i j h x start sk ks ns
+pub commit_agree : CommitAgree
 commit_agree c l context added rnd b t i j h x start sk ks ns long two good exact old own made =
     let path : IsPathOf c context added (way b t i) start ns = made_path c context added rnd (way b t i) start ns made in
     let keys : map (λ n. n.encryption_key) ns ≡ path_keys c (way b t i) start = path_has_keys c context added start (way b t i) ns path in
@@ -47,7 +41,7 @@ leaf_kept : (b : ℕ) (t : Term) (i j : ℕ) (ks : List (List ℕ)) (h : List �
 leaf_kept b t i j ks h x hi hj ne =
     leaf_at-merge b t i ks h x j ∙ leaf_at-put b t i (Some x) j hi.low hi.high hj.low hj.high ∙ cond-false _ _ _ (ne_eqb j i ne)
 
-pub join_agree : (c : Crypto) (t : Term) (i j : ℕ) (h : List ℕ) (x y : LeafNode) (start sk own : List ℕ) → AreTwo 0 t i j → leaf_at 0 t j ≡ Some y → c.public own ≡ y.encryption_key → AllList j (way 0 t j) → IsJoined c t i j h x start sk own
+pub join_agree : JoinAgree
 join_agree c t i j h x y start sk own two leaf is_own lists =
     let keys : List (List ℕ) = path_keys c (way 0 t i) start in
     let made : Term = merge 0 t i keys h x in

@@ -16,12 +16,13 @@ use Rattle.mls_term.specs.Laws.{IsIn}
 use Rattle.mls_term.specs.ShapeLaws.{size-width}
 use Rattle.mls_term.specs.EntryLaws.{one_held_of_rest}
 use Rattle.mls_suite.specs.Crypto.{Crypto}
-use Rattle.mls_paths.specs.Keys.{Keys, HoldsKey, Fits, IsOwnKey, Along, AlongWay, Exact, key_for, key_in}
-use Rattle.mls_paths.specs.Lists.{ListsBelow, below_here}
+use Rattle.mls_paths.specs.Keys.{Keys, HoldsKey, Fits, IsOwnKey, Along, AlongWay, key_for, key_in}
+use Rattle.mls_paths.specs.Lists.{below_here}
 use Rattle.mls_paths.specs.Open.{held_count}
 use Rattle.mls_paths.specs.WayLaws.{along_none, along_left, along_right}
 use Rattle.mls_paths.specs.FollowLaws.{along_taken}
 use Rattle.mls_paths.specs.ListLaws.{below_bound}
+use Rattle.mls_paths.specs.Laws.{EntryKey, KeyWhereHeld, OneEntry}
 
 -- ---- the key at a node
 
@@ -101,7 +102,7 @@ some_if : (t : Bool) (o : Option (List ℕ)) → is_some o ≡ true → is_some 
 some_if true o h = h
 some_if false o h = refl
 
-pub key_where_held : (c : Crypto) (b : ℕ) (t : Term) (j : ℕ) (ks : Keys) (d : ℕ) → IsIn b t j → Exact c b t j ks → is_some (key_in b t j ks d) ≡ holds b t j d
+pub key_where_held : KeyWhereHeld
 unfolding holds width
 key_where_held c b (Leaf v) j [] d hj h = absurd (own_none c v (at_leaf c (Fits c j) b v j [] h))
 key_where_held c b (Leaf v) j (o ∷ ks) d hj h =
@@ -136,7 +137,7 @@ held_counted f p h (d ∷ ds) =
       | inr t ↦ rw (h d ∙ t, t) rest
     ]
 
-pub one_entry : (c : Crypto) (added : List ℕ) (b : ℕ) (t : Term) (j : ℕ) (ks : Keys) → ListsBelow b t → IsIn b t j → Exact c b t j ks → has added j ≡ false → held_count (key_in b t j ks) (less (leaf_numbers added) (resolution b t)) ≡ 1
+pub one_entry : OneEntry
 one_entry c added b t j ks good hj h old =
     held_counted (key_in b t j ks) (holds b t j) (λ d. key_where_held c b t j ks d hj h) (less (leaf_numbers added) (resolution b t))
     ∙ one_held_of_rest below_here below_bound b t j added good.below good.rising hj.low hj.high (along_taken c (Fits c j) (way b t j) (leaf_at b t j) ks h) old
@@ -157,7 +158,7 @@ parent_entry c j (Some p) k h = by_list (has p.unmerged_leaves j) h
     by_list true h = absurd h
     by_list false h = ap Some (sym h)
 
-pub entry_key : (c : Crypto) (b : ℕ) (t : Term) (j : ℕ) (ks : Keys) (d : ℕ) (k : List ℕ) → IsIn b t j → Exact c b t j ks → key_in b t j ks d ≡ Some k → key_at b t d ≡ Some (c.public k)
+pub entry_key : EntryKey
 unfolding key_at width
 entry_key c b (Leaf v) j [] d k hj h e = absurd (own_none c v (at_leaf c (Fits c j) b v j [] h))
 entry_key c b (Leaf v) j (o ∷ ks) d k hj h e = elim (cases_eq d (2 * j)) [

@@ -14,13 +14,13 @@ use Rattle.mls_term.specs.Places.{own_key, key_at}
 use Rattle.mls_term.specs.Resolution.{resolution}
 use Rattle.mls_term.specs.Way.{Step, step_at, way, is_filtered}
 use Rattle.mls_term.specs.Equations.{way_leaf, way_left, way_right, at_node_leaf, at_node_here, at_node_left, at_node_right}
-use Rattle.mls_term.specs.Laws.{HasLists}
 use Rattle.mls_term.specs.SetLaws.{all_at, all_from, has-append, has-filter, of_leaf_numbers}
 use Rattle.mls_term.specs.ShapeLaws.{size-width}
 use Rattle.mls_term.specs.ParentLaws.{parents_parts}
 use Rattle.mls_term.specs.NamedLaws.{lists_bound}
 use Rattle.mls_term.specs.ResolutionLaws.{resolution_range}
 use Rattle.mls_paths.specs.Seal.{targets, is_fit, all_fit, targets_fit}
+use Rattle.mls_paths.specs.Whole.{FitTargets}
 
 module _ (c : Crypto) where
   abbrev AllOk : Term → Type 0
@@ -121,5 +121,5 @@ module _ (c : Crypto) where
               ap (targets_fit c added) (way_right b p l r i ge) ∙ fit_more s (way (b + width l) r i) (step_fit s m.1 f.0) (fit_along (b + width l) r i m.2 f.2)
         ]
 
-pub fit_targets : (c : Crypto) (added : List ℕ) (t : Term) (i : ℕ) → HasLists 0 t → list_all c.key_ok (encryption_keys t) ≡ true → targets_fit c added (way 0 t i) ≡ true
+pub fit_targets : FitTargets
 fit_targets c added t i lists h = fit_along c added 0 t i lists.right h

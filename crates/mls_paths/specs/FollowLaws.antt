@@ -17,6 +17,7 @@ use Rattle.mls_suite.specs.Crypto.{Crypto}
 use Rattle.mls_paths.specs.Keys.{Keys, HoldsKey, Fits, IsOwnKey, Along, Exact, leaf_only}
 use Rattle.mls_paths.specs.Follow.{TameAt, TameAlong, Tame, follow, follow_trim}
 use Rattle.mls_paths.specs.WayLaws.{along_none, along_left, along_right, left_along, right_along, tame_left, tame_right}
+use Rattle.mls_paths.specs.Laws.{FollowGrow, FollowOwn, FollowTame, TameRefl, TameTrans}
 
 pub tame_at_same : (j : ℕ) (p : Option Parent) → TameAt j p p
 tame_at_same j None = tt
@@ -27,7 +28,7 @@ unfolding TameAlong
 tame_same j [] = tt
 tame_same j (s ∷ ss) = (tame_at_same j s.parent, tame_same j ss)
 
-pub tame_refl : (j b : ℕ) (t : Term) → Tame j b t t
+pub tame_refl : TameRefl
 tame_refl j b t = record { along = tame_same j (way b t j); leaf = refl }
 
 pub tame_put : (j b : ℕ) (t : Term) (i : ℕ) (x : Option LeafNode) → (j ≡ i → ⊥) → IsIn b t i → IsIn b t j → Tame j b t (put b t i x)
@@ -80,7 +81,7 @@ tame_along_trans j (s ∷ ss) [] us h k = absurd h
 tame_along_trans j (s ∷ ss) (t ∷ ts) [] h k = absurd k
 tame_along_trans j (s ∷ ss) (t ∷ ts) (u ∷ us) h k = (tame_at_trans j s.parent t.parent u.parent h.0 k.0, tame_along_trans j ss ts us h.1 k.1)
 
-pub tame_trans : (j b : ℕ) (t u v : Term) → Tame j b t u → Tame j b u v → Tame j b t v
+pub tame_trans : TameTrans
 tame_trans j b t u v h k = record { along = tame_along_trans j (way b t j) (way b u j) (way b v j) h.along k.along; leaf = h.leaf ∙ k.leaf }
 
 holds_same : (c : Crypto) (t : Bool) (p q : Parent) (o : Option (List ℕ)) → p.encryption_key ≡ q.encryption_key → HoldsKey c t p o → HoldsKey c t q o
@@ -102,7 +103,7 @@ along_follow c j (s ∷ ss) [] x ks t h = absurd t
 along_follow c j (s ∷ ss) (s' ∷ ts) x [] t h = absurd h
 along_follow c j (s ∷ ss) (s' ∷ ts) x (o ∷ ks) t h = (fits_follow c j s.parent s'.parent o t.0 h.0, along_follow c j ss ts x ks t.1 h.1)
 
-pub follow_tame : (c : Crypto) (j b : ℕ) (t t' : Term) (ks : Keys) → Exact c b t j ks → Tame j b t t' → Exact c b t' j (follow (way b t' j) ks)
+pub follow_tame : FollowTame
 follow_tame c j b t t' ks h tame =
     subst (λ (x : Option LeafNode). Along c (Fits c j) (way b t' j) x (follow (way b t' j) ks)) tame.leaf (along_follow c j (way b t j) (way b t' j) (leaf_at b t j) ks tame.along h)
 
@@ -117,7 +118,7 @@ along_taken c F [] x ks h = own_taken c x ks h
 along_taken c F (s ∷ ss) x [] h = absurd h
 along_taken c F (s ∷ ss) x (o ∷ ks) h = along_taken c F ss x ks h.1
 
-pub follow_grow : (c : Crypto) (t : Term) (j : ℕ) (ks : Keys) → IsIn 0 t j → Exact c 0 t j ks → Exact c 0 (grow t) j (None ∷ ks)
+pub follow_grow : FollowGrow
 unfolding grow
 follow_grow c t j ks inside exact = left_along c (Fits c j) 0 None t (blanks (height t)) j None ks inside.high tt exact
 
@@ -146,7 +147,7 @@ own_more : (s : Step) (ss : List Step) (k : List ℕ) → leaf_only (s ∷ ss) k
 unfolding leaf_only
 own_more s ss k = refl
 
-pub follow_own : (c : Crypto) (b : ℕ) (t : Term) (i : ℕ) (x : LeafNode) (k : List ℕ) → c.public k ≡ x.encryption_key → Exact c b (put b t i (Some x)) i (leaf_only (way b t i) k)
+pub follow_own : FollowOwn
 follow_own c b (Leaf v) i x k h = own_at_leaf c b v i x k h
 follow_own c b (Branch p l r) i x k h = elim (cases_lt i (b + width l)) [
   | inl li ↦

@@ -1,11 +1,10 @@
 -- The path secret for a joiner is that of the lowest node over both leaves.
-use Rattle.std.proofs.Common.{◌≡◌, ℕ, zero, suc, ◌+◌, ◌*◌, ◌^◌, ◌<◌, ◌≤◌, Bool, true, false, if◌then◌else◌, nat_lt, List, [], ◌∷◌, ◌++◌, map, filter, length, reverse, Some, IsSome, refl, ap, ap₂, sym, ◌∙◌, subst, inl, inr, arith, lt-ltb, le-ltb}
+use Rattle.std.proofs.Common.{◌≡◌, ℕ, zero, suc, ◌+◌, ◌*◌, ◌<◌, ◌≤◌, Bool, true, false, if◌then◌else◌, List, [], ◌∷◌, ◌++◌, map, filter, length, reverse, Some, IsSome, refl, ap, ap₂, sym, ◌∙◌, subst, inl, inr, arith, lt-ltb, le-ltb}
 use Rattle.std.specs.List.{slice_get}
 use Rattle.std.proofs.lemmas.Bool.{cases_lt, true≢false, and_parts, cond-true, cond-false}
 use Rattle.std.proofs.lemmas.List.{length-map, length-reverse}
 use Rattle.mls_treemath.specs.Paths.{nodes_in, leaves_in}
 use Rattle.mls_treemath.specs.Sizes.{width_perfect}
-use Rattle.mls_treemath.specs.Steps.{height_of, common_ancestor_of}
 use Rattle.mls_treemath.specs.Steered.{fork_of, common_ancestor_of-leaves}
 use Rattle.mls_term.specs.Term.{Term, Leaf, Branch, width, size, is_perfect, leaf_at}
 use Rattle.mls_term.specs.Way.{Step, step_at, way, is_filtered, is_beside, filtered_way, filtered_path}
@@ -17,7 +16,7 @@ use Rattle.mls_term.specs.PathLaws.{reverse-cons}
 use Rattle.mls_term.specs.ResolutionLaws.{reached}
 use Rattle.mls_term.specs.MemberLaws.{leaf_taken}
 use Rattle.mls_paths.specs.Chain.{chain}
-use Rattle.mls_paths.specs.Make.{one_if, filtered_count, secret_above}
+use Rattle.mls_paths.specs.Make.{filtered_count, secret_above}
 use Rattle.mls_paths.specs.Join.{secret_for}
 use Rattle.mls_paths.specs.Whole.{SecretAtAncestor}
 use Rattle.mls_paths.specs.WayLaws.{within, below, beyond}

@@ -2,13 +2,13 @@
 use Rattle.std.proofs.Common.{◌≡◌, ℕ, suc, ◌≤◌, if◌then◌else◌, List, [], ◌∷◌, length, Option, Some, None, is_some, refl, ap, ap₂, ◌∙◌, arith, zero, ◌+◌, true, ◌++◌, reverse, sym, inl, inr, eq-eqb, ne_eqb}
 use Rattle.mls_term.specs.Term.{Term, leaf_at, Leaf, Branch, width, is_perfect}
 use Rattle.mls_term.specs.Way.{Step, way}
-use Rattle.mls_suite.specs.Crypto.{Crypto}
-use Rattle.mls_paths.specs.Keys.{Keys, Fits, Exact, leaf_only}
+use Rattle.mls_paths.specs.Keys.{Keys, Fits, leaf_only}
 use Rattle.mls_paths.specs.Follow.{follow, key_above, on_way, follow_edit}
 use Rattle.mls_paths.specs.OnePassLaws.{along_length}
 use Rattle.std.proofs.lemmas.Bool.{cond-true, cond-false, cases_lt, true≢false, and_parts}
 use Rattle.std.proofs.lemmas.List.{reverse-append}
 use Rattle.mls_term.specs.Equations.{way_leaf, way_left, way_right}
+use Rattle.mls_paths.specs.Laws.{EditIsFollow, ExactIsOnWay, LeafIsOnWay}
 
 -- ---- a key with others above the leaf's
 
@@ -72,15 +72,15 @@ whole [] (o ∷ p ∷ ks) e = absurd (omega arith)
 whole (s ∷ ss) [] e = absurd (omega arith)
 whole (s ∷ ss) (o ∷ ks) e = ap₂ (λ z zs. z ∷ zs) (above_take (suc (length ss)) o ks (omega arith)) (lower ss o ks (omega arith) ∙ whole ss ks (omega arith))
 
-pub exact_is_on_way : (c : Crypto) (b : ℕ) (t : Term) (j : ℕ) (ks : Keys) → Exact c b t j ks → on_way (way b t j) ks ≡ ks
+pub exact_is_on_way : ExactIsOnWay
 exact_is_on_way c b t j ks h = whole (way b t j) ks (along_length c (Fits c j) (way b t j) (leaf_at b t j) ks h)
 
-pub leaf_is_on_way : (ss : List Step) (k : List ℕ) → on_way ss (Some k ∷ []) ≡ leaf_only ss k
+pub leaf_is_on_way : LeafIsOnWay
 unfolding on_way leaf_only key_above
 leaf_is_on_way [] k = refl
 leaf_is_on_way (s ∷ ss) k = ap₂ (λ z zs. z ∷ zs) (above_pass (suc (length ss)) (Some k) [] (λ e. absurd (omega arith))) (leaf_is_on_way ss k)
 
-pub edit_is_follow : (ss : List Step) (ks : Keys) → follow_edit None ss ks ≡ follow ss (on_way ss ks)
+pub edit_is_follow : EditIsFollow
 unfolding follow_edit follow on_way
 edit_is_follow [] ks = refl
 edit_is_follow (s ∷ ss) ks = ap (λ zs. (if is_some s.parent then key_above (suc (length ss)) ks else None) ∷ zs) (edit_is_follow ss ks)

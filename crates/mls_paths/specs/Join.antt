@@ -1,5 +1,6 @@
 -- What a joiner takes from a path secret.
 use Rattle.std.specs.Prelude.{◌≡◌, ℕ, nat_lt, not, ◌&&◌, ◌||◌, if◌then◌else◌, Bool, true, false, List, [], ◌∷◌, Option, Some, None, is_some, Result, Ok, Err}
+use Rattle.std.specs.List.{slice_get}
 use Rattle.std.specs.Str.{bytes_eq}
 use Rattle.mls_wire.specs.Reading.{◌>>=◌}
 use Rattle.mls_leaf.specs.Parent.{Parent}
@@ -7,18 +8,18 @@ use Rattle.mls_suite.specs.Crypto.{Crypto}
 use Rattle.mls_term.specs.Sets.{has}
 use Rattle.mls_term.specs.Term.{Term, width}
 use Rattle.mls_term.specs.Way.{Step, way, is_beside}
-use Rattle.mls_paths.specs.Chain.{next_secret, node_key, node_public}
+use Rattle.mls_paths.specs.Chain.{node_public}
 use Rattle.mls_paths.specs.Keys.{Keys, rest, leaf_only, PrivateKeys, all_keys}
-use Rattle.mls_paths.specs.Make.{Climb, secret_above}
+use Rattle.mls_paths.specs.Make.{Climb, past_blank, past_node, filtered_count, secret_above}
 use Rattle.mls_paths.specs.Follow.{on_way}
 
 -- past a parent: a blank one takes no step, another one doesn't list the joiner and has the derived public key, else 34
 -- (RFC 9420, 12.4.3.1)
 abbrev pub past_present : Crypto → ℕ → Option Parent → Climb → Result Climb ℕ
-past_present c j None m = Ok (record { secret = m.secret; keys = None ∷ m.keys })
+past_present c j None m = Ok (past_blank m)
 past_present c j (Some p) m =
     if not (has p.unmerged_leaves j) && bytes_eq (node_public c m.secret) p.encryption_key
-    then Ok (record { secret = next_secret m.secret; keys = Some (node_key c m.secret) ∷ m.keys })
+    then Ok (past_node c m)
     else Err 34
 
 -- the parent where the ways part isn't blank, else 34
@@ -70,6 +71,11 @@ AllList j (s ∷ ss) = ListsAt j s.parent × AllList j ss
 unfoldable pub secret_for : List Step → ℕ → List ℕ → List ℕ
 secret_for [] j start = start
 secret_for (s ∷ ss) j start = if is_beside s j then secret_above ss start else secret_for ss j start
+
+-- among a path's secrets, the lowest node's first: that of the parent where a way and j's part, where there is one
+unfoldable pub secret_among : List Step → ℕ → List (List ℕ) → Option (List ℕ)
+secret_among [] j secrets = None
+secret_among (s ∷ ss) j secrets = if is_beside s j then slice_get secrets (filtered_count ss) else secret_among ss j secrets
 
 -- ---- the keys that are due
 

@@ -19,10 +19,10 @@ use Rattle.mls_term.specs.SetLaws.{has-with}
 use Rattle.mls_term.specs.ShapeLaws.{width-enter}
 use Rattle.mls_term.specs.MergeLaws.{width-merge}
 use Rattle.mls_suite.specs.Crypto.{Crypto}
-use Rattle.mls_paths.specs.Chain.{next_secret, chain, node_key, node_public}
+use Rattle.mls_paths.specs.Chain.{chain, node_key, node_public}
 use Rattle.mls_paths.specs.Keys.{Keys, HoldsKey, Fits, Along, AlongWay, Exact, leaf_only}
-use Rattle.mls_paths.specs.Follow.{TameAt, TameAlong, on_way}
-use Rattle.mls_paths.specs.Make.{Climb, one_if, filtered_count, secret_above, key_if, made_keys, climb_make, more_if, path_keys}
+use Rattle.mls_paths.specs.Follow.{TameAt, TameAlong}
+use Rattle.mls_paths.specs.Make.{past_node, past_blank, Climb, one_if, filtered_count, secret_above, key_if, made_keys, climb_make, more_if, path_keys}
 use Rattle.mls_paths.specs.Seal.{Choose}
 use Rattle.mls_paths.specs.Open.{shared}
 use Rattle.mls_paths.specs.Join.{past_present, is_present, climb_take, is_due, is_complete, take_keys, ListsAt, AllList, secret_for, take_answer}
@@ -30,6 +30,7 @@ use Rattle.mls_paths.specs.HeightLaws.{leaf_is_on_way}
 use Rattle.mls_paths.specs.MeetLaws.{Meets, meets_from, along_from}
 use Rattle.mls_paths.specs.MakeLaws.{merged_way, way_merge}
 use Rattle.mls_paths.specs.OpenLaws.{beside_filtered}
+use Rattle.mls_paths.specs.Laws.{EnteredLists, LeafExact, LeafHasDue, TakeInside}
 
 -- a key that is had is the parent's, which doesn't list the leaf
 abbrev pub Sound : Crypto → ℕ → Option Parent → Option (List ℕ) → Type 0
@@ -48,15 +49,15 @@ not_and false b h = (refl, h)
 
 pub sounds : (c : Crypto) (j : ℕ) (p : Option Parent) (m m' : Climb) → past_present c j p m ≡ Ok m' → Sounds c j p m m'
 sounds c j None m m' h =
-    let made : Climb = record { secret = m.secret; keys = None ∷ m.keys } in
+    let made : Climb = past_blank m in
     let e : made ≡ m' = cc in
     record { top = None; keys_are = sym (ap (λ (z : Climb). z.keys) e); sound = tt }
 sounds c j (Some p) m m' h = by_test (not (has p.unmerged_leaves j) && bytes_eq (node_public c m.secret) p.encryption_key) refl h
   where
     by_test : (t : Bool) → (not (has p.unmerged_leaves j) && bytes_eq (node_public c m.secret) p.encryption_key) ≡ t →
-        if◌then◌else◌ {A = Result Climb ℕ} t (Ok (record { secret = next_secret m.secret; keys = Some (node_key c m.secret) ∷ m.keys })) (Err 34) ≡ Ok m' → Sounds c j (Some p) m m'
+        if◌then◌else◌ {A = Result Climb ℕ} t (Ok (past_node c m)) (Err 34) ≡ Ok m' → Sounds c j (Some p) m m'
     by_test true e h =
-        let made : Climb = record { secret = next_secret m.secret; keys = Some (node_key c m.secret) ∷ m.keys } in
+        let made : Climb = past_node c m in
         let q : made ≡ m' = cc in
         let f = not_and (has p.unmerged_leaves j) (bytes_eq (node_public c m.secret) p.encryption_key) e in
         record { top = Some (node_key c m.secret); keys_are = sym (ap (λ (z : Climb). z.keys) q); sound = (f.0, (bytes_eq-Decides (node_public c m.secret) p.encryption_key).0 f.1) }
@@ -145,10 +146,10 @@ due_listed j (s ∷ ss) sk d =
     let e = and_parts (is_due j s.parent None) (is_complete j ss (leaf_only ss sk)) d in
     (due_here j s.parent e.0, due_listed j ss sk e.1)
 
-pub leaf_due : (j : ℕ) (ss : List Step) (sk : List ℕ) → (is_complete j ss (on_way ss (Some sk ∷ [])) ≡ true) ↔ AllList j ss
+pub leaf_due : LeafHasDue
 leaf_due j ss sk = subst (λ (ks : Keys). (is_complete j ss ks ≡ true) ↔ AllList j ss) (sym (leaf_is_on_way ss sk)) (due_listed j ss sk, listed_due j ss sk)
 
-pub leaf_exact : (c : Crypto) (t : Term) (j : ℕ) (x : LeafNode) (sk : List ℕ) → leaf_at 0 t j ≡ Some x → c.public sk ≡ x.encryption_key → is_complete j (way 0 t j) (on_way (way 0 t j) (Some sk ∷ [])) ≡ true → Exact c 0 t j (on_way (way 0 t j) (Some sk ∷ []))
+pub leaf_exact : LeafExact
 leaf_exact c t j x sk leaf own =
     let sound : AlongWay c (Sound c j) 0 t j (leaf_only (way 0 t j) sk) = rw leaf (own_sound c j (way 0 t j) x sk own) in
     subst (λ (ks : Keys). is_complete j (way 0 t j) ks ≡ true → Exact c 0 t j ks) (sym (leaf_is_on_way (way 0 t j) sk))
@@ -300,7 +301,7 @@ entered_leaf : (b : ℕ) (v : Option LeafNode) (j : ℕ) (x : LeafNode) → AllL
 unfolding AllList enter way
 entered_leaf b v j x = tt
 
-pub entered_lists : (b : ℕ) (t : Term) (j : ℕ) (x : LeafNode) → AllList j (way b (enter b t j x) j)
+pub entered_lists : EnteredLists
 unfolding AllList
 entered_lists b (Leaf v) j x = entered_leaf b v j x
 entered_lists b (Branch p l r) j x = elim (cases_lt j (b + width l)) [
@@ -325,6 +326,6 @@ tame_lists j (s ∷ ss) [] h t = absurd t
 tame_lists j (s ∷ ss) (s' ∷ ts) h t = (tame_lists_at j s.parent s'.parent h.0 t.0, tame_lists j ss ts h.1 t.1)
 
 -- a signer of the tree
-pub take_inside : (c : Crypto) (t : Term) (i j : ℕ) (own secret : List ℕ) → IsIn 0 t i → take_answer c t i j own secret ≡ take_keys c t i j own secret
+pub take_inside : TakeInside
 unfolding take_answer
 take_inside c t i j own secret here = let lt : i < width t = (let high : i < 0 + width t = here.high in omega arith) in cond-true _ _ _ (lt-ltb i (width t) lt)

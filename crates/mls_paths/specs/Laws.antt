@@ -13,7 +13,7 @@ use Rattle.mls_term.specs.Way.{Step, way, is_filtered, filtered_way, is_beside, 
 use Rattle.mls_term.specs.Edits.{put, enter, grow, trim}
 use Rattle.mls_term.specs.Merge.{merge}
 use Rattle.mls_term.specs.Laws.{IsIn, HasLists}
-use Rattle.mls_paths.specs.Chain.{chain, path_secrets, node_public, chain_keys}
+use Rattle.mls_paths.specs.Chain.{path_secrets, node_public, chain_keys}
 use Rattle.mls_paths.specs.Keys.{Keys, Exact, leaf_only, key_in}
 use Rattle.mls_paths.specs.Follow.{Tame, follow, follow_trim, on_way, follow_edit, Follows}
 use Rattle.mls_paths.specs.Make.{Climb, filtered_count, climb_make, climb_past, path_keys}

@@ -34,4 +34,5 @@ pub mod CommitLaws
 pub mod WholeLaws
 pub mod AnyPathLaws
 pub mod ForkLaws
+pub mod SecretLaws
 pub mod MemberLaws

@@ -4,11 +4,11 @@ use Rattle.std.proofs.lemmas.Bool.{and_parts, and_from}
 use Rattle.mls_leaf.specs.Parent.{Parent}
 use Rattle.mls_term.specs.Term.{Term, Leaf, Branch, width}
 use Rattle.mls_term.specs.Lists.{asked, all_parents, may_be_listed, lists_here, rises_here}
-use Rattle.mls_term.specs.Laws.{HasLists}
 use Rattle.mls_term.specs.SetLaws.{all_at, all_from}
 use Rattle.mls_term.specs.ParentLaws.{parents_parts, parents_from}
 use Rattle.mls_paths.specs.Lists.{below_here, ListsBelow}
 use Rattle.mls_term.specs.NamedLaws.{IsBound}
+use Rattle.mls_paths.specs.Laws.{RightAreBelow}
 
 weaker : (b : ℕ) (p : Parent) (l r : Term) → lists_here b p l r ≡ true → below_here b p l r ≡ true
 unfolding lists_here below_here may_be_listed
@@ -28,7 +28,7 @@ parents_weaker b (Branch c l r) h =
     let p = parents_parts lists_here b c l r h in
     parents_from below_here b (b + width l) c l r (asked_weaker b c l r p.0) (parents_weaker b l p.1) refl (parents_weaker (b + width l) r p.2)
 
-pub right_are_below : (b : ℕ) (t : Term) → HasLists b t → ListsBelow b t
+pub right_are_below : RightAreBelow
 right_are_below b t h = record { below = parents_weaker b t h.right; rising = h.rising }
 
 pub lists_left : (b : ℕ) (c : Option Parent) (l r : Term) → ListsBelow b (Branch c l r) → ListsBelow b l

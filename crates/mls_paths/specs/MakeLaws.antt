@@ -12,10 +12,11 @@ use Rattle.mls_term.specs.ShapeLaws.{size_from_width}
 use Rattle.mls_term.specs.MergeLaws.{width-merge}
 use Rattle.mls_suite.specs.Crypto.{Crypto}
 use Rattle.mls_paths.specs.Chain.{chain, path_secrets, node_key, node_public, chain_keys}
-use Rattle.mls_paths.specs.Keys.{Fits, Along, Exact}
+use Rattle.mls_paths.specs.Keys.{Fits, Along}
 use Rattle.mls_paths.specs.Make.{one_if, filtered_count, secret_above, key_if, made_keys, climb_make, climb_past, more_if, path_keys}
+use Rattle.mls_paths.specs.Laws.{CountIsLength, KeysAreChain, KeysOfSecrets, MakeExact, MakingClimbs}
 
-pub making_climbs : (c : Crypto) (s : Step) (ss : List Step) (start sk : List ℕ) → climb_make c (s ∷ ss) start sk ≡ climb_past c (is_filtered s) (climb_make c ss start sk)
+pub making_climbs : MakingClimbs
 unfolding filtered_count made_keys chain
 making_climbs c s ss start sk = by_test (is_filtered s)
   where
@@ -28,7 +29,7 @@ unfolding chain_keys
 keys_past c start true ks n k = ap (λ zs. node_public c (chain start n) ∷ zs) k
 keys_past c start false ks n k = k
 
-pub keys_are_chain : (c : Crypto) (ss : List Step) (start : List ℕ) → path_keys c ss start ≡ chain_keys c start (filtered_count ss)
+pub keys_are_chain : KeysAreChain
 unfolding path_keys chain_keys filtered_count
 keys_are_chain c [] start = refl
 keys_are_chain c (s ∷ ss) start = keys_past c start (is_filtered s) (path_keys c ss start) (filtered_count ss) (keys_are_chain c ss start)
@@ -37,7 +38,7 @@ pub map-append : {A B : Type 0} (f : A → B) (xs ys : List A) → map f (xs ++ 
 map-append f [] ys = refl
 map-append f (x ∷ xs) ys = ap (λ zs. f x ∷ zs) (map-append f xs ys)
 
-pub keys_of_secrets : (c : Crypto) (start : List ℕ) (k : ℕ) → reverse (map (node_public c) (path_secrets start k)) ≡ chain_keys c start k
+pub keys_of_secrets : KeysOfSecrets
 unfolding path_secrets chain_keys
 keys_of_secrets c start zero = refl
 keys_of_secrets c start (suc k) =
@@ -54,7 +55,7 @@ count_filtered (s ∷ ss) = by_test (is_filtered s) (count_filtered ss)
     by_test true e = ap suc e
     by_test false e = e
 
-pub count_is_length : (b : ℕ) (t : Term) (i : ℕ) → filtered_count (way b t i) ≡ path_length b t i
+pub count_is_length : CountIsLength
 unfolding path_length filtered_way
 count_is_length b t i = count_filtered (way b t i)
 
@@ -118,6 +119,6 @@ along_make c j x start sk e (s ∷ ss) h = by_test (is_filtered s) (along_make c
     by_test true rec = (unfold has in refl, rec _)
     by_test false rec = (tt, rec _)
 
-pub make_exact : (c : Crypto) (b : ℕ) (t : Term) (i : ℕ) (h : List ℕ) (x : LeafNode) (start sk : List ℕ) → c.public sk ≡ x.encryption_key → Exact c b (merge b t i (path_keys c (way b t i) start) h x) i (climb_make c (way b t i) start sk).keys
+pub make_exact : MakeExact
 make_exact c b t i h x start sk e =
     rw (way_merge b t i (path_keys c (way b t i) start) h x, leaf_merge b t i (path_keys c (way b t i) start) h x) (along_make c i x start sk e (way b t i) h)

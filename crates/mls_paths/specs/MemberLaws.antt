@@ -1,25 +1,22 @@
 -- The keys of a member from call to call.
-use Rattle.std.proofs.Common.{◌≡◌, ℕ, suc, ◌≤◌, if◌then◌else◌, true, List, [], ◌∷◌, map, length, reverse, Some, None, is_some, Ok, refl, ap, ap₂, sym, ◌∙◌, subst, inl, inr, arith}
+use Rattle.std.proofs.Common.{◌≡◌, ℕ, suc, ◌≤◌, if◌then◌else◌, true, List, [], ◌∷◌, map, length, reverse, Some, None, is_some, refl, ap, ap₂, sym, ◌∙◌, subst, inl, inr, arith}
 use Rattle.std.proofs.lemmas.Bool.{cases_eq, cases_lt}
 use Rattle.mls_group.specs.declared.update_path.UpdatePathNode.{UpdatePathNode}
 use Rattle.mls_leaf.specs.declared.leaf.LeafNode.{LeafNode}
 use Rattle.mls_suite.specs.Crypto.{Crypto}
-use Rattle.mls_term.specs.Term.{Term, is_perfect, leaf_at}
-use Rattle.mls_term.specs.Way.{Step, way, filtered_path}
-use Rattle.mls_term.specs.Edits.{put}
+use Rattle.mls_term.specs.Term.{Term, leaf_at}
+use Rattle.mls_term.specs.Way.{Step, way}
 use Rattle.mls_term.specs.Merge.{merge, merge_path, keys_beside, hash_beside}
-use Rattle.mls_paths.specs.Make.{climb_to, made_keys, HasMade}
-use Rattle.mls_paths.specs.Follow.{key_above, on_way, follow_edit, Follows}
-use Rattle.mls_paths.specs.Height.{HasFollowed, keys_on, listed}
-use Rattle.mls_paths.specs.Join.{take_answer, is_complete, has_due}
+use Rattle.mls_paths.specs.Make.{climb_to, made_keys}
+use Rattle.mls_paths.specs.Follow.{key_above, on_way, follow_edit}
+use Rattle.mls_paths.specs.Height.{keys_on, listed}
+use Rattle.mls_paths.specs.Join.{is_complete}
 use Rattle.mls_paths.specs.Keys.{Keys, Fits, Exact, PrivateKeys, all_keys, leaf_only, key_in}
-use Rattle.mls_paths.specs.Laws.{AreTwo}
-use Rattle.mls_paths.specs.Members.{HasExact, KeysMerged, with_nodes, ExactReceived, IsReceived, MadeReceived, AreDue, ShownAreDue}
+use Rattle.mls_paths.specs.Members.{HasExact, KeysMerged, with_nodes, ExactReceived, MadeReceived, ShownAreDue, ExactAlone, ExactFollowed, ExactMade, ExactOpened, ExactTaken, ExactUpdated, ExactWhole}
 use Rattle.mls_paths.specs.Open.{opened_secret, opened_path}
 use Rattle.mls_paths.specs.Pairs.{pairs, find_key, IsInOrder}
 use Rattle.mls_paths.specs.EntryLaws.{key_where_held, entry_key}
 use Rattle.mls_paths.specs.PairLaws.{pairs_in_order, pairs_found}
-use Rattle.mls_term.specs.Laws.{IsIn}
 use Rattle.mls_paths.specs.Whole.{keys_of_path}
 use Rattle.mls_paths.specs.HeightLaws.{exact_is_on_way, above_take, above_pass, length-end, length-on_way, same_length, way_height}
 use Rattle.mls_paths.specs.JoinLaws.{take_exact, leaf_exact, take_inside, own_merge}
@@ -59,7 +56,7 @@ way_long t i x keys = ap length (way_merge 0 t i (reverse keys) [] x) ∙ length
 
 -- ---- a member
 
-pub exact_whole : (c : Crypto) (t : Term) (p : PrivateKeys) → Exact c 0 t p.leaf (all_keys p) → HasExact c t p
+pub exact_whole : ExactWhole
 exact_whole c t p e =
     let long : length (all_keys p) ≡ suc (length (way 0 t p.leaf)) = along_length c (Fits c p.leaf) (way 0 t p.leaf) (leaf_at 0 t p.leaf) (all_keys p) e in
     record {
@@ -71,7 +68,7 @@ exact_whole c t p e =
 at_leaf : (c : Crypto) (t : Term) (p : PrivateKeys) (j : ℕ) → p.leaf ≡ j → Exact c 0 t j (all_keys p) → HasExact c t p
 at_leaf c t p j is e = exact_whole c t p (subst (λ i. Exact c 0 t i (all_keys p)) (sym is) e)
 
-pub exact_made : (c : Crypto) (h : ℕ) (t : Term) (x : LeafNode) (start : List ℕ) (old new : PrivateKeys) → is_perfect h t ≡ true → h ≤ 32 → c.public old.own ≡ x.encryption_key → HasMade c start (filtered_path 0 t old.leaf) old new → HasExact c (merge_path t old.leaf x (keys_of_path c t old.leaf start)) new
+pub exact_made : ExactMade
 exact_made c h t x start old new perfect room own made =
     let u : Term = merge_path t old.leaf x (keys_of_path c t old.leaf start) in
     let long : length (way 0 u old.leaf) ≡ length (way 0 t old.leaf) = way_long t old.leaf x (keys_of_path c t old.leaf start) in
@@ -84,7 +81,7 @@ exact_made c h t x start old new perfect room own made =
       low = subst (λ j. length new.above ≤ length (way 0 u j)) (sym made.leaf) (let z : length new.above ≤ length (way 0 u old.leaf) = omega arith in z);
     }
 
-pub exact_followed : (c : Crypto) (t t' : Term) (old new : PrivateKeys) → HasExact c t old → Follows old.leaf t t' → HasFollowed None t' old new → HasExact c t' new
+pub exact_followed : ExactFollowed
 exact_followed c t t' old new had f done =
     let few : length old.above ≤ length (way 0 t old.leaf) = had.low in
     let room : length (all_keys old) ≤ suc (length (way 0 t old.leaf)) = omega (arith, length-end old.above (Some old.own)) in
@@ -92,11 +89,11 @@ exact_followed c t t' old new had f done =
     (subst (λ (ks : Keys). Exact c 0 t' old.leaf ks) (follow_same (way 0 t old.leaf) (way 0 t' old.leaf) (all_keys old) room ∙ sym done.keys)
     (follow_edit_exact c t t' old.leaf (keys_on t old) had.keys f))
 
-pub exact_updated : (c : Crypto) (t t' : Term) (x : LeafNode) (k : List ℕ) (old new : PrivateKeys) → c.public k ≡ x.encryption_key → Follows old.leaf (put 0 t old.leaf (Some x)) t' → HasFollowed (Some k) t' old new → HasExact c t' new
+pub exact_updated : ExactUpdated
 exact_updated c t t' x k old new own f done =
     at_leaf c t' new old.leaf done.leaf (subst (λ (ks : Keys). Exact c 0 t' old.leaf ks) (sym done.keys) (own_edit_exact c t t' old.leaf x k (all_keys old) own f))
 
-pub exact_opened : (c : Crypto) (context : List ℕ) (added : List ℕ) (t : Term) (i : ℕ) (x : LeafNode) (path : List UpdatePathNode) (s : List ℕ) (old new : PrivateKeys) → AreTwo 0 t i old.leaf → HasExact c t old → opened_path c context added t i old.leaf (keys_on t old) path ≡ Ok (climb_to s new) → new.leaf ≡ old.leaf → HasExact c (merge_path t i x (map (λ n. n.encryption_key) path)) new
+pub exact_opened : ExactOpened
 exact_opened c context added t i x path s old new two had opens leaf =
     at_leaf c (merge_path t i x (map (λ (n : UpdatePathNode). n.encryption_key) path)) new old.leaf leaf
     (opened_exact c context added t i old.leaf x (keys_on t old) path (climb_to s new) two had.keys opens)
@@ -158,12 +155,12 @@ shown_are_due c h t p ps perfect inside had are =
       fit = λ d k e. entry_key c 0 t p.leaf (keys_on t p) d k inside had.keys (sym (found d) ∙ e);
     }
 
-pub exact_taken : (c : Crypto) (t : Term) (i : ℕ) (x : LeafNode) (secret s : List ℕ) (old new : PrivateKeys) → AreTwo 0 t i old.leaf → leaf_at 0 t old.leaf ≡ Some x → c.public old.own ≡ x.encryption_key → take_answer c t i old.leaf old.own secret ≡ Ok (climb_to s new) → new.leaf ≡ old.leaf → HasExact c t new
+pub exact_taken : ExactTaken
 exact_taken c t i x secret s old new two leaf own takes same =
     at_leaf c t new old.leaf same
     (take_exact c t i old.leaf x old.own secret (climb_to s new) two.first two.second two.apart leaf own (sym (take_inside c t i old.leaf old.own secret two.first) ∙ takes))
 
-pub exact_alone : (c : Crypto) (t : Term) (x : LeafNode) (sk : List ℕ) (p : PrivateKeys) → leaf_at 0 t p.leaf ≡ Some x → c.public sk ≡ x.encryption_key → all_keys p ≡ Some sk ∷ [] → has_due t p ≡ true → HasExact c t p
+pub exact_alone : ExactAlone
 exact_alone c t x sk p leaf own only due =
     let one : length (all_keys p) ≡ 1 = ap length only in
     let none : length p.above ≡ 0 = omega (arith, length-end p.above (Some p.own)) in

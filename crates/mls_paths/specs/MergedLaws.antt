@@ -12,7 +12,7 @@ use Rattle.mls_paths.specs.Keys.{Keys, rest, key_in}
 use Rattle.mls_paths.specs.Make.{one_if, filtered_count, secret_above, key_if, made_keys, climb_make, more_if, path_keys}
 use Rattle.mls_paths.specs.Seal.{Choose, targets, seal_count, seal_along, IsNodeFor, IsPathOf}
 use Rattle.mls_paths.specs.Open.{left_by, open_first, first_ciphertexts, opened_along, past_parent, open_here, climb_open}
-use Rattle.mls_paths.specs.Laws.{CountMerged}
+use Rattle.mls_paths.specs.Laws.{CountMerged, MakeMerged, OpenMerged, PathHasKeys, PathMerged, SealMerged}
 use Rattle.mls_paths.specs.MakeLaws.{merged_way, way_merge}
 
 open_along : (c : Crypto) (context : List ℕ) (added : List ℕ) (j : ℕ) (ss : List Step) (ms : List (List ℕ)) (h : List ℕ) (ks : Keys) (ns : List UpdatePathNode) →
@@ -35,8 +35,7 @@ pub opened_along_merged : (c : Crypto) (context : List ℕ) (added : List ℕ) (
     opened_along c context added (way b (merge b t i ms h x) i) j ks ns ≡ opened_along c context added (way b t i) j ks ns
 opened_along_merged c context added b t i j ms h x ks ns = rw (way_merge b t i ms h x) (secret_open_along c context added j (way b t i) ms h ks ns)
 
-pub open_merged : (c : Crypto) (context : List ℕ) (added : List ℕ) (b : ℕ) (t : Term) (i j : ℕ) (ms : List (List ℕ)) (h : List ℕ) (x : LeafNode) (ks : Keys) (ns : List UpdatePathNode) →
-    climb_open c context added (way b (merge b t i ms h x) i) j ks ns ≡ climb_open c context added (way b t i) j ks ns
+pub open_merged : OpenMerged
 open_merged c context added b t i j ms h x ks ns = rw (way_merge b t i ms h x) (open_along c context added j (way b t i) ms h ks ns)
 
 pub count_along : (ss : List Step) (ms : List (List ℕ)) (h : List ℕ) → filtered_count (merged_way ss ms h) ≡ filtered_count ss
@@ -61,7 +60,7 @@ make_along c ss ms h start sk =
     let f = made_along c ss ms h start sk in
     rw (e, f) refl
 
-pub make_merged : (c : Crypto) (b : ℕ) (t : Term) (i : ℕ) (ms : List (List ℕ)) (h : List ℕ) (x : LeafNode) (start sk : List ℕ) → climb_make c (way b (merge b t i ms h x) i) start sk ≡ climb_make c (way b t i) start sk
+pub make_merged : MakeMerged
 make_merged c b t i ms h x start sk = rw (way_merge b t i ms h x) (make_along c (way b t i) ms h start sk)
 
 seals_along : (added : List ℕ) (ss : List Step) (ms : List (List ℕ)) (h : List ℕ) → seal_count added (merged_way ss ms h) ≡ seal_count added ss
@@ -84,8 +83,7 @@ sealed_along c context added rnd (s ∷ ss) ms h start =
     let g = sealed_along c context added rnd ss ms' h' start in
     rw (e, f, g) refl
 
-pub seal_merged : (c : Crypto) (context : List ℕ) (added : List ℕ) (rnd : ℕ → List ℕ) (b : ℕ) (t : Term) (i : ℕ) (ms : List (List ℕ)) (h : List ℕ) (x : LeafNode) (start : List ℕ) →
-    seal_along c context added rnd (way b (merge b t i ms h x) i) start ≡ seal_along c context added rnd (way b t i) start
+pub seal_merged : SealMerged
 seal_merged c context added rnd b t i ms h x start = rw (way_merge b t i ms h x) (sealed_along c context added rnd (way b t i) ms h start)
 
 path_along : (c : Crypto) (context : List ℕ) (added : List ℕ) (start : List ℕ) (ss : List Step) (ms : List (List ℕ)) (h : List ℕ) (ns : List UpdatePathNode) →
@@ -105,13 +103,11 @@ path_along c context added start (s ∷ ss) ms h ns p = by_test (is_filtered s) 
         (subst (λ (z : List ℕ). IsNodeFor c context added s z ns) (secret_along ss _ _ start) p.0, rec _ _ (rest ns) p.1)
     by_test false p rec = rec _ _ ns p
 
-pub path_merged : (c : Crypto) (context : List ℕ) (added : List ℕ) (b : ℕ) (t : Term) (i : ℕ) (ms : List (List ℕ)) (h : List ℕ) (x : LeafNode) (start : List ℕ) (ns : List UpdatePathNode) →
-    IsPathOf c context added (way b (merge b t i ms h x) i) start ns → IsPathOf c context added (way b t i) start ns
+pub path_merged : PathMerged
 path_merged c context added b t i ms h x start ns p =
     path_along c context added start (way b t i) ms h ns (subst (λ (z : List Step). IsPathOf c context added z start ns) (way_merge b t i ms h x) p)
 
-pub path_has_keys : (c : Crypto) (context : List ℕ) (added : List ℕ) (start : List ℕ) (ss : List Step) (ns : List UpdatePathNode) →
-    IsPathOf c context added ss start ns → map (λ n. n.encryption_key) ns ≡ path_keys c ss start
+pub path_has_keys : PathHasKeys
 unfolding IsPathOf path_keys
 path_has_keys c context added start [] ns p = ap (λ zs. map (λ n. n.encryption_key) zs) p
 path_has_keys c context added start (s ∷ ss) ns p = by_test (is_filtered s) ns p (path_has_keys c context added start ss)

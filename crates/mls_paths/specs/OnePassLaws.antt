@@ -11,9 +11,10 @@ use Rattle.mls_term.specs.Laws.{IsIn}
 use Rattle.mls_term.specs.ShapeLaws.{width-put}
 use Rattle.mls_term.specs.MemberLaws.{leaf_taken}
 use Rattle.mls_suite.specs.Crypto.{Crypto}
-use Rattle.mls_paths.specs.Keys.{Keys, Fits, IsOwnKey, Along, Exact}
-use Rattle.mls_paths.specs.Follow.{TameAt, TameAlong, Tame, key_above, follow_edit, parent_above, Follows}
+use Rattle.mls_paths.specs.Keys.{Keys, Fits, IsOwnKey, Along}
+use Rattle.mls_paths.specs.Follow.{TameAt, TameAlong, key_above, follow_edit, parent_above, Follows}
 use Rattle.mls_paths.specs.FollowLaws.{tame_at_same, tame_at_trans, fits_follow}
+use Rattle.mls_paths.specs.Laws.{FollowEdit, FollowOwnEdit, FollowsGrow, FollowsTame, FollowsTrans, FollowsTrim}
 
 -- ---- keys by their height
 
@@ -89,7 +90,7 @@ module _ (c : Crypto) (j : ℕ) (x : Option LeafNode) (ks : Keys) (before : ℕ 
         pass_along ts (λ (n : ℕ) (lt : n < length ts). let f = ne_eqb (length ts) n (λ q. omega arith) in rw f at (tame n (omega arith))),
       )
 
-pub follow_edit_exact : (c : Crypto) (t t' : Term) (j : ℕ) (ks : Keys) → Exact c 0 t j ks → Follows j t t' → Exact c 0 t' j (follow_edit None (way 0 t' j) ks)
+pub follow_edit_exact : FollowEdit
 follow_edit_exact c t t' j ks h f =
     subst (λ (x : Option LeafNode). Along c (Fits c j) (way 0 t' j) x (follow_edit None (way 0 t' j) ks)) f.leaf
     (pass_along c j (leaf_at 0 t j) ks (λ n. parent_above n (way 0 t j)) (leaf_above c (Fits c j) (way 0 t j) (leaf_at 0 t j) ks h) (fits_above c j (way 0 t j) (leaf_at 0 t j) ks h)
@@ -100,7 +101,7 @@ follow_edit_exact c t t' j ks h f =
 pub follows_refl : (j : ℕ) (t : Term) → Follows j t t
 follows_refl j t = record { above = λ n. tame_at_same j (parent_above n (way 0 t j)); leaf = refl }
 
-pub follows_trans : (j : ℕ) (t u v : Term) → Follows j t u → Follows j u v → Follows j t v
+pub follows_trans : FollowsTrans
 follows_trans j t u v h k =
     record { above = λ n. tame_at_trans j (parent_above n (way 0 t j)) (parent_above n (way 0 u j)) (parent_above n (way 0 v j)) (h.above n) (k.above n); leaf = h.leaf ∙ k.leaf }
 
@@ -122,7 +123,7 @@ tame_above j (s ∷ ss) (t ∷ ts) h n = let e = tame_length j ss ts h.1 in rw e
     by_test true rec = h.0
     by_test false rec = rec
 
-pub follows_tame : (j : ℕ) (t t' : Term) → Tame j 0 t t' → Follows j t t'
+pub follows_tame : FollowsTame
 follows_tame j t t' h = record { above = tame_above j (way 0 t j) (way 0 t' j) h.along; leaf = h.leaf }
 
 -- under a new root, which is blank
@@ -134,7 +135,7 @@ over_above j s ss blank n = rw blank (by_test (length ss == n))
     by_test true = tt
     by_test false = tame_at_same j (parent_above n ss)
 
-pub follows_grow : (t : Term) (j : ℕ) → IsIn 0 t j → Follows j t (grow t)
+pub follows_grow : FollowsGrow
 unfolding grow
 follows_grow t j inside =
     record {
@@ -151,7 +152,7 @@ cut_above j s ss n = by_test (length ss == n) refl
     by_test true e = let f = no_parent_above n ss (omega (arith, eqb-true (length ss) n e)) in rw f tt
     by_test false e = rw e (tame_at_same j (parent_above n ss))
 
-pub follows_trim : (t : Term) (j : ℕ) → IsIn 0 t j → IsSome (leaf_at 0 t j) → Follows j t (trim t)
+pub follows_trim : FollowsTrim
 unfolding trim
 follows_trim (Leaf v) j inside taken = follows_refl j (Leaf v)
 follows_trim (Branch p l r) j inside taken = by_right (has_leaf r) refl (follows_trim l j)
@@ -219,7 +220,7 @@ blank_along c j x k ks h (s ∷ ts) blank =
     let here : s.parent ≡ None = rw e at (blank (length ts) (omega arith)) in
     (rw here tt, blank_along c j x k ks h ts (λ (n : ℕ) (lt : n < length ts). let f = ne_eqb (length ts) n (λ q. omega arith) in rw f at (blank n (omega arith))))
 
-pub own_edit_exact : (c : Crypto) (t t' : Term) (j : ℕ) (x : LeafNode) (k : List ℕ) (ks : Keys) → c.public k ≡ x.encryption_key → Follows j (put 0 t j (Some x)) t' → Exact c 0 t' j (follow_edit (Some k) (way 0 t' j) ks)
+pub own_edit_exact : FollowOwnEdit
 own_edit_exact c t t' j x k ks h f =
     let leaf : Some x ≡ leaf_at 0 t' j = sym (own_leaf 0 t j (Some x)) ∙ f.leaf in
     subst (λ (y : Option LeafNode). Along c (Fits c j) (way 0 t' j) y (follow_edit (Some k) (way 0 t' j) ks)) leaf

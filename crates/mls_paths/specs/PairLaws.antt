@@ -9,6 +9,7 @@ use Rattle.mls_term.specs.ShapeLaws.{size-width}
 use Rattle.mls_paths.specs.Keys.{Keys, key_in}
 use Rattle.mls_paths.specs.Pairs.{Pair, pair_of, pairs, find_key, AllAfter, IsInOrder}
 use Rattle.mls_paths.specs.EntryLaws.{key_nil, key_at_leaf, key_here, key_left, key_right, key_outside}
+use Rattle.mls_paths.specs.Laws.{PairsFound, PairsInOrder}
 
 module _ (b : ℕ) (p : Option Parent) (l r : Term) (j : ℕ) (o : Option (List ℕ)) (ks : Keys) where
   pairs_left : j < b + width l → pairs b (Branch p l r) j (o ∷ ks) ≡ pairs b l j ks ++ pair_of (2 * b + size l) o
@@ -90,7 +91,7 @@ unfolding IsInOrder
 pair_then_order lo hi n (Some k) ps lt h r = (after_between n lo hi ps lt h, r)
 pair_then_order lo hi n None ps lt h r = r
 
-pub pairs_in_order : (b : ℕ) (t : Term) (j : ℕ) (ks : Keys) → IsIn b t j → IsInOrder (pairs b t j ks)
+pub pairs_in_order : PairsInOrder
 unfolding AllAfter IsInOrder pairs width
 pairs_in_order b (Leaf v) j [] hj = tt
 pairs_in_order b (Leaf v) j (None ∷ ks) hj = tt
@@ -137,7 +138,7 @@ find_none : (b : ℕ) (t : Term) (j n : ℕ) → find_key n (pairs b t j []) ≡
 find_none b (Leaf v) j n = unfold pairs find_key in sym (key_nil (way b (Leaf v) j) j n)
 find_none b (Branch p l r) j n = unfold pairs find_key in sym (key_nil (way b (Branch p l r) j) j n)
 
-pub pairs_found : (b : ℕ) (t : Term) (j : ℕ) (ks : Keys) (n : ℕ) → IsIn b t j → find_key n (pairs b t j ks) ≡ key_in b t j ks n
+pub pairs_found : PairsFound
 unfolding width
 pairs_found b t j [] n hj = find_none b t j n
 pairs_found b (Leaf v) j (o ∷ ks) n hj = unfold pairs in find_pair n (2 * j) o ∙ sym (key_at_leaf b v j o ks n)

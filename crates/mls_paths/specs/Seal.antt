@@ -1,5 +1,6 @@
 -- The path that a committer sends: each secret sealed to those who need it.
 use Rattle.std.specs.Prelude.{◌≡◌, ℕ, suc, ◌+◌, not, ◌&&◌, ◌||◌, if◌then◌else◌, Bool, true, false, List, [], ◌∷◌, length, reverse, codes, Option, Some, None, Result}
+use Rattle.std.specs.List.{slice_get}
 use Rattle.std.specs.Option.{option_map}
 use Rattle.mls_wire.specs.Checks.{given}
 use Rattle.mls_group.specs.declared.update_path.HpkeCiphertext.{HpkeCiphertext}
@@ -13,7 +14,7 @@ use Rattle.mls_term.specs.Places.{key_at}
 use Rattle.mls_term.specs.Way.{Step, way, is_filtered}
 use Rattle.mls_paths.specs.Chain.{node_public}
 use Rattle.mls_paths.specs.Keys.{rest}
-use Rattle.mls_paths.specs.Make.{secret_above}
+use Rattle.mls_paths.specs.Make.{filtered_count, secret_above}
 
 abbrev pub Choose : Bool → Type 0 → Type 0 → Type 0
 Choose true P Q = P
@@ -105,6 +106,26 @@ seal_along c context added rnd (s ∷ ss) start =
 -- (RFC 9420, 7.5 and 7.6)
 unfoldable pub sealed_path : Crypto → List ℕ → List ℕ → (ℕ → List ℕ) → Term → ℕ → List ℕ → Result (List UpdatePathNode) ℕ
 sealed_path c context added rnd t i start = given 36 (option_map reverse (seal_along c context added rnd (way 0 t i) start))
+
+-- ---- the path of any secrets and public keys, the lowest node's first
+
+-- a node of a path, where it has a secret and a key; the secret is sealed to the keys of some nodes of a tree
+abbrev pub node_with : Crypto → List ℕ → ℕ → Term → (ℕ → List ℕ) → ℕ → List ℕ → Option (List ℕ) → Option (List ℕ) → Option UpdatePathNode
+node_with c context b t rnd i ds (Some secret) (Some k) = with_ciphertexts k (seal_all c context secret b t rnd i ds)
+node_with c context b t rnd i ds (Some secret) None = None
+node_with c context b t rnd i ds None k = None
+
+-- the path along a way, the highest node first; none where a filtered parent has no secret or no key, too
+unfoldable pub seal_with : Crypto → List ℕ → List ℕ → (ℕ → List ℕ) → List (List ℕ) → List (List ℕ) → List Step → Option (List UpdatePathNode)
+seal_with c context added rnd secrets keys [] = Some []
+seal_with c context added rnd secrets keys (s ∷ ss) =
+    path_past (is_filtered s)
+    (node_with c context s.first s.other rnd (seal_count added ss) (targets added s) (slice_get secrets (filtered_count ss)) (slice_get keys (filtered_count ss)))
+    (seal_with c context added rnd secrets keys ss)
+
+-- the nodes of the path of leaf i of a whole tree, the lowest first; 36 where there is none
+unfoldable pub sealed_with : Crypto → List ℕ → List ℕ → (ℕ → List ℕ) → List (List ℕ) → List (List ℕ) → Term → ℕ → Result (List UpdatePathNode) ℕ
+sealed_with c context added rnd secrets keys t i = given 36 (option_map reverse (seal_with c context added rnd secrets keys (way 0 t i)))
 
 -- ---- where there is one
 

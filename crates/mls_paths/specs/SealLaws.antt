@@ -9,12 +9,13 @@ use Rattle.mls_suite.specs.Labels.{encrypt_with_label, decrypt_with_label}
 use Rattle.mls_suite.specs.LabelLaws.{opens_sealed, seals_where_fit}
 use Rattle.mls_term.specs.Term.{Term}
 use Rattle.mls_term.specs.Places.{key_at}
-use Rattle.mls_term.specs.Way.{Step, is_filtered}
+use Rattle.mls_term.specs.Way.{is_filtered}
 use Rattle.mls_paths.specs.Chain.{node_public}
 use Rattle.mls_paths.specs.Keys.{rest}
 use Rattle.mls_paths.specs.Make.{secret_above}
 use Rattle.mls_paths.specs.Seal.{Choose, targets, seal_count, ciphertext_of, seal_secret, IsSealedTo, IsSealedToAll, IsNodeFor, IsPathOf, seal_to, cons_both, seal_all, with_ciphertexts, path_past, seal_along, is_fit, all_fit, targets_fit}
 use Rattle.mls_paths.specs.Open.{unseal_secret}
+use Rattle.mls_paths.specs.Laws.{MadePath, PathMade}
 
 -- what is sealed to a public key is opened by its private key
 pub unsealed : (c : Crypto) (l : Lawful c) (context secret k rnd : List ℕ) (x : HpkeCiphertext) → seal_secret c context secret (c.public k) rnd ≡ Some x → unseal_secret c context k x ≡ Some secret
@@ -50,8 +51,7 @@ with_is : (k : List ℕ) (o : Option (List HpkeCiphertext)) (n : UpdatePathNode)
 with_is k (Some xs) n h = let made : UpdatePathNode = record { encryption_key = k; ciphertexts = xs } in let e : made ≡ n = cc in (xs, refl, sym e)
 with_is k None n h = cc
 
-pub made_path : (c : Crypto) (context : List ℕ) (added : List ℕ) (rnd : ℕ → List ℕ) (ss : List Step) (start : List ℕ) (ns : List UpdatePathNode) →
-    seal_along c context added rnd ss start ≡ Some ns → IsPathOf c context added ss start ns
+pub made_path : MadePath
 unfolding seal_along IsPathOf
 made_path c context added rnd [] start ns h = cc
 made_path c context added rnd (s ∷ ss) start ns h = by_test (is_filtered s) h (made_path c context added rnd ss start)
@@ -107,7 +107,7 @@ with_some : (k : List ℕ) (o : Option (List HpkeCiphertext)) → is_some (with_
 with_some k (Some xs) = refl
 with_some k None = refl
 
-pub path_some : (c : Crypto) (l : Lawful c) (context : List ℕ) (added : List ℕ) (rnd : ℕ → List ℕ) (ss : List Step) (start : List ℕ) → is_some (seal_along c context added rnd ss start) ≡ targets_fit c added ss
+pub path_some : PathMade
 unfolding seal_along targets_fit
 path_some c l context added rnd [] start = refl
 path_some c l context added rnd (s ∷ ss) start = by_test (is_filtered s) (path_some c l context added rnd ss start)

@@ -1,8 +1,7 @@
 -- A path reaches each other member by just one of its nodes, and by just one key that the member has.
-use Rattle.std.proofs.Common.{◌≡◌, ℕ, ◌+◌, ◌*◌, ◌<◌, ◌≤◌, Bool, true, false, not, ◌==◌, ◌||◌, if◌then◌else◌, List, [], ◌∷◌, ◌++◌, map, filter, length, suc, Option, Some, None, is_some, refl, ap, ap₂, sym, ◌∙◌, inl, inr, arith, eq-eqb}
+use Rattle.std.proofs.Common.{◌≡◌, ℕ, ◌+◌, ◌*◌, ◌<◌, ◌≤◌, Bool, true, false, not, ◌==◌, ◌||◌, if◌then◌else◌, List, [], ◌∷◌, ◌++◌, map, filter, length, suc, Option, None, is_some, refl, ap, ap₂, sym, ◌∙◌, inl, inr, arith, eq-eqb}
 use Rattle.std.specs.List.{flat_map}
 use Rattle.std.proofs.lemmas.Bool.{cases_lt, and_parts, or_right, true≢false}
-use Rattle.mls_leaf.specs.Parent.{Parent}
 use Rattle.mls_term.specs.Sets.{has, leaf_numbers}
 use Rattle.mls_term.specs.SetLaws.{has-append, has-filter}
 use Rattle.mls_term.specs.Term.{Term, Leaf, Branch, width, size}
@@ -19,7 +18,7 @@ use Rattle.mls_paths.specs.Make.{one_if}
 use Rattle.mls_paths.specs.Lists.{ListsBelow, below_here}
 use Rattle.mls_paths.specs.Seal.{targets}
 use Rattle.mls_paths.specs.Open.{held_count}
-use Rattle.mls_paths.specs.Laws.{AreTwo, OneNode, OneTarget}
+use Rattle.mls_paths.specs.Laws.{OneNode, OneTarget}
 use Rattle.mls_paths.specs.WayLaws.{along_none, along_left, along_right}
 use Rattle.mls_paths.specs.ListLaws.{lists_left, lists_right, below_bound}
 use Rattle.mls_paths.specs.EntryLaws.{key_left, key_right, key_outside, one_entry}

@@ -1,5 +1,5 @@
 -- The laws of a member's private keys in whole trees, as calls on them need them.
-use Rattle.std.specs.Prelude.{◌≡◌, ℕ, true, false, List, map, length, reverse, Some, IsSome, Ok, Err, ◌*◌, take}
+use Rattle.std.specs.Prelude.{◌≡◌, ℕ, true, false, List, map, length, reverse, Some, IsSome, Ok, Err, ◌*◌, take, ◌≤◌}
 use Rattle.std.specs.List.{list_all, slice_get}
 use Rattle.mls_treemath.specs.Steps.{height_of, common_ancestor_of}
 use Rattle.mls_group.specs.declared.update_path.UpdatePathNode.{UpdatePathNode}
@@ -17,9 +17,9 @@ use Rattle.mls_paths.specs.Keys.{Keys, Exact}
 use Rattle.mls_paths.specs.Follow.{Follows}
 use Rattle.mls_paths.specs.Make.{Climb, made_keys}
 use Rattle.mls_paths.specs.Lists.{ListsBelow}
-use Rattle.mls_paths.specs.Seal.{targets, sealed_path, targets_fit}
+use Rattle.mls_paths.specs.Seal.{targets, sealed_path, sealed_with, targets_fit}
 use Rattle.mls_paths.specs.Open.{opened_secret, filtered_from, opened_path}
-use Rattle.mls_paths.specs.Join.{take_keys, AllList, secret_for}
+use Rattle.mls_paths.specs.Join.{take_keys, AllList, secret_for, secret_among}
 use Rattle.mls_paths.specs.Laws.{AreTwo}
 
 -- ---- edits
@@ -54,6 +54,11 @@ SealedKeys = (c : Crypto) (context : List ℕ) (added : List ℕ) (rnd : ℕ →
 -- and each of its nodes a ciphertext for each node that its secret is sealed to
 abbrev pub SealedLengths : Type 0
 SealedLengths = (c : Crypto) (context : List ℕ) (added : List ℕ) (rnd : ℕ → List ℕ) (t : Term) (i : ℕ) (start : List ℕ) (path : List UpdatePathNode) → sealed_path c context added rnd t i start ≡ Ok path → map (λ n. length n.ciphertexts) path ≡ reverse (map (λ s. length (targets added s)) (filtered_way 0 t i))
+
+-- a path of more secrets than are needed is the same, where they are the chain's
+abbrev pub SealedOfChain : Type 0
+SealedOfChain = (c : Crypto) (context : List ℕ) (added : List ℕ) (rnd : ℕ → List ℕ) (t : Term) (i : ℕ) (start : List ℕ) (n : ℕ) → path_length 0 t i ≤ n →
+    sealed_with c context added rnd (path_secrets start n) (map (node_public c) (path_secrets start n)) t i ≡ sealed_path c context added rnd t i start
 
 -- it is refused with 36 exactly where some key that is sealed to isn't fit
 abbrev pub SealedWhereFit : Type 0
@@ -113,6 +118,10 @@ pub record IsAtAncestor (t : Term) (i j : ℕ) (start : List ℕ) : Type 0 where
   pub over_both : common_ancestor_of (width t) (2 * i) (2 * j) ≡ Some node
   pub in_path : slice_get (filtered_path 0 t i) number ≡ Some node
   pub secret : secret_for (way 0 t i) j start ≡ chain start number
+
+-- among the path secrets it is that one
+abbrev pub SecretIsAmong : Type 0
+SecretIsAmong = (t : Term) (i j : ℕ) (start : List ℕ) (n : ℕ) → path_length 0 t i ≤ n → AreTwo 0 t i j → IsSome (leaf_at 0 t j) → secret_among (way 0 t i) j (path_secrets start n) ≡ Some (secret_for (way 0 t i) j start)
 
 abbrev pub SecretAtAncestor : Type 0
 SecretAtAncestor = (h : ℕ) (t : Term) (i j : ℕ) (start : List ℕ) → is_perfect h t ≡ true → height_of (width t) ≡ Some h → AreTwo 0 t i j → IsSome (leaf_at 0 t j) → IsAtAncestor t i j start

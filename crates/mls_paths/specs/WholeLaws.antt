@@ -1,5 +1,5 @@
 -- The laws in whole trees.
-use Rattle.std.proofs.Common.{◌≡◌, ℕ, suc, Bool, true, false, if◌then◌else◌, List, [], ◌∷◌, map, filter, reverse, length, Option, Some, None, is_some, IsSome, Ok, Err, refl, ap, ap₂, sym, ◌∙◌, subst, arith}
+use Rattle.std.proofs.Common.{◌≡◌, ℕ, suc, Bool, true, false, if◌then◌else◌, List, [], ◌∷◌, map, filter, reverse, length, Option, Some, None, is_some, IsSome, Ok, refl, ap, ap₂, sym, ◌∙◌, subst, arith}
 use Rattle.std.specs.Option.{option_map}
 use Rattle.std.proofs.lemmas.Bool.{true≢false}
 use Rattle.std.proofs.lemmas.List.{reverse-reverse}
@@ -8,7 +8,6 @@ use Rattle.mls_group.specs.declared.update_path.HpkeCiphertext.{HpkeCiphertext}
 use Rattle.mls_group.specs.declared.update_path.UpdatePathNode.{UpdatePathNode}
 use Rattle.mls_leaf.specs.declared.leaf.LeafNode.{LeafNode}
 use Rattle.mls_treemath.specs.Steered.{map_reverse}
-use Rattle.mls_term.specs.Sets.{has}
 use Rattle.mls_term.specs.Term.{Term, height, blanks, leaf_at}
 use Rattle.mls_term.specs.Way.{Step, way, is_filtered, filtered_way, filtered_path, path_length}
 use Rattle.mls_term.specs.Edits.{put, enter, grow, trim, first_blank, place_for, room_for, place_in, add, update, remove}
@@ -17,17 +16,16 @@ use Rattle.mls_term.specs.Equations.{way_left}
 use Rattle.mls_term.specs.Laws.{IsIn}
 use Rattle.mls_term.specs.ShapeLaws.{width-put}
 use Rattle.mls_term.specs.PlaceLaws.{first_blank_at, width-grow}
-use Rattle.mls_suite.specs.Crypto.{Crypto, Lawful}
+use Rattle.mls_suite.specs.Crypto.{Crypto}
 use Rattle.mls_paths.specs.Chain.{chain, chain_keys}
-use Rattle.mls_paths.specs.Keys.{Keys, Fits, Exact, rest}
+use Rattle.mls_paths.specs.Keys.{Fits, Exact, rest}
 use Rattle.mls_paths.specs.Follow.{Tame, Follows}
 use Rattle.mls_paths.specs.Make.{Climb, filtered_count, secret_above, made_keys, path_keys}
-use Rattle.mls_paths.specs.Lists.{ListsBelow}
-use Rattle.mls_paths.specs.Seal.{Choose, targets, sealed_path, seal_along, targets_fit, IsSealedToAll, IsNodeFor, IsPathOf}
+use Rattle.mls_paths.specs.Seal.{Choose, targets, sealed_path, seal_along, IsSealedToAll, IsNodeFor, IsPathOf}
 use Rattle.mls_paths.specs.Open.{opened_along, opened_secret, opened_path, climb_open}
 use Rattle.mls_paths.specs.Join.{take_keys, AllList, secret_for}
 use Rattle.mls_paths.specs.Laws.{AreTwo}
-use Rattle.mls_paths.specs.Whole.{keys_of_path, SecretMerged, OpenedIsSent}
+use Rattle.mls_paths.specs.Whole.{keys_of_path, SecretMerged, OpenedIsSent, AddKeepsListed, AddedIsListed, FilteredMerged, FollowsAdd, FollowsRemove, FollowsUpdate, LengthMerged, MadeExact, MadeMerged, OpenedAgrees, OpenedExact, OpenedMerged, RefusedWhereUnfit, SealedKeys, SealedLengths, SealedMerged, SealedWhereFit, SecretForMerged, TakenAgrees}
 use Rattle.mls_paths.specs.FollowLaws.{tame_refl, tame_put, tame_enter}
 use Rattle.mls_paths.specs.OnePassLaws.{follows_trans, follows_tame, follows_grow, follows_trim}
 use Rattle.mls_paths.specs.MakeLaws.{merged_step, merged_way, way_merge, keys_are_chain, keys_of_secrets, count_is_length, make_exact}
@@ -39,11 +37,11 @@ use Rattle.mls_paths.specs.JoinLaws.{take_agree, entered_lists, tame_lists}
 
 -- ---- edits
 
-pub follows_update : (t : Term) (i j : ℕ) (x : LeafNode) → AreTwo 0 t i j → Follows j t (update t i x)
+pub follows_update : FollowsUpdate
 unfolding update
 follows_update t i j x two = follows_tame j t (put 0 t i (Some x)) (tame_put j 0 t i (Some x) two.apart two.first two.second)
 
-pub follows_remove : (t : Term) (i j : ℕ) → AreTwo 0 t i j → IsSome (leaf_at 0 t j) → Follows j t (remove t i)
+pub follows_remove : FollowsRemove
 unfolding remove
 follows_remove t i j two taken =
     let tame : Tame j 0 t (put 0 t i None) = tame_put j 0 t i None two.apart two.first two.second in
@@ -79,7 +77,7 @@ place_of t j (Some i) e inside taken =
       follows = follows_tame j t t (tame_refl j 0 t);
     }
 
-pub follows_add : (t : Term) (j : ℕ) (x : LeafNode) → IsIn 0 t j → IsSome (leaf_at 0 t j) → Follows j t (add t x)
+pub follows_add : FollowsAdd
 unfolding add
 follows_add t j x inside taken =
     let p = place_of t j (first_blank 0 t) refl inside taken in
@@ -87,7 +85,7 @@ follows_add t j x inside taken =
     follows_trans j t (room_for (first_blank 0 t) t) (enter 0 (room_for (first_blank 0 t) t) (place_in t) x) p.follows
     (follows_tame j (room_for (first_blank 0 t) t) (enter 0 (room_for (first_blank 0 t) t) (place_in t) x) (tame_enter j 0 (room_for (first_blank 0 t) t) (place_in t) x two.apart two.first two.second))
 
-pub added_is_listed : (t : Term) (x : LeafNode) → AllList (place_in t) (way 0 (add t x) (place_in t))
+pub added_is_listed : AddedIsListed
 unfolding add
 added_is_listed t x = entered_lists 0 (room_for (first_blank 0 t) t) (place_in t) x
 
@@ -96,7 +94,7 @@ unfolding grow AllList
 room_lists t j None inside h = rw (way_left 0 None t (blanks (height t)) j inside.high) (tt, h)
 room_lists t j (Some i) inside h = h
 
-pub add_keeps_listed : (t : Term) (j : ℕ) (x : LeafNode) → IsIn 0 t j → IsSome (leaf_at 0 t j) → AllList j (way 0 t j) → AllList j (way 0 (add t x) j)
+pub add_keeps_listed : AddKeepsListed
 unfolding add
 add_keeps_listed t j x inside taken h =
     let p = place_of t j (first_blank 0 t) refl inside taken in
@@ -131,7 +129,7 @@ sealed_is c context added rnd t i start path h = by_nodes (seal_along c context 
     by_nodes (Some ns) e h = record { nodes = ns; sealed = e; turned = cc }
     by_nodes None e h = cc
 
-pub sealed_keys : (c : Crypto) (context : List ℕ) (added : List ℕ) (rnd : ℕ → List ℕ) (t : Term) (i : ℕ) (start : List ℕ) (path : List UpdatePathNode) → sealed_path c context added rnd t i start ≡ Ok path → map (λ n. n.encryption_key) path ≡ keys_of_path c t i start
+pub sealed_keys : SealedKeys
 sealed_keys c context added rnd t i start path h =
     let s = sealed_is c context added rnd t i start path h in
     let p = path_has_keys c context added start (way 0 t i) s.nodes (made_path c context added rnd (way 0 t i) start s.nodes s.sealed) in
@@ -161,7 +159,7 @@ path_lengths c context added start (s ∷ ss) ns p = by_test (is_filtered s) ns 
     by_test true (n ∷ ns) p rec = ap₂ (λ k ks. k ∷ ks) (all_sealed c context (secret_above ss start) s.first s.other (targets added s) n.ciphertexts p.0.1) (rec ns p.1)
     by_test false ns p rec = rec ns p
 
-pub sealed_lengths : (c : Crypto) (context : List ℕ) (added : List ℕ) (rnd : ℕ → List ℕ) (t : Term) (i : ℕ) (start : List ℕ) (path : List UpdatePathNode) → sealed_path c context added rnd t i start ≡ Ok path → map (λ n. length n.ciphertexts) path ≡ reverse (map (λ s. length (targets added s)) (filtered_way 0 t i))
+pub sealed_lengths : SealedLengths
 unfolding filtered_way
 sealed_lengths c context added rnd t i start path h =
     let s = sealed_is c context added rnd t i start path h in
@@ -177,22 +175,22 @@ is_missing : {A : Type 0} (o : Option A) → is_some o ≡ false → o ≡ None
 is_missing (Some x) h = cc
 is_missing None h = refl
 
-pub sealed_where_fit : (c : Crypto) → Lawful c → (context : List ℕ) (added : List ℕ) (rnd : ℕ → List ℕ) (t : Term) (i : ℕ) (start : List ℕ) → targets_fit c added (way 0 t i) ≡ true → (path : List UpdatePathNode) × (sealed_path c context added rnd t i start ≡ Ok path)
+pub sealed_where_fit : SealedWhereFit
 unfolding sealed_path
 sealed_where_fit c l context added rnd t i start h =
     let s = is_there (seal_along c context added rnd (way 0 t i) start) (path_some c l context added rnd (way 0 t i) start ∙ h) in
     (reverse s.0, ap (λ o. given 36 (option_map reverse o)) s.1)
 
-pub refused_where_unfit : (c : Crypto) → Lawful c → (context : List ℕ) (added : List ℕ) (rnd : ℕ → List ℕ) (t : Term) (i : ℕ) (start : List ℕ) → targets_fit c added (way 0 t i) ≡ false → sealed_path c context added rnd t i start ≡ Err 36
+pub refused_where_unfit : RefusedWhereUnfit
 unfolding sealed_path
 refused_where_unfit c l context added rnd t i start h =
     ap (λ o. given 36 (option_map reverse o)) (is_missing (seal_along c context added rnd (way 0 t i) start) (path_some c l context added rnd (way 0 t i) start ∙ h))
 
-pub sealed_merged : (c : Crypto) (context : List ℕ) (added : List ℕ) (rnd : ℕ → List ℕ) (t : Term) (i : ℕ) (x : LeafNode) (keys : List (List ℕ)) (start : List ℕ) → sealed_path c context added rnd (merge_path t i x keys) i start ≡ sealed_path c context added rnd t i start
+pub sealed_merged : SealedMerged
 unfolding sealed_path merge_path
 sealed_merged c context added rnd t i x keys start = ap (λ o. given 36 (option_map reverse o)) (seal_merged c context added rnd 0 t i (reverse keys) [] x start)
 
-pub opened_merged : (c : Crypto) (context : List ℕ) (added : List ℕ) (t : Term) (i j : ℕ) (x : LeafNode) (keys : List (List ℕ)) (ks : Keys) (path : List UpdatePathNode) → opened_path c context added (merge_path t i x keys) i j ks path ≡ opened_path c context added t i j ks path
+pub opened_merged : OpenedMerged
 unfolding opened_path merge_path
 opened_merged c context added t i j x keys ks path = open_merged c context added 0 t i j (reverse keys) [] x ks (reverse path)
 
@@ -200,14 +198,14 @@ pub secret_merged : SecretMerged
 unfolding opened_secret merge_path
 secret_merged c context added t i j x keys ks path = opened_along_merged c context added 0 t i j (reverse keys) [] x ks (reverse path)
 
-pub made_exact : (c : Crypto) (t : Term) (i : ℕ) (x : LeafNode) (start sk : List ℕ) → c.public sk ≡ x.encryption_key → Exact c 0 (merge_path t i x (keys_of_path c t i start)) i (made_keys c (way 0 t i) start sk)
+pub made_exact : MadeExact
 made_exact c t i x start sk h = subst (λ (u : Term). Exact c 0 u i (made_keys c (way 0 t i) start sk)) (sym (merge_of c t i x start)) (make_exact c 0 t i [] x start sk h)
 
-pub made_merged : (c : Crypto) (t : Term) (i : ℕ) (x : LeafNode) (keys : List (List ℕ)) (start sk : List ℕ) → made_keys c (way 0 (merge_path t i x keys) i) start sk ≡ made_keys c (way 0 t i) start sk
+pub made_merged : MadeMerged
 unfolding merge_path
 made_merged c t i x keys start sk = ap (λ (m : Climb). m.keys) (make_merged c 0 t i (reverse keys) [] x start sk)
 
-pub length_merged : (t : Term) (i : ℕ) (x : LeafNode) (keys : List (List ℕ)) → path_length 0 (merge_path t i x keys) i ≡ path_length 0 t i
+pub length_merged : LengthMerged
 unfolding merge_path
 length_merged t i x keys =
     sym (count_is_length 0 (merge 0 t i (reverse keys) [] x) i)
@@ -227,20 +225,19 @@ filtered_along (s ∷ ss) ms h =
     let h' : List ℕ = hash_beside s.first s.other ms h in
     filtered_more (is_filtered s) s (merged_step s ms h) (filter is_filtered (merged_way ss ms' h')) (filter is_filtered ss) refl (filtered_along ss ms' h')
 
-pub filtered_merged : (t : Term) (i : ℕ) (x : LeafNode) (keys : List (List ℕ)) → filtered_path 0 (merge_path t i x keys) i ≡ filtered_path 0 t i
+pub filtered_merged : FilteredMerged
 unfolding filtered_path filtered_way merge_path
 filtered_merged t i x keys =
     ap (λ ss. reverse (map (λ (z : Step). z.node) (filter is_filtered ss))) (way_merge 0 t i (reverse keys) [] x)
     ∙ ap reverse (filtered_along (way 0 t i) (reverse keys) [])
 
-pub opened_exact : (c : Crypto) (context : List ℕ) (added : List ℕ) (t : Term) (i j : ℕ) (x : LeafNode) (ks : Keys) (path : List UpdatePathNode) (m : Climb) → AreTwo 0 t i j → Exact c 0 t j ks → opened_path c context added t i j ks path ≡ Ok m → Exact c 0 (merge_path t i x (map (λ n. n.encryption_key) path)) j m.keys
+pub opened_exact : OpenedExact
 unfolding opened_path merge_path
 opened_exact c context added t i j x ks path m two exact h =
     subst (λ (zs : List (List ℕ)). Exact c 0 (merge 0 t i zs [] x) j m.keys) (map_reverse (λ (n : UpdatePathNode). n.encryption_key) path)
     (climb_exact c context added 0 t i j ks (reverse path) [] x m two.first two.second two.apart exact h)
 
-pub opened_agrees : (c : Crypto) → Lawful c → (context : List ℕ) (added : List ℕ) (rnd : ℕ → List ℕ) (t : Term) (i j : ℕ) (start : List ℕ) (ks : Keys) (path : List UpdatePathNode) → length start ≡ 32 → AreTwo 0 t i j → ListsBelow 0 t → Exact c 0 t j ks → has added j ≡ false → sealed_path c context added rnd t i start ≡ Ok path →
-    (m : Climb) × (opened_path c context added t i j ks path ≡ Ok m) × (m.secret ≡ chain start (path_length 0 t i))
+pub opened_agrees : OpenedAgrees
 unfolding opened_path
 opened_agrees c l context added rnd t i j start ks path long two good exact old h =
     let s = sealed_is c context added rnd t i start path h in
@@ -258,8 +255,7 @@ opened_is_sent c l context added rnd t i j start ks path long two good exact old
     ap (opened_along c context added (way 0 t i) j ks) turned
     ∙ opened_along_is c l context added j start long old (way 0 t i) ks s.nodes (good_sides 0 t i good) (meets_from c (Fits c j) i j two.apart 0 t ks two.first two.second exact) p
 
-pub taken_agrees : (c : Crypto) (t : Term) (i j : ℕ) (x y : LeafNode) (start own : List ℕ) → AreTwo 0 t i j → leaf_at 0 t j ≡ Some y → c.public own ≡ y.encryption_key → AllList j (way 0 t j) →
-    (m : Climb) × (take_keys c (merge_path t i x (keys_of_path c t i start)) i j own (secret_for (way 0 t i) j start) ≡ Ok m) × (m.secret ≡ chain start (path_length 0 t i))
+pub taken_agrees : TakenAgrees
 taken_agrees c t i j x y start own two leaf is_own lists =
     let agree = take_agree c t i j [] x y start start own two.first two.second two.apart leaf is_own lists in
     (_, ap (λ u. take_keys c u i j own (secret_for (way 0 t i) j start)) (merge_of c t i x start) ∙ agree, ap (chain start) (count_is_length 0 t i))
@@ -274,6 +270,6 @@ secret_for_along (s ∷ ss) j ms h start =
     let f = secret_for_along ss j ms' h' start in
     rw (e, f) refl
 
-pub secret_for_merged : (t : Term) (i j : ℕ) (x : LeafNode) (keys : List (List ℕ)) (start : List ℕ) → secret_for (way 0 (merge_path t i x keys) i) j start ≡ secret_for (way 0 t i) j start
+pub secret_for_merged : SecretForMerged
 unfolding merge_path
 secret_for_merged t i j x keys start = ap (λ ss. secret_for ss j start) (way_merge 0 t i (reverse keys) [] x) ∙ secret_for_along (way 0 t i) j (reverse keys) [] start

@@ -13,7 +13,7 @@ ghost use Rattle.mls_paths.specs.Laws.{TakeExact, TakeInside, LeafHasDue, LeafEx
 ghost use Rattle.mls_paths.specs.Whole.{FollowsUpdate, FollowsRemove, FollowsAdd, AddedIsListed, AddKeepsListed};
 ghost use Rattle.mls_paths.specs.Examples.{SecretOfOne, SecretOfFour, PathOfFour, TargetsOfFour, KeysOfMaker, KeysBeside, KeysAcross, TargetsBesideAdded};
 ghost use Rattle.mls_paths.specs.Members.{ExactWhole, ExactMade, ExactFollowed, ExactUpdated, ExactOpened, KeysMerged, ExactReceived, MadeReceived, ShownAreDue, ExactTaken, ExactAlone};
-ghost use Rattle.mls_paths.specs.Whole.{SealedKeys, SealedLengths, SealedWhereFit, RefusedWhereUnfit, FitTargets, SealedMerged, OpenedMerged, SecretMerged, MadeExact, MadeMerged, LengthMerged, FilteredMerged, OpenedExact, OpenedAgrees, OpenedIsSent, SecretAtAncestor, TakenAgrees, SecretForMerged};
+ghost use Rattle.mls_paths.specs.Whole.{SealedKeys, SealedLengths, SealedOfChain, SealedWhereFit, RefusedWhereUnfit, FitTargets, SealedMerged, OpenedMerged, SecretMerged, MadeExact, MadeMerged, LengthMerged, FilteredMerged, OpenedExact, OpenedAgrees, OpenedIsSent, SecretIsAmong, SecretAtAncestor, TakenAgrees, SecretForMerged};
 ghost use Rattle.mls_paths.specs.Whole.{RefusedUnopened, JudgedByKeys};
 
 /// Exact keys follow the edits of a tree.
@@ -116,6 +116,7 @@ pub fn laws_of_edits()
 pub fn laws_of_paths()
     ensures keys { SealedKeys }
     ensures lengths { SealedLengths }
+    ensures of_chain { SealedOfChain }
     ensures fit { SealedWhereFit }
     ensures unfit { RefusedWhereUnfit }
     ensures fit_targets { FitTargets }
@@ -129,6 +130,7 @@ pub fn laws_of_paths()
     ensures opened_exact { OpenedExact }
     ensures opened_agrees { OpenedAgrees }
     ensures opened_secret { OpenedIsSent }
+    ensures among { SecretIsAmong }
     ensures at_ancestor { SecretAtAncestor }
     ensures taken_agrees { TakenAgrees }
     ensures secret_merged { SecretForMerged }

@@ -1,8 +1,9 @@
 //! The lines of Welcomes and GroupInfos.
 
-ghost use Rattle.std.specs.Prelude.{◌≡◌, ◌++◌, map, length, option_map, IfOk};
-ghost use Rattle.mls_text.specs.Text.{entry_of};
-ghost use Rattle.mls_show.specs.Group.{context_entries, front_entries, group_info_entries, member_entry, signer_entries, tree_nodes, welcome_entries};
+ghost use Rattle.std.specs.Prelude.{◌≡◌, ◌++◌, ◌∷◌, [], codes, map, length, option_map, IfOk};
+ghost use Rattle.mls_text.specs.Text.{bytes, digits, entry, entry_of, number};
+ghost use Rattle.mls_show.specs.Public.{counted};
+ghost use Rattle.mls_show.specs.Group.{group_info_entries, member_entry, tree_nodes, welcome_entries};
 
 use crate::public::count_field;
 use mls_leaf::Bytes;
@@ -28,7 +29,9 @@ fn member_lines(alloc: Global, secrets: &[EncryptedGroupSecrets]) -> Result<Vec<
 }
 
 fn front_lines(alloc: Global, cipher_suite: u16, members: usize) -> Result<Vec<Line>, AllocError>
-    ensures { IfOk result (λ lines. map entry_of lines.items ≡ front_entries cipher_suite members) }
+    ensures { IfOk result (λ lines. map entry_of lines.items
+        ≡ entry [] (codes "cipher_suite") (digits cipher_suite)
+        ∷ entry [] (codes "new_members") (number members) ∷ []) }
 {
     Ok(vec![in alloc;
         line_of("", "cipher_suite", Field::Digits(cipher_suite)),
@@ -53,7 +56,12 @@ pub fn welcome_lines(alloc: Global, welcome: &Welcome) -> Result<Vec<Line>, Allo
 }
 
 fn context_lines(alloc: Global, context: GroupContext) -> Result<Vec<Line>, AllocError>
-    ensures { IfOk result (λ lines. map entry_of lines.items ≡ context_entries context) }
+    ensures { IfOk result (λ lines. map entry_of lines.items
+        ≡ entry [] (codes "cipher_suite") (digits context.cipher_suite)
+        ∷ entry [] (codes "group_id") (bytes context.group_id)
+        ∷ entry [] (codes "epoch") (number context.epoch)
+        ∷ entry [] (codes "tree_hash") (bytes context.tree_hash)
+        ∷ entry [] (codes "confirmed_transcript_hash") (bytes context.confirmed_transcript_hash) ∷ []) }
 {
     let GroupContext {
         cipher_suite,
@@ -91,7 +99,11 @@ fn signer_lines(
     signer: u32,
     signature: Bytes,
 ) -> Result<Vec<Line>, AllocError>
-    ensures { IfOk result (λ lines. map entry_of lines.items ≡ signer_entries nodes confirmation_tag signer signature) }
+    ensures { IfOk result (λ lines. map entry_of lines.items
+        ≡ entry [] (codes "tree_nodes") (counted nodes)
+        ∷ entry [] (codes "confirmation_tag") (bytes confirmation_tag)
+        ∷ entry [] (codes "signer") (number signer)
+        ∷ entry [] (codes "signature") (bytes signature) ∷ []) }
 {
     Ok(vec![in alloc;
         line_of("", "tree_nodes", count_field(nodes)),

@@ -1,9 +1,9 @@
 //! The lines of messages.
 
 ghost use Rattle.std.specs.Prelude.{◌≡◌, ◌++◌, [], map, length, IfOk, Ok};
-ghost use Rattle.mls_leaf.specs.Faults.{Gives};
+ghost use Rattle.mls_leaf.specs.Faults.{FaultsOutright, Gives};
 ghost use Rattle.mls_text.specs.Text.{entry_of};
-ghost use Rattle.mls_show.specs.Message.{head_entries, message_entries, text_of};
+ghost use Rattle.mls_show.specs.Message.{headed, message_entries, text_of};
 
 use crate::group::{group_info_lines, welcome_lines};
 use crate::package::key_package_lines;
@@ -13,15 +13,6 @@ use mls_text::{Field, Line, joined, line_of};
 use mls_types::MlsMessage;
 use std::alloc::{AllocError, Global};
 
-fn head_lines(alloc: Global, kind: &'static str, size: usize) -> Result<Vec<Line>, AllocError>
-    ensures { IfOk result (λ lines. map entry_of lines.items ≡ head_entries kind.entry.now size) }
-{
-    Ok(vec![in alloc;
-        line_of("", "message", Field::Word(kind)),
-        line_of("", "bytes", Field::Number(size as u64)),
-    ]?)
-}
-
 /// The lines with those that begin each message in front of them.
 fn behind_head(
     alloc: Global,
@@ -29,9 +20,13 @@ fn behind_head(
     size: usize,
     lines: Vec<Line>,
 ) -> Result<Vec<Line>, AllocError>
-    ensures { IfOk result (λ all. map entry_of all.items ≡ head_entries kind.entry.now size ++ map entry_of lines.items) }
+    ensures { IfOk result (λ all. map entry_of all.items ≡ headed kind.entry.now size (map entry_of lines.items)) }
 {
-    joined(head_lines(alloc, kind, size)?, lines)
+    let head = vec![in alloc;
+        line_of("", "message", Field::Word(kind)),
+        line_of("", "bytes", Field::Number(size as u64)),
+    ]?;
+    joined(head, lines)
 }
 
 /// The lines of a message that is spelled in so many bytes.
@@ -65,7 +60,9 @@ pub fn message_lines(
 
 /// The lines of the MLSMessage that the bytes spell, or its first fault (2 to 7, 11 to 14).
 pub fn show_text(alloc: Global, bytes: &[u8]) -> Result<Vec<Line>, LeafError>
-    ensures { Gives (λ lines. map entry_of lines.items) result (text_of bytes.now) }
+    ensures lines { Gives (λ lines. map entry_of lines.items) result (text_of bytes.now) }
+    // A fault is answered whatever memory there is.
+    ensures outright { FaultsOutright (text_of bytes.now) result }
 {
     let message = MlsMessage::decode(alloc, bytes)?;
     let lines = message_lines(alloc, bytes.len(), message)?;

@@ -1,8 +1,8 @@
 //! The lines of leaves and KeyPackages.
 
-ghost use Rattle.std.specs.Prelude.{◌≡◌, map, IfOk};
-ghost use Rattle.mls_text.specs.Text.{entry_of};
-ghost use Rattle.mls_show.specs.Package.{capability_entries, front_entries, identity_entries, key_package_entries, leaf_entries, source_entries};
+ghost use Rattle.std.specs.Prelude.{◌≡◌, ◌∷◌, [], codes, map, IfOk};
+ghost use Rattle.mls_text.specs.Text.{bytes, digits, entry, entry_of, numbers};
+ghost use Rattle.mls_show.specs.Package.{key_package_entries, leaf_entries, source_entries};
 
 use mls_leaf::{Bytes, Capabilities, Credential, KeyPackage, LeafNode, LeafSource};
 use mls_text::{Field, Line, ended, joined, line_of};
@@ -16,7 +16,9 @@ fn identity_lines(
     credential: Credential,
 ) -> Result<Vec<Line>, AllocError>
     ensures { IfOk result (λ lines. map entry_of lines.items
-        ≡ identity_entries prefix.entry.now encryption_key signature_key credential) }
+        ≡ entry prefix.entry.now (codes "leaf.encryption_key") (bytes encryption_key)
+        ∷ entry prefix.entry.now (codes "leaf.signature_key") (bytes signature_key)
+        ∷ entry prefix.entry.now (codes "leaf.identity") (bytes credential.identity) ∷ []) }
 {
     let Credential { identity } = credential;
     Ok(vec![in alloc;
@@ -31,7 +33,12 @@ fn capability_lines(
     prefix: &'static str,
     capabilities: Capabilities,
 ) -> Result<Vec<Line>, AllocError>
-    ensures { IfOk result (λ lines. map entry_of lines.items ≡ capability_entries prefix.entry.now capabilities) }
+    ensures { IfOk result (λ lines. map entry_of lines.items
+        ≡ entry prefix.entry.now (codes "leaf.versions") (numbers capabilities.versions)
+        ∷ entry prefix.entry.now (codes "leaf.cipher_suites") (numbers capabilities.cipher_suites)
+        ∷ entry prefix.entry.now (codes "leaf.extensions") (numbers capabilities.extensions)
+        ∷ entry prefix.entry.now (codes "leaf.proposals") (numbers capabilities.proposals)
+        ∷ entry prefix.entry.now (codes "leaf.credentials") (numbers capabilities.credentials) ∷ []) }
 {
     let Capabilities {
         versions,
@@ -107,7 +114,9 @@ fn front_lines(
     cipher_suite: u16,
     init_key: Bytes,
 ) -> Result<Vec<Line>, AllocError>
-    ensures { IfOk result (λ lines. map entry_of lines.items ≡ front_entries prefix.entry.now cipher_suite init_key) }
+    ensures { IfOk result (λ lines. map entry_of lines.items
+        ≡ entry prefix.entry.now (codes "cipher_suite") (digits cipher_suite)
+        ∷ entry prefix.entry.now (codes "init_key") (bytes init_key) ∷ []) }
 {
     Ok(vec![in alloc;
         line_of(prefix, "cipher_suite", Field::Digits(cipher_suite)),

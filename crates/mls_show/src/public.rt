@@ -1,8 +1,8 @@
 //! The lines of public messages.
 
-ghost use Rattle.std.specs.Prelude.{◌≡◌, ◌++◌, map, length, option_map, IfOk};
-ghost use Rattle.mls_text.specs.Text.{entry_of, shown_by};
-ghost use Rattle.mls_show.specs.Public.{application_entries, body_entries, commit_entries, content_entries, counted, frame_entries, leaf_index, path_nodes, proposal_entries, proposed_entries, public_message_entries, remove_entries, worded};
+ghost use Rattle.std.specs.Prelude.{◌≡◌, ◌++◌, ◌∷◌, [], codes, map, length, option_map, IfOk};
+ghost use Rattle.mls_text.specs.Text.{bytes, entry, entry_of, number, shown_by, word};
+ghost use Rattle.mls_show.specs.Public.{body_entries, counted, leaf_index, path_nodes, proposal_entries, public_message_entries};
 
 use crate::package::{key_package_lines, leaf_lines};
 use mls_leaf::{Bytes, Proposal};
@@ -35,7 +35,11 @@ fn frame_lines(
     sender: Sender,
     authenticated_data: Bytes,
 ) -> Result<Vec<Line>, AllocError>
-    ensures { IfOk result (λ lines. map entry_of lines.items ≡ frame_entries group_id epoch sender authenticated_data) }
+    ensures { IfOk result (λ lines. map entry_of lines.items
+        ≡ entry [] (codes "group_id") (bytes group_id)
+        ∷ entry [] (codes "epoch") (number epoch)
+        ∷ entry [] (codes "sender") (number (leaf_index sender))
+        ∷ entry [] (codes "authenticated_data") (bytes authenticated_data) ∷ []) }
 {
     let sender = index_of(&sender);
     Ok(vec![in alloc;
@@ -46,26 +50,22 @@ fn frame_lines(
     ]?)
 }
 
-fn worded(alloc: Global, name: &'static str, word: &'static str) -> Result<Vec<Line>, AllocError>
-    ensures { IfOk result (λ lines. map entry_of lines.items ≡ worded name.entry.now word.entry.now) }
-{
-    Ok(vec![in alloc; line_of("", name, Field::Word(word))]?)
-}
-
 /// The lines behind a line of one word.
 fn behind_word(
     alloc: Global,
     name: &'static str,
-    word: &'static str,
+    value: &'static str,
     lines: Vec<Line>,
 ) -> Result<Vec<Line>, AllocError>
-    ensures { IfOk result (λ all. map entry_of all.items ≡ worded name.entry.now word.entry.now ++ map entry_of lines.items) }
+    ensures { IfOk result (λ all. map entry_of all.items ≡ entry [] name.entry.now (word value.entry.now) ∷ map entry_of lines.items) }
 {
-    joined(worded(alloc, name, word)?, lines)
+    let front = vec![in alloc; line_of("", name, Field::Word(value))]?;
+    joined(front, lines)
 }
 
 fn remove_lines(alloc: Global, removed: u32) -> Result<Vec<Line>, AllocError>
-    ensures { IfOk result (λ lines. map entry_of lines.items ≡ remove_entries removed) }
+    ensures { IfOk result (λ lines. map entry_of lines.items
+        ≡ entry [] (codes "proposal") (word (codes "remove")) ∷ entry [] (codes "removed") (number removed) ∷ []) }
 {
     Ok(vec![in alloc;
         line_of("", "proposal", Field::Word("remove")),
@@ -107,7 +107,12 @@ fn commit_lines(
     signature: Bytes,
     confirmation_tag: Bytes,
 ) -> Result<Vec<Line>, AllocError>
-    ensures { IfOk result (λ lines. map entry_of lines.items ≡ commit_entries proposals nodes signature confirmation_tag) }
+    ensures { IfOk result (λ lines. map entry_of lines.items
+        ≡ entry [] (codes "content") (word (codes "commit"))
+        ∷ entry [] (codes "proposals") (number proposals)
+        ∷ entry [] (codes "path_nodes") (counted nodes)
+        ∷ entry [] (codes "signature") (bytes signature)
+        ∷ entry [] (codes "confirmation_tag") (bytes confirmation_tag) ∷ []) }
 {
     Ok(vec![in alloc;
         line_of("", "content", Field::Word("commit")),
@@ -123,7 +128,10 @@ fn application_lines(
     content: Bytes,
     signature: Bytes,
 ) -> Result<Vec<Line>, AllocError>
-    ensures { IfOk result (λ lines. map entry_of lines.items ≡ application_entries content signature) }
+    ensures { IfOk result (λ lines. map entry_of lines.items
+        ≡ entry [] (codes "content") (word (codes "application"))
+        ∷ entry [] (codes "data") (bytes content)
+        ∷ entry [] (codes "signature") (bytes signature) ∷ []) }
 {
     Ok(vec![in alloc;
         line_of("", "content", Field::Word("application")),
@@ -137,7 +145,9 @@ fn proposed_lines(
     proposal: Proposal,
     signature: Bytes,
 ) -> Result<Vec<Line>, AllocError>
-    ensures { IfOk result (λ lines. map entry_of lines.items ≡ proposed_entries proposal signature) }
+    ensures { IfOk result (λ lines. map entry_of lines.items
+        ≡ entry [] (codes "content") (word (codes "proposal"))
+        ∷ (proposal_entries proposal ++ entry [] (codes "signature") (bytes signature) ∷ [])) }
 {
     let lines = proposal_lines(alloc, proposal)?;
     let lines = behind_word(alloc, "content", "proposal", lines)?;
@@ -167,7 +177,12 @@ fn body_lines(alloc: Global, body: SignedBody, signature: Bytes) -> Result<Vec<L
 }
 
 fn content_lines(alloc: Global, content: SignedContent) -> Result<Vec<Line>, AllocError>
-    ensures { IfOk result (λ lines. map entry_of lines.items ≡ content_entries content) }
+    ensures { IfOk result (λ lines. map entry_of lines.items
+        ≡ entry [] (codes "group_id") (bytes content.group_id)
+        ∷ entry [] (codes "epoch") (number content.epoch)
+        ∷ entry [] (codes "sender") (number (leaf_index content.sender))
+        ∷ entry [] (codes "authenticated_data") (bytes content.authenticated_data)
+        ∷ body_entries content.body content.signature) }
 {
     let SignedContent {
         group_id,

@@ -1,6 +1,8 @@
 //! Places as they stand on the wire: an optional node (RFC 9420, 12.4.3.3).
 
+ghost use Rattle.mls_wire.specs.Answered.{optional_faults};
 ghost use Rattle.mls_wire.specs.Combine.{optional};
+ghost use Rattle.mls_leaf.specs.Answered.{node_faults};
 ghost use Rattle.mls_leaf.specs.Node.{node};
 ghost use Rattle.mls_leaf.specs.Nonempty.{optional_nonempty};
 
@@ -13,6 +15,8 @@ impl Codec for Slot {
     ghost format = { optional node };
 
     ghost nonempty = { optional_nonempty node };
+
+    ghost faults = { optional_faults node_faults };
 
     #[tactic(auto, using(mls_leaf::specs::Codecs::codecs))]
     fn read(alloc: Global, reader: &mut Reader<'_>) -> Result<Slot, LeafError> {

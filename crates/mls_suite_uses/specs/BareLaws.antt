@@ -1,6 +1,6 @@
 -- The suite to copy is lawful.
 use Rattle.std.specs.Prelude.{◌≡◌, ℕ, Bool, true, false, List, ◌++◌, length, replicate, is_some, if◌then◌else◌, Some, None, refl}
-use Rattle.std.proofs.Common.{arith, length-append}
+use Rattle.std.proofs.Common.{arith, length-append, lit<}
 use Rattle.std.proofs.lemmas.List.{length-replicate, length-take-le, take_at}
 use Rattle.mls_suite.specs.Crypto.{Lawful, Sealing}
 use Rattle.mls_suite_uses.specs.Bare.{fitted, is_key, in_the_open, bare_seal, bare}
@@ -40,4 +40,5 @@ bare_lawful = record {
   public_short = λ sk. omega (arith, length-fitted sk);
   sig_public_short = λ sk. omega (arith, length-fitted sk);
   sign_short = λ sk m. omega arith;
+  number_short = lit< tt;
 }

@@ -1,6 +1,8 @@
 pub mod Text
-pub mod Engine
+pub mod Refusals
+pub mod Ends
 pub mod File
 pub mod Page
-pub mod Names
-pub mod Parts
+pub mod Pieces
+pub mod TextLaws
+pub mod Pages

@@ -1,21 +1,22 @@
 -- A text of lines `name: value`.
 use Rattle.std.specs.Prelude.{◌==◌, length, if◌then◌else◌, ◌/◌, ◌%◌, ℕ, List, [], ◌∷◌, ◌++◌, codes}
-use Rattle.std.specs.List.{flat_map, join_by}
+use Rattle.std.specs.List.{join_by}
 use Rattle.std.specs.Fmt.{decimal}
 use Rattle.hex.specs.Hex.{encode_lower}
+use Rattle.mls_text.specs.Refusals.{refusal_name}
 use Rattle.mls_text.specs.declared.text.Field.{Field}
 use Rattle.mls_text.specs.declared.text.Field.TheVariants as field
 use Rattle.mls_text.specs.declared.text.Line.{Line}
 
 -- what stands behind a name: bytes, a list of uint16, a uint16 in hex, a number, a word, or a
--- refusal's number and name
+-- refusal, by its number
 pub data Shown : Type 0 where
   bytes : List ℕ → Shown
   numbers : List ℕ → Shown
   digits : ℕ → Shown
   number : ℕ → Shown
   word : List ℕ → Shown
-  refusal : ℕ → List ℕ → Shown
+  refusal : ℕ → Shown
 
 -- a line: its name, and what stands behind it
 pub record Entry : Type 0 where
@@ -41,14 +42,11 @@ shown_text (numbers ns) = or_dash (join_by four_digits (codes ",")) ns
 shown_text (digits n) = four_digits n
 shown_text (number n) = decimal n
 shown_text (word w) = w
-shown_text (refusal n name) = decimal n ++ codes " " ++ name
+shown_text (refusal n) = decimal n ++ codes " " ++ refusal_name n
 
 -- a name, a colon and a space, what stands behind, and a line feed
 abbrev pub line_text : Entry → List ℕ
 line_text e = ((e.name ++ codes ": ") ++ shown_text e.shown) ++ codes "\n"
-
-abbrev pub lines_text : List Entry → List ℕ
-lines_text entries = flat_map line_text entries
 
 -- ---- the same, of the code's values
 
@@ -58,7 +56,7 @@ shown_by (field.Numbers ns) = numbers ns
 shown_by (field.Digits n) = digits n
 shown_by (field.Number n) = number n
 shown_by (field.Word w) = word w.now
-shown_by (field.Refusal n name) = refusal n name.now
+shown_by (field.Refusal n) = refusal n
 
 unfoldable pub entry_of : Line → Entry
 entry_of l = record { name = l.prefix.now ++ l.name.now; shown = shown_by l.field }

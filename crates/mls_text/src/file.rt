@@ -1,7 +1,7 @@
 //! A file of hex digits.
 
-ghost use Rattle.std.specs.Prelude.{◌≡◌, ◌↔◌, ◌⊎◌, Some, None, IfOk, Err};
-ghost use Rattle.mls_text.specs.File.{bytes_in, is_blank, without_back, without_front};
+ghost use Rattle.std.specs.Prelude.{◌≡◌, ◌↔◌, ◌⊎◌, Some, None, IfOk, Err, length, ◌%◌};
+ghost use Rattle.mls_text.specs.File.{bytes_in, is_blank, trimmed, without_back, without_front};
 
 use hex::FromHexError;
 use std::alloc::Global;
@@ -54,6 +54,8 @@ pub fn file_bytes(alloc: Global, text: &[u8]) -> Result<Vec<u8>, FileError>
     ensures bytes { IfOk result (λ bytes. bytes_in text.now ≡ Some bytes.items) }
     ensures other { bytes_in text.now ≡ None → (result ≡ Err FileError.NotHex) ⊎ (result ≡ Err FileError.OutOfMemory) }
     ensures refused { result ≡ Err FileError.NotHex → bytes_in text.now ≡ None }
+    // An odd number of digits is refused before anything grows.
+    ensures odd { length (trimmed text.now) % 2 ≡ 1 → result ≡ Err FileError.NotHex }
 {
     match hex::decode(alloc, before_blanks(after_blanks(text))) {
         Ok(bytes) => Ok(bytes),

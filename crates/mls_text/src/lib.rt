@@ -1,12 +1,21 @@
-//! Lines `name: value` and pages of them, files read whole, and hex files: what the subcommands of `mls` share.
+//! Lines `name: value` and pages of them, hex files, and the ends that files are read from and pages printed to: what the
+//! subcommands of `mls` share.
 #![tactic(auto)]
 
-mod engine;
+mod fault;
 mod file;
+mod input;
+mod output;
 mod page;
+mod printing;
+mod refusal;
 mod text;
 
-pub use engine::{Fault, print_line, print_lines, put, read_whole};
+pub use fault::Fault;
 pub use file::{FileError, file_bytes};
-pub use page::refuse;
-pub use text::{Field, Line, ended, joined, line_bytes, line_of};
+pub use input::{In, Input};
+pub use output::{Out, Output};
+pub use page::{Ending, Page, print_made_page, print_page, refused_page};
+pub use printing::{Printed, print, print_lines};
+pub use refusal::refusal_name;
+pub use text::{Field, Line, ended, joined, line_of};

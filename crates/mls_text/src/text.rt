@@ -4,8 +4,12 @@ ghost use Rattle.std.specs.Prelude.{◌≡◌, ◌++◌, ◌∷◌, [], codes, m
 ghost use Rattle.std.specs.Fmt.{decimal};
 ghost use Rattle.std.specs.List.{flat_map, join_by};
 ghost use Rattle.hex.specs.Hex.{encode_lower};
+ghost use Rattle.mls_text.specs.Refusals.{refusal_name as name_of};
+ghost use Rattle.mls_text.specs.TextLaws.{line_nonempty};
 ghost use Rattle.mls_text.specs.Text.{entry, entry_of, four_digits, or_dash, line_text, shown_by, shown_text};
 
+use crate::printing::Printed;
+use crate::refusal::refusal_name;
 use mls_leaf::{Bytes, Items};
 use std::alloc::{AllocError, Global};
 
@@ -23,7 +27,7 @@ pub enum Field {
     /// A word as it stands.
     Word(&'static str),
     /// A refusal's number in decimal, a space, and its name.
-    Refusal(u8, &'static str),
+    Refusal(u8),
 }
 
 /// A name, which may have a front of its own, and what stands behind it.
@@ -65,18 +69,21 @@ pub fn ended(mut lines: Vec<Line>, last: Line) -> Result<Vec<Line>, AllocError>
     Ok(lines)
 }
 
-/// The bytes of a line, its line feed with it.
-#[tactic(auto, unfolding(crate::specs::Text::entry_of))]
-pub fn line_bytes(alloc: Global, line: &Line) -> Result<Vec<u8>, AllocError>
-    ensures { IfOk result (λ bytes. bytes.items ≡ line_text (entry_of line.now)) }
-{
-    let mut text = Vec::new(alloc);
-    text.extend_from_slice(line.prefix.as_bytes())?;
-    text.extend_from_slice(line.name.as_bytes())?;
-    text.extend_from_slice(b": ")?;
-    push_field(alloc, &mut text, &line.field)?;
-    text.push(b'\n')?;
-    Ok(text)
+impl Printed for Line {
+    ghost text = { λ line. line_text (entry_of line) };
+
+    ghost nonempty = { line_nonempty };
+
+    #[tactic(auto, unfolding(crate::specs::Text::entry_of))]
+    fn text_bytes(&self, alloc: Global) -> Result<Vec<u8>, AllocError> {
+        let mut text = Vec::new(alloc);
+        text.extend_from_slice(self.prefix.as_bytes())?;
+        text.extend_from_slice(self.name.as_bytes())?;
+        text.extend_from_slice(b": ")?;
+        push_field(alloc, &mut text, &self.field)?;
+        text.push(b'\n')?;
+        Ok(text)
+    }
 }
 
 fn push_field(alloc: Global, text: &mut Vec<u8>, field: &Field) -> Result<(), AllocError>
@@ -88,7 +95,7 @@ fn push_field(alloc: Global, text: &mut Vec<u8>, field: &Field) -> Result<(), Al
         Field::Digits(number) => push_digits(alloc, text, *number),
         Field::Number(number) => push_number(alloc, text, *number),
         Field::Word(word) => text.extend_from_slice(word.as_bytes()),
-        Field::Refusal(number, name) => push_refusal(alloc, text, *number, name),
+        Field::Refusal(number) => push_refusal(alloc, text, *number),
     }
 }
 
@@ -107,12 +114,12 @@ fn push_number(alloc: Global, text: &mut Vec<u8>, number: u64) -> Result<(), All
     text.extend_from_slice(number.to_string(alloc)?.as_bytes())
 }
 
-fn push_refusal(alloc: Global, text: &mut Vec<u8>, number: u8, name: &str) -> Result<(), AllocError>
-    ensures { OnOk result (text.new.items ≡ text.old.items ++ (decimal number ++ codes " " ++ name.now)) }
+fn push_refusal(alloc: Global, text: &mut Vec<u8>, number: u8) -> Result<(), AllocError>
+    ensures { OnOk result (text.new.items ≡ text.old.items ++ (decimal number ++ codes " " ++ name_of number)) }
 {
     push_number(alloc, text, u64::from(number))?;
     text.push(b' ')?;
-    text.extend_from_slice(name.as_bytes())
+    text.extend_from_slice(refusal_name(number).as_bytes())
 }
 
 fn push_digits(alloc: Global, text: &mut Vec<u8>, number: u16) -> Result<(), AllocError>

@@ -3,7 +3,7 @@ use Rattle.std.proofs.Common.{◌≡◌, ℕ, ◌≤◌, true, List, [], None, O
 use Rattle.mls_leaf.specs.declared.leaf.LeafNode.{LeafNode}
 use Rattle.mls_term.specs.Term.{Term, width, has_leaf}
 use Rattle.mls_term.specs.Edits.{put, add, place_in}
-use Rattle.mls_term.specs.Good.{Rules, IsGood, IsSound, AreNew, AreFit, has_distinct_keys, has_distinct_clients}
+use Rattle.mls_term.specs.Good.{IsGood, IsSound, AreNew, AreFit, has_distinct_keys, has_distinct_clients}
 use Rattle.mls_term.specs.Equations.{update_is}
 use Rattle.mls_term.specs.SoundLaws.{sound_update, sound_remove, sound_add, good_of_sound}
 use Rattle.mls_term.specs.KeptLaws.{good_update, good_remove, good_add}

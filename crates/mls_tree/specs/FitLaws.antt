@@ -1,7 +1,6 @@
 -- Leaves that passed their checks are fit for a tree of their group.
-use Rattle.std.proofs.Common.{◌≡◌, ℕ, true, refl, ◌∙◌}
+use Rattle.std.proofs.Common.{refl, ◌∙◌}
 use Rattle.std.proofs.lemmas.Bool.{and_from}
-use Rattle.mls_suite.specs.Crypto.{Crypto}
 use Rattle.mls_checks.specs.LeafLaws.{signed_anywhere, package_steps, replaced_steps}
 use Rattle.mls_tree.specs.Laws.{PackageFits, ReplacementFits}
 

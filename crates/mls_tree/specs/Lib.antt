@@ -8,3 +8,7 @@ pub mod Perfect
 pub mod Steps
 pub mod Laws
 pub mod FitLaws
+pub mod Short
+pub mod Cells
+pub mod ShortLeaves
+pub mod Sent

@@ -1,5 +1,5 @@
 -- A public tree is perfect, whatever its nodes are.
-use Rattle.std.proofs.Common.{◌≡◌, ◌^◌, true, ap, ◌∙◌, sym}
+use Rattle.std.proofs.Common.{◌≡◌, ◌^◌, true}
 use Rattle.mls_term.specs.Term.{height, is_perfect, width}
 use Rattle.mls_term.specs.ArrayLaws.{perfect-term_of}
 use Rattle.mls_term.specs.ShapeLaws.{width-perfect, height-perfect}

@@ -1,5 +1,5 @@
 -- What an edit found, and which tree it made, where it is answered.
-use Rattle.std.proofs.Common.{◌≡◌, ℕ, ◌<◌, ◌≤◌, ◌==◌, true, List, length, Option, Some, None, Ok, eqb-true, ap, sym, ◌∙◌}
+use Rattle.std.proofs.Common.{◌≡◌, ℕ, ◌<◌, ◌≤◌, true, List, length, Option, Some, None, Ok, eqb-true, ap, sym, ◌∙◌}
 use Rattle.mls_wire.specs.Checks.{passed}
 use Rattle.mls_wire.specs.CheckLaws.{bind_ok, then_ok, require_ok, required, given_ok}
 use Rattle.mls_leaf.specs.declared.leaf.LeafNode.{LeafNode}

@@ -9,7 +9,6 @@ ghost use Rattle.mls_treemath.specs.Limits.{max_height};
 ghost use Rattle.mls_checks.specs.Leaf.{is_signed, is_capable};
 ghost use Rattle.mls_checks.specs.Short.{IsShort};
 ghost use Rattle.mls_leaf.specs.Leaf.{leaf_node};
-ghost use Rattle.mls_term.specs.Term.{leaf_of};
 ghost use Rattle.mls_term.specs.Keys.{passes};
 ghost use Rattle.mls_term.specs.Lists.{all_parents, rises_here};
 ghost use Rattle.mls_term.specs.Good.{IsGood, has_good_shape, has_good_lists, has_distinct_keys, has_distinct_clients, is_all_signed, is_all_capable, is_all_fit, tree_checks};
@@ -20,6 +19,7 @@ ghost use Rattle.mls_suite.specs.Crypto.{Crypto};
 ghost use Rattle.mls_tree.specs.Faults.{number_of};
 ghost use Rattle.mls_tree.specs.Refusals.{RefusesOutright};
 ghost use Rattle.mls_tree.specs.Rules.{rules_of};
+ghost use Rattle.mls_tree.specs.Short.{HasShortLeaves};
 ghost use Rattle.mls_tree.specs.Tree.{term};
 
 use crate::error::TreeError;
@@ -83,7 +83,7 @@ fn all_signed<S: Suite>(
     requires shape { length nodes.now ≡ nodes_in height }
     requires fits { length nodes.now < 2 ^ 32 }
     requires group { length group_id.now < 2 ^ 28 }
-    requires short { (i : ℕ) → IfSome (leaf_of (term_of height nodes.now) i) (λ v. IsShort leaf_node v) }
+    requires short { HasShortLeaves (term_of height nodes.now) }
     ensures { IfOk result (λ b. b ≡ is_all_signed (rules_of S.crypto group_id.now) (term_of height nodes.now)) }
 {
     let leaves = (nodes.len() / 2 + 1) as u32;
@@ -130,7 +130,7 @@ fn check<S: Suite>(
     requires stands { Stands height nodes.now }
     requires low { height ≤ max_height }
     requires group { length group_id.now < 2 ^ 28 }
-    requires short { (i : ℕ) → IfSome (leaf_of (term_of height nodes.now) i) (λ v. IsShort leaf_node v) }
+    requires short { HasShortLeaves (term_of height nodes.now) }
     ensures answer { Answers (λ _. passed) number_of (tree_checks (rules_of S.crypto group_id.now) (term_of height nodes.now)) result }
     ensures lists { RefusesOutright number_of (require 23 (has_good_lists (term_of height nodes.now))) result }
     ensures rising { OnOk result (all_parents rises_here 0 (term_of height nodes.now) ≡ true) }
@@ -168,7 +168,7 @@ impl PublicTree {
     /// encryption key isn't fit for sealing. A tree of good shape that is accepted is good.
     pub fn check<S: Suite>(&mut self, group_id: &[u8]) -> Result<(), TreeError>
         requires group { length group_id.now < 2 ^ 28 }
-        requires short { (i : ℕ) → IfSome (leaf_of (term self.old) i) (λ v. IsShort leaf_node v) }
+        requires short { HasShortLeaves (term self.old) }
         ensures answer { Answers (λ _. passed) number_of (tree_checks (rules_of S.crypto group_id.now) (term self.old)) result }
         // 23 comes whatever memory there is.
         ensures refused { RefusesOutright number_of (require 23 (has_good_lists (term self.old))) result }

@@ -105,3 +105,35 @@ fn a_full_tree(rt: HostRuntime) -> Result<(), Fail> {
     assert_eq!(rt; tree.to_nodes()?.len(), 8191);
     Ok(())
 }
+
+#[test]
+fn ciphertexts_of_each_node(rt: HostRuntime) -> Result<(), Fail> {
+    let alloc = rt.alloc();
+    let tree = tree_of(alloc, &[true, true, true, true])?;
+    assert_eq!(rt;
+        tree.ciphertext_counts(1, &[])?.as_slice(),
+        [1, 2].as_slice()
+    );
+    assert_eq!(rt;
+        tree.ciphertext_counts(1, &[3])?.as_slice(),
+        [1, 1].as_slice()
+    );
+    assert_eq!(rt;
+        tree.ciphertext_counts(1, &[0, 2, 3])?.as_slice(),
+        [0, 0].as_slice()
+    );
+    assert!(rt; matches!(tree.ciphertext_counts(4, &[]), Err(TreeError::NoSuchLeaf)));
+    Ok(())
+}
+
+#[test]
+fn repeated_keys_and_clients(rt: HostRuntime) -> Result<(), Fail> {
+    let alloc = rt.alloc();
+    let mut tree = PublicTree::single(alloc, member(alloc, 1)?)?;
+    assert!(rt; tree.has_distinct_keys()? && tree.has_distinct_clients()?);
+    tree.add(member(alloc, 2)?)?;
+    assert!(rt; tree.has_distinct_keys()? && tree.has_distinct_clients()?);
+    tree.add(member(alloc, 1)?)?;
+    assert!(rt; !tree.has_distinct_keys()? && !tree.has_distinct_clients()?);
+    Ok(())
+}

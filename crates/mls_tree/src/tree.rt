@@ -14,6 +14,7 @@ ghost use Rattle.mls_tree.specs.Faults.{number_of};
 ghost use Rattle.mls_tree.specs.declared.error.TreeError.TheVariants.{NoSuchLeaf};
 ghost use Rattle.mls_tree.specs.Kept.{KeepsGood, KeepsSound};
 ghost use Rattle.mls_tree.specs.Refusals.{RefusesOutright};
+ghost use Rattle.mls_tree.specs.Short.{AreShort, HasShortLeaves};
 ghost use Rattle.mls_tree.specs.Paths.{ChangesWhole};
 ghost use Rattle.mls_tree.specs.Tree.{term, max_leaves, path_answer, add_answer, update_answer, remove_answer, Changes};
 
@@ -70,6 +71,8 @@ impl PublicTree {
         // 20 comes whatever memory there is, where the nodes alone show it.
         ensures refused { RefusesOutright number_of (require 20 (has_last nodes.items && alternates true nodes.items)) result }
         ensures shape { IfOk result (λ t. has_good_shape (term t) ≡ true) }
+        // Its leaves are short where the nodes are, as those of an input are.
+        ensures short { IfOk result (λ t. AreShort nodes.items → HasShortLeaves (term t)) }
     {
         if !array::has_last(&nodes) {
             return Err(TreeError::TreeShape);
@@ -99,8 +102,7 @@ impl PublicTree {
 
     /// How many leaves it has, blank ones too.
     pub fn leaf_count(&self) -> u32
-        ensures width { result ≡ width (term self.now) }
-        ensures small { result ≤ max_leaves }
+        ensures { result ≡ width (term self.now) }
     {
         1 << self.height
     }

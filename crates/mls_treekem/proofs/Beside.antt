@@ -1,16 +1,17 @@
 -- Keys of a tree's nodes, as they are read at the nodes beside a place.
 use Rattle.std.proofs.Common.{◌≡◌, ℕ, ◌+◌, ◌-◌, ◌*◌, ◌^◌, ◌<◌, ◌≤◌, ◌==◌, nat_lt, if◌then◌else◌, Bool, true, false, Option, Some, None, refl, sym, ◌∙◌, ap, ap₂, arith}
 use Rattle.mls_leaf.specs.declared.node.Node.{Node}
-use Rattle.mls_term.specs.Term.{Term, Leaf, Branch, width, size}
+use Rattle.mls_term.specs.Term.{Term, Leaf, Branch, width, size, height}
 use Rattle.mls_term.specs.Arrays.{own_node, node_at}
 use Rattle.mls_term.specs.Places.{at_node, own_key, key_at}
 use Rattle.mls_term.specs.Equations.{at_node_no_leaf, at_node_left, at_node_right}
 use Rattle.mls_term.specs.ShapeLaws.{size-width, width-perfect}
 use Rattle.mls_tree.specs.Tree.{Tree, term}
+use Rattle.mls_tree.specs.Perfect.{width_is}
 use Rattle.mls_treekem.specs.declared.places.Place.{Place}
 use Rattle.mls_treekem.specs.Place.{subtree_at, IsPlaced}
 use Rattle.mls_treekem.specs.Beside.{cell_key}
-use Rattle.mls_treekem.proofs.Placing.{zeros_are, zeros_fit, width_levels}
+use Rattle.mls_treekem.proofs.Place.{zeros_are, zeros_fit}
 
 -- ---- no node is outside a tree
 
@@ -53,7 +54,7 @@ key_cell b (Branch c l r) n =
 
 pub width_low : (t : Tree) (n : ℕ) → n ≡ width (term t) → n < 2 ^ 32 → n ≤ 2 ^ 31
 width_low t n e lt =
-    let is : n ≡ 2 ^ t.levels = e ∙ width_levels t in
+    let is : n ≡ 2 ^ height (term t) = e ∙ width_is t in
     let same = ap (λ k. 2 ^ k) (zeros_are t n e lt) in
     let low = zeros_fit t n e lt in
     omega arith

@@ -10,7 +10,7 @@ use Rattle.mls_paths.specs.Keys.{Keys, PrivateKeys}
 use Rattle.mls_paths.specs.Follow.{key_above, on_way}
 use Rattle.mls_paths.specs.Make.{one_if, filtered_count, secret_above, key_if, made_keys, HasMade}
 use Rattle.mls_treekem.specs.Secrets.{ArePairsOf}
-use Rattle.mls_treekem.specs.Raised.{level_of, raised, raised_all}
+use Rattle.mls_treekem.specs.Raised.{level_of, raised, raised_all, IsRaised}
 use Rattle.mls_paths.specs.OnePassLaws.{no_key_above}
 use Rattle.mls_paths.specs.HeightLaws.{lower, way_height, above_take, above_pass, length-end, reverse-end}
 use Rattle.mls_treemath.specs.Paths.{Path, nodes_in, path_to, longer}
@@ -247,6 +247,11 @@ module _ (c : Crypto) (start : List ℕ) (filtered : List ℕ) (p q : PrivateKey
       let is : xs ≡ raised_all (nodes_of c start p.own ss) (keys_of c start p.own (filtered_count ss)) [] =
       raise ∙ ap₂ (λ ns ks. raised_all ns ks ys) path keys ∙ ap (raised_all (nodes_of c start p.own ss) (keys_of c start p.own (filtered_count ss))) none in
       subst (λ zs. Raises c start p.own ss zs) (sym is) m.raises
+
+  pub raised_is : q.leaf ≡ p.leaf → q.own ≡ p.own → q.above ≡ reverse xs → IsRaised c start filtered p q
+  raised_is leaf own above =
+      let keys : map (λ p. p.sk) qs ≡ map (node_key c) (path_secrets start (length filtered)) = ap (map (λ p. p.sk)) same ∙ are.private in
+      record { leaf = leaf; own = own; above = above ∙ ap reverse (raise ∙ ap₂ (raised_all filtered) keys none) }
 
   pub has_made : q.leaf ≡ p.leaf → q.own ≡ p.own → q.above ≡ reverse xs → HasMade c start filtered p q
   has_made leaf own above =

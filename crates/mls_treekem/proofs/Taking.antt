@@ -12,18 +12,17 @@ use Rattle.mls_term.specs.Term.{Term, width, is_perfect}
 use Rattle.mls_term.specs.Way.{Step, way, is_beside}
 use Rattle.mls_suite.specs.Crypto.{Crypto}
 use Rattle.mls_treekem.specs.declared.places.Place.{Place}
-use Rattle.mls_paths.specs.Chain.{next_secret, node_key, node_public}
-use Rattle.mls_treekem.specs.declared.climb.Climb.{Climb as Standing}
+use Rattle.mls_paths.specs.Chain.{node_public}
 use Rattle.mls_treekem.specs.declared.error.TreeKemError.{TreeKemError}
-use Rattle.mls_treekem.specs.Climbing.{climb_of, with_own}
+use Rattle.mls_treekem.specs.Climbing.{with_own}
 use Rattle.mls_treekem.specs.Faults.{number_of}
 use Rattle.mls_paths.specs.Keys.{Keys, leaf_only}
-use Rattle.mls_paths.specs.Make.{Climb}
+use Rattle.mls_paths.specs.Make.{past_node, Climb}
 use Rattle.mls_paths.specs.Join.{past_present, is_present, climb_take, is_due, is_complete, take_keys, take_answer}
 use Rattle.mls_treekem.specs.Place.{step_of, ArePlaced, IsWay}
 use Rattle.mls_paths.specs.HeightLaws.{reverse-end, way_height}
 use Rattle.mls_paths.specs.JoinLaws.{sounds, present_is, take_inside}
-use Rattle.mls_treekem.proofs.Opened.{beside_is, first_placed}
+use Rattle.mls_treekem.proofs.Opening.{beside_is, first_placed}
 
 -- ---- one place
 
@@ -77,13 +76,13 @@ module _ (c : Crypto) (t : Term) (j : ℕ) (secret : List ℕ) where
     unfolding climb_take
     take_below e = let b : is_beside (step_of t p) j ≡ false = sym beside ∙ e in rw (is, b) refl
 
-    goes_on : (x : Result Climb ℕ) (m : Standing) (r : Result Standing TreeKemError) → taken_over c t j secret all ≡ (x >>= λ m. past m) → x ≡ Ok (climb_of m) → Answers climb_of number_of (past (climb_of m)) r → Answers climb_of number_of (taken_over c t j secret all) r
-    goes_on x m r e f h = subst (λ z. Answers climb_of number_of z r) (sym (e ∙ ap (λ y. y >>= λ m. past m) f)) h
+    goes_on : (x : Result Climb ℕ) (m : Climb) (r : Result Climb TreeKemError) → taken_over c t j secret all ≡ (x >>= λ m. past m) → x ≡ Ok m → Answers (λ z. z) number_of (past m) r → Answers (λ z. z) number_of (taken_over c t j secret all) r
+    goes_on x m r e f h = subst (λ z. Answers (λ z. z) number_of z r) (sym (e ∙ ap (λ y. y >>= λ m. past m) f)) h
 
-    pub from_here : test ≡ true → (m : Standing) (r : Result Standing TreeKemError) → start ≡ Ok (climb_of m) → Answers climb_of number_of (past (climb_of m)) r → Answers climb_of number_of (taken_over c t j secret all) r
+    pub from_here : test ≡ true → (m : Climb) (r : Result Climb TreeKemError) → start ≡ Ok m → Answers (λ z. z) number_of (past m) r → Answers (λ z. z) number_of (taken_over c t j secret all) r
     from_here e m r f h = goes_on start m r (take_here e) f h
 
-    pub from_below : test ≡ false → (m : Standing) (r : Result Standing TreeKemError) → taken_over c t j secret ps ≡ Ok (climb_of m) → Answers climb_of number_of (past (climb_of m)) r → Answers climb_of number_of (taken_over c t j secret all) r
+    pub from_below : test ≡ false → (m : Climb) (r : Result Climb TreeKemError) → taken_over c t j secret ps ≡ Ok m → Answers (λ z. z) number_of (past m) r → Answers (λ z. z) number_of (taken_over c t j secret all) r
     from_below e m r f h = goes_on (taken_over c t j secret ps) m r (take_below e) f h
 
     pub not_here : test ≡ true → (n : ℕ) → start ≡ Err n → taken_over c t j secret all ≡ Err n
@@ -127,7 +126,7 @@ owned own (Ok m) = Ok (with_own own m)
 owned own (Err e) = Err e
 
 abbrev up : Crypto → Climb → Climb
-up c m = record { secret = next_secret m.secret; keys = Some (node_key c m.secret) ∷ m.keys }
+up c m = past_node c m
 
 module _ (c : Crypto) (j : ℕ) (own : List ℕ) where
   parent_with : (p : Option Parent) (m : Climb) → past_present c j p (with_own own m) ≡ owned own (past_present c j p m)
@@ -227,5 +226,5 @@ module _ (c : Crypto) (h : ℕ) (t : Term) (perfect : is_perfect h t ≡ true) (
   pub take_refused : (n : ℕ) → taken_over c t j secret ps ≡ Err n → take_answer c t i leaf own secret ≡ Err n
   take_refused n e = take_is ∙ ap (λ r. owned own r >>= λ z. checked z) e
 
-  pub take_low : (m : Climb) (ks : Keys) → taken_over c t j secret ps ≡ Ok m → m.keys ≡ reverse ks → length ks ≤ 31
-  take_low m ks e is = let n : length ks ≡ length ps = sym (length-reverse ks) ∙ ap length (sym is) ∙ keys_long m e in let low = signers.low in omega arith
+  pub take_low : (m : Climb) → taken_over c t j secret ps ≡ Ok m → length m.keys ≤ 31
+  take_low m e = let n = keys_long m e in let low = signers.low in omega arith

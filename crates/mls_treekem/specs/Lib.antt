@@ -5,3 +5,4 @@ pub mod Raised
 pub mod Climbing
 pub mod Opening
 pub mod Beside
+pub mod Sealing

@@ -7,13 +7,13 @@ use Rattle.mls_suite.specs.Crypto.{Crypto}
 use Rattle.mls_term.specs.Sets.{leaf_numbers, less}
 use Rattle.mls_term.specs.Term.{Term, is_perfect}
 use Rattle.mls_term.specs.Way.{Step, way}
-use Rattle.mls_treekem.specs.declared.climb.Climb.{Climb as Standing}
 use Rattle.mls_treekem.specs.declared.error.TreeKemError.{TreeKemError}
 use Rattle.mls_treekem.specs.declared.places.Place.{Place}
-use Rattle.mls_treekem.specs.Climbing.{climb_of, with_own}
+use Rattle.mls_treekem.specs.Climbing.{with_own}
 use Rattle.mls_treekem.specs.Faults.{number_of}
 use Rattle.mls_paths.specs.Follow.{on_way}
 use Rattle.mls_paths.specs.Keys.{Keys, key_in, PrivateKeys, all_keys}
+use Rattle.mls_paths.specs.Make.{Climb}
 use Rattle.mls_paths.specs.Open.{open_first, open_here, climb_open}
 use Rattle.mls_treekem.specs.Place.{step_of}
 
@@ -35,11 +35,11 @@ OpensFirst c context h b p added nodes xs result =
     (t : Term) → is_perfect h t ≡ true → Answers (λ s. s) number_of (open_first c context (key_of b t p) (less (leaf_numbers added) nodes) xs) result
 
 -- what is opened at a place, with the keys below
-abbrev pub OpensHere : Crypto → List ℕ → List ℕ → Term → ℕ → Place → PrivateKeys → List UpdatePathNode → Result Standing TreeKemError → Type 0
+abbrev pub OpensHere : Crypto → List ℕ → List ℕ → Term → ℕ → Place → PrivateKeys → List UpdatePathNode → Result Climb TreeKemError → Type 0
 OpensHere c context added t h q p path result =
-    (ss : List Step) → length ss ≡ h → Answers (λ m. with_own p.own (climb_of m)) number_of (open_here c context added (step_of t q) p.leaf (on_way ss (all_keys p)) (reverse path)) result
+    (ss : List Step) → length ss ≡ h → Answers (λ m. with_own p.own m) number_of (open_here c context added (step_of t q) p.leaf (on_way ss (all_keys p)) (reverse path)) result
 
 -- a climb along a way
-abbrev pub OpensAlong : Crypto → List ℕ → List ℕ → List Step → PrivateKeys → List UpdatePathNode → Result Standing TreeKemError → Type 0
+abbrev pub OpensAlong : Crypto → List ℕ → List ℕ → List Step → PrivateKeys → List UpdatePathNode → Result Climb TreeKemError → Type 0
 OpensAlong c context added ss p path result =
-    Answers (λ m. with_own p.own (climb_of m)) number_of (climb_open c context added ss p.leaf (on_way ss (all_keys p)) (reverse path)) result
+    Answers (λ m. with_own p.own m) number_of (climb_open c context added ss p.leaf (on_way ss (all_keys p)) (reverse path)) result

@@ -1,7 +1,9 @@
 -- Keys put at the heights of their nodes.
-use Rattle.std.specs.Prelude.{ℕ, ◌-◌, nat_lt, if◌then◌else◌, List, [], ◌∷◌, ◌++◌, length, replicate, unwrap_or, Some, None}
+use Rattle.std.specs.Prelude.{◌≡◌, ℕ, ◌-◌, nat_lt, if◌then◌else◌, List, [], ◌∷◌, ◌++◌, length, map, replicate, reverse, unwrap_or, Some, None}
 use Rattle.mls_treemath.specs.Steps.{level_in}
-use Rattle.mls_paths.specs.Keys.{Keys}
+use Rattle.mls_suite.specs.Crypto.{Crypto}
+use Rattle.mls_paths.specs.Chain.{path_secrets, node_key}
+use Rattle.mls_paths.specs.Keys.{Keys, PrivateKeys}
 
 -- how far above the leaves a node is
 abbrev pub level_of : ℕ → ℕ
@@ -16,3 +18,9 @@ unfoldable pub raised_all : List ℕ → List (List ℕ) → Keys → Keys
 raised_all [] ks xs = xs
 raised_all (n ∷ ns) [] xs = xs
 raised_all (n ∷ ns) (k ∷ ks) xs = raised_all ns ks (raised (level_of n) k xs)
+
+-- a member has the keys of these path secrets at the heights of these nodes, and none above its leaf but those
+pub record IsRaised (c : Crypto) (start : List ℕ) (nodes : List ℕ) (old new : PrivateKeys) : Type 0 where
+  pub leaf : new.leaf ≡ old.leaf
+  pub own : new.own ≡ old.own
+  pub above : new.above ≡ reverse (raised_all nodes (map (node_key c) (path_secrets start (length nodes))) [])

@@ -1,7 +1,11 @@
 -- What clauses see of the values that are made.
-use Rattle.std.specs.Prelude.{◌≡◌, ℕ, List, map}
+use Rattle.std.specs.Prelude.{◌≡◌, ℕ, ◌≤◌, List, map, Option, Some, IsSome}
 use Rattle.mls_suite.specs.Crypto.{Crypto}
 use Rattle.mls_suite.specs.declared.KeyPair.{KeyPair}
+use Rattle.mls_term.specs.Term.{Term, leaf_at}
+use Rattle.mls_term.specs.Way.{way, path_length}
+use Rattle.mls_paths.specs.Join.{secret_for}
+use Rattle.mls_paths.specs.Laws.{AreTwo}
 use Rattle.mls_paths.specs.Chain.{chain, path_secrets, node_key, node_public}
 use Rattle.mls_treekem.specs.declared.secrets.PathSecrets.{PathSecrets}
 
@@ -15,3 +19,13 @@ pub record AreOfChain (c : Crypto) (start : List ℕ) (n : ℕ) (made : PathSecr
   pub secrets : made.secrets.items ≡ path_secrets start n
   pub pairs : ArePairsOf c (path_secrets start n) made.pairs.items
   pub commit_secret : made.commit_secret ≡ chain start n
+
+-- the public keys of a path
+abbrev pub public_keys : PathSecrets → List (List ℕ)
+public_keys made = map (λ p. p.pk.items) made.pairs.items
+
+-- what leaf i sends to leaf j of a tree: where the secrets are the first n of a chain, and those of its filtered direct
+-- path among them, the chain's at the parent where both ways part (RFC 9420, 12.4.3.1)
+abbrev pub IsSentOf : Term → ℕ → ℕ → List (List ℕ) → Option (List ℕ) → Type 0
+IsSentOf t i j secrets o =
+    (start : List ℕ) (n : ℕ) → secrets ≡ path_secrets start n → path_length 0 t i ≤ n → AreTwo 0 t i j → IsSome (leaf_at 0 t j) → o ≡ Some (secret_for (way 0 t i) j start)

@@ -2,7 +2,7 @@
 
 ghost use Rattle.std.specs.Prelude.{◌≡◌, ◌+◌, ◌&&◌, nat_le, nat_lt, IfOk};
 ghost use Rattle.mls_wire.specs.Checks.{Answers};
-ghost use Rattle.mls_treekem.specs.Climbing.{climb_of, past_key, past_blank};
+ghost use Rattle.mls_paths.specs.Make.{past_key, past_blank};
 ghost use Rattle.mls_treekem.specs.Faults.{number_of};
 
 use crate::TreeKemError;
@@ -10,6 +10,7 @@ use crate::places::Place;
 use crate::secrets::{next_secret, node_pair};
 use mls_kdf::Secret;
 use mls_suite::{OutOfMemory, Suite};
+use std::marker::Model;
 
 /// Where a climb stands. It is made with the secret that it begins with, and the keys below.
 #[derive(Drop)]
@@ -20,11 +21,21 @@ pub(crate) struct Climb {
     pub(crate) above: Vec<Option<Secret>>,
 }
 
+// The keys are seen in the order of the way to the leaf.
+impl Model for Climb {
+    ghost use Rattle.std.specs.Prelude.{reverse};
+    ghost use Rattle.mls_paths.specs.Make.{Climb};
+
+    ghost Value = { Climb };
+
+    ghost view = { λ m. record { secret = m.secret; keys = reverse m.above.items } };
+}
+
 impl Climb {
     /// Goes past a node with this public key: takes its private key, and the next secret. `PathKeyMismatch` (34) where
     /// the derived public key is another (RFC 9420, 7.5).
     pub(crate) fn past_key<S: Suite>(self, public_key: &[u8]) -> Result<Climb, TreeKemError>
-        ensures { Answers climb_of number_of (past_key S.crypto public_key.now (climb_of self)) result }
+        ensures { Answers (λ m. m) number_of (past_key S.crypto public_key.now self) result }
     {
         let mut climb = self;
         let alloc = *climb.above.allocator();
@@ -39,7 +50,7 @@ impl Climb {
 
     /// Goes past a node that has no key.
     pub(crate) fn past_blank(self) -> Result<Climb, OutOfMemory>
-        ensures { IfOk result (λ m. climb_of m ≡ past_blank (climb_of self)) }
+        ensures { IfOk result (λ m. m ≡ past_blank self) }
     {
         let mut climb = self;
         climb.above.push(None)?;

@@ -3,8 +3,11 @@
 #![tactic(auto)]
 
 mod climb;
+#[cfg(test)]
+mod commit_tests;
 mod error;
 mod follow;
+mod joiner;
 mod keys;
 mod make;
 mod open;
@@ -16,6 +19,7 @@ mod seal;
 #[cfg(test)]
 mod seal_tests;
 mod secrets;
+mod seeds;
 #[cfg(test)]
 mod small_trees;
 mod take;
@@ -26,5 +30,6 @@ mod tests;
 
 pub use error::TreeKemError;
 pub use private_path::PrivatePath;
-pub use seal::{seal_path, seal_seed, seals_in};
+pub use seal::{seal_path, seals_in};
 pub use secrets::PathSecrets;
+pub use seeds::{init_seed, leaf_seed, path_seed, seal_seed, sign_seed};

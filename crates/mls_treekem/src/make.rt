@@ -2,7 +2,7 @@
 
 ghost use Rattle.std.specs.Prelude.{◌≡◌, ◌++◌, None, length, map, replicate, IfOk, OnOk, OnErr};
 ghost use Rattle.mls_treekem.specs.Secrets.{AreOfChain};
-ghost use Rattle.mls_treekem.specs.Raised.{level_of, raised, raised_all};
+ghost use Rattle.mls_treekem.specs.Raised.{level_of, raised, raised_all, IsRaised};
 ghost use Rattle.mls_paths.specs.Make.{HasMade};
 
 use crate::{PathSecrets, PrivatePath};
@@ -70,6 +70,7 @@ impl PrivatePath {
         filtered: &[u32],
     ) -> Result<PathSecrets, OutOfMemory>
         ensures made { IfOk result (AreOfChain S.crypto start.now (length filtered.now)) }
+        ensures pins { OnOk result (IsRaised S.crypto start.now filtered.now self.old self.new) }
         ensures keys { OnOk result (HasMade S.crypto start.now filtered.now self.old self.new) }
         ensures err { OnErr result (self.new ≡ self.old) }
     {

@@ -5,7 +5,6 @@ ghost use Rattle.mls_wire.specs.Checks.{Answers, AnswersOutright};
 ghost use Rattle.mls_term.specs.Places.{resolution_at};
 ghost use Rattle.mls_term.specs.Resolution.{is_empty};
 ghost use Rattle.mls_tree.specs.Tree.{term};
-ghost use Rattle.mls_treekem.specs.Climbing.{climb_of};
 ghost use Rattle.mls_paths.specs.Make.{climb_to};
 ghost use Rattle.mls_treekem.specs.Faults.{number_of};
 ghost use Rattle.mls_paths.specs.Open.{of_32, left_by, past_parent, opened_path};
@@ -59,7 +58,7 @@ fn open_secret<S: Suite>(
 }
 
 /// Whether the filtered direct path takes a parent in.
-fn is_filtered(tree: &PublicTree, place: &Place) -> Result<bool, OutOfMemory>
+pub(crate) fn is_filtered(tree: &PublicTree, place: &Place) -> Result<bool, OutOfMemory>
     ensures { IfOk result (λ b. b ≡ not (is_empty (resolution_at 0 (term tree.now) place.now.beside))) }
 {
     let nodes = tree.resolution(place.beside)?;
@@ -85,7 +84,7 @@ fn past_parent<S: Suite>(
     path: &[UpdatePathNode],
     climb: Climb,
 ) -> Result<Climb, TreeKemError>
-    ensures { Answers climb_of number_of (past_parent S.crypto is_filtered (reverse path.now) (climb_of climb)) result }
+    ensures { Answers (λ m. m) number_of (past_parent S.crypto is_filtered (reverse path.now) climb) result }
 {
     if !is_filtered {
         return Ok(climb.past_blank()?);
@@ -185,10 +184,15 @@ impl PrivatePath {
         let nodes = tree.resolution(place.beside)?;
         let above = self.keys_up_to(height)?;
         let ciphertexts = node.ciphertexts.as_slice();
-        match self.open_first::<S>(height, place.first, &nodes, added, ciphertexts, context) {
-            Ok(secret) => Ok(Climb { secret, above }),
-            Err(error) => Err(error),
-        }
+        let secret = self.open_first::<S>(
+            height,
+            place.first,
+            &nodes,
+            added,
+            ciphertexts,
+            context,
+        )?;
+        Ok(Climb { secret, above })
     }
 
     /// The member's climb along the committer's way, whose parents are given with the highest first.
@@ -211,16 +215,12 @@ impl PrivatePath {
         let is_filtered = is_filtered(tree, place)?;
         if place.is_beside(self.leaf()) {
             let height = below.len() as u32;
-            return match self.open_here::<S>(tree, place, height, added, path, context) {
-                Ok(climb) => past_parent::<S>(is_filtered, path, climb),
-                Err(error) => Err(error),
-            };
+            let climb = self.open_here::<S>(tree, place, height, added, path, context)?;
+            return past_parent::<S>(is_filtered, path, climb);
         }
         let rest = nodes_below(is_filtered, path);
-        match self.climb_along::<S>(tree, below, added, rest, context) {
-            Ok(climb) => past_parent::<S>(is_filtered, path, climb),
-            Err(error) => Err(error),
-        }
+        let climb = self.climb_along::<S>(tree, below, added, rest, context)?;
+        past_parent::<S>(is_filtered, path, climb)
     }
 
     /// Takes the commit secret and the new keys of a path that leaf `committer` made, whose nodes come the lowest first
@@ -244,13 +244,9 @@ impl PrivatePath {
     {
         let alloc = *self.above.allocator();
         let places = parents_over(alloc, tree, committer)?;
-        match self.climb_along::<S>(tree, &places, added, path, context) {
-            Ok(climb) => {
-                let Climb { secret, above } = climb;
-                self.above = above;
-                Ok(secret)
-            }
-            Err(error) => Err(error),
-        }
+        let climb = self.climb_along::<S>(tree, &places, added, path, context)?;
+        let Climb { secret, above } = climb;
+        self.above = above;
+        Ok(secret)
     }
 }

@@ -1,40 +1,29 @@
 //! A commit's path, sealed to those who need it (RFC 9420, 7.5 and 7.6).
 
 ghost use Rattle.std.specs.Prelude.{◌≡◌, ℕ, ◌<◌, ◌≤◌, ◌^◌, ◌%◌, List, length, map, reverse, IfOk, IfErr};
-ghost use Rattle.std.specs.Option.{option_copied, option_map};
+ghost use Rattle.std.specs.Option.{option_copied};
 ghost use Rattle.mls_wire.specs.Checks.{given, Answers};
 ghost use Rattle.mls_term.specs.Sets.{has, leaf_numbers, less};
 ghost use Rattle.mls_term.specs.Places.{key_at};
 ghost use Rattle.mls_term.specs.Way.{way, path_length};
 ghost use Rattle.mls_tree.specs.Tree.{term};
 ghost use Rattle.mls_treekem.specs.Beside.{cell_key};
-ghost use Rattle.mls_paths.specs.Chain.{chain, node_public};
 ghost use Rattle.mls_treekem.specs.Faults.{number_of, IsMemoryOrKey};
-ghost use Rattle.mls_treekem.specs.Secrets.{AreOfChain};
+ghost use Rattle.mls_treekem.specs.Secrets.{AreOfChain, public_keys};
+ghost use Rattle.mls_treekem.specs.Sealing.{SealsNode, sealed_along};
 ghost use Rattle.mls_paths.specs.Make.{filtered_count};
 ghost use Rattle.mls_treekem.specs.Place.{subtree_at, step_of, IsPlaced, ArePlaced};
-ghost use Rattle.mls_paths.specs.Seal.{seal_to, seal_all, seal_along, seal_count, sealed_path, with_ciphertexts};
+ghost use Rattle.mls_paths.specs.Seal.{seal_to, seal_all, seal_count, sealed_path, sealed_with};
 ghost use Rattle.mls_paths.specs.Seeds.{seal_seed, seals_in};
 
 use crate::places::{Place, parents_over};
-use crate::{PathSecrets, TreeKemError};
+use crate::{PathSecrets, TreeKemError, seal_seed};
 use mls_group::{HpkeCiphertext, UpdatePathNode};
-use mls_kdf::{Secret, expand_with_label};
+use mls_kdf::Secret;
 use mls_leaf::{Bytes, Items, Node};
 use mls_suite::{Suite, encrypt_with_label};
 use mls_tree::PublicTree;
 use std::alloc::Global;
-
-/// The randomness of seal number `i` of a commit, from 0 on: the seals of its path come first, node by node, the lowest
-/// first, and then those of its Welcome in the order of adds. Takes no memory.
-#[tactic(auto, unfolding(mls_paths::specs::Seeds::seal_seed, mls_wire::specs::Reading::uint))]
-pub fn seal_seed(seed: &Secret, i: u32) -> Secret
-    ensures { result ≡ seal_seed seed.now i }
-{
-    let mut out = [0; 32];
-    expand_with_label(seed, "seed seal", &i.to_be_bytes(), &mut out).unwrap();
-    out
-}
 
 /// The low 32 bits of a number.
 fn low_bits(n: usize) -> u32
@@ -150,10 +139,8 @@ impl Sealer<'_> {
             }
             let key = place.key_beside(self.tree, *node);
             let rnd = seal_seed(self.seed, number);
-            match seal_to::<S>(alloc, self.context, secret, key, &rnd) {
-                Ok(ciphertext) => sealed.push(ciphertext)?,
-                Err(error) => return Err(error),
-            }
+            let ciphertext = seal_to::<S>(alloc, self.context, secret, key, &rnd)?;
+            sealed.push(ciphertext)?;
             number = number.wrapping_add(1);
         }
         Ok(sealed)
@@ -170,7 +157,7 @@ impl Sealer<'_> {
     ) -> Result<UpdatePathNode, TreeKemError>
         requires context { length self.now.context.now < 2 ^ 30 }
         requires placed { (h : ℕ) × IsPlaced (term self.now.tree.now) h place.now }
-        ensures answer { (start : List ℕ) (n : ℕ) → AreOfChain S.crypto start n self.now.path.now → count < n → Answers (λ x. x) number_of (given 36 (with_ciphertexts (node_public S.crypto (chain start count)) (seal_all S.crypto self.now.context.now (chain start count) place.now.first (subtree_at (term self.now.tree.now) place.now.beside) (seal_seed self.now.seed.now) first (less (leaf_numbers self.now.added.now) reached.now)))) result }
+        ensures answer { SealsNode S.crypto self.now.context.now self.now.added.now self.now.seed.now (term self.now.tree.now) place.now reached.now self.now.path.now count first result }
         ensures seals { IfOk result (λ x. length x.ciphertexts ≡ length (less (leaf_numbers self.now.added.now) reached.now)) }
         ensures refused { IfErr result IsMemoryOrKey }
     {
@@ -180,10 +167,7 @@ impl Sealer<'_> {
         let Some(pair) = self.path.pairs.get(count) else {
             return Err(TreeKemError::BadKey);
         };
-        let ciphertexts = match self.seal_all::<S>(alloc, place, reached, secret, first) {
-            Ok(ciphertexts) => ciphertexts,
-            Err(error) => return Err(error),
-        };
+        let ciphertexts = self.seal_all::<S>(alloc, place, reached, secret, first)?;
         let key = Vec::from_slice(alloc, &pair.pk)?;
         Ok(UpdatePathNode {
             encryption_key: Bytes::from_vec(key),
@@ -199,7 +183,7 @@ impl Sealer<'_> {
     ) -> Result<Vec<UpdatePathNode>, TreeKemError>
         requires context { length self.now.context.now < 2 ^ 30 }
         requires placed { ArePlaced (term self.now.tree.now) places.now }
-        ensures answer { (start : List ℕ) (n : ℕ) → AreOfChain S.crypto start n self.now.path.now → filtered_count (map (step_of (term self.now.tree.now)) places.now) ≤ n → Answers (λ v. v.items) number_of (given 36 (option_map reverse (seal_along S.crypto self.now.context.now self.now.added.now (seal_seed self.now.seed.now) (map (step_of (term self.now.tree.now)) places.now) start))) result }
+        ensures answer { Answers (λ v. v.items) number_of (sealed_along S.crypto self.now.context.now self.now.added.now self.now.seed.now self.now.path.now.secrets.items (public_keys self.now.path.now) (map (step_of (term self.now.tree.now)) places.now)) result }
         ensures count { IfOk result (λ v. length v.items ≡ filtered_count (map (step_of (term self.now.tree.now)) places.now)) }
         ensures seals { IfOk result (λ v. seals_in v.items ≡ seal_count self.now.added.now (map (step_of (term self.now.tree.now)) places.now)) }
         ensures refused { IfErr result IsMemoryOrKey }
@@ -207,10 +191,7 @@ impl Sealer<'_> {
         let Some((place, below)) = places.split_first() else {
             return Ok(Vec::new(alloc));
         };
-        let mut nodes = match self.seal_places::<S>(alloc, below) {
-            Ok(nodes) => nodes,
-            Err(error) => return Err(error),
-        };
+        let mut nodes = self.seal_places::<S>(alloc, below)?;
         let resolution = self.tree.resolution(place.beside)?;
         let reached = resolution.as_slice();
         if reached.is_empty() {
@@ -218,10 +199,7 @@ impl Sealer<'_> {
         }
         let count = nodes.as_slice().len();
         let first = seals_in(&nodes);
-        let node = match self.seal_node::<S>(alloc, place, reached, count, first) {
-            Ok(node) => node,
-            Err(error) => return Err(error),
-        };
+        let node = self.seal_node::<S>(alloc, place, reached, count, first)?;
         nodes.push(node)?;
         Ok(nodes)
     }
@@ -229,10 +207,10 @@ impl Sealer<'_> {
 
 /// The nodes of the path that a committer sends, the lowest first: the public key of each node of its filtered direct
 /// path, and its path secret sealed to the resolution of its child on the copath, without the leaves just added
-/// (RFC 9420, 7.5 and 7.6). The tree is the one after the edits, before the path is merged or after; `path` has the
-/// secrets of as many nodes as the filtered direct path; the context is the group's, below 2^30 bytes; `seed` is the
-/// commit's. Refused with `BadKey` (36) exactly where a node that a secret is sealed to has no key, or one that isn't
-/// fit, and with no other number whatever `path` is.
+/// (RFC 9420, 7.5 and 7.6). The tree is the one after the edits, before the path is merged or after; `path` has a secret
+/// and a key pair for each node of the filtered direct path, the lowest first, and any more are left out; the context is
+/// the group's, below 2^30 bytes; `seed` is the commit's. Refused with `BadKey` (36) exactly where a node that a secret is
+/// sealed to has no key, or one that isn't fit, or `path` has too few secrets or key pairs.
 pub fn seal_path<S: Suite>(
     alloc: Global,
     tree: &PublicTree,
@@ -243,7 +221,8 @@ pub fn seal_path<S: Suite>(
     seed: &Secret,
 ) -> Result<Vec<UpdatePathNode>, TreeKemError>
     requires { length context.now < 2 ^ 30 }
-    ensures answer { (start : List ℕ) → AreOfChain S.crypto start (path_length 0 (term tree.now) committer) path.now → Answers (λ v. v.items) number_of (sealed_path S.crypto context.now added.now (seal_seed seed.now) (term tree.now) committer start) result }
+    ensures answer { Answers (λ v. v.items) number_of (sealed_with S.crypto context.now added.now (seal_seed seed.now) path.now.secrets.items (public_keys path.now) (term tree.now) committer) result }
+    ensures chain { (start : List ℕ) → AreOfChain S.crypto start (path_length 0 (term tree.now) committer) path.now → Answers (λ v. v.items) number_of (sealed_path S.crypto context.now added.now (seal_seed seed.now) (term tree.now) committer start) result }
     ensures seals { IfOk result (λ v. seals_in v.items ≡ seal_count added.now (way 0 (term tree.now) committer)) }
     ensures refused { IfErr result IsMemoryOrKey }
 {
@@ -255,8 +234,5 @@ pub fn seal_path<S: Suite>(
         context,
         seed,
     };
-    match sealer.seal_places::<S>(alloc, &places) {
-        Ok(nodes) => Ok(nodes),
-        Err(error) => Err(error),
-    }
+    sealer.seal_places::<S>(alloc, &places)
 }

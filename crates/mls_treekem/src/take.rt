@@ -5,7 +5,7 @@ ghost use Rattle.std.specs.Option.{option_copied};
 ghost use Rattle.mls_wire.specs.Checks.{Answers};
 ghost use Rattle.mls_term.specs.Sets.{has};
 ghost use Rattle.mls_tree.specs.Tree.{term};
-ghost use Rattle.mls_treekem.specs.Climbing.{climb_of, with_own};
+ghost use Rattle.mls_treekem.specs.Climbing.{with_own};
 ghost use Rattle.mls_paths.specs.Make.{climb_to};
 ghost use Rattle.mls_treekem.specs.Faults.{number_of};
 ghost use Rattle.mls_paths.specs.Join.{past_present, is_present, climb_take, is_due, is_complete, take_answer};
@@ -38,7 +38,7 @@ fn start(
     height: usize,
     secret: &Secret,
 ) -> Result<Climb, TreeKemError>
-    ensures { Answers climb_of number_of (is_present (step_of (term tree.now) place.now).parent (record { secret = secret.now; keys = replicate height None })) result }
+    ensures { Answers (λ m. m) number_of (is_present (step_of (term tree.now) place.now).parent (record { secret = secret.now; keys = replicate height None })) result }
 {
     if !place.is_present(tree) {
         return Err(TreeKemError::PathKeyMismatch);
@@ -58,7 +58,7 @@ fn past_parent<S: Suite>(
     joiner: u32,
     climb: Climb,
 ) -> Result<Climb, TreeKemError>
-    ensures { Answers climb_of number_of (past_present S.crypto joiner (step_of (term tree.now) place.now).parent (climb_of climb)) result }
+    ensures { Answers (λ m. m) number_of (past_present S.crypto joiner (step_of (term tree.now) place.now).parent climb) result }
 {
     let Some(parent) = place.parent(tree) else {
         return Ok(climb.past_blank()?);
@@ -78,21 +78,17 @@ fn climb_along<S: Suite>(
     secret: &Secret,
 ) -> Result<Climb, TreeKemError>
     requires { ArePlaced (term tree.now) places.now }
-    ensures { Answers climb_of number_of (climb_take S.crypto (map (step_of (term tree.now)) places.now) joiner (replicate (length places.now) None) secret.now) result }
+    ensures { Answers (λ m. m) number_of (climb_take S.crypto (map (step_of (term tree.now)) places.now) joiner (replicate (length places.now) None) secret.now) result }
 {
     let Some((place, lower)) = places.split_first() else {
         return Err(TreeKemError::PathKeyMismatch);
     };
     if place.is_beside(joiner) {
-        return match start(alloc, tree, place, lower.len(), secret) {
-            Ok(climb) => past_parent::<S>(tree, place, joiner, climb),
-            Err(error) => Err(error),
-        };
+        let climb = start(alloc, tree, place, lower.len(), secret)?;
+        return past_parent::<S>(tree, place, joiner, climb);
     }
-    match climb_along::<S>(alloc, tree, lower, joiner, secret) {
-        Ok(climb) => past_parent::<S>(tree, place, joiner, climb),
-        Err(error) => Err(error),
-    }
+    let climb = climb_along::<S>(alloc, tree, lower, joiner, secret)?;
+    past_parent::<S>(tree, place, joiner, climb)
 }
 
 /// Whether a parent is blank, lists the joiner, or has a key.
@@ -126,8 +122,8 @@ impl PrivatePath {
         signer: u32,
         secret: &Secret,
     ) -> Result<Climb, TreeKemError>
-        ensures answer { Answers (λ m. with_own self.now.own (climb_of m)) number_of (take_answer S.crypto (term tree.now) signer self.now.leaf self.now.own secret.now) result }
-        ensures low { IfOk result (λ m. length m.above.items ≤ 31) }
+        ensures answer { Answers (λ m. with_own self.now.own m) number_of (take_answer S.crypto (term tree.now) signer self.now.leaf self.now.own secret.now) result }
+        ensures low { IfOk result (λ m. length m.keys ≤ 31) }
     {
         if signer >= tree.leaf_count() {
             return Err(TreeKemError::PathKeyMismatch);
@@ -136,10 +132,7 @@ impl PrivatePath {
         let joiner = self.leaf();
         let signers = parents_over(alloc, tree, signer)?;
         let joiners = parents_over(alloc, tree, joiner)?;
-        let climb = match climb_along::<S>(alloc, tree, &signers, joiner, secret) {
-            Ok(climb) => climb,
-            Err(error) => return Err(error),
-        };
+        let climb = climb_along::<S>(alloc, tree, &signers, joiner, secret)?;
         if !is_complete(tree, &joiners, joiner, &climb.above) {
             return Err(TreeKemError::KeyMissing);
         }

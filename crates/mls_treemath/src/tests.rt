@@ -66,6 +66,8 @@ fn common_ancestors(rt: HostRuntime) {
         assert_eq!(rt; common_ancestor(x, y, 8), node, "of {x} and {y}");
     }
     assert_eq!(rt; common_ancestor(0, 2, 6), None);
+    laws_of_ways();
+    laws_of_common_ancestors();
 }
 
 #[test]

@@ -1,6 +1,7 @@
 //! Framed contents: what a message says, where and by whom (RFC 9420, 6).
 
 ghost use Rattle.mls_types.specs.Content.{sender, content, framed_content, sender_nonempty, content_nonempty, framed_content_nonempty};
+ghost use Rattle.mls_types.specs.Answered.{sender_faults, content_faults, framed_content_faults};
 
 use crate::commit::Commit;
 use mls_leaf::{Bytes, Codec, LeafError, Proposal};
@@ -45,6 +46,8 @@ impl Codec for Sender {
 
     ghost nonempty = { sender_nonempty };
 
+    ghost faults = { sender_faults };
+
     #[tactic(auto, using(mls_leaf::specs::Codecs::codecs), unfolding(crate::specs::Content::sender))]
     fn read(alloc: Global, reader: &mut Reader<'_>) -> Result<Sender, LeafError> {
         match reader.u8()? {
@@ -83,6 +86,8 @@ impl Codec for Content {
     ghost format = { content };
 
     ghost nonempty = { content_nonempty };
+
+    ghost faults = { content_faults };
 
     #[tactic(auto, using(mls_leaf::specs::Codecs::codecs), unfolding(crate::specs::Content::content))]
     fn read(alloc: Global, reader: &mut Reader<'_>) -> Result<Content, LeafError> {
@@ -148,6 +153,8 @@ impl Codec for FramedContent {
     ghost format = { framed_content };
 
     ghost nonempty = { framed_content_nonempty };
+
+    ghost faults = { framed_content_faults };
 
     #[tactic(auto, using(mls_leaf::specs::Codecs::codecs), unfolding(crate::specs::Content::framed_content))]
     fn read(alloc: Global, reader: &mut Reader<'_>) -> Result<FramedContent, LeafError> {

@@ -1,6 +1,7 @@
 //! Public messages, and the contents that are signed and hashed in them (RFC 9420, 6 and 6.2).
 
 ghost use Rattle.mls_types.specs.PublicMessage.{wire_format, public_message, authenticated_content, wire_format_nonempty, public_message_nonempty, authenticated_content_nonempty};
+ghost use Rattle.mls_types.specs.Answered.{wire_format_faults, public_message_faults, authenticated_content_faults};
 
 use crate::signed::{SignedContent, read_signed};
 use mls_leaf::{Bytes, Codec, LeafError};
@@ -21,16 +22,16 @@ pub enum WireFormat {
 }
 
 /// A content that is signed, and not encrypted (RFC 9420, 6.2).
-#[derive(Debug, Clone, Drop)]
+#[derive(Debug, Drop)]
 pub struct PublicMessage {
+    /// The content with its authentication data.
+    pub content: SignedContent,
     /// The tag that shows that the sender is a member.
     pub membership_tag: Bytes,
-    /// The content with its authentication data. It comes last, so that a failed clone has no large part to drop.
-    pub content: SignedContent,
 }
 
 /// A signed content with the kind of message that it is sent in (RFC 9420, 6).
-#[derive(Debug, Clone, Drop)]
+#[derive(Debug, Drop)]
 pub struct AuthenticatedContent {
     /// The kind of message.
     pub wire_format: WireFormat,
@@ -42,6 +43,8 @@ impl Codec for WireFormat {
     ghost format = { wire_format };
 
     ghost nonempty = { wire_format_nonempty };
+
+    ghost faults = { wire_format_faults };
 
     #[tactic(auto, using(mls_leaf::specs::Codecs::codecs), unfolding(crate::specs::PublicMessage::wire_format))]
     fn read(_alloc: Global, reader: &mut Reader<'_>) -> Result<WireFormat, LeafError> {
@@ -93,6 +96,8 @@ impl Codec for PublicMessage {
 
     ghost nonempty = { public_message_nonempty };
 
+    ghost faults = { public_message_faults };
+
     #[tactic(auto, using(mls_leaf::specs::Codecs::codecs), unfolding(crate::specs::PublicMessage::public_message))]
     fn read(alloc: Global, reader: &mut Reader<'_>) -> Result<PublicMessage, LeafError> {
         let (content, membership_tag) = read_signed::<SignedContent>(alloc, reader)?;
@@ -121,6 +126,8 @@ impl Codec for AuthenticatedContent {
     ghost format = { authenticated_content };
 
     ghost nonempty = { authenticated_content_nonempty };
+
+    ghost faults = { authenticated_content_faults };
 
     #[tactic(auto, using(mls_leaf::specs::Codecs::codecs), unfolding(crate::specs::PublicMessage::authenticated_content))]
     fn read(alloc: Global, reader: &mut Reader<'_>) -> Result<AuthenticatedContent, LeafError> {

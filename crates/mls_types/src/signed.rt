@@ -3,6 +3,7 @@
 ghost use Rattle.mls_wire.specs.Combine.{◌⨾◌, byte_string};
 ghost use Rattle.mls_types.specs.Signed.{signed_tail, signed_content, signed_content_nonempty};
 ghost use Rattle.mls_leaf.specs.Faults.{ReadsFront, ReadsPast};
+ghost use Rattle.mls_types.specs.Answered.{signed_content_faults};
 
 use crate::commit::Commit;
 use crate::content::{Content, FramedContent, Sender};
@@ -11,7 +12,7 @@ use mls_wire::{Reader, Writer};
 use std::alloc::Global;
 
 /// What a signed message says. A commit comes with its confirmation tag (RFC 9420, 6.1).
-#[derive(Debug, Clone, Drop)]
+#[derive(Debug, Drop)]
 pub enum SignedBody {
     /// Data of the application.
     Application(Bytes),
@@ -27,7 +28,7 @@ pub enum SignedBody {
 }
 
 /// A framed content with its authentication data (RFC 9420, 6 and 6.1).
-#[derive(Debug, Clone, Drop)]
+#[derive(Debug, Drop)]
 pub struct SignedContent {
     /// The group's identifier.
     pub group_id: Bytes,
@@ -37,10 +38,10 @@ pub struct SignedContent {
     pub sender: Sender,
     /// What the sender adds for the application.
     pub authenticated_data: Bytes,
+    /// What it says, and for a commit the confirmation tag.
+    pub body: SignedBody,
     /// The sender's signature.
     pub signature: Bytes,
-    /// What it says, and for a commit the confirmation tag. It comes last, so that a failed clone has no large part to drop.
-    pub body: SignedBody,
 }
 
 /// Reads a value and the signature or the tag behind it. It is generic, so that its proof goes into no parts of the value.
@@ -223,6 +224,8 @@ impl Codec for SignedContent {
     ghost format = { signed_content };
 
     ghost nonempty = { signed_content_nonempty };
+
+    ghost faults = { signed_content_faults };
 
     #[tactic(auto, using(mls_leaf::specs::Codecs::codecs), unfolding(crate::specs::Signed::signed_content))]
     fn read(alloc: Global, reader: &mut Reader<'_>) -> Result<SignedContent, LeafError> {

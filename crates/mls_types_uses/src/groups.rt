@@ -51,6 +51,7 @@ fn signed_of_info(alloc: Global) -> Result<Vec<u8>, LeafError> {
 #[test]
 fn signed_infos(rt: HostRuntime) -> Result<(), Fail> {
     assert!(rt; signed_of_info(rt.alloc())? == bytes_of(rt.alloc(), GROUP_INFO_TBS)?);
+    laws_of_group_infos();
     Ok(())
 }
 

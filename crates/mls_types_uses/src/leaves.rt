@@ -67,6 +67,38 @@ fn key_packages_refused(rt: HostRuntime) -> Result<(), Fail> {
     Ok(())
 }
 
+/// Whether the leaves that these digits spell are equal.
+fn are_equal(alloc: Global, one: &str, other: &str) -> Result<bool, LeafError> {
+    let one = value_of::<LeafNode>(alloc, one)?;
+    let other = value_of::<LeafNode>(alloc, other)?;
+    Ok(*one == *other)
+}
+
+#[test]
+fn leaves_compared(rt: HostRuntime) -> Result<(), Fail> {
+    let alloc = rt.alloc();
+    let other_signature = "01bb01cc000103626f6202000102f0010000020001020001de";
+    assert!(rt; are_equal(alloc, UPDATED_LEAF, UPDATED_LEAF)?);
+    assert!(rt; !are_equal(alloc, UPDATED_LEAF, other_signature)?);
+    laws_of_equality();
+    laws_of_signed_parts();
+    Ok(())
+}
+
+#[test]
+fn extensions(rt: HostRuntime) -> Result<(), Fail> {
+    let alloc = rt.alloc();
+    let extension = value_of::<Extension>(alloc, "000302aabb")?;
+    assert_eq!(rt; extension.extension_type, 3);
+    assert_eq!(rt;
+        extension.extension_data.as_slice(),
+        [0xaa, 0xbb].as_slice()
+    );
+    assert_eq!(rt; answer::<Extension>(alloc, "000302aabb")?, 0);
+    assert_eq!(rt; answer::<Extension>(alloc, "000302aa")?, 2);
+    Ok(())
+}
+
 #[test]
 fn proposals(rt: HostRuntime) -> Result<(), Fail> {
     let alloc = rt.alloc();

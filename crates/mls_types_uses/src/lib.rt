@@ -11,3 +11,5 @@ mod leaves;
 mod messages;
 #[cfg(test)]
 mod signing;
+#[cfg(test)]
+mod views;

@@ -19,6 +19,7 @@ fn messages(rt: HostRuntime) -> Result<(), Fail> {
     assert_eq!(rt; answer::<MlsMessage>(alloc, PUBLIC_MESSAGE)?, 0);
     assert_eq!(rt; answer::<MlsMessage>(alloc, "00010003f0010000")?, 0);
     one_spelling::<MlsMessage>();
+    fault_numbers::<MlsMessage>();
     Ok(())
 }
 
@@ -64,8 +65,20 @@ fn zeros_refused(alloc: Global, count: usize) -> Result<u8, LeafError> {
     }
 }
 
+/// The number that `decode` refuses so many zero bytes with. Want of memory is passed on.
+fn zeros_decoded(alloc: Global, count: usize) -> Result<u8, LeafError> {
+    let mut bytes: Vec<u8> = Vec::new(alloc);
+    bytes.resize(count, 0)?;
+    match MlsMessage::decode(alloc, &bytes) {
+        Ok(_) => Ok(0),
+        Err(error) => Ok(error.number()),
+    }
+}
+
 #[test]
 fn long_inputs(rt: HostRuntime) -> Result<(), Fail> {
+    assert_eq!(rt; zeros_decoded(rt.alloc(), 4_194_304)?, 7);
+    assert_eq!(rt; zeros_decoded(rt.alloc(), 4_194_305)?, 6);
     assert_eq!(rt; zeros_refused(rt.alloc(), 4_194_304)?, 7);
     assert_eq!(rt; zeros_refused(rt.alloc(), 4_194_305)?, 6);
     Ok(())

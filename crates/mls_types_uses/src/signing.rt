@@ -83,6 +83,7 @@ fn signed_and_framed(rt: HostRuntime) -> Result<(), Fail> {
     assert!(rt; signed_with(alloc, FRAMED_COMMIT)? == bytes_of(alloc, SIGNED_COMMIT)?);
     assert!(rt; framed_of(alloc, SIGNED_CONTENT)? == bytes_of(alloc, FRAMED_CONTENT)?);
     assert!(rt; framed_of(alloc, SIGNED_COMMIT)? == bytes_of(alloc, FRAMED_COMMIT)?);
+    laws_of_signed_contents();
     Ok(())
 }
 

@@ -1,6 +1,5 @@
-pub mod Json
 pub mod Vectors
-pub mod VectorsShape
-pub mod VectorsBytes
+pub mod VectorsFile
 pub mod VectorsPassing
 pub mod VectorsReport
+pub mod ReportLaws

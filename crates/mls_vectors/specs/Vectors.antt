@@ -1,11 +1,8 @@
 -- What a test vector claims.
 use Rattle.std.specs.Prelude.{ℕ, List, Option, option_map, string_bytes}
-use Rattle.mls_vectors.specs.declared.shape.VectorText.{VectorText}
-use Rattle.mls_vectors.specs.declared.shape.VectorText.TheVariants as unread
 use Rattle.mls_vectors.specs.declared.reading.Vector.{Vector}
 use Rattle.mls_vectors.specs.declared.reading.Vector.TheVariants as vector
 
--- Byte strings are hex texts, or the bytes that these stand for.
 pub data Claim : Type 0 where
   -- a length, and its header, if it has one
   header : ℕ → Option (List ℕ) → Claim
@@ -23,15 +20,6 @@ pub data Claim : Type 0 where
   tree : List ℕ → List ℕ → Claim
 
 -- ---- of the code's values
-
-abbrev pub text_view : VectorText → Claim
-text_view (unread.Header length bytes) = header length (option_map (λ text. text.now) bytes)
-text_view (unread.Hmac key text out) = hmac key.now text.now out.now
-text_view (unread.Hkdf salt ikm info prk okm) = hkdf salt.now ikm.now info.now prk.now okm.now
-text_view (unread.Expand secret label context out) = expand secret.now label.now context.now out.now
-text_view (unread.Treemath leaves node direct_path copath) = treemath leaves node direct_path.items copath.items
-text_view (unread.Message bytes refused) = message bytes.now refused
-text_view (unread.Tree bytes tree_hash) = tree bytes.now tree_hash.now
 
 abbrev pub vector_view : Vector → Claim
 vector_view (vector.Header length bytes) = header length (option_map (λ v. v.items) bytes)

@@ -1,11 +1,11 @@
 -- What `mls vectors` prints.
 use Rattle.std.specs.Prelude.{◌==◌, ◌+◌, ℕ, Bool, true, false, List, [], ◌∷◌, ◌++◌, codes, length, map, count_by, if◌then◌else◌, Result, Ok, Err}
-use Rattle.std.specs.List.{flat_map}
 use Rattle.std.specs.Fmt.{decimal}
-use Rattle.mls_text.specs.Engine.{Output, page_output}
-use Rattle.mls_text.specs.Page.{refused_page}
+use Rattle.mls_text.specs.Page.{Page, refused}
+use Rattle.mls_text.specs.declared.page.Ending.{Ending}
+use Rattle.mls_text.specs.declared.page.Ending.TheVariants.{Good, Failed}
 use Rattle.mls_vectors.specs.Vectors.{Claim}
-use Rattle.mls_vectors.specs.VectorsBytes.{claims_in}
+use Rattle.mls_vectors.specs.VectorsFile.{claims_in}
 use Rattle.mls_vectors.specs.VectorsPassing.{passes}
 use Rattle.mls_vectors.specs.declared.report.ReportLine.{ReportLine}
 use Rattle.mls_vectors.specs.declared.report.ReportLine.TheVariants as code
@@ -27,9 +27,6 @@ abbrev pub entry_text : ReportEntry → List ℕ
 entry_text (verdict index passed) = ((decimal index ++ codes ": ") ++ verdict_word passed) ++ 10 ∷ []
 entry_text (total passed all) = (((codes "passed " ++ decimal passed) ++ codes " of ") ++ decimal all) ++ 10 ∷ []
 
-abbrev pub report_text : List ReportEntry → List ℕ
-report_text entries = flat_map entry_text entries
-
 -- a line for each verdict, numbered from here on
 unfoldable pub verdict_entries : ℕ → List Bool → List ReportEntry
 verdict_entries index [] = []
@@ -46,18 +43,18 @@ total_entry verdicts = total (passed_count verdicts) (length verdicts)
 abbrev pub report_entries : List Bool → List ReportEntry
 report_entries verdicts = verdict_entries 0 verdicts ++ total_entry verdicts ∷ []
 
--- 0 where all passed
-abbrev pub report_status : List Bool → ℕ
-report_status verdicts = if passed_count verdicts == length verdicts then 0 else 1
+-- good where all passed
+abbrev pub report_ending : List Bool → Ending
+report_ending verdicts = if passed_count verdicts == length verdicts then Good else Failed
 
-unfoldable pub report_output : List Bool → Output
-report_output verdicts = record { text = report_text (report_entries verdicts); status = report_status verdicts }
+unfoldable pub report_page : List Bool → Page ReportEntry
+report_page verdicts = record { entries = report_entries verdicts; ending = report_ending verdicts }
 
--- the report on claims, or the line of a refusal
-abbrev pub output_on : Result (List Claim) ℕ → Output
-output_on (Ok claims) = report_output (map passes claims)
-output_on (Err n) = page_output (refused_page n)
+-- the report on claims, or their refusal
+abbrev pub page_on : Result (List Claim) ℕ → Page ReportEntry
+page_on (Ok claims) = report_page (map passes claims)
+page_on (Err n) = refused n
 
 -- what is printed for a file
-unfoldable pub vectors_output : List ℕ → Output
-vectors_output file = output_on (claims_in file)
+unfoldable pub vectors_page : List ℕ → Page ReportEntry
+vectors_page file = page_on (claims_in file)

@@ -1,16 +1,21 @@
-//! The vectors of a file, with their bytes.
+//! The vectors of a file, read in one pass. A text that isn't hex is kept as None: a fault of the file's shape that comes
+//! later goes before it.
 
-ghost use Rattle.std.specs.Prelude.{map, option_map};
-ghost use Rattle.serde_json.specs.View.{view};
-ghost use Rattle.mls_vectors.specs.Json.{data_in};
-ghost use Rattle.mls_vectors.specs.Vectors.{text_view, vector_view};
-ghost use Rattle.mls_vectors.specs.VectorsShape.{Finds};
-ghost use Rattle.mls_vectors.specs.VectorsBytes.{Decodes, Reads, bytes_of, claim_of, claims_in, claims_of, expand_of, header_of, hkdf_of, hmac_of, tree_of};
+ghost use Rattle.std.specs.Prelude.{◌≡◌, ◌&&◌, ◌++◌, is_some, map, option_map, option_and_then, OnOk, IfOk, string_bytes};
+ghost use Rattle.serde_json.specs.Find.{get};
+ghost use Rattle.serde_json.specs.View.{view, items_view};
+ghost use Rattle.mls_json.specs.Faults.{Finds};
+ghost use Rattle.mls_vectors.specs.Vectors.{vector_view};
+ghost use Rattle.mls_vectors.specs.VectorsFile.{Reads, claim_in, claims_in, claims_of, expand_in, expand_of, header_in, header_of, hex_or_null, hkdf_in, hkdf_of, hmac_in, hmac_of, kind_in, label_at, listed_one, message_in, message_of, numbered, numbers_at, numbers_of, tree_in, tree_of, treemath_in};
 
-use crate::shape::{VectorText, VectorsError, texts_in};
-use hex::FromHexError;
+use mls_json::{
+    JsonError, has_members, hex_at, hex_of, items_at, text_at, u32_at, u32_of, u64_at, value_in,
+};
 use serde_json::Value;
-use std::alloc::Global;
+use std::alloc::{AllocError, Global};
+
+/// How many bytes a label may have.
+pub const MAX_LABEL: usize = 200;
 
 /// A vector.
 #[derive(Debug, Drop)]
@@ -60,174 +65,309 @@ pub enum Vector {
     },
 }
 
-fn bytes_of(alloc: Global, text: &str) -> Result<Vec<u8>, VectorsError>
-    ensures { Decodes (λ bytes. bytes.items) result (bytes_of text.now) }
+/// The bytes of a text, or null; None where the text isn't hex.
+fn hex_or_null(alloc: Global, value: &Value) -> Result<Option<Option<Vec<u8>>>, JsonError>
+    ensures { Finds (option_map (option_map (λ v. v.items))) result (hex_or_null (view value.now)) }
 {
-    match hex::decode(alloc, text) {
-        Ok(bytes) => Ok(bytes),
-        Err(FromHexError::OutOfMemory) => Err(VectorsError::OutOfMemory),
-        Err(_) => Err(VectorsError::NotHex),
+    if value.as_null().is_some() {
+        return Ok(Some(None));
+    }
+    match value.as_str() {
+        Some(text) => match hex_of(alloc, text)? {
+            Some(bytes) => Ok(Some(Some(bytes))),
+            None => Ok(None),
+        },
+        None => Err(JsonError::BadJson),
     }
 }
 
-fn header(alloc: Global, length: u32, text: Option<&str>) -> Result<Vector, VectorsError>
-    ensures { Decodes vector_view result (header_of length (option_map (λ text. text.now) text.entry)) }
-{
-    match text {
-        None => Ok(Vector::Header {
-            length,
-            bytes: None,
-        }),
-        Some(text) => {
-            let bytes = bytes_of(alloc, text)?;
-            Ok(Vector::Header {
-                length,
-                bytes: Some(bytes),
-            })
-        }
-    }
-}
-
-fn hmac(alloc: Global, key: &str, message: &str, out: &str) -> Result<Vector, VectorsError>
-    ensures { Decodes vector_view result (hmac_of key.now message.now out.now) }
-{
-    let key = bytes_of(alloc, key)?;
-    let message = bytes_of(alloc, message)?;
-    let out = bytes_of(alloc, out)?;
-    Ok(Vector::Hmac { key, message, out })
-}
-
-fn hkdf(
+fn hex_or_null_at(
     alloc: Global,
-    salt: &str,
-    ikm: &str,
-    info: &str,
-    prk: &str,
-    okm: &str,
-) -> Result<Vector, VectorsError>
-    ensures { Decodes vector_view result (hkdf_of salt.now ikm.now info.now prk.now okm.now) }
+    value: &Value,
+    key: &str,
+) -> Result<Option<Option<Vec<u8>>>, JsonError>
+    ensures { Finds (option_map (option_map (λ v. v.items))) result (option_and_then hex_or_null (get key.now (view value.now))) }
 {
-    let salt = bytes_of(alloc, salt)?;
-    let ikm = bytes_of(alloc, ikm)?;
-    let info = bytes_of(alloc, info)?;
-    let prk = bytes_of(alloc, prk)?;
-    let okm = bytes_of(alloc, okm)?;
-    Ok(Vector::Hkdf {
-        salt,
-        ikm,
-        info,
-        prk,
-        okm,
+    match value.get(key) {
+        Some(member) => hex_or_null(alloc, member),
+        None => Err(JsonError::BadJson),
+    }
+}
+
+fn header_of(length: u32, bytes: Option<Option<Vec<u8>>>) -> Option<Vector>
+    ensures { option_map vector_view result ≡ header_of length (option_map (option_map (λ v. v.items)) bytes) }
+{
+    Some(Vector::Header {
+        length,
+        bytes: bytes?,
     })
 }
 
-fn expand(
-    alloc: Global,
-    secret: &str,
-    label: &str,
-    context: &str,
-    out: &str,
-) -> Result<Vector, VectorsError>
-    ensures { Decodes vector_view result (expand_of secret.now label.now context.now out.now) }
+fn header(alloc: Global, value: &Value) -> Result<Option<Vector>, JsonError>
+    ensures { Finds (option_map vector_view) result (header_in (view value.now)) }
 {
-    let secret = bytes_of(alloc, secret)?;
-    let context = bytes_of(alloc, context)?;
-    let out = bytes_of(alloc, out)?;
-    let label = String::from_str(alloc, label)?;
-    Ok(Vector::Expand {
-        secret,
+    if !has_members(value, 3) {
+        return Err(JsonError::BadJson);
+    }
+    let Some(length) = u32_at(value, "length") else {
+        return Err(JsonError::BadJson);
+    };
+    let bytes = hex_or_null_at(alloc, value, "bytes")?;
+    Ok(header_of(length, bytes))
+}
+
+fn hmac_of(key: Option<Vec<u8>>, message: Option<Vec<u8>>, out: Option<Vec<u8>>) -> Option<Vector>
+    ensures { option_map vector_view result ≡ hmac_of (option_map (λ v. v.items) key) (option_map (λ v. v.items) message) (option_map (λ v. v.items) out) }
+{
+    Some(Vector::Hmac {
+        key: key?,
+        message: message?,
+        out: out?,
+    })
+}
+
+fn hmac(alloc: Global, value: &Value) -> Result<Option<Vector>, JsonError>
+    ensures { Finds (option_map vector_view) result (hmac_in (view value.now)) }
+{
+    if !has_members(value, 4) {
+        return Err(JsonError::BadJson);
+    }
+    let key = hex_at(alloc, value, "key")?;
+    let message = hex_at(alloc, value, "data")?;
+    let out = hex_at(alloc, value, "out")?;
+    Ok(hmac_of(key, message, out))
+}
+
+fn hkdf_of(
+    salt: Option<Vec<u8>>,
+    ikm: Option<Vec<u8>>,
+    info: Option<Vec<u8>>,
+    prk: Option<Vec<u8>>,
+    okm: Option<Vec<u8>>,
+) -> Option<Vector>
+    ensures { option_map vector_view result ≡ hkdf_of (option_map (λ v. v.items) salt) (option_map (λ v. v.items) ikm) (option_map (λ v. v.items) info)
+        (option_map (λ v. v.items) prk) (option_map (λ v. v.items) okm) }
+{
+    Some(Vector::Hkdf {
+        salt: salt?,
+        ikm: ikm?,
+        info: info?,
+        prk: prk?,
+        okm: okm?,
+    })
+}
+
+fn hkdf(alloc: Global, value: &Value) -> Result<Option<Vector>, JsonError>
+    ensures { Finds (option_map vector_view) result (hkdf_in (view value.now)) }
+{
+    if !has_members(value, 6) {
+        return Err(JsonError::BadJson);
+    }
+    let salt = hex_at(alloc, value, "salt")?;
+    let ikm = hex_at(alloc, value, "ikm")?;
+    let info = hex_at(alloc, value, "info")?;
+    let prk = hex_at(alloc, value, "prk")?;
+    let okm = hex_at(alloc, value, "okm")?;
+    Ok(hkdf_of(salt, ikm, info, prk, okm))
+}
+
+fn label_at<'a>(value: &'a Value, key: &str) -> Option<&'a str>
+    ensures { option_map (λ text. text.now) result ≡ label_at key.now (view value.now) }
+{
+    let label = text_at(value, key)?;
+    if label.len() <= MAX_LABEL {
+        Some(label)
+    } else {
+        None
+    }
+}
+
+fn expand_of(
+    secret: Option<Vec<u8>>,
+    label: String,
+    context: Option<Vec<u8>>,
+    out: Option<Vec<u8>>,
+) -> Option<Vector>
+    ensures { option_map vector_view result ≡ expand_of (option_map (λ v. v.items) secret) (string_bytes label) (option_map (λ v. v.items) context) (option_map (λ v. v.items) out) }
+{
+    Some(Vector::Expand {
+        secret: secret?,
         label,
-        context,
-        out,
+        context: context?,
+        out: out?,
     })
 }
 
-fn tree(alloc: Global, bytes: &str, tree_hash: &str) -> Result<Vector, VectorsError>
-    ensures { Decodes vector_view result (tree_of bytes.now tree_hash.now) }
+fn expand(alloc: Global, value: &Value) -> Result<Option<Vector>, JsonError>
+    ensures { Finds (option_map vector_view) result (expand_in (view value.now)) }
 {
-    let bytes = bytes_of(alloc, bytes)?;
-    let tree_hash = bytes_of(alloc, tree_hash)?;
-    Ok(Vector::Tree { bytes, tree_hash })
+    if !has_members(value, 5) {
+        return Err(JsonError::BadJson);
+    }
+    let Some(label) = label_at(value, "label") else {
+        return Err(JsonError::BadJson);
+    };
+    let secret = hex_at(alloc, value, "secret")?;
+    let context = hex_at(alloc, value, "context")?;
+    let out = hex_at(alloc, value, "out")?;
+    let label = String::from_str(alloc, label)?;
+    Ok(expand_of(secret, label, context, out))
 }
 
-fn vector_of(alloc: Global, text: &VectorText<'_>) -> Result<Vector, VectorsError>
-    ensures { Decodes vector_view result (claim_of (text_view text.now)) }
+fn message_of(bytes: Option<Vec<u8>>, refused: u64) -> Option<Vector>
+    ensures { option_map vector_view result ≡ message_of (option_map (λ v. v.items) bytes) refused }
 {
-    match text {
-        VectorText::Header { length, bytes } => header(alloc, *length, *bytes),
-        VectorText::Hmac { key, message, out } => hmac(alloc, key, message, out),
-        VectorText::Hkdf {
-            salt,
-            ikm,
-            info,
-            prk,
-            okm,
-        } => hkdf(alloc, salt, ikm, info, prk, okm),
-        VectorText::Expand {
-            secret,
-            label,
-            context,
-            out,
-        } => expand(alloc, secret, label, context, out),
-        VectorText::Treemath {
-            leaves,
-            node,
-            direct_path,
-            copath,
-        } => {
-            let direct_path = Vec::from_slice(alloc, direct_path.as_slice())?;
-            let copath = Vec::from_slice(alloc, copath.as_slice())?;
-            Ok(Vector::Treemath {
-                leaves: *leaves,
-                node: *node,
-                direct_path,
-                copath,
-            })
-        }
-        VectorText::Message { bytes, refused } => {
-            let bytes = bytes_of(alloc, bytes)?;
-            Ok(Vector::Message {
-                bytes,
-                refused: *refused,
-            })
-        }
-        VectorText::Tree { bytes, tree_hash } => tree(alloc, bytes, tree_hash),
+    Some(Vector::Message {
+        bytes: bytes?,
+        refused,
+    })
+}
+
+fn message(alloc: Global, value: &Value) -> Result<Option<Vector>, JsonError>
+    ensures { Finds (option_map vector_view) result (message_in (view value.now)) }
+{
+    if !has_members(value, 3) {
+        return Err(JsonError::BadJson);
+    }
+    let Some(refused) = u64_at(value, "refused") else {
+        return Err(JsonError::BadJson);
+    };
+    let bytes = hex_at(alloc, value, "bytes")?;
+    Ok(message_of(bytes, refused))
+}
+
+fn tree_of(bytes: Option<Vec<u8>>, tree_hash: Option<Vec<u8>>) -> Option<Vector>
+    ensures { option_map vector_view result ≡ tree_of (option_map (λ v. v.items) bytes) (option_map (λ v. v.items) tree_hash) }
+{
+    Some(Vector::Tree {
+        bytes: bytes?,
+        tree_hash: tree_hash?,
+    })
+}
+
+fn tree(alloc: Global, value: &Value) -> Result<Option<Vector>, JsonError>
+    ensures { Finds (option_map vector_view) result (tree_in (view value.now)) }
+{
+    if !has_members(value, 3) {
+        return Err(JsonError::BadJson);
+    }
+    let bytes = hex_at(alloc, value, "bytes")?;
+    let tree_hash = hex_at(alloc, value, "tree_hash")?;
+    Ok(tree_of(bytes, tree_hash))
+}
+
+#[tactic(auto, unfolding(crate::specs::VectorsFile::numbers_of))]
+fn numbers_of(alloc: Global, values: &[Value]) -> Result<Vec<u32>, JsonError>
+    ensures { Finds (λ v. v.items) result (numbers_of (items_view values.now)) }
+{
+    let mut numbers = Vec::new(alloc);
+    for value in values {
+        let Some(number) = u32_of(value) else {
+            return Err(JsonError::BadJson);
+        };
+        numbers.push(number)?;
+    }
+    Ok(numbers)
+}
+
+fn numbers_at(alloc: Global, value: &Value, key: &str) -> Result<Vec<u32>, JsonError>
+    ensures { Finds (λ v. v.items) result (numbers_at key.now (view value.now)) }
+{
+    match items_at(value, key) {
+        Some(values) => numbers_of(alloc, values),
+        None => Err(JsonError::BadJson),
     }
 }
 
-#[tactic(auto, unfolding(crate::specs::VectorsBytes::claims_of))]
-fn vectors_in(alloc: Global, texts: &[VectorText<'_>]) -> Result<Vec<Vector>, VectorsError>
-    ensures { Decodes (λ vectors. map vector_view vectors.items) result (claims_of (map text_view texts.now)) }
+fn treemath(alloc: Global, value: &Value) -> Result<Option<Vector>, JsonError>
+    ensures { Finds (option_map vector_view) result (treemath_in (view value.now)) }
+{
+    if !has_members(value, 5) {
+        return Err(JsonError::BadJson);
+    }
+    let Some(leaves) = u32_at(value, "leaves") else {
+        return Err(JsonError::BadJson);
+    };
+    let Some(node) = u32_at(value, "node") else {
+        return Err(JsonError::BadJson);
+    };
+    let direct_path = numbers_at(alloc, value, "direct_path")?;
+    let copath = numbers_at(alloc, value, "copath")?;
+    Ok(Some(Vector::Treemath {
+        leaves,
+        node,
+        direct_path,
+        copath,
+    }))
+}
+
+fn of_kind(alloc: Global, kind: &str, value: &Value) -> Result<Option<Vector>, JsonError>
+    ensures { Finds (option_map vector_view) result (kind_in kind.now (view value.now)) }
+{
+    match kind {
+        "header" => header(alloc, value),
+        "hmac" => hmac(alloc, value),
+        "hkdf" => hkdf(alloc, value),
+        "expand" => expand(alloc, value),
+        "treemath" => treemath(alloc, value),
+        "message" => message(alloc, value),
+        "tree" => tree(alloc, value),
+        _ => Err(JsonError::BadJson),
+    }
+}
+
+fn vector_of(alloc: Global, value: &Value) -> Result<Option<Vector>, JsonError>
+    ensures { Finds (option_map vector_view) result (claim_in (view value.now)) }
+{
+    match text_at(value, "kind") {
+        Some(kind) => of_kind(alloc, kind, value),
+        None => Err(JsonError::BadJson),
+    }
+}
+
+/// Adds what was found, and answers whether all texts are hex so far.
+fn push_found(
+    vectors: &mut Vec<Vector>,
+    all_hex: bool,
+    found: Option<Vector>,
+) -> Result<bool, AllocError>
+    ensures hex { IfOk result (λ hex. hex ≡ (all_hex && is_some found)) }
+    ensures items { OnOk result (vectors.new.items ≡ vectors.old.items ++ listed_one found) }
+{
+    match found {
+        Some(vector) => {
+            vectors.push(vector)?;
+            Ok(all_hex)
+        }
+        None => Ok(false),
+    }
+}
+
+#[tactic(auto, unfolding(crate::specs::VectorsFile::claims_of))]
+fn vectors_of(alloc: Global, values: &[Value]) -> Result<Vec<Vector>, JsonError>
+    ensures { Reads result (numbered (claims_of (items_view values.now))) }
 {
     let mut vectors = Vec::new(alloc);
-    for text in texts {
-        vectors.push(vector_of(alloc, text)?)?;
+    let mut all_hex = true;
+    for value in values {
+        let found = vector_of(alloc, value)?;
+        all_hex = push_found(&mut vectors, all_hex, found)?;
     }
-    Ok(vectors)
-}
-
-#[tactic(auto, unfolding(crate::specs::Json::data_in))]
-fn value_in(alloc: Global, file: &[u8]) -> Result<Value, VectorsError>
-    ensures { Finds view result (data_in file.now) }
-{
-    match Value::from_slice(alloc, file) {
-        Ok(value) => Ok(value),
-        Err(error) => {
-            if error.is_memory() {
-                Err(VectorsError::OutOfMemory)
-            } else {
-                Err(VectorsError::BadJson)
-            }
-        }
+    if all_hex {
+        Ok(vectors)
+    } else {
+        Err(JsonError::NotHex)
     }
 }
 
-/// The vectors of a file. A file with faults of both kinds has the fault of its shape.
-#[tactic(auto, unfolding(crate::specs::VectorsBytes::claims_in))]
-pub fn vectors_of(alloc: Global, file: &[u8]) -> Result<Vec<Vector>, VectorsError>
+/// The vectors of a file, or the fault of its shape (9), or else that a text in it isn't hex (8).
+#[tactic(auto, unfolding(crate::specs::VectorsFile::claims_in))]
+pub fn vectors_in(alloc: Global, file: &[u8]) -> Result<Vec<Vector>, JsonError>
     ensures { Reads result (claims_in file.now) }
 {
     let value = value_in(alloc, file)?;
-    let texts = texts_in(alloc, &value)?;
-    vectors_in(alloc, texts.as_slice())
+    match value.as_array() {
+        Some(values) => vectors_of(alloc, values.as_slice()),
+        None => Err(JsonError::BadJson),
+    }
 }

@@ -1,14 +1,13 @@
 //! What is printed of verdicts.
 
-ghost use Rattle.std.specs.Prelude.{◌≡◌, ◌≢◌, ◌≤◌, ◌++◌, map, IfOk, IfErr, OnOk, OnErr};
+ghost use Rattle.std.specs.Prelude.{◌≡◌, ◌++◌, map, IfOk, OnOk};
 ghost use Rattle.std.specs.Fmt.{decimal};
-ghost use Rattle.std.specs.Io.KnownBytes.{Appends};
-ghost use Rattle.mls_text.specs.Engine.{AppendsPart, Puts};
-ghost use Rattle.mls_vectors.specs.VectorsReport.{entry_of, entry_text, passed_count, report_entries, report_output, report_status, report_text, verdict_entries};
+ghost use Rattle.mls_text.specs.Page.{page_of};
+ghost use Rattle.mls_vectors.specs.ReportLaws.{report_line_nonempty};
+ghost use Rattle.mls_vectors.specs.VectorsReport.{entry_of, entry_text, passed_count, report_ending, report_entries, report_page, verdict_entries};
 
-use mls_text::{Fault, put};
+use mls_text::{Ending, Page, Printed};
 use std::alloc::{AllocError, Global};
-use std::io::Write;
 
 /// A line of a report.
 #[derive(Clone, Copy, Debug)]
@@ -25,27 +24,30 @@ fn push_number(alloc: Global, text: &mut Vec<u8>, number: usize) -> Result<(), A
     text.extend_from_slice(number.to_string(alloc)?.as_bytes())
 }
 
-/// The bytes of a line, its line feed with it.
-pub fn report_line_bytes(alloc: Global, line: ReportLine) -> Result<Vec<u8>, AllocError>
-    ensures { IfOk result (λ bytes. bytes.items ≡ entry_text (entry_of line)) }
-{
-    let mut text = Vec::new(alloc);
-    match line {
-        ReportLine::Verdict { index, passed } => {
-            let word = if passed { "pass" } else { "fail" };
-            push_number(alloc, &mut text, index)?;
-            text.extend_from_slice(b": ")?;
-            text.extend_from_slice(word.as_bytes())?;
-            text.push(b'\n')?;
-            Ok(text)
-        }
-        ReportLine::Total { passed, all } => {
-            text.extend_from_slice(b"passed ")?;
-            push_number(alloc, &mut text, passed)?;
-            text.extend_from_slice(b" of ")?;
-            push_number(alloc, &mut text, all)?;
-            text.push(b'\n')?;
-            Ok(text)
+impl Printed for ReportLine {
+    ghost text = { λ line. entry_text (entry_of line) };
+
+    ghost nonempty = { report_line_nonempty };
+
+    fn text_bytes(&self, alloc: Global) -> Result<Vec<u8>, AllocError> {
+        let mut text = Vec::new(alloc);
+        match *self {
+            ReportLine::Verdict { index, passed } => {
+                let word = if passed { "pass" } else { "fail" };
+                push_number(alloc, &mut text, index)?;
+                text.extend_from_slice(b": ")?;
+                text.extend_from_slice(word.as_bytes())?;
+                text.push(b'\n')?;
+                Ok(text)
+            }
+            ReportLine::Total { passed, all } => {
+                text.extend_from_slice(b"passed ")?;
+                push_number(alloc, &mut text, passed)?;
+                text.extend_from_slice(b" of ")?;
+                push_number(alloc, &mut text, all)?;
+                text.push(b'\n')?;
+                Ok(text)
+            }
         }
     }
 }
@@ -83,49 +85,23 @@ pub fn report_lines(alloc: Global, verdicts: &[bool]) -> Result<Vec<ReportLine>,
     Ok(lines)
 }
 
-fn print_line<W: Write>(alloc: Global, line: ReportLine, out: &mut W) -> Result<(), Fault>
-    ensures whole { OnOk result (Appends (W.contents out.old) (W.contents out.new) (entry_text (entry_of line))) }
-    ensures part { OnErr result (AppendsPart (W.contents out.old) (W.contents out.new) (entry_text (entry_of line))) }
-    ensures written { IfErr result (λ e. e ≢ Fault.Read) }
-{
-    match report_line_bytes(alloc, line) {
-        Ok(bytes) => put(out, bytes.as_slice()),
-        Err(_) => Err(Fault::OutOfMemory),
-    }
-}
-
-fn print_lines<W: Write>(alloc: Global, lines: &[ReportLine], out: &mut W) -> Result<(), Fault>
-    ensures whole { OnOk result (Appends (W.contents out.old) (W.contents out.new) (report_text (map entry_of lines.now))) }
-    ensures part { OnErr result (AppendsPart (W.contents out.old) (W.contents out.new) (report_text (map entry_of lines.now))) }
-    ensures written { IfErr result (λ e. e ≢ Fault.Read) }
-{
-    for line in lines {
-        print_line(alloc, *line, out)?;
-    }
-    Ok(())
-}
-
-fn status_of(verdicts: &[bool]) -> u8
-    ensures status { result ≡ report_status verdicts.now }
-    ensures small { result ≤ 1 }
+fn ending_of(verdicts: &[bool]) -> Ending
+    ensures { result ≡ report_ending verdicts.now }
 {
     if passed_count(verdicts) == verdicts.len() {
-        0
+        Ending::Good
     } else {
-        1
+        Ending::Failed
     }
 }
 
-/// Writes the report on verdicts, line by line, and answers the exit status.
-#[tactic(auto, unfolding(crate::specs::VectorsReport::report_output))]
-pub fn report<W: Write>(alloc: Global, verdicts: &[bool], out: &mut W) -> Result<u8, Fault>
-    ensures output { Puts W.contents out.old out.new result (report_output verdicts.now) }
-    ensures status { IfOk result (λ status. status ≤ 1) }
-    ensures written { IfErr result (λ e. e ≢ Fault.Read) }
+/// The report on verdicts: good where all vectors passed.
+#[tactic(auto, unfolding(crate::specs::VectorsReport::report_page))]
+pub fn report(alloc: Global, verdicts: &[bool]) -> Result<Page<ReportLine>, AllocError>
+    ensures { IfOk result (λ page. page_of entry_of page ≡ report_page verdicts.now) }
 {
-    let Ok(lines) = report_lines(alloc, verdicts) else {
-        return Err(Fault::OutOfMemory);
-    };
-    print_lines(alloc, lines.as_slice(), out)?;
-    Ok(status_of(verdicts))
+    Ok(Page {
+        lines: report_lines(alloc, verdicts)?,
+        ending: ending_of(verdicts),
+    })
 }

@@ -7,8 +7,7 @@ ghost use Rattle.mls_types.specs.Message.{mls_message};
 ghost use Rattle.mls_vectors.specs.Vectors.{vector_view};
 ghost use Rattle.mls_vectors.specs.VectorsPassing.{expand_passes, header_passes, hkdf_passes, hmac_passes, labelled_passes, number_given, passes, tree_passes, treemath_passes};
 
-use crate::reading::Vector;
-use crate::shape::MAX_LABEL;
+use crate::reading::{MAX_LABEL, Vector};
 use mls_check::tree_in;
 use mls_kdf::{MAX_OUTPUT, expand, expand_with_label, extract, hmac};
 use mls_leaf::Codec;

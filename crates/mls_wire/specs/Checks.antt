@@ -35,6 +35,3 @@ AnswersOutright value number defined (Err e) = defined ≡ Err (number e)
 abbrev pub DoesAs : {A B E S : Type 0} → (B → A) → (E → ℕ) → Result (A × S) ℕ → S → S → Result B E → Type 0
 DoesAs value number defined old new (Ok x) = defined ≡ Ok (value x, new)
 DoesAs value number defined old new (Err e) = (new ≡ old) × (number e ≢ 1 → defined ≡ Err (number e))
-
-abbrev pub Does : {A E S : Type 0} → (E → ℕ) → Result (A × S) ℕ → S → S → Result A E → Type 0
-Does number defined old new result = DoesAs (λ x. x) number defined old new result

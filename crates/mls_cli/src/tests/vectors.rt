@@ -142,7 +142,7 @@ fn refuses_files(rt: HostRuntime) -> Result<(), Fail> {
 }
 
 /// So many copies of a text.
-fn repeated(alloc: Global, text: &str, times: usize) -> Result<String, AllocError> {
+pub fn repeated(alloc: Global, text: &str, times: usize) -> Result<String, AllocError> {
     let mut all = String::new(alloc);
     for _ in 0..times {
         all.push_str(text)?;

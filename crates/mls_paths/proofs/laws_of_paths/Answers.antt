@@ -1,5 +1,6 @@
 use Rattle.mls_paths.proofs.laws_of_paths.Goals as goal
 use Rattle.mls_paths.specs.FitLaws.{fit_targets}
+use Rattle.mls_paths.specs.SecretLaws.{sealed_of_chain, secret_is_among}
 use Rattle.mls_paths.specs.ForkLaws.{secret_at_ancestor}
 use Rattle.mls_paths.specs.WholeLaws.{sealed_keys, sealed_lengths, sealed_where_fit, refused_where_unfit, sealed_merged, opened_merged, secret_merged, made_exact, made_merged, length_merged, filtered_merged, opened_exact, opened_agrees, opened_is_sent, taken_agrees, secret_for_merged}
 
@@ -8,6 +9,7 @@ returns c =
     record {
       keys = sealed_keys;
       lengths = sealed_lengths;
+      of_chain = sealed_of_chain;
       fit = sealed_where_fit;
       unfit = refused_where_unfit;
       fit_targets = fit_targets;
@@ -21,6 +23,7 @@ returns c =
       opened_exact = opened_exact;
       opened_agrees = opened_agrees;
       opened_secret = opened_is_sent;
+      among = secret_is_among;
       at_ancestor = secret_at_ancestor;
       taken_agrees = taken_agrees;
       secret_merged = secret_for_merged;

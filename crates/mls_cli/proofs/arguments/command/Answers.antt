@@ -1,7 +1,6 @@
-use Rattle.std.proofs.Common.{ap, ap₂, ◌∙◌, ◌≡◌, codes, true}
+use Rattle.std.proofs.Common.{ap, ap₂, ◌∙◌, ◌≡◌, codes}
 use Rattle.clap.specs.Words.{App, app_of, new_app, with_subcommand}
-use Rattle.clap.specs.Simple.{app_of_fields}
-use Rattle.mls_cli.specs.Arguments.{check_app, on_file}
+use Rattle.mls_cli.specs.Arguments.{check_app, needing_one, on_file}
 use Rattle.mls_cli.proofs.arguments.command.Goals as goal
 
 pub returns : goal.returns
@@ -15,5 +14,4 @@ returns c =
     let three : app_of c.in_ok-all.all ≡ with_subcommand (with_subcommand (with_subcommand (new_app (codes "mls")) (on_file (codes "show")).top) check_app.top) (on_file (codes "vectors")).top =
     c.in_ok-all.ensures.shape c.in_ok-vectors.ensures.local
     ∙ ap₂ with_subcommand two (ap (λ (a : App). a.top) c.in_ok-vectors.ensures.app) in
-    ap app_of_fields c.subcommand_required.ensures
-    ∙ ap (λ (a : App). record a { top = record a.top { subcommand_required = true } }) three
+    c.described.ensures ∙ ap needing_one three

@@ -1,29 +1,37 @@
 use Rattle.std.proofs.Common.{◌++◌, List, ℕ, codes, subst}
 use Rattle.std.specs.Io.KnownBytes.{Appends}
-use Rattle.mls_text.specs.Engine.{AppendsPart}
-use Rattle.mls_cli.proofs.Saying.{part_behind, part_of_front, part_written}
+use Rattle.mls_text.specs.Ends.{AppendsPart}
+use Rattle.mls_cli.proofs.Saying.{err_behind, err_front, ok_behind}
 use Rattle.mls_cli.proofs.serving.put_unreadable.Goals as goal
 
-pub returns-in_err-put : goal.returns-in_err-put
-returns-in_err-put g c =
-    part_of_front (g.E.Write.contents c.args.err.now) (g.E.Write.contents c.put.new.out) (codes "mls: cannot read ") (c.args.file.now ++ codes "\n")
-    c.in_err-put.ensures.part
+pub returns-in_err-put-clause-part : goal.returns-in_err-put-clause-part
+returns-in_err-put-clause-part g c =
+    err_front c.from_residual.result (g.E.Write.contents c.args.err.now.writer) (g.E.Write.contents c.put.new.self.writer)
+    (codes "mls: cannot read ") (c.args.file.now ++ codes "\n") c.in_err-put.ensures.part
 
-pub returns-in_err-put-2 : goal.returns-in_err-put-2
-returns-in_err-put-2 g c =
-    let part = subst (λ (text : List ℕ). AppendsPart (g.E.Write.contents c.put.new.out) (g.E.Write.contents c.put-2.new.out) text) c.as_bytes.ensures.value
+pub returns-in_err-put-2-clause-part : goal.returns-in_err-put-2-clause-part
+returns-in_err-put-2-clause-part g c =
+    let r = c.from_residual-in_err-put-2.result in
+    let part = subst (λ (text : List ℕ). AppendsPart (g.E.Write.contents c.put.new.self.writer) (g.E.Write.contents c.put-2.new.self.writer) text) c.as_bytes.ensures.value
     c.in_err-put-2.ensures.part in
-    part_behind (g.E.Write.contents c.args.err.now) (g.E.Write.contents c.put.new.out) (g.E.Write.contents c.put-2.new.out)
+    err_behind r (g.E.Write.contents c.args.err.now.writer) (g.E.Write.contents c.put.new.self.writer) (g.E.Write.contents c.put-2.new.self.writer)
     (codes "mls: cannot read ") (c.args.file.now ++ codes "\n") c.in_ok-put.ensures.whole
-    (part_of_front (g.E.Write.contents c.put.new.out) (g.E.Write.contents c.put-2.new.out) c.args.file.now (codes "\n") part)
+    (err_front r (g.E.Write.contents c.put.new.self.writer) (g.E.Write.contents c.put-2.new.self.writer) c.args.file.now (codes "\n") part)
 
-pub returns : goal.returns
-returns g c =
-    let whole = subst (λ (text : List ℕ). Appends (g.E.Write.contents c.put.new.out) (g.E.Write.contents c.put-2.new.out) text) c.as_bytes.ensures.value
+pub returns-clause-whole : goal.returns-clause-whole
+returns-clause-whole g c =
+    let whole = subst (λ (text : List ℕ). Appends (g.E.Write.contents c.put.new.self.writer) (g.E.Write.contents c.put-2.new.self.writer) text) c.as_bytes.ensures.value
     c.in_ok-put-2.ensures.whole in
-    let last = part_written c.put-3.result (g.E.Write.contents c.put-2.new.out) (g.E.Write.contents c.put-3.new.out) (codes "\n")
-    c.put-3.ensures.whole c.put-3.ensures.part in
-    part_behind (g.E.Write.contents c.args.err.now) (g.E.Write.contents c.put.new.out) (g.E.Write.contents c.put-3.new.out)
+    ok_behind c.put-3.result (g.E.Write.contents c.args.err.now.writer) (g.E.Write.contents c.put.new.self.writer) (g.E.Write.contents c.put-3.new.self.writer)
     (codes "mls: cannot read ") (c.args.file.now ++ codes "\n") c.in_ok-put.ensures.whole
-    (part_behind (g.E.Write.contents c.put.new.out) (g.E.Write.contents c.put-2.new.out) (g.E.Write.contents c.put-3.new.out)
-    c.args.file.now (codes "\n") whole last)
+    (ok_behind c.put-3.result (g.E.Write.contents c.put.new.self.writer) (g.E.Write.contents c.put-2.new.self.writer) (g.E.Write.contents c.put-3.new.self.writer)
+    c.args.file.now (codes "\n") whole c.put-3.ensures.whole)
+
+pub returns-clause-part : goal.returns-clause-part
+returns-clause-part g c =
+    let whole = subst (λ (text : List ℕ). Appends (g.E.Write.contents c.put.new.self.writer) (g.E.Write.contents c.put-2.new.self.writer) text) c.as_bytes.ensures.value
+    c.in_ok-put-2.ensures.whole in
+    err_behind c.put-3.result (g.E.Write.contents c.args.err.now.writer) (g.E.Write.contents c.put.new.self.writer) (g.E.Write.contents c.put-3.new.self.writer)
+    (codes "mls: cannot read ") (c.args.file.now ++ codes "\n") c.in_ok-put.ensures.whole
+    (err_behind c.put-3.result (g.E.Write.contents c.put.new.self.writer) (g.E.Write.contents c.put-2.new.self.writer) (g.E.Write.contents c.put-3.new.self.writer)
+    c.args.file.now (codes "\n") whole c.put-3.ensures.part)

@@ -1,5 +1,5 @@
 use Rattle.mls_treekem.proofs.Levels.{from_none}
-use Rattle.mls_treekem.proofs.Placing.{zeros_low, zeros_fit, way_found}
+use Rattle.mls_treekem.proofs.Place.{zeros_low, zeros_fit, way_found}
 use Rattle.mls_treekem.proofs.places.parents_over.Goals as goal
 
 pub push_places-requires-clause-low : goal.push_places-requires-clause-low

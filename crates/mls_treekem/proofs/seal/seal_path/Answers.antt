@@ -1,24 +1,27 @@
-use Rattle.std.proofs.Common.{Ok, Err}
+use Rattle.std.proofs.Common.{◌∙◌, refl, subst, sym}
+use Rattle.mls_wire.specs.Checks.{Answers}
 use Rattle.mls_tree.specs.Tree.{term}
-use Rattle.mls_term.specs.Way.{path_length}
 use Rattle.mls_treekem.specs.Faults.{number_of}
-use Rattle.mls_treekem.proofs.Sent.{all_filtered, whole_path, whole_seals}
+use Rattle.mls_treekem.specs.Secrets.{public_keys}
+use Rattle.mls_treekem.proofs.Joiners.{if_ok_map}
+use Rattle.mls_treekem.proofs.Sealing.{chain_path, whole_path, whole_seals}
 use Rattle.mls_treekem.proofs.seal.seal_path.Goals as goal
-
-pub returns-in-Ok-clause-answer : goal.returns-in-Ok-clause-answer
-returns-in-Ok-clause-answer g c =
-    λ start made.
-    whole_path (term c.args.tree.now) c.args.committer c.in_ok-places.places.items c.deref.result.now c.in_ok-places.ensures c.deref.ensures.value g.S.Suite.crypto c.args.context.now c.args.added.now c.args.seed.now start (Ok c.in-Ok.nodes.items)
-    (c.in-Ok.ensures.answer start (path_length 0 (term c.args.tree.now) c.args.committer) made
-    (all_filtered (term c.args.tree.now) c.args.committer c.in_ok-places.places.items c.deref.result.now c.in_ok-places.ensures c.deref.ensures.value))
-
-pub returns-in-Ok-clause-seals : goal.returns-in-Ok-clause-seals
-returns-in-Ok-clause-seals g c =
-    whole_seals (term c.args.tree.now) c.args.committer c.in_ok-places.places.items c.deref.result.now c.in_ok-places.ensures c.deref.ensures.value c.args.added.now _ c.in-Ok.ensures.seals
 
 pub returns-clause-answer : goal.returns-clause-answer
 returns-clause-answer g c =
-    λ start made other.
-    whole_path (term c.args.tree.now) c.args.committer c.in_ok-places.places.items c.deref.result.now c.in_ok-places.ensures c.deref.ensures.value g.S.Suite.crypto c.args.context.now c.args.added.now c.args.seed.now start (Err (number_of c.in-Err.error))
-    (c.in-Err.ensures.answer start (path_length 0 (term c.args.tree.now) c.args.committer) made
-    (all_filtered (term c.args.tree.now) c.args.committer c.in_ok-places.places.items c.deref.result.now c.in_ok-places.ensures c.deref.ensures.value) other)
+    subst (λ z. Answers (λ v. v.items) number_of z c.seal_places.result)
+    (sym (whole_path (term c.args.tree.now) c.args.committer c.in_ok-places.places.items c.deref.result.now c.in_ok-places.ensures c.deref.ensures.value g.S.Suite.crypto c.args.context.now c.args.added.now c.args.seed.now c.args.path.now.secrets.items (public_keys c.args.path.now) _ refl))
+    c.seal_places.ensures.answer
+
+pub returns-clause-chain : goal.returns-clause-chain
+returns-clause-chain g c =
+    λ start made.
+    subst (λ z. Answers (λ v. v.items) number_of z c.seal_places.result)
+    (sym
+    (chain_path g.S.Suite.crypto c.args.context.now c.args.added.now c.args.seed.now (term c.args.tree.now) c.args.committer start c.args.path.now made
+    ∙ whole_path (term c.args.tree.now) c.args.committer c.in_ok-places.places.items c.deref.result.now c.in_ok-places.ensures c.deref.ensures.value g.S.Suite.crypto c.args.context.now c.args.added.now c.args.seed.now c.args.path.now.secrets.items (public_keys c.args.path.now) _ refl))
+    c.seal_places.ensures.answer
+
+pub returns-clause-seals : goal.returns-clause-seals
+returns-clause-seals g c =
+    if_ok_map _ _ c.seal_places.result (λ v h. whole_seals (term c.args.tree.now) c.args.committer c.in_ok-places.places.items c.deref.result.now c.in_ok-places.ensures c.deref.ensures.value c.args.added.now _ h) c.seal_places.ensures.seals

@@ -1,7 +1,10 @@
-use Rattle.std.proofs.Common.{true, ap, ◌∙◌, sym, length, arith}
+use Rattle.std.proofs.Common.{true, subst, ap, ◌∙◌, sym, length, arith}
 use Rattle.mls_term.specs.Term.{is_full_width}
 use Rattle.mls_term.specs.Good.{has_good_shape}
 use Rattle.mls_term.specs.Arrays.{has_last, alternates, term_of}
+use Rattle.mls_tree.specs.Short.{HasShortLeaves}
+use Rattle.mls_tree.specs.ShortLeaves.{short_leaves}
+use Rattle.mls_tree.specs.Sent.{sent_is}
 use Rattle.mls_tree.proofs.Receiving.{no_last, misplaced, stands_as, half_empty, too_large, received}
 use Rattle.mls_tree.proofs.tree.PublicTree.from_nodes.Goals as goal
 
@@ -54,3 +57,7 @@ pub returns-clause-shape : goal.returns-clause-shape
 unfolding has_good_shape
 returns-clause-shape c =
     ap (λ xs. is_full_width (term_of c.in_ok-height.height xs)) (sym c.deref-3.ensures.value) ∙ sym c.is_full_width.ensures ∙ c.if-not-is_full_width.false
+
+pub returns-clause-short : goal.returns-clause-short
+returns-clause-short c = λ short.
+    subst HasShortLeaves (sent_is c.args.nodes.items _ (returns-clause-answer c)).0 (short_leaves c.args.nodes.items short)

@@ -1,6 +1,6 @@
 use Rattle.std.proofs.Common.{refl, ◌∙◌}
 use Rattle.mls_treekem.proofs.Due.{all_due}
-use Rattle.mls_treekem.proofs.Placing.{zeros_low, zeros_fit}
+use Rattle.mls_treekem.proofs.Place.{zeros_low, zeros_fit}
 use Rattle.mls_treekem.proofs.private_path.PrivatePath.require_keys.Goals as goal
 
 pub has_due_keys-requires-clause-low : goal.has_due_keys-requires-clause-low

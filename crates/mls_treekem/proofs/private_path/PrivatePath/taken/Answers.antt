@@ -1,8 +1,9 @@
+use Rattle.std.proofs.lemmas.Result.{err_from_is_err_and}
 use Rattle.std.proofs.Common.{◌≤◌, ◌<◌, ◌∙◌, ap, refl, reverse, map, arith}
-use Rattle.mls_term.specs.ArrayLaws.{perfect-term_of}
-use Rattle.mls_term.specs.Term.{width}
+use Rattle.mls_term.specs.Term.{width, height}
 use Rattle.mls_tree.specs.Tree.{Tree, term}
-use Rattle.mls_treekem.specs.Climbing.{climb_of}
+use Rattle.mls_tree.specs.Perfect.{perfect}
+use Rattle.mls_paths.specs.Make.{Climb}
 use Rattle.mls_paths.specs.Join.{is_complete}
 use Rattle.mls_treekem.specs.Place.{IsWay, step_of}
 use Rattle.mls_treekem.proofs.Followed.{way_read}
@@ -14,14 +15,16 @@ returns-then-signer-leaf_count-clause-answer g c = λ _.
     let out : width (term c.args.tree.now) ≤ c.args.signer = omega arith in
     take_outside g.S.Suite.crypto (term c.args.tree.now) c.args.signer c.args.self.now.leaf c.args.self.now.own c.args.secret.now out
 
-pub returns-in-Err-clause-answer : goal.returns-in-Err-clause-answer
-returns-in-Err-clause-answer g c = λ memory.
+pub returns-in_err-climb-clause-answer : goal.returns-in_err-climb-clause-answer
+returns-in_err-climb-clause-answer g c =
+    let p = err_from_is_err_and c.from_residual-in_err-climb.result c.from_residual-in_err-climb.ensures.1 in
+    rw (p.1, p.2) (λ memory.
     let tree : Tree = c.args.tree.now in
     let inside : c.args.signer < width (term tree) = omega arith in
     let signers : IsWay (term tree) c.args.signer c.deref.result.now = way_read (term tree) c.args.signer c.in_ok-signers.signers.items c.deref.result.now c.in_ok-signers.ensures c.deref.ensures.value in
     let joiners : IsWay (term tree) c.leaf-joiner.result c.in_ok-joiners.joiners.items = c.in_ok-joiners.ensures in
-    take_refused g.S.Suite.crypto tree.levels (term tree) (perfect-term_of tree.levels tree.listing) c.args.signer c.leaf-joiner.result c.args.self.now.leaf c.leaf-joiner.ensures c.args.self.now.own c.args.secret.now
-    c.deref.result.now c.in_ok-joiners.joiners.items signers joiners inside _ (c.in-Err.ensures memory)
+    take_refused g.S.Suite.crypto (height (term tree)) (term tree) (perfect tree) c.args.signer c.leaf-joiner.result c.args.self.now.leaf c.leaf-joiner.ensures c.args.self.now.own c.args.secret.now
+    c.deref.result.now c.in_ok-joiners.joiners.items signers joiners inside _ (c.in_err-climb.ensures memory))
 
 pub returns-then-not-is_complete-clause-answer : goal.returns-then-not-is_complete-clause-answer
 returns-then-not-is_complete-clause-answer g c = λ _.
@@ -29,9 +32,10 @@ returns-then-not-is_complete-clause-answer g c = λ _.
     let inside : c.args.signer < width (term tree) = omega arith in
     let signers : IsWay (term tree) c.args.signer c.deref.result.now = way_read (term tree) c.args.signer c.in_ok-signers.signers.items c.deref.result.now c.in_ok-signers.ensures c.deref.ensures.value in
     let joiners : IsWay (term tree) c.leaf-joiner.result c.deref-2.result.now = way_read (term tree) c.leaf-joiner.result c.in_ok-joiners.joiners.items c.deref-2.result.now c.in_ok-joiners.ensures c.deref-2.ensures.value in
-    let done = c.is_complete.ensures ∙ ap (λ ks. is_complete c.leaf-joiner.result (map (step_of (term tree)) c.deref-2.result.now) (reverse ks)) c.deref-3.ensures.value in
-    take_missing g.S.Suite.crypto tree.levels (term tree) (perfect-term_of tree.levels tree.listing) c.args.signer c.leaf-joiner.result c.args.self.now.leaf c.leaf-joiner.ensures c.args.self.now.own c.args.secret.now
-    c.deref.result.now c.deref-2.result.now signers joiners inside (climb_of c.in-Ok.climb) c.is_complete.result c.in-Ok.ensures done c.if-not-is_complete.true
+    let done = c.is_complete.ensures ∙ ap (λ ks. is_complete c.leaf-joiner.result (map (step_of (term tree)) c.deref-2.result.now) (reverse ks)) c.deref-3.ensures.value
+    ∙ ap (λ (m : Climb). is_complete c.leaf-joiner.result (map (step_of (term tree)) c.deref-2.result.now) m.keys) c.climb.view_is in
+    take_missing g.S.Suite.crypto (height (term tree)) (term tree) (perfect tree) c.args.signer c.leaf-joiner.result c.args.self.now.leaf c.leaf-joiner.ensures c.args.self.now.own c.args.secret.now
+    c.deref.result.now c.deref-2.result.now signers joiners inside c.in_ok-climb.climb c.is_complete.result c.in_ok-climb.ensures done c.if-not-is_complete.true
 
 pub returns-clause-answer : goal.returns-clause-answer
 returns-clause-answer g c =
@@ -39,9 +43,10 @@ returns-clause-answer g c =
     let inside : c.args.signer < width (term tree) = omega arith in
     let signers : IsWay (term tree) c.args.signer c.deref.result.now = way_read (term tree) c.args.signer c.in_ok-signers.signers.items c.deref.result.now c.in_ok-signers.ensures c.deref.ensures.value in
     let joiners : IsWay (term tree) c.leaf-joiner.result c.deref-2.result.now = way_read (term tree) c.leaf-joiner.result c.in_ok-joiners.joiners.items c.deref-2.result.now c.in_ok-joiners.ensures c.deref-2.ensures.value in
-    let done = c.is_complete.ensures ∙ ap (λ ks. is_complete c.leaf-joiner.result (map (step_of (term tree)) c.deref-2.result.now) (reverse ks)) c.deref-3.ensures.value in
-    take_whole g.S.Suite.crypto tree.levels (term tree) (perfect-term_of tree.levels tree.listing) c.args.signer c.leaf-joiner.result c.args.self.now.leaf c.leaf-joiner.ensures c.args.self.now.own c.args.secret.now
-    c.deref.result.now c.deref-2.result.now signers joiners inside (climb_of c.in-Ok.climb) c.is_complete.result c.in-Ok.ensures done c.if-not-is_complete.false
+    let done = c.is_complete.ensures ∙ ap (λ ks. is_complete c.leaf-joiner.result (map (step_of (term tree)) c.deref-2.result.now) (reverse ks)) c.deref-3.ensures.value
+    ∙ ap (λ (m : Climb). is_complete c.leaf-joiner.result (map (step_of (term tree)) c.deref-2.result.now) m.keys) c.climb.view_is in
+    take_whole g.S.Suite.crypto (height (term tree)) (term tree) (perfect tree) c.args.signer c.leaf-joiner.result c.args.self.now.leaf c.leaf-joiner.ensures c.args.self.now.own c.args.secret.now
+    c.deref.result.now c.deref-2.result.now signers joiners inside c.in_ok-climb.climb c.is_complete.result c.in_ok-climb.ensures done c.if-not-is_complete.false
 
 pub returns-clause-low : goal.returns-clause-low
 returns-clause-low g c =
@@ -49,5 +54,5 @@ returns-clause-low g c =
     let inside : c.args.signer < width (term tree) = omega arith in
     let signers : IsWay (term tree) c.args.signer c.deref.result.now = way_read (term tree) c.args.signer c.in_ok-signers.signers.items c.deref.result.now c.in_ok-signers.ensures c.deref.ensures.value in
     let joiners : IsWay (term tree) c.leaf-joiner.result c.in_ok-joiners.joiners.items = c.in_ok-joiners.ensures in
-    take_low g.S.Suite.crypto tree.levels (term tree) (perfect-term_of tree.levels tree.listing) c.args.signer c.leaf-joiner.result c.args.self.now.leaf c.leaf-joiner.ensures c.args.self.now.own c.args.secret.now
-    c.deref.result.now c.in_ok-joiners.joiners.items signers joiners inside (climb_of c.in-Ok.climb) c.in-Ok.climb.above.items c.in-Ok.ensures refl
+    take_low g.S.Suite.crypto (height (term tree)) (term tree) (perfect tree) c.args.signer c.leaf-joiner.result c.args.self.now.leaf c.leaf-joiner.ensures c.args.self.now.own c.args.secret.now
+    c.deref.result.now c.in_ok-joiners.joiners.items signers joiners inside c.in_ok-climb.climb c.in_ok-climb.ensures

@@ -1,0 +1,47 @@
+//! Why a JSON file isn't taken.
+
+ghost use Rattle.std.specs.Prelude.{◌≡◌};
+ghost use Rattle.mls_json.specs.Faults.{number_of};
+ghost use Rattle.mls_json.specs.declared.error.JsonError.TheVariants.{OutOfMemory};
+
+use std::alloc::{AllocError, AllocFailed};
+
+/// Why a JSON file isn't taken.
+#[derive(Clone, Copy, Debug, PartialEq, Eq)]
+pub enum JsonError {
+    /// A growth was refused.
+    OutOfMemory,
+    /// A text is no hex.
+    NotHex,
+    /// The file is no JSON, or not of the shape that it should have.
+    BadJson,
+}
+
+impl JsonError {
+    /// The number of the refusal.
+    pub fn number(self) -> u8
+        ensures { result ≡ number_of self }
+    {
+        match self {
+            JsonError::OutOfMemory => 1,
+            JsonError::NotHex => 8,
+            JsonError::BadJson => 9,
+        }
+    }
+}
+
+impl From<AllocError> for JsonError {
+    ghost from_gives = { λ _ e. e ≡ OutOfMemory };
+
+    fn from(_error: AllocError) -> JsonError {
+        JsonError::OutOfMemory
+    }
+}
+
+impl<T: Drop> From<AllocFailed<T>> for JsonError {
+    ghost from_gives = { λ _ e. e ≡ OutOfMemory };
+
+    fn from(_error: AllocFailed<T>) -> JsonError {
+        JsonError::OutOfMemory
+    }
+}

@@ -1,0 +1,15 @@
+//! Strict looks into JSON files: a value that is of another kind than it should be is a fault of the file, and so is a text
+//! that should be hex digits and isn't.
+#![tactic(auto)]
+
+mod error;
+mod file;
+mod hexes;
+mod lookup;
+
+pub use error::JsonError;
+pub use file::value_in;
+pub use hexes::{hex_at, hex_of, seed_at};
+pub use lookup::{
+    bool_at, has_members, items_at, text_at, text_if_any, u16_at, u32_at, u32_of, u64_at,
+};

@@ -1,0 +1,9 @@
+use Rattle.std.proofs.lemmas.Slice.Eq.{bytes_eq-Decides}
+use Rattle.mls_leaf.proofs.Equal.{leaves_decide}
+use Rattle.mls_leaf.proofs.laws.laws_of_equality.Goals as goal
+
+pub returns-clause-byte_strings : goal.returns-clause-byte_strings
+returns-clause-byte_strings c = bytes_eq-Decides
+
+pub returns-clause-leaves : goal.returns-clause-leaves
+returns-clause-leaves c = leaves_decide

@@ -1,0 +1,15 @@
+-- The format of extensions (RFC 9420, section 13.2).
+use Rattle.std.specs.Prelude.{refl}
+use Rattle.mls_wire.specs.Format.{Format}
+use Rattle.mls_wire.specs.CombineLaws.{IsNonempty}
+use Rattle.mls_wire.specs.Combine.{◌⨾◌, seen, byte_string, uint16}
+use Rattle.mls_leaf.specs.Nonempty.{uint16_nonempty, first_nonempty}
+use Rattle.mls_leaf.specs.declared.extension.Extension as declared
+
+-- (RFC 9420, section 13.2) uint16 type, data<V>
+unfoldable pub extension : Format declared.Extension
+extension = seen (uint16 ⨾ byte_string) (λ x. record { extension_type = x.0; extension_data = x.1 }) (λ v. (v.extension_type, v.extension_data)) (λ v. refl) (λ x _. refl)
+
+pub extension_nonempty : IsNonempty extension
+unfolding extension
+extension_nonempty v fits = first_nonempty uint16 byte_string uint16_nonempty (v.extension_type, v.extension_data) fits

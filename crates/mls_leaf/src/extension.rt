@@ -1,0 +1,51 @@
+//! Extensions.
+
+ghost use Rattle.mls_leaf.specs.Extension.{extension, extension_nonempty};
+ghost use Rattle.mls_leaf.specs.Answered.{extension_faults};
+
+use crate::bytes::Bytes;
+use crate::codec::Codec;
+use crate::error::LeafError;
+use mls_wire::{Reader, Writer};
+use std::alloc::Global;
+
+/// An extension, whose data this crate doesn't look into (RFC 9420, section 13.2).
+#[derive(Debug, Clone, PartialEq, Eq, Drop)]
+pub struct Extension {
+    /// The number of its type (RFC 9420, section 17.3).
+    pub extension_type: u16,
+    /// What it says.
+    pub extension_data: Bytes,
+}
+
+impl Codec for Extension {
+    ghost format = { extension };
+
+    ghost nonempty = { extension_nonempty };
+
+    ghost faults = { extension_faults };
+
+    #[tactic(auto, using(crate::specs::Codecs::codecs), unfolding(crate::specs::Extension::extension))]
+    fn read(alloc: Global, reader: &mut Reader<'_>) -> Result<Extension, LeafError> {
+        let extension_type = u16::read(alloc, reader)?;
+        let extension_data = Bytes::read(alloc, reader)?;
+        Ok(Extension {
+            extension_type,
+            extension_data,
+        })
+    }
+
+    #[tactic(auto, using(crate::specs::Codecs::codecs), unfolding(crate::specs::Extension::extension))]
+    fn check(reader: &mut Reader<'_>) -> Result<(), LeafError> {
+        u16::check(reader)?;
+        Bytes::check(reader)?;
+        Ok(())
+    }
+
+    #[tactic(auto, using(crate::specs::Codecs::codecs), unfolding(crate::specs::Extension::extension))]
+    fn write(&self, alloc: Global, writer: &mut Writer) -> Result<(), LeafError> {
+        self.extension_type.write(alloc, writer)?;
+        self.extension_data.write(alloc, writer)?;
+        Ok(())
+    }
+}

@@ -1,5 +1,0 @@
-use Rattle.mls_model.proofs.laws.laws_of_runs.Goals as goal
-use Rattle.mls_model.specs.RunLaws.{run_in_parts, replies_in_parts, one_reply_each, refused_leave, answered_step}
-
-pub returns : goal.returns
-returns c = record { run = run_in_parts; replies = replies_in_parts; each = one_reply_each; refused = refused_leave; answered = answered_step }

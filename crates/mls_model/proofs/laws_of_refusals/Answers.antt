@@ -1,0 +1,19 @@
+use Rattle.mls_model.proofs.laws_of_refusals.Goals as goal
+use Rattle.mls_model.specs.RefusalLaws.{verdict_refused}
+use Rattle.mls_model.specs.CallRefusals.{add_refused, update_refused, remove_refused, make_refused, candidate_refused, create_refused}
+use Rattle.mls_model.specs.JoinRefusals.{join_refused}
+use Rattle.mls_model.specs.WorldRefusals.{event_refused}
+
+pub returns : goal.returns
+returns c =
+    record {
+      process = verdict_refused;
+      add = add_refused;
+      update = update_refused;
+      remove = remove_refused;
+      commit = make_refused;
+      candidate = candidate_refused;
+      create = create_refused;
+      join = join_refused;
+      event = event_refused;
+    }

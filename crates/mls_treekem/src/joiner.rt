@@ -1,0 +1,77 @@
+//! The path secret that a joiner is sent (RFC 9420, 12.4.3.1).
+
+ghost use Rattle.std.specs.Prelude.{◌≡◌, ◌≤◌, length, map, IfOk};
+ghost use Rattle.std.specs.Option.{option_copied};
+ghost use Rattle.mls_term.specs.Way.{way};
+ghost use Rattle.mls_tree.specs.Tree.{term};
+ghost use Rattle.mls_paths.specs.Make.{filtered_count};
+ghost use Rattle.mls_paths.specs.Join.{secret_among};
+ghost use Rattle.mls_treekem.specs.Place.{step_of, ArePlaced};
+ghost use Rattle.mls_treekem.specs.Secrets.{IsSentOf};
+
+use crate::PathSecrets;
+use crate::open::is_filtered;
+use crate::places::{Place, parents_over};
+use mls_kdf::Secret;
+use mls_suite::OutOfMemory;
+use mls_tree::PublicTree;
+use std::alloc::Global;
+
+/// How many of these parents the filtered direct path takes in.
+fn filtered_count(tree: &PublicTree, places: &[Place]) -> Result<usize, OutOfMemory>
+    requires low { length places.now ≤ 31 }
+    requires placed { ArePlaced (term tree.now) places.now }
+    ensures count { IfOk result (λ n. n ≡ filtered_count (map (step_of (term tree.now)) places.now)) }
+    ensures few { IfOk result (λ n. n ≤ length places.now) }
+{
+    let Some((place, below)) = places.split_first() else {
+        return Ok(0);
+    };
+    let count = filtered_count(tree, below)?;
+    if is_filtered(tree, place)? {
+        return Ok(count + 1);
+    }
+    Ok(count)
+}
+
+impl PathSecrets {
+    /// The secret of the parent with leaf `joiner` beside it, among these, which are highest first: None where there is
+    /// no such parent.
+    fn secret_over(
+        &self,
+        tree: &PublicTree,
+        places: &[Place],
+        joiner: u32,
+    ) -> Result<Option<&Secret>, OutOfMemory>
+        requires low { length places.now ≤ 31 }
+        requires placed { ArePlaced (term tree.now) places.now }
+        ensures { IfOk result (λ o. option_copied o ≡ secret_among (map (step_of (term tree.now)) places.now) joiner self.now.secrets.items) }
+    {
+        let Some((place, below)) = places.split_first() else {
+            return Ok(None);
+        };
+        if place.is_beside(joiner) {
+            let count = filtered_count(tree, below)?;
+            return Ok(self.secrets.get(count));
+        }
+        self.secret_over(tree, below, joiner)
+    }
+
+    /// The path secret of the lowest node over both leaves, which the committer sends to a leaf that it adds
+    /// (RFC 9420, 12.4.3.1). These are the secrets of the committer's filtered direct path in the tree after the edits,
+    /// with the path merged or not. None where the leaves aren't two leaves of the tree, or that node has no secret
+    /// here. Refused for want of memory alone.
+    pub fn secret_for(
+        &self,
+        alloc: Global,
+        tree: &PublicTree,
+        committer: u32,
+        joiner: u32,
+    ) -> Result<Option<&Secret>, OutOfMemory>
+        ensures answer { IfOk result (λ o. option_copied o ≡ secret_among (way 0 (term tree.now) committer) joiner self.now.secrets.items) }
+        ensures chain { IfOk result (λ o. IsSentOf (term tree.now) committer joiner self.now.secrets.items (option_copied o)) }
+    {
+        let places = parents_over(alloc, tree, committer)?;
+        self.secret_over(tree, &places, joiner)
+    }
+}

@@ -1,0 +1,5 @@
+use Rattle.mls_view.specs.MessageLaws.{never_memory}
+use Rattle.mls_view.proofs.message.MessageView.read.Goals as goal
+
+pub returns-clause-no_memory : goal.returns-clause-no_memory
+returns-clause-no_memory c = never_memory c.args.bytes.now c.read_all.result c.read_all.ensures

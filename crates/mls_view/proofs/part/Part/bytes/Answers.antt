@@ -1,0 +1,5 @@
+use Rattle.mls_leaf.specs.WholeLaws.{passed_spells}
+use Rattle.mls_view.proofs.part.Part.bytes.Goals as goal
+
+pub returns-clause-spelled : goal.returns-clause-spelled
+returns-clause-spelled g c = rw c.lent.ensures.same (passed_spells g.T.Codec.format c.self.inside.bytes.now c.lent.ensures.bytes c.self.invariant)

@@ -1,0 +1,6 @@
+use Rattle.mls_group.specs.Welcome.{welcome}
+use Rattle.mls_view.specs.PartLaws.{owned_is}
+use Rattle.mls_view.proofs.welcome.WelcomeView.to_owned.Goals as goal
+
+pub returns : goal.returns
+returns c = λ shown shows. owned_is welcome shown c.args.self.now.whole c.to_owned.result shows.whole c.to_owned.ensures

@@ -1,0 +1,105 @@
+//! The inputs that are signed, tagged, referenced and hashed of a received message, fed from its slices.
+
+ghost use Rattle.std.specs.Prelude.{◌≡◌, ◌+◌, ◌<◌, ◌≤◌, ◌^◌, ◌++◌, ℕ, length, MatchResult};
+ghost use Rattle.std.specs.Int.{w16};
+ghost use Rattle.mls_kdf.specs.Kdf.{hmac, ref_hash};
+ghost use Rattle.mls_group.specs.GroupContext.{group_context};
+ghost use Rattle.mls_group.specs.declared.group_context.GroupContext as contexts;
+ghost use Rattle.mls_schedule.specs.Transcript.{confirmed_hash};
+ghost use Rattle.mls_types.specs.Content.{framed_content};
+ghost use Rattle.mls_types.specs.SignedParts.{framed};
+ghost use Rattle.mls_types.specs.Signing.{framed_content_tbs, authenticated_content_tbm};
+ghost use Rattle.mls_types.specs.PublicMessage.{authenticated_content};
+ghost use Rattle.mls_types.specs.Reference.{proposal_reference};
+ghost use Rattle.mls_types.specs.declared.public_message.PublicMessage as messages;
+ghost use Rattle.mls_types.specs.declared.public_message.WireFormat.TheVariants.{PublicMessage as public_format};
+ghost use Rattle.mls_view.specs.Shown.{ShowsPublic};
+ghost use Rattle.mls_view.specs.Fed.{signed_pieces, tagged_pieces, authenticated_pieces, authenticated};
+
+use crate::public_message::PublicMessageView;
+use mls_kdf::{Secret, content_header, hash, hmac};
+use mls_schedule::Transcript;
+use std::alloc::{AllocError, Global};
+
+/// Version 1 and wire format 1, then the slices.
+fn add_signed(alloc: Global, said: &[u8], context: &[u8]) -> Result<Vec<u8>, AllocError>
+    ensures { MatchResult result (λ v. v.items ≡ signed_pieces said.now context.now) (λ _. Unit {0}) }
+{
+    let front = [0, 1, 0, 1];
+    let mut bytes = Vec::new(alloc);
+    bytes.extend_from_slice(&front)?;
+    bytes.extend_from_slice(said)?;
+    bytes.extend_from_slice(context)?;
+    Ok(bytes)
+}
+
+#[tactic(auto, unfolding(mls_wire::specs::Reading::uint))]
+fn tag_of<'b>(key: &[u8], said: &'b [u8], context: &'b [u8], auth: &'b [u8]) -> Secret
+    ensures { result ≡ hmac key.now (tagged_pieces said.now context.now auth.now) }
+{
+    let version = 1u16.to_be_bytes();
+    let format = 1u16.to_be_bytes();
+    hmac(key, &[&version, &format, said, context, auth])
+}
+
+/// The reference under a label of wire format 1 and the slices.
+fn reference_of<'b>(label: &'b str, said: &'b [u8], auth: &'b [u8]) -> Secret
+    requires label { length label.now ≤ 200 }
+    requires value { length said.now + length auth.now + 2 < 2 ^ 30 }
+    ensures { result ≡ ref_hash label.now (authenticated_pieces said.now auth.now) }
+{
+    let label_header = content_header(label.len());
+    let value_header = content_header(said.len() + auth.len() + 2);
+    let format = 1u16.to_be_bytes();
+    hash(&[
+        label_header.as_slice(),
+        label.as_bytes(),
+        value_header.as_slice(),
+        &format,
+        said,
+        auth,
+    ])
+}
+
+impl<'a> PublicMessageView<'a> {
+    /// The FramedContentTBS, which the sender signed (RFC 9420, 6.1), with the bytes of the epoch's GroupContext.
+    pub fn to_be_signed(&self, alloc: Global, context: &[u8]) -> Result<Vec<u8>, AllocError>
+        ensures { MatchResult result
+            (λ v. (shown : messages.PublicMessage) (group : contexts.GroupContext) → ShowsPublic self.now shown → context.now ≡ group_context.spell group
+            → v.items ≡ framed_content_tbs public_format (framed shown.content) group)
+            (λ _. Unit {0}) }
+    {
+        add_signed(alloc, self.framed_content, context)
+    }
+
+    /// The tag of the AuthenticatedContentTBM under a membership key (RFC 9420, 6.2), with the bytes of the epoch's
+    /// GroupContext. It takes no memory.
+    pub fn membership_tag_under(&self, key: &[u8], context: &[u8]) -> Secret
+        ensures { (shown : messages.PublicMessage) (group : contexts.GroupContext) → ShowsPublic self.now shown → context.now ≡ group_context.spell group
+            → result ≡ hmac key.now (authenticated_content_tbm public_format shown.content group) }
+    {
+        tag_of(key, self.framed_content, context, self.auth_data)
+    }
+
+    /// The reference of the proposal that the message carries (RFC 9420, 5.2), of the AuthenticatedContent, which has
+    /// less than 2^30 bytes. It takes no memory.
+    pub fn reference(&self) -> Secret
+        requires { length self.now.framed_content.now + length self.now.auth_data.now + 2 < 2 ^ 30 }
+        ensures { (shown : messages.PublicMessage) → ShowsPublic self.now shown → result ≡ proposal_reference (authenticated_content.spell (authenticated shown)) }
+    {
+        reference_of(
+            "MLS 1.0 Proposal Reference",
+            self.framed_content,
+            self.auth_data,
+        )
+    }
+
+    /// The confirmed transcript hash of a commit sent after this transcript (RFC 9420, 8.2). It takes no memory.
+    pub fn confirm(&self, transcript: &Transcript) -> Secret
+        requires { length self.now.auth.signature.now < 2 ^ 30 }
+        ensures { (shown : messages.PublicMessage) → ShowsPublic self.now shown
+            → result ≡ confirmed_hash transcript.now 1 (framed_content.spell (framed shown.content)) shown.content.signature }
+    {
+        transcript.confirm(1, self.framed_content, self.auth.signature)
+    }
+}

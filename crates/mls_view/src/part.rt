@@ -1,0 +1,130 @@
+//! Parts of a message, and the items of its vectors.
+
+ghost use Rattle.std.specs.Prelude.{◌≡◌, ℕ, List, [], length, ◌<◌, Ok, Some, None, IsSome};
+ghost use Rattle.mls_wire.specs.Combine.{vector};
+ghost use Rattle.mls_wire.specs.Format.{IsBytes};
+ghost use Rattle.mls_leaf.specs.Faults.{LendsPart, Spells};
+ghost use Rattle.mls_view.specs.Views.{Owns, AreItems, Steps};
+
+use mls_leaf::{Codec, Items, LeafError, part, passed};
+use mls_wire::Reader;
+use std::alloc::Global;
+use std::marker::{Model, PhantomData};
+
+// The same bytes, each of which is one.
+fn lent<'a>(bytes: &'a [u8]) -> &'a [u8]
+    ensures same { result.now ≡ bytes.now }
+    ensures bytes { IsBytes bytes.now }
+{
+    bytes
+}
+
+/// Bytes that are one spelling of a value, lent from a message.
+#[derive(Drop)]
+pub struct Part<'a, T: Codec> {
+    bytes: &'a [u8],
+    kind: PhantomData<T>,
+}
+
+impl<'a, T: Codec> Model for Part<'a, T> {
+    ghost Value = { List ℕ };
+
+    ghost view = { λ p. p.bytes.now };
+
+    ghost invariant = { λ p. T.format.pass p.bytes.now ≡ Ok [] };
+}
+
+impl<'a, T: Codec> Part<'a, T> {
+    /// The part at the front. It makes no value and takes no memory.
+    pub fn read(reader: &mut Reader<'a>) -> Result<Part<'a, T>, LeafError>
+        ensures { LendsPart T.format (λ p. p) reader.old result reader.new }
+    {
+        let bytes = part::<T>(reader)?;
+        Ok(Part {
+            bytes,
+            kind: PhantomData,
+        })
+    }
+
+    /// What a reader has passed, where it read a value there.
+    pub(crate) fn of(before: &'a [u8], behind: &[u8]) -> Part<'a, T>
+        requires { (v : T) × (T.format.read before.now ≡ Ok (v, behind.now)) }
+        ensures { (v : T) → T.format.read before.now ≡ Ok (v, behind.now) → Spells T.format v result }
+    {
+        Part {
+            bytes: passed(before, behind),
+            kind: PhantomData,
+        }
+    }
+
+    /// The bytes.
+    pub fn bytes(&self) -> &'a [u8]
+        ensures same { result.now ≡ self.now }
+        ensures spelled { (v : T) × Spells T.format v result.now }
+    {
+        lent(self.bytes)
+    }
+
+    /// The value that the bytes spell, or want of memory.
+    pub fn to_owned(&self, alloc: Global) -> Result<T, LeafError>
+        ensures { Owns T.format self.now result }
+    {
+        let mut reader = Reader::new(lent(self.bytes));
+        T::read(alloc, &mut reader)
+    }
+}
+
+impl<'a, T: Codec> Part<'a, Items<T>> {
+    /// A walk over the items of a vector, from the first one on.
+    pub fn walk(&self) -> Walk<'a, T>
+        ensures { (vs : List T) → Spells (vector T.format T.nonempty) vs self.now → AreItems T.format vs result }
+    {
+        let mut reader = Reader::new(self.bytes);
+        match reader.opaque() {
+            Ok(content) => Walk::new(content),
+            Err(_) => Walk::new(&[]),
+        }
+    }
+}
+
+/// The items of a vector that are left, lent from a message.
+#[derive(Drop)]
+pub struct Walk<'a, T: Codec> {
+    content: &'a [u8],
+    kind: PhantomData<T>,
+}
+
+impl<'a, T: Codec> Model for Walk<'a, T> {
+    ghost Value = { List ℕ };
+
+    ghost view = { λ w. w.content.now };
+}
+
+impl<'a, T: Codec> Walk<'a, T> {
+    fn new(content: &'a [u8]) -> Walk<'a, T>
+        ensures { result ≡ content.now }
+    {
+        Walk {
+            content,
+            kind: PhantomData,
+        }
+    }
+
+    /// The next item, None behind the last one. It makes no value and takes no memory.
+    pub fn next(&mut self) -> Option<Part<'a, T>>
+        ensures step { (vs : List T) → AreItems T.format vs self.old → Steps T.format vs result self.new }
+        ensures shorter { IsSome result → length self.new < length self.old }
+    {
+        let mut reader = Reader::new(self.content);
+        if reader.is_empty() {
+            return None;
+        }
+        match Part::<T>::read(&mut reader) {
+            Ok(item) => {
+                self.content = reader.rest();
+                Some(item)
+            }
+            Err(_) => None,
+        }
+    }
+}

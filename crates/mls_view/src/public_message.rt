@@ -1,0 +1,63 @@
+//! Views of public messages (RFC 9420, 6.2).
+
+ghost use Rattle.mls_types.specs.PublicMessage.{public_message};
+ghost use Rattle.mls_view.specs.Views.{LendsView, IsOwned};
+ghost use Rattle.mls_view.specs.Shown.{ShowsPublic};
+ghost use Rattle.mls_types.specs.declared.public_message.PublicMessage as messages;
+
+use crate::auth::{AuthDataView, read_auth};
+use crate::content::{FramedContentView, read_framed};
+use crate::part::Part;
+use mls_leaf::{LeafError, passed};
+use mls_types::PublicMessage;
+use mls_wire::Reader;
+use std::alloc::Global;
+
+/// A content that is signed, and not encrypted (RFC 9420, 6.2), lent from the message's bytes.
+#[derive(Drop)]
+pub struct PublicMessageView<'a> {
+    /// The content.
+    pub content: FramedContentView<'a>,
+    /// What vouches for it.
+    pub auth: AuthDataView<'a>,
+    /// The tag that shows that the sender is a member.
+    pub membership_tag: &'a [u8],
+    /// The bytes of the FramedContent.
+    pub framed_content: &'a [u8],
+    /// The bytes of the FramedContentAuthData.
+    pub auth_data: &'a [u8],
+    /// All of the message.
+    pub whole: Part<'a, PublicMessage>,
+}
+
+/// The public message at the front. It makes no value and takes no memory.
+pub(crate) fn read_public<'a>(reader: &mut Reader<'a>) -> Result<PublicMessageView<'a>, LeafError>
+    ensures { LendsView public_message ShowsPublic reader.old result reader.new }
+{
+    let before = reader.rest();
+    let content = read_framed(reader)?;
+    let middle = reader.rest();
+    let auth = read_auth(&content.content, reader)?;
+    let behind = reader.rest();
+    let membership_tag = reader.opaque()?;
+    let framed_content = passed(before, middle);
+    let auth_data = passed(middle, behind);
+    let whole = Part::of(before, reader.rest());
+    Ok(PublicMessageView {
+        content,
+        auth,
+        membership_tag,
+        framed_content,
+        auth_data,
+        whole,
+    })
+}
+
+impl<'a> PublicMessageView<'a> {
+    /// The message itself, or want of memory.
+    pub fn to_owned(&self, alloc: Global) -> Result<PublicMessage, LeafError>
+        ensures { (shown : messages.PublicMessage) → ShowsPublic self.now shown → IsOwned shown result }
+    {
+        self.whole.to_owned(alloc)
+    }
+}
