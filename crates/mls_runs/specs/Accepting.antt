@@ -1,6 +1,6 @@
 -- A commit that was made at a homemade journal is accepted by every other active member that has that journal and keeps what
 -- it names; and its maker follows it while it is pending, and refuses it else.
-use Rattle.std.proofs.Common.{◌≡◌, ℕ, ◌+◌, Bool, true, false, not, List, [], ◌∷◌, Option, Some, None, Result, Ok, Err, refl, sym, ap, ap₂, subst, ◌∙◌, slice_get, slice_set}
+use Rattle.std.proofs.Common.{◌≡◌, ℕ, ◌+◌, true, false, not, List, Some, Ok, refl, sym, ap, subst, ◌∙◌, slice_get, slice_set}
 use Rattle.std.specs.Prelude.{◌≢◌}
 use Rattle.std.specs.Str.{bytes_eq}
 use Rattle.std.proofs.lemmas.Slice.Eq.{bytes_eq-Decides}
@@ -10,15 +10,14 @@ use Rattle.mls_term.specs.Sets.{has}
 use Rattle.mls_model.specs.declared.effect.Effect.{Effect}
 use Rattle.mls_model.specs.declared.effect.Effect.TheVariants.{Advanced, Removed}
 use Rattle.mls_model.specs.declared.event.Event.TheVariants.{Deliver}
-use Rattle.mls_model.specs.declared.event.Reply.{Reply}
 use Rattle.mls_model.specs.declared.event.Reply.TheVariants.{Delivered}
 use Rattle.mls_model.specs.declared.event.Source.{Source}
 use Rattle.mls_model.specs.Agreement.{Agree, Keeps}
 use Rattle.mls_model.specs.Calls.{journal_after, deliver_answer}
 use Rattle.mls_model.specs.Claims.{Receives, FollowsTo}
-use Rattle.mls_model.specs.Headline.{IsActive, Follows, Accepts, AcceptsHomemade, FollowsOwn}
+use Rattle.mls_model.specs.Headline.{Follows, Accepts, AcceptsHomemade, FollowsOwn}
 use Rattle.mls_model.specs.Invariant.{IsSeated, IsRecorded, IsGoodBy}
-use Rattle.mls_model.specs.Journal.{Entry, Journal, CommitMade, with_entry, names_in, removes_in, list_in, entry_of, is_homemade_from}
+use Rattle.mls_model.specs.Journal.{Entry, CommitMade, with_entry, names_in, removes_in, list_in, entry_of}
 use Rattle.mls_model.specs.Lineage.{IsReached}
 use Rattle.mls_model.specs.Member.{Member, Pending, advanced, left}
 use Rattle.mls_model.specs.PublicOf.{Creations}

@@ -1,9 +1,7 @@
 -- Active members of a good world with one journal hold one public state; with a homemade one the same secrets, with any the
 -- same or twins; their trees are good and their private keys exact.
-use Rattle.std.proofs.Common.{◌≡◌, ℕ, Bool, true, false, List, [], ◌∷◌, Option, Some, None, Result, Ok, Err, refl, sym, ap, subst, ◌∙◌, ◌⊎◌, inl, inr, slice_get}
+use Rattle.std.proofs.Common.{◌≡◌, ℕ, true, List, [], ◌∷◌, Option, Some, Result, Ok, refl, sym, ap, subst, ◌∙◌, inl, slice_get}
 use Rattle.mls_wire.specs.Checks.{given}
-use Rattle.mls_wire.specs.Laws.{ok_is}
-use Rattle.mls_wire.specs.Reading.{◌>>=◌}
 use Rattle.mls_leaf.specs.Faults.{whole}
 use Rattle.mls_leaf.specs.Limits.{input_limit}
 use Rattle.mls_group.specs.GroupInfo.{group_info}
@@ -17,16 +15,16 @@ use Rattle.mls_types.specs.declared.signed.SignedContent.{SignedContent}
 use Rattle.mls_suite.specs.Crypto.{Crypto, Lawful}
 use Rattle.mls_model.specs.declared.origin.Origin.{Origin}
 use Rattle.mls_model.specs.declared.origin.Origin.TheVariants.{Creation, GroupInfo as JoinedBy}
-use Rattle.mls_model.specs.Agreement.{Agree, AgreeSecret, AgreeOrTwins}
-use Rattle.mls_model.specs.Headline.{IsActive, AgreeByJournal, AgreeSecretIfHomemade, AgreeByConfirmation, KeysAreExact, TreesAreGood}
-use Rattle.mls_model.specs.Invariant.{tag_of_body, tag_of_message, tag_of_info, last_tag, IsSeated, IsGoodBy}
+use Rattle.mls_model.specs.Agreement.{AgreeOrTwins}
+use Rattle.mls_model.specs.Headline.{AgreeByJournal, AgreeSecretIfHomemade, AgreeByConfirmation, KeysAreExact, TreesAreGood}
+use Rattle.mls_model.specs.Invariant.{tag_of_body, tag_of_message, tag_of_info, last_tag, IsGoodBy}
 use Rattle.mls_model.specs.Journal.{Entry, Journal, CommitMade, is_homemade, is_homemade_from}
 use Rattle.mls_model.specs.Lineage.{IsReached}
 use Rattle.mls_model.specs.Member.{Member}
 use Rattle.mls_model.specs.Messages.{decoded, public_in}
 use Rattle.mls_model.specs.Public.{PublicState}
 use Rattle.mls_model.specs.PublicOf.{Creations, public_after_body, public_after, public_of_info, public_of}
-use Rattle.mls_model.specs.World.{World, Seat}
+use Rattle.mls_model.specs.World.{World}
 use Rattle.mls_claims.specs.Journals.{StandsAlong, public_agreement, secret_agreement}
 use Rattle.mls_claims.specs.Steps.{stepped, was_given}
 use Rattle.mls_runs.specs.Past.{past_along}

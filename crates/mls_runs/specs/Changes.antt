@@ -1,6 +1,6 @@
 -- What holds of a good world is kept by each change of it: more messages, more made commits, a member in another state, one
 -- more candidate, one more member.
-use Rattle.std.proofs.Common.{◌≡◌, ℕ, zero, suc, ◌+◌, ◌<◌, ◌==◌, Bool, true, false, List, [], ◌∷◌, ◌++◌, length, Option, Some, None, refl, ap, sym, ◌∙◌, subst, ◌⊎◌, inl, inr, slice_get, slice_set, arith, length-append, true≢false, eqb-true}
+use Rattle.std.proofs.Common.{◌≡◌, ℕ, zero, suc, ◌<◌, ◌==◌, Bool, true, false, List, [], ◌∷◌, ◌++◌, length, Option, Some, refl, ap, sym, ◌∙◌, subst, ◌⊎◌, inl, inr, slice_get, slice_set, arith, eqb-true}
 use Rattle.std.proofs.lemmas.Bool.{eqb-false}
 use Rattle.std.specs.Prelude.{◌≢◌}
 use Rattle.std.proofs.Math.ListN.{length-set}
@@ -8,14 +8,13 @@ use Rattle.mls_wire.specs.Format.{IsBytes}
 use Rattle.mls_suite.specs.Crypto.{Crypto}
 use Rattle.mls_model.specs.Agreement.{IsGoodCandidate}
 use Rattle.mls_model.specs.Candidate.{Candidate}
-use Rattle.mls_model.specs.Headline.{IsActive}
 use Rattle.mls_model.specs.Invariant.{IsSeated, IsRecorded, IsPendingOf, IsSpentFor, IsGoodBy}
 use Rattle.mls_model.specs.Journal.{CommitMade}
 use Rattle.mls_model.specs.Lineage.{IsSameState, IsReached}
 use Rattle.mls_model.specs.Member.{Member, Pending}
 use Rattle.mls_model.specs.PublicOf.{Creations}
 use Rattle.mls_model.specs.World.{World, Entrant, Seat}
-use Rattle.mls_runs.specs.Lists.{Grows, grows_none, get_append, get_length, get_last, get_either, get_below, get_set, set_here, set_other}
+use Rattle.mls_runs.specs.Lists.{Grows, grows_none, get_append, get_last, get_either, get_set, set_here, set_other}
 use Rattle.mls_runs.specs.Past.{same_itself, same_on, past_grows, seated_by}
 
 -- ---- members that go on

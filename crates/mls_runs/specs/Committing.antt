@@ -1,5 +1,5 @@
 -- A good world is kept by a commit that a member makes.
-use Rattle.std.proofs.Common.{◌≡◌, ℕ, ◌+◌, Bool, true, false, not, List, [], ◌∷◌, ◌++◌, length, Option, Some, None, Result, Ok, refl, sym, ap, subst, ◌∙◌, inl, slice_get, arith}
+use Rattle.std.proofs.Common.{◌≡◌, ℕ, ◌+◌, Bool, false, List, [], ◌∷◌, ◌++◌, length, Option, Some, None, Ok, refl, sym, ap, subst, ◌∙◌, inl, slice_get, arith}
 use Rattle.std.specs.Prelude.{option_map}
 use Rattle.std.specs.List.{AllByRecursion}
 use Rattle.mls_wire.specs.Checks.{passed}
@@ -33,10 +33,10 @@ use Rattle.mls_model.specs.World.{World, Seat, with_member, seat_at, items_of}
 use Rattle.mls_claims.specs.Along.{made_along}
 use Rattle.mls_claims.specs.Makes.{Makes, make_did, made_of}
 use Rattle.mls_claims.specs.Pends.{made_pends}
-use Rattle.mls_claims.specs.Steps.{required, checked, stepped, was_given}
+use Rattle.mls_claims.specs.Steps.{checked, stepped, was_given}
 use Rattle.mls_claims.specs.Still.{pending_good}
 use Rattle.mls_runs.specs.Changes.{AreMessages, one_message, two_messages, more_messages, IsNewNumber, more_made, change_member}
-use Rattle.mls_runs.specs.Lists.{Grows, grows_none, get_append, get_length, get_below, get_second}
+use Rattle.mls_runs.specs.Lists.{grows_none, get_append, get_length, get_below, get_second}
 use Rattle.mls_runs.specs.Past.{same_itself, past_grows, reached_same}
 use Rattle.mls_runs.specs.Secrets.{not_gone, pending_message}
 use Rattle.mls_runs.specs.Sources.{bytes_within, items_fit}

@@ -1,9 +1,8 @@
 -- A good world is kept by whatever is delivered to a member.
-use Rattle.std.proofs.Common.{◌≡◌, ℕ, ◌+◌, ◌<◌, Bool, true, false, not, List, [], ◌∷◌, Option, Some, None, Result, Ok, refl, sym, ap, ap₂, subst, ◌∙◌, ◌⊎◌, inl, inr, slice_get, slice_set, arith}
+use Rattle.std.proofs.Common.{◌≡◌, ℕ, ◌<◌, false, List, ◌∷◌, Option, Some, None, Result, Ok, refl, sym, ap, ap₂, subst, ◌∙◌, ◌⊎◌, inl, inr, slice_get, slice_set, arith}
 use Rattle.std.proofs.lemmas.Slice.Eq.{bytes_eq-Decides}
 use Rattle.mls_wire.specs.Format.{IsBytes}
 use Rattle.mls_wire.specs.Laws.{ok_is}
-use Rattle.mls_leaf.specs.declared.proposal.Proposal.{Proposal}
 use Rattle.mls_types.specs.SignedParts.{framed}
 use Rattle.mls_types.specs.declared.commit.Commit.{Commit}
 use Rattle.mls_types.specs.declared.content.FramedContent.{FramedContent}
@@ -13,7 +12,7 @@ use Rattle.mls_types.specs.declared.signed.SignedBody.TheVariants as body_of
 use Rattle.mls_suite.specs.Crypto.{Crypto}
 use Rattle.mls_paths.specs.Keys.{PrivateKeys}
 use Rattle.mls_model.specs.declared.effect.Effect.{Effect}
-use Rattle.mls_model.specs.declared.effect.Effect.TheVariants.{Proposed, Known, Advanced, Removed}
+use Rattle.mls_model.specs.declared.effect.Effect.TheVariants.{Advanced}
 use Rattle.mls_model.specs.declared.event.Reply.{Reply}
 use Rattle.mls_model.specs.declared.event.Source.{Source}
 use Rattle.mls_model.specs.Agreement.{IsGoodPending, IsGoodIfPending, IsGoodMember}
@@ -21,9 +20,8 @@ use Rattle.mls_model.specs.Calls.{journal_after, deliver_answer}
 use Rattle.mls_model.specs.Commit.{Change, body, public_with, next_public}
 use Rattle.mls_model.specs.Invariant.{IsPendingOf, IsGoodBy, IsGoodWorld}
 use Rattle.mls_model.specs.Journal.{Entry, Journal, CommitMade, with_entry, names_in, list_in, entry_of}
-use Rattle.mls_model.specs.Lineage.{MadeHere, FollowedOther, FollowedOwn, Steps, IsReached}
-use Rattle.mls_model.specs.Member.{Kept, Pending, Member, keeping, with_keys, advanced, left}
-use Rattle.mls_model.specs.Messages.{reference_of}
+use Rattle.mls_model.specs.Lineage.{Steps, IsReached}
+use Rattle.mls_model.specs.Member.{Pending, Member, with_keys, advanced, left}
 use Rattle.mls_model.specs.Public.{PublicState, Used}
 use Rattle.mls_model.specs.PublicOf.{Creations}
 use Rattle.mls_model.specs.Range.{IsSourceInRange}
@@ -31,7 +29,7 @@ use Rattle.mls_model.specs.Verdict.{kept_of, own_pending, verdict}
 use Rattle.mls_model.specs.World.{World, Seat, seat_at, bytes_of}
 use Rattle.mls_claims.specs.Delivered.{delivered_good}
 use Rattle.mls_claims.specs.Opened.{body_did}
-use Rattle.mls_claims.specs.Receipts.{reached_epoch, HasFollowed, WasRemoved, CommitDid, ContentDid, ReceivedDid, DidPending, DidOther, did_receive, did_take}
+use Rattle.mls_claims.specs.Receipts.{reached_epoch, HasFollowed, WasRemoved, ContentDid, ReceivedDid, DidPending, DidOther, did_receive, did_take}
 use Rattle.mls_claims.specs.Steps.{stepped, was_given}
 use Rattle.mls_runs.specs.Changes.{change_member}
 use Rattle.mls_runs.specs.Keeping.{keeps_one, keeps_none, to_world}

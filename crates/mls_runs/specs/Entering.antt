@@ -1,17 +1,16 @@
 -- What holds of a good world is kept where a candidate becomes its next member.
-use Rattle.std.proofs.Common.{◌≡◌, ℕ, zero, suc, ◌+◌, ◌<◌, ◌==◌, Bool, true, false, List, [], ◌∷◌, ◌++◌, length, Option, Some, None, refl, ap, sym, ◌∙◌, subst, ◌⊎◌, inl, inr, slice_get, slice_set, arith, length-append, true≢false}
+use Rattle.std.proofs.Common.{◌≡◌, ℕ, true, false, List, [], ◌∷◌, ◌++◌, length, Option, Some, None, refl, ap, sym, ◌∙◌, subst, ◌⊎◌, inl, inr, slice_get, slice_set, arith, length-append, true≢false}
 use Rattle.std.specs.Prelude.{◌≢◌}
 use Rattle.mls_suite.specs.Crypto.{Crypto}
 use Rattle.mls_model.specs.Agreement.{IsGoodCandidate}
 use Rattle.mls_model.specs.Candidate.{Candidate}
-use Rattle.mls_model.specs.Invariant.{IsSeated, IsRecorded, IsPendingOf, IsSpentFor, IsGoodBy}
-use Rattle.mls_model.specs.Journal.{CommitMade}
+use Rattle.mls_model.specs.Invariant.{IsSeated, IsPendingOf, IsSpentFor, IsGoodBy}
 use Rattle.mls_model.specs.Lineage.{IsReached}
 use Rattle.mls_model.specs.Member.{Member, Pending}
 use Rattle.mls_model.specs.PublicOf.{Creations}
 use Rattle.mls_model.specs.World.{World, Entrant, Seat, with_joined}
-use Rattle.mls_runs.specs.Changes.{GoesOn, goes_still, WorldGrows, record_grows, seated_grows, pending_grows, either_place}
-use Rattle.mls_runs.specs.Lists.{Grows, grows_none, get_append, get_length, get_last, get_set, set_here, set_other}
+use Rattle.mls_runs.specs.Changes.{WorldGrows, record_grows, seated_grows, pending_grows}
+use Rattle.mls_runs.specs.Lists.{grows_none, get_append, get_last, get_set, set_here, set_other}
 use Rattle.mls_runs.specs.Past.{same_itself, seated_by}
 
 abbrev first_of : Option Member → Creations

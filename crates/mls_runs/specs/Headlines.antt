@@ -1,11 +1,7 @@
 -- The headline: what holds of each world that a list of events leaves.
-use Rattle.std.proofs.Common.{◌≡◌, List, [], ◌∷◌}
-use Rattle.std.specs.List.{AllByRecursion}
 use Rattle.mls_suite.specs.Crypto.{Crypto, Lawful}
-use Rattle.mls_model.specs.declared.event.Event.{Event}
 use Rattle.mls_model.specs.Headline.{Headline, HoldsOnRuns}
 use Rattle.mls_model.specs.Invariant.{IsGoodWorld}
-use Rattle.mls_model.specs.Range.{IsInRange}
 use Rattle.mls_model.specs.Run.{run}
 use Rattle.mls_model.specs.World.{World, empty_world}
 use Rattle.mls_runs.specs.Accepting.{accepts_homemade, follows_own}

@@ -1,5 +1,5 @@
 -- A good world is kept by a join, by a Welcome that was made here or by any other.
-use Rattle.std.proofs.Common.{◌≡◌, ℕ, ◌==◌, Bool, true, false, ◌&&◌, List, [], ◌∷◌, ◌++◌, Option, Some, None, Result, Ok, refl, sym, ap, subst, ◌∙◌, inl, inr, slice_get, eqb-true, true≢false}
+use Rattle.std.proofs.Common.{◌≡◌, ℕ, true, ◌&&◌, List, [], ◌∷◌, ◌++◌, Option, Some, None, Result, Ok, refl, sym, ap, subst, ◌∙◌, inr, slice_get, eqb-true, true≢false}
 use Rattle.std.specs.Prelude.{option_map}
 use Rattle.std.specs.List.{list_any}
 use Rattle.std.specs.Str.{bytes_eq}
@@ -12,18 +12,17 @@ use Rattle.mls_model.specs.declared.event.Reply.{Reply}
 use Rattle.mls_model.specs.declared.event.Source.{Source}
 use Rattle.mls_model.specs.declared.event.Source.TheVariants.{Given, Message}
 use Rattle.mls_model.specs.declared.origin.Origin.TheVariants as from
-use Rattle.mls_model.specs.Agreement.{IsGoodMember, IsGoodCandidate}
+use Rattle.mls_model.specs.Agreement.{IsGoodCandidate}
 use Rattle.mls_model.specs.Calls.{join_answer}
 use Rattle.mls_model.specs.Candidate.{Candidate}
 use Rattle.mls_model.specs.Claims.{JoinsTo}
 use Rattle.mls_model.specs.Invariant.{IsRecorded, IsGoodBy, IsGoodWorld}
-use Rattle.mls_model.specs.Join.{Joined, join_verdict, member_of}
-use Rattle.mls_model.specs.Journal.{Journal, CommitMade, names_in, adds_in}
+use Rattle.mls_model.specs.Join.{Joined, join_verdict}
+use Rattle.mls_model.specs.Journal.{CommitMade}
 use Rattle.mls_model.specs.Lineage.{IsSameState, IsReached}
-use Rattle.mls_model.specs.Member.{Member}
 use Rattle.mls_model.specs.Opening.{Opened, opened_welcome}
 use Rattle.mls_model.specs.PublicOf.{Creations}
-use Rattle.mls_model.specs.World.{World, Entrant, Seat, entrant_at, bytes_of, has_source, is_source, made_for, joiner_journal}
+use Rattle.mls_model.specs.World.{World, Seat, entrant_at, bytes_of, has_source, made_for, joiner_journal}
 use Rattle.mls_claims.specs.Entered.{MemberDid, member_did, joined_by, joined_good}
 use Rattle.mls_claims.specs.Joiners.{joiners_hold}
 use Rattle.mls_claims.specs.Steps.{stepped, was_given}

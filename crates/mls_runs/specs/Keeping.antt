@@ -1,5 +1,5 @@
 -- A good world is kept by what leaves a member's state: its proposals, those that it is given, and drops.
-use Rattle.std.proofs.Common.{◌≡◌, ℕ, Bool, true, false, not, List, [], ◌∷◌, ◌++◌, Option, Some, None, is_some, Result, Ok, refl, sym, ap, subst, ◌∙◌, ◌⊎◌, inl, inr, slice_get}
+use Rattle.std.proofs.Common.{◌≡◌, ℕ, false, not, List, [], ◌∷◌, ◌++◌, Option, Some, None, Result, Ok, refl, sym, ap, subst, ◌∙◌, ◌⊎◌, inl, inr, slice_get}
 use Rattle.std.specs.Str.{bytes_eq}
 use Rattle.std.proofs.lemmas.Slice.Eq.{bytes_eq-Decides}
 use Rattle.mls_wire.specs.Checks.{passed}
@@ -7,7 +7,6 @@ use Rattle.mls_wire.specs.Laws.{ok_is}
 use Rattle.mls_leaf.specs.declared.proposal.Proposal.{Proposal}
 use Rattle.mls_leaf.specs.declared.proposal.Proposal.TheVariants as proposes
 use Rattle.mls_suite.specs.Crypto.{Crypto}
-use Rattle.mls_types.specs.declared.commit.ProposalOrRef.{ProposalOrRef}
 use Rattle.mls_model.specs.declared.event.Reply.{Reply}
 use Rattle.mls_model.specs.declared.event.Source.{Source}
 use Rattle.mls_model.specs.Agreement.{IsGoodPending, IsGoodIfPending, IsGoodMember}
@@ -18,11 +17,11 @@ use Rattle.mls_model.specs.Invariant.{IsPendingOf, IsGoodBy, IsGoodWorld}
 use Rattle.mls_model.specs.Journal.{names_in, list_in}
 use Rattle.mls_model.specs.Lineage.{IsSameState}
 use Rattle.mls_model.specs.Member.{Kept, Pending, Member, kept_under, keeping, without_pending}
-use Rattle.mls_model.specs.Messages.{is_within_limit, sent_by, reference_of}
+use Rattle.mls_model.specs.Messages.{is_within_limit, reference_of}
 use Rattle.mls_model.specs.Propose.{proposal_by, kept_once, proposed, proposed_add, updated_leaf, proposed_update, proposed_remove}
 use Rattle.mls_model.specs.PublicOf.{Creations}
 use Rattle.mls_model.specs.Range.{IsSourceInRange}
-use Rattle.mls_model.specs.World.{World, Seat, with_message, with_member, seat_at, package_of}
+use Rattle.mls_model.specs.World.{World, Seat, with_member, seat_at, package_of}
 use Rattle.mls_claims.specs.Along.{list_at}
 use Rattle.mls_claims.specs.Proposing.{added_good, updated_good, removed_good}
 use Rattle.mls_claims.specs.Steps.{required, checked, stepped, was_given}

@@ -1,9 +1,9 @@
 -- Members in one public state with different signature keys stand at different leaves.
-use Rattle.std.proofs.Common.{◌≡◌, ℕ, Option, Some, refl, ap, ap₂, sym, ◌∙◌}
+use Rattle.std.proofs.Common.{◌≡◌, Option, Some, ap, ap₂, sym, ◌∙◌}
 use Rattle.std.specs.Prelude.{◌≢◌}
 use Rattle.mls_leaf.specs.declared.leaf.LeafNode.{LeafNode}
 use Rattle.mls_suite.specs.Crypto.{Crypto}
-use Rattle.mls_term.specs.Term.{Term, leaf_of}
+use Rattle.mls_term.specs.Term.{leaf_of}
 use Rattle.mls_model.specs.Agreement.{IsGoodMember}
 use Rattle.mls_model.specs.Member.{Member}
 use Rattle.mls_model.specs.Public.{PublicState}

@@ -1,5 +1,5 @@
 -- Look-ups in lists that grow or change at one place.
-use Rattle.std.proofs.Common.{◌≡◌, ◌≢◌, ℕ, zero, suc, ◌+◌, ◌<◌, List, [], ◌∷◌, ◌++◌, length, Bool, true, false, cond, find, Option, Some, None, refl, ap, sym, ◌∙◌, ◌⊎◌, inl, inr, slice_get, slice_set, arith, true≢false}
+use Rattle.std.proofs.Common.{◌≡◌, ◌≢◌, ℕ, zero, suc, ◌+◌, ◌<◌, List, [], ◌∷◌, ◌++◌, length, Bool, true, false, cond, find, Option, Some, refl, ap, sym, ◌∙◌, ◌⊎◌, inl, inr, slice_get, slice_set, arith, true≢false}
 
 -- all that one list has at a place, the other has there too
 abbrev pub Grows : {A : Type 0} → List A → List A → Type 0

@@ -1,12 +1,12 @@
 -- The states that a member passed along its journal.
-use Rattle.std.proofs.Common.{◌≡◌, ℕ, List, [], ◌∷◌, Option, Some, Result, Ok, refl, ap, sym, ◌∙◌, subst, ◌⊎◌, inl, inr, slice_get}
+use Rattle.std.proofs.Common.{◌≡◌, ℕ, List, [], ◌∷◌, Some, refl, ap, sym, ◌∙◌, subst, inl, inr}
 use Rattle.mls_suite.specs.Crypto.{Crypto}
 use Rattle.mls_model.specs.declared.origin.Origin.{Origin}
 use Rattle.mls_model.specs.declared.origin.Origin.TheVariants.{Creation, GroupInfo as JoinedBy}
 use Rattle.mls_model.specs.Agreement.{IsGoodMember}
 use Rattle.mls_model.specs.Invariant.{IsSeated}
 use Rattle.mls_model.specs.Journal.{Entry, Journal, CommitMade, names_in}
-use Rattle.mls_model.specs.Lineage.{IsSameState, BeganAlone, BeganJoined, Begins, MadeHere, FollowedOther, FollowedOwn, JoinedHere, Steps, IsReached}
+use Rattle.mls_model.specs.Lineage.{IsSameState, Begins, MadeHere, Steps, IsReached}
 use Rattle.mls_model.specs.Member.{Member}
 use Rattle.mls_model.specs.PublicOf.{Creations}
 use Rattle.mls_model.specs.World.{World, Seat}

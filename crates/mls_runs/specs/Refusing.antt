@@ -1,11 +1,9 @@
 -- A refusal names the first check that fails and changes nothing; a maker refuses its own commit, once it isn't pending.
-use Rattle.std.proofs.Common.{◌≡◌, ℕ, suc, ◌+◌, ◌<◌, ◌==◌, Bool, true, false, not, ◌||◌, List, [], ◌∷◌, Option, Some, None, Result, Ok, Err, refl, sym, ap, subst, ◌∙◌, ◌⊎◌, inl, inr, slice_get, arith, eq-eqb, true≢false}
-use Rattle.std.specs.Prelude.{◌≢◌}
+use Rattle.std.proofs.Common.{◌≡◌, ℕ, suc, ◌==◌, Bool, true, false, not, ◌||◌, List, Option, Some, None, Result, Ok, Err, refl, sym, ap, subst, ◌∙◌, inl, inr, slice_get, arith, eq-eqb, true≢false}
 use Rattle.std.specs.List.{list_any}
 use Rattle.std.specs.Str.{bytes_eq}
 use Rattle.mls_wire.specs.Laws.{ok_is}
 use Rattle.mls_types.specs.declared.commit.ProposalOrRef.{ProposalOrRef}
-use Rattle.mls_types.specs.declared.message.MlsMessage.{MlsMessage}
 use Rattle.mls_types.specs.declared.message.MlsMessage.TheVariants as message
 use Rattle.mls_types.specs.declared.public_message.PublicMessage.{PublicMessage}
 use Rattle.mls_suite.specs.Crypto.{Crypto, Lawful}
@@ -15,15 +13,13 @@ use Rattle.mls_model.specs.declared.event.Event.TheVariants as event
 use Rattle.mls_model.specs.declared.event.Reply.{Reply}
 use Rattle.mls_model.specs.declared.event.Reply.TheVariants as reply
 use Rattle.mls_model.specs.declared.event.Source.{Source}
-use Rattle.mls_model.specs.Agreement.{Agree, AgreeSecret, IsGoodMember, IsGoodPending}
+use Rattle.mls_model.specs.Agreement.{Agree, IsGoodMember}
 use Rattle.mls_model.specs.Calls.{candidate_answer, create_answer, propose_add_answer, propose_update_answer, propose_remove_answer, commit_answer, drop_answer, deliver_answer, join_answer}
-use Rattle.mls_model.specs.Claims.{IsMade}
-use Rattle.mls_model.specs.Headline.{IsActive, RefusalsChangeNothing, RefusesOwn, epoch_of_message}
+use Rattle.mls_model.specs.Headline.{RefusalsChangeNothing, RefusesOwn, epoch_of_message}
 use Rattle.mls_model.specs.Invariant.{IsRecorded, IsGoodBy}
-use Rattle.mls_model.specs.Journal.{CommitMade}
 use Rattle.mls_model.specs.Lineage.{IsSameState}
 use Rattle.mls_model.specs.Commit.{Change}
-use Rattle.mls_model.specs.Make.{MadePath, Made, make}
+use Rattle.mls_model.specs.Make.{MadePath, make}
 use Rattle.mls_model.specs.Candidate.{signing_of, new_candidate, created}
 use Rattle.mls_model.specs.Join.{join_verdict}
 use Rattle.mls_model.specs.Propose.{proposed_add, proposed_update, proposed_remove}
@@ -41,7 +37,7 @@ use Rattle.mls_claims.specs.Makes.{commit_of, said_of, tag_of, content_of, Makes
 use Rattle.mls_claims.specs.Receipts.{IsFramed}
 use Rattle.mls_claims.specs.Received.{sender_is}
 use Rattle.mls_claims.specs.Sent.{sent_of, made_fits}
-use Rattle.mls_claims.specs.Steps.{required, checked, stepped}
+use Rattle.mls_claims.specs.Steps.{required, stepped}
 use Rattle.mls_runs.specs.Changes.{IsSince}
 use Rattle.mls_runs.specs.Secrets.{agree_secret}
 

@@ -1,11 +1,11 @@
 -- A good world is kept by each event, and so by each list of events.
-use Rattle.std.proofs.Common.{◌≡◌, ℕ, List, [], ◌∷◌, Option, Some, None, Result, Ok, Err, refl, slice_get}
+use Rattle.std.proofs.Common.{◌≡◌, ℕ, List, [], ◌∷◌, Result, Ok, Err, refl}
 use Rattle.std.specs.List.{AllByRecursion}
 use Rattle.mls_suite.specs.Crypto.{Crypto, Lawful}
 use Rattle.mls_model.specs.declared.event.Event.{Event}
 use Rattle.mls_model.specs.declared.event.Event.TheVariants as event
 use Rattle.mls_model.specs.declared.event.Reply.{Reply}
-use Rattle.mls_model.specs.Invariant.{IsGoodBy, IsGoodWorld}
+use Rattle.mls_model.specs.Invariant.{IsGoodWorld}
 use Rattle.mls_model.specs.Range.{IsInRange}
 use Rattle.mls_model.specs.Run.{answer, step_by, step, run}
 use Rattle.mls_model.specs.World.{World, empty_world}

@@ -2,13 +2,11 @@
 use Rattle.std.proofs.Common.{◌≡◌, ℕ, Bool, true, false, not, List, [], ◌∷◌, Option, Some, None, Result, Ok, refl, ap, sym, ◌∙◌, subst, ◌⊎◌, inl, inr, slice_get, true≢false}
 use Rattle.std.specs.Prelude.{◌≢◌}
 use Rattle.mls_wire.specs.Laws.{ok_is}
-use Rattle.mls_types.specs.declared.commit.Commit.{Commit}
 use Rattle.mls_types.specs.declared.commit.ProposalOrRef.{ProposalOrRef}
 use Rattle.mls_types.specs.declared.message.MlsMessage.{MlsMessage}
 use Rattle.mls_types.specs.declared.message.MlsMessage.TheVariants as message
 use Rattle.mls_types.specs.declared.public_message.PublicMessage.{PublicMessage}
 use Rattle.mls_types.specs.declared.signed.SignedBody.{SignedBody}
-use Rattle.mls_types.specs.declared.signed.SignedBody.TheVariants as body_of
 use Rattle.mls_suite.specs.Crypto.{Crypto, Lawful}
 use Rattle.mls_term.specs.Sets.{has}
 use Rattle.mls_schedule.specs.Epoch.{nine_secrets}
@@ -20,7 +18,7 @@ use Rattle.mls_model.specs.Agreement.{Agree, AgreeSecret, Keeps, IsGoodMember, I
 use Rattle.mls_model.specs.Claims.{IsMade, Receives, FollowsTo}
 use Rattle.mls_model.specs.Invariant.{IsRecorded}
 use Rattle.mls_model.specs.Journal.{Entry, Journal, CommitMade, names_in, removes_in, list_in, entry_of, is_homemade_from}
-use Rattle.mls_model.specs.Lineage.{BeganAlone, MadeHere, FollowedOther, FollowedOwn, JoinedHere, Steps, IsReached}
+use Rattle.mls_model.specs.Lineage.{FollowedOther, Steps, IsReached}
 use Rattle.mls_model.specs.Make.{Made}
 use Rattle.mls_model.specs.Member.{Member, left}
 use Rattle.mls_model.specs.Messages.{decoded, sender_leaf}
@@ -29,7 +27,7 @@ use Rattle.mls_model.specs.Verdict.{own_pending, verdict}
 use Rattle.mls_model.specs.World.{World}
 use Rattle.mls_claims.specs.Along.{list_at, made_along}
 use Rattle.mls_claims.specs.Delivered.{other_committer}
-use Rattle.mls_claims.specs.Journals.{StandsAlong, public_agreement}
+use Rattle.mls_claims.specs.Journals.{public_agreement}
 use Rattle.mls_claims.specs.Makes.{Makes, make_did, made_of}
 use Rattle.mls_claims.specs.Pends.{made_pends}
 use Rattle.mls_claims.specs.Receipts.{IsFramed, ContentDid, CommitDid, ReceivedDid, DidPending, DidOther, did_receive, did_take}

@@ -1,12 +1,11 @@
 -- What sources stand for has a spelling: bytes that are given are bytes, and so is each message of a world.
-use Rattle.std.proofs.Common.{◌≡◌, ℕ, ◌<◌, ◌^◌, Bool, true, false, ◌&&◌, List, [], ◌∷◌, length, Option, Some, None, Result, Ok, refl, sym, ap, subst, ◌∙◌, slice_get, arith, lit<}
+use Rattle.std.proofs.Common.{◌≡◌, ℕ, ◌<◌, ◌^◌, List, [], ◌∷◌, length, Some, Ok, sym, subst, slice_get, arith, lit<}
 use Rattle.std.specs.Prelude.{codes}
 use Rattle.std.specs.List.{AllByRecursion}
 use Rattle.std.proofs.lemmas.Bool.{and_parts}
 use Rattle.mls_wire.specs.Checks.{passed, given}
 use Rattle.mls_wire.specs.Format.{IsBytes}
 use Rattle.mls_wire.specs.Laws.{ok_is}
-use Rattle.mls_wire.specs.Reading.{◌>>=◌}
 use Rattle.mls_kdf.specs.Lengths.{length-ref_hash}
 use Rattle.mls_leaf.specs.KeyPackage.{key_package}
 use Rattle.mls_leaf.specs.Limits.{input_limit}
@@ -26,9 +25,9 @@ use Rattle.mls_model.specs.declared.event.Source.{Source}
 use Rattle.mls_model.specs.declared.event.Source.TheVariants.{Given, Message}
 use Rattle.mls_model.specs.declared.event.WorldItem.{WorldItem}
 use Rattle.mls_model.specs.declared.event.WorldItem.TheVariants.{RefOf, Add, Remove}
-use Rattle.mls_model.specs.Messages.{decoded, are_bytes, is_within_limit, reference_of}
+use Rattle.mls_model.specs.Messages.{decoded, is_within_limit, reference_of}
 use Rattle.mls_model.specs.Range.{IsSourceInRange, IsItemInRange}
-use Rattle.mls_model.specs.World.{World, bytes_of, package_in, package_of, proposal_in, proposal_of, item_of, items_of}
+use Rattle.mls_model.specs.World.{World, bytes_of, package_in, package_of, proposal_of, item_of, items_of}
 use Rattle.mls_claims.specs.Entered.{are_from}
 use Rattle.mls_claims.specs.Steps.{passes, stepped, was_given}
 

@@ -1,5 +1,5 @@
 -- Those whom a commit adds join by its Welcome, by its number or by its bytes.
-use Rattle.std.proofs.Common.{◌≡◌, ℕ, ◌==◌, Bool, true, false, not, ◌&&◌, List, [], ◌∷◌, ◌++◌, length, Option, Some, None, Result, Ok, refl, sym, ap, subst, ◌∙◌, slice_get, eqb-true, eq-eqb, true≢false}
+use Rattle.std.proofs.Common.{◌≡◌, ℕ, Bool, true, false, not, ◌&&◌, List, [], ◌∷◌, ◌++◌, length, Option, Some, None, Result, Ok, refl, sym, ap, subst, ◌∙◌, slice_get, eqb-true, eq-eqb, true≢false}
 use Rattle.std.specs.List.{list_any}
 use Rattle.std.specs.Str.{bytes_eq}
 use Rattle.std.proofs.lemmas.Bool.{and_parts}
@@ -7,21 +7,20 @@ use Rattle.std.proofs.lemmas.Slice.Eq.{bytes_eq-Decides}
 use Rattle.mls_leaf.specs.KeyPackage.{key_package}
 use Rattle.mls_suite.specs.Crypto.{Crypto, Lawful}
 use Rattle.mls_model.specs.declared.event.Event.TheVariants.{Join}
-use Rattle.mls_model.specs.declared.event.Reply.{Reply}
 use Rattle.mls_model.specs.declared.event.Reply.TheVariants.{Joined as HasJoined}
 use Rattle.mls_model.specs.declared.event.Source.{Source}
 use Rattle.mls_model.specs.declared.event.Source.TheVariants.{Given, Message}
 use Rattle.mls_model.specs.Calls.{join_answer}
 use Rattle.mls_model.specs.Candidate.{Candidate}
 use Rattle.mls_model.specs.Claims.{JoinsTo}
-use Rattle.mls_model.specs.Headline.{Joins, IsAdded, IsGiven, JoinsByNumber, JoinsByBytes}
+use Rattle.mls_model.specs.Headline.{Joins, IsAdded, JoinsByNumber, JoinsByBytes}
 use Rattle.mls_model.specs.Invariant.{IsRecorded, IsGoodBy}
 use Rattle.mls_model.specs.Join.{Joined, join_verdict}
-use Rattle.mls_model.specs.Journal.{Journal, CommitMade, with_entry}
+use Rattle.mls_model.specs.Journal.{CommitMade, with_entry}
 use Rattle.mls_model.specs.PublicOf.{Creations}
 use Rattle.mls_model.specs.Run.{answer, step}
 use Rattle.mls_model.specs.World.{World, Entrant, Seat, entrant_at, bytes_of, has_source, made_for, joiner_journal}
-use Rattle.mls_runs.specs.Joining.{HasWelcome, joins_by}
+use Rattle.mls_runs.specs.Joining.{joins_by}
 use Rattle.mls_runs.specs.Lists.{get_length, find_stands, find_one}
 
 -- ---- a join
