@@ -62,7 +62,7 @@ bytes_from [] h (suc i) = omega arith
 bytes_from (b ∷ bs) h zero = let p = ltb-true _ _ (and_parts (nat_lt b 256) _ h).0 in omega arith
 bytes_from (b ∷ bs) h (suc i) = bytes_from bs (and_parts (nat_lt b 256) _ h).1 i
 
-are_from : (bytes : List ℕ) → are_bytes bytes ≡ true → IsBytes bytes
+pub are_from : (bytes : List ℕ) → are_bytes bytes ≡ true → IsBytes bytes
 unfolding are_bytes
 are_from bytes h = bytes_from bytes h
 

@@ -1,5 +1,5 @@
 -- A made commit passes the checks of every message at each other member that agrees with its maker.
-use Rattle.std.proofs.Common.{◌≡◌, ℕ, ◌==◌, Bool, true, not, ◌||◌, List, Option, Some, Ok, refl, sym, ap, ap₂, ◌∙◌, eq-eqb, ne_eqb}
+use Rattle.std.proofs.Common.{◌≡◌, ℕ, ◌==◌, Bool, true, not, ◌||◌, List, Some, Ok, refl, sym, ap, ap₂, ◌∙◌, eq-eqb, ne_eqb}
 use Rattle.std.specs.Prelude.{◌≢◌, codes}
 use Rattle.std.specs.Str.{bytes_eq}
 use Rattle.std.proofs.lemmas.Slice.Eq.{bytes_eq-Decides}
@@ -80,7 +80,7 @@ framed_but_own c laws maker m list path change good agree secret = record {
       ∙ signed_verifies c laws maker list path change;
 }
 
-is_framed : (c : Crypto) → Lawful c → (maker m : Member) (list : List ProposalOrRef) (path : MadePath) (change : Change) (bytes : List ℕ) →
+pub is_framed : (c : Crypto) → Lawful c → (maker m : Member) (list : List ProposalOrRef) (path : MadePath) (change : Change) (bytes : List ℕ) →
     IsGoodMember c maker → maker.keys.leaf ≢ m.keys.leaf → Agree maker m → AgreeSecret maker m → IsFramed c m (sent_of c maker list path change) bytes
 unfolding sent_of content_of said_of said_by commit_of
 is_framed c laws maker m list path change bytes good apart agree secret =

@@ -1,83 +1,167 @@
--- The commits that made an entry of a homemade journal reached one epoch secret.
-use Rattle.std.proofs.Common.{◌≡◌, ℕ, Bool, true, false, cond, ◌&&◌, List, [], ◌∷◌, map, refl, sym, ap, ◌∙◌, ◌⊎◌, inl, inr, subst}
-use Rattle.std.specs.Prelude.{filter}
+-- Journals that are told equal are equal, and the commit calls of a homemade journal's entry reached one epoch secret.
+use Rattle.std.proofs.Common.{◌≡◌, ℕ, zero, suc, Bool, true, false, ◌&&◌, cond, List, [], ◌∷◌, map, filter, Option, Some, refl, ap, ap₂, sym, ◌∙◌, slice_get, eqb-true, eq-eqb, true≢false}
 use Rattle.std.specs.List.{list_all}
 use Rattle.std.specs.Str.{bytes_eq}
-use Rattle.std.proofs.lemmas.Bool.{and_parts, and_from, true≢false}
+use Rattle.std.proofs.lemmas.Bool.{and_parts}
 use Rattle.std.proofs.lemmas.Slice.Eq.{bytes_eq-Decides}
-use Rattle.mls_model.specs.Journal.{Entry, Journal, CommitMade, is_same_entry, is_same_journal, reached, is_one}
+use Rattle.mls_model.specs.declared.origin.Origin.{Origin}
+use Rattle.mls_model.specs.declared.origin.Origin.TheVariants as from
+use Rattle.mls_model.specs.Journal.{Entry, Journal, CommitMade, is_same_origin, are_same_bytes, is_same_entry, are_same_entries, is_same_journal, reached, is_one, is_homemade_from}
 use Rattle.mls_model.specs.Lineage.{MadeHere}
-use Rattle.mls_claims.specs.One.{IsOneOf}
-use Rattle.mls_runs.specs.Same.{one_contained, contains_one, same_entry, self_entry, same_journal, self_journal}
 
--- ---- of those that pass a test
+-- ---- equality
 
-abbrev epochs : (CommitMade → Bool) → List CommitMade → List (List ℕ)
-epochs test ds = map (λ (d : CommitMade). d.epoch) (filter test ds)
+both : (x y : Bool) → x ≡ true → y ≡ true → (x && y) ≡ true
+both true true e f = refl
+both true false e f = absurd (true≢false (sym f))
+both false y e f = absurd (true≢false (sym e))
 
--- each has this secret
-all_have : (test : CommitMade → Bool) (s : List ℕ) (ds : List CommitMade) → list_all (bytes_eq s) (epochs test ds) ≡ true → (d : CommitMade) → IsOneOf d ds → test d ≡ true → d.epoch ≡ s
-unfolding IsOneOf
-all_have test s [] h d is t = absurd is
-all_have test s (x ∷ xs) h d is t = by_test (test x) refl h is (λ k rest. all_have test s xs k d rest t)
+origin_is : (a b : Origin) → is_same_origin a b ≡ true → a ≡ b
+origin_is (from.Creation k) (from.Creation n) h = ap (λ (i : ℕ). from.Creation i) (eqb-true k n h)
+origin_is (from.Creation k) (from.GroupInfo g) h = absurd (true≢false (sym h))
+origin_is (from.GroupInfo f) (from.Creation n) h = absurd (true≢false (sym h))
+origin_is (from.GroupInfo f) (from.GroupInfo g) h = ap (λ (x : List ℕ). from.GroupInfo x) ((bytes_eq-Decides f g).0 h)
+
+own_origin : (a : Origin) → is_same_origin a a ≡ true
+own_origin (from.Creation k) = eq-eqb k k refl
+own_origin (from.GroupInfo f) = (bytes_eq-Decides f f).1 refl
+
+names_are : (xs ys : List (List ℕ)) → are_same_bytes xs ys ≡ true → xs ≡ ys
+unfolding are_same_bytes
+names_are [] [] h = refl
+names_are [] (y ∷ ys) h = absurd (true≢false (sym h))
+names_are (x ∷ xs) [] h = absurd (true≢false (sym h))
+names_are (x ∷ xs) (y ∷ ys) h =
+    let p = and_parts (bytes_eq x y) (are_same_bytes xs ys) h in
+    ap₂ (λ (b : List ℕ) (bs : List (List ℕ)). b ∷ bs) ((bytes_eq-Decides x y).0 p.0) (names_are xs ys p.1)
+
+own_names : (xs : List (List ℕ)) → are_same_bytes xs xs ≡ true
+unfolding are_same_bytes
+own_names [] = refl
+own_names (x ∷ xs) = both _ _ ((bytes_eq-Decides x x).1 refl) (own_names xs)
+
+abbrev entry_with : List ℕ → List (List ℕ) → Entry
+entry_with commit names = record { commit = commit; names = names }
+
+entry_is : (d e : Entry) → is_same_entry d e ≡ true → d ≡ e
+entry_is d e h = let p = and_parts (bytes_eq d.commit e.commit) (are_same_bytes d.names e.names) h in ap₂ entry_with ((bytes_eq-Decides d.commit e.commit).0 p.0) (names_are d.names e.names p.1)
+
+own_entry : (d : Entry) → is_same_entry d d ≡ true
+own_entry d = both _ _ ((bytes_eq-Decides d.commit d.commit).1 refl) (own_names d.names)
+
+entries_are : (xs ys : List Entry) → are_same_entries xs ys ≡ true → xs ≡ ys
+unfolding are_same_entries
+entries_are [] [] h = refl
+entries_are [] (y ∷ ys) h = absurd (true≢false (sym h))
+entries_are (x ∷ xs) [] h = absurd (true≢false (sym h))
+entries_are (x ∷ xs) (y ∷ ys) h =
+    let p = and_parts (is_same_entry x y) (are_same_entries xs ys) h in
+    ap₂ (λ (b : Entry) (bs : List Entry). b ∷ bs) (entry_is x y p.0) (entries_are xs ys p.1)
+
+own_entries : (xs : List Entry) → are_same_entries xs xs ≡ true
+unfolding are_same_entries
+own_entries [] = refl
+own_entries (x ∷ xs) = both _ _ (own_entry x) (own_entries xs)
+
+abbrev journal_with : Origin → List Entry → Journal
+journal_with origin entries = record { origin = origin; entries = entries }
+
+pub journal_is : (j l : Journal) → is_same_journal j l ≡ true → j ≡ l
+journal_is j l h = let p = and_parts (is_same_origin j.origin l.origin) (are_same_entries j.entries l.entries) h in ap₂ journal_with (origin_is j.origin l.origin p.0) (entries_are j.entries l.entries p.1)
+
+own_journal : (j : Journal) → is_same_journal j j ≡ true
+own_journal j = both _ _ (own_origin j.origin) (own_entries j.entries)
+
+-- ---- what is kept of a list and mapped
+
+abbrev some : {A : Type 0} → A → Option A
+some x = Some x
+
+kept_at : {A B : Type 0} (f : A → B) (test : A → Bool) (xs : List A) (i : ℕ) (x : A) → slice_get xs i ≡ Some x → test x ≡ true → (j : ℕ) × (slice_get (map f (filter test xs)) j ≡ Some (f x))
+kept_at f test [] i x h t = absurd cc
+kept_at {A} {B} f test (y ∷ xs) i x h t = by_test (test y) refl (λ k g. kept_at f test xs k x g t) i h
   where
-    by_test : (b : Bool) → test x ≡ b → list_all (bytes_eq s) (map (λ (y : CommitMade). y.epoch) (cond b (x ∷ filter test xs) (filter test xs))) ≡ true → (x ≡ d) ⊎ IsOneOf d xs →
-        (list_all (bytes_eq s) (epochs test xs) ≡ true → IsOneOf d xs → d.epoch ≡ s) → d.epoch ≡ s
-    by_test true e k (inl same) later = sym (ap (λ (y : CommitMade). y.epoch) same) ∙ sym ((bytes_eq-Decides s x.epoch).0 (and_parts (bytes_eq s x.epoch) (list_all (bytes_eq s) (epochs test xs)) k).0)
-    by_test true e k (inr rest) later = later (and_parts (bytes_eq s x.epoch) (list_all (bytes_eq s) (epochs test xs)) k).1 rest
-    by_test false e k (inl same) later = absurd (true≢false (sym t ∙ ap test (sym same) ∙ e))
-    by_test false e k (inr rest) later = later k rest
+    by_test : (b : Bool) → test y ≡ b → ((k : ℕ) → slice_get xs k ≡ Some x → (j : ℕ) × (slice_get (map f (filter test xs)) j ≡ Some (f x))) → (i : ℕ) → slice_get (y ∷ xs) i ≡ Some x →
+        (j : ℕ) × (slice_get (map f (cond b (y ∷ filter test xs) (filter test xs))) j ≡ Some (f x))
+    by_test true e rest zero h = let same : y ≡ x = cc in (0, ap (λ (z : A). some (f z)) same)
+    by_test true e rest (suc i) h = let r = rest i h in (suc r.0, r.1)
+    by_test false e rest zero h = absurd (let same : y ≡ x = cc in true≢false (sym t ∙ ap test (sym same) ∙ e))
+    by_test false e rest (suc i) h = rest i h
 
--- there is one, and all have its secret
-record HasOne (test : CommitMade → Bool) (ds : List CommitMade) : Type 0 where
-  first : CommitMade
-  is : IsOneOf first ds
-  passes_it : test first ≡ true
-  all : (d : CommitMade) → IsOneOf d ds → test d ≡ true → d.epoch ≡ first.epoch
+-- one that is kept, with what it is mapped to
+record KeptFrom {A B : Type 0} (f : A → B) (test : A → Bool) (xs : List A) (y : B) : Type 0 where
+  place : ℕ
+  one : A
+  is : slice_get xs place ≡ Some one
+  passes : test one ≡ true
+  mapped : f one ≡ y
 
-has_one : (test : CommitMade → Bool) (ds : List CommitMade) → is_one (epochs test ds) ≡ true → HasOne test ds
-unfolding IsOneOf
-has_one test [] h = absurd (true≢false (sym h))
-has_one test (x ∷ xs) h = by_test (test x) refl h (has_one test xs)
+later : {A B : Type 0} (f : A → B) (test : A → Bool) (z : A) (xs : List A) (y : B) → KeptFrom f test xs y → KeptFrom f test (z ∷ xs) y
+later f test z xs y k = record { place = suc k.place; one = k.one; is = k.is; passes = k.passes; mapped = k.mapped }
+
+kept_from : {A B : Type 0} (f : A → B) (test : A → Bool) (xs : List A) (j : ℕ) (y : B) → slice_get (map f (filter test xs)) j ≡ Some y → KeptFrom f test xs y
+kept_from f test [] j y h = absurd cc
+kept_from {A} {B} f test (x ∷ xs) j y h = by_test (test x) refl (λ k g. later f test x xs y (kept_from f test xs k y g)) j h
   where
-    by_test : (b : Bool) → test x ≡ b → is_one (map (λ (y : CommitMade). y.epoch) (cond b (x ∷ filter test xs) (filter test xs))) ≡ true → (is_one (epochs test xs) ≡ true → HasOne test xs) → HasOne test (x ∷ xs)
-    by_test true e k rest = record { first = x; is = inl refl; passes_it = e; all = each e k }
-      where
-        each : test x ≡ true → list_all (bytes_eq x.epoch) (epochs test xs) ≡ true → (d : CommitMade) → (x ≡ d) ⊎ IsOneOf d xs → test d ≡ true → d.epoch ≡ x.epoch
-        each e k d (inl same) t = sym (ap (λ (y : CommitMade). y.epoch) same)
-        each e k d (inr is) t = all_have test x.epoch xs k d is t
-    by_test false e k rest = let r = rest k in record { first = r.first; is = inr r.is; passes_it = r.passes_it; all = each r }
-      where
-        each : (r : HasOne test xs) (d : CommitMade) → (x ≡ d) ⊎ IsOneOf d xs → test d ≡ true → d.epoch ≡ r.first.epoch
-        each r d (inl same) t = absurd (true≢false (sym t ∙ ap test (sym same) ∙ e))
-        each r d (inr is) t = r.all d is t
+    by_test : (b : Bool) → test x ≡ b → ((k : ℕ) → slice_get (map f (filter test xs)) k ≡ Some y → KeptFrom f test (x ∷ xs) y) → (j : ℕ) → slice_get (map f (cond b (x ∷ filter test xs) (filter test xs))) j ≡ Some y → KeptFrom f test (x ∷ xs) y
+    by_test true e rest zero h = record { place = 0; one = x; is = refl; passes = e; mapped = cc }
+    by_test true e rest (suc j) h = rest j h
+    by_test false e rest j h = rest j h
 
--- ---- of those that made an entry at a journal
+-- ---- homemade entries
 
--- one made it, and all that did reached its secret
-pub record IsMadeOnce (made : List CommitMade) (j : Journal) (e : Entry) : Type 0 where
-  pub first : CommitMade
-  pub here : MadeHere made j e first
-  pub all : (d : CommitMade) → MadeHere made j e d → d.epoch ≡ first.epoch
+all_at : {A : Type 0} (test : A → Bool) (xs : List A) (i : ℕ) (x : A) → list_all test xs ≡ true → slice_get xs i ≡ Some x → test x ≡ true
+all_at test [] i x h e = absurd cc
+all_at test (y ∷ xs) zero x h e = let same : y ≡ x = cc in ap test (sym same) ∙ (and_parts (test y) (list_all test xs) h).0
+all_at test (y ∷ xs) (suc i) x h e = all_at test xs i x (and_parts (test y) (list_all test xs) h).1 e
 
-abbrev is_at : Journal → Entry → CommitMade → Bool
-is_at j e d = is_same_journal d.journal j && is_same_entry d.entry e
+-- all commit calls that made an entry reached one secret, and there is such a call
+pub record HasOneSecret (made : List CommitMade) (j : Journal) (e : Entry) : Type 0 where
+  pub secret : List ℕ
+  pub all : (d : CommitMade) → MadeHere made j e d → d.epoch ≡ secret
+  pub which : CommitMade
+  pub here : MadeHere made j e which
 
-here_is : (made : List CommitMade) (j : Journal) (e : Entry) (d : CommitMade) → IsOneOf d made → is_at j e d ≡ true → MadeHere made j e d
-here_is made j e d is t =
-    let p = and_parts (is_same_journal d.journal j) (is_same_entry d.entry e) t in
-    record { is = contains_one made d is; journal = same_journal d.journal j p.0; entry = same_entry d.entry e p.1 }
+abbrev epoch_of : CommitMade → List ℕ
+epoch_of d = d.epoch
 
-passes_at : (made : List CommitMade) (j : Journal) (e : Entry) (d : CommitMade) → MadeHere made j e d → is_at j e d ≡ true
-passes_at made j e d h =
-    and_from _ _ (subst (λ (l : Journal). is_same_journal d.journal l ≡ true) h.journal (self_journal d.journal)) (subst (λ (f : Entry). is_same_entry d.entry f ≡ true) h.entry (self_entry d.entry))
+abbrev is_here : Journal → Entry → CommitMade → Bool
+is_here j e d = is_same_journal d.journal j && is_same_entry d.entry e
 
-pub made_once : (made : List CommitMade) (j : Journal) (e : Entry) → is_one (reached made j e) ≡ true → IsMadeOnce made j e
-unfolding reached
-made_once made j e h =
-    let o = has_one (is_at j e) made h in
+here_from : (made : List CommitMade) (j : Journal) (e : Entry) (y : List ℕ) (k : KeptFrom epoch_of (is_here j e) made y) → MadeHere made j e k.one
+here_from made j e y k =
+    let p = and_parts (is_same_journal k.one.journal j) (is_same_entry k.one.entry e) k.passes in
+    record { place = k.place; is = k.is; journal = journal_is k.one.journal j p.0; entry = entry_is k.one.entry e p.1 }
+
+is_here_at : (j : Journal) (e : Entry) (d : CommitMade) → d.journal ≡ j → d.entry ≡ e → is_here j e d ≡ true
+is_here_at j e d a b = both _ _ (ap (λ (x : Journal). is_same_journal x j) a ∙ own_journal j) (ap (λ (x : Entry). is_same_entry x e) b ∙ own_entry e)
+
+same_as_first : (x y : List ℕ) (xs : List (List ℕ)) (i : ℕ) → list_all (bytes_eq x) xs ≡ true → slice_get (x ∷ xs) i ≡ Some y → y ≡ x
+same_as_first x y xs zero h e = cc
+same_as_first x y xs (suc i) h e = sym ((bytes_eq-Decides x y).0 (all_at (bytes_eq x) xs i y h e))
+
+one_of : (made : List CommitMade) (j : Journal) (e : Entry) (xs : List (List ℕ)) → map epoch_of (filter (is_here j e) made) ≡ xs → is_one xs ≡ true → HasOneSecret made j e
+one_of made j e [] is h = absurd (true≢false (sym h))
+one_of made j e (x ∷ xs) is h =
+    let k = kept_from epoch_of (is_here j e) made 0 x (ap (λ (l : List (List ℕ)). slice_get l 0) is) in
     record {
-      first = o.first;
-      here = here_is made j e o.first o.is o.passes_it;
-      all = λ d k. o.all d (one_contained made d k.is) (passes_at made j e d k);
+      secret = x;
+      all = λ d m.
+          let p = kept_at epoch_of (is_here j e) made m.place d m.is (is_here_at j e d m.journal m.entry) in
+          same_as_first x d.epoch xs p.0 h (ap (λ (l : List (List ℕ)). slice_get l p.0) (sym is) ∙ p.1);
+      which = k.one;
+      here = here_from made j e x k;
     }
+
+pub one_secret : (made : List CommitMade) (j : Journal) (e : Entry) → is_one (reached made j e) ≡ true → HasOneSecret made j e
+unfolding reached
+one_secret made j e h = one_of made j e (map epoch_of (filter (is_here j e) made)) refl h
+
+-- the last entry of a homemade journal, and the journal before it
+pub homemade_parts : (made : List CommitMade) (origin : Origin) (e : Entry) (es : List Entry) → is_homemade_from made origin (e ∷ es) ≡ true →
+    HasOneSecret made (record { origin = origin; entries = es }) e × (is_homemade_from made origin es ≡ true)
+unfolding is_homemade_from
+homemade_parts made origin e es h =
+    let j : Journal = record { origin = origin; entries = es } in
+    let p = and_parts (is_one (reached made j e)) (is_homemade_from made origin es) h in
+    (one_secret made j e p.0, p.1)

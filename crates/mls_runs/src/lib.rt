@@ -1,19 +1,38 @@
-//! Laws of worlds: the states that members passed along their journals, the epoch secret of a homemade journal, and what
-//! holds of each world whose members and commits are known so. Each function does nothing, and its contract is the laws
-//! of one subject.
+//! Laws of worlds: what holds of each world that a list of events leaves. Each function does nothing, and its contract is
+//! the laws of one subject.
 #![tactic(auto)]
 
-ghost use Rattle.mls_runs.specs.Clauses.{HeadlineOfKept};
-ghost use Rattle.mls_runs.specs.Reached.{ReachedPublic, ReachedGrows, SameSecret};
+ghost use Rattle.mls_model.specs.Headline.{HoldsOnRuns};
+ghost use Rattle.mls_runs.specs.Past.{PastGrows, PastAlong};
+ghost use Rattle.mls_runs.specs.Names.{NamesStable};
+ghost use Rattle.mls_runs.specs.Leaves.{OwnLeaves};
+ghost use Rattle.mls_runs.specs.Secrets.{SameSecret};
+ghost use Rattle.mls_runs.specs.Runs.{EmptyWorldGood, EventsKeepGood, RunsKeepGood};
+ghost use Rattle.mls_runs.specs.Headlines.{HeadlineOfGood};
 
-/// Members along their journals.
+/// The states that a member passed along its journal: they were passed in each world that this one becomes, they stand
+/// where the journal leads, and along a homemade journal they have one epoch secret.
 pub fn laws_of_lineage()
-    ensures public { ReachedPublic }
-    ensures grows { ReachedGrows }
+    ensures grows { PastGrows }
+    ensures along { PastAlong }
     ensures secret { SameSecret }
 {}
 
-/// Worlds whose members stand along their journals, and whose commits are known.
-pub fn laws_of_worlds()
-    ensures headline { HeadlineOfKept }
+/// What is stable within an epoch, and what sets members of one public state apart.
+pub fn laws_of_members()
+    ensures names { NamesStable }
+    ensures leaves { OwnLeaves }
+{}
+
+/// The empty world is good, and each event keeps a good world so.
+pub fn laws_of_events()
+    ensures empty { EmptyWorldGood }
+    ensures events { EventsKeepGood }
+    ensures runs { RunsKeepGood }
+{}
+
+/// The headline: it holds of each good world, and so of each world that a list of events leaves.
+pub fn headline()
+    ensures good { HeadlineOfGood }
+    ensures runs { HoldsOnRuns }
 {}

@@ -1,5 +1,6 @@
 use Rattle.mls_runs.proofs.laws_of_lineage.Goals as goal
-use Rattle.mls_runs.specs.Reached.{reached_public, reached_grows, same_secret}
+use Rattle.mls_runs.specs.Past.{past_grows, past_along}
+use Rattle.mls_runs.specs.Secrets.{same_secret}
 
 pub returns : goal.returns
-returns c = record { public = reached_public; grows = reached_grows; secret = same_secret }
+returns c = record { grows = past_grows; along = past_along; secret = same_secret }

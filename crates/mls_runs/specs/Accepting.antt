@@ -1,0 +1,104 @@
+-- A commit that was made at a homemade journal is accepted by every other active member that has that journal and keeps what
+-- it names; and its maker follows it while it is pending, and refuses it else.
+use Rattle.std.proofs.Common.{◌≡◌, ℕ, ◌+◌, true, false, not, List, Some, Ok, refl, sym, ap, subst, ◌∙◌, slice_get, slice_set}
+use Rattle.std.specs.Prelude.{◌≢◌}
+use Rattle.std.specs.Str.{bytes_eq}
+use Rattle.std.proofs.lemmas.Slice.Eq.{bytes_eq-Decides}
+use Rattle.mls_types.specs.declared.commit.ProposalOrRef.{ProposalOrRef}
+use Rattle.mls_suite.specs.Crypto.{Crypto, Lawful}
+use Rattle.mls_term.specs.Sets.{has}
+use Rattle.mls_model.specs.declared.effect.Effect.{Effect}
+use Rattle.mls_model.specs.declared.effect.Effect.TheVariants.{Advanced, Removed}
+use Rattle.mls_model.specs.declared.event.Event.TheVariants.{Deliver}
+use Rattle.mls_model.specs.declared.event.Reply.TheVariants.{Delivered}
+use Rattle.mls_model.specs.declared.event.Source.{Source}
+use Rattle.mls_model.specs.Agreement.{Agree, Keeps}
+use Rattle.mls_model.specs.Calls.{journal_after, deliver_answer}
+use Rattle.mls_model.specs.Claims.{Receives, FollowsTo}
+use Rattle.mls_model.specs.Headline.{Follows, Accepts, AcceptsHomemade, FollowsOwn}
+use Rattle.mls_model.specs.Invariant.{IsSeated, IsRecorded, IsGoodBy}
+use Rattle.mls_model.specs.Journal.{Entry, CommitMade, with_entry, names_in, removes_in, list_in, entry_of}
+use Rattle.mls_model.specs.Lineage.{IsReached}
+use Rattle.mls_model.specs.Member.{Member, Pending, advanced, left}
+use Rattle.mls_model.specs.PublicOf.{Creations}
+use Rattle.mls_model.specs.Run.{answer, step}
+use Rattle.mls_model.specs.Verdict.{verdict}
+use Rattle.mls_model.specs.World.{World, Seat, bytes_of}
+use Rattle.mls_claims.specs.Framing.{one_public}
+use Rattle.mls_claims.specs.Journals.{public_agreement}
+use Rattle.mls_model.specs.CommitLaws.{names_are_held}
+use Rattle.mls_claims.specs.Stays.{receivers_hold}
+use Rattle.mls_runs.specs.Agreeing.{stands, along_same, homemade_from}
+use Rattle.mls_runs.specs.Leaves.{own_leaves}
+use Rattle.mls_runs.specs.Lists.{set_here}
+use Rattle.mls_runs.specs.Secrets.{agree_secret, same_secret}
+
+-- ---- a delivery
+
+-- what a delivery does, by the member's verdict
+pub record DeliveryIs (c : Crypto) (w : World) (k : ℕ) (s : Seat) (source : Source) (bytes : List ℕ) (x : Effect × Member) : Type 0 where
+  pub reply : (step c w (Deliver k source)).0 ≡ Delivered x.0
+  pub seats : (step c w (Deliver k source)).1.seats ≡ slice_set w.seats k (record { member = x.1; journal = journal_after s bytes x.0 })
+
+pub delivery : (c : Crypto) (w : World) (k : ℕ) (s : Seat) (source : Source) (bytes : List ℕ) (x : Effect × Member) → slice_get w.seats k ≡ Some s → bytes_of w source ≡ Ok bytes → verdict c s.member bytes ≡ Ok x → DeliveryIs c w k s source bytes x
+unfolding step answer deliver_answer
+delivery c w k s source bytes x at b h = record { reply = rw (at, b, h) refl; seats = rw (at, b, h) refl }
+
+-- ---- a commit that was made
+
+abbrev entry_with : List ℕ → List (List ℕ) → Entry
+entry_with commit names = record { commit = commit; names = names }
+
+entry_is : (m : Member) (e : Entry) → names_in m.kept (list_in e.commit) ≡ e.names → entry_of m e.commit ≡ e
+unfolding entry_of
+entry_is m e h = ap (λ (x : List (List ℕ)). entry_with e.commit x) h
+
+advanced_is : (s : Seat) (bytes : List ℕ) (epoch : ℕ) → journal_after s bytes (Advanced epoch) ≡ with_entry s.journal (entry_of s.member bytes)
+advanced_is s bytes epoch = refl
+
+accepts : (c : Crypto) (creations : Creations) (w : World) (k : ℕ) (d : CommitMade) (s : Seat) (source : Source) (r : IsRecorded c creations w d) → slice_get w.seats k ≡ Some s → Keeps s.member.kept (list_in d.entry.commit) d.entry.names →
+    bytes_of w source ≡ Ok d.entry.commit → Receives c s.member r.list r.call → Accepts c w k s source d.entry
+accepts c creations w k d s source r at keeps b claim =
+    record {
+      removed = λ e. (delivery c w k s source d.entry.commit (Removed, left s.member) at b (ap (verdict c s.member) r.commit ∙ claim.removed (ap (λ (l : List ProposalOrRef). has (removes_in s.member.kept l) s.member.keys.leaf) (sym r.listed) ∙ e))).reply;
+      follows = λ e. by_follows (claim.follows (ap (λ (l : List ProposalOrRef). has (removes_in s.member.kept l) s.member.keys.leaf) (sym r.listed) ∙ e));
+    }
+  where
+    by_follows : FollowsTo c s.member r.call → Follows c w k s source d.entry
+    by_follows f =
+        let x : Effect × Member = (Advanced (s.member.public.context.epoch + 1), f.after) in
+        let v = delivery c w k s source d.entry.commit x at b (ap (verdict c s.member) r.commit ∙ f.is) in
+        let t : Seat = record { member = f.after; journal = with_entry s.journal (entry_of s.member d.entry.commit) } in
+        record {
+          after = t;
+          reply = v.reply;
+          is_after = ap (λ (l : List Seat). slice_get l k) v.seats ∙ set_here w.seats k t s at;
+          journal = ap (with_entry s.journal) (entry_is s.member d.entry (names_are_held s.member.kept (list_in d.entry.commit) d.entry.names keeps));
+        }
+
+pub accepts_homemade : (c : Crypto) → Lawful c → (creations : Creations) (w : World) → IsGoodBy c creations w → AcceptsHomemade c w
+accepts_homemade c laws creations w g n k d s source at home a other same keeps b =
+    let r : IsRecorded c creations w d = g.records n d at in
+    let m : Member = s.member in
+    let p : IsSeated c creations w s = g.members k s a in
+    let here : IsReached c creations w.made d.journal.origin d.journal.entries m = along_same c creations w s.journal d.journal m same p.reached in
+    let agree : Agree r.maker m = public_agreement c creations d.journal.origin d.journal.entries r.maker m (stands c creations w d.journal r.maker r.reached) (stands c creations w d.journal m here) in
+    let secret : r.maker.epoch ≡ m.epoch = same_secret c laws creations w g.records d.journal.origin d.journal.entries (homemade_from w.made d.journal home) r.maker m r.reached here in
+    let keys : c.sig_public r.maker.signing ≢ c.sig_public m.signing = λ e. g.apart d.maker k r.seat s (λ f. other (sym f)) r.is_seat a.is (ap c.sig_public (sym r.same_signing) ∙ e) in
+    let leaves : r.maker.keys.leaf ≢ m.keys.leaf = own_leaves c r.maker m r.is_made.good p.good (one_public r.maker m agree) keys in
+    let kept : Keeps m.kept r.list (names_in r.maker.kept r.list) = subst (λ (names : List (List ℕ)). Keeps m.kept r.list names) r.names (subst (λ (l : List ProposalOrRef). Keeps m.kept l d.entry.names) r.listed keeps) in
+    let claim : Receives c m r.list r.call = receivers_hold c laws r.maker m r.list r.call r.is_made p.good a.active leaves agree (agree_secret r.maker m secret) kept in
+    accepts c creations w k d s source r a.is keeps b claim
+
+-- ---- its own
+
+own_verdict : (c : Crypto) (m : Member) (p : Pending) → m.gone ≡ false → m.pending ≡ Some p → verdict c m p.message ≡ Ok (Advanced p.public.context.epoch, advanced m p.public p.epoch p.keys)
+unfolding verdict
+own_verdict c m p active is =
+    let n : not m.gone ≡ true = ap not active in
+    let e : bytes_eq p.message p.message ≡ true = (bytes_eq-Decides p.message p.message).1 refl in
+    rw (n, is, e) refl
+
+pub follows_own : (c : Crypto) (w : World) → FollowsOwn c w
+follows_own c w k s p source a is b =
+    (delivery c w k s source p.message (Advanced p.public.context.epoch, advanced s.member p.public p.epoch p.keys) a.is b (own_verdict c s.member p a.active is)).reply
