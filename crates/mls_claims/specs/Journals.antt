@@ -61,7 +61,7 @@ SecretAgreement = (c : Crypto) (creations : Creations) (origin : Origin) (entrie
 one_state : (p q : PublicState) (r : Result PublicState ℕ) → r ≡ Ok p → r ≡ Ok q → p ≡ q
 one_state p q r a b = ok_is p q (sym a ∙ b)
 
-agree_by : (m n : Member) → m.public ≡ n.public → Agree m n
+pub agree_by : (m n : Member) → m.public ≡ n.public → Agree m n
 agree_by m n e = record {
   tree = ap (λ (p : PublicState). p.tree) e;
   context = ap (λ (p : PublicState). p.context) e;

@@ -1,5 +1,5 @@
 -- What becomes of any path, whoever made it.
-use Rattle.std.proofs.Common.{◌≡◌, ℕ, suc, ◌⊎◌, Bool, true, false, if◌then◌else◌, List, [], ◌∷◌, map, reverse, take, Some, None, Result, Ok, Err, refl, ap, ap₂, sym, ◌∙◌, inl, inr}
+use Rattle.std.proofs.Common.{◌≡◌, ℕ, suc, ◌⊎◌, Bool, true, false, if◌then◌else◌, List, [], ◌∷◌, map, reverse, take, Result, Ok, Err, refl, ap, ap₂, sym, ◌∙◌, inl, inr}
 use Rattle.std.specs.Str.{bytes_eq}
 use Rattle.std.proofs.lemmas.Bool.{true≢false}
 use Rattle.std.proofs.lemmas.Slice.Eq.{bytes_eq-Decides}
@@ -7,9 +7,9 @@ use Rattle.mls_wire.specs.Reading.{◌>>=◌}
 use Rattle.mls_group.specs.declared.update_path.UpdatePathNode.{UpdatePathNode}
 use Rattle.mls_term.specs.Way.{Step, way, is_filtered, is_beside}
 use Rattle.mls_suite.specs.Crypto.{Crypto}
-use Rattle.mls_paths.specs.Chain.{next_secret, chain, node_key, node_public, chain_keys}
+use Rattle.mls_paths.specs.Chain.{next_secret, chain, node_public, chain_keys}
 use Rattle.mls_paths.specs.Keys.{Keys, rest, key_in}
-use Rattle.mls_paths.specs.Make.{Climb, one_if}
+use Rattle.mls_paths.specs.Make.{past_node, past_blank, Climb, one_if}
 use Rattle.mls_paths.specs.Seal.{targets}
 use Rattle.mls_paths.specs.Open.{left_by, open_first, first_ciphertexts, open_here, opened_along, filtered_from, opened_secret, past_parent, climb_open, opened_path}
 use Rattle.mls_paths.specs.Whole.{RefusedUnopened, JudgedByKeys}
@@ -30,7 +30,7 @@ module _ (c : Crypto) (secret : List ℕ) where
   unfolding chain_keys chain
   past n false ns r h = elim h [
     | inl g ↦
-        let on : Climb = record { secret = g.0.secret; keys = None ∷ g.0.keys } in
+        let on : Climb = past_blank g.0 in
         inl (on, g.1, ap (λ z. z >>= λ m. past_parent c false ns m) g.2, g.3)
     | inr s ↦ inr (s.0, ap (λ z. z >>= λ m. past_parent c false ns m) s.1)
   ]
@@ -49,7 +49,7 @@ module _ (c : Crypto) (secret : List ℕ) where
       by_test : (g : Goes n (keys_of ns) r) (t : Bool) → bytes_eq (node_public c g.0.secret) k.encryption_key ≡ t →
           Goes (suc n) (keys_of (k ∷ ns)) (r >>= λ m. past_parent c true (k ∷ ns) m) ⊎ Stops (suc n) (keys_of (k ∷ ns)) (r >>= λ m. past_parent c true (k ∷ ns) m)
       by_test g true e =
-          let on : Climb = record { secret = next_secret g.0.secret; keys = Some (node_key c g.0.secret) ∷ g.0.keys } in
+          let on : Climb = past_node c g.0 in
           let same : k.encryption_key ≡ node_public c (chain secret n) = sym ((bytes_eq-Decides (node_public c g.0.secret) k.encryption_key).0 e) ∙ ap (node_public c) g.3 in
           inl (on, ap₂ (λ x xs. x ∷ xs) same g.1, ap (λ z. z >>= λ m. past_parent c true (k ∷ ns) m) g.2 ∙ rw e refl, ap next_secret g.3)
       by_test g false e =

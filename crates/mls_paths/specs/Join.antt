@@ -8,18 +8,18 @@ use Rattle.mls_suite.specs.Crypto.{Crypto}
 use Rattle.mls_term.specs.Sets.{has}
 use Rattle.mls_term.specs.Term.{Term, width}
 use Rattle.mls_term.specs.Way.{Step, way, is_beside}
-use Rattle.mls_paths.specs.Chain.{next_secret, node_key, node_public}
+use Rattle.mls_paths.specs.Chain.{node_public}
 use Rattle.mls_paths.specs.Keys.{Keys, rest, leaf_only, PrivateKeys, all_keys}
-use Rattle.mls_paths.specs.Make.{Climb, filtered_count, secret_above}
+use Rattle.mls_paths.specs.Make.{Climb, past_blank, past_node, filtered_count, secret_above}
 use Rattle.mls_paths.specs.Follow.{on_way}
 
 -- past a parent: a blank one takes no step, another one doesn't list the joiner and has the derived public key, else 34
 -- (RFC 9420, 12.4.3.1)
 abbrev pub past_present : Crypto → ℕ → Option Parent → Climb → Result Climb ℕ
-past_present c j None m = Ok (record { secret = m.secret; keys = None ∷ m.keys })
+past_present c j None m = Ok (past_blank m)
 past_present c j (Some p) m =
     if not (has p.unmerged_leaves j) && bytes_eq (node_public c m.secret) p.encryption_key
-    then Ok (record { secret = next_secret m.secret; keys = Some (node_key c m.secret) ∷ m.keys })
+    then Ok (past_node c m)
     else Err 34
 
 -- the parent where the ways part isn't blank, else 34

@@ -19,10 +19,10 @@ use Rattle.mls_term.specs.SetLaws.{has-with}
 use Rattle.mls_term.specs.ShapeLaws.{width-enter}
 use Rattle.mls_term.specs.MergeLaws.{width-merge}
 use Rattle.mls_suite.specs.Crypto.{Crypto}
-use Rattle.mls_paths.specs.Chain.{next_secret, chain, node_key, node_public}
+use Rattle.mls_paths.specs.Chain.{chain, node_key, node_public}
 use Rattle.mls_paths.specs.Keys.{Keys, HoldsKey, Fits, Along, AlongWay, Exact, leaf_only}
 use Rattle.mls_paths.specs.Follow.{TameAt, TameAlong}
-use Rattle.mls_paths.specs.Make.{Climb, one_if, filtered_count, secret_above, key_if, made_keys, climb_make, more_if, path_keys}
+use Rattle.mls_paths.specs.Make.{past_node, past_blank, Climb, one_if, filtered_count, secret_above, key_if, made_keys, climb_make, more_if, path_keys}
 use Rattle.mls_paths.specs.Seal.{Choose}
 use Rattle.mls_paths.specs.Open.{shared}
 use Rattle.mls_paths.specs.Join.{past_present, is_present, climb_take, is_due, is_complete, take_keys, ListsAt, AllList, secret_for, take_answer}
@@ -49,15 +49,15 @@ not_and false b h = (refl, h)
 
 pub sounds : (c : Crypto) (j : ℕ) (p : Option Parent) (m m' : Climb) → past_present c j p m ≡ Ok m' → Sounds c j p m m'
 sounds c j None m m' h =
-    let made : Climb = record { secret = m.secret; keys = None ∷ m.keys } in
+    let made : Climb = past_blank m in
     let e : made ≡ m' = cc in
     record { top = None; keys_are = sym (ap (λ (z : Climb). z.keys) e); sound = tt }
 sounds c j (Some p) m m' h = by_test (not (has p.unmerged_leaves j) && bytes_eq (node_public c m.secret) p.encryption_key) refl h
   where
     by_test : (t : Bool) → (not (has p.unmerged_leaves j) && bytes_eq (node_public c m.secret) p.encryption_key) ≡ t →
-        if◌then◌else◌ {A = Result Climb ℕ} t (Ok (record { secret = next_secret m.secret; keys = Some (node_key c m.secret) ∷ m.keys })) (Err 34) ≡ Ok m' → Sounds c j (Some p) m m'
+        if◌then◌else◌ {A = Result Climb ℕ} t (Ok (past_node c m)) (Err 34) ≡ Ok m' → Sounds c j (Some p) m m'
     by_test true e h =
-        let made : Climb = record { secret = next_secret m.secret; keys = Some (node_key c m.secret) ∷ m.keys } in
+        let made : Climb = past_node c m in
         let q : made ≡ m' = cc in
         let f = not_and (has p.unmerged_leaves j) (bytes_eq (node_public c m.secret) p.encryption_key) e in
         record { top = Some (node_key c m.secret); keys_are = sym (ap (λ (z : Climb). z.keys) q); sound = (f.0, (bytes_eq-Decides (node_public c m.secret) p.encryption_key).0 f.1) }

@@ -1,5 +1,6 @@
 -- The secrets and keys of a new path.
-use Rattle.std.specs.Prelude.{ℕ, suc, Bool, true, false, List, [], ◌∷◌, Option, Some, None, ◌≡◌, ◌≤◌, length}
+use Rattle.std.specs.Prelude.{ℕ, suc, Bool, true, false, List, [], ◌∷◌, Option, Some, None, ◌≡◌, ◌≤◌, length, if◌then◌else◌, Result, Ok, Err}
+use Rattle.std.specs.Str.{bytes_eq}
 use Rattle.mls_suite.specs.Crypto.{Crypto}
 use Rattle.mls_term.specs.Way.{Step, is_filtered, way, filtered_path}
 use Rattle.mls_paths.specs.Chain.{next_secret, chain, node_key, node_public}
@@ -40,10 +41,22 @@ made_keys c (s ∷ ss) start sk = key_if (is_filtered s) (node_key c (secret_abo
 abbrev pub climb_make : Crypto → List Step → List ℕ → List ℕ → Climb
 climb_make c ss start sk = record { secret = secret_above ss start; keys = made_keys c ss start sk }
 
--- a climb past a parent: at a filtered one it takes its key and the next secret (RFC 9420, 7.4)
+-- a climb past a node that has a key: it takes its key and the next secret (RFC 9420, 7.4)
+abbrev pub past_node : Crypto → Climb → Climb
+past_node c m = record { secret = next_secret m.secret; keys = Some (node_key c m.secret) ∷ m.keys }
+
+-- past a node that has none
+abbrev pub past_blank : Climb → Climb
+past_blank m = record { secret = m.secret; keys = None ∷ m.keys }
+
+-- past a node with this public key: 34 where the derived one differs (RFC 9420, 7.5)
+abbrev pub past_key : Crypto → List ℕ → Climb → Result Climb ℕ
+past_key c k m = if bytes_eq (node_public c m.secret) k then Ok (past_node c m) else Err 34
+
+-- past a parent, where the filtered direct path takes it in and where it doesn't
 abbrev pub climb_past : Crypto → Bool → Climb → Climb
-climb_past c true m = record { secret = next_secret m.secret; keys = Some (node_key c m.secret) ∷ m.keys }
-climb_past c false m = record { secret = m.secret; keys = None ∷ m.keys }
+climb_past c true m = past_node c m
+climb_past c false m = past_blank m
 
 abbrev pub more_if : Bool → List ℕ → List (List ℕ) → List (List ℕ)
 more_if true k ks = k ∷ ks

@@ -1,6 +1,5 @@
 -- What a receiver takes from a path.
 use Rattle.std.specs.Prelude.{ℕ, ◌==◌, if◌then◌else◌, Bool, true, false, List, [], ◌∷◌, length, reverse, codes, Option, Some, None, is_some, Result, Ok, Err}
-use Rattle.std.specs.Str.{bytes_eq}
 use Rattle.mls_wire.specs.Reading.{◌>>=◌}
 use Rattle.mls_wire.specs.Checks.{given}
 use Rattle.mls_group.specs.declared.update_path.HpkeCiphertext.{HpkeCiphertext}
@@ -9,9 +8,8 @@ use Rattle.mls_suite.specs.Crypto.{Crypto}
 use Rattle.mls_suite.specs.Labels.{decrypt_with_label}
 use Rattle.mls_term.specs.Term.{Term}
 use Rattle.mls_term.specs.Way.{Step, way, is_filtered, is_beside}
-use Rattle.mls_paths.specs.Chain.{next_secret, node_key, node_public}
 use Rattle.mls_paths.specs.Keys.{Keys, rest, key_in}
-use Rattle.mls_paths.specs.Make.{Climb, one_if}
+use Rattle.mls_paths.specs.Make.{Climb, one_if, past_blank, past_key}
 use Rattle.mls_paths.specs.Seal.{targets}
 
 -- what a parent of a way leaves of a list with an item for each filtered one
@@ -76,14 +74,11 @@ filtered_from (s ∷ ss) j = one_if (is_filtered s) (if is_beside s j then 0 els
 -- past a filtered parent: the derived public key is the one that the path gives, else 34 (RFC 9420, 7.5)
 abbrev pub past_filtered : Crypto → List UpdatePathNode → Climb → Result Climb ℕ
 past_filtered c [] m = Err 34
-past_filtered c (n ∷ ns) m =
-    if bytes_eq (node_public c m.secret) n.encryption_key
-    then Ok (record { secret = next_secret m.secret; keys = Some (node_key c m.secret) ∷ m.keys })
-    else Err 34
+past_filtered c (n ∷ ns) m = past_key c n.encryption_key m
 
 abbrev pub past_parent : Crypto → Bool → List UpdatePathNode → Climb → Result Climb ℕ
 past_parent c true ns m = past_filtered c ns m
-past_parent c false ns m = Ok (record { secret = m.secret; keys = None ∷ m.keys })
+past_parent c false ns m = Ok (past_blank m)
 
 -- member j's climb along the committer's way, with the keys that it holds and the path's nodes, the highest first
 -- (RFC 9420, 7.5)

@@ -22,7 +22,7 @@ use Rattle.mls_term.specs.MergeLaws.{width-merge}
 use Rattle.mls_suite.specs.Crypto.{Crypto, Lawful}
 use Rattle.mls_paths.specs.Chain.{next_secret, chain, node_key, node_public}
 use Rattle.mls_paths.specs.Keys.{Keys, Fits, AlongWay, Exact, rest, key_in}
-use Rattle.mls_paths.specs.Make.{Climb, one_if, filtered_count, secret_above, made_keys, climb_make}
+use Rattle.mls_paths.specs.Make.{past_node, past_blank, Climb, one_if, filtered_count, secret_above, made_keys, climb_make}
 use Rattle.mls_paths.specs.Lists.{ListsBelow}
 use Rattle.mls_paths.specs.Seal.{Choose, targets, seal_secret, IsSealedTo, IsSealedToAll, IsNodeFor, IsPathOf}
 use Rattle.mls_paths.specs.Open.{opened_along, left_by, open_with, open_first, first_ciphertexts, open_here, past_filtered, past_parent, climb_open, shared, held_count}
@@ -50,16 +50,16 @@ record Passes (c : Crypto) (j : ℕ) (p : Option Parent) (m m' : Climb) : Type 0
 
 passes : (c : Crypto) (j : ℕ) (t : Bool) (ns : List UpdatePathNode) (h : List ℕ) (m m' : Climb) → past_parent c t ns m ≡ Ok m' → Passes c j (new_parent t (keys_of ns) h) m m'
 passes c j false ns h m m' e =
-    let made : Climb = record { secret = m.secret; keys = None ∷ m.keys } in
+    let made : Climb = past_blank m in
     let q : made ≡ m' = cc in
     record { top = None; keys_are = sym (ap (λ (z : Climb). z.keys) q); fits = tt }
 passes c j true [] h m m' e = cc
 passes c j true (n ∷ ns) h m m' e = by_test (bytes_eq (node_public c m.secret) n.encryption_key) refl e
   where
     by_test : (t : Bool) → bytes_eq (node_public c m.secret) n.encryption_key ≡ t →
-        if◌then◌else◌ {A = Result Climb ℕ} t (Ok (record { secret = next_secret m.secret; keys = Some (node_key c m.secret) ∷ m.keys })) (Err 34) ≡ Ok m' → Passes c j (new_parent true (keys_of (n ∷ ns)) h) m m'
+        if◌then◌else◌ {A = Result Climb ℕ} t (Ok (past_node c m)) (Err 34) ≡ Ok m' → Passes c j (new_parent true (keys_of (n ∷ ns)) h) m m'
     by_test true f e =
-        let made : Climb = record { secret = next_secret m.secret; keys = Some (node_key c m.secret) ∷ m.keys } in
+        let made : Climb = past_node c m in
         let same : made ≡ m' = cc in
         record { top = Some (node_key c m.secret); keys_are = sym (ap (λ (z : Climb). z.keys) same); fits = unfold has in (bytes_eq-Decides (node_public c m.secret) n.encryption_key).0 f }
     by_test false f e = cc
@@ -154,7 +154,7 @@ beside_filtered c F s j ks h = reached s.first s.other (leaf_taken s.first s.oth
 
 -- past a filtered parent that has the derived key
 past_made : (c : Crypto) (n : UpdatePathNode) (ns : List UpdatePathNode) (m : Climb) → n.encryption_key ≡ node_public c m.secret →
-    past_filtered c (n ∷ ns) m ≡ Ok (record { secret = next_secret m.secret; keys = Some (node_key c m.secret) ∷ m.keys })
+    past_filtered c (n ∷ ns) m ≡ Ok (past_node c m)
 past_made c n ns m h =
     let e : bytes_eq (node_public c m.secret) n.encryption_key ≡ true = (bytes_eq-Decides (node_public c m.secret) n.encryption_key).1 (sym h) in
     rw e refl

@@ -11,7 +11,7 @@ use Rattle.mls_tree.specs.Perfect.{width_is}
 use Rattle.mls_treekem.specs.declared.places.Place.{Place}
 use Rattle.mls_treekem.specs.Place.{subtree_at, IsPlaced}
 use Rattle.mls_treekem.specs.Beside.{cell_key}
-use Rattle.mls_treekem.proofs.Placing.{zeros_are, zeros_fit}
+use Rattle.mls_treekem.proofs.Place.{zeros_are, zeros_fit}
 
 -- ---- no node is outside a tree
 

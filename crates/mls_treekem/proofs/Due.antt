@@ -12,7 +12,7 @@ use Rattle.mls_paths.specs.Follow.{key_above, on_way}
 use Rattle.mls_paths.specs.Join.{is_due, is_complete, has_due_on, has_due}
 use Rattle.mls_paths.specs.Keys.{PrivateKeys, all_keys}
 use Rattle.mls_treekem.specs.Place.{place, places_from, step_of}
-use Rattle.mls_treekem.proofs.Placing.{length-places, places_left, places_right, way_found}
+use Rattle.mls_treekem.proofs.Place.{length-places, places_left, places_right, way_found}
 
 module _ (t : Term) (p : PrivateKeys) where
   abbrev pub due_over : ℕ → ℕ → Bool

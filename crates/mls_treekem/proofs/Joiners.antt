@@ -14,7 +14,7 @@ use Rattle.mls_paths.specs.SecretLaws.{secret_is_among}
 use Rattle.mls_treekem.specs.Place.{step_of, ArePlaced, IsWay}
 use Rattle.mls_treekem.specs.Secrets.{IsSentOf}
 use Rattle.mls_treekem.specs.declared.places.Place.{Place}
-use Rattle.mls_treekem.proofs.Opened.{beside_is, filtered_is, first_placed}
+use Rattle.mls_treekem.proofs.Opening.{beside_is, filtered_is, first_placed}
 
 -- ---- answers
 

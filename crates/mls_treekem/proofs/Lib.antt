@@ -1,11 +1,11 @@
 pub mod Chains
 pub mod Levels
-pub mod Placing
+pub mod Place
 pub mod Raised
 pub mod Followed
-pub mod Opened
+pub mod Opening
 pub mod Taking
 pub mod Due
 pub mod Beside
-pub mod Sent
+pub mod Sealing
 pub mod Joiners

@@ -12,18 +12,18 @@ use Rattle.mls_term.specs.Term.{Term, width, is_perfect}
 use Rattle.mls_term.specs.Way.{Step, way, is_beside}
 use Rattle.mls_suite.specs.Crypto.{Crypto}
 use Rattle.mls_treekem.specs.declared.places.Place.{Place}
-use Rattle.mls_paths.specs.Chain.{next_secret, node_key, node_public}
+use Rattle.mls_paths.specs.Chain.{node_public}
 use Rattle.mls_treekem.specs.declared.climb.Climb.{Climb as Standing}
 use Rattle.mls_treekem.specs.declared.error.TreeKemError.{TreeKemError}
 use Rattle.mls_treekem.specs.Climbing.{climb_of, with_own}
 use Rattle.mls_treekem.specs.Faults.{number_of}
 use Rattle.mls_paths.specs.Keys.{Keys, leaf_only}
-use Rattle.mls_paths.specs.Make.{Climb}
+use Rattle.mls_paths.specs.Make.{past_node, Climb}
 use Rattle.mls_paths.specs.Join.{past_present, is_present, climb_take, is_due, is_complete, take_keys, take_answer}
 use Rattle.mls_treekem.specs.Place.{step_of, ArePlaced, IsWay}
 use Rattle.mls_paths.specs.HeightLaws.{reverse-end, way_height}
 use Rattle.mls_paths.specs.JoinLaws.{sounds, present_is, take_inside}
-use Rattle.mls_treekem.proofs.Opened.{beside_is, first_placed}
+use Rattle.mls_treekem.proofs.Opening.{beside_is, first_placed}
 
 -- ---- one place
 
@@ -127,7 +127,7 @@ owned own (Ok m) = Ok (with_own own m)
 owned own (Err e) = Err e
 
 abbrev up : Crypto → Climb → Climb
-up c m = record { secret = next_secret m.secret; keys = Some (node_key c m.secret) ∷ m.keys }
+up c m = past_node c m
 
 module _ (c : Crypto) (j : ℕ) (own : List ℕ) where
   parent_with : (p : Option Parent) (m : Climb) → past_present c j p (with_own own m) ≡ owned own (past_present c j p m)

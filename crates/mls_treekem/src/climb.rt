@@ -2,7 +2,8 @@
 
 ghost use Rattle.std.specs.Prelude.{◌≡◌, ◌+◌, ◌&&◌, nat_le, nat_lt, IfOk};
 ghost use Rattle.mls_wire.specs.Checks.{Answers};
-ghost use Rattle.mls_treekem.specs.Climbing.{climb_of, past_key, past_blank};
+ghost use Rattle.mls_treekem.specs.Climbing.{climb_of};
+ghost use Rattle.mls_paths.specs.Make.{past_key, past_blank};
 ghost use Rattle.mls_treekem.specs.Faults.{number_of};
 
 use crate::TreeKemError;

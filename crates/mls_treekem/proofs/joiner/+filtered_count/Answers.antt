@@ -1,7 +1,7 @@
 use Rattle.std.proofs.Common.{arith}
 use Rattle.std.proofs.lemmas.List.{nil_from_length}
 use Rattle.mls_tree.specs.Tree.{term}
-use Rattle.mls_treekem.proofs.Opened.{others_placed}
+use Rattle.mls_treekem.proofs.Opening.{others_placed}
 use Rattle.mls_treekem.proofs.Joiners.{none_counted, counted_in, counted_out}
 use Rattle.mls_treekem.proofs.joiner.+filtered_count.Goals as goal
 

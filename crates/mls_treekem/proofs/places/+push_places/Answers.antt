@@ -1,5 +1,5 @@
 use Rattle.mls_treekem.proofs.Levels.{on_ok_by}
-use Rattle.mls_treekem.proofs.Placing.{pushed_left, pushed_right, none_pushed}
+use Rattle.mls_treekem.proofs.Place.{pushed_left, pushed_right, none_pushed}
 use Rattle.mls_treekem.proofs.places.+push_places.Goals as goal
 
 pub returns-then-height-eq0 : goal.returns-then-height-eq0

@@ -1,5 +1,5 @@
 use Rattle.std.proofs.Common.{arith}
-use Rattle.mls_treekem.proofs.Sent.{found_here, not_here, none_there}
+use Rattle.mls_treekem.proofs.Sealing.{found_here, not_here, none_there}
 use Rattle.mls_treekem.proofs.seal.is_one_of.Goals as goal
 
 pub returns-then-from-node : goal.returns-then-from-node

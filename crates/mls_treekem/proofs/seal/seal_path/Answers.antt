@@ -4,7 +4,7 @@ use Rattle.mls_tree.specs.Tree.{term}
 use Rattle.mls_treekem.specs.Faults.{number_of}
 use Rattle.mls_treekem.specs.Secrets.{public_keys}
 use Rattle.mls_treekem.proofs.Joiners.{if_ok_map}
-use Rattle.mls_treekem.proofs.Sent.{chain_path, whole_path, whole_seals}
+use Rattle.mls_treekem.proofs.Sealing.{chain_path, whole_path, whole_seals}
 use Rattle.mls_treekem.proofs.seal.seal_path.Goals as goal
 
 pub returns-clause-answer : goal.returns-clause-answer

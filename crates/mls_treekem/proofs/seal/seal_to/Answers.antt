@@ -1,4 +1,4 @@
-use Rattle.mls_treekem.proofs.Sent.{one_sealed, one_unfit}
+use Rattle.mls_treekem.proofs.Sealing.{one_sealed, one_unfit}
 use Rattle.mls_treekem.proofs.seal.seal_to.Goals as goal
 
 pub returns-in-Some-2 : goal.returns-in-Some-2

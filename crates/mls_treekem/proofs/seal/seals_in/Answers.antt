@@ -1,5 +1,5 @@
 use Rattle.std.proofs.Common.{◌∙◌, ◌%◌, ◌^◌, ap, arith, length}
-use Rattle.mls_treekem.proofs.Sent.{count_next, count_end}
+use Rattle.mls_treekem.proofs.Sealing.{count_next, count_end}
 use Rattle.mls_treekem.proofs.seal.seals_in.Goals as goal
 
 pub loop-node-preserved : goal.loop-node-preserved

@@ -3,7 +3,7 @@ use Rattle.std.proofs.Common.{rules}
 use Rattle.std.proofs.lemmas.List.{nil_from_length}
 use Rattle.mls_tree.specs.Tree.{term}
 use Rattle.mls_treekem.specs.Faults.{number_of}
-use Rattle.mls_treekem.proofs.Opened.{others_placed}
+use Rattle.mls_treekem.proofs.Opening.{others_placed}
 use Rattle.mls_treekem.proofs.Taking.{take_none, from_here, from_below, not_here, not_below}
 use Rattle.mls_treekem.proofs.take.+climb_along.Goals as goal
 

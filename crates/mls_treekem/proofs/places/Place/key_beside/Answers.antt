@@ -14,7 +14,7 @@ returns-then-node-start c =
     ]
 
 pub overflow_cast-node : goal.overflow_cast-node
-overflow_cast-node c = let low = width_low c.args.tree.now _ c.leaf_count.ensures.width c.leaf_count.type_inv in omega arith
+overflow_cast-node c = let low = width_low c.args.tree.now _ c.leaf_count.ensures c.leaf_count.type_inv in omega arith
 
 pub returns : goal.returns
 returns c =

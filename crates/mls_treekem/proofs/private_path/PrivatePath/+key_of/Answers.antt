@@ -1,5 +1,5 @@
 use Rattle.std.proofs.Common.{◌*◌, ◌+◌, ◌<◌, ◌≤◌, sym, ◌∙◌, ap, subst}
-use Rattle.mls_treekem.proofs.Opened.{key_at_leaf, no_key_at_leaf, key_at_top, key_on_left, key_on_right}
+use Rattle.mls_treekem.proofs.Opening.{key_at_leaf, no_key_at_leaf, key_at_top, key_on_left, key_on_right}
 use Rattle.mls_treekem.proofs.private_path.PrivatePath.+key_of.Goals as goal
 
 pub returns-then-node-leaf : goal.returns-then-node-leaf

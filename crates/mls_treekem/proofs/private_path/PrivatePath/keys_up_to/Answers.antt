@@ -1,5 +1,5 @@
 use Rattle.std.proofs.Common.{arith}
-use Rattle.mls_treekem.proofs.Opened.{keys_none, keys_more, same_height}
+use Rattle.mls_treekem.proofs.Opening.{keys_none, keys_more, same_height}
 use Rattle.mls_treekem.proofs.private_path.PrivatePath.keys_up_to.Goals as goal
 
 pub loop-i-init : goal.loop-i-init

@@ -1,7 +1,7 @@
 use Rattle.std.proofs.Common.{refl, sym, ◌∙◌}
 use Rattle.std.proofs.lemmas.List.{nil_from_length}
 use Rattle.mls_treekem.specs.Faults.{number_of}
-use Rattle.mls_treekem.proofs.Opened.{answers_by, same_end, same_added, same_other, same_missing, same_held}
+use Rattle.mls_treekem.proofs.Opening.{answers_by, same_end, same_added, same_other, same_missing, same_held}
 use Rattle.mls_treekem.proofs.private_path.PrivatePath.open_first.Goals as goal
 
 pub loop-node-init : goal.loop-node-init

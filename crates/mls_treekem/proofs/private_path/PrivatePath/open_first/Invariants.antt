@@ -1,4 +1,4 @@
-use Rattle.mls_treekem.proofs.Opened.{SameFirst}
+use Rattle.mls_treekem.proofs.Opening.{SameFirst}
 use Rattle.mls_treekem.proofs.private_path.PrivatePath.open_first.Given as goal
 
 abbrev pub invariant-loop-node : goal.invariant-loop-node

@@ -5,7 +5,7 @@ use Rattle.mls_tree.specs.Tree.{term}
 use Rattle.mls_tree.specs.Perfect.{perfect}
 use Rattle.mls_treekem.specs.Climbing.{climb_of, with_own}
 use Rattle.mls_treekem.proofs.Followed.{way_read}
-use Rattle.mls_treekem.proofs.Opened.{above_low, opened_is}
+use Rattle.mls_treekem.proofs.Opening.{above_low, opened_is}
 use Rattle.mls_treekem.proofs.private_path.PrivatePath.open_path.Goals as goal
 
 pub invariant_of-self : goal.invariant_of-self

@@ -4,7 +4,7 @@ use Rattle.mls_wire.specs.Checks.{given}
 use Rattle.mls_tree.specs.Tree.{term}
 use Rattle.mls_treekem.specs.Faults.{number_of}
 use Rattle.mls_treekem.specs.Place.{subtree_at}
-use Rattle.mls_treekem.proofs.Sent.{seals_more, seals_fail, seals_end}
+use Rattle.mls_treekem.proofs.Sealing.{seals_more, seals_fail, seals_end}
 use Rattle.mls_treekem.proofs.seal.Sealer.seal_all.Goals as goal
 
 pub returns-in_err-ciphertext : goal.returns-in_err-ciphertext

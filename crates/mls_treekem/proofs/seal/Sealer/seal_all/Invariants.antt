@@ -1,6 +1,6 @@
 use Rattle.mls_tree.specs.Tree.{term}
 use Rattle.mls_treekem.specs.Place.{subtree_at}
-use Rattle.mls_treekem.proofs.Sent.{SealsLeft}
+use Rattle.mls_treekem.proofs.Sealing.{SealsLeft}
 use Rattle.mls_treekem.proofs.seal.Sealer.seal_all.Given as goal
 
 abbrev pub invariant-loop-node : goal.invariant-loop-node

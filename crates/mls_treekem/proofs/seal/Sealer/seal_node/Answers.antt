@@ -2,7 +2,7 @@ use Rattle.std.proofs.lemmas.Result.{err_from_is_err_and}
 use Rattle.std.proofs.Common.{ap, ◌∙◌, length}
 use Rattle.mls_tree.specs.Tree.{term}
 use Rattle.mls_treekem.specs.Place.{subtree_at}
-use Rattle.mls_treekem.proofs.Sent.{length-sealed, given_some, of_keys}
+use Rattle.mls_treekem.proofs.Sealing.{length-sealed, given_some, of_keys}
 use Rattle.mls_treekem.proofs.seal.Sealer.seal_node.Goals as goal
 
 pub returns-clause-seals : goal.returns-clause-seals

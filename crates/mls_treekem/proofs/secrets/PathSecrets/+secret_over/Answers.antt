@@ -3,7 +3,7 @@ use Rattle.std.specs.List.{slice_get}
 use Rattle.std.specs.Option.{option_copied}
 use Rattle.std.proofs.lemmas.List.{nil_from_length}
 use Rattle.mls_tree.specs.Tree.{term}
-use Rattle.mls_treekem.proofs.Opened.{others_placed}
+use Rattle.mls_treekem.proofs.Opening.{others_placed}
 use Rattle.mls_treekem.proofs.Joiners.{if_ok_map, copied_is, none_among, among_here, among_below}
 use Rattle.mls_treekem.proofs.secrets.PathSecrets.+secret_over.Goals as goal
 

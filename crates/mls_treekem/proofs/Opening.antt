@@ -27,7 +27,7 @@ use Rattle.mls_treekem.specs.declared.error.TreeKemError.{TreeKemError}
 use Rattle.mls_paths.specs.Chain.{next_secret, node_key, node_public}
 use Rattle.mls_paths.specs.Follow.{key_above, on_way}
 use Rattle.mls_paths.specs.Keys.{Keys, key_for, key_in, PrivateKeys, all_keys}
-use Rattle.mls_paths.specs.Make.{Climb}
+use Rattle.mls_paths.specs.Make.{past_node, past_blank, Climb}
 use Rattle.mls_paths.specs.Open.{left_by, unseal_secret, of_32, open_first, first_ciphertexts, open_here, past_parent, climb_open, opened_path, secret_in}
 use Rattle.mls_paths.specs.Height.{keys_on}
 use Rattle.mls_treekem.specs.Opening.{key_of, IsKeyOf, AreKeysUpTo, OpensAlong}
@@ -283,7 +283,7 @@ past_own c own true (n ∷ ns) m = by_test (bytes_eq (node_public c m.secret) n.
   where
     by_test : (t : Bool) →
         if◌then◌else◌ {A = Result Climb ℕ} t (Ok (record { secret = next_secret m.secret; keys = Some (node_key c m.secret) ∷ (m.keys ++ (Some own ∷ [])) })) (Err 34)
-        ≡ (if◌then◌else◌ {A = Result Climb ℕ} t (Ok (record { secret = next_secret m.secret; keys = Some (node_key c m.secret) ∷ m.keys })) (Err 34) >>= λ z. Ok (with_own own z))
+        ≡ (if◌then◌else◌ {A = Result Climb ℕ} t (Ok (past_node c m)) (Err 34) >>= λ z. Ok (with_own own z))
     by_test true = refl
     by_test false = refl
 
@@ -376,15 +376,15 @@ others_placed t p below ps e h = (subst (λ qs. ArePlaced t qs) e h).1
 
 past_length : (c : Crypto) (b : Bool) (ns : List UpdatePathNode) (m m' : Climb) → past_parent c b ns m ≡ Ok m' → length m'.keys ≡ suc (length m.keys)
 past_length c false ns m m' e =
-    let made : Climb = record { secret = m.secret; keys = None ∷ m.keys } in
+    let made : Climb = past_blank m in
     let q : made ≡ m' = cc in
     sym (ap (λ (z : Climb). length z.keys) q)
 past_length c true [] m m' e = cc
 past_length c true (n ∷ ns) m m' e = by_test (bytes_eq (node_public c m.secret) n.encryption_key) e
   where
-    by_test : (t : Bool) → if◌then◌else◌ {A = Result Climb ℕ} t (Ok (record { secret = next_secret m.secret; keys = Some (node_key c m.secret) ∷ m.keys })) (Err 34) ≡ Ok m' → length m'.keys ≡ suc (length m.keys)
+    by_test : (t : Bool) → if◌then◌else◌ {A = Result Climb ℕ} t (Ok (past_node c m)) (Err 34) ≡ Ok m' → length m'.keys ≡ suc (length m.keys)
     by_test true e =
-        let made : Climb = record { secret = next_secret m.secret; keys = Some (node_key c m.secret) ∷ m.keys } in
+        let made : Climb = past_node c m in
         let q : made ≡ m' = cc in
         sym (ap (λ (z : Climb). length z.keys) q)
     by_test false e = cc
