@@ -1,54 +1,52 @@
--- The tree hashes of all subtrees, by the root and its sides.
-use Rattle.std.proofs.Common.{◌≡◌, ℕ, ◌+◌, ◌-◌, ◌/◌, List, [], ◌∷◌, ◌++◌, length, get_or, Option, refl, sym, ◌∙◌, ap, arith, length-append, append_assoc}
-use Rattle.std.proofs.lemmas.List.{get_or_at}
+-- The kept hashes of a tree, by the root and its sides.
+use Rattle.std.proofs.Common.{◌≡◌, ℕ, zero, suc, ◌+◌, ◌-◌, ◌*◌, ◌/◌, ◌<◌, true, List, [], ◌∷◌, ◌++◌, length, get_or, take, drop, set, Option, Some, None, is_some, refl, sym, ◌∙◌, ap, subst, arith, length-append, append_assoc}
+use Rattle.std.proofs.lemmas.List.{get_or_at, take_at, drop_at, take_rest, take-append-drop, drop_more, drop_all, append-nil, length-drop, length-take-le, set_at}
+use borrow.Rule.Slice.PartMut.{put_mid}
+use Rattle.mls_leaf.specs.Parent.{Parent}
 use Rattle.mls_leaf.specs.declared.node.Node.{Node}
 use Rattle.mls_treemath.specs.Paths.{nodes_in}
 use Rattle.mls_term.specs.Term.{Term, Leaf, Branch, width, size}
 use Rattle.mls_term.specs.Inputs.{leaf_hash}
 use Rattle.mls_term.specs.Hashes.{tree_hash}
-use Rattle.mls_term.specs.Arrays.{leaf_in, term_of}
+use Rattle.mls_term.specs.Arrays.{leaf_in, parent_in, term_of, HasMiddle}
+use Rattle.mls_term.specs.ArrayLaws.{size-term_of, term_of-zero, term_of-suc}
 use Rattle.mls_term.specs.Equations.{tree_hash_leaf}
-use Rattle.mls_array.specs.Witnesses.{hashes_of}
-use Rattle.mls_array.proofs.Readings.{leaf_term, left_side, right_side, InParts}
+use Rattle.mls_array.specs.Kept.{hashes_of, Keeps, cold_places}
+use Rattle.mls_array.specs.KeptLaws.{length-hashes_of, keeps_sides, keeps_long, warm_leaf, warm_branch, KeepsSides, cold-append, cold-cons}
+use Rattle.mls_array.proofs.Readings.{leaf_term, left_side, right_side, InParts, in_sides}
 
-pub hashes_one : (b h : ℕ) (xs : List (Option Node)) (n : Option Node) → h ≡ 0 → length xs ≡ nodes_in h → n ≡ get_or xs 0 n → hashes_of b (term_of h xs) ≡ leaf_hash b (leaf_in n) ∷ []
+pub hashes_one : (b h : ℕ) (xs : List (Option Node)) (n : Option Node) → h ≡ 0 → length xs ≡ nodes_in h → n ≡ get_or xs 0 n → hashes_of b (term_of h xs) ≡ Some (leaf_hash b (leaf_in n)) ∷ []
 unfolding hashes_of
 hashes_one b h xs n low all is =
-    ap (hashes_of b) (leaf_term h xs n low all is) ∙ ap (λ v. v ∷ []) (tree_hash_leaf b (leaf_in n))
+    ap (hashes_of b) (leaf_term h xs n low all is) ∙ ap (λ v. Some v ∷ []) (tree_hash_leaf b (leaf_in n))
 
-pub hashes_sides : (b h m : ℕ) (xs : List (Option Node)) (n : Option Node) → InParts h m xs n → hashes_of b (term_of h xs) ≡ hashes_of b (left_side h m xs) ++ (hashes_of (b + (m / 2 + 1)) (right_side h m xs) ++ (tree_hash b (term_of h xs) ∷ []))
+pub hashes_sides : (b h m : ℕ) (xs : List (Option Node)) (n : Option Node) → InParts h m xs n → hashes_of b (term_of h xs) ≡ hashes_of b (left_side h m xs) ++ (Some (tree_hash b (term_of h xs)) ∷ hashes_of (b + (m / 2 + 1)) (right_side h m xs))
 unfolding hashes_of
 hashes_sides b h m xs n parts =
     ap (hashes_of b) parts.is
-    ∙ ap (λ t. hashes_of b (left_side h m xs) ++ (hashes_of (b + width (left_side h m xs)) (right_side h m xs) ++ (tree_hash b t ∷ []))) (sym parts.is)
-    ∙ ap (λ k. hashes_of b (left_side h m xs) ++ (hashes_of (b + k) (right_side h m xs) ++ (tree_hash b (term_of h xs) ∷ []))) parts.left_width
+    ∙ ap (λ t. hashes_of b (left_side h m xs) ++ (Some (tree_hash b t) ∷ hashes_of (b + width (left_side h m xs)) (right_side h m xs))) (sym parts.is)
+    ∙ ap (λ k. hashes_of b (left_side h m xs) ++ (Some (tree_hash b (term_of h xs)) ∷ hashes_of (b + k) (right_side h m xs))) parts.left_width
 
--- pushed one after another
-pub hashes_pushed : (b h m : ℕ) (xs : List (Option Node)) (n : Option Node) (parts : InParts h m xs n) (old first second : List (List ℕ)) (own : List ℕ) → first ≡ old ++ hashes_of b (left_side h m xs) → second ≡ first ++ hashes_of (b + (m / 2 + 1)) (right_side h m xs) → own ≡ tree_hash b (term_of h xs) → second ++ (own ∷ []) ≡ old ++ hashes_of b (term_of h xs)
-hashes_pushed b h m xs n parts old first second own one two three =
-    let l = hashes_of b (left_side h m xs) in
-    let r = hashes_of (b + (m / 2 + 1)) (right_side h m xs) in
-    ap (λ ys. ys ++ (own ∷ [])) two
-    ∙ ap (λ ys. (ys ++ r) ++ (own ∷ [])) one
-    ∙ append_assoc (old ++ l) r (own ∷ [])
-    ∙ append_assoc old l (r ++ (own ∷ []))
-    ∙ ap (λ v. old ++ (l ++ (r ++ (v ∷ [])))) three
-    ∙ ap (λ ys. old ++ ys) (sym (hashes_sides b h m xs n parts))
+-- ---- the root's
 
--- ---- how many they are, and the last
-
-pub length-hashes_of : (b : ℕ) (t : Term) → length (hashes_of b t) ≡ size t
-unfolding hashes_of size
-length-hashes_of b (Leaf v) = refl
-length-hashes_of b (Branch c l r) =
-    simp (length-append) (omega (arith, length-hashes_of b l, length-hashes_of (b + width l) r))
-
-last_at : (xs : List (List ℕ)) (x : List ℕ) → get_or (xs ++ (x ∷ [])) (length (xs ++ (x ∷ [])) - 1) [] ≡ x
-last_at xs x = get_or_at xs x [] [] (length (xs ++ (x ∷ [])) - 1) (simp length-append (omega arith))
-
-pub last-hashes_of : (b : ℕ) (t : Term) → get_or (hashes_of b t) (length (hashes_of b t) - 1) [] ≡ tree_hash b t
+root_of_one : (b : ℕ) (v : Option _) → get_or (hashes_of b (Leaf v)) (length (hashes_of b (Leaf v)) / 2) None ≡ Some (tree_hash b (Leaf v))
 unfolding hashes_of
-last-hashes_of b (Leaf v) = refl
-last-hashes_of b (Branch c l r) =
-    ap (λ ys. get_or ys (length ys - 1) []) (sym (append_assoc (hashes_of b l) (hashes_of (b + width l) r) (tree_hash b (Branch c l r) ∷ [])))
-    ∙ last_at (hashes_of b l ++ hashes_of (b + width l) r) (tree_hash b (Branch c l r))
+root_of_one b v = refl
+
+root_of_sides : (b : ℕ) (c : Option Parent) (l r : Term) → size l ≡ size r → get_or (hashes_of b (Branch c l r)) (length (hashes_of b (Branch c l r)) / 2) None ≡ Some (tree_hash b (Branch c l r))
+unfolding hashes_of
+root_of_sides b c l r same =
+    let first = length-hashes_of b l in
+    let second = length-hashes_of (b + width l) r in
+    let long = length-append (hashes_of b l) (Some (tree_hash b (Branch c l r)) ∷ hashes_of (b + width l) r) in
+    get_or_at (hashes_of b l) (Some (tree_hash b (Branch c l r))) (hashes_of (b + width l) r) None _ (omega arith)
+
+root_is : (b h : ℕ) (xs : List (Option Node)) → get_or (hashes_of b (term_of h xs)) (length (hashes_of b (term_of h xs)) / 2) None ≡ Some (tree_hash b (term_of h xs))
+root_is b zero xs = rw (term_of-zero xs) (root_of_one b _)
+root_is b (suc h) xs = rw (term_of-suc h xs) (root_of_sides b _ _ _ (size-term_of h _ ∙ sym (size-term_of h _)))
+
+pub root_there : (b h : ℕ) (xs : List (Option Node)) (hs : List (Option (List ℕ))) → hs ≡ hashes_of b (term_of h xs) → is_some (get_or hs (length hs / 2) None) ≡ true
+root_there b h xs hs is = ap (λ ys. is_some (get_or ys (length ys / 2) None)) is ∙ ap is_some (root_is b h xs)
+
+pub root_read : (b h : ℕ) (xs : List (Option Node)) (hs : List (Option (List ℕ))) → hs ≡ hashes_of b (term_of h xs) → get_or hs (length hs / 2) None ≡ Some (tree_hash b (term_of h xs))
+root_read b h xs hs is = ap (λ ys. get_or ys (length ys / 2) None) is ∙ root_is b h xs

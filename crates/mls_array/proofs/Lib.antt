@@ -20,3 +20,5 @@ pub mod Others
 pub mod Candidates
 pub mod Hashings
 pub mod Ties
+pub mod Pieces
+pub mod Keepings

@@ -1,7 +1,7 @@
 -- Sides that a node ties to their parent, and roots that are parent-hash valid.
-use Rattle.std.proofs.Common.{◌≡◌, ℕ, ◌+◌, ◌-◌, ◌*◌, ◌/◌, ◌<◌, Bool, true, false, ◌||◌, List, [], ◌∷◌, ◌++◌, length, get_or, take, drop, Option, Some, None, refl, sym, ◌∙◌, ap, arith}
+use Rattle.std.proofs.Common.{◌≡◌, ℕ, suc, ◌+◌, ◌-◌, ◌*◌, ◌/◌, ◌<◌, Bool, true, false, ◌||◌, List, ◌∷◌, ◌++◌, length, get_or, take, drop, Option, Some, None, refl, sym, ◌∙◌, ap, arith}
 use Rattle.std.specs.Prelude.{Result, Ok, Err, IfOk}
-use Rattle.std.proofs.lemmas.List.{take_at, drop_at, take_rest, length-take-le, length-drop}
+use Rattle.std.proofs.lemmas.List.{take_at, take_rest, length-take-le, length-drop}
 use Rattle.mls_leaf.specs.Parent.{Parent}
 use Rattle.mls_leaf.specs.declared.node.Node.{Node}
 use Rattle.mls_treemath.specs.Paths.{nodes_in}
@@ -10,13 +10,14 @@ use Rattle.mls_term.specs.Lists.{asked, all_parents}
 use Rattle.mls_term.specs.Inputs.{sibling_hash}
 use Rattle.mls_term.specs.Hashes.{tree_hash, original, parent_hash, hash_at, is_some_bytes, has_witness, is_parent_hash_valid}
 use Rattle.mls_term.specs.Arrays.{parent_in, term_of, HasMiddle}
-use Rattle.mls_array.specs.Witnesses.{candidate, hashes_of}
+use Rattle.mls_array.specs.Kept.{hashes_of}
+use Rattle.mls_array.specs.KeptLaws.{length-hashes_of, right_part}
+use Rattle.mls_array.specs.Witnesses.{candidate}
 use Rattle.mls_array.proofs.Others.{given, witness_is}
 use Rattle.mls_array.proofs.Listed.{each_sides}
 use Rattle.mls_array.proofs.Parts.{left_len, right_len}
-use Rattle.mls_term.specs.ArrayLaws.{size-term_of}
 use Rattle.mls_array.proofs.Readings.{left_side, right_side, InParts, in_sides}
-use Rattle.mls_array.proofs.Hashings.{length-hashes_of, hashes_sides}
+use Rattle.mls_array.proofs.Hashings.{hashes_sides}
 
 pub ok_map : {A E : Type 0} (P Q : A → Type 0) (r : Result A E) → ((v : A) → P v → Q v) → IfOk r P → IfOk r Q
 ok_map P Q (Ok v) f h = f v h
@@ -45,29 +46,26 @@ module _ (h m : ℕ) (xs : List (Option Node)) (n : Option Node) (parts : InPart
 
 -- ---- the hashes of the sides
 
-module _ (b h m : ℕ) (xs : List (Option Node)) (hs : List (List ℕ)) (at : HasMiddle h (length xs) m) (pos : 0 < h) (shape : length xs ≡ nodes_in h) (hashed : hs ≡ hashes_of b (term_of h xs)) where
+module _ (b h m : ℕ) (xs : List (Option Node)) (hs : List (Option (List ℕ))) (at : HasMiddle h (length xs) m) (pos : 0 < h) (shape : length xs ≡ nodes_in h) (hashed : hs ≡ hashes_of b (term_of h xs)) where
   left_long : length (hashes_of b (left_side h m xs)) ≡ m
   left_long = length-hashes_of b (left_side h m xs) ∙ (in_sides h m xs at pos).left_size
 
-  right_long : length (hashes_of (b + (m / 2 + 1)) (right_side h m xs)) ≡ 2 * m - m
-  right_long =
-      let size = length-hashes_of (b + (m / 2 + 1)) (right_side h m xs) ∙ size-term_of (h - 1) (take (length xs - (m + 1)) (drop (m + 1) xs)) ∙ sym at.side in
-      omega arith
-
-  in_three : hs ≡ hashes_of b (left_side h m xs) ++ (hashes_of (b + (m / 2 + 1)) (right_side h m xs) ++ (tree_hash b (term_of h xs) ∷ []))
+  in_three : hs ≡ hashes_of b (left_side h m xs) ++ (Some (tree_hash b (term_of h xs)) ∷ hashes_of (b + (m / 2 + 1)) (right_side h m xs))
   in_three = hashed ∙ hashes_sides b h m xs (get_or xs m None) (in_sides h m xs at pos)
 
   pub left_hashes : take m hs ≡ hashes_of b (left_side h m xs)
   left_hashes = ap (take m) in_three ∙ take_at (hashes_of b (left_side h m xs)) _ m left_long
 
-  pub right_hashes : take (2 * m - m) (drop m hs) ≡ hashes_of (b + (m / 2 + 1)) (right_side h m xs)
+  pub right_hashes : take (length hs - (m + 1)) (drop (m + 1) hs) ≡ hashes_of (b + (m / 2 + 1)) (right_side h m xs)
   right_hashes =
-      ap (λ ys. take (2 * m - m) (drop m ys)) in_three
-      ∙ ap (take (2 * m - m)) (drop_at (hashes_of b (left_side h m xs)) (hashes_of (b + (m / 2 + 1)) (right_side h m xs) ++ (tree_hash b (term_of h xs) ∷ [])) m left_long)
-      ∙ take_at (hashes_of (b + (m / 2 + 1)) (right_side h m xs)) (tree_hash b (term_of h xs) ∷ []) (2 * m - m) right_long
+      let next : m + 1 ≡ suc m = omega arith in
+      take_rest hs (m + 1)
+      ∙ ap (drop (m + 1)) in_three
+      ∙ ap (λ k. drop k (hashes_of b (left_side h m xs) ++ (Some (tree_hash b (term_of h xs)) ∷ hashes_of (b + (m / 2 + 1)) (right_side h m xs)))) next
+      ∙ right_part (hashes_of b (left_side h m xs)) (hashes_of (b + (m / 2 + 1)) (right_side h m xs)) (Some (tree_hash b (term_of h xs))) m left_long
 
 -- how many nodes and hashes the sides have
-module _ (h m : ℕ) (xs : List (Option Node)) (hs : List (List ℕ)) (at : HasMiddle h (length xs) m) (pos : 0 < h) (long : length hs ≡ length xs) where
+module _ (h m : ℕ) (xs : List (Option Node)) (hs : List (Option (List ℕ))) (at : HasMiddle h (length xs) m) (pos : 0 < h) (long : length hs ≡ length xs) where
   pub left_shape : length (take m xs) ≡ nodes_in (h - 1)
   left_shape = left_len h (length xs) m xs at refl pos ∙ at.side
 
@@ -77,10 +75,11 @@ module _ (h m : ℕ) (xs : List (Option Node)) (hs : List (List ℕ)) (at : HasM
   pub left_count : length (take m hs) ≡ nodes_in (h - 1)
   left_count = let w = at.whole in length-take-le m hs (omega arith) ∙ at.side
 
-  pub right_count : length (take (2 * m - m) (drop m hs)) ≡ nodes_in (h - 1)
+  pub right_count : length (take (length hs - (m + 1)) (drop (m + 1) hs)) ≡ nodes_in (h - 1)
   right_count =
       let w = at.whole in
-      length-take-le (2 * m - m) (drop m hs) (simp length-drop (omega arith)) ∙ (let s = at.side in omega arith)
+      let s = at.side in
+      ap length (take_rest hs (m + 1)) ∙ length-drop (m + 1) hs ∙ omega arith
 
 -- ---- a side that a node ties
 

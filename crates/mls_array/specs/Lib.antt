@@ -8,3 +8,5 @@ pub mod Merged
 pub mod Witnesses
 pub mod Gathered
 pub mod GatheredLaws
+pub mod Kept
+pub mod KeptLaws

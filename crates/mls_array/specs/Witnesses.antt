@@ -1,11 +1,10 @@
--- The node that ties a side to its parent (RFC 9420, 7.9.2), and the tree hashes of all subtrees.
+-- The node that ties a side to its parent (RFC 9420, 7.9.2).
 use Rattle.std.specs.Prelude.{ℕ, ◌+◌, ◌-◌, ◌==◌, Bool, not, if◌then◌else◌, List, [], ◌∷◌, ◌++◌, filter, Option, Some, None}
 use Rattle.std.specs.List.{find}
 use Rattle.mls_leaf.specs.Parent.{Parent}
 use Rattle.mls_term.specs.Term.{Term, Leaf, Branch, width}
 use Rattle.mls_term.specs.Sets.{has, within, leaf_numbers, is_same_set}
 use Rattle.mls_term.specs.Resolution.{resolution}
-use Rattle.mls_term.specs.Hashes.{tree_hash}
 
 -- the node numbers of a list's leaves from leaf b on, below leaf e
 abbrev pub numbers_in : ℕ → ℕ → List ℕ → List ℕ
@@ -36,8 +35,3 @@ candidate p b c = only_off (leaf_numbers (within b (width c) p.unmerged_leaves))
 abbrev pub listed : Option Parent → List ℕ
 listed None = []
 listed (Some p) = p.unmerged_leaves
-
--- the tree hashes of all subtrees of a tree whose first leaf is b: those of the left side, those of the right side, its own
-unfoldable pub hashes_of : ℕ → Term → List (List ℕ)
-hashes_of b (Leaf v) = tree_hash b (Leaf v) ∷ []
-hashes_of b (Branch c l r) = hashes_of b l ++ (hashes_of (b + width l) r ++ (tree_hash b (Branch c l r) ∷ []))

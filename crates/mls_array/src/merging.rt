@@ -5,13 +5,15 @@ ghost use Rattle.std.specs.Option.{option_to_list};
 ghost use Rattle.std.specs.Vec.Iter.{into_iter_items};
 ghost use Rattle.mls_treemath.specs.Paths.{nodes_in};
 ghost use Rattle.mls_term.specs.Way.{path_length};
+ghost use Rattle.mls_term.specs.Hashes.{tree_hash};
 ghost use Rattle.mls_term.specs.Resolution.{is_reached};
 ghost use Rattle.mls_term.specs.Merge.{merge, path_hash, parent_beside, keys_beside, hash_beside};
 ghost use Rattle.mls_term.specs.Arrays.{term_of, in_order, parent_cell, HasMiddle};
 ghost use Rattle.mls_array.specs.Standing.{Stands};
+ghost use Rattle.mls_array.specs.Kept.{hashes_of};
 ghost use Rattle.mls_array.specs.Merging.{path_parents, first_if, rest_if, hash_bytes};
 
-use crate::hashes::tree_hash;
+use crate::hashes::root_hash;
 use crate::places::middle_of;
 use crate::resolutions::is_reached;
 use mls_hash::{Hash, sibling_hash};
@@ -52,17 +54,19 @@ pub fn bytes_of(hash: &Option<Hash>) -> &[u8]
     }
 }
 
-/// The keys and the parent hash that a merge hands down below a parent with this other side. The keys are those of the
-/// parents from there on, the lowest first.
+/// The keys and the parent hash that a merge hands down below a parent with this other side, whose tree hash is
+/// `sibling`. The keys are those of the parents from there on, the lowest first.
 fn handed_down<'a>(
     side: &[Slot],
     height: u32,
     first: u32,
+    sibling: &Hash,
     keys: &'a [Bytes],
     above: Option<Hash>,
 ) -> (&'a [Bytes], Option<Hash>)
     requires shape { length side.now ≡ nodes_in height }
     requires fits { first + 2 ^ height ≤ 2 ^ 31 }
+    requires hashed { sibling.now ≡ tree_hash first (term_of height side.now) }
     ensures keys { reverse result.0.now ≡ keys_beside first (term_of height side.now) (reverse keys.now) }
     ensures hash { hash_bytes result.1 ≡ hash_beside first (term_of height side.now) (reverse keys.now) (hash_bytes above) }
 {
@@ -71,19 +75,19 @@ fn handed_down<'a>(
     }
     match keys {
         [lower @ .., key] => {
-            let sibling = tree_hash(side, height, first);
-            let below = sibling_hash(key.as_slice(), bytes_of(&above), &sibling);
+            let below = sibling_hash(key.as_slice(), bytes_of(&above), sibling);
             (lower, Some(below))
         }
         [] => (keys, above),
     }
 }
 
-/// The parent hash that reaches a leaf when a path with these keys is merged, the lowest first (RFC 9420, 7.9). Takes no
-/// memory.
+/// The parent hash that reaches a leaf when a path with these keys is merged, the lowest first (RFC 9420, 7.9), where
+/// `kept` are the tree hashes of all subtrees. Takes no memory.
 #[tactic(auto, using(mls_treemath::specs::Sizes::nodes_in_pos))]
 pub fn path_hash(
     nodes: &[Slot],
+    kept: &[Option<Hash>],
     height: u32,
     first: u32,
     leaf: u32,
@@ -92,6 +96,8 @@ pub fn path_hash(
 ) -> Option<Hash>
     requires shape { length nodes.now ≡ nodes_in height }
     requires fits { first + 2 ^ height ≤ 2 ^ 31 }
+    requires long { length kept.now ≡ nodes_in height }
+    requires hashed { kept.now ≡ hashes_of first (term_of height nodes.now) }
     ensures { hash_bytes result ≡ path_hash first (term_of height nodes.now) leaf (reverse keys.now) (hash_bytes hash) }
 {
     if height == 0 {
@@ -101,12 +107,16 @@ pub fn path_hash(
     let second = first + (middle / 2 + 1) as u32;
     let left = &nodes[..middle];
     let right = &nodes[middle + 1..];
+    let lower_kept = &kept[..middle];
+    let upper_kept = &kept[middle + 1..];
     if leaf < second {
-        let (lower, below) = handed_down(right, height - 1, second, keys, hash);
-        path_hash(left, height - 1, first, leaf, lower, below)
+        let sibling = root_hash(upper_kept);
+        let (lower, below) = handed_down(right, height - 1, second, &sibling, keys, hash);
+        path_hash(left, lower_kept, height - 1, first, leaf, lower, below)
     } else {
-        let (lower, below) = handed_down(left, height - 1, first, keys, hash);
-        path_hash(right, height - 1, second, leaf, lower, below)
+        let sibling = root_hash(lower_kept);
+        let (lower, below) = handed_down(left, height - 1, first, &sibling, keys, hash);
+        path_hash(right, upper_kept, height - 1, second, leaf, lower, below)
     }
 }
 
@@ -122,18 +132,20 @@ fn merged_parent(alloc: Global, key: Bytes, hash: &Option<Hash>) -> Result<Share
 }
 
 /// Adds the parent that a merge makes, whose other side this is, where there is one, and answers the parent hash that it
-/// hands down. Its key is the last one, which is taken.
+/// hands down. `sibling` is the side's tree hash. The parent's key is the last one, which is taken.
 fn add_parent(
     alloc: Global,
     side: &[Slot],
     height: u32,
     first: u32,
+    sibling: &Hash,
     keys: &mut Vec<Bytes>,
     above: Option<Hash>,
     out: &mut Vec<SharedParent>,
 ) -> Result<Option<Hash>, AllocError>
     requires shape { length side.now ≡ nodes_in height }
     requires fits { first + 2 ^ height ≤ 2 ^ 31 }
+    requires hashed { sibling.now ≡ tree_hash first (term_of height side.now) }
     ensures parent { OnOk result (out.new.items ≡ out.old.items ++ option_to_list (parent_beside first (term_of height side.now) (reverse keys.old.items) (hash_bytes above))) }
     ensures keys { OnOk result (reverse keys.new.items ≡ keys_beside first (term_of height side.now) (reverse keys.old.items)) }
     ensures hash { IfOk result (λ below. hash_bytes below ≡ hash_beside first (term_of height side.now) (reverse keys.old.items) (hash_bytes above)) }
@@ -143,8 +155,7 @@ fn add_parent(
     }
     match keys.pop() {
         Some(key) => {
-            let sibling = tree_hash(side, height, first);
-            let below = sibling_hash(key.as_slice(), bytes_of(&above), &sibling);
+            let below = sibling_hash(key.as_slice(), bytes_of(&above), sibling);
             out.push(merged_parent(alloc, key, &above)?)?;
             Ok(Some(below))
         }
@@ -158,6 +169,7 @@ fn add_parent(
 fn add_parents(
     alloc: Global,
     nodes: &[Slot],
+    kept: &[Option<Hash>],
     height: u32,
     first: u32,
     leaf: u32,
@@ -167,6 +179,8 @@ fn add_parents(
 ) -> Result<Option<Hash>, AllocError>
     requires shape { length nodes.now ≡ nodes_in height }
     requires fits { first + 2 ^ height ≤ 2 ^ 31 }
+    requires long { length kept.now ≡ nodes_in height }
+    requires hashed { kept.now ≡ hashes_of first (term_of height nodes.now) }
     ensures parents { OnOk result (out.new.items ≡ out.old.items ++ path_parents first (term_of height nodes.now) leaf (reverse keys.old.items) (hash_bytes hash)) }
     ensures hash { IfOk result (λ below. hash_bytes below ≡ path_hash first (term_of height nodes.now) leaf (reverse keys.old.items) (hash_bytes hash)) }
 {
@@ -177,12 +191,36 @@ fn add_parents(
     let second = first + (middle / 2 + 1) as u32;
     let left = &nodes[..middle];
     let right = &nodes[middle + 1..];
+    let lower = &kept[..middle];
+    let upper = &kept[middle + 1..];
     if leaf < second {
-        let below = add_parent(alloc, right, height - 1, second, keys, hash, out)?;
-        add_parents(alloc, left, height - 1, first, leaf, keys, below, out)
+        let sibling = root_hash(upper);
+        let below = add_parent(alloc, right, height - 1, second, &sibling, keys, hash, out)?;
+        add_parents(
+            alloc,
+            left,
+            lower,
+            height - 1,
+            first,
+            leaf,
+            keys,
+            below,
+            out,
+        )
     } else {
-        let below = add_parent(alloc, left, height - 1, first, keys, hash, out)?;
-        add_parents(alloc, right, height - 1, second, leaf, keys, below, out)
+        let sibling = root_hash(lower);
+        let below = add_parent(alloc, left, height - 1, first, &sibling, keys, hash, out)?;
+        add_parents(
+            alloc,
+            right,
+            upper,
+            height - 1,
+            second,
+            leaf,
+            keys,
+            below,
+            out,
+        )
     }
 }
 
@@ -196,10 +234,11 @@ pub struct MergedPath {
 }
 
 /// The parents that a merge makes over a leaf, and the parent hash that reaches it (RFC 9420, 7.5 and 7.9). Their keys
-/// are given lowest first, and the highest one's parent hash is empty. Each node beside the path is hashed once.
+/// are given lowest first, and the highest one's parent hash is empty. `kept` are the tree hashes of all subtrees.
 pub fn path_parents(
     alloc: Global,
     nodes: &[Slot],
+    kept: &[Option<Hash>],
     height: u32,
     first: u32,
     leaf: u32,
@@ -207,6 +246,8 @@ pub fn path_parents(
 ) -> Result<MergedPath, AllocError>
     requires shape { length nodes.now ≡ nodes_in height }
     requires fits { first + 2 ^ height ≤ 2 ^ 31 }
+    requires long { length kept.now ≡ nodes_in height }
+    requires hashed { kept.now ≡ hashes_of first (term_of height nodes.now) }
     ensures parents { IfOk result (λ p. p.parents.items ≡ path_parents first (term_of height nodes.now) leaf (reverse keys.items) []) }
     ensures hash { IfOk result (λ p. hash_bytes p.hash ≡ path_hash first (term_of height nodes.now) leaf (reverse keys.items) []) }
 {
@@ -215,6 +256,7 @@ pub fn path_parents(
     let hash = add_parents(
         alloc,
         nodes,
+        kept,
         height,
         first,
         leaf,

@@ -6,26 +6,19 @@ ghost use Rattle.std.specs.Option.{option_copied};
 ghost use Rattle.mls_leaf.specs.Parent.{rises};
 ghost use Rattle.mls_treemath.specs.Paths.{nodes_in};
 ghost use Rattle.mls_term.specs.Sets.{has, same_bytes};
-ghost use Rattle.mls_term.specs.Term.{Term};
 ghost use Rattle.mls_term.specs.Inputs.{branch_hash};
 ghost use Rattle.mls_term.specs.Hashes.{tree_hash, unlisting, original};
 ghost use Rattle.mls_term.specs.Arrays.{term_of};
-ghost use Rattle.mls_array.specs.Witnesses.{hashes_of, listed};
+ghost use Rattle.mls_array.specs.Kept.{hashes_of};
+ghost use Rattle.mls_array.specs.Witnesses.{listed};
 
+use crate::hashes::root_hash;
 use crate::lists::has;
 use crate::places::{middle_of, parent_in};
 use crate::validity::same_bytes;
-use mls_hash::{Hash, branch_hash_without, leaf_hash};
+use mls_hash::{Hash, branch_hash_without, leaf_hash_without};
 use mls_leaf::ParentNode;
 use mls_slot::Slot;
-
-/// The last of the tree hashes of all subtrees of a tree: its own.
-fn last_of(hashes: &[Hash]) -> Hash
-    requires { 0 < length hashes.now }
-    ensures { (b : ℕ) (t : Term) → hashes.now ≡ hashes_of b t → result ≡ tree_hash b t }
-{
-    hashes[hashes.len() - 1]
-}
 
 /// The unmerged leaves of a place that may be blank.
 fn listed(parent: Option<&ParentNode>) -> &[u32]
@@ -97,7 +90,7 @@ fn original_root(
 #[tactic(auto, using(mls_treemath::specs::Sizes::nodes_in_pos))]
 pub(crate) fn original_of(
     nodes: &[Slot],
-    hashes: &[Hash],
+    hashes: &[Option<Hash>],
     height: u32,
     first: u32,
     unmerged: &[u32],
@@ -110,23 +103,23 @@ pub(crate) fn original_of(
     ensures { result ≡ tree_hash first (original unmerged.now first (term_of height nodes.now)) }
 {
     if unmerged.is_empty() {
-        return last_of(hashes);
+        return root_hash(hashes);
     }
     if height == 0 {
         if has(unmerged, first) {
-            return leaf_hash(first, None);
+            return leaf_hash_without(first);
         }
-        return last_of(hashes);
+        return root_hash(hashes);
     }
     let middle = middle_of(nodes.len(), height);
     let second = first + (middle / 2 + 1) as u32;
     let lower = &hashes[..middle];
-    let upper = &hashes[middle..2 * middle];
+    let upper = &hashes[middle + 1..];
     let left = original_of(&nodes[..middle], lower, height - 1, first, unmerged);
     let right = original_of(&nodes[middle + 1..], upper, height - 1, second, unmerged);
-    let old_left = last_of(lower);
-    let old_right = last_of(upper);
-    let own = last_of(hashes);
+    let old_left = root_hash(lower);
+    let old_right = root_hash(upper);
+    let own = root_hash(hashes);
     let parent = parent_in(&nodes[middle]);
     original_root(parent, unmerged, &left, &right, &old_left, &old_right, &own)
 }

@@ -1,6 +1,6 @@
 //! Whether parents are parent-hash valid (RFC 9420, 7.9.2).
 
-ghost use Rattle.std.specs.Prelude.{◌≡◌, ◌+◌, ◌*◌, ◌^◌, ◌<◌, ◌≤◌, ◌++◌, true, length, Option, OnOk, IfOk};
+ghost use Rattle.std.specs.Prelude.{◌≡◌, ◌+◌, ◌*◌, ◌^◌, ◌<◌, ◌≤◌, true, length, Option, IfOk};
 ghost use Rattle.mls_leaf.specs.Parent.{Parent};
 ghost use Rattle.mls_treemath.specs.Paths.{nodes_in};
 ghost use Rattle.mls_treemath.specs.Limits.{max_height};
@@ -8,15 +8,15 @@ ghost use Rattle.mls_term.specs.Node.{leaf_parent_hash, own_parent_hash};
 ghost use Rattle.mls_term.specs.Sets.{same_bytes};
 ghost use Rattle.mls_term.specs.Term.{Term, Branch, width};
 ghost use Rattle.mls_term.specs.Lists.{asked, all_parents};
-ghost use Rattle.mls_term.specs.Hashes.{tree_hash, hash_at, is_some_bytes, has_witness, is_parent_hash_valid};
+ghost use Rattle.mls_term.specs.Hashes.{hash_at, is_some_bytes, has_witness, is_parent_hash_valid};
 ghost use Rattle.mls_term.specs.Good.{has_good_hashes};
 ghost use Rattle.mls_term.specs.Arrays.{leaf_in, parent_in, term_of};
-ghost use Rattle.mls_array.specs.Witnesses.{hashes_of};
+ghost use Rattle.mls_array.specs.Kept.{hashes_of};
 
 use crate::originals::original_of;
 use crate::places::{leaf_in, middle_of, parent_in};
 use crate::witnesses::candidate;
-use mls_hash::{Hash, branch_hash, leaf_hash, sibling_hash};
+use mls_hash::{Hash, sibling_hash};
 use mls_leaf::{LeafSource, ParentNode};
 use mls_slot::Slot;
 use std::alloc::{AllocError, Global};
@@ -76,38 +76,11 @@ fn has_hash(nodes: &[Slot], height: u32, first: u32, node: u64, hash: &Hash) -> 
     }
 }
 
-/// Adds the tree hashes of all subtrees to `out`, the tree's own last, and answers that one.
-#[tactic(auto, using(mls_treemath::specs::Sizes::nodes_in_pos))]
-fn push_hashes(
-    nodes: &[Slot],
-    height: u32,
-    first: u32,
-    out: &mut Vec<Hash>,
-) -> Result<Hash, AllocError>
-    requires shape { length nodes.now ≡ nodes_in height }
-    requires fits { first + 2 ^ height ≤ 2 ^ 31 }
-    ensures all { OnOk result (out.new.items ≡ out.old.items ++ hashes_of first (term_of height nodes.now)) }
-    ensures own { IfOk result (λ h. h ≡ tree_hash first (term_of height nodes.now)) }
-{
-    if height == 0 {
-        let hash = leaf_hash(first, leaf_in(&nodes[0]));
-        out.push(hash)?;
-        return Ok(hash);
-    }
-    let middle = middle_of(nodes.len(), height);
-    let second = first + (middle / 2 + 1) as u32;
-    let left = push_hashes(&nodes[..middle], height - 1, first, out)?;
-    let right = push_hashes(&nodes[middle + 1..], height - 1, second, out)?;
-    let hash = branch_hash(parent_in(&nodes[middle]), &left, &right);
-    out.push(hash)?;
-    Ok(hash)
-}
-
 /// Whether the left side has a node that ties it to its parent.
 fn left_ties(
     parent: &ParentNode,
     nodes: &[Slot],
-    hashes: &[Hash],
+    hashes: &[Option<Hash>],
     height: u32,
     first: u32,
     found: &mut Vec<u64>,
@@ -125,7 +98,7 @@ fn left_ties(
     match candidate(parent, left, height - 1, first, second, found)? {
         Some(node) => {
             let right = &nodes[middle + 1..];
-            let hashes = &hashes[middle..2 * middle];
+            let hashes = &hashes[middle + 1..];
             let unmerged = parent.unmerged_leaves();
             let sibling = original_of(right, hashes, height - 1, second, unmerged);
             let hash = sibling_hash(parent.encryption_key(), parent.parent_hash(), &sibling);
@@ -139,7 +112,7 @@ fn left_ties(
 fn right_ties(
     parent: &ParentNode,
     nodes: &[Slot],
-    hashes: &[Hash],
+    hashes: &[Option<Hash>],
     height: u32,
     first: u32,
     found: &mut Vec<u64>,
@@ -171,7 +144,7 @@ fn right_ties(
 /// Whether the root of a tree above a leaf is parent-hash valid, where it isn't blank.
 fn root_is_valid(
     nodes: &[Slot],
-    hashes: &[Hash],
+    hashes: &[Option<Hash>],
     height: u32,
     first: u32,
     found: &mut Vec<u64>,
@@ -199,7 +172,7 @@ fn root_is_valid(
 #[tactic(auto, using(mls_treemath::specs::Sizes::nodes_in_pos))]
 fn each_is_valid(
     nodes: &[Slot],
-    hashes: &[Hash],
+    hashes: &[Option<Hash>],
     height: u32,
     first: u32,
     found: &mut Vec<u64>,
@@ -228,23 +201,22 @@ fn each_is_valid(
         return Ok(false);
     }
     let right = &nodes[middle + 1..];
-    each_is_valid(
-        right,
-        &hashes[middle..2 * middle],
-        height - 1,
-        second,
-        found,
-    )
+    each_is_valid(right, &hashes[middle + 1..], height - 1, second, found)
 }
 
-/// Whether each parent is parent-hash valid.
-pub fn has_good_hashes(alloc: Global, nodes: &[Slot], height: u32) -> Result<bool, AllocError>
+/// Whether each parent is parent-hash valid, where `hashes` are the tree hashes of all subtrees.
+pub fn has_good_hashes(
+    alloc: Global,
+    nodes: &[Slot],
+    hashes: &[Option<Hash>],
+    height: u32,
+) -> Result<bool, AllocError>
     requires shape { length nodes.now ≡ nodes_in height }
+    requires long { length hashes.now ≡ nodes_in height }
     requires low { height ≤ max_height }
+    requires hashed { hashes.now ≡ hashes_of 0 (term_of height nodes.now) }
     ensures { IfOk result (λ v. v ≡ has_good_hashes (term_of height nodes.now)) }
 {
-    let mut hashes = Vec::new(alloc);
-    push_hashes(nodes, height, 0, &mut hashes)?;
     let mut found = Vec::new(alloc);
-    each_is_valid(nodes, &hashes, height, 0, &mut found)
+    each_is_valid(nodes, hashes, height, 0, &mut found)
 }

@@ -8,7 +8,7 @@ mod pieces;
 #[cfg(test)]
 mod tests;
 
-pub use hashes::{branch_hash, branch_hash_without, leaf_hash, sibling_hash};
+pub use hashes::{branch_hash, branch_hash_without, leaf_hash, leaf_hash_without, sibling_hash};
 
 /// A hash: SHA-256.
 pub type Hash = [u8; 32];

@@ -1,6 +1,6 @@
 -- Slots after an edit of a parent's list.
 use Rattle.std.specs.Prelude.{ℕ, Option, Some, None}
-use Rattle.mls_leaf.specs.Parent.{Parent, inserted}
+use Rattle.mls_leaf.specs.Parent.{inserted}
 use Rattle.mls_leaf.specs.declared.node.Node.{Node}
 use Rattle.mls_leaf.specs.declared.node.Node.TheVariants.{Leaf as in_leaf, Parent as in_parent}
 

@@ -36,7 +36,7 @@ fn places_are_read_and_written(rt: HostRuntime) -> Result<(), Fail> {
     let alloc = rt.alloc();
     let leaf = SharedLeaf::new(alloc, LeafNode::decode(alloc, &LEAF)?)?;
     let bytes = leaf.into_slot().encode(alloc)?;
-    assert_eq!(rt; (bytes.len(), &bytes[..3]), (27, [1, 1, 1].as_slice()));
+    assert_eq!(rt; bytes.len(), 27);
     assert!(rt; matches!(Slot::decode(alloc, &bytes)?.node(), Some(Node::Leaf(_))));
     assert!(rt; !Slot::decode(alloc, &[0])?.is_taken());
     assert!(rt; matches!(Slot::decode(alloc, &[2]), Err(LeafError::BadTag)));

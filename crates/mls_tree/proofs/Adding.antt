@@ -38,7 +38,7 @@ module _ (t : Term) (x : LeafNode) (perfect : is_perfect (height t) t ≡ true) 
   entered_beside : first_blank 0 t ≡ None → add t x ≡ enter 0 (grow t) (width t) x
   entered_beside e = add_is t x ∙ ap (λ o. enter 0 (room_for o t) (place_for o t) x) e
 
-module _ (now : Tree) (x : LeafNode) (h : ℕ) (xs cells : List (Option Node)) (view : term (record { levels = h; listing = xs }) ≡ term now) (same : cells ≡ xs) (low : h ≤ max_height) where
+module _ (now : Tree) (x : LeafNode) (h : ℕ) (xs cells : List (Option Node)) (view : term_of h xs ≡ term now) (same : cells ≡ xs) (low : h ≤ max_height) where
   first_is : (o : Option ℕ) → o ≡ first_blank 0 (term_of h cells) → first_blank 0 (term now) ≡ o
   first_is o e = sym (e ∙ ap (λ ys. first_blank 0 (term_of h ys)) same ∙ ap (first_blank 0) view)
 

@@ -6,6 +6,7 @@ use Rattle.mls_leaf.specs.Parent.{Parent}
 use Rattle.mls_leaf.specs.declared.leaf.LeafNode.{LeafNode}
 use Rattle.mls_leaf.specs.declared.node.Node.{Node}
 use Rattle.mls_checks.specs.Short.{IsShort}
+use Rattle.mls_treemath.specs.Paths.{nodes_in}
 use Rattle.mls_term.specs.Term.{Term, Leaf, Branch, is_perfect, leaf_at, leaf_of, width}
 use Rattle.mls_term.specs.Arrays.{leaf_cell, parent_cell, term_of, in_order}
 use Rattle.mls_array.specs.StandingLaws.{StandsFor, stands_for}
@@ -40,3 +41,8 @@ module _ (x : LeafNode) (p : Parent) (y : LeafNode) where
   pub halves_short : (ys : List (Option Node)) → ys ≡ cells → IsShort leaf_node x → IsShort leaf_node y → (i : ℕ) → IfSome (leaf_of (term_of 2 ys) i) (λ v. IsShort leaf_node v)
   halves_short ys is one two i =
       subst (λ t. IfSome (leaf_of t i) (λ v. IsShort leaf_node v)) (sym (halves_stand ys is).term) (both_short one two i)
+
+-- as many nodes as four leaves have
+pub seven : 7 ≡ nodes_in 2
+unfolding nodes_in
+seven = refl

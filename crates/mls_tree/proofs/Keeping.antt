@@ -1,18 +1,30 @@
 -- What the edits of a tree keep.
-use Rattle.std.proofs.Common.{◌≡◌, ℕ, ◌≤◌, true, List, [], None, Ok, sym, ◌∙◌, ap, subst, arith}
+use Rattle.std.proofs.Common.{◌≡◌, ℕ, ◌<◌, ◌≤◌, true, List, [], length, None, is_some, Ok, sym, ◌∙◌, ap, subst, arith, inl, inr}
+use Rattle.std.proofs.lemmas.Bool.{true≢false, cases_lt}
+use Rattle.mls_wire.specs.Checks.{passed}
+use Rattle.mls_wire.specs.CheckLaws.{then_ok}
 use Rattle.mls_leaf.specs.declared.leaf.LeafNode.{LeafNode}
-use Rattle.mls_term.specs.Term.{Term, width, has_leaf}
+use Rattle.mls_term.specs.Term.{Term, width, leaf_of, has_leaf}
 use Rattle.mls_term.specs.Edits.{put, add, place_in}
 use Rattle.mls_term.specs.Good.{IsGood, IsSound, AreNew, AreFit, has_distinct_keys, has_distinct_clients}
-use Rattle.mls_term.specs.Equations.{update_is}
+use Rattle.mls_term.specs.Equations.{update_is, leaf_of_out}
 use Rattle.mls_term.specs.SoundLaws.{sound_update, sound_remove, sound_add, good_of_sound}
 use Rattle.mls_term.specs.KeptLaws.{good_update, good_remove, good_add}
 use Rattle.mls_term.specs.PathLaws.{good_merge_path, sound_merge_path}
 use Rattle.mls_term.specs.ClientLaws.{distinct_clients-merge_path}
 use Rattle.mls_tree.specs.Tree.{max_leaves, add_answer, update_answer, remove_answer}
-use Rattle.mls_tree.specs.Paths.{merge_answer}
+use Rattle.mls_tree.specs.Paths.{path_checks, merge_checks, merge_answer}
 use Rattle.mls_tree.specs.Kept.{KeepsGood, KeepsSound, MergesGood}
-use Rattle.mls_tree.specs.Steps.{update_steps, remove_steps, add_steps, merge_steps}
+use Rattle.mls_tree.specs.Steps.{update_steps, remove_steps, add_steps, path_steps, merge_steps}
+
+-- a member's place is inside
+pub inside : (t : Term) (i : ℕ) → is_some (leaf_of t i) ≡ true → i < width t
+inside t i some = elim (cases_lt i (width t)) [ inl low ↦ low | inr high ↦ absurd (true≢false (sym some ∙ ap is_some (leaf_of_out t i high))) ]
+
+-- one is there where a path passes its checks
+pub has_member : (t : Term) (i : ℕ) (x : LeafNode) (keys : List (List ℕ)) → merge_checks t i x keys ≡ Ok passed → is_some (leaf_of t i) ≡ true
+unfolding merge_checks
+has_member t i x keys h = ap is_some (path_steps t i (length keys) (then_ok (path_checks t i (length keys)) _ passed h).0).member
 
 module _ (t u : Term) (i : ℕ) where
   pub update_good : (x : LeafNode) → update_answer t i x ≡ Ok u → KeepsGood (λ rules. AreNew rules i x [] (put 0 t i None)) t u

@@ -12,3 +12,4 @@ pub mod Short
 pub mod Cells
 pub mod ShortLeaves
 pub mod Sent
+pub mod Cold

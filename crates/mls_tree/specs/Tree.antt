@@ -11,10 +11,12 @@ use Rattle.mls_term.specs.Way.{filtered_path}
 use Rattle.mls_term.specs.Good.{is_within}
 use Rattle.mls_term.specs.Arrays.{term_of}
 
--- the nodes in order, and the height
+-- the nodes in order, and the height; the kept hashes beside the nodes, and how many hashes of nodes were made
 pub record Tree : Type 0 where
   pub levels : ℕ
   pub listing : List (Option Node)
+  pub kept : List (Option (List ℕ))
+  pub done : ℕ
 
 -- the tree that it stands for (RFC 9420, 7.1)
 abbrev pub term : Tree → Term

@@ -1,10 +1,12 @@
-ghost use Rattle.std.specs.Prelude.{ℕ, IfOk, IfSome};
+ghost use Rattle.std.specs.Prelude.{◌≡◌, ℕ, [], ◌∷◌, Some, None, IfOk, IfSome};
+ghost use Rattle.mls_leaf.specs.declared.node.Node.TheVariants.{Leaf as in_leaf, Parent as in_parent};
 ghost use Rattle.mls_leaf.specs.Leaf.{leaf_node};
 ghost use Rattle.mls_checks.specs.Short.{IsShort};
 ghost use Rattle.mls_term.specs.Term.{leaf_of};
 ghost use Rattle.mls_tree.specs.Tree.{term};
 
 use crate::{PublicTree, TreeError};
+use mls_array::Hashes;
 use mls_leaf::{Bytes, Codec, Items, LeafNode, ParentNode};
 use mls_slot::{SharedLeaf, SharedParent, Slot};
 use mls_suite::Glass;
@@ -103,6 +105,23 @@ fn trees_of_one_leaf(rt: HostRuntime) -> Result<(), Fail> {
     Ok(())
 }
 
+/// The nodes of four leaves, of which 0 and 2 are taken, and a parent over leaves 0 and 1.
+fn halves(
+    alloc: Global,
+    left: SharedLeaf,
+    parent: SharedParent,
+    right: SharedLeaf,
+) -> Result<Vec<Slot>, AllocError>
+    ensures { IfOk result (λ v. v.items ≡ Some (in_leaf left) ∷ Some (in_parent parent) ∷ None ∷ None ∷ Some (in_leaf right) ∷ None ∷ None ∷ []) }
+{
+    let left = left.into_slot();
+    let parent = parent.into_slot();
+    let right = right.into_slot();
+    let (a, b, c, d) = (Slot::blank(), Slot::blank(), Slot::blank(), Slot::blank());
+    let nodes = Vec::from_array(alloc, [left, parent, a, b, right, c, d])?;
+    Ok(nodes)
+}
+
 /// Four leaves, of which 0 and 2 are taken, and a parent over leaves 0 and 1.
 fn half_empty(
     alloc: Global,
@@ -117,15 +136,13 @@ fn half_empty(
     let left = SharedLeaf::new(alloc, left)?;
     let parent = SharedParent::new(alloc, parent)?;
     let right = SharedLeaf::new(alloc, right)?;
-    let mut nodes = Vec::new(alloc);
-    nodes.push(left.into_slot())?;
-    nodes.push(parent.into_slot())?;
-    nodes.push(Slot::blank())?;
-    nodes.push(Slot::blank())?;
-    nodes.push(right.into_slot())?;
-    nodes.push(Slot::blank())?;
-    nodes.push(Slot::blank())?;
-    Ok(PublicTree { nodes, height: 2 })
+    let nodes = halves(alloc, left, parent, right)?;
+    let hashes = Hashes::none(alloc, 7)?;
+    Ok(PublicTree {
+        nodes,
+        hashes,
+        height: 2,
+    })
 }
 
 /// A parent with this byte 32 times as its key, and an empty parent hash.

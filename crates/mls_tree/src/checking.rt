@@ -13,9 +13,11 @@ ghost use Rattle.mls_term.specs.Keys.{passes};
 ghost use Rattle.mls_term.specs.Lists.{all_parents, rises_here};
 ghost use Rattle.mls_term.specs.Good.{IsGood, has_good_shape, has_good_lists, has_distinct_keys, has_distinct_clients, is_all_signed, is_all_capable, is_all_fit, tree_checks};
 ghost use Rattle.mls_term.specs.Arrays.{term_of};
+ghost use Rattle.mls_array.specs.Kept.{hashes_of};
 ghost use Rattle.mls_array.specs.Standing.{Stands};
 ghost use Rattle.mls_array.specs.Gathered.{cell_key};
 ghost use Rattle.mls_suite.specs.Crypto.{Crypto};
+ghost use Rattle.mls_tree.specs.Cold.{Warms};
 ghost use Rattle.mls_tree.specs.Faults.{number_of};
 ghost use Rattle.mls_tree.specs.Refusals.{RefusesOutright};
 ghost use Rattle.mls_tree.specs.Rules.{rules_of};
@@ -24,7 +26,7 @@ ghost use Rattle.mls_tree.specs.Tree.{term};
 
 use crate::error::TreeError;
 use crate::tree::PublicTree;
-use mls_array as array;
+use mls_array::{self as array, Hash};
 use mls_checks::{leaf_capable, leaf_signed};
 use mls_leaf::{LeafNode, Node};
 use mls_slot::Slot;
@@ -124,6 +126,7 @@ fn all_fit<S: Suite>(nodes: &[Slot], height: u32) -> bool
 fn check<S: Suite>(
     alloc: Global,
     nodes: &[Slot],
+    kept: &[Option<Hash>],
     height: u32,
     group_id: &[u8],
 ) -> Result<(), TreeError>
@@ -131,6 +134,8 @@ fn check<S: Suite>(
     requires low { height ≤ max_height }
     requires group { length group_id.now < 2 ^ 28 }
     requires short { HasShortLeaves (term_of height nodes.now) }
+    requires long { length kept.now ≡ nodes_in height }
+    requires hashed { kept.now ≡ hashes_of 0 (term_of height nodes.now) }
     ensures answer { Answers (λ _. passed) number_of (tree_checks (rules_of S.crypto group_id.now) (term_of height nodes.now)) result }
     ensures lists { RefusesOutright number_of (require 23 (has_good_lists (term_of height nodes.now))) result }
     ensures rising { OnOk result (all_parents rises_here 0 (term_of height nodes.now) ≡ true) }
@@ -138,7 +143,7 @@ fn check<S: Suite>(
     if !array::has_good_lists(nodes, height) {
         return Err(TreeError::UnmergedWrong);
     }
-    if !array::has_good_hashes(alloc, nodes, height)? {
+    if !array::has_good_hashes(alloc, nodes, kept, height)? {
         return Err(TreeError::ParentHashWrong);
     }
     if !array::has_distinct_keys(alloc, nodes, height)? {
@@ -171,12 +176,15 @@ impl PublicTree {
         requires short { HasShortLeaves (term self.old) }
         ensures answer { Answers (λ _. passed) number_of (tree_checks (rules_of S.crypto group_id.now) (term self.old)) result }
         // 23 comes whatever memory there is.
-        ensures refused { RefusesOutright number_of (require 23 (has_good_lists (term self.old))) result }
+        ensures outright { RefusesOutright number_of (require 23 (has_good_lists (term self.old))) result }
         ensures good { OnOk result (has_good_shape (term self.old) ≡ true → IsGood (rules_of S.crypto group_id.now) (term self.old)) }
         ensures same { term self.new ≡ term self.old }
+        ensures warms { Warms self.old self.new }
     {
+        let _tree_hash = self.tree_hash();
         let alloc = *self.nodes.allocator();
-        check::<S>(alloc, &self.nodes, self.height, group_id)
+        let kept = self.hashes.as_slice();
+        check::<S>(alloc, &self.nodes, kept, self.height, group_id)
     }
 
     /// Whether no two nodes have one encryption key (RFC 9420, 7.3).

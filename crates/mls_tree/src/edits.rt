@@ -1,13 +1,15 @@
 //! Edits of the array of a whole tree.
 
-ghost use Rattle.std.specs.Prelude.{◌≡◌, ◌+◌, ◌^◌, ◌≤◌, ◌<◌, OnOk, OnErr};
+ghost use Rattle.std.specs.Prelude.{◌≡◌, suc, ◌+◌, ◌^◌, ◌≤◌, ◌<◌, ◌++◌, None, replicate, OnOk, OnErr};
+ghost use Rattle.mls_treemath.specs.Paths.{nodes_in};
 ghost use Rattle.mls_treemath.specs.Limits.{max_height};
 ghost use Rattle.mls_term.specs.Edits.{put, enter, grow, trim};
 ghost use Rattle.mls_term.specs.Arrays.{term_of};
+ghost use Rattle.mls_array.specs.Kept.{Keeps, dropped};
 ghost use Rattle.mls_array.specs.Standing.{Stands};
 ghost use Rattle.mls_array.specs.StandingLaws.{StandsFor};
 
-use mls_array as array;
+use mls_array::{self as array, Hashes};
 use mls_slot::{SharedLeaf, Slot};
 use std::alloc::AllocError;
 
@@ -36,15 +38,33 @@ pub(crate) fn enter(
     Ok(())
 }
 
-/// Doubles the tree, and fills the first of the new leaves. The parents over it are blank.
-pub(crate) fn append(nodes: &mut Vec<Slot>, height: u32, leaf: SharedLeaf) -> Result<(), AllocError>
+/// Doubles the tree, and fills the first of the new leaves. The parents over it are blank, and the new nodes are cold.
+pub(crate) fn append(
+    nodes: &mut Vec<Slot>,
+    hashes: &mut Hashes,
+    height: u32,
+    leaf: SharedLeaf,
+) -> Result<(), AllocError>
     requires stands { Stands height nodes.old.items }
     requires low { height < max_height }
+    requires keeps { Keeps 0 (term_of height nodes.old.items) hashes.old.kept }
     ensures ok { OnOk result (StandsFor (height + 1) nodes.new.items (enter 0 (grow (term_of height nodes.old.items)) (2 ^ height) leaf)) }
+    ensures kept { OnOk result (hashes.new.kept ≡ dropped 0 (grow (term_of height nodes.old.items)) (2 ^ height) (hashes.old.kept ++ replicate (suc (nodes_in height)) None)) }
+    ensures done { OnOk result (hashes.new.done ≡ hashes.old.done) }
     ensures err { OnErr result (nodes.new.items ≡ nodes.old.items) }
+    ensures err_kept { OnErr result (hashes.new ≡ hashes.old) }
 {
-    array::grow(nodes, height)?;
+    let count = nodes.len();
+    hashes.add(count + 1)?;
+    match array::grow(nodes, height) {
+        Ok(()) => {}
+        Err(error) => {
+            hashes.cut(count);
+            return Err(error);
+        }
+    }
     put(nodes, height + 1, 1 << height, Some(leaf));
+    hashes.drop_way(height + 1, 1 << height);
     Ok(())
 }
 

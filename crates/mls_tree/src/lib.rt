@@ -10,6 +10,8 @@ mod check_tests;
 mod checking;
 mod edits;
 mod error;
+#[cfg(test)]
+mod hash_tests;
 mod laws;
 #[cfg(test)]
 mod members;
@@ -21,6 +23,6 @@ mod tests;
 mod tree;
 
 pub use error::TreeError;
-pub use laws::laws_of_leaves;
+pub use laws::{hashing_costs, laws_of_leaves};
 pub use mls_array::Hash;
 pub use tree::PublicTree;

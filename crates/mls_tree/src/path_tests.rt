@@ -104,6 +104,13 @@ fn merged(alloc: Global, tree: &mut PublicTree, i: u32) -> Result<usize, TreeErr
     Ok(length)
 }
 
+/// Whether each parent is parent-hash valid.
+fn has_good_hashes(alloc: Global, tree: &mut PublicTree) -> Result<bool, AllocError> {
+    let _tree_hash = tree.tree_hash();
+    let kept = tree.hashes.as_slice();
+    array::has_good_hashes(alloc, &tree.nodes, kept, tree.height)
+}
+
 #[test]
 fn the_next_add_is_listed(rt: HostRuntime) -> Result<(), Fail> {
     let alloc = rt.alloc();
@@ -117,7 +124,7 @@ fn the_next_add_is_listed(rt: HostRuntime) -> Result<(), Fail> {
     assert_eq!(rt; tree.resolution(1)?.as_slice(), [0, 2].as_slice());
     assert!(rt; tree.node(5).is_none());
     assert!(rt; array::has_good_lists(&tree.nodes, tree.height));
-    assert!(rt; array::has_good_hashes(alloc, &tree.nodes, tree.height)?);
+    assert!(rt; has_good_hashes(alloc, &mut tree)?);
     Ok(())
 }
 

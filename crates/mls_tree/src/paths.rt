@@ -1,6 +1,6 @@
 //! A commit's path: the parent hash of its leaf, and its merge.
 
-ghost use Rattle.std.specs.Prelude.{◌≡◌, ℕ, ◌≤◌, List, [], reverse, length, None, IfOk, OnOk};
+ghost use Rattle.std.specs.Prelude.{◌≡◌, ℕ, ◌≤◌, List, [], reverse, length, None, IfOk, OnOk, OnErr};
 ghost use Rattle.mls_wire.specs.Checks.{passed, Answers, AnswersOutright};
 ghost use Rattle.mls_treemath.specs.Limits.{max_height};
 ghost use Rattle.mls_term.specs.Node.{source_hash};
@@ -12,13 +12,15 @@ ghost use Rattle.mls_term.specs.Edits.{put};
 ghost use Rattle.mls_term.specs.Merge.{merge_path, path_parent_hash};
 ghost use Rattle.mls_term.specs.Good.{AreNew};
 ghost use Rattle.mls_term.specs.Arrays.{term_of};
+ghost use Rattle.mls_array.specs.Kept.{hashes_of};
 ghost use Rattle.mls_array.specs.Standing.{Stands};
 ghost use Rattle.mls_array.specs.StandingLaws.{StandsFor};
 ghost use Rattle.mls_array.specs.Merging.{hash_bytes, path_parents};
+ghost use Rattle.mls_tree.specs.Cold.{Warms, Chills};
 ghost use Rattle.mls_tree.specs.Faults.{number_of};
 ghost use Rattle.mls_tree.specs.Kept.{KeepsGood, MergesGood};
 ghost use Rattle.mls_tree.specs.Refusals.{RefusesOutright};
-ghost use Rattle.mls_tree.specs.Tree.{term};
+ghost use Rattle.mls_tree.specs.Tree.{Tree, term};
 ghost use Rattle.mls_tree.specs.Paths.{path_checks, path_hash_answer, counts_answer, merge_checks, merge_answer, ChangesWhole};
 
 use crate::error::TreeError;
@@ -58,18 +60,22 @@ impl PublicTree {
 
     /// The parent hash that reaches leaf i, where there is one.
     fn path_hash(&self, i: u32, keys: &[Bytes]) -> Option<Hash>
+        requires { self.now.kept ≡ hashes_of 0 (term self.now) }
         ensures { hash_bytes result ≡ path_parent_hash (term self.now) i keys.now }
     {
-        array::path_hash(&self.nodes, self.height, 0, i, keys, None)
+        let kept = self.hashes.as_slice();
+        array::path_hash(&self.nodes, kept, self.height, 0, i, keys, None)
     }
 
     /// The parents over leaf i, the highest first, and the parent hash that reaches it.
     fn merged_path(&self, i: u32, keys: Vec<Bytes>) -> Result<MergedPath, AllocError>
+        requires { self.now.kept ≡ hashes_of 0 (term self.now) }
         ensures parents { IfOk result (λ p. p.parents.items ≡ path_parents 0 (term self.now) i (reverse keys.items) []) }
         ensures hash { IfOk result (λ p. hash_bytes p.hash ≡ path_parent_hash (term self.now) i keys.items) }
     {
         let alloc = *self.nodes.allocator();
-        let path = array::path_parents(alloc, &self.nodes, self.height, 0, i, keys)?;
+        let kept = self.hashes.as_slice();
+        let path = array::path_parents(alloc, &self.nodes, kept, self.height, 0, i, keys)?;
         Ok(path)
     }
 
@@ -103,8 +109,9 @@ impl PublicTree {
         leaf: &LeafNode,
         keys: Vec<Bytes>,
     ) -> Result<Vec<SharedParent>, TreeError>
+        requires { self.now.kept ≡ hashes_of 0 (term self.now) }
         ensures checks { Answers (λ _. passed) number_of (merge_checks (term self.now) i leaf.now keys.items) result }
-        ensures refused { RefusesOutright number_of (path_checks (term self.now) i (length keys.items)) result }
+        ensures outright { RefusesOutright number_of (path_checks (term self.now) i (length keys.items)) result }
         ensures parents { IfOk result (λ v. v.items ≡ path_parents 0 (term self.now) i (reverse keys.items) []) }
     {
         match self.require_path(i, keys.len()) {
@@ -128,7 +135,7 @@ impl PublicTree {
     /// (22) where no member is at leaf i, whatever memory there is.
     pub fn ciphertext_counts(&self, i: u32, added: &[u32]) -> Result<Vec<usize>, TreeError>
         ensures answer { Answers (λ v. v.items) number_of (counts_answer (term self.now) i added.now) result }
-        ensures refused { RefusesOutright number_of (counts_answer (term self.now) i added.now) result }
+        ensures outright { RefusesOutright number_of (counts_answer (term self.now) i added.now) result }
     {
         match self.require_member(i) {
             Err(error) => return Err(error),
@@ -144,13 +151,15 @@ impl PublicTree {
     /// where there aren't as many keys as its filtered path has parents.
     pub fn path_parent_hash(&mut self, i: u32, keys: &[Bytes]) -> Result<Vec<u8>, TreeError>
         ensures answer { Answers (λ v. v.items) number_of (path_hash_answer (term self.old) i keys.now) result }
-        ensures refused { RefusesOutright number_of (path_checks (term self.old) i (length keys.now)) result }
+        ensures outright { RefusesOutright number_of (path_checks (term self.old) i (length keys.now)) result }
         ensures same { term self.new ≡ term self.old }
+        ensures warms { Warms self.old self.new }
     {
         match self.require_path(i, keys.len()) {
             Err(error) => return Err(error),
             Ok(()) => {}
         }
+        let _tree_hash = self.tree_hash();
         let hash = self.path_hash(i, keys);
         Ok(Vec::from_slice(*self.nodes.allocator(), array::bytes_of(&hash))?)
     }
@@ -163,13 +172,17 @@ impl PublicTree {
     pub fn merge_path(&mut self, i: u32, leaf: LeafNode, keys: Vec<Bytes>) -> Result<(), TreeError>
         ensures answer { ChangesWhole number_of (merge_answer (term self.old) i leaf keys.items) (term self.old) (term self.new) result }
         // 22 and 30 come whatever memory there is.
-        ensures refused { RefusesOutright number_of (path_checks (term self.old) i (length keys.items)) result }
+        ensures outright { RefusesOutright number_of (path_checks (term self.old) i (length keys.items)) result }
         // A good tree stays good where the leaf and the keys pass the checks.
         ensures good { OnOk result (KeepsGood (λ rules. AreNew rules i leaf keys.items (put 0 (term self.old) i None)) (term self.old) (term self.new)) }
+        // It warms nodes, and then makes the leaf and the nodes over it cold.
+        ensures cold { OnOk result ((between : Tree) × Warms self.old between × (term between ≡ term self.old) × Chills (term self.old) i between self.new) }
+        ensures warms { OnErr result (Warms self.old self.new) }
         // A sound tree becomes good, as keys are checked here, where no client repeats in it and the leaf keeps its
         // signature key.
         ensures checked { OnOk result (MergesGood i leaf keys.items (term self.old) (term self.new)) }
     {
+        let _tree_hash = self.tree_hash();
         let parents = match self.require_merge(i, &leaf, keys) {
             Err(error) => return Err(error),
             Ok(parents) => parents,
@@ -177,6 +190,7 @@ impl PublicTree {
         let height = self.height;
         let leaf = SharedLeaf::new(*self.nodes.allocator(), leaf)?;
         merge(&mut self.nodes, height, i, leaf, parents);
+        self.hashes.drop_way(height, i);
         Ok(())
     }
 }

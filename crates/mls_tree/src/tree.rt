@@ -1,6 +1,6 @@
 //! The public tree.
 
-ghost use Rattle.std.specs.Prelude.{◌≡◌, ◌<◌, ◌≤◌, ◌&&◌, [], Some, None, is_some, true, IfOk, OnOk, MatchResult, length};
+ghost use Rattle.std.specs.Prelude.{◌≡◌, ◌<◌, ◌≤◌, ◌&&◌, [], Some, None, is_some, true, IfOk, OnOk, OnErr, MatchResult, length};
 ghost use Rattle.std.specs.Option.{option_copied};
 ghost use Rattle.mls_wire.specs.Checks.{Answers, DoesAs, require};
 ghost use Rattle.mls_term.specs.Term.{Leaf, has_leaf, leaf_of, width};
@@ -8,8 +8,11 @@ ghost use Rattle.mls_term.specs.Places.{resolution_at};
 ghost use Rattle.mls_term.specs.Keys.{members};
 ghost use Rattle.mls_term.specs.Hashes.{tree_hash};
 ghost use Rattle.mls_term.specs.Arrays.{has_last, alternates, from_nodes, to_nodes, node_at};
-ghost use Rattle.mls_term.specs.Edits.{put, place_in};
+ghost use Rattle.mls_term.specs.Edits.{first_blank, put, room_for, place_in};
 ghost use Rattle.mls_term.specs.Good.{Rules, IsGood, AreNew, AreFit, has_good_shape};
+ghost use Rattle.mls_hash.specs.Counter.{counted};
+ghost use Rattle.mls_array.specs.Kept.{hashes_of, cold_places};
+ghost use Rattle.mls_tree.specs.Cold.{IsNew, Chills};
 ghost use Rattle.mls_tree.specs.Faults.{number_of};
 ghost use Rattle.mls_tree.specs.declared.error.TreeError.TheVariants.{NoSuchLeaf};
 ghost use Rattle.mls_tree.specs.Kept.{KeepsGood, KeepsSound};
@@ -20,7 +23,7 @@ ghost use Rattle.mls_tree.specs.Tree.{term, max_leaves, path_answer, add_answer,
 
 use crate::edits;
 use crate::error::TreeError;
-use mls_array::{self as array, Hash};
+use mls_array::{self as array, Hash, Hashes};
 use mls_leaf::{LeafNode, Node};
 use mls_slot::{SharedLeaf, Slot};
 use mls_treemath::MAX_HEIGHT;
@@ -33,20 +36,23 @@ use std::marker::Model;
 #[derive(Drop)]
 pub struct PublicTree {
     pub(crate) nodes: Vec<Slot>,
+    pub(crate) hashes: Hashes,
     pub(crate) height: u32,
 }
 
 impl Model for PublicTree {
     ghost use Rattle.std.specs.Prelude.{◌≤◌};
     ghost use Rattle.mls_treemath.specs.Limits.{max_height};
+    ghost use Rattle.mls_term.specs.Arrays.{term_of};
     ghost use Rattle.mls_array.specs.Standing.{Stands};
+    ghost use Rattle.mls_array.specs.Kept.{Keeps};
     ghost use Rattle.mls_tree.specs.Tree.{Tree};
 
     ghost Value = { Tree };
 
-    ghost view = { λ t. record { levels = t.height; listing = t.nodes.items } };
+    ghost view = { λ t. record { levels = t.height; listing = t.nodes.items; kept = t.hashes.kept; done = t.hashes.done } };
 
-    ghost invariant = { λ t. Stands t.height t.nodes.items × (t.height ≤ max_height) };
+    ghost invariant = { λ t. Stands t.height t.nodes.items × (t.height ≤ max_height) × Keeps 0 (term_of t.height t.nodes.items) t.hashes.kept };
 }
 
 impl PublicTree {
@@ -55,11 +61,17 @@ impl PublicTree {
         ensures tree { IfOk result (λ t. term t ≡ Leaf (Some leaf)) }
         // It is good where the leaf passes the checks.
         ensures good { IfOk result (λ t. (rules : Rules) → 0 < rules.limit → AreNew rules 0 leaf [] (Leaf None) → IsGood rules (term t)) }
+        ensures cold { IfOk result IsNew }
     {
         let mut nodes = Vec::with_capacity(alloc, 1)?;
         let leaf = SharedLeaf::new(alloc, leaf)?;
         nodes.push(leaf.into_slot())?;
-        Ok(PublicTree { nodes, height: 0 })
+        let hashes = Hashes::none(alloc, 1)?;
+        Ok(PublicTree {
+            nodes,
+            hashes,
+            height: 0,
+        })
     }
 
     /// The tree of nodes in order, as it is sent (RFC 9420, 12.4.3.3): blank nodes follow up to the least tree that
@@ -69,10 +81,11 @@ impl PublicTree {
     pub fn from_nodes(nodes: Vec<Slot>) -> Result<PublicTree, TreeError>
         ensures answer { Answers term number_of (from_nodes max_leaves nodes.items) result }
         // 20 comes whatever memory there is, where the nodes alone show it.
-        ensures refused { RefusesOutright number_of (require 20 (has_last nodes.items && alternates true nodes.items)) result }
+        ensures outright { RefusesOutright number_of (require 20 (has_last nodes.items && alternates true nodes.items)) result }
         ensures shape { IfOk result (λ t. has_good_shape (term t) ≡ true) }
         // Its leaves are short where the nodes are, as those of an input are.
         ensures short { IfOk result (λ t. AreShort nodes.items → HasShortLeaves (term t)) }
+        ensures cold { IfOk result IsNew }
     {
         if !array::has_last(&nodes) {
             return Err(TreeError::TreeShape);
@@ -88,7 +101,12 @@ impl PublicTree {
         if height > MAX_HEIGHT {
             return Err(TreeError::TreeFull);
         }
-        Ok(PublicTree { nodes, height })
+        let hashes = Hashes::none(*nodes.allocator(), nodes.len())?;
+        Ok(PublicTree {
+            nodes,
+            hashes,
+            height,
+        })
     }
 
     /// The nodes in order, as they are sent: all up to the last one that isn't blank (RFC 9420, 12.4.3.3). They are
@@ -152,7 +170,7 @@ impl PublicTree {
     /// where no member is there.
     pub fn filtered_path(&self, i: u32) -> Result<Vec<u32>, TreeError>
         ensures answer { Answers (λ v. v.items) number_of (path_answer (term self.now) i) result }
-        ensures refused { RefusesOutright number_of (path_answer (term self.now) i) result }
+        ensures outright { RefusesOutright number_of (path_answer (term self.now) i) result }
     {
         match self.require_member(i) {
             Err(error) => return Err(error),
@@ -167,8 +185,19 @@ impl PublicTree {
     pub fn tree_hash(&mut self) -> Hash
         ensures value { result ≡ tree_hash 0 (term self.old) }
         ensures same { term self.new ≡ term self.old }
+        // Afterwards no node is cold. What was made is counted.
+        ensures all { self.new.kept ≡ hashes_of 0 (term self.old) }
+        ensures counted { self.new.done ≡ counted self.old.done (cold_places self.old.kept) }
     {
-        array::tree_hash(&self.nodes, self.height, 0)
+        self.hashes.fill(&self.nodes, self.height)
+    }
+
+    /// How many hashes of nodes were made of this tree and those that it was copied from; the counter stays at its
+    /// greatest number.
+    pub fn hashes_done(&self) -> u64
+        ensures { result ≡ self.now.done }
+    {
+        self.hashes.done()
     }
 
     /// Adds a member at the leftmost blank leaf, in a tree of twice the leaves where none is blank, and answers its leaf
@@ -176,10 +205,12 @@ impl PublicTree {
     /// memory there is.
     pub fn add(&mut self, leaf: LeafNode) -> Result<u32, TreeError>
         ensures answer { DoesAs (λ i. i) number_of (add_answer (term self.old) leaf) (term self.old) (term self.new) result }
-        ensures refused { RefusesOutright number_of (add_answer (term self.old) leaf) result }
+        ensures outright { RefusesOutright number_of (add_answer (term self.old) leaf) result }
         // A good tree stays good where the leaf passes the checks, and a sound one sound.
         ensures good { OnOk result (KeepsGood (λ rules. (max_leaves ≤ rules.limit) × AreNew rules (place_in (term self.old)) leaf [] (term self.old)) (term self.old) (term self.new)) }
         ensures sound { OnOk result (KeepsSound (λ rules. (max_leaves ≤ rules.limit) × AreFit rules (place_in (term self.old)) leaf []) (term self.old) (term self.new)) }
+        ensures cold { IfOk result (λ i. Chills (room_for (first_blank 0 (term self.old)) (term self.old)) i self.old self.new) }
+        ensures refused { OnErr result (self.new ≡ self.old) }
     {
         let height = self.height;
         let alloc = *self.nodes.allocator();
@@ -187,6 +218,7 @@ impl PublicTree {
             Some(i) => {
                 let leaf = SharedLeaf::new(alloc, leaf)?;
                 edits::enter(&mut self.nodes, height, i, leaf)?;
+                self.hashes.drop_way(height, i);
                 Ok(i)
             }
             None => {
@@ -194,7 +226,7 @@ impl PublicTree {
                     return Err(TreeError::TreeFull);
                 }
                 let leaf = SharedLeaf::new(alloc, leaf)?;
-                edits::append(&mut self.nodes, height, leaf)?;
+                edits::append(&mut self.nodes, &mut self.hashes, height, leaf)?;
                 self.height = height + 1;
                 Ok(1 << height)
             }
@@ -205,10 +237,12 @@ impl PublicTree {
     /// member is there. After a refusal the tree is as before.
     pub fn update(&mut self, i: u32, leaf: LeafNode) -> Result<(), TreeError>
         ensures answer { ChangesWhole number_of (update_answer (term self.old) i leaf) (term self.old) (term self.new) result }
-        ensures refused { RefusesOutright number_of (update_answer (term self.old) i leaf) result }
+        ensures outright { RefusesOutright number_of (update_answer (term self.old) i leaf) result }
         // A good tree stays good where the leaf passes the checks, and a sound one sound.
         ensures good { OnOk result (KeepsGood (λ rules. AreNew rules i leaf [] (put 0 (term self.old) i None)) (term self.old) (term self.new)) }
         ensures sound { OnOk result (KeepsSound (λ rules. AreFit rules i leaf []) (term self.old) (term self.new)) }
+        ensures cold { OnOk result (Chills (term self.old) i self.old self.new) }
+        ensures refused { OnErr result (self.new ≡ self.old) }
     {
         match self.require_member(i) {
             Err(error) => return Err(error),
@@ -217,6 +251,7 @@ impl PublicTree {
         let leaf = SharedLeaf::new(*self.nodes.allocator(), leaf)?;
         let height = self.height;
         edits::put(&mut self.nodes, height, i, Some(leaf));
+        self.hashes.drop_way(height, i);
         Ok(())
     }
 
@@ -227,6 +262,8 @@ impl PublicTree {
         // A good tree stays good where another member is left, and a sound one sound.
         ensures good { OnOk result (KeepsGood (λ _. has_leaf (put 0 (term self.old) i None) ≡ true) (term self.old) (term self.new)) }
         ensures sound { OnOk result (KeepsSound (λ _. has_leaf (put 0 (term self.old) i None) ≡ true) (term self.old) (term self.new)) }
+        ensures cold { OnOk result (Chills (term self.old) i self.old self.new) }
+        ensures refused { OnErr result (self.new ≡ self.old) }
     {
         match self.require_member(i) {
             Err(error) => return Err(error),
@@ -234,7 +271,9 @@ impl PublicTree {
         }
         let height = self.height;
         edits::put(&mut self.nodes, height, i, None);
+        self.hashes.drop_way(height, i);
         self.height = edits::trim(&mut self.nodes, height);
+        self.hashes.cut(self.nodes.len());
         Ok(())
     }
 }
@@ -245,6 +284,7 @@ impl Clone for PublicTree {
     fn clone(&self) -> Result<PublicTree, AllocError> {
         Ok(PublicTree {
             nodes: self.nodes.clone()?,
+            hashes: self.hashes.clone()?,
             height: self.height,
         })
     }

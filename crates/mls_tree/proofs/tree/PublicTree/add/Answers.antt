@@ -4,6 +4,9 @@ use Rattle.mls_tree.specs.Tree.{term}
 use Rattle.mls_tree.proofs.Keeping.{add_good, add_sound}
 use Rattle.mls_tree.proofs.Adding.{add_full, may_add_in, may_add_beside, add_in, add_beside}
 use Rattle.mls_tree.proofs.Refused.{one_number, not_refused}
+use Rattle.mls_tree.proofs.Keepings.{kept_long, kept-enter, kept-appended}
+use Rattle.mls_term.specs.ArrayLaws.{perfect-term_of}
+use Rattle.mls_tree.proofs.Chilling.{added_in, added_beside}
 use Rattle.mls_tree.proofs.tree.PublicTree.add.Goals as goal
 
 pub returns-then-height-eq-MAX_HEIGHT-clause-answer : goal.returns-then-height-eq-MAX_HEIGHT-clause-answer
@@ -35,30 +38,54 @@ pub returns-in_ok-append-in-None-clause-sound : goal.returns-in_ok-append-in-Non
 returns-in_ok-append-in-None-clause-sound c =
     add_sound _ _ c.args.leaf _ (returns-in_ok-append-in-None-clause-answer c)
 
-pub returns-then-height-eq-MAX_HEIGHT-clause-refused : goal.returns-then-height-eq-MAX_HEIGHT-clause-refused
-returns-then-height-eq-MAX_HEIGHT-clause-refused c =
+pub returns-then-height-eq-MAX_HEIGHT-clause-outright : goal.returns-then-height-eq-MAX_HEIGHT-clause-outright
+returns-then-height-eq-MAX_HEIGHT-clause-outright c =
     one_number _ 21 (add_full c.args.self.now c.args.leaf c.self.inside.height c.self.inside.nodes.items _ (ap term c.self.view_is) c.deref.ensures.value c.self.invariant.1 c.in-None.ensures c.if-height-eq-MAX_HEIGHT.true)
 
-pub returns-in_err-enter-in-Some-clause-refused : goal.returns-in_err-enter-in-Some-clause-refused
-returns-in_err-enter-in-Some-clause-refused c = λ n h.
+pub returns-in_err-enter-in-Some-clause-outright : goal.returns-in_err-enter-in-Some-clause-outright
+returns-in_err-enter-in-Some-clause-outright c = λ n h.
     absurd (not_refused _ _ (may_add_in c.args.self.now c.args.leaf c.self.inside.height c.self.inside.nodes.items _ (ap term c.self.view_is) c.deref.ensures.value c.self.invariant.1 _ c.in-Some.ensures) n h)
 
-pub returns-in_err-append-in-None-clause-refused : goal.returns-in_err-append-in-None-clause-refused
-returns-in_err-append-in-None-clause-refused c = λ n h.
+pub returns-in_err-append-in-None-clause-outright : goal.returns-in_err-append-in-None-clause-outright
+returns-in_err-append-in-None-clause-outright c = λ n h.
     let low = c.self.invariant.1 in
     absurd (not_refused _ _ (may_add_beside c.args.self.now c.args.leaf c.self.inside.height c.self.inside.nodes.items _ (ap term c.self.view_is) c.deref.ensures.value c.self.invariant.1 c.in-None.ensures (let other = c.if-height-eq-MAX_HEIGHT.false in omega arith)) n h)
 
-pub returns-in_ok-enter-in-Some-clause-refused : goal.returns-in_ok-enter-in-Some-clause-refused
-returns-in_ok-enter-in-Some-clause-refused c = not_refused _ _ (returns-in_ok-enter-in-Some-clause-answer c)
+pub returns-in_ok-enter-in-Some-clause-outright : goal.returns-in_ok-enter-in-Some-clause-outright
+returns-in_ok-enter-in-Some-clause-outright c = not_refused _ _ (returns-in_ok-enter-in-Some-clause-answer c)
 
-pub returns-in_ok-append-in-None-clause-refused : goal.returns-in_ok-append-in-None-clause-refused
-returns-in_ok-append-in-None-clause-refused c = not_refused _ _ (returns-in_ok-append-in-None-clause-answer c)
+pub returns-in_ok-append-in-None-clause-outright : goal.returns-in_ok-append-in-None-clause-outright
+returns-in_ok-append-in-None-clause-outright c = not_refused _ _ (returns-in_ok-append-in-None-clause-answer c)
 
-pub returns-in_err-leaf-in-Some-clause-refused : goal.returns-in_err-leaf-in-Some-clause-refused
-returns-in_err-leaf-in-Some-clause-refused c = λ n h.
+pub returns-in_err-leaf-in-Some-clause-outright : goal.returns-in_err-leaf-in-Some-clause-outright
+returns-in_err-leaf-in-Some-clause-outright c = λ n h.
     absurd (not_refused _ _ (may_add_in c.args.self.now c.args.leaf c.self.inside.height c.self.inside.nodes.items _ (ap term c.self.view_is) c.deref.ensures.value c.self.invariant.1 _ c.in-Some.ensures) n h)
 
-pub returns-in_err-leaf-in-None-clause-refused : goal.returns-in_err-leaf-in-None-clause-refused
-returns-in_err-leaf-in-None-clause-refused c = λ n h.
+pub returns-in_err-leaf-in-None-clause-outright : goal.returns-in_err-leaf-in-None-clause-outright
+returns-in_err-leaf-in-None-clause-outright c = λ n h.
     let low = c.self.invariant.1 in
     absurd (not_refused _ _ (may_add_beside c.args.self.now c.args.leaf c.self.inside.height c.self.inside.nodes.items _ (ap term c.self.view_is) c.deref.ensures.value c.self.invariant.1 c.in-None.ensures (let other = c.if-height-eq-MAX_HEIGHT.false in omega arith)) n h)
+
+pub drop_way-requires-clause-shape : goal.drop_way-requires-clause-shape
+drop_way-requires-clause-shape c = kept_long c.self.inside.height c.self.inside.nodes.items _ c.self.invariant.2
+
+pub invariant_of-self-in-Some : goal.invariant_of-self-in-Some
+invariant_of-self-in-Some c =
+    let stands = rw c.in_ok-leaf-in-Some.ensures at c.in_ok-enter-in-Some.ensures.ok in
+    (stands.stands, c.self.invariant.1, kept-enter _ _ _ c.self.invariant.2 _ _ _ _ _ (c.drop_way.ensures.kept _ (perfect-term_of _ _)) stands)
+
+pub invariant_of-self-in-None : goal.invariant_of-self-in-None
+invariant_of-self-in-None c =
+    let stands = rw c.in_ok-leaf-in-None.ensures at c.in_ok-append-in-None.ensures.ok in
+    let low = c.self.invariant.1 in
+    let other = c.if-height-eq-MAX_HEIGHT.false in
+    (stands.stands, omega arith, kept-appended _ _ _ _ _ _ _ c.self.invariant.2 c.in_ok-append-in-None.ensures.kept stands)
+
+pub returns-in_ok-enter-in-Some-clause-cold : goal.returns-in_ok-enter-in-Some-clause-cold
+returns-in_ok-enter-in-Some-clause-cold c =
+    added_in c.self.inside.height c.self.inside.nodes.items _ _ _ _ c.self.view_is c.deref.ensures.value c.self.invariant.2 _ c.in-Some.ensures _ _ _ (c.drop_way.ensures.kept _ (perfect-term_of _ _)) c.drop_way.ensures.done
+
+pub returns-in_ok-append-in-None-clause-cold : goal.returns-in_ok-append-in-None-clause-cold
+returns-in_ok-append-in-None-clause-cold c =
+    let low = c.self.invariant.1 in
+    added_beside c.self.inside.height c.self.inside.nodes.items _ _ _ _ c.self.view_is c.deref.ensures.value c.self.invariant.2 _ c.in-None.ensures (one_shl c.self.inside.height 32 (omega arith)) _ _ _ c.in_ok-append-in-None.ensures.kept c.in_ok-append-in-None.ensures.done

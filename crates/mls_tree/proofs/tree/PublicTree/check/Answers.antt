@@ -1,4 +1,4 @@
-use Rattle.std.proofs.Common.{◌≡◌, ◌^◌, ◌≤◌, ap, ◌∙◌, sym, arith}
+use Rattle.std.proofs.Common.{◌≡◌, ◌^◌, ◌≤◌, length, ap, ◌∙◌, sym, arith}
 use Rattle.std.proofs.Math.Pow.{pow_mono}
 use Rattle.mls_term.specs.Term.{width}
 use Rattle.mls_term.specs.Arrays.{term_of}
@@ -8,12 +8,20 @@ use Rattle.mls_tree.specs.Tree.{term, max_leaves}
 use Rattle.mls_tree.specs.Rules.{rules_of}
 use Rattle.mls_tree.specs.Perfect.{perfect}
 use Rattle.mls_tree.proofs.Checked.{good_checked}
+use Rattle.mls_tree.proofs.Keepings.{kept_long}
+use Rattle.mls_tree.proofs.Chilling.{warmed}
 use Rattle.mls_tree.proofs.tree.PublicTree.check.Goals as goal
 
 pub returns-clause-good : goal.returns-clause-good
 returns-clause-good g c =
-    let at : term_of c.self.inside.height c.deref.result.now ≡ term c.args.self.now = ap (term_of c.self.inside.height) c.deref.ensures.value ∙ ap term c.self.view_is in
+    let at : term_of c.self.inside.height c.deref.result.now ≡ term c.args.self.now = ap (term_of c.self.inside.height) c.deref.ensures.value ∙ ap term c.self.view_is ∙ c.tree_hash-tree_hash.ensures.same in
     let wide = ap width (sym at) ∙ width-term_of c.self.inside.height c.deref.result.now in
     let low : 2 ^ c.self.inside.height ≤ max_leaves = pow_mono c.self.invariant.1 in
     good_checked (rules_of g.S.Suite.crypto c.args.group_id.now) _ (term c.args.self.now) at c.check.result c.check.ensures.answer c.check.ensures.rising (perfect c.args.self.now)
     (within_from max_leaves (term c.args.self.now) (omega arith))
+
+pub check-requires-clause-long : goal.check-requires-clause-long
+check-requires-clause-long g c = ap length c.as_slice-kept.ensures ∙ kept_long c.self.inside.height c.self.inside.nodes.items _ c.self.invariant.2
+
+pub returns-clause-warms : goal.returns-clause-warms
+returns-clause-warms g c = warmed c.args.self.now c.tree_hash-tree_hash.new.self c.tree_hash-tree_hash.ensures.all c.tree_hash-tree_hash.ensures.counted

@@ -1,3 +1,4 @@
+use Rattle.mls_tree.proofs.Keepings.{cold_by}
 use Rattle.std.proofs.Common.{true, subst, ap, ◌∙◌, sym, length, arith}
 use Rattle.mls_term.specs.Term.{is_full_width}
 use Rattle.mls_term.specs.Good.{has_good_shape}
@@ -6,6 +7,8 @@ use Rattle.mls_tree.specs.Short.{HasShortLeaves}
 use Rattle.mls_tree.specs.ShortLeaves.{short_leaves}
 use Rattle.mls_tree.specs.Sent.{sent_is}
 use Rattle.mls_tree.proofs.Receiving.{no_last, misplaced, stands_as, half_empty, too_large, received}
+use Rattle.mls_term.specs.ArrayLaws.{size-term_of}
+use Rattle.mls_tree.proofs.Chilling.{new_tree}
 use Rattle.mls_tree.proofs.tree.PublicTree.from_nodes.Goals as goal
 
 pub returns-then-not-has_last-clause-answer : goal.returns-then-not-has_last-clause-answer
@@ -43,7 +46,8 @@ pub invariant_of-result : goal.invariant_of-result
 invariant_of-result c =
     let last = ap has_last (sym c.deref.ensures.value) ∙ sym c.has_last.ensures ∙ c.if-not-has_last.false in
     let placed = ap (alternates true) (sym c.deref-2.ensures.value) ∙ sym c.alternates.ensures ∙ c.if-not-alternates.false in
-    (stands_as c.args.nodes.items last placed _ _ c.in_ok-height.ensures.height c.in_ok-height.ensures.ok, let low = c.if-height-gt-MAX_HEIGHT.false in omega arith)
+    let stands = stands_as c.args.nodes.items last placed _ _ c.in_ok-height.ensures.height c.in_ok-height.ensures.ok in
+    (stands, let low = c.if-height-gt-MAX_HEIGHT.false in omega arith, cold_by c.in_ok-height.height _ _ _ _ c.in_ok-hashes.ensures (c.len.ensures ∙ c.pad_tree.new.nodes.ok.0 ∙ stands.size))
 
 pub returns-clause-answer : goal.returns-clause-answer
 returns-clause-answer c =
@@ -61,3 +65,10 @@ returns-clause-shape c =
 pub returns-clause-short : goal.returns-clause-short
 returns-clause-short c = λ short.
     subst HasShortLeaves (sent_is c.args.nodes.items _ (returns-clause-answer c)).0 (short_leaves c.args.nodes.items short)
+
+pub returns-clause-cold : goal.returns-clause-cold
+returns-clause-cold c =
+    let last = ap has_last (sym c.deref.ensures.value) ∙ sym c.has_last.ensures ∙ c.if-not-has_last.false in
+    let placed = ap (alternates true) (sym c.deref-2.ensures.value) ∙ sym c.alternates.ensures ∙ c.if-not-alternates.false in
+    let stands = stands_as c.args.nodes.items last placed _ _ c.in_ok-height.ensures.height c.in_ok-height.ensures.ok in
+    new_tree _ _ (ap (λ h. h.kept) c.in_ok-hashes.ensures) (c.len.ensures ∙ c.pad_tree.new.nodes.ok.0 ∙ stands.size ∙ sym (size-term_of c.in_ok-height.height _)) (ap (λ h. h.done) c.in_ok-hashes.ensures)

@@ -1,27 +1,51 @@
-use Rattle.std.proofs.Common.{Ok, [], reverse, refl, sym, ◌∙◌, ap}
+use Rattle.std.proofs.Common.{Ok, [], reverse, sym, ◌∙◌, ap, subst}
 use Rattle.mls_term.specs.Merge.{merge_path}
+use Rattle.mls_term.specs.ArrayLaws.{perfect-term_of}
 use Rattle.mls_array.specs.Merging.{path_parents}
+use Rattle.mls_tree.specs.Cold.{Chills}
 use Rattle.mls_tree.specs.Tree.{term}
-use Rattle.mls_tree.proofs.Keeping.{merge_checked, merge_new}
+use Rattle.mls_tree.proofs.Keeping.{has_member, merge_checked, merge_new}
+use Rattle.mls_tree.proofs.Keepings.{kept_long, kept-merge}
 use Rattle.mls_tree.proofs.Pathing.{merge_refused, merge_done}
+use Rattle.mls_tree.proofs.Chilling.{tree_of, warmed, edited_in, on_err}
 use Rattle.mls_tree.proofs.tree.PublicTree.merge_path.Goals as goal
 
 pub returns-in-Err-clause-answer : goal.returns-in-Err-clause-answer
-returns-in-Err-clause-answer c = (refl, λ other. merge_refused _ _ _ _ _ (c.in-Err.ensures.checks other))
+returns-in-Err-clause-answer c =
+    (c.tree_hash-tree_hash.ensures.same, λ other. rw c.tree_hash-tree_hash.ensures.same at (merge_refused _ _ _ _ _ (c.in-Err.ensures.checks other)))
+
+pub drop_way-requires-clause-shape : goal.drop_way-requires-clause-shape
+drop_way-requires-clause-shape c = kept_long c.self.inside.height c.self.inside.nodes.items _ c.self.invariant.2
 
 pub invariant_of-self : goal.invariant_of-self
 invariant_of-self c =
     let made = c.in-Ok.ensures.parents ∙ ap (λ t. path_parents 0 (term t) c.args.i (reverse c.args.keys.items) []) (sym c.self.view_is) in
-    ((c.merge.ensures c.args.keys.items made).stands, c.self.invariant.1)
+    let stands = c.merge.ensures c.args.keys.items made in
+    (stands.stands, c.self.invariant.1, kept-merge _ _ _ c.self.invariant.2 _ _ _ _ _ _ (c.drop_way.ensures.kept _ (perfect-term_of _ _)) stands)
 
 pub returns-clause-answer : goal.returns-clause-answer
 returns-clause-answer c =
     let made = c.in-Ok.ensures.parents ∙ ap (λ t. path_parents 0 (term t) c.args.i (reverse c.args.keys.items) []) (sym c.self.view_is) in
-    merge_done _ _ _ _ c.in-Ok.ensures.checks
-    ∙ ap Ok (ap (λ t. merge_path (term t) c.args.i c.args.leaf c.args.keys.items) (sym c.self.view_is) ∙ sym (rw c.in_ok-leaf.ensures at (c.merge.ensures c.args.keys.items made).term))
+    rw c.tree_hash-tree_hash.ensures.same at (merge_done _ _ _ _ c.in-Ok.ensures.checks
+    ∙ ap Ok (ap (λ t. merge_path (term t) c.args.i c.args.leaf c.args.keys.items) (sym c.self.view_is) ∙ sym (rw c.in_ok-leaf.ensures at (c.merge.ensures c.args.keys.items made).term)))
 
 pub returns-clause-good : goal.returns-clause-good
 returns-clause-good c = merge_new _ _ _ _ _ (returns-clause-answer c)
 
 pub returns-clause-checked : goal.returns-clause-checked
 returns-clause-checked c = merge_checked _ _ _ _ _ (returns-clause-answer c)
+
+pub returns-in-Err-clause-warms : goal.returns-in-Err-clause-warms
+returns-in-Err-clause-warms c = warmed c.args.self.now c.tree_hash-tree_hash.new.self c.tree_hash-tree_hash.ensures.all c.tree_hash-tree_hash.ensures.counted
+
+pub returns-clause-cold : goal.returns-clause-cold
+returns-clause-cold c = (
+  c.tree_hash-tree_hash.new.self,
+  warmed c.args.self.now c.tree_hash-tree_hash.new.self c.tree_hash-tree_hash.ensures.all c.tree_hash-tree_hash.ensures.counted,
+  c.tree_hash-tree_hash.ensures.same,
+  subst (λ t. Chills t c.args.i c.tree_hash-tree_hash.new.self (tree_of c.self.inside.height c.merge.new.nodes.items c.drop_way.new.self.kept c.drop_way.new.self.done)) c.tree_hash-tree_hash.ensures.same
+      (edited_in c.self.inside.height c.args.i c.self.inside.nodes.items _ _ _ c.self.view_is c.self.invariant.2 (has_member _ _ _ _ c.in-Ok.ensures.checks) c.merge.new.nodes.items c.drop_way.new.self.kept c.drop_way.new.self.done (c.drop_way.ensures.kept _ (perfect-term_of _ _)) c.drop_way.ensures.done),
+)
+
+pub returns-in_err-leaf-clause-warms : goal.returns-in_err-leaf-clause-warms
+returns-in_err-leaf-clause-warms c = on_err _ _ (warmed c.args.self.now c.tree_hash-tree_hash.new.self c.tree_hash-tree_hash.ensures.all c.tree_hash-tree_hash.ensures.counted)

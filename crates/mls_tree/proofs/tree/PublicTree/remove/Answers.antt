@@ -1,10 +1,13 @@
-use Rattle.std.proofs.Common.{ap, ◌∙◌, sym, refl, None, Ok}
+use Rattle.std.proofs.Common.{arith, ap, ◌∙◌, sym, refl, None, Ok}
 use Rattle.mls_term.specs.Edits.{put, trim}
 use Rattle.mls_term.specs.Equations.{remove_is}
 use Rattle.mls_tree.specs.Tree.{term}
 use Rattle.mls_tree.specs.Faults.{number_of}
 use Rattle.mls_tree.proofs.Keeping.{remove_good, remove_sound}
 use Rattle.mls_tree.proofs.Answering.{remove_refused, remove_done}
+use Rattle.mls_tree.proofs.Keepings.{kept_long, kept-put, kept-trimmed}
+use Rattle.mls_term.specs.ArrayLaws.{perfect-term_of}
+use Rattle.mls_tree.proofs.Chilling.{trimmed_in}
 use Rattle.mls_tree.proofs.tree.PublicTree.remove.Goals as goal
 
 pub returns-in-Err-clause-answer : goal.returns-in-Err-clause-answer
@@ -23,3 +26,17 @@ returns-clause-good c = remove_good _ _ c.args.i (returns-clause-answer c)
 
 pub returns-clause-sound : goal.returns-clause-sound
 returns-clause-sound c = remove_sound _ _ c.args.i (returns-clause-answer c)
+
+pub drop_way-requires-clause-shape : goal.drop_way-requires-clause-shape
+drop_way-requires-clause-shape c = kept_long c.self.inside.height c.self.inside.nodes.items _ c.self.invariant.2
+
+pub invariant_of-self : goal.invariant_of-self
+invariant_of-self c =
+    let low = c.self.invariant.1 in
+    let small = c.trim-self-inside.ensures.low in
+    let kept = kept-put _ _ _ c.self.invariant.2 _ _ _ _ _ (c.drop_way.ensures.kept _ (perfect-term_of _ _)) c.put.ensures in
+    (c.trim-self-inside.ensures.order.stands, omega arith, kept-trimmed _ _ _ _ _ _ _ kept c.trim-self-inside.ensures.order (c.len.ensures ∙ c.trim-self-inside.new.nodes.ok.0) (ap (λ h. h.kept) c.cut.ensures))
+
+pub returns-clause-cold : goal.returns-clause-cold
+returns-clause-cold c =
+    trimmed_in c.self.inside.height c.args.i c.self.inside.nodes.items _ _ _ c.self.view_is c.self.invariant.2 c.in-Ok.ensures _ _ _ _ _ _ (c.drop_way.ensures.kept _ (perfect-term_of _ _)) (ap (λ h. h.kept) c.cut.ensures) (c.len.ensures ∙ c.trim-self-inside.new.nodes.ok.0 ∙ c.trim-self-inside.ensures.order.stands.size) c.trim-self-inside.ensures.low (ap (λ h. h.done) c.cut.ensures ∙ c.drop_way.ensures.done)

@@ -1,11 +1,15 @@
-use Rattle.std.proofs.Common.{arith, subst, sym}
+use Rattle.std.proofs.Common.{arith, subst, sym, ap, ◌∙◌}
+use Rattle.mls_treemath.specs.Sizes.{nodes_in-zero}
+use Rattle.mls_tree.proofs.Keepings.{cold_by}
 use Rattle.mls_term.specs.Good.{IsGood}
 use Rattle.mls_term.specs.KeptLaws.{good_single}
 use Rattle.mls_tree.proofs.Singles.{single_stands}
+use Rattle.mls_term.specs.ArrayLaws.{size-term_of}
+use Rattle.mls_tree.proofs.Chilling.{new_tree}
 use Rattle.mls_tree.proofs.tree.PublicTree.single.Goals as goal
 
 pub invariant_of-result : goal.invariant_of-result
-invariant_of-result c = ((single_stands c.args.leaf _ (rw (c.in_ok-nodes.ensures.items, c.into_slot.ensures, c.in_ok-leaf.ensures) at c.in_ok-push.ensures.items)).stands, omega arith)
+invariant_of-result c = ((single_stands c.args.leaf _ (rw (c.in_ok-nodes.ensures.items, c.into_slot.ensures, c.in_ok-leaf.ensures) at c.in_ok-push.ensures.items)).stands, omega arith, cold_by 0 1 0 _ _ c.in_ok-hashes.ensures (sym nodes_in-zero))
 
 pub returns-clause-tree : goal.returns-clause-tree
 returns-clause-tree c = (single_stands c.args.leaf _ (rw (c.in_ok-nodes.ensures.items, c.into_slot.ensures, c.in_ok-leaf.ensures) at c.in_ok-push.ensures.items)).term
@@ -13,3 +17,6 @@ returns-clause-tree c = (single_stands c.args.leaf _ (rw (c.in_ok-nodes.ensures.
 pub returns-clause-good : goal.returns-clause-good
 returns-clause-good c rules room new =
     subst (IsGood rules) (sym (returns-clause-tree c)) (good_single rules c.args.leaf room new)
+
+pub returns-clause-cold : goal.returns-clause-cold
+returns-clause-cold c = new_tree _ 1 (ap (λ h. h.kept) c.in_ok-hashes.ensures) (sym (size-term_of 0 _ ∙ nodes_in-zero)) (ap (λ h. h.done) c.in_ok-hashes.ensures)
