@@ -1,19 +1,18 @@
 -- The kept hashes of a tree, by the root and its sides.
-use Rattle.std.proofs.Common.{◌≡◌, ℕ, zero, suc, ◌+◌, ◌-◌, ◌*◌, ◌/◌, ◌<◌, true, List, [], ◌∷◌, ◌++◌, length, get_or, take, drop, set, Option, Some, None, is_some, refl, sym, ◌∙◌, ap, subst, arith, length-append, append_assoc}
-use Rattle.std.proofs.lemmas.List.{get_or_at, take_at, drop_at, take_rest, take-append-drop, drop_more, drop_all, append-nil, length-drop, length-take-le, set_at}
-use borrow.Rule.Slice.PartMut.{put_mid}
+use Rattle.std.proofs.Common.{◌≡◌, ℕ, zero, suc, ◌+◌, ◌/◌, true, List, [], ◌∷◌, ◌++◌, length, get_or, Option, Some, None, is_some, refl, sym, ◌∙◌, ap, arith, length-append}
+use Rattle.std.proofs.lemmas.List.{get_or_at}
 use Rattle.mls_leaf.specs.Parent.{Parent}
 use Rattle.mls_leaf.specs.declared.node.Node.{Node}
 use Rattle.mls_treemath.specs.Paths.{nodes_in}
 use Rattle.mls_term.specs.Term.{Term, Leaf, Branch, width, size}
 use Rattle.mls_term.specs.Inputs.{leaf_hash}
 use Rattle.mls_term.specs.Hashes.{tree_hash}
-use Rattle.mls_term.specs.Arrays.{leaf_in, parent_in, term_of, HasMiddle}
+use Rattle.mls_term.specs.Arrays.{leaf_in, term_of}
 use Rattle.mls_term.specs.ArrayLaws.{size-term_of, term_of-zero, term_of-suc}
 use Rattle.mls_term.specs.Equations.{tree_hash_leaf}
-use Rattle.mls_array.specs.Kept.{hashes_of, Keeps, cold_places}
-use Rattle.mls_array.specs.KeptLaws.{length-hashes_of, keeps_sides, keeps_long, warm_leaf, warm_branch, KeepsSides, cold-append, cold-cons}
-use Rattle.mls_array.proofs.Readings.{leaf_term, left_side, right_side, InParts, in_sides}
+use Rattle.mls_array.specs.Kept.{hashes_of}
+use Rattle.mls_array.specs.KeptLaws.{length-hashes_of}
+use Rattle.mls_array.proofs.Readings.{leaf_term, left_side, right_side, InParts}
 
 pub hashes_one : (b h : ℕ) (xs : List (Option Node)) (n : Option Node) → h ≡ 0 → length xs ≡ nodes_in h → n ≡ get_or xs 0 n → hashes_of b (term_of h xs) ≡ Some (leaf_hash b (leaf_in n)) ∷ []
 unfolding hashes_of

@@ -1,6 +1,6 @@
 -- Hashes that are kept or dropped, one side at a time.
-use Rattle.std.proofs.Common.{◌≡◌, ℕ, zero, suc, ◌+◌, ◌-◌, ◌*◌, ◌/◌, ◌^◌, ◌<◌, ◌≤◌, true, List, [], ◌∷◌, ◌++◌, length, get_or, take, drop, set, min, Option, Some, None, refl, sym, ◌∙◌, ap, subst, arith}
-use Rattle.std.proofs.lemmas.List.{take-append-drop, drop_more, take_rest, get_or_at}
+use Rattle.std.proofs.Common.{◌≡◌, ℕ, suc, ◌+◌, ◌-◌, ◌*◌, ◌/◌, ◌^◌, ◌<◌, ◌≤◌, true, List, [], ◌∷◌, ◌++◌, length, get_or, take, drop, set, min, Option, Some, None, refl, sym, ◌∙◌, ap, subst, arith}
+use Rattle.std.proofs.lemmas.List.{take-append-drop, drop_more, get_or_at}
 use Rattle.std.proofs.lemmas.Bool.{true≢false, and_parts}
 use borrow.Rule.Slice.PartMut.{put_mid}
 use Rattle.mls_leaf.specs.declared.node.Node.{Node}
@@ -13,7 +13,7 @@ use Rattle.mls_term.specs.ShapeLaws.{width-perfect}
 use Rattle.mls_term.specs.ArrayLaws.{size-perfect}
 use Rattle.mls_hash.specs.Counter.{counted}
 use Rattle.mls_array.specs.Kept.{hashes_of, Keeps, dropped, cold_places}
-use Rattle.mls_array.specs.KeptLaws.{length-hashes_of, keeps_sides, keeps_long, warm_leaf, warm_branch, KeepsSides, cold-append, cold-cons, dropped_leaf, dropped_left, dropped_right, none_cold}
+use Rattle.mls_array.specs.KeptLaws.{length-hashes_of, keeps_sides, warm_leaf, warm_branch, KeepsSides, cold-append, cold-cons, dropped_leaf, dropped_left, dropped_right, none_cold}
 use Rattle.mls_term.specs.Inputs.{leaf_hash}
 use Rattle.mls_array.proofs.Hashed.{hash_one}
 use Rattle.mls_array.proofs.Hashings.{hashes_one, hashes_sides}

@@ -1,6 +1,6 @@
 -- Lists that stand for trees: their sides, and what an edit of a side makes of the whole.
 use Rattle.std.proofs.Common.{◌≡◌, ℕ, suc, ◌+◌, ◌-◌, ◌*◌, ◌/◌, ◌^◌, ◌<◌, List, [], ◌∷◌, ◌++◌, length, get_or, take, drop, set, Option, None, refl, sym, ◌∙◌, ap, subst, arith, length-append}
-use Rattle.std.proofs.lemmas.List.{take_at, drop_at, get_or_at, append_assoc, take-append-drop, drop_more, drop-set, take_more_set, drop_all, append-nil, length-drop}
+use Rattle.std.proofs.lemmas.List.{take_at, drop_at, get_or_at, append_assoc, take-append-drop, drop_more}
 use borrow.Rule.Slice.PartMut.{put_mid}
 use Rattle.mls_leaf.specs.Parent.{Parent}
 use Rattle.mls_leaf.specs.declared.node.Node.{Node}
@@ -12,6 +12,7 @@ use Rattle.mls_array.specs.Standing.{Stands}
 use Rattle.mls_term.specs.ArrayLaws.{perfect-term_of}
 use Rattle.mls_array.specs.StandingLaws.{in_order-branch, length-perfect}
 use Rattle.mls_array.proofs.Parts.{split, left_len, right_len, left_of_set, right_of_set}
+use Rattle.mls_array.proofs.Pieces.{set_then_front, set_then_back}
 
 length-of_term : (h : ℕ) (xs : List (Option Node)) → length (in_order (term_of h xs)) ≡ nodes_in h
 length-of_term h xs = length-perfect h (term_of h xs) (perfect-term_of h xs)
@@ -45,18 +46,10 @@ module _ (h n m : ℕ) (xs : List (Option Node)) (at : HasMiddle h n m) (len : l
 
   -- what is set or put in a side makes this list
   pub left_put : (sub : List (Option Node)) (c : Option Node) → sub ++ drop m (set xs m c) ≡ sub ++ (c ∷ drop (m + 1) xs)
-  left_put sub c = let w : n ≡ m + m + 1 = at.whole in ap (λ ys. sub ++ ys) (drop-set xs m c (omega arith))
+  left_put sub c = let w : n ≡ m + m + 1 = at.whole in set_then_front m xs c (omega arith) sub
 
   pub right_put : (sub : List (Option Node)) (c : Option Node) → put_mid (m + 1) (length (set xs m c) - (m + 1)) (set xs m c) sub ≡ take m xs ++ (c ∷ sub)
-  right_put sub c =
-      let w : n ≡ m + m + 1 = at.whole in
-      let front : take (m + 1) (set xs m c) ≡ take m xs ++ (c ∷ []) = take_more_set xs m c (omega arith) in
-      let none : drop (length (set xs m c) - (m + 1)) (drop (m + 1) (set xs m c)) ≡ [] =
-      drop_all (length (set xs m c) - (m + 1)) (drop (m + 1) (set xs m c)) (simp length-drop (omega arith)) in
-      ap (λ ys. ys ++ (sub ++ drop (length (set xs m c) - (m + 1)) (drop (m + 1) (set xs m c)))) front
-      ∙ ap (λ ys. (take m xs ++ (c ∷ [])) ++ (sub ++ ys)) none
-      ∙ ap (λ ys. (take m xs ++ (c ∷ [])) ++ ys) (append-nil sub)
-      ∙ append_assoc (take m xs) (c ∷ []) sub
+  right_put sub c = let w : n ≡ m + m + 1 = at.whole in set_then_back m xs c (omega arith) sub
 
   -- where the list stands for a tree, its sides do
   module _ (stands : Stands h xs) where

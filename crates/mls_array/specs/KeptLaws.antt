@@ -4,14 +4,13 @@ use Rattle.std.proofs.lemmas.List.{take_at, drop_at, get_or_at, length-take-le, 
 use Rattle.std.proofs.lemmas.Bool.{cases_lt, cond-true, cond-false, cond_both, ne_eqb, eq-eqb, true≢false, and_parts}
 use Rattle.std.proofs.lemmas.List.Sums.{sum_by-append}
 use Rattle.std.proofs.Math.Bool.{or-false, or-true}
-use Rattle.std.specs.List.{count_by}
 use Rattle.mls_leaf.specs.Parent.{Parent}
 use Rattle.mls_leaf.specs.declared.leaf.LeafNode.{LeafNode}
 use Rattle.mls_term.specs.Term.{Term, Leaf, Branch, width, size, height, blanks, has_leaf, is_perfect}
 use Rattle.mls_term.specs.Edits.{put, enter, grow, trim}
 use Rattle.mls_term.specs.Merge.{merge}
 use Rattle.mls_term.specs.Hashes.{tree_hash}
-use Rattle.mls_term.specs.ShapeLaws.{size-width, size_from_width, width-put, width-enter}
+use Rattle.mls_term.specs.ShapeLaws.{size-width, width-put, width-enter}
 use Rattle.mls_term.specs.Sets.{has}
 use Rattle.mls_term.specs.MergeLaws.{width-merge}
 use Rattle.mls_term.specs.Equations.{way_leaf, way_left, way_right, put_leaf, put_left, put_right, enter_leaf, enter_left, enter_right, merge_leaf, merge_left, merge_right}

@@ -1,8 +1,8 @@
 -- The node that ties a side to its parent (RFC 9420, 7.9.2).
-use Rattle.std.specs.Prelude.{ℕ, ◌+◌, ◌-◌, ◌==◌, Bool, not, if◌then◌else◌, List, [], ◌∷◌, ◌++◌, filter, Option, Some, None}
+use Rattle.std.specs.Prelude.{ℕ, ◌-◌, ◌==◌, Bool, not, if◌then◌else◌, List, [], filter, Option, Some, None}
 use Rattle.std.specs.List.{find}
 use Rattle.mls_leaf.specs.Parent.{Parent}
-use Rattle.mls_term.specs.Term.{Term, Leaf, Branch, width}
+use Rattle.mls_term.specs.Term.{Term, width}
 use Rattle.mls_term.specs.Sets.{has, within, leaf_numbers, is_same_set}
 use Rattle.mls_term.specs.Resolution.{resolution}
 

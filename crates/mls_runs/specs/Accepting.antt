@@ -1,9 +1,7 @@
 -- A commit that was made at a homemade journal is accepted by every other active member that has that journal and keeps what
--- it names; and its maker follows it while it is pending, and refuses it else.
-use Rattle.std.proofs.Common.{◌≡◌, ℕ, ◌+◌, true, false, not, List, Some, Ok, refl, sym, ap, subst, ◌∙◌, slice_get, slice_set}
+-- it names.
+use Rattle.std.proofs.Common.{◌≡◌, ℕ, ◌+◌, List, Some, Ok, refl, sym, ap, subst, ◌∙◌, slice_get, slice_set}
 use Rattle.std.specs.Prelude.{◌≢◌}
-use Rattle.std.specs.Str.{bytes_eq}
-use Rattle.std.proofs.lemmas.Slice.Eq.{bytes_eq-Decides}
 use Rattle.mls_types.specs.declared.commit.ProposalOrRef.{ProposalOrRef}
 use Rattle.mls_suite.specs.Crypto.{Crypto, Lawful}
 use Rattle.mls_term.specs.Sets.{has}
@@ -15,20 +13,21 @@ use Rattle.mls_model.specs.declared.event.Source.{Source}
 use Rattle.mls_model.specs.Agreement.{Agree, Keeps}
 use Rattle.mls_model.specs.Calls.{journal_after, deliver_answer}
 use Rattle.mls_model.specs.Claims.{Receives, FollowsTo}
-use Rattle.mls_model.specs.Headline.{Follows, Accepts, AcceptsHomemade, FollowsOwn}
+use Rattle.mls_model.specs.Headline.{Follows, Accepts, AcceptsHomemade}
 use Rattle.mls_model.specs.Invariant.{IsSeated, IsRecorded, IsGoodBy}
 use Rattle.mls_model.specs.Journal.{Entry, CommitMade, with_entry, names_in, removes_in, list_in, entry_of}
 use Rattle.mls_model.specs.Lineage.{IsReached}
-use Rattle.mls_model.specs.Member.{Member, Pending, advanced, left}
+use Rattle.mls_model.specs.Member.{Member, left}
 use Rattle.mls_model.specs.PublicOf.{Creations}
 use Rattle.mls_model.specs.Run.{answer, step}
 use Rattle.mls_model.specs.Verdict.{verdict}
 use Rattle.mls_model.specs.World.{World, Seat, bytes_of}
+use Rattle.mls_model.specs.CommitLaws.{names_are_held}
 use Rattle.mls_claims.specs.Framing.{one_public}
 use Rattle.mls_claims.specs.Journals.{public_agreement}
-use Rattle.mls_model.specs.CommitLaws.{names_are_held}
 use Rattle.mls_claims.specs.Stays.{receivers_hold}
 use Rattle.mls_runs.specs.Agreeing.{stands, along_same, homemade_from}
+use Rattle.mls_runs.specs.Homemade.{entry_with}
 use Rattle.mls_runs.specs.Leaves.{own_leaves}
 use Rattle.mls_runs.specs.Lists.{set_here}
 use Rattle.mls_runs.specs.Secrets.{agree_secret, same_secret}
@@ -45,9 +44,6 @@ unfolding step answer deliver_answer
 delivery c w k s source bytes x at b h = record { reply = rw (at, b, h) refl; seats = rw (at, b, h) refl }
 
 -- ---- a commit that was made
-
-abbrev entry_with : List ℕ → List (List ℕ) → Entry
-entry_with commit names = record { commit = commit; names = names }
 
 entry_is : (m : Member) (e : Entry) → names_in m.kept (list_in e.commit) ≡ e.names → entry_of m e.commit ≡ e
 unfolding entry_of
@@ -89,16 +85,3 @@ accepts_homemade c laws creations w g n k d s source at home a other same keeps 
     let kept : Keeps m.kept r.list (names_in r.maker.kept r.list) = subst (λ (names : List (List ℕ)). Keeps m.kept r.list names) r.names (subst (λ (l : List ProposalOrRef). Keeps m.kept l d.entry.names) r.listed keeps) in
     let claim : Receives c m r.list r.call = receivers_hold c laws r.maker m r.list r.call r.is_made p.good a.active leaves agree (agree_secret r.maker m secret) kept in
     accepts c creations w k d s source r a.is keeps b claim
-
--- ---- its own
-
-own_verdict : (c : Crypto) (m : Member) (p : Pending) → m.gone ≡ false → m.pending ≡ Some p → verdict c m p.message ≡ Ok (Advanced p.public.context.epoch, advanced m p.public p.epoch p.keys)
-unfolding verdict
-own_verdict c m p active is =
-    let n : not m.gone ≡ true = ap not active in
-    let e : bytes_eq p.message p.message ≡ true = (bytes_eq-Decides p.message p.message).1 refl in
-    rw (n, is, e) refl
-
-pub follows_own : (c : Crypto) (w : World) → FollowsOwn c w
-follows_own c w k s p source a is b =
-    (delivery c w k s source p.message (Advanced p.public.context.epoch, advanced s.member p.public p.epoch p.keys) a.is b (own_verdict c s.member p a.active is)).reply

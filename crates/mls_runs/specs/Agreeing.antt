@@ -1,6 +1,7 @@
 -- Active members of a good world with one journal hold one public state; with a homemade one the same secrets, with any the
 -- same or twins; their trees are good and their private keys exact.
-use Rattle.std.proofs.Common.{◌≡◌, ℕ, true, List, [], ◌∷◌, Option, Some, Result, Ok, refl, sym, ap, subst, ◌∙◌, inl, slice_get}
+use Rattle.std.proofs.Common.{◌≡◌, ℕ, true, List, [], ◌∷◌, Some, Result, Ok, refl, sym, ap, subst, ◌∙◌, inl}
+use Rattle.mls_wire.specs.CheckLaws.{bind_ok, given_ok}
 use Rattle.mls_wire.specs.Checks.{given}
 use Rattle.mls_leaf.specs.Faults.{whole}
 use Rattle.mls_leaf.specs.Limits.{input_limit}
@@ -26,9 +27,8 @@ use Rattle.mls_model.specs.Public.{PublicState}
 use Rattle.mls_model.specs.PublicOf.{Creations, public_after_body, public_after, public_of_info, public_of}
 use Rattle.mls_model.specs.World.{World}
 use Rattle.mls_claims.specs.Journals.{StandsAlong, public_agreement, secret_agreement}
-use Rattle.mls_wire.specs.CheckLaws.{bind_ok, given_ok}
 use Rattle.mls_runs.specs.Past.{past_along}
-use Rattle.mls_runs.specs.Secrets.{agree_secret, same_secret}
+use Rattle.mls_runs.specs.Secrets.{agree_secret, one_creation, same_secret}
 
 -- ---- where a member stands
 
@@ -106,14 +106,6 @@ unfolding public_of public_of_info last_tag
 tag_of_joined c creations info p h =
     let s = bind_ok (whole group_info input_limit info) _ _ h in
     (s.0.confirmation_tag, ap tag_of_info s.1)
-
-some_first : (f g : Member) (o : Option (Option Member)) → o ≡ Some (Some f) → o ≡ Some (Some g) → f ≡ g
-some_first f g o a b = cc
-
-one_creation : (c : Crypto) (creations : Creations) (made : List CommitMade) (k : ℕ) (m n : Member) → IsReached c creations made (Creation k) [] m → IsReached c creations made (Creation k) [] n → m.epoch ≡ n.epoch
-unfolding IsReached
-one_creation c creations made k m n a b =
-    sym a.0.same.epoch ∙ ap (λ (x : Member). x.epoch) (some_first a.0.first b.0.first (slice_get creations k) a.0.is b.0.is) ∙ b.0.same.epoch
 
 or_twins : (c : Crypto) (creations : Creations) (w : World) (origin : Origin) (es : List Entry) (m n : Member) → IsReached c creations w.made origin es m → IsReached c creations w.made origin es n → StandsAlong c creations origin es m → StandsAlong c creations origin es n → AgreeOrTwins m n
 or_twins c creations w (Creation k) [] m n a b p q = inl (agree_secret m n (one_creation c creations w.made k m n a b))

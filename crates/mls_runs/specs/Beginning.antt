@@ -3,15 +3,16 @@ use Rattle.std.proofs.Common.{◌≡◌, ℕ, zero, suc, Bool, true, false, not,
 use Rattle.std.specs.List.{list_any}
 use Rattle.std.specs.Str.{bytes_eq}
 use Rattle.std.proofs.lemmas.Slice.Eq.{bytes_eq-Decides}
+use Rattle.mls_wire.specs.CheckLaws.{require_ok, then_ok, bind_ok, given_ok}
 use Rattle.mls_wire.specs.Checks.{passed}
 use Rattle.mls_wire.specs.Laws.{ok_is}
 use Rattle.mls_suite.specs.Crypto.{Crypto, Lawful}
+use Rattle.mls_paths.specs.Seeds.{sign_seed}
 use Rattle.mls_model.specs.declared.event.Reply.{Reply}
 use Rattle.mls_model.specs.declared.origin.Origin.TheVariants as from
 use Rattle.mls_model.specs.Agreement.{IsGoodMember}
 use Rattle.mls_model.specs.Calls.{candidate_answer, create_answer}
 use Rattle.mls_model.specs.Candidate.{Candidate, offered_leaf, signed_leaf, unsigned_leaf, signed_package, unsigned_package, package_message, new_candidate, created}
-use Rattle.mls_paths.specs.Seeds.{sign_seed}
 use Rattle.mls_model.specs.Invariant.{IsGoodBy, IsGoodWorld}
 use Rattle.mls_model.specs.Journal.{CommitMade, begun}
 use Rattle.mls_model.specs.Lineage.{IsReached}
@@ -21,7 +22,6 @@ use Rattle.mls_model.specs.PublicOf.{Creations}
 use Rattle.mls_model.specs.World.{World, Entrant, Seat, entrant_at}
 use Rattle.mls_claims.specs.Committed.{created_good}
 use Rattle.mls_claims.specs.Offered.{candidate_good}
-use Rattle.mls_wire.specs.CheckLaws.{require_ok, then_ok, bind_ok, given_ok}
 use Rattle.mls_runs.specs.Changes.{more_messages, more_entrants, one_message}
 use Rattle.mls_runs.specs.Entering.{one_more}
 use Rattle.mls_runs.specs.Lists.{get_length}

@@ -1,6 +1,6 @@
 -- What holds of a good world is kept by each change of it: more messages, more made commits, a member in another state, one
 -- more candidate, one more member.
-use Rattle.std.proofs.Common.{◌≡◌, ℕ, zero, suc, ◌<◌, ◌==◌, Bool, true, false, List, [], ◌∷◌, ◌++◌, length, Option, Some, refl, ap, sym, ◌∙◌, subst, ◌⊎◌, inl, inr, slice_get, slice_set, arith, eqb-true}
+use Rattle.std.proofs.Common.{◌≡◌, ℕ, zero, suc, ◌<◌, ◌==◌, Bool, true, false, List, [], ◌∷◌, ◌++◌, length, Some, refl, ap, sym, ◌∙◌, subst, ◌⊎◌, inl, inr, slice_get, slice_set, arith, eqb-true}
 use Rattle.std.proofs.lemmas.Bool.{eqb-false}
 use Rattle.std.specs.Prelude.{◌≢◌}
 use Rattle.std.proofs.Math.ListN.{length-set}
@@ -14,7 +14,7 @@ use Rattle.mls_model.specs.Lineage.{IsSameState, IsReached}
 use Rattle.mls_model.specs.Member.{Member, Pending}
 use Rattle.mls_model.specs.PublicOf.{Creations}
 use Rattle.mls_model.specs.World.{World, Entrant, Seat}
-use Rattle.mls_runs.specs.Lists.{Grows, grows_none, get_append, get_last, get_either, get_set, set_here, set_other}
+use Rattle.mls_runs.specs.Lists.{one_there, Grows, grows_none, get_append, get_last, get_either, get_set, set_here, set_other}
 use Rattle.mls_runs.specs.Past.{same_itself, same_on, past_grows, seated_by}
 
 -- ---- members that go on
@@ -162,9 +162,6 @@ either_way i k false e = inr (eqb-false i k e)
 pub either_place : (i k : ℕ) → (i ≡ k) ⊎ (i ≢ k)
 either_place i k = either_way i k (i == k) refl
 
-one_seat : (o : Option Seat) (s t : Seat) → o ≡ Some s → o ≡ Some t → s ≡ t
-one_seat o s t a b = cc
-
 pub change_member : (c : Crypto) (creations : Creations) (w : World) (k : ℕ) (s t : Seat) → IsGoodBy c creations w → slice_get w.seats k ≡ Some s → s.member.signing ≡ t.member.signing → IsSince s.member t.member →
     (t.member.gone ≡ false → IsReached c creations w.made t.journal.origin t.journal.entries t.member) → ((p : Pending) → t.member.gone ≡ false → t.member.pending ≡ Some p → IsPendingOf w k t p) →
     IsGoodBy c creations (record w { seats = slice_set w.seats k t })
@@ -188,7 +185,7 @@ change_member c creations w k s t g at signing since reached pending =
     go : (i : ℕ) (x : Seat) → slice_get w.seats i ≡ Some x → (i ≡ k) ⊎ (i ≢ k) → GoesOn v i x
     go i x e (inl same) =
         let here : slice_get w.seats k ≡ Some x = ap (slice_get w.seats) (sym same) ∙ e in
-        let one : s ≡ x = one_seat (slice_get w.seats k) s x at here in
+        let one : s ≡ x = one_there (slice_get w.seats k) s x at here in
         record {
           after = t;
           is = ap (slice_get v.seats) same ∙ set_here w.seats k t s at;

@@ -2,6 +2,7 @@
 use Rattle.std.proofs.Common.{◌≡◌, ℕ, ◌+◌, Bool, false, List, [], ◌∷◌, ◌++◌, length, Option, Some, None, Ok, refl, sym, ap, subst, ◌∙◌, inl, slice_get, arith}
 use Rattle.std.specs.Prelude.{option_map}
 use Rattle.std.specs.List.{AllByRecursion}
+use Rattle.mls_wire.specs.CheckLaws.{then_ok, bind_ok, given_ok}
 use Rattle.mls_wire.specs.Checks.{passed}
 use Rattle.mls_wire.specs.Format.{IsBytes}
 use Rattle.mls_wire.specs.Laws.{ok_is}
@@ -33,10 +34,9 @@ use Rattle.mls_model.specs.World.{World, Seat, with_member, seat_at, items_of}
 use Rattle.mls_claims.specs.Along.{made_along}
 use Rattle.mls_claims.specs.Makes.{Makes, make_did, made_of}
 use Rattle.mls_claims.specs.Pends.{made_pends}
-use Rattle.mls_wire.specs.CheckLaws.{then_ok, bind_ok, given_ok}
 use Rattle.mls_claims.specs.Still.{pending_good}
 use Rattle.mls_runs.specs.Changes.{AreMessages, one_message, two_messages, more_messages, IsNewNumber, more_made, change_member}
-use Rattle.mls_runs.specs.Lists.{grows_none, get_append, get_length, get_below, get_second}
+use Rattle.mls_runs.specs.Lists.{some, grows_none, get_append, get_length, get_below, get_second}
 use Rattle.mls_runs.specs.Past.{same_itself, past_grows, reached_same}
 use Rattle.mls_runs.specs.Secrets.{not_gone, pending_message}
 use Rattle.mls_runs.specs.Sources.{bytes_within, items_fit}
@@ -53,10 +53,7 @@ welcome_within c info joiner secrets rnd n joiners bytes h =
     let s3 = then_ok (is_within_limit out) _ _ s2.2 in
     subst (λ (b : List ℕ). is_within_limit b ≡ Ok passed) (ok_is out bytes s3.1) s3.0
 
-abbrev some_bytes : List ℕ → Option (List ℕ)
-some_bytes b = Some b
-
-one_some : (o : Option (List ℕ)) (x y : List ℕ) → some_bytes x ≡ o → o ≡ Some y → x ≡ y
+one_some : (o : Option (List ℕ)) (x y : List ℕ) → some x ≡ o → o ≡ Some y → x ≡ y
 one_some o x y a b = cc
 
 none_some : (o : Option (List ℕ)) (y : List ℕ) → None ≡ o → o ≡ Some y → ⊥
@@ -66,7 +63,7 @@ if_within : (c : Crypto) (m : Member) (change : Change) (made : MadePath) (joine
 if_within c m change made joiner tag seed [] o bytes h e = absurd (none_some o bytes (ok_is None o h) e)
 if_within c m change made joiner tag seed (x ∷ xs) o bytes h e =
     let s = bind_ok _ _ _ h in
-    subst (λ (b : List ℕ). is_within_limit b ≡ Ok passed) (one_some o s.0 bytes (ok_is (some_bytes s.0) o s.2) e) (welcome_within c _ joiner _ _ _ (x ∷ xs) s.0 s.1)
+    subst (λ (b : List ℕ). is_within_limit b ≡ Ok passed) (one_some o s.0 bytes (ok_is (some s.0) o s.2) e) (welcome_within c _ joiner _ _ _ (x ∷ xs) s.0 s.1)
 
 record MadeWithin (made : Made) : Type 0 where
   commit : is_within_limit made.commit ≡ Ok passed
@@ -88,7 +85,7 @@ numbered k b = (k, b)
 -- a Welcome has the number behind that of its commit
 number_is : (o : Option (List ℕ)) (k n : ℕ) (x : List ℕ) → option_map (numbered k) o ≡ Some (n, x) → (k ≡ n) × (o ≡ Some x)
 number_is None k n x h = absurd cc
-number_is (Some b) k n x h = let e : Path (ℕ × List ℕ) (k, b) (n, x) = cc in (ap (λ (p : ℕ × List ℕ). p.0) e, ap (λ (p : ℕ × List ℕ). some_bytes p.1) e)
+number_is (Some b) k n x h = let e : Path (ℕ × List ℕ) (k, b) (n, x) = cc in (ap (λ (p : ℕ × List ℕ). p.0) e, ap (λ (p : ℕ × List ℕ). some p.1) e)
 
 welcome_back : (o : Option (List ℕ)) (k : ℕ) → option_map (λ (x : ℕ × List ℕ). x.1) (option_map (numbered k) o) ≡ o
 welcome_back None k = refl

@@ -1,6 +1,7 @@
 -- A good world is kept by whatever is delivered to a member.
-use Rattle.std.proofs.Common.{◌≡◌, ℕ, ◌<◌, false, List, ◌∷◌, Option, Some, None, Result, Ok, refl, sym, ap, ap₂, subst, ◌∙◌, ◌⊎◌, inl, inr, slice_get, slice_set, arith}
+use Rattle.std.proofs.Common.{◌≡◌, ℕ, ◌<◌, false, List, ◌∷◌, Some, None, Result, Ok, refl, sym, ap, ap₂, subst, ◌∙◌, ◌⊎◌, inl, inr, slice_get, slice_set, arith}
 use Rattle.std.proofs.lemmas.Slice.Eq.{bytes_eq-Decides}
+use Rattle.mls_wire.specs.CheckLaws.{bind_ok, given_ok}
 use Rattle.mls_wire.specs.Format.{IsBytes}
 use Rattle.mls_wire.specs.Laws.{ok_is}
 use Rattle.mls_types.specs.SignedParts.{framed}
@@ -27,13 +28,14 @@ use Rattle.mls_model.specs.PublicOf.{Creations}
 use Rattle.mls_model.specs.Range.{IsSourceInRange}
 use Rattle.mls_model.specs.Verdict.{kept_of, own_pending, verdict}
 use Rattle.mls_model.specs.World.{World, Seat, seat_at, bytes_of}
-use Rattle.mls_claims.specs.Delivered.{delivered_good}
-use Rattle.mls_claims.specs.Opened.{body_did}
 use Rattle.mls_model.specs.Found.{reached_epoch, HasFollowed, WasRemoved, ContentDid, ReceivedDid, DidPending, DidOther}
 use Rattle.mls_model.specs.Receipts.{did_receive, did_take}
-use Rattle.mls_wire.specs.CheckLaws.{bind_ok, given_ok}
+use Rattle.mls_claims.specs.Delivered.{delivered_good}
+use Rattle.mls_claims.specs.Opened.{body_did}
 use Rattle.mls_runs.specs.Changes.{change_member}
+use Rattle.mls_runs.specs.Homemade.{entry_with}
 use Rattle.mls_runs.specs.Keeping.{keeps_one, keeps_none, to_world}
+use Rattle.mls_runs.specs.Lists.{none_there}
 use Rattle.mls_runs.specs.Past.{same_itself}
 use Rattle.mls_runs.specs.Secrets.{not_gone}
 use Rattle.mls_runs.specs.Sources.{source_bytes}
@@ -47,15 +49,12 @@ reached_next : (c : Crypto) (creations : Creations) (made : List CommitMade) (j 
 unfolding IsReached
 reached_next c creations made j m n e past good steps = (m, past, good, steps)
 
-no_pending : (o : Option Pending) (p : Pending) → o ≡ None → o ≡ Some p → ⊥
-no_pending o p a b = cc
-
 -- a member that followed a commit
 advances : (c : Crypto) (creations : Creations) (w : World) (k : ℕ) (s : Seat) (n : Member) (e : Entry) → IsGoodBy c creations w → slice_get w.seats k ≡ Some s → s.member.gone ≡ false → s.member.signing ≡ n.signing → s.member.public.context.epoch < n.public.context.epoch →
     n.pending ≡ None → IsGoodMember c n → Steps c w.made s.journal s.member e n → IsGoodBy c creations (record w { seats = slice_set w.seats k (seat_with n (with_entry s.journal e)) })
 advances c creations w k s n e g at active signing later free good steps =
     change_member c creations w k s (seat_with n (with_entry s.journal e)) g at signing (inr later)
-    (λ _. reached_next c creations w.made s.journal s.member n e (g.members k s (record { is = at; active = active })).reached good steps) (λ p _ h. absurd (no_pending n.pending p free h))
+    (λ _. reached_next c creations w.made s.journal s.member n e (g.members k s (record { is = at; active = active })).reached good steps) (λ p _ h. absurd (none_there n.pending p free h))
 
 -- what is new of it
 fresh : (m : Member) (public : PublicState) (epoch : List ℕ) (keys : PrivateKeys) → let n : Member = advanced m public epoch keys in (m.signing ≡ n.signing) × (n.pending ≡ None) × (m.public.context.epoch < public.context.epoch → m.public.context.epoch < n.public.context.epoch)
@@ -85,9 +84,6 @@ next_epoch c p q i used commit said signature tag h =
     let d = (body_did c p i used commit said signature s.0 s.1).epoch_is in
     let e = ap (λ (r : PublicState). r.context.epoch) (ok_is _ q s.2) in
     omega (arith, d, e)
-
-abbrev entry_with : List ℕ → List (List ℕ) → Entry
-entry_with commit names = record { commit = commit; names = names }
 
 -- its pending commit
 own_steps : (c : Crypto) (w : World) (k : ℕ) (s : Seat) (bytes : List ℕ) (p : Pending) → IsPendingOf w k s p → p.message ≡ bytes → verdict c s.member bytes ≡ Ok (Advanced p.public.context.epoch, advanced s.member p.public p.epoch p.keys) →

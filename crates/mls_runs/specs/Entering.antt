@@ -10,17 +10,11 @@ use Rattle.mls_model.specs.Member.{Member, Pending}
 use Rattle.mls_model.specs.PublicOf.{Creations}
 use Rattle.mls_model.specs.World.{World, Entrant, Seat, with_joined}
 use Rattle.mls_runs.specs.Changes.{WorldGrows, record_grows, seated_grows, pending_grows}
-use Rattle.mls_runs.specs.Lists.{grows_none, get_append, get_last, get_set, set_here, set_other}
+use Rattle.mls_runs.specs.Lists.{one_there, none_there, grows_none, get_append, get_last, get_set, set_here, set_other}
 use Rattle.mls_runs.specs.Past.{same_itself, seated_by}
 
 abbrev first_of : Option Member → Creations
 first_of o = o ∷ []
-
-one_entrant : (o : Option Entrant) (d e : Entrant) → o ≡ Some d → o ≡ Some e → d ≡ e
-one_entrant o d e a b = cc
-
-no_pending : (o : Option Pending) (p : Pending) → o ≡ None → o ≡ Some p → ⊥
-no_pending o p a b = cc
 
 -- The new member's first state, where it created its group, is one more creation.
 pub one_more : (c : Crypto) (creations : Creations) (w : World) (n : ℕ) (e : Entrant) (t : Seat) (first : Option Member) → IsGoodBy c creations w → slice_get w.entrants n ≡ Some e → e.is_spent ≡ false → e.candidate.signing ≡ t.member.signing →
@@ -74,7 +68,7 @@ one_more c creations w n e t first g at unspent signing free reached =
     other_place : (s : Seat) (x : IsSpentFor w s) → x.place ≢ n
     other_place s x same =
         let here : slice_get w.entrants n ≡ Some x.entrant = ap (slice_get w.entrants) (sym same) ∙ x.is in
-        let one : x.entrant ≡ e = one_entrant (slice_get w.entrants n) x.entrant e here at in
+        let one : x.entrant ≡ e = one_there (slice_get w.entrants n) x.entrant e here at in
         true≢false (sym x.spent ∙ ap (λ (y : Entrant). y.is_spent) one ∙ unspent)
 
     spent_by : (i : ℕ) (s : Seat) → (slice_get w.seats i ≡ Some s) ⊎ ((i ≡ length w.seats) × (t ≡ s)) → IsSpentFor v s
@@ -102,4 +96,4 @@ one_more c creations w n e t first g at unspent signing free reached =
 
     pending_by : (i : ℕ) (s : Seat) (p : Pending) → s.member.gone ≡ false → s.member.pending ≡ Some p → (slice_get w.seats i ≡ Some s) ⊎ ((i ≡ length w.seats) × (t ≡ s)) → IsPendingOf v i s p
     pending_by i s p active q (inl h) = pending_grows w v (grows_none w.made) i s p (g.pending i s p (record { is = h; active = active }) q)
-    pending_by i s p active q (inr h) = absurd (no_pending t.member.pending p free (ap (λ (y : Seat). y.member.pending) h.1 ∙ q))
+    pending_by i s p active q (inr h) = absurd (none_there t.member.pending p free (ap (λ (y : Seat). y.member.pending) h.1 ∙ q))

@@ -3,10 +3,11 @@ use Rattle.mls_suite.specs.Crypto.{Crypto, Lawful}
 use Rattle.mls_model.specs.Headline.{Headline, HoldsOnRuns}
 use Rattle.mls_model.specs.Invariant.{IsGoodWorld}
 use Rattle.mls_model.specs.Run.{run}
+use Rattle.mls_model.specs.RunLaws.{refused_leave, own_is_followed}
 use Rattle.mls_model.specs.World.{World, empty_world}
-use Rattle.mls_runs.specs.Accepting.{accepts_homemade, follows_own}
+use Rattle.mls_runs.specs.Accepting.{accepts_homemade}
 use Rattle.mls_runs.specs.Agreeing.{agree_by_journal, secret_if_homemade, agree_by_confirmation, keys_are_exact, trees_are_good}
-use Rattle.mls_runs.specs.Refusing.{refusals_change_nothing, refuses_own}
+use Rattle.mls_runs.specs.Refusing.{refuses_own}
 use Rattle.mls_runs.specs.Runs.{empty_good, runs_keep_good}
 use Rattle.mls_runs.specs.Taking.{joins_by_number, joins_by_bytes}
 
@@ -24,8 +25,8 @@ headline_of_good c laws w g = record {
   joined_by_bytes = joins_by_bytes c laws g.0 w g.1;
   keys = keys_are_exact c g.0 w g.1;
   trees = trees_are_good c g.0 w g.1;
-  refused = refusals_change_nothing c w;
-  own = follows_own c w;
+  refused = refused_leave c w;
+  own = own_is_followed c w;
   own_refused = refuses_own c laws g.0 w g.1;
 }
 

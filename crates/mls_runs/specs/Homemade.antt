@@ -1,5 +1,5 @@
 -- Journals that are told equal are equal, and the commit calls of a homemade journal's entry reached one epoch secret.
-use Rattle.std.proofs.Common.{◌≡◌, ℕ, zero, suc, Bool, true, false, ◌&&◌, cond, List, [], ◌∷◌, map, filter, Option, Some, refl, ap, ap₂, sym, ◌∙◌, slice_get, eqb-true, eq-eqb, true≢false}
+use Rattle.std.proofs.Common.{◌≡◌, ℕ, zero, suc, Bool, true, false, ◌&&◌, cond, List, [], ◌∷◌, map, filter, Some, refl, ap, ap₂, sym, ◌∙◌, slice_get, eqb-true, eq-eqb, true≢false}
 use Rattle.std.specs.List.{list_all}
 use Rattle.std.specs.Str.{bytes_eq}
 use Rattle.std.proofs.lemmas.Bool.{and_parts}
@@ -8,13 +8,9 @@ use Rattle.mls_model.specs.declared.origin.Origin.{Origin}
 use Rattle.mls_model.specs.declared.origin.Origin.TheVariants as from
 use Rattle.mls_model.specs.Journal.{Entry, Journal, CommitMade, is_same_origin, are_same_bytes, is_same_entry, are_same_entries, is_same_journal, reached, is_one, is_homemade_from}
 use Rattle.mls_model.specs.Lineage.{MadeHere}
+use Rattle.mls_runs.specs.Lists.{some, both}
 
 -- ---- equality
-
-both : (x y : Bool) → x ≡ true → y ≡ true → (x && y) ≡ true
-both true true e f = refl
-both true false e f = absurd (true≢false (sym f))
-both false y e f = absurd (true≢false (sym e))
 
 origin_is : (a b : Origin) → is_same_origin a b ≡ true → a ≡ b
 origin_is (from.Creation k) (from.Creation n) h = ap (λ (i : ℕ). from.Creation i) (eqb-true k n h)
@@ -40,7 +36,7 @@ unfolding are_same_bytes
 own_names [] = refl
 own_names (x ∷ xs) = both _ _ ((bytes_eq-Decides x x).1 refl) (own_names xs)
 
-abbrev entry_with : List ℕ → List (List ℕ) → Entry
+abbrev pub entry_with : List ℕ → List (List ℕ) → Entry
 entry_with commit names = record { commit = commit; names = names }
 
 entry_is : (d e : Entry) → is_same_entry d e ≡ true → d ≡ e
@@ -73,9 +69,6 @@ own_journal : (j : Journal) → is_same_journal j j ≡ true
 own_journal j = both _ _ (own_origin j.origin) (own_entries j.entries)
 
 -- ---- what is kept of a list and mapped
-
-abbrev some : {A : Type 0} → A → Option A
-some x = Some x
 
 kept_at : {A B : Type 0} (f : A → B) (test : A → Bool) (xs : List A) (i : ℕ) (x : A) → slice_get xs i ≡ Some x → test x ≡ true → (j : ℕ) × (slice_get (map f (filter test xs)) j ≡ Some (f x))
 kept_at f test [] i x h t = absurd cc

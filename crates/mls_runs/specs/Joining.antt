@@ -5,6 +5,7 @@ use Rattle.std.specs.List.{list_any}
 use Rattle.std.specs.Str.{bytes_eq}
 use Rattle.std.proofs.lemmas.Bool.{and_parts}
 use Rattle.std.proofs.lemmas.Slice.Eq.{bytes_eq-Decides}
+use Rattle.mls_wire.specs.CheckLaws.{bind_ok, given_ok}
 use Rattle.mls_wire.specs.Laws.{ok_is}
 use Rattle.mls_leaf.specs.KeyPackage.{key_package}
 use Rattle.mls_suite.specs.Crypto.{Crypto, Lawful}
@@ -25,11 +26,10 @@ use Rattle.mls_model.specs.PublicOf.{Creations}
 use Rattle.mls_model.specs.World.{World, Seat, entrant_at, bytes_of, has_source, made_for, joiner_journal}
 use Rattle.mls_claims.specs.Entered.{MemberDid, member_did, joined_by, joined_good}
 use Rattle.mls_claims.specs.Joiners.{joiners_hold}
-use Rattle.mls_wire.specs.CheckLaws.{bind_ok, given_ok}
 use Rattle.mls_runs.specs.Beginning.{IsUnspent, entrant_did}
 use Rattle.mls_runs.specs.Entering.{one_more}
 use Rattle.mls_runs.specs.Keeping.{to_world}
-use Rattle.mls_runs.specs.Lists.{get_append, grows_none, find_stands}
+use Rattle.mls_runs.specs.Lists.{one_there, get_append, grows_none, find_stands}
 use Rattle.mls_runs.specs.Past.{same_itself, past_grows}
 
 -- ---- a new member
@@ -48,11 +48,8 @@ joined_did c k bytes j h = let s = bind_ok (opened_welcome c k bytes) _ _ h in b
 
 -- ---- the commit whose Welcome it joined by
 
-abbrev welcome_with : ℕ → List ℕ → Option (ℕ × List ℕ)
+abbrev pub welcome_with : ℕ → List ℕ → Option (ℕ × List ℕ)
 welcome_with n x = Some (n, x)
-
-one_bytes : (o : Option (List ℕ)) (x y : List ℕ) → o ≡ Some x → o ≡ Some y → x ≡ y
-one_bytes o x y a b = cc
 
 -- it was made here with a Welcome of these bytes
 pub record HasWelcome (d : CommitMade) (bytes : List ℕ) : Type 0 where
@@ -67,7 +64,7 @@ welcome_by w (Given given) bytes d (Some x) e numbered h b =
     record { number = x.0; is = e ∙ ap (λ (y : List ℕ). welcome_with x.0 y) same }
 welcome_by w (Message n) bytes d (Some x) e numbered h b =
     let at : slice_get w.messages n ≡ Some bytes = given_ok 94 (slice_get w.messages n) bytes b in
-    let same : x.1 ≡ bytes = one_bytes (slice_get w.messages x.0) x.1 bytes (numbered x.0 x.1 e) (ap (slice_get w.messages) (sym (eqb-true n x.0 h)) ∙ at) in
+    let same : x.1 ≡ bytes = one_there (slice_get w.messages x.0) x.1 bytes (numbered x.0 x.1 e) (ap (slice_get w.messages) (sym (eqb-true n x.0 h)) ∙ at) in
     record { number = x.0; is = e ∙ ap (λ (y : List ℕ). welcome_with x.0 y) same }
 
 some_second : (d : CommitMade) (o : Option (List ℕ)) (bytes : List ℕ) → option_map (λ (x : ℕ × List ℕ). x.1) d.welcome ≡ o → HasWelcome d bytes → o ≡ Some bytes

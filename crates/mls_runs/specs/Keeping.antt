@@ -2,15 +2,16 @@
 use Rattle.std.proofs.Common.{◌≡◌, ℕ, false, not, List, [], ◌∷◌, ◌++◌, Option, Some, None, Result, Ok, refl, sym, ap, subst, ◌∙◌, ◌⊎◌, inl, inr, slice_get}
 use Rattle.std.specs.Str.{bytes_eq}
 use Rattle.std.proofs.lemmas.Slice.Eq.{bytes_eq-Decides}
+use Rattle.mls_wire.specs.CheckLaws.{require_ok, then_ok, bind_ok, given_ok}
 use Rattle.mls_wire.specs.Checks.{passed}
 use Rattle.mls_wire.specs.Laws.{ok_is}
 use Rattle.mls_leaf.specs.declared.proposal.Proposal.{Proposal}
 use Rattle.mls_leaf.specs.declared.proposal.Proposal.TheVariants as proposes
 use Rattle.mls_suite.specs.Crypto.{Crypto}
+use Rattle.mls_tree.specs.Tree.{member_at}
 use Rattle.mls_model.specs.declared.event.Reply.{Reply}
 use Rattle.mls_model.specs.declared.event.Source.{Source}
 use Rattle.mls_model.specs.Agreement.{IsGoodPending, IsGoodIfPending, IsGoodMember}
-use Rattle.mls_tree.specs.Tree.{member_at}
 use Rattle.mls_model.specs.Candidate.{leaf_key_of}
 use Rattle.mls_model.specs.Calls.{sent, propose_add_answer, propose_update_answer, propose_remove_answer, drop_answer}
 use Rattle.mls_model.specs.Invariant.{IsPendingOf, IsGoodBy, IsGoodWorld}
@@ -24,7 +25,6 @@ use Rattle.mls_model.specs.Range.{IsSourceInRange}
 use Rattle.mls_model.specs.World.{World, Seat, with_member, seat_at, package_of}
 use Rattle.mls_claims.specs.Along.{list_at}
 use Rattle.mls_claims.specs.Proposing.{added_good, updated_good, removed_good}
-use Rattle.mls_wire.specs.CheckLaws.{require_ok, then_ok, bind_ok, given_ok}
 use Rattle.mls_claims.specs.Still.{dropped_good}
 use Rattle.mls_runs.specs.Changes.{more_messages, one_message, change_member}
 use Rattle.mls_runs.specs.Names.{names_stable}

@@ -18,3 +18,4 @@ pub mod Accepting
 pub mod Taking
 pub mod Refusing
 pub mod Headlines
+pub mod Reachable

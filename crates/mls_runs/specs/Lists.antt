@@ -1,5 +1,21 @@
 -- Look-ups in lists that grow or change at one place.
-use Rattle.std.proofs.Common.{◌≡◌, ◌≢◌, ℕ, zero, suc, ◌+◌, ◌<◌, List, [], ◌∷◌, ◌++◌, length, Bool, true, false, cond, find, Option, Some, refl, ap, sym, ◌∙◌, ◌⊎◌, inl, inr, slice_get, slice_set, arith, true≢false}
+use Rattle.std.proofs.Common.{◌≡◌, ◌≢◌, ℕ, zero, suc, ◌+◌, ◌<◌, List, [], ◌∷◌, ◌++◌, length, Bool, true, false, ◌&&◌, cond, find, Option, Some, None, refl, ap, sym, ◌∙◌, ◌⊎◌, inl, inr, slice_get, slice_set, arith, true≢false}
+
+abbrev pub some : {A : Type 0} → A → Option A
+some x = Some x
+
+-- one value is there
+pub one_there : {A : Type 0} (o : Option A) (x y : A) → o ≡ Some x → o ≡ Some y → x ≡ y
+one_there o x y a b = cc
+
+pub none_there : {A : Type 0} (o : Option A) (x : A) → o ≡ None → o ≡ Some x → ⊥
+none_there o x a b = cc
+
+-- both tests pass
+pub both : (x y : Bool) → x ≡ true → y ≡ true → (x && y) ≡ true
+both true true e f = refl
+both true false e f = absurd (true≢false (sym f))
+both false y e f = absurd (true≢false (sym e))
 
 -- all that one list has at a place, the other has there too
 abbrev pub Grows : {A : Type 0} → List A → List A → Type 0
@@ -78,9 +94,6 @@ set_other (z ∷ xs) (suc k) y (suc i) x apart h = set_other xs k y i x (λ e. a
 picked : {A : Type 0} (b : Bool) (x y : A) (o : Option A) → cond b (Some x) o ≡ Some y → ((b ≡ true) × (x ≡ y)) ⊎ (o ≡ Some y)
 picked true x y o e = inl (refl, cc)
 picked false x y o e = inr e
-
-abbrev some : {A : Type 0} → A → Option A
-some x = Some x
 
 -- it stands in the list and passes
 pub find_stands : {A : Type 0} (test : A → Bool) (xs : List A) (x : A) → find test xs ≡ Some x → (i : ℕ) × (slice_get xs i ≡ Some x) × (test x ≡ true)

@@ -7,16 +7,12 @@ use Rattle.mls_model.specs.Agreement.{Keeps}
 use Rattle.mls_model.specs.Journal.{names_in}
 use Rattle.mls_model.specs.Member.{Kept, kept_under, used_by}
 use Rattle.mls_model.specs.Public.{Used}
-use Rattle.mls_model.specs.CommitLaws.{names_are_held}
-use Rattle.mls_model.specs.CommitLaws.{names_in_order}
-use Rattle.mls_runs.specs.Lists.{find_append}
+use Rattle.mls_model.specs.CommitLaws.{names_are_held, names_in_order}
+use Rattle.mls_runs.specs.Lists.{some, find_append}
 
 by_option : (o : Option Kept) (b : List ℕ) → option_map (λ (k : Kept). k.message) o ≡ Some b → (k : Kept) × (o ≡ Some k) × (k.message ≡ b)
 by_option None b e = absurd cc
 by_option (Some k) b e = (k, refl, cc)
-
-abbrev some_bytes : List ℕ → Option (List ℕ)
-some_bytes b = Some b
 
 under_more : (kept more : List Kept) (r : List ℕ) (k : Kept) → kept_under kept r ≡ Some k → kept_under (kept ++ more) r ≡ Some k
 unfolding kept_under
@@ -30,7 +26,7 @@ keeps_more kept more (listed.Proposal said ∷ xs) bs h = keeps_more kept more x
 keeps_more kept more (listed.Reference r ∷ xs) [] h = absurd h
 keeps_more kept more (listed.Reference r ∷ xs) (b ∷ bs) h =
     let k = by_option (kept_under kept r) b h.0 in
-    (ap (option_map (λ (x : Kept). x.message)) (under_more kept more r k.0 k.1) ∙ ap some_bytes k.2, keeps_more kept more xs bs h.1)
+    (ap (option_map (λ (x : Kept). x.message)) (under_more kept more r k.0 k.1) ∙ ap some k.2, keeps_more kept more xs bs h.1)
 
 abbrev pub NamesStable : Type 0
 NamesStable = (kept more : List Kept) (i : ℕ) (list : List ProposalOrRef) (used : List Used) → used_by kept i list ≡ Ok used → names_in (kept ++ more) list ≡ names_in kept list

@@ -11,6 +11,7 @@ use Rattle.mls_model.specs.Member.{Member}
 use Rattle.mls_model.specs.PublicOf.{Creations}
 use Rattle.mls_model.specs.World.{World, Seat}
 use Rattle.mls_claims.specs.Journals.{StandsAlong, creations_along, joins_along, joins_here_along, deliveries_along, states_along}
+use Rattle.mls_runs.specs.Homemade.{entry_with}
 use Rattle.mls_runs.specs.Lists.{Grows}
 
 -- ---- one state
@@ -109,9 +110,6 @@ begins_along c creations (Creation k) m b = states_along c creations (Creation k
 begins_along c creations (JoinedBy info) m b =
     states_along c creations (JoinedBy info) [] b.joined.member m b.same
     (subst (λ (i : List ℕ). StandsAlong c creations (JoinedBy i) [] b.joined.member) b.info_is (joins_along c creations b.candidate b.bytes b.joined b.is))
-
-abbrev entry_with : List ℕ → List (List ℕ) → Entry
-entry_with commit names = record { commit = commit; names = names }
 
 entry_by : (e : Entry) (commit : List ℕ) (names : List (List ℕ)) → commit ≡ e.commit → names ≡ e.names → entry_with commit names ≡ e
 entry_by e commit names a b = ap (λ (x : List ℕ). entry_with x names) a ∙ ap (λ (x : List (List ℕ)). entry_with e.commit x) b

@@ -25,15 +25,15 @@ use Rattle.mls_model.specs.Messages.{decoded, sender_leaf}
 use Rattle.mls_model.specs.PublicOf.{Creations}
 use Rattle.mls_model.specs.Verdict.{own_pending, verdict}
 use Rattle.mls_model.specs.World.{World}
+use Rattle.mls_model.specs.Found.{IsFramed, ContentDid, CommitDid, ReceivedDid, DidPending, DidOther}
+use Rattle.mls_model.specs.Receipts.{did_receive, did_take}
+use Rattle.mls_model.specs.CommitLaws.{names_in_order}
 use Rattle.mls_claims.specs.Along.{list_at, made_along}
 use Rattle.mls_claims.specs.Delivered.{other_committer}
 use Rattle.mls_claims.specs.Journals.{public_agreement}
 use Rattle.mls_claims.specs.Makes.{Makes, make_did, made_of}
 use Rattle.mls_claims.specs.Pends.{made_pends}
-use Rattle.mls_model.specs.Found.{IsFramed, ContentDid, CommitDid, ReceivedDid, DidPending, DidOther}
-use Rattle.mls_model.specs.Receipts.{did_receive, did_take}
 use Rattle.mls_claims.specs.Stays.{receivers_hold}
-use Rattle.mls_model.specs.CommitLaws.{names_in_order}
 use Rattle.mls_runs.specs.Homemade.{HasOneSecret, homemade_parts}
 use Rattle.mls_runs.specs.Past.{reached_good, past_along}
 
@@ -151,11 +151,15 @@ reaches c laws creations w all origin e es one same before m past (inr (inr f)) 
 some_first : (f g : Member) (o : Option (Option Member)) → o ≡ Some (Some f) → o ≡ Some (Some g) → f ≡ g
 some_first f g o a b = cc
 
+-- where nothing followed yet, it is the creation's
+pub one_creation : (c : Crypto) (creations : Creations) (made : List CommitMade) (k : ℕ) (m n : Member) → IsReached c creations made (Creation k) [] m → IsReached c creations made (Creation k) [] n → m.epoch ≡ n.epoch
+unfolding IsReached
+one_creation c creations made k m n a b =
+    sym a.0.same.epoch ∙ ap (λ (x : Member). x.epoch) (some_first a.0.first b.0.first (slice_get creations k) a.0.is b.0.is) ∙ b.0.same.epoch
+
 began_secret : (c : Crypto) (creations : Creations) (w : World) (origin : Origin) → is_homemade_from w.made origin [] ≡ true → OneSecret c creations w origin []
-unfolding is_homemade_from IsReached
-began_secret c creations w (Creation k) home m n a b =
-    let one : a.0.first ≡ b.0.first = some_first a.0.first b.0.first (slice_get creations k) a.0.is b.0.is in
-    sym a.0.same.epoch ∙ ap (λ (x : Member). x.epoch) one ∙ b.0.same.epoch
+unfolding is_homemade_from
+began_secret c creations w (Creation k) home m n a b = one_creation c creations w.made k m n a b
 began_secret c creations w (JoinedBy info) home m n a b = absurd (true≢false (sym home))
 
 -- The recursion is on the journal and not on time: a maker may have stood at it later than who followed its commit.

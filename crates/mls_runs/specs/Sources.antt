@@ -3,6 +3,7 @@ use Rattle.std.proofs.Common.{◌≡◌, ℕ, ◌<◌, ◌^◌, List, [], ◌∷
 use Rattle.std.specs.Prelude.{codes}
 use Rattle.std.specs.List.{AllByRecursion}
 use Rattle.std.proofs.lemmas.Bool.{and_parts}
+use Rattle.mls_wire.specs.CheckLaws.{required, bind_ok, given_ok}
 use Rattle.mls_wire.specs.Checks.{passed, given}
 use Rattle.mls_wire.specs.Format.{IsBytes}
 use Rattle.mls_wire.specs.Laws.{ok_is}
@@ -29,7 +30,6 @@ use Rattle.mls_model.specs.Messages.{decoded, is_within_limit, reference_of}
 use Rattle.mls_model.specs.Range.{IsSourceInRange, IsItemInRange}
 use Rattle.mls_model.specs.World.{World, bytes_of, package_in, package_of, proposal_of, item_of, items_of}
 use Rattle.mls_claims.specs.Entered.{are_from}
-use Rattle.mls_wire.specs.CheckLaws.{required, bind_ok, given_ok}
 
 -- ---- bytes
 

@@ -20,8 +20,8 @@ use Rattle.mls_model.specs.Journal.{CommitMade, with_entry}
 use Rattle.mls_model.specs.PublicOf.{Creations}
 use Rattle.mls_model.specs.Run.{answer, step}
 use Rattle.mls_model.specs.World.{World, Entrant, Seat, entrant_at, bytes_of, has_source, made_for, joiner_journal}
-use Rattle.mls_runs.specs.Joining.{joins_by}
-use Rattle.mls_runs.specs.Lists.{get_length, find_stands, find_one}
+use Rattle.mls_runs.specs.Joining.{welcome_with, joins_by}
+use Rattle.mls_runs.specs.Lists.{both, get_length, find_stands, find_one}
 
 -- ---- a join
 
@@ -56,11 +56,6 @@ joins c w n source e bytes d f j at unspent b h is =
 abbrev is_for : Source → Candidate → CommitMade → Bool
 is_for source k d = has_source source d.welcome && list_any (bytes_eq (key_package.spell k.offered)) d.adds
 
-both : (x y : Bool) → x ≡ true → y ≡ true → (x && y) ≡ true
-both true true e f = refl
-both true false e f = absurd (true≢false (sym f))
-both false y e f = absurd (true≢false (sym e))
-
 -- there is one, for which this holds
 record FoundFor (w : World) (source : Source) (k : Candidate) : Type 0 where
   which : CommitMade
@@ -77,9 +72,6 @@ found_for w source k i d at h =
     record { which = f.0; is = f.1; place = s.0; stands = s.1; passes = (and_parts (has_source source f.0.welcome) (list_any (bytes_eq (key_package.spell k.offered)) f.0.adds) s.2).0 }
 
 -- ---- by its number
-
-abbrev welcome_with : ℕ → List ℕ → Option (ℕ × List ℕ)
-welcome_with n x = Some (n, x)
 
 has_number : (n : ℕ) (o : Option (ℕ × List ℕ)) → has_source (Message n) o ≡ true → (x : List ℕ) × (o ≡ Some (n, x))
 has_number n None h = absurd (true≢false (sym h))

@@ -9,6 +9,7 @@ ghost use Rattle.mls_runs.specs.Leaves.{OwnLeaves};
 ghost use Rattle.mls_runs.specs.Secrets.{SameSecret};
 ghost use Rattle.mls_runs.specs.Runs.{EmptyWorldGood, EventsKeepGood, RunsKeepGood};
 ghost use Rattle.mls_runs.specs.Headlines.{HeadlineOfGood};
+ghost use Rattle.mls_runs.specs.Reachable.{EmptyIsReachable, RunsReach, StepsReach, HeadlineOfReachable};
 
 /// The states that a member passed along its journal: they were passed in each world that this one becomes, they stand
 /// where the journal leads, and along a homemade journal they have one epoch secret.
@@ -35,4 +36,13 @@ pub fn laws_of_events()
 pub fn headline()
     ensures good { HeadlineOfGood }
     ensures runs { HoldsOnRuns }
+{}
+
+/// Worlds that a list of events leaves, as the invariant of a type: the empty one is, and each event and each list of events
+/// leads on to such a world.
+pub fn laws_of_reachable_worlds()
+    ensures empty { EmptyIsReachable }
+    ensures steps { StepsReach }
+    ensures runs { RunsReach }
+    ensures headline { HeadlineOfReachable }
 {}

@@ -1,5 +1,5 @@
 -- The kept hashes after a call.
-use Rattle.std.proofs.Common.{◌≡◌, ℕ, suc, ◌+◌, ◌*◌, ◌^◌, ◌<◌, ◌≤◌, true, List, [], ◌++◌, length, take, reverse, replicate, Option, None, refl, sym, ◌∙◌, ap, subst, arith, add-one}
+use Rattle.std.proofs.Common.{◌≡◌, ℕ, suc, ◌+◌, true, List, [], ◌++◌, length, take, reverse, replicate, Option, None, sym, ◌∙◌, ap, subst, arith, add-one}
 use Rattle.std.proofs.lemmas.List.{take_at}
 use Rattle.mls_leaf.specs.declared.leaf.LeafNode.{LeafNode}
 use Rattle.mls_leaf.specs.declared.node.Node.{Node}
@@ -7,11 +7,10 @@ use Rattle.mls_treemath.specs.Paths.{nodes_in}
 use Rattle.mls_term.specs.Term.{size, height, blanks, is_perfect}
 use Rattle.mls_term.specs.Edits.{put, enter, grow, trim}
 use Rattle.mls_term.specs.Merge.{merge, merge_path}
-use Rattle.mls_term.specs.Arrays.{term_of, in_order}
+use Rattle.mls_term.specs.Arrays.{term_of}
 use Rattle.mls_term.specs.ShapeLaws.{perfect-blanks, perfect-grow}
-use Rattle.mls_term.specs.ArrayLaws.{size-term_of, size-perfect, perfect-term_of, length-in_order}
-use Rattle.mls_array.specs.Standing.{Stands}
-use Rattle.mls_array.specs.StandingLaws.{StandsFor, height-term_of, length-perfect}
+use Rattle.mls_term.specs.ArrayLaws.{size-term_of, size-perfect, perfect-term_of}
+use Rattle.mls_array.specs.StandingLaws.{StandsFor, height-term_of}
 use Rattle.mls_array.specs.Kept.{hashes_of, Keeps, dropped, KeptHashes}
 use Rattle.mls_array.specs.KeptLaws.{keeps_all, keeps_none, keeps_long, keeps-put, keeps-enter, keeps-merge, keeps-grow, keeps-trim}
 use Rattle.mls_tree.proofs.Pathing.{merge_is}

@@ -1,5 +1,5 @@
 -- Which nodes of a tree have no kept hash, and what calls make of them.
-use Rattle.std.specs.Prelude.{◌≡◌, ℕ, suc, ◌+◌, ◌-◌, ◌*◌, ◌<◌, ◌≤◌, nat_le, Bool, true, false, ◌||◌, List, [], ◌∷◌}
+use Rattle.std.specs.Prelude.{◌≡◌, ℕ, suc, ◌+◌, ◌-◌, ◌*◌, ◌<◌, ◌≤◌, nat_le, Bool, true, ◌||◌, List, [], ◌∷◌}
 use Rattle.mls_term.specs.Sets.{has}
 use Rattle.mls_term.specs.Term.{Term, size, height}
 use Rattle.mls_hash.specs.Counter.{counted}

@@ -176,7 +176,7 @@ impl PublicTree {
         requires short { HasShortLeaves (term self.old) }
         ensures answer { Answers (λ _. passed) number_of (tree_checks (rules_of S.crypto group_id.now) (term self.old)) result }
         // 23 comes whatever memory there is.
-        ensures refused { RefusesOutright number_of (require 23 (has_good_lists (term self.old))) result }
+        ensures outright { RefusesOutright number_of (require 23 (has_good_lists (term self.old))) result }
         ensures good { OnOk result (has_good_shape (term self.old) ≡ true → IsGood (rules_of S.crypto group_id.now) (term self.old)) }
         ensures same { term self.new ≡ term self.old }
         ensures warms { Warms self.old self.new }

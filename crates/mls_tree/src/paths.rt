@@ -1,6 +1,6 @@
 //! A commit's path: the parent hash of its leaf, and its merge.
 
-ghost use Rattle.std.specs.Prelude.{◌≡◌, ℕ, ◌≤◌, List, [], reverse, length, None, true, IfOk, OnOk, OnErr};
+ghost use Rattle.std.specs.Prelude.{◌≡◌, ℕ, ◌≤◌, List, [], reverse, length, None, IfOk, OnOk, OnErr};
 ghost use Rattle.mls_wire.specs.Checks.{passed, Answers, AnswersOutright};
 ghost use Rattle.mls_treemath.specs.Limits.{max_height};
 ghost use Rattle.mls_term.specs.Node.{source_hash};
@@ -111,7 +111,7 @@ impl PublicTree {
     ) -> Result<Vec<SharedParent>, TreeError>
         requires { self.now.kept ≡ hashes_of 0 (term self.now) }
         ensures checks { Answers (λ _. passed) number_of (merge_checks (term self.now) i leaf.now keys.items) result }
-        ensures refused { RefusesOutright number_of (path_checks (term self.now) i (length keys.items)) result }
+        ensures outright { RefusesOutright number_of (path_checks (term self.now) i (length keys.items)) result }
         ensures parents { IfOk result (λ v. v.items ≡ path_parents 0 (term self.now) i (reverse keys.items) []) }
     {
         match self.require_path(i, keys.len()) {
@@ -135,7 +135,7 @@ impl PublicTree {
     /// (22) where no member is at leaf i, whatever memory there is.
     pub fn ciphertext_counts(&self, i: u32, added: &[u32]) -> Result<Vec<usize>, TreeError>
         ensures answer { Answers (λ v. v.items) number_of (counts_answer (term self.now) i added.now) result }
-        ensures refused { RefusesOutright number_of (counts_answer (term self.now) i added.now) result }
+        ensures outright { RefusesOutright number_of (counts_answer (term self.now) i added.now) result }
     {
         match self.require_member(i) {
             Err(error) => return Err(error),
@@ -151,7 +151,7 @@ impl PublicTree {
     /// where there aren't as many keys as its filtered path has parents.
     pub fn path_parent_hash(&mut self, i: u32, keys: &[Bytes]) -> Result<Vec<u8>, TreeError>
         ensures answer { Answers (λ v. v.items) number_of (path_hash_answer (term self.old) i keys.now) result }
-        ensures refused { RefusesOutright number_of (path_checks (term self.old) i (length keys.now)) result }
+        ensures outright { RefusesOutright number_of (path_checks (term self.old) i (length keys.now)) result }
         ensures same { term self.new ≡ term self.old }
         ensures warms { Warms self.old self.new }
     {
@@ -172,7 +172,7 @@ impl PublicTree {
     pub fn merge_path(&mut self, i: u32, leaf: LeafNode, keys: Vec<Bytes>) -> Result<(), TreeError>
         ensures answer { ChangesWhole number_of (merge_answer (term self.old) i leaf keys.items) (term self.old) (term self.new) result }
         // 22 and 30 come whatever memory there is.
-        ensures refused { RefusesOutright number_of (path_checks (term self.old) i (length keys.items)) result }
+        ensures outright { RefusesOutright number_of (path_checks (term self.old) i (length keys.items)) result }
         // A good tree stays good where the leaf and the keys pass the checks.
         ensures good { OnOk result (KeepsGood (λ rules. AreNew rules i leaf keys.items (put 0 (term self.old) i None)) (term self.old) (term self.new)) }
         // It warms nodes, and then makes the leaf and the nodes over it cold.

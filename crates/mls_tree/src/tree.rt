@@ -81,7 +81,7 @@ impl PublicTree {
     pub fn from_nodes(nodes: Vec<Slot>) -> Result<PublicTree, TreeError>
         ensures answer { Answers term number_of (from_nodes max_leaves nodes.items) result }
         // 20 comes whatever memory there is, where the nodes alone show it.
-        ensures refused { RefusesOutright number_of (require 20 (has_last nodes.items && alternates true nodes.items)) result }
+        ensures outright { RefusesOutright number_of (require 20 (has_last nodes.items && alternates true nodes.items)) result }
         ensures shape { IfOk result (λ t. has_good_shape (term t) ≡ true) }
         // Its leaves are short where the nodes are, as those of an input are.
         ensures short { IfOk result (λ t. AreShort nodes.items → HasShortLeaves (term t)) }
@@ -170,7 +170,7 @@ impl PublicTree {
     /// where no member is there.
     pub fn filtered_path(&self, i: u32) -> Result<Vec<u32>, TreeError>
         ensures answer { Answers (λ v. v.items) number_of (path_answer (term self.now) i) result }
-        ensures refused { RefusesOutright number_of (path_answer (term self.now) i) result }
+        ensures outright { RefusesOutright number_of (path_answer (term self.now) i) result }
     {
         match self.require_member(i) {
             Err(error) => return Err(error),
@@ -205,7 +205,7 @@ impl PublicTree {
     /// memory there is.
     pub fn add(&mut self, leaf: LeafNode) -> Result<u32, TreeError>
         ensures answer { DoesAs (λ i. i) number_of (add_answer (term self.old) leaf) (term self.old) (term self.new) result }
-        ensures refused { RefusesOutright number_of (add_answer (term self.old) leaf) result }
+        ensures outright { RefusesOutright number_of (add_answer (term self.old) leaf) result }
         // A good tree stays good where the leaf passes the checks, and a sound one sound.
         ensures good { OnOk result (KeepsGood (λ rules. (max_leaves ≤ rules.limit) × AreNew rules (place_in (term self.old)) leaf [] (term self.old)) (term self.old) (term self.new)) }
         ensures sound { OnOk result (KeepsSound (λ rules. (max_leaves ≤ rules.limit) × AreFit rules (place_in (term self.old)) leaf []) (term self.old) (term self.new)) }
@@ -237,7 +237,7 @@ impl PublicTree {
     /// member is there. After a refusal the tree is as before.
     pub fn update(&mut self, i: u32, leaf: LeafNode) -> Result<(), TreeError>
         ensures answer { ChangesWhole number_of (update_answer (term self.old) i leaf) (term self.old) (term self.new) result }
-        ensures refused { RefusesOutright number_of (update_answer (term self.old) i leaf) result }
+        ensures outright { RefusesOutright number_of (update_answer (term self.old) i leaf) result }
         // A good tree stays good where the leaf passes the checks, and a sound one sound.
         ensures good { OnOk result (KeepsGood (λ rules. AreNew rules i leaf [] (put 0 (term self.old) i None)) (term self.old) (term self.new)) }
         ensures sound { OnOk result (KeepsSound (λ rules. AreFit rules i leaf []) (term self.old) (term self.new)) }

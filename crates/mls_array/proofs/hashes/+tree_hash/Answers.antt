@@ -1,9 +1,9 @@
-use Rattle.std.proofs.Common.{◌≡◌, ◌<◌, ◌+◌, length, get_or, None, refl, ◌∙◌, arith, ap, sym, subst}
-use Rattle.std.proofs.lemmas.List.{get_or_default, length-drop, take_rest}
+use Rattle.std.proofs.Common.{◌+◌, length, get_or, None, ◌∙◌, arith, ap, sym, subst}
+use Rattle.std.proofs.lemmas.List.{get_or_default, take_rest}
 use Rattle.mls_treemath.specs.Sizes.{nodes_in_pos}
 use Rattle.mls_term.specs.Inputs.{leaf_hash}
-use Rattle.mls_array.specs.Kept.{hashes_of, Keeps, cold_places}
-use Rattle.mls_array.proofs.Readings.{in_parts, in_sides, right_side}
+use Rattle.mls_array.specs.Kept.{Keeps}
+use Rattle.mls_array.proofs.Readings.{in_parts, in_sides}
 use Rattle.mls_array.proofs.Hashed.{hash_one, hash_sides}
 use Rattle.mls_array.proofs.Ties.{left_shape, right_shape, left_count, right_count}
 use Rattle.mls_array.proofs.Keepings.{leaf_warm, root_warm, leaf_value, leaf_made, leaf_counts, branch_value, branch_made, branch_counts, none_missing, left_kept, right_kept, behind_first}

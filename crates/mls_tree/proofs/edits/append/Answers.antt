@@ -1,4 +1,4 @@
-use Rattle.std.proofs.Common.{suc, ◌+◌, ◌^◌, ◌++◌, None, replicate, ◌∙◌, sym, ap, arith}
+use Rattle.std.proofs.Common.{suc, ◌++◌, None, replicate, ◌∙◌, sym, ap, arith}
 use Rattle.std.proofs.lemmas.Nat.{one_shl}
 use Rattle.mls_treemath.specs.Paths.{nodes_in}
 use Rattle.mls_term.specs.Edits.{grow}

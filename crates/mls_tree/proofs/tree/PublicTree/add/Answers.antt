@@ -38,31 +38,31 @@ pub returns-in_ok-append-in-None-clause-sound : goal.returns-in_ok-append-in-Non
 returns-in_ok-append-in-None-clause-sound c =
     add_sound _ _ c.args.leaf _ (returns-in_ok-append-in-None-clause-answer c)
 
-pub returns-then-height-eq-MAX_HEIGHT-clause-refused : goal.returns-then-height-eq-MAX_HEIGHT-clause-refused
-returns-then-height-eq-MAX_HEIGHT-clause-refused c =
+pub returns-then-height-eq-MAX_HEIGHT-clause-outright : goal.returns-then-height-eq-MAX_HEIGHT-clause-outright
+returns-then-height-eq-MAX_HEIGHT-clause-outright c =
     one_number _ 21 (add_full c.args.self.now c.args.leaf c.self.inside.height c.self.inside.nodes.items _ (ap term c.self.view_is) c.deref.ensures.value c.self.invariant.1 c.in-None.ensures c.if-height-eq-MAX_HEIGHT.true)
 
-pub returns-in_err-enter-in-Some-clause-refused : goal.returns-in_err-enter-in-Some-clause-refused
-returns-in_err-enter-in-Some-clause-refused c = λ n h.
+pub returns-in_err-enter-in-Some-clause-outright : goal.returns-in_err-enter-in-Some-clause-outright
+returns-in_err-enter-in-Some-clause-outright c = λ n h.
     absurd (not_refused _ _ (may_add_in c.args.self.now c.args.leaf c.self.inside.height c.self.inside.nodes.items _ (ap term c.self.view_is) c.deref.ensures.value c.self.invariant.1 _ c.in-Some.ensures) n h)
 
-pub returns-in_err-append-in-None-clause-refused : goal.returns-in_err-append-in-None-clause-refused
-returns-in_err-append-in-None-clause-refused c = λ n h.
+pub returns-in_err-append-in-None-clause-outright : goal.returns-in_err-append-in-None-clause-outright
+returns-in_err-append-in-None-clause-outright c = λ n h.
     let low = c.self.invariant.1 in
     absurd (not_refused _ _ (may_add_beside c.args.self.now c.args.leaf c.self.inside.height c.self.inside.nodes.items _ (ap term c.self.view_is) c.deref.ensures.value c.self.invariant.1 c.in-None.ensures (let other = c.if-height-eq-MAX_HEIGHT.false in omega arith)) n h)
 
-pub returns-in_ok-enter-in-Some-clause-refused : goal.returns-in_ok-enter-in-Some-clause-refused
-returns-in_ok-enter-in-Some-clause-refused c = not_refused _ _ (returns-in_ok-enter-in-Some-clause-answer c)
+pub returns-in_ok-enter-in-Some-clause-outright : goal.returns-in_ok-enter-in-Some-clause-outright
+returns-in_ok-enter-in-Some-clause-outright c = not_refused _ _ (returns-in_ok-enter-in-Some-clause-answer c)
 
-pub returns-in_ok-append-in-None-clause-refused : goal.returns-in_ok-append-in-None-clause-refused
-returns-in_ok-append-in-None-clause-refused c = not_refused _ _ (returns-in_ok-append-in-None-clause-answer c)
+pub returns-in_ok-append-in-None-clause-outright : goal.returns-in_ok-append-in-None-clause-outright
+returns-in_ok-append-in-None-clause-outright c = not_refused _ _ (returns-in_ok-append-in-None-clause-answer c)
 
-pub returns-in_err-leaf-in-Some-clause-refused : goal.returns-in_err-leaf-in-Some-clause-refused
-returns-in_err-leaf-in-Some-clause-refused c = λ n h.
+pub returns-in_err-leaf-in-Some-clause-outright : goal.returns-in_err-leaf-in-Some-clause-outright
+returns-in_err-leaf-in-Some-clause-outright c = λ n h.
     absurd (not_refused _ _ (may_add_in c.args.self.now c.args.leaf c.self.inside.height c.self.inside.nodes.items _ (ap term c.self.view_is) c.deref.ensures.value c.self.invariant.1 _ c.in-Some.ensures) n h)
 
-pub returns-in_err-leaf-in-None-clause-refused : goal.returns-in_err-leaf-in-None-clause-refused
-returns-in_err-leaf-in-None-clause-refused c = λ n h.
+pub returns-in_err-leaf-in-None-clause-outright : goal.returns-in_err-leaf-in-None-clause-outright
+returns-in_err-leaf-in-None-clause-outright c = λ n h.
     let low = c.self.invariant.1 in
     absurd (not_refused _ _ (may_add_beside c.args.self.now c.args.leaf c.self.inside.height c.self.inside.nodes.items _ (ap term c.self.view_is) c.deref.ensures.value c.self.invariant.1 c.in-None.ensures (let other = c.if-height-eq-MAX_HEIGHT.false in omega arith)) n h)
 

@@ -17,11 +17,11 @@ returns-clause-answer c =
     ∙ ap (λ xs. Ok (ciphertext_counts 0 (term_of c.self.inside.height xs) c.args.i c.args.added.now)) (sym c.deref.ensures.value)
     ∙ ap Ok (sym (rw c.new-counts.ensures.items at c.in_ok-ciphertext_counts.ensures))
 
-pub returns-in-Err-clause-refused : goal.returns-in-Err-clause-refused
-returns-in-Err-clause-refused c = one_number _ _ (counts_refused _ _ c.args.added.now c.in-Err.ensures.1 ∙ ap (λ e. Err (number_of e)) (sym c.in-Err.ensures.0))
+pub returns-in-Err-clause-outright : goal.returns-in-Err-clause-outright
+returns-in-Err-clause-outright c = one_number _ _ (counts_refused _ _ c.args.added.now c.in-Err.ensures.1 ∙ ap (λ e. Err (number_of e)) (sym c.in-Err.ensures.0))
 
-pub returns-in_err-ciphertext_counts-clause-refused : goal.returns-in_err-ciphertext_counts-clause-refused
-returns-in_err-ciphertext_counts-clause-refused c = λ n h. absurd (not_refused _ _ (counts_found _ _ c.args.added.now c.in-Ok.ensures) n h)
+pub returns-in_err-ciphertext_counts-clause-outright : goal.returns-in_err-ciphertext_counts-clause-outright
+returns-in_err-ciphertext_counts-clause-outright c = λ n h. absurd (not_refused _ _ (counts_found _ _ c.args.added.now c.in-Ok.ensures) n h)
 
-pub returns-clause-refused : goal.returns-clause-refused
-returns-clause-refused c = not_refused _ _ (counts_found _ _ c.args.added.now c.in-Ok.ensures)
+pub returns-clause-outright : goal.returns-clause-outright
+returns-clause-outright c = not_refused _ _ (counts_found _ _ c.args.added.now c.in-Ok.ensures)

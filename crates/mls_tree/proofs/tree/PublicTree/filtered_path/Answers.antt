@@ -17,11 +17,11 @@ returns-clause-answer c =
     ∙ ap (λ xs. Ok (filtered_path 0 (term_of c.self.inside.height xs) c.args.i)) (sym c.deref.ensures.value)
     ∙ ap Ok (sym (rw c.new-nodes.ensures.items at c.in_ok-filtered_path.ensures))
 
-pub returns-in-Err-clause-refused : goal.returns-in-Err-clause-refused
-returns-in-Err-clause-refused c = one_number _ _ (path_refused _ _ c.in-Err.ensures.1 ∙ ap (λ e. Err (number_of e)) (sym c.in-Err.ensures.0))
+pub returns-in-Err-clause-outright : goal.returns-in-Err-clause-outright
+returns-in-Err-clause-outright c = one_number _ _ (path_refused _ _ c.in-Err.ensures.1 ∙ ap (λ e. Err (number_of e)) (sym c.in-Err.ensures.0))
 
-pub returns-in_err-filtered_path-clause-refused : goal.returns-in_err-filtered_path-clause-refused
-returns-in_err-filtered_path-clause-refused c = λ n h. absurd (not_refused _ _ (path_found _ _ c.in-Ok.ensures) n h)
+pub returns-in_err-filtered_path-clause-outright : goal.returns-in_err-filtered_path-clause-outright
+returns-in_err-filtered_path-clause-outright c = λ n h. absurd (not_refused _ _ (path_found _ _ c.in-Ok.ensures) n h)
 
-pub returns-clause-refused : goal.returns-clause-refused
-returns-clause-refused c = not_refused _ _ (path_found _ _ c.in-Ok.ensures)
+pub returns-clause-outright : goal.returns-clause-outright
+returns-clause-outright c = not_refused _ _ (path_found _ _ c.in-Ok.ensures)

@@ -25,14 +25,14 @@ returns-clause-good c = update_good _ _ c.args.i c.args.leaf (returns-clause-ans
 pub returns-clause-sound : goal.returns-clause-sound
 returns-clause-sound c = update_sound _ _ c.args.i c.args.leaf (returns-clause-answer c)
 
-pub returns-in-Err-clause-refused : goal.returns-in-Err-clause-refused
-returns-in-Err-clause-refused c = one_number _ _ (update_refused _ _ c.args.leaf c.in-Err.ensures.1 ∙ ap (λ e. Rattle.std.proofs.Common.Err (number_of e)) (sym c.in-Err.ensures.0))
+pub returns-in-Err-clause-outright : goal.returns-in-Err-clause-outright
+returns-in-Err-clause-outright c = one_number _ _ (update_refused _ _ c.args.leaf c.in-Err.ensures.1 ∙ ap (λ e. Rattle.std.proofs.Common.Err (number_of e)) (sym c.in-Err.ensures.0))
 
-pub returns-clause-refused : goal.returns-clause-refused
-returns-clause-refused c = not_refused _ _ (update_done _ _ c.args.leaf c.in-Ok.ensures)
+pub returns-clause-outright : goal.returns-clause-outright
+returns-clause-outright c = not_refused _ _ (update_done _ _ c.args.leaf c.in-Ok.ensures)
 
-pub returns-in_err-leaf-clause-refused : goal.returns-in_err-leaf-clause-refused
-returns-in_err-leaf-clause-refused c = λ n h. absurd (not_refused _ _ (update_done _ _ c.args.leaf c.in-Ok.ensures) n h)
+pub returns-in_err-leaf-clause-outright : goal.returns-in_err-leaf-clause-outright
+returns-in_err-leaf-clause-outright c = λ n h. absurd (not_refused _ _ (update_done _ _ c.args.leaf c.in-Ok.ensures) n h)
 
 pub drop_way-requires-clause-shape : goal.drop_way-requires-clause-shape
 drop_way-requires-clause-shape c = kept_long c.self.inside.height c.self.inside.nodes.items _ c.self.invariant.2
