@@ -21,7 +21,7 @@ pub enum CheckError {
 }
 
 impl CheckError {
-    ghost use Rattle.mls_text.specs.Refusals.{refusal_name};
+    ghost use Rattle.mls_wire.specs.Names.{refusal_name};
     ghost use Rattle.mls_check.specs.CheckFaults.{number_of};
 
     /// The number of the refusal.

@@ -10,5 +10,5 @@ mod tests;
 
 pub use checks::{Source, key_package, replaced};
 pub use error::CheckError;
-pub use laws::laws_of_leaves;
+pub use laws::{check_names_by_number, laws_of_leaves};
 pub use leaf::{leaf_capable, leaf_signed};

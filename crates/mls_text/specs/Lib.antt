@@ -1,5 +1,4 @@
 pub mod Text
-pub mod Refusals
 pub mod Ends
 pub mod File
 pub mod Page

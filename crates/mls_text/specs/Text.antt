@@ -3,7 +3,7 @@ use Rattle.std.specs.Prelude.{◌==◌, length, if◌then◌else◌, ◌/◌, �
 use Rattle.std.specs.List.{join_by}
 use Rattle.std.specs.Fmt.{decimal}
 use Rattle.hex.specs.Hex.{encode_lower}
-use Rattle.mls_text.specs.Refusals.{refusal_name}
+use Rattle.mls_wire.specs.Names.{refusal_name}
 use Rattle.mls_text.specs.declared.text.Field.{Field}
 use Rattle.mls_text.specs.declared.text.Field.TheVariants as field
 use Rattle.mls_text.specs.declared.text.Line.{Line}

@@ -1,12 +1,23 @@
 //! The names of refusals.
 
 ghost use Rattle.std.specs.Prelude.{◌≡◌};
-ghost use Rattle.mls_text.specs.Refusals.{refusal_name};
+ghost use Rattle.mls_wire.specs.Names.{name_in, names_of_bytes, names_of_trees, names_of_members, names_of_joins, refusal_name};
 
 /// The name of the refusal with that number, as it is printed; nothing for another number.
-#[tactic(auto, unfolding(crate::specs::Refusals::refusal_name))]
 pub fn refusal_name(number: u8) -> &'static str
     ensures { result.now ≡ refusal_name number }
+{
+    match number {
+        0..=19 => name_of_bytes(number),
+        20..=39 => name_of_trees(number),
+        40..=69 => name_of_members(number),
+        _ => name_of_joins(number),
+    }
+}
+
+// of bytes and texts
+fn name_of_bytes(number: u8) -> &'static str
+    ensures { result.now ≡ name_in names_of_bytes number }
 {
     match number {
         1 => "OutOfMemory",
@@ -18,10 +29,20 @@ pub fn refusal_name(number: u8) -> &'static str
         7 => "BadTag",
         8 => "NotHex",
         9 => "BadJson",
+        10 => "OutputTooLong",
         11 => "UnsupportedCredential",
         12 => "UnsupportedProposal",
         13 => "NotRising",
         14 => "ExtensionNotAllowed",
+        _ => "",
+    }
+}
+
+// of trees and private paths
+fn name_of_trees(number: u8) -> &'static str
+    ensures { result.now ≡ name_in names_of_trees number }
+{
+    match number {
         20 => "TreeShape",
         21 => "TreeFull",
         22 => "NoSuchLeaf",
@@ -30,9 +51,73 @@ pub fn refusal_name(number: u8) -> &'static str
         25 => "KeyRepeated",
         26 => "ClientRepeated",
         30 => "PathLength",
+        31 => "CipherCount",
+        32 => "OpenFailed",
+        33 => "SecretLength",
+        34 => "PathKeyMismatch",
+        35 => "KeyMissing",
         36 => "BadKey",
+        _ => "",
+    }
+}
+
+// of messages, leaves and commits
+fn name_of_members(number: u8) -> &'static str
+    ensures { result.now ≡ name_in names_of_members number }
+{
+    match number {
+        40 => "Gone",
+        41 => "NotPublicMessage",
+        42 => "WrongGroup",
+        43 => "WrongEpoch",
+        44 => "SenderNotMember",
+        45 => "NotHandshake",
+        46 => "BadMembershipTag",
+        47 => "BadSignature",
+        48 => "OwnUnknown",
+        49 => "ReferenceTaken",
+        50 => "LeafSource",
         51 => "LeafSignature",
         52 => "LeafCapability",
+        53 => "LeafIdentityChanged",
+        54 => "LeafKeySame",
+        55 => "KeyPackageSuite",
+        56 => "KeyPackageSignature",
+        57 => "InitKeySame",
+        60 => "UnknownReference",
+        61 => "CommitterUpdate",
+        62 => "CommitterRemoved",
+        63 => "SameLeafTwice",
+        64 => "PathMissing",
+        65 => "BadConfirmationTag",
+        66 => "EpochEnd",
+        67 => "PendingCommit",
+        _ => "",
+    }
+}
+
+// of welcomes and of worlds
+fn name_of_joins(number: u8) -> &'static str
+    ensures { result.now ≡ name_in names_of_joins number }
+{
+    match number {
+        70 => "NotWelcome",
+        71 => "WrongSuite",
+        72 => "NotForMe",
+        73 => "SecretsUnreadable",
+        74 => "PskPresent",
+        75 => "GroupInfoUnreadable",
+        76 => "NoTree",
+        77 => "TreeHashWrong",
+        78 => "SignerWrong",
+        79 => "GroupInfoSignature",
+        80 => "NotInTree",
+        90 => "NoSuchMember",
+        91 => "CandidateSpent",
+        92 => "NoSuchCandidate",
+        93 => "CandidateRepeated",
+        94 => "NoSuchMessage",
+        95 => "WrongMessageKind",
         _ => "",
     }
 }

@@ -4,7 +4,7 @@ ghost use Rattle.std.specs.Prelude.{◌≡◌, ◌++◌, ◌∷◌, [], codes, m
 ghost use Rattle.std.specs.Fmt.{decimal};
 ghost use Rattle.std.specs.List.{flat_map, join_by};
 ghost use Rattle.hex.specs.Hex.{encode_lower};
-ghost use Rattle.mls_text.specs.Refusals.{refusal_name as name_of};
+ghost use Rattle.mls_wire.specs.Names.{refusal_name as name_of};
 ghost use Rattle.mls_text.specs.TextLaws.{line_nonempty};
 ghost use Rattle.mls_text.specs.Text.{entry, entry_of, four_digits, or_dash, line_text, shown_by, shown_text};
 
@@ -117,9 +117,16 @@ fn push_number(alloc: Global, text: &mut Vec<u8>, number: u64) -> Result<(), All
 fn push_refusal(alloc: Global, text: &mut Vec<u8>, number: u8) -> Result<(), AllocError>
     ensures { OnOk result (text.new.items ≡ text.old.items ++ (decimal number ++ codes " " ++ name_of number)) }
 {
+    push_named(alloc, text, number, refusal_name(number))
+}
+
+// a number, a space and its name
+fn push_named(alloc: Global, text: &mut Vec<u8>, number: u8, name: &str) -> Result<(), AllocError>
+    ensures { OnOk result (text.new.items ≡ text.old.items ++ (decimal number ++ codes " " ++ name.now)) }
+{
     push_number(alloc, text, u64::from(number))?;
     text.push(b' ')?;
-    text.extend_from_slice(refusal_name(number).as_bytes())
+    text.extend_from_slice(name.as_bytes())
 }
 
 fn push_digits(alloc: Global, text: &mut Vec<u8>, number: u16) -> Result<(), AllocError>

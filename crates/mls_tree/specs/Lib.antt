@@ -1,5 +1,6 @@
 pub mod Tree
 pub mod Faults
+pub mod Names
 pub mod Paths
 pub mod Rules
 pub mod Kept

@@ -1,7 +1,8 @@
-//! What passed its checks is fit for a tree, and what hashing costs.
+//! What passed its checks is fit for a tree, what hashing costs, and how refusals are named.
 
 ghost use Rattle.mls_tree.specs.Cold.{FewHashes};
 ghost use Rattle.mls_tree.specs.Laws.{PackageFits, ReplacementFits};
+ghost use Rattle.mls_tree.specs.Names.{TreeNamesAreListed};
 
 /// A KeyPackage, an update and a path's leaf that passed their checks are fit for the tree of their group. Does nothing.
 pub fn laws_of_leaves()
@@ -13,4 +14,9 @@ pub fn laws_of_leaves()
 /// tree is higher than h and doublings add d nodes. A law, which does nothing.
 pub fn hashing_costs()
     ensures { FewHashes }
+{}
+
+/// The names of refusals stand in one table, each at its number.
+pub fn tree_names_by_number()
+    ensures { TreeNamesAreListed }
 {}

@@ -23,6 +23,6 @@ mod tests;
 mod tree;
 
 pub use error::TreeError;
-pub use laws::{hashing_costs, laws_of_leaves};
+pub use laws::{hashing_costs, laws_of_leaves, tree_names_by_number};
 pub use mls_array::Hash;
 pub use tree::PublicTree;

@@ -1,5 +1,6 @@
 pub mod Secrets
 pub mod Faults
+pub mod Names
 pub mod Place
 pub mod Raised
 pub mod Climbing

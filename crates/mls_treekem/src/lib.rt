@@ -9,6 +9,7 @@ mod error;
 mod follow;
 mod joiner;
 mod keys;
+mod laws;
 mod make;
 mod open;
 #[cfg(test)]
@@ -29,6 +30,7 @@ mod take_tests;
 mod tests;
 
 pub use error::TreeKemError;
+pub use laws::treekem_names_by_number;
 pub use private_path::PrivatePath;
 pub use seal::{seal_path, seals_in};
 pub use secrets::PathSecrets;

@@ -1,0 +1,5 @@
+use Rattle.mls_checks.specs.Names.{check_names_listed}
+use Rattle.mls_checks.proofs.laws.check_names_by_number.Goals as goal
+
+pub returns : goal.returns
+returns c = check_names_listed
