@@ -59,8 +59,8 @@ impl PathSecrets {
 
     /// The path secret of the lowest node over both leaves, which the committer sends to a leaf that it adds
     /// (RFC 9420, 12.4.3.1). These are the secrets of the committer's filtered direct path in the tree after the edits,
-    /// with the path merged or not. None where the leaves aren't two leaves of the tree, or that node has no secret
-    /// here. Refused for want of memory alone.
+    /// with the path merged or not. None where no parent over the committer has the joiner on its other side, or that
+    /// parent has no secret here. Refused for want of memory alone.
     pub fn secret_for(
         &self,
         alloc: Global,
