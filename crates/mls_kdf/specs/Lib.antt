@@ -1,3 +1,5 @@
 pub mod Kdf
 pub mod Keyed
 pub mod Lengths
+pub mod Faults
+pub mod Names

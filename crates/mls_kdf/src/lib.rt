@@ -6,6 +6,7 @@ mod header;
 mod hkdf;
 mod keyed;
 mod labels;
+mod laws;
 #[cfg(test)]
 mod tests;
 
@@ -13,6 +14,7 @@ pub use header::content_header;
 pub use hkdf::{expand, extract};
 pub use keyed::{KeyedHash, hash, hmac};
 pub use labels::{derive_secret, expand_with_label, ref_hash};
+pub use laws::kdf_names_by_number;
 use thiserror::Error;
 
 /// A hash, or a secret of a hash's length.
@@ -33,11 +35,12 @@ pub enum KdfError {
 }
 
 impl KdfError {
-    ghost use Rattle.std.specs.Prelude.{◌≡◌, codes};
+    ghost use Rattle.std.specs.Prelude.{◌≡◌};
+    ghost use Rattle.mls_kdf.specs.Faults.{number_of, name_of};
 
     /// The number of the refusal.
     pub fn number(self) -> u8
-        ensures { result ≡ 10 }
+        ensures { result ≡ number_of self }
     {
         match self {
             KdfError::OutputTooLong => 10,
@@ -46,7 +49,7 @@ impl KdfError {
 
     /// The name of the refusal.
     pub fn name(self) -> &'static str
-        ensures { result.now ≡ codes "OutputTooLong" }
+        ensures { result.now ≡ name_of self }
     {
         match self {
             KdfError::OutputTooLong => "OutputTooLong",

@@ -4,3 +4,5 @@ pub mod Twins
 pub mod Lengths
 pub mod Laws
 pub mod Held
+pub mod Faults
+pub mod Names

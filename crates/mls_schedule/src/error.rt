@@ -1,6 +1,6 @@
 //! What the schedule refuses.
 
-ghost use Rattle.std.specs.Prelude.{◌≡◌, codes};
+ghost use Rattle.std.specs.Prelude.{◌≡◌};
 
 use mls_kdf::KdfError;
 use thiserror::Error;
@@ -24,9 +24,11 @@ impl From<KdfError> for ScheduleError {
 }
 
 impl ScheduleError {
+    ghost use Rattle.mls_schedule.specs.Faults.{number_of, name_of};
+
     /// The number of the refusal.
     pub fn number(self) -> u8
-        ensures { result ≡ 10 }
+        ensures { result ≡ number_of self }
     {
         match self {
             ScheduleError::Kdf(error) => error.number(),
@@ -35,7 +37,7 @@ impl ScheduleError {
 
     /// The name of the refusal.
     pub fn name(self) -> &'static str
-        ensures { result.now ≡ codes "OutputTooLong" }
+        ensures { result.now ≡ name_of self }
     {
         match self {
             ScheduleError::Kdf(error) => error.name(),

@@ -1,0 +1,5 @@
+use Rattle.mls_kdf.specs.Names.{kdf_names_listed}
+use Rattle.mls_kdf.proofs.laws.kdf_names_by_number.Goals as goal
+
+pub returns : goal.returns
+returns c = kdf_names_listed

@@ -1,0 +1,5 @@
+use Rattle.mls_schedule.specs.Names.{schedule_names_listed}
+use Rattle.mls_schedule.proofs.laws.schedule_names_by_number.Goals as goal
+
+pub returns : goal.returns
+returns c = schedule_names_listed
