@@ -1,0 +1,87 @@
+//! Candidates.
+
+ghost use Rattle.std.specs.Prelude.{◌≡◌};
+ghost use Rattle.mls_wire.specs.Checks.{Answers};
+ghost use Rattle.mls_model.specs.Candidate.{new_candidate, package_message};
+ghost use Rattle.mls_candidate.specs.Faults.{number_of};
+
+use crate::error::CandidateError;
+use mls_kdf::{Secret, Seed};
+use mls_leaf::{KeyPackage, LeafError};
+use mls_suite::Suite;
+use mls_wire::WireError;
+use std::alloc::Global;
+use std::marker::{Model, PhantomData};
+
+/// A candidate for membership: its KeyPackage, and the private keys of its init key, of its leaf and of its signatures
+/// (RFC 9420, 10).
+#[derive(Drop)]
+pub struct Candidate<S: Suite> {
+    offered: KeyPackage,
+    message: Vec<u8>,
+    init: Secret,
+    leaf: Secret,
+    signing: Secret,
+    suite: PhantomData<S>,
+}
+
+impl<S: Suite> Model for Candidate<S> {
+    ghost use Rattle.std.specs.Prelude.{◌≡◌, ◌^◌};
+    ghost use Rattle.mls_leaf.specs.KeyPackage.{key_package};
+    ghost use Rattle.mls_public_group.specs.Short.{IsBelow};
+    ghost use Rattle.mls_model.specs.Candidate as model;
+
+    ghost Value = { model.Candidate };
+
+    ghost view = { λ k. record { offered = k.offered; init = k.init; leaf = k.leaf; signing = k.signing } };
+
+    ghost invariant = { λ k. (k.message.items ≡ model.package_message k.offered) × IsBelow (2 ^ 27) key_package k.offered };
+}
+
+impl<S: Suite> Candidate<S> {
+    /// A candidate of an identity and a seed: 57 where both keys are one, 6 where the message is too large.
+    pub fn new(
+        alloc: Global,
+        identity: &[u8],
+        seed: &Seed,
+    ) -> Result<Candidate<S>, CandidateError>
+        ensures { Answers (λ k. k) number_of (new_candidate S.crypto identity.now seed.now) result }
+    {
+        Err(CandidateError::Leaf(LeafError::Wire(WireError::OutOfMemory)))
+    }
+
+    /// The message of its KeyPackage (RFC 9420, 6).
+    pub fn message(&self) -> &[u8]
+        ensures { result.now ≡ package_message self.now.offered }
+    {
+        &self.message
+    }
+
+    /// Its KeyPackage (RFC 9420, 10).
+    pub fn key_package(&self) -> &KeyPackage
+        ensures { result.now ≡ self.now.offered }
+    {
+        &self.offered
+    }
+
+    /// The private key of its init key.
+    pub fn init_key(&self) -> &Secret
+        ensures { result.now ≡ self.now.init }
+    {
+        &self.init
+    }
+
+    /// The private key of its leaf.
+    pub fn leaf_key(&self) -> &Secret
+        ensures { result.now ≡ self.now.leaf }
+    {
+        &self.leaf
+    }
+
+    /// The private key of its signatures.
+    pub fn signing_key(&self) -> &Secret
+        ensures { result.now ≡ self.now.signing }
+    {
+        &self.signing
+    }
+}

@@ -1,0 +1,10 @@
+//! Candidates for membership, and the leaves that members make of seeds (RFC 9420, 7.2 and 10).
+#![tactic(auto)]
+
+mod candidate;
+mod error;
+mod leaf;
+
+pub use candidate::Candidate;
+pub use error::CandidateError;
+pub use leaf::{leaf_key, renewed_leaf};

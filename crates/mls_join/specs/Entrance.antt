@@ -1,0 +1,23 @@
+-- The member that an entrance makes of a candidate.
+use Rattle.std.specs.Prelude.{ℕ, false, List, [], None, Result, Ok}
+use Rattle.mls_wire.specs.Checks.{Passed, passed, given}
+use Rattle.mls_wire.specs.Reading.{◌>>=◌}
+use Rattle.mls_model.specs.Candidate.{Candidate}
+use Rattle.mls_model.specs.Join.{Joined}
+use Rattle.mls_model.specs.Messages.{decoded}
+use Rattle.mls_model.specs.Opening.{welcome_in}
+use Rattle.mls_join.specs.declared.join.Entrance.{Entrance}
+
+-- with the candidate's signature key, and with nothing kept or pending yet
+abbrev pub joined_by : Candidate → Entrance → Joined
+joined_by k e = record {
+  member = record { gone = false; public = e.group; epoch = e.epoch; keys = e.keys; signing = k.signing; kept = []; pending = None };
+  info = e.group_info.items;
+}
+
+-- what is decided of the message alone: decoding, 70 it is no Welcome
+unfoldable pub outer_checks : List ℕ → Result Passed ℕ
+outer_checks bytes = do
+  outer ← decoded bytes
+  w ← given 70 (welcome_in outer)
+  Ok passed

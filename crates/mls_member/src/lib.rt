@@ -1,0 +1,18 @@
+//! Members of groups: what they make, and what they do with messages (RFC 9420, 11 and 12).
+#![tactic(auto)]
+
+mod commit;
+mod create;
+mod error;
+mod join;
+mod kept;
+mod member;
+mod process;
+mod propose;
+
+pub use commit::Made;
+pub use error::Refusal;
+pub use join::Joined;
+pub use member::Member;
+pub use mls_candidate::Candidate;
+pub use mls_model::{Effect, Item};

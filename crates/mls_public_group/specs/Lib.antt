@@ -1,0 +1,4 @@
+pub mod Faults
+pub mod Short
+pub mod Codes
+pub mod PublicCodes

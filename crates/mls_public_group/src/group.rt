@@ -1,0 +1,85 @@
+//! The public state of a group.
+
+ghost use Rattle.std.specs.Prelude.{◌≡◌, ◌^◌, IfOk};
+ghost use Rattle.mls_group.specs.GroupContext.{group_context};
+ghost use Rattle.mls_tree.specs.Tree.{term};
+ghost use Rattle.mls_public_group.specs.Short.{HasLeavesBelow, IsShortContext};
+
+use mls_group::GroupContext;
+use mls_leaf::Codec;
+use mls_schedule::Transcript;
+use mls_tree::PublicTree;
+use std::alloc::{AllocError, Global};
+use std::marker::Model;
+
+/// The public state of a group in an epoch: its GroupContext (RFC 9420, 8.1), its ratchet tree (7.1) and its interim
+/// transcript hash (8.2).
+#[derive(Drop)]
+pub struct PublicGroup {
+    context: GroupContext,
+    // The spelling of the context, which signatures, tags and secrets are made over.
+    bytes: Vec<u8>,
+    tree: PublicTree,
+    transcript: Transcript,
+}
+
+impl Model for PublicGroup {
+    ghost use Rattle.std.specs.Prelude.{◌≡◌, ◌^◌};
+    ghost use Rattle.mls_group.specs.GroupContext.{group_context};
+    ghost use Rattle.mls_tree.specs.Tree.{term};
+        ghost use Rattle.mls_public_group.specs.Short.{HasLeavesBelow, IsShortContext};
+    ghost use Rattle.mls_model.specs.Public.{PublicState};
+    ghost use Rattle.mls_public_group.specs.PublicCodes.{coded_public};
+
+    ghost Value = { PublicState };
+
+    ghost coded = { coded_public };
+
+    ghost view = { λ g. record { context = g.context; tree = term g.tree; interim = g.transcript } };
+
+    ghost invariant = { λ g. (g.bytes.items ≡ group_context.spell g.context) × IsShortContext g.context × HasLeavesBelow (2 ^ 27) (term g.tree) };
+}
+
+impl PublicGroup {
+    /// The public state with these parts.
+    pub fn new(
+        alloc: Global,
+        context: GroupContext,
+        tree: PublicTree,
+        transcript: Transcript,
+    ) -> Result<PublicGroup, AllocError>
+        requires context { IsShortContext context }
+        requires leaves { HasLeavesBelow (2 ^ 27) (term tree) }
+        ensures { IfOk result (λ g. g ≡ record { context = context; tree = term tree; interim = transcript }) }
+    {
+        Err(AllocError)
+    }
+
+    /// The context of the epoch (RFC 9420, 8.1).
+    pub fn context(&self) -> &GroupContext
+        ensures { result.now ≡ self.now.context }
+    {
+        &self.context
+    }
+
+    /// The spelling of the context.
+    pub fn context_bytes(&self) -> &[u8]
+        ensures { result.now ≡ group_context.spell self.now.context }
+    {
+        &self.bytes
+    }
+
+    /// The ratchet tree (RFC 9420, 7.1).
+    pub fn tree(&self) -> &PublicTree
+        ensures { term result.now ≡ self.now.tree }
+    {
+        &self.tree
+    }
+
+    /// The transcript, by its interim hash (RFC 9420, 8.2).
+    pub fn transcript(&self) -> &Transcript
+        ensures { result.now ≡ self.now.interim }
+    {
+        &self.transcript
+    }
+}

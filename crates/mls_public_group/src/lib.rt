@@ -1,0 +1,13 @@
+//! What all members of a group know alike: its context, its tree and its transcript, and what the proposals of a commit
+//! make of the tree (RFC 9420, 12.1 to 12.3).
+#![tactic(auto)]
+
+mod edits;
+mod error;
+mod group;
+mod used;
+
+pub use edits::Edits;
+pub use error::GroupError;
+pub use group::PublicGroup;
+pub use used::Used;

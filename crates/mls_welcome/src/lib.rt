@@ -1,0 +1,8 @@
+//! Welcomes for those that a commit adds (RFC 9420, 12.4.3).
+#![tactic(auto)]
+
+mod error;
+mod welcome;
+
+pub use error::WelcomeError;
+pub use welcome::{Joiner, welcome};
