@@ -1,10 +1,10 @@
 //! What a commit makes of the public state of a group (RFC 9420, 12.4.2).
 #![tactic(auto)]
 
-mod body;
 mod change;
+mod commit;
 mod error;
 
-pub use body::body;
 pub use change::Change;
+pub use commit::body;
 pub use error::CommitError;

@@ -6,7 +6,7 @@ use Rattle.mls_model.specs.Candidate.{Candidate}
 use Rattle.mls_model.specs.Join.{Joined}
 use Rattle.mls_model.specs.Messages.{decoded}
 use Rattle.mls_model.specs.Opening.{welcome_in}
-use Rattle.mls_join.specs.declared.join.Entrance.{Entrance}
+use Rattle.mls_join.specs.declared.entrance.Entrance.{Entrance}
 
 -- with the candidate's signature key, and with nothing kept or pending yet
 abbrev pub joined_by : Candidate → Entrance → Joined

@@ -1,8 +1,8 @@
 //! Joining a group by a Welcome (RFC 9420, 12.4.3.1).
 #![tactic(auto)]
 
+mod entrance;
 mod error;
-mod join;
 
+pub use entrance::{Entrance, join};
 pub use error::JoinError;
-pub use join::{Entrance, join};

@@ -6,7 +6,7 @@ use Rattle.mls_leaf.specs.KeyPackage.{key_package}
 use Rattle.mls_leaf.specs.declared.key_package.KeyPackage.{KeyPackage}
 use Rattle.mls_public_group.specs.Short.{IsBelow}
 use Rattle.mls_model.specs.Welcome.{secrets_with}
-use Rattle.mls_welcome.specs.declared.welcome.Joiner.{Joiner}
+use Rattle.mls_welcome.specs.declared.making.Joiner.{Joiner}
 
 -- a joiner's KeyPackage and leaf
 abbrev pub place_of : Joiner → KeyPackage × ℕ

