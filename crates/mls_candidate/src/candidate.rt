@@ -1,6 +1,8 @@
 //! Candidates.
 
-ghost use Rattle.std.specs.Prelude.{◌≡◌};
+ghost use Rattle.std.specs.Prelude.{◌≡◌, ◌^◌};
+ghost use Rattle.mls_leaf.specs.KeyPackage.{key_package as key_package_format};
+ghost use Rattle.mls_public_group.specs.Short.{IsBelow};
 ghost use Rattle.mls_wire.specs.Checks.{Answers};
 ghost use Rattle.mls_model.specs.Candidate.{new_candidate, package_message};
 ghost use Rattle.mls_candidate.specs.Faults.{number_of};
@@ -83,5 +85,12 @@ impl<S: Suite> Candidate<S> {
         ensures { result.now ≡ self.now.signing }
     {
         &self.signing
+    }
+
+    /// A law: its KeyPackage is short.
+    pub fn is_short(&self)
+        ensures { IsBelow (2 ^ 27) key_package_format self.now.offered }
+    {
+        let _offered = &self.offered;
     }
 }

@@ -82,4 +82,12 @@ impl PublicGroup {
     {
         &self.transcript
     }
+
+    /// A law: its context is short, and so are its leaves.
+    pub fn is_short(&self)
+        ensures context { IsShortContext self.now.context }
+        ensures leaves { HasLeavesBelow (2 ^ 27) self.now.tree }
+    {
+        let _context = &self.context;
+    }
 }
