@@ -5,6 +5,7 @@ ghost use Rattle.mls_group.specs.GroupContext.{group_context};
 ghost use Rattle.mls_tree.specs.Tree.{term};
 ghost use Rattle.mls_public_group.specs.Short.{HasLeavesBelow, IsShortContext};
 
+use crate::spelling::spelling;
 use mls_group::GroupContext;
 use mls_leaf::Codec;
 use mls_schedule::Transcript;
@@ -52,7 +53,13 @@ impl PublicGroup {
         requires leaves { HasLeavesBelow (2 ^ 27) (term tree) }
         ensures { IfOk result (λ g. g ≡ record { context = context; tree = term tree; interim = transcript }) }
     {
-        Err(AllocError)
+        let bytes = spelling(alloc, &context)?;
+        Ok(PublicGroup {
+            context,
+            bytes,
+            tree,
+            transcript,
+        })
     }
 
     /// The context of the epoch (RFC 9420, 8.1).

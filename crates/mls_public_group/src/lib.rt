@@ -5,6 +5,7 @@
 mod edits;
 mod error;
 mod group;
+mod spelling;
 mod used;
 
 pub use edits::Edits;
