@@ -17,11 +17,11 @@ use std::marker::Model;
 /// transcript hash (8.2).
 #[derive(Drop)]
 pub struct PublicGroup {
-    context: GroupContext,
+    pub(crate) context: GroupContext,
     // The spelling of the context, which signatures, tags and secrets are made over.
-    bytes: Vec<u8>,
-    tree: PublicTree,
-    transcript: Transcript,
+    pub(crate) bytes: Vec<u8>,
+    pub(crate) tree: PublicTree,
+    pub(crate) transcript: Transcript,
 }
 
 impl Model for PublicGroup {
