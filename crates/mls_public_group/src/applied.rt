@@ -50,11 +50,7 @@ fn apply_removes(tree: &mut PublicTree, leaves: &[u32]) -> Result<(), GroupError
 }
 
 /// Adds the member of a proposal, where it is an add, and its leaf to those that were added.
-fn apply_add(
-    tree: &mut PublicTree,
-    used: &Used<'_>,
-    added: &mut Vec<u32>,
-) -> Result<(), GroupError>
+fn apply_add(tree: &mut PublicTree, used: &Used<'_>, added: &mut Vec<u32>) -> Result<(), GroupError>
     ensures { Answers (λ _. record { tree = term tree.new; added = added.new.items }) number_of (behind added.old.items (all_added (term tree.old) (adds (used.now ∷ [])))) result }
 {
     match used.proposal {

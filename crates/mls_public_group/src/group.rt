@@ -19,16 +19,16 @@ use std::marker::Model;
 pub struct PublicGroup {
     pub(crate) context: GroupContext,
     // The spelling of the context, which signatures, tags and secrets are made over.
-    pub(crate) bytes: Vec<u8>,
+    bytes: Vec<u8>,
     pub(crate) tree: PublicTree,
-    pub(crate) transcript: Transcript,
+    transcript: Transcript,
 }
 
 impl Model for PublicGroup {
     ghost use Rattle.std.specs.Prelude.{◌≡◌, ◌^◌};
     ghost use Rattle.mls_group.specs.GroupContext.{group_context};
     ghost use Rattle.mls_tree.specs.Tree.{term};
-        ghost use Rattle.mls_public_group.specs.Short.{HasLeavesBelow, IsShortContext};
+    ghost use Rattle.mls_public_group.specs.Short.{HasLeavesBelow, IsShortContext};
     ghost use Rattle.mls_model.specs.Public.{PublicState};
     ghost use Rattle.mls_public_group.specs.PublicCodes.{coded_public};
 

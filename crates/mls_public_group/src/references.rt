@@ -57,10 +57,7 @@ fn as_strings(alloc: Global, references: &[Secret]) -> Result<Vec<&[u8]>, AllocE
 }
 
 /// Whether no two adds have one reference.
-pub(crate) fn has_distinct_references(
-    alloc: Global,
-    used: &[Used<'_>],
-) -> Result<bool, AllocError>
+pub(crate) fn has_distinct_references(alloc: Global, used: &[Used<'_>]) -> Result<bool, AllocError>
     requires { AreBelow (2 ^ 28) used.now }
     ensures { IfOk result (λ b. b ≡ is_distinct same_bytes (map package_reference (adds used.now))) }
 {
