@@ -4,6 +4,8 @@
 mod candidate;
 mod error;
 mod leaf;
+mod package;
+mod texts;
 
 pub use candidate::Candidate;
 pub use error::CandidateError;
