@@ -1,6 +1,6 @@
 -- Leaves that are made are short.
-use Rattle.std.proofs.Common.{◌≡◌, ℕ, ◌+◌, ◌-◌, ◌<◌, ◌≤◌, ◌^◌, List, [], ◌++◌, length, ap, refl, arith, lit<}
-use Rattle.std.specs.Int.{w8, w64, to_be_bytes}
+use Rattle.std.proofs.Common.{◌≡◌, ℕ, ◌+◌, ◌<◌, ◌≤◌, ◌^◌, List, length, ap, refl, arith, lit<}
+use Rattle.std.specs.Int.{w8, to_be_bytes}
 use Rattle.std.proofs.lemmas.List.{length-append}
 use Rattle.mls_wire.specs.Reading.{header, opaque, uint}
 use Rattle.mls_leaf.specs.Inputs.{leaf_content, leaf_place, leaf_node_tbs, LeafPlaceFits, LeafNodeTbsFits}

@@ -5,6 +5,8 @@ mod candidate;
 mod error;
 mod leaf;
 mod package;
+#[cfg(test)]
+mod tests;
 mod texts;
 
 pub use candidate::Candidate;

@@ -1,10 +1,8 @@
-use Rattle.std.proofs.Common.{◌+◌, ◌<◌, ◌^◌, length, ap, subst, sym, arith, lit<}
+use Rattle.std.proofs.Common.{◌+◌, ◌<◌, ◌^◌, length, ap, arith, lit<}
 use Rattle.std.specs.Prelude.{◌-◌}
-use Rattle.mls_leaf.specs.declared.leaf.LeafNode.{LeafNode}
 use Rattle.mls_leaf.specs.declared.leaf.Credential.{Credential}
 use Rattle.mls_leaf.specs.declared.leaf.LeafSource.TheVariants as made_for
-use Rattle.mls_model.specs.Candidate.{leaf_key_of, unsigned_leaf}
-use Rattle.mls_candidate.specs.Short.{IsShortLeaf}
+use Rattle.mls_model.specs.Candidate.{leaf_key_of}
 use Rattle.mls_candidate.proofs.Leaves.{lifetime_fits, unsigned_short}
 use Rattle.mls_candidate.proofs.package.offered_leaf.Goals as goal
 
