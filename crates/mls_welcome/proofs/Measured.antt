@@ -1,6 +1,6 @@
 -- Texts that are larger than a message may be, and values without a spelling.
 use Rattle.std.proofs.Common.{◌≡◌, ◌≢◌, ℕ, suc, ◌^◌, ◌<◌, ◌≤◌, true, ltb, List, [], ◌∷◌, ◌++◌, length, Result, Ok, Err, refl, sym, ap, ◌∙◌, inl, inr, arith, length-append}
-use Rattle.std.specs.Prelude.{slice_index, nat_lt}
+use Rattle.std.specs.Prelude.{slice_index, nat_lt, codes}
 use Rattle.std.specs.List.{list_all}
 use Rattle.std.proofs.lemmas.Bool.{cases_lt, lt-ltb, lt-leb, le-leb}
 use Rattle.mls_wire.specs.Checks.{Passed, passed, ◌>>◌}
@@ -14,6 +14,9 @@ use Rattle.mls_leaf.specs.declared.error.LeafError.TheVariants.{Wire, BadTag, Un
 use Rattle.mls_group.specs.GroupInfo.{group_info, group_info_tbs, GroupInfoTbsFits}
 use Rattle.mls_group.specs.GroupInfoLaws.{group_info-spelled}
 use Rattle.mls_group.specs.declared.group_info.GroupInfo.{GroupInfo}
+use Rattle.mls_suite.specs.Crypto.{Crypto}
+use Rattle.mls_suite.specs.Labels.{sign_with_label}
+use Rattle.mls_model.specs.Welcome.{signed_info}
 use Rattle.mls_model.specs.Messages.{are_bytes, is_within_limit}
 use Rattle.mls_welcome.specs.Spelled.{FitsIfShort, IsRanged, limited}
 use Rattle.mls_welcome.proofs.Fitting.{tbs_fit}
@@ -72,12 +75,25 @@ never_refused P x fits e refused other = absurd ((refused_is P e refused other).
 -- ---- a signed GroupInfo
 
 -- is longer than what is signed of it
-pub signed_long : (v : GroupInfo) → input_limit < length (group_info_tbs v) → limited (group_info.spell v) ≡ Err 6
-signed_long v lt =
+spelled_long : (v : GroupInfo) → input_limit < length (group_info_tbs v) → limited (group_info.spell v) ≡ Err 6
+spelled_long v lt =
     let spelled : length (group_info.spell v) ≡ length (group_info_tbs v ++ opaque v.signature) = ap length (group_info-spelled v) in
     limited_long (group_info.spell v) (omega (arith, length-append (group_info_tbs v) (opaque v.signature)))
 
-pub tbs_refused : (v : GroupInfo) → IsRanged v → (e : LeafError) → Refuses (GroupInfoTbsFits v) e → number_of e ≢ 1 → limited (group_info.spell v) ≡ Err (number_of e)
-tbs_refused v ranged e refused other =
-    let is = refused_is (GroupInfoTbsFits v) e refused other in
-    signed_long v (long_by (group_info_tbs v) (GroupInfoTbsFits v) (tbs_fit v ranged) is.1) ∙ ap Err (sym is.0)
+module _ (c : Crypto) (signing : List ℕ) (v : GroupInfo) where
+  pub signed_long : input_limit < length (group_info_tbs v) → limited (group_info.spell (signed_info c signing v)) ≡ Err 6
+  unfolding signed_info
+  signed_long lt = spelled_long (record v { signature = sign_with_label c signing (codes "GroupInfoTBS") (group_info_tbs v) }) lt
+
+  pub tbs_refused : IsRanged v → (e : LeafError) → Refuses (GroupInfoTbsFits v) e → number_of e ≢ 1 → limited (group_info.spell (signed_info c signing v)) ≡ Err (number_of e)
+  tbs_refused ranged e refused other =
+      let is = refused_is (GroupInfoTbsFits v) e refused other in
+      signed_long (long_by (group_info_tbs v) (GroupInfoTbsFits v) (tbs_fit v ranged) is.1) ∙ ap Err (sym is.0)
+
+-- the signed GroupInfo, of its parts
+pub signed_is : (c : Crypto) (signing : List ℕ) (u v : GroupInfo) (s : List ℕ) → v ≡ u → s ≡ sign_with_label c signing (codes "GroupInfoTBS") (group_info_tbs v) → signed_info c signing u ≡ record v { signature = s }
+unfolding signed_info
+signed_is c signing u v s same signature = ap (signed_info c signing) (sym same) ∙ ap (λ (t : List ℕ). let w : GroupInfo = record v { signature = t } in w) (sym signature)
+
+pub ranged_by : (v : GroupInfo) (s : List ℕ) → IsRanged v → IsRanged (record v { signature = s })
+ranged_by v s r = record { suite = r.suite; epoch = r.epoch; signer = r.signer; nodes = r.nodes }

@@ -1,8 +1,9 @@
 //! The GroupInfo of a Welcome (RFC 9420, 12.4.3).
 
-ghost use Rattle.std.specs.Prelude.{◌≡◌, IfOk};
+ghost use Rattle.std.specs.Prelude.{◌≡◌, ◌≢◌, codes, Err, IfOk, IfErr};
 ghost use Rattle.mls_wire.specs.Checks.{Answers};
-ghost use Rattle.mls_group.specs.GroupInfo.{group_info};
+ghost use Rattle.mls_group.specs.GroupInfo.{group_info, group_info_tbs};
+ghost use Rattle.mls_suite.specs.Labels.{sign_with_label};
 ghost use Rattle.mls_model.specs.Welcome.{unsigned_info, signed_info};
 ghost use Rattle.mls_welcome.specs.Faults.{number_of};
 ghost use Rattle.mls_welcome.specs.Spelled.{IsRanged, limited};
@@ -44,8 +45,24 @@ fn unsigned_info(
     })
 }
 
-/// The spelling of a group's GroupInfo, signed by the member at leaf `signer`: 6 where it is too large, and then, where
-/// what is to be signed is too large alone, nothing is signed.
+/// The signature of a GroupInfo (RFC 9420, 12.4.3): 6 where what is to be signed is larger alone than the GroupInfo may
+/// be, and then nothing is signed.
+fn signature_of<S: Suite>(
+    alloc: Global,
+    info: &GroupInfo,
+    signing: &Secret,
+) -> Result<Bytes, WelcomeError>
+    requires { IsRanged info.now }
+    ensures signature { IfOk result (λ s. s ≡ sign_with_label S.crypto signing.now (codes "GroupInfoTBS") (group_info_tbs info.now)) }
+    ensures refused { IfErr result (λ e. number_of e ≢ 1 → limited (group_info.spell (signed_info S.crypto signing.now info.now)) ≡ Err (number_of e)) }
+{
+    let text = info.to_be_signed(alloc)?;
+    is_within_limit(&text)?;
+    let signature = sign_with_label::<S>(alloc, signing, "GroupInfoTBS", &text)?;
+    Ok(Bytes::from_vec(signature))
+}
+
+/// The spelling of a group's GroupInfo, signed by the member at leaf `signer`: 6 where it is too large.
 pub(crate) fn signed_info<S: Suite>(
     alloc: Global,
     group: &PublicGroup,
@@ -56,9 +73,6 @@ pub(crate) fn signed_info<S: Suite>(
     ensures { Answers (λ v. v.items) number_of (limited (group_info.spell (signed_info S.crypto signing.now (unsigned_info group.now confirmation_tag.now signer)))) result }
 {
     let mut info = unsigned_info(alloc, group, confirmation_tag, signer)?;
-    let text = info.to_be_signed(alloc)?;
-    is_within_limit(&text)?;
-    let signature = sign_with_label::<S>(alloc, signing, "GroupInfoTBS", &text)?;
-    info.signature = Bytes::from_vec(signature);
+    info.signature = signature_of::<S>(alloc, &info, signing)?;
     limited_spelling(alloc, &info)
 }
