@@ -7,6 +7,8 @@ mod info;
 mod limits;
 mod making;
 mod ranges;
+#[cfg(test)]
+mod tests;
 
 pub use error::WelcomeError;
 pub use making::{Joiner, welcome};
