@@ -8,12 +8,16 @@ mod distinct;
 mod edits;
 mod error;
 mod group;
+mod laws;
 mod proposals;
 mod references;
 mod spelling;
+#[cfg(test)]
+mod tests;
 mod used;
 
 pub use edits::Edits;
 pub use error::GroupError;
 pub use group::PublicGroup;
+pub use laws::short_leaves_after_path;
 pub use used::Used;
