@@ -1,5 +1,4 @@
 -- The code of a change, by which proofs tell its values apart.
-use Rattle.std.specs.Prelude.{ℕ, List}
 use Rattle.std.proofs.Common.{refl}
 use Rattle.std.specs.Coded.{Coded, code_by, coded×}
 use Rattle.mls_group.specs.declared.group_context.GroupContext.{GroupContext}

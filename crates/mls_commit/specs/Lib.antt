@@ -1,2 +1,5 @@
 pub mod Faults
 pub mod Codes
+pub mod Changed
+pub mod Below
+pub mod Staying

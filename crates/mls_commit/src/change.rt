@@ -1,12 +1,16 @@
 //! What a commit makes of a public state, before its confirmation tag is known.
 
-ghost use Rattle.std.specs.Prelude.{◌≡◌, ◌<◌, ◌^◌, length, IfOk};
+ghost use Rattle.std.specs.Prelude.{◌≡◌, ◌+◌, ◌<◌, ◌^◌, length, IfOk};
+ghost use Rattle.mls_commit.specs.Changed.{change_of};
 ghost use Rattle.mls_model.specs.Commit.{public_with};
-ghost use Rattle.mls_public_group.specs.Short.{HasLeavesBelow};
+ghost use Rattle.mls_model.specs.Public as model;
+ghost use Rattle.mls_public_group.specs.Short.{HasLeavesBelow, IsShortContext};
 ghost use Rattle.mls_tree.specs.Tree.{term};
 
 use mls_group::GroupContext;
+use mls_leaf::Bytes;
 use mls_public_group::{Edits, PublicGroup};
+use mls_schedule::Transcript;
 use mls_tree::PublicTree;
 use std::alloc::{AllocError, Global};
 use std::marker::Model;
@@ -40,13 +44,83 @@ impl Model for Change {
     ghost invariant = { λ c. IsShortContext c.provisional × IsShortContext c.context };
 }
 
+// The new epoch's context with the new tree, and as yet the old transcript.
+#[tactic(auto, unfolding(mls_model::specs::Public::provisional_context))]
+fn provisional_context(
+    alloc: Global,
+    old: &GroupContext,
+    tree: &mut PublicTree,
+) -> Result<GroupContext, AllocError>
+    requires { old.now.epoch + 1 < 2 ^ 64 }
+    ensures context { IfOk result (λ g. g ≡ model.provisional_context old.now (term tree.old)) }
+    ensures same { term tree.new ≡ term tree.old }
+{
+    let hash = tree.tree_hash();
+    Ok(GroupContext {
+        cipher_suite: old.cipher_suite,
+        group_id: old.group_id.clone()?,
+        epoch: old.epoch + 1,
+        tree_hash: Bytes::from_vec(Vec::from_slice(alloc, &hash)?),
+        confirmed_transcript_hash: old.confirmed_transcript_hash.clone()?,
+    })
+}
+
+// That context with the new transcript.
+#[tactic(auto, unfolding(mls_model::specs::Public::confirmed_context))]
+fn confirmed_context(
+    alloc: Global,
+    provisional: &GroupContext,
+    confirmed: &[u8],
+) -> Result<GroupContext, AllocError>
+    ensures { IfOk result (λ g. g ≡ model.confirmed_context provisional.now confirmed.now) }
+{
+    Ok(GroupContext {
+        cipher_suite: provisional.cipher_suite,
+        group_id: provisional.group_id.clone()?,
+        epoch: provisional.epoch,
+        tree_hash: provisional.tree_hash.clone()?,
+        confirmed_transcript_hash: Bytes::from_vec(Vec::from_slice(alloc, confirmed)?),
+    })
+}
+
 impl Change {
+    /// The change with these edits and this tree, its path merged: nothing is checked. `said` is the spelling of the
+    /// commit's FramedContent, and `signature` its signature, of less than 2^30 bytes (RFC 9420, 8.1, 8.2 and 12.4.1).
+    #[tactic(auto, unfolding(crate::specs::Changed::change_of))]
+    pub fn new(
+        alloc: Global,
+        group: &PublicGroup,
+        edits: Edits,
+        tree: PublicTree,
+        said: &[u8],
+        signature: &[u8],
+    ) -> Result<Change, AllocError>
+        requires context { IsShortContext group.now.context }
+        requires epoch { group.now.context.epoch + 1 < 2 ^ 64 }
+        requires signature { length signature.now < 2 ^ 30 }
+        ensures { IfOk result (λ c. c ≡ change_of group.now edits (term tree) said.now signature.now) }
+    {
+        let mut tree = tree;
+        let provisional = provisional_context(alloc, group.context(), &mut tree)?;
+        let confirmed = group.transcript().confirm(1, said, signature);
+        let context = confirmed_context(alloc, &provisional, &confirmed)?;
+        Ok(Change {
+            edits,
+            tree,
+            provisional,
+            context,
+        })
+    }
+
     /// The next public state, with the commit's confirmation tag (RFC 9420, 8.2), which has less than 2^30 bytes.
+    #[tactic(auto, unfolding(mls_model::specs::Commit::public_with))]
     pub fn into_public(self, alloc: Global, tag: &[u8]) -> Result<PublicGroup, AllocError>
         requires leaves { HasLeavesBelow (2 ^ 27) self.tree }
         requires tag { length tag.now < 2 ^ 30 }
         ensures { IfOk result (λ g. g ≡ public_with self tag.now) }
     {
-        Err(AllocError)
+        let Change { tree, context, .. } = self;
+        let transcript = Transcript::interim(context.confirmed_transcript_hash.as_slice(), tag);
+        PublicGroup::new(alloc, context, tree, transcript)
     }
 }

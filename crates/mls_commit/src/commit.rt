@@ -1,26 +1,74 @@
 //! The checks of a commit, and where it leads.
 
-ghost use Rattle.std.specs.Prelude.{◌≡◌, ◌<◌, ◌≤◌, ◌^◌, ◌+◌, ℕ, length, IfOk, IfSome};
+ghost use Rattle.std.specs.Prelude.{◌≡◌, ◌<◌, ◌≤◌, ◌^◌, ◌+◌, ℕ, ◌||◌, not, is_some, length, IfOk, IfSome};
 ghost use Rattle.mls_wire.specs.Checks.{Answers};
 ghost use Rattle.mls_leaf.specs.Leaf.{leaf_node};
 ghost use Rattle.mls_types.specs.Content.{framed_content};
 ghost use Rattle.mls_types.specs.declared.content.FramedContent as contents;
 ghost use Rattle.mls_model.specs.Commit as model;
-ghost use Rattle.mls_public_group.specs.Short.{IsBelow, AreBelow, HasLeavesBelow};
+ghost use Rattle.mls_model.specs.Proposals as proposals;
+ghost use Rattle.mls_public_group.specs.Short.{IsBelow, AreBelow, HasLeavesBelow, IsShortContext};
 ghost use Rattle.mls_commit.specs.Faults.{number_of};
+ghost use Rattle.mls_tree.specs.Tree.{term};
+ghost use Rattle.mls_commit.specs.Staying.{Stays};
 
 use crate::change::Change;
 use crate::error::CommitError;
-use mls_public_group::{GroupError, PublicGroup, Used};
+use crate::path::with_path;
+use mls_group::UpdatePath;
+use mls_leaf::Proposal;
+use mls_public_group::{Edits, PublicGroup, Used};
 use mls_suite::Suite;
-use mls_tree::TreeError;
+use mls_tree::PublicTree;
 use mls_types::Commit;
 use std::alloc::Global;
+
+// Whether a proposal asks for a path: each but an add.
+fn asks_for_path(proposal: &Proposal) -> bool
+    ensures { result ≡ proposals.asks_for_path proposal.now }
+{
+    !matches!(proposal, Proposal::Add(_))
+}
+
+// Whether a commit of these has to have a path: there are none, or one asks for it.
+fn is_path_required(used: &[Used<'_>]) -> bool
+    ensures { result ≡ proposals.is_path_required used.now }
+{
+    used.is_empty() || used.iter().any(|one| asks_for_path(one.proposal))
+}
+
+// Whether a commit of these has a path where it has to.
+fn has_due_path(commit: &Commit, used: &[Used<'_>]) -> bool
+    ensures { result ≡ (is_some commit.now.path || not (proposals.is_path_required used.now)) }
+{
+    commit.path.is_some() || !is_path_required(used)
+}
+
+// The tree after the edits, with the path merged where there is one.
+#[tactic(auto, unfolding(mls_model::specs::Commit::merged))]
+fn merged<S: Suite>(
+    alloc: Global,
+    group: &PublicGroup,
+    committer: u32,
+    edits: &Edits,
+    path: &Option<UpdatePath>,
+) -> Result<PublicTree, CommitError>
+    requires context { IsShortContext group.now.context }
+    requires stays { Stays committer group.now.tree edits.now.tree }
+    requires path { IfSome path.now (λ p. IsBelow (2 ^ 28) leaf_node p.leaf_node) }
+    ensures { Answers term number_of (model.merged S.crypto group.now committer edits.now path.now) result }
+{
+    match path {
+        None => Ok(edits.tree.clone()?),
+        Some(path) => with_path::<S>(alloc, group, committer, edits, path),
+    }
+}
 
 /// What a commit makes of a public state, by all of it but its confirmation tag: the checks of its proposals and of the
 /// tree after them, 64 where a path is required and missing, and those of its path; the first that fails is answered
 /// (RFC 9420, 12.4.2). `said` is the spelling of the commit's FramedContent, and `signature` its signature, of less than
 /// 2^30 bytes.
+#[tactic(auto, unfolding(mls_model::specs::Commit::body))]
 pub fn body<S: Suite>(
     alloc: Global,
     group: &PublicGroup,
@@ -30,6 +78,7 @@ pub fn body<S: Suite>(
     said: &[u8],
     signature: &[u8],
 ) -> Result<Change, CommitError>
+    requires context { IsShortContext group.now.context }
     requires epoch { group.now.context.epoch + 1 < 2 ^ 64 }
     requires used { AreBelow (2 ^ 28) used.now }
     requires path { IfSome commit.now.path (λ p. IsBelow (2 ^ 28) leaf_node p.leaf_node) }
@@ -39,5 +88,11 @@ pub fn body<S: Suite>(
     // The leaves of both trees are as short as the group's, the proposals and the path's leaf.
     ensures below { IfOk result (λ c. (n : ℕ) → 2 ^ 27 ≤ n → AreBelow n used.now → IfSome commit.now.path (λ p. IsBelow n leaf_node p.leaf_node) → HasLeavesBelow n c.edits.tree × HasLeavesBelow n c.tree) }
 {
-    Err(CommitError::Group(GroupError::Tree(TreeError::OutOfMemory)))
+    let edits = group.edited::<S>(alloc, committer, used)?;
+    if !has_due_path(commit, used) {
+        return Err(CommitError::PathMissing);
+    }
+    let tree = merged::<S>(alloc, group, committer, &edits, &commit.path)?;
+    let change = Change::new(alloc, group, edits, tree, said, signature)?;
+    Ok(change)
 }

@@ -3,9 +3,10 @@
 ghost use Rattle.std.specs.Prelude.{◌≡◌};
 ghost use Rattle.mls_commit.specs.Faults.{number_of, name_of};
 ghost use Rattle.mls_commit.specs.declared.error.CommitError.TheVariants.{Group as in_group};
-ghost use Rattle.mls_public_group.specs.declared.error.GroupError.TheVariants.{Tree as of_tree};
+ghost use Rattle.mls_public_group.specs.declared.error.GroupError.TheVariants.{Tree as of_tree, Check as of_check};
 ghost use Rattle.mls_tree.specs.declared.error.TreeError.TheVariants.{OutOfMemory};
 
+use mls_checks::CheckError;
 use mls_public_group::GroupError;
 use mls_tree::TreeError;
 use std::alloc::{AllocError, AllocFailed};
@@ -30,6 +31,22 @@ impl From<GroupError> for CommitError {
 
     fn from(error: GroupError) -> CommitError {
         CommitError::Group(error)
+    }
+}
+
+impl From<TreeError> for CommitError {
+    ghost from_gives = { λ e r. r ≡ in_group (of_tree e) };
+
+    fn from(error: TreeError) -> CommitError {
+        CommitError::Group(GroupError::Tree(error))
+    }
+}
+
+impl From<CheckError> for CommitError {
+    ghost from_gives = { λ e r. r ≡ in_group (of_check e) };
+
+    fn from(error: CheckError) -> CommitError {
+        CommitError::Group(GroupError::Check(error))
     }
 }
 

@@ -4,6 +4,7 @@
 mod change;
 mod commit;
 mod error;
+mod path;
 
 pub use change::Change;
 pub use commit::body;

@@ -1,0 +1,5 @@
+mod Paths
+mod Contexts
+mod Asking
+mod Keys
+mod Bodies

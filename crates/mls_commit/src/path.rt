@@ -1,0 +1,128 @@
+//! The checks of a commit's path, and its merge.
+
+ghost use Rattle.std.specs.Prelude.{◌≡◌, ◌^◌, ◌∷◌, IfOk, IsSome};
+ghost use Rattle.std.specs.List.{list_all};
+ghost use Rattle.std.specs.Str.{bytes_eq};
+ghost use Rattle.mls_wire.specs.Checks.{Answers, passed};
+ghost use Rattle.mls_leaf.specs.Leaf.{leaf_node};
+ghost use Rattle.mls_model.specs.Commit as model;
+ghost use Rattle.mls_public_group.specs.Short.{IsBelow, IsShortContext};
+ghost use Rattle.mls_tree.specs.Tree.{term};
+ghost use Rattle.mls_term.specs.Term.{leaf_of};
+ghost use Rattle.mls_commit.specs.Faults.{number_of};
+ghost use Rattle.mls_commit.specs.Staying.{Stays, count_checks};
+
+use crate::error::CommitError;
+use mls_checks::{CheckError, Source, replaced};
+use mls_group::{UpdatePath, UpdatePathNode};
+use mls_leaf::Bytes;
+use mls_public_group::{Edits, PublicGroup};
+use mls_suite::Suite;
+use mls_tree::{PublicTree, TreeError};
+use std::alloc::{AllocError, Global};
+
+// The public key of a node.
+fn node_key(node: &UpdatePathNode) -> Result<Bytes, AllocError>
+    ensures { IfOk result (λ k. k ≡ node.now.encryption_key) }
+{
+    Ok(node.encryption_key.clone()?)
+}
+
+// The public keys of the path's nodes, the lowest first.
+fn node_keys(alloc: Global, path: &UpdatePath) -> Result<Vec<Bytes>, AllocError>
+    ensures { IfOk result (λ v. v.items ≡ model.node_keys path.now) }
+{
+    let mut keys = Vec::new(alloc);
+    for node in path.nodes.as_slice() {
+        keys.push(node_key(node)?)?;
+    }
+    Ok(keys)
+}
+
+// How many ciphertexts its nodes have.
+fn cipher_counts(alloc: Global, path: &UpdatePath) -> Result<Vec<usize>, AllocError>
+    ensures { IfOk result (λ v. v.items ≡ model.cipher_counts path.now) }
+{
+    let nodes = path.nodes.as_slice();
+    nodes
+        .iter()
+        .map(|node| node.ciphertexts.as_slice().len())
+        .collect(alloc)
+}
+
+fn same_counts(counts: &[usize], due: &[usize]) -> bool
+    ensures { result ≡ bytes_eq counts.now due.now }
+{
+    counts == due
+}
+
+// Refuses a path whose number of nodes is wrong, and then a number of ciphertexts that is. The committer is a member.
+fn require_counts(
+    alloc: Global,
+    committer: u32,
+    edits: &Edits,
+    path: &UpdatePath,
+) -> Result<(), CommitError>
+    requires { IsSome (leaf_of edits.now.tree committer) }
+    ensures { Answers (λ _. passed) number_of (count_checks edits.now committer path.now) result }
+{
+    let due = edits.tree.ciphertext_counts(committer, &edits.added)?;
+    let counts = cipher_counts(alloc, path)?;
+    if counts.len() != due.len() {
+        return Err(CommitError::from(TreeError::PathLength));
+    }
+    if !same_counts(&counts, &due) {
+        return Err(CommitError::CipherCount);
+    }
+    Ok(())
+}
+
+// Whether the keys of its leaf and of its nodes are fit.
+fn has_fit_keys<S: Suite>(path: &UpdatePath) -> bool
+    ensures { result ≡ list_all S.crypto.key_ok (path.now.leaf_node.encryption_key ∷ model.node_keys path.now) }
+{
+    let nodes = path.nodes.as_slice();
+    S::key_ok(path.leaf_node.encryption_key.as_slice())
+        && nodes
+            .iter()
+            .all(|node| S::key_ok(node.encryption_key.as_slice()))
+}
+
+/// The tree after the edits with the committer's path merged, where these checks pass in this order: 50 to 54 of its
+/// leaf; 30 how many nodes it has; 31 how many ciphertexts each of them has; 36 a key isn't fit; 25 two nodes have one
+/// encryption key; 24 its leaf hasn't the parent hash (RFC 9420, 12.4.2).
+#[tactic(auto, unfolding(mls_model::specs::Commit::with_path))]
+pub(crate) fn with_path<S: Suite>(
+    alloc: Global,
+    group: &PublicGroup,
+    committer: u32,
+    edits: &Edits,
+    path: &UpdatePath,
+) -> Result<PublicTree, CommitError>
+    requires context { IsShortContext group.now.context }
+    requires stays { Stays committer group.now.tree edits.now.tree }
+    requires path { IsBelow (2 ^ 28) leaf_node path.now.leaf_node }
+    ensures { Answers term number_of (model.with_path S.crypto group.now committer edits.now path.now) result }
+{
+    let Some(old) = group.tree().leaf(committer) else {
+        return Err(CommitError::from(TreeError::NoSuchLeaf));
+    };
+    let group_id = group.context().group_id.as_slice();
+    replaced::<S>(
+        alloc,
+        &path.leaf_node,
+        old,
+        Source::Commit,
+        group_id,
+        committer,
+    )?;
+    require_counts(alloc, committer, edits, path)?;
+    if !has_fit_keys::<S>(path) {
+        return Err(CommitError::from(CheckError::BadKey));
+    }
+    let keys = node_keys(alloc, path)?;
+    let leaf = path.leaf_node.clone()?;
+    let mut tree = edits.tree.clone()?;
+    tree.merge_path(committer, leaf, keys)?;
+    Ok(tree)
+}
