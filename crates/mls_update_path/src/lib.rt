@@ -1,6 +1,8 @@
 //! The update path of a commit, as its committer makes it (RFC 9420, 7.5 and 12.4.1).
 #![tactic(auto)]
 
+mod context;
+mod draft;
 mod error;
 mod path;
 

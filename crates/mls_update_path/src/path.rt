@@ -1,24 +1,35 @@
 //! Making a path.
 
-ghost use Rattle.std.specs.Prelude.{◌≡◌, ◌^◌, length, IfOk};
+ghost use Rattle.std.specs.Prelude.{◌≡◌, ◌+◌, ◌<◌, ◌^◌, Ok, IfOk};
 ghost use Rattle.mls_wire.specs.Checks.{Answers};
 ghost use Rattle.mls_leaf.specs.Leaf.{leaf_node};
-ghost use Rattle.mls_public_group.specs.Short.{IsBelow};
+ghost use Rattle.mls_term.specs.Way.{way, path_length};
+ghost use Rattle.mls_tree.specs.Tree.{term};
+ghost use Rattle.mls_public_group.specs.Short.{IsBelow, HasLeavesBelow, IsShortContext};
+ghost use Rattle.mls_model.specs.Candidate.{leaf_key_of};
+ghost use Rattle.mls_model.specs.Commit.{with_path};
 ghost use Rattle.mls_model.specs.Make as model;
 ghost use Rattle.mls_model.specs.Member as member;
+ghost use Rattle.mls_paths.specs.Keys.{all_keys};
+ghost use Rattle.mls_paths.specs.Make.{made_keys};
 ghost use Rattle.mls_paths.specs.Seeds.{path_seed};
-ghost use Rattle.mls_term.specs.Way.{path_length};
 ghost use Rattle.mls_treekem.specs.Secrets.{AreOfChain};
 ghost use Rattle.mls_update_path.specs.Made.{made_path};
 ghost use Rattle.mls_update_path.specs.Faults.{number_of};
+ghost use Rattle.mls_update_path.specs.Parts.{merged_of, path_of};
 
+use crate::context::provisional_bytes;
+use crate::draft::{make_draft, parent_hash, public_keys};
 use crate::error::PathError;
+use mls_candidate::renewed_leaf;
+use mls_checks::{Source, replaced};
 use mls_group::UpdatePath;
 use mls_kdf::{Secret, Seed};
+use mls_leaf::{Items, LeafNode, LeafSource};
 use mls_public_group::{Edits, PublicGroup};
 use mls_suite::Suite;
-use mls_tree::TreeError;
-use mls_treekem::{PathSecrets, PrivatePath};
+use mls_tree::{PublicTree, TreeError};
+use mls_treekem::{PathSecrets, PrivatePath, seal_path};
 use std::alloc::Global;
 
 /// A path, and what its committer then has.
@@ -30,6 +41,58 @@ pub struct NewPath {
     pub secrets: PathSecrets,
     /// The committer's private keys.
     pub keys: PrivatePath,
+    /// The tree with the path merged.
+    pub tree: PublicTree,
+}
+
+/// A path before it is sealed.
+#[derive(Drop)]
+struct Merged {
+    leaf: LeafNode,
+    tree: PublicTree,
+    secrets: PathSecrets,
+    keys: PrivatePath,
+}
+
+/// A path of the member at leaf `index` in a tree after edits, its committer's keys, and the tree with it: the new leaf
+/// and the merge pass their checks (50 to 54, 25, 24).
+#[tactic(auto, unfolding(crate::specs::Parts::merged_of))]
+fn make_merged<S: Suite>(
+    alloc: Global,
+    group: &PublicGroup,
+    signing: &Secret,
+    index: u32,
+    edited: &PublicTree,
+    seed: &Seed,
+) -> Result<Merged, PathError>
+    requires context { IsShortContext group.now.context }
+    requires leaves { HasLeavesBelow (2 ^ 27) group.now.tree }
+    ensures answer { Answers (λ x. (x.leaf, term x.tree)) number_of (merged_of S.crypto group.now signing.now index (term edited.now) seed.now) result }
+    ensures below { IfOk result (λ x. IsBelow (2 ^ 28) leaf_node x.leaf) }
+    ensures leaf { IfOk result (λ x. x.keys.leaf ≡ index) }
+    ensures chain { IfOk result (λ x. AreOfChain S.crypto (path_seed seed.now) (path_length 0 (term edited.now) index) x.secrets) }
+    ensures keys { IfOk result (λ x. all_keys x.keys ≡ made_keys S.crypto (way 0 (term edited.now) index) (path_seed seed.now) (leaf_key_of S.crypto seed.now)) }
+{
+    let Some(old) = group.tree().leaf(index) else {
+        return Err(PathError::Tree(TreeError::NoSuchLeaf));
+    };
+    let mut made = make_draft::<S>(alloc, edited, index, seed)?;
+    let public = public_keys(alloc, &made.secrets)?;
+    let mut tree = edited.clone()?;
+    let source = LeafSource::Commit {
+        parent_hash: parent_hash(&mut tree, index, &public)?,
+    };
+    let group_id = group.context().group_id.as_slice();
+    let leaf = renewed_leaf::<S>(alloc, signing, group_id, index, old, source, seed)?;
+    replaced::<S>(alloc, &leaf, old, Source::Commit, group_id, index)?;
+    tree.merge_path(index, leaf.clone()?, public)?;
+    made.keys.follow_edit(&tree, None)?;
+    Ok(Merged {
+        leaf,
+        tree,
+        secrets: made.secrets,
+        keys: made.keys,
+    })
 }
 
 /// The path of the member at leaf `index` for a commit with these edits: its new leaf and the merge of its keys pass their
@@ -42,11 +105,35 @@ pub fn new_path<S: Suite>(
     edits: &Edits,
     seed: &Seed,
 ) -> Result<NewPath, PathError>
+    requires epoch { group.now.context.epoch + 1 < 2 ^ 64 }
+    requires context { IsShortContext group.now.context }
+    requires leaves { HasLeavesBelow (2 ^ 27) group.now.tree }
     ensures answer { (m : member.Member) → m.public ≡ group.now → m.signing ≡ signing.now → m.keys.leaf ≡ index
         → Answers made_path number_of (model.new_path S.crypto m edits.now seed.now) result }
     ensures leaf { IfOk result (λ p. p.keys.leaf ≡ index) }
     ensures below { IfOk result (λ p. IsBelow (2 ^ 28) leaf_node p.path.leaf_node) }
     ensures chain { IfOk result (λ p. AreOfChain S.crypto (path_seed seed.now) (path_length 0 edits.now.tree index) p.secrets) }
+    // It passes the checks that each member makes of a path.
+    ensures received { IfOk result (λ p. with_path S.crypto group.now index edits.now p.path ≡ Ok (term p.tree)) }
 {
-    Err(PathError::Tree(TreeError::OutOfMemory))
+    let mut made = make_merged::<S>(alloc, group, signing, index, &edits.tree, seed)?;
+    let context = provisional_bytes(alloc, group.context(), &mut made.tree)?;
+    let nodes = seal_path::<S>(
+        alloc,
+        &edits.tree,
+        index,
+        &edits.added,
+        &made.secrets,
+        &context,
+        seed,
+    )?;
+    Ok(NewPath {
+        path: UpdatePath {
+            leaf_node: made.leaf,
+            nodes: Items::from_vec(nodes),
+        },
+        secrets: made.secrets,
+        keys: made.keys,
+        tree: made.tree,
+    })
 }

@@ -1,0 +1,4 @@
+pub mod Drafts
+pub mod Contexts
+pub mod Merges
+pub mod Seals

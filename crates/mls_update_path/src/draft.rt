@@ -1,0 +1,79 @@
+//! The secrets and keys of a path.
+
+ghost use Rattle.std.specs.Prelude.{◌≡◌, length, IfOk, OnOk};
+ghost use Rattle.mls_term.specs.Merge.{path_parent_hash};
+ghost use Rattle.mls_term.specs.Way.{way, path_length};
+ghost use Rattle.mls_tree.specs.Tree.{term};
+ghost use Rattle.mls_paths.specs.Height.{keys_on};
+ghost use Rattle.mls_paths.specs.Make.{made_keys};
+ghost use Rattle.mls_paths.specs.Seeds.{path_seed};
+ghost use Rattle.mls_treekem.specs.Secrets.{AreOfChain, public_keys};
+ghost use Rattle.mls_model.specs.Candidate.{leaf_key_of};
+
+use mls_candidate::leaf_key;
+use mls_kdf::Seed;
+use mls_leaf::Bytes;
+use mls_suite::{OutOfMemory, Suite};
+use mls_tree::PublicTree;
+use mls_treekem::{PathSecrets, PrivatePath, path_seed};
+use std::alloc::{AllocError, Global};
+
+/// The secrets of a path, and its committer's private keys.
+#[derive(Drop)]
+pub(crate) struct Draft {
+    /// The secrets.
+    pub(crate) secrets: PathSecrets,
+    /// The private keys.
+    pub(crate) keys: PrivatePath,
+}
+
+/// The secrets and keys of a path of leaf `index`, made of a seed (RFC 9420, 7.4 and 7.5). A tree after the edits of a
+/// commit has its committer's leaf, so only memory can be wanting.
+pub(crate) fn make_draft<S: Suite>(
+    alloc: Global,
+    tree: &PublicTree,
+    index: u32,
+    seed: &Seed,
+) -> Result<Draft, OutOfMemory>
+    ensures leaf { IfOk result (λ d. d.keys.leaf ≡ index) }
+    ensures chain { IfOk result (λ d. AreOfChain S.crypto (path_seed seed.now) (path_length 0 (term tree.now) index) d.secrets) }
+    ensures keys { IfOk result (λ d. keys_on (term tree.now) d.keys ≡ made_keys S.crypto (way 0 (term tree.now) index) (path_seed seed.now) (leaf_key_of S.crypto seed.now)) }
+{
+    let _leaves = tree.leaf_count();
+    let Ok(filtered) = tree.filtered_path(index) else {
+        return Err(AllocError);
+    };
+    let mut keys = PrivatePath::new(alloc, index, leaf_key::<S>(alloc, seed)?);
+    let secrets = keys.make_path::<S>(&path_seed(seed), &filtered)?;
+    Ok(Draft { secrets, keys })
+}
+
+/// The public keys of a path, the lowest node's first.
+pub(crate) fn public_keys(
+    alloc: Global,
+    secrets: &PathSecrets,
+) -> Result<Vec<Bytes>, OutOfMemory>
+    ensures { IfOk result (λ v. v.items ≡ public_keys secrets.now) }
+{
+    let mut keys = Vec::new(alloc);
+    for pair in &secrets.pairs {
+        keys.push(Bytes::from_vec(Vec::from_slice(alloc, &pair.pk)?))?;
+    }
+    Ok(keys)
+}
+
+/// The parent hash that the leaf of a path with these keys must have. There is a member, and there are as many keys as its
+/// filtered path has parents, so only memory can be wanting.
+pub(crate) fn parent_hash(
+    tree: &mut PublicTree,
+    index: u32,
+    keys: &[Bytes],
+) -> Result<Bytes, OutOfMemory>
+    ensures hash { IfOk result (λ hash. hash ≡ path_parent_hash (term tree.old) index keys.now) }
+    ensures same { term tree.new ≡ term tree.old }
+{
+    match tree.path_parent_hash(index, keys) {
+        Ok(hash) => Ok(Bytes::from_vec(hash)),
+        Err(_) => Err(AllocError),
+    }
+}
