@@ -1,5 +1,5 @@
 -- A value has a spelling where its numbers are in range and its spelling would be short.
-use Rattle.std.proofs.Common.{◌≡◌, ℕ, zero, suc, ◌+◌, ◌^◌, ◌<◌, ◌≤◌, true, List, [], ◌∷◌, ◌++◌, length, get_or, drop, Option, Some, None, refl, sym, ap, subst, ◌∙◌, arith, lit<, length-append, append_assoc}
+use Rattle.std.proofs.Common.{◌≡◌, ℕ, suc, ◌+◌, ◌^◌, ◌<◌, ◌≤◌, true, List, [], ◌∷◌, ◌++◌, length, get_or, drop, Option, Some, None, sym, ap, subst, ◌∙◌, arith, lit<, length-append, append_assoc}
 use Rattle.std.specs.Prelude.{slice_index, IfSome}
 use Rattle.std.specs.List.{flat_map, AllByRecursion}
 use Rattle.std.proofs.lemmas.List.{drop_more, drop_all}
@@ -30,7 +30,6 @@ use Rattle.mls_group.specs.declared.group_context.GroupContext.{GroupContext}
 use Rattle.mls_group.specs.declared.group_info.GroupInfo.{GroupInfo}
 use Rattle.mls_group.specs.declared.update_path.HpkeCiphertext.{HpkeCiphertext}
 use Rattle.mls_group.specs.declared.welcome.EncryptedGroupSecrets.{EncryptedGroupSecrets}
-use Rattle.mls_group.specs.declared.welcome.GroupSecrets.{GroupSecrets}
 use Rattle.mls_group.specs.declared.welcome.Welcome.{Welcome}
 use Rattle.mls_types.specs.Message.{mls_message}
 use Rattle.mls_types.specs.declared.message.MlsMessage.TheVariants as message

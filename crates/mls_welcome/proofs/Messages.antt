@@ -1,7 +1,7 @@
 -- The message of a Welcome, of its parts.
-use Rattle.std.proofs.Common.{◌≡◌, ℕ, ◌^◌, ◌<◌, ◌≤◌, true, false, List, [], ◌++◌, length, Result, Ok, Err, refl, sym, ap, ◌∙◌, arith, length-append}
+use Rattle.std.proofs.Common.{◌≡◌, ℕ, ◌^◌, ◌<◌, ◌≤◌, true, false, List, [], ◌++◌, length, Result, Ok, Err, refl, ap, ◌∙◌, arith, length-append}
 use Rattle.std.specs.Int.{w16}
-use Rattle.mls_wire.specs.Checks.{Passed, passed, ◌>>◌}
+use Rattle.mls_wire.specs.Checks.{Passed, ◌>>◌}
 use Rattle.mls_wire.specs.Reading.{◌>>=◌, uint, header, opaque}
 use Rattle.mls_wire.specs.Combine.{vector}
 use Rattle.mls_leaf.specs.Limits.{input_limit}

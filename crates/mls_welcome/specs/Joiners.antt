@@ -1,5 +1,5 @@
 -- Those whom a commit adds.
-use Rattle.std.specs.Prelude.{◌≡◌, ◌^◌, ℕ, List, map}
+use Rattle.std.specs.Prelude.{◌≡◌, ◌^◌, ℕ, List}
 use Rattle.std.specs.List.{AllByRecursion}
 use Rattle.std.specs.Option.{option_copied}
 use Rattle.mls_leaf.specs.KeyPackage.{key_package}

@@ -1,5 +1,5 @@
 -- Values that have a spelling where it would be short, and spellings that are no larger than a message may be.
-use Rattle.std.specs.Prelude.{ℕ, ◌<◌, ◌^◌, List, length, Option, IfSome, Result, Ok}
+use Rattle.std.specs.Prelude.{ℕ, ◌<◌, ◌^◌, List, length, IfSome, Result, Ok}
 use Rattle.std.specs.List.{AllByRecursion}
 use Rattle.mls_wire.specs.Checks.{◌>>◌}
 use Rattle.mls_wire.specs.Format.{Format}

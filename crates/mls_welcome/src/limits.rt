@@ -30,10 +30,7 @@ pub(crate) fn is_within_limit(bytes: &[u8]) -> Result<(), WelcomeError>
 }
 
 /// The spelling of a value whose numbers are in range: 6 where it is larger than a message may be.
-pub(crate) fn limited_spelling<T: Codec>(
-    alloc: Global,
-    value: &T,
-) -> Result<Vec<u8>, WelcomeError>
+pub(crate) fn limited_spelling<T: Codec>(alloc: Global, value: &T) -> Result<Vec<u8>, WelcomeError>
     requires { FitsIfShort T.format value.now }
     ensures { Answers (λ v. v.items) number_of (limited (T.format.spell value.now)) result }
 {

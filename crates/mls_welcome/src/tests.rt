@@ -95,7 +95,8 @@ fn opened(alloc: Global, welcome: &Welcome, sk: &Secret) -> Result<GroupSecrets,
 fn a_joiner_opens_its_entry(rt: HostRuntime) -> Result<(), Fail> {
     let alloc = rt.alloc();
     let init_key = Glass::public(alloc, &[7; 32])?;
-    let MlsMessage::Welcome(welcome) = MlsMessage::decode(alloc, &message(alloc, &init_key)??)? else {
+    let MlsMessage::Welcome(welcome) = MlsMessage::decode(alloc, &message(alloc, &init_key)??)?
+    else {
         return Err("another message".into());
     };
     assert_eq!(rt; welcome.encrypted_group_info.as_slice(), b"info".as_slice());

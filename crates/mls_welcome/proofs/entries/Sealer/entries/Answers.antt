@@ -18,9 +18,9 @@ pub loop-joiner-preserved : goal.loop-joiner-preserved
 loop-joiner-preserved g c =
     record {
       left =
-        entries_more g.S.Suite.crypto c.args.encrypted_info.now c.args.self.now.joiner_secret.now (seal_seed c.args.self.now.seed.now) c.args.joiners.now c.args.first
-        c.loop-joiner.entries.items c.loop-joiner.number c.loop-joiner.joiner-index c.loop-joiner.invariant.left
-        c.joiner-item.result (omega arith) c.joiner-item.is c.in_ok-entry.entry c.in_ok-entry.ensures c.push.new.self.items c.in_ok-push.ensures.items _ refl;
+          entries_more g.S.Suite.crypto c.args.encrypted_info.now c.args.self.now.joiner_secret.now (seal_seed c.args.self.now.seed.now) c.args.joiners.now c.args.first
+          c.loop-joiner.entries.items c.loop-joiner.number c.loop-joiner.joiner-index c.loop-joiner.invariant.left
+          c.joiner-item.result (omega arith) c.joiner-item.is c.in_ok-entry.entry c.in_ok-entry.ensures c.push.new.self.items c.in_ok-push.ensures.items _ refl;
       number = omega (arith, c.loop-joiner.invariant.number);
     }
 
