@@ -1,3 +1,5 @@
 pub mod Faults
 pub mod Codes
 pub mod Answers
+pub mod Making
+pub mod OwnPath

@@ -7,6 +7,7 @@ mod error;
 mod join;
 mod kept;
 mod member;
+mod own_path;
 mod process;
 mod propose;
 

@@ -2,3 +2,4 @@ mod Joined
 mod Fitting
 mod Measured
 mod Messages
+mod Adds

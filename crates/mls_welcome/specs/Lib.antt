@@ -2,3 +2,4 @@ pub mod Faults
 pub mod Joiners
 pub mod Making
 pub mod Spelled
+pub mod Sent

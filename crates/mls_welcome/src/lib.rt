@@ -4,6 +4,7 @@
 mod entries;
 mod error;
 mod info;
+mod joiners;
 mod limits;
 mod making;
 mod ranges;
@@ -11,4 +12,5 @@ mod ranges;
 mod tests;
 
 pub use error::WelcomeError;
+pub use joiners::joiners_of;
 pub use making::{Joiner, welcome};

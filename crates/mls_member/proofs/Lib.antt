@@ -1,0 +1,2 @@
+mod OwnPath
+mod Sent
