@@ -47,7 +47,7 @@ parts_below n v is =
     let s : List ℕ = uint w32 v.signer in
     let g : List ℕ = opaque v.signature in
     let whole : length a + (length b + (length (header (length t)) + length t + (length s + length g))) < n =
-        subst (λ (k : ℕ). k < n) (length-append a (b ++ (opaque t ++ (s ++ g))) ∙ ap (λ (k : ℕ). length a + k) (length-append b (opaque t ++ (s ++ g)) ∙ ap (λ (k : ℕ). length b + k) (length-append (opaque t) (s ++ g) ∙ ap (λ (k : ℕ). k + length (s ++ g)) (length-append (header (length t)) t) ∙ ap (λ (k : ℕ). length (header (length t)) + length t + k) (length-append s g)))) is.below in
+    subst (λ (k : ℕ). k < n) (length-append a (b ++ (opaque t ++ (s ++ g))) ∙ ap (λ (k : ℕ). length a + k) (length-append b (opaque t ++ (s ++ g)) ∙ ap (λ (k : ℕ). length b + k) (length-append (opaque t) (s ++ g) ∙ ap (λ (k : ℕ). k + length (s ++ g)) (length-append (header (length t)) t) ∙ ap (λ (k : ℕ). length (header (length t)) + length t + k) (length-append s g)))) is.below in
     let signed : length (group_info_tbs v) < n = simp length-append (omega arith) in
     record {
       context = record { fits = is.fits.0; below = omega arith };
@@ -66,8 +66,8 @@ short_context g is =
     let t : List ℕ = g.confirmed_transcript_hash in
     let e : List ℕ = uint w64 g.epoch in
     let end : List ℕ = opaque t ++ (opaque [] ++ []) in
-    let lengths : length (uint w16 1) + (length (uint w16 g.cipher_suite) + (length (opaque i) + (length e + (length (opaque h) + (length (opaque t) + length (opaque [] ++ []))))))  < 2 ^ 27 =
-        subst (λ (k : ℕ). k < 2 ^ 27) (length-append (uint w16 1) (uint w16 g.cipher_suite ++ (opaque i ++ (e ++ (opaque h ++ end)))) ∙ ap (λ (k : ℕ). length (uint w16 1) + k) (length-append (uint w16 g.cipher_suite) (opaque i ++ (e ++ (opaque h ++ end))) ∙ ap (λ (k : ℕ). length (uint w16 g.cipher_suite) + k) (length-append (opaque i) (e ++ (opaque h ++ end)) ∙ ap (λ (k : ℕ). length (opaque i) + k) (length-append e (opaque h ++ end) ∙ ap (λ (k : ℕ). length e + k) (length-append (opaque h) end ∙ ap (λ (k : ℕ). length (opaque h) + k) (length-append (opaque t) (opaque [] ++ []))))))) is.below in
+    let lengths : length (uint w16 1) + (length (uint w16 g.cipher_suite) + (length (opaque i) + (length e + (length (opaque h) + (length (opaque t) + length (opaque [] ++ [])))))) < 2 ^ 27 =
+    subst (λ (k : ℕ). k < 2 ^ 27) (length-append (uint w16 1) (uint w16 g.cipher_suite ++ (opaque i ++ (e ++ (opaque h ++ end)))) ∙ ap (λ (k : ℕ). length (uint w16 1) + k) (length-append (uint w16 g.cipher_suite) (opaque i ++ (e ++ (opaque h ++ end))) ∙ ap (λ (k : ℕ). length (uint w16 g.cipher_suite) + k) (length-append (opaque i) (e ++ (opaque h ++ end)) ∙ ap (λ (k : ℕ). length (opaque i) + k) (length-append e (opaque h ++ end) ∙ ap (λ (k : ℕ). length e + k) (length-append (opaque h) end ∙ ap (λ (k : ℕ). length (opaque h) + k) (length-append (opaque t) (opaque [] ++ []))))))) is.below in
     record {
       suite = is.fits.0;
       epoch = is.fits.1.1.0;

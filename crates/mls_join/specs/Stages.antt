@@ -29,7 +29,7 @@ use Rattle.mls_model.specs.Proposals.{package_reference}
 use Rattle.mls_join.specs.declared.error.JoinError.{JoinError}
 use Rattle.mls_join.specs.Faults.{number_of}
 
--- the Welcome that the bytes are: decoding, 70
+-- the Welcome that the bytes are: decoding, 70 (RFC 9420, 6)
 unfoldable pub read_welcome : List ℕ → Result Welcome ℕ
 read_welcome bytes = decoded bytes >>= λ outer. given 70 (welcome_in outer)
 
@@ -113,6 +113,6 @@ entered k o t keys = do
     info = o.bytes;
   })
 
--- a call answers these bytes, or want of memory
+-- the error is want of memory
 abbrev pub IsMemory : {E : Type 0} → (E → ℕ) → E → Type 0
 IsMemory number e = number e ≡ 1

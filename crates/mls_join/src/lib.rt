@@ -7,6 +7,8 @@ mod keys;
 mod opening;
 mod secrets;
 mod signer;
+#[cfg(test)]
+mod tests;
 mod tree;
 
 pub use entrance::{Entrance, join};

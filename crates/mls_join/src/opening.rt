@@ -53,7 +53,7 @@ fn welcome_view<'a>(bytes: &'a [u8]) -> Result<WelcomeView<'a>, JoinError>
 }
 
 /// The Welcome that the bytes are: decoding, 70.
-fn read_welcome(alloc: Global, bytes: &[u8]) -> Result<Welcome, JoinError>
+pub(crate) fn read_welcome(alloc: Global, bytes: &[u8]) -> Result<Welcome, JoinError>
     ensures answer { Answers (λ w. w) number_of (read_welcome bytes.now) result }
     ensures outright { RefusesOutright number_of (outer_checks bytes.now) result }
     ensures short { IfOk result (λ w. length w.encrypted_group_info < 2 ^ 30) }
@@ -98,11 +98,7 @@ fn info_in(alloc: Global, plain: &[u8]) -> Result<GroupInfo, JoinError>
 }
 
 /// The bytes of the GroupInfo that is sealed under a joiner secret: 75 where it doesn't open.
-fn plain_info<S: Suite>(
-    alloc: Global,
-    joiner: &Secret,
-    sealed: &[u8],
-) -> Result<Vec<u8>, JoinError>
+fn plain_info<S: Suite>(alloc: Global, joiner: &Secret, sealed: &[u8]) -> Result<Vec<u8>, JoinError>
     ensures { Answers (λ v. v.items) number_of (plain_info S.crypto joiner.now sealed.now) result }
 {
     let WelcomeKey { key, nonce } = Epoch::welcome_key(joiner);

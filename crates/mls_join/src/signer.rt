@@ -46,7 +46,13 @@ pub(crate) fn signer_checks<S: Suite>(
     }
     let bytes = to_be_signed(alloc, info)?;
     let key = signer.signature_key.as_slice();
-    if !verify_with_label::<S>(alloc, key, "GroupInfoTBS", &bytes, info.signature.as_slice())? {
+    if !verify_with_label::<S>(
+        alloc,
+        key,
+        "GroupInfoTBS",
+        &bytes,
+        info.signature.as_slice(),
+    )? {
         return Err(JoinError::GroupInfoSignature);
     }
     Ok(())
