@@ -1,5 +1,5 @@
 -- How long the spelling of a context is, and which context code spelled.
-use Rattle.std.proofs.Common.{◌≡◌, ℕ, ◌+◌, ◌<◌, ◌≤◌, ◌^◌, Bool, true, false, cond, ltb, List, [], ◌∷◌, ◌++◌, length, refl, ap, sym, ◌∙◌, arith}
+use Rattle.std.proofs.Common.{◌≡◌, ℕ, ◌+◌, ◌<◌, ◌≤◌, ◌^◌, Bool, true, false, cond, ltb, List, [], ◌∷◌, ◌++◌, length, refl, arith}
 use Rattle.std.specs.Int.{w16, w32, w64, to_be_bytes}
 use Rattle.std.proofs.lemmas.List.{length-append}
 use Rattle.mls_wire.specs.Reading.{header, opaque, uint}
@@ -38,8 +38,16 @@ length-uint64 n = wide64.len n
 row_length : (a b c d e f g : List ℕ) → length a ≡ 2 → length b ≡ 2 → length d ≡ 8 → length g ≤ 4 → length c < 2 ^ 28 + 4 → length e < 2 ^ 28 + 4 → length f < 2 ^ 28 + 4
     → length (a ++ (b ++ (c ++ (d ++ (e ++ (f ++ (g ++ []))))))) < 2 ^ 30
 row_length a b c d e f g ha hb hd hg hc he hf =
-    omega (arith, length-append a (b ++ (c ++ (d ++ (e ++ (f ++ (g ++ [])))))), length-append b (c ++ (d ++ (e ++ (f ++ (g ++ []))))), length-append c (d ++ (e ++ (f ++ (g ++ [])))), length-append d (e ++ (f ++ (g ++ []))),
-    length-append e (f ++ (g ++ [])), length-append f (g ++ []), length-append g [])
+    omega (
+      arith,
+      length-append a (b ++ (c ++ (d ++ (e ++ (f ++ (g ++ [])))))),
+      length-append b (c ++ (d ++ (e ++ (f ++ (g ++ []))))),
+      length-append c (d ++ (e ++ (f ++ (g ++ [])))),
+      length-append d (e ++ (f ++ (g ++ []))),
+      length-append e (f ++ (g ++ [])),
+      length-append f (g ++ []),
+      length-append g [],
+    )
 
 pub context_short : (v : GroupContext) → length v.group_id < 2 ^ 28 → length v.tree_hash < 2 ^ 28 → length v.confirmed_transcript_hash < 2 ^ 28 → length (group_context.spell v) < 2 ^ 30
 unfolding group_context

@@ -1,5 +1,5 @@
 -- The keys of a path that is made, and what its committer keeps of them.
-use Rattle.std.proofs.Common.{◌≡◌, ℕ, suc, ◌^◌, ◌<◌, ◌≤◌, ◌*◌, List, [], ◌∷◌, ◌++◌, length, map, reverse, Option, Some, None, is_some, if◌then◌else◌, Ok, refl, ap, ap₂, sym, subst, ◌∙◌, inl, inr, arith}
+use Rattle.std.proofs.Common.{◌≡◌, ℕ, suc, ◌^◌, ◌<◌, ◌≤◌, List, [], ◌∷◌, ◌++◌, length, map, Option, Some, None, is_some, if◌then◌else◌, Ok, refl, ap, ap₂, sym, subst, ◌∙◌, inl, inr, arith}
 use Rattle.std.proofs.lemmas.Bool.{cases_lt}
 use Rattle.std.proofs.lemmas.List.{length-reverse, length-map}
 use Rattle.std.proofs.Math.Pow.{pow_mono}
@@ -61,7 +61,7 @@ module _ (c : Crypto) (t : Tree) (i : ℕ) (start start' : List ℕ) (xs ys : Li
       → keys_on (term t) new ≡ made_keys c (way 0 (term t) i) start sk
   keys_for n w lt sk old new at own made =
       let k : on_way (way 0 (term t) old.leaf) (all_keys new) ≡ made_keys c (way 0 (term t) old.leaf) start' old.own =
-          made.keys (height (term t)) (term t) (perfect t) (low_height t n w lt) (ys_are ∙ ap (filtered_path 0 (term t)) (sym at)) in
+      made.keys (height (term t)) (term t) (perfect t) (low_height t n w lt) (ys_are ∙ ap (filtered_path 0 (term t)) (sym at)) in
       let sk_is : old.own ≡ sk = own_is old.above old.own sk own in
       ap (λ j. on_way (way 0 (term t) j) (all_keys new)) made.leaf
       ∙ k

@@ -1,4 +1,5 @@
 pub mod Drafts
 pub mod Contexts
 pub mod Merges
+pub mod Leaves
 pub mod Seals

@@ -1,5 +1,5 @@
 -- The new leaf and the tree with the path, as code makes them.
-use Rattle.std.proofs.Common.{◌≡◌, ℕ, ◌≤◌, List, length, map, Option, Some, Result, Ok, Err, refl, ap, ap₂, sym, subst, ◌∙◌, inl, inr, arith}
+use Rattle.std.proofs.Common.{◌≡◌, ℕ, ◌≤◌, List, length, Some, Result, Ok, Err, refl, ap, ap₂, sym, ◌∙◌, inl, inr, arith}
 use Rattle.mls_wire.specs.Checks.{Passed, passed}
 use Rattle.mls_wire.specs.CheckLaws.{then_ok}
 use Rattle.mls_leaf.specs.declared.leaf.LeafNode.{LeafNode}

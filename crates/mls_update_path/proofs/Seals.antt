@@ -1,11 +1,11 @@
 -- The path that is sealed, and what its receivers find of it.
-use Rattle.std.proofs.Common.{◌≡◌, ℕ, zero, suc, ◌+◌, ◌==◌, ◌&&◌, true, List, [], ◌∷◌, ◌++◌, length, map, reverse, Option, Some, Result, Ok, Err, refl, ap, ap₂, sym, subst, ◌∙◌, arith, eq-eqb, length-append}
+use Rattle.std.proofs.Common.{◌≡◌, ℕ, zero, suc, ◌+◌, ◌==◌, ◌&&◌, true, List, [], ◌∷◌, length, map, Some, Result, Ok, Err, refl, ap, ap₂, sym, subst, ◌∙◌, arith, eq-eqb, length-append}
 use Rattle.std.specs.List.{list_all}
 use Rattle.std.specs.Str.{bytes_eq}
 use Rattle.std.proofs.lemmas.Slice.Eq.{bytes_eq-Decides}
 use Rattle.std.proofs.lemmas.List.{length-map}
 use Rattle.mls_wire.specs.Checks.{Passed, passed, ◌>>◌}
-use Rattle.mls_wire.specs.CheckLaws.{bind_ok, then_ok, given_ok}
+use Rattle.mls_wire.specs.CheckLaws.{bind_ok, then_ok}
 use Rattle.mls_wire.specs.Reading.{◌>>=◌}
 use Rattle.mls_leaf.specs.declared.leaf.LeafNode.{LeafNode}
 use Rattle.mls_group.specs.GroupContext.{group_context}
@@ -14,13 +14,13 @@ use Rattle.mls_group.specs.declared.update_path.UpdatePathNode.{UpdatePathNode}
 use Rattle.mls_suite.specs.Crypto.{Crypto, Lawful}
 use Rattle.mls_checks.specs.Checks.{replaced_checks}
 use Rattle.mls_checks.specs.declared.checks.Source.TheVariants as replaced_for
-use Rattle.mls_term.specs.Term.{Term, leaf_of}
+use Rattle.mls_term.specs.Term.{Term}
 use Rattle.mls_term.specs.Way.{way, path_length, ciphertext_counts}
 use Rattle.mls_tree.specs.Tree.{member_at}
 use Rattle.mls_tree.specs.Paths.{merge_answer}
 use Rattle.mls_paths.specs.Chain.{chain, path_secrets, node_public}
 use Rattle.mls_paths.specs.Keys.{Keys}
-use Rattle.mls_paths.specs.Make.{Climb, climb_make, made_keys, secret_above}
+use Rattle.mls_paths.specs.Make.{Climb, climb_make, made_keys}
 use Rattle.mls_paths.specs.MakeLaws.{count_is_length}
 use Rattle.mls_paths.specs.Seal.{targets, sealed_path}
 use Rattle.mls_paths.specs.Seeds.{path_seed, seal_seed}

@@ -1,5 +1,5 @@
 -- The numbers and names of these refusals.
-use Rattle.std.specs.Prelude.{ℕ, List, codes}
+use Rattle.std.specs.Prelude.{ℕ, List}
 use Rattle.mls_tree.specs.Faults.{number_of as number_of_tree, name_of as name_of_tree}
 use Rattle.mls_checks.specs.Faults.{number_of as number_of_check, name_of as name_of_check}
 use Rattle.mls_treekem.specs.Faults.{number_of as number_of_keys, name_of as name_of_keys}

@@ -49,10 +49,7 @@ pub(crate) fn make_draft<S: Suite>(
 }
 
 /// The public keys of a path, the lowest node's first.
-pub(crate) fn public_keys(
-    alloc: Global,
-    secrets: &PathSecrets,
-) -> Result<Vec<Bytes>, OutOfMemory>
+pub(crate) fn public_keys(alloc: Global, secrets: &PathSecrets) -> Result<Vec<Bytes>, OutOfMemory>
     ensures { IfOk result (λ v. v.items ≡ public_keys secrets.now) }
 {
     let mut keys = Vec::new(alloc);

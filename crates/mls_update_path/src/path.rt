@@ -1,6 +1,6 @@
 //! Making a path.
 
-ghost use Rattle.std.specs.Prelude.{◌≡◌, ◌+◌, ◌<◌, ◌^◌, Ok, IfOk};
+ghost use Rattle.std.specs.Prelude.{◌≡◌, ℕ, ◌+◌, ◌<◌, ◌^◌, Ok, IfOk};
 ghost use Rattle.mls_wire.specs.Checks.{Answers};
 ghost use Rattle.mls_leaf.specs.Leaf.{leaf_node};
 ghost use Rattle.mls_term.specs.Way.{way, path_length};
@@ -69,6 +69,7 @@ fn make_merged<S: Suite>(
     requires leaves { HasLeavesBelow (2 ^ 27) group.now.tree }
     ensures answer { Answers (λ x. (x.leaf, term x.tree)) number_of (merged_of S.crypto group.now signing.now index (term edited.now) seed.now) result }
     ensures below { IfOk result (λ x. IsBelow (2 ^ 28) leaf_node x.leaf) }
+    ensures short { IfOk result (λ x. (n : ℕ) → HasLeavesBelow n (term edited.now) → IsBelow n leaf_node x.leaf → HasLeavesBelow n (term x.tree)) }
     ensures leaf { IfOk result (λ x. x.keys.leaf ≡ index) }
     ensures chain { IfOk result (λ x. AreOfChain S.crypto (path_seed seed.now) (path_length 0 (term edited.now) index) x.secrets) }
     ensures keys { IfOk result (λ x. all_keys x.keys ≡ made_keys S.crypto (way 0 (term edited.now) index) (path_seed seed.now) (leaf_key_of S.crypto seed.now)) }
@@ -115,6 +116,8 @@ pub fn new_path<S: Suite>(
     ensures chain { IfOk result (λ p. AreOfChain S.crypto (path_seed seed.now) (path_length 0 edits.now.tree index) p.secrets) }
     // It passes the checks that each member makes of a path.
     ensures received { IfOk result (λ p. with_path S.crypto group.now index edits.now p.path ≡ Ok (term p.tree)) }
+    // The leaves of the tree with it are as short as those of the tree after the edits and the new one.
+    ensures short { IfOk result (λ p. (n : ℕ) → HasLeavesBelow n edits.now.tree → IsBelow n leaf_node p.path.leaf_node → HasLeavesBelow n (term p.tree)) }
 {
     let mut made = make_merged::<S>(alloc, group, signing, index, &edits.tree, seed)?;
     let context = provisional_bytes(alloc, group.context(), &mut made.tree)?;

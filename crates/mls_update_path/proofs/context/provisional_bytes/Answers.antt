@@ -1,4 +1,4 @@
-use Rattle.std.proofs.Common.{◌≡◌, ◌∙◌, ◌<◌, ◌^◌, length, ap, sym, subst, rules}
+use Rattle.std.proofs.Common.{◌≡◌, ◌∙◌, ◌<◌, ◌^◌, length, sym, subst}
 use Rattle.mls_group.specs.GroupContext.{group_context}
 use Rattle.mls_tree.specs.Tree.{term}
 use Rattle.mls_term.specs.Hashes.{tree_hash}

@@ -1,6 +1,5 @@
-use Rattle.std.proofs.Common.{◌≡◌, ℕ, List, Ok, Err, Some, refl, ap, ap₂, sym, ◌∙◌}
+use Rattle.std.proofs.Common.{◌≡◌, ℕ, List, Some, refl, ap, ap₂, sym, ◌∙◌}
 use Rattle.std.proofs.lemmas.Result.{err_from_is_err_and}
-use Rattle.mls_leaf.specs.declared.leaf.LeafNode.{LeafNode}
 use Rattle.mls_term.specs.Term.{Term, leaf_of}
 use Rattle.mls_term.specs.Merge.{path_parent_hash}
 use Rattle.mls_tree.specs.Tree.{term}
@@ -13,6 +12,7 @@ use Rattle.mls_checks.specs.declared.checks.Source.TheVariants as replaced_for
 use Rattle.mls_model.specs.Candidate.{leaf_key_of}
 use Rattle.mls_update_path.specs.Parts.{made_public, leaf_with}
 use Rattle.mls_update_path.proofs.Drafts.{followed_made}
+use Rattle.mls_update_path.proofs.Leaves.{leaves_below}
 use Rattle.mls_update_path.proofs.Merges.{hash_short, keys_are, merge_is, hash_of, leaf_is, leaf_key_is, leaf_fails, merge_fails, merges}
 use Rattle.mls_update_path.proofs.path.make_merged.Goals as goal
 
@@ -83,3 +83,12 @@ returns-clause-keys g c =
     (merge_is (term c.args.edited.now) c.args.index c.in_ok-leaf.leaf (made_public g.S.Suite.crypto c.args.index (term c.args.edited.now) c.args.seed.now) (term c.merge_path.new.self) merge)
     (leaf_key_is g.S.Suite.crypto c.args.signing.now c.args.index (term c.args.edited.now) c.in-Some.old.now c.args.seed.now c.args.group.now.context.group_id c.in_ok-leaf.leaf is)
     c.in_ok-made.ensures.leaf c.in_ok-made.ensures.keys c.in_ok-follow_edit.ensures.ok
+
+pub returns-clause-short : goal.returns-clause-short
+returns-clause-short g c =
+    λ n has below.
+    let keys : c.in_ok-public.public.items ≡ made_public g.S.Suite.crypto c.args.index (term c.args.edited.now) c.args.seed.now =
+    keys_are g.S.Suite.crypto (term c.args.edited.now) c.args.index (path_seed c.args.seed.now) c.in_ok-made.made.secrets c.in_ok-public.public.items c.in_ok-made.ensures.chain c.in_ok-public.ensures in
+    let tree : term c.parent_hash.new.tree ≡ term c.args.edited.now = c.in_ok-parent_hash.ensures.same ∙ ap term c.in_ok-tree.ensures.cases in
+    let merge = (sym (ap₂ (λ (u : Term) (ks : List (List ℕ)). merge_answer u c.args.index c.in_ok-leaf.leaf ks) tree keys) ∙ ap (λ l. merge_answer (term c.parent_hash.new.tree) c.args.index l c.in_ok-public.public.items) (sym c.in_ok-clone.ensures.cases) ∙ c.in_ok-merge_path.ensures.answer) in
+    leaves_below n (term c.args.edited.now) c.args.index c.in_ok-leaf.leaf (made_public g.S.Suite.crypto c.args.index (term c.args.edited.now) c.args.seed.now) (term c.merge_path.new.self) merge has below

@@ -1,4 +1,4 @@
-use Rattle.std.proofs.Common.{◌≡◌, refl, ap, sym, ◌∙◌}
+use Rattle.std.proofs.Common.{refl, ap, sym, subst, ◌∙◌}
 use Rattle.std.proofs.lemmas.Result.{err_from_is_err_and}
 use Rattle.mls_group.specs.GroupContext.{group_context}
 use Rattle.mls_tree.specs.Tree.{term}
@@ -7,6 +7,7 @@ use Rattle.mls_paths.specs.Seeds.{path_seed}
 use Rattle.mls_model.specs.Candidate.{leaf_key_of}
 use Rattle.mls_model.specs.Commit.{Edits}
 use Rattle.mls_model.specs.Public.{provisional_context}
+use Rattle.mls_public_group.specs.Short.{HasLeavesBelow}
 use Rattle.mls_treekem.specs.Faults.{number_of as number_of_keys}
 use Rattle.mls_update_path.specs.Faults.{number_of}
 use Rattle.mls_update_path.proofs.Seals.{is_path_of, path_fails, seals_fail, seals, climb_is, received}
@@ -50,3 +51,9 @@ returns-clause-received g c =
     let e : Edits = record { tree = term c.edits.inside.tree; added = c.edits.inside.added.items } in
     received g.S.Suite.crypto g.met.S.Suite.lawful c.args.group.now c.args.signing.now c.args.index e c.args.edits.now c.args.seed.now c.in_ok-made.made.leaf (term c.in_ok-made.made.tree) (term c.provisional_bytes.new.tree) c.deref-2.result.now c.deref.result.now
     c.in_ok-nodes.nodes.items c.from_vec.result c.edits.view_is c.in_ok-made.ensures.answer c.in_ok-context.ensures.same c.deref.ensures.value (c.in_ok-nodes.ensures.chain (path_seed c.args.seed.now) c.in_ok-made.ensures.chain) c.from_vec.ensures
+
+pub returns-clause-short : goal.returns-clause-short
+returns-clause-short g c =
+    λ n has below.
+    subst (HasLeavesBelow n) (sym c.in_ok-context.ensures.same)
+    (c.in_ok-made.ensures.short n (subst (λ (e : Edits). HasLeavesBelow n e.tree) (sym c.edits.view_is) has) below)
