@@ -1,17 +1,26 @@
 //! Candidates.
 
-ghost use Rattle.std.specs.Prelude.{◌≡◌};
+ghost use Rattle.std.specs.Prelude.{◌≡◌, ◌^◌};
+ghost use Rattle.mls_leaf.specs.KeyPackage.{key_package as key_package_format};
+ghost use Rattle.mls_public_group.specs.Short.{IsBelow};
 ghost use Rattle.mls_wire.specs.Checks.{Answers};
 ghost use Rattle.mls_model.specs.Candidate.{new_candidate, package_message};
 ghost use Rattle.mls_candidate.specs.Faults.{number_of};
 
 use crate::error::CandidateError;
+use crate::leaf::leaf_pair;
+use crate::package::{init_pair, offered_package, package_message};
+use crate::texts::within_limit;
 use mls_kdf::{Secret, Seed};
-use mls_leaf::{KeyPackage, LeafError};
+use mls_leaf::{INPUT_LIMIT, KeyPackage, LeafError};
 use mls_suite::Suite;
+use mls_treekem::sign_seed;
 use mls_wire::WireError;
 use std::alloc::Global;
 use std::marker::{Model, PhantomData};
+
+// The message would be longer than an input may be.
+const TOO_LONG: CandidateError = CandidateError::Leaf(LeafError::Wire(WireError::TooLong));
 
 /// A candidate for membership: its KeyPackage, and the private keys of its init key, of its leaf and of its signatures
 /// (RFC 9420, 10).
@@ -40,14 +49,31 @@ impl<S: Suite> Model for Candidate<S> {
 
 impl<S: Suite> Candidate<S> {
     /// A candidate of an identity and a seed: 57 where both keys are one, 6 where the message is too large.
-    pub fn new(
-        alloc: Global,
-        identity: &[u8],
-        seed: &Seed,
-    ) -> Result<Candidate<S>, CandidateError>
+    pub fn new(alloc: Global, identity: &[u8], seed: &Seed) -> Result<Candidate<S>, CandidateError>
         ensures { Answers (λ k. k) number_of (new_candidate S.crypto identity.now seed.now) result }
     {
-        Err(CandidateError::Leaf(LeafError::Wire(WireError::OutOfMemory)))
+        let init = init_pair::<S>(alloc, seed)?;
+        let leaf = leaf_pair::<S>(alloc, seed)?;
+        if init.pk == leaf.pk {
+            return Err(CandidateError::InitKeySame);
+        }
+        // A longer one makes its message too large, whatever the signatures are.
+        if identity.len() > INPUT_LIMIT {
+            return Err(TOO_LONG);
+        }
+        let offered = offered_package::<S>(alloc, identity, seed, init.pk, leaf.pk)?;
+        let message = package_message(alloc, &offered)?;
+        if !within_limit(&message) {
+            return Err(TOO_LONG);
+        }
+        Ok(Candidate {
+            offered,
+            message,
+            init: init.sk,
+            leaf: leaf.sk,
+            signing: sign_seed(seed),
+            suite: PhantomData,
+        })
     }
 
     /// The message of its KeyPackage (RFC 9420, 6).
@@ -83,5 +109,12 @@ impl<S: Suite> Candidate<S> {
         ensures { result.now ≡ self.now.signing }
     {
         &self.signing
+    }
+
+    /// A law: its KeyPackage is short.
+    pub fn is_short(&self)
+        ensures { IsBelow (2 ^ 27) key_package_format self.now.offered }
+    {
+        let _offered = &self.offered;
     }
 }

@@ -4,6 +4,10 @@
 mod candidate;
 mod error;
 mod leaf;
+mod package;
+#[cfg(test)]
+mod tests;
+mod texts;
 
 pub use candidate::Candidate;
 pub use error::CandidateError;

@@ -1,2 +1,4 @@
 pub mod Faults
 pub mod Entrance
+pub mod Parts
+pub mod Stages

@@ -1,18 +1,33 @@
 //! What a candidate does with a Welcome.
 
+ghost use Rattle.std.specs.Prelude.{◌≡◌, ◌^◌, MatchResult};
 ghost use Rattle.mls_wire.specs.Checks.{Answers};
-ghost use Rattle.mls_model.specs.Join.{join_verdict};
-ghost use Rattle.mls_join.specs.Entrance.{joined_by};
+ghost use Rattle.mls_leaf.specs.KeyPackage.{key_package};
+ghost use Rattle.mls_group.specs.GroupContext.{group_context};
+ghost use Rattle.mls_group.specs.GroupInfo.{group_info};
+ghost use Rattle.mls_tree.specs.Refusals.{RefusesOutright};
+ghost use Rattle.mls_tree.specs.Tree.{term};
+ghost use Rattle.mls_public_group.specs.Short.{IsBelow, IsShortContext, HasLeavesBelow};
+ghost use Rattle.mls_model.specs.Candidate as model;
+ghost use Rattle.mls_model.specs.Join.{member_of, join_verdict};
+ghost use Rattle.mls_join.specs.Entrance.{joined_by, outer_checks};
 ghost use Rattle.mls_join.specs.Faults.{number_of};
+ghost use Rattle.mls_join.specs.Parts.{opened_by};
+ghost use Rattle.mls_join.specs.Stages.{entered, IsMemory};
 
 use crate::error::JoinError;
+use crate::keys::{joined_keys, place_of};
+use crate::opening::{Opened, opened_welcome};
+use crate::signer::signer_checks;
+use crate::tree::joined_tree;
 use mls_candidate::Candidate;
-use mls_leaf::LeafError;
+use mls_group::GroupContext;
+use mls_leaf::Codec;
 use mls_public_group::PublicGroup;
-use mls_schedule::Epoch;
+use mls_schedule::{Epoch, Transcript};
 use mls_suite::Suite;
+use mls_tree::PublicTree;
 use mls_treekem::PrivatePath;
-use mls_wire::WireError;
 use std::alloc::Global;
 
 /// What a candidate finds behind a Welcome that it follows.
@@ -28,16 +43,94 @@ pub struct Entrance {
     pub group_info: Vec<u8>,
 }
 
+/// The spelling of a context.
+fn context_bytes(alloc: Global, context: &GroupContext) -> Result<Vec<u8>, JoinError>
+    requires { IsShortContext context.now }
+    ensures { MatchResult result (λ v. v.items ≡ group_context.spell context.now) (IsMemory number_of) }
+{
+    let bytes = context.encode(alloc)?;
+    Ok(bytes)
+}
+
+/// The new member with these keys in this tree: 65 the confirmation tag.
+#[tactic(auto, unfolding(crate::specs::Stages::entered))]
+fn entered(
+    alloc: Global,
+    tree: PublicTree,
+    keys: PrivatePath,
+    opened: Opened,
+) -> Result<Entrance, JoinError>
+    requires short { IsBelow (2 ^ 27) group_info opened.info }
+    requires leaves { HasLeavesBelow (2 ^ 27) (term tree) }
+    ensures { (k : model.Candidate) → Answers (joined_by k) number_of (entered k (opened_by opened) (term tree) keys) result }
+{
+    let Opened {
+        joiner,
+        bytes: group_info,
+        info,
+        ..
+    } = opened;
+    let context = info.group_context;
+    let bytes = context_bytes(alloc, &context)?;
+    let epoch = Epoch::from_joiner(&joiner, &bytes).epoch;
+    let confirmed = context.confirmed_transcript_hash.as_slice();
+    let tag = info.confirmation_tag.as_slice();
+    if tag != epoch.confirmation_tag(confirmed).as_slice() {
+        return Err(JoinError::BadConfirmationTag);
+    }
+    let transcript = Transcript::interim(confirmed, tag);
+    let group = PublicGroup::new(alloc, context, tree, transcript)?;
+    Ok(Entrance {
+        group,
+        epoch,
+        keys,
+        group_info,
+    })
+}
+
+/// The new member of an opened Welcome: the checks of tree and signer, 80 no leaf is the candidate's, 34 and 35, 65 the
+/// confirmation tag.
+#[tactic(auto, unfolding(mls_model::specs::Join::member_of))]
+fn member_of<S: Suite>(
+    alloc: Global,
+    candidate: &Candidate<S>,
+    opened: Opened,
+) -> Result<Entrance, JoinError>
+    requires offered { IsBelow (2 ^ 27) key_package candidate.now.offered }
+    requires short { IsBelow (2 ^ 27) group_info opened.info }
+    ensures { Answers (joined_by candidate.now) number_of (member_of S.crypto candidate.now (opened_by opened)) result }
+{
+    let tree = joined_tree::<S>(&opened.info)?;
+    signer_checks::<S>(alloc, candidate, &opened.info, &tree)?;
+    let Some(place) = place_of(&tree, &candidate.key_package().leaf_node) else {
+        return Err(JoinError::NotInTree);
+    };
+    let signer = opened.info.signer;
+    let keys = joined_keys::<S>(
+        alloc,
+        &tree,
+        signer,
+        place,
+        candidate.leaf_key(),
+        &opened.path_secret,
+    )?;
+    entered(alloc, tree, keys, opened)
+}
+
 /// The group that a Welcome leads the candidate into, or the first check that fails: decoding; 70 no Welcome; 71 another
 /// suite; 72 no entry for the candidate; 73 and 75 what doesn't open or isn't what it has to be; 74 a pre-shared key; 76
 /// no tree; 20 to 26, 36, 51, 52 and 77 the tree; 78 and 79 the signer; 80 no leaf is the candidate's; 34 and 35 its keys;
 /// 65 the confirmation tag (RFC 9420, 12.4.3.1).
+#[tactic(auto, unfolding(mls_model::specs::Join::join_verdict))]
 pub fn join<S: Suite>(
     alloc: Global,
     candidate: &Candidate<S>,
     bytes: &[u8],
 ) -> Result<Entrance, JoinError>
+    requires { IsBelow (2 ^ 27) key_package candidate.now.offered }
     ensures answer { Answers (joined_by candidate.now) number_of (join_verdict S.crypto candidate.now bytes.now) result }
+    ensures outright { RefusesOutright number_of (outer_checks bytes.now) result }
 {
-    Err(JoinError::Leaf(LeafError::Wire(WireError::OutOfMemory)))
+    let opened = opened_welcome::<S>(alloc, candidate, bytes)?;
+    member_of::<S>(alloc, candidate, opened)
 }

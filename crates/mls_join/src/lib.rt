@@ -3,6 +3,11 @@
 
 mod entrance;
 mod error;
+mod keys;
+mod opening;
+mod secrets;
+mod signer;
+mod tree;
 
 pub use entrance::{Entrance, join};
 pub use error::JoinError;

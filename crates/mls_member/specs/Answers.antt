@@ -14,7 +14,7 @@ abbrev pub messages_of : Made → List ℕ × Option (List ℕ)
 messages_of made = (made.commit.items, option_map (λ v. v.items) made.welcome)
 
 -- a new member with the GroupInfo
-abbrev pub joined_as : Joined → model.Joined
+abbrev pub joined_as : {S : Type 0} → Joined S → model.Joined
 joined_as j = record { member = j.member; info = j.group_info.items }
 
 -- a proposal in full encodes to fewer than 2^28 bytes

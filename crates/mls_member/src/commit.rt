@@ -4,7 +4,6 @@ ghost use Rattle.std.specs.Prelude.{◌≡◌, true, Err, map};
 ghost use Rattle.mls_wire.specs.Checks.{DoesAs};
 ghost use Rattle.mls_model.specs.Make.{listed_of, committed};
 ghost use Rattle.mls_member.specs.Answers.{messages_of, AreShortItems};
-ghost use Rattle.mls_member.specs.declared.error.Refusal.TheVariants.{Gone};
 ghost use Rattle.mls_member.specs.Faults.{number_of};
 
 use crate::error::Refusal;
@@ -31,11 +30,7 @@ impl<S: Suite> Member<S> {
     pub fn commit(&mut self, items: &[Item], path: bool, seed: &Seed) -> Result<Made, Refusal>
         requires { AreShortItems items.now }
         ensures answer { DoesAs messages_of number_of (committed S.crypto self.old (map listed_of items.now) path seed.now) self.old self.new result }
-        ensures gone { self.old.gone ≡ true → result ≡ Err Gone }
     {
-        if self.gone {
-            return Err(Refusal::Gone);
-        }
         Err(Refusal::Leaf(LeafError::Wire(WireError::OutOfMemory)))
     }
 }

@@ -70,6 +70,7 @@ impl<S: Suite> Member<S> {
     }
 
     /// Forgets the pending commit, and answers whether there was one. It takes no memory.
+    #[tactic(auto, unfolding(mls_model::specs::Member::without_pending))]
     pub fn drop_pending(&mut self) -> bool
         ensures had { result ≡ is_some self.old.pending }
         ensures none { self.new ≡ model.without_pending self.old }

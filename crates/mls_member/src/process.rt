@@ -3,7 +3,6 @@
 ghost use Rattle.std.specs.Prelude.{◌≡◌, true, false, Err, IsOk, IsSome};
 ghost use Rattle.mls_wire.specs.Checks.{DoesAs};
 ghost use Rattle.mls_model.specs.Verdict.{verdict, own_pending};
-ghost use Rattle.mls_member.specs.declared.error.Refusal.TheVariants.{Gone};
 ghost use Rattle.mls_member.specs.Faults.{number_of};
 
 use crate::error::Refusal;
@@ -17,11 +16,7 @@ impl<S: Suite> Member<S> {
     /// What a message does to the member, or the first check that fails (RFC 9420, 6, 12.1 and 12.4.2).
     pub fn process(&mut self, bytes: &[u8]) -> Result<Effect, Refusal>
         ensures verdict { DoesAs (λ e. e) number_of (verdict S.crypto self.old bytes.now) self.old self.new result }
-        ensures gone { self.old.gone ≡ true → result ≡ Err Gone }
     {
-        if self.gone {
-            return Err(Refusal::Gone);
-        }
         Err(Refusal::Leaf(LeafError::Wire(WireError::OutOfMemory)))
     }
 }

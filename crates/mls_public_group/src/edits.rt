@@ -2,17 +2,17 @@
 
 ghost use Rattle.std.specs.Prelude.{◌≡◌, ◌≤◌, ◌^◌, ℕ, IfOk};
 ghost use Rattle.mls_wire.specs.Checks.{Answers, passed};
-ghost use Rattle.mls_leaf.specs.Proposal.{proposal as proposal_format};
-ghost use Rattle.mls_checks.specs.Short.{IsShort};
-ghost use Rattle.mls_model.specs.Proposals.{proposal_checks};
 ghost use Rattle.mls_model.specs.Commit.{edited};
+ghost use Rattle.mls_public_group.specs.Edited.{apart_after};
 ghost use Rattle.mls_public_group.specs.Faults.{number_of};
 ghost use Rattle.mls_public_group.specs.Short.{AreBelow, HasLeavesBelow};
 
+use crate::applied::applied;
+use crate::changed::require_apart;
 use crate::error::GroupError;
 use crate::group::PublicGroup;
+use crate::references::has_distinct_references;
 use crate::used::Used;
-use mls_leaf::Proposal;
 use mls_suite::Suite;
 use mls_tree::{PublicTree, TreeError};
 use std::alloc::Global;
@@ -39,21 +39,26 @@ impl Model for Edits {
     ghost view = { λ e. record { tree = term e.tree; added = e.added.items } };
 }
 
-impl PublicGroup {
-    /// The checks of a proposal of the member at leaf `sender`: of an add those of its KeyPackage (RFC 9420, 12.1.1), of an
-    /// update those of its leaf (12.1.2), of a remove that there is a member (12.1.3).
-    pub fn require_proposal<S: Suite>(
-        &self,
-        alloc: Global,
-        sender: u32,
-        proposal: &Proposal,
-    ) -> Result<(), GroupError>
-        requires { IsShort proposal_format proposal.now }
-        ensures { Answers (λ _. passed) number_of (proposal_checks S.crypto self.now sender proposal.now) result }
-    {
-        Err(GroupError::Tree(TreeError::OutOfMemory))
+/// That no two members have one signature key (26), no two adds one reference (26), and no two nodes one encryption key
+/// (25).
+#[tactic(auto, unfolding(crate::specs::Edited::apart_after))]
+fn require_distinct(alloc: Global, edits: &Edits, used: &[Used<'_>]) -> Result<(), GroupError>
+    requires { AreBelow (2 ^ 28) used.now }
+    ensures { Answers (λ _. passed) number_of (apart_after edits.now used.now) result }
+{
+    if !edits.tree.has_distinct_clients()? {
+        return Err(GroupError::Tree(TreeError::ClientRepeated));
     }
+    if !has_distinct_references(alloc, used)? {
+        return Err(GroupError::Tree(TreeError::ClientRepeated));
+    }
+    if !edits.tree.has_distinct_keys()? {
+        return Err(GroupError::Tree(TreeError::KeyRepeated));
+    }
+    Ok(())
+}
 
+impl PublicGroup {
     /// The tree after the proposals of a commit, where they and the tree pass these checks in this order: those of each
     /// proposal in full; 61 an update of the committer, 62 its removal, 63 two updates or removes of one leaf; 21 the tree
     /// is too large; 26 two members have one signature key, or two adds one reference; 25 two nodes have one encryption
@@ -69,6 +74,11 @@ impl PublicGroup {
         // Its leaves are as short as the group's and the proposals.
         ensures below { IfOk result (λ e. (n : ℕ) → 2 ^ 27 ≤ n → AreBelow n used.now → HasLeavesBelow n e.tree) }
     {
-        Err(GroupError::Tree(TreeError::OutOfMemory))
+        self.require_full::<S>(alloc, used)?;
+        require_apart(alloc, committer, used)?;
+        let tree = self.tree.clone()?;
+        let edits = applied(alloc, tree, used)?;
+        require_distinct(alloc, &edits, used)?;
+        Ok(edits)
     }
 }

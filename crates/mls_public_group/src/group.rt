@@ -5,6 +5,7 @@ ghost use Rattle.mls_group.specs.GroupContext.{group_context};
 ghost use Rattle.mls_tree.specs.Tree.{term};
 ghost use Rattle.mls_public_group.specs.Short.{HasLeavesBelow, IsShortContext};
 
+use crate::spelling::spelling;
 use mls_group::GroupContext;
 use mls_leaf::Codec;
 use mls_schedule::Transcript;
@@ -16,10 +17,10 @@ use std::marker::Model;
 /// transcript hash (8.2).
 #[derive(Drop)]
 pub struct PublicGroup {
-    context: GroupContext,
+    pub(crate) context: GroupContext,
     // The spelling of the context, which signatures, tags and secrets are made over.
     bytes: Vec<u8>,
-    tree: PublicTree,
+    pub(crate) tree: PublicTree,
     transcript: Transcript,
 }
 
@@ -27,7 +28,7 @@ impl Model for PublicGroup {
     ghost use Rattle.std.specs.Prelude.{◌≡◌, ◌^◌};
     ghost use Rattle.mls_group.specs.GroupContext.{group_context};
     ghost use Rattle.mls_tree.specs.Tree.{term};
-        ghost use Rattle.mls_public_group.specs.Short.{HasLeavesBelow, IsShortContext};
+    ghost use Rattle.mls_public_group.specs.Short.{HasLeavesBelow, IsShortContext};
     ghost use Rattle.mls_model.specs.Public.{PublicState};
     ghost use Rattle.mls_public_group.specs.PublicCodes.{coded_public};
 
@@ -52,7 +53,13 @@ impl PublicGroup {
         requires leaves { HasLeavesBelow (2 ^ 27) (term tree) }
         ensures { IfOk result (λ g. g ≡ record { context = context; tree = term tree; interim = transcript }) }
     {
-        Err(AllocError)
+        let bytes = spelling(alloc, &context)?;
+        Ok(PublicGroup {
+            context,
+            bytes,
+            tree,
+            transcript,
+        })
     }
 
     /// The context of the epoch (RFC 9420, 8.1).
@@ -81,5 +88,13 @@ impl PublicGroup {
         ensures { result.now ≡ self.now.interim }
     {
         &self.transcript
+    }
+
+    /// A law: its context is short, and so are its leaves.
+    pub fn is_short(&self)
+        ensures context { IsShortContext self.now.context }
+        ensures leaves { HasLeavesBelow (2 ^ 27) self.now.tree }
+    {
+        let _context = &self.context;
     }
 }

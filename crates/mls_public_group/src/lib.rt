@@ -2,9 +2,15 @@
 //! make of the tree (RFC 9420, 12.1 to 12.3).
 #![tactic(auto)]
 
+mod applied;
+mod changed;
+mod distinct;
 mod edits;
 mod error;
 mod group;
+mod proposals;
+mod references;
+mod spelling;
 mod used;
 
 pub use edits::Edits;

@@ -1,2 +1,4 @@
 pub mod Faults
 pub mod Joiners
+pub mod Making
+pub mod Spelled

@@ -1,8 +1,14 @@
 //! Welcomes for those that a commit adds (RFC 9420, 12.4.3).
 #![tactic(auto)]
 
+mod entries;
 mod error;
+mod info;
+mod limits;
 mod making;
+mod ranges;
+#[cfg(test)]
+mod tests;
 
 pub use error::WelcomeError;
 pub use making::{Joiner, welcome};

@@ -1,0 +1,5 @@
+pub mod Written
+pub mod Lengths
+pub mod Leaves
+pub mod Packages
+pub mod New

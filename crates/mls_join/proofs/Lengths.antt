@@ -1,0 +1,107 @@
+-- How long the parts of a GroupInfo are.
+use Rattle.std.proofs.Common.{◌≡◌, ℕ, ◌+◌, ◌<◌, ◌≤◌, ◌^◌, Bool, true, false, List, [], ◌∷◌, ◌++◌, length, Option, Some, None, refl, sym, ap, subst, ◌∙◌, arith, length-append, inl, inr, lt-ltb, Result, Ok, Err}
+use Rattle.std.proofs.lemmas.Bool.{cases_lt, cond-true}
+use Rattle.std.specs.Int.{w16, w32, w64}
+use Rattle.mls_wire.specs.Reading.{uint, header, opaque}
+use Rattle.mls_wire.specs.Format.{Format}
+use Rattle.mls_leaf.specs.Faults.{Spells, whole}
+use Rattle.mls_leaf.specs.Limits.{input_limit}
+use Rattle.mls_leaf.specs.Leaf.{leaf_node}
+use Rattle.mls_leaf.specs.KeyPackage.{key_package}
+use Rattle.mls_leaf.specs.declared.node.Node.{Node}
+use Rattle.mls_leaf.specs.declared.key_package.KeyPackage.{KeyPackage}
+use Rattle.mls_group.specs.GroupContext.{group_context}
+use Rattle.mls_group.specs.GroupInfo.{group_info, group_info_extensions, group_info_tbs, GroupInfoTbsFits, ratchet_tree}
+use Rattle.mls_group.specs.declared.group_context.GroupContext.{GroupContext}
+use Rattle.mls_group.specs.declared.group_info.GroupInfo.{GroupInfo}
+use Rattle.mls_public_group.specs.Short.{IsBelow, IsShortContext}
+
+abbrev too_long : {V : Type 0} → Result V ℕ
+too_long = Err 6
+
+-- the parts of a GroupInfo are as short as it
+pub record HasParts (n : ℕ) (v : GroupInfo) : Type 0 where
+  pub context : IsBelow n group_context v.group_context
+  pub tag : length v.confirmation_tag < n
+  pub nodes : (xs : List (Option Node)) → v.ratchet_tree ≡ Some xs → IsBelow n ratchet_tree xs
+  pub fits : GroupInfoTbsFits v
+  pub below : length (group_info_tbs v) < n
+
+nodes_below : (n : ℕ) (o : Option (List (Option Node))) → group_info_extensions.Fits o → length (group_info_extensions.spell o) < n
+    → (xs : List (Option Node)) → o ≡ Some xs → IsBelow n ratchet_tree xs
+unfolding group_info_extensions
+nodes_below n None fits lt xs e = absurd cc
+nodes_below n (Some ys) fits lt xs e =
+    let text : List ℕ = ratchet_tree.spell ys in
+    let inner : List ℕ = uint w16 2 ++ opaque text in
+    let below : IsBelow n ratchet_tree ys = record { fits = fits.0.0; below = omega (arith, length-append (header (length inner)) inner, length-append (uint w16 2) (opaque text), length-append (header (length text)) text) } in
+    let same : ys ≡ xs = cc in
+    subst (λ (zs : List (Option Node)). IsBelow n ratchet_tree zs) same below
+
+pub parts_below : (n : ℕ) (v : GroupInfo) → IsBelow n group_info v → HasParts n v
+unfolding group_info
+parts_below n v is =
+    let a : List ℕ = group_context.spell v.group_context in
+    let b : List ℕ = group_info_extensions.spell v.ratchet_tree in
+    let t : List ℕ = v.confirmation_tag in
+    let s : List ℕ = uint w32 v.signer in
+    let g : List ℕ = opaque v.signature in
+    let whole : length a + (length b + (length (header (length t)) + length t + (length s + length g))) < n =
+        subst (λ (k : ℕ). k < n) (length-append a (b ++ (opaque t ++ (s ++ g))) ∙ ap (λ (k : ℕ). length a + k) (length-append b (opaque t ++ (s ++ g)) ∙ ap (λ (k : ℕ). length b + k) (length-append (opaque t) (s ++ g) ∙ ap (λ (k : ℕ). k + length (s ++ g)) (length-append (header (length t)) t) ∙ ap (λ (k : ℕ). length (header (length t)) + length t + k) (length-append s g)))) is.below in
+    let signed : length (group_info_tbs v) < n = simp length-append (omega arith) in
+    record {
+      context = record { fits = is.fits.0; below = omega arith };
+      tag = omega arith;
+      nodes = nodes_below n v.ratchet_tree is.fits.1.0 (omega arith);
+      fits = (is.fits.0, (is.fits.1.0, (is.fits.1.1.0, is.fits.1.1.1.0)));
+      below = signed;
+    }
+
+-- a short context's texts are short
+pub short_context : (g : GroupContext) → IsBelow (2 ^ 27) group_context g → IsShortContext g
+unfolding group_context
+short_context g is =
+    let i : List ℕ = g.group_id in
+    let h : List ℕ = g.tree_hash in
+    let t : List ℕ = g.confirmed_transcript_hash in
+    let e : List ℕ = uint w64 g.epoch in
+    let end : List ℕ = opaque t ++ (opaque [] ++ []) in
+    let lengths : length (uint w16 1) + (length (uint w16 g.cipher_suite) + (length (opaque i) + (length e + (length (opaque h) + (length (opaque t) + length (opaque [] ++ []))))))  < 2 ^ 27 =
+        subst (λ (k : ℕ). k < 2 ^ 27) (length-append (uint w16 1) (uint w16 g.cipher_suite ++ (opaque i ++ (e ++ (opaque h ++ end)))) ∙ ap (λ (k : ℕ). length (uint w16 1) + k) (length-append (uint w16 g.cipher_suite) (opaque i ++ (e ++ (opaque h ++ end))) ∙ ap (λ (k : ℕ). length (uint w16 g.cipher_suite) + k) (length-append (opaque i) (e ++ (opaque h ++ end)) ∙ ap (λ (k : ℕ). length (opaque i) + k) (length-append e (opaque h ++ end) ∙ ap (λ (k : ℕ). length e + k) (length-append (opaque h) end ∙ ap (λ (k : ℕ). length (opaque h) + k) (length-append (opaque t) (opaque [] ++ []))))))) is.below in
+    record {
+      suite = is.fits.0;
+      epoch = is.fits.1.1.0;
+      group_id = omega (arith, length-append (header (length i)) i);
+      tree_hash = omega (arith, length-append (header (length h)) h);
+      confirmed = omega (arith, length-append (header (length t)) t);
+    }
+
+pub context_fits : (g : GroupContext) → IsShortContext g → group_context.Fits g
+unfolding group_context
+context_fits g is =
+    (is.suite, (omega (arith, is.group_id), (is.epoch, (omega (arith, is.tree_hash), (omega (arith, is.confirmed), tt)))))
+
+-- the leaf of a KeyPackage is as short as it
+pub leaf_below : (n : ℕ) (v : KeyPackage) → IsBelow n key_package v → IsBelow n leaf_node v.leaf_node
+unfolding key_package
+leaf_below n v is =
+    let i : List ℕ = opaque v.init_key in
+    let l : List ℕ = leaf_node.spell v.leaf_node in
+    let end : List ℕ = opaque [] ++ opaque v.signature in
+    let s : List ℕ = uint w16 v.cipher_suite in
+    record {
+      fits = is.fits.1.1.0;
+      below = omega (arith, is.below, length-append (uint w16 1) (s ++ (i ++ (l ++ end))), length-append s (i ++ (l ++ end)), length-append i (l ++ end), length-append l end);
+    }
+
+-- what is read whole is short
+pub read_below : {V : Type 0} (format : Format V) (bytes : List ℕ) (v : V) → Spells format v bytes → whole format input_limit bytes ≡ Ok v → IsBelow (2 ^ 27) format v
+unfolding whole
+read_below {V} format bytes v spells e =
+    elim (cases_lt input_limit (length bytes)) [
+      | inl over ↦ absurd (differ (sym (cond-true _ _ _ (lt-ltb input_limit (length bytes) over)) ∙ e))
+      | inr within ↦ record { fits = spells.fits; below = omega (arith, ap length spells.spelled) }
+    ]
+  where
+    differ : too_long {V = V} ≡ Ok v → ⊥
+    differ h = absurd cc

@@ -1,0 +1,6 @@
+pub mod Memory
+pub mod Lengths
+pub mod LeavesBelow
+pub mod Welcomes
+pub mod Places
+pub mod Joining

@@ -1,0 +1,37 @@
+use Rattle.std.proofs.Common.{sym, ap, subst, ◌∙◌}
+use Rattle.std.proofs.lemmas.Result.{err_from_is_err_and}
+use Rattle.mls_leaf.specs.KeyPackage.{key_package}
+use Rattle.mls_leaf.specs.Leaf.{leaf_node}
+use Rattle.mls_leaf.specs.Proposal.{proposal as proposal_format}
+use Rattle.mls_checks.specs.Short.{IsShort}
+use Rattle.mls_model.specs.Proposals.{proposal_checks}
+use Rattle.mls_public_group.specs.ShortLaws.{short_below, below_short, add_below, update_below}
+use Rattle.mls_public_group.proofs.group.PublicGroup.require_proposal.Goals as goal
+
+pub key_package-requires : goal.key_package-requires
+key_package-requires g c =
+    let x = c.in-Add.offered in
+    short_below key_package x (add_below 268435456 x (below_short proposal_format _ (subst (IsShort proposal_format) c.in-Add.is c.requires)))
+
+pub require_update-requires : goal.require_update-requires
+require_update-requires g c =
+    let x = c.in-Update.leaf in
+    short_below leaf_node x (update_below 268435456 x (below_short proposal_format _ (subst (IsShort proposal_format) c.in-Update.is c.requires)))
+
+pub returns-in_err-key_package-in-Add : goal.returns-in_err-key_package-in-Add
+unfolding proposal_checks
+returns-in_err-key_package-in-Add g c =
+    let p = err_from_is_err_and c.from_residual.result c.from_residual.ensures.1 in
+    rw (p.1, p.2, c.in-Add.is) c.in_err-key_package-in-Add.ensures
+
+pub returns-in_ok-key_package-in-Add : goal.returns-in_ok-key_package-in-Add
+unfolding proposal_checks
+returns-in_ok-key_package-in-Add g c = rw c.in-Add.is c.in_ok-key_package-in-Add.ensures
+
+pub returns-in-Update : goal.returns-in-Update
+unfolding proposal_checks
+returns-in-Update g c = rw c.in-Update.is c.require_update.ensures
+
+pub returns-in-Remove : goal.returns-in-Remove
+unfolding proposal_checks
+returns-in-Remove g c = rw c.in-Remove.is c.require_member.ensures

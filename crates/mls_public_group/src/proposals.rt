@@ -1,0 +1,99 @@
+//! The checks of proposals (RFC 9420, 12.1).
+
+ghost use Rattle.std.specs.Prelude.{◌^◌, if◌then◌else◌, is_some, Ok};
+ghost use Rattle.mls_wire.specs.Checks.{Answers, passed, require};
+ghost use Rattle.mls_leaf.specs.Leaf.{leaf_node};
+ghost use Rattle.mls_leaf.specs.Proposal.{proposal as proposal_format};
+ghost use Rattle.mls_checks.specs.Short.{IsShort};
+ghost use Rattle.mls_term.specs.Term.{leaf_of};
+ghost use Rattle.mls_model.specs.Proposals.{full_checks, proposal_checks, update_checks};
+ghost use Rattle.mls_public_group.specs.Faults.{number_of};
+ghost use Rattle.mls_public_group.specs.Short.{AreBelow, IsBelow};
+
+use crate::error::GroupError;
+use crate::group::PublicGroup;
+use crate::used::Used;
+use mls_checks::{CheckError, Source, key_package, replaced};
+use mls_leaf::{LeafNode, Proposal};
+use mls_suite::Suite;
+use mls_tree::TreeError;
+use std::alloc::Global;
+
+impl PublicGroup {
+    /// The checks of a proposal of the member at leaf `sender`: of an add those of its KeyPackage (RFC 9420, 12.1.1), of an
+    /// update those of its leaf (12.1.2), of a remove that there is a member (12.1.3).
+    pub fn require_proposal<S: Suite>(
+        &self,
+        alloc: Global,
+        sender: u32,
+        proposal: &Proposal,
+    ) -> Result<(), GroupError>
+        requires { IsShort proposal_format proposal.now }
+        ensures { Answers (λ _. passed) number_of (proposal_checks S.crypto self.now sender proposal.now) result }
+    {
+        match proposal {
+            Proposal::Add(offered) => Ok(key_package::<S>(alloc, offered)?),
+            Proposal::Update(leaf) => self.require_update::<S>(alloc, sender, leaf),
+            Proposal::Remove(leaf) => self.require_member(*leaf),
+        }
+    }
+
+    /// The checks of an update (RFC 9420, 12.1.2).
+    #[tactic(auto, unfolding(mls_model::specs::Proposals::update_checks))]
+    fn require_update<S: Suite>(
+        &self,
+        alloc: Global,
+        sender: u32,
+        leaf: &LeafNode,
+    ) -> Result<(), GroupError>
+        requires { IsShort leaf_node leaf.now }
+        ensures { Answers (λ _. passed) number_of (update_checks S.crypto self.now sender leaf.now) result }
+    {
+        let context = &self.context;
+        let Some(old) = self.tree().leaf(sender) else {
+            return Err(GroupError::Tree(TreeError::NoSuchLeaf));
+        };
+        let group_id = context.group_id.as_slice();
+        replaced::<S>(alloc, leaf, old, Source::Update, group_id, sender)?;
+        if !S::key_ok(leaf.encryption_key.as_slice()) {
+            return Err(GroupError::Check(CheckError::BadKey));
+        }
+        Ok(())
+    }
+
+    /// That there is a member to be removed (RFC 9420, 12.1.3).
+    fn require_member(&self, leaf: u32) -> Result<(), GroupError>
+        ensures { Answers (λ _. passed) number_of (require 22 (is_some (leaf_of self.now.tree leaf))) result }
+    {
+        if self.tree().leaf(leaf).is_none() {
+            return Err(GroupError::Tree(TreeError::NoSuchLeaf));
+        }
+        Ok(())
+    }
+
+    /// The checks of a proposal where the commit gives it in full.
+    fn require_used<S: Suite>(&self, alloc: Global, used: &Used<'_>) -> Result<(), GroupError>
+        requires { IsBelow (2 ^ 28) proposal_format used.now.proposal }
+        ensures { Answers (λ _. passed) number_of (if used.now.is_full then proposal_checks S.crypto self.now used.now.sender used.now.proposal else Ok passed) result }
+    {
+        if !used.is_full {
+            return Ok(());
+        }
+        self.require_proposal::<S>(alloc, used.sender, used.proposal)
+    }
+
+    /// The checks of the proposals that a commit gives in full, one proposal after the other (RFC 9420, 12.4.2).
+    pub(crate) fn require_full<S: Suite>(
+        &self,
+        alloc: Global,
+        used: &[Used<'_>],
+    ) -> Result<(), GroupError>
+        requires { AreBelow (2 ^ 28) used.now }
+        ensures { Answers (λ _. passed) number_of (full_checks S.crypto self.now used.now) result }
+    {
+        for one in used {
+            self.require_used::<S>(alloc, one)?;
+        }
+        Ok(())
+    }
+}

@@ -1,0 +1,67 @@
+//! The references of the KeyPackages that a commit adds (RFC 9420, 5.2).
+
+ghost use Rattle.std.specs.Prelude.{◌≡◌, ◌^◌, [], ◌∷◌, ◌++◌, map, IfOk, OnOk};
+ghost use Rattle.mls_leaf.specs.Proposal.{proposal as proposal_format};
+ghost use Rattle.mls_array.specs.Merged.{bytes_in};
+ghost use Rattle.mls_term.specs.Sets.{is_distinct, same_bytes};
+ghost use Rattle.mls_model.specs.Proposals.{adds, package_reference};
+ghost use Rattle.mls_public_group.specs.Short.{AreBelow, IsBelow};
+
+use crate::spelling::spelling;
+use crate::used::Used;
+use mls_array::are_distinct;
+use mls_kdf::Secret;
+use mls_leaf::{KeyPackage, Proposal, key_package_reference};
+use std::alloc::{AllocError, Global};
+
+/// Adds the reference of the KeyPackage that a proposal adds, where it is an add.
+fn push_reference(
+    alloc: Global,
+    used: &Used<'_>,
+    references: &mut Vec<Secret>,
+) -> Result<(), AllocError>
+    requires { IsBelow (2 ^ 28) proposal_format used.now.proposal }
+    ensures { OnOk result (references.new.items ≡ references.old.items ++ map package_reference (adds (used.now ∷ []))) }
+{
+    match used.proposal {
+        Proposal::Add(offered) => {
+            let bytes = spelling::<KeyPackage>(alloc, offered)?;
+            references.push(key_package_reference(&bytes))?;
+            Ok(())
+        }
+        _ => Ok(()),
+    }
+}
+
+/// The references of the KeyPackages that are added.
+fn references(alloc: Global, used: &[Used<'_>]) -> Result<Vec<Secret>, AllocError>
+    requires { AreBelow (2 ^ 28) used.now }
+    ensures { IfOk result (λ v. v.items ≡ map package_reference (adds used.now)) }
+{
+    let mut references = Vec::new(alloc);
+    for one in used {
+        push_reference(alloc, one, &mut references)?;
+    }
+    Ok(references)
+}
+
+/// The references as byte strings.
+fn as_strings(alloc: Global, references: &[Secret]) -> Result<Vec<&[u8]>, AllocError>
+    ensures { IfOk result (λ v. bytes_in v.items ≡ references.now) }
+{
+    let mut strings = Vec::new(alloc);
+    for reference in references {
+        strings.push(reference.as_slice())?;
+    }
+    Ok(strings)
+}
+
+/// Whether no two adds have one reference.
+pub(crate) fn has_distinct_references(alloc: Global, used: &[Used<'_>]) -> Result<bool, AllocError>
+    requires { AreBelow (2 ^ 28) used.now }
+    ensures { IfOk result (λ b. b ≡ is_distinct same_bytes (map package_reference (adds used.now))) }
+{
+    let references = references(alloc, used)?;
+    let strings = as_strings(alloc, &references)?;
+    Ok(are_distinct(strings))
+}

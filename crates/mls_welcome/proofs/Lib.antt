@@ -1,0 +1,4 @@
+mod Joined
+mod Fitting
+mod Measured
+mod Messages

@@ -1,0 +1,174 @@
+//! The entries of a Welcome (RFC 9420, 12.4.3.1).
+
+ghost use Rattle.std.specs.Prelude.{◌≡◌, ◌≤◌, ◌<◌, ◌^◌, ◌+◌, ℕ, List, [], Ok, IfOk, IfSome, length, map};
+ghost use Rattle.std.specs.Option.{option_copied};
+ghost use Rattle.mls_wire.specs.Checks.{Answers};
+ghost use Rattle.mls_leaf.specs.KeyPackage.{key_package};
+ghost use Rattle.mls_public_group.specs.Short.{IsBelow};
+ghost use Rattle.mls_paths.specs.Seeds.{seal_seed};
+ghost use Rattle.mls_group.specs.Welcome.{group_secrets};
+ghost use Rattle.mls_model.specs.Proposals.{package_reference};
+ghost use Rattle.mls_model.specs.Welcome.{secrets_with, entry_for, entries_for};
+ghost use Rattle.mls_welcome.specs.Joiners.{place_of, AreSecretsOf, AreShortJoiners};
+ghost use Rattle.mls_welcome.specs.Faults.{number_of};
+ghost use Rattle.mls_welcome.specs.Making.{have_fit_keys};
+
+use crate::error::WelcomeError;
+use crate::making::Joiner;
+use mls_group::{EncryptedGroupSecrets, GroupSecrets, HpkeCiphertext};
+use mls_kdf::{Secret, Seed};
+use mls_leaf::{Bytes, Codec, KeyPackage, key_package_reference};
+use mls_suite::{Suite, encrypt_with_label};
+use mls_treekem::seal_seed;
+use std::alloc::{AllocError, Global};
+
+/// A byte string of a secret.
+fn bytes_of(alloc: Global, secret: &Secret) -> Result<Bytes, AllocError>
+    ensures value { IfOk result (λ b. b ≡ secret.now) }
+    ensures short { IfOk result (λ b. length b ≡ 32) }
+{
+    let bytes = Vec::from_slice(alloc, secret)?;
+    Ok(Bytes::from_vec(bytes))
+}
+
+/// A byte string of a secret, where there is one.
+fn bytes_if(alloc: Global, secret: Option<&Secret>) -> Result<Option<Bytes>, AllocError>
+    ensures value { IfOk result (λ o. o ≡ option_copied secret.entry) }
+    ensures short { IfOk result (λ o. IfSome o (λ b. length b ≡ 32)) }
+{
+    match secret {
+        Some(secret) => Ok(Some(bytes_of(alloc, secret)?)),
+        None => Ok(None),
+    }
+}
+
+/// The GroupSecrets of a joiner: the joiner secret, the path secret where there is one, and no pre-shared key.
+#[tactic(auto, using(crate::proofs::Fitting::secrets_fit))]
+fn group_secrets(
+    alloc: Global,
+    joiner_secret: &Secret,
+    path_secret: Option<&Secret>,
+) -> Result<GroupSecrets, AllocError>
+    ensures value { IfOk result (λ v. v ≡ record { joiner_secret = joiner_secret.now; path_secret = option_copied path_secret.entry; psks = [] }) }
+    ensures fits { IfOk result group_secrets.Fits }
+{
+    Ok(GroupSecrets {
+        joiner_secret: bytes_of(alloc, joiner_secret)?,
+        path_secret: bytes_if(alloc, path_secret)?,
+        psks: Bytes::from_vec(Vec::new(alloc)),
+    })
+}
+
+/// The GroupSecrets of a joiner, spelled.
+#[tactic(auto, unfolding(mls_model::specs::Welcome::secrets_with))]
+fn secrets_with(
+    alloc: Global,
+    joiner_secret: &Secret,
+    path_secret: Option<&Secret>,
+) -> Result<Vec<u8>, WelcomeError>
+    ensures { Answers (λ v. v.items) number_of (Ok (secrets_with joiner_secret.now (option_copied path_secret.entry))) result }
+{
+    let secrets = group_secrets(alloc, joiner_secret, path_secret)?;
+    let bytes = secrets.encode(alloc)?;
+    Ok(bytes)
+}
+
+/// The reference of a KeyPackage (RFC 9420, 5.2).
+fn reference_of(alloc: Global, offered: &KeyPackage) -> Result<Bytes, WelcomeError>
+    requires { IsBelow (2 ^ 28) key_package offered.now }
+    ensures { Answers (λ b. b) number_of (Ok (package_reference offered.now)) result }
+{
+    let spelled = offered.encode(alloc)?;
+    let reference = bytes_of(alloc, &key_package_reference(&spelled))?;
+    Ok(reference)
+}
+
+/// Secrets sealed to the init key of a KeyPackage, under the encrypted GroupInfo: `BadKey` (36) where that key isn't fit.
+fn entry_for<S: Suite>(
+    alloc: Global,
+    encrypted_info: &[u8],
+    offered: &KeyPackage,
+    secrets: &[u8],
+    rnd: &Secret,
+) -> Result<EncryptedGroupSecrets, WelcomeError>
+    requires context { length encrypted_info.now < 2 ^ 30 }
+    requires short { IsBelow (2 ^ 28) key_package offered.now }
+    ensures { Answers (λ x. x) number_of (entry_for S.crypto encrypted_info.now offered.now secrets.now rnd.now) result }
+{
+    let new_member = reference_of(alloc, offered)?;
+    let key = offered.init_key.as_slice();
+    match encrypt_with_label::<S>(alloc, key, "Welcome", encrypted_info, secrets, rnd)? {
+        Some(sealed) => Ok(EncryptedGroupSecrets {
+            new_member,
+            encrypted_group_secrets: HpkeCiphertext {
+                kem_output: Bytes::from_vec(sealed.kem),
+                ciphertext: Bytes::from_vec(sealed.ct),
+            },
+        }),
+        None => Err(WelcomeError::BadKey),
+    }
+}
+
+/// What the entries of a Welcome are sealed with.
+#[derive(Clone, Copy)]
+pub(crate) struct Sealer<'a> {
+    /// The joiner secret of the epoch.
+    pub(crate) joiner_secret: &'a Secret,
+    /// The seed of the commit.
+    pub(crate) seed: &'a Seed,
+}
+
+impl Sealer<'_> {
+    /// The entry of a joiner, under seal number n.
+    fn entry<S: Suite>(
+        &self,
+        alloc: Global,
+        encrypted_info: &[u8],
+        joiner: &Joiner<'_>,
+        n: u32,
+    ) -> Result<EncryptedGroupSecrets, WelcomeError>
+        requires context { length encrypted_info.now < 2 ^ 30 }
+        requires short { IsBelow (2 ^ 28) key_package joiner.now.key_package.now }
+        ensures { Answers (λ x. x) number_of (entry_for S.crypto encrypted_info.now joiner.now.key_package.now (secrets_with self.now.joiner_secret.now (option_copied joiner.now.path_secret)) (seal_seed self.now.seed.now n)) result }
+    {
+        let secrets = secrets_with(alloc, self.joiner_secret, joiner.path_secret)?;
+        let rnd = seal_seed(self.seed, n);
+        entry_for::<S>(alloc, encrypted_info, joiner.key_package, &secrets, &rnd)
+    }
+
+    /// The entries of joiners in their order, whose seals are numbered from `first` on.
+    pub(crate) fn entries<S: Suite>(
+        &self,
+        alloc: Global,
+        encrypted_info: &[u8],
+        joiners: &[Joiner<'_>],
+        first: u32,
+    ) -> Result<Vec<EncryptedGroupSecrets>, WelcomeError>
+        requires context { length encrypted_info.now < 2 ^ 30 }
+        requires short { AreShortJoiners joiners.now }
+        requires seals { first + length joiners.now < 2 ^ 32 }
+        ensures { (secrets : ℕ → List ℕ) → AreSecretsOf self.now.joiner_secret.now secrets joiners.now
+            → Answers (λ v. v.items) number_of (entries_for S.crypto encrypted_info.now secrets (seal_seed self.now.seed.now) first (map place_of joiners.now)) result }
+    {
+        let mut entries = Vec::new(alloc);
+        let mut number = first;
+        for joiner in joiners {
+            let entry = self.entry::<S>(alloc, encrypted_info, joiner, number)?;
+            entries.push(entry)?;
+            number += 1;
+        }
+        Ok(entries)
+    }
+}
+
+/// Whether the init key of each joiner is fit.
+pub(crate) fn have_fit_keys<S: Suite>(joiners: &[Joiner<'_>]) -> bool
+    ensures { result ≡ have_fit_keys S.crypto (map place_of joiners.now) }
+{
+    for joiner in joiners {
+        if !S::key_ok(joiner.key_package.init_key.as_slice()) {
+            return false;
+        }
+    }
+    true
+}

@@ -1,0 +1,43 @@
+//! Spellings that aren't larger than a message may be.
+
+ghost use Rattle.std.specs.Prelude.{◌≡◌, ◌≤◌, ◌<◌, ℕ, slice_index, length, MatchResult};
+ghost use Rattle.mls_leaf.specs.Limits.{input_limit};
+ghost use Rattle.mls_wire.specs.Checks.{Answers, AnswersOutright, passed};
+ghost use Rattle.mls_model.specs.Messages.{is_within_limit};
+ghost use Rattle.mls_welcome.specs.Faults.{number_of};
+ghost use Rattle.mls_welcome.specs.Spelled.{FitsIfShort, limited};
+
+use crate::error::WelcomeError;
+use mls_leaf::{Codec, INPUT_LIMIT, LeafError};
+use mls_wire::WireError;
+use std::alloc::Global;
+
+/// Numbers of 8 bits.
+fn know_bytes(bytes: &[u8])
+    ensures { (i : ℕ) → slice_index bytes.now i < 256 }
+{}
+
+/// Refuses a text with more bytes than a message may have (6).
+pub(crate) fn is_within_limit(bytes: &[u8]) -> Result<(), WelcomeError>
+    ensures answer { AnswersOutright (λ _. passed) number_of (is_within_limit bytes.now) result }
+    ensures length { MatchResult result (λ _. length bytes.now ≤ input_limit) (λ e. (number_of e ≡ 6) × (input_limit < length bytes.now)) }
+{
+    know_bytes(bytes);
+    if bytes.len() > INPUT_LIMIT {
+        return Err(WelcomeError::Leaf(LeafError::Wire(WireError::TooLong)));
+    }
+    Ok(())
+}
+
+/// The spelling of a value whose numbers are in range: 6 where it is larger than a message may be.
+pub(crate) fn limited_spelling<T: Codec>(
+    alloc: Global,
+    value: &T,
+) -> Result<Vec<u8>, WelcomeError>
+    requires { FitsIfShort T.format value.now }
+    ensures { Answers (λ v. v.items) number_of (limited (T.format.spell value.now)) result }
+{
+    let bytes = value.encode(alloc)?;
+    is_within_limit(&bytes)?;
+    Ok(bytes)
+}
