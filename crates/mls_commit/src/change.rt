@@ -4,7 +4,7 @@ ghost use Rattle.std.specs.Prelude.{◌≡◌, ◌+◌, ◌<◌, ◌^◌, length
 ghost use Rattle.mls_commit.specs.Changed.{change_of};
 ghost use Rattle.mls_model.specs.Commit.{public_with};
 ghost use Rattle.mls_model.specs.Public as model;
-ghost use Rattle.mls_public_group.specs.Short.{HasLeavesBelow, IsShortContext};
+ghost use Rattle.mls_public_group.specs.Short.{HasLeavesBelow};
 ghost use Rattle.mls_tree.specs.Tree.{term};
 
 use mls_group::GroupContext;
@@ -95,11 +95,11 @@ impl Change {
         said: &[u8],
         signature: &[u8],
     ) -> Result<Change, AllocError>
-        requires context { IsShortContext group.now.context }
         requires epoch { group.now.context.epoch + 1 < 2 ^ 64 }
         requires signature { length signature.now < 2 ^ 30 }
         ensures { IfOk result (λ c. c ≡ change_of group.now edits (term tree) said.now signature.now) }
     {
+        group.is_short();
         let mut tree = tree;
         let provisional = provisional_context(alloc, group.context(), &mut tree)?;
         let confirmed = group.transcript().confirm(1, said, signature);

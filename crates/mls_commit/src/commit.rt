@@ -38,7 +38,7 @@ fn is_path_required(used: &[Used<'_>]) -> bool
 }
 
 // Whether a commit of these has a path where it has to.
-fn has_due_path(commit: &Commit, used: &[Used<'_>]) -> bool
+pub(crate) fn has_due_path(commit: &Commit, used: &[Used<'_>]) -> bool
     ensures { result ≡ (is_some commit.now.path || not (proposals.is_path_required used.now)) }
 {
     commit.path.is_some() || !is_path_required(used)
@@ -78,7 +78,6 @@ pub fn body<S: Suite>(
     said: &[u8],
     signature: &[u8],
 ) -> Result<Change, CommitError>
-    requires context { IsShortContext group.now.context }
     requires epoch { group.now.context.epoch + 1 < 2 ^ 64 }
     requires used { AreBelow (2 ^ 28) used.now }
     requires path { IfSome commit.now.path (λ p. IsBelow (2 ^ 28) leaf_node p.leaf_node) }
@@ -88,6 +87,7 @@ pub fn body<S: Suite>(
     // The leaves of both trees are as short as the group's, the proposals and the path's leaf.
     ensures below { IfOk result (λ c. (n : ℕ) → 2 ^ 27 ≤ n → AreBelow n used.now → IfSome commit.now.path (λ p. IsBelow n leaf_node p.leaf_node) → HasLeavesBelow n c.edits.tree × HasLeavesBelow n c.tree) }
 {
+    group.is_short();
     let edits = group.edited::<S>(alloc, committer, used)?;
     if !has_due_path(commit, used) {
         return Err(CommitError::PathMissing);

@@ -29,7 +29,7 @@ fn node_key(node: &UpdatePathNode) -> Result<Bytes, AllocError>
 }
 
 // The public keys of the path's nodes, the lowest first.
-fn node_keys(alloc: Global, path: &UpdatePath) -> Result<Vec<Bytes>, AllocError>
+pub(crate) fn node_keys(alloc: Global, path: &UpdatePath) -> Result<Vec<Bytes>, AllocError>
     ensures { IfOk result (λ v. v.items ≡ model.node_keys path.now) }
 {
     let mut keys = Vec::new(alloc);
@@ -40,7 +40,7 @@ fn node_keys(alloc: Global, path: &UpdatePath) -> Result<Vec<Bytes>, AllocError>
 }
 
 // How many ciphertexts its nodes have.
-fn cipher_counts(alloc: Global, path: &UpdatePath) -> Result<Vec<usize>, AllocError>
+pub(crate) fn cipher_counts(alloc: Global, path: &UpdatePath) -> Result<Vec<usize>, AllocError>
     ensures { IfOk result (λ v. v.items ≡ model.cipher_counts path.now) }
 {
     let nodes = path.nodes.as_slice();

@@ -107,8 +107,6 @@ pub fn new_path<S: Suite>(
     seed: &Seed,
 ) -> Result<NewPath, PathError>
     requires epoch { group.now.context.epoch + 1 < 2 ^ 64 }
-    requires context { IsShortContext group.now.context }
-    requires leaves { HasLeavesBelow (2 ^ 27) group.now.tree }
     ensures answer { (m : member.Member) → m.public ≡ group.now → m.signing ≡ signing.now → m.keys.leaf ≡ index
         → Answers made_path number_of (model.new_path S.crypto m edits.now seed.now) result }
     ensures leaf { IfOk result (λ p. p.keys.leaf ≡ index) }
@@ -119,6 +117,7 @@ pub fn new_path<S: Suite>(
     // The leaves of the tree with it are as short as those of the tree after the edits and the new one.
     ensures short { IfOk result (λ p. (n : ℕ) → HasLeavesBelow n edits.now.tree → IsBelow n leaf_node p.path.leaf_node → HasLeavesBelow n (term p.tree)) }
 {
+    group.is_short();
     let mut made = make_merged::<S>(alloc, group, signing, index, &edits.tree, seed)?;
     let context = provisional_bytes(alloc, group.context(), &mut made.tree)?;
     let nodes = seal_path::<S>(
