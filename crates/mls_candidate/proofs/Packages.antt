@@ -48,3 +48,8 @@ leaf_in k =
 
 pub identity_in : (k : KeyPackage) → length k.leaf_node.credential.identity ≤ length (package_message k)
 identity_in k = omega (arith, owner_in k.leaf_node, leaf_in k, message_longer k)
+
+-- its leaf is as short
+pub leaf_below : (n : ℕ) (k : KeyPackage) → IsBelow n key_package k → IsBelow n leaf_node k.leaf_node
+unfolding key_package
+leaf_below n k b = record { fits = b.fits.1.1.0; below = omega (arith, leaf_in k, b.below) }

@@ -2,8 +2,9 @@
 
 ghost use Rattle.std.specs.Prelude.{◌≡◌, ◌^◌};
 ghost use Rattle.mls_leaf.specs.KeyPackage.{key_package as key_package_format};
-ghost use Rattle.mls_public_group.specs.Short.{IsBelow};
 ghost use Rattle.mls_wire.specs.Checks.{Answers};
+ghost use Rattle.mls_leaf.specs.Leaf.{leaf_node as leaf_format};
+ghost use Rattle.mls_public_group.specs.Short.{IsBelow};
 ghost use Rattle.mls_model.specs.Candidate.{new_candidate, package_message};
 ghost use Rattle.mls_candidate.specs.Faults.{number_of};
 
@@ -12,7 +13,7 @@ use crate::leaf::leaf_pair;
 use crate::package::{init_pair, offered_package, package_message};
 use crate::texts::within_limit;
 use mls_kdf::{Secret, Seed};
-use mls_leaf::{INPUT_LIMIT, KeyPackage, LeafError};
+use mls_leaf::{INPUT_LIMIT, KeyPackage, LeafError, LeafNode};
 use mls_suite::Suite;
 use mls_treekem::sign_seed;
 use mls_wire::WireError;
@@ -88,6 +89,14 @@ impl<S: Suite> Candidate<S> {
         ensures { result.now ≡ self.now.offered }
     {
         &self.offered
+    }
+
+    /// The leaf of its KeyPackage (RFC 9420, 7.2), which is spelled in fewer than 2^27 bytes.
+    pub fn leaf_node(&self) -> &LeafNode
+        ensures leaf { result.now ≡ self.now.offered.leaf_node }
+        ensures below { IsBelow (2 ^ 27) leaf_format result.now }
+    {
+        &self.offered.leaf_node
     }
 
     /// The private key of its init key.

@@ -1,7 +1,7 @@
 //! Candidates of the practice suite.
 
-use crate::{Candidate, CandidateError, leaf_key, renewed_leaf};
-use mls_leaf::{INPUT_LIMIT, LeafSource};
+use crate::{Candidate, CandidateError, leaf_key};
+use mls_leaf::INPUT_LIMIT;
 use mls_suite::{Glass, Suite};
 use std::alloc::Global;
 use std::test::Fail;
@@ -33,25 +33,6 @@ fn refusal(alloc: Global, length: usize) -> u8 {
 fn long_identities(rt: HostRuntime) -> Result<(), Fail> {
     assert_eq!(rt; refusal(rt.alloc(), INPUT_LIMIT), 6);
     assert_eq!(rt; refusal(rt.alloc(), INPUT_LIMIT + 1), 6);
-    Ok(())
-}
-
-#[test]
-fn a_renewed_leaf(rt: HostRuntime) -> Result<(), Fail> {
-    let made = candidate(rt.alloc(), 1)?;
-    let old = &made.key_package().leaf_node;
-    let signing = made.signing_key();
-    let new = renewed_leaf::<Glass>(
-        rt.alloc(),
-        signing,
-        b"g",
-        0,
-        old,
-        LeafSource::Update,
-        &[2; 32],
-    )?;
-    assert!(rt; new.signature_key == old.signature_key);
-    assert!(rt; new.encryption_key != old.encryption_key);
     assert_eq!(rt; CandidateError::InitKeySame.number(), 57);
     assert_eq!(rt; CandidateError::InitKeySame.name(), "InitKeySame");
     Ok(())
