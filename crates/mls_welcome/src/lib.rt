@@ -7,8 +7,6 @@ mod info;
 mod limits;
 mod making;
 mod ranges;
-#[cfg(test)]
-mod tests;
 
 pub use error::WelcomeError;
 pub use making::{Joiner, welcome};
