@@ -8,8 +8,6 @@ mod joiners;
 mod limits;
 mod making;
 mod ranges;
-#[cfg(test)]
-mod tests;
 
 pub use error::WelcomeError;
 pub use joiners::joiners_of;

@@ -58,7 +58,7 @@ fn welcome_of<S: Suite>(entries: Vec<EncryptedGroupSecrets>, encrypted_info: Vec
 }
 
 /// The message of a Welcome with this encrypted GroupInfo.
-pub(crate) fn message_with<S: Suite>(
+fn message_with<S: Suite>(
     alloc: Global,
     encrypted_info: Vec<u8>,
     sealer: &Sealer<'_>,
