@@ -12,8 +12,6 @@ mod laws;
 mod proposals;
 mod references;
 mod spelling;
-#[cfg(test)]
-mod tests;
 mod used;
 
 pub use edits::Edits;
