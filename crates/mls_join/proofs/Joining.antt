@@ -1,7 +1,7 @@
 -- The keys of a new member.
-use Rattle.std.proofs.Common.{◌≡◌, ℕ, List, [], ◌∷◌, ◌++◌, Bool, true, false, Option, Some, None, Result, Ok, Err, refl, sym, ap, ap₂, subst, ◌∙◌}
+use Rattle.std.proofs.Common.{◌≡◌, ℕ, List, [], ◌∷◌, ◌++◌, true, false, Option, Some, None, Result, Ok, Err, refl, sym, ap, ◌∙◌}
 use Rattle.std.specs.Option.{option_map}
-use Rattle.mls_wire.specs.Checks.{given, passed, ◌>>◌}
+use Rattle.mls_wire.specs.Checks.{passed}
 use Rattle.mls_wire.specs.Reading.{◌>>=◌}
 use Rattle.mls_leaf.specs.declared.leaf.LeafNode.{LeafNode}
 use Rattle.mls_suite.specs.Crypto.{Crypto}
@@ -11,7 +11,7 @@ use Rattle.mls_paths.specs.Keys.{Keys, PrivateKeys, all_keys}
 use Rattle.mls_paths.specs.Make.{Climb, climb_to}
 use Rattle.mls_model.specs.Candidate.{Candidate}
 use Rattle.mls_model.specs.Opening.{Opened}
-use Rattle.mls_model.specs.Join.{Joined, joined_tree, signer_checks, place_of, joined_keys, member_of}
+use Rattle.mls_model.specs.Join.{joined_tree, signer_checks, place_of, joined_keys, member_of}
 use Rattle.mls_model.specs.Member.{above_leaf, of_leaf, with_keys}
 use Rattle.mls_join.specs.Stages.{entered}
 

@@ -1,5 +1,5 @@
 -- How long the parts of a GroupInfo are.
-use Rattle.std.proofs.Common.{◌≡◌, ℕ, ◌+◌, ◌<◌, ◌≤◌, ◌^◌, Bool, true, false, List, [], ◌∷◌, ◌++◌, length, Option, Some, None, refl, sym, ap, subst, ◌∙◌, arith, length-append, inl, inr, lt-ltb, Result, Ok, Err}
+use Rattle.std.proofs.Common.{◌≡◌, ℕ, ◌+◌, ◌<◌, ◌^◌, List, [], ◌++◌, length, Option, Some, None, sym, ap, subst, ◌∙◌, arith, length-append, inl, inr, lt-ltb, Result, Ok, Err}
 use Rattle.std.proofs.lemmas.Bool.{cases_lt, cond-true}
 use Rattle.std.specs.Int.{w16, w32, w64}
 use Rattle.mls_wire.specs.Reading.{uint, header, opaque}

@@ -1,5 +1,5 @@
 -- What a message is read as, and what a Welcome opens.
-use Rattle.std.proofs.Common.{◌≡◌, ℕ, suc, ◌<◌, Bool, true, false, ◌&&◌, List, [], ◌∷◌, length, Option, Some, None, Result, Ok, Err, refl, sym, ap, subst, ◌∙◌, arith, lt-ltb}
+use Rattle.std.proofs.Common.{◌≡◌, ℕ, suc, ◌<◌, Bool, true, ◌&&◌, List, [], ◌∷◌, length, Result, Ok, Err, refl, ap, subst, ◌∙◌, lt-ltb}
 use Rattle.std.specs.Prelude.{nat_lt, ◌^◌}
 use Rattle.std.specs.List.{list_all}
 use Rattle.mls_wire.specs.Checks.{given, passed}
@@ -16,7 +16,7 @@ use Rattle.mls_view.specs.declared.message.MessageView.{MessageView}
 use Rattle.mls_view.specs.declared.message.MessageView.TheVariants as views
 use Rattle.mls_view.specs.declared.welcome.WelcomeView.{WelcomeView}
 use Rattle.mls_view.specs.Views.{LendsAll}
-use Rattle.mls_view.specs.Shown.{Shows, ShowsWelcome}
+use Rattle.mls_view.specs.Shown.{Shows}
 use Rattle.mls_suite.specs.Crypto.{Crypto}
 use Rattle.mls_model.specs.Candidate.{Candidate}
 use Rattle.mls_model.specs.Messages.{decoded, are_bytes}

@@ -1,7 +1,7 @@
 -- The parts of the definitions that functions of their own answer.
 use Rattle.std.specs.Prelude.{◌≡◌, ℕ, ◌==◌, Bool, false, List, [], length, codes, find, Option, Some, None, Result, Ok, Err}
 use Rattle.std.specs.Str.{bytes_eq}
-use Rattle.mls_wire.specs.Checks.{Passed, require, given, ◌>>◌}
+use Rattle.mls_wire.specs.Checks.{require, given, ◌>>◌}
 use Rattle.mls_wire.specs.Reading.{◌>>=◌}
 use Rattle.mls_leaf.specs.Faults.{whole}
 use Rattle.mls_leaf.specs.Limits.{input_limit}

@@ -1,4 +1,4 @@
-use Rattle.std.proofs.Common.{◌^◌, arith, sym, ap, length}
+use Rattle.std.proofs.Common.{◌^◌, arith, ap, length}
 use Rattle.mls_join.proofs.Lengths.{parts_below, short_context}
 use Rattle.mls_join.proofs.entrance.entered.Goals as goal
 

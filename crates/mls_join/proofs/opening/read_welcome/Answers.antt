@@ -1,4 +1,3 @@
-use Rattle.std.proofs.Common.{sym, ◌∙◌}
 use Rattle.std.proofs.lemmas.Result.{err_from_is_err_and}
 use Rattle.mls_join.proofs.Welcomes.{outer_fault, outer_passes, welcome_short}
 use Rattle.mls_join.proofs.opening.read_welcome.Goals as goal

@@ -1,4 +1,4 @@
-use Rattle.std.proofs.Common.{◌≡◌, ◌<◌, ◌^◌, ℕ, sym, subst, ap, length, arith}
+use Rattle.std.proofs.Common.{◌^◌, ap, length, arith}
 use Rattle.std.proofs.lemmas.Result.{err_from_is_err_and}
 use Rattle.mls_join.proofs.Lengths.{parts_below}
 use Rattle.mls_join.proofs.Memory.{memory_alone}

@@ -1,6 +1,5 @@
-use Rattle.std.proofs.Common.{◌^◌, arith, sym, ap}
+use Rattle.std.proofs.Common.{◌^◌}
 use Rattle.mls_join.proofs.Lengths.{parts_below, short_context}
-use Rattle.mls_join.proofs.LeavesBelow.{short_leaves}
 use Rattle.mls_join.proofs.tree.joined_tree.Goals as goal
 
 pub tree_of-requires : goal.tree_of-requires
