@@ -1,0 +1,5 @@
+pub mod Lengths
+pub mod ByContent
+pub mod TwoParts
+pub mod Known
+pub mod Uses
