@@ -108,9 +108,10 @@ short_content (view_of.Application text) said shows h = tt
 short_content (view_of.Proposal part) (says.Proposal p) shows h = subst (λ (l : List ℕ). length l ≤ input_limit) (sym shows.spelled) (proposal_inside p input_limit h)
 short_content (view_of.Proposal part) (says.Application t) shows h = absurd shows
 short_content (view_of.Proposal part) (says.Commit k) shows h = absurd shows
-short_content (view_of.Commit proposals path) (says.Commit k) shows h =
-    (subst (λ (l : List ℕ). length l ≤ input_limit) (sym shows.0.spelled) (list_inside k input_limit (commit_inside k input_limit h)),
-    subst (λ (l : List ℕ). length l ≤ input_limit) (sym shows.1.spelled) (path_inside k input_limit (commit_inside k input_limit h)))
+short_content (view_of.Commit proposals path) (says.Commit k) shows h = (
+  subst (λ (l : List ℕ). length l ≤ input_limit) (sym shows.0.spelled) (list_inside k input_limit (commit_inside k input_limit h)),
+  subst (λ (l : List ℕ). length l ≤ input_limit) (sym shows.1.spelled) (path_inside k input_limit (commit_inside k input_limit h)),
+)
 short_content (view_of.Commit proposals path) (says.Application t) shows h = absurd shows
 short_content (view_of.Commit proposals path) (says.Proposal p) shows h = absurd shows
 
@@ -127,11 +128,11 @@ short_view view shown shows h =
     let said : length (framed_content.spell (framed shown.content)) ≤ input_limit = front _ (auth_data shown.content) input_limit all in
     let auth : length (auth_data shown.content) ≤ input_limit = back (framed_content.spell (framed shown.content)) _ input_limit all in
     record {
-        said = subst (λ (l : List ℕ). length l ≤ input_limit) (sym shows.framed_content) said;
-        auth = subst (λ (l : List ℕ). length l ≤ input_limit) (sym shows.auth_data) auth;
-        signature = subst (λ (l : List ℕ). length l ≤ input_limit) (sym shows.signature) (inside shown.content.signature input_limit (front (opaque shown.content.signature) _ input_limit auth));
-        tag = short_tag view.auth.confirmation_tag shown.content.body shows.confirmation_tag (back (opaque shown.content.signature) (tag_spelling shown.content.body) input_limit auth);
-        content = short_content view.content.content (bare shown.content.body) shows.content.content (content_inside (framed shown.content) input_limit said);
+      said = subst (λ (l : List ℕ). length l ≤ input_limit) (sym shows.framed_content) said;
+      auth = subst (λ (l : List ℕ). length l ≤ input_limit) (sym shows.auth_data) auth;
+      signature = subst (λ (l : List ℕ). length l ≤ input_limit) (sym shows.signature) (inside shown.content.signature input_limit (front (opaque shown.content.signature) _ input_limit auth));
+      tag = short_tag view.auth.confirmation_tag shown.content.body shows.confirmation_tag (back (opaque shown.content.signature) (tag_spelling shown.content.body) input_limit auth);
+      content = short_content view.content.content (bare shown.content.body) shows.content.content (content_inside (framed shown.content) input_limit said);
     }
 
 -- a view of a message that all of the bytes spell

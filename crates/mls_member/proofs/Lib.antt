@@ -3,3 +3,5 @@ pub mod ByContent
 pub mod TwoParts
 pub mod Known
 pub mod Uses
+pub mod CommitLengths
+pub mod CommitSteps

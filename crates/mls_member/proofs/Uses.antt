@@ -42,9 +42,9 @@ used_first kept committer list h = record { answer = nothing_first (used_by kept
 pub used_next : (kept : List Kept) (committer : ℕ) (list rest : List ProposalOrRef) (x : ProposalOrRef) (used : List Used) (u : Used) → AreUsed kept committer list (x ∷ rest) used → used_one kept committer x ≡ Ok u → IsBelow (2 ^ 27) proposal_format u.proposal → AreUsed kept committer list rest (used ++ u ∷ [])
 unfolding used_by
 used_next kept committer list rest x used u h e below = record {
-    answer = sym (one_more used u (used_by kept committer rest)) ∙ (rw e at h.answer);
-    below = all_append (λ (v : Used). IsBelow (2 ^ 27) proposal_format v.proposal) used u h.below below;
-    short = h.short.1;
+  answer = sym (one_more used u (used_by kept committer rest)) ∙ (rw e at h.answer);
+  below = all_append (λ (v : Used). IsBelow (2 ^ 27) proposal_format v.proposal) used u h.below below;
+  short = h.short.1;
 }
 
 pub used_fails : (kept : List Kept) (committer : ℕ) (list rest : List ProposalOrRef) (x : ProposalOrRef) (used : List Used) (n : ℕ) → AreUsed kept committer list (x ∷ rest) used → used_one kept committer x ≡ Err n → used_by kept committer list ≡ Err n
@@ -54,6 +54,12 @@ used_fails kept committer list rest x used n h e = sym (rw e at h.answer)
 pub used_all : (kept : List Kept) (committer : ℕ) (list : List ProposalOrRef) (used : List Used) → AreUsed kept committer list [] used → used_by kept committer list ≡ Ok used
 unfolding used_by
 used_all kept committer list used h = sym h.answer ∙ ap (λ (l : List Used). all_ok l) (append-nil used)
+
+-- ---- wider limits
+
+pub used_wider : (us : List Used) → AreBelow (2 ^ 27) us → AreBelow (2 ^ 28) us
+used_wider [] h = tt
+used_wider (u ∷ us) h = (record { fits = h.0.fits; below = omega (arith, h.0.below) }, used_wider us h.1)
 
 -- ---- lists
 

@@ -1,6 +1,6 @@
 -- The parts of a verdict, in the order in which code goes over them.
 use Rattle.std.specs.Prelude.{ℕ, ◌==◌, nat_le, ◌≤◌, ◌<◌, ◌+◌, ◌^◌, Bool, true, false, not, ◌||◌, if◌then◌else◌, List, length, Option, Some, None, is_some, Result, Ok, Err, IfSome}
-use Rattle.std.specs.List.{AllByRecursion}
+use Rattle.std.specs.List.{AllByRecursion, list_any}
 use Rattle.std.specs.Str.{bytes_eq}
 use Rattle.mls_wire.specs.Checks.{Passed, require, given, ◌>>◌}
 use Rattle.mls_wire.specs.Reading.{◌>>=◌}
@@ -101,7 +101,7 @@ unfoldable pub changed : Crypto → Member → ℕ → Commit → FramedContent 
 changed c m committer commit said signature = do
   used ← used_by m.kept committer commit.proposals
   change ← body c m.public committer used commit said signature
-  Ok (change, has (removed used) m.keys.leaf)
+  Ok (change, list_any (removes_leaf m.keys.leaf) used)
 
 -- the private keys after a commit's edits
 abbrev pub edited_keys : Member → Commit → Change → PrivateKeys
@@ -149,3 +149,4 @@ IsListedBelow n (listed.Reference reference) = Unit {0}
 pub record IsShortCommit (n : ℕ) (commit : Commit) : Type 0 where
   pub proposals : AllByRecursion (IsListedBelow n) commit.proposals
   pub path : IfSome commit.path (λ p. IsBelow n leaf_node p.leaf_node)
+  pub wider : IfSome commit.path (λ p. IsBelow (2 ^ 28) leaf_node p.leaf_node)

@@ -113,7 +113,10 @@ impl<S: Suite> Member<S> {
         ensures { (shown : messages.PublicMessage) → ShowsPublic view.now shown
             → result ≡ bytes_eq shown.membership_tag (content_tag self.now.epoch shown.content self.now.public.context) }
     {
-        let tag = view.membership_tag_under(self.epoch.membership_key(), self.group.context_bytes());
+        let tag = view.membership_tag_under(
+            self.epoch.membership_key(),
+            self.group.context_bytes(),
+        );
         view.membership_tag == tag.as_slice()
     }
 

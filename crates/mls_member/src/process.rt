@@ -4,7 +4,9 @@ ghost use Rattle.std.specs.Prelude.{◌≡◌, true, false, None, Err, IsOk, IsS
 ghost use Rattle.mls_wire.specs.Checks.{DoesAs};
 ghost use Rattle.mls_model.specs.Member.{without_pending};
 ghost use Rattle.mls_model.specs.Verdict.{verdict, own_pending};
+ghost use Rattle.mls_tree.specs.Refusals.{RefusesOutright};
 ghost use Rattle.mls_member.specs.Faults.{number_of};
+ghost use Rattle.mls_member.specs.Process.{outer_checks};
 ghost use Rattle.mls_member.specs.declared.error.Refusal.TheVariants.{Gone};
 
 use crate::error::Refusal;
@@ -43,6 +45,8 @@ impl<S: Suite> Member<S> {
         ensures verdict { DoesAs (λ e. e) number_of (verdict S.crypto self.old bytes.now) self.old self.new result }
         ensures gone { self.old.gone ≡ true → result ≡ Err Gone }
         ensures own { self.old.gone ≡ false → IsSome (own_pending self.old.pending bytes.now) → IsOk result }
+        // Of other bytes, faults of decoding and 41 to 45 come whatever memory there is.
+        ensures outright { self.old.gone ≡ false → own_pending self.old.pending bytes.now ≡ None → RefusesOutright number_of (outer_checks self.old bytes.now) result }
     {
         if self.gone {
             return Err(Refusal::Gone);

@@ -45,7 +45,8 @@ impl<S: Suite> Member<S> {
         requires { IsBelow (2 ^ 27) proposal_format proposal }
         ensures { DoesAs (λ e. e) number_of (new_proposal S.crypto self.old reference sender bytes.now proposal) self.old self.new result }
     {
-        self.group.require_proposal::<S>(self.alloc, sender, &proposal)?;
+        self.group
+            .require_proposal::<S>(self.alloc, sender, &proposal)?;
         let message = Vec::from_slice(self.alloc, bytes)?;
         let kept = Kept {
             reference,

@@ -1,11 +1,12 @@
 //! The proposals that a commit uses (RFC 9420, 12.4).
 
 ghost use Rattle.std.specs.Prelude.{◌≡◌, ◌^◌, false, IfOk};
+ghost use Rattle.std.specs.List.{AllByRecursion, list_any};
 ghost use Rattle.std.specs.Option.{option_copied};
 ghost use Rattle.mls_wire.specs.Checks.{Answers};
 ghost use Rattle.mls_leaf.specs.Proposal.{proposal as proposal_format};
-ghost use Rattle.mls_model.specs.Member.{kept_under, used_one, named_one, named, first_own_key};
-ghost use Rattle.mls_public_group.specs.Short.{IsBelow};
+ghost use Rattle.mls_model.specs.Member.{kept_under, used_one, used_by, named_one, named, first_own_key};
+ghost use Rattle.mls_public_group.specs.Short.{IsBelow, AreBelow};
 ghost use Rattle.mls_member.specs.Faults.{number_of};
 ghost use Rattle.mls_member.specs.Process.{IsListedBelow, key_of, removes_leaf};
 
@@ -15,6 +16,7 @@ use mls_kdf::Secret;
 use mls_leaf::Proposal;
 use mls_public_group::Used;
 use mls_types::ProposalOrRef;
+use std::alloc::Global;
 
 /// The kept proposal with a reference.
 #[tactic(auto, unfolding(mls_model::specs::Member::kept_under))]
@@ -59,6 +61,28 @@ fn used_one<'a>(
     }
 }
 
+/// The proposals of a commit's list, with their senders (RFC 9420, 12.4.2).
+pub(crate) fn used_by<'a>(
+    alloc: Global,
+    kept: &'a [Kept],
+    committer: u32,
+    list: &'a [ProposalOrRef],
+) -> Result<Vec<Used<'a>>, Refusal>
+    requires { AllByRecursion (IsListedBelow (2 ^ 27)) list.now }
+    ensures answer { Answers (λ v. v.items) number_of (used_by kept.now committer list.now) result }
+    ensures below { IfOk result (λ v. AreBelow (2 ^ 27) v.items) }
+    ensures wide { IfOk result (λ v. AreBelow (2 ^ 28) v.items) }
+{
+    let mut used = Vec::new(alloc);
+    for listed in list {
+        match used_one(kept, committer, listed) {
+            Ok(one) => used.push(one)?,
+            Err(error) => return Err(error),
+        }
+    }
+    Ok(used)
+}
+
 /// Whether a proposal removes a leaf (RFC 9420, 12.1.3).
 fn removes_leaf(used: &Used<'_>, leaf: u32) -> bool
     ensures { result ≡ removes_leaf leaf used.now }
@@ -68,6 +92,13 @@ fn removes_leaf(used: &Used<'_>, leaf: u32) -> bool
         Proposal::Update(_) => false,
         Proposal::Remove(removed) => *removed == leaf,
     }
+}
+
+/// Whether one of the proposals removes a leaf.
+pub(crate) fn removes(used: &[Used<'_>], leaf: u32) -> bool
+    ensures { result ≡ list_any (removes_leaf leaf) used.now }
+{
+    used.iter().any(|one| removes_leaf(one, leaf))
 }
 
 /// The private key that a kept proposal of a commit's list has.
