@@ -1,2 +1,7 @@
-mod OwnPath
-mod Sent
+pub mod Lengths
+pub mod ByContent
+pub mod TwoParts
+pub mod Known
+pub mod Uses
+pub mod CommitLengths
+pub mod CommitSteps

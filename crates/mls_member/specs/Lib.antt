@@ -1,5 +1,4 @@
 pub mod Faults
 pub mod Codes
 pub mod Answers
-pub mod Making
-pub mod OwnPath
+pub mod Process

@@ -1,15 +1,19 @@
 //! Members of groups: what they make, and what they do with messages (RFC 9420, 11 and 12).
 #![tactic(auto)]
 
+mod advance;
 mod commit;
 mod create;
 mod error;
+mod framing;
 mod join;
 mod kept;
 mod member;
-mod own_path;
 mod process;
+mod proposals;
 mod propose;
+mod received;
+mod used;
 
 pub use commit::Made;
 pub use error::Refusal;

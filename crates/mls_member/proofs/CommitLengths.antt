@@ -1,0 +1,116 @@
+-- The parts of a commit, and contexts, are short.
+use Rattle.std.proofs.Common.{◌≡◌, ℕ, suc, ◌+◌, ◌*◌, ◌<◌, ◌≤◌, ◌^◌, Bool, true, false, cond, ltb, List, [], ◌∷◌, ◌++◌, length, Option, Some, None, Result, Ok, Err, refl, sym, ap, subst, ◌∙◌, arith}
+use Rattle.std.specs.Prelude.{IfSome, IfOk}
+use Rattle.std.specs.Global.{Vec}
+use Rattle.std.specs.List.{flat_map, AllByRecursion}
+use Rattle.std.specs.Int.{w8, w16, w32, w64, to_be_bytes}
+use Rattle.std.proofs.lemmas.List.{length-append}
+use Rattle.mls_wire.specs.Reading.{uint, header, opaque}
+use Rattle.mls_wire.specs.Combine.{vector, optional, byte_string}
+use Rattle.mls_wire.specs.declared.WireError.TheVariants as wire
+use Rattle.mls_leaf.specs.declared.error.LeafError.{LeafError}
+use Rattle.mls_leaf.specs.declared.error.LeafError.TheVariants.{Wire, BadTag, UnsupportedCredential, UnsupportedProposal, NotRising, ExtensionNotAllowed}
+use Rattle.mls_leaf.specs.Faults.{Spells, Refuses, Encodes, number_of}
+use Rattle.mls_leaf.specs.Limits.{input_limit}
+use Rattle.mls_leaf.specs.Leaf.{leaf_node}
+use Rattle.mls_leaf.specs.Proposal.{proposal as proposal_format}
+use Rattle.mls_group.specs.GroupContext.{group_context}
+use Rattle.mls_group.specs.declared.group_context.GroupContext.{GroupContext}
+use Rattle.mls_group.specs.declared.update_path.UpdatePath.{UpdatePath}
+use Rattle.mls_group.specs.UpdatePath.{update_path}
+use Rattle.mls_types.specs.Commit.{proposal_or_ref, proposal_or_ref_nonempty}
+use Rattle.mls_types.specs.declared.commit.ProposalOrRef.{ProposalOrRef}
+use Rattle.mls_types.specs.declared.commit.ProposalOrRef.TheVariants as listed
+use Rattle.mls_model.specs.Public.{Used}
+use Rattle.mls_public_group.specs.Short.{IsBelow, AreBelow, IsShortContext}
+use Rattle.mls_member.specs.Process.{IsListedBelow}
+use Rattle.mls_member.proofs.Lengths.{front, back, inside}
+
+-- ---- a commit's list
+
+one_below : (x : ProposalOrRef) → proposal_or_ref.Fits x → length (proposal_or_ref.spell x) ≤ input_limit → IsListedBelow (2 ^ 27) x
+unfolding proposal_or_ref
+one_below (listed.Proposal p) fits h = let short : length (proposal_format.spell p) ≤ input_limit = back (uint w8 1) (proposal_format.spell p) input_limit h in record { fits = fits.1; below = omega arith }
+one_below (listed.Reference r) fits h = tt
+
+all_below : (xs : List ProposalOrRef) → AllByRecursion proposal_or_ref.Fits xs → length (flat_map proposal_or_ref.spell xs) ≤ input_limit → AllByRecursion (IsListedBelow (2 ^ 27)) xs
+all_below [] fits h = tt
+all_below (x ∷ xs) fits h = (one_below x fits.0 (front (proposal_or_ref.spell x) (flat_map proposal_or_ref.spell xs) input_limit h), all_below xs fits.1 (back (proposal_or_ref.spell x) (flat_map proposal_or_ref.spell xs) input_limit h))
+
+-- what a part of an input spells has short proposals
+pub list_below : (xs : List ProposalOrRef) (part : List ℕ) → Spells (vector proposal_or_ref proposal_or_ref_nonempty) xs part → length part ≤ input_limit → AllByRecursion (IsListedBelow (2 ^ 27)) xs
+list_below xs part spells h =
+    all_below xs spells.fits.0 (inside (flat_map proposal_or_ref.spell xs) input_limit (subst (λ (l : List ℕ). length l ≤ input_limit) spells.spelled h))
+
+-- ---- its path
+
+leaf_below : (p : UpdatePath) → update_path.Fits p → length (update_path.spell p) ≤ input_limit → IsBelow (2 ^ 27) leaf_node p.leaf_node
+unfolding update_path
+leaf_below p fits h = let short : length (leaf_node.spell p.leaf_node) ≤ input_limit = front (leaf_node.spell p.leaf_node) _ input_limit h in record { fits = fits.0; below = omega arith }
+
+path_fits_below : (o : Option UpdatePath) → (optional update_path).Fits o → length ((optional update_path).spell o) ≤ input_limit → IfSome o (λ p. IsBelow (2 ^ 27) leaf_node p.leaf_node)
+path_fits_below None fits h = tt
+path_fits_below (Some p) fits h = leaf_below p fits.1 (back (uint w8 1) (update_path.spell p) input_limit h)
+
+pub path_below : (o : Option UpdatePath) (part : List ℕ) → Spells (optional update_path) o part → length part ≤ input_limit → IfSome o (λ p. IsBelow (2 ^ 27) leaf_node p.leaf_node)
+path_below o part spells h = path_fits_below o spells.fits (subst (λ (l : List ℕ). length l ≤ input_limit) spells.spelled h)
+
+-- ---- wider limits
+
+pub path_wider : (o : Option UpdatePath) → IfSome o (λ p. IsBelow (2 ^ 27) leaf_node p.leaf_node) → IfSome o (λ p. IsBelow (2 ^ 28) leaf_node p.leaf_node)
+path_wider None h = tt
+path_wider (Some p) h = record { fits = h.fits; below = omega (arith, h.below) }
+
+-- ---- contexts
+
+pub context_fits : (context : GroupContext) → IsShortContext context → group_context.Fits context
+unfolding group_context
+context_fits context s = (s.suite, (omega (arith, s.group_id), (s.epoch, (omega (arith, s.tree_hash), (omega (arith, s.confirmed), tt)))))
+
+short_of : (b : Bool) (x y : List ℕ) → length x ≤ 4 → length y ≤ 4 → length (cond b x y) ≤ 4
+short_of true x y h k = h
+short_of false x y h k = k
+
+header_short : (n : ℕ) → length (header n) ≤ 4
+unfolding header
+header_short n = short_of (ltb n 64) (n ∷ []) (cond (ltb n 16384) (to_be_bytes w16 (16384 + n)) (to_be_bytes w32 (2147483648 + n))) (omega arith)
+    (short_of (ltb n 16384) (to_be_bytes w16 (16384 + n)) (to_be_bytes w32 (2147483648 + n)) (omega arith) (omega arith))
+
+text_short : (text : List ℕ) → length text < 2 ^ 28 → length (opaque text) < 2 ^ 28 + 4
+text_short text h = omega (arith, header_short (length text), length-append (header (length text)) text)
+
+uint_short : (n : ℕ) → (length (uint w16 n) ≤ 8) × (length (uint w64 n) ≤ 8)
+unfolding uint
+uint_short n = (omega arith, omega arith)
+
+added : (x y : List ℕ) (m n : ℕ) → length x ≤ m → length y ≤ n → length (x ++ y) ≤ m + n
+added x y m n h k = omega (arith, length-append x y)
+
+seven : (a b d e f g h : List ℕ) → length a ≤ 8 → length b ≤ 8 → length d < 2 ^ 28 + 4 → length e ≤ 8 → length f < 2 ^ 28 + 4 → length g < 2 ^ 28 + 4 → length h ≤ 8 → length (a ++ (b ++ (d ++ (e ++ (f ++ (g ++ h)))))) < 2 ^ 30
+seven a b d e f g h pa pb pd pe pf pg ph =
+    omega (arith, length-append a (b ++ (d ++ (e ++ (f ++ (g ++ h))))), length-append b (d ++ (e ++ (f ++ (g ++ h)))), length-append d (e ++ (f ++ (g ++ h))), length-append e (f ++ (g ++ h)), length-append f (g ++ h), length-append g h)
+
+no_extensions : length (opaque [] ++ []) ≤ 8
+unfolding header
+no_extensions = omega arith
+
+-- a short context encodes to fewer than 2^30 bytes
+pub context_short : (context : GroupContext) → IsShortContext context → length (group_context.spell context) < 2 ^ 30
+unfolding group_context
+context_short context s =
+    seven (uint w16 1) (uint w16 context.cipher_suite) (opaque context.group_id) (uint w64 context.epoch) (opaque context.tree_hash) (opaque context.confirmed_transcript_hash) (opaque [] ++ [])
+    (uint_short 1).0 (uint_short context.cipher_suite).0 (text_short context.group_id s.group_id) (uint_short context.epoch).1 (text_short context.tree_hash s.tree_hash) (text_short context.confirmed_transcript_hash s.confirmed) no_extensions
+
+-- what isn't written of a value that has a spelling is wanted for memory
+pub wanted : (P : Type 0) (e : LeafError) → P → Refuses P e → number_of e ≡ 1
+wanted P (Wire wire.OutOfMemory) p r = refl
+wanted P (Wire wire.TooLong) p r = absurd (r p)
+wanted P (Wire wire.Truncated) p r = absurd r
+wanted P (Wire wire.Trailing) p r = absurd r
+wanted P (Wire wire.BadLength) p r = absurd r
+wanted P (Wire wire.NotMinimal) p r = absurd r
+wanted P BadTag p r = absurd r
+wanted P UnsupportedCredential p r = absurd r
+wanted P UnsupportedProposal p r = absurd r
+wanted P NotRising p r = absurd r
+wanted P ExtensionNotAllowed p r = absurd r

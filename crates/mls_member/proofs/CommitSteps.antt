@@ -1,0 +1,153 @@
+-- A commit's verdict in the steps in which code goes over it.
+use Rattle.std.proofs.Common.{◌≡◌, ℕ, suc, ◌+◌, ◌-◌, ◌<◌, ◌≤◌, ◌^◌, Bool, true, false, cond, List, [], ◌∷◌, ◌++◌, length, Option, Some, None, Result, Ok, Err, refl, sym, ap, subst, ◌∙◌, arith}
+use Rattle.std.specs.Prelude.{nat_lt, replicate, IfSome}
+use Rattle.std.specs.List.{list_any}
+use Rattle.std.proofs.lemmas.Bool.{ltb-true}
+use Rattle.mls_wire.specs.Combine.{vector, optional}
+use Rattle.mls_leaf.specs.Faults.{Spells}
+use Rattle.mls_leaf.specs.WholeLaws.{spells_same}
+use Rattle.mls_group.specs.UpdatePath.{update_path}
+use Rattle.mls_types.specs.Commit.{proposal_or_ref, proposal_or_ref_nonempty}
+use Rattle.mls_types.specs.declared.signed.SignedBody.{SignedBody}
+use Rattle.mls_types.specs.declared.signed.SignedBody.TheVariants as body_of
+use Rattle.mls_view.specs.Shown.{ShowsBodyTag}
+use denote.Ref.{Bor}
+use Rattle.mls_wire.specs.Checks.{Passed, require, ◌>>◌, Answers, DoesAs}
+use Rattle.mls_wire.specs.Reading.{◌>>=◌}
+use Rattle.mls_group.specs.GroupContext.{group_context}
+use Rattle.mls_suite.specs.Crypto.{Crypto}
+use Rattle.mls_term.specs.Sets.{has}
+use Rattle.mls_term.specs.Term.{Term}
+use Rattle.mls_term.specs.Way.{way}
+use Rattle.mls_paths.specs.Follow.{follow_edit}
+use Rattle.mls_paths.specs.Height.{HasFollowed, keys_on}
+use Rattle.mls_paths.specs.Open.{opened_path}
+use Rattle.mls_group.specs.declared.update_path.UpdatePath.{UpdatePath}
+use Rattle.mls_types.specs.declared.content.FramedContent.{FramedContent}
+use Rattle.mls_paths.specs.Keys.{Keys, PrivateKeys, all_keys}
+use Rattle.mls_paths.specs.Make.{Climb, climb_to}
+use Rattle.mls_types.specs.SignedParts.{framed}
+use Rattle.mls_types.specs.declared.commit.Commit.{Commit}
+use Rattle.mls_types.specs.declared.commit.ProposalOrRef.{ProposalOrRef}
+use Rattle.mls_types.specs.declared.signed.SignedContent.{SignedContent}
+use Rattle.mls_model.specs.declared.effect.Effect.{Effect}
+use Rattle.mls_model.specs.declared.effect.Effect.TheVariants.{Removed}
+use Rattle.mls_model.specs.Public.{Used}
+use Rattle.mls_model.specs.Proposals.{removed}
+use Rattle.mls_model.specs.Commit.{Change, body}
+use Rattle.mls_model.specs.Member.{Member, used_by, named, first_own_key, with_keys, followed, above_leaf, of_leaf, left}
+use Rattle.mls_model.specs.Messages.{sender_leaf}
+use Rattle.mls_model.specs.Verdict.{commit_verdict, climbed, entered}
+use Rattle.mls_member.specs.declared.error.Refusal.{Refusal}
+use Rattle.mls_member.specs.Faults.{number_of}
+use Rattle.mls_member.specs.Process.{changed, after_change, followed_commit, edited_keys, entered_with, removes_leaf}
+use Rattle.mls_member.proofs.Uses.{any_removes}
+
+-- ---- private keys
+
+above_end : (ks : Keys) (k : List ℕ) → above_leaf (ks ++ Some k ∷ []) ≡ ks
+unfolding above_leaf
+above_end [] k = refl
+above_end (o ∷ []) k = refl
+above_end (o ∷ (p ∷ ks)) k = ap (λ (l : Keys). o ∷ l) (above_end (p ∷ ks) k)
+
+own_end : (ks : Keys) (own k : List ℕ) → of_leaf own (ks ++ Some k ∷ []) ≡ k
+unfolding of_leaf
+own_end [] own k = refl
+own_end (None ∷ ks) own k = own_end ks own k
+own_end (Some j ∷ ks) own k = own_end ks j k
+
+-- all of the keys that a member has are its keys
+pub with_all_keys : (old new : PrivateKeys) → new.leaf ≡ old.leaf → with_keys old (all_keys new) ≡ new
+unfolding with_keys
+with_all_keys old new leaf = rw (own_end new.above old.own new.own, above_end new.above new.own, ← leaf) refl
+
+-- keys that have followed the edits
+pub followed_is : (own : Option (List ℕ)) (t : Term) (old new : PrivateKeys) → HasFollowed own t old new → followed own t old ≡ new
+unfolding followed
+followed_is own t old new h = ap (λ (ks : Keys). with_keys old ks) (sym h.keys) ∙ with_all_keys old new h.leaf
+
+pub followed_of : (own : Option (List ℕ)) (t : Term) (old copy new : PrivateKeys) → copy ≡ old → HasFollowed own t copy new → new ≡ followed own t old
+followed_of own t old copy new same h = sym (followed_is own t old new (subst (λ (k : PrivateKeys). HasFollowed own t k new) same h))
+
+-- ---- the steps
+
+then_change : (ru : Result (List Used) ℕ) (rb : List Used → Result Change ℕ) (leaf : ℕ) (later : Change × Bool → Result (Effect × Member) ℕ) →
+    ((ru >>= λ used. rb used >>= λ change. Ok (change, list_any (removes_leaf leaf) used)) >>= later) ≡ (ru >>= λ used. rb used >>= λ change. later (change, has (removed used) leaf))
+then_change (Err n) rb leaf later = refl
+then_change (Ok used) rb leaf later = by_body (rb used)
+  where
+    by_body : (r : Result Change ℕ) → ((r >>= λ change. Ok (change, list_any (removes_leaf leaf) used)) >>= later) ≡ (r >>= λ change. later (change, has (removed used) leaf))
+    by_body (Err n) = refl
+    by_body (Ok change) = ap (λ (b : Bool). later (change, b)) (any_removes used leaf)
+
+commit_is : (c : Crypto) (m : Member) (v : SignedContent) (k : Commit) (tag : List ℕ) (committer : ℕ) (signature : List ℕ) → nat_lt m.public.context.epoch (2 ^ 64 - 1) ≡ true → committer ≡ sender_leaf v.sender → signature ≡ v.signature
+    → commit_verdict c m v k tag ≡ (changed c m committer k (framed v) signature >>= after_change c m committer k tag)
+unfolding commit_verdict changed after_change
+commit_is c m v k tag committer signature e s g = rw (e, s, g) (sym (then_change (used_by m.kept (sender_leaf v.sender) k.proposals) (λ used. body c m.public (sender_leaf v.sender) used k (framed v) v.signature) m.keys.leaf (after_change c m (sender_leaf v.sender) k tag)))
+
+pub last_epoch : (c : Crypto) (m : Member) (v : SignedContent) (k : Commit) (tag : List ℕ) → nat_lt m.public.context.epoch (2 ^ 64 - 1) ≡ false → commit_verdict c m v k tag ≡ Err 66
+unfolding commit_verdict
+last_epoch c m v k tag e = rw e refl
+
+-- another epoch has room
+pub has_room : (epoch : ℕ) → nat_lt epoch (2 ^ 64 - 1) ≡ true → epoch + 1 < 2 ^ 64
+has_room epoch h = let lt : epoch < 2 ^ 64 - 1 = ltb-true epoch (2 ^ 64 - 1) h in omega arith
+
+-- the next epoch with all of the keys
+pub entered_as : (m : Member) (change : Change) (secret : List ℕ) (keys : PrivateKeys) (tag : List ℕ) → keys.leaf ≡ m.keys.leaf → entered m change (climb_to secret keys) tag ≡ entered_with m change secret keys tag
+unfolding entered entered_with
+entered_as m change secret keys tag leaf = rw (with_all_keys m.keys keys leaf) refl
+
+-- ---- what follows
+
+-- a call does this to a member
+abbrev Does : Result (Effect × Member) ℕ → Member → Member → Result Effect Refusal → Type 0
+Does defined old new result = DoesAs (λ e. e) number_of defined old new result
+
+pub follow_fails : (c : Crypto) (m : Member) (committer : ℕ) (k : Commit) (content : FramedContent) (signature tag : List ℕ) (n : ℕ) → changed c m committer k content signature ≡ Err n → followed_commit c m committer k content signature tag ≡ Err n
+follow_fails c m committer k content signature tag n e = rw e refl
+
+pub follow_removed : (c : Crypto) (m new : Member) (committer : ℕ) (k : Commit) (content : FramedContent) (signature tag : List ℕ) (change : Change) (removes : Bool) → changed c m committer k content signature ≡ Ok (change, removes) → removes ≡ true → new ≡ left m
+    → followed_commit c m committer k content signature tag ≡ Ok (Removed, new)
+unfolding after_change
+follow_removed c m new committer k content signature tag change removes e r n = rw (e, r, n) refl
+
+pub climb_fails : (c : Crypto) (m : Member) (committer : ℕ) (k : Commit) (content : FramedContent) (signature tag : List ℕ) (change : Change) (removes : Bool) (n : ℕ) → changed c m committer k content signature ≡ Ok (change, removes) → removes ≡ false
+    → climbed c m committer change (edited_keys m k change) k.path ≡ Err n → followed_commit c m committer k content signature tag ≡ Err n
+unfolding after_change
+climb_fails c m committer k content signature tag change removes n e r f = rw (e, r, f) refl
+
+follow_enters : (c : Crypto) (m : Member) (committer : ℕ) (k : Commit) (content : FramedContent) (signature tag : List ℕ) (change : Change) (removes : Bool) (secret : List ℕ) (keys : PrivateKeys) → changed c m committer k content signature ≡ Ok (change, removes) → removes ≡ false
+    → climbed c m committer change (edited_keys m k change) k.path ≡ Ok (climb_to secret keys) → keys.leaf ≡ m.keys.leaf → followed_commit c m committer k content signature tag ≡ entered_with m change secret keys tag
+unfolding after_change
+follow_enters c m committer k content signature tag change removes secret keys e r f leaf = rw (e, r, f) (entered_as m change secret keys tag leaf)
+
+pub follow_does : (c : Crypto) (m new : Member) (committer : ℕ) (k : Commit) (content : FramedContent) (signature tag : List ℕ) (change : Change) (removes : Bool) (secret : List ℕ) (keys : PrivateKeys) (result : Result Effect Refusal) → changed c m committer k content signature ≡ Ok (change, removes) → removes ≡ false
+    → climbed c m committer change (edited_keys m k change) k.path ≡ Ok (climb_to secret keys) → keys.leaf ≡ m.keys.leaf → Does (entered_with m change secret keys tag) m new result → Does (followed_commit c m committer k content signature tag) m new result
+follow_does c m new committer k content signature tag change removes secret keys result e r f leaf does =
+    subst (λ (d : Result (Effect × Member) ℕ). Does d m new result) (sym (follow_enters c m committer k content signature tag change removes secret keys e r f leaf)) does
+
+-- ---- a verdict
+
+abbrev commit_of : List ProposalOrRef → Option UpdatePath → Commit
+commit_of list path = record { proposals = list; path = path }
+
+-- a commit is made again of its parts
+pub commit_same : (mine k : Commit) (list path : List ℕ) → Spells (vector proposal_or_ref proposal_or_ref_nonempty) mine.proposals list → Spells (optional update_path) mine.path path → Spells (vector proposal_or_ref proposal_or_ref_nonempty) k.proposals list → Spells (optional update_path) k.path path → mine ≡ k
+commit_same mine k list path a b d e =
+    ap (λ (l : List ProposalOrRef). commit_of l mine.path) (spells_same (vector proposal_or_ref proposal_or_ref_nonempty) mine.proposals k.proposals list a d)
+    ∙ ap (λ (o : Option UpdatePath). commit_of k.proposals o) (spells_same (optional update_path) mine.path k.path path b e)
+
+pub tag_is : (o : Option (Bor (List ℕ))) (body : SignedBody) (k : Commit) (tag seen : List ℕ) → ShowsBodyTag o body → body ≡ body_of.Commit k tag → IfSome o (λ t. seen ≡ t.now) → seen ≡ tag
+tag_is o (body_of.Application text) k tag seen shows e h = absurd cc
+tag_is o (body_of.Proposal p) k tag seen shows e h = absurd cc
+tag_is None (body_of.Commit k2 tag2) k tag seen shows e h = absurd shows
+tag_is (Some t) (body_of.Commit k2 tag2) k tag seen shows e h = let same : tag2 ≡ tag = cc in h ∙ shows ∙ same
+
+pub commit_does : (c : Crypto) (m new : Member) (v : SignedContent) (k mine : Commit) (tag seen : List ℕ) (committer : ℕ) (signature : List ℕ) (result : Result Effect Refusal) → nat_lt m.public.context.epoch (2 ^ 64 - 1) ≡ true → committer ≡ sender_leaf v.sender → signature ≡ v.signature → mine ≡ k → seen ≡ tag
+    → Does (followed_commit c m committer mine (framed v) signature seen) m new result → Does (commit_verdict c m v k tag) m new result
+commit_does c m new v k mine tag seen committer signature result e s g same t does =
+    subst (λ (r : Result (Effect × Member) ℕ). Does r m new result) (sym (commit_is c m v k tag committer signature e s g))
+    (subst (λ (x : Commit). Does (followed_commit c m committer x (framed v) signature tag) m new result) same
+    (subst (λ (l : List ℕ). Does (followed_commit c m committer mine (framed v) signature l) m new result) t does))

@@ -1,0 +1,123 @@
+-- How the proposals that a commit uses come about, one after the other.
+use Rattle.std.proofs.Common.{◌≡◌, ℕ, suc, ◌+◌, ◌<◌, ◌≤◌, ◌^◌, Bool, true, false, List, [], ◌∷◌, ◌++◌, length, drop, Option, Some, None, Result, Ok, Err, refl, sym, ap, subst, ◌∙◌, arith, append_assoc, get_or, add-one, drop-cons, ◌||◌}
+use Rattle.std.specs.List.{AllByRecursion, list_any, cons_option}
+use Rattle.std.proofs.lemmas.List.{append-nil, drop_all}
+use Rattle.mls_wire.specs.Reading.{◌>>=◌}
+use Rattle.mls_leaf.specs.Proposal.{proposal as proposal_format}
+use Rattle.mls_types.specs.declared.commit.ProposalOrRef.{ProposalOrRef}
+use Rattle.mls_term.specs.Sets.{has}
+use Rattle.mls_model.specs.Public.{Used}
+use Rattle.mls_model.specs.Member.{Kept, used_one, used_by, named_one, named, first_own_key, first_key}
+use Rattle.mls_model.specs.Proposals.{removed, remove_in}
+use Rattle.mls_public_group.specs.Short.{IsBelow, AreBelow}
+use Rattle.mls_member.specs.Process.{IsListedBelow, key_of, is_leaf, removes_leaf}
+
+-- what is used so far, and then the rest of the list
+abbrev pub with_rest : List Used → Result (List Used) ℕ → Result (List Used) ℕ
+with_rest used rest = rest >>= λ us. Ok (used ++ us)
+
+pub record AreUsed (kept : List Kept) (committer : ℕ) (list rest : List ProposalOrRef) (used : List Used) : Type 0 where
+  pub answer : with_rest used (used_by kept committer rest) ≡ used_by kept committer list
+  pub below : AreBelow (2 ^ 27) used
+  pub short : AllByRecursion (IsListedBelow (2 ^ 27)) rest
+
+abbrev all_ok : List Used → Result (List Used) ℕ
+all_ok us = Ok us
+
+nothing_first : (r : Result (List Used) ℕ) → with_rest [] r ≡ r
+nothing_first (Ok us) = refl
+nothing_first (Err n) = refl
+
+one_more : (used : List Used) (u : Used) (r : Result (List Used) ℕ) → with_rest used (r >>= λ us. Ok (u ∷ us)) ≡ with_rest (used ++ u ∷ []) r
+one_more used u (Ok us) = ap (λ (l : List Used). all_ok l) (sym (append_assoc used (u ∷ []) us))
+one_more used u (Err n) = refl
+
+pub all_append : {X : Type 0} (P : X → Type 0) (xs : List X) (x : X) → AllByRecursion P xs → P x → AllByRecursion P (xs ++ x ∷ [])
+all_append P [] x h p = (p, tt)
+all_append P (y ∷ ys) x h p = (h.0, all_append P ys x h.1 p)
+
+pub used_first : (kept : List Kept) (committer : ℕ) (list : List ProposalOrRef) → AllByRecursion (IsListedBelow (2 ^ 27)) list → AreUsed kept committer list list []
+used_first kept committer list h = record { answer = nothing_first (used_by kept committer list); below = tt; short = h }
+
+pub used_next : (kept : List Kept) (committer : ℕ) (list rest : List ProposalOrRef) (x : ProposalOrRef) (used : List Used) (u : Used) → AreUsed kept committer list (x ∷ rest) used → used_one kept committer x ≡ Ok u → IsBelow (2 ^ 27) proposal_format u.proposal → AreUsed kept committer list rest (used ++ u ∷ [])
+unfolding used_by
+used_next kept committer list rest x used u h e below = record {
+  answer = sym (one_more used u (used_by kept committer rest)) ∙ (rw e at h.answer);
+  below = all_append (λ (v : Used). IsBelow (2 ^ 27) proposal_format v.proposal) used u h.below below;
+  short = h.short.1;
+}
+
+pub used_fails : (kept : List Kept) (committer : ℕ) (list rest : List ProposalOrRef) (x : ProposalOrRef) (used : List Used) (n : ℕ) → AreUsed kept committer list (x ∷ rest) used → used_one kept committer x ≡ Err n → used_by kept committer list ≡ Err n
+unfolding used_by
+used_fails kept committer list rest x used n h e = sym (rw e at h.answer)
+
+pub used_all : (kept : List Kept) (committer : ℕ) (list : List ProposalOrRef) (used : List Used) → AreUsed kept committer list [] used → used_by kept committer list ≡ Ok used
+unfolding used_by
+used_all kept committer list used h = sym h.answer ∙ ap (λ (l : List Used). all_ok l) (append-nil used)
+
+-- ---- wider limits
+
+pub used_wider : (us : List Used) → AreBelow (2 ^ 27) us → AreBelow (2 ^ 28) us
+used_wider [] h = tt
+used_wider (u ∷ us) h = (record { fits = h.0.fits; below = omega (arith, h.0.below) }, used_wider us h.1)
+
+-- ---- lists
+
+-- what is left from a place on
+left_from : {X : Type 0} (xs : List X) (i : ℕ) (x : X) → i < length xs → x ≡ get_or xs i x → drop i xs ≡ x ∷ drop (i + 1) xs
+left_from xs i x lt e = rw (add-one i) (drop-cons xs i x lt ∙ ap (λ y. y ∷ drop (suc i) xs) (sym e))
+
+pub used_step : (kept : List Kept) (committer : ℕ) (list : List ProposalOrRef) (i : ℕ) (x : ProposalOrRef) (used : List Used) (u : Used) → i < length list → x ≡ get_or list i x → AreUsed kept committer list (drop i list) used
+    → used_one kept committer x ≡ Ok u → IsBelow (2 ^ 27) proposal_format u.proposal → AreUsed kept committer list (drop (i + 1) list) (used ++ u ∷ [])
+used_step kept committer list i x used u lt e h one below =
+    used_next kept committer list (drop (i + 1) list) x used u (subst (λ (l : List ProposalOrRef). AreUsed kept committer list l used) (left_from list i x lt e) h) one below
+
+pub used_stops : (kept : List Kept) (committer : ℕ) (list : List ProposalOrRef) (i : ℕ) (x : ProposalOrRef) (used : List Used) (n : ℕ) → i < length list → x ≡ get_or list i x → AreUsed kept committer list (drop i list) used
+    → used_one kept committer x ≡ Err n → used_by kept committer list ≡ Err n
+used_stops kept committer list i x used n lt e h one =
+    used_fails kept committer list (drop (i + 1) list) x used n (subst (λ (l : List ProposalOrRef). AreUsed kept committer list l used) (left_from list i x lt e) h) one
+
+pub used_end : (kept : List Kept) (committer : ℕ) (list : List ProposalOrRef) (i : ℕ) (used : List Used) → length list ≤ i → AreUsed kept committer list (drop i list) used → used_by kept committer list ≡ Ok used
+used_end kept committer list i used le h = used_all kept committer list used (subst (λ (l : List ProposalOrRef). AreUsed kept committer list l used) (drop_all i list le) h)
+
+-- ---- removes
+
+has_next : (o : Option ℕ) (xs : List ℕ) (leaf : ℕ) → has (cons_option o xs) leaf ≡ (is_leaf leaf o || has xs leaf)
+unfolding has
+has_next None xs leaf = refl
+has_next (Some i) xs leaf = refl
+
+pub any_removes : (us : List Used) (leaf : ℕ) → list_any (removes_leaf leaf) us ≡ has (removed us) leaf
+unfolding has removed
+any_removes [] leaf = refl
+any_removes (u ∷ us) leaf = rw (any_removes us leaf) (sym (has_next (remove_in u.proposal) (removed us) leaf))
+
+-- ---- keys
+
+by_name : (o : Option Kept) (ks : List Kept) → first_own_key (cons_option o ks) ≡ first_key (key_of o) (first_own_key ks)
+unfolding first_own_key
+by_name None ks = refl
+by_name (Some k) ks = refl
+
+-- the first key of a list is that of its first entry, or of the others
+own_key_next : (kept : List Kept) (x : ProposalOrRef) (xs : List ProposalOrRef) → first_own_key (named kept (x ∷ xs)) ≡ first_key (key_of (named_one kept x)) (first_own_key (named kept xs))
+unfolding named
+own_key_next kept x xs = by_name (named_one kept x) (named kept xs)
+
+-- what is left of a list from a place on has the key that is looked for
+abbrev pub HasKey : List Kept → List ProposalOrRef → ℕ → Option (List ℕ) → Type 0
+HasKey kept list i key = first_own_key (named kept (drop i list)) ≡ key
+
+pub key_found : (kept : List Kept) (list : List ProposalOrRef) (i : ℕ) (x : ProposalOrRef) (k : List ℕ) (key : Option (List ℕ)) → i < length list → x ≡ get_or list i x → HasKey kept list i key → Some k ≡ key_of (named_one kept x) → Some k ≡ key
+key_found kept list i x k key lt e h found =
+    let a : first_key (key_of (named_one kept x)) (first_own_key (named kept (drop (i + 1) list))) ≡ key = sym (own_key_next kept x (drop (i + 1) list)) ∙ ap (λ (l : List ProposalOrRef). first_own_key (named kept l)) (sym (left_from list i x lt e)) ∙ h in
+    subst (λ (o : Option (List ℕ)). first_key o (first_own_key (named kept (drop (i + 1) list))) ≡ key) (sym found) a
+
+pub key_passed : (kept : List Kept) (list : List ProposalOrRef) (i : ℕ) (x : ProposalOrRef) (key : Option (List ℕ)) → i < length list → x ≡ get_or list i x → HasKey kept list i key → None ≡ key_of (named_one kept x) → HasKey kept list (i + 1) key
+key_passed kept list i x key lt e h none =
+    let a : first_key (key_of (named_one kept x)) (first_own_key (named kept (drop (i + 1) list))) ≡ key = sym (own_key_next kept x (drop (i + 1) list)) ∙ ap (λ (l : List ProposalOrRef). first_own_key (named kept l)) (sym (left_from list i x lt e)) ∙ h in
+    subst (λ (o : Option (List ℕ)). first_key o (first_own_key (named kept (drop (i + 1) list))) ≡ key) (sym none) a
+
+pub key_end : (kept : List Kept) (list : List ProposalOrRef) (i : ℕ) (key : Option (List ℕ)) → length list ≤ i → HasKey kept list i key → None ≡ key
+unfolding named first_own_key
+key_end kept list i key le h = subst (λ (l : List ProposalOrRef). first_own_key (named kept l) ≡ key) (drop_all i list le) h

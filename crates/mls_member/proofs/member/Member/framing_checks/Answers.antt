@@ -1,0 +1,11 @@
+use Rattle.std.proofs.Common.{rules, ◌≡◌, ℕ, Result, sym, subst}
+use Rattle.mls_wire.specs.Checks.{Answers, Passed, passed}
+use Rattle.mls_member.specs.Faults.{number_of}
+use Rattle.mls_member.proofs.TwoParts.{fails_first, goes_on}
+use Rattle.mls_member.proofs.member.Member.framing_checks.Goals as goal
+
+pub returns-in_err-leaf-clause-answer : goal.returns-in_err-leaf-clause-answer
+returns-in_err-leaf-clause-answer g c = λ shown shows. let e = fails_first g.S.Suite.crypto c.args.self.now shown c.args.bytes.now _ (c.in_err-leaf.ensures shown shows) in rw e (search rules)
+
+pub returns-clause-answer : goal.returns-clause-answer
+returns-clause-answer g c = λ shown shows. rw (goes_on g.S.Suite.crypto c.args.self.now shown c.args.bytes.now _ (c.in_ok-leaf.ensures shown shows)) (c.vouched.ensures shown shows)

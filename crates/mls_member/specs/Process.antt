@@ -1,0 +1,152 @@
+-- The parts of a verdict, in the order in which code goes over them.
+use Rattle.std.specs.Prelude.{ℕ, ◌==◌, nat_le, ◌≤◌, ◌<◌, ◌+◌, ◌^◌, Bool, true, false, not, ◌||◌, if◌then◌else◌, List, length, Option, Some, None, is_some, Result, Ok, Err, IfSome}
+use Rattle.std.specs.List.{AllByRecursion, list_any}
+use Rattle.std.specs.Str.{bytes_eq}
+use Rattle.mls_wire.specs.Checks.{Passed, require, given, ◌>>◌}
+use Rattle.mls_wire.specs.Reading.{◌>>=◌}
+use Rattle.mls_leaf.specs.Limits.{input_limit}
+use Rattle.mls_leaf.specs.Leaf.{leaf_node}
+use Rattle.mls_leaf.specs.Proposal.{proposal as proposal_format}
+use Rattle.mls_leaf.specs.declared.leaf.LeafNode.{LeafNode}
+use Rattle.mls_leaf.specs.declared.proposal.Proposal.{Proposal}
+use Rattle.mls_group.specs.GroupContext.{group_context}
+use Rattle.mls_types.specs.declared.commit.Commit.{Commit}
+use Rattle.mls_types.specs.declared.commit.ProposalOrRef.{ProposalOrRef}
+use Rattle.mls_types.specs.declared.commit.ProposalOrRef.TheVariants as listed
+use Rattle.mls_types.specs.declared.content.FramedContent.{FramedContent}
+use Rattle.mls_types.specs.declared.public_message.PublicMessage.{PublicMessage}
+use Rattle.mls_view.specs.declared.content.ContentView.{ContentView}
+use Rattle.mls_view.specs.declared.content.ContentView.TheVariants as view_of
+use Rattle.mls_view.specs.declared.public_message.PublicMessageView.{PublicMessageView}
+use Rattle.mls_suite.specs.Crypto.{Crypto}
+use Rattle.mls_term.specs.Term.{leaf_of}
+use Rattle.mls_term.specs.Sets.{has}
+use Rattle.mls_paths.specs.Make.{Climb}
+use Rattle.mls_paths.specs.Keys.{PrivateKeys}
+use Rattle.mls_schedule.specs.Epoch.{init_secret, next_epoch_secret, confirmation_tag}
+use Rattle.mls_model.specs.declared.effect.Effect.{Effect}
+use Rattle.mls_model.specs.declared.effect.Effect.TheVariants.{Proposed, Known, Advanced, Removed}
+use Rattle.mls_model.specs.Proposals.{proposal_checks, removed, remove_in}
+use Rattle.mls_model.specs.Public.{Used}
+use Rattle.mls_model.specs.Commit.{Change, body, public_with}
+use Rattle.mls_model.specs.Member.{Kept, Member, kept_under, used_by, named, first_own_key, followed, keeping, advanced, left}
+use Rattle.mls_model.specs.Messages.{decoded, public_in, sender_leaf, is_handshake, is_content_signed, content_tag}
+use Rattle.mls_model.specs.Verdict.{is_kept, framing_checks, content_verdict, climbed, entered}
+use Rattle.mls_public_group.specs.Short.{IsBelow}
+
+-- ---- every message
+
+-- the leaf of a message's sender, by the group, the epoch, the sender and whether it is a proposal or a commit: 42 another
+-- group, 43 another epoch, 44 no member at the sender's leaf, 45 application data (RFC 9420, 6)
+unfoldable pub sender_at : Member → List ℕ → ℕ → ℕ → Bool → Result LeafNode ℕ
+sender_at m group_id epoch sender handshake = do
+  require 42 (bytes_eq group_id m.public.context.group_id)
+  require 43 (epoch == m.public.context.epoch)
+  leaf ← given 44 (leaf_of m.public.tree sender)
+  require 45 handshake
+  Ok leaf
+
+-- whether a view of a content shows a proposal or a commit
+abbrev pub says_handshake : ContentView → Bool
+says_handshake (view_of.Application text) = false
+says_handshake (view_of.Proposal part) = true
+says_handshake (view_of.Commit proposals path) = true
+
+-- the same of a message
+abbrev pub sender_of : Member → PublicMessage → Result LeafNode ℕ
+sender_of m v = sender_at m v.content.group_id v.content.epoch (sender_leaf v.content.sender) (is_handshake v.content.body)
+
+-- 46 the membership tag, 47 the signature, 48 the member's own leaf, and no proposal that it keeps (RFC 9420, 6.1 and 6.2)
+unfoldable pub vouched : Crypto → Member → PublicMessage → List ℕ → LeafNode → Result Passed ℕ
+vouched c m v bytes leaf = do
+  require 46 (bytes_eq v.membership_tag (content_tag m.epoch v.content m.public.context))
+  require 47 (is_content_signed c leaf.signature_key v.content m.public.context)
+  require 48 (not (sender_leaf v.content.sender == m.keys.leaf) || is_kept m.kept bytes)
+
+-- the checks of bytes that take no memory: decoding, 41 no PublicMessage, and 42 to 45
+unfoldable pub outer_checks : Member → List ℕ → Result LeafNode ℕ
+outer_checks m bytes = do
+  whole ← decoded bytes
+  v ← given 41 (public_in whole)
+  sender_of m v
+
+-- what a PublicMessage does
+abbrev pub message_verdict : Crypto → Member → PublicMessage → List ℕ → Result (Effect × Member) ℕ
+message_verdict c m v bytes = framing_checks c m v bytes >> content_verdict c m v.content bytes v.content.body
+
+-- ---- a proposal
+
+-- it is checked and kept under its reference (RFC 9420, 12.1)
+unfoldable pub new_proposal : Crypto → Member → List ℕ → ℕ → List ℕ → Proposal → Result (Effect × Member) ℕ
+new_proposal c m reference sender bytes proposal =
+    proposal_checks c m.public sender proposal >> Ok (Proposed reference, keeping m (record { reference = reference; message = bytes; proposal = proposal; sender = sender; own_key = None }))
+
+-- ---- a commit
+
+-- the private key that a kept proposal has, where there is one
+abbrev pub key_of : Option Kept → Option (List ℕ)
+key_of None = None
+key_of (Some k) = k.own_key
+
+-- whether a used proposal removes a leaf (RFC 9420, 12.1.3)
+abbrev pub is_leaf : ℕ → Option ℕ → Bool
+is_leaf leaf None = false
+is_leaf leaf (Some i) = i == leaf
+
+abbrev pub removes_leaf : ℕ → Used → Bool
+removes_leaf leaf u = is_leaf leaf (remove_in u.proposal)
+
+-- what a commit makes of the public state, and whether it removes the member (RFC 9420, 12.4.2)
+unfoldable pub changed : Crypto → Member → ℕ → Commit → FramedContent → List ℕ → Result (Change × Bool) ℕ
+changed c m committer commit said signature = do
+  used ← used_by m.kept committer commit.proposals
+  change ← body c m.public committer used commit said signature
+  Ok (change, list_any (removes_leaf m.keys.leaf) used)
+
+-- the private keys after a commit's edits
+abbrev pub edited_keys : Member → Commit → Change → PrivateKeys
+edited_keys m commit change = followed (first_own_key (named m.kept commit.proposals)) change.edits.tree m.keys
+
+-- the member after a commit whose change is known (RFC 9420, 12.4.2)
+unfoldable pub after_change : Crypto → Member → ℕ → Commit → List ℕ → Change × Bool → Result (Effect × Member) ℕ
+after_change c m committer commit tag (change, removes) =
+    if removes then Ok (Removed, left m)
+    else (climbed c m committer change (edited_keys m commit change) commit.path >>= λ climb. entered m change climb tag)
+
+-- the member after a commit that isn't in the last epoch
+abbrev pub followed_commit : Crypto → Member → ℕ → Commit → FramedContent → List ℕ → List ℕ → Result (Effect × Member) ℕ
+followed_commit c m committer commit said signature tag = changed c m committer commit said signature >>= after_change c m committer commit tag
+
+-- the next epoch by its commit secret, with the keys that the member has in it; 65 where the tag isn't that of it
+unfoldable pub entered_with : Member → Change → List ℕ → PrivateKeys → List ℕ → Result (Effect × Member) ℕ
+entered_with m change secret keys tag = do
+  let epoch = next_epoch_secret (init_secret m.epoch) secret (group_context.spell change.context)
+  require 65 (bytes_eq tag (confirmation_tag epoch change.context.confirmed_transcript_hash))
+  Ok (Advanced change.context.epoch, advanced m (public_with change tag) epoch keys)
+
+-- ---- lengths
+
+-- the parts of a content have no more bytes than an input
+abbrev pub IsShortContent : ContentView → Type 0
+IsShortContent (view_of.Application text) = Unit {0}
+IsShortContent (view_of.Proposal part) = length part ≤ input_limit
+IsShortContent (view_of.Commit proposals path) = (length proposals ≤ input_limit) × (length path ≤ input_limit)
+
+-- so have the parts of a message
+pub record IsShortView (view : PublicMessageView) : Type 0 where
+  pub said : length view.framed_content.now ≤ input_limit
+  pub auth : length view.auth_data.now ≤ input_limit
+  pub signature : length view.auth.signature.now ≤ input_limit
+  pub tag : IfSome view.auth.confirmation_tag (λ t. length t.now ≤ input_limit)
+  pub content : IsShortContent view.content.content
+
+-- a proposal that is given in full encodes to fewer than n bytes
+abbrev pub IsListedBelow : ℕ → ProposalOrRef → Type 0
+IsListedBelow n (listed.Proposal p) = IsBelow n proposal_format p
+IsListedBelow n (listed.Reference reference) = Unit {0}
+
+-- each proposal in full, and the path's leaf, encode to fewer than n bytes
+pub record IsShortCommit (n : ℕ) (commit : Commit) : Type 0 where
+  pub proposals : AllByRecursion (IsListedBelow n) commit.proposals
+  pub path : IfSome commit.path (λ p. IsBelow n leaf_node p.leaf_node)
+  pub wider : IfSome commit.path (λ p. IsBelow (2 ^ 28) leaf_node p.leaf_node)

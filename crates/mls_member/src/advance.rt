@@ -1,0 +1,282 @@
+//! Commits that are received, and the next epoch (RFC 9420, 12.4.2).
+
+ghost use Rattle.std.specs.Prelude.{◌≡◌, ◌≤◌, ◌<◌, ◌+◌, ◌^◌, ◌-◌, ℕ, nat_lt, List, length, IfSome, IfOk, IfErr};
+ghost use Rattle.std.specs.Option.{option_copied};
+ghost use Rattle.mls_tree.specs.Tree.{term};
+ghost use Rattle.mls_wire.specs.Checks.{Answers, DoesAs};
+ghost use Rattle.mls_wire.specs.Combine.{vector, optional};
+ghost use Rattle.mls_leaf.specs.Faults.{Spells};
+ghost use Rattle.mls_leaf.specs.declared.error.LeafError.TheVariants.{Wire as in_wire};
+ghost use Rattle.mls_wire.specs.declared.WireError.TheVariants.{OutOfMemory};
+ghost use Rattle.mls_leaf.specs.Limits.{input_limit};
+ghost use Rattle.mls_group.specs.GroupContext.{group_context};
+ghost use Rattle.mls_group.specs.UpdatePath.{update_path};
+ghost use Rattle.mls_types.specs.Commit.{proposal_or_ref, proposal_or_ref_nonempty};
+ghost use Rattle.mls_types.specs.Content.{framed_content};
+ghost use Rattle.mls_types.specs.declared.content.FramedContent as contents;
+ghost use Rattle.mls_types.specs.declared.commit.Commit as commits;
+ghost use Rattle.mls_types.specs.declared.public_message.PublicMessage as messages;
+ghost use Rattle.mls_types.specs.declared.signed.SignedBody.TheVariants as body_of;
+ghost use Rattle.mls_paths.specs.Height.{keys_on};
+ghost use Rattle.mls_paths.specs.Make.{climb_to};
+ghost use Rattle.mls_paths.specs.Open.{opened_path};
+ghost use Rattle.mls_model.specs.Member.{followed, advanced, left};
+ghost use Rattle.mls_model.specs.Verdict.{commit_verdict, climbed};
+ghost use Rattle.mls_model.specs.declared.effect.Effect.TheVariants as effect;
+ghost use Rattle.mls_public_group.specs.Short.{HasLeavesBelow, IsShortContext};
+ghost use Rattle.mls_view.specs.Shown.{ShowsPublic};
+ghost use Rattle.mls_member.specs.Faults.{number_of};
+ghost use Rattle.mls_member.specs.Process.{IsShortView, IsShortCommit, changed, followed_commit, edited_keys, entered_with};
+
+use crate::error::Refusal;
+use crate::framing::sender_leaf;
+use crate::member::Member;
+use crate::used::{own_key, removes, used_by};
+use mls_commit::{Change, body};
+use mls_group::GroupContext;
+use mls_kdf::Secret;
+use mls_leaf::{Codec, Items, LeafError};
+use mls_model::Effect;
+use mls_public_group::{Edits, PublicGroup};
+use mls_schedule::Epoch;
+use mls_suite::Suite;
+use mls_tree::PublicTree;
+use mls_treekem::PrivatePath;
+use mls_types::{Commit, ProposalOrRef, UpdatePath};
+use mls_view::{Part, PublicMessageView};
+use std::alloc::{AllocError, Global};
+
+/// A commit secret, and the member's private keys in the new epoch.
+#[derive(Drop)]
+pub(crate) struct Reached {
+    secret: Secret,
+    keys: PrivatePath,
+}
+
+/// The spelling of a context.
+fn spelling(alloc: Global, context: &GroupContext) -> Result<Vec<u8>, Refusal>
+    requires { IsShortContext context.now }
+    ensures spelled { IfOk result (λ v. v.items ≡ group_context.spell context.now) }
+    ensures short { IfOk result (λ v. length v.items < 2 ^ 30) }
+    ensures memory { IfErr result (λ e. number_of e ≡ 1) }
+{
+    match context.encode(alloc) {
+        Ok(bytes) => Ok(bytes),
+        Err(error) => Err(Refusal::Leaf(error)),
+    }
+}
+
+/// The commit that a message's parts spell.
+fn owned_commit(
+    alloc: Global,
+    proposals: &Part<'_, Items<ProposalOrRef>>,
+    path: &Part<'_, Option<UpdatePath>>,
+) -> Result<Commit, LeafError>
+    requires proposals { length proposals.now ≤ input_limit }
+    requires path { length path.now ≤ input_limit }
+    ensures list { IfOk result (λ k. Spells (vector proposal_or_ref proposal_or_ref_nonempty) k.proposals proposals.now) }
+    ensures path { IfOk result (λ k. Spells (optional update_path) k.path path.now) }
+    ensures short { IfOk result (λ k. IsShortCommit (2 ^ 27) k) }
+    ensures memory { IfErr result (λ e. e ≡ in_wire OutOfMemory) }
+{
+    let proposals = proposals.to_owned(alloc)?;
+    let path = path.to_owned(alloc)?;
+    Ok(Commit { proposals, path })
+}
+
+/// The confirmation tag of a view of a commit.
+fn tag_of<'a>(view: &PublicMessageView<'a>) -> &'a [u8]
+    requires { IsShortView view.now }
+    ensures tag { IfSome view.now.auth.confirmation_tag (λ t. result.now ≡ t.now) }
+    ensures short { length result.now ≤ input_limit }
+{
+    match view.auth.confirmation_tag {
+        Some(tag) => tag,
+        None => &[],
+    }
+}
+
+/// The private keys after the edits that made a tree, with the leaf's new key where there is one (RFC 9420, 7.7 and 12.1).
+fn followed(
+    keys: &PrivatePath,
+    tree: &PublicTree,
+    own: Option<&Secret>,
+) -> Result<PrivatePath, AllocError>
+    ensures keys { IfOk result (λ k. k ≡ followed (option_copied own.entry) (term tree.now) keys.now) }
+    ensures leaf { IfOk result (λ k. k.leaf ≡ keys.now.leaf) }
+{
+    let mut copy = keys.clone()?;
+    copy.follow_edit(tree, own)?;
+    Ok(copy)
+}
+
+/// What a member takes of a commit's path (RFC 9420, 7.5), with the keys that it has after the commit's edits.
+fn opened<S: Suite>(
+    edits: &Edits,
+    committer: u32,
+    path: &UpdatePath,
+    keys: PrivatePath,
+    context: &[u8],
+) -> Result<Reached, Refusal>
+    requires { length context.now < 2 ^ 30 }
+    ensures answer { Answers (λ r. climb_to r.secret r.keys) number_of (opened_path S.crypto context.now edits.now.added edits.now.tree committer keys.leaf (keys_on edits.now.tree keys) path.now.nodes) result }
+    ensures leaf { IfOk result (λ r. r.keys.leaf ≡ keys.leaf) }
+{
+    let nodes = path.nodes.as_slice();
+    let mut keys = keys;
+    let secret = keys.open_path::<S>(&edits.tree, committer, &edits.added, nodes, context)?;
+    Ok(Reached { secret, keys })
+}
+
+impl<S: Suite> Member<S> {
+    /// Begins the next epoch, and drops kept proposals and a pending commit. It takes no memory.
+    #[tactic(auto, unfolding(mls_model::specs::Member::advanced))]
+    pub(crate) fn advance(&mut self, group: PublicGroup, epoch: Epoch, keys: PrivatePath) -> Effect
+        ensures effect { result ≡ effect.Advanced group.context.epoch }
+        ensures member { self.new ≡ advanced self.old group epoch keys }
+    {
+        let number = group.context().epoch;
+        self.group = group;
+        self.epoch = epoch;
+        self.keys = keys;
+        self.kept.clear();
+        self.pending = None;
+        Effect::Advanced { epoch: number }
+    }
+
+    /// The member was removed: a pending commit is dropped, and nothing else changes. It takes no memory.
+    #[tactic(auto, unfolding(mls_model::specs::Member::left))]
+    fn leave(&mut self)
+        ensures { self.new ≡ left self.old }
+    {
+        self.gone = true;
+        self.pending = None;
+    }
+
+    /// What a commit makes of the public state, and whether it removes the member: 60 a reference isn't kept, then the
+    /// checks of all that is public.
+    #[tactic(auto, unfolding(crate::specs::Process::changed))]
+    fn changed(
+        &self,
+        committer: u32,
+        commit: &Commit,
+        said: &[u8],
+        signature: &[u8],
+    ) -> Result<(Change, bool), Refusal>
+        requires epoch { self.now.public.context.epoch + 1 < 2 ^ 64 }
+        requires commit { IsShortCommit (2 ^ 27) commit.now }
+        requires signature { length signature.now < 2 ^ 30 }
+        ensures answer { (content : contents.FramedContent) → framed_content.spell content ≡ said.now
+            → Answers (λ x. x) number_of (changed S.crypto self.now committer commit.now content signature.now) result }
+        ensures leaves { IfOk result (λ x. HasLeavesBelow (2 ^ 27) x.0.tree) }
+    {
+        let list = commit.proposals.as_slice();
+        let used = used_by(self.alloc, &self.kept, committer, list)?;
+        let proposals = used.as_slice();
+        let group = &self.group;
+        let change = body::<S>(
+            self.alloc, group, committer, proposals, commit, said, signature,
+        )?;
+        let is_removed = removes(proposals, self.keys.leaf());
+        Ok((change, is_removed))
+    }
+
+    /// The commit secret, and the keys that the member has in the new tree: without a path zeros (RFC 9420, 8) and the
+    /// keys after the edits, with one what it opens of it (7.5).
+    #[tactic(auto, unfolding(mls_model::specs::Verdict::climbed))]
+    fn climbed(&self, committer: u32, change: &Change, commit: &Commit) -> Result<Reached, Refusal>
+        ensures answer { Answers (λ r. climb_to r.secret r.keys) number_of (climbed S.crypto self.now committer change.now (edited_keys self.now commit.now change.now) commit.now.path) result }
+        ensures leaf { IfOk result (λ r. r.keys.leaf ≡ self.now.keys.leaf) }
+    {
+        let edits = &change.edits;
+        let own = own_key(&self.kept, commit.proposals.as_slice());
+        let keys = followed(&self.keys, &edits.tree, own)?;
+        let context = spelling(self.alloc, &change.provisional)?;
+        match &commit.path {
+            Some(path) => opened::<S>(edits, committer, path, keys, &context),
+            None => Ok(Reached {
+                secret: [0; 32],
+                keys,
+            }),
+        }
+    }
+
+    /// Enters the next epoch: 65 where the confirmation tag isn't that of it (RFC 9420, 8.1).
+    #[tactic(auto, unfolding(crate::specs::Process::entered_with, mls_model::specs::Commit::public_with))]
+    fn entered(&mut self, change: Change, reached: Reached, tag: &[u8]) -> Result<Effect, Refusal>
+        requires leaves { HasLeavesBelow (2 ^ 27) change.tree }
+        requires tag { length tag.now < 2 ^ 30 }
+        ensures { DoesAs (λ e. e) number_of (entered_with self.old change reached.secret reached.keys tag.now) self.old self.new result }
+    {
+        let Reached { secret, keys } = reached;
+        let context = spelling(self.alloc, &change.context)?;
+        let start = Epoch::next(self.epoch.init_secret(), &secret, &context);
+        let confirmed = change.context.confirmed_transcript_hash.as_slice();
+        let due = start.epoch.confirmation_tag(confirmed);
+        if tag != due.as_slice() {
+            return Err(Refusal::BadConfirmationTag);
+        }
+        let group = change.into_public(self.alloc, tag)?;
+        Ok(self.advance(group, start.epoch, keys))
+    }
+
+    /// Whether an epoch can come after this.
+    fn has_next(&self) -> bool
+        ensures { result ≡ nat_lt self.now.public.context.epoch (2 ^ 64 - 1) }
+    {
+        self.group.context().epoch < u64::MAX
+    }
+
+    /// Follows a commit that isn't the last one that epochs leave room for.
+    fn follow_commit(
+        &mut self,
+        committer: u32,
+        commit: &Commit,
+        said: &[u8],
+        signature: &[u8],
+        tag: &[u8],
+    ) -> Result<Effect, Refusal>
+        requires epoch { self.old.public.context.epoch + 1 < 2 ^ 64 }
+        requires commit { IsShortCommit (2 ^ 27) commit.now }
+        requires signature { length signature.now < 2 ^ 30 }
+        requires tag { length tag.now < 2 ^ 30 }
+        ensures { (content : contents.FramedContent) → framed_content.spell content ≡ said.now
+            → DoesAs (λ e. e) number_of (followed_commit S.crypto self.old committer commit.now content signature.now tag.now) self.old self.new result }
+    {
+        let outcome = self.changed(committer, commit, said, signature)?;
+        let is_removed = outcome.1;
+        if is_removed {
+            self.leave();
+            return Ok(Effect::Removed);
+        }
+        let change = outcome.0;
+        let reached = self.climbed(committer, &change, commit)?;
+        self.entered(change, reached, tag)
+    }
+
+    /// Follows a commit: 66 no epoch comes after this, 60 a reference isn't kept, then the checks of all that is public.
+    /// There a member that is removed stops; others take the path's secret, 32 to 34, and 65 where the confirmation tag
+    /// isn't that of the new epoch (RFC 9420, 12.4.2).
+    pub(crate) fn commit_verdict(
+        &mut self,
+        view: &PublicMessageView<'_>,
+        proposals: &Part<'_, Items<ProposalOrRef>>,
+        path: &Part<'_, Option<UpdatePath>>,
+    ) -> Result<Effect, Refusal>
+        requires view { IsShortView view.now }
+        requires proposals { length proposals.now ≤ input_limit }
+        requires path { length path.now ≤ input_limit }
+        ensures { (shown : messages.PublicMessage) (commit : commits.Commit) (tag : List ℕ) → ShowsPublic view.now shown → shown.content.body ≡ body_of.Commit commit tag
+            → Spells (vector proposal_or_ref proposal_or_ref_nonempty) commit.proposals proposals.now → Spells (optional update_path) commit.path path.now
+            → DoesAs (λ e. e) number_of (commit_verdict S.crypto self.old shown.content commit tag) self.old self.new result }
+    {
+        if !self.has_next() {
+            return Err(Refusal::EpochEnd);
+        }
+        let committer = sender_leaf(&view.content.sender);
+        let tag = tag_of(view);
+        let commit = owned_commit(self.alloc, proposals, path)?;
+        let said = view.framed_content;
+        self.follow_commit(committer, &commit, said, view.auth.signature, tag)
+    }
+}

@@ -1,0 +1,170 @@
+//! The checks of every message (RFC 9420, 6).
+
+ghost use Rattle.std.specs.Prelude.{◌≡◌, ◌<◌, ◌^◌, length, IfOk};
+ghost use Rattle.std.specs.Str.{bytes_eq};
+ghost use Rattle.mls_wire.specs.Checks.{Answers, AnswersOutright, passed};
+ghost use Rattle.mls_tree.specs.Refusals.{RefusesOutright};
+ghost use Rattle.mls_model.specs.Messages.{sender_leaf, is_content_signed, content_tag};
+ghost use Rattle.mls_model.specs.Verdict.{is_kept, framing_checks};
+ghost use Rattle.mls_group.specs.GroupContext.{group_context};
+ghost use Rattle.mls_group.specs.declared.group_context.GroupContext as contexts;
+ghost use Rattle.mls_types.specs.SignedParts.{framed};
+ghost use Rattle.mls_types.specs.Signing.{framed_content_tbs};
+ghost use Rattle.mls_types.specs.declared.public_message.PublicMessage as messages;
+ghost use Rattle.mls_types.specs.declared.public_message.WireFormat.TheVariants.{PublicMessage as public_format};
+ghost use Rattle.mls_view.specs.Shown.{ShowsPublic};
+ghost use Rattle.mls_member.specs.Faults.{number_of};
+ghost use Rattle.mls_member.specs.Process.{sender_at, sender_of, vouched, says_handshake};
+
+use crate::error::Refusal;
+use crate::kept::Kept;
+use crate::member::Member;
+use mls_leaf::LeafNode;
+use mls_suite::{Suite, verify_with_label};
+use mls_types::Sender;
+use mls_view::{ContentView, PublicMessageView};
+use std::alloc::{AllocError, Global};
+
+/// The leaf of a sender (RFC 9420, 6).
+pub(crate) fn sender_leaf(sender: &Sender) -> u32
+    ensures { result ≡ sender_leaf sender.now }
+{
+    match sender {
+        Sender::Member(leaf) => *leaf,
+    }
+}
+
+/// Whether a content is a proposal or a commit.
+fn says_handshake(content: &ContentView<'_>) -> bool
+    ensures { result ≡ says_handshake content.now }
+{
+    match content {
+        ContentView::Application(_) => false,
+        ContentView::Proposal(_) => true,
+        ContentView::Commit { .. } => true,
+    }
+}
+
+/// Whether one of the kept proposals has this very message (RFC 9420, 12.1).
+fn is_kept(kept: &[Kept], bytes: &[u8]) -> bool
+    ensures { result ≡ is_kept kept.now bytes.now }
+{
+    kept.iter().any(|k| k.message.as_slice() == bytes)
+}
+
+/// What the sender signed (RFC 9420, 6.1). A spelling of 2^30 bytes is too much for memory.
+fn signed_input(
+    alloc: Global,
+    view: &PublicMessageView<'_>,
+    context: &[u8],
+) -> Result<Vec<u8>, AllocError>
+    ensures input { IfOk result (λ v. (shown : messages.PublicMessage) (group : contexts.GroupContext) → ShowsPublic view.now shown → context.now ≡ group_context.spell group
+        → v.items ≡ framed_content_tbs public_format (framed shown.content) group) }
+    ensures short { IfOk result (λ v. length v.items < 2 ^ 30) }
+{
+    let bytes = view.to_be_signed(alloc, context)?;
+    if bytes.len() >= 1 << 30 {
+        return Err(AllocError);
+    }
+    Ok(bytes)
+}
+
+impl<S: Suite> Member<S> {
+    /// The leaf of a message's sender: 42 another group, 43 another epoch, 44 no member at the sender's leaf, 45
+    /// application data (RFC 9420, 6). It takes no memory.
+    #[tactic(auto, unfolding(crate::specs::Process::sender_at))]
+    fn sender_at(
+        &self,
+        group_id: &[u8],
+        epoch: u64,
+        sender: u32,
+        is_handshake: bool,
+    ) -> Result<&LeafNode, Refusal>
+        ensures { AnswersOutright (λ l. l.now) number_of (sender_at self.now group_id.now epoch sender is_handshake) result }
+    {
+        if group_id != self.group.context().group_id.as_slice() {
+            return Err(Refusal::WrongGroup);
+        }
+        if epoch != self.group.context().epoch {
+            return Err(Refusal::WrongEpoch);
+        }
+        let Some(leaf) = self.group.tree().leaf(sender) else {
+            return Err(Refusal::SenderNotMember);
+        };
+        if !is_handshake {
+            return Err(Refusal::NotHandshake);
+        }
+        Ok(leaf)
+    }
+
+    /// The same of a message.
+    fn sender_of(&self, view: &PublicMessageView<'_>) -> Result<&LeafNode, Refusal>
+        ensures { (shown : messages.PublicMessage) → ShowsPublic view.now shown → AnswersOutright (λ l. l.now) number_of (sender_of self.now shown) result }
+    {
+        let content = &view.content;
+        let sender = sender_leaf(&content.sender);
+        let is_handshake = says_handshake(&content.content);
+        self.sender_at(content.group_id, content.epoch, sender, is_handshake)
+    }
+
+    /// Whether the membership tag is that of the message (RFC 9420, 6.2). It takes no memory.
+    #[tactic(auto, unfolding(mls_model::specs::Messages::content_tag, mls_schedule::specs::Epoch::membership_tag))]
+    fn has_tag(&self, view: &PublicMessageView<'_>) -> bool
+        ensures { (shown : messages.PublicMessage) → ShowsPublic view.now shown
+            → result ≡ bytes_eq shown.membership_tag (content_tag self.now.epoch shown.content self.now.public.context) }
+    {
+        let tag = view.membership_tag_under(
+            self.epoch.membership_key(),
+            self.group.context_bytes(),
+        );
+        view.membership_tag == tag.as_slice()
+    }
+
+    /// Whether the signature is that of a signature key (RFC 9420, 6.1).
+    #[tactic(auto, unfolding(mls_model::specs::Messages::is_content_signed))]
+    fn is_signed(&self, view: &PublicMessageView<'_>, key: &[u8]) -> Result<bool, AllocError>
+        ensures { IfOk result (λ b. (shown : messages.PublicMessage) → ShowsPublic view.now shown → b ≡ is_content_signed S.crypto key.now shown.content self.now.public.context) }
+    {
+        let input = signed_input(self.alloc, view, self.group.context_bytes())?;
+        let signature = view.auth.signature;
+        verify_with_label::<S>(self.alloc, key, "FramedContentTBS", &input, signature)
+    }
+
+    /// 46 the membership tag (RFC 9420, 6.2), 47 the signature (6.1), 48 the member's own leaf, and no proposal that it keeps.
+    #[tactic(auto, unfolding(crate::specs::Process::vouched))]
+    fn vouched(
+        &self,
+        view: &PublicMessageView<'_>,
+        bytes: &[u8],
+        leaf: &LeafNode,
+    ) -> Result<(), Refusal>
+        ensures { (shown : messages.PublicMessage) → ShowsPublic view.now shown → Answers (λ _. passed) number_of (vouched S.crypto self.now shown bytes.now leaf.now) result }
+    {
+        if !self.has_tag(view) {
+            return Err(Refusal::BadMembershipTag);
+        }
+        if !self.is_signed(view, leaf.signature_key.as_slice())? {
+            return Err(Refusal::BadSignature);
+        }
+        let is_own = sender_leaf(&view.content.sender) == self.keys.leaf();
+        if is_own && !is_kept(&self.kept, bytes) {
+            return Err(Refusal::OwnUnknown);
+        }
+        Ok(())
+    }
+
+    /// 42 another group, 43 another epoch, 44 no member at the sender's leaf, 45 application data, 46 the membership tag
+    /// (RFC 9420, 6.2), 47 the signature (6.1), 48 the member's own leaf, and no proposal that it keeps.
+    pub(crate) fn framing_checks(
+        &self,
+        view: &PublicMessageView<'_>,
+        bytes: &[u8],
+    ) -> Result<(), Refusal>
+        ensures answer { (shown : messages.PublicMessage) → ShowsPublic view.now shown → Answers (λ _. passed) number_of (framing_checks S.crypto self.now shown bytes.now) result }
+        // 42 to 45 come whatever memory there is.
+        ensures outright { (shown : messages.PublicMessage) → ShowsPublic view.now shown → RefusesOutright number_of (sender_of self.now shown) result }
+    {
+        let leaf = self.sender_of(view)?;
+        self.vouched(view, bytes, leaf)
+    }
+}
