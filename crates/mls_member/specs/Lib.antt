@@ -1,3 +1,4 @@
 pub mod Faults
 pub mod Codes
 pub mod Answers
+pub mod Sending

@@ -9,6 +9,8 @@ mod kept;
 mod member;
 mod process;
 mod propose;
+mod sending;
+mod texts;
 
 pub use commit::Made;
 pub use error::Refusal;
