@@ -5,6 +5,7 @@ mod commit;
 mod create;
 mod error;
 mod join;
+mod keeping;
 mod kept;
 mod member;
 mod process;

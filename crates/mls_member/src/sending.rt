@@ -1,6 +1,6 @@
 //! What a member says: a content, signed and tagged (RFC 9420, 6).
 
-ghost use Rattle.std.specs.Prelude.{◌≡◌, ◌<◌, ◌≤◌, ◌^◌, ◌++◌, ℕ, List, length, IfOk, MatchResult};
+ghost use Rattle.std.specs.Prelude.{◌≡◌, ◌<◌, ◌≤◌, ◌^◌, length, IfOk, MatchResult};
 ghost use Rattle.mls_wire.specs.Checks.{Answers};
 ghost use Rattle.mls_leaf.specs.Limits.{input_limit};
 ghost use Rattle.mls_types.specs.Content.{content as content_format, framed_content};
@@ -9,14 +9,15 @@ ghost use Rattle.mls_leaf.specs.Faults.{Writes};
 ghost use Rattle.mls_types.specs.Signed.{signed_content};
 ghost use Rattle.mls_types.specs.SignedParts.{signed_with};
 ghost use Rattle.mls_types.specs.declared.message.MlsMessage.TheVariants as message;
-ghost use Rattle.mls_types.specs.declared.signed.SignedContent as contents;
+ghost use Rattle.mls_types.specs.PublicMessage.{authenticated_content};
+ghost use Rattle.mls_types.specs.declared.public_message.WireFormat.TheVariants as format;
 ghost use Rattle.mls_model.specs.Messages.{said_by, content_signature, content_tag, sent_by, reference_of};
 ghost use Rattle.mls_member.specs.Faults.{number_of};
 ghost use Rattle.mls_member.specs.Sending.{limited, FitsIfShort, IsRefused};
 
 use crate::error::Refusal;
 use crate::member::Member;
-use crate::texts::{require_within_limit, written_text};
+use crate::texts::{know_epoch, require_within_limit, written_text};
 use mls_kdf::Secret;
 use mls_leaf::{Bytes, Codec, LeafError};
 use mls_suite::{OutOfMemory, Suite, sign_with_label};
@@ -88,9 +89,11 @@ impl<S: Suite> Member<S> {
         ensures fits { IfOk result (λ v. FitsIfShort content_format content → FitsIfShort framed_content v) }
     {
         let context = self.group.context();
+        let epoch = context.epoch;
+        know_epoch(epoch);
         Ok(FramedContent {
             group_id: context.group_id.clone()?,
-            epoch: context.epoch,
+            epoch,
             sender: Sender::Member(self.keys.leaf()),
             authenticated_data: Bytes::from_vec(Vec::new(self.alloc)),
             content,
@@ -158,20 +161,23 @@ fn public_message(alloc: Global, content: &SignedContent, tag: &[u8]) -> Result<
     Ok(writer.into_bytes())
 }
 
-/// The AuthenticatedContent in a message: all but the version in front and the membership tag behind.
-fn authenticated_content(message: &[u8]) -> &[u8]
-    ensures { (front text back : List ℕ) → length front ≡ 2 → length back ≡ 33 → message.now ≡ front ++ text ++ back → result.now ≡ text }
+/// The AuthenticatedContent of a signed content (RFC 9420, 6): wire format 1, and the content. TooLong where a vector in it
+/// has 2^30 bytes or more.
+#[tactic(auto, using(mls_leaf::specs::Codecs::codecs), unfolding(mls_types::specs::PublicMessage::authenticated_content))]
+fn authenticated(alloc: Global, content: &SignedContent) -> Result<Vec<u8>, LeafError>
+    ensures { Writes (signed_content.Fits content.now) (authenticated_content.spell (record { wire_format = format.PublicMessage; content = content.now })) result }
 {
-    let (_, rest) = message.split_at(2);
-    let (text, _) = rest.split_at(rest.len().saturating_sub(33));
-    text
+    let mut writer = Writer::new(alloc);
+    WireFormat::PublicMessage.write(alloc, &mut writer)?;
+    content.write(alloc, &mut writer)?;
+    Ok(writer.into_bytes())
 }
 
-/// The reference of the proposal whose message this is (RFC 9420, 5.2).
+/// The reference of a proposal, as it was signed (RFC 9420, 5.2).
 #[tactic(auto, unfolding(mls_model::specs::Messages::reference_of))]
-pub(crate) fn reference_in(message: &[u8]) -> Secret
-    requires { length message.now ≤ input_limit }
-    ensures { (v : contents.SignedContent) (tag : List ℕ) → length tag ≡ 32 → message.now ≡ mls_message.spell (message.PublicMessage (record { content = v; membership_tag = tag })) → result ≡ reference_of v }
+pub(crate) fn reference(alloc: Global, content: &SignedContent) -> Result<Secret, OutOfMemory>
+    ensures { IfOk result (λ r. r ≡ reference_of content.now) }
 {
-    proposal_reference(authenticated_content(message))
+    let text = written_text(authenticated(alloc, content))?;
+    Ok(proposal_reference(&text))
 }
