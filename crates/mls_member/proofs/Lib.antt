@@ -5,3 +5,5 @@ pub mod Known
 pub mod Uses
 pub mod CommitLengths
 pub mod CommitSteps
+mod First
+mod Short

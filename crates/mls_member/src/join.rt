@@ -8,10 +8,10 @@ ghost use Rattle.mls_member.specs.Faults.{number_of};
 use crate::error::Refusal;
 use crate::member::Member;
 use mls_candidate::Candidate;
-use mls_leaf::LeafError;
+use mls_join::Entrance;
 use mls_suite::Suite;
-use mls_wire::WireError;
 use std::alloc::Global;
+use std::marker::PhantomData;
 
 /// A new member, and the GroupInfo that it opened.
 #[derive(Drop)]
@@ -31,6 +31,23 @@ impl<S: Suite> Member<S> {
     ) -> Result<Joined<S>, Refusal>
         ensures answer { Answers joined_as number_of (join_verdict S.crypto candidate.now bytes.now) result }
     {
-        Err(Refusal::Leaf(LeafError::Wire(WireError::OutOfMemory)))
+        let Entrance {
+            group,
+            epoch,
+            keys,
+            group_info,
+        } = mls_join::join::<S>(alloc, candidate, bytes)?;
+        let member = Member {
+            gone: false,
+            group,
+            epoch,
+            keys,
+            signing: *candidate.signing_key(),
+            kept: Vec::new(alloc),
+            pending: None,
+            alloc,
+            suite: PhantomData,
+        };
+        Ok(Joined { member, group_info })
     }
 }

@@ -7,6 +7,7 @@ mod create;
 mod error;
 mod framing;
 mod join;
+mod keeping;
 mod kept;
 mod member;
 mod process;
@@ -14,6 +15,8 @@ mod proposals;
 mod propose;
 mod received;
 mod used;
+mod sending;
+mod texts;
 
 pub use commit::Made;
 pub use error::Refusal;

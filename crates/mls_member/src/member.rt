@@ -3,13 +3,20 @@
 ghost use Rattle.std.specs.Prelude.{◌≡◌, option_map, is_some, IfOk};
 ghost use Rattle.std.specs.Option.{option_copied};
 ghost use Rattle.mls_group.specs.GroupContext.{group_context};
+ghost use Rattle.mls_group.specs.GroupInfo.{ratchet_tree};
+ghost use Rattle.mls_leaf.specs.Faults.{Encodes};
+ghost use Rattle.mls_term.specs.Arrays.{to_nodes};
+ghost use Rattle.mls_paths.specs.Height.{ArePairs};
 ghost use Rattle.mls_model.specs.Member as model;
 
+use crate::keeping::kept_under;
 use crate::kept::{Kept, Pending};
+use mls_group::RatchetTree;
 use mls_kdf::Secret;
+use mls_leaf::{Codec, LeafError};
 use mls_public_group::PublicGroup;
 use mls_schedule::Epoch;
-use mls_suite::Suite;
+use mls_suite::{OutOfMemory, Suite};
 use mls_treekem::PrivatePath;
 use std::alloc::Global;
 use std::marker::{Model, PhantomData};
@@ -67,6 +74,83 @@ impl<S: Suite> Member<S> {
         ensures { result.now ≡ self.now.keys }
     {
         &self.keys
+    }
+
+    /// The index of its leaf.
+    pub fn leaf_index(&self) -> u32
+        ensures { result ≡ self.now.keys.leaf }
+    {
+        self.keys.leaf()
+    }
+
+    /// The group's identifier.
+    pub fn group_id(&self) -> &[u8]
+        ensures { result.now ≡ self.now.public.context.group_id }
+    {
+        self.group.context().group_id.as_slice()
+    }
+
+    /// The number of the epoch.
+    pub fn epoch_number(&self) -> u64
+        ensures { result ≡ self.now.public.context.epoch }
+    {
+        self.group.context().epoch
+    }
+
+    /// The spelling of the GroupContext (RFC 9420, 8.1).
+    pub fn context_bytes(&self) -> &[u8]
+        ensures { result.now ≡ group_context.spell self.now.public.context }
+    {
+        self.group.context_bytes()
+    }
+
+    /// The spelling of the ratchet tree (RFC 9420, 12.4.3.3). TooLong where it has 2^30 bytes or more.
+    pub fn tree_bytes(&self) -> Result<Vec<u8>, LeafError>
+        ensures { Encodes ratchet_tree (to_nodes self.now.public.tree) result }
+    {
+        let nodes = RatchetTree::from_vec(self.group.tree().to_nodes()?);
+        nodes.encode(self.alloc)
+    }
+
+    /// The confirmed transcript hash (RFC 9420, 8.2).
+    pub fn confirmed_transcript_hash(&self) -> &[u8]
+        ensures { result.now ≡ self.now.public.context.confirmed_transcript_hash }
+    {
+        self.group.context().confirmed_transcript_hash.as_slice()
+    }
+
+    /// The interim transcript hash (RFC 9420, 8.2).
+    pub fn interim_transcript_hash(&self) -> &Secret
+        ensures { result.now ≡ self.now.public.interim }
+    {
+        self.group.transcript().interim_hash()
+    }
+
+    /// The private keys that it holds, each with the number of its node, by rising number.
+    pub fn held_keys(&self) -> Result<Vec<(u64, Secret)>, OutOfMemory>
+        ensures { IfOk result (λ v. ArePairs self.now.keys v.items) }
+    {
+        self.keys.keys()
+    }
+
+    /// The message of the proposal that it keeps under a reference (RFC 9420, 12.1).
+    pub fn kept(&self, reference: &[u8]) -> Option<&[u8]>
+        ensures { option_copied result ≡ option_map (λ (k : model.Kept). k.message) (model.kept_under self.now.kept reference.now) }
+    {
+        match kept_under(&self.kept, reference) {
+            Some(k) => Some(&k.message),
+            None => None,
+        }
+    }
+
+    /// The epoch secret that its pending commit leads to.
+    pub fn pending_secret(&self) -> Option<&Secret>
+        ensures { option_copied result ≡ option_map (λ (p : model.Pending). p.epoch) self.now.pending }
+    {
+        match &self.pending {
+            Some(p) => Some(p.epoch.epoch_secret()),
+            None => None,
+        }
     }
 
     /// Forgets the pending commit, and answers whether there was one. It takes no memory.
