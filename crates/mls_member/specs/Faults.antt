@@ -5,11 +5,9 @@ use Rattle.mls_public_group.specs.Faults.{number_of as number_of_group, name_of 
 use Rattle.mls_commit.specs.Faults.{number_of as number_of_commit, name_of as name_of_commit}
 use Rattle.mls_treekem.specs.Faults.{number_of as number_of_keys, name_of as name_of_keys}
 use Rattle.mls_candidate.specs.Faults.{number_of as number_of_candidate, name_of as name_of_candidate}
-use Rattle.mls_update_path.specs.Faults.{number_of as number_of_path, name_of as name_of_path}
-use Rattle.mls_welcome.specs.Faults.{number_of as number_of_welcome, name_of as name_of_welcome}
 use Rattle.mls_join.specs.Faults.{number_of as number_of_join, name_of as name_of_join}
 use Rattle.mls_member.specs.declared.error.Refusal.{Refusal}
-use Rattle.mls_member.specs.declared.error.Refusal.TheVariants.{Leaf, Group, Commit, Keys, Candidate, Path, Welcome, Join, Gone, NotPublicMessage, WrongGroup, WrongEpoch, SenderNotMember, NotHandshake, BadMembershipTag, BadSignature, OwnUnknown, ReferenceTaken, UnknownReference, BadConfirmationTag, EpochEnd, PendingCommit}
+use Rattle.mls_member.specs.declared.error.Refusal.TheVariants.{Leaf, Group, Commit, Keys, Candidate, Join, Gone, NotPublicMessage, WrongGroup, WrongEpoch, SenderNotMember, NotHandshake, BadMembershipTag, BadSignature, OwnUnknown, ReferenceTaken, UnknownReference, BadConfirmationTag, EpochEnd}
 
 -- the number that the program answers
 abbrev pub number_of : Refusal → ℕ
@@ -18,8 +16,6 @@ number_of (Group e) = number_of_group e
 number_of (Commit e) = number_of_commit e
 number_of (Keys e) = number_of_keys e
 number_of (Candidate e) = number_of_candidate e
-number_of (Path e) = number_of_path e
-number_of (Welcome e) = number_of_welcome e
 number_of (Join e) = number_of_join e
 number_of Gone = 40
 number_of NotPublicMessage = 41
@@ -34,7 +30,6 @@ number_of ReferenceTaken = 49
 number_of UnknownReference = 60
 number_of BadConfirmationTag = 65
 number_of EpochEnd = 66
-number_of PendingCommit = 67
 
 -- the name, as it is printed
 abbrev pub name_of : Refusal → List ℕ
@@ -43,8 +38,6 @@ name_of (Group e) = name_of_group e
 name_of (Commit e) = name_of_commit e
 name_of (Keys e) = name_of_keys e
 name_of (Candidate e) = name_of_candidate e
-name_of (Path e) = name_of_path e
-name_of (Welcome e) = name_of_welcome e
 name_of (Join e) = name_of_join e
 name_of Gone = codes "Gone"
 name_of NotPublicMessage = codes "NotPublicMessage"
@@ -59,4 +52,3 @@ name_of ReferenceTaken = codes "ReferenceTaken"
 name_of UnknownReference = codes "UnknownReference"
 name_of BadConfirmationTag = codes "BadConfirmationTag"
 name_of EpochEnd = codes "EpochEnd"
-name_of PendingCommit = codes "PendingCommit"

@@ -2,7 +2,7 @@
 
 ghost use Rattle.std.specs.Prelude.{◌≡◌};
 ghost use Rattle.mls_member.specs.Faults.{number_of, name_of};
-ghost use Rattle.mls_member.specs.declared.error.Refusal.TheVariants.{Leaf as in_leaf, Group as in_group, Commit as in_commit, Keys as in_keys, Candidate as in_candidate, Path as in_path, Welcome as in_welcome, Join as in_join};
+ghost use Rattle.mls_member.specs.declared.error.Refusal.TheVariants.{Leaf as in_leaf, Group as in_group, Commit as in_commit, Keys as in_keys, Candidate as in_candidate, Join as in_join};
 ghost use Rattle.mls_wire.specs.declared.WireError.TheVariants.{OutOfMemory};
 ghost use Rattle.mls_leaf.specs.declared.error.LeafError.TheVariants.{Wire as in_wire};
 
@@ -12,8 +12,6 @@ use mls_join::JoinError;
 use mls_leaf::LeafError;
 use mls_public_group::GroupError;
 use mls_treekem::TreeKemError;
-use mls_update_path::PathError;
-use mls_welcome::WelcomeError;
 use mls_wire::WireError;
 use std::alloc::{AllocError, AllocFailed};
 use thiserror::Error;
@@ -36,12 +34,6 @@ pub enum Refusal {
     /// A leaf isn't made.
     #[error("{0}")]
     Candidate(CandidateError),
-    /// A path isn't made.
-    #[error("{0}")]
-    Path(PathError),
-    /// A Welcome isn't made.
-    #[error("{0}")]
-    Welcome(WelcomeError),
     /// A Welcome isn't followed.
     #[error("{0}")]
     Join(JoinError),
@@ -84,9 +76,6 @@ pub enum Refusal {
     /// No epoch comes after this one.
     #[error("no epoch comes after this one")]
     EpochEnd,
-    /// The member has a pending commit.
-    #[error("a commit is pending")]
-    PendingCommit,
 }
 
 impl From<LeafError> for Refusal {
@@ -129,22 +118,6 @@ impl From<CandidateError> for Refusal {
     }
 }
 
-impl From<PathError> for Refusal {
-    ghost from_gives = { λ e r. r ≡ in_path e };
-
-    fn from(error: PathError) -> Refusal {
-        Refusal::Path(error)
-    }
-}
-
-impl From<WelcomeError> for Refusal {
-    ghost from_gives = { λ e r. r ≡ in_welcome e };
-
-    fn from(error: WelcomeError) -> Refusal {
-        Refusal::Welcome(error)
-    }
-}
-
 impl From<JoinError> for Refusal {
     ghost from_gives = { λ e r. r ≡ in_join e };
 
@@ -180,8 +153,6 @@ impl Refusal {
             Refusal::Commit(error) => error.number(),
             Refusal::Keys(error) => error.number(),
             Refusal::Candidate(error) => error.number(),
-            Refusal::Path(error) => error.number(),
-            Refusal::Welcome(error) => error.number(),
             Refusal::Join(error) => error.number(),
             Refusal::Gone => 40,
             Refusal::NotPublicMessage => 41,
@@ -196,7 +167,6 @@ impl Refusal {
             Refusal::UnknownReference => 60,
             Refusal::BadConfirmationTag => 65,
             Refusal::EpochEnd => 66,
-            Refusal::PendingCommit => 67,
         }
     }
 
@@ -210,8 +180,6 @@ impl Refusal {
             Refusal::Commit(error) => error.name(),
             Refusal::Keys(error) => error.name(),
             Refusal::Candidate(error) => error.name(),
-            Refusal::Path(error) => error.name(),
-            Refusal::Welcome(error) => error.name(),
             Refusal::Join(error) => error.name(),
             Refusal::Gone => "Gone",
             Refusal::NotPublicMessage => "NotPublicMessage",
@@ -226,7 +194,6 @@ impl Refusal {
             Refusal::UnknownReference => "UnknownReference",
             Refusal::BadConfirmationTag => "BadConfirmationTag",
             Refusal::EpochEnd => "EpochEnd",
-            Refusal::PendingCommit => "PendingCommit",
         }
     }
 }

@@ -2,7 +2,6 @@
 #![tactic(auto)]
 
 mod advance;
-mod commit;
 mod create;
 mod error;
 mod framing;
@@ -18,9 +17,8 @@ mod used;
 mod sending;
 mod texts;
 
-pub use commit::Made;
 pub use error::Refusal;
 pub use join::Joined;
 pub use member::Member;
 pub use mls_candidate::Candidate;
-pub use mls_model::{Effect, Item};
+pub use mls_model::Effect;
