@@ -1,10 +1,9 @@
 -- What bytes do, by the message that they are.
-use Rattle.std.proofs.Common.{◌≡◌, ℕ, List, Result, Ok, Err, refl, sym, ap, subst, ◌∙◌}
-use Rattle.std.specs.Prelude.{◌≢◌, IsErrAnd}
+use Rattle.std.proofs.Common.{◌≡◌, ℕ, List, Result, Ok, Err, refl, sym, subst}
+use Rattle.std.specs.Prelude.{◌≢◌}
 use Rattle.mls_wire.specs.Checks.{Passed, passed, DoesAs, ◌>>◌}
 use Rattle.mls_wire.specs.Combine.{vector, optional}
 use Rattle.mls_wire.specs.Format.{IsBytes}
-use Rattle.mls_leaf.specs.declared.error.LeafError.{LeafError}
 use Rattle.mls_leaf.specs.declared.proposal.Proposal.{Proposal}
 use Rattle.mls_leaf.specs.Faults.{Spells, whole}
 use Rattle.mls_leaf.specs.Limits.{input_limit}

@@ -1,6 +1,6 @@
 -- A commit's verdict in the steps in which code goes over it.
-use Rattle.std.proofs.Common.{◌≡◌, ℕ, suc, ◌+◌, ◌-◌, ◌<◌, ◌≤◌, ◌^◌, Bool, true, false, cond, List, [], ◌∷◌, ◌++◌, length, Option, Some, None, Result, Ok, Err, refl, sym, ap, subst, ◌∙◌, arith}
-use Rattle.std.specs.Prelude.{nat_lt, replicate, IfSome}
+use Rattle.std.proofs.Common.{◌≡◌, ℕ, ◌+◌, ◌-◌, ◌<◌, ◌^◌, Bool, true, false, List, [], ◌∷◌, ◌++◌, Option, Some, None, Result, Ok, Err, refl, sym, ap, subst, ◌∙◌, arith}
+use Rattle.std.specs.Prelude.{nat_lt, IfSome}
 use Rattle.std.specs.List.{list_any}
 use Rattle.std.proofs.lemmas.Bool.{ltb-true}
 use Rattle.mls_wire.specs.Combine.{vector, optional}
@@ -12,20 +12,16 @@ use Rattle.mls_types.specs.declared.signed.SignedBody.{SignedBody}
 use Rattle.mls_types.specs.declared.signed.SignedBody.TheVariants as body_of
 use Rattle.mls_view.specs.Shown.{ShowsBodyTag}
 use denote.Ref.{Bor}
-use Rattle.mls_wire.specs.Checks.{Passed, require, ◌>>◌, Answers, DoesAs}
+use Rattle.mls_wire.specs.Checks.{DoesAs}
 use Rattle.mls_wire.specs.Reading.{◌>>=◌}
-use Rattle.mls_group.specs.GroupContext.{group_context}
 use Rattle.mls_suite.specs.Crypto.{Crypto}
 use Rattle.mls_term.specs.Sets.{has}
 use Rattle.mls_term.specs.Term.{Term}
-use Rattle.mls_term.specs.Way.{way}
-use Rattle.mls_paths.specs.Follow.{follow_edit}
-use Rattle.mls_paths.specs.Height.{HasFollowed, keys_on}
-use Rattle.mls_paths.specs.Open.{opened_path}
+use Rattle.mls_paths.specs.Height.{HasFollowed}
 use Rattle.mls_group.specs.declared.update_path.UpdatePath.{UpdatePath}
 use Rattle.mls_types.specs.declared.content.FramedContent.{FramedContent}
 use Rattle.mls_paths.specs.Keys.{Keys, PrivateKeys, all_keys}
-use Rattle.mls_paths.specs.Make.{Climb, climb_to}
+use Rattle.mls_paths.specs.Make.{climb_to}
 use Rattle.mls_types.specs.SignedParts.{framed}
 use Rattle.mls_types.specs.declared.commit.Commit.{Commit}
 use Rattle.mls_types.specs.declared.commit.ProposalOrRef.{ProposalOrRef}
@@ -35,7 +31,7 @@ use Rattle.mls_model.specs.declared.effect.Effect.TheVariants.{Removed}
 use Rattle.mls_model.specs.Public.{Used}
 use Rattle.mls_model.specs.Proposals.{removed}
 use Rattle.mls_model.specs.Commit.{Change, body}
-use Rattle.mls_model.specs.Member.{Member, used_by, named, first_own_key, with_keys, followed, above_leaf, of_leaf, left}
+use Rattle.mls_model.specs.Member.{Member, used_by, with_keys, followed, above_leaf, of_leaf, left}
 use Rattle.mls_model.specs.Messages.{sender_leaf}
 use Rattle.mls_model.specs.Verdict.{commit_verdict, climbed, entered}
 use Rattle.mls_member.specs.declared.error.Refusal.{Refusal}

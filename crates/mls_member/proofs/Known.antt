@@ -1,5 +1,5 @@
 -- What a proposal does, by its reference.
-use Rattle.std.proofs.Common.{◌≡◌, ℕ, Bool, true, false, List, Result, Ok, Err, refl, sym, subst}
+use Rattle.std.proofs.Common.{◌≡◌, ℕ, true, false, List, Result, Ok, refl, sym, subst}
 use Rattle.std.specs.Prelude.{is_some}
 use Rattle.mls_leaf.specs.declared.proposal.Proposal.{Proposal}
 use Rattle.mls_suite.specs.Crypto.{Crypto}

@@ -1,19 +1,17 @@
 -- The parts of a message are as short as an input.
-use Rattle.std.proofs.Common.{◌≡◌, ℕ, suc, ◌+◌, ◌<◌, ◌≤◌, ◌^◌, Bool, true, false, cond, ltb, List, [], ◌∷◌, ◌++◌, length, Option, Some, None, Result, Ok, Err, refl, sym, ap, subst, ◌∙◌, arith}
+use Rattle.std.proofs.Common.{◌≡◌, ℕ, ◌+◌, ◌≤◌, Bool, true, false, cond, List, ◌++◌, length, Option, Some, None, Result, Ok, Err, refl, sym, subst, arith}
 use Rattle.std.specs.Prelude.{IfSome, nat_lt}
-use Rattle.std.specs.List.{flat_map, AllByRecursion}
-use Rattle.std.specs.Int.{w8, w16}
+use Rattle.std.specs.Int.{w16}
 use Rattle.std.proofs.lemmas.Bool.{ltb-false}
 use Rattle.std.proofs.lemmas.List.{length-append}
-use Rattle.mls_wire.specs.Reading.{uint, header, opaque, ◌>>=◌}
+use Rattle.mls_wire.specs.Reading.{uint, header, opaque}
 use Rattle.mls_wire.specs.Combine.{vector, optional, byte_string, uint64}
 use Rattle.mls_wire.specs.Format.{Format, IsBytes}
-use Rattle.mls_leaf.specs.Faults.{Spells, whole}
+use Rattle.mls_leaf.specs.Faults.{whole}
 use Rattle.mls_leaf.specs.Limits.{input_limit}
 use Rattle.mls_leaf.specs.WholeLaws.{whole_takes}
-use Rattle.mls_leaf.specs.Leaf.{leaf_node}
 use Rattle.mls_leaf.specs.Proposal.{proposal as proposal_format}
-use Rattle.mls_group.specs.UpdatePath.{update_path, update_path_node, update_path_node_nonempty}
+use Rattle.mls_group.specs.UpdatePath.{update_path}
 use Rattle.mls_types.specs.Commit.{commit, proposal_or_ref, proposal_or_ref_nonempty}
 use Rattle.mls_types.specs.Content.{sender, content, framed_content}
 use Rattle.mls_types.specs.Message.{mls_message}
@@ -26,7 +24,6 @@ use Rattle.mls_types.specs.declared.content.Content.TheVariants as says
 use Rattle.mls_types.specs.declared.content.FramedContent.{FramedContent}
 use Rattle.mls_types.specs.declared.signed.SignedBody.{SignedBody}
 use Rattle.mls_types.specs.declared.signed.SignedBody.TheVariants as body_of
-use Rattle.mls_types.specs.declared.signed.SignedContent.{SignedContent}
 use Rattle.mls_types.specs.declared.message.MlsMessage.TheVariants as message_of
 use Rattle.mls_types.specs.declared.public_message.PublicMessage as messages
 use Rattle.mls_view.specs.declared.content.ContentView.{ContentView}

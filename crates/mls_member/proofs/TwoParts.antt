@@ -1,6 +1,5 @@
 -- The checks of every message, in two parts.
 use Rattle.std.proofs.Common.{◌≡◌, ℕ, Bool, true, false, List, Option, Some, None, Result, Ok, Err, refl}
-use Rattle.std.specs.Str.{bytes_eq}
 use Rattle.mls_wire.specs.Checks.{Passed, require, given, ◌>>◌}
 use Rattle.mls_wire.specs.Reading.{◌>>=◌}
 use Rattle.mls_leaf.specs.declared.leaf.LeafNode.{LeafNode}

@@ -1,5 +1,5 @@
 -- The parts of a verdict, in the order in which code goes over them.
-use Rattle.std.specs.Prelude.{ℕ, ◌==◌, nat_le, ◌≤◌, ◌<◌, ◌+◌, ◌^◌, Bool, true, false, not, ◌||◌, if◌then◌else◌, List, length, Option, Some, None, is_some, Result, Ok, Err, IfSome}
+use Rattle.std.specs.Prelude.{ℕ, ◌==◌, ◌≤◌, ◌^◌, Bool, true, false, not, ◌||◌, if◌then◌else◌, List, length, Option, Some, None, Result, Ok, IfSome}
 use Rattle.std.specs.List.{AllByRecursion, list_any}
 use Rattle.std.specs.Str.{bytes_eq}
 use Rattle.mls_wire.specs.Checks.{Passed, require, given, ◌>>◌}
@@ -20,16 +20,14 @@ use Rattle.mls_view.specs.declared.content.ContentView.TheVariants as view_of
 use Rattle.mls_view.specs.declared.public_message.PublicMessageView.{PublicMessageView}
 use Rattle.mls_suite.specs.Crypto.{Crypto}
 use Rattle.mls_term.specs.Term.{leaf_of}
-use Rattle.mls_term.specs.Sets.{has}
-use Rattle.mls_paths.specs.Make.{Climb}
 use Rattle.mls_paths.specs.Keys.{PrivateKeys}
 use Rattle.mls_schedule.specs.Epoch.{init_secret, next_epoch_secret, confirmation_tag}
 use Rattle.mls_model.specs.declared.effect.Effect.{Effect}
-use Rattle.mls_model.specs.declared.effect.Effect.TheVariants.{Proposed, Known, Advanced, Removed}
-use Rattle.mls_model.specs.Proposals.{proposal_checks, removed, remove_in}
+use Rattle.mls_model.specs.declared.effect.Effect.TheVariants.{Proposed, Advanced, Removed}
+use Rattle.mls_model.specs.Proposals.{proposal_checks, remove_in}
 use Rattle.mls_model.specs.Public.{Used}
 use Rattle.mls_model.specs.Commit.{Change, body, public_with}
-use Rattle.mls_model.specs.Member.{Kept, Member, kept_under, used_by, named, first_own_key, followed, keeping, advanced, left}
+use Rattle.mls_model.specs.Member.{Kept, Member, used_by, named, first_own_key, followed, keeping, advanced, left}
 use Rattle.mls_model.specs.Messages.{decoded, public_in, sender_leaf, is_handshake, is_content_signed, content_tag}
 use Rattle.mls_model.specs.Verdict.{is_kept, framing_checks, content_verdict, climbed, entered}
 use Rattle.mls_public_group.specs.Short.{IsBelow}

@@ -1,4 +1,4 @@
-use Rattle.std.proofs.Common.{sym, subst, List, ◌∷◌, ◌++◌, drop, ◌+◌}
+use Rattle.std.proofs.Common.{sym, subst, List, drop, ◌+◌}
 use Rattle.mls_model.specs.Public.{Used}
 use Rattle.mls_member.proofs.Uses.{AreUsed, used_wider, used_step, used_stops, used_end}
 use Rattle.mls_member.proofs.used.used_by.Goals as goal

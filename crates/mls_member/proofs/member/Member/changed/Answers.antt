@@ -1,4 +1,4 @@
-use Rattle.std.proofs.Common.{arith, ◌≤◌, ◌^◌}
+use Rattle.std.proofs.Common.{arith, ◌^◌}
 use Rattle.mls_member.proofs.member.Member.changed.Goals as goal
 
 pub returns-clause-leaves : goal.returns-clause-leaves

@@ -1,6 +1,4 @@
-use Rattle.std.proofs.Common.{rules, ◌≡◌, ℕ, Result, sym, subst}
-use Rattle.mls_wire.specs.Checks.{Answers, Passed, passed}
-use Rattle.mls_member.specs.Faults.{number_of}
+use Rattle.std.proofs.Common.{rules}
 use Rattle.mls_member.proofs.TwoParts.{fails_first, goes_on}
 use Rattle.mls_member.proofs.member.Member.framing_checks.Goals as goal
 
