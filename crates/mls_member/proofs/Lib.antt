@@ -5,5 +5,4 @@ pub mod Known
 pub mod Uses
 pub mod CommitLengths
 pub mod CommitSteps
-mod First
-mod Short
+pub mod First

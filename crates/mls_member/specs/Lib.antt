@@ -2,6 +2,5 @@ pub mod Faults
 pub mod Codes
 pub mod Answers
 pub mod Process
-pub mod Sending
-pub mod Lengths
-pub mod Refused
+pub mod Limits
+pub mod First

@@ -54,7 +54,7 @@ pub(crate) struct Reached {
 }
 
 /// The spelling of a context.
-fn spelling(alloc: Global, context: &GroupContext) -> Result<Vec<u8>, Refusal>
+pub(crate) fn spelling(alloc: Global, context: &GroupContext) -> Result<Vec<u8>, Refusal>
     requires { IsShortContext context.now }
     ensures spelled { IfOk result (λ v. v.items ≡ group_context.spell context.now) }
     ensures short { IfOk result (λ v. length v.items < 2 ^ 30) }

@@ -1,19 +1,25 @@
 //! Creating a group.
 
-ghost use Rattle.std.specs.Prelude.{◌≡◌, IfOk};
-ghost use Rattle.mls_wire.specs.Checks.{Answers};
+ghost use Rattle.std.specs.Prelude.{◌≡◌, ◌≤◌, ◌^◌, Some, length, IfOk};
+ghost use Rattle.mls_leaf.specs.Leaf.{leaf_node};
+ghost use Rattle.mls_public_group.specs.Short.{IsBelow, HasLeavesBelow, IsShortContext};
+ghost use Rattle.mls_member.specs.First.{first_public};
+ghost use Rattle.mls_wire.specs.Checks.{Answers, AnswersOutright, passed};
+ghost use Rattle.mls_wire.specs.Format.{IsBytes};
+ghost use Rattle.mls_model.specs.Messages.{is_within_limit};
 ghost use Rattle.mls_tree.specs.Tree.{term};
-ghost use Rattle.mls_term.specs.Hashes.{tree_hash};
+ghost use Rattle.mls_leaf.specs.Limits.{input_limit};
+ghost use Rattle.mls_term.specs.Term.{Leaf};
 ghost use Rattle.mls_model.specs.Candidate.{first_context, created};
 ghost use Rattle.mls_member.specs.Faults.{number_of};
 
+use crate::advance::spelling;
 use crate::error::Refusal;
 use crate::member::Member;
-use crate::texts::{know_leaf, require_within_limit};
 use mls_candidate::Candidate;
 use mls_group::GroupContext;
 use mls_kdf::Seed;
-use mls_leaf::{Bytes, Codec, INPUT_LIMIT, LeafError};
+use mls_leaf::{Bytes, INPUT_LIMIT, LeafError, LeafNode};
 use mls_public_group::PublicGroup;
 use mls_schedule::{Epoch, Transcript};
 use mls_suite::{OutOfMemory, Suite};
@@ -22,6 +28,23 @@ use mls_treekem::PrivatePath;
 use mls_wire::WireError;
 use std::alloc::Global;
 use std::marker::PhantomData;
+
+/// Entries of a slice are bytes.
+fn know_bytes(bytes: &[u8])
+    ensures { IsBytes bytes.now }
+{}
+
+/// 6 where what was made is larger than a message may be.
+#[tactic(auto, unfolding(mls_model::specs::Messages::is_within_limit))]
+fn require_within_limit(bytes: &[u8]) -> Result<(), Refusal>
+    ensures { AnswersOutright (λ _. passed) number_of (is_within_limit bytes.now) result }
+{
+    know_bytes(bytes);
+    if bytes.len() > INPUT_LIMIT {
+        return Err(Refusal::Leaf(LeafError::Wire(WireError::TooLong)));
+    }
+    Ok(())
+}
 
 /// The context of epoch 0 with this tree (RFC 9420, 11).
 #[tactic(auto, unfolding(mls_model::specs::Candidate::first_context))]
@@ -43,9 +66,51 @@ fn first_context<S: Suite>(
     })
 }
 
+/// The tree of epoch 0 with its context.
+#[tactic(auto, using(crate::proofs::First::first_short, crate::proofs::First::leaf_below))]
+fn first_parts<S: Suite>(
+    alloc: Global,
+    leaf: &LeafNode,
+    group_id: &[u8],
+) -> Result<(PublicTree, GroupContext), OutOfMemory>
+    requires leaf { IsBelow (2 ^ 27) leaf_node leaf.now }
+    requires group { length group_id.now ≤ input_limit }
+    ensures tree { IfOk result (λ p. term p.0 ≡ Leaf (Some leaf.now)) }
+    ensures context { IfOk result (λ p. p.1 ≡ first_context S.crypto group_id.now (Leaf (Some leaf.now))) }
+    ensures short { IfOk result (λ p. IsShortContext p.1) }
+    ensures below { IfOk result (λ p. HasLeavesBelow (2 ^ 27) (term p.0)) }
+{
+    let mut tree = PublicTree::single(alloc, leaf.clone()?)?;
+    let context = first_context::<S>(alloc, group_id, &mut tree)?;
+    Ok((tree, context))
+}
+
+/// The public state of epoch 0, or 6 where its context is too long.
+#[tactic(auto, using(crate::proofs::First::public_refused, crate::proofs::First::public_made, crate::proofs::First::public_long))]
+fn first_group<S: Suite>(
+    alloc: Global,
+    leaf: &LeafNode,
+    group_id: &[u8],
+    epoch: &Epoch,
+) -> Result<PublicGroup, Refusal>
+    requires { IsBelow (2 ^ 27) leaf_node leaf.now }
+    ensures { Answers (λ g. g) number_of (first_public S.crypto leaf.now group_id.now epoch.now) result }
+{
+    // The context is longer than this.
+    if group_id.len() > INPUT_LIMIT {
+        return Err(Refusal::Leaf(LeafError::Wire(WireError::TooLong)));
+    }
+    let (tree, context) = first_parts::<S>(alloc, leaf, group_id)?;
+    let bytes = spelling(alloc, &context)?;
+    require_within_limit(&bytes)?;
+    let transcript = Transcript::first(&epoch.confirmation_tag(&[]));
+    let group = PublicGroup::new(alloc, context, tree, transcript)?;
+    Ok(group)
+}
+
 impl<S: Suite> Member<S> {
     /// The group of a candidate alone, whose epoch secret is the seed: 6 where its GroupContext is too long (RFC 9420, 11).
-    #[tactic(auto, unfolding(mls_model::specs::Candidate::created))]
+    #[tactic(auto, using(crate::proofs::First::created_made, crate::proofs::First::created_refused))]
     pub fn create(
         alloc: Global,
         candidate: &Candidate<S>,
@@ -54,19 +119,11 @@ impl<S: Suite> Member<S> {
     ) -> Result<Member<S>, Refusal>
         ensures { Answers (λ m. m) number_of (created S.crypto candidate.now group_id.now seed.now) result }
     {
-        // The context is longer than this.
-        if group_id.len() > INPUT_LIMIT {
-            return Err(Refusal::Leaf(LeafError::Wire(WireError::TooLong)));
-        }
-        let leaf = &candidate.key_package().leaf_node;
-        know_leaf(alloc, leaf)?;
-        let mut tree = PublicTree::single(alloc, leaf.clone()?)?;
-        let context = first_context::<S>(alloc, group_id, &mut tree)?;
-        let bytes = context.encode(alloc)?;
-        require_within_limit(&bytes)?;
         let epoch = Epoch::first(seed);
-        let transcript = Transcript::first(&epoch.confirmation_tag(&[]));
-        let group = PublicGroup::new(alloc, context, tree, transcript)?;
+        let group = match first_group::<S>(alloc, candidate.leaf_node(), group_id, &epoch) {
+            Ok(group) => group,
+            Err(error) => return Err(error),
+        };
         Ok(Member {
             gone: false,
             group,

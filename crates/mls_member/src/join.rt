@@ -1,6 +1,8 @@
 //! Joining a group.
 
 ghost use Rattle.mls_wire.specs.Checks.{Answers};
+ghost use Rattle.mls_tree.specs.Refusals.{RefusesOutright};
+ghost use Rattle.mls_join.specs.Entrance.{outer_checks};
 ghost use Rattle.mls_model.specs.Join.{join_verdict};
 ghost use Rattle.mls_member.specs.Answers.{joined_as};
 ghost use Rattle.mls_member.specs.Faults.{number_of};
@@ -30,6 +32,8 @@ impl<S: Suite> Member<S> {
         bytes: &[u8],
     ) -> Result<Joined<S>, Refusal>
         ensures answer { Answers joined_as number_of (join_verdict S.crypto candidate.now bytes.now) result }
+        // Decoding and 70 come whatever memory there is.
+        ensures outright { RefusesOutright number_of (outer_checks bytes.now) result }
     {
         let Entrance {
             group,

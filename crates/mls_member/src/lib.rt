@@ -6,16 +6,12 @@ mod create;
 mod error;
 mod framing;
 mod join;
-mod keeping;
 mod kept;
 mod member;
 mod process;
 mod proposals;
-mod propose;
 mod received;
 mod used;
-mod sending;
-mod texts;
 
 pub use error::Refusal;
 pub use join::Joined;

@@ -9,7 +9,7 @@ ghost use Rattle.mls_term.specs.Arrays.{to_nodes};
 ghost use Rattle.mls_paths.specs.Height.{ArePairs};
 ghost use Rattle.mls_model.specs.Member as model;
 
-use crate::keeping::kept_under;
+use crate::used::kept_under;
 use crate::kept::{Kept, Pending};
 use mls_group::RatchetTree;
 use mls_kdf::Secret;
