@@ -9,8 +9,8 @@ ghost use Rattle.mls_term.specs.Arrays.{to_nodes};
 ghost use Rattle.mls_paths.specs.Height.{ArePairs};
 ghost use Rattle.mls_model.specs.Member as model;
 
-use crate::used::kept_under;
 use crate::kept::{Kept, Pending};
+use crate::used::kept_under;
 use mls_group::RatchetTree;
 use mls_kdf::Secret;
 use mls_leaf::{Codec, LeafError};
