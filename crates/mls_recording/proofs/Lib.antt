@@ -1,0 +1,3 @@
+mod SameCalls
+mod SameSources
+mod Steps
