@@ -1,0 +1,7 @@
+use Rattle.std.proofs.Common.{refl}
+use Rattle.mls_wire.specs.Reading.{uint}
+use Rattle.mls_message.proofs.framed.to_be_signed.Goals as goal
+
+pub returns : goal.returns
+unfolding uint
+returns c = rw (c.in_ok-extend_from_slice-3.ensures.items, c.in_ok-extend_from_slice-2.ensures.items, c.in_ok-extend_from_slice.ensures.items, c.new-text.ensures.items) refl

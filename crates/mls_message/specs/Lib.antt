@@ -1,0 +1,3 @@
+pub mod Speaks
+pub mod Sending
+pub mod Pieces

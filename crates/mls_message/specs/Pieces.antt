@@ -1,0 +1,38 @@
+-- Of what pieces a member's message is spelled and signed.
+use Rattle.std.specs.Prelude.{◌≡◌, ◌≢◌, ℕ, ◌+◌, ◌<◌, ◌≤◌, List, ◌++◌, length, Err}
+use Rattle.std.specs.Int.{w16}
+use Rattle.mls_wire.specs.Reading.{uint}
+use Rattle.mls_leaf.specs.Faults.{number_of}
+use Rattle.mls_leaf.specs.Limits.{input_limit}
+use Rattle.mls_leaf.specs.declared.error.LeafError.{LeafError}
+use Rattle.mls_types.specs.Signed.{signed_content}
+use Rattle.mls_types.specs.declared.signed.SignedContent.{SignedContent}
+use Rattle.mls_model.specs.Member.{Member}
+use Rattle.mls_model.specs.Messages.{sent_by}
+use Rattle.mls_message.specs.Sending.{limited}
+
+-- the text is larger than a message may be, and refused with 6, memory aside
+abbrev pub IsLong : List ℕ → LeafError → Type 0
+IsLong text e = number_of e ≢ 1 → (number_of e ≡ 6) × (input_limit < length text)
+
+-- FramedContentTBS (RFC 9420, 6.1): version 1, wire format 1, the spellings of the FramedContent and of the GroupContext
+abbrev pub signed_pieces : List ℕ → List ℕ → List ℕ
+signed_pieces said context = uint w16 1 ++ uint w16 1 ++ said ++ context
+
+-- the message of a signed content up to its membership tag (RFC 9420, 6 and 6.2): version 1, wire format 1, the content
+abbrev pub untagged : SignedContent → List ℕ
+untagged v = uint w16 1 ++ (uint w16 1 ++ signed_content.spell v)
+
+-- how many bytes are behind them: membership_tag<V>, a header of one byte and 32 bytes; TAG_LENGTH in the code
+abbrev pub tag_length : ℕ
+tag_length = 33
+
+-- the text is the message of a content up to its membership tag, which there is room for in a message
+pub record IsUntagged (v : SignedContent) (text : List ℕ) : Type 0 where
+  pub fits : signed_content.Fits v
+  pub spelled : text ≡ untagged v
+  pub room : length text + tag_length ≤ input_limit
+
+-- each member's message of the content is refused with this number, memory aside
+abbrev pub IsTooLarge : SignedContent → LeafError → Type 0
+IsTooLarge v e = number_of e ≢ 1 → (m : Member) → limited (sent_by m v) ≡ Err (number_of e)

@@ -1,0 +1,49 @@
+//! How long texts are.
+
+ghost use Rattle.std.specs.Prelude.{◌≡◌, ◌+◌, ◌<◌, ◌≤◌, ◌^◌, length, MatchResult};
+ghost use Rattle.mls_wire.specs.Format.{IsBytes};
+ghost use Rattle.mls_wire.specs.Reading.{opaque};
+ghost use Rattle.mls_leaf.specs.Faults.{Spells, number_of};
+ghost use Rattle.mls_leaf.specs.Limits.{input_limit};
+ghost use Rattle.mls_message.specs.Pieces.{IsLong};
+ghost use Rattle.mls_message.specs.Sending.{FitsIfShort};
+
+use mls_kdf::content_header;
+use mls_leaf::{Codec, INPUT_LIMIT, LeafError};
+use mls_wire::WireError;
+use std::alloc::Global;
+
+/// A law: entries of a slice are bytes.
+pub(crate) fn know_bytes(bytes: &[u8])
+    ensures { IsBytes bytes.now }
+{}
+
+/// 6 where a text with so many bytes more behind it is larger than a message may be.
+pub(crate) fn require_room(text: &[u8], more: usize) -> Result<(), LeafError>
+    requires { more ≤ input_limit }
+    ensures { MatchResult result (λ _. length text.now + more ≤ input_limit) (λ e. (number_of e ≡ 6) × (input_limit < length text.now + more)) }
+{
+    if text.len() > INPUT_LIMIT - more {
+        return Err(LeafError::Wire(WireError::TooLong));
+    }
+    Ok(())
+}
+
+/// The spelling of a value whose numbers are in range: 6 where it alone is larger than a message may be.
+pub(crate) fn limited_spelling<T: Codec>(alloc: Global, value: &T) -> Result<Vec<u8>, LeafError>
+    requires { FitsIfShort T.format value.now }
+    ensures { MatchResult result (λ v. Spells T.format value.now v.items × (length v.items ≤ input_limit)) (IsLong (T.format.spell value.now)) }
+{
+    let bytes = value.encode(alloc)?;
+    require_room(&bytes, 0)?;
+    Ok(bytes)
+}
+
+/// How many bytes a vector with this content has (RFC 9420, 2.1.2).
+pub(crate) fn vector_length(content: &[u8]) -> usize
+    requires { length content.now < 2 ^ 30 }
+    ensures length { result ≡ length (opaque content.now) }
+    ensures short { result ≤ 2 ^ 30 + 4 }
+{
+    content_header(content.len()).as_slice().len() + content.len()
+}
