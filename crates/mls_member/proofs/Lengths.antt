@@ -30,7 +30,7 @@ use Rattle.mls_view.specs.declared.content.ContentView.{ContentView}
 use Rattle.mls_view.specs.declared.content.ContentView.TheVariants as view_of
 use Rattle.mls_view.specs.declared.public_message.PublicMessageView.{PublicMessageView}
 use Rattle.mls_view.specs.Shown.{ShowsPublic, ShowsContent, ShowsBodyTag}
-use Rattle.mls_member.specs.Process.{IsShortView, IsShortContent}
+use Rattle.mls_member.specs.Process.{IsShown, IsShortView, IsShortContent}
 use denote.Ref.{Bor}
 
 -- ---- lists
@@ -78,11 +78,11 @@ fifth : (a b d e k : List ℕ) (n : ℕ) → length (a ++ (b ++ (d ++ (e ++ k)))
 fifth a b d e k n h = back e k n (back d (e ++ k) n (back b (d ++ (e ++ k)) n (back a (b ++ (d ++ (e ++ k))) n h)))
 
 -- the content stands at the end of a FramedContent
-content_inside : (v : FramedContent) (n : ℕ) → length (framed_content.spell v) ≤ n → length (content.spell v.content) ≤ n
+pub content_inside : (v : FramedContent) (n : ℕ) → length (framed_content.spell v) ≤ n → length (content.spell v.content) ≤ n
 unfolding framed_content
 content_inside v n h = fifth (byte_string.spell v.group_id) (uint64.spell v.epoch) (sender.spell v.sender) (byte_string.spell v.authenticated_data) (content.spell v.content) n h
 
-proposal_inside : (p : _) (n : ℕ) → length (content.spell (says.Proposal p)) ≤ n → length (proposal_format.spell p) ≤ n
+pub proposal_inside : (p : _) (n : ℕ) → length (content.spell (says.Proposal p)) ≤ n → length (proposal_format.spell p) ≤ n
 unfolding content
 proposal_inside p n h = back _ (proposal_format.spell p) n h
 
@@ -118,6 +118,10 @@ short_tag (Some t) (body_of.Application text) shows h = absurd shows
 short_tag (Some t) (body_of.Proposal p) shows h = absurd shows
 short_tag (Some t) (body_of.Commit k tag) shows h = subst (λ (l : List ℕ). length l ≤ input_limit) (sym shows) (inside tag input_limit h)
 
+is_shown : (view : PublicMessageView) (shown : messages.PublicMessage) → ShowsPublic view shown → IsShown view
+unfolding IsShown
+is_shown view shown shows = (shown, shows)
+
 -- the parts of a view of a short message
 pub short_view : (view : PublicMessageView) (shown : messages.PublicMessage) → ShowsPublic view shown → length (mls_message.spell (message_of.PublicMessage shown)) ≤ input_limit → IsShortView view
 short_view view shown shows h =
@@ -125,6 +129,7 @@ short_view view shown shows h =
     let said : length (framed_content.spell (framed shown.content)) ≤ input_limit = front _ (auth_data shown.content) input_limit all in
     let auth : length (auth_data shown.content) ≤ input_limit = back (framed_content.spell (framed shown.content)) _ input_limit all in
     record {
+      shown = is_shown view shown shows;
       said = subst (λ (l : List ℕ). length l ≤ input_limit) (sym shows.framed_content) said;
       auth = subst (λ (l : List ℕ). length l ≤ input_limit) (sym shows.auth_data) auth;
       signature = subst (λ (l : List ℕ). length l ≤ input_limit) (sym shows.signature) (inside shown.content.signature input_limit (front (opaque shown.content.signature) _ input_limit auth));

@@ -4,5 +4,10 @@ pub mod TwoParts
 pub mod Known
 pub mod Uses
 pub mod CommitLengths
+pub mod SignedLengths
 pub mod CommitSteps
 pub mod First
+pub mod Own
+pub mod Taken
+pub mod Keeps
+pub mod Commits

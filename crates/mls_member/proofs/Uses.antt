@@ -21,14 +21,14 @@ pub record AreUsed (kept : List Kept) (committer : ℕ) (list rest : List Propos
   pub below : AreBelow (2 ^ 27) used
   pub short : AllByRecursion (IsListedBelow (2 ^ 27)) rest
 
-abbrev all_ok : List Used → Result (List Used) ℕ
+abbrev pub all_ok : List Used → Result (List Used) ℕ
 all_ok us = Ok us
 
-nothing_first : (r : Result (List Used) ℕ) → with_rest [] r ≡ r
+pub nothing_first : (r : Result (List Used) ℕ) → with_rest [] r ≡ r
 nothing_first (Ok us) = refl
 nothing_first (Err n) = refl
 
-one_more : (used : List Used) (u : Used) (r : Result (List Used) ℕ) → with_rest used (r >>= λ us. Ok (u ∷ us)) ≡ with_rest (used ++ u ∷ []) r
+pub one_more : (used : List Used) (u : Used) (r : Result (List Used) ℕ) → with_rest used (r >>= λ us. Ok (u ∷ us)) ≡ with_rest (used ++ u ∷ []) r
 one_more used u (Ok us) = ap (λ (l : List Used). all_ok l) (sym (append_assoc used (u ∷ []) us))
 one_more used u (Err n) = refl
 
@@ -64,7 +64,7 @@ used_wider (u ∷ us) h = (record { fits = h.0.fits; below = omega (arith, h.0.b
 -- ---- lists
 
 -- what is left from a place on
-left_from : {X : Type 0} (xs : List X) (i : ℕ) (x : X) → i < length xs → x ≡ get_or xs i x → drop i xs ≡ x ∷ drop (i + 1) xs
+pub left_from : {X : Type 0} (xs : List X) (i : ℕ) (x : X) → i < length xs → x ≡ get_or xs i x → drop i xs ≡ x ∷ drop (i + 1) xs
 left_from xs i x lt e = rw (add-one i) (drop-cons xs i x lt ∙ ap (λ y. y ∷ drop (suc i) xs) (sym e))
 
 pub used_step : (kept : List Kept) (committer : ℕ) (list : List ProposalOrRef) (i : ℕ) (x : ProposalOrRef) (used : List Used) (u : Used) → i < length list → x ≡ get_or list i x → AreUsed kept committer list (drop i list) used

@@ -6,8 +6,9 @@ use Rattle.mls_commit.specs.Faults.{number_of as number_of_commit, name_of as na
 use Rattle.mls_treekem.specs.Faults.{number_of as number_of_keys, name_of as name_of_keys}
 use Rattle.mls_candidate.specs.Faults.{number_of as number_of_candidate, name_of as name_of_candidate}
 use Rattle.mls_join.specs.Faults.{number_of as number_of_join, name_of as name_of_join}
+use Rattle.mls_make.specs.Faults.{number_of as number_of_make, name_of as name_of_make}
 use Rattle.mls_member.specs.declared.error.Refusal.{Refusal}
-use Rattle.mls_member.specs.declared.error.Refusal.TheVariants.{Leaf, Group, Commit, Keys, Candidate, Join, Gone, NotPublicMessage, WrongGroup, WrongEpoch, SenderNotMember, NotHandshake, BadMembershipTag, BadSignature, OwnUnknown, ReferenceTaken, UnknownReference, BadConfirmationTag, EpochEnd}
+use Rattle.mls_member.specs.declared.error.Refusal.TheVariants.{Leaf, Group, Commit, Keys, Candidate, Join, Make, Gone, NotPublicMessage, WrongGroup, WrongEpoch, SenderNotMember, NotHandshake, BadMembershipTag, BadSignature, OwnUnknown, ReferenceTaken, UnknownReference, BadConfirmationTag, EpochEnd, PendingCommit}
 
 -- the number that the program answers
 abbrev pub number_of : Refusal → ℕ
@@ -17,6 +18,7 @@ number_of (Commit e) = number_of_commit e
 number_of (Keys e) = number_of_keys e
 number_of (Candidate e) = number_of_candidate e
 number_of (Join e) = number_of_join e
+number_of (Make e) = number_of_make e
 number_of Gone = 40
 number_of NotPublicMessage = 41
 number_of WrongGroup = 42
@@ -30,6 +32,7 @@ number_of ReferenceTaken = 49
 number_of UnknownReference = 60
 number_of BadConfirmationTag = 65
 number_of EpochEnd = 66
+number_of PendingCommit = 67
 
 -- the name, as it is printed
 abbrev pub name_of : Refusal → List ℕ
@@ -39,6 +42,7 @@ name_of (Commit e) = name_of_commit e
 name_of (Keys e) = name_of_keys e
 name_of (Candidate e) = name_of_candidate e
 name_of (Join e) = name_of_join e
+name_of (Make e) = name_of_make e
 name_of Gone = codes "Gone"
 name_of NotPublicMessage = codes "NotPublicMessage"
 name_of WrongGroup = codes "WrongGroup"
@@ -52,3 +56,4 @@ name_of ReferenceTaken = codes "ReferenceTaken"
 name_of UnknownReference = codes "UnknownReference"
 name_of BadConfirmationTag = codes "BadConfirmationTag"
 name_of EpochEnd = codes "EpochEnd"
+name_of PendingCommit = codes "PendingCommit"

@@ -4,3 +4,5 @@ pub mod Answers
 pub mod Process
 pub mod Limits
 pub mod First
+pub mod Proposing
+pub mod Committing

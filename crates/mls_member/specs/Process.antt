@@ -18,6 +18,7 @@ use Rattle.mls_types.specs.declared.public_message.PublicMessage.{PublicMessage}
 use Rattle.mls_view.specs.declared.content.ContentView.{ContentView}
 use Rattle.mls_view.specs.declared.content.ContentView.TheVariants as view_of
 use Rattle.mls_view.specs.declared.public_message.PublicMessageView.{PublicMessageView}
+use Rattle.mls_view.specs.Shown.{ShowsPublic}
 use Rattle.mls_suite.specs.Crypto.{Crypto}
 use Rattle.mls_term.specs.Term.{leaf_of}
 use Rattle.mls_paths.specs.Keys.{PrivateKeys}
@@ -130,8 +131,13 @@ IsShortContent (view_of.Application text) = Unit {0}
 IsShortContent (view_of.Proposal part) = length part ≤ input_limit
 IsShortContent (view_of.Commit proposals path) = (length proposals ≤ input_limit) × (length path ≤ input_limit)
 
+-- a message is shown
+unfoldable pub IsShown : PublicMessageView → Type 0
+IsShown view = (shown : PublicMessage) × ShowsPublic view shown
+
 -- so have the parts of a message
 pub record IsShortView (view : PublicMessageView) : Type 0 where
+  pub shown : IsShown view
   pub said : length view.framed_content.now ≤ input_limit
   pub auth : length view.auth_data.now ≤ input_limit
   pub signature : length view.auth.signature.now ≤ input_limit

@@ -221,7 +221,7 @@ impl<S: Suite> Member<S> {
     }
 
     /// Whether an epoch can come after this.
-    fn has_next(&self) -> bool
+    pub(crate) fn has_next(&self) -> bool
         ensures { result ≡ nat_lt self.now.public.context.epoch (2 ^ 64 - 1) }
     {
         self.group.context().epoch < u64::MAX

@@ -2,7 +2,7 @@
 
 ghost use Rattle.std.specs.Prelude.{◌≡◌};
 ghost use Rattle.mls_member.specs.Faults.{number_of, name_of};
-ghost use Rattle.mls_member.specs.declared.error.Refusal.TheVariants.{Leaf as in_leaf, Group as in_group, Commit as in_commit, Keys as in_keys, Candidate as in_candidate, Join as in_join};
+ghost use Rattle.mls_member.specs.declared.error.Refusal.TheVariants.{Leaf as in_leaf, Group as in_group, Commit as in_commit, Keys as in_keys, Candidate as in_candidate, Join as in_join, Make as in_make};
 ghost use Rattle.mls_wire.specs.declared.WireError.TheVariants.{OutOfMemory};
 ghost use Rattle.mls_leaf.specs.declared.error.LeafError.TheVariants.{Wire as in_wire};
 
@@ -10,6 +10,7 @@ use mls_candidate::CandidateError;
 use mls_commit::CommitError;
 use mls_join::JoinError;
 use mls_leaf::LeafError;
+use mls_make::MakeError;
 use mls_public_group::GroupError;
 use mls_treekem::TreeKemError;
 use mls_wire::WireError;
@@ -37,6 +38,9 @@ pub enum Refusal {
     /// A Welcome isn't followed.
     #[error("{0}")]
     Join(JoinError),
+    /// A commit isn't made.
+    #[error("{0}")]
+    Make(MakeError),
     /// The member was removed.
     #[error("the member was removed")]
     Gone,
@@ -76,6 +80,9 @@ pub enum Refusal {
     /// No epoch comes after this one.
     #[error("no epoch comes after this one")]
     EpochEnd,
+    /// The member has a pending commit.
+    #[error("a commit is pending")]
+    PendingCommit,
 }
 
 impl From<LeafError> for Refusal {
@@ -126,6 +133,14 @@ impl From<JoinError> for Refusal {
     }
 }
 
+impl From<MakeError> for Refusal {
+    ghost from_gives = { λ e r. r ≡ in_make e };
+
+    fn from(error: MakeError) -> Refusal {
+        Refusal::Make(error)
+    }
+}
+
 impl From<AllocError> for Refusal {
     ghost from_gives = { λ _ r. r ≡ in_leaf (in_wire OutOfMemory) };
 
@@ -154,6 +169,7 @@ impl Refusal {
             Refusal::Keys(error) => error.number(),
             Refusal::Candidate(error) => error.number(),
             Refusal::Join(error) => error.number(),
+            Refusal::Make(error) => error.number(),
             Refusal::Gone => 40,
             Refusal::NotPublicMessage => 41,
             Refusal::WrongGroup => 42,
@@ -167,6 +183,7 @@ impl Refusal {
             Refusal::UnknownReference => 60,
             Refusal::BadConfirmationTag => 65,
             Refusal::EpochEnd => 66,
+            Refusal::PendingCommit => 67,
         }
     }
 
@@ -181,6 +198,7 @@ impl Refusal {
             Refusal::Keys(error) => error.name(),
             Refusal::Candidate(error) => error.name(),
             Refusal::Join(error) => error.name(),
+            Refusal::Make(error) => error.name(),
             Refusal::Gone => "Gone",
             Refusal::NotPublicMessage => "NotPublicMessage",
             Refusal::WrongGroup => "WrongGroup",
@@ -194,6 +212,7 @@ impl Refusal {
             Refusal::UnknownReference => "UnknownReference",
             Refusal::BadConfirmationTag => "BadConfirmationTag",
             Refusal::EpochEnd => "EpochEnd",
+            Refusal::PendingCommit => "PendingCommit",
         }
     }
 }

@@ -1,20 +1,15 @@
 //! The checks of every message (RFC 9420, 6).
 
-ghost use Rattle.std.specs.Prelude.{◌≡◌, ◌<◌, ◌^◌, length, IfOk};
+ghost use Rattle.std.specs.Prelude.{◌≡◌, IfOk};
 ghost use Rattle.std.specs.Str.{bytes_eq};
 ghost use Rattle.mls_wire.specs.Checks.{Answers, AnswersOutright, passed};
 ghost use Rattle.mls_tree.specs.Refusals.{RefusesOutright};
 ghost use Rattle.mls_model.specs.Messages.{sender_leaf, is_content_signed, content_tag};
 ghost use Rattle.mls_model.specs.Verdict.{is_kept, framing_checks};
-ghost use Rattle.mls_group.specs.GroupContext.{group_context};
-ghost use Rattle.mls_group.specs.declared.group_context.GroupContext as contexts;
-ghost use Rattle.mls_types.specs.SignedParts.{framed};
-ghost use Rattle.mls_types.specs.Signing.{framed_content_tbs};
 ghost use Rattle.mls_types.specs.declared.public_message.PublicMessage as messages;
-ghost use Rattle.mls_types.specs.declared.public_message.WireFormat.TheVariants.{PublicMessage as public_format};
 ghost use Rattle.mls_view.specs.Shown.{ShowsPublic};
 ghost use Rattle.mls_member.specs.Faults.{number_of};
-ghost use Rattle.mls_member.specs.Process.{sender_at, sender_of, vouched, says_handshake};
+ghost use Rattle.mls_member.specs.Process.{sender_at, sender_of, vouched, says_handshake, IsShortView};
 
 use crate::error::Refusal;
 use crate::kept::Kept;
@@ -23,7 +18,7 @@ use mls_leaf::LeafNode;
 use mls_suite::{Suite, verify_with_label};
 use mls_types::Sender;
 use mls_view::{ContentView, PublicMessageView};
-use std::alloc::{AllocError, Global};
+use std::alloc::AllocError;
 
 /// The leaf of a sender (RFC 9420, 6).
 pub(crate) fn sender_leaf(sender: &Sender) -> u32
@@ -50,23 +45,6 @@ fn is_kept(kept: &[Kept], bytes: &[u8]) -> bool
     ensures { result ≡ is_kept kept.now bytes.now }
 {
     kept.iter().any(|k| k.message.as_slice() == bytes)
-}
-
-/// What the sender signed (RFC 9420, 6.1). A spelling of 2^30 bytes is too much for memory.
-fn signed_input(
-    alloc: Global,
-    view: &PublicMessageView<'_>,
-    context: &[u8],
-) -> Result<Vec<u8>, AllocError>
-    ensures input { IfOk result (λ v. (shown : messages.PublicMessage) (group : contexts.GroupContext) → ShowsPublic view.now shown → context.now ≡ group_context.spell group
-        → v.items ≡ framed_content_tbs public_format (framed shown.content) group) }
-    ensures short { IfOk result (λ v. length v.items < 2 ^ 30) }
-{
-    let bytes = view.to_be_signed(alloc, context)?;
-    if bytes.len() >= 1 << 30 {
-        return Err(AllocError);
-    }
-    Ok(bytes)
 }
 
 impl<S: Suite> Member<S> {
@@ -123,9 +101,11 @@ impl<S: Suite> Member<S> {
     /// Whether the signature is that of a signature key (RFC 9420, 6.1).
     #[tactic(auto, unfolding(mls_model::specs::Messages::is_content_signed))]
     fn is_signed(&self, view: &PublicMessageView<'_>, key: &[u8]) -> Result<bool, AllocError>
+        requires { IsShortView view.now }
         ensures { IfOk result (λ b. (shown : messages.PublicMessage) → ShowsPublic view.now shown → b ≡ is_content_signed S.crypto key.now shown.content self.now.public.context) }
     {
-        let input = signed_input(self.alloc, view, self.group.context_bytes())?;
+        self.group.is_short();
+        let input = view.to_be_signed(self.alloc, self.group.context_bytes())?;
         let signature = view.auth.signature;
         verify_with_label::<S>(self.alloc, key, "FramedContentTBS", &input, signature)
     }
@@ -138,6 +118,7 @@ impl<S: Suite> Member<S> {
         bytes: &[u8],
         leaf: &LeafNode,
     ) -> Result<(), Refusal>
+        requires { IsShortView view.now }
         ensures { (shown : messages.PublicMessage) → ShowsPublic view.now shown → Answers (λ _. passed) number_of (vouched S.crypto self.now shown bytes.now leaf.now) result }
     {
         if !self.has_tag(view) {
@@ -160,6 +141,7 @@ impl<S: Suite> Member<S> {
         view: &PublicMessageView<'_>,
         bytes: &[u8],
     ) -> Result<(), Refusal>
+        requires { IsShortView view.now }
         ensures answer { (shown : messages.PublicMessage) → ShowsPublic view.now shown → Answers (λ _. passed) number_of (framing_checks S.crypto self.now shown bytes.now) result }
         // 42 to 45 come whatever memory there is.
         ensures outright { (shown : messages.PublicMessage) → ShowsPublic view.now shown → RefusesOutright number_of (sender_of self.now shown) result }

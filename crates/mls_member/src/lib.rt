@@ -2,19 +2,26 @@
 #![tactic(auto)]
 
 mod advance;
+mod commit;
 mod create;
 mod error;
 mod framing;
+mod items;
 mod join;
+mod keeping;
 mod kept;
+mod kept_getter;
 mod member;
 mod process;
 mod proposals;
+mod propose;
 mod received;
+mod speaker;
 mod used;
 
+pub use commit::Made;
 pub use error::Refusal;
 pub use join::Joined;
 pub use member::Member;
 pub use mls_candidate::Candidate;
-pub use mls_model::Effect;
+pub use mls_model::{Effect, Item};

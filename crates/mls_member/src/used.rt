@@ -27,7 +27,7 @@ pub(crate) fn kept_under<'a>(kept: &'a [Kept], reference: &[u8]) -> Option<&'a K
 }
 
 /// A kept proposal, as a commit uses it.
-fn used_kept<'a>(kept: &'a Kept) -> Used<'a>
+pub(crate) fn used_kept<'a>(kept: &'a Kept) -> Used<'a>
     ensures used { result ≡ record { proposal = kept.now.proposal; sender = kept.now.sender; is_full = false } }
     ensures below { IsBelow (2 ^ 27) proposal_format result.proposal }
 {

@@ -1,5 +1,5 @@
 -- When no message of a content is within the limit.
-use Rattle.std.proofs.Common.{◌≡◌, ◌≢◌, ℕ, ◌+◌, ◌<◌, ◌≤◌, ◌^◌, List, ◌++◌, length, Ok, Err, refl, subst, ap, arith, inl, inr, length-append}
+use Rattle.std.proofs.Common.{◌≡◌, ℕ, ◌+◌, ◌<◌, ◌≤◌, ◌^◌, List, ◌++◌, length, refl, subst, ap, arith, inl, inr}
 use Rattle.std.specs.Int.{w16}
 use Rattle.std.proofs.lemmas.Bool.{cases_lt}
 use Rattle.mls_wire.specs.Reading.{uint}
@@ -14,9 +14,9 @@ use Rattle.mls_types.specs.SignedParts.{framed, auth_data, signed_with, signed_c
 use Rattle.mls_types.specs.declared.content.FramedContent.{FramedContent}
 use Rattle.mls_types.specs.declared.signed.SignedContent.{SignedContent}
 use Rattle.mls_model.specs.Member.{Member}
-use Rattle.mls_model.specs.Messages.{is_within_limit, sent_by}
+use Rattle.mls_model.specs.Messages.{sent_by}
 use Rattle.mls_message.specs.Pieces.{untagged, tag_length, IsLong, IsTooLarge}
-use Rattle.mls_message.specs.Sending.{IsRefused, limited}
+use Rattle.mls_message.specs.Sending.{IsRefused}
 use Rattle.mls_message.proofs.Texts.{sent_length}
 use Rattle.mls_message.proofs.Within.{past_limit, first_within, last_within}
 

@@ -25,7 +25,7 @@ use std::marker::Model;
 /// A content of a member with its spelling, which isn't larger than a message may be (RFC 9420, 6).
 #[derive(Drop)]
 pub struct Framed {
-    content: FramedContent,
+    content: Box<FramedContent>,
     bytes: Vec<u8>,
 }
 
@@ -37,9 +37,9 @@ impl Model for Framed {
 
     ghost Value = { contents.FramedContent };
 
-    ghost view = { λ f. f.content };
+    ghost view = { λ f. f.content.value };
 
-    ghost invariant = { λ f. (f.bytes.items ≡ framed_content.spell f.content) × framed_content.Fits f.content × (length f.bytes.items ≤ input_limit) };
+    ghost invariant = { λ f. (f.bytes.items ≡ framed_content.spell f.content.value) × framed_content.Fits f.content.value × (length f.bytes.items ≤ input_limit) };
 }
 
 /// A law: a number of 32 bits.
@@ -49,7 +49,11 @@ fn know_index(index: u32)
 
 /// A content of a speaker in its epoch (RFC 9420, 6).
 #[tactic(auto, unfolding(mls_model::specs::Messages::said_by))]
-fn said(alloc: Global, speaker: &Speaker<'_>, content: Content) -> Result<FramedContent, OutOfMemory>
+fn said(
+    alloc: Global,
+    speaker: &Speaker<'_>,
+    content: Content,
+) -> Result<FramedContent, OutOfMemory>
     requires { FitsIfShort content_format content }
     ensures said { IfOk result (λ v. (m : model.Member) → Speaks m speaker.now → v ≡ said_by m content) }
     ensures fits { IfOk result (FitsIfShort framed_content) }
@@ -85,8 +89,8 @@ impl Framed {
         requires { FitsIfShort content_format content }
         ensures { (m : model.Member) → Speaks m speaker.now → MatchResult result (λ f. f ≡ said_by m content) (IsRefused m (said_by m content)) }
     {
-        let content = said(alloc, speaker, content)?;
-        let bytes = limited_spelling(alloc, &content)?;
+        let content = Box::new(alloc, said(alloc, speaker, content)?)?;
+        let bytes = limited_spelling::<FramedContent>(alloc, &content)?;
         Ok(Framed { content, bytes })
     }
 
@@ -107,7 +111,7 @@ impl Framed {
     {
         let Framed { content, .. } = self;
         SignedContent::new(
-            content,
+            Box::into_inner(content),
             Bytes::from_vec(signature),
             Bytes::from_vec(confirmation_tag),
         )
@@ -123,7 +127,11 @@ impl Framed {
 }
 
 /// A member's signature of a content, under the context of the epoch (RFC 9420, 6.1).
-pub fn sign<S: Suite>(alloc: Global, speaker: &Speaker<'_>, framed: &Framed) -> Result<Vec<u8>, OutOfMemory>
+pub fn sign<S: Suite>(
+    alloc: Global,
+    speaker: &Speaker<'_>,
+    framed: &Framed,
+) -> Result<Vec<u8>, OutOfMemory>
     ensures signature { IfOk result (λ s. (m : model.Member) → Speaks m speaker.now → s.items ≡ content_signature S.crypto m.signing framed.now m.public.context) }
     ensures short { IfOk result (λ s. length s.items < 2 ^ 16) }
 {
@@ -134,7 +142,11 @@ pub fn sign<S: Suite>(alloc: Global, speaker: &Speaker<'_>, framed: &Framed) -> 
 }
 
 /// The message of a signed content, with its membership tag (RFC 9420, 6 and 6.2). 6 it is too large.
-pub fn send(alloc: Global, speaker: &Speaker<'_>, content: &SignedContent) -> Result<Vec<u8>, LeafError>
+pub fn send(
+    alloc: Global,
+    speaker: &Speaker<'_>,
+    content: &SignedContent,
+) -> Result<Vec<u8>, LeafError>
     requires { signed_content.Fits content.now }
     ensures { (m : model.Member) → Speaks m speaker.now → Answers (λ v. v.items) number_of (limited (sent_by m content.now)) result }
 {

@@ -75,7 +75,11 @@ fn said(
 
 /// The message of a member's proposal: 6 it is too large (RFC 9420, 6).
 #[tactic(auto, unfolding(mls_model::specs::Propose::proposal_by))]
-pub fn proposal<S: Suite>(alloc: Global, speaker: &Speaker<'_>, proposal: &Proposal) -> Result<SaidProposal, LeafError>
+pub fn proposal<S: Suite>(
+    alloc: Global,
+    speaker: &Speaker<'_>,
+    proposal: &Proposal,
+) -> Result<SaidProposal, LeafError>
     requires { proposal_format.Fits proposal.now }
     ensures message { (m : model.Member) → Speaks m speaker.now → Answers (λ s. s.message.items) number_of (limited (sent_by m (proposal_by S.crypto m proposal.now))) result }
     ensures reference { IfOk result (λ s. (m : model.Member) → Speaks m speaker.now → s.reference ≡ reference_of (proposal_by S.crypto m proposal.now)) }

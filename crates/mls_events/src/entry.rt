@@ -1,0 +1,45 @@
+//! What journals are made of.
+
+ghost use Rattle.std.specs.Prelude.{◌≡◌};
+
+use mls_leaf::Bytes;
+use mls_model::Origin;
+use std::marker::Model;
+
+/// A commit that a member followed, and in the commit's order the messages of the proposals that it named by reference.
+#[derive(Drop)]
+pub struct Entry {
+    pub(crate) commit: Bytes,
+    pub(crate) names: Vec<Bytes>,
+}
+
+impl Model for Entry {
+    ghost use Rattle.mls_model.specs.Journal as model;
+
+    ghost Value = { model.Entry };
+
+    ghost view = { λ e. record { commit = e.commit; names = e.names.items } };
+}
+
+impl Entry {
+    /// The message of the commit.
+    pub fn commit(&self) -> &[u8]
+        ensures { result.now ≡ self.now.commit }
+    {
+        self.commit.as_slice()
+    }
+
+    /// The messages of the proposals.
+    pub fn names(&self) -> &[Bytes]
+        ensures { result.now ≡ self.now.names }
+    {
+        &self.names
+    }
+}
+
+/// How a journal begins, or goes on from one that stands before it in the store.
+#[derive(Drop)]
+pub(crate) enum Step {
+    Begun(Origin),
+    Followed { before: usize, entry: Entry },
+}

@@ -1,0 +1,26 @@
+//! What each event does in a world of members (RFC 9420, 11 and 12), whatever world that is.
+#![tactic(auto)]
+
+mod added;
+mod candidates;
+mod commits;
+mod deliveries;
+mod entry;
+mod error;
+mod events;
+mod joins;
+mod journal;
+mod members;
+mod names;
+mod proposals;
+mod seats;
+mod sources;
+mod world;
+
+pub use candidates::NewCandidate;
+pub use commits::NewCommit;
+pub use entry::Entry;
+pub use error::WorldError;
+pub use joins::NewMember;
+pub use journal::Journal;
+pub use world::PlainWorld;

@@ -1,0 +1,63 @@
+//! Proposals of members.
+
+ghost use Rattle.mls_wire.specs.Checks.{DoesAs};
+ghost use Rattle.mls_model.specs.declared.event.Reply.TheVariants as reply;
+ghost use Rattle.mls_model.specs.Calls.{propose_add_answer, propose_update_answer, propose_remove_answer};
+ghost use Rattle.mls_events.specs.Faults.{number_of};
+
+use crate::error::WorldError;
+use crate::world::PlainWorld;
+use mls_kdf::Seed;
+use mls_leaf::Bytes;
+use mls_model::Source;
+use mls_suite::Suite;
+
+impl<S: Suite> PlainWorld<S> {
+    /// Proposes to add the KeyPackage of a source, and answers the number of the message: 90 no such member, 94 no such
+    /// message, decoding, 95 a message of another kind, then the member's checks (RFC 9420, 12.1.1).
+    #[tactic(auto, using(crate::proofs::Readings::wider))]
+    pub fn propose_add(&mut self, member: usize, key_package: &Source) -> Result<usize, WorldError>
+        ensures { DoesAs (λ n. reply.Proposal n) number_of (propose_add_answer S.crypto self.old member key_package.now) self.old self.new result }
+    {
+        self.require_member(member)?;
+        let offered = self.package_of(key_package)?;
+        self.messages.reserve(1)?;
+        let message = self.messages.len();
+        let Some(seat) = self.seats.get_mut(member) else {
+            return Err(WorldError::NoSuchMember);
+        };
+        let bytes = seat.member.propose_add(&offered)?;
+        self.messages.push_reserved(Bytes::from_vec(bytes));
+        Ok(message)
+    }
+
+    /// Proposes a new key for the member's own leaf, and answers the number of the message: 90 no such member, then the
+    /// member's checks (RFC 9420, 12.1.2).
+    pub fn propose_update(&mut self, member: usize, seed: &Seed) -> Result<usize, WorldError>
+        ensures { DoesAs (λ n. reply.Proposal n) number_of (propose_update_answer S.crypto self.old member seed.now) self.old self.new result }
+    {
+        self.messages.reserve(1)?;
+        let message = self.messages.len();
+        let Some(seat) = self.seats.get_mut(member) else {
+            return Err(WorldError::NoSuchMember);
+        };
+        let bytes = seat.member.propose_update(seed)?;
+        self.messages.push_reserved(Bytes::from_vec(bytes));
+        Ok(message)
+    }
+
+    /// Proposes to remove the member at a leaf, and answers the number of the message: 90 no such member, then the member's
+    /// checks (RFC 9420, 12.1.3).
+    pub fn propose_remove(&mut self, member: usize, leaf: u32) -> Result<usize, WorldError>
+        ensures { DoesAs (λ n. reply.Proposal n) number_of (propose_remove_answer S.crypto self.old member leaf) self.old self.new result }
+    {
+        self.messages.reserve(1)?;
+        let message = self.messages.len();
+        let Some(seat) = self.seats.get_mut(member) else {
+            return Err(WorldError::NoSuchMember);
+        };
+        let bytes = seat.member.propose_remove(leaf)?;
+        self.messages.push_reserved(Bytes::from_vec(bytes));
+        Ok(message)
+    }
+}

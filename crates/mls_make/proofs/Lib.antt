@@ -1,0 +1,4 @@
+mod Adds
+mod OwnPath
+mod Sent
+mod TwoSteps

@@ -1,0 +1,99 @@
+//! Making a commit.
+
+ghost use Rattle.std.specs.Prelude.{◌≡◌, ◌+◌, ◌<◌, ◌≤◌, ◌^◌, ℕ, Bool, Ok, IfSome};
+ghost use Rattle.mls_wire.specs.Checks.{Answers};
+ghost use Rattle.mls_leaf.specs.Leaf.{leaf_node};
+ghost use Rattle.mls_tree.specs.Tree.{term};
+ghost use Rattle.mls_model.specs.Member as model;
+ghost use Rattle.mls_public_group.specs.Short.{IsBelow, AreBelow, HasLeavesBelow};
+ghost use Rattle.mls_message.specs.Speaks.{Speaks};
+ghost use Rattle.mls_make.specs.Faults.{number_of};
+ghost use Rattle.mls_make.specs.Making.{made_by, made_with};
+ghost use Rattle.mls_make.specs.OwnPath.{made_path, IsOwnPath};
+ghost use Rattle.mls_make.specs.Parts.{made_as, AreShortUsed, AreUsedBy};
+
+use crate::error::MakeError;
+use crate::own_path::{OwnPath, own_path};
+use crate::sent_commit::sent_commit;
+use crate::welcomed::{path_seals, welcomed};
+use mls_kdf::Seed;
+use mls_leaf::Items;
+use mls_message::Speaker;
+use mls_public_group::{Edits, PublicGroup, Used};
+use mls_schedule::Epoch;
+use mls_suite::Suite;
+use mls_treekem::PrivatePath;
+use mls_types::{Commit, ProposalOrRef};
+use std::alloc::Global;
+
+/// A commit, its Welcome, and the state that they lead to.
+#[derive(Drop)]
+pub struct NewCommit {
+    /// The message of the commit.
+    pub commit: Vec<u8>,
+    /// The message of the Welcome, where somebody is added.
+    pub welcome: Option<Vec<u8>>,
+    /// The next public state.
+    pub group: PublicGroup,
+    /// The next epoch.
+    pub epoch: Epoch,
+    /// The committer's private keys in it.
+    pub keys: PrivatePath,
+}
+
+/// What a member makes by a commit of a list, with these edits and this path.
+fn made_with<S: Suite>(
+    alloc: Global,
+    speaker: &Speaker<'_>,
+    list: Items<ProposalOrRef>,
+    used: &[Used<'_>],
+    edits: Edits,
+    own: OwnPath,
+    seed: &Seed,
+) -> Result<NewCommit, MakeError>
+    requires epoch { speaker.now.group.now.context.epoch + 1 < 2 ^ 64 }
+    requires list { AreUsedBy list used.now }
+    requires used { AreShortUsed used.now }
+    requires path { IfSome own.path (λ p. IsBelow (2 ^ 28) leaf_node p.leaf_node) }
+    requires leaves { AreBelow (2 ^ 27) used.now → IfSome own.path (λ p. IsBelow (2 ^ 27) leaf_node p.leaf_node) → HasLeavesBelow (2 ^ 27) (term own.tree) }
+    ensures { (m : model.Member) (wants : Bool) → Speaks m speaker.now → IsOwnPath S.crypto m used.now edits wants seed.now own
+        → Answers made_as number_of (made_with S.crypto m list used.now edits (made_path own) seed.now) result }
+{
+    let OwnPath {
+        path,
+        secrets,
+        commit_secret,
+        keys,
+        tree,
+    } = own;
+    let first_seal = path_seals(&path);
+    let commit = Commit {
+        proposals: list,
+        path,
+    };
+    let sent = sent_commit::<S>(alloc, speaker, commit, edits, tree, &commit_secret)?;
+    let secrets = secrets.as_ref();
+    welcomed::<S>(alloc, speaker, used, sent, secrets, keys, first_seal, seed)
+}
+
+/// What a member makes by a commit of a list that uses these proposals, with a path where one is wanted or required: the
+/// first check of the commit that fails, 6 where a message or the GroupInfo is too long (RFC 9420, 12.4.1).
+pub fn make<S: Suite>(
+    alloc: Global,
+    speaker: &Speaker<'_>,
+    keys: &PrivatePath,
+    list: Items<ProposalOrRef>,
+    used: &[Used<'_>],
+    wants_path: bool,
+    seed: &Seed,
+) -> Result<NewCommit, MakeError>
+    requires epoch { speaker.now.group.now.context.epoch + 1 < 2 ^ 64 }
+    requires list { AreUsedBy list used.now }
+    requires used { AreShortUsed used.now }
+    ensures { (m : model.Member) → Speaks m speaker.now → m.keys ≡ keys.now → model.used_by m.kept m.keys.leaf list ≡ Ok used.now
+        → Answers made_as number_of (made_by S.crypto m list used.now wants_path seed.now) result }
+{
+    let edits = speaker.group.edited::<S>(alloc, speaker.leaf, used)?;
+    let own = own_path::<S>(alloc, speaker, keys, &edits, used, wants_path, seed)?;
+    made_with::<S>(alloc, speaker, list, used, edits, own, seed)
+}

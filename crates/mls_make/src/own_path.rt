@@ -1,0 +1,129 @@
+//! The path of a commit that a member makes, or none.
+
+ghost use Rattle.std.specs.Prelude.{◌≡◌, ◌<◌, ◌+◌, ◌^◌, ℕ, List, None, Ok, IfOk, IfSome};
+ghost use Rattle.std.specs.List.{list_any};
+ghost use Rattle.mls_wire.specs.Checks.{Answers};
+ghost use Rattle.mls_leaf.specs.Leaf.{leaf_node};
+ghost use Rattle.mls_tree.specs.Tree.{term};
+ghost use Rattle.mls_model.specs.Commit.{merged};
+ghost use Rattle.mls_model.specs.Make.{no_path};
+ghost use Rattle.mls_model.specs.Member as model;
+ghost use Rattle.mls_model.specs.Proposals as proposals;
+ghost use Rattle.mls_model.specs.Public.{Used};
+ghost use Rattle.mls_public_group.specs.Short.{IsBelow, HasLeavesBelow};
+ghost use Rattle.mls_message.specs.Speaks.{Speaks};
+ghost use Rattle.mls_make.specs.Faults.{number_of};
+ghost use Rattle.mls_make.specs.Making.{path_made};
+ghost use Rattle.mls_make.specs.OwnPath.{made_path, HaveSecrets};
+
+use crate::error::MakeError;
+use mls_group::UpdatePath;
+use mls_kdf::{Secret, Seed};
+use mls_leaf::Proposal;
+use mls_message::Speaker;
+use mls_public_group::{Edits, Used};
+use mls_suite::{OutOfMemory, Suite};
+use mls_tree::PublicTree;
+use mls_treekem::{PathSecrets, PrivatePath};
+use mls_update_path::{NewPath, new_path};
+use std::alloc::Global;
+
+/// A path, or none, and what the committer then has.
+#[derive(Drop)]
+pub(crate) struct OwnPath {
+    /// The path.
+    pub(crate) path: Option<UpdatePath>,
+    /// Where there is one, its secrets.
+    pub(crate) secrets: Option<PathSecrets>,
+    /// The commit secret.
+    pub(crate) commit_secret: Secret,
+    /// The committer's private keys.
+    pub(crate) keys: PrivatePath,
+    /// The tree with the path merged.
+    pub(crate) tree: PublicTree,
+}
+
+/// Whether a proposal asks for a path: each but an add (RFC 9420, 17.4).
+fn asks_for_path(proposal: &Proposal) -> bool
+    ensures { result ≡ proposals.asks_for_path proposal.now }
+{
+    !matches!(proposal, Proposal::Add(_))
+}
+
+/// Whether one of them asks for a path.
+fn some_ask(used: &[Used<'_>]) -> bool
+    ensures { result ≡ list_any (λ (u : Used). proposals.asks_for_path u.proposal) used.now }
+{
+    used.iter().any(|u| asks_for_path(u.proposal))
+}
+
+/// Whether a commit of these has to have a path: there are none, or one asks for it (RFC 9420, 12.4).
+#[tactic(auto, unfolding(mls_model::specs::Proposals::is_path_required))]
+fn is_path_required(used: &[Used<'_>]) -> bool
+    ensures { result ≡ proposals.is_path_required used.now }
+{
+    if used.is_empty() {
+        return true;
+    }
+    some_ask(used)
+}
+
+/// Without a path the commit secret is zeros, and the keys follow the edits (RFC 9420, 8).
+fn no_path(keys: &PrivatePath, edits: &Edits) -> Result<OwnPath, OutOfMemory>
+    ensures made { IfOk result (λ o. (m : model.Member) → m.keys ≡ keys.now → made_path o ≡ no_path m edits.now) }
+    ensures none { IfOk result (λ o. o.path ≡ None) }
+    ensures leaf { IfOk result (λ o. o.keys.leaf ≡ keys.now.leaf) }
+    ensures tree { IfOk result (λ o. term o.tree ≡ edits.now.tree) }
+    ensures secrets { IfOk result (λ o. o.secrets ≡ None) }
+{
+    let mut followed = keys.clone()?;
+    followed.follow_edit(&edits.tree, None)?;
+    Ok(OwnPath {
+        path: None,
+        secrets: None,
+        commit_secret: [0; 32],
+        keys: followed,
+        tree: edits.tree.clone()?,
+    })
+}
+
+/// A path where one is wanted or required, else none (RFC 9420, 12.4.1).
+#[tactic(auto, unfolding(crate::specs::Making::path_made, mls_model::specs::Commit::merged))]
+pub(crate) fn own_path<S: Suite>(
+    alloc: Global,
+    speaker: &Speaker<'_>,
+    keys: &PrivatePath,
+    edits: &Edits,
+    used: &[Used<'_>],
+    wants_path: bool,
+    seed: &Seed,
+) -> Result<OwnPath, MakeError>
+    requires epoch { speaker.now.group.now.context.epoch + 1 < 2 ^ 64 }
+    ensures answer { (m : model.Member) → Speaks m speaker.now → m.keys ≡ keys.now → Answers made_path number_of (path_made S.crypto m edits.now used.now wants_path seed.now) result }
+    ensures leaf { IfOk result (λ o. keys.now.leaf ≡ speaker.now.leaf → o.keys.leaf ≡ speaker.now.leaf) }
+    ensures below { IfOk result (λ o. IfSome o.path (λ p. IsBelow (2 ^ 28) leaf_node p.leaf_node)) }
+    ensures secrets { IfOk result (λ o. HaveSecrets S.crypto speaker.now.leaf edits.now seed.now o.path o.secrets) }
+    // Each member merges it so.
+    ensures merged { IfOk result (λ o. merged S.crypto speaker.now.group.now speaker.now.leaf edits.now o.path ≡ Ok (term o.tree)) }
+    // The leaves of the tree with it are as short as those of the tree after the edits and the new one.
+    ensures leaves { IfOk result (λ o. (n : ℕ) → HasLeavesBelow n edits.now.tree → IfSome o.path (λ p. IsBelow n leaf_node p.leaf_node) → HasLeavesBelow n (term o.tree)) }
+{
+    if !wants_path && !is_path_required(used) {
+        let none = no_path(keys, edits)?;
+        return Ok(none);
+    }
+    let NewPath {
+        path,
+        secrets,
+        keys,
+        tree,
+    } = new_path::<S>(alloc, speaker.group, speaker.signing, speaker.leaf, edits, seed)?;
+    let commit_secret = secrets.commit_secret;
+    Ok(OwnPath {
+        path: Some(path),
+        secrets: Some(secrets),
+        commit_secret,
+        keys,
+        tree,
+    })
+}

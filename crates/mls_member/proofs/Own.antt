@@ -1,0 +1,105 @@
+-- Own proposals are short.
+use Rattle.std.proofs.Common.{◌≡◌, ℕ, ◌+◌, ◌<◌, ◌≤◌, ◌^◌, List, [], ◌++◌, length, Result, Ok, Err, refl, ap, subst, arith, lit<, length-append}
+use Rattle.std.specs.Int.{w16}
+use Rattle.std.proofs.lemmas.Bool.{leb-true, and_parts}
+use Rattle.mls_wire.specs.Checks.{Passed, passed, ◌>>◌}
+use Rattle.mls_wire.specs.CheckLaws.{required, then_ok}
+use Rattle.mls_wire.specs.Reading.{uint, opaque}
+use Rattle.mls_leaf.specs.Inputs.{leaf_content}
+use Rattle.mls_leaf.specs.InputLaws.{leaf_node-spelled}
+use Rattle.mls_leaf.specs.KeyPackage.{key_package as package_format}
+use Rattle.mls_leaf.specs.Leaf.{leaf_node}
+use Rattle.mls_leaf.specs.Limits.{input_limit}
+use Rattle.mls_leaf.specs.Proposal.{proposal as proposal_format}
+use Rattle.mls_leaf.specs.declared.key_package.KeyPackage.{KeyPackage}
+use Rattle.mls_leaf.specs.declared.leaf.LeafNode.{LeafNode}
+use Rattle.mls_leaf.specs.declared.leaf.LeafSource.TheVariants as made_for
+use Rattle.mls_leaf.specs.declared.proposal.Proposal.{Proposal}
+use Rattle.mls_leaf.specs.declared.proposal.Proposal.TheVariants.{Add, Update, Remove}
+use Rattle.mls_types.specs.Content.{content, framed_content}
+use Rattle.mls_types.specs.SignedParts.{framed, auth_data, signed_with, framed_signed_with}
+use Rattle.mls_types.specs.declared.content.Content.TheVariants as says
+use Rattle.mls_types.specs.declared.content.FramedContent.{FramedContent}
+use Rattle.mls_types.specs.declared.signed.SignedContent.{SignedContent}
+use Rattle.mls_checks.specs.Short.{IsShort}
+use Rattle.mls_suite.specs.Crypto.{Crypto, Lawful}
+use Rattle.mls_suite.specs.LabelLaws.{signs_short}
+use Rattle.mls_public_group.specs.Short.{IsBelow}
+use Rattle.mls_model.specs.Candidate.{leaf_key_of, unsigned_leaf, signed_leaf}
+use Rattle.mls_model.specs.Member.{Member}
+use Rattle.mls_model.specs.Messages.{is_within_limit, said_by, content_signature, content_tag, sent_by}
+use Rattle.mls_model.specs.Propose.{proposal_by, updated_leaf}
+use Rattle.mls_candidate.specs.Short.{IsShortLeaf}
+use Rattle.mls_candidate.proofs.Lengths.{opaque_most, content_most}
+use Rattle.mls_candidate.proofs.Leaves.{renewed_short, update_fits}
+use Rattle.mls_member.proofs.Lengths.{front, signed_parts, content_inside, proposal_inside}
+
+-- ---- by their messages
+
+-- what is within the limit has no more bytes
+within_is : (bytes : List ℕ) → is_within_limit bytes ≡ Ok passed → length bytes ≤ input_limit
+unfolding is_within_limit
+within_is bytes h = leb-true _ _ (and_parts _ _ (required _ _ _ h)).0
+
+-- a content is no longer than its message
+content_within : (m : Member) (v : SignedContent) → is_within_limit (sent_by m v) ≡ Ok passed → length (framed_content.spell (framed v)) ≤ input_limit
+unfolding sent_by
+content_within m v h = front _ (auth_data v) input_limit (signed_parts (record { content = v; membership_tag = content_tag m.epoch v m.public.context }) input_limit (within_is _ h))
+
+-- nor is a proposal
+said_within : (m : Member) (p : Proposal) → length (framed_content.spell (said_by m (says.Proposal p))) ≤ input_limit → length (proposal_format.spell p) ≤ input_limit
+unfolding said_by
+said_within m p h = proposal_inside p input_limit (content_inside _ input_limit h)
+
+proposal_within : (c : Crypto) (m : Member) (p : Proposal) → is_within_limit (sent_by m (proposal_by c m p)) ≡ Ok passed → length (proposal_format.spell p) ≤ input_limit
+unfolding proposal_by
+proposal_within c m p h =
+    let said : FramedContent = said_by m (says.Proposal p) in
+    let signature : List ℕ = content_signature c m.signing said m.public.context in
+    said_within m p (subst (λ (v : FramedContent). length (framed_content.spell v) ≤ input_limit) (framed_signed_with said signature []) (content_within m (signed_with said signature []) h))
+
+pub own_below : (c : Crypto) (m : Member) (p : Proposal) → proposal_format.Fits p → is_within_limit (sent_by m (proposal_by c m p)) ≡ Ok passed → IsBelow (2 ^ 27) proposal_format p
+own_below c m p fits h = record { fits = fits; below = omega (arith, proposal_within c m p h) }
+
+-- ---- what has a spelling
+
+pub add_fits : (k : KeyPackage) → package_format.Fits k → proposal_format.Fits (Add k)
+unfolding proposal_format
+add_fits k fits = (lit< tt, fits)
+
+pub remove_fits : (leaf : ℕ) → leaf < 2 ^ 32 → proposal_format.Fits (Remove leaf)
+unfolding proposal_format
+remove_fits leaf lt = (lit< tt, lt)
+
+pub remove_short : (leaf : ℕ) → leaf < 2 ^ 32 → IsShort proposal_format (Remove leaf)
+unfolding proposal_format uint
+remove_short leaf lt = record { fits = (lit< tt, lt); short = omega arith }
+
+-- ---- updates
+
+update_spelled : (v : LeafNode) → proposal_format.spell (Update v) ≡ uint w16 2 ++ leaf_node.spell v
+unfolding proposal_format
+update_spelled v = refl
+
+two : length (uint w16 2) ≡ 2
+unfolding uint
+two = refl
+
+-- a leaf of short parts, once it is signed, has far fewer bytes than 2^28
+signed_length : (v : LeafNode) (signature : List ℕ) → IsShortLeaf v → length signature < 2 ^ 16 → length (leaf_node.spell (record v { signature = signature })) < 2 ^ 27 + 2 ^ 20
+signed_length v signature s lt =
+    let w : LeafNode = record v { signature = signature } in
+    omega (arith, ap length (leaf_node-spelled w), length-append (leaf_content w) (opaque signature), opaque_most signature, content_most w, s.key, s.owner, s.able_short, s.source_short)
+
+updated_length : (c : Crypto) → Lawful c → (m : Member) (old : LeafNode) (seed : List ℕ) → IsBelow (2 ^ 27) leaf_node old → length (leaf_node.spell (updated_leaf c m old seed)) < 2 ^ 27 + 2 ^ 20
+unfolding updated_leaf signed_leaf
+updated_length c laws m old seed b =
+    signed_length (unsigned_leaf c (c.public (leaf_key_of c seed)) old.signature_key old.credential made_for.Update) _
+    (renewed_short c laws old _ (leaf_key_of c seed) _ _ _ made_for.Update refl refl refl refl b update_fits tt) (signs_short c laws _ _ _)
+
+-- the update of a short leaf
+pub update_short : (c : Crypto) → Lawful c → (m : Member) (old made : LeafNode) (seed : List ℕ) → IsBelow (2 ^ 27) leaf_node old → made ≡ updated_leaf c m old seed → leaf_node.Fits made → IsShort proposal_format (Update made)
+unfolding proposal_format
+update_short c laws m old made seed b e fits =
+    let most : length (leaf_node.spell made) < 2 ^ 27 + 2 ^ 20 = rw e (updated_length c laws m old seed b) in
+    record { fits = (lit< tt, fits); short = omega (arith, ap length (update_spelled made), length-append (uint w16 2) (leaf_node.spell made), two, most) }

@@ -1,0 +1,17 @@
+use Rattle.std.proofs.Common.{sym}
+use Rattle.mls_member.proofs.Commits.{made_is}
+use Rattle.mls_member.proofs.member.Member.new_commit.Goals as goal
+
+pub make-requires-clause-epoch : goal.make-requires-clause-epoch
+make-requires-clause-epoch g c = rw c.speaker-speaker.ensures.public at c.requires.epoch
+
+pub make-requires-clause-list : goal.make-requires-clause-list
+make-requires-clause-list g c = (c.args.self.now.kept, (c.args.self.now.keys.leaf, rw (c.in_ok-list.ensures, c.as_slice-proposals.ensures.value) c.in_ok-used.ensures.answer))
+
+pub make-requires-clause-used : goal.make-requires-clause-used
+make-requires-clause-used g c = rw c.as_slice-proposals.ensures.value c.in_ok-used.ensures.short
+
+pub returns-in-Ok : goal.returns-in-Ok
+returns-in-Ok g c =
+    made_is g.S.Suite.crypto c.args.self.now _ c.in_ok-list.list c.args.path c.args.seed.now c.in_ok-used.used.items c.as_slice-proposals.result.now _ c.in_ok-list.ensures c.as_slice-proposals.ensures.value c.in_ok-used.ensures.answer
+    (λ u. c.in-Ok.ensures c.args.self.now c.speaker-speaker.ensures (sym c.keys-keys.ensures) u)

@@ -1,0 +1,16 @@
+-- What a member commits (RFC 9420, 12.4.1).
+use Rattle.std.specs.Prelude.{ℕ, Bool, List, Option, Result, Ok}
+use Rattle.mls_wire.specs.Reading.{◌>>=◌}
+use Rattle.mls_types.specs.declared.commit.ProposalOrRef.{ProposalOrRef}
+use Rattle.mls_suite.specs.Crypto.{Crypto}
+use Rattle.mls_model.specs.Make.{Made}
+use Rattle.mls_model.specs.Member.{Member, used_by, with_pending}
+use Rattle.mls_make.specs.Making.{made_by}
+
+-- what is made of a list: 60 a reference isn't kept, and then all that stands behind it
+abbrev pub made_of_list : Crypto → Member → List ProposalOrRef → Bool → List ℕ → Result Made ℕ
+made_of_list c m list wants_path seed = used_by m.kept m.keys.leaf list >>= λ used. made_by c m list used wants_path seed
+
+-- the messages, and the member with the state that they lead to as pending
+abbrev pub made_and_kept : Member → Made → Result ((List ℕ × Option (List ℕ)) × Member) ℕ
+made_and_kept m made = Ok ((made.commit, made.welcome), with_pending m made.pending)

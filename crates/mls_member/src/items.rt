@@ -1,0 +1,86 @@
+//! The proposals of a commit call (RFC 9420, 12.4).
+
+ghost use Rattle.std.specs.Prelude.{◌≡◌, map, IfOk};
+ghost use Rattle.mls_wire.specs.Checks.{Answers};
+ghost use Rattle.mls_model.specs.Make.{listed_of};
+ghost use Rattle.mls_model.specs.Member.{used_one, used_by};
+ghost use Rattle.mls_make.specs.Parts.{IsShortUsed, AreShortUsed};
+ghost use Rattle.mls_member.specs.Answers.{IsShortItem, AreShortItems};
+ghost use Rattle.mls_member.specs.Faults.{number_of};
+
+use crate::error::Refusal;
+use crate::kept::Kept;
+use crate::used::{kept_under, used_kept};
+use mls_leaf::{Bytes, Items};
+use mls_model::Item;
+use mls_public_group::Used;
+use mls_types::ProposalOrRef;
+use std::alloc::{AllocError, Global};
+
+/// One proposal of a commit call, as the commit lists it.
+fn listed_one(alloc: Global, item: &Item) -> Result<ProposalOrRef, AllocError>
+    ensures { IfOk result (λ p. p ≡ listed_of item.now) }
+{
+    match item {
+        Item::Full(proposal) => Ok(ProposalOrRef::Proposal(proposal.clone()?)),
+        Item::Ref(reference) => {
+            let bytes = Vec::from_slice(alloc, reference)?;
+            Ok(ProposalOrRef::Reference(Bytes::from_vec(bytes)))
+        }
+    }
+}
+
+/// The list of a commit.
+pub(crate) fn listed(alloc: Global, items: &[Item]) -> Result<Items<ProposalOrRef>, AllocError>
+    ensures { IfOk result (λ v. v ≡ map listed_of items.now) }
+{
+    let mut list = Vec::new(alloc);
+    for item in items {
+        list.push(listed_one(alloc, item)?)?;
+    }
+    Ok(Items::from_vec(list))
+}
+
+/// One proposal that a commit call uses: of the committer where it is given in full, else a kept one, or 60.
+fn used_item<'a>(
+    kept: &'a [Kept],
+    committer: u32,
+    item: &'a Item,
+) -> Result<Used<'a>, Refusal>
+    requires { IsShortItem item.now }
+    ensures answer { Answers (λ u. u) number_of (used_one kept.now committer (listed_of item.now)) result }
+    ensures short { IfOk result (λ u. IsShortUsed u) }
+{
+    match item {
+        Item::Full(proposal) => Ok(Used {
+            proposal,
+            sender: committer,
+            is_full: true,
+        }),
+        Item::Ref(reference) => match kept_under(kept, reference) {
+            Some(k) => Ok(used_kept(k)),
+            None => Err(Refusal::UnknownReference),
+        },
+    }
+}
+
+/// The proposals that a commit call uses, with their senders (RFC 9420, 12.4.2).
+pub(crate) fn used_of_items<'a>(
+    alloc: Global,
+    kept: &'a [Kept],
+    committer: u32,
+    items: &'a [Item],
+) -> Result<Vec<Used<'a>>, Refusal>
+    requires { AreShortItems items.now }
+    ensures answer { Answers (λ v. v.items) number_of (used_by kept.now committer (map listed_of items.now)) result }
+    ensures short { IfOk result (λ v. AreShortUsed v.items) }
+{
+    let mut used = Vec::new(alloc);
+    for item in items {
+        match used_item(kept, committer, item) {
+            Ok(one) => used.push(one)?,
+            Err(error) => return Err(error),
+        }
+    }
+    Ok(used)
+}

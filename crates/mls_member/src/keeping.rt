@@ -1,0 +1,79 @@
+//! Keeping own proposals (RFC 9420, 12.1).
+
+ghost use Rattle.std.specs.Prelude.{◌^◌};
+ghost use Rattle.mls_wire.specs.Checks.{AnswersOutright, DoesAs};
+ghost use Rattle.mls_leaf.specs.Proposal.{proposal as proposal_format};
+ghost use Rattle.mls_model.specs.Member.{kept_under};
+ghost use Rattle.mls_public_group.specs.Short.{IsBelow};
+ghost use Rattle.mls_member.specs.Faults.{number_of};
+ghost use Rattle.mls_member.specs.Proposing.{known_as, kept_with, sent_and_kept};
+
+use crate::error::Refusal;
+use crate::kept::Kept;
+use crate::member::Member;
+use crate::used::kept_under;
+use mls_kdf::Secret;
+use mls_leaf::Proposal;
+use mls_message::SaidProposal;
+use mls_suite::Suite;
+
+impl<S: Suite> Member<S> {
+    /// Whether the same message is kept under its reference: 49 another one is (RFC 9420, 12.1).
+    fn is_said(&self, said: &SaidProposal) -> Result<bool, Refusal>
+        ensures { AnswersOutright (λ b. b) number_of (known_as (kept_under self.now.kept said.now.reference) said.now.message.items) result }
+    {
+        let Some(old) = kept_under(&self.kept, &said.reference) else {
+            return Ok(false);
+        };
+        if old.message.as_slice() == said.message.as_slice() {
+            return Ok(true);
+        }
+        Err(Refusal::ReferenceTaken)
+    }
+
+    /// Keeps a proposal behind the others, an update with the new private key of the member's leaf, and answers its message.
+    #[tactic(auto, unfolding(mls_model::specs::Member::keeping))]
+    fn keep_said(
+        &mut self,
+        said: SaidProposal,
+        proposal: Proposal,
+        own_key: Option<Secret>,
+    ) -> Result<Vec<u8>, Refusal>
+        requires { IsBelow (2 ^ 27) proposal_format proposal }
+        ensures { DoesAs (λ v. v.items) number_of (kept_with self.old said.message.items said.reference proposal own_key) self.old self.new result }
+    {
+        let answer = Vec::from_slice(self.alloc, &said.message)?;
+        let SaidProposal { message, reference } = said;
+        let sender = self.keys.leaf();
+        let kept = Kept {
+            reference,
+            message,
+            proposal,
+            sender,
+            own_key,
+        };
+        self.kept.push(kept)?;
+        Ok(answer)
+    }
+
+    /// Says a proposal whose checks have passed, and keeps it. 6 its message is too large; where the same message is kept
+    /// already nothing changes, and 49 where another one is kept under its reference (RFC 9420, 12.1).
+    pub(crate) fn send_and_keep(
+        &mut self,
+        proposal: Proposal,
+        own_key: Option<Secret>,
+    ) -> Result<Vec<u8>, Refusal>
+        requires { proposal_format.Fits proposal }
+        ensures { DoesAs (λ v. v.items) number_of (sent_and_kept S.crypto self.old proposal own_key) self.old self.new result }
+    {
+        let said = mls_message::proposal::<S>(self.alloc, &self.speaker(), &proposal)?;
+        let is_kept = match self.is_said(&said) {
+            Ok(known) => known,
+            Err(error) => return Err(error),
+        };
+        if is_kept {
+            return Ok(said.message);
+        }
+        self.keep_said(said, proposal, own_key)
+    }
+}
