@@ -8,7 +8,7 @@ use Rattle.clap.specs.declared.error.kind.ErrorKind.TheVariants as kind
 use Rattle.mls_cli.specs.declared.tasks.NoJob.{NoJob}
 use Rattle.mls_cli.specs.declared.tasks.NoJob.TheVariants as no_job
 use Rattle.mls_cli.specs.declared.tasks.Job.{Job}
-use Rattle.mls_cli.specs.declared.tasks.Job.TheVariants.{Show, Check, Vectors}
+use Rattle.mls_cli.specs.declared.tasks.Job.TheVariants.{Show, Check, Replay, Vectors}
 use Rattle.mls_cli.specs.declared.tasks.SuiteChoice.{SuiteChoice}
 use Rattle.mls_cli.specs.declared.tasks.SuiteChoice.TheVariants.{Glass, Unchecked}
 
@@ -39,7 +39,9 @@ needing_one a = record a { top = record a.top { has_version = true; subcommand_r
 abbrev pub mls : App
 mls = needing_one
     (with_subcommand
+    (with_subcommand
     (with_subcommand (with_subcommand (new_app (codes "mls")) (on_file (codes "show")).top) check_app.top)
+    (on_file (codes "replay")).top)
     (on_file (codes "vectors")).top)
 
 -- the words with the program's name as the first
@@ -51,11 +53,13 @@ named_mls (first ∷ rest) = codes "mls" ∷ rest
 pub data Task : Type 0 where
   show : Text → Task
   check : Text → SuiteChoice → Text → Task
+  replay : Text → Task
   vectors : Text → Task
 
 abbrev pub view : Job → Task
 view (Show file) = show file.now
 view (Check file suite group) = check file.now suite group.now
+view (Replay file) = replay file.now
 view (Vectors file) = vectors file.now
 
 -- a suite is named by its number in hex
@@ -73,6 +77,7 @@ abbrev pub task_on : Text → List Row → Text → Option Task
 task_on name rows file =
     if bytes_eq name (codes "show") then Some (show file)
     else if bytes_eq name (codes "check") then check_on (first_of (codes "SUITE") rows) (first_of (codes "HEX") rows) file
+    else if bytes_eq name (codes "replay") then Some (replay file)
     else if bytes_eq name (codes "vectors") then Some (vectors file)
     else None
 
@@ -84,6 +89,7 @@ task_of found = option_and_then
 abbrev pub file_of : Job → Text
 file_of (Show file) = file.now
 file_of (Check file suite group) = file.now
+file_of (Replay file) = file.now
 file_of (Vectors file) = file.now
 
 -- ---- where there is no job

@@ -9,7 +9,7 @@ use Rattle.mls_cli.specs.declared.tasks.SuiteChoice.{SuiteChoice}
 use Rattle.mls_cli.specs.declared.tasks.SuiteChoice.TheVariants as choice
 use Rattle.mls_cli.specs.declared.tasks.Job.{Job}
 use Rattle.mls_cli.specs.declared.tasks.Job.TheVariants as job
-use Rattle.mls_text.specs.Ends.{AppendsPart, Cut}
+use Rattle.mls_text.specs.Ends.{AppendsPart}
 use Rattle.mls_text.specs.Page.{Printout, printout}
 use Rattle.mls_text.specs.Text.{line_text}
 use Rattle.mls_text.specs.declared.fault.Fault.{Fault}
@@ -20,6 +20,7 @@ use Rattle.mls_check.specs.Unchecked.{unchecked}
 use Rattle.mls_check.specs.declared.report.SuiteChecks.{SuiteChecks}
 use Rattle.mls_check.specs.declared.report.SuiteChecks.TheVariants.{Made, Left}
 use Rattle.mls_vectors.specs.VectorsReport.{entry_text, vectors_page}
+use Rattle.mls_replay.specs.Replay.{IsReplay}
 
 -- the suite by which a tree is checked, and whether it makes the checks that are its own functions
 abbrev pub crypto_of : SuiteChoice → Crypto
@@ -31,16 +32,18 @@ checks_of choice.Glass = Made
 checks_of choice.Unchecked = Left
 
 -- what a job prints for a file of this text
-abbrev pub printout_for : Job → List ℕ → Printout
-printout_for (job.Show file) text = printout line_text (show_page text)
-printout_for (job.Check file suite group) text = printout line_text (check_page (crypto_of suite) (checks_of suite) text group.now)
-printout_for (job.Vectors file) text = printout entry_text (vectors_page text)
+abbrev pub IsPrintout : Job → List ℕ → Printout → Type 0
+IsPrintout (job.Show file) text p = p ≡ printout line_text (show_page text)
+IsPrintout (job.Check file suite group) text p = p ≡ printout line_text (check_page (crypto_of suite) (checks_of suite) text group.now)
+IsPrintout (job.Replay file) text p = IsReplay glass text p
+IsPrintout (job.Vectors file) text p = p ≡ printout entry_text (vectors_page text)
 
--- the output grows by the text, with its status, or the status is 3 and it grows by less than the text
-abbrev pub Leaves : Option (List ℕ) → Option (List ℕ) → ℕ → Printout → Type 0
-Leaves old new status p =
-    (Appends old new p.text × (status ≡ p.status))
-    ⊎ ((status ≡ 3) × Cut old new p.text)
+-- the output grows by the text of such a printout, with its status; or the status is 3, and it grows by less than such a
+-- text or stays as it was
+abbrev pub Leaves : (Printout → Type 0) → Option (List ℕ) → Option (List ℕ) → ℕ → Type 0
+Leaves Is old new status =
+    ((p : Printout) × Is p × Appends old new p.text × (status ≡ p.status))
+    ⊎ ((status ≡ 3) × (Keeps old new ⊎ ((p : Printout) × Is p × AppendsPart old new p.text)))
 
 -- ---- what is said on the errors
 

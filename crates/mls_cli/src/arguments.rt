@@ -3,7 +3,7 @@
 ghost use Rattle.std.specs.Prelude.{◌≡◌, map, true, false, codes, Ok, Err, Some, None, IfOk, IfErr, IsSome, OnOk, ◌⊎◌, ◌∷◌, [], option_map};
 ghost use Rattle.clap.specs.Words.{app_of, shape_of, first_of, found_of, kind_of, rows_of, rule_of, subcommand_of, subcommand_rows_of, takes, fault_of, FailsBy, HasKind};
 ghost use Rattle.clap.specs.declared.Command.TheViews.{out-Command as fields_of};
-ghost use Rattle.mls_cli.specs.Arguments.{ComesOf, Explains, check, check_app, check_on, file_rule, group_rule, mls, needing_one, on_file, show, suite_of, suite_rule, task_of, task_on, vectors, view};
+ghost use Rattle.mls_cli.specs.Arguments.{ComesOf, Explains, check, check_app, check_on, file_rule, group_rule, mls, needing_one, on_file, replay, show, suite_of, suite_rule, task_of, task_on, vectors, view};
 
 use crate::tasks::{Job, NoJob, SuiteChoice};
 use clap::error::ErrorKind;
@@ -16,7 +16,7 @@ const VERSION: &str = "0.1.0";
 
 /// What stands below the usage.
 const EXIT_STATUS: &str =
-    "Exit status:\n  0  the content is good\n  1  it is refused, or vectors fail\n  2  the command line is wrong\n  3  a file, the output or memory failed";
+    "Exit status:\n  0  the content is good\n  1  it is refused, or vectors or expectations fail\n  2  the command line is wrong\n  3  a file, the output or memory failed";
 
 fn file_arg<'a>(alloc: Global, help: &'a str) -> Arg<'a>
     ensures rule { rule_of result ≡ file_rule }
@@ -94,6 +94,12 @@ fn command<'a>(alloc: Global) -> Result<Command<'a>, AllocError>
         "An MLSMessage in hex, or - for the standard input",
     )?;
     let check = check_command(alloc)?;
+    let replay = file_command(
+        alloc,
+        "replay",
+        "Replays a recording of groups",
+        "A recording in JSON, or - for the standard input",
+    )?;
     let vectors = file_command(
         alloc,
         "vectors",
@@ -102,7 +108,8 @@ fn command<'a>(alloc: Global) -> Result<Command<'a>, AllocError>
     )?;
     let first = Command::new(alloc, "mls").subcommand(show)?;
     let second = first.subcommand(check)?;
-    let all = second.subcommand(vectors)?;
+    let third = second.subcommand(replay)?;
+    let all = third.subcommand(vectors)?;
     Ok(described(all))
 }
 
@@ -139,6 +146,7 @@ fn job_on<'a>(name: &str, matches: &ArgMatches<'a>, file: &'a str) -> Option<Job
     match name {
         "show" => Some(Job::Show { file }),
         "check" => check_on(value_of(matches, "SUITE"), value_of(matches, "HEX"), file),
+        "replay" => Some(Job::Replay { file }),
         "vectors" => Some(Job::Vectors { file }),
         _ => None,
     }
@@ -264,6 +272,7 @@ pub fn examples()
     ensures version { fault_of mls (codes "mls" ∷ codes "--version" ∷ []) ≡ ErrorKind.DisplayVersion ∷ [] }
     ensures missing { fault_of mls (codes "mls" ∷ codes "show" ∷ []) ≡ ErrorKind.MissingRequiredArgument ∷ [] }
     ensures shows { task_of (subcommand_of mls (codes "mls" ∷ codes "show" ∷ codes "a" ∷ [])) ≡ Some (show (codes "a")) }
+    ensures replays { task_of (subcommand_of mls (codes "mls" ∷ codes "replay" ∷ codes "a" ∷ [])) ≡ Some (replay (codes "a")) }
     ensures judges { task_of (subcommand_of mls (codes "mls" ∷ codes "vectors" ∷ codes "a" ∷ [])) ≡ Some (vectors (codes "a")) }
     ensures checks { task_of (subcommand_of mls (codes "mls" ∷ codes "check" ∷ codes "a" ∷ [])) ≡ Some (check (codes "a") SuiteChoice.Glass []) }
     ensures chosen { task_of (subcommand_of mls (codes "mls" ∷ codes "check" ∷ codes "a" ∷ codes "--suite" ∷ codes "0001" ∷ codes "--group=67" ∷ []))

@@ -3,14 +3,16 @@
 ghost use Rattle.std.specs.Prelude.{is_some, ◌≡◌, ◌≢◌, ◌≤◌, [], true, false, Ok, Err, Some, None, IfOk, IfErr, IfSome, OnOk, OnErr};
 ghost use Rattle.std.specs.Io.KnownBytes.{Appends, Keeps};
 ghost use Rattle.mls_text.specs.Ends.{AppendsPart, out_failed, out_writer, read_failed, write_failed};
-ghost use Rattle.mls_text.specs.Page.{Prints, page_of};
+ghost use Rattle.mls_text.specs.Page.{page_of};
 ghost use Rattle.mls_text.specs.Text.{entry_of};
 ghost use Rattle.mls_check.specs.Check.{check_page};
+ghost use Rattle.mls_replay.specs.Replay.{PrintsOne};
 ghost use Rattle.mls_cli.specs.Arguments.{file_of};
-ghost use Rattle.mls_cli.specs.Serving.{Ends, EndsUnasked, Leaves, Said, ShowsHelp, checks_of, crypto_of, fault_text, out_of_memory as memory_text, printout_for, unread, unreadable};
+ghost use Rattle.mls_cli.specs.Serving.{Ends, EndsUnasked, IsPrintout, Leaves, Said, ShowsHelp, checks_of, crypto_of, fault_text, out_of_memory as memory_text, unread, unreadable};
 
 use crate::tasks::{Job, NoJob, SuiteChoice};
 use mls_check::{SuiteChecks, Unchecked, check_page};
+use mls_replay::replay;
 use mls_show::show_page;
 use mls_suite::Glass;
 use mls_text::{Fault, Input, Line, Out, Output, Page, print_made_page};
@@ -31,7 +33,7 @@ pub fn serve<I: Input, O: Output, E: Write>(
     requires fresh_out { O.failed out.old ≡ false }
     // The output grows by what the job prints for the text that the reader had.
     ensures prints { IfOk job.now (λ j. IfSome file.old (λ reader. IfSome (I.remaining reader) (λ text.
-        Leaves (O.contents out.old) (O.contents out.new) result (printout_for j text)))) }
+        Leaves (IsPrintout j text) (O.contents out.old) (O.contents out.new) result))) }
     // Either nothing failed and nothing is said, or the status is 3 and what failed is said.
     ensures ends { IfOk job.now (λ j. Ends (file_of j) result (unread I.failed file.new) (O.failed out.new)
         (E.contents (out_writer err.old)) (E.contents (out_writer err.new)) (out_failed err.new)) }
@@ -58,7 +60,7 @@ fn serve_job<I: Input, O: Output, E: Write>(
     requires fresh_file { IfSome file.old (λ reader. I.failed reader ≡ false) }
     requires fresh_out { O.failed out.old ≡ false }
     ensures prints { IfSome file.old (λ reader. IfSome (I.remaining reader) (λ text.
-        Leaves (O.contents out.old) (O.contents out.new) result (printout_for job.now text))) }
+        Leaves (IsPrintout job.now text) (O.contents out.old) (O.contents out.new) result)) }
     ensures ends { Ends (file_of job.now) result (unread I.failed file.new) (O.failed out.new)
         (E.contents (out_writer err.old)) (E.contents (out_writer err.new)) (out_failed err.new) }
     ensures unread { unread I.failed file.new ≡ true → Keeps (O.contents out.old) (O.contents out.new) }
@@ -86,7 +88,7 @@ fn print_job<I: Input, O: Output>(
     file: &mut I,
     out: &mut O,
 ) -> Result<u8, Fault>
-    ensures prints { IfSome (I.remaining file.old) (λ text. Prints (O.contents out.old) (O.contents out.new) result (printout_for job.now text)) }
+    ensures prints { IfSome (I.remaining file.old) (λ text. PrintsOne (IsPrintout job.now text) (O.contents out.old) (O.contents out.new) result) }
     ensures status { IfOk result (λ status. status ≤ 1) }
     // A fault of the output comes just where a write has failed, and one of the file where a read has.
     ensures write { O.failed out.new ≡ write_failed (O.failed out.old) result }
@@ -104,7 +106,7 @@ fn print_text<O: Output>(
     text: &[u8],
     out: &mut O,
 ) -> Result<u8, Fault>
-    ensures prints { Prints (O.contents out.old) (O.contents out.new) result (printout_for job.now text.now) }
+    ensures prints { PrintsOne (IsPrintout job.now text.now) (O.contents out.old) (O.contents out.new) result }
     ensures status { IfOk result (λ status. status ≤ 1) }
     ensures write { O.failed out.new ≡ write_failed (O.failed out.old) result }
     ensures written { IfErr result (λ e. e ≢ Fault.Read) }
@@ -114,6 +116,7 @@ fn print_text<O: Output>(
         Job::Check { suite, group, .. } => {
             print_made_page(alloc, checked(alloc, *suite, text, group), out)
         }
+        Job::Replay { .. } => replay::<Glass, O>(alloc, text, out),
         Job::Vectors { .. } => print_made_page(alloc, vectors_page(alloc, text), out),
     }
 }

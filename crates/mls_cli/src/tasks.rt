@@ -28,6 +28,11 @@ pub enum Job<'a> {
         /// The group's id, as hex digits.
         group: &'a str,
     },
+    /// Replay the recording that stands as JSON in a file.
+    Replay {
+        /// The file's path, `-` for the standard input.
+        file: &'a str,
+    },
     /// Judge the test vectors that stand as JSON in a file.
     Vectors {
         /// The file's path, `-` for the standard input.
@@ -44,7 +49,10 @@ impl<'a> Job<'a> {
         ensures { result.now ≡ file_of self.now }
     {
         match self {
-            Job::Show { file } | Job::Check { file, .. } | Job::Vectors { file } => file,
+            Job::Show { file }
+            | Job::Check { file, .. }
+            | Job::Replay { file }
+            | Job::Vectors { file } => file,
         }
     }
 }

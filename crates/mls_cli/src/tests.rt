@@ -1,6 +1,8 @@
 //! What `mls show` prints, and what the program says of faults.
 
 mod check;
+mod replay;
+mod rows;
 mod vectors;
 
 ghost use Rattle.std.specs.Prelude.{Some};
@@ -25,10 +27,10 @@ const USAGE: &str =
     "error: the following required arguments were not provided:\n  <FILE>\n\nUsage: mls show <FILE>\n\nFor more information, try '--help'.\n";
 
 const UNKNOWN: &str =
-    "error: unrecognized subcommand 'replay'\n\nUsage: mls <COMMAND>\n\nFor more information, try '--help'.\n";
+    "error: unrecognized subcommand 'export'\n\nUsage: mls <COMMAND>\n\nFor more information, try '--help'.\n";
 
 const HELP: &str =
-    "Shows and checks messages of Messaging Layer Security (RFC 9420)\n\nUsage: mls <COMMAND>\n\nCommands:\n  show     Prints a message field by field\n  check    Checks a ratchet tree\n  vectors  Judges test vectors\n  help     Print this message or the help of the given subcommand(s)\n\nOptions:\n  -h, --help     Print help\n  -V, --version  Print version\n\nExit status:\n  0  the content is good\n  1  it is refused, or vectors fail\n  2  the command line is wrong\n  3  a file, the output or memory failed\n";
+    "Shows and checks messages of Messaging Layer Security (RFC 9420)\n\nUsage: mls <COMMAND>\n\nCommands:\n  show     Prints a message field by field\n  check    Checks a ratchet tree\n  replay   Replays a recording of groups\n  vectors  Judges test vectors\n  help     Print this message or the help of the given subcommand(s)\n\nOptions:\n  -h, --help     Print help\n  -V, --version  Print version\n\nExit status:\n  0  the content is good\n  1  it is refused, or vectors or expectations fail\n  2  the command line is wrong\n  3  a file, the output or memory failed\n";
 
 const SHOW_HELP: &str =
     "Prints a message field by field\n\nUsage: mls show <FILE>\n\nArguments:\n  <FILE>  An MLSMessage in hex, or - for the standard input\n\nOptions:\n  -h, --help  Print help\n";
@@ -238,11 +240,12 @@ fn shows_long_texts(rt: HostRuntime) -> Result<(), Fail> {
 #[test]
 fn says_what_is_wrong(rt: HostRuntime) -> Result<(), Fail> {
     let alloc = rt.alloc();
-    let table: [(&[&str], u8, &str); 4] = [
+    let table: [(&[&str], u8, &str); 5] = [
         (&["mls", "show", "FILE"], 3, "mls: cannot read FILE\n"),
         (&["mls", "vectors", "FILE"], 3, "mls: cannot read FILE\n"),
         (&["mls", "show"], 2, USAGE),
-        (&["mls", "replay", "FILE"], 2, UNKNOWN),
+        (&["mls", "replay", "FILE"], 3, "mls: cannot read FILE\n"),
+        (&["mls", "export", "FILE"], 2, UNKNOWN),
     ];
     for (words, status, text) in table {
         let left = served(alloc, &job(alloc, words), None)?;

@@ -3,6 +3,7 @@ use Rattle.std.proofs.Common.{◌≡◌, ℕ, ◌+◌, ◌%◌, ◌^◌, ◌<◌
 use Rattle.std.specs.Prelude.{zip}
 use Rattle.mls_wire.specs.Checks.{Passed, ◌>>◌}
 use Rattle.std.proofs.Math.Nat.{mod-eq_of_lt}
+use Rattle.std.proofs.lemmas.Bool.{eqb-true}
 use Rattle.mls_wire.specs.CheckLaws.{then_ok}
 use Rattle.mls_wire.specs.Reading.{◌>>=◌}
 use Rattle.mls_leaf.specs.declared.key_package.KeyPackage.{KeyPackage}
@@ -43,7 +44,7 @@ use Rattle.mls_make.specs.OwnPath.{IsOwn}
 use Rattle.mls_make.specs.TwoSteps.{SentCommit, sent_commit, welcome_from, welcomed}
 use Rattle.mls_make.proofs.Sent.{secrets_sent}
 
-abbrev commit_of : List ProposalOrRef → MadePath → Commit
+abbrev pub commit_of : List ProposalOrRef → MadePath → Commit
 commit_of list made = record { proposals = list; path = made.path }
 
 -- ---- the first step
@@ -201,11 +202,11 @@ module _ (c : Crypto) (signing : List ℕ) (signer : ℕ) (p : PublicState) (tag
   pub from_none : (js : List Joiner) → (length js == 0) ≡ true → welcome_from c signing signer p tag joiner secrets seed first (map place_of js) ≡ Ok None
   unfolding welcome_from
   from_none [] e = refl
-  from_none (j ∷ js) e = absurd cc
+  from_none (j ∷ js) e = let none : length (j ∷ js) ≡ 0 = eqb-true (length (j ∷ js)) 0 e in absurd (omega arith)
 
   from_some : (js : List Joiner) → (length js == 0) ≡ false → welcome_from c signing signer p tag joiner secrets seed first (map place_of js) ≡ (message_to js >>= λ bytes. Ok (Some bytes))
   unfolding welcome_from
-  from_some [] e = absurd cc
+  from_some [] e = let same : true ≡ false = e in cc
   from_some (j ∷ js) e = refl
 
   pub from_refused : (js : List Joiner) (n : ℕ) → (length js == 0) ≡ false → message_to js ≡ Err n → welcome_from c signing signer p tag joiner secrets seed first (map place_of js) ≡ Err n

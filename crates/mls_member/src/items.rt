@@ -42,11 +42,7 @@ pub(crate) fn listed(alloc: Global, items: &[Item]) -> Result<Items<ProposalOrRe
 }
 
 /// One proposal that a commit call uses: of the committer where it is given in full, else a kept one, or 60.
-fn used_item<'a>(
-    kept: &'a [Kept],
-    committer: u32,
-    item: &'a Item,
-) -> Result<Used<'a>, Refusal>
+fn used_item<'a>(kept: &'a [Kept], committer: u32, item: &'a Item) -> Result<Used<'a>, Refusal>
     requires { IsShortItem item.now }
     ensures answer { Answers (λ u. u) number_of (used_one kept.now committer (listed_of item.now)) result }
     ensures short { IfOk result (λ u. IsShortUsed u) }

@@ -11,7 +11,10 @@ returns c =
     let two : app_of c.in_ok-second.second ≡ with_subcommand (with_subcommand (new_app (codes "mls")) (on_file (codes "show")).top) check_app.top =
     c.in_ok-second.ensures.shape c.in_ok-check.ensures.local
     ∙ ap₂ with_subcommand one (ap (λ (a : App). a.top) c.in_ok-check.ensures.app) in
-    let three : app_of c.in_ok-all.all ≡ with_subcommand (with_subcommand (with_subcommand (new_app (codes "mls")) (on_file (codes "show")).top) check_app.top) (on_file (codes "vectors")).top =
+    let three : app_of c.in_ok-third.third ≡ with_subcommand (with_subcommand (with_subcommand (new_app (codes "mls")) (on_file (codes "show")).top) check_app.top) (on_file (codes "replay")).top =
+    c.in_ok-third.ensures.shape c.in_ok-replay.ensures.local
+    ∙ ap₂ with_subcommand two (ap (λ (a : App). a.top) c.in_ok-replay.ensures.app) in
+    let four : app_of c.in_ok-all.all ≡ with_subcommand (with_subcommand (with_subcommand (with_subcommand (new_app (codes "mls")) (on_file (codes "show")).top) check_app.top) (on_file (codes "replay")).top) (on_file (codes "vectors")).top =
     c.in_ok-all.ensures.shape c.in_ok-vectors.ensures.local
-    ∙ ap₂ with_subcommand two (ap (λ (a : App). a.top) c.in_ok-vectors.ensures.app) in
-    c.described.ensures ∙ ap needing_one three
+    ∙ ap₂ with_subcommand three (ap (λ (a : App). a.top) c.in_ok-vectors.ensures.app) in
+    c.described.ensures ∙ ap needing_one four

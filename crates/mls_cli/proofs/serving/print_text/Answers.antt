@@ -1,16 +1,19 @@
+use Rattle.std.proofs.Common.{refl}
 use Rattle.mls_text.specs.Pages.{made_prints}
 use Rattle.mls_text.specs.Text.{entry_of, line_text}
 use Rattle.mls_vectors.specs.VectorsReport.{entry_of as report_entry_of, entry_text}
+use Rattle.mls_replay.specs.PrintLaws.{prints_it}
+use Rattle.mls_cli.specs.Serving.{IsPrintout}
 use Rattle.mls_cli.proofs.serving.print_text.Goals as goal
 
 pub returns-in-Show-clause-prints : goal.returns-in-Show-clause-prints
 returns-in-Show-clause-prints g c =
-    rw c.in-Show.is (made_prints line_text entry_of _ _ c.show_page.result _ _ c.show_page.ensures.page c.print_made_page.ensures.prints)
+    rw c.in-Show.is (prints_it _ _ _ _ _ refl (made_prints line_text entry_of _ _ c.show_page.result _ _ c.show_page.ensures.page c.print_made_page.ensures.prints))
 
 pub returns-in-Check-clause-prints : goal.returns-in-Check-clause-prints
 returns-in-Check-clause-prints g c =
-    rw c.in-Check.is (made_prints line_text entry_of _ _ c.checked.result _ _ c.checked.ensures c.print_made_page-in-Check.ensures.prints)
+    rw c.in-Check.is (prints_it _ _ _ _ _ refl (made_prints line_text entry_of _ _ c.checked.result _ _ c.checked.ensures c.print_made_page-in-Check.ensures.prints))
 
 pub returns-in-Vectors-clause-prints : goal.returns-in-Vectors-clause-prints
 returns-in-Vectors-clause-prints g c =
-    rw c.in-Vectors.is (made_prints entry_text report_entry_of _ _ c.vectors_page.result _ _ c.vectors_page.ensures c.print_made_page-in-Vectors.ensures.prints)
+    rw c.in-Vectors.is (prints_it _ _ _ _ _ refl (made_prints entry_text report_entry_of _ _ c.vectors_page.result _ _ c.vectors_page.ensures c.print_made_page-in-Vectors.ensures.prints))

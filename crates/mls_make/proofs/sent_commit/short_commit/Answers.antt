@@ -3,4 +3,4 @@ use Rattle.mls_make.proofs.sent_commit.short_commit.Goals as goal
 
 pub returns : goal.returns
 returns c = λ commit says.
-    commit_short c.args.speaker.now commit c.args.framed.now c.bytes.result.now (says (speaking c.args.speaker.now) (speaking_is c.args.speaker.now)) c.bytes.ensures.bytes c.bytes.ensures.short
+    commit_short c.args.speaker.now commit c.args.framed.now c.bytes-bytes.result.now (says (speaking c.args.speaker.now) (speaking_is c.args.speaker.now)) c.bytes-bytes.ensures.bytes c.bytes-bytes.ensures.short

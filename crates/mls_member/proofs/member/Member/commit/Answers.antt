@@ -10,17 +10,23 @@ pub returns-then-has_pending-clause-answer : goal.returns-then-has_pending-claus
 returns-then-has_pending-clause-answer g c = (refl, λ _. is_pending g.S.Suite.crypto c.args.self.now _ c.args.path c.args.seed.now (sym c.is_gone.ensures ∙ c.if-is_gone.false) (sym c.has_pending.ensures ∙ c.if-has_pending.true))
 
 pub returns-then-not-has_next-clause-answer : goal.returns-then-not-has_next-clause-answer
-returns-then-not-has_next-clause-answer g c = (refl, λ _.
-  is_last g.S.Suite.crypto c.args.self.now _ c.args.path c.args.seed.now (sym c.is_gone.ensures ∙ c.if-is_gone.false) (sym c.has_pending.ensures ∙ c.if-has_pending.false) (sym c.has_next.ensures ∙ c.if-not-has_next.true))
+returns-then-not-has_next-clause-answer g c = (
+  refl,
+  λ _.
+      is_last g.S.Suite.crypto c.args.self.now _ c.args.path c.args.seed.now (sym c.is_gone.ensures ∙ c.if-is_gone.false) (sym c.has_pending.ensures ∙ c.if-has_pending.false) (sym c.has_next.ensures ∙ c.if-not-has_next.true),
+)
 
 pub new_commit-requires-clause-epoch : goal.new_commit-requires-clause-epoch
 new_commit-requires-clause-epoch g c = has_room _ (sym c.has_next.ensures ∙ c.if-not-has_next.false)
 
 pub returns-in-Err-clause-answer : goal.returns-in-Err-clause-answer
-returns-in-Err-clause-answer g c = (refl, λ h.
-  commit_fails g.S.Suite.crypto c.args.self.now _ c.args.path c.args.seed.now _
-  (record { here = sym c.is_gone.ensures ∙ c.if-is_gone.false; none = sym c.has_pending.ensures ∙ c.if-has_pending.false; room = sym c.has_next.ensures ∙ c.if-not-has_next.false })
-  (c.in-Err.ensures h))
+returns-in-Err-clause-answer g c = (
+  refl,
+  λ h.
+      commit_fails g.S.Suite.crypto c.args.self.now _ c.args.path c.args.seed.now _
+      (record { here = sym c.is_gone.ensures ∙ c.if-is_gone.false; none = sym c.has_pending.ensures ∙ c.if-has_pending.false; room = sym c.has_next.ensures ∙ c.if-not-has_next.false })
+      (c.in-Err.ensures h),
+)
 
 pub returns-in-Ok-clause-answer : goal.returns-in-Ok-clause-answer
 returns-in-Ok-clause-answer g c =

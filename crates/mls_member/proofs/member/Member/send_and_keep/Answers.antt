@@ -4,8 +4,11 @@ use Rattle.mls_member.proofs.Keeps.{is_within, said_again, said_refused, said_ne
 use Rattle.mls_member.proofs.member.Member.send_and_keep.Goals as goal
 
 pub returns-in-Err : goal.returns-in-Err
-returns-in-Err g c = (refl, λ _.
-  said_refused g.S.Suite.crypto c.args.self.now c.args.proposal c.args.own_key _ _ _ (c.in_ok-said.ensures.message c.args.self.now c.speaker.ensures) (c.in_ok-said.ensures.reference c.args.self.now c.speaker.ensures) c.in-Err.ensures)
+returns-in-Err g c = (
+  refl,
+  λ _.
+      said_refused g.S.Suite.crypto c.args.self.now c.args.proposal c.args.own_key _ _ _ (c.in_ok-said.ensures.message c.args.self.now c.speaker.ensures) (c.in_ok-said.ensures.reference c.args.self.now c.speaker.ensures) c.in-Err.ensures,
+)
 
 pub returns-then-is_kept : goal.returns-then-is_kept
 returns-then-is_kept g c =

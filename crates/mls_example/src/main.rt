@@ -1,0 +1,75 @@
+//! The life of a small group, as a caller of the library writes it.
+#![tactic(auto)]
+
+ghost use Rattle.std.specs.Prelude.{IfOk};
+ghost use Rattle.mls_member.specs.Answers.{IsShortItem};
+
+use anyhow::{Result, bail};
+use mls_leaf::Proposal;
+use mls_member::{Candidate, Effect, Item, Member};
+use mls_suite::Glass;
+use std::alloc::Global;
+
+/// The proposal that adds a candidate.
+#[tactic(auto, using(crate::proofs::Short::short_add))]
+fn addition(candidate: &Candidate<Glass>) -> Result<Item>
+    ensures { IfOk result IsShortItem }
+{
+    candidate.is_short();
+    Ok(Item::Full(Proposal::Add(candidate.key_package().clone()?)))
+}
+
+/// The proposal that removes a member.
+#[tactic(auto, using(crate::proofs::Short::short_remove))]
+fn removal(member: &Member<Glass>) -> Item
+    ensures { IsShortItem result }
+{
+    Item::Full(Proposal::Remove(member.leaf_index()))
+}
+
+/// A key that all members of the epoch can make (RFC 9420, 8.5).
+fn exported(member: &Member<Glass>) -> Result<[u8; 16]> {
+    let mut key = [0; 16];
+    member.epoch().export("example", b"file", &mut key)?;
+    Ok(key)
+}
+
+fn run(rt: &impl Print, alloc: Global) -> Result<()> {
+    // Alice creates a group, and adds Bob, who joins by the Welcome.
+    let alice = Candidate::new(alloc, b"alice", &[1; 32])?;
+    let bob = Candidate::new(alloc, b"bob", &[2; 32])?;
+    let mut alice: Member<Glass> = Member::create(alloc, &alice, b"group", &[3; 32])?;
+    let made = alice.commit(&[addition(&bob)?], true, &[4; 32])?;
+    let Some(welcome) = made.welcome else {
+        bail!("nobody is welcome");
+    };
+    alice.process(&made.commit)?;
+    let mut bob = Member::join(alloc, &bob, &welcome)?.member;
+    println!(rt; "bob joins at leaf {} in epoch {}", bob.leaf_index(), bob.epoch_number())?;
+
+    // Bob proposes a new key for his leaf, and Alice commits that by its reference.
+    let update = bob.propose_update(&[5; 32])?;
+    let Effect::Proposed { reference } = alice.process(&update)? else {
+        bail!("the update isn't kept");
+    };
+    let named = Item::Ref(Vec::from_slice(alloc, &reference)?);
+    let made = alice.commit(&[named], true, &[6; 32])?;
+    alice.process(&made.commit)?;
+    bob.process(&made.commit)?;
+    println!(rt; "both are in epoch {} and {}", alice.epoch_number(), bob.epoch_number())?;
+    let same = exported(&alice)? == exported(&bob)?;
+    println!(rt; "both export the same key: {same}")?;
+
+    // Alice removes Bob.
+    let made = alice.commit(&[removal(&bob)], true, &[7; 32])?;
+    alice.process(&made.commit)?;
+    bob.process(&made.commit)?;
+    println!(rt; "bob is gone: {}", bob.is_gone())?;
+    println!(rt; "alice is in epoch {}", alice.epoch_number())?;
+    Ok(())
+}
+
+fn main(rt: HostRuntime) -> Result<()> {
+    let alloc = rt.alloc();
+    run(&rt, alloc)
+}

@@ -1,0 +1,5 @@
+mod Playing
+mod Naming
+mod Growing
+mod Pages
+mod Closing

@@ -1,0 +1,17 @@
+use Rattle.std.proofs.Common.{◌≡◌, Option, List, ℕ, Bor, OnErr, option_map, ap, sym, subst}
+use Rattle.std.specs.List.{flat_map}
+use Rattle.mls_model.specs.declared.event.Reply.{Reply}
+use Rattle.mls_model.specs.World.{World}
+use Rattle.mls_model.specs.Run.{step}
+use Rattle.mls_text.specs.Ends.{AppendsPart}
+use Rattle.mls_replay.specs.Replay.{entry_text, event_entries, expectation}
+use Rattle.mls_replay.proofs.events.play_event.Goals as goal
+
+pub returns-clause-part : goal.returns-clause-part
+returns-clause-part g c =
+    let reply_is : (step g.S.Suite.crypto c.args.world.now c.args.recorded.now.event).0 ≡ c.in_ok-reply.reply = ap (λ (x : Reply × World). x.0) c.in_ok-reply.ensures in
+    let expect_is : option_map (λ (t : Bor (List ℕ)). t.now) c.as_deref.result ≡ expectation c.args.recorded.now = c.as_deref.ensures.value in
+    let old = g.O.Output.contents c.args.out.now in
+    let new = g.O.Output.contents c.print_reply.new.out in
+    let said = subst (λ (e : Option (List ℕ)). OnErr c.print_reply.result (AppendsPart old new (flat_map entry_text (event_entries c.args.event c.in_ok-reply.reply e)))) expect_is c.print_reply.ensures.part in
+    subst (λ (r : Reply). OnErr c.print_reply.result (AppendsPart old new (flat_map entry_text (event_entries c.args.event r (expectation c.args.recorded.now))))) (sym reply_is) said

@@ -1,0 +1,5 @@
+pub mod Reply
+pub mod Replay
+pub mod ReplayLaws
+pub mod PrintLaws
+pub mod Alike

@@ -1,0 +1,28 @@
+-- The texts of replies, as they are printed and as a recording expects them.
+use Rattle.std.specs.Prelude.{ℕ, true, false, List, ◌++◌, codes, Some, None}
+use Rattle.std.specs.Fmt.{decimal}
+use Rattle.mls_wire.specs.Names.{refusal_name}
+use Rattle.mls_model.specs.declared.effect.Effect.{Effect}
+use Rattle.mls_model.specs.declared.effect.Effect.TheVariants as effect
+use Rattle.mls_model.specs.declared.event.Reply.{Reply}
+use Rattle.mls_model.specs.declared.event.Reply.TheVariants as reply
+
+-- what a delivered message did to the member
+abbrev pub effect_text : Effect → List ℕ
+effect_text (effect.Proposed reference) = codes "proposed"
+effect_text (effect.Known reference) = codes "known"
+effect_text (effect.Advanced epoch) = codes "advanced to " ++ decimal epoch
+effect_text effect.Removed = codes "removed"
+
+-- the text of a reply; a refusal has its number and its name
+abbrev pub reply_text : Reply → List ℕ
+reply_text (reply.Candidate candidate message) = codes "candidate " ++ (decimal candidate ++ (codes ", message " ++ decimal message))
+reply_text (reply.Created member) = codes "member " ++ decimal member
+reply_text (reply.Proposal message) = codes "message " ++ decimal message
+reply_text (reply.Commit message None) = codes "message " ++ decimal message
+reply_text (reply.Commit message (Some welcome)) = codes "message " ++ (decimal message ++ (codes ", welcome " ++ decimal welcome))
+reply_text (reply.Dropped true) = codes "dropped"
+reply_text (reply.Dropped false) = codes "nothing pending"
+reply_text (reply.Delivered done) = effect_text done
+reply_text (reply.Joined member epoch) = codes "member " ++ (decimal member ++ (codes " at epoch " ++ decimal epoch))
+reply_text (reply.Refused number) = codes "refused " ++ (decimal number ++ (codes " " ++ refusal_name number))

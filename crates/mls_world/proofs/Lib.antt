@@ -1,0 +1,4 @@
+mod Reaching
+mod Replying
+mod Ranging
+mod Calling

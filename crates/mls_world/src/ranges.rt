@@ -1,0 +1,84 @@
+//! What the types of numbers tell of events: given bytes are bytes, and leaves have 32 bits. These functions do nothing
+//! else.
+
+ghost use Rattle.std.specs.Prelude.{◌<◌, ◌^◌, length};
+ghost use Rattle.std.specs.List.{AllByRecursion};
+ghost use Rattle.mls_wire.specs.Format.{IsBytes};
+ghost use Rattle.mls_model.specs.Range.{IsSourceInRange, IsItemInRange, IsInRange};
+
+use mls_model::{Event, Source, WorldItem};
+
+/// A slice has no more bytes than memory can.
+pub(crate) fn know_short(bytes: &[u8])
+    ensures { length bytes.now < 2 ^ 63 }
+{
+    let _length = bytes.len();
+}
+
+/// Nor more items.
+pub(crate) fn know_few(items: &[WorldItem])
+    ensures { length items.now < 2 ^ 63 }
+{
+    let _length = items.len();
+}
+
+/// Entries of a slice are bytes.
+fn know_bytes(bytes: &[u8])
+    ensures { IsBytes bytes.now }
+{}
+
+pub(crate) fn know_source(source: &Source)
+    ensures { IsSourceInRange source.now }
+{
+    match source {
+        Source::Given(bytes) => know_bytes(bytes.as_slice()),
+        Source::Message(_) => {}
+    }
+}
+
+fn know_item(item: &WorldItem)
+    ensures { IsItemInRange item.now }
+{
+    match item {
+        WorldItem::RefOf(source) => know_source(source),
+        WorldItem::Add(source) => know_source(source),
+        WorldItem::Remove(leaf) => {
+            let _leaf = *leaf;
+        }
+    }
+}
+
+pub(crate) fn know_items(items: &[WorldItem])
+    ensures { AllByRecursion IsItemInRange items.now }
+{
+    for item in items {
+        know_item(item);
+    }
+}
+
+/// An event is in range.
+#[tactic(auto, unfolding(mls_model::specs::Range::IsInRange))]
+pub(crate) fn know_event(event: &Event)
+    ensures { IsInRange event.now }
+{
+    match event {
+        Event::ProposeAdd { key_package, .. } => know_source(key_package),
+        Event::Commit { items, .. } => know_items(items.as_slice()),
+        Event::Deliver { bytes, .. } => know_source(bytes),
+        Event::Join { bytes, .. } => know_source(bytes),
+        Event::Candidate { .. } => {}
+        Event::Create { .. } => {}
+        Event::ProposeUpdate { .. } => {}
+        Event::ProposeRemove { .. } => {}
+        Event::DropPending { .. } => {}
+    }
+}
+
+/// And so are all events of a list.
+pub(crate) fn know_events(events: &[Event])
+    ensures { AllByRecursion IsInRange events.now }
+{
+    for event in events {
+        know_event(event);
+    }
+}

@@ -1,0 +1,98 @@
+//! A world.
+
+ghost use Rattle.std.specs.Prelude.{◌≡◌, slice_get, option_map};
+ghost use Rattle.std.specs.Option.{option_copied};
+ghost use Rattle.mls_model.specs.Answers.{Runs};
+ghost use Rattle.mls_model.specs.Headline.{Headline};
+ghost use Rattle.mls_model.specs.World as model;
+ghost use Rattle.mls_events.specs.Answers.{Steps};
+
+use crate::ranges::{know_event, know_events};
+use crate::replies::push_replies;
+use mls_events::{Journal, PlainWorld};
+use mls_member::Member;
+use mls_model::{Event, Reply};
+use mls_suite::{OutOfMemory, Suite};
+use std::alloc::Global;
+use std::marker::Model;
+
+/// A world that came from the empty one by events.
+#[derive(Drop)]
+pub struct World<S: Suite> {
+    pub(crate) world: PlainWorld<S>,
+    pub(crate) alloc: Global,
+}
+
+impl<S: Suite> Model for World<S> {
+    ghost use Rattle.mls_model.specs.World as model;
+    ghost use Rattle.mls_events.specs.Codes.{coded_world};
+    ghost use Rattle.mls_runs.specs.Reachable.{IsReachable};
+
+    ghost Value = { model.World };
+
+    ghost coded = { coded_world };
+
+    ghost view = { λ w. w.world };
+
+    ghost invariant = { λ w. IsReachable S.crypto w.world };
+}
+
+impl<S: Suite> World<S> {
+    /// The world where nothing happened yet.
+    pub fn new(alloc: Global) -> World<S>
+        ensures { result ≡ model.empty_world }
+    {
+        World {
+            world: PlainWorld::new(alloc),
+            alloc,
+        }
+    }
+
+    /// One event: a refusal is the reply, but for want of memory, at which the world is as before.
+    pub fn step(&mut self, event: &Event) -> Result<Reply, OutOfMemory>
+        ensures { Steps S.crypto event.now self.old self.new result }
+    {
+        know_event(event);
+        self.world.step(event)
+    }
+
+    /// The events in order, with a reply to each; a refusal is a reply. Where one finds no memory, the world and the replies
+    /// are those of the events before it. Of the world that it leaves the headline holds: what members agree on, what they
+    /// accept, and which keys they have.
+    pub fn run(&mut self, events: &[Event], replies: &mut Vec<Reply>) -> Result<(), OutOfMemory>
+        ensures run { Runs S.crypto events.now self.old self.new replies.old.items replies.new.items result }
+        ensures headline { Headline S.crypto self.new }
+    {
+        know_events(events);
+        push_replies(&mut self.world, events, replies)
+    }
+
+    /// What holds of each such world: what members agree on, what they accept, and which keys they have. It does nothing
+    /// else.
+    pub fn headline(&self)
+        ensures { Headline S.crypto self.now }
+    {
+        let _world = &self.world;
+    }
+
+    /// Member k.
+    pub fn member(&self, k: usize) -> Option<&Member<S>>
+        ensures { option_copied result ≡ option_map (λ (s : model.Seat). s.member) (slice_get self.now.seats k) }
+    {
+        self.world.member(k)
+    }
+
+    /// The journal of member k: where it began, and the commits that it followed since.
+    pub fn journal(&self, k: usize) -> Option<Journal<'_>>
+        ensures { result ≡ option_map (λ (s : model.Seat). s.journal) (slice_get self.now.seats k) }
+    {
+        self.world.journal(k)
+    }
+
+    /// Message n.
+    pub fn message(&self, n: usize) -> Option<&[u8]>
+        ensures { option_copied result ≡ slice_get self.now.messages n }
+    {
+        self.world.message(n)
+    }
+}

@@ -1,0 +1,36 @@
+//! Callers of worlds: one that needs no more than what `run` promises, and worked rows with worlds.
+#![tactic(auto)]
+
+ghost use Rattle.std.specs.Prelude.{◌≡◌, ◌++◌, IfOk};
+ghost use Rattle.mls_model.specs.Headline.{AgreeSecretIfHomemade};
+ghost use Rattle.mls_model.specs.Run as model;
+ghost use Rattle.mls_model.specs.World.{empty_world};
+
+#[cfg(test)]
+mod numbers;
+#[cfg(test)]
+mod rows;
+#[cfg(test)]
+mod script;
+
+use mls_model::{Event, Reply};
+use mls_suite::{OutOfMemory, Suite};
+use mls_world::World;
+use std::alloc::Global;
+
+/// The world that a list of events leaves, with a reply to each. Two of its members that weren't removed, and whose journals
+/// are one homemade journal, hold one epoch secret and the nine secrets that it gives: what `run` promises shows it, with
+/// no proof beside it.
+pub fn run_from_start<S: Suite>(
+    alloc: Global,
+    events: &[Event],
+    replies: &mut Vec<Reply>,
+) -> Result<World<S>, OutOfMemory>
+    ensures ran { IfOk result (λ w. w ≡ model.run S.crypto empty_world events.now) }
+    ensures replied { IfOk result (λ _. replies.new.items ≡ replies.old.items ++ model.replies S.crypto empty_world events.now) }
+    ensures secret { IfOk result AgreeSecretIfHomemade }
+{
+    let mut world = World::new(alloc);
+    world.run(events, replies)?;
+    Ok(world)
+}

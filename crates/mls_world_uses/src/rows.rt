@@ -1,0 +1,102 @@
+//! Groups of two and three members, and what crosses between them.
+
+use crate::script::{Act, Part, Parts, Said, Sent, both_ways, run};
+use mls_model::{Effect, Source};
+use mls_suite::{Glass, OutOfMemory};
+use mls_world::World;
+use std::alloc::Global;
+use std::process::Abort;
+use std::test::Fail;
+
+/// Whether members i and j hold one public context and one epoch secret.
+fn agree(world: &World<Glass>, i: usize, j: usize) -> bool {
+    match (world.member(i), world.member(j)) {
+        (Some(m), Some(n)) => {
+            m.context_bytes() == n.context_bytes()
+                && m.epoch().epoch_secret() == n.epoch().epoch_secret()
+        }
+        _ => false,
+    }
+}
+
+/// The first member adds the second, who joins. The commit is message 2, the Welcome message 3.
+fn two_members(rt: &impl Abort, alloc: Global) -> Result<World<Glass>, OutOfMemory> {
+    let add = Parts::One(Part::Add(Sent::Made(1)));
+    let acts = [
+        (Act::Candidate(b'a', 1), Said::Candidate(0, 0)),
+        (Act::Create(0, 2), Said::Created(0)),
+        (Act::Candidate(b'b', 3), Said::Candidate(1, 1)),
+        (Act::Commit(0, add, true, 4), Said::Welcome(2, 3)),
+        (Act::Deliver(0, Sent::Made(2)), Said::Advanced(1)),
+        (Act::Join(1, Sent::Made(3)), Said::Joined(1, 1)),
+    ];
+    both_ways(rt, alloc, &acts)
+}
+
+#[test]
+fn one_is_added(rt: HostRuntime) -> Result<(), Fail> {
+    let mut world = two_members(&rt, rt.alloc())?;
+    let removal = Parts::One(Part::Ref(4));
+    let acts = [
+        // It is spent, and its Welcome is no message for a member.
+        (Act::Join(1, Sent::Made(3)), Said::Refused(91)),
+        (Act::Deliver(1, Sent::Made(3)), Said::Refused(41)),
+        (Act::Remove(1, 0), Said::Proposal(4)),
+        (Act::Commit(1, removal, true, 5), Said::Commit(5)),
+        (Act::Deliver(0, Sent::Made(4)), Said::Proposed),
+        (Act::Deliver(0, Sent::Made(5)), Said::Removed),
+        (Act::Deliver(0, Sent::Made(5)), Said::Refused(40)),
+        (Act::Deliver(1, Sent::Made(5)), Said::Advanced(2)),
+    ];
+    assert!(rt; agree(&world, 0, 1));
+    run(&rt, rt.alloc(), &mut world, &acts)?;
+    assert!(rt; !agree(&world, 0, 1));
+    Ok(())
+}
+
+// Given bytes are followed before they are made here: the journal becomes homemade, and the maker joins it.
+#[test]
+fn followed_before_it_is_made(rt: HostRuntime) -> Result<(), Fail> {
+    let alloc = rt.alloc();
+    let commit = [(Act::Commit(0, Parts::Nothing, true, 6), Said::Commit(4))];
+    let mut twin = two_members(&rt, alloc)?;
+    run(&rt, alloc, &mut twin, &commit)?;
+    let Some(message) = twin.message(4) else {
+        return Err("no commit".into());
+    };
+    let given = Source::Given(message.to_vec(alloc)?);
+    let mut world = two_members(&rt, alloc)?;
+    assert_eq!(rt; world.deliver(1, &given)?, Effect::Advanced { epoch: 2 });
+    run(&rt, alloc, &mut world, &commit)?;
+    run(
+        &rt,
+        alloc,
+        &mut world,
+        &[(Act::Deliver(0, Sent::Made(4)), Said::Advanced(2))],
+    )?;
+    assert!(rt; agree(&world, 0, 1));
+    Ok(())
+}
+
+#[test]
+fn crossing_commits(rt: HostRuntime) -> Result<(), Fail> {
+    let mut world = two_members(&rt, rt.alloc())?;
+    let nothing = Parts::Nothing;
+    let acts = [
+        (Act::Commit(0, nothing, true, 6), Said::Commit(4)),
+        (Act::Commit(1, nothing, true, 7), Said::Commit(5)),
+        (Act::Commit(1, nothing, true, 8), Said::Refused(67)),
+        // Each follows the other's.
+        (Act::Deliver(0, Sent::Made(5)), Said::Advanced(2)),
+        (Act::Deliver(0, Sent::Made(4)), Said::Refused(43)),
+        (Act::Deliver(1, Sent::Made(4)), Said::Advanced(2)),
+        (Act::Commit(1, nothing, true, 9), Said::Commit(6)),
+        // And what one makes then is not for the other.
+        (Act::Deliver(0, Sent::Made(6)), Said::Refused(46)),
+        (Act::Drop(1), Said::Dropped(true)),
+        (Act::Deliver(1, Sent::Made(6)), Said::Refused(48)),
+    ];
+    run(&rt, rt.alloc(), &mut world, &acts)?;
+    assert!(rt; !agree(&world, 0, 1));
+    Ok(())
+}

@@ -1,0 +1,293 @@
+//! Events and replies in short forms.
+
+use mls_model::{Effect, Event, Reply, Source, WorldItem};
+use mls_suite::{Glass, OutOfMemory};
+use mls_world::{World, WorldError};
+use std::alloc::Global;
+use std::process::Abort;
+
+/// Where bytes come from.
+#[derive(Clone, Copy)]
+pub enum Sent {
+    /// The message of this number.
+    Made(usize),
+    /// A Welcome for nobody.
+    Welcome,
+    /// The beginning of a message.
+    Cut,
+}
+
+/// A proposal of a commit.
+#[derive(Clone, Copy)]
+pub enum Part {
+    Ref(usize),
+    Add(Sent),
+    Remove(u32),
+}
+
+/// The proposals of a commit.
+#[derive(Clone, Copy)]
+pub enum Parts {
+    Nothing,
+    One(Part),
+    Two(Part, Part),
+}
+
+/// An event. A name has one byte, and so has a seed, which stands 32 times; the group is "g".
+#[derive(Clone, Copy)]
+pub enum Act {
+    Candidate(u8, u8),
+    Create(usize, u8),
+    Add(usize, Sent),
+    Update(usize, u8),
+    Remove(usize, u32),
+    /// Of a member, with whether a path is wanted.
+    Commit(usize, Parts, bool, u8),
+    Drop(usize),
+    Deliver(usize, Sent),
+    Join(usize, Sent),
+}
+
+/// A reply, without the references of proposals.
+#[derive(Clone, Copy, Debug, PartialEq, Eq)]
+pub enum Said {
+    Candidate(usize, usize),
+    Created(usize),
+    Proposal(usize),
+    Commit(usize),
+    Welcome(usize, usize),
+    Dropped(bool),
+    Proposed,
+    Known,
+    Advanced(u64),
+    Removed,
+    Joined(usize, u64),
+    Refused(u8),
+}
+
+fn source_of(alloc: Global, from: Sent) -> Result<Source, OutOfMemory> {
+    match from {
+        Sent::Made(number) => Ok(Source::Message(number)),
+        Sent::Welcome => { Ok(Source::Given([0, 1, 0, 3, 0xf0, 1, 0, 0].to_vec(alloc)?)) }
+        Sent::Cut => Ok(Source::Given([0].to_vec(alloc)?)),
+    }
+}
+
+fn item_of(alloc: Global, part: Part) -> Result<WorldItem, OutOfMemory> {
+    match part {
+        Part::Ref(number) => Ok(WorldItem::RefOf(Source::Message(number))),
+        Part::Add(from) => Ok(WorldItem::Add(source_of(alloc, from)?)),
+        Part::Remove(leaf) => Ok(WorldItem::Remove(leaf)),
+    }
+}
+
+fn items_of(alloc: Global, parts: Parts) -> Result<Vec<WorldItem>, OutOfMemory> {
+    let mut list = Vec::new(alloc);
+    match parts {
+        Parts::Nothing => {}
+        Parts::One(part) => list.push(item_of(alloc, part)?)?,
+        Parts::Two(first, second) => {
+            list.push(item_of(alloc, first)?)?;
+            list.push(item_of(alloc, second)?)?;
+        }
+    }
+    Ok(list)
+}
+
+fn candidate_event(alloc: Global, name: u8, seed: u8) -> Result<Event, OutOfMemory> {
+    let identity = [name].to_vec(alloc)?;
+    Ok(Event::Candidate {
+        identity,
+        seed: [seed; 32],
+    })
+}
+
+fn create_event(alloc: Global, candidate: usize, seed: u8) -> Result<Event, OutOfMemory> {
+    let group = b"g".to_vec(alloc)?;
+    Ok(Event::Create {
+        candidate,
+        group,
+        seed: [seed; 32],
+    })
+}
+
+fn commit_event(
+    alloc: Global,
+    member: usize,
+    parts: Parts,
+    path: bool,
+    seed: u8,
+) -> Result<Event, OutOfMemory> {
+    let items = items_of(alloc, parts)?;
+    Ok(Event::Commit {
+        member,
+        items,
+        path,
+        seed: [seed; 32],
+    })
+}
+
+/// The event that an act stands for.
+fn event_of(alloc: Global, act: Act) -> Result<Event, OutOfMemory> {
+    match act {
+        Act::Candidate(name, seed) => candidate_event(alloc, name, seed),
+        Act::Create(n, seed) => create_event(alloc, n, seed),
+        Act::Add(member, from) => Ok(Event::ProposeAdd {
+            member,
+            key_package: source_of(alloc, from)?,
+        }),
+        Act::Update(member, seed) => Ok(Event::ProposeUpdate {
+            member,
+            seed: [seed; 32],
+        }),
+        Act::Remove(member, leaf) => Ok(Event::ProposeRemove { member, leaf }),
+        Act::Commit(member, parts, path, seed) => commit_event(alloc, member, parts, path, seed),
+        Act::Drop(member) => Ok(Event::DropPending { member }),
+        Act::Deliver(member, from) => Ok(Event::Deliver {
+            member,
+            bytes: source_of(alloc, from)?,
+        }),
+        Act::Join(candidate, from) => Ok(Event::Join {
+            candidate,
+            bytes: source_of(alloc, from)?,
+        }),
+    }
+}
+
+fn shown_effect(effect: Effect) -> Said {
+    match effect {
+        Effect::Proposed { .. } => Said::Proposed,
+        Effect::Known { .. } => Said::Known,
+        Effect::Advanced { epoch } => Said::Advanced(epoch),
+        Effect::Removed => Said::Removed,
+    }
+}
+
+fn shown(reply: Reply) -> Said {
+    match reply {
+        Reply::Candidate { candidate, message } => Said::Candidate(candidate, message),
+        Reply::Created { member } => Said::Created(member),
+        Reply::Proposal { message } => Said::Proposal(message),
+        Reply::Commit {
+            message,
+            welcome: None,
+        } => Said::Commit(message),
+        Reply::Commit {
+            message,
+            welcome: Some(welcome),
+        } => Said::Welcome(message, welcome),
+        Reply::Dropped { pending } => Said::Dropped(pending),
+        Reply::Delivered { effect: e } => shown_effect(e),
+        Reply::Joined { member, epoch } => Said::Joined(member, epoch),
+        Reply::Refused { number } => Said::Refused(number),
+    }
+}
+
+/// Runs acts in a world, each of which has its reply.
+pub fn run(
+    rt: &impl Abort,
+    alloc: Global,
+    world: &mut World<Glass>,
+    acts: &[(Act, Said)],
+) -> Result<(), OutOfMemory> {
+    let mut events = Vec::new(alloc);
+    for (act, _) in acts {
+        events.push(event_of(alloc, *act)?)?;
+    }
+    let mut replies = Vec::new(alloc);
+    world.run(&events, &mut replies)?;
+    assert_eq!(rt; replies.len(), acts.len());
+    for (reply, (_, wanted)) in replies.iter().zip(acts) {
+        assert_eq!(rt; shown(*reply), *wanted);
+    }
+    Ok(())
+}
+
+/// What the call that an event is answers: candidates, groups and joins.
+fn entered(world: &mut World<Glass>, event: &Event) -> Result<Said, WorldError> {
+    match event {
+        Event::Candidate { identity, seed } => {
+            let new = world.candidate(identity, seed)?;
+            Ok(Said::Candidate(new.candidate, new.message))
+        }
+        Event::Create {
+            candidate,
+            group,
+            seed,
+        } => Ok(Said::Created(world.create(*candidate, group, seed)?)),
+        Event::Join { candidate, bytes } => {
+            let new = world.join(*candidate, bytes)?;
+            Ok(Said::Joined(new.member, new.epoch))
+        }
+        _ => sent(world, event),
+    }
+}
+
+/// What members send.
+fn sent(world: &mut World<Glass>, event: &Event) -> Result<Said, WorldError> {
+    match event {
+        Event::ProposeAdd {
+            member,
+            key_package,
+        } => Ok(Said::Proposal(world.propose_add(*member, key_package)?)),
+        Event::ProposeUpdate { member, seed } => {
+            Ok(Said::Proposal(world.propose_update(*member, seed)?))
+        }
+        Event::ProposeRemove { member, leaf } => {
+            Ok(Said::Proposal(world.propose_remove(*member, *leaf)?))
+        }
+        _ => followed(world, event),
+    }
+}
+
+/// What members commit and follow.
+fn followed(world: &mut World<Glass>, event: &Event) -> Result<Said, WorldError> {
+    match event {
+        Event::Commit {
+            member,
+            items,
+            path,
+            seed,
+        } => {
+            let new = world.commit(*member, items, *path, seed)?;
+            match new.welcome {
+                Some(welcome) => Ok(Said::Welcome(new.message, welcome)),
+                None => Ok(Said::Commit(new.message)),
+            }
+        }
+        Event::DropPending { member } => Ok(Said::Dropped(world.drop_pending(*member)?)),
+        Event::Deliver { member, bytes } => Ok(shown_effect(world.deliver(*member, bytes)?)),
+        _ => Ok(Said::Refused(0)),
+    }
+}
+
+/// Calls what each act is, which answers its reply.
+pub fn call_each(
+    rt: &impl Abort,
+    alloc: Global,
+    world: &mut World<Glass>,
+    acts: &[(Act, Said)],
+) -> Result<(), OutOfMemory> {
+    for (act, wanted) in acts {
+        let event = event_of(alloc, *act)?;
+        let said = match entered(world, &event) {
+            Ok(said) => said,
+            Err(error) => Said::Refused(error.number()),
+        };
+        assert_eq!(rt; said, *wanted);
+    }
+    Ok(())
+}
+
+/// Runs acts in one world, and calls them in another.
+pub fn both_ways(
+    rt: &impl Abort,
+    alloc: Global,
+    acts: &[(Act, Said)],
+) -> Result<World<Glass>, OutOfMemory> {
+    let mut world = World::new(alloc);
+    run(rt, alloc, &mut world, acts)?;
+    let mut other = World::new(alloc);
+    call_each(rt, alloc, &mut other, acts)?;
+    Ok(world)
+}
