@@ -52,9 +52,10 @@ list_fits kept leaf (x ∷ xs) used h short lt =
     let one = bind_ok _ _ _ h in
     let more = bind_ok _ _ _ one.2 in
     let is : one.0 ∷ more.0 ≡ used = ok_is _ _ more.2 in
-    let parts : AreShortUsed (one.0 ∷ more.0) = subst AreShortUsed (sym is) short in
-    (one_fits kept leaf x one.0 one.1 parts.0.0 (short_first (proposal_or_ref.spell x) (flat_map proposal_or_ref.spell xs) _ lt),
-      list_fits kept leaf xs more.0 more.1 parts.1 (short_last (proposal_or_ref.spell x) (flat_map proposal_or_ref.spell xs) _ lt))
+    let parts : AreShortUsed (one.0 ∷ more.0) = subst AreShortUsed (sym is) short in (
+      one_fits kept leaf x one.0 one.1 parts.0.0 (short_first (proposal_or_ref.spell x) (flat_map proposal_or_ref.spell xs) _ lt),
+      list_fits kept leaf xs more.0 more.1 parts.1 (short_last (proposal_or_ref.spell x) (flat_map proposal_or_ref.spell xs) _ lt),
+    )
 
 commit_list : (k : Commit) → length (commit.spell k) < 2 ^ 30 → length (flat_map proposal_or_ref.spell k.proposals) < 2 ^ 30
 unfolding commit

@@ -117,7 +117,14 @@ pub(crate) fn own_path<S: Suite>(
         secrets,
         keys,
         tree,
-    } = new_path::<S>(alloc, speaker.group, speaker.signing, speaker.leaf, edits, seed)?;
+    } = new_path::<S>(
+        alloc,
+        speaker.group,
+        speaker.signing,
+        speaker.leaf,
+        edits,
+        seed,
+    )?;
     let commit_secret = secrets.commit_secret;
     Ok(OwnPath {
         path: Some(path),

@@ -83,8 +83,11 @@ fn next_epoch(
 {
     let context = &change.context;
     let spelled = spelling(alloc, context)?;
-    let Start { joiner, epoch, .. } =
-        Epoch::next(speaker.epoch.init_secret(), commit_secret, &spelled);
+    let Start { joiner, epoch, .. } = Epoch::next(
+        speaker.epoch.init_secret(),
+        commit_secret,
+        &spelled,
+    );
     let tag = epoch.confirmation_tag(context.confirmed_transcript_hash.as_slice());
     Ok(Begun { joiner, epoch, tag })
 }
@@ -132,7 +135,14 @@ fn drafted<S: Suite>(
     ensures tag { IfOk result (λ d. d.begun.tag ≡ confirmation_tag d.begun.epoch d.change.context.confirmed_transcript_hash) }
 {
     let signature = sign::<S>(alloc, speaker, framed)?;
-    let change = Change::new(alloc, speaker.group, edits, tree, framed.bytes(), &signature)?;
+    let change = Change::new(
+        alloc,
+        speaker.group,
+        edits,
+        tree,
+        framed.bytes(),
+        &signature,
+    )?;
     let begun = next_epoch(alloc, speaker, commit_secret, &change)?;
     Ok(Draft {
         signature,

@@ -20,6 +20,7 @@ use std::marker::Model;
 #[derive(Drop)]
 pub struct World<S: Suite> {
     pub(crate) world: PlainWorld<S>,
+    // Proofs take it for the `Vec` of an event whose elements are those of a slice.
     pub(crate) alloc: Global,
 }
 

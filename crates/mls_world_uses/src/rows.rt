@@ -1,7 +1,7 @@
 //! Groups of two and three members, and what crosses between them.
 
 use crate::script::{Act, Part, Parts, Said, Sent, both_ways, run};
-use mls_model::{Effect, Source};
+use mls_model::{Effect, Event, Reply, Source};
 use mls_suite::{Glass, OutOfMemory};
 use mls_world::World;
 use std::alloc::Global;
@@ -49,8 +49,41 @@ fn one_is_added(rt: HostRuntime) -> Result<(), Fail> {
         (Act::Deliver(1, Sent::Made(5)), Said::Advanced(2)),
     ];
     assert!(rt; agree(&world, 0, 1));
+    assert!(rt; world.journal(1).is_some());
+    assert!(rt; world.journal(2).is_none());
+    world.headline();
     run(&rt, rt.alloc(), &mut world, &acts)?;
     assert!(rt; !agree(&world, 0, 1));
+    Ok(())
+}
+
+#[test]
+fn an_update_by_reference(rt: HostRuntime) -> Result<(), Fail> {
+    let mut world = two_members(&rt, rt.alloc())?;
+    let add = Parts::One(Part::Ref(5));
+    let update = Parts::One(Part::Ref(8));
+    let acts = [
+        // A third, added by a proposal.
+        (Act::Candidate(b'c', 5), Said::Candidate(2, 4)),
+        (Act::Add(1, Sent::Made(4)), Said::Proposal(5)),
+        (Act::Deliver(0, Sent::Made(5)), Said::Proposed),
+        (Act::Commit(0, add, false, 6), Said::Welcome(6, 7)),
+        (Act::Deliver(0, Sent::Made(6)), Said::Advanced(2)),
+        (Act::Deliver(1, Sent::Made(6)), Said::Advanced(2)),
+        (Act::Join(2, Sent::Made(7)), Said::Joined(2, 2)),
+        (Act::Update(2, 7), Said::Proposal(8)),
+        (Act::Deliver(1, Sent::Made(8)), Said::Proposed),
+        (Act::Deliver(1, Sent::Made(8)), Said::Known),
+        (Act::Deliver(0, Sent::Made(8)), Said::Proposed),
+        (Act::Commit(1, update, false, 8), Said::Commit(9)),
+        (Act::Deliver(0, Sent::Made(9)), Said::Advanced(3)),
+        (Act::Deliver(1, Sent::Made(9)), Said::Advanced(3)),
+        (Act::Deliver(2, Sent::Made(9)), Said::Advanced(3)),
+        (Act::Deliver(2, Sent::Made(9)), Said::Refused(43)),
+    ];
+    run(&rt, rt.alloc(), &mut world, &acts)?;
+    assert!(rt; agree(&world, 0, 1));
+    assert!(rt; agree(&world, 0, 2));
     Ok(())
 }
 
@@ -64,9 +97,13 @@ fn followed_before_it_is_made(rt: HostRuntime) -> Result<(), Fail> {
     let Some(message) = twin.message(4) else {
         return Err("no commit".into());
     };
-    let given = Source::Given(message.to_vec(alloc)?);
+    let event = Event::Deliver {
+        member: 1,
+        bytes: Source::Given(message.to_vec(alloc)?),
+    };
     let mut world = two_members(&rt, alloc)?;
-    assert_eq!(rt; world.deliver(1, &given)?, Effect::Advanced { epoch: 2 });
+    let effect = Effect::Advanced { epoch: 2 };
+    assert_eq!(rt; world.step(&event)?, Reply::Delivered { effect });
     run(&rt, alloc, &mut world, &commit)?;
     run(
         &rt,

@@ -219,12 +219,12 @@ fn entered(world: &mut World<Glass>, event: &Event) -> Result<Said, WorldError> 
             let new = world.join(*candidate, bytes)?;
             Ok(Said::Joined(new.member, new.epoch))
         }
-        _ => sent(world, event),
+        _ => proposed(world, event),
     }
 }
 
-/// What members send.
-fn sent(world: &mut World<Glass>, event: &Event) -> Result<Said, WorldError> {
+/// What members propose.
+fn proposed(world: &mut World<Glass>, event: &Event) -> Result<Said, WorldError> {
     match event {
         Event::ProposeAdd {
             member,
