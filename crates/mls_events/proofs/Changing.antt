@@ -142,7 +142,7 @@ made_last js j e maker epoch adds welcome = rw (journal_seam js (with_entry j e)
 
 pub made_added : (es : List Entrant) (ss : List Seated) (ms more : List (List ℕ)) (ds : List Making) (js : List Journal) (j : Journal) (e : Entry) (maker : ℕ) (epoch : List ℕ) (adds : List (List ℕ)) (welcome : Option (ℕ × List ℕ)) → AreStored ss ds js
     → world_of es ss (ms ++ more) (ds ++ record { maker = maker; journal = length js; epoch = epoch; adds = adds; welcome = welcome } ∷ []) (js ++ with_entry j e ∷ [])
-        ≡ record (world_of es ss ms ds js) { messages = ms ++ more; made = map (made_of js) ds ++ record { maker = maker; journal = j; entry = e; epoch = epoch; adds = adds; welcome = welcome } ∷ [] }
+    ≡ record (world_of es ss ms ds js) { messages = ms ++ more; made = map (made_of js) ds ++ record { maker = maker; journal = j; entry = e; epoch = epoch; adds = adds; welcome = welcome } ∷ [] }
 made_added es ss ms more ds js j e maker epoch adds welcome h =
     let new = js ++ with_entry j e ∷ [] in
     let d : Making = record { maker = maker; journal = length js; epoch = epoch; adds = adds; welcome = welcome } in
@@ -150,7 +150,7 @@ made_added es ss ms more ds js j e maker epoch adds welcome h =
     let b : map (made_of new) ds ≡ map (made_of js) ds = made_stay js (with_entry j e ∷ []) ds h.made in
     let last : made_of new d ≡ record { maker = maker; journal = j; entry = e; epoch = epoch; adds = adds; welcome = welcome } = made_last js j e maker epoch adds welcome in
     let f : map (made_of new) (ds ++ d ∷ []) ≡ map (made_of js) ds ++ record { maker = maker; journal = j; entry = e; epoch = epoch; adds = adds; welcome = welcome } ∷ [] =
-        map-append (made_of new) ds (d ∷ []) ∙ ap (λ (l : List CommitMade). l ++ made_of new d ∷ []) b ∙ ap (λ (x : CommitMade). map (made_of js) ds ++ x ∷ []) last in
+    map-append (made_of new) ds (d ∷ []) ∙ ap (λ (l : List CommitMade). l ++ made_of new d ∷ []) b ∙ ap (λ (x : CommitMade). map (made_of js) ds ++ x ∷ []) last in
     ap (λ (l : List Seat). parts es l (ms ++ more) (map (made_of new) (ds ++ d ∷ []))) a ∙ ap (λ (l : List CommitMade). parts es (map (seat_of js) ss) (ms ++ more) l) f
 
 pub stored_made : (ss : List Seated) (ds : List Making) (js : List Journal) (j : Journal) (e : Entry) (d : Making) → AreStored ss ds js → d.journal ≡ length js → AreStored ss (ds ++ d ∷ []) (js ++ with_entry j e ∷ [])

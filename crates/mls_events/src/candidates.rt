@@ -35,9 +35,7 @@ impl<S: Suite> PlainWorld<S> {
     fn has_signature_key(&self, key: &[u8]) -> bool
         ensures { result ≡ list_any (λ (e : model.Entrant). bytes_eq e.candidate.offered.leaf_node.signature_key key.now) self.now.entrants }
     {
-        self.entrants
-            .iter()
-            .any(|e| e.candidate.leaf_node().signature_key.as_slice() == key)
+        self.entrants.iter().any(|e| e.candidate.leaf_node().signature_key.as_slice() == key)
     }
 
     /// A candidate that isn't yet in the world: 93 another has its signature key, then the checks of a candidate.

@@ -45,7 +45,11 @@ fn run(rt: &impl Print, alloc: Global) -> Result<()> {
     };
     alice.process(&made.commit)?;
     let mut bob = Member::join(alloc, &bob, &welcome)?.member;
-    println!(rt; "bob joins at leaf {} in epoch {}", bob.leaf_index(), bob.epoch_number())?;
+    println!(rt;
+        "bob joins at leaf {} in epoch {}",
+        bob.leaf_index(),
+        bob.epoch_number()
+    )?;
 
     // Bob proposes a new key for his leaf, and Alice commits that by its reference.
     let update = bob.propose_update(&[5; 32])?;
@@ -56,7 +60,11 @@ fn run(rt: &impl Print, alloc: Global) -> Result<()> {
     let made = alice.commit(&[named], true, &[6; 32])?;
     alice.process(&made.commit)?;
     bob.process(&made.commit)?;
-    println!(rt; "both are in epoch {} and {}", alice.epoch_number(), bob.epoch_number())?;
+    println!(rt;
+        "both are in epoch {} and {}",
+        alice.epoch_number(),
+        bob.epoch_number()
+    )?;
     let same = exported(&alice)? == exported(&bob)?;
     println!(rt; "both export the same key: {same}")?;
 

@@ -147,8 +147,12 @@ on_err (Err e) p = p
 
 pub said_nonempty : (i : ℕ) (reply : Reply) (expect : Option (List ℕ)) → 0 < length (flat_map entry_text (event_entries i reply expect))
 said_nonempty i reply expect =
-    omega (arith, length-append (entry_text (replied i reply)) (flat_map entry_text (unmet i reply expect)),
-    length-append (decimal i) (codes ": " ++ (reply_text reply ++ codes "\n")), length-append (codes ": ") (reply_text reply ++ codes "\n"))
+    omega (
+      arith,
+      length-append (entry_text (replied i reply)) (flat_map entry_text (unmet i reply expect)),
+      length-append (decimal i) (codes ": " ++ (reply_text reply ++ codes "\n")),
+      length-append (codes ": ") (reply_text reply ++ codes "\n"),
+    )
 
 pub said_met : (i : ℕ) (reply : Reply) (expect : Option (List ℕ)) → is_met reply expect ≡ true → flat_map entry_text (event_entries i reply expect) ≡ entry_text (replied i reply)
 said_met i reply expect met = rw met (append-nil (entry_text (replied i reply)))

@@ -32,11 +32,7 @@ fn status_of(met: bool) -> u8
 
 /// Runs the events in a new world, prints the lines of each before the next one runs, and in the end a line for each
 /// member. It answers the exit status: 1 where a reply isn't as expected, else 0.
-fn play<S: Suite, O: Output>(
-    alloc: Global,
-    recorded: &[Recorded],
-    out: &mut O,
-) -> Result<u8, Fault>
+fn play<S: Suite, O: Output>(alloc: Global, recorded: &[Recorded], out: &mut O) -> Result<u8, Fault>
     ensures prints { Prints (O.contents out.old) (O.contents out.new) result (printout entry_text (played_page S.crypto recorded.now)) }
     ensures status { IfOk result (λ status. status ≤ 1) }
     ensures fault { O.failed out.new ≡ write_failed (O.failed out.old) result }
@@ -76,11 +72,7 @@ fn print_error<O: Output>(alloc: Global, error: JsonError, out: &mut O) -> Resul
 /// Prints the replay of a recording, or the refusal of the file (9, 8), and answers the exit status. The whole file is read
 /// before the first event runs, and each event's lines are printed before the next one runs, so that after a failed write
 /// no further event does.
-pub fn replay<S: Suite, O: Output>(
-    alloc: Global,
-    file: &[u8],
-    out: &mut O,
-) -> Result<u8, Fault>
+pub fn replay<S: Suite, O: Output>(alloc: Global, file: &[u8], out: &mut O) -> Result<u8, Fault>
     // The output grows by the replay's text, or on a fault by less than that.
     ensures prints { PrintsOne (IsReplay S.crypto file.now) (O.contents out.old) (O.contents out.new) result }
     ensures status { IfOk result (λ status. status ≤ 1) }

@@ -16,11 +16,19 @@ use std::alloc::{AllocError, Global};
 #[derive(Clone, Copy, Debug)]
 pub enum ReplayLine<'a> {
     /// The reply to the event of this number.
-    Reply { event: usize, reply: Reply },
+    Reply {
+        event: usize,
+        reply: Reply,
+    },
     /// The text that its reply should have had.
-    Expected { event: usize, text: &'a str },
+    Expected {
+        event: usize,
+        text: &'a str,
+    },
     /// A member that was removed.
-    Gone { member: usize },
+    Gone {
+        member: usize,
+    },
     /// Where a member stands in the end.
     Present {
         member: usize,
@@ -63,7 +71,9 @@ fn present_line(
 {
     let tree = hex_text(alloc, tree)?;
     let authenticator = hex_text(alloc, authenticator)?;
-    format!(in alloc; "member {member}: leaf {leaf}, epoch {epoch}, tree {tree}, authenticator {authenticator}\n")
+    format!(in alloc;
+        "member {member}: leaf {leaf}, epoch {epoch}, tree {tree}, authenticator {authenticator}\n"
+    )
 }
 
 fn expected_line(alloc: Global, event: usize, text: &str) -> Result<String, AllocError>

@@ -42,7 +42,11 @@ fn recording_of_both(alloc: Global, front: &str, behind: &str) -> Result<String,
 fn replays_events(rt: HostRuntime) -> Result<(), Fail> {
     let alloc = rt.alloc();
     let table: [(&str, u8, &str); 14] = [
-        (r#"{"op":"drop_pending","member":0}"#, 0, "2: nothing pending\n"),
+        (
+            r#"{"op":"drop_pending","member":0}"#,
+            0,
+            "2: nothing pending\n",
+        ),
         (
             r#"{"op":"drop_pending","member":0,"expect":"nothing pending"}"#,
             0,

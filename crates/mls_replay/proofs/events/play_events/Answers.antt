@@ -18,7 +18,7 @@ loop-event-preserved g c =
     record {
       kept = c.in_ok-met.ensures.fault ∙ c.loop-event.invariant.kept;
       played = played_step g.S.Suite.crypto c.args.world.now c.args.recorded.now _ _ _ c.loop-event.event c.loop-event.world c.play_event.new.world c.loop-event.all_met c.in_ok-met.met c.if-all_met.all_met
-      c.index-recorded-event.result c.loop-event-test.true c.index-recorded-event.is c.loop-event.invariant.played c.in_ok-met.ensures.whole c.in_ok-met.ensures.world c.in_ok-met.ensures.met both;
+          c.index-recorded-event.result c.loop-event-test.true c.index-recorded-event.is c.loop-event.invariant.played c.in_ok-met.ensures.whole c.in_ok-met.ensures.world c.in_ok-met.ensures.met both;
     }
 
 pub returns-clause-world : goal.returns-clause-world
