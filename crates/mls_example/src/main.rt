@@ -45,11 +45,8 @@ fn run(rt: &impl Print, alloc: Global) -> Result<()> {
     };
     alice.process(&made.commit)?;
     let mut bob = Member::join(alloc, &bob, &welcome)?.member;
-    println!(rt;
-        "bob joins at leaf {} in epoch {}",
-        bob.leaf_index(),
-        bob.epoch_number()
-    )?;
+    let (leaf, epoch) = (bob.leaf_index(), bob.epoch_number());
+    println!(rt; "bob joins at leaf {leaf} in epoch {epoch}")?;
 
     // Bob proposes a new key for his leaf, and Alice commits that by its reference.
     let update = bob.propose_update(&[5; 32])?;
@@ -60,11 +57,8 @@ fn run(rt: &impl Print, alloc: Global) -> Result<()> {
     let made = alice.commit(&[named], true, &[6; 32])?;
     alice.process(&made.commit)?;
     bob.process(&made.commit)?;
-    println!(rt;
-        "both are in epoch {} and {}",
-        alice.epoch_number(),
-        bob.epoch_number()
-    )?;
+    let (hers, his) = (alice.epoch_number(), bob.epoch_number());
+    println!(rt; "both are in epoch {hers} and {his}")?;
     let same = exported(&alice)? == exported(&bob)?;
     println!(rt; "both export the same key: {same}")?;
 
