@@ -1,9 +1,10 @@
 -- What calls do to what a world stores, and so to the world.
-use Rattle.std.proofs.Common.{◌≡◌, ℕ, ◌+◌, ◌<◌, List, [], ◌∷◌, ◌++◌, length, map, true, Option, Some, None, Result, Ok, Err, refl, sym, ap, subst, ◌∙◌, get_or, slice_get, slice_set, arith}
+use Rattle.std.proofs.Common.{◌≡◌, ℕ, ◌+◌, ◌<◌, List, [], ◌∷◌, ◌++◌, length, map, true, false, Option, Some, None, Result, Ok, Err, refl, sym, ap, subst, ◌∙◌, get_or, slice_get, slice_set, arith}
 use Rattle.std.specs.Prelude.{option_map, ◌≢◌}
 use Rattle.std.specs.List.{AllByRecursion}
 use Rattle.std.proofs.lemmas.List.{length-append, map-append, append-nil}
 use Rattle.std.proofs.lemmas.Option.{slice_get-map, slice_get_read}
+use Rattle.mls_wire.specs.Laws.{ok_is}
 use Rattle.mls_wire.specs.Reading.{◌>>=◌}
 use Rattle.mls_suite.specs.Crypto.{Crypto}
 use Rattle.mls_model.specs.declared.effect.Effect.{Effect}
@@ -17,7 +18,7 @@ use Rattle.mls_model.specs.Member.{Member}
 use Rattle.mls_model.specs.Verdict.{verdict}
 use Rattle.mls_model.specs.Calls.{journal_after, deliver_answer}
 use Rattle.mls_model.specs.World.{Entrant, Seat, World, bytes_of, with_joined}
-use Rattle.mls_events.specs.Parts.{seat_verdict}
+use Rattle.mls_events.specs.Parts.{seat_verdict, advances}
 use Rattle.mls_events.specs.Stored.{journal_at, before, latest, IsWithin, HasEntry, AreMore, Seated, Making, seat_of, made_of, world_of, AreStored}
 use Rattle.mls_events.proofs.Stores.{seat_found, seat_set, seat_missing, seats_stay, made_stay, stored_more, within_more, entry_more, unchanged, all_set, all_at, all_behind}
 use Rattle.mls_events.proofs.Unrolled.{journal_stays, journal_seam}
@@ -27,21 +28,28 @@ parts es seats ms made = record { entrants = es; seats = seats; messages = ms; m
 
 -- ---- deliveries to a seat
 
-pub advanced : (c : Crypto) (js : List Journal) (s : Seated) (bytes : List ℕ) (m : Member) (epoch : ℕ) → verdict c s.member bytes ≡ Ok (Advanced epoch, m)
-    → seat_verdict c (seat_of js s) bytes ≡ Ok (Advanced epoch, seat_of (js ++ with_entry (journal_at js s.journal) (entry_of s.member bytes) ∷ []) (record { member = m; journal = length js }))
+going_on : (s : Seat) (bytes : List ℕ) (e : Effect) → advances e ≡ true → journal_after s bytes e ≡ with_entry s.journal (entry_of s.member bytes)
+going_on s bytes (Proposed r) h = absurd cc
+going_on s bytes (Known r) h = absurd cc
+going_on s bytes (Advanced n) h = refl
+going_on s bytes Removed h = absurd cc
+
+pub advanced : (c : Crypto) (js new : List Journal) (s : Seated) (bytes : List ℕ) (m : Member) (e : Effect) (entry : Entry) (n : ℕ) → verdict c s.member bytes ≡ Ok (e, m) → true ≡ advances e → entry ≡ entry_of s.member bytes → new ≡ js ++ with_entry (journal_at js s.journal) entry ∷ [] → n ≡ length js
+    → seat_verdict c (seat_of js s) bytes ≡ Ok (e, seat_of new (record { member = m; journal = n }))
 unfolding seat_verdict
-advanced c js s bytes m epoch h = rw (h, journal_seam js (with_entry (journal_at js s.journal) (entry_of s.member bytes))) refl
+advanced c js new s bytes m e entry n h goes is at last =
+    rw (h, going_on (seat_of js s) bytes e (sym goes), at, last, is, journal_seam js (with_entry (journal_at js s.journal) (entry_of s.member bytes))) refl
 
-stays_at : (s : Seat) (bytes : List ℕ) (e : Effect) → ((n : ℕ) → e ≢ Advanced n) → journal_after s bytes e ≡ s.journal
-stays_at s bytes (Proposed r) none = refl
-stays_at s bytes (Known r) none = refl
-stays_at s bytes (Advanced n) none = absurd (none n refl)
-stays_at s bytes Removed none = refl
+staying : (s : Seat) (bytes : List ℕ) (e : Effect) → advances e ≡ false → journal_after s bytes e ≡ s.journal
+staying s bytes (Proposed r) h = refl
+staying s bytes (Known r) h = refl
+staying s bytes (Advanced n) h = absurd cc
+staying s bytes Removed h = refl
 
-pub stayed : (c : Crypto) (js : List Journal) (s : Seated) (bytes : List ℕ) (m : Member) (e : Effect) → verdict c s.member bytes ≡ Ok (e, m) → ((n : ℕ) → e ≢ Advanced n)
+pub stayed : (c : Crypto) (js : List Journal) (s : Seated) (bytes : List ℕ) (m : Member) (e : Effect) → verdict c s.member bytes ≡ Ok (e, m) → false ≡ advances e
     → seat_verdict c (seat_of js s) bytes ≡ Ok (e, seat_of js (record { member = m; journal = s.journal }))
 unfolding seat_verdict
-stayed c js s bytes m e h none = rw (h, stays_at (seat_of js s) bytes e none) refl
+stayed c js s bytes m e h other = rw (h, staying (seat_of js s) bytes e (sym other)) refl
 
 pub failed : (c : Crypto) (js : List Journal) (s : Seated) (bytes : List ℕ) (n : ℕ) → verdict c s.member bytes ≡ Err n → seat_verdict c (seat_of js s) bytes ≡ Err n
 unfolding seat_verdict
@@ -55,12 +63,11 @@ handed w k s r bytes = r >>= λ x. Ok (reply.Delivered x.0, record w { seats = s
 abbrev seat_answer : Seat → List ℕ → Result (Effect × Member) ℕ → Result (Effect × Seat) ℕ
 seat_answer s bytes r = r >>= λ x. Ok (x.0, record { member = x.1; journal = journal_after s bytes x.0 })
 
+abbrev the_reply : World → ℕ → Effect × Seat → Result (Reply × World) ℕ
+the_reply w k y = Ok (reply.Delivered y.0, record w { seats = slice_set w.seats k y.1 })
+
 handed_so : (w : World) (k : ℕ) (s t : Seat) (r : Result (Effect × Member) ℕ) (bytes : List ℕ) (e : Effect) → seat_answer s bytes r ≡ Ok (e, t) → handed w k s r bytes ≡ Ok (reply.Delivered e, record w { seats = slice_set w.seats k t })
-handed_so w k s t (Ok x) bytes e h =
-    let a : x.0 ≡ e = cc in
-    let p : Seat = record { member = x.1; journal = journal_after s bytes x.0 } in
-    let b : p ≡ t = cc in
-    rw (a, b) refl
+handed_so w k s t (Ok x) bytes e h = ap (λ (y : Effect × Seat). the_reply w k y) (ok_is _ _ h)
 handed_so w k s t (Err n) bytes e h = absurd cc
 
 not_handed : (w : World) (k : ℕ) (s : Seat) (r : Result (Effect × Member) ℕ) (bytes : List ℕ) (n : ℕ) → seat_answer s bytes r ≡ Err n → handed w k s r bytes ≡ Err n

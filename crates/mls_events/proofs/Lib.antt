@@ -5,3 +5,5 @@ pub mod Calling
 pub mod Committing
 pub mod Listing
 pub mod Changing
+pub mod Entering
+pub mod Delivering

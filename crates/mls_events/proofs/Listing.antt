@@ -1,8 +1,9 @@
 -- What lists of commits name and add, one after the other, and the first record that is looked for.
 use Rattle.std.proofs.Common.{◌≡◌, ℕ, suc, ◌+◌, ◌<◌, ◌≤◌, ◌^◌, Bool, true, false, List, [], ◌∷◌, ◌++◌, length, drop, map, Option, Some, None, Result, Ok, Err, refl, sym, ap, subst, ◌∙◌, arith, append_assoc, get_or, slice_get, add-one, drop-cons}
-use Rattle.std.specs.Prelude.{option_map, filter_map, find, ◌&&◌}
+use Rattle.std.specs.Prelude.{option_map, filter_map, find, ◌&&◌, ◌≢◌}
 use Rattle.std.specs.List.{AllByRecursion, cons_option}
-use Rattle.std.specs.Option.{option_to_list}
+use Rattle.std.specs.Option.{option_to_list, option_copied}
+use denote.Ref.{Bor}
 use Rattle.std.proofs.lemmas.List.{append-nil, drop_all, map-append}
 use Rattle.std.proofs.lemmas.Option.{slice_get-map, slice_get_read}
 use Rattle.mls_wire.specs.Checks.{given}
@@ -172,6 +173,17 @@ adds_stop kept items i x done lt e said h =
 pub adds_end : (kept : List Kept) (items : List Item) (i : ℕ) (done : List (List ℕ)) → length items ≤ i → AddsFrom kept items i done → done ≡ adds_in kept (map listed_of items)
 unfolding used_by adds
 adds_end kept items i done le h = sym (append-nil done) ∙ subst (λ (l : List Item). behind done (used_by kept 0 (map listed_of l)) ≡ adds_in kept (map listed_of items)) (drop_all i items le) h
+
+no_value : (o : Option (Bor Proposal)) → ((x : Bor Proposal) → o ≢ Some x) → option_copied o ≡ None
+no_value None h = refl
+no_value (Some x) h = absurd (h x refl)
+
+pub adds_none : (kept : List Kept) (items : List Item) (i : ℕ) (x : Item) (done : List (List ℕ)) (o : Option (Bor Proposal)) → i < length items → x ≡ get_or items i x → option_copied o ≡ said_by kept (listed_of x) → ((y : Bor Proposal) → o ≢ Some y) → AddsFrom kept items i done
+    → [] ≡ adds_in kept (map listed_of items)
+adds_none kept items i x done o lt e said none h = adds_stop kept items i x done lt e (sym (no_value o none) ∙ said) h
+
+pub rest_short : (items : List Item) (i : ℕ) (x : Item) → i < length items → x ≡ get_or items i x → AreShortItems (drop i items) → AreShortItems (drop (i + 1) items)
+rest_short items i x lt e h = (subst (λ (l : List Item). AreShortItems l) (left_from items i x lt e) h).1
 
 -- ---- items
 

@@ -1,6 +1,7 @@
 -- What bytes stand for, by a view of the message that they are.
 use Rattle.std.proofs.lemmas.List.{length-append}
-use Rattle.std.proofs.Common.{◌≡◌, ℕ, ◌<◌, ◌≤◌, ◌^◌, List, [], ◌++◌, length, drop, Option, Some, None, Result, Ok, Err, refl, sym, ap, subst, ◌∙◌, arith, lit<}
+use Rattle.std.proofs.Math.Seq.{take-length}
+use Rattle.std.proofs.Common.{◌≡◌, ℕ, ◌-◌, length-drop, ◌<◌, ◌≤◌, ◌^◌, List, [], ◌++◌, length, take, drop, Option, Some, None, Result, Ok, Err, refl, sym, ap, subst, ◌∙◌, arith, lit<}
 use Rattle.std.specs.Prelude.{◌≢◌, IfOk}
 use Rattle.std.specs.Int.{w16}
 use Rattle.mls_wire.specs.Checks.{given}
@@ -225,3 +226,8 @@ package_behind k = refl
 pub package_long : (k : KeyPackage) → 4 ≤ length (package_message k)
 unfolding package_message mls_message
 package_long k = omega (arith, length-append (uint w16 1) (uint w16 5 ++ key_package.spell k), length-append (uint w16 5) (key_package.spell k), two 1, two 5)
+
+pub package_rest : (m : List ℕ) (k : KeyPackage) → m ≡ package_message k → take (length m - 4) (drop 4 m) ≡ key_package.spell k
+package_rest m k h =
+    let e : length m - 4 ≡ length (drop 4 m) = sym (length-drop 4 m) in
+    ap (λ (n : ℕ). take n (drop 4 m)) e ∙ take-length (drop 4 m) ∙ ap (λ (l : List ℕ). drop 4 l) h ∙ package_behind k

@@ -9,6 +9,7 @@ use Rattle.mls_types.specs.declared.commit.ProposalOrRef.{ProposalOrRef}
 use Rattle.mls_suite.specs.Crypto.{Crypto}
 use Rattle.mls_paths.specs.Seeds.{sign_seed}
 use Rattle.mls_model.specs.declared.effect.Effect.{Effect}
+use Rattle.mls_model.specs.declared.effect.Effect.TheVariants as effect
 use Rattle.mls_model.specs.declared.event.Source.{Source}
 use Rattle.mls_model.specs.declared.event.Reply.{Reply}
 use Rattle.mls_model.specs.declared.event.Reply.TheVariants as reply
@@ -37,6 +38,11 @@ candidate_added w k = Ok (
 )
 
 -- ---- deliveries
+
+-- whether a commit was followed into an epoch
+abbrev pub advances : Effect → Bool
+advances (effect.Advanced epoch) = true
+advances other = false
 
 -- what bytes do to a member and its journal
 unfoldable pub seat_verdict : Crypto → Seat → List ℕ → Result (Effect × Seat) ℕ

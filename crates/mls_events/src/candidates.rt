@@ -39,7 +39,7 @@ impl<S: Suite> PlainWorld<S> {
     }
 
     /// A candidate that isn't yet in the world: 93 another has its signature key, then the checks of a candidate.
-    #[tactic(auto, unfolding(crate::specs::Parts::candidate_made))]
+    #[tactic(auto, using(crate::proofs::Entering::key_taken, crate::proofs::Entering::key_free))]
     fn made_candidate(&self, identity: &[u8], seed: &Seed) -> Result<Candidate<S>, WorldError>
         ensures { Answers (λ k. k) number_of (candidate_made S.crypto self.now identity.now seed.now) result }
     {
@@ -72,15 +72,19 @@ impl<S: Suite> PlainWorld<S> {
 
     /// Makes a candidate, and the message of its KeyPackage: 93 a candidate has its signature key, then the checks of a
     /// candidate (RFC 9420, 10).
+    #[tactic(auto, using(crate::proofs::Entering::candidate_is, crate::proofs::Entering::candidate_refused))]
     pub fn candidate(&mut self, identity: &[u8], seed: &Seed) -> Result<NewCandidate, WorldError>
         ensures { DoesAs (λ v. reply.Candidate v.candidate v.message) number_of (candidate_answer S.crypto self.old identity.now seed.now) self.old self.new result }
     {
-        let candidate = self.made_candidate(identity, seed)?;
-        self.add_candidate(candidate)
+        match self.made_candidate(identity, seed) {
+            Ok(candidate) => self.add_candidate(candidate),
+            Err(error) => Err(error),
+        }
     }
 
     /// A candidate creates a group and is its only member: 92 no such candidate, 91 it became a member, then the checks of a
     /// creation (RFC 9420, 11). It answers the member's number.
+    #[tactic(auto, using(crate::proofs::Entering::create_is, crate::proofs::Entering::create_absent, crate::proofs::Entering::create_refused, crate::proofs::Entering::entrant_within))]
     pub fn create(
         &mut self,
         candidate: usize,

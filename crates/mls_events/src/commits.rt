@@ -53,8 +53,10 @@ fn numbered(alloc: Global, number: usize, made: &Made) -> Result<Option<(usize, 
 
 impl<S: Suite> PlainWorld<S> {
     /// What a list names and adds, by what member k keeps.
+    #[tactic(auto, using(crate::proofs::Stores::seat_found))]
     fn named(&self, k: usize, list: &[Item]) -> Result<Named, WorldError>
-        requires { k < length self.now.seats }
+        requires there { k < length self.now.seats }
+        requires short { AreShortItems list.now }
         ensures named { IfOk result (λ n. (s : model.Seat) → slice_get self.now.seats k ≡ Some s → IsNamed s.member.kept (map listed_of list.now) n.names.items n.adds.items) }
         ensures memory { IfErr result (λ e. number_of e ≡ 1) }
     {
@@ -65,6 +67,7 @@ impl<S: Suite> PlainWorld<S> {
     }
 
     /// Member k commits a list.
+    #[tactic(auto, using(crate::proofs::Stores::seat_found, crate::proofs::Stores::unchanged, crate::proofs::Stores::seat_set, crate::proofs::Calling::member_changed), unfolding(crate::specs::Parts::member_commits))]
     fn commit_of(
         &mut self,
         k: usize,
@@ -95,6 +98,7 @@ impl<S: Suite> PlainWorld<S> {
     }
 
     /// Member k forgets its pending commit, and it is answered whether there was one.
+    #[tactic(auto, using(crate::proofs::Stores::seat_found, crate::proofs::Stores::seat_set, crate::proofs::Calling::member_changed))]
     fn forget(&mut self, k: usize) -> bool
         requires { k < length self.old.seats }
         ensures had { (s : model.Seat) → slice_get self.old.seats k ≡ Some s → result ≡ is_some s.member.pending }
@@ -105,6 +109,7 @@ impl<S: Suite> PlainWorld<S> {
     }
 
     /// The messages of a commit that member k made are added, and it is recorded with what it names and adds.
+    #[tactic(auto, using(crate::proofs::Stores::seat_found, crate::proofs::Changing::made_added, crate::proofs::Changing::stored_made))]
     fn record(&mut self, k: usize, made: Made, named: Named) -> Result<NewCommit, WorldError>
         requires { k < length self.old.seats }
         ensures ok { IfOk result (λ v. (s : model.Seat) (p : members.Pending) → slice_get self.old.seats k ≡ Some s → s.member.pending ≡ Some p
@@ -148,6 +153,7 @@ impl<S: Suite> PlainWorld<S> {
     /// A member commits a list, with a path where `path` says so or one is required, and keeps the state that it leads to as
     /// pending: 90 no such member, then in the list's order 94 no such message, decoding, 95 a message of another kind, then
     /// the member's checks (RFC 9420, 12.4.1). It answers the numbers of the commit and of its Welcome.
+    #[tactic(auto, using(crate::proofs::Committing::commit_is, crate::proofs::Committing::items_refused, crate::proofs::Committing::commit_refused, crate::proofs::Committing::nobody, crate::proofs::Committing::forgotten))]
     pub fn commit(
         &mut self,
         member: usize,
@@ -171,6 +177,7 @@ impl<S: Suite> PlainWorld<S> {
     }
 
     /// A member forgets its pending commit, and it is answered whether there was one: 90 no such member. It takes no memory.
+    #[tactic(auto, using(crate::proofs::Committing::drop_is, crate::proofs::Committing::drop_nobody))]
     pub fn drop_pending(&mut self, member: usize) -> Result<bool, WorldError>
         ensures { DoesAs (λ b. reply.Dropped b) number_of (drop_answer self.old member) self.old self.new result }
     {

@@ -9,7 +9,7 @@ ghost use Rattle.mls_types.specs.declared.public_message.PublicMessage as messag
 ghost use Rattle.mls_types.specs.declared.message.MlsMessage as sent;
 ghost use Rattle.mls_view.specs.Shown.{ShowsPublic, Shows};
 ghost use Rattle.mls_events.specs.Faults.{number_of};
-ghost use Rattle.mls_events.specs.Parts.{seat_verdict};
+ghost use Rattle.mls_events.specs.Parts.{seat_verdict, advances};
 ghost use Rattle.mls_events.specs.Stored.{seat_of, AreMore};
 
 use crate::entry::Entry;
@@ -71,7 +71,20 @@ fn entry_of<S: Suite>(alloc: Global, member: &Member<S>, bytes: &[u8]) -> Result
     Ok(Entry { commit, names })
 }
 
+/// Whether a commit was followed into an epoch.
+fn is_advanced(effect: &Effect) -> bool
+    ensures { result ≡ advances effect.now }
+{
+    match effect {
+        Effect::Advanced { epoch: _ } => true,
+        Effect::Proposed { reference: _ } => false,
+        Effect::Known { reference: _ } => false,
+        Effect::Removed => false,
+    }
+}
+
 /// Hands bytes to a member. Its journal has one more entry where it follows a commit.
+#[tactic(auto, using(crate::proofs::Changing::advanced, crate::proofs::Changing::stayed, crate::proofs::Changing::failed, crate::proofs::Changing::one_behind, crate::proofs::Changing::none_behind, crate::proofs::Changing::last_within))]
 fn hand<S: Suite>(
     alloc: Global,
     seat: &mut Seat<S>,
@@ -86,11 +99,11 @@ fn hand<S: Suite>(
     let entry = entry_of(alloc, &seat.member, bytes)?;
     let next = journals.follow(seat.journal, entry)?;
     match seat.member.process(bytes) {
-        Ok(Effect::Advanced { epoch }) => {
-            seat.journal = next;
-            Ok(Effect::Advanced { epoch })
-        }
         Ok(effect) => {
+            if is_advanced(&effect) {
+                seat.journal = next;
+                return Ok(effect);
+            }
             journals.take_back();
             Ok(effect)
         }
@@ -104,6 +117,7 @@ fn hand<S: Suite>(
 impl<S: Suite> PlainWorld<S> {
     /// Delivers a source to a member: 90 no such member, 94 no such message, then the member's checks. The world decodes
     /// nothing. A commit that is followed is a new entry of the member's journal (RFC 9420, 6, 12.1 and 12.4.2).
+    #[tactic(auto, using(crate::proofs::Changing::delivered, crate::proofs::Changing::undelivered, crate::proofs::Changing::no_source, crate::proofs::Changing::no_member, crate::proofs::Changing::seat_moved, crate::proofs::Changing::seat_kept, crate::proofs::Changing::stored_moved, crate::proofs::Stores::seat_found, crate::proofs::Stores::seat_missing, crate::proofs::Stores::unchanged, crate::proofs::Calling::stands_at))]
     pub fn deliver(&mut self, member: usize, source: &Source) -> Result<Effect, WorldError>
         ensures { DoesAs (λ e. reply.Delivered e) number_of (deliver_answer S.crypto self.old member source.now) self.old self.new result }
     {

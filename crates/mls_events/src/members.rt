@@ -28,6 +28,7 @@ impl<S: Suite> PlainWorld<S> {
     }
 
     /// The candidate of this number: 92 there is none, 91 it became a member.
+    #[tactic(auto, unfolding(mls_model::specs::World::entrant_at))]
     pub(crate) fn unspent(&self, n: usize) -> Result<&Entrant<S>, WorldError>
         ensures { AnswersOutright (λ e. e.now) number_of (model.entrant_at self.now n) result }
     {
@@ -41,6 +42,7 @@ impl<S: Suite> PlainWorld<S> {
     }
 
     /// Candidate n becomes a member, whose journal begins here: the member's number.
+    #[tactic(auto, using(crate::proofs::Changing::member_joined, crate::proofs::Changing::stored_joined, crate::proofs::Changing::one_behind, crate::proofs::Changing::last_within, crate::proofs::Unrolled::journal_seam))]
     pub(crate) fn begin_member(
         &mut self,
         n: usize,
@@ -62,6 +64,7 @@ impl<S: Suite> PlainWorld<S> {
     }
 
     /// Candidate n becomes a member, whose journal is that of a commit which was made: the member's number.
+    #[tactic(auto, using(crate::proofs::Changing::member_joined, crate::proofs::Changing::stored_joined, crate::proofs::Changing::none_behind, crate::proofs::Changing::made_there, crate::proofs::Changing::made_found))]
     pub(crate) fn follow_member(
         &mut self,
         n: usize,

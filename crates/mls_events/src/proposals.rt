@@ -15,7 +15,7 @@ use mls_suite::Suite;
 impl<S: Suite> PlainWorld<S> {
     /// Proposes to add the KeyPackage of a source, and answers the number of the message: 90 no such member, 94 no such
     /// message, decoding, 95 a message of another kind, then the member's checks (RFC 9420, 12.1.1).
-    #[tactic(auto, using(crate::proofs::Readings::wider))]
+    #[tactic(auto, using(crate::proofs::Stores::seat_found, crate::proofs::Stores::seat_missing, crate::proofs::Stores::seat_set, crate::proofs::Stores::unchanged, crate::proofs::Calling::member_changed, crate::proofs::Readings::wider), unfolding(mls_model::specs::Calls::propose_add_answer))]
     pub fn propose_add(&mut self, member: usize, key_package: &Source) -> Result<usize, WorldError>
         ensures { DoesAs (λ n. reply.Proposal n) number_of (propose_add_answer S.crypto self.old member key_package.now) self.old self.new result }
     {
@@ -33,6 +33,7 @@ impl<S: Suite> PlainWorld<S> {
 
     /// Proposes a new key for the member's own leaf, and answers the number of the message: 90 no such member, then the
     /// member's checks (RFC 9420, 12.1.2).
+    #[tactic(auto, using(crate::proofs::Stores::seat_found, crate::proofs::Stores::seat_missing, crate::proofs::Stores::seat_set, crate::proofs::Stores::unchanged, crate::proofs::Calling::member_changed, crate::proofs::Readings::wider), unfolding(mls_model::specs::Calls::propose_update_answer))]
     pub fn propose_update(&mut self, member: usize, seed: &Seed) -> Result<usize, WorldError>
         ensures { DoesAs (λ n. reply.Proposal n) number_of (propose_update_answer S.crypto self.old member seed.now) self.old self.new result }
     {
@@ -48,6 +49,7 @@ impl<S: Suite> PlainWorld<S> {
 
     /// Proposes to remove the member at a leaf, and answers the number of the message: 90 no such member, then the member's
     /// checks (RFC 9420, 12.1.3).
+    #[tactic(auto, using(crate::proofs::Stores::seat_found, crate::proofs::Stores::seat_missing, crate::proofs::Stores::seat_set, crate::proofs::Stores::unchanged, crate::proofs::Calling::member_changed, crate::proofs::Readings::wider), unfolding(mls_model::specs::Calls::propose_remove_answer))]
     pub fn propose_remove(&mut self, member: usize, leaf: u32) -> Result<usize, WorldError>
         ensures { DoesAs (λ n. reply.Proposal n) number_of (propose_remove_answer S.crypto self.old member leaf) self.old self.new result }
     {
