@@ -7,3 +7,4 @@ pub mod Listing
 pub mod Changing
 pub mod Entering
 pub mod Delivering
+pub mod Beginning

@@ -39,7 +39,6 @@ impl<S: Suite> PlainWorld<S> {
     }
 
     /// A candidate that isn't yet in the world: 93 another has its signature key, then the checks of a candidate.
-    #[tactic(auto, using(crate::proofs::Entering::key_taken, crate::proofs::Entering::key_free))]
     fn made_candidate(&self, identity: &[u8], seed: &Seed) -> Result<Candidate<S>, WorldError>
         ensures { Answers (λ k. k) number_of (candidate_made S.crypto self.now identity.now seed.now) result }
     {

@@ -42,7 +42,6 @@ impl<S: Suite> PlainWorld<S> {
     }
 
     /// Candidate n becomes a member, whose journal begins here: the member's number.
-    #[tactic(auto, using(crate::proofs::Changing::member_joined, crate::proofs::Changing::stored_joined, crate::proofs::Changing::one_behind, crate::proofs::Changing::last_within, crate::proofs::Unrolled::journal_seam))]
     pub(crate) fn begin_member(
         &mut self,
         n: usize,
@@ -64,7 +63,7 @@ impl<S: Suite> PlainWorld<S> {
     }
 
     /// Candidate n becomes a member, whose journal is that of a commit which was made: the member's number.
-    #[tactic(auto, using(crate::proofs::Changing::member_joined, crate::proofs::Changing::stored_joined, crate::proofs::Changing::none_behind, crate::proofs::Changing::made_there, crate::proofs::Changing::made_found))]
+    #[tactic(auto, using(crate::proofs::Changing::stored_joined, crate::proofs::Changing::none_behind, crate::proofs::Changing::made_there))]
     pub(crate) fn follow_member(
         &mut self,
         n: usize,
