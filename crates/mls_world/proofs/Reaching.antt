@@ -1,5 +1,5 @@
 -- What leads on to a world that a list of events leaves.
-use Rattle.std.proofs.Common.{◌≡◌, ℕ, List, length, take, drop, ◌++◌, Result, Ok, Err, sym, ap, subst, ◌∙◌}
+use Rattle.std.proofs.Common.{ℕ, List, take, drop, Result, Ok, Err, sym, ap, subst}
 use Rattle.std.proofs.lemmas.List.{take-append-drop}
 use Rattle.std.specs.List.{AllByRecursion}
 use Rattle.mls_suite.specs.Crypto.{Crypto}
@@ -7,7 +7,6 @@ use Rattle.mls_model.specs.declared.event.Event.{Event}
 use Rattle.mls_model.specs.declared.event.Reply.{Reply}
 use Rattle.mls_model.specs.Answers.{Runs}
 use Rattle.mls_model.specs.Range.{IsInRange}
-use Rattle.mls_model.specs.Run.{step}
 use Rattle.mls_model.specs.World.{World}
 use Rattle.mls_claims.specs.One.{all_parted}
 use Rattle.mls_events.specs.Answers.{Steps}
