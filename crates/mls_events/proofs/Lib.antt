@@ -8,3 +8,6 @@ pub mod Changing
 pub mod Entering
 pub mod Delivering
 pub mod Beginning
+pub mod Recording
+pub mod Items
+pub mod Welcomed

@@ -83,7 +83,6 @@ impl<S: Suite> PlainWorld<S> {
 
     /// A candidate creates a group and is its only member: 92 no such candidate, 91 it became a member, then the checks of a
     /// creation (RFC 9420, 11). It answers the member's number.
-    #[tactic(auto, using(crate::proofs::Entering::create_is, crate::proofs::Entering::create_absent, crate::proofs::Entering::create_refused, crate::proofs::Entering::entrant_within))]
     pub fn create(
         &mut self,
         candidate: usize,
@@ -93,8 +92,14 @@ impl<S: Suite> PlainWorld<S> {
         ensures { DoesAs (λ k. reply.Created k) number_of (create_answer S.crypto self.old candidate group.now seed.now) self.old self.new result }
     {
         let alloc = self.alloc;
-        let entrant = self.unspent(candidate)?;
-        let member = Member::create(alloc, &entrant.candidate, group, seed)?;
+        let entrant = match self.unspent(candidate) {
+            Ok(entrant) => entrant,
+            Err(error) => return Err(error),
+        };
+        let member = match Member::create(alloc, &entrant.candidate, group, seed) {
+            Ok(member) => member,
+            Err(refusal) => return Err(WorldError::Member(refusal)),
+        };
         let origin = Origin::Creation(self.seats.len());
         let number = self.begin_member(candidate, member, origin)?;
         Ok(number)

@@ -67,7 +67,6 @@ impl<S: Suite> PlainWorld<S> {
     }
 
     /// Member k commits a list.
-    #[tactic(auto, using(crate::proofs::Stores::seat_found, crate::proofs::Stores::unchanged, crate::proofs::Stores::seat_set, crate::proofs::Calling::member_changed), unfolding(crate::specs::Parts::member_commits))]
     fn commit_of(
         &mut self,
         k: usize,
@@ -81,7 +80,10 @@ impl<S: Suite> PlainWorld<S> {
         ensures free { IfOk result (λ _. (s : model.Seat) → slice_get self.old.seats k ≡ Some s → s.member.pending ≡ None) }
     {
         let seat = &mut self.seats[k];
-        let made = seat.member.commit(list, path, seed)?;
+        let made = match seat.member.commit(list, path, seed) {
+            Ok(made) => made,
+            Err(refusal) => return Err(WorldError::Member(refusal)),
+        };
         Ok(made)
     }
 
@@ -98,7 +100,7 @@ impl<S: Suite> PlainWorld<S> {
     }
 
     /// Member k forgets its pending commit, and it is answered whether there was one.
-    #[tactic(auto, using(crate::proofs::Stores::seat_found, crate::proofs::Stores::seat_set, crate::proofs::Calling::member_changed))]
+    #[tactic(auto, using(crate::proofs::Stores::seat_found))]
     fn forget(&mut self, k: usize) -> bool
         requires { k < length self.old.seats }
         ensures had { (s : model.Seat) → slice_get self.old.seats k ≡ Some s → result ≡ is_some s.member.pending }
@@ -109,7 +111,6 @@ impl<S: Suite> PlainWorld<S> {
     }
 
     /// The messages of a commit that member k made are added, and it is recorded with what it names and adds.
-    #[tactic(auto, using(crate::proofs::Stores::seat_found, crate::proofs::Changing::made_added, crate::proofs::Changing::stored_made))]
     fn record(&mut self, k: usize, made: Made, named: Named) -> Result<NewCommit, WorldError>
         requires { k < length self.old.seats }
         ensures ok { IfOk result (λ v. (s : model.Seat) (p : members.Pending) → slice_get self.old.seats k ≡ Some s → s.member.pending ≡ Some p
@@ -153,7 +154,7 @@ impl<S: Suite> PlainWorld<S> {
     /// A member commits a list, with a path where `path` says so or one is required, and keeps the state that it leads to as
     /// pending: 90 no such member, then in the list's order 94 no such message, decoding, 95 a message of another kind, then
     /// the member's checks (RFC 9420, 12.4.1). It answers the numbers of the commit and of its Welcome.
-    #[tactic(auto, using(crate::proofs::Committing::commit_is, crate::proofs::Committing::items_refused, crate::proofs::Committing::commit_refused, crate::proofs::Committing::nobody, crate::proofs::Committing::forgotten))]
+    #[tactic(auto, using(crate::proofs::Committing::nobody))]
     pub fn commit(
         &mut self,
         member: usize,
@@ -164,9 +165,15 @@ impl<S: Suite> PlainWorld<S> {
         ensures { DoesAs (λ v. reply.Commit v.message v.welcome) number_of (commit_answer S.crypto self.old member items.now path seed.now) self.old self.new result }
     {
         self.require_member(member)?;
-        let list = self.items_of(items)?;
+        let list = match self.items_of(items) {
+            Ok(list) => list,
+            Err(error) => return Err(error),
+        };
         let named = self.named(member, &list)?;
-        let made = self.commit_of(member, &list, path, seed)?;
+        let made = match self.commit_of(member, &list, path, seed) {
+            Ok(made) => made,
+            Err(error) => return Err(error),
+        };
         match self.record(member, made, named) {
             Ok(numbers) => Ok(numbers),
             Err(error) => {
@@ -177,7 +184,7 @@ impl<S: Suite> PlainWorld<S> {
     }
 
     /// A member forgets its pending commit, and it is answered whether there was one: 90 no such member. It takes no memory.
-    #[tactic(auto, using(crate::proofs::Committing::drop_is, crate::proofs::Committing::drop_nobody))]
+    #[tactic(auto, using(crate::proofs::Committing::drop_nobody))]
     pub fn drop_pending(&mut self, member: usize) -> Result<bool, WorldError>
         ensures { DoesAs (λ b. reply.Dropped b) number_of (drop_answer self.old member) self.old self.new result }
     {

@@ -91,15 +91,23 @@ impl<S: Suite> PlainWorld<S> {
     /// A candidate joins by a Welcome: 92 no such candidate, 91 it became a member, 94 no such message, then the checks of a
     /// join (RFC 9420, 12.4.3.1). The world decodes nothing. Where the Welcome was made here and its commit adds the
     /// candidate's own KeyPackage, the journal is the maker's with that commit, else it begins with the GroupInfo.
-    #[tactic(auto, using(crate::proofs::Entering::join_begun, crate::proofs::Entering::join_followed, crate::proofs::Entering::join_absent, crate::proofs::Entering::join_unread, crate::proofs::Entering::join_refused, crate::proofs::Entering::entrant_within))]
     pub fn join(&mut self, candidate: usize, source: &Source) -> Result<NewMember, WorldError>
         ensures { DoesAs (λ v. reply.Joined v.member v.epoch) number_of (join_answer S.crypto self.old candidate source.now) self.old self.new result }
     {
         let alloc = self.alloc;
-        let entrant = self.unspent(candidate)?;
+        let entrant = match self.unspent(candidate) {
+            Ok(entrant) => entrant,
+            Err(error) => return Err(error),
+        };
         let own = &entrant.candidate;
-        let bytes = self.bytes_of(source)?;
-        let joined = Member::join(alloc, own, bytes)?;
+        let bytes = match self.bytes_of(source) {
+            Ok(bytes) => bytes,
+            Err(error) => return Err(error),
+        };
+        let joined = match Member::join(alloc, own, bytes) {
+            Ok(joined) => joined,
+            Err(refusal) => return Err(WorldError::Member(refusal)),
+        };
         let epoch = joined.member.epoch_number();
         match self.made_for(source, own) {
             Some(made) => {

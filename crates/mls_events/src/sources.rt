@@ -7,6 +7,8 @@ ghost use Rattle.mls_public_group.specs.Short.{IsBelow};
 ghost use Rattle.mls_member.specs.Answers.{IsShortItem, AreShortItems};
 ghost use Rattle.mls_model.specs.Make.{listed_of};
 ghost use Rattle.mls_model.specs.World as model;
+ghost use Rattle.mls_model.specs.declared.item.Item.TheVariants as item;
+ghost use Rattle.mls_leaf.specs.declared.proposal.Proposal.TheVariants as proposes;
 ghost use Rattle.mls_events.specs.Faults.{number_of};
 ghost use Rattle.mls_types.specs.declared.public_message.PublicMessage as messages;
 ghost use Rattle.mls_view.specs.Shown.{ShowsPublic};
@@ -70,6 +72,14 @@ fn read_reference(bytes: &[u8]) -> Result<Secret, WorldError>
     }
 }
 
+/// The proposal that a commit lists for a leaf's removal.
+fn removal(leaf: u32) -> Item
+    ensures same { result ≡ item.Full (proposes.Remove leaf) }
+    ensures short { IsShortItem result }
+{
+    Item::Full(Proposal::Remove(leaf))
+}
+
 impl<S: Suite> PlainWorld<S> {
     /// The bytes of a source: 94 no message has this number.
     pub(crate) fn bytes_of<'a>(&'a self, source: &'a Source) -> Result<&'a [u8], WorldError>
@@ -89,22 +99,31 @@ impl<S: Suite> PlainWorld<S> {
     }
 
     /// The proposal that a commit lists: 94, decoding, 95 a message of another kind.
-    #[tactic(auto, using(crate::proofs::Readings::item_added, crate::proofs::Readings::item_removed))]
     fn item_of(&self, item: &WorldItem) -> Result<Item, WorldError>
         ensures answer { Answers listed_of number_of (model.item_of self.now item.now) result }
         ensures short { IfOk result (λ i. IsShortItem i) }
     {
         match item {
             WorldItem::RefOf(source) => {
-                let bytes = self.bytes_of(source)?;
-                let reference = read_reference(bytes)?;
-                Ok(Item::Ref(Vec::from_slice(self.alloc, &reference)?))
+                let bytes = match self.bytes_of(source) {
+                    Ok(bytes) => bytes,
+                    Err(error) => return Err(error),
+                };
+                let reference = match read_reference(bytes) {
+                    Ok(reference) => reference,
+                    Err(error) => return Err(error),
+                };
+                let copy = Vec::from_slice(self.alloc, &reference)?;
+                Ok(Item::Ref(copy))
             }
             WorldItem::Add(source) => {
-                let offered = self.package_of(source)?;
+                let offered = match self.package_of(source) {
+                    Ok(offered) => offered,
+                    Err(error) => return Err(error),
+                };
                 Ok(Item::Full(Proposal::Add(offered)))
             }
-            WorldItem::Remove(leaf) => Ok(Item::Full(Proposal::Remove(*leaf))),
+            WorldItem::Remove(leaf) => Ok(removal(*leaf)),
         }
     }
 

@@ -1,0 +1,39 @@
+use Rattle.std.proofs.Common.{◌<◌, length, map, refl, sym, subst}
+use Rattle.mls_member.specs.Answers.{messages_of}
+use Rattle.mls_model.specs.Make.{listed_of}
+use Rattle.mls_model.specs.World.{World}
+use Rattle.mls_events.proofs.Recording.{list_refused, make_refused, still_there, whole_is, undone, listed_so, named_so}
+use Rattle.mls_events.proofs.world.PlainWorld.commit.Goals as goal
+
+pub returns-in-Err : goal.returns-in-Err
+returns-in-Err g c = (refl, list_refused g.S.Suite.crypto c.args.self.now c.args.member c.args.items.now c.args.path c.args.seed.now _ c.in_ok-require_member.ensures.there c.in-Err.ensures.answer)
+
+pub returns-in-Err-commit_of : goal.returns-in-Err-commit_of
+returns-in-Err-commit_of g c = (
+  c.in-Err-commit_of.ensures.does.0,
+  make_refused g.S.Suite.crypto c.args.self.now c.args.member c.args.items.now c.args.path c.args.seed.now (map listed_of c.deref-2.result.now) _ c.in_ok-require_member.ensures.there
+      (listed_so c.args.self.now c.args.items.now c.in-Ok.list.items c.deref-2.result.now c.deref-2.ensures.value c.in-Ok.ensures.answer) c.in-Err-commit_of.ensures.does.1,
+)
+
+pub record-requires : goal.record-requires
+record-requires g c = still_there g.S.Suite.crypto c.args.self.now c.commit_of.new.self c.args.member (map listed_of c.deref-2.result.now) c.args.path c.args.seed.now (messages_of c.in-Ok-commit_of.made) c.in_ok-require_member.ensures.there c.in-Ok-commit_of.ensures.does
+
+pub returns-in-Ok-record : goal.returns-in-Ok-record
+returns-in-Ok-record g c =
+    whole_is g.S.Suite.crypto c.args.self.now c.commit_of.new.self c.record.new.self c.args.member c.args.items.now c.args.path c.args.seed.now (map listed_of c.deref-2.result.now)
+    (messages_of c.in-Ok-commit_of.made) c.in_ok-named.named.names.items c.in_ok-named.named.adds.items _ c.in_ok-require_member.ensures.there
+    (listed_so c.args.self.now c.args.items.now c.in-Ok.list.items c.deref-2.result.now c.deref-2.ensures.value c.in-Ok.ensures.answer) c.in-Ok-commit_of.ensures.does
+    (named_so c.args.self.now c.args.member c.in-Ok.list.items c.deref.result.now c.deref-2.result.now c.in_ok-named.named.names.items c.in_ok-named.named.adds.items
+    c.deref.ensures.value c.deref-2.ensures.value c.in_ok-named.ensures.named)
+    c.in-Ok-record.ensures.ok
+
+pub forget-requires : goal.forget-requires
+forget-requires g c = subst (λ (w : World). c.args.member < length w.seats) (sym c.in-Err-record.ensures.err)
+    (still_there g.S.Suite.crypto c.args.self.now c.commit_of.new.self c.args.member (map listed_of c.deref-2.result.now) c.args.path c.args.seed.now (messages_of c.in-Ok-commit_of.made) c.in_ok-require_member.ensures.there c.in-Ok-commit_of.ensures.does)
+
+pub returns : goal.returns
+returns g c = (
+  undone g.S.Suite.crypto c.args.self.now c.commit_of.new.self c.record.new.self c.forget.new.self c.args.member (map listed_of c.deref-2.result.now) c.args.path c.args.seed.now (messages_of c.in-Ok-commit_of.made)
+      c.in_ok-require_member.ensures.there c.in-Err-record.ensures.err c.in-Ok-commit_of.ensures.does c.in-Ok-commit_of.ensures.free c.forget.ensures.none,
+  λ other. absurd (other c.in-Err-record.ensures.memory),
+)
