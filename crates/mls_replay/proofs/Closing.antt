@@ -1,5 +1,5 @@
 -- The whole of a replay: what is said of events, and then of members.
-use Rattle.std.proofs.Common.{◌≡◌, ◌≢◌, ◌⊎◌, inl, inr, map, arith, ◌∙◌, ◌++◌, [], ℕ, Bool, true, false, List, Option, Result, Ok, Err, refl, ap, sym, subst, append-nil}
+use Rattle.std.proofs.Common.{◌≡◌, ◌≢◌, inl, inr, map, arith, ◌∙◌, ◌++◌, [], ℕ, Bool, true, false, List, Option, Result, Ok, Err, refl, ap, sym, subst, append-nil}
 use Rattle.std.proofs.lemmas.Grind.{flat_map-append}
 use Rattle.std.proofs.KnownBytes.{Appends-trans}
 use Rattle.std.specs.List.{flat_map}

@@ -10,7 +10,6 @@ use Rattle.mls_model.specs.declared.event.WorldItem.{WorldItem}
 use Rattle.mls_model.specs.declared.event.Event.{Event}
 use Rattle.mls_model.specs.declared.event.Event.TheVariants as event
 use Rattle.mls_model.specs.declared.event.Reply.{Reply}
-use Rattle.mls_model.specs.Member.{Member}
 use Rattle.mls_model.specs.Verdict.{verdict}
 use Rattle.mls_model.specs.Candidate.{new_candidate, created}
 use Rattle.mls_model.specs.Propose.{proposed_add, proposed_update, proposed_remove}

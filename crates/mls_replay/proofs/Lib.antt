@@ -3,3 +3,4 @@ mod Naming
 mod Growing
 mod Pages
 mod Closing
+mod Stopping

@@ -1,5 +1,5 @@
 -- Members, named one by one: what is out, and who is left.
-use Rattle.std.proofs.Common.{◌≡◌, ◌∙◌, ◌≤◌, ◌<◌, ◌⊎◌, inl, inr, ◌++◌, ◌∷◌, [], ◌+◌, ℕ, suc, List, Option, Some, None, option_map, slice_get, drop, length, refl, ap, sym, subst, append_assoc, append-nil, drop-cons, add-one, arith, get_or}
+use Rattle.std.proofs.Common.{◌≡◌, ◌∙◌, ◌≤◌, ◌<◌, ◌⊎◌, inl, inr, ◌++◌, ◌∷◌, [], ◌+◌, ℕ, suc, List, Option, Some, None, option_map, slice_get, drop, length, refl, ap, sym, subst, append_assoc, append-nil, drop-cons, add-one, get_or}
 use Rattle.std.proofs.lemmas.Option.{slice_get_cases}
 use Rattle.std.proofs.lemmas.List.{drop_all}
 use Rattle.std.proofs.KnownBytes.{Appends-nil, Appends-trans}

@@ -1,16 +1,15 @@
 -- Events that stand for the same calls have one page.
 use Rattle.std.proofs.Common.{◌≡◌, ◌∙◌, ℕ, List, [], ◌∷◌, ◌++◌, Option, Result, Ok, Err, map, refl, ap, sym}
 use Rattle.mls_suite.specs.Crypto.{Crypto}
-use Rattle.mls_model.specs.declared.event.Event.{Event}
 use Rattle.mls_model.specs.declared.event.Reply.{Reply}
 use Rattle.mls_model.specs.World.{World, empty_world}
 use Rattle.mls_model.specs.Run.{run, replies}
-use Rattle.mls_text.specs.Page.{Page, Printout, printout}
+use Rattle.mls_text.specs.Page.{Page, printout}
 use Rattle.mls_recording.specs.Calls.{Call, RecordedCall, call_view, recorded_view}
 use Rattle.mls_recording.specs.CallLaws.{SameReplies, SameRun}
 use Rattle.mls_recording.specs.Recording.{recording}
 use Rattle.mls_recording.specs.declared.reading.Recorded.{Recorded}
-use Rattle.mls_replay.specs.Replay.{IsPageOn, IsReplay, ReplayEntry, all_met, ending_by, entry_text, events_of, expectation, expectations_of, member_entries, played_entries, played_page, reply_entries}
+use Rattle.mls_replay.specs.Replay.{IsPageOn, ReplayEntry, all_met, ending_by, entry_text, events_of, expectation, expectations_of, member_entries, played_entries, played_page, reply_entries}
 use Rattle.mls_replay.specs.Alike.{OneReplay}
 
 calls_of : (rs : List Recorded) → map call_view (events_of rs) ≡ map (λ (x : RecordedCall). x.call) (map recorded_view rs)

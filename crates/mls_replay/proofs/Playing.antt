@@ -29,13 +29,13 @@ said_of c w i r = flat_map entry_text (event_entries i (step c w r.event).0 (exp
 abbrev pub meet : Crypto → World → List Recorded → Bool
 meet c w rs = all_met (replies c w (events_of rs)) (expectations_of rs)
 
-said_first : (c : Crypto) (w : World) (i : ℕ) (r : Recorded) (rs : List Recorded) → said c w i (r ∷ rs) ≡ said_of c w i r ++ said c (step c w r.event).1 (i + 1) rs
+pub said_first : (c : Crypto) (w : World) (i : ℕ) (r : Recorded) (rs : List Recorded) → said c w i (r ∷ rs) ≡ said_of c w i r ++ said c (step c w r.event).1 (i + 1) rs
 unfolding reply_entries replies
 said_first c w i r rs =
     flat_map-append entry_text (event_entries i (step c w r.event).0 (expectation r))
     (reply_entries (i + 1) (replies c (step c w r.event).1 (events_of rs)) (expectations_of rs))
 
-said_none : (c : Crypto) (w : World) (i : ℕ) → said c w i [] ≡ []
+pub said_none : (c : Crypto) (w : World) (i : ℕ) → said c w i [] ≡ []
 unfolding reply_entries replies
 said_none c w i = refl
 
@@ -47,11 +47,11 @@ meet_none : (c : Crypto) (w : World) → meet c w [] ≡ true
 unfolding all_met replies
 meet_none c w = refl
 
-run_first : (c : Crypto) (w : World) (r : Recorded) (rs : List Recorded) → run c w (events_of (r ∷ rs)) ≡ run c (step c w r.event).1 (events_of rs)
+pub run_first : (c : Crypto) (w : World) (r : Recorded) (rs : List Recorded) → run c w (events_of (r ∷ rs)) ≡ run c (step c w r.event).1 (events_of rs)
 unfolding run
 run_first c w r rs = refl
 
-run_none : (c : Crypto) (w : World) → run c w (events_of []) ≡ w
+pub run_none : (c : Crypto) (w : World) → run c w (events_of []) ≡ w
 unfolding run
 run_none c w = refl
 

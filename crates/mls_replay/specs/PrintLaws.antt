@@ -1,5 +1,5 @@
 -- What prints a printout prints one of those that a file may have.
-use Rattle.std.proofs.Common.{◌≡◌, ℕ, List, Option, Result, Ok, Err, inl, inr}
+use Rattle.std.proofs.Common.{ℕ, List, Option, Result, Ok, Err, inl, inr}
 use Rattle.mls_text.specs.Page.{Printout, Prints}
 use Rattle.mls_text.specs.declared.fault.Fault.{Fault}
 use Rattle.mls_replay.specs.Replay.{PrintsOne}

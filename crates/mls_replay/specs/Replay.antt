@@ -1,7 +1,8 @@
 -- What `mls replay` prints of a recording: a line for each reply, one where it isn't what is expected, and at the end a line
 -- for each member.
-use Rattle.std.specs.Prelude.{◌≡◌, ◌⊎◌, MatchResult, ℕ, ◌+◌, Bool, true, ◌&&◌, if◌then◌else◌, List, [], ◌∷◌, ◌++◌, codes, map, Option, Some, None, option_map, Result, Ok, Err, string_bytes}
+use Rattle.std.specs.Prelude.{◌≡◌, ◌⊎◌, MatchResult, ℕ, ◌+◌, Bool, true, ◌&&◌, if◌then◌else◌, List, [], ◌∷◌, ◌++◌, codes, map, take, slice_get, Option, Some, None, option_map, Result, Ok, Err, string_bytes}
 use Rattle.std.specs.Fmt.{decimal}
+use Rattle.std.specs.List.{flat_map}
 use Rattle.std.specs.Str.{bytes_eq}
 use Rattle.hex.specs.Hex.{encode_lower}
 use Rattle.mls_suite.specs.Crypto.{Crypto}
@@ -10,7 +11,7 @@ use Rattle.mls_model.specs.declared.event.Event.{Event}
 use Rattle.mls_model.specs.declared.event.Reply.{Reply}
 use Rattle.mls_model.specs.Member.{Member}
 use Rattle.mls_model.specs.World.{World, Seat, empty_world}
-use Rattle.mls_model.specs.Run.{run, replies}
+use Rattle.mls_model.specs.Run.{run, replies, step}
 use Rattle.std.specs.Io.KnownBytes.{Appends, Keeps}
 use Rattle.mls_text.specs.Ends.{AppendsPart}
 use Rattle.mls_text.specs.Page.{Page, Printout, printout, refused}
@@ -138,6 +139,17 @@ abbrev pub PrintsOne : (Printout → Type 0) → Option (List ℕ) → Option (L
 PrintsOne Is old new r = MatchResult r
     (λ status. (p : Printout) × Is p × Appends old new p.text × (status ≡ p.status))
     (λ _. Keeps old new ⊎ ((p : Printout) × Is p × AppendsPart old new p.text))
+
+-- Where playing stops at a fault: all of what is said of the events before one is out, and a part of what is said of it; the
+-- world is that before it, or after it, so none behind it has run.
+pub record StopsAt (c : Crypto) (w : World) (rs : List Recorded) (old new : Option (List ℕ)) (v : World) : Type 0 where
+  pub count : ℕ
+  pub one : Recorded
+  pub is : slice_get rs count ≡ Some one
+  pub between : Option (List ℕ)
+  pub said : Appends old between (flat_map entry_text (reply_entries 0 (replies c w (events_of (take count rs))) (expectations_of (take count rs))))
+  pub part : AppendsPart between new (flat_map entry_text (event_entries count (step c (run c w (events_of (take count rs))) one.event).0 (expectation one)))
+  pub world : (v ≡ run c w (events_of (take count rs))) ⊎ (v ≡ (step c (run c w (events_of (take count rs))) one.event).1)
 
 -- ---- of the code's values
 

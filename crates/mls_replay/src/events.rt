@@ -1,11 +1,11 @@
 //! Events, run and printed one by one.
 
-ghost use Rattle.std.specs.Prelude.{◌≡◌, ◌≢◌, IfOk, IfErr, OnOk, OnErr, option_map};
+ghost use Rattle.std.specs.Prelude.{◌≡◌, ◌≢◌, ◌⊎◌, IfOk, IfErr, OnOk, OnErr, option_map};
 ghost use Rattle.std.specs.Io.KnownBytes.{Appends};
 ghost use Rattle.std.specs.List.{flat_map};
 ghost use Rattle.mls_model.specs.Run.{replies, run, step};
 ghost use Rattle.mls_text.specs.Ends.{AppendsPart, write_failed};
-ghost use Rattle.mls_replay.specs.Replay.{all_met, entry_text, event_entries, events_of, expectation, expectations_of, expected_entries, is_met, reply_entries};
+ghost use Rattle.mls_replay.specs.Replay.{StopsAt, all_met, entry_text, event_entries, events_of, expectation, expectations_of, expected_entries, is_met, reply_entries};
 
 use crate::line::ReplayLine;
 use crate::reply::reply_text;
@@ -82,6 +82,8 @@ fn play_event<S: Suite, O: Output>(
     ensures met { IfOk result (λ met. met ≡ is_met (step S.crypto world.old recorded.now.event).0 (expectation recorded.now)) }
     ensures whole { OnOk result (Appends (O.contents out.old) (O.contents out.new) (flat_map entry_text (event_entries event (step S.crypto world.old recorded.now.event).0 (expectation recorded.now)))) }
     ensures part { OnErr result (AppendsPart (O.contents out.old) (O.contents out.new) (flat_map entry_text (event_entries event (step S.crypto world.old recorded.now.event).0 (expectation recorded.now)))) }
+    // At a fault the event has run, or it has not.
+    ensures stopped { OnErr result ((world.new ≡ world.old) ⊎ (world.new ≡ (step S.crypto world.old recorded.now.event).1)) }
     ensures fault { O.failed out.new ≡ write_failed (O.failed out.old) result }
     ensures written { IfErr result (λ e. e ≢ Fault.Read) }
 {
@@ -101,6 +103,8 @@ pub fn play_events<S: Suite, O: Output>(
     ensures met { IfOk result (λ met. met ≡ all_met (replies S.crypto world.old (events_of recorded.now)) (expectations_of recorded.now)) }
     ensures whole { OnOk result (Appends (O.contents out.old) (O.contents out.new) (flat_map entry_text (reply_entries 0 (replies S.crypto world.old (events_of recorded.now)) (expectations_of recorded.now)))) }
     ensures part { OnErr result (AppendsPart (O.contents out.old) (O.contents out.new) (flat_map entry_text (reply_entries 0 (replies S.crypto world.old (events_of recorded.now)) (expectations_of recorded.now)))) }
+    // At a fault all events before one are said, a part of that one is, and none behind it has run.
+    ensures stopped { OnErr result (StopsAt S.crypto world.old recorded.now (O.contents out.old) (O.contents out.new) world.new) }
     ensures fault { O.failed out.new ≡ write_failed (O.failed out.old) result }
     ensures written { IfErr result (λ e. e ≢ Fault.Read) }
 {

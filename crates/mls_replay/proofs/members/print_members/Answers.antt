@@ -1,4 +1,4 @@
-use Rattle.std.proofs.Common.{◌≡◌, ◌∙◌, sym, arith}
+use Rattle.std.proofs.Common.{◌∙◌, sym, arith}
 use Rattle.mls_replay.proofs.Naming.{named_all, named_cut, named_on, past_all}
 use Rattle.mls_replay.proofs.Playing.{on_err}
 use Rattle.mls_replay.proofs.members.print_members.Goals as goal
