@@ -6,7 +6,7 @@ ghost use Rattle.mls_member.specs.Answers.{IsShortItem};
 
 use anyhow::{Result, bail};
 use mls_leaf::Proposal;
-use mls_member::{Candidate, Effect, Item, Member};
+use mls_member::{Candidate, Effect, Item, Made, Member};
 use mls_suite::Glass;
 use std::alloc::Global;
 
@@ -39,11 +39,11 @@ fn run(rt: &impl Print, alloc: Global) -> Result<()> {
     let alice = Candidate::new(alloc, b"alice", &[1; 32])?;
     let bob = Candidate::new(alloc, b"bob", &[2; 32])?;
     let mut alice: Member<Glass> = Member::create(alloc, &alice, b"group", &[3; 32])?;
-    let made = alice.commit(&[addition(&bob)?], true, &[4; 32])?;
-    let Some(welcome) = made.welcome else {
+    let Made { commit, welcome } = alice.commit(&[addition(&bob)?], true, &[4; 32])?;
+    let Some(welcome) = welcome else {
         bail!("nobody is welcome");
     };
-    alice.process(&made.commit)?;
+    alice.process(&commit)?;
     let mut bob = Member::join(alloc, &bob, &welcome)?.member;
     let (leaf, epoch) = (bob.leaf_index(), bob.epoch_number());
     println!(rt; "bob joins at leaf {leaf} in epoch {epoch}")?;
