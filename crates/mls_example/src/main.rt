@@ -11,7 +11,6 @@ use mls_suite::Glass;
 use std::alloc::Global;
 
 /// The proposal that adds a candidate.
-#[tactic(auto, using(crate::proofs::Short::short_add))]
 fn addition(candidate: &Candidate<Glass>) -> Result<Item>
     ensures { IfOk result IsShortItem }
 {
@@ -19,12 +18,11 @@ fn addition(candidate: &Candidate<Glass>) -> Result<Item>
     Ok(Item::Full(Proposal::Add(candidate.key_package().clone()?)))
 }
 
-/// The proposal that removes a member.
-#[tactic(auto, using(crate::proofs::Short::short_remove))]
-fn removal(member: &Member<Glass>) -> Item
+/// The proposal that removes the member at a leaf.
+fn removal(leaf: u32) -> Item
     ensures { IsShortItem result }
 {
-    Item::Full(Proposal::Remove(member.leaf_index()))
+    Item::Full(Proposal::Remove(leaf))
 }
 
 /// A key that all members of the epoch can make (RFC 9420, 8.5).
@@ -63,7 +61,7 @@ fn run(rt: &impl Print, alloc: Global) -> Result<()> {
     println!(rt; "both export the same key: {same}")?;
 
     // Alice removes Bob.
-    let made = alice.commit(&[removal(&bob)], true, &[7; 32])?;
+    let made = alice.commit(&[removal(bob.leaf_index())], true, &[7; 32])?;
     alice.process(&made.commit)?;
     bob.process(&made.commit)?;
     println!(rt; "bob is gone: {}", bob.is_gone())?;
