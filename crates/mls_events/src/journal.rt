@@ -1,9 +1,10 @@
 //! The journals of a world, in one store, where an entry costs no copy of what stands before it.
 
-ghost use Rattle.std.specs.Prelude.{◌≡◌, List, [], ◌∷◌, ◌++◌, length, IfOk, OnOk, OnErr};
+ghost use Rattle.std.specs.Prelude.{◌≡◌, ◌<◌, List, [], ◌∷◌, ◌++◌, length, option_map, slice_get, IfOk, OnOk, OnErr};
+ghost use Rattle.std.specs.Option.{option_copied};
 ghost use Rattle.mls_model.specs.Journal as model;
-ghost use Rattle.mls_events.specs.Stored.{journal_at};
-ghost use Rattle.mls_events.specs.Unrolled.{journal_of};
+ghost use Rattle.mls_events.specs.Stored.{before, journal_at};
+ghost use Rattle.mls_events.specs.Unrolled.{journal_of, GoesBack, IsBefore};
 
 use crate::entry::{Entry, Step};
 use mls_model::Origin;
@@ -22,9 +23,11 @@ impl Model for Journals {
 
     ghost Value = { List model.Journal };
 
-    ghost use Rattle.mls_events.specs.Unrolled.{unrolled};
+    ghost use Rattle.mls_events.specs.Unrolled.{unrolled, GoBack};
 
     ghost view = { λ j. unrolled [] j.steps.items };
+
+    ghost invariant = { λ j. GoBack 0 j.steps.items };
 }
 
 impl Journals {
@@ -41,6 +44,7 @@ impl Journals {
     /// One more, which begins here or goes on from one that is there.
     #[tactic(auto, using(crate::proofs::Unrolled::one_more, crate::proofs::Unrolled::as_many))]
     fn add(&mut self, step: Step) -> Result<usize, AllocError>
+        requires { GoesBack (length self.old) step }
         ensures ok { OnOk result (self.new ≡ self.old ++ (journal_of self.old step ∷ [])) }
         ensures number { IfOk result (λ n. n ≡ length self.old) }
         ensures err { OnErr result (self.new ≡ self.old) }
@@ -61,6 +65,7 @@ impl Journals {
 
     /// One more, which is journal `before` with an entry.
     pub(crate) fn follow(&mut self, before: usize, entry: Entry) -> Result<usize, AllocError>
+        requires { before < length self.old }
         ensures ok { OnOk result (self.new ≡ self.old ++ (model.with_entry (journal_at self.old before) entry ∷ [])) }
         ensures number { IfOk result (λ n. n ≡ length self.old) }
         ensures err { OnErr result (self.new ≡ self.old) }
@@ -76,6 +81,42 @@ impl Journals {
         let number = self.steps.len();
         self.steps.truncate(number.saturating_sub(1));
     }
+
+    /// Where journal n begins.
+    fn origin_of(&self, number: usize) -> &Origin
+        requires { number < length self.now }
+        ensures { result.now ≡ (journal_at self.now number).origin }
+    {
+        let mut at = number;
+        loop {
+            match &self.steps[at] {
+                Step::Begun(origin) => return origin,
+                Step::Followed { before, entry: _ } => at = *before,
+            }
+        }
+    }
+
+    /// The latest entry of journal n, where it has one.
+    fn latest_of(&self, number: usize) -> Option<&Entry>
+        requires { number < length self.now }
+        ensures { option_copied result ≡ slice_get (journal_at self.now number).entries 0 }
+    {
+        match &self.steps[number] {
+            Step::Begun(_) => None,
+            Step::Followed { before: _, entry } => Some(entry),
+        }
+    }
+
+    /// The number of the journal before the latest entry of journal n, where it has one.
+    fn number_before(&self, number: usize) -> Option<usize>
+        requires { number < length self.now }
+        ensures { IsBefore self.now number result }
+    {
+        match &self.steps[number] {
+            Step::Begun(_) => None,
+            Step::Followed { before, entry: _ } => Some(*before),
+        }
+    }
 }
 
 /// A journal, lent from a world: where a member began, and the commits that it followed since.
@@ -86,6 +127,7 @@ pub struct Journal<'a> {
 }
 
 impl<'a> Model for Journal<'a> {
+    ghost use Rattle.std.specs.Prelude.{◌<◌, length};
     ghost use Rattle.mls_model.specs.Journal as model;
 
     ghost Value = { model.Journal };
@@ -93,13 +135,40 @@ impl<'a> Model for Journal<'a> {
     ghost use Rattle.mls_events.specs.Stored.{journal_at};
 
     ghost view = { λ j. journal_at j.journals.now j.number };
+
+    ghost invariant = { λ j. j.number < length j.journals.now };
 }
 
 impl<'a> Journal<'a> {
     /// Journal n of a store.
     pub(crate) fn of(journals: &'a Journals, number: usize) -> Journal<'a>
+        requires { number < length journals.now }
         ensures { result ≡ journal_at journals.now number }
     {
         Journal { journals, number }
+    }
+
+    /// Where the member began.
+    pub fn origin(&self) -> &Origin
+        ensures { result.now ≡ self.now.origin }
+    {
+        self.journals.origin_of(self.number)
+    }
+
+    /// The latest commit that the member followed, where it followed one.
+    pub fn latest(&self) -> Option<&Entry>
+        ensures { option_copied result ≡ slice_get self.now.entries 0 }
+    {
+        self.journals.latest_of(self.number)
+    }
+
+    /// The journal before the latest commit, where the member followed one.
+    pub fn earlier(&self) -> Option<Journal<'a>>
+        ensures { result ≡ option_map (λ (e : model.Entry). before self.now) (slice_get self.now.entries 0) }
+    {
+        match self.journals.number_before(self.number) {
+            Some(number) => Some(Journal::of(self.journals, number)),
+            None => None,
+        }
     }
 }
