@@ -10,3 +10,5 @@ pub mod Gathered
 pub mod GatheredLaws
 pub mod Kept
 pub mod KeptLaws
+pub mod Ends
+pub mod EndLaws
