@@ -4,7 +4,7 @@ ghost use Rattle.std.specs.Prelude.{◌≡◌, ◌<◌, List, [], ◌∷◌, ◌
 ghost use Rattle.std.specs.Option.{option_copied};
 ghost use Rattle.mls_model.specs.Journal as model;
 ghost use Rattle.mls_events.specs.Stored.{before, journal_at};
-ghost use Rattle.mls_events.specs.Unrolled.{journal_of, GoesBack, IsBefore};
+ghost use Rattle.mls_events.specs.Unrolled.{journal_of, GoesBack, HasStep, IsBefore};
 
 use crate::entry::{Entry, Step};
 use mls_model::Origin;
@@ -32,7 +32,7 @@ impl Model for Journals {
 
 impl Journals {
     /// No journals.
-    #[tactic(auto, unfolding(crate::specs::Unrolled::unrolled))]
+    #[tactic(auto, using(crate::proofs::Unrolled::goes_none), unfolding(crate::specs::Unrolled::unrolled))]
     pub(crate) fn new(alloc: Global) -> Journals
         ensures { result ≡ [] }
     {
@@ -42,7 +42,7 @@ impl Journals {
     }
 
     /// One more, which begins here or goes on from one that is there.
-    #[tactic(auto, using(crate::proofs::Unrolled::one_more, crate::proofs::Unrolled::as_many))]
+    #[tactic(auto, using(crate::proofs::Unrolled::one_more, crate::proofs::Unrolled::as_many, crate::proofs::Unrolled::goes_behind))]
     fn add(&mut self, step: Step) -> Result<usize, AllocError>
         requires { GoesBack (length self.old) step }
         ensures ok { OnOk result (self.new ≡ self.old ++ (journal_of self.old step ∷ [])) }
@@ -74,12 +74,20 @@ impl Journals {
     }
 
     /// Takes back the last one.
-    #[tactic(auto, using(crate::proofs::Unrolled::taken_back))]
+    #[tactic(auto, using(crate::proofs::Unrolled::taken_back, crate::proofs::Unrolled::goes_less))]
     pub(crate) fn take_back(&mut self)
         ensures { (js : List model.Journal) (j : model.Journal) → self.old ≡ js ++ (j ∷ []) → self.new ≡ js }
     {
         let number = self.steps.len();
         self.steps.truncate(number.saturating_sub(1));
+    }
+
+    /// The step of journal n.
+    fn step(&self, number: usize) -> &Step
+        requires { number < length self.now }
+        ensures { HasStep self.now number result.now }
+    {
+        &self.steps[number]
     }
 
     /// Where journal n begins.
@@ -89,7 +97,7 @@ impl Journals {
     {
         let mut at = number;
         loop {
-            match &self.steps[at] {
+            match self.step(at) {
                 Step::Begun(origin) => return origin,
                 Step::Followed { before, entry: _ } => at = *before,
             }
@@ -101,18 +109,19 @@ impl Journals {
         requires { number < length self.now }
         ensures { option_copied result ≡ slice_get (journal_at self.now number).entries 0 }
     {
-        match &self.steps[number] {
+        match self.step(number) {
             Step::Begun(_) => None,
             Step::Followed { before: _, entry } => Some(entry),
         }
     }
 
     /// The number of the journal before the latest entry of journal n, where it has one.
+    #[tactic(auto, using(crate::proofs::Unrolled::before_entry))]
     fn number_before(&self, number: usize) -> Option<usize>
         requires { number < length self.now }
         ensures { IsBefore self.now number result }
     {
-        match &self.steps[number] {
+        match self.step(number) {
             Step::Begun(_) => None,
             Step::Followed { before, entry: _ } => Some(*before),
         }
