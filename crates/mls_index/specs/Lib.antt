@@ -6,3 +6,4 @@ pub mod EntryLaws
 pub mod CountLaws
 pub mod Laws
 pub mod StepLaws
+pub mod FrontLaws
