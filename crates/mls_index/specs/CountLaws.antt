@@ -1,5 +1,5 @@
 -- Keys that are gathered from cells, and how many of them repeat.
-use Rattle.std.proofs.Common.{◌≡◌, ℕ, zero, suc, ◌+◌, ◌<◌, ◌≤◌, ◌==◌, Bool, true, false, not, cond, List, [], ◌∷◌, ◌++◌, length, get_or, Option, Some, None, is_some, refl, sym, ◌∙◌, ap, subst, arith, inl, inr, eq-eqb, ne_eqb, eqb-true, ◌&&◌}
+use Rattle.std.proofs.Common.{◌≡◌, ℕ, zero, suc, ◌+◌, ◌≤◌, ◌==◌, true, false, cond, List, [], ◌∷◌, ◌++◌, length, get_or, Option, Some, None, is_some, refl, sym, ◌∙◌, ap, subst, arith, inl, inr, ne_eqb}
 use Rattle.std.proofs.lemmas.Bool.{true≢false, cases_Bool}
 use Rattle.std.specs.List.{flat_map}
 use Rattle.std.specs.Option.{option_to_list}
@@ -9,7 +9,7 @@ use Rattle.mls_term.specs.MergeLaws.{bytes_refl}
 use Rattle.mls_term.specs.CountLaws.{bytes_true}
 use Rattle.mls_index.specs.declared.kind.KeyKind.{KeyKind}
 use Rattle.mls_index.specs.declared.kind.KeyKind.TheVariants.{Encryption, Signature}
-use Rattle.mls_index.specs.Keys.{key_of, keys_of, repeats_in}
+use Rattle.mls_index.specs.Keys.{key_of, repeats_in}
 
 -- ---- lists of keys
 
@@ -75,6 +75,7 @@ repeats_below k l xs ys repeats counts =
   where
     swapped : (a r : ℕ) → 1 + (r + a) ≡ (a + r) + 1
     swapped a r = omega arith
+
     grouped : (a r n : ℕ) → a + (r + n) ≡ (a + r) + n
     grouped a r n = omega arith
 

@@ -1,5 +1,5 @@
 -- Entries: where one is, where one goes, and what is left without it.
-use Rattle.std.proofs.Common.{◌≡◌, ℕ, zero, suc, ◌+◌, ◌-◌, ◌<◌, ◌≤◌, Bool, true, false, List, [], length, get_or, Option, Some, None, refl, sym, ◌∙◌, ap, subst, arith, inl, inr, is_some}
+use Rattle.std.proofs.Common.{◌≡◌, ℕ, ◌+◌, ◌-◌, ◌<◌, ◌≤◌, Bool, true, false, List, [], length, get_or, Option, Some, None, sym, ◌∙◌, ap, subst, arith, inl, inr, is_some}
 use Rattle.std.proofs.lemmas.Bool.{true≢false, cases_lt, cases_eq}
 use Rattle.std.proofs.lemmas.List.{get_or_default}
 use Rattle.std.proofs.lemmas.List.Edits.{length-insert, get_or-insert_below, get_or-insert_at, get_or-insert_above, length-remove, get_or-remove_below, get_or-remove_above}
@@ -154,7 +154,7 @@ module _ (x : ℕ) (k : List ℕ) (b c : ℕ → Option (List ℕ)) (here : c x 
             | inr i_le ↦
                 let is : i ≡ p = omega arith in
                 as_entries _ _ _ _ (ap (λ n. entry_at c (get_or (insert ns p x) n 0)) is ∙ mid_entry) (high_entry j (omega arith) (omega arith)) (
-                  is_above (entry_at b (get_or ns (j - 1) 0)) (k, x) (gap.above (j - 1) (omega arith) (omega arith)) (other_number (j - 1) (omega arith)))
+                is_above (entry_at b (get_or ns (j - 1) 0)) (k, x) (gap.above (j - 1) (omega arith) (omega arith)) (other_number (j - 1) (omega arith)))
           ]
         ]
 
@@ -189,7 +189,7 @@ module _ (x : ℕ) (k : List ℕ) (b c : ℕ → Option (List ℕ)) (here : c x 
         ]
       where
         omega_less : {a b : ℕ} → (a ≡ b → ⊥) → b ≤ a → b < a
-        omega_less {a} {b} other le = elim (cases_lt b a) [ | inl lt ↦ lt | inr ge ↦ absurd (other (omega arith)) ]
+        omega_less {a} {b} other le = elim (cases_lt b a) [ inl lt ↦ lt | inr ge ↦ absurd (other (omega arith)) ]
 
     width : length (remove ns p) + 1 ≡ length ns
     width = length-remove ns p stands.0

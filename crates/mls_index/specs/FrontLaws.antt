@@ -1,10 +1,10 @@
 -- The first cells of a list, with blank ones after them.
-use Rattle.std.proofs.Common.{◌≡◌, ℕ, zero, suc, ◌+◌, ◌<◌, ◌≤◌, true, List, [], ◌∷◌, length, get_or, Option, Some, None, is_some, refl, sym, ◌∙◌, ap, arith, inl, inr}
+use Rattle.std.proofs.Common.{◌≡◌, ℕ, zero, suc, ◌+◌, ◌<◌, ◌≤◌, List, [], ◌∷◌, length, get_or, Option, None, refl, sym, ◌∙◌, ap, arith, inl, inr}
 use Rattle.std.proofs.lemmas.Bool.{cases_lt}
 use Rattle.std.proofs.lemmas.List.{get_or_past}
 use Rattle.mls_leaf.specs.declared.node.Node.{Node}
 use Rattle.mls_index.specs.declared.kind.KeyKind.{KeyKind}
-use Rattle.mls_index.specs.Keys.{key_of, key_at, keys_of, repeats_in}
+use Rattle.mls_index.specs.Keys.{key_of, key_at, repeats_in}
 use Rattle.mls_index.specs.Order.{Entries}
 use Rattle.mls_index.specs.Indexes.{Listing, Indexes, Without}
 use Rattle.mls_index.specs.EntryLaws.{no_key}

@@ -1,5 +1,5 @@
 -- What an index is of some cells.
-use Rattle.std.specs.Prelude.{◌≡◌, ℕ, true, List, length, get_or, Option, Some, None, is_some}
+use Rattle.std.specs.Prelude.{◌≡◌, ℕ, List, length, Option, None}
 use Rattle.mls_leaf.specs.declared.node.Node.{Node}
 use Rattle.mls_index.specs.declared.kind.KeyKind.{KeyKind}
 use Rattle.mls_index.specs.Keys.{key_at, keys_of, repeats_in}

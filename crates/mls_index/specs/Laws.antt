@@ -1,8 +1,7 @@
 -- Laws of indexes.
-use Rattle.std.proofs.Common.{◌≡◌, ℕ, ◌++◌, List, Option, None, get_or, replicate, sym, ◌∙◌, ap}
+use Rattle.std.proofs.Common.{◌≡◌, ℕ, List, Option, ◌∙◌, ap}
 use Rattle.mls_leaf.specs.declared.node.Node.{Node}
-use Rattle.mls_index.specs.Keys.{key_at, keys_of, repeats_in}
-use Rattle.mls_index.specs.Order.{Entries}
+use Rattle.mls_index.specs.Keys.{key_at, repeats_in}
 use Rattle.mls_index.specs.Indexes.{Listing, Indexes}
 use Rattle.mls_index.specs.EntryLaws.{entries_alike}
 use Rattle.mls_index.specs.CountLaws.{none_blank, same_gathered}

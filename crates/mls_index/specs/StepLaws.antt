@@ -1,5 +1,5 @@
 -- Laws of each step of an index.
-use Rattle.std.proofs.Common.{◌≡◌, ℕ, zero, suc, ◌+◌, ◌<◌, ◌≤◌, ◌==◌, Bool, true, false, not, cond, List, length, get_or, Option, Some, None, is_some, refl, sym, ◌∙◌, ap, subst, arith, inl, inr, ne_eqb, eq-eqb}
+use Rattle.std.proofs.Common.{◌≡◌, ℕ, zero, suc, ◌+◌, ◌<◌, ◌≤◌, ◌==◌, Bool, true, false, not, cond, List, length, get_or, Option, Some, None, is_some, refl, sym, ◌∙◌, ap, subst, arith, inl, inr, ne_eqb}
 use Rattle.std.proofs.lemmas.Bool.{true≢false, cases_Bool, cases_eq}
 use Rattle.std.specs.List.{insert, remove}
 use Rattle.mls_leaf.specs.declared.node.Node.{Node}
@@ -97,6 +97,7 @@ module _ (x : ℕ) (cells b c : List (Option Node)) (t : Listing) (without : Wit
         other_test : (v : Bool) → not v ≡ false → v ≡ true
         other_test true h = refl
         other_test false h = sym h
+
         plain : (n : ℕ) → n + 0 ≡ n
         plain n = omega arith
 

@@ -1,9 +1,6 @@
-use Rattle.std.proofs.Common.{◌≡◌, ℕ, ◌+◌, ◌<◌, List, Option, None, Some, length, sym, ◌∙◌, ap, subst, arith}
+use Rattle.std.proofs.Common.{◌≡◌, sym, ◌∙◌, ap, arith}
 use Rattle.std.specs.List.{insert}
-use Rattle.mls_leaf.specs.declared.node.Node.{Node}
 use Rattle.mls_index.specs.Keys.{key_at, keys_of, repeats_in}
-use Rattle.mls_index.specs.Order.{Entries}
-use Rattle.mls_index.specs.Indexes.{Indexes}
 use Rattle.mls_index.specs.StepLaws.{nothing_entered, part_before, one_held, none_held, entered, few, indexes_from}
 use Rattle.mls_index.proofs.index.Index.enter.Goals as goal
 

@@ -1,7 +1,6 @@
-use Rattle.std.proofs.Common.{◌≡◌, ℕ, ◌<◌, List, Option, get_or, length, sym, ◌∙◌, ap, subst, arith, ltb-true, lt-ltb}
+use Rattle.std.proofs.Common.{◌<◌, get_or, length, sym, ◌∙◌, ap, subst, ltb-true, lt-ltb}
 use Rattle.std.proofs.lemmas.Bool.{true≢false}
 use Rattle.std.proofs.lemmas.List.{get_or_default}
-use Rattle.mls_leaf.specs.declared.node.Node.{Node}
 use Rattle.mls_index.specs.Keys.{key_at, is_key}
 use Rattle.mls_index.specs.StepLaws.{held_here, held_past}
 use Rattle.mls_index.proofs.index.Index.finds.Goals as goal

@@ -1,9 +1,7 @@
-use Rattle.std.proofs.Common.{◌≡◌, ℕ, ◌+◌, ◌<◌, List, Option, None, Some, length, sym, ◌∙◌, ap, subst, arith}
+use Rattle.std.proofs.Common.{◌≡◌, length, sym, ◌∙◌, ap, subst, arith}
 use Rattle.std.specs.List.{remove}
-use Rattle.mls_leaf.specs.declared.node.Node.{Node}
 use Rattle.mls_index.specs.Keys.{key_at, keys_of, is_held, repeats_in}
 use Rattle.mls_index.specs.Order.{Entries, IsPart}
-use Rattle.mls_index.specs.Indexes.{Indexes}
 use Rattle.mls_index.specs.StepLaws.{nothing_left, part_before, one_held, none_held, placed, left, indexes_from}
 use Rattle.mls_index.proofs.index.Index.leave.Goals as goal
 
