@@ -50,7 +50,7 @@ impl Index {
         Ok(index)
     }
 
-    /// Makes room for more cells. No other call takes memory.
+    /// Makes room for so many more cells, so that entering them takes no memory. Without memory for it all stays.
     pub fn reserve(&mut self, count: usize) -> Result<(), AllocError>
         ensures room { OnOk result (count ≤ self.new.room) }
         ensures more { self.old.room ≤ self.new.room }
