@@ -12,3 +12,4 @@ pub mod Kept
 pub mod KeptLaws
 pub mod Ends
 pub mod EndLaws
+pub mod Splits
