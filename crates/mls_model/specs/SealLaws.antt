@@ -1,5 +1,5 @@
 -- The seals of a Welcome by their numbers: one for each place among its entries, behind those of the path.
-use Rattle.std.proofs.Common.{◌≡◌, ℕ, zero, suc, ◌+◌, List, [], ◌∷◌, length, Option, Some, Result, Ok, refl, ap, sym, ◌∙◌, subst, arith, slice_get}
+use Rattle.std.proofs.Common.{◌≡◌, ℕ, zero, suc, ◌+◌, List, [], ◌∷◌, length, Some, Ok, ap, sym, ◌∙◌, subst, arith, slice_get}
 use Rattle.mls_wire.specs.Laws.{bind_ok, ok_is}
 use Rattle.mls_leaf.specs.declared.key_package.KeyPackage.{KeyPackage}
 use Rattle.mls_group.specs.declared.welcome.EncryptedGroupSecrets.{EncryptedGroupSecrets}

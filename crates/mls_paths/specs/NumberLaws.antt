@@ -1,6 +1,5 @@
 -- The seals of a path by their numbers: one for each place among its ciphertexts.
-use Rattle.std.proofs.Common.{◌≡◌, ℕ, zero, suc, ◌+◌, ◌⊎◌, Bool, true, false, if◌then◌else◌, List, [], ◌∷◌, ◌++◌, length, reverse, Option, Some, None, Ok, refl, ap, sym, ◌∙◌, subst, inl, inr, arith, slice_get}
-use Rattle.std.specs.List.{flat_map}
+use Rattle.std.proofs.Common.{◌≡◌, ℕ, zero, suc, ◌+◌, ◌⊎◌, Bool, true, false, if◌then◌else◌, List, [], ◌∷◌, ◌++◌, length, reverse, Option, Some, None, refl, ap, sym, ◌∙◌, subst, inl, inr, arith, slice_get}
 use Rattle.std.proofs.lemmas.Grind.{flat_map-append}
 use Rattle.std.proofs.lemmas.List.{length-append}
 use Rattle.mls_group.specs.declared.update_path.HpkeCiphertext.{HpkeCiphertext}
@@ -16,7 +15,7 @@ use Rattle.mls_paths.specs.Seal.{targets, seal_count, seal_to, seal_all, with_ci
 use Rattle.mls_paths.specs.SealLaws.{cons_is, with_is, sealed_all}
 use Rattle.mls_paths.specs.Seeds.{seals_in}
 use Rattle.mls_paths.specs.Whole.{ciphertexts_in, IsSealedUnder, SealedByNumber, SealsAreCounted}
-use Rattle.mls_paths.specs.WholeLaws.{IsSealed, all_sealed, sealed_is}
+use Rattle.mls_paths.specs.WholeLaws.{all_sealed, sealed_is}
 
 get_past : {A : Type 0} (xs ys : List A) (k : ℕ) (x : A) → slice_get (xs ++ ys) k ≡ Some x → (slice_get xs k ≡ Some x) ⊎ ((j : ℕ) × (k ≡ length xs + j) × (slice_get ys j ≡ Some x))
 get_past [] ys k x h = let e : k ≡ 0 + k = omega arith in inr (k, e, h)

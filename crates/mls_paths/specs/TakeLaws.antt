@@ -3,7 +3,7 @@ use Rattle.std.proofs.Common.{◌≡◌, ℕ, suc, ◌+◌, Bool, true, false, �
 use Rattle.std.specs.List.{AllByRecursion}
 use Rattle.std.specs.Str.{bytes_eq}
 use Rattle.std.proofs.lemmas.Slice.Eq.{bytes_eq-Decides}
-use Rattle.std.proofs.lemmas.Bool.{and_parts, cases_lt, or_right}
+use Rattle.std.proofs.lemmas.Bool.{and_parts, cases_lt}
 use Rattle.mls_wire.specs.Laws.{bind_ok}
 use Rattle.mls_leaf.specs.Parent.{Parent}
 use Rattle.mls_term.specs.Sets.{has}
@@ -12,14 +12,13 @@ use Rattle.mls_term.specs.Way.{Step, way, is_beside}
 use Rattle.mls_term.specs.Equations.{way_left, way_right}
 use Rattle.mls_term.specs.Laws.{IsIn}
 use Rattle.mls_suite.specs.Crypto.{Crypto}
-use Rattle.mls_paths.specs.Chain.{next_secret, chain, node_key, node_public, chain_keys}
+use Rattle.mls_paths.specs.Chain.{next_secret, chain, node_public, chain_keys}
 use Rattle.mls_paths.specs.Keys.{Keys, leaf_only}
 use Rattle.mls_paths.specs.Make.{past_node, past_blank, Climb}
 use Rattle.mls_paths.specs.Seal.{Choose}
-use Rattle.mls_paths.specs.Join.{past_present, is_present, climb_take, is_due, is_complete, take_keys, take_answer, AllList}
-use Rattle.mls_paths.specs.JoinLaws.{Sounds, sounds, not_and, due_listed, listed_due, take_inside}
+use Rattle.mls_paths.specs.Join.{past_present, is_present, climb_take, is_due, is_complete, take_keys, AllList}
+use Rattle.mls_paths.specs.JoinLaws.{sounds, not_and, due_listed, listed_due, take_inside}
 use Rattle.mls_paths.specs.WayLaws.{within, below, beyond}
-use Rattle.mls_paths.specs.Laws.{AreTwo}
 use Rattle.mls_paths.specs.Whole.{with_parent, parents_over, FitsOver, TakenFits, FitIsTaken}
 
 -- ---- two ways: alike down to the parent where they part, and then that on its other side
