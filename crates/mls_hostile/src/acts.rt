@@ -86,6 +86,22 @@ fn create_event(alloc: Global, candidate: usize, seed: u8) -> Result<Event, Allo
     })
 }
 
+fn commit_event(
+    alloc: Global,
+    member: usize,
+    parts: Parts,
+    path: bool,
+    seed: u8,
+) -> Result<Event, AllocError> {
+    let items = items_of(alloc, parts)?;
+    Ok(Event::Commit {
+        member,
+        items,
+        path,
+        seed: [seed; 32],
+    })
+}
+
 /// The event that an act stands for.
 pub fn event_of(alloc: Global, act: Act) -> Result<Event, AllocError> {
     match act {
@@ -101,15 +117,7 @@ pub fn event_of(alloc: Global, act: Act) -> Result<Event, AllocError> {
             parts,
             path,
             seed,
-        } => {
-            let items = items_of(alloc, parts)?;
-            Ok(Event::Commit {
-                member,
-                items,
-                path,
-                seed: [seed; 32],
-            })
-        }
+        } => commit_event(alloc, member, parts, path, seed),
         Act::Deliver { member, message } => Ok(Event::Deliver {
             member,
             bytes: Source::Message(message),

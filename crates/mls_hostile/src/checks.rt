@@ -5,16 +5,16 @@ use crate::changes::turned;
 use crate::forgery::{Committed, path_secret};
 use crate::groups;
 use crate::outcome::Outcome;
+use crate::pieces::{joined, limited, replaced, without};
 use crate::stage::{Receiver, Stage};
 use anyhow::{Result, bail};
-use mls_kdf::Seed;
-use mls_leaf::{Bytes, Codec, INPUT_LIMIT, Items, LeafNode};
+use mls_kdf::{Secret, Seed};
+use mls_leaf::Codec;
 use mls_member::{Candidate, Member};
 use mls_model::{Event, Source, WorldItem};
 use mls_suite::{Glass, sign_with_label};
-use mls_types::MlsMessage;
 use mls_world::World;
-use std::alloc::Global;
+use std::alloc::{AllocError, Global};
 
 /// What a commit that seals zeros to the second of three is answered.
 #[derive(Drop)]
@@ -30,50 +30,94 @@ pub struct ForgedAnswers {
 }
 
 /// The stage of three after the acts that make them members, and after these ones.
-fn three_and(alloc: Global, more: &[Act]) -> Result<Stage> {
-    let acts = groups::three(alloc)?;
-    let mut stage = Stage::after(alloc, &acts, acts.len())?;
-    for act in more {
-        stage.act(alloc, *act)?;
-    }
-    Ok(stage)
+fn three_and(alloc: Global, more: &[Act]) -> Result<Box<Stage>> {
+    let mut acts = groups::three(alloc)?;
+    acts.extend_from_slice(more)?;
+    Stage::after(alloc, &acts, acts.len())
 }
 
-/// The first of three commits nothing, but seals zeros to the second.
-pub fn forged(alloc: Global) -> Result<ForgedAnswers> {
-    let seed: Seed = [8; 32];
+/// The stage of three after the first acts that make them members.
+fn three_after(alloc: Global, count: usize) -> Result<Box<Stage>> {
+    Stage::after(alloc, &groups::three(alloc)?, count)
+}
+
+const SEED: Seed = [8; 32];
+
+/// The stage of three after the first committed nothing and followed that: message 5 is the commit.
+fn three_committed(alloc: Global) -> Result<Box<Stage>> {
     let commit = Act::Commit {
         member: 0,
         parts: Parts::Nothing,
         path: true,
         seed: 8,
     };
-    let mut stage = three_and(alloc, &[])?;
-    let twin = three_and(
-        alloc,
-        &[
-            commit,
-            Act::Deliver {
-                member: 0,
-                message: 5,
-            },
-        ],
-    )?;
-    let committed = Committed {
-        before: stage.member(0)?,
-        after: twin.member(0)?,
-        signing: stage.candidate(0)?.signing_key(),
-        seed: &seed,
-        nodes: 2,
-        message: twin.message(5)?,
+    let deliver = Act::Deliver {
+        member: 0,
+        message: 5,
     };
-    let key = leaf_key(stage.member(1)?)?;
-    let right = committed.with_secret(alloc, key, &path_secret(&seed, 0))?;
-    let zeros = committed.with_secret(alloc, key, &[0; 32])?;
-    let is_made_alike = right.as_slice() == twin.message(5)?;
-    let before = stage.page(alloc, Receiver::Member(1), &[])?;
-    let second = stage.give(alloc, Receiver::Member(1), &zeros)?;
-    let is_same = stage.page(alloc, Receiver::Member(1), &[])? == before;
+    three_and(alloc, &[commit, deliver])
+}
+
+/// The public key of a member's leaf.
+fn leaf_key(stage: &Stage, member: usize) -> Result<&[u8]> {
+    let member = stage.member(member)?;
+    match member.group().tree().leaf(member.leaf_index()) {
+        Some(leaf) => Ok(leaf.encryption_key.as_slice()),
+        None => bail!("no leaf"),
+    }
+}
+
+/// The commit of the first of three, and what it knew.
+fn made<'a>(before: &'a Stage, after: &'a Stage, seed: &'a Seed) -> Result<Committed<'a>> {
+    Ok(Committed {
+        before: before.member(0)?,
+        after: after.member(0)?,
+        signing: before.candidate(0)?.signing_key(),
+        seed,
+        nodes: 2,
+        message: after.message(5)?,
+    })
+}
+
+/// That commit with a secret sealed to the second member in the place of the right one.
+fn with_secret(alloc: Global, before: &Stage, after: &Stage, secret: &Secret) -> Result<Vec<u8>> {
+    let key = leaf_key(before, 1)?;
+    made(before, after, &SEED)?.with_secret(alloc, key, secret)
+}
+
+/// What a member answers to bytes, and whether all that can be seen of it is as before.
+fn answered(
+    alloc: Global,
+    stage: &mut Stage,
+    to: Receiver,
+    bytes: &[u8],
+) -> Result<(Outcome, bool)> {
+    let before = stage.page(alloc, to, &[])?;
+    let outcome = stage.give(alloc, to, bytes)?;
+    let is_same = stage.page(alloc, to, &[])? == before;
+    Ok((outcome, is_same))
+}
+
+/// Whether the commit with the right secret is the one that the committer makes.
+fn is_made_alike(alloc: Global, before: &Stage, after: &Stage) -> Result<bool> {
+    let right = with_secret(alloc, before, after, &path_secret(&SEED, 0))?;
+    Ok(right.as_slice() == after.message(5)?)
+}
+
+/// The commit of the first of three, which seals zeros to the second, and whether with the right secret it is the one that
+/// the committer makes.
+fn with_zeros(alloc: Global, before: &Stage) -> Result<(Vec<u8>, bool)> {
+    let after = three_committed(alloc)?;
+    let is_alike = is_made_alike(alloc, before, &after)?;
+    let zeros = with_secret(alloc, before, &after, &[0; 32])?;
+    Ok((zeros, is_alike))
+}
+
+/// The first of three commits nothing, but seals zeros to the second.
+pub fn forged(alloc: Global) -> Result<ForgedAnswers> {
+    let mut stage = three_and(alloc, &[])?;
+    let (zeros, is_made_alike) = with_zeros(alloc, &stage)?;
+    let (second, is_same) = answered(alloc, &mut stage, Receiver::Member(1), &zeros)?;
     let third = stage.give(alloc, Receiver::Member(2), &zeros)?;
     Ok(ForgedAnswers {
         is_made_alike,
@@ -81,14 +125,6 @@ pub fn forged(alloc: Global) -> Result<ForgedAnswers> {
         is_same,
         third,
     })
-}
-
-/// The public key of a member's leaf.
-fn leaf_key(member: &Member<Glass>) -> Result<&[u8]> {
-    match member.group().tree().leaf(member.leaf_index()) {
-        Some(leaf) => Ok(leaf.encryption_key.as_slice()),
-        None => bail!("no leaf"),
-    }
 }
 
 /// What a Welcome for two, with one bit turned in what is sealed to the second, is answered.
@@ -104,18 +140,18 @@ pub struct WelcomeAnswers {
 /// begins with 68 bytes of reference, encapsulation and headers.
 const IN_SECOND: usize = 8 + 168 + 68;
 
-fn info_in(alloc: Global, stage: &Stage, welcome: &[u8]) -> Result<Vec<u8>> {
-    Ok(Member::join(alloc, stage.candidate(1)?, welcome)?.group_info)
+/// Whether the first opens the same GroupInfo by both Welcomes.
+fn is_same_info(alloc: Global, stage: &Stage, one: &[u8], other: &[u8]) -> Result<bool> {
+    let candidate = stage.candidate(1)?;
+    let one = Member::join(alloc, candidate, one)?;
+    let other = Member::join(alloc, candidate, other)?;
+    Ok(one.group_info == other.group_info)
 }
 
-/// Two are added, and their Welcome is changed on its way to the first.
-pub fn welcomed(alloc: Global) -> Result<WelcomeAnswers> {
-    let acts = groups::three(alloc)?;
-    let mut stage = Stage::after(alloc, &acts, 6)?;
+fn welcomed_by(alloc: Global, stage: &mut Stage) -> Result<WelcomeAnswers> {
     let welcome = stage.message(4)?;
     let changed = turned(alloc, welcome, IN_SECOND, 1)?;
-    let info = info_in(alloc, &stage, &changed)?;
-    let is_same_info = info == info_in(alloc, &stage, welcome)?;
+    let is_same_info = is_same_info(alloc, stage, &changed, welcome)?;
     let first = stage.give(alloc, Receiver::Candidate(1), &changed)?;
     let second = stage.give(alloc, Receiver::Candidate(2), &changed)?;
     Ok(WelcomeAnswers {
@@ -125,59 +161,64 @@ pub fn welcomed(alloc: Global) -> Result<WelcomeAnswers> {
     })
 }
 
+/// Two are added, and their Welcome is changed on its way to the first.
+pub fn welcomed(alloc: Global) -> Result<WelcomeAnswers> {
+    let mut stage = three_after(alloc, 6)?;
+    welcomed_by(alloc, &mut stage)
+}
+
+/// A candidate of group "h", the fourth, who creates it.
+fn create_elsewhere(alloc: Global, stage: &mut Stage) -> Result<()> {
+    stage.acts(
+        alloc,
+        &[Act::Candidate {
+            name: b'h',
+            seed: 7,
+        }],
+    )?;
+    let group = Vec::from_slice(alloc, b"h")?;
+    let event = Event::Create {
+        candidate: 3,
+        group,
+        seed: [9; 32],
+    };
+    stage.event(alloc, &event)
+}
+
 /// What a member of another group answers to a message of group "g", and whether it is as before.
 pub fn elsewhere(alloc: Global) -> Result<(Outcome, bool)> {
     let mut stage = three_and(alloc, &[Act::Update { member: 1, seed: 6 }])?;
-    let seed = [9; 32];
-    stage.act(
-        alloc,
-        Act::Candidate {
-            name: b'h',
-            seed: 7,
-        },
-    )?;
-    let group = Vec::from_slice(alloc, b"h")?;
-    stage.event(
-        alloc,
-        &Event::Create {
-            candidate: 3,
-            group,
-            seed,
-        },
-    )?;
+    create_elsewhere(alloc, &mut stage)?;
     let update = Vec::from_slice(alloc, stage.message(5)?)?;
-    let before = stage.page(alloc, Receiver::Member(3), &[])?;
-    let outcome = stage.give(alloc, Receiver::Member(3), &update)?;
-    let is_same = stage.page(alloc, Receiver::Member(3), &[])? == before;
-    Ok((outcome, is_same))
+    answered(alloc, &mut stage, Receiver::Member(3), &update)
 }
 
-/// A leaf for another suite, signed by its candidate.
-fn incapable_leaf(alloc: Global, candidate: &Candidate<Glass>) -> Result<LeafNode> {
-    let mut leaf = candidate.leaf_node().clone()?;
-    leaf.capabilities.cipher_suites = Items::from_vec(vec![in alloc; 2]?);
-    let text = leaf.to_be_signed(alloc, &[], 0)?;
-    if text.len() > INPUT_LIMIT {
-        bail!("the leaf is too long");
-    }
+/// Where in a leaf of a name of one byte the low byte of the only suite stands that it lists, behind two keys, the
+/// credential and the versions.
+const SUITE: usize = 33 + 33 + 4 + 3 + 2;
+/// How many bytes of a leaf its signature has, behind its header.
+const SIGNATURE: usize = 32;
+
+/// The bytes of a leaf for another suite, signed by its candidate.
+fn incapable_leaf(alloc: Global, candidate: &Candidate<Glass>) -> Result<Vec<u8>> {
+    let own = candidate.leaf_node().encode(alloc)?;
+    let leaf = turned(alloc, &own, SUITE, 2)?;
+    let content = limited(without(&leaf, SIGNATURE + 1))?;
     let signing = candidate.signing_key();
-    let signature = sign_with_label::<Glass>(alloc, signing, "LeafNodeTBS", &text)?;
-    leaf.signature = Bytes::from_vec(signature);
-    Ok(leaf)
+    let signature = sign_with_label::<Glass>(alloc, signing, "LeafNodeTBS", content)?;
+    joined(alloc, &[content, &[32], &signature])
 }
 
-/// A leaf without a signature.
-fn unsigned_leaf(alloc: Global, candidate: &Candidate<Glass>) -> Result<LeafNode> {
-    let mut leaf = candidate.leaf_node().clone()?;
-    leaf.signature = Bytes::from_vec(Vec::new(alloc));
-    Ok(leaf)
+/// The bytes of a leaf with a signature that isn't its own.
+fn unsigned_leaf(alloc: Global, candidate: &Candidate<Glass>) -> Result<Vec<u8>> {
+    let own = candidate.leaf_node().encode(alloc)?;
+    joined(alloc, &[without(&own, SIGNATURE), &[0; SIGNATURE]])
 }
 
 /// The proposal to add a candidate with another leaf.
-fn addition(alloc: Global, candidate: &Candidate<Glass>, leaf: LeafNode) -> Result<WorldItem> {
-    let mut package = candidate.key_package().clone()?;
-    package.leaf_node = leaf;
-    let message = MlsMessage::KeyPackage(package).encode(alloc)?;
+fn addition(alloc: Global, candidate: &Candidate<Glass>, leaf: &[u8]) -> Result<WorldItem> {
+    let own = candidate.leaf_node().encode(alloc)?;
+    let message = replaced(alloc, candidate.message(), &own, leaf)?;
     Ok(WorldItem::Add(Source::Given(message)))
 }
 
@@ -188,62 +229,71 @@ fn committed(world: &mut World<Glass>, items: &[WorldItem]) -> u8 {
     }
 }
 
-/// What a commit is answered that adds a leaf that lacks a capability, and behind it one that isn't signed; and what the
-/// two answer in the other order.
-pub fn wrong_adds(alloc: Global) -> Result<(u8, u8)> {
-    let acts = groups::three(alloc)?;
-    let mut stage = Stage::after(alloc, &acts, 4)?;
-    let second = stage.candidate(1)?;
-    let third = stage.candidate(2)?;
-    let incapable = addition(alloc, second, incapable_leaf(alloc, second)?)?;
-    let unsigned = addition(alloc, third, unsigned_leaf(alloc, third)?)?;
-    let mut items = vec![in alloc; incapable, unsigned]?;
-    let first = committed(stage.world_mut(), &items);
-    items.reverse();
-    let last = committed(stage.world_mut(), &items);
-    Ok((first, last))
+/// The additions of a leaf that lacks a capability and of one that isn't signed, in this order or in the other.
+fn wrong_items(alloc: Global, stage: &Stage, in_order: bool) -> Result<Vec<WorldItem>> {
+    let (second, third) = (stage.candidate(1)?, stage.candidate(2)?);
+    let incapable = addition(alloc, second, &incapable_leaf(alloc, second)?)?;
+    let unsigned = addition(alloc, third, &unsigned_leaf(alloc, third)?)?;
+    if in_order {
+        Ok(vec![in alloc; incapable, unsigned]?)
+    } else {
+        Ok(vec![in alloc; unsigned, incapable]?)
+    }
+}
+
+/// What a commit is answered that adds a leaf that lacks a capability, and behind it one that isn't signed; or the other
+/// way round.
+pub fn wrong_adds(alloc: Global, in_order: bool) -> Result<u8> {
+    let mut stage = three_after(alloc, 4)?;
+    let items = wrong_items(alloc, &stage, in_order)?;
+    Ok(committed(stage.world_mut(), &items))
 }
 
 /// The members that a tree of 4,096 leaves holds besides the first.
 const OTHERS: usize = 4095;
 
+/// Candidate k, none of whose keys is another's.
+fn candidate(alloc: Global, k: usize) -> Result<Event, AllocError> {
+    let [.., high, low] = k.to_be_bytes();
+    let mut seed = [255; 32];
+    seed[1] = high;
+    seed[2] = low;
+    let identity = Vec::from_slice(alloc, &[high, low])?;
+    Ok(Event::Candidate { identity, seed })
+}
+
 fn many_candidates(alloc: Global, stage: &mut Stage) -> Result<()> {
     for k in 0..=OTHERS {
-        let [.., high, low] = k.to_be_bytes();
-        let mut seed = [0; 32];
-        seed[0] = 255;
-        seed[1] = high;
-        seed[2] = low;
-        let identity = Vec::from_slice(alloc, &[high, low])?;
-        stage.event(alloc, &Event::Candidate { identity, seed })?;
+        let event = candidate(alloc, k)?;
+        stage.event(alloc, &event)?;
     }
     Ok(())
 }
 
-/// What the commit that would add one more to a full tree is answered, and how many members the tree has.
+/// The first adds so many that its tree is full: message 0 is its KeyPackage, and those of the others follow.
+fn fill(alloc: Global, stage: &mut Stage) -> Result<()> {
+    many_candidates(alloc, stage)?;
+    let parts = Parts::Added {
+        first: 1,
+        count: OTHERS,
+    };
+    let commit = Act::Commit {
+        member: 0,
+        parts,
+        path: false,
+        seed: 8,
+    };
+    let deliver = Act::Deliver {
+        member: 0,
+        message: OTHERS + 2,
+    };
+    stage.acts(alloc, &[commit, deliver])
+}
+
+/// How many members a full tree has, and what the commit is answered that would add one more.
 pub fn full(alloc: Global) -> Result<(u32, u8)> {
-    let acts = groups::three(alloc)?;
-    let mut stage = Stage::after(alloc, &acts, 2)?;
-    many_candidates(alloc, &mut stage)?;
-    stage.act(
-        alloc,
-        Act::Commit {
-            member: 0,
-            parts: Parts::Added {
-                first: 1,
-                count: OTHERS,
-            },
-            path: false,
-            seed: 8,
-        },
-    )?;
-    stage.act(
-        alloc,
-        Act::Deliver {
-            member: 0,
-            message: OTHERS + 2,
-        },
-    )?;
+    let mut stage = three_after(alloc, 2)?;
+    fill(alloc, &mut stage)?;
     let items = additions(alloc, OTHERS + 1, 1)?;
     let number = committed(stage.world_mut(), &items);
     let members = stage.member(0)?.group().tree().member_count();

@@ -1,11 +1,14 @@
 //! A commit of a member that seals a secret of its choice to another, with all else right.
 
+ghost use Rattle.std.specs.Prelude.{◌<◌, ◌^◌, length, IfOk};
+
+use crate::pieces::{joined, last, limited, place_of, with_text, without};
 use anyhow::{Result, bail};
 use mls_kdf::{Secret, Seed, derive_secret, expand_with_label};
 use mls_member::Member;
 use mls_schedule::Epoch;
-use mls_suite::{Glass, encrypt_with_label, sign_with_label};
-use std::alloc::{AllocError, Global};
+use mls_suite::{Glass, Sealed, encrypt_with_label, sign_with_label};
+use std::alloc::Global;
 
 /// How many bytes of a commit's message stand behind its content: signature, confirmation tag and membership tag.
 const BEHIND: usize = 99;
@@ -31,27 +34,6 @@ pub struct Committed<'a> {
     pub message: &'a [u8],
 }
 
-/// Pieces one after another.
-fn joined(alloc: Global, pieces: &[&[u8]]) -> Result<Vec<u8>, AllocError> {
-    let mut bytes = Vec::new(alloc);
-    for piece in pieces {
-        bytes.extend_from_slice(piece)?;
-    }
-    Ok(bytes)
-}
-
-/// The bytes but for the last ones.
-fn without(bytes: &[u8], behind: usize) -> &[u8] {
-    let (front, _) = bytes.split_at(bytes.len().saturating_sub(behind));
-    front
-}
-
-/// The last bytes.
-fn last(bytes: &[u8], count: usize) -> &[u8] {
-    let (_, last) = bytes.split_at(bytes.len().saturating_sub(count));
-    last
-}
-
 /// The secret that stands so many steps behind the first of a commit's path (RFC 9420, 7.4).
 pub fn path_secret(seed: &Seed, steps: usize) -> Secret {
     let mut secret = derive_secret(seed, "seed path");
@@ -61,60 +43,42 @@ pub fn path_secret(seed: &Seed, steps: usize) -> Secret {
     secret
 }
 
-/// Where a text begins in a longer one.
-fn place_of(bytes: &[u8], text: &[u8]) -> Option<usize> {
-    for place in 0..bytes.len() {
-        let (_, rest) = bytes.split_at(place);
-        if rest.starts_with(text) {
-            return Some(place);
-        }
-    }
-    None
-}
-
-/// The bytes with a text over those that begin at a place.
-fn with_text(alloc: Global, bytes: &[u8], place: usize, text: &[u8]) -> Result<Vec<u8>> {
-    let end = place.saturating_add(text.len());
-    if end > bytes.len() {
-        bail!("the text runs over the end");
-    }
-    let (front, _) = bytes.split_at(place);
-    let (_, rest) = bytes.split_at(end);
-    Ok(joined(alloc, &[front, text, rest])?)
-}
-
 impl<'a> Committed<'a> {
     /// The context under which the path is sealed: that after the commit, with the confirmed transcript hash from before
     /// (RFC 9420, 12.4.1).
-    fn provisional_context(&self, alloc: Global) -> Result<Vec<u8>, AllocError> {
+    fn provisional_context(&self, alloc: Global) -> Result<Vec<u8>>
+        ensures { IfOk result (λ v. length v.items < 2 ^ 30) }
+    {
         let front = without(self.after.context_bytes(), HASH);
         let hash = last(self.before.context_bytes(), HASH);
         joined(alloc, &[front, hash])
     }
 
+    /// The content that was made.
+    fn made_content(&self) -> &'a [u8] {
+        let message = self.message;
+        let content = without(message, BEHIND);
+        last(content, content.len().saturating_sub(FRONT.len()))
+    }
+
+    /// A secret sealed to a public key, as the first of the path is.
+    fn sealed(&self, alloc: Global, public_key: &[u8], secret: &Secret) -> Result<Sealed> {
+        let seed = self.seed;
+        let mut random = [0; 32];
+        expand_with_label(seed, "seed seal", &[0; 4], &mut random)?;
+        let context = self.provisional_context(alloc)?;
+        let label = "UpdatePathNode";
+        match encrypt_with_label::<Glass>(alloc, public_key, label, &context, secret, &random)? {
+            Some(sealed) => Ok(sealed),
+            None => bail!("no key to seal to"),
+        }
+    }
+
     /// The content, with a secret in the place of the first that is sealed, to a public key.
     fn content(&self, alloc: Global, public_key: &[u8], secret: &Secret) -> Result<Vec<u8>> {
-        let content = last(
-            without(self.message, BEHIND),
-            self.message.len().saturating_sub(BEHIND + FRONT.len()),
-        );
-        let mut random = [0; 32];
-        expand_with_label(self.seed, "seed seal", &[0; 4], &mut random)?;
-        let context = self.provisional_context(alloc)?;
-        let Some(sealed) = encrypt_with_label::<Glass>(
-            alloc,
-            public_key,
-            "UpdatePathNode",
-            &context,
-            secret,
-            &random,
-        )?
-        else {
-            bail!("no key to seal to");
-        };
-        let Some(place) = place_of(content, &sealed.kem) else {
-            bail!("nothing is sealed");
-        };
+        let content = self.made_content();
+        let sealed = self.sealed(alloc, public_key, secret)?;
+        let place = place_of(content, &sealed.kem)?;
         // The header of the ciphertext has two bytes.
         let place = place.saturating_add(sealed.kem.len()).saturating_add(2);
         with_text(alloc, content, place, &sealed.ct)
@@ -145,7 +109,7 @@ impl<'a> Committed<'a> {
         let content = self.content(alloc, public_key, secret)?;
         let signature = self.signature(alloc, &content)?;
         let transcript = self.before.group().transcript();
-        let confirmed = transcript.confirm(1, &content, &signature);
+        let confirmed = transcript.confirm(1, &content, limited(&signature)?);
         let tag = self.confirmation_tag(alloc, &confirmed)?;
         let auth = joined(alloc, &[&[32], &signature, &[32], &tag])?;
         let context = self.before.context_bytes();
@@ -153,6 +117,6 @@ impl<'a> Committed<'a> {
             .before
             .epoch()
             .membership_tag(&[&FRONT, &content, context, &auth]);
-        Ok(joined(alloc, &[&FRONT, &content, &auth, &[32], &membership])?)
+        joined(alloc, &[&FRONT, &content, &auth, &[32], &membership])
     }
 }

@@ -10,6 +10,7 @@ mod groups;
 mod outcome;
 mod page;
 mod part;
+mod pieces;
 mod shape;
 mod stage;
 mod states;

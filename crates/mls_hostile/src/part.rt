@@ -5,7 +5,7 @@ use crate::changes::{lengths, lowest_bits};
 use crate::checks::{elsewhere, forged, welcomed, wrong_adds};
 use crate::groups;
 use crate::outcome::{Outcome, Runs};
-use crate::shape::{ciphertexts, held_nodes, listing_nodes, path_nodes};
+use crate::shape::{ciphertexts, held_nodes, listing_nodes, path_nodes, resolution};
 use crate::stage::{Receiver, Stage};
 use crate::states::{Group, State, states_of};
 use crate::trial::Trial;
@@ -121,6 +121,9 @@ fn print_four_adds(rt: &impl Print, alloc: Global) -> Result<()> {
     println!(rt; "  leaf 3 is listed by {nodes:?}")?;
     print_path(rt, alloc, &acts, acts.len(), 4, 11)?;
     let stage = Stage::after(alloc, &acts, acts.len())?;
+    let resolution = resolution(&stage, 0, 3)?;
+    let nodes = resolution.as_slice();
+    println!(rt; "  node 3 stands for {nodes:?}")?;
     for member in [0, 1, 2, 4, 5] {
         let held = held_nodes(alloc, &stage, member)?;
         let nodes = held.as_slice();
@@ -143,7 +146,8 @@ fn print_checks(rt: &impl Print, alloc: Global) -> Result<()> {
     )?;
     let (outcome, is_same) = elsewhere(alloc)?;
     println!(rt; "a message of another group: {outcome}, as before {is_same}")?;
-    let (first, last) = wrong_adds(alloc)?;
+    let first = wrong_adds(alloc, true)?;
+    let last = wrong_adds(alloc, false)?;
     println!(rt;
         "an add without a capability before one without a signature: {first}, behind it: {last}"
     )?;

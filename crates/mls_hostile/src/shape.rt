@@ -33,12 +33,17 @@ fn lists(tree: &PublicTree, node: u32, leaf: u32) -> bool {
 /// The nodes that list a leaf as unmerged.
 pub fn listing_nodes(alloc: Global, tree: &PublicTree, leaf: u32) -> Result<Vec<u32>, AllocError> {
     let mut nodes = Vec::new(alloc);
-    for node in 0..2 * tree.leaf_count() {
+    for node in 0..tree.leaf_count().saturating_mul(2) {
         if lists(tree, node, leaf) {
             nodes.push(node)?;
         }
     }
     Ok(nodes)
+}
+
+/// The nodes that stand for a node when something is sealed to it.
+pub fn resolution(stage: &Stage, member: usize, node: u32) -> Result<Vec<u64>> {
+    Ok(stage.member(member)?.group().tree().resolution(node)?)
 }
 
 fn counts_in_commit(alloc: Global, commit: &Commit) -> Result<Vec<usize>> {

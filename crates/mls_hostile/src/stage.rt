@@ -4,7 +4,7 @@ use crate::acts::{Act, event_of};
 use crate::outcome::Outcome;
 use crate::page::page_of;
 use anyhow::{Result, bail};
-use mls_kdf::Secret;
+use mls_kdf::{Secret, Seed};
 use mls_member::{Candidate, Member};
 use mls_model::{Effect, Event, Reply, Source};
 use mls_suite::Glass;
@@ -43,33 +43,36 @@ pub struct Stage {
     references: Vec<Secret>,
 }
 
+/// The first of some acts.
+fn first(acts: &[Act], count: usize) -> &[Act] {
+    let (first, _) = acts.split_at(count.min(acts.len()));
+    first
+}
+
 impl Stage {
-    pub fn new(alloc: Global) -> Stage {
-        Stage {
+    pub fn new(alloc: Global) -> Result<Box<Stage>, AllocError> {
+        let stage = Stage {
             world: World::new(alloc),
             entrants: Vec::new(alloc),
             references: Vec::new(alloc),
-        }
+        };
+        Ok(Box::new(alloc, stage)?)
     }
 
     /// The stage after the first of these acts.
-    pub fn after(alloc: Global, acts: &[Act], count: usize) -> Result<Stage> {
-        let mut stage = Stage::new(alloc);
-        for act in acts.iter().take(count) {
-            stage.act(alloc, *act)?;
-        }
+    pub fn after(alloc: Global, acts: &[Act], count: usize) -> Result<Box<Stage>> {
+        let mut stage = Stage::new(alloc)?;
+        stage.acts(alloc, first(acts, count))?;
         Ok(stage)
     }
 
-    /// Enters the candidate of an event.
-    fn enter(&mut self, alloc: Global, event: &Event) -> Result<()> {
-        if let Event::Candidate { identity, seed } = event {
-            let candidate = Candidate::new(alloc, identity, seed)?;
-            self.entrants.push(Entrant {
-                candidate,
-                is_spent: false,
-            })?;
-        }
+    /// Enters a candidate.
+    fn enter(&mut self, alloc: Global, identity: &[u8], seed: &Seed) -> Result<()> {
+        let candidate = Candidate::new(alloc, identity, seed)?;
+        self.entrants.push(Entrant {
+            candidate,
+            is_spent: false,
+        })?;
         Ok(())
     }
 
@@ -80,27 +83,41 @@ impl Stage {
         }
     }
 
-    /// One event, which isn't refused.
-    pub fn event(&mut self, alloc: Global, event: &Event) -> Result<()> {
-        self.enter(alloc, event)?;
-        match self.world.step(event)? {
+    /// What an event is answered, which isn't refused.
+    fn answered(&mut self, reply: Reply) -> Result<()> {
+        match reply {
             Reply::Refused { number } => bail!("an event was refused: {number}"),
             Reply::Delivered {
                 effect: Effect::Proposed { reference },
-            } => self.references.push(reference)?,
-            _ => {}
+            } => Ok(self.references.push(reference)?),
+            _ => Ok(()),
         }
-        Ok(())
+    }
+
+    /// One event, which isn't refused.
+    pub fn event(&mut self, alloc: Global, event: &Event) -> Result<()> {
+        if let Event::Candidate { identity, seed } = event {
+            self.enter(alloc, identity, seed)?;
+        }
+        let reply = self.world.step(event)?;
+        self.answered(reply)
     }
 
     /// One act, which isn't refused.
-    pub fn act(&mut self, alloc: Global, act: Act) -> Result<()> {
-        let event = event_of(alloc, act)?;
-        self.event(alloc, &event)?;
+    fn act(&mut self, alloc: Global, act: Act) -> Result<()> {
         match act {
             Act::Create { candidate, .. } => self.spend(candidate),
             Act::Join { candidate, .. } => self.spend(candidate),
             _ => {}
+        }
+        let event = event_of(alloc, act)?;
+        self.event(alloc, &event)
+    }
+
+    /// Acts, none of which is refused.
+    pub fn acts(&mut self, alloc: Global, acts: &[Act]) -> Result<()> {
+        for act in acts {
+            self.act(alloc, *act)?;
         }
         Ok(())
     }

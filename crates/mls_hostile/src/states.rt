@@ -15,8 +15,7 @@ pub struct Group {
 }
 
 impl Group {
-    pub fn of(alloc: Global, acts: Vec<Act>) -> Result<Group> {
-        let stage = Stage::after(alloc, &acts, acts.len())?;
+    fn with(alloc: Global, acts: Vec<Act>, stage: &Stage) -> Result<Group> {
         let messages = stage.messages(alloc)?;
         let references = Vec::from_slice(alloc, stage.references())?;
         Ok(Group {
@@ -24,6 +23,11 @@ impl Group {
             messages,
             references,
         })
+    }
+
+    pub fn of(alloc: Global, acts: Vec<Act>) -> Result<Group> {
+        let stage = Stage::after(alloc, &acts, acts.len())?;
+        Group::with(alloc, acts, &stage)
     }
 }
 
@@ -46,17 +50,27 @@ fn add(states: &mut Vec<State>, state: State) -> Result<(), AllocError> {
     Ok(())
 }
 
+/// The states in which a stage has its members and candidates, where they aren't known yet.
+fn add_all(
+    alloc: Global,
+    states: &mut Vec<State>,
+    stage: &Stage,
+    acts: usize,
+    references: &[Secret],
+) -> Result<()> {
+    for of in stage.receivers(alloc)? {
+        let page = stage.page(alloc, of, references)?;
+        add(states, State { acts, of, page })?;
+    }
+    Ok(())
+}
+
 /// Each state of each member and candidate of a group, in the order in which they come.
 pub fn states_of(alloc: Global, group: &Group) -> Result<Vec<State>> {
     let mut states = Vec::new(alloc);
-    let mut stage = Stage::new(alloc);
-    for (k, act) in group.acts.iter().enumerate() {
-        stage.act(alloc, *act)?;
-        for of in stage.receivers(alloc)? {
-            let page = stage.page(alloc, of, &group.references)?;
-            let acts = k + 1;
-            add(&mut states, State { acts, of, page })?;
-        }
+    for acts in 1..=group.acts.len() {
+        let stage = Stage::after(alloc, &group.acts, acts)?;
+        add_all(alloc, &mut states, &stage, acts, &group.references)?;
     }
     Ok(states)
 }

@@ -11,7 +11,7 @@ use std::alloc::Global;
 pub struct Trial<'a> {
     group: &'a Group,
     state: &'a State,
-    stage: Stage,
+    stage: Box<Stage>,
 }
 
 impl<'a> Trial<'a> {
