@@ -8,7 +8,7 @@ use crate::outcome::Outcome;
 use crate::pieces::{joined, limited, replaced, without};
 use crate::stage::{Receiver, Stage};
 use anyhow::{Result, bail};
-use mls_kdf::{Secret, Seed};
+use mls_kdf::{Secret, Seed, hash};
 use mls_leaf::Codec;
 use mls_member::{Candidate, Member};
 use mls_model::{Event, Source, WorldItem};
@@ -140,12 +140,17 @@ pub struct WelcomeAnswers {
 /// begins with 68 bytes of reference, encapsulation and headers.
 const IN_SECOND: usize = 8 + 168 + 68;
 
+/// The GroupInfo that a candidate opens.
+fn info_in(alloc: Global, candidate: &Candidate<Glass>, welcome: &[u8]) -> Result<Vec<u8>> {
+    let joined = Member::join(alloc, candidate, welcome)?;
+    Ok(joined.group_info)
+}
+
 /// Whether the first opens the same GroupInfo by both Welcomes.
 fn is_same_info(alloc: Global, stage: &Stage, one: &[u8], other: &[u8]) -> Result<bool> {
     let candidate = stage.candidate(1)?;
-    let one = Member::join(alloc, candidate, one)?;
-    let other = Member::join(alloc, candidate, other)?;
-    Ok(one.group_info == other.group_info)
+    let info = info_in(alloc, candidate, one)?;
+    Ok(info == info_in(alloc, candidate, other)?)
 }
 
 fn welcomed_by(alloc: Global, stage: &mut Stage) -> Result<WelcomeAnswers> {
@@ -252,19 +257,17 @@ pub fn wrong_adds(alloc: Global, in_order: bool) -> Result<u8> {
 /// The members that a tree of 4,096 leaves holds besides the first.
 const OTHERS: usize = 4095;
 
-/// Candidate k, none of whose keys is another's.
-fn candidate(alloc: Global, k: usize) -> Result<Event, AllocError> {
-    let [.., high, low] = k.to_be_bytes();
-    let mut seed = [255; 32];
-    seed[1] = high;
-    seed[2] = low;
-    let identity = Vec::from_slice(alloc, &[high, low])?;
+/// A candidate, named by its number, none of whose keys is another's.
+fn candidate(alloc: Global, number: usize) -> Result<Event, AllocError> {
+    let name = number.to_be_bytes();
+    let seed = hash(&[&name]);
+    let identity = Vec::from_slice(alloc, &name)?;
     Ok(Event::Candidate { identity, seed })
 }
 
 fn many_candidates(alloc: Global, stage: &mut Stage) -> Result<()> {
-    for k in 0..=OTHERS {
-        let event = candidate(alloc, k)?;
+    for number in 0..=OTHERS {
+        let event = candidate(alloc, number)?;
         stage.event(alloc, &event)?;
     }
     Ok(())

@@ -93,43 +93,70 @@ fn print_changes(rt: &impl Print, alloc: Global) -> Result<()> {
     changes(rt, alloc, &pair, 5, Receiver::Candidate(1), 3)
 }
 
-/// Of a commit's path, after so many acts, the nodes and the number of ciphertexts of each.
+/// Of a commit's path the nodes, and the number of ciphertexts of each.
 fn print_path(
     rt: &impl Print,
     alloc: Global,
-    acts: &[Act],
-    count: usize,
+    stage: &Stage,
     member: usize,
     message: usize,
 ) -> Result<()> {
-    let stage = Stage::after(alloc, acts, count)?;
-    let nodes = path_nodes(&stage, member)?;
+    let nodes = path_nodes(stage, member)?;
+    let nodes = nodes.as_slice();
+    print!(rt; "  commit {message}: path {nodes:?}")?;
     let counts = ciphertexts(alloc, stage.message(message)?)?;
-    let (nodes, counts) = (nodes.as_slice(), counts.as_slice());
-    println!(rt; "  commit {message}: path {nodes:?}, ciphertexts {counts:?}")?;
+    let counts = counts.as_slice();
+    println!(rt; ", ciphertexts {counts:?}")?;
     Ok(())
+}
+
+/// The nodes that list the fourth leaf.
+fn print_lists(rt: &impl Print, alloc: Global, stage: &Stage) -> Result<()> {
+    let listing = listing_nodes(alloc, stage.member(0)?.group().tree(), 3)?;
+    let nodes = listing.as_slice();
+    println!(rt; "  leaf 3 is listed by {nodes:?}")?;
+    Ok(())
+}
+
+/// What stands for node 3, and the nodes of which members hold keys.
+fn print_keys(rt: &impl Print, alloc: Global, stage: &Stage) -> Result<()> {
+    let resolution = resolution(stage, 0, 3)?;
+    let nodes = resolution.as_slice();
+    println!(rt; "  node 3 stands for {nodes:?}")?;
+    for member in [0, 1, 2, 4, 5] {
+        let held = held_nodes(alloc, stage, member)?;
+        let nodes = held.as_slice();
+        println!(rt; "  member {member} holds keys of {nodes:?}")?;
+    }
+    Ok(())
+}
+
+/// The group of four adds, after the removal.
+fn print_removed(rt: &impl Print, alloc: Global, acts: &[Act]) -> Result<()> {
+    let stage = Stage::after(alloc, acts, 15)?;
+    print_path(rt, alloc, &stage, 0, 8)
+}
+
+/// After the second addition.
+fn print_added(rt: &impl Print, alloc: Global, acts: &[Act]) -> Result<()> {
+    let stage = Stage::after(alloc, acts, 25)?;
+    print_lists(rt, alloc, &stage)
+}
+
+/// After all of it.
+fn print_end(rt: &impl Print, alloc: Global, acts: &[Act]) -> Result<()> {
+    let stage = Stage::after(alloc, acts, acts.len())?;
+    print_path(rt, alloc, &stage, 4, 11)?;
+    print_keys(rt, alloc, &stage)
 }
 
 /// The group of four adds: its paths, who is listed as unmerged, and the keys that are held.
 fn print_four_adds(rt: &impl Print, alloc: Global) -> Result<()> {
     let acts = groups::four_adds(alloc)?;
     println!(rt; "four adds")?;
-    print_path(rt, alloc, &acts, 15, 0, 8)?;
-    let stage = Stage::after(alloc, &acts, 25)?;
-    let listing = listing_nodes(alloc, stage.member(0)?.group().tree(), 3)?;
-    let nodes = listing.as_slice();
-    println!(rt; "  leaf 3 is listed by {nodes:?}")?;
-    print_path(rt, alloc, &acts, acts.len(), 4, 11)?;
-    let stage = Stage::after(alloc, &acts, acts.len())?;
-    let resolution = resolution(&stage, 0, 3)?;
-    let nodes = resolution.as_slice();
-    println!(rt; "  node 3 stands for {nodes:?}")?;
-    for member in [0, 1, 2, 4, 5] {
-        let held = held_nodes(alloc, &stage, member)?;
-        let nodes = held.as_slice();
-        println!(rt; "  member {member} holds keys of {nodes:?}")?;
-    }
-    Ok(())
+    print_removed(rt, alloc, &acts)?;
+    print_added(rt, alloc, &acts)?;
+    print_end(rt, alloc, &acts)
 }
 
 /// Single wrong messages.

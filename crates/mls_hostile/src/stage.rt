@@ -50,7 +50,7 @@ fn first(acts: &[Act], count: usize) -> &[Act] {
 }
 
 impl Stage {
-    pub fn new(alloc: Global) -> Result<Box<Stage>, AllocError> {
+    fn new(alloc: Global) -> Result<Box<Stage>, AllocError> {
         let stage = Stage {
             world: World::new(alloc),
             entrants: Vec::new(alloc),
@@ -120,11 +120,6 @@ impl Stage {
             self.act(alloc, *act)?;
         }
         Ok(())
-    }
-
-    /// The world.
-    pub fn world(&self) -> &World<Glass> {
-        &self.world
     }
 
     /// The world, to be changed.

@@ -30,26 +30,28 @@ impl<'a> Trial<'a> {
             .page(alloc, self.state.of, &self.group.references)
     }
 
-    /// Gives bytes: after a refusal, which isn't want of memory, all is as before.
-    pub fn give(&mut self, alloc: Global, bytes: &[u8]) -> Result<Outcome> {
+    /// Gives bytes: after a refusal, which isn't want of memory, all is as it was seen before.
+    fn given(&mut self, alloc: Global, bytes: &[u8], before: &[u8]) -> Result<Outcome> {
         let outcome = self.stage.give(alloc, self.state.of, bytes)?;
         if outcome == Outcome::Refused(1) {
             bail!("out of memory");
         }
-        if outcome.is_refused() && self.seen(alloc)? != self.state.page {
+        if outcome.is_refused() && self.seen(alloc)?.as_slice() != before {
             bail!("{outcome}, and something changed");
         }
         Ok(outcome)
     }
 
+    /// Gives bytes, before any were taken.
+    pub fn give(&mut self, alloc: Global, bytes: &[u8]) -> Result<Outcome> {
+        let state = self.state;
+        self.given(alloc, bytes, &state.page)
+    }
+
     /// Gives bytes once more, whatever the first time did.
     pub fn give_again(&mut self, alloc: Global, bytes: &[u8]) -> Result<Outcome> {
         let before = self.seen(alloc)?;
-        let outcome = self.stage.give(alloc, self.state.of, bytes)?;
-        if outcome.is_refused() && self.seen(alloc)? != before {
-            bail!("{outcome}, and something changed");
-        }
-        Ok(outcome)
+        self.given(alloc, bytes, &before)
     }
 
     /// Whether it is a member's.
