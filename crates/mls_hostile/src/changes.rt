@@ -52,7 +52,7 @@ fn all_bits(alloc: Global, trial: &mut Trial<'_>, message: &[u8], tally: &mut Ta
     for place in 0..message.len() {
         for bits in [1, 2, 4, 8, 16, 32, 64, 128] {
             let bytes = turned(alloc, message, place, bits)?;
-            tally.add(trial.give(alloc, &bytes)?);
+            tally.add_at(place, trial.give(alloc, &bytes)?)?;
         }
     }
     Ok(())

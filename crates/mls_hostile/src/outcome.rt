@@ -54,6 +54,13 @@ pub struct Run {
     outcome: Outcome,
 }
 
+impl Run {
+    /// Whether a place is its last or the next one.
+    fn goes_on(&self, place: usize) -> bool {
+        place == self.last || place == self.last.saturating_add(1)
+    }
+}
+
 impl fmt::Display for Run {
     fn fmt<W: fmt::Write>(&self, f: &mut fmt::Formatter<W>) -> fmt::Result {
         let Run {
@@ -85,7 +92,7 @@ impl Runs {
     /// The next place.
     pub fn add(&mut self, place: usize, outcome: Outcome) -> Result<(), AllocError> {
         if let Some(run) = self.runs.last_mut() {
-            if run.outcome == outcome {
+            if run.outcome == outcome && run.goes_on(place) {
                 run.last = place;
                 return Ok(());
             }
@@ -103,17 +110,22 @@ impl Runs {
     }
 }
 
-/// How often each number was answered, and how often bytes were taken.
+/// How often each number was answered, how often bytes were taken, and at which places they were turned then.
 #[derive(Drop)]
 pub struct Tally {
     taken: u64,
+    places: Runs,
     refused: Vec<u64>,
 }
 
 impl Tally {
     pub fn new(alloc: Global) -> Result<Tally, AllocError> {
         let refused = vec![in alloc; 0; 256]?;
-        Ok(Tally { taken: 0, refused })
+        Ok(Tally {
+            taken: 0,
+            places: Runs::new(alloc),
+            refused,
+        })
     }
 
     pub fn add(&mut self, outcome: Outcome) {
@@ -125,6 +137,20 @@ impl Tally {
             }
             _ => self.taken = self.taken.saturating_add(1),
         }
+    }
+
+    /// What bytes are answered of which this one was turned.
+    pub fn add_at(&mut self, place: usize, outcome: Outcome) -> Result<(), AllocError> {
+        self.add(outcome);
+        if outcome.is_refused() {
+            return Ok(());
+        }
+        self.places.add(place, outcome)
+    }
+
+    /// The places of bytes that were turned and taken.
+    pub fn places(&self) -> &[Run] {
+        self.places.as_slice()
     }
 
     pub fn taken(&self) -> u64 {

@@ -43,6 +43,14 @@ pub struct Stage {
     references: Vec<Secret>,
 }
 
+/// A refusal that isn't want of memory.
+fn refused(number: u8) -> Result<Outcome> {
+    if number == 1 {
+        bail!("out of memory");
+    }
+    Ok(Outcome::Refused(number))
+}
+
 /// The first of some acts.
 fn first(acts: &[Act], count: usize) -> &[Act] {
     let (first, _) = acts.split_at(count.min(acts.len()));
@@ -186,7 +194,7 @@ impl Stage {
         let source = Source::Given(Vec::from_slice(alloc, bytes)?);
         match self.world.deliver(member, &source) {
             Ok(effect) => Ok(Outcome::of(effect)),
-            Err(error) => Ok(Outcome::Refused(error.number())),
+            Err(error) => refused(error.number()),
         }
     }
 
@@ -194,7 +202,7 @@ impl Stage {
         let candidate = self.candidate(candidate)?;
         match Member::join(alloc, candidate, bytes) {
             Ok(joined) => Ok(Outcome::Joined(joined.member.epoch_number())),
-            Err(error) => Ok(Outcome::Refused(error.number())),
+            Err(error) => refused(error.number()),
         }
     }
 

@@ -30,14 +30,14 @@ impl<'a> Trial<'a> {
             .page(alloc, self.state.of, &self.group.references)
     }
 
-    /// Gives bytes: after a refusal, which isn't want of memory, all is as it was seen before.
+    /// Gives bytes: after a refusal all is as it was seen before.
     fn given(&mut self, alloc: Global, bytes: &[u8], before: &[u8]) -> Result<Outcome> {
         let outcome = self.stage.give(alloc, self.state.of, bytes)?;
-        if outcome == Outcome::Refused(1) {
-            bail!("out of memory");
-        }
-        if outcome.is_refused() && self.seen(alloc)?.as_slice() != before {
-            bail!("{outcome}, and something changed");
+        if outcome.is_refused() {
+            let after = self.seen(alloc)?;
+            if after.as_slice() != before {
+                bail!("something changed");
+            }
         }
         Ok(outcome)
     }

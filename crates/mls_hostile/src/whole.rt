@@ -20,6 +20,9 @@ fn print_tally(rt: &impl Print, tally: &Tally) -> Result<()> {
     }
     let taken = tally.taken();
     println!(rt; " taken: {taken}")?;
+    for run in tally.places() {
+        println!(rt; "    bytes {run}")?;
+    }
     Ok(())
 }
 
