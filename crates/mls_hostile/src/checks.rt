@@ -1,0 +1,304 @@
+//! Single messages that no honest member sends, or that are sent to the wrong one.
+
+use crate::acts::{Act, Parts, additions};
+use crate::changes::turned;
+use crate::forgery::{Committed, path_secret};
+use crate::groups;
+use crate::outcome::Outcome;
+use crate::pieces::{joined, limited, replaced, without};
+use crate::stage::{Receiver, Stage};
+use anyhow::{Result, bail};
+use mls_kdf::{Secret, Seed, hash};
+use mls_leaf::Codec;
+use mls_member::{Candidate, Member};
+use mls_model::{Event, Source, WorldItem};
+use mls_suite::{Glass, sign_with_label};
+use mls_world::World;
+use std::alloc::{AllocError, Global};
+
+/// What a commit that seals zeros to the second of three is answered.
+#[derive(Drop)]
+pub struct ForgedAnswers {
+    /// Whether the same commit with the right secret is, byte for byte, the one that the committer makes.
+    pub is_made_alike: bool,
+    /// What the second member answers.
+    pub second: Outcome,
+    /// Whether all that can be seen of it is as before.
+    pub is_same: bool,
+    /// What the third member answers, to which the right secret is sealed.
+    pub third: Outcome,
+}
+
+/// The stage of three after the acts that make them members, and after these ones.
+fn three_and(alloc: Global, more: &[Act]) -> Result<Box<Stage>> {
+    let mut acts = groups::three(alloc)?;
+    acts.extend_from_slice(more)?;
+    Stage::after(alloc, &acts, acts.len())
+}
+
+/// The stage of three after the first acts that make them members.
+fn three_after(alloc: Global, count: usize) -> Result<Box<Stage>> {
+    Stage::after(alloc, &groups::three(alloc)?, count)
+}
+
+const SEED: Seed = [8; 32];
+
+/// The stage of three after the first committed nothing and followed that: message 5 is the commit.
+fn three_committed(alloc: Global) -> Result<Box<Stage>> {
+    let commit = Act::Commit {
+        member: 0,
+        parts: Parts::Nothing,
+        path: true,
+        seed: 8,
+    };
+    let deliver = Act::Deliver {
+        member: 0,
+        message: 5,
+    };
+    three_and(alloc, &[commit, deliver])
+}
+
+/// The public key of a member's leaf.
+fn leaf_key(stage: &Stage, member: usize) -> Result<&[u8]> {
+    let member = stage.member(member)?;
+    match member.group().tree().leaf(member.leaf_index()) {
+        Some(leaf) => Ok(leaf.encryption_key.as_slice()),
+        None => bail!("no leaf"),
+    }
+}
+
+/// The commit of the first of three, and what it knew.
+fn made<'a>(before: &'a Stage, after: &'a Stage, seed: &'a Seed) -> Result<Committed<'a>> {
+    Ok(Committed {
+        before: before.member(0)?,
+        after: after.member(0)?,
+        signing: before.candidate(0)?.signing_key(),
+        seed,
+        nodes: 2,
+        message: after.message(5)?,
+    })
+}
+
+/// That commit with a secret sealed to the second member in the place of the right one.
+fn with_secret(alloc: Global, before: &Stage, after: &Stage, secret: &Secret) -> Result<Vec<u8>> {
+    let key = leaf_key(before, 1)?;
+    made(before, after, &SEED)?.with_secret(alloc, key, secret)
+}
+
+/// What a member answers to bytes, and whether all that can be seen of it is as before.
+fn answered(
+    alloc: Global,
+    stage: &mut Stage,
+    to: Receiver,
+    bytes: &[u8],
+) -> Result<(Outcome, bool)> {
+    let before = stage.page(alloc, to, &[])?;
+    let outcome = stage.give(alloc, to, bytes)?;
+    let is_same = stage.page(alloc, to, &[])? == before;
+    Ok((outcome, is_same))
+}
+
+/// Whether the commit with the right secret is the one that the committer makes.
+fn is_made_alike(alloc: Global, before: &Stage, after: &Stage) -> Result<bool> {
+    let right = with_secret(alloc, before, after, &path_secret(&SEED, 0))?;
+    Ok(right.as_slice() == after.message(5)?)
+}
+
+/// The commit of the first of three, which seals zeros to the second, and whether with the right secret it is the one that
+/// the committer makes.
+fn with_zeros(alloc: Global, before: &Stage) -> Result<(Vec<u8>, bool)> {
+    let after = three_committed(alloc)?;
+    let is_alike = is_made_alike(alloc, before, &after)?;
+    let zeros = with_secret(alloc, before, &after, &[0; 32])?;
+    Ok((zeros, is_alike))
+}
+
+/// The first of three commits nothing, but seals zeros to the second.
+pub fn forged(alloc: Global) -> Result<ForgedAnswers> {
+    let mut stage = three_and(alloc, &[])?;
+    let (zeros, is_made_alike) = with_zeros(alloc, &stage)?;
+    let (second, is_same) = answered(alloc, &mut stage, Receiver::Member(1), &zeros)?;
+    let third = stage.give(alloc, Receiver::Member(2), &zeros)?;
+    Ok(ForgedAnswers {
+        is_made_alike,
+        second,
+        is_same,
+        third,
+    })
+}
+
+/// What a Welcome for two, with one bit turned in what is sealed to the second, is answered.
+#[derive(Drop)]
+pub struct WelcomeAnswers {
+    pub first: Outcome,
+    pub second: Outcome,
+    /// Whether the first opens the same GroupInfo as by the Welcome that was sent.
+    pub is_same_info: bool,
+}
+
+/// A byte of what is sealed to the second: the first entry has 168 bytes behind the message's 8, and the second one
+/// begins with 68 bytes of reference, encapsulation and headers.
+const IN_SECOND: usize = 8 + 168 + 68;
+
+/// The GroupInfo that a candidate opens.
+fn info_in(alloc: Global, candidate: &Candidate<Glass>, welcome: &[u8]) -> Result<Vec<u8>> {
+    let joined = Member::join(alloc, candidate, welcome)?;
+    Ok(joined.group_info)
+}
+
+/// Whether the first opens the same GroupInfo by both Welcomes.
+fn is_same_info(alloc: Global, stage: &Stage, one: &[u8], other: &[u8]) -> Result<bool> {
+    let candidate = stage.candidate(1)?;
+    let info = info_in(alloc, candidate, one)?;
+    Ok(info == info_in(alloc, candidate, other)?)
+}
+
+fn welcomed_by(alloc: Global, stage: &mut Stage) -> Result<WelcomeAnswers> {
+    let welcome = stage.message(4)?;
+    let changed = turned(alloc, welcome, IN_SECOND, 1)?;
+    let is_same_info = is_same_info(alloc, stage, &changed, welcome)?;
+    let first = stage.give(alloc, Receiver::Candidate(1), &changed)?;
+    let second = stage.give(alloc, Receiver::Candidate(2), &changed)?;
+    Ok(WelcomeAnswers {
+        first,
+        second,
+        is_same_info,
+    })
+}
+
+/// Two are added, and their Welcome is changed on its way to the first.
+pub fn welcomed(alloc: Global) -> Result<WelcomeAnswers> {
+    let mut stage = three_after(alloc, 6)?;
+    welcomed_by(alloc, &mut stage)
+}
+
+/// A candidate of group "h", the fourth, who creates it.
+fn create_elsewhere(alloc: Global, stage: &mut Stage) -> Result<()> {
+    stage.acts(
+        alloc,
+        &[Act::Candidate {
+            name: b'h',
+            seed: 7,
+        }],
+    )?;
+    let group = Vec::from_slice(alloc, b"h")?;
+    let event = Event::Create {
+        candidate: 3,
+        group,
+        seed: [9; 32],
+    };
+    stage.event(alloc, &event)
+}
+
+/// What a member of another group answers to a message of group "g", and whether it is as before.
+pub fn elsewhere(alloc: Global) -> Result<(Outcome, bool)> {
+    let mut stage = three_and(alloc, &[Act::Update { member: 1, seed: 6 }])?;
+    create_elsewhere(alloc, &mut stage)?;
+    let update = Vec::from_slice(alloc, stage.message(5)?)?;
+    answered(alloc, &mut stage, Receiver::Member(3), &update)
+}
+
+/// Where in a leaf of a name of one byte the low byte of the only suite stands that it lists, behind two keys, the
+/// credential and the versions.
+const SUITE: usize = 33 + 33 + 4 + 3 + 2;
+/// How many bytes of a leaf its signature has, behind its header.
+const SIGNATURE: usize = 32;
+
+/// The bytes of a leaf for another suite, signed by its candidate.
+fn incapable_leaf(alloc: Global, candidate: &Candidate<Glass>) -> Result<Vec<u8>> {
+    let own = candidate.leaf_node().encode(alloc)?;
+    let leaf = turned(alloc, &own, SUITE, 2)?;
+    let content = limited(without(&leaf, SIGNATURE + 1))?;
+    let signing = candidate.signing_key();
+    let signature = sign_with_label::<Glass>(alloc, signing, "LeafNodeTBS", content)?;
+    joined(alloc, &[content, &[32], &signature])
+}
+
+/// The bytes of a leaf with a signature that isn't its own.
+fn unsigned_leaf(alloc: Global, candidate: &Candidate<Glass>) -> Result<Vec<u8>> {
+    let own = candidate.leaf_node().encode(alloc)?;
+    joined(alloc, &[without(&own, SIGNATURE), &[0; SIGNATURE]])
+}
+
+/// The proposal to add a candidate with another leaf.
+fn addition(alloc: Global, candidate: &Candidate<Glass>, leaf: &[u8]) -> Result<WorldItem> {
+    let own = candidate.leaf_node().encode(alloc)?;
+    let message = replaced(alloc, candidate.message(), &own, leaf)?;
+    Ok(WorldItem::Add(Source::Given(message)))
+}
+
+fn committed(world: &mut World<Glass>, items: &[WorldItem]) -> u8 {
+    match world.commit(0, items, true, &[9; 32]) {
+        Ok(_) => 0,
+        Err(error) => error.number(),
+    }
+}
+
+/// The additions of a leaf that lacks a capability and of one that isn't signed, in this order or in the other.
+fn wrong_items(alloc: Global, stage: &Stage, in_order: bool) -> Result<Vec<WorldItem>> {
+    let (second, third) = (stage.candidate(1)?, stage.candidate(2)?);
+    let incapable = addition(alloc, second, &incapable_leaf(alloc, second)?)?;
+    let unsigned = addition(alloc, third, &unsigned_leaf(alloc, third)?)?;
+    if in_order {
+        Ok(vec![in alloc; incapable, unsigned]?)
+    } else {
+        Ok(vec![in alloc; unsigned, incapable]?)
+    }
+}
+
+/// What a commit is answered that adds a leaf that lacks a capability, and behind it one that isn't signed; or the other
+/// way round.
+pub fn wrong_adds(alloc: Global, in_order: bool) -> Result<u8> {
+    let mut stage = three_after(alloc, 4)?;
+    let items = wrong_items(alloc, &stage, in_order)?;
+    Ok(committed(stage.world_mut(), &items))
+}
+
+/// The members that a tree of 4,096 leaves holds besides the first.
+const OTHERS: usize = 4095;
+
+/// A candidate, named by its number, none of whose keys is another's.
+fn candidate(alloc: Global, number: usize) -> Result<Event, AllocError> {
+    let name = number.to_be_bytes();
+    let seed = hash(&[&name]);
+    let identity = Vec::from_slice(alloc, &name)?;
+    Ok(Event::Candidate { identity, seed })
+}
+
+fn many_candidates(alloc: Global, stage: &mut Stage) -> Result<()> {
+    for number in 0..=OTHERS {
+        let event = candidate(alloc, number)?;
+        stage.event(alloc, &event)?;
+    }
+    Ok(())
+}
+
+/// The first adds so many that its tree is full: message 0 is its KeyPackage, and those of the others follow.
+fn fill(alloc: Global, stage: &mut Stage) -> Result<()> {
+    many_candidates(alloc, stage)?;
+    let parts = Parts::Added {
+        first: 1,
+        count: OTHERS,
+    };
+    let commit = Act::Commit {
+        member: 0,
+        parts,
+        path: false,
+        seed: 8,
+    };
+    let deliver = Act::Deliver {
+        member: 0,
+        message: OTHERS + 2,
+    };
+    stage.acts(alloc, &[commit, deliver])
+}
+
+/// How many members a full tree has, and what the commit is answered that would add one more.
+pub fn full(alloc: Global) -> Result<(u32, u8)> {
+    let mut stage = three_after(alloc, 2)?;
+    fill(alloc, &mut stage)?;
+    let items = additions(alloc, OTHERS + 1, 1)?;
+    let number = committed(stage.world_mut(), &items);
+    let members = stage.member(0)?.group().tree().member_count();
+    Ok((members, number))
+}
