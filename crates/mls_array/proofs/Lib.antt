@@ -22,3 +22,4 @@ pub mod Hashings
 pub mod Ties
 pub mod Pieces
 pub mod Keepings
+pub mod Splitting

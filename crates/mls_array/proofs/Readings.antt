@@ -7,7 +7,7 @@ use Rattle.mls_treemath.specs.Sizes.{nodes_in_pos}
 use Rattle.mls_term.specs.Term.{Term, Leaf, Branch, width, size}
 use Rattle.mls_term.specs.Arrays.{leaf_in, parent_in, term_of, HasMiddle}
 use Rattle.mls_term.specs.ArrayLaws.{term_of-zero, size-term_of, width-term_of}
-use Rattle.mls_array.proofs.Parts.{split}
+use Rattle.mls_array.proofs.Parts.{split, left_len, right_len}
 
 -- ---- its root
 
@@ -49,3 +49,10 @@ pub in_sides : (h m : ℕ) (xs : List (Option Node)) → HasMiddle h (length xs)
 in_sides h m xs at pos =
     let w : length xs ≡ m + m + 1 = at.whole in
     in_parts h m xs (get_or xs m None) at pos (get_or_default xs m None (get_or xs m None) (omega arith))
+
+-- as many nodes on either side of it as a tree of one less has
+pub left_nodes : (h m : ℕ) (xs : List (Option Node)) → HasMiddle h (length xs) m → 0 < h → length (take m xs) ≡ nodes_in (h - 1)
+left_nodes h m xs at pos = left_len h (length xs) m xs at refl pos ∙ at.side
+
+pub right_nodes : (h m : ℕ) (xs : List (Option Node)) → HasMiddle h (length xs) m → 0 < h → length (take (length xs - (m + 1)) (drop (m + 1) xs)) ≡ nodes_in (h - 1)
+right_nodes h m xs at pos = ap length (take_rest xs (m + 1)) ∙ right_len h (length xs) m xs at refl pos ∙ at.side

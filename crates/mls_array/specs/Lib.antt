@@ -10,3 +10,6 @@ pub mod Gathered
 pub mod GatheredLaws
 pub mod Kept
 pub mod KeptLaws
+pub mod Ends
+pub mod EndLaws
+pub mod Splits

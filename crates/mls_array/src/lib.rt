@@ -34,7 +34,7 @@ pub use kept::Hashes;
 pub use keys::{has_distinct_clients, has_distinct_keys};
 pub use lists::has_good_lists;
 pub use lookup::{leaf, node};
-pub use members::{first_blank, has_leaf, is_full_width, member_count};
+pub use members::{first_blank, has_leaf, is_full_width, member_count, taken_end};
 pub use merging::{MergedPath, bytes_of, merge, path_hash, path_length, path_parents};
 pub use mls_hash::Hash;
 pub use order::{alternates, has_last, height_for, pad, pad_tree, to_nodes};

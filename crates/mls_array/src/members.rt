@@ -1,21 +1,23 @@
 //! Which leaves of a tree are taken.
 
-ghost use Rattle.std.specs.Prelude.{◌≡◌, ℕ, ◌+◌, ◌^◌, ◌≤◌, length};
+ghost use Rattle.std.specs.Prelude.{◌≡◌, ℕ, ◌+◌, ◌^◌, ◌≤◌, Some, length};
 ghost use Rattle.mls_treemath.specs.Paths.{nodes_in};
 ghost use Rattle.mls_treemath.specs.Limits.{max_height};
 ghost use Rattle.mls_term.specs.Term.{has_leaf, is_full_width};
 ghost use Rattle.mls_term.specs.Edits.{first_blank};
 ghost use Rattle.mls_term.specs.Keys.{members};
 ghost use Rattle.mls_term.specs.Arrays.{term_of};
+ghost use Rattle.mls_array.specs.Ends.{taken_end};
 
 use crate::places::{leaf_in, middle_of};
 use mls_slot::Slot;
 
-/// The number of the leftmost blank leaf.
+/// The number of the leftmost blank leaf, where each leaf before `from` is taken: it looks at none of them but the last.
 #[tactic(auto, using(mls_treemath::specs::Sizes::nodes_in_pos))]
-pub fn first_blank(nodes: &[Slot], height: u32, first: u32) -> Option<u32>
+pub fn first_blank(nodes: &[Slot], height: u32, first: u32, from: u32) -> Option<u32>
     requires shape { length nodes.now ≡ nodes_in height }
     requires fits { first + 2 ^ height ≤ 2 ^ 31 }
+    requires taken { (i : ℕ) → first_blank first (term_of height nodes.now) ≡ Some i → from ≤ i }
     ensures { result ≡ first_blank first (term_of height nodes.now) }
 {
     if height == 0 {
@@ -26,10 +28,40 @@ pub fn first_blank(nodes: &[Slot], height: u32, first: u32) -> Option<u32>
     }
     let middle = middle_of(nodes.len(), height);
     let second = first + (middle / 2 + 1) as u32;
-    match first_blank(&nodes[..middle], height - 1, first) {
-        Some(i) => Some(i),
-        None => first_blank(&nodes[middle + 1..], height - 1, second),
+    if second <= from {
+        return first_blank(&nodes[middle + 1..], height - 1, second, from);
     }
+    match first_blank(&nodes[..middle], height - 1, first, from) {
+        Some(i) => Some(i),
+        None => first_blank(&nodes[middle + 1..], height - 1, second, from),
+    }
+}
+
+/// One past the rightmost taken leaf, where each leaf from `end` on is blank: it looks at none of them but the first. It is
+/// `first` where no leaf is taken.
+#[tactic(auto, using(mls_treemath::specs::Sizes::nodes_in_pos))]
+pub fn taken_end(nodes: &[Slot], height: u32, first: u32, end: u32) -> u32
+    requires shape { length nodes.now ≡ nodes_in height }
+    requires fits { first + 2 ^ height ≤ 2 ^ 31 }
+    requires blank { taken_end first (term_of height nodes.now) ≤ end }
+    ensures { result ≡ taken_end first (term_of height nodes.now) }
+{
+    if height == 0 {
+        return match leaf_in(&nodes[0]) {
+            Some(_) => first + 1,
+            None => first,
+        };
+    }
+    let middle = middle_of(nodes.len(), height);
+    let second = first + (middle / 2 + 1) as u32;
+    if end <= second {
+        return taken_end(&nodes[..middle], height - 1, first, end);
+    }
+    let right = taken_end(&nodes[middle + 1..], height - 1, second, end);
+    if second < right {
+        return right;
+    }
+    taken_end(&nodes[..middle], height - 1, first, second)
 }
 
 /// Whether the tree has a member.

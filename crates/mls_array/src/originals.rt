@@ -8,8 +8,10 @@ ghost use Rattle.mls_treemath.specs.Paths.{nodes_in};
 ghost use Rattle.mls_term.specs.Sets.{has, same_bytes};
 ghost use Rattle.mls_term.specs.Inputs.{branch_hash};
 ghost use Rattle.mls_term.specs.Hashes.{tree_hash, unlisting, original};
+ghost use Rattle.mls_term.specs.Lists.{lists_here, all_parents};
 ghost use Rattle.mls_term.specs.Arrays.{term_of};
 ghost use Rattle.mls_array.specs.Kept.{hashes_of};
+ghost use Rattle.mls_array.specs.Splits.{Splits};
 ghost use Rattle.mls_array.specs.Witnesses.{listed};
 
 use crate::hashes::root_hash;
@@ -85,8 +87,20 @@ fn original_root(
     branch_hash_without(unmerged, parent, left, right)
 }
 
-/// The tree hash of a side as it was before some leaves were added, where `hashes` are the tree hashes of its subtrees:
-/// only the subtrees that the leaves change are hashed.
+/// How many leaves of a rising list are before this one.
+fn count_before(leaves: &[u32], end: u32) -> usize
+    requires { rises leaves.now ≡ true }
+    ensures { Splits leaves.now end result }
+{
+    match leaves.binary_search(&end) {
+        Ok(place) => place,
+        Err(place) => place,
+    }
+}
+
+/// The tree hash of a side as it was before some leaves were added, where `hashes` are the tree hashes of its subtrees and
+/// its parents list leaves below them alone: only the subtrees that have one of the leaves are walked, and of these only
+/// those that they change are hashed.
 #[tactic(auto, using(mls_treemath::specs::Sizes::nodes_in_pos))]
 pub(crate) fn original_of(
     nodes: &[Slot],
@@ -100,6 +114,7 @@ pub(crate) fn original_of(
     requires fits { first + 2 ^ height ≤ 2 ^ 31 }
     requires rise { rises unmerged.now ≡ true }
     requires hashed { hashes.now ≡ hashes_of first (term_of height nodes.now) }
+    requires lists { all_parents lists_here first (term_of height nodes.now) ≡ true }
     ensures { result ≡ tree_hash first (original unmerged.now first (term_of height nodes.now)) }
 {
     if unmerged.is_empty() {
@@ -115,8 +130,11 @@ pub(crate) fn original_of(
     let second = first + (middle / 2 + 1) as u32;
     let lower = &hashes[..middle];
     let upper = &hashes[middle + 1..];
-    let left = original_of(&nodes[..middle], lower, height - 1, first, unmerged);
-    let right = original_of(&nodes[middle + 1..], upper, height - 1, second, unmerged);
+    let count = count_before(unmerged, second);
+    let before = &unmerged[..count];
+    let behind = &unmerged[count..];
+    let left = original_of(&nodes[..middle], lower, height - 1, first, before);
+    let right = original_of(&nodes[middle + 1..], upper, height - 1, second, behind);
     let old_left = root_hash(lower);
     let old_right = root_hash(upper);
     let own = root_hash(hashes);

@@ -5,17 +5,18 @@ ghost use Rattle.mls_treemath.specs.Limits.{max_height};
 ghost use Rattle.mls_treemath.specs.Paths.{nodes_in};
 ghost use Rattle.mls_term.specs.Edits.{grow, trim};
 ghost use Rattle.mls_term.specs.Arrays.{term_of, in_order};
+ghost use Rattle.mls_array.specs.Ends.{taken_end};
 ghost use Rattle.mls_array.specs.Standing.{Stands};
 
-use crate::members::has_leaf;
 use crate::places::middle_of;
 use mls_slot::Slot;
 use std::alloc::AllocError;
 
-/// Keeps the left half alone as long as the right half has no member, and answers the height (RFC 9420, 7.7). Takes no
-/// memory.
-pub fn trim(nodes: &mut Vec<Slot>, height: u32) -> u32
-    requires { Stands height nodes.old.items }
+/// Keeps the left half alone as long as the right half has no member, and answers the height (RFC 9420, 7.7), where `end`
+/// is one past the rightmost taken leaf. Takes no memory.
+pub fn trim(nodes: &mut Vec<Slot>, height: u32, end: u32) -> u32
+    requires stands { Stands height nodes.old.items }
+    requires end { end ≡ taken_end 0 (term_of height nodes.old.items) }
     ensures order { nodes.new.items ≡ in_order (trim (term_of height nodes.old.items)) }
     ensures shape { length nodes.new.items ≡ nodes_in result }
     ensures low { result ≤ height }
@@ -24,11 +25,11 @@ pub fn trim(nodes: &mut Vec<Slot>, height: u32) -> u32
         return 0;
     }
     let middle = middle_of(nodes.len(), height);
-    if has_leaf(&nodes[middle + 1..], height - 1) {
+    if middle / 2 + 1 < end as usize {
         return height;
     }
     nodes.truncate(middle);
-    trim(nodes, height - 1)
+    trim(nodes, height - 1, end)
 }
 
 /// Twice the leaves: a blank root, the tree on its left, blank nodes on its right (RFC 9420, 7.7).

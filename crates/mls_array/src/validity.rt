@@ -7,9 +7,9 @@ ghost use Rattle.mls_treemath.specs.Limits.{max_height};
 ghost use Rattle.mls_term.specs.Node.{leaf_parent_hash, own_parent_hash};
 ghost use Rattle.mls_term.specs.Sets.{same_bytes};
 ghost use Rattle.mls_term.specs.Term.{Term, Branch, width};
-ghost use Rattle.mls_term.specs.Lists.{asked, all_parents};
+ghost use Rattle.mls_term.specs.Lists.{asked, lists_here, all_parents};
 ghost use Rattle.mls_term.specs.Hashes.{hash_at, is_some_bytes, has_witness, is_parent_hash_valid};
-ghost use Rattle.mls_term.specs.Good.{has_good_hashes};
+ghost use Rattle.mls_term.specs.Good.{has_good_lists, has_good_hashes};
 ghost use Rattle.mls_term.specs.Arrays.{leaf_in, parent_in, term_of};
 ghost use Rattle.mls_array.specs.Kept.{hashes_of};
 
@@ -90,6 +90,7 @@ fn left_ties(
     requires long { length hashes.now ≡ nodes_in height }
     requires fits { first + 2 ^ height ≤ 2 ^ 31 }
     requires hashed { hashes.now ≡ hashes_of first (term_of height nodes.now) }
+    requires lists { all_parents lists_here first (term_of height nodes.now) ≡ true }
     ensures { IfOk result (λ v. (c : Option Parent) (l r : Term) → term_of height nodes.now ≡ Branch c l r → v ≡ has_witness parent.now first l (first + width l) r) }
 {
     let middle = middle_of(nodes.len(), height);
@@ -122,6 +123,7 @@ fn right_ties(
     requires long { length hashes.now ≡ nodes_in height }
     requires fits { first + 2 ^ height ≤ 2 ^ 31 }
     requires hashed { hashes.now ≡ hashes_of first (term_of height nodes.now) }
+    requires lists { all_parents lists_here first (term_of height nodes.now) ≡ true }
     ensures { IfOk result (λ v. (c : Option Parent) (l r : Term) → term_of height nodes.now ≡ Branch c l r → v ≡ has_witness parent.now (first + width l) r first l) }
 {
     let middle = middle_of(nodes.len(), height);
@@ -154,6 +156,7 @@ fn root_is_valid(
     requires long { length hashes.now ≡ nodes_in height }
     requires fits { first + 2 ^ height ≤ 2 ^ 31 }
     requires hashed { hashes.now ≡ hashes_of first (term_of height nodes.now) }
+    requires lists { all_parents lists_here first (term_of height nodes.now) ≡ true }
     ensures { IfOk result (λ v. (c : Option Parent) (l r : Term) → term_of height nodes.now ≡ Branch c l r → v ≡ asked is_parent_hash_valid first c l r) }
 {
     let middle = middle_of(nodes.len(), height);
@@ -181,6 +184,7 @@ fn each_is_valid(
     requires long { length hashes.now ≡ nodes_in height }
     requires fits { first + 2 ^ height ≤ 2 ^ 31 }
     requires hashed { hashes.now ≡ hashes_of first (term_of height nodes.now) }
+    requires lists { all_parents lists_here first (term_of height nodes.now) ≡ true }
     ensures { IfOk result (λ v. v ≡ all_parents is_parent_hash_valid first (term_of height nodes.now)) }
 {
     if height == 0 {
@@ -204,7 +208,8 @@ fn each_is_valid(
     each_is_valid(right, &hashes[middle + 1..], height - 1, second, found)
 }
 
-/// Whether each parent is parent-hash valid, where `hashes` are the tree hashes of all subtrees.
+/// Whether each parent is parent-hash valid, where the lists of unmerged leaves are right and `hashes` are the tree hashes
+/// of all subtrees.
 pub fn has_good_hashes(
     alloc: Global,
     nodes: &[Slot],
@@ -215,6 +220,7 @@ pub fn has_good_hashes(
     requires long { length hashes.now ≡ nodes_in height }
     requires low { height ≤ max_height }
     requires hashed { hashes.now ≡ hashes_of 0 (term_of height nodes.now) }
+    requires lists { has_good_lists (term_of height nodes.now) ≡ true }
     ensures { IfOk result (λ v. v ≡ has_good_hashes (term_of height nodes.now)) }
 {
     let mut found = Vec::new(alloc);

@@ -17,6 +17,7 @@ pub(crate) fn memory_aside(written: Result<Vec<u8>, LeafError>) -> Result<Vec<u8
 {
     match written {
         Ok(bytes) => Ok(bytes),
+        // Want of memory: by the condition above there is no other error of writing.
         Err(_) => Err(AllocError),
     }
 }

@@ -20,6 +20,7 @@ fn memory_aside(written: Result<Vec<u8>, LeafError>) -> Result<Vec<u8>, OutOfMem
 {
     match written {
         Ok(bytes) => Ok(bytes),
+        // Want of memory: by the condition above there is no other error of writing.
         Err(_) => Err(AllocError),
     }
 }

@@ -1,15 +1,17 @@
 -- The proposals that a commit uses, by what a member keeps and by what stands in an entry.
 use Rattle.std.proofs.Common.{◌≡◌, ℕ, suc, ◌≤◌, length, arith, Bool, true, false, cond, List, [], ◌∷◌, Option, Some, None, Result, Ok, refl, sym, ap, subst, ◌∙◌}
-use Rattle.std.specs.Prelude.{option_map, find}
+use Rattle.std.specs.Prelude.{option_map, find, map}
 use Rattle.std.specs.List.{AllByRecursion}
 use Rattle.mls_wire.specs.Reading.{◌>>=◌}
 use Rattle.mls_wire.specs.Laws.{bind_ok, ok_is}
+use Rattle.mls_leaf.specs.KeyPackage.{key_package}
+use Rattle.mls_leaf.specs.declared.key_package.KeyPackage.{KeyPackage}
 use Rattle.mls_types.specs.declared.commit.ProposalOrRef.{ProposalOrRef}
 use Rattle.mls_types.specs.declared.commit.ProposalOrRef.TheVariants as listed
 use Rattle.mls_suite.specs.Crypto.{Crypto}
 use Rattle.mls_model.specs.Agreement.{Keeps, IsGoodKept}
 use Rattle.mls_model.specs.CommitLaws.{names_in_order}
-use Rattle.mls_model.specs.Journal.{names_in, used_of, removes_in}
+use Rattle.mls_model.specs.Journal.{names_in, used_of, adds_in, removes_in}
 use Rattle.mls_model.specs.Member.{Kept, Member, kept_under, used_one, used_by, named}
 use Rattle.mls_model.specs.Proposals.{adds, removed}
 use Rattle.mls_model.specs.Public.{Used}
@@ -135,6 +137,17 @@ RemovesIn = (kept : List Kept) (i : ℕ) (list : List ProposalOrRef) (us : List 
 pub removes_in_lem : RemovesIn
 unfolding removes_in
 removes_in_lem kept i list us e = let a = used_for_other kept i 0 list us e in ap (λ (r : Result (List Used) ℕ). removed (used_of r)) a.is ∙ a.removes
+
+-- and the KeyPackages, as bytes, that it adds are those of what its commit uses
+abbrev pub AddsIn : Type 0
+AddsIn = (kept : List Kept) (i : ℕ) (list : List ProposalOrRef) (us : List Used) → used_by kept i list ≡ Ok us → adds_in kept list ≡ map (λ (offered : KeyPackage). key_package.spell offered) (adds us)
+
+pub adds_in_lem : AddsIn
+unfolding adds_in
+adds_in_lem kept i list us e =
+    let a = used_for_other kept i 0 list us e in
+    ap (λ (r : Result (List Used) ℕ). map (λ (offered : KeyPackage). key_package.spell offered) (adds (used_of r))) a.is
+    ∙ ap (λ (offers : List KeyPackage). map (λ (offered : KeyPackage). key_package.spell offered) offers) a.adding
 
 -- ---- the same without a premise that all is kept: there are as many names as references
 

@@ -19,7 +19,7 @@ ghost use Rattle.mls_claims.specs.Pends.{MadePends};
 ghost use Rattle.mls_claims.specs.Welcomed.{WelcomeDid, WelcomeReads, SecretsOpen, WelcomeOpens};
 ghost use Rattle.mls_claims.specs.Joined.{TreeIsTaken, SignerPasses, JoinsAt};
 ghost use Rattle.mls_claims.specs.Taken.{KeysTaken};
-ghost use Rattle.mls_claims.specs.Used.{UsedByNames, UsedByEntry, UsedAlike, UsedForOther, RemovesIn, UsedSame};
+ghost use Rattle.mls_claims.specs.Used.{UsedByNames, UsedByEntry, UsedAlike, UsedForOther, RemovesIn, AddsIn, UsedSame};
 
 /// The proposals that a commit uses.
 pub fn laws_of_use()
@@ -28,6 +28,7 @@ pub fn laws_of_use()
     ensures alike { UsedAlike }
     ensures other { UsedForOther }
     ensures removes { RemovesIn }
+    ensures adds { AddsIn }
     ensures same { UsedSame }
 {}
 

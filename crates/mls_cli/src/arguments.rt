@@ -194,6 +194,7 @@ fn no_job(alloc: Global, error: &Error) -> NoJob
                 NoJob::Shown(text)
             }
         }
+        // Want of memory: the error's text is made, which fails for nothing else.
         Err(_) => NoJob::OutOfMemory,
     }
 }
@@ -204,6 +205,7 @@ fn suite_refused(alloc: Global, suite: &str) -> NoJob
 {
     match suite_error(alloc, suite) {
         Ok(error) => no_job(alloc, &error),
+        // Want of memory: the error is an `AllocError`.
         Err(_) => NoJob::OutOfMemory,
     }
 }
@@ -233,6 +235,7 @@ pub fn no_text(alloc: Global) -> NoJob
 {
     match no_text_error(alloc) {
         Ok(error) => no_job(alloc, &error),
+        // Want of memory: the error is an `AllocError`.
         Err(_) => NoJob::OutOfMemory,
     }
 }

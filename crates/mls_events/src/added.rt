@@ -36,6 +36,7 @@ fn spelled(alloc: Global, offered: &KeyPackage) -> Result<Bytes, AllocError>
 {
     match offered.encode(alloc) {
         Ok(bytes) => Ok(Bytes::from_vec(bytes)),
+        // Want of memory: a KeyPackage that has a spelling is refused nothing else.
         Err(_) => Err(AllocError),
     }
 }

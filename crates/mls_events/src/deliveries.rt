@@ -36,6 +36,7 @@ fn list_of(alloc: Global, view: &PublicMessageView<'_>) -> Result<Vec<ProposalOr
     };
     match proposals.to_owned(alloc) {
         Ok(list) => Ok(list.into_vec()),
+        // Want of memory: the list was read past when the view was made, so only its copy can fail.
         Err(_) => Err(AllocError),
     }
 }

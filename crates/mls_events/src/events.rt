@@ -80,6 +80,7 @@ impl<S: Suite> PlainWorld<S> {
         match self.answer(event) {
             Ok(reply) => Ok(reply),
             Err(error) => match error.number() {
+                // Want of memory: 1 is its number, and that of no other refusal.
                 1 => Err(AllocError),
                 number => Ok(Reply::Refused { number }),
             },

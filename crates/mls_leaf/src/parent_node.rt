@@ -96,21 +96,17 @@ fn add_rising(alloc: Global, entries: &[u32], writer: &mut Writer) -> Result<(),
     add_vector(alloc, entries, writer)
 }
 
-/// Where the leaf has to be put so that the entries still rise, if it isn't among them.
+/// Where the leaf has to be put so that the entries still rise, if it isn't among them. It is looked for by halves.
 fn place_for(entries: &[u32], leaf: u32) -> Option<usize>
+    requires { rises entries.now ≡ true }
     ensures { MatchOption result
         (inserted leaf entries.now ≡ entries.now)
         (λ place. (place ≤ length entries.now) × (inserted leaf entries.now ≡ insert entries.now place leaf)) }
 {
-    for (place, entry) in entries.iter().enumerate() {
-        if leaf < *entry {
-            return Some(place);
-        }
-        if leaf == *entry {
-            return None;
-        }
+    match entries.binary_search(&leaf) {
+        Ok(_) => None,
+        Err(place) => Some(place),
     }
-    Some(entries.len())
 }
 
 impl ParentNode {

@@ -57,6 +57,7 @@ fn spelling(alloc: Global, context: &GroupContext) -> Result<Vec<u8>, OutOfMemor
 {
     match context.encode(alloc) {
         Ok(bytes) => Ok(bytes),
+        // Want of memory: a short context has a spelling, so it is refused nothing else.
         Err(_) => Err(AllocError),
     }
 }

@@ -191,9 +191,11 @@ impl<S: Suite> Member<S> {
         let edits = &change.edits;
         let own = own_key(&self.kept, commit.proposals.as_slice());
         let keys = followed(&self.keys, &edits.tree, own)?;
-        let context = spelling(self.alloc, &change.provisional)?;
         match &commit.path {
-            Some(path) => opened::<S>(edits, committer, path, keys, &context),
+            Some(path) => {
+                let context = spelling(self.alloc, &change.provisional)?;
+                opened::<S>(edits, committer, path, keys, &context)
+            }
             None => Ok(Reached {
                 secret: [0; 32],
                 keys,

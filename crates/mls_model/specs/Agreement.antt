@@ -113,6 +113,7 @@ pub record IsGoodPending (c : Crypto) (m : Member) (p : Pending) : Type 0 where
   pub keys : HasExact c p.public.tree p.keys
   pub leaf : p.keys.leaf ≡ m.keys.leaf
 
+-- and so where a member has a pending commit; nothing is asked where it has none
 abbrev pub IsGoodIfPending : Crypto → Member → Option Pending → Type 0
 IsGoodIfPending c m None = Unit {0}
 IsGoodIfPending c m (Some p) = IsGoodPending c m p

@@ -35,6 +35,7 @@ candidate_answer c w identity seed = do
     record w { entrants = w.entrants ++ (record { candidate = k; is_spent = false } ∷ []); messages = w.messages ++ (package_message k.offered ∷ []) },
   )
 
+-- 92 no such candidate, 91 a spent one; it becomes the only member of a new group (RFC 9420, 11), and its journal begins
 unfoldable pub create_answer : Crypto → World → ℕ → List ℕ → List ℕ → Result (Reply × World) ℕ
 create_answer c w n group seed = do
   e ← entrant_at w n
@@ -47,6 +48,7 @@ create_answer c w n group seed = do
 abbrev pub sent : World → ℕ → Seat → List ℕ × Member → Reply × World
 sent w k s x = (reply.Proposal (length w.messages), with_message (with_member w k s x.1) x.0)
 
+-- 90 no such member; 94, decoding and 95 of the source; then it proposes to add that KeyPackage (RFC 9420, 12.1.1)
 unfoldable pub propose_add_answer : Crypto → World → ℕ → Source → Result (Reply × World) ℕ
 propose_add_answer c w k source = do
   s ← seat_at w k
@@ -54,12 +56,14 @@ propose_add_answer c w k source = do
   x ← proposed_add c s.member offered
   Ok (sent w k s x)
 
+-- 90 no such member; then it proposes to update its own leaf (RFC 9420, 12.1.2)
 unfoldable pub propose_update_answer : Crypto → World → ℕ → List ℕ → Result (Reply × World) ℕ
 propose_update_answer c w k seed = do
   s ← seat_at w k
   x ← proposed_update c s.member seed
   Ok (sent w k s x)
 
+-- 90 no such member; then it proposes to remove a leaf (RFC 9420, 12.1.3)
 unfoldable pub propose_remove_answer : Crypto → World → ℕ → ℕ → Result (Reply × World) ℕ
 propose_remove_answer c w k leaf = do
   s ← seat_at w k
@@ -84,6 +88,8 @@ abbrev pub commit_messages : Made → Option (List ℕ) → List (List ℕ)
 commit_messages made None = made.commit ∷ []
 commit_messages made (Some welcome) = made.commit ∷ (welcome ∷ [])
 
+-- 90 no such member; then what its list stands for; it makes the commit (RFC 9420, 12.4.1) and has it as pending, and
+-- the world has the messages and the record
 unfoldable pub commit_answer : Crypto → World → ℕ → List WorldItem → Bool → List ℕ → Result (Reply × World) ℕ
 commit_answer c w k items path seed = do
   s ← seat_at w k
@@ -94,6 +100,7 @@ commit_answer c w k items path seed = do
     record (with_member w k s (with_pending s.member made.pending)) { messages = w.messages ++ commit_messages made made.welcome; made = w.made ++ (made_by w k s list made ∷ []) },
   )
 
+-- 90 no such member; it drops its pending commit, and the reply says whether there was one
 unfoldable pub drop_answer : World → ℕ → Result (Reply × World) ℕ
 drop_answer w k = do
   s ← seat_at w k
@@ -106,6 +113,7 @@ abbrev pub journal_after : Seat → List ℕ → Effect → Journal
 journal_after s bytes (Advanced epoch) = with_entry s.journal (entry_of s.member bytes)
 journal_after s bytes other = s.journal
 
+-- 90 no such member, 94 no such message; it does what the verdict on these bytes says (RFC 9420, 6)
 unfoldable pub deliver_answer : Crypto → World → ℕ → Source → Result (Reply × World) ℕ
 deliver_answer c w k source = do
   s ← seat_at w k
@@ -113,6 +121,8 @@ deliver_answer c w k source = do
   x ← verdict c s.member bytes
   Ok (reply.Delivered x.0, record w { seats = slice_set w.seats k (record { member = x.1; journal = journal_after s bytes x.0 }) })
 
+-- 92 no such candidate, 91 a spent one, 94 no such message; it joins by these bytes as one more member, and is spent
+-- (RFC 9420, 12.4.3.1)
 unfoldable pub join_answer : Crypto → World → ℕ → Source → Result (Reply × World) ℕ
 join_answer c w n source = do
   e ← entrant_at w n

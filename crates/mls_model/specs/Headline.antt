@@ -96,9 +96,11 @@ JoinsByBytes c w = (i n number : ℕ) (bytes : List ℕ) (source : Source) (d : 
 
 -- ---- keys and trees, whatever bytes came
 
+-- each active member has just the private keys that are due on its path (RFC 9420, 7.5)
 abbrev pub KeysAreExact : Crypto → World → Type 0
 KeysAreExact c w = (k : ℕ) (s : Seat) → IsActive w k s → HasExactKeys c s.member
 
+-- each active member's tree is good (RFC 9420, 7)
 abbrev pub TreesAreGood : Crypto → World → Type 0
 TreesAreGood c w = (k : ℕ) (s : Seat) → IsActive w k s → HasGoodTree c s.member
 
@@ -115,6 +117,7 @@ abbrev pub FollowsOwn : Crypto → World → Type 0
 FollowsOwn c w = (k : ℕ) (s : Seat) (p : Pending) (source : Source) → IsActive w k s → s.member.pending ≡ Some p → bytes_of w source ≡ Ok p.message →
     (step c w (Deliver k source)).0 ≡ Delivered (Advanced p.public.context.epoch)
 
+-- the epoch that a message names in its content (RFC 9420, 6)
 abbrev pub epoch_of_message : Result MlsMessage ℕ → Option ℕ
 epoch_of_message (Ok (message.PublicMessage v)) = Some v.content.epoch
 epoch_of_message other = None
@@ -127,6 +130,7 @@ RefusesOwn c w = (n : ℕ) (d : CommitMade) (s : Seat) (source : Source) → sli
 
 -- ---- the whole
 
+-- what holds of a world: agreement, acceptance, joins, keys and trees, refusals, and what the maker does with its commit
 pub record Headline (c : Crypto) (w : World) : Type 0 where
   pub public : AgreeByJournal w
   pub secret : AgreeSecretIfHomemade w

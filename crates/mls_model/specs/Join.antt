@@ -39,7 +39,7 @@ joined_tree c info = do
   tree_checks (rules_of c info.group_context.group_id) t
   Ok t
 
--- 78 the signer is no member, or the candidate itself; 79 its signature
+-- 78 the signer is no member, or the candidate itself; 79 its signature (RFC 9420, 12.4.3.1)
 unfoldable pub signer_checks : Crypto → Candidate → GroupInfo → Term → Result Passed ℕ
 signer_checks c k info t = do
   signer ← given 78 (leaf_of t info.signer)
@@ -54,8 +54,8 @@ is_same_leaf x y = bytes_eq (leaf_node.spell x) (leaf_node.spell y)
 unfoldable pub place_of : LeafNode → Term → Option (ℕ × LeafNode)
 place_of leaf t = find (λ (x : ℕ × LeafNode). is_same_leaf x.1 leaf) (members 0 t)
 
--- the joiner's keys: with a path secret those that it gives, else its leaf's alone; 34, and 35 where one that is due is
--- missing
+-- the joiner's keys (RFC 9420, 12.4.3.1): with a path secret those that it gives, else its leaf's alone; 34, and 35 where
+-- one that is due is missing
 unfoldable pub joined_keys : Crypto → Term → ℕ → PrivateKeys → Option (List ℕ) → Result PrivateKeys ℕ
 joined_keys c t signer alone None = require 35 (has_due t alone) >> Ok alone
 joined_keys c t signer alone (Some secret) = take_answer c t signer alone.leaf alone.own secret >>= λ climb. Ok (with_keys alone climb.keys)
@@ -67,8 +67,8 @@ pub record Joined : Type 0 where
   pub member : Member
   pub info : List ℕ
 
--- the new member of an opened Welcome: the checks of tree and signer, 80 no leaf is the candidate's, 34 and 35, 65 the
--- confirmation tag
+-- the new member of an opened Welcome (RFC 9420, 12.4.3.1): the checks of tree and signer, 80 no leaf is the candidate's,
+-- 34 and 35, 65 the confirmation tag
 unfoldable pub member_of : Crypto → Candidate → Opened → Result Joined ℕ
 member_of c k o = do
   t ← joined_tree c o.info

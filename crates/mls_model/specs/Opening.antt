@@ -55,7 +55,7 @@ pub record Opened : Type 0 where
   pub info : GroupInfo
 
 -- decoding; 70 no Welcome, 71 of another suite, 72 no entry for the candidate's KeyPackage, 73, 74 a pre-shared key is
--- asked for, 75 the GroupInfo doesn't open or is none, 71 it is of another suite
+-- asked for, 75 the GroupInfo doesn't open or is none, 71 it is of another suite (RFC 9420, 12.4.3.1)
 unfoldable pub opened_welcome : Crypto → Candidate → List ℕ → Result Opened ℕ
 opened_welcome c k bytes = do
   outer ← decoded bytes

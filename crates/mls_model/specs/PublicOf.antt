@@ -28,6 +28,7 @@ abbrev pub used_of_body : SignedContent → SignedBody → Option Used
 used_of_body v (body_of.Proposal said) = Some (record { proposal = said; sender = sender_leaf v.sender; is_full = false })
 used_of_body v other = None
 
+-- the proposal that the message in an entry is: decoding, 41 no PublicMessage, 60 no proposal
 unfoldable pub used_in : List ℕ → Result Used ℕ
 used_in bytes = decoded bytes >>= λ m. given 41 (public_in m) >>= λ v. given 60 (used_of_body v.content v.content.body)
 
@@ -39,6 +40,7 @@ used_by_names committer (listed.Proposal said ∷ xs) names =
 used_by_names committer (listed.Reference reference ∷ xs) [] = Err 60
 used_by_names committer (listed.Reference reference ∷ xs) (n ∷ ns) = used_in n >>= λ u. used_by_names committer xs ns >>= λ us. Ok (u ∷ us)
 
+-- the public state after a content with the messages that its entry names: 45 where it is no commit (RFC 9420, 12.4.2)
 abbrev pub public_after_body : Crypto → PublicState → List (List ℕ) → SignedContent → SignedBody → Result PublicState ℕ
 public_after_body c p names v (body_of.Commit commit tag) =
     used_by_names (sender_leaf v.sender) commit.proposals names >>= λ used. next_public c p (sender_leaf v.sender) used commit (framed v) v.signature tag
@@ -60,6 +62,7 @@ public_of_info bytes = do
 abbrev pub Creations : Type 0
 Creations = List (Option Member)
 
+-- the public state of a creation by its number: 90 where none made that member
 abbrev pub public_of_creation : Option (Option Member) → Result PublicState ℕ
 public_of_creation (Some (Some m)) = Ok m.public
 public_of_creation (Some None) = Err 90

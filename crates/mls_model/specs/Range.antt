@@ -9,10 +9,12 @@ use Rattle.mls_model.specs.declared.event.WorldItem.TheVariants.{RefOf, Add, Rem
 use Rattle.mls_model.specs.declared.event.Event.{Event}
 use Rattle.mls_model.specs.declared.event.Event.TheVariants as event
 
+-- a source whose given bytes are bytes
 abbrev pub IsSourceInRange : Source → Type 0
 IsSourceInRange (Given bytes) = IsBytes bytes.items
 IsSourceInRange (Message n) = Unit {0}
 
+-- one of a commit call's list, with a source in range, or a leaf of 32 bits (RFC 9420, 12.1.3)
 abbrev pub IsItemInRange : WorldItem → Type 0
 IsItemInRange (RefOf source) = IsSourceInRange source
 IsItemInRange (Add source) = IsSourceInRange source

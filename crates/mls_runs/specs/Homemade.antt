@@ -1,12 +1,13 @@
--- Journals that are told equal are equal, and the commit calls of a homemade journal's entry reached one epoch secret.
-use Rattle.std.proofs.Common.{◌≡◌, ℕ, zero, suc, Bool, true, false, ◌&&◌, cond, List, [], ◌∷◌, map, filter, Some, refl, ap, ap₂, sym, ◌∙◌, slice_get, eqb-true, eq-eqb, true≢false}
+-- Journals that are told equal are equal, the commit calls of a homemade journal's entry reached one epoch secret, and a
+-- journal is homemade just where its records say so.
+use Rattle.std.proofs.Common.{◌≡◌, ℕ, zero, suc, Bool, true, false, ◌&&◌, cond, List, [], ◌∷◌, ◌++◌, map, filter, Some, refl, ap, ap₂, sym, subst, ◌∙◌, slice_get, eqb-true, eq-eqb, true≢false}
 use Rattle.std.specs.List.{list_all}
 use Rattle.std.specs.Str.{bytes_eq}
 use Rattle.std.proofs.lemmas.Bool.{and_parts}
 use Rattle.std.proofs.lemmas.Slice.Eq.{bytes_eq-Decides}
 use Rattle.mls_model.specs.declared.origin.Origin.{Origin}
 use Rattle.mls_model.specs.declared.origin.Origin.TheVariants as from
-use Rattle.mls_model.specs.Journal.{Entry, Journal, CommitMade, is_same_origin, are_same_bytes, is_same_entry, are_same_entries, is_same_journal, reached, is_one, is_homemade_from}
+use Rattle.mls_model.specs.Journal.{Entry, Journal, CommitMade, is_same_origin, are_same_bytes, is_same_entry, are_same_entries, is_same_journal, is_creation, reached, is_one, is_homemade_from, is_homemade}
 use Rattle.mls_model.specs.Lineage.{MadeHere}
 use Rattle.mls_runs.specs.Lists.{some, both}
 
@@ -158,3 +159,97 @@ homemade_parts made origin e es h =
     let j : Journal = record { origin = origin; entries = es } in
     let p = and_parts (is_one (reached made j e)) (is_homemade_from made origin es) h in
     (one_secret made j e p.0, p.1)
+
+-- ---- homemade journals, by their records
+
+-- there is a record of an entry at a journal, and any two of them reached one epoch secret
+pub record IsMadeAt (made : List CommitMade) (j : Journal) (e : Entry) : Type 0 where
+  pub which : CommitMade
+  pub here : MadeHere made j e which
+  pub one : (d f : CommitMade) → MadeHere made j e d → MadeHere made j e f → d.epoch ≡ f.epoch
+
+-- a journal began with a creation, and each of its entries was made at the journal before it
+pub record IsMadeThroughout (made : List CommitMade) (j : Journal) : Type 0 where
+  pub number : ℕ
+  pub creation : j.origin ≡ from.Creation number
+  pub entries : (later : List Entry) (e : Entry) (earlier : List Entry) → j.entries ≡ later ++ (e ∷ earlier) → IsMadeAt made (record { origin = j.origin; entries = earlier }) e
+
+of_one_secret : (made : List CommitMade) (j : Journal) (e : Entry) → HasOneSecret made j e → IsMadeAt made j e
+of_one_secret made j e h = record { which = h.which; here = h.here; one = λ d f a b. h.all d a ∙ sym (h.all f b) }
+
+at_each : {A : Type 0} (test : A → Bool) (xs : List A) → ((i : ℕ) (x : A) → slice_get xs i ≡ Some x → test x ≡ true) → list_all test xs ≡ true
+at_each test [] h = refl
+at_each test (x ∷ xs) h = both (test x) (list_all test xs) (h 0 x refl) (at_each test xs (λ i y e. h (suc i) y e))
+
+of_records : (made : List CommitMade) (j : Journal) (e : Entry) (xs : List (List ℕ)) → map epoch_of (filter (is_here j e) made) ≡ xs → IsMadeAt made j e → is_one xs ≡ true
+of_records made j e [] is h =
+    let p = kept_at epoch_of (is_here j e) made h.here.place h.which h.here.is (is_here_at j e h.which h.here.journal h.here.entry) in
+    let found : slice_get [] p.0 ≡ Some h.which.epoch = ap (λ (l : List (List ℕ)). slice_get l p.0) (sym is) ∙ p.1 in
+    absurd cc
+of_records made j e (x ∷ xs) is h =
+    let first = kept_from epoch_of (is_here j e) made 0 x (ap (λ (l : List (List ℕ)). slice_get l 0) is) in
+    at_each (bytes_eq x) xs (λ i y g.
+    let k = kept_from epoch_of (is_here j e) made (suc i) y (ap (λ (l : List (List ℕ)). slice_get l (suc i)) is ∙ g) in
+    (bytes_eq-Decides x y).1 (sym first.mapped ∙ h.one first.one k.one (here_from made j e x first) (here_from made j e y k) ∙ k.mapped))
+
+one_reached : (made : List CommitMade) (j : Journal) (e : Entry) → IsMadeAt made j e → is_one (reached made j e) ≡ true
+unfolding reached
+one_reached made j e h = of_records made j e (map epoch_of (filter (is_here j e) made)) refl h
+
+of_creation : (a : Origin) → is_creation a ≡ true → (k : ℕ) × (a ≡ from.Creation k)
+of_creation (from.Creation k) h = (k, refl)
+of_creation (from.GroupInfo g) h = absurd (true≢false (sym h))
+
+origin_of : (made : List CommitMade) (origin : Origin) (es : List Entry) → is_homemade_from made origin es ≡ true → is_creation origin ≡ true
+unfolding is_homemade_from
+origin_of made origin [] h = h
+origin_of made origin (e ∷ es) h = origin_of made origin es (homemade_parts made origin e es h).1
+
+no_entry : (e : Entry) (xs : List Entry) → [] ≡ e ∷ xs → ⊥
+no_entry e xs h = absurd cc
+
+first_entry : (d e : Entry) (xs ys : List Entry) → d ∷ xs ≡ e ∷ ys → d ≡ e
+first_entry d e xs ys h = cc
+
+other_entries : (d e : Entry) (xs ys : List Entry) → d ∷ xs ≡ e ∷ ys → xs ≡ ys
+other_entries d e xs ys h = cc
+
+entries_of : (made : List CommitMade) (origin : Origin) (es : List Entry) → is_homemade_from made origin es ≡ true →
+    (later : List Entry) (e : Entry) (earlier : List Entry) → es ≡ later ++ (e ∷ earlier) → IsMadeAt made (journal_with origin earlier) e
+entries_of made origin [] h [] e earlier is = absurd (no_entry e earlier is)
+entries_of made origin [] h (x ∷ later) e earlier is = absurd (no_entry x (later ++ (e ∷ earlier)) is)
+entries_of made origin (d ∷ es) h [] e earlier is =
+    let same : d ≡ e = first_entry d e es earlier is in
+    let rest : es ≡ earlier = other_entries d e es earlier is in
+    subst (λ (l : List Entry). IsMadeAt made (journal_with origin l) e) rest
+    (subst (λ (x : Entry). IsMadeAt made (journal_with origin es) x) same
+    (of_one_secret made (journal_with origin es) d (homemade_parts made origin d es h).0))
+entries_of made origin (d ∷ es) h (x ∷ later) e earlier is =
+    let rest : es ≡ later ++ (e ∷ earlier) = other_entries d x es (later ++ (e ∷ earlier)) is in entries_of made origin es (homemade_parts made origin d es h).1 later e earlier rest
+
+of_entries : (made : List CommitMade) (origin : Origin) (es : List Entry) → is_creation origin ≡ true →
+    ((later : List Entry) (e : Entry) (earlier : List Entry) → es ≡ later ++ (e ∷ earlier) → IsMadeAt made (journal_with origin earlier) e) → is_homemade_from made origin es ≡ true
+unfolding is_homemade_from
+of_entries made origin [] o h = o
+of_entries made origin (d ∷ es) o h =
+    both (is_one (reached made (journal_with origin es) d)) (is_homemade_from made origin es) (one_reached made (journal_with origin es) d (h [] d es refl))
+    (of_entries made origin es o (λ later e earlier is. h (d ∷ later) e earlier (ap (λ (l : List Entry). d ∷ l) is)))
+
+-- a homemade journal began with a creation, and each of its entries has a record at the journal before it, any two of
+-- which reached one epoch secret
+abbrev pub HomemadeIsMade : Type 0
+HomemadeIsMade = (made : List CommitMade) (j : Journal) → is_homemade made j ≡ true → IsMadeThroughout made j
+
+pub homemade_is_made : HomemadeIsMade
+unfolding is_homemade
+homemade_is_made made j h =
+    let o = of_creation j.origin (origin_of made j.origin j.entries h) in
+    record { number = o.0; creation = o.1; entries = entries_of made j.origin j.entries h }
+
+-- and each such journal is homemade
+abbrev pub MadeIsHomemade : Type 0
+MadeIsHomemade = (made : List CommitMade) (j : Journal) → IsMadeThroughout made j → is_homemade made j ≡ true
+
+pub made_is_homemade : MadeIsHomemade
+unfolding is_homemade
+made_is_homemade made j h = of_entries made j.origin j.entries (ap (λ (a : Origin). is_creation a) h.creation) h.entries

@@ -3,6 +3,7 @@
 #![tactic(auto)]
 
 ghost use Rattle.mls_model.specs.Headline.{HoldsOnRuns};
+ghost use Rattle.mls_runs.specs.Homemade.{HomemadeIsMade, MadeIsHomemade};
 ghost use Rattle.mls_runs.specs.Past.{PastGrows, PastAlong};
 ghost use Rattle.mls_runs.specs.Names.{NamesStable};
 ghost use Rattle.mls_runs.specs.Leaves.{OwnLeaves};
@@ -10,6 +11,13 @@ ghost use Rattle.mls_runs.specs.Secrets.{SameSecret};
 ghost use Rattle.mls_runs.specs.Runs.{EmptyWorldGood, EventsKeepGood, RunsKeepGood};
 ghost use Rattle.mls_runs.specs.Headlines.{HeadlineOfGood};
 ghost use Rattle.mls_runs.specs.Reachable.{EmptyIsReachable, RunsReach, StepsReach, HeadlineOfReachable};
+
+/// A journal is homemade just where it began with a creation and each of its entries was made by a commit call at the
+/// journal before it, and all calls that made one entry reached one epoch secret.
+pub fn laws_of_homemade_journals()
+    ensures made { HomemadeIsMade }
+    ensures homemade { MadeIsHomemade }
+{}
 
 /// The states that a member passed along its journal: they were passed in each world that this one becomes, they stand
 /// where the journal leads, and along a homemade journal they have one epoch secret.

@@ -53,6 +53,7 @@ fn shared(alloc: Global, node: Node) -> Result<Rc<Node>, AllocError>
 {
     match Rc::new(alloc, node) {
         Ok(shared) => Ok(shared),
+        // Want of memory: the place behind the pointer, which fails for nothing else.
         Err(_) => Err(AllocError),
     }
 }

@@ -40,6 +40,7 @@ impl Slot {
     {
         match Rc::new(alloc, node) {
             Ok(shared) => Ok(Slot { node: Some(shared) }),
+            // Want of memory: the place behind the pointer, which fails for nothing else.
             Err(_) => Err(AllocError),
         }
     }

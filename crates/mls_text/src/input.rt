@@ -82,6 +82,7 @@ impl Input for &[u8] {
                 *self = &[];
                 Ok(bytes)
             }
+            // Want of memory: the error is an `AllocError`.
             Err(_) => Err(Fault::OutOfMemory),
         }
     }

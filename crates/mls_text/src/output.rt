@@ -86,6 +86,7 @@ impl Output for Vec<u8> {
                 if bytes.is_empty() {
                     Ok(())
                 } else {
+                    // Want of memory: a `Vec` that can't take the bytes fails for nothing else.
                     Err(Fault::OutOfMemory)
                 }
             }

@@ -102,6 +102,7 @@ pub fn print_made_page<L: Printed + Drop, O: Output>(
 {
     match made {
         Ok(page) => print_page(alloc, &page, out),
+        // Want of memory: the error is an `AllocError`.
         Err(_) => Err(Fault::OutOfMemory),
     }
 }

@@ -13,3 +13,4 @@ pub mod Refused
 pub mod Keepings
 pub mod Costs
 pub mod Chilling
+pub mod Bounding

@@ -14,3 +14,4 @@ pub mod Cells
 pub mod ShortLeaves
 pub mod Sent
 pub mod Cold
+pub mod Bounds

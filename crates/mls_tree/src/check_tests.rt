@@ -142,6 +142,8 @@ fn half_empty(
         nodes,
         hashes,
         height: 2,
+        full_to: 0,
+        blank_from: 4,
     })
 }
 

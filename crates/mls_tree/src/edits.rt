@@ -5,6 +5,7 @@ ghost use Rattle.mls_treemath.specs.Paths.{nodes_in};
 ghost use Rattle.mls_treemath.specs.Limits.{max_height};
 ghost use Rattle.mls_term.specs.Edits.{put, enter, grow, trim};
 ghost use Rattle.mls_term.specs.Arrays.{term_of};
+ghost use Rattle.mls_array.specs.Ends.{taken_end};
 ghost use Rattle.mls_array.specs.Kept.{Keeps, dropped};
 ghost use Rattle.mls_array.specs.Standing.{Stands};
 ghost use Rattle.mls_array.specs.StandingLaws.{StandsFor};
@@ -68,11 +69,13 @@ pub(crate) fn append(
     Ok(())
 }
 
-/// Keeps the left half alone as long as the right half has no member, and answers the height.
-pub(crate) fn trim(nodes: &mut Vec<Slot>, height: u32) -> u32
-    requires { Stands height nodes.old.items }
+/// Keeps the left half alone as long as the right half has no member, and answers the height, where `end` is one past the
+/// rightmost taken leaf.
+pub(crate) fn trim(nodes: &mut Vec<Slot>, height: u32, end: u32) -> u32
+    requires stands { Stands height nodes.old.items }
+    requires end { end ≡ taken_end 0 (term_of height nodes.old.items) }
     ensures order { StandsFor result nodes.new.items (trim (term_of height nodes.old.items)) }
     ensures low { result ≤ height }
 {
-    array::trim(nodes, height)
+    array::trim(nodes, height, end)
 }

@@ -104,11 +104,15 @@ fn merged(alloc: Global, tree: &mut PublicTree, i: u32) -> Result<usize, TreeErr
     Ok(length)
 }
 
-/// Whether each parent is parent-hash valid.
+/// Whether the lists are right and each parent is parent-hash valid.
 fn has_good_hashes(alloc: Global, tree: &mut PublicTree) -> Result<bool, AllocError> {
     let _tree_hash = tree.tree_hash();
     let kept = tree.hashes.as_slice();
-    array::has_good_hashes(alloc, &tree.nodes, kept, tree.height)
+    let nodes = tree.nodes.as_slice();
+    if !array::has_good_lists(nodes, tree.height) {
+        return Ok(false);
+    }
+    array::has_good_hashes(alloc, nodes, kept, tree.height)
 }
 
 #[test]

@@ -38,6 +38,10 @@ pub struct PublicTree {
     pub(crate) nodes: Vec<Slot>,
     pub(crate) hashes: Hashes,
     pub(crate) height: u32,
+    /// Each leaf before this one is taken.
+    pub(crate) full_to: u32,
+    /// Each leaf from this one on is blank.
+    pub(crate) blank_from: u32,
 }
 
 impl Model for PublicTree {
@@ -46,13 +50,14 @@ impl Model for PublicTree {
     ghost use Rattle.mls_term.specs.Arrays.{term_of};
     ghost use Rattle.mls_array.specs.Standing.{Stands};
     ghost use Rattle.mls_array.specs.Kept.{Keeps};
+    ghost use Rattle.mls_tree.specs.Bounds.{Bounds};
     ghost use Rattle.mls_tree.specs.Tree.{Tree};
 
     ghost Value = { Tree };
 
     ghost view = { λ t. record { levels = t.height; listing = t.nodes.items; kept = t.hashes.kept; done = t.hashes.done } };
 
-    ghost invariant = { λ t. Stands t.height t.nodes.items × (t.height ≤ max_height) × Keeps 0 (term_of t.height t.nodes.items) t.hashes.kept };
+    ghost invariant = { λ t. Stands t.height t.nodes.items × (t.height ≤ max_height) × Keeps 0 (term_of t.height t.nodes.items) t.hashes.kept × Bounds (term_of t.height t.nodes.items) t.full_to t.blank_from };
 }
 
 impl PublicTree {
@@ -71,6 +76,8 @@ impl PublicTree {
             nodes,
             hashes,
             height: 0,
+            full_to: 0,
+            blank_from: 1,
         })
     }
 
@@ -106,6 +113,8 @@ impl PublicTree {
             nodes,
             hashes,
             height,
+            full_to: 0,
+            blank_from: 1 << height,
         })
     }
 
@@ -214,11 +223,13 @@ impl PublicTree {
     {
         let height = self.height;
         let alloc = *self.nodes.allocator();
-        match array::first_blank(&self.nodes, height, 0) {
+        match array::first_blank(&self.nodes, height, 0, self.full_to) {
             Some(i) => {
                 let leaf = SharedLeaf::new(alloc, leaf)?;
                 edits::enter(&mut self.nodes, height, i, leaf)?;
                 self.hashes.drop_way(height, i);
+                self.full_to = i + 1;
+                self.blank_from = self.blank_from.max(i + 1);
                 Ok(i)
             }
             None => {
@@ -228,6 +239,8 @@ impl PublicTree {
                 let leaf = SharedLeaf::new(alloc, leaf)?;
                 edits::append(&mut self.nodes, &mut self.hashes, height, leaf)?;
                 self.height = height + 1;
+                self.full_to = (1 << height) + 1;
+                self.blank_from = (1 << height) + 1;
                 Ok(1 << height)
             }
         }
@@ -272,8 +285,11 @@ impl PublicTree {
         let height = self.height;
         edits::put(&mut self.nodes, height, i, None);
         self.hashes.drop_way(height, i);
-        self.height = edits::trim(&mut self.nodes, height);
+        let end = array::taken_end(&self.nodes, height, 0, self.blank_from);
+        self.height = edits::trim(&mut self.nodes, height, end);
         self.hashes.cut(self.nodes.len());
+        self.full_to = self.full_to.min(i);
+        self.blank_from = end;
         Ok(())
     }
 }
@@ -286,6 +302,8 @@ impl Clone for PublicTree {
             nodes: self.nodes.clone()?,
             hashes: self.hashes.clone()?,
             height: self.height,
+            full_to: self.full_to,
+            blank_from: self.blank_from,
         })
     }
 }

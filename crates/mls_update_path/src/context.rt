@@ -41,6 +41,7 @@ pub(crate) fn provisional_bytes(
     };
     match context.encode(alloc) {
         Ok(bytes) => Ok(bytes),
+        // Want of memory: a short context has a spelling, so it is refused nothing else.
         Err(_) => Err(AllocError),
     }
 }

@@ -41,6 +41,7 @@ pub(crate) fn make_draft<S: Suite>(
 {
     let _leaves = tree.leaf_count();
     let Ok(filtered) = tree.filtered_path(index) else {
+        // Want of memory: edits leave the committer's leaf, so only the list of nodes can fail.
         return Err(AllocError);
     };
     let mut keys = PrivatePath::new(alloc, index, leaf_key::<S>(alloc, seed)?);
@@ -71,6 +72,7 @@ pub(crate) fn parent_hash(
 {
     match tree.path_parent_hash(index, keys) {
         Ok(hash) => Ok(Bytes::from_vec(hash)),
+        // Want of memory: a member is there, and a key for each node; only the bytes can fail.
         Err(_) => Err(AllocError),
     }
 }

@@ -1,7 +1,7 @@
 //! Groups of two and three members, and what crosses between them.
 
 use crate::script::{Act, Part, Parts, Said, Sent, both_ways, run};
-use mls_model::{Effect, Event, Reply, Source};
+use mls_model::{Effect, Event, Origin, Reply, Source};
 use mls_suite::{Glass, OutOfMemory};
 use mls_world::World;
 use std::alloc::Global;
@@ -33,6 +33,18 @@ fn two_members(rt: &impl Abort, alloc: Global) -> Result<World<Glass>, OutOfMemo
     both_ways(rt, alloc, &acts)
 }
 
+/// Whether the journal of member k begins with a creation by the first member, and has that message as its one commit.
+fn follows_one(world: &World<Glass>, k: usize, commit: usize) -> bool {
+    let (Some(journal), Some(message)) = (world.journal(k), world.message(commit)) else {
+        return false;
+    };
+    let (Some(entry), Some(earlier)) = (journal.latest(), journal.earlier()) else {
+        return false;
+    };
+    let is_first = earlier.latest().is_none() && matches!(earlier.origin(), Origin::Creation(0));
+    entry.commit() == message && entry.names().is_empty() && is_first
+}
+
 #[test]
 fn one_is_added(rt: HostRuntime) -> Result<(), Fail> {
     let mut world = two_members(&rt, rt.alloc())?;
@@ -49,7 +61,8 @@ fn one_is_added(rt: HostRuntime) -> Result<(), Fail> {
         (Act::Deliver(1, Sent::Made(5)), Said::Advanced(2)),
     ];
     assert!(rt; agree(&world, 0, 1));
-    assert!(rt; world.journal(1).is_some());
+    assert!(rt; follows_one(&world, 0, 2));
+    assert!(rt; follows_one(&world, 1, 2));
     assert!(rt; world.journal(2).is_none());
     world.headline();
     run(&rt, rt.alloc(), &mut world, &acts)?;

@@ -1,9 +1,11 @@
-use Rattle.std.proofs.Common.{length, arith, sym, ◌∙◌, ap, eqb-true}
-use Rattle.std.proofs.lemmas.List.{nil_from_length}
+use Rattle.std.proofs.Common.{◌+◌, ◌/◌, length, arith, sym, ◌∙◌, ap, eqb-true}
+use Rattle.std.proofs.lemmas.List.{nil_from_length, take_rest}
 use Rattle.mls_term.specs.Hashes.{tree_hash, original}
 use Rattle.mls_term.specs.Arrays.{term_of}
 use Rattle.mls_term.specs.MemberLaws.{original-none}
-use Rattle.mls_array.proofs.Readings.{in_parts}
+use Rattle.mls_leaf.specs.Parent.{rises}
+use Rattle.mls_array.proofs.Readings.{right_side, in_parts, in_sides}
+use Rattle.mls_array.proofs.Splitting.{right_lists, left_original, right_original}
 use Rattle.mls_array.proofs.Hashed.{hash_sides}
 use Rattle.mls_array.proofs.Original.{added_leaf, same_leaf, original_sides}
 use Rattle.mls_array.proofs.Ties.{left_shape, right_shape, left_count, right_count, left_hashes, right_hashes}
@@ -28,11 +30,13 @@ returns-then-height-eq0 t c =
 
 pub original_of-left-requires : goal.original_of-left-requires
 original_of-left-requires t c =
-    (omega arith, (left_shape c.args.height c.middle_of-middle.result c.args.nodes.now c.args.hashes.now c.middle_of-middle.ensures (omega arith) (omega arith), (left_count c.args.height c.middle_of-middle.result c.args.nodes.now c.args.hashes.now c.middle_of-middle.ensures (omega arith) (omega arith), (omega arith, (c.requires.rise, left_hashes c.args.first c.args.height c.middle_of-middle.result c.args.nodes.now c.args.hashes.now c.middle_of-middle.ensures (omega arith) c.requires.shape c.requires.hashed)))))
+    let parts = in_sides _ _ c.args.nodes.now c.middle_of-middle.ensures (omega arith) in
+    (omega arith, (left_shape c.args.height c.middle_of-middle.result c.args.nodes.now c.args.hashes.now c.middle_of-middle.ensures (omega arith) (omega arith), (left_count c.args.height c.middle_of-middle.result c.args.nodes.now c.args.hashes.now c.middle_of-middle.ensures (omega arith) (omega arith), (omega arith, (c.count_before-count.ensures.front_rises, (left_hashes c.args.first c.args.height c.middle_of-middle.result c.args.nodes.now c.args.hashes.now c.middle_of-middle.ensures (omega arith) c.requires.shape c.requires.hashed, (right_lists _ _ _ _ parts c.args.first c.requires.lists).0))))))
 
 pub original_of-right-requires : goal.original_of-right-requires
 original_of-right-requires t c =
-    (omega arith, (right_shape c.args.height c.middle_of-middle.result c.args.nodes.now c.args.hashes.now c.middle_of-middle.ensures (omega arith) (omega arith), (right_count c.args.height c.middle_of-middle.result c.args.nodes.now c.args.hashes.now c.middle_of-middle.ensures (omega arith) (omega arith), (omega arith, (c.requires.rise, right_hashes c.args.first c.args.height c.middle_of-middle.result c.args.nodes.now c.args.hashes.now c.middle_of-middle.ensures (omega arith) c.requires.shape c.requires.hashed)))))
+    let parts = in_sides _ _ c.args.nodes.now c.middle_of-middle.ensures (omega arith) in
+    (omega arith, (right_shape c.args.height c.middle_of-middle.result c.args.nodes.now c.args.hashes.now c.middle_of-middle.ensures (omega arith) (omega arith), (right_count c.args.height c.middle_of-middle.result c.args.nodes.now c.args.hashes.now c.middle_of-middle.ensures (omega arith) (omega arith), (omega arith, (ap (λ us. rises us) (take_rest c.args.unmerged.now c.count_before-count.result) ∙ c.count_before-count.ensures.back_rises, (right_hashes c.args.first c.args.height c.middle_of-middle.result c.args.nodes.now c.args.hashes.now c.middle_of-middle.ensures (omega arith) c.requires.shape c.requires.hashed, (right_lists _ _ _ _ parts c.args.first c.requires.lists).1))))))
 
 pub original_root-requires-clause-own : goal.original_root-requires-clause-own
 original_root-requires-clause-own t c =
@@ -45,7 +49,13 @@ original_root-requires-clause-own t c =
 pub returns : goal.returns
 returns t c =
     let parts = in_parts _ _ _ _ c.middle_of-middle.ensures (omega arith) c.index-nodes-middle.is in
-    rw (original_sides c.args.unmerged.now c.args.first _ _ _ _ parts, ← c.parent_in-parent.ensures, ← c.original_of-left.ensures, ← c.original_of-right.ensures)
+    let second = c.args.first + (c.middle_of-middle.result / 2 + 1) in
+    let left = c.original_of-left.ensures ∙ left_original _ _ _ _ parts c.args.first c.requires.lists c.args.unmerged.now c.count_before-count.result c.count_before-count.ensures in
+    let right =
+    c.original_of-right.ensures
+    ∙ ap (λ us. tree_hash second (original us second (right_side c.args.height c.middle_of-middle.result c.args.nodes.now))) (take_rest c.args.unmerged.now c.count_before-count.result)
+    ∙ right_original _ _ _ _ parts c.args.first c.requires.lists c.args.unmerged.now c.count_before-count.result c.count_before-count.ensures in
+    rw (original_sides c.args.unmerged.now c.args.first _ _ _ _ parts, ← c.parent_in-parent.ensures, ← left, ← right)
     c.original_root.ensures
 
 pub root_hash-requires : goal.root_hash-requires

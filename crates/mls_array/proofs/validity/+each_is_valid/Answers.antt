@@ -4,6 +4,7 @@ use Rattle.mls_term.specs.Hashes.{is_parent_hash_valid}
 use Rattle.mls_term.specs.Arrays.{term_of}
 use Rattle.mls_array.proofs.Readings.{right_side, in_sides}
 use Rattle.mls_array.proofs.Listed.{each_leaf}
+use Rattle.mls_array.proofs.Splitting.{right_lists}
 use Rattle.mls_array.proofs.Ties.{ok_map, left_shape, right_shape, left_count, right_count, left_hashes, right_hashes, not_root, not_left, then_right}
 use Rattle.mls_array.proofs.validity.+each_is_valid.Goals as goal
 
@@ -12,11 +13,13 @@ returns-then-height-eq0 t c = sym (each_leaf is_parent_hash_valid c.args.first _
 
 pub each_is_valid-requires : goal.each_is_valid-requires
 each_is_valid-requires t c =
-    (omega arith, (left_shape c.args.height c.middle_of-middle.result c.args.nodes.now c.args.hashes.now c.middle_of-middle.ensures (omega arith) (omega arith), (left_count c.args.height c.middle_of-middle.result c.args.nodes.now c.args.hashes.now c.middle_of-middle.ensures (omega arith) (omega arith), (omega arith, left_hashes c.args.first c.args.height c.middle_of-middle.result c.args.nodes.now c.args.hashes.now c.middle_of-middle.ensures (omega arith) c.requires.shape c.requires.hashed))))
+    let parts = in_sides _ _ c.args.nodes.now c.middle_of-middle.ensures (omega arith) in
+    (omega arith, (left_shape c.args.height c.middle_of-middle.result c.args.nodes.now c.args.hashes.now c.middle_of-middle.ensures (omega arith) (omega arith), (left_count c.args.height c.middle_of-middle.result c.args.nodes.now c.args.hashes.now c.middle_of-middle.ensures (omega arith) (omega arith), (omega arith, (left_hashes c.args.first c.args.height c.middle_of-middle.result c.args.nodes.now c.args.hashes.now c.middle_of-middle.ensures (omega arith) c.requires.shape c.requires.hashed, (right_lists _ _ _ _ parts c.args.first c.requires.lists).0)))))
 
 pub each_is_valid-requires-2 : goal.each_is_valid-requires-2
 each_is_valid-requires-2 t c =
-    (omega arith, (right_shape c.args.height c.middle_of-middle.result c.args.nodes.now c.args.hashes.now c.middle_of-middle.ensures (omega arith) (omega arith), (right_count c.args.height c.middle_of-middle.result c.args.nodes.now c.args.hashes.now c.middle_of-middle.ensures (omega arith) (omega arith), (omega arith, right_hashes c.args.first c.args.height c.middle_of-middle.result c.args.nodes.now c.args.hashes.now c.middle_of-middle.ensures (omega arith) c.requires.shape c.requires.hashed))))
+    let parts = in_sides _ _ c.args.nodes.now c.middle_of-middle.ensures (omega arith) in
+    (omega arith, (right_shape c.args.height c.middle_of-middle.result c.args.nodes.now c.args.hashes.now c.middle_of-middle.ensures (omega arith) (omega arith), (right_count c.args.height c.middle_of-middle.result c.args.nodes.now c.args.hashes.now c.middle_of-middle.ensures (omega arith) (omega arith), (omega arith, (right_hashes c.args.first c.args.height c.middle_of-middle.result c.args.nodes.now c.args.hashes.now c.middle_of-middle.ensures (omega arith) c.requires.shape c.requires.hashed, (right_lists _ _ _ _ parts c.args.first c.requires.lists).1)))))
 
 pub returns-then-not-branch : goal.returns-then-not-branch
 returns-then-not-branch t c =

@@ -1,6 +1,7 @@
 use Rattle.std.proofs.Common.{◌≡◌, ◌+◌, ◌/◌, Some, None, sym, ◌∙◌}
 use Rattle.mls_array.specs.Witnesses.{candidate}
 use Rattle.mls_array.proofs.Readings.{left_side, in_sides}
+use Rattle.mls_array.proofs.Splitting.{right_lists}
 use Rattle.mls_array.proofs.Ties.{right_count, right_hashes, untied, tied, left_tie}
 use Rattle.mls_array.proofs.validity.left_ties.Goals as goal
 
@@ -9,6 +10,9 @@ original_of-sibling-requires-clause-hashed c = right_hashes c.args.first c.args.
 
 pub original_of-sibling-requires-clause-long : goal.original_of-sibling-requires-clause-long
 original_of-sibling-requires-clause-long c = right_count c.args.height c.middle_of-middle.result c.args.nodes.now c.args.hashes.now c.middle_of-middle.ensures c.requires.above_leaf (c.requires.long ∙ sym c.requires.shape)
+
+pub original_of-sibling-requires-clause-lists : goal.original_of-sibling-requires-clause-lists
+original_of-sibling-requires-clause-lists c = (right_lists _ _ _ _ (in_sides _ _ c.args.nodes.now c.middle_of-middle.ensures c.requires.above_leaf) c.args.first c.requires.lists).1
 
 pub returns-in-None : goal.returns-in-None
 returns-in-None c =

@@ -6,6 +6,7 @@ use Rattle.mls_tree.proofs.Adding.{add_full, may_add_in, may_add_beside, add_in,
 use Rattle.mls_tree.proofs.Refused.{one_number, not_refused}
 use Rattle.mls_tree.proofs.Keepings.{kept_long, kept-enter, kept-appended}
 use Rattle.mls_term.specs.ArrayLaws.{perfect-term_of}
+use Rattle.mls_tree.proofs.Bounding.{from_there, found_low, added, added_beside as bounds_beside}
 use Rattle.mls_tree.proofs.Chilling.{added_in, added_beside}
 use Rattle.mls_tree.proofs.tree.PublicTree.add.Goals as goal
 
@@ -69,17 +70,26 @@ returns-in_err-leaf-in-None-clause-outright c = λ n h.
 pub drop_way-requires-clause-shape : goal.drop_way-requires-clause-shape
 drop_way-requires-clause-shape c = kept_long c.self.inside.height c.self.inside.nodes.items _ c.self.invariant.2
 
+pub first_blank-requires-clause-taken : goal.first_blank-requires-clause-taken
+first_blank-requires-clause-taken c = from_there _ _ _ _ _ c.deref.ensures.value c.self.invariant.3
+
+pub overflow_add-self : goal.overflow_add-self
+overflow_add-self c = let low = found_low _ _ _ _ _ c.deref.ensures.value c.self.invariant.3 _ c.self.invariant.1 c.in-Some.ensures in omega arith
+
+pub overflow_add-i : goal.overflow_add-i
+overflow_add-i c = let low = found_low _ _ _ _ _ c.deref.ensures.value c.self.invariant.3 _ c.self.invariant.1 c.in-Some.ensures in omega arith
+
 pub invariant_of-self-in-Some : goal.invariant_of-self-in-Some
 invariant_of-self-in-Some c =
     let stands = rw c.in_ok-leaf-in-Some.ensures at c.in_ok-enter-in-Some.ensures.ok in
-    (stands.stands, c.self.invariant.1, kept-enter _ _ _ c.self.invariant.2 _ _ _ _ _ (c.drop_way.ensures.kept _ (perfect-term_of _ _)) stands)
+    (stands.stands, c.self.invariant.1, kept-enter _ _ _ c.self.invariant.2 _ _ _ _ _ (c.drop_way.ensures.kept _ (perfect-term_of _ _)) stands, added _ _ _ _ _ c.deref.ensures.value c.self.invariant.3 _ _ _ _ _ c.in-Some.ensures stands (omega arith) (omega arith))
 
 pub invariant_of-self-in-None : goal.invariant_of-self-in-None
 invariant_of-self-in-None c =
     let stands = rw c.in_ok-leaf-in-None.ensures at c.in_ok-append-in-None.ensures.ok in
     let low = c.self.invariant.1 in
     let other = c.if-height-eq-MAX_HEIGHT.false in
-    (stands.stands, omega arith, kept-appended _ _ _ _ _ _ _ c.self.invariant.2 c.in_ok-append-in-None.ensures.kept stands)
+    (stands.stands, omega arith, kept-appended _ _ _ _ _ _ _ c.self.invariant.2 c.in_ok-append-in-None.ensures.kept stands, bounds_beside _ _ _ _ _ c.deref.ensures.value c.self.invariant.3 _ _ _ _ c.in-None.ensures stands (let is = one_shl c.self.inside.height 32 (omega arith) in omega arith))
 
 pub returns-in_ok-enter-in-Some-clause-cold : goal.returns-in_ok-enter-in-Some-clause-cold
 returns-in_ok-enter-in-Some-clause-cold c =

@@ -1,5 +1,7 @@
 use Rattle.std.proofs.Common.{true, subst, ap, ◌∙◌, sym, length, arith}
+use Rattle.std.proofs.lemmas.Nat.{one_shl}
 use Rattle.mls_tree.proofs.Keepings.{cold_by}
+use Rattle.mls_tree.proofs.Bounding.{unknown}
 use Rattle.mls_term.specs.Term.{is_full_width}
 use Rattle.mls_term.specs.Good.{has_good_shape}
 use Rattle.mls_term.specs.Arrays.{has_last, alternates, term_of}
@@ -47,7 +49,7 @@ invariant_of-result c =
     let last = ap has_last (sym c.deref.ensures.value) ∙ sym c.has_last.ensures ∙ c.if-not-has_last.false in
     let placed = ap (alternates true) (sym c.deref-2.ensures.value) ∙ sym c.alternates.ensures ∙ c.if-not-alternates.false in
     let stands = stands_as c.args.nodes.items last placed _ _ c.in_ok-height.ensures.height c.in_ok-height.ensures.ok in
-    (stands, let low = c.if-height-gt-MAX_HEIGHT.false in omega arith, cold_by c.in_ok-height.height _ _ _ _ c.in_ok-hashes.ensures (c.len.ensures ∙ c.pad_tree.new.nodes.ok.0 ∙ stands.size))
+    (stands, let low = c.if-height-gt-MAX_HEIGHT.false in omega arith, cold_by c.in_ok-height.height _ _ _ _ c.in_ok-hashes.ensures (c.len.ensures ∙ c.pad_tree.new.nodes.ok.0 ∙ stands.size), unknown c.in_ok-height.height _ _ (let low = c.if-height-gt-MAX_HEIGHT.false in one_shl c.in_ok-height.height 32 (omega arith)))
 
 pub returns-clause-answer : goal.returns-clause-answer
 returns-clause-answer c =

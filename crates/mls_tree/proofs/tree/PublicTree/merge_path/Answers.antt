@@ -7,6 +7,7 @@ use Rattle.mls_tree.specs.Cold.{Chills}
 use Rattle.mls_tree.specs.Tree.{term}
 use Rattle.mls_tree.proofs.Keeping.{merge_checked, merge_new, merge_member}
 use Rattle.mls_tree.proofs.Keepings.{kept_long, kept-merge}
+use Rattle.mls_tree.proofs.Bounding.{merged}
 use Rattle.mls_tree.proofs.Pathing.{merge_refused, merge_done}
 use Rattle.mls_tree.proofs.Chilling.{tree_of, warmed, edited_in, on_err}
 use Rattle.mls_tree.proofs.tree.PublicTree.merge_path.Goals as goal
@@ -22,7 +23,7 @@ pub invariant_of-self : goal.invariant_of-self
 invariant_of-self c =
     let made = c.in-Ok.ensures.parents ∙ ap (λ t. path_parents 0 (term t) c.args.i (reverse c.args.keys.items) []) (sym c.self.view_is) in
     let stands = c.merge.ensures c.args.keys.items made in
-    (stands.stands, c.self.invariant.1, kept-merge _ _ _ c.self.invariant.2 _ _ _ _ _ _ (c.drop_way.ensures.kept _ (perfect-term_of _ _)) stands)
+    (stands.stands, c.self.invariant.1, kept-merge _ _ _ c.self.invariant.2 _ _ _ _ _ _ (c.drop_way.ensures.kept _ (perfect-term_of _ _)) stands, merged _ _ _ _ _ (ap term c.self.view_is) c.self.invariant.3 _ _ _ _ _ stands (merge_member _ _ _ _ _ (merge_done _ _ _ _ c.in-Ok.ensures.checks)))
 
 pub returns-clause-answer : goal.returns-clause-answer
 returns-clause-answer c =

@@ -6,6 +6,7 @@ use Rattle.mls_tree.specs.Faults.{number_of}
 use Rattle.mls_tree.proofs.Keeping.{remove_good, remove_sound}
 use Rattle.mls_tree.proofs.Answering.{remove_refused, remove_done}
 use Rattle.mls_tree.proofs.Keepings.{kept_long, kept-put, kept-trimmed}
+use Rattle.mls_tree.proofs.Bounding.{removed, removal_end}
 use Rattle.mls_term.specs.ArrayLaws.{perfect-term_of}
 use Rattle.mls_tree.proofs.Chilling.{trimmed_in}
 use Rattle.mls_tree.proofs.tree.PublicTree.remove.Goals as goal
@@ -30,12 +31,15 @@ returns-clause-sound c = remove_sound _ _ c.args.i (returns-clause-answer c)
 pub drop_way-requires-clause-shape : goal.drop_way-requires-clause-shape
 drop_way-requires-clause-shape c = kept_long c.self.inside.height c.self.inside.nodes.items _ c.self.invariant.2
 
+pub taken_end-end-requires-clause-blank : goal.taken_end-end-requires-clause-blank
+taken_end-end-requires-clause-blank c = removal_end _ _ _ _ _ (ap term c.self.view_is) c.self.invariant.3 _ _ _ _ c.deref.ensures.value c.put.ensures c.in-Ok.ensures
+
 pub invariant_of-self : goal.invariant_of-self
 invariant_of-self c =
     let low = c.self.invariant.1 in
     let small = c.trim-self-inside.ensures.low in
     let kept = kept-put _ _ _ c.self.invariant.2 _ _ _ _ _ (c.drop_way.ensures.kept _ (perfect-term_of _ _)) c.put.ensures in
-    (c.trim-self-inside.ensures.order.stands, omega arith, kept-trimmed _ _ _ _ _ _ _ kept c.trim-self-inside.ensures.order (c.len.ensures ∙ c.trim-self-inside.new.nodes.ok.0) (ap (λ h. h.kept) c.cut.ensures))
+    (c.trim-self-inside.ensures.order.stands, omega arith, kept-trimmed _ _ _ _ _ _ _ kept c.trim-self-inside.ensures.order (c.len.ensures ∙ c.trim-self-inside.new.nodes.ok.0) (ap (λ h. h.kept) c.cut.ensures), removed _ _ _ _ _ (ap term c.self.view_is) c.self.invariant.3 _ _ _ _ _ _ _ _ c.deref.ensures.value c.put.ensures c.trim-self-inside.ensures.order c.in-Ok.ensures (omega arith) (omega arith) c.taken_end-end.ensures)
 
 pub returns-clause-cold : goal.returns-clause-cold
 returns-clause-cold c =

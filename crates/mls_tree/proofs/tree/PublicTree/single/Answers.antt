@@ -1,6 +1,7 @@
-use Rattle.std.proofs.Common.{arith, subst, sym, ap, ◌∙◌}
+use Rattle.std.proofs.Common.{refl, arith, subst, sym, ap, ◌∙◌}
 use Rattle.mls_treemath.specs.Sizes.{nodes_in-zero}
 use Rattle.mls_tree.proofs.Keepings.{cold_by}
+use Rattle.mls_tree.proofs.Bounding.{unknown}
 use Rattle.mls_term.specs.Good.{IsGood}
 use Rattle.mls_term.specs.KeptLaws.{good_single}
 use Rattle.mls_tree.proofs.Singles.{single_stands}
@@ -9,7 +10,7 @@ use Rattle.mls_tree.proofs.Chilling.{new_tree}
 use Rattle.mls_tree.proofs.tree.PublicTree.single.Goals as goal
 
 pub invariant_of-result : goal.invariant_of-result
-invariant_of-result c = ((single_stands c.args.leaf _ (rw (c.in_ok-nodes.ensures.items, c.into_slot.ensures, c.in_ok-leaf.ensures) at c.in_ok-push.ensures.items)).stands, omega arith, cold_by 0 1 0 _ _ c.in_ok-hashes.ensures (sym nodes_in-zero))
+invariant_of-result c = ((single_stands c.args.leaf _ (rw (c.in_ok-nodes.ensures.items, c.into_slot.ensures, c.in_ok-leaf.ensures) at c.in_ok-push.ensures.items)).stands, omega arith, cold_by 0 1 0 _ _ c.in_ok-hashes.ensures (sym nodes_in-zero), unknown 0 1 _ refl)
 
 pub returns-clause-tree : goal.returns-clause-tree
 returns-clause-tree c = (single_stands c.args.leaf _ (rw (c.in_ok-nodes.ensures.items, c.into_slot.ensures, c.in_ok-leaf.ensures) at c.in_ok-push.ensures.items)).term

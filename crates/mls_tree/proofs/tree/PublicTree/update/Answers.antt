@@ -7,6 +7,7 @@ use Rattle.mls_tree.proofs.Keeping.{update_good, update_sound}
 use Rattle.mls_tree.proofs.Answering.{update_refused, update_done}
 use Rattle.mls_tree.proofs.Refused.{one_number, not_refused}
 use Rattle.mls_tree.proofs.Keepings.{kept_long, kept-put}
+use Rattle.mls_tree.proofs.Bounding.{updated}
 use Rattle.mls_term.specs.ArrayLaws.{perfect-term_of}
 use Rattle.mls_tree.proofs.Chilling.{edited_in}
 use Rattle.mls_tree.proofs.tree.PublicTree.update.Goals as goal
@@ -39,7 +40,7 @@ drop_way-requires-clause-shape c = kept_long c.self.inside.height c.self.inside.
 
 pub invariant_of-self : goal.invariant_of-self
 invariant_of-self c =
-    (c.put.ensures.stands, c.self.invariant.1, kept-put _ _ _ c.self.invariant.2 _ _ _ _ _ (c.drop_way.ensures.kept _ (perfect-term_of _ _)) c.put.ensures)
+    (c.put.ensures.stands, c.self.invariant.1, kept-put _ _ _ c.self.invariant.2 _ _ _ _ _ (c.drop_way.ensures.kept _ (perfect-term_of _ _)) c.put.ensures, updated _ _ _ _ _ (ap term c.self.view_is) c.self.invariant.3 _ _ _ _ c.put.ensures c.in-Ok.ensures)
 
 pub returns-clause-cold : goal.returns-clause-cold
 returns-clause-cold c =

@@ -1,0 +1,60 @@
+//! Calls on a member, and their answers.
+
+ghost use Rattle.std.specs.Prelude.{IfOk};
+ghost use Rattle.mls_member.specs.Answers.{IsShortItem};
+ghost use Rattle.mls_growths.specs.Calls.{IsShortCall};
+
+use anyhow::Result;
+use mls_kdf::Seed;
+use mls_leaf::Proposal;
+use mls_member::{Candidate, Effect, Item, Made, Member, Refusal};
+use mls_suite::Glass;
+
+/// A call on a member.
+#[derive(Drop)]
+pub(crate) enum Call {
+    /// Commits a list, with a path.
+    Commit(Vec<Item>, Seed),
+    Process(Vec<u8>),
+    ProposeAdd(Candidate<Glass>),
+    ProposeUpdate(Seed),
+    ProposeRemove(u32),
+}
+
+/// What a call answers.
+#[derive(Drop)]
+pub(crate) enum Answer {
+    Made(Made),
+    Did(Effect),
+    Message(Vec<u8>),
+}
+
+/// The proposal that adds a candidate.
+pub(crate) fn addition(candidate: &Candidate<Glass>) -> Result<Item>
+    ensures { IfOk result IsShortItem }
+{
+    candidate.is_short();
+    Ok(Item::Full(Proposal::Add(candidate.key_package().clone()?)))
+}
+
+/// The message of the proposal to add a candidate.
+fn proposed_add(
+    member: &mut Member<Glass>,
+    candidate: &Candidate<Glass>,
+) -> Result<Vec<u8>, Refusal> {
+    candidate.is_short();
+    member.propose_add(candidate.key_package())
+}
+
+/// What a member answers to a call.
+pub(crate) fn answer_of(member: &mut Member<Glass>, call: &Call) -> Result<Answer, Refusal>
+    requires { IsShortCall call.now }
+{
+    match call {
+        Call::Commit(items, seed) => Ok(Answer::Made(member.commit(items, true, seed)?)),
+        Call::Process(bytes) => Ok(Answer::Did(member.process(bytes)?)),
+        Call::ProposeAdd(candidate) => Ok(Answer::Message(proposed_add(member, candidate)?)),
+        Call::ProposeUpdate(seed) => Ok(Answer::Message(member.propose_update(seed)?)),
+        Call::ProposeRemove(leaf) => Ok(Answer::Message(member.propose_remove(*leaf)?)),
+    }
+}

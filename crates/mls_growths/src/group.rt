@@ -1,0 +1,162 @@
+//! Small groups "g" over Glass. A seed is one byte, 32 times.
+
+ghost use Rattle.std.specs.Prelude.{IfOk};
+ghost use Rattle.mls_member.specs.Answers.{AreShortItems};
+ghost use Rattle.mls_growths.specs.Calls.{IsShortCall};
+
+use crate::call::{Answer, Call, addition, answer_of};
+use anyhow::{Result, bail};
+use mls_kdf::Secret;
+use mls_member::{Candidate, Effect, Item, Made, Member};
+use mls_suite::Glass;
+use std::alloc::Global;
+
+/// A candidate with a name of one byte.
+pub(crate) fn candidate(alloc: Global, name: u8, seed: u8) -> Result<Candidate<Glass>> {
+    Ok(Candidate::new(alloc, &[name], &[seed; 32])?)
+}
+
+/// The member "a" alone.
+pub(crate) fn alone(alloc: Global) -> Result<Member<Glass>> {
+    let first = candidate(alloc, b'a', 1)?;
+    Ok(Member::create(alloc, &first, b"g", &[2; 32])?)
+}
+
+/// The Welcome of a commit that adds somebody.
+pub(crate) fn welcome_of(made: Made) -> Result<Vec<u8>> {
+    let Made { welcome, .. } = made;
+    match welcome {
+        Some(welcome) => Ok(welcome),
+        None => bail!("nobody is welcome"),
+    }
+}
+
+/// The members "a", "b" and "c".
+#[derive(Drop)]
+pub(crate) struct Trio {
+    pub first: Member<Glass>,
+    pub second: Member<Glass>,
+    pub third: Member<Glass>,
+}
+
+/// The Welcome of the commit by which a member adds two candidates.
+fn added(member: &mut Member<Glass>, candidates: &[Candidate<Glass>; 2]) -> Result<Vec<u8>> {
+    let items = [addition(&candidates[0])?, addition(&candidates[1])?];
+    let made = member.commit(&items, true, &[4; 32])?;
+    member.process(&made.commit)?;
+    welcome_of(made)
+}
+
+/// Two candidates join by one Welcome.
+fn joined_by(
+    alloc: Global,
+    first: Member<Glass>,
+    candidates: &[Candidate<Glass>; 2],
+    welcome: &[u8],
+) -> Result<Trio> {
+    let second = Member::join(alloc, &candidates[0], welcome)?.member;
+    let third = Member::join(alloc, &candidates[1], welcome)?.member;
+    Ok(Trio {
+        first,
+        second,
+        third,
+    })
+}
+
+impl Trio {
+    /// "a" adds "b" and "c", who join.
+    pub(crate) fn new(alloc: Global) -> Result<Trio> {
+        let mut first = alone(alloc)?;
+        let candidates = [candidate(alloc, b'b', 3)?, candidate(alloc, b'c', 5)?];
+        let welcome = added(&mut first, &candidates)?;
+        joined_by(alloc, first, &candidates, &welcome)
+    }
+}
+
+/// The reference under which a member keeps a proposal from now on.
+fn kept_under(member: &mut Member<Glass>, message: &[u8]) -> Result<Secret> {
+    match member.process(message)? {
+        Effect::Proposed { reference } => Ok(reference),
+        _ => bail!("the proposal isn't kept"),
+    }
+}
+
+/// A trio whose second member proposed an update, which the third keeps too.
+#[derive(Drop)]
+pub(crate) struct Updated {
+    pub group: Trio,
+    pub update: Vec<u8>,
+    pub reference: Secret,
+}
+
+impl Updated {
+    /// The second proposes, and the third gets the message.
+    pub(crate) fn new(alloc: Global) -> Result<Updated> {
+        let mut group = Trio::new(alloc)?;
+        let update = group.second.propose_update(&[6; 32])?;
+        let reference = kept_under(&mut group.third, &update)?;
+        Ok(Updated {
+            group,
+            update,
+            reference,
+        })
+    }
+}
+
+/// The list of a commit that names one proposal.
+pub(crate) fn named(alloc: Global, reference: &Secret) -> Result<Vec<Item>>
+    ensures { IfOk result (λ items. AreShortItems items.items) }
+{
+    let mut items = Vec::new(alloc);
+    items.push(Item::Ref(Vec::from_slice(alloc, reference)?))?;
+    Ok(items)
+}
+
+/// The commit of a proposal, by a member that gets it first.
+fn commit_of(
+    alloc: Global,
+    member: &mut Member<Glass>,
+    message: &[u8],
+    reference: &Secret,
+) -> Result<Vec<u8>> {
+    member.process(message)?;
+    let items = named(alloc, reference)?;
+    let made = member.commit(&items, true, &[7; 32])?;
+    Ok(made.commit)
+}
+
+/// Such a trio whose first member committed the update by its reference.
+#[derive(Drop)]
+pub(crate) struct Committed {
+    pub group: Trio,
+    pub commit: Vec<u8>,
+    pub reference: Secret,
+}
+
+impl Committed {
+    /// The first gets the proposal and commits it.
+    pub(crate) fn new(alloc: Global) -> Result<Committed> {
+        let Updated {
+            mut group,
+            update,
+            reference,
+        } = Updated::new(alloc)?;
+        let commit = commit_of(alloc, &mut group.first, &update, &reference)?;
+        Ok(Committed {
+            group,
+            commit,
+            reference,
+        })
+    }
+}
+
+/// The reference of the proposal that the second of a trio would make by a call.
+pub(crate) fn reference_of(alloc: Global, call: &Call) -> Result<Secret>
+    requires { IsShortCall call.now }
+{
+    let mut group = Trio::new(alloc)?;
+    match answer_of(&mut group.second, call)? {
+        Answer::Message(message) => kept_under(&mut group.first, &message),
+        _ => bail!("no proposal"),
+    }
+}
