@@ -1,6 +1,6 @@
 //! Commits of members.
 
-ghost use Rattle.std.specs.Prelude.{◌≡◌, ◌<◌, ℕ, Some, None, is_some, option_map, length, map, slice_get, IfOk, IfErr, OnErr};
+ghost use Rattle.std.specs.Prelude.{◌≡◌, ◌<◌, ℕ, Some, None, Err, is_some, option_map, length, map, slice_get, IfOk, IfErr, OnErr};
 ghost use Rattle.std.specs.Global.{Vec};
 ghost use Rattle.mls_wire.specs.Checks.{DoesAs};
 ghost use Rattle.mls_member.specs.Answers.{messages_of, AreShortItems};
@@ -186,7 +186,9 @@ impl<S: Suite> PlainWorld<S> {
     /// A member forgets its pending commit, and it is answered whether there was one: 90 no such member. It takes no memory.
     #[tactic(auto, using(crate::proofs::Committing::drop_nobody))]
     pub fn drop_pending(&mut self, member: usize) -> Result<bool, WorldError>
-        ensures { DoesAs (λ b. reply.Dropped b) number_of (drop_answer self.old member) self.old self.new result }
+        ensures does { DoesAs (λ b. reply.Dropped b) number_of (drop_answer self.old member) self.old self.new result }
+        // No want of memory.
+        ensures outright { IfErr result (λ e. drop_answer self.old member ≡ Err (number_of e)) }
     {
         self.require_member(member)?;
         Ok(self.forget(member))

@@ -7,7 +7,7 @@ ghost use Rattle.mls_growths.specs.Calls.{IsShortCall};
 use crate::call::{Answer, Call, addition, answer_of};
 use anyhow::{Result, bail};
 use mls_kdf::Secret;
-use mls_member::{Candidate, Effect, Item, Made, Member};
+use mls_member::{Candidate, Effect, Item, Joined, Made, Member};
 use mls_suite::Glass;
 use std::alloc::Global;
 
@@ -16,10 +16,15 @@ pub(crate) fn candidate(alloc: Global, name: u8, seed: u8) -> Result<Candidate<G
     Ok(Candidate::new(alloc, &[name], &[seed; 32])?)
 }
 
+/// A member in a box, whose drop is one call for the prover.
+fn boxed(alloc: Global, member: Member<Glass>) -> Result<Box<Member<Glass>>> {
+    Ok(Box::new(alloc, member)?)
+}
+
 /// The member "a" alone.
-pub(crate) fn alone(alloc: Global) -> Result<Member<Glass>> {
+pub(crate) fn alone(alloc: Global) -> Result<Box<Member<Glass>>> {
     let first = candidate(alloc, b'a', 1)?;
-    Ok(Member::create(alloc, &first, b"g", &[2; 32])?)
+    boxed(alloc, Member::create(alloc, &first, b"g", &[2; 32])?)
 }
 
 /// The Welcome of a commit that adds somebody.
@@ -34,9 +39,9 @@ pub(crate) fn welcome_of(made: Made) -> Result<Vec<u8>> {
 /// The members "a", "b" and "c".
 #[derive(Drop)]
 pub(crate) struct Trio {
-    pub first: Member<Glass>,
-    pub second: Member<Glass>,
-    pub third: Member<Glass>,
+    pub first: Box<Member<Glass>>,
+    pub second: Box<Member<Glass>>,
+    pub third: Box<Member<Glass>>,
 }
 
 /// The Welcome of the commit by which a member adds two candidates.
@@ -47,20 +52,14 @@ fn added(member: &mut Member<Glass>, candidates: &[Candidate<Glass>; 2]) -> Resu
     welcome_of(made)
 }
 
-/// Two candidates join by one Welcome.
-fn joined_by(
+/// The member that a candidate becomes by a Welcome.
+fn joined(
     alloc: Global,
-    first: Member<Glass>,
-    candidates: &[Candidate<Glass>; 2],
+    candidate: &Candidate<Glass>,
     welcome: &[u8],
-) -> Result<Trio> {
-    let second = Member::join(alloc, &candidates[0], welcome)?.member;
-    let third = Member::join(alloc, &candidates[1], welcome)?.member;
-    Ok(Trio {
-        first,
-        second,
-        third,
-    })
+) -> Result<Box<Member<Glass>>> {
+    let Joined { member, .. } = Member::join(alloc, candidate, welcome)?;
+    boxed(alloc, member)
 }
 
 impl Trio {
@@ -69,7 +68,13 @@ impl Trio {
         let mut first = alone(alloc)?;
         let candidates = [candidate(alloc, b'b', 3)?, candidate(alloc, b'c', 5)?];
         let welcome = added(&mut first, &candidates)?;
-        joined_by(alloc, first, &candidates, &welcome)
+        let second = joined(alloc, &candidates[0], &welcome)?;
+        let third = joined(alloc, &candidates[1], &welcome)?;
+        Ok(Trio {
+            first,
+            second,
+            third,
+        })
     }
 }
 

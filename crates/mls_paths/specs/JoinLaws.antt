@@ -43,7 +43,7 @@ pub record Sounds (c : Crypto) (j : ℕ) (p : Option Parent) (m m' : Climb) : Ty
   pub keys_are : m'.keys ≡ top ∷ m.keys
   pub sound : Sound c j p top
 
-not_and : (a b : Bool) → (not a && b) ≡ true → (a ≡ false) × (b ≡ true)
+pub not_and : (a b : Bool) → (not a && b) ≡ true → (a ≡ false) × (b ≡ true)
 not_and true b h = cc
 not_and false b h = (refl, h)
 
@@ -134,12 +134,12 @@ due_here : (j : ℕ) (p : Option Parent) → is_due j p None ≡ true → ListsA
 due_here j None d = tt
 due_here j (Some p) d = sym (or-false (has p.unmerged_leaves j)) ∙ d
 
-listed_due : (j : ℕ) (ss : List Step) (sk : List ℕ) → AllList j ss → is_complete j ss (leaf_only ss sk) ≡ true
+pub listed_due : (j : ℕ) (ss : List Step) (sk : List ℕ) → AllList j ss → is_complete j ss (leaf_only ss sk) ≡ true
 unfolding AllList is_complete leaf_only
 listed_due j [] sk a = refl
 listed_due j (s ∷ ss) sk a = let e = here_due j s.parent a.0 in rw e (listed_due j ss sk a.1)
 
-due_listed : (j : ℕ) (ss : List Step) (sk : List ℕ) → is_complete j ss (leaf_only ss sk) ≡ true → AllList j ss
+pub due_listed : (j : ℕ) (ss : List Step) (sk : List ℕ) → is_complete j ss (leaf_only ss sk) ≡ true → AllList j ss
 unfolding AllList is_complete leaf_only
 due_listed j [] sk d = tt
 due_listed j (s ∷ ss) sk d =

@@ -32,7 +32,9 @@ pub mod OpenLaws
 pub mod JoinLaws
 pub mod CommitLaws
 pub mod WholeLaws
+pub mod NumberLaws
 pub mod AnyPathLaws
+pub mod TakeLaws
 pub mod ForkLaws
 pub mod SecretLaws
 pub mod MemberLaws

@@ -29,7 +29,7 @@ unsealed c l context secret k rnd x e = by_sealing (encrypt_with_label c (c.publ
         subst (λ (z : HpkeCiphertext). decrypt_with_label c k (codes "UpdatePathNode") context z.kem_output z.ciphertext ≡ Some secret) same (opens_sealed c l k (codes "UpdatePathNode") context secret rnd s q)
     by_sealing None q e = cc
 
-cons_is : {A : Type 0} (o : Option A) (os : Option (List A)) (zs : List A) → cons_both o os ≡ Some zs → (x : A) × (xs : List A) × (o ≡ Some x) × (os ≡ Some xs) × (zs ≡ x ∷ xs)
+pub cons_is : {A : Type 0} (o : Option A) (os : Option (List A)) (zs : List A) → cons_both o os ≡ Some zs → (x : A) × (xs : List A) × (o ≡ Some x) × (os ≡ Some xs) × (zs ≡ x ∷ xs)
 cons_is (Some x) (Some xs) zs h = (x, xs, refl, refl, cc)
 cons_is (Some x) None zs h = cc
 cons_is None os zs h = cc
@@ -38,7 +38,7 @@ sealed_to : (c : Crypto) (context secret : List ℕ) (key : Option (List ℕ)) (
 sealed_to c context secret (Some pk) rnd x h = record { pk = pk; rnd = rnd; key_is = refl; seals = h }
 sealed_to c context secret None rnd x h = cc
 
-sealed_all : (c : Crypto) (context secret : List ℕ) (b : ℕ) (t : Term) (rnd : ℕ → List ℕ) (i : ℕ) (ds : List ℕ) (xs : List HpkeCiphertext) → seal_all c context secret b t rnd i ds ≡ Some xs → IsSealedToAll c context secret b t ds xs
+pub sealed_all : (c : Crypto) (context secret : List ℕ) (b : ℕ) (t : Term) (rnd : ℕ → List ℕ) (i : ℕ) (ds : List ℕ) (xs : List HpkeCiphertext) → seal_all c context secret b t rnd i ds ≡ Some xs → IsSealedToAll c context secret b t ds xs
 unfolding seal_all IsSealedToAll
 sealed_all c context secret b t rnd i [] [] h = tt
 sealed_all c context secret b t rnd i [] (x ∷ xs) h = cc
@@ -47,7 +47,7 @@ sealed_all c context secret b t rnd i (d ∷ ds) xs h =
     subst (λ (zs : List HpkeCiphertext). IsSealedToAll c context secret b t (d ∷ ds) zs) (sym e.4)
     (sealed_to c context secret (key_at b t d) (rnd i) e.0 e.2, sealed_all c context secret b t rnd (suc i) ds e.1 e.3)
 
-with_is : (k : List ℕ) (o : Option (List HpkeCiphertext)) (n : UpdatePathNode) → with_ciphertexts k o ≡ Some n → (xs : List HpkeCiphertext) × (o ≡ Some xs) × (n ≡ record { encryption_key = k; ciphertexts = xs })
+pub with_is : (k : List ℕ) (o : Option (List HpkeCiphertext)) (n : UpdatePathNode) → with_ciphertexts k o ≡ Some n → (xs : List HpkeCiphertext) × (o ≡ Some xs) × (n ≡ record { encryption_key = k; ciphertexts = xs })
 with_is k (Some xs) n h = let made : UpdatePathNode = record { encryption_key = k; ciphertexts = xs } in let e : made ≡ n = cc in (xs, refl, sym e)
 with_is k None n h = cc
 

@@ -1,13 +1,15 @@
 -- The laws of a member's private keys in whole trees, as calls on them need them.
-use Rattle.std.specs.Prelude.{◌≡◌, ℕ, true, false, List, map, length, reverse, Some, IsSome, Ok, Err, ◌*◌, take, ◌≤◌}
-use Rattle.std.specs.List.{list_all, slice_get}
+use Rattle.std.specs.Prelude.{◌≡◌, ℕ, true, false, if◌then◌else◌, List, [], ◌∷◌, map, find, length, reverse, Option, Some, None, IsSome, Ok, Err, ◌*◌, take, ◌≤◌}
+use Rattle.std.specs.List.{list_all, slice_get, flat_map, AllByRecursion}
 use Rattle.mls_treemath.specs.Steps.{height_of, common_ancestor_of}
+use Rattle.mls_group.specs.declared.update_path.HpkeCiphertext.{HpkeCiphertext}
 use Rattle.mls_group.specs.declared.update_path.UpdatePathNode.{UpdatePathNode}
+use Rattle.mls_leaf.specs.Parent.{Parent}
 use Rattle.mls_leaf.specs.declared.leaf.LeafNode.{LeafNode}
 use Rattle.mls_suite.specs.Crypto.{Crypto, Lawful}
 use Rattle.mls_term.specs.Sets.{has}
 use Rattle.mls_term.specs.Term.{Term, width, is_perfect, leaf_at}
-use Rattle.mls_term.specs.Way.{way, filtered_way, filtered_path, path_length}
+use Rattle.mls_term.specs.Way.{Step, way, is_beside, filtered_way, filtered_path, path_length}
 use Rattle.mls_term.specs.Edits.{place_in, add, update, remove}
 use Rattle.mls_term.specs.Keys.{encryption_keys}
 use Rattle.mls_term.specs.Merge.{merge_path}
@@ -17,9 +19,10 @@ use Rattle.mls_paths.specs.Keys.{Keys, Exact}
 use Rattle.mls_paths.specs.Follow.{Follows}
 use Rattle.mls_paths.specs.Make.{Climb, made_keys}
 use Rattle.mls_paths.specs.Lists.{ListsBelow}
-use Rattle.mls_paths.specs.Seal.{targets, sealed_path, sealed_with, targets_fit}
+use Rattle.mls_paths.specs.Seal.{targets, seal_secret, sealed_path, sealed_with, targets_fit}
+use Rattle.mls_paths.specs.Seeds.{seals_in}
 use Rattle.mls_paths.specs.Open.{opened_secret, filtered_from, opened_path}
-use Rattle.mls_paths.specs.Join.{take_keys, AllList, secret_for, secret_among}
+use Rattle.mls_paths.specs.Join.{take_keys, take_answer, AllList, secret_for, secret_among}
 use Rattle.mls_paths.specs.Laws.{AreTwo}
 
 -- ---- edits
@@ -126,6 +129,27 @@ SecretIsAmong = (t : Term) (i j : ℕ) (start : List ℕ) (n : ℕ) → path_len
 abbrev pub SecretAtAncestor : Type 0
 SecretAtAncestor = (h : ℕ) (t : Term) (i j : ℕ) (start : List ℕ) → is_perfect h t ≡ true → height_of (width t) ≡ Some h → AreTwo 0 t i j → IsSome (leaf_at 0 t j) → IsAtAncestor t i j start
 
+-- ---- the numbers of seals
+
+-- the ciphertexts of a path, node by node
+abbrev pub ciphertexts_in : List UpdatePathNode → List HpkeCiphertext
+ciphertexts_in path = flat_map (λ (n : UpdatePathNode). n.ciphertexts) path
+
+-- a ciphertext is some path secret sealed to some key, with the randomness of this number
+pub record IsSealedUnder (c : Crypto) (context : List ℕ) (rnd : ℕ → List ℕ) (number : ℕ) (x : HpkeCiphertext) : Type 0 where
+  pub secret : List ℕ
+  pub key : List ℕ
+  pub seals : seal_secret c context secret key (rnd number) ≡ Some x
+
+-- the number of a seal of a path is its place among all ciphertexts, the lowest node's first, so that no two have one
+abbrev pub SealedByNumber : Type 0
+SealedByNumber = (c : Crypto) (context : List ℕ) (added : List ℕ) (rnd : ℕ → List ℕ) (t : Term) (i : ℕ) (start : List ℕ) (path : List UpdatePathNode) → sealed_path c context added rnd t i start ≡ Ok path →
+    (k : ℕ) (x : HpkeCiphertext) → slice_get (ciphertexts_in path) k ≡ Some x → IsSealedUnder c context rnd k x
+
+-- and there are as many as are counted for the number of the first seal behind the path
+abbrev pub SealsAreCounted : Type 0
+SealsAreCounted = (path : List UpdatePathNode) → length (ciphertexts_in path) ≡ seals_in path
+
 -- ---- any path, whoever made it
 
 -- where no secret is opened, it is refused with that number
@@ -155,3 +179,34 @@ TakenAgrees = (c : Crypto) (t : Term) (i j : ℕ) (x y : LeafNode) (start own : 
 -- the secret that a joiner is sent is the same, read in the tree before the path or after
 abbrev pub SecretForMerged : Type 0
 SecretForMerged = (t : Term) (i j : ℕ) (x : LeafNode) (keys : List (List ℕ)) (start : List ℕ) → secret_for (way 0 (merge_path t i x keys) i) j start ≡ secret_for (way 0 t i) j start
+
+-- ---- any path secret, whoever sent it
+
+abbrev pub with_parent : Option Parent → List Parent → List Parent
+with_parent None ps = ps
+with_parent (Some p) ps = p ∷ ps
+
+-- the parents of a way that aren't blank, down to the one where leaf j's way parts from it, the highest first
+unfoldable pub parents_over : List Step → ℕ → List Parent
+parents_over [] j = []
+parents_over (s ∷ ss) j = with_parent s.parent (if is_beside s j then [] else parents_over ss j)
+
+-- a path secret fits a way over leaf j (RFC 9420, 12.4.3.1): the parent where the ways part is there, it and those above
+-- don't list j and have the public keys of the chain from this secret, and those below on j's way list j
+pub record FitsOver (c : Crypto) (j : ℕ) (secret : List ℕ) (ss : List Step) : Type 0 where
+  pub step : Step
+  pub lowest : Parent
+  pub parts : find (λ (s : Step). is_beside s j) ss ≡ Some step
+  pub present : step.parent ≡ Some lowest
+  pub unlisted : AllByRecursion (λ (p : Parent). has p.unmerged_leaves j ≡ false) (parents_over ss j)
+  pub keys : map (λ (p : Parent). p.encryption_key) (parents_over ss j) ≡ chain_keys c secret (length (parents_over ss j))
+  pub below : AllList j (way step.first step.other j)
+
+-- a joiner takes a path secret just where it fits the signer's way, and the commit secret is then the chain's next
+abbrev pub TakenFits : Type 0
+TakenFits = (c : Crypto) (t : Term) (i j : ℕ) (sk secret : List ℕ) (m : Climb) → AreTwo 0 t i j → take_answer c t i j sk secret ≡ Ok m →
+    FitsOver c j secret (way 0 t i) × (m.secret ≡ chain secret (length (parents_over (way 0 t i) j)))
+
+abbrev pub FitIsTaken : Type 0
+FitIsTaken = (c : Crypto) (t : Term) (i j : ℕ) (sk secret : List ℕ) → AreTwo 0 t i j → FitsOver c j secret (way 0 t i) →
+    (m : Climb) × (take_answer c t i j sk secret ≡ Ok m) × (m.secret ≡ chain secret (length (parents_over (way 0 t i) j)))

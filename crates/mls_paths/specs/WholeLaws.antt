@@ -116,12 +116,12 @@ unfolding merge_path
 merge_of c t i x start = ap (λ ks. merge 0 t i ks [] x) (reversed_keys c t i start)
 
 -- a path that is made, the highest first
-record IsSealed (c : Crypto) (context : List ℕ) (added : List ℕ) (rnd : ℕ → List ℕ) (t : Term) (i : ℕ) (start : List ℕ) (path : List UpdatePathNode) : Type 0 where
-  nodes : List UpdatePathNode
-  sealed : seal_along c context added rnd (way 0 t i) start ≡ Some nodes
-  turned : path ≡ reverse nodes
+pub record IsSealed (c : Crypto) (context : List ℕ) (added : List ℕ) (rnd : ℕ → List ℕ) (t : Term) (i : ℕ) (start : List ℕ) (path : List UpdatePathNode) : Type 0 where
+  pub nodes : List UpdatePathNode
+  pub sealed : seal_along c context added rnd (way 0 t i) start ≡ Some nodes
+  pub turned : path ≡ reverse nodes
 
-sealed_is : (c : Crypto) (context : List ℕ) (added : List ℕ) (rnd : ℕ → List ℕ) (t : Term) (i : ℕ) (start : List ℕ) (path : List UpdatePathNode) → sealed_path c context added rnd t i start ≡ Ok path → IsSealed c context added rnd t i start path
+pub sealed_is : (c : Crypto) (context : List ℕ) (added : List ℕ) (rnd : ℕ → List ℕ) (t : Term) (i : ℕ) (start : List ℕ) (path : List UpdatePathNode) → sealed_path c context added rnd t i start ≡ Ok path → IsSealed c context added rnd t i start path
 unfolding sealed_path
 sealed_is c context added rnd t i start path h = by_nodes (seal_along c context added rnd (way 0 t i) start) refl h
   where
@@ -139,7 +139,7 @@ sealed_keys c context added rnd t i start path h =
     ∙ reverse-reverse (keys_of_path c t i start)
 
 -- a ciphertext for each node
-all_sealed : (c : Crypto) (context secret : List ℕ) (b : ℕ) (t : Term) (ds : List ℕ) (xs : List HpkeCiphertext) → IsSealedToAll c context secret b t ds xs → length xs ≡ length ds
+pub all_sealed : (c : Crypto) (context secret : List ℕ) (b : ℕ) (t : Term) (ds : List ℕ) (xs : List HpkeCiphertext) → IsSealedToAll c context secret b t ds xs → length xs ≡ length ds
 unfolding IsSealedToAll
 all_sealed c context secret b t [] [] p = refl
 all_sealed c context secret b t [] (x ∷ xs) p = absurd p

@@ -14,7 +14,7 @@ ghost use Rattle.mls_paths.specs.Whole.{FollowsUpdate, FollowsRemove, FollowsAdd
 ghost use Rattle.mls_paths.specs.Examples.{SecretOfOne, SecretOfFour, PathOfFour, TargetsOfFour, KeysOfMaker, KeysBeside, KeysAcross, TargetsBesideAdded};
 ghost use Rattle.mls_paths.specs.Members.{ExactWhole, ExactMade, ExactFollowed, ExactUpdated, ExactOpened, KeysMerged, ExactReceived, MadeReceived, ShownAreDue, ExactTaken, ExactAlone};
 ghost use Rattle.mls_paths.specs.Whole.{SealedKeys, SealedLengths, SealedOfChain, SealedWhereFit, RefusedWhereUnfit, FitTargets, SealedMerged, OpenedMerged, SecretMerged, MadeExact, MadeMerged, LengthMerged, FilteredMerged, OpenedExact, OpenedAgrees, OpenedIsSent, SecretIsAmong, SecretAtAncestor, TakenAgrees, SecretForMerged};
-ghost use Rattle.mls_paths.specs.Whole.{RefusedUnopened, JudgedByKeys};
+ghost use Rattle.mls_paths.specs.Whole.{SealedByNumber, SealsAreCounted, RefusedUnopened, JudgedByKeys, TakenFits, FitIsTaken};
 
 /// Exact keys follow the edits of a tree.
 pub fn laws_of_following()
@@ -134,12 +134,18 @@ pub fn laws_of_paths()
     ensures at_ancestor { SecretAtAncestor }
     ensures taken_agrees { TakenAgrees }
     ensures secret_merged { SecretForMerged }
+    ensures numbered { SealedByNumber }
+    ensures counted { SealsAreCounted }
 {}
 
-/// In whole trees: any path, whoever made it, is accepted just where its keys are those of the secret that was opened.
+/// In whole trees: any path, whoever made it, is accepted just where its keys are those of the secret that was opened, and
+/// a joiner takes any path secret just where the parents over it have the keys of its chain and don't list the joiner, and
+/// those on its own side list it.
 pub fn laws_of_any_path()
     ensures unopened { RefusedUnopened }
     ensures judged { JudgedByKeys }
+    ensures taken { TakenFits }
+    ensures fits { FitIsTaken }
 {}
 
 /// In whole trees: each call leaves a member with exact keys, whichever the calls before it were.

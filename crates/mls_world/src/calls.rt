@@ -1,5 +1,6 @@
 //! Single calls on a world: each is one event. Of the world that it leaves the headline holds.
 
+ghost use Rattle.std.specs.Prelude.{◌≡◌, Err, IfErr};
 ghost use Rattle.mls_wire.specs.Checks.{DoesAs};
 ghost use Rattle.mls_model.specs.declared.event.Reply.TheVariants as reply;
 ghost use Rattle.mls_model.specs.Calls.{candidate_answer, create_answer, propose_add_answer, propose_update_answer, propose_remove_answer, commit_answer, drop_answer, deliver_answer, join_answer};
@@ -88,6 +89,8 @@ impl<S: Suite> World<S> {
     /// A member forgets its pending commit, and it is answered whether there was one: 90 no such member. It takes no memory.
     pub fn drop_pending(&mut self, member: usize) -> Result<bool, WorldError>
         ensures does { DoesAs (λ b. reply.Dropped b) number_of (drop_answer self.old member) self.old self.new result }
+        // No want of memory.
+        ensures outright { IfErr result (λ e. drop_answer self.old member ≡ Err (number_of e)) }
         ensures headline { Headline S.crypto self.new }
     {
         self.world.drop_pending(member)

@@ -1,9 +1,12 @@
 use Rattle.mls_paths.proofs.laws_of_any_path.Goals as goal
 use Rattle.mls_paths.specs.AnyPathLaws.{refused_unopened, judged_by_keys}
+use Rattle.mls_paths.specs.TakeLaws.{taken_fits, fit_is_taken}
 
 pub returns : goal.returns
 returns c =
     record {
       unopened = refused_unopened;
       judged = judged_by_keys;
+      taken = taken_fits;
+      fits = fit_is_taken;
     }
