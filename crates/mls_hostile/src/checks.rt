@@ -11,7 +11,7 @@ use anyhow::{Result, bail};
 use mls_kdf::{Secret, Seed, hash};
 use mls_leaf::Codec;
 use mls_member::{Candidate, Member};
-use mls_model::{Event, Source, WorldItem};
+use mls_model::{Event, Origin, Source, WorldItem};
 use mls_suite::{Glass, sign_with_label};
 use mls_world::World;
 use std::alloc::{AllocError, Global};
@@ -132,8 +132,8 @@ pub fn forged(alloc: Global) -> Result<ForgedAnswers> {
 pub struct WelcomeAnswers {
     pub first: Outcome,
     pub second: Outcome,
-    /// Whether the first opens the same GroupInfo as by the Welcome that was sent.
-    pub is_same_info: bool,
+    /// Whether the journal of the first begins with the GroupInfo of the Welcome that was sent.
+    pub begins_with_info: bool,
 }
 
 /// A byte of what is sealed to the second: the first entry has 168 bytes behind the message's 8, and the second one
@@ -146,23 +146,34 @@ fn info_in(alloc: Global, candidate: &Candidate<Glass>, welcome: &[u8]) -> Resul
     Ok(joined.group_info)
 }
 
-/// Whether the first opens the same GroupInfo by both Welcomes.
-fn is_same_info(alloc: Global, stage: &Stage, one: &[u8], other: &[u8]) -> Result<bool> {
-    let candidate = stage.candidate(1)?;
-    let info = info_in(alloc, candidate, one)?;
-    Ok(info == info_in(alloc, candidate, other)?)
+fn is_info(origin: &Origin, info: &[u8]) -> bool {
+    match origin {
+        Origin::GroupInfo(bytes) => bytes.as_slice() == info,
+        Origin::Creation(_) => false,
+    }
+}
+
+/// Whether the first becomes a member whose journal begins with this GroupInfo.
+fn begins_with(alloc: Global, stage: &mut Stage, welcome: &[u8], info: &[u8]) -> Result<bool> {
+    let source = Source::Given(Vec::from_slice(alloc, welcome)?);
+    let new = stage.world_mut().join(1, &source)?;
+    match stage.world_mut().journal(new.member) {
+        Some(journal) => Ok(is_info(journal.origin(), info)),
+        None => Ok(false),
+    }
 }
 
 fn welcomed_by(alloc: Global, stage: &mut Stage) -> Result<WelcomeAnswers> {
     let welcome = stage.message(4)?;
     let changed = turned(alloc, welcome, IN_SECOND, 1)?;
-    let is_same_info = is_same_info(alloc, stage, &changed, welcome)?;
+    let info = info_in(alloc, stage.candidate(1)?, welcome)?;
     let first = stage.give(alloc, Receiver::Candidate(1), &changed)?;
     let second = stage.give(alloc, Receiver::Candidate(2), &changed)?;
+    let begins_with_info = begins_with(alloc, stage, &changed, &info)?;
     Ok(WelcomeAnswers {
         first,
         second,
-        is_same_info,
+        begins_with_info,
     })
 }
 

@@ -168,8 +168,8 @@ fn print_checks(rt: &impl Print, alloc: Global) -> Result<()> {
     )?;
     let welcomed = welcomed(alloc)?;
     println!(rt;
-        "a Welcome changed in the second's part: the first {}, by the same GroupInfo {}, the second {}",
-        welcomed.first, welcomed.is_same_info, welcomed.second
+        "a Welcome changed in the second's part: the first {}, its journal begins with the GroupInfo {}, the second {}",
+        welcomed.first, welcomed.begins_with_info, welcomed.second
     )?;
     let (outcome, is_same) = elsewhere(alloc)?;
     println!(rt; "a message of another group: {outcome}, as before {is_same}")?;
