@@ -1,0 +1,87 @@
+-- The first cells of a list, with blank ones after them.
+use Rattle.std.proofs.Common.{◌≡◌, ℕ, zero, suc, ◌+◌, ◌<◌, ◌≤◌, List, [], ◌∷◌, length, get_or, Option, None, refl, sym, ◌∙◌, ap, arith, inl, inr}
+use Rattle.std.proofs.lemmas.Bool.{cases_lt}
+use Rattle.std.proofs.lemmas.List.{get_or_past}
+use Rattle.mls_leaf.specs.declared.node.Node.{Node}
+use Rattle.mls_index.specs.declared.kind.KeyKind.{KeyKind}
+use Rattle.mls_index.specs.Keys.{key_of, key_at, repeats_in}
+use Rattle.mls_index.specs.Order.{Entries}
+use Rattle.mls_index.specs.Indexes.{Listing, Indexes, Without}
+use Rattle.mls_index.specs.EntryLaws.{no_key}
+use Rattle.mls_index.specs.CountLaws.{none_blank}
+use Rattle.mls_index.specs.Laws.{indexes_alike}
+use Rattle.mls_index.specs.StepLaws.{indexes_from}
+
+-- a list whose cells from place n on are blanked
+abbrev pub front : ℕ → List (Option Node) → List (Option Node)
+front n [] = []
+front zero (c ∷ cs) = None ∷ front zero cs
+front (suc n) (c ∷ cs) = c ∷ front n cs
+
+length_front : (n : ℕ) (cs : List (Option Node)) → length (front n cs) ≡ length cs
+length_front zero [] = refl
+length_front (suc n) [] = refl
+length_front zero (c ∷ cs) = ap suc (length_front zero cs)
+length_front (suc n) (c ∷ cs) = ap suc (length_front n cs)
+
+front_below : (n : ℕ) (cs : List (Option Node)) (y : ℕ) → y < n → get_or (front n cs) y None ≡ get_or cs y None
+front_below zero cs y lt = absurd (omega arith)
+front_below (suc n) [] y lt = refl
+front_below (suc n) (c ∷ cs) zero lt = refl
+front_below (suc n) (c ∷ cs) (suc y) lt = front_below n cs y (omega arith)
+
+front_above : (n : ℕ) (cs : List (Option Node)) (y : ℕ) → n ≤ y → get_or (front n cs) y None ≡ None
+front_above zero [] y ge = refl
+front_above (suc n) [] y ge = refl
+front_above zero (c ∷ cs) zero ge = refl
+front_above zero (c ∷ cs) (suc y) ge = front_above zero cs y (omega arith)
+front_above (suc n) (c ∷ cs) zero ge = absurd (omega arith)
+front_above (suc n) (c ∷ cs) (suc y) ge = front_above n cs y (omega arith)
+
+module _ (kind : KeyKind) where
+  none_above : (n : ℕ) (cs : List (Option Node)) (y : ℕ) → n ≤ y → key_at kind (front n cs) y ≡ None
+  none_above n cs y ge = ap (key_of kind) (front_above n cs y ge) ∙ none_blank kind
+
+  same_below : (n : ℕ) (cs : List (Option Node)) (y : ℕ) → y < n → key_at kind (front n cs) y ≡ key_at kind cs y
+  same_below n cs y lt = ap (key_of kind) (front_below n cs y lt)
+
+  -- one cell more
+  pub without_front : (x : ℕ) (cs : List (Option Node)) → Without kind x cs (front x cs) (front (x + 1) cs)
+  without_front x cs = record {
+    wide = length_front (x + 1) cs;
+    long = length_front x cs ∙ sym (length_front (x + 1) cs);
+    part = λ y some. elim (cases_lt y (x + 1)) [
+      | inl lt ↦ sym (same_below (x + 1) cs y lt)
+      | inr ge ↦ absurd (no_key (key_at kind (front (x + 1) cs) y) (none_above (x + 1) cs y ge) some)
+    ];
+    here = same_below (x + 1) cs x (omega arith);
+    blank = none_above x cs x (omega arith);
+    others = λ y other. elim (cases_lt y x) [
+      | inl lt ↦ same_below x cs y lt ∙ sym (same_below (x + 1) cs y (omega arith))
+      | inr ge ↦ elim (cases_lt x y) [
+        | inl more ↦ none_above x cs y ge ∙ sym (none_above (x + 1) cs y (omega arith))
+        | inr le ↦ absurd (other (omega arith))
+      ]
+    ];
+  }
+
+  none_listed : Entries (key_at kind []) []
+  none_listed = record {
+    all = λ x some. absurd (no_key (key_at kind [] x) (none_blank kind) some);
+    keyed = λ j lt. absurd (omega arith);
+    ascend = λ i j lt le. absurd (omega arith);
+  }
+
+  -- none of the cells
+  pub front_none : (cs : List (Option Node)) (s : Listing) → s.kind ≡ kind → s.numbers ≡ [] → s.repeats ≡ 0 → Indexes (front 0 cs) s
+  unfolding repeats_in
+  front_none cs s same numbers repeats =
+      indexes_alike s [] (front 0 cs) (λ y. ap (λ j. key_of j None) same ∙ none_blank kind ∙ sym (none_above 0 cs y (omega arith)) ∙ ap (λ j. key_at j (front 0 cs) y) (sym same))
+      (indexes_from kind [] [] s same numbers none_listed repeats)
+
+-- and all of them
+pub front_all : (n : ℕ) (cs : List (Option Node)) (t : Listing) → length cs ≤ n → Indexes (front n cs) t → Indexes cs t
+front_all n cs t wide = indexes_alike t (front n cs) cs (λ y. elim (cases_lt y n) [
+  | inl lt ↦ same_below t.kind n cs y lt
+  | inr ge ↦ none_above t.kind n cs y ge ∙ sym (ap (key_of t.kind) (get_or_past cs y None (omega arith)) ∙ none_blank t.kind)
+])

@@ -1,0 +1,40 @@
+-- The keys of cells.
+use Rattle.std.specs.Prelude.{ℕ, ◌+◌, ◌==◌, nat_eq, Bool, false, not, cond, List, [], ◌∷◌, get_or, Option, Some, None}
+use Rattle.std.specs.List.{flat_map}
+use Rattle.std.specs.Option.{option_to_list}
+use Rattle.std.specs.Cmp.Lexicographic.{pointwise}
+use Rattle.mls_leaf.specs.declared.node.Node.{Node}
+use Rattle.mls_leaf.specs.declared.node.Node.TheVariants.{Leaf as in_leaf, Parent as in_parent}
+use Rattle.mls_term.specs.Sets.{same_bytes, count}
+use Rattle.mls_index.specs.declared.kind.KeyKind.{KeyKind}
+use Rattle.mls_index.specs.declared.kind.KeyKind.TheVariants.{Encryption, Signature}
+
+-- the key of a cell, where it has one
+abbrev pub key_of : KeyKind → Option Node → Option (List ℕ)
+key_of k None = None
+key_of Encryption (Some (in_leaf v)) = Some v.encryption_key
+key_of Encryption (Some (in_parent p)) = Some p.encryption_key
+key_of Signature (Some (in_leaf v)) = Some v.signature_key
+key_of Signature (Some (in_parent p)) = None
+
+-- the key of the cell with a number, where there is one
+abbrev pub key_at : KeyKind → List (Option Node) → ℕ → Option (List ℕ)
+key_at k cells x = key_of k (get_or cells x None)
+
+-- whether a key that may be missing is this one
+abbrev pub is_key : List ℕ → Option (List ℕ) → Bool
+is_key k None = false
+is_key k (Some l) = pointwise nat_eq l k
+
+-- all keys, in the order of the cells
+abbrev pub keys_of : KeyKind → List (Option Node) → List (List ℕ)
+keys_of k cells = flat_map (λ c. option_to_list (key_of k c)) cells
+
+-- whether a key is that of some cell
+abbrev pub is_held : KeyKind → List (Option Node) → List ℕ → Bool
+is_held k cells x = not (count same_bytes x (keys_of k cells) == 0)
+
+-- how many keys of a list stand again further on
+unfoldable pub repeats_in : List (List ℕ) → ℕ
+repeats_in [] = 0
+repeats_in (x ∷ xs) = cond (count same_bytes x xs == 0) 0 1 + repeats_in xs

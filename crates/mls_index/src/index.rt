@@ -1,0 +1,146 @@
+//! The index: numbers of cells in the order of their keys.
+
+ghost use Rattle.std.specs.Prelude.{◌≡◌, ℕ, ◌<◌, ◌≤◌, ◌^◌, suc, Option, List, length, IfOk, OnOk, OnErr};
+ghost use Rattle.mls_leaf.specs.declared.node.Node.{Node};
+ghost use Rattle.mls_term.specs.Sets.{same_bytes, is_distinct};
+ghost use Rattle.mls_index.specs.Keys.{key_at, keys_of, is_held};
+ghost use Rattle.mls_index.specs.Order.{Entries, IsGap, IsPart};
+ghost use Rattle.mls_index.specs.Indexes.{Indexes, Without, SameIndex};
+
+use crate::kind::KeyKind;
+use crate::order::is_before;
+use mls_slot::Slot;
+use std::alloc::{AllocError, Global};
+use std::marker::Model;
+
+/// The numbers of the cells that have a key of one kind, in the order of the keys, and of cells with one key by number.
+/// The keys stay in the cells, so a copy is a plain copy of numbers. It keeps count of keys that repeat.
+#[derive(Drop)]
+pub struct Index {
+    kind: KeyKind,
+    numbers: Vec<u32>,
+    repeats: usize,
+}
+
+impl Model for Index {
+    ghost use Rattle.std.specs.Prelude.{◌-◌, vec_len};
+    ghost use Rattle.std.specs.Vec.{vec_capacity};
+    ghost use Rattle.mls_index.specs.Indexes.{Listing};
+
+    ghost Value = { Listing };
+
+    ghost view = { λ t. record { kind = t.kind; numbers = t.numbers.items; repeats = t.repeats; room = vec_capacity t.numbers - vec_len t.numbers } };
+}
+
+impl Index {
+    /// The index of these cells.
+    pub fn build(alloc: Global, kind: KeyKind, cells: &[Slot]) -> Result<Index, AllocError>
+        requires { length cells.now ≤ 2 ^ 32 }
+        ensures kind { IfOk result (λ t. t.kind ≡ kind) }
+        ensures built { IfOk result (λ t. Indexes cells.now t) }
+    {
+        let mut index = Index {
+            kind,
+            numbers: Vec::with_capacity(alloc, cells.len())?,
+            repeats: 0,
+        };
+        for x in 0..cells.len() {
+            index.enter(cells, x as u32);
+        }
+        Ok(index)
+    }
+
+    /// Makes room for more cells. No other call takes memory.
+    pub fn reserve(&mut self, count: usize) -> Result<(), AllocError>
+        ensures room { OnOk result (count ≤ self.new.room) }
+        ensures more { self.old.room ≤ self.new.room }
+        ensures same { SameIndex self.old self.new }
+    {
+        self.numbers.reserve(count)
+    }
+
+    /// How many entries come before this key and number.
+    fn place(&self, cells: &[Slot], key: &[u8], x: u32) -> usize
+        ensures bound { result ≤ length self.now.numbers }
+        ensures gap { (at : ℕ → Option (List ℕ)) → IsPart at (key_at self.now.kind cells.now) → Entries at self.now.numbers → IsGap at self.now.numbers (key.now, x) result }
+    {
+        self.numbers
+            .partition_point(|y| is_before(self.kind, cells, *y, key, x))
+    }
+
+    /// Whether an entry has this key, whatever the count.
+    fn finds(&self, cells: &[Slot], key: &[u8]) -> bool
+        ensures { (c : List (Option Node)) → IsPart (key_at self.now.kind c) (key_at self.now.kind cells.now) → Entries (key_at self.now.kind c) self.now.numbers → result ≡ is_held self.now.kind c key.now }
+    {
+        match self.numbers.get(self.place(cells, key, 0)) {
+            Some(y) => self.kind.is_key_at(cells, *y, key),
+            None => false,
+        }
+    }
+
+    /// Whether some cell has this key.
+    pub fn holds(&self, cells: &[Slot], key: &[u8]) -> bool
+        ensures { Indexes cells.now self.now → result ≡ is_held self.now.kind cells.now key.now }
+    {
+        self.finds(cells, key)
+    }
+
+    /// Enters a cell: after it was filled, where it was blank. Where the cell has no key, all stays.
+    pub fn enter(&mut self, cells: &[Slot], x: u32)
+        requires { 0 < self.old.room }
+        ensures kind { self.new.kind ≡ self.old.kind }
+        ensures room { self.old.room ≤ suc self.new.room }
+        ensures entered { (b c : List (Option Node)) → Without self.old.kind x cells.now b c → Indexes b self.old → Indexes c self.new }
+    {
+        let Some(key) = self.kind.key_at(cells, x) else {
+            return;
+        };
+        let repeats = self.finds(cells, key);
+        let place = self.place(cells, key, x);
+        match self.numbers.insert(place, x) {
+            Ok(()) => {}
+            Err(_) => unreachable!(),
+        }
+        if repeats {
+            self.repeats = self.repeats.saturating_add(1);
+        }
+    }
+
+    /// Takes a cell out: before it is blanked or replaced. Where the cell has no key, all stays.
+    pub fn leave(&mut self, cells: &[Slot], x: u32)
+        ensures kind { self.new.kind ≡ self.old.kind }
+        ensures room { self.old.room ≤ self.new.room }
+        ensures left { (b c : List (Option Node)) → Without self.old.kind x cells.now b c → Indexes c self.old → Indexes b self.new }
+    {
+        let Some(key) = self.kind.key_at(cells, x) else {
+            return;
+        };
+        let place = self.place(cells, key, x);
+        if place >= self.numbers.len() {
+            return;
+        }
+        self.numbers.remove(place);
+        if self.finds(cells, key) {
+            self.repeats = self.repeats.saturating_sub(1);
+        }
+    }
+
+    /// Whether no two cells have one key.
+    pub fn are_distinct(&self) -> bool
+        ensures { (c : List (Option Node)) → Indexes c self.now → result ≡ is_distinct same_bytes (keys_of self.now.kind c) }
+    {
+        self.repeats == 0
+    }
+}
+
+impl Clone for Index {
+    ghost is_clone = { λ s t. SameIndex s t };
+
+    fn clone(&self) -> Result<Index, AllocError> {
+        Ok(Index {
+            kind: self.kind,
+            numbers: self.numbers.clone()?,
+            repeats: self.repeats,
+        })
+    }
+}

@@ -1,0 +1,11 @@
+//! An index of the cells of a tree by a key of each.
+#![tactic(auto)]
+
+mod index;
+mod kind;
+mod order;
+#[cfg(test)]
+mod tests;
+
+pub use index::Index;
+pub use kind::KeyKind;

@@ -1,0 +1,133 @@
+//! Tests: an index as its cells come and go.
+
+use crate::{Index, KeyKind};
+use mls_leaf::{Bytes, Capabilities, Credential, Items, LeafNode, LeafSource, Node, ParentNode};
+use mls_slot::Slot;
+use std::alloc::{AllocError, Global};
+use std::test::Fail;
+
+fn byte(alloc: Global, b: u8) -> Result<Bytes, AllocError> {
+    Ok(Bytes::from_vec(Vec::from_slice(alloc, &[b])?))
+}
+
+/// A leaf with these bytes as its keys.
+fn leaf(alloc: Global, key: u8, signature_key: u8) -> Result<Slot, AllocError> {
+    let leaf = LeafNode {
+        encryption_key: byte(alloc, key)?,
+        signature_key: byte(alloc, signature_key)?,
+        credential: Credential {
+            identity: byte(alloc, key)?,
+        },
+        capabilities: Capabilities {
+            versions: Items::from_vec(Vec::new(alloc)),
+            cipher_suites: Items::from_vec(Vec::new(alloc)),
+            extensions: Items::from_vec(Vec::new(alloc)),
+            proposals: Items::from_vec(Vec::new(alloc)),
+            credentials: Items::from_vec(Vec::new(alloc)),
+        },
+        source: LeafSource::Update,
+        signature: byte(alloc, key)?,
+    };
+    Slot::of(alloc, Node::Leaf(leaf))
+}
+
+/// A parent with this byte as its key.
+fn parent(alloc: Global, key: u8) -> Result<Slot, AllocError> {
+    let hash = byte(alloc, 0)?;
+    match ParentNode::new(byte(alloc, key)?, hash, Items::from_vec(Vec::new(alloc))) {
+        Ok(parent) => Slot::of(alloc, Node::Parent(parent)),
+        Err(_) => Ok(Slot::blank()),
+    }
+}
+
+/// Three leaves, the second blank, and a parent over the first two.
+fn cells(alloc: Global) -> Result<Vec<Slot>, AllocError> {
+    let mut cells = Vec::new(alloc);
+    cells.push(leaf(alloc, 7, 1)?)?;
+    cells.push(parent(alloc, 3)?)?;
+    cells.push(Slot::blank())?;
+    cells.push(Slot::blank())?;
+    cells.push(leaf(alloc, 5, 1)?)?;
+    Ok(cells)
+}
+
+#[test]
+fn finds_encryption_keys(rt: HostRuntime) -> Result<(), Fail> {
+    let alloc = rt.alloc();
+    let cells = cells(alloc)?;
+    let index = Index::build(alloc, KeyKind::Encryption, &cells)?;
+    for key in [3, 5, 7] {
+        assert!(rt; index.holds(&cells, &[key]));
+    }
+    for key in [1, 4, 8] {
+        assert!(rt; !index.holds(&cells, &[key]));
+    }
+    assert!(rt; !index.holds(&cells, &[]));
+    assert!(rt; !index.holds(&cells, &[5, 0]));
+    assert!(rt; index.are_distinct());
+    Ok(())
+}
+
+#[test]
+fn leaves_no_parent_among_signature_keys(rt: HostRuntime) -> Result<(), Fail> {
+    let alloc = rt.alloc();
+    let cells = cells(alloc)?;
+    let index = Index::build(alloc, KeyKind::Signature, &cells)?;
+    assert!(rt; index.holds(&cells, &[1]));
+    assert!(rt; !index.holds(&cells, &[3]));
+    assert!(rt; !index.are_distinct());
+    Ok(())
+}
+
+#[test]
+fn follows_cells(rt: HostRuntime) -> Result<(), Fail> {
+    let alloc = rt.alloc();
+    let mut cells = cells(alloc)?;
+    let mut index = Index::build(alloc, KeyKind::Encryption, &cells)?;
+    index.reserve(3)?;
+    cells[2] = leaf(alloc, 5, 2)?;
+    index.enter(&cells, 2);
+    assert!(rt; !index.are_distinct());
+    cells[3] = parent(alloc, 5)?;
+    index.enter(&cells, 3);
+    assert!(rt; !index.are_distinct());
+    let copy = index.clone()?;
+    index.leave(&cells, 4);
+    cells[4] = Slot::blank();
+    assert!(rt; !index.are_distinct());
+    index.leave(&cells, 2);
+    cells[2] = Slot::blank();
+    assert!(rt; index.are_distinct());
+    assert!(rt; index.holds(&cells, &[5]));
+    index.leave(&cells, 3);
+    cells[3] = Slot::blank();
+    index.leave(&cells, 3);
+    assert!(rt; !index.holds(&cells, &[5]));
+    assert!(rt; !copy.are_distinct());
+    Ok(())
+}
+
+#[test]
+fn orders_many(rt: HostRuntime) -> Result<(), Fail> {
+    let alloc = rt.alloc();
+    let mut cells = Vec::new(alloc);
+    for k in 0..100 {
+        let key = (k * 37 % 101) as u8;
+        cells.push(leaf(alloc, key, key / 2)?)?;
+    }
+    let keys = Index::build(alloc, KeyKind::Encryption, &cells)?;
+    let mut clients = Index::build(alloc, KeyKind::Signature, &cells)?;
+    assert!(rt; keys.are_distinct());
+    assert!(rt; !clients.are_distinct());
+    for key in 0..100 {
+        assert!(rt; keys.holds(&cells, &[(key * 37 % 101) as u8]));
+    }
+    for x in 0..100 {
+        if (x * 37 % 101) % 2 == 1 {
+            clients.leave(&cells, x);
+            cells[x as usize] = Slot::blank();
+        }
+    }
+    assert!(rt; clients.are_distinct());
+    Ok(())
+}
