@@ -97,10 +97,10 @@ impl Index {
         };
         let repeats = self.finds(cells, key);
         let place = self.place(cells, key, x);
-        match self.numbers.insert(place, x) {
-            Ok(()) => {}
-            Err(_) => unreachable!(),
-        }
+        // There is room, so this isn't refused.
+        let Ok(()) = self.numbers.insert(place, x) else {
+            return;
+        };
         if repeats {
             self.repeats = self.repeats.saturating_add(1);
         }

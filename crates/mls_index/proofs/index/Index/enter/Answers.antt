@@ -9,6 +9,13 @@ returns-in_default-clause-entered c = λ b d without is.
     let none = ap (λ j. key_in j c.args.cells.now c.args.x) (sym (ap (λ t. t.kind) c.self.view_is)) ∙ sym c.in_default.ensures in
     nothing_entered c.args.x c.args.cells.now b d c.args.self.now without none is
 
+pub returns-in_default-insert-clause-entered : goal.returns-in_default-insert-clause-entered
+returns-in_default-insert-clause-entered c = λ b d without is.
+    let full = c.in_default-insert.ensures.full in
+    let room = c.requires in
+    let same = ap (λ t. t.room) c.self.view_is in
+    absurd (omega arith)
+
 pub returns-then-repeats-clause-entered : goal.returns-then-repeats-clause-entered
 returns-then-repeats-clause-entered c = λ b d without is.
     let kinds = ap (λ t. t.kind) c.self.view_is in
