@@ -1,6 +1,6 @@
 -- Laws of cells of which some are blanked.
-use Rattle.std.proofs.Common.{◌≡◌, ℕ, zero, suc, ◌+◌, ◌==◌, nat_eq, Bool, true, false, cond, List, [], ◌∷◌, length, get_or, Option, Some, None, is_some, refl, sym, ◌∙◌, ap, subst, arith, inl, inr, eq-eqb, ne_eqb, eqb-true, ◌||◌, ◌&&◌}
-use Rattle.std.proofs.lemmas.Bool.{true≢false, cases_Bool, cases_eq, and_parts}
+use Rattle.std.proofs.Common.{◌≡◌, ℕ, zero, suc, ◌+◌, ◌==◌, nat_eq, Bool, true, false, cond, List, [], ◌∷◌, length, get_or, Option, None, is_some, refl, sym, ◌∙◌, ap, arith, inl, inr, eq-eqb, ne_eqb, eqb-true, ◌||◌}
+use Rattle.std.proofs.lemmas.Bool.{true≢false, cases_Bool, and_parts}
 use Rattle.mls_leaf.specs.declared.node.Node.{Node}
 use Rattle.mls_term.specs.Sets.{has, count, is_distinct}
 use Rattle.mls_index.specs.declared.kind.KeyKind.{KeyKind}
