@@ -4,7 +4,7 @@ use Rattle.std.proofs.lemmas.Bool.{cases_lt}
 use Rattle.std.proofs.lemmas.List.{get_or_past}
 use Rattle.mls_leaf.specs.declared.node.Node.{Node}
 use Rattle.mls_index.specs.declared.kind.KeyKind.{KeyKind}
-use Rattle.mls_index.specs.Keys.{key_of, key_at, repeats_in}
+use Rattle.mls_index.specs.Keys.{key_of, key_in, repeats_in}
 use Rattle.mls_index.specs.Order.{Entries}
 use Rattle.mls_index.specs.Indexes.{Listing, Indexes, Without}
 use Rattle.mls_index.specs.EntryLaws.{no_key}
@@ -39,10 +39,10 @@ front_above (suc n) (c ∷ cs) zero ge = absurd (omega arith)
 front_above (suc n) (c ∷ cs) (suc y) ge = front_above n cs y (omega arith)
 
 module _ (kind : KeyKind) where
-  none_above : (n : ℕ) (cs : List (Option Node)) (y : ℕ) → n ≤ y → key_at kind (front n cs) y ≡ None
+  none_above : (n : ℕ) (cs : List (Option Node)) (y : ℕ) → n ≤ y → key_in kind (front n cs) y ≡ None
   none_above n cs y ge = ap (key_of kind) (front_above n cs y ge) ∙ none_blank kind
 
-  same_below : (n : ℕ) (cs : List (Option Node)) (y : ℕ) → y < n → key_at kind (front n cs) y ≡ key_at kind cs y
+  same_below : (n : ℕ) (cs : List (Option Node)) (y : ℕ) → y < n → key_in kind (front n cs) y ≡ key_in kind cs y
   same_below n cs y lt = ap (key_of kind) (front_below n cs y lt)
 
   -- one cell more
@@ -52,7 +52,7 @@ module _ (kind : KeyKind) where
     long = length_front x cs ∙ sym (length_front (x + 1) cs);
     part = λ y some. elim (cases_lt y (x + 1)) [
       | inl lt ↦ sym (same_below (x + 1) cs y lt)
-      | inr ge ↦ absurd (no_key (key_at kind (front (x + 1) cs) y) (none_above (x + 1) cs y ge) some)
+      | inr ge ↦ absurd (no_key (key_in kind (front (x + 1) cs) y) (none_above (x + 1) cs y ge) some)
     ];
     here = same_below (x + 1) cs x (omega arith);
     blank = none_above x cs x (omega arith);
@@ -65,9 +65,9 @@ module _ (kind : KeyKind) where
     ];
   }
 
-  none_listed : Entries (key_at kind []) []
+  none_listed : Entries (key_in kind []) []
   none_listed = record {
-    all = λ x some. absurd (no_key (key_at kind [] x) (none_blank kind) some);
+    all = λ x some. absurd (no_key (key_in kind [] x) (none_blank kind) some);
     keyed = λ j lt. absurd (omega arith);
     ascend = λ i j lt le. absurd (omega arith);
   }
@@ -76,7 +76,7 @@ module _ (kind : KeyKind) where
   pub front_none : (cs : List (Option Node)) (s : Listing) → s.kind ≡ kind → s.numbers ≡ [] → s.repeats ≡ 0 → Indexes (front 0 cs) s
   unfolding repeats_in
   front_none cs s same numbers repeats =
-      indexes_alike s [] (front 0 cs) (λ y. ap (λ j. key_of j None) same ∙ none_blank kind ∙ sym (none_above 0 cs y (omega arith)) ∙ ap (λ j. key_at j (front 0 cs) y) (sym same))
+      indexes_alike s [] (front 0 cs) (λ y. ap (λ j. key_of j None) same ∙ none_blank kind ∙ sym (none_above 0 cs y (omega arith)) ∙ ap (λ j. key_in j (front 0 cs) y) (sym same))
       (indexes_from kind [] [] s same numbers none_listed repeats)
 
 -- and all of them

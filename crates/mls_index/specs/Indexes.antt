@@ -2,7 +2,7 @@
 use Rattle.std.specs.Prelude.{◌≡◌, ℕ, List, length, Option, None}
 use Rattle.mls_leaf.specs.declared.node.Node.{Node}
 use Rattle.mls_index.specs.declared.kind.KeyKind.{KeyKind}
-use Rattle.mls_index.specs.Keys.{key_at, keys_of, repeats_in}
+use Rattle.mls_index.specs.Keys.{key_in, keys_of, repeats_in}
 use Rattle.mls_index.specs.Order.{Entries, IsPart}
 
 -- an index: the numbers of cells, how many keys repeat, and for how many more there is memory
@@ -14,7 +14,7 @@ pub record Listing : Type 0 where
 
 -- the index of these cells
 pub record Indexes (cells : List (Option Node)) (t : Listing) : Type 0 where
-  pub entries : Entries (key_at t.kind cells) t.numbers
+  pub entries : Entries (key_in t.kind cells) t.numbers
   pub repeats : t.repeats ≡ repeats_in (keys_of t.kind cells)
 
 -- one but for its memory
@@ -27,7 +27,7 @@ pub record SameIndex (s t : Listing) : Type 0 where
 pub record Without (k : KeyKind) (x : ℕ) (cells b c : List (Option Node)) : Type 0 where
   pub wide : length c ≡ length cells
   pub long : length b ≡ length c
-  pub part : IsPart (key_at k c) (key_at k cells)
-  pub here : key_at k c x ≡ key_at k cells x
-  pub blank : key_at k b x ≡ None
-  pub others : (y : ℕ) → (y ≡ x → ⊥) → key_at k b y ≡ key_at k c y
+  pub part : IsPart (key_in k c) (key_in k cells)
+  pub here : key_in k c x ≡ key_in k cells x
+  pub blank : key_in k b x ≡ None
+  pub others : (y : ℕ) → (y ≡ x → ⊥) → key_in k b y ≡ key_in k c y

@@ -18,8 +18,8 @@ key_of Signature (Some (in_leaf v)) = Some v.signature_key
 key_of Signature (Some (in_parent p)) = None
 
 -- the key of the cell with a number, where there is one
-abbrev pub key_at : KeyKind → List (Option Node) → ℕ → Option (List ℕ)
-key_at k cells x = key_of k (get_or cells x None)
+abbrev pub key_in : KeyKind → List (Option Node) → ℕ → Option (List ℕ)
+key_in k cells x = key_of k (get_or cells x None)
 
 -- whether a key that may be missing is this one
 abbrev pub is_key : List ℕ → Option (List ℕ) → Bool

@@ -7,3 +7,5 @@ pub mod CountLaws
 pub mod Laws
 pub mod StepLaws
 pub mod FrontLaws
+pub mod Cleared
+pub mod ClearedLaws

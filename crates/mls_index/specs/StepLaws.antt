@@ -5,7 +5,7 @@ use Rattle.std.specs.List.{insert, remove}
 use Rattle.mls_leaf.specs.declared.node.Node.{Node}
 use Rattle.mls_term.specs.Sets.{same_bytes, count}
 use Rattle.mls_index.specs.declared.kind.KeyKind.{KeyKind}
-use Rattle.mls_index.specs.Keys.{key_of, key_at, keys_of, is_key, is_held, repeats_in}
+use Rattle.mls_index.specs.Keys.{key_of, key_in, keys_of, is_key, is_held, repeats_in}
 use Rattle.mls_index.specs.Order.{Entries, IsGap, IsPart}
 use Rattle.mls_index.specs.Indexes.{Listing, Indexes, Without}
 use Rattle.mls_index.specs.OrderLaws.{key_found, key_missed}
@@ -20,10 +20,10 @@ at_least : (n : ℕ) → (n == 0) ≡ false → 1 ≤ n
 at_least zero h = absurd (true≢false h)
 at_least (suc n) h = omega arith
 
-pub held_at : (kind : KeyKind) (c : List (Option Node)) (k : List ℕ) (x : ℕ) → key_at kind c x ≡ Some k → true ≡ is_held kind c k
+pub held_at : (kind : KeyKind) (c : List (Option Node)) (k : List ℕ) (x : ℕ) → key_in kind c x ≡ Some k → true ≡ is_held kind c k
 held_at kind c k x is = sym (held (count same_bytes k (keys_of kind c)) (counted (key_of kind) (none_blank kind) c x k is))
 
-pub held_nowhere : (kind : KeyKind) (c : List (Option Node)) (k : List ℕ) → ((x : ℕ) → key_at kind c x ≡ Some k → ⊥) → false ≡ is_held kind c k
+pub held_nowhere : (kind : KeyKind) (c : List (Option Node)) (k : List ℕ) → ((x : ℕ) → key_in kind c x ≡ Some k → ⊥) → false ≡ is_held kind c k
 held_nowhere kind c k other =
     elim (cases_Bool (count same_bytes k (keys_of kind c) == 0)) [
       | inl none ↦ sym (ap not none)
@@ -33,50 +33,50 @@ held_nowhere kind c k other =
     ]
 
 -- what the first entry with a key tells
-module _ (kind : KeyKind) (c cells : List (Option Node)) (part : IsPart (key_at kind c) (key_at kind cells)) (ns : List ℕ) (es : Entries (key_at kind c) ns) (k : List ℕ) (p : ℕ) (gap : IsGap (key_at kind c) ns (k, 0) p) where
-  pub held_here : (y : ℕ) → p < length ns → y ≡ get_or ns p 0 → is_key k (key_at kind cells y) ≡ is_held kind c k
+module _ (kind : KeyKind) (c cells : List (Option Node)) (part : IsPart (key_in kind c) (key_in kind cells)) (ns : List ℕ) (es : Entries (key_in kind c) ns) (k : List ℕ) (p : ℕ) (gap : IsGap (key_in kind c) ns (k, 0) p) where
+  pub held_here : (y : ℕ) → p < length ns → y ≡ get_or ns p 0 → is_key k (key_in kind cells y) ≡ is_held kind c k
   held_here y lt is =
-      let own : key_at kind cells y ≡ key_at kind c y = part y (ap (λ n. is_some (key_at kind c n)) is ∙ es.keyed p lt) in
-      elim (cases_Bool (is_key k (key_at kind cells y))) [
-        | inl same ↦ same ∙ held_at kind c k y (sym own ∙ key_found k (key_at kind cells y) same)
+      let own : key_in kind cells y ≡ key_in kind c y = part y (ap (λ n. is_some (key_in kind c n)) is ∙ es.keyed p lt) in
+      elim (cases_Bool (is_key k (key_in kind cells y))) [
+        | inl same ↦ same ∙ held_at kind c k y (sym own ∙ key_found k (key_in kind cells y) same)
         | inr other ↦
             other
-            ∙ held_nowhere kind c k (λ x at. key_missed k (key_at kind cells y) other (own ∙ ap (key_at kind c) is ∙ (found (key_at kind c) ns es k p gap x at).1))
+            ∙ held_nowhere kind c k (λ x at. key_missed k (key_in kind cells y) other (own ∙ ap (key_in kind c) is ∙ (found (key_in kind c) ns es k p gap x at).1))
       ]
 
   pub held_past : (p < length ns → ⊥) → false ≡ is_held kind c k
-  held_past past = held_nowhere kind c k (λ x at. past (found (key_at kind c) ns es k p gap x at).0)
+  held_past past = held_nowhere kind c k (λ x at. past (found (key_in kind c) ns es k p gap x at).0)
 
 -- what makes an index of a listing
-pub indexes_from : (kind : KeyKind) (ns : List ℕ) (c : List (Option Node)) (s : Listing) → s.kind ≡ kind → s.numbers ≡ ns → Entries (key_at kind c) ns → s.repeats ≡ repeats_in (keys_of kind c) → Indexes c s
+pub indexes_from : (kind : KeyKind) (ns : List ℕ) (c : List (Option Node)) (s : Listing) → s.kind ≡ kind → s.numbers ≡ ns → Entries (key_in kind c) ns → s.repeats ≡ repeats_in (keys_of kind c) → Indexes c s
 indexes_from kind ns c s same numbers es repeats = record {
-  entries = subst (λ j. Entries (key_at j c) s.numbers) (sym same) (subst (Entries (key_at kind c)) (sym numbers) es);
+  entries = subst (λ j. Entries (key_in j c) s.numbers) (sym same) (subst (Entries (key_in kind c)) (sym numbers) es);
   repeats = repeats ∙ ap (λ j. repeats_in (keys_of j c)) (sym same);
 }
 
 -- ---- entering a cell and leaving it
 
 module _ (x : ℕ) (cells b c : List (Option Node)) (t : Listing) (without : Without t.kind x cells b c) where
-  keyless : key_at t.kind cells x ≡ None → (y : ℕ) → key_at t.kind b y ≡ key_at t.kind c y
+  keyless : key_in t.kind cells x ≡ None → (y : ℕ) → key_in t.kind b y ≡ key_in t.kind c y
   keyless none y = elim (cases_eq y x) [
-    | inl same ↦ ap (key_at t.kind b) same ∙ without.blank ∙ sym (without.here ∙ none) ∙ ap (key_at t.kind c) (sym same)
+    | inl same ↦ ap (key_in t.kind b) same ∙ without.blank ∙ sym (without.here ∙ none) ∙ ap (key_in t.kind c) (sym same)
     | inr other ↦ without.others y other
   ]
 
-  pub nothing_entered : key_at t.kind cells x ≡ None → Indexes b t → Indexes c t
+  pub nothing_entered : key_in t.kind cells x ≡ None → Indexes b t → Indexes c t
   nothing_entered none = indexes_alike t b c (keyless none)
 
-  pub nothing_left : key_at t.kind cells x ≡ None → Indexes c t → Indexes b t
+  pub nothing_left : key_in t.kind cells x ≡ None → Indexes c t → Indexes b t
   nothing_left none = indexes_alike t c b (λ y. sym (keyless none y))
 
-  pub part_before : IsPart (key_at t.kind b) (key_at t.kind cells)
+  pub part_before : IsPart (key_in t.kind b) (key_in t.kind cells)
   part_before y some = elim (cases_eq y x) [
-    | inl same ↦ absurd (no_key (key_at t.kind b y) (ap (key_at t.kind b) same ∙ without.blank) some)
+    | inl same ↦ absurd (no_key (key_in t.kind b y) (ap (key_in t.kind b) same ∙ without.blank) some)
     | inr other ↦ without.part y (ap is_some (sym (without.others y other)) ∙ some) ∙ sym (without.others y other)
   ]
 
-  module _ (k : List ℕ) (key : key_at t.kind cells x ≡ Some k) where
-    here : key_at t.kind c x ≡ Some k
+  module _ (k : List ℕ) (key : key_in t.kind cells x ≡ Some k) where
+    here : key_in t.kind c x ≡ Some k
     here = without.here ∙ key
 
     more : repeats_in (keys_of t.kind c) ≡ repeats_in (keys_of t.kind b) + cond (count same_bytes k (keys_of t.kind b) == 0) 0 1
@@ -101,14 +101,14 @@ module _ (x : ℕ) (cells b c : List (Option Node)) (t : Listing) (without : Wit
         plain : (n : ℕ) → n + 0 ≡ n
         plain n = omega arith
 
-    pub entered : (p : ℕ) → Entries (key_at t.kind b) t.numbers → IsGap (key_at t.kind b) t.numbers (k, x) p → Entries (key_at t.kind c) (insert t.numbers p x)
-    entered p es gap = with_entry x k (key_at t.kind b) (key_at t.kind c) here without.blank without.others t.numbers p es gap
+    pub entered : (p : ℕ) → Entries (key_in t.kind b) t.numbers → IsGap (key_in t.kind b) t.numbers (k, x) p → Entries (key_in t.kind c) (insert t.numbers p x)
+    entered p es gap = with_entry x k (key_in t.kind b) (key_in t.kind c) here without.blank without.others t.numbers p es gap
 
-    pub placed : (p : ℕ) → Entries (key_at t.kind c) t.numbers → IsGap (key_at t.kind c) t.numbers (k, x) p → p < length t.numbers
-    placed p es gap = (stands x k (key_at t.kind b) (key_at t.kind c) here without.blank without.others t.numbers p es gap).0
+    pub placed : (p : ℕ) → Entries (key_in t.kind c) t.numbers → IsGap (key_in t.kind c) t.numbers (k, x) p → p < length t.numbers
+    placed p es gap = (stands x k (key_in t.kind b) (key_in t.kind c) here without.blank without.others t.numbers p es gap).0
 
-    pub left : (p : ℕ) → Entries (key_at t.kind c) t.numbers → IsGap (key_at t.kind c) t.numbers (k, x) p → Entries (key_at t.kind b) (remove t.numbers p)
-    left p es gap = without_entry x k (key_at t.kind b) (key_at t.kind c) here without.blank without.others t.numbers p es gap
+    pub left : (p : ℕ) → Entries (key_in t.kind c) t.numbers → IsGap (key_in t.kind c) t.numbers (k, x) p → Entries (key_in t.kind b) (remove t.numbers p)
+    left p es gap = without_entry x k (key_in t.kind b) (key_in t.kind c) here without.blank without.others t.numbers p es gap
 
     pub few : repeats_in (keys_of t.kind c) ≤ length cells
     few = subst (λ n. repeats_in (keys_of t.kind c) ≤ n) without.wide (repeats_within (key_of t.kind) (none_blank t.kind) c)

@@ -3,7 +3,7 @@
 ghost use Rattle.std.specs.Prelude.{◌≡◌, ℕ, ◌<◌, ◌≤◌, ◌^◌, suc, Option, List, length, IfOk, OnOk, OnErr};
 ghost use Rattle.mls_leaf.specs.declared.node.Node.{Node};
 ghost use Rattle.mls_term.specs.Sets.{same_bytes, is_distinct};
-ghost use Rattle.mls_index.specs.Keys.{key_at, keys_of, is_held};
+ghost use Rattle.mls_index.specs.Keys.{key_in, keys_of, is_held};
 ghost use Rattle.mls_index.specs.Order.{Entries, IsGap, IsPart};
 ghost use Rattle.mls_index.specs.Indexes.{Indexes, Without, SameIndex};
 
@@ -62,7 +62,7 @@ impl Index {
     /// How many entries come before this key and number.
     fn place(&self, cells: &[Slot], key: &[u8], x: u32) -> usize
         ensures bound { result ≤ length self.now.numbers }
-        ensures gap { (at : ℕ → Option (List ℕ)) → IsPart at (key_at self.now.kind cells.now) → Entries at self.now.numbers → IsGap at self.now.numbers (key.now, x) result }
+        ensures gap { (at : ℕ → Option (List ℕ)) → IsPart at (key_in self.now.kind cells.now) → Entries at self.now.numbers → IsGap at self.now.numbers (key.now, x) result }
     {
         self.numbers
             .partition_point(|y| is_before(self.kind, cells, *y, key, x))
@@ -70,10 +70,10 @@ impl Index {
 
     /// Whether an entry has this key, whatever the count.
     fn finds(&self, cells: &[Slot], key: &[u8]) -> bool
-        ensures { (c : List (Option Node)) → IsPart (key_at self.now.kind c) (key_at self.now.kind cells.now) → Entries (key_at self.now.kind c) self.now.numbers → result ≡ is_held self.now.kind c key.now }
+        ensures { (c : List (Option Node)) → IsPart (key_in self.now.kind c) (key_in self.now.kind cells.now) → Entries (key_in self.now.kind c) self.now.numbers → result ≡ is_held self.now.kind c key.now }
     {
         match self.numbers.get(self.place(cells, key, 0)) {
-            Some(y) => self.kind.is_key_at(cells, *y, key),
+            Some(y) => self.kind.is_key_in(cells, *y, key),
             None => false,
         }
     }
@@ -92,15 +92,15 @@ impl Index {
         ensures room { self.old.room ≤ suc self.new.room }
         ensures entered { (b c : List (Option Node)) → Without self.old.kind x cells.now b c → Indexes b self.old → Indexes c self.new }
     {
-        let Some(key) = self.kind.key_at(cells, x) else {
+        let Some(key) = self.kind.key_in(cells, x) else {
             return;
         };
         let repeats = self.finds(cells, key);
         let place = self.place(cells, key, x);
-        match self.numbers.insert(place, x) {
-            Ok(()) => {}
-            Err(_) => unreachable!(),
-        }
+        // There is room, so this isn't refused.
+        let Ok(()) = self.numbers.insert(place, x) else {
+            return;
+        };
         if repeats {
             self.repeats = self.repeats.saturating_add(1);
         }
@@ -112,7 +112,7 @@ impl Index {
         ensures room { self.old.room ≤ self.new.room }
         ensures left { (b c : List (Option Node)) → Without self.old.kind x cells.now b c → Indexes c self.old → Indexes b self.new }
     {
-        let Some(key) = self.kind.key_at(cells, x) else {
+        let Some(key) = self.kind.key_in(cells, x) else {
             return;
         };
         let place = self.place(cells, key, x);

@@ -2,7 +2,7 @@
 
 ghost use Rattle.std.specs.Prelude.{◌≡◌};
 ghost use Rattle.std.specs.Option.{option_copied};
-ghost use Rattle.mls_index.specs.Keys.{key_of, key_at, is_key};
+ghost use Rattle.mls_index.specs.Keys.{key_of, key_in, is_key};
 
 use mls_leaf::Node;
 use mls_slot::Slot;
@@ -30,17 +30,17 @@ impl KeyKind {
     }
 
     /// The key of the cell with this number, where there is one.
-    pub(crate) fn key_at(self, cells: &[Slot], x: u32) -> Option<&[u8]>
-        ensures { option_copied result ≡ key_at self cells.now x }
+    pub(crate) fn key_in(self, cells: &[Slot], x: u32) -> Option<&[u8]>
+        ensures { option_copied result ≡ key_in self cells.now x }
     {
         self.key_of(cells.get(x as usize)?)
     }
 
     /// Whether the cell with this number has this key.
-    pub(crate) fn is_key_at(self, cells: &[Slot], x: u32, key: &[u8]) -> bool
-        ensures { result ≡ is_key key.now (key_at self cells.now x) }
+    pub(crate) fn is_key_in(self, cells: &[Slot], x: u32, key: &[u8]) -> bool
+        ensures { result ≡ is_key key.now (key_in self cells.now x) }
     {
-        match self.key_at(cells, x) {
+        match self.key_in(cells, x) {
             Some(own) => own == key,
             None => false,
         }

@@ -4,6 +4,7 @@
 mod index;
 mod kind;
 mod order;
+mod places;
 #[cfg(test)]
 mod tests;
 

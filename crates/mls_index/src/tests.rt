@@ -4,6 +4,7 @@ use crate::{Index, KeyKind};
 use mls_leaf::{Bytes, Capabilities, Credential, Items, LeafNode, LeafSource, Node, ParentNode};
 use mls_slot::Slot;
 use std::alloc::{AllocError, Global};
+use std::process::Abort;
 use std::test::Fail;
 
 fn byte(alloc: Global, b: u8) -> Result<Bytes, AllocError> {
@@ -51,11 +52,29 @@ fn cells(alloc: Global) -> Result<Vec<Slot>, AllocError> {
     Ok(cells)
 }
 
+/// The index of a hundred cells at most.
+fn index(
+    rt: &impl Abort,
+    alloc: Global,
+    kind: KeyKind,
+    cells: &[Slot],
+) -> Result<Index, AllocError> {
+    assert!(rt; cells.len() <= 100);
+    Index::build(alloc, kind, cells)
+}
+
+/// Puts a cell at a place.
+fn put(cells: &mut [Slot], x: usize, cell: Slot) {
+    if let Some(place) = cells.get_mut(x) {
+        *place = cell;
+    }
+}
+
 #[test]
 fn finds_encryption_keys(rt: HostRuntime) -> Result<(), Fail> {
     let alloc = rt.alloc();
     let cells = cells(alloc)?;
-    let index = Index::build(alloc, KeyKind::Encryption, &cells)?;
+    let index = index(&rt, alloc, KeyKind::Encryption, &cells)?;
     for key in [3, 5, 7] {
         assert!(rt; index.holds(&cells, &[key]));
     }
@@ -72,7 +91,7 @@ fn finds_encryption_keys(rt: HostRuntime) -> Result<(), Fail> {
 fn leaves_no_parent_among_signature_keys(rt: HostRuntime) -> Result<(), Fail> {
     let alloc = rt.alloc();
     let cells = cells(alloc)?;
-    let index = Index::build(alloc, KeyKind::Signature, &cells)?;
+    let index = index(&rt, alloc, KeyKind::Signature, &cells)?;
     assert!(rt; index.holds(&cells, &[1]));
     assert!(rt; !index.holds(&cells, &[3]));
     assert!(rt; !index.are_distinct());
@@ -83,24 +102,24 @@ fn leaves_no_parent_among_signature_keys(rt: HostRuntime) -> Result<(), Fail> {
 fn follows_cells(rt: HostRuntime) -> Result<(), Fail> {
     let alloc = rt.alloc();
     let mut cells = cells(alloc)?;
-    let mut index = Index::build(alloc, KeyKind::Encryption, &cells)?;
+    let mut index = index(&rt, alloc, KeyKind::Encryption, &cells)?;
     index.reserve(3)?;
-    cells[2] = leaf(alloc, 5, 2)?;
+    put(&mut cells, 2, leaf(alloc, 5, 2)?);
     index.enter(&cells, 2);
     assert!(rt; !index.are_distinct());
-    cells[3] = parent(alloc, 5)?;
+    put(&mut cells, 3, parent(alloc, 5)?);
     index.enter(&cells, 3);
     assert!(rt; !index.are_distinct());
     let copy = index.clone()?;
     index.leave(&cells, 4);
-    cells[4] = Slot::blank();
+    put(&mut cells, 4, Slot::blank());
     assert!(rt; !index.are_distinct());
     index.leave(&cells, 2);
-    cells[2] = Slot::blank();
+    put(&mut cells, 2, Slot::blank());
     assert!(rt; index.are_distinct());
     assert!(rt; index.holds(&cells, &[5]));
     index.leave(&cells, 3);
-    cells[3] = Slot::blank();
+    put(&mut cells, 3, Slot::blank());
     index.leave(&cells, 3);
     assert!(rt; !index.holds(&cells, &[5]));
     assert!(rt; !copy.are_distinct());
@@ -111,21 +130,21 @@ fn follows_cells(rt: HostRuntime) -> Result<(), Fail> {
 fn orders_many(rt: HostRuntime) -> Result<(), Fail> {
     let alloc = rt.alloc();
     let mut cells = Vec::new(alloc);
-    for k in 0..100 {
-        let key = (k * 37 % 101) as u8;
+    for k in 0..100u8 {
+        let key = k.wrapping_mul(37);
         cells.push(leaf(alloc, key, key / 2)?)?;
     }
-    let keys = Index::build(alloc, KeyKind::Encryption, &cells)?;
-    let mut clients = Index::build(alloc, KeyKind::Signature, &cells)?;
+    let keys = index(&rt, alloc, KeyKind::Encryption, &cells)?;
+    let mut clients = index(&rt, alloc, KeyKind::Signature, &cells)?;
     assert!(rt; keys.are_distinct());
     assert!(rt; !clients.are_distinct());
-    for key in 0..100 {
-        assert!(rt; keys.holds(&cells, &[(key * 37 % 101) as u8]));
+    for k in 0..100u8 {
+        assert!(rt; keys.holds(&cells, &[k.wrapping_mul(37)]));
     }
-    for x in 0..100 {
-        if (x * 37 % 101) % 2 == 1 {
+    for x in 0..100u32 {
+        if x % 2 == 1 {
             clients.leave(&cells, x);
-            cells[x as usize] = Slot::blank();
+            put(&mut cells, x as usize, Slot::blank());
         }
     }
     assert!(rt; clients.are_distinct());

@@ -1,14 +1,14 @@
 use Rattle.std.proofs.Common.{rules, ℕ, List, sym, ◌∙◌, ap, subst}
 use Rattle.std.proofs.lemmas.List.Sorted.{IsPartitionPoint-from_clause}
 use Rattle.std.specs.Ordering.{is_lt}
-use Rattle.mls_index.specs.Keys.{key_at}
+use Rattle.mls_index.specs.Keys.{key_in}
 use Rattle.mls_index.specs.Order.{entry_at, entry_cmp, Entries, IsGap}
 use Rattle.mls_index.specs.EntryLaws.{parted, gap_at}
 use Rattle.mls_index.proofs.index.Index.place.Goals as goal
 
 pub returns-clause-gap : goal.returns-clause-gap
 returns-clause-gap c = λ at part es.
-    let real = key_at c.args.self.now.kind c.args.cells.now in
+    let real = key_in c.args.self.now.kind c.args.cells.now in
     let e : List ℕ × ℕ = (c.args.key.now, c.args.x) in
     let numbers = c.deref.ensures.value ∙ ap (λ t. t.numbers) c.self.view_is in
     let here = subst (Entries at) (sym numbers) es in

@@ -1,0 +1,39 @@
+//! Several cells at once.
+
+ghost use Rattle.std.specs.Prelude.{◌≡◌, ℕ, ◌+◌, ◌≤◌, nat_eq, true, Option, List, length};
+ghost use Rattle.mls_leaf.specs.declared.node.Node.{Node};
+ghost use Rattle.mls_term.specs.Sets.{is_distinct};
+ghost use Rattle.mls_index.specs.Indexes.{Indexes};
+ghost use Rattle.mls_index.specs.Cleared.{HasPlaces, cleared};
+
+use crate::index::Index;
+use mls_slot::Slot;
+
+impl Index {
+    /// Takes out the cells at some places, each given once: before they are blanked or replaced.
+    pub fn leave_all(&mut self, cells: &[Slot], places: &[u32])
+        requires { is_distinct nat_eq places.now ≡ true }
+        ensures kind { self.new.kind ≡ self.old.kind }
+        ensures room { self.old.room ≤ self.new.room }
+        ensures left { (c : List (Option Node)) → HasPlaces self.old.kind places.now cells.now c → Indexes c self.old → Indexes (cleared 0 places.now c) self.new }
+    {
+        if let Some((x, rest)) = places.split_first() {
+            self.leave(cells, *x);
+            self.leave_all(cells, rest);
+        }
+    }
+
+    /// Enters the cells at some places, each given once: after they were filled, where they were blank.
+    pub fn enter_all(&mut self, cells: &[Slot], places: &[u32])
+        requires distinct { is_distinct nat_eq places.now ≡ true }
+        requires room { length places.now ≤ self.old.room }
+        ensures kind { self.new.kind ≡ self.old.kind }
+        ensures room { self.old.room ≤ self.new.room + length places.now }
+        ensures entered { (c : List (Option Node)) → HasPlaces self.old.kind places.now cells.now c → Indexes (cleared 0 places.now c) self.old → Indexes c self.new }
+    {
+        if let Some((x, rest)) = places.split_first() {
+            self.enter_all(cells, rest);
+            self.enter(cells, *x);
+        }
+    }
+}
