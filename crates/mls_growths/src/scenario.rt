@@ -9,6 +9,7 @@ use crate::group::{Committed, Trio, Updated, alone, candidate, named, reference_
 use crate::trial::{try_call, try_join};
 use crate::worlds::try_run;
 use anyhow::Result;
+use mls_kdf::Secret;
 use mls_member::{Candidate, Item};
 use mls_suite::Glass;
 use std::alloc::Global;
@@ -90,8 +91,8 @@ impl Scenario {
             Scenario::ProcessCommitOfOwn => process_commit_of_own(rt, alloc),
             Scenario::ProcessPending => process_pending(rt, alloc),
             Scenario::ProposeAdd => propose_add(rt, alloc),
-            Scenario::ProposeUpdate => propose(rt, alloc, &Call::ProposeUpdate([8; 32])),
-            Scenario::ProposeRemove => propose(rt, alloc, &Call::ProposeRemove(2)),
+            Scenario::ProposeUpdate => propose_update(rt, alloc),
+            Scenario::ProposeRemove => propose_remove(rt, alloc),
             Scenario::Join => join(rt, alloc),
             Scenario::Run => try_run(rt, alloc),
         }
@@ -111,7 +112,7 @@ fn commit_add(rt: &impl Print, alloc: Global) -> Result<()> {
     let mut member = alone(alloc)?;
     let added = candidate(alloc, b'b', 3)?;
     let call = Call::Commit(additions(alloc, &added)?, [4; 32]);
-    try_call(rt, alloc, &mut member, &call, &[])
+    try_call(rt, alloc, &mut member, call, &[])
 }
 
 fn commit_update(rt: &impl Print, alloc: Global) -> Result<()> {
@@ -122,7 +123,7 @@ fn commit_update(rt: &impl Print, alloc: Global) -> Result<()> {
     } = Updated::new(alloc)?;
     group.first.process(&update)?;
     let call = Call::Commit(named(alloc, &reference)?, [7; 32]);
-    try_call(rt, alloc, &mut group.first, &call, &reference)
+    try_call(rt, alloc, &mut group.first, call, &reference)
 }
 
 fn process_update(rt: &impl Print, alloc: Global) -> Result<()> {
@@ -132,7 +133,7 @@ fn process_update(rt: &impl Print, alloc: Global) -> Result<()> {
         reference,
     } = Updated::new(alloc)?;
     let call = Call::Process(update);
-    try_call(rt, alloc, &mut group.first, &call, &reference)
+    try_call(rt, alloc, &mut group.first, call, &reference)
 }
 
 fn process_commit(rt: &impl Print, alloc: Global) -> Result<()> {
@@ -142,7 +143,7 @@ fn process_commit(rt: &impl Print, alloc: Global) -> Result<()> {
         reference,
     } = Committed::new(alloc)?;
     let call = Call::Process(commit);
-    try_call(rt, alloc, &mut group.third, &call, &reference)
+    try_call(rt, alloc, &mut group.third, call, &reference)
 }
 
 fn process_commit_of_own(rt: &impl Print, alloc: Global) -> Result<()> {
@@ -152,7 +153,7 @@ fn process_commit_of_own(rt: &impl Print, alloc: Global) -> Result<()> {
         reference,
     } = Committed::new(alloc)?;
     let call = Call::Process(commit);
-    try_call(rt, alloc, &mut group.second, &call, &reference)
+    try_call(rt, alloc, &mut group.second, call, &reference)
 }
 
 fn process_pending(rt: &impl Print, alloc: Global) -> Result<()> {
@@ -162,21 +163,33 @@ fn process_pending(rt: &impl Print, alloc: Global) -> Result<()> {
         reference,
     } = Committed::new(alloc)?;
     let call = Call::Process(commit);
-    try_call(rt, alloc, &mut group.first, &call, &reference)
+    try_call(rt, alloc, &mut group.first, call, &reference)
 }
 
 fn propose_add(rt: &impl Print, alloc: Global) -> Result<()> {
-    let added = candidate(alloc, b'd', 8)?;
-    propose(rt, alloc, &Call::ProposeAdd(added))
+    let call = Call::ProposeAdd(candidate(alloc, b'd', 8)?);
+    let reference = reference_of(alloc, &call)?;
+    propose(rt, alloc, call, &reference)
 }
 
-/// The second of three proposes.
-fn propose(rt: &impl Print, alloc: Global, call: &Call) -> Result<()>
-    requires { IsShortCall call.now }
+fn propose_update(rt: &impl Print, alloc: Global) -> Result<()> {
+    let call = Call::ProposeUpdate([8; 32]);
+    let reference = reference_of(alloc, &call)?;
+    propose(rt, alloc, call, &reference)
+}
+
+fn propose_remove(rt: &impl Print, alloc: Global) -> Result<()> {
+    let call = Call::ProposeRemove(2);
+    let reference = reference_of(alloc, &call)?;
+    propose(rt, alloc, call, &reference)
+}
+
+/// The second of three proposes, where the proposal will have this reference.
+fn propose(rt: &impl Print, alloc: Global, call: Call, reference: &Secret) -> Result<()>
+    requires { IsShortCall call }
 {
-    let reference = reference_of(alloc, call)?;
     let mut group = Trio::new(alloc)?;
-    try_call(rt, alloc, &mut group.second, call, &reference)
+    try_call(rt, alloc, &mut group.second, call, reference)
 }
 
 fn join(rt: &impl Print, alloc: Global) -> Result<()> {

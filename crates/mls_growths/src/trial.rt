@@ -30,8 +30,8 @@ fn print_first(
     Ok(ended?)
 }
 
-/// A call on a member, which is shown with the proposal of a reference.
-pub(crate) fn try_call(
+/// Both calls, with what the member shows around them.
+fn call_twice(
     rt: &impl Print,
     alloc: Global,
     member: &mut Member<Glass>,
@@ -45,6 +45,19 @@ pub(crate) fn try_call(
     print_member(rt, alloc, "after", member, reference)?;
     print_answer(rt, alloc, "again", answer_of(member, call))?;
     print_member(rt, alloc, "last", member, reference)
+}
+
+/// A call on a member, which is shown with the proposal of a reference.
+pub(crate) fn try_call(
+    rt: &impl Print,
+    alloc: Global,
+    member: &mut Member<Glass>,
+    call: Call,
+    reference: &[u8],
+) -> Result<()>
+    requires { IsShortCall call }
+{
+    call_twice(rt, alloc, member, &call, reference)
 }
 
 /// The join under trial.
