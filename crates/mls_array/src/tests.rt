@@ -69,7 +69,7 @@ fn paths_of_the_example(rt: HostRuntime) -> Result<(), Fail> {
 #[test]
 fn members_of_the_example(rt: HostRuntime) -> Result<(), Fail> {
     let nodes = example(rt.alloc())?;
-    assert_eq!(rt; first_blank(&nodes, 3, 0), Some(2));
+    assert_eq!(rt; first_blank(&nodes, 3, 0, 0), Some(2));
     assert!(rt; has_leaf(&nodes, 3));
     assert!(rt; is_reached(&nodes, 3));
     assert_eq!(rt; member_count(&nodes, 3), 6);

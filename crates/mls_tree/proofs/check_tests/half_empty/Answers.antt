@@ -1,11 +1,12 @@
 use Rattle.std.proofs.Common.{arith}
 use Rattle.mls_tree.proofs.Halves.{halves_stand, halves_short, seven}
 use Rattle.mls_tree.proofs.Keepings.{cold_by}
+use Rattle.mls_tree.proofs.Bounding.{unbounded_array}
 use Rattle.mls_tree.proofs.check_tests.half_empty.Goals as goal
 
 pub invariant_of-result : goal.invariant_of-result
 invariant_of-result c =
-    ((halves_stand c.args.left c.args.parent c.args.right _ (rw (c.in_ok-left.ensures, c.in_ok-parent.ensures, c.in_ok-right.ensures) at c.in_ok-nodes.ensures)).stands, omega arith, cold_by 2 7 0 _ _ c.in_ok-hashes.ensures seven)
+    ((halves_stand c.args.left c.args.parent c.args.right _ (rw (c.in_ok-left.ensures, c.in_ok-parent.ensures, c.in_ok-right.ensures) at c.in_ok-nodes.ensures)).stands, omega arith, cold_by 2 7 0 _ _ c.in_ok-hashes.ensures seven, unbounded_array 2 _)
 
 pub returns : goal.returns
 returns c = halves_short c.args.left c.args.parent c.args.right _ (rw (c.in_ok-left.ensures, c.in_ok-parent.ensures, c.in_ok-right.ensures) at c.in_ok-nodes.ensures) c.requires.left c.requires.right
