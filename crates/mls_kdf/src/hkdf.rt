@@ -2,9 +2,8 @@
 
 ghost use Rattle.std.specs.Prelude.{◌≡◌, ℕ, ◌+◌, ◌-◌, ◌*◌, ◌<◌, ◌≤◌, ◌↔◌, [], ◌∷◌, ◌++◌, List, length, take, drop, IsErrOf, OnOk, OnErr};
 ghost use Rattle.mls_kdf.specs.Kdf.{joined, hmac, extract, expand, hkdf_block, max_output};
-ghost use Rattle.mls_kdf.specs.Keyed.{IsKeyed};
 
-use crate::{KdfError, KeyedHash, MAX_OUTPUT, Secret, hmac};
+use crate::{HmacKey, KdfError, MAX_OUTPUT, Secret, hmac};
 
 /// A key made of input key material `ikm`, under a salt.
 #[tactic(auto, unfolding(crate::specs::Kdf::extract))]
@@ -15,10 +14,10 @@ pub fn extract(salt: &[u8], ikm: &[u8]) -> Secret
 }
 
 // The block with this number, from the one before; the first comes from none.
-fn next_block(keyed: &KeyedHash, previous: &[u8], info: &[&[u8]], number: u8) -> Secret
-    ensures { (prk : List ℕ) → IsKeyed keyed.now prk [] → result ≡ hmac prk (previous.now ++ joined info.now ++ number ∷ []) }
+fn next_block(key: &HmacKey, previous: &[u8], info: &[&[u8]], number: u8) -> Secret
+    ensures { result ≡ hmac key.now (previous.now ++ joined info.now ++ number ∷ []) }
 {
-    let mut keyed = keyed.copy();
+    let mut keyed = key.begin();
     keyed.update(previous);
     keyed.update_all(info);
     keyed.update(&[number]);
@@ -34,6 +33,27 @@ fn put(out: &mut [u8], at: usize, block: &Secret)
     out[at..end].copy_from_slice(&block[..end - at]);
 }
 
+impl HmacKey<'_> {
+    /// Fills `out` with a key made of this one and the pieces of `info`, one after another. More than
+    /// 8,160 bytes are refused with `OutputTooLong`, and `out` is as it was.
+    pub fn expand(&self, info: &[&[u8]], out: &mut [u8]) -> Result<(), KdfError>
+        ensures too_long { IsErrOf result KdfError.OutputTooLong ↔ (max_output < length out.old) }
+        ensures ok { OnOk result (out.new ≡ expand self.now (joined info.now) (length out.old)) }
+        ensures err { OnErr result (out.new ≡ out.old) }
+    {
+        if out.len() > MAX_OUTPUT {
+            return Err(KdfError::OutputTooLong);
+        }
+        let mut block = [0; 32];
+        for i in 0..out.len().div_ceil(32) {
+            let previous: &[u8] = if i == 0 { &[] } else { &block };
+            block = next_block(self, previous, info, (i + 1) as u8);
+            put(out, 32 * i, &block);
+        }
+        Ok(())
+    }
+}
+
 /// Fills `out` with a key made of `prk` and the pieces of `info`, one after another. More than 8,160
 /// bytes are refused with `OutputTooLong`, and `out` is as it was.
 pub fn expand(prk: &[u8], info: &[&[u8]], out: &mut [u8]) -> Result<(), KdfError>
@@ -41,15 +61,5 @@ pub fn expand(prk: &[u8], info: &[&[u8]], out: &mut [u8]) -> Result<(), KdfError
     ensures ok { OnOk result (out.new ≡ expand prk.now (joined info.now) (length out.old)) }
     ensures err { OnErr result (out.new ≡ out.old) }
 {
-    if out.len() > MAX_OUTPUT {
-        return Err(KdfError::OutputTooLong);
-    }
-    let keyed = KeyedHash::new(prk);
-    let mut block = [0; 32];
-    for i in 0..out.len().div_ceil(32) {
-        let previous: &[u8] = if i == 0 { &[] } else { &block };
-        block = next_block(&keyed, previous, info, (i + 1) as u8);
-        put(out, 32 * i, &block);
-    }
-    Ok(())
+    HmacKey::new(prk).expand(info, out)
 }

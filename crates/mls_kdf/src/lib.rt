@@ -4,6 +4,7 @@
 
 mod header;
 mod hkdf;
+mod key;
 mod keyed;
 mod labels;
 mod laws;
@@ -12,6 +13,7 @@ mod tests;
 
 pub use header::content_header;
 pub use hkdf::{expand, extract};
+pub use key::HmacKey;
 pub use keyed::{KeyedHash, hash, hmac};
 pub use labels::{derive_secret, expand_with_label, ref_hash};
 pub use laws::kdf_names_by_number;

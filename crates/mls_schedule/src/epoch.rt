@@ -6,7 +6,9 @@ ghost use Rattle.mls_kdf.specs.Kdf.{joined, expand_with_label, max_output};
 ghost use Rattle.mls_schedule.specs.Epoch.{joiner_secret, welcome_secret, next_welcome_secret, welcome_key, welcome_nonce, intermediate_secret, epoch_secret, next_epoch_secret, nine_secrets, confirmation_tag, membership_tag, exported};
 
 use crate::ScheduleError;
-use mls_kdf::{KdfError, Secret, Seed, derive_secret, expand_with_label, extract, hash, hmac};
+use mls_kdf::{
+    HmacKey, KdfError, Secret, Seed, derive_secret, expand_with_label, extract, hash, hmac,
+};
 use std::marker::Model;
 
 /// The secrets of one epoch: the epoch secret, and the nine that are made of it.
@@ -82,17 +84,18 @@ impl Epoch {
     pub fn first(seed: &Seed) -> Epoch
         ensures { result ≡ seed.now }
     {
+        let key = HmacKey::new(seed);
         Epoch {
             epoch: *seed,
-            sender_data: derive_secret(seed, "sender data"),
-            encryption: derive_secret(seed, "encryption"),
-            exporter: derive_secret(seed, "exporter"),
-            external: derive_secret(seed, "external"),
-            confirmation: derive_secret(seed, "confirm"),
-            membership: derive_secret(seed, "membership"),
-            resumption: derive_secret(seed, "resumption"),
-            authenticator: derive_secret(seed, "authentication"),
-            init: derive_secret(seed, "init"),
+            sender_data: key.derive_secret("sender data"),
+            encryption: key.derive_secret("encryption"),
+            exporter: key.derive_secret("exporter"),
+            external: key.derive_secret("external"),
+            confirmation: key.derive_secret("confirm"),
+            membership: key.derive_secret("membership"),
+            resumption: key.derive_secret("resumption"),
+            authenticator: key.derive_secret("authentication"),
+            init: key.derive_secret("init"),
         }
     }
 

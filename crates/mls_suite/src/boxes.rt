@@ -1,12 +1,11 @@
 //! Boxes of the practice suite: a text combined with a stream made of a key, and its tag.
 
-ghost use Rattle.std.specs.Prelude.{◌≡◌, ℕ, ◌+◌, ◌-◌, ◌*◌, ◌<◌, ◌≤◌, ◌^◌, ◌++◌, ◌∷◌, List, [], length, take, drop, IfOk};
+ghost use Rattle.std.specs.Prelude.{◌≡◌, ◌+◌, ◌-◌, ◌*◌, ◌<◌, ◌≤◌, ◌^◌, ◌++◌, length, take, drop, IfOk};
 ghost use Rattle.std.specs.Option.{option_map};
-ghost use Rattle.mls_kdf.specs.Keyed.{IsKeyed};
 ghost use Rattle.mls_suite.specs.Glass.{xor_with, stream_block, streamed, box_tag, boxed, unbox};
 
 use crate::OutOfMemory;
-use mls_kdf::{KeyedHash, Secret, hmac};
+use mls_kdf::{HmacKey, Secret};
 use std::alloc::Global;
 
 // Combines the first bytes with those of a block of the stream.
@@ -26,43 +25,40 @@ fn xor_block_at(bytes: &mut [u8], start: usize, block: &Secret)
     xor_block(&mut bytes[start..], block);
 }
 
-// Block i of the stream, from a fresh hash under its key.
+// Block i of the stream of a key.
 #[tactic(auto, unfolding(crate::specs::Glass::stream_block))]
-pub(crate) fn stream_block(keyed: &KeyedHash, i: usize) -> Secret
-    ensures { (key : List ℕ) → IsKeyed keyed.now key [] → result ≡ stream_block key i }
+pub(crate) fn stream_block(key: &HmacKey, i: usize) -> Secret
+    ensures { result ≡ stream_block key.now i }
 {
     let counter = (i % (1 << 32)) as u32;
-    let mut mac = keyed.copy();
-    mac.update(&[0x73]);
-    mac.update(&counter.to_be_bytes());
-    mac.finish()
+    key.mac(&[&[0x73], &counter.to_be_bytes()])
 }
 
 // Combines the text with the stream of the key, in place.
-fn stream(key: &[u8], text: &mut [u8])
+fn stream(key: &HmacKey, text: &mut [u8])
     ensures { text.new ≡ streamed key.now text.old }
 {
-    let keyed = KeyedHash::new(key);
     for i in 0..text.len().div_ceil(32) {
-        xor_block_at(text, 32 * i, &stream_block(&keyed, i));
+        xor_block_at(text, 32 * i, &stream_block(key, i));
     }
 }
 
 #[tactic(auto, unfolding(crate::specs::Glass::box_tag))]
-fn box_tag(key: &[u8], body: &[u8]) -> Secret
+fn box_tag(key: &HmacKey, body: &[u8]) -> Secret
     ensures { result ≡ box_tag key.now body.now }
 {
-    hmac(key, &[&[0x74], body])
+    key.mac(&[&[0x74], body])
 }
 
 #[tactic(auto, unfolding(crate::specs::Glass::boxed))]
 pub(crate) fn make_box(alloc: Global, key: &[u8], pt: &[u8]) -> Result<Vec<u8>, OutOfMemory>
     ensures { IfOk result (λ ct. ct.items ≡ boxed key.now pt.now) }
 {
+    let key = HmacKey::new(key);
     let mut bytes = Vec::with_capacity(alloc, pt.len() + 32)?;
     bytes.extend_from_slice(pt)?;
-    stream(key, &mut bytes);
-    let tag = box_tag(key, &bytes);
+    stream(&key, &mut bytes);
+    let tag = box_tag(&key, &bytes);
     bytes.extend_from_slice(&tag)?;
     Ok(bytes)
 }
@@ -74,12 +70,13 @@ pub(crate) fn open_box(alloc: Global, key: &[u8], ct: &[u8]) -> Result<Option<Ve
     if ct.len() < 32 {
         return Ok(None);
     }
+    let key = HmacKey::new(key);
     let (body, tag) = ct.split_at(ct.len() - 32);
-    let made = box_tag(key, body);
+    let made = box_tag(&key, body);
     if made.as_slice() != tag {
         return Ok(None);
     }
     let mut bytes = Vec::from_slice(alloc, body)?;
-    stream(key, &mut bytes);
+    stream(&key, &mut bytes);
     Ok(Some(bytes))
 }

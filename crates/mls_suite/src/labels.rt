@@ -2,9 +2,8 @@
 //! the label and the content, each behind its header. A label has at most 200 bytes, and a content
 //! or a context less than 2^30.
 
-ghost use Rattle.std.specs.Prelude.{◌≡◌, ◌+◌, ◌<◌, ◌≤◌, ◌^◌, ◌++◌, length, IfOk};
+ghost use Rattle.std.specs.Prelude.{◌≡◌, ◌+◌, ◌<◌, ◌≤◌, ◌^◌, length, IfOk};
 ghost use Rattle.std.specs.Option.{option_map};
-ghost use Rattle.mls_wire.specs.Reading.{opaque};
 ghost use Rattle.mls_suite.specs.Made.{sealing_of};
 ghost use Rattle.mls_suite.specs.Labels.{labelled, sign_with_label, verify_with_label, encrypt_with_label, decrypt_with_label};
 ghost use Rattle.mls_suite.specs.LabelLaws.{VerifiesSigned, OpensSealed, SealsWhereFit, SignsShort};

@@ -1,7 +1,7 @@
 //! Glass, the practice suite. It hides nothing: anyone who knows a public key can open and sign. It
 //! exists so that the laws of a suite have an implementation, and examples have bytes.
 
-ghost use Rattle.std.specs.Prelude.{◌≡◌, ℕ, ◌<◌, ◌≤◌, ◌^◌, ◌++◌, List, [], length, refl};
+ghost use Rattle.std.specs.Prelude.{◌≡◌, ◌<◌, refl};
 ghost use Rattle.mls_suite.specs.Glass.{glass, glass_public, glass_sig_public, glass_box_key, glass_aead_key};
 ghost use Rattle.mls_suite.specs.GlassLaws.{glass_lawful};
 

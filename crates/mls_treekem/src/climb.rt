@@ -8,7 +8,7 @@ ghost use Rattle.mls_treekem.specs.Faults.{number_of};
 use crate::TreeKemError;
 use crate::places::Place;
 use crate::secrets::{next_secret, node_pair};
-use mls_kdf::Secret;
+use mls_kdf::{HmacKey, Secret};
 use mls_suite::{OutOfMemory, Suite};
 use std::marker::Model;
 
@@ -39,12 +39,14 @@ impl Climb {
     {
         let mut climb = self;
         let alloc = *climb.above.allocator();
-        let pair = node_pair::<S>(alloc, &climb.secret)?;
+        let key = HmacKey::new(&climb.secret);
+        let next = next_secret(&key);
+        let pair = node_pair::<S>(alloc, &key)?;
         if pair.pk.as_slice() != public_key {
             return Err(TreeKemError::PathKeyMismatch);
         }
         climb.above.push(Some(pair.sk))?;
-        climb.secret = next_secret(&climb.secret);
+        climb.secret = next;
         Ok(climb)
     }
 

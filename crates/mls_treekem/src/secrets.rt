@@ -4,7 +4,7 @@ ghost use Rattle.std.specs.Prelude.{◌≡◌, IfOk};
 ghost use Rattle.mls_paths.specs.Chain.{next_secret, node_key, node_public};
 ghost use Rattle.mls_treekem.specs.Secrets.{AreOfChain};
 
-use mls_kdf::{Secret, derive_secret};
+use mls_kdf::{HmacKey, Secret};
 use mls_suite::{KeyPair, OutOfMemory, Suite};
 use std::alloc::Global;
 
@@ -21,19 +21,19 @@ pub struct PathSecrets {
 
 /// The path secret of the next node above.
 #[tactic(auto, unfolding(mls_paths::specs::Chain::next_secret))]
-pub(crate) fn next_secret(secret: &Secret) -> Secret
+pub(crate) fn next_secret(secret: &HmacKey) -> Secret
     ensures { result ≡ next_secret secret.now }
 {
-    derive_secret(secret, "path")
+    secret.derive_secret("path")
 }
 
 /// The key pair of the node with a path secret.
 #[tactic(auto, unfolding(mls_paths::specs::Chain::node_key))]
-pub(crate) fn node_pair<S: Suite>(alloc: Global, secret: &Secret) -> Result<KeyPair, OutOfMemory>
+pub(crate) fn node_pair<S: Suite>(alloc: Global, secret: &HmacKey) -> Result<KeyPair, OutOfMemory>
     ensures private { IfOk result (λ pair. pair.sk ≡ node_key S.crypto secret.now) }
     ensures public { IfOk result (λ pair. pair.pk.items ≡ node_public S.crypto secret.now) }
 {
-    S::derive_key_pair(alloc, &derive_secret(secret, "node"))
+    S::derive_key_pair(alloc, &secret.derive_secret("node"))
 }
 
 impl PathSecrets {
@@ -49,9 +49,11 @@ impl PathSecrets {
         let mut pairs = Vec::with_capacity(alloc, count)?;
         let mut secret = *start;
         for _ in 0..count {
-            pairs.push(node_pair::<S>(alloc, &secret)?)?;
+            let key = HmacKey::new(&secret);
+            let next = next_secret(&key);
+            pairs.push(node_pair::<S>(alloc, &key)?)?;
             secrets.push(secret)?;
-            secret = next_secret(&secret);
+            secret = next;
         }
         Ok(PathSecrets {
             secrets,

@@ -1,7 +1,7 @@
 use super::*;
 use crate::boxes::stream_block;
 use crate::{decrypt_with_label, encrypt_with_label, sign_with_label, verify_with_label};
-use mls_kdf::KeyedHash;
+use mls_kdf::HmacKey;
 use std::test::Fail;
 
 // Values by Python's hashlib and hmac.
@@ -120,7 +120,7 @@ fn sizes(rt: HostRuntime) -> Result<(), Fail> {
 // The counter of the stream has 32 bits and goes on from 0. Values by Python's hmac.
 #[test]
 fn counter_goes_on_from_zero(rt: HostRuntime) {
-    let keyed = KeyedHash::new(b"k");
+    let key = HmacKey::new(b"k");
     let first = [
         0x76, 0x67, 0x16, 0x1d, 0x7c, 0xa9, 0xd9, 0xfc, 0xfd, 0x70, 0xfc, 0x9a, 0x87, 0x5d, 0xd1,
         0x22, 0xfe, 0x2b, 0xe1, 0x4f, 0x96, 0x5c, 0x95, 0x97, 0xb0, 0x3c, 0xd9, 0x89, 0x30, 0x6b,
@@ -131,7 +131,7 @@ fn counter_goes_on_from_zero(rt: HostRuntime) {
         0x34, 0x4c, 0xf4, 0xb1, 0x35, 0x51, 0x87, 0xbc, 0xbe, 0x95, 0xbc, 0xd5, 0xb3, 0x3a, 0xd6,
         0x74, 0xc1,
     ];
-    assert_eq!(rt; stream_block(&keyed, 0), first);
-    assert_eq!(rt; stream_block(&keyed, (1 << 32) - 1), greatest);
-    assert_eq!(rt; stream_block(&keyed, 1 << 32), first);
+    assert_eq!(rt; stream_block(&key, 0), first);
+    assert_eq!(rt; stream_block(&key, (1 << 32) - 1), greatest);
+    assert_eq!(rt; stream_block(&key, 1 << 32), first);
 }

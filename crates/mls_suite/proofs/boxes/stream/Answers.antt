@@ -6,17 +6,15 @@ use Rattle.mls_suite.proofs.boxes.stream.Goals as goal
 
 pub loop-i-init : goal.loop-i-init
 unfolding stream_blocks
-loop-i-init c = record { done = sym (xor_with-nil c.args.text.now); keyed = c.new-keyed.ensures }
+loop-i-init c = sym (xor_with-nil c.args.text.now)
 
 pub loop-i-preserved : goal.loop-i-preserved
-loop-i-preserved c = record {
-  done = stream_more c.args.key.now c.args.text.now c.loop-i.text c.stream_block.result c.xor_block_at.new.bytes c.loop-i.i c.loop-i.invariant.done (c.stream_block.ensures _ c.loop-i.invariant.keyed) c.xor_block_at.ensures;
-  keyed = c.loop-i.invariant.keyed;
-}
+loop-i-preserved c =
+    stream_more c.args.key.now c.args.text.now c.loop-i.text c.stream_block.result c.xor_block_at.new.bytes c.loop-i.i c.loop-i.invariant c.stream_block.ensures c.xor_block_at.ensures
 
 all_streamed : (key text now : List ℕ) (i : ℕ) → now ≡ xor_with text (stream_blocks key i) → i ≡ div_ceil (length text) 32 → now ≡ streamed key text
 unfolding streamed
 all_streamed key text now i e n = e ∙ ap (λ k. xor_with text (stream_blocks key k)) n
 
 pub returns : goal.returns
-returns c = all_streamed c.args.key.now c.args.text.now c.loop-i.text c.loop-i.i c.loop-i.invariant.done (omega arith)
+returns c = all_streamed c.args.key.now c.args.text.now c.loop-i.text c.loop-i.i c.loop-i.invariant (omega arith)

@@ -4,8 +4,8 @@ use Rattle.std.proofs.lemmas.List.{take_all}
 use Rattle.mls_kdf.specs.Kdf.{joined, hmac, expand, hkdf_block, hkdf_blocks}
 use Rattle.mls_kdf.proofs.Lists.{block_more}
 use Rattle.mls_kdf.specs.Lengths.{length-hkdf_blocks, length-hmac}
-use Rattle.mls_kdf.proofs.hkdf.expand.Goals as goal
-use Rattle.mls_kdf.proofs.hkdf.expand.Goals.{then-i-eq0, else-i-eq0}
+use Rattle.mls_kdf.proofs.key.HmacKey.expand.Goals as goal
+use Rattle.mls_kdf.proofs.key.HmacKey.expand.Goals.{then-i-eq0, else-i-eq0}
 
 block_zero : (prk info : List ℕ) (i : ℕ) → i ≡ 0 → [] ≡ hkdf_block prk info i
 unfolding hkdf_block
@@ -34,17 +34,16 @@ loop-i-init c = search rules
 
 pub loop-i-preserved : goal.loop-i-preserved
 loop-i-preserved c =
-    let previous : c.if-i-eq0.previous.now ≡ hkdf_block c.args.prk.now (joined c.args.info.now) c.loop-i.i =
+    let previous : c.if-i-eq0.previous.now ≡ hkdf_block c.args.self.now (joined c.args.info.now) c.loop-i.i =
     elim c.if-i-eq0.branch [
       | then-i-eq0 w ↦ rw w.previous-is (block_zero _ _ c.loop-i.i w.if-i-eq0.true)
       | else-i-eq0 w ↦ rw w.previous-is (c.loop-i.invariant.block (omega arith))
     ] in
-    let made = c.next_block-block.ensures _ c.loop-i.invariant.keyed in
-    let block : c.next_block-block.result ≡ hkdf_block c.args.prk.now (joined c.args.info.now) (c.loop-i.i + 1) = block_suc _ _ _ _ c.loop-i.i previous made in
+    let made = c.next_block-block.ensures in
+    let block : c.next_block-block.result ≡ hkdf_block c.args.self.now (joined c.args.info.now) (c.loop-i.i + 1) = block_suc _ _ _ _ c.loop-i.i previous made in
     record {
       block = λ _. block;
-      written = written_more c.args.prk.now (joined c.args.info.now) c.loop-i.out c.next_block-block.result c.put.new.out c.loop-i.i block (omega arith) (ap length made ∙ length-hmac _ _) c.loop-i.invariant.written c.put.ensures c.put.auto.out;
-      keyed = c.loop-i.invariant.keyed;
+      written = written_more c.args.self.now (joined c.args.info.now) c.loop-i.out c.next_block-block.result c.put.new.out c.loop-i.i block (omega arith) (ap length made ∙ length-hmac _ _) c.loop-i.invariant.written c.put.ensures c.put.auto.out;
     }
 
 expanded : (prk info out : List ℕ) (n i : ℕ) → length out ≡ n → i ≡ div_ceil n 32

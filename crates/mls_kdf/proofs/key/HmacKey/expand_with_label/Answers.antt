@@ -3,7 +3,7 @@ use Rattle.std.specs.Prelude.{codes}
 use Rattle.mls_wire.specs.Reading.{header}
 use Rattle.mls_kdf.specs.Kdf.{expand_with_label, kdf_label, mls_label}
 use Rattle.mls_kdf.proofs.Lists.{vectors_after}
-use Rattle.mls_kdf.proofs.labels.expand_with_label.Goals as goal
+use Rattle.mls_kdf.proofs.key.HmacKey.expand_with_label.Goals as goal
 
 length_of_label : (label : List ℕ) → 8 + length label ≡ length (codes "MLS 1.0 " ++ label)
 length_of_label label = omega arith
