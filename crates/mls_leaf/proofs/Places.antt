@@ -1,37 +1,12 @@
 -- Where a search by halves says that a number belongs in a rising list.
-use Rattle.std.proofs.Common.{◌≡◌, ℕ, zero, suc, ◌+◌, ◌<◌, ◌≤◌, true, List, [], ◌∷◌, length, get_or, Result, Ok, Err, Option, Some, None, insert, refl, sym, ap, subst, ◌∙◌, arith, add-one, inl, inr, nat_cmp}
-use Rattle.std.specs.Prelude.{nat_le, MatchOption}
+use Rattle.std.proofs.Common.{◌≡◌, ◌==◌, ℕ, zero, suc, ◌<◌, ◌≤◌, true, not, List, length, get_or, filter, Result, Ok, Err, Option, Some, None, insert, refl, sym, ap, ◌∙◌, arith, add-one, inl, inr, nat_cmp}
+use Rattle.std.specs.Prelude.{MatchOption}
 use Rattle.std.specs.List.Sorted.{IsBinarySearchResult}
-use Rattle.std.proofs.lemmas.Bool.{and_parts, leb-true, cases_lt}
+use Rattle.std.proofs.lemmas.Bool.{cases_lt}
 use Rattle.std.proofs.lemmas.List.Sorted.{searched}
 use Rattle.mls_leaf.specs.Parent.{rises_from, inserted}
-use Rattle.mls_leaf.specs.ParentLaws.{rises_from-cons, put_behind, put_on, put_before, put_there, put_last}
-
--- ---- each number of a rising list is above those before it
-
-no_lower : (low : ℕ) (xs : List ℕ) (j : ℕ) → rises_from low xs ≡ true → j < length xs → low ≤ get_or xs j 0
-no_lower low [] j rise lt = absurd (omega arith)
-no_lower low (x ∷ xs) zero rise lt = leb-true low x (and_parts (nat_le low x) (rises_from (x + 1) xs) (sym (rises_from-cons low x xs) ∙ rise)).0
-no_lower low (x ∷ xs) (suc j) rise lt =
-    let both = and_parts (nat_le low x) (rises_from (x + 1) xs) (sym (rises_from-cons low x xs) ∙ rise) in
-    omega (arith, leb-true low x both.0, no_lower (x + 1) xs j both.1 (omega arith))
-
-above_front : (low : ℕ) (xs : List ℕ) (i j : ℕ) → rises_from low xs ≡ true → i < j → j < length xs → get_or xs i 0 < get_or xs j 0
-above_front low [] i j rise less lt = absurd (omega arith)
-above_front low (x ∷ xs) i zero rise less lt = absurd (omega arith)
-above_front low (x ∷ xs) zero (suc j) rise less lt =
-    let both = and_parts (nat_le low x) (rises_from (x + 1) xs) (sym (rises_from-cons low x xs) ∙ rise) in
-    omega (arith, no_lower (x + 1) xs j both.1 (omega arith))
-above_front low (x ∷ xs) (suc i) (suc j) rise less lt =
-    let both = and_parts (nat_le low x) (rises_from (x + 1) xs) (sym (rises_from-cons low x xs) ∙ rise) in
-    above_front (x + 1) xs i j both.1 (omega arith) (omega arith)
-
-no_less : (xs : List ℕ) (i j : ℕ) → rises_from 0 xs ≡ true → i ≤ j → j < length xs → get_or xs i 0 ≤ get_or xs j 0
-no_less xs i j rise le lt =
-    elim (cases_lt i j) [
-      | inl less ↦ (let above = above_front 0 xs i j rise less lt in omega arith)
-      | inr same ↦ (let e : i ≡ j = omega arith in let f = ap (λ k. get_or xs k 0) e in omega arith)
-    ]
+use Rattle.mls_leaf.specs.RisingLaws.{above_front, no_less, taken_out}
+use Rattle.mls_leaf.specs.ParentLaws.{put_behind, put_on, put_before, put_there, put_last}
 
 -- ---- the place of a number
 
@@ -61,3 +36,12 @@ placed xs x (Err i) rise h =
       | inl lt ↦ (at.0, start ∙ put_before xs i x (get_or xs i 0) lt refl (at.2 i (omega arith) lt))
       | inr ge ↦ (at.0, start ∙ put_last xs i x ge)
     ]
+
+-- a number that the search doesn't find can be put in and taken out again
+pub fresh : (xs : List ℕ) (x i : ℕ) → rises_from 0 xs ≡ true → IsBinarySearchResult (λ y. nat_cmp y x) xs (Err i) → filter (λ u. not (u == x)) (inserted x xs) ≡ xs
+fresh xs x i rise h =
+    let at = searched xs x (Err i) h (λ a b. no_less xs a b rise) in
+    taken_out x xs (λ k lt same. elim (cases_lt k i) [
+      | inl low ↦ absurd (let below = at.1 k low in omega arith)
+      | inr high ↦ absurd (let above = at.2 k high lt in omega arith)
+    ])

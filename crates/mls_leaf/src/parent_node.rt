@@ -1,6 +1,6 @@
 //! Parents.
 
-ghost use Rattle.std.specs.Prelude.{◌≡◌, ℕ, ◌+◌, ◌<◌, ◌≤◌, ◌==◌, Bool, true, false, not, List, length, filter, Result, MatchResult, MatchOption, IfOk, IsOk, insert};
+ghost use Rattle.std.specs.Prelude.{◌≡◌, ℕ, ◌+◌, ◌<◌, ◌≤◌, ◌==◌, Bool, true, false, not, List, length, filter, Result, Ok, MatchResult, MatchOption, IfOk, IsOk, insert};
 ghost use Rattle.mls_wire.specs.CombineLaws.{forgotten};
 ghost use Rattle.mls_wire.specs.Stateful.{run_at, vector_from};
 ghost use Rattle.mls_leaf.specs.declared.error.LeafError.TheVariants.{NotRising};
@@ -101,7 +101,8 @@ fn place_for(entries: &[u32], leaf: u32) -> Option<usize>
     requires { rises entries.now ≡ true }
     ensures { MatchOption result
         (inserted leaf entries.now ≡ entries.now)
-        (λ place. (place ≤ length entries.now) × (inserted leaf entries.now ≡ insert entries.now place leaf)) }
+        (λ place. (place ≤ length entries.now) × (inserted leaf entries.now ≡ insert entries.now place leaf)
+        × (filter (λ u. not (u == leaf)) (inserted leaf entries.now) ≡ entries.now)) }
 {
     match entries.binary_search(&leaf) {
         Ok(_) => None,
@@ -168,17 +169,21 @@ impl ParentNode {
         &self.unmerged_leaves
     }
 
-    /// Puts a leaf among the unmerged ones, where it stands once. Without memory for it all stays as it was.
-    pub fn insert_unmerged(&mut self, leaf: u32) -> Result<(), AllocError>
+    /// Puts a leaf among the unmerged ones, where it stands once, and answers whether it is new there. Without memory for
+    /// it all stays as it was.
+    pub fn insert_unmerged(&mut self, leaf: u32) -> Result<bool, AllocError>
         ensures put { MatchResult result
             (λ _. self.new ≡ record self.old { unmerged_leaves = inserted leaf self.old.unmerged_leaves })
             (λ _. self.new ≡ self.old) }
         ensures there { inserted leaf self.old.unmerged_leaves ≡ self.old.unmerged_leaves → IsOk result }
+        ensures new { result ≡ Ok true → filter (λ u. not (u == leaf)) self.new.unmerged_leaves ≡ self.old.unmerged_leaves }
+        ensures listed { result ≡ Ok false → self.new ≡ self.old }
     {
-        if let Some(place) = place_for(&self.unmerged_leaves, leaf) {
-            self.unmerged_leaves.insert(place, leaf)?;
-        }
-        Ok(())
+        let Some(place) = place_for(&self.unmerged_leaves, leaf) else {
+            return Ok(false);
+        };
+        self.unmerged_leaves.insert(place, leaf)?;
+        Ok(true)
     }
 
     /// Takes a leaf out of the unmerged ones, which takes no memory.

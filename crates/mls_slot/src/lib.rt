@@ -8,4 +8,4 @@ mod slot;
 mod tests;
 
 pub use kinds::{SharedLeaf, SharedParent};
-pub use slot::Slot;
+pub use slot::{NoParent, Slot};

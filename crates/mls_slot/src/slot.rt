@@ -1,13 +1,21 @@
 //! A place of a tree.
 
-ghost use Rattle.std.specs.Prelude.{◌≡◌, Some, None, is_some, IfOk, MatchResult};
+ghost use Rattle.std.specs.Prelude.{◌≡◌, Some, None, false, is_some, IfOk, MatchResult};
 ghost use Rattle.std.specs.Option.{option_copied};
-ghost use Rattle.mls_slot.specs.Inserted.{with_listed};
 
-use mls_leaf::Node;
+use mls_leaf::{Node, ParentNode};
 use std::alloc::{AllocError, Global};
 use std::marker::Model;
 use std::rc::Rc;
+
+/// Why a place lends no parent.
+#[derive(Debug, Drop)]
+pub enum NoParent {
+    /// It is blank, or holds a leaf.
+    Absent,
+    /// There is no memory for the copy.
+    OutOfMemory,
+}
 
 /// A place of a ratchet tree: blank, or a node that copies of the tree may share. To its callers it is the node itself,
 /// where there is one; a copy takes no memory.
@@ -27,6 +35,11 @@ impl Model for Slot {
 }
 
 impl Slot {
+    ghost use Rattle.std.specs.Borrow.{sem};
+    ghost use Rattle.mls_leaf.specs.declared.node.Node.TheVariants.{Parent as in_parent};
+    ghost use Rattle.mls_slot.specs.declared.slot.NoParent.TheVariants.{Absent};
+    ghost use Rattle.mls_slot.specs.Lends.{lends_parent, holds_parent};
+
     /// A blank place.
     pub fn blank() -> Slot
         ensures { result ≡ None }
@@ -62,18 +75,22 @@ impl Slot {
         self.node.is_some()
     }
 
-    /// Puts a leaf into the list of the parent in it, which is copied first where another place shares it. Without
-    /// memory for it all stays as it was.
-    pub fn list(&mut self, leaf: u32) -> Result<(), AllocError>
-        ensures { MatchResult result (λ _. self.new ≡ with_listed leaf self.old) (λ _. self.new ≡ self.old) }
+    /// The parent in it, which is copied first where another place shares it. Without memory for that all stays as it was.
+    pub fn parent_mut(&mut self) -> Result<&mut ParentNode, NoParent>
+        ensures* writes_back { sem 𝓛 (lends_parent self.entry result) }
+        ensures value { MatchResult result
+            (λ p. self.old ≡ Some (in_parent p.now))
+            (λ e. e ≡ Absent → holds_parent self.old ≡ false) }
     {
-        if let Some(shared) = &mut self.node {
-            let node = Rc::make_mut(shared)?;
-            if let Node::Parent(parent) = node {
-                parent.insert_unmerged(leaf)?;
-            }
+        let Some(shared) = &mut self.node else {
+            return Err(NoParent::Absent);
+        };
+        match Rc::make_mut(shared) {
+            Ok(Node::Parent(parent)) => Ok(parent),
+            Ok(Node::Leaf(_)) => Err(NoParent::Absent),
+            // Want of memory: the copy, which fails for nothing else.
+            Err(_) => Err(NoParent::OutOfMemory),
         }
-        Ok(())
     }
 }
 

@@ -1,4 +1,4 @@
-use crate::{SharedLeaf, Slot};
+use crate::{NoParent, SharedLeaf, Slot};
 use mls_leaf::{Codec, LeafError, LeafNode, Node, ParentNode};
 use std::test::*;
 
@@ -23,11 +23,15 @@ fn a_copy_keeps_its_node(rt: HostRuntime) -> Result<(), Fail> {
     let alloc = rt.alloc();
     let mut slot = Slot::of(alloc, Node::Parent(ParentNode::decode(alloc, &PARENT)?))?;
     let copy = slot.clone()?;
-    slot.list(7)?;
+    match slot.parent_mut() {
+        Ok(parent) => assert!(rt; parent.insert_unmerged(7)?),
+        Err(_) => assert!(rt; false),
+    }
     assert_eq!(rt; (listed(&slot), listed(&copy)), (1, 0));
     slot = Slot::blank();
     assert!(rt; !slot.is_taken());
     assert!(rt; copy.is_taken());
+    assert!(rt; matches!(slot.parent_mut(), Err(NoParent::Absent)));
     Ok(())
 }
 
