@@ -1,5 +1,5 @@
 -- Entries: where one is, where one goes, and what is left without it.
-use Rattle.std.proofs.Common.{◌≡◌, ℕ, ◌+◌, ◌-◌, ◌<◌, ◌≤◌, Bool, true, false, List, [], length, get_or, Option, Some, None, sym, ◌∙◌, ap, subst, arith, inl, inr, is_some}
+use Rattle.std.proofs.Common.{◌≡◌, ℕ, ◌+◌, ◌-◌, ◌<◌, ◌≤◌, ◌⊎◌, Bool, true, false, List, [], length, get_or, Option, Some, None, sym, ◌∙◌, ap, subst, arith, inl, inr, is_some}
 use Rattle.std.proofs.lemmas.Bool.{true≢false, cases_lt, cases_eq}
 use Rattle.std.proofs.lemmas.List.{get_or_default}
 use Rattle.std.proofs.lemmas.List.Edits.{length-insert, get_or-insert_below, get_or-insert_at, get_or-insert_above, length-remove, get_or-remove_below, get_or-remove_above}
@@ -9,7 +9,7 @@ use Rattle.std.specs.Option.{unwrap_or}
 use Rattle.std.specs.Ordering.{is_lt}
 use Rattle.std.specs.declared.cmp.Ordering.TheVariants.{Less}
 use Rattle.mls_index.specs.Order.{entry_at, entry_cmp, Entries, IsGap, IsPart}
-use Rattle.mls_index.specs.OrderLaws.{is_less, cmp_trans, as_entries, not_itself, is_above, none_below, same_between}
+use Rattle.mls_index.specs.OrderLaws.{is_less, cmp_trans, as_entries, not_itself, is_above, not_both, none_below, same_between}
 
 pub no_key : (o : Option (List ℕ)) → o ≡ None → is_some o ≡ true → ⊥
 no_key o none some = true≢false (sym some ∙ ap is_some none)
@@ -40,29 +40,49 @@ module _ (at real : ℕ → Option (List ℕ)) (part : IsPart at real) (ns : Lis
     above = λ k ge lt. ap (λ v. is_lt (entry_cmp v e)) (sym (reads k 0 lt)) ∙ point.1 k 0 ge lt;
   }
 
--- ---- the first entry with a key
+-- ---- entries with one key stand together
 
-module _ (at : ℕ → Option (List ℕ)) (ns : List ℕ) (es : Entries at ns) (k : List ℕ) (p : ℕ) (gap : IsGap at ns (k, 0) p) where
-  key_between : (o : Option (List ℕ)) (y x : ℕ) → is_some o ≡ true → is_lt (entry_cmp (unwrap_or o [], y) (k, 0)) ≡ false → entry_cmp (unwrap_or o [], y) (k, x) ≡ Less → o ≡ Some k
-  key_between None y x some h g = absurd (true≢false (sym some))
-  key_between (Some l) y x some h g = ap Some (same_between l k y x h g)
+module _ (at : ℕ → Option (List ℕ)) (ns : List ℕ) (es : Entries at ns) (k : List ℕ) where
+  key_between : (o : Option (List ℕ)) (y w x : ℕ) → is_some o ≡ true → is_lt (entry_cmp (unwrap_or o [], y) (k, w)) ≡ false → entry_cmp (unwrap_or o [], y) (k, x) ≡ Less → o ≡ Some k
+  key_between None y w x some h g = absurd (true≢false (sym some))
+  key_between (Some l) y w x some h g = ap Some (same_between l k y w x h g)
 
-  pub found : (x : ℕ) → at x ≡ Some k → (p < length ns) × (at (get_or ns p 0) ≡ Some k)
-  found x is =
-      let j = es.all x (ap is_some is) in
+  -- the entry at a place, where it has the key
+  abbrev Has : ℕ → Type 0
+  Has p = (p < length ns) × (at (get_or ns p 0) ≡ Some k)
+
+  entry_with : (j : ℕ) → at (get_or ns j 0) ≡ Some k → entry_at at (get_or ns j 0) ≡ (k, get_or ns j 0)
+  entry_with j is = ap (λ o. (unwrap_or o [], get_or ns j 0)) is
+
+  -- where an entry has the key, so does one beside each place where an entry with it goes
+  pub found_beside : (x p : ℕ) → IsGap at ns (k, x) p → (y : ℕ) → at y ≡ Some k → Has p ⊎ ((1 ≤ p) × Has (p - 1))
+  found_beside x p gap y is =
+      let j = es.all y (ap is_some is) in
+      let lt = j.1 in
       let keyed : at (get_or ns j.0 0) ≡ Some k = ap at j.2 ∙ is in
-      let entry : entry_at at (get_or ns j.0 0) ≡ (k, get_or ns j.0 0) = ap (λ o. (unwrap_or o [], get_or ns j.0 0)) keyed in
+      let entry = entry_with j.0 keyed in
+      let le = gap.within in
       elim (cases_lt j.0 p) [
-        | inl lt ↦ absurd (none_below k (get_or ns j.0 0) (subst (λ v. entry_cmp v (k, 0) ≡ Less) entry (gap.below j.0 lt)))
+        | inl low ↦ elim (cases_lt j.0 (p - 1)) [
+          | inl less ↦
+              let up : entry_cmp (k, get_or ns j.0 0) (entry_at at (get_or ns (p - 1) 0)) ≡ Less = subst (λ v. entry_cmp v (entry_at at (get_or ns (p - 1) 0)) ≡ Less) entry (es.ascend j.0 (p - 1) less (omega arith)) in
+              inr (omega arith, (omega arith, key_between (at (get_or ns (p - 1) 0)) (get_or ns (p - 1) 0) (get_or ns j.0 0) x (es.keyed (p - 1) (omega arith)) (not_both (k, get_or ns j.0 0) (entry_at at (get_or ns (p - 1) 0)) up) (gap.below (p - 1) (omega arith))))
+          | inr ge ↦
+              let same : j.0 ≡ p - 1 = omega arith in
+              inr (omega arith, (omega arith, subst (λ n. at (get_or ns n 0) ≡ Some k) same keyed))
+        ]
         | inr ge ↦ elim (cases_lt p j.0) [
           | inl less ↦
-              let in_list : p < length ns = let lt = j.1 in omega arith in
-              (in_list, key_between (at (get_or ns p 0)) (get_or ns p 0) (get_or ns j.0 0) (es.keyed p in_list) (gap.above p (omega arith) in_list) (subst (λ v. entry_cmp (entry_at at (get_or ns p 0)) v ≡ Less) entry (es.ascend p j.0 less j.1)))
-          | inr le ↦
+              inl (omega arith, key_between (at (get_or ns p 0)) (get_or ns p 0) x (get_or ns j.0 0) (es.keyed p (omega arith)) (gap.above p (omega arith) (omega arith)) (subst (λ v. entry_cmp (entry_at at (get_or ns p 0)) v ≡ Less) entry (es.ascend p j.0 less lt)))
+          | inr high ↦
               let same : j.0 ≡ p = omega arith in
-              (subst (λ n. n < length ns) same j.1, subst (λ n. at (get_or ns n 0) ≡ Some k) same keyed)
+              inl (subst (λ n. n < length ns) same lt, subst (λ n. at (get_or ns n 0) ≡ Some k) same keyed)
         ]
       ]
+
+  -- and the first one stands at the place of the least
+  pub none_before : (p : ℕ) → IsGap at ns (k, 0) p → 1 ≤ p → at (get_or ns (p - 1) 0) ≡ Some k → ⊥
+  none_before p gap some is = none_below k (get_or ns (p - 1) 0) (subst (λ v. entry_cmp v (k, 0) ≡ Less) (entry_with (p - 1) is) (gap.below (p - 1) (omega arith)))
 
 -- ---- with one entry more, and without it
 
@@ -249,6 +269,17 @@ module _ (x : ℕ) (k : List ℕ) (b c : ℕ → Option (List ℕ)) (here : c x 
           ]
           | inr i_high ↦ as_entries _ _ _ _ (late_entry i i_high (omega arith)) (late_entry j (omega arith) (omega arith)) (es.ascend (i + 1) (j + 1) (omega arith) (omega arith))
         ]
+
+    -- and the place is still that of the entry
+    pub gap_without : IsGap b (remove ns p) (k, x) p
+    gap_without =
+        let wide = width in
+        let inside = stands.0 in
+        record {
+          within = omega arith;
+          below = λ m lt. ap (λ v. entry_cmp v (k, x)) (early_entry m lt) ∙ gap.below m lt;
+          above = λ m ge lt. ap (λ v. is_lt (entry_cmp v (k, x))) (late_entry m ge (omega arith)) ∙ gap.above (m + 1) (omega arith) (omega arith);
+        }
 
     pub without_entry : Entries b (remove ns p)
     without_entry = record { all = all_less; keyed = keyed_less; ascend = ascends_less }

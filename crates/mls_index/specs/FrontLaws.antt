@@ -1,7 +1,7 @@
 -- The first cells of a list, with blank ones after them.
-use Rattle.std.proofs.Common.{◌≡◌, ℕ, zero, suc, ◌+◌, ◌<◌, ◌≤◌, List, [], ◌∷◌, length, get_or, Option, None, refl, sym, ◌∙◌, ap, arith, inl, inr}
+use Rattle.std.proofs.Common.{◌≡◌, ℕ, zero, suc, ◌+◌, ◌<◌, ◌≤◌, List, [], ◌∷◌, length, get_or, take, Option, None, refl, sym, ◌∙◌, ap, arith, inl, inr}
 use Rattle.std.proofs.lemmas.Bool.{cases_lt}
-use Rattle.std.proofs.lemmas.List.{get_or_past}
+use Rattle.std.proofs.lemmas.List.{get_or_past, get_or-take, length-take}
 use Rattle.mls_leaf.specs.declared.node.Node.{Node}
 use Rattle.mls_index.specs.declared.kind.KeyKind.{KeyKind}
 use Rattle.mls_index.specs.Keys.{key_of, key_in, repeats_in}
@@ -80,8 +80,27 @@ module _ (kind : KeyKind) where
       (indexes_from kind [] [] s same numbers none_listed repeats)
 
 -- and all of them
+whole : (k : KeyKind) (n : ℕ) (cs : List (Option Node)) → length cs ≤ n → (y : ℕ) → key_in k (front n cs) y ≡ key_in k cs y
+whole k n cs wide y = elim (cases_lt y n) [
+  | inl lt ↦ same_below k n cs y lt
+  | inr ge ↦ none_above k n cs y ge ∙ sym (ap (key_of k) (get_or_past cs y None (omega arith)) ∙ none_blank k)
+]
+
 pub front_all : (n : ℕ) (cs : List (Option Node)) (t : Listing) → length cs ≤ n → Indexes (front n cs) t → Indexes cs t
-front_all n cs t wide = indexes_alike t (front n cs) cs (λ y. elim (cases_lt y n) [
-  | inl lt ↦ same_below t.kind n cs y lt
-  | inr ge ↦ none_above t.kind n cs y ge ∙ sym (ap (key_of t.kind) (get_or_past cs y None (omega arith)) ∙ none_blank t.kind)
+front_all n cs t wide = indexes_alike t (front n cs) cs (whole t.kind n cs wide)
+
+pub front_whole : (n : ℕ) (cs : List (Option Node)) (t : Listing) → length cs ≤ n → Indexes cs t → Indexes (front n cs) t
+front_whole n cs t wide = indexes_alike t cs (front n cs) (λ y. sym (whole t.kind n cs wide y))
+
+-- the first cells, with blank ones after them or cut
+pub front_cut : (n m : ℕ) (cs : List (Option Node)) (t : Listing) → n ≤ m → ((y : ℕ) → y < m → n ≤ y → length cs ≤ y) → Indexes (front n cs) t → Indexes (take m cs) t
+front_cut n m cs t le short = indexes_alike t (front n cs) (take m cs) (λ y. elim (cases_lt y n) [
+  | inl lt ↦ same_below t.kind n cs y lt ∙ ap (key_of t.kind) (sym (get_or-take m cs y None (omega arith)))
+  | inr ge ↦ none_above t.kind n cs y ge ∙ sym (ap (key_of t.kind) (blank y ge) ∙ none_blank t.kind)
 ])
+  where
+    blank : (y : ℕ) → n ≤ y → get_or (take m cs) y None ≡ None
+    blank y ge = elim (cases_lt y m) [
+      | inl lt ↦ get_or-take m cs y None lt ∙ get_or_past cs y None (short y lt ge)
+      | inr past ↦ let few = length-take m cs in get_or_past (take m cs) y None (omega arith)
+    ]

@@ -1,5 +1,5 @@
 -- The keys of cells.
-use Rattle.std.specs.Prelude.{ℕ, ◌+◌, ◌==◌, nat_eq, Bool, false, not, cond, List, [], ◌∷◌, get_or, Option, Some, None}
+use Rattle.std.specs.Prelude.{ℕ, ◌+◌, ◌==◌, nat_eq, nat_lt, Bool, false, not, ◌&&◌, cond, List, [], ◌∷◌, length, get_or, Option, Some, None}
 use Rattle.std.specs.List.{flat_map}
 use Rattle.std.specs.Option.{option_to_list}
 use Rattle.std.specs.Cmp.Lexicographic.{pointwise}
@@ -25,6 +25,10 @@ key_in k cells x = key_of k (get_or cells x None)
 abbrev pub is_key : List ℕ → Option (List ℕ) → Bool
 is_key k None = false
 is_key k (Some l) = pointwise nat_eq l k
+
+-- whether the cell whose number stands at place p of a list has this key
+abbrev pub is_key_at : KeyKind → List (Option Node) → List ℕ → ℕ → List ℕ → Bool
+is_key_at k cells numbers p x = nat_lt p (length numbers) && is_key x (key_in k cells (get_or numbers p 0))
 
 -- all keys, in the order of the cells
 abbrev pub keys_of : KeyKind → List (Option Node) → List (List ℕ)

@@ -9,3 +9,4 @@ pub mod StepLaws
 pub mod FrontLaws
 pub mod Cleared
 pub mod ClearedLaws
+pub mod DistinctLaws

@@ -1,6 +1,6 @@
 -- The order of entries.
-use Rattle.std.proofs.Common.{◌≡◌, ℕ, ◌==◌, Bool, true, false, cond, List, Option, None, Some, refl, sym, ◌∙◌, ap, arith, eqb-true, nat_lt, le-ltb}
-use Rattle.std.proofs.lemmas.Bool.{true≢false}
+use Rattle.std.proofs.Common.{◌≡◌, ℕ, ◌==◌, Bool, true, false, cond, List, Option, None, Some, refl, sym, ◌∙◌, ap, arith, inl, inr, eqb-true, nat_lt, le-ltb}
+use Rattle.std.proofs.lemmas.Bool.{true≢false, cases_Bool}
 use Rattle.std.proofs.lemmas.Cmp.{then_total, on_total, nat_cmp_total, nat_list_cmp_total}
 use Rattle.std.specs.Ordering.{nat_cmp, ordering_then, ordering_reverse, is_lt, is_eq, is_gt}
 use Rattle.std.specs.declared.cmp.Ordering.{Ordering}
@@ -74,9 +74,16 @@ between Equal s t h g = refl
 between Greater s t h g = absurd (true≢false (sym (ap is_lt g)))
 
 -- what is between two entries with one key has it
-pub same_between : (l k : List ℕ) (y x : ℕ) → is_lt (entry_cmp (l, y) (k, 0)) ≡ false → entry_cmp (l, y) (k, x) ≡ Less → l ≡ k
-same_between l k y x h g =
-    same_text l k (sym (texts_ties l k ∙ ap is_eq (between (slice_cmp nat_cmp l k) (nat_cmp y 0) (nat_cmp y x) h g)))
+pub same_between : (l k : List ℕ) (y w x : ℕ) → is_lt (entry_cmp (l, y) (k, w)) ≡ false → entry_cmp (l, y) (k, x) ≡ Less → l ≡ k
+same_between l k y w x h g =
+    same_text l k (sym (texts_ties l k ∙ ap is_eq (between (slice_cmp nat_cmp l k) (nat_cmp y w) (nat_cmp y x) h g)))
+
+-- of two entries, one above isn't below
+pub not_both : (d e : List ℕ × ℕ) → entry_cmp d e ≡ Less → is_lt (entry_cmp e d) ≡ false
+not_both d e less = elim (cases_Bool (is_lt (entry_cmp e d))) [
+  | inl both ↦ absurd (not_itself d (cmp_trans d e d less (is_less (entry_cmp e d) both)))
+  | inr apart ↦ apart
+]
 
 -- ---- a key that a test found
 

@@ -1,15 +1,15 @@
 -- Laws of each step of an index.
-use Rattle.std.proofs.Common.{◌≡◌, ℕ, zero, suc, ◌+◌, ◌<◌, ◌≤◌, ◌==◌, Bool, true, false, not, cond, List, length, get_or, Option, Some, None, is_some, refl, sym, ◌∙◌, ap, subst, arith, inl, inr, ne_eqb}
-use Rattle.std.proofs.lemmas.Bool.{true≢false, cases_Bool, cases_eq}
+use Rattle.std.proofs.Common.{◌≡◌, ℕ, zero, suc, ◌+◌, ◌-◌, ◌<◌, ◌≤◌, ◌==◌, nat_lt, Bool, true, false, not, ◌&&◌, cond, List, length, get_or, Option, Some, None, is_some, refl, sym, ◌∙◌, ap, subst, arith, inl, inr, ne_eqb, ltb-true, lt-ltb}
+use Rattle.std.proofs.lemmas.Bool.{true≢false, and_parts, cases_Bool, cases_eq}
 use Rattle.std.specs.List.{insert, remove}
 use Rattle.mls_leaf.specs.declared.node.Node.{Node}
 use Rattle.mls_term.specs.Sets.{same_bytes, count}
 use Rattle.mls_index.specs.declared.kind.KeyKind.{KeyKind}
-use Rattle.mls_index.specs.Keys.{key_of, key_in, keys_of, is_key, is_held, repeats_in}
+use Rattle.mls_index.specs.Keys.{key_of, key_in, keys_of, is_key, is_key_at, is_held, repeats_in}
 use Rattle.mls_index.specs.Order.{Entries, IsGap, IsPart}
 use Rattle.mls_index.specs.Indexes.{Listing, Indexes, Without}
 use Rattle.mls_index.specs.OrderLaws.{key_found, key_missed}
-use Rattle.mls_index.specs.EntryLaws.{found, with_entry, stands, without_entry, no_key}
+use Rattle.mls_index.specs.EntryLaws.{found_beside, none_before, with_entry, stands, without_entry, gap_without, no_key}
 use Rattle.mls_index.specs.CountLaws.{none_blank, counted, counted_at, one_more, repeats_within}
 use Rattle.mls_index.specs.Laws.{indexes_alike}
 
@@ -32,20 +32,37 @@ held_nowhere kind c k other =
           absurd (other at.0 at.1)
     ]
 
--- what the first entry with a key tells
-module _ (kind : KeyKind) (c cells : List (Option Node)) (part : IsPart (key_in kind c) (key_in kind cells)) (ns : List ℕ) (es : Entries (key_in kind c) ns) (k : List ℕ) (p : ℕ) (gap : IsGap (key_in kind c) ns (k, 0) p) where
-  pub held_here : (y : ℕ) → p < length ns → y ≡ get_or ns p 0 → is_key k (key_in kind cells y) ≡ is_held kind c k
-  held_here y lt is =
-      let own : key_in kind cells y ≡ key_in kind c y = part y (ap (λ n. is_some (key_in kind c n)) is ∙ es.keyed p lt) in
-      elim (cases_Bool (is_key k (key_in kind cells y))) [
-        | inl same ↦ same ∙ held_at kind c k y (sym own ∙ key_found k (key_in kind cells y) same)
-        | inr other ↦
-            other
-            ∙ held_nowhere kind c k (λ x at. key_missed k (key_in kind cells y) other (own ∙ ap (key_in kind c) is ∙ (found (key_in kind c) ns es k p gap x at).1))
-      ]
+-- what the entries beside a place tell
+module _ (kind : KeyKind) (c cells : List (Option Node)) (part : IsPart (key_in kind c) (key_in kind cells)) (ns : List ℕ) (es : Entries (key_in kind c) ns) (k : List ℕ) where
+  own : (p : ℕ) → p < length ns → key_in kind cells (get_or ns p 0) ≡ key_in kind c (get_or ns p 0)
+  own p lt = part (get_or ns p 0) (es.keyed p lt)
 
-  pub held_past : (p < length ns → ⊥) → false ≡ is_held kind c k
-  held_past past = held_nowhere kind c k (λ x at. past (found (key_in kind c) ns es k p gap x at).0)
+  pub held_here : (p : ℕ) → true ≡ is_key_at kind cells ns p k → true ≡ is_held kind c k
+  held_here p h =
+      let both = and_parts (nat_lt p (length ns)) (is_key k (key_in kind cells (get_or ns p 0))) (sym h) in
+      held_at kind c k (get_or ns p 0) (sym (own p (ltb-true p (length ns) both.0)) ∙ key_found k (key_in kind cells (get_or ns p 0)) both.1)
+
+  not_here : (p : ℕ) → false ≡ is_key_at kind cells ns p k → p < length ns → key_in kind c (get_or ns p 0) ≡ Some k → ⊥
+  not_here p h lt is =
+      key_missed k (key_in kind cells (get_or ns p 0)) (sym (h ∙ ap (λ v. v && is_key k (key_in kind cells (get_or ns p 0))) (lt-ltb p (length ns) lt))) (own p lt ∙ is)
+
+  pub held_not_beside : (x p : ℕ) → IsGap (key_in kind c) ns (k, x) p → false ≡ is_key_at kind cells ns p k → (1 ≤ p → false ≡ is_key_at kind cells ns (p - 1) k) → false ≡ is_held kind c k
+  held_not_beside x p gap here before = held_nowhere kind c k (λ y at. elim (found_beside (key_in kind c) ns es k x p gap y at) [
+    | inl is ↦ not_here p here is.0 is.1
+    | inr is ↦ not_here (p - 1) (before is.0) is.1.0 is.1.1
+  ])
+
+  -- the first entry with a key tells alone
+  pub held_first : (p : ℕ) → IsGap (key_in kind c) ns (k, 0) p → is_key_at kind cells ns p k ≡ is_held kind c k
+  held_first p gap = elim (cases_Bool (is_key_at kind cells ns p k)) [
+    | inl here ↦ here ∙ held_here p (sym here)
+    | inr other ↦
+        other
+        ∙ held_nowhere kind c k (λ y at. elim (found_beside (key_in kind c) ns es k 0 p gap y at) [
+          | inl is ↦ not_here p (sym other) is.0 is.1
+          | inr is ↦ none_before (key_in kind c) ns es k p gap is.0 is.1.1
+        ])
+  ]
 
 -- what makes an index of a listing
 pub indexes_from : (kind : KeyKind) (ns : List ℕ) (c : List (Option Node)) (s : Listing) → s.kind ≡ kind → s.numbers ≡ ns → Entries (key_in kind c) ns → s.repeats ≡ repeats_in (keys_of kind c) → Indexes c s
@@ -109,6 +126,9 @@ module _ (x : ℕ) (cells b c : List (Option Node)) (t : Listing) (without : Wit
 
     pub left : (p : ℕ) → Entries (key_in t.kind c) t.numbers → IsGap (key_in t.kind c) t.numbers (k, x) p → Entries (key_in t.kind b) (remove t.numbers p)
     left p es gap = without_entry x k (key_in t.kind b) (key_in t.kind c) here without.blank without.others t.numbers p es gap
+
+    pub gap_left : (p : ℕ) → Entries (key_in t.kind c) t.numbers → IsGap (key_in t.kind c) t.numbers (k, x) p → IsGap (key_in t.kind b) (remove t.numbers p) (k, x) p
+    gap_left p es gap = gap_without x k (key_in t.kind b) (key_in t.kind c) here without.blank without.others t.numbers p es gap
 
     pub few : repeats_in (keys_of t.kind c) ≤ length cells
     few = subst (λ n. repeats_in (keys_of t.kind c) ≤ n) without.wide (repeats_within (key_of t.kind) (none_blank t.kind) c)

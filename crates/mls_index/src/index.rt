@@ -3,7 +3,7 @@
 ghost use Rattle.std.specs.Prelude.{◌≡◌, ℕ, ◌<◌, ◌≤◌, ◌^◌, suc, Option, List, length, IfOk, OnOk, OnErr};
 ghost use Rattle.mls_leaf.specs.declared.node.Node.{Node};
 ghost use Rattle.mls_term.specs.Sets.{same_bytes, is_distinct};
-ghost use Rattle.mls_index.specs.Keys.{key_in, keys_of, is_held};
+ghost use Rattle.mls_index.specs.Keys.{key_in, keys_of, is_held, is_key_at};
 ghost use Rattle.mls_index.specs.Order.{Entries, IsGap, IsPart};
 ghost use Rattle.mls_index.specs.Indexes.{Indexes, Without, SameIndex};
 
@@ -33,7 +33,8 @@ impl Model for Index {
 }
 
 impl Index {
-    /// The index of these cells.
+    /// The index of these cells. The cells are entered one by one, so that in the worst case the numbers that are moved
+    /// grow with the square of how many there are.
     pub fn build(alloc: Global, kind: KeyKind, cells: &[Slot]) -> Result<Index, AllocError>
         requires { length cells.now ≤ 2 ^ 32 }
         ensures kind { IfOk result (λ t. t.kind ≡ kind) }
@@ -68,21 +69,29 @@ impl Index {
             .partition_point(|y| is_before(self.kind, cells, *y, key, x))
     }
 
-    /// Whether an entry has this key, whatever the count.
-    fn finds(&self, cells: &[Slot], key: &[u8]) -> bool
-        ensures { (c : List (Option Node)) → IsPart (key_in self.now.kind c) (key_in self.now.kind cells.now) → Entries (key_in self.now.kind c) self.now.numbers → result ≡ is_held self.now.kind c key.now }
+    /// Whether the entry at a place has this key.
+    fn is_key_at(&self, cells: &[Slot], place: usize, key: &[u8]) -> bool
+        ensures { result ≡ is_key_at self.now.kind cells.now self.now.numbers place key.now }
     {
-        match self.numbers.get(self.place(cells, key, 0)) {
+        match self.numbers.get(place) {
             Some(y) => self.kind.is_key_in(cells, *y, key),
             None => false,
         }
     }
 
-    /// Whether some cell has this key.
-    pub fn holds(&self, cells: &[Slot], key: &[u8]) -> bool
-        ensures { Indexes cells.now self.now → result ≡ is_held self.now.kind cells.now key.now }
+    /// Whether the entry at a place or that before it has this key. Where an entry with the key goes there, no other has
+    /// it if neither does.
+    fn is_beside(&self, cells: &[Slot], place: usize, key: &[u8]) -> bool
+        ensures { (c : List (Option Node)) → IsPart (key_in self.now.kind c) (key_in self.now.kind cells.now) → Entries (key_in self.now.kind c) self.now.numbers → (x : ℕ) → IsGap (key_in self.now.kind c) self.now.numbers (key.now, x) place → result ≡ is_held self.now.kind c key.now }
     {
-        self.finds(cells, key)
+        self.is_key_at(cells, place, key) || place > 0 && self.is_key_at(cells, place - 1, key)
+    }
+
+    /// Whether some cell has this key. The cells may have more keys than those that the index is of.
+    pub fn holds(&self, cells: &[Slot], key: &[u8]) -> bool
+        ensures { (c : List (Option Node)) → IsPart (key_in self.now.kind c) (key_in self.now.kind cells.now) → Indexes c self.now → result ≡ is_held self.now.kind c key.now }
+    {
+        self.is_key_at(cells, self.place(cells, key, 0), key)
     }
 
     /// Enters a cell: after it was filled, where it was blank. Where the cell has no key, all stays.
@@ -95,8 +104,8 @@ impl Index {
         let Some(key) = self.kind.key_in(cells, x) else {
             return;
         };
-        let repeats = self.finds(cells, key);
         let place = self.place(cells, key, x);
+        let repeats = self.is_beside(cells, place, key);
         // There is room, so this isn't refused.
         let Ok(()) = self.numbers.insert(place, x) else {
             return;
@@ -120,7 +129,7 @@ impl Index {
             return;
         }
         self.numbers.remove(place);
-        if self.finds(cells, key) {
+        if self.is_beside(cells, place, key) {
             self.repeats = self.repeats.saturating_sub(1);
         }
     }

@@ -2,6 +2,7 @@
 #![tactic(auto)]
 
 mod index;
+mod keys;
 mod kind;
 mod order;
 mod places;

@@ -1,6 +1,6 @@
 //! Several cells at once.
 
-ghost use Rattle.std.specs.Prelude.{◌≡◌, ℕ, ◌+◌, ◌≤◌, nat_eq, true, Option, List, length};
+ghost use Rattle.std.specs.Prelude.{◌≡◌, ℕ, ◌+◌, ◌≤◌, ◌^◌, nat_eq, true, Option, List, length, take};
 ghost use Rattle.mls_leaf.specs.declared.node.Node.{Node};
 ghost use Rattle.mls_term.specs.Sets.{is_distinct};
 ghost use Rattle.mls_index.specs.Indexes.{Indexes};
@@ -20,6 +20,20 @@ impl Index {
         if let Some((x, rest)) = places.split_first() {
             self.leave(cells, *x);
             self.leave_all(cells, rest);
+        }
+    }
+
+    /// Takes out all cells from a number on: before they are cut.
+    pub fn leave_from(&mut self, cells: &[Slot], count: usize)
+        requires { length cells.now ≤ 2 ^ 32 }
+        ensures kind { self.new.kind ≡ self.old.kind }
+        ensures room { self.old.room ≤ self.new.room }
+        ensures left { Indexes cells.now self.old → Indexes (take count cells.now) self.new }
+    {
+        let mut end = cells.len();
+        while end > count {
+            end -= 1;
+            self.leave(cells, end as u32);
         }
     }
 

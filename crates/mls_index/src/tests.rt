@@ -150,3 +150,24 @@ fn orders_many(rt: HostRuntime) -> Result<(), Fail> {
     assert!(rt; clients.are_distinct());
     Ok(())
 }
+
+#[test]
+fn accepts_new_keys(rt: HostRuntime) -> Result<(), Fail> {
+    let alloc = rt.alloc();
+    let cells = cells(alloc)?;
+    let mut index = index(&rt, alloc, KeyKind::Encryption, &cells)?;
+    let mut keys = Vec::new(alloc);
+    assert!(rt; index.accepts(&cells, &byte(alloc, 1)?, &keys));
+    assert!(rt; !index.accepts(&cells, &byte(alloc, 3)?, &keys));
+    keys.push(byte(alloc, 2)?)?;
+    keys.push(byte(alloc, 4)?)?;
+    assert!(rt; index.accepts(&cells, &byte(alloc, 1)?, &keys));
+    assert!(rt; !index.accepts(&cells, &byte(alloc, 4)?, &keys));
+    keys.push(byte(alloc, 5)?)?;
+    assert!(rt; !index.accepts(&cells, &byte(alloc, 1)?, &keys));
+    index.leave(&cells, 4);
+    assert!(rt; index.accepts(&cells, &byte(alloc, 1)?, &keys));
+    keys.push(byte(alloc, 2)?)?;
+    assert!(rt; !index.accepts(&cells, &byte(alloc, 1)?, &keys));
+    Ok(())
+}
