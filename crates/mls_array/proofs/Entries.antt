@@ -1,8 +1,8 @@
 -- A leaf entered, one side at a time.
-use Rattle.std.proofs.Common.{◌≡◌, ℕ, ◌+◌, ◌-◌, ◌/◌, ◌<◌, ◌≤◌, List, ◌++◌, length, get_or, take, drop, set, Option, Some, None, sym, ◌∙◌, ap, arith}
-use Rattle.std.proofs.lemmas.List.{get_or_default, set-set, set-get_or, take-append-drop}
-use borrow.Rule.Slice.PartMut.{put_mid}
+use Rattle.std.proofs.Common.{◌≡◌, ℕ, ◌+◌, ◌-◌, ◌/◌, ◌<◌, ◌≤◌, List, [], ◌∷◌, ◌++◌, length, get_or, take, drop, set, Option, Some, None, Result, Ok, Err, OnOk, sym, ◌∙◌, ap, subst, arith}
+use Rattle.std.proofs.lemmas.List.{drop_more}
 use Rattle.mls_leaf.specs.declared.leaf.LeafNode.{LeafNode}
+use Rattle.mls_leaf.specs.Parent.{Parent}
 use Rattle.mls_leaf.specs.declared.node.Node.{Node}
 use Rattle.mls_treemath.specs.Paths.{nodes_in}
 use Rattle.mls_term.specs.Term.{Branch}
@@ -13,8 +13,8 @@ use Rattle.mls_array.specs.Standing.{Stands}
 use Rattle.mls_term.specs.ArrayLaws.{width-term_of}
 use Rattle.mls_array.specs.StandingLaws.{in_order-leaf}
 use Rattle.mls_term.specs.ArrayLaws.{term_of-zero}
-use Rattle.mls_array.proofs.Parts.{split, left_of_set, right_of_set}
-use Rattle.mls_array.proofs.Standings.{half, with_left, with_right, one_set}
+use Rattle.mls_array.proofs.Parts.{split}
+use Rattle.mls_array.proofs.Standings.{half, left_put, right_put, left_stands, right_stands, root_stands, with_left, with_right, one_set}
 
 pub enter_one : (h b i : ℕ) (xs : List (Option Node)) (x : LeafNode) → h ≡ 0 → length xs ≡ nodes_in h → set xs 0 (leaf_cell (Some x)) ≡ in_order (enter b (term_of h xs) i x)
 enter_one h b i xs x low size =
@@ -24,53 +24,61 @@ enter_one h b i xs x low size =
     ∙ ap (λ t. in_order (enter b t i x)) (sym (term_of-zero xs))
     ∙ ap (λ j. in_order (enter b (term_of j xs) i x)) (sym low)
 
-module _ (h n m : ℕ) (xs : List (Option Node)) (at : HasMiddle h n m) (len : length xs ≡ n) (pos : 0 < h) (stands : Stands h xs) (b i : ℕ) (x : LeafNode) where
-  entered_left : (sub : List (Option Node)) → i < b + (m / 2 + 1) → sub ≡ in_order (enter b (term_of (h - 1) (take m xs)) i x) → sub ++ drop m (set xs m (parent_cell (listing i (parent_in (get_or xs m None))))) ≡ in_order (enter b (term_of h xs) i x)
-  entered_left sub low is =
-      let l = term_of (h - 1) (take m xs) in
-      let r = term_of (h - 1) (drop (m + 1) xs) in
-      with_left h n m xs at len pos stands sub (listing i (parent_in (get_or xs m None))) (enter b l i x) is
-      ∙ ap in_order (sym (enter_left b (parent_in (get_or xs m None)) l r i x (omega (arith, width-term_of (h - 1) (take m xs), half h n m xs at len pos))))
-      ∙ ap (λ t. in_order (enter b t i x)) (sym (split h n m xs at len pos))
+-- what follows from two facts that hold at `Ok`
+pub both_ok : {T E P Q R : Type 0} (r : Result T E) → (P → Q → R) → OnOk r P → OnOk r Q → OnOk r R
+both_ok (Ok v) f p q = f p q
+both_ok (Err e) f p q = tt
 
-  pub enter_in_left : (sub : List (Option Node)) (d : Option Node) → d ≡ parent_cell (listing i (parent_in (get_or xs m None))) → i < b + (m / 2 + 1) → sub ≡ in_order (enter b (term_of (h - 1) (take m (set xs m d))) i x) → sub ++ drop m (set xs m d) ≡ in_order (enter b (term_of h xs) i x)
-  enter_in_left sub d root low is =
-      ap (λ c. sub ++ drop m (set xs m c)) root
-      ∙ entered_left sub low (is ∙ ap (λ ys. in_order (enter b (term_of (h - 1) ys) i x)) (left_of_set h n m xs at len pos d))
+-- a list as its left side l, a list a of its root alone, and its right side r
+module _ (h n m : ℕ) (xs l rest a r : List (Option Node)) (at : HasMiddle h n m) (len : length xs ≡ n) (pos : 0 < h) (stands : Stands h xs)
+    (is_left : l ≡ take m xs) (is_rest : rest ≡ drop m xs) (is_root : a ≡ take 1 rest) (is_right : r ≡ drop 1 rest) where
+  opened : rest ≡ get_or xs m None ∷ drop (m + 1) xs
+  opened = let w : n ≡ m + m + 1 = at.whole in is_rest ∙ drop_more xs m None (omega arith)
 
-  entered_right : (sub : List (Option Node)) → b + (m / 2 + 1) ≤ i → sub ≡ in_order (enter (b + (m / 2 + 1)) (term_of (h - 1) (drop (m + 1) xs)) i x) → put_mid (m + 1) (length (set xs m (parent_cell (listing i (parent_in (get_or xs m None))))) - (m + 1)) (set xs m (parent_cell (listing i (parent_in (get_or xs m None))))) sub ≡ in_order (enter b (term_of h xs) i x)
-  entered_right sub high is =
-      let l = term_of (h - 1) (take m xs) in
-      let r = term_of (h - 1) (drop (m + 1) xs) in
-      let wide = width-term_of (h - 1) (take m xs) ∙ sym (half h n m xs at len pos) in
-      with_right h n m xs at len pos stands sub (listing i (parent_in (get_or xs m None))) (enter (b + (m / 2 + 1)) r i x) is
-      ∙ ap (λ w. in_order (Branch (listing i (parent_in (get_or xs m None))) l (enter (b + w) r i x))) (sym wide)
-      ∙ ap in_order (sym (enter_right b (parent_in (get_or xs m None)) l r i x (omega (arith, wide))))
-      ∙ ap (λ t. in_order (enter b t i x)) (sym (split h n m xs at len pos))
+  alone : a ≡ get_or xs m None ∷ []
+  alone = is_root ∙ ap (take 1) opened
 
-  pub enter_in_right : (sub : List (Option Node)) (d : Option Node) → d ≡ parent_cell (listing i (parent_in (get_or xs m None))) → b + (m / 2 + 1) ≤ i → sub ≡ in_order (enter (b + (m / 2 + 1)) (term_of (h - 1) (take (length (set xs m d) - (m + 1)) (drop (m + 1) (set xs m d)))) i x) → put_mid (m + 1) (length (set xs m d) - (m + 1)) (set xs m d) sub ≡ in_order (enter b (term_of h xs) i x)
-  enter_in_right sub d root high is =
-      ap (λ c. put_mid (m + 1) (length (set xs m c) - (m + 1)) (set xs m c) sub) root
-      ∙ entered_right sub high (is ∙ ap (λ ys. in_order (enter (b + (m / 2 + 1)) (term_of (h - 1) ys) i x)) (right_of_set h n m xs at len pos d))
+  behind : r ≡ drop (m + 1) xs
+  behind = is_right ∙ ap (drop 1) opened
 
--- where a side stayed, and the root is put back, the list is as it was
-put_back : (m : ℕ) (xs ys : List (Option Node)) (d e p : Option Node) → m < length xs → ys ≡ set xs m d → e ≡ get_or xs m p → set ys m e ≡ xs
-put_back m xs ys d e p within kept back =
-    ap (λ zs. set zs m e) kept ∙ set-set xs m d e ∙ ap (set xs m) (back ∙ get_or_default xs m p None within) ∙ set-get_or xs m None
+  pub root_cell : (d : Option Node) → parent_cell (parent_in (get_or a 0 d)) ≡ get_or a 0 d
+  root_cell d = subst (λ ys. parent_cell (parent_in (get_or ys 0 d)) ≡ get_or ys 0 d) (sym alone) (root_stands h n m xs at len pos stands)
 
-module _ (h n m : ℕ) (xs : List (Option Node)) (at : HasMiddle h n m) (len : length xs ≡ n) (sub : List (Option Node)) (d e p : Option Node) where
-  within : m < length xs
-  within = let w : n ≡ m + m + 1 = at.whole in omega arith
+  pub left_side : Stands (h - 1) l
+  left_side = subst (Stands (h - 1)) (sym is_left) (left_stands h n m xs at len pos stands)
 
-  pub left_back : sub ≡ take m (set xs m d) → e ≡ get_or xs m p → set (sub ++ drop m (set xs m d)) m e ≡ xs
-  left_back same back =
-      let kept = ap (λ ys. ys ++ drop m (set xs m d)) same ∙ take-append-drop m (set xs m d) in
-      put_back m xs (sub ++ drop m (set xs m d)) d e p within kept back
+  pub right_side : Stands (h - 1) r
+  right_side = subst (Stands (h - 1)) (sym behind) (right_stands h n m xs at len pos stands)
 
-  pub right_back : sub ≡ take (length (set xs m d) - (m + 1)) (drop (m + 1) (set xs m d)) → e ≡ get_or xs m p → set (put_mid (m + 1) (length (set xs m d) - (m + 1)) (set xs m d) sub) m e ≡ xs
-  right_back same back =
-      let kept =
-      ap (λ ys. take (m + 1) (set xs m d) ++ (ys ++ drop (length (set xs m d) - (m + 1)) (drop (m + 1) (set xs m d)))) same
-      ∙ ap (λ ys. take (m + 1) (set xs m d) ++ ys) (take-append-drop (length (set xs m d) - (m + 1)) (drop (m + 1) (set xs m d)))
-      ∙ take-append-drop (m + 1) (set xs m d) in
-      put_back m xs (put_mid (m + 1) (length (set xs m d) - (m + 1)) (set xs m d) sub) d e p within kept back
+  module _ (b i : ℕ) (x : LeafNode) (sub : List (Option Node)) (c d : Option Node) (root : c ≡ parent_cell (listing i (parent_in (get_or a 0 d)))) where
+    abbrev listed : Option Parent
+    listed = listing i (parent_in (get_or xs m None))
+
+    cell : set a 0 c ≡ parent_cell listed ∷ []
+    cell =
+        ap (λ ys. set ys 0 c) alone
+        ∙ ap (λ z. z ∷ []) (root ∙ ap (λ ys. parent_cell (listing i (parent_in (get_or ys 0 d)))) alone)
+
+    pub entered_left : i < b + (m / 2 + 1) → sub ≡ in_order (enter b (term_of (h - 1) l) i x) → sub ++ (set a 0 c ++ r) ≡ in_order (enter b (term_of h xs) i x)
+    entered_left low is =
+        let t = term_of (h - 1) (take m xs) in
+        let u = term_of (h - 1) (drop (m + 1) xs) in
+        ap (λ ys. sub ++ (ys ++ r)) cell
+        ∙ ap (λ ys. sub ++ (parent_cell listed ∷ ys)) behind
+        ∙ sym (left_put h n m xs at len pos sub (parent_cell listed))
+        ∙ with_left h n m xs at len pos stands sub listed (enter b t i x) (is ∙ ap (λ ys. in_order (enter b (term_of (h - 1) ys) i x)) is_left)
+        ∙ ap in_order (sym (enter_left b (parent_in (get_or xs m None)) t u i x (omega (arith, width-term_of (h - 1) (take m xs), half h n m xs at len pos))))
+        ∙ ap (λ v. in_order (enter b v i x)) (sym (split h n m xs at len pos))
+
+    pub entered_right : b + (m / 2 + 1) ≤ i → sub ≡ in_order (enter (b + (m / 2 + 1)) (term_of (h - 1) r) i x) → l ++ (set a 0 c ++ sub) ≡ in_order (enter b (term_of h xs) i x)
+    entered_right high is =
+        let t = term_of (h - 1) (take m xs) in
+        let u = term_of (h - 1) (drop (m + 1) xs) in
+        let wide = width-term_of (h - 1) (take m xs) ∙ sym (half h n m xs at len pos) in
+        ap (λ ys. l ++ (ys ++ sub)) cell
+        ∙ ap (λ ys. ys ++ (parent_cell listed ∷ sub)) is_left
+        ∙ sym (right_put h n m xs at len pos sub (parent_cell listed))
+        ∙ with_right h n m xs at len pos stands sub listed (enter (b + (m / 2 + 1)) u i x) (is ∙ ap (λ ys. in_order (enter (b + (m / 2 + 1)) (term_of (h - 1) ys) i x)) behind)
+        ∙ ap (λ w. in_order (Branch listed t (enter (b + w) u i x))) (sym wide)
+        ∙ ap in_order (sym (enter_right b (parent_in (get_or xs m None)) t u i x (omega (arith, wide))))
+        ∙ ap (λ v. in_order (enter b v i x)) (sym (split h n m xs at len pos))

@@ -7,13 +7,11 @@ pub mod Numbered
 pub mod Sent
 pub mod Standings
 pub mod Puts
-pub mod Listings
 pub mod Entries
 pub mod Widths
 pub mod Hashed
 pub mod Merged
 pub mod Sorts
-pub mod Gathered
 pub mod Listed
 pub mod Original
 pub mod Others

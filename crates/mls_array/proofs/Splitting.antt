@@ -8,6 +8,7 @@ use Rattle.std.proofs.lemmas.List.Sorted.{searched}
 use Rattle.std.proofs.Math.Bool.{or-false}
 use Rattle.mls_leaf.specs.Parent.{Parent, rises_from}
 use Rattle.mls_leaf.specs.ParentLaws.{rises_from-nil, rises_from-cons, rises_from-more}
+use Rattle.mls_leaf.specs.RisingLaws.{above_front, no_less, from_lower}
 use Rattle.mls_leaf.specs.declared.node.Node.{Node}
 use Rattle.mls_term.specs.Term.{Term, Leaf, Branch, width}
 use Rattle.mls_term.specs.Sets.{has, less}
@@ -20,40 +21,7 @@ use Rattle.mls_term.specs.Arrays.{term_of}
 use Rattle.mls_array.specs.Splits.{Splits}
 use Rattle.mls_array.proofs.Readings.{left_side, right_side, InParts}
 
--- ---- each number of a rising list is above those before it
-
-no_lower : (low : ℕ) (xs : List ℕ) (j : ℕ) → rises_from low xs ≡ true → j < length xs → low ≤ get_or xs j 0
-no_lower low [] j rise lt = absurd (omega arith)
-no_lower low (x ∷ xs) zero rise lt = leb-true low x (and_parts (nat_le low x) (rises_from (x + 1) xs) (sym (rises_from-cons low x xs) ∙ rise)).0
-no_lower low (x ∷ xs) (suc j) rise lt =
-    let both = and_parts (nat_le low x) (rises_from (x + 1) xs) (sym (rises_from-cons low x xs) ∙ rise) in
-    omega (arith, leb-true low x both.0, no_lower (x + 1) xs j both.1 (omega arith))
-
-above_front : (low : ℕ) (xs : List ℕ) (i j : ℕ) → rises_from low xs ≡ true → i < j → j < length xs → get_or xs i 0 < get_or xs j 0
-above_front low [] i j rise less lt = absurd (omega arith)
-above_front low (x ∷ xs) i zero rise less lt = absurd (omega arith)
-above_front low (x ∷ xs) zero (suc j) rise less lt =
-    let both = and_parts (nat_le low x) (rises_from (x + 1) xs) (sym (rises_from-cons low x xs) ∙ rise) in
-    omega (arith, no_lower (x + 1) xs j both.1 (omega arith))
-above_front low (x ∷ xs) (suc i) (suc j) rise less lt =
-    let both = and_parts (nat_le low x) (rises_from (x + 1) xs) (sym (rises_from-cons low x xs) ∙ rise) in
-    above_front (x + 1) xs i j both.1 (omega arith) (omega arith)
-
-no_less : (xs : List ℕ) (i j : ℕ) → rises_from 0 xs ≡ true → i ≤ j → j < length xs → get_or xs i 0 ≤ get_or xs j 0
-no_less xs i j rise le lt =
-    elim (cases_lt i j) [
-      | inl less ↦ (let above = above_front 0 xs i j rise less lt in omega arith)
-      | inr same ↦ (let e : i ≡ j = omega arith in let f = ap (λ k. get_or xs k 0) e in omega arith)
-    ]
-
 -- ---- its parts rise
-
-from_lower : (low mid : ℕ) (xs : List ℕ) → low ≤ mid → rises_from mid xs ≡ true → rises_from low xs ≡ true
-from_lower low mid [] le rise = rises_from-nil low
-from_lower low mid (x ∷ xs) le rise =
-    let both = and_parts (nat_le mid x) (rises_from (x + 1) xs) (sym (rises_from-cons mid x xs) ∙ rise) in
-    let above = leb-true mid x both.0 in
-    rises_from-more low x xs (omega arith) ∙ both.1
 
 take_rises : (low n : ℕ) (xs : List ℕ) → rises_from low xs ≡ true → rises_from low (take n xs) ≡ true
 take_rises low zero xs rise = rises_from-nil low

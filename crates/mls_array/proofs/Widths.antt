@@ -1,15 +1,14 @@
 -- Members of the two sides, and trees that shrink and grow.
-use Rattle.std.proofs.Common.{◌≡◌, ℕ, zero, suc, ◌+◌, ◌-◌, ◌<◌, true, false, ◌||◌, List, ◌∷◌, ◌++◌, length, get_or, take, drop, replicate, Option, None, refl, sym, ◌∙◌, ap, subst, arith}
-use Rattle.std.proofs.lemmas.List.{take_rest, replicate-append-replicate}
+use Rattle.std.proofs.Common.{◌≡◌, ℕ, suc, ◌+◌, ◌-◌, ◌<◌, true, false, ◌||◌, List, ◌++◌, length, get_or, take, drop, replicate, Option, None, refl, sym, ◌∙◌, ap, subst, arith}
+use Rattle.std.proofs.lemmas.List.{take_rest}
 use Rattle.mls_leaf.specs.declared.node.Node.{Node}
 use Rattle.mls_treemath.specs.Paths.{nodes_in}
-use Rattle.mls_treemath.specs.Sizes.{nodes_in-zero, nodes_in-suc}
-use Rattle.mls_term.specs.Term.{height, blanks, has_leaf}
+use Rattle.mls_term.specs.Term.{has_leaf}
 use Rattle.mls_term.specs.Edits.{grow, trim}
 use Rattle.mls_term.specs.Arrays.{leaf_in, parent_in, term_of, in_order, HasMiddle}
-use Rattle.mls_term.specs.Equations.{has_leaf_branch, trim_leaf, trim_full, trim_empty, grow_is}
+use Rattle.mls_term.specs.Equations.{has_leaf_branch, trim_leaf, trim_full, trim_empty}
 use Rattle.mls_array.specs.Standing.{Stands}
-use Rattle.mls_array.specs.StandingLaws.{in_order-leaf, in_order-branch, height-term_of}
+use Rattle.mls_array.specs.StandingLaws.{in_order-grow}
 use Rattle.mls_term.specs.ArrayLaws.{term_of-zero}
 use Rattle.mls_array.proofs.Parts.{split}
 use Rattle.mls_array.proofs.Standings.{left_stands}
@@ -52,22 +51,7 @@ trim_one h xs low stands =
 
 -- ---- growths
 
-in_order-blanks : (h : ℕ) → in_order (blanks h) ≡ replicate (nodes_in h) None
-unfolding blanks
-in_order-blanks zero = in_order-leaf None ∙ ap (λ n. replicate n None) (sym nodes_in-zero)
-in_order-blanks (suc h) =
-    in_order-branch None (blanks h) (blanks h)
-    ∙ ap (λ ys. ys ++ (None ∷ ys)) (in_order-blanks h)
-    ∙ replicate-append-replicate (nodes_in h) (suc (nodes_in h)) None
-    ∙ ap (λ n. replicate n None) (sym (nodes_in-suc h))
-
 pub grown : (h n : ℕ) (xs ys : List (Option Node)) → Stands h xs → n ≡ length xs + 1 → ys ≡ xs ++ replicate n None → ys ≡ in_order (grow (term_of h xs))
 grown h n xs ys stands many is =
     let count : n ≡ suc (nodes_in h) = let size = stands.size in omega arith in
-    is
-    ∙ ap (λ k. xs ++ replicate k None) count
-    ∙ ap (λ zs. xs ++ (None ∷ zs)) (sym (in_order-blanks h))
-    ∙ ap (λ zs. zs ++ (None ∷ in_order (blanks h))) (sym stands.order)
-    ∙ ap (λ k. in_order (term_of h xs) ++ (None ∷ in_order (blanks k))) (sym (height-term_of h xs))
-    ∙ sym (in_order-branch None (term_of h xs) (blanks (height (term_of h xs))))
-    ∙ ap in_order (sym (grow_is (term_of h xs)))
+    is ∙ ap (λ k. xs ++ replicate k None) count ∙ sym (in_order-grow h xs stands)

@@ -1,6 +1,5 @@
 pub mod Standing
 pub mod OrderLaws
-pub mod Cells
 pub mod StandingLaws
 pub mod Merging
 pub mod MergingLaws

@@ -1,14 +1,16 @@
 -- Laws: the list of a tree's nodes in order stands for that tree, also after each edit.
-use Rattle.std.proofs.Common.{◌≡◌, ℕ, suc, ◌+◌, ◌<◌, true, List, [], ◌∷◌, ◌++◌, length, Option, refl, sym, ◌∙◌, ap, subst, arith, inl, inr, add-one}
+use Rattle.std.proofs.Common.{◌≡◌, ℕ, zero, suc, ◌+◌, ◌<◌, ◌≤◌, true, List, [], ◌∷◌, ◌++◌, length, replicate, Option, None, refl, sym, ◌∙◌, ap, subst, arith, inl, inr, add-one}
 use Rattle.std.proofs.lemmas.Bool.{cases_lt}
+use Rattle.std.proofs.lemmas.List.{replicate-append-replicate}
 use Rattle.mls_leaf.specs.Parent.{Parent}
 use Rattle.mls_leaf.specs.declared.leaf.LeafNode.{LeafNode}
 use Rattle.mls_leaf.specs.declared.node.Node.{Node}
 use Rattle.mls_treemath.specs.Paths.{nodes_in}
-use Rattle.mls_treemath.specs.Sizes.{nodes_in-suc, nodes_in_up}
-use Rattle.mls_term.specs.Term.{Term, Leaf, Branch, height, is_perfect}
+use Rattle.mls_treemath.specs.Sizes.{nodes_in-zero, nodes_in-suc, nodes_in_up}
+use Rattle.mls_term.specs.Term.{Term, Leaf, Branch, height, blanks, is_perfect}
 use Rattle.mls_term.specs.Edits.{put, enter, grow, trim}
 use Rattle.mls_term.specs.Arrays.{leaf_cell, parent_cell, term_of, in_order}
+use Rattle.mls_term.specs.Equations.{grow_is}
 use Rattle.mls_term.specs.ShapeLaws.{height-perfect, perfect-put, perfect-enter, perfect-grow, perfect-trim}
 use Rattle.mls_term.specs.ArrayLaws.{perfect-term_of, length-in_order, size-perfect, term_of-in_order}
 use Rattle.mls_array.specs.Standing.{Stands}
@@ -54,12 +56,35 @@ stands_for-leaf v = stands_for 0 (Leaf v) (leaf_cell v ∷ []) (leaf_is v) (sym 
 higher : (h k : ℕ) → h < k → nodes_in h < nodes_in k
 higher h k lt = omega (arith, nodes_in-suc h, nodes_in_up (suc h) k (omega arith))
 
+-- none has fewer than one as high, or lower
+pub no_more_nodes : (h k : ℕ) → h ≤ k → nodes_in h ≤ nodes_in k
+no_more_nodes h k le = elim (cases_lt h k) [ inl lt ↦ (let more = higher h k lt in omega arith) | inr ge ↦ (let e : h ≡ k = omega arith in let f = ap nodes_in e in omega arith) ]
+
 same_height : (h k : ℕ) → nodes_in h ≡ nodes_in k → h ≡ k
 same_height h k e =
     elim (cases_lt h k) [
       | inl lt ↦ absurd (let more = higher h k lt in omega arith)
       | inr ge ↦ elim (cases_lt k h) [ inl lt ↦ absurd (let more = higher k h lt in omega arith) | inr le ↦ omega arith ]
     ]
+
+-- ---- the doubled tree: the list with blank nodes behind it
+
+in_order-blanks : (h : ℕ) → in_order (blanks h) ≡ replicate (nodes_in h) None
+unfolding blanks
+in_order-blanks zero = in_order-leaf None ∙ ap (λ n. replicate n None) (sym nodes_in-zero)
+in_order-blanks (suc h) =
+    in_order-branch None (blanks h) (blanks h)
+    ∙ ap (λ ys. ys ++ (None ∷ ys)) (in_order-blanks h)
+    ∙ replicate-append-replicate (nodes_in h) (suc (nodes_in h)) None
+    ∙ ap (λ n. replicate n None) (sym (nodes_in-suc h))
+
+pub in_order-grow : (h : ℕ) (xs : List (Option Node)) → Stands h xs → in_order (grow (term_of h xs)) ≡ xs ++ replicate (suc (nodes_in h)) None
+in_order-grow h xs stands =
+    ap in_order (grow_is (term_of h xs))
+    ∙ in_order-branch None (term_of h xs) (blanks (height (term_of h xs)))
+    ∙ ap (λ k. in_order (term_of h xs) ++ (None ∷ in_order (blanks k))) (height-term_of h xs)
+    ∙ ap (λ zs. zs ++ (None ∷ in_order (blanks h))) stands.order
+    ∙ ap (λ zs. xs ++ (None ∷ zs)) (in_order-blanks h)
 
 -- ---- so the list after an edit stands for the edited tree
 

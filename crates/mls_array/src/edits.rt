@@ -1,12 +1,12 @@
 //! Edits at a leaf: it is replaced, or filled and listed by the parents over it.
 
-ghost use Rattle.std.specs.Prelude.{◌≡◌, ◌+◌, ◌^◌, ◌≤◌, IfOk, OnOk, OnErr};
+ghost use Rattle.std.specs.Prelude.{◌≡◌, ◌+◌, ◌^◌, ◌≤◌, OnOk, OnErr};
 ghost use Rattle.mls_term.specs.Edits.{put, enter, listing};
 ghost use Rattle.mls_term.specs.Arrays.{parent_in, leaf_cell, parent_cell, term_of, in_order};
 ghost use Rattle.mls_array.specs.Standing.{Stands};
 
 use crate::places::middle_of;
-use mls_slot::{SharedLeaf, Slot};
+use mls_slot::{NoParent, SharedLeaf, Slot};
 use std::alloc::AllocError;
 
 /// The cell that holds a leaf, or a blank one.
@@ -39,20 +39,9 @@ pub fn put(nodes: &mut [Slot], height: u32, first: u32, i: u32, leaf: Option<Sha
     }
 }
 
-/// Enters a leaf in the list of the parent in a cell, where there is one, and answers the cell as it was.
-fn list_leaf(node: &mut Slot, leaf: u32) -> Result<Slot, AllocError>
-    requires { parent_cell (parent_in node.old) ≡ node.old }
-    ensures ok { OnOk result (node.new ≡ parent_cell (listing leaf (parent_in node.old))) }
-    ensures undone { IfOk result (λ before. before ≡ node.old) }
-    ensures err { OnErr result (node.new ≡ node.old) }
-{
-    let before = node.clone()?;
-    node.list(leaf)?;
-    Ok(before)
-}
-
 /// Fills leaf i, and enters it in the list of each parent over it that isn't blank (RFC 9420, 12.1.1). The leaf is filled
 /// once all lists have it; where one can't grow, those above are as they were.
+#[cycle(entering)]
 pub fn enter(
     nodes: &mut [Slot],
     height: u32,
@@ -70,23 +59,43 @@ pub fn enter(
         return Ok(());
     }
     let middle = middle_of(nodes.len(), height);
-    let before = list_leaf(&mut nodes[middle], i)?;
     let second = first + (middle / 2 + 1) as u32;
+    let (left, rest) = nodes.split_at_mut(middle);
+    let (root, right) = rest.split_at_mut(1);
     if i < second {
-        match enter(&mut nodes[..middle], height - 1, first, i, leaf) {
-            Ok(()) => Ok(()),
-            Err(error) => {
-                nodes[middle] = before;
-                Err(error)
-            }
-        }
+        enter_below(&mut root[0], left, height - 1, first, i, leaf)
     } else {
-        match enter(&mut nodes[middle + 1..], height - 1, second, i, leaf) {
-            Ok(()) => Ok(()),
-            Err(error) => {
-                nodes[middle] = before;
-                Err(error)
-            }
-        }
+        enter_below(&mut root[0], right, height - 1, second, i, leaf)
     }
+}
+
+/// Enters leaf i in the list of the parent in a cell, where there is one, and in the side below it that the leaf is on. A
+/// parent that no other tree shares is not copied; where the side can't take the leaf, it is taken out of the list again.
+#[cycle(entering)]
+fn enter_below(
+    root: &mut Slot,
+    side: &mut [Slot],
+    height: u32,
+    first: u32,
+    i: u32,
+    leaf: SharedLeaf,
+) -> Result<(), AllocError>
+    requires root { parent_cell (parent_in root.old) ≡ root.old }
+    requires stands { Stands height side.old }
+    requires fits { first + 2 ^ height ≤ 2 ^ 31 }
+    ensures root { OnOk result (root.new ≡ parent_cell (listing i (parent_in root.old))) }
+    ensures side { OnOk result (side.new ≡ in_order (enter first (term_of height side.old) i leaf)) }
+    ensures err { OnErr result ((root.new ≡ root.old) × (side.new ≡ side.old)) }
+{
+    let parent = match root.parent_mut() {
+        Ok(parent) => parent,
+        Err(NoParent::Absent) => return enter(side, height, first, i, leaf),
+        Err(NoParent::OutOfMemory) => return Err(AllocError),
+    };
+    let is_new = parent.insert_unmerged(i)?;
+    let entered = enter(side, height, first, i, leaf);
+    if is_new && entered.is_err() {
+        parent.remove_unmerged(i);
+    }
+    entered
 }

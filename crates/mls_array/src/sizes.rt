@@ -1,6 +1,6 @@
 //! The size of a tree: halved where its right half has no member, or doubled.
 
-ghost use Rattle.std.specs.Prelude.{◌≡◌, ◌≤◌, ◌<◌, length, OnOk, OnErr};
+ghost use Rattle.std.specs.Prelude.{◌≡◌, ◌≤◌, ◌<◌, take, OnOk, OnErr};
 ghost use Rattle.mls_treemath.specs.Limits.{max_height};
 ghost use Rattle.mls_treemath.specs.Paths.{nodes_in};
 ghost use Rattle.mls_term.specs.Edits.{grow, trim};
@@ -12,13 +12,12 @@ use crate::places::middle_of;
 use mls_slot::Slot;
 use std::alloc::AllocError;
 
-/// Keeps the left half alone as long as the right half has no member, and answers the height (RFC 9420, 7.7), where `end`
-/// is one past the rightmost taken leaf. Takes no memory.
-pub fn trim(nodes: &mut Vec<Slot>, height: u32, end: u32) -> u32
-    requires stands { Stands height nodes.old.items }
-    requires end { end ≡ taken_end 0 (term_of height nodes.old.items) }
-    ensures order { nodes.new.items ≡ in_order (trim (term_of height nodes.old.items)) }
-    ensures shape { length nodes.new.items ≡ nodes_in result }
+/// The height of what a trim keeps: the left half alone as long as the right half has no member (RFC 9420, 7.7), where
+/// `end` is one past the rightmost taken leaf.
+pub fn trimmed(nodes: &[Slot], height: u32, end: u32) -> u32
+    requires stands { Stands height nodes.now }
+    requires end { end ≡ taken_end 0 (term_of height nodes.now) }
+    ensures order { take (nodes_in result) nodes.now ≡ in_order (trim (term_of height nodes.now)) }
     ensures low { result ≤ height }
 {
     if height == 0 {
@@ -28,8 +27,7 @@ pub fn trim(nodes: &mut Vec<Slot>, height: u32, end: u32) -> u32
     if middle / 2 + 1 < end as usize {
         return height;
     }
-    nodes.truncate(middle);
-    trim(nodes, height - 1, end)
+    trimmed(&nodes[..middle], height - 1, end)
 }
 
 /// Twice the leaves: a blank root, the tree on its left, blank nodes on its right (RFC 9420, 7.7).

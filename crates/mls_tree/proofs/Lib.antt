@@ -14,3 +14,6 @@ pub mod Keepings
 pub mod Costs
 pub mod Chilling
 pub mod Bounding
+pub mod Filling
+pub mod Indexing
+pub mod Ways

@@ -15,3 +15,11 @@ pub mod ShortLeaves
 pub mod Sent
 pub mod Cold
 pub mod Bounds
+pub mod Way
+pub mod WayLaws
+pub mod BesideLaws
+pub mod BlankLaws
+pub mod WayIndexes
+pub mod Indexed
+pub mod KindLaws
+pub mod MergedKeyLaws

@@ -5,6 +5,7 @@ ghost use Rattle.mls_checks.specs.Short.{IsShort};
 ghost use Rattle.mls_term.specs.Term.{leaf_of};
 ghost use Rattle.mls_tree.specs.Tree.{term};
 
+use crate::key_indexes::KeyIndexes;
 use crate::{PublicTree, TreeError};
 use mls_array::Hashes;
 use mls_leaf::{Bytes, Codec, Items, LeafNode, ParentNode};
@@ -138,9 +139,11 @@ fn half_empty(
     let right = SharedLeaf::new(alloc, right)?;
     let nodes = halves(alloc, left, parent, right)?;
     let hashes = Hashes::none(alloc, 7)?;
+    let indexes = KeyIndexes::build(alloc, &nodes)?;
     Ok(PublicTree {
         nodes,
         hashes,
+        indexes,
         height: 2,
         full_to: 0,
         blank_from: 4,

@@ -19,12 +19,14 @@ ghost use Rattle.mls_array.specs.Gathered.{cell_key};
 ghost use Rattle.mls_suite.specs.Crypto.{Crypto};
 ghost use Rattle.mls_tree.specs.Cold.{Warms};
 ghost use Rattle.mls_tree.specs.Faults.{number_of};
+ghost use Rattle.mls_tree.specs.Indexed.{AreIndexes};
 ghost use Rattle.mls_tree.specs.Refusals.{RefusesOutright};
 ghost use Rattle.mls_tree.specs.Rules.{rules_of};
 ghost use Rattle.mls_tree.specs.Short.{HasShortLeaves};
 ghost use Rattle.mls_tree.specs.Tree.{term};
 
 use crate::error::TreeError;
+use crate::key_indexes::KeyIndexes;
 use crate::tree::PublicTree;
 use mls_array::{self as array, Hash};
 use mls_checks::{leaf_capable, leaf_signed};
@@ -127,6 +129,7 @@ fn check<S: Suite>(
     alloc: Global,
     nodes: &[Slot],
     kept: &[Option<Hash>],
+    indexes: &KeyIndexes,
     height: u32,
     group_id: &[u8],
 ) -> Result<(), TreeError>
@@ -136,6 +139,7 @@ fn check<S: Suite>(
     requires short { HasShortLeaves (term_of height nodes.now) }
     requires long { length kept.now ≡ nodes_in height }
     requires hashed { kept.now ≡ hashes_of 0 (term_of height nodes.now) }
+    requires indexed { AreIndexes nodes.now indexes.now }
     ensures answer { Answers (λ _. passed) number_of (tree_checks (rules_of S.crypto group_id.now) (term_of height nodes.now)) result }
     ensures lists { RefusesOutright number_of (require 23 (has_good_lists (term_of height nodes.now))) result }
     ensures rising { OnOk result (all_parents rises_here 0 (term_of height nodes.now) ≡ true) }
@@ -146,10 +150,10 @@ fn check<S: Suite>(
     if !array::has_good_hashes(alloc, nodes, kept, height)? {
         return Err(TreeError::ParentHashWrong);
     }
-    if !array::has_distinct_keys(alloc, nodes, height)? {
+    if !indexes.has_distinct_keys() {
         return Err(TreeError::KeyRepeated);
     }
-    if !array::has_distinct_clients(alloc, nodes, height)? {
+    if !indexes.has_distinct_clients() {
         return Err(TreeError::ClientRepeated);
     }
     if !all_signed::<S>(alloc, nodes, height, group_id)? {
@@ -184,20 +188,27 @@ impl PublicTree {
         let _tree_hash = self.tree_hash();
         let alloc = *self.nodes.allocator();
         let kept = self.hashes.as_slice();
-        check::<S>(alloc, &self.nodes, kept, self.height, group_id)
+        check::<S>(
+            alloc,
+            &self.nodes,
+            kept,
+            &self.indexes,
+            self.height,
+            group_id,
+        )
     }
 
     /// Whether no two nodes have one encryption key (RFC 9420, 7.3).
     pub fn has_distinct_keys(&self) -> Result<bool, AllocError>
         ensures { IfOk result (λ b. b ≡ has_distinct_keys (term self.now)) }
     {
-        array::has_distinct_keys(*self.nodes.allocator(), &self.nodes, self.height)
+        Ok(self.indexes.has_distinct_keys())
     }
 
     /// Whether no two members have one signature key (RFC 9420, 7.3).
     pub fn has_distinct_clients(&self) -> Result<bool, AllocError>
         ensures { IfOk result (λ b. b ≡ has_distinct_clients (term self.now)) }
     {
-        array::has_distinct_clients(*self.nodes.allocator(), &self.nodes, self.height)
+        Ok(self.indexes.has_distinct_clients())
     }
 }

@@ -9,7 +9,9 @@ ghost use Rattle.mls_array.specs.Ends.{taken_end};
 ghost use Rattle.mls_array.specs.Kept.{Keeps, dropped};
 ghost use Rattle.mls_array.specs.Standing.{Stands};
 ghost use Rattle.mls_array.specs.StandingLaws.{StandsFor};
+ghost use Rattle.mls_tree.specs.Indexed.{AreIndexes};
 
+use crate::key_indexes::KeyIndexes;
 use mls_array::{self as array, Hashes};
 use mls_slot::{SharedLeaf, Slot};
 use std::alloc::AllocError;
@@ -70,12 +72,18 @@ pub(crate) fn append(
 }
 
 /// Keeps the left half alone as long as the right half has no member, and answers the height, where `end` is one past the
-/// rightmost taken leaf.
-pub(crate) fn trim(nodes: &mut Vec<Slot>, height: u32, end: u32) -> u32
+/// rightmost taken leaf. The cells that are cut off leave the indexes. Takes no memory.
+pub(crate) fn trim(nodes: &mut Vec<Slot>, indexes: &mut KeyIndexes, height: u32, end: u32) -> u32
     requires stands { Stands height nodes.old.items }
+    requires low { height ≤ max_height }
     requires end { end ≡ taken_end 0 (term_of height nodes.old.items) }
     ensures order { StandsFor result nodes.new.items (trim (term_of height nodes.old.items)) }
     ensures low { result ≤ height }
+    ensures indexes { AreIndexes nodes.old.items indexes.old → AreIndexes nodes.new.items indexes.new }
 {
-    array::trim(nodes, height, end)
+    let low = array::trimmed(nodes, height, end);
+    let count = (1 << (low + 1)) - 1;
+    indexes.leave_from(nodes, count);
+    nodes.truncate(count);
+    low
 }

@@ -12,6 +12,9 @@ mod edits;
 mod error;
 #[cfg(test)]
 mod hash_tests;
+#[cfg(test)]
+mod index_tests;
+mod key_indexes;
 mod laws;
 #[cfg(test)]
 mod members;
@@ -21,6 +24,9 @@ mod paths;
 #[cfg(test)]
 mod tests;
 mod tree;
+mod way;
+#[cfg(test)]
+mod way_tests;
 
 pub use error::TreeError;
 pub use laws::{hashing_costs, laws_of_leaves, tree_names_by_number};

@@ -23,6 +23,8 @@ ghost use Rattle.mls_tree.specs.Tree.{term, max_leaves, path_answer, add_answer,
 
 use crate::edits;
 use crate::error::TreeError;
+use crate::key_indexes::KeyIndexes;
+use crate::way::Way;
 use mls_array::{self as array, Hash, Hashes};
 use mls_leaf::{LeafNode, Node};
 use mls_slot::{SharedLeaf, Slot};
@@ -37,6 +39,7 @@ use std::marker::Model;
 pub struct PublicTree {
     pub(crate) nodes: Vec<Slot>,
     pub(crate) hashes: Hashes,
+    pub(crate) indexes: KeyIndexes,
     pub(crate) height: u32,
     /// Each leaf before this one is taken.
     pub(crate) full_to: u32,
@@ -51,13 +54,14 @@ impl Model for PublicTree {
     ghost use Rattle.mls_array.specs.Standing.{Stands};
     ghost use Rattle.mls_array.specs.Kept.{Keeps};
     ghost use Rattle.mls_tree.specs.Bounds.{Bounds};
+    ghost use Rattle.mls_tree.specs.Indexed.{AreIndexes};
     ghost use Rattle.mls_tree.specs.Tree.{Tree};
 
     ghost Value = { Tree };
 
     ghost view = { λ t. record { levels = t.height; listing = t.nodes.items; kept = t.hashes.kept; done = t.hashes.done } };
 
-    ghost invariant = { λ t. Stands t.height t.nodes.items × (t.height ≤ max_height) × Keeps 0 (term_of t.height t.nodes.items) t.hashes.kept × Bounds (term_of t.height t.nodes.items) t.full_to t.blank_from };
+    ghost invariant = { λ t. Stands t.height t.nodes.items × (t.height ≤ max_height) × Keeps 0 (term_of t.height t.nodes.items) t.hashes.kept × Bounds (term_of t.height t.nodes.items) t.full_to t.blank_from × AreIndexes t.nodes.items t.indexes };
 }
 
 impl PublicTree {
@@ -72,9 +76,11 @@ impl PublicTree {
         let leaf = SharedLeaf::new(alloc, leaf)?;
         nodes.push(leaf.into_slot())?;
         let hashes = Hashes::none(alloc, 1)?;
+        let indexes = KeyIndexes::build(alloc, &nodes)?;
         Ok(PublicTree {
             nodes,
             hashes,
+            indexes,
             height: 0,
             full_to: 0,
             blank_from: 1,
@@ -109,9 +115,11 @@ impl PublicTree {
             return Err(TreeError::TreeFull);
         }
         let hashes = Hashes::none(*nodes.allocator(), nodes.len())?;
+        let indexes = KeyIndexes::build(*nodes.allocator(), &nodes)?;
         Ok(PublicTree {
             nodes,
             hashes,
+            indexes,
             height,
             full_to: 0,
             blank_from: 1 << height,
@@ -226,7 +234,9 @@ impl PublicTree {
         match array::first_blank(&self.nodes, height, 0, self.full_to) {
             Some(i) => {
                 let leaf = SharedLeaf::new(alloc, leaf)?;
+                self.indexes.reserve(1)?;
                 edits::enter(&mut self.nodes, height, i, leaf)?;
+                self.indexes.enter(&self.nodes, 2 * i);
                 self.hashes.drop_way(height, i);
                 self.full_to = i + 1;
                 self.blank_from = self.blank_from.max(i + 1);
@@ -237,7 +247,9 @@ impl PublicTree {
                     return Err(TreeError::TreeFull);
                 }
                 let leaf = SharedLeaf::new(alloc, leaf)?;
+                self.indexes.reserve(1)?;
                 edits::append(&mut self.nodes, &mut self.hashes, height, leaf)?;
+                self.indexes.enter(&self.nodes, 1 << (height + 1));
                 self.height = height + 1;
                 self.full_to = (1 << height) + 1;
                 self.blank_from = (1 << height) + 1;
@@ -263,7 +275,12 @@ impl PublicTree {
         }
         let leaf = SharedLeaf::new(*self.nodes.allocator(), leaf)?;
         let height = self.height;
+        let way = Way::over(height, i);
+        let places = way.as_slice();
+        self.indexes.reserve(places.len())?;
+        self.indexes.leave_all(&self.nodes, places);
         edits::put(&mut self.nodes, height, i, Some(leaf));
+        self.indexes.enter_all(&self.nodes, places);
         self.hashes.drop_way(height, i);
         Ok(())
     }
@@ -283,10 +300,12 @@ impl PublicTree {
             Ok(()) => {}
         }
         let height = self.height;
+        let way = Way::over(height, i);
+        self.indexes.leave_all(&self.nodes, way.as_slice());
         edits::put(&mut self.nodes, height, i, None);
         self.hashes.drop_way(height, i);
         let end = array::taken_end(&self.nodes, height, 0, self.blank_from);
-        self.height = edits::trim(&mut self.nodes, height, end);
+        self.height = edits::trim(&mut self.nodes, &mut self.indexes, height, end);
         self.hashes.cut(self.nodes.len());
         self.full_to = self.full_to.min(i);
         self.blank_from = end;
@@ -301,6 +320,7 @@ impl Clone for PublicTree {
         Ok(PublicTree {
             nodes: self.nodes.clone()?,
             hashes: self.hashes.clone()?,
+            indexes: self.indexes.clone()?,
             height: self.height,
             full_to: self.full_to,
             blank_from: self.blank_from,

@@ -1,5 +1,23 @@
-use Rattle.mls_array.specs.StandingLaws.{stands_for-trim}
+use Rattle.std.proofs.Common.{◌+◌, ◌-◌, ◌*◌, ◌%◌, ◌^◌, take, ap, sym, ◌∙◌, arith, length, subst}
+use Rattle.mls_tree.specs.Indexed.{AreIndexes}
+use Rattle.mls_tree.proofs.Checked.{size_fits}
+use Rattle.mls_tree.proofs.Indexing.{cut_size, trimmed_as}
 use Rattle.mls_tree.proofs.edits.trim.Goals as goal
 
+pub leave_from-requires : goal.leave_from-requires
+leave_from-requires c =
+    let fits = size_fits c.args.height c.args.nodes.now.items c.requires.stands c.requires.low in
+    let same = ap length c.deref-2.ensures.value in
+    omega arith
+
 pub returns-clause-order : goal.returns-clause-order
-returns-clause-order c = stands_for-trim c.args.height c.trim.result c.args.nodes.now.items _ c.trim.ensures.order c.trim.ensures.shape
+returns-clause-order c =
+    let low = c.trimmed-low.ensures.low in
+    let tall = c.requires.low in
+    trimmed_as c.args.height c.trimmed-low.result _ c.args.nodes.now.items c.deref.result.now _ c.requires.stands low (cut_size c.trimmed-low.result (omega arith)) c.deref.ensures.value c.trimmed-low.ensures.order c.truncate.ensures.items
+
+pub returns-clause-indexes : goal.returns-clause-indexes
+returns-clause-indexes c = λ is.
+    subst (λ cs. AreIndexes cs c.leave_from.new.self) (sym c.truncate.ensures.items)
+    (subst (λ cs. AreIndexes (take ((1 * 2 ^ (c.trimmed-low.result + 1)) % 2 ^ 64 - 1) cs) c.leave_from.new.self) c.deref-2.ensures.value
+    (c.leave_from.ensures (subst (λ cs. AreIndexes cs c.args.indexes.now) (sym c.deref-2.ensures.value) is)))

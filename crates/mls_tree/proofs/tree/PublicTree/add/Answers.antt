@@ -1,6 +1,8 @@
-use Rattle.std.proofs.Common.{ap, refl, arith}
+use Rattle.std.proofs.Common.{suc, ◌*◌, ◌^◌, ap, refl, sym, ◌∙◌, arith}
 use Rattle.std.proofs.lemmas.Nat.{one_shl}
+use Rattle.mls_treemath.specs.Paths.{nodes_in}
 use Rattle.mls_tree.specs.Tree.{term}
+use Rattle.mls_tree.proofs.Indexing.{same_indexes, first_is, fills-enter, fills-append, filled_by, new_half, indexed-padded}
 use Rattle.mls_tree.proofs.Keeping.{add_good, add_sound}
 use Rattle.mls_tree.proofs.Adding.{add_full, may_add_in, may_add_beside, add_in, add_beside}
 use Rattle.mls_tree.proofs.Refused.{one_number, not_refused}
@@ -82,14 +84,22 @@ overflow_add-i c = let low = found_low _ _ _ _ _ c.deref.ensures.value c.self.in
 pub invariant_of-self-in-Some : goal.invariant_of-self-in-Some
 invariant_of-self-in-Some c =
     let stands = rw c.in_ok-leaf-in-Some.ensures at c.in_ok-enter-in-Some.ensures.ok in
-    (stands.stands, c.self.invariant.1, kept-enter _ _ _ c.self.invariant.2 _ _ _ _ _ (c.drop_way.ensures.kept _ (perfect-term_of _ _)) stands, added _ _ _ _ _ c.deref.ensures.value c.self.invariant.3 _ _ _ _ _ c.in-Some.ensures stands (omega arith) (omega arith))
+    let first = first_is c.self.inside.height c.self.inside.nodes.items _ c.deref.ensures.value _ c.in-Some.ensures in
+    let fills = fills-enter c.self.inside.height c.in-Some.i c.self.inside.nodes.items _ _ c.self.invariant.0 first stands in
+    let reserved = same_indexes c.self.inside.nodes.items _ _ c.in_ok-reserve-in-Some.ensures.same c.self.invariant.4 in
+    let indexed = filled_by (2 * c.in-Some.i) _ c.self.inside.nodes.items c.enter.new.nodes.items _ _ _ refl c.deref-in-Some.ensures.value (c.enter-in-Some.ensures c.self.inside.nodes.items) fills reserved in
+    (stands.stands, c.self.invariant.1, kept-enter _ _ _ c.self.invariant.2 _ _ _ _ _ (c.drop_way.ensures.kept _ (perfect-term_of _ _)) stands, added _ _ _ _ _ c.deref.ensures.value c.self.invariant.3 _ _ _ _ _ c.in-Some.ensures stands (omega arith) (omega arith), indexed)
 
 pub invariant_of-self-in-None : goal.invariant_of-self-in-None
 invariant_of-self-in-None c =
     let stands = rw c.in_ok-leaf-in-None.ensures at c.in_ok-append-in-None.ensures.ok in
     let low = c.self.invariant.1 in
     let other = c.if-height-eq-MAX_HEIGHT.false in
-    (stands.stands, omega arith, kept-appended _ _ _ _ _ _ _ c.self.invariant.2 c.in_ok-append-in-None.ensures.kept stands, bounds_beside _ _ _ _ _ c.deref.ensures.value c.self.invariant.3 _ _ _ _ c.in-None.ensures stands (let is = one_shl c.self.inside.height 32 (omega arith) in omega arith))
+    let reserved = same_indexes c.self.inside.nodes.items _ _ c.in_ok-reserve-in-None.ensures.same c.self.invariant.4 in
+    let padded = indexed-padded (suc (nodes_in c.self.inside.height)) c.self.inside.nodes.items _ reserved in
+    let fills = fills-append c.self.inside.height c.self.inside.nodes.items _ _ c.self.invariant.0 stands in
+    let indexed = filled_by (2 * 2 ^ c.self.inside.height) _ _ c.append.new.nodes.items _ _ _ (new_half c.self.inside.height (omega arith)) c.deref-in-None.ensures.value (c.enter-in-None.ensures _) fills padded in
+    (stands.stands, omega arith, kept-appended _ _ _ _ _ _ _ c.self.invariant.2 c.in_ok-append-in-None.ensures.kept stands, bounds_beside _ _ _ _ _ c.deref.ensures.value c.self.invariant.3 _ _ _ _ c.in-None.ensures stands (let is = one_shl c.self.inside.height 32 (omega arith) in omega arith), indexed)
 
 pub returns-in_ok-enter-in-Some-clause-cold : goal.returns-in_ok-enter-in-Some-clause-cold
 returns-in_ok-enter-in-Some-clause-cold c =
@@ -99,3 +109,15 @@ pub returns-in_ok-append-in-None-clause-cold : goal.returns-in_ok-append-in-None
 returns-in_ok-append-in-None-clause-cold c =
     let low = c.self.invariant.1 in
     added_beside c.self.inside.height c.self.inside.nodes.items _ _ _ _ c.self.view_is c.deref.ensures.value c.self.invariant.2 _ c.in-None.ensures (one_shl c.self.inside.height 32 (omega arith)) _ _ _ c.in_ok-append-in-None.ensures.kept c.in_ok-append-in-None.ensures.done
+
+pub returns-in_err-reserve-in-Some-clause-outright : goal.returns-in_err-reserve-in-Some-clause-outright
+returns-in_err-reserve-in-Some-clause-outright c = λ n h.
+    absurd (not_refused _ _ (may_add_in c.args.self.now c.args.leaf c.self.inside.height c.self.inside.nodes.items _ (ap term c.self.view_is) c.deref.ensures.value c.self.invariant.1 _ c.in-Some.ensures) n h)
+
+pub returns-in_err-reserve-in-None-clause-outright : goal.returns-in_err-reserve-in-None-clause-outright
+returns-in_err-reserve-in-None-clause-outright c = λ n h.
+    let low = c.self.invariant.1 in
+    absurd (not_refused _ _ (may_add_beside c.args.self.now c.args.leaf c.self.inside.height c.self.inside.nodes.items _ (ap term c.self.view_is) c.deref.ensures.value c.self.invariant.1 c.in-None.ensures (let other = c.if-height-eq-MAX_HEIGHT.false in omega arith)) n h)
+
+pub overflow_mul-i : goal.overflow_mul-i
+overflow_mul-i c = let low = found_low _ _ _ _ _ c.deref.ensures.value c.self.invariant.3 _ c.self.invariant.1 c.in-Some.ensures in omega arith

@@ -1,5 +1,7 @@
 use Rattle.std.proofs.Common.{true, subst, ap, ◌∙◌, sym, length, arith}
 use Rattle.std.proofs.lemmas.Nat.{one_shl}
+use Rattle.mls_tree.specs.Indexed.{AreIndexes}
+use Rattle.mls_tree.proofs.Checked.{size_fits}
 use Rattle.mls_tree.proofs.Keepings.{cold_by}
 use Rattle.mls_tree.proofs.Bounding.{unknown}
 use Rattle.mls_term.specs.Term.{is_full_width}
@@ -44,12 +46,21 @@ returns-then-height-gt-MAX_HEIGHT-clause-answer c =
     (ap (λ xs. is_full_width (term_of c.in_ok-height.height xs)) (sym c.deref-3.ensures.value) ∙ sym c.is_full_width.ensures ∙ c.if-not-is_full_width.false)
     (let high = c.if-height-gt-MAX_HEIGHT.true in omega arith)
 
+pub build-requires : goal.build-requires
+build-requires c =
+    let last = ap has_last (sym c.deref.ensures.value) ∙ sym c.has_last.ensures ∙ c.if-not-has_last.false in
+    let placed = ap (alternates true) (sym c.deref-2.ensures.value) ∙ sym c.alternates.ensures ∙ c.if-not-alternates.false in
+    let stands = stands_as c.args.nodes.items last placed _ _ c.in_ok-height.ensures.height c.in_ok-height.ensures.ok in
+    let fits = size_fits c.in_ok-height.height _ stands (let low = c.if-height-gt-MAX_HEIGHT.false in omega arith) in
+    let same = ap length c.deref-4.ensures.value in
+    omega arith
+
 pub invariant_of-result : goal.invariant_of-result
 invariant_of-result c =
     let last = ap has_last (sym c.deref.ensures.value) ∙ sym c.has_last.ensures ∙ c.if-not-has_last.false in
     let placed = ap (alternates true) (sym c.deref-2.ensures.value) ∙ sym c.alternates.ensures ∙ c.if-not-alternates.false in
     let stands = stands_as c.args.nodes.items last placed _ _ c.in_ok-height.ensures.height c.in_ok-height.ensures.ok in
-    (stands, let low = c.if-height-gt-MAX_HEIGHT.false in omega arith, cold_by c.in_ok-height.height _ _ _ _ c.in_ok-hashes.ensures (c.len.ensures ∙ c.pad_tree.new.nodes.ok.0 ∙ stands.size), unknown c.in_ok-height.height _ _ (let low = c.if-height-gt-MAX_HEIGHT.false in one_shl c.in_ok-height.height 32 (omega arith)))
+    (stands, let low = c.if-height-gt-MAX_HEIGHT.false in omega arith, cold_by c.in_ok-height.height _ _ _ _ c.in_ok-hashes.ensures (c.len.ensures ∙ c.pad_tree.new.nodes.ok.0 ∙ stands.size), unknown c.in_ok-height.height _ _ (let low = c.if-height-gt-MAX_HEIGHT.false in one_shl c.in_ok-height.height 32 (omega arith)), subst (λ cs. AreIndexes cs c.in_ok-indexes.indexes) c.deref-4.ensures.value c.in_ok-indexes.ensures)
 
 pub returns-clause-answer : goal.returns-clause-answer
 returns-clause-answer c =

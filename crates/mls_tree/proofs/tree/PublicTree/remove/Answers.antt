@@ -9,6 +9,8 @@ use Rattle.mls_tree.proofs.Keepings.{kept_long, kept-put, kept-trimmed}
 use Rattle.mls_tree.proofs.Bounding.{removed, removal_end}
 use Rattle.mls_term.specs.ArrayLaws.{perfect-term_of}
 use Rattle.mls_tree.proofs.Chilling.{trimmed_in}
+use Rattle.mls_tree.specs.Way.{way_numbers}
+use Rattle.mls_tree.proofs.Indexing.{left_by, way_once, indexed-remove}
 use Rattle.mls_tree.proofs.tree.PublicTree.remove.Goals as goal
 
 pub returns-in-Err-clause-answer : goal.returns-in-Err-clause-answer
@@ -32,15 +34,20 @@ pub drop_way-requires-clause-shape : goal.drop_way-requires-clause-shape
 drop_way-requires-clause-shape c = kept_long c.self.inside.height c.self.inside.nodes.items _ c.self.invariant.2
 
 pub taken_end-end-requires-clause-blank : goal.taken_end-end-requires-clause-blank
-taken_end-end-requires-clause-blank c = removal_end _ _ _ _ _ (ap term c.self.view_is) c.self.invariant.3 _ _ _ _ c.deref.ensures.value c.put.ensures c.in-Ok.ensures
+taken_end-end-requires-clause-blank c = removal_end _ _ _ _ _ (ap term c.self.view_is) c.self.invariant.3 _ _ _ _ c.deref-2.ensures.value c.put.ensures c.in-Ok.ensures
 
 pub invariant_of-self : goal.invariant_of-self
 invariant_of-self c =
     let low = c.self.invariant.1 in
     let small = c.trim-self-inside.ensures.low in
     let kept = kept-put _ _ _ c.self.invariant.2 _ _ _ _ _ (c.drop_way.ensures.kept _ (perfect-term_of _ _)) c.put.ensures in
-    (c.trim-self-inside.ensures.order.stands, omega arith, kept-trimmed _ _ _ _ _ _ _ kept c.trim-self-inside.ensures.order (c.len.ensures ∙ c.trim-self-inside.new.nodes.ok.0) (ap (λ h. h.kept) c.cut.ensures), removed _ _ _ _ _ (ap term c.self.view_is) c.self.invariant.3 _ _ _ _ _ _ _ _ c.deref.ensures.value c.put.ensures c.trim-self-inside.ensures.order c.in-Ok.ensures (omega arith) (omega arith) c.taken_end-end.ensures)
+    let left = left_by (way_numbers c.self.inside.height c.args.i) _ c.self.inside.nodes.items _ _ _ (c.as_slice.ensures ∙ c.over-way.ensures) c.deref.ensures.value c.leave_all.ensures.left c.self.invariant.4 in
+    let blanked = indexed-remove c.self.inside.height c.args.i c.self.inside.nodes.items _ _ c.self.invariant.0 c.put.ensures left in
+    (c.trim-self-inside.ensures.order.stands, omega arith, kept-trimmed _ _ _ _ _ _ _ kept c.trim-self-inside.ensures.order (c.len.ensures ∙ c.trim-self-inside.new.nodes.ok.0) (ap (λ h. h.kept) c.cut.ensures), removed _ _ _ _ _ (ap term c.self.view_is) c.self.invariant.3 _ _ _ _ _ _ _ _ c.deref-2.ensures.value c.put.ensures c.trim-self-inside.ensures.order c.in-Ok.ensures (omega arith) (omega arith) c.taken_end-end.ensures, c.trim-self-inside.ensures.indexes blanked)
 
 pub returns-clause-cold : goal.returns-clause-cold
 returns-clause-cold c =
     trimmed_in c.self.inside.height c.args.i c.self.inside.nodes.items _ _ _ c.self.view_is c.self.invariant.2 c.in-Ok.ensures _ _ _ _ _ _ (c.drop_way.ensures.kept _ (perfect-term_of _ _)) (ap (λ h. h.kept) c.cut.ensures) (c.len.ensures ∙ c.trim-self-inside.new.nodes.ok.0 ∙ c.trim-self-inside.ensures.order.stands.size) c.trim-self-inside.ensures.low (ap (λ h. h.done) c.cut.ensures ∙ c.drop_way.ensures.done)
+
+pub leave_all-requires : goal.leave_all-requires
+leave_all-requires c = way_once c.self.inside.height c.args.i _ (c.as_slice.ensures ∙ c.over-way.ensures)

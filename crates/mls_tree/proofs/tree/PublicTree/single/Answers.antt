@@ -1,5 +1,6 @@
 use Rattle.std.proofs.Common.{refl, arith, subst, sym, ap, ◌∙◌}
 use Rattle.mls_treemath.specs.Sizes.{nodes_in-zero}
+use Rattle.mls_tree.specs.Indexed.{AreIndexes}
 use Rattle.mls_tree.proofs.Keepings.{cold_by}
 use Rattle.mls_tree.proofs.Bounding.{unknown}
 use Rattle.mls_term.specs.Good.{IsGood}
@@ -10,7 +11,7 @@ use Rattle.mls_tree.proofs.Chilling.{new_tree}
 use Rattle.mls_tree.proofs.tree.PublicTree.single.Goals as goal
 
 pub invariant_of-result : goal.invariant_of-result
-invariant_of-result c = ((single_stands c.args.leaf _ (rw (c.in_ok-nodes.ensures.items, c.into_slot.ensures, c.in_ok-leaf.ensures) at c.in_ok-push.ensures.items)).stands, omega arith, cold_by 0 1 0 _ _ c.in_ok-hashes.ensures (sym nodes_in-zero), unknown 0 1 _ refl)
+invariant_of-result c = ((single_stands c.args.leaf _ (rw (c.in_ok-nodes.ensures.items, c.into_slot.ensures, c.in_ok-leaf.ensures) at c.in_ok-push.ensures.items)).stands, omega arith, cold_by 0 1 0 _ _ c.in_ok-hashes.ensures (sym nodes_in-zero), unknown 0 1 _ refl, subst (λ cs. AreIndexes cs c.in_ok-indexes.indexes) c.deref.ensures.value c.in_ok-indexes.ensures)
 
 pub returns-clause-tree : goal.returns-clause-tree
 returns-clause-tree c = (single_stands c.args.leaf _ (rw (c.in_ok-nodes.ensures.items, c.into_slot.ensures, c.in_ok-leaf.ensures) at c.in_ok-push.ensures.items)).term

@@ -1,0 +1,31 @@
+-- The indexes that a tree keeps of its keys.
+use Rattle.std.specs.Prelude.{◌≡◌, ℕ, ◌≤◌, List, length, Option, None}
+use Rattle.mls_leaf.specs.declared.node.Node.{Node}
+use Rattle.mls_index.specs.declared.kind.KeyKind.{KeyKind}
+use Rattle.mls_index.specs.declared.kind.KeyKind.TheVariants.{Encryption, Signature}
+use Rattle.mls_index.specs.Keys.{key_in}
+use Rattle.mls_index.specs.Indexes.{Listing, Indexes, SameIndex}
+use Rattle.mls_tree.specs.declared.key_indexes.KeyIndexes.{KeyIndexes}
+
+-- both are of these cells
+pub record AreIndexes (cells : List (Option Node)) (t : KeyIndexes) : Type 0 where
+  pub encryption : t.keys.kind ≡ Encryption
+  pub signature : t.clients.kind ≡ Signature
+  pub keys : Indexes cells t.keys
+  pub clients : Indexes cells t.clients
+
+-- both have memory for so many more cells
+pub record HaveRoom (n : ℕ) (t : KeyIndexes) : Type 0 where
+  pub keys : n ≤ t.keys.room
+  pub clients : n ≤ t.clients.room
+
+-- they are the same but for their memory
+pub record AreSame (s t : KeyIndexes) : Type 0 where
+  pub keys : SameIndex s.keys t.keys
+  pub clients : SameIndex s.clients t.clients
+
+-- c has the keys of b, and those of cell x, which has none in b
+pub record Fills (x : ℕ) (b c : List (Option Node)) : Type 0 where
+  pub long : length b ≡ length c
+  pub blank : (k : KeyKind) → key_in k b x ≡ None
+  pub others : (k : KeyKind) (y : ℕ) → (y ≡ x → ⊥) → key_in k b y ≡ key_in k c y

@@ -1,0 +1,107 @@
+//! The indexes that a tree keeps, so that no commit sorts its keys.
+
+ghost use Rattle.std.specs.Prelude.{◌≡◌, ℕ, ◌≤◌, ◌^◌, nat_eq, true, take, Option, List, length, IfOk, OnOk};
+ghost use Rattle.mls_leaf.specs.declared.node.Node.{Node};
+ghost use Rattle.mls_term.specs.Sets.{is_distinct};
+ghost use Rattle.mls_term.specs.Good.{has_distinct_keys, has_distinct_clients};
+ghost use Rattle.mls_term.specs.Arrays.{term_of};
+ghost use Rattle.mls_array.specs.Standing.{Stands};
+ghost use Rattle.mls_index.specs.Cleared.{cleared};
+ghost use Rattle.mls_tree.specs.Indexed.{AreIndexes, HaveRoom, AreSame, Fills};
+
+use mls_index::{Index, KeyKind};
+use mls_slot::Slot;
+use std::alloc::{AllocError, Global};
+
+/// The indexes of the cells of a tree.
+#[derive(Drop)]
+pub(crate) struct KeyIndexes {
+    /// Of all nodes, by encryption key.
+    pub(crate) keys: Index,
+    /// Of the members, by signature key.
+    pub(crate) clients: Index,
+}
+
+impl KeyIndexes {
+    /// The indexes of these cells.
+    pub(crate) fn build(alloc: Global, cells: &[Slot]) -> Result<KeyIndexes, AllocError>
+        requires { length cells.now ≤ 2 ^ 32 }
+        ensures { IfOk result (λ t. AreIndexes cells.now t) }
+    {
+        let keys = Index::build(alloc, KeyKind::Encryption, cells)?;
+        let clients = Index::build(alloc, KeyKind::Signature, cells)?;
+        Ok(KeyIndexes { keys, clients })
+    }
+
+    /// Makes room for so many more cells. Without memory for it all stays.
+    pub(crate) fn reserve(&mut self, count: usize) -> Result<(), AllocError>
+        ensures room { OnOk result (HaveRoom count self.new) }
+        ensures same { AreSame self.old self.new }
+    {
+        self.keys.reserve(count)?;
+        self.clients.reserve(count)
+    }
+
+    /// Enters a cell: after it was filled, where it was blank.
+    pub(crate) fn enter(&mut self, cells: &[Slot], x: u32)
+        requires { HaveRoom 1 self.old }
+        ensures { (b : List (Option Node)) → Fills x b cells.now → AreIndexes b self.old → AreIndexes cells.now self.new }
+    {
+        self.keys.enter(cells, x);
+        self.clients.enter(cells, x);
+    }
+
+    /// Takes out the cells at some places, each given once: before they are blanked or replaced.
+    pub(crate) fn leave_all(&mut self, cells: &[Slot], places: &[u32])
+        requires { is_distinct nat_eq places.now ≡ true }
+        ensures room { (n : ℕ) → HaveRoom n self.old → HaveRoom n self.new }
+        ensures left { AreIndexes cells.now self.old → AreIndexes (cleared 0 places.now cells.now) self.new }
+    {
+        self.keys.leave_all(cells, places);
+        self.clients.leave_all(cells, places);
+    }
+
+    /// Enters the cells at some places, each given once: after they were blanked or replaced.
+    pub(crate) fn enter_all(&mut self, cells: &[Slot], places: &[u32])
+        requires distinct { is_distinct nat_eq places.now ≡ true }
+        requires room { HaveRoom (length places.now) self.old }
+        ensures { AreIndexes (cleared 0 places.now cells.now) self.old → AreIndexes cells.now self.new }
+    {
+        self.keys.enter_all(cells, places);
+        self.clients.enter_all(cells, places);
+    }
+
+    /// Takes out all cells from this number on: before they are cut off.
+    pub(crate) fn leave_from(&mut self, cells: &[Slot], count: usize)
+        requires { length cells.now ≤ 2 ^ 32 }
+        ensures { AreIndexes cells.now self.old → AreIndexes (take count cells.now) self.new }
+    {
+        self.keys.leave_from(cells, count);
+        self.clients.leave_from(cells, count);
+    }
+
+    /// Whether no two nodes have one encryption key.
+    pub(crate) fn has_distinct_keys(&self) -> bool
+        ensures { (h : ℕ) (cells : List (Option Node)) → Stands h cells → AreIndexes cells self.now → result ≡ has_distinct_keys (term_of h cells) }
+    {
+        self.keys.are_distinct()
+    }
+
+    /// Whether no two members have one signature key.
+    pub(crate) fn has_distinct_clients(&self) -> bool
+        ensures { (h : ℕ) (cells : List (Option Node)) → Stands h cells → AreIndexes cells self.now → result ≡ has_distinct_clients (term_of h cells) }
+    {
+        self.clients.are_distinct()
+    }
+}
+
+impl Clone for KeyIndexes {
+    ghost is_clone = { λ s t. AreSame s t };
+
+    fn clone(&self) -> Result<KeyIndexes, AllocError> {
+        Ok(KeyIndexes {
+            keys: self.keys.clone()?,
+            clients: self.clients.clone()?,
+        })
+    }
+}
