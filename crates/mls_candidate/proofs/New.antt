@@ -9,9 +9,9 @@ use Rattle.mls_paths.specs.Seeds.{sign_seed}
 use Rattle.mls_suite.specs.Crypto.{Crypto}
 use Rattle.mls_model.specs.Candidate.{Candidate, init_key_of, leaf_key_of, unsigned_leaf, signed_leaf, offered_leaf, unsigned_package, signed_package, package_message, new_candidate}
 use Rattle.mls_model.specs.Messages.{is_within_limit}
+use Rattle.mls_public_group.specs.Limits.{past_limit, length_within}
 use Rattle.mls_public_group.specs.Short.{IsBelow}
 use Rattle.mls_candidate.proofs.Packages.{identity_in, package_below}
-use Rattle.mls_candidate.proofs.Written.{not_within, few_of}
 
 -- the KeyPackage of an identity and a seed
 abbrev pub offered_by : Crypto → List ℕ → List ℕ → KeyPackage
@@ -46,7 +46,7 @@ identity_of c identity seed = refl
 pub long_identity : (c : Crypto) (identity seed a b : List ℕ) (test : Bool) → Keys c seed a b test → test ≡ false → input_limit < length identity → new_candidate c identity seed ≡ Err 6
 long_identity c identity seed a b test k e lt =
     let longer : input_limit < length (package_message (offered_by c identity seed)) = omega (arith, identity_in (offered_by c identity seed), ap length (identity_of c identity seed)) in
-    let over = not_within _ longer in
+    let over = past_limit _ longer in
     rw (others c identity seed a b test k e, over) refl
 
 pub long_message : (c : Crypto) (identity seed a b : List ℕ) (test : Bool) → Keys c seed a b test → test ≡ false → (offered : KeyPackage) (message : List ℕ) (few : Bool) → offered ≡ offered_by c identity seed → message ≡ package_message offered →
@@ -65,4 +65,4 @@ made c identity seed a b test k e offered message few e1 e2 e3 e4 init leaf sign
 -- a message within the limit is of a short KeyPackage
 pub message_below : (offered : KeyPackage) (message : List ℕ) (few : Bool) → key_package.Fits offered → message ≡ package_message offered → is_within_limit message ≡ require 6 few → few ≡ true → IsBelow (2 ^ 27) key_package offered
 message_below offered message few fits e1 e2 e3 =
-    package_below offered fits (few_of (package_message offered) (ap is_within_limit (sym e1) ∙ e2 ∙ ap (require 6) e3))
+    package_below offered fits (length_within (package_message offered) (ap is_within_limit (sym e1) ∙ e2 ∙ ap (require 6) e3))

@@ -4,6 +4,8 @@ ghost use Rattle.std.specs.Prelude.{◌≡◌, ◌^◌};
 ghost use Rattle.mls_leaf.specs.KeyPackage.{key_package as key_package_format};
 ghost use Rattle.mls_wire.specs.Checks.{Answers};
 ghost use Rattle.mls_leaf.specs.Leaf.{leaf_node as leaf_format};
+ghost use Rattle.mls_leaf.specs.Proposal.{proposal as proposal_format};
+ghost use Rattle.mls_leaf.specs.declared.proposal.Proposal.TheVariants.{Add};
 ghost use Rattle.mls_public_group.specs.Short.{IsBelow};
 ghost use Rattle.mls_model.specs.Candidate.{new_candidate, package_message};
 ghost use Rattle.mls_candidate.specs.Faults.{number_of};
@@ -123,6 +125,13 @@ impl<S: Suite> Candidate<S> {
     /// A law: its KeyPackage is short.
     pub fn is_short(&self)
         ensures { IsBelow (2 ^ 27) key_package_format self.now.offered }
+    {
+        let _offered = &self.offered;
+    }
+
+    /// A law: the proposal that adds it is short.
+    pub fn addition_is_short(&self)
+        ensures { IsBelow (2 ^ 28) proposal_format (Add self.now.offered) }
     {
         let _offered = &self.offered;
     }

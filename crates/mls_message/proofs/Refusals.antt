@@ -15,10 +15,11 @@ use Rattle.mls_types.specs.declared.content.FramedContent.{FramedContent}
 use Rattle.mls_types.specs.declared.signed.SignedContent.{SignedContent}
 use Rattle.mls_model.specs.Member.{Member}
 use Rattle.mls_model.specs.Messages.{sent_by}
+use Rattle.mls_public_group.specs.Lengths.{first_within, last_within}
+use Rattle.mls_public_group.specs.Limits.{past_limit}
 use Rattle.mls_message.specs.Pieces.{untagged, tag_length, IsLong, IsTooLarge}
 use Rattle.mls_message.specs.Sending.{IsRefused}
 use Rattle.mls_message.proofs.Texts.{sent_length}
-use Rattle.mls_message.proofs.Within.{past_limit, first_within, last_within}
 
 -- ---- by its content
 

@@ -1,11 +1,7 @@
 -- How long a member's texts are.
-use Rattle.std.proofs.Common.{◌≡◌, ℕ, zero, suc, ◌+◌, ◌<◌, ◌≤◌, ◌^◌, nat_lt, nat_le, Bool, true, false, cond, ltb, List, [], ◌∷◌, ◌++◌, length, Ok, Err, refl, sym, subst, arith, lit<, length-append}
-use Rattle.std.specs.Int.{w16, w32, w64, to_be_bytes}
-use Rattle.std.specs.List.{list_all}
-use Rattle.std.proofs.lemmas.Bool.{lt-ltb, le-leb, lt-leb, and_from, and_left}
-use Rattle.mls_wire.specs.Checks.{passed, require}
+use Rattle.std.proofs.Common.{◌≡◌, ℕ, ◌<◌, ◌≤◌, ◌^◌, List, ◌++◌, length, Ok, refl, sym, subst, arith, lit<, length-append}
+use Rattle.std.specs.Int.{w16, w64}
 use Rattle.mls_wire.specs.Format.{IsBytes}
-use Rattle.mls_wire.specs.Laws.{wide16, wide64}
 use Rattle.mls_wire.specs.Reading.{uint, header, opaque}
 use Rattle.mls_leaf.specs.Limits.{input_limit}
 use Rattle.mls_leaf.specs.Proposal.{proposal}
@@ -19,91 +15,19 @@ use Rattle.mls_types.specs.declared.content.Content.{Content}
 use Rattle.mls_types.specs.declared.content.Content.TheVariants as says
 use Rattle.mls_types.specs.declared.content.FramedContent.{FramedContent}
 use Rattle.mls_types.specs.declared.content.Sender.TheVariants as by
+use Rattle.mls_public_group.specs.Lengths.{first_within, last_within, length-uint16, context_length}
+use Rattle.mls_public_group.specs.Limits.{within_limit}
 use Rattle.mls_public_group.specs.Short.{IsShortContext}
-use Rattle.mls_model.specs.Messages.{are_bytes, is_within_limit}
 use Rattle.mls_message.specs.Pieces.{signed_pieces}
 use Rattle.mls_message.specs.Sending.{FitsIfShort, limited}
 
 -- ---- texts within the limit
 
-all_bytes : (bytes : List ℕ) → IsBytes bytes → list_all (λ (b : ℕ). nat_lt b 256) bytes ≡ true
-all_bytes [] h = refl
-all_bytes (b ∷ bs) h =
-    let here : b < 256 = h zero in
-    and_from (nat_lt b 256) (list_all (λ (b : ℕ). nat_lt b 256) bs) (lt-ltb b 256 here) (all_bytes bs (λ i. h (suc i)))
-
-passes : (n : ℕ) (b : Bool) → b ≡ true → require n b ≡ Ok passed
-passes n true e = refl
-passes n false e = absurd cc
-
-fails : (n : ℕ) (b : Bool) → b ≡ false → require n b ≡ Err n
-fails n true e = absurd cc
-fails n false e = refl
-
-within : (bytes : List ℕ) → IsBytes bytes → length bytes ≤ input_limit → is_within_limit bytes ≡ Ok passed
-unfolding is_within_limit are_bytes
-within bytes h le = passes 6 _ (and_from (nat_le (length bytes) input_limit) (list_all (λ (b : ℕ). nat_lt b 256) bytes) (le-leb _ _ le) (all_bytes bytes h))
-
 -- code's bytes are within the limit, if there aren't more
 pub limited_within : (bytes : List ℕ) → IsBytes bytes → length bytes ≤ input_limit → limited bytes ≡ Ok bytes
-limited_within bytes h le = rw (within bytes h le) refl
-
--- and what is longer is refused
-pub past_limit : (bytes : List ℕ) → input_limit < length bytes → is_within_limit bytes ≡ Err 6
-unfolding is_within_limit
-past_limit bytes lt = fails 6 _ (and_left (nat_le (length bytes) input_limit) (are_bytes bytes) (lt-leb _ _ lt))
-
--- ---- parts
-
-pub first_within : (xs ys : List ℕ) → length xs ≤ length (xs ++ ys)
-first_within xs ys = omega (arith, length-append xs ys)
-
-pub last_within : (xs ys : List ℕ) → length ys ≤ length (xs ++ ys)
-last_within xs ys = omega (arith, length-append xs ys)
+limited_within bytes h le = rw (within_limit bytes h le) refl
 
 -- ---- what is signed
-
-header_choice : (b : Bool) (x y : List ℕ) → length x ≤ 4 → length y ≤ 4 → length (cond b x y) ≤ 4
-header_choice true x y h k = h
-header_choice false x y h k = k
-
-pub header_length : (n : ℕ) → length (header n) ≤ 4
-unfolding header
-header_length n = header_choice (ltb n 64) (n ∷ []) (cond (ltb n 16384) (to_be_bytes w16 (16384 + n)) (to_be_bytes w32 (2147483648 + n))) (omega arith)
-    (header_choice (ltb n 16384) (to_be_bytes w16 (16384 + n)) (to_be_bytes w32 (2147483648 + n)) (omega arith) (omega arith))
-
-opaque_length : (text : List ℕ) → length (opaque text) ≤ length text + 4
-opaque_length text = omega (arith, length-append (header (length text)) text, header_length (length text))
-
-length-uint16 : (n : ℕ) → length (uint w16 n) ≡ 2
-unfolding uint
-length-uint16 n = wide16.len n
-
-length-uint64 : (n : ℕ) → length (uint w64 n) ≡ 8
-unfolding uint
-length-uint64 n = wide64.len n
-
--- seven parts in a row, each but three of few bytes
-row_length : (a b c d e f g : List ℕ) → length a ≡ 2 → length b ≡ 2 → length d ≡ 8 → length g ≤ 4 → length c < 2 ^ 28 + 4 → length e < 2 ^ 28 + 4 → length f < 2 ^ 28 + 4
-    → length (a ++ (b ++ (c ++ (d ++ (e ++ (f ++ (g ++ []))))))) < 2 ^ 29 + 2 ^ 28 + 28
-row_length a b c d e f g ha hb hd hg hc he hf =
-    omega (
-      arith,
-      length-append a (b ++ (c ++ (d ++ (e ++ (f ++ (g ++ [])))))),
-      length-append b (c ++ (d ++ (e ++ (f ++ (g ++ []))))),
-      length-append c (d ++ (e ++ (f ++ (g ++ [])))),
-      length-append d (e ++ (f ++ (g ++ []))),
-      length-append e (f ++ (g ++ [])),
-      length-append f (g ++ []),
-      length-append g [],
-    )
-
-context_length : (v : GroupContext) → IsShortContext v → length (group_context.spell v) < 2 ^ 29 + 2 ^ 28 + 28
-unfolding group_context
-context_length v s =
-    row_length (uint w16 1) (uint w16 v.cipher_suite) (opaque v.group_id) (uint w64 v.epoch) (opaque v.tree_hash) (opaque v.confirmed_transcript_hash) (opaque [])
-    (length-uint16 1) (length-uint16 v.cipher_suite) (length-uint64 v.epoch) (opaque_length [])
-    (omega (arith, s.group_id, opaque_length v.group_id)) (omega (arith, s.tree_hash, opaque_length v.tree_hash)) (omega (arith, s.confirmed, opaque_length v.confirmed_transcript_hash))
 
 -- what is signed of a content within the limit, under a short context, has fewer than 2^30 bytes
 pub signed_short : (said : List ℕ) (v : GroupContext) → length said ≤ input_limit → IsShortContext v → length (signed_pieces said (group_context.spell v)) < 2 ^ 30
@@ -111,7 +35,7 @@ signed_short said v le s =
     let context : List ℕ = group_context.spell v in
     omega (
       arith,
-      context_length v s,
+      context_length v s.group_id s.tree_hash s.confirmed,
       length-uint16 1,
       length-append (uint w16 1) (uint w16 1),
       length-append (uint w16 1 ++ uint w16 1) said,

@@ -1,7 +1,6 @@
 //! A sole member that speaks under the practice suite.
 
 ghost use Rattle.std.specs.Prelude.{◌≡◌, ◌^◌, IfOk};
-ghost use Rattle.mls_leaf.specs.Leaf.{leaf_node};
 ghost use Rattle.mls_public_group.specs.Short.{IsBelow, IsShortContext};
 ghost use Rattle.mls_types.specs.Content.{content as content_format};
 ghost use Rattle.mls_message.specs.Sending.{FitsIfShort};

@@ -1,6 +1,6 @@
 //! A signed content, spelled as its message up to the membership tag (RFC 9420, 6 and 6.2).
 
-ghost use Rattle.std.specs.Prelude.{◌≡◌, ◌++◌, ◌<◌, ◌^◌, length, Ok, IfOk, MatchResult};
+ghost use Rattle.std.specs.Prelude.{◌≡◌, ◌++◌, ◌<◌, length, Ok, IfOk, MatchResult};
 ghost use Rattle.mls_wire.specs.Reading.{opaque};
 ghost use Rattle.mls_leaf.specs.Faults.{Writes};
 ghost use Rattle.mls_types.specs.Signed.{signed_content};

@@ -1,5 +1,5 @@
 -- What each member's leaf has, and what an edit or a path puts in, the leaves of the new tree have.
-use Rattle.std.proofs.Common.{◌≡◌, ℕ, zero, suc, ◌+◌, ◌<◌, ◌≤◌, ◌^◌, List, [], ◌∷◌, reverse, length, Option, Some, None, Ok, sym, subst, ap, ◌∙◌, arith, inl, inr}
+use Rattle.std.proofs.Common.{◌≡◌, ℕ, zero, suc, ◌+◌, ◌<◌, ◌≤◌, List, [], ◌∷◌, reverse, Option, Some, None, Ok, sym, subst, ap, arith, inl, inr}
 use Rattle.std.specs.Prelude.{IfSome}
 use Rattle.std.specs.List.{AllByRecursion}
 use Rattle.std.proofs.lemmas.Bool.{cases_lt, cases_Bool}
@@ -8,10 +8,9 @@ use Rattle.mls_wire.specs.Laws.{ok_is}
 use Rattle.mls_leaf.specs.Leaf.{leaf_node}
 use Rattle.mls_leaf.specs.declared.key_package.KeyPackage.{KeyPackage}
 use Rattle.mls_leaf.specs.declared.leaf.LeafNode.{LeafNode}
-use Rattle.mls_leaf.specs.Parent.{Parent}
 use Rattle.mls_term.specs.Term.{Term, Leaf, Branch, width, height, blanks, has_leaf, leaf_at, leaf_of}
-use Rattle.mls_term.specs.Edits.{put, enter, listing, grow, trim, first_blank, room_for, place_in, add, remove}
-use Rattle.mls_term.specs.Equations.{leaf_at_leaf, leaf_at_left, leaf_at_right, leaf_of_in, leaf_of_out, width_branch, put_left, put_right, enter_left, enter_right, merge_left, merge_right, trim_full, trim_empty, add_is, remove_is}
+use Rattle.mls_term.specs.Edits.{put, enter, grow, trim, first_blank, room_for, place_in, add, remove}
+use Rattle.mls_term.specs.Equations.{leaf_at_leaf, leaf_at_left, leaf_at_right, leaf_of_in, leaf_of_out, put_left, put_right, enter_left, enter_right, merge_left, merge_right, trim_full, trim_empty, add_is, remove_is}
 use Rattle.mls_term.specs.Resolution.{is_reached}
 use Rattle.mls_term.specs.Merge.{new_parent, keys_below, hash_below, merge, merge_path}
 use Rattle.mls_tree.specs.Tree.{add_answer, update_answer, remove_answer}

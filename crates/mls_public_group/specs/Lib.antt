@@ -6,3 +6,5 @@ pub mod ShortLaws
 pub mod Numbers
 pub mod Edited
 pub mod Leaves
+pub mod Limits
+pub mod Lengths

@@ -4,7 +4,7 @@ ghost use Rattle.std.specs.Prelude.{[], ◌∷◌};
 ghost use Rattle.mls_wire.specs.Checks.{Answers};
 ghost use Rattle.mls_tree.specs.Tree.{term};
 ghost use Rattle.mls_model.specs.Commit.{all_added, all_removed, all_updated};
-ghost use Rattle.mls_model.specs.Proposals.{adds, removed, updates};
+ghost use Rattle.mls_model.specs.Proposals.{adds, updates};
 ghost use Rattle.mls_public_group.specs.Edited.{applied, behind};
 ghost use Rattle.mls_public_group.specs.Faults.{number_of};
 

@@ -1,6 +1,6 @@
 //! The edits of a commit: updates, then removes, then adds (RFC 9420, 12.3).
 
-ghost use Rattle.std.specs.Prelude.{◌≡◌, ◌≤◌, ◌^◌, ℕ, IfOk};
+ghost use Rattle.std.specs.Prelude.{◌≤◌, ◌^◌, ℕ, IfOk};
 ghost use Rattle.mls_wire.specs.Checks.{Answers, passed};
 ghost use Rattle.mls_model.specs.Commit.{edited};
 ghost use Rattle.mls_public_group.specs.Edited.{apart_after};

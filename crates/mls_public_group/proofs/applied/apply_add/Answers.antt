@@ -1,5 +1,4 @@
 use Rattle.std.proofs.lemmas.Result.{err_from_is_err_and}
-use Rattle.std.proofs.Common.{◌++◌, ◌∷◌, [], subst, sym}
 use Rattle.mls_tree.specs.Tree.{term}
 use Rattle.mls_tree.specs.Faults.{number_of as number_of_tree}
 use Rattle.mls_public_group.proofs.Folding.{add_done, add_refused, add_none}

@@ -1,8 +1,6 @@
 use Rattle.std.proofs.Common.{[], ◌∷◌, ◌++◌, sym, ap, ◌∙◌, subst, arith}
-use Rattle.mls_leaf.specs.KeyPackage.{key_package}
 use Rattle.mls_leaf.specs.Proposal.{proposal as proposal_format}
 use Rattle.mls_leaf.specs.Reference.{key_package_reference}
-use Rattle.mls_leaf.specs.declared.proposal.Proposal.{Proposal}
 use Rattle.mls_model.specs.Public.{Used}
 use Rattle.mls_public_group.specs.Short.{IsBelow}
 use Rattle.mls_public_group.specs.ShortLaws.{add_below}

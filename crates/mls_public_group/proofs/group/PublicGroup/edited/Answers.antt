@@ -1,7 +1,6 @@
-use Rattle.std.proofs.Common.{◌≡◌, Ok, sym, ap, ◌∙◌}
+use Rattle.std.proofs.Common.{sym, ap, ◌∙◌}
 use Rattle.std.proofs.lemmas.Result.{err_from_is_err_and}
 use Rattle.mls_tree.specs.Tree.{Tree, term}
-use Rattle.mls_model.specs.Commit.{Edits}
 use Rattle.mls_model.specs.Public.{PublicState}
 use Rattle.mls_public_group.specs.Edited.{applied, edited_full, edited_apart, edited_applied, edited_distinct, edited_ok}
 use Rattle.mls_public_group.specs.Faults.{number_of}

@@ -1,4 +1,4 @@
-use Rattle.std.proofs.Common.{◌+◌, drop, sym, ap, ◌∙◌, arith}
+use Rattle.std.proofs.Common.{◌+◌, drop, sym, ap, ◌∙◌}
 use Rattle.std.proofs.lemmas.Result.{err_from_is_err_and}
 use Rattle.mls_model.specs.Proposals.{full_checks}
 use Rattle.mls_public_group.specs.Faults.{number_of}

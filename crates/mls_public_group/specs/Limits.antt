@@ -1,0 +1,41 @@
+-- Texts within the limit of messages, and beyond it.
+use Rattle.std.proofs.Common.{◌≡◌, ℕ, zero, suc, ◌<◌, ◌≤◌, nat_lt, nat_le, ◌&&◌, Bool, true, false, List, [], ◌∷◌, length, Ok, Err, refl}
+use Rattle.std.specs.List.{list_all}
+use Rattle.std.proofs.lemmas.Bool.{lt-ltb, le-leb, lt-leb, leb-true, and_from, and_left}
+use Rattle.mls_wire.specs.Checks.{passed, require}
+use Rattle.mls_wire.specs.Format.{IsBytes}
+use Rattle.mls_leaf.specs.Limits.{input_limit}
+use Rattle.mls_model.specs.Messages.{are_bytes, is_within_limit}
+
+pub all_bytes : (bytes : List ℕ) → IsBytes bytes → list_all (λ (b : ℕ). nat_lt b 256) bytes ≡ true
+all_bytes [] h = refl
+all_bytes (b ∷ bs) h =
+    let here : b < 256 = h zero in
+    and_from (nat_lt b 256) (list_all (λ (b : ℕ). nat_lt b 256) bs) (lt-ltb b 256 here) (all_bytes bs (λ i. h (suc i)))
+
+passes : (n : ℕ) (b : Bool) → b ≡ true → require n b ≡ Ok passed
+passes n true e = refl
+passes n false e = absurd cc
+
+fails : (n : ℕ) (b : Bool) → b ≡ false → require n b ≡ Err n
+fails n true e = absurd cc
+fails n false e = refl
+
+first_of : (n : ℕ) (a b : Bool) → require n (a && b) ≡ Ok passed → a ≡ true
+first_of n true b e = refl
+first_of n false b e = absurd cc
+
+-- code's bytes are within the limit, if there aren't more
+pub within_limit : (bytes : List ℕ) → IsBytes bytes → length bytes ≤ input_limit → is_within_limit bytes ≡ Ok passed
+unfolding is_within_limit are_bytes
+within_limit bytes h le = passes 6 _ (and_from (nat_le (length bytes) input_limit) (list_all (λ (b : ℕ). nat_lt b 256) bytes) (le-leb _ _ le) (all_bytes bytes h))
+
+-- what is longer is refused
+pub past_limit : (bytes : List ℕ) → input_limit < length bytes → is_within_limit bytes ≡ Err 6
+unfolding is_within_limit
+past_limit bytes lt = fails 6 _ (and_left (nat_le (length bytes) input_limit) (are_bytes bytes) (lt-leb _ _ lt))
+
+-- and what isn't refused is no longer
+pub length_within : (bytes : List ℕ) → is_within_limit bytes ≡ Ok passed → length bytes ≤ input_limit
+unfolding is_within_limit
+length_within bytes h = leb-true _ _ (first_of 6 _ _ h)
