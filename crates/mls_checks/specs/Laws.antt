@@ -1,5 +1,5 @@
 -- The laws of the checks of a leaf and of a key package.
-use Rattle.std.specs.Prelude.{◌≡◌, ℕ, ◌==◌, Bool, true, false, List, [], Ok}
+use Rattle.std.specs.Prelude.{◌≡◌, ℕ, true, false, List, [], Ok}
 use Rattle.std.specs.Str.{bytes_eq}
 use Rattle.mls_wire.specs.Checks.{passed}
 use Rattle.mls_leaf.specs.declared.leaf.LeafNode.{LeafNode}

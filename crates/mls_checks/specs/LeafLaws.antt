@@ -1,15 +1,13 @@
 -- A leaf that passed its checks: where it is signed, and what each check found.
-use Rattle.std.proofs.Common.{◌≡◌, ℕ, ◌==◌, Bool, true, false, not, ◌&&◌, List, [], Ok, refl, sym, eqb-true}
+use Rattle.std.proofs.Common.{◌≡◌, ℕ, ◌==◌, Bool, true, false, not, ◌&&◌, List, [], refl, sym, eqb-true}
 use Rattle.std.proofs.lemmas.Bool.{true≢false, and_parts}
 use Rattle.std.proofs.lemmas.Slice.Eq.{bytes_eq-Decides}
 use Rattle.std.specs.Str.{bytes_eq}
 use Rattle.mls_wire.specs.Checks.{passed}
 use Rattle.mls_wire.specs.CheckLaws.{require_ok, required}
-use Rattle.mls_leaf.specs.declared.leaf.LeafNode.{LeafNode}
 use Rattle.mls_leaf.specs.declared.leaf.LeafSource.{LeafSource}
 use Rattle.mls_leaf.specs.declared.leaf.LeafSource.TheVariants.{KeyPackage as by_key_package, Update as by_update, Commit as by_commit}
 use Rattle.mls_leaf.specs.Inputs.{leaf_place, leaf_node_tbs}
-use Rattle.mls_suite.specs.Crypto.{Crypto}
 use Rattle.mls_checks.specs.Leaf.{is_signed, is_capable, is_of_key_package, is_of, has_identity_of}
 use Rattle.mls_checks.specs.Checks.{key_package_checks, replaced_checks, is_package_signed}
 use Rattle.mls_checks.specs.Laws.{SignedAnywhere, PackageSteps, ReplacedSteps}

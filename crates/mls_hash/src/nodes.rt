@@ -1,6 +1,6 @@
 //! Leaves and parents, fed to a hasher as they are spelled (RFC 9420, 7.1 and 7.2).
 
-ghost use Rattle.std.specs.Prelude.{◌≡◌, ◌++◌, true};
+ghost use Rattle.std.specs.Prelude.{◌≡◌, true};
 ghost use Rattle.mls_leaf.specs.Leaf.{capabilities as capabilities_format, credential as credential_format, leaf_node, leaf_source};
 ghost use Rattle.mls_leaf.specs.Parent.{rises};
 ghost use Rattle.mls_leaf.specs.ParentNode.{parent_node};

@@ -2,7 +2,7 @@
 //! Also a suite for authors of suites to copy.
 #![tactic(auto)]
 
-ghost use Rattle.std.specs.Prelude.{◌≡◌, ◌<◌, ◌≤◌, ◌^◌, length, IfOk, true};
+ghost use Rattle.std.specs.Prelude.{◌≡◌, ◌<◌, ◌≤◌, ◌^◌, length, IfOk, Some, option_map, true};
 
 mod bare;
 #[cfg(test)]
@@ -25,19 +25,16 @@ pub fn sealed_and_opened<S: Suite>(
     context: &[u8],
     pt: &[u8],
     rnd: &[u8; 32],
-) -> Result<Vec<u8>, OutOfMemory>
+) -> Result<Option<Vec<u8>>, OutOfMemory>
     requires label { length label.now ≤ 200 }
     requires context { length context.now < 2 ^ 30 }
-    ensures { IfOk result (λ read. read.items ≡ pt.now) }
+    ensures { IfOk result (λ read. option_map (λ v. v.items) read ≡ Some pt.now) }
 {
     let pk = S::public(alloc, sk)?;
     let Some(sealed) = encrypt_with_label::<S>(alloc, &pk, label, context, pt, rnd)? else {
-        unreachable!()
+        return Ok(None);
     };
-    let Some(read) = decrypt_with_label::<S>(alloc, sk, label, context, &sealed.kem, &sealed.ct)?
-    else {
-        unreachable!()
-    };
+    let read = decrypt_with_label::<S>(alloc, sk, label, context, &sealed.kem, &sealed.ct)?;
     Ok(read)
 }
 

@@ -18,7 +18,7 @@ fn works<S: Suite>(alloc: Global) -> Result<bool, OutOfMemory> {
     let sk = [3; 32];
     let read = sealed_and_opened::<S>(alloc, &sk, "Welcome", b"context", b"secret", &[4; 32])?;
     let good = signed_and_verified::<S>(alloc, &sk, "LeafNodeTBS", b"leaf")?;
-    Ok(good && read.as_slice() == b"secret".as_slice())
+    Ok(good && matches!(read, Some(text) if text.as_slice() == b"secret".as_slice()))
 }
 
 #[test]

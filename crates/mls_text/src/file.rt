@@ -1,6 +1,6 @@
 //! A file of hex digits.
 
-ghost use Rattle.std.specs.Prelude.{◌≡◌, ◌↔◌, ◌⊎◌, Some, None, IfOk, Err, length, ◌%◌};
+ghost use Rattle.std.specs.Prelude.{◌≡◌, ◌⊎◌, Some, None, IfOk, Err, length, ◌%◌};
 ghost use Rattle.mls_text.specs.File.{bytes_in, is_blank, trimmed, without_back, without_front};
 
 use hex::FromHexError;

@@ -1,6 +1,6 @@
 //! What is read.
 
-ghost use Rattle.std.specs.Prelude.{ℕ, List, Bool, Option, Some, true, false, ◌≡◌, IfOk, IfErr, IfSome, ◌≢◌, ◌↔◌};
+ghost use Rattle.std.specs.Prelude.{ℕ, List, Bool, Option, Some, true, false, ◌≡◌, IfOk, IfErr, IfSome, ◌≢◌};
 ghost use Rattle.std.specs.IoError.{error_kind};
 ghost use Rattle.mls_text.specs.Ends.{read_failed};
 

@@ -1,6 +1,6 @@
 //! What is written to.
 
-ghost use Rattle.std.specs.Prelude.{ℕ, List, Bool, Option, Some, true, false, ◌≡◌, ◌++◌, OnOk, OnErr, IfErr, ◌≢◌};
+ghost use Rattle.std.specs.Prelude.{ℕ, List, Bool, Option, Some, true, false, ◌≡◌, OnOk, OnErr, IfErr, ◌≢◌};
 ghost use Rattle.std.specs.Io.KnownBytes.{Appends};
 ghost use Rattle.mls_text.specs.Ends.{AppendsPart, PutsIf, write_failed};
 

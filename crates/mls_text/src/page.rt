@@ -1,10 +1,10 @@
 //! Pages: what a subcommand prints of a file, and its exit status.
 
-ghost use Rattle.std.specs.Prelude.{ℕ, List, [], ◌≡◌, ◌≢◌, ◌≤◌, IfOk, IfErr, OnOk, OnErr};
+ghost use Rattle.std.specs.Prelude.{[], ◌≡◌, ◌≢◌, ◌≤◌, IfOk, IfErr, OnOk, OnErr};
 ghost use Rattle.std.specs.Io.KnownBytes.{Appends};
 ghost use Rattle.mls_text.specs.Ends.{AppendsPart, write_failed};
 ghost use Rattle.mls_text.specs.Pages.{PrintsMade};
-ghost use Rattle.mls_text.specs.Page.{Prints, ending_status, ending_text, page_of, printout_of, refused};
+ghost use Rattle.mls_text.specs.Page.{Prints, ending_status, ending_text, printout_of, refused};
 
 use crate::fault::Fault;
 use crate::output::Output;
