@@ -12,9 +12,10 @@ use Rattle.mls_leaf.specs.declared.leaf.LeafSource.{LeafSource}
 use Rattle.mls_leaf.specs.declared.leaf.LeafSource.TheVariants as made_for
 use Rattle.mls_suite.specs.Crypto.{Crypto, Lawful}
 use Rattle.mls_model.specs.Candidate.{made_capabilities, unsigned_leaf}
+use Rattle.mls_public_group.specs.Lengths.{opaque_most}
 use Rattle.mls_public_group.specs.Short.{IsBelow}
 use Rattle.mls_candidate.specs.Short.{IsShortSource, IsShortLeaf}
-use Rattle.mls_candidate.proofs.Lengths.{opaque_most, content_most, content_least, place_most}
+use Rattle.mls_candidate.proofs.Lengths.{content_most, content_least, place_most}
 
 -- ---- what is signed
 

@@ -1,30 +1,15 @@
 -- How long spellings are, from their parts.
-use Rattle.std.proofs.Common.{◌≡◌, ℕ, ◌+◌, ◌≤◌, Bool, true, false, cond, ltb, List, [], ◌∷◌, ◌++◌, length, arith}
+use Rattle.std.proofs.Common.{◌≡◌, ℕ, ◌+◌, ◌≤◌, List, [], ◌++◌, length, arith}
 use Rattle.std.specs.Int.{w16, w32, to_be_bytes}
 use Rattle.std.proofs.lemmas.List.{length-append}
-use Rattle.mls_wire.specs.Reading.{header, opaque, uint}
+use Rattle.mls_wire.specs.Reading.{opaque, uint}
 use Rattle.mls_leaf.specs.Inputs.{leaf_content, leaf_place}
 use Rattle.mls_leaf.specs.Leaf.{credential, capabilities, leaf_source}
 use Rattle.mls_leaf.specs.declared.leaf.Credential.{Credential}
 use Rattle.mls_leaf.specs.declared.leaf.LeafNode.{LeafNode}
 use Rattle.mls_leaf.specs.declared.leaf.LeafSource.{LeafSource}
 use Rattle.mls_leaf.specs.declared.leaf.LeafSource.TheVariants as made_for
-
-header_choice : (b : Bool) (x y : List ℕ) → length x ≤ 4 → length y ≤ 4 → length (cond b x y) ≤ 4
-header_choice true x y h k = h
-header_choice false x y h k = k
-
-header_length : (n : ℕ) → length (header n) ≤ 4
-unfolding header
-header_length n = header_choice (ltb n 64) (n ∷ []) (cond (ltb n 16384) (to_be_bytes w16 (16384 + n)) (to_be_bytes w32 (2147483648 + n))) (omega arith)
-    (header_choice (ltb n 16384) (to_be_bytes w16 (16384 + n)) (to_be_bytes w32 (2147483648 + n)) (omega arith) (omega arith))
-
--- a text behind its header
-pub opaque_most : (text : List ℕ) → length (opaque text) ≤ length text + 4
-opaque_most text = omega (arith, length-append (header (length text)) text, header_length (length text))
-
-opaque_least : (text : List ℕ) → length text ≤ length (opaque text)
-opaque_least text = omega (arith, length-append (header (length text)) text)
+use Rattle.mls_public_group.specs.Lengths.{opaque_most, opaque_least}
 
 credential_most : (v : Credential) → length (credential.spell v) ≤ length v.identity + 6
 unfolding credential uint
