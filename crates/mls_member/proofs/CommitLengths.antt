@@ -1,10 +1,9 @@
 -- The parts of a commit, and contexts, are short.
-use Rattle.std.proofs.Common.{◌≡◌, ℕ, ◌+◌, ◌<◌, ◌≤◌, ◌^◌, Bool, true, false, cond, ltb, List, [], ◌∷◌, ◌++◌, length, Option, Some, None, refl, subst, arith}
+use Rattle.std.proofs.Common.{◌≡◌, ℕ, ◌<◌, ◌≤◌, ◌^◌, List, [], ◌∷◌, length, Option, Some, None, refl, subst, arith}
 use Rattle.std.specs.Prelude.{IfSome}
 use Rattle.std.specs.List.{flat_map, AllByRecursion}
-use Rattle.std.specs.Int.{w8, w16, w32, w64, to_be_bytes}
-use Rattle.std.proofs.lemmas.List.{length-append}
-use Rattle.mls_wire.specs.Reading.{uint, header, opaque}
+use Rattle.std.specs.Int.{w8}
+use Rattle.mls_wire.specs.Reading.{uint}
 use Rattle.mls_wire.specs.Combine.{vector, optional}
 use Rattle.mls_wire.specs.declared.WireError.TheVariants as wire
 use Rattle.mls_leaf.specs.declared.error.LeafError.{LeafError}
@@ -20,6 +19,7 @@ use Rattle.mls_group.specs.UpdatePath.{update_path}
 use Rattle.mls_types.specs.Commit.{proposal_or_ref, proposal_or_ref_nonempty}
 use Rattle.mls_types.specs.declared.commit.ProposalOrRef.{ProposalOrRef}
 use Rattle.mls_types.specs.declared.commit.ProposalOrRef.TheVariants as listed
+use Rattle.mls_public_group.specs.Lengths.{context_length}
 use Rattle.mls_public_group.specs.Short.{IsBelow, IsShortContext}
 use Rattle.mls_member.specs.Process.{IsListedBelow}
 use Rattle.mls_member.proofs.Lengths.{front, back, inside}
@@ -61,43 +61,9 @@ path_wider (Some p) h = record { fits = h.fits; below = omega (arith, h.below) }
 
 -- ---- contexts
 
-pub context_fits : (context : GroupContext) → IsShortContext context → group_context.Fits context
-unfolding group_context
-context_fits context s = (s.suite, (omega (arith, s.group_id), (s.epoch, (omega (arith, s.tree_hash), (omega (arith, s.confirmed), tt)))))
-
-short_of : (b : Bool) (x y : List ℕ) → length x ≤ 4 → length y ≤ 4 → length (cond b x y) ≤ 4
-short_of true x y h k = h
-short_of false x y h k = k
-
-header_short : (n : ℕ) → length (header n) ≤ 4
-unfolding header
-header_short n = short_of (ltb n 64) (n ∷ []) (cond (ltb n 16384) (to_be_bytes w16 (16384 + n)) (to_be_bytes w32 (2147483648 + n))) (omega arith)
-    (short_of (ltb n 16384) (to_be_bytes w16 (16384 + n)) (to_be_bytes w32 (2147483648 + n)) (omega arith) (omega arith))
-
-text_short : (text : List ℕ) → length text < 2 ^ 28 → length (opaque text) < 2 ^ 28 + 4
-text_short text h = omega (arith, header_short (length text), length-append (header (length text)) text)
-
-uint_short : (n : ℕ) → (length (uint w16 n) ≤ 8) × (length (uint w64 n) ≤ 8)
-unfolding uint
-uint_short n = (omega arith, omega arith)
-
-added : (x y : List ℕ) (m n : ℕ) → length x ≤ m → length y ≤ n → length (x ++ y) ≤ m + n
-added x y m n h k = omega (arith, length-append x y)
-
-seven : (a b d e f g h : List ℕ) → length a ≤ 8 → length b ≤ 8 → length d < 2 ^ 28 + 4 → length e ≤ 8 → length f < 2 ^ 28 + 4 → length g < 2 ^ 28 + 4 → length h ≤ 8 → length (a ++ (b ++ (d ++ (e ++ (f ++ (g ++ h)))))) < 2 ^ 30
-seven a b d e f g h pa pb pd pe pf pg ph =
-    omega (arith, length-append a (b ++ (d ++ (e ++ (f ++ (g ++ h))))), length-append b (d ++ (e ++ (f ++ (g ++ h)))), length-append d (e ++ (f ++ (g ++ h))), length-append e (f ++ (g ++ h)), length-append f (g ++ h), length-append g h)
-
-no_extensions : length (opaque [] ++ []) ≤ 8
-unfolding header
-no_extensions = omega arith
-
 -- a short context encodes to fewer than 2^30 bytes
 pub context_short : (context : GroupContext) → IsShortContext context → length (group_context.spell context) < 2 ^ 30
-unfolding group_context
-context_short context s =
-    seven (uint w16 1) (uint w16 context.cipher_suite) (opaque context.group_id) (uint w64 context.epoch) (opaque context.tree_hash) (opaque context.confirmed_transcript_hash) (opaque [] ++ [])
-    (uint_short 1).0 (uint_short context.cipher_suite).0 (text_short context.group_id s.group_id) (uint_short context.epoch).1 (text_short context.tree_hash s.tree_hash) (text_short context.confirmed_transcript_hash s.confirmed) no_extensions
+context_short context s = omega (arith, context_length context s.group_id s.tree_hash s.confirmed)
 
 -- what isn't written of a value that has a spelling is wanted for memory
 pub wanted : (P : Type 0) (e : LeafError) → P → Refuses P e → number_of e ≡ 1

@@ -1,7 +1,7 @@
 -- The first epoch of a group.
-use Rattle.std.proofs.Common.{◌≡◌, ℕ, ◌<◌, ◌≤◌, ◌^◌, nat_lt, Bool, true, false, cond, List, [], ◌∷◌, ◌++◌, length, Option, Some, None, Result, Ok, Err, refl, sym, ap, subst, ◌∙◌, arith, length-append}
+use Rattle.std.proofs.Common.{◌≡◌, ℕ, ◌<◌, ◌≤◌, ◌^◌, nat_lt, Bool, true, false, cond, List, [], ◌∷◌, ◌++◌, length, Some, None, Result, Ok, Err, refl, sym, ap, subst, ◌∙◌, arith, length-append}
 use Rattle.std.specs.Prelude.{IfSome}
-use Rattle.std.specs.Int.{w16, w64}
+use Rattle.std.specs.Int.{w16}
 use Rattle.mls_wire.specs.Reading.{uint, header, opaque}
 use Rattle.mls_leaf.specs.Leaf.{leaf_node}
 use Rattle.mls_leaf.specs.Limits.{input_limit}
@@ -22,16 +22,13 @@ use Rattle.mls_model.specs.Member.{Member, Kept}
 use Rattle.mls_model.specs.Public.{PublicState}
 use Rattle.mls_member.specs.First.{first_public}
 use Rattle.mls_model.specs.Messages.{is_within_limit}
-use Rattle.mls_member.specs.Limits.{first_within, last_within, past_limit}
+use Rattle.mls_public_group.specs.Lengths.{first_within, last_within}
+use Rattle.mls_public_group.specs.Limits.{past_limit}
 
 -- its context is short where its identifier is within the limit
 pub first_short : (c : Crypto) (group : List ℕ) (t : Term) → c.number < 2 ^ 16 → length group ≤ input_limit → IsShortContext (first_context c group t)
 unfolding first_context
 first_short c group t n le = record { suite = n; epoch = omega arith; group_id = omega (arith, le); tree_hash = omega (arith, length-tree_hash 0 t); confirmed = omega arith }
-
-pub context_fits : (x : GroupContext) → IsShortContext x → group_context.Fits x
-unfolding group_context
-context_fits x s = (s.suite, (omega (arith, s.group_id), (s.epoch, (omega (arith, s.tree_hash), (omega (arith, s.confirmed), tt)))))
 
 -- and larger than a message may be where its identifier alone is
 first_spelled : (c : Crypto) (group : List ℕ) (t : Term) → (rest : List ℕ) × (group_context.spell (first_context c group t) ≡ uint w16 1 ++ (uint w16 c.number ++ (opaque group ++ rest)))

@@ -1,9 +1,7 @@
 -- Own proposals are short.
-use Rattle.std.proofs.Common.{◌≡◌, ℕ, ◌+◌, ◌<◌, ◌≤◌, ◌^◌, List, [], ◌++◌, length, Result, Ok, Err, refl, ap, subst, arith, lit<, length-append}
+use Rattle.std.proofs.Common.{◌≡◌, ℕ, ◌+◌, ◌<◌, ◌≤◌, ◌^◌, List, [], ◌++◌, length, Ok, refl, ap, subst, arith, lit<, length-append}
 use Rattle.std.specs.Int.{w16}
-use Rattle.std.proofs.lemmas.Bool.{leb-true, and_parts}
-use Rattle.mls_wire.specs.Checks.{Passed, passed, ◌>>◌}
-use Rattle.mls_wire.specs.CheckLaws.{required, then_ok}
+use Rattle.mls_wire.specs.Checks.{passed}
 use Rattle.mls_wire.specs.Reading.{uint, opaque}
 use Rattle.mls_leaf.specs.Inputs.{leaf_content}
 use Rattle.mls_leaf.specs.InputLaws.{leaf_node-spelled}
@@ -24,27 +22,24 @@ use Rattle.mls_types.specs.declared.signed.SignedContent.{SignedContent}
 use Rattle.mls_checks.specs.Short.{IsShort}
 use Rattle.mls_suite.specs.Crypto.{Crypto, Lawful}
 use Rattle.mls_suite.specs.LabelLaws.{signs_short}
+use Rattle.mls_public_group.specs.Lengths.{opaque_most}
+use Rattle.mls_public_group.specs.Limits.{length_within}
 use Rattle.mls_public_group.specs.Short.{IsBelow}
 use Rattle.mls_model.specs.Candidate.{leaf_key_of, unsigned_leaf, signed_leaf}
 use Rattle.mls_model.specs.Member.{Member}
 use Rattle.mls_model.specs.Messages.{is_within_limit, said_by, content_signature, content_tag, sent_by}
 use Rattle.mls_model.specs.Propose.{proposal_by, updated_leaf}
 use Rattle.mls_candidate.specs.Short.{IsShortLeaf}
-use Rattle.mls_candidate.proofs.Lengths.{opaque_most, content_most}
+use Rattle.mls_candidate.proofs.Lengths.{content_most}
 use Rattle.mls_candidate.proofs.Leaves.{renewed_short, update_fits}
 use Rattle.mls_member.proofs.Lengths.{front, signed_parts, content_inside, proposal_inside}
 
 -- ---- by their messages
 
--- what is within the limit has no more bytes
-within_is : (bytes : List ℕ) → is_within_limit bytes ≡ Ok passed → length bytes ≤ input_limit
-unfolding is_within_limit
-within_is bytes h = leb-true _ _ (and_parts _ _ (required _ _ _ h)).0
-
 -- a content is no longer than its message
 content_within : (m : Member) (v : SignedContent) → is_within_limit (sent_by m v) ≡ Ok passed → length (framed_content.spell (framed v)) ≤ input_limit
 unfolding sent_by
-content_within m v h = front _ (auth_data v) input_limit (signed_parts (record { content = v; membership_tag = content_tag m.epoch v m.public.context }) input_limit (within_is _ h))
+content_within m v h = front _ (auth_data v) input_limit (signed_parts (record { content = v; membership_tag = content_tag m.epoch v m.public.context }) input_limit (length_within _ h))
 
 -- nor is a proposal
 said_within : (m : Member) (p : Proposal) → length (framed_content.spell (said_by m (says.Proposal p))) ≤ input_limit → length (proposal_format.spell p) ≤ input_limit

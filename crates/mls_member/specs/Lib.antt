@@ -2,7 +2,6 @@ pub mod Faults
 pub mod Codes
 pub mod Answers
 pub mod Process
-pub mod Limits
 pub mod First
 pub mod Proposing
 pub mod Committing
