@@ -52,7 +52,7 @@ fn seed(purpose: Purpose, number: u32) -> [u8; 32] {
 fn addition(candidate: &Candidate<Glass>) -> Result<Item>
     ensures { IfOk result IsShortItem }
 {
-    candidate.is_short();
+    candidate.addition_is_short();
     Ok(Item::Full(Proposal::Add(candidate.key_package().clone()?)))
 }
 

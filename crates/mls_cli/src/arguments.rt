@@ -158,7 +158,7 @@ pub fn job<'a, S: AsStr>(alloc: Global, words: &'a [S]) -> Result<Job<'a>, NoJob
     ensures named { IfOk result (λ job. task_of (subcommand_of mls (map S.text words.entry.now)) ≡ Some (view job)) }
     // It comes only where clap finds no fault in the words.
     ensures faultless { OnOk result (fault_of mls (map S.text words.entry.now) ≡ []) }
-    // Where clap finds a fault, it is the first that clap finds, unless memory runs out. Where it finds
+    // Where clap finds a fault, it is of a kind that the words have, unless memory runs out. Where it finds
     // none, memory is wanting, or the matches name no job.
     ensures fault { IfErr result (Explains (fault_of mls (map S.text words.entry.now)) (task_of (subcommand_of mls (map S.text words.entry.now)))) }
 {

@@ -14,7 +14,7 @@ use std::alloc::Global;
 fn addition(candidate: &Candidate<Glass>) -> Result<Item>
     ensures { IfOk result IsShortItem }
 {
-    candidate.is_short();
+    candidate.addition_is_short();
     Ok(Item::Full(Proposal::Add(candidate.key_package().clone()?)))
 }
 

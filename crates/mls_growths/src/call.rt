@@ -33,7 +33,7 @@ pub(crate) enum Answer {
 pub(crate) fn addition(candidate: &Candidate<Glass>) -> Result<Item>
     ensures { IfOk result IsShortItem }
 {
-    candidate.is_short();
+    candidate.addition_is_short();
     Ok(Item::Full(Proposal::Add(candidate.key_package().clone()?)))
 }
 

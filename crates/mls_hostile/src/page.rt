@@ -80,7 +80,7 @@ impl Page {
     }
 }
 
-/// Every getter and every key of a member, with what it keeps under these references.
+/// The getters and keys of a member, with what it keeps under these references; its kept proposals aside.
 pub fn page_of(alloc: Global, member: &Member<Glass>, references: &[Secret]) -> Result<Vec<u8>> {
     let mut page = Page {
         bytes: Vec::new(alloc),
