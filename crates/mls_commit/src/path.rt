@@ -1,12 +1,13 @@
 //! The checks of a commit's path, and its merge.
 
-ghost use Rattle.std.specs.Prelude.{◌≡◌, ◌^◌, ◌∷◌, IfOk, IsSome};
+ghost use Rattle.std.specs.Prelude.{◌≡◌, ◌^◌, ◌∷◌, IfOk, IsSome, is_some};
 ghost use Rattle.std.specs.List.{list_all};
 ghost use Rattle.std.specs.Str.{bytes_eq};
-ghost use Rattle.mls_wire.specs.Checks.{Answers, passed};
+ghost use Rattle.mls_wire.specs.Checks.{Answers, passed, require};
 ghost use Rattle.mls_leaf.specs.Leaf.{leaf_node};
 ghost use Rattle.mls_model.specs.Commit as model;
 ghost use Rattle.mls_public_group.specs.Short.{IsBelow, IsShortContext};
+ghost use Rattle.mls_tree.specs.Refusals.{RefusesOutright};
 ghost use Rattle.mls_tree.specs.Tree.{term};
 ghost use Rattle.mls_term.specs.Term.{leaf_of};
 ghost use Rattle.mls_commit.specs.Faults.{number_of};
@@ -88,8 +89,8 @@ fn has_fit_keys<S: Suite>(path: &UpdatePath) -> bool
             .all(|node| S::key_ok(node.encryption_key.as_slice()))
 }
 
-/// The tree after the edits with the committer's path merged, where these checks pass in this order: 50 to 54 of its
-/// leaf; 30 how many nodes it has; 31 how many ciphertexts each of them has; 36 a key isn't fit; 25 two nodes have one
+/// The tree after the edits with the committer's path merged, where these checks pass in this order: 22 no member is at
+/// its leaf, which takes no memory; 50 to 54 of its new leaf; 30 how many nodes it has; 31 how many ciphertexts each of them has; 36 a key isn't fit; 25 two nodes have one
 /// encryption key; 24 its leaf hasn't the parent hash (RFC 9420, 12.4.2).
 #[tactic(auto, unfolding(mls_model::specs::Commit::with_path))]
 pub(crate) fn with_path<S: Suite>(
@@ -102,7 +103,8 @@ pub(crate) fn with_path<S: Suite>(
     requires context { IsShortContext group.now.context }
     requires stays { Stays committer group.now.tree edits.now.tree }
     requires path { IsBelow (2 ^ 28) leaf_node path.now.leaf_node }
-    ensures { Answers term number_of (model.with_path S.crypto group.now committer edits.now path.now) result }
+    ensures answer { Answers term number_of (model.with_path S.crypto group.now committer edits.now path.now) result }
+    ensures outright { RefusesOutright number_of (require 22 (is_some (leaf_of group.now.tree committer))) result }
 {
     let Some(old) = group.tree().leaf(committer) else {
         return Err(CommitError::from(TreeError::NoSuchLeaf));

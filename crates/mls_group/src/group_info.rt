@@ -150,7 +150,7 @@ impl GroupInfo {
     ghost use Rattle.mls_leaf.specs.Faults.{Writes};
 
     /// The GroupInfoTBS, which its signer signs: the group info without its signature (RFC 9420, 12.4.3).
-    /// TooLong where a vector in it has 2^30 bytes or more.
+    /// TooLong where a vector in it has 2^30 bytes or more, unless memory runs out before it.
     #[tactic(auto, using(mls_leaf::specs::Codecs::codecs))]
     pub fn to_be_signed(&self, alloc: Global) -> Result<Vec<u8>, LeafError>
         ensures { Writes (GroupInfoTbsFits self.now) (group_info_tbs self.now) result }

@@ -1,11 +1,14 @@
 //! The checks of proposals (RFC 9420, 12.1).
 
-ghost use Rattle.std.specs.Prelude.{◌^◌, if◌then◌else◌, is_some, Ok};
-ghost use Rattle.mls_wire.specs.Checks.{Answers, passed, require};
+ghost use Rattle.std.specs.Prelude.{◌≡◌, ◌^◌, if◌then◌else◌, ℕ, is_some, Ok};
+ghost use Rattle.mls_wire.specs.Checks.{Answers, AnswersOutright, passed, require};
 ghost use Rattle.mls_leaf.specs.Leaf.{leaf_node};
 ghost use Rattle.mls_leaf.specs.Proposal.{proposal as proposal_format};
+ghost use Rattle.mls_leaf.specs.declared.leaf.LeafNode.{LeafNode};
+ghost use Rattle.mls_leaf.specs.declared.proposal.Proposal.TheVariants.{Update, Remove};
 ghost use Rattle.mls_checks.specs.Short.{IsShort};
 ghost use Rattle.mls_term.specs.Term.{leaf_of};
+ghost use Rattle.mls_tree.specs.Refusals.{RefusesOutright};
 ghost use Rattle.mls_model.specs.Proposals.{full_checks, proposal_checks, update_checks};
 ghost use Rattle.mls_public_group.specs.Faults.{number_of};
 ghost use Rattle.mls_public_group.specs.Short.{AreBelow, IsBelow};
@@ -21,7 +24,8 @@ use std::alloc::Global;
 
 impl PublicGroup {
     /// The checks of a proposal of the member at leaf `sender`: of an add those of its KeyPackage (RFC 9420, 12.1.1), of an
-    /// update those of its leaf (12.1.2), of a remove that there is a member (12.1.3).
+    /// update 22 where no member is there, and those of its leaf (12.1.2), of a remove 22 where there is no member (12.1.3).
+    /// 22 and what a remove answers take no memory.
     pub fn require_proposal<S: Suite>(
         &self,
         alloc: Global,
@@ -29,7 +33,9 @@ impl PublicGroup {
         proposal: &Proposal,
     ) -> Result<(), GroupError>
         requires { IsShort proposal_format proposal.now }
-        ensures { Answers (λ _. passed) number_of (proposal_checks S.crypto self.now sender proposal.now) result }
+        ensures answer { Answers (λ _. passed) number_of (proposal_checks S.crypto self.now sender proposal.now) result }
+        ensures update { (l : LeafNode) → proposal.now ≡ Update l → RefusesOutright number_of (require 22 (is_some (leaf_of self.now.tree sender))) result }
+        ensures remove { (i : ℕ) → proposal.now ≡ Remove i → AnswersOutright (λ _. passed) number_of (require 22 (is_some (leaf_of self.now.tree i))) result }
     {
         match proposal {
             Proposal::Add(offered) => Ok(key_package::<S>(alloc, offered)?),
@@ -47,7 +53,8 @@ impl PublicGroup {
         leaf: &LeafNode,
     ) -> Result<(), GroupError>
         requires { IsShort leaf_node leaf.now }
-        ensures { Answers (λ _. passed) number_of (update_checks S.crypto self.now sender leaf.now) result }
+        ensures answer { Answers (λ _. passed) number_of (update_checks S.crypto self.now sender leaf.now) result }
+        ensures outright { RefusesOutright number_of (require 22 (is_some (leaf_of self.now.tree sender))) result }
     {
         let context = &self.context;
         let Some(old) = self.tree().leaf(sender) else {
@@ -63,7 +70,7 @@ impl PublicGroup {
 
     /// That there is a member to be removed (RFC 9420, 12.1.3).
     fn require_member(&self, leaf: u32) -> Result<(), GroupError>
-        ensures { Answers (λ _. passed) number_of (require 22 (is_some (leaf_of self.now.tree leaf))) result }
+        ensures { AnswersOutright (λ _. passed) number_of (require 22 (is_some (leaf_of self.now.tree leaf))) result }
     {
         if self.tree().leaf(leaf).is_none() {
             return Err(GroupError::Tree(TreeError::NoSuchLeaf));

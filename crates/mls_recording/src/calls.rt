@@ -1,9 +1,10 @@
 //! The calls of a recording, by their names. A text that isn't hex is kept as None: a fault of the shape that comes
 //! later goes before it.
 
-ghost use Rattle.std.specs.Prelude.{option_map};
+ghost use Rattle.std.specs.Prelude.{◌≡◌, IfErr, option_map};
 ghost use Rattle.serde_json.specs.View.{view};
 ghost use Rattle.mls_json.specs.Faults.{Finds};
+ghost use Rattle.mls_json.specs.declared.error.JsonError.TheVariants.{BadJson};
 ghost use Rattle.mls_recording.specs.Calls.{call_view};
 ghost use Rattle.mls_recording.specs.Recording.{candidate_in, create_in, propose_add_in, propose_update_in, propose_remove_in, commit_in, drop_pending_in, deliver_in, join_in, op_in};
 
@@ -70,7 +71,8 @@ fn propose_add(alloc: Global, value: &Value) -> Result<Option<Event>, JsonError>
 }
 
 fn propose_update(value: &Value) -> Result<Option<Event>, JsonError>
-    ensures { Finds (option_map call_view) result (propose_update_in (view value.now)) }
+    ensures found { Finds (option_map call_view) result (propose_update_in (view value.now)) }
+    ensures outright { IfErr result (λ e. e ≡ BadJson) }
 {
     if !has_keys(value, 3) {
         return Err(JsonError::BadJson);
@@ -85,7 +87,8 @@ fn propose_update(value: &Value) -> Result<Option<Event>, JsonError>
 }
 
 fn propose_remove(value: &Value) -> Result<Option<Event>, JsonError>
-    ensures { Finds (option_map call_view) result (propose_remove_in (view value.now)) }
+    ensures found { Finds (option_map call_view) result (propose_remove_in (view value.now)) }
+    ensures outright { IfErr result (λ e. e ≡ BadJson) }
 {
     if !has_keys(value, 3) {
         return Err(JsonError::BadJson);
@@ -126,7 +129,8 @@ fn commit(alloc: Global, value: &Value) -> Result<Option<Event>, JsonError>
 }
 
 fn drop_pending(value: &Value) -> Result<Option<Event>, JsonError>
-    ensures { Finds (option_map call_view) result (drop_pending_in (view value.now)) }
+    ensures found { Finds (option_map call_view) result (drop_pending_in (view value.now)) }
+    ensures outright { IfErr result (λ e. e ≡ BadJson) }
 {
     if !has_keys(value, 2) {
         return Err(JsonError::BadJson);

@@ -1,8 +1,9 @@
 //! Sources of messages, and what a commit names.
 
-ghost use Rattle.std.specs.Prelude.{option_map, map};
+ghost use Rattle.std.specs.Prelude.{◌≡◌, IfErr, option_map, map};
 ghost use Rattle.serde_json.specs.View.{view, items_view};
 ghost use Rattle.mls_json.specs.Faults.{Finds};
+ghost use Rattle.mls_json.specs.declared.error.JsonError.TheVariants.{BadJson};
 ghost use Rattle.mls_json.specs.Hexes.{bytes_of};
 ghost use Rattle.mls_recording.specs.Calls.{source_view, item_view};
 ghost use Rattle.mls_recording.specs.Recording.{source_in, source_at, removal_in, item_in, each_of, commit_items_at, sourced};
@@ -51,7 +52,8 @@ pub fn source_at(alloc: Global, value: &Value, key: &str) -> Result<Option<Sourc
 }
 
 fn removal(value: &Value) -> Result<Option<WorldItem>, JsonError>
-    ensures { Finds (option_map item_view) result (removal_in (view value.now)) }
+    ensures found { Finds (option_map item_view) result (removal_in (view value.now)) }
+    ensures outright { IfErr result (λ e. e ≡ BadJson) }
 {
     match u32_at(value, "remove") {
         Some(leaf) => Ok(Some(WorldItem::Remove(leaf))),

@@ -18,7 +18,7 @@ pub enum NoParent {
 }
 
 /// A place of a ratchet tree: blank, or a node that copies of the tree may share. To its callers it is the node itself,
-/// where there is one; a copy takes no memory.
+/// where there is one. A copy shares the node and takes no memory of its own.
 #[derive(Debug, Drop)]
 pub struct Slot {
     pub(crate) node: Option<Rc<Node>>,

@@ -202,7 +202,8 @@ impl PublicTree {
     /// lowest first, and blanks the others over it (RFC 9420, 7.5). Refused with `NoSuchLeaf` (22) where no member is
     /// there; then with `PathLength` (30) where there aren't as many keys as the filtered path has parents; then with
     /// `KeyRepeated` (25) where two nodes of the merged tree have one encryption key; then with `ParentHashWrong` (24)
-    /// where the leaf's source isn't a commit with the path's parent hash. After a refusal the tree is as before.
+    /// where the leaf's source isn't a commit with the path's parent hash. After a refusal the tree is as before, but that
+    /// it may keep more hashes.
     pub fn merge_path(&mut self, i: u32, leaf: LeafNode, keys: Vec<Bytes>) -> Result<(), TreeError>
         ensures answer { ChangesWhole number_of (merge_answer (term self.old) i leaf keys.items) (term self.old) (term self.new) result }
         // 22 and 30 come whatever memory there is.

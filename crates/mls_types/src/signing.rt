@@ -13,7 +13,7 @@ impl FramedContent {
     ghost use Rattle.mls_leaf.specs.Faults.{Writes};
 
     /// The FramedContentTBS, which the sender signs (RFC 9420, 6.1).
-    /// TooLong where a vector in it has 2^30 bytes or more.
+    /// TooLong where a vector in it has 2^30 bytes or more, unless memory runs out before it.
     #[tactic(auto, using(mls_leaf::specs::Codecs::codecs))]
     pub fn to_be_signed(
         &self,
@@ -38,7 +38,7 @@ impl SignedContent {
     ghost use Rattle.mls_leaf.specs.Faults.{AddsInput, Writes};
 
     /// The FramedContentTBS, which the sender signed (RFC 9420, 6.1).
-    /// TooLong where a vector in it has 2^30 bytes or more.
+    /// TooLong where a vector in it has 2^30 bytes or more, unless memory runs out before it.
     #[tactic(auto, using(mls_leaf::specs::Codecs::codecs))]
     pub fn to_be_signed(
         &self,
@@ -54,7 +54,7 @@ impl SignedContent {
     }
 
     /// The AuthenticatedContentTBM, which the membership tag is of (RFC 9420, 6.2).
-    /// TooLong where a vector in it has 2^30 bytes or more.
+    /// TooLong where a vector in it has 2^30 bytes or more, unless memory runs out before it.
     #[tactic(auto, using(mls_leaf::specs::Codecs::codecs))]
     pub fn to_be_tagged(
         &self,

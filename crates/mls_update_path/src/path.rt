@@ -96,8 +96,9 @@ fn make_merged<S: Suite>(
     })
 }
 
-/// The path of the member at leaf `index` for a commit with these edits: its new leaf and the merge of its keys pass their
-/// checks (50 to 54, 25, 24), and its secrets are sealed under the context with the merged tree (RFC 9420, 12.4.1).
+/// The path of the member at leaf `index` for a commit with these edits: a member is there (22), its new leaf and the
+/// merge of its keys pass their checks (50 to 54, 25, 24), and its secrets are sealed under the context with the merged
+/// tree, where each key can be sealed to (36) (RFC 9420, 12.4.1).
 pub fn new_path<S: Suite>(
     alloc: Global,
     group: &PublicGroup,
