@@ -1,10 +1,13 @@
-use Rattle.std.proofs.Common.{subst}
+use Rattle.std.proofs.Common.{subst, ℕ, Result, Ok, Err}
 use Rattle.std.proofs.lemmas.Result.{err_from_is_err_and}
+use Rattle.mls_wire.specs.Checks.{Passed, passed, Answers, AnswersOutright}
 use Rattle.mls_leaf.specs.KeyPackage.{key_package}
 use Rattle.mls_leaf.specs.Leaf.{leaf_node}
 use Rattle.mls_leaf.specs.Proposal.{proposal as proposal_format}
 use Rattle.mls_checks.specs.Short.{IsShort}
 use Rattle.mls_model.specs.Proposals.{proposal_checks}
+use Rattle.mls_public_group.specs.Faults.{number_of}
+use Rattle.mls_public_group.specs.declared.error.GroupError.{GroupError}
 use Rattle.mls_public_group.specs.ShortLaws.{short_below, below_short, add_below, update_below}
 use Rattle.mls_public_group.proofs.group.PublicGroup.require_proposal.Goals as goal
 
@@ -18,20 +21,25 @@ require_update-requires g c =
     let x = c.in-Update.leaf in
     short_below leaf_node x (update_below 268435456 x (below_short proposal_format _ (subst (IsShort proposal_format) c.in-Update.is c.requires)))
 
-pub returns-in_err-key_package-in-Add : goal.returns-in_err-key_package-in-Add
+pub returns-in_err-key_package-in-Add-clause-answer : goal.returns-in_err-key_package-in-Add-clause-answer
 unfolding proposal_checks
-returns-in_err-key_package-in-Add g c =
+returns-in_err-key_package-in-Add-clause-answer g c =
     let p = err_from_is_err_and c.from_residual.result c.from_residual.ensures.1 in
     rw (p.1, p.2, c.in-Add.is) c.in_err-key_package-in-Add.ensures
 
-pub returns-in_ok-key_package-in-Add : goal.returns-in_ok-key_package-in-Add
+pub returns-in_ok-key_package-in-Add-clause-answer : goal.returns-in_ok-key_package-in-Add-clause-answer
 unfolding proposal_checks
-returns-in_ok-key_package-in-Add g c = rw c.in-Add.is c.in_ok-key_package-in-Add.ensures
+returns-in_ok-key_package-in-Add-clause-answer g c = rw c.in-Add.is c.in_ok-key_package-in-Add.ensures
 
-pub returns-in-Update : goal.returns-in-Update
+pub returns-in-Update-clause-answer : goal.returns-in-Update-clause-answer
 unfolding proposal_checks
-returns-in-Update g c = rw c.in-Update.is c.require_update.ensures
+returns-in-Update-clause-answer g c = rw c.in-Update.is c.require_update.ensures.answer
 
-pub returns-in-Remove : goal.returns-in-Remove
+-- what is answered outright is answered
+pub outright_answered : {B : Type 0} (defined : Result Passed ℕ) (r : Result B GroupError) → AnswersOutright (λ (_ : B). passed) number_of defined r → Answers (λ (_ : B). passed) number_of defined r
+outright_answered defined (Ok x) h = h
+outright_answered defined (Err e) h = λ _. h
+
+pub returns-in-Remove-clause-answer : goal.returns-in-Remove-clause-answer
 unfolding proposal_checks
-returns-in-Remove g c = rw c.in-Remove.is c.require_member.ensures
+returns-in-Remove-clause-answer g c = rw c.in-Remove.is (outright_answered _ c.require_member.result c.require_member.ensures)
