@@ -8,21 +8,21 @@ use Rattle.mls_commit.specs.Faults.{number_of}
 use Rattle.mls_commit.proofs.Paths.{replaced_in, path_miscounted, path_unfit, path_merged, merge_alike}
 use Rattle.mls_commit.proofs.path.with_path.Goals as goal
 
-pub returns-in_err-require_counts : goal.returns-in_err-require_counts
-returns-in_err-require_counts g c =
+pub returns-in_err-require_counts-clause-answer : goal.returns-in_err-require_counts-clause-answer
+returns-in_err-require_counts-clause-answer g c =
     let at = sym (c.in-Some.ensures ∙ ap (λ t. leaf_of t c.args.committer) c.tree.ensures) in
     let fine = replaced_in g.S.Suite.crypto c.args.path.now.leaf_node c.in-Some.old.now c.as_slice-group_id.result.now c.args.group.now.context.group_id c.args.committer (c.as_slice-group_id.ensures ∙ ap (λ (x : GroupContext). x.group_id) c.context.ensures) c.in_ok-replaced.ensures in
     let p = err_from_is_err_and c.from_residual-in_err-require_counts.result c.from_residual-in_err-require_counts.ensures.1 in
     rw (p.1, p.2) (λ other. path_miscounted g.S.Suite.crypto c.args.group.now c.args.committer c.args.edits.now c.args.path.now c.in-Some.old.now at fine _ (c.in_err-require_counts.ensures other))
 
-pub returns-then-not-has_fit_keys : goal.returns-then-not-has_fit_keys
-returns-then-not-has_fit_keys g c =
+pub returns-then-not-has_fit_keys-clause-answer : goal.returns-then-not-has_fit_keys-clause-answer
+returns-then-not-has_fit_keys-clause-answer g c =
     let at = sym (c.in-Some.ensures ∙ ap (λ t. leaf_of t c.args.committer) c.tree.ensures) in
     let fine = replaced_in g.S.Suite.crypto c.args.path.now.leaf_node c.in-Some.old.now c.as_slice-group_id.result.now c.args.group.now.context.group_id c.args.committer (c.as_slice-group_id.ensures ∙ ap (λ (x : GroupContext). x.group_id) c.context.ensures) c.in_ok-replaced.ensures in
     λ other. path_unfit g.S.Suite.crypto c.args.group.now c.args.committer c.args.edits.now c.args.path.now c.in-Some.old.now at fine c.in_ok-require_counts.ensures (sym c.has_fit_keys.ensures ∙ c.if-not-has_fit_keys.true) ∙ ap (λ e. Err (number_of e)) (sym c.from-then-not-has_fit_keys.ensures)
 
-pub returns-in_err-merge_path : goal.returns-in_err-merge_path
-returns-in_err-merge_path g c =
+pub returns-in_err-merge_path-clause-answer : goal.returns-in_err-merge_path-clause-answer
+returns-in_err-merge_path-clause-answer g c =
     let at = sym (c.in-Some.ensures ∙ ap (λ t. leaf_of t c.args.committer) c.tree.ensures) in
     let fine = replaced_in g.S.Suite.crypto c.args.path.now.leaf_node c.in-Some.old.now c.as_slice-group_id.result.now c.args.group.now.context.group_id c.args.committer (c.as_slice-group_id.ensures ∙ ap (λ (x : GroupContext). x.group_id) c.context.ensures) c.in_ok-replaced.ensures in
     let same = merge_alike c.args.committer _ _ _ _ _ _ (ap term c.in_ok-tree.ensures.cases ∙ ap (λ (e : Edits). e.tree) c.edits.view_is) c.in_ok-leaf.ensures.cases c.in_ok-keys.ensures in
@@ -30,8 +30,8 @@ returns-in_err-merge_path g c =
     let p = err_from_is_err_and c.from_residual-in_err-merge_path.result c.from_residual-in_err-merge_path.ensures.1 in
     rw (p.1, p.2) (λ other. merges ∙ sym same ∙ c.in_err-merge_path.ensures.answer.1 other)
 
-pub returns : goal.returns
-returns g c =
+pub returns-clause-answer : goal.returns-clause-answer
+returns-clause-answer g c =
     let at = sym (c.in-Some.ensures ∙ ap (λ t. leaf_of t c.args.committer) c.tree.ensures) in
     let fine = replaced_in g.S.Suite.crypto c.args.path.now.leaf_node c.in-Some.old.now c.as_slice-group_id.result.now c.args.group.now.context.group_id c.args.committer (c.as_slice-group_id.ensures ∙ ap (λ (x : GroupContext). x.group_id) c.context.ensures) c.in_ok-replaced.ensures in
     let same = merge_alike c.args.committer _ _ _ _ _ _ (ap term c.in_ok-tree.ensures.cases ∙ ap (λ (e : Edits). e.tree) c.edits.view_is) c.in_ok-leaf.ensures.cases c.in_ok-keys.ensures in
