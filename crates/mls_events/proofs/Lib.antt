@@ -11,5 +11,3 @@ pub mod Beginning
 pub mod Recording
 pub mod Items
 pub mod Welcomed
-pub mod Early
-pub mod Stepping

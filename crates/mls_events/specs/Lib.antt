@@ -6,4 +6,3 @@ pub mod Codes
 pub mod Sources
 pub mod Listed
 pub mod Parts
-pub mod Outright
