@@ -1,13 +1,13 @@
-use crate::members::member;
+use crate::members::{add, copy_of, leaf_count, remove, single, update};
 use crate::{PublicTree, TreeError};
 use std::alloc::Global;
 use std::test::*;
 
 /// A tree of so many members.
-fn members(alloc: Global, count: u8) -> Result<PublicTree, TreeError> {
-    let mut tree = PublicTree::single(alloc, member(alloc, 0)?)?;
+fn members(alloc: Global, count: u8) -> Result<Box<PublicTree>, TreeError> {
+    let mut tree = single(alloc, 0)?;
     for key in 1..count {
-        tree.add(member(alloc, key)?)?;
+        add(alloc, &mut tree, key)?;
     }
     Ok(tree)
 }
@@ -24,10 +24,10 @@ fn updates_cost_their_ways(rt: HostRuntime) -> Result<(), Fail> {
     let alloc = rt.alloc();
     let mut tree = members(alloc, 8)?;
     assert_eq!(rt; made(&mut tree), 15);
-    tree.update(3, member(alloc, 13)?)?;
+    update(alloc, &mut tree, 3, 13)?;
     assert_eq!(rt; made(&mut tree), 4);
-    tree.update(0, member(alloc, 10)?)?;
-    tree.update(7, member(alloc, 17)?)?;
+    update(alloc, &mut tree, 0, 10)?;
+    update(alloc, &mut tree, 7, 17)?;
     assert_eq!(rt; made(&mut tree), 7);
     assert_eq!(rt; made(&mut tree), 0);
     Ok(())
@@ -38,11 +38,11 @@ fn a_doubling_costs_its_nodes(rt: HostRuntime) -> Result<(), Fail> {
     let alloc = rt.alloc();
     let mut tree = members(alloc, 4)?;
     assert_eq!(rt; made(&mut tree), 7);
-    assert_eq!(rt; tree.add(member(alloc, 4)?)?, 4);
-    assert_eq!(rt; tree.leaf_count(), 8);
+    assert_eq!(rt; add(alloc, &mut tree, 4)?, 4);
+    assert_eq!(rt; leaf_count(&tree), 8);
     assert_eq!(rt; made(&mut tree), 8);
-    tree.remove(4)?;
-    assert_eq!(rt; tree.leaf_count(), 4);
+    remove(&mut tree, 4)?;
+    assert_eq!(rt; leaf_count(&tree), 4);
     assert_eq!(rt; made(&mut tree), 0);
     Ok(())
 }
@@ -52,9 +52,9 @@ fn copies_keep_their_hashes(rt: HostRuntime) -> Result<(), Fail> {
     let alloc = rt.alloc();
     let mut tree = members(alloc, 8)?;
     let hash = tree.tree_hash();
-    let mut copy = tree.clone()?;
+    let mut copy = copy_of(alloc, &tree)?;
     assert_eq!(rt; made(&mut copy), 0);
-    copy.update(1, member(alloc, 11)?)?;
+    update(alloc, &mut copy, 1, 11)?;
     assert!(rt; copy.tree_hash() != hash);
     assert_eq!(rt; tree.tree_hash(), hash);
     assert_eq!(rt; made(&mut tree), 0);

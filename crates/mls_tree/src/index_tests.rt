@@ -1,6 +1,9 @@
 //! Tests: repeated keys, as members and paths come and go.
 
-use crate::members::{byte, leaf, member};
+use crate::members::{
+    add, boxed, byte, copy_of, leaf, leaf_count, member, merge_path, path_hash, remove, single,
+    update,
+};
 use crate::{PublicTree, TreeError};
 use mls_leaf::{Bytes, Items, LeafSource, Node, ParentNode};
 use mls_slot::Slot;
@@ -8,10 +11,10 @@ use std::alloc::{AllocError, Global};
 use std::test::*;
 
 /// The members with these keys.
-fn members(alloc: Global, first: u8, others: &[u8]) -> Result<PublicTree, TreeError> {
-    let mut tree = PublicTree::single(alloc, member(alloc, first)?)?;
+fn members(alloc: Global, first: u8, others: &[u8]) -> Result<Box<PublicTree>, TreeError> {
+    let mut tree = single(alloc, first)?;
     for key in others {
-        tree.add(member(alloc, *key)?)?;
+        add(alloc, &mut tree, *key)?;
     }
     Ok(tree)
 }
@@ -24,10 +27,10 @@ fn one_key(alloc: Global, key: u8) -> Result<Vec<Bytes>, AllocError> {
 
 /// Merges member i's path of one key, whose leaf has the key `own`.
 fn merge(alloc: Global, tree: &mut PublicTree, i: u32, own: u8, key: u8) -> Result<(), TreeError> {
-    let hash = tree.path_parent_hash(i, &one_key(alloc, key)?)?;
+    let hash = path_hash(tree, i, &one_key(alloc, key)?)?;
     let parent_hash = Bytes::from_vec(hash);
     let new = leaf(alloc, own, LeafSource::Commit { parent_hash })?;
-    tree.merge_path(i, new, one_key(alloc, key)?)
+    merge_path(tree, i, new, one_key(alloc, key)?)
 }
 
 /// Whether no encryption key stands twice, and whether no signature key does.
@@ -40,11 +43,11 @@ fn keys_leave_with_their_members(rt: HostRuntime) -> Result<(), Fail> {
     let alloc = rt.alloc();
     let mut tree = members(alloc, 1, &[2, 1])?;
     assert_eq!(rt; distinct(&tree)?, (false, false));
-    tree.remove(2)?;
+    remove(&mut tree, 2)?;
     assert_eq!(rt; distinct(&tree)?, (true, true));
-    tree.update(1, member(alloc, 1)?)?;
+    update(alloc, &mut tree, 1, 1)?;
     assert_eq!(rt; distinct(&tree)?, (false, false));
-    tree.update(0, member(alloc, 2)?)?;
+    update(alloc, &mut tree, 0, 2)?;
     assert_eq!(rt; distinct(&tree)?, (true, true));
     Ok(())
 }
@@ -72,7 +75,7 @@ fn a_refused_path_leaves_the_keys(rt: HostRuntime) -> Result<(), Fail> {
         )
     );
     assert_eq!(rt; distinct(&tree)?, (true, true));
-    assert_eq!(rt; tree.add(member(alloc, 1)?)?, 2);
+    assert_eq!(rt; add(alloc, &mut tree, 1)?, 2);
     assert_eq!(rt; distinct(&tree)?, (false, false));
     Ok(())
 }
@@ -85,7 +88,7 @@ fn a_path_may_take_the_keys_that_it_replaces(rt: HostRuntime) -> Result<(), Fail
     assert_eq!(rt; distinct(&tree)?, (true, true));
     merge(alloc, &mut tree, 0, 1, 3)?;
     assert_eq!(rt; distinct(&tree)?, (true, true));
-    tree.update(1, member(alloc, 3)?)?;
+    update(alloc, &mut tree, 1, 3)?;
     assert_eq!(rt; distinct(&tree)?, (true, true));
     Ok(())
 }
@@ -95,9 +98,9 @@ fn a_path_enters_its_keys(rt: HostRuntime) -> Result<(), Fail> {
     let alloc = rt.alloc();
     let mut tree = members(alloc, 1, &[2])?;
     merge(alloc, &mut tree, 0, 3, 4)?;
-    tree.add(member(alloc, 4)?)?;
+    add(alloc, &mut tree, 4)?;
     assert_eq!(rt; distinct(&tree)?, (false, true));
-    tree.update(2, member(alloc, 3)?)?;
+    update(alloc, &mut tree, 2, 3)?;
     assert_eq!(rt; distinct(&tree)?, (false, false));
     Ok(())
 }
@@ -126,12 +129,12 @@ fn odd_nodes(alloc: Global) -> Result<Vec<Slot>, AllocError> {
 #[test]
 fn keys_leave_with_the_half_that_is_cut(rt: HostRuntime) -> Result<(), Fail> {
     let alloc = rt.alloc();
-    let mut tree = PublicTree::from_nodes(odd_nodes(alloc)?)?;
-    assert_eq!(rt; tree.leaf_count(), 8);
-    tree.update(0, member(alloc, 9)?)?;
+    let mut tree = boxed(alloc, PublicTree::from_nodes(odd_nodes(alloc)?)?)?;
+    assert_eq!(rt; leaf_count(&tree), 8);
+    update(alloc, &mut tree, 0, 9)?;
     assert_eq!(rt; distinct(&tree)?, (false, true));
-    tree.remove(4)?;
-    assert_eq!(rt; tree.leaf_count(), 4);
+    remove(&mut tree, 4)?;
+    assert_eq!(rt; leaf_count(&tree), 4);
     assert_eq!(rt; distinct(&tree)?, (true, true));
     Ok(())
 }
@@ -140,8 +143,8 @@ fn keys_leave_with_the_half_that_is_cut(rt: HostRuntime) -> Result<(), Fail> {
 fn copies_keep_their_keys(rt: HostRuntime) -> Result<(), Fail> {
     let alloc = rt.alloc();
     let tree = members(alloc, 1, &[2, 3])?;
-    let mut copy = tree.clone()?;
-    copy.update(2, member(alloc, 1)?)?;
+    let mut copy = copy_of(alloc, &tree)?;
+    update(alloc, &mut copy, 2, 1)?;
     assert_eq!(rt; distinct(&copy)?, (false, false));
     assert_eq!(rt; distinct(&tree)?, (true, true));
     Ok(())

@@ -1,4 +1,6 @@
-use crate::members::{byte, leaf, member};
+use crate::members::{
+    add, byte, filtered_path, leaf, leaf_count, merge_path, path_hash, remove, resolution, single,
+};
 use crate::{Hash, PublicTree, TreeError};
 use mls_array as array;
 use mls_leaf::{
@@ -9,9 +11,9 @@ use std::alloc::{AllocError, Global};
 use std::test::*;
 
 /// Two members, with the keys 1 and 2.
-fn two(alloc: Global) -> Result<PublicTree, TreeError> {
-    let mut tree = PublicTree::single(alloc, member(alloc, 1)?)?;
-    tree.add(member(alloc, 2)?)?;
+fn two(alloc: Global) -> Result<Box<PublicTree>, TreeError> {
+    let mut tree = single(alloc, 1)?;
+    add(alloc, &mut tree, 2)?;
     Ok(tree)
 }
 
@@ -24,7 +26,7 @@ fn one_key(alloc: Global, key: u8) -> Result<Vec<Bytes>, AllocError> {
 /// The leaf of member 0 with the key 3, and the parent hash of a path with the key 4.
 fn committed(alloc: Global, tree: &mut PublicTree) -> Result<LeafNode, TreeError> {
     let keys = one_key(alloc, 4)?;
-    let hash = tree.path_parent_hash(0, &keys)?;
+    let hash = path_hash(tree, 0, &keys)?;
     let parent_hash = Bytes::from_vec(hash);
     Ok(leaf(alloc, 3, LeafSource::Commit { parent_hash })?)
 }
@@ -34,9 +36,9 @@ fn a_path_is_merged(rt: HostRuntime) -> Result<(), Fail> {
     let alloc = rt.alloc();
     let mut tree = two(alloc)?;
     let new = committed(alloc, &mut tree)?;
-    tree.merge_path(0, new, one_key(alloc, 4)?)?;
-    assert_eq!(rt; tree.resolution(1)?.as_slice(), [1].as_slice());
-    assert_eq!(rt; tree.filtered_path(1)?.as_slice(), [1].as_slice());
+    merge_path(&mut tree, 0, new, one_key(alloc, 4)?)?;
+    assert_eq!(rt; resolution(&tree, 1)?.as_slice(), [1].as_slice());
+    assert_eq!(rt; filtered_path(&tree, 1)?.as_slice(), [1].as_slice());
     Ok(())
 }
 
@@ -47,42 +49,42 @@ fn paths_that_are_refused(rt: HostRuntime) -> Result<(), Fail> {
     let new = committed(alloc, &mut tree)?;
     assert!(rt;
         matches!(
-            tree.merge_path(2, new, one_key(alloc, 4)?),
+            merge_path(&mut tree, 2, new, one_key(alloc, 4)?),
             Err(TreeError::NoSuchLeaf)
         )
     );
     let new = committed(alloc, &mut tree)?;
     assert!(rt;
         matches!(
-            tree.merge_path(0, new, Vec::new(alloc)),
+            merge_path(&mut tree, 0, new, Vec::new(alloc)),
             Err(TreeError::PathLength)
         )
     );
     let new = committed(alloc, &mut tree)?;
     assert!(rt;
         matches!(
-            tree.merge_path(0, new, one_key(alloc, 2)?),
+            merge_path(&mut tree, 0, new, one_key(alloc, 2)?),
             Err(TreeError::KeyRepeated)
         )
     );
     let new = committed(alloc, &mut tree)?;
     assert!(rt;
         matches!(
-            tree.merge_path(0, new, one_key(alloc, 5)?),
+            merge_path(&mut tree, 0, new, one_key(alloc, 5)?),
             Err(TreeError::ParentHashWrong)
         )
     );
-    assert_eq!(rt; tree.resolution(1)?.as_slice(), [0, 2].as_slice());
+    assert_eq!(rt; resolution(&tree, 1)?.as_slice(), [0, 2].as_slice());
     Ok(())
 }
 
 /// The members that are numbered so, each with its number plus one as its key, in a tree of four leaves.
-fn four_without(alloc: Global, blank: &[u32]) -> Result<PublicTree, TreeError> {
+fn four_without(alloc: Global, blank: &[u32]) -> Result<Box<PublicTree>, TreeError> {
     let mut tree = two(alloc)?;
-    tree.add(member(alloc, 3)?)?;
-    tree.add(member(alloc, 4)?)?;
+    add(alloc, &mut tree, 3)?;
+    add(alloc, &mut tree, 4)?;
     for i in blank {
-        tree.remove(*i)?;
+        remove(&mut tree, *i)?;
     }
     Ok(tree)
 }
@@ -96,11 +98,11 @@ fn long_key(alloc: Global) -> Result<Vec<Bytes>, AllocError> {
 
 /// Merges member i's path of one new key, and answers the length of the parent hash that its leaf has.
 fn merged(alloc: Global, tree: &mut PublicTree, i: u32) -> Result<usize, TreeError> {
-    let hash = tree.path_parent_hash(i, &long_key(alloc)?)?;
+    let hash = path_hash(tree, i, &long_key(alloc)?)?;
     let length = hash.len();
     let parent_hash = Bytes::from_vec(hash);
     let new = leaf(alloc, 8, LeafSource::Commit { parent_hash })?;
-    tree.merge_path(i, new, long_key(alloc)?)?;
+    merge_path(tree, i, new, long_key(alloc)?)?;
     Ok(length)
 }
 
@@ -119,13 +121,13 @@ fn has_good_hashes(alloc: Global, tree: &mut PublicTree) -> Result<bool, AllocEr
 fn the_next_add_is_listed(rt: HostRuntime) -> Result<(), Fail> {
     let alloc = rt.alloc();
     let mut tree = four_without(alloc, &[1])?;
-    assert_eq!(rt; tree.filtered_path(0)?.as_slice(), [3].as_slice());
+    assert_eq!(rt; filtered_path(&tree, 0)?.as_slice(), [3].as_slice());
     assert_eq!(rt; merged(alloc, &mut tree, 0)?, 32);
     assert!(rt; tree.node(1).is_none());
-    assert_eq!(rt; tree.resolution(3)?.as_slice(), [3].as_slice());
-    assert_eq!(rt; tree.add(member(alloc, 7)?)?, 1);
-    assert_eq!(rt; tree.resolution(3)?.as_slice(), [3, 2].as_slice());
-    assert_eq!(rt; tree.resolution(1)?.as_slice(), [0, 2].as_slice());
+    assert_eq!(rt; resolution(&tree, 3)?.as_slice(), [3].as_slice());
+    assert_eq!(rt; add(alloc, &mut tree, 7)?, 1);
+    assert_eq!(rt; resolution(&tree, 3)?.as_slice(), [3, 2].as_slice());
+    assert_eq!(rt; resolution(&tree, 1)?.as_slice(), [0, 2].as_slice());
     assert!(rt; tree.node(5).is_none());
     assert!(rt; array::has_good_lists(&tree.nodes, tree.height));
     assert!(rt; has_good_hashes(alloc, &mut tree)?);
@@ -136,8 +138,8 @@ fn the_next_add_is_listed(rt: HostRuntime) -> Result<(), Fail> {
 fn the_highest_filtered_node_is_below_the_root(rt: HostRuntime) -> Result<(), Fail> {
     let alloc = rt.alloc();
     let mut tree = four_without(alloc, &[0, 1])?;
-    assert_eq!(rt; tree.leaf_count(), 4);
-    assert_eq!(rt; tree.filtered_path(2)?.as_slice(), [5].as_slice());
+    assert_eq!(rt; leaf_count(&tree), 4);
+    assert_eq!(rt; filtered_path(&tree, 2)?.as_slice(), [5].as_slice());
     assert_eq!(rt; merged(alloc, &mut tree, 2)?, 32);
     assert!(rt; tree.node(1).is_none());
     assert!(rt; tree.node(3).is_none());
@@ -193,10 +195,10 @@ fn the_highest_parent_hash_is_of_an_empty_one(rt: HostRuntime) -> Result<(), Fai
 
 /// The number that a path of the one member is refused with, whose leaf has this parent hash, or 0.
 fn alone(alloc: Global, parent_hash: &[u8], keys: Vec<Bytes>) -> Result<u8, TreeError> {
-    let mut tree = PublicTree::single(alloc, member(alloc, 1)?)?;
+    let mut tree = single(alloc, 1)?;
     let parent_hash = Bytes::from_vec(parent_hash.to_vec(alloc)?);
     let new = leaf(alloc, 2, LeafSource::Commit { parent_hash })?;
-    match tree.merge_path(0, new, keys) {
+    match merge_path(&mut tree, 0, new, keys) {
         Ok(()) => Ok(0),
         Err(TreeError::OutOfMemory) => Err(TreeError::OutOfMemory),
         Err(error) => Ok(error.number()),

@@ -1,4 +1,6 @@
-use crate::members::{byte, member};
+use crate::members::{
+    add, boxed, byte, filtered_path, leaf_count, member, remove, resolution, single,
+};
 use crate::{PublicTree, TreeError};
 use mls_leaf::{Items, Node, ParentNode};
 use mls_slot::Slot;
@@ -21,8 +23,8 @@ fn nodes_of(alloc: Global, taken: &[bool]) -> Result<Vec<Slot>, AllocError> {
     Ok(nodes)
 }
 
-fn tree_of(alloc: Global, taken: &[bool]) -> Result<PublicTree, TreeError> {
-    PublicTree::from_nodes(nodes_of(alloc, taken)?)
+fn tree_of(alloc: Global, taken: &[bool]) -> Result<Box<PublicTree>, TreeError> {
+    Ok(boxed(alloc, PublicTree::from_nodes(nodes_of(alloc, taken)?)?)?)
 }
 
 /// A parent that lists one leaf.
@@ -44,8 +46,8 @@ fn unmerged_leaves_are_in_the_resolution(rt: HostRuntime) -> Result<(), Fail> {
         *root = listing(alloc, 3)?;
     }
     let tree = PublicTree::from_nodes(nodes)?;
-    assert_eq!(rt; tree.resolution(3)?.as_slice(), [0, 5, 6].as_slice());
-    assert_eq!(rt; tree.resolution(7)?.len(), 0);
+    assert_eq!(rt; resolution(&tree, 3)?.as_slice(), [0, 5, 6].as_slice());
+    assert_eq!(rt; resolution(&tree, 7)?.len(), 0);
     Ok(())
 }
 
@@ -53,19 +55,19 @@ fn unmerged_leaves_are_in_the_resolution(rt: HostRuntime) -> Result<(), Fail> {
 fn adds_go_to_the_leftmost_blank_leaf(rt: HostRuntime) -> Result<(), Fail> {
     let alloc = rt.alloc();
     let mut tree = tree_of(alloc, &[true, false, true, true])?;
-    assert_eq!(rt; tree.filtered_path(0)?.as_slice(), [3].as_slice());
-    assert!(rt; matches!(tree.filtered_path(1), Err(TreeError::NoSuchLeaf)));
-    assert_eq!(rt; tree.add(member(alloc, 2)?)?, 1);
-    assert_eq!(rt; tree.add(member(alloc, 3)?)?, 4);
-    assert_eq!(rt; (tree.leaf_count(), tree.member_count()), (8, 5));
+    assert_eq!(rt; filtered_path(&tree, 0)?.as_slice(), [3].as_slice());
+    assert!(rt; matches!(filtered_path(&tree, 1), Err(TreeError::NoSuchLeaf)));
+    assert_eq!(rt; add(alloc, &mut tree, 2)?, 1);
+    assert_eq!(rt; add(alloc, &mut tree, 3)?, 4);
+    assert_eq!(rt; (leaf_count(&tree), tree.member_count()), (8, 5));
     Ok(())
 }
 
 /// How many leaves are left after a removal.
 fn leaves_without(alloc: Global, taken: &[bool], i: u32) -> Result<u32, TreeError> {
     let mut tree = tree_of(alloc, taken)?;
-    tree.remove(i)?;
-    Ok(tree.leaf_count())
+    remove(&mut tree, i)?;
+    Ok(leaf_count(&tree))
 }
 
 #[test]
@@ -95,13 +97,13 @@ fn shapes_that_no_tree_has(rt: HostRuntime) -> Result<(), Fail> {
 #[test]
 fn a_full_tree(rt: HostRuntime) -> Result<(), Fail> {
     let alloc = rt.alloc();
-    let mut tree = PublicTree::single(alloc, member(alloc, 0)?)?;
+    let mut tree = single(alloc, 0)?;
     for _ in 1..4096 {
-        tree.add(member(alloc, 0)?)?;
+        add(alloc, &mut tree, 0)?;
     }
-    assert_eq!(rt; (tree.leaf_count(), tree.member_count()), (4096, 4096));
-    assert!(rt; matches!(tree.add(member(alloc, 0)?), Err(TreeError::TreeFull)));
-    assert_eq!(rt; (tree.leaf_count(), tree.member_count()), (4096, 4096));
+    assert_eq!(rt; (leaf_count(&tree), tree.member_count()), (4096, 4096));
+    assert!(rt; matches!(add(alloc, &mut tree, 0), Err(TreeError::TreeFull)));
+    assert_eq!(rt; (leaf_count(&tree), tree.member_count()), (4096, 4096));
     assert_eq!(rt; tree.to_nodes()?.len(), 8191);
     Ok(())
 }
@@ -129,11 +131,11 @@ fn ciphertexts_of_each_node(rt: HostRuntime) -> Result<(), Fail> {
 #[test]
 fn repeated_keys_and_clients(rt: HostRuntime) -> Result<(), Fail> {
     let alloc = rt.alloc();
-    let mut tree = PublicTree::single(alloc, member(alloc, 1)?)?;
+    let mut tree = single(alloc, 1)?;
     assert!(rt; tree.has_distinct_keys()? && tree.has_distinct_clients()?);
-    tree.add(member(alloc, 2)?)?;
+    add(alloc, &mut tree, 2)?;
     assert!(rt; tree.has_distinct_keys()? && tree.has_distinct_clients()?);
-    tree.add(member(alloc, 1)?)?;
+    add(alloc, &mut tree, 1)?;
     assert!(rt; !tree.has_distinct_keys()? && !tree.has_distinct_clients()?);
     Ok(())
 }

@@ -1,14 +1,14 @@
 //! A commit's path in the order of its calls: the edits are followed, the path is made, sealed and merged, and then it is
 //! opened by members and taken by a joiner.
 
-use crate::small_trees::{key_nodes, leaf, member};
-use crate::{
-    PathSecrets, PrivatePath, init_seed, leaf_seed, path_seed, seal_path, seals_in, sign_seed,
+use crate::small_trees::{
+    filtered_path, follow_edit, four, key_nodes, leaf, make_path, merge_path, next, open_path,
+    path_hash, public, sealed_path, take_secret, with_key,
 };
+use crate::{PathSecrets, PrivatePath, init_seed, leaf_seed, path_seed, seals_in, sign_seed};
 use mls_group::UpdatePathNode;
-use mls_kdf::{Secret, derive_secret};
-use mls_leaf::{Bytes, LeafSource};
-use mls_suite::{Glass, Suite};
+use mls_kdf::Secret;
+use mls_leaf::{Bytes, LeafNode, LeafSource};
 use mls_tree::PublicTree;
 use std::alloc::Global;
 use std::test::Fail;
@@ -24,7 +24,7 @@ struct Commit {
 }
 
 /// The public keys of a path.
-fn keys_of(alloc: Global, secrets: &PathSecrets) -> Result<Vec<Bytes>, Fail> {
+fn public_keys(alloc: Global, secrets: &PathSecrets) -> Result<Vec<Bytes>, Fail> {
     let mut keys = Vec::new(alloc);
     for pair in secrets.pairs.iter() {
         keys.push(Bytes::from_vec(Vec::from_slice(alloc, &pair.pk)?))?;
@@ -32,27 +32,37 @@ fn keys_of(alloc: Global, secrets: &PathSecrets) -> Result<Vec<Bytes>, Fail> {
     Ok(keys)
 }
 
-/// The tree after the edits.
-fn edited(alloc: Global) -> Result<PublicTree, Fail> {
-    let mut tree = PublicTree::single(alloc, member(alloc, 0)?)?;
-    for byte in 1..4 {
-        let _ = tree.add(member(alloc, byte)?)?;
-    }
-    Ok(tree)
+/// The committer's path in the tree after the edits.
+fn made_path(alloc: Global, tree: &PublicTree) -> Result<PathSecrets, Fail> {
+    let mut own = with_key(alloc, 1, 1);
+    follow_edit(&mut own, tree, Some(&leaf_seed(&SEED)))?;
+    let filtered = filtered_path(tree)?;
+    Ok(make_path(&mut own, &path_seed(&SEED), &filtered)?)
+}
+
+/// The committer's new leaf, with the parent hash of its path.
+fn new_leaf(alloc: Global, hash: Vec<u8>) -> Result<LeafNode, Fail> {
+    let mut new = leaf(alloc, public(alloc, &leaf_seed(&SEED))?);
+    new.source = LeafSource::Commit {
+        parent_hash: Bytes::from_vec(hash),
+    };
+    Ok(new)
+}
+
+/// Merges the committer's path.
+fn merge(alloc: Global, tree: &mut PublicTree, secrets: &PathSecrets) -> Result<(), Fail> {
+    let keys = public_keys(alloc, secrets)?;
+    let hash = path_hash(tree, &keys)?;
+    merge_path(tree, new_leaf(alloc, hash)?, keys)?;
+    Ok(())
 }
 
 /// The commit, with its path merged.
 fn make_commit(alloc: Global) -> Result<Commit, Fail> {
-    let mut tree = edited(alloc)?;
-    let mut own = PrivatePath::new(alloc, 1, [1; 32]);
-    own.follow_edit(&tree, Some(&leaf_seed(&SEED)))?;
-    let secrets = own.make_path::<Glass>(&path_seed(&SEED), &tree.filtered_path(1)?)?;
-    let nodes = seal_path::<Glass>(alloc, &tree, 1, &[3], &secrets, b"context", &SEED)?;
-    let keys = keys_of(alloc, &secrets)?;
-    let parent_hash = Bytes::from_vec(tree.path_parent_hash(1, &keys)?);
-    let mut new = leaf(alloc, Glass::public(alloc, &leaf_seed(&SEED))?);
-    new.source = LeafSource::Commit { parent_hash };
-    tree.merge_path(1, new, keys)?;
+    let mut tree = four(alloc)?;
+    let secrets = made_path(alloc, &tree)?;
+    let nodes = sealed_path(alloc, &tree, &[3], &secrets, &SEED)?;
+    merge(alloc, &mut tree, &secrets)?;
     Ok(Commit {
         tree,
         secrets,
@@ -60,12 +70,18 @@ fn make_commit(alloc: Global) -> Result<Commit, Fail> {
     })
 }
 
+/// Member i, who has followed the edits.
+fn follower(alloc: Global, i: u8) -> Result<PrivatePath, Fail> {
+    let mut own = with_key(alloc, u32::from(i), i);
+    follow_edit(&mut own, &four(alloc)?, None)?;
+    Ok(own)
+}
+
 /// The nodes of leaf i's keys, who follows the edits and opens the path on the merged tree.
 fn received(alloc: Global, i: u8) -> Result<Vec<u64>, Fail> {
     let commit = make_commit(alloc)?;
-    let mut own = PrivatePath::new(alloc, u32::from(i), [i; 32]);
-    own.follow_edit(&edited(alloc)?, None)?;
-    let opened = own.open_path::<Glass>(&commit.tree, 1, &[3], &commit.nodes, b"context")?;
+    let mut own = follower(alloc, i)?;
+    let opened = open_path(&mut own, &commit.tree, &[3], &commit.nodes)?;
     if opened != commit.secrets.commit_secret {
         return Err("another commit secret".into());
     }
@@ -94,7 +110,7 @@ fn sent_to_joiners(rt: HostRuntime) -> Result<(), Fail> {
     let alloc = rt.alloc();
     let commit = make_commit(alloc)?;
     let first = path_seed(&SEED);
-    let second = derive_secret(&first, "path");
+    let second = next(&first);
     for (i, secret) in [
         (0, first),
         (1, [0; 32]),
@@ -104,8 +120,8 @@ fn sent_to_joiners(rt: HostRuntime) -> Result<(), Fail> {
     ] {
         assert_eq!(rt; sent(alloc, &commit, i)?, secret, "leaf {i}");
     }
-    let mut joiner = PrivatePath::new(alloc, 3, [3; 32]);
-    let taken = joiner.take_secret::<Glass>(&commit.tree, 1, &second)?;
+    let mut joiner = with_key(alloc, 3, 3);
+    let taken = take_secret(&mut joiner, &commit.tree, 1, &second)?;
     assert_eq!(rt; taken, commit.secrets.commit_secret);
     assert_eq!(rt; key_nodes(alloc, &joiner)?.as_slice(), [3, 6].as_slice());
     Ok(())

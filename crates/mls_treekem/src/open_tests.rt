@@ -1,29 +1,28 @@
 //! Leaf 1's path in a tree of four members, as the others open it.
 
-use crate::small_trees::{four, key_nodes};
-use crate::{PathSecrets, PrivatePath, TreeKemError};
+use crate::TreeKemError;
+use crate::small_trees::{
+    four, key_nodes, next, node_pair, open_path, path_secrets, public, with_key,
+};
 use mls_group::{HpkeCiphertext, UpdatePathNode};
-use mls_kdf::{Secret, derive_secret};
+use mls_kdf::Secret;
 use mls_leaf::{Bytes, Items};
-use mls_suite::{Glass, Suite, encrypt_with_label};
-use std::alloc::Global;
+use mls_suite::{Glass, Sealed, encrypt_with_label};
+use std::alloc::{AllocError, Global};
 use std::test::Fail;
 
 /// The first path secret.
 const START: Secret = [7; 32];
 
+/// A text sealed to a public key.
+fn encrypted(alloc: Global, pk: &[u8], text: &[u8]) -> Result<Option<Sealed>, AllocError> {
+    encrypt_with_label::<Glass>(alloc, pk, "UpdatePathNode", b"context", text, &[9; 32])
+}
+
 /// A text sealed to the key of a private key of 32 such bytes.
 fn sealed(alloc: Global, key: u8, text: &[u8]) -> Result<HpkeCiphertext, Fail> {
-    let pk = Glass::public(alloc, &[key; 32])?;
-    let made = encrypt_with_label::<Glass>(
-        alloc,
-        &pk,
-        "UpdatePathNode",
-        b"context",
-        text,
-        &[9; 32],
-    )?;
-    match made {
+    let pk = public(alloc, &[key; 32])?;
+    match encrypted(alloc, &pk, text)? {
         Some(sealed) => Ok(HpkeCiphertext {
             kem_output: Bytes::from_vec(sealed.kem),
             ciphertext: Bytes::from_vec(sealed.ct),
@@ -32,16 +31,21 @@ fn sealed(alloc: Global, key: u8, text: &[u8]) -> Result<HpkeCiphertext, Fail> {
     }
 }
 
-/// The node of a path secret, with a text that is sealed to some keys.
-fn node(alloc: Global, secret: &Secret, keys: &[u8], text: &[u8]) -> Result<UpdatePathNode, Fail> {
-    let pair = Glass::derive_key_pair(alloc, &derive_secret(secret, "node"))?;
+/// A text sealed to each of some keys.
+fn sealed_to(alloc: Global, keys: &[u8], text: &[u8]) -> Result<Items<HpkeCiphertext>, Fail> {
     let mut ciphertexts = Vec::new(alloc);
     for key in keys {
         ciphertexts.push(sealed(alloc, *key, text)?)?;
     }
+    Ok(Items::from_vec(ciphertexts))
+}
+
+/// The node of a path secret, with a text that is sealed to some keys.
+fn node(alloc: Global, secret: &Secret, keys: &[u8], text: &[u8]) -> Result<UpdatePathNode, Fail> {
+    let pair = node_pair(alloc, secret)?;
     Ok(UpdatePathNode {
         encryption_key: Bytes::from_vec(pair.pk),
-        ciphertexts: Items::from_vec(ciphertexts),
+        ciphertexts: sealed_to(alloc, keys, text)?,
     })
 }
 
@@ -60,16 +64,16 @@ fn path(
 
 /// The path secret of the root.
 fn second() -> Secret {
-    derive_secret(&START, "path")
+    next(&START)
 }
 
 /// The nodes of leaf i's keys after it opened leaf 1's path in a commit that added these leaves.
 fn nodes_after(alloc: Global, i: u8, added: &[u32], keys: &[u8]) -> Result<Vec<u64>, Fail> {
     let tree = four(alloc)?;
-    let mut own = PrivatePath::new(alloc, u32::from(i), [i; 32]);
+    let mut own = with_key(alloc, u32::from(i), i);
     let nodes = path(alloc, &second(), keys, &second())?;
-    let commit_secret = own.open_path::<Glass>(&tree, 1, added, &nodes, b"context")?;
-    let made = PathSecrets::new::<Glass>(alloc, &START, 2)?;
+    let commit_secret = open_path(&mut own, &tree, added, &nodes)?;
+    let made = path_secrets(alloc, &START, 2)?;
     if commit_secret != made.commit_secret {
         return Err("another commit secret".into());
     }
@@ -98,9 +102,9 @@ fn added_leaves_have_no_ciphertext(rt: HostRuntime) -> Result<(), Fail> {
 /// The number that leaf i refuses a path with, whose keys are then as before, or 0.
 fn refused(alloc: Global, i: u8, nodes: &[UpdatePathNode]) -> Result<u8, Fail> {
     let tree = four(alloc)?;
-    let mut own = PrivatePath::new(alloc, u32::from(i), [i; 32]);
+    let mut own = with_key(alloc, u32::from(i), i);
     let before = key_nodes(alloc, &own)?;
-    match own.open_path::<Glass>(&tree, 1, &[], nodes, b"context") {
+    match open_path(&mut own, &tree, &[], nodes) {
         Ok(_) => Ok(0),
         Err(TreeKemError::OutOfMemory) => Err(TreeKemError::OutOfMemory.into()),
         Err(error) => {
@@ -139,9 +143,8 @@ fn another_chain_above(rt: HostRuntime) -> Result<(), Fail> {
     Ok(())
 }
 
-#[test]
-fn a_changed_ciphertext(rt: HostRuntime) -> Result<(), Fail> {
-    let alloc = rt.alloc();
+/// The root's path secret sealed to leaf 2, with one bit changed.
+fn changed(alloc: Global) -> Result<HpkeCiphertext, Fail> {
     let HpkeCiphertext {
         kem_output,
         ciphertext,
@@ -150,11 +153,17 @@ fn a_changed_ciphertext(rt: HostRuntime) -> Result<(), Fail> {
     if let Some(byte) = changed.first_mut() {
         *byte ^= 1;
     }
-    let mut ciphertexts = Vec::new(alloc);
-    ciphertexts.push(HpkeCiphertext {
+    Ok(HpkeCiphertext {
         kem_output,
         ciphertext: Bytes::from_vec(changed),
-    })?;
+    })
+}
+
+#[test]
+fn a_changed_ciphertext(rt: HostRuntime) -> Result<(), Fail> {
+    let alloc = rt.alloc();
+    let mut ciphertexts = Vec::new(alloc);
+    ciphertexts.push(changed(alloc)?)?;
     let mut nodes = path(alloc, &second(), &[], &second())?;
     if let Some(node) = nodes.last_mut() {
         node.ciphertexts = Items::from_vec(ciphertexts);

@@ -1,9 +1,11 @@
 //! Paths that are sealed in small trees.
 
-use crate::small_trees::{four, leaf};
-use crate::{PathSecrets, PrivatePath, TreeKemError, seal_path, seal_seed, seals_in};
-use mls_group::UpdatePathNode;
-use mls_kdf::{Secret, derive_secret};
+use crate::small_trees::{
+    filtered_path, four, leaf, next, open_path, path_secrets, sealed_path, update, with_key,
+};
+use crate::{TreeKemError, seal_seed, seals_in};
+use mls_group::{HpkeCiphertext, UpdatePathNode};
+use mls_kdf::Secret;
 use mls_suite::{Glass, decrypt_with_label};
 use mls_tree::PublicTree;
 use std::alloc::{AllocError, Global};
@@ -27,8 +29,14 @@ fn sealed(
     tree: &PublicTree,
     added: &[u32],
 ) -> Result<Vec<UpdatePathNode>, TreeKemError> {
-    let path = PathSecrets::new::<Glass>(alloc, &[7; 32], 2)?;
-    seal_path::<Glass>(alloc, tree, 1, added, &path, b"context", &[9; 32])
+    let path = path_secrets(alloc, &[7; 32], 2)?;
+    sealed_path(alloc, tree, added, &path, &[9; 32])
+}
+
+/// That path in a tree of four.
+fn sealed_in_four(alloc: Global, added: &[u32]) -> Result<Vec<UpdatePathNode>, Fail> {
+    let tree = four(alloc)?;
+    Ok(sealed(alloc, &tree, added)?)
 }
 
 fn count_at(nodes: &[UpdatePathNode], i: usize) -> usize {
@@ -36,6 +44,17 @@ fn count_at(nodes: &[UpdatePathNode], i: usize) -> usize {
         Some(node) => node.ciphertexts.as_slice().len(),
         None => 99,
     }
+}
+
+/// What a ciphertext opens to by a private key.
+fn decrypted(
+    alloc: Global,
+    sk: &Secret,
+    sealed: &HpkeCiphertext,
+) -> Result<Option<Vec<u8>>, AllocError> {
+    let kem = sealed.kem_output.as_slice();
+    let ct = sealed.ciphertext.as_slice();
+    decrypt_with_label::<Glass>(alloc, sk, "UpdatePathNode", b"context", kem, ct)
 }
 
 /// Whether a ciphertext of a node opens to this secret by the key of 32 such bytes.
@@ -53,10 +72,7 @@ fn opens(
     let Some(sealed) = node.ciphertexts.as_slice().get(place) else {
         return Ok(false);
     };
-    let kem = sealed.kem_output.as_slice();
-    let ct = sealed.ciphertext.as_slice();
-    let sk = [byte; 32];
-    match decrypt_with_label::<Glass>(alloc, &sk, "UpdatePathNode", b"context", kem, ct)? {
+    match decrypted(alloc, &[byte; 32], sealed)? {
         Some(opened) => Ok(opened.as_slice() == secret.as_slice()),
         None => Ok(false),
     }
@@ -65,44 +81,47 @@ fn opens(
 #[test]
 fn a_path_of_four(rt: HostRuntime) -> Result<(), Fail> {
     let alloc = rt.alloc();
-    let tree = four(alloc)?;
-    assert_eq!(rt; tree.filtered_path(1)?.as_slice(), [1, 3].as_slice());
-    let nodes = sealed(alloc, &tree, &[])?;
+    let filtered = filtered_path(&four(alloc)?)?;
+    assert_eq!(rt; filtered.as_slice(), [1, 3].as_slice());
+    let nodes = sealed_in_four(alloc, &[])?;
     assert_eq!(rt; nodes.len(), 2);
     assert_eq!(rt; count_at(&nodes, 0), 1);
     assert_eq!(rt; count_at(&nodes, 1), 2);
     assert_eq!(rt; seals_in(&nodes), 3);
-    let second = derive_secret(&[7; 32], "path");
+    let second = next(&[7; 32]);
     assert!(rt; opens(alloc, &nodes, 0, 0, 0, &[7; 32])?);
     assert!(rt; opens(alloc, &nodes, 1, 0, 2, &second)?);
     assert!(rt; opens(alloc, &nodes, 1, 1, 3, &second)?);
     Ok(())
 }
 
+/// The commit secret that leaf i takes of the path.
+fn taken(alloc: Global, i: u8) -> Result<Secret, Fail> {
+    let tree = four(alloc)?;
+    let nodes = sealed(alloc, &tree, &[])?;
+    let mut own = with_key(alloc, u32::from(i), i);
+    Ok(open_path(&mut own, &tree, &[], &nodes)?)
+}
+
 #[test]
 fn a_sealed_path_is_opened(rt: HostRuntime) -> Result<(), Fail> {
     let alloc = rt.alloc();
-    let tree = four(alloc)?;
-    let nodes = sealed(alloc, &tree, &[])?;
-    let made = PathSecrets::new::<Glass>(alloc, &[7; 32], 2)?;
-    let mut beside = PrivatePath::new(alloc, 0, [0; 32]);
-    let taken = beside.open_path::<Glass>(&tree, 1, &[], &nodes, b"context")?;
-    assert_eq!(rt; taken, made.commit_secret);
-    let mut across = PrivatePath::new(alloc, 3, [3; 32]);
-    let taken = across.open_path::<Glass>(&tree, 1, &[], &nodes, b"context")?;
-    assert_eq!(rt; taken, made.commit_secret);
+    let commit_secret = path_secrets(alloc, &[7; 32], 2)?.commit_secret;
+    let beside = taken(alloc, 0)?;
+    assert_eq!(rt; beside, commit_secret);
+    let across = taken(alloc, 3)?;
+    assert_eq!(rt; across, commit_secret);
     Ok(())
 }
 
 #[test]
 fn a_leaf_just_added_is_left_out(rt: HostRuntime) -> Result<(), Fail> {
     let alloc = rt.alloc();
-    let tree = four(alloc)?;
-    let nodes = sealed(alloc, &tree, &[2])?;
+    let nodes = sealed_in_four(alloc, &[2])?;
     assert_eq!(rt; count_at(&nodes, 1), 1);
-    let second = derive_secret(&[7; 32], "path");
+    let second = next(&[7; 32]);
     assert!(rt; opens(alloc, &nodes, 1, 0, 3, &second)?);
-    let nodes = sealed(alloc, &tree, &[2, 3])?;
+    let nodes = sealed_in_four(alloc, &[2, 3])?;
     assert_eq!(rt; nodes.len(), 2);
     assert_eq!(rt; count_at(&nodes, 1), 0);
     Ok(())
@@ -112,7 +131,7 @@ fn a_leaf_just_added_is_left_out(rt: HostRuntime) -> Result<(), Fail> {
 fn a_key_that_is_not_fit(rt: HostRuntime) -> Result<(), Fail> {
     let alloc = rt.alloc();
     let mut tree = four(alloc)?;
-    tree.update(3, leaf(alloc, Vec::new(alloc)))?;
+    update(&mut tree, 3, leaf(alloc, Vec::new(alloc)))?;
     assert!(rt; matches!(sealed(alloc, &tree, &[]), Err(TreeKemError::BadKey)));
     assert_eq!(rt; sealed(alloc, &tree, &[3])?.len(), 2);
     Ok(())

@@ -1,23 +1,26 @@
 //! Secrets of paths, and the keys that a member has.
 
-use crate::small_trees::{key_at, key_nodes, member};
+use crate::small_trees::{
+    add, follow_edit, key_nodes, key_of, make_path, next, node_pair, path_secrets, single, with_key,
+};
 use crate::{PathSecrets, PrivatePath, TreeKemError};
-use mls_kdf::{Secret, derive_secret};
-use mls_suite::{Glass, KeyPair, Suite};
+use mls_kdf::Secret;
+use mls_suite::KeyPair;
 use mls_tree::PublicTree;
+use std::alloc::{AllocError, Global};
 use std::test::Fail;
 
 #[test]
 fn secrets_of_paths(rt: HostRuntime) -> Result<(), Fail> {
     let start = [7; 32];
-    let none = PathSecrets::new::<Glass>(rt.alloc(), &start, 0)?;
+    let none = path_secrets(rt.alloc(), &start, 0)?;
     assert_eq!(rt; none.commit_secret, start);
-    let two = PathSecrets::new::<Glass>(rt.alloc(), &start, 2)?;
-    let second = derive_secret(&start, "path");
+    let two = path_secrets(rt.alloc(), &start, 2)?;
+    let second = next(&start);
     assert_eq!(rt; two.secrets.as_slice(), [start, second].as_slice());
-    assert_eq!(rt; two.commit_secret, derive_secret(&second, "path"));
+    assert_eq!(rt; two.commit_secret, next(&second));
     for (secret, pair) in two.secrets.iter().zip(two.pairs.iter()) {
-        let made = Glass::derive_key_pair(rt.alloc(), &derive_secret(secret, "node"))?;
+        let made = node_pair(rt.alloc(), secret)?;
         assert_eq!(rt; pair.sk, made.sk);
         assert_eq!(rt; pair.pk.as_slice(), made.pk.as_slice());
     }
@@ -26,7 +29,7 @@ fn secrets_of_paths(rt: HostRuntime) -> Result<(), Fail> {
 
 #[test]
 fn new_path(rt: HostRuntime) -> Result<(), Fail> {
-    assert_eq!(rt; PrivatePath::new(rt.alloc(), 5, [1; 32]).leaf(), 5);
+    assert_eq!(rt; with_key(rt.alloc(), 5, 1).leaf(), 5);
     Ok(())
 }
 
@@ -37,47 +40,66 @@ fn made_at(pairs: &[KeyPair], i: usize) -> Secret {
     }
 }
 
+/// Makes a path of the nodes 1 and 3.
+fn make_two(path: &mut PrivatePath) -> Result<PathSecrets, AllocError> {
+    make_path(path, &[7; 32], &[1, 3])
+}
+
 #[test]
 fn keys_of_a_maker(rt: HostRuntime) -> Result<(), Fail> {
-    let mut path = PrivatePath::new(rt.alloc(), 1, [1; 32]);
+    let mut path = with_key(rt.alloc(), 1, 1);
     assert_eq!(rt; key_nodes(rt.alloc(), &path)?.as_slice(), [2].as_slice());
-    let made = path.make_path::<Glass>(&[7; 32], &[1, 3])?;
+    let made = make_two(&mut path)?;
     assert_eq!(rt; made.pairs.len(), 2);
     assert_eq!(rt;
         key_nodes(rt.alloc(), &path)?.as_slice(),
         [1, 2, 3].as_slice()
     );
-    let keys = path.keys()?;
-    assert_eq!(rt; key_at(&keys, 0), made_at(&made.pairs, 0));
-    assert_eq!(rt; key_at(&keys, 1), [1; 32]);
-    assert_eq!(rt; key_at(&keys, 2), made_at(&made.pairs, 1));
+    assert_eq!(rt; key_of(&path, 0)?, made_at(&made.pairs, 0));
+    assert_eq!(rt; key_of(&path, 1)?, [1; 32]);
+    assert_eq!(rt; key_of(&path, 2)?, made_at(&made.pairs, 1));
     Ok(())
+}
+
+/// A copy of a member.
+fn copied(path: &PrivatePath) -> Result<PrivatePath, AllocError> {
+    path.clone()
 }
 
 #[test]
 fn a_copy_has_the_same_keys(rt: HostRuntime) -> Result<(), Fail> {
-    let mut path = PrivatePath::new(rt.alloc(), 1, [1; 32]);
-    let made = path.make_path::<Glass>(&[7; 32], &[1, 3])?;
-    let copy = path.clone()?;
+    let mut path = with_key(rt.alloc(), 1, 1);
+    let made = make_two(&mut path)?;
+    let copy = copied(&path)?;
     assert_eq!(rt; copy.leaf(), 1);
     assert_eq!(rt;
         key_nodes(rt.alloc(), &copy)?.as_slice(),
         [1, 2, 3].as_slice()
     );
-    assert_eq!(rt; key_at(&copy.keys()?, 2), made_at(&made.pairs, 1));
+    assert_eq!(rt; key_of(&copy, 2)?, made_at(&made.pairs, 1));
     Ok(())
+}
+
+/// Two members.
+fn two(alloc: Global) -> Result<PublicTree, Fail> {
+    let mut tree = single(alloc, 0)?;
+    let _ = add(alloc, &mut tree, 1)?;
+    Ok(tree)
+}
+
+/// The second of two members, who made a path and then followed its own update.
+fn updated(alloc: Global) -> Result<PrivatePath, Fail> {
+    let mut path = with_key(alloc, 1, 1);
+    let _ = make_path(&mut path, &[7; 32], &[1])?;
+    follow_edit(&mut path, &two(alloc)?, Some(&[9; 32]))?;
+    Ok(path)
 }
 
 #[test]
 fn keys_of_blank_nodes_are_dropped(rt: HostRuntime) -> Result<(), Fail> {
-    let mut tree = PublicTree::single(rt.alloc(), member(rt.alloc(), 0)?)?;
-    let _ = tree.add(member(rt.alloc(), 1)?)?;
-    let mut path = PrivatePath::new(rt.alloc(), 1, [1; 32]);
-    let _ = path.make_path::<Glass>(&[7; 32], &[1])?;
-    path.follow_edit(&tree, Some(&[9; 32]))?;
-    let keys = path.keys()?;
+    let path = updated(rt.alloc())?;
     assert_eq!(rt; key_nodes(rt.alloc(), &path)?.as_slice(), [2].as_slice());
-    assert_eq!(rt; key_at(&keys, 0), [9; 32]);
+    assert_eq!(rt; key_of(&path, 0)?, [9; 32]);
     Ok(())
 }
 
