@@ -1,5 +1,5 @@
 -- What a delivery to a seat does to the world.
-use Rattle.std.proofs.Common.{◌≡◌, ℕ, ◌<◌, List, length, Result, Ok, Err, sym, ap, ◌∙◌, get_or, slice_set}
+use Rattle.std.proofs.Common.{◌≡◌, ℕ, ◌<◌, List, length, Result, Ok, Err, sym, ap, subst, ◌∙◌, get_or, slice_set}
 use Rattle.mls_wire.specs.Checks.{DoesAs}
 use Rattle.mls_suite.specs.Crypto.{Crypto}
 use Rattle.mls_model.specs.declared.effect.Effect.{Effect}
@@ -13,6 +13,8 @@ use Rattle.mls_events.specs.declared.error.WorldError.{WorldError}
 use Rattle.mls_events.specs.Faults.{number_of}
 use Rattle.mls_events.specs.Parts.{seat_verdict}
 use Rattle.mls_events.specs.Stored.{AreMore, Seated, Making, seat_of, world_of, AreStored}
+use Rattle.mls_events.specs.Outright.{early_delivery_checks}
+use Rattle.mls_events.proofs.Early.{delivery_refused}
 use Rattle.mls_events.proofs.Stores.{seat_found, unchanged}
 use Rattle.mls_events.proofs.Changing.{delivered, undelivered, no_source, seat_moved, seat_kept}
 
@@ -42,3 +44,9 @@ not_lent c es ss ms ds js k s source e lt at lent = (
   ap (λ (l : List Seated). world_of es l ms ds js) (unchanged ss k s at),
   λ other. no_source c (world_of es ss ms ds js) k source (seat_of js s) (number_of e) (seat_found js ss k s lt at) lent,
 )
+
+-- what is refused before anything grows, of a member that is there
+pub source_refused : (es : List Entrant) (ss : List Seated) (ms : List (List ℕ)) (ds : List Making) (js : List Journal) (w : World) (k : ℕ) (s : Seated) (source : Source) (n : ℕ)
+    → world_of es ss ms ds js ≡ w → k < length ss → s ≡ get_or ss k s → early_delivery_checks w k source ≡ Err n → bytes_of (world_of es ss ms ds js) source ≡ Err n
+source_refused es ss ms ds js w k s source n is lt at h =
+    delivery_refused (world_of es ss ms ds js) k source (seat_of js s) n (seat_found js ss k s lt at) (subst (λ (v : World). early_delivery_checks v k source ≡ Err n) (sym is) h)

@@ -11,3 +11,5 @@ pub mod Beginning
 pub mod Recording
 pub mod Items
 pub mod Welcomed
+pub mod Early
+pub mod Stepping

@@ -6,3 +6,4 @@ pub mod Codes
 pub mod Sources
 pub mod Listed
 pub mod Parts
+pub mod Outright

@@ -4,6 +4,7 @@ ghost use Rattle.std.specs.Prelude.{◌≡◌};
 ghost use Rattle.std.specs.List.{list_any};
 ghost use Rattle.std.specs.Str.{bytes_eq};
 ghost use Rattle.mls_wire.specs.Checks.{Answers, DoesAs};
+ghost use Rattle.mls_tree.specs.Refusals.{RefusesOutright};
 ghost use Rattle.mls_model.specs.declared.event.Reply.TheVariants as reply;
 ghost use Rattle.mls_model.specs.Candidate as candidates;
 ghost use Rattle.mls_model.specs.Calls.{candidate_answer, create_answer};
@@ -89,7 +90,9 @@ impl<S: Suite> PlainWorld<S> {
         group: &[u8],
         seed: &Seed,
     ) -> Result<usize, WorldError>
-        ensures { DoesAs (λ k. reply.Created k) number_of (create_answer S.crypto self.old candidate group.now seed.now) self.old self.new result }
+        ensures does { DoesAs (λ k. reply.Created k) number_of (create_answer S.crypto self.old candidate group.now seed.now) self.old self.new result }
+        // 92 and 91 come whatever memory there is.
+        ensures outright { RefusesOutright number_of (model.entrant_at self.old candidate) result }
     {
         let alloc = self.alloc;
         let entrant = match self.unspent(candidate) {

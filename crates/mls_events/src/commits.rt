@@ -3,6 +3,7 @@
 ghost use Rattle.std.specs.Prelude.{◌≡◌, ◌<◌, ℕ, Some, None, Err, is_some, option_map, length, map, slice_get, IfOk, IfErr, OnErr};
 ghost use Rattle.std.specs.Global.{Vec};
 ghost use Rattle.mls_wire.specs.Checks.{DoesAs};
+ghost use Rattle.mls_tree.specs.Refusals.{RefusesOutright};
 ghost use Rattle.mls_member.specs.Answers.{messages_of, AreShortItems};
 ghost use Rattle.mls_model.specs.declared.event.Reply.TheVariants as reply;
 ghost use Rattle.mls_model.specs.Calls.{commit_answer, drop_answer};
@@ -10,6 +11,7 @@ ghost use Rattle.mls_model.specs.Make.{listed_of};
 ghost use Rattle.mls_model.specs.Member as members;
 ghost use Rattle.mls_model.specs.World as model;
 ghost use Rattle.mls_events.specs.Faults.{number_of};
+ghost use Rattle.mls_events.specs.Outright.{early_commit_checks};
 ghost use Rattle.mls_events.specs.Parts.{member_commits, recorded, IsNamed};
 
 use crate::added::added_by;
@@ -162,7 +164,9 @@ impl<S: Suite> PlainWorld<S> {
         path: bool,
         seed: &Seed,
     ) -> Result<NewCommit, WorldError>
-        ensures { DoesAs (λ v. reply.Commit v.message v.welcome) number_of (commit_answer S.crypto self.old member items.now path seed.now) self.old self.new result }
+        ensures does { DoesAs (λ v. reply.Commit v.message v.welcome) number_of (commit_answer S.crypto self.old member items.now path seed.now) self.old self.new result }
+        // 90, and of the first item 94, decoding's and 95, come whatever memory there is.
+        ensures outright { RefusesOutright number_of (early_commit_checks self.old member items.now) result }
     {
         self.require_member(member)?;
         let list = match self.items_of(items) {

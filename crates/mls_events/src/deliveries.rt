@@ -2,6 +2,7 @@
 
 ghost use Rattle.std.specs.Prelude.{◌≡◌, ◌<◌, length, Ok, IfOk};
 ghost use Rattle.mls_wire.specs.Checks.{DoesAs};
+ghost use Rattle.mls_tree.specs.Refusals.{RefusesOutright};
 ghost use Rattle.mls_model.specs.declared.event.Reply.TheVariants as reply;
 ghost use Rattle.mls_model.specs.Calls.{deliver_answer};
 ghost use Rattle.mls_model.specs.Journal.{list_in, list_of_body, list_of_message, entry_of};
@@ -9,6 +10,7 @@ ghost use Rattle.mls_types.specs.declared.public_message.PublicMessage as messag
 ghost use Rattle.mls_types.specs.declared.message.MlsMessage as sent;
 ghost use Rattle.mls_view.specs.Shown.{ShowsPublic, Shows};
 ghost use Rattle.mls_events.specs.Faults.{number_of};
+ghost use Rattle.mls_events.specs.Outright.{early_delivery_checks};
 ghost use Rattle.mls_events.specs.Parts.{seat_verdict, advances};
 ghost use Rattle.mls_events.specs.Stored.{seat_of, AreMore};
 
@@ -118,9 +120,11 @@ fn hand<S: Suite>(
 impl<S: Suite> PlainWorld<S> {
     /// Delivers a source to a member: 90 no such member, 94 no such message, then the member's checks. The world decodes
     /// nothing. A commit that is followed is a new entry of the member's journal (RFC 9420, 6, 12.1 and 12.4.2).
-    #[tactic(auto, using(crate::proofs::Changing::no_member, crate::proofs::Stores::seat_missing, crate::proofs::Calling::stands_at))]
+    #[tactic(auto, using(crate::proofs::Changing::no_member, crate::proofs::Stores::seat_missing, crate::proofs::Calling::stands_at, crate::proofs::Early::delivery_nobody))]
     pub fn deliver(&mut self, member: usize, source: &Source) -> Result<Effect, WorldError>
-        ensures { DoesAs (λ e. reply.Delivered e) number_of (deliver_answer S.crypto self.old member source.now) self.old self.new result }
+        ensures does { DoesAs (λ e. reply.Delivered e) number_of (deliver_answer S.crypto self.old member source.now) self.old self.new result }
+        // 90 and 94 come whatever memory there is.
+        ensures outright { RefusesOutright number_of (early_delivery_checks self.old member source.now) result }
     {
         let Some(seat) = self.seats.get_mut(member) else {
             return Err(WorldError::NoSuchMember);

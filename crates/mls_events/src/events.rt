@@ -1,9 +1,13 @@
 //! Events.
 
+ghost use Rattle.std.specs.Prelude.{◌≡◌, ℕ, Ok, Err};
 ghost use Rattle.mls_wire.specs.Checks.{DoesAs};
+ghost use Rattle.mls_tree.specs.Refusals.{RefusesOutright};
+ghost use Rattle.mls_model.specs.declared.event.Reply.TheVariants as reply;
 ghost use Rattle.mls_model.specs.Run.{answer};
 ghost use Rattle.mls_events.specs.Answers.{Steps};
 ghost use Rattle.mls_events.specs.Faults.{number_of};
+ghost use Rattle.mls_events.specs.Outright.{early_checks};
 
 use crate::candidates::NewCandidate;
 use crate::commits::NewCommit;
@@ -18,7 +22,9 @@ impl<S: Suite> PlainWorld<S> {
     /// What an event does, or the first check that fails.
     #[tactic(auto, unfolding(mls_model::specs::Run::answer))]
     pub fn answer(&mut self, event: &Event) -> Result<Reply, WorldError>
-        ensures { DoesAs (λ r. r) number_of (answer S.crypto self.old event.now) self.old self.new result }
+        ensures does { DoesAs (λ r. r) number_of (answer S.crypto self.old event.now) self.old self.new result }
+        // What is decided before anything grows comes whatever memory there is.
+        ensures outright { RefusesOutright number_of (early_checks self.old event.now) result }
     {
         match event {
             Event::Candidate { identity, seed } => {
@@ -75,7 +81,9 @@ impl<S: Suite> PlainWorld<S> {
     /// One event: a refusal is the reply, but for want of memory, at which the world is as before.
     #[tactic(auto, unfolding(mls_model::specs::Run::step))]
     pub fn step(&mut self, event: &Event) -> Result<Reply, AllocError>
-        ensures { Steps S.crypto event.now self.old self.new result }
+        ensures does { Steps S.crypto event.now self.old self.new result }
+        // What is decided before anything grows is the reply whatever memory there is.
+        ensures refused { (n : ℕ) → early_checks self.old event.now ≡ Err n → (result ≡ Ok (reply.Refused n)) × (self.new ≡ self.old) }
     {
         match self.answer(event) {
             Ok(reply) => Ok(reply),

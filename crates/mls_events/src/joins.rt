@@ -4,11 +4,13 @@ ghost use Rattle.std.specs.Prelude.{◌≡◌, ◌<◌, length, IfSome};
 ghost use Rattle.std.specs.List.{list_any};
 ghost use Rattle.std.specs.Str.{bytes_eq};
 ghost use Rattle.mls_wire.specs.Checks.{DoesAs};
+ghost use Rattle.mls_tree.specs.Refusals.{RefusesOutright};
 ghost use Rattle.mls_leaf.specs.KeyPackage.{key_package};
 ghost use Rattle.mls_model.specs.declared.event.Reply.TheVariants as reply;
 ghost use Rattle.mls_model.specs.Calls.{join_answer};
 ghost use Rattle.mls_model.specs.World as model;
 ghost use Rattle.mls_events.specs.Faults.{number_of};
+ghost use Rattle.mls_events.specs.Outright.{early_join_checks};
 ghost use Rattle.mls_events.specs.Parts.{adds_for, made_at, IsThere, FirstIs};
 
 use crate::error::WorldError;
@@ -92,7 +94,9 @@ impl<S: Suite> PlainWorld<S> {
     /// join (RFC 9420, 12.4.3.1). The world decodes nothing. Where the Welcome was made here and its commit adds the
     /// candidate's own KeyPackage, the journal is the maker's with that commit, else it begins with the GroupInfo.
     pub fn join(&mut self, candidate: usize, source: &Source) -> Result<NewMember, WorldError>
-        ensures { DoesAs (λ v. reply.Joined v.member v.epoch) number_of (join_answer S.crypto self.old candidate source.now) self.old self.new result }
+        ensures does { DoesAs (λ v. reply.Joined v.member v.epoch) number_of (join_answer S.crypto self.old candidate source.now) self.old self.new result }
+        // 92, 91 and 94 come whatever memory there is.
+        ensures outright { RefusesOutright number_of (early_join_checks self.old candidate source.now) result }
     {
         let alloc = self.alloc;
         let entrant = match self.unspent(candidate) {

@@ -1,9 +1,12 @@
 //! Proposals of members.
 
 ghost use Rattle.mls_wire.specs.Checks.{DoesAs};
+ghost use Rattle.mls_tree.specs.Refusals.{RefusesOutright};
 ghost use Rattle.mls_model.specs.declared.event.Reply.TheVariants as reply;
 ghost use Rattle.mls_model.specs.Calls.{propose_add_answer, propose_update_answer, propose_remove_answer};
+ghost use Rattle.mls_model.specs.World as model;
 ghost use Rattle.mls_events.specs.Faults.{number_of};
+ghost use Rattle.mls_events.specs.Outright.{early_add_checks};
 
 use crate::error::WorldError;
 use crate::world::PlainWorld;
@@ -17,7 +20,9 @@ impl<S: Suite> PlainWorld<S> {
     /// message, decoding, 95 a message of another kind, then the member's checks (RFC 9420, 12.1.1).
     #[tactic(auto, using(crate::proofs::Stores::seat_found, crate::proofs::Stores::seat_missing, crate::proofs::Stores::seat_set, crate::proofs::Stores::unchanged, crate::proofs::Calling::member_changed, crate::proofs::Readings::wider), unfolding(mls_model::specs::Calls::propose_add_answer))]
     pub fn propose_add(&mut self, member: usize, key_package: &Source) -> Result<usize, WorldError>
-        ensures { DoesAs (λ n. reply.Proposal n) number_of (propose_add_answer S.crypto self.old member key_package.now) self.old self.new result }
+        ensures does { DoesAs (λ n. reply.Proposal n) number_of (propose_add_answer S.crypto self.old member key_package.now) self.old self.new result }
+        // 90, 94, decoding's and 95 come whatever memory there is.
+        ensures outright { RefusesOutright number_of (early_add_checks self.old member key_package.now) result }
     {
         self.require_member(member)?;
         let offered = self.package_of(key_package)?;
@@ -35,8 +40,11 @@ impl<S: Suite> PlainWorld<S> {
     /// member's checks (RFC 9420, 12.1.2).
     #[tactic(auto, using(crate::proofs::Stores::seat_found, crate::proofs::Stores::seat_missing, crate::proofs::Stores::seat_set, crate::proofs::Stores::unchanged, crate::proofs::Calling::member_changed, crate::proofs::Readings::wider), unfolding(mls_model::specs::Calls::propose_update_answer))]
     pub fn propose_update(&mut self, member: usize, seed: &Seed) -> Result<usize, WorldError>
-        ensures { DoesAs (λ n. reply.Proposal n) number_of (propose_update_answer S.crypto self.old member seed.now) self.old self.new result }
+        ensures does { DoesAs (λ n. reply.Proposal n) number_of (propose_update_answer S.crypto self.old member seed.now) self.old self.new result }
+        // 90 comes whatever memory there is.
+        ensures outright { RefusesOutright number_of (model.seat_at self.old member) result }
     {
+        self.require_member(member)?;
         self.messages.reserve(1)?;
         let message = self.messages.len();
         let Some(seat) = self.seats.get_mut(member) else {
@@ -51,8 +59,11 @@ impl<S: Suite> PlainWorld<S> {
     /// checks (RFC 9420, 12.1.3).
     #[tactic(auto, using(crate::proofs::Stores::seat_found, crate::proofs::Stores::seat_missing, crate::proofs::Stores::seat_set, crate::proofs::Stores::unchanged, crate::proofs::Calling::member_changed, crate::proofs::Readings::wider), unfolding(mls_model::specs::Calls::propose_remove_answer))]
     pub fn propose_remove(&mut self, member: usize, leaf: u32) -> Result<usize, WorldError>
-        ensures { DoesAs (λ n. reply.Proposal n) number_of (propose_remove_answer S.crypto self.old member leaf) self.old self.new result }
+        ensures does { DoesAs (λ n. reply.Proposal n) number_of (propose_remove_answer S.crypto self.old member leaf) self.old self.new result }
+        // 90 comes whatever memory there is.
+        ensures outright { RefusesOutright number_of (model.seat_at self.old member) result }
     {
+        self.require_member(member)?;
         self.messages.reserve(1)?;
         let message = self.messages.len();
         let Some(seat) = self.seats.get_mut(member) else {

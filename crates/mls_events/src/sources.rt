@@ -2,6 +2,7 @@
 
 ghost use Rattle.std.specs.Prelude.{◌≡◌, ◌^◌, ℕ, List, IfOk, map};
 ghost use Rattle.mls_wire.specs.Checks.{Answers, AnswersOutright};
+ghost use Rattle.mls_tree.specs.Refusals.{RefusesOutright};
 ghost use Rattle.mls_leaf.specs.KeyPackage.{key_package as key_package_format};
 ghost use Rattle.mls_public_group.specs.Short.{IsBelow};
 ghost use Rattle.mls_member.specs.Answers.{IsShortItem, AreShortItems};
@@ -10,6 +11,7 @@ ghost use Rattle.mls_model.specs.World as model;
 ghost use Rattle.mls_model.specs.declared.item.Item.TheVariants as item;
 ghost use Rattle.mls_leaf.specs.declared.proposal.Proposal.TheVariants as proposes;
 ghost use Rattle.mls_events.specs.Faults.{number_of};
+ghost use Rattle.mls_events.specs.Outright.{first_checks};
 ghost use Rattle.mls_types.specs.declared.public_message.PublicMessage as messages;
 ghost use Rattle.mls_view.specs.Shown.{ShowsPublic};
 ghost use Rattle.mls_member.specs.Process.{IsShortView};
@@ -43,6 +45,7 @@ pub(crate) fn bytes_of<'a>(
 /// The KeyPackage that bytes are: decoding, 95 a message of another kind.
 fn read_package(alloc: Global, bytes: &[u8]) -> Result<KeyPackage, WorldError>
     ensures answer { Answers (λ k. k) number_of (package_read bytes.now) result }
+    ensures outright { RefusesOutright number_of (package_read bytes.now) result }
     ensures below { IfOk result (λ k. IsBelow (2 ^ 27) key_package_format k) }
 {
     match MessageView::read(bytes)? {
@@ -92,6 +95,7 @@ impl<S: Suite> PlainWorld<S> {
     #[tactic(auto, unfolding(mls_model::specs::World::package_of, crate::specs::Sources::package_read))]
     pub(crate) fn package_of(&self, source: &Source) -> Result<KeyPackage, WorldError>
         ensures answer { Answers (λ k. k) number_of (model.package_of self.now source.now) result }
+        ensures outright { RefusesOutright number_of (model.package_of self.now source.now) result }
         ensures below { IfOk result (λ k. IsBelow (2 ^ 27) key_package_format k) }
     {
         let bytes = self.bytes_of(source)?;
@@ -101,6 +105,7 @@ impl<S: Suite> PlainWorld<S> {
     /// The proposal that a commit lists: 94, decoding, 95 a message of another kind.
     fn item_of(&self, item: &WorldItem) -> Result<Item, WorldError>
         ensures answer { Answers listed_of number_of (model.item_of self.now item.now) result }
+        ensures outright { RefusesOutright number_of (model.item_of self.now item.now) result }
         ensures short { IfOk result (λ i. IsShortItem i) }
     {
         match item {
@@ -130,6 +135,8 @@ impl<S: Suite> PlainWorld<S> {
     /// The list of a commit: the first check that fails of the first of them that does.
     pub(crate) fn items_of(&self, items: &[WorldItem]) -> Result<Vec<Item>, WorldError>
         ensures answer { Answers (λ v. map listed_of v.items) number_of (model.items_of self.now items.now) result }
+        // Of the first whatever memory there is.
+        ensures outright { RefusesOutright number_of (first_checks self.now items.now) result }
         ensures short { IfOk result (λ v. AreShortItems v.items) }
     {
         let mut list = Vec::new(self.alloc);

@@ -2,10 +2,13 @@
 
 ghost use Rattle.std.specs.Prelude.{◌≡◌, Err, IfErr};
 ghost use Rattle.mls_wire.specs.Checks.{DoesAs};
+ghost use Rattle.mls_tree.specs.Refusals.{RefusesOutright};
 ghost use Rattle.mls_model.specs.declared.event.Reply.TheVariants as reply;
 ghost use Rattle.mls_model.specs.Calls.{candidate_answer, create_answer, propose_add_answer, propose_update_answer, propose_remove_answer, commit_answer, drop_answer, deliver_answer, join_answer};
 ghost use Rattle.mls_model.specs.Headline.{Headline};
+ghost use Rattle.mls_model.specs.World as model;
 ghost use Rattle.mls_events.specs.Faults.{number_of};
+ghost use Rattle.mls_events.specs.Outright.{early_add_checks, early_commit_checks, early_delivery_checks, early_join_checks};
 
 use crate::ranges::{know_few, know_items, know_short, know_source};
 use crate::world::World;
@@ -34,6 +37,8 @@ impl<S: Suite> World<S> {
         seed: &Seed,
     ) -> Result<usize, WorldError>
         ensures does { DoesAs (λ k. reply.Created k) number_of (create_answer S.crypto self.old candidate group.now seed.now) self.old self.new result }
+        // 92 and 91 come whatever memory there is.
+        ensures outright { RefusesOutright number_of (model.entrant_at self.old candidate) result }
         ensures headline { Headline S.crypto self.new }
     {
         know_short(group);
@@ -44,6 +49,8 @@ impl<S: Suite> World<S> {
     /// message, decoding, 95 a message of another kind, then the member's checks (RFC 9420, 12.1.1).
     pub fn propose_add(&mut self, member: usize, key_package: &Source) -> Result<usize, WorldError>
         ensures does { DoesAs (λ n. reply.Proposal n) number_of (propose_add_answer S.crypto self.old member key_package.now) self.old self.new result }
+        // 90, 94, decoding's and 95 come whatever memory there is.
+        ensures outright { RefusesOutright number_of (early_add_checks self.old member key_package.now) result }
         ensures headline { Headline S.crypto self.new }
     {
         know_source(key_package);
@@ -54,6 +61,8 @@ impl<S: Suite> World<S> {
     /// member's checks (RFC 9420, 12.1.2).
     pub fn propose_update(&mut self, member: usize, seed: &Seed) -> Result<usize, WorldError>
         ensures does { DoesAs (λ n. reply.Proposal n) number_of (propose_update_answer S.crypto self.old member seed.now) self.old self.new result }
+        // 90 comes whatever memory there is.
+        ensures outright { RefusesOutright number_of (model.seat_at self.old member) result }
         ensures headline { Headline S.crypto self.new }
     {
         self.world.propose_update(member, seed)
@@ -63,6 +72,8 @@ impl<S: Suite> World<S> {
     /// checks (RFC 9420, 12.1.3).
     pub fn propose_remove(&mut self, member: usize, leaf: u32) -> Result<usize, WorldError>
         ensures does { DoesAs (λ n. reply.Proposal n) number_of (propose_remove_answer S.crypto self.old member leaf) self.old self.new result }
+        // 90 comes whatever memory there is.
+        ensures outright { RefusesOutright number_of (model.seat_at self.old member) result }
         ensures headline { Headline S.crypto self.new }
     {
         self.world.propose_remove(member, leaf)
@@ -79,6 +90,8 @@ impl<S: Suite> World<S> {
         seed: &Seed,
     ) -> Result<NewCommit, WorldError>
         ensures does { DoesAs (λ v. reply.Commit v.message v.welcome) number_of (commit_answer S.crypto self.old member items.now path seed.now) self.old self.new result }
+        // 90, and of the first item 94, decoding's and 95, come whatever memory there is.
+        ensures outright { RefusesOutright number_of (early_commit_checks self.old member items.now) result }
         ensures headline { Headline S.crypto self.new }
     {
         know_few(items);
@@ -100,6 +113,8 @@ impl<S: Suite> World<S> {
     /// nothing. A commit that is followed is a new entry of the member's journal (RFC 9420, 6, 12.1 and 12.4.2).
     pub fn deliver(&mut self, member: usize, source: &Source) -> Result<Effect, WorldError>
         ensures does { DoesAs (λ e. reply.Delivered e) number_of (deliver_answer S.crypto self.old member source.now) self.old self.new result }
+        // 90 and 94 come whatever memory there is.
+        ensures outright { RefusesOutright number_of (early_delivery_checks self.old member source.now) result }
         ensures headline { Headline S.crypto self.new }
     {
         know_source(source);
@@ -111,6 +126,8 @@ impl<S: Suite> World<S> {
     /// candidate's own KeyPackage, the journal is the maker's with that commit, else it begins with the GroupInfo.
     pub fn join(&mut self, candidate: usize, source: &Source) -> Result<NewMember, WorldError>
         ensures does { DoesAs (λ v. reply.Joined v.member v.epoch) number_of (join_answer S.crypto self.old candidate source.now) self.old self.new result }
+        // 92, 91 and 94 come whatever memory there is.
+        ensures outright { RefusesOutright number_of (early_join_checks self.old candidate source.now) result }
         ensures headline { Headline S.crypto self.new }
     {
         know_source(source);

@@ -1,11 +1,13 @@
 //! A world.
 
-ghost use Rattle.std.specs.Prelude.{◌≡◌, slice_get, option_map};
+ghost use Rattle.std.specs.Prelude.{◌≡◌, ℕ, Ok, Err, slice_get, option_map};
 ghost use Rattle.std.specs.Option.{option_copied};
+ghost use Rattle.mls_model.specs.declared.event.Reply.TheVariants as reply;
 ghost use Rattle.mls_model.specs.Answers.{Runs};
 ghost use Rattle.mls_model.specs.Headline.{Headline};
 ghost use Rattle.mls_model.specs.World as model;
 ghost use Rattle.mls_events.specs.Answers.{Steps};
+ghost use Rattle.mls_events.specs.Outright.{early_checks};
 
 use crate::ranges::{know_event, know_events};
 use crate::replies::push_replies;
@@ -51,7 +53,9 @@ impl<S: Suite> World<S> {
 
     /// One event: a refusal is the reply, but for want of memory, at which the world is as before.
     pub fn step(&mut self, event: &Event) -> Result<Reply, OutOfMemory>
-        ensures { Steps S.crypto event.now self.old self.new result }
+        ensures does { Steps S.crypto event.now self.old self.new result }
+        // What is decided before anything grows is the reply whatever memory there is.
+        ensures refused { (n : ℕ) → early_checks self.old event.now ≡ Err n → (result ≡ Ok (reply.Refused n)) × (self.new ≡ self.old) }
     {
         know_event(event);
         self.world.step(event)

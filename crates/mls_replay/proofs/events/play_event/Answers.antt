@@ -10,7 +10,7 @@ use Rattle.mls_replay.proofs.events.play_event.Goals as goal
 
 pub returns-clause-part : goal.returns-clause-part
 returns-clause-part g c =
-    let reply_is : (step g.S.Suite.crypto c.args.world.now c.args.recorded.now.event).0 ≡ c.in_ok-reply.reply = ap (λ (x : Reply × World). x.0) c.in_ok-reply.ensures in
+    let reply_is : (step g.S.Suite.crypto c.args.world.now c.args.recorded.now.event).0 ≡ c.in_ok-reply.reply = ap (λ (x : Reply × World). x.0) c.in_ok-reply.ensures.does in
     let expect_is : option_map (λ (t : Bor (List ℕ)). t.now) c.as_deref.result ≡ expectation c.args.recorded.now = c.as_deref.ensures.value in
     let old = g.O.Output.contents c.args.out.now in
     let new = g.O.Output.contents c.print_reply.new.out in
@@ -18,8 +18,8 @@ returns-clause-part g c =
     subst (λ (r : Reply). OnErr c.print_reply.result (AppendsPart old new (flat_map entry_text (event_entries c.args.event r (expectation c.args.recorded.now))))) (sym reply_is) said
 
 pub returns-in_err-reply-clause-stopped : goal.returns-in_err-reply-clause-stopped
-returns-in_err-reply-clause-stopped g c = on_err c.from_residual.result (inl c.in_err-reply.ensures)
+returns-in_err-reply-clause-stopped g c = on_err c.from_residual.result (inl c.in_err-reply.ensures.does)
 
 pub returns-clause-stopped : goal.returns-clause-stopped
 returns-clause-stopped g c =
-    on_err c.print_reply.result (inr (sym (ap (λ (x : Reply × World). x.1) c.in_ok-reply.ensures)))
+    on_err c.print_reply.result (inr (sym (ap (λ (x : Reply × World). x.1) c.in_ok-reply.ensures.does)))

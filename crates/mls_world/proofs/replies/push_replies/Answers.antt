@@ -5,10 +5,10 @@ use Rattle.mls_world.proofs.replies.push_replies.Goals as goal
 pub loop-event-preserved : goal.loop-event-preserved
 loop-event-preserved g c = record {
   world = world_after g.S.Suite.crypto c.args.world.now c.loop-event.world c.step.new.self c.args.events.now c.loop-event.event-index c.event-item.result c.in_ok-reply.reply
-      c.loop-event.invariant.world c.loop-event-test.true c.event-item.is c.in_ok-reply.ensures;
+      c.loop-event.invariant.world c.loop-event-test.true c.event-item.is c.in_ok-reply.ensures.does;
   replied = c.push_reserved.ensures.items
       ∙ replied_after g.S.Suite.crypto c.args.world.now c.loop-event.world c.step.new.self c.args.events.now c.loop-event.event-index c.event-item.result c.in_ok-reply.reply
-      c.args.replies.now.items c.reserve.new.self.items c.loop-event.invariant.world c.loop-event-test.true c.event-item.is c.in_ok-reply.ensures (c.reserve.ensures.items ∙ c.loop-event.invariant.replied);
+      c.args.replies.now.items c.reserve.new.self.items c.loop-event.invariant.world c.loop-event-test.true c.event-item.is c.in_ok-reply.ensures.does (c.reserve.ensures.items ∙ c.loop-event.invariant.replied);
 }
 
 pub loop-event-init : goal.loop-event-init
@@ -22,7 +22,7 @@ returns-in_err-reserve g c =
 pub returns-in_err-reply : goal.returns-in_err-reply
 returns-in_err-reply g c =
     ran_part g.S.Suite.crypto c.args.events.now c.args.world.now c.step.new.self c.args.replies.now.items c.reserve.new.self.items c.from_residual-in_err-reply.result c.loop-event.event-index
-    c.from_residual-in_err-reply.ensures.0 c.loop-event-test.true (c.in_err-reply.ensures ∙ c.loop-event.invariant.world) (c.reserve.ensures.items ∙ c.loop-event.invariant.replied)
+    c.from_residual-in_err-reply.ensures.0 c.loop-event-test.true (c.in_err-reply.ensures.does ∙ c.loop-event.invariant.world) (c.reserve.ensures.items ∙ c.loop-event.invariant.replied)
 
 pub returns : goal.returns
 returns g c = (

@@ -3,16 +3,17 @@ use Rattle.std.proofs.lemmas.List.{length-map}
 use Rattle.mls_model.specs.declared.origin.Origin.TheVariants as from
 use Rattle.mls_model.specs.Candidate.{Candidate, created}
 use Rattle.mls_model.specs.Journal.{begun}
-use Rattle.mls_model.specs.World.{Entrant, World, with_joined}
+use Rattle.mls_tree.proofs.Refused.{one_number, not_refused}
+use Rattle.mls_model.specs.World.{Entrant, World, entrant_at, with_joined}
 use Rattle.mls_events.specs.Stored.{seat_of}
 use Rattle.mls_events.proofs.Entering.{create_is, create_absent, create_refused, entrant_within}
 use Rattle.mls_events.proofs.world.PlainWorld.create.Goals as goal
 
-pub returns-in-Err : goal.returns-in-Err
-returns-in-Err g c = (refl, λ _. create_absent g.S.Suite.crypto c.args.self.now c.args.candidate c.args.group.now c.args.seed.now _ c.in-Err.ensures)
+pub returns-in-Err-clause-does : goal.returns-in-Err-clause-does
+returns-in-Err-clause-does g c = (refl, λ _. create_absent g.S.Suite.crypto c.args.self.now c.args.candidate c.args.group.now c.args.seed.now _ c.in-Err.ensures)
 
-pub returns-in-Err-create : goal.returns-in-Err-create
-returns-in-Err-create g c =
+pub returns-in-Err-create-clause-does : goal.returns-in-Err-create-clause-does
+returns-in-Err-create-clause-does g c =
     let same : c.entrant.inside.candidate ≡ c.in-Ok.entrant.now.candidate = ap (λ (x : Entrant). x.candidate) c.entrant.view_is in (
       refl,
       λ h. create_refused g.S.Suite.crypto c.args.self.now c.args.candidate c.args.group.now c.args.seed.now c.in-Ok.entrant.now _ c.in-Ok.ensures
@@ -22,8 +23,8 @@ returns-in-Err-create g c =
 pub begin_member-requires : goal.begin_member-requires
 begin_member-requires g c = entrant_within c.args.self.now c.args.candidate c.in-Ok.entrant.now c.in-Ok.ensures
 
-pub returns : goal.returns
-returns g c =
+pub returns-clause-does : goal.returns-clause-does
+returns-clause-does g c =
     let w : World = c.args.self.now in
     let same : c.entrant.inside.candidate ≡ c.in-Ok.entrant.now.candidate = ap (λ (x : Entrant). x.candidate) c.entrant.view_is in
     let stored = c.self.inside.seats.ok.0 in
@@ -33,3 +34,15 @@ returns g c =
     (ap (λ (x : Candidate). created g.S.Suite.crypto x c.args.group.now c.args.seed.now) (sym same) ∙ c.in-Ok-create.ensures)
     c.in_ok-number.ensures.number
     (λ x q. subst (λ (i : ℕ). c.begin_member.new.self ≡ with_joined w c.args.candidate x (record { member = c.in-Ok-create.member; journal = begun (from.Creation i) })) at (c.in_ok-number.ensures.ok x q))
+
+pub returns-in-Err-clause-outright : goal.returns-in-Err-clause-outright
+returns-in-Err-clause-outright g c = λ n h. one_number (entrant_at c.args.self.now c.args.candidate) _ c.in-Err.ensures n h
+
+pub returns-in-Err-create-clause-outright : goal.returns-in-Err-create-clause-outright
+returns-in-Err-create-clause-outright g c = λ n h. absurd (not_refused (entrant_at c.args.self.now c.args.candidate) _ c.in-Ok.ensures n h)
+
+pub returns-in_err-number-clause-outright : goal.returns-in_err-number-clause-outright
+returns-in_err-number-clause-outright g c = λ n h. absurd (not_refused (entrant_at c.args.self.now c.args.candidate) _ c.in-Ok.ensures n h)
+
+pub returns-clause-outright : goal.returns-clause-outright
+returns-clause-outright g c = λ n h. not_refused (entrant_at c.args.self.now c.args.candidate) _ c.in-Ok.ensures n h

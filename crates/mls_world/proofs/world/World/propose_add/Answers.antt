@@ -6,9 +6,9 @@ use Rattle.mls_world.proofs.Calling.{by_propose_add}
 use Rattle.mls_world.proofs.world.World.propose_add.Goals as goal
 
 pub invariant_of-self : goal.invariant_of-self
-invariant_of-self g c = by_propose_add g.S.Suite.crypto (λ (n : ℕ). reply.Proposal n) number_of c.self.inside.world c.propose_add.new.self c.propose_add.result c.self.invariant c.args.member c.args.key_package.now c.know_source.ensures c.propose_add.ensures
+invariant_of-self g c = by_propose_add g.S.Suite.crypto (λ (n : ℕ). reply.Proposal n) number_of c.self.inside.world c.propose_add.new.self c.propose_add.result c.self.invariant c.args.member c.args.key_package.now c.know_source.ensures c.propose_add.ensures.does
 
 pub returns-clause-headline : goal.returns-clause-headline
 returns-clause-headline g c =
     headline_of_reachable g.S.Suite.crypto g.met.S.Suite.lawful c.propose_add.new.self
-    (by_propose_add g.S.Suite.crypto (λ (n : ℕ). reply.Proposal n) number_of c.self.inside.world c.propose_add.new.self c.propose_add.result c.self.invariant c.args.member c.args.key_package.now c.know_source.ensures c.propose_add.ensures)
+    (by_propose_add g.S.Suite.crypto (λ (n : ℕ). reply.Proposal n) number_of c.self.inside.world c.propose_add.new.self c.propose_add.result c.self.invariant c.args.member c.args.key_package.now c.know_source.ensures c.propose_add.ensures.does)

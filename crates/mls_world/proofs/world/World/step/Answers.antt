@@ -2,4 +2,4 @@ use Rattle.mls_world.proofs.Reaching.{reached_by_step}
 use Rattle.mls_world.proofs.world.World.step.Goals as goal
 
 pub invariant_of-self : goal.invariant_of-self
-invariant_of-self g c = reached_by_step g.S.Suite.crypto c.args.event.now c.self.inside.world c.step.new.self c.step.result c.self.invariant c.know_event.ensures c.step.ensures
+invariant_of-self g c = reached_by_step g.S.Suite.crypto c.args.event.now c.self.inside.world c.step.new.self c.step.result c.self.invariant c.know_event.ensures c.step.ensures.does
