@@ -5,8 +5,6 @@ mod candidate;
 mod error;
 mod leaf;
 mod package;
-#[cfg(test)]
-mod tests;
 mod texts;
 
 pub use candidate::Candidate;

@@ -7,8 +7,6 @@ mod keys;
 mod opening;
 mod secrets;
 mod signer;
-#[cfg(test)]
-mod tests;
 mod tree;
 
 pub use entrance::{Entrance, join};

@@ -5,8 +5,6 @@ mod framed;
 mod limits;
 mod said;
 mod speaker;
-#[cfg(test)]
-mod tests;
 mod untagged;
 
 pub use framed::{Framed, send, sign};

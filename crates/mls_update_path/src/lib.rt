@@ -5,8 +5,6 @@ mod context;
 mod draft;
 mod error;
 mod path;
-#[cfg(test)]
-mod tests;
 
 pub use error::PathError;
 pub use path::{NewPath, new_path};
