@@ -1,9 +1,9 @@
 //! Group contexts, group infos, welcomes and what they hide.
 
-use crate::digits::{GROUP_CONTEXT, answer, bytes_of, value_of};
+use crate::digits::{GROUP_CONTEXT, answers, bytes_of, holds, spells, value_of};
 use mls_types::*;
 use std::alloc::Global;
-use std::test::*;
+use std::test::Fail;
 
 /// The group context, no extension, a confirmation tag, signer 0 and a signature.
 const GROUP_INFO: &str =
@@ -13,34 +13,52 @@ const GROUP_INFO: &str =
 const GROUP_INFO_TBS: &str =
     "0001f0010167000000000000000020111111111111111111111111111111111111111111111111111111111111111100000001cc00000000";
 
+fn has_length(alloc: Global, digits: &str, count: usize) -> Result<bool, LeafError> {
+    Ok(bytes_of(alloc, digits)?.len() == count)
+}
+
+#[test]
+fn context_lengths(rt: HostRuntime) -> Result<(), Fail> {
+    holds(&rt, has_length(rt.alloc(), GROUP_CONTEXT, 49), "49 bytes")
+}
+
 #[test]
 fn contexts(rt: HostRuntime) -> Result<(), Fail> {
-    let alloc = rt.alloc();
-    assert_eq!(rt; bytes_of(alloc, GROUP_CONTEXT)?.len(), 49);
-    assert_eq!(rt; answer::<GroupContext>(alloc, GROUP_CONTEXT)?, 0);
-    let with_extension = "0001f0010167000000000000000000000100";
-    assert_eq!(rt; answer::<GroupContext>(alloc, with_extension)?, 14);
-    assert_eq!(rt; answer::<GroupContext>(alloc, "0002")?, 7);
-    Ok(())
+    let rows = [
+        (GROUP_CONTEXT, 0),
+        // with an extension
+        ("0001f0010167000000000000000000000100", 14),
+        ("0002", 7),
+    ];
+    answers::<GroupContext>(&rt, rt.alloc(), &rows)
 }
 
 #[test]
 fn infos(rt: HostRuntime) -> Result<(), Fail> {
-    let alloc = rt.alloc();
-    assert_eq!(rt; answer::<GroupInfo>(alloc, GROUP_INFO)?, 0);
-    let with_tree =
-        "0001f0010167000000000000000020111111111111111111111111111111111111111111111111111111111111111100001f00021c1b010101bb01cc000103626f6202000102f0010000020001020001dd01cc0000000001dd";
-    assert_eq!(rt; answer::<GroupInfo>(alloc, with_tree)?, 0);
-    let other_extension =
-        "0001f00101670000000000000000201111111111111111111111111111111111111111111111111111111111111111000005000302010001cc0000000001dd";
-    assert_eq!(rt; answer::<GroupInfo>(alloc, other_extension)?, 14);
-    let second_tree =
-        "0001f0010167000000000000000020111111111111111111111111111111111111111111111111111111111111111100000a0002020100000202010001cc0000000001dd";
-    assert_eq!(rt; answer::<GroupInfo>(alloc, second_tree)?, 14);
-    let tree_with_more =
-        "0001f0010167000000000000000020111111111111111111111111111111111111111111111111111111111111111100000600020301000001cc0000000001dd";
-    assert_eq!(rt; answer::<GroupInfo>(alloc, tree_with_more)?, 3);
-    Ok(())
+    let rows = [
+        (GROUP_INFO, 0),
+        // with a tree
+        (
+            "0001f0010167000000000000000020111111111111111111111111111111111111111111111111111111111111111100001f00021c1b010101bb01cc000103626f6202000102f0010000020001020001dd01cc0000000001dd",
+            0,
+        ),
+        // another extension
+        (
+            "0001f00101670000000000000000201111111111111111111111111111111111111111111111111111111111111111000005000302010001cc0000000001dd",
+            14,
+        ),
+        // a second tree
+        (
+            "0001f0010167000000000000000020111111111111111111111111111111111111111111111111111111111111111100000a0002020100000202010001cc0000000001dd",
+            14,
+        ),
+        // a tree with more behind it
+        (
+            "0001f0010167000000000000000020111111111111111111111111111111111111111111111111111111111111111100000600020301000001cc0000000001dd",
+            3,
+        ),
+    ];
+    answers::<GroupInfo>(&rt, rt.alloc(), &rows)
 }
 
 fn signed_of_info(alloc: Global) -> Result<Vec<u8>, LeafError> {
@@ -50,19 +68,22 @@ fn signed_of_info(alloc: Global) -> Result<Vec<u8>, LeafError> {
 
 #[test]
 fn signed_infos(rt: HostRuntime) -> Result<(), Fail> {
-    assert!(rt; signed_of_info(rt.alloc())? == bytes_of(rt.alloc(), GROUP_INFO_TBS)?);
     laws_of_group_infos();
-    Ok(())
+    spells(&rt, rt.alloc(), signed_of_info(rt.alloc()), GROUP_INFO_TBS)
 }
 
 #[test]
 fn welcomes(rt: HostRuntime) -> Result<(), Fail> {
-    let alloc = rt.alloc();
-    assert_eq!(rt; answer::<Welcome>(alloc, "f0010000")?, 0);
-    assert_eq!(rt; answer::<Welcome>(alloc, "f0010801aa01bb01cc01dd")?, 2);
-    assert_eq!(rt; answer::<Welcome>(alloc, "f0010601aa01bb01cc01dd")?, 0);
-    assert_eq!(rt; answer::<GroupSecrets>(alloc, "01aa0000")?, 0);
-    assert_eq!(rt; answer::<GroupSecrets>(alloc, "01aa0101bb00")?, 0);
-    assert_eq!(rt; answer::<GroupSecrets>(alloc, "01aa02")?, 7);
-    Ok(())
+    let rows = [
+        ("f0010000", 0),
+        ("f0010801aa01bb01cc01dd", 2),
+        ("f0010601aa01bb01cc01dd", 0),
+    ];
+    answers::<Welcome>(&rt, rt.alloc(), &rows)
+}
+
+#[test]
+fn group_secrets(rt: HostRuntime) -> Result<(), Fail> {
+    let rows = [("01aa0000", 0), ("01aa0101bb00", 0), ("01aa02", 7)];
+    answers::<GroupSecrets>(&rt, rt.alloc(), &rows)
 }

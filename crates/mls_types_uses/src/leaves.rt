@@ -1,9 +1,9 @@
 //! Leaves, parents, key packages, proposals and the inputs that are made of them.
 
-use crate::digits::{answer, bytes_of, checked, value_of};
+use crate::digits::{answers, bytes_of, holds, spells, value_of};
 use mls_types::*;
-use std::alloc::{AllocError, Global};
-use std::test::*;
+use std::alloc::Global;
+use std::test::Fail;
 
 /// Version 1, suite f001, the keys aa, bb and cc, the identity "bob", a lifetime of all times, and the
 /// signatures dd and ee.
@@ -20,21 +20,41 @@ const UPDATED_LEAF: &str = "01bb01cc000103626f6202000102f0010000020001020001dd";
 /// What is signed of it in the group 6701 at leaf 5.
 const SIGNED_LEAF: &str = "01bb01cc000103626f6202000102f0010000020001020002670100000005";
 
+/// Whether these fields of the KeyPackage are so.
+fn has_parts(key_package: &KeyPackage, suite: u16, init_key: &[u8], identity: &[u8]) -> bool {
+    key_package.cipher_suite == suite
+        && key_package.init_key.as_slice() == init_key
+        && key_package.leaf_node.credential.identity.as_slice() == identity
+}
+
+fn is_of_bob(alloc: Global) -> Result<bool, LeafError> {
+    let key_package = value_of::<KeyPackage>(alloc, KEY_PACKAGE)?;
+    Ok(has_parts(&key_package, 0xf001, &[0xaa], b"bob"))
+}
+
 #[test]
 fn key_packages(rt: HostRuntime) -> Result<(), Fail> {
-    let alloc = rt.alloc();
-    let key_package = value_of::<KeyPackage>(alloc, KEY_PACKAGE)?;
-    assert_eq!(rt; key_package.cipher_suite, 0xf001);
-    assert_eq!(rt; key_package.init_key.as_slice(), [0xaa].as_slice());
-    let identity = key_package.leaf_node.credential.identity.as_slice();
-    assert_eq!(rt; identity, b"bob".as_slice());
-    assert!(rt; key_package.to_be_signed(alloc)? == bytes_of(alloc, KEY_PACKAGE_TBS)?);
     one_spelling::<KeyPackage>();
-    Ok(())
+    holds(
+        &rt,
+        is_of_bob(rt.alloc()),
+        "suite f001, the init key aa, bob",
+    )
+}
+
+fn signed_key_package(alloc: Global) -> Result<Vec<u8>, LeafError> {
+    let key_package = value_of::<KeyPackage>(alloc, KEY_PACKAGE)?;
+    key_package.to_be_signed(alloc)
+}
+
+#[test]
+fn signed_key_packages(rt: HostRuntime) -> Result<(), Fail> {
+    let alloc = rt.alloc();
+    spells(&rt, alloc, signed_key_package(alloc), KEY_PACKAGE_TBS)
 }
 
 /// Whether the KeyPackage that these digits spell has this reference.
-fn is_named(alloc: Global, key_package: &str, reference: &str) -> Result<bool, AllocError> {
+fn is_named(alloc: Global, key_package: &str, reference: &str) -> Result<bool, LeafError> {
     let bytes = bytes_of(alloc, key_package)?;
     let wanted = bytes_of(alloc, reference)?;
     if bytes.len() > 1_000 {
@@ -47,24 +67,24 @@ fn is_named(alloc: Global, key_package: &str, reference: &str) -> Result<bool, A
 fn key_package_references(rt: HostRuntime) -> Result<(), Fail> {
     // SHA-256 by Python's hashlib
     let reference = "02d8c9ad0ef00d3153d9cc6492f815b88f0e4f81e3198e89c309f42b8a67b132";
-    assert!(rt; is_named(rt.alloc(), KEY_PACKAGE, reference)?);
-    Ok(())
+    holds(&rt, is_named(rt.alloc(), KEY_PACKAGE, reference), reference)
 }
 
 #[test]
 fn key_packages_refused(rt: HostRuntime) -> Result<(), Fail> {
-    let alloc = rt.alloc();
-    assert_eq!(rt; answer::<KeyPackage>(alloc, KEY_PACKAGE)?, 0);
-    let cut =
-        "0001f00101aa01bb01cc000103626f6202000102f0010000020001010000000000000000ffffffffffffffff0001dd0001";
-    assert_eq!(rt; answer::<KeyPackage>(alloc, cut)?, 2);
-    assert_eq!(rt; checked::<KeyPackage>(alloc, cut)?, 2);
-    let other_credential = "0001f00101aa01bb01cc0002";
-    assert_eq!(rt; answer::<KeyPackage>(alloc, other_credential)?, 11);
-    let other_version = "0002f00101aa01bb01cc0002";
-    assert_eq!(rt; answer::<KeyPackage>(alloc, other_version)?, 7);
-    assert_eq!(rt; checked::<KeyPackage>(alloc, other_version)?, 7);
-    Ok(())
+    let rows = [
+        (KEY_PACKAGE, 0),
+        // cut
+        (
+            "0001f00101aa01bb01cc000103626f6202000102f0010000020001010000000000000000ffffffffffffffff0001dd0001",
+            2,
+        ),
+        // another credential
+        ("0001f00101aa01bb01cc0002", 11),
+        // another version
+        ("0002f00101aa01bb01cc0002", 7),
+    ];
+    answers::<KeyPackage>(&rt, rt.alloc(), &rows)
 }
 
 /// Whether the leaves that these digits spell are equal.
@@ -74,45 +94,70 @@ fn are_equal(alloc: Global, one: &str, other: &str) -> Result<bool, LeafError> {
     Ok(*one == *other)
 }
 
+/// Whether a leaf is equal to itself and not to one with another signature.
+fn are_told_apart(alloc: Global) -> Result<bool, LeafError> {
+    let other_signature = "01bb01cc000103626f6202000102f0010000020001020001de";
+    Ok(
+        are_equal(alloc, UPDATED_LEAF, UPDATED_LEAF)?
+            && !are_equal(alloc, UPDATED_LEAF, other_signature)?,
+    )
+}
+
 #[test]
 fn leaves_compared(rt: HostRuntime) -> Result<(), Fail> {
-    let alloc = rt.alloc();
-    let other_signature = "01bb01cc000103626f6202000102f0010000020001020001de";
-    assert!(rt; are_equal(alloc, UPDATED_LEAF, UPDATED_LEAF)?);
-    assert!(rt; !are_equal(alloc, UPDATED_LEAF, other_signature)?);
     laws_of_equality();
     laws_of_signed_parts();
-    Ok(())
+    holds(&rt, are_told_apart(rt.alloc()), "the signatures dd and de")
+}
+
+fn is_extension(alloc: Global, digits: &str, kind: u16, data: &[u8]) -> Result<bool, LeafError> {
+    let extension = value_of::<Extension>(alloc, digits)?;
+    Ok(extension.extension_type == kind && extension.extension_data.as_slice() == data)
 }
 
 #[test]
 fn extensions(rt: HostRuntime) -> Result<(), Fail> {
-    let alloc = rt.alloc();
-    let extension = value_of::<Extension>(alloc, "000302aabb")?;
-    assert_eq!(rt; extension.extension_type, 3);
-    assert_eq!(rt;
-        extension.extension_data.as_slice(),
-        [0xaa, 0xbb].as_slice()
-    );
-    assert_eq!(rt; answer::<Extension>(alloc, "000302aabb")?, 0);
-    assert_eq!(rt; answer::<Extension>(alloc, "000302aa")?, 2);
-    Ok(())
+    let found = is_extension(rt.alloc(), "000302aabb", 3, &[0xaa, 0xbb]);
+    holds(&rt, found, "type 3, the data aabb")
+}
+
+#[test]
+fn extensions_refused(rt: HostRuntime) -> Result<(), Fail> {
+    let rows = [("000302aabb", 0), ("000302aa", 2)];
+    answers::<Extension>(&rt, rt.alloc(), &rows)
+}
+
+fn is_removal(alloc: Global, digits: &str) -> Result<bool, LeafError> {
+    let proposal = value_of::<Proposal>(alloc, digits)?;
+    Ok(matches!(*proposal, Proposal::Remove(5)))
 }
 
 #[test]
 fn proposals(rt: HostRuntime) -> Result<(), Fail> {
-    let alloc = rt.alloc();
-    let proposal = value_of::<Proposal>(alloc, "000300000005")?;
-    assert!(rt; matches!(*proposal, Proposal::Remove(5)));
-    assert_eq!(rt; answer::<Proposal>(alloc, "000300000005")?, 0);
-    assert_eq!(rt; answer::<Proposal>(alloc, "0003000000")?, 2);
-    assert_eq!(rt; answer::<Proposal>(alloc, "0004")?, 12);
-    assert_eq!(rt; answer::<Proposal>(alloc, "0007")?, 12);
+    holds(
+        &rt,
+        is_removal(rt.alloc(), "000300000005"),
+        "the removal of 5",
+    )
+}
+
+#[test]
+fn proposals_refused(rt: HostRuntime) -> Result<(), Fail> {
+    let rows = [
+        ("000300000005", 0),
+        ("0003000000", 2),
+        ("0004", 12),
+        ("0007", 12),
+    ];
+    answers::<Proposal>(&rt, rt.alloc(), &rows)
+}
+
+#[test]
+fn refusals_named(rt: HostRuntime) {
     assert_eq!(rt;
         LeafError::UnsupportedProposal.name(),
         "UnsupportedProposal"
     );
-    Ok(())
 }
 
 /// A parent that lists 1 and 3, once 2 and 3 have been inserted.
@@ -124,13 +169,25 @@ fn listed(alloc: Global) -> Result<Vec<u8>, LeafError> {
 }
 
 #[test]
-fn parents(rt: HostRuntime) -> Result<(), Fail> {
+fn parents_listed(rt: HostRuntime) -> Result<(), Fail> {
     let alloc = rt.alloc();
-    assert!(rt; listed(alloc)? == bytes_of(alloc, "01aa000c000000010000000200000003")?);
-    let parent = value_of::<ParentNode>(alloc, "01aa00080000000100000003")?;
-    assert_eq!(rt; parent.encryption_key(), [0xaa].as_slice());
-    assert_eq!(rt; parent.unmerged_leaves(), [1, 3].as_slice());
-    Ok(())
+    spells(
+        &rt,
+        alloc,
+        listed(alloc),
+        "01aa000c000000010000000200000003",
+    )
+}
+
+fn is_parent(alloc: Global, digits: &str, key: &[u8], leaves: &[u32]) -> Result<bool, LeafError> {
+    let parent = value_of::<ParentNode>(alloc, digits)?;
+    Ok(parent.encryption_key() == key && parent.unmerged_leaves() == leaves)
+}
+
+#[test]
+fn parents(rt: HostRuntime) -> Result<(), Fail> {
+    let found = is_parent(rt.alloc(), "01aa00080000000100000003", &[0xaa], &[1, 3]);
+    holds(&rt, found, "the key aa, leaves 1 and 3")
 }
 
 /// A parent of the parts of another, whose list does not rise.
@@ -141,34 +198,43 @@ fn falling(alloc: Global) -> Result<ParentNode, LeafError> {
     ParentNode::new(encryption_key, parent_hash, list)
 }
 
+fn is_not_rising(alloc: Global) -> Result<bool, LeafError> {
+    match falling(alloc) {
+        Ok(_) => Ok(false),
+        Err(LeafError::NotRising) => Ok(true),
+        Err(error) => Err(error),
+    }
+}
+
+#[test]
+fn falling_parents(rt: HostRuntime) -> Result<(), Fail> {
+    holds(&rt, is_not_rising(rt.alloc()), "leaves 2 and 1")
+}
+
 #[test]
 fn parents_refused(rt: HostRuntime) -> Result<(), Fail> {
-    let alloc = rt.alloc();
-    assert!(rt; matches!(falling(alloc), Err(LeafError::NotRising)));
-    assert_eq!(rt;
-        answer::<ParentNode>(alloc, "01aa00080000000200000001")?,
-        13
-    );
-    assert_eq!(rt;
-        checked::<ParentNode>(alloc, "01aa00080000000200000001")?,
-        13
-    );
-    assert_eq!(rt; answer::<ParentNode>(alloc, "01aa00050000000100")?, 2);
-    assert_eq!(rt; checked::<ParentNode>(alloc, "01aa00050000000100")?, 2);
-    assert_eq!(rt; answer::<Node>(alloc, "03")?, 7);
-    Ok(())
+    let rows = [("01aa00080000000200000001", 13), ("01aa00050000000100", 2)];
+    answers::<ParentNode>(&rt, rt.alloc(), &rows)
+}
+
+#[test]
+fn nodes_refused(rt: HostRuntime) -> Result<(), Fail> {
+    answers::<Node>(&rt, rt.alloc(), &[("03", 7)])
+}
+
+fn signed_leaf(alloc: Global) -> Result<Vec<u8>, LeafError> {
+    let leaf = value_of::<LeafNode>(alloc, UPDATED_LEAF)?;
+    leaf.to_be_signed(alloc, &[0x67, 1], 5)
 }
 
 #[test]
 fn inputs(rt: HostRuntime) -> Result<(), Fail> {
     let alloc = rt.alloc();
-    let blank_leaf = tree_hash_input_of_leaf(alloc, 1, None)?;
-    assert!(rt; blank_leaf == bytes_of(alloc, "010000000100")?);
-    let blank_parent = tree_hash_input_of_parent(alloc, None, &[0xaa], &[0xbb, 0xcc])?;
-    assert!(rt; blank_parent == bytes_of(alloc, "020001aa02bbcc")?);
-    let parent_hash = parent_hash_input(alloc, &[0xaa], &[], &[0xbb])?;
-    assert!(rt; parent_hash == bytes_of(alloc, "01aa0001bb")?);
-    let leaf = value_of::<LeafNode>(alloc, UPDATED_LEAF)?;
-    assert!(rt; leaf.to_be_signed(alloc, &[0x67, 1], 5)? == bytes_of(alloc, SIGNED_LEAF)?);
-    Ok(())
+    let blank_leaf = tree_hash_input_of_leaf(alloc, 1, None);
+    spells(&rt, alloc, blank_leaf, "010000000100")?;
+    let blank_parent = tree_hash_input_of_parent(alloc, None, &[0xaa], &[0xbb, 0xcc]);
+    spells(&rt, alloc, blank_parent, "020001aa02bbcc")?;
+    let parent_hash = parent_hash_input(alloc, &[0xaa], &[], &[0xbb]);
+    spells(&rt, alloc, parent_hash, "01aa0001bb")?;
+    spells(&rt, alloc, signed_leaf(alloc), SIGNED_LEAF)
 }

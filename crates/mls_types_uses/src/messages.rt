@@ -1,9 +1,10 @@
 //! Messages and commits.
 
-use crate::digits::answer;
+use crate::digits::{answers, checked, decoded};
 use mls_types::*;
 use std::alloc::Global;
-use std::test::*;
+use std::process::Abort;
+use std::test::Fail;
 
 /// A KeyPackage of "bob" in a message.
 const KEY_PACKAGE_MESSAGE: &str =
@@ -14,72 +15,87 @@ const PUBLIC_MESSAGE: &str = "00010001016700000000000000000100000002000200030000
 
 #[test]
 fn messages(rt: HostRuntime) -> Result<(), Fail> {
-    let alloc = rt.alloc();
-    assert_eq!(rt; answer::<MlsMessage>(alloc, KEY_PACKAGE_MESSAGE)?, 0);
-    assert_eq!(rt; answer::<MlsMessage>(alloc, PUBLIC_MESSAGE)?, 0);
-    assert_eq!(rt; answer::<MlsMessage>(alloc, "00010003f0010000")?, 0);
     one_spelling::<MlsMessage>();
     fault_numbers::<MlsMessage>();
-    Ok(())
+    let rows = [
+        (KEY_PACKAGE_MESSAGE, 0),
+        (PUBLIC_MESSAGE, 0),
+        // an empty welcome
+        ("00010003f0010000", 0),
+    ];
+    answers::<MlsMessage>(&rt, rt.alloc(), &rows)
 }
 
 #[test]
 fn messages_refused(rt: HostRuntime) -> Result<(), Fail> {
-    let alloc = rt.alloc();
-    let cut =
-        "000100050001f00101aa01bb01cc000103626f6202000102f0010000020001010000000000000000ffffffffffffffff0001dd0001";
-    assert_eq!(rt; answer::<MlsMessage>(alloc, cut)?, 2);
-    let longer =
-        "000100050001f00101aa01bb01cc000103626f6202000102f0010000020001010000000000000000ffffffffffffffff0001dd0001ee00";
-    assert_eq!(rt; answer::<MlsMessage>(alloc, longer)?, 3);
-    let other_version =
-        "000100050002f00101aa01bb01cc000103626f6202000102f0010000020001010000000000000000ffffffffffffffff0001dd0001ee";
-    assert_eq!(rt; answer::<MlsMessage>(alloc, other_version)?, 7);
-    let other_credential =
-        "000100050001f00101aa01bb01cc000203626f6202000102f0010000020001010000000000000000ffffffffffffffff0001dd0001ee";
-    assert_eq!(rt; answer::<MlsMessage>(alloc, other_credential)?, 11);
-    let other_sender = "00010001016700000000000000000200000002000200030000000501aa01bb";
-    assert_eq!(rt; answer::<MlsMessage>(alloc, other_sender)?, 7);
-    Ok(())
+    let rows = [
+        // cut
+        (
+            "000100050001f00101aa01bb01cc000103626f6202000102f0010000020001010000000000000000ffffffffffffffff0001dd0001",
+            2,
+        ),
+        // longer
+        (
+            "000100050001f00101aa01bb01cc000103626f6202000102f0010000020001010000000000000000ffffffffffffffff0001dd0001ee00",
+            3,
+        ),
+        // another version
+        (
+            "000100050002f00101aa01bb01cc000103626f6202000102f0010000020001010000000000000000ffffffffffffffff0001dd0001ee",
+            7,
+        ),
+        // another credential
+        (
+            "000100050001f00101aa01bb01cc000203626f6202000102f0010000020001010000000000000000ffffffffffffffff0001dd0001ee",
+            11,
+        ),
+        // another sender
+        (
+            "00010001016700000000000000000200000002000200030000000501aa01bb",
+            7,
+        ),
+    ];
+    answers::<MlsMessage>(&rt, rt.alloc(), &rows)
 }
 
 #[test]
 fn commits(rt: HostRuntime) -> Result<(), Fail> {
-    let alloc = rt.alloc();
-    assert_eq!(rt; answer::<Commit>(alloc, "070100030000000500")?, 0);
-    assert_eq!(rt; answer::<Commit>(alloc, "0000")?, 0);
-    assert_eq!(rt; answer::<Commit>(alloc, "0002")?, 7);
-    let with_path =
-        "000101bb01cc000103626f6202000102f0010000020001010000000000000000ffffffffffffffff0001dd0701770401aa01bb";
-    assert_eq!(rt; answer::<Commit>(alloc, with_path)?, 0);
+    let rows = [
+        ("070100030000000500", 0),
+        ("0000", 0),
+        ("0002", 7),
+        // with a path
+        (
+            "000101bb01cc000103626f6202000102f0010000020001010000000000000000ffffffffffffffff0001dd0701770401aa01bb",
+            0,
+        ),
+    ];
+    answers::<Commit>(&rt, rt.alloc(), &rows)
+}
+
+/// What `decode` answers of so many zero bytes as a message, and what `check_all` does. Want of memory is passed on.
+fn zeros_answered(alloc: Global, count: usize) -> Result<(u8, u8), LeafError> {
+    let mut bytes: Vec<u8> = Vec::new(alloc);
+    bytes.resize(count, 0)?;
+    Ok((
+        decoded::<MlsMessage>(alloc, &bytes)?,
+        checked::<MlsMessage>(&bytes),
+    ))
+}
+
+/// Asserts of each row that both refuse so many zero bytes with this number.
+fn refuse_zeros(rt: &impl Abort, alloc: Global, rows: &[(usize, u8)]) -> Result<(), Fail> {
+    for (count, number) in rows {
+        assert_eq!(rt;
+            zeros_answered(alloc, *count)?,
+            (*number, *number),
+            "{count}"
+        );
+    }
     Ok(())
-}
-
-/// The number that so many zero bytes are refused with as a message, or 0.
-fn zeros_refused(alloc: Global, count: usize) -> Result<u8, LeafError> {
-    let mut bytes: Vec<u8> = Vec::new(alloc);
-    bytes.resize(count, 0)?;
-    match MlsMessage::check_all(&bytes) {
-        Ok(()) => Ok(0),
-        Err(error) => Ok(error.number()),
-    }
-}
-
-/// The number that `decode` refuses so many zero bytes with. Want of memory is passed on.
-fn zeros_decoded(alloc: Global, count: usize) -> Result<u8, LeafError> {
-    let mut bytes: Vec<u8> = Vec::new(alloc);
-    bytes.resize(count, 0)?;
-    match MlsMessage::decode(alloc, &bytes) {
-        Ok(_) => Ok(0),
-        Err(error) => Ok(error.number()),
-    }
 }
 
 #[test]
 fn long_inputs(rt: HostRuntime) -> Result<(), Fail> {
-    assert_eq!(rt; zeros_decoded(rt.alloc(), 4_194_304)?, 7);
-    assert_eq!(rt; zeros_decoded(rt.alloc(), 4_194_305)?, 6);
-    assert_eq!(rt; zeros_refused(rt.alloc(), 4_194_304)?, 7);
-    assert_eq!(rt; zeros_refused(rt.alloc(), 4_194_305)?, 6);
-    Ok(())
+    refuse_zeros(&rt, rt.alloc(), &[(4_194_304, 7), (4_194_305, 6)])
 }

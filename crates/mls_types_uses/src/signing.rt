@@ -1,9 +1,9 @@
 //! Signed contents: spelled, made, signed, tagged and named.
 
-use crate::digits::{GROUP_CONTEXT, answer, bytes_of, spelled, value_of};
+use crate::digits::{GROUP_CONTEXT, answers, bytes_of, holds, spelled, spells, value_of};
 use mls_types::*;
-use std::alloc::{AllocError, Global};
-use std::test::*;
+use std::alloc::Global;
+use std::test::Fail;
 
 /// The removal of leaf 5, by leaf 2 in the group "g" at epoch 0.
 const FRAMED_CONTENT: &str = "0167000000000000000001000000020002000300000005";
@@ -26,22 +26,35 @@ const FRAMED_COMMIT: &str = "01670000000000000000010000000200030000";
 const SIGNED_COMMIT: &str = "0167000000000000000001000000020003000001aa01bb";
 
 #[test]
+fn framed_contents(rt: HostRuntime) -> Result<(), Fail> {
+    answers::<FramedContent>(&rt, rt.alloc(), &[(FRAMED_CONTENT, 0)])
+}
+
+#[test]
 fn contents(rt: HostRuntime) -> Result<(), Fail> {
-    let alloc = rt.alloc();
-    assert_eq!(rt; answer::<FramedContent>(alloc, FRAMED_CONTENT)?, 0);
-    assert_eq!(rt; answer::<SignedContent>(alloc, SIGNED_CONTENT)?, 0);
-    assert_eq!(rt; answer::<SignedContent>(alloc, SIGNED_COMMIT)?, 0);
-    let data = "016700000000000000000100000002000101dd01aa";
-    assert_eq!(rt; answer::<SignedContent>(alloc, data)?, 0);
-    let no_tag = "0167000000000000000001000000020003000001aa";
-    assert_eq!(rt; answer::<SignedContent>(alloc, no_tag)?, 2);
-    let other_content = "0167000000000000000001000000020004";
-    assert_eq!(rt; answer::<SignedContent>(alloc, other_content)?, 7);
-    Ok(())
+    let rows = [
+        (SIGNED_CONTENT, 0),
+        (SIGNED_COMMIT, 0),
+        // data
+        ("016700000000000000000100000002000101dd01aa", 0),
+        // a commit with no tag
+        ("0167000000000000000001000000020003000001aa", 2),
+        // another content
+        ("0167000000000000000001000000020004", 7),
+    ];
+    answers::<SignedContent>(&rt, rt.alloc(), &rows)
+}
+
+/// A public message without its tag.
+const PUBLIC_CONTENT: &str = "0001016700000000000000000100000002000200030000000501aa";
+
+#[test]
+fn authenticated_contents(rt: HostRuntime) -> Result<(), Fail> {
+    answers::<AuthenticatedContent>(&rt, rt.alloc(), &[(PUBLIC_CONTENT, 0), ("0002", 7)])
 }
 
 /// Whether the proposal in this AuthenticatedContent has this reference.
-fn is_named(alloc: Global, content: &str, reference: &str) -> Result<bool, AllocError> {
+fn is_named(alloc: Global, content: &str, reference: &str) -> Result<bool, LeafError> {
     let bytes = bytes_of(alloc, content)?;
     let wanted = bytes_of(alloc, reference)?;
     if bytes.len() > 1_000 {
@@ -51,15 +64,14 @@ fn is_named(alloc: Global, content: &str, reference: &str) -> Result<bool, Alloc
 }
 
 #[test]
-fn authenticated_contents(rt: HostRuntime) -> Result<(), Fail> {
-    let alloc = rt.alloc();
-    let public = "0001016700000000000000000100000002000200030000000501aa";
-    assert_eq!(rt; answer::<AuthenticatedContent>(alloc, public)?, 0);
-    assert_eq!(rt; answer::<AuthenticatedContent>(alloc, "0002")?, 7);
+fn proposal_references(rt: HostRuntime) -> Result<(), Fail> {
     // SHA-256 by Python's hashlib
     let reference = "0ac5a8252add8d939c5b9a100f61a508e44b4f2291b3b7027d0964aeb6dc0223";
-    assert!(rt; is_named(alloc, public, reference)?);
-    Ok(())
+    holds(
+        &rt,
+        is_named(rt.alloc(), PUBLIC_CONTENT, reference),
+        reference,
+    )
 }
 
 /// The spelling of a framed content with the signature aa and, if it is a commit, the tag bb.
@@ -78,13 +90,17 @@ fn framed_of(alloc: Global, signed: &str) -> Result<Vec<u8>, LeafError> {
 
 #[test]
 fn signed_and_framed(rt: HostRuntime) -> Result<(), Fail> {
-    let alloc = rt.alloc();
-    assert!(rt; signed_with(alloc, FRAMED_CONTENT)? == bytes_of(alloc, SIGNED_CONTENT)?);
-    assert!(rt; signed_with(alloc, FRAMED_COMMIT)? == bytes_of(alloc, SIGNED_COMMIT)?);
-    assert!(rt; framed_of(alloc, SIGNED_CONTENT)? == bytes_of(alloc, FRAMED_CONTENT)?);
-    assert!(rt; framed_of(alloc, SIGNED_COMMIT)? == bytes_of(alloc, FRAMED_COMMIT)?);
     laws_of_signed_contents();
-    Ok(())
+    let alloc = rt.alloc();
+    spells(
+        &rt,
+        alloc,
+        signed_with(alloc, FRAMED_CONTENT),
+        SIGNED_CONTENT,
+    )?;
+    spells(&rt, alloc, signed_with(alloc, FRAMED_COMMIT), SIGNED_COMMIT)?;
+    spells(&rt, alloc, framed_of(alloc, SIGNED_CONTENT), FRAMED_CONTENT)?;
+    spells(&rt, alloc, framed_of(alloc, SIGNED_COMMIT), FRAMED_COMMIT)
 }
 
 fn signed_of_framed(alloc: Global) -> Result<Vec<u8>, LeafError> {
@@ -108,8 +124,12 @@ fn tagged_of_content(alloc: Global) -> Result<Vec<u8>, LeafError> {
 #[test]
 fn signed_and_tagged(rt: HostRuntime) -> Result<(), Fail> {
     let alloc = rt.alloc();
-    assert!(rt; signed_of_framed(alloc)? == bytes_of(alloc, FRAMED_CONTENT_TBS)?);
-    assert!(rt; signed_of_content(alloc)? == bytes_of(alloc, FRAMED_CONTENT_TBS)?);
-    assert!(rt; tagged_of_content(alloc)? == bytes_of(alloc, AUTHENTICATED_CONTENT_TBM)?);
-    Ok(())
+    spells(&rt, alloc, signed_of_framed(alloc), FRAMED_CONTENT_TBS)?;
+    spells(&rt, alloc, signed_of_content(alloc), FRAMED_CONTENT_TBS)?;
+    spells(
+        &rt,
+        alloc,
+        tagged_of_content(alloc),
+        AUTHENTICATED_CONTENT_TBM,
+    )
 }

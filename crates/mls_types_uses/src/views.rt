@@ -1,10 +1,11 @@
 //! Messages that are lent from their bytes.
 
-use crate::digits::{answer, bytes_of, spelled};
+use crate::digits::{bytes_of, decoded, holds, spelled};
 use mls_types::*;
 use mls_view::*;
 use std::alloc::{AllocError, Global};
-use std::test::*;
+use std::process::Abort;
+use std::test::Fail;
 
 /// A KeyPackage of "bob" in a message.
 const KEY_PACKAGE_MESSAGE: &str =
@@ -17,13 +18,7 @@ const PUBLIC_MESSAGE: &str = "00010001016700000000000000000100000002000200030000
 const WELCOME: &str = "00010003f0010c01aa01bb01cc01ab01bb01cc01dd";
 
 /// Whether the view of a public message lends these bytes as its FramedContent, its auth data and its tag.
-fn lends(
-    alloc: Global,
-    digits: &str,
-    framed: &str,
-    auth: &str,
-    tag: &str,
-) -> Result<bool, LeafError> {
+fn lends(alloc: Global, [digits, framed, auth, tag]: [&str; 4]) -> Result<bool, LeafError> {
     let bytes = bytes_of(alloc, digits)?;
     let framed = bytes_of(alloc, framed)?;
     let auth = bytes_of(alloc, auth)?;
@@ -38,15 +33,20 @@ fn lends(
     }
 }
 
-#[test]
-fn public_messages(rt: HostRuntime) -> Result<(), Fail> {
-    let alloc = rt.alloc();
+/// The removal lends its parts, and so does a commit.
+fn both_lend(alloc: Global) -> Result<bool, LeafError> {
     let framed = "0167000000000000000001000000020002000300000005";
-    assert!(rt; lends(alloc, PUBLIC_MESSAGE, framed, "01aa", "bb")?);
     let commit = "000100010167000000000000000001000000020003000001aa01bb01cc";
     let framed_commit = "01670000000000000000010000000200030000";
-    assert!(rt; lends(alloc, commit, framed_commit, "01aa01bb", "cc")?);
-    Ok(())
+    Ok(
+        lends(alloc, [PUBLIC_MESSAGE, framed, "01aa", "bb"])?
+            && lends(alloc, [commit, framed_commit, "01aa01bb", "cc"])?,
+    )
+}
+
+#[test]
+fn public_messages(rt: HostRuntime) -> Result<(), Fail> {
+    holds(&rt, both_lend(rt.alloc()), "both messages")
 }
 
 /// Whether what is owned of the view is spelled as the bytes are.
@@ -57,13 +57,20 @@ fn is_owned(alloc: Global, digits: &str) -> Result<bool, LeafError> {
     Ok(again == bytes)
 }
 
+/// Whether that is so of each message.
+fn are_owned(alloc: Global, messages: &[&str]) -> Result<bool, LeafError> {
+    for digits in messages {
+        if !is_owned(alloc, digits)? {
+            return Ok(false);
+        }
+    }
+    Ok(true)
+}
+
 #[test]
 fn owned_messages(rt: HostRuntime) -> Result<(), Fail> {
-    let alloc = rt.alloc();
-    assert!(rt; is_owned(alloc, PUBLIC_MESSAGE)?);
-    assert!(rt; is_owned(alloc, KEY_PACKAGE_MESSAGE)?);
-    assert!(rt; is_owned(alloc, WELCOME)?);
-    Ok(())
+    let messages = [PUBLIC_MESSAGE, KEY_PACKAGE_MESSAGE, WELCOME];
+    holds(&rt, are_owned(rt.alloc(), &messages), "all three messages")
 }
 
 /// How many entries the view of a welcome has, or 9 where there is none.
@@ -102,12 +109,18 @@ fn is_first(alloc: Global, digits: &str, reference: u8, ciphertext: u8) -> Resul
     }
 }
 
+/// Two entries in the one, with this entry first, and none in the other.
+fn are_walked(alloc: Global) -> Result<bool, LeafError> {
+    Ok(
+        entries(alloc, WELCOME)? == 2
+            && is_first(alloc, WELCOME, 0xaa, 0xcc)?
+            && entries(alloc, "00010003f0010000")? == 0,
+    )
+}
+
 #[test]
 fn walks(rt: HostRuntime) -> Result<(), Fail> {
-    assert_eq!(rt; entries(rt.alloc(), WELCOME)?, 2);
-    assert!(rt; is_first(rt.alloc(), WELCOME, 0xaa, 0xcc)?);
-    assert_eq!(rt; entries(rt.alloc(), "00010003f0010000")?, 0);
-    Ok(())
+    holds(&rt, are_walked(rt.alloc()), "entries of both welcomes")
 }
 
 /// The number that the view is refused with, or 0. The call has no allocator, so it can take no memory.
@@ -118,36 +131,36 @@ fn number_of(bytes: &[u8]) -> u8 {
     }
 }
 
-/// Whether the view answers what `decode` does.
-fn agree(alloc: Global, digits: &str) -> Result<bool, LeafError> {
+/// What the view answers, and what `decode` does.
+fn both_answers(alloc: Global, digits: &str) -> Result<(u8, u8), LeafError> {
     let bytes = bytes_of(alloc, digits)?;
-    Ok(number_of(&bytes) == answer::<MlsMessage>(alloc, digits)?)
+    Ok((number_of(&bytes), decoded::<MlsMessage>(alloc, &bytes)?))
+}
+
+/// Asserts of each message that these are the same.
+fn agree(rt: &impl Abort, alloc: Global, messages: &[&str]) -> Result<(), Fail> {
+    for digits in messages {
+        let (view, value) = both_answers(alloc, digits)?;
+        assert_eq!(rt; view, value, "{digits}");
+    }
+    Ok(())
 }
 
 #[test]
 fn messages_refused(rt: HostRuntime) -> Result<(), Fail> {
-    let alloc = rt.alloc();
-    assert!(rt;
-        agree(
-            alloc,
-            "00010001016700000000000000000100000002000200030000000501aa01"
-        )?
-    );
-    assert!(rt;
-        agree(
-            alloc,
-            "00010001016700000000000000000100000002000200030000000501aa01bb00"
-        )?
-    );
-    assert!(rt;
-        agree(
-            alloc,
-            "00010001016700000000000000000200000002000200030000000501aa01bb"
-        )?
-    );
-    assert!(rt; agree(alloc, "00010002")?);
-    assert!(rt; agree(alloc, "00010003f0010801aa01bb01cc01dd")?);
-    Ok(())
+    let messages = [
+        // cut
+        "00010001016700000000000000000100000002000200030000000501aa01",
+        // longer
+        "00010001016700000000000000000100000002000200030000000501aa01bb00",
+        // another sender
+        "00010001016700000000000000000200000002000200030000000501aa01bb",
+        // cut behind another wire format
+        "00010002",
+        // a welcome that is cut
+        "00010003f0010801aa01bb01cc01dd",
+    ];
+    agree(&rt, rt.alloc(), &messages)
 }
 
 /// A message of 4,194,304 bytes: these in front, then a byte string of zeros that fills it up, and these behind it.
@@ -164,28 +177,34 @@ fn filled(alloc: Global, front: &str, behind: &str) -> Result<Vec<u8>, AllocErro
     Ok(bytes)
 }
 
+/// Whether the view reads each message that is filled up so.
+fn are_read(alloc: Global, rows: &[(&str, &str)]) -> Result<bool, LeafError> {
+    for (front, behind) in rows {
+        let bytes = filled(alloc, front, behind)?;
+        if number_of(&bytes) != 0 {
+            return Ok(false);
+        }
+    }
+    Ok(true)
+}
+
 #[test]
 fn long_messages(rt: HostRuntime) -> Result<(), Fail> {
-    let alloc = rt.alloc();
-    let application = filled(
-        alloc,
-        "000100010167000000000000000001000000020001",
-        "01aa01bb",
-    )?;
-    assert_eq!(rt; number_of(&application), 0);
-    let welcome = filled(alloc, "00010003f00100", "")?;
-    assert_eq!(rt; number_of(&welcome), 0);
-    let key_package = filled(
-        alloc,
-        "000100050001f001",
-        "01bb01cc000103626f6202000102f0010000020001010000000000000000ffffffffffffffff0001dd0001ee",
-    )?;
-    assert_eq!(rt; number_of(&key_package), 0);
-    let group_info = filled(
-        alloc,
-        "000100040001f00101670000000000000000201111111111111111111111111111111111111111111111111111111111111111000000",
-        "0000000001dd",
-    )?;
-    assert_eq!(rt; number_of(&group_info), 0);
-    Ok(())
+    let rows = [
+        // application data
+        ("000100010167000000000000000001000000020001", "01aa01bb"),
+        // a welcome
+        ("00010003f00100", ""),
+        // a key package
+        (
+            "000100050001f001",
+            "01bb01cc000103626f6202000102f0010000020001010000000000000000ffffffffffffffff0001dd0001ee",
+        ),
+        // a group info
+        (
+            "000100040001f00101670000000000000000201111111111111111111111111111111111111111111111111111111111111111000000",
+            "0000000001dd",
+        ),
+    ];
+    holds(&rt, are_read(rt.alloc(), &rows), "all four messages")
 }
