@@ -65,6 +65,17 @@ fn answer<T: Codec>(alloc: Global, digits: &str) -> Result<(u8, u8), LeafError> 
     Ok((decoded::<T>(alloc, &bytes)?, checked::<T>(&bytes)))
 }
 
+/// Asserts that these are the two answers.
+pub(crate) fn gives(
+    rt: &impl Abort,
+    found: Result<(u8, u8), LeafError>,
+    wanted: (u8, u8),
+    what: &str,
+) -> Result<(), Fail> {
+    assert_eq!(rt; found?, wanted, "{what}");
+    Ok(())
+}
+
 /// Asserts of each row that its value is spelled so again, where its number is 0, or that `decode` and `check_all` refuse
 /// it with this number.
 pub(crate) fn answers<T: Codec>(
@@ -73,7 +84,7 @@ pub(crate) fn answers<T: Codec>(
     rows: &[(&str, u8)],
 ) -> Result<(), Fail> {
     for (digits, number) in rows {
-        assert_eq!(rt; answer::<T>(alloc, digits)?, (*number, *number), "{digits}");
+        gives(rt, answer::<T>(alloc, digits), (*number, *number), digits)?;
     }
     Ok(())
 }

@@ -152,12 +152,18 @@ fn proposals_refused(rt: HostRuntime) -> Result<(), Fail> {
     answers::<Proposal>(&rt, rt.alloc(), &rows)
 }
 
+fn is_spelled_out(error: LeafError, name: &str) -> Result<bool, LeafError> {
+    Ok(error.name() == name)
+}
+
 #[test]
-fn refusals_named(rt: HostRuntime) {
-    assert_eq!(rt;
-        LeafError::UnsupportedProposal.name(),
-        "UnsupportedProposal"
-    );
+fn refusals_named(rt: HostRuntime) -> Result<(), Fail> {
+    let name = "UnsupportedProposal";
+    holds(
+        &rt,
+        is_spelled_out(LeafError::UnsupportedProposal, name),
+        name,
+    )
 }
 
 /// A parent that lists 1 and 3, once 2 and 3 have been inserted.

@@ -1,9 +1,8 @@
 //! Messages and commits.
 
-use crate::digits::{answers, checked, decoded};
+use crate::digits::{answers, checked, decoded, gives};
 use mls_types::*;
 use std::alloc::Global;
-use std::process::Abort;
 use std::test::Fail;
 
 /// A KeyPackage of "bob" in a message.
@@ -83,19 +82,11 @@ fn zeros_answered(alloc: Global, count: usize) -> Result<(u8, u8), LeafError> {
     ))
 }
 
-/// Asserts of each row that both refuse so many zero bytes with this number.
-fn refuse_zeros(rt: &impl Abort, alloc: Global, rows: &[(usize, u8)]) -> Result<(), Fail> {
-    for (count, number) in rows {
-        assert_eq!(rt;
-            zeros_answered(alloc, *count)?,
-            (*number, *number),
-            "{count}"
-        );
-    }
-    Ok(())
-}
-
 #[test]
 fn long_inputs(rt: HostRuntime) -> Result<(), Fail> {
-    refuse_zeros(&rt, rt.alloc(), &[(4_194_304, 7), (4_194_305, 6)])
+    let alloc = rt.alloc();
+    let longest = zeros_answered(alloc, 4_194_304);
+    gives(&rt, longest, (7, 7), "4,194,304 zeros")?;
+    let longer = zeros_answered(alloc, 4_194_305);
+    gives(&rt, longer, (6, 6), "4,194,305 zeros")
 }

@@ -57,20 +57,18 @@ fn is_owned(alloc: Global, digits: &str) -> Result<bool, LeafError> {
     Ok(again == bytes)
 }
 
-/// Whether that is so of each message.
-fn are_owned(alloc: Global, messages: &[&str]) -> Result<bool, LeafError> {
+/// Asserts that of each message.
+fn are_owned(rt: &impl Abort, alloc: Global, messages: &[&str]) -> Result<(), Fail> {
     for digits in messages {
-        if !is_owned(alloc, digits)? {
-            return Ok(false);
-        }
+        holds(rt, is_owned(alloc, digits), digits)?;
     }
-    Ok(true)
+    Ok(())
 }
 
 #[test]
 fn owned_messages(rt: HostRuntime) -> Result<(), Fail> {
     let messages = [PUBLIC_MESSAGE, KEY_PACKAGE_MESSAGE, WELCOME];
-    holds(&rt, are_owned(rt.alloc(), &messages), "all three messages")
+    are_owned(&rt, rt.alloc(), &messages)
 }
 
 /// How many entries the view of a welcome has, or 9 where there is none.
@@ -131,17 +129,16 @@ fn number_of(bytes: &[u8]) -> u8 {
     }
 }
 
-/// What the view answers, and what `decode` does.
-fn both_answers(alloc: Global, digits: &str) -> Result<(u8, u8), LeafError> {
+/// Whether the view answers what `decode` does.
+fn agrees(alloc: Global, digits: &str) -> Result<bool, LeafError> {
     let bytes = bytes_of(alloc, digits)?;
-    Ok((number_of(&bytes), decoded::<MlsMessage>(alloc, &bytes)?))
+    Ok(number_of(&bytes) == decoded::<MlsMessage>(alloc, &bytes)?)
 }
 
-/// Asserts of each message that these are the same.
+/// Asserts that of each message.
 fn agree(rt: &impl Abort, alloc: Global, messages: &[&str]) -> Result<(), Fail> {
     for digits in messages {
-        let (view, value) = both_answers(alloc, digits)?;
-        assert_eq!(rt; view, value, "{digits}");
+        holds(rt, agrees(alloc, digits), digits)?;
     }
     Ok(())
 }
@@ -177,15 +174,18 @@ fn filled(alloc: Global, front: &str, behind: &str) -> Result<Vec<u8>, AllocErro
     Ok(bytes)
 }
 
-/// Whether the view reads each message that is filled up so.
-fn are_read(alloc: Global, rows: &[(&str, &str)]) -> Result<bool, LeafError> {
+/// Whether the view reads the message that is filled up so.
+fn is_read(alloc: Global, front: &str, behind: &str) -> Result<bool, LeafError> {
+    let bytes = filled(alloc, front, behind)?;
+    Ok(number_of(&bytes) == 0)
+}
+
+/// Asserts that of each row.
+fn are_read(rt: &impl Abort, alloc: Global, rows: &[(&str, &str)]) -> Result<(), Fail> {
     for (front, behind) in rows {
-        let bytes = filled(alloc, front, behind)?;
-        if number_of(&bytes) != 0 {
-            return Ok(false);
-        }
+        holds(rt, is_read(alloc, front, behind), front)?;
     }
-    Ok(true)
+    Ok(())
 }
 
 #[test]
@@ -206,5 +206,5 @@ fn long_messages(rt: HostRuntime) -> Result<(), Fail> {
             "0000000001dd",
         ),
     ];
-    holds(&rt, are_read(rt.alloc(), &rows), "all four messages")
+    are_read(&rt, rt.alloc(), &rows)
 }
