@@ -1,62 +1,95 @@
-use crate::members::{add, copy_of, leaf_count, remove, single, update};
-use crate::{PublicTree, TreeError};
+use crate::asked::made;
+use crate::members::{copy_of, single};
+use crate::rows::Step::{Add, AddKeys, Counts, HashesMade, Remove, Single, Update};
+use crate::rows::Told::{Done, Is};
+use crate::rows::{Row, met, rows_met};
+use crate::{Hash, PublicTree, TreeError};
 use std::alloc::Global;
 use std::test::*;
 
-/// A tree of so many members.
-fn members(alloc: Global, count: u8) -> Result<Box<PublicTree>, TreeError> {
-    let mut tree = single(alloc, 0)?;
-    for key in 1..count {
-        add(alloc, &mut tree, key)?;
-    }
-    Ok(tree)
-}
-
-/// How many hashes of nodes the tree hash makes.
-fn made(tree: &mut PublicTree) -> u64 {
-    let before = tree.hashes_done();
-    let _hash = tree.tree_hash();
-    tree.hashes_done().wrapping_sub(before)
-}
+/// A tree of eight members.
+const UPDATES: &[Row] = &[
+    (Single(0), Done),
+    (AddKeys(1, 8), Done),
+    (HashesMade, Is(&[15])),
+    (Update(3, 13), Done),
+    (HashesMade, Is(&[4])),
+    (Update(0, 10), Done),
+    (Update(7, 17), Done),
+    (HashesMade, Is(&[7])),
+    (HashesMade, Is(&[0])),
+];
 
 #[test]
 fn updates_cost_their_ways(rt: HostRuntime) -> Result<(), Fail> {
-    let alloc = rt.alloc();
-    let mut tree = members(alloc, 8)?;
-    assert_eq!(rt; made(&mut tree), 15);
-    update(alloc, &mut tree, 3, 13)?;
-    assert_eq!(rt; made(&mut tree), 4);
-    update(alloc, &mut tree, 0, 10)?;
-    update(alloc, &mut tree, 7, 17)?;
-    assert_eq!(rt; made(&mut tree), 7);
-    assert_eq!(rt; made(&mut tree), 0);
+    assert_eq!(rt; met(rt.alloc(), UPDATES)?, UPDATES.len());
     Ok(())
 }
 
+/// A tree of four members, and then of five.
+const DOUBLING: &[Row] = &[
+    (Single(0), Done),
+    (AddKeys(1, 4), Done),
+    (HashesMade, Is(&[7])),
+    (Add(4), Is(&[4])),
+    (Counts, Is(&[8, 5])),
+    (HashesMade, Is(&[8])),
+    (Remove(4), Done),
+    (Counts, Is(&[4, 4])),
+    (HashesMade, Is(&[0])),
+];
+
 #[test]
 fn a_doubling_costs_its_nodes(rt: HostRuntime) -> Result<(), Fail> {
-    let alloc = rt.alloc();
-    let mut tree = members(alloc, 4)?;
-    assert_eq!(rt; made(&mut tree), 7);
-    assert_eq!(rt; add(alloc, &mut tree, 4)?, 4);
-    assert_eq!(rt; leaf_count(&tree), 8);
-    assert_eq!(rt; made(&mut tree), 8);
-    remove(&mut tree, 4)?;
-    assert_eq!(rt; leaf_count(&tree), 4);
-    assert_eq!(rt; made(&mut tree), 0);
+    assert_eq!(rt; met(rt.alloc(), DOUBLING)?, DOUBLING.len());
     Ok(())
+}
+
+fn hash_of(tree: &mut PublicTree) -> Hash {
+    tree.tree_hash()
+}
+
+/// How many hashes are made of a copy of the tree, and the copy's tree hash after an update.
+fn changed_copy(alloc: Global, tree: &PublicTree) -> Result<(u64, Hash), TreeError> {
+    let mut copy = copy_of(alloc, tree)?;
+    let made_of_copy = made(&mut copy);
+    rows_met(alloc, &mut copy, &[(Update(1, 11), Done)])?;
+    Ok((made_of_copy, hash_of(&mut copy)))
+}
+
+/// What is seen of a tree of eight members and its copy.
+#[derive(Drop)]
+struct Copied {
+    /// The tree hash.
+    before: Hash,
+    /// The copy's, after an update of the copy.
+    of_copy: Hash,
+    /// The tree's, after that.
+    after: Hash,
+    /// How many hashes are made of the copy before the update, and of the tree in the end.
+    made: (u64, u64),
+}
+
+fn seen_of_copy(alloc: Global) -> Result<Copied, TreeError> {
+    let mut tree = single(alloc, 0)?;
+    rows_met(alloc, &mut tree, &[(AddKeys(1, 8), Done)])?;
+    let before = hash_of(&mut tree);
+    let (first, of_copy) = changed_copy(alloc, &tree)?;
+    let after = hash_of(&mut tree);
+    let made = (first, made(&mut tree));
+    Ok(Copied {
+        before,
+        of_copy,
+        after,
+        made,
+    })
 }
 
 #[test]
 fn copies_keep_their_hashes(rt: HostRuntime) -> Result<(), Fail> {
-    let alloc = rt.alloc();
-    let mut tree = members(alloc, 8)?;
-    let hash = tree.tree_hash();
-    let mut copy = copy_of(alloc, &tree)?;
-    assert_eq!(rt; made(&mut copy), 0);
-    update(alloc, &mut copy, 1, 11)?;
-    assert!(rt; copy.tree_hash() != hash);
-    assert_eq!(rt; tree.tree_hash(), hash);
-    assert_eq!(rt; made(&mut tree), 0);
+    let seen = seen_of_copy(rt.alloc())?;
+    assert!(rt; seen.of_copy != seen.before);
+    assert_eq!(rt; seen.after, seen.before);
+    assert_eq!(rt; seen.made, (0, 0));
     Ok(())
 }

@@ -6,8 +6,12 @@
 #![tactic(auto)]
 
 #[cfg(test)]
+mod asked;
+#[cfg(test)]
 mod check_tests;
 mod checking;
+#[cfg(test)]
+mod edited;
 mod edits;
 mod error;
 #[cfg(test)]
@@ -21,6 +25,8 @@ mod members;
 #[cfg(test)]
 mod path_tests;
 mod paths;
+#[cfg(test)]
+mod rows;
 #[cfg(test)]
 mod tests;
 mod tree;

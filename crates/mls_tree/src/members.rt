@@ -1,11 +1,12 @@
-//! Members of small trees, for the tests, and the tree's calls as these make them. They promise nothing: what a test
-//! expects is run, and a proof that carried the clauses of each call would take minutes.
+//! Members and small trees, for the tests. They promise nothing: what a test expects is run, and a proof that carried the
+//! clauses of each call would take minutes.
 
 use crate::{PublicTree, TreeError};
-use mls_leaf::{Bytes, Capabilities, Credential, Items, LeafNode, LeafSource};
+use mls_leaf::{Bytes, Capabilities, Credential, Items, LeafNode, LeafSource, Node, ParentNode};
+use mls_slot::Slot;
 use std::alloc::{AllocError, Global};
 
-pub(crate) fn byte(alloc: Global, b: u8) -> Result<Bytes, AllocError> {
+fn byte(alloc: Global, b: u8) -> Result<Bytes, AllocError> {
     let mut bytes = Vec::new(alloc);
     bytes.push(b)?;
     Ok(Bytes::from_vec(bytes))
@@ -41,70 +42,88 @@ pub(crate) fn member(alloc: Global, key: u8) -> Result<LeafNode, AllocError> {
 }
 
 /// A tree in a box, so that the proof of a test, which drops it at each call that may fail, goes into none of its parts.
-pub(crate) fn boxed(alloc: Global, tree: PublicTree) -> Result<Box<PublicTree>, AllocError> {
+fn boxed(alloc: Global, tree: PublicTree) -> Result<Box<PublicTree>, AllocError> {
     Ok(Box::new(alloc, tree)?)
 }
 
 /// The tree of one member with this key.
-pub(crate) fn single(alloc: Global, key: u8) -> Result<Box<PublicTree>, AllocError> {
-    boxed(alloc, PublicTree::single(alloc, member(alloc, key)?)?)
+pub(crate) fn single(alloc: Global, key: u8) -> Result<Box<PublicTree>, TreeError> {
+    let tree = PublicTree::single(alloc, member(alloc, key)?)?;
+    Ok(boxed(alloc, tree)?)
+}
+
+/// The tree of these nodes.
+fn tree_of(alloc: Global, nodes: Vec<Slot>) -> Result<Box<PublicTree>, TreeError> {
+    let tree = PublicTree::from_nodes(nodes)?;
+    Ok(boxed(alloc, tree)?)
+}
+
+/// The place of a member with this key.
+fn taken(alloc: Global, key: u8) -> Result<Slot, AllocError> {
+    Slot::of(alloc, Node::Leaf(member(alloc, key)?))
+}
+
+/// The nodes of a tree, up to the last leaf that is taken: its leaves as listed.
+fn nodes_of(alloc: Global, leaves: &[bool]) -> Result<Vec<Slot>, AllocError> {
+    let mut nodes = Vec::new(alloc);
+    for is_taken in leaves {
+        if !nodes.is_empty() {
+            nodes.push(Slot::blank())?;
+        }
+        let leaf = if *is_taken {
+            taken(alloc, 1)?
+        } else {
+            Slot::blank()
+        };
+        nodes.push(leaf)?;
+    }
+    Ok(nodes)
+}
+
+/// The tree whose leaves are taken, or blank, as listed.
+pub(crate) fn taken_leaves(alloc: Global, leaves: &[bool]) -> Result<Box<PublicTree>, TreeError> {
+    tree_of(alloc, nodes_of(alloc, leaves)?)
+}
+
+/// A parent with the key 9 that lists these leaves.
+fn parent(alloc: Global, hash: Bytes, leaves: Vec<u32>) -> Result<Slot, AllocError> {
+    match ParentNode::new(byte(alloc, 9)?, hash, Items::from_vec(leaves)) {
+        Ok(parent) => Slot::of(alloc, Node::Parent(parent)),
+        Err(_) => Ok(Slot::blank()),
+    }
+}
+
+/// Leaves 0, 2 and 3 of four, of which leaf 3 is unmerged at its parent.
+pub(crate) fn with_unmerged(alloc: Global) -> Result<Box<PublicTree>, TreeError> {
+    let mut nodes = nodes_of(alloc, &[true, false, true, true])?;
+    let listing = parent(alloc, byte(alloc, 9)?, Vec::from_slice(alloc, &[3])?)?;
+    if let Some(root) = nodes.get_mut(5) {
+        *root = listing;
+    }
+    tree_of(alloc, nodes)
+}
+
+/// Members with the keys 1 to 5 at leaves 0 to 4 of eight, and a parent with the key 9 over the blank leaves 6 and 7.
+fn odd_nodes(alloc: Global) -> Result<Vec<Slot>, AllocError> {
+    let mut nodes = Vec::new(alloc);
+    for key in 1..6 {
+        nodes.push(taken(alloc, key)?)?;
+        nodes.push(Slot::blank())?;
+    }
+    for _ in 0..3 {
+        nodes.push(Slot::blank())?;
+    }
+    let hash = Bytes::from_vec(Vec::new(alloc));
+    nodes.push(parent(alloc, hash, Vec::new(alloc))?)?;
+    Ok(nodes)
+}
+
+/// The tree of these.
+pub(crate) fn odd_tree(alloc: Global) -> Result<Box<PublicTree>, TreeError> {
+    tree_of(alloc, odd_nodes(alloc)?)
 }
 
 /// A copy of the tree.
 pub(crate) fn copy_of(alloc: Global, tree: &PublicTree) -> Result<Box<PublicTree>, AllocError> {
     boxed(alloc, tree.clone()?)
-}
-
-/// Adds a member with this key, and answers its leaf.
-pub(crate) fn add(alloc: Global, tree: &mut PublicTree, key: u8) -> Result<u32, TreeError> {
-    tree.add(member(alloc, key)?)
-}
-
-/// Replaces member i by one with this key.
-pub(crate) fn update(
-    alloc: Global,
-    tree: &mut PublicTree,
-    i: u32,
-    key: u8,
-) -> Result<(), TreeError> {
-    tree.update(i, member(alloc, key)?)
-}
-
-/// Removes member i.
-pub(crate) fn remove(tree: &mut PublicTree, i: u32) -> Result<(), TreeError> {
-    tree.remove(i)
-}
-
-/// Merges member i's path.
-pub(crate) fn merge_path(
-    tree: &mut PublicTree,
-    i: u32,
-    leaf: LeafNode,
-    keys: Vec<Bytes>,
-) -> Result<(), TreeError> {
-    tree.merge_path(i, leaf, keys)
-}
-
-/// The parent hash of member i's path.
-pub(crate) fn path_hash(
-    tree: &mut PublicTree,
-    i: u32,
-    keys: &[Bytes],
-) -> Result<Vec<u8>, TreeError> {
-    tree.path_parent_hash(i, keys)
-}
-
-/// The resolution of node x.
-pub(crate) fn resolution(tree: &PublicTree, x: u32) -> Result<Vec<u64>, AllocError> {
-    tree.resolution(x)
-}
-
-/// The filtered direct path of member i.
-pub(crate) fn filtered_path(tree: &PublicTree, i: u32) -> Result<Vec<u32>, TreeError> {
-    tree.filtered_path(i)
-}
-
-/// How many leaves the tree has.
-pub(crate) fn leaf_count(tree: &PublicTree) -> u32 {
-    tree.leaf_count()
 }

@@ -1,153 +1,86 @@
-use crate::members::{
-    add, byte, filtered_path, leaf, leaf_count, merge_path, path_hash, remove, resolution, single,
+use crate::members::single;
+use crate::rows::Step::{
+    Add, AddKeys, Counts, FilteredPath, Good, IsBlank, Merge, MergeCommitted, MergeGiven,
+    MergeLong, ParentHashLength, Remove, Resolution, Single,
 };
+use crate::rows::Told::{Done, Is, Refused};
+use crate::rows::{Row, met, rows_met};
 use crate::{Hash, PublicTree, TreeError};
-use mls_array as array;
-use mls_leaf::{
-    Bytes, LeafError, LeafNode, LeafSource, Node, parent_hash_input, tree_hash_input_of_leaf,
-};
+use mls_leaf::{LeafError, LeafSource, Node, parent_hash_input, tree_hash_input_of_leaf};
 use sha2::{Digest, Sha256};
-use std::alloc::{AllocError, Global};
+use std::alloc::Global;
 use std::test::*;
 
 /// Two members, with the keys 1 and 2.
-fn two(alloc: Global) -> Result<Box<PublicTree>, TreeError> {
-    let mut tree = single(alloc, 1)?;
-    add(alloc, &mut tree, 2)?;
-    Ok(tree)
-}
-
-fn one_key(alloc: Global, key: u8) -> Result<Vec<Bytes>, AllocError> {
-    let mut keys = Vec::new(alloc);
-    keys.push(byte(alloc, key)?)?;
-    Ok(keys)
-}
-
-/// The leaf of member 0 with the key 3, and the parent hash of a path with the key 4.
-fn committed(alloc: Global, tree: &mut PublicTree) -> Result<LeafNode, TreeError> {
-    let keys = one_key(alloc, 4)?;
-    let hash = path_hash(tree, 0, &keys)?;
-    let parent_hash = Bytes::from_vec(hash);
-    Ok(leaf(alloc, 3, LeafSource::Commit { parent_hash })?)
-}
+const MERGED: &[Row] = &[
+    (Single(1), Done),
+    (Add(2), Is(&[1])),
+    (Merge(0, 3, 4), Done),
+    (Resolution(1), Is(&[1])),
+    (FilteredPath(1), Is(&[1])),
+];
 
 #[test]
 fn a_path_is_merged(rt: HostRuntime) -> Result<(), Fail> {
-    let alloc = rt.alloc();
-    let mut tree = two(alloc)?;
-    let new = committed(alloc, &mut tree)?;
-    merge_path(&mut tree, 0, new, one_key(alloc, 4)?)?;
-    assert_eq!(rt; resolution(&tree, 1)?.as_slice(), [1].as_slice());
-    assert_eq!(rt; filtered_path(&tree, 1)?.as_slice(), [1].as_slice());
+    assert_eq!(rt; met(rt.alloc(), MERGED)?, MERGED.len());
     Ok(())
 }
+
+const REFUSED: &[Row] = &[
+    (Single(1), Done),
+    (Add(2), Is(&[1])),
+    (MergeCommitted(2, &[4]), Refused(22)),
+    (MergeCommitted(0, &[]), Refused(30)),
+    (MergeCommitted(0, &[2]), Refused(25)),
+    (MergeCommitted(0, &[5]), Refused(24)),
+    (Resolution(1), Is(&[0, 2])),
+];
 
 #[test]
 fn paths_that_are_refused(rt: HostRuntime) -> Result<(), Fail> {
-    let alloc = rt.alloc();
-    let mut tree = two(alloc)?;
-    let new = committed(alloc, &mut tree)?;
-    assert!(rt;
-        matches!(
-            merge_path(&mut tree, 2, new, one_key(alloc, 4)?),
-            Err(TreeError::NoSuchLeaf)
-        )
-    );
-    let new = committed(alloc, &mut tree)?;
-    assert!(rt;
-        matches!(
-            merge_path(&mut tree, 0, new, Vec::new(alloc)),
-            Err(TreeError::PathLength)
-        )
-    );
-    let new = committed(alloc, &mut tree)?;
-    assert!(rt;
-        matches!(
-            merge_path(&mut tree, 0, new, one_key(alloc, 2)?),
-            Err(TreeError::KeyRepeated)
-        )
-    );
-    let new = committed(alloc, &mut tree)?;
-    assert!(rt;
-        matches!(
-            merge_path(&mut tree, 0, new, one_key(alloc, 5)?),
-            Err(TreeError::ParentHashWrong)
-        )
-    );
-    assert_eq!(rt; resolution(&tree, 1)?.as_slice(), [0, 2].as_slice());
+    assert_eq!(rt; met(rt.alloc(), REFUSED)?, REFUSED.len());
     Ok(())
 }
 
-/// The members that are numbered so, each with its number plus one as its key, in a tree of four leaves.
-fn four_without(alloc: Global, blank: &[u32]) -> Result<Box<PublicTree>, TreeError> {
-    let mut tree = two(alloc)?;
-    add(alloc, &mut tree, 3)?;
-    add(alloc, &mut tree, 4)?;
-    for i in blank {
-        remove(&mut tree, *i)?;
-    }
-    Ok(tree)
-}
-
-/// A key of 32 bytes.
-fn long_key(alloc: Global) -> Result<Vec<Bytes>, AllocError> {
-    let mut keys = Vec::new(alloc);
-    keys.push(Bytes::from_vec(Vec::from_slice(alloc, &[9; 32])?))?;
-    Ok(keys)
-}
-
-/// Merges member i's path of one new key, and answers the length of the parent hash that its leaf has.
-fn merged(alloc: Global, tree: &mut PublicTree, i: u32) -> Result<usize, TreeError> {
-    let hash = path_hash(tree, i, &long_key(alloc)?)?;
-    let length = hash.len();
-    let parent_hash = Bytes::from_vec(hash);
-    let new = leaf(alloc, 8, LeafSource::Commit { parent_hash })?;
-    merge_path(tree, i, new, long_key(alloc)?)?;
-    Ok(length)
-}
-
-/// Whether the lists are right and each parent is parent-hash valid.
-fn has_good_hashes(alloc: Global, tree: &mut PublicTree) -> Result<bool, AllocError> {
-    let _tree_hash = tree.tree_hash();
-    let kept = tree.hashes.as_slice();
-    let nodes = tree.nodes.as_slice();
-    if !array::has_good_lists(nodes, tree.height) {
-        return Ok(false);
-    }
-    array::has_good_hashes(alloc, nodes, kept, tree.height)
-}
+/// A tree of four leaves, of which leaf 1 is blank until the add.
+const LISTED: &[Row] = &[
+    (Single(1), Done),
+    (AddKeys(2, 5), Done),
+    (Remove(1), Done),
+    (FilteredPath(0), Is(&[3])),
+    (MergeLong(0), Is(&[32])),
+    (IsBlank(1), Is(&[1])),
+    (Resolution(3), Is(&[3])),
+    (Add(7), Is(&[1])),
+    (Resolution(3), Is(&[3, 2])),
+    (Resolution(1), Is(&[0, 2])),
+    (IsBlank(5), Is(&[1])),
+    (Good, Is(&[1, 1])),
+];
 
 #[test]
 fn the_next_add_is_listed(rt: HostRuntime) -> Result<(), Fail> {
-    let alloc = rt.alloc();
-    let mut tree = four_without(alloc, &[1])?;
-    assert_eq!(rt; filtered_path(&tree, 0)?.as_slice(), [3].as_slice());
-    assert_eq!(rt; merged(alloc, &mut tree, 0)?, 32);
-    assert!(rt; tree.node(1).is_none());
-    assert_eq!(rt; resolution(&tree, 3)?.as_slice(), [3].as_slice());
-    assert_eq!(rt; add(alloc, &mut tree, 7)?, 1);
-    assert_eq!(rt; resolution(&tree, 3)?.as_slice(), [3, 2].as_slice());
-    assert_eq!(rt; resolution(&tree, 1)?.as_slice(), [0, 2].as_slice());
-    assert!(rt; tree.node(5).is_none());
-    assert!(rt; array::has_good_lists(&tree.nodes, tree.height));
-    assert!(rt; has_good_hashes(alloc, &mut tree)?);
+    assert_eq!(rt; met(rt.alloc(), LISTED)?, LISTED.len());
     Ok(())
 }
 
+/// A tree of four leaves, of which leaves 0 and 1 are blank.
+const BELOW_ROOT: &[Row] = &[
+    (Single(1), Done),
+    (AddKeys(2, 5), Done),
+    (Remove(0), Done),
+    (Remove(1), Done),
+    (Counts, Is(&[4, 2])),
+    (FilteredPath(2), Is(&[5])),
+    (MergeLong(2), Is(&[32])),
+    (IsBlank(1), Is(&[1])),
+    (IsBlank(3), Is(&[1])),
+    (ParentHashLength(5), Is(&[0])),
+];
+
 #[test]
 fn the_highest_filtered_node_is_below_the_root(rt: HostRuntime) -> Result<(), Fail> {
-    let alloc = rt.alloc();
-    let mut tree = four_without(alloc, &[0, 1])?;
-    assert_eq!(rt; leaf_count(&tree), 4);
-    assert_eq!(rt; filtered_path(&tree, 2)?.as_slice(), [5].as_slice());
-    assert_eq!(rt; merged(alloc, &mut tree, 2)?, 32);
-    assert!(rt; tree.node(1).is_none());
-    assert!(rt; tree.node(3).is_none());
-    let is_empty = match tree.node(5) {
-        Some(Node::Parent(parent)) => parent.parent_hash().is_empty(),
-        _ => false,
-    };
-    assert!(rt; is_empty);
+    assert_eq!(rt; met(rt.alloc(), BELOW_ROOT)?, BELOW_ROOT.len());
     Ok(())
 }
 
@@ -182,34 +115,38 @@ fn leaf_has_hash(tree: &PublicTree, hash: &[u8]) -> bool {
     }
 }
 
+/// How long the input of node 5's parent hash is, and whether leaf 2 has its hash.
+fn hash_of_node_5(alloc: Global, tree: &PublicTree) -> Result<(usize, bool), LeafError> {
+    let input = input_of_node_5(alloc, tree)?;
+    let hash = sha256(&input);
+    Ok((input.len(), leaf_has_hash(tree, &hash)))
+}
+
+/// What leaf 2's path leaves, of four leaves of which leaves 0 and 1 are blank.
+fn path_below_root(alloc: Global) -> Result<Box<PublicTree>, TreeError> {
+    let mut tree = single(alloc, 1)?;
+    let _met = rows_met(alloc, &mut tree, BELOW_ROOT)?;
+    Ok(tree)
+}
+
 #[test]
 fn the_highest_parent_hash_is_of_an_empty_one(rt: HostRuntime) -> Result<(), Fail> {
-    let alloc = rt.alloc();
-    let mut tree = four_without(alloc, &[0, 1])?;
-    merged(alloc, &mut tree, 2)?;
-    let input = input_of_node_5(alloc, &tree)?;
-    assert_eq!(rt; input.len(), 67);
-    assert!(rt; leaf_has_hash(&tree, &sha256(&input)));
+    let tree = path_below_root(rt.alloc())?;
+    assert_eq!(rt; hash_of_node_5(rt.alloc(), &tree)?, (67, true));
     Ok(())
 }
 
-/// The number that a path of the one member is refused with, whose leaf has this parent hash, or 0.
-fn alone(alloc: Global, parent_hash: &[u8], keys: Vec<Bytes>) -> Result<u8, TreeError> {
-    let mut tree = single(alloc, 1)?;
-    let parent_hash = Bytes::from_vec(parent_hash.to_vec(alloc)?);
-    let new = leaf(alloc, 2, LeafSource::Commit { parent_hash })?;
-    match merge_path(&mut tree, 0, new, keys) {
-        Ok(()) => Ok(0),
-        Err(TreeError::OutOfMemory) => Err(TreeError::OutOfMemory),
-        Err(error) => Ok(error.number()),
-    }
-}
+const ALONE: &[Row] = &[
+    (Single(1), Done),
+    (MergeGiven(&[], &[]), Done),
+    (Single(1), Done),
+    (MergeGiven(&[1], &[]), Refused(24)),
+    (Single(1), Done),
+    (MergeGiven(&[], &[3]), Refused(30)),
+];
 
 #[test]
 fn paths_of_one_member(rt: HostRuntime) -> Result<(), Fail> {
-    let alloc = rt.alloc();
-    assert_eq!(rt; alone(alloc, &[], Vec::new(alloc))?, 0);
-    assert_eq!(rt; alone(alloc, &[1], Vec::new(alloc))?, 24);
-    assert_eq!(rt; alone(alloc, &[], one_key(alloc, 3)?)?, 30);
+    assert_eq!(rt; met(rt.alloc(), ALONE)?, ALONE.len());
     Ok(())
 }

@@ -1,141 +1,109 @@
-use crate::members::{
-    add, boxed, byte, filtered_path, leaf_count, member, remove, resolution, single,
+use crate::rows::Step::{
+    Add, Ciphertexts, Counts, Distinct, Fill, FilteredPath, Leaves, Remove, Resolution, Sent,
+    Single, Unmerged,
 };
-use crate::{PublicTree, TreeError};
-use mls_leaf::{Items, Node, ParentNode};
-use mls_slot::Slot;
-use std::alloc::{AllocError, Global};
+use crate::rows::Told::{Done, Is, Refused};
+use crate::rows::{Row, met};
 use std::test::*;
 
-/// The nodes of a tree, up to the last leaf that is taken: its leaves as listed.
-fn nodes_of(alloc: Global, taken: &[bool]) -> Result<Vec<Slot>, AllocError> {
-    let mut nodes = Vec::new(alloc);
-    for is_taken in taken {
-        if !nodes.is_empty() {
-            nodes.push(Slot::blank())?;
-        }
-        if *is_taken {
-            nodes.push(Slot::of(alloc, Node::Leaf(member(alloc, 1)?))?)?;
-        } else {
-            nodes.push(Slot::blank())?;
-        }
-    }
-    Ok(nodes)
-}
-
-fn tree_of(alloc: Global, taken: &[bool]) -> Result<Box<PublicTree>, TreeError> {
-    Ok(boxed(alloc, PublicTree::from_nodes(nodes_of(alloc, taken)?)?)?)
-}
-
-/// A parent that lists one leaf.
-fn listing(alloc: Global, leaf: u32) -> Result<Slot, AllocError> {
-    let mut leaves = Vec::new(alloc);
-    leaves.push(leaf)?;
-    let parent = ParentNode::new(byte(alloc, 9)?, byte(alloc, 9)?, Items::from_vec(leaves));
-    match parent {
-        Ok(parent) => Slot::of(alloc, Node::Parent(parent)),
-        Err(_) => Ok(Slot::blank()),
-    }
-}
+const UNMERGED_LEAVES: &[Row] = &[
+    (Unmerged, Done),
+    (Resolution(3), Is(&[0, 5, 6])),
+    (Resolution(7), Is(&[])),
+];
 
 #[test]
 fn unmerged_leaves_are_in_the_resolution(rt: HostRuntime) -> Result<(), Fail> {
-    let alloc = rt.alloc();
-    let mut nodes = nodes_of(alloc, &[true, false, true, true])?;
-    if let Some(root) = nodes.get_mut(5) {
-        *root = listing(alloc, 3)?;
-    }
-    let tree = PublicTree::from_nodes(nodes)?;
-    assert_eq!(rt; resolution(&tree, 3)?.as_slice(), [0, 5, 6].as_slice());
-    assert_eq!(rt; resolution(&tree, 7)?.len(), 0);
+    assert_eq!(rt; met(rt.alloc(), UNMERGED_LEAVES)?, UNMERGED_LEAVES.len());
     Ok(())
 }
+
+const ADDS: &[Row] = &[
+    (Leaves(&[true, false, true, true]), Done),
+    (FilteredPath(0), Is(&[3])),
+    (FilteredPath(1), Refused(22)),
+    (Add(2), Is(&[1])),
+    (Add(3), Is(&[4])),
+    (Counts, Is(&[8, 5])),
+];
 
 #[test]
 fn adds_go_to_the_leftmost_blank_leaf(rt: HostRuntime) -> Result<(), Fail> {
-    let alloc = rt.alloc();
-    let mut tree = tree_of(alloc, &[true, false, true, true])?;
-    assert_eq!(rt; filtered_path(&tree, 0)?.as_slice(), [3].as_slice());
-    assert!(rt; matches!(filtered_path(&tree, 1), Err(TreeError::NoSuchLeaf)));
-    assert_eq!(rt; add(alloc, &mut tree, 2)?, 1);
-    assert_eq!(rt; add(alloc, &mut tree, 3)?, 4);
-    assert_eq!(rt; (leaf_count(&tree), tree.member_count()), (8, 5));
+    assert_eq!(rt; met(rt.alloc(), ADDS)?, ADDS.len());
     Ok(())
 }
 
-/// How many leaves are left after a removal.
-fn leaves_without(alloc: Global, taken: &[bool], i: u32) -> Result<u32, TreeError> {
-    let mut tree = tree_of(alloc, taken)?;
-    remove(&mut tree, i)?;
-    Ok(leaf_count(&tree))
-}
+/// The first number of `Counts` is how many leaves are left.
+const REMOVALS: &[Row] = &[
+    (Leaves(&[true, true, true, true, true]), Done),
+    (Remove(4), Done),
+    (Counts, Is(&[4, 4])),
+    (Leaves(&[true, true, true, true]), Done),
+    (Remove(3), Done),
+    (Counts, Is(&[4, 3])),
+    (Leaves(&[true, false, false, false, true]), Done),
+    (Remove(4), Done),
+    (Counts, Is(&[1, 1])),
+];
 
 #[test]
 fn removals_halve(rt: HostRuntime) -> Result<(), Fail> {
-    let alloc = rt.alloc();
-    assert_eq!(rt;
-        leaves_without(alloc, &[true, true, true, true, true], 4)?,
-        4
-    );
-    assert_eq!(rt; leaves_without(alloc, &[true, true, true, true], 3)?, 4);
-    assert_eq!(rt;
-        leaves_without(alloc, &[true, false, false, false, true], 4)?,
-        1
-    );
+    assert_eq!(rt; met(rt.alloc(), REMOVALS)?, REMOVALS.len());
     Ok(())
 }
+
+const NO_SHAPES: &[Row] = &[
+    (Leaves(&[]), Refused(20)),
+    (Leaves(&[false]), Refused(20)),
+    (Leaves(&[true, false]), Refused(20)),
+];
 
 #[test]
 fn shapes_that_no_tree_has(rt: HostRuntime) -> Result<(), Fail> {
-    let alloc = rt.alloc();
-    assert!(rt; matches!(tree_of(alloc, &[]), Err(TreeError::TreeShape)));
-    assert!(rt; matches!(tree_of(alloc, &[false]), Err(TreeError::TreeShape)));
-    assert!(rt; matches!(tree_of(alloc, &[true, false]), Err(TreeError::TreeShape)));
+    assert_eq!(rt; met(rt.alloc(), NO_SHAPES)?, NO_SHAPES.len());
     Ok(())
 }
+
+const FULL: &[Row] = &[
+    (Single(0), Done),
+    (Fill(4095), Done),
+    (Counts, Is(&[4096, 4096])),
+    (Add(0), Refused(21)),
+    (Counts, Is(&[4096, 4096])),
+    (Sent, Is(&[8191])),
+];
 
 #[test]
 fn a_full_tree(rt: HostRuntime) -> Result<(), Fail> {
-    let alloc = rt.alloc();
-    let mut tree = single(alloc, 0)?;
-    for _ in 1..4096 {
-        add(alloc, &mut tree, 0)?;
-    }
-    assert_eq!(rt; (leaf_count(&tree), tree.member_count()), (4096, 4096));
-    assert!(rt; matches!(add(alloc, &mut tree, 0), Err(TreeError::TreeFull)));
-    assert_eq!(rt; (leaf_count(&tree), tree.member_count()), (4096, 4096));
-    assert_eq!(rt; tree.to_nodes()?.len(), 8191);
+    assert_eq!(rt; met(rt.alloc(), FULL)?, FULL.len());
     Ok(())
 }
+
+const CIPHERTEXTS: &[Row] = &[
+    (Leaves(&[true, true, true, true]), Done),
+    (Ciphertexts(1, &[]), Is(&[1, 2])),
+    (Ciphertexts(1, &[3]), Is(&[1, 1])),
+    (Ciphertexts(1, &[0, 2, 3]), Is(&[0, 0])),
+    (Ciphertexts(4, &[]), Refused(22)),
+];
 
 #[test]
 fn ciphertexts_of_each_node(rt: HostRuntime) -> Result<(), Fail> {
-    let alloc = rt.alloc();
-    let tree = tree_of(alloc, &[true, true, true, true])?;
-    assert_eq!(rt;
-        tree.ciphertext_counts(1, &[])?.as_slice(),
-        [1, 2].as_slice()
-    );
-    assert_eq!(rt;
-        tree.ciphertext_counts(1, &[3])?.as_slice(),
-        [1, 1].as_slice()
-    );
-    assert_eq!(rt;
-        tree.ciphertext_counts(1, &[0, 2, 3])?.as_slice(),
-        [0, 0].as_slice()
-    );
-    assert!(rt; matches!(tree.ciphertext_counts(4, &[]), Err(TreeError::NoSuchLeaf)));
+    assert_eq!(rt; met(rt.alloc(), CIPHERTEXTS)?, CIPHERTEXTS.len());
     Ok(())
 }
 
+const REPEATED: &[Row] = &[
+    (Single(1), Done),
+    (Distinct, Is(&[1, 1])),
+    (Add(2), Is(&[1])),
+    (Distinct, Is(&[1, 1])),
+    (Add(1), Is(&[2])),
+    (Distinct, Is(&[0, 0])),
+];
+
 #[test]
 fn repeated_keys_and_clients(rt: HostRuntime) -> Result<(), Fail> {
-    let alloc = rt.alloc();
-    let mut tree = single(alloc, 1)?;
-    assert!(rt; tree.has_distinct_keys()? && tree.has_distinct_clients()?);
-    add(alloc, &mut tree, 2)?;
-    assert!(rt; tree.has_distinct_keys()? && tree.has_distinct_clients()?);
-    add(alloc, &mut tree, 1)?;
-    assert!(rt; !tree.has_distinct_keys()? && !tree.has_distinct_clients()?);
+    assert_eq!(rt; met(rt.alloc(), REPEATED)?, REPEATED.len());
     Ok(())
 }

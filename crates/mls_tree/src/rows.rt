@@ -1,0 +1,161 @@
+//! Tests by rows. A row is a step, which does something with a tree or asks something of it, and what that answers. A
+//! test is one call over its rows, so that no proof of a test goes through many calls.
+
+use crate::asked::{
+    ciphertext_counts, counts, distinct, filtered_path, good, hashes_made, is_blank,
+    parent_hash_length, resolution, sent,
+};
+use crate::edited::{
+    add, add_keys, begin, fill, merge, merge_committed, merge_given, merge_long, remove, update,
+};
+use crate::members::{copy_of, odd_tree, single, taken_leaves, with_unmerged};
+use crate::{PublicTree, TreeError};
+use std::alloc::Global;
+
+/// What a row does with the tree, or asks of it.
+#[derive(Clone, Copy)]
+pub(crate) enum Step {
+    /// Begins anew with the tree of one member with this key.
+    Single(u8),
+    /// Begins anew with a tree of nodes: its leaves, taken by a member with the key 1 or blank.
+    Leaves(&'static [bool]),
+    /// Begins anew with leaves 0, 2 and 3 of four, of which leaf 3 is unmerged at its parent.
+    Unmerged,
+    /// Begins anew with five members of eight leaves, and a parent over leaves 6 and 7.
+    Odd,
+    /// Adds a member with this key, and answers its leaf.
+    Add(u8),
+    /// Adds members with the keys from this one up to below that one.
+    AddKeys(u8, u8),
+    /// Adds so many members with the key 0.
+    Fill(u32),
+    /// Replaces this member by one with this key.
+    Update(u32, u8),
+    Remove(u32),
+    /// Merges this member's path of one parent: the key of its leaf, and that of the parent.
+    Merge(u32, u8, u8),
+    /// The same with the key 8, and one of 32 bytes; answers how long the leaf's parent hash is.
+    MergeLong(u32),
+    /// Merges a path of this member with these keys, whose leaf has the key 3 and the parent hash of member 0's path with
+    /// the key 4.
+    MergeCommitted(u32, &'static [u8]),
+    /// Merges a path of member 0, whose leaf has the key 2 and this parent hash, with these keys.
+    MergeGiven(&'static [u8], &'static [u8]),
+    /// How many leaves and how many members there are.
+    Counts,
+    /// Whether no encryption key stands twice, and whether no signature key does.
+    Distinct,
+    Resolution(u32),
+    FilteredPath(u32),
+    /// The ciphertexts of each node of this member's path, where these leaves were just added.
+    Ciphertexts(u32, &'static [u32]),
+    /// Whether this node is blank or outside the tree.
+    IsBlank(u32),
+    /// How long the parent hash of the parent at this node is.
+    ParentHashLength(u32),
+    /// Whether the lists are right, and whether each parent is parent-hash valid too.
+    Good,
+    /// How many hashes of nodes the tree hash makes.
+    HashesMade,
+    /// How many nodes are sent.
+    Sent,
+}
+
+/// What a row is to answer.
+#[derive(Clone, Copy)]
+pub(crate) enum Told {
+    /// Nothing.
+    Done,
+    /// These numbers; 1 stands for true.
+    Is(&'static [u64]),
+    /// A refusal with this number.
+    Refused(u8),
+}
+
+pub(crate) type Row = (Step, Told);
+
+/// What a step answers.
+fn answer(alloc: Global, tree: &mut Box<PublicTree>, step: Step) -> Result<Vec<u64>, TreeError> {
+    match step {
+        Step::Single(key) => begin(alloc, tree, single(alloc, key)),
+        Step::Leaves(taken) => begin(alloc, tree, taken_leaves(alloc, taken)),
+        Step::Unmerged => begin(alloc, tree, with_unmerged(alloc)),
+        Step::Odd => begin(alloc, tree, odd_tree(alloc)),
+        Step::Add(key) => add(alloc, tree, key),
+        Step::AddKeys(from, to) => add_keys(alloc, tree, from, to),
+        Step::Fill(count) => fill(alloc, tree, count),
+        Step::Update(i, key) => update(alloc, tree, i, key),
+        Step::Remove(i) => remove(alloc, tree, i),
+        Step::Merge(i, own, key) => merge(alloc, tree, i, own, key),
+        Step::MergeLong(i) => merge_long(alloc, tree, i),
+        Step::MergeCommitted(i, keys) => merge_committed(alloc, tree, i, keys),
+        Step::MergeGiven(hash, keys) => merge_given(alloc, tree, hash, keys),
+        Step::Counts => counts(alloc, tree),
+        Step::Distinct => distinct(alloc, tree),
+        Step::Resolution(x) => resolution(tree, x),
+        Step::FilteredPath(i) => filtered_path(alloc, tree, i),
+        Step::Ciphertexts(i, added) => ciphertext_counts(alloc, tree, i, added),
+        Step::IsBlank(x) => is_blank(alloc, tree, x),
+        Step::ParentHashLength(x) => parent_hash_length(alloc, tree, x),
+        Step::Good => good(alloc, tree),
+        Step::HashesMade => hashes_made(alloc, tree),
+        Step::Sent => sent(alloc, tree),
+    }
+}
+
+/// Whether an answer is what was told. Want of memory is passed on.
+fn is_told(answer: Result<Vec<u64>, TreeError>, told: Told) -> Result<bool, TreeError> {
+    match answer {
+        Ok(numbers) => match told {
+            Told::Done => Ok(numbers.is_empty()),
+            Told::Is(others) => Ok(numbers.as_slice() == others),
+            Told::Refused(_) => Ok(false),
+        },
+        Err(TreeError::OutOfMemory) => Err(TreeError::OutOfMemory),
+        Err(error) => match told {
+            Told::Refused(number) => Ok(error.number() == number),
+            _ => Ok(false),
+        },
+    }
+}
+
+/// How many rows, from the first on, the tree answers as told.
+pub(crate) fn rows_met(
+    alloc: Global,
+    tree: &mut Box<PublicTree>,
+    rows: &[Row],
+) -> Result<usize, TreeError> {
+    for i in 0..rows.len() {
+        let (step, told) = rows[i];
+        if !is_told(answer(alloc, tree, step), told)? {
+            return Ok(i);
+        }
+    }
+    Ok(rows.len())
+}
+
+/// How many rows are answered as told, beginning with the tree of one member.
+pub(crate) fn met(alloc: Global, rows: &[Row]) -> Result<usize, TreeError> {
+    let mut tree = single(alloc, 0)?;
+    rows_met(alloc, &mut tree, rows)
+}
+
+/// How many rows a copy of the tree answers as told.
+fn copy_met(alloc: Global, tree: &PublicTree, rows: &[Row]) -> Result<usize, TreeError> {
+    let mut copy = copy_of(alloc, tree)?;
+    rows_met(alloc, &mut copy, rows)
+}
+
+/// How many rows are answered as told: those of a tree, then of its copy, then again of the tree.
+pub(crate) fn met_by_both(
+    alloc: Global,
+    tree: &[Row],
+    copy: &[Row],
+    again: &[Row],
+) -> Result<[usize; 3], TreeError> {
+    let mut both = single(alloc, 0)?;
+    let first = rows_met(alloc, &mut both, tree)?;
+    let second = copy_met(alloc, &both, copy)?;
+    let third = rows_met(alloc, &mut both, again)?;
+    Ok([first, second, third])
+}
