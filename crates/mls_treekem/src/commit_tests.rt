@@ -2,129 +2,190 @@
 //! opened by members and taken by a joiner.
 
 use crate::small_trees::{
-    filtered_path, follow_edit, four, key_nodes, leaf, make_path, merge_path, next, open_path,
-    path_hash, public, sealed_path, take_secret, with_key,
+    boxed, follow_edit, four, gave, has_nodes, holds, leaf, make_path, next, open_path, public,
+    sealed_path, take_secret, with_key,
 };
 use crate::{PathSecrets, PrivatePath, init_seed, leaf_seed, path_seed, seals_in, sign_seed};
 use mls_group::UpdatePathNode;
 use mls_kdf::Secret;
 use mls_leaf::{Bytes, LeafNode, LeafSource};
+use mls_suite::KeyPair;
 use mls_tree::PublicTree;
 use std::alloc::Global;
-use std::test::Fail;
 
 const SEED: Secret = [5; 32];
 
 /// Leaf 1's commit, which adds leaf 3 to three members.
 #[derive(Drop)]
 struct Commit {
-    tree: PublicTree,
-    secrets: PathSecrets,
+    tree: Box<PublicTree>,
+    secrets: Box<PathSecrets>,
     nodes: Vec<UpdatePathNode>,
 }
 
+fn push_key(alloc: Global, keys: &mut Vec<Bytes>, pair: &KeyPair) -> Option<()> {
+    keys.push(Bytes::from_vec(Vec::from_slice(alloc, &pair.pk).ok()?))
+        .ok()
+}
+
 /// The public keys of a path.
-fn public_keys(alloc: Global, secrets: &PathSecrets) -> Result<Vec<Bytes>, Fail> {
+fn public_keys(alloc: Global, secrets: &PathSecrets) -> Option<Vec<Bytes>> {
     let mut keys = Vec::new(alloc);
     for pair in secrets.pairs.iter() {
-        keys.push(Bytes::from_vec(Vec::from_slice(alloc, &pair.pk)?))?;
+        push_key(alloc, &mut keys, pair)?;
     }
-    Ok(keys)
+    Some(keys)
+}
+
+/// The filtered direct path of leaf 1.
+fn filtered_path(tree: &PublicTree) -> Option<Vec<u32>> {
+    tree.filtered_path(1).ok()
+}
+
+/// Leaf 1, who has followed the edits with a new key.
+fn committer(alloc: Global, tree: &PublicTree) -> Option<Box<PrivatePath>> {
+    let mut own = with_key(alloc, 1, 1)?;
+    follow_edit(&mut own, tree, Some(&leaf_seed(&SEED)))?;
+    Some(own)
 }
 
 /// The committer's path in the tree after the edits.
-fn made_path(alloc: Global, tree: &PublicTree) -> Result<PathSecrets, Fail> {
-    let mut own = with_key(alloc, 1, 1);
-    follow_edit(&mut own, tree, Some(&leaf_seed(&SEED)))?;
-    let filtered = filtered_path(tree)?;
-    Ok(make_path(&mut own, &path_seed(&SEED), &filtered)?)
+fn made_path(alloc: Global, tree: &PublicTree) -> Option<Box<PathSecrets>> {
+    let mut own = committer(alloc, tree)?;
+    make_path(alloc, &mut own, &path_seed(&SEED), &filtered_path(tree)?)
 }
 
-/// The committer's new leaf, with the parent hash of its path.
-fn new_leaf(alloc: Global, hash: Vec<u8>) -> Result<LeafNode, Fail> {
-    let mut new = leaf(alloc, public(alloc, &leaf_seed(&SEED))?);
+/// The parent hash of leaf 1's path.
+fn path_hash(tree: &mut PublicTree, keys: &[Bytes]) -> Option<Vec<u8>> {
+    tree.path_parent_hash(1, keys).ok()
+}
+
+/// A leaf of a commit with this encryption key and parent hash.
+fn leaf_of(alloc: Global, key: Vec<u8>, hash: Vec<u8>) -> LeafNode {
+    let mut new = leaf(alloc, key);
     new.source = LeafSource::Commit {
         parent_hash: Bytes::from_vec(hash),
     };
-    Ok(new)
+    new
+}
+
+/// The committer's new leaf, with the parent hash of its path.
+fn new_leaf(alloc: Global, hash: Vec<u8>) -> Option<LeafNode> {
+    Some(leaf_of(alloc, public(alloc, &leaf_seed(&SEED))?, hash))
+}
+
+/// Merges leaf 1's path.
+fn merge_path(tree: &mut PublicTree, leaf: LeafNode, keys: Vec<Bytes>) -> Option<()> {
+    tree.merge_path(1, leaf, keys).ok()
 }
 
 /// Merges the committer's path.
-fn merge(alloc: Global, tree: &mut PublicTree, secrets: &PathSecrets) -> Result<(), Fail> {
+fn merge(alloc: Global, tree: &mut PublicTree, secrets: &PathSecrets) -> Option<()> {
     let keys = public_keys(alloc, secrets)?;
     let hash = path_hash(tree, &keys)?;
-    merge_path(tree, new_leaf(alloc, hash)?, keys)?;
-    Ok(())
+    merge_path(tree, new_leaf(alloc, hash)?, keys)
+}
+
+/// The commit's path, sealed.
+fn sealed(alloc: Global, tree: &PublicTree, secrets: &PathSecrets) -> Option<Vec<UpdatePathNode>> {
+    sealed_path(alloc, tree, &[3], secrets, &SEED).ok()
 }
 
 /// The commit, with its path merged.
-fn make_commit(alloc: Global) -> Result<Commit, Fail> {
+fn make_commit(alloc: Global) -> Option<Box<Commit>> {
     let mut tree = four(alloc)?;
     let secrets = made_path(alloc, &tree)?;
-    let nodes = sealed_path(alloc, &tree, &[3], &secrets, &SEED)?;
+    let nodes = sealed(alloc, &tree, &secrets)?;
     merge(alloc, &mut tree, &secrets)?;
-    Ok(Commit {
-        tree,
-        secrets,
-        nodes,
-    })
+    boxed(
+        alloc,
+        Commit {
+            tree,
+            secrets,
+            nodes,
+        },
+    )
 }
 
 /// Member i, who has followed the edits.
-fn follower(alloc: Global, i: u8) -> Result<PrivatePath, Fail> {
-    let mut own = with_key(alloc, u32::from(i), i);
-    follow_edit(&mut own, &four(alloc)?, None)?;
-    Ok(own)
+fn follower(alloc: Global, i: u8) -> Option<Box<PrivatePath>> {
+    let mut own = with_key(alloc, u32::from(i), i)?;
+    follow_edit(&mut own, &*four(alloc)?, None)?;
+    Some(own)
 }
 
-/// The nodes of leaf i's keys, who follows the edits and opens the path on the merged tree.
-fn received(alloc: Global, i: u8) -> Result<Vec<u64>, Fail> {
+/// Whether a member opens the commit's path on the merged tree, and has keys of these nodes then.
+fn opens(commit: &Commit, own: &mut PrivatePath, nodes: &[u64]) -> bool {
+    gave(
+        open_path(own, &commit.tree, &[3], &commit.nodes),
+        &commit.secrets.commit_secret,
+    ) && has_nodes(own, nodes)
+}
+
+/// Whether leaf i, who follows the edits, opens the commit's path and has keys of these nodes then.
+fn is_received(alloc: Global, i: u8, nodes: &[u64]) -> Option<bool> {
     let commit = make_commit(alloc)?;
     let mut own = follower(alloc, i)?;
-    let opened = open_path(&mut own, &commit.tree, &[3], &commit.nodes)?;
-    if opened != commit.secrets.commit_secret {
-        return Err("another commit secret".into());
-    }
-    Ok(key_nodes(alloc, &own)?)
+    Some(opens(&commit, &mut own, nodes))
 }
 
-#[test]
-fn received_in_order(rt: HostRuntime) -> Result<(), Fail> {
-    let alloc = rt.alloc();
-    assert_eq!(rt; received(alloc, 0)?.as_slice(), [0, 1, 3].as_slice());
-    assert_eq!(rt; received(alloc, 2)?.as_slice(), [3, 4].as_slice());
-    assert_eq!(rt; seals_in(&make_commit(alloc)?.nodes), 2);
-    Ok(())
-}
-
-/// The secret that leaf i is sent, zeros where there is none.
-fn sent(alloc: Global, commit: &Commit, i: u32) -> Result<Secret, Fail> {
-    match commit.secrets.secret_for(alloc, &commit.tree, 1, i)? {
-        Some(secret) => Ok(*secret),
-        None => Ok([0; 32]),
+/// Whether the commit's path is sealed so often.
+fn is_sealed(alloc: Global, seals: u32) -> bool {
+    match make_commit(alloc) {
+        Some(commit) => seals_in(&commit.nodes) == seals,
+        None => false,
     }
 }
 
 #[test]
-fn sent_to_joiners(rt: HostRuntime) -> Result<(), Fail> {
-    let alloc = rt.alloc();
+fn received_in_order(rt: HostRuntime) {
+    assert!(rt; holds(is_received(rt.alloc(), 0, &[0, 1, 3])));
+    assert!(rt; holds(is_received(rt.alloc(), 2, &[3, 4])));
+    assert!(rt; is_sealed(rt.alloc(), 2));
+}
+
+/// Whether leaf i is sent this secret, or none.
+fn is_sent(alloc: Global, commit: &Commit, i: u32, secret: Option<&Secret>) -> bool {
+    match commit.secrets.secret_for(alloc, &commit.tree, 1, i) {
+        Ok(sent) => sent == secret,
+        Err(_) => false,
+    }
+}
+
+/// Whether leaf i is sent this secret in the commit, or none.
+fn sends(alloc: Global, i: u32, secret: Option<&Secret>) -> bool {
+    match make_commit(alloc) {
+        Some(commit) => is_sent(alloc, &commit, i, secret),
+        None => false,
+    }
+}
+
+/// Whether leaf 3 takes a path secret on the merged tree, and has keys of these nodes then.
+fn takes(commit: &Commit, joiner: &mut PrivatePath, secret: &Secret, nodes: &[u64]) -> bool {
+    gave(
+        take_secret(joiner, &commit.tree, 1, secret),
+        &commit.secrets.commit_secret,
+    ) && has_nodes(joiner, nodes)
+}
+
+/// Whether leaf 3 joins by a path secret, and has keys of these nodes then.
+fn joins(alloc: Global, secret: &Secret, nodes: &[u64]) -> Option<bool> {
     let commit = make_commit(alloc)?;
+    let mut joiner = with_key(alloc, 3, 3)?;
+    Some(takes(&commit, &mut joiner, secret, nodes))
+}
+
+#[test]
+fn sent_to_joiners(rt: HostRuntime) {
+    let alloc = rt.alloc();
     let first = path_seed(&SEED);
     let second = next(&first);
-    for (i, secret) in [
-        (0, first),
-        (1, [0; 32]),
-        (2, second),
-        (3, second),
-        (4, [0; 32]),
-    ] {
-        assert_eq!(rt; sent(alloc, &commit, i)?, secret, "leaf {i}");
-    }
-    let mut joiner = with_key(alloc, 3, 3);
-    let taken = take_secret(&mut joiner, &commit.tree, 1, &second)?;
-    assert_eq!(rt; taken, commit.secrets.commit_secret);
-    assert_eq!(rt; key_nodes(alloc, &joiner)?.as_slice(), [3, 6].as_slice());
-    Ok(())
+    assert!(rt; sends(alloc, 0, Some(&first)));
+    assert!(rt; sends(alloc, 1, None));
+    assert!(rt; sends(alloc, 2, Some(&second)));
+    assert!(rt; sends(alloc, 3, Some(&second)));
+    assert!(rt; sends(alloc, 4, None));
+    assert!(rt; holds(joins(alloc, &second, &[3, 6])));
 }
 
 // By Python's hmac and hashlib: DeriveSecret of 32 bytes 05 under each label.
@@ -150,8 +211,8 @@ const PATH: Secret = [
 
 #[test]
 fn seeds_of_keys(rt: HostRuntime) {
-    assert_eq!(rt; init_seed(&SEED), INIT);
-    assert_eq!(rt; leaf_seed(&SEED), LEAF);
-    assert_eq!(rt; sign_seed(&SEED), SIGN);
-    assert_eq!(rt; path_seed(&SEED), PATH);
+    assert!(rt; init_seed(&SEED) == INIT);
+    assert!(rt; leaf_seed(&SEED) == LEAF);
+    assert!(rt; sign_seed(&SEED) == SIGN);
+    assert!(rt; path_seed(&SEED) == PATH);
 }

@@ -1,13 +1,19 @@
 //! Members of small trees and their keys, for the tests, and the calls that these make. They promise nothing: what a test
-//! expects is run, and a proof that carried the clauses of each call would take minutes.
+//! expects is run, and a proof that carried the clauses of each call would take minutes. They answer None where a call
+//! is refused or memory runs out, and give what a test holds in a box, since a proof drops all that is held at each end.
 
 use crate::{PathSecrets, PrivatePath, TreeKemError, seal_path};
 use mls_group::UpdatePathNode;
 use mls_kdf::{Secret, derive_secret};
 use mls_leaf::{Bytes, Capabilities, Credential, Items, LeafNode, LeafSource};
 use mls_suite::{Glass, KeyPair, Suite};
-use mls_tree::{PublicTree, TreeError};
-use std::alloc::{AllocError, Global};
+use mls_tree::PublicTree;
+use std::alloc::Global;
+
+/// A value in a box.
+pub(crate) fn boxed<T: Drop>(alloc: Global, value: T) -> Option<Box<T>> {
+    Box::new(alloc, value).ok()
+}
 
 fn empty(alloc: Global) -> Bytes {
     Bytes::from_vec(Vec::new(alloc))
@@ -38,13 +44,13 @@ pub(crate) fn leaf(alloc: Global, key: Vec<u8>) -> LeafNode {
 }
 
 /// The public key of a private key.
-pub(crate) fn public(alloc: Global, sk: &Secret) -> Result<Vec<u8>, AllocError> {
-    Glass::public(alloc, sk)
+pub(crate) fn public(alloc: Global, sk: &Secret) -> Option<Vec<u8>> {
+    Glass::public(alloc, sk).ok()
 }
 
 /// The key pair of the node with a path secret.
-pub(crate) fn node_pair(alloc: Global, secret: &Secret) -> Result<KeyPair, AllocError> {
-    Glass::derive_key_pair(alloc, &derive_secret(secret, "node"))
+pub(crate) fn node_pair(alloc: Global, secret: &Secret) -> Option<KeyPair> {
+    Glass::derive_key_pair(alloc, &derive_secret(secret, "node")).ok()
 }
 
 /// The path secret after this one.
@@ -53,57 +59,32 @@ pub(crate) fn next(secret: &Secret) -> Secret {
 }
 
 /// A leaf whose private key is 32 such bytes.
-pub(crate) fn member(alloc: Global, byte: u8) -> Result<LeafNode, AllocError> {
-    let key = public(alloc, &[byte; 32])?;
-    Ok(leaf(alloc, key))
+pub(crate) fn member(alloc: Global, byte: u8) -> Option<LeafNode> {
+    Some(leaf(alloc, public(alloc, &[byte; 32])?))
 }
 
 /// The tree of one member, whose private key is 32 such bytes.
-pub(crate) fn single(alloc: Global, byte: u8) -> Result<PublicTree, AllocError> {
-    PublicTree::single(alloc, member(alloc, byte)?)
+pub(crate) fn single(alloc: Global, byte: u8) -> Option<Box<PublicTree>> {
+    boxed(alloc, PublicTree::single(alloc, member(alloc, byte)?).ok()?)
 }
 
 /// Adds a member whose private key is 32 such bytes.
-pub(crate) fn add(alloc: Global, tree: &mut PublicTree, byte: u8) -> Result<u32, TreeError> {
-    tree.add(member(alloc, byte)?)
+pub(crate) fn add(alloc: Global, tree: &mut PublicTree, byte: u8) -> Option<u32> {
+    tree.add(member(alloc, byte)?).ok()
 }
 
 /// Four members; the private key of each is its leaf index 32 times.
-pub(crate) fn four(alloc: Global) -> Result<PublicTree, TreeError> {
+pub(crate) fn four(alloc: Global) -> Option<Box<PublicTree>> {
     let mut tree = single(alloc, 0)?;
     for byte in 1..4 {
-        let _ = add(alloc, &mut tree, byte)?;
+        add(alloc, &mut tree, byte)?;
     }
-    Ok(tree)
-}
-
-/// Replaces a leaf.
-pub(crate) fn update(tree: &mut PublicTree, i: u32, leaf: LeafNode) -> Result<(), TreeError> {
-    tree.update(i, leaf)
-}
-
-/// The filtered direct path of leaf 1.
-pub(crate) fn filtered_path(tree: &PublicTree) -> Result<Vec<u32>, TreeError> {
-    tree.filtered_path(1)
-}
-
-/// The parent hash of leaf 1's path.
-pub(crate) fn path_hash(tree: &mut PublicTree, keys: &[Bytes]) -> Result<Vec<u8>, TreeError> {
-    tree.path_parent_hash(1, keys)
-}
-
-/// Merges leaf 1's path.
-pub(crate) fn merge_path(
-    tree: &mut PublicTree,
-    leaf: LeafNode,
-    keys: Vec<Bytes>,
-) -> Result<(), TreeError> {
-    tree.merge_path(1, leaf, keys)
+    Some(tree)
 }
 
 /// Member i, whose only private key is 32 such bytes.
-pub(crate) fn with_key(alloc: Global, i: u32, byte: u8) -> PrivatePath {
-    PrivatePath::new(alloc, i, [byte; 32])
+pub(crate) fn with_key(alloc: Global, i: u32, byte: u8) -> Option<Box<PrivatePath>> {
+    boxed(alloc, PrivatePath::new(alloc, i, [byte; 32]))
 }
 
 /// The secrets of a path of so many nodes.
@@ -111,17 +92,18 @@ pub(crate) fn path_secrets(
     alloc: Global,
     start: &Secret,
     count: usize,
-) -> Result<PathSecrets, AllocError> {
-    PathSecrets::new::<Glass>(alloc, start, count)
+) -> Option<Box<PathSecrets>> {
+    boxed(alloc, PathSecrets::new::<Glass>(alloc, start, count).ok()?)
 }
 
 /// Makes a path of these nodes.
 pub(crate) fn make_path(
+    alloc: Global,
     own: &mut PrivatePath,
     start: &Secret,
     filtered: &[u32],
-) -> Result<PathSecrets, AllocError> {
-    own.make_path::<Glass>(start, filtered)
+) -> Option<Box<PathSecrets>> {
+    boxed(alloc, own.make_path::<Glass>(start, filtered).ok()?)
 }
 
 /// Follows the edits, with a new key of the leaf where there is one.
@@ -129,8 +111,8 @@ pub(crate) fn follow_edit(
     own: &mut PrivatePath,
     tree: &PublicTree,
     own_key: Option<&Secret>,
-) -> Result<(), AllocError> {
-    own.follow_edit(tree, own_key)
+) -> Option<()> {
+    own.follow_edit(tree, own_key).ok()
 }
 
 /// Leaf 1's path, sealed in a commit that added these leaves.
@@ -164,24 +146,85 @@ pub(crate) fn take_secret(
     joiner.take_secret::<Glass>(tree, signer, secret)
 }
 
-/// The private keys that it has.
-pub(crate) fn keys_of(path: &PrivatePath) -> Result<Vec<(u64, Secret)>, AllocError> {
-    path.keys()
+/// A member of a tree of four.
+#[derive(Drop)]
+pub(crate) struct OfFour {
+    pub(crate) tree: Box<PublicTree>,
+    pub(crate) path: Box<PrivatePath>,
 }
 
-/// The numbers of the nodes that it has keys of.
-pub(crate) fn key_nodes(alloc: Global, path: &PrivatePath) -> Result<Vec<u64>, AllocError> {
-    let mut nodes = Vec::new(alloc);
-    for (node, _) in keys_of(path)?.iter() {
-        nodes.push(*node)?;
+impl OfFour {
+    /// Opens leaf 1's path in a commit that added these leaves.
+    pub(crate) fn open(
+        &mut self,
+        added: &[u32],
+        nodes: &[UpdatePathNode],
+    ) -> Result<Secret, TreeKemError> {
+        open_path(&mut self.path, &self.tree, added, nodes)
     }
-    Ok(nodes)
 }
 
-/// The private key in this place among those that it has, zeros where there is none.
-pub(crate) fn key_of(path: &PrivatePath, i: usize) -> Result<Secret, AllocError> {
-    match keys_of(path)?.get(i) {
-        Some(key) => Ok(key.1),
-        None => Ok([0; 32]),
+/// Leaf i of a tree of four, whose only private key is its leaf index 32 times.
+pub(crate) fn of_four(alloc: Global, i: u8) -> Option<Box<OfFour>> {
+    let tree = four(alloc)?;
+    let path = with_key(alloc, u32::from(i), i)?;
+    boxed(alloc, OfFour { tree, path })
+}
+
+/// Whether there is an answer, and it is true.
+pub(crate) fn holds(answer: Option<bool>) -> bool {
+    match answer {
+        Some(holds) => holds,
+        None => false,
+    }
+}
+
+/// Whether a call gave this secret.
+pub(crate) fn gave(taken: Result<Secret, TreeKemError>, secret: &Secret) -> bool {
+    match taken {
+        Ok(given) => given == *secret,
+        Err(_) => false,
+    }
+}
+
+/// The number that a call refused with, 0 where it didn't.
+pub(crate) fn number_of<T: Drop>(taken: Result<T, TreeKemError>) -> u8 {
+    match taken {
+        Ok(_) => 0,
+        Err(error) => error.number(),
+    }
+}
+
+fn keys_of(own: &PrivatePath) -> Option<Vec<(u64, Secret)>> {
+    own.keys().ok()
+}
+
+fn are_at(keys: &[(u64, Secret)], nodes: &[u64]) -> bool {
+    for (key, node) in keys.iter().zip(nodes) {
+        if key.0 != *node {
+            return false;
+        }
+    }
+    keys.len() == nodes.len()
+}
+
+/// Whether it has keys of just these nodes.
+pub(crate) fn has_nodes(own: &PrivatePath, nodes: &[u64]) -> bool {
+    match keys_of(own) {
+        Some(keys) => are_at(&keys, nodes),
+        None => false,
+    }
+}
+
+/// The private key in this place among those that it has.
+pub(crate) fn key_of(own: &PrivatePath, i: usize) -> Option<Secret> {
+    Some(keys_of(own)?.get(i)?.1)
+}
+
+/// Whether this is the private key in this place among those that it has.
+pub(crate) fn has_key(own: &PrivatePath, i: usize, key: &Secret) -> bool {
+    match key_of(own, i) {
+        Some(kept) => kept == *key,
+        None => false,
     }
 }

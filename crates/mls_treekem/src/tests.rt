@@ -1,111 +1,167 @@
 //! Secrets of paths, and the keys that a member has.
 
 use crate::small_trees::{
-    add, follow_edit, key_nodes, key_of, make_path, next, node_pair, path_secrets, single, with_key,
+    add, boxed, follow_edit, has_key, has_nodes, holds, make_path, next, node_pair, path_secrets,
+    single, with_key,
 };
 use crate::{PathSecrets, PrivatePath, TreeKemError};
 use mls_kdf::Secret;
 use mls_suite::KeyPair;
 use mls_tree::PublicTree;
-use std::alloc::{AllocError, Global};
-use std::test::Fail;
+use std::alloc::Global;
 
-#[test]
-fn secrets_of_paths(rt: HostRuntime) -> Result<(), Fail> {
-    let start = [7; 32];
-    let none = path_secrets(rt.alloc(), &start, 0)?;
-    assert_eq!(rt; none.commit_secret, start);
-    let two = path_secrets(rt.alloc(), &start, 2)?;
-    let second = next(&start);
-    assert_eq!(rt; two.secrets.as_slice(), [start, second].as_slice());
-    assert_eq!(rt; two.commit_secret, next(&second));
-    for (secret, pair) in two.secrets.iter().zip(two.pairs.iter()) {
-        let made = node_pair(rt.alloc(), secret)?;
-        assert_eq!(rt; pair.sk, made.sk);
-        assert_eq!(rt; pair.pk.as_slice(), made.pk.as_slice());
+/// The first path secret.
+const START: Secret = [7; 32];
+
+/// Whether the path of so many nodes has these secrets.
+fn has_secrets(alloc: Global, count: usize, secrets: &[Secret], commit_secret: &Secret) -> bool {
+    match path_secrets(alloc, &START, count) {
+        Some(made) => made.secrets.as_slice() == secrets && made.commit_secret == *commit_secret,
+        None => false,
     }
-    Ok(())
+}
+
+/// Whether a key pair is that of the node with a path secret.
+fn is_node_pair(alloc: Global, secret: &Secret, pair: &KeyPair) -> bool {
+    match node_pair(alloc, secret) {
+        Some(made) => pair.sk == made.sk && pair.pk.as_slice() == made.pk.as_slice(),
+        None => false,
+    }
+}
+
+/// Whether each key pair is that of its secret's node.
+fn are_node_pairs(alloc: Global, made: &PathSecrets) -> bool {
+    for (secret, pair) in made.secrets.iter().zip(made.pairs.iter()) {
+        if !is_node_pair(alloc, secret, pair) {
+            return false;
+        }
+    }
+    true
+}
+
+/// Whether the path of so many nodes has the key pairs of its secrets' nodes.
+fn has_node_pairs(alloc: Global, count: usize) -> bool {
+    match path_secrets(alloc, &START, count) {
+        Some(made) => are_node_pairs(alloc, &made),
+        None => false,
+    }
 }
 
 #[test]
-fn new_path(rt: HostRuntime) -> Result<(), Fail> {
-    assert_eq!(rt; with_key(rt.alloc(), 5, 1).leaf(), 5);
-    Ok(())
+fn secrets_of_paths(rt: HostRuntime) {
+    let alloc = rt.alloc();
+    assert!(rt; has_secrets(alloc, 0, &[], &START));
+    let second = next(&START);
+    assert!(rt; has_secrets(alloc, 2, &[START, second], &next(&second)));
+    assert!(rt; has_node_pairs(alloc, 2));
 }
 
-fn made_at(pairs: &[KeyPair], i: usize) -> Secret {
+#[test]
+fn new_path(rt: HostRuntime) {
+    assert!(rt; PrivatePath::new(rt.alloc(), 5, [1; 32]).leaf() == 5);
+}
+
+fn is_made_at(own: &PrivatePath, place: usize, pairs: &[KeyPair], i: usize) -> bool {
     match pairs.get(i) {
-        Some(pair) => pair.sk,
-        None => [0; 32],
+        Some(pair) => has_key(own, place, &pair.sk),
+        None => false,
     }
 }
 
 /// Makes a path of the nodes 1 and 3.
-fn make_two(path: &mut PrivatePath) -> Result<PathSecrets, AllocError> {
-    make_path(path, &[7; 32], &[1, 3])
+fn make_two(alloc: Global, own: &mut PrivatePath) -> Option<Box<PathSecrets>> {
+    make_path(alloc, own, &START, &[1, 3])
+}
+
+/// Leaf 1, which made a path of two nodes.
+#[derive(Drop)]
+struct Maker {
+    own: Box<PrivatePath>,
+    made: Box<PathSecrets>,
+}
+
+fn two_maker(alloc: Global) -> Option<Box<Maker>> {
+    let mut own = with_key(alloc, 1, 1)?;
+    let made = make_two(alloc, &mut own)?;
+    boxed(alloc, Maker { own, made })
+}
+
+/// Whether the maker has its leaf's key and those of the path of two nodes.
+fn has_made(own: &PrivatePath, made: &PathSecrets) -> bool {
+    made.pairs.len() == 2
+        && has_nodes(own, &[1, 2, 3])
+        && is_made_at(own, 0, &made.pairs, 0)
+        && has_key(own, 1, &[1; 32])
+        && is_made_at(own, 2, &made.pairs, 1)
+}
+
+fn new_has_its_leaf(alloc: Global) -> bool {
+    match with_key(alloc, 1, 1) {
+        Some(own) => has_nodes(&own, &[2]),
+        None => false,
+    }
+}
+
+fn maker_has_made(alloc: Global) -> bool {
+    match two_maker(alloc) {
+        Some(maker) => has_made(&maker.own, &maker.made),
+        None => false,
+    }
 }
 
 #[test]
-fn keys_of_a_maker(rt: HostRuntime) -> Result<(), Fail> {
-    let mut path = with_key(rt.alloc(), 1, 1);
-    assert_eq!(rt; key_nodes(rt.alloc(), &path)?.as_slice(), [2].as_slice());
-    let made = make_two(&mut path)?;
-    assert_eq!(rt; made.pairs.len(), 2);
-    assert_eq!(rt;
-        key_nodes(rt.alloc(), &path)?.as_slice(),
-        [1, 2, 3].as_slice()
-    );
-    assert_eq!(rt; key_of(&path, 0)?, made_at(&made.pairs, 0));
-    assert_eq!(rt; key_of(&path, 1)?, [1; 32]);
-    assert_eq!(rt; key_of(&path, 2)?, made_at(&made.pairs, 1));
-    Ok(())
+fn keys_of_a_maker(rt: HostRuntime) {
+    assert!(rt; new_has_its_leaf(rt.alloc()));
+    assert!(rt; maker_has_made(rt.alloc()));
 }
 
 /// A copy of a member.
-fn copied(path: &PrivatePath) -> Result<PrivatePath, AllocError> {
-    path.clone()
+fn copied(alloc: Global, own: &PrivatePath) -> Option<Box<PrivatePath>> {
+    boxed(alloc, own.clone().ok()?)
+}
+
+/// Whether a copy of the maker is of the same leaf, and has its leaf's key and those of the path of two nodes.
+fn copy_has_made(alloc: Global) -> Option<bool> {
+    let maker = two_maker(alloc)?;
+    let copy = copied(alloc, &maker.own)?;
+    Some(copy.leaf() == 1 && has_made(&copy, &maker.made))
 }
 
 #[test]
-fn a_copy_has_the_same_keys(rt: HostRuntime) -> Result<(), Fail> {
-    let mut path = with_key(rt.alloc(), 1, 1);
-    let made = make_two(&mut path)?;
-    let copy = copied(&path)?;
-    assert_eq!(rt; copy.leaf(), 1);
-    assert_eq!(rt;
-        key_nodes(rt.alloc(), &copy)?.as_slice(),
-        [1, 2, 3].as_slice()
-    );
-    assert_eq!(rt; key_of(&copy, 2)?, made_at(&made.pairs, 1));
-    Ok(())
+fn a_copy_has_the_same_keys(rt: HostRuntime) {
+    assert!(rt; holds(copy_has_made(rt.alloc())));
 }
 
 /// Two members.
-fn two(alloc: Global) -> Result<PublicTree, Fail> {
+fn two(alloc: Global) -> Option<Box<PublicTree>> {
     let mut tree = single(alloc, 0)?;
-    let _ = add(alloc, &mut tree, 1)?;
-    Ok(tree)
+    add(alloc, &mut tree, 1)?;
+    Some(tree)
 }
 
 /// The second of two members, who made a path and then followed its own update.
-fn updated(alloc: Global) -> Result<PrivatePath, Fail> {
-    let mut path = with_key(alloc, 1, 1);
-    let _ = make_path(&mut path, &[7; 32], &[1])?;
-    follow_edit(&mut path, &two(alloc)?, Some(&[9; 32]))?;
-    Ok(path)
+fn updated(alloc: Global) -> Option<Box<PrivatePath>> {
+    let mut own = with_key(alloc, 1, 1)?;
+    make_path(alloc, &mut own, &START, &[1])?;
+    follow_edit(&mut own, &*two(alloc)?, Some(&[9; 32]))?;
+    Some(own)
+}
+
+/// Whether that member has the new key of its leaf alone.
+fn updated_has_its_leaf(alloc: Global) -> bool {
+    match updated(alloc) {
+        Some(own) => has_nodes(&own, &[2]) && has_key(&own, 0, &[9; 32]),
+        None => false,
+    }
 }
 
 #[test]
-fn keys_of_blank_nodes_are_dropped(rt: HostRuntime) -> Result<(), Fail> {
-    let path = updated(rt.alloc())?;
-    assert_eq!(rt; key_nodes(rt.alloc(), &path)?.as_slice(), [2].as_slice());
-    assert_eq!(rt; key_of(&path, 0)?, [9; 32]);
-    Ok(())
+fn keys_of_blank_nodes_are_dropped(rt: HostRuntime) {
+    assert!(rt; updated_has_its_leaf(rt.alloc()));
 }
 
 #[test]
-fn refusals(rt: HostRuntime) -> Result<(), Fail> {
-    assert_eq!(rt; TreeKemError::KeyMissing.number(), 35);
-    assert_eq!(rt; TreeKemError::KeyMissing.name(), "KeyMissing");
-    Ok(())
+fn refusals(rt: HostRuntime) {
+    assert!(rt; TreeKemError::KeyMissing.number() == 35);
+    assert!(rt; TreeKemError::KeyMissing.name() == "KeyMissing");
 }
