@@ -11,7 +11,6 @@ mod group;
 mod laws;
 mod proposals;
 mod references;
-mod shared_tree;
 mod spelling;
 mod used;
 
@@ -19,5 +18,4 @@ pub use edits::Edits;
 pub use error::GroupError;
 pub use group::PublicGroup;
 pub use laws::short_leaves_after_path;
-pub use shared_tree::SharedTree;
 pub use used::Used;
