@@ -69,23 +69,21 @@ pub(crate) fn remove(alloc: Global, tree: &mut PublicTree, i: u32) -> Result<Vec
     done(alloc, tree.remove(i))
 }
 
-/// Keys of one byte each.
-fn keys_of(alloc: Global, bytes: &[u8]) -> Result<Vec<Bytes>, AllocError> {
+/// So many bytes of this value.
+fn key_of(alloc: Global, byte: u8, length: usize) -> Result<Bytes, AllocError> {
+    let mut key = Vec::new(alloc);
+    for _ in 0..length {
+        key.push(byte)?;
+    }
+    Ok(Bytes::from_vec(key))
+}
+
+/// A key of this length for each byte.
+fn keys_of(alloc: Global, bytes: &[u8], length: usize) -> Result<Vec<Bytes>, AllocError> {
     let mut keys = Vec::new(alloc);
     for byte in bytes {
-        keys.push(key_of(alloc, &[*byte])?)?;
+        keys.push(key_of(alloc, *byte, length)?)?;
     }
-    Ok(keys)
-}
-
-fn key_of(alloc: Global, bytes: &[u8]) -> Result<Bytes, AllocError> {
-    Ok(Bytes::from_vec(Vec::from_slice(alloc, bytes)?))
-}
-
-/// One key of 32 bytes.
-fn long_key(alloc: Global) -> Result<Vec<Bytes>, AllocError> {
-    let mut keys = Vec::new(alloc);
-    keys.push(key_of(alloc, &[9; 32])?)?;
     Ok(keys)
 }
 
@@ -99,14 +97,40 @@ fn committed(alloc: Global, key: u8, hash: Vec<u8>) -> Result<LeafNode, AllocErr
     leaf(alloc, key, LeafSource::Commit { parent_hash })
 }
 
-fn merge_path(
+/// The leaf with the key `own` of a commit by member i, whose path has one key of this byte and length.
+fn committed_for(
     alloc: Global,
+    tree: &mut PublicTree,
+    i: u32,
+    own: u8,
+    key: (u8, usize),
+) -> Result<LeafNode, TreeError> {
+    let (byte, length) = key;
+    let keys = keys_of(alloc, &[byte], length)?;
+    let hash = path_hash(tree, i, keys)?;
+    Ok(committed(alloc, own, hash)?)
+}
+
+fn merge_path(
     tree: &mut PublicTree,
     i: u32,
     leaf: LeafNode,
     keys: Vec<Bytes>,
+) -> Result<(), TreeError> {
+    tree.merge_path(i, leaf, keys)
+}
+
+/// Merges member i's path with a key of this length for each byte.
+fn merge_keys(
+    alloc: Global,
+    tree: &mut PublicTree,
+    i: u32,
+    leaf: LeafNode,
+    bytes: &[u8],
+    length: usize,
 ) -> Result<Vec<u64>, TreeError> {
-    done(alloc, tree.merge_path(i, leaf, keys))
+    let keys = keys_of(alloc, bytes, length)?;
+    done(alloc, merge_path(tree, i, leaf, keys))
 }
 
 pub(crate) fn merge(
@@ -116,9 +140,16 @@ pub(crate) fn merge(
     own: u8,
     key: u8,
 ) -> Result<Vec<u64>, TreeError> {
-    let hash = path_hash(tree, i, keys_of(alloc, &[key])?)?;
-    let leaf = committed(alloc, own, hash)?;
-    merge_path(alloc, tree, i, leaf, keys_of(alloc, &[key])?)
+    let leaf = committed_for(alloc, tree, i, own, (key, 1))?;
+    merge_keys(alloc, tree, i, leaf, &[key], 1)
+}
+
+/// How long the parent hash of this leaf is.
+fn hash_length(leaf: &LeafNode) -> u64 {
+    match &leaf.source {
+        LeafSource::Commit { parent_hash } => parent_hash.as_slice().len() as u64,
+        _ => 0,
+    }
 }
 
 pub(crate) fn merge_long(
@@ -126,11 +157,10 @@ pub(crate) fn merge_long(
     tree: &mut PublicTree,
     i: u32,
 ) -> Result<Vec<u64>, TreeError> {
-    let hash = path_hash(tree, i, long_key(alloc)?)?;
-    let length = hash.len();
-    let leaf = committed(alloc, 8, hash)?;
-    merge_path(alloc, tree, i, leaf, long_key(alloc)?)?;
-    number(alloc, length as u64)
+    let leaf = committed_for(alloc, tree, i, 8, (9, 32))?;
+    let length = hash_length(&leaf);
+    merge_keys(alloc, tree, i, leaf, &[9], 32)?;
+    number(alloc, length)
 }
 
 pub(crate) fn merge_committed(
@@ -139,9 +169,8 @@ pub(crate) fn merge_committed(
     i: u32,
     keys: &[u8],
 ) -> Result<Vec<u64>, TreeError> {
-    let hash = path_hash(tree, 0, keys_of(alloc, &[4])?)?;
-    let leaf = committed(alloc, 3, hash)?;
-    merge_path(alloc, tree, i, leaf, keys_of(alloc, keys)?)
+    let leaf = committed_for(alloc, tree, 0, 3, (4, 1))?;
+    merge_keys(alloc, tree, i, leaf, keys, 1)
 }
 
 pub(crate) fn merge_given(
@@ -151,5 +180,5 @@ pub(crate) fn merge_given(
     keys: &[u8],
 ) -> Result<Vec<u64>, TreeError> {
     let leaf = committed(alloc, 2, Vec::from_slice(alloc, hash)?)?;
-    merge_path(alloc, tree, 0, leaf, keys_of(alloc, keys)?)
+    merge_keys(alloc, tree, 0, leaf, keys, 1)
 }

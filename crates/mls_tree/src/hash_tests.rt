@@ -1,8 +1,9 @@
 use crate::asked::made;
+use crate::edited::{add_keys, update};
 use crate::members::{copy_of, single};
 use crate::rows::Step::{Add, AddKeys, Counts, HashesMade, Remove, Single, Update};
 use crate::rows::Told::{Done, Is};
-use crate::rows::{Row, met, rows_met};
+use crate::rows::{Row, met};
 use crate::{Hash, PublicTree, TreeError};
 use std::alloc::Global;
 use std::test::*;
@@ -53,7 +54,7 @@ fn hash_of(tree: &mut PublicTree) -> Hash {
 fn changed_copy(alloc: Global, tree: &PublicTree) -> Result<(u64, Hash), TreeError> {
     let mut copy = copy_of(alloc, tree)?;
     let made_of_copy = made(&mut copy);
-    rows_met(alloc, &mut copy, &[(Update(1, 11), Done)])?;
+    update(alloc, &mut copy, 1, 11)?;
     Ok((made_of_copy, hash_of(&mut copy)))
 }
 
@@ -72,7 +73,7 @@ struct Copied {
 
 fn seen_of_copy(alloc: Global) -> Result<Copied, TreeError> {
     let mut tree = single(alloc, 0)?;
-    rows_met(alloc, &mut tree, &[(AddKeys(1, 8), Done)])?;
+    add_keys(alloc, &mut tree, 1, 8)?;
     let before = hash_of(&mut tree);
     let (first, of_copy) = changed_copy(alloc, &tree)?;
     let after = hash_of(&mut tree);

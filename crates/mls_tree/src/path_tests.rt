@@ -5,7 +5,7 @@ use crate::rows::Step::{
 };
 use crate::rows::Told::{Done, Is, Refused};
 use crate::rows::{Row, met, rows_met};
-use crate::{Hash, PublicTree, TreeError};
+use crate::{Hash, PublicTree};
 use mls_leaf::{LeafError, LeafSource, Node, parent_hash_input, tree_hash_input_of_leaf};
 use sha2::{Digest, Sha256};
 use std::alloc::Global;
@@ -122,17 +122,17 @@ fn hash_of_node_5(alloc: Global, tree: &PublicTree) -> Result<(usize, bool), Lea
     Ok((input.len(), leaf_has_hash(tree, &hash)))
 }
 
-/// What leaf 2's path leaves, of four leaves of which leaves 0 and 1 are blank.
-fn path_below_root(alloc: Global) -> Result<Box<PublicTree>, TreeError> {
+/// How many of these rows are met, and what is seen of node 5 after them.
+fn hash_below_root(alloc: Global) -> Result<(usize, (usize, bool)), Fail> {
     let mut tree = single(alloc, 1)?;
-    let _met = rows_met(alloc, &mut tree, BELOW_ROOT)?;
-    Ok(tree)
+    let met = rows_met(alloc, &mut tree, BELOW_ROOT)?;
+    Ok((met, hash_of_node_5(alloc, &tree)?))
 }
 
 #[test]
 fn the_highest_parent_hash_is_of_an_empty_one(rt: HostRuntime) -> Result<(), Fail> {
-    let tree = path_below_root(rt.alloc())?;
-    assert_eq!(rt; hash_of_node_5(rt.alloc(), &tree)?, (67, true));
+    let seen = hash_below_root(rt.alloc())?;
+    assert_eq!(rt; seen, (BELOW_ROOT.len(), (67, true)));
     Ok(())
 }
 
