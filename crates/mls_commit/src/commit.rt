@@ -59,7 +59,7 @@ fn merged<S: Suite>(
     ensures { Answers term number_of (model.merged S.crypto group.now committer edits.now path.now) result }
 {
     match path {
-        None => Ok(edits.tree.clone()?),
+        None => Ok(edits.tree.as_tree().clone()?),
         Some(path) => with_path::<S>(alloc, group, committer, edits, path),
     }
 }

@@ -67,7 +67,8 @@ fn require_counts(
     requires { IsSome (leaf_of edits.now.tree committer) }
     ensures { Answers (λ _. passed) number_of (count_checks edits.now committer path.now) result }
 {
-    let due = edits.tree.ciphertext_counts(committer, &edits.added)?;
+    let tree = edits.tree.as_tree();
+    let due = tree.ciphertext_counts(committer, &edits.added)?;
     let counts = cipher_counts(alloc, path)?;
     if counts.len() != due.len() {
         return Err(CommitError::from(TreeError::PathLength));
@@ -124,7 +125,7 @@ pub(crate) fn with_path<S: Suite>(
     }
     let keys = node_keys(alloc, path)?;
     let leaf = path.leaf_node.clone()?;
-    let mut tree = edits.tree.clone()?;
+    let mut tree = edits.tree.as_tree().clone()?;
     tree.merge_path(committer, leaf, keys)?;
     Ok(tree)
 }

@@ -77,13 +77,13 @@ fn no_path(keys: &PrivatePath, edits: &Edits) -> Result<OwnPath, OutOfMemory>
     ensures secrets { IfOk result (λ o. o.secrets ≡ None) }
 {
     let mut followed = keys.clone()?;
-    followed.follow_edit(&edits.tree, None)?;
+    followed.follow_edit(edits.tree.as_tree(), None)?;
     Ok(OwnPath {
         path: None,
         secrets: None,
         commit_secret: [0; 32],
         keys: followed,
-        tree: edits.tree.clone()?,
+        tree: edits.tree.as_tree().clone()?,
     })
 }
 

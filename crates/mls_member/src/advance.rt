@@ -124,7 +124,13 @@ fn opened<S: Suite>(
 {
     let nodes = path.nodes.as_slice();
     let mut keys = keys;
-    let secret = keys.open_path::<S>(&edits.tree, committer, &edits.added, nodes, context)?;
+    let secret = keys.open_path::<S>(
+        edits.tree.as_tree(),
+        committer,
+        &edits.added,
+        nodes,
+        context,
+    )?;
     Ok(Reached { secret, keys })
 }
 
@@ -190,7 +196,7 @@ impl<S: Suite> Member<S> {
     {
         let edits = &change.edits;
         let own = own_key(&self.kept, commit.proposals.as_slice());
-        let keys = followed(&self.keys, &edits.tree, own)?;
+        let keys = followed(&self.keys, edits.tree.as_tree(), own)?;
         match &commit.path {
             Some(path) => {
                 let context = spelling(self.alloc, &change.provisional)?;

@@ -16,7 +16,7 @@ use Rattle.mls_tree.specs.Tree.{add_answer, update_answer, remove_answer}
 use Rattle.mls_model.specs.Public.{PublicState, Used}
 use Rattle.mls_model.specs.Proposals.{update_in, remove_in, add_in, updates, updated, removed, adds, package_reference, proposal_checks, full_checks}
 use Rattle.mls_model.specs.Commit.{Edits, all_updated, all_removed, all_added}
-use Rattle.mls_public_group.specs.Edited.{apart, behind}
+use Rattle.mls_public_group.specs.Edited.{apart, applied, behind}
 use Rattle.mls_public_group.proofs.Rest.{here, over}
 
 -- ---- what one proposal is
@@ -269,6 +269,11 @@ removes_end t = refl
 
 abbrev made : Term → List ℕ → Edits
 made t added = record { tree = t; added = added }
+
+-- no proposals leave the tree
+pub untouched : (t u : Term) (added : List ℕ) → u ≡ t → added ≡ [] → applied t [] ≡ Ok (made u added)
+unfolding applied all_updated updates all_removed removed all_added adds
+untouched t u added same none = sym (ap (λ (v : Term). Ok (made v added)) same ∙ ap (λ (xs : List ℕ). Ok (made t xs)) none)
 
 -- an add before those that follow
 abbrev before : ℕ → Result Edits ℕ → Result Edits ℕ

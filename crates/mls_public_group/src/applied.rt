@@ -1,6 +1,6 @@
 //! The proposals of a commit applied to a tree: updates, then removes, then adds (RFC 9420, 12.3).
 
-ghost use Rattle.std.specs.Prelude.{[], ◌∷◌};
+ghost use Rattle.std.specs.Prelude.{◌≡◌, [], ◌∷◌, Ok, IfOk};
 ghost use Rattle.mls_wire.specs.Checks.{Answers};
 ghost use Rattle.mls_tree.specs.Tree.{term};
 ghost use Rattle.mls_model.specs.Commit.{all_added, all_removed, all_updated};
@@ -11,10 +11,11 @@ ghost use Rattle.mls_public_group.specs.Faults.{number_of};
 use crate::changed::removed_leaves;
 use crate::edits::Edits;
 use crate::error::GroupError;
+use crate::shared_tree::SharedTree;
 use crate::used::Used;
 use mls_leaf::Proposal;
 use mls_tree::PublicTree;
-use std::alloc::Global;
+use std::alloc::{AllocError, Global};
 
 /// Replaces the leaf that a proposal updates, where it is an update.
 fn apply_update(tree: &mut PublicTree, used: &Used<'_>) -> Result<(), GroupError>
@@ -78,13 +79,9 @@ fn apply_adds(
     Ok(added)
 }
 
-/// The tree after the proposals, and the leaves that they added.
+/// The tree after one proposal or more, and the leaves that they added.
 #[tactic(auto, unfolding(crate::specs::Edited::applied))]
-pub(crate) fn applied(
-    alloc: Global,
-    tree: PublicTree,
-    used: &[Used<'_>],
-) -> Result<Edits, GroupError>
+fn changed(alloc: Global, tree: PublicTree, used: &[Used<'_>]) -> Result<Edits, GroupError>
     ensures { Answers (λ e. e) number_of (applied (term tree) used.now) result }
 {
     let mut tree = tree;
@@ -92,5 +89,32 @@ pub(crate) fn applied(
     let leaves = removed_leaves(alloc, used)?;
     apply_removes(&mut tree, &leaves)?;
     let added = apply_adds(alloc, &mut tree, used)?;
+    let tree = SharedTree::new(alloc, tree)?;
     Ok(Edits { tree, added })
+}
+
+/// A tree that no proposal changes: it is shared.
+fn unchanged(alloc: Global, tree: &SharedTree) -> Result<Edits, AllocError>
+    ensures { IfOk result (λ e. applied (term tree.now) [] ≡ Ok e) }
+{
+    Ok(Edits {
+        tree: tree.clone()?,
+        added: Vec::new(alloc),
+    })
+}
+
+/// The tree after the proposals, and the leaves that they added.
+pub(crate) fn applied(
+    alloc: Global,
+    tree: &SharedTree,
+    used: &[Used<'_>],
+) -> Result<Edits, GroupError>
+    ensures { Answers (λ e. e) number_of (applied (term tree.now) used.now) result }
+{
+    if used.is_empty() {
+        let edits = unchanged(alloc, tree)?;
+        return Ok(edits);
+    }
+    let copy = tree.as_tree().clone()?;
+    changed(alloc, copy, used)
 }

@@ -12,17 +12,18 @@ use crate::changed::require_apart;
 use crate::error::GroupError;
 use crate::group::PublicGroup;
 use crate::references::has_distinct_references;
+use crate::shared_tree::SharedTree;
 use crate::used::Used;
 use mls_suite::Suite;
-use mls_tree::{PublicTree, TreeError};
+use mls_tree::TreeError;
 use std::alloc::Global;
 use std::marker::Model;
 
 /// A tree after the proposals of a commit, and the leaves that they added, in their order (RFC 9420, 12.3).
 #[derive(Drop)]
 pub struct Edits {
-    /// The tree, which shares its nodes with the group's.
-    pub tree: PublicTree,
+    /// The tree, which is the group's where there is no proposal, and else shares its nodes.
+    pub tree: SharedTree,
     /// The leaves that were added.
     pub added: Vec<u32>,
 }
@@ -46,13 +47,13 @@ fn require_distinct(alloc: Global, edits: &Edits, used: &[Used<'_>]) -> Result<(
     requires { AreBelow (2 ^ 28) used.now }
     ensures { Answers (λ _. passed) number_of (apart_after edits.now used.now) result }
 {
-    if !edits.tree.has_distinct_clients()? {
+    if !edits.tree.as_tree().has_distinct_clients()? {
         return Err(GroupError::Tree(TreeError::ClientRepeated));
     }
     if !has_distinct_references(alloc, used)? {
         return Err(GroupError::Tree(TreeError::ClientRepeated));
     }
-    if !edits.tree.has_distinct_keys()? {
+    if !edits.tree.as_tree().has_distinct_keys()? {
         return Err(GroupError::Tree(TreeError::KeyRepeated));
     }
     Ok(())
@@ -76,8 +77,7 @@ impl PublicGroup {
     {
         self.require_full::<S>(alloc, used)?;
         require_apart(alloc, committer, used)?;
-        let tree = self.tree.clone()?;
-        let edits = applied(alloc, tree, used)?;
+        let edits = applied(alloc, &self.tree, used)?;
         require_distinct(alloc, &edits, used)?;
         Ok(edits)
     }

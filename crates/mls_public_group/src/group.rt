@@ -5,6 +5,7 @@ ghost use Rattle.mls_group.specs.GroupContext.{group_context};
 ghost use Rattle.mls_tree.specs.Tree.{term};
 ghost use Rattle.mls_public_group.specs.Short.{HasLeavesBelow, IsShortContext};
 
+use crate::shared_tree::SharedTree;
 use crate::spelling::spelling;
 use mls_group::GroupContext;
 use mls_leaf::Codec;
@@ -20,7 +21,7 @@ pub struct PublicGroup {
     pub(crate) context: GroupContext,
     // The spelling of the context, which signatures, tags and secrets are made over.
     bytes: Vec<u8>,
-    pub(crate) tree: PublicTree,
+    pub(crate) tree: SharedTree,
     transcript: Transcript,
 }
 
@@ -54,6 +55,7 @@ impl PublicGroup {
         ensures { IfOk result (λ g. g ≡ record { context = context; tree = term tree; interim = transcript }) }
     {
         let bytes = spelling(alloc, &context)?;
+        let tree = SharedTree::new(alloc, tree)?;
         Ok(PublicGroup {
             context,
             bytes,
@@ -80,7 +82,7 @@ impl PublicGroup {
     pub fn tree(&self) -> &PublicTree
         ensures { term result.now ≡ self.now.tree }
     {
-        &self.tree
+        self.tree.as_tree()
     }
 
     /// The transcript, by its interim hash (RFC 9420, 8.2).

@@ -11,6 +11,7 @@ mod group;
 mod laws;
 mod proposals;
 mod references;
+mod shared_tree;
 mod spelling;
 mod used;
 
@@ -18,4 +19,5 @@ pub use edits::Edits;
 pub use error::GroupError;
 pub use group::PublicGroup;
 pub use laws::short_leaves_after_path;
+pub use shared_tree::SharedTree;
 pub use used::Used;

@@ -119,11 +119,12 @@ pub fn new_path<S: Suite>(
     ensures short { IfOk result (λ p. (n : ℕ) → HasLeavesBelow n edits.now.tree → IsBelow n leaf_node p.path.leaf_node → HasLeavesBelow n (term p.tree)) }
 {
     group.is_short();
-    let mut made = make_merged::<S>(alloc, group, signing, index, &edits.tree, seed)?;
+    let edited = edits.tree.as_tree();
+    let mut made = make_merged::<S>(alloc, group, signing, index, edited, seed)?;
     let context = provisional_bytes(alloc, group.context(), &mut made.tree)?;
     let nodes = seal_path::<S>(
         alloc,
-        &edits.tree,
+        edited,
         index,
         &edits.added,
         &made.secrets,

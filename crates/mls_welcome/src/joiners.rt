@@ -28,7 +28,7 @@ fn secret_to<'a>(
 {
     match secrets {
         None => Ok(None),
-        Some(secrets) => secrets.secret_for(alloc, &edits.tree, committer, leaf),
+        Some(secrets) => secrets.secret_for(alloc, edits.tree.as_tree(), committer, leaf),
     }
 }
 

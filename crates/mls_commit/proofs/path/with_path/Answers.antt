@@ -25,7 +25,7 @@ pub returns-in_err-merge_path-clause-answer : goal.returns-in_err-merge_path-cla
 returns-in_err-merge_path-clause-answer g c =
     let at = sym (c.in-Some.ensures ∙ ap (λ t. leaf_of t c.args.committer) c.tree.ensures) in
     let fine = replaced_in g.S.Suite.crypto c.args.path.now.leaf_node c.in-Some.old.now c.as_slice-group_id.result.now c.args.group.now.context.group_id c.args.committer (c.as_slice-group_id.ensures ∙ ap (λ (x : GroupContext). x.group_id) c.context.ensures) c.in_ok-replaced.ensures in
-    let same = merge_alike c.args.committer _ _ _ _ _ _ (ap term c.in_ok-tree.ensures.cases ∙ ap (λ (e : Edits). e.tree) c.edits.view_is) c.in_ok-leaf.ensures.cases c.in_ok-keys.ensures in
+    let same = merge_alike c.args.committer _ _ _ _ _ _ (ap term c.in_ok-tree.ensures.cases ∙ ap term c.as_tree.ensures ∙ ap (λ (e : Edits). e.tree) c.edits.view_is) c.in_ok-leaf.ensures.cases c.in_ok-keys.ensures in
     let merges = path_merged g.S.Suite.crypto c.args.group.now c.args.committer c.args.edits.now c.args.path.now c.in-Some.old.now at fine c.in_ok-require_counts.ensures (sym c.has_fit_keys.ensures ∙ c.if-not-has_fit_keys.false) in
     let p = err_from_is_err_and c.from_residual-in_err-merge_path.result c.from_residual-in_err-merge_path.ensures.1 in
     rw (p.1, p.2) (λ other. merges ∙ sym same ∙ c.in_err-merge_path.ensures.answer.1 other)
@@ -34,6 +34,6 @@ pub returns-clause-answer : goal.returns-clause-answer
 returns-clause-answer g c =
     let at = sym (c.in-Some.ensures ∙ ap (λ t. leaf_of t c.args.committer) c.tree.ensures) in
     let fine = replaced_in g.S.Suite.crypto c.args.path.now.leaf_node c.in-Some.old.now c.as_slice-group_id.result.now c.args.group.now.context.group_id c.args.committer (c.as_slice-group_id.ensures ∙ ap (λ (x : GroupContext). x.group_id) c.context.ensures) c.in_ok-replaced.ensures in
-    let same = merge_alike c.args.committer _ _ _ _ _ _ (ap term c.in_ok-tree.ensures.cases ∙ ap (λ (e : Edits). e.tree) c.edits.view_is) c.in_ok-leaf.ensures.cases c.in_ok-keys.ensures in
+    let same = merge_alike c.args.committer _ _ _ _ _ _ (ap term c.in_ok-tree.ensures.cases ∙ ap term c.as_tree.ensures ∙ ap (λ (e : Edits). e.tree) c.edits.view_is) c.in_ok-leaf.ensures.cases c.in_ok-keys.ensures in
     let merges = path_merged g.S.Suite.crypto c.args.group.now c.args.committer c.args.edits.now c.args.path.now c.in-Some.old.now at fine c.in_ok-require_counts.ensures (sym c.has_fit_keys.ensures ∙ c.if-not-has_fit_keys.false) in
     merges ∙ sym same ∙ c.in_ok-merge_path.ensures.answer

@@ -1,6 +1,6 @@
 use Rattle.std.proofs.Common.{sym, ap, ◌∙◌}
 use Rattle.std.proofs.lemmas.Result.{err_from_is_err_and}
-use Rattle.mls_tree.specs.Tree.{Tree, term}
+use Rattle.mls_tree.specs.Tree.{term}
 use Rattle.mls_model.specs.Public.{PublicState}
 use Rattle.mls_public_group.specs.Edited.{applied, edited_full, edited_apart, edited_applied, edited_distinct, edited_ok}
 use Rattle.mls_public_group.specs.Faults.{number_of}
@@ -21,25 +21,24 @@ returns-in_err-require_apart-clause-answer g c =
 pub returns-in_err-edits-clause-answer : goal.returns-in_err-edits-clause-answer
 returns-in_err-edits-clause-answer g c =
     let p = err_from_is_err_and c.from_residual-in_err-edits.result c.from_residual-in_err-edits.ensures.1 in
-    let tree = sym (ap (λ (s : PublicState). s.tree) c.self.view_is) ∙ ap (λ (t : Tree). term t) (sym c.in_ok-tree.ensures.cases) in
+    let tree = sym (ap (λ (s : PublicState). s.tree) c.self.view_is) in
     rw (p.1, p.2) (λ other. edited_applied g.S.Suite.crypto c.args.self.now c.args.committer c.args.used.now c.in_ok-require_full.ensures c.in_ok-require_apart.ensures
     (number_of c.in_err-edits.field-0.0) (ap (λ t. applied t c.args.used.now) tree ∙ c.in_err-edits.ensures other))
 
 pub returns-in_err-require_distinct-clause-answer : goal.returns-in_err-require_distinct-clause-answer
 returns-in_err-require_distinct-clause-answer g c =
     let p = err_from_is_err_and c.from_residual-in_err-require_distinct.result c.from_residual-in_err-require_distinct.ensures.1 in
-    let tree = sym (ap (λ (s : PublicState). s.tree) c.self.view_is) ∙ ap (λ (t : Tree). term t) (sym c.in_ok-tree.ensures.cases) in
+    let tree = sym (ap (λ (s : PublicState). s.tree) c.self.view_is) in
     rw (p.1, p.2) (λ other. edited_distinct g.S.Suite.crypto c.args.self.now c.args.committer c.args.used.now c.in_ok-require_full.ensures c.in_ok-require_apart.ensures
     c.in_ok-edits.edits (ap (λ t. applied t c.args.used.now) tree ∙ c.in_ok-edits.ensures) (number_of c.in_err-require_distinct.field-0.0) (c.in_err-require_distinct.ensures other))
 
 pub returns-clause-answer : goal.returns-clause-answer
 returns-clause-answer g c =
-    let tree = sym (ap (λ (s : PublicState). s.tree) c.self.view_is) ∙ ap (λ (t : Tree). term t) (sym c.in_ok-tree.ensures.cases) in
+    let tree = sym (ap (λ (s : PublicState). s.tree) c.self.view_is) in
     edited_ok g.S.Suite.crypto c.args.self.now c.args.committer c.args.used.now c.in_ok-require_full.ensures c.in_ok-require_apart.ensures
     c.in_ok-edits.edits (ap (λ t. applied t c.args.used.now) tree ∙ c.in_ok-edits.ensures) c.in_ok-require_distinct.ensures
 
 pub returns-clause-below : goal.returns-clause-below
 returns-clause-below g c = λ n le short.
-    below_applied n (term c.self.inside.tree) c.args.used.now c.in_ok-edits.edits short
-    (ap (λ (t : Tree). applied (term t) c.args.used.now) (sym c.in_ok-tree.ensures.cases) ∙ c.in_ok-edits.ensures)
+    below_applied n (term c.self.inside.tree) c.args.used.now c.in_ok-edits.edits short c.in_ok-edits.ensures
     (leaves_longer 134217728 n (term c.self.inside.tree) le c.self.invariant.2)
