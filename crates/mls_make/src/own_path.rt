@@ -76,14 +76,15 @@ fn no_path(keys: &PrivatePath, edits: &Edits) -> Result<OwnPath, OutOfMemory>
     ensures tree { IfOk result (λ o. term o.tree ≡ edits.now.tree) }
     ensures secrets { IfOk result (λ o. o.secrets ≡ None) }
 {
+    let tree = edits.tree.as_tree();
     let mut followed = keys.clone()?;
-    followed.follow_edit(edits.tree.as_tree(), None)?;
+    followed.follow_edit(tree, None)?;
     Ok(OwnPath {
         path: None,
         secrets: None,
         commit_secret: [0; 32],
         keys: followed,
-        tree: edits.tree.as_tree().clone()?,
+        tree: tree.clone()?,
     })
 }
 
