@@ -17,4 +17,3 @@ pub mod Bounding
 pub mod Filling
 pub mod Indexing
 pub mod Ways
-pub mod Following

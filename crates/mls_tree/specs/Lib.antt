@@ -23,4 +23,3 @@ pub mod WayIndexes
 pub mod Indexed
 pub mod KindLaws
 pub mod MergedKeyLaws
-pub mod Prepared
