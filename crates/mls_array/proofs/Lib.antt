@@ -21,4 +21,3 @@ pub mod Ties
 pub mod Pieces
 pub mod Keepings
 pub mod Splitting
-pub mod WayHashes
