@@ -10,4 +10,3 @@ pub mod FrontLaws
 pub mod Cleared
 pub mod ClearedLaws
 pub mod DistinctLaws
-pub mod BesideLaws
