@@ -1,6 +1,6 @@
 //! Texts of hex digits.
 
-ghost use Rattle.std.specs.Prelude.{◌≡◌, option_map, IfOk};
+ghost use Rattle.std.specs.Prelude.{◌≡◌, ◌%◌, Ok, None, length, option_map, IfOk};
 ghost use Rattle.serde_json.specs.View.{view};
 ghost use Rattle.mls_json.specs.Hexes.{bytes_of, hex_at, seed_at};
 ghost use Rattle.mls_json.specs.Faults.{Finds};
@@ -11,9 +11,10 @@ use hex::{FromHex, FromHexError};
 use serde_json::Value;
 use std::alloc::{AllocError, Global};
 
-/// The bytes that a text of hex digits stands for; None where it isn't one.
+/// The bytes that a text of hex digits stands for; None where it isn't one. A text of an odd length takes no memory.
 pub fn hex_of(alloc: Global, text: &str) -> Result<Option<Vec<u8>>, AllocError>
-    ensures { IfOk result (λ bytes. option_map (λ v. v.items) bytes ≡ bytes_of text.now) }
+    ensures bytes { IfOk result (λ bytes. option_map (λ v. v.items) bytes ≡ bytes_of text.now) }
+    ensures outright { length text.now % 2 ≡ 1 → result ≡ Ok None }
 {
     match hex::decode(alloc, text) {
         Ok(bytes) => Ok(Some(bytes)),
