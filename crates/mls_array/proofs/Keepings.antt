@@ -22,7 +22,7 @@ use Rattle.mls_array.proofs.Pieces.{set_then_front, set_then_back, front_then, b
 
 -- ---- dropped
 
-one_set_to : (hs : List (Option (List ℕ))) (o : Option (List ℕ)) → length hs ≡ 1 → set hs 0 o ≡ o ∷ []
+pub one_set_to : (hs : List (Option (List ℕ))) (o : Option (List ℕ)) → length hs ≡ 1 → set hs 0 o ≡ o ∷ []
 one_set_to [] o e = absurd (omega arith)
 one_set_to (x ∷ []) o e = refl
 one_set_to (x ∷ y ∷ hs) o e = absurd (omega arith)

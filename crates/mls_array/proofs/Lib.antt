@@ -21,3 +21,4 @@ pub mod Ties
 pub mod Pieces
 pub mod Keepings
 pub mod Splitting
+pub mod WayHashes

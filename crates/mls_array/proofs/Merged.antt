@@ -88,11 +88,11 @@ parents_no_more b h i xs ks g low =
     ∙ parents_leaf b (leaf_in (get_or xs 0 None)) i ks g
 
 module _ (b : ℕ) (c : Option Parent) (l r : Term) (i : ℕ) (ks : List (List ℕ)) (g : List ℕ) where
-  parents_left : i < b + width l → path_parents b (Branch c l r) i ks g ≡ option_to_list (parent_beside (b + width l) r ks g) ++ path_parents b l i (keys_beside (b + width l) r ks) (hash_beside (b + width l) r ks g)
+  pub parents_left : i < b + width l → path_parents b (Branch c l r) i ks g ≡ option_to_list (parent_beside (b + width l) r ks g) ++ path_parents b l i (keys_beside (b + width l) r ks) (hash_beside (b + width l) r ks g)
   unfolding path_parents
   parents_left lt = cond-true _ _ _ (lt-ltb i (b + width l) lt)
 
-  parents_right : b + width l ≤ i → path_parents b (Branch c l r) i ks g ≡ option_to_list (parent_beside b l ks g) ++ path_parents (b + width l) r i (keys_beside b l ks) (hash_beside b l ks g)
+  pub parents_right : b + width l ≤ i → path_parents b (Branch c l r) i ks g ≡ option_to_list (parent_beside b l ks g) ++ path_parents (b + width l) r i (keys_beside b l ks) (hash_beside b l ks g)
   unfolding path_parents
   parents_right ge = cond-false _ _ _ (le-ltb i (b + width l) ge)
 
@@ -142,7 +142,7 @@ module _ (b h m i : ℕ) (xs : List (Option Node)) (n : Option Node) (parts : In
 
 -- ---- writing
 
-none_below : (f : Bool) (ks : List (List ℕ)) → ks ≡ [] → keys_below f ks ≡ []
+pub none_below : (f : Bool) (ks : List (List ℕ)) → ks ≡ [] → keys_below f ks ≡ []
 none_below false ks e = e
 none_below true ks e = ap (keys_below true) e
 
@@ -151,7 +151,7 @@ none_made false g = refl
 none_made true g = refl
 
 -- no keys make no parents
-no_parents : (b : ℕ) (t : Term) (i : ℕ) (ks : List (List ℕ)) (g : List ℕ) → ks ≡ [] → path_parents b t i ks g ≡ []
+pub no_parents : (b : ℕ) (t : Term) (i : ℕ) (ks : List (List ℕ)) (g : List ℕ) → ks ≡ [] → path_parents b t i ks g ≡ []
 unfolding path_parents
 no_parents b (Leaf v) i ks g e = refl
 no_parents b (Branch c l r) i ks g e =
@@ -164,12 +164,12 @@ no_parents b (Branch c l r) i ks g e =
     ∙ no_parents (b + width l) r i (keys_beside b l ks) (hash_beside b l ks g) (none_below (is_reached b l) ks e))
 
 -- the first of the parents is the new one, where there is one
-first_made : (f : Bool) (ks : List (List ℕ)) (g : List ℕ) (more : List Parent) → (ks ≡ [] → more ≡ []) → first_if f (option_to_list (new_parent f ks g) ++ more) ≡ new_parent f ks g
+pub first_made : (f : Bool) (ks : List (List ℕ)) (g : List ℕ) (more : List Parent) → (ks ≡ [] → more ≡ []) → first_if f (option_to_list (new_parent f ks g) ++ more) ≡ new_parent f ks g
 first_made false ks g more none = refl
 first_made true [] g more none = ap (first_if true) (none refl)
 first_made true (k ∷ ks) g more none = refl
 
-rest_made : (f : Bool) (ks : List (List ℕ)) (g : List ℕ) (more : List Parent) → (ks ≡ [] → more ≡ []) → rest_if f (option_to_list (new_parent f ks g) ++ more) ≡ more
+pub rest_made : (f : Bool) (ks : List (List ℕ)) (g : List ℕ) (more : List Parent) → (ks ≡ [] → more ≡ []) → rest_if f (option_to_list (new_parent f ks g) ++ more) ≡ more
 rest_made false ks g more none = refl
 rest_made true [] g more none = ap (rest_if true) (none refl) ∙ sym (none refl)
 rest_made true (k ∷ ks) g more none = refl

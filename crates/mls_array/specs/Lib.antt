@@ -12,3 +12,5 @@ pub mod KeptLaws
 pub mod Ends
 pub mod EndLaws
 pub mod Splits
+pub mod WayHashes
+pub mod WayHashLaws

@@ -1,6 +1,6 @@
 //! The kept hashes of a whole tree, and how many hashes of nodes were made.
 
-ghost use Rattle.std.specs.Prelude.{◌≡◌, ◌≤◌, ◌++◌, Option, List, ℕ, None, true, length, replicate, take, IfOk, OnOk, OnErr};
+ghost use Rattle.std.specs.Prelude.{◌≡◌, ◌≤◌, ◌++◌, Option, List, ℕ, suc, None, true, length, replicate, take, IfOk, OnOk, OnErr};
 ghost use Rattle.mls_treemath.specs.Limits.{max_height};
 ghost use Rattle.mls_treemath.specs.Paths.{nodes_in};
 ghost use Rattle.mls_term.specs.Term.{Term, is_perfect};
@@ -8,8 +8,10 @@ ghost use Rattle.mls_term.specs.Hashes.{tree_hash};
 ghost use Rattle.mls_term.specs.Arrays.{term_of};
 ghost use Rattle.mls_hash.specs.Counter.{counted};
 ghost use Rattle.mls_array.specs.Kept.{hashes_of, Keeps, dropped, cold_places};
+ghost use Rattle.mls_array.specs.WayHashes.{PutsHashes};
 
 use crate::hashes::{drop_hashes, tree_hash};
+use crate::way_hashes::put_hashes;
 use mls_hash::Hash;
 use mls_slot::Slot;
 use std::alloc::{AllocError, Global};
@@ -74,6 +76,19 @@ impl Hashes {
         ensures done { self.new.done ≡ self.old.done }
     {
         drop_hashes(&mut self.kept, height, 0, i);
+    }
+
+    /// Keeps those of leaf i and of the nodes over it that a merge of leaf i was found to make, the lowest first, and counts
+    /// them. Takes no memory.
+    pub fn put_way(&mut self, height: u32, i: u32, hashes: &[Hash])
+        requires shape { length self.old.kept ≡ nodes_in height }
+        requires low { height ≤ max_height }
+        requires long { length hashes.now ≡ suc height }
+        ensures kept { PutsHashes height 0 i hashes.now self.old.kept self.new.kept }
+        ensures counted { self.new.done ≡ counted self.old.done (length hashes.now) }
+    {
+        put_hashes(&mut self.kept, height, 0, i, hashes);
+        self.done = self.done.saturating_add(hashes.len() as u64);
     }
 
     /// Adds places of cold nodes. Without memory for it all stays as it was.

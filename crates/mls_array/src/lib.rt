@@ -23,6 +23,7 @@ mod sizes;
 #[cfg(test)]
 mod tests;
 mod validity;
+mod way_hashes;
 mod witnesses;
 
 pub use counts::ciphertext_counts;
@@ -40,3 +41,4 @@ pub use places::{leaf_in, parent_in};
 pub use resolutions::{is_reached, resolution, resolution_at};
 pub use sizes::{grow, trimmed};
 pub use validity::has_good_hashes;
+pub use way_hashes::merged_hashes;

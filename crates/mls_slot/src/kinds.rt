@@ -86,6 +86,16 @@ impl SharedParent {
         Ok(SharedParent { node })
     }
 
+    /// The parent.
+    pub fn parent(&self) -> &ParentNode
+        ensures { result.now ≡ self.now }
+    {
+        match &*self.node {
+            Node::Parent(parent) => parent,
+            Node::Leaf(_) => unreachable!(),
+        }
+    }
+
     /// The slot with it, which takes no memory.
     pub fn into_slot(self) -> Slot
         ensures { result ≡ Some (in_parent self) }
