@@ -37,6 +37,13 @@ module _ (k : KeyKind) (ns : List ℕ) (cs : List (Option Node)) where
   pub key_left : (y : ℕ) → has ns y ≡ false → key_in k (cleared 0 ns cs) y ≡ key_in k cs y
   key_left y h = ap (key_of k) (cleared_at ns cs y ∙ ap (λ v. cond v None (get_or cs y None)) h)
 
+-- cells that were blanked have no other keys
+pub cleared_part : (k : KeyKind) (ns : List ℕ) (cs : List (Option Node)) → IsPart (key_in k (cleared 0 ns cs)) (key_in k cs)
+cleared_part k ns cs y some = elim (cases_Bool (has ns y)) [
+  | inl on ↦ absurd (no_key (key_in k (cleared 0 ns cs) y) (key_cleared k ns cs y on) some)
+  | inr out ↦ sym (key_left k ns cs y out)
+]
+
 -- without the same cells, two lists are indexed alike where they differ at those alone
 pub cleared_alike : (t : Listing) (ns : List ℕ) (old new : List (Option Node)) → ((y : ℕ) → has ns y ≡ false → key_in t.kind old y ≡ key_in t.kind new y) → Indexes (cleared 0 ns old) t → Indexes (cleared 0 ns new) t
 cleared_alike t ns old new same = indexes_alike t (cleared 0 ns old) (cleared 0 ns new) (λ y. elim (cases_Bool (has ns y)) [

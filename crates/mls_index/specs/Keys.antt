@@ -1,5 +1,5 @@
 -- The keys of cells.
-use Rattle.std.specs.Prelude.{ℕ, ◌+◌, ◌==◌, nat_eq, nat_lt, Bool, false, not, ◌&&◌, cond, List, [], ◌∷◌, length, get_or, Option, Some, None}
+use Rattle.std.specs.Prelude.{◌≡◌, ℕ, ◌+◌, ◌==◌, nat_eq, nat_lt, Bool, false, not, ◌&&◌, cond, List, [], ◌∷◌, length, get_or, Option, Some, None}
 use Rattle.std.specs.List.{flat_map}
 use Rattle.std.specs.Option.{option_to_list}
 use Rattle.std.specs.Cmp.Lexicographic.{pointwise}
@@ -37,6 +37,11 @@ keys_of k cells = flat_map (λ c. option_to_list (key_of k c)) cells
 -- whether a key is that of some cell
 abbrev pub is_held : KeyKind → List (Option Node) → List ℕ → Bool
 is_held k cells x = not (count same_bytes x (keys_of k cells) == 0)
+
+-- a cell that has a key, or that no cell has it
+abbrev pub IsHolder : KeyKind → List (Option Node) → List ℕ → Option ℕ → Type 0
+IsHolder k cells x None = is_held k cells x ≡ false
+IsHolder k cells x (Some n) = key_in k cells n ≡ Some x
 
 -- how many keys of a list stand again further on
 unfoldable pub repeats_in : List (List ℕ) → ℕ

@@ -10,3 +10,4 @@ pub mod FrontLaws
 pub mod Cleared
 pub mod ClearedLaws
 pub mod DistinctLaws
+pub mod BesideLaws

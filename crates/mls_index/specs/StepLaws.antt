@@ -7,7 +7,7 @@ use Rattle.mls_term.specs.Sets.{same_bytes, count}
 use Rattle.mls_index.specs.declared.kind.KeyKind.{KeyKind}
 use Rattle.mls_index.specs.Keys.{key_of, key_in, keys_of, is_key, is_key_at, is_held, repeats_in}
 use Rattle.mls_index.specs.Order.{Entries, IsGap, IsPart}
-use Rattle.mls_index.specs.Indexes.{Listing, Indexes, Without}
+use Rattle.mls_index.specs.Indexes.{Listing, Indexes, SameIndex, Without}
 use Rattle.mls_index.specs.OrderLaws.{key_found, key_missed}
 use Rattle.mls_index.specs.EntryLaws.{found_beside, none_before, with_entry, stands, without_entry, gap_without, no_key}
 use Rattle.mls_index.specs.CountLaws.{none_blank, counted, counted_at, one_more, repeats_within}
@@ -70,6 +70,9 @@ indexes_from kind ns c s same numbers es repeats = record {
   entries = subst (λ j. Entries (key_in j c) s.numbers) (sym same) (subst (Entries (key_in kind c)) (sym numbers) es);
   repeats = repeats ∙ ap (λ j. repeats_in (keys_of j c)) (sym same);
 }
+
+pub same_index : (c : List (Option Node)) (s t : Listing) → SameIndex s t → Indexes c s → Indexes c t
+same_index c s t same is = indexes_from s.kind s.numbers c t same.kind same.numbers is.entries (same.repeats ∙ is.repeats)
 
 -- ---- entering a cell and leaving it
 

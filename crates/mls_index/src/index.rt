@@ -1,9 +1,11 @@
 //! The index: numbers of cells in the order of their keys.
 
-ghost use Rattle.std.specs.Prelude.{◌≡◌, ℕ, ◌<◌, ◌≤◌, ◌^◌, suc, Option, List, length, IfOk, OnOk, OnErr};
+ghost use Rattle.std.specs.Prelude.{◌≡◌, ℕ, ◌+◌, ◌<◌, ◌≤◌, ◌^◌, suc, Option, List, length, vec_len, IfOk, OnOk, OnErr};
+ghost use Rattle.std.specs.List.{remove};
+ghost use Rattle.std.specs.Vec.{vec_capacity};
 ghost use Rattle.mls_leaf.specs.declared.node.Node.{Node};
 ghost use Rattle.mls_term.specs.Sets.{same_bytes, is_distinct};
-ghost use Rattle.mls_index.specs.Keys.{key_in, keys_of, is_held, is_key_at};
+ghost use Rattle.mls_index.specs.Keys.{key_in, keys_of, is_held, is_key_at, IsHolder};
 ghost use Rattle.mls_index.specs.Order.{Entries, IsGap, IsPart};
 ghost use Rattle.mls_index.specs.Indexes.{Indexes, Without, SameIndex};
 
@@ -30,6 +32,18 @@ impl Model for Index {
     ghost Value = { Listing };
 
     ghost view = { λ t. record { kind = t.kind; numbers = t.numbers.items; repeats = t.repeats; room = vec_capacity t.numbers - vec_len t.numbers } };
+}
+
+/// Takes the number at a place out. `Vec::remove` would move the others in short parts, for twice the work.
+fn take_out(numbers: &mut Vec<u32>, place: usize)
+    requires { place < vec_len numbers.old }
+    ensures items { numbers.new.items ≡ remove numbers.old.items place }
+    ensures len { vec_len numbers.new + 1 ≡ vec_len numbers.old }
+    ensures capacity { vec_capacity numbers.new ≡ vec_capacity numbers.old }
+{
+    let end = numbers.len();
+    numbers.copy_within(place + 1..end, place);
+    numbers.truncate(end - 1);
 }
 
 impl Index {
@@ -94,6 +108,19 @@ impl Index {
         self.is_key_at(cells, self.place(cells, key, 0), key)
     }
 
+    /// A cell that has this key, where there is one.
+    pub(crate) fn holder(&self, cells: &[Slot], key: &[u8]) -> Option<u32>
+        ensures { Indexes cells.now self.now → IsHolder self.now.kind cells.now key.now result }
+    {
+        let place = self.place(cells, key, 0);
+        let x = *self.numbers.get(place)?;
+        if self.kind.is_key_in(cells, x, key) {
+            Some(x)
+        } else {
+            None
+        }
+    }
+
     /// Enters a cell: after it was filled, where it was blank. Where the cell has no key, all stays.
     pub fn enter(&mut self, cells: &[Slot], x: u32)
         requires { 0 < self.old.room }
@@ -128,7 +155,7 @@ impl Index {
         if place >= self.numbers.len() {
             return;
         }
-        self.numbers.remove(place);
+        take_out(&mut self.numbers, place);
         if self.is_beside(cells, place, key) {
             self.repeats = self.repeats.saturating_sub(1);
         }

@@ -1,6 +1,7 @@
 //! An index of the cells of a tree by a key of each.
 #![tactic(auto)]
 
+mod beside;
 mod index;
 mod keys;
 mod kind;
