@@ -17,3 +17,4 @@ pub mod Bounding
 pub mod Filling
 pub mod Indexing
 pub mod Ways
+pub mod Following

@@ -23,3 +23,4 @@ pub mod WayIndexes
 pub mod Indexed
 pub mod KindLaws
 pub mod MergedKeyLaws
+pub mod Prepared

@@ -1,7 +1,7 @@
 //! Edits of a tree by the rows of tests. They promise nothing, and answer numbers.
 
-use crate::members::{leaf, member};
-use crate::{PublicTree, TreeError};
+use crate::members::{copy_of, leaf, member};
+use crate::{Hash, PublicTree, TreeError};
 use mls_leaf::{Bytes, LeafNode, LeafSource};
 use std::alloc::{AllocError, Global};
 
@@ -181,4 +181,44 @@ pub(crate) fn merge_given(
 ) -> Result<Vec<u64>, TreeError> {
     let leaf = committed(alloc, 2, Vec::from_slice(alloc, hash)?)?;
     merge_keys(alloc, tree, 0, leaf, keys, 1)
+}
+
+/// Prepares a path and follows it. The tree hash that it had is the answer.
+fn follow_path(
+    tree: &mut PublicTree,
+    i: u32,
+    leaf: LeafNode,
+    keys: Vec<Bytes>,
+) -> Result<Hash, TreeError> {
+    let _tree_hash = tree.tree_hash();
+    let path = tree.prepare_path(i, leaf, keys)?;
+    let told = path.tree_hash();
+    tree.follow_path(path)?;
+    Ok(told)
+}
+
+fn tree_hash(tree: &mut PublicTree) -> Hash {
+    tree.tree_hash()
+}
+
+fn hashes_done(tree: &PublicTree) -> u64 {
+    tree.hashes_done()
+}
+
+/// Prepares member i's path of one parent and follows it, and merges it into a copy.
+pub(crate) fn follow(
+    alloc: Global,
+    tree: &mut PublicTree,
+    i: u32,
+    own: u8,
+    key: u8,
+) -> Result<Vec<u64>, TreeError> {
+    let leaf = committed_for(alloc, tree, i, own, (key, 1))?;
+    let mut copy = copy_of(alloc, tree)?;
+    merge_keys(alloc, &mut copy, i, leaf.clone()?, &[key], 1)?;
+    let before = hashes_done(tree);
+    let told = follow_path(tree, i, leaf, keys_of(alloc, &[key], 1)?)?;
+    let same = told == tree_hash(tree) && told == tree_hash(&mut copy);
+    let made = hashes_done(tree).saturating_sub(before);
+    Ok(Vec::from_slice(alloc, &[u64::from(same), made])?)
 }

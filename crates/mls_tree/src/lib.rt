@@ -25,6 +25,7 @@ mod members;
 #[cfg(test)]
 mod path_tests;
 mod paths;
+mod prepared;
 #[cfg(test)]
 mod rows;
 #[cfg(test)]
@@ -37,4 +38,5 @@ mod way_tests;
 pub use error::TreeError;
 pub use laws::{hashing_costs, laws_of_leaves, tree_names_by_number};
 pub use mls_array::Hash;
+pub use prepared::PreparedPath;
 pub use tree::PublicTree;

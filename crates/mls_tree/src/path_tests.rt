@@ -1,7 +1,7 @@
 use crate::members::single;
 use crate::rows::Step::{
-    Add, AddKeys, Counts, FilteredPath, Good, IsBlank, Merge, MergeCommitted, MergeGiven,
-    MergeLong, ParentHashLength, Remove, Resolution, Single,
+    Add, AddKeys, Counts, Distinct, FilteredPath, Follow, Good, IsBlank, Merge, MergeCommitted,
+    MergeGiven, MergeLong, ParentHashLength, Remove, Resolution, Single,
 };
 use crate::rows::Told::{Done, Is, Refused};
 use crate::rows::{Row, met, rows_met};
@@ -23,6 +23,26 @@ const MERGED: &[Row] = &[
 #[test]
 fn a_path_is_merged(rt: HostRuntime) -> Result<(), Fail> {
     assert_eq!(rt; met(rt.alloc(), MERGED)?, MERGED.len());
+    Ok(())
+}
+
+/// Two members, with the keys 1 and 2. The path of each is prepared, then followed.
+const FOLLOWED: &[Row] = &[
+    (Single(1), Done),
+    (Add(2), Is(&[1])),
+    (Follow(0, 3, 4), Is(&[1, 2])),
+    (Resolution(1), Is(&[1])),
+    (Merge(1, 3, 5), Refused(25)),
+    (Follow(1, 1, 2), Is(&[1, 2])),
+    (Distinct, Is(&[1, 1])),
+    (Add(6), Is(&[2])),
+    (Follow(2, 7, 8), Is(&[1, 3])),
+    (Good, Is(&[1, 1])),
+];
+
+#[test]
+fn a_prepared_path_is_followed(rt: HostRuntime) -> Result<(), Fail> {
+    assert_eq!(rt; met(rt.alloc(), FOLLOWED)?, FOLLOWED.len());
     Ok(())
 }
 

@@ -36,7 +36,13 @@ use mls_slot::{SharedLeaf, SharedParent, Slot};
 use std::alloc::AllocError;
 
 /// Merges a path whose parents these are, the highest first. Takes no memory.
-fn merge(nodes: &mut Vec<Slot>, height: u32, i: u32, leaf: SharedLeaf, parents: Vec<SharedParent>)
+pub(crate) fn merge(
+    nodes: &mut Vec<Slot>,
+    height: u32,
+    i: u32,
+    leaf: SharedLeaf,
+    parents: Vec<SharedParent>,
+)
     requires stands { Stands height nodes.old.items }
     requires low { height ≤ max_height }
     ensures { (keys : List (List ℕ)) → parents.items ≡ path_parents 0 (term_of height nodes.old.items) i (reverse keys) [] → StandsFor height nodes.new.items (merge_path (term_of height nodes.old.items) i leaf keys) }
@@ -46,7 +52,7 @@ fn merge(nodes: &mut Vec<Slot>, height: u32, i: u32, leaf: SharedLeaf, parents: 
 }
 
 /// Whether the leaf's source is a commit with this parent hash.
-fn has_parent_hash(leaf: &LeafNode, hash: &[u8]) -> bool
+pub(crate) fn has_parent_hash(leaf: &LeafNode, hash: &[u8]) -> bool
     ensures { result ≡ is_some_bytes (source_hash leaf.now.source) hash.now }
 {
     match &leaf.source {
@@ -82,7 +88,7 @@ impl PublicTree {
     }
 
     /// The parents over leaf i, the highest first, and the parent hash that reaches it.
-    fn merged_path(&self, i: u32, keys: Vec<Bytes>) -> Result<MergedPath, AllocError>
+    pub(crate) fn merged_path(&self, i: u32, keys: Vec<Bytes>) -> Result<MergedPath, AllocError>
         requires { self.now.kept ≡ hashes_of 0 (term self.now) }
         ensures parents { IfOk result (λ p. p.parents.items ≡ path_parents 0 (term self.now) i (reverse keys.items) []) }
         ensures hash { IfOk result (λ p. hash_bytes p.hash ≡ path_parent_hash (term self.now) i keys.items) }
@@ -94,7 +100,7 @@ impl PublicTree {
     }
 
     /// The tree's indexes without the cells on the way to leaf i, with memory for as many.
-    fn indexes_beside(&self, i: u32) -> Result<KeyIndexes, AllocError>
+    pub(crate) fn indexes_beside(&self, i: u32) -> Result<KeyIndexes, AllocError>
         ensures room { IfOk result (HaveRoom (suc self.now.levels)) }
         ensures left { IfOk result (AreIndexes (cleared 0 (way_numbers self.now.levels i) self.now.listing)) }
     {
@@ -107,7 +113,13 @@ impl PublicTree {
     }
 
     /// Whether the merged tree has no encryption key twice, where `indexes` are the tree's without the cells on the way.
-    fn keys_differ(&self, indexes: &KeyIndexes, i: u32, leaf: &LeafNode, keys: &[Bytes]) -> bool
+    pub(crate) fn keys_differ(
+        &self,
+        indexes: &KeyIndexes,
+        i: u32,
+        leaf: &LeafNode,
+        keys: &[Bytes],
+    ) -> bool
         requires indexes { AreIndexes (cleared 0 (way_numbers self.now.levels i) self.now.listing) indexes.now }
         requires path { path_checks (term self.now) i (length keys.now) ≡ Ok passed }
         ensures { result ≡ is_distinct same_bytes (encryption_keys (merge_path (term self.now) i leaf.now keys.now)) }
@@ -118,7 +130,7 @@ impl PublicTree {
     }
 
     /// Refuses a leaf index at which no member is, and then a number of keys that isn't that of the filtered path.
-    fn require_path(&self, i: u32, count: usize) -> Result<(), TreeError>
+    pub(crate) fn require_path(&self, i: u32, count: usize) -> Result<(), TreeError>
         ensures { AnswersOutright (λ _. passed) number_of (path_checks (term self.now) i count) result }
     {
         if self.leaf(i).is_none() {

@@ -6,7 +6,8 @@ use crate::asked::{
     parent_hash_length, resolution, sent,
 };
 use crate::edited::{
-    add, add_keys, begin, fill, merge, merge_committed, merge_given, merge_long, remove, update,
+    add, add_keys, begin, fill, follow, merge, merge_committed, merge_given, merge_long, remove,
+    update,
 };
 use crate::members::{copy_of, odd_tree, single, taken_leaves, with_unmerged};
 use crate::{PublicTree, TreeError};
@@ -34,7 +35,10 @@ pub(crate) enum Step {
     Remove(u32),
     /// Merges this member's path of one parent: the key of its leaf, and that of the parent.
     Merge(u32, u8, u8),
-    /// The same with the key 8, and one of 32 bytes; answers how long the leaf's parent hash is.
+    /// The same, but that the path is prepared, and then followed: whether the tree hash that it had is the tree's and that
+    /// of a copy which it was merged into, and how many hashes the tree counts for it.
+    Follow(u32, u8, u8),
+    /// A merge with the key 8, and one of 32 bytes; answers how long the leaf's parent hash is.
     MergeLong(u32),
     /// Merges a path of this member with these keys, whose leaf has the key 3 and the parent hash of member 0's path with
     /// the key 4.
@@ -87,6 +91,7 @@ fn answer(alloc: Global, tree: &mut Box<PublicTree>, step: Step) -> Result<Vec<u
         Step::Update(i, key) => update(alloc, tree, i, key),
         Step::Remove(i) => remove(alloc, tree, i),
         Step::Merge(i, own, key) => merge(alloc, tree, i, own, key),
+        Step::Follow(i, own, key) => follow(alloc, tree, i, own, key),
         Step::MergeLong(i) => merge_long(alloc, tree, i),
         Step::MergeCommitted(i, keys) => merge_committed(alloc, tree, i, keys),
         Step::MergeGiven(hash, keys) => merge_given(alloc, tree, hash, keys),

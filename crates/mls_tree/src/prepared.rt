@@ -1,0 +1,184 @@
+//! A commit's path that is checked against a tree and hashed while the tree stays as it is, and merged into it later.
+
+ghost use Rattle.std.specs.Prelude.{◌≡◌, [], reverse, length, None, Ok, IfOk, OnOk, OnErr};
+ghost use Rattle.mls_wire.specs.Checks.{passed, Answers};
+ghost use Rattle.mls_term.specs.Term.{Term};
+ghost use Rattle.mls_term.specs.Sets.{same_bytes, is_distinct};
+ghost use Rattle.mls_term.specs.Hashes.{tree_hash};
+ghost use Rattle.mls_term.specs.Keys.{encryption_keys};
+ghost use Rattle.mls_term.specs.Edits.{put};
+ghost use Rattle.mls_term.specs.Merge.{merge_path};
+ghost use Rattle.mls_term.specs.Good.{AreNew};
+ghost use Rattle.mls_array.specs.Kept.{hashes_of};
+ghost use Rattle.mls_array.specs.Merging.{path_parents};
+ghost use Rattle.mls_array.specs.WayHashes.{HashesMerged};
+ghost use Rattle.mls_tree.specs.Cold.{Warms, Chills};
+ghost use Rattle.mls_tree.specs.Faults.{number_of};
+ghost use Rattle.mls_tree.specs.Kept.{KeepsGood, MergesGood};
+ghost use Rattle.mls_tree.specs.Paths.{path_checks, merge_checks, merge_answer};
+ghost use Rattle.mls_tree.specs.Prepared.{IsPrepared, IsFor, OfPrepared};
+ghost use Rattle.mls_tree.specs.Refusals.{RefusesOutright};
+ghost use Rattle.mls_tree.specs.Tree.{Tree, term};
+
+use crate::error::TreeError;
+use crate::paths::{has_parent_hash, merge};
+use crate::tree::PublicTree;
+use crate::way::Way;
+use mls_array::{self as array, Hash};
+use mls_leaf::{Bytes, LeafNode};
+use mls_slot::{SharedLeaf, SharedParent};
+use std::alloc::AllocError;
+use std::marker::Model;
+
+/// A commit's path that may be merged into the tree that it was prepared for, with all that its merge makes.
+#[derive(Drop)]
+pub struct PreparedPath {
+    index: u32,
+    leaf: SharedLeaf,
+    /// The parents over the leaf, the highest first.
+    parents: Vec<SharedParent>,
+    /// The tree hashes of the leaf and of the nodes over it, the lowest first.
+    hashes: Vec<Hash>,
+    root: Hash,
+}
+
+impl Model for PreparedPath {
+    ghost use Rattle.mls_tree.specs.Prepared.{Prepared};
+
+    ghost Value = { Prepared };
+
+    ghost view = { λ p. record { index = p.index; leaf = p.leaf; parents = p.parents.items; hashes = p.hashes.items; root = p.root } };
+}
+
+impl PreparedPath {
+    /// The tree hash of the merged tree (RFC 9420, 7.8).
+    pub fn tree_hash(&self) -> Hash
+        ensures { (t : Term) → OfPrepared t self.now (λ i x keys. result ≡ tree_hash 0 (merge_path t i x keys)) }
+    {
+        self.root
+    }
+}
+
+impl PublicTree {
+    /// Whether the tree merged with this path has no encryption key twice.
+    fn stays_distinct(&self, i: u32, leaf: &LeafNode, keys: &[Bytes]) -> Result<bool, AllocError>
+        requires { path_checks (term self.now) i (length keys.now) ≡ Ok passed }
+        ensures { IfOk result (λ b. b ≡ is_distinct same_bytes (encryption_keys (merge_path (term self.now) i leaf.now keys.now))) }
+    {
+        let indexes = self.indexes_beside(i)?;
+        Ok(self.keys_differ(&indexes, i, leaf, keys))
+    }
+
+    /// The parents over the leaf of a path that may be merged, the highest first. They come with the parent hash that the
+    /// last check wants, so no hash is made twice.
+    fn require_parents(
+        &self,
+        i: u32,
+        leaf: &LeafNode,
+        keys: Vec<Bytes>,
+    ) -> Result<Vec<SharedParent>, TreeError>
+        requires { self.now.kept ≡ hashes_of 0 (term self.now) }
+        ensures checks { Answers (λ _. passed) number_of (merge_checks (term self.now) i leaf.now keys.items) result }
+        ensures outright { RefusesOutright number_of (path_checks (term self.now) i (length keys.items)) result }
+        ensures parents { IfOk result (λ p. p.items ≡ path_parents 0 (term self.now) i (reverse keys.items) []) }
+    {
+        match self.require_path(i, keys.len()) {
+            Err(error) => return Err(error),
+            Ok(()) => {}
+        }
+        let distinct = self.stays_distinct(i, leaf, &keys)?;
+        if !distinct {
+            return Err(TreeError::KeyRepeated);
+        }
+        let path = self.merged_path(i, keys)?;
+        let right = has_parent_hash(leaf, array::bytes_of(&path.hash));
+        if !right {
+            return Err(TreeError::ParentHashWrong);
+        }
+        Ok(path.parents)
+    }
+
+    /// The tree hashes of leaf i and of the nodes over it once a path with these parents is merged, the lowest first, and
+    /// the tree hash.
+    fn hashes_over(
+        &self,
+        i: u32,
+        leaf: &LeafNode,
+        parents: &[SharedParent],
+    ) -> Result<(Vec<Hash>, Hash), AllocError>
+        requires { self.now.kept ≡ hashes_of 0 (term self.now) }
+        ensures { IfOk result (λ made. HashesMerged 0 (term self.now) i parents.now leaf.now made.1 [] made.0.items) }
+    {
+        let levels = self.height as usize + 1;
+        let mut hashes = Vec::with_capacity(*self.nodes.allocator(), levels)?;
+        let mut done = 0;
+        let kept = self.hashes.as_slice();
+        let root = array::merged_hashes(
+            &self.nodes,
+            kept,
+            self.height,
+            0,
+            i,
+            parents,
+            leaf,
+            &mut hashes,
+            &mut done,
+        )?;
+        Ok((hashes, root))
+    }
+
+    /// Checks a commit's path as `merge_path` does, and makes all that its merge makes of a tree in which no node is cold,
+    /// while the tree stays as it is. Refused with `NoSuchLeaf` (22), `PathLength` (30), `KeyRepeated` (25) and
+    /// `ParentHashWrong` (24), in this order.
+    pub fn prepare_path(
+        &self,
+        i: u32,
+        leaf: LeafNode,
+        keys: Vec<Bytes>,
+    ) -> Result<PreparedPath, TreeError>
+        requires warm { self.now.kept ≡ hashes_of 0 (term self.now) }
+        ensures answer { Answers (λ _. merge_path (term self.now) i leaf keys.items) number_of (merge_answer (term self.now) i leaf keys.items) result }
+        // 22 and 30 come whatever memory there is.
+        ensures outright { RefusesOutright number_of (path_checks (term self.now) i (length keys.items)) result }
+        ensures prepared { IfOk result (IsPrepared (term self.now) i leaf keys.items) }
+    {
+        let parents = match self.require_parents(i, &leaf, keys) {
+            Err(error) => return Err(error),
+            Ok(parents) => parents,
+        };
+        let (hashes, root) = self.hashes_over(i, &leaf, &parents)?;
+        let leaf = SharedLeaf::new(*self.nodes.allocator(), leaf)?;
+        Ok(PreparedPath {
+            index: i,
+            leaf,
+            parents,
+            hashes,
+            root,
+        })
+    }
+
+    /// Merges a path that was prepared for this tree, in which no node is cold before or after: nothing is checked again,
+    /// and no hash made. Without memory for the indexes the tree is as before.
+    pub fn follow_path(&mut self, path: PreparedPath) -> Result<(), AllocError>
+        requires warm { self.old.kept ≡ hashes_of 0 (term self.old) }
+        requires prepared { IsFor (term self.old) path }
+        ensures tree { OnOk result (OfPrepared (term self.old) path (λ i x keys. term self.new ≡ merge_path (term self.old) i x keys)) }
+        ensures warm { OnOk result (self.new.kept ≡ hashes_of 0 (term self.new)) }
+        // It makes the leaf and the nodes over it cold, and then warms them: the hashes that were made for it are counted.
+        ensures cold { OnOk result ((between : Tree) × Chills (term self.old) path.index self.old between × (term between ≡ term self.new) × Warms between self.new) }
+        // What a path keeps of a tree, as a merge does.
+        ensures good { OnOk result (OfPrepared (term self.old) path (λ i x keys. KeepsGood (λ rules. AreNew rules i x keys (put 0 (term self.old) i None)) (term self.old) (term self.new))) }
+        ensures checked { OnOk result (OfPrepared (term self.old) path (λ i x keys. MergesGood i x keys (term self.old) (term self.new))) }
+        ensures unchanged { OnErr result (self.new ≡ self.old) }
+    {
+        let height = self.height;
+        let way = Way::over(height, path.index);
+        let places = way.as_slice();
+        self.indexes.reserve(places.len())?;
+        self.indexes.leave_all(&self.nodes, places);
+        merge(&mut self.nodes, height, path.index, path.leaf, path.parents);
+        self.indexes.enter_all(&self.nodes, places);
+        self.hashes.put_way(height, path.index, &path.hashes);
+        Ok(())
+    }
+}
