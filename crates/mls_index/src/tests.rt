@@ -1,5 +1,8 @@
 //! Tests: an index as its cells come and go.
 
+ghost use Rattle.std.specs.Prelude.{◌≡◌, nat_eq, true};
+ghost use Rattle.mls_term.specs.Sets.{is_distinct};
+
 use crate::{Index, KeyKind};
 use mls_leaf::{Bytes, Capabilities, Credential, Items, LeafNode, LeafSource, Node, ParentNode};
 use mls_slot::Slot;
@@ -169,5 +172,51 @@ fn accepts_new_keys(rt: HostRuntime) -> Result<(), Fail> {
     assert!(rt; index.accepts(&cells, &byte(alloc, 1)?, &keys));
     keys.push(byte(alloc, 2)?)?;
     assert!(rt; !index.accepts(&cells, &byte(alloc, 1)?, &keys));
+    Ok(())
+}
+
+/// One place.
+fn at(x: u32) -> [u32; 1]
+    ensures { is_distinct nat_eq result ≡ true }
+{
+    [x]
+}
+
+/// The first two places.
+fn first_two() -> [u32; 2]
+    ensures { is_distinct nat_eq result ≡ true }
+{
+    [0, 1]
+}
+
+#[test]
+fn accepts_keys_beside_cells(rt: HostRuntime) -> Result<(), Fail> {
+    let alloc = rt.alloc();
+    let cells = cells(alloc)?;
+    let index = index(&rt, alloc, KeyKind::Encryption, &cells)?;
+    let mut keys = Vec::new(alloc);
+    let (first, last) = (first_two(), at(4));
+    assert!(rt; index.accepts_beside(&cells, &last, &byte(alloc, 5)?, &keys)?);
+    assert!(rt; !index.accepts_beside(&cells, &last, &byte(alloc, 7)?, &keys)?);
+    keys.push(byte(alloc, 2)?)?;
+    keys.push(byte(alloc, 3)?)?;
+    assert!(rt; index.accepts_beside(&cells, &first, &byte(alloc, 7)?, &keys)?);
+    assert!(rt; !index.accepts_beside(&cells, &first, &byte(alloc, 5)?, &keys)?);
+    assert!(rt; !index.accepts_beside(&cells, &first, &byte(alloc, 3)?, &keys)?);
+    assert!(rt; index.holds(&cells, &[7]));
+    Ok(())
+}
+
+#[test]
+fn accepts_keys_beside_a_repeat(rt: HostRuntime) -> Result<(), Fail> {
+    let alloc = rt.alloc();
+    let cells = cells(alloc)?;
+    let index = index(&rt, alloc, KeyKind::Signature, &cells)?;
+    let keys = Vec::new(alloc);
+    let (parent, last) = (at(1), at(4));
+    assert!(rt; !index.accepts_beside(&cells, &parent, &byte(alloc, 2)?, &keys)?);
+    assert!(rt; index.accepts_beside(&cells, &last, &byte(alloc, 2)?, &keys)?);
+    assert!(rt; !index.accepts_beside(&cells, &last, &byte(alloc, 1)?, &keys)?);
+    assert!(rt; !index.are_distinct());
     Ok(())
 }

@@ -1,6 +1,5 @@
 -- The indexes of a tree's keys after a call.
-use Rattle.std.proofs.Common.{◌≡◌, ℕ, suc, ◌+◌, ◌-◌, ◌*◌, ◌%◌, ◌^◌, ◌<◌, ◌≤◌, nat_eq, true, List, ◌++◌, length, take, replicate, Option, Some, None, refl, sym, ◌∙◌, ap, subst, arith, inl, inr, add-one, pow-suc}
-use Rattle.std.proofs.lemmas.Bool.{cases_Bool}
+use Rattle.std.proofs.Common.{◌≡◌, ℕ, suc, ◌+◌, ◌-◌, ◌*◌, ◌%◌, ◌^◌, ◌<◌, ◌≤◌, nat_eq, true, List, ◌++◌, length, take, replicate, Option, Some, None, refl, sym, ◌∙◌, ap, subst, arith, add-one, pow-suc}
 use Rattle.std.proofs.lemmas.Nat.{one_shl}
 use Rattle.std.proofs.lemmas.List.{length-take-le}
 use Rattle.mls_leaf.specs.declared.leaf.LeafNode.{LeafNode}
@@ -8,7 +7,7 @@ use Rattle.mls_leaf.specs.declared.node.Node.{Node}
 use Rattle.mls_treemath.specs.Paths.{nodes_in}
 use Rattle.mls_treemath.specs.Limits.{max_height}
 use Rattle.mls_term.specs.Term.{Term, width}
-use Rattle.mls_term.specs.Sets.{has, is_distinct}
+use Rattle.mls_term.specs.Sets.{is_distinct}
 use Rattle.mls_term.specs.Edits.{put, enter, grow, trim, first_blank}
 use Rattle.mls_term.specs.Merge.{merge_path}
 use Rattle.mls_term.specs.Arrays.{term_of, in_order}
@@ -17,27 +16,20 @@ use Rattle.mls_term.specs.ArrayLaws.{perfect-term_of, width-term_of, nodes_in-le
 use Rattle.mls_array.specs.Standing.{Stands}
 use Rattle.mls_array.specs.StandingLaws.{StandsFor, in_order-grow, no_more_nodes, stands_for-trim}
 use Rattle.mls_index.specs.declared.kind.KeyKind.{KeyKind}
-use Rattle.mls_index.specs.Keys.{key_in}
-use Rattle.mls_index.specs.Order.{IsPart}
-use Rattle.mls_index.specs.Indexes.{Listing, Indexes, SameIndex, Without}
+use Rattle.mls_index.specs.Indexes.{Listing, Indexes, Without}
 use Rattle.mls_index.specs.Cleared.{cleared}
-use Rattle.mls_index.specs.ClearedLaws.{key_cleared, key_left}
-use Rattle.mls_index.specs.EntryLaws.{no_key}
-use Rattle.mls_index.specs.StepLaws.{indexes_from}
+use Rattle.mls_index.specs.StepLaws.{same_index}
 use Rattle.mls_index.specs.Laws.{indexes_padded}
 use Rattle.mls_tree.specs.declared.key_indexes.KeyIndexes.{KeyIndexes}
-use Rattle.mls_tree.specs.Indexed.{AreIndexes, HaveRoom, AreSame, Fills}
+use Rattle.mls_tree.specs.Indexed.{AreIndexes, AreSame, Fills}
 use Rattle.mls_tree.specs.Way.{way_numbers}
-use Rattle.mls_tree.specs.WayLaws.{way_distinct, length-way}
+use Rattle.mls_tree.specs.WayLaws.{way_distinct}
 use Rattle.mls_tree.specs.WayIndexes.{indexes-put, indexes-merge, indexes-remove}
 use Rattle.mls_tree.proofs.Filling.{filled}
 use Rattle.mls_tree.proofs.Keepings.{grown_perfect}
 use Rattle.mls_tree.proofs.Pathing.{merge_is}
 
 -- ---- both at once
-
-same_index : (c : List (Option Node)) (s t : Listing) → SameIndex s t → Indexes c s → Indexes c t
-same_index c s t same is = indexes_from s.kind s.numbers c t same.kind same.numbers is.entries (same.repeats ∙ is.repeats)
 
 pub same_indexes : (c : List (Option Node)) (s t : KeyIndexes) → AreSame s t → AreIndexes c s → AreIndexes c t
 same_indexes c s t same is = record {
@@ -68,13 +60,6 @@ filled_without k x b c fills = record {
   blank = fills.blank k;
   others = fills.others k;
 }
-
--- cells that were blanked have no other keys
-pub cleared_part : (k : KeyKind) (ns : List ℕ) (cs : List (Option Node)) → IsPart (key_in k (cleared 0 ns cs)) (key_in k cs)
-cleared_part k ns cs y some = elim (cases_Bool (has ns y)) [
-  | inl on ↦ absurd (no_key (key_in k (cleared 0 ns cs) y) (key_cleared k ns cs y on) some)
-  | inr out ↦ sym (key_left k ns cs y out)
-]
 
 -- ---- in each edit
 
@@ -140,12 +125,9 @@ new_half h low =
     let same : 2 ^ suc h ≡ 2 * 2 ^ h = omega arith in
     one_shl (h + 1) 32 (omega arith) ∙ ap (λ n. 2 ^ n) (add-one h) ∙ same
 
--- a way's numbers are given once, and there is room for them
+-- a way's numbers are given once
 pub way_once : (h i : ℕ) (places : List ℕ) → places ≡ way_numbers h i → is_distinct nat_eq places ≡ true
 way_once h i places way = ap (is_distinct nat_eq) way ∙ way_distinct h i
-
-pub way_room : (h i : ℕ) (places : List ℕ) (s : KeyIndexes) → places ≡ way_numbers h i → HaveRoom (suc h) s → HaveRoom (length places) s
-way_room h i places s way room = subst (λ n. HaveRoom n s) (sym (ap length way ∙ length-way h i)) room
 
 -- ---- a trim
 

@@ -1,6 +1,6 @@
 //! A commit's path: the parent hash of its leaf, and its merge.
 
-ghost use Rattle.std.specs.Prelude.{◌≡◌, ℕ, suc, ◌≤◌, List, [], reverse, length, None, Ok, IfOk, OnOk, OnErr};
+ghost use Rattle.std.specs.Prelude.{◌≡◌, ℕ, ◌≤◌, List, [], reverse, length, None, Ok, IfOk, OnOk, OnErr};
 ghost use Rattle.mls_wire.specs.Checks.{passed, Answers, AnswersOutright};
 ghost use Rattle.mls_treemath.specs.Limits.{max_height};
 ghost use Rattle.mls_term.specs.Node.{source_hash};
@@ -12,22 +12,18 @@ ghost use Rattle.mls_term.specs.Edits.{put};
 ghost use Rattle.mls_term.specs.Merge.{merge_path, path_parent_hash};
 ghost use Rattle.mls_term.specs.Good.{AreNew};
 ghost use Rattle.mls_term.specs.Arrays.{term_of};
-ghost use Rattle.mls_index.specs.Cleared.{cleared};
 ghost use Rattle.mls_array.specs.Kept.{hashes_of};
 ghost use Rattle.mls_array.specs.Standing.{Stands};
 ghost use Rattle.mls_array.specs.StandingLaws.{StandsFor};
 ghost use Rattle.mls_array.specs.Merging.{hash_bytes, path_parents};
 ghost use Rattle.mls_tree.specs.Cold.{Warms, Chills};
 ghost use Rattle.mls_tree.specs.Faults.{number_of};
-ghost use Rattle.mls_tree.specs.Indexed.{AreIndexes, HaveRoom};
-ghost use Rattle.mls_tree.specs.Way.{way_numbers};
 ghost use Rattle.mls_tree.specs.Kept.{KeepsGood, MergesGood};
 ghost use Rattle.mls_tree.specs.Refusals.{RefusesOutright};
 ghost use Rattle.mls_tree.specs.Tree.{Tree, term};
 ghost use Rattle.mls_tree.specs.Paths.{path_checks, path_hash_answer, counts_answer, merge_checks, merge_answer, ChangesWhole};
 
 use crate::error::TreeError;
-use crate::key_indexes::KeyIndexes;
 use crate::tree::PublicTree;
 use crate::way::Way;
 use mls_array::{self as array, Hash, MergedPath};
@@ -52,22 +48,13 @@ pub(crate) fn merge(
 }
 
 /// Whether the leaf's source is a commit with this parent hash.
-pub(crate) fn has_parent_hash(leaf: &LeafNode, hash: &[u8]) -> bool
+fn has_parent_hash(leaf: &LeafNode, hash: &[u8]) -> bool
     ensures { result ≡ is_some_bytes (source_hash leaf.now.source) hash.now }
 {
     match &leaf.source {
         LeafSource::Commit { parent_hash } => parent_hash.as_slice() == hash,
         _ => false,
     }
-}
-
-/// A path that may be merged into a tree.
-#[derive(Drop)]
-struct CheckedPath {
-    /// The parents over its leaf, the highest first.
-    parents: Vec<SharedParent>,
-    /// The tree's indexes without the cells on the way to the leaf.
-    indexes: KeyIndexes,
 }
 
 impl PublicTree {
@@ -88,7 +75,7 @@ impl PublicTree {
     }
 
     /// The parents over leaf i, the highest first, and the parent hash that reaches it.
-    pub(crate) fn merged_path(&self, i: u32, keys: Vec<Bytes>) -> Result<MergedPath, AllocError>
+    fn merged_path(&self, i: u32, keys: Vec<Bytes>) -> Result<MergedPath, AllocError>
         requires { self.now.kept ≡ hashes_of 0 (term self.now) }
         ensures parents { IfOk result (λ p. p.parents.items ≡ path_parents 0 (term self.now) i (reverse keys.items) []) }
         ensures hash { IfOk result (λ p. hash_bytes p.hash ≡ path_parent_hash (term self.now) i keys.items) }
@@ -99,38 +86,19 @@ impl PublicTree {
         Ok(path)
     }
 
-    /// The tree's indexes without the cells on the way to leaf i, with memory for as many.
-    pub(crate) fn indexes_beside(&self, i: u32) -> Result<KeyIndexes, AllocError>
-        ensures room { IfOk result (HaveRoom (suc self.now.levels)) }
-        ensures left { IfOk result (AreIndexes (cleared 0 (way_numbers self.now.levels i) self.now.listing)) }
+    /// Whether the merged tree has no encryption key twice. Takes memory only where the tree has one twice.
+    fn keys_differ(&self, i: u32, leaf: &LeafNode, keys: &[Bytes]) -> Result<bool, AllocError>
+        requires { path_checks (term self.now) i (length keys.now) ≡ Ok passed }
+        ensures { IfOk result (λ b. b ≡ is_distinct same_bytes (encryption_keys (merge_path (term self.now) i leaf.now keys.now))) }
     {
         let way = Way::over(self.height, i);
         let places = way.as_slice();
-        let mut indexes = self.indexes.clone()?;
-        indexes.reserve(places.len())?;
-        indexes.leave_all(&self.nodes, places);
-        Ok(indexes)
-    }
-
-    /// Whether the merged tree has no encryption key twice, where `indexes` are the tree's without the cells on the way.
-    pub(crate) fn keys_differ(
-        &self,
-        indexes: &KeyIndexes,
-        i: u32,
-        leaf: &LeafNode,
-        keys: &[Bytes],
-    ) -> bool
-        requires indexes { AreIndexes (cleared 0 (way_numbers self.now.levels i) self.now.listing) indexes.now }
-        requires path { path_checks (term self.now) i (length keys.now) ≡ Ok passed }
-        ensures { result ≡ is_distinct same_bytes (encryption_keys (merge_path (term self.now) i leaf.now keys.now)) }
-    {
-        indexes
-            .keys
-            .accepts(&self.nodes, &leaf.encryption_key, keys)
+        let index = &self.indexes.keys;
+        index.accepts_beside(&self.nodes, places, &leaf.encryption_key, keys)
     }
 
     /// Refuses a leaf index at which no member is, and then a number of keys that isn't that of the filtered path.
-    pub(crate) fn require_path(&self, i: u32, count: usize) -> Result<(), TreeError>
+    fn require_path(&self, i: u32, count: usize) -> Result<(), TreeError>
         ensures { AnswersOutright (λ _. passed) number_of (path_checks (term self.now) i count) result }
     {
         if self.leaf(i).is_none() {
@@ -142,27 +110,25 @@ impl PublicTree {
         Ok(())
     }
 
-    /// What a path that may be merged makes of the tree. The parents come with the parent hash that the last check wants,
-    /// so no hash is made twice.
-    fn require_merge(
+    /// The parents of a path that may be merged, the highest first. They come with the parent hash that the last check
+    /// wants, so no hash is made twice.
+    pub(crate) fn require_merge(
         &self,
         i: u32,
         leaf: &LeafNode,
         keys: Vec<Bytes>,
-    ) -> Result<CheckedPath, TreeError>
+    ) -> Result<Vec<SharedParent>, TreeError>
         requires { self.now.kept ≡ hashes_of 0 (term self.now) }
         ensures checks { Answers (λ _. passed) number_of (merge_checks (term self.now) i leaf.now keys.items) result }
         ensures outright { RefusesOutright number_of (path_checks (term self.now) i (length keys.items)) result }
-        ensures parents { IfOk result (λ p. p.parents.items ≡ path_parents 0 (term self.now) i (reverse keys.items) []) }
-        ensures room { IfOk result (λ p. HaveRoom (suc self.now.levels) p.indexes) }
-        ensures left { IfOk result (λ p. AreIndexes (cleared 0 (way_numbers self.now.levels i) self.now.listing) p.indexes) }
+        ensures parents { IfOk result (λ p. p.items ≡ path_parents 0 (term self.now) i (reverse keys.items) []) }
     {
         match self.require_path(i, keys.len()) {
             Err(error) => return Err(error),
             Ok(()) => {}
         }
-        let indexes = self.indexes_beside(i)?;
-        if !self.keys_differ(&indexes, i, leaf, &keys) {
+        let differ = self.keys_differ(i, leaf, &keys)?;
+        if !differ {
             return Err(TreeError::KeyRepeated);
         }
         let path = self.merged_path(i, keys)?;
@@ -170,10 +136,7 @@ impl PublicTree {
         if !right {
             return Err(TreeError::ParentHashWrong);
         }
-        Ok(CheckedPath {
-            parents: path.parents,
-            indexes,
-        })
+        Ok(path.parents)
     }
 
     /// How many ciphertexts each node of a path of member i has, the lowest first, where these leaves were just added: one
@@ -230,16 +193,18 @@ impl PublicTree {
         ensures checked { OnOk result (MergesGood i leaf keys.items (term self.old) (term self.new)) }
     {
         let _tree_hash = self.tree_hash();
-        let path = match self.require_merge(i, &leaf, keys) {
+        let parents = match self.require_merge(i, &leaf, keys) {
             Err(error) => return Err(error),
-            Ok(path) => path,
+            Ok(parents) => parents,
         };
-        let height = self.height;
         let leaf = SharedLeaf::new(*self.nodes.allocator(), leaf)?;
-        merge(&mut self.nodes, height, i, leaf, path.parents);
+        let height = self.height;
         let way = Way::over(height, i);
-        self.indexes = path.indexes;
-        self.indexes.enter_all(&self.nodes, way.as_slice());
+        let places = way.as_slice();
+        self.indexes.reserve(places.len())?;
+        self.indexes.leave_all(&self.nodes, places);
+        merge(&mut self.nodes, height, i, leaf, parents);
+        self.indexes.enter_all(&self.nodes, places);
         self.hashes.drop_way(height, i);
         Ok(())
     }

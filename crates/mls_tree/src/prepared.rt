@@ -21,7 +21,7 @@ ghost use Rattle.mls_tree.specs.Refusals.{RefusesOutright};
 ghost use Rattle.mls_tree.specs.Tree.{Tree, term};
 
 use crate::error::TreeError;
-use crate::paths::{has_parent_hash, merge};
+use crate::paths::merge;
 use crate::tree::PublicTree;
 use crate::way::Way;
 use mls_array::{self as array, Hash};
@@ -60,44 +60,6 @@ impl PreparedPath {
 }
 
 impl PublicTree {
-    /// Whether the tree merged with this path has no encryption key twice.
-    fn stays_distinct(&self, i: u32, leaf: &LeafNode, keys: &[Bytes]) -> Result<bool, AllocError>
-        requires { path_checks (term self.now) i (length keys.now) ≡ Ok passed }
-        ensures { IfOk result (λ b. b ≡ is_distinct same_bytes (encryption_keys (merge_path (term self.now) i leaf.now keys.now))) }
-    {
-        let indexes = self.indexes_beside(i)?;
-        Ok(self.keys_differ(&indexes, i, leaf, keys))
-    }
-
-    /// The parents over the leaf of a path that may be merged, the highest first. They come with the parent hash that the
-    /// last check wants, so no hash is made twice.
-    fn require_parents(
-        &self,
-        i: u32,
-        leaf: &LeafNode,
-        keys: Vec<Bytes>,
-    ) -> Result<Vec<SharedParent>, TreeError>
-        requires { self.now.kept ≡ hashes_of 0 (term self.now) }
-        ensures checks { Answers (λ _. passed) number_of (merge_checks (term self.now) i leaf.now keys.items) result }
-        ensures outright { RefusesOutright number_of (path_checks (term self.now) i (length keys.items)) result }
-        ensures parents { IfOk result (λ p. p.items ≡ path_parents 0 (term self.now) i (reverse keys.items) []) }
-    {
-        match self.require_path(i, keys.len()) {
-            Err(error) => return Err(error),
-            Ok(()) => {}
-        }
-        let distinct = self.stays_distinct(i, leaf, &keys)?;
-        if !distinct {
-            return Err(TreeError::KeyRepeated);
-        }
-        let path = self.merged_path(i, keys)?;
-        let right = has_parent_hash(leaf, array::bytes_of(&path.hash));
-        if !right {
-            return Err(TreeError::ParentHashWrong);
-        }
-        Ok(path.parents)
-    }
-
     /// The tree hashes of leaf i and of the nodes over it once a path with these parents is merged, the lowest first, and
     /// the tree hash.
     fn hashes_over(
@@ -142,7 +104,7 @@ impl PublicTree {
         ensures outright { RefusesOutright number_of (path_checks (term self.now) i (length keys.items)) result }
         ensures prepared { IfOk result (IsPrepared (term self.now) i leaf keys.items) }
     {
-        let parents = match self.require_parents(i, &leaf, keys) {
+        let parents = match self.require_merge(i, &leaf, keys) {
             Err(error) => return Err(error),
             Ok(parents) => parents,
         };

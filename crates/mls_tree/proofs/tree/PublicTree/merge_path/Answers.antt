@@ -1,4 +1,4 @@
-use Rattle.std.proofs.Common.{◌≡◌, suc, true, is_some, Ok, [], reverse, sym, ◌∙◌, ap, subst}
+use Rattle.std.proofs.Common.{◌≡◌, true, is_some, Ok, [], reverse, sym, ◌∙◌, ap, subst}
 use Rattle.mls_term.specs.Term.{leaf_of}
 use Rattle.mls_term.specs.Merge.{merge_path}
 use Rattle.mls_term.specs.ArrayLaws.{perfect-term_of}
@@ -10,10 +10,8 @@ use Rattle.mls_tree.proofs.Keepings.{kept_long, kept-merge}
 use Rattle.mls_tree.proofs.Bounding.{merged}
 use Rattle.mls_tree.proofs.Pathing.{merge_refused, merge_done}
 use Rattle.mls_tree.proofs.Chilling.{tree_of, warmed, edited_in, on_err}
-use Rattle.mls_index.specs.Cleared.{cleared}
-use Rattle.mls_tree.specs.Indexed.{AreIndexes, HaveRoom}
 use Rattle.mls_tree.specs.Way.{way_numbers}
-use Rattle.mls_tree.proofs.Indexing.{entered_by, way_once, way_room, indexed-merge}
+use Rattle.mls_tree.proofs.Indexing.{same_indexes, left_by, entered_by, way_once, indexed-merge}
 use Rattle.mls_tree.proofs.tree.PublicTree.merge_path.Goals as goal
 
 pub returns-in-Err-clause-answer : goal.returns-in-Err-clause-answer
@@ -24,13 +22,17 @@ pub drop_way-requires-clause-shape : goal.drop_way-requires-clause-shape
 drop_way-requires-clause-shape c = kept_long c.self.inside.height c.self.inside.nodes.items _ c.self.invariant.2
 
 pub invariant_of-self : goal.invariant_of-self
-invariant_of-self c =
+invariant_of-self c = (c.self.invariant.0, c.self.invariant.1, c.self.invariant.2, c.self.invariant.3, same_indexes c.self.inside.nodes.items _ _ c.in_err-reserve.ensures.same c.self.invariant.4)
+
+pub invariant_of-self-2 : goal.invariant_of-self-2
+invariant_of-self-2 c =
     let made = c.in-Ok.ensures.parents ∙ ap (λ t. path_parents 0 (term t) c.args.i (reverse c.args.keys.items) []) (sym c.self.view_is) in
     let stands = c.merge.ensures c.args.keys.items made in
-    let way = c.as_slice.ensures ∙ c.over-way.ensures in
-    let left = subst (λ t. AreIndexes (cleared 0 (way_numbers t.levels c.args.i) t.listing) c.in-Ok.path.indexes) (sym c.self.view_is) c.in-Ok.ensures.left in
+    let way = c.as_slice-places.ensures ∙ c.over-way.ensures in
+    let reserved = same_indexes c.self.inside.nodes.items _ _ c.in_ok-reserve.ensures.same c.self.invariant.4 in
+    let left = left_by (way_numbers c.self.inside.height c.args.i) _ c.self.inside.nodes.items _ _ _ way c.deref.ensures.value c.leave_all.ensures.left reserved in
     let beside = indexed-merge c.self.inside.height c.args.i c.self.inside.nodes.items _ _ c.self.invariant.0 _ c.args.keys.items stands left in
-    let entered = entered_by (way_numbers c.self.inside.height c.args.i) _ c.merge.new.nodes.items _ _ _ way c.deref.ensures.value c.enter_all.ensures beside in
+    let entered = entered_by (way_numbers c.self.inside.height c.args.i) _ c.merge.new.nodes.items _ _ _ way c.deref-2.ensures.value c.enter_all.ensures beside in
     (stands.stands, c.self.invariant.1, kept-merge _ _ _ c.self.invariant.2 _ _ _ _ _ _ (c.drop_way.ensures.kept _ (perfect-term_of _ _)) stands, merged _ _ _ _ _ (ap term c.self.view_is) c.self.invariant.3 _ _ _ _ _ stands (merge_member _ _ _ _ _ (merge_done _ _ _ _ c.in-Ok.ensures.checks)), entered)
 
 pub returns-clause-answer : goal.returns-clause-answer
@@ -60,10 +62,14 @@ returns-clause-cold c = (
 pub returns-in_err-leaf-clause-warms : goal.returns-in_err-leaf-clause-warms
 returns-in_err-leaf-clause-warms c = on_err _ _ (warmed c.args.self.now c.tree_hash-tree_hash.new.self c.tree_hash-tree_hash.ensures.all c.tree_hash-tree_hash.ensures.counted)
 
+pub returns-in_err-reserve-clause-warms : goal.returns-in_err-reserve-clause-warms
+returns-in_err-reserve-clause-warms c = on_err _ _ (warmed c.args.self.now c.tree_hash-tree_hash.new.self c.tree_hash-tree_hash.ensures.all c.tree_hash-tree_hash.ensures.counted)
+
+pub leave_all-requires : goal.leave_all-requires
+leave_all-requires c = way_once c.self.inside.height c.args.i _ (c.as_slice-places.ensures ∙ c.over-way.ensures)
+
 pub enter_all-requires-clause-distinct : goal.enter_all-requires-clause-distinct
-enter_all-requires-clause-distinct c = way_once c.self.inside.height c.args.i _ (c.as_slice.ensures ∙ c.over-way.ensures)
+enter_all-requires-clause-distinct c = way_once c.self.inside.height c.args.i _ (c.as_slice-places.ensures ∙ c.over-way.ensures)
 
 pub enter_all-requires-clause-room : goal.enter_all-requires-clause-room
-enter_all-requires-clause-room c =
-    way_room c.self.inside.height c.args.i _ _ (c.as_slice.ensures ∙ c.over-way.ensures)
-    (subst (λ t. HaveRoom (suc t.levels) c.in-Ok.path.indexes) (sym c.self.view_is) c.in-Ok.ensures.room)
+enter_all-requires-clause-room c = c.leave_all.ensures.room _ c.in_ok-reserve.ensures.room
