@@ -1,6 +1,5 @@
 -- The kept hashes of a tree, by the root and its sides.
-use Rattle.std.proofs.Common.{◌≡◌, ℕ, zero, suc, ◌+◌, ◌/◌, true, List, [], ◌∷◌, ◌++◌, length, get_or, Option, Some, None, is_some, refl, sym, ◌∙◌, ap, subst, arith, length-append}
-use Rattle.std.specs.Prelude.{IfSome}
+use Rattle.std.proofs.Common.{◌≡◌, ℕ, zero, suc, ◌+◌, ◌/◌, true, List, [], ◌∷◌, ◌++◌, length, get_or, Option, Some, None, is_some, refl, sym, ◌∙◌, ap, arith, length-append}
 use Rattle.std.proofs.lemmas.List.{get_or_at}
 use Rattle.mls_leaf.specs.Parent.{Parent}
 use Rattle.mls_leaf.specs.declared.node.Node.{Node}
@@ -11,8 +10,8 @@ use Rattle.mls_term.specs.Hashes.{tree_hash}
 use Rattle.mls_term.specs.Arrays.{leaf_in, term_of}
 use Rattle.mls_term.specs.ArrayLaws.{size-term_of, term_of-zero, term_of-suc}
 use Rattle.mls_term.specs.Equations.{tree_hash_leaf}
-use Rattle.mls_array.specs.Kept.{hashes_of, Keeps}
-use Rattle.mls_array.specs.KeptLaws.{length-hashes_of, keeps_long, warm_leaf, warm_branch}
+use Rattle.mls_array.specs.Kept.{hashes_of}
+use Rattle.mls_array.specs.KeptLaws.{length-hashes_of}
 use Rattle.mls_array.proofs.Readings.{leaf_term, left_side, right_side, InParts}
 
 pub hashes_one : (b h : ℕ) (xs : List (Option Node)) (n : Option Node) → h ≡ 0 → length xs ≡ nodes_in h → n ≡ get_or xs 0 n → hashes_of b (term_of h xs) ≡ Some (leaf_hash b (leaf_in n)) ∷ []
@@ -50,28 +49,3 @@ root_there b h xs hs is = ap (λ ys. is_some (get_or ys (length ys / 2) None)) i
 
 pub root_read : (b h : ℕ) (xs : List (Option Node)) (hs : List (Option (List ℕ))) → hs ≡ hashes_of b (term_of h xs) → get_or hs (length hs / 2) None ≡ Some (tree_hash b (term_of h xs))
 root_read b h xs hs is = ap (λ ys. get_or ys (length ys / 2) None) is ∙ root_is b h xs
-
--- where a hash is there, all are
-root_warm_by : (b : ℕ) (c : Option Parent) (l r : Term) (hs : List (Option (List ℕ))) (g : List ℕ) → size l ≡ size r → Keeps b (Branch c l r) hs → get_or hs (length hs / 2) None ≡ Some g → hs ≡ hashes_of b (Branch c l r)
-unfolding size
-root_warm_by b c l r hs g same k e =
-    let long : length hs ≡ size (Branch c l r) = keeps_long b (Branch c l r) hs k in
-    let half : length hs / 2 ≡ size l = omega arith in
-    warm_branch b c l r hs g k (ap (λ j. get_or hs j None) (sym half) ∙ e)
-
-root_warm : (b h : ℕ) (xs : List (Option Node)) (hs : List (Option (List ℕ))) (g : List ℕ) → Keeps b (term_of h xs) hs → get_or hs (length hs / 2) None ≡ Some g → hs ≡ hashes_of b (term_of h xs)
-unfolding size
-root_warm b zero xs hs g k e =
-    let leaf : Keeps b (Leaf (leaf_in (get_or xs 0 None))) hs = subst (λ t. Keeps b t hs) (term_of-zero xs) k in
-    let long : length hs ≡ 1 = keeps_long b (Leaf (leaf_in (get_or xs 0 None))) hs leaf in
-    let first : length hs / 2 ≡ 0 = omega arith in
-    warm_leaf b (leaf_in (get_or xs 0 None)) hs g leaf (ap (λ j. get_or hs j None) (sym first) ∙ e) ∙ ap (hashes_of b) (sym (term_of-zero xs))
-root_warm b (suc h) xs hs g k e =
-    root_warm_by b _ _ _ hs g (size-term_of h _ ∙ sym (size-term_of h _)) (subst (λ t. Keeps b t hs) (term_of-suc h xs) k) e ∙ ap (hashes_of b) (sym (term_of-suc h xs))
-
-pub root_known : (b h : ℕ) (xs : List (Option Node)) (hs : List (Option (List ℕ))) → Keeps b (term_of h xs) hs → (o : Option (List ℕ)) → o ≡ get_or hs (length hs / 2) None → IfSome o (λ hash. (hash ≡ tree_hash b (term_of h xs)) × (hs ≡ hashes_of b (term_of h xs)))
-root_known b h xs hs k None is = tt
-root_known b h xs hs k (Some g) is =
-    let all : hs ≡ hashes_of b (term_of h xs) = root_warm b h xs hs g k (sym is) in
-    let both : Some g ≡ Some (tree_hash b (term_of h xs)) = is ∙ root_read b h xs hs all in
-    (cc, all)

@@ -1,7 +1,6 @@
 //! The kept hashes of a whole tree, and how many hashes of nodes were made.
 
-ghost use Rattle.std.specs.Prelude.{◌≡◌, ◌≤◌, ◌++◌, Option, List, ℕ, suc, Some, None, IfSome, true, length, replicate, take, IfOk, OnOk, OnErr};
-ghost use Rattle.mls_leaf.specs.declared.node.Node.{Node};
+ghost use Rattle.std.specs.Prelude.{◌≡◌, ◌≤◌, ◌++◌, Option, List, ℕ, suc, None, true, length, replicate, take, IfOk, OnOk, OnErr};
 ghost use Rattle.mls_treemath.specs.Limits.{max_height};
 ghost use Rattle.mls_treemath.specs.Paths.{nodes_in};
 ghost use Rattle.mls_term.specs.Term.{Term, is_perfect};
@@ -105,17 +104,6 @@ impl Hashes {
         ensures { self.new ≡ record self.old { kept = take count self.old.kept } }
     {
         self.kept.truncate(count);
-    }
-
-    /// The tree hash (RFC 9420, 7.8), where it is kept: all are kept then.
-    pub fn root(&self) -> Option<Hash>
-        ensures known { (h : ℕ) (xs : List (Option Node)) → Keeps 0 (term_of h xs) self.now.kept → IfSome result (λ hash. (hash ≡ tree_hash 0 (term_of h xs)) × (self.now.kept ≡ hashes_of 0 (term_of h xs))) }
-        ensures all { (h : ℕ) (xs : List (Option Node)) → self.now.kept ≡ hashes_of 0 (term_of h xs) → result ≡ Some (tree_hash 0 (term_of h xs)) }
-    {
-        match self.kept.get(self.kept.len() / 2) {
-            Some(hash) => *hash,
-            None => None,
-        }
     }
 
     /// The kept hashes, in the order of the nodes.

@@ -3,3 +3,4 @@ pub mod Codes
 pub mod Changed
 pub mod Below
 pub mod Staying
+pub mod Received

@@ -1,25 +1,25 @@
 //! The checks of a commit, and where it leads.
 
-ghost use Rattle.std.specs.Prelude.{◌≡◌, ◌<◌, ◌≤◌, ◌^◌, ◌+◌, ℕ, ◌||◌, not, is_some, length, IfOk, IfSome};
+ghost use Rattle.std.specs.Prelude.{◌≡◌, ◌<◌, ◌≤◌, ◌^◌, ◌+◌, ℕ, ◌||◌, true, not, is_some, length, IfOk, IfSome};
 ghost use Rattle.mls_wire.specs.Checks.{Answers};
 ghost use Rattle.mls_leaf.specs.Leaf.{leaf_node};
 ghost use Rattle.mls_types.specs.Content.{framed_content};
 ghost use Rattle.mls_types.specs.declared.content.FramedContent as contents;
 ghost use Rattle.mls_model.specs.Commit as model;
 ghost use Rattle.mls_model.specs.Proposals as proposals;
+ghost use Rattle.mls_public_group.specs.NextTree.{next_term, is_merged, Follows};
 ghost use Rattle.mls_public_group.specs.Short.{IsBelow, AreBelow, HasLeavesBelow, IsShortContext};
 ghost use Rattle.mls_commit.specs.Faults.{number_of};
-ghost use Rattle.mls_tree.specs.Tree.{term};
+ghost use Rattle.mls_commit.specs.Received.{IsOf};
 ghost use Rattle.mls_commit.specs.Staying.{Stays};
 
-use crate::change::Change;
 use crate::error::CommitError;
 use crate::path::with_path;
+use crate::received::Received;
 use mls_group::UpdatePath;
 use mls_leaf::Proposal;
-use mls_public_group::{Edits, PublicGroup, Used};
+use mls_public_group::{Edits, NextTree, PublicGroup, Used};
 use mls_suite::Suite;
-use mls_tree::PublicTree;
 use mls_types::Commit;
 use std::alloc::Global;
 
@@ -44,7 +44,8 @@ pub(crate) fn has_due_path(commit: &Commit, used: &[Used<'_>]) -> bool
     commit.path.is_some() || !is_path_required(used)
 }
 
-// The tree after the edits, with the path merged where there is one.
+// The tree after the edits, with the path merged where there is one. `is_own` says that there are no edits: the tree is
+// the group's own.
 #[tactic(auto, unfolding(mls_model::specs::Commit::merged))]
 fn merged<S: Suite>(
     alloc: Global,
@@ -52,15 +53,18 @@ fn merged<S: Suite>(
     committer: u32,
     edits: &Edits,
     path: &Option<UpdatePath>,
-) -> Result<PublicTree, CommitError>
+    is_own: bool,
+) -> Result<NextTree, CommitError>
     requires context { IsShortContext group.now.context }
     requires stays { Stays committer group.now.tree edits.now.tree }
     requires path { IfSome path.now (λ p. IsBelow (2 ^ 28) leaf_node p.leaf_node) }
-    ensures { Answers term number_of (model.merged S.crypto group.now committer edits.now path.now) result }
+    ensures answer { Answers (next_term edits.now.tree) number_of (model.merged S.crypto group.now committer edits.now path.now) result }
+    ensures follows { IfOk result (Follows edits.now.tree) }
+    ensures own { IfOk result (λ t. is_merged t ≡ true → is_own ≡ true) }
 {
     match path {
-        None => Ok(edits.tree.as_tree().clone()?),
-        Some(path) => with_path::<S>(alloc, group, committer, edits, path),
+        None => Ok(NextTree::Whole(edits.tree.as_tree().clone()?)),
+        Some(path) => with_path::<S>(alloc, group, committer, edits, path, is_own),
     }
 }
 
@@ -77,22 +81,25 @@ pub fn body<S: Suite>(
     commit: &Commit,
     said: &[u8],
     signature: &[u8],
-) -> Result<Change, CommitError>
+) -> Result<Received, CommitError>
     requires epoch { group.now.context.epoch + 1 < 2 ^ 64 }
     requires used { AreBelow (2 ^ 28) used.now }
     requires path { IfSome commit.now.path (λ p. IsBelow (2 ^ 28) leaf_node p.leaf_node) }
     requires signature { length signature.now < 2 ^ 30 }
     ensures answer { (content : contents.FramedContent) → framed_content.spell content ≡ said.now
-        → Answers (λ c. c) number_of (model.body S.crypto group.now committer used.now commit.now content signature.now) result }
+        → Answers (λ r. r.change) number_of (model.body S.crypto group.now committer used.now commit.now content signature.now) result }
     // The leaves of both trees are as short as the group's, the proposals and the path's leaf.
-    ensures below { IfOk result (λ c. (n : ℕ) → 2 ^ 27 ≤ n → AreBelow n used.now → IfSome commit.now.path (λ p. IsBelow n leaf_node p.leaf_node) → HasLeavesBelow n c.edits.tree × HasLeavesBelow n c.tree) }
+    ensures below { IfOk result (λ r. (n : ℕ) → 2 ^ 27 ≤ n → AreBelow n used.now → IfSome commit.now.path (λ p. IsBelow n leaf_node p.leaf_node) → HasLeavesBelow n r.change.edits.tree × HasLeavesBelow n r.change.tree) }
+    // A path is prepared for the group's own tree only where no proposal changes that.
+    ensures own { IfOk result (IsOf group.now.tree) }
 {
     group.is_short();
     let edits = group.edited::<S>(alloc, committer, used)?;
     if !has_due_path(commit, used) {
         return Err(CommitError::PathMissing);
     }
-    let tree = merged::<S>(alloc, group, committer, &edits, &commit.path)?;
-    let change = Change::new(alloc, group, edits, tree, said, signature)?;
-    Ok(change)
+    let is_own = used.is_empty();
+    let tree = merged::<S>(alloc, group, committer, &edits, &commit.path, is_own)?;
+    let received = Received::new(alloc, group, edits, tree, said, signature)?;
+    Ok(received)
 }

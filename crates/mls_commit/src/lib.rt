@@ -5,7 +5,9 @@ mod change;
 mod commit;
 mod error;
 mod path;
+mod received;
 
 pub use change::Change;
 pub use commit::body;
 pub use error::CommitError;
+pub use received::Received;

@@ -1,14 +1,16 @@
 //! The checks of a commit's path, and its merge.
 
-ghost use Rattle.std.specs.Prelude.{◌≡◌, ◌^◌, ◌∷◌, IfOk, IsSome, is_some};
+ghost use Rattle.std.specs.Prelude.{◌≡◌, ◌^◌, ◌∷◌, true, IfOk, IsSome, is_some};
 ghost use Rattle.std.specs.List.{list_all};
 ghost use Rattle.std.specs.Str.{bytes_eq};
 ghost use Rattle.mls_wire.specs.Checks.{Answers, passed, require};
 ghost use Rattle.mls_leaf.specs.Leaf.{leaf_node};
 ghost use Rattle.mls_model.specs.Commit as model;
+ghost use Rattle.mls_public_group.specs.NextTree.{next_term, is_merged, Follows};
 ghost use Rattle.mls_public_group.specs.Short.{IsBelow, IsShortContext};
 ghost use Rattle.mls_tree.specs.Refusals.{RefusesOutright};
-ghost use Rattle.mls_tree.specs.Tree.{term};
+ghost use Rattle.mls_tree.specs.Faults.{number_of as number_of_tree};
+ghost use Rattle.mls_tree.specs.Paths.{merge_answer};
 ghost use Rattle.mls_term.specs.Term.{leaf_of};
 ghost use Rattle.mls_commit.specs.Faults.{number_of};
 ghost use Rattle.mls_commit.specs.Staying.{Stays, count_checks};
@@ -16,10 +18,10 @@ ghost use Rattle.mls_commit.specs.Staying.{Stays, count_checks};
 use crate::error::CommitError;
 use mls_checks::{CheckError, Source, replaced};
 use mls_group::{UpdatePath, UpdatePathNode};
-use mls_leaf::Bytes;
-use mls_public_group::{Edits, PublicGroup};
+use mls_leaf::{Bytes, LeafNode};
+use mls_public_group::{Edits, NextTree, PublicGroup};
 use mls_suite::Suite;
-use mls_tree::{PublicTree, TreeError};
+use mls_tree::TreeError;
 use std::alloc::{AllocError, Global};
 
 // The public key of a node.
@@ -90,6 +92,29 @@ fn has_fit_keys<S: Suite>(path: &UpdatePath) -> bool
             .all(|node| S::key_ok(node.encryption_key.as_slice()))
 }
 
+// A path merged, where its keys differ and its leaf has the parent hash. Into the group's own tree, which has no edits, it
+// isn't merged yet: it is prepared, and nothing is copied.
+fn merged_into(
+    edits: &Edits,
+    committer: u32,
+    leaf: LeafNode,
+    keys: Vec<Bytes>,
+    is_own: bool,
+) -> Result<NextTree, TreeError>
+    ensures answer { Answers (next_term edits.now.tree) number_of_tree (merge_answer edits.now.tree committer leaf keys.items) result }
+    ensures follows { IfOk result (Follows edits.now.tree) }
+    ensures own { IfOk result (λ t. is_merged t ≡ true → is_own ≡ true) }
+{
+    let tree = edits.tree.as_tree();
+    if is_own {
+        let path = tree.prepare_path(committer, leaf, keys)?;
+        return Ok(NextTree::Merged(path));
+    }
+    let mut copy = tree.clone()?;
+    copy.merge_path(committer, leaf, keys)?;
+    Ok(NextTree::Whole(copy))
+}
+
 /// The tree after the edits with the committer's path merged, where these checks pass in this order: 22 no member is at
 /// its leaf, which takes no memory; 50 to 54 of its new leaf; 30 how many nodes it has; 31 how many ciphertexts each of them has; 36 a key isn't fit; 25 two nodes have one
 /// encryption key; 24 its leaf hasn't the parent hash (RFC 9420, 12.4.2).
@@ -100,11 +125,14 @@ pub(crate) fn with_path<S: Suite>(
     committer: u32,
     edits: &Edits,
     path: &UpdatePath,
-) -> Result<PublicTree, CommitError>
+    is_own: bool,
+) -> Result<NextTree, CommitError>
     requires context { IsShortContext group.now.context }
     requires stays { Stays committer group.now.tree edits.now.tree }
     requires path { IsBelow (2 ^ 28) leaf_node path.now.leaf_node }
-    ensures answer { Answers term number_of (model.with_path S.crypto group.now committer edits.now path.now) result }
+    ensures answer { Answers (next_term edits.now.tree) number_of (model.with_path S.crypto group.now committer edits.now path.now) result }
+    ensures follows { IfOk result (Follows edits.now.tree) }
+    ensures own { IfOk result (λ t. is_merged t ≡ true → is_own ≡ true) }
     ensures outright { RefusesOutright number_of (require 22 (is_some (leaf_of group.now.tree committer))) result }
 {
     let Some(old) = group.tree().leaf(committer) else {
@@ -125,7 +153,6 @@ pub(crate) fn with_path<S: Suite>(
     }
     let keys = node_keys(alloc, path)?;
     let leaf = path.leaf_node.clone()?;
-    let mut tree = edits.tree.as_tree().clone()?;
-    tree.merge_path(committer, leaf, keys)?;
+    let tree = merged_into(edits, committer, leaf, keys, is_own)?;
     Ok(tree)
 }

@@ -23,6 +23,7 @@ ghost use Rattle.mls_paths.specs.Open.{opened_path};
 ghost use Rattle.mls_model.specs.Member.{followed, advanced, left};
 ghost use Rattle.mls_model.specs.Verdict.{commit_verdict, climbed};
 ghost use Rattle.mls_model.specs.declared.effect.Effect.TheVariants as effect;
+ghost use Rattle.mls_commit.specs.Received.{IsOf};
 ghost use Rattle.mls_public_group.specs.Short.{HasLeavesBelow, IsShortContext};
 ghost use Rattle.mls_view.specs.Shown.{ShowsPublic};
 ghost use Rattle.mls_member.specs.Faults.{number_of};
@@ -32,7 +33,7 @@ use crate::error::Refusal;
 use crate::framing::sender_leaf;
 use crate::member::Member;
 use crate::used::{own_key, removes, used_by};
-use mls_commit::{Change, body};
+use mls_commit::{Received, body};
 use mls_group::GroupContext;
 use mls_kdf::Secret;
 use mls_leaf::{Codec, Items, LeafError};
@@ -135,19 +136,29 @@ fn opened<S: Suite>(
 }
 
 impl<S: Suite> Member<S> {
-    /// Begins the next epoch, and drops kept proposals and a pending commit. It takes no memory.
+    /// Begins the next epoch in a group that has begun it, and drops kept proposals and a pending commit. It takes no
+    /// memory.
     #[tactic(auto, unfolding(mls_model::specs::Member::advanced))]
-    pub(crate) fn advance(&mut self, group: PublicGroup, epoch: Epoch, keys: PrivatePath) -> Effect
-        ensures effect { result ≡ effect.Advanced group.context.epoch }
-        ensures member { self.new ≡ advanced self.old group epoch keys }
+    fn begin_epoch(&mut self, epoch: Epoch, keys: PrivatePath) -> Effect
+        ensures effect { result ≡ effect.Advanced self.old.public.context.epoch }
+        ensures member { self.new ≡ advanced self.old self.old.public epoch keys }
     {
-        let number = group.context().epoch;
-        self.group = group;
+        let number = self.group.context().epoch;
         self.epoch = epoch;
         self.keys = keys;
         self.kept.clear();
         self.pending = None;
         Effect::Advanced { epoch: number }
+    }
+
+    /// Begins the next epoch in this group, and drops kept proposals and a pending commit. It takes no memory.
+    #[tactic(auto, unfolding(mls_model::specs::Member::advanced))]
+    pub(crate) fn advance(&mut self, group: PublicGroup, epoch: Epoch, keys: PrivatePath) -> Effect
+        ensures effect { result ≡ effect.Advanced group.context.epoch }
+        ensures member { self.new ≡ advanced self.old group epoch keys }
+    {
+        self.group = group;
+        self.begin_epoch(epoch, keys)
     }
 
     /// The member was removed: a pending commit is dropped, and nothing else changes. It takes no memory.
@@ -168,38 +179,44 @@ impl<S: Suite> Member<S> {
         commit: &Commit,
         said: &[u8],
         signature: &[u8],
-    ) -> Result<(Change, bool), Refusal>
+    ) -> Result<(Received, bool), Refusal>
         requires epoch { self.now.public.context.epoch + 1 < 2 ^ 64 }
         requires commit { IsShortCommit (2 ^ 27) commit.now }
         requires signature { length signature.now < 2 ^ 30 }
         ensures answer { (content : contents.FramedContent) → framed_content.spell content ≡ said.now
-            → Answers (λ x. x) number_of (changed S.crypto self.now committer commit.now content signature.now) result }
-        ensures leaves { IfOk result (λ x. HasLeavesBelow (2 ^ 27) x.0.tree) }
+            → Answers (λ x. (x.0.change, x.1)) number_of (changed S.crypto self.now committer commit.now content signature.now) result }
+        ensures leaves { IfOk result (λ x. HasLeavesBelow (2 ^ 27) x.0.change.tree) }
+        ensures own { IfOk result (λ x. IsOf self.now.public.tree x.0) }
     {
         let list = commit.proposals.as_slice();
         let used = used_by(self.alloc, &self.kept, committer, list)?;
         let proposals = used.as_slice();
         let group = &self.group;
-        let change = body::<S>(
+        let received = body::<S>(
             self.alloc, group, committer, proposals, commit, said, signature,
         )?;
         let is_removed = removes(proposals, self.keys.leaf());
-        Ok((change, is_removed))
+        Ok((received, is_removed))
     }
 
     /// The commit secret, and the keys that the member has in the new tree: without a path zeros (RFC 9420, 8) and the
     /// keys after the edits, with one what it opens of it (7.5).
     #[tactic(auto, unfolding(mls_model::specs::Verdict::climbed))]
-    fn climbed(&self, committer: u32, change: &Change, commit: &Commit) -> Result<Reached, Refusal>
-        ensures answer { Answers (λ r. climb_to r.secret r.keys) number_of (climbed S.crypto self.now committer change.now (edited_keys self.now commit.now change.now) commit.now.path) result }
+    fn climbed(
+        &self,
+        committer: u32,
+        received: &Received,
+        commit: &Commit,
+    ) -> Result<Reached, Refusal>
+        ensures answer { Answers (λ r. climb_to r.secret r.keys) number_of (climbed S.crypto self.now committer received.now.change (edited_keys self.now commit.now received.now.change) commit.now.path) result }
         ensures leaf { IfOk result (λ r. r.keys.leaf ≡ self.now.keys.leaf) }
     {
-        let edits = &change.edits;
+        let edits = &received.edits;
         let own = own_key(&self.kept, commit.proposals.as_slice());
         let keys = followed(&self.keys, edits.tree.as_tree(), own)?;
         match &commit.path {
             Some(path) => {
-                let context = spelling(self.alloc, &change.provisional)?;
+                let context = spelling(self.alloc, &received.provisional)?;
                 opened::<S>(edits, committer, path, keys, &context)
             }
             None => Ok(Reached {
@@ -210,22 +227,28 @@ impl<S: Suite> Member<S> {
     }
 
     /// Enters the next epoch: 65 where the confirmation tag isn't that of it (RFC 9420, 8.1).
-    #[tactic(auto, unfolding(crate::specs::Process::entered_with, mls_model::specs::Commit::public_with))]
-    fn entered(&mut self, change: Change, reached: Reached, tag: &[u8]) -> Result<Effect, Refusal>
-        requires leaves { HasLeavesBelow (2 ^ 27) change.tree }
+    #[tactic(auto, unfolding(crate::specs::Process::entered_with))]
+    fn entered(
+        &mut self,
+        received: Received,
+        reached: Reached,
+        tag: &[u8],
+    ) -> Result<Effect, Refusal>
+        requires own { IsOf self.old.public.tree received }
+        requires leaves { HasLeavesBelow (2 ^ 27) received.change.tree }
         requires tag { length tag.now < 2 ^ 30 }
-        ensures { DoesAs (λ e. e) number_of (entered_with self.old change reached.secret reached.keys tag.now) self.old self.new result }
+        ensures { DoesAs (λ e. e) number_of (entered_with self.old received.change reached.secret reached.keys tag.now) self.old self.new result }
     {
         let Reached { secret, keys } = reached;
-        let context = spelling(self.alloc, &change.context)?;
+        let context = spelling(self.alloc, &received.context)?;
         let start = Epoch::next(self.epoch.init_secret(), &secret, &context);
-        let confirmed = change.context.confirmed_transcript_hash.as_slice();
+        let confirmed = received.context.confirmed_transcript_hash.as_slice();
         let due = start.epoch.confirmation_tag(confirmed);
         if tag != due.as_slice() {
             return Err(Refusal::BadConfirmationTag);
         }
-        let group = change.into_public(self.alloc, tag)?;
-        Ok(self.advance(group, start.epoch, keys))
+        received.enter(self.alloc, &mut self.group, tag)?;
+        Ok(self.begin_epoch(start.epoch, keys))
     }
 
     /// Whether an epoch can come after this.
@@ -257,9 +280,9 @@ impl<S: Suite> Member<S> {
             self.leave();
             return Ok(Effect::Removed);
         }
-        let change = outcome.0;
-        let reached = self.climbed(committer, &change, commit)?;
-        self.entered(change, reached, tag)
+        let received = outcome.0;
+        let reached = self.climbed(committer, &received, commit)?;
+        self.entered(received, reached, tag)
     }
 
     /// Follows a commit: 66 no epoch comes after this, 60 a reference isn't kept, then the checks of all that is public.

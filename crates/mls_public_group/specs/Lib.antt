@@ -8,3 +8,4 @@ pub mod Edited
 pub mod Leaves
 pub mod Limits
 pub mod Lengths
+pub mod NextTree

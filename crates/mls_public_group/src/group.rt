@@ -1,10 +1,12 @@
 //! The public state of a group.
 
-ghost use Rattle.std.specs.Prelude.{◌≡◌, ◌^◌, IfOk};
+ghost use Rattle.std.specs.Prelude.{◌≡◌, ◌^◌, IfOk, OnOk, OnErr};
 ghost use Rattle.mls_group.specs.GroupContext.{group_context};
 ghost use Rattle.mls_tree.specs.Tree.{term};
+ghost use Rattle.mls_public_group.specs.NextTree.{next_term, Follows};
 ghost use Rattle.mls_public_group.specs.Short.{HasLeavesBelow, IsShortContext};
 
+use crate::next_tree::NextTree;
 use crate::shared_tree::SharedTree;
 use crate::spelling::spelling;
 use mls_group::GroupContext;
@@ -62,6 +64,31 @@ impl PublicGroup {
             tree,
             transcript,
         })
+    }
+
+    /// Begins the next epoch, with this context, tree and transcript. Without memory the group is as before.
+    pub fn enter(
+        &mut self,
+        alloc: Global,
+        context: GroupContext,
+        tree: NextTree,
+        transcript: Transcript,
+    ) -> Result<(), AllocError>
+        requires context { IsShortContext context }
+        requires follows { Follows self.old.tree tree }
+        requires leaves { HasLeavesBelow (2 ^ 27) (next_term self.old.tree tree) }
+        ensures next { OnOk result (self.new ≡ record { context = context; tree = next_term self.old.tree tree; interim = transcript }) }
+        ensures same { OnErr result (self.new ≡ self.old) }
+    {
+        let bytes = spelling(alloc, &context)?;
+        match tree {
+            NextTree::Whole(tree) => self.tree = SharedTree::new(alloc, tree)?,
+            NextTree::Merged(path) => self.tree.follow_path(path)?,
+        }
+        self.context = context;
+        self.bytes = bytes;
+        self.transcript = transcript;
+        Ok(())
     }
 
     /// The context of the epoch (RFC 9420, 8.1).

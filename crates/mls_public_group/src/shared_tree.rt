@@ -1,32 +1,41 @@
 //! A ratchet tree that groups and edits share.
 
-ghost use Rattle.std.specs.Prelude.{◌≡◌, IfOk};
+ghost use Rattle.std.specs.Prelude.{◌≡◌, IfOk, OnOk, OnErr};
+ghost use Rattle.mls_array.specs.Kept.{hashes_of};
+ghost use Rattle.mls_tree.specs.Prepared.{merged_by, IsFor};
 ghost use Rattle.mls_tree.specs.Tree.{term};
 
-use mls_tree::PublicTree;
+use mls_tree::{PreparedPath, PublicTree};
 use std::alloc::{AllocError, Global};
 use std::marker::Model;
 use std::rc::Rc;
 
-/// A ratchet tree behind a pointer (RFC 9420, 7.1). A copy is the same tree and takes no memory of its own.
+/// A ratchet tree behind a pointer, which keeps all of its hashes (RFC 9420, 7.1 and 7.8). A copy is the same tree and
+/// takes no memory of its own.
 #[derive(Drop)]
 pub struct SharedTree {
     tree: Rc<PublicTree>,
 }
 
 impl Model for SharedTree {
-    ghost use Rattle.mls_tree.specs.Tree.{Tree};
+    ghost use Rattle.std.specs.Prelude.{◌≡◌};
+    ghost use Rattle.mls_array.specs.Kept.{hashes_of};
+    ghost use Rattle.mls_tree.specs.Tree.{Tree, term};
 
     ghost Value = { Tree };
 
     ghost view = { λ s. s.tree.value };
+
+    ghost invariant = { λ s. s.tree.value.kept ≡ hashes_of 0 (term s.tree.value) };
 }
 
 impl SharedTree {
-    /// A tree that can be shared.
+    /// A tree that can be shared. Its hashes that aren't kept yet are made.
     pub fn new(alloc: Global, tree: PublicTree) -> Result<SharedTree, AllocError>
-        ensures { IfOk result (λ s. s ≡ tree) }
+        ensures { IfOk result (λ s. term s ≡ term tree) }
     {
+        let mut tree = tree;
+        let _tree_hash = tree.tree_hash();
         match Rc::new(alloc, tree) {
             Ok(tree) => Ok(SharedTree { tree }),
             // Want of memory: the place behind the pointer, which fails for nothing else.
@@ -34,11 +43,23 @@ impl SharedTree {
         }
     }
 
-    /// The tree.
+    /// The tree, which keeps all of its hashes.
     pub fn as_tree(&self) -> &PublicTree
-        ensures { result.now ≡ self.now }
+        ensures tree { result.now ≡ self.now }
+        ensures hashed { result.now.kept ≡ hashes_of 0 (term result.now) }
     {
         self.tree.as_ref()
+    }
+
+    /// Merges a path that was prepared for this tree. It is copied first where it is shared; elsewhere nothing of it is.
+    /// Without memory it is as before.
+    pub fn follow_path(&mut self, path: PreparedPath) -> Result<(), AllocError>
+        requires { IsFor (term self.old) path }
+        ensures tree { OnOk result (term self.new ≡ merged_by (term self.old) path) }
+        ensures same { OnErr result (term self.new ≡ term self.old) }
+    {
+        let tree = Rc::make_mut(&mut self.tree)?;
+        tree.follow_path(path)
     }
 }
 

@@ -1,5 +1,5 @@
 -- A commit's path that was checked against a tree, with what its merge makes.
-use Rattle.std.specs.Prelude.{◌≡◌, ℕ, List, [], reverse, Ok}
+use Rattle.std.specs.Prelude.{◌≡◌, ℕ, List, [], map, reverse, Ok}
 use Rattle.mls_leaf.specs.Parent.{Parent}
 use Rattle.mls_leaf.specs.declared.leaf.LeafNode.{LeafNode}
 use Rattle.mls_term.specs.Term.{Term}
@@ -18,20 +18,25 @@ pub record Prepared : Type 0 where
   pub hashes : List (List ℕ)
   pub root : List ℕ
 
+-- the keys of a path, the lowest first
+abbrev pub keys_of : Prepared → List (List ℕ)
+keys_of p = reverse (map (λ (q : Parent). q.encryption_key) p.parents)
+
+-- a tree with the path merged (RFC 9420, 7.5)
+unfoldable pub merged_by : Term → Prepared → Term
+merged_by t p = merge_path t p.index p.leaf (keys_of p)
+
 -- the path of leaf i with this new leaf and these keys, lowest first, may be merged into the tree, and this is what its
 -- merge makes (RFC 9420, 7.5, 7.8 and 7.9)
 pub record IsPrepared (t : Term) (i : ℕ) (x : LeafNode) (keys : List (List ℕ)) (p : Prepared) : Type 0 where
   pub index : p.index ≡ i
   pub leaf : p.leaf ≡ x
+  pub given : keys_of p ≡ keys
   pub answer : merge_answer t i x keys ≡ Ok (merge_path t i x keys)
   pub parents : p.parents ≡ path_parents 0 t i (reverse keys) []
   pub hashes : p.hashes ≡ way_hashes 0 (merge_path t i x keys) i
   pub root : p.root ≡ tree_hash 0 (merge_path t i x keys)
 
--- some path was prepared so for the tree
+-- the path was prepared so for the tree
 abbrev pub IsFor : Term → Prepared → Type 0
-IsFor t p = (i : ℕ) × (x : LeafNode) × (keys : List (List ℕ)) × IsPrepared t i x keys p
-
--- what holds of each path that was prepared so
-abbrev pub OfPrepared : Term → Prepared → (ℕ → LeafNode → List (List ℕ) → Type 0) → Type 0
-OfPrepared t p P = (i : ℕ) (x : LeafNode) (keys : List (List ℕ)) → IsPrepared t i x keys p → P i x keys
+IsFor t p = IsPrepared t p.index p.leaf (keys_of p) p

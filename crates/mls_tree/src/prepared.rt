@@ -16,7 +16,7 @@ ghost use Rattle.mls_tree.specs.Cold.{Warms, Chills};
 ghost use Rattle.mls_tree.specs.Faults.{number_of};
 ghost use Rattle.mls_tree.specs.Kept.{KeepsGood, MergesGood};
 ghost use Rattle.mls_tree.specs.Paths.{path_checks, merge_checks, merge_answer};
-ghost use Rattle.mls_tree.specs.Prepared.{IsPrepared, IsFor, OfPrepared};
+ghost use Rattle.mls_tree.specs.Prepared.{keys_of, merged_by, IsFor};
 ghost use Rattle.mls_tree.specs.Refusals.{RefusesOutright};
 ghost use Rattle.mls_tree.specs.Tree.{Tree, term};
 
@@ -53,7 +53,7 @@ impl Model for PreparedPath {
 impl PreparedPath {
     /// The tree hash of the merged tree (RFC 9420, 7.8).
     pub fn tree_hash(&self) -> Hash
-        ensures { (t : Term) → OfPrepared t self.now (λ i x keys. result ≡ tree_hash 0 (merge_path t i x keys)) }
+        ensures { (t : Term) → IsFor t self.now → result ≡ tree_hash 0 (merged_by t self.now) }
     {
         self.root
     }
@@ -102,7 +102,7 @@ impl PublicTree {
         ensures answer { Answers (λ _. merge_path (term self.now) i leaf keys.items) number_of (merge_answer (term self.now) i leaf keys.items) result }
         // 22 and 30 come whatever memory there is.
         ensures outright { RefusesOutright number_of (path_checks (term self.now) i (length keys.items)) result }
-        ensures prepared { IfOk result (IsPrepared (term self.now) i leaf keys.items) }
+        ensures prepared { IfOk result (λ p. IsFor (term self.now) p × (merged_by (term self.now) p ≡ merge_path (term self.now) i leaf keys.items)) }
     {
         let parents = match self.require_merge(i, &leaf, keys) {
             Err(error) => return Err(error),
@@ -124,13 +124,13 @@ impl PublicTree {
     pub fn follow_path(&mut self, path: PreparedPath) -> Result<(), AllocError>
         requires warm { self.old.kept ≡ hashes_of 0 (term self.old) }
         requires prepared { IsFor (term self.old) path }
-        ensures tree { OnOk result (OfPrepared (term self.old) path (λ i x keys. term self.new ≡ merge_path (term self.old) i x keys)) }
+        ensures tree { OnOk result (term self.new ≡ merged_by (term self.old) path) }
         ensures warm { OnOk result (self.new.kept ≡ hashes_of 0 (term self.new)) }
         // It makes the leaf and the nodes over it cold, and then warms them: the hashes that were made for it are counted.
         ensures cold { OnOk result ((between : Tree) × Chills (term self.old) path.index self.old between × (term between ≡ term self.new) × Warms between self.new) }
         // What a path keeps of a tree, as a merge does.
-        ensures good { OnOk result (OfPrepared (term self.old) path (λ i x keys. KeepsGood (λ rules. AreNew rules i x keys (put 0 (term self.old) i None)) (term self.old) (term self.new))) }
-        ensures checked { OnOk result (OfPrepared (term self.old) path (λ i x keys. MergesGood i x keys (term self.old) (term self.new))) }
+        ensures good { OnOk result (KeepsGood (λ rules. AreNew rules path.index path.leaf (keys_of path) (put 0 (term self.old) path.index None)) (term self.old) (term self.new)) }
+        ensures checked { OnOk result (MergesGood path.index path.leaf (keys_of path) (term self.old) (term self.new)) }
         ensures unchanged { OnErr result (self.new ≡ self.old) }
     {
         let height = self.height;

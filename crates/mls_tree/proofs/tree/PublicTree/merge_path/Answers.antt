@@ -4,6 +4,7 @@ use Rattle.mls_term.specs.Merge.{merge_path}
 use Rattle.mls_term.specs.ArrayLaws.{perfect-term_of}
 use Rattle.mls_array.specs.Merging.{path_parents}
 use Rattle.mls_tree.specs.Cold.{Chills}
+use Rattle.mls_tree.specs.Cold.{Warms}
 use Rattle.mls_tree.specs.Tree.{term}
 use Rattle.mls_tree.proofs.Keeping.{merge_checked, merge_new, merge_member}
 use Rattle.mls_tree.proofs.Keepings.{kept_long, kept-merge}
@@ -63,7 +64,7 @@ pub returns-in_err-leaf-clause-warms : goal.returns-in_err-leaf-clause-warms
 returns-in_err-leaf-clause-warms c = on_err _ _ (warmed c.args.self.now c.tree_hash-tree_hash.new.self c.tree_hash-tree_hash.ensures.all c.tree_hash-tree_hash.ensures.counted)
 
 pub returns-in_err-reserve-clause-warms : goal.returns-in_err-reserve-clause-warms
-returns-in_err-reserve-clause-warms c = on_err _ _ (warmed c.args.self.now c.tree_hash-tree_hash.new.self c.tree_hash-tree_hash.ensures.all c.tree_hash-tree_hash.ensures.counted)
+returns-in_err-reserve-clause-warms c = on_err _ _ (subst (Warms c.args.self.now) (sym c.self.view_is) (warmed c.args.self.now c.tree_hash-tree_hash.new.self c.tree_hash-tree_hash.ensures.all c.tree_hash-tree_hash.ensures.counted))
 
 pub leave_all-requires : goal.leave_all-requires
 leave_all-requires c = way_once c.self.inside.height c.args.i _ (c.as_slice-places.ensures ∙ c.over-way.ensures)

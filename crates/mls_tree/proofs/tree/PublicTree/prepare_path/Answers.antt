@@ -13,6 +13,8 @@ returns-clause-answer c = merge_done _ _ _ _ c.in-Ok.ensures.checks
 
 pub returns-clause-prepared : goal.returns-clause-prepared
 returns-clause-prepared c =
-    is_prepared _ _ c.args.leaf _ c.args.keys.items _ _ _ c.in-Ok.ensures.checks c.in-Ok.ensures.parents
-    (subst (λ ps. HashesMerged 0 (term c.args.self.now) c.args.i ps c.args.leaf _ [] _) c.deref.ensures.value c.in_ok-hashes_over.ensures)
+    let made = c.in_ok-hashes.hashes.items in
+    let root = c.in_ok-hashes.root in
+    is_prepared _ _ c.args.leaf _ c.args.keys.items _ made root c.in-Ok.ensures.checks c.in-Ok.ensures.parents
+    (subst (λ ps. HashesMerged 0 (term c.args.self.now) c.args.i ps c.args.leaf root [] made) c.deref.ensures.value c.in_ok-hashes.ensures)
     c.in_ok-leaf.ensures
