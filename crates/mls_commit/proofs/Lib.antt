@@ -3,3 +3,4 @@ mod Contexts
 mod Asking
 mod Keys
 mod Bodies
+mod Receiving

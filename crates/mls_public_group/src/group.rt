@@ -81,10 +81,7 @@ impl PublicGroup {
         ensures same { OnErr result (self.new ≡ self.old) }
     {
         let bytes = spelling(alloc, &context)?;
-        match tree {
-            NextTree::Whole(tree) => self.tree = SharedTree::new(alloc, tree)?,
-            NextTree::Merged(path) => self.tree.follow_path(path)?,
-        }
+        self.tree.enter(alloc, tree)?;
         self.context = context;
         self.bytes = bytes;
         self.transcript = transcript;
