@@ -1,11 +1,20 @@
 -- A received commit's tree: the group's own with a path, or another.
-use Rattle.std.proofs.Common.{◌≡◌, ℕ, ◌==◌, Bool, true, List, [], ◌∷◌, length, Ok, refl, sym, ◌∙◌, ap, subst, arith, eqb-true}
+use Rattle.std.proofs.Common.{◌≡◌, ℕ, ◌==◌, Bool, true, List, [], ◌∷◌, length, Option, None, Ok, refl, sym, ◌∙◌, ap, subst, arith, eqb-true}
 use Rattle.mls_wire.specs.Laws.{ok_is}
+use Rattle.mls_leaf.specs.declared.leaf.LeafNode.{LeafNode}
 use Rattle.mls_suite.specs.Crypto.{Crypto}
+use Rattle.mls_term.specs.Merge.{merge_path}
+use Rattle.mls_tree.specs.Paths.{merge_answer}
+use Rattle.mls_tree.specs.Prepared.{Prepared, IsFor, merged_by}
+use Rattle.mls_tree.specs.Tree.{Tree, term}
 use Rattle.mls_term.specs.Term.{Term}
 use Rattle.mls_model.specs.Public.{PublicState, Used}
 use Rattle.mls_model.specs.Proposals.{updates, removed, adds}
-use Rattle.mls_model.specs.Commit.{Edits, all_updated, all_removed, all_added, edited}
+use Rattle.mls_model.specs.Commit.{Edits, Change, all_updated, all_removed, all_added, edited, merged, public_with}
+use Rattle.mls_schedule.specs.Transcript.{interim_hash}
+use Rattle.mls_group.specs.declared.group_context.GroupContext.{GroupContext}
+use Rattle.mls_group.specs.declared.update_path.UpdatePath.{UpdatePath}
+use Rattle.mls_commit.specs.Changed.{change_of}
 use Rattle.mls_public_group.specs.NextTree.{next_term, is_merged, Follows}
 use Rattle.mls_public_group.specs.declared.next_tree.NextTree.{NextTree}
 use Rattle.mls_public_group.specs.declared.next_tree.NextTree.TheVariants.{Whole, Merged}
@@ -29,3 +38,39 @@ unedited t s r e one two three = sym (ap (λ (f : Edits). f.tree) (ok_is _ e thr
 pub no_edits : (c : Crypto) (p : PublicState) (i : ℕ) (used : List Used) (e : Edits) → (length used == 0) ≡ true → edited c p i used ≡ Ok e → e.tree ≡ p.tree
 no_edits c p i [] e none h = let steps = edited_steps c p i [] e h in unedited p.tree steps.after_updates steps.after_removes e steps.updating steps.removing steps.adding
 no_edits c p i (u ∷ us) e none h = absurd (let z = eqb-true (length (u ∷ us)) 0 none in omega arith)
+
+-- ---- a path merged
+
+pub prepared_answer : (s t : Term) (p : Prepared) (i : ℕ) (x : LeafNode) (keys : List (List ℕ)) → s ≡ t → merge_answer s i x keys ≡ Ok (merge_path s i x keys) → merged_by s p ≡ merge_path s i x keys → merge_answer t i x keys ≡ Ok (next_term t (Merged p))
+unfolding next_term
+prepared_answer s t p i x keys same answer made = subst (λ u. merge_answer u i x keys ≡ Ok (merged_by u p)) same (answer ∙ ap Ok (sym made))
+
+pub prepared_follows : (s t : Term) (p : Prepared) → s ≡ t → IsFor s p → Follows t (Merged p)
+unfolding Follows
+prepared_follows s t p same is = subst (λ u. IsFor u p) same is
+
+pub whole_answer : (s t : Term) (u : Tree) (i : ℕ) (x : LeafNode) (keys : List (List ℕ)) → s ≡ t → merge_answer s i x keys ≡ Ok (term u) → merge_answer t i x keys ≡ Ok (next_term t (Whole u))
+unfolding next_term
+whole_answer s t u i x keys same answer = subst (λ v. merge_answer v i x keys ≡ Ok (term u)) same answer
+
+pub whole_follows : (t : Term) (u : Tree) → Follows t (Whole u)
+unfolding Follows
+whole_follows t u = tt
+
+pub whole_is : (t : Term) (u : Tree) → next_term t (Whole u) ≡ term u
+unfolding next_term
+whole_is t u = refl
+
+pub none_merged : (c : Crypto) (p : PublicState) (i : ℕ) (e : Edits) (path : Option UpdatePath) (u : Tree) → path ≡ None → term u ≡ e.tree → merged c p i e path ≡ Ok (next_term e.tree (Whole u))
+unfolding merged next_term
+none_merged c p i e path u none is = rw none (ap Ok (sym is))
+
+-- ---- the next state
+
+pub edits_of_change : (p : PublicState) (e : Edits) (t : Term) (said signature : List ℕ) (change : Change) → change ≡ change_of p e t said signature → change.edits.tree ≡ e.tree
+unfolding change_of
+edits_of_change p e t said signature change made = ap (λ (x : Change). x.edits.tree) made
+
+pub public_next : (p : PublicState) (change : Change) (tag : List ℕ) (x : GroupContext) (t : Term) (interim : List ℕ) → p ≡ record { context = x; tree = t; interim = interim } → x ≡ change.context → t ≡ change.tree → interim ≡ interim_hash change.context.confirmed_transcript_hash tag → p ≡ public_with change tag
+unfolding public_with
+public_next p change tag x t interim is a b d = is ∙ rw (a, b, d) refl

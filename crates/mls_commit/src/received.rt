@@ -95,6 +95,7 @@ impl Received {
         // The group alone holds its tree then.
         drop(edits);
         let transcript = Transcript::interim(context.confirmed_transcript_hash.as_slice(), tag);
-        group.enter(alloc, context, tree, transcript)
+        group.enter(alloc, context, tree, transcript)?;
+        Ok(())
     }
 }

@@ -22,7 +22,7 @@ pub returns-in_err-made-clause-answer : goal.returns-in_err-made-clause-answer
 returns-in_err-made-clause-answer g c =
     let p = err_from_is_err_and c.from_residual.result c.from_residual.ensures.1 in
     let e : Edits = record { tree = term c.as_tree-edited.result.now; added = c.edits.inside.added.items } in
-    let is : e ≡ c.args.edits.now = ap (λ (t : Term). edits_with t c.edits.inside.added.items) (ap term c.as_tree-edited.ensures) ∙ c.edits.view_is in
+    let is : e ≡ c.args.edits.now = ap (λ (t : Term). edits_with t c.edits.inside.added.items) (ap term c.as_tree-edited.ensures.tree) ∙ c.edits.view_is in
     rw (p.1, p.2) (λ m public signs at other.
     is_path_of g.S.Suite.crypto m e c.args.edits.now c.args.group.now c.args.signing.now c.args.index c.args.seed.now is public signs at
     ∙ path_fails g.S.Suite.crypto c.args.group.now c.args.signing.now c.args.index e c.args.seed.now (number_of c.in_err-made.field-0.0) (c.in_err-made.ensures.answer other))
@@ -36,7 +36,7 @@ pub returns-in_err-nodes-clause-answer : goal.returns-in_err-nodes-clause-answer
 returns-in_err-nodes-clause-answer g c =
     let p = err_from_is_err_and c.from_residual-in_err-nodes.result c.from_residual-in_err-nodes.ensures.1 in
     let e : Edits = record { tree = term c.as_tree-edited.result.now; added = c.edits.inside.added.items } in
-    let is : e ≡ c.args.edits.now = ap (λ (t : Term). edits_with t c.edits.inside.added.items) (ap term c.as_tree-edited.ensures) ∙ c.edits.view_is in
+    let is : e ≡ c.args.edits.now = ap (λ (t : Term). edits_with t c.edits.inside.added.items) (ap term c.as_tree-edited.ensures.tree) ∙ c.edits.view_is in
     rw (p.1, p.2) (λ m public signs at other.
     is_path_of g.S.Suite.crypto m e c.args.edits.now c.args.group.now c.args.signing.now c.args.index c.args.seed.now is public signs at
     ∙ seals_fail g.S.Suite.crypto c.args.group.now c.args.signing.now c.args.index e c.args.seed.now c.in_ok-made.made.leaf (term c.in_ok-made.made.tree) c.in_ok-made.ensures.answer c.deref-2.result.now c.deref.result.now
@@ -46,7 +46,7 @@ returns-in_err-nodes-clause-answer g c =
 pub returns-clause-answer : goal.returns-clause-answer
 returns-clause-answer g c =
     let e : Edits = record { tree = term c.as_tree-edited.result.now; added = c.edits.inside.added.items } in
-    let is : e ≡ c.args.edits.now = ap (λ (t : Term). edits_with t c.edits.inside.added.items) (ap term c.as_tree-edited.ensures) ∙ c.edits.view_is in
+    let is : e ≡ c.args.edits.now = ap (λ (t : Term). edits_with t c.edits.inside.added.items) (ap term c.as_tree-edited.ensures.tree) ∙ c.edits.view_is in
     λ m public signs at.
     is_path_of g.S.Suite.crypto m e c.args.edits.now c.args.group.now c.args.signing.now c.args.index c.args.seed.now is public signs at
     ∙ seals g.S.Suite.crypto c.args.group.now c.args.signing.now c.args.index e c.args.seed.now c.in_ok-made.made.leaf (term c.in_ok-made.made.tree) c.in_ok-made.ensures.answer c.deref-2.result.now c.deref.result.now
@@ -57,7 +57,7 @@ returns-clause-answer g c =
 pub returns-clause-received : goal.returns-clause-received
 returns-clause-received g c =
     let e : Edits = record { tree = term c.as_tree-edited.result.now; added = c.edits.inside.added.items } in
-    let is : e ≡ c.args.edits.now = ap (λ (t : Term). edits_with t c.edits.inside.added.items) (ap term c.as_tree-edited.ensures) ∙ c.edits.view_is in
+    let is : e ≡ c.args.edits.now = ap (λ (t : Term). edits_with t c.edits.inside.added.items) (ap term c.as_tree-edited.ensures.tree) ∙ c.edits.view_is in
     received g.S.Suite.crypto g.met.S.Suite.lawful c.args.group.now c.args.signing.now c.args.index e c.args.edits.now c.args.seed.now c.in_ok-made.made.leaf (term c.in_ok-made.made.tree) (term c.provisional_bytes.new.tree) c.deref-2.result.now c.deref.result.now
     c.in_ok-nodes.nodes.items c.from_vec.result is c.in_ok-made.ensures.answer c.in_ok-context.ensures.same c.deref.ensures.value (c.in_ok-nodes.ensures.chain (path_seed c.args.seed.now) c.in_ok-made.ensures.chain) c.from_vec.ensures
 
@@ -65,4 +65,4 @@ pub returns-clause-short : goal.returns-clause-short
 returns-clause-short g c =
     λ n has below.
     subst (HasLeavesBelow n) (sym c.in_ok-context.ensures.same)
-    (c.in_ok-made.ensures.short n (subst (HasLeavesBelow n) (sym (ap term c.as_tree-edited.ensures)) (subst (λ (e : Edits). HasLeavesBelow n e.tree) (sym c.edits.view_is) has)) below)
+    (c.in_ok-made.ensures.short n (subst (HasLeavesBelow n) (sym (ap term c.as_tree-edited.ensures.tree)) (subst (λ (e : Edits). HasLeavesBelow n e.tree) (sym c.edits.view_is) has)) below)

@@ -1,0 +1,13 @@
+use Rattle.std.proofs.Common.{◌+◌, ◌<◌, ◌^◌, length, subst, sym, ◌∙◌, ap}
+use Rattle.mls_schedule.specs.Lengths.{length-confirmed_hash}
+use Rattle.mls_public_group.specs.Short.{IsShortContext}
+use Rattle.mls_group.specs.declared.group_context.GroupContext.{GroupContext}
+use Rattle.mls_commit.proofs.Contexts.{short_provisional, short_confirmed}
+use Rattle.mls_commit.proofs.received.Received.new.Goals as goal
+
+pub invariant_of-result : goal.invariant_of-result
+invariant_of-result c =
+    let old = subst IsShortContext (sym c.context.ensures) c.is_short.ensures.context in
+    let low = subst (λ (x : GroupContext). x.epoch + 1 < 2 ^ 64) (sym c.context.ensures) c.requires.epoch in
+    let provisional = subst IsShortContext (sym (c.in_ok-provisional.ensures _ (c.tree_hash-hash.ensures.value _ c.requires.follows))) (short_provisional c.context.result.now _ old low) in
+    (provisional, subst IsShortContext (sym c.in_ok-context.ensures) (short_confirmed c.in_ok-provisional.provisional _ provisional (ap length c.confirm-confirmed.ensures ∙ length-confirmed_hash _ _ _ _)), c.tree_hash-hash.ensures.fits _ c.requires.follows)
