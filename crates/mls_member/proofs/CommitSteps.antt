@@ -1,5 +1,5 @@
 -- A commit's verdict in the steps in which code goes over it.
-use Rattle.std.proofs.Common.{◌≡◌, ℕ, ◌+◌, ◌-◌, ◌<◌, ◌^◌, Bool, true, false, List, [], ◌∷◌, ◌++◌, Option, Some, None, Result, Ok, Err, refl, sym, ap, subst, ◌∙◌, arith}
+use Rattle.std.proofs.Common.{◌≡◌, ℕ, ◌+◌, ◌-◌, ◌<◌, ◌^◌, Bool, true, false, not, List, [], ◌∷◌, ◌++◌, Option, Some, None, Result, Ok, Err, refl, sym, ap, subst, ◌∙◌, arith}
 use Rattle.std.specs.Prelude.{nat_lt, IfSome}
 use Rattle.std.specs.List.{list_any}
 use Rattle.std.proofs.lemmas.Bool.{ltb-true}
@@ -14,6 +14,9 @@ use Rattle.mls_view.specs.Shown.{ShowsBodyTag}
 use denote.Ref.{Bor}
 use Rattle.mls_wire.specs.Checks.{DoesAs}
 use Rattle.mls_wire.specs.Reading.{◌>>=◌}
+use Rattle.std.specs.Str.{bytes_eq}
+use Rattle.mls_group.specs.GroupContext.{group_context}
+use Rattle.mls_schedule.specs.Epoch.{init_secret, next_epoch_secret, confirmation_tag}
 use Rattle.mls_suite.specs.Crypto.{Crypto}
 use Rattle.mls_term.specs.Sets.{has}
 use Rattle.mls_term.specs.Term.{Term}
@@ -27,11 +30,11 @@ use Rattle.mls_types.specs.declared.commit.Commit.{Commit}
 use Rattle.mls_types.specs.declared.commit.ProposalOrRef.{ProposalOrRef}
 use Rattle.mls_types.specs.declared.signed.SignedContent.{SignedContent}
 use Rattle.mls_model.specs.declared.effect.Effect.{Effect}
-use Rattle.mls_model.specs.declared.effect.Effect.TheVariants.{Removed}
-use Rattle.mls_model.specs.Public.{Used}
+use Rattle.mls_model.specs.declared.effect.Effect.TheVariants.{Advanced, Removed}
+use Rattle.mls_model.specs.Public.{PublicState, Used}
 use Rattle.mls_model.specs.Proposals.{removed}
-use Rattle.mls_model.specs.Commit.{Change, body}
-use Rattle.mls_model.specs.Member.{Member, used_by, with_keys, followed, above_leaf, of_leaf, left}
+use Rattle.mls_model.specs.Commit.{Change, body, public_with}
+use Rattle.mls_model.specs.Member.{Member, used_by, with_keys, followed, above_leaf, of_leaf, advanced, left}
 use Rattle.mls_model.specs.Messages.{sender_leaf}
 use Rattle.mls_model.specs.Verdict.{commit_verdict, climbed, entered}
 use Rattle.mls_member.specs.declared.error.Refusal.{Refusal}
@@ -94,6 +97,24 @@ has_room epoch h = let lt : epoch < 2 ^ 64 - 1 = ltb-true epoch (2 ^ 64 - 1) h i
 pub entered_as : (m : Member) (change : Change) (secret : List ℕ) (keys : PrivateKeys) (tag : List ℕ) → keys.leaf ≡ m.keys.leaf → entered m change (climb_to secret keys) tag ≡ entered_with m change secret keys tag
 unfolding entered entered_with
 entered_as m change secret keys tag leaf = rw (with_all_keys m.keys keys leaf) refl
+
+-- texts that aren't unequal are equal
+pub not_unequal : (differ same : Bool) → differ ≡ not same → differ ≡ false → same ≡ true
+not_unequal differ true e k = refl
+not_unequal differ false e k = let q : true ≡ false = sym e ∙ k in cc
+
+-- the other parts of a member whose group has begun the next epoch
+advanced_as : (m n : Member) (p : PublicState) (epoch : List ℕ) (keys : PrivateKeys) → n.gone ≡ m.gone → n.signing ≡ m.signing → n.public ≡ p → advanced n n.public epoch keys ≡ advanced m p epoch keys
+unfolding advanced
+advanced_as m n p epoch keys gone signing public = rw (gone, signing, public) refl
+
+pub enters : (m n new : Member) (change : Change) (secret : List ℕ) (keys : PrivateKeys) (tag epoch : List ℕ) (effect : Effect) → n.gone ≡ m.gone → n.signing ≡ m.signing → n.public ≡ public_with change tag → new ≡ advanced n n.public epoch keys → effect ≡ Advanced n.public.context.epoch
+    → epoch ≡ next_epoch_secret (init_secret m.epoch) secret (group_context.spell change.context) → bytes_eq tag (confirmation_tag epoch change.context.confirmed_transcript_hash) ≡ true → entered_with m change secret keys tag ≡ Ok (effect, new)
+unfolding entered_with public_with
+enters m n new change secret keys tag epoch effect gone signing public made told next right =
+    let state = made ∙ advanced_as m n (public_with change tag) epoch keys gone signing public in
+    let number = told ∙ ap (λ (p : PublicState). Advanced p.context.epoch) public in
+    rw (sym next, right) (ap (λ (e : Effect). Ok (e, advanced m (public_with change tag) epoch keys)) (sym number) ∙ ap (λ (x : Member). Ok (effect, x)) (sym state))
 
 -- ---- what follows
 

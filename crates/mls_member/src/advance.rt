@@ -227,7 +227,7 @@ impl<S: Suite> Member<S> {
     }
 
     /// Enters the next epoch: 65 where the confirmation tag isn't that of it (RFC 9420, 8.1).
-    #[tactic(auto, unfolding(crate::specs::Process::entered_with))]
+    #[tactic(auto, unfolding(crate::specs::Process::entered_with, mls_model::specs::Member::advanced))]
     fn entered(
         &mut self,
         received: Received,
