@@ -1,10 +1,10 @@
 -- Laws: which leaves are taken and which are blank, by where the taken leaves end.
-use Rattle.std.proofs.Common.{◌≡◌, ℕ, suc, ◌+◌, ◌<◌, ◌≤◌, true, false, Bool, ◌||◌, ◌⊎◌, Option, Some, None, is_some, IsSome, refl, sym, ◌∙◌, ap, subst, arith, inl, inr}
+use Rattle.std.proofs.Common.{◌≡◌, ℕ, suc, ◌+◌, ◌<◌, ◌≤◌, true, false, Bool, ◌||◌, ◌⊎◌, Option, Some, None, is_some, IsSome, refl, sym, ◌∙◌, ap, arith, inl, inr}
 use Rattle.std.proofs.lemmas.Bool.{cases_lt, cond-true, cond-false, true≢false, or_parts}
 use Rattle.mls_leaf.specs.Parent.{Parent}
 use Rattle.mls_leaf.specs.declared.leaf.LeafNode.{LeafNode}
 use Rattle.mls_term.specs.Term.{Term, Leaf, Branch, width, has_leaf, leaf_at}
-use Rattle.mls_term.specs.Equations.{leaf_at_leaf, leaf_at_left, leaf_at_right, has_leaf_branch, width_branch}
+use Rattle.mls_term.specs.Equations.{leaf_at_leaf, leaf_at_left, leaf_at_right}
 use Rattle.mls_term.specs.MemberLaws.{leaf_taken}
 use Rattle.mls_array.specs.Ends.{taken_end}
 

@@ -1,7 +1,7 @@
 -- Keys of the cells at none of some places, where no two cells have one key.
-use Rattle.std.proofs.Common.{◌≡◌, ℕ, zero, suc, ◌+◌, ◌≤◌, ◌==◌, nat_eq, Bool, true, false, not, cond, List, [], ◌∷◌, ◌++◌, ◌||◌, get_or, Option, Some, None, is_some, refl, sym, ◌∙◌, ap, subst, arith, inl, inr, eq-eqb, eqb-true}
+use Rattle.std.proofs.Common.{◌≡◌, ℕ, zero, suc, ◌≤◌, ◌==◌, true, false, cond, List, [], ◌∷◌, ◌++◌, ◌||◌, Option, Some, None, is_some, refl, sym, ◌∙◌, ap, subst, arith, inl, inr, eq-eqb, eqb-true}
 use Rattle.std.proofs.lemmas.Bool.{true≢false, cases_Bool, and_parts}
-use Rattle.std.specs.List.{flat_map, list_any}
+use Rattle.std.specs.List.{list_any}
 use Rattle.std.specs.Option.{option_to_list}
 use Rattle.mls_leaf.specs.declared.node.Node.{Node}
 use Rattle.mls_term.specs.Sets.{same_bytes, has, count, is_distinct}

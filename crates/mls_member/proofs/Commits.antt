@@ -1,5 +1,5 @@
 -- The steps of a commit call.
-use Rattle.std.proofs.Common.{◌≡◌, ℕ, ◌+◌, ◌-◌, ◌<◌, ◌^◌, Bool, true, false, not, nat_lt, List, Option, Some, None, Result, Ok, Err, refl, sym, subst, ◌∙◌}
+use Rattle.std.proofs.Common.{◌≡◌, ℕ, ◌-◌, ◌^◌, Bool, true, false, not, nat_lt, List, Option, Some, None, Result, Ok, Err, refl, sym, subst, ◌∙◌}
 use Rattle.std.specs.Prelude.{is_none, is_some}
 use Rattle.mls_wire.specs.Checks.{require, ◌>>◌, DoesAs}
 use Rattle.mls_wire.specs.Reading.{◌>>=◌}

@@ -1,7 +1,6 @@
 -- How the proposals that a commit call uses come about, one after the other.
-use Rattle.std.proofs.Common.{◌≡◌, ℕ, ◌+◌, ◌<◌, ◌≤◌, ◌^◌, Bool, true, false, List, [], ◌∷◌, ◌++◌, length, map, drop, get_or, Option, Some, None, Result, Ok, Err, refl, sym, ap, subst, ◌∙◌, arith}
+use Rattle.std.proofs.Common.{◌≡◌, ℕ, ◌+◌, ◌<◌, ◌≤◌, List, [], ◌∷◌, ◌++◌, length, map, drop, get_or, Ok, Err, sym, ap, subst, ◌∙◌}
 use Rattle.std.proofs.lemmas.List.{append-nil, drop_all}
-use Rattle.mls_wire.specs.Reading.{◌>>=◌}
 use Rattle.mls_model.specs.declared.item.Item.{Item}
 use Rattle.mls_model.specs.Make.{listed_of}
 use Rattle.mls_model.specs.Public.{Used}

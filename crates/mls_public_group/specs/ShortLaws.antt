@@ -1,5 +1,5 @@
 -- What short contexts and proposals have.
-use Rattle.std.proofs.Common.{◌≡◌, ℕ, ◌+◌, ◌<◌, ◌≤◌, ◌^◌, List, [], ◌∷◌, ◌++◌, length, ap, arith, length-append}
+use Rattle.std.proofs.Common.{◌≡◌, ℕ, ◌<◌, ◌≤◌, ◌^◌, List, [], ◌∷◌, ◌++◌, length, ap, arith, length-append}
 use Rattle.std.specs.Int.{w16}
 use Rattle.std.specs.List.{cons_option, AllByRecursion}
 use Rattle.mls_wire.specs.Format.{Format}

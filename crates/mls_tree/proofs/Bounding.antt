@@ -1,10 +1,10 @@
 -- Which leaves are taken, by the bounds that a tree keeps: where an edit looks for them, and the bounds after it.
-use Rattle.std.proofs.Common.{◌≡◌, ℕ, ◌+◌, ◌^◌, ◌<◌, ◌≤◌, ◌==◌, Bool, true, false, List, [], reverse, Option, Some, None, is_some, IsSome, refl, sym, ◌∙◌, ap, subst, arith, inl, inr, eqb-true, eq-eqb, ne_eqb}
+use Rattle.std.proofs.Common.{◌≡◌, ℕ, ◌+◌, ◌^◌, ◌<◌, ◌≤◌, ◌==◌, false, List, [], reverse, Option, Some, None, is_some, IsSome, refl, sym, ◌∙◌, ap, subst, arith, inl, inr, eqb-true, eq-eqb, ne_eqb}
 use Rattle.std.proofs.Math.Pow.{pow_mono}
 use Rattle.std.proofs.lemmas.Bool.{cases_lt, cond_both, cond-true, cond-false, true≢false}
 use Rattle.mls_leaf.specs.declared.leaf.LeafNode.{LeafNode}
 use Rattle.mls_treemath.specs.Limits.{max_height}
-use Rattle.mls_term.specs.Term.{Term, width, leaf_at, leaf_of}
+use Rattle.mls_term.specs.Term.{Term, width, leaf_of}
 use Rattle.mls_term.specs.Edits.{put, enter, grow, trim, first_blank}
 use Rattle.mls_term.specs.Merge.{merge, merge_path}
 use Rattle.mls_leaf.specs.declared.node.Node.{Node}

@@ -6,7 +6,7 @@ use Rattle.mls_leaf.specs.declared.leaf.LeafNode.{LeafNode}
 use Rattle.mls_leaf.specs.declared.node.Node.{Node}
 use Rattle.mls_treemath.specs.Paths.{nodes_in}
 use Rattle.mls_treemath.specs.Limits.{max_height}
-use Rattle.mls_term.specs.Term.{Term, width}
+use Rattle.mls_term.specs.Term.{Term}
 use Rattle.mls_term.specs.Sets.{is_distinct}
 use Rattle.mls_term.specs.Edits.{put, enter, grow, trim, first_blank}
 use Rattle.mls_term.specs.Merge.{merge_path}

@@ -4,7 +4,7 @@ use Rattle.mls_leaf.specs.declared.node.Node.{Node}
 use Rattle.mls_index.specs.declared.kind.KeyKind.{KeyKind}
 use Rattle.mls_index.specs.declared.kind.KeyKind.TheVariants.{Encryption, Signature}
 use Rattle.mls_index.specs.Keys.{key_in}
-use Rattle.mls_index.specs.Indexes.{Listing, Indexes, SameIndex}
+use Rattle.mls_index.specs.Indexes.{Indexes, SameIndex}
 use Rattle.mls_tree.specs.declared.key_indexes.KeyIndexes.{KeyIndexes}
 
 -- both are of these cells

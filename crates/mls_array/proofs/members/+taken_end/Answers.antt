@@ -1,4 +1,4 @@
-use Rattle.std.proofs.Common.{suc, ◌+◌, arith, sym, ◌∙◌}
+use Rattle.std.proofs.Common.{arith, sym, ◌∙◌}
 use Rattle.mls_array.proofs.Readings.{in_sides, left_nodes, right_nodes}
 use Rattle.mls_array.proofs.Taken.{leaf_end, blank_leaf_end, end_on_left, end_on_right, end_right_by, end_low, within_left, none_on_right, some_on_right}
 use Rattle.mls_array.proofs.members.+taken_end.Goals as goal

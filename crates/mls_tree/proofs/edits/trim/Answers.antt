@@ -1,4 +1,4 @@
-use Rattle.std.proofs.Common.{◌+◌, ◌-◌, ◌*◌, ◌%◌, ◌^◌, take, ap, sym, ◌∙◌, arith, length, subst}
+use Rattle.std.proofs.Common.{◌+◌, ◌-◌, ◌*◌, ◌%◌, ◌^◌, take, ap, sym, arith, length, subst}
 use Rattle.mls_tree.specs.Indexed.{AreIndexes}
 use Rattle.mls_tree.proofs.Checked.{size_fits}
 use Rattle.mls_tree.proofs.Indexing.{cut_size, trimmed_as}

@@ -1,7 +1,7 @@
-use Rattle.std.proofs.Common.{◌≡◌, refl, false, ◌&&◌, nat_lt, length, get_or, sym, ◌∙◌, ap, subst, ltb-true}
+use Rattle.std.proofs.Common.{refl, ◌&&◌, nat_lt, length, get_or, sym, ◌∙◌, ap, subst, ltb-true}
 use Rattle.std.proofs.Math.Bool.{and-false}
 use Rattle.std.proofs.lemmas.List.{get_or_default}
-use Rattle.mls_index.specs.Keys.{key_in, is_key, is_held, IsHolder}
+use Rattle.mls_index.specs.Keys.{key_in, is_key, IsHolder}
 use Rattle.mls_index.specs.StepLaws.{held_first}
 use Rattle.mls_index.proofs.index.Index.holder.Goals as goal
 

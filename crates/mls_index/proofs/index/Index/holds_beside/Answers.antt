@@ -1,4 +1,4 @@
-use Rattle.std.proofs.Common.{◌≡◌, not, true, false, sym, ◌∙◌, ap, inl, inr}
+use Rattle.std.proofs.Common.{not, sym, ◌∙◌, ap, inl, inr}
 use Rattle.std.proofs.lemmas.Bool.{cases_Bool}
 use Rattle.mls_term.specs.Sets.{has}
 use Rattle.mls_index.specs.BesideLaws.{beside_none, beside_on, beside_out, has_searched}

@@ -1,4 +1,4 @@
-use Rattle.std.proofs.Common.{refl, sym, ◌∙◌}
+use Rattle.std.proofs.Common.{refl}
 use Rattle.mls_member.proofs.Own.{own_below}
 use Rattle.mls_member.proofs.Keeps.{is_within, said_again, said_refused, said_new}
 use Rattle.mls_member.proofs.member.Member.send_and_keep.Goals as goal

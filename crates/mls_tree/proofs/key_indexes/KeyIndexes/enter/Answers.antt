@@ -1,6 +1,4 @@
-use Rattle.std.proofs.Common.{sym, ◌∙◌, ap, subst}
-use Rattle.mls_index.specs.Indexes.{Indexes, Without}
-use Rattle.mls_tree.specs.Indexed.{AreIndexes}
+use Rattle.std.proofs.Common.{◌∙◌}
 use Rattle.mls_tree.proofs.Indexing.{filled_without}
 use Rattle.mls_tree.proofs.key_indexes.KeyIndexes.enter.Goals as goal
 

@@ -1,4 +1,4 @@
-use Rattle.std.proofs.Common.{suc, ◌*◌, ◌^◌, ap, refl, sym, ◌∙◌, arith}
+use Rattle.std.proofs.Common.{suc, ◌*◌, ◌^◌, ap, refl, arith}
 use Rattle.std.proofs.lemmas.Nat.{one_shl}
 use Rattle.mls_treemath.specs.Paths.{nodes_in}
 use Rattle.mls_tree.specs.Tree.{term}

@@ -1,7 +1,6 @@
-use Rattle.std.proofs.Common.{◌≡◌, true, is_some, Ok, sym, ◌∙◌, ap, subst}
+use Rattle.std.proofs.Common.{◌≡◌, is_some, Ok, sym, ◌∙◌, ap, subst}
 use Rattle.mls_term.specs.Term.{leaf_of}
 use Rattle.mls_array.specs.Kept.{hashes_of}
-use Rattle.mls_tree.specs.Cold.{Warms, Chills}
 use Rattle.mls_tree.specs.Tree.{Tree, term}
 use Rattle.mls_tree.specs.Way.{way_numbers}
 use Rattle.mls_tree.proofs.Keeping.{merge_checked, merge_new, merge_member}

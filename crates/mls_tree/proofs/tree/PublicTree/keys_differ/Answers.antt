@@ -1,7 +1,5 @@
 use Rattle.std.proofs.Common.{◌≡◌, ◌∷◌, ◌++◌, length, IfOk, sym, ◌∙◌, ap, subst}
 use Rattle.mls_term.specs.Sets.{same_bytes, is_distinct}
-use Rattle.mls_term.specs.Keys.{encryption_keys}
-use Rattle.mls_term.specs.Merge.{merge_path}
 use Rattle.mls_array.specs.Standing.{Stands}
 use Rattle.mls_index.specs.Keys.{keys_of}
 use Rattle.mls_index.specs.Indexes.{Indexes}
