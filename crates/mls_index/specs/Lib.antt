@@ -11,3 +11,6 @@ pub mod Cleared
 pub mod ClearedLaws
 pub mod DistinctLaws
 pub mod BesideLaws
+pub mod Moves
+pub mod MoveLaws
+pub mod PassLaws

@@ -5,8 +5,10 @@ mod beside;
 mod index;
 mod keys;
 mod kind;
+mod moves;
 mod order;
 mod places;
+mod positions;
 #[cfg(test)]
 mod tests;
 

@@ -5,13 +5,32 @@ ghost use Rattle.mls_leaf.specs.declared.node.Node.{Node};
 ghost use Rattle.mls_term.specs.Sets.{is_distinct};
 ghost use Rattle.mls_index.specs.Indexes.{Indexes};
 ghost use Rattle.mls_index.specs.Cleared.{HasPlaces, cleared};
+ghost use Rattle.mls_index.specs.Keys.{key_in};
+ghost use Rattle.mls_index.specs.Order.{Entries};
+ghost use Rattle.mls_index.specs.Moves.{Marks};
 
 use crate::index::Index;
+use crate::moves::take_out_all;
+use crate::positions::Positions;
 use mls_slot::Slot;
 
 impl Index {
-    /// Takes out the cells at some places, each given once: before they are blanked or replaced.
-    pub fn leave_all(&mut self, cells: &[Slot], places: &[u32])
+    /// Where the entries of some cells stand.
+    fn positions(&self, cells: &[Slot], places: &[u32]) -> Positions
+        requires { length places.now ≤ 32 }
+        ensures { (c : List (Option Node)) → HasPlaces self.now.kind places.now cells.now c → Entries (key_in self.now.kind c) self.now.numbers → Marks self.now.numbers places.now result }
+    {
+        let mut positions = Positions::new();
+        for x in places {
+            if let Some(key) = self.kind.key_in(cells, *x) {
+                positions.add(self.place(cells, key, *x));
+            }
+        }
+        positions
+    }
+
+    /// Takes out the cells at some places, each given once, one after another.
+    fn leave_each(&mut self, cells: &[Slot], places: &[u32])
         requires { is_distinct nat_eq places.now ≡ true }
         ensures kind { self.new.kind ≡ self.old.kind }
         ensures room { self.old.room ≤ self.new.room }
@@ -19,8 +38,23 @@ impl Index {
     {
         if let Some((x, rest)) = places.split_first() {
             self.leave(cells, *x);
-            self.leave_all(cells, rest);
+            self.leave_each(cells, rest);
         }
+    }
+
+    /// Takes out the cells at some places, each given once: before they are blanked or replaced.
+    pub fn leave_all(&mut self, cells: &[Slot], places: &[u32])
+        requires { is_distinct nat_eq places.now ≡ true }
+        ensures kind { self.new.kind ≡ self.old.kind }
+        ensures room { self.old.room ≤ self.new.room }
+        ensures left { (c : List (Option Node)) → HasPlaces self.old.kind places.now cells.now c → Indexes c self.old → Indexes (cleared 0 places.now c) self.new }
+    {
+        if self.repeats > 0 || places.len() > 32 {
+            self.leave_each(cells, places);
+            return;
+        }
+        let positions = self.positions(cells, places);
+        take_out_all(&mut self.numbers, &positions);
     }
 
     /// Takes out all cells from a number on: before they are cut.
