@@ -43,7 +43,7 @@ module _ (at real : ℕ → Option (List ℕ)) (part : IsPart at real) (ns : Lis
 -- ---- entries with one key stand together
 
 module _ (at : ℕ → Option (List ℕ)) (ns : List ℕ) (es : Entries at ns) (k : List ℕ) where
-  key_between : (o : Option (List ℕ)) (y w x : ℕ) → is_some o ≡ true → is_lt (entry_cmp (unwrap_or o [], y) (k, w)) ≡ false → entry_cmp (unwrap_or o [], y) (k, x) ≡ Less → o ≡ Some k
+  pub key_between : (o : Option (List ℕ)) (y w x : ℕ) → is_some o ≡ true → is_lt (entry_cmp (unwrap_or o [], y) (k, w)) ≡ false → entry_cmp (unwrap_or o [], y) (k, x) ≡ Less → o ≡ Some k
   key_between None y w x some h g = absurd (true≢false (sym some))
   key_between (Some l) y w x some h g = ap Some (same_between l k y w x h g)
 

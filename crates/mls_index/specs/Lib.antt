@@ -14,3 +14,6 @@ pub mod BesideLaws
 pub mod Moves
 pub mod MoveLaws
 pub mod PassLaws
+pub mod Gaps
+pub mod GapLaws
+pub mod FillLaws

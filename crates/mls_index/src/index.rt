@@ -95,7 +95,7 @@ impl Index {
 
     /// Whether the entry at a place or that before it has this key. Where an entry with the key goes there, no other has
     /// it if neither does.
-    fn is_beside(&self, cells: &[Slot], place: usize, key: &[u8]) -> bool
+    pub(crate) fn is_beside(&self, cells: &[Slot], place: usize, key: &[u8]) -> bool
         ensures { (c : List (Option Node)) → IsPart (key_in self.now.kind c) (key_in self.now.kind cells.now) → Entries (key_in self.now.kind c) self.now.numbers → (x : ℕ) → IsGap (key_in self.now.kind c) self.now.numbers (key.now, x) place → result ≡ is_held self.now.kind c key.now }
     {
         self.is_key_at(cells, place, key) || place > 0 && self.is_key_at(cells, place - 1, key)

@@ -2,6 +2,7 @@
 #![tactic(auto)]
 
 mod beside;
+mod gaps;
 mod index;
 mod keys;
 mod kind;

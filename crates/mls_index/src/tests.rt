@@ -220,3 +220,117 @@ fn accepts_keys_beside_a_repeat(rt: HostRuntime) -> Result<(), Fail> {
     assert!(rt; !index.are_distinct());
     Ok(())
 }
+
+/// The places of all cells but the ends.
+fn inner() -> [u32; 6]
+    ensures { is_distinct nat_eq result ≡ true }
+{
+    [6, 2, 5, 1, 3, 4]
+}
+
+/// Some places, among them the ends.
+fn some() -> [u32; 4]
+    ensures { is_distinct nat_eq result ≡ true }
+{
+    [7, 0, 4, 3]
+}
+
+/// Eight leaves, the fourth blank.
+fn eight(alloc: Global) -> Result<Vec<Slot>, AllocError> {
+    let mut cells = Vec::new(alloc);
+    for key in [40, 10, 30, 0, 70, 20, 60, 50] {
+        if key == 0 {
+            cells.push(Slot::blank())?;
+        } else {
+            cells.push(leaf(alloc, key, key / 20)?)?;
+        }
+    }
+    Ok(cells)
+}
+
+/// Whether an index finds these keys and no others.
+fn finds(index: &Index, cells: &[Slot], keys: &[u8]) -> bool {
+    let mut right = true;
+    for key in 0..100u8 {
+        if index.holds(cells, &[key]) != keys.contains(&key) {
+            right = false;
+        }
+    }
+    right
+}
+
+#[test]
+fn takes_many_out_at_once(rt: HostRuntime) -> Result<(), Fail> {
+    let alloc = rt.alloc();
+    let cells = eight(alloc)?;
+    let mut index = index(&rt, alloc, KeyKind::Encryption, &cells)?;
+    let mut other = index.clone()?;
+    let mut none = index.clone()?;
+    assert!(rt; finds(&index, &cells, &[10, 20, 30, 40, 50, 60, 70]));
+    index.leave_all(&cells, &inner());
+    assert!(rt; finds(&index, &cells, &[40, 50]));
+    other.leave_all(&cells, &some());
+    assert!(rt; finds(&other, &cells, &[10, 20, 30, 60]));
+    other.leave_all(&cells, &[]);
+    assert!(rt; finds(&other, &cells, &[10, 20, 30, 60]));
+    none.leave_all(&cells, &some());
+    none.leave(&cells, 6);
+    none.leave(&cells, 5);
+    none.leave(&cells, 2);
+    none.leave_all(&cells, &at(1));
+    assert!(rt; finds(&none, &cells, &[]));
+    assert!(rt; index.are_distinct() && other.are_distinct() && none.are_distinct());
+    Ok(())
+}
+
+#[test]
+fn enters_many_at_once(rt: HostRuntime) -> Result<(), Fail> {
+    let alloc = rt.alloc();
+    let mut cells = eight(alloc)?;
+    let mut index = index(&rt, alloc, KeyKind::Encryption, &cells)?;
+    index.leave_all(&cells, &some());
+    index.reserve(4)?;
+    put(&mut cells, 7, leaf(alloc, 25, 2)?);
+    put(&mut cells, 0, leaf(alloc, 80, 2)?);
+    put(&mut cells, 4, leaf(alloc, 5, 2)?);
+    let mut copy = index.clone()?;
+    copy.reserve(4)?;
+    index.enter_all(&cells, &some());
+    assert!(rt; finds(&index, &cells, &[5, 10, 20, 25, 30, 60, 80]));
+    assert!(rt; index.are_distinct());
+    // Two go to one place, in either order.
+    put(&mut cells, 7, leaf(alloc, 85, 2)?);
+    put(&mut cells, 3, leaf(alloc, 90, 2)?);
+    copy.enter_all(&cells, &some());
+    assert!(rt; finds(&copy, &cells, &[5, 10, 20, 30, 60, 80, 85, 90]));
+    assert!(rt; copy.are_distinct());
+    copy.leave_all(&cells, &inner());
+    assert!(rt; finds(&copy, &cells, &[80, 85]));
+    Ok(())
+}
+
+#[test]
+fn enters_many_with_a_repeat(rt: HostRuntime) -> Result<(), Fail> {
+    let alloc = rt.alloc();
+    let mut cells = eight(alloc)?;
+    let mut index = index(&rt, alloc, KeyKind::Encryption, &cells)?;
+    index.leave_all(&cells, &some());
+    index.reserve(4)?;
+    let mut copy = index.clone()?;
+    copy.reserve(4)?;
+    put(&mut cells, 0, leaf(alloc, 20, 2)?);
+    index.enter_all(&cells, &some());
+    assert!(rt; finds(&index, &cells, &[10, 20, 30, 50, 60, 70]));
+    assert!(rt; !index.are_distinct());
+    index.leave_all(&cells, &some());
+    assert!(rt; finds(&index, &cells, &[10, 20, 30, 60]));
+    assert!(rt; index.are_distinct());
+    put(&mut cells, 0, leaf(alloc, 50, 2)?);
+    copy.enter_all(&cells, &some());
+    assert!(rt; finds(&copy, &cells, &[10, 20, 30, 50, 60, 70]));
+    assert!(rt; !copy.are_distinct());
+    copy.leave_all(&cells, &at(7));
+    assert!(rt; finds(&copy, &cells, &[10, 20, 30, 50, 60, 70]));
+    assert!(rt; copy.are_distinct());
+    Ok(())
+}
