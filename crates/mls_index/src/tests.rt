@@ -1,6 +1,6 @@
 //! Tests: an index as its cells come and go.
 
-ghost use Rattle.std.specs.Prelude.{◌≡◌, nat_eq, true};
+ghost use Rattle.std.specs.Prelude.{◌≡◌, ◌≤◌, nat_eq, true, IfOk};
 ghost use Rattle.mls_term.specs.Sets.{is_distinct};
 
 use crate::{Index, KeyKind};
@@ -235,6 +235,13 @@ fn some() -> [u32; 4]
     [7, 0, 4, 3]
 }
 
+/// No places.
+fn nowhere() -> [u32; 0]
+    ensures { is_distinct nat_eq result ≡ true }
+{
+    []
+}
+
 /// Eight leaves, the fourth blank.
 fn eight(alloc: Global) -> Result<Vec<Slot>, AllocError> {
     let mut cells = Vec::new(alloc);
@@ -259,27 +266,35 @@ fn finds(index: &Index, cells: &[Slot], keys: &[u8]) -> bool {
     right
 }
 
+/// Puts leaves with these keys at some places.
+fn change(alloc: Global, cells: &mut [Slot], leaves: &[(usize, u8)]) -> Result<(), AllocError> {
+    for (x, key) in leaves {
+        put(cells, *x, leaf(alloc, *key, 1)?);
+    }
+    Ok(())
+}
+
+/// The index of eight cells without some, and with room for these.
+fn without_some(rt: &impl Abort, alloc: Global, cells: &[Slot]) -> Result<Index, AllocError>
+    ensures { IfOk result (λ t. 4 ≤ t.room) }
+{
+    let mut index = index(rt, alloc, KeyKind::Encryption, cells)?;
+    index.reserve(4)?;
+    index.leave_all(cells, &some());
+    Ok(index)
+}
+
 #[test]
 fn takes_many_out_at_once(rt: HostRuntime) -> Result<(), Fail> {
     let alloc = rt.alloc();
     let cells = eight(alloc)?;
     let mut index = index(&rt, alloc, KeyKind::Encryption, &cells)?;
-    let mut other = index.clone()?;
-    let mut none = index.clone()?;
     assert!(rt; finds(&index, &cells, &[10, 20, 30, 40, 50, 60, 70]));
     index.leave_all(&cells, &inner());
     assert!(rt; finds(&index, &cells, &[40, 50]));
-    other.leave_all(&cells, &some());
-    assert!(rt; finds(&other, &cells, &[10, 20, 30, 60]));
-    other.leave_all(&cells, &[]);
-    assert!(rt; finds(&other, &cells, &[10, 20, 30, 60]));
-    none.leave_all(&cells, &some());
-    none.leave(&cells, 6);
-    none.leave(&cells, 5);
-    none.leave(&cells, 2);
-    none.leave_all(&cells, &at(1));
-    assert!(rt; finds(&none, &cells, &[]));
-    assert!(rt; index.are_distinct() && other.are_distinct() && none.are_distinct());
+    index.leave_all(&cells, &some());
+    index.leave_all(&cells, &nowhere());
+    assert!(rt; finds(&index, &cells, &[]));
     Ok(())
 }
 
@@ -287,50 +302,52 @@ fn takes_many_out_at_once(rt: HostRuntime) -> Result<(), Fail> {
 fn enters_many_at_once(rt: HostRuntime) -> Result<(), Fail> {
     let alloc = rt.alloc();
     let mut cells = eight(alloc)?;
-    let mut index = index(&rt, alloc, KeyKind::Encryption, &cells)?;
-    index.leave_all(&cells, &some());
-    index.reserve(4)?;
-    put(&mut cells, 7, leaf(alloc, 25, 2)?);
-    put(&mut cells, 0, leaf(alloc, 80, 2)?);
-    put(&mut cells, 4, leaf(alloc, 5, 2)?);
-    let mut copy = index.clone()?;
-    copy.reserve(4)?;
+    let mut index = without_some(&rt, alloc, &cells)?;
+    assert!(rt; finds(&index, &cells, &[10, 20, 30, 60]));
+    change(alloc, &mut cells, &[(7, 25), (0, 80), (4, 5)])?;
     index.enter_all(&cells, &some());
     assert!(rt; finds(&index, &cells, &[5, 10, 20, 25, 30, 60, 80]));
     assert!(rt; index.are_distinct());
-    // Two go to one place, in either order.
-    put(&mut cells, 7, leaf(alloc, 85, 2)?);
-    put(&mut cells, 3, leaf(alloc, 90, 2)?);
-    copy.enter_all(&cells, &some());
-    assert!(rt; finds(&copy, &cells, &[5, 10, 20, 30, 60, 80, 85, 90]));
-    assert!(rt; copy.are_distinct());
-    copy.leave_all(&cells, &inner());
-    assert!(rt; finds(&copy, &cells, &[80, 85]));
     Ok(())
 }
 
 #[test]
-fn enters_many_with_a_repeat(rt: HostRuntime) -> Result<(), Fail> {
+fn enters_many_at_one_place(rt: HostRuntime) -> Result<(), Fail> {
     let alloc = rt.alloc();
     let mut cells = eight(alloc)?;
-    let mut index = index(&rt, alloc, KeyKind::Encryption, &cells)?;
-    index.leave_all(&cells, &some());
-    index.reserve(4)?;
-    let mut copy = index.clone()?;
-    copy.reserve(4)?;
-    put(&mut cells, 0, leaf(alloc, 20, 2)?);
+    let mut index = without_some(&rt, alloc, &cells)?;
+    change(alloc, &mut cells, &[(7, 85), (0, 80), (4, 5), (3, 90)])?;
+    index.enter_all(&cells, &some());
+    assert!(rt; finds(&index, &cells, &[5, 10, 20, 30, 60, 80, 85, 90]));
+    assert!(rt; index.are_distinct());
+    Ok(())
+}
+
+#[test]
+fn enters_many_beside_their_key(rt: HostRuntime) -> Result<(), Fail> {
+    let alloc = rt.alloc();
+    let mut cells = eight(alloc)?;
+    let mut index = without_some(&rt, alloc, &cells)?;
+    change(alloc, &mut cells, &[(0, 20)])?;
     index.enter_all(&cells, &some());
     assert!(rt; finds(&index, &cells, &[10, 20, 30, 50, 60, 70]));
     assert!(rt; !index.are_distinct());
     index.leave_all(&cells, &some());
     assert!(rt; finds(&index, &cells, &[10, 20, 30, 60]));
     assert!(rt; index.are_distinct());
-    put(&mut cells, 0, leaf(alloc, 50, 2)?);
-    copy.enter_all(&cells, &some());
-    assert!(rt; finds(&copy, &cells, &[10, 20, 30, 50, 60, 70]));
-    assert!(rt; !copy.are_distinct());
-    copy.leave_all(&cells, &at(7));
-    assert!(rt; finds(&copy, &cells, &[10, 20, 30, 50, 60, 70]));
-    assert!(rt; copy.are_distinct());
+    Ok(())
+}
+
+#[test]
+fn enters_many_of_one_key(rt: HostRuntime) -> Result<(), Fail> {
+    let alloc = rt.alloc();
+    let mut cells = eight(alloc)?;
+    let mut index = without_some(&rt, alloc, &cells)?;
+    change(alloc, &mut cells, &[(0, 50)])?;
+    index.enter_all(&cells, &some());
+    assert!(rt; !index.are_distinct());
+    index.leave_all(&cells, &at(7));
+    assert!(rt; finds(&index, &cells, &[10, 20, 30, 50, 60, 70]));
+    assert!(rt; index.are_distinct());
     Ok(())
 }
