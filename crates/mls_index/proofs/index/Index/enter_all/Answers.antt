@@ -1,4 +1,4 @@
-use Rattle.std.proofs.Common.{sym, ◌∙◌, ap}
+use Rattle.std.proofs.Common.{◌≡◌, sym, ◌∙◌, ap, arith}
 use Rattle.mls_index.specs.Gaps.{filled}
 use Rattle.mls_index.specs.FillLaws.{entered_at_once}
 use Rattle.mls_index.proofs.index.Index.enter_all.Goals as goal
@@ -6,7 +6,7 @@ use Rattle.mls_index.proofs.index.Index.enter_all.Goals as goal
 pub returns-in-Some-clause-entered : goal.returns-in-Some-clause-entered
 returns-in-Some-clause-entered c = λ d places is.
     let s = c.args.self.now in
-    let none = c.if-self-eq0.true in
+    let none : c.self.inside.repeats ≡ 0 = omega arith in
     let before = ap (λ t. t.repeats) c.self.view_is in
     let found = c.in-Some.ensures in
     entered_at_once s _ c.args.places.now c.in-Some.gaps d
