@@ -43,7 +43,7 @@ module _ (at real : ℕ → Option (List ℕ)) (part : IsPart at real) (ns : Lis
 -- ---- entries with one key stand together
 
 module _ (at : ℕ → Option (List ℕ)) (ns : List ℕ) (es : Entries at ns) (k : List ℕ) where
-  key_between : (o : Option (List ℕ)) (y w x : ℕ) → is_some o ≡ true → is_lt (entry_cmp (unwrap_or o [], y) (k, w)) ≡ false → entry_cmp (unwrap_or o [], y) (k, x) ≡ Less → o ≡ Some k
+  pub key_between : (o : Option (List ℕ)) (y w x : ℕ) → is_some o ≡ true → is_lt (entry_cmp (unwrap_or o [], y) (k, w)) ≡ false → entry_cmp (unwrap_or o [], y) (k, x) ≡ Less → o ≡ Some k
   key_between None y w x some h g = absurd (true≢false (sym some))
   key_between (Some l) y w x some h g = ap Some (same_between l k y w x h g)
 
@@ -83,6 +83,41 @@ module _ (at : ℕ → Option (List ℕ)) (ns : List ℕ) (es : Entries at ns) (
   -- and the first one stands at the place of the least
   pub none_before : (p : ℕ) → IsGap at ns (k, 0) p → 1 ≤ p → at (get_or ns (p - 1) 0) ≡ Some k → ⊥
   none_before p gap some is = none_below k (get_or ns (p - 1) 0) (subst (λ v. entry_cmp v (k, 0) ≡ Less) (entry_with (p - 1) is) (gap.below (p - 1) (omega arith)))
+
+-- ---- where the entry of a key and a number stands
+
+module _ (x : ℕ) (k : List ℕ) (c : ℕ → Option (List ℕ)) (here : c x ≡ Some k) (ns : List ℕ) (p : ℕ) (es : Entries c ns) (gap : IsGap c ns (k, x) p) where
+  its_entry : entry_at c x ≡ (k, x)
+  its_entry = ap (λ o. (unwrap_or o [], x)) here
+
+  pub entry_stands : (p < length ns) × (get_or ns p 0 ≡ x)
+  entry_stands =
+      let j = es.all x (ap is_some here) in
+      let entry : entry_at c (get_or ns j.0 0) ≡ (k, x) = ap (λ y. entry_at c y) j.2 ∙ its_entry in
+      elim (cases_lt j.0 p) [
+        | inl lt ↦ absurd (not_itself (k, x) (subst (λ v. entry_cmp v (k, x) ≡ Less) entry (gap.below j.0 lt)))
+        | inr ge ↦ elim (cases_lt p j.0) [
+          | inl less ↦
+              let lt = j.1 in
+              let below : entry_cmp (entry_at c (get_or ns p 0)) (k, x) ≡ Less = subst (λ v. entry_cmp (entry_at c (get_or ns p 0)) v ≡ Less) entry (es.ascend p j.0 less j.1) in
+              absurd (true≢false (sym (ap is_lt below) ∙ gap.above p (omega arith) (omega arith)))
+          | inr le ↦
+              let same : j.0 ≡ p = omega arith in
+              (subst (λ n. n < length ns) same j.1, subst (λ n. get_or ns n 0 ≡ x) same j.2)
+        ]
+      ]
+
+  -- it stands at place p alone
+  pub stands_once : (j : ℕ) → j < length ns → (j ≡ p → ⊥) → get_or ns j 0 ≡ x → ⊥
+  stands_once j lt other is =
+      let same : entry_at c (get_or ns j 0) ≡ entry_at c (get_or ns p 0) = ap (λ y. entry_at c y) (is ∙ sym entry_stands.1) in
+      elim (cases_lt j p) [
+        | inl less ↦ not_itself (entry_at c (get_or ns p 0)) (subst (λ v. entry_cmp v (entry_at c (get_or ns p 0)) ≡ Less) same (es.ascend j p less entry_stands.0))
+        | inr ge ↦ not_itself (entry_at c (get_or ns p 0)) (subst (λ v. entry_cmp (entry_at c (get_or ns p 0)) v ≡ Less) same (es.ascend p j (omega_less other ge) lt))
+      ]
+    where
+      omega_less : {a b : ℕ} → (a ≡ b → ⊥) → b ≤ a → b < a
+      omega_less {a} {b} other le = elim (cases_lt b a) [ inl lt ↦ lt | inr ge ↦ absurd (other (omega arith)) ]
 
 -- ---- with one entry more, and without it
 
@@ -183,33 +218,11 @@ module _ (x : ℕ) (k : List ℕ) (b c : ℕ → Option (List ℕ)) (here : c x 
 
   module _ (es : Entries c ns) (gap : IsGap c ns (k, x) p) where
     pub stands : (p < length ns) × (get_or ns p 0 ≡ x)
-    stands =
-        let j = es.all x (ap is_some here) in
-        let entry : entry_at c (get_or ns j.0 0) ≡ (k, x) = ap (λ y. entry_at c y) j.2 ∙ entry_here in
-        elim (cases_lt j.0 p) [
-          | inl lt ↦ absurd (not_itself (k, x) (subst (λ v. entry_cmp v (k, x) ≡ Less) entry (gap.below j.0 lt)))
-          | inr ge ↦ elim (cases_lt p j.0) [
-            | inl less ↦
-                let lt = j.1 in
-                let below : entry_cmp (entry_at c (get_or ns p 0)) (k, x) ≡ Less = subst (λ v. entry_cmp (entry_at c (get_or ns p 0)) v ≡ Less) entry (es.ascend p j.0 less j.1) in
-                absurd (true≢false (sym (ap is_lt below) ∙ gap.above p (omega arith) (omega arith)))
-            | inr le ↦
-                let same : j.0 ≡ p = omega arith in
-                (subst (λ n. n < length ns) same j.1, subst (λ n. get_or ns n 0 ≡ x) same j.2)
-          ]
-        ]
+    stands = entry_stands x k c here ns p es gap
 
     -- it stands at place p alone
     once : (j : ℕ) → j < length ns → (j ≡ p → ⊥) → get_or ns j 0 ≡ x → ⊥
-    once j lt other is =
-        let same : entry_at c (get_or ns j 0) ≡ entry_at c (get_or ns p 0) = ap (λ y. entry_at c y) (is ∙ sym stands.1) in
-        elim (cases_lt j p) [
-          | inl less ↦ not_itself (entry_at c (get_or ns p 0)) (subst (λ v. entry_cmp v (entry_at c (get_or ns p 0)) ≡ Less) same (es.ascend j p less stands.0))
-          | inr ge ↦ not_itself (entry_at c (get_or ns p 0)) (subst (λ v. entry_cmp (entry_at c (get_or ns p 0)) v ≡ Less) same (es.ascend p j (omega_less other ge) lt))
-        ]
-      where
-        omega_less : {a b : ℕ} → (a ≡ b → ⊥) → b ≤ a → b < a
-        omega_less {a} {b} other le = elim (cases_lt b a) [ inl lt ↦ lt | inr ge ↦ absurd (other (omega arith)) ]
+    once = stands_once x k c here ns p es gap
 
     width : length (remove ns p) + 1 ≡ length ns
     width = length-remove ns p stands.0

@@ -11,3 +11,9 @@ pub mod Cleared
 pub mod ClearedLaws
 pub mod DistinctLaws
 pub mod BesideLaws
+pub mod Moves
+pub mod MoveLaws
+pub mod PassLaws
+pub mod Gaps
+pub mod GapLaws
+pub mod FillLaws

@@ -16,7 +16,7 @@ use Rattle.mls_index.specs.Laws.{indexes_alike}
 held : (n : ℕ) → 1 ≤ n → not (n == 0) ≡ true
 held n some = ap not (ne_eqb n 0 (λ e. absurd (omega arith)))
 
-at_least : (n : ℕ) → (n == 0) ≡ false → 1 ≤ n
+pub at_least : (n : ℕ) → (n == 0) ≡ false → 1 ≤ n
 at_least zero h = absurd (true≢false h)
 at_least (suc n) h = omega arith
 

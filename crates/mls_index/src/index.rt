@@ -19,9 +19,9 @@ use std::marker::Model;
 /// The keys stay in the cells, so a copy is a plain copy of numbers. It keeps count of keys that repeat.
 #[derive(Drop)]
 pub struct Index {
-    kind: KeyKind,
-    numbers: Vec<u32>,
-    repeats: usize,
+    pub(crate) kind: KeyKind,
+    pub(crate) numbers: Vec<u32>,
+    pub(crate) repeats: usize,
 }
 
 impl Model for Index {
@@ -75,7 +75,7 @@ impl Index {
     }
 
     /// How many entries come before this key and number.
-    fn place(&self, cells: &[Slot], key: &[u8], x: u32) -> usize
+    pub(crate) fn place(&self, cells: &[Slot], key: &[u8], x: u32) -> usize
         ensures bound { result ≤ length self.now.numbers }
         ensures gap { (at : ℕ → Option (List ℕ)) → IsPart at (key_in self.now.kind cells.now) → Entries at self.now.numbers → IsGap at self.now.numbers (key.now, x) result }
     {
@@ -95,7 +95,7 @@ impl Index {
 
     /// Whether the entry at a place or that before it has this key. Where an entry with the key goes there, no other has
     /// it if neither does.
-    fn is_beside(&self, cells: &[Slot], place: usize, key: &[u8]) -> bool
+    pub(crate) fn is_beside(&self, cells: &[Slot], place: usize, key: &[u8]) -> bool
         ensures { (c : List (Option Node)) → IsPart (key_in self.now.kind c) (key_in self.now.kind cells.now) → Entries (key_in self.now.kind c) self.now.numbers → (x : ℕ) → IsGap (key_in self.now.kind c) self.now.numbers (key.now, x) place → result ≡ is_held self.now.kind c key.now }
     {
         self.is_key_at(cells, place, key) || place > 0 && self.is_key_at(cells, place - 1, key)

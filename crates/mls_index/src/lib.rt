@@ -2,11 +2,14 @@
 #![tactic(auto)]
 
 mod beside;
+mod gaps;
 mod index;
 mod keys;
 mod kind;
+mod moves;
 mod order;
 mod places;
+mod positions;
 #[cfg(test)]
 mod tests;
 

@@ -1,17 +1,29 @@
 //! The order of entries: by key, and then by number.
 
 ghost use Rattle.std.specs.Prelude.{◌≡◌};
-ghost use Rattle.std.specs.Ordering.{is_lt};
+ghost use Rattle.std.specs.Ordering.{nat_cmp, is_lt};
+ghost use Rattle.std.specs.Cmp.Lexicographic.{slice_cmp};
 ghost use Rattle.mls_index.specs.Keys.{key_in};
 ghost use Rattle.mls_index.specs.Order.{entry_at, entry_cmp};
 
 use crate::kind::KeyKind;
 use mls_slot::Slot;
+use std::cmp::Ordering;
+
+/// The order of two keys. Most differ in their first byte, and a comparison of slices begins with more.
+fn compare(own: &[u8], key: &[u8]) -> Ordering
+    ensures { result ≡ slice_cmp nat_cmp own.now key.now }
+{
+    match (own.first(), key.first()) {
+        (Some(first), Some(other)) if first != other => first.cmp(other),
+        _ => own.cmp(key),
+    }
+}
 
 /// Whether the entry of a cell comes before that of a key and a number.
 pub(crate) fn is_before(kind: KeyKind, cells: &[Slot], y: u32, key: &[u8], x: u32) -> bool
     ensures { result ≡ is_lt (entry_cmp (entry_at (key_in kind cells.now) y) (key.now, x)) }
 {
     let own = kind.key_in(cells, y).unwrap_or(&[]);
-    own.cmp(key).then(y.cmp(&x)).is_lt()
+    compare(own, key).then(y.cmp(&x)).is_lt()
 }

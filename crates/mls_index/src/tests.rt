@@ -1,6 +1,6 @@
 //! Tests: an index as its cells come and go.
 
-ghost use Rattle.std.specs.Prelude.{◌≡◌, nat_eq, true};
+ghost use Rattle.std.specs.Prelude.{◌≡◌, ◌≤◌, nat_eq, true, IfOk};
 ghost use Rattle.mls_term.specs.Sets.{is_distinct};
 
 use crate::{Index, KeyKind};
@@ -218,5 +218,136 @@ fn accepts_keys_beside_a_repeat(rt: HostRuntime) -> Result<(), Fail> {
     assert!(rt; index.accepts_beside(&cells, &last, &byte(alloc, 2)?, &keys)?);
     assert!(rt; !index.accepts_beside(&cells, &last, &byte(alloc, 1)?, &keys)?);
     assert!(rt; !index.are_distinct());
+    Ok(())
+}
+
+/// The places of all cells but the ends.
+fn inner() -> [u32; 6]
+    ensures { is_distinct nat_eq result ≡ true }
+{
+    [6, 2, 5, 1, 3, 4]
+}
+
+/// Some places, among them the ends.
+fn some() -> [u32; 4]
+    ensures { is_distinct nat_eq result ≡ true }
+{
+    [7, 0, 4, 3]
+}
+
+/// No places.
+fn nowhere() -> [u32; 0]
+    ensures { is_distinct nat_eq result ≡ true }
+{
+    []
+}
+
+/// Eight leaves, the fourth blank.
+fn eight(alloc: Global) -> Result<Vec<Slot>, AllocError> {
+    let mut cells = Vec::new(alloc);
+    for key in [40, 10, 30, 0, 70, 20, 60, 50] {
+        if key == 0 {
+            cells.push(Slot::blank())?;
+        } else {
+            cells.push(leaf(alloc, key, key / 20)?)?;
+        }
+    }
+    Ok(cells)
+}
+
+/// Whether an index finds these keys and no others.
+fn finds(index: &Index, cells: &[Slot], keys: &[u8]) -> bool {
+    let mut right = true;
+    for key in 0..100u8 {
+        if index.holds(cells, &[key]) != keys.contains(&key) {
+            right = false;
+        }
+    }
+    right
+}
+
+/// Puts leaves with these keys at some places.
+fn change(alloc: Global, cells: &mut [Slot], leaves: &[(usize, u8)]) -> Result<(), AllocError> {
+    for (x, key) in leaves {
+        put(cells, *x, leaf(alloc, *key, 1)?);
+    }
+    Ok(())
+}
+
+/// The index of eight cells without some, and with room for these.
+fn without_some(rt: &impl Abort, alloc: Global, cells: &[Slot]) -> Result<Index, AllocError>
+    ensures { IfOk result (λ t. 4 ≤ t.room) }
+{
+    let mut index = index(rt, alloc, KeyKind::Encryption, cells)?;
+    index.reserve(4)?;
+    index.leave_all(cells, &some());
+    Ok(index)
+}
+
+#[test]
+fn takes_many_out_at_once(rt: HostRuntime) -> Result<(), Fail> {
+    let alloc = rt.alloc();
+    let cells = eight(alloc)?;
+    let mut index = index(&rt, alloc, KeyKind::Encryption, &cells)?;
+    assert!(rt; finds(&index, &cells, &[10, 20, 30, 40, 50, 60, 70]));
+    index.leave_all(&cells, &inner());
+    assert!(rt; finds(&index, &cells, &[40, 50]));
+    index.leave_all(&cells, &some());
+    index.leave_all(&cells, &nowhere());
+    assert!(rt; finds(&index, &cells, &[]));
+    Ok(())
+}
+
+#[test]
+fn enters_many_at_once(rt: HostRuntime) -> Result<(), Fail> {
+    let alloc = rt.alloc();
+    let mut cells = eight(alloc)?;
+    let mut index = without_some(&rt, alloc, &cells)?;
+    assert!(rt; finds(&index, &cells, &[10, 20, 30, 60]));
+    change(alloc, &mut cells, &[(7, 25), (0, 80), (4, 5)])?;
+    index.enter_all(&cells, &some());
+    assert!(rt; finds(&index, &cells, &[5, 10, 20, 25, 30, 60, 80]));
+    assert!(rt; index.are_distinct());
+    Ok(())
+}
+
+#[test]
+fn enters_many_at_one_place(rt: HostRuntime) -> Result<(), Fail> {
+    let alloc = rt.alloc();
+    let mut cells = eight(alloc)?;
+    let mut index = without_some(&rt, alloc, &cells)?;
+    change(alloc, &mut cells, &[(7, 85), (0, 80), (4, 5), (3, 90)])?;
+    index.enter_all(&cells, &some());
+    assert!(rt; finds(&index, &cells, &[5, 10, 20, 30, 60, 80, 85, 90]));
+    assert!(rt; index.are_distinct());
+    Ok(())
+}
+
+#[test]
+fn enters_many_beside_their_key(rt: HostRuntime) -> Result<(), Fail> {
+    let alloc = rt.alloc();
+    let mut cells = eight(alloc)?;
+    let mut index = without_some(&rt, alloc, &cells)?;
+    change(alloc, &mut cells, &[(0, 20)])?;
+    index.enter_all(&cells, &some());
+    assert!(rt; finds(&index, &cells, &[10, 20, 30, 50, 60, 70]));
+    assert!(rt; !index.are_distinct());
+    index.leave_all(&cells, &some());
+    assert!(rt; finds(&index, &cells, &[10, 20, 30, 60]));
+    assert!(rt; index.are_distinct());
+    Ok(())
+}
+
+#[test]
+fn enters_many_of_one_key(rt: HostRuntime) -> Result<(), Fail> {
+    let alloc = rt.alloc();
+    let mut cells = eight(alloc)?;
+    let mut index = without_some(&rt, alloc, &cells)?;
+    change(alloc, &mut cells, &[(0, 50)])?;
+    index.enter_all(&cells, &some());
+    assert!(rt; !index.are_distinct());
+    index.leave_all(&cells, &at(7));
+    assert!(rt; finds(&index, &cells, &[10, 20, 30, 50, 60, 70]));
+    assert!(rt; index.are_distinct());
     Ok(())
 }

@@ -4,10 +4,10 @@ use Rattle.mls_term.specs.Sets.{is_distinct}
 use Rattle.mls_index.specs.Indexes.{Indexes}
 use Rattle.mls_index.specs.Cleared.{HasPlaces, cleared}
 use Rattle.mls_index.specs.ClearedLaws.{rest_distinct, first_without, rest_places, all_left, none_cleared}
-use Rattle.mls_index.proofs.index.Index.+leave_all.Goals as goal
+use Rattle.mls_index.proofs.index.Index.+leave_each.Goals as goal
 
-pub leave_all-requires : goal.leave_all-requires
-leave_all-requires t c =
+pub leave_each-requires : goal.leave_each-requires
+leave_each-requires t c =
     let shorter = c.in-Some.ensures.cases.1 in
     (omega arith, rest_distinct c.in-Some.x.now c.in-Some.rest.now (subst (λ ns. is_distinct nat_eq ns ≡ true) c.in-Some.ensures.cases.0 c.requires))
 
@@ -21,9 +21,9 @@ returns-in-Some-clause-left t c = λ d places is.
     let here = subst (λ ns. HasPlaces c.args.self.now.kind ns cells d) parts places in
     let first = c.leave.ensures.left (cleared 0 (x ∷ []) d) d (first_without x rest distinct c.args.self.now.kind cells d here) is in
     let more = subst (λ k. HasPlaces k rest cells (cleared 0 (x ∷ []) d)) (sym c.leave.ensures.kind) (rest_places x rest distinct c.args.self.now.kind cells d here) in
-    let all = c.leave_all.ensures.left (cleared 0 (x ∷ []) d) more first in
-    let there = subst (λ k. HasPlaces k (x ∷ rest) cells d) (sym (c.leave_all.ensures.kind ∙ c.leave.ensures.kind)) here in
-    subst (λ ns. Indexes (cleared 0 ns d) c.leave_all.new.self) (sym parts) (all_left x rest distinct c.leave_all.new.self cells d there all)
+    let all = c.leave_each.ensures.left (cleared 0 (x ∷ []) d) more first in
+    let there = subst (λ k. HasPlaces k (x ∷ rest) cells d) (sym (c.leave_each.ensures.kind ∙ c.leave.ensures.kind)) here in
+    subst (λ ns. Indexes (cleared 0 ns d) c.leave_each.new.self) (sym parts) (all_left x rest distinct c.leave_each.new.self cells d there all)
 
 pub returns-in_default-clause-left : goal.returns-in_default-clause-left
 returns-in_default-clause-left t c = λ d places is.
