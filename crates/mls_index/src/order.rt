@@ -10,14 +10,17 @@ use crate::kind::KeyKind;
 use mls_slot::Slot;
 use std::cmp::Ordering;
 
-/// The order of two keys. Most differ in their first byte, and a comparison of slices begins with more.
+/// The order of two keys. Most differ in one of their first bytes, and a comparison of slices begins with more.
 fn compare(own: &[u8], key: &[u8]) -> Ordering
     ensures { result ≡ slice_cmp nat_cmp own.now key.now }
 {
-    match (own.first(), key.first()) {
-        (Some(first), Some(other)) if first != other => first.cmp(other),
-        _ => own.cmp(key),
+    let both = own.len().min(key.len());
+    for x in 0..both {
+        if own[x] != key[x] {
+            return own[x].cmp(&key[x]);
+        }
     }
+    own.len().cmp(&key.len())
 }
 
 /// Whether the entry of a cell comes before that of a key and a number.
@@ -25,5 +28,8 @@ pub(crate) fn is_before(kind: KeyKind, cells: &[Slot], y: u32, key: &[u8], x: u3
     ensures { result ≡ is_lt (entry_cmp (entry_at (key_in kind cells.now) y) (key.now, x)) }
 {
     let own = kind.key_in(cells, y).unwrap_or(&[]);
-    compare(own, key).then(y.cmp(&x)).is_lt()
+    match compare(own, key) {
+        Ordering::Equal => y < x,
+        order => order.is_lt(),
+    }
 }
