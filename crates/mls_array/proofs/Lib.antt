@@ -2,6 +2,7 @@ pub mod Parts
 pub mod Readings
 pub mod Resolving
 pub mod Filtered
+pub mod Targets
 pub mod Taken
 pub mod Numbered
 pub mod Sent

@@ -1,14 +1,15 @@
 //! How many ciphertexts the nodes of a path have.
 
-ghost use Rattle.std.specs.Prelude.{◌≡◌, ◌+◌, ◌^◌, ◌≤◌, [], ◌∷◌, ◌++◌, length, if◌then◌else◌, IfOk, OnOk};
+ghost use Rattle.std.specs.Prelude.{◌≡◌, true, ◌+◌, ◌*◌, ◌^◌, ◌≤◌, [], ◌∷◌, ◌++◌, length, if◌then◌else◌, IfOk, OnOk};
+ghost use Rattle.mls_leaf.specs.Parent.{rises};
 ghost use Rattle.mls_treemath.specs.Paths.{nodes_in};
 ghost use Rattle.mls_term.specs.Sets.{has, less, leaf_numbers};
 ghost use Rattle.mls_term.specs.Resolution.{is_reached};
 ghost use Rattle.mls_term.specs.Way.{target_count, ciphertext_counts};
 ghost use Rattle.mls_term.specs.Arrays.{term_of};
 
-use crate::places::middle_of;
-use crate::resolutions::{is_reached, resolution};
+use crate::places::{leaf_in, middle_of, parent_in};
+use crate::resolutions::is_reached;
 use mls_slot::Slot;
 use std::alloc::AllocError;
 
@@ -24,18 +25,44 @@ fn is_one_of(leaves: &[u32], node: u64) -> bool
     false
 }
 
-/// How many nodes aren't among these leaves.
-fn count_others(nodes: &[u64], leaves: &[u32]) -> usize
-    ensures { result ≡ length (less (leaf_numbers leaves.now) nodes.now) }
+/// How many of some leaves aren't among the added ones: no more than 2^32 where they rise.
+fn count_others(leaves: &[u32], added: &[u32]) -> usize
+    ensures value { result ≡ length (less (leaf_numbers added.now) (leaf_numbers leaves.now)) }
+    ensures low { rises leaves.now ≡ true → result ≤ 2 ^ 32 }
 {
     let mut count = 0usize;
-    for node in nodes {
-        if is_one_of(leaves, *node) {
+    for leaf in leaves {
+        if is_one_of(added, 2 * u64::from(*leaf)) {
             continue;
         }
         count += 1;
     }
     count
+}
+
+/// How many nodes of the resolution aren't leaves just added.
+#[tactic(auto, using(mls_treemath::specs::Sizes::nodes_in_pos))]
+fn target_count(nodes: &[Slot], height: u32, first: u32, added: &[u32]) -> usize
+    requires shape { length nodes.now ≡ nodes_in height }
+    requires fits { first + 2 ^ height ≤ 2 ^ 31 }
+    ensures value { result ≡ target_count added.now first (term_of height nodes.now) }
+    ensures low { result ≤ length nodes.now * (2 ^ 32 + 1) }
+{
+    if height == 0 {
+        return match leaf_in(&nodes[0]) {
+            Some(_) => usize::from(!is_one_of(added, 2 * u64::from(first))),
+            None => 0,
+        };
+    }
+    let middle = middle_of(nodes.len(), height);
+    match parent_in(&nodes[middle]) {
+        Some(parent) => 1 + count_others(parent.unmerged_leaves(), added),
+        None => {
+            let second = first + (middle / 2 + 1) as u32;
+            let left = target_count(&nodes[..middle], height - 1, first, added);
+            left + target_count(&nodes[middle + 1..], height - 1, second, added)
+        }
+    }
 }
 
 /// Adds to `out` how many nodes of a side's resolution aren't leaves just added, where it has any node.
@@ -50,12 +77,9 @@ fn push_count(
     requires fits { first + 2 ^ height ≤ 2 ^ 31 }
     ensures { OnOk result (out.new.items ≡ out.old.items ++ (if is_reached first (term_of height side.now) then target_count added.now first (term_of height side.now) ∷ [] else [])) }
 {
-    if !is_reached(side, height) {
-        return Ok(());
+    if is_reached(side, height) {
+        out.push(target_count(side, height, first, added))?;
     }
-    let mut nodes = Vec::new(*out.allocator());
-    resolution(side, height, first, &mut nodes)?;
-    out.push(count_others(&nodes, added))?;
     Ok(())
 }
 

@@ -252,7 +252,7 @@ pub fn path_parents(
     ensures hash { IfOk result (λ p. hash_bytes p.hash ≡ path_hash first (term_of height nodes.now) leaf (reverse keys.items) []) }
 {
     let mut keys = keys;
-    let mut parents = Vec::new(alloc);
+    let mut parents = Vec::with_capacity(alloc, keys.len())?;
     let hash = add_parents(
         alloc,
         nodes,
