@@ -3,28 +3,27 @@ use Rattle.std.proofs.Common.{◌≡◌, ℕ, suc, ◌+◌, ◌*◌, ◌<◌, Li
 use Rattle.std.specs.List.{flat_map}
 use Rattle.std.proofs.lemmas.List.{take_more, take_all, length-append}
 use Rattle.std.proofs.lemmas.Grind.{flat_map-append}
-use Rattle.sha2.specs.Hashers.{Holds256}
-use Rattle.sha2.specs.declared.Sha256.{Sha256}
-use Rattle.mls_hash.specs.Feeds.{Feeds}
+use Rattle.mls_hash.specs.declared.feed.Feed.{Feed}
+use Rattle.mls_hash.specs.Feeds.{Holds, Feeds}
 
-pub feeds_then : {a b c : Sha256} {x y : List ℕ} → Feeds a x b → Feeds b y c → Feeds a (x ++ y) c
+pub feeds_then : {a b c : Feed} {x y : List ℕ} → Feeds a x b → Feeds b y c → Feeds a (x ++ y) c
 feeds_then {a} {b} {c} {x} {y} p q = record {
-  fed = λ text held. subst (λ (l : List ℕ). Holds256 c l) (append_assoc text x y) (q.fed (text ++ x) (p.fed text held));
+  fed = λ text held. subst (λ (l : List ℕ). Holds c l) (append_assoc text x y) (q.fed (text ++ x) (p.fed text held));
 }
 
-pub feeds_nothing : {a : Sha256} → Feeds a [] a
-feeds_nothing {a} = record { fed = λ text held. subst (λ (l : List ℕ). Holds256 a l) (sym (append-nil text)) held }
+pub feeds_nothing : {a : Feed} → Feeds a [] a
+feeds_nothing {a} = record { fed = λ text held. subst (λ (l : List ℕ). Holds a l) (sym (append-nil text)) held }
 
 pub ruleset feeding = (feeds_then, feeds_nothing)
 
 -- ---- items in a loop
 
 -- no item yet
-pub feeds_first : {a b : Sha256} {x : List ℕ} → Feeds a x b → Feeds a (x ++ []) b
+pub feeds_first : {a b : Feed} {x : List ℕ} → Feeds a x b → Feeds a (x ++ []) b
 feeds_first {a} {b} {x} h = subst (λ (l : List ℕ). Feeds a l b) (sym (append-nil x)) h
 
 -- one item more
-pub feeds_more : (x : List ℕ) (f : ℕ → List ℕ) (xs : List ℕ) (i : ℕ) {a b c : Sha256} → i < length xs → Feeds a (x ++ flat_map f (take i xs)) b → Feeds b (f (get_or xs i 0)) c
+pub feeds_more : (x : List ℕ) (f : ℕ → List ℕ) (xs : List ℕ) (i : ℕ) {a b c : Feed} → i < length xs → Feeds a (x ++ flat_map f (take i xs)) b → Feeds b (f (get_or xs i 0)) c
     → Feeds a (x ++ flat_map f (take (i + 1) xs)) c
 feeds_more x f xs i {a} {b} {c} lt p q =
     let more : flat_map f (take (i + 1) xs) ≡ flat_map f (take i xs) ++ f (get_or xs i 0) =
@@ -32,7 +31,7 @@ feeds_more x f xs i {a} {b} {c} lt p q =
     subst (λ (l : List ℕ). Feeds a l c) (append_assoc x (flat_map f (take i xs)) (f (get_or xs i 0)) ∙ ap (λ (l : List ℕ). x ++ l) (sym more)) (feeds_then p q)
 
 -- all items, behind the header of their length
-pub feeds_all : (header f : ℕ → List ℕ) (xs : List ℕ) (n i : ℕ) {a b : Sha256} → n ≡ length (flat_map f xs) → length xs ≡ i → Feeds a (header n ++ flat_map f (take i xs)) b
+pub feeds_all : (header f : ℕ → List ℕ) (xs : List ℕ) (n i : ℕ) {a b : Feed} → n ≡ length (flat_map f xs) → length xs ≡ i → Feeds a (header n ++ flat_map f (take i xs)) b
     → Feeds a (header (length (flat_map f xs)) ++ flat_map f xs) b
 feeds_all header f xs n i {a} {b} e all h =
     subst (λ (l : List ℕ). Feeds a l b) (ap (λ (k : ℕ). header k ++ flat_map f (take i xs)) e ∙ ap (λ (l : List ℕ). header (length (flat_map f xs)) ++ flat_map f l) (take_all i xs (omega arith))) h

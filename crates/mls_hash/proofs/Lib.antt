@@ -1,3 +1,4 @@
 pub mod Feeding
 pub mod Headers
 pub mod Parents
+pub mod Waiting

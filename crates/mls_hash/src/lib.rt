@@ -1,7 +1,8 @@
-//! The hashes of the nodes of a ratchet tree: tree hashes and parent hashes (RFC 9420, 7.8 and 7.9). No input stands
-//! in memory as a whole: its pieces are fed to the hasher one after another, so no call takes memory.
+//! The hashes of the nodes of a ratchet tree: tree hashes and parent hashes (RFC 9420, 7.8 and 7.9). The pieces
+//! of an input wait side by side on the stack until the hasher takes them, so no call takes memory.
 #![tactic(auto)]
 
+mod feed;
 mod hashes;
 mod nodes;
 mod pieces;

@@ -8,4 +8,4 @@ pub returns : goal.returns
 returns c =
     let fed = feeds_then c.add_vector.ensures (feeds_then c.add_vector-2.ensures c.add_entries.ensures) in
     let named = rw (c.encryption_key.ensures, c.parent_hash.ensures, c.unmerged_leaves.ensures.entries) at fed in
-    subst (λ (l : List ℕ). Feeds c.args.hasher.now l c.add_entries.new.hasher) (parent_spelled c.args.parent.now) named
+    subst (λ (l : List ℕ). Feeds c.args.feed.now l c.add_entries.new.feed) (parent_spelled c.args.parent.now) named

@@ -11,4 +11,4 @@ returns c =
     let p : Parent = record { encryption_key = c.args.parent.now.encryption_key; parent_hash = c.args.parent.now.parent_hash; unmerged_leaves = less c.args.unmerged.now c.args.parent.now.unmerged_leaves } in
     let fed = feeds_then c.add_vector.ensures (feeds_then c.add_vector-2.ensures c.add_remaining.ensures) in
     let named = rw (c.encryption_key.ensures, c.parent_hash.ensures, c.unmerged_leaves.ensures.entries) at fed in
-    subst (λ (l : List ℕ). Feeds c.args.hasher.now l c.add_remaining.new.hasher) (parent_spelled p) named
+    subst (λ (l : List ℕ). Feeds c.args.feed.now l c.add_remaining.new.feed) (parent_spelled p) named

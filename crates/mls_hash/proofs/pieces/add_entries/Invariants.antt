@@ -6,4 +6,4 @@ use Rattle.mls_hash.specs.Feeds.{Feeds}
 use Rattle.mls_hash.proofs.pieces.add_entries.Given as goal
 
 abbrev pub invariant-loop-entry : goal.invariant-loop-entry
-invariant-loop-entry l = Feeds l.fn.hasher (header (4 * length l.entries) ++ flat_map (uint w32) (take l.entry-index l.entries)) l.hasher
+invariant-loop-entry l = Feeds l.fn.feed (header (4 * length l.entries) ++ flat_map (uint w32) (take l.entry-index l.entries)) l.feed

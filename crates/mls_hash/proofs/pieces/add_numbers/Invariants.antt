@@ -6,4 +6,4 @@ use Rattle.mls_hash.specs.Feeds.{Feeds}
 use Rattle.mls_hash.proofs.pieces.add_numbers.Given as goal
 
 abbrev pub invariant-loop-n : goal.invariant-loop-n
-invariant-loop-n l = Feeds l.fn.hasher (header (2 * length l.numbers) ++ flat_map (uint w16) (take l.n-index l.numbers)) l.hasher
+invariant-loop-n l = Feeds l.fn.feed (header (2 * length l.numbers) ++ flat_map (uint w16) (take l.n-index l.numbers)) l.feed
