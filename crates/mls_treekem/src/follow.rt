@@ -61,7 +61,7 @@ impl PrivatePath {
     {
         let alloc = *self.above.allocator();
         let places = parents_over(alloc, tree, self.leaf)?;
-        let mut above = Vec::new(alloc);
+        let mut above = Vec::with_capacity(alloc, places.len())?;
         self.push_followed(tree, &places, &mut above)?;
         let own = key_after(own_key, &self.own);
         self.above = above;

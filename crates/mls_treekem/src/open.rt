@@ -152,11 +152,11 @@ impl PrivatePath {
         Err(TreeKemError::OpenFailed)
     }
 
-    /// The keys up to this height, the lowest first, without the leaf's.
+    /// The keys up to this height, the lowest first, without the leaf's. There is room for as many as are held now.
     fn keys_up_to(&self, height: u32) -> Result<Vec<Option<Secret>>, OutOfMemory>
         ensures { IfOk result (λ v. AreKeysUpTo height self.now v.items) }
     {
-        let mut above = Vec::new(*self.above.allocator());
+        let mut above = Vec::with_capacity(*self.above.allocator(), self.above.len())?;
         for i in 0..height {
             above.push(self.key_at(i + 1))?;
         }

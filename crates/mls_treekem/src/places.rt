@@ -74,8 +74,9 @@ pub(crate) fn parents_over(
 ) -> Result<Vec<Place>, OutOfMemory>
     ensures { IfOk result (λ v. IsWay (term tree.now) i v.items) }
 {
-    let mut places = Vec::new(alloc);
-    push_places(tree.leaf_count().trailing_zeros(), 0, i, &mut places)?;
+    let height = tree.leaf_count().trailing_zeros();
+    let mut places = Vec::with_capacity(alloc, height as usize)?;
+    push_places(height, 0, i, &mut places)?;
     Ok(places)
 }
 

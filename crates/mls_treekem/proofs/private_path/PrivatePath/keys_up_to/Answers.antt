@@ -3,7 +3,7 @@ use Rattle.mls_treekem.proofs.Opening.{keys_none, keys_more, same_height}
 use Rattle.mls_treekem.proofs.private_path.PrivatePath.keys_up_to.Goals as goal
 
 pub loop-i-init : goal.loop-i-init
-loop-i-init c = keys_none c.args.self.now c.new-above.result.items c.new-above.ensures.items
+loop-i-init c = keys_none c.args.self.now c.in_ok-above.above.items c.in_ok-above.ensures.items
 
 pub loop-i-preserved : goal.loop-i-preserved
 loop-i-preserved c =
