@@ -1,12 +1,14 @@
 -- The indexes of a tree's keys after a call.
-use Rattle.std.proofs.Common.{◌≡◌, ℕ, suc, ◌+◌, ◌-◌, ◌*◌, ◌%◌, ◌^◌, ◌<◌, ◌≤◌, nat_eq, true, List, ◌++◌, length, take, replicate, Option, Some, None, refl, sym, ◌∙◌, ap, subst, arith, add-one, pow-suc}
+use Rattle.std.proofs.Common.{◌≡◌, ℕ, suc, ◌+◌, ◌-◌, ◌*◌, ◌%◌, ◌^◌, ◌<◌, ◌≤◌, nat_eq, Bool, true, false, cond, List, ◌++◌, length, take, replicate, Option, Some, None, refl, sym, ◌∙◌, ap, subst, arith, add-one, pow-suc}
+use Rattle.std.specs.Bool.{OnTrue}
+use Rattle.std.proofs.lemmas.Bool.{true≢false}
 use Rattle.std.proofs.lemmas.Nat.{one_shl}
 use Rattle.std.proofs.lemmas.List.{length-take-le}
 use Rattle.mls_leaf.specs.declared.leaf.LeafNode.{LeafNode}
 use Rattle.mls_leaf.specs.declared.node.Node.{Node}
 use Rattle.mls_treemath.specs.Paths.{nodes_in}
 use Rattle.mls_treemath.specs.Limits.{max_height}
-use Rattle.mls_term.specs.Term.{Term}
+use Rattle.mls_term.specs.Term.{Term, leaf_of}
 use Rattle.mls_term.specs.Sets.{is_distinct}
 use Rattle.mls_term.specs.Edits.{put, enter, grow, trim, first_blank}
 use Rattle.mls_term.specs.Merge.{merge_path}
@@ -21,7 +23,8 @@ use Rattle.mls_index.specs.Cleared.{cleared}
 use Rattle.mls_index.specs.StepLaws.{same_index}
 use Rattle.mls_index.specs.Laws.{indexes_padded}
 use Rattle.mls_tree.specs.declared.key_indexes.KeyIndexes.{KeyIndexes}
-use Rattle.mls_tree.specs.Indexed.{AreIndexes, AreSame, Fills}
+use Rattle.mls_tree.specs.Indexed.{AreIndexes, AreBeside, AreSame, Fills, IsClient}
+use Rattle.mls_tree.specs.ClientLaws.{indexes-client}
 use Rattle.mls_tree.specs.Way.{way_numbers}
 use Rattle.mls_tree.specs.WayLaws.{way_distinct}
 use Rattle.mls_tree.specs.WayIndexes.{indexes-put, indexes-merge, indexes-remove}
@@ -73,8 +76,20 @@ module _ (h i : ℕ) (xs ys : List (Option Node)) (s : KeyIndexes) (stands : Sta
   pub indexed-remove : StandsFor h ys (put 0 (term_of h xs) i None) → AreIndexes (cleared 0 (way_numbers h i) xs) s → AreIndexes ys s
   indexed-remove edited = both_of _ _ s (λ t. indexes-remove h i xs stands t ys edited)
 
-  pub indexed-merge : (x : LeafNode) (keys : List (List ℕ)) → StandsFor h ys (merge_path (term_of h xs) i x keys) → AreIndexes (cleared 0 (way_numbers h i) xs) s → AreIndexes (cleared 0 (way_numbers h i) ys) s
-  indexed-merge x keys edited = both_of _ _ s (λ t. indexes-merge h i xs stands t ys _ _ x (subst (StandsFor h ys) (sym (merge_is (term_of h xs) i x keys)) edited))
+  pub indexed-merge : (x : LeafNode) (keys : List (List ℕ)) (kept : Bool) → (kept ≡ true → IsClient x.signature_key (leaf_of (term_of h xs) i)) → StandsFor h ys (merge_path (term_of h xs) i x keys) → AreBeside kept (way_numbers h i) xs s → AreBeside kept (way_numbers h i) ys s
+  indexed-merge x keys kept client edited is = record {
+    encryption = is.encryption;
+    signature = is.signature;
+    keys = beside s.keys is.keys;
+    clients = clients kept client is.clients;
+  }
+    where
+      beside : (t : Listing) → Indexes (cleared 0 (way_numbers h i) xs) t → Indexes (cleared 0 (way_numbers h i) ys) t
+      beside t = indexes-merge h i xs stands t ys _ _ x (subst (StandsFor h ys) (sym (merge_is (term_of h xs) i x keys)) edited)
+
+      clients : (v : Bool) → (v ≡ true → IsClient x.signature_key (leaf_of (term_of h xs) i)) → Indexes (cond v xs (cleared 0 (way_numbers h i) xs)) s.clients → Indexes (cond v ys (cleared 0 (way_numbers h i) ys)) s.clients
+      clients true own = indexes-client h i xs ys stands x keys (own refl) s.clients is.signature edited
+      clients false own = beside s.clients
 
 pub first_is : (h : ℕ) (xs cells : List (Option Node)) → cells ≡ xs → (o : Option ℕ) → o ≡ first_blank 0 (term_of h cells) → first_blank 0 (term_of h xs) ≡ o
 first_is h xs cells same o e = sym (e ∙ ap (λ ys. first_blank 0 (term_of h ys)) same)
@@ -112,6 +127,22 @@ pub entered_by : (ns places : List ℕ) (ys cells : List (Option Node)) (s t : K
 entered_by ns places ys cells s t way same entered is =
     subst (λ cs. AreIndexes cs t) same
     (entered (subst (λ ms. AreIndexes (cleared 0 ms cells) s) (sym way) (subst (λ cs. AreIndexes (cleared 0 ns cs) s) (sym same) is)))
+
+-- the same of a path
+pub left_beside : (kept : Bool) (ns places : List ℕ) (xs cells : List (Option Node)) (s t : KeyIndexes) → places ≡ ns → cells ≡ xs → (AreIndexes cells s → AreBeside kept places cells t) → AreIndexes xs s → AreBeside kept ns xs t
+left_beside kept ns places xs cells s t way same left is =
+    subst (λ ms. AreBeside kept ms xs t) way
+    (subst (λ cs. AreBeside kept places cs t) same (left (subst (λ cs. AreIndexes cs s) (sym same) is)))
+
+pub entered_beside : (kept : Bool) (ns places : List ℕ) (ys cells : List (Option Node)) (s t : KeyIndexes) → places ≡ ns → cells ≡ ys → (AreBeside kept places cells s → AreIndexes cells t) → AreBeside kept ns ys s → AreIndexes ys t
+entered_beside kept ns places ys cells s t way same entered is =
+    subst (λ cs. AreIndexes cs t) same
+    (entered (subst (λ ms. AreBeside kept ms cells s) (sym way) (subst (λ cs. AreBeside kept ns cs s) (sym same) is)))
+
+-- a leaf that was found to keep its signature key
+pub kept_client : (kept : Bool) (k : List ℕ) (h i : ℕ) (xs cells : List (Option Node)) → cells ≡ xs → OnTrue kept (IsClient k (leaf_of (term_of h cells) i)) → kept ≡ true → IsClient k (leaf_of (term_of h xs) i)
+kept_client true k h i xs cells same own e = subst (λ cs. IsClient k (leaf_of (term_of h cs) i)) same own
+kept_client false k h i xs cells same own e = absurd (true≢false (sym e))
 
 -- a cell filled
 pub filled_by : (x n : ℕ) (b ys cells : List (Option Node)) (s t : KeyIndexes) → n ≡ x → cells ≡ ys → (Fills n b cells → AreIndexes b s → AreIndexes cells t) → Fills x b ys → AreIndexes b s → AreIndexes ys t

@@ -1,8 +1,10 @@
 -- The indexes that a tree keeps of its keys.
-use Rattle.std.specs.Prelude.{◌≡◌, ℕ, ◌≤◌, List, length, Option, None}
+use Rattle.std.specs.Prelude.{◌≡◌, ℕ, ◌≤◌, Bool, cond, List, length, Option, Some, None}
+use Rattle.mls_leaf.specs.declared.leaf.LeafNode.{LeafNode}
 use Rattle.mls_leaf.specs.declared.node.Node.{Node}
 use Rattle.mls_index.specs.declared.kind.KeyKind.{KeyKind}
 use Rattle.mls_index.specs.declared.kind.KeyKind.TheVariants.{Encryption, Signature}
+use Rattle.mls_index.specs.Cleared.{cleared}
 use Rattle.mls_index.specs.Keys.{key_in}
 use Rattle.mls_index.specs.Indexes.{Indexes, SameIndex}
 use Rattle.mls_tree.specs.declared.key_indexes.KeyIndexes.{KeyIndexes}
@@ -29,3 +31,15 @@ pub record Fills (x : ℕ) (b c : List (Option Node)) : Type 0 where
   pub long : length b ≡ length c
   pub blank : (k : KeyKind) → key_in k b x ≡ None
   pub others : (k : KeyKind) (y : ℕ) → (y ≡ x → ⊥) → key_in k b y ≡ key_in k c y
+
+-- a leaf that may be missing has this signature key
+abbrev pub IsClient : List ℕ → Option LeafNode → Type 0
+IsClient key None = ⊥
+IsClient key (Some v) = v.signature_key ≡ key
+
+-- the index of keys is of the cells but for those at some places, that of clients too, or of all cells where it is kept
+pub record AreBeside (kept : Bool) (places : List ℕ) (cells : List (Option Node)) (t : KeyIndexes) : Type 0 where
+  pub encryption : t.keys.kind ≡ Encryption
+  pub signature : t.clients.kind ≡ Signature
+  pub keys : Indexes (cleared 0 places cells) t.keys
+  pub clients : Indexes (cond kept cells (cleared 0 places cells)) t.clients

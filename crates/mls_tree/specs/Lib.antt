@@ -21,6 +21,7 @@ pub mod BesideLaws
 pub mod BlankLaws
 pub mod WayIndexes
 pub mod Indexed
+pub mod ClientLaws
 pub mod KindLaws
 pub mod MergedKeyLaws
 pub mod Prepared

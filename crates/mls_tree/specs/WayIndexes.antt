@@ -27,7 +27,7 @@ pub own_places : (k : KeyKind) (ns : List ℕ) (cells : List (Option Node)) → 
 own_places k ns cells = record { wide = refl; part = λ x some. refl; here = λ x h. refl }
 
 -- the list of an edited tree
-listed : (h : ℕ) (ys : List (Option Node)) (t : Term) → StandsFor h ys t → ys ≡ in_order t
+pub listed : (h : ℕ) (ys : List (Option Node)) (t : Term) → StandsFor h ys t → ys ≡ in_order t
 listed h ys t edited = sym edited.stands.order ∙ ap in_order edited.term
 
 module _ (h i : ℕ) (xs : List (Option Node)) (stands : Stands h xs) where

@@ -7,7 +7,7 @@ ghost use Rattle.mls_term.specs.Good.{has_distinct_keys, has_distinct_clients};
 ghost use Rattle.mls_term.specs.Arrays.{term_of};
 ghost use Rattle.mls_array.specs.Standing.{Stands};
 ghost use Rattle.mls_index.specs.Cleared.{cleared};
-ghost use Rattle.mls_tree.specs.Indexed.{AreIndexes, HaveRoom, AreSame, Fills};
+ghost use Rattle.mls_tree.specs.Indexed.{AreIndexes, AreBeside, HaveRoom, AreSame, Fills};
 
 use mls_index::{Index, KeyKind};
 use mls_slot::Slot;
@@ -69,6 +69,31 @@ impl KeyIndexes {
     {
         self.keys.enter_all(cells, places);
         self.clients.enter_all(cells, places);
+    }
+
+    /// Takes out the cells of a leaf's way, but from the index of clients where that is kept: before the leaf and the
+    /// parents over it are replaced.
+    pub(crate) fn leave_path(&mut self, cells: &[Slot], way: &[u32], kept: bool)
+        requires { is_distinct nat_eq way.now ≡ true }
+        ensures room { (n : ℕ) → HaveRoom n self.old → HaveRoom n self.new }
+        ensures left { AreIndexes cells.now self.old → AreBeside kept way.now cells.now self.new }
+    {
+        self.keys.leave_all(cells, way);
+        if !kept {
+            self.clients.leave_all(cells, way);
+        }
+    }
+
+    /// Enters the cells of a leaf's way, but into the index of clients where that was kept: after they were replaced.
+    pub(crate) fn enter_path(&mut self, cells: &[Slot], way: &[u32], kept: bool)
+        requires distinct { is_distinct nat_eq way.now ≡ true }
+        requires room { HaveRoom (length way.now) self.old }
+        ensures { AreBeside kept way.now cells.now self.old → AreIndexes cells.now self.new }
+    {
+        self.keys.enter_all(cells, way);
+        if !kept {
+            self.clients.enter_all(cells, way);
+        }
     }
 
     /// Takes out all cells from this number on: before they are cut off.

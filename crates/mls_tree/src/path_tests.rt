@@ -26,11 +26,12 @@ fn a_path_is_merged(rt: HostRuntime) -> Result<(), Fail> {
     Ok(())
 }
 
-/// Two members, with the keys 1 and 2. The path of each is prepared, then followed.
+/// Two members, with the keys 1 and 2. The path of each is prepared, then followed, one with the keys of the leaf before.
 const FOLLOWED: &[Row] = &[
     (Single(1), Done),
     (Add(2), Is(&[1])),
     (Follow(0, 3, 4), Is(&[1, 2])),
+    (Follow(0, 3, 9), Is(&[1, 2])),
     (Resolution(1), Is(&[1])),
     (Merge(1, 3, 5), Refused(25)),
     (Follow(1, 1, 2), Is(&[1, 2])),

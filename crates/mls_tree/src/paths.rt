@@ -1,9 +1,11 @@
 //! A commit's path: the parent hash of its leaf, and its merge.
 
 ghost use Rattle.std.specs.Prelude.{◌≡◌, ℕ, ◌≤◌, List, [], reverse, length, None, Ok, IfOk, OnOk, OnErr};
+ghost use Rattle.std.specs.Bool.{OnTrue};
 ghost use Rattle.mls_wire.specs.Checks.{passed, Answers, AnswersOutright};
 ghost use Rattle.mls_treemath.specs.Limits.{max_height};
 ghost use Rattle.mls_term.specs.Node.{source_hash};
+ghost use Rattle.mls_term.specs.Term.{leaf_of};
 ghost use Rattle.mls_term.specs.Sets.{same_bytes, is_distinct};
 ghost use Rattle.mls_term.specs.Way.{path_length};
 ghost use Rattle.mls_term.specs.Hashes.{is_some_bytes};
@@ -18,12 +20,14 @@ ghost use Rattle.mls_array.specs.StandingLaws.{StandsFor};
 ghost use Rattle.mls_array.specs.Merging.{hash_bytes, path_parents};
 ghost use Rattle.mls_tree.specs.Cold.{Warms, Chills};
 ghost use Rattle.mls_tree.specs.Faults.{number_of};
+ghost use Rattle.mls_tree.specs.Indexed.{AreIndexes, AreSame, IsClient};
 ghost use Rattle.mls_tree.specs.Kept.{KeepsGood, MergesGood};
 ghost use Rattle.mls_tree.specs.Refusals.{RefusesOutright};
 ghost use Rattle.mls_tree.specs.Tree.{Tree, term};
 ghost use Rattle.mls_tree.specs.Paths.{path_checks, path_hash_answer, counts_answer, merge_checks, merge_answer, ChangesWhole};
 
 use crate::error::TreeError;
+use crate::key_indexes::KeyIndexes;
 use crate::tree::PublicTree;
 use crate::way::Way;
 use mls_array::{self as array, Hash, MergedPath};
@@ -32,19 +36,52 @@ use mls_slot::{SharedLeaf, SharedParent, Slot};
 use std::alloc::AllocError;
 
 /// Merges a path whose parents these are, the highest first. Takes no memory.
-pub(crate) fn merge(
-    nodes: &mut Vec<Slot>,
-    height: u32,
-    i: u32,
-    leaf: SharedLeaf,
-    parents: Vec<SharedParent>,
-)
+fn merge(nodes: &mut Vec<Slot>, height: u32, i: u32, leaf: SharedLeaf, parents: Vec<SharedParent>)
     requires stands { Stands height nodes.old.items }
     requires low { height ≤ max_height }
     ensures { (keys : List (List ℕ)) → parents.items ≡ path_parents 0 (term_of height nodes.old.items) i (reverse keys) [] → StandsFor height nodes.new.items (merge_path (term_of height nodes.old.items) i leaf keys) }
 {
     let mut parents = parents.into_iter();
     array::merge(nodes, height, 0, i, &mut parents, leaf);
+}
+
+/// Whether leaf i has this signature key.
+fn is_client(nodes: &[Slot], height: u32, i: u32, key: &Bytes) -> bool
+    requires { Stands height nodes.now }
+    ensures { OnTrue result (IsClient key.now (leaf_of (term_of height nodes.now) i)) }
+{
+    match array::leaf(nodes, height, i) {
+        Some(leaf) => leaf.signature_key == *key,
+        None => false,
+    }
+}
+
+/// Merges a path whose parents these are, the highest first, and its keys into the indexes. Where the leaf keeps its
+/// signature key, the index of clients stays as it is. Without memory for the leaf or the indexes all stays.
+pub(crate) fn merge_indexed(
+    nodes: &mut Vec<Slot>,
+    indexes: &mut KeyIndexes,
+    height: u32,
+    i: u32,
+    leaf: LeafNode,
+    parents: Vec<SharedParent>,
+) -> Result<(), AllocError>
+    requires stands { Stands height nodes.old.items }
+    requires low { height ≤ max_height }
+    ensures merged { OnOk result ((keys : List (List ℕ)) → parents.items ≡ path_parents 0 (term_of height nodes.old.items) i (reverse keys) [] → StandsFor height nodes.new.items (merge_path (term_of height nodes.old.items) i leaf keys)) }
+    ensures indexed { OnOk result ((keys : List (List ℕ)) → parents.items ≡ path_parents 0 (term_of height nodes.old.items) i (reverse keys) [] → AreIndexes nodes.old.items indexes.old → AreIndexes nodes.new.items indexes.new) }
+    ensures unchanged { OnErr result (nodes.new.items ≡ nodes.old.items) }
+    ensures same { OnErr result (AreSame indexes.old indexes.new) }
+{
+    let kept = is_client(nodes, height, i, &leaf.signature_key);
+    let leaf = SharedLeaf::new(*nodes.allocator(), leaf)?;
+    let way = Way::over(height, i);
+    let places = way.as_slice();
+    indexes.reserve(places.len())?;
+    indexes.leave_path(nodes, places, kept);
+    merge(nodes, height, i, leaf, parents);
+    indexes.enter_path(nodes, places, kept);
+    Ok(())
 }
 
 /// Whether the leaf's source is a commit with this parent hash.
@@ -150,7 +187,8 @@ impl PublicTree {
             Err(error) => return Err(error),
             Ok(()) => {}
         }
-        let mut counts = Vec::new(*self.nodes.allocator());
+        let levels = self.height as usize;
+        let mut counts = Vec::with_capacity(*self.nodes.allocator(), levels)?;
         array::ciphertext_counts(&self.nodes, self.height, 0, i, added, &mut counts)?;
         Ok(counts)
     }
@@ -197,14 +235,8 @@ impl PublicTree {
             Err(error) => return Err(error),
             Ok(parents) => parents,
         };
-        let leaf = SharedLeaf::new(*self.nodes.allocator(), leaf)?;
         let height = self.height;
-        let way = Way::over(height, i);
-        let places = way.as_slice();
-        self.indexes.reserve(places.len())?;
-        self.indexes.leave_all(&self.nodes, places);
-        merge(&mut self.nodes, height, i, leaf, parents);
-        self.indexes.enter_all(&self.nodes, places);
+        merge_indexed(&mut self.nodes, &mut self.indexes, height, i, leaf, parents)?;
         self.hashes.drop_way(height, i);
         Ok(())
     }

@@ -21,12 +21,11 @@ ghost use Rattle.mls_tree.specs.Refusals.{RefusesOutright};
 ghost use Rattle.mls_tree.specs.Tree.{Tree, term};
 
 use crate::error::TreeError;
-use crate::paths::merge;
+use crate::paths::merge_indexed;
 use crate::tree::PublicTree;
-use crate::way::Way;
 use mls_array::{self as array, Hash};
 use mls_leaf::{Bytes, LeafNode};
-use mls_slot::{SharedLeaf, SharedParent};
+use mls_slot::SharedParent;
 use std::alloc::AllocError;
 use std::marker::Model;
 
@@ -34,7 +33,7 @@ use std::marker::Model;
 #[derive(Drop)]
 pub struct PreparedPath {
     index: u32,
-    leaf: SharedLeaf,
+    leaf: LeafNode,
     /// The parents over the leaf, the highest first.
     parents: Vec<SharedParent>,
     /// The tree hashes of the leaf and of the nodes over it, the lowest first.
@@ -109,7 +108,6 @@ impl PublicTree {
             Ok(parents) => parents,
         };
         let (hashes, root) = self.hashes_over(i, &leaf, &parents)?;
-        let leaf = SharedLeaf::new(*self.nodes.allocator(), leaf)?;
         Ok(PreparedPath {
             index: i,
             leaf,
@@ -120,7 +118,7 @@ impl PublicTree {
     }
 
     /// Merges a path that was prepared for this tree, in which no node is cold before or after: nothing is checked again,
-    /// and no hash made. Without memory for the indexes the tree is as before.
+    /// and no hash made. Without memory for the leaf or the indexes the tree is as before.
     pub fn follow_path(&mut self, path: PreparedPath) -> Result<(), AllocError>
         requires warm { self.old.kept ≡ hashes_of 0 (term self.old) }
         requires prepared { IsFor (term self.old) path }
@@ -134,12 +132,8 @@ impl PublicTree {
         ensures unchanged { OnErr result (self.new ≡ self.old) }
     {
         let height = self.height;
-        let way = Way::over(height, path.index);
-        let places = way.as_slice();
-        self.indexes.reserve(places.len())?;
-        self.indexes.leave_all(&self.nodes, places);
-        merge(&mut self.nodes, height, path.index, path.leaf, path.parents);
-        self.indexes.enter_all(&self.nodes, places);
+        let (nodes, indexes) = (&mut self.nodes, &mut self.indexes);
+        merge_indexed(nodes, indexes, height, path.index, path.leaf, path.parents)?;
         self.hashes.put_way(height, path.index, &path.hashes);
         Ok(())
     }

@@ -15,7 +15,7 @@ returns-clause-answer c =
     counts_found _ _ c.args.added.now c.in-Ok.ensures
     ∙ ap (λ t. Ok (ciphertext_counts 0 (term t) c.args.i c.args.added.now)) (sym c.self.view_is)
     ∙ ap (λ xs. Ok (ciphertext_counts 0 (term_of c.self.inside.height xs) c.args.i c.args.added.now)) (sym c.deref.ensures.value)
-    ∙ ap Ok (sym (rw c.new-counts.ensures.items at c.in_ok-ciphertext_counts.ensures))
+    ∙ ap Ok (sym (rw c.in_ok-counts.ensures.items at c.in_ok-ciphertext_counts.ensures))
 
 pub returns-in-Err-clause-outright : goal.returns-in-Err-clause-outright
 returns-in-Err-clause-outright c = one_number _ _ (counts_refused _ _ c.args.added.now c.in-Err.ensures.1 ∙ ap (λ e. Err (number_of e)) (sym c.in-Err.ensures.0))
@@ -25,3 +25,6 @@ returns-in_err-ciphertext_counts-clause-outright c = λ n h. absurd (not_refused
 
 pub returns-clause-outright : goal.returns-clause-outright
 returns-clause-outright c = not_refused _ _ (counts_found _ _ c.args.added.now c.in-Ok.ensures)
+
+pub returns-in_err-counts-clause-outright : goal.returns-in_err-counts-clause-outright
+returns-in_err-counts-clause-outright c = λ n h. absurd (not_refused _ _ (counts_found _ _ c.args.added.now c.in-Ok.ensures) n h)

@@ -11,8 +11,6 @@ use Rattle.mls_tree.proofs.Keepings.{kept_long, kept-merge}
 use Rattle.mls_tree.proofs.Bounding.{merged}
 use Rattle.mls_tree.proofs.Pathing.{merge_refused, merge_done}
 use Rattle.mls_tree.proofs.Chilling.{tree_of, warmed, edited_in, on_err}
-use Rattle.mls_tree.specs.Way.{way_numbers}
-use Rattle.mls_tree.proofs.Indexing.{same_indexes, left_by, entered_by, way_once, indexed-merge}
 use Rattle.mls_tree.proofs.tree.PublicTree.merge_path.Goals as goal
 
 pub returns-in-Err-clause-answer : goal.returns-in-Err-clause-answer
@@ -22,25 +20,11 @@ returns-in-Err-clause-answer c =
 pub drop_way-requires-clause-shape : goal.drop_way-requires-clause-shape
 drop_way-requires-clause-shape c = kept_long c.self.inside.height c.self.inside.nodes.items _ c.self.invariant.2
 
-pub invariant_of-self : goal.invariant_of-self
-invariant_of-self c = (c.self.invariant.0, c.self.invariant.1, c.self.invariant.2, c.self.invariant.3, same_indexes c.self.inside.nodes.items _ _ c.in_err-reserve.ensures.same c.self.invariant.4)
-
-pub invariant_of-self-2 : goal.invariant_of-self-2
-invariant_of-self-2 c =
-    let made = c.in-Ok.ensures.parents ∙ ap (λ t. path_parents 0 (term t) c.args.i (reverse c.args.keys.items) []) (sym c.self.view_is) in
-    let stands = c.merge.ensures c.args.keys.items made in
-    let way = c.as_slice-places.ensures ∙ c.over-way.ensures in
-    let reserved = same_indexes c.self.inside.nodes.items _ _ c.in_ok-reserve.ensures.same c.self.invariant.4 in
-    let left = left_by (way_numbers c.self.inside.height c.args.i) _ c.self.inside.nodes.items _ _ _ way c.deref.ensures.value c.leave_all.ensures.left reserved in
-    let beside = indexed-merge c.self.inside.height c.args.i c.self.inside.nodes.items _ _ c.self.invariant.0 _ c.args.keys.items stands left in
-    let entered = entered_by (way_numbers c.self.inside.height c.args.i) _ c.merge.new.nodes.items _ _ _ way c.deref-2.ensures.value c.enter_all.ensures beside in
-    (stands.stands, c.self.invariant.1, kept-merge _ _ _ c.self.invariant.2 _ _ _ _ _ _ (c.drop_way.ensures.kept _ (perfect-term_of _ _)) stands, merged _ _ _ _ _ (ap term c.self.view_is) c.self.invariant.3 _ _ _ _ _ stands (merge_member _ _ _ _ _ (merge_done _ _ _ _ c.in-Ok.ensures.checks)), entered)
-
 pub returns-clause-answer : goal.returns-clause-answer
 returns-clause-answer c =
     let made = c.in-Ok.ensures.parents ∙ ap (λ t. path_parents 0 (term t) c.args.i (reverse c.args.keys.items) []) (sym c.self.view_is) in
     rw c.tree_hash-tree_hash.ensures.same at (merge_done _ _ _ _ c.in-Ok.ensures.checks
-    ∙ ap Ok (ap (λ t. merge_path (term t) c.args.i c.args.leaf c.args.keys.items) (sym c.self.view_is) ∙ sym (rw c.in_ok-leaf.ensures at (c.merge.ensures c.args.keys.items made).term)))
+    ∙ ap Ok (ap (λ t. merge_path (term t) c.args.i c.args.leaf c.args.keys.items) (sym c.self.view_is) ∙ sym (c.in_ok-merge_indexed.ensures.merged c.args.keys.items made).term))
 
 pub returns-clause-good : goal.returns-clause-good
 returns-clause-good c = merge_new _ _ _ _ _ (returns-clause-answer c)
@@ -56,21 +40,18 @@ returns-clause-cold c = (
   c.tree_hash-tree_hash.new.self,
   warmed c.args.self.now c.tree_hash-tree_hash.new.self c.tree_hash-tree_hash.ensures.all c.tree_hash-tree_hash.ensures.counted,
   c.tree_hash-tree_hash.ensures.same,
-  subst (λ t. Chills t c.args.i c.tree_hash-tree_hash.new.self (tree_of c.self.inside.height c.merge.new.nodes.items c.drop_way.new.self.kept c.drop_way.new.self.done)) c.tree_hash-tree_hash.ensures.same
-      (edited_in c.self.inside.height c.args.i c.self.inside.nodes.items _ _ _ c.self.view_is c.self.invariant.2 (subst (λ t. is_some (leaf_of t c.args.i) ≡ true) (sym c.tree_hash-tree_hash.ensures.same) (merge_member _ _ _ _ _ (returns-clause-answer c))) c.merge.new.nodes.items c.drop_way.new.self.kept c.drop_way.new.self.done (c.drop_way.ensures.kept _ (perfect-term_of _ _)) c.drop_way.ensures.done),
+  subst (λ t. Chills t c.args.i c.tree_hash-tree_hash.new.self (tree_of c.self.inside.height c.merge_indexed.new.nodes.items c.drop_way.new.self.kept c.drop_way.new.self.done)) c.tree_hash-tree_hash.ensures.same
+      (edited_in c.self.inside.height c.args.i c.self.inside.nodes.items _ _ _ c.self.view_is c.self.invariant.2 (subst (λ t. is_some (leaf_of t c.args.i) ≡ true) (sym c.tree_hash-tree_hash.ensures.same) (merge_member _ _ _ _ _ (returns-clause-answer c))) c.merge_indexed.new.nodes.items c.drop_way.new.self.kept c.drop_way.new.self.done (c.drop_way.ensures.kept _ (perfect-term_of _ _)) c.drop_way.ensures.done),
 )
 
-pub returns-in_err-leaf-clause-warms : goal.returns-in_err-leaf-clause-warms
-returns-in_err-leaf-clause-warms c = on_err _ _ (warmed c.args.self.now c.tree_hash-tree_hash.new.self c.tree_hash-tree_hash.ensures.all c.tree_hash-tree_hash.ensures.counted)
+pub returns-in_err-merge_indexed-clause-warms : goal.returns-in_err-merge_indexed-clause-warms
+returns-in_err-merge_indexed-clause-warms c =
+    let before = subst (Warms c.args.self.now) (sym c.self.view_is) (warmed c.args.self.now c.tree_hash-tree_hash.new.self c.tree_hash-tree_hash.ensures.all c.tree_hash-tree_hash.ensures.counted) in
+    on_err _ _ (subst (λ xs. Warms c.args.self.now (tree_of c.self.inside.height xs c.self.inside.hashes.kept c.self.inside.hashes.done)) (sym c.in_err-merge_indexed.ensures.unchanged) before)
 
-pub returns-in_err-reserve-clause-warms : goal.returns-in_err-reserve-clause-warms
-returns-in_err-reserve-clause-warms c = on_err _ _ (subst (Warms c.args.self.now) (sym c.self.view_is) (warmed c.args.self.now c.tree_hash-tree_hash.new.self c.tree_hash-tree_hash.ensures.all c.tree_hash-tree_hash.ensures.counted))
-
-pub leave_all-requires : goal.leave_all-requires
-leave_all-requires c = way_once c.self.inside.height c.args.i _ (c.as_slice-places.ensures ∙ c.over-way.ensures)
-
-pub enter_all-requires-clause-distinct : goal.enter_all-requires-clause-distinct
-enter_all-requires-clause-distinct c = way_once c.self.inside.height c.args.i _ (c.as_slice-places.ensures ∙ c.over-way.ensures)
-
-pub enter_all-requires-clause-room : goal.enter_all-requires-clause-room
-enter_all-requires-clause-room c = c.leave_all.ensures.room _ c.in_ok-reserve.ensures.room
+pub invariant_of-self-2 : goal.invariant_of-self-2
+invariant_of-self-2 c =
+    let made = c.in-Ok.ensures.parents ∙ ap (λ t. path_parents 0 (term t) c.args.i (reverse c.args.keys.items) []) (sym c.self.view_is) in
+    let stands = c.in_ok-merge_indexed.ensures.merged c.args.keys.items made in
+    let indexed = c.in_ok-merge_indexed.ensures.indexed c.args.keys.items made c.self.invariant.4 in
+    (stands.stands, c.self.invariant.1, kept-merge _ _ _ c.self.invariant.2 _ _ _ _ _ _ (c.drop_way.ensures.kept _ (perfect-term_of _ _)) stands, merged _ _ _ _ _ (ap term c.self.view_is) c.self.invariant.3 _ _ _ _ _ stands (merge_member _ _ _ _ _ (merge_done _ _ _ _ c.in-Ok.ensures.checks)), indexed)

@@ -1,4 +1,4 @@
-use Rattle.std.proofs.Common.{[], subst}
+use Rattle.std.proofs.Common.{[], refl, subst}
 use Rattle.mls_array.specs.WayHashes.{HashesMerged}
 use Rattle.mls_tree.specs.Tree.{term}
 use Rattle.mls_tree.proofs.Pathing.{merge_refused, merge_done}
@@ -17,4 +17,4 @@ returns-clause-prepared c =
     let root = c.in_ok-hashes.root in
     is_prepared _ _ c.args.leaf _ c.args.keys.items _ made root c.in-Ok.ensures.checks c.in-Ok.ensures.parents
     (subst (λ ps. HashesMerged 0 (term c.args.self.now) c.args.i ps c.args.leaf root [] made) c.deref.ensures.value c.in_ok-hashes.ensures)
-    c.in_ok-leaf.ensures
+    refl
