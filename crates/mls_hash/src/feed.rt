@@ -53,6 +53,7 @@ impl Feed {
     }
 
     // Adds bytes for which there is no room behind those that wait.
+    #[inline(never)]
     fn add_beyond(&mut self, bytes: &[u8])
         ensures { Feeds self.old bytes.now self.new }
     {
@@ -87,11 +88,13 @@ impl Feed {
         }
     }
 
-    // The hash of all that was added.
-    pub(crate) fn finish(mut self) -> [u8; 32]
-        ensures { (text : List ℕ) → Holds self text → result ≡ sha256 text }
+    // The hash of all that was added. It empties the feed.
+    #[tactic(auto, unfolding(crate::specs::Feeds::Holds))]
+    pub(crate) fn finish(&mut self) -> [u8; 32]
+        ensures hash { (text : List ℕ) → Holds self.old text → result ≡ sha256 text }
+        ensures empty { Holds self.new [] }
     {
         self.hand_over();
-        self.hasher.finalize()
+        self.hasher.finalize_reset()
     }
 }

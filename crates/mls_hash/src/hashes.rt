@@ -17,8 +17,8 @@ use mls_leaf::{LeafNode, ParentNode};
 
 // The tree hash of the node whose input the feed holds (RFC 9420, 7.8), which is counted. Each hash of a node is made
 // here, but for those of original siblings.
-fn node_hash(feed: Feed, done: &mut u64) -> Hash
-    ensures hash { (text : List ℕ) → Holds feed text → result ≡ sha256 text }
+fn node_hash(feed: &mut Feed, done: &mut u64) -> Hash
+    ensures hash { (text : List ℕ) → Holds feed.old text → result ≡ sha256 text }
     ensures counted { done.new ≡ counted done.old 1 }
 {
     if *done < u64::MAX {
@@ -43,7 +43,7 @@ pub fn leaf_hash(index: u32, leaf: Option<&LeafNode>, done: &mut u64) -> Hash
             add_leaf(&mut feed, leaf);
         }
     }
-    node_hash(feed, done)
+    node_hash(&mut feed, done)
 }
 
 /// The tree hash of a leaf that is blank in an original sibling (RFC 9420, 7.9). It isn't counted.
@@ -76,7 +76,7 @@ pub fn branch_hash(parent: Option<&ParentNode>, left: &Hash, right: &Hash, done:
     }
     add_vector(&mut feed, left);
     add_vector(&mut feed, right);
-    node_hash(feed, done)
+    node_hash(&mut feed, done)
 }
 
 /// The tree hash of a parent whose list lost the leaves `unmerged`, for an original sibling (RFC 9420, 7.9). It isn't

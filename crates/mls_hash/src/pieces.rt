@@ -11,13 +11,23 @@ ghost use Rattle.mls_hash.specs.Feeds.{Feeds};
 use crate::feed::Feed;
 use mls_kdf::content_header;
 
-// The header of a content of so many bytes. None has 2^30 bytes or more; there the four bytes wrap.
+// The header of a content of so many bytes.
 fn add_header(feed: &mut Feed, len: usize)
     ensures { Feeds feed.old (header len) feed.new }
 {
     if len < 64 {
         feed.add_byte(len as u8);
-    } else if len < 1 << 30 {
+    } else {
+        add_long_header(feed, len);
+    }
+}
+
+// The same, for a long content. None has 2^30 bytes or more; there the four bytes wrap.
+#[inline(never)]
+fn add_long_header(feed: &mut Feed, len: usize)
+    ensures { Feeds feed.old (header len) feed.new }
+{
+    if len < 1 << 30 {
         let header = content_header(len);
         feed.add(header.as_slice());
     } else {
