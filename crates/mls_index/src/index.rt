@@ -10,7 +10,6 @@ ghost use Rattle.mls_index.specs.Order.{Entries, IsGap, IsPart};
 ghost use Rattle.mls_index.specs.Indexes.{Indexes, Without, SameIndex};
 
 use crate::kind::KeyKind;
-use crate::order::is_before;
 use mls_slot::Slot;
 use std::alloc::{AllocError, Global};
 use std::marker::Model;
@@ -72,15 +71,6 @@ impl Index {
         ensures same { SameIndex self.old self.new }
     {
         self.numbers.reserve(count)
-    }
-
-    /// How many entries come before this key and number.
-    pub(crate) fn place(&self, cells: &[Slot], key: &[u8], x: u32) -> usize
-        ensures bound { result ≤ length self.now.numbers }
-        ensures gap { (at : ℕ → Option (List ℕ)) → IsPart at (key_in self.now.kind cells.now) → Entries at self.now.numbers → IsGap at self.now.numbers (key.now, x) result }
-    {
-        self.numbers
-            .partition_point(|y| is_before(self.kind, cells, *y, key, x))
     }
 
     /// Whether the entry at a place has this key.

@@ -10,6 +10,7 @@ mod moves;
 mod order;
 mod places;
 mod positions;
+mod search;
 #[cfg(test)]
 mod tests;
 
