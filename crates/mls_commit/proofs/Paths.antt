@@ -1,7 +1,7 @@
 -- What the checks of a path answer, step by step.
-use Rattle.std.proofs.Common.{◌≡◌, ℕ, ◌==◌, Bool, true, false, List, ◌∷◌, length, map, Some, Result, Ok, Err, IsSome, is_some, sym, ◌∙◌, ap, refl, ne_eqb, eq-eqb}
+use Rattle.std.proofs.Common.{◌≡◌, ℕ, ◌==◌, Bool, true, false, ◌&&◌, List, [], ◌∷◌, length, map, Some, Result, Ok, Err, IsSome, is_some, sym, ◌∙◌, ap, refl, ne_eqb, eq-eqb, arith}
 use Rattle.std.proofs.lemmas.List.{length-map, length-reverse}
-use Rattle.std.specs.List.{list_all}
+use Rattle.std.specs.List.{list_all, zip}
 use Rattle.std.specs.Str.{bytes_eq}
 use Rattle.mls_wire.specs.Checks.{passed, require, ◌>>◌}
 use Rattle.mls_wire.specs.Laws.{ok_is}
@@ -44,8 +44,12 @@ length-due : (e : Edits) (i : ℕ) → length (due_counts e i) ≡ path_length 0
 unfolding ciphertext_counts path_length
 length-due e i = length-reverse (map (λ (s : Step). target_count e.added s.first s.other) (filtered_way 0 e.tree i)) ∙ length-map (filtered_way 0 e.tree i) (λ (s : Step). target_count e.added s.first s.other)
 
-length-counts : (path : UpdatePath) → length (cipher_counts path) ≡ length path.nodes
-length-counts path = length-map path.nodes (λ (n : UpdatePathNode). length n.ciphertexts)
+-- each node's number is the one beside it
+pub all_counts : (ns : List UpdatePathNode) (ds : List ℕ) → length ns ≡ length ds → list_all (λ (p : UpdatePathNode × ℕ). length p.0.ciphertexts == p.1) (zip ns ds) ≡ bytes_eq (map (λ (n : UpdatePathNode). length n.ciphertexts) ns) ds
+all_counts [] [] same = refl
+all_counts [] (d ∷ ds) same = absurd (omega arith)
+all_counts (n ∷ ns) [] same = absurd (omega arith)
+all_counts (n ∷ ns) (d ∷ ds) same = ap (λ b. (length n.ciphertexts == d) && b) (all_counts ns ds (omega arith))
 
 module _ (e : Edits) (i : ℕ) (t : Term) (added : List ℕ) (tree_is : t ≡ e.tree) (added_is : added ≡ e.added) (some : IsSome (leaf_of e.tree i)) where
   due_answer : counts_answer t i added ≡ Ok (due_counts e i)
@@ -57,18 +61,18 @@ module _ (e : Edits) (i : ℕ) (t : Term) (added : List ℕ) (tree_is : t ≡ e.
   pub due_stands : (n : ℕ) → counts_answer t i added ≡ Err n → ⊥
   due_stands n h = let q : Ok (due_counts e i) ≡ Err n = sym due_answer ∙ h in cc
 
-module _ (e : Edits) (i : ℕ) (path : UpdatePath) (counts due : List ℕ) (counts_is : counts ≡ cipher_counts path) (due_is : due ≡ due_counts e i) where
-  same_length : length counts ≡ length due → (length path.nodes == path_length 0 e.tree i) ≡ true
-  same_length q = eq-eqb _ _ (sym (length-counts path) ∙ sym (ap length counts_is) ∙ q ∙ ap length due_is ∙ length-due e i)
+module _ (e : Edits) (i : ℕ) (path : UpdatePath) (due : List ℕ) (due_is : due ≡ due_counts e i) where
+  same_length : length path.nodes ≡ length due → (length path.nodes == path_length 0 e.tree i) ≡ true
+  same_length q = eq-eqb _ _ (q ∙ ap length due_is ∙ length-due e i)
 
-  pub fails_30 : (length counts ≡ length due → ⊥) → count_checks e i path ≡ Err 30
-  fails_30 ne = wrong_length e i path (ne_eqb _ _ (λ q. ne (ap length counts_is ∙ length-counts path ∙ q ∙ sym (length-due e i) ∙ sym (ap length due_is))))
+  pub fails_30 : (length path.nodes ≡ length due → ⊥) → count_checks e i path ≡ Err 30
+  fails_30 ne = wrong_length e i path (ne_eqb _ _ (λ q. ne (q ∙ sym (length-due e i) ∙ sym (ap length due_is))))
 
-  pub fails_31 : length counts ≡ length due → bytes_eq counts due ≡ false → count_checks e i path ≡ Err 31
-  fails_31 q other = wrong_counts e i path (same_length q) (ap (λ ds. bytes_eq ds (due_counts e i)) (sym counts_is) ∙ ap (bytes_eq counts) (sym due_is) ∙ other)
+  pub fails_31 : length path.nodes ≡ length due → bytes_eq (cipher_counts path) due ≡ false → count_checks e i path ≡ Err 31
+  fails_31 q other = wrong_counts e i path (same_length q) (ap (bytes_eq (cipher_counts path)) (sym due_is) ∙ other)
 
-  pub passes : length counts ≡ length due → bytes_eq counts due ≡ true → count_checks e i path ≡ Ok passed
-  passes q same = right_counts e i path (same_length q) (ap (λ ds. bytes_eq ds (due_counts e i)) (sym counts_is) ∙ ap (bytes_eq counts) (sym due_is) ∙ same)
+  pub passes : length path.nodes ≡ length due → bytes_eq (cipher_counts path) due ≡ true → count_checks e i path ≡ Ok passed
+  passes q same = right_counts e i path (same_length q) (ap (bytes_eq (cipher_counts path)) (sym due_is) ∙ same)
 
 -- ---- the whole
 

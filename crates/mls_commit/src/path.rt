@@ -1,10 +1,11 @@
 //! The checks of a commit's path, and its merge.
 
-ghost use Rattle.std.specs.Prelude.{◌≡◌, ◌^◌, ◌∷◌, true, IfOk, IsSome, is_some};
+ghost use Rattle.std.specs.Prelude.{◌≡◌, ◌^◌, ◌∷◌, true, length, map, IfOk, IsSome, is_some};
 ghost use Rattle.std.specs.List.{list_all};
 ghost use Rattle.std.specs.Str.{bytes_eq};
 ghost use Rattle.mls_wire.specs.Checks.{Answers, passed, require};
 ghost use Rattle.mls_leaf.specs.Leaf.{leaf_node};
+ghost use Rattle.mls_group.specs.declared.update_path.UpdatePathNode.{UpdatePathNode};
 ghost use Rattle.mls_model.specs.Commit as model;
 ghost use Rattle.mls_public_group.specs.NextTree.{next_term, is_merged, Follows};
 ghost use Rattle.mls_public_group.specs.Short.{IsBelow, IsShortContext};
@@ -35,47 +36,35 @@ fn node_key(node: &UpdatePathNode) -> Result<Bytes, AllocError>
 pub(crate) fn node_keys(alloc: Global, path: &UpdatePath) -> Result<Vec<Bytes>, AllocError>
     ensures { IfOk result (λ v. v.items ≡ model.node_keys path.now) }
 {
-    let mut keys = Vec::new(alloc);
-    for node in path.nodes.as_slice() {
+    let nodes = path.nodes.as_slice();
+    let mut keys = Vec::with_capacity(alloc, nodes.len())?;
+    for node in nodes {
         keys.push(node_key(node)?)?;
     }
     Ok(keys)
 }
 
-// How many ciphertexts its nodes have.
-pub(crate) fn cipher_counts(alloc: Global, path: &UpdatePath) -> Result<Vec<usize>, AllocError>
-    ensures { IfOk result (λ v. v.items ≡ model.cipher_counts path.now) }
+// Whether the nodes, as many as these numbers, have so many ciphertexts.
+fn has_counts(nodes: &[UpdatePathNode], due: &[usize]) -> bool
+    requires { length nodes.now ≡ length due.now }
+    ensures { result ≡ bytes_eq (map (λ (n : UpdatePathNode). length n.ciphertexts) nodes.now) due.now }
 {
-    let nodes = path.nodes.as_slice();
-    nodes
-        .iter()
-        .map(|node| node.ciphertexts.as_slice().len())
-        .collect(alloc)
-}
-
-fn same_counts(counts: &[usize], due: &[usize]) -> bool
-    ensures { result ≡ bytes_eq counts.now due.now }
-{
-    counts == due
+    let mut pairs = nodes.iter().zip(due);
+    pairs.all(|(node, count)| node.ciphertexts.as_slice().len() == *count)
 }
 
 // Refuses a path whose number of nodes is wrong, and then a number of ciphertexts that is. The committer is a member.
-fn require_counts(
-    alloc: Global,
-    committer: u32,
-    edits: &Edits,
-    path: &UpdatePath,
-) -> Result<(), CommitError>
+fn require_counts(committer: u32, edits: &Edits, path: &UpdatePath) -> Result<(), CommitError>
     requires { IsSome (leaf_of edits.now.tree committer) }
     ensures { Answers (λ _. passed) number_of (count_checks edits.now committer path.now) result }
 {
     let tree = edits.tree.as_tree();
     let due = tree.ciphertext_counts(committer, &edits.added)?;
-    let counts = cipher_counts(alloc, path)?;
-    if counts.len() != due.len() {
+    let nodes = path.nodes.as_slice();
+    if nodes.len() != due.len() {
         return Err(CommitError::from(TreeError::PathLength));
     }
-    if !same_counts(&counts, &due) {
+    if !has_counts(nodes, &due) {
         return Err(CommitError::CipherCount);
     }
     Ok(())
@@ -147,7 +136,7 @@ pub(crate) fn with_path<S: Suite>(
         group_id,
         committer,
     )?;
-    require_counts(alloc, committer, edits, path)?;
+    require_counts(committer, edits, path)?;
     if !has_fit_keys::<S>(path) {
         return Err(CommitError::from(CheckError::BadKey));
     }
