@@ -1,10 +1,10 @@
 -- Entries: where one is, where one goes, and what is left without it.
 use Rattle.std.proofs.Common.{◌≡◌, ℕ, ◌+◌, ◌-◌, ◌<◌, ◌≤◌, ◌⊎◌, Bool, true, false, List, [], length, get_or, Option, Some, None, sym, ◌∙◌, ap, subst, arith, inl, inr, is_some}
-use Rattle.std.proofs.lemmas.Bool.{true≢false, cases_lt, cases_eq}
+use Rattle.std.proofs.lemmas.Bool.{true≢false, cases_Bool, cases_lt, cases_eq}
 use Rattle.std.proofs.lemmas.List.{get_or_default}
 use Rattle.std.proofs.lemmas.List.Edits.{length-insert, get_or-insert_below, get_or-insert_at, get_or-insert_above, length-remove, get_or-remove_below, get_or-remove_above}
 use Rattle.std.specs.List.{insert, remove}
-use Rattle.std.specs.List.Sorted.{IsPartitionedBy, IsPartitionPoint}
+use Rattle.std.specs.List.Sorted.{IsPartitionedBy}
 use Rattle.std.specs.Option.{unwrap_or}
 use Rattle.std.specs.Ordering.{is_lt}
 use Rattle.std.specs.declared.cmp.Ordering.TheVariants.{Less}
@@ -24,7 +24,7 @@ module _ (at real : ℕ → Option (List ℕ)) (part : IsPart at real) (ns : Lis
   reads j d lt =
       ap (λ y. entry_at real y) (get_or_default ns j d 0 lt) ∙ ap (λ o. (unwrap_or o [], get_or ns j 0)) (part (get_or ns j 0) (es.keyed j lt))
 
-  pub parted : IsPartitionedBy (λ y. is_lt (entry_cmp (entry_at real y) e)) ns
+  parted : IsPartitionedBy (λ y. is_lt (entry_cmp (entry_at real y) e)) ns
   parted i j d le lt h =
       elim (cases_lt i j) [
         | inl less ↦
@@ -33,11 +33,15 @@ module _ (at real : ℕ → Option (List ℕ)) (part : IsPart at real) (ns : Lis
         | inr ge ↦ let same : j ≡ i = omega arith in subst (λ n. before (get_or ns n d) ≡ true) same h
       ]
 
-  pub gap_at : (p : ℕ) → p ≤ length ns → IsPartitionPoint (λ y. before y ≡ true) (λ y. before y ≡ false) ns p → IsGap at ns e p
-  gap_at p le point = record {
+  -- it is enough that the entry before a place is below, and the one at it isn't
+  pub gap_between : (p : ℕ) → p ≤ length ns → (1 ≤ p → before (get_or ns (p - 1) 0) ≡ true) → (p < length ns → before (get_or ns p 0) ≡ false) → IsGap at ns e p
+  gap_between p le low high = record {
     within = le;
-    below = λ k lt. is_less _ (ap (λ v. is_lt (entry_cmp v e)) (sym (reads k 0 (omega arith))) ∙ point.0 k 0 (omega arith) lt);
-    above = λ k ge lt. ap (λ v. is_lt (entry_cmp v e)) (sym (reads k 0 lt)) ∙ point.1 k 0 ge lt;
+    below = λ k lt. is_less _ (ap (λ v. is_lt (entry_cmp v e)) (sym (reads k 0 (omega arith))) ∙ parted k (p - 1) 0 (omega arith) (omega arith) (low (omega arith)));
+    above = λ k ge lt. ap (λ v. is_lt (entry_cmp v e)) (sym (reads k 0 lt)) ∙ elim (cases_Bool (before (get_or ns k 0))) [
+      | inl less ↦ absurd (true≢false (sym (parted p k 0 ge lt less) ∙ high (omega arith)))
+      | inr other ↦ other
+    ];
   }
 
 -- ---- entries with one key stand together
