@@ -26,7 +26,8 @@ fn add_signed(alloc: Global, said: &[u8], context: &[u8]) -> Result<Vec<u8>, All
     ensures { MatchResult result (λ v. v.items ≡ signed_pieces said.now context.now) (λ _. Unit {0}) }
 {
     let front = [0, 1, 0, 1];
-    let mut bytes = Vec::new(alloc);
+    let room = said.len().saturating_add(context.len());
+    let mut bytes = Vec::with_capacity(alloc, room.saturating_add(front.len()))?;
     bytes.extend_from_slice(&front)?;
     bytes.extend_from_slice(said)?;
     bytes.extend_from_slice(context)?;
