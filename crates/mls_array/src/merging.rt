@@ -124,7 +124,7 @@ pub fn path_hash(
 fn merged_parent(alloc: Global, key: Bytes, hash: &Option<Hash>) -> Result<SharedParent, AllocError>
     ensures { IfOk result (λ p. p ≡ record { encryption_key = key; parent_hash = hash_bytes hash.now; unmerged_leaves = [] }) }
 {
-    let parent_hash = Bytes::from_vec(Vec::from_slice(alloc, bytes_of(hash))?);
+    let parent_hash = Bytes::from_slice(alloc, bytes_of(hash))?;
     match ParentNode::new(key, parent_hash, Items::from_vec(Vec::new(alloc))) {
         Ok(parent) => SharedParent::new(alloc, parent),
         Err(_) => unreachable!(),

@@ -135,7 +135,7 @@ pub fn renewed_leaf<S: Suite>(
 {
     source_has_spelling(&source);
     let KeyPair { pk, .. } = leaf_pair::<S>(alloc, seed)?;
-    let signature_key = Bytes::from_vec(Vec::from_slice(alloc, old.signature_key.as_slice())?);
+    let signature_key = Bytes::from_slice(alloc, old.signature_key.as_slice())?;
     let credential = old.credential.clone()?;
     let leaf = unsigned_leaf::<S>(alloc, pk, signature_key, credential, source)?;
     sign_leaf::<S>(alloc, signing, group_id, index, leaf)

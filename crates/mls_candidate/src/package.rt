@@ -43,7 +43,7 @@ fn offered_leaf<S: Suite>(
 {
     let signing = sign_seed(seed);
     let signature_key = Bytes::from_vec(S::sig_public(alloc, &signing)?);
-    let identity = Bytes::from_vec(Vec::from_slice(alloc, identity)?);
+    let identity = Bytes::from_slice(alloc, identity)?;
     let source = LeafSource::KeyPackage {
         not_before: 0,
         not_after: u64::MAX,

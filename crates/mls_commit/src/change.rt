@@ -60,7 +60,7 @@ pub(crate) fn provisional_context(
         cipher_suite: old.cipher_suite,
         group_id: old.group_id.clone()?,
         epoch: old.epoch + 1,
-        tree_hash: Bytes::from_vec(Vec::from_slice(alloc, hash)?),
+        tree_hash: Bytes::from_slice(alloc, hash)?,
         confirmed_transcript_hash: old.confirmed_transcript_hash.clone()?,
     })
 }
@@ -79,7 +79,7 @@ pub(crate) fn confirmed_context(
         group_id: provisional.group_id.clone()?,
         epoch: provisional.epoch,
         tree_hash: provisional.tree_hash.clone()?,
-        confirmed_transcript_hash: Bytes::from_vec(Vec::from_slice(alloc, confirmed)?),
+        confirmed_transcript_hash: Bytes::from_slice(alloc, confirmed)?,
     })
 }
 

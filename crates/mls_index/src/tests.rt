@@ -11,7 +11,7 @@ use std::process::Abort;
 use std::test::Fail;
 
 fn byte(alloc: Global, b: u8) -> Result<Bytes, AllocError> {
-    Ok(Bytes::from_vec(Vec::from_slice(alloc, &[b])?))
+    Ok(Bytes::from_slice(alloc, &[b])?)
 }
 
 /// A leaf with these bytes as its keys.

@@ -59,9 +59,9 @@ fn first_context<S: Suite>(
     let hash = tree.tree_hash();
     Ok(GroupContext {
         cipher_suite: S::NUMBER,
-        group_id: Bytes::from_vec(Vec::from_slice(alloc, group_id)?),
+        group_id: Bytes::from_slice(alloc, group_id)?,
         epoch: 0,
-        tree_hash: Bytes::from_vec(Vec::from_slice(alloc, &hash)?),
+        tree_hash: Bytes::from_slice(alloc, &hash)?,
         confirmed_transcript_hash: Bytes::from_vec(Vec::new(alloc)),
     })
 }

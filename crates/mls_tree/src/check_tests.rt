@@ -152,7 +152,7 @@ fn half_empty(
 
 /// A parent with this byte 32 times as its key, and an empty parent hash.
 fn parent(alloc: Global, key: u8) -> Result<ParentNode, Fail> {
-    let key = Bytes::from_vec(Vec::from_slice(alloc, &[key; 32])?);
+    let key = Bytes::from_slice(alloc, &[key; 32])?;
     match ParentNode::new(
         key,
         Bytes::from_vec(Vec::new(alloc)),

@@ -24,7 +24,7 @@ struct Commit {
 }
 
 fn push_key(alloc: Global, keys: &mut Vec<Bytes>, pair: &KeyPair) -> Option<()> {
-    keys.push(Bytes::from_vec(Vec::from_slice(alloc, &pair.pk).ok()?))
+    keys.push(Bytes::from_slice(alloc, &pair.pk).ok()?)
         .ok()
 }
 

@@ -155,15 +155,15 @@ fn another_chain_above(rt: HostRuntime) {
 }
 
 /// A ciphertext with one bit changed.
-fn changed(sealed: HpkeCiphertext) -> HpkeCiphertext {
-    let mut changed = sealed.ciphertext.into_vec();
+fn changed(alloc: Global, sealed: HpkeCiphertext) -> Option<HpkeCiphertext> {
+    let mut changed = Vec::from_slice(alloc, sealed.ciphertext.as_slice()).ok()?;
     if let Some(byte) = changed.first_mut() {
         *byte ^= 1;
     }
-    HpkeCiphertext {
+    Some(HpkeCiphertext {
         kem_output: sealed.kem_output,
         ciphertext: Bytes::from_vec(changed),
-    }
+    })
 }
 
 /// A ciphertext alone.
@@ -175,7 +175,7 @@ fn alone(alloc: Global, sealed: HpkeCiphertext) -> Option<Items<HpkeCiphertext>>
 
 /// Leaf 1's path, whose root has its path secret sealed to leaf 2, with one bit changed.
 fn changed_path(alloc: Global) -> Option<Vec<UpdatePathNode>> {
-    let sealed = changed(sealed(alloc, 2, &second())?);
+    let sealed = changed(alloc, sealed(alloc, 2, &second())?)?;
     path_of(alloc, &second(), alone(alloc, sealed)?)
 }
 

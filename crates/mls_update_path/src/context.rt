@@ -16,7 +16,7 @@ use std::alloc::{AllocError, Global};
 fn copy(alloc: Global, bytes: &Bytes) -> Result<Bytes, OutOfMemory>
     ensures { IfOk result (λ b. b ≡ bytes.now) }
 {
-    Ok(Bytes::from_vec(Vec::from_slice(alloc, bytes.as_slice())?))
+    Ok(Bytes::from_slice(alloc, bytes.as_slice())?)
 }
 
 /// The spelling of the next epoch's context with this tree, and as yet the old transcript (RFC 9420, 12.4.1).
@@ -36,7 +36,7 @@ pub(crate) fn provisional_bytes(
         cipher_suite: old.cipher_suite,
         group_id: copy(alloc, &old.group_id)?,
         epoch: old.epoch + 1,
-        tree_hash: Bytes::from_vec(Vec::from_slice(alloc, &hash)?),
+        tree_hash: Bytes::from_slice(alloc, &hash)?,
         confirmed_transcript_hash: copy(alloc, &old.confirmed_transcript_hash)?,
     };
     match context.encode(alloc) {

@@ -55,7 +55,7 @@ pub(crate) fn public_keys(alloc: Global, secrets: &PathSecrets) -> Result<Vec<By
 {
     let mut keys = Vec::new(alloc);
     for pair in &secrets.pairs {
-        keys.push(Bytes::from_vec(Vec::from_slice(alloc, &pair.pk)?))?;
+        keys.push(Bytes::from_slice(alloc, &pair.pk)?)?;
     }
     Ok(keys)
 }
