@@ -1,10 +1,6 @@
 -- Entries: where one is, where one goes, and what is left without it.
 use Rattle.std.proofs.Common.{◌≡◌, ℕ, ◌+◌, ◌-◌, ◌<◌, ◌≤◌, ◌⊎◌, Bool, true, false, List, [], length, get_or, Option, Some, None, sym, ◌∙◌, ap, subst, arith, inl, inr, is_some}
-<<<<<<< HEAD
 use Rattle.std.proofs.lemmas.Bool.{true≢false, false_from_ne_true, cases_lt, cases_eq}
-=======
-use Rattle.std.proofs.lemmas.Bool.{true≢false, cases_Bool, cases_lt, cases_eq}
->>>>>>> e932bb24b622fc34bab61b606b7455dd2a0bb0a0
 use Rattle.std.proofs.lemmas.List.{get_or_default}
 use Rattle.std.proofs.lemmas.List.Edits.{length-insert, get_or-insert_below, get_or-insert_at, get_or-insert_above, length-remove, get_or-remove_below, get_or-remove_above}
 use Rattle.std.specs.List.{insert, remove}
@@ -37,24 +33,12 @@ module _ (at real : ℕ → Option (List ℕ)) (part : IsPart at real) (ns : Lis
         | inr ge ↦ let same : j ≡ i = omega arith in subst (λ n. before (get_or ns n d) ≡ true) same h
       ]
 
-<<<<<<< HEAD
   -- a place between an entry before and one that isn't
   pub gap_between : (p : ℕ) → p ≤ length ns → (0 < p → before (get_or ns (p - 1) 0) ≡ true) → (p < length ns → before (get_or ns p 0) ≡ false) → IsGap at ns e p
   gap_between p le low high = record {
     within = le;
     below = λ k lt. is_less _ (ap (λ v. is_lt (entry_cmp v e)) (sym (reads k 0 (omega arith))) ∙ parted k (p - 1) 0 (omega arith) (omega arith) (low (omega arith)));
     above = λ k ge lt. ap (λ v. is_lt (entry_cmp v e)) (sym (reads k 0 lt)) ∙ false_from_ne_true (before (get_or ns k 0)) (λ yes. true≢false (sym (parted p k 0 ge lt yes) ∙ high (omega arith)));
-=======
-  -- it is enough that the entry before a place is below, and the one at it isn't
-  pub gap_between : (p : ℕ) → p ≤ length ns → (1 ≤ p → before (get_or ns (p - 1) 0) ≡ true) → (p < length ns → before (get_or ns p 0) ≡ false) → IsGap at ns e p
-  gap_between p le low high = record {
-    within = le;
-    below = λ k lt. is_less _ (ap (λ v. is_lt (entry_cmp v e)) (sym (reads k 0 (omega arith))) ∙ parted k (p - 1) 0 (omega arith) (omega arith) (low (omega arith)));
-    above = λ k ge lt. ap (λ v. is_lt (entry_cmp v e)) (sym (reads k 0 lt)) ∙ elim (cases_Bool (before (get_or ns k 0))) [
-      | inl less ↦ absurd (true≢false (sym (parted p k 0 ge lt less) ∙ high (omega arith)))
-      | inr other ↦ other
-    ];
->>>>>>> e932bb24b622fc34bab61b606b7455dd2a0bb0a0
   }
 
 -- ---- entries with one key stand together

@@ -73,28 +73,6 @@ impl Index {
         self.numbers.reserve(count)
     }
 
-<<<<<<< HEAD
-=======
-    /// How many entries come before this key and number.
-    pub(crate) fn place(&self, cells: &[Slot], key: &[u8], x: u32) -> usize
-        ensures bound { result ≤ length self.now.numbers }
-        ensures gap { (at : ℕ → Option (List ℕ)) → IsPart at (key_in self.now.kind cells.now) → Entries at self.now.numbers → IsGap at self.now.numbers (key.now, x) result }
-    {
-        // `partition_point` would call a closure at each step, for nearly twice the work.
-        let mut from = 0;
-        let mut to = self.numbers.len();
-        while from < to {
-            let middle = from + (to - from) / 2;
-            if is_before(self.kind, cells, self.numbers[middle], key, x) {
-                from = middle + 1;
-            } else {
-                to = middle;
-            }
-        }
-        from
-    }
-
->>>>>>> e932bb24b622fc34bab61b606b7455dd2a0bb0a0
     /// Whether the entry at a place has this key.
     fn is_key_at(&self, cells: &[Slot], place: usize, key: &[u8]) -> bool
         ensures { result ≡ is_key_at self.now.kind cells.now self.now.numbers place key.now }
