@@ -79,7 +79,6 @@ impl Index {
         ensures bound { result ≤ length self.now.numbers }
         ensures gap { (at : ℕ → Option (List ℕ)) → IsPart at (key_in self.now.kind cells.now) → Entries at self.now.numbers → IsGap at self.now.numbers (key.now, x) result }
     {
-        // `partition_point` would call a closure at each step, for nearly twice the work.
         let mut from = 0;
         let mut to = self.numbers.len();
         while from < to {
