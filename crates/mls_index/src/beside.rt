@@ -1,15 +1,26 @@
 //! Several keys at once, beside some cells.
 
 ghost use Rattle.std.specs.Prelude.{◌≡◌, nat_eq, true, ◌∷◌, ◌++◌, IfOk, IsOk};
+ghost use Rattle.std.specs.List.{list_any};
+ghost use Rattle.std.specs.Cmp.Lexicographic.{pointwise};
 ghost use Rattle.mls_term.specs.Sets.{same_bytes, is_distinct};
 ghost use Rattle.mls_index.specs.Keys.{keys_of, is_held};
 ghost use Rattle.mls_index.specs.Indexes.{Indexes};
 ghost use Rattle.mls_index.specs.Cleared.{cleared};
 
 use crate::index::Index;
+use crate::order::is_same;
 use mls_leaf::Bytes;
 use mls_slot::Slot;
 use std::alloc::AllocError;
+
+/// Whether a key is among others. `contains` would compare them by more than their first bytes.
+fn is_among(key: &Bytes, keys: &[Bytes]) -> bool
+    ensures { result ≡ list_any (λ l. pointwise nat_eq l key.now) keys.now }
+{
+    keys.iter()
+        .any(|own| is_same(own.as_slice(), key.as_slice()))
+}
 
 impl Index {
     /// Whether a cell that stands at none of these places has this key, where no two cells have one key.
@@ -27,7 +38,7 @@ impl Index {
     fn accepts_new(&self, cells: &[Slot], places: &[u32], key: &Bytes, keys: &[Bytes]) -> bool
         ensures { Indexes cells.now self.now → is_distinct same_bytes (keys_of self.now.kind cells.now) ≡ true → result ≡ is_distinct same_bytes (key.now ∷ (keys.now ++ keys_of self.now.kind (cleared 0 places.now cells.now))) }
     {
-        if keys.contains(key) || self.holds_beside(cells, places, key.as_slice()) {
+        if is_among(key, keys) || self.holds_beside(cells, places, key.as_slice()) {
             return false;
         }
         match keys.split_first() {

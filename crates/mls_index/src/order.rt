@@ -1,8 +1,8 @@
 //! The order of entries: by key, and then by number.
 
-ghost use Rattle.std.specs.Prelude.{◌≡◌};
+ghost use Rattle.std.specs.Prelude.{◌≡◌, nat_eq};
 ghost use Rattle.std.specs.Ordering.{nat_cmp, is_lt};
-ghost use Rattle.std.specs.Cmp.Lexicographic.{slice_cmp};
+ghost use Rattle.std.specs.Cmp.Lexicographic.{pointwise, slice_cmp};
 ghost use Rattle.mls_index.specs.Keys.{key_in};
 ghost use Rattle.mls_index.specs.Order.{entry_at, entry_cmp};
 
@@ -21,6 +21,13 @@ fn compare(own: &[u8], key: &[u8]) -> Ordering
         }
     }
     own.len().cmp(&key.len())
+}
+
+/// Whether two keys are the same.
+pub(crate) fn is_same(own: &[u8], key: &[u8]) -> bool
+    ensures { result ≡ pointwise nat_eq own.now key.now }
+{
+    compare(own, key).is_eq()
 }
 
 /// Whether the entry of a cell comes before that of a key and a number.
