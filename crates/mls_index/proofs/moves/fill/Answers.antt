@@ -46,14 +46,14 @@ offset_bounds-gaps-left c = let left = c.loop-left.invariant.left in let few = c
 pub bounds-gaps-left : goal.bounds-gaps-left
 bounds-gaps-left c = let left = c.loop-left.invariant.left in let more = c.loop-left-test.true in omega arith
 
-pub copy_within-requires-clause-start_le_end : goal.copy_within-requires-clause-start_le_end
-copy_within-requires-clause-start_le_end c = let more = c.loop-left-test.true in c.loop-left.invariant.places (c.loop-left.left - 1) (omega arith)
+pub move_run-requires-clause-start_le_end : goal.move_run-requires-clause-start_le_end
+move_run-requires-clause-start_le_end c = let more = c.loop-left-test.true in c.loop-left.invariant.places (c.loop-left.left - 1) (omega arith)
 
-pub copy_within-requires-clause-in_bounds : goal.copy_within-requires-clause-in_bounds
-copy_within-requires-clause-in_bounds c = let i = c.loop-left.invariant in let len = i.len in let from = i.from in omega arith
+pub move_run-requires-clause-in_bounds : goal.move_run-requires-clause-in_bounds
+move_run-requires-clause-in_bounds c = let i = c.loop-left.invariant in let len = i.len in let from = i.from in omega arith
 
-pub copy_within-requires-clause-dest_in_bounds : goal.copy_within-requires-clause-dest_in_bounds
-copy_within-requires-clause-dest_in_bounds c =
+pub move_run-requires-clause-dest_in_bounds : goal.move_run-requires-clause-dest_in_bounds
+move_run-requires-clause-dest_in_bounds c =
     let i = c.loop-left.invariant in
     let len = i.len in
     let from = i.from in
@@ -66,7 +66,7 @@ pub index_mut-requires : goal.index_mut-requires
 index_mut-requires c =
     let i = c.loop-left.invariant in
     let len = i.len in
-    let same = c.copy_within.ensures.len in
+    let same = c.move_run.ensures.len in
     let from = i.from in
     let left = i.left in
     let more = c.loop-left-test.true in
@@ -77,22 +77,22 @@ pub loop-left-preserved : goal.loop-left-preserved
 loop-left-preserved c =
     let i = c.loop-left.invariant in
     let len = i.len in
-    let same = c.copy_within.ensures.len in
+    let same = c.move_run.ensures.len in
     let from = i.from in
     let left = i.left in
     let more = c.loop-left-test.true in
     let place = i.places (c.loop-left.left - 1) (omega arith) in
     let ok_old = c.args.numbers.now.ok.0 in
     let ok = c.loop-left.numbers.ok.0 in
-    let ok_new = c.copy_within.new.self.ok.0 in
-    let by = c.copy_within.ensures.by_index in
+    let ok_new = c.move_run.new.numbers.ok.0 in
+    let by = c.move_run.ensures.by_index in
     record {
       len = same ∙ len;
-      capacity = c.copy_within.ensures.capacity ∙ i.capacity;
+      capacity = c.move_run.ensures.capacity ∙ i.capacity;
       from = omega arith;
       left = omega arith;
       places = λ j lt. let less = c.requires.ascend j (c.loop-left.left - 1) lt (omega arith) in omega arith;
-      shifted = shift_more c.args.numbers.now.items c.args.gaps.now c.requires.ascend (λ j lt. let within = c.requires.within j lt in omega arith) c.loop-left.from c.loop-left.left c.loop-left.numbers.items c.copy_within.new.self.items _ (omega arith) left (omega arith) place (omega arith) (omega arith) by.0 by.1 by.2 refl i.shifted;
+      shifted = shift_more c.args.numbers.now.items c.args.gaps.now c.requires.ascend (λ j lt. let within = c.requires.within j lt in omega arith) c.loop-left.from c.loop-left.left c.loop-left.numbers.items c.move_run.new.numbers.items _ (omega arith) left (omega arith) place (omega arith) (omega arith) by.0 by.1 by.2 refl i.shifted;
     }
 
 pub returns-clause-items : goal.returns-clause-items

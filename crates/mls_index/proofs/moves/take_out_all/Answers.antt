@@ -24,11 +24,11 @@ loop-from-init c =
       behind = refl;
     }
 
-pub copy_within-requires-clause-in_bounds : goal.copy_within-requires-clause-in_bounds
-copy_within-requires-clause-in_bounds c = let len = c.loop-from.invariant.len in let le = c.next-next.ensures.le in omega arith
+pub move_run-requires-clause-in_bounds : goal.move_run-requires-clause-in_bounds
+move_run-requires-clause-in_bounds c = let len = c.loop-from.invariant.len in let le = c.next-next.ensures.le in omega arith
 
-pub copy_within-requires-clause-dest_in_bounds : goal.copy_within-requires-clause-dest_in_bounds
-copy_within-requires-clause-dest_in_bounds c = let i = c.loop-from.invariant in let n = c.next-next.ensures in omega arith
+pub move_run-requires-clause-dest_in_bounds : goal.move_run-requires-clause-dest_in_bounds
+move_run-requires-clause-dest_in_bounds c = let i = c.loop-from.invariant in let n = c.next-next.ensures in omega arith
 
 pub overflow_add-to-in-loop-from : goal.overflow_add-to-in-loop-from
 overflow_add-to-in-loop-from c = let i = c.loop-from.invariant in let n = c.next-next.ensures in omega arith
@@ -45,11 +45,11 @@ loop-from-preserved c =
     let more = c.loop-from-test.true in
     let ok = c.loop-from.numbers.ok.0 in
     let ok_old = c.args.numbers.now.ok.0 in
-    let both = moved c.args.positions.now 0 c.args.numbers.now.items c.loop-from.numbers.items c.copy_within.new.self.items c.loop-from.to c.loop-from.from c.next-next.result (omega arith) short (omega arith) (omega arith) (i.held more) n.none i.front i.behind c.copy_within.ensures.items in
+    let both = moved c.args.positions.now 0 c.args.numbers.now.items c.loop-from.numbers.items c.move_run.new.numbers.items c.loop-from.to c.loop-from.from c.next-next.result (omega arith) short (omega arith) (omega arith) (i.held more) n.none i.front i.behind c.move_run.ensures.items in
     record {
       end = end;
-      len = c.copy_within.ensures.len ∙ len;
-      capacity = c.copy_within.ensures.capacity ∙ i.capacity;
+      len = c.move_run.ensures.len ∙ len;
+      capacity = c.move_run.ensures.capacity ∙ i.capacity;
       to = omega arith;
       from = le;
       held = n.held;
