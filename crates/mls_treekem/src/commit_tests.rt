@@ -24,8 +24,7 @@ struct Commit {
 }
 
 fn push_key(alloc: Global, keys: &mut Vec<Bytes>, pair: &KeyPair) -> Option<()> {
-    keys.push(Bytes::from_slice(alloc, &pair.pk).ok()?)
-        .ok()
+    keys.push(Bytes::from_slice(alloc, &pair.pk).ok()?).ok()
 }
 
 /// The public keys of a path.
