@@ -48,7 +48,7 @@ fn numbered(alloc: Global, number: usize, made: &Made) -> Result<Option<(usize, 
     ensures { IfOk result (λ o. o ≡ option_map (λ (v : Vec ℕ). (number, v.items)) made.now.welcome) }
 {
     match &made.welcome {
-        Some(bytes) => Ok(Some((number, Bytes::from_slice(alloc, bytes)?))),
+        Some(bytes) => Ok(Some((number, Bytes::from_vec(Vec::from_slice(alloc, bytes)?)))),
         None => Ok(None),
     }
 }
@@ -125,7 +125,7 @@ impl<S: Suite> PlainWorld<S> {
         self.made.reserve(1)?;
         let message = self.messages.len();
         let welcome = numbered(self.alloc, message + 1, &made)?;
-        let commit = Bytes::from_slice(self.alloc, &made.commit)?;
+        let commit = Bytes::from_vec(Vec::from_slice(self.alloc, &made.commit)?);
         let Named { names, adds } = named;
         let before = self.seats[k].journal;
         let journal = self.journals.follow(before, Entry { commit, names })?;

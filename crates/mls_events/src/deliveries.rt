@@ -70,7 +70,7 @@ fn entry_of<S: Suite>(alloc: Global, member: &Member<S>, bytes: &[u8]) -> Result
 {
     let list = list_in(alloc, bytes)?;
     let names = names_in(alloc, member, &list)?;
-    let commit = Bytes::from_slice(alloc, bytes)?;
+    let commit = Bytes::from_vec(Vec::from_slice(alloc, bytes)?);
     Ok(Entry { commit, names })
 }
 

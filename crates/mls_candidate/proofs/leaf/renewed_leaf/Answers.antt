@@ -5,6 +5,6 @@ use Rattle.mls_candidate.proofs.leaf.renewed_leaf.Goals as goal
 
 pub sign_leaf-requires-clause-leaf : goal.sign_leaf-requires-clause-leaf
 sign_leaf-requires-clause-leaf g c =
-    let own = c.from_vec-signature_key.ensures ∙ c.in_ok-from_slice.ensures.items ∙ c.as_slice.ensures in
-    renewed_short g.S.Suite.crypto g.met.S.Suite.lawful c.args.old.now c.in_ok-leaf.leaf (leaf_key_of g.S.Suite.crypto c.args.seed.now) c.in_ok-pk.field-0.pk.items c.from_vec-signature_key.result c.in_ok-credential.credential c.args.source
+    let own = c.in_ok-signature_key.ensures.bytes ∙ c.as_slice.ensures in
+    renewed_short g.S.Suite.crypto g.met.S.Suite.lawful c.args.old.now c.in_ok-leaf.leaf (leaf_key_of g.S.Suite.crypto c.args.seed.now) c.in_ok-pk.field-0.pk.items c.in_ok-signature_key.signature_key c.in_ok-credential.credential c.args.source
     c.in_ok-leaf.ensures c.in_ok-pk.ensures.public own c.in_ok-credential.ensures.cases c.requires.old c.source_has_spelling.ensures c.requires.source
