@@ -77,8 +77,8 @@ TakenBySame = (c : Crypto) (context : GroupContext) (interim : List ℕ) →
 abbrev pub RemovedByList : Type 0
 RemovedByList = has (removed (use_of 2 (proposal.Remove 1) ∷ use_of 2 (proposal.Add (package_with 2)) ∷ [])) 1 ≡ true
 
--- two updates of one leaf, or one that is removed too, are refused; before that an update of the committer, and before that
--- its removal
+-- two updates of one leaf, or one that is removed too, are refused; before that the committer's removal, and before that its
+-- update
 abbrev pub UpdatedTwice : Type 0
 UpdatedTwice = (c : Crypto) (context : GroupContext) (interim : List ℕ) →
     edited c (state_with context interim four_members) 0 (use_of 1 (proposal.Update (leaf_with 5)) ∷ use_of 1 (proposal.Update (leaf_with 6)) ∷ []) ≡ Err 63
