@@ -1,4 +1,4 @@
--- The format of extensions (RFC 9420, section 13.2).
+-- The format of extensions (RFC 9420, section 13.4).
 use Rattle.std.specs.Prelude.{refl}
 use Rattle.mls_wire.specs.Format.{Format}
 use Rattle.mls_wire.specs.CombineLaws.{IsNonempty}
@@ -6,7 +6,7 @@ use Rattle.mls_wire.specs.Combine.{◌⨾◌, seen, byte_string, uint16}
 use Rattle.mls_leaf.specs.Nonempty.{uint16_nonempty, first_nonempty}
 use Rattle.mls_leaf.specs.declared.extension.Extension as declared
 
--- (RFC 9420, section 13.2) uint16 type, data<V>
+-- (RFC 9420, section 13.4) uint16 type, data<V>
 unfoldable pub extension : Format declared.Extension
 extension = seen (uint16 ⨾ byte_string) (λ x. record { extension_type = x.0; extension_data = x.1 }) (λ v. (v.extension_type, v.extension_data)) (λ v. refl) (λ x _. refl)
 

@@ -9,7 +9,7 @@ use crate::error::LeafError;
 use mls_wire::{Reader, Writer};
 use std::alloc::Global;
 
-/// An extension, whose data this crate doesn't look into (RFC 9420, section 13.2).
+/// An extension, whose data this crate doesn't look into (RFC 9420, section 13.4).
 #[derive(Debug, Clone, PartialEq, Eq, Drop)]
 pub struct Extension {
     /// The number of its type (RFC 9420, section 17.3).
