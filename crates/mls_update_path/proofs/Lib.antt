@@ -3,3 +3,4 @@ pub mod Contexts
 pub mod Merges
 pub mod Leaves
 pub mod Seals
+pub mod Outcomes

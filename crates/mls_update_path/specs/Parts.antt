@@ -1,6 +1,6 @@
 -- A path by the parts of its committer that it is made of, in two steps: the tree with it, and its seals.
 use Rattle.std.specs.Prelude.{ℕ, List, Some, Result, Ok}
-use Rattle.mls_wire.specs.Checks.{◌>>◌}
+use Rattle.mls_wire.specs.Checks.{Passed, ◌>>◌}
 use Rattle.mls_wire.specs.Reading.{◌>>=◌}
 use Rattle.mls_leaf.specs.declared.leaf.LeafNode.{LeafNode}
 use Rattle.mls_leaf.specs.declared.leaf.LeafSource.TheVariants as made_for
@@ -26,12 +26,18 @@ use Rattle.mls_model.specs.Make.{MadePath}
 abbrev pub made_public : Crypto → ℕ → Term → List ℕ → List (List ℕ)
 made_public c i t seed = keys_of_path c t i (path_seed seed)
 
+-- its new leaf with a parent hash (RFC 9420, 7.2), and the checks that it passes (7.3)
+abbrev pub leaf_from : Crypto → List ℕ → List ℕ → ℕ → LeafNode → List ℕ → List ℕ → LeafNode
+leaf_from c signing group i old hash seed =
+    signed_leaf c signing group i
+    (unsigned_leaf c (c.public (leaf_key_of c seed)) old.signature_key old.credential (made_for.Commit hash))
+
+abbrev pub leaf_checks : Crypto → List ℕ → List ℕ → ℕ → LeafNode → List ℕ → List ℕ → Result Passed ℕ
+leaf_checks c signing group i old hash seed = replaced_checks c (leaf_from c signing group i old hash seed) old replaced_for.Commit group i
+
 -- its new leaf, whose parent hash is that of these keys (RFC 9420, 7.2 and 7.9)
 unfoldable pub leaf_with : Crypto → List ℕ → List ℕ → ℕ → Term → LeafNode → List ℕ → LeafNode
-leaf_with c signing group i t old seed =
-    signed_leaf c signing group i
-    (unsigned_leaf c (c.public (leaf_key_of c seed)) old.signature_key old.credential
-    (made_for.Commit (path_parent_hash t i (made_public c i t seed))))
+leaf_with c signing group i t old seed = leaf_from c signing group i old (path_parent_hash t i (made_public c i t seed)) seed
 
 -- its new leaf and the tree with its path, where both pass their checks: 50 to 54, 25, 24
 unfoldable pub merged_of : Crypto → PublicState → List ℕ → ℕ → Term → List ℕ → Result (LeafNode × Term) ℕ

@@ -1,31 +1,33 @@
 //! Making a path.
 
-ghost use Rattle.std.specs.Prelude.{◌≡◌, ℕ, ◌+◌, ◌<◌, ◌^◌, Ok, IfOk};
-ghost use Rattle.mls_wire.specs.Checks.{Answers};
+ghost use Rattle.std.specs.Prelude.{◌≡◌, ℕ, ◌+◌, ◌<◌, ◌≤◌, ◌^◌, length, None, Ok, IfOk};
+ghost use Rattle.mls_wire.specs.Checks.{Answers, passed};
 ghost use Rattle.mls_leaf.specs.Leaf.{leaf_node};
 ghost use Rattle.mls_term.specs.Way.{way, path_length};
+ghost use Rattle.mls_tree.specs.Paths.{merge_answer};
 ghost use Rattle.mls_tree.specs.Tree.{term};
 ghost use Rattle.mls_public_group.specs.Short.{IsBelow, HasLeavesBelow, IsShortContext};
 ghost use Rattle.mls_model.specs.Candidate.{leaf_key_of};
 ghost use Rattle.mls_model.specs.Commit.{with_path};
 ghost use Rattle.mls_model.specs.Make as model;
 ghost use Rattle.mls_model.specs.Member as member;
+ghost use Rattle.mls_paths.specs.Height.{HasFollowed};
 ghost use Rattle.mls_paths.specs.Keys.{all_keys};
 ghost use Rattle.mls_paths.specs.Make.{made_keys};
 ghost use Rattle.mls_paths.specs.Seeds.{path_seed};
 ghost use Rattle.mls_treekem.specs.Secrets.{AreOfChain};
 ghost use Rattle.mls_update_path.specs.Made.{made_path};
 ghost use Rattle.mls_update_path.specs.Faults.{number_of};
-ghost use Rattle.mls_update_path.specs.Parts.{merged_of, path_of};
+ghost use Rattle.mls_update_path.specs.Parts.{leaf_from, leaf_checks, merged_of, path_of};
 
 use crate::context::provisional_bytes;
-use crate::draft::{make_draft, parent_hash, public_keys};
+use crate::draft::{Draft, make_draft, parent_hash, public_keys};
 use crate::error::PathError;
 use mls_candidate::renewed_leaf;
 use mls_checks::{Source, replaced};
 use mls_group::UpdatePath;
 use mls_kdf::{Secret, Seed};
-use mls_leaf::{Items, LeafNode, LeafSource};
+use mls_leaf::{Bytes, Items, LeafNode, LeafSource};
 use mls_public_group::{Edits, PublicGroup};
 use mls_suite::Suite;
 use mls_tree::{PublicTree, TreeError};
@@ -54,6 +56,55 @@ struct Merged {
     keys: PrivatePath,
 }
 
+/// The new leaf of the member at leaf `index`, with this parent hash, where it passes its checks (50 to 54).
+fn checked_leaf<S: Suite>(
+    alloc: Global,
+    group: &PublicGroup,
+    signing: &Secret,
+    index: u32,
+    old: &LeafNode,
+    hash: Bytes,
+    seed: &Seed,
+) -> Result<LeafNode, PathError>
+    requires context { IsShortContext group.now.context }
+    requires old { IsBelow (2 ^ 27) leaf_node old.now }
+    requires hash { length hash ≤ 32 }
+    ensures leaf { IfOk result (λ leaf. leaf ≡ leaf_from S.crypto signing.now group.now.context.group_id index old.now hash seed.now) }
+    ensures below { IfOk result (λ leaf. IsBelow (2 ^ 28) leaf_node leaf) }
+    ensures checks { Answers (λ _. passed) number_of (leaf_checks S.crypto signing.now group.now.context.group_id index old.now hash seed.now) result }
+{
+    let group_id = group.context().group_id.as_slice();
+    let source = LeafSource::Commit { parent_hash: hash };
+    let leaf = renewed_leaf::<S>(alloc, signing, group_id, index, old, source, seed)?;
+    replaced::<S>(alloc, &leaf, old, Source::Commit, group_id, index)?;
+    Ok(leaf)
+}
+
+/// The tree with a path's leaf and keys merged, and the committer's private keys in it (25, 24).
+fn merged_with(
+    index: u32,
+    tree: PublicTree,
+    leaf: LeafNode,
+    public: Vec<Bytes>,
+    made: Draft,
+) -> Result<Merged, PathError>
+    ensures answer { Answers (λ x. term x.tree) number_of (merge_answer (term tree) index leaf public.items) result }
+    ensures leaf { IfOk result (λ x. x.leaf ≡ leaf) }
+    ensures secrets { IfOk result (λ x. x.secrets ≡ made.secrets) }
+    ensures keys { IfOk result (λ x. HasFollowed None (term x.tree) made.keys x.keys) }
+{
+    let mut tree = tree;
+    let Draft { secrets, mut keys } = made;
+    tree.merge_path(index, leaf.clone()?, public)?;
+    keys.follow_edit(&tree, None)?;
+    Ok(Merged {
+        leaf,
+        tree,
+        secrets,
+        keys,
+    })
+}
+
 /// A path of the member at leaf `index` in a tree after edits, its committer's keys, and the tree with it: the new leaf
 /// and the merge pass their checks (50 to 54, 25, 24).
 #[tactic(auto, unfolding(crate::specs::Parts::merged_of))]
@@ -77,23 +128,12 @@ fn make_merged<S: Suite>(
     let Some(old) = group.tree().leaf(index) else {
         return Err(PathError::Tree(TreeError::NoSuchLeaf));
     };
-    let mut made = make_draft::<S>(alloc, edited, index, seed)?;
+    let made = make_draft::<S>(alloc, edited, index, seed)?;
     let public = public_keys(alloc, &made.secrets)?;
     let mut tree = edited.clone()?;
-    let source = LeafSource::Commit {
-        parent_hash: parent_hash(&mut tree, index, &public)?,
-    };
-    let group_id = group.context().group_id.as_slice();
-    let leaf = renewed_leaf::<S>(alloc, signing, group_id, index, old, source, seed)?;
-    replaced::<S>(alloc, &leaf, old, Source::Commit, group_id, index)?;
-    tree.merge_path(index, leaf.clone()?, public)?;
-    made.keys.follow_edit(&tree, None)?;
-    Ok(Merged {
-        leaf,
-        tree,
-        secrets: made.secrets,
-        keys: made.keys,
-    })
+    let hash = parent_hash(&mut tree, index, &public)?;
+    let leaf = checked_leaf::<S>(alloc, group, signing, index, old, hash, seed)?;
+    merged_with(index, tree, leaf, public, made)
 }
 
 /// The path of the member at leaf `index` for a commit with these edits: a member is there (22), its new leaf and the
