@@ -6,17 +6,22 @@ use mls_leaf::LeafError;
 use mls_text::refusal_name as name_of;
 use mls_tree::TreeError;
 use std::alloc::AllocError;
+use thiserror::Error;
 
 /// Why a tree's file has no lines.
-#[derive(Clone, Copy, Debug, PartialEq, Eq)]
+#[derive(Clone, Copy, Debug, PartialEq, Eq, Error)]
 pub enum CheckError {
     /// A growth was refused.
+    #[error("out of memory")]
     OutOfMemory,
     /// The group's id is no hex text.
+    #[error("a group's id that isn't hex")]
     NotHex,
     /// The bytes of the file are no nodes, or the group's id is too long.
+    #[error("{0}")]
     Decoding(LeafError),
     /// The nodes are no tree of a group.
+    #[error("{0}")]
     Tree(TreeError),
 }
 

@@ -1,6 +1,7 @@
 pub mod Text
 pub mod Ends
 pub mod File
+pub mod Faults
 pub mod Page
 pub mod Pieces
 pub mod TextLaws

@@ -4,15 +4,19 @@ ghost use Rattle.std.specs.Prelude.{◌≡◌};
 ghost use Rattle.mls_text.specs.declared.fault.Fault.TheVariants.{OutOfMemory};
 
 use std::alloc::AllocError;
+use thiserror::Error;
 
-/// Why an engine stopped.
-#[derive(Clone, Copy, Debug, PartialEq, Eq)]
+/// Why an engine stopped. No refusal: what it was given isn't at fault, so it has no number.
+#[derive(Clone, Copy, Debug, PartialEq, Eq, Error)]
 pub enum Fault {
     /// A growth was refused.
+    #[error("out of memory")]
     OutOfMemory,
     /// The reader failed.
+    #[error("a read failed")]
     Read,
     /// The writer failed, or took nothing.
+    #[error("a write failed")]
     Write,
 }
 

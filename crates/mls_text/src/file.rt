@@ -1,18 +1,45 @@
 //! A file of hex digits.
 
 ghost use Rattle.std.specs.Prelude.{◌≡◌, ◌⊎◌, Some, None, IfOk, Err, length, ◌%◌};
+ghost use Rattle.mls_wire.specs.Names.{refusal_name};
 ghost use Rattle.mls_text.specs.File.{bytes_in, is_blank, trimmed, without_back, without_front};
+ghost use Rattle.mls_text.specs.Faults.{number_of};
 
 use hex::FromHexError;
 use std::alloc::Global;
+use thiserror::Error;
 
 /// Why a file has no bytes.
-#[derive(Clone, Copy, Debug, PartialEq, Eq)]
+#[derive(Clone, Copy, Debug, PartialEq, Eq, Error)]
 pub enum FileError {
     /// A growth was refused.
+    #[error("out of memory")]
     OutOfMemory,
     /// The text, without the blanks at both ends, is no hex text.
+    #[error("a text that isn't hex")]
     NotHex,
+}
+
+impl FileError {
+    /// The number of the refusal.
+    pub fn number(self) -> u8
+        ensures { result ≡ number_of self }
+    {
+        match self {
+            FileError::OutOfMemory => 1,
+            FileError::NotHex => 8,
+        }
+    }
+
+    /// The name of the refusal, as it is printed.
+    pub fn name(self) -> &'static str
+        ensures { result.now ≡ refusal_name (number_of self) }
+    {
+        match self {
+            FileError::OutOfMemory => "OutOfMemory",
+            FileError::NotHex => "NotHex",
+        }
+    }
 }
 
 fn blank(byte: u8) -> bool
