@@ -1,4 +1,5 @@
 pub mod Faults
+pub mod Names
 pub mod Codes
 pub mod Changed
 pub mod Below

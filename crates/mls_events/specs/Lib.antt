@@ -1,4 +1,5 @@
 pub mod Faults
+pub mod Names
 pub mod Answers
 pub mod Stored
 pub mod Unrolled

@@ -4,6 +4,7 @@
 mod entrance;
 mod error;
 mod keys;
+mod laws;
 mod opening;
 mod secrets;
 mod signer;
@@ -11,3 +12,4 @@ mod tree;
 
 pub use entrance::{Entrance, join};
 pub use error::JoinError;
+pub use laws::join_names_by_number;

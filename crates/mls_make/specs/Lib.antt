@@ -1,4 +1,5 @@
 pub mod Faults
+pub mod Names
 pub mod Making
 pub mod Parts
 pub mod Bodies

@@ -2,10 +2,12 @@
 #![tactic(auto)]
 
 mod error;
+mod laws;
 mod new_commit;
 mod own_path;
 mod sent_commit;
 mod welcomed;
 
 pub use error::MakeError;
+pub use laws::make_names_by_number;
 pub use new_commit::{NewCommit, make};

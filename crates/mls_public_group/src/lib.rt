@@ -19,7 +19,7 @@ mod used;
 pub use edits::Edits;
 pub use error::GroupError;
 pub use group::PublicGroup;
-pub use laws::short_leaves_after_path;
+pub use laws::{group_names_by_number, short_leaves_after_path};
 pub use next_tree::NextTree;
 pub use shared_tree::SharedTree;
 pub use used::Used;

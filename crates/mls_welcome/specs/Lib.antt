@@ -1,4 +1,5 @@
 pub mod Faults
+pub mod Names
 pub mod Joiners
 pub mod Making
 pub mod Spelled

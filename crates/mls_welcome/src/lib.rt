@@ -5,10 +5,12 @@ mod entries;
 mod error;
 mod info;
 mod joiners;
+mod laws;
 mod limits;
 mod making;
 mod ranges;
 
 pub use error::WelcomeError;
 pub use joiners::joiners_of;
+pub use laws::welcome_names_by_number;
 pub use making::{Joiner, welcome};

@@ -1,0 +1,5 @@
+use Rattle.mls_candidate.specs.Names.{candidate_names_listed}
+use Rattle.mls_candidate.proofs.laws.candidate_names_by_number.Goals as goal
+
+pub returns : goal.returns
+returns c = candidate_names_listed

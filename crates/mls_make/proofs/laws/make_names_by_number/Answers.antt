@@ -1,0 +1,5 @@
+use Rattle.mls_make.specs.Names.{make_names_listed}
+use Rattle.mls_make.proofs.laws.make_names_by_number.Goals as goal
+
+pub returns : goal.returns
+returns c = make_names_listed
