@@ -12,6 +12,7 @@ use Rattle.mls_leaf.specs.declared.leaf.LeafSource.{LeafSource}
 use Rattle.mls_leaf.specs.declared.leaf.LeafSource.TheVariants as made_for
 use Rattle.mls_suite.specs.Crypto.{Crypto, Lawful}
 use Rattle.mls_model.specs.Candidate.{made_capabilities, unsigned_leaf}
+use Rattle.mls_model.specs.CandidateLaws.{capabilities_fit}
 use Rattle.mls_public_group.specs.Lengths.{opaque_most}
 use Rattle.mls_public_group.specs.Short.{IsBelow}
 use Rattle.mls_candidate.specs.Short.{IsShortSource, IsShortLeaf}
@@ -49,10 +50,6 @@ signed_below v signature s lt =
     }
 
 -- ---- what it is made of
-
-capabilities_fit : (c : Crypto) → c.number < 2 ^ 16 → capabilities.Fits (made_capabilities c)
-unfolding capabilities made_capabilities uint
-capabilities_fit c lt = (((lit< tt, tt), lit< tt), (((lt, tt), lit< tt), ((tt, lit< tt), ((tt, lit< tt), ((lit< tt, tt), lit< tt)))))
 
 capabilities_length : (c : Crypto) → length (capabilities.spell (made_capabilities c)) ≡ 11
 unfolding capabilities made_capabilities uint header

@@ -75,7 +75,7 @@ pub record IsAlong (c : Crypto) (m : Member) (bytes : List ℕ) (epoch : ℕ) (a
 abbrev pub ReceivedAlong : Type 0
 ReceivedAlong = (c : Crypto) (m : Member) (bytes : List ℕ) (epoch : ℕ) (after : Member) → AreGoodKept c m m.kept → received c m bytes ≡ Ok (Advanced epoch, after) → IsAlong c m bytes epoch after
 
-abbrev to : Effect → Member → Effect × Member
+abbrev pub to : Effect → Member → Effect × Member
 to f m = (f, m)
 
 known_is : (m n : Member) (r : List ℕ) (k : ℕ) → to (Known r) m ≡ to (Advanced k) n → ⊥
@@ -84,7 +84,7 @@ known_is m n r k e = let f : Known r ≡ Advanced k = ap (λ (x : Effect × Memb
 proposed_is : (m n : Member) (r : List ℕ) (k : ℕ) → to (Proposed r) m ≡ to (Advanced k) n → ⊥
 proposed_is m n r k e = let f : Proposed r ≡ Advanced k = ap (λ (x : Effect × Member). x.0) e in absurd cc
 
-removed_is : (m n : Member) (k : ℕ) → to Removed m ≡ to (Advanced k) n → ⊥
+pub removed_is : (m n : Member) (k : ℕ) → to Removed m ≡ to (Advanced k) n → ⊥
 removed_is m n k e = let f : Removed ≡ Advanced k = ap (λ (x : Effect × Member). x.0) e in absurd cc
 
 advanced_is : (m n : Member) (j k : ℕ) → to (Advanced j) m ≡ to (Advanced k) n → k ≡ j

@@ -1,9 +1,7 @@
 -- A tree that is made of nodes that have a spelling, as they are sent.
-use Rattle.std.proofs.Common.{◌≡◌, ℕ, zero, suc, ◌+◌, ◌-◌, true, List, [], ◌∷◌, ◌++◌, length, get_or, take, drop, Option, Some, None, Ok, refl, sym, subst, ◌∙◌, inl, inr, arith, length-take}
-use Rattle.std.specs.Prelude.{replicate}
+use Rattle.std.proofs.Common.{◌≡◌, ℕ, zero, suc, ◌+◌, ◌-◌, true, List, [], ◌∷◌, length, get_or, take, drop, Option, Some, None, Ok, refl, subst, ◌∙◌}
 use Rattle.std.specs.List.{AllByRecursion}
-use Rattle.std.proofs.lemmas.List.{get_or-take, get_or-drop, get_or_past, get_or_append_left, get_or-append_right}
-use Rattle.std.proofs.lemmas.Bool.{cases_lt, and_from, leb-true}
+use Rattle.std.proofs.lemmas.Bool.{and_from, leb-true}
 use Rattle.mls_wire.specs.Checks.{passed}
 use Rattle.mls_wire.specs.Laws.{ok_is}
 use Rattle.mls_wire.specs.Stateful.{RunFits}
@@ -27,34 +25,9 @@ use Rattle.mls_tree.specs.Tree.{max_leaves}
 use Rattle.mls_model.specs.Agreement.{NodeFits}
 use Rattle.mls_claims.specs.Nodes.{LeafFits, ParentShort, PartsFit}
 use Rattle.mls_wire.specs.CheckLaws.{require_ok}
+use Rattle.mls_tree.specs.Cells.{Cells, of_front, of_back, of_padded}
 
 -- ---- what holds of each cell, and of a blank one
-
--- each cell of a list is so, and so are those past its end
-abbrev Cells : (Option Node → Type 0) → List (Option Node) → Type 0
-Cells P xs = (k : ℕ) → P (get_or xs k None)
-
-of_front : (P : Option Node → Type 0) → P None → (n : ℕ) (xs : List (Option Node)) → Cells P xs → Cells P (take n xs)
-of_front P blank n xs all k =
-    elim (cases_lt k n) [
-      | inl low ↦ subst P (sym (get_or-take n xs k None low)) (all k)
-      | inr high ↦ subst P (sym (get_or_past (take n xs) k None (omega (arith, length-take n xs)))) blank
-    ]
-
-of_back : (P : Option Node → Type 0) (n : ℕ) (xs : List (Option Node)) → Cells P xs → Cells P (drop n xs)
-of_back P n xs all k = subst P (sym (get_or-drop n xs k None)) (all (n + k))
-
-of_blanks : (P : Option Node → Type 0) → P None → (n : ℕ) → Cells P (replicate n None)
-of_blanks P blank zero k = blank
-of_blanks P blank (suc n) zero = blank
-of_blanks P blank (suc n) (suc k) = of_blanks P blank n k
-
-of_padded : (P : Option Node → Type 0) → P None → (n : ℕ) (xs : List (Option Node)) → Cells P xs → Cells P (xs ++ replicate n None)
-of_padded P blank n xs all k =
-    elim (cases_lt k (length xs)) [
-      | inl low ↦ subst P (sym (get_or_append_left xs (replicate n None) None k low)) (all k)
-      | inr high ↦ subst P (sym (get_or-append_right xs (replicate n None) (length xs) k None refl high)) (of_blanks P blank n (k - length xs))
-    ]
 
 of_all : (P : Option Node → Type 0) → P None → (xs : List (Option Node)) → AllByRecursion P xs → Cells P xs
 of_all P blank [] all zero = blank

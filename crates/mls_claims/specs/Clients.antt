@@ -2,16 +2,16 @@
 use Rattle.std.proofs.Common.{◌≡◌, ℕ, ◌+◌, ◌<◌, ◌≤◌, ◌==◌, Bool, true, false, List, [], ◌∷◌, map, Option, Some, None, refl, sym, ap, ap₂, ◌∙◌, inl, inr, arith, eqb-true, subst}
 use Rattle.std.specs.Prelude.{◌≢◌}
 use Rattle.std.specs.Str.{bytes_eq}
-use Rattle.std.proofs.lemmas.Bool.{cases_lt, and_parts, and_from}
+use Rattle.std.proofs.lemmas.Bool.{cases_lt, and_parts}
 use Rattle.std.proofs.lemmas.Slice.Eq.{bytes_eq-Decides}
 use Rattle.mls_leaf.specs.declared.leaf.LeafNode.{LeafNode}
 use Rattle.mls_term.specs.Equations.{leaf_at_left, leaf_at_right, leaf_of_in}
 use Rattle.mls_term.specs.Good.{has_distinct_clients}
 use Rattle.mls_term.specs.ClientLaws.{one_client}
 use Rattle.mls_term.specs.Keys.{members}
-use Rattle.mls_term.specs.SetLaws.{eqb_refl}
 use Rattle.mls_term.specs.Sets.{same_bytes, count, is_distinct}
 use Rattle.mls_term.specs.Term.{Term, Leaf, Branch, width, leaf_at, leaf_of}
+use Rattle.mls_term.specs.MergeLaws.{bytes_refl}
 use Rattle.mls_claims.specs.One.{IsOneOf, one_left, one_right, one_parted}
 use Rattle.mls_claims.specs.Sent.{leaf_is_in}
 
@@ -64,14 +64,9 @@ stands_in t q is = let s = member_stands 0 t q is in leaf_of_in t q.0 (omega (ar
 
 -- ---- a value of a list is counted
 
-same_self : (xs : List ℕ) → same_bytes xs xs ≡ true
-unfolding same_bytes
-same_self [] = refl
-same_self (x ∷ xs) = and_from _ _ (eqb_refl x) (same_self xs)
-
 count_here : (x y : List ℕ) (xs : List (List ℕ)) → x ≡ y → 0 < count same_bytes y (x ∷ xs)
 unfolding count
-count_here x y xs e = let s : same_bytes x y ≡ true = subst (λ (z : List ℕ). same_bytes x z ≡ true) e (same_self x) in rw s (omega arith)
+count_here x y xs e = let s : same_bytes x y ≡ true = subst (λ (z : List ℕ). same_bytes x z ≡ true) e (bytes_refl x) in rw s (omega arith)
 
 count_there : (x y : List ℕ) (xs : List (List ℕ)) → 0 < count same_bytes y xs → 0 < count same_bytes y (x ∷ xs)
 unfolding count

@@ -43,7 +43,7 @@ use Rattle.mls_claims.specs.Pends.{made_pends}
 use Rattle.mls_claims.specs.Spelled.{package_leaf}
 use Rattle.mls_wire.specs.CheckLaws.{then_ok, bind_ok}
 use Rattle.mls_claims.specs.Still.{pending_good}
-use Rattle.mls_claims.specs.Welcomed.{within_is}
+use Rattle.mls_claims.specs.Sent.{within_is}
 
 -- ---- a commit
 

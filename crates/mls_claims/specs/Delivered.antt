@@ -31,7 +31,7 @@ use Rattle.mls_model.specs.Member.{Kept, Pending, Member, kept_under, named, fir
 use Rattle.mls_model.specs.Messages.{decoded, sender_leaf, reference_of}
 use Rattle.mls_model.specs.Public.{PublicState}
 use Rattle.mls_model.specs.Verdict.{is_kept, kept_of, verdict}
-use Rattle.mls_paths.specs.Keys.{Keys, PrivateKeys}
+use Rattle.mls_paths.specs.Keys.{PrivateKeys}
 use Rattle.mls_laws.specs.Laws.{KeepsSignature}
 use Rattle.mls_laws.proofs.Exact.{keys_next}
 use Rattle.mls_laws.proofs.Inversion.{edited_steps, body_steps}
@@ -44,14 +44,16 @@ use Rattle.mls_model.specs.Receipts.{did_receive, did_take}
 use Rattle.mls_claims.specs.Spelled.{commit_in}
 use Rattle.mls_claims.specs.Stays.{taken}
 use Rattle.mls_wire.specs.CheckLaws.{bind_ok}
+use Rattle.mls_model.specs.KeyLaws.{leaf_stays}
 use Rattle.mls_claims.specs.Still.{keeping_good, left_good}
+use Rattle.mls_claims.specs.Along.{to}
 
 abbrev framed_of : PublicMessage → FramedContent
 framed_of v = framed v.content
 
 -- ---- what the bytes say
 
-one_said : (v w : PublicMessage) (r : Result MlsMessage ℕ) → r ≡ Ok (message.PublicMessage v) → r ≡ Ok (message.PublicMessage w) → v ≡ w
+pub one_said : (v w : PublicMessage) (r : Result MlsMessage ℕ) → r ≡ Ok (message.PublicMessage v) → r ≡ Ok (message.PublicMessage w) → v ≡ w
 one_said v w r a b = cc
 
 message_fits : (bytes : List ℕ) (v : PublicMessage) → IsBytes bytes → decoded bytes ≡ Ok (message.PublicMessage v) → mls_message.Fits (message.PublicMessage v)
@@ -116,9 +118,6 @@ proposed_kept c m bytes v said x good are reads framed says new = record {
   others = λ apart. refl;
 }
 
-abbrev to : Effect → Member → Effect × Member
-to e m = (e, m)
-
 after_is : (P : Member → Type 0) (e : Effect) (m : Member) (x : Effect × Member) → to e m ≡ x → P m → P x.1
 after_is P e m x q h = subst P (ap (λ (y : Effect × Member). y.1) q) h
 
@@ -150,10 +149,6 @@ next_good c m change tag epoch keys good next same exact signed = record {
   context = next.context;
   nodes = next.nodes;
 }
-
-leaf_stays : (keys : PrivateKeys) (ks : Keys) → (with_keys keys ks).leaf ≡ keys.leaf
-unfolding with_keys
-leaf_stays keys ks = refl
 
 followed_good : (c : Crypto) (m : Member) (bytes : List ℕ) (v : PublicMessage) (y : Commit) (tag : List ℕ) (x : Effect × Member) → IsGoodMember c m → IsBytes bytes → decoded bytes ≡ Ok (message.PublicMessage v) → IsFramed c m v bytes → v.content.body ≡ body_of.Commit y tag →
     (d : CommitDid c m v.content y tag x) → HasFollowed c m v.content y tag d.used d.change x → IsGoodMember c x.1

@@ -30,7 +30,7 @@ use Rattle.mls_tree.specs.Rules.{rules_of}
 use Rattle.mls_tree.specs.Tree.{max_leaves}
 use Rattle.mls_paths.specs.Join.{take_answer, has_due}
 use Rattle.mls_paths.specs.JoinLaws.{take_exact, take_inside}
-use Rattle.mls_paths.specs.Keys.{Keys, PrivateKeys}
+use Rattle.mls_paths.specs.Keys.{PrivateKeys}
 use Rattle.mls_paths.specs.MemberLaws.{exact_alone}
 use Rattle.mls_paths.specs.Members.{HasExact}
 use Rattle.mls_schedule.specs.Epoch.{welcome_key, welcome_nonce, epoch_secret, confirmation_tag}
@@ -38,7 +38,6 @@ use Rattle.mls_schedule.specs.Transcript.{interim_hash}
 use Rattle.mls_model.specs.Agreement.{NodeFits, IsGoodMember, IsGoodCandidate}
 use Rattle.mls_model.specs.Candidate.{Candidate}
 use Rattle.mls_model.specs.Join.{Joined, joined_tree, signer_checks, is_same_leaf, place_of, joined_keys, member_of, join_verdict}
-use Rattle.mls_model.specs.Member.{with_keys}
 use Rattle.mls_model.specs.Messages.{decoded, are_bytes}
 use Rattle.mls_model.specs.Opening.{or_fault, welcome_in, Opened, opened_secrets, opened_welcome}
 use Rattle.mls_model.specs.Proposals.{package_reference}
@@ -53,6 +52,7 @@ use Rattle.mls_claims.specs.Sent.{leaf_is_in}
 use Rattle.mls_claims.specs.Spelled.{one_spelled, package_leaf}
 use Rattle.mls_claims.specs.Stays.{inside}
 use Rattle.mls_wire.specs.CheckLaws.{require_ok, then_ok, bind_ok, given_ok}
+use Rattle.mls_model.specs.KeyLaws.{leaf_stays}
 
 -- ---- what was opened
 
@@ -187,10 +187,6 @@ record KeysDid (c : Crypto) (t : Term) (leaf : ℕ) (keys : PrivateKeys) : Type 
   exact : HasExact c t keys
   same : keys.leaf ≡ leaf
 
-written_at : (p : PrivateKeys) (ks : Keys) → (with_keys p ks).leaf ≡ p.leaf
-unfolding with_keys
-written_at p ks = refl
-
 keys_alone : (c : Crypto) (k : Candidate) (t : Term) (leaf : ℕ) (x : LeafNode) → leaf_at 0 t leaf ≡ Some x → c.public k.leaf ≡ x.encryption_key → has_due t (alone_at k leaf) ≡ true → KeysDid c t leaf (alone_at k leaf)
 unfolding alone_at
 keys_alone c k t leaf x is own due = record { exact = exact_alone c t x k.leaf (alone_at k leaf) is own refl due; same = refl }
@@ -205,7 +201,7 @@ keys_did c k t i leaf x y (Some secret) keys there here ne own h =
     let s = bind_ok (take_answer c t i leaf k.leaf secret) _ _ h in
     let hi = inside t i y there in
     let exact = take_exact c t i leaf x k.leaf secret s.0 hi (inside t leaf x here) ne (leaf_is_in t leaf x here).1 own (sym (take_inside c t i leaf k.leaf secret hi) ∙ s.1) in
-    subst (KeysDid c t leaf) (ok_is _ keys s.2) (record { exact = exact_written c t (alone_at k leaf) s.0.keys exact; same = written_at (alone_at k leaf) s.0.keys })
+    subst (KeysDid c t leaf) (ok_is _ keys s.2) (record { exact = exact_written c t (alone_at k leaf) s.0.keys exact; same = leaf_stays (alone_at k leaf) s.0.keys })
 
 -- ---- it is good
 

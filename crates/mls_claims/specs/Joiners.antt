@@ -33,11 +33,11 @@ use Rattle.mls_claims.specs.Makes.{commit_of, said_of, signature_of, joiner_of, 
 use Rattle.mls_claims.specs.Next.{IsNext, place_found}
 use Rattle.mls_claims.specs.Nodes.{sent_nodes_fit}
 use Rattle.mls_claims.specs.Opened.{IsChange, body_did, same_edits}
-use Rattle.mls_claims.specs.Sent.{leaf_is_in, leaf_short, path_did}
+use Rattle.mls_claims.specs.Sent.{leaf_is_in, leaf_short, path_did, within_is}
 use Rattle.mls_claims.specs.Spelled.{package_leaf}
 use Rattle.mls_claims.specs.Stays.{taken, inside}
 use Rattle.mls_claims.specs.Taken.{TakesKeys, keys_taken}
-use Rattle.mls_claims.specs.Welcomed.{within_is, welcome_opens}
+use Rattle.mls_claims.specs.Welcomed.{welcome_opens}
 
 joiner_32 : (m : Member) (path : MadePath) (change : Change) → length (joiner_of m path change) ≡ 32
 unfolding joiner_of

@@ -1,5 +1,5 @@
 -- A made Welcome leads each candidate that its commit adds to its maker's next public state and epoch.
-use Rattle.std.proofs.Common.{◌≡◌, ℕ, zero, suc, if◌then◌else◌, Bool, true, false, List, [], ◌∷◌, length, zip, Option, Some, None, Result, Ok, refl, sym, ap, ◌∙◌, inl, inr, eq-eqb}
+use Rattle.std.proofs.Common.{◌≡◌, ℕ, if◌then◌else◌, Bool, true, false, List, [], ◌∷◌, length, zip, Option, Some, None, Result, Ok, refl, sym, ap, ◌∙◌, inl, inr, eq-eqb}
 use Rattle.std.specs.List.{list_any}
 use Rattle.std.specs.Str.{bytes_eq}
 use Rattle.mls_kdf.specs.Lengths.{length-derive_secret}
@@ -11,7 +11,7 @@ use Rattle.mls_types.specs.Commit.{commit}
 use Rattle.mls_types.specs.declared.commit.ProposalOrRef.{ProposalOrRef}
 use Rattle.mls_suite.specs.Crypto.{Crypto}
 use Rattle.mls_term.specs.Way.{Step, way, is_beside}
-use Rattle.mls_paths.specs.Chain.{chain, next_secret}
+use Rattle.mls_paths.specs.Chain.{chain}
 use Rattle.mls_paths.specs.Join.{secret_for}
 use Rattle.mls_paths.specs.Make.{filtered_count}
 use Rattle.mls_paths.specs.Seeds.{seal_seed}
@@ -41,15 +41,11 @@ use Rattle.mls_claims.specs.Sent.{sent_of, made_fits}
 use Rattle.mls_claims.specs.Spelled.{one_spelled, commit_in, used_fit, adds_fit}
 use Rattle.mls_claims.specs.Stays.{taken}
 use Rattle.mls_wire.specs.CheckLaws.{bind_ok}
+use Rattle.mls_paths.specs.OpenLaws.{chain_length}
 use Rattle.mls_claims.specs.Used.{IsUsedAlike, used_for_other}
 use Rattle.mls_claims.specs.Welcomed.{encrypted_info, Welcomes, welcome_did}
 
 -- ---- secrets have 32 bytes
-
-chain_32 : (start : List ℕ) (n : ℕ) → length start ≡ 32 → length (chain start n) ≡ 32
-unfolding chain next_secret
-chain_32 start zero h = h
-chain_32 start (suc n) h = length-derive_secret _ _
 
 side_32 : (b : Bool) (x y : List ℕ) → length x ≡ 32 → length y ≡ 32 → length (if b then x else y) ≡ 32
 side_32 true x y h k = h
@@ -58,7 +54,7 @@ side_32 false x y h k = k
 secret_32 : (ss : List Step) (j : ℕ) (start : List ℕ) → length start ≡ 32 → length (secret_for ss j start) ≡ 32
 unfolding secret_for
 secret_32 [] j start h = h
-secret_32 (s ∷ ss) j start h = side_32 (is_beside s j) (chain start (filtered_count ss)) (secret_for ss j start) (chain_32 start (filtered_count ss) h) (secret_32 ss j start h)
+secret_32 (s ∷ ss) j start h = side_32 (is_beside s j) (chain start (filtered_count ss)) (secret_for ss j start) (chain_length start (filtered_count ss) h) (secret_32 ss j start h)
 
 start_32 : (seed : List ℕ) → length (path_seed seed) ≡ 32
 unfolding path_seed

@@ -109,7 +109,7 @@ StatesAlong = (c : Crypto) (creations : Creations) (origin : Origin) (entries : 
 
 -- ---- the tag of one more entry
 
-last_more : (origin : Origin) (e : Entry) (es : List Entry) → last_tag origin (e ∷ es) ≡ tag_of_message (decoded e.commit)
+pub last_more : (origin : Origin) (e : Entry) (es : List Entry) → last_tag origin (e ∷ es) ≡ tag_of_message (decoded e.commit)
 unfolding last_tag
 last_more (Creation k) e es = refl
 last_more (JoinedBy info) e es = refl
@@ -250,14 +250,14 @@ pub record CallsKeepState : Type 0 where
   pub commits : (c : Crypto) (m : Member) (list : List ProposalOrRef) (wants_path : Bool) (seed : List ℕ) (x : (List ℕ × Option (List ℕ)) × Member) → committed c m list wants_path seed ≡ Ok x → IsSameState m x.1
   pub drops : (m : Member) → IsSameState m (without_pending m)
 
-same_itself : (m : Member) → IsSameState m m
+pub same_itself : (m : Member) → IsSameState m m
 same_itself m = record { public = refl; epoch = refl; keys = refl; signing = refl }
 
 keeping_same : (m : Member) (k : Kept) → IsSameState m (keeping m k)
 unfolding keeping
 keeping_same m k = record { public = refl; epoch = refl; keys = refl; signing = refl }
 
-pending_same : (m : Member) (p : Pending) → IsSameState m (with_pending m p)
+pub pending_same : (m : Member) (p : Pending) → IsSameState m (with_pending m p)
 unfolding with_pending
 pending_same m p = record { public = refl; epoch = refl; keys = refl; signing = refl }
 

@@ -22,10 +22,11 @@ use Rattle.mls_model.specs.Agreement.{IsGoodCandidate}
 use Rattle.mls_model.specs.Candidate.{Candidate, init_key_of, leaf_key_of, unsigned_leaf, signed_leaf, made_capabilities, offered_leaf, unsigned_package, signed_package, package_message, new_candidate}
 use Rattle.mls_paths.specs.Seeds.{sign_seed}
 use Rattle.mls_model.specs.Messages.{is_within_limit}
-use Rattle.mls_claims.specs.Fit.{short_first, short_last, short_text, capabilities_fit, made_leaf_fits}
+use Rattle.mls_claims.specs.Fit.{short_first, short_last, short_text, made_leaf_fits}
 use Rattle.mls_claims.specs.GoodMembers.{CandidatesGood}
 use Rattle.mls_wire.specs.CheckLaws.{require_ok, then_ok}
-use Rattle.mls_claims.specs.Welcomed.{within_is}
+use Rattle.mls_model.specs.CandidateLaws.{capabilities_fit}
+use Rattle.mls_claims.specs.Sent.{within_is}
 
 -- the KeyPackage of an identity and a seed
 unfoldable offered_by : Crypto → List ℕ → List ℕ → KeyPackage

@@ -26,13 +26,14 @@ use Rattle.mls_model.specs.Make.{MadePath, Made, committed_leaf, no_path}
 use Rattle.mls_model.specs.Agreement.{IsGoodMember, IsGoodPending}
 use Rattle.mls_model.specs.Claims.{IsMade}
 use Rattle.mls_wire.specs.CheckLaws.{then_ok}
+use Rattle.mls_model.specs.KeyLaws.{with_all_keys}
 use Rattle.mls_claims.specs.Makes.{commit_of, said_of, tag_of, content_of, made_of, Makes, make_did}
 use Rattle.mls_claims.specs.Sent.{IsNewPath, ReadsBack, sent_of, path_did, made_fits}
 use Rattle.mls_claims.specs.Opened.{IsChange, body_did, same_edits, one_tree}
 use Rattle.mls_claims.specs.Received.{sender_is}
 use Rattle.mls_claims.specs.Along.{body_is}
 use Rattle.mls_laws.specs.Laws.{IsKept}
-use Rattle.mls_laws.proofs.Exact.{keys_back, with_all_keys, has_followed}
+use Rattle.mls_laws.proofs.Exact.{keys_back, has_followed}
 use Rattle.mls_laws.proofs.Staying.{edits_follow_committer}
 use Rattle.mls_claims.specs.Stays.{taken}
 

@@ -1,5 +1,5 @@
 -- A good member stays good over the proposals that it makes.
-use Rattle.std.proofs.Common.{◌≡◌, ℕ, ◌<◌, ◌≤◌, ◌^◌, true, false, not, List, [], ◌++◌, length, Option, Some, None, IsSome, Ok, refl, subst, arith, lit<}
+use Rattle.std.proofs.Common.{◌≡◌, ℕ, ◌<◌, ◌≤◌, ◌^◌, not, List, [], ◌++◌, length, Option, Some, None, IsSome, Ok, refl, subst, arith, lit<}
 use Rattle.std.specs.Int.{w8, w16, w64}
 use Rattle.std.proofs.lemmas.Bool.{leb-true}
 use Rattle.mls_wire.specs.Checks.{passed}
@@ -33,12 +33,13 @@ use Rattle.mls_model.specs.Member.{Kept, Member, kept_under}
 use Rattle.mls_model.specs.Messages.{decoded, is_within_limit, said_by, content_tag, sent_by, reference_of}
 use Rattle.mls_model.specs.Proposals.{proposal_checks}
 use Rattle.mls_model.specs.Propose.{proposal_by, kept_once, proposed, proposed_add, updated_leaf, proposed_update, proposed_remove}
-use Rattle.mls_claims.specs.Fit.{short_first, short_last, short_text, capabilities_fit, made_leaf_fits, update_source_fits}
-use Rattle.mls_claims.specs.Sent.{ReadsBack, message_fits, leaf_short, leaf_is_in, context_fits}
+use Rattle.mls_claims.specs.Fit.{short_first, short_last, short_text, made_leaf_fits, update_source_fits}
+use Rattle.mls_claims.specs.Sent.{ReadsBack, message_fits, leaf_short, leaf_is_in, context_fits, within_is}
 use Rattle.mls_claims.specs.Stays.{taken}
 use Rattle.mls_wire.specs.CheckLaws.{require_ok, required, then_ok, bind_ok}
+use Rattle.mls_term.specs.TakenLaws.{some_at}
+use Rattle.mls_model.specs.CandidateLaws.{capabilities_fit}
 use Rattle.mls_claims.specs.Still.{keeping_good}
-use Rattle.mls_claims.specs.Welcomed.{within_is}
 
 -- ---- its message reads back
 
@@ -154,11 +155,6 @@ updated_good c m seed y good h =
     let s2 = bind_ok (member_at m.public.tree m.keys.leaf) _ _ s1.1 in
     let x : LeafNode = updated_leaf c m s2.0 seed in
     proposed_good c m (proposes.Update x) (Some (leaf_key_of c seed)) y good (update_fits x (new_leaf_fits c m s2.0 seed (context_fits c m good).suite)) (λ _. (leaf_key_of c seed, refl, new_leaf_key c m s2.0 seed)) s2.2
-
--- a leaf that a remove names is a member's
-some_at : (o : Option LeafNode) → IsSome o → (x : LeafNode) × (o ≡ Some x)
-some_at None h = absurd (let e : false ≡ true = h in cc)
-some_at (Some x) h = (x, refl)
 
 remove_fits : (i : ℕ) → i < 2 ^ 32 → FitsIfShort (proposes.Remove i)
 unfolding proposal

@@ -1,5 +1,5 @@
 -- A commit that a good member makes reads back.
-use Rattle.std.proofs.Common.{◌≡◌, ℕ, ◌<◌, ◌≤◌, ◌^◌, nat_lt, Bool, true, false, cond, List, [], ◌++◌, length, Option, Some, None, Result, Ok, refl, sym, ap, subst, ◌∙◌, ◌⊎◌, inl, inr, arith, lit<}
+use Rattle.std.proofs.Common.{◌≡◌, ℕ, ◌<◌, ◌≤◌, ◌^◌, nat_lt, Bool, true, false, cond, List, [], ◌++◌, length, Option, Some, None, Ok, refl, sym, ap, subst, ◌∙◌, ◌⊎◌, inl, inr, arith, lit<}
 use Rattle.std.specs.Int.{w8, w16, w64}
 use Rattle.std.specs.List.{AllByRecursion}
 use Rattle.std.proofs.lemmas.Bool.{ltb-true, leb-true, and_parts}
@@ -50,7 +50,9 @@ use Rattle.mls_model.specs.Messages.{decoded, is_within_limit, said_by, content_
 use Rattle.mls_model.specs.Make.{MadePath, Made, committed_leaf, new_path, no_path}
 use Rattle.mls_model.specs.Agreement.{IsGoodMember}
 use Rattle.mls_wire.specs.CheckLaws.{required, then_ok, bind_ok, given_ok}
-use Rattle.mls_claims.specs.Fit.{short_first, short_last, short_text, capabilities_fit, made_leaf_fits, commit_source_fits, LeafFitsIfShort, commit_fits}
+use Rattle.mls_model.specs.Receipts.{either_way}
+use Rattle.mls_model.specs.CandidateLaws.{capabilities_fit}
+use Rattle.mls_claims.specs.Fit.{short_first, short_last, short_text, made_leaf_fits, commit_source_fits, LeafFitsIfShort, commit_fits}
 use Rattle.mls_claims.specs.Makes.{commit_of, said_of, signature_of, tag_of, content_of, message_of, made_of, path_for, Makes}
 
 -- ---- the path of a made commit
@@ -91,9 +93,6 @@ new_path_did c m e seed path h =
     }
 
 -- which way a test went
-either_way : {A P Q : Type 0} (b : Bool) (x y : Result A ℕ) (z : A) → cond b x y ≡ Ok z → (b ≡ true → x ≡ Ok z → P) → (b ≡ false → y ≡ Ok z → Q) → P ⊎ Q
-either_way true x y z e f g = inl (f refl e)
-either_way false x y z e f g = inr (g refl e)
 
 pub path_did : PathDid
 unfolding path_for
@@ -219,7 +218,7 @@ abbrev pub MadeFits : Type 0
 MadeFits = (c : Crypto) (m : Member) (list : List ProposalOrRef) (wants_path : Bool) (seed : List ℕ) (made : Made) (k : Makes c m list wants_path seed made) →
     IsGoodMember c m → AllByRecursion proposal_or_ref.Fits list → ReadsBack made.commit (sent_of c m list k.path k.change)
 
-within_is : (bytes : List ℕ) → is_within_limit bytes ≡ Ok passed → length bytes ≤ input_limit
+pub within_is : (bytes : List ℕ) → is_within_limit bytes ≡ Ok passed → length bytes ≤ input_limit
 unfolding is_within_limit
 within_is bytes h = leb-true _ _ (and_parts _ _ (required _ _ _ h)).0
 

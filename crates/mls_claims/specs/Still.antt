@@ -62,7 +62,7 @@ found_still test (x ∷ xs) ys k e = by_test (test x) (find test xs) (find test 
     by_test true o p rest e = e
     by_test false o p rest e = rest e
 
-under_still : (xs ys : List Kept) (reference : List ℕ) (k : Kept) → kept_under xs reference ≡ Some k → kept_under (xs ++ ys) reference ≡ Some k
+pub under_still : (xs ys : List Kept) (reference : List ℕ) (k : Kept) → kept_under xs reference ≡ Some k → kept_under (xs ++ ys) reference ≡ Some k
 unfolding kept_under
 under_still xs ys reference k e = found_still _ xs ys k e
 

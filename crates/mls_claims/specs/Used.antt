@@ -1,6 +1,6 @@
 -- The proposals that a commit uses, by what a member keeps and by what stands in an entry.
-use Rattle.std.proofs.Common.{◌≡◌, ℕ, suc, ◌≤◌, length, arith, Bool, true, false, cond, List, [], ◌∷◌, Option, Some, None, Result, Ok, refl, sym, ap, subst, ◌∙◌}
-use Rattle.std.specs.Prelude.{option_map, find, map}
+use Rattle.std.proofs.Common.{◌≡◌, ℕ, suc, ◌≤◌, length, arith, true, false, List, [], ◌∷◌, Option, Some, None, Result, Ok, refl, sym, ap, subst, ◌∙◌}
+use Rattle.std.specs.Prelude.{map}
 use Rattle.std.specs.List.{AllByRecursion}
 use Rattle.mls_wire.specs.Reading.{◌>>=◌}
 use Rattle.mls_wire.specs.Laws.{bind_ok, ok_is}
@@ -10,7 +10,7 @@ use Rattle.mls_types.specs.declared.commit.ProposalOrRef.{ProposalOrRef}
 use Rattle.mls_types.specs.declared.commit.ProposalOrRef.TheVariants as listed
 use Rattle.mls_suite.specs.Crypto.{Crypto}
 use Rattle.mls_model.specs.Agreement.{Keeps, IsGoodKept}
-use Rattle.mls_model.specs.CommitLaws.{names_in_order}
+use Rattle.mls_model.specs.CommitLaws.{names_in_order, by_option, keeps_more, found_good}
 use Rattle.mls_model.specs.Journal.{names_in, used_of, adds_in, removes_in}
 use Rattle.mls_model.specs.Member.{Kept, Member, kept_under, used_one, used_by, named}
 use Rattle.mls_model.specs.Proposals.{adds, removed}
@@ -22,20 +22,6 @@ abbrev pub AreGoodKept : Crypto → Member → List Kept → Type 0
 AreGoodKept c m kept = AllByRecursion (IsGoodKept c m) kept
 
 -- ---- one that is kept
-
-abbrev the_option : Kept → Option Kept
-the_option x = Some x
-
-some_is : (x k : Kept) (P : Kept → Type 0) → the_option x ≡ Some k → P x → P k
-some_is x k P e p = let f : x ≡ k = cc in subst P f p
-
-picked : (P : Kept → Type 0) (b : Bool) (x k : Kept) (o : Option Kept) → P x → (o ≡ Some k → P k) → cond b (Some x) o ≡ Some k → P k
-picked P true x k o p rest e = some_is x k P e p
-picked P false x k o p rest e = rest e
-
-pub found_good : (P : Kept → Type 0) (test : Kept → Bool) (kept : List Kept) (k : Kept) → AllByRecursion P kept → find test kept ≡ Some k → P k
-found_good P test [] k all e = absurd cc
-found_good P test (x ∷ xs) k all e = picked P (test x) x k (find test xs) all.0 (found_good P test xs k all.1) e
 
 pub kept_good : (c : Crypto) (m : Member) (kept : List Kept) (reference : List ℕ) (k : Kept) → AreGoodKept c m kept → kept_under kept reference ≡ Some k → IsGoodKept c m k
 unfolding kept_under
@@ -53,10 +39,6 @@ abbrev pub UsedByNames : Type 0
 UsedByNames = (c : Crypto) (m : Member) (kept : List Kept) (i : ℕ) (list : List ProposalOrRef) (names : List (List ℕ)) → AreGoodKept c m kept → Keeps kept list names →
     used_by kept i list ≡ used_by_names i list names
 
-by_option : (o : Option Kept) (b : List ℕ) → option_map (λ (k : Kept). k.message) o ≡ Some b → (k : Kept) × (o ≡ Some k) × (k.message ≡ b)
-by_option None b e = absurd cc
-by_option (Some k) b e = (k, refl, cc)
-
 pub used_by_names_lem : UsedByNames
 unfolding used_by used_by_names Keeps
 used_by_names_lem c m kept i [] [] good h = refl
@@ -69,12 +51,6 @@ used_by_names_lem c m kept i (listed.Reference r ∷ xs) (b ∷ bs) good h =
     let g : IsGoodKept c m k.0 = kept_good c m kept r k.0 good k.1 in
     let u : used_in b ≡ Ok (record { proposal = k.0.proposal; sender = k.0.sender; is_full = false }) = subst (λ (x : List ℕ). used_in x ≡ Ok (record { proposal = k.0.proposal; sender = k.0.sender; is_full = false })) k.2 (used_kept c m k.0 g) in
     rw (k.1, u, used_by_names_lem c m kept i xs bs good h.1) refl
-
--- one more reference that is kept names its message
-keeps_more : (kept : List Kept) (r : List ℕ) (xs : List ProposalOrRef) (k : Kept) → kept_under kept r ≡ Some k → Keeps kept xs (names_in kept xs) →
-    Keeps kept (listed.Reference r ∷ xs) (names_in kept (listed.Reference r ∷ xs))
-unfolding Keeps names_in named
-keeps_more kept r xs k e h = rw e (ap (option_map (λ (x : Kept). x.message)) e, h)
 
 -- ---- what is used, by an entry and by another member
 

@@ -4,7 +4,7 @@ use Rattle.std.specs.Prelude.{codes, find}
 use Rattle.std.specs.Int.{w8, w16, w32, to_be_bytes}
 use Rattle.std.specs.List.{flat_map}
 use Rattle.std.specs.Str.{bytes_eq}
-use Rattle.std.proofs.lemmas.Bool.{leb-true, and_parts}
+use Rattle.std.proofs.lemmas.Bool.{and_parts}
 use Rattle.mls_wire.specs.Checks.{passed}
 use Rattle.mls_wire.specs.Laws.{ok_is}
 use Rattle.mls_wire.specs.Reading.{uint, header, opaque}
@@ -35,6 +35,7 @@ use Rattle.mls_model.specs.Proposals.{package_reference}
 use Rattle.mls_model.specs.Welcome.{secrets_with, entry_for, entries_for, welcome_message}
 use Rattle.mls_wire.specs.CheckLaws.{required, then_ok, bind_ok, given_ok}
 use Rattle.mls_claims.specs.Fit.{short_first, short_last, short_text, cipher_fits, all_fit}
+use Rattle.mls_claims.specs.Sent.{within_is}
 
 -- ---- how a Welcome was made
 
@@ -85,10 +86,6 @@ welcome_fits w n lt =
     let inner : length (flat_map encrypted_group_secrets.spell w.secrets) < 2 ^ 30 = short_text _ _ (short_first (opaque (flat_map encrypted_group_secrets.spell w.secrets)) t4 _ l3) in
     let last : length w.encrypted_group_info < 2 ^ 30 = short_text _ _ (short_last (opaque (flat_map encrypted_group_secrets.spell w.secrets)) t4 _ l3) in
     (lit< tt, (n, ((all_fit encrypted_group_secrets entry_fits w.secrets inner, inner), last)))
-
-pub within_is : (bytes : List ℕ) → is_within_limit bytes ≡ Ok passed → length bytes ≤ input_limit
-unfolding is_within_limit
-within_is bytes h = leb-true _ _ (and_parts _ _ (required _ _ _ h)).0
 
 bytes_are : (bytes : List ℕ) → is_within_limit bytes ≡ Ok passed → are_bytes bytes ≡ true
 unfolding is_within_limit

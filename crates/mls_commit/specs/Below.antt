@@ -1,5 +1,5 @@
 -- How long the leaves of a tree are after a commit's path.
-use Rattle.std.proofs.Common.{◌≡◌, ℕ, ◌==◌, ◌<◌, Bool, true, false, cond, List, reverse, Option, Some, None, Ok, refl, sym, ◌∙◌, ap, subst, arith, inl, inr, ne_eqb}
+use Rattle.std.proofs.Common.{◌≡◌, ℕ, ◌==◌, ◌<◌, Bool, true, false, cond, List, Option, Some, None, Ok, refl, sym, ◌∙◌, ap, subst, arith, inl, inr, ne_eqb}
 use Rattle.std.specs.Prelude.{IfSome}
 use Rattle.std.proofs.lemmas.Bool.{cases_lt}
 use Rattle.mls_wire.specs.Laws.{ok_is}
@@ -7,27 +7,18 @@ use Rattle.mls_leaf.specs.Leaf.{leaf_node}
 use Rattle.mls_leaf.specs.declared.leaf.LeafNode.{LeafNode}
 use Rattle.mls_group.specs.declared.update_path.UpdatePath.{UpdatePath}
 use Rattle.mls_suite.specs.Crypto.{Crypto}
-use Rattle.mls_term.specs.Term.{Term, width, leaf_at, leaf_of}
-use Rattle.mls_term.specs.Edits.{put}
+use Rattle.mls_term.specs.Term.{Term, width, leaf_of}
 use Rattle.mls_term.specs.Equations.{leaf_of_in, leaf_of_out}
 use Rattle.mls_term.specs.Merge.{merge_path}
-use Rattle.mls_term.specs.MergeLaws.{width-merge}
-use Rattle.mls_term.specs.PlaceLaws.{leaf_at-put, leaf_at-merge}
+use Rattle.mls_term.specs.PlaceLaws.{leaf_at-put}
 use Rattle.mls_term.specs.TakenLaws.{taken_at}
 use Rattle.mls_model.specs.Public.{PublicState}
 use Rattle.mls_model.specs.Commit.{Edits, node_keys, merged}
 use Rattle.mls_public_group.specs.Short.{IsBelow, HasLeavesBelow}
 use Rattle.mls_laws.proofs.Inversion.{with_path_steps}
+use Rattle.mls_laws.specs.Merged.{width_path, leaf_path}
 
 -- ---- a path keeps all leaves but its own
-
-width_path : (t : Term) (i : ℕ) (x : LeafNode) (keys : List (List ℕ)) → width (merge_path t i x keys) ≡ width t
-unfolding merge_path
-width_path t i x keys = width-merge 0 t i (reverse keys) _ x
-
-leaf_path : (t : Term) (i : ℕ) (x : LeafNode) (keys : List (List ℕ)) (j : ℕ) → leaf_at 0 (merge_path t i x keys) j ≡ leaf_at 0 (put 0 t i (Some x)) j
-unfolding merge_path
-leaf_path t i x keys j = leaf_at-merge 0 t i (reverse keys) _ x j
 
 -- the leaf in a place of the merged tree: its own in its place, and else the tree's
 pub leaf_of-merge_path : (t : Term) (i : ℕ) (x : LeafNode) (keys : List (List ℕ)) (j : ℕ) → i < width t → leaf_of (merge_path t i x keys) j ≡ cond (j == i) (Some x) (leaf_of t j)

@@ -7,8 +7,9 @@ use Rattle.mls_model.specs.declared.event.Reply.{Reply}
 use Rattle.mls_model.specs.declared.event.Reply.TheVariants as reply
 use Rattle.mls_model.specs.Calls.{sent}
 use Rattle.mls_model.specs.World.{Entrant, Seat, World, with_message, with_member, seat_at}
+use Rattle.mls_public_group.specs.Rest.{all_at}
 use Rattle.mls_events.specs.Stored.{Seated, Making, seat_of, made_of, world_of, AreStored, IsWithin}
-use Rattle.mls_events.proofs.Stores.{seat_found, seat_set, seat_missing, unchanged, all_set, all_at}
+use Rattle.mls_events.proofs.Stores.{seat_found, seat_set, seat_missing, unchanged, all_set}
 
 -- a member that is changed, at the same journal
 abbrev pub at_same : Seated → Member → Seated

@@ -1,5 +1,5 @@
 -- What lists of commits name and add, one after the other, and the first record that is looked for.
-use Rattle.std.proofs.Common.{◌≡◌, ℕ, suc, ◌+◌, ◌<◌, ◌≤◌, ◌^◌, Bool, true, false, List, [], ◌∷◌, ◌++◌, length, drop, map, Option, Some, None, Result, Ok, Err, refl, sym, ap, subst, ◌∙◌, arith, append_assoc, get_or, slice_get, add-one, drop-cons}
+use Rattle.std.proofs.Common.{◌≡◌, ℕ, ◌+◌, ◌<◌, ◌≤◌, ◌^◌, Bool, true, false, List, [], ◌∷◌, ◌++◌, length, drop, map, Option, Some, None, Result, Ok, Err, refl, sym, ap, subst, ◌∙◌, arith, append_assoc, get_or, slice_get}
 use Rattle.std.specs.Prelude.{option_map, filter_map, find, ◌&&◌, ◌≢◌}
 use Rattle.std.specs.List.{AllByRecursion, cons_option}
 use Rattle.std.specs.Option.{option_to_list, option_copied}
@@ -26,15 +26,11 @@ use Rattle.mls_model.specs.Make.{listed_of}
 use Rattle.mls_model.specs.Member.{Kept, kept_under, used_one, used_by, named_one, named}
 use Rattle.mls_model.specs.Journal.{Journal, CommitMade, names_in, used_of, adds_in}
 use Rattle.mls_model.specs.World.{World, item_of, items_of, made_for, has_source}
+use Rattle.mls_public_group.specs.Rest.{here, all_behind}
 use Rattle.mls_member.specs.Answers.{IsShortItem, AreShortItems}
 use Rattle.mls_events.specs.Listed.{said_by, also}
 use Rattle.mls_events.specs.Parts.{adds_for, FirstIs}
 use Rattle.mls_events.specs.Stored.{Making, made_of}
-use Rattle.mls_events.proofs.Stores.{all_behind}
-
--- what is left of a list from a place on
-pub left_from : {X : Type 0} (xs : List X) (i : ℕ) (x : X) → i < length xs → x ≡ get_or xs i x → drop i xs ≡ x ∷ drop (i + 1) xs
-left_from xs i x lt e = rw (add-one i) (drop-cons xs i x lt ∙ ap (λ y. y ∷ drop (suc i) xs) (sym e))
 
 -- ---- names
 
@@ -72,11 +68,11 @@ names_start f kept list = refl
 
 pub names_next : {X : Type 0} (f : X → ProposalOrRef) (kept : List Kept) (list : List X) (i : ℕ) (x : X) (names : List (List ℕ)) (m : List ℕ) → i < length list → x ≡ get_or list i x → NamesFrom f kept list i names → Some m ≡ option_map message_of (named_one kept (f x)) → NamesFrom f kept list (i + 1) (names ++ m ∷ [])
 names_next f kept list i x names m lt e h named =
-    one_named kept names (f x) (map f (drop (i + 1) list)) (names_in kept (map f list)) m named (subst (λ l. AreNames kept names (map f l) (names_in kept (map f list))) (left_from list i x lt e) h)
+    one_named kept names (f x) (map f (drop (i + 1) list)) (names_in kept (map f list)) m named (subst (λ l. AreNames kept names (map f l) (names_in kept (map f list))) (here list i x lt e) h)
 
 pub names_pass : {X : Type 0} (f : X → ProposalOrRef) (kept : List Kept) (list : List X) (i : ℕ) (x : X) (names : List (List ℕ)) → i < length list → x ≡ get_or list i x → NamesFrom f kept list i names → None ≡ option_map message_of (named_one kept (f x)) → NamesFrom f kept list (i + 1) names
 names_pass f kept list i x names lt e h named =
-    none_named kept names (f x) (map f (drop (i + 1) list)) (names_in kept (map f list)) named (subst (λ l. AreNames kept names (map f l) (names_in kept (map f list))) (left_from list i x lt e) h)
+    none_named kept names (f x) (map f (drop (i + 1) list)) (names_in kept (map f list)) named (subst (λ l. AreNames kept names (map f l) (names_in kept (map f list))) (here list i x lt e) h)
 
 pub names_step : {X : Type 0} (f : X → ProposalOrRef) (kept : List Kept) (list : List X) (i : ℕ) (x : X) (names : List (List ℕ)) (o : Option (List ℕ)) → i < length list → x ≡ get_or list i x → o ≡ option_map message_of (named_one kept (f x)) → NamesFrom f kept list i names
     → NamesFrom f kept list (i + 1) (names ++ option_to_list o)
@@ -159,7 +155,7 @@ unfolding used_by
 unused_first kept x xs done all e h = rw e at h
 
 at_item : (kept : List Kept) (items : List Item) (i : ℕ) (x : Item) (done : List (List ℕ)) → i < length items → x ≡ get_or items i x → AddsFrom kept items i done → behind done (used_by kept 0 (listed_of x ∷ map listed_of (drop (i + 1) items))) ≡ adds_in kept (map listed_of items)
-at_item kept items i x done lt e h = subst (λ (l : List Item). behind done (used_by kept 0 (map listed_of l)) ≡ adds_in kept (map listed_of items)) (left_from items i x lt e) h
+at_item kept items i x done lt e h = subst (λ (l : List Item). behind done (used_by kept 0 (map listed_of l)) ≡ adds_in kept (map listed_of items)) (here items i x lt e) h
 
 -- one that says a proposal
 pub adds_next : (kept : List Kept) (items : List Item) (i : ℕ) (x : Item) (p : Proposal) (done : List (List ℕ)) → i < length items → x ≡ get_or items i x → Some p ≡ said_by kept (listed_of x) → AddsFrom kept items i done → AddsFrom kept items (i + 1) (also done (add_in p))
@@ -183,7 +179,7 @@ pub adds_none : (kept : List Kept) (items : List Item) (i : ℕ) (x : Item) (don
 adds_none kept items i x done o lt e said none h = adds_stop kept items i x done lt e (sym (no_value o none) ∙ said) h
 
 pub rest_short : (items : List Item) (i : ℕ) (x : Item) → i < length items → x ≡ get_or items i x → AreShortItems (drop i items) → AreShortItems (drop (i + 1) items)
-rest_short items i x lt e h = (subst (λ (l : List Item). AreShortItems l) (left_from items i x lt e) h).1
+rest_short items i x lt e h = (subst (λ (l : List Item). AreShortItems l) (here items i x lt e) h).1
 
 -- ---- items
 
@@ -220,7 +216,7 @@ item_fails w x xs n done all e h = sym (rw e at h)
 pub items_next : (w : World) (items : List WorldItem) (i : ℕ) (x : WorldItem) (y : Item) (done : List Item) → i < length items → x ≡ get_or items i x → AreItems w items i done → item_of w x ≡ Ok (listed_of y) → IsShortItem y → AreItems w items (i + 1) (done ++ y ∷ [])
 items_next w items i x y done lt e h is short = record {
   answer =
-      let a = subst (λ (l : List WorldItem). with_items (map listed_of done) (items_of w l) ≡ items_of w items) (left_from items i x lt e) h.answer in
+      let a = subst (λ (l : List WorldItem). with_items (map listed_of done) (items_of w l) ≡ items_of w items) (here items i x lt e) h.answer in
       let b = item_done w x (drop (i + 1) items) (listed_of y) (map listed_of done) (items_of w items) is a in
       subst (λ (l : List ProposalOrRef). with_items l (items_of w (drop (i + 1) items)) ≡ items_of w items) (sym (map-append listed_of done (y ∷ []))) b;
   short = all_behind IsShortItem done y h.short short;
@@ -228,7 +224,7 @@ items_next w items i x y done lt e h is short = record {
 
 pub items_fail : (w : World) (items : List WorldItem) (i : ℕ) (x : WorldItem) (n : ℕ) (done : List Item) → i < length items → x ≡ get_or items i x → AreItems w items i done → item_of w x ≡ Err n → items_of w items ≡ Err n
 items_fail w items i x n done lt e h is =
-    item_fails w x (drop (i + 1) items) n (map listed_of done) (items_of w items) is (subst (λ (l : List WorldItem). with_items (map listed_of done) (items_of w l) ≡ items_of w items) (left_from items i x lt e) h.answer)
+    item_fails w x (drop (i + 1) items) n (map listed_of done) (items_of w items) is (subst (λ (l : List WorldItem). with_items (map listed_of done) (items_of w l) ≡ items_of w items) (here items i x lt e) h.answer)
 
 pub items_end : (w : World) (items : List WorldItem) (i : ℕ) (done : List Item) → length items ≤ i → AreItems w items i done → items_of w items ≡ Ok (map listed_of done)
 unfolding items_of
@@ -252,12 +248,12 @@ first_not js d ds source k e = rw e refl
 
 pub first_found : (js : List Journal) (ds : List Making) (source : Source) (k : Candidate) (i : ℕ) (d : Making) → i < length ds → d ≡ get_or ds i d → FirstFrom js ds source k i → adds_for source (key_package.spell k.offered) d ≡ true → made_for (map (made_of js) ds) source k ≡ slice_get (map (made_of js) ds) i
 first_found js ds source k i d lt e h met =
-    let a : made_for (map (made_of js) (d ∷ drop (i + 1) ds)) source k ≡ made_for (map (made_of js) ds) source k = subst (λ (l : List Making). made_for (map (made_of js) l) source k ≡ made_for (map (made_of js) ds) source k) (left_from ds i d lt e) h in
+    let a : made_for (map (made_of js) (d ∷ drop (i + 1) ds)) source k ≡ made_for (map (made_of js) ds) source k = subst (λ (l : List Making). made_for (map (made_of js) l) source k ≡ made_for (map (made_of js) ds) source k) (here ds i d lt e) h in
     sym a ∙ first_is js d (drop (i + 1) ds) source k met ∙ sym (slice_get-map (made_of js) ds i ∙ ap (λ (o : Option Making). option_map (made_of js) o) (slice_get_read ds (length ds) i d refl lt e))
 
 pub first_passed : (js : List Journal) (ds : List Making) (source : Source) (k : Candidate) (i : ℕ) (d : Making) → i < length ds → d ≡ get_or ds i d → FirstFrom js ds source k i → adds_for source (key_package.spell k.offered) d ≡ false → FirstFrom js ds source k (i + 1)
 first_passed js ds source k i d lt e h passed =
-    let a : made_for (map (made_of js) (d ∷ drop (i + 1) ds)) source k ≡ made_for (map (made_of js) ds) source k = subst (λ (l : List Making). made_for (map (made_of js) l) source k ≡ made_for (map (made_of js) ds) source k) (left_from ds i d lt e) h in
+    let a : made_for (map (made_of js) (d ∷ drop (i + 1) ds)) source k ≡ made_for (map (made_of js) ds) source k = subst (λ (l : List Making). made_for (map (made_of js) l) source k ≡ made_for (map (made_of js) ds) source k) (here ds i d lt e) h in
     sym (first_not js d (drop (i + 1) ds) source k passed) ∙ a
 
 pub first_none : (js : List Journal) (ds : List Making) (source : Source) (k : Candidate) (i : ℕ) → length ds ≤ i → FirstFrom js ds source k i → made_for (map (made_of js) ds) source k ≡ None

@@ -40,7 +40,8 @@ use Rattle.mls_model.specs.Messages.{decoded, reference_of}
 use Rattle.mls_model.specs.World.{if_proposal}
 use Rattle.mls_model.specs.Journal.{list_in, list_of_body, list_of_message}
 use Rattle.mls_model.specs.Candidate.{package_message}
-use Rattle.mls_member.proofs.Lengths.{within_limit, back}
+use Rattle.mls_public_group.specs.Lengths.{last_within, length-uint16}
+use Rattle.mls_member.proofs.Lengths.{within_limit}
 use Rattle.mls_member.proofs.ByContent.{IsPublic}
 use Rattle.mls_events.specs.Sources.{package_read, reference_read, reference_said}
 
@@ -78,18 +79,14 @@ package_below bytes part k fits p spells =
     let all : Spells mls_message (message_of.KeyPackage p.shown) bytes = whole_takes mls_message input_limit bytes (message_of.KeyPackage p.shown) fits p.is_read in
     let short : length bytes ≤ input_limit = within_limit mls_message input_limit bytes (message_of.KeyPackage p.shown) p.is_read in
     let inner : length (uint w16 1 ++ (uint w16 5 ++ key_package.spell p.shown)) ≤ input_limit = subst (λ (l : List ℕ). length l ≤ input_limit) (all.spelled ∙ message_spelled p.shown) short in
-    let le : length (key_package.spell p.shown) ≤ input_limit = back (uint w16 5) (key_package.spell p.shown) input_limit (back (uint w16 1) (uint w16 5 ++ key_package.spell p.shown) input_limit inner) in
+    let le : length (key_package.spell p.shown) ≤ input_limit = omega (arith, inner, last_within (uint w16 1) (uint w16 5 ++ key_package.spell p.shown), last_within (uint w16 5) (key_package.spell p.shown)) in
     let lek : length (key_package.spell k) ≤ input_limit = subst (λ (x : KeyPackage). length (key_package.spell x) ≤ input_limit) same le in
     record { fits = spells.fits; below = omega (arith, lek) }
-
-two : (n : ℕ) → length (uint w16 n) ≡ 2
-unfolding uint
-two n = refl
 
 -- nor are the proposals of it and of a leaf
 pub item_added : (k : KeyPackage) → IsBelow (2 ^ 27) key_package k → IsBelow (2 ^ 28) proposal_format (proposes.Add k)
 unfolding proposal_format
-item_added k h = record { fits = (lit< tt, h.fits); below = omega (arith, h.below, length-append (uint w16 1) (key_package.spell k), two 1) }
+item_added k h = record { fits = (lit< tt, h.fits); below = omega (arith, h.below, length-append (uint w16 1) (key_package.spell k), length-uint16 1) }
 
 pub item_removed : (leaf : ℕ) → leaf < 2 ^ 32 → IsBelow (2 ^ 28) proposal_format (proposes.Remove leaf)
 unfolding proposal_format uint
@@ -225,7 +222,7 @@ package_behind k = refl
 
 pub package_long : (k : KeyPackage) → 4 ≤ length (package_message k)
 unfolding package_message mls_message
-package_long k = omega (arith, length-append (uint w16 1) (uint w16 5 ++ key_package.spell k), length-append (uint w16 5) (key_package.spell k), two 1, two 5)
+package_long k = omega (arith, length-append (uint w16 1) (uint w16 5 ++ key_package.spell k), length-append (uint w16 5) (key_package.spell k), length-uint16 1, length-uint16 5)
 
 pub package_rest : (m : List ℕ) (k : KeyPackage) → m ≡ package_message k → take (length m - 4) (drop 4 m) ≡ key_package.spell k
 package_rest m k h =

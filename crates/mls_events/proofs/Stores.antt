@@ -11,19 +11,10 @@ use Rattle.mls_events.proofs.Unrolled.{journal_stays, journal_seam}
 
 -- ---- lists
 
-pub all_at : {X : Type 0} (P : X → Type 0) (xs : List X) (k : ℕ) (x : X) → AllByRecursion P xs → k < length xs → x ≡ get_or xs k x → P x
-all_at P [] k x h lt e = absurd (omega arith)
-all_at P (y ∷ xs) zero x h lt e = subst P (sym e) h.0
-all_at P (y ∷ xs) (suc k) x h lt e = all_at P xs k x h.1 (omega arith) e
-
 pub all_set : {X : Type 0} (P : X → Type 0) (xs : List X) (k : ℕ) (x : X) → AllByRecursion P xs → P x → AllByRecursion P (slice_set xs k x)
 all_set P [] k x h p = tt
 all_set P (y ∷ xs) zero x h p = (p, h.1)
 all_set P (y ∷ xs) (suc k) x h p = (h.0, all_set P xs k x h.1 p)
-
-pub all_behind : {X : Type 0} (P : X → Type 0) (xs : List X) (x : X) → AllByRecursion P xs → P x → AllByRecursion P (xs ++ x ∷ [])
-all_behind P [] x h p = (p, tt)
-all_behind P (y ∷ xs) x h p = (h.0, all_behind P xs x h.1 p)
 
 pub all_so : {X : Type 0} (P Q : X → Type 0) (xs : List X) → ((x : X) → P x → Q x) → AllByRecursion P xs → AllByRecursion Q xs
 all_so P Q [] f h = tt

@@ -1,5 +1,5 @@
 -- The keys of a new member.
-use Rattle.std.proofs.Common.{◌≡◌, ℕ, List, [], ◌∷◌, ◌++◌, true, false, Option, Some, None, Result, Ok, Err, refl, sym, ap, ◌∙◌}
+use Rattle.std.proofs.Common.{◌≡◌, ℕ, List, [], ◌∷◌, ◌++◌, true, false, Option, Some, None, Result, Ok, Err, refl, ap, ◌∙◌}
 use Rattle.std.specs.Option.{option_map}
 use Rattle.mls_wire.specs.Checks.{passed}
 use Rattle.mls_wire.specs.Reading.{◌>>=◌}
@@ -12,7 +12,8 @@ use Rattle.mls_paths.specs.Make.{Climb, climb_to}
 use Rattle.mls_model.specs.Candidate.{Candidate}
 use Rattle.mls_model.specs.Opening.{Opened}
 use Rattle.mls_model.specs.Join.{joined_tree, signer_checks, place_of, joined_keys, member_of}
-use Rattle.mls_model.specs.Member.{above_leaf, of_leaf, with_keys}
+use Rattle.mls_model.specs.Member.{with_keys}
+use Rattle.mls_model.specs.KeyLaws.{with_all_keys}
 use Rattle.mls_join.specs.Stages.{entered}
 
 abbrev keys_of : ℕ → List ℕ → Keys → PrivateKeys
@@ -35,30 +36,11 @@ alone_is p leaf sk e h =
 
 -- ---- keys that are taken
 
-above_again : (above : Keys) (own : List ℕ) → above_leaf (above ++ (Some own ∷ [])) ≡ above
-unfolding above_leaf
-above_again [] own = refl
-above_again (k ∷ []) own = refl
-above_again (k ∷ (j ∷ ks)) own = ap (λ (xs : Keys). k ∷ xs) (above_again (j ∷ ks) own)
-
-own_again : (above : Keys) (old own : List ℕ) → of_leaf old (above ++ (Some own ∷ [])) ≡ own
-unfolding of_leaf
-own_again [] old own = refl
-own_again (None ∷ ks) old own = own_again ks old own
-own_again (Some k ∷ ks) old own = own_again ks k own
-
-keys_again : (old new : PrivateKeys) → new.leaf ≡ old.leaf → with_keys old (all_keys new) ≡ new
-unfolding with_keys
-keys_again old new e =
-    ap (λ (l : ℕ). keys_of l (of_leaf old.own (all_keys new)) (above_leaf (all_keys new))) (sym e)
-    ∙ ap (λ (o : List ℕ). keys_of new.leaf o (above_leaf (all_keys new))) (own_again new.above old.own new.own)
-    ∙ ap (λ (a : Keys). keys_of new.leaf new.own a) (above_again new.above new.own)
-
 module _ (c : Crypto) (t : Term) (signer : ℕ) (alone : PrivateKeys) (secret : List ℕ) where
   pub taken : (s : List ℕ) (new : PrivateKeys) → take_answer c t signer alone.leaf alone.own secret ≡ Ok (climb_to s new) → new.leaf ≡ alone.leaf → joined_keys c t signer alone (Some secret) ≡ Ok new
   unfolding joined_keys
   taken s new e same =
-      ap (λ (r : Result Climb ℕ). r >>= λ climb. Ok (with_keys alone climb.keys)) e ∙ ap (λ (p : PrivateKeys). Ok p) (keys_again alone new same)
+      ap (λ (r : Result Climb ℕ). r >>= λ climb. Ok (with_keys alone climb.keys)) e ∙ ap (λ (p : PrivateKeys). Ok p) (with_all_keys alone new same)
 
   pub refused : (n : ℕ) → take_answer c t signer alone.leaf alone.own secret ≡ Err n → joined_keys c t signer alone (Some secret) ≡ Err n
   unfolding joined_keys

@@ -6,10 +6,7 @@ use Rattle.mls_wire.specs.Reading.{uint, header, opaque}
 use Rattle.mls_wire.specs.Format.{Format}
 use Rattle.mls_leaf.specs.Faults.{Spells, whole}
 use Rattle.mls_leaf.specs.Limits.{input_limit}
-use Rattle.mls_leaf.specs.Leaf.{leaf_node}
-use Rattle.mls_leaf.specs.KeyPackage.{key_package}
 use Rattle.mls_leaf.specs.declared.node.Node.{Node}
-use Rattle.mls_leaf.specs.declared.key_package.KeyPackage.{KeyPackage}
 use Rattle.mls_group.specs.GroupContext.{group_context}
 use Rattle.mls_group.specs.GroupInfo.{group_info, group_info_extensions, group_info_tbs, GroupInfoTbsFits, ratchet_tree}
 use Rattle.mls_group.specs.declared.group_context.GroupContext.{GroupContext}
@@ -74,24 +71,6 @@ short_context g is =
       group_id = omega (arith, length-append (header (length i)) i);
       tree_hash = omega (arith, length-append (header (length h)) h);
       confirmed = omega (arith, length-append (header (length t)) t);
-    }
-
-pub context_fits : (g : GroupContext) → IsShortContext g → group_context.Fits g
-unfolding group_context
-context_fits g is =
-    (is.suite, (omega (arith, is.group_id), (is.epoch, (omega (arith, is.tree_hash), (omega (arith, is.confirmed), tt)))))
-
--- the leaf of a KeyPackage is as short as it
-pub leaf_below : (n : ℕ) (v : KeyPackage) → IsBelow n key_package v → IsBelow n leaf_node v.leaf_node
-unfolding key_package
-leaf_below n v is =
-    let i : List ℕ = opaque v.init_key in
-    let l : List ℕ = leaf_node.spell v.leaf_node in
-    let end : List ℕ = opaque [] ++ opaque v.signature in
-    let s : List ℕ = uint w16 v.cipher_suite in
-    record {
-      fits = is.fits.1.1.0;
-      below = omega (arith, is.below, length-append (uint w16 1) (s ++ (i ++ (l ++ end))), length-append s (i ++ (l ++ end)), length-append i (l ++ end), length-append l end);
     }
 
 -- what is read whole is short

@@ -1,4 +1,3 @@
-pub mod Memory
 pub mod Lengths
 pub mod LeavesBelow
 pub mod Welcomes

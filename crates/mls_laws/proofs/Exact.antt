@@ -27,6 +27,7 @@ use Rattle.mls_laws.specs.Laws.{IsRenewed}
 use Rattle.mls_laws.specs.Keys.{MemberStands, WithAllKeys, FollowedExact, KeysNext}
 use Rattle.mls_laws.proofs.Inversion.{edited_steps, with_path_steps, body_steps}
 use Rattle.mls_term.specs.TakenLaws.{taken_at, some_at, taken_in}
+use Rattle.mls_model.specs.KeyLaws.{above_end, own_end, leaf_stays}
 use Rattle.mls_laws.proofs.Staying.{kept_by, edits_renew}
 
 -- ---- keys and their last one
@@ -36,18 +37,6 @@ pub record EndsIn (own : Option (List ℕ)) (ks : Keys) : Type 0 where
   pub above : Keys
   pub is : ks ≡ above ++ (own ∷ [])
 
-above_end : (ks : Keys) (own : List ℕ) → above_leaf (ks ++ (Some own ∷ [])) ≡ ks
-unfolding above_leaf
-above_end [] own = refl
-above_end (k ∷ []) own = refl
-above_end (k ∷ (j ∷ ks)) own = ap (λ xs. k ∷ xs) (above_end (j ∷ ks) own)
-
-own_end : (first : List ℕ) (ks : Keys) (own : List ℕ) → of_leaf first (ks ++ (Some own ∷ [])) ≡ own
-unfolding of_leaf
-own_end first [] own = refl
-own_end first (None ∷ ks) own = own_end first ks own
-own_end first (Some k ∷ ks) own = own_end k ks own
-
 -- written into a member they are all its keys
 pub keys_back : (old : PrivateKeys) (own : List ℕ) (ks : Keys) → EndsIn (Some own) ks → all_keys (with_keys old ks) ≡ ks
 unfolding with_keys
@@ -56,15 +45,6 @@ keys_back old own ks h =
     (ap above_leaf h.is ∙ above_end h.above own)
     (ap (of_leaf old.own) h.is ∙ own_end old.own h.above own)
     ∙ sym h.is
-
--- and all keys of a member at its leaf give that member's
-pub with_all_keys : WithAllKeys
-unfolding with_keys
-with_all_keys old new e = rw (above_end new.above new.own, own_end old.own new.above new.own, ← e) refl
-
-leaf_with : (old : PrivateKeys) (ks : Keys) → (with_keys old ks).leaf ≡ old.leaf
-unfolding with_keys
-leaf_with old ks = refl
 
 -- so do keys that followed edits
 follow_ends : (own : Option (List ℕ)) (ss : List Step) (ks : Keys) → EndsIn (leaf_key_after own ks) (follow_edit own ss ks)
@@ -131,7 +111,7 @@ pub exact_written : (c : Crypto) (t : Term) (old : PrivateKeys) (ks : Keys) → 
 exact_written c t old ks exact =
     let ends = along_ends c (Fits c old.leaf) (way 0 t old.leaf) (leaf_at 0 t old.leaf) ks exact in
     let back = keys_back old ends.0 ks ends.1 in
-    let at = subst (λ j. Exact c 0 t j ks) (sym (leaf_with old ks)) exact in
+    let at = subst (λ j. Exact c 0 t j ks) (sym (leaf_stays old ks)) exact in
     exact_whole c t (with_keys old ks) (subst (λ (zs : Keys). Exact c 0 t (with_keys old ks).leaf zs) (sym back) at)
 
 path_exact : (c : Crypto) (context added : List ℕ) (t : Term) (i : ℕ) (path : UpdatePath) (old keys : PrivateKeys) (climb : Climb) → AreTwo 0 t i keys.leaf → keys.leaf ≡ old.leaf → HasExact c t keys → opened_path c context added t i keys.leaf (keys_on t keys) path.nodes ≡ Ok climb →

@@ -1,20 +1,20 @@
 -- Members that stay follow all edits of a commit.
-use Rattle.std.proofs.Common.{◌≡◌, ℕ, ◌+◌, ◌<◌, ◌≤◌, ◌==◌, nat_eq, Bool, true, false, ◌||◌, if◌then◌else◌, List, [], ◌∷◌, ◌++◌, map, length, Option, Some, None, Ok, refl, sym, ◌∙◌, ap, subst, arith, inl, inr, ne_eqb, eqb-true, eq-eqb}
-use Rattle.std.proofs.lemmas.Bool.{cases_lt, eqb-false, true≢false, and_parts}
+use Rattle.std.proofs.Common.{◌≡◌, ℕ, ◌+◌, ◌<◌, ◌≤◌, ◌==◌, nat_eq, Bool, true, false, ◌||◌, if◌then◌else◌, List, [], ◌∷◌, ◌++◌, map, Some, Ok, refl, sym, ◌∙◌, ap, subst, arith, ne_eqb, eqb-true, eq-eqb}
+use Rattle.std.proofs.lemmas.Bool.{eqb-false, true≢false, and_parts}
 use Rattle.std.specs.List.{AllByRecursion}
 use Rattle.mls_leaf.specs.declared.leaf.LeafNode.{LeafNode}
 use Rattle.mls_leaf.specs.declared.key_package.KeyPackage.{KeyPackage}
-use Rattle.mls_term.specs.Term.{Term, Leaf, Branch, width, leaf_of}
+use Rattle.mls_term.specs.Term.{Term, width, leaf_of}
 use Rattle.mls_term.specs.Sets.{has, count, is_distinct}
-use Rattle.mls_term.specs.Way.{Step, way}
+use Rattle.mls_term.specs.Way.{way}
 use Rattle.mls_term.specs.Edits.{put, add, place_in, remove}
-use Rattle.mls_term.specs.Equations.{way_left, way_right, put_left, put_right, update_is}
+use Rattle.mls_term.specs.Equations.{update_is}
 use Rattle.mls_term.specs.SetLaws.{has-append}
 use Rattle.mls_term.specs.ShapeLaws.{width-put}
 use Rattle.mls_tree.specs.Tree.{max_leaves}
 use Rattle.mls_paths.specs.Follow.{TameAt, parent_above, Follows}
 use Rattle.mls_paths.specs.Laws.{AreTwo}
-use Rattle.mls_paths.specs.OnePassLaws.{follows_refl, follows_trans}
+use Rattle.mls_paths.specs.OnePassLaws.{follows_refl, follows_trans, blank_above}
 use Rattle.mls_paths.specs.WholeLaws.{follows_update, follows_remove, follows_add}
 use Rattle.mls_suite.specs.Crypto.{Crypto}
 use Rattle.mls_model.specs.Public.{PublicState, Used}
@@ -139,28 +139,6 @@ edits_follow_committer c p i used e h some =
     kept_by c p i used e i x.0 s x.1 s.not_updated s.not_removed
 
 -- ---- one that is updated
-
--- after a put at a leaf, all parents over it are blank
-blank_above : (b : ℕ) (t : Term) (j : ℕ) (x : Option LeafNode) (n : ℕ) → parent_above n (way b (put b t j x) j) ≡ None
-blank_above b (Leaf v) j x n = at_leaf b v j x n
-  where
-    at_leaf : (b : ℕ) (v : Option LeafNode) (j : ℕ) (x : Option LeafNode) (n : ℕ) → parent_above n (way b (put b (Leaf v) j x) j) ≡ None
-    at_leaf b v j x n = unfold parent_above way put in refl
-blank_above b (Branch c l r) j x n =
-    elim (cases_lt j (b + width l)) [
-      | inl lt ↦ rw (put_left b c l r j x lt) (
-          let w = width-put b l j x in
-          rw (way_left b None (put b l j x) r j (omega arith)) (blank_first n _ (way b (put b l j x) j) refl (blank_above b l j x n)))
-      | inr ge ↦ rw (put_right b c l r j x ge) (
-          rw (way_right b None l (put (b + width l) r j x) j ge) (blank_first n _ (way (b + width l) (put (b + width l) r j x) j) refl (blank_above (b + width l) r j x n)))
-    ]
-  where
-    blank_first : (n : ℕ) (s : Step) (ss : List Step) → s.parent ≡ None → parent_above n ss ≡ None → parent_above n (s ∷ ss) ≡ None
-    blank_first n s ss here rest = unfold parent_above in by_test (length ss == n)
-      where
-        by_test : (b : Bool) → (if b then s.parent else parent_above n ss) ≡ None
-        by_test true = here
-        by_test false = rest
 
 -- so what came before doesn't matter
 follows_put : (t s : Term) (j : ℕ) (x : LeafNode) → j < width t → j < width s → Follows j (put 0 t j (Some x)) (put 0 s j (Some x))

@@ -28,12 +28,12 @@ use Rattle.mls_model.specs.Member.{Member, with_keys}
 use Rattle.mls_model.specs.Messages.{is_within_limit, said_by, content_signature, sent_by}
 use Rattle.mls_model.specs.Make.{Made, MadePath, welcome_if, path_secret_for, path_seals}
 use Rattle.mls_model.specs.Welcome.{secrets_with, unsigned_info, signed_info, welcome_message}
-use Rattle.mls_laws.proofs.Exact.{with_all_keys}
 use Rattle.mls_commit.specs.Changed.{change_of}
 use Rattle.mls_message.specs.Sending.{limited}
 use Rattle.mls_message.specs.Speaks.{Speaks}
 use Rattle.mls_message.specs.declared.speaker.Speaker.{Speaker}
 use Rattle.mls_treekem.specs.declared.secrets.PathSecrets.{PathSecrets}
+use Rattle.mls_model.specs.KeyLaws.{with_all_keys}
 use Rattle.mls_welcome.specs.Joiners.{place_of, AreSecretsOf}
 use Rattle.mls_welcome.specs.Sent.{AreSentTo}
 use Rattle.mls_welcome.specs.declared.making.Joiner.{Joiner}

@@ -1,14 +1,12 @@
 -- The parts of a commit, and contexts, are short.
-use Rattle.std.proofs.Common.{◌≡◌, ℕ, ◌<◌, ◌≤◌, ◌^◌, List, [], ◌∷◌, length, Option, Some, None, refl, subst, arith}
+use Rattle.std.proofs.Common.{ℕ, ◌<◌, ◌≤◌, ◌^◌, List, [], ◌∷◌, length, Option, Some, None, subst, arith}
 use Rattle.std.specs.Prelude.{IfSome}
 use Rattle.std.specs.List.{flat_map, AllByRecursion}
 use Rattle.std.specs.Int.{w8}
 use Rattle.mls_wire.specs.Reading.{uint}
 use Rattle.mls_wire.specs.Combine.{vector, optional}
 use Rattle.mls_wire.specs.declared.WireError.TheVariants as wire
-use Rattle.mls_leaf.specs.declared.error.LeafError.{LeafError}
-use Rattle.mls_leaf.specs.declared.error.LeafError.TheVariants.{Wire, BadTag, UnsupportedCredential, UnsupportedProposal, NotRising, ExtensionNotAllowed}
-use Rattle.mls_leaf.specs.Faults.{Spells, Refuses, number_of}
+use Rattle.mls_leaf.specs.Faults.{Spells}
 use Rattle.mls_leaf.specs.Limits.{input_limit}
 use Rattle.mls_leaf.specs.Leaf.{leaf_node}
 use Rattle.mls_leaf.specs.Proposal.{proposal as proposal_format}
@@ -21,8 +19,8 @@ use Rattle.mls_types.specs.declared.commit.ProposalOrRef.{ProposalOrRef}
 use Rattle.mls_types.specs.declared.commit.ProposalOrRef.TheVariants as listed
 use Rattle.mls_public_group.specs.Lengths.{context_length}
 use Rattle.mls_public_group.specs.Short.{IsBelow, IsShortContext}
+use Rattle.mls_make.specs.Lengths.{front, back, inside}
 use Rattle.mls_member.specs.Process.{IsListedBelow}
-use Rattle.mls_member.proofs.Lengths.{front, back, inside}
 
 -- ---- a commit's list
 
@@ -64,17 +62,3 @@ path_wider (Some p) h = record { fits = h.fits; below = omega (arith, h.below) }
 -- a short context encodes to fewer than 2^30 bytes
 pub context_short : (context : GroupContext) → IsShortContext context → length (group_context.spell context) < 2 ^ 30
 context_short context s = omega (arith, context_length context s.group_id s.tree_hash s.confirmed)
-
--- what isn't written of a value that has a spelling is wanted for memory
-pub wanted : (P : Type 0) (e : LeafError) → P → Refuses P e → number_of e ≡ 1
-wanted P (Wire wire.OutOfMemory) p r = refl
-wanted P (Wire wire.TooLong) p r = absurd (r p)
-wanted P (Wire wire.Truncated) p r = absurd r
-wanted P (Wire wire.Trailing) p r = absurd r
-wanted P (Wire wire.BadLength) p r = absurd r
-wanted P (Wire wire.NotMinimal) p r = absurd r
-wanted P BadTag p r = absurd r
-wanted P UnsupportedCredential p r = absurd r
-wanted P UnsupportedProposal p r = absurd r
-wanted P NotRising p r = absurd r
-wanted P ExtensionNotAllowed p r = absurd r

@@ -1,5 +1,5 @@
 -- A commit's verdict in the steps in which code goes over it.
-use Rattle.std.proofs.Common.{◌≡◌, ℕ, ◌+◌, ◌-◌, ◌<◌, ◌^◌, Bool, true, false, not, List, [], ◌∷◌, ◌++◌, Option, Some, None, Result, Ok, Err, refl, sym, ap, subst, ◌∙◌, arith}
+use Rattle.std.proofs.Common.{◌≡◌, ℕ, ◌+◌, ◌-◌, ◌<◌, ◌^◌, Bool, true, false, not, List, Option, Some, None, Result, Ok, Err, refl, sym, ap, subst, ◌∙◌, arith}
 use Rattle.std.specs.Prelude.{nat_lt, IfSome}
 use Rattle.std.specs.List.{list_any}
 use Rattle.std.proofs.lemmas.Bool.{ltb-true}
@@ -23,7 +23,7 @@ use Rattle.mls_term.specs.Term.{Term}
 use Rattle.mls_paths.specs.Height.{HasFollowed}
 use Rattle.mls_group.specs.declared.update_path.UpdatePath.{UpdatePath}
 use Rattle.mls_types.specs.declared.content.FramedContent.{FramedContent}
-use Rattle.mls_paths.specs.Keys.{Keys, PrivateKeys, all_keys}
+use Rattle.mls_paths.specs.Keys.{Keys, PrivateKeys}
 use Rattle.mls_paths.specs.Make.{climb_to}
 use Rattle.mls_types.specs.SignedParts.{framed}
 use Rattle.mls_types.specs.declared.commit.Commit.{Commit}
@@ -34,32 +34,16 @@ use Rattle.mls_model.specs.declared.effect.Effect.TheVariants.{Advanced, Removed
 use Rattle.mls_model.specs.Public.{PublicState, Used}
 use Rattle.mls_model.specs.Proposals.{removed}
 use Rattle.mls_model.specs.Commit.{Change, body, public_with}
-use Rattle.mls_model.specs.Member.{Member, used_by, with_keys, followed, above_leaf, of_leaf, advanced, left}
+use Rattle.mls_model.specs.Member.{Member, used_by, with_keys, followed, advanced, left}
 use Rattle.mls_model.specs.Messages.{sender_leaf}
 use Rattle.mls_model.specs.Verdict.{commit_verdict, climbed, entered}
+use Rattle.mls_model.specs.KeyLaws.{with_all_keys}
 use Rattle.mls_member.specs.declared.error.Refusal.{Refusal}
 use Rattle.mls_member.specs.Faults.{number_of}
 use Rattle.mls_member.specs.Process.{changed, after_change, followed_commit, edited_keys, entered_with, removes_leaf}
 use Rattle.mls_member.proofs.Uses.{any_removes}
 
 -- ---- private keys
-
-above_end : (ks : Keys) (k : List ℕ) → above_leaf (ks ++ Some k ∷ []) ≡ ks
-unfolding above_leaf
-above_end [] k = refl
-above_end (o ∷ []) k = refl
-above_end (o ∷ (p ∷ ks)) k = ap (λ (l : Keys). o ∷ l) (above_end (p ∷ ks) k)
-
-own_end : (ks : Keys) (own k : List ℕ) → of_leaf own (ks ++ Some k ∷ []) ≡ k
-unfolding of_leaf
-own_end [] own k = refl
-own_end (None ∷ ks) own k = own_end ks own k
-own_end (Some j ∷ ks) own k = own_end ks j k
-
--- all of the keys that a member has are its keys
-pub with_all_keys : (old new : PrivateKeys) → new.leaf ≡ old.leaf → with_keys old (all_keys new) ≡ new
-unfolding with_keys
-with_all_keys old new leaf = rw (own_end new.above old.own new.own, above_end new.above new.own, ← leaf) refl
 
 -- keys that have followed the edits
 pub followed_is : (own : Option (List ℕ)) (t : Term) (old new : PrivateKeys) → HasFollowed own t old new → followed own t old ≡ new

@@ -1,19 +1,15 @@
 -- The parts of a message are as short as an input.
-use Rattle.std.proofs.Common.{◌≡◌, ℕ, ◌+◌, ◌≤◌, Bool, true, false, cond, List, ◌++◌, length, Option, Some, None, Result, Ok, Err, refl, sym, subst, arith}
+use Rattle.std.proofs.Common.{◌≡◌, ℕ, ◌+◌, ◌≤◌, Bool, true, false, cond, List, ◌++◌, length, Option, Some, None, Result, Ok, Err, refl, sym, subst}
 use Rattle.std.specs.Prelude.{IfSome, nat_lt}
 use Rattle.std.specs.Int.{w16}
 use Rattle.std.proofs.lemmas.Bool.{ltb-false}
-use Rattle.std.proofs.lemmas.List.{length-append}
-use Rattle.mls_wire.specs.Reading.{uint, header, opaque}
-use Rattle.mls_wire.specs.Combine.{vector, optional, byte_string, uint64}
+use Rattle.mls_wire.specs.Reading.{uint, opaque}
 use Rattle.mls_wire.specs.Format.{Format, IsBytes}
 use Rattle.mls_leaf.specs.Faults.{whole}
 use Rattle.mls_leaf.specs.Limits.{input_limit}
 use Rattle.mls_leaf.specs.WholeLaws.{whole_takes}
 use Rattle.mls_leaf.specs.Proposal.{proposal as proposal_format}
-use Rattle.mls_group.specs.UpdatePath.{update_path}
-use Rattle.mls_types.specs.Commit.{commit, proposal_or_ref, proposal_or_ref_nonempty}
-use Rattle.mls_types.specs.Content.{sender, content, framed_content}
+use Rattle.mls_types.specs.Content.{content, framed_content}
 use Rattle.mls_types.specs.Message.{mls_message}
 use Rattle.mls_types.specs.PublicMessage.{public_message}
 use Rattle.mls_types.specs.Signed.{signed_content}
@@ -30,20 +26,11 @@ use Rattle.mls_view.specs.declared.content.ContentView.{ContentView}
 use Rattle.mls_view.specs.declared.content.ContentView.TheVariants as view_of
 use Rattle.mls_view.specs.declared.public_message.PublicMessageView.{PublicMessageView}
 use Rattle.mls_view.specs.Shown.{ShowsPublic, ShowsContent, ShowsBodyTag}
+use Rattle.mls_make.specs.Lengths.{front, back, inside, content_inside, commit_inside, list_inside, path_inside}
 use Rattle.mls_member.specs.Process.{IsShown, IsShortView, IsShortContent}
 use denote.Ref.{Bor}
 
 -- ---- lists
-
-pub front : (x y : List ℕ) (n : ℕ) → length (x ++ y) ≤ n → length x ≤ n
-front x y n h = let e : length (x ++ y) ≡ length x + length y = length-append x y in omega arith
-
-pub back : (x y : List ℕ) (n : ℕ) → length (x ++ y) ≤ n → length y ≤ n
-back x y n h = let e : length (x ++ y) ≡ length x + length y = length-append x y in omega arith
-
--- what stands in a vector is shorter than it
-pub inside : (x : List ℕ) (n : ℕ) → length (opaque x) ≤ n → length x ≤ n
-inside x n h = back (header (length x)) x n h
 
 -- ---- whole inputs
 
@@ -74,29 +61,9 @@ signed_parts v n h =
     let d : length (signed_content.spell v.content) ≤ n = front (signed_content.spell v.content) (opaque v.membership_tag) n (subst (λ (l : List ℕ). length l ≤ n) (public_spelled v) b) in
     subst (λ (l : List ℕ). length l ≤ n) (signed_content_spelled v.content) d
 
-fifth : (a b d e k : List ℕ) (n : ℕ) → length (a ++ (b ++ (d ++ (e ++ k)))) ≤ n → length k ≤ n
-fifth a b d e k n h = back e k n (back d (e ++ k) n (back b (d ++ (e ++ k)) n (back a (b ++ (d ++ (e ++ k))) n h)))
-
--- the content stands at the end of a FramedContent
-pub content_inside : (v : FramedContent) (n : ℕ) → length (framed_content.spell v) ≤ n → length (content.spell v.content) ≤ n
-unfolding framed_content
-content_inside v n h = fifth (byte_string.spell v.group_id) (uint64.spell v.epoch) (sender.spell v.sender) (byte_string.spell v.authenticated_data) (content.spell v.content) n h
-
 pub proposal_inside : (p : _) (n : ℕ) → length (content.spell (says.Proposal p)) ≤ n → length (proposal_format.spell p) ≤ n
 unfolding content
 proposal_inside p n h = back _ (proposal_format.spell p) n h
-
-commit_inside : (k : commits.Commit) (n : ℕ) → length (content.spell (says.Commit k)) ≤ n → length (commit.spell k) ≤ n
-unfolding content
-commit_inside k n h = back _ (commit.spell k) n h
-
-list_inside : (k : commits.Commit) (n : ℕ) → length (commit.spell k) ≤ n → length ((vector proposal_or_ref proposal_or_ref_nonempty).spell k.proposals) ≤ n
-unfolding commit
-list_inside k n h = front _ ((optional update_path).spell k.path) n h
-
-path_inside : (k : commits.Commit) (n : ℕ) → length (commit.spell k) ≤ n → length ((optional update_path).spell k.path) ≤ n
-unfolding commit
-path_inside k n h = back _ ((optional update_path).spell k.path) n h
 
 -- ---- views
 

@@ -32,7 +32,8 @@ use Rattle.mls_model.specs.Propose.{proposal_by, updated_leaf}
 use Rattle.mls_candidate.specs.Short.{IsShortLeaf}
 use Rattle.mls_candidate.proofs.Lengths.{content_most}
 use Rattle.mls_candidate.proofs.Leaves.{renewed_short, update_fits}
-use Rattle.mls_member.proofs.Lengths.{front, signed_parts, content_inside, proposal_inside}
+use Rattle.mls_make.specs.Lengths.{front, content_inside}
+use Rattle.mls_member.proofs.Lengths.{signed_parts, proposal_inside}
 
 -- ---- by their messages
 

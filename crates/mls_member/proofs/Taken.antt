@@ -5,9 +5,10 @@ use Rattle.mls_model.specs.declared.item.Item.{Item}
 use Rattle.mls_model.specs.Make.{listed_of}
 use Rattle.mls_model.specs.Public.{Used}
 use Rattle.mls_model.specs.Member.{Kept, used_one, used_by}
+use Rattle.mls_public_group.specs.Rest.{all_behind, here}
 use Rattle.mls_make.specs.Parts.{IsShortUsed, AreShortUsed}
 use Rattle.mls_member.specs.Answers.{IsShortItem, AreShortItems}
-use Rattle.mls_member.proofs.Uses.{with_rest, all_ok, nothing_first, one_more, all_append, left_from}
+use Rattle.mls_member.proofs.Uses.{with_rest, all_ok, nothing_first, one_more}
 
 pub record AreTaken (kept : List Kept) (committer : ℕ) (items rest : List Item) (used : List Used) : Type 0 where
   pub answer : with_rest used (used_by kept committer (map listed_of rest)) ≡ used_by kept committer (map listed_of items)
@@ -22,7 +23,7 @@ taken_next : (kept : List Kept) (committer : ℕ) (items rest : List Item) (x : 
 unfolding used_by
 taken_next kept committer items rest x used u h e short = record {
   answer = sym (one_more used u (used_by kept committer (map listed_of rest))) ∙ (rw e at h.answer);
-  short = all_append IsShortUsed used u h.short short;
+  short = all_behind IsShortUsed used u h.short short;
   left = h.left.1;
 }
 
@@ -34,17 +35,17 @@ taken_fails kept committer items rest x used n h e = sym (rw e at h.answer)
 
 -- the first of what is left from a place on
 pub left_short : (kept : List Kept) (committer : ℕ) (items : List Item) (i : ℕ) (x : Item) (used : List Used) → i < length items → x ≡ get_or items i x → AreTaken kept committer items (drop i items) used → IsShortItem x
-left_short kept committer items i x used lt e h = (subst (λ (l : List Item). AreTaken kept committer items l used) (left_from items i x lt e) h).left.0
+left_short kept committer items i x used lt e h = (subst (λ (l : List Item). AreTaken kept committer items l used) (here items i x lt e) h).left.0
 
 pub taken_step : (kept : List Kept) (committer : ℕ) (items : List Item) (i : ℕ) (x : Item) (used : List Used) (u : Used) → i < length items → x ≡ get_or items i x → AreTaken kept committer items (drop i items) used
     → used_one kept committer (listed_of x) ≡ Ok u → IsShortUsed u → AreTaken kept committer items (drop (i + 1) items) (used ++ u ∷ [])
 taken_step kept committer items i x used u lt e h one short =
-    taken_next kept committer items (drop (i + 1) items) x used u (subst (λ (l : List Item). AreTaken kept committer items l used) (left_from items i x lt e) h) one short
+    taken_next kept committer items (drop (i + 1) items) x used u (subst (λ (l : List Item). AreTaken kept committer items l used) (here items i x lt e) h) one short
 
 pub taken_stops : (kept : List Kept) (committer : ℕ) (items : List Item) (i : ℕ) (x : Item) (used : List Used) (n : ℕ) → i < length items → x ≡ get_or items i x → AreTaken kept committer items (drop i items) used
     → used_one kept committer (listed_of x) ≡ Err n → used_by kept committer (map listed_of items) ≡ Err n
 taken_stops kept committer items i x used n lt e h one =
-    taken_fails kept committer items (drop (i + 1) items) x used n (subst (λ (l : List Item). AreTaken kept committer items l used) (left_from items i x lt e) h) one
+    taken_fails kept committer items (drop (i + 1) items) x used n (subst (λ (l : List Item). AreTaken kept committer items l used) (here items i x lt e) h) one
 
 -- and all of them
 at_end : (kept : List Kept) (committer : ℕ) (items : List Item) (i : ℕ) (used : List Used) → length items ≤ i → AreTaken kept committer items (drop i items) used → AreTaken kept committer items [] used

@@ -1,5 +1,5 @@
 -- How the proposals that a commit uses come about, one after the other.
-use Rattle.std.proofs.Common.{◌≡◌, ℕ, suc, ◌+◌, ◌<◌, ◌≤◌, ◌^◌, List, [], ◌∷◌, ◌++◌, length, drop, Option, Some, None, Result, Ok, Err, refl, sym, ap, subst, ◌∙◌, arith, append_assoc, get_or, add-one, drop-cons, ◌||◌}
+use Rattle.std.proofs.Common.{◌≡◌, ℕ, ◌+◌, ◌<◌, ◌≤◌, ◌^◌, List, [], ◌∷◌, ◌++◌, length, drop, Option, Some, None, Result, Ok, Err, refl, sym, ap, subst, ◌∙◌, arith, append_assoc, get_or, ◌||◌}
 use Rattle.std.specs.List.{AllByRecursion, list_any, cons_option}
 use Rattle.std.proofs.lemmas.List.{append-nil, drop_all}
 use Rattle.mls_wire.specs.Reading.{◌>>=◌}
@@ -10,6 +10,7 @@ use Rattle.mls_model.specs.Public.{Used}
 use Rattle.mls_model.specs.Member.{Kept, used_one, used_by, named_one, named, first_own_key, first_key}
 use Rattle.mls_model.specs.Proposals.{removed, remove_in}
 use Rattle.mls_public_group.specs.Short.{IsBelow, AreBelow}
+use Rattle.mls_public_group.specs.Rest.{here, all_behind}
 use Rattle.mls_member.specs.Process.{IsListedBelow, key_of, is_leaf, removes_leaf}
 
 -- what is used so far, and then the rest of the list
@@ -32,10 +33,6 @@ pub one_more : (used : List Used) (u : Used) (r : Result (List Used) ℕ) → wi
 one_more used u (Ok us) = ap (λ (l : List Used). all_ok l) (sym (append_assoc used (u ∷ []) us))
 one_more used u (Err n) = refl
 
-pub all_append : {X : Type 0} (P : X → Type 0) (xs : List X) (x : X) → AllByRecursion P xs → P x → AllByRecursion P (xs ++ x ∷ [])
-all_append P [] x h p = (p, tt)
-all_append P (y ∷ ys) x h p = (h.0, all_append P ys x h.1 p)
-
 pub used_first : (kept : List Kept) (committer : ℕ) (list : List ProposalOrRef) → AllByRecursion (IsListedBelow (2 ^ 27)) list → AreUsed kept committer list list []
 used_first kept committer list h = record { answer = nothing_first (used_by kept committer list); below = tt; short = h }
 
@@ -43,7 +40,7 @@ pub used_next : (kept : List Kept) (committer : ℕ) (list rest : List ProposalO
 unfolding used_by
 used_next kept committer list rest x used u h e below = record {
   answer = sym (one_more used u (used_by kept committer rest)) ∙ (rw e at h.answer);
-  below = all_append (λ (v : Used). IsBelow (2 ^ 27) proposal_format v.proposal) used u h.below below;
+  below = all_behind (λ (v : Used). IsBelow (2 ^ 27) proposal_format v.proposal) used u h.below below;
   short = h.short.1;
 }
 
@@ -63,19 +60,15 @@ used_wider (u ∷ us) h = (record { fits = h.0.fits; below = omega (arith, h.0.b
 
 -- ---- lists
 
--- what is left from a place on
-pub left_from : {X : Type 0} (xs : List X) (i : ℕ) (x : X) → i < length xs → x ≡ get_or xs i x → drop i xs ≡ x ∷ drop (i + 1) xs
-left_from xs i x lt e = rw (add-one i) (drop-cons xs i x lt ∙ ap (λ y. y ∷ drop (suc i) xs) (sym e))
-
 pub used_step : (kept : List Kept) (committer : ℕ) (list : List ProposalOrRef) (i : ℕ) (x : ProposalOrRef) (used : List Used) (u : Used) → i < length list → x ≡ get_or list i x → AreUsed kept committer list (drop i list) used
     → used_one kept committer x ≡ Ok u → IsBelow (2 ^ 27) proposal_format u.proposal → AreUsed kept committer list (drop (i + 1) list) (used ++ u ∷ [])
 used_step kept committer list i x used u lt e h one below =
-    used_next kept committer list (drop (i + 1) list) x used u (subst (λ (l : List ProposalOrRef). AreUsed kept committer list l used) (left_from list i x lt e) h) one below
+    used_next kept committer list (drop (i + 1) list) x used u (subst (λ (l : List ProposalOrRef). AreUsed kept committer list l used) (here list i x lt e) h) one below
 
 pub used_stops : (kept : List Kept) (committer : ℕ) (list : List ProposalOrRef) (i : ℕ) (x : ProposalOrRef) (used : List Used) (n : ℕ) → i < length list → x ≡ get_or list i x → AreUsed kept committer list (drop i list) used
     → used_one kept committer x ≡ Err n → used_by kept committer list ≡ Err n
 used_stops kept committer list i x used n lt e h one =
-    used_fails kept committer list (drop (i + 1) list) x used n (subst (λ (l : List ProposalOrRef). AreUsed kept committer list l used) (left_from list i x lt e) h) one
+    used_fails kept committer list (drop (i + 1) list) x used n (subst (λ (l : List ProposalOrRef). AreUsed kept committer list l used) (here list i x lt e) h) one
 
 pub used_end : (kept : List Kept) (committer : ℕ) (list : List ProposalOrRef) (i : ℕ) (used : List Used) → length list ≤ i → AreUsed kept committer list (drop i list) used → used_by kept committer list ≡ Ok used
 used_end kept committer list i used le h = used_all kept committer list used (subst (λ (l : List ProposalOrRef). AreUsed kept committer list l used) (drop_all i list le) h)
@@ -110,12 +103,12 @@ HasKey kept list i key = first_own_key (named kept (drop i list)) ≡ key
 
 pub key_found : (kept : List Kept) (list : List ProposalOrRef) (i : ℕ) (x : ProposalOrRef) (k : List ℕ) (key : Option (List ℕ)) → i < length list → x ≡ get_or list i x → HasKey kept list i key → Some k ≡ key_of (named_one kept x) → Some k ≡ key
 key_found kept list i x k key lt e h found =
-    let a : first_key (key_of (named_one kept x)) (first_own_key (named kept (drop (i + 1) list))) ≡ key = sym (own_key_next kept x (drop (i + 1) list)) ∙ ap (λ (l : List ProposalOrRef). first_own_key (named kept l)) (sym (left_from list i x lt e)) ∙ h in
+    let a : first_key (key_of (named_one kept x)) (first_own_key (named kept (drop (i + 1) list))) ≡ key = sym (own_key_next kept x (drop (i + 1) list)) ∙ ap (λ (l : List ProposalOrRef). first_own_key (named kept l)) (sym (here list i x lt e)) ∙ h in
     subst (λ (o : Option (List ℕ)). first_key o (first_own_key (named kept (drop (i + 1) list))) ≡ key) (sym found) a
 
 pub key_passed : (kept : List Kept) (list : List ProposalOrRef) (i : ℕ) (x : ProposalOrRef) (key : Option (List ℕ)) → i < length list → x ≡ get_or list i x → HasKey kept list i key → None ≡ key_of (named_one kept x) → HasKey kept list (i + 1) key
 key_passed kept list i x key lt e h none =
-    let a : first_key (key_of (named_one kept x)) (first_own_key (named kept (drop (i + 1) list))) ≡ key = sym (own_key_next kept x (drop (i + 1) list)) ∙ ap (λ (l : List ProposalOrRef). first_own_key (named kept l)) (sym (left_from list i x lt e)) ∙ h in
+    let a : first_key (key_of (named_one kept x)) (first_own_key (named kept (drop (i + 1) list))) ≡ key = sym (own_key_next kept x (drop (i + 1) list)) ∙ ap (λ (l : List ProposalOrRef). first_own_key (named kept l)) (sym (here list i x lt e)) ∙ h in
     subst (λ (o : Option (List ℕ)). first_key o (first_own_key (named kept (drop (i + 1) list))) ≡ key) (sym none) a
 
 pub key_end : (kept : List Kept) (list : List ProposalOrRef) (i : ℕ) (key : Option (List ℕ)) → length list ≤ i → HasKey kept list i key → None ≡ key

@@ -1,6 +1,7 @@
 -- What holds of the next public state, and of the names in an entry, by their definitions alone.
-use Rattle.std.proofs.Common.{◌≡◌, ℕ, true, false, List, [], ◌∷◌, Option, Some, None, Ok, Err, refl, ap}
+use Rattle.std.proofs.Common.{◌≡◌, ℕ, Bool, true, false, cond, find, List, [], ◌∷◌, Option, Some, None, Ok, Err, refl, ap, subst}
 use Rattle.std.specs.Prelude.{option_map}
+use Rattle.std.specs.List.{AllByRecursion}
 use Rattle.mls_wire.specs.Checks.{given}
 use Rattle.mls_wire.specs.Reading.{◌>>=◌}
 use Rattle.mls_wire.specs.CheckLaws.{bind_ok}
@@ -15,6 +16,17 @@ use Rattle.mls_model.specs.Commit.{Change, body, public_with, next_public}
 use Rattle.mls_model.specs.Member.{Kept, kept_under, used_by, named}
 use Rattle.mls_model.specs.Journal.{names_in}
 use Rattle.mls_model.specs.Agreement.{Keeps}
+
+-- ---- one that is kept
+
+-- what all that is kept has, a found one has
+pub found_good : (P : Kept → Type 0) (test : Kept → Bool) (kept : List Kept) (k : Kept) → AllByRecursion P kept → find test kept ≡ Some k → P k
+found_good P test [] k all e = absurd cc
+found_good P test (x ∷ xs) k all e = by_test (test x) (find test xs) (found_good P test xs k all.1) e
+  where
+    by_test : (b : Bool) (o : Option Kept) → (o ≡ Some k → P k) → cond b (Some x) o ≡ Some k → P k
+    by_test true o rest is = let same : x ≡ k = cc in subst P same all.0
+    by_test false o rest is = rest is
 
 -- ---- the next public state
 
@@ -52,7 +64,7 @@ keeps_at kept r xs (Some k) i us e f =
     let s = bind_ok (used_by kept i xs) (λ vs. Ok (record { proposal = k.proposal; sender = k.sender; is_full = false } ∷ vs)) us f in
     (k, e, (s.0, s.1))
 
-keeps_more : (kept : List Kept) (r : List ℕ) (xs : List ProposalOrRef) (k : Kept) → kept_under kept r ≡ Some k → Keeps kept xs (names_in kept xs) →
+pub keeps_more : (kept : List Kept) (r : List ℕ) (xs : List ProposalOrRef) (k : Kept) → kept_under kept r ≡ Some k → Keeps kept xs (names_in kept xs) →
     Keeps kept (listed.Reference r ∷ xs) (names_in kept (listed.Reference r ∷ xs))
 unfolding Keeps names_in named
 keeps_more kept r xs k e h = rw e (ap (option_map (λ (x : Kept). x.message)) e, h)
@@ -71,7 +83,7 @@ names_in_order kept i (listed.Reference r ∷ xs) us e =
 abbrev pub NamesAreHeld : Type 0
 NamesAreHeld = (kept : List Kept) (list : List ProposalOrRef) (names : List (List ℕ)) → Keeps kept list names → names_in kept list ≡ names
 
-by_option : (o : Option Kept) (b : List ℕ) → option_map (λ (k : Kept). k.message) o ≡ Some b → (k : Kept) × (o ≡ Some k) × (k.message ≡ b)
+pub by_option : (o : Option Kept) (b : List ℕ) → option_map (λ (k : Kept). k.message) o ≡ Some b → (k : Kept) × (o ≡ Some k) × (k.message ≡ b)
 by_option None b e = absurd cc
 by_option (Some k) b e = (k, refl, cc)
 

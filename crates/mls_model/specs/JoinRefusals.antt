@@ -2,6 +2,7 @@
 use Rattle.std.proofs.Common.{◌≡◌, ℕ, ◌==◌, nat_lt, true, cond, ◌||◌, ◌&&◌, not, List, [], ◌∷◌, length, Option, Some, None, Result, Ok, Err, refl}
 use Rattle.std.specs.Prelude.{codes, find}
 use Rattle.std.specs.Str.{bytes_eq}
+use Rattle.std.proofs.lemmas.Bool.{or_left, or_right}
 use Rattle.mls_wire.specs.Checks.{given}
 use Rattle.mls_leaf.specs.Faults.{whole}
 use Rattle.mls_leaf.specs.Limits.{input_limit}
@@ -37,7 +38,7 @@ use Rattle.mls_model.specs.Candidate.{Candidate}
 use Rattle.mls_model.specs.Opening.{Opened, welcome_in, or_fault, is_none_or_32, opened_secrets, opened_welcome}
 use Rattle.mls_model.specs.Join.{joined_tree, signer_checks, place_of, joined_keys, member_of, join_verdict}
 use Rattle.mls_model.specs.Refusals.{join_numbers, JoinNumbers}
-use Rattle.mls_model.specs.RefusedSteps.{is_one, left_of, right_of, bind_refused, then_refused, test_refused, last_refused, given_refused, if_refused}
+use Rattle.mls_model.specs.RefusedSteps.{is_one, bind_refused, then_refused, test_refused, last_refused, given_refused, if_refused}
 
 -- ---- the Welcome
 
@@ -55,12 +56,12 @@ secrets_refused c k w entry n h =
     test_refused 73 (is_none_or_32 secrets.path_secret) _ n h3 (λ e. e) (λ never. absurd cc))))
 
 in_join : (m n : ℕ) → has join_numbers m ≡ true → m ≡ n → (is_input_fault n || has join_numbers n) ≡ true
-in_join m n h e = right_of (is_input_fault n) (has join_numbers n) (is_one join_numbers m n h e)
+in_join m n h e = or_right (is_input_fault n) (has join_numbers n) (is_one join_numbers m n h e)
 
 opening_refused : (c : Crypto) (k : Candidate) (bytes : List ℕ) (n : ℕ) → opened_welcome c k bytes ≡ Err n → (is_input_fault n || has join_numbers n) ≡ true
 unfolding opened_welcome decoded has
 opening_refused c k bytes n h =
-    bind_refused (whole mls_message input_limit bytes) _ n h (λ e. left_of (is_input_fault n) (has join_numbers n) (is_input_answered mls_message input_limit mls_message_faults bytes n e)) (λ outer h1.
+    bind_refused (whole mls_message input_limit bytes) _ n h (λ e. or_left (is_input_fault n) (has join_numbers n) (is_input_answered mls_message input_limit mls_message_faults bytes n e)) (λ outer h1.
     bind_refused (given 70 (welcome_in outer)) _ n h1 (λ e. in_join 70 n refl (given_refused 70 (welcome_in outer) n e)) (λ w h2.
     test_refused 71 (w.cipher_suite == c.number) _ n h2 (in_join 71 n refl) (λ h3.
     let own = find (λ (e : EncryptedGroupSecrets). bytes_eq e.new_member (package_reference k.offered)) w.secrets in
@@ -160,4 +161,4 @@ member_refused c k o n h =
 pub join_refused : JoinNumbers
 unfolding join_verdict
 join_refused c k bytes n h =
-    bind_refused (opened_welcome c k bytes) _ n h (opening_refused c k bytes n) (λ o e. right_of (is_input_fault n) (has join_numbers n) (member_refused c k o n e))
+    bind_refused (opened_welcome c k bytes) _ n h (opening_refused c k bytes n) (λ o e. or_right (is_input_fault n) (has join_numbers n) (member_refused c k o n e))

@@ -20,7 +20,7 @@ use Rattle.mls_model.specs.Verdict.{framing_checks, proposal_verdict, entered, c
 use Rattle.mls_model.specs.Found.{IsFramed, ProposalDid, WasRemoved, reached_epoch, HasFollowed, CommitDid, ContentDid, ReceivedDid, DidPending, DidOther, VerdictDid}
 
 -- which way a test went
-either_way : {A P Q : Type 0} (b : Bool) (x y : Result A ℕ) (z : A) → cond b x y ≡ Ok z → (b ≡ true → x ≡ Ok z → P) → (b ≡ false → y ≡ Ok z → Q) → P ⊎ Q
+pub either_way : {A P Q : Type 0} (b : Bool) (x y : Result A ℕ) (z : A) → cond b x y ≡ Ok z → (b ≡ true → x ≡ Ok z → P) → (b ≡ false → y ≡ Ok z → Q) → P ⊎ Q
 either_way true x y z e f g = inl (f refl e)
 either_way false x y z e f g = inr (g refl e)
 

@@ -22,14 +22,6 @@ widen (y ∷ ys) ns n a h = let b = and_parts (has ns y) (list_all (has ns) ys) 
     by_same true e k here rest = is_one ns y n here (eqb-true y n e)
     by_same false e k here rest = rest k
 
-pub right_of : (a b : Bool) → b ≡ true → (a || b) ≡ true
-right_of true b e = refl
-right_of false b e = e
-
-pub left_of : (a b : Bool) → a ≡ true → (a || b) ≡ true
-left_of true b e = refl
-left_of false b e = absurd cc
-
 -- ---- chains that are refused
 
 pub bind_refused : {A B P : Type 0} (r : Result A ℕ) (f : A → Result B ℕ) (n : ℕ) → (r >>= f) ≡ Err n → (r ≡ Err n → P) → ((x : A) → f x ≡ Err n → P) → P

@@ -1,6 +1,7 @@
 -- A verdict is refused with one of its numbers.
 use Rattle.std.proofs.Common.{◌≡◌, ℕ, ◌==◌, Bool, true, false, cond, ◌||◌, not, List, [], ◌∷◌, length, reverse, Option, Some, None, Ok, Err, refl, sym}
 use Rattle.std.specs.Str.{bytes_eq}
+use Rattle.std.proofs.lemmas.Bool.{or_left, or_right}
 use Rattle.mls_wire.specs.Checks.{given}
 use Rattle.mls_leaf.specs.Limits.{input_limit}
 use Rattle.mls_leaf.specs.WholeLaws.{is_input_fault, is_input_answered}
@@ -30,7 +31,7 @@ use Rattle.mls_model.specs.Verdict.{is_kept, framing_checks, climbed}
 use Rattle.mls_model.specs.WayLaws.{refused_so}
 use Rattle.mls_model.specs.Ways.{Refusing, Refusing.gone, Refusing.unread, Refusing.no_public, Refusing.unframed, Refusing.unfit, Refusing.last_epoch, Refusing.unknown, Refusing.unsound, Refusing.closed, Refusing.untagged}
 use Rattle.mls_model.specs.Refusals.{proposal_numbers, body_numbers, verdict_numbers, VerdictNumbers}
-use Rattle.mls_model.specs.RefusedSteps.{is_one, widen, left_of, right_of, bind_refused, test_refused, last_refused, given_refused, if_refused}
+use Rattle.mls_model.specs.RefusedSteps.{is_one, widen, bind_refused, test_refused, last_refused, given_refused, if_refused}
 use Rattle.mls_model.specs.RefusalLaws.{proposal_refused, body_refused}
 
 pub used_refused : (kept : List Kept) (committer : ℕ) (list : List ProposalOrRef) (n : ℕ) → used_by kept committer list ≡ Err n → 60 ≡ n
@@ -89,16 +90,16 @@ climbed_refused c m committer change keys (Some path) n h =
 
 by_way : (c : Crypto) (m : Member) (bytes : List ℕ) (n : ℕ) → Refusing c m bytes n → (is_input_fault n || has verdict_numbers n) ≡ true
 unfolding has decoded
-by_way c m bytes n (gone g e) = right_of (is_input_fault n) _ (is_one verdict_numbers 40 n refl (sym e))
-by_way c m bytes n (unread o e) = left_of (is_input_fault n) _ (is_input_answered mls_message input_limit mls_message_faults bytes n e)
-by_way c m bytes n (no_public w o d e f) = right_of (is_input_fault n) _ (is_one verdict_numbers 41 n refl (sym f))
-by_way c m bytes n (unframed v o d e) = right_of (is_input_fault n) _ (framing_refused c m v bytes n e)
-by_way c m bytes n (unfit v said p f e) = right_of (is_input_fault n) _ (widen proposal_numbers verdict_numbers n refl (proposal_refused c m.public _ said n e))
-by_way c m bytes n (last_epoch v commit tag p e f) = right_of (is_input_fault n) _ (is_one verdict_numbers 66 n refl (sym f))
-by_way c m bytes n (unknown v commit tag p f e) = right_of (is_input_fault n) _ (is_one verdict_numbers 60 n refl (used_refused m.kept _ commit.proposals n e))
-by_way c m bytes n (unsound v commit tag used p d e) = right_of (is_input_fault n) _ (widen body_numbers verdict_numbers n refl (body_refused c m.public _ used commit _ _ n e))
-by_way c m bytes n (closed v commit tag used change p d s e) = right_of (is_input_fault n) _ (climbed_refused c m _ change _ commit.path n e)
-by_way c m bytes n (untagged v commit tag used change climb p d s o e f) = right_of (is_input_fault n) _ (is_one verdict_numbers 65 n refl (sym f))
+by_way c m bytes n (gone g e) = or_right (is_input_fault n) _ (is_one verdict_numbers 40 n refl (sym e))
+by_way c m bytes n (unread o e) = or_left (is_input_fault n) _ (is_input_answered mls_message input_limit mls_message_faults bytes n e)
+by_way c m bytes n (no_public w o d e f) = or_right (is_input_fault n) _ (is_one verdict_numbers 41 n refl (sym f))
+by_way c m bytes n (unframed v o d e) = or_right (is_input_fault n) _ (framing_refused c m v bytes n e)
+by_way c m bytes n (unfit v said p f e) = or_right (is_input_fault n) _ (widen proposal_numbers verdict_numbers n refl (proposal_refused c m.public _ said n e))
+by_way c m bytes n (last_epoch v commit tag p e f) = or_right (is_input_fault n) _ (is_one verdict_numbers 66 n refl (sym f))
+by_way c m bytes n (unknown v commit tag p f e) = or_right (is_input_fault n) _ (is_one verdict_numbers 60 n refl (used_refused m.kept _ commit.proposals n e))
+by_way c m bytes n (unsound v commit tag used p d e) = or_right (is_input_fault n) _ (widen body_numbers verdict_numbers n refl (body_refused c m.public _ used commit _ _ n e))
+by_way c m bytes n (closed v commit tag used change p d s e) = or_right (is_input_fault n) _ (climbed_refused c m _ change _ commit.path n e)
+by_way c m bytes n (untagged v commit tag used change climb p d s o e f) = or_right (is_input_fault n) _ (is_one verdict_numbers 65 n refl (sym f))
 
 pub verdict_refused : VerdictNumbers
 verdict_refused c m bytes n h = by_way c m bytes n (refused_so c m bytes n h)

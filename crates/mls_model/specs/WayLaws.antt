@@ -1,6 +1,7 @@
 -- Each verdict comes about in one of the ways that are listed.
 use Rattle.std.proofs.Common.{◌≡◌, ℕ, ◌^◌, ◌-◌, nat_lt, Bool, true, false, not, if◌then◌else◌, List, Option, Some, None, is_some, Result, Ok, Err, refl, ◌⊎◌, inl, inr, ap, ◌∙◌}
 use Rattle.std.specs.Str.{bytes_eq}
+use Rattle.std.proofs.lemmas.Bool.{not-true}
 use Rattle.mls_wire.specs.Checks.{Passed, passed, require, given, ◌>>◌}
 use Rattle.mls_wire.specs.Reading.{◌>>=◌}
 use Rattle.mls_leaf.specs.declared.proposal.Proposal.{Proposal}
@@ -26,10 +27,6 @@ use Rattle.mls_model.specs.Verdict.{framing_checks, proposal_verdict, climbed, e
 use Rattle.mls_model.specs.Found.{WasRemoved, HasFollowed, ProposalDid, ContentDid, DidPending, DidOther, reached_epoch}
 use Rattle.mls_model.specs.Receipts.{framing_did, did_receive, did_take}
 use Rattle.mls_model.specs.Ways.{IsOther, IsTaken, IsProposal, IsCommit, IsUsing, IsChanging, keys_for, Taking, Taking.follows_own, Taking.knows, Taking.keeps, Taking.leaves, Taking.follows, TakenSo, Refusing, Refusing.gone, Refusing.unread, Refusing.no_public, Refusing.unframed, Refusing.unfit, Refusing.last_epoch, Refusing.unknown, Refusing.unsound, Refusing.closed, Refusing.untagged, RefusedSo}
-
-is_active : (b : Bool) → not b ≡ true → b ≡ false
-is_active true e = cc
-is_active false e = refl
 
 -- ---- taken
 
@@ -57,7 +54,7 @@ taken_by c m bytes x g (inr o) =
     (record { other = record { active = g; free = o.free }; decodes = r.decodes; is_framed = r.is_framed }) r.did
 
 pub taken_so : TakenSo
-taken_so c m bytes x h = let d = did_take c m bytes x h in taken_by c m bytes x (is_active m.gone d.active) d.did
+taken_so c m bytes x h = let d = did_take c m bytes x h in taken_by c m bytes x (not-true m.gone d.active) d.did
 
 -- ---- refused
 

@@ -2,7 +2,7 @@
 use Rattle.std.proofs.Common.{◌≡◌, ℕ, zero, suc, ◌<◌, Bool, true, false, ◌&&◌, ◌||◌, cond, find, List, [], ◌∷◌, Option, Some, None, refl, ap, sym, ◌∙◌, slice_get, arith, eqb-true, eq-eqb, true≢false}
 use Rattle.std.specs.List.{list_any}
 use Rattle.std.specs.Str.{bytes_eq}
-use Rattle.std.proofs.lemmas.Bool.{and_parts}
+use Rattle.std.proofs.lemmas.Bool.{and_parts, or_right, and_from}
 use Rattle.std.proofs.lemmas.Slice.Eq.{bytes_eq-Decides}
 use Rattle.mls_leaf.specs.KeyPackage.{key_package}
 use Rattle.mls_model.specs.declared.event.Source.{Source}
@@ -72,10 +72,6 @@ any_stands b (x ∷ xs) h = by_test (bytes_eq b x) refl (any_stands b xs) h
     by_test true e rest h = (0, ap (λ (y : List ℕ). some y) (sym ((bytes_eq-Decides b x).0 e)))
     by_test false e rest h = let r = rest h in (suc r.0, r.1)
 
-or_right : (s t : Bool) → t ≡ true → (s || t) ≡ true
-or_right true t e = refl
-or_right false t e = e
-
 any_of : (b : List ℕ) (xs : List (List ℕ)) (i : ℕ) → slice_get xs i ≡ Some b → list_any (bytes_eq b) xs ≡ true
 any_of b [] i h = absurd cc
 any_of b (x ∷ xs) zero h = let same : x ≡ b = cc in ap (λ (t : Bool). t || list_any (bytes_eq b) xs) ((bytes_eq-Decides b x).1 (sym same))
@@ -103,7 +99,7 @@ pub record IsFirstFor (made : List CommitMade) (source : Source) (k : Candidate)
   pub fits : IsFor source k d
   pub before : (i : ℕ) (e : CommitMade) → i < place → slice_get made i ≡ Some e → IsFor source k e → ⊥
 
-abbrev is_for : Source → Candidate → CommitMade → Bool
+abbrev pub is_for : Source → Candidate → CommitMade → Bool
 is_for source k d = has_source source d.welcome && list_any (bytes_eq (key_package.spell k.offered)) d.adds
 
 source_of : (source : Source) (o : Option (ℕ × List ℕ)) → has_source source o ≡ true → (w : ℕ × List ℕ) × (o ≡ Some w) × IsSourceOf source w
@@ -122,13 +118,9 @@ for_of source k d h =
     let a = any_stands (key_package.spell k.offered) d.adds p.1 in
     record { welcome = s.0; is_welcome = s.1; is_source = s.2; place = a.0; adds = a.1 }
 
-both : (x y : Bool) → x ≡ true → y ≡ true → (x && y) ≡ true
-both true y e f = f
-both false y e f = absurd (true≢false (sym e))
-
 of_for : (source : Source) (k : Candidate) (d : CommitMade) → IsFor source k d → is_for source k d ≡ true
 of_for source k d h =
-    both (has_source source d.welcome) (list_any (bytes_eq (key_package.spell k.offered)) d.adds)
+    and_from (has_source source d.welcome) (list_any (bytes_eq (key_package.spell k.offered)) d.adds)
     (ap (has_source source) h.is_welcome ∙ has_of source h.welcome h.is_source)
     (any_of (key_package.spell k.offered) d.adds h.place h.adds)
 

@@ -3,6 +3,7 @@ use Rattle.std.proofs.Common.{◌≡◌, ℕ, true, false, ◌||◌, not, List, 
 use Rattle.std.specs.Prelude.{Bool, slice_get}
 use Rattle.std.specs.List.{list_any, list_all}
 use Rattle.std.specs.Str.{bytes_eq}
+use Rattle.std.proofs.lemmas.Bool.{or_left, or_right}
 use Rattle.mls_wire.specs.Checks.{given}
 use Rattle.mls_leaf.specs.Limits.{input_limit}
 use Rattle.mls_leaf.specs.WholeLaws.{is_input_fault, is_input_answered}
@@ -27,7 +28,7 @@ use Rattle.mls_model.specs.World.{World, Entrant, seat_at, entrant_at, bytes_of,
 use Rattle.mls_model.specs.Calls.{candidate_answer, create_answer, propose_add_answer, propose_update_answer, propose_remove_answer, commit_answer, drop_answer, deliver_answer, join_answer}
 use Rattle.mls_model.specs.Run.{answer}
 use Rattle.mls_model.specs.Refusals.{verdict_numbers, proposed_numbers, make_numbers, join_numbers}
-use Rattle.mls_model.specs.RefusedSteps.{is_one, widen, left_of, right_of, bind_refused, test_refused, given_refused}
+use Rattle.mls_model.specs.RefusedSteps.{is_one, widen, bind_refused, test_refused, given_refused}
 use Rattle.mls_model.specs.VerdictRefusals.{verdict_refused}
 use Rattle.mls_model.specs.CallRefusals.{add_refused, update_refused, remove_refused, make_refused, candidate_refused, create_refused}
 use Rattle.mls_model.specs.JoinRefusals.{join_refused}
@@ -67,11 +68,11 @@ bytes_refused w (Message k) n h = given_refused 94 (slice_get w.messages k) n h
 
 -- decoding's, or one of these
 or_read : (ns : List ℕ) (m n : ℕ) → has ns m ≡ true → m ≡ n → (is_input_fault n || has ns n) ≡ true
-or_read ns m n h e = right_of (is_input_fault n) (has ns n) (is_one ns m n h e)
+or_read ns m n h e = or_right (is_input_fault n) (has ns n) (is_one ns m n h e)
 
 decoded_refused : (ns : List ℕ) (bytes : List ℕ) (n : ℕ) → decoded bytes ≡ Err n → (is_input_fault n || has ns n) ≡ true
 unfolding decoded
-decoded_refused ns bytes n h = left_of (is_input_fault n) (has ns n) (is_input_answered mls_message input_limit mls_message_faults bytes n h)
+decoded_refused ns bytes n h = or_left (is_input_fault n) (has ns n) (is_input_answered mls_message input_limit mls_message_faults bytes n h)
 
 package_refused : (ns : List ℕ) (w : World) (source : Source) (n : ℕ) → has ns 94 ≡ true → has ns 95 ≡ true → package_of w source ≡ Err n → (is_input_fault n || has ns n) ≡ true
 unfolding package_of
@@ -100,7 +101,7 @@ items_refused ns w (x ∷ xs) n a b h =
 -- ---- numbers of a member among those of an event
 
 among : (ms ns : List ℕ) (n : ℕ) → list_all (has ns) ms ≡ true → has ms n ≡ true → (is_input_fault n || has ns n) ≡ true
-among ms ns n a h = right_of (is_input_fault n) (has ns n) (widen ms ns n a h)
+among ms ns n a h = or_right (is_input_fault n) (has ns n) (widen ms ns n a h)
 
 among_read : (ms ns : List ℕ) (n : ℕ) (b : Bool) → is_input_fault n ≡ b → list_all (has ns) ms ≡ true → (b || has ms n) ≡ true → (b || has ns n) ≡ true
 among_read ms ns n true e a h = refl
@@ -144,6 +145,6 @@ event_refused c w (event.Deliver k source) n h =
     bind_refused (verdict c s.member bytes) _ n h2 (λ e. among_read verdict_numbers ns n (is_input_fault n) refl refl (verdict_refused c s.member bytes n e)) (λ x never. absurd cc)))
 event_refused c w (event.Join k source) n h =
     let ns : List ℕ = 91 ∷ 92 ∷ 94 ∷ join_numbers in
-    bind_refused (entrant_at w k) _ n h (λ e. right_of (is_input_fault n) (has ns n) (entrant_refused ns w k n refl refl e)) (λ e h1.
+    bind_refused (entrant_at w k) _ n h (λ e. or_right (is_input_fault n) (has ns n) (entrant_refused ns w k n refl refl e)) (λ e h1.
     bind_refused (bytes_of w source) _ n h1 (λ f. or_read ns 94 n refl (bytes_refused w source n f)) (λ bytes h2.
     bind_refused (join_verdict c e.candidate bytes) _ n h2 (λ f. among_read join_numbers ns n (is_input_fault n) refl refl (join_refused c e.candidate bytes n f)) (λ j never. absurd cc)))

@@ -10,3 +10,5 @@ pub mod Leaves
 pub mod Limits
 pub mod Lengths
 pub mod NextTree
+pub mod Rest
+pub mod Memory

@@ -26,7 +26,7 @@ use Rattle.mls_model.specs.Messages.{decoded, public_in}
 use Rattle.mls_model.specs.Public.{PublicState}
 use Rattle.mls_model.specs.PublicOf.{Creations, public_after_body, public_after, public_of_info, public_of}
 use Rattle.mls_model.specs.World.{World}
-use Rattle.mls_claims.specs.Journals.{StandsAlong, public_agreement, secret_agreement}
+use Rattle.mls_claims.specs.Journals.{StandsAlong, public_agreement, secret_agreement, last_more}
 use Rattle.mls_runs.specs.Past.{past_along}
 use Rattle.mls_runs.specs.Secrets.{agree_secret, one_creation, same_secret}
 
@@ -86,17 +86,12 @@ tag_after c p q e h =
     let reads : decoded e.commit ≡ found (message.PublicMessage s2.0) = s1.1 ∙ ap found (public_is s1.0 s2.0 (given_ok 41 (public_in s1.0) s2.0 s2.1)) in
     (t.0, ap tag_of_message reads ∙ t.1)
 
-tag_of_more : (origin : Origin) (e : Entry) (es : List Entry) → last_tag origin (e ∷ es) ≡ tag_of_message (decoded e.commit)
-unfolding last_tag
-tag_of_more (Creation k) e es = refl
-tag_of_more (JoinedBy info) e es = refl
-
 tag_of_entry : (c : Crypto) (creations : Creations) (origin : Origin) (e : Entry) (es : List Entry) (p : PublicState) → public_of c creations origin (e ∷ es) ≡ Ok p → (tag : List ℕ) × (last_tag origin (e ∷ es) ≡ Some tag)
 unfolding public_of
 tag_of_entry c creations origin e es p h =
     let s = bind_ok (public_of c creations origin es) _ _ h in
     let t = tag_after c s.0 p e s.2 in
-    (t.0, tag_of_more origin e es ∙ t.1)
+    (t.0, last_more origin e es ∙ t.1)
 
 abbrev info_found : GroupInfo → Result GroupInfo ℕ
 info_found v = Ok v

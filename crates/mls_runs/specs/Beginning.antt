@@ -1,8 +1,10 @@
 -- A good world is kept by a new candidate and by the creation of a group.
-use Rattle.std.proofs.Common.{◌≡◌, ℕ, zero, suc, Bool, true, false, not, ◌||◌, List, [], ◌∷◌, ◌++◌, length, Option, Some, None, Ok, refl, sym, ap, subst, ◌∙◌, slice_get, true≢false}
+use Rattle.std.proofs.Common.{◌≡◌, ℕ, Bool, true, false, not, List, [], ◌∷◌, ◌++◌, length, Option, Some, None, Ok, refl, sym, subst, ◌∙◌, slice_get, true≢false}
 use Rattle.std.specs.List.{list_any}
 use Rattle.std.specs.Str.{bytes_eq}
 use Rattle.std.proofs.lemmas.Slice.Eq.{bytes_eq-Decides}
+use Rattle.std.proofs.lemmas.Map.Keys.{any_passes_from_place}
+use Rattle.std.proofs.lemmas.Bool.{not-true}
 use Rattle.mls_wire.specs.CheckLaws.{require_ok, then_ok, bind_ok, given_ok}
 use Rattle.mls_wire.specs.Checks.{passed}
 use Rattle.mls_wire.specs.Laws.{ok_is}
@@ -22,11 +24,10 @@ use Rattle.mls_model.specs.PublicOf.{Creations}
 use Rattle.mls_model.specs.World.{World, Entrant, Seat, entrant_at}
 use Rattle.mls_claims.specs.Committed.{created_good}
 use Rattle.mls_claims.specs.Offered.{candidate_good}
+use Rattle.mls_claims.specs.Journals.{same_itself}
 use Rattle.mls_runs.specs.Changes.{more_messages, more_entrants, one_message}
 use Rattle.mls_runs.specs.Entering.{one_more}
 use Rattle.mls_runs.specs.Lists.{get_length}
-use Rattle.mls_runs.specs.Past.{same_itself}
-use Rattle.mls_runs.specs.Secrets.{not_gone}
 use Rattle.mls_runs.specs.Sources.{bytes_within}
 
 -- ---- a candidate
@@ -43,19 +44,6 @@ new_did c identity seed k h =
     let s2 = then_ok _ _ _ s1.1 in
     subst (NewDid c seed) (ok_is _ k s2.1) (record { key = refl; within = s2.0 })
 
-later : (a b : Bool) → b ≡ true → (a || b) ≡ true
-later true b e = refl
-later false b e = e
-
-first : (a b : Bool) → a ≡ true → (a || b) ≡ true
-first true b e = refl
-first false b e = absurd (true≢false (sym e))
-
-any_at : {A : Type 0} (test : A → Bool) (xs : List A) (i : ℕ) (x : A) → slice_get xs i ≡ Some x → test x ≡ true → list_any test xs ≡ true
-any_at test [] i x h t = absurd cc
-any_at test (y ∷ xs) zero x h t = let same : x ≡ y = cc in first (test y) (list_any test xs) (ap test (sym same) ∙ t)
-any_at test (y ∷ xs) (suc i) x h t = later (test y) (list_any test xs) (any_at test xs i x h t)
-
 abbrev has_key : List ℕ → Entrant → Bool
 has_key key e = bytes_eq e.candidate.offered.leaf_node.signature_key key
 
@@ -67,9 +55,9 @@ candidate_kept c laws creations w g identity seed x h =
     let s2 = bind_ok (new_candidate c identity seed) _ _ s1.1 in
     let k : Candidate = s2.0 in
     let did : NewDid c seed k = new_did c identity seed k s2.1 in
-    let none : list_any (has_key key) w.entrants ≡ false = not_gone (list_any (has_key key) w.entrants) s1.0 in
+    let none : list_any (has_key key) w.entrants ≡ false = not-true (list_any (has_key key) w.entrants) s1.0 in
     let grown = more_entrants c creations w k g (candidate_good c laws identity seed k s2.1)
-    (λ i e at same. true≢false (sym (any_at (has_key key) w.entrants i e at ((bytes_eq-Decides _ _).1 (same ∙ did.key))) ∙ none)) in
+    (λ i e at same. true≢false (sym (any_passes_from_place (has_key key) w.entrants i e at ((bytes_eq-Decides _ _).1 (same ∙ did.key))) ∙ none)) in
     subst (λ (y : Reply × World). IsGoodWorld c y.1) (ok_is _ x s2.2)
     (creations, more_messages c creations _ (package_message k.offered ∷ []) grown (one_message (package_message k.offered) (bytes_within (package_message k.offered) did.within)))
 
@@ -85,7 +73,7 @@ unfolding entrant_at
 entrant_did w n e h =
     let s1 = bind_ok _ _ _ h in
     let s2 = require_ok _ _ _ _ s1.2 in
-    subst (IsUnspent w n) (ok_is _ e s2.1) (record { is = given_ok 92 (slice_get w.entrants n) s1.0 s1.1; unspent = not_gone s1.0.is_spent s2.0 })
+    subst (IsUnspent w n) (ok_is _ e s2.1) (record { is = given_ok 92 (slice_get w.entrants n) s1.0 s1.1; unspent = not-true s1.0.is_spent s2.0 })
 
 record CreatedDid (k : Candidate) (m : Member) : Type 0 where
   signing : k.signing ≡ m.signing

@@ -14,8 +14,9 @@ use Rattle.mls_model.specs.Lineage.{IsSameState, IsReached}
 use Rattle.mls_model.specs.Member.{Member, Pending}
 use Rattle.mls_model.specs.PublicOf.{Creations}
 use Rattle.mls_model.specs.World.{World, Entrant, Seat}
+use Rattle.mls_claims.specs.Journals.{same_itself}
 use Rattle.mls_runs.specs.Lists.{one_there, Grows, grows_none, get_append, get_last, get_either, get_set, set_here, set_other}
-use Rattle.mls_runs.specs.Past.{same_itself, same_on, past_grows, seated_by}
+use Rattle.mls_runs.specs.Past.{same_on, past_grows, seated_by}
 
 -- ---- members that go on
 

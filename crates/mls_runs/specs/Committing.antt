@@ -2,6 +2,7 @@
 use Rattle.std.proofs.Common.{◌≡◌, ℕ, ◌+◌, Bool, false, List, [], ◌∷◌, ◌++◌, length, Option, Some, None, Ok, refl, sym, ap, subst, ◌∙◌, inl, slice_get, arith}
 use Rattle.std.specs.Prelude.{option_map}
 use Rattle.std.specs.List.{AllByRecursion}
+use Rattle.std.proofs.lemmas.Bool.{not-true}
 use Rattle.mls_wire.specs.CheckLaws.{then_ok, bind_ok, given_ok}
 use Rattle.mls_wire.specs.Checks.{passed}
 use Rattle.mls_wire.specs.Format.{IsBytes}
@@ -23,7 +24,6 @@ use Rattle.mls_model.specs.Claims.{IsMade}
 use Rattle.mls_model.specs.Commit.{Change}
 use Rattle.mls_model.specs.Invariant.{IsRecorded, IsPendingOf, IsGoodBy, IsGoodWorld}
 use Rattle.mls_model.specs.Journal.{CommitMade, names_in, list_in}
-use Rattle.mls_model.specs.Lineage.{IsSameState}
 use Rattle.mls_model.specs.Make.{MadePath, Made, make, welcome_if}
 use Rattle.mls_model.specs.Member.{Member, Pending, with_pending}
 use Rattle.mls_model.specs.Messages.{is_within_limit}
@@ -35,10 +35,11 @@ use Rattle.mls_claims.specs.Along.{made_along}
 use Rattle.mls_claims.specs.Makes.{Makes, make_did, made_of}
 use Rattle.mls_claims.specs.Pends.{made_pends}
 use Rattle.mls_claims.specs.Still.{pending_good}
+use Rattle.mls_claims.specs.Journals.{pending_same, same_itself}
 use Rattle.mls_runs.specs.Changes.{AreMessages, one_message, two_messages, more_messages, IsNewNumber, more_made, change_member}
 use Rattle.mls_runs.specs.Lists.{some, grows_none, get_append, get_length, get_below, get_second}
-use Rattle.mls_runs.specs.Past.{same_itself, past_grows, reached_same}
-use Rattle.mls_runs.specs.Secrets.{not_gone, pending_message}
+use Rattle.mls_runs.specs.Past.{past_grows, reached_same}
+use Rattle.mls_runs.specs.Secrets.{pending_message}
 use Rattle.mls_runs.specs.Sources.{bytes_within, items_fit}
 
 -- ---- its messages
@@ -133,10 +134,6 @@ new_number c creations w k s list made g i n x y e at is new =
 abbrev some_pending : Pending → Option Pending
 some_pending p = Some p
 
-pending_state : (m : Member) (p : Pending) → IsSameState m (with_pending m p)
-unfolding with_pending
-pending_state m p = record { public = refl; epoch = refl; keys = refl; signing = refl }
-
 is_pending : (m : Member) (p q : Pending) → (with_pending m p).pending ≡ Some q → some_pending p ≡ Some q
 unfolding with_pending
 is_pending m p q e = e
@@ -167,7 +164,7 @@ commits : (c : Crypto) (creations : Creations) (w : World) (k : ℕ) (s : Seat) 
     IsGoodBy c creations (record (with_member w k s (with_pending s.member made.pending)) { messages = w.messages ++ commit_messages made made.welcome; made = w.made ++ (made_by w k s list made ∷ []) })
 commits c creations w k s list wants_path seed made g at fits h =
     let steps = make_did c s.member list wants_path seed made h in
-    let active : s.member.gone ≡ false = not_gone s.member.gone steps.active in
+    let active : s.member.gone ≡ false = not-true s.member.gone steps.active in
     let good : IsGoodMember c s.member = (g.members k s (record { is = at; active = active })).good in
     let is : IsMade c s.member list made = record { good = good; fits = fits; wants_path = wants_path; seed = seed; is = h } in
     let within = made_within c s.member list wants_path seed made steps in
@@ -177,7 +174,7 @@ commits c creations w k s list wants_path seed made g at fits h =
     let g2 = more_made c creations w1 d g1 (recorded c creations w k s list made g at active is) (new_number c creations w k s list made g) in
     let w2 : World = record w1 { made = w.made ++ (d ∷ []) } in
     let n : Member = with_pending s.member made.pending in
-    let same = pending_state s.member made.pending in
+    let same = pending_same s.member made.pending in
     let good' : IsGoodMember c n = pending_good c s.member made.pending good (made_pends c s.member list made is) in
     change_member c creations w2 k s (record { member = n; journal = s.journal }) g2 at same.signing (inl same)
     (λ _. reached_same c creations w2.made s.journal.origin s.journal.entries s.member n same good' (g2.members k s (record { is = at; active = active })).reached)

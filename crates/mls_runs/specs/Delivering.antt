@@ -1,6 +1,7 @@
 -- A good world is kept by whatever is delivered to a member.
 use Rattle.std.proofs.Common.{◌≡◌, ℕ, ◌<◌, false, List, ◌∷◌, Some, None, Result, Ok, refl, sym, ap, ap₂, subst, ◌∙◌, ◌⊎◌, inl, inr, slice_get, slice_set, arith}
 use Rattle.std.proofs.lemmas.Slice.Eq.{bytes_eq-Decides}
+use Rattle.std.proofs.lemmas.Bool.{not-true}
 use Rattle.mls_wire.specs.CheckLaws.{bind_ok, given_ok}
 use Rattle.mls_wire.specs.Format.{IsBytes}
 use Rattle.mls_wire.specs.Laws.{ok_is}
@@ -32,12 +33,11 @@ use Rattle.mls_model.specs.Found.{reached_epoch, HasFollowed, WasRemoved, Conten
 use Rattle.mls_model.specs.Receipts.{did_receive, did_take}
 use Rattle.mls_claims.specs.Delivered.{delivered_good}
 use Rattle.mls_claims.specs.Opened.{body_did}
+use Rattle.mls_claims.specs.Journals.{same_itself}
 use Rattle.mls_runs.specs.Changes.{change_member}
 use Rattle.mls_runs.specs.Homemade.{entry_with}
 use Rattle.mls_runs.specs.Keeping.{keeps_one, keeps_none, to_world}
 use Rattle.mls_runs.specs.Lists.{none_there}
-use Rattle.mls_runs.specs.Past.{same_itself}
-use Rattle.mls_runs.specs.Secrets.{not_gone}
 use Rattle.mls_runs.specs.Sources.{source_bytes}
 
 -- ---- the next epoch
@@ -149,7 +149,7 @@ delivers : (c : Crypto) (creations : Creations) (w : World) (k : ℕ) (s : Seat)
 delivers c creations w k s bytes x g at are h = by_case (did_take c s.member bytes x h).did
   where
     active : s.member.gone ≡ false
-    active = not_gone s.member.gone (did_take c s.member bytes x h).active
+    active = not-true s.member.gone (did_take c s.member bytes x h).active
 
     good : IsGoodMember c x.1
     good = delivered_good c s.member bytes x (g.members k s (record { is = at; active = active })).good are h

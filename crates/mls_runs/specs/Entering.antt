@@ -9,9 +9,10 @@ use Rattle.mls_model.specs.Lineage.{IsReached}
 use Rattle.mls_model.specs.Member.{Member, Pending}
 use Rattle.mls_model.specs.PublicOf.{Creations}
 use Rattle.mls_model.specs.World.{World, Entrant, Seat, with_joined}
+use Rattle.mls_claims.specs.Journals.{same_itself}
 use Rattle.mls_runs.specs.Changes.{WorldGrows, record_grows, seated_grows, pending_grows}
 use Rattle.mls_runs.specs.Lists.{one_there, none_there, grows_none, get_append, get_last, get_set, set_here, set_other}
-use Rattle.mls_runs.specs.Past.{same_itself, seated_by}
+use Rattle.mls_runs.specs.Past.{seated_by}
 
 abbrev first_of : Option Member → Creations
 first_of o = o ∷ []

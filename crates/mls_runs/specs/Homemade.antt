@@ -3,13 +3,13 @@
 use Rattle.std.proofs.Common.{◌≡◌, ℕ, zero, suc, Bool, true, false, ◌&&◌, cond, List, [], ◌∷◌, ◌++◌, map, filter, Some, refl, ap, ap₂, sym, subst, ◌∙◌, slice_get, eqb-true, eq-eqb, true≢false}
 use Rattle.std.specs.List.{list_all}
 use Rattle.std.specs.Str.{bytes_eq}
-use Rattle.std.proofs.lemmas.Bool.{and_parts}
+use Rattle.std.proofs.lemmas.Bool.{and_parts, and_from}
 use Rattle.std.proofs.lemmas.Slice.Eq.{bytes_eq-Decides}
 use Rattle.mls_model.specs.declared.origin.Origin.{Origin}
 use Rattle.mls_model.specs.declared.origin.Origin.TheVariants as from
 use Rattle.mls_model.specs.Journal.{Entry, Journal, CommitMade, is_same_origin, are_same_bytes, is_same_entry, are_same_entries, is_same_journal, is_creation, reached, is_one, is_homemade_from, is_homemade}
 use Rattle.mls_model.specs.Lineage.{MadeHere}
-use Rattle.mls_runs.specs.Lists.{some, both}
+use Rattle.mls_runs.specs.Lists.{some}
 
 -- ---- equality
 
@@ -35,7 +35,7 @@ names_are (x ∷ xs) (y ∷ ys) h =
 own_names : (xs : List (List ℕ)) → are_same_bytes xs xs ≡ true
 unfolding are_same_bytes
 own_names [] = refl
-own_names (x ∷ xs) = both _ _ ((bytes_eq-Decides x x).1 refl) (own_names xs)
+own_names (x ∷ xs) = and_from _ _ ((bytes_eq-Decides x x).1 refl) (own_names xs)
 
 abbrev pub entry_with : List ℕ → List (List ℕ) → Entry
 entry_with commit names = record { commit = commit; names = names }
@@ -44,7 +44,7 @@ entry_is : (d e : Entry) → is_same_entry d e ≡ true → d ≡ e
 entry_is d e h = let p = and_parts (bytes_eq d.commit e.commit) (are_same_bytes d.names e.names) h in ap₂ entry_with ((bytes_eq-Decides d.commit e.commit).0 p.0) (names_are d.names e.names p.1)
 
 own_entry : (d : Entry) → is_same_entry d d ≡ true
-own_entry d = both _ _ ((bytes_eq-Decides d.commit d.commit).1 refl) (own_names d.names)
+own_entry d = and_from _ _ ((bytes_eq-Decides d.commit d.commit).1 refl) (own_names d.names)
 
 entries_are : (xs ys : List Entry) → are_same_entries xs ys ≡ true → xs ≡ ys
 unfolding are_same_entries
@@ -58,7 +58,7 @@ entries_are (x ∷ xs) (y ∷ ys) h =
 own_entries : (xs : List Entry) → are_same_entries xs xs ≡ true
 unfolding are_same_entries
 own_entries [] = refl
-own_entries (x ∷ xs) = both _ _ (own_entry x) (own_entries xs)
+own_entries (x ∷ xs) = and_from _ _ (own_entry x) (own_entries xs)
 
 abbrev journal_with : Origin → List Entry → Journal
 journal_with origin entries = record { origin = origin; entries = entries }
@@ -67,7 +67,7 @@ pub journal_is : (j l : Journal) → is_same_journal j l ≡ true → j ≡ l
 journal_is j l h = let p = and_parts (is_same_origin j.origin l.origin) (are_same_entries j.entries l.entries) h in ap₂ journal_with (origin_is j.origin l.origin p.0) (entries_are j.entries l.entries p.1)
 
 own_journal : (j : Journal) → is_same_journal j j ≡ true
-own_journal j = both _ _ (own_origin j.origin) (own_entries j.entries)
+own_journal j = and_from _ _ (own_origin j.origin) (own_entries j.entries)
 
 -- ---- what is kept of a list and mapped
 
@@ -128,7 +128,7 @@ here_from made j e y k =
     record { place = k.place; is = k.is; journal = journal_is k.one.journal j p.0; entry = entry_is k.one.entry e p.1 }
 
 is_here_at : (j : Journal) (e : Entry) (d : CommitMade) → d.journal ≡ j → d.entry ≡ e → is_here j e d ≡ true
-is_here_at j e d a b = both _ _ (ap (λ (x : Journal). is_same_journal x j) a ∙ own_journal j) (ap (λ (x : Entry). is_same_entry x e) b ∙ own_entry e)
+is_here_at j e d a b = and_from _ _ (ap (λ (x : Journal). is_same_journal x j) a ∙ own_journal j) (ap (λ (x : Entry). is_same_entry x e) b ∙ own_entry e)
 
 same_as_first : (x y : List ℕ) (xs : List (List ℕ)) (i : ℕ) → list_all (bytes_eq x) xs ≡ true → slice_get (x ∷ xs) i ≡ Some y → y ≡ x
 same_as_first x y xs zero h e = cc
@@ -179,7 +179,7 @@ of_one_secret made j e h = record { which = h.which; here = h.here; one = λ d f
 
 at_each : {A : Type 0} (test : A → Bool) (xs : List A) → ((i : ℕ) (x : A) → slice_get xs i ≡ Some x → test x ≡ true) → list_all test xs ≡ true
 at_each test [] h = refl
-at_each test (x ∷ xs) h = both (test x) (list_all test xs) (h 0 x refl) (at_each test xs (λ i y e. h (suc i) y e))
+at_each test (x ∷ xs) h = and_from (test x) (list_all test xs) (h 0 x refl) (at_each test xs (λ i y e. h (suc i) y e))
 
 of_records : (made : List CommitMade) (j : Journal) (e : Entry) (xs : List (List ℕ)) → map epoch_of (filter (is_here j e) made) ≡ xs → IsMadeAt made j e → is_one xs ≡ true
 of_records made j e [] is h =
@@ -232,7 +232,7 @@ of_entries : (made : List CommitMade) (origin : Origin) (es : List Entry) → is
 unfolding is_homemade_from
 of_entries made origin [] o h = o
 of_entries made origin (d ∷ es) o h =
-    both (is_one (reached made (journal_with origin es) d)) (is_homemade_from made origin es) (one_reached made (journal_with origin es) d (h [] d es refl))
+    and_from (is_one (reached made (journal_with origin es) d)) (is_homemade_from made origin es) (one_reached made (journal_with origin es) d (h [] d es refl))
     (of_entries made origin es o (λ later e earlier is. h (d ∷ later) e earlier (ap (λ (l : List Entry). d ∷ l) is)))
 
 -- a homemade journal began with a creation, and each of its entries has a record at the journal before it, any two of

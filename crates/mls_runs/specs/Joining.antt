@@ -26,11 +26,12 @@ use Rattle.mls_model.specs.PublicOf.{Creations}
 use Rattle.mls_model.specs.World.{World, Seat, entrant_at, bytes_of, has_source, made_for, joiner_journal}
 use Rattle.mls_claims.specs.Entered.{MemberDid, member_did, joined_by, joined_good}
 use Rattle.mls_claims.specs.Joiners.{joiners_hold}
+use Rattle.mls_claims.specs.Journals.{same_itself}
 use Rattle.mls_runs.specs.Beginning.{IsUnspent, entrant_did}
 use Rattle.mls_runs.specs.Entering.{one_more}
 use Rattle.mls_runs.specs.Keeping.{to_world}
 use Rattle.mls_runs.specs.Lists.{one_there, get_append, grows_none, find_stands}
-use Rattle.mls_runs.specs.Past.{same_itself, past_grows}
+use Rattle.mls_runs.specs.Past.{past_grows}
 
 -- ---- a new member
 

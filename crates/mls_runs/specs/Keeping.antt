@@ -2,6 +2,7 @@
 use Rattle.std.proofs.Common.{◌≡◌, ℕ, false, not, List, [], ◌∷◌, ◌++◌, Option, Some, None, Result, Ok, refl, sym, ap, subst, ◌∙◌, ◌⊎◌, inl, inr, slice_get}
 use Rattle.std.specs.Str.{bytes_eq}
 use Rattle.std.proofs.lemmas.Slice.Eq.{bytes_eq-Decides}
+use Rattle.std.proofs.lemmas.Bool.{not-true}
 use Rattle.mls_wire.specs.CheckLaws.{require_ok, then_ok, bind_ok, given_ok}
 use Rattle.mls_wire.specs.Checks.{passed}
 use Rattle.mls_wire.specs.Laws.{ok_is}
@@ -26,10 +27,10 @@ use Rattle.mls_model.specs.World.{World, Seat, with_member, seat_at, package_of}
 use Rattle.mls_claims.specs.Along.{list_at}
 use Rattle.mls_claims.specs.Proposing.{added_good, updated_good, removed_good}
 use Rattle.mls_claims.specs.Still.{dropped_good}
+use Rattle.mls_claims.specs.Journals.{same_itself}
 use Rattle.mls_runs.specs.Changes.{more_messages, one_message, change_member}
 use Rattle.mls_runs.specs.Names.{names_stable}
-use Rattle.mls_runs.specs.Past.{same_itself, reached_same}
-use Rattle.mls_runs.specs.Secrets.{not_gone}
+use Rattle.mls_runs.specs.Past.{reached_same}
 use Rattle.mls_runs.specs.Sources.{bytes_within, package_fits}
 
 -- ---- a member in its state
@@ -86,7 +87,7 @@ proposed_did c m said own_key x h =
     let s1 = require_ok _ _ _ _ h in
     let s2 = then_ok _ _ _ s1.1 in
     let s3 = then_ok _ _ _ s2.1 in
-    once_did m _ (kept_under m.kept (reference_of (proposal_by c m said))) x (not_gone m.gone s1.0) s3.0 s3.1
+    once_did m _ (kept_under m.kept (reference_of (proposal_by c m said))) x (not-true m.gone s1.0) s3.0 s3.1
 
 sent_kept : (c : Crypto) (creations : Creations) (w : World) (k : ℕ) (s : Seat) (x : List ℕ × Member) → IsGoodBy c creations w → slice_get w.seats k ≡ Some s → ProposedDid s.member x → IsGoodMember c x.1 → IsGoodWorld c (sent w k s x).1
 sent_kept c creations w k s x g at did good = (creations, more_messages c creations (with_member w k s x.1) (x.0 ∷ []) (by_case did.is) (one_message x.0 (bytes_within x.0 did.within)))

@@ -1,5 +1,5 @@
 -- Look-ups in lists that grow or change at one place.
-use Rattle.std.proofs.Common.{◌≡◌, ◌≢◌, ℕ, zero, suc, ◌+◌, ◌<◌, List, [], ◌∷◌, ◌++◌, length, Bool, true, false, ◌&&◌, cond, find, Option, Some, None, refl, ap, sym, ◌∙◌, ◌⊎◌, inl, inr, slice_get, slice_set, arith, true≢false}
+use Rattle.std.proofs.Common.{◌≡◌, ◌≢◌, ℕ, zero, suc, ◌+◌, ◌<◌, List, [], ◌∷◌, ◌++◌, length, Bool, true, false, cond, find, Option, Some, None, refl, ap, sym, ◌∙◌, ◌⊎◌, inl, inr, slice_get, slice_set, arith, true≢false}
 
 abbrev pub some : {A : Type 0} → A → Option A
 some x = Some x
@@ -10,12 +10,6 @@ one_there o x y a b = cc
 
 pub none_there : {A : Type 0} (o : Option A) (x : A) → o ≡ None → o ≡ Some x → ⊥
 none_there o x a b = cc
-
--- both tests pass
-pub both : (x y : Bool) → x ≡ true → y ≡ true → (x && y) ≡ true
-both true true e f = refl
-both true false e f = absurd (true≢false (sym f))
-both false y e f = absurd (true≢false (sym e))
 
 -- all that one list has at a place, the other has there too
 abbrev pub Grows : {A : Type 0} → List A → List A → Type 0

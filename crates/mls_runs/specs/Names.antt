@@ -1,5 +1,5 @@
 -- Names are stable: what a member keeps under the references of a commit is the same while it keeps more.
-use Rattle.std.proofs.Common.{◌≡◌, ℕ, List, [], ◌∷◌, ◌++◌, Option, Some, None, Ok, refl, ap, ◌∙◌}
+use Rattle.std.proofs.Common.{◌≡◌, ℕ, List, [], ◌∷◌, ◌++◌, Ok, ap, ◌∙◌}
 use Rattle.std.specs.Prelude.{option_map}
 use Rattle.mls_types.specs.declared.commit.ProposalOrRef.{ProposalOrRef}
 use Rattle.mls_types.specs.declared.commit.ProposalOrRef.TheVariants as listed
@@ -7,16 +7,9 @@ use Rattle.mls_model.specs.Agreement.{Keeps}
 use Rattle.mls_model.specs.Journal.{names_in}
 use Rattle.mls_model.specs.Member.{Kept, kept_under, used_by}
 use Rattle.mls_model.specs.Public.{Used}
-use Rattle.mls_model.specs.CommitLaws.{names_are_held, names_in_order}
-use Rattle.mls_runs.specs.Lists.{some, find_append}
-
-by_option : (o : Option Kept) (b : List ℕ) → option_map (λ (k : Kept). k.message) o ≡ Some b → (k : Kept) × (o ≡ Some k) × (k.message ≡ b)
-by_option None b e = absurd cc
-by_option (Some k) b e = (k, refl, cc)
-
-under_more : (kept more : List Kept) (r : List ℕ) (k : Kept) → kept_under kept r ≡ Some k → kept_under (kept ++ more) r ≡ Some k
-unfolding kept_under
-under_more kept more r k e = find_append _ kept more k e
+use Rattle.mls_model.specs.CommitLaws.{names_are_held, names_in_order, by_option}
+use Rattle.mls_claims.specs.Still.{under_still}
+use Rattle.mls_runs.specs.Lists.{some}
 
 keeps_more : (kept more : List Kept) (list : List ProposalOrRef) (names : List (List ℕ)) → Keeps kept list names → Keeps (kept ++ more) list names
 unfolding Keeps
@@ -26,7 +19,7 @@ keeps_more kept more (listed.Proposal said ∷ xs) bs h = keeps_more kept more x
 keeps_more kept more (listed.Reference r ∷ xs) [] h = absurd h
 keeps_more kept more (listed.Reference r ∷ xs) (b ∷ bs) h =
     let k = by_option (kept_under kept r) b h.0 in
-    (ap (option_map (λ (x : Kept). x.message)) (under_more kept more r k.0 k.1) ∙ ap some k.2, keeps_more kept more xs bs h.1)
+    (ap (option_map (λ (x : Kept). x.message)) (under_still kept more r k.0 k.1) ∙ ap some k.2, keeps_more kept more xs bs h.1)
 
 abbrev pub NamesStable : Type 0
 NamesStable = (kept more : List Kept) (i : ℕ) (list : List ProposalOrRef) (used : List Used) → used_by kept i list ≡ Ok used → names_in (kept ++ more) list ≡ names_in kept list

@@ -1,5 +1,5 @@
 -- The states that a member passed along its journal.
-use Rattle.std.proofs.Common.{◌≡◌, ℕ, List, [], ◌∷◌, Some, refl, ap, sym, ◌∙◌, subst, inl, inr}
+use Rattle.std.proofs.Common.{◌≡◌, ℕ, List, [], ◌∷◌, Some, ap, sym, ◌∙◌, subst, inl, inr}
 use Rattle.mls_suite.specs.Crypto.{Crypto}
 use Rattle.mls_model.specs.declared.origin.Origin.{Origin}
 use Rattle.mls_model.specs.declared.origin.Origin.TheVariants.{Creation, GroupInfo as JoinedBy}
@@ -15,9 +15,6 @@ use Rattle.mls_runs.specs.Homemade.{entry_with}
 use Rattle.mls_runs.specs.Lists.{Grows}
 
 -- ---- one state
-
-pub same_itself : (m : Member) → IsSameState m m
-same_itself m = record { public = refl; epoch = refl; keys = refl; signing = refl }
 
 pub same_back : (m n : Member) → IsSameState m n → IsSameState n m
 same_back m n s = record { public = sym s.public; epoch = sym s.epoch; keys = sym s.keys; signing = sym s.signing }

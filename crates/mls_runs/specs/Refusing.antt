@@ -1,5 +1,6 @@
 -- A maker refuses its own commit in its epoch, once it isn't pending.
 use Rattle.std.proofs.Common.{◌≡◌, ℕ, ◌==◌, Bool, true, false, not, ◌||◌, List, Option, Some, None, Ok, Err, refl, sym, ap, subst, ◌∙◌, inl, inr, slice_get, arith, eq-eqb}
+use Rattle.std.proofs.lemmas.Bool.{or_right}
 use Rattle.mls_types.specs.declared.commit.ProposalOrRef.{ProposalOrRef}
 use Rattle.mls_types.specs.declared.message.MlsMessage.TheVariants as message
 use Rattle.mls_types.specs.declared.public_message.PublicMessage.{PublicMessage}
@@ -45,10 +46,6 @@ meets c laws maker m list path change good same =
     } in
     framed_but_own c laws maker m list path change good agree same.epoch
 
-or_kept : (a b : Bool) → b ≡ true → (a || b) ≡ true
-or_kept true b e = refl
-or_kept false b e = e
-
 neither : (i j : ℕ) (b : Bool) → i ≡ j → b ≡ false → (not (i == j) || b) ≡ false
 neither i j b e f = let s : (i == j) ≡ true = eq-eqb i j e in rw (s, f) refl
 
@@ -80,7 +77,7 @@ refuses_made c laws maker m list path change bytes good good' active same free r
 
     by_kept : (b : Bool) → is_kept m.kept bytes ≡ b → verdict c m bytes ≡ Err 48
     by_kept true e =
-        let framed : IsFramed c m v bytes = record { group = f.group; epoch = f.epoch; leaf = f.leaf; sender = f.sender; handshake = f.handshake; tag = f.tag; signed = f.signed; other = or_kept (not (sender_leaf v.content.sender == m.keys.leaf)) (is_kept m.kept bytes) e } in
+        let framed : IsFramed c m v bytes = record { group = f.group; epoch = f.epoch; leaf = f.leaf; sender = f.sender; handshake = f.handshake; tag = f.tag; signed = f.signed; other = or_right (not (sender_leaf v.content.sender == m.keys.leaf)) (is_kept m.kept bytes) e } in
         absurd (other_committer c m bytes v (commit_of list path) (tag_of maker path change) good' reads framed (body_is c maker list path change) own)
     by_kept false e = refuses c m v bytes active free reads (fails_at_last c m v bytes f (neither (sender_leaf v.content.sender) m.keys.leaf (is_kept m.kept bytes) own e))
 

@@ -1,9 +1,9 @@
 -- Members that were reached along one homemade journal have one epoch secret.
 use Rattle.std.proofs.Common.{◌≡◌, ℕ, Bool, true, false, not, List, [], ◌∷◌, Option, Some, None, Result, Ok, refl, ap, sym, ◌∙◌, subst, ◌⊎◌, inl, inr, slice_get, true≢false}
 use Rattle.std.specs.Prelude.{◌≢◌}
+use Rattle.std.proofs.lemmas.Bool.{not-true}
 use Rattle.mls_wire.specs.Laws.{ok_is}
 use Rattle.mls_types.specs.declared.commit.ProposalOrRef.{ProposalOrRef}
-use Rattle.mls_types.specs.declared.message.MlsMessage.{MlsMessage}
 use Rattle.mls_types.specs.declared.message.MlsMessage.TheVariants as message
 use Rattle.mls_types.specs.declared.public_message.PublicMessage.{PublicMessage}
 use Rattle.mls_types.specs.declared.signed.SignedBody.{SignedBody}
@@ -11,7 +11,7 @@ use Rattle.mls_suite.specs.Crypto.{Crypto, Lawful}
 use Rattle.mls_term.specs.Sets.{has}
 use Rattle.mls_schedule.specs.Epoch.{nine_secrets}
 use Rattle.mls_model.specs.declared.effect.Effect.{Effect}
-use Rattle.mls_model.specs.declared.effect.Effect.TheVariants.{Advanced, Removed}
+use Rattle.mls_model.specs.declared.effect.Effect.TheVariants.{Advanced}
 use Rattle.mls_model.specs.declared.origin.Origin.{Origin}
 use Rattle.mls_model.specs.declared.origin.Origin.TheVariants.{Creation, GroupInfo as JoinedBy}
 use Rattle.mls_model.specs.Agreement.{Agree, AgreeSecret, Keeps, IsGoodMember, IsGoodPending}
@@ -28,8 +28,8 @@ use Rattle.mls_model.specs.World.{World}
 use Rattle.mls_model.specs.Found.{IsFramed, ContentDid, CommitDid, ReceivedDid, DidPending, DidOther}
 use Rattle.mls_model.specs.Receipts.{did_receive, did_take}
 use Rattle.mls_model.specs.CommitLaws.{names_in_order}
-use Rattle.mls_claims.specs.Along.{list_at, made_along}
-use Rattle.mls_claims.specs.Delivered.{other_committer}
+use Rattle.mls_claims.specs.Along.{list_at, made_along, removed_is}
+use Rattle.mls_claims.specs.Delivered.{other_committer, one_said}
 use Rattle.mls_claims.specs.Journals.{public_agreement}
 use Rattle.mls_claims.specs.Makes.{Makes, make_did, made_of}
 use Rattle.mls_claims.specs.Pends.{made_pends}
@@ -47,13 +47,6 @@ pub pending_message : (c : Crypto) (m : Member) (list : List ProposalOrRef) (mad
 pending_message c m list made is = message_is c m list is.wants_path is.seed made (make_did c m list is.wants_path is.seed made is.is)
 
 -- ---- one that followed it
-
-pub not_gone : (b : Bool) → not b ≡ true → b ≡ false
-not_gone true h = absurd (true≢false (sym h))
-not_gone false h = refl
-
-one_said : (v w : PublicMessage) (r : Result MlsMessage ℕ) → r ≡ Ok (message.PublicMessage v) → r ≡ Ok (message.PublicMessage w) → v ≡ w
-one_said v w r a b = cc
 
 -- what a member that followed the bytes of a made commit found in them
 pub record FoundMade (c : Crypto) (maker before : Member) (list : List ProposalOrRef) (bytes : List ℕ) (x : Effect × Member) : Type 0 where
@@ -83,12 +76,6 @@ received_as c m bytes x free h = by_case (did_take c m bytes x h).did
     by_case (inl d) = absurd (no_pending m bytes x free d)
     by_case (inr d) = did_receive c m bytes x d.is
 
-abbrev to : Effect → Member → Effect × Member
-to f m = (f, m)
-
-was_removed : (m n : Member) (k : ℕ) → to Removed m ≡ to (Advanced k) n → ⊥
-was_removed m n k e = let f : Removed ≡ Advanced k = ap (λ (x : Effect × Member). x.0) e in absurd cc
-
 one_answer : (r : Result (Effect × Member) ℕ) (x y : Effect × Member) → r ≡ Ok x → r ≡ Ok y → x ≡ y
 one_answer r x y a b = ok_is x y (sym a ∙ b)
 
@@ -103,7 +90,7 @@ reached_by c maker before m list call bytes epoch after same is claim = by_test 
     here = ap (verdict c before) same ∙ is
 
     by_test : (b : Bool) → has (removes_in before.kept list) before.keys.leaf ≡ b → after.epoch ≡ call.pending.epoch
-    by_test true e = absurd (was_removed (left before) after epoch (one_answer (verdict c before call.commit) _ _ (claim.removed e) here))
+    by_test true e = absurd (removed_is (left before) after epoch (one_answer (verdict c before call.commit) _ _ (claim.removed e) here))
     by_test false e =
         let f : FollowsTo c before call = claim.follows e in
         sym (ap (λ (x : Effect × Member). x.1.epoch) (one_answer (verdict c before call.commit) _ _ f.is here)) ∙ f.epoch
@@ -121,7 +108,7 @@ followed_secret c laws maker before m list call e is good agree secret commit na
     let kept : names_in before.kept list ≡ names_in maker.kept list =
     ap (names_in before.kept) (sym lists) ∙ ap (λ (x : Entry). x.names) f.entry ∙ sym names in
     let keeps : Keeps before.kept list (names_in maker.kept list) = subst (Keeps before.kept list) kept found.keeps in
-    let active : before.gone ≡ false = not_gone before.gone (did_take c before e.commit (Advanced f.epoch, f.after) f.is).active in
+    let active : before.gone ≡ false = not-true before.gone (did_take c before e.commit (Advanced f.epoch, f.after) f.is).active in
     let claim : Receives c before list call = receivers_hold c laws maker before list call is good active found.apart agree (agree_secret maker before secret) keeps in
     sym f.same.epoch ∙ reached_by c maker before m list call e.commit f.epoch f.after commit f.is claim
 

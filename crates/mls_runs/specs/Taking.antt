@@ -1,8 +1,8 @@
 -- Those whom a commit adds join by its Welcome, by its number or by its bytes.
-use Rattle.std.proofs.Common.{◌≡◌, ℕ, Bool, true, false, not, ◌&&◌, List, [], ◌∷◌, ◌++◌, length, Option, Some, None, Result, Ok, refl, sym, ap, subst, ◌∙◌, slice_get, eqb-true, eq-eqb, true≢false}
+use Rattle.std.proofs.Common.{◌≡◌, ℕ, true, false, not, List, [], ◌∷◌, ◌++◌, length, Option, Some, None, Result, Ok, refl, sym, ap, subst, ◌∙◌, slice_get, eqb-true, eq-eqb, true≢false}
 use Rattle.std.specs.List.{list_any}
 use Rattle.std.specs.Str.{bytes_eq}
-use Rattle.std.proofs.lemmas.Bool.{and_parts}
+use Rattle.std.proofs.lemmas.Bool.{and_parts, and_from}
 use Rattle.std.proofs.lemmas.Slice.Eq.{bytes_eq-Decides}
 use Rattle.mls_leaf.specs.KeyPackage.{key_package}
 use Rattle.mls_suite.specs.Crypto.{Crypto, Lawful}
@@ -20,8 +20,9 @@ use Rattle.mls_model.specs.Journal.{CommitMade, with_entry}
 use Rattle.mls_model.specs.PublicOf.{Creations}
 use Rattle.mls_model.specs.Run.{answer, step}
 use Rattle.mls_model.specs.World.{World, Entrant, Seat, entrant_at, bytes_of, has_source, made_for, joiner_journal}
+use Rattle.mls_model.specs.WorldLaws.{is_for}
 use Rattle.mls_runs.specs.Joining.{welcome_with, joins_by}
-use Rattle.mls_runs.specs.Lists.{both, get_length, find_stands, find_one}
+use Rattle.mls_runs.specs.Lists.{get_length, find_stands, find_one}
 
 -- ---- a join
 
@@ -53,9 +54,6 @@ joins c w n source e bytes d f j at unspent b h is =
 
 -- ---- the commit that is found for it
 
-abbrev is_for : Source → Candidate → CommitMade → Bool
-is_for source k d = has_source source d.welcome && list_any (bytes_eq (key_package.spell k.offered)) d.adds
-
 -- there is one, for which this holds
 record FoundFor (w : World) (source : Source) (k : Candidate) : Type 0 where
   which : CommitMade
@@ -84,7 +82,7 @@ pub joins_by_number : (c : Crypto) → Lawful c → (creations : Creations) (w :
 joins_by_number c laws creations w g i n number bytes d e at welcome added =
     let r : IsRecorded c creations w d = g.records i d at in
     let k : Candidate = e.candidate in
-    let f : FoundFor w (Message number) k = found_for w (Message number) k i d at (both (has_source (Message number) d.welcome) (list_any (bytes_eq (key_package.spell k.offered)) d.adds) (own_number number d.welcome bytes welcome) added.adds) in
+    let f : FoundFor w (Message number) k = found_for w (Message number) k i d at (and_from (has_source (Message number) d.welcome) (list_any (bytes_eq (key_package.spell k.offered)) d.adds) (own_number number d.welcome bytes welcome) added.adds) in
     let x = has_number number f.which.welcome f.passes in
     let one : f.which ≡ d = g.numbers f.place i number x.0 bytes f.which d f.stands at x.1 welcome in
     let to : JoinsTo c k bytes r.call = joins_by c laws creations w d k bytes r (g.candidates n e added.is) (record { number = number; is = welcome }) added.adds in
@@ -101,7 +99,7 @@ given_bytes : (c : Crypto) → Lawful c → (creations : Creations) (w : World) 
 given_bytes c laws creations w g i n number bytes source d e at welcome b h added =
     let r : IsRecorded c creations w d = g.records i d at in
     let k : Candidate = e.candidate in
-    let f : FoundFor w source k = found_for w source k i d at (both (has_source source d.welcome) (list_any (bytes_eq (key_package.spell k.offered)) d.adds) h added.adds) in
+    let f : FoundFor w source k = found_for w source k i d at (and_from (has_source source d.welcome) (list_any (bytes_eq (key_package.spell k.offered)) d.adds) h added.adds) in
     let to : JoinsTo c k bytes r.call = joins_by c laws creations w d k bytes r (g.candidates n e added.is) (record { number = number; is = welcome }) added.adds in
     (f.which, f.is, joins c w n source e bytes d f.which to.joined added.is added.unspent b to.is f.is)
 

@@ -1,32 +1,25 @@
 -- The leaves of a tree with a path are as short as those of the tree and the new one.
-use Rattle.std.proofs.Common.{◌≡◌, ℕ, ◌<◌, ◌≤◌, ◌==◌, Bool, true, false, cond, List, [], reverse, length, Option, Some, None, Ok, ap, sym, subst, ◌∙◌, inl, inr, arith, lt-ltb, le-ltb}
+use Rattle.std.proofs.Common.{◌≡◌, ℕ, ◌<◌, ◌≤◌, ◌==◌, Bool, true, false, cond, List, [], reverse, length, Option, Some, None, Ok, ap, sym, subst, ◌∙◌, inl, inr, arith}
 use Rattle.std.specs.Prelude.{IfSome}
-use Rattle.std.proofs.lemmas.Bool.{cases_lt, cond-true, cond-false}
+use Rattle.std.proofs.lemmas.Bool.{cases_lt}
 use Rattle.mls_wire.specs.Checks.{passed}
 use Rattle.mls_wire.specs.CheckLaws.{bind_ok, then_ok, given_ok}
 use Rattle.mls_leaf.specs.Leaf.{leaf_node}
 use Rattle.mls_leaf.specs.declared.leaf.LeafNode.{LeafNode}
-use Rattle.mls_term.specs.Term.{Term, width, leaf_at, leaf_of}
+use Rattle.mls_term.specs.Term.{Term, width, leaf_of}
 use Rattle.mls_term.specs.Merge.{merge, merge_path}
 use Rattle.mls_term.specs.MergeLaws.{width-merge}
 use Rattle.mls_term.specs.PlaceLaws.{leaf_at-put, leaf_at-merge}
+use Rattle.mls_term.specs.Equations.{leaf_of_in, leaf_of_out}
 use Rattle.mls_tree.specs.Tree.{member_at}
 use Rattle.mls_tree.specs.Paths.{path_checks, merge_checks, merge_answer}
 use Rattle.mls_public_group.specs.Short.{IsBelow, HasLeavesBelow}
 use Rattle.mls_update_path.proofs.Merges.{merge_is}
 
-at_whole : (t : Term) (j : ℕ) → j < width t → leaf_of t j ≡ leaf_at 0 t j
-unfolding leaf_of
-at_whole t j lt = cond-true _ _ _ (lt-ltb j (width t) lt)
-
-past_whole : (t : Term) (j : ℕ) → width t ≤ j → leaf_of t j ≡ None
-unfolding leaf_of
-past_whole t j ge = cond-false _ _ _ (le-ltb j (width t) ge)
-
 leaf_inside : (t : Term) (i : ℕ) (v : LeafNode) → leaf_of t i ≡ Some v → i < width t
 leaf_inside t i v e = elim (cases_lt i (width t)) [
   | inl lt ↦ lt
-  | inr ge ↦ let n : leaf_of t i ≡ None = past_whole t i ge in absurd cc
+  | inr ge ↦ let n : leaf_of t i ≡ None = leaf_of_out t i ge in absurd cc
 ]
 
 merge_inside : (t : Term) (i : ℕ) (x : LeafNode) (keys : List (List ℕ)) (u : Term) → merge_answer t i x keys ≡ Ok u → i < width t
@@ -49,16 +42,16 @@ merged_leaf : (t : Term) (i : ℕ) (x : LeafNode) (keys : List (List ℕ)) (j : 
 unfolding merge_path
 merged_leaf t i x keys j il jl =
     let w : width (merge 0 t i (reverse keys) [] x) ≡ width t = width-merge 0 t i (reverse keys) [] x in
-    at_whole (merge 0 t i (reverse keys) [] x) j (omega arith)
+    leaf_of_in (merge 0 t i (reverse keys) [] x) j (omega arith)
     ∙ leaf_at-merge 0 t i (reverse keys) [] x j
     ∙ leaf_at-put 0 t i (Some x) j (omega arith) (omega arith) (omega arith) (omega arith)
-    ∙ ap (cond (j == i) (Some x)) (sym (at_whole t j jl))
+    ∙ ap (cond (j == i) (Some x)) (sym (leaf_of_in t j jl))
 
 merged_past : (t : Term) (i : ℕ) (x : LeafNode) (keys : List (List ℕ)) (j : ℕ) → width t ≤ j → leaf_of (merge_path t i x keys) j ≡ None
 unfolding merge_path
 merged_past t i x keys j ge =
     let w : width (merge 0 t i (reverse keys) [] x) ≡ width t = width-merge 0 t i (reverse keys) [] x in
-    past_whole (merge 0 t i (reverse keys) [] x) j (omega arith)
+    leaf_of_out (merge 0 t i (reverse keys) [] x) j (omega arith)
 
 pub leaves_below : (n : ℕ) (t : Term) (i : ℕ) (x : LeafNode) (keys : List (List ℕ)) (u : Term) → merge_answer t i x keys ≡ Ok u → HasLeavesBelow n t → IsBelow n leaf_node x → HasLeavesBelow n u
 leaves_below n t i x keys u e has below j =

@@ -2,7 +2,7 @@
 use Rattle.std.proofs.Common.{◌≡◌, ◌≢◌, ℕ, suc, ◌^◌, ◌<◌, ◌≤◌, true, List, [], ◌∷◌, ◌++◌, length, Result, Ok, Err, refl, sym, ap, ◌∙◌, inl, inr, arith, length-append}
 use Rattle.std.specs.Prelude.{slice_index, nat_lt, codes}
 use Rattle.std.specs.List.{list_all}
-use Rattle.std.proofs.lemmas.Bool.{cases_lt, lt-ltb, lt-leb, le-leb}
+use Rattle.std.proofs.lemmas.Bool.{cases_lt, lt-ltb, le-leb}
 use Rattle.mls_wire.specs.Checks.{Passed, passed, ◌>>◌}
 use Rattle.mls_wire.specs.Format.{Format}
 use Rattle.mls_wire.specs.Reading.{opaque}
@@ -18,14 +18,11 @@ use Rattle.mls_suite.specs.Crypto.{Crypto}
 use Rattle.mls_suite.specs.Labels.{sign_with_label}
 use Rattle.mls_model.specs.Welcome.{signed_info}
 use Rattle.mls_model.specs.Messages.{are_bytes, is_within_limit}
+use Rattle.mls_public_group.specs.Limits.{past_limit}
 use Rattle.mls_welcome.specs.Spelled.{FitsIfShort, IsRanged, limited}
 use Rattle.mls_welcome.proofs.Fitting.{tbs_fit}
 
 -- ---- the measure
-
-pub too_long : (bytes : List ℕ) → input_limit < length bytes → is_within_limit bytes ≡ Err 6
-unfolding is_within_limit
-too_long bytes lt = rw (lt-leb (length bytes) input_limit lt) refl
 
 bytes_all : (xs : List ℕ) → ((i : ℕ) → slice_index xs i < 256) → list_all (λ (b : ℕ). nat_lt b 256) xs ≡ true
 bytes_all [] h = refl
@@ -39,7 +36,7 @@ unfolding is_within_limit are_bytes
 within bytes le h = rw (le-leb (length bytes) input_limit le, bytes_all bytes h) refl
 
 pub limited_long : (bytes : List ℕ) → input_limit < length bytes → limited bytes ≡ Err 6
-limited_long bytes lt = ap (λ (r : Result Passed ℕ). r >> Ok bytes) (too_long bytes lt)
+limited_long bytes lt = ap (λ (r : Result Passed ℕ). r >> Ok bytes) (past_limit bytes lt)
 
 -- ---- refusals of a spelling
 

@@ -1,6 +1,6 @@
 use Rattle.std.proofs.lemmas.Result.{err_from_is_err_and}
-use Rattle.mls_join.proofs.Lengths.{context_fits}
-use Rattle.mls_join.proofs.Memory.{memory_alone}
+use Rattle.mls_public_group.specs.ShortLaws.{context_fits}
+use Rattle.mls_public_group.specs.Memory.{memory_alone}
 use Rattle.mls_join.proofs.entrance.context_bytes.Goals as goal
 
 pub returns-in_err-bytes : goal.returns-in_err-bytes

@@ -1,5 +1,5 @@
 -- A list from an index on.
-use Rattle.std.proofs.Common.{◌≡◌, ℕ, zero, suc, ◌+◌, ◌<◌, ◌≤◌, List, [], ◌∷◌, length, get_or, drop, refl, sym, ap, subst, ◌∙◌, arith, add-one}
+use Rattle.std.proofs.Common.{◌≡◌, ℕ, zero, suc, ◌+◌, ◌<◌, ◌≤◌, List, [], ◌∷◌, ◌++◌, length, get_or, drop, refl, sym, ap, subst, ◌∙◌, arith, add-one}
 use Rattle.std.proofs.Math.Seq.{drop-cons}
 use Rattle.std.specs.List.{AllByRecursion}
 
@@ -23,3 +23,8 @@ pub all_at : {A : Type 0} (P : A → Type 0) (xs : List A) (k : ℕ) (x : A) →
 all_at P [] k x all lt is = absurd (omega arith)
 all_at {A} P (y ∷ ys) zero x all lt is = subst P (sym is) all.0
 all_at P (y ∷ ys) (suc k) x all lt is = all_at P ys k x all.1 (omega arith) is
+
+-- and what all have and one more, all have with it behind them
+pub all_behind : {A : Type 0} (P : A → Type 0) (xs : List A) (x : A) → AllByRecursion P xs → P x → AllByRecursion P (xs ++ x ∷ [])
+all_behind P [] x all p = (p, tt)
+all_behind P (y ∷ ys) x all p = (all.0, all_behind P ys x all.1 p)
