@@ -33,10 +33,10 @@ use Rattle.mls_model.specs.Public.{PublicState}
 use Rattle.mls_model.specs.Verdict.{is_kept, kept_of, verdict}
 use Rattle.mls_paths.specs.Keys.{PrivateKeys}
 use Rattle.mls_laws.specs.Laws.{KeepsSignature}
-use Rattle.mls_laws.proofs.Exact.{keys_next}
-use Rattle.mls_laws.proofs.Inversion.{edited_steps, body_steps}
-use Rattle.mls_laws.proofs.Own.{used_have_passed, used_are_owned}
-use Rattle.mls_laws.proofs.Signatures.{signatures_next}
+use Rattle.mls_laws.specs.Exact.{keys_next}
+use Rattle.mls_laws.specs.Inversion.{edited_steps, body_steps}
+use Rattle.mls_laws.specs.Own.{used_have_passed, used_are_owned}
+use Rattle.mls_laws.specs.Signatures.{signatures_next}
 use Rattle.mls_claims.specs.Next.{IsNext, is_next}
 use Rattle.mls_claims.specs.One.{IsOneOf}
 use Rattle.mls_model.specs.Found.{IsFramed, IsNowKept, WasRemoved, HasFollowed, CommitDid, ContentDid, ReceivedDid, DidPending, DidOther, reached_epoch}

@@ -41,7 +41,7 @@ use Rattle.mls_model.specs.Join.{Joined, joined_tree, signer_checks, is_same_lea
 use Rattle.mls_model.specs.Messages.{decoded, are_bytes}
 use Rattle.mls_model.specs.Opening.{or_fault, welcome_in, Opened, opened_secrets, opened_welcome}
 use Rattle.mls_model.specs.Proposals.{package_reference}
-use Rattle.mls_laws.proofs.Exact.{exact_written}
+use Rattle.mls_laws.specs.Exact.{exact_written}
 use Rattle.mls_claims.specs.Cells.{taken_good, taken_parts}
 use Rattle.mls_claims.specs.Clients.{stands_in}
 use Rattle.mls_claims.specs.Grown.{good_nodes_fit}

@@ -26,8 +26,8 @@ use Rattle.mls_model.specs.Commit.{Edits, Change, edited, node_keys, merged, bod
 use Rattle.mls_model.specs.Proposals.{updates, removed, adds}
 use Rattle.mls_model.specs.Public.{PublicState, Used, provisional_context, confirmed_context}
 use Rattle.mls_laws.specs.Laws.{HasGood}
-use Rattle.mls_laws.proofs.Folds.{updates_keep, removes_keep, adds_keep, all_any}
-use Rattle.mls_laws.proofs.Inversion.{edited_steps, with_path_steps, body_steps}
+use Rattle.mls_laws.specs.Folds.{updates_keep, removes_keep, adds_keep, all_any}
+use Rattle.mls_laws.specs.Inversion.{edited_steps, with_path_steps, body_steps}
 use Rattle.mls_claims.specs.Nodes.{IsShort, PartsFit, parts_put, parts_remove, parts_add, parts_merge, nodes_fit}
 use Rattle.mls_claims.specs.Spelled.{PathFits, UsedFits, all_reversed, updates_fit, adds_fit, package_leaf}
 

@@ -23,7 +23,7 @@ use Rattle.mls_model.specs.Opening.{Opened, opened_welcome}
 use Rattle.mls_model.specs.Proposals.{adds}
 use Rattle.mls_model.specs.Welcome.{unsigned_info, signed_info}
 use Rattle.mls_paths.specs.Seeds.{seal_seed}
-use Rattle.mls_laws.proofs.Staying.{edits_follow_committer}
+use Rattle.mls_laws.specs.Staying.{edits_follow_committer}
 use Rattle.mls_laws.specs.Laws.{HasLeaves}
 use Rattle.mls_claims.specs.Clients.{clients_apart}
 use Rattle.mls_claims.specs.Info.{info_fits}

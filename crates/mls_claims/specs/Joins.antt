@@ -28,9 +28,9 @@ use Rattle.mls_model.specs.Proposals.{adds}
 use Rattle.mls_model.specs.Public.{Used}
 use Rattle.mls_model.specs.Welcome.{unsigned_info, signed_info, secrets_with, welcome_message}
 use Rattle.mls_laws.specs.Laws.{IsJoiner, HasLeaves}
-use Rattle.mls_laws.proofs.Inversion.{edited_steps}
-use Rattle.mls_laws.proofs.Joining.{edits_add, adds_counted}
-use Rattle.mls_laws.proofs.Next.{leaves_next}
+use Rattle.mls_laws.specs.Inversion.{edited_steps}
+use Rattle.mls_laws.specs.Joining.{edits_add, adds_counted}
+use Rattle.mls_laws.specs.Next.{leaves_next}
 use Rattle.mls_claims.specs.Along.{body_is}
 use Rattle.mls_claims.specs.Entries.{HasEntry, is_among, first_entry}
 use Rattle.mls_claims.specs.Joined.{info_of}

@@ -21,8 +21,8 @@ use Rattle.mls_model.specs.Commit.{Change, body}
 use Rattle.mls_model.specs.Join.{is_same_leaf, place_of}
 use Rattle.mls_model.specs.Member.{Member, used_by}
 use Rattle.mls_model.specs.Public.{Used}
-use Rattle.mls_laws.proofs.Next.{good_next, context_of_tree}
-use Rattle.mls_laws.proofs.Own.{used_have_passed}
+use Rattle.mls_laws.specs.Next.{good_next, context_of_tree}
+use Rattle.mls_laws.specs.Own.{used_have_passed}
 use Rattle.mls_claims.specs.Clients.{is_member, stands_in}
 use Rattle.mls_claims.specs.Grown.{parts_next, good_nodes_fit, context_next}
 use Rattle.mls_claims.specs.Nodes.{LeafFits, PartsFit, parts_of}

@@ -33,8 +33,8 @@ use Rattle.mls_claims.specs.Opened.{IsChange, body_did, same_edits, one_tree}
 use Rattle.mls_claims.specs.Received.{sender_is}
 use Rattle.mls_claims.specs.Along.{body_is}
 use Rattle.mls_laws.specs.Laws.{IsKept}
-use Rattle.mls_laws.proofs.Exact.{keys_back, has_followed}
-use Rattle.mls_laws.proofs.Staying.{edits_follow_committer}
+use Rattle.mls_laws.specs.Exact.{keys_back, has_followed}
+use Rattle.mls_laws.specs.Staying.{edits_follow_committer}
 use Rattle.mls_claims.specs.Stays.{taken}
 
 -- ---- the keys of the maker

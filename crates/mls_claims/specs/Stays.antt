@@ -18,10 +18,10 @@ use Rattle.mls_model.specs.Agreement.{IsGoodMember}
 use Rattle.mls_model.specs.Claims.{ReceiversClaim}
 use Rattle.mls_laws.specs.Keys.{IsStanding}
 use Rattle.mls_laws.specs.Laws.{HasGood, IsKept}
-use Rattle.mls_laws.proofs.Exact.{member_stands, followed_exact}
-use Rattle.mls_laws.proofs.Own.{used_have_passed, used_are_owned}
-use Rattle.mls_laws.proofs.Sound.{edits_good}
-use Rattle.mls_laws.proofs.Staying.{edits_follow_committer}
+use Rattle.mls_laws.specs.Exact.{member_stands, followed_exact}
+use Rattle.mls_laws.specs.Own.{used_have_passed, used_are_owned}
+use Rattle.mls_laws.specs.Sound.{edits_good}
+use Rattle.mls_laws.specs.Staying.{edits_follow_committer}
 use Rattle.mls_claims.specs.Opened.{Stays}
 use Rattle.mls_claims.specs.Sent.{leaf_is_in}
 use Rattle.mls_model.specs.Agreement.{Agree, AgreeSecret, Keeps}

@@ -17,7 +17,7 @@ use Rattle.mls_term.specs.TakenLaws.{some_at}
 use Rattle.mls_tree.specs.Paths.{counts_answer, merge_answer}
 use Rattle.mls_model.specs.Public.{PublicState, Used}
 use Rattle.mls_model.specs.Commit.{Edits, edited, node_keys, cipher_counts, due_counts, with_path}
-use Rattle.mls_laws.proofs.Staying.{edits_follow_committer}
+use Rattle.mls_laws.specs.Staying.{edits_follow_committer}
 use Rattle.mls_commit.specs.Staying.{Stays, count_checks}
 
 -- ---- counts

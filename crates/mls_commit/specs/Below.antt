@@ -15,7 +15,7 @@ use Rattle.mls_term.specs.TakenLaws.{taken_at}
 use Rattle.mls_model.specs.Public.{PublicState}
 use Rattle.mls_model.specs.Commit.{Edits, node_keys, merged}
 use Rattle.mls_public_group.specs.Short.{IsBelow, HasLeavesBelow}
-use Rattle.mls_laws.proofs.Inversion.{with_path_steps}
+use Rattle.mls_laws.specs.Inversion.{with_path_steps}
 use Rattle.mls_laws.specs.Merged.{width_path, leaf_path}
 
 -- ---- a path keeps all leaves but its own

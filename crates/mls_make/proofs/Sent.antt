@@ -23,8 +23,8 @@ use Rattle.mls_model.specs.Commit.{Edits, edited}
 use Rattle.mls_model.specs.Member.{Member}
 use Rattle.mls_model.specs.Make.{MadePath, new_path, no_path, path_secret_for}
 use Rattle.mls_model.specs.Welcome.{secrets_with}
-use Rattle.mls_laws.proofs.Joining.{edits_add}
-use Rattle.mls_laws.proofs.Staying.{edits_follow_committer}
+use Rattle.mls_laws.specs.Joining.{edits_add}
+use Rattle.mls_laws.specs.Staying.{edits_follow_committer}
 use Rattle.mls_laws.specs.Laws.{IsJoiner}
 use Rattle.mls_welcome.specs.Joiners.{place_of, AreSecretsOf}
 use Rattle.mls_welcome.specs.Sent.{AreSentTo}

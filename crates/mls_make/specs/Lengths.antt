@@ -39,7 +39,7 @@ use Rattle.mls_public_group.specs.Edited.{applied}
 use Rattle.mls_public_group.specs.Leaves.{below_applied}
 use Rattle.mls_public_group.specs.Short.{IsBelow, AreBelow, HasLeavesBelow}
 use Rattle.mls_commit.specs.Below.{below_merged}
-use Rattle.mls_laws.proofs.Inversion.{edited_steps}
+use Rattle.mls_laws.specs.Inversion.{edited_steps}
 use Rattle.mls_make.specs.Parts.{IsShortUsed, AreShortUsed}
 
 -- ---- lists

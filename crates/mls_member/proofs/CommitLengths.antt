@@ -1,5 +1,5 @@
 -- The parts of a commit, and contexts, are short.
-use Rattle.std.proofs.Common.{ℕ, ◌<◌, ◌≤◌, ◌^◌, List, [], ◌∷◌, length, Option, Some, None, subst, arith}
+use Rattle.std.proofs.Common.{ℕ, ◌≤◌, ◌^◌, List, [], ◌∷◌, length, Option, Some, None, subst, arith}
 use Rattle.std.specs.Prelude.{IfSome}
 use Rattle.std.specs.List.{flat_map, AllByRecursion}
 use Rattle.std.specs.Int.{w8}
@@ -10,15 +10,12 @@ use Rattle.mls_leaf.specs.Faults.{Spells}
 use Rattle.mls_leaf.specs.Limits.{input_limit}
 use Rattle.mls_leaf.specs.Leaf.{leaf_node}
 use Rattle.mls_leaf.specs.Proposal.{proposal as proposal_format}
-use Rattle.mls_group.specs.GroupContext.{group_context}
-use Rattle.mls_group.specs.declared.group_context.GroupContext.{GroupContext}
 use Rattle.mls_group.specs.declared.update_path.UpdatePath.{UpdatePath}
 use Rattle.mls_group.specs.UpdatePath.{update_path}
 use Rattle.mls_types.specs.Commit.{proposal_or_ref, proposal_or_ref_nonempty}
 use Rattle.mls_types.specs.declared.commit.ProposalOrRef.{ProposalOrRef}
 use Rattle.mls_types.specs.declared.commit.ProposalOrRef.TheVariants as listed
-use Rattle.mls_public_group.specs.Lengths.{context_length}
-use Rattle.mls_public_group.specs.Short.{IsBelow, IsShortContext}
+use Rattle.mls_public_group.specs.Short.{IsBelow}
 use Rattle.mls_make.specs.Lengths.{front, back, inside}
 use Rattle.mls_member.specs.Process.{IsListedBelow}
 
@@ -56,9 +53,3 @@ path_below o part spells h = path_fits_below o spells.fits (subst (λ (l : List 
 pub path_wider : (o : Option UpdatePath) → IfSome o (λ p. IsBelow (2 ^ 27) leaf_node p.leaf_node) → IfSome o (λ p. IsBelow (2 ^ 28) leaf_node p.leaf_node)
 path_wider None h = tt
 path_wider (Some p) h = record { fits = h.fits; below = omega (arith, h.below) }
-
--- ---- contexts
-
--- a short context encodes to fewer than 2^30 bytes
-pub context_short : (context : GroupContext) → IsShortContext context → length (group_context.spell context) < 2 ^ 30
-context_short context s = omega (arith, context_length context s.group_id s.tree_hash s.confirmed)

@@ -19,11 +19,16 @@ use Rattle.mls_checks.specs.Short.{IsShort}
 use Rattle.mls_model.specs.Public.{Used}
 use Rattle.mls_model.specs.Proposals.{update_in, add_in, updates, adds}
 use Rattle.mls_public_group.specs.Short.{AreBelow, IsBelow, IsShortContext}
+use Rattle.mls_public_group.specs.Lengths.{context_length}
 
 -- a short context has a spelling
 pub context_fits : (context : GroupContext) → IsShortContext context → group_context.Fits context
 unfolding group_context
 context_fits context s = (s.suite, (omega (arith, s.group_id), (s.epoch, (omega (arith, s.tree_hash), (omega (arith, s.confirmed), tt)))))
+
+-- and it is short
+pub context_short : (context : GroupContext) → IsShortContext context → length (group_context.spell context) < 2 ^ 30
+context_short context s = omega (arith, context_length context s.group_id s.tree_hash s.confirmed)
 
 -- ---- bounds
 

@@ -11,13 +11,10 @@ use Rattle.mls_model.specs.Public.{provisional_context}
 
 -- ---- lengths
 
-pub context_short : (v : GroupContext) → length v.group_id < 2 ^ 28 → length v.tree_hash < 2 ^ 28 → length v.confirmed_transcript_hash < 2 ^ 28 → length (group_context.spell v) < 2 ^ 30
-context_short v g t h = omega (arith, context_length v g t h)
-
 pub provisional_short : (old : GroupContext) (t : Term) → IsShortContext old → length (group_context.spell (provisional_context old t)) < 2 ^ 30
 unfolding provisional_context
 provisional_short old t s =
-    context_short (provisional_context old t) s.group_id (let e : length (tree_hash 0 t) ≡ 32 = length-tree_hash 0 t in omega arith) s.confirmed
+    omega (arith, context_length (provisional_context old t) s.group_id (let e : length (tree_hash 0 t) ≡ 32 = length-tree_hash 0 t in omega arith) s.confirmed)
 
 -- ---- the context that code spelled
 

@@ -1,7 +1,6 @@
 use Rattle.std.proofs.Common.{ℕ, List, length, ◌<◌, ◌^◌, sym, subst}
-use Rattle.mls_public_group.specs.ShortLaws.{context_fits}
+use Rattle.mls_public_group.specs.ShortLaws.{context_fits, context_short}
 use Rattle.mls_public_group.specs.Memory.{memory_alone}
-use Rattle.mls_member.proofs.CommitLengths.{context_short}
 use Rattle.mls_member.proofs.advance.spelling.Goals as goal
 
 pub returns-in-Ok-clause-short : goal.returns-in-Ok-clause-short

@@ -22,9 +22,9 @@ use Rattle.mls_model.specs.Proposals.{updates, updated, removed, adds}
 use Rattle.mls_model.specs.Commit.{Edits, all_updated, all_removed, all_added}
 use Rattle.mls_laws.specs.Steps.{IsEdited}
 use Rattle.mls_laws.specs.Laws.{IsKept, EditsFollow, EditsFollowCommitter, IsRenewed, EditsRenew}
-use Rattle.mls_laws.proofs.Inversion.{edited_steps}
+use Rattle.mls_laws.specs.Inversion.{edited_steps}
 use Rattle.mls_term.specs.TakenLaws.{Taken, taken_at, at_taken, some_at, taken_in, taken_some, taken_put, put_taken, taken_remove, place_free, taken_add}
-use Rattle.mls_laws.proofs.Folds.{updates_first, adds_first, adds_none, updates_keep, removes_keep, adds_keep, all_any}
+use Rattle.mls_laws.specs.Folds.{updates_first, adds_first, adds_none, updates_keep, removes_keep, adds_keep, all_any}
 
 -- ---- lists of numbers
 

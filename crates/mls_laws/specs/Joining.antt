@@ -12,10 +12,10 @@ use Rattle.mls_paths.specs.WholeLaws.{added_is_listed, add_keeps_listed}
 use Rattle.mls_model.specs.Proposals.{updates, updated, removed, adds}
 use Rattle.mls_model.specs.Commit.{Edits, all_added}
 use Rattle.mls_laws.specs.Laws.{IsJoiner, EditsAdd, AddsCounted}
-use Rattle.mls_laws.proofs.Inversion.{edited_steps}
+use Rattle.mls_laws.specs.Inversion.{edited_steps}
 use Rattle.mls_term.specs.TakenLaws.{Taken, taken_at, at_taken, some_at, taken_in, taken_some, place_free, taken_add, add_taken}
-use Rattle.mls_laws.proofs.Folds.{adds_first, adds_none, adds_keep, all_any}
-use Rattle.mls_laws.proofs.Staying.{still_here, still_after_updates, still_after_removes}
+use Rattle.mls_laws.specs.Folds.{adds_first, adds_none, adds_keep, all_any}
+use Rattle.mls_laws.specs.Staying.{still_here, still_after_updates, still_after_removes}
 
 -- a leaf that each parent over it lists
 record IsListed (j : ℕ) (x : LeafNode) (t : Term) : Type 0 where
