@@ -1,21 +1,8 @@
 -- The contexts that a commit makes are short.
-use Rattle.std.proofs.Common.{◌≡◌, ℕ, ◌+◌, ◌<◌, ◌^◌, List, length, arith}
+use Rattle.std.proofs.Common.{◌≡◌, ℕ, List, length, arith}
 use Rattle.mls_group.specs.declared.group_context.GroupContext.{GroupContext}
-use Rattle.mls_term.specs.LengthLaws.{length-tree_hash}
-use Rattle.mls_term.specs.Term.{Term}
-use Rattle.mls_model.specs.Public.{provisional_context, confirmed_context}
+use Rattle.mls_model.specs.Public.{confirmed_context}
 use Rattle.mls_public_group.specs.Short.{IsShortContext}
-
-pub short_provisional : (old : GroupContext) (t : Term) → IsShortContext old → old.epoch + 1 < 2 ^ 64 → IsShortContext (provisional_context old t)
-unfolding provisional_context
-short_provisional old t short low =
-    record {
-      suite = short.suite;
-      epoch = low;
-      group_id = short.group_id;
-      tree_hash = omega (arith, length-tree_hash 0 t);
-      confirmed = short.confirmed;
-    }
 
 pub short_confirmed : (old : GroupContext) (hash : List ℕ) → IsShortContext old → length hash ≡ 32 → IsShortContext (confirmed_context old hash)
 unfolding confirmed_context

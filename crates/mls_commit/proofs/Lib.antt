@@ -1,6 +1,6 @@
 mod Paths
 mod Contexts
-mod Asking
+mod Mapped
 mod Keys
 mod Bodies
 mod Receiving

@@ -6,14 +6,13 @@ ghost use Rattle.mls_model.specs.Commit.{public_with};
 ghost use Rattle.mls_model.specs.Public as model;
 ghost use Rattle.mls_public_group.specs.Short.{HasLeavesBelow};
 ghost use Rattle.mls_term.specs.Hashes.{tree_hash};
-ghost use Rattle.mls_term.specs.Term.{Term};
 ghost use Rattle.mls_tree.specs.Tree.{term};
 
 use mls_group::GroupContext;
 use mls_leaf::Bytes;
-use mls_public_group::{Edits, PublicGroup};
+use mls_public_group::{Edits, PublicGroup, provisional_context};
 use mls_schedule::Transcript;
-use mls_tree::{Hash, PublicTree};
+use mls_tree::PublicTree;
 use std::alloc::{AllocError, Global};
 use std::marker::Model;
 
@@ -46,26 +45,7 @@ impl Model for Change {
     ghost invariant = { λ c. IsShortContext c.provisional × IsShortContext c.context };
 }
 
-// The new epoch's context with the new tree's hash, and as yet the old transcript.
-#[tactic(auto, unfolding(mls_model::specs::Public::provisional_context))]
-pub(crate) fn provisional_context(
-    alloc: Global,
-    old: &GroupContext,
-    hash: &Hash,
-) -> Result<GroupContext, AllocError>
-    requires { old.now.epoch + 1 < 2 ^ 64 }
-    ensures { (t : Term) → hash.now ≡ tree_hash 0 t → IfOk result (λ g. g ≡ model.provisional_context old.now t) }
-{
-    Ok(GroupContext {
-        cipher_suite: old.cipher_suite,
-        group_id: old.group_id.clone()?,
-        epoch: old.epoch + 1,
-        tree_hash: Bytes::from_slice(alloc, hash)?,
-        confirmed_transcript_hash: old.confirmed_transcript_hash.clone()?,
-    })
-}
-
-// That context with the new transcript.
+// The new epoch's context with the new transcript.
 #[tactic(auto, unfolding(mls_model::specs::Public::confirmed_context))]
 pub(crate) fn confirmed_context(
     alloc: Global,

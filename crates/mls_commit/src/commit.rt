@@ -17,25 +17,10 @@ use crate::error::CommitError;
 use crate::path::with_path;
 use crate::received::Received;
 use mls_group::UpdatePath;
-use mls_leaf::Proposal;
-use mls_public_group::{Edits, NextTree, PublicGroup, Used};
+use mls_public_group::{Edits, NextTree, PublicGroup, Used, is_path_required};
 use mls_suite::Suite;
 use mls_types::Commit;
 use std::alloc::Global;
-
-// Whether a proposal asks for a path: each but an add.
-fn asks_for_path(proposal: &Proposal) -> bool
-    ensures { result ≡ proposals.asks_for_path proposal.now }
-{
-    !matches!(proposal, Proposal::Add(_))
-}
-
-// Whether a commit of these has to have a path: there are none, or one asks for it.
-fn is_path_required(used: &[Used<'_>]) -> bool
-    ensures { result ≡ proposals.is_path_required used.now }
-{
-    used.is_empty() || used.iter().any(|one| asks_for_path(one.proposal))
-}
 
 // Whether a commit of these has a path where it has to.
 pub(crate) fn has_due_path(commit: &Commit, used: &[Used<'_>]) -> bool

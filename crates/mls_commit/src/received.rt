@@ -7,7 +7,7 @@ ghost use Rattle.mls_model.specs.Commit.{public_with};
 ghost use Rattle.mls_public_group.specs.NextTree.{next_term, is_merged, Follows};
 ghost use Rattle.mls_public_group.specs.Short.{HasLeavesBelow};
 
-use crate::change::{confirmed_context, provisional_context};
+use crate::change::confirmed_context;
 use mls_group::GroupContext;
 use mls_public_group::{Edits, NextTree, PublicGroup};
 use mls_schedule::Transcript;

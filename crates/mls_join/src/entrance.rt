@@ -1,19 +1,19 @@
 //! What a candidate does with a Welcome.
 
-ghost use Rattle.std.specs.Prelude.{◌≡◌, ◌^◌, MatchResult};
+ghost use Rattle.std.specs.Prelude.{◌^◌};
 ghost use Rattle.mls_wire.specs.Checks.{Answers};
 ghost use Rattle.mls_leaf.specs.KeyPackage.{key_package};
 ghost use Rattle.mls_group.specs.GroupContext.{group_context};
 ghost use Rattle.mls_group.specs.GroupInfo.{group_info};
 ghost use Rattle.mls_tree.specs.Refusals.{RefusesOutright};
 ghost use Rattle.mls_tree.specs.Tree.{term};
-ghost use Rattle.mls_public_group.specs.Short.{IsBelow, IsShortContext, HasLeavesBelow};
+ghost use Rattle.mls_public_group.specs.Short.{IsBelow, HasLeavesBelow};
 ghost use Rattle.mls_model.specs.Candidate as model;
 ghost use Rattle.mls_model.specs.Join.{member_of, join_verdict};
 ghost use Rattle.mls_join.specs.Entrance.{joined_by, outer_checks};
 ghost use Rattle.mls_join.specs.Faults.{number_of};
 ghost use Rattle.mls_join.specs.Parts.{opened_by};
-ghost use Rattle.mls_join.specs.Stages.{entered, IsMemory};
+ghost use Rattle.mls_join.specs.Stages.{entered};
 
 use crate::error::JoinError;
 use crate::keys::{joined_keys, place_of};
@@ -21,9 +21,7 @@ use crate::opening::{Opened, opened_welcome};
 use crate::signer::signer_checks;
 use crate::tree::joined_tree;
 use mls_candidate::Candidate;
-use mls_group::GroupContext;
-use mls_leaf::Codec;
-use mls_public_group::PublicGroup;
+use mls_public_group::{PublicGroup, context_spelling};
 use mls_schedule::{Epoch, Transcript};
 use mls_suite::Suite;
 use mls_tree::PublicTree;
@@ -41,15 +39,6 @@ pub struct Entrance {
     pub keys: PrivatePath,
     /// The GroupInfo that was opened.
     pub group_info: Vec<u8>,
-}
-
-/// The spelling of a context.
-fn context_bytes(alloc: Global, context: &GroupContext) -> Result<Vec<u8>, JoinError>
-    requires { IsShortContext context.now }
-    ensures { MatchResult result (λ v. v.items ≡ group_context.spell context.now) (IsMemory number_of) }
-{
-    let bytes = context.encode(alloc)?;
-    Ok(bytes)
 }
 
 /// The new member with these keys in this tree: 65 the confirmation tag.
@@ -71,7 +60,7 @@ fn entered(
         ..
     } = opened;
     let context = info.group_context;
-    let bytes = context_bytes(alloc, &context)?;
+    let bytes = context_spelling(alloc, &context)?;
     let epoch = Epoch::from_joiner(&joiner, &bytes).epoch;
     let confirmed = context.confirmed_transcript_hash.as_slice();
     let tag = info.confirmation_tag.as_slice();

@@ -1,7 +1,6 @@
 //! The path of a commit that a member makes, or none.
 
-ghost use Rattle.std.specs.Prelude.{◌≡◌, ◌<◌, ◌+◌, ◌^◌, ℕ, List, None, Ok, IfOk, IfSome};
-ghost use Rattle.std.specs.List.{list_any};
+ghost use Rattle.std.specs.Prelude.{◌≡◌, ◌<◌, ◌+◌, ◌^◌, ℕ, None, Ok, IfOk, IfSome};
 ghost use Rattle.mls_wire.specs.Checks.{Answers};
 ghost use Rattle.mls_leaf.specs.Leaf.{leaf_node};
 ghost use Rattle.mls_tree.specs.Tree.{term};
@@ -19,9 +18,8 @@ ghost use Rattle.mls_make.specs.OwnPath.{made_path, HaveSecrets};
 use crate::error::MakeError;
 use mls_group::UpdatePath;
 use mls_kdf::{Secret, Seed};
-use mls_leaf::Proposal;
 use mls_message::Speaker;
-use mls_public_group::{Edits, Used};
+use mls_public_group::{Edits, Used, is_path_required};
 use mls_suite::{OutOfMemory, Suite};
 use mls_tree::PublicTree;
 use mls_treekem::{PathSecrets, PrivatePath};
@@ -41,31 +39,6 @@ pub(crate) struct OwnPath {
     pub(crate) keys: PrivatePath,
     /// The tree with the path merged.
     pub(crate) tree: PublicTree,
-}
-
-/// Whether a proposal asks for a path: each but an add (RFC 9420, 17.4).
-fn asks_for_path(proposal: &Proposal) -> bool
-    ensures { result ≡ proposals.asks_for_path proposal.now }
-{
-    !matches!(proposal, Proposal::Add(_))
-}
-
-/// Whether one of them asks for a path.
-fn some_ask(used: &[Used<'_>]) -> bool
-    ensures { result ≡ list_any (λ (u : Used). proposals.asks_for_path u.proposal) used.now }
-{
-    used.iter().any(|u| asks_for_path(u.proposal))
-}
-
-/// Whether a commit of these has to have a path: there are none, or one asks for it (RFC 9420, 12.4).
-#[tactic(auto, unfolding(mls_model::specs::Proposals::is_path_required))]
-fn is_path_required(used: &[Used<'_>]) -> bool
-    ensures { result ≡ proposals.is_path_required used.now }
-{
-    if used.is_empty() {
-        return true;
-    }
-    some_ask(used)
 }
 
 /// Without a path the commit secret is zeros, and the keys follow the edits (RFC 9420, 8).

@@ -15,7 +15,6 @@ ghost use Rattle.mls_schedule.specs.Epoch.{init_secret, joiner_secret, epoch_sec
 ghost use Rattle.mls_model.specs.Member as model;
 ghost use Rattle.mls_model.specs.Messages.{said_by, content_signature, sent_by};
 ghost use Rattle.mls_commit.specs.Changed.{change_of};
-ghost use Rattle.mls_public_group.specs.Short.{IsShortContext};
 ghost use Rattle.mls_message.specs.Sending.{limited, FitsIfShort};
 ghost use Rattle.mls_message.specs.Speaks.{Speaks};
 ghost use Rattle.mls_make.specs.Faults.{number_of};
@@ -23,16 +22,15 @@ ghost use Rattle.mls_make.specs.TwoSteps.{sent_as, sent_commit};
 
 use crate::error::MakeError;
 use mls_commit::Change;
-use mls_group::GroupContext;
 use mls_kdf::Secret;
-use mls_leaf::{Codec, LeafError};
+use mls_leaf::LeafError;
 use mls_message::{Framed, Speaker, send, sign};
-use mls_public_group::Edits;
+use mls_public_group::{Edits, context_spelling};
 use mls_schedule::{Epoch, Start};
 use mls_suite::{OutOfMemory, Suite};
 use mls_tree::PublicTree;
 use mls_types::{Commit, Content};
-use std::alloc::{AllocError, Global};
+use std::alloc::Global;
 
 /// A commit that is sent, and the epoch that it begins.
 #[derive(Drop)]
@@ -47,19 +45,6 @@ pub(crate) struct SentCommit {
     pub(crate) epoch: Epoch,
     /// The confirmation tag.
     pub(crate) tag: Secret,
-}
-
-/// The spelling of a context.
-fn spelling(alloc: Global, context: &GroupContext) -> Result<Vec<u8>, OutOfMemory>
-    requires { IsShortContext context.now }
-    ensures spelled { IfOk result (λ v. v.items ≡ group_context.spell context.now) }
-    ensures short { IfOk result (λ v. length v.items < 2 ^ 30) }
-{
-    match context.encode(alloc) {
-        Ok(bytes) => Ok(bytes),
-        // Want of memory: a short context has a spelling, so it is refused nothing else.
-        Err(_) => Err(AllocError),
-    }
 }
 
 /// An epoch that a commit begins.
@@ -83,7 +68,7 @@ fn next_epoch(
     ensures tag { IfOk result (λ b. b.tag ≡ confirmation_tag b.epoch change.now.context.confirmed_transcript_hash) }
 {
     let context = &change.context;
-    let spelled = spelling(alloc, context)?;
+    let spelled = context_spelling(alloc, context)?;
     let Start { joiner, epoch, .. } = Epoch::next(
         speaker.epoch.init_secret(),
         commit_secret,

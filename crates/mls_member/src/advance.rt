@@ -9,7 +9,6 @@ ghost use Rattle.mls_leaf.specs.Faults.{Spells};
 ghost use Rattle.mls_leaf.specs.declared.error.LeafError.TheVariants.{Wire as in_wire};
 ghost use Rattle.mls_wire.specs.declared.WireError.TheVariants.{OutOfMemory};
 ghost use Rattle.mls_leaf.specs.Limits.{input_limit};
-ghost use Rattle.mls_group.specs.GroupContext.{group_context};
 ghost use Rattle.mls_group.specs.UpdatePath.{update_path};
 ghost use Rattle.mls_types.specs.Commit.{proposal_or_ref, proposal_or_ref_nonempty};
 ghost use Rattle.mls_types.specs.Content.{framed_content};
@@ -24,7 +23,7 @@ ghost use Rattle.mls_model.specs.Member.{followed, advanced, left};
 ghost use Rattle.mls_model.specs.Verdict.{commit_verdict, climbed};
 ghost use Rattle.mls_model.specs.declared.effect.Effect.TheVariants as effect;
 ghost use Rattle.mls_commit.specs.Received.{IsOf};
-ghost use Rattle.mls_public_group.specs.Short.{HasLeavesBelow, IsShortContext};
+ghost use Rattle.mls_public_group.specs.Short.{HasLeavesBelow};
 ghost use Rattle.mls_view.specs.Shown.{ShowsPublic};
 ghost use Rattle.mls_member.specs.Faults.{number_of};
 ghost use Rattle.mls_member.specs.Process.{IsShortView, IsShortCommit, changed, followed_commit, edited_keys, entered_with};
@@ -34,11 +33,10 @@ use crate::framing::sender_leaf;
 use crate::member::Member;
 use crate::used::{own_key, removes, used_by};
 use mls_commit::{Received, body};
-use mls_group::GroupContext;
 use mls_kdf::Secret;
-use mls_leaf::{Codec, Items, LeafError};
+use mls_leaf::{Items, LeafError};
 use mls_model::Effect;
-use mls_public_group::{Edits, PublicGroup};
+use mls_public_group::{Edits, PublicGroup, context_spelling};
 use mls_schedule::Epoch;
 use mls_suite::Suite;
 use mls_tree::PublicTree;
@@ -52,19 +50,6 @@ use std::alloc::{AllocError, Global};
 pub(crate) struct Reached {
     secret: Secret,
     keys: PrivatePath,
-}
-
-/// The spelling of a context.
-pub(crate) fn spelling(alloc: Global, context: &GroupContext) -> Result<Vec<u8>, Refusal>
-    requires { IsShortContext context.now }
-    ensures spelled { IfOk result (λ v. v.items ≡ group_context.spell context.now) }
-    ensures short { IfOk result (λ v. length v.items < 2 ^ 30) }
-    ensures memory { IfErr result (λ e. number_of e ≡ 1) }
-{
-    match context.encode(alloc) {
-        Ok(bytes) => Ok(bytes),
-        Err(error) => Err(Refusal::Leaf(error)),
-    }
 }
 
 /// The commit that a message's parts spell.
@@ -216,7 +201,7 @@ impl<S: Suite> Member<S> {
         let keys = followed(&self.keys, edits.tree.as_tree(), own)?;
         match &commit.path {
             Some(path) => {
-                let context = spelling(self.alloc, &received.provisional)?;
+                let context = context_spelling(self.alloc, &received.provisional)?;
                 opened::<S>(edits, committer, path, keys, &context)
             }
             None => Ok(Reached {
@@ -240,7 +225,7 @@ impl<S: Suite> Member<S> {
         ensures { DoesAs (λ e. e) number_of (entered_with self.old received.change reached.secret reached.keys tag.now) self.old self.new result }
     {
         let Reached { secret, keys } = reached;
-        let context = spelling(self.alloc, &received.context)?;
+        let context = context_spelling(self.alloc, &received.context)?;
         let start = Epoch::next(self.epoch.init_secret(), &secret, &context);
         let confirmed = received.context.confirmed_transcript_hash.as_slice();
         let due = start.epoch.confirmation_tag(confirmed);

@@ -13,14 +13,13 @@ ghost use Rattle.mls_term.specs.Term.{Leaf};
 ghost use Rattle.mls_model.specs.Candidate.{first_context, created};
 ghost use Rattle.mls_member.specs.Faults.{number_of};
 
-use crate::advance::spelling;
 use crate::error::Refusal;
 use crate::member::Member;
 use mls_candidate::Candidate;
 use mls_group::GroupContext;
 use mls_kdf::Seed;
 use mls_leaf::{Bytes, INPUT_LIMIT, LeafError, LeafNode};
-use mls_public_group::PublicGroup;
+use mls_public_group::{PublicGroup, context_spelling};
 use mls_schedule::{Epoch, Transcript};
 use mls_suite::{OutOfMemory, Suite};
 use mls_tree::PublicTree;
@@ -101,7 +100,7 @@ fn first_group<S: Suite>(
         return Err(Refusal::Leaf(LeafError::Wire(WireError::TooLong)));
     }
     let (tree, context) = first_parts::<S>(alloc, leaf, group_id)?;
-    let bytes = spelling(alloc, &context)?;
+    let bytes = context_spelling(alloc, &context)?;
     require_within_limit(&bytes)?;
     let transcript = Transcript::first(&epoch.confirmation_tag(&[]));
     let group = PublicGroup::new(alloc, context, tree, transcript)?;

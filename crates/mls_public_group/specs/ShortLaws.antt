@@ -1,5 +1,5 @@
 -- What short contexts and proposals have.
-use Rattle.std.proofs.Common.{◌≡◌, ℕ, ◌<◌, ◌≤◌, ◌^◌, List, [], ◌∷◌, ◌++◌, length, ap, arith, length-append}
+use Rattle.std.proofs.Common.{◌≡◌, ℕ, ◌<◌, ◌≤◌, ◌^◌, List, [], ◌∷◌, ◌++◌, length, ap, arith, length-append, ◌+◌}
 use Rattle.std.specs.Int.{w16}
 use Rattle.std.specs.List.{cons_option, AllByRecursion}
 use Rattle.mls_wire.specs.Format.{Format}
@@ -15,8 +15,10 @@ use Rattle.mls_leaf.specs.declared.proposal.Proposal.{Proposal}
 use Rattle.mls_leaf.specs.declared.proposal.Proposal.TheVariants.{Add, Update, Remove}
 use Rattle.mls_group.specs.GroupContext.{group_context}
 use Rattle.mls_group.specs.declared.group_context.GroupContext.{GroupContext}
+use Rattle.mls_term.specs.LengthLaws.{length-tree_hash}
+use Rattle.mls_term.specs.Term.{Term}
 use Rattle.mls_checks.specs.Short.{IsShort}
-use Rattle.mls_model.specs.Public.{Used}
+use Rattle.mls_model.specs.Public.{Used, provisional_context}
 use Rattle.mls_model.specs.Proposals.{update_in, add_in, updates, adds}
 use Rattle.mls_public_group.specs.Short.{AreBelow, IsBelow, IsShortContext}
 use Rattle.mls_public_group.specs.Lengths.{context_length}
@@ -29,6 +31,18 @@ context_fits context s = (s.suite, (omega (arith, s.group_id), (s.epoch, (omega 
 -- and it is short
 pub context_short : (context : GroupContext) → IsShortContext context → length (group_context.spell context) < 2 ^ 30
 context_short context s = omega (arith, context_length context s.group_id s.tree_hash s.confirmed)
+
+-- so is the next epoch's, as long as its transcript is the old one
+pub short_provisional : (old : GroupContext) (t : Term) → IsShortContext old → old.epoch + 1 < 2 ^ 64 → IsShortContext (provisional_context old t)
+unfolding provisional_context
+short_provisional old t short low =
+    record {
+      suite = short.suite;
+      epoch = low;
+      group_id = short.group_id;
+      tree_hash = omega (arith, length-tree_hash 0 t);
+      confirmed = short.confirmed;
+    }
 
 -- ---- bounds
 

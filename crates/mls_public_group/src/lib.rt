@@ -4,7 +4,9 @@
 
 mod applied;
 mod changed;
+mod contexts;
 mod distinct;
+mod due_path;
 mod edits;
 mod error;
 mod group;
@@ -16,6 +18,8 @@ mod shared_tree;
 mod spelling;
 mod used;
 
+pub use contexts::{context_spelling, provisional_context};
+pub use due_path::is_path_required;
 pub use edits::Edits;
 pub use error::GroupError;
 pub use group::PublicGroup;

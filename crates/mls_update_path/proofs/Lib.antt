@@ -1,5 +1,4 @@
 pub mod Drafts
-pub mod Contexts
 pub mod Merges
 pub mod Leaves
 pub mod Seals

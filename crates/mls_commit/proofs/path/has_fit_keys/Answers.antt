@@ -3,7 +3,7 @@ use Rattle.std.specs.List.{list_all}
 use Rattle.std.proofs.lemmas.Iterator.{YieldsList-from_slice}
 use Rattle.std.proofs.lemmas.Iterator.Search.{all_from_yields_List}
 use Rattle.mls_group.specs.declared.update_path.UpdatePathNode.{UpdatePathNode}
-use Rattle.mls_commit.proofs.Asking.{list_all-map}
+use Rattle.mls_commit.proofs.Mapped.{list_all-map}
 use Rattle.mls_commit.proofs.path.has_fit_keys.Goals as goal
 
 pub returns-then-key_ok : goal.returns-then-key_ok

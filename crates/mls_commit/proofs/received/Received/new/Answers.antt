@@ -2,7 +2,8 @@ use Rattle.std.proofs.Common.{◌+◌, ◌<◌, ◌^◌, length, subst, sym, ◌
 use Rattle.mls_schedule.specs.Lengths.{length-confirmed_hash}
 use Rattle.mls_public_group.specs.Short.{IsShortContext}
 use Rattle.mls_group.specs.declared.group_context.GroupContext.{GroupContext}
-use Rattle.mls_commit.proofs.Contexts.{short_provisional, short_confirmed}
+use Rattle.mls_public_group.specs.ShortLaws.{short_provisional}
+use Rattle.mls_commit.proofs.Contexts.{short_confirmed}
 use Rattle.mls_commit.proofs.received.Received.new.Goals as goal
 
 pub invariant_of-result : goal.invariant_of-result

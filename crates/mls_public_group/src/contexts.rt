@@ -1,0 +1,43 @@
+//! The context of the next epoch before its transcript is known, and the spelling of contexts.
+
+ghost use Rattle.std.specs.Prelude.{◌≡◌, ◌+◌, ◌<◌, ◌^◌, IfOk, length};
+ghost use Rattle.mls_group.specs.GroupContext.{group_context};
+ghost use Rattle.mls_term.specs.Hashes.{tree_hash};
+ghost use Rattle.mls_term.specs.Term.{Term};
+ghost use Rattle.mls_model.specs.Public as model;
+ghost use Rattle.mls_public_group.specs.Short.{IsShortContext};
+
+use crate::spelling::spelling;
+use mls_group::GroupContext;
+use mls_leaf::Bytes;
+use mls_tree::Hash;
+use std::alloc::{AllocError, Global};
+
+/// The next epoch's context with the new tree's hash, and as yet the old transcript (RFC 9420, 12.4.1).
+#[tactic(auto, unfolding(mls_model::specs::Public::provisional_context))]
+pub fn provisional_context(
+    alloc: Global,
+    old: &GroupContext,
+    hash: &Hash,
+) -> Result<GroupContext, AllocError>
+    requires { old.now.epoch + 1 < 2 ^ 64 }
+    ensures { (t : Term) → hash.now ≡ tree_hash 0 t → IfOk result (λ g. g ≡ model.provisional_context old.now t) }
+{
+    Ok(GroupContext {
+        cipher_suite: old.cipher_suite,
+        group_id: old.group_id.clone()?,
+        epoch: old.epoch + 1,
+        tree_hash: Bytes::from_slice(alloc, hash)?,
+        confirmed_transcript_hash: old.confirmed_transcript_hash.clone()?,
+    })
+}
+
+/// The spelling of a context whose texts are short (RFC 9420, 8.1), of fewer than 2^30 bytes.
+pub fn context_spelling(alloc: Global, context: &GroupContext) -> Result<Vec<u8>, AllocError>
+    requires { IsShortContext context.now }
+    ensures spelled { IfOk result (λ v. v.items ≡ group_context.spell context.now) }
+    ensures short { IfOk result (λ v. length v.items < 2 ^ 30) }
+{
+    let bytes = spelling::<GroupContext>(alloc, context)?;
+    Ok(bytes)
+}
