@@ -24,10 +24,10 @@ use Rattle.mls_model.specs.Commit.{Change, merged, node_keys}
 use Rattle.mls_model.specs.Member.{Member, above_leaf, of_leaf, with_keys, followed}
 use Rattle.mls_model.specs.Verdict.{climbed}
 use Rattle.mls_laws.specs.Laws.{IsRenewed}
-use Rattle.mls_laws.specs.Keys.{MemberStands, WithAllKeys, FollowedExact, KeysNext}
+use Rattle.mls_laws.specs.Keys.{MemberStands, FollowedExact, KeysNext}
 use Rattle.mls_laws.specs.Inversion.{edited_steps, with_path_steps, body_steps}
 use Rattle.mls_term.specs.TakenLaws.{taken_at, some_at, taken_in}
-use Rattle.mls_model.specs.KeyLaws.{above_end, own_end, leaf_stays}
+use Rattle.mls_model.specs.KeyLaws.{above_end, own_end, with_all_keys, leaf_stays}
 use Rattle.mls_laws.specs.Staying.{kept_by, edits_renew}
 
 -- ---- keys and their last one
