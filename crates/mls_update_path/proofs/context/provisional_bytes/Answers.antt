@@ -9,6 +9,6 @@ pub context_spelling-requires : goal.context_spelling-requires
 context_spelling-requires c =
     subst IsShortContext (sym (c.in_ok-context.ensures (term c.args.tree.now) c.tree_hash-hash.ensures.value)) (short_provisional c.args.old.now (term c.args.tree.now) c.requires.short c.requires.epoch)
 
-pub returns-in_ok-bytes-clause-bytes : goal.returns-in_ok-bytes-clause-bytes
-returns-in_ok-bytes-clause-bytes c =
+pub returns-clause-bytes : goal.returns-clause-bytes
+returns-clause-bytes c =
     c.in_ok-bytes.ensures.spelled ∙ ap group_context.spell (c.in_ok-context.ensures (term c.args.tree.now) c.tree_hash-hash.ensures.value)
