@@ -9,7 +9,7 @@ ghost use Rattle.mls_public_group.specs.Short.{HasLeavesBelow};
 
 use crate::change::confirmed_context;
 use mls_group::GroupContext;
-use mls_public_group::{Edits, NextTree, PublicGroup};
+use mls_public_group::{Edits, NextTree, PublicGroup, provisional_context};
 use mls_schedule::Transcript;
 use std::alloc::{AllocError, Global};
 use std::marker::Model;
