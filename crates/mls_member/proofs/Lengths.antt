@@ -1,5 +1,5 @@
 -- The parts of a message are as short as an input.
-use Rattle.std.proofs.Common.{◌≡◌, ℕ, ◌+◌, ◌≤◌, Bool, true, false, cond, List, ◌++◌, length, Option, Some, None, Result, Ok, Err, refl, sym, subst}
+use Rattle.std.proofs.Common.{◌≡◌, ℕ, ◌≤◌, Bool, true, false, cond, List, ◌++◌, length, Option, Some, None, Result, Ok, Err, refl, sym, subst}
 use Rattle.std.specs.Prelude.{IfSome, nat_lt}
 use Rattle.std.specs.Int.{w16}
 use Rattle.std.proofs.lemmas.Bool.{ltb-false}
@@ -14,10 +14,8 @@ use Rattle.mls_types.specs.Message.{mls_message}
 use Rattle.mls_types.specs.PublicMessage.{public_message}
 use Rattle.mls_types.specs.Signed.{signed_content}
 use Rattle.mls_types.specs.SignedParts.{framed, bare, auth_data, tag_spelling, signed_content_spelled}
-use Rattle.mls_types.specs.declared.commit.Commit as commits
 use Rattle.mls_types.specs.declared.content.Content as contents
 use Rattle.mls_types.specs.declared.content.Content.TheVariants as says
-use Rattle.mls_types.specs.declared.content.FramedContent.{FramedContent}
 use Rattle.mls_types.specs.declared.signed.SignedBody.{SignedBody}
 use Rattle.mls_types.specs.declared.signed.SignedBody.TheVariants as body_of
 use Rattle.mls_types.specs.declared.message.MlsMessage.TheVariants as message_of

@@ -10,6 +10,8 @@ ghost use Rattle.mls_leaf.specs.declared.error.LeafError.TheVariants.{Wire as in
 ghost use Rattle.mls_wire.specs.declared.WireError.TheVariants.{OutOfMemory};
 ghost use Rattle.mls_leaf.specs.Limits.{input_limit};
 ghost use Rattle.mls_group.specs.UpdatePath.{update_path};
+ghost use Rattle.mls_group.specs.GroupContext.{group_context};
+ghost use Rattle.mls_schedule.specs.Epoch.{init_secret, next_epoch_secret, confirmation_tag};
 ghost use Rattle.mls_types.specs.Commit.{proposal_or_ref, proposal_or_ref_nonempty};
 ghost use Rattle.mls_types.specs.Content.{framed_content};
 ghost use Rattle.mls_types.specs.declared.content.FramedContent as contents;
@@ -211,6 +213,22 @@ impl<S: Suite> Member<S> {
         }
     }
 
+    /// The epoch that a commit secret leads to, and its confirmation tag (RFC 9420, 8 and 8.1).
+    fn next_epoch(
+        &self,
+        received: &Received,
+        secret: &Secret,
+    ) -> Result<(Epoch, Secret), AllocError>
+        ensures epoch { IfOk result (λ r. r.0 ≡ next_epoch_secret (init_secret self.now.epoch) secret.now (group_context.spell received.now.change.context)) }
+        ensures tag { IfOk result (λ r. r.1 ≡ confirmation_tag r.0 received.now.change.context.confirmed_transcript_hash) }
+    {
+        let context = context_spelling(self.alloc, &received.context)?;
+        let start = Epoch::next(self.epoch.init_secret(), secret, &context);
+        let confirmed = received.context.confirmed_transcript_hash.as_slice();
+        let tag = start.epoch.confirmation_tag(confirmed);
+        Ok((start.epoch, tag))
+    }
+
     /// Enters the next epoch: 65 where the confirmation tag isn't that of it (RFC 9420, 8.1).
     #[tactic(auto, unfolding(crate::specs::Process::entered_with, mls_model::specs::Member::advanced))]
     fn entered(
@@ -225,15 +243,12 @@ impl<S: Suite> Member<S> {
         ensures { DoesAs (λ e. e) number_of (entered_with self.old received.change reached.secret reached.keys tag.now) self.old self.new result }
     {
         let Reached { secret, keys } = reached;
-        let context = context_spelling(self.alloc, &received.context)?;
-        let start = Epoch::next(self.epoch.init_secret(), &secret, &context);
-        let confirmed = received.context.confirmed_transcript_hash.as_slice();
-        let due = start.epoch.confirmation_tag(confirmed);
+        let (epoch, due) = self.next_epoch(&received, &secret)?;
         if tag != due.as_slice() {
             return Err(Refusal::BadConfirmationTag);
         }
         received.enter(self.alloc, &mut self.group, tag)?;
-        Ok(self.begin_epoch(start.epoch, keys))
+        Ok(self.begin_epoch(epoch, keys))
     }
 
     /// Whether an epoch can come after this.

@@ -78,11 +78,11 @@ impl<S: Suite> Member<S> {
         if self.gone {
             return Err(Refusal::Gone);
         }
+        let own_key = leaf_key::<S>(self.alloc, seed)?;
         let proposal = Proposal::Update(self.updated_leaf(seed)?);
         let sender = self.keys.leaf();
         self.group
             .require_proposal::<S>(self.alloc, sender, &proposal)?;
-        let own_key = leaf_key::<S>(self.alloc, seed)?;
         self.send_and_keep(proposal, Some(own_key))
     }
 
