@@ -20,8 +20,6 @@ mod path;
 mod places;
 mod resolutions;
 mod sizes;
-#[cfg(test)]
-mod tests;
 mod validity;
 mod way_hashes;
 mod witnesses;

@@ -83,6 +83,3 @@ pub fn check_page<S: Suite>(
         Err(FileError::OutOfMemory) => Err(AllocError),
     }
 }
-
-#[cfg(test)]
-mod tests;

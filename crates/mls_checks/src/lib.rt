@@ -5,8 +5,6 @@ mod checks;
 mod error;
 mod laws;
 mod leaf;
-#[cfg(test)]
-mod tests;
 
 pub use checks::{Source, key_package, replaced};
 pub use error::CheckError;

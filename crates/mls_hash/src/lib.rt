@@ -6,8 +6,6 @@ mod feed;
 mod hashes;
 mod nodes;
 mod pieces;
-#[cfg(test)]
-mod tests;
 
 pub use hashes::{branch_hash, branch_hash_without, leaf_hash, leaf_hash_without, sibling_hash};
 

@@ -11,8 +11,6 @@ mod order;
 mod places;
 mod positions;
 mod search;
-#[cfg(test)]
-mod tests;
 
 pub use index::Index;
 pub use kind::KeyKind;

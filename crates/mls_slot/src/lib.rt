@@ -4,8 +4,6 @@
 mod codec;
 mod kinds;
 mod slot;
-#[cfg(test)]
-mod tests;
 
 pub use kinds::{SharedLeaf, SharedParent};
 pub use slot::{NoParent, Slot};

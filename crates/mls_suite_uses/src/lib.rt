@@ -6,6 +6,8 @@ ghost use Rattle.std.specs.Prelude.{◌≡◌, ◌<◌, ◌≤◌, ◌^◌, leng
 
 mod bare;
 #[cfg(test)]
+mod checks;
+#[cfg(test)]
 mod tests;
 mod trees;
 

@@ -3,8 +3,6 @@
 #![tactic(auto)]
 
 mod climb;
-#[cfg(test)]
-mod commit_tests;
 mod error;
 mod follow;
 mod joiner;
@@ -12,22 +10,12 @@ mod keys;
 mod laws;
 mod make;
 mod open;
-#[cfg(test)]
-mod open_tests;
 mod places;
 mod private_path;
 mod seal;
-#[cfg(test)]
-mod seal_tests;
 mod secrets;
 mod seeds;
-#[cfg(test)]
-mod small_trees;
 mod take;
-#[cfg(test)]
-mod take_tests;
-#[cfg(test)]
-mod tests;
 
 pub use error::TreeKemError;
 pub use laws::treekem_names_by_number;

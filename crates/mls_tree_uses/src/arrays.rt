@@ -1,7 +1,10 @@
 ghost use Rattle.std.specs.Prelude.{◌≡◌, IfOk, vec_len};
 ghost use Rattle.mls_treemath.specs.Paths.{nodes_in};
 
-use super::*;
+use mls_array::{
+    alternates, filtered_path, first_blank, has_last, has_leaf, height_for, is_reached, leaf,
+    member_count, pad, resolution, resolution_at, to_nodes,
+};
 use mls_leaf::{Codec, LeafError, LeafNode, Node, ParentNode};
 use mls_slot::Slot;
 use std::alloc::Global;

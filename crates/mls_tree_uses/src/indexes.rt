@@ -3,7 +3,7 @@
 ghost use Rattle.std.specs.Prelude.{◌≡◌, ◌≤◌, nat_eq, true, IfOk};
 ghost use Rattle.mls_term.specs.Sets.{is_distinct};
 
-use crate::{Index, KeyKind};
+use mls_index::{Index, KeyKind};
 use mls_leaf::{Bytes, Capabilities, Credential, Items, LeafNode, LeafSource, Node, ParentNode};
 use mls_slot::Slot;
 use std::alloc::{AllocError, Global};

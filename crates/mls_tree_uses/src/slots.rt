@@ -1,5 +1,5 @@
-use crate::{NoParent, SharedLeaf, Slot};
 use mls_leaf::{Codec, LeafError, LeafNode, Node, ParentNode};
+use mls_slot::{NoParent, SharedLeaf, Slot};
 use std::test::*;
 
 /// A leaf of "bob".

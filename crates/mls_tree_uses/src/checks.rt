@@ -1,4 +1,4 @@
-use super::*;
+use mls_checks::{CheckError, Source, key_package, replaced};
 use mls_leaf::{Codec, KeyPackage, LeafNode};
 use mls_suite::Glass;
 use std::alloc::Global;

@@ -1,4 +1,6 @@
-use super::*;
+use mls_hash::{
+    Hash, branch_hash, branch_hash_without, leaf_hash, leaf_hash_without, sibling_hash,
+};
 use mls_leaf::{Codec, LeafNode, ParentNode};
 use std::test::Fail;
 

@@ -3,12 +3,12 @@
 use crate::small_trees::{
     four, gave, holds, leaf, next, number_of, of_four, path_secrets, sealed_path,
 };
-use crate::{TreeKemError, seal_seed, seals_in};
 use mls_group::{HpkeCiphertext, UpdatePathNode};
 use mls_kdf::Secret;
 use mls_leaf::LeafNode;
 use mls_suite::{Glass, decrypt_with_label};
 use mls_tree::PublicTree;
+use mls_treekem::{TreeKemError, seal_seed, seals_in};
 use std::alloc::Global;
 
 // By Python's hmac and hashlib: ExpandWithLabel of 32 bytes 09, "seed seal" and the number 0x01020304.

@@ -5,12 +5,12 @@ use crate::small_trees::{
     boxed, follow_edit, four, gave, has_nodes, holds, leaf, make_path, next, open_path, public,
     sealed_path, take_secret, with_key,
 };
-use crate::{PathSecrets, PrivatePath, init_seed, leaf_seed, path_seed, seals_in, sign_seed};
 use mls_group::UpdatePathNode;
 use mls_kdf::Secret;
 use mls_leaf::{Bytes, LeafNode, LeafSource};
 use mls_suite::KeyPair;
 use mls_tree::PublicTree;
+use mls_treekem::{PathSecrets, PrivatePath, init_seed, leaf_seed, path_seed, seals_in, sign_seed};
 use std::alloc::Global;
 
 const SEED: Secret = [5; 32];

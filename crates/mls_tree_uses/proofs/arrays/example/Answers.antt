@@ -1,6 +1,6 @@
 use Rattle.std.proofs.Common.{arith}
 use Rattle.mls_treemath.specs.Paths.{nodes_in}
-use Rattle.mls_array.proofs.tests.example.Goals as goal
+use Rattle.mls_tree_uses.proofs.arrays.example.Goals as goal
 
 pub returns : goal.returns
 unfolding nodes_in

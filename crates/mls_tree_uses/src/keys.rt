@@ -4,10 +4,10 @@ use crate::small_trees::{
     add, boxed, follow_edit, has_key, has_nodes, holds, make_path, next, node_pair, path_secrets,
     single, with_key,
 };
-use crate::{PathSecrets, PrivatePath, TreeKemError};
 use mls_kdf::Secret;
 use mls_suite::KeyPair;
 use mls_tree::PublicTree;
+use mls_treekem::{PathSecrets, PrivatePath, TreeKemError};
 use std::alloc::Global;
 
 /// The first path secret.

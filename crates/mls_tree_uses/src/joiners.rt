@@ -4,11 +4,11 @@ use crate::small_trees::{
     boxed, gave, has_key, has_nodes, holds, key_of, make_path, member, node_pair, number_of,
     take_secret, with_key,
 };
-use crate::{PrivatePath, TreeKemError};
 use mls_kdf::Secret;
 use mls_leaf::{Bytes, Items, Node, ParentNode};
 use mls_slot::Slot;
 use mls_tree::PublicTree;
+use mls_treekem::{PrivatePath, TreeKemError};
 use std::alloc::Global;
 
 const SECRET: Secret = [7; 32];

@@ -1,9 +1,9 @@
 //! What is printed of trees. Their hashes and signatures, and the texts with them, are another program's.
 
-use super::*;
-use mls_suite::Glass;
+use mls_check::{SuiteChecks, Unchecked, check_page};
+use mls_suite::{Glass, Suite};
 use mls_text::print_page;
-use std::alloc::AllocError;
+use std::alloc::{AllocError, Global};
 use std::test::Fail;
 
 /// One leaf, whose signature and key are no ones of Glass.

@@ -1,0 +1,26 @@
+//! Worked places, checks of leaves, hashes of nodes, indexes of keys, arrays of nodes, and private keys of small trees: tests
+//! alone, above the crates that they use.
+#![tactic(auto)]
+
+#[cfg(test)]
+mod arrays;
+#[cfg(test)]
+mod checks;
+#[cfg(test)]
+mod commits;
+#[cfg(test)]
+mod hashes;
+#[cfg(test)]
+mod indexes;
+#[cfg(test)]
+mod joiners;
+#[cfg(test)]
+mod keys;
+#[cfg(test)]
+mod openings;
+#[cfg(test)]
+mod seals;
+#[cfg(test)]
+mod slots;
+#[cfg(test)]
+mod small_trees;
