@@ -1,4 +1,5 @@
-//! Commits that are received, and the next epoch (RFC 9420, 12.4.2).
+//! Commits that are received, and the next epoch (RFC 9420, 12.4.2). Where a call ends early, what it received is given
+//! to `drop`: that is one call, and the prover doesn't take it apart there.
 
 ghost use Rattle.std.specs.Prelude.{◌≡◌, ◌≤◌, ◌<◌, ◌+◌, ◌^◌, ◌-◌, ℕ, nat_lt, List, length, IfSome, IfOk, IfErr};
 ghost use Rattle.std.specs.Option.{option_copied};
@@ -243,8 +244,15 @@ impl<S: Suite> Member<S> {
         ensures { DoesAs (λ e. e) number_of (entered_with self.old received.change reached.secret reached.keys tag.now) self.old self.new result }
     {
         let Reached { secret, keys } = reached;
-        let (epoch, due) = self.next_epoch(&received, &secret)?;
+        let (epoch, due) = match self.next_epoch(&received, &secret) {
+            Ok(next) => next,
+            Err(error) => {
+                drop(received);
+                return Err(error.into());
+            }
+        };
         if tag != due.as_slice() {
+            drop(received); // The group hasn't entered it.
             return Err(Refusal::BadConfirmationTag);
         }
         received.enter(self.alloc, &mut self.group, tag)?;
@@ -274,14 +282,19 @@ impl<S: Suite> Member<S> {
         ensures { (content : contents.FramedContent) → framed_content.spell content ≡ said.now
             → DoesAs (λ e. e) number_of (followed_commit S.crypto self.old committer commit.now content signature.now tag.now) self.old self.new result }
     {
-        let outcome = self.changed(committer, commit, said, signature)?;
-        let is_removed = outcome.1;
+        let (received, is_removed) = self.changed(committer, commit, said, signature)?;
         if is_removed {
+            drop(received);
             self.leave();
             return Ok(Effect::Removed);
         }
-        let received = outcome.0;
-        let reached = self.climbed(committer, &received, commit)?;
+        let reached = match self.climbed(committer, &received, commit) {
+            Ok(reached) => reached,
+            Err(error) => {
+                drop(received);
+                return Err(error);
+            }
+        };
         self.entered(received, reached, tag)
     }
 

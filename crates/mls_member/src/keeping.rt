@@ -1,4 +1,5 @@
-//! Keeping own proposals (RFC 9420, 12.1).
+//! Keeping own proposals (RFC 9420, 12.1). Where a call ends early, a proposal is given to `drop`: that is one call, and
+//! the prover doesn't take the proposal apart there.
 
 ghost use Rattle.std.specs.Prelude.{◌^◌};
 ghost use Rattle.mls_wire.specs.Checks.{AnswersOutright, DoesAs};
@@ -42,7 +43,13 @@ impl<S: Suite> Member<S> {
         requires { IsBelow (2 ^ 27) proposal_format proposal }
         ensures { DoesAs (λ v. v.items) number_of (kept_with self.old said.message.items said.reference proposal own_key) self.old self.new result }
     {
-        let answer = Vec::from_slice(self.alloc, &said.message)?;
+        let answer = match Vec::from_slice(self.alloc, &said.message) {
+            Ok(answer) => answer,
+            Err(error) => {
+                drop(proposal);
+                return Err(error.into());
+            }
+        };
         let SaidProposal { message, reference } = said;
         let sender = self.keys.leaf();
         let kept = Kept {
@@ -66,12 +73,22 @@ impl<S: Suite> Member<S> {
         requires { proposal_format.Fits proposal }
         ensures { DoesAs (λ v. v.items) number_of (sent_and_kept S.crypto self.old proposal own_key) self.old self.new result }
     {
-        let said = mls_message::proposal::<S>(self.alloc, &self.speaker(), &proposal)?;
+        let said = match mls_message::proposal::<S>(self.alloc, &self.speaker(), &proposal) {
+            Ok(said) => said,
+            Err(error) => {
+                drop(proposal);
+                return Err(error.into());
+            }
+        };
         let is_kept = match self.is_said(&said) {
             Ok(known) => known,
-            Err(error) => return Err(error),
+            Err(error) => {
+                drop(proposal);
+                return Err(error);
+            }
         };
         if is_kept {
+            drop(proposal);
             return Ok(said.message);
         }
         self.keep_said(said, proposal, own_key)

@@ -45,9 +45,20 @@ impl<S: Suite> Member<S> {
         requires { IsBelow (2 ^ 27) proposal_format proposal }
         ensures { DoesAs (λ e. e) number_of (new_proposal S.crypto self.old reference sender bytes.now proposal) self.old self.new result }
     {
-        self.group
-            .require_proposal::<S>(self.alloc, sender, &proposal)?;
-        let message = Vec::from_slice(self.alloc, bytes)?;
+        if let Err(error) = self
+            .group
+            .require_proposal::<S>(self.alloc, sender, &proposal)
+        {
+            drop(proposal);
+            return Err(error.into());
+        }
+        let message = match Vec::from_slice(self.alloc, bytes) {
+            Ok(message) => message,
+            Err(error) => {
+                drop(proposal);
+                return Err(error.into());
+            }
+        };
         let kept = Kept {
             reference,
             message,

@@ -81,8 +81,13 @@ impl<S: Suite> Member<S> {
         let own_key = leaf_key::<S>(self.alloc, seed)?;
         let proposal = Proposal::Update(self.updated_leaf(seed)?);
         let sender = self.keys.leaf();
-        self.group
-            .require_proposal::<S>(self.alloc, sender, &proposal)?;
+        if let Err(error) = self
+            .group
+            .require_proposal::<S>(self.alloc, sender, &proposal)
+        {
+            drop(proposal);
+            return Err(error.into());
+        }
         self.send_and_keep(proposal, Some(own_key))
     }
 
