@@ -6,7 +6,7 @@ use Rattle.mls_model.specs.Journal.{Journal, CommitMade, with_entry}
 use Rattle.mls_model.specs.World.{Entrant, Seat, World, with_joined}
 use Rattle.mls_events.specs.Stored.{journal_at, IsWithin, AreMore, Seated, Making, made_of, world_of, AreStored}
 use Rattle.mls_events.proofs.Unrolled.{journal_seam}
-use Rattle.mls_events.proofs.Changing.{spent, member_joined, stored_joined, one_behind, none_behind, last_within, made_found}
+use Rattle.mls_events.proofs.Changing.{spent, member_joined, stored_joined, none_behind, last_within, made_found}
 
 abbrev seat_with : Seated → Journal → Seat
 seat_with s j = record { member = s.member; journal = j }

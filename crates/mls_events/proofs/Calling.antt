@@ -1,15 +1,14 @@
 -- What proposals and other calls of one member do to a world.
-use Rattle.std.proofs.Common.{◌≡◌, ℕ, ◌<◌, List, [], ◌∷◌, ◌++◌, length, map, Option, Some, None, Result, Ok, Err, refl, sym, ap, subst, ◌∙◌, get_or, slice_get, slice_set}
+use Rattle.std.proofs.Common.{◌≡◌, ℕ, ◌<◌, List, length, map, Some, None, Result, Ok, Err, refl, ap, get_or, slice_get, slice_set}
 use Rattle.mls_wire.specs.Reading.{◌>>=◌}
 use Rattle.mls_model.specs.Journal.{Journal, CommitMade}
 use Rattle.mls_model.specs.Member.{Member}
 use Rattle.mls_model.specs.declared.event.Reply.{Reply}
-use Rattle.mls_model.specs.declared.event.Reply.TheVariants as reply
 use Rattle.mls_model.specs.Calls.{sent}
-use Rattle.mls_model.specs.World.{Entrant, Seat, World, with_message, with_member, seat_at}
+use Rattle.mls_model.specs.World.{Entrant, Seat, World, with_member, seat_at}
 use Rattle.mls_public_group.specs.Rest.{all_at}
 use Rattle.mls_events.specs.Stored.{Seated, Making, seat_of, made_of, world_of, AreStored, IsWithin}
-use Rattle.mls_events.proofs.Stores.{seat_found, seat_set, seat_missing, unchanged, all_set}
+use Rattle.mls_events.proofs.Stores.{seat_set, all_set}
 
 -- a member that is changed, at the same journal
 abbrev pub at_same : Seated → Member → Seated

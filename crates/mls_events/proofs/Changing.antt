@@ -1,7 +1,6 @@
 -- What calls do to what a world stores, and so to the world.
-use Rattle.std.proofs.Common.{◌≡◌, ℕ, ◌+◌, ◌<◌, List, [], ◌∷◌, ◌++◌, length, map, true, false, Option, Some, None, Result, Ok, Err, refl, sym, ap, subst, ◌∙◌, get_or, slice_get, slice_set, arith}
-use Rattle.std.specs.Prelude.{option_map, ◌≢◌}
-use Rattle.std.specs.List.{AllByRecursion}
+use Rattle.std.proofs.Common.{◌≡◌, ℕ, ◌<◌, List, [], ◌∷◌, ◌++◌, length, map, true, false, Option, Some, None, Result, Ok, Err, refl, sym, ap, subst, ◌∙◌, get_or, slice_get, slice_set, arith}
+use Rattle.std.specs.Prelude.{option_map}
 use Rattle.std.proofs.lemmas.List.{length-append, map-append, append-nil}
 use Rattle.std.proofs.lemmas.Option.{slice_get-map, slice_get_read}
 use Rattle.mls_wire.specs.Laws.{ok_is}
@@ -9,20 +8,19 @@ use Rattle.mls_wire.specs.Reading.{◌>>=◌}
 use Rattle.mls_suite.specs.Crypto.{Crypto}
 use Rattle.mls_model.specs.declared.effect.Effect.{Effect}
 use Rattle.mls_model.specs.declared.effect.Effect.TheVariants.{Proposed, Known, Advanced, Removed}
-use Rattle.mls_model.specs.declared.origin.Origin.{Origin}
 use Rattle.mls_model.specs.declared.event.Source.{Source}
 use Rattle.mls_model.specs.declared.event.Reply.{Reply}
 use Rattle.mls_model.specs.declared.event.Reply.TheVariants as reply
-use Rattle.mls_model.specs.Journal.{Entry, Journal, CommitMade, begun, with_entry, entry_of}
+use Rattle.mls_model.specs.Journal.{Entry, Journal, CommitMade, with_entry, entry_of}
 use Rattle.mls_model.specs.Member.{Member}
 use Rattle.mls_model.specs.Verdict.{verdict}
 use Rattle.mls_model.specs.Calls.{journal_after, deliver_answer}
 use Rattle.mls_model.specs.World.{Entrant, Seat, World, bytes_of, with_joined}
 use Rattle.mls_public_group.specs.Rest.{all_at, all_behind}
 use Rattle.mls_events.specs.Parts.{seat_verdict, advances}
-use Rattle.mls_events.specs.Stored.{journal_at, before, latest, IsWithin, HasEntry, AreMore, Seated, Making, seat_of, made_of, world_of, AreStored}
-use Rattle.mls_events.proofs.Stores.{seat_found, seat_set, seat_missing, seats_stay, made_stay, stored_more, within_more, entry_more, unchanged, all_set}
-use Rattle.mls_events.proofs.Unrolled.{journal_stays, journal_seam}
+use Rattle.mls_events.specs.Stored.{journal_at, IsWithin, HasEntry, AreMore, Seated, Making, seat_of, made_of, world_of, AreStored}
+use Rattle.mls_events.proofs.Stores.{seat_set, seats_stay, made_stay, stored_more, unchanged, all_set}
+use Rattle.mls_events.proofs.Unrolled.{journal_seam}
 
 abbrev parts : List Entrant → List Seat → List (List ℕ) → List CommitMade → World
 parts es seats ms made = record { entrants = es; seats = seats; messages = ms; made = made }

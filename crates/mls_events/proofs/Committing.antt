@@ -1,7 +1,6 @@
 -- What a commit call does to a world, in the order in which code goes over it.
-use Rattle.std.proofs.Common.{◌≡◌, ℕ, zero, suc, ◌+◌, ◌<◌, Bool, List, [], ◌∷◌, ◌++◌, length, map, Option, Some, None, Result, Ok, Err, refl, sym, ap, subst, ◌∙◌, get_or, slice_get, slice_set}
+use Rattle.std.proofs.Common.{◌≡◌, ℕ, zero, suc, ◌+◌, Bool, List, [], ◌∷◌, ◌++◌, length, Option, Some, None, Result, Ok, Err, refl, sym, ap, subst, ◌∙◌, slice_get, slice_set}
 use Rattle.std.specs.Prelude.{option_map, is_some}
-use Rattle.std.proofs.lemmas.Option.{slice_get_within}
 use Rattle.mls_wire.specs.Laws.{ok_is}
 use Rattle.mls_wire.specs.Reading.{◌>>=◌}
 use Rattle.mls_types.specs.declared.commit.ProposalOrRef.{ProposalOrRef}
@@ -9,11 +8,11 @@ use Rattle.mls_suite.specs.Crypto.{Crypto}
 use Rattle.mls_model.specs.declared.event.WorldItem.{WorldItem}
 use Rattle.mls_model.specs.declared.event.Reply.{Reply}
 use Rattle.mls_model.specs.declared.event.Reply.TheVariants as reply
-use Rattle.mls_model.specs.Journal.{Journal, CommitMade, names_in, adds_in}
+use Rattle.mls_model.specs.Journal.{names_in, adds_in}
 use Rattle.mls_model.specs.Member.{Member, Pending, with_pending, without_pending}
 use Rattle.mls_model.specs.Make.{Made, make, committed}
 use Rattle.mls_model.specs.Calls.{commit_messages, made_by, commit_answer, drop_answer}
-use Rattle.mls_model.specs.World.{Entrant, Seat, World, with_member, seat_at, items_of}
+use Rattle.mls_model.specs.World.{Seat, World, with_member, items_of}
 use Rattle.mls_events.specs.Parts.{member_commits, IsNamed, messages_with, recorded}
 
 -- ---- lists

@@ -1,5 +1,5 @@
 -- Candidates and new members, in the order in which code goes over them.
-use Rattle.std.proofs.Common.{◌≡◌, ℕ, ◌<◌, Bool, true, false, not, List, [], ◌∷◌, length, Option, Some, None, Result, Ok, Err, refl, sym, ap, subst, ◌∙◌, slice_get}
+use Rattle.std.proofs.Common.{◌≡◌, ℕ, ◌<◌, Bool, true, false, not, List, length, Option, Some, None, Result, Ok, Err, refl, sym, ap, subst, ◌∙◌, slice_get}
 use Rattle.std.specs.List.{list_any}
 use Rattle.std.specs.Str.{bytes_eq}
 use Rattle.std.proofs.lemmas.Option.{slice_get_within}
@@ -14,12 +14,12 @@ use Rattle.mls_model.specs.declared.event.Reply.TheVariants as reply
 use Rattle.mls_model.specs.declared.event.Source.{Source}
 use Rattle.mls_model.specs.declared.origin.Origin.TheVariants as from
 use Rattle.mls_model.specs.Candidate.{Candidate, new_candidate, created}
-use Rattle.mls_model.specs.Journal.{Journal, CommitMade, begun, with_entry}
+use Rattle.mls_model.specs.Journal.{CommitMade, begun, with_entry}
 use Rattle.mls_model.specs.Member.{Member}
 use Rattle.mls_model.specs.Join.{Joined, join_verdict}
 use Rattle.mls_model.specs.Calls.{candidate_answer, create_answer, join_answer}
-use Rattle.mls_model.specs.World.{Entrant, Seat, World, entrant_at, bytes_of, with_joined, made_for, joiner_journal}
-use Rattle.mls_events.specs.Parts.{candidate_made, candidate_added, made_at}
+use Rattle.mls_model.specs.World.{Entrant, World, entrant_at, bytes_of, with_joined, made_for, joiner_journal}
+use Rattle.mls_events.specs.Parts.{candidate_made, candidate_added}
 
 -- ---- candidates
 

@@ -1,21 +1,17 @@
 -- What lists of commits name and add, one after the other, and the first record that is looked for.
-use Rattle.std.proofs.Common.{◌≡◌, ℕ, ◌+◌, ◌<◌, ◌≤◌, ◌^◌, Bool, true, false, List, [], ◌∷◌, ◌++◌, length, drop, map, Option, Some, None, Result, Ok, Err, refl, sym, ap, subst, ◌∙◌, arith, append_assoc, get_or, slice_get}
-use Rattle.std.specs.Prelude.{option_map, filter_map, find, ◌&&◌, ◌≢◌}
-use Rattle.std.specs.List.{AllByRecursion, cons_option}
+use Rattle.std.proofs.Common.{◌≡◌, ℕ, ◌+◌, ◌<◌, ◌≤◌, true, false, List, [], ◌∷◌, ◌++◌, length, drop, map, Option, Some, None, Result, Ok, Err, refl, sym, ap, subst, ◌∙◌, append_assoc, get_or, slice_get}
+use Rattle.std.specs.Prelude.{option_map, filter_map, ◌≢◌}
+use Rattle.std.specs.List.{cons_option}
 use Rattle.std.specs.Option.{option_to_list, option_copied}
 use denote.Ref.{Bor}
 use Rattle.std.proofs.lemmas.List.{append-nil, drop_all, map-append}
 use Rattle.std.proofs.lemmas.Option.{slice_get-map, slice_get_read}
-use Rattle.mls_wire.specs.Checks.{given}
 use Rattle.mls_wire.specs.Reading.{◌>>=◌}
 use Rattle.mls_leaf.specs.KeyPackage.{key_package}
-use Rattle.mls_leaf.specs.Proposal.{proposal as proposal_format}
 use Rattle.mls_leaf.specs.declared.key_package.KeyPackage.{KeyPackage}
 use Rattle.mls_leaf.specs.declared.proposal.Proposal.{Proposal}
-use Rattle.mls_leaf.specs.declared.proposal.Proposal.TheVariants as proposal
 use Rattle.mls_types.specs.declared.commit.ProposalOrRef.{ProposalOrRef}
 use Rattle.mls_types.specs.declared.commit.ProposalOrRef.TheVariants as listed
-use Rattle.mls_public_group.specs.Short.{IsBelow}
 use Rattle.mls_model.specs.declared.event.Source.{Source}
 use Rattle.mls_model.specs.declared.event.WorldItem.{WorldItem}
 use Rattle.mls_model.specs.declared.item.Item.{Item}
@@ -24,8 +20,8 @@ use Rattle.mls_model.specs.Proposals.{add_in, adds}
 use Rattle.mls_model.specs.Candidate.{Candidate}
 use Rattle.mls_model.specs.Make.{listed_of}
 use Rattle.mls_model.specs.Member.{Kept, kept_under, used_one, used_by, named_one, named}
-use Rattle.mls_model.specs.Journal.{Journal, CommitMade, names_in, used_of, adds_in}
-use Rattle.mls_model.specs.World.{World, item_of, items_of, made_for, has_source}
+use Rattle.mls_model.specs.Journal.{Journal, names_in, used_of, adds_in}
+use Rattle.mls_model.specs.World.{World, item_of, items_of, made_for}
 use Rattle.mls_public_group.specs.Rest.{here, all_behind}
 use Rattle.mls_member.specs.Answers.{IsShortItem, AreShortItems}
 use Rattle.mls_events.specs.Listed.{said_by, also}

@@ -6,7 +6,7 @@ use Rattle.mls_suite.specs.Crypto.{Crypto}
 use Rattle.mls_types.specs.declared.commit.ProposalOrRef.{ProposalOrRef}
 use Rattle.mls_model.specs.declared.event.Reply.{Reply}
 use Rattle.mls_model.specs.declared.event.Reply.TheVariants as reply
-use Rattle.mls_model.specs.Journal.{Journal, Entry, CommitMade, with_entry}
+use Rattle.mls_model.specs.Journal.{Journal, Entry, with_entry}
 use Rattle.mls_model.specs.declared.item.Item.{Item}
 use Rattle.mls_model.specs.Make.{committed, listed_of}
 use Rattle.mls_model.specs.Calls.{commit_answer, drop_answer}
@@ -14,7 +14,7 @@ use Rattle.mls_model.specs.Member.{Member, Pending, without_pending}
 use Rattle.mls_model.specs.declared.event.WorldItem.{WorldItem}
 use Rattle.mls_model.specs.World.{Entrant, Seat, World, with_member, items_of}
 use Rattle.mls_events.specs.Parts.{member_commits, messages_with, recorded, IsNamed}
-use Rattle.mls_events.specs.Stored.{journal_at, Seated, Making, seat_of, made_of, world_of, AreStored}
+use Rattle.mls_events.specs.Stored.{journal_at, Seated, Making, seat_of, world_of, AreStored}
 use Rattle.mls_events.proofs.Stores.{seat_found, unchanged}
 use Rattle.mls_events.proofs.Calling.{at_same, member_changed}
 use Rattle.mls_events.proofs.Changing.{made_added, stored_made}

@@ -1,13 +1,13 @@
 -- Members, journals and records, as a world stores them.
-use Rattle.std.proofs.Common.{◌≡◌, ℕ, zero, suc, ◌+◌, ◌<◌, ◌≤◌, List, [], ◌∷◌, ◌++◌, length, map, Option, Some, None, refl, sym, ap, subst, ◌∙◌, arith, append_assoc, get_or, slice_get, slice_set}
+use Rattle.std.proofs.Common.{◌≡◌, ℕ, zero, suc, ◌<◌, ◌≤◌, List, [], ◌∷◌, ◌++◌, length, map, Option, Some, None, refl, sym, ap, subst, ◌∙◌, arith, get_or, slice_get, slice_set}
 use Rattle.std.specs.Prelude.{option_map}
 use Rattle.std.specs.List.{AllByRecursion}
-use Rattle.std.proofs.lemmas.List.{length-append, set-get_or, map-set, map-append}
+use Rattle.std.proofs.lemmas.List.{length-append, set-get_or, map-set}
 use Rattle.std.proofs.lemmas.Option.{slice_get-map, slice_get_read, slice_get_past}
-use Rattle.mls_model.specs.Journal.{Journal, Entry, CommitMade, with_entry}
-use Rattle.mls_model.specs.World.{Entrant, Seat, World}
-use Rattle.mls_events.specs.Stored.{journal_at, before, latest, IsWithin, HasEntry, AreMore, Seated, Making, seat_of, made_of, world_of, AreStored}
-use Rattle.mls_events.proofs.Unrolled.{journal_stays, journal_seam}
+use Rattle.mls_model.specs.Journal.{Journal, CommitMade, with_entry}
+use Rattle.mls_model.specs.World.{Entrant, Seat}
+use Rattle.mls_events.specs.Stored.{before, latest, IsWithin, HasEntry, Seated, Making, seat_of, made_of, world_of, AreStored}
+use Rattle.mls_events.proofs.Unrolled.{journal_stays}
 
 -- ---- lists
 

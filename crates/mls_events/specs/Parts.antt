@@ -14,7 +14,7 @@ use Rattle.mls_model.specs.declared.event.Source.{Source}
 use Rattle.mls_model.specs.declared.event.Reply.{Reply}
 use Rattle.mls_model.specs.declared.event.Reply.TheVariants as reply
 use Rattle.mls_model.specs.Candidate.{Candidate, new_candidate, package_message}
-use Rattle.mls_model.specs.Member.{Kept, Member}
+use Rattle.mls_model.specs.Member.{Kept}
 use Rattle.mls_model.specs.Journal.{Journal, CommitMade, names_in, adds_in}
 use Rattle.mls_model.specs.Make.{committed}
 use Rattle.mls_model.specs.Verdict.{verdict}

@@ -3,7 +3,6 @@ use Rattle.std.specs.Prelude.{ℕ, List, Result, Ok}
 use Rattle.mls_wire.specs.Checks.{given}
 use Rattle.mls_wire.specs.Reading.{◌>>=◌}
 use Rattle.mls_leaf.specs.declared.key_package.KeyPackage.{KeyPackage}
-use Rattle.mls_types.specs.declared.message.MlsMessage.{MlsMessage}
 use Rattle.mls_types.specs.declared.signed.SignedContent.{SignedContent}
 use Rattle.mls_model.specs.Messages.{decoded, reference_of}
 use Rattle.mls_model.specs.World.{package_in, proposal_in, if_proposal}

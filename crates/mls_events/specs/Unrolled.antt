@@ -1,5 +1,5 @@
 -- The journals that a list of steps stands for.
-use Rattle.std.specs.Prelude.{◌≡◌, ℕ, suc, ◌<◌, List, [], ◌∷◌, ◌++◌, length, slice_get, Option, None, Some}
+use Rattle.std.specs.Prelude.{◌≡◌, ℕ, suc, ◌<◌, List, [], ◌∷◌, ◌++◌, slice_get, Option, None, Some}
 use Rattle.mls_model.specs.Journal.{Journal, begun, with_entry}
 use Rattle.mls_events.specs.declared.entry.Step.{Step}
 use Rattle.mls_events.specs.declared.entry.Step.TheVariants.{Begun, Followed}

@@ -55,9 +55,21 @@ impl<S: Suite> PlainWorld<S> {
     fn add_candidate(&mut self, candidate: Candidate<S>) -> Result<NewCandidate, WorldError>
         ensures { DoesAs (λ v. reply.Candidate v.candidate v.message) number_of (candidate_added self.old candidate) self.old self.new result }
     {
-        let copy = Vec::from_slice(self.alloc, candidate.message())?;
-        self.entrants.reserve(1)?;
-        self.messages.reserve(1)?;
+        let copy = match Vec::from_slice(self.alloc, candidate.message()) {
+            Ok(copy) => copy,
+            Err(error) => {
+                drop(candidate);
+                return Err(error.into());
+            }
+        };
+        if let Err(error) = self.entrants.reserve(1) {
+            drop(candidate);
+            return Err(error.into());
+        }
+        if let Err(error) = self.messages.reserve(1) {
+            drop(candidate);
+            return Err(error.into());
+        }
         let numbers = NewCandidate {
             candidate: self.entrants.len(),
             message: self.messages.len(),

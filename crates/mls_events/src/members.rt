@@ -54,8 +54,17 @@ impl<S: Suite> PlainWorld<S> {
         ensures err { OnErr result (self.new ≡ self.old) }
     {
         let number = self.seats.len();
-        self.seats.reserve(1)?;
-        let journal = self.journals.begin(origin)?;
+        if let Err(error) = self.seats.reserve(1) {
+            drop(member);
+            return Err(error);
+        }
+        let journal = match self.journals.begin(origin) {
+            Ok(journal) => journal,
+            Err(error) => {
+                drop(member);
+                return Err(error);
+            }
+        };
         self.seats.push_reserved(Seat { member, journal });
         let entrant = &mut self.entrants[n];
         entrant.is_spent = true;

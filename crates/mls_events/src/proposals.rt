@@ -26,12 +26,18 @@ impl<S: Suite> PlainWorld<S> {
     {
         self.require_member(member)?;
         let offered = self.package_of(key_package)?;
-        self.messages.reserve(1)?;
+        if let Err(error) = self.messages.reserve(1) {
+            drop(offered);
+            return Err(error.into());
+        }
         let message = self.messages.len();
         let Some(seat) = self.seats.get_mut(member) else {
+            drop(offered);
             return Err(WorldError::NoSuchMember);
         };
-        let bytes = seat.member.propose_add(&offered)?;
+        let proposed = seat.member.propose_add(&offered);
+        drop(offered);
+        let bytes = proposed?;
         self.messages.push_reserved(Bytes::from_vec(bytes));
         Ok(message)
     }

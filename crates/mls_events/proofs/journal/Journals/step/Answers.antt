@@ -1,6 +1,6 @@
-use Rattle.std.proofs.Common.{◌≡◌, ◌<◌, ◌∙◌, List, [], length, sym, ap, subst, arith}
+use Rattle.std.proofs.Common.{◌≡◌, ◌<◌, ◌∙◌, List, length, sym, ap, subst, arith}
 use Rattle.mls_model.specs.Journal.{Journal}
-use Rattle.mls_events.specs.Unrolled.{HasStep, unrolled}
+use Rattle.mls_events.specs.Unrolled.{HasStep}
 use Rattle.mls_events.proofs.Unrolled.{as_many, step_at}
 use Rattle.mls_events.proofs.journal.Journals.step.Goals as goal
 

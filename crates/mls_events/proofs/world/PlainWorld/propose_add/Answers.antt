@@ -15,11 +15,11 @@ returns-in_err-offered-clause-outright g c = λ n h.
     let p = err_from_is_err_and c.from_residual-in_err-offered.result c.from_residual-in_err-offered.ensures.1 in
     rw (p.1, p.2) (c.in_err-offered.ensures.outright n (add_refused c.args.self.now c.args.member c.args.key_package.now n c.in_ok-require_member.ensures.there h))
 
-pub returns-in_err-reserve-clause-outright : goal.returns-in_err-reserve-clause-outright
-returns-in_err-reserve-clause-outright g c = λ n h. absurd (not_refused (package_of c.args.self.now c.args.key_package.now) _ c.in_ok-offered.ensures.answer n (add_refused c.args.self.now c.args.member c.args.key_package.now n c.in_ok-require_member.ensures.there h))
+pub returns-in-Err-clause-outright : goal.returns-in-Err-clause-outright
+returns-in-Err-clause-outright g c = λ n h. absurd (not_refused (package_of c.args.self.now c.args.key_package.now) _ c.in_ok-offered.ensures.answer n (add_refused c.args.self.now c.args.member c.args.key_package.now n c.in_ok-require_member.ensures.there h))
 
-pub returns-in_default-clause-outright : goal.returns-in_default-clause-outright
-returns-in_default-clause-outright g c = λ n h. absurd (not_refused (package_of c.args.self.now c.args.key_package.now) _ c.in_ok-offered.ensures.answer n (add_refused c.args.self.now c.args.member c.args.key_package.now n c.in_ok-require_member.ensures.there h))
+pub returns-in_default-get_mut-clause-outright : goal.returns-in_default-get_mut-clause-outright
+returns-in_default-get_mut-clause-outright g c = λ n h. absurd (not_refused (package_of c.args.self.now c.args.key_package.now) _ c.in_ok-offered.ensures.answer n (add_refused c.args.self.now c.args.member c.args.key_package.now n c.in_ok-require_member.ensures.there h))
 
 pub returns-in_err-bytes-clause-outright : goal.returns-in_err-bytes-clause-outright
 returns-in_err-bytes-clause-outright g c = λ n h. absurd (not_refused (package_of c.args.self.now c.args.key_package.now) _ c.in_ok-offered.ensures.answer n (add_refused c.args.self.now c.args.member c.args.key_package.now n c.in_ok-require_member.ensures.there h))
