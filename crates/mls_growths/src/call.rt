@@ -16,7 +16,7 @@ pub(crate) enum Call {
     /// Commits a list, with a path.
     Commit(Vec<Item>, Seed),
     Process(Vec<u8>),
-    ProposeAdd(Candidate<Glass>),
+    ProposeAdd(Box<Candidate<Glass>>),
     ProposeUpdate(Seed),
     ProposeRemove(u32),
 }

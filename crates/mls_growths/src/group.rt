@@ -11,12 +11,13 @@ use mls_member::{Candidate, Effect, Item, Joined, Made, Member};
 use mls_suite::Glass;
 use std::alloc::Global;
 
-/// A candidate with a name of one byte.
-pub(crate) fn candidate(alloc: Global, name: u8, seed: u8) -> Result<Candidate<Glass>> {
-    Ok(Candidate::new(alloc, &[name], &[seed; 32])?)
+/// A candidate with a name of one byte, in a box, whose drop is one call for the prover.
+pub(crate) fn candidate(alloc: Global, name: u8, seed: u8) -> Result<Box<Candidate<Glass>>> {
+    let candidate = Candidate::new(alloc, &[name], &[seed; 32])?;
+    Ok(Box::new(alloc, candidate)?)
 }
 
-/// A member in a box, whose drop is one call for the prover.
+/// A member in a box.
 fn boxed(alloc: Global, member: Member<Glass>) -> Result<Box<Member<Glass>>> {
     Ok(Box::new(alloc, member)?)
 }
@@ -44,12 +45,40 @@ pub(crate) struct Trio {
     pub third: Box<Member<Glass>>,
 }
 
-/// The Welcome of the commit by which a member adds two candidates.
-fn added(member: &mut Member<Glass>, candidates: &[Candidate<Glass>; 2]) -> Result<Vec<u8>> {
+/// The list of a commit that adds a candidate.
+pub(crate) fn additions(alloc: Global, candidate: &Candidate<Glass>) -> Result<Vec<Item>>
+    ensures { IfOk result (λ items. AreShortItems items.items) }
+{
+    let mut items = Vec::new(alloc);
+    items.push(addition(candidate)?)?;
+    Ok(items)
+}
+
+/// The list of a commit that adds two.
+fn two_additions(alloc: Global, candidates: &[Box<Candidate<Glass>>; 2]) -> Result<Vec<Item>>
+    ensures { IfOk result (λ items. AreShortItems items.items) }
+{
     let items = [addition(&candidates[0])?, addition(&candidates[1])?];
-    let made = member.commit(&items, true, &[4; 32])?;
+    Ok(Vec::from_array(alloc, items)?)
+}
+
+/// A member's commit of a list, which it follows.
+fn commit_followed(member: &mut Member<Glass>, items: &[Item]) -> Result<Made>
+    requires { AreShortItems items.now }
+{
+    let made = member.commit(items, true, &[4; 32])?;
     member.process(&made.commit)?;
-    welcome_of(made)
+    Ok(made)
+}
+
+/// The Welcome of the commit by which a member adds two candidates.
+fn added(
+    alloc: Global,
+    member: &mut Member<Glass>,
+    candidates: &[Box<Candidate<Glass>>; 2],
+) -> Result<Vec<u8>> {
+    let items = two_additions(alloc, candidates)?;
+    welcome_of(commit_followed(member, &items)?)
 }
 
 /// The member that a candidate becomes by a Welcome.
@@ -67,7 +96,7 @@ impl Trio {
     pub(crate) fn new(alloc: Global) -> Result<Trio> {
         let mut first = alone(alloc)?;
         let candidates = [candidate(alloc, b'b', 3)?, candidate(alloc, b'c', 5)?];
-        let welcome = added(&mut first, &candidates)?;
+        let welcome = added(alloc, &mut first, &candidates)?;
         let second = joined(alloc, &candidates[0], &welcome)?;
         let third = joined(alloc, &candidates[1], &welcome)?;
         Ok(Trio {

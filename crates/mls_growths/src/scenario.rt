@@ -1,16 +1,15 @@
 //! The scenarios: a state, and the call that is made in it.
 
-ghost use Rattle.std.specs.Prelude.{IfOk};
-ghost use Rattle.mls_member.specs.Answers.{AreShortItems};
 ghost use Rattle.mls_growths.specs.Calls.{IsShortCall};
 
-use crate::call::{Call, addition};
-use crate::group::{Committed, Trio, Updated, alone, candidate, named, reference_of, welcome_of};
+use crate::call::Call;
+use crate::group::{
+    Committed, Trio, Updated, additions, alone, candidate, named, reference_of, welcome_of,
+};
 use crate::trial::{try_call, try_join};
 use crate::worlds::try_run;
 use anyhow::Result;
 use mls_kdf::Secret;
-use mls_member::{Candidate, Item};
 use mls_suite::Glass;
 use std::alloc::Global;
 
@@ -97,15 +96,6 @@ impl Scenario {
             Scenario::Run => try_run(rt, alloc),
         }
     }
-}
-
-/// The list of a commit that adds a candidate.
-fn additions(alloc: Global, candidate: &Candidate<Glass>) -> Result<Vec<Item>>
-    ensures { IfOk result (λ items. AreShortItems items.items) }
-{
-    let mut items = Vec::new(alloc);
-    items.push(addition(candidate)?)?;
-    Ok(items)
 }
 
 fn commit_add(rt: &impl Print, alloc: Global) -> Result<()> {
