@@ -1,4 +1,5 @@
-//! Candidates, and the groups that they create.
+//! Candidates, and the groups that they create. Where a call ends early, a candidate is given to `drop`: that is one call,
+//! and the prover doesn't take it apart there.
 
 ghost use Rattle.std.specs.Prelude.{◌≡◌};
 ghost use Rattle.std.specs.List.{list_any};

@@ -1,4 +1,5 @@
-//! Look-ups of members and candidates, and new members.
+//! Look-ups of members and candidates, and new members. Where a call ends early, a new member is given to `drop`: that is
+//! one call, and the prover doesn't take it apart there.
 
 ghost use Rattle.std.specs.Prelude.{◌≡◌, ◌<◌, Some, None, length, slice_get, IfOk, IfErr, OnOk, OnErr};
 ghost use Rattle.mls_wire.specs.Checks.{AnswersOutright};

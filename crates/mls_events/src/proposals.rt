@@ -1,4 +1,5 @@
-//! Proposals of members.
+//! Proposals of members. A KeyPackage is given to `drop`: that is one call, and the prover doesn't take it apart at each
+//! end.
 
 ghost use Rattle.mls_wire.specs.Checks.{DoesAs};
 ghost use Rattle.mls_tree.specs.Refusals.{RefusesOutright};

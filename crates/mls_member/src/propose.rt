@@ -1,4 +1,5 @@
-//! Proposing.
+//! Proposing. Where a call ends early, a large proposal is given to `drop`: that is one call, and the prover doesn't take
+//! it apart there.
 
 ghost use Rattle.std.specs.Prelude.{◌≡◌, ◌^◌, true, Err, IfOk};
 ghost use Rattle.mls_wire.specs.Checks.{Answers, DoesAs, passed};
