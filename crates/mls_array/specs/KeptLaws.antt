@@ -194,7 +194,7 @@ keeps-trim b (Branch c l r) hs k =
 
 -- ---- which nodes are cold
 
-length-dropped : (b : ℕ) (t : Term) (i : ℕ) (hs : List (Option (List ℕ))) → length hs ≡ size t → length (dropped b t i hs) ≡ size t
+pub length-dropped : (b : ℕ) (t : Term) (i : ℕ) (hs : List (Option (List ℕ))) → length hs ≡ size t → length (dropped b t i hs) ≡ size t
 unfolding dropped size
 length-dropped b (Leaf v) i hs e = refl
 length-dropped b (Branch c l r) i hs e =

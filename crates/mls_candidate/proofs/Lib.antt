@@ -1,5 +1,3 @@
 pub mod Written
-pub mod Lengths
-pub mod Leaves
 pub mod Packages
 pub mod New

@@ -15,7 +15,7 @@ use Rattle.mls_types.specs.Message.{mls_message}
 use Rattle.mls_model.specs.Candidate.{package_message}
 use Rattle.mls_public_group.specs.Short.{IsBelow}
 use Rattle.mls_candidate.specs.Short.{IsShortPackage}
-use Rattle.mls_candidate.proofs.Leaves.{owner_in}
+use Rattle.mls_candidate.specs.LeafLaws.{owner_in}
 use Rattle.mls_public_group.specs.Lengths.{opaque_most}
 
 pub package_tbs_fits : (k : KeyPackage) → IsShortPackage k → KeyPackageTbsFits k

@@ -5,3 +5,4 @@ pub mod Leaf
 pub mod Checks
 pub mod Laws
 pub mod LeafLaws
+pub mod SignedLaws

@@ -24,7 +24,7 @@ pub enum Source {
     Commit,
 }
 
-// Whether the leaf was made for that.
+/// Whether the leaf was made for that.
 fn made_for(source: Source, of: &LeafSource) -> bool
     ensures { result ≡ is_of source of.now }
 {
@@ -34,7 +34,7 @@ fn made_for(source: Source, of: &LeafSource) -> bool
     }
 }
 
-// Whether both leaves have one signature key and one credential.
+/// Whether both leaves have one signature key and one credential.
 #[tactic(auto, unfolding(crate::specs::Leaf::has_identity_of))]
 fn same_identity(new: &LeafNode, old: &LeafNode) -> bool
     ensures { result ≡ has_identity_of old.now new.now }

@@ -13,7 +13,7 @@ use mls_leaf::{KeyPackage, LeafError, LeafNode};
 use mls_suite::{OutOfMemory, Suite, verify_with_label};
 use std::alloc::{AllocError, Global};
 
-// What was written, if it could only fail for want of memory.
+/// What was written, if it could only fail for want of memory.
 fn memory_aside(written: Result<Vec<u8>, LeafError>) -> Result<Vec<u8>, OutOfMemory>
     requires { IfErr written (λ e. e ≡ in_wire out_of_memory) }
     ensures { MatchResult result (λ v. written ≡ Ok v) (λ _. IsErr written) }

@@ -45,7 +45,7 @@ impl Model for Change {
     ghost invariant = { λ c. IsShortContext c.provisional × IsShortContext c.context };
 }
 
-// The new epoch's context with the new transcript.
+/// The new epoch's context with the new transcript.
 #[tactic(auto, unfolding(mls_model::specs::Public::confirmed_context))]
 pub(crate) fn confirmed_context(
     alloc: Global,

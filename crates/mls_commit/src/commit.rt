@@ -22,15 +22,15 @@ use mls_suite::Suite;
 use mls_types::Commit;
 use std::alloc::Global;
 
-// Whether a commit of these has a path where it has to.
+/// Whether a commit of these has a path where it has to.
 pub(crate) fn has_due_path(commit: &Commit, used: &[Used<'_>]) -> bool
     ensures { result ≡ (is_some commit.now.path || not (proposals.is_path_required used.now)) }
 {
     commit.path.is_some() || !is_path_required(used)
 }
 
-// The tree after the edits, with the path merged where there is one. `is_own` says that there are no edits: the tree is
-// the group's own.
+/// The tree after the edits, with the path merged where there is one. `is_own` says that there are no edits: the tree is
+/// the group's own.
 #[tactic(auto, unfolding(mls_model::specs::Commit::merged))]
 fn merged<S: Suite>(
     alloc: Global,

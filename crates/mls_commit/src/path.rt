@@ -25,14 +25,14 @@ use mls_suite::Suite;
 use mls_tree::TreeError;
 use std::alloc::{AllocError, Global};
 
-// The public key of a node.
+/// The public key of a node.
 fn node_key(node: &UpdatePathNode) -> Result<Bytes, AllocError>
     ensures { IfOk result (λ k. k ≡ node.now.encryption_key) }
 {
     Ok(node.encryption_key.clone()?)
 }
 
-// The public keys of the path's nodes, the lowest first.
+/// The public keys of the path's nodes, the lowest first.
 pub(crate) fn node_keys(alloc: Global, path: &UpdatePath) -> Result<Vec<Bytes>, AllocError>
     ensures { IfOk result (λ v. v.items ≡ model.node_keys path.now) }
 {
@@ -44,7 +44,7 @@ pub(crate) fn node_keys(alloc: Global, path: &UpdatePath) -> Result<Vec<Bytes>, 
     Ok(keys)
 }
 
-// Whether the nodes, as many as these numbers, have so many ciphertexts.
+/// Whether the nodes, as many as these numbers, have so many ciphertexts.
 fn has_counts(nodes: &[UpdatePathNode], due: &[usize]) -> bool
     requires { length nodes.now ≡ length due.now }
     ensures { result ≡ bytes_eq (map (λ (n : UpdatePathNode). length n.ciphertexts) nodes.now) due.now }
@@ -53,7 +53,7 @@ fn has_counts(nodes: &[UpdatePathNode], due: &[usize]) -> bool
     pairs.all(|(node, count)| node.ciphertexts.as_slice().len() == *count)
 }
 
-// Refuses a path whose number of nodes is wrong, and then a number of ciphertexts that is. The committer is a member.
+/// Refuses a path whose number of nodes is wrong, and then a number of ciphertexts that is. The committer is a member.
 fn require_counts(committer: u32, edits: &Edits, path: &UpdatePath) -> Result<(), CommitError>
     requires { IsSome (leaf_of edits.now.tree committer) }
     ensures { Answers (λ _. passed) number_of (count_checks edits.now committer path.now) result }
@@ -70,7 +70,7 @@ fn require_counts(committer: u32, edits: &Edits, path: &UpdatePath) -> Result<()
     Ok(())
 }
 
-// Whether the keys of its leaf and of its nodes are fit.
+/// Whether the keys of its leaf and of its nodes are fit.
 fn has_fit_keys<S: Suite>(path: &UpdatePath) -> bool
     ensures { result ≡ list_all S.crypto.key_ok (path.now.leaf_node.encryption_key ∷ model.node_keys path.now) }
 {
@@ -81,8 +81,8 @@ fn has_fit_keys<S: Suite>(path: &UpdatePath) -> bool
             .all(|node| S::key_ok(node.encryption_key.as_slice()))
 }
 
-// A path merged, where its keys differ and its leaf has the parent hash. Into the group's own tree, which has no edits, it
-// isn't merged yet: it is prepared, and nothing is copied.
+/// A path merged, where its keys differ and its leaf has the parent hash. Into the group's own tree, which has no edits, it
+/// isn't merged yet: it is prepared, and nothing is copied.
 fn merged_into(
     edits: &Edits,
     committer: u32,
@@ -105,8 +105,9 @@ fn merged_into(
 }
 
 /// The tree after the edits with the committer's path merged, where these checks pass in this order: 22 no member is at
-/// its leaf, which takes no memory; 50 to 54 of its new leaf; 30 how many nodes it has; 31 how many ciphertexts each of them has; 36 a key isn't fit; 25 two nodes have one
-/// encryption key; 24 its leaf hasn't the parent hash (RFC 9420, 12.4.2).
+/// its leaf, which takes no memory; 50 to 54 of its new leaf; 30 how many nodes the path has; 31 how many ciphertexts each
+/// of them has; 36 a key isn't fit; 25 two nodes have one encryption key; 24 the leaf hasn't the parent hash (RFC 9420,
+/// 12.4.2).
 #[tactic(auto, unfolding(mls_model::specs::Commit::with_path))]
 pub(crate) fn with_path<S: Suite>(
     alloc: Global,

@@ -44,8 +44,8 @@ impl Model for Received {
 }
 
 impl Received {
-    // The change with these edits and this tree, its path merged: nothing is checked. `said` is the spelling of the
-    // commit's FramedContent, and `signature` its signature (RFC 9420, 8.1, 8.2 and 12.4.1).
+    /// The change with these edits and this tree, its path merged: nothing is checked. `said` is the spelling of the
+    /// commit's FramedContent, and `signature` its signature (RFC 9420, 8.1, 8.2 and 12.4.1).
     #[tactic(auto, unfolding(crate::specs::Changed::change_of))]
     pub(crate) fn new(
         alloc: Global,

@@ -40,8 +40,8 @@ use Rattle.mls_model.specs.World.{if_proposal}
 use Rattle.mls_model.specs.Journal.{list_in, list_of_body, list_of_message}
 use Rattle.mls_model.specs.Candidate.{package_message}
 use Rattle.mls_public_group.specs.Lengths.{last_within, length-uint16}
-use Rattle.mls_member.proofs.Lengths.{within_limit}
-use Rattle.mls_member.proofs.ByContent.{IsPublic}
+use Rattle.mls_member.specs.LengthLaws.{within_limit}
+use Rattle.mls_member.specs.ContentLaws.{IsPublic}
 use Rattle.mls_events.specs.Sources.{package_read, reference_read, reference_said}
 
 -- ---- KeyPackages

@@ -118,8 +118,8 @@ fn hand<S: Suite>(
 }
 
 impl<S: Suite> PlainWorld<S> {
-    /// Delivers a source to a member: 90 no such member, 94 no such message, then the member's checks. The world decodes
-    /// nothing. A commit that is followed is a new entry of the member's journal (RFC 9420, 6, 12.1 and 12.4.2).
+    /// Delivers a source to a member: 90 no such member, 94 no such message, then the member's checks. The world refuses
+    /// no bytes itself. A commit that is followed is a new entry of the member's journal (RFC 9420, 6, 12.1 and 12.4.2).
     #[tactic(auto, using(crate::proofs::Changing::no_member, crate::proofs::Stores::seat_missing, crate::proofs::Calling::stands_at, crate::proofs::Early::delivery_nobody))]
     pub fn deliver(&mut self, member: usize, source: &Source) -> Result<Effect, WorldError>
         ensures does { DoesAs (λ e. reply.Delivered e) number_of (deliver_answer S.crypto self.old member source.now) self.old self.new result }

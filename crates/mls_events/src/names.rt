@@ -1,4 +1,4 @@
-//! What the list of a commit names and adds, by what a member keeps.
+//! What the list of a commit names, by what a member keeps.
 
 ghost use Rattle.std.specs.Prelude.{◌≡◌, ◌++◌, map, option_map, IfOk, OnOk};
 ghost use Rattle.std.specs.Option.{option_copied, option_to_list};

@@ -2,13 +2,12 @@
 
 ghost use Rattle.std.specs.Prelude.{◌≡◌, slice_get, option_map};
 ghost use Rattle.std.specs.Option.{option_copied};
-ghost use Rattle.mls_model.specs.Candidate as candidates;
 ghost use Rattle.mls_model.specs.World as model;
 
 use crate::journal::{Journal, Journals};
 use crate::seats::{Entrant, Making, Seat};
 use mls_leaf::Bytes;
-use mls_member::{Candidate, Member};
+use mls_member::Member;
 use mls_suite::Suite;
 use std::alloc::Global;
 use std::marker::Model;
@@ -70,16 +69,6 @@ impl<S: Suite> PlainWorld<S> {
     {
         match self.seats.get(k) {
             Some(seat) => Some(Journal::of(&self.journals, seat.journal)),
-            None => None,
-        }
-    }
-
-    /// Candidate n.
-    pub fn candidate_at(&self, n: usize) -> Option<&Candidate<S>>
-        ensures { option_copied result ≡ option_map (λ (e : model.Entrant). e.candidate) (slice_get self.now.entrants n) }
-    {
-        match self.entrants.get(n) {
-            Some(entrant) => Some(&entrant.candidate),
             None => None,
         }
     }

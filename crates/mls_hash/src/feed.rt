@@ -7,7 +7,7 @@ use sha2::{Digest, Sha256};
 // How many bytes can wait. The input of a parent has fewer, unless its list is long.
 const ROOM: usize = 256;
 
-// A hasher, and the bytes that it doesn't have yet: the first ones of a block.
+/// A hasher, and the bytes that it doesn't have yet: the first ones of a block.
 #[derive(Drop)]
 pub(crate) struct Feed {
     hasher: Sha256,
@@ -20,7 +20,7 @@ impl Feed {
     ghost use Rattle.sha2.specs.Sha256.{sha256};
     ghost use Rattle.mls_hash.specs.Feeds.{Holds, Feeds};
 
-    // Nothing yet.
+    /// Nothing yet.
     #[tactic(auto, unfolding(crate::specs::Feeds::Holds))]
     pub(crate) fn new() -> Feed
         ensures { Holds result [] }
@@ -32,7 +32,7 @@ impl Feed {
         }
     }
 
-    // Lets the bytes wait.
+    /// Lets the bytes wait.
     fn keep(&mut self, bytes: &[u8])
         requires { self.old.waiting + length bytes.now ≤ 256 }
         ensures { Feeds self.old bytes.now self.new }
@@ -42,7 +42,7 @@ impl Feed {
         self.waiting = end;
     }
 
-    // Hands what waits to the hasher.
+    /// Hands what waits to the hasher.
     fn hand_over(&mut self)
         ensures fed { Feeds self.old [] self.new }
         ensures none { self.new.waiting ≡ 0 }
@@ -52,7 +52,7 @@ impl Feed {
         self.waiting = 0;
     }
 
-    // Adds bytes for which there is no room behind those that wait.
+    /// Adds bytes for which there is no room behind those that wait.
     #[inline(never)]
     fn add_beyond(&mut self, bytes: &[u8])
         ensures { Feeds self.old bytes.now self.new }
@@ -65,7 +65,7 @@ impl Feed {
         }
     }
 
-    // Adds the bytes as they are.
+    /// Adds the bytes as they are.
     pub(crate) fn add(&mut self, bytes: &[u8])
         ensures { Feeds self.old bytes.now self.new }
     {
@@ -76,7 +76,7 @@ impl Feed {
         }
     }
 
-    // Adds one byte.
+    /// Adds one byte.
     pub(crate) fn add_byte(&mut self, byte: u8)
         ensures { Feeds self.old (byte ∷ []) self.new }
     {
@@ -88,7 +88,7 @@ impl Feed {
         }
     }
 
-    // The hash of all that was added. It empties the feed, which costs nothing where it is inlined and the feed ends.
+    /// The hash of all that was added. It empties the feed, which costs nothing where it is inlined and the feed ends.
     #[inline(always)]
     #[tactic(auto, unfolding(crate::specs::Feeds::Holds))]
     pub(crate) fn finish(&mut self) -> [u8; 32]

@@ -53,7 +53,7 @@ fn add_source(feed: &mut Feed, source: &LeafSource)
     }
 }
 
-// A leaf. It has no extensions.
+/// A leaf. It has no extensions.
 #[tactic(auto, using(crate::proofs::Feeding::feeding), unfolding(mls_leaf::specs::Leaf::leaf_node))]
 pub(crate) fn add_leaf(feed: &mut Feed, leaf: &LeafNode)
     ensures { Feeds feed.old (leaf_node.spell leaf.now) feed.new }
@@ -67,7 +67,7 @@ pub(crate) fn add_leaf(feed: &mut Feed, leaf: &LeafNode)
     add_vector(feed, leaf.signature.as_slice());
 }
 
-// A parent.
+/// A parent.
 #[tactic(auto, using(crate::proofs::Feeding::feeding), unfolding(mls_leaf::specs::ParentNode::parent_node))]
 pub(crate) fn add_parent(feed: &mut Feed, parent: &ParentNode)
     ensures { Feeds feed.old (parent_node.spell parent.now) feed.new }
@@ -77,7 +77,7 @@ pub(crate) fn add_parent(feed: &mut Feed, parent: &ParentNode)
     add_entries(feed, parent.unmerged_leaves());
 }
 
-// A parent with some leaves taken out of its list.
+/// A parent with some leaves taken out of its list.
 #[tactic(auto, using(crate::proofs::Feeding::feeding), unfolding(mls_leaf::specs::ParentNode::parent_node))]
 pub(crate) fn add_parent_without(feed: &mut Feed, unmerged: &[u32], parent: &ParentNode)
     requires { rises unmerged.now ≡ true }

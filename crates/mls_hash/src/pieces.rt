@@ -11,7 +11,7 @@ ghost use Rattle.mls_hash.specs.Feeds.{Feeds};
 use crate::feed::Feed;
 use mls_kdf::content_header;
 
-// The header of a content of so many bytes.
+/// The header of a content of so many bytes.
 fn add_header(feed: &mut Feed, len: usize)
     ensures { Feeds feed.old (header len) feed.new }
 {
@@ -22,7 +22,7 @@ fn add_header(feed: &mut Feed, len: usize)
     }
 }
 
-// The same, for a long content. None has 2^30 bytes or more; there the four bytes wrap.
+/// The same, for a long content. None has 2^30 bytes or more; there the four bytes wrap.
 #[inline(never)]
 fn add_long_header(feed: &mut Feed, len: usize)
     ensures { Feeds feed.old (header len) feed.new }
@@ -36,7 +36,7 @@ fn add_long_header(feed: &mut Feed, len: usize)
     }
 }
 
-// A vector of bytes.
+/// A vector of bytes.
 pub(crate) fn add_vector(feed: &mut Feed, content: &[u8])
     ensures { Feeds feed.old (opaque content.now) feed.new }
 {
@@ -44,7 +44,7 @@ pub(crate) fn add_vector(feed: &mut Feed, content: &[u8])
     feed.add(content);
 }
 
-// A number of one byte.
+/// A number of one byte.
 #[tactic(auto, unfolding(mls_wire::specs::Reading::uint))]
 pub(crate) fn add_u8(feed: &mut Feed, n: u8)
     ensures { Feeds feed.old (uint w8 n) feed.new }
@@ -52,7 +52,7 @@ pub(crate) fn add_u8(feed: &mut Feed, n: u8)
     feed.add_byte(n);
 }
 
-// A number of two bytes.
+/// A number of two bytes.
 #[tactic(auto, unfolding(mls_wire::specs::Reading::uint))]
 pub(crate) fn add_u16(feed: &mut Feed, n: u16)
     ensures { Feeds feed.old (uint w16 n) feed.new }
@@ -60,7 +60,7 @@ pub(crate) fn add_u16(feed: &mut Feed, n: u16)
     feed.add(&n.to_be_bytes());
 }
 
-// A number of four bytes.
+/// A number of four bytes.
 #[tactic(auto, unfolding(mls_wire::specs::Reading::uint))]
 pub(crate) fn add_u32(feed: &mut Feed, n: u32)
     ensures { Feeds feed.old (uint w32 n) feed.new }
@@ -68,7 +68,7 @@ pub(crate) fn add_u32(feed: &mut Feed, n: u32)
     feed.add(&n.to_be_bytes());
 }
 
-// A number of eight bytes.
+/// A number of eight bytes.
 #[tactic(auto, unfolding(mls_wire::specs::Reading::uint))]
 pub(crate) fn add_u64(feed: &mut Feed, n: u64)
     ensures { Feeds feed.old (uint w64 n) feed.new }
@@ -76,7 +76,7 @@ pub(crate) fn add_u64(feed: &mut Feed, n: u64)
     feed.add(&n.to_be_bytes());
 }
 
-// A vector of numbers of two bytes.
+/// A vector of numbers of two bytes.
 pub(crate) fn add_numbers(feed: &mut Feed, numbers: &[u16])
     ensures { Feeds feed.old (opaque (flat_map (uint w16) numbers.now)) feed.new }
 {
@@ -86,7 +86,7 @@ pub(crate) fn add_numbers(feed: &mut Feed, numbers: &[u16])
     }
 }
 
-// A vector of numbers of four bytes.
+/// A vector of numbers of four bytes.
 pub(crate) fn add_entries(feed: &mut Feed, entries: &[u32])
     ensures { Feeds feed.old (opaque (flat_map (uint w32) entries.now)) feed.new }
 {
@@ -96,7 +96,7 @@ pub(crate) fn add_entries(feed: &mut Feed, entries: &[u32])
     }
 }
 
-// Whether the entry is none of the leaves.
+/// Whether the entry is none of the leaves.
 fn stays(entry: u32, leaves: &[u32]) -> bool
     requires { rises leaves.now ≡ true }
     ensures { result ≡ not (has leaves.now entry) }
@@ -104,7 +104,7 @@ fn stays(entry: u32, leaves: &[u32]) -> bool
     leaves.binary_search(&entry).is_err()
 }
 
-// How many entries are none of the leaves.
+/// How many entries are none of the leaves.
 fn count_remaining(entries: &[u32], leaves: &[u32]) -> usize
     requires { rises leaves.now ≡ true }
     ensures count { result ≡ length (less leaves.now entries.now) }
@@ -119,7 +119,7 @@ fn count_remaining(entries: &[u32], leaves: &[u32]) -> usize
     count
 }
 
-// The entry, if it is none of the leaves.
+/// The entry, if it is none of the leaves.
 fn add_if_stays(feed: &mut Feed, entry: u32, leaves: &[u32])
     requires { rises leaves.now ≡ true }
     ensures { Feeds feed.old (flat_map (uint w32) (less leaves.now (entry ∷ []))) feed.new }
@@ -129,7 +129,7 @@ fn add_if_stays(feed: &mut Feed, entry: u32, leaves: &[u32])
     }
 }
 
-// A vector of the entries that are none of the leaves.
+/// A vector of the entries that are none of the leaves.
 pub(crate) fn add_remaining(feed: &mut Feed, entries: &[u32], leaves: &[u32])
     requires { rises leaves.now ≡ true }
     ensures { Feeds feed.old (opaque (flat_map (uint w32) (less leaves.now entries.now))) feed.new }

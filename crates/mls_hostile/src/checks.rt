@@ -10,7 +10,7 @@ use crate::stage::{Receiver, Stage};
 use anyhow::{Result, bail};
 use mls_kdf::{Secret, Seed, hash};
 use mls_leaf::Codec;
-use mls_member::{Candidate, Member};
+use mls_member::{Candidate, Joined, Member};
 use mls_model::{Event, Origin, Source, WorldItem};
 use mls_suite::{Glass, sign_with_label};
 use mls_world::World;
@@ -142,8 +142,9 @@ const IN_SECOND: usize = 8 + 168 + 68;
 
 /// The GroupInfo that a candidate opens.
 fn info_in(alloc: Global, candidate: &Candidate<Glass>, welcome: &[u8]) -> Result<Vec<u8>> {
-    let joined = Member::join(alloc, candidate, welcome)?;
-    Ok(joined.group_info)
+    let Joined { member, group_info } = Member::join(alloc, candidate, welcome)?;
+    drop(member);
+    Ok(group_info)
 }
 
 fn is_info(origin: &Origin, info: &[u8]) -> bool {
@@ -198,7 +199,9 @@ fn create_elsewhere(alloc: Global, stage: &mut Stage) -> Result<()> {
         group,
         seed: [9; 32],
     };
-    stage.event(alloc, &event)
+    let answered = stage.event(alloc, &event);
+    drop(event);
+    answered
 }
 
 /// What a member of another group answers to a message of group "g", and whether it is as before.
@@ -279,7 +282,9 @@ fn candidate(alloc: Global, number: usize) -> Result<Event, AllocError> {
 fn many_candidates(alloc: Global, stage: &mut Stage) -> Result<()> {
     for number in 0..=OTHERS {
         let event = candidate(alloc, number)?;
-        stage.event(alloc, &event)?;
+        let answered = stage.event(alloc, &event);
+        drop(event);
+        answered?;
     }
     Ok(())
 }

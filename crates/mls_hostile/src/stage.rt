@@ -1,4 +1,5 @@
-//! A world of members, and its candidates.
+//! A world of members, and its candidates. Large values are given to `drop` where they aren't needed any more: that is one
+//! call, and the prover doesn't take them apart there.
 
 use crate::acts::{Act, event_of};
 use crate::outcome::Outcome;
@@ -119,7 +120,9 @@ impl Stage {
             _ => {}
         }
         let event = event_of(alloc, act)?;
-        self.event(alloc, &event)
+        let answered = self.event(alloc, &event);
+        drop(event);
+        answered
     }
 
     /// Acts, none of which is refused.
@@ -201,7 +204,11 @@ impl Stage {
     fn joined(&self, alloc: Global, candidate: usize, bytes: &[u8]) -> Result<Outcome> {
         let candidate = self.candidate(candidate)?;
         match Member::join(alloc, candidate, bytes) {
-            Ok(joined) => Ok(Outcome::Joined(joined.member.epoch_number())),
+            Ok(joined) => {
+                let epoch = joined.member.epoch_number();
+                drop(joined);
+                Ok(Outcome::Joined(epoch))
+            }
             Err(error) => refused(error.number()),
         }
     }

@@ -37,7 +37,7 @@ pub struct Entrance {
     pub epoch: Epoch,
     /// The new member's private keys.
     pub keys: PrivatePath,
-    /// The GroupInfo that was opened.
+    /// The bytes of the GroupInfo that was opened.
     pub group_info: Vec<u8>,
 }
 

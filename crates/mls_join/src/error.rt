@@ -22,7 +22,7 @@ pub enum JoinError {
     /// The ratchet tree isn't good.
     #[error("{0}")]
     Tree(TreeError),
-    /// The path secret isn't that of the tree.
+    /// The path secret isn't that of the tree, or a node has no key where there is none.
     #[error("{0}")]
     Keys(TreeKemError),
     /// The confirmation tag isn't that of the epoch.

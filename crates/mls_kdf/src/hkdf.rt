@@ -13,7 +13,7 @@ pub fn extract(salt: &[u8], ikm: &[u8]) -> Secret
     hmac(salt, &[ikm])
 }
 
-// The block with this number, from the one before; the first comes from none.
+/// The block with this number, from the one before; the first comes from none.
 fn next_block(key: &HmacKey, previous: &[u8], info: &[&[u8]], number: u8) -> Secret
     ensures { result ≡ hmac key.now (previous.now ++ joined info.now ++ number ∷ []) }
 {
@@ -24,7 +24,7 @@ fn next_block(key: &HmacKey, previous: &[u8], info: &[&[u8]], number: u8) -> Sec
     keyed.finish()
 }
 
-// Writes the block at `at`, as far as there is room.
+/// Writes the block at `at`, as far as there is room.
 fn put(out: &mut [u8], at: usize, block: &Secret)
     requires { at ≤ length out.old }
     ensures { out.new ≡ take at out.old ++ take (length out.old - at) block.now ++ drop (at + 32) out.old }

@@ -27,7 +27,7 @@ pub struct KeyedHash {
     outer: Sha256,
 }
 
-// The key, or its hash where it is longer than a block, with zeros up to a block.
+/// The key, or its hash where it is longer than a block, with zeros up to a block.
 #[tactic(auto, unfolding(crate::specs::Kdf::short_key))]
 fn key_block(key: &[u8]) -> [u8; 64]
     ensures { result ≡ short_key key.now ++ replicate (64 - length (short_key key.now)) 0 }
@@ -41,7 +41,7 @@ fn key_block(key: &[u8]) -> [u8; 64]
     block
 }
 
-// The block with each byte combined by exclusive or with the same byte.
+/// The block with each byte combined by exclusive or with the same byte.
 fn combined(mut block: [u8; 64], byte: u8) -> [u8; 64]
     ensures { result ≡ map (λ k. bit_xor k byte) block }
 {

@@ -8,8 +8,8 @@ use Rattle.mls_leaf.specs.declared.extension.Extension as declared
 
 -- (RFC 9420, section 13.4) uint16 type, data<V>
 unfoldable pub extension : Format declared.Extension
-extension = seen (uint16 ⨾ byte_string) (λ x. record { extension_type = x.0; extension_data = x.1 }) (λ v. (v.extension_type, v.extension_data)) (λ v. refl) (λ x _. refl)
+extension = seen (uint16 ⨾ byte_string) (λ x. record { kind = x.0; content = x.1 }) (λ v. (v.kind, v.content)) (λ v. refl) (λ x _. refl)
 
 pub extension_nonempty : IsNonempty extension
 unfolding extension
-extension_nonempty v fits = first_nonempty uint16 byte_string uint16_nonempty (v.extension_type, v.extension_data) fits
+extension_nonempty v fits = first_nonempty uint16 byte_string uint16_nonempty (v.kind, v.content) fits

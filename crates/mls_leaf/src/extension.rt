@@ -13,9 +13,9 @@ use std::alloc::Global;
 #[derive(Debug, Clone, PartialEq, Eq, Drop)]
 pub struct Extension {
     /// The number of its type (RFC 9420, section 17.3).
-    pub extension_type: u16,
+    pub kind: u16,
     /// What it says.
-    pub extension_data: Bytes,
+    pub content: Bytes,
 }
 
 impl Codec for Extension {
@@ -27,12 +27,9 @@ impl Codec for Extension {
 
     #[tactic(auto, using(crate::specs::Codecs::codecs), unfolding(crate::specs::Extension::extension))]
     fn read(alloc: Global, reader: &mut Reader<'_>) -> Result<Extension, LeafError> {
-        let extension_type = u16::read(alloc, reader)?;
-        let extension_data = Bytes::read(alloc, reader)?;
-        Ok(Extension {
-            extension_type,
-            extension_data,
-        })
+        let kind = u16::read(alloc, reader)?;
+        let content = Bytes::read(alloc, reader)?;
+        Ok(Extension { kind, content })
     }
 
     #[tactic(auto, using(crate::specs::Codecs::codecs), unfolding(crate::specs::Extension::extension))]
@@ -44,8 +41,8 @@ impl Codec for Extension {
 
     #[tactic(auto, using(crate::specs::Codecs::codecs), unfolding(crate::specs::Extension::extension))]
     fn write(&self, alloc: Global, writer: &mut Writer) -> Result<(), LeafError> {
-        self.extension_type.write(alloc, writer)?;
-        self.extension_data.write(alloc, writer)?;
+        self.kind.write(alloc, writer)?;
+        self.content.write(alloc, writer)?;
         Ok(())
     }
 }

@@ -1,5 +1,3 @@
-pub mod Lengths
-pub mod ByContent
 pub mod TwoParts
 pub mod Known
 pub mod Uses

@@ -30,10 +30,10 @@ use Rattle.mls_model.specs.Member.{Member}
 use Rattle.mls_model.specs.Messages.{is_within_limit, said_by, content_signature, content_tag, sent_by}
 use Rattle.mls_model.specs.Propose.{proposal_by, updated_leaf}
 use Rattle.mls_candidate.specs.Short.{IsShortLeaf}
-use Rattle.mls_candidate.proofs.Lengths.{content_most}
-use Rattle.mls_candidate.proofs.Leaves.{renewed_short, update_fits}
+use Rattle.mls_candidate.specs.LengthLaws.{content_most}
+use Rattle.mls_candidate.specs.LeafLaws.{renewed_short, update_fits}
 use Rattle.mls_make.specs.Lengths.{front, content_inside}
-use Rattle.mls_member.proofs.Lengths.{signed_parts, proposal_inside}
+use Rattle.mls_member.specs.LengthLaws.{signed_parts, proposal_inside}
 
 -- ---- by their messages
 

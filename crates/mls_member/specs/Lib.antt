@@ -6,3 +6,5 @@ pub mod Process
 pub mod First
 pub mod Proposing
 pub mod Committing
+pub mod LengthLaws
+pub mod ContentLaws

@@ -32,7 +32,7 @@ pub enum Refusal {
     /// A path secret isn't opened.
     #[error("{0}")]
     Keys(TreeKemError),
-    /// A leaf isn't made.
+    /// A candidate isn't made: for callers that make one beside a member, since no call of a member answers it.
     #[error("{0}")]
     Candidate(CandidateError),
     /// A Welcome isn't followed.

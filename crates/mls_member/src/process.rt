@@ -39,7 +39,7 @@ impl<S: Suite> Member<S> {
     }
 
     /// What a message does to the member, or the first check that fails (RFC 9420, 6, 12.1 and 12.4.2). A member that was
-    /// removed answers 40, and its own pending commit it follows, whatever memory there is.
+    /// removed answers 40; any other follows its own pending commit, whatever memory there is.
     #[tactic(auto, unfolding(mls_model::specs::Verdict::verdict, mls_model::specs::Member::advanced, mls_model::specs::Member::without_pending))]
     pub fn process(&mut self, bytes: &[u8]) -> Result<Effect, Refusal>
         ensures verdict { DoesAs (λ e. e) number_of (verdict S.crypto self.old bytes.now) self.old self.new result }

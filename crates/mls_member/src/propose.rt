@@ -69,7 +69,8 @@ impl<S: Suite> Member<S> {
         self.send_and_keep(Proposal::Add(key_package.clone()?), None)
     }
 
-    /// Proposes a new key for the member's own leaf, made of the seed (RFC 9420, 12.1.2).
+    /// Proposes a new key for the member's own leaf, made of the seed: its message, which the member keeps with the key. 40
+    /// the member was removed, then the checks of an update, 6 and 49 as of an addition (RFC 9420, 12.1.2).
     #[tactic(auto, unfolding(mls_model::specs::Propose::proposed_update, mls_model::specs::Propose::proposed))]
     pub fn propose_update(&mut self, seed: &Seed) -> Result<Vec<u8>, Refusal>
         ensures answer { DoesAs (λ v. v.items) number_of (proposed_update S.crypto self.old seed.now) self.old self.new result }
@@ -92,7 +93,8 @@ impl<S: Suite> Member<S> {
         self.send_and_keep(proposal, Some(own_key))
     }
 
-    /// Proposes to remove the member at a leaf (RFC 9420, 12.1.3).
+    /// Proposes to remove the member at a leaf: its message, which the member keeps. 40 the member was removed, 22 no member
+    /// is at that leaf, 6 and 49 as of an addition (RFC 9420, 12.1.3).
     #[tactic(auto, unfolding(mls_model::specs::Propose::proposed_remove, mls_model::specs::Propose::proposed))]
     pub fn propose_remove(&mut self, leaf: u32) -> Result<Vec<u8>, Refusal>
         ensures answer { DoesAs (λ v. v.items) number_of (proposed_remove S.crypto self.old leaf) self.old self.new result }

@@ -5,6 +5,8 @@
 #[cfg(test)]
 mod candidates;
 #[cfg(test)]
+mod creations;
+#[cfg(test)]
 mod joins;
 #[cfg(test)]
 mod messages;

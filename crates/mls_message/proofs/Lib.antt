@@ -1,3 +1,1 @@
-pub mod Within
-pub mod Texts
 pub mod Refusals

@@ -19,7 +19,7 @@ use Rattle.mls_public_group.specs.Lengths.{first_within, last_within}
 use Rattle.mls_public_group.specs.Limits.{past_limit}
 use Rattle.mls_message.specs.Pieces.{untagged, tag_length, IsLong, IsTooLarge}
 use Rattle.mls_message.specs.Sending.{IsRefused}
-use Rattle.mls_message.proofs.Texts.{sent_length}
+use Rattle.mls_message.specs.TextLaws.{sent_length}
 
 -- ---- by its content
 

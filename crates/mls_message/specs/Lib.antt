@@ -1,3 +1,5 @@
 pub mod Speaks
 pub mod Sending
 pub mod Pieces
+pub mod WithinLaws
+pub mod TextLaws

@@ -62,8 +62,8 @@ fn require_distinct(alloc: Global, edits: &Edits, used: &[Used<'_>]) -> Result<(
 impl PublicGroup {
     /// The tree after the proposals of a commit, where they and the tree pass these checks in this order: those of each
     /// proposal in full; 61 an update of the committer, 62 its removal, 63 two updates or removes of one leaf; 22 no member
-    /// is where one is updated or removed; 21 the tree is too large; 26 two members have one signature key, or two adds one reference; 25 two nodes have one encryption
-    /// key (RFC 9420, 12.2, 12.3 and 7.3). The group stays as it is.
+    /// is where one is updated or removed; 21 the tree is too large; 26 two members have one signature key, or two adds one
+    /// reference; 25 two nodes have one encryption key (RFC 9420, 12.2, 12.3 and 7.3). The group stays as it is.
     pub fn edited<S: Suite>(
         &self,
         alloc: Global,

@@ -7,7 +7,7 @@ ghost use Rattle.mls_wire.specs.declared.WireError.TheVariants.{OutOfMemory as o
 use mls_leaf::{Codec, LeafError};
 use std::alloc::{AllocError, Global};
 
-// What was written, if it could only fail for want of memory.
+/// What was written, if it could only fail for want of memory.
 fn memory_aside(written: Result<Vec<u8>, LeafError>) -> Result<Vec<u8>, AllocError>
     requires { IfErr written (λ e. e ≡ in_wire out_of_memory) }
     ensures { MatchResult result (λ v. written ≡ Ok v) (λ _. IsErr written) }

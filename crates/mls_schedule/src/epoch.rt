@@ -59,7 +59,7 @@ pub struct WelcomeKey {
     pub nonce: [u8; 12],
 }
 
-// A secret made under a label and a context.
+/// A secret made under a label and a context.
 fn expanded(secret: &Secret, label: &str, context: &[u8]) -> Secret
     requires label { length label.now ≤ 200 }
     requires context { length context.now < 2 ^ 30 }
@@ -70,7 +70,7 @@ fn expanded(secret: &Secret, label: &str, context: &[u8]) -> Secret
     out
 }
 
-// The joiner secret, with zeros for the pre-shared key that there never is.
+/// The joiner secret, with zeros for the pre-shared key that there never is.
 #[tactic(auto, unfolding(crate::specs::Epoch::intermediate_secret))]
 fn intermediate_secret(joiner: &Secret) -> Secret
     ensures { result ≡ intermediate_secret joiner.now }

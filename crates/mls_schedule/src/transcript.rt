@@ -24,7 +24,7 @@ impl Model for Transcript {
     ghost inverse = { λ interim. record { interim = interim } };
 }
 
-// The hash of three pieces and a signature behind its header.
+/// The hash of three pieces and a signature behind its header.
 #[tactic(auto, unfolding(crate::specs::Transcript::confirmed_hash, mls_wire::specs::Reading::uint))]
 fn hash_signed<'a>(
     interim: &'a Secret,

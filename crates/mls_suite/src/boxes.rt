@@ -8,7 +8,7 @@ use crate::OutOfMemory;
 use mls_kdf::{HmacKey, Secret};
 use std::alloc::Global;
 
-// Combines the first bytes with those of a block of the stream.
+/// Combines the first bytes with those of a block of the stream.
 fn xor_block(bytes: &mut [u8], block: &Secret)
     ensures { bytes.new ≡ xor_with bytes.old block.now }
 {
@@ -17,7 +17,7 @@ fn xor_block(bytes: &mut [u8], block: &Secret)
     }
 }
 
-// The same from `start` on.
+/// The same from `start` on.
 fn xor_block_at(bytes: &mut [u8], start: usize, block: &Secret)
     requires { start ≤ length bytes.old }
     ensures { bytes.new ≡ take start bytes.old ++ xor_with (drop start bytes.old) block.now }
@@ -25,7 +25,7 @@ fn xor_block_at(bytes: &mut [u8], start: usize, block: &Secret)
     xor_block(&mut bytes[start..], block);
 }
 
-// Block i of the stream of a key.
+/// Block i of the stream of a key.
 #[tactic(auto, unfolding(crate::specs::Glass::stream_block))]
 pub(crate) fn stream_block(key: &HmacKey, i: usize) -> Secret
     ensures { result ≡ stream_block key.now i }
@@ -34,7 +34,7 @@ pub(crate) fn stream_block(key: &HmacKey, i: usize) -> Secret
     key.mac(&[&[0x73], &counter.to_be_bytes()])
 }
 
-// Combines the text with the stream of the key, in place.
+/// Combines the text with the stream of the key, in place.
 fn stream(key: &HmacKey, text: &mut [u8])
     ensures { text.new ≡ streamed key.now text.old }
 {

@@ -15,8 +15,8 @@ use std::alloc::Global;
 // What stands before each label.
 const PREFIX: &[u8] = b"MLS 1.0 ";
 
-// The label and the content, each behind its header, in one allocation: the headers have at most
-// four bytes each.
+/// The label and the content, each behind its header, in one allocation: the headers have at most
+/// four bytes each.
 fn labelled(alloc: Global, label: &str, content: &[u8]) -> Result<Vec<u8>, OutOfMemory>
     requires label { length label.now ≤ 200 }
     requires content { length content.now < 2 ^ 30 }

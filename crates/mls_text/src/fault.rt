@@ -6,7 +6,7 @@ ghost use Rattle.mls_text.specs.declared.fault.Fault.TheVariants.{OutOfMemory};
 use std::alloc::AllocError;
 use thiserror::Error;
 
-/// Why an engine stopped. No refusal: what it was given isn't at fault, so it has no number.
+/// Why reading or printing stopped. No refusal: what it was given isn't at fault, so it has no number.
 #[derive(Clone, Copy, Debug, PartialEq, Eq, Error)]
 pub enum Fault {
     /// A growth was refused.

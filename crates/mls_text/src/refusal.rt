@@ -15,7 +15,7 @@ pub fn refusal_name(number: u8) -> &'static str
     }
 }
 
-// of bytes and texts
+/// The name of a refusal of bytes and texts, or nothing.
 fn name_of_bytes(number: u8) -> &'static str
     ensures { result.now ≡ name_in names_of_bytes number }
 {
@@ -38,7 +38,7 @@ fn name_of_bytes(number: u8) -> &'static str
     }
 }
 
-// of trees and private paths
+/// Of one of trees and private paths.
 fn name_of_trees(number: u8) -> &'static str
     ensures { result.now ≡ name_in names_of_trees number }
 {
@@ -61,7 +61,7 @@ fn name_of_trees(number: u8) -> &'static str
     }
 }
 
-// of messages, leaves and commits
+/// Of one of messages, leaves and commits.
 fn name_of_members(number: u8) -> &'static str
     ensures { result.now ≡ name_in names_of_members number }
 {
@@ -96,7 +96,7 @@ fn name_of_members(number: u8) -> &'static str
     }
 }
 
-// of welcomes and of worlds
+/// Of one of Welcomes and of worlds.
 fn name_of_joins(number: u8) -> &'static str
     ensures { result.now ≡ name_in names_of_joins number }
 {

@@ -120,7 +120,7 @@ fn push_refusal(alloc: Global, text: &mut Vec<u8>, number: u8) -> Result<(), All
     push_named(alloc, text, number, refusal_name(number))
 }
 
-// a number, a space and its name
+/// Adds a number, a space and its name.
 fn push_named(alloc: Global, text: &mut Vec<u8>, number: u8, name: &str) -> Result<(), AllocError>
     ensures { OnOk result (text.new.items ≡ text.old.items ++ (decimal number ++ codes " " ++ name.now)) }
 {

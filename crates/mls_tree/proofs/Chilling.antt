@@ -3,7 +3,7 @@ use Rattle.std.proofs.Common.{◌≡◌, ℕ, suc, ◌+◌, ◌-◌, ◌*◌, �
 use Rattle.std.specs.Prelude.{Result, Ok, Err, OnErr}
 use Rattle.std.proofs.Math.Bool.{or-false, or-true}
 use Rattle.std.proofs.lemmas.Bool.{true≢false, cases_lt, lt-leb}
-use Rattle.std.proofs.lemmas.List.{get_or_append_left, get_or-append_right, length-replicate}
+use Rattle.std.proofs.lemmas.List.{get_or_append_left, get_or-append_right, length-take-le, length-replicate}
 use Rattle.mls_leaf.specs.declared.node.Node.{Node}
 use Rattle.mls_treemath.specs.Paths.{nodes_in}
 use Rattle.mls_treemath.specs.Sizes.{nodes_in-suc, nodes_in_up}
@@ -18,7 +18,7 @@ use Rattle.mls_term.specs.ArrayLaws.{size-term_of, size-perfect, width-term_of, 
 use Rattle.mls_array.specs.StandingLaws.{height-term_of}
 use Rattle.mls_hash.specs.Counter.{counted}
 use Rattle.mls_array.specs.Kept.{hashes_of, Keeps, is_cold_at, cold_places, dropped, upward}
-use Rattle.mls_array.specs.KeptLaws.{keeps_long, none_cold, none_counted, all_counted, cold_none, cold-append, cold-dropped, few_dropped, few_taken, cold_in_take}
+use Rattle.mls_array.specs.KeptLaws.{keeps_long, none_cold, none_counted, all_counted, cold_none, cold-append, length-dropped, cold-dropped, few_dropped, few_taken, cold_in_take}
 use Rattle.mls_tree.specs.Tree.{Tree, term}
 use Rattle.mls_tree.specs.Cold.{is_cold, cold_nodes, IsNew, Warms, Chills}
 use Rattle.mls_tree.proofs.Keepings.{grown_perfect}
@@ -69,6 +69,7 @@ module _ (t : Term) (i : ℕ) (old new : Tree) (is : term old ≡ t) (in_tree : 
             ∙ cold-dropped 0 t i old.kept n long (omega arith) high less
             ∙ ap (λ x. is_cold old n || has (upward 0 t i) x) at
             ∙ or_middle (is_cold old n) (has (upward 0 t i) n) _ outside;
+        whole = ap length kept ∙ length-dropped 0 t i old.kept long ∙ sym as_large;
         few = let few = few_dropped (height t) 0 t i old.kept shape long in let e : cold_nodes new ≡ cold_places (dropped 0 t i old.kept) = ap cold_places kept in omega arith;
         done = same;
       }
@@ -87,6 +88,7 @@ module _ (t : Term) (i : ℕ) (old new : Tree) (is : term old ≡ t) (in_tree : 
             ∙ cold-dropped 0 t i old.kept n long (omega arith) high less
             ∙ ap (λ x. is_cold old n || has (upward 0 t i) x) at
             ∙ or_middle (is_cold old n) (has (upward 0 t i) n) _ outside;
+        whole = ap length kept ∙ length-take-le m (dropped 0 t i old.kept) (let all = length-dropped 0 t i old.kept long in omega arith) ∙ sym as_large;
         few =
             let few = few_dropped (height t) 0 t i old.kept shape long in
             let cut = few_taken m (dropped 0 t i old.kept) in
@@ -127,6 +129,7 @@ chilled_beside g i k old new in_tree shape same kept as_large long grown =
           ∙ ap (λ x. is_cold_at (old.kept ++ replicate k None) n || has (upward 0 g i) x) at
           ∙ ap (λ v. v || has (upward 0 g i) n) (cold_behind old.kept k (size (term old)) n long (omega arith))
           ∙ or_three (is_cold old n) (nat_le (size (term old)) n) (has (upward 0 g i) n);
+      whole = ap length kept ∙ length-dropped 0 g i (old.kept ++ replicate k None) all ∙ sym as_large;
       few =
           let few = few_dropped (height g) 0 g i (old.kept ++ replicate k None) shape all in
           let sum : cold_places (old.kept ++ replicate k None) ≡ cold_nodes old + k = cold-append old.kept (replicate k None) ∙ ap (λ m. cold_nodes old + m) (all_counted k) in

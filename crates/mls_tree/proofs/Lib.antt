@@ -9,7 +9,6 @@ pub mod Fitting
 pub mod Checked
 pub mod Halves
 pub mod Keeping
-pub mod Refused
 pub mod Keepings
 pub mod Costs
 pub mod Chilling

@@ -25,3 +25,4 @@ pub mod ClientLaws
 pub mod KindLaws
 pub mod MergedKeyLaws
 pub mod Prepared
+pub mod RefusalLaws

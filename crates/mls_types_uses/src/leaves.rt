@@ -112,7 +112,7 @@ fn leaves_compared(rt: HostRuntime) -> Result<(), Fail> {
 
 fn is_extension(alloc: Global, digits: &str, kind: u16, data: &[u8]) -> Result<bool, LeafError> {
     let extension = value_of::<Extension>(alloc, digits)?;
-    Ok(extension.extension_type == kind && extension.extension_data.as_slice() == data)
+    Ok(extension.kind == kind && extension.content.as_slice() == data)
 }
 
 #[test]

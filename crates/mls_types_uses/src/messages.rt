@@ -1,6 +1,6 @@
 //! Messages and commits.
 
-use crate::digits::{answers, checked, decoded, gives};
+use crate::digits::{answers, checked, decoded, gives, holds, value_of};
 use mls_types::*;
 use std::alloc::Global;
 use std::test::Fail;
@@ -70,6 +70,23 @@ fn commits(rt: HostRuntime) -> Result<(), Fail> {
         ),
     ];
     answers::<Commit>(&rt, rt.alloc(), &rows)
+}
+
+/// Whether a commit has one proposal in full, the removal of this leaf, and no path.
+fn removes(alloc: Global, digits: &str, removed: u32) -> Result<bool, LeafError> {
+    let commit = value_of::<Commit>(alloc, digits)?;
+    let proposals = commit.proposals.as_slice();
+    match proposals.first() {
+        Some(ProposalOrRef::Proposal(Proposal::Remove(leaf))) => {
+            Ok(*leaf == removed && proposals.len() == 1 && commit.path.is_none())
+        }
+        _ => Ok(false),
+    }
+}
+
+#[test]
+fn a_removal(rt: HostRuntime) -> Result<(), Fail> {
+    holds(&rt, removes(rt.alloc(), "070100030000000500", 5), "the removal of leaf 5")
 }
 
 /// What `decode` answers of so many zero bytes as a message, and what `check_all` does. Want of memory is passed on.

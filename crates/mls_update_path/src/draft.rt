@@ -39,6 +39,7 @@ pub(crate) fn make_draft<S: Suite>(
     ensures chain { IfOk result (λ d. AreOfChain S.crypto (path_seed seed.now) (path_length 0 (term tree.now) index) d.secrets) }
     ensures keys { IfOk result (λ d. keys_on (term tree.now) d.keys ≡ made_keys S.crypto (way 0 (term tree.now) index) (path_seed seed.now) (leaf_key_of S.crypto seed.now)) }
 {
+    // Its type bounds how wide the tree is, for the proof.
     let _leaves = tree.leaf_count();
     let Ok(filtered) = tree.filtered_path(index) else {
         // Want of memory: edits leave the committer's leaf, so only the list of nodes can fail.

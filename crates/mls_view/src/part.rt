@@ -11,7 +11,7 @@ use mls_wire::Reader;
 use std::alloc::Global;
 use std::marker::{Model, PhantomData};
 
-// The same bytes, each of which is one.
+/// The same bytes, each of which is one.
 fn lent<'a>(bytes: &'a [u8]) -> &'a [u8]
     ensures same { result.now ≡ bytes.now }
     ensures bytes { IsBytes bytes.now }

@@ -30,6 +30,7 @@ fn unsigned_info(
     ensures ranged { IfOk result IsRanged }
 {
     let context = group.context();
+    // Their types bound them, for the proof.
     let _suite = context.cipher_suite;
     let _epoch = context.epoch;
     let group_context = context.clone()?;

@@ -109,8 +109,8 @@ impl<S: Suite> World<S> {
         self.world.drop_pending(member)
     }
 
-    /// Delivers a source to a member: 90 no such member, 94 no such message, then the member's checks. The world decodes
-    /// nothing. A commit that is followed is a new entry of the member's journal (RFC 9420, 6, 12.1 and 12.4.2).
+    /// Delivers a source to a member: 90 no such member, 94 no such message, then the member's checks. The world refuses
+    /// no bytes itself. A commit that is followed is a new entry of the member's journal (RFC 9420, 6, 12.1 and 12.4.2).
     pub fn deliver(&mut self, member: usize, source: &Source) -> Result<Effect, WorldError>
         ensures does { DoesAs (λ e. reply.Delivered e) number_of (deliver_answer S.crypto self.old member source.now) self.old self.new result }
         // 90 and 94 come whatever memory there is.
@@ -122,8 +122,8 @@ impl<S: Suite> World<S> {
     }
 
     /// A candidate joins by a Welcome: 92 no such candidate, 91 it became a member, 94 no such message, then the checks of a
-    /// join (RFC 9420, 12.4.3.1). The world decodes nothing. Where the Welcome was made here and its commit adds the
-    /// candidate's own KeyPackage, the journal is the maker's with that commit, else it begins with the GroupInfo.
+    /// join (RFC 9420, 12.4.3.1). The world refuses no bytes itself. Where the Welcome was made here and its commit adds
+    /// the candidate's own KeyPackage, the journal is the maker's with that commit, else it begins with the GroupInfo.
     pub fn join(&mut self, candidate: usize, source: &Source) -> Result<NewMember, WorldError>
         ensures does { DoesAs (λ v. reply.Joined v.member v.epoch) number_of (join_answer S.crypto self.old candidate source.now) self.old self.new result }
         // 92, 91 and 94 come whatever memory there is.

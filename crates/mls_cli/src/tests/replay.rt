@@ -2,7 +2,7 @@
 
 use crate::arguments::job;
 use crate::serving::serve;
-use crate::tests::rows::{JOIN, JOIN_TEXT};
+use crate::tests::rows::{EXPECTED, EXPECTED_TEXT, JOIN, JOIN_TEXT};
 use crate::tests::{Broken, OUT_OF_MEMORY, printed, unless_out_of_memory, with_room};
 use mls_text::{In, Out};
 use std::alloc::{AllocError, Global};
@@ -192,14 +192,11 @@ fn refuses_recordings(rt: HostRuntime) -> Result<(), Fail> {
 #[test]
 fn stops_where_a_write_fails(rt: HostRuntime) -> Result<(), Fail> {
     let alloc = rt.alloc();
-    let last = r#"{"op":"drop_pending","member":0,"expect":"dropped"}"#;
-    let recording = recording_of_both(alloc, ALONE, last)?;
-    let whole = format!(in alloc; "{BEGUN}2: nothing pending\n2: expected dropped\n{ADA}")?;
-    let text = whole.as_str();
     let job = job(alloc, WORDS);
+    let text = EXPECTED_TEXT;
     for room in 0..text.len() + 1 {
         let mut full = with_room(alloc, room)?;
-        let mut file = Some(recording.as_bytes());
+        let mut file = Some(EXPECTED.as_bytes());
         let mut held = Vec::new(alloc);
         let status = serve(
             alloc,

@@ -43,7 +43,7 @@ member 1: leaf 1, epoch 1, tree 61ea664910583243a5288f14c2904b34dda7af35a8ec6b75
 "#;
 
 /// The same, where another reply is expected to the fifth event.
-const EXPECTED: &str = r#"{"version":1,"suite":"f001","events":[
+pub const EXPECTED: &str = r#"{"version":1,"suite":"f001","events":[
   {"op":"candidate","identity":"61","seed":"0101010101010101010101010101010101010101010101010101010101010101"},
   {"op":"create","candidate":0,"group":"67","seed":"0202020202020202020202020202020202020202020202020202020202020202"},
   {"op":"candidate","identity":"62","seed":"0303030303030303030303030303030303030303030303030303030303030303"},
@@ -53,7 +53,8 @@ const EXPECTED: &str = r#"{"version":1,"suite":"f001","events":[
 ]}
 "#;
 
-const EXPECTED_TEXT: &str = r#"0: candidate 0, message 0
+/// What is printed of it.
+pub const EXPECTED_TEXT: &str = r#"0: candidate 0, message 0
 1: member 0
 2: candidate 1, message 1
 3: message 2, welcome 3

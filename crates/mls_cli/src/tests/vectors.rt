@@ -35,7 +35,7 @@ const WORDS: &[&str] = &["mls", "vectors", "FILE"];
 #[test]
 fn judges(rt: HostRuntime) -> Result<(), Fail> {
     let alloc = rt.alloc();
-    let table: [(&str, u8, &str); 11] = [
+    let table: [(&str, u8, &str); 12] = [
         (EXAMPLE, 0, ALL_PASS),
         ("[]", 0, "passed 0 of 0\n"),
         (
@@ -55,6 +55,12 @@ fn judges(rt: HostRuntime) -> Result<(), Fail> {
         ),
         (
             r#"[{"kind":"hkdf","salt":"","ikm":"","info":"","prk":"B613679A0814D9EC772F95D778C35FC5FF1697C493715653C6C712144292C5AD","okm":""}]"#,
+            0,
+            "0: pass\npassed 1 of 1\n",
+        ),
+        // By Python's `hmac`: the info is 00200c4d4c5320312e30207061746800.
+        (
+            r#"[{"kind":"expand","secret":"000102030405060708090a0b0c0d0e0f101112131415161718191a1b1c1d1e1f","label":"path","context":"","out":"a59d080c566bc7cbbf6378bddc7022730c03eba91883ea2c200811859f661889"}]"#,
             0,
             "0: pass\npassed 1 of 1\n",
         ),

@@ -5,7 +5,7 @@ use Rattle.mls_tree.specs.Tree.{term}
 use Rattle.mls_tree.specs.Faults.{number_of}
 use Rattle.mls_tree.proofs.Keeping.{update_good, update_sound}
 use Rattle.mls_tree.proofs.Answering.{update_refused, update_done}
-use Rattle.mls_tree.proofs.Refused.{one_number, not_refused}
+use Rattle.mls_tree.specs.RefusalLaws.{one_number, not_refused}
 use Rattle.mls_tree.proofs.Keepings.{kept_long, kept-put}
 use Rattle.mls_tree.proofs.Bounding.{updated}
 use Rattle.mls_term.specs.ArrayLaws.{perfect-term_of}

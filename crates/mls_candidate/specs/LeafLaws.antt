@@ -16,7 +16,7 @@ use Rattle.mls_model.specs.CandidateLaws.{capabilities_fit}
 use Rattle.mls_public_group.specs.Lengths.{opaque_most}
 use Rattle.mls_public_group.specs.Short.{IsBelow}
 use Rattle.mls_candidate.specs.Short.{IsShortSource, IsShortLeaf}
-use Rattle.mls_candidate.proofs.Lengths.{content_most, content_least, place_most}
+use Rattle.mls_candidate.specs.LengthLaws.{content_most, content_least, place_most}
 
 -- ---- what is signed
 

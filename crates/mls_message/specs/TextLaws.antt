@@ -26,7 +26,7 @@ use Rattle.mls_message.specs.Pieces.{signed_pieces, untagged, IsUntagged}
 use Rattle.mls_message.specs.Sending.{limited}
 use Rattle.mls_message.specs.Speaks.{Speaks}
 use Rattle.mls_message.specs.declared.speaker.Speaker.{Speaker}
-use Rattle.mls_message.proofs.Within.{limited_within}
+use Rattle.mls_message.specs.WithinLaws.{limited_within}
 
 format_is : wire_format.spell format.PublicMessage ≡ uint w16 1
 unfolding wire_format

@@ -35,7 +35,7 @@ use Rattle.mls_model.specs.Verdict.{framing_checks, content_verdict, proposal_ve
 use Rattle.mls_member.specs.declared.error.Refusal.{Refusal}
 use Rattle.mls_member.specs.Faults.{number_of}
 use Rattle.mls_member.specs.Process.{IsShortView, message_verdict, outer_checks, sender_of}
-use Rattle.mls_member.proofs.Lengths.{short_lent}
+use Rattle.mls_member.specs.LengthLaws.{short_lent}
 
 -- ---- by content
 
