@@ -86,7 +86,11 @@ fn removes(alloc: Global, digits: &str, removed: u32) -> Result<bool, LeafError>
 
 #[test]
 fn a_removal(rt: HostRuntime) -> Result<(), Fail> {
-    holds(&rt, removes(rt.alloc(), "070100030000000500", 5), "the removal of leaf 5")
+    holds(
+        &rt,
+        removes(rt.alloc(), "070100030000000500", 5),
+        "the removal of leaf 5",
+    )
 }
 
 /// What `decode` answers of so many zero bytes as a message, and what `check_all` does. Want of memory is passed on.
