@@ -25,4 +25,5 @@ pub use error::WorldError;
 pub use joins::NewMember;
 pub use journal::Journal;
 pub use laws::world_names_by_number;
+pub use mls_member::{Candidate, Member};
 pub use world::PlainWorld;

@@ -10,10 +10,9 @@ use crate::stage::{Receiver, Stage};
 use anyhow::{Result, bail};
 use mls_kdf::{Secret, Seed, hash};
 use mls_leaf::Codec;
-use mls_member::{Candidate, Joined, Member};
 use mls_model::{Event, Origin, Source, WorldItem};
 use mls_suite::{Glass, sign_with_label};
-use mls_world::World;
+use mls_world::{Candidate, Member, World};
 use std::alloc::{AllocError, Global};
 
 /// What a commit that seals zeros to the second of three is answered.
@@ -142,9 +141,9 @@ const IN_SECOND: usize = 8 + 168 + 68;
 
 /// The GroupInfo that a candidate opens.
 fn info_in(alloc: Global, candidate: &Candidate<Glass>, welcome: &[u8]) -> Result<Vec<u8>> {
-    let Joined { member, group_info } = Member::join(alloc, candidate, welcome)?;
-    drop(member);
-    Ok(group_info)
+    let joined = Member::join(alloc, candidate, welcome)?;
+    drop(joined.member);
+    Ok(joined.group_info)
 }
 
 fn is_info(origin: &Origin, info: &[u8]) -> bool {

@@ -5,9 +5,9 @@ ghost use Rattle.std.specs.Prelude.{◌<◌, ◌^◌, length, IfOk};
 use crate::pieces::{joined, last, limited, place_of, with_text, without};
 use anyhow::{Result, bail};
 use mls_kdf::{Secret, Seed, derive_secret, expand_with_label};
-use mls_member::Member;
 use mls_schedule::Epoch;
 use mls_suite::{Glass, Sealed, encrypt_with_label, sign_with_label};
+use mls_world::Member;
 use std::alloc::Global;
 
 /// How many bytes of a commit's message stand behind its content: signature, confirmation tag and membership tag.

@@ -2,9 +2,9 @@
 
 use anyhow::Result;
 use mls_kdf::Secret;
-use mls_member::Member;
 use mls_schedule::Epoch;
 use mls_suite::Glass;
+use mls_world::Member;
 use std::alloc::{AllocError, Global};
 
 /// Entries one after another, each behind its length.

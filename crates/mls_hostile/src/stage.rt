@@ -6,10 +6,9 @@ use crate::outcome::Outcome;
 use crate::page::page_of;
 use anyhow::{Result, bail};
 use mls_kdf::{Secret, Seed};
-use mls_member::{Candidate, Member};
 use mls_model::{Effect, Event, Reply, Source};
 use mls_suite::Glass;
-use mls_world::World;
+use mls_world::{Candidate, Member, World};
 use std::alloc::{AllocError, Global};
 use std::fmt;
 

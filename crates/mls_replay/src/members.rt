@@ -7,10 +7,9 @@ ghost use Rattle.mls_text.specs.Ends.{AppendsPart, write_failed};
 ghost use Rattle.mls_replay.specs.Replay.{entry_of, entry_text, member_entries, member_entry};
 
 use crate::line::ReplayLine;
-use mls_member::Member;
 use mls_suite::Suite;
 use mls_text::{Fault, Output, print};
-use mls_world::World;
+use mls_world::{Member, World};
 use std::alloc::Global;
 
 /// The line of a member.

@@ -11,8 +11,7 @@ ghost use Rattle.mls_events.specs.Outright.{early_checks};
 
 use crate::ranges::{know_event, know_events};
 use crate::replies::push_replies;
-use mls_events::{Journal, PlainWorld};
-use mls_member::Member;
+use mls_events::{Journal, Member, PlainWorld};
 use mls_model::{Event, Reply};
 use mls_suite::{OutOfMemory, Suite};
 use std::alloc::Global;
