@@ -6,7 +6,7 @@
 #![tactic(auto)]
 
 ghost use Rattle.std.specs.Prelude.{IfOk};
-ghost use Rattle.mls_member.specs.Answers.{IsShortItem};
+ghost use Rattle.mls_member.specs.Answers.{IsShortItem, AreShortItems};
 
 use anyhow::{Result, bail};
 use mls_leaf::Proposal;
@@ -56,74 +56,117 @@ fn addition(candidate: &Candidate<Glass>) -> Result<Item>
     Ok(Item::Full(Proposal::Add(candidate.key_package().clone()?)))
 }
 
-/// Grows a group, and prints its last stage. Member 0 adds each of the others, who joins and commits with a path, so that in
-/// the end each leaf has committed and no parent node is blank.
+/// The list of a commit that adds a candidate.
+fn additions(alloc: Global, candidate: &Candidate<Glass>) -> Result<Vec<Item>>
+    ensures { IfOk result (λ items. AreShortItems items.items) }
+{
+    let mut items = Vec::new(alloc);
+    items.push(addition(candidate)?)?;
+    Ok(items)
+}
+
+/// A candidate in a box, whose drop is one call for the prover, as is that of a member in one.
+fn candidate(alloc: Global, number: u32) -> Result<Box<Candidate<Glass>>> {
+    let identity = number.to_be_bytes();
+    let candidate = Candidate::new(alloc, &identity, &seed(Purpose::Candidate, number))?;
+    Ok(Box::new(alloc, candidate)?)
+}
+
+/// Member 0 of a new group.
+fn created(alloc: Global) -> Result<Box<Member<Glass>>> {
+    let creator = candidate(alloc, 0)?;
+    let member = Member::create(alloc, &creator, b"bench", &seed(Purpose::Group, 0))?;
+    Ok(Box::new(alloc, member)?)
+}
+
+/// The member that a candidate becomes by a Welcome.
+fn joined(
+    alloc: Global,
+    candidate: &Candidate<Glass>,
+    welcome: &[u8],
+) -> Result<Box<Member<Glass>>> {
+    let joined = Member::join(alloc, candidate, welcome)?;
+    Ok(Box::new(alloc, joined.member)?)
+}
+
+/// Member 0 adds another, who joins and commits with a path. It answers the Welcome.
+fn add(alloc: Global, first: &mut Member<Glass>, number: u32) -> Result<Vec<u8>> {
+    let candidate = candidate(alloc, number)?;
+    let items = additions(alloc, &candidate)?;
+    let Made { commit, welcome } = first.commit(&items, true, &seed(Purpose::Addition, number))?;
+    let Some(welcome) = welcome else {
+        bail!("nobody is welcome");
+    };
+    first.process(&commit)?;
+    let mut joined = joined(alloc, &candidate, &welcome)?;
+    let made = joined.commit(&[], true, &seed(Purpose::Renewal, number))?;
+    first.process(&made.commit)?;
+    Ok(welcome)
+}
+
+/// Grows a group, and prints its last stage. Member 0 adds each of the others, so that in the end each leaf has committed and
+/// no parent node is blank.
 fn grow(rt: &impl Print, alloc: Global, members: u32) -> Result<()> {
     println!(rt; "{members}")?;
-    let creator = Candidate::new(alloc, &[0; 4], &seed(Purpose::Candidate, 0))?;
-    let mut first: Member<Glass> = Member::create(
-        alloc,
-        &creator,
-        b"bench",
-        &seed(Purpose::Group, 0),
-    )?;
+    let mut first = created(alloc)?;
     for number in 1..members {
-        let identity = number.to_be_bytes();
-        let candidate = Candidate::new(alloc, &identity, &seed(Purpose::Candidate, number))?;
-        let items = [addition(&candidate)?];
-        let Made { commit, welcome } = first.commit(
-            &items,
-            true,
-            &seed(Purpose::Addition, number),
-        )?;
-        let Some(welcome) = welcome else {
-            bail!("nobody is welcome");
-        };
-        first.process(&commit)?;
+        let welcome = add(alloc, &mut first, number)?;
         if number == members - 1 {
             println!(rt; "{}", hex::encode(alloc, &welcome)?)?;
         }
-        let mut joined = Member::join(alloc, &candidate, &welcome)?.member;
-        let made = joined.commit(&[], true, &seed(Purpose::Renewal, number))?;
-        first.process(&made.commit)?;
     }
     let made = first.commit(&[], true, &seed(Purpose::LastRenewal, members))?;
     println!(rt; "{}", hex::encode(alloc, &made.commit)?)?;
     Ok(())
 }
 
-/// Makes the calls as the last joiner. One more member is added, and joins, where the tree has a leaf for it.
-fn call(rt: &impl Print, alloc: Global, number: u32, welcome: &[u8], far: &[u8]) -> Result<()> {
-    let seed_of_joiner = seed(Purpose::Candidate, number);
-    let candidate = Candidate::new(alloc, &number.to_be_bytes(), &seed_of_joiner)?;
-    println!(rt; "before: member {number}")?;
-    let mut member: Member<Glass> = Member::join(alloc, &candidate, welcome)?.member;
-    println!(rt; "join: leaf {}", member.leaf_index())?;
+/// A member commits with a path and follows that, and then the commit of a far member.
+fn call_member(rt: &impl Print, member: &mut Member<Glass>, number: u32, far: &[u8]) -> Result<()> {
     let made = member.commit(&[], true, &seed(Purpose::Renewal, number))?;
     println!(rt; "commit: {} bytes", made.commit.len())?;
     member.process(&made.commit)?;
     println!(rt; "own commit: epoch {}", member.epoch_number())?;
     member.process(far)?;
     println!(rt; "far commit: epoch {}", member.epoch_number())?;
-    let next = number.saturating_add(1);
-    if next.is_power_of_two() {
-        return Ok(());
-    }
-    let newcomer = Candidate::new(alloc, &next.to_be_bytes(), &seed(Purpose::Candidate, next))?;
-    let items = [addition(&newcomer)?];
+    Ok(())
+}
+
+/// A member adds one more, who joins.
+fn call_joiner(
+    rt: &impl Print,
+    alloc: Global,
+    member: &mut Member<Glass>,
+    next: u32,
+) -> Result<()> {
+    let newcomer = candidate(alloc, next)?;
+    let items = additions(alloc, &newcomer)?;
     println!(rt; "before: member {next}")?;
     let Made { commit, welcome } = member.commit(&items, true, &seed(Purpose::Addition, next))?;
     println!(rt; "commit with Welcome: {} bytes", commit.len())?;
     let Some(welcome) = welcome else {
         bail!("nobody is welcome");
     };
-    let joined: Member<Glass> = Member::join(alloc, &newcomer, &welcome)?.member;
+    let joined = joined(alloc, &newcomer, &welcome)?;
     println!(rt;
         "join by that: leaf {} in epoch {}",
         joined.leaf_index(),
         joined.epoch_number()
     )?;
     Ok(())
+}
+
+/// Makes the calls as the last joiner. One more member is added, and joins, where the tree has a leaf for it.
+fn call(rt: &impl Print, alloc: Global, number: u32, welcome: &[u8], far: &[u8]) -> Result<()> {
+    let candidate = candidate(alloc, number)?;
+    println!(rt; "before: member {number}")?;
+    let mut member = joined(alloc, &candidate, welcome)?;
+    println!(rt; "join: leaf {}", member.leaf_index())?;
+    call_member(rt, &mut member, number, far)?;
+    let next = number.saturating_add(1);
+    if next.is_power_of_two() {
+        return Ok(());
+    }
+    call_joiner(rt, alloc, &mut member, next)
 }
 
 /// Does what the lines ask for.

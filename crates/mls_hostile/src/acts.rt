@@ -51,11 +51,16 @@ pub enum Act {
     },
 }
 
-/// The KeyPackages of messages, added in full.
+/// The KeyPackage of a message, added in full.
+fn addition(message: usize) -> WorldItem {
+    WorldItem::Add(Source::Message(message))
+}
+
+/// The KeyPackages of messages, one after another.
 pub fn additions(alloc: Global, first: usize, count: usize) -> Result<Vec<WorldItem>, AllocError> {
     let mut items = Vec::new(alloc);
     for k in 0..count {
-        items.push(WorldItem::Add(Source::Message(first.saturating_add(k))))?;
+        items.push(addition(first.saturating_add(k)))?;
     }
     Ok(items)
 }
