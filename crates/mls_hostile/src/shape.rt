@@ -64,10 +64,17 @@ fn counts_in(alloc: Global, message: &PublicMessage) -> Result<Vec<usize>> {
     }
 }
 
-/// How many ciphertexts each node of a commit's path has.
-pub fn ciphertexts(alloc: Global, message: &[u8]) -> Result<Vec<usize>> {
-    match MlsMessage::decode(alloc, message)? {
-        MlsMessage::PublicMessage(message) => counts_in(alloc, &message),
+fn counts_of(alloc: Global, message: &MlsMessage) -> Result<Vec<usize>> {
+    match message {
+        MlsMessage::PublicMessage(message) => counts_in(alloc, message),
         _ => bail!("no commit"),
     }
+}
+
+/// How many ciphertexts each node of a commit's path has. The message is given to `drop`, which is one call for the prover.
+pub fn ciphertexts(alloc: Global, message: &[u8]) -> Result<Vec<usize>> {
+    let message = MlsMessage::decode(alloc, message)?;
+    let counts = counts_of(alloc, &message);
+    drop(message);
+    counts
 }
