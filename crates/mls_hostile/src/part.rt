@@ -2,7 +2,7 @@
 
 use crate::acts::Act;
 use crate::changes::{lengths, lowest_bits};
-use crate::checks::{elsewhere, forged, full, welcomed, wrong_adds};
+use crate::checks::{elsewhere, forged, welcomed, wrong_adds};
 use crate::groups;
 use crate::outcome::{Outcome, Runs};
 use crate::shape::{ciphertexts, held_nodes, listing_nodes, path_nodes, resolution};
@@ -178,8 +178,6 @@ fn print_checks(rt: &impl Print, alloc: Global) -> Result<()> {
     println!(rt;
         "an add without a capability before one without a signature: {first}, behind it: {last}"
     )?;
-    let (members, number) = full(alloc)?;
-    println!(rt; "one more to {members} members: {number}")?;
     Ok(())
 }
 

@@ -2,6 +2,7 @@
 
 use crate::acts::Act;
 use crate::changes::all_changes;
+use crate::checks::full;
 use crate::groups;
 use crate::outcome::Tally;
 use crate::states::{Group, State, states_of};
@@ -61,5 +62,7 @@ pub fn run(rt: &impl Print, alloc: Global) -> Result<()> {
     print_group(rt, alloc, "an update among three", groups::update(alloc)?)?;
     print_group(rt, alloc, "a removal among three", groups::removal(alloc)?)?;
     print_group(rt, alloc, "four adds", groups::four_adds(alloc)?)?;
+    let (members, number) = full(alloc)?;
+    println!(rt; "one more to {members} members: {number}")?;
     Ok(())
 }
