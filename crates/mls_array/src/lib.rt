@@ -36,7 +36,7 @@ pub use mls_hash::Hash;
 pub use order::{alternates, has_last, height_for, pad, pad_tree, to_nodes};
 pub use path::filtered_path;
 pub use places::{leaf_in, parent_in};
-pub use resolutions::{is_reached, resolution, resolution_at};
+pub use resolutions::{is_reached, is_reached_at, resolution, resolution_at};
 pub use sizes::{grow, trimmed};
 pub use validity::has_good_hashes;
 pub use way_hashes::merged_hashes;

@@ -1,9 +1,9 @@
 //! Resolutions: the nodes that together reach all members of a tree.
 
-ghost use Rattle.std.specs.Prelude.{◌≡◌, ℕ, ◌+◌, ◌^◌, ◌≤◌, ◌++◌, length, OnOk};
+ghost use Rattle.std.specs.Prelude.{◌≡◌, ℕ, ◌+◌, ◌^◌, ◌≤◌, ◌++◌, not, length, OnOk};
 ghost use Rattle.mls_treemath.specs.Paths.{nodes_in};
 ghost use Rattle.mls_term.specs.Sets.{leaf_numbers};
-ghost use Rattle.mls_term.specs.Resolution.{resolution, is_reached};
+ghost use Rattle.mls_term.specs.Resolution.{resolution, is_empty, is_reached};
 ghost use Rattle.mls_term.specs.Places.{resolution_at};
 ghost use Rattle.mls_term.specs.Arrays.{term_of};
 
@@ -104,5 +104,30 @@ pub fn is_reached(nodes: &[Slot], height: u32) -> bool
             let left = is_reached(&nodes[..middle], height - 1);
             left || is_reached(&nodes[middle + 1..], height - 1)
         }
+    }
+}
+
+/// Whether the resolution of node `x` isn't empty; where no node has that number it is.
+#[tactic(auto, using(mls_treemath::specs::Sizes::nodes_in_pos))]
+pub fn is_reached_at(nodes: &[Slot], height: u32, first: u32, x: u32) -> bool
+    requires shape { length nodes.now ≡ nodes_in height }
+    requires fits { first + 2 ^ height ≤ 2 ^ 31 }
+    ensures { result ≡ not (is_empty (resolution_at first (term_of height nodes.now) x)) }
+{
+    if height == 0 {
+        if x == 2 * first {
+            return is_reached(nodes, height);
+        }
+        return false;
+    }
+    let middle = middle_of(nodes.len(), height);
+    let root = 2 * first + middle as u32;
+    let second = first + (middle / 2 + 1) as u32;
+    if x == root {
+        is_reached(nodes, height)
+    } else if x < root {
+        is_reached_at(&nodes[..middle], height - 1, first, x)
+    } else {
+        is_reached_at(&nodes[middle + 1..], height - 1, second, x)
     }
 }

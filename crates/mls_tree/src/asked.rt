@@ -37,6 +37,10 @@ pub(crate) fn resolution(tree: &PublicTree, x: u32) -> Result<Vec<u64>, TreeErro
     Ok(tree.resolution(x)?)
 }
 
+pub(crate) fn is_reached(alloc: Global, tree: &PublicTree, x: u32) -> Result<Vec<u64>, TreeError> {
+    number(alloc, u64::from(tree.is_reached(x)))
+}
+
 /// The same numbers.
 fn wide(alloc: Global, numbers: &[u32]) -> Result<Vec<u64>, AllocError> {
     let mut list = Vec::new(alloc);

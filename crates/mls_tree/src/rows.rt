@@ -2,7 +2,7 @@
 //! test is one call over its rows, so that no proof of a test goes through many calls.
 
 use crate::asked::{
-    ciphertext_counts, counts, distinct, filtered_path, good, hashes_made, is_blank,
+    ciphertext_counts, counts, distinct, filtered_path, good, hashes_made, is_blank, is_reached,
     parent_hash_length, resolution, sent,
 };
 use crate::edited::{
@@ -50,6 +50,8 @@ pub(crate) enum Step {
     /// Whether no encryption key stands twice, and whether no signature key does.
     Distinct,
     Resolution(u32),
+    /// Whether this node's resolution isn't empty.
+    IsReached(u32),
     FilteredPath(u32),
     /// The ciphertexts of each node of this member's path, where these leaves were just added.
     Ciphertexts(u32, &'static [u32]),
@@ -98,6 +100,7 @@ fn answer(alloc: Global, tree: &mut Box<PublicTree>, step: Step) -> Result<Vec<u
         Step::Counts => counts(alloc, tree),
         Step::Distinct => distinct(alloc, tree),
         Step::Resolution(x) => resolution(tree, x),
+        Step::IsReached(x) => is_reached(alloc, tree, x),
         Step::FilteredPath(i) => filtered_path(alloc, tree, i),
         Step::Ciphertexts(i, added) => ciphertext_counts(alloc, tree, i, added),
         Step::IsBlank(x) => is_blank(alloc, tree, x),

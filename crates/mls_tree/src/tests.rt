@@ -1,6 +1,6 @@
 use crate::rows::Step::{
-    Add, Ciphertexts, Counts, Distinct, Fill, FilteredPath, Leaves, Remove, Resolution, Sent,
-    Single, Unmerged,
+    Add, Ciphertexts, Counts, Distinct, Fill, FilteredPath, IsReached, Leaves, Remove, Resolution,
+    Sent, Single, Unmerged,
 };
 use crate::rows::Told::{Done, Is, Refused};
 use crate::rows::{Row, met};
@@ -10,6 +10,9 @@ const UNMERGED_LEAVES: &[Row] = &[
     (Unmerged, Done),
     (Resolution(3), Is(&[0, 5, 6])),
     (Resolution(7), Is(&[])),
+    (IsReached(3), Is(&[1])),
+    (IsReached(2), Is(&[0])),
+    (IsReached(7), Is(&[0])),
 ];
 
 #[test]

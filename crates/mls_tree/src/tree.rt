@@ -1,10 +1,11 @@
 //! The public tree.
 
-ghost use Rattle.std.specs.Prelude.{◌≡◌, ◌<◌, ◌≤◌, ◌&&◌, [], Some, None, is_some, true, IfOk, OnOk, OnErr, MatchResult, length};
+ghost use Rattle.std.specs.Prelude.{◌≡◌, ◌<◌, ◌≤◌, ◌&&◌, not, [], Some, None, is_some, true, IfOk, OnOk, OnErr, MatchResult, length};
 ghost use Rattle.std.specs.Option.{option_copied};
 ghost use Rattle.mls_wire.specs.Checks.{Answers, DoesAs, require};
 ghost use Rattle.mls_term.specs.Term.{Leaf, has_leaf, leaf_of, width};
 ghost use Rattle.mls_term.specs.Places.{resolution_at};
+ghost use Rattle.mls_term.specs.Resolution.{is_empty};
 ghost use Rattle.mls_term.specs.Keys.{members};
 ghost use Rattle.mls_term.specs.Hashes.{tree_hash};
 ghost use Rattle.mls_term.specs.Arrays.{has_last, alternates, from_nodes, to_nodes, node_at};
@@ -181,6 +182,13 @@ impl PublicTree {
         let mut nodes = Vec::new(*self.nodes.allocator());
         array::resolution_at(&self.nodes, self.height, 0, x, &mut nodes)?;
         Ok(nodes)
+    }
+
+    /// Whether the resolution of node x isn't empty, so whether some member is below it.
+    pub fn is_reached(&self, x: u32) -> bool
+        ensures { result ≡ not (is_empty (resolution_at 0 (term self.now) x)) }
+    {
+        array::is_reached_at(&self.nodes, self.height, 0, x)
     }
 
     /// The filtered direct path of member i as node indices, the lowest first (RFC 9420, 4.1.2); `NoSuchLeaf` (22)

@@ -2,8 +2,8 @@ ghost use Rattle.std.specs.Prelude.{◌≡◌, IfOk, vec_len};
 ghost use Rattle.mls_treemath.specs.Paths.{nodes_in};
 
 use mls_array::{
-    alternates, filtered_path, first_blank, has_last, has_leaf, height_for, is_reached, leaf,
-    member_count, pad, resolution, resolution_at, to_nodes,
+    alternates, filtered_path, first_blank, has_last, has_leaf, height_for, is_reached,
+    is_reached_at, leaf, member_count, pad, resolution, resolution_at, to_nodes,
 };
 use mls_leaf::{Codec, LeafError, LeafNode, Node, ParentNode};
 use mls_slot::Slot;
@@ -55,6 +55,9 @@ fn resolutions_of_the_example(rt: HostRuntime) -> Result<(), Fail> {
     resolution_at(&nodes, 3, 0, 4, &mut out)?;
     resolution_at(&nodes, 3, 0, 15, &mut out)?;
     assert_eq!(rt; out.as_slice(), [3, 2].as_slice());
+    assert!(rt; is_reached_at(&nodes, 3, 0, 3));
+    assert!(rt; !is_reached_at(&nodes, 3, 0, 4));
+    assert!(rt; !is_reached_at(&nodes, 3, 0, 15));
     Ok(())
 }
 

@@ -18,20 +18,20 @@ use mls_tree::PublicTree;
 use std::alloc::Global;
 
 /// How many of these parents the filtered direct path takes in.
-fn filtered_count(tree: &PublicTree, places: &[Place]) -> Result<usize, OutOfMemory>
+fn filtered_count(tree: &PublicTree, places: &[Place]) -> usize
     requires low { length places.now ≤ 31 }
     requires placed { ArePlaced (term tree.now) places.now }
-    ensures count { IfOk result (λ n. n ≡ filtered_count (map (step_of (term tree.now)) places.now)) }
-    ensures few { IfOk result (λ n. n ≤ length places.now) }
+    ensures count { result ≡ filtered_count (map (step_of (term tree.now)) places.now) }
+    ensures few { result ≤ length places.now }
 {
     let Some((place, below)) = places.split_first() else {
-        return Ok(0);
+        return 0;
     };
-    let count = filtered_count(tree, below)?;
-    if is_filtered(tree, place)? {
-        return Ok(count + 1);
+    let count = filtered_count(tree, below);
+    if is_filtered(tree, place) {
+        return count + 1;
     }
-    Ok(count)
+    count
 }
 
 impl PathSecrets {
@@ -42,17 +42,16 @@ impl PathSecrets {
         tree: &PublicTree,
         places: &[Place],
         joiner: u32,
-    ) -> Result<Option<&Secret>, OutOfMemory>
+    ) -> Option<&Secret>
         requires low { length places.now ≤ 31 }
         requires placed { ArePlaced (term tree.now) places.now }
-        ensures { IfOk result (λ o. option_copied o ≡ secret_among (map (step_of (term tree.now)) places.now) joiner self.now.secrets.items) }
+        ensures { option_copied result ≡ secret_among (map (step_of (term tree.now)) places.now) joiner self.now.secrets.items }
     {
         let Some((place, below)) = places.split_first() else {
-            return Ok(None);
+            return None;
         };
         if place.is_beside(joiner) {
-            let count = filtered_count(tree, below)?;
-            return Ok(self.secrets.get(count));
+            return self.secrets.get(filtered_count(tree, below));
         }
         self.secret_over(tree, below, joiner)
     }
@@ -72,6 +71,6 @@ impl PathSecrets {
         ensures chain { IfOk result (λ o. IsSentOf (term tree.now) committer joiner self.now.secrets.items (option_copied o)) }
     {
         let places = parents_over(alloc, tree, committer)?;
-        self.secret_over(tree, &places, joiner)
+        Ok(self.secret_over(tree, &places, joiner))
     }
 }

@@ -58,11 +58,10 @@ fn open_secret<S: Suite>(
 }
 
 /// Whether the filtered direct path takes a parent in.
-pub(crate) fn is_filtered(tree: &PublicTree, place: &Place) -> Result<bool, OutOfMemory>
-    ensures { IfOk result (λ b. b ≡ not (is_empty (resolution_at 0 (term tree.now) place.now.beside))) }
+pub(crate) fn is_filtered(tree: &PublicTree, place: &Place) -> bool
+    ensures { result ≡ not (is_empty (resolution_at 0 (term tree.now) place.now.beside)) }
 {
-    let nodes = tree.resolution(place.beside)?;
-    Ok(!nodes.is_empty())
+    tree.is_reached(place.beside)
 }
 
 /// The nodes of the path below a parent.
@@ -212,7 +211,7 @@ impl PrivatePath {
         let Some((place, below)) = places.split_first() else {
             return Err(TreeKemError::OpenFailed);
         };
-        let is_filtered = is_filtered(tree, place)?;
+        let is_filtered = is_filtered(tree, place);
         if place.is_beside(self.leaf()) {
             let height = below.len() as u32;
             let climb = self.open_here::<S>(tree, place, height, added, path, context)?;

@@ -18,17 +18,17 @@ pub returns-then-is_beside : goal.returns-then-is_beside
 returns-then-is_beside g t c =
     beside_ok g.S.Suite.crypto c.args.context.now c.args.added.now (term c.args.tree.now) c.in-Some.place.now c.in-Some.below.now c.args.places.now c.in-Some.ensures.cases.0
     (first_placed _ _ _ _ c.in-Some.ensures.cases.0 c.requires.placed)
-    c.args.self.now c.args.path.now c.in_ok-is_filtered.is_filtered c.in_ok-is_filtered.ensures c.is_beside.result (is_beside_of _ _ _ _ _ c.leaf.ensures c.is_beside.ensures)
+    c.args.self.now c.args.path.now c.is_filtered-is_filtered.result c.is_filtered-is_filtered.ensures c.is_beside.result (is_beside_of _ _ _ _ _ c.leaf.ensures c.is_beside.ensures)
     c.in_ok-climb.climb _ c.if-is_beside.true
     (c.in_ok-climb.ensures (map (step_of (term c.args.tree.now)) c.in-Some.below.now) (length-map c.in-Some.below.now (step_of (term c.args.tree.now)))) c.past_parent.ensures
 
 pub returns-in_err-climb : goal.returns-in_err-climb
 returns-in_err-climb g t c =
-    let p = err_from_is_err_and c.from_residual-in_err-climb.result c.from_residual-in_err-climb.ensures.1 in
+    let p = err_from_is_err_and c.from_residual.result c.from_residual.ensures.1 in
     rw (p.1, p.2) (λ ne.
     beside_err g.S.Suite.crypto c.args.context.now c.args.added.now (term c.args.tree.now) c.in-Some.place.now c.in-Some.below.now c.args.places.now c.in-Some.ensures.cases.0
     (first_placed _ _ _ _ c.in-Some.ensures.cases.0 c.requires.placed)
-    c.args.self.now c.args.path.now c.in_ok-is_filtered.is_filtered c.in_ok-is_filtered.ensures c.is_beside.result (is_beside_of _ _ _ _ _ c.leaf.ensures c.is_beside.ensures)
+    c.args.self.now c.args.path.now c.is_filtered-is_filtered.result c.is_filtered-is_filtered.ensures c.is_beside.result (is_beside_of _ _ _ _ _ c.leaf.ensures c.is_beside.ensures)
     _ c.if-is_beside.true
     (c.in_err-climb.ensures (map (step_of (term c.args.tree.now)) c.in-Some.below.now) (length-map c.in-Some.below.now (step_of (term c.args.tree.now))) ne))
 
@@ -39,7 +39,7 @@ pub returns : goal.returns
 returns g t c =
     other_ok g.S.Suite.crypto c.args.context.now c.args.added.now (term c.args.tree.now) c.in-Some.place.now c.in-Some.below.now c.args.places.now c.in-Some.ensures.cases.0
     (first_placed _ _ _ _ c.in-Some.ensures.cases.0 c.requires.placed)
-    c.args.self.now c.args.path.now c.in_ok-is_filtered.is_filtered c.in_ok-is_filtered.ensures c.is_beside.result (is_beside_of _ _ _ _ _ c.leaf.ensures c.is_beside.ensures)
+    c.args.self.now c.args.path.now c.is_filtered-is_filtered.result c.is_filtered-is_filtered.ensures c.is_beside.result (is_beside_of _ _ _ _ _ c.leaf.ensures c.is_beside.ensures)
     c.nodes_below-rest.result.now c.nodes_below-rest.ensures c.in_ok-climb-2.climb _ c.if-is_beside.false c.in_ok-climb-2.ensures c.past_parent-2.ensures
 
 pub returns-in_err-climb-2 : goal.returns-in_err-climb-2
@@ -48,5 +48,5 @@ returns-in_err-climb-2 g t c =
     rw (p.1, p.2) (λ ne.
     other_err g.S.Suite.crypto c.args.context.now c.args.added.now (term c.args.tree.now) c.in-Some.place.now c.in-Some.below.now c.args.places.now c.in-Some.ensures.cases.0
     (first_placed _ _ _ _ c.in-Some.ensures.cases.0 c.requires.placed)
-    c.args.self.now c.args.path.now c.in_ok-is_filtered.is_filtered c.in_ok-is_filtered.ensures c.is_beside.result (is_beside_of _ _ _ _ _ c.leaf.ensures c.is_beside.ensures)
+    c.args.self.now c.args.path.now c.is_filtered-is_filtered.result c.is_filtered-is_filtered.ensures c.is_beside.result (is_beside_of _ _ _ _ _ c.leaf.ensures c.is_beside.ensures)
     c.nodes_below-rest.result.now c.nodes_below-rest.ensures _ c.if-is_beside.false (c.in_err-climb-2.ensures ne))
