@@ -1,4 +1,4 @@
--- A received commit's tree: the group's own with a path, or another.
+-- A received commit's tree: the group's own with a path, or the edited one, with a path or without.
 use Rattle.std.proofs.Common.{◌≡◌, ℕ, ◌==◌, true, List, [], ◌∷◌, length, Option, None, Ok, refl, sym, ◌∙◌, ap, subst, arith, eqb-true}
 use Rattle.mls_wire.specs.Laws.{ok_is}
 use Rattle.mls_leaf.specs.declared.leaf.LeafNode.{LeafNode}
@@ -17,17 +17,19 @@ use Rattle.mls_group.specs.declared.update_path.UpdatePath.{UpdatePath}
 use Rattle.mls_commit.specs.Changed.{change_of}
 use Rattle.mls_public_group.specs.NextTree.{next_term, is_merged, Follows}
 use Rattle.mls_public_group.specs.declared.next_tree.NextTree.{NextTree}
-use Rattle.mls_public_group.specs.declared.next_tree.NextTree.TheVariants.{Whole, Merged}
+use Rattle.mls_public_group.specs.declared.next_tree.NextTree.TheVariants.{Edited, EditedMerged, Merged}
 use Rattle.mls_laws.specs.Inversion.{edited_steps}
 
 pub next_alike : (s t : Term) (n : NextTree) → (is_merged n ≡ true → s ≡ t) → next_term s n ≡ next_term t n
 unfolding next_term
-next_alike s t (Whole u) same = refl
+next_alike s t (Edited u) same = refl
+next_alike s t (EditedMerged u p) same = refl
 next_alike s t (Merged p) same = ap (λ x. next_term x (Merged p)) (same refl)
 
 pub follows_alike : (s t : Term) (n : NextTree) → (is_merged n ≡ true → s ≡ t) → Follows s n → Follows t n
 unfolding Follows
-follows_alike s t (Whole u) same f = f
+follows_alike s t (Edited u) same f = f
+follows_alike s t (EditedMerged u p) same f = f
 follows_alike s t (Merged p) same f = subst (λ x. Follows x (Merged p)) (same refl) f
 
 -- without proposals the tree is the group's
@@ -49,19 +51,19 @@ pub prepared_follows : (s t : Term) (p : Prepared) → s ≡ t → IsFor s p →
 unfolding Follows
 prepared_follows s t p same is = subst (λ u. IsFor u p) same is
 
-pub whole_answer : (s t : Term) (u : Tree) (i : ℕ) (x : LeafNode) (keys : List (List ℕ)) → s ≡ t → merge_answer s i x keys ≡ Ok (term u) → merge_answer t i x keys ≡ Ok (next_term t (Whole u))
+pub edited_answer : (s t : Term) (u : Tree) (p : Prepared) (i : ℕ) (x : LeafNode) (keys : List (List ℕ)) → s ≡ t → term u ≡ s → merge_answer s i x keys ≡ Ok (merge_path s i x keys) → merged_by s p ≡ merge_path s i x keys → merge_answer t i x keys ≡ Ok (next_term t (EditedMerged u p))
 unfolding next_term
-whole_answer s t u i x keys same answer = subst (λ v. merge_answer v i x keys ≡ Ok (term u)) same answer
+edited_answer s t u p i x keys same is answer made = subst (λ v. merge_answer v i x keys ≡ Ok (merged_by (term u) p)) same (answer ∙ ap Ok (sym made ∙ ap (λ v. merged_by v p) (sym is)))
 
-pub whole_follows : (t : Term) (u : Tree) → Follows t (Whole u)
+pub edited_follows : (s t : Term) (u : Tree) (p : Prepared) → term u ≡ s → IsFor s p → Follows t (EditedMerged u p)
 unfolding Follows
-whole_follows t u = tt
+edited_follows s t u p is prepared = subst (λ v. IsFor v p) (sym is) prepared
 
-pub whole_is : (t : Term) (u : Tree) → next_term t (Whole u) ≡ term u
-unfolding next_term
-whole_is t u = refl
+pub edited_alone_follows : (t : Term) (u : Tree) → Follows t (Edited u)
+unfolding Follows
+edited_alone_follows t u = tt
 
-pub none_merged : (c : Crypto) (p : PublicState) (i : ℕ) (e : Edits) (path : Option UpdatePath) (u : Tree) → path ≡ None → term u ≡ e.tree → merged c p i e path ≡ Ok (next_term e.tree (Whole u))
+pub none_merged : (c : Crypto) (p : PublicState) (i : ℕ) (e : Edits) (path : Option UpdatePath) (u : Tree) → path ≡ None → term u ≡ e.tree → merged c p i e path ≡ Ok (next_term e.tree (Edited u))
 unfolding merged next_term
 none_merged c p i e path u none is = rw none (ap Ok (sym is))
 

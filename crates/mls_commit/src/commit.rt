@@ -48,7 +48,7 @@ fn merged<S: Suite>(
     ensures own { IfOk result (λ t. is_merged t ≡ true → is_own ≡ true) }
 {
     match path {
-        None => Ok(NextTree::Whole(edits.tree.as_tree().clone()?)),
+        None => Ok(NextTree::Edited(edits.tree.clone()?)),
         Some(path) => with_path::<S>(alloc, group, committer, edits, path, is_own),
     }
 }

@@ -81,8 +81,8 @@ fn has_fit_keys<S: Suite>(path: &UpdatePath) -> bool
             .all(|node| S::key_ok(node.encryption_key.as_slice()))
 }
 
-/// A path merged, where its keys differ and its leaf has the parent hash. Into the group's own tree, which has no edits, it
-/// isn't merged yet: it is prepared, and nothing is copied.
+/// A path that is to be merged, where its keys differ and its leaf has the parent hash: into the group's own tree, where
+/// there are no edits, and else into the one after them. It is prepared, and nothing is copied.
 fn merged_into(
     edits: &Edits,
     committer: u32,
@@ -95,13 +95,11 @@ fn merged_into(
     ensures own { IfOk result (λ t. is_merged t ≡ true → is_own ≡ true) }
 {
     let tree = edits.tree.as_tree();
+    let path = tree.prepare_path(committer, leaf, keys)?;
     if is_own {
-        let path = tree.prepare_path(committer, leaf, keys)?;
         return Ok(NextTree::Merged(path));
     }
-    let mut copy = tree.clone()?;
-    copy.merge_path(committer, leaf, keys)?;
-    Ok(NextTree::Whole(copy))
+    Ok(NextTree::EditedMerged(edits.tree.clone()?, path))
 }
 
 /// The tree after the edits with the committer's path merged, where these checks pass in this order: 22 no member is at

@@ -62,7 +62,6 @@ impl Received {
         ensures own { IfOk result (λ r. r.on_own ≡ is_merged tree) }
     {
         group.is_short();
-        let mut tree = tree;
         let hash = tree.tree_hash();
         let provisional = provisional_context(alloc, group.context(), &hash)?;
         let confirmed = group.transcript().confirm(1, said, signature);
@@ -76,8 +75,8 @@ impl Received {
     }
 
     /// Begins the next epoch in the group that the commit was received in, with its confirmation tag (RFC 9420, 8.2),
-    /// which has less than 2^30 bytes. A commit without proposals copies nothing of the tree. Without memory the group is
-    /// as before.
+    /// which has less than 2^30 bytes. Nothing of a tree is copied: the path is merged into the group's own where there are
+    /// no proposals, and else into the edited one, which becomes the group's. Without memory the group is as before.
     #[tactic(auto, unfolding(mls_model::specs::Commit::public_with))]
     pub fn enter(self, alloc: Global, group: &mut PublicGroup, tag: &[u8]) -> Result<(), AllocError>
         requires of { IsOf group.old.tree self }
@@ -92,7 +91,7 @@ impl Received {
             context,
             ..
         } = self;
-        // The group alone holds its tree then.
+        // What the path is merged into is held once then.
         drop(edits);
         let transcript = Transcript::interim(context.confirmed_transcript_hash.as_slice(), tag);
         group.enter(alloc, context, tree, transcript)?;

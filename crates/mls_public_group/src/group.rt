@@ -81,7 +81,7 @@ impl PublicGroup {
         ensures same { OnErr result (self.new ≡ self.old) }
     {
         let bytes = spelling(alloc, &context)?;
-        self.tree.enter(alloc, tree)?;
+        self.tree.enter(tree)?;
         self.context = context;
         self.bytes = bytes;
         self.transcript = transcript;

@@ -4,33 +4,33 @@ ghost use Rattle.std.specs.Prelude.{◌≡◌, OnOk, OnErr};
 ghost use Rattle.mls_term.specs.Term.{Term};
 ghost use Rattle.mls_term.specs.Hashes.{tree_hash};
 ghost use Rattle.mls_tree.specs.Tree.{term};
-ghost use Rattle.mls_public_group.specs.NextTree.{next_term, Follows, is_merged};
+ghost use Rattle.mls_public_group.specs.NextTree.{next_term, Follows};
 
 use crate::shared_tree::SharedTree;
-use mls_tree::{Hash, PreparedPath, PublicTree};
-use std::alloc::{AllocError, Global};
+use mls_tree::{Hash, PreparedPath};
+use std::alloc::AllocError;
 
-/// The ratchet tree of the next epoch: one that was made, or the group's own, with a commit's path that was prepared for
-/// it. The group's stays as it is until the epoch begins, and isn't copied for it.
+/// The ratchet tree of the next epoch. A commit's path is prepared for its tree and merged into it when the epoch begins, so
+/// that no tree is copied for it; until then the group's own tree stays as it is.
 #[derive(Drop)]
 pub enum NextTree {
     /// A tree of its own.
-    Whole(PublicTree),
-    /// The group's tree with this path merged.
+    Edited(SharedTree),
+    /// A tree of its own with this path merged, which was prepared for it.
+    EditedMerged(SharedTree, PreparedPath),
+    /// The group's tree with this path merged, which was prepared for it.
     Merged(PreparedPath),
 }
 
 impl NextTree {
     /// The tree hash (RFC 9420, 7.8).
     #[tactic(auto, unfolding(crate::specs::NextTree::next_term, crate::specs::NextTree::Follows))]
-    pub fn tree_hash(&mut self) -> Hash
-        ensures value { (t : Term) → Follows t self.old → result ≡ tree_hash 0 (next_term t self.old) }
-        ensures same { (t : Term) → next_term t self.new ≡ next_term t self.old }
-        ensures fits { (t : Term) → Follows t self.old → Follows t self.new }
-        ensures kind { is_merged self.new ≡ is_merged self.old }
+    pub fn tree_hash(&self) -> Hash
+        ensures { (t : Term) → Follows t self.now → result ≡ tree_hash 0 (next_term t self.now) }
     {
         match self {
-            NextTree::Whole(tree) => tree.tree_hash(),
+            NextTree::Edited(tree) => tree.tree_hash(),
+            NextTree::EditedMerged(_, path) => path.tree_hash(),
             NextTree::Merged(path) => path.tree_hash(),
         }
     }
@@ -39,13 +39,17 @@ impl NextTree {
 impl SharedTree {
     /// Becomes the next epoch's tree. Without memory it is as before.
     #[tactic(auto, unfolding(crate::specs::NextTree::next_term, crate::specs::NextTree::Follows))]
-    pub(crate) fn enter(&mut self, alloc: Global, next: NextTree) -> Result<(), AllocError>
+    pub(crate) fn enter(&mut self, next: NextTree) -> Result<(), AllocError>
         requires { Follows (term self.old) next }
         ensures next { OnOk result (term self.new ≡ next_term (term self.old) next) }
         ensures same { OnErr result (term self.new ≡ term self.old) }
     {
         match next {
-            NextTree::Whole(tree) => *self = SharedTree::new(alloc, tree)?,
+            NextTree::Edited(tree) => *self = tree,
+            NextTree::EditedMerged(mut tree, path) => {
+                tree.follow_path(path)?;
+                *self = tree;
+            }
             NextTree::Merged(path) => self.follow_path(path)?,
         }
         Ok(())

@@ -1,11 +1,12 @@
 //! A ratchet tree that groups and edits share.
 
 ghost use Rattle.std.specs.Prelude.{◌≡◌, IfOk, OnOk, OnErr};
+ghost use Rattle.mls_term.specs.Hashes.{tree_hash};
 ghost use Rattle.mls_array.specs.Kept.{hashes_of};
 ghost use Rattle.mls_tree.specs.Prepared.{merged_by, IsFor};
 ghost use Rattle.mls_tree.specs.Tree.{term};
 
-use mls_tree::{PreparedPath, PublicTree};
+use mls_tree::{Hash, PreparedPath, PublicTree};
 use std::alloc::{AllocError, Global};
 use std::marker::Model;
 use std::rc::Rc;
@@ -15,10 +16,13 @@ use std::rc::Rc;
 #[derive(Drop)]
 pub struct SharedTree {
     tree: Rc<PublicTree>,
+    // Its tree hash.
+    hash: Hash,
 }
 
 impl Model for SharedTree {
     ghost use Rattle.std.specs.Prelude.{◌≡◌};
+    ghost use Rattle.mls_term.specs.Hashes.{tree_hash};
     ghost use Rattle.mls_array.specs.Kept.{hashes_of};
     ghost use Rattle.mls_tree.specs.Tree.{Tree, term};
 
@@ -26,7 +30,7 @@ impl Model for SharedTree {
 
     ghost view = { λ s. s.tree.value };
 
-    ghost invariant = { λ s. s.tree.value.kept ≡ hashes_of 0 (term s.tree.value) };
+    ghost invariant = { λ s. (s.tree.value.kept ≡ hashes_of 0 (term s.tree.value)) × (s.hash ≡ tree_hash 0 (term s.tree.value)) };
 }
 
 impl SharedTree {
@@ -35,9 +39,9 @@ impl SharedTree {
         ensures { IfOk result (λ s. term s ≡ term tree) }
     {
         let mut tree = tree;
-        let _tree_hash = tree.tree_hash();
+        let hash = tree.tree_hash();
         match Rc::new(alloc, tree) {
-            Ok(tree) => Ok(SharedTree { tree }),
+            Ok(tree) => Ok(SharedTree { tree, hash }),
             // Want of memory: the place behind the pointer, which fails for nothing else.
             Err(_) => Err(AllocError),
         }
@@ -51,6 +55,13 @@ impl SharedTree {
         self.tree.as_ref()
     }
 
+    /// The tree hash (RFC 9420, 7.8).
+    pub fn tree_hash(&self) -> Hash
+        ensures { result ≡ tree_hash 0 (term self.now) }
+    {
+        self.hash
+    }
+
     /// Merges a path that was prepared for this tree. It is copied first where it is shared; elsewhere nothing of it is.
     /// Without memory it is as before.
     pub fn follow_path(&mut self, path: PreparedPath) -> Result<(), AllocError>
@@ -58,8 +69,11 @@ impl SharedTree {
         ensures tree { OnOk result (term self.new ≡ merged_by (term self.old) path) }
         ensures same { OnErr result (term self.new ≡ term self.old) }
     {
+        let hash = path.tree_hash();
         let tree = Rc::make_mut(&mut self.tree)?;
-        tree.follow_path(path)
+        tree.follow_path(path)?;
+        self.hash = hash;
+        Ok(())
     }
 }
 
@@ -69,6 +83,7 @@ impl Clone for SharedTree {
     fn clone(&self) -> Result<SharedTree, AllocError> {
         Ok(SharedTree {
             tree: self.tree.clone()?,
+            hash: self.hash,
         })
     }
 }
