@@ -37,12 +37,7 @@ fn filtered_count(tree: &PublicTree, places: &[Place]) -> usize
 impl PathSecrets {
     /// The secret of the parent with leaf `joiner` beside it, among these, which are highest first: None where there is
     /// no such parent.
-    fn secret_over(
-        &self,
-        tree: &PublicTree,
-        places: &[Place],
-        joiner: u32,
-    ) -> Option<&Secret>
+    fn secret_over(&self, tree: &PublicTree, places: &[Place], joiner: u32) -> Option<&Secret>
         requires low { length places.now ≤ 31 }
         requires placed { ArePlaced (term tree.now) places.now }
         ensures { option_copied result ≡ secret_among (map (step_of (term tree.now)) places.now) joiner self.now.secrets.items }
