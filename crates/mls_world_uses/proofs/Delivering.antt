@@ -153,10 +153,10 @@ delivered_to c w place d k s source h made home r b = by_maker r.can
   where
     by_accepts : (x : Bool) → is_removed s d ≡ x → Accepts c w k s source d → FollowsOrLeaves (step c w (Deliver k source)).1 d k s
     by_accepts true e x = let l = x.removed e in inr (e, record { seat = l.after; is = l.is_after; gone = l.gone })
-    by_accepts false e x = let f = x.follows e in inl (record { seat = f.after; active = f.is_after; journal = f.journal ∙ ap (λ j. with_entry j d.entry) r.journal; epoch = f.epoch })
+    by_accepts false e x = let f = x.follows e in inl (inr e, record { seat = f.after; active = f.is_after; journal = f.journal ∙ ap (λ j. with_entry j d.entry) r.journal; epoch = f.epoch })
 
     by_maker : CanFollow k s d → FollowsOrLeaves (step c w (Deliver k source)).1 d k s
-    by_maker (inl own) = inl (own_delivery c w place d k s source h made r.active r.journal own.0 own.1 b)
+    by_maker (inl own) = inl (inl own.0, own_delivery c w place d k s source h made r.active r.journal own.0 own.1 b)
     by_maker (inr other) = by_accepts (is_removed s d) refl (h.accepted place k d s source made home r.active other.0 r.journal other.1 b)
 
 joined_to : (c : Crypto) (w : World) (place : ℕ) (d : CommitMade) (n : ℕ) (e : Entrant) (source : Source) → Headline c w → slice_get w.made place ≡ Some d → IsAdded w n e d → IsWelcomeFor w d e source → Joins c w n source d
@@ -171,7 +171,7 @@ next_on : (w v : World) (d : CommitMade) (k : ℕ) → slice_get v.seats k ≡ s
 next_on w v d k e x = record { seat = x.seat; active = record { is = e ∙ x.active.is; active = x.active.active }; journal = x.journal; epoch = x.epoch }
 
 outcome_on : (w v : World) (d : CommitMade) (k : ℕ) (s : Seat) → slice_get v.seats k ≡ slice_get w.seats k → FollowsOrLeaves w d k s → FollowsOrLeaves v d k s
-outcome_on w v d k s e (inl x) = inl (next_on w v d k e x)
+outcome_on w v d k s e (inl x) = inl (x.0, next_on w v d k e x.1)
 outcome_on w v d k s e (inr x) = inr (x.0, record { seat = x.1.seat; is = e ∙ x.1.is; gone = x.1.gone })
 
 -- ---- a list of events
@@ -319,7 +319,7 @@ all_agree c w events h d x =
         (ap (λ (t : Seat). t.journal) (sym one) ∙ n.journal, ap (λ (t : Seat). t.member.epoch) (sym one) ∙ n.epoch)
 
     by_outcome : (k : ℕ) (s t : Seat) → IsActive v k s → FollowsOrLeaves v d k t → (s.journal ≡ with_entry d.journal d.entry) × (s.member.epoch ≡ d.epoch)
-    by_outcome k s t a (inl n) = at_next k s a n
+    by_outcome k s t a (inl n) = at_next k s a n.1
     by_outcome k s t a (inr g) =
         let one : g.1.seat ≡ s = one_there (slice_get v.seats k) g.1.seat s g.1.is a.is in
         absurd (true≢false (sym g.1.gone ∙ ap (λ (y : Seat). y.member.gone) one ∙ a.active))
