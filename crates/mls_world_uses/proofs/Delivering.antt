@@ -1,24 +1,25 @@
 -- A commit and its Welcome, delivered event by event: from what the headline says of the world that each event finds.
-use Rattle.std.proofs.Common.{◌≡◌, ℕ, zero, suc, ◌+◌, ◌<◌, ◌≤◌, ◌==◌, Bool, true, false, List, [], ◌∷◌, length, take, Option, Some, Ok, Result, refl, sym, ap, subst, ◌∙◌, ◌⊎◌, inl, inr, slice_get, arith, eqb-true, true≢false}
-use Rattle.std.specs.Prelude.{◌≢◌}
+use Rattle.std.proofs.Common.{◌≡◌, ℕ, zero, suc, ◌+◌, ◌<◌, ◌≤◌, ◌==◌, Bool, true, false, List, [], ◌∷◌, length, Option, Some, Result, Ok, Err, refl, sym, ap, subst, ◌∙◌, ◌⊎◌, inl, inr, slice_get, arith, eqb-true, true≢false}
+use Rattle.std.specs.Prelude.{◌≢◌, IfOk}
 use Rattle.std.specs.List.{AllByRecursion}
 use Rattle.std.proofs.lemmas.Bool.{eqb-false}
 use Rattle.std.proofs.lemmas.List.{take_all}
-use Rattle.mls_wire.specs.Checks.{given}
 use Rattle.mls_suite.specs.Crypto.{Crypto}
 use Rattle.mls_model.specs.declared.event.Event.{Event}
 use Rattle.mls_model.specs.declared.event.Event.TheVariants as event
 use Rattle.mls_model.specs.declared.event.Event.TheVariants.{Deliver, Join}
 use Rattle.mls_model.specs.declared.event.Source.{Source}
 use Rattle.mls_model.specs.declared.event.Source.TheVariants.{Given, Message}
-use Rattle.mls_model.specs.Agreement.{Agree, AgreeSecret, Keeps}
+use Rattle.mls_model.specs.declared.event.Reply.{Reply}
+use Rattle.mls_model.specs.Answers.{Runs}
+use Rattle.mls_model.specs.Agreement.{AgreeSecret, Keeps}
 use Rattle.mls_model.specs.CommitLaws.{names_are_held}
 use Rattle.mls_model.specs.Headline.{IsActive, IsAdded, is_removed, Accepts, Joins, KeepsOthers, KeepsMembers, FollowsPending, Headline, HoldsAlong}
-use Rattle.mls_model.specs.Journal.{Entry, CommitMade, with_entry, names_in, list_in, entry_of, is_homemade}
+use Rattle.mls_model.specs.Journal.{Entry, CommitMade, with_entry, list_in, entry_of, is_homemade}
 use Rattle.mls_model.specs.Member.{Member}
 use Rattle.mls_model.specs.Run.{step, run}
 use Rattle.mls_model.specs.World.{World, Entrant, Seat, bytes_of, made_for}
-use Rattle.mls_world_uses.specs.Deliveries.{HasPending, CanFollow, IsReceiver, IsWelcomeFor, IsDelivery, AreApart, EachOnce, Delivers, IsNext, IsGone, FollowsOrLeaves, IsDeliveredTo, TookPart, joined_by, joins_in, AllAgree, CommitsReachAll}
+use Rattle.mls_world_uses.specs.Deliveries.{HasPending, CanFollow, IsReceiver, IsWelcomeFor, IsDelivery, AreApart, EachOnce, IsNext, FollowsOrLeaves, TookPart, joins_in, CommitsReachAll}
 
 -- ---- lists
 
@@ -51,7 +52,7 @@ equal_or_apart i j false e = inr (eqb-false i j e)
 
 bytes_alike : (w v : World) (source : Source) → v.messages ≡ w.messages → bytes_of v source ≡ bytes_of w source
 bytes_alike w v (Given given) e = refl
-bytes_alike w v (Message n) e = ap (λ (ms : List (List ℕ)). given 94 (slice_get ms n)) e
+bytes_alike w v (Message n) e = ap (λ (ms : List (List ℕ)). bytes_of (record w { messages = ms }) (Message n)) e
 
 receiver_alike : (w v : World) (d : CommitMade) (k : ℕ) (s : Seat) → slice_get v.seats k ≡ slice_get w.seats k → IsReceiver w d k s → IsReceiver v d k s
 receiver_alike w v d k s e r = record { active = record { is = e ∙ r.active.is; active = r.active.active }; journal = r.journal; can = r.can }
@@ -152,10 +153,10 @@ delivered_to c w place d k s source h made home r b = by_maker r.can
   where
     by_accepts : (x : Bool) → is_removed s d ≡ x → Accepts c w k s source d → FollowsOrLeaves (step c w (Deliver k source)).1 d k s
     by_accepts true e x = let l = x.removed e in inr (e, record { seat = l.after; is = l.is_after; gone = l.gone })
-    by_accepts false e x = let f = x.follows e in inl (record { seat = f.after; active = f.is_after; journal = f.journal ∙ ap (λ j. with_entry j d.entry) r.journal; epoch = f.epoch })
+    by_accepts false e x = let f = x.follows e in inl (inr e, record { seat = f.after; active = f.is_after; journal = f.journal ∙ ap (λ j. with_entry j d.entry) r.journal; epoch = f.epoch })
 
     by_maker : CanFollow k s d → FollowsOrLeaves (step c w (Deliver k source)).1 d k s
-    by_maker (inl own) = inl (own_delivery c w place d k s source h made r.active r.journal own.0 own.1 b)
+    by_maker (inl own) = inl (inl own.0, own_delivery c w place d k s source h made r.active r.journal own.0 own.1 b)
     by_maker (inr other) = by_accepts (is_removed s d) refl (h.accepted place k d s source made home r.active other.0 r.journal other.1 b)
 
 joined_to : (c : Crypto) (w : World) (place : ℕ) (d : CommitMade) (n : ℕ) (e : Entrant) (source : Source) → Headline c w → slice_get w.made place ≡ Some d → IsAdded w n e d → IsWelcomeFor w d e source → Joins c w n source d
@@ -170,7 +171,7 @@ next_on : (w v : World) (d : CommitMade) (k : ℕ) → slice_get v.seats k ≡ s
 next_on w v d k e x = record { seat = x.seat; active = record { is = e ∙ x.active.is; active = x.active.active }; journal = x.journal; epoch = x.epoch }
 
 outcome_on : (w v : World) (d : CommitMade) (k : ℕ) (s : Seat) → slice_get v.seats k ≡ slice_get w.seats k → FollowsOrLeaves w d k s → FollowsOrLeaves v d k s
-outcome_on w v d k s e (inl x) = inl (next_on w v d k e x)
+outcome_on w v d k s e (inl x) = inl (x.0, next_on w v d k e x.1)
 outcome_on w v d k s e (inr x) = inr (x.0, record { seat = x.1.seat; is = e ∙ x.1.is; gone = x.1.gone })
 
 -- ---- a list of events
@@ -263,8 +264,8 @@ progress c d place (Deliver k source ∷ es) w made home h each once =
     let o : KeepsOthers w u k = now.delivered k source in
     let did : FollowsOrLeaves u d k x.0.0 = delivered_to c w place d k x.0.0 source now made home x.0.1 x.1 in
     let rest : Progress u (run c u es) d es = progress c d place es u
-        (ap (λ (m : List CommitMade). slice_get m place) o.made ∙ made) (ap (λ (m : List CommitMade). is_homemade m d.journal) o.made ∙ home) (holds_on c w (Deliver k source) es h)
-        (all_both (IsDelivery w d) (AreApart (Deliver k source)) (IsDelivery u d) (delivery_on w u d k source o) es each.1 once.0) once.1 in
+    (ap (λ (m : List CommitMade). slice_get m place) o.made ∙ made) (ap (λ (m : List CommitMade). is_homemade m d.journal) o.made ∙ home) (holds_on c w (Deliver k source) es h)
+    (all_both (IsDelivery w d) (AreApart (Deliver k source)) (IsDelivery u d) (delivery_on w u d k source o) es each.1 once.0) once.1 in
     after_delivery w u (run c u es) d k x.0.0 source es o x.0.1.active did once.0 rest
 progress c d place (Join n source ∷ es) w made home h each once =
     let x = each.0 in
@@ -274,8 +275,8 @@ progress c d place (Join n source ∷ es) w made home h each once =
     let j : Joins c w n source d = joined_to c w place d n x.0 source now made x.1 x.2 in
     let did : IsNext u d (length w.seats) = record { seat = j.after; active = j.is_after; journal = j.journal; epoch = j.epoch } in
     let rest : Progress u (run c u es) d es = progress c d place es u
-        (ap (λ (m : List CommitMade). slice_get m place) o.made ∙ made) (ap (λ (m : List CommitMade). is_homemade m d.journal) o.made ∙ home) (holds_on c w (Join n source) es h)
-        (all_both (IsDelivery w d) (AreApart (Join n source)) (IsDelivery u d) (join_on w u d n source o) es each.1 once.0) once.1 in
+    (ap (λ (m : List CommitMade). slice_get m place) o.made ∙ made) (ap (λ (m : List CommitMade). is_homemade m d.journal) o.made ∙ home) (holds_on c w (Join n source) es h)
+    (all_both (IsDelivery w d) (AreApart (Join n source)) (IsDelivery u d) (join_on w u d n source o) es each.1 once.0) once.1 in
     after_join w u (run c u es) d n source es o j.one_more did each.1 rest
 progress c d place (event.Candidate identity seed ∷ es) w made home h each once = absurd each.0
 progress c d place (event.Create n group seed ∷ es) w made home h each once = absurd each.0
@@ -318,7 +319,7 @@ all_agree c w events h d x =
         (ap (λ (t : Seat). t.journal) (sym one) ∙ n.journal, ap (λ (t : Seat). t.member.epoch) (sym one) ∙ n.epoch)
 
     by_outcome : (k : ℕ) (s t : Seat) → IsActive v k s → FollowsOrLeaves v d k t → (s.journal ≡ with_entry d.journal d.entry) × (s.member.epoch ≡ d.epoch)
-    by_outcome k s t a (inl n) = at_next k s a n
+    by_outcome k s t a (inl n) = at_next k s a n.1
     by_outcome k s t a (inr g) =
         let one : g.1.seat ≡ s = one_there (slice_get v.seats k) g.1.seat s g.1.is a.is in
         absurd (true≢false (sym g.1.gone ∙ ap (λ (y : Seat). y.member.gone) one ∙ a.active))
@@ -329,5 +330,10 @@ all_agree c w events h d x =
         by_outcome k s r.0.0 a (p.receivers k to.place to.source r.0.0 to.is r.0.1.active.is)
     where_it_stands k s (inr new) a = at_next k s a (p.joiners k new (get_below v.seats k s a.is))
 
-pub commits_reach_all : (c : Crypto) (w v : World) (events : List Event) → HoldsAlong c w events → v ≡ run c w events → CommitsReachAll w events v
+commits_reach_all : (c : Crypto) (w v : World) (events : List Event) → HoldsAlong c w events → v ≡ run c w events → CommitsReachAll w events v
 commits_reach_all c w v events h is = subst (CommitsReachAll w events) (sym is) (all_agree c w events h)
+
+-- by what `run` promises of a list of events: all ran, or memory ran out
+pub reach_if_all_ran : {E : Type 0} (c : Crypto) (w v : World) (events : List Event) (before after : List Reply) (r : Result (Unit {0}) E) → HoldsAlong c w events → Runs c events w v before after r → IfOk r (λ (x : Unit {0}). CommitsReachAll w events v)
+reach_if_all_ran c w v events before after (Ok x) h ran = commits_reach_all c w v events h ran.0
+reach_if_all_ran c w v events before after (Err e) h ran = tt

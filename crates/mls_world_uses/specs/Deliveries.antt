@@ -1,6 +1,6 @@
 -- A commit and its Welcome, delivered in a world: whom they are for, and what these hold afterwards (RFC 9420, 12.4.2 and
 -- 12.4.3.1).
-use Rattle.std.specs.Prelude.{◌≡◌, ◌≢◌, ◌⊎◌, ℕ, ◌+◌, ◌<◌, ◌≤◌, true, List, [], ◌∷◌, length, slice_get, Some, Ok}
+use Rattle.std.specs.Prelude.{◌≡◌, ◌≢◌, ◌⊎◌, ℕ, ◌+◌, ◌<◌, ◌≤◌, true, false, List, [], ◌∷◌, length, slice_get, Some, Ok}
 use Rattle.std.specs.List.{AllByRecursion}
 use Rattle.mls_model.specs.declared.event.Event.{Event}
 use Rattle.mls_model.specs.declared.event.Event.TheVariants.{Deliver, Join}
@@ -78,9 +78,13 @@ pub record IsGone (v : World) (k : ℕ) : Type 0 where
   pub is : slice_get v.seats k ≡ Some seat
   pub gone : seat.member.gone ≡ true
 
--- a member follows the commit, or the commit removes it
+-- a member stays where it made the commit, or the commit doesn't remove it
+abbrev pub Stays : CommitMade → ℕ → Seat → Type 0
+Stays d k s = (k ≡ d.maker) ⊎ (is_removed s d ≡ false)
+
+-- a member that stays follows the commit; another is removed by it
 abbrev pub FollowsOrLeaves : World → CommitMade → ℕ → Seat → Type 0
-FollowsOrLeaves v d k s = IsNext v d k ⊎ ((is_removed s d ≡ true) × IsGone v k)
+FollowsOrLeaves v d k s = (Stays d k s × IsNext v d k) ⊎ ((is_removed s d ≡ true) × IsGone v k)
 
 -- the commit was delivered to member k
 pub record IsDeliveredTo (events : List Event) (k : ℕ) : Type 0 where

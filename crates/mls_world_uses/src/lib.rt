@@ -15,7 +15,6 @@ mod rows;
 mod script;
 
 pub use deliveries::deliver_commit;
-
 use mls_model::{Event, Reply};
 use mls_suite::{OutOfMemory, Suite};
 use mls_world::World;

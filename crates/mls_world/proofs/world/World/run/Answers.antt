@@ -1,3 +1,6 @@
+use Rattle.std.proofs.Common.{◌≡◌, subst}
+use Rattle.mls_model.specs.Headline.{HoldsAlong}
+use Rattle.mls_model.specs.World.{World}
 use Rattle.mls_runs.specs.Reachable.{headline_of_reachable}
 use Rattle.mls_world.proofs.Reaching.{reached_by_run, holds_along}
 use Rattle.mls_world.proofs.world.World.run.Goals as goal
@@ -14,4 +17,6 @@ returns-clause-headline g c =
     c.self.invariant c.know_events.ensures c.push_replies.ensures)
 
 pub returns-clause-along : goal.returns-clause-along
-returns-clause-along g c = holds_along g.S.Suite.crypto g.met.S.Suite.lawful c.args.events.now c.self.inside.world c.self.invariant c.know_events.ensures
+returns-clause-along g c =
+    let same : c.self.inside.world ≡ c.args.self.now = cc in
+    subst (λ (w : World). HoldsAlong g.S.Suite.crypto w c.args.events.now) same (holds_along g.S.Suite.crypto g.met.S.Suite.lawful c.args.events.now c.self.inside.world c.self.invariant c.know_events.ensures)
