@@ -28,8 +28,8 @@ impl<S: Suite> Member<S> {
     /// The member that a Welcome makes of a candidate, or the first check that fails (RFC 9420, 12.4.3.1).
     pub fn join(alloc: Global, candidate: &Candidate<S>, bytes: &[u8]) -> Result<Joined<S>, Refusal>
         ensures answer { Answers joined_as number_of (join_verdict S.crypto candidate.now bytes.now) result }
-        // Decoding and 70 come whatever memory there is.
-        ensures outright { RefusesOutright number_of (outer_checks bytes.now) result }
+        // Decoding, 70 and 71 of the Welcome come also when an allocation fails.
+        ensures outright { RefusesOutright number_of (outer_checks S.crypto.number bytes.now) result }
     {
         let Entrance {
             group,
