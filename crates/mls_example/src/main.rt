@@ -14,8 +14,7 @@ use std::alloc::Global;
 fn addition(candidate: &Candidate<Glass>) -> Result<Item>
     ensures { IfOk result IsShortItem }
 {
-    candidate.addition_is_short();
-    Ok(Item::Full(Proposal::Add(candidate.key_package().clone()?)))
+    Ok(Item::Full(candidate.addition()?))
 }
 
 /// The proposal that removes the member at a leaf.
