@@ -12,7 +12,8 @@ use Rattle.mls_leaf.specs.declared.key_package.KeyPackage.{KeyPackage}
 use Rattle.mls_leaf.specs.declared.proposal.Proposal.TheVariants.{Add}
 use Rattle.mls_types.specs.Message.{mls_message}
 use Rattle.mls_model.specs.Candidate.{package_message}
-use Rattle.mls_public_group.specs.Short.{IsBelow, IsShortProposal}
+use Rattle.mls_public_group.specs.Short.{IsBelow}
+use Rattle.mls_public_group.specs.ShortProposal.{IsShortProposal}
 use Rattle.mls_candidate.specs.Short.{IsShortPackage}
 use Rattle.mls_candidate.specs.LeafLaws.{owner_in}
 use Rattle.mls_public_group.specs.Lengths.{opaque_most}

@@ -36,8 +36,9 @@ use Rattle.mls_view.specs.declared.message.MessageView.TheVariants as views
 use Rattle.mls_view.specs.declared.public_message.PublicMessageView.{PublicMessageView}
 use Rattle.mls_view.specs.Shown.{Shows, ShowsPublic, ShowsContent}
 use Rattle.mls_view.specs.Views.{LendsAll}
-use Rattle.mls_public_group.specs.Short.{IsBelow, IsShortProposal}
-use Rattle.mls_public_group.specs.ShortLaws.{short_parts}
+use Rattle.mls_public_group.specs.Short.{IsBelow}
+use Rattle.mls_public_group.specs.ShortProposal.{IsShortProposal}
+use Rattle.mls_public_group.proofs.ShortProposal.{short_parts}
 use Rattle.mls_model.specs.Messages.{decoded, reference_of}
 use Rattle.mls_model.specs.World.{if_proposal}
 use Rattle.mls_model.specs.Journal.{list_in, list_of_body, list_of_message}

@@ -8,7 +8,7 @@ use Rattle.mls_model.specs.declared.item.Item.TheVariants as item
 use Rattle.mls_model.specs.Join as model
 use Rattle.mls_model.specs.Member.{Member}
 use Rattle.mls_model.specs.Sharing.{ReachesGroup}
-use Rattle.mls_public_group.specs.Short.{IsShortProposal}
+use Rattle.mls_public_group.specs.ShortProposal.{IsShortProposal}
 use Rattle.mls_member.specs.declared.commit.Made.{Made}
 use Rattle.mls_member.specs.declared.join.Joined.{Joined}
 

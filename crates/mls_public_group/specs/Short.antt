@@ -1,12 +1,9 @@
 -- How long the parts of a group are.
-use Rattle.std.specs.Prelude.{ℕ, ◌-◌, ◌<◌, ◌^◌, List, length, IfSome}
+use Rattle.std.specs.Prelude.{ℕ, ◌<◌, ◌^◌, List, length, IfSome}
 use Rattle.std.specs.List.{AllByRecursion}
 use Rattle.mls_wire.specs.Format.{Format}
-use Rattle.mls_leaf.specs.KeyPackage.{key_package}
 use Rattle.mls_leaf.specs.Leaf.{leaf_node}
 use Rattle.mls_leaf.specs.Proposal.{proposal}
-use Rattle.mls_leaf.specs.declared.proposal.Proposal.{Proposal}
-use Rattle.mls_leaf.specs.declared.proposal.Proposal.TheVariants.{Add, Update, Remove}
 use Rattle.mls_group.specs.declared.group_context.GroupContext.{GroupContext}
 use Rattle.mls_term.specs.Term.{Term, leaf_of}
 use Rattle.mls_model.specs.Public.{Used}
@@ -23,13 +20,6 @@ HasLeavesBelow n t = (i : ℕ) → IfSome (leaf_of t i) (λ v. IsBelow n leaf_no
 -- each proposal encodes to fewer than n bytes
 abbrev pub AreBelow : ℕ → List Used → Type 0
 AreBelow n used = AllByRecursion (λ (u : Used). IsBelow n proposal u.proposal) used
-
--- the KeyPackage of an add and the leaf of an update encode, with the two bytes of the proposal's type, to fewer than 2^28
--- bytes; of a removal, which has six, nothing is asked
-abbrev pub IsShortProposal : Proposal → Type 0
-IsShortProposal (Add offered) = IsBelow (2 ^ 28 - 2) key_package offered
-IsShortProposal (Update leaf) = IsBelow (2 ^ 28 - 2) leaf_node leaf
-IsShortProposal (Remove leaf) = Unit {0}
 
 -- a context each of whose texts has fewer than 2^28 bytes, and whose numbers have 16 and 64 bits: it has a spelling, of
 -- fewer than 2^30 bytes

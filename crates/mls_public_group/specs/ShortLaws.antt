@@ -1,5 +1,5 @@
 -- What short contexts and proposals have.
-use Rattle.std.proofs.Common.{◌≡◌, ℕ, ◌-◌, ◌<◌, ◌≤◌, ◌^◌, List, [], ◌∷◌, ◌++◌, length, ap, arith, lit<, length-append, ◌+◌}
+use Rattle.std.proofs.Common.{◌≡◌, ℕ, ◌<◌, ◌≤◌, ◌^◌, List, [], ◌∷◌, ◌++◌, length, ap, arith, length-append, ◌+◌}
 use Rattle.std.specs.Int.{w16}
 use Rattle.std.specs.List.{cons_option, AllByRecursion}
 use Rattle.mls_wire.specs.Format.{Format}
@@ -20,8 +20,8 @@ use Rattle.mls_term.specs.Term.{Term}
 use Rattle.mls_checks.specs.Short.{IsShort}
 use Rattle.mls_model.specs.Public.{Used, provisional_context}
 use Rattle.mls_model.specs.Proposals.{update_in, add_in, updates, adds}
-use Rattle.mls_public_group.specs.Short.{AreBelow, IsBelow, IsShortContext, IsShortProposal}
-use Rattle.mls_public_group.specs.Lengths.{context_length, length-uint16}
+use Rattle.mls_public_group.specs.Short.{AreBelow, IsBelow, IsShortContext}
+use Rattle.mls_public_group.specs.Lengths.{context_length}
 
 -- a short context has a spelling
 pub context_fits : (context : GroupContext) → IsShortContext context → group_context.Fits context
@@ -76,27 +76,6 @@ module _ (n : ℕ) where
       inside : (a b c d e f whole : List ℕ) → whole ≡ (a ++ b ++ c ++ d ++ e) ++ f → length whole < n → length d < n
       inside a b c d e f whole is lt =
           omega (arith, ap length is, length-append (a ++ b ++ c ++ d ++ e) f, length-append (a ++ b ++ c ++ d) e, length-append (a ++ b ++ c) d)
-
--- ---- of a proposal by its parts
-
-pub add_short : (x : KeyPackage) → IsBelow (2 ^ 28 - 2) key_package x → IsBelow (2 ^ 28) proposal_format (Add x)
-unfolding proposal_format
-add_short x h = record { fits = (lit< tt, h.fits); below = omega (arith, h.below, length-append (uint w16 1) (key_package.spell x), length-uint16 1) }
-
-pub update_short : (x : LeafNode) → IsBelow (2 ^ 28 - 2) leaf_node x → IsBelow (2 ^ 28) proposal_format (Update x)
-unfolding proposal_format
-update_short x h = record { fits = (lit< tt, h.fits); below = omega (arith, h.below, length-append (uint w16 2) (leaf_node.spell x), length-uint16 2) }
-
-pub removal_short : (leaf : ℕ) → leaf < 2 ^ 32 → IsBelow (2 ^ 28) proposal_format (Remove leaf)
-unfolding proposal_format uint
-removal_short leaf lt = record { fits = (lit< tt, lt); below = lit< tt }
-
--- and back
-pub short_parts : (x : Proposal) → IsBelow (2 ^ 28) proposal_format x → IsShortProposal x
-unfolding proposal_format
-short_parts (Add x) h = record { fits = h.fits.1; below = omega (arith, h.below, length-append (uint w16 1) (key_package.spell x), length-uint16 1) }
-short_parts (Update x) h = record { fits = h.fits.1; below = omega (arith, h.below, length-append (uint w16 2) (leaf_node.spell x), length-uint16 2) }
-short_parts (Remove leaf) h = tt
 
 -- ---- of the proposals of a commit
 

@@ -1,5 +1,5 @@
 use Rattle.std.proofs.Common.{subst}
-use Rattle.mls_public_group.specs.Short.{IsShortProposal}
+use Rattle.mls_public_group.specs.ShortProposal.{IsShortProposal}
 use Rattle.mls_events.proofs.added.push_added.Goals as goal
 
 pub spelled-requires : goal.spelled-requires

@@ -2,7 +2,7 @@ use Rattle.std.proofs.Common.{sym, subst, ◌^◌}
 use Rattle.mls_leaf.specs.KeyPackage.{key_package}
 use Rattle.mls_leaf.specs.declared.key_package.KeyPackage.{KeyPackage}
 use Rattle.mls_leaf.specs.declared.proposal.Proposal.TheVariants.{Add}
-use Rattle.mls_public_group.specs.Short.{IsShortProposal}
+use Rattle.mls_public_group.specs.ShortProposal.{IsShortProposal}
 use Rattle.mls_candidate.proofs.Packages.{addition_short}
 use Rattle.mls_candidate.proofs.candidate.Candidate.addition.Goals as goal
 
