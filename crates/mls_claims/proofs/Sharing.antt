@@ -21,22 +21,24 @@ use Rattle.mls_types.specs.declared.commit.ProposalOrRef.{ProposalOrRef}
 use Rattle.mls_types.specs.declared.commit.ProposalOrRef.TheVariants as listed
 use Rattle.mls_types.specs.declared.signed.SignedContent.{SignedContent}
 use Rattle.mls_suite.specs.Crypto.{Crypto, Lawful}
+use Rattle.mls_paths.specs.Seeds.{seal_seed}
 use Rattle.mls_schedule.specs.Epoch.{nine_secrets}
 use Rattle.mls_model.specs.declared.effect.Effect.{Effect}
 use Rattle.mls_model.specs.declared.effect.Effect.TheVariants.{Proposed, Known, Advanced, Removed}
 use Rattle.mls_model.specs.Agreement.{Agree, AgreeSecret, Keeps, IsGoodPending, IsGoodIfPending, IsGoodMember, IsGoodCandidate}
 use Rattle.mls_model.specs.Candidate.{Candidate}
 use Rattle.mls_model.specs.Claims.{IsMade, FollowsTo, Receives}
-use Rattle.mls_model.specs.Commit.{Change}
+use Rattle.mls_model.specs.Commit.{Change, public_with}
 use Rattle.mls_model.specs.Found.{DidPending, DidOther}
 use Rattle.mls_model.specs.Journal.{names_in, adds_in, used_of}
-use Rattle.mls_model.specs.Make.{MadePath, Made, welcome_if, make, committed}
+use Rattle.mls_model.specs.Make.{MadePath, Made, path_secret_for, path_seals, welcome_if, make, committed}
 use Rattle.mls_model.specs.Member.{Kept, Pending, Member, kept_under, used_one, used_by, advanced, with_pending}
 use Rattle.mls_model.specs.Messages.{is_within_limit, reference_of}
 use Rattle.mls_model.specs.Proposals.{adds}
 use Rattle.mls_model.specs.Public.{PublicState, Used}
 use Rattle.mls_model.specs.Receipts.{did_take}
 use Rattle.mls_model.specs.Sharing.{ShareEpoch, SharesNext, IsAccepted, JoinsNext, ReachesGroup}
+use Rattle.mls_model.specs.Welcome.{unsigned_info, signed_info, secrets_with, welcome_message}
 use Rattle.mls_model.specs.Verdict.{own_pending, pending_or_received, verdict}
 use Rattle.mls_laws.specs.Joining.{adds_counted}
 use Rattle.mls_claims.specs.Along.{received_along}
@@ -144,9 +146,10 @@ nobody_any test xs e h = let n = rw e at h in absurd cc
 welcome_of : (c : Crypto) (m : Member) (change : Change) (path : MadePath) (joiner tag seed : List ℕ) (ks : List KeyPackage) (js : List ℕ) (o : Option (List ℕ)) → (ks ≡ [] → ⊥) → length js ≡ length ks →
     welcome_if c m change path joiner tag seed (zip ks js) ≡ Ok o → (bytes : List ℕ) × (o ≡ Some bytes)
 welcome_of c m change path joiner tag seed [] js o some count h = absurd (some refl)
-welcome_of c m change path joiner tag seed (k ∷ ks) [] o some count h = absurd (omega count)
+welcome_of c m change path joiner tag seed (k ∷ ks) [] o some count h = absurd (omega (arith, count))
 welcome_of c m change path joiner tag seed (k ∷ ks) (j ∷ js) o some count h =
-    let s = bind_ok _ _ _ h in
+    let s = bind_ok (welcome_message c (signed_info c m.signing (unsigned_info (public_with change tag) tag m.keys.leaf)) joiner (λ i. secrets_with joiner (path_secret_for path.path m change.edits seed i)) (seal_seed seed) (path_seals path.path) ((k, j) ∷ zip ks js))
+    (λ bytes. Ok (Some bytes)) o h in
     (s.0, sym (ok_is _ o s.2))
 
 adds_some : (kept : List Kept) (i : ℕ) (list : List ProposalOrRef) (used : List Used) (test : List ℕ → Bool) → used_by kept i list ≡ Ok used → list_any test (adds_in kept list) ≡ true → adds used ≡ [] → ⊥

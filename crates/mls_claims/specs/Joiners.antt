@@ -15,6 +15,7 @@ use Rattle.mls_types.specs.declared.commit.ProposalOrRef.{ProposalOrRef}
 use Rattle.mls_suite.specs.Crypto.{Crypto, Lawful}
 use Rattle.mls_term.specs.Arrays.{to_nodes}
 use Rattle.mls_term.specs.Term.{Term, leaf_of}
+use Rattle.mls_paths.specs.Join.{take_answer}
 use Rattle.mls_paths.specs.Keys.{PrivateKeys}
 use Rattle.mls_paths.specs.Laws.{AreTwo}
 use Rattle.mls_schedule.specs.Epoch.{epoch_secret, confirmation_tag}
@@ -65,7 +66,7 @@ keys_at c t signer leaf own None keys h =
     let s = require_ok _ _ _ _ h in
     ap (λ (x : PrivateKeys). x.leaf) (sym (ok_is _ keys s.1))
 keys_at c t signer leaf own (Some secret) keys h =
-    let s = bind_ok _ _ _ h in
+    let s = bind_ok (take_answer c t signer leaf own secret) _ _ h in
     ap (λ (x : PrivateKeys). x.leaf) (sym (ok_is _ keys s.2)) ∙ leaf_stays (record { leaf = leaf; own = own; above = [] }) s.0.keys
 
 one_leaf : (x y : LeafNode) (o : Option LeafNode) → o ≡ Some x → o ≡ Some y → x ≡ y

@@ -3,6 +3,7 @@
 use Rattle.std.proofs.Common.{◌≡◌, ℕ, true, false, List, Option, Some, Result, Ok, Err, refl, sym, ap, subst, ◌∙◌}
 use Rattle.std.specs.List.{list_any}
 use Rattle.std.specs.Str.{bytes_eq}
+use Rattle.mls_wire.specs.Laws.{ok_is}
 use Rattle.mls_leaf.specs.KeyPackage.{key_package}
 use Rattle.mls_types.specs.declared.commit.ProposalOrRef.{ProposalOrRef}
 use Rattle.mls_suite.specs.Crypto.{Crypto}
@@ -21,10 +22,10 @@ never : {A : Type 0} (x : A) (n : ℕ) (defined : Result A ℕ) → defined ≡ 
 never x n defined a b = cc
 
 after_is : (e f : Effect) (m n : Member) (defined : Result (Effect × Member) ℕ) → defined ≡ Ok (e, m) → defined ≡ Ok (f, n) → m ≡ n
-after_is e f m n defined a b = let same : Path (Result (Effect × Member) ℕ) (Ok (e, m)) (Ok (f, n)) = sym a ∙ b in cc
+after_is e f m n defined a b = ap (λ (x : Effect × Member). x.1) (ok_is (e, m) (f, n) (sym a ∙ b))
 
 joined_is : (x y : Joined) (defined : Result Joined ℕ) → defined ≡ Ok x → defined ≡ Ok y → x ≡ y
-joined_is x y defined a b = let same : Path (Result Joined ℕ) (Ok x) (Ok y) = sym a ∙ b in cc
+joined_is x y defined a b = ok_is x y (sym a ∙ b)
 
 one_welcome : (o : Option (List ℕ)) (x y : List ℕ) → o ≡ Some x → o ≡ Some y → x ≡ y
 one_welcome o x y a b = cc
