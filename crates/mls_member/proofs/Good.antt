@@ -53,9 +53,14 @@ other_does : (c : Crypto) (m : Member) (bytes : List ℕ) → m.gone ≡ false �
 unfolding verdict
 other_does c m bytes gone own = let a : not m.gone ≡ true = ap not gone in rw (a, own) refl
 
-pub own_good : (c : Crypto) (m n : Member) (bytes : List ℕ) (p : Pending) → IsGoodMember c m → IsBytes bytes → m.gone ≡ false → own_pending m.pending bytes ≡ Some p → n ≡ advanced m p.public p.epoch p.keys → IsGoodMember c n
-own_good c m n bytes p good are gone own is =
-    subst (IsGoodMember c) (sym is) (delivered_good c m bytes (Advanced p.public.context.epoch, advanced m p.public p.epoch p.keys) good are (own_does c m bytes p gone own))
+still_advanced : (m : Member) (p : Pending) → advanced (without_pending m) p.public p.epoch p.keys ≡ advanced m p.public p.epoch p.keys
+unfolding advanced without_pending
+still_advanced m p = refl
+
+pub own_good : (c : Crypto) (m w n : Member) (bytes : List ℕ) (p : Pending) → IsGoodMember c m → IsBytes bytes → m.gone ≡ false → own_pending m.pending bytes ≡ Some p → w ≡ without_pending m → n ≡ advanced w p.public p.epoch p.keys → IsGoodMember c n
+own_good c m w n bytes p good are gone own free is =
+    let same : advanced m p.public p.epoch p.keys ≡ n = sym (is ∙ ap (λ (x : Member). advanced x p.public p.epoch p.keys) free ∙ still_advanced m p) in
+    subst (IsGoodMember c) same (delivered_good c m bytes (Advanced p.public.context.epoch, advanced m p.public p.epoch p.keys) good are (own_does c m bytes p gone own))
 
 pub other_good : (c : Crypto) (m n : Member) (bytes : List ℕ) (r : Result Effect Refusal) → IsGoodMember c m → IsBytes bytes → m.gone ≡ false → own_pending m.pending bytes ≡ None → DoesAs (λ (e : Effect). e) number_of (received c m bytes) m n r → IsGoodMember c n
 other_good c m n bytes r good are gone own does =
