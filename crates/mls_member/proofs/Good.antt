@@ -19,29 +19,51 @@ use Rattle.mls_checks.specs.Checks.{key_package_checks}
 use Rattle.mls_tree.specs.Tree.{member_at}
 use Rattle.mls_model.specs.declared.effect.Effect.{Effect}
 use Rattle.mls_model.specs.declared.effect.Effect.TheVariants.{Advanced}
-use Rattle.mls_model.specs.Agreement.{IsGoodMember}
-use Rattle.mls_model.specs.Candidate.{leaf_key_of}
+use Rattle.mls_model.specs.Agreement.{IsGoodMember, IsGoodCandidate}
+use Rattle.mls_model.specs.Candidate.{Candidate, leaf_key_of}
+use Rattle.mls_model.specs.Join.{join_verdict}
 use Rattle.mls_model.specs.Make.{committed}
 use Rattle.mls_model.specs.Member.{Kept, Pending, Member, used_one, used_by, advanced, without_pending}
 use Rattle.mls_model.specs.Proposals.{proposal_checks}
 use Rattle.mls_model.specs.Propose.{proposed, proposed_add, updated_leaf, proposed_update, proposed_remove}
-use Rattle.mls_model.specs.Public.{Used}
+use Rattle.mls_model.specs.Public.{PublicState, Used}
+use Rattle.mls_paths.specs.Keys.{PrivateKeys, all_keys}
 use Rattle.mls_model.specs.Verdict.{own_pending, received, verdict}
 use Rattle.mls_claims.proofs.Sharing.{commits_reach}
+use Rattle.mls_claims.specs.Committed.{created_good}
 use Rattle.mls_claims.specs.Delivered.{delivered_good}
+use Rattle.mls_claims.specs.Entered.{joined_good}
 use Rattle.mls_claims.specs.Proposing.{added_good, updated_good, removed_good}
 use Rattle.mls_claims.specs.Spelled.{FullFits}
+use Rattle.mls_claims.specs.Still.{good_still}
 use Rattle.mls_make.specs.Parts.{AreShortUsed}
 use Rattle.mls_member.specs.declared.commit.Made.{Made}
 use Rattle.mls_member.specs.declared.error.Refusal.{Refusal}
 use Rattle.mls_member.specs.Answers.{messages_of, HasMade}
 use Rattle.mls_member.specs.Faults.{number_of}
+use Rattle.mls_member.specs.First.{first_public}
 use Rattle.mls_member.specs.Proposing.{sent_and_kept, updated_answer}
+use Rattle.mls_member.proofs.First.{created_made}
 
 -- a call that does as its definition leaves a good member wherever that does
 good_after : {A B : Type 0} (c : Crypto) (value : B → A) (defined : Result (A × Member) ℕ) (m n : Member) (r : Result B Refusal) → IsGoodMember c m → ((x : A × Member) → defined ≡ Ok x → IsGoodMember c x.1) → DoesAs value number_of defined m n r → IsGoodMember c n
 good_after c value defined m n (Ok b) good keeps h = keeps (value b, n) h
 good_after c value defined m n (Err e) good keeps h = subst (IsGoodMember c) (sym h.0) good
+
+-- ---- how members come about, and a drop
+
+pub create_good : (c : Crypto) (k : Candidate) (group seed : List ℕ) (leaf : LeafNode) (epoch own signing : List ℕ) (kept : List Kept) (q : PublicState) (p : PrivateKeys) → leaf ≡ k.offered.leaf_node → epoch ≡ seed → own ≡ k.leaf → signing ≡ k.signing → kept ≡ [] →
+    first_public c leaf group epoch ≡ Ok q → p.leaf ≡ 0 → all_keys p ≡ Some own ∷ [] → IsGoodCandidate c k → IsGoodMember c (record { gone = false; public = q; epoch = epoch; keys = p; signing = signing; kept = kept; pending = None })
+create_good c k group seed leaf epoch own signing kept q p leaf_is epoch_is own_is signing_is kept_is made at keys good =
+    created_good c k group seed _ good (created_made c k group seed leaf epoch own signing kept q p leaf_is epoch_is own_is signing_is kept_is made at keys)
+
+pub join_good : (c : Crypto) (k : Candidate) (bytes : List ℕ) (public : PublicState) (epoch : List ℕ) (keys : PrivateKeys) (info signing : List ℕ) (kept : List Kept) → IsGoodCandidate c k →
+    join_verdict c k bytes ≡ Ok (record { member = record { gone = false; public = public; epoch = epoch; keys = keys; signing = k.signing; kept = []; pending = None }; info = info }) → signing ≡ k.signing → kept ≡ [] →
+    IsGoodMember c (record { gone = false; public = public; epoch = epoch; keys = keys; signing = signing; kept = kept; pending = None })
+join_good c k bytes public epoch keys info signing kept good verdict_is signing_is kept_is = rw (signing_is, kept_is) (joined_good c k bytes _ good verdict_is)
+
+pub drop_good : (c : Crypto) (m : Member) → IsGoodMember c m → IsGoodMember c (record { gone = m.gone; public = m.public; epoch = m.epoch; keys = m.keys; signing = m.signing; kept = m.kept; pending = None })
+drop_good c m good = good_still c m m.gone m.kept None good good.kept tt
 
 -- ---- messages
 
@@ -62,9 +84,10 @@ own_good c m w n bytes p good are gone own free is =
     let same : advanced m p.public p.epoch p.keys ≡ n = sym (is ∙ ap (λ (x : Member). advanced x p.public p.epoch p.keys) free ∙ still_advanced m p) in
     subst (IsGoodMember c) same (delivered_good c m bytes (Advanced p.public.context.epoch, advanced m p.public p.epoch p.keys) good are (own_does c m bytes p gone own))
 
-pub other_good : (c : Crypto) (m n : Member) (bytes : List ℕ) (r : Result Effect Refusal) → IsGoodMember c m → IsBytes bytes → m.gone ≡ false → own_pending m.pending bytes ≡ None → DoesAs (λ (e : Effect). e) number_of (received c m bytes) m n r → IsGoodMember c n
-other_good c m n bytes r good are gone own does =
-    good_after c (λ (e : Effect). e) (received c m bytes) m n r good (λ x h. delivered_good c m bytes x good are (other_does c m bytes gone own ∙ h)) does
+pub other_good : (c : Crypto) (m w n : Member) (bytes : List ℕ) (r : Result Effect Refusal) → IsGoodMember c m → IsBytes bytes → m.gone ≡ false → own_pending m.pending bytes ≡ None → w ≡ m → DoesAs (λ (e : Effect). e) number_of (received c w bytes) w n r → IsGoodMember c n
+other_good c m w n bytes r good are gone own same does =
+    good_after c (λ (e : Effect). e) (received c m bytes) m n r good (λ x h. delivered_good c m bytes x good are (other_does c m bytes gone own ∙ h))
+    (subst (λ (x : Member). DoesAs (λ (e : Effect). e) number_of (received c x bytes) x n r) same does)
 
 -- ---- proposals
 
@@ -74,6 +97,14 @@ HasSent c m n said own r = DoesAs (λ (v : Vec ℕ). v.items) number_of (sent_an
 proposed_is : (c : Crypto) (m : Member) (said : Proposal) (own : Option (List ℕ)) → m.gone ≡ false → proposal_checks c m.public m.keys.leaf said ≡ Ok passed → proposed c m said own ≡ sent_and_kept c m said own
 unfolding proposed
 proposed_is c m said own gone checks = let a : not m.gone ≡ true = ap not gone in rw (a, checks) refl
+
+-- the checks of a proposal, in the state and from the leaf of a member's parts
+pub checks_at : (c : Crypto) (m v : Member) (i : ℕ) (said : Proposal) → v ≡ m → i ≡ v.keys.leaf → proposal_checks c v.public i said ≡ Ok passed → proposal_checks c m.public m.keys.leaf said ≡ Ok passed
+checks_at c m v i said same at h =
+    subst (λ (x : Member). proposal_checks c x.public x.keys.leaf said ≡ Ok passed) same (subst (λ (j : ℕ). proposal_checks c v.public j said ≡ Ok passed) at h)
+
+pub not_gone : (m v : Member) → v ≡ m → v.gone ≡ false → m.gone ≡ false
+not_gone m v same h = subst (λ (x : Member). x.gone ≡ false) same h
 
 package_passes : (c : Crypto) (m : Member) (k : KeyPackage) → key_package_checks c k ≡ Ok passed → proposal_checks c m.public m.keys.leaf (proposes.Add k) ≡ Ok passed
 unfolding proposal_checks
@@ -106,7 +137,6 @@ remove_good c m n leaf r good gone checks does =
     good_after c (λ (v : Vec ℕ). v.items) (sent_and_kept c m (proposes.Remove leaf) None) m n r good (λ x h. removed_good c m leaf x good (proposed_is c m (proposes.Remove leaf) None gone checks ∙ h)) does
 
 -- ---- commits
-
 
 -- what a list has in full is short, since what it uses is
 full_first : (kept : List Kept) (i : ℕ) (x : ProposalOrRef) (u : Used) (us : List Used) → used_one kept i x ≡ Ok u → AreShortUsed (u ∷ us) → FullFits x

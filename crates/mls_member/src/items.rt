@@ -3,6 +3,7 @@
 ghost use Rattle.std.specs.Prelude.{◌≡◌, ◌^◌, map, IfOk};
 ghost use Rattle.mls_wire.specs.Checks.{Answers};
 ghost use Rattle.mls_leaf.specs.Proposal.{proposal as proposal_format};
+ghost use Rattle.mls_leaf.specs.declared.proposal.Proposal.TheVariants.{Remove};
 ghost use Rattle.mls_model.specs.Make.{listed_of};
 ghost use Rattle.mls_model.specs.Member.{used_one, used_by};
 ghost use Rattle.mls_public_group.specs.Short.{IsBelow};
@@ -44,7 +45,12 @@ pub(crate) fn listed(alloc: Global, items: &[Item]) -> Result<Items<ProposalOrRe
     Ok(Items::from_vec(list))
 }
 
-/// A law: a short proposal has a spelling, of fewer than 2^28 bytes.
+/// A law: a removal has a spelling, of fewer than 2^28 bytes.
+fn know_removal(leaf: u32)
+    ensures { IsBelow (2 ^ 28) proposal_format (Remove leaf) }
+{}
+
+/// A law: so has a proposal whose KeyPackage or leaf is short.
 fn know_short(proposal: &Proposal)
     requires { IsShortProposal proposal.now }
     ensures { IsBelow (2 ^ 28) proposal_format proposal.now }
@@ -52,9 +58,7 @@ fn know_short(proposal: &Proposal)
     match proposal {
         Proposal::Add(_) => {}
         Proposal::Update(_) => {}
-        Proposal::Remove(leaf) => {
-            let _leaf = *leaf;
-        }
+        Proposal::Remove(leaf) => know_removal(*leaf),
     }
 }
 

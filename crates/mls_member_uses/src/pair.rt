@@ -78,11 +78,7 @@ pub fn renew<S: Suite>(
 
 /// A candidate creates a group and adds another, who joins; then the first commits, and both follow. The two hold one public
 /// state and one secret.
-pub fn share<S: Suite>(
-    alloc: Global,
-    group_id: &[u8],
-    seeds: &Seeds,
-) -> Result<Pair<S>, Refusal>
+pub fn share<S: Suite>(alloc: Global, group_id: &[u8], seeds: &Seeds) -> Result<Pair<S>, Refusal>
     ensures public { IfOk result (λ p. Agree p.first p.second) }
     ensures secret { IfOk result (λ p. AgreeSecret p.first p.second) }
 {
