@@ -31,8 +31,8 @@ impl<S: Suite> Member<S> {
     pub fn join(alloc: Global, candidate: &Candidate<S>, bytes: &[u8]) -> Result<Joined<S>, Refusal>
         ensures answer { Answers joined_as number_of (join_verdict S.crypto candidate.now bytes.now) result }
         ensures good { IsGoodCandidate S.crypto candidate.now → IfOk result (λ j. IsGoodMember S.crypto j.member) }
-        // Decoding and 70 come whatever memory there is.
-        ensures outright { RefusesOutright number_of (outer_checks bytes.now) result }
+        // Decoding, 70 and 71 of the Welcome come also when an allocation fails.
+        ensures outright { RefusesOutright number_of (outer_checks S.crypto.number bytes.now) result }
     {
         let Entrance {
             group,
