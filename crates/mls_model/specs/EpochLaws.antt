@@ -9,7 +9,7 @@ use Rattle.mls_paths.specs.Keys.{PrivateKeys}
 use Rattle.mls_model.specs.declared.effect.Effect.{Effect}
 use Rattle.mls_model.specs.declared.effect.Effect.TheVariants.{Advanced}
 use Rattle.mls_model.specs.Commit.{Change, public_with}
-use Rattle.mls_model.specs.Found.{WasKnown, IsNowKept, WasRemoved, HasFollowed, ContentDid, DidPending, DidOther, reached_epoch}
+use Rattle.mls_model.specs.Found.{WasRemoved, HasFollowed, ContentDid, DidPending, DidOther, reached_epoch}
 use Rattle.mls_model.specs.Member.{Member, advanced, with_keys}
 use Rattle.mls_model.specs.Public.{PublicState}
 use Rattle.mls_model.specs.Receipts.{did_receive, did_take}

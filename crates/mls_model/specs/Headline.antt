@@ -61,11 +61,11 @@ pub record Leaves (c : Crypto) (w : World) (k : ℕ) (s : Seat) (source : Source
   pub gone : after.member.gone ≡ true
   pub journal : after.journal ≡ s.journal
 
--- whether a commit that was made removes a member, by what that keeps (RFC 9420, 12.3)
+-- whether a commit that was made removes a member, by what the member keeps (RFC 9420, 12.3)
 abbrev pub is_removed : Seat → CommitMade → Bool
 is_removed s d = has (removes_in s.member.kept (list_in d.entry.commit)) s.member.keys.leaf
 
--- the latter just where the commit removes it
+-- it leaves exactly when the commit removes it, and else follows it
 pub record Accepts (c : Crypto) (w : World) (k : ℕ) (s : Seat) (source : Source) (d : CommitMade) : Type 0 where
   pub removed : is_removed s d ≡ true → Leaves c w k s source
   pub follows : is_removed s d ≡ false → Follows c w k s source d

@@ -16,7 +16,7 @@ use Rattle.mls_model.specs.Claims.{JoinsTo}
 use Rattle.mls_model.specs.Headline.{Joins, IsAdded, JoinsByNumber, JoinsByBytes}
 use Rattle.mls_model.specs.Invariant.{IsRecorded, IsGoodBy}
 use Rattle.mls_model.specs.Join.{Joined, join_verdict}
-use Rattle.mls_model.specs.Journal.{CommitMade, with_entry}
+use Rattle.mls_model.specs.Journal.{CommitMade}
 use Rattle.mls_model.specs.PublicOf.{Creations}
 use Rattle.mls_model.specs.Run.{answer, step}
 use Rattle.mls_model.specs.World.{World, Entrant, Seat, entrant_at, bytes_of, has_source, made_for, joiner_journal}
