@@ -1,4 +1,4 @@
-use Rattle.std.proofs.Common.{ap, ◌∙◌}
+use Rattle.std.proofs.Common.{ap}
 use Rattle.curve25519.specs.Field25519.{residue}
 use Rattle.field25519.proofs.element.Element.from_words.Goals as goal
 
