@@ -1,0 +1,10 @@
+pub mod Numbers
+pub mod Powers
+pub mod Modular
+pub mod Edwards
+pub mod Extended
+pub mod Ladder
+pub mod Field25519
+pub mod Curve25519
+pub mod X25519
+pub mod Laws

@@ -1,0 +1,4 @@
+pub mod Bits
+pub mod Encoding
+pub mod Meaning
+pub mod Scalars
