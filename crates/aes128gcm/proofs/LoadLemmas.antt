@@ -4,39 +4,30 @@ use Rattle.std.specs.Prelude.{slice_index, bit_and}
 use Rattle.std.specs.Int.{bit_at, w64, to_le_bytes}
 use Rattle.std.proofs.lemmas.Nat.Bits.{bit_at_lowest}
 use Rattle.std.proofs.lemmas.Bool.{cases_lt}
-use Rattle.aes128gcm.specs.Lanes.{number, bits_at, lane, place, Holds, held}
+use Rattle.aes128gcm.specs.Lanes.{number, bits_at, lane, place, Holds, held, IsEvenWord, IsOddWord, IsTransposed}
 use Rattle.aes128gcm.proofs.Words.{bytes_of}
 use Rattle.aes128gcm.proofs.LaneLemmas.{eight}
 use Rattle.aes128gcm.proofs.RoundLemmas.{number_of_byte, bit_of_byte}
 
-abbrev pub Crossed : List ℕ → List ℕ → Type 0
-Crossed q r = (k i : ℕ) → k < 8 → i < 64 → bit_at (slice_index r k) i ≡ bit_at (slice_index q (i % 8)) (8 * (i / 8) + k)
-
-abbrev pub IsEven : ℕ → List ℕ → Type 0
-IsEven w s = (m : ℕ) → m < 8 → w / 2 ^ (8 * m) % 256 ≡ slice_index s (8 * (m % 2) + m / 2)
-
-abbrev pub IsOdd : ℕ → List ℕ → Type 0
-IsOdd w s = (m : ℕ) → m < 8 → w / 2 ^ (8 * m) % 256 ≡ slice_index s (8 * (m % 2) + 4 + m / 2)
-
 same_number : (a0 a1 a2 a3 a4 a5 a6 a7 b0 b1 b2 b3 b4 b5 b6 b7 : ℕ) → a0 ≡ b0 → a1 ≡ b1 → a2 ≡ b2 → a3 ≡ b3 → a4 ≡ b4 → a5 ≡ b5 → a6 ≡ b6 → a7 ≡ b7 → number (a0 ∷ a1 ∷ a2 ∷ a3 ∷ a4 ∷ a5 ∷ a6 ∷ a7 ∷ []) ≡ number (b0 ∷ b1 ∷ b2 ∷ b3 ∷ b4 ∷ b5 ∷ b6 ∷ b7 ∷ [])
 same_number a0 a1 a2 a3 a4 a5 a6 a7 b0 b1 b2 b3 b4 b5 b6 b7 e0 e1 e2 e3 e4 e5 e6 e7 = cc
 
-abbrev crossing : List ℕ → ℕ → ℕ
-crossing q i = slice_index q (i % 8) / 2 ^ (8 * (i / 8)) % 256
+abbrev byte_across : List ℕ → ℕ → ℕ
+byte_across q i = slice_index q (i % 8) / 2 ^ (8 * (i / 8)) % 256
 
-lane-crossed : (q r : List ℕ) → length r ≡ 8 → Crossed q r → (i : ℕ) → i < 64 → lane r i ≡ crossing q i
+lane-transposed : (q r : List ℕ) → length r ≡ 8 → IsTransposed q r → (i : ℕ) → i < 64 → lane r i ≡ byte_across q i
 unfolding lane
-lane-crossed q r long cr i h =
-    let at : (k : ℕ) → k < 8 → bit_at (get_or r k 0) i ≡ bit_at (crossing q i) k = λ k hk. cr k i hk h ∙ bit_of_byte (slice_index q (i % 8)) (i / 8) k hk in
+lane-transposed q r long cr i h =
+    let at : (k : ℕ) → k < 8 → bit_at (get_or r k 0) i ≡ bit_at (byte_across q i) k = λ k hk. cr k i hk h ∙ bit_of_byte (slice_index q (i % 8)) (i / 8) k hk in
     ap (λ z. number (bits_at z i)) (sym (eight r long))
-    ∙ same_number (bit_at (get_or r 0 0) i) (bit_at (get_or r 1 0) i) (bit_at (get_or r 2 0) i) (bit_at (get_or r 3 0) i) (bit_at (get_or r 4 0) i) (bit_at (get_or r 5 0) i) (bit_at (get_or r 6 0) i) (bit_at (get_or r 7 0) i) (bit_at (crossing q i) 0) (bit_at (crossing q i) 1) (bit_at (crossing q i) 2) (bit_at (crossing q i) 3) (bit_at (crossing q i) 4) (bit_at (crossing q i) 5) (bit_at (crossing q i) 6) (bit_at (crossing q i) 7)
+    ∙ same_number (bit_at (get_or r 0 0) i) (bit_at (get_or r 1 0) i) (bit_at (get_or r 2 0) i) (bit_at (get_or r 3 0) i) (bit_at (get_or r 4 0) i) (bit_at (get_or r 5 0) i) (bit_at (get_or r 6 0) i) (bit_at (get_or r 7 0) i) (bit_at (byte_across q i) 0) (bit_at (byte_across q i) 1) (bit_at (byte_across q i) 2) (bit_at (byte_across q i) 3) (bit_at (byte_across q i) 4) (bit_at (byte_across q i) 5) (bit_at (byte_across q i) 6) (bit_at (byte_across q i) 7)
     (at 0 (omega arith)) (at 1 (omega arith)) (at 2 (omega arith)) (at 3 (omega arith)) (at 4 (omega arith)) (at 5 (omega arith)) (at 6 (omega arith)) (at 7 (omega arith))
-    ∙ number_of_byte (crossing q i) (omega arith)
+    ∙ number_of_byte (byte_across q i) (omega arith)
 
 halves : (n : ℕ) → (0 ≡ n % 2) ⊎ (1 ≡ n % 2)
 halves n = elim (cases_lt (n % 2) 1) [ inl lt ↦ inl (omega arith) | inr le ↦ inr (omega arith) ]
 
-pub holds-load : (q r : List ℕ) (b : ℕ) (s : List ℕ) → b < 4 → length r ≡ 8 → length s ≡ 16 → Crossed q r → IsEven (slice_index q b) s → IsOdd (slice_index q (b + 4)) s → Holds r b s
+pub holds-load : (q r : List ℕ) (b : ℕ) (s : List ℕ) → b < 4 → length r ≡ 8 → length s ≡ 16 → IsTransposed q r → IsEvenWord (slice_index q b) s → IsOddWord (slice_index q (b + 4)) s → Holds r b s
 holds-load q r b s hb long whole cr even odd = (
   whole,
   λ k h.
@@ -44,7 +35,7 @@ holds-load q r b s hb long whole cr even odd = (
       let in_word : place b k < 64 = omega arith in
       let quot : place b k / 8 ≡ m = omega arith in
       let got : lane r (place b k) ≡ slice_index q (place b k % 8) / 2 ^ (8 * m) % 256
-      = lane-crossed q r long cr (place b k) in_word ∙ ap (λ n. slice_index q (place b k % 8) / 2 ^ (8 * n) % 256) quot in
+      = lane-transposed q r long cr (place b k) in_word ∙ ap (λ n. slice_index q (place b k % 8) / 2 ^ (8 * n) % 256) quot in
       elim (halves (k / 4)) [
         | inl e ↦
             let j : place b k % 8 ≡ b = omega arith in
@@ -59,7 +50,7 @@ holds-load q r b s hb long whole cr even odd = (
 
 -- ---- out
 
-byte-back : (q r : List ℕ) → length q ≡ 8 → Crossed q r → (j m : ℕ) → j < 8 → m < 8 → slice_index r j / 2 ^ (8 * m) % 256 ≡ lane q (8 * m + j)
+byte-back : (q r : List ℕ) → length q ≡ 8 → IsTransposed q r → (j m : ℕ) → j < 8 → m < 8 → slice_index r j / 2 ^ (8 * m) % 256 ≡ lane q (8 * m + j)
 unfolding lane
 byte-back q r long cr j m hj hm =
     let w : ℕ = slice_index r j / 2 ^ (8 * m) % 256 in
@@ -80,7 +71,7 @@ same_lists [] (y ∷ ys) e f = absurd (omega arith)
 same_lists (x ∷ xs) [] e f = absurd (omega arith)
 same_lists (x ∷ xs) (y ∷ ys) e f = ap (λ z. z ∷ xs) (f 0 (omega arith)) ∙ ap (λ zs. y ∷ zs) (same_lists xs ys (omega arith) (λ k h. f (suc k) (omega arith)))
 
-pub holds-store : (q r s block : List ℕ) (b : ℕ) → b < 4 → length q ≡ 8 → length block ≡ 16 → Crossed q r → IsEven (slice_index r b) block → IsOdd (slice_index r (b + 4)) block → Holds q b s → block ≡ s
+pub holds-store : (q r s block : List ℕ) (b : ℕ) → b < 4 → length q ≡ 8 → length block ≡ 16 → IsTransposed q r → IsEvenWord (slice_index r b) block → IsOddWord (slice_index r (b + 4)) block → Holds q b s → block ≡ s
 holds-store q r s block b hb long whole cr even odd hs =
     same_lists block s (whole ∙ sym hs.0) (λ k hk.
     let h : k < 16 = omega arith in
@@ -142,3 +133,11 @@ four_lists (v ∷ w ∷ x ∷ y ∷ z ∷ r) a b c d e p q s t = absurd (omega a
 pub held-is : (q s : List ℕ) → Holds q 0 s → held q ≡ s
 unfolding held
 held-is q s hs = rw (hs.1 0 (omega arith), hs.1 1 (omega arith), hs.1 2 (omega arith), hs.1 3 (omega arith), hs.1 4 (omega arith), hs.1 5 (omega arith), hs.1 6 (omega arith), hs.1 7 (omega arith), hs.1 8 (omega arith), hs.1 9 (omega arith), hs.1 10 (omega arith), hs.1 11 (omega arith), hs.1 12 (omega arith), hs.1 13 (omega arith), hs.1 14 (omega arith), hs.1 15 (omega arith)) (bytes_of s hs.0)
+
+-- one block as all four
+pub in_all : (q s : List ℕ) → Holds q 0 s → Holds q 1 s → Holds q 2 s → Holds q 3 s → (b : ℕ) → b < 4 → Holds q b s
+in_all q s h0 h1 h2 h3 zero hb = h0
+in_all q s h0 h1 h2 h3 (suc zero) hb = h1
+in_all q s h0 h1 h2 h3 (suc (suc zero)) hb = h2
+in_all q s h0 h1 h2 h3 (suc (suc (suc zero))) hb = h3
+in_all q s h0 h1 h2 h3 (suc (suc (suc (suc b)))) hb = absurd (omega arith)

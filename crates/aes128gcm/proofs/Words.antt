@@ -4,7 +4,7 @@ use Rattle.std.proofs.lemmas.Grind.{common_steps}
 use Rattle.std.proofs.Common.{subst}
 use Rattle.std.specs.Prelude.{bit_xor}
 use Rattle.std.specs.Int.Bits.{xor_zero_r}
-use Rattle.aes128gcm.specs.Aes.{s_box, sub_bytes, sub_word, rot_word, word, rcon, round_constant, xor_with}
+use Rattle.aes128gcm.specs.Aes.{s_box, sub_bytes, sub_word, rot_word, rcon, round_constant, temp, xor_with}
 
 four : (xs : List ℕ) → length xs ≡ 4 → get_or xs 0 0 ∷ get_or xs 1 0 ∷ get_or xs 2 0 ∷ get_or xs 3 0 ∷ [] ≡ xs
 four [] e = absurd (omega arith)
@@ -53,12 +53,12 @@ zeros_added a b c d r = rw (xor_zero_r b, xor_zero_r c, xor_zero_r d) refl
 abbrev last : List ℕ → ℕ → List ℕ
 last k r = bit_xor (get_or (sub_bytes k) 13 0) r ∷ get_or (sub_bytes k) 14 0 ∷ get_or (sub_bytes k) 15 0 ∷ get_or (sub_bytes k) 12 0 ∷ []
 
-last_of : (x0 x1 x2 x3 x4 x5 x6 x7 x8 x9 x10 x11 x12 x13 x14 x15 i : ℕ) → last (x0 ∷ x1 ∷ x2 ∷ x3 ∷ x4 ∷ x5 ∷ x6 ∷ x7 ∷ x8 ∷ x9 ∷ x10 ∷ x11 ∷ x12 ∷ x13 ∷ x14 ∷ x15 ∷ []) (round_constant i) ≡ xor_with (sub_word (rot_word (word (x0 ∷ x1 ∷ x2 ∷ x3 ∷ x4 ∷ x5 ∷ x6 ∷ x7 ∷ x8 ∷ x9 ∷ x10 ∷ x11 ∷ x12 ∷ x13 ∷ x14 ∷ x15 ∷ []) 3))) (rcon i)
-unfolding sub_bytes sub_word rot_word rcon
+last_of : (x0 x1 x2 x3 x4 x5 x6 x7 x8 x9 x10 x11 x12 x13 x14 x15 i : ℕ) → last (x0 ∷ x1 ∷ x2 ∷ x3 ∷ x4 ∷ x5 ∷ x6 ∷ x7 ∷ x8 ∷ x9 ∷ x10 ∷ x11 ∷ x12 ∷ x13 ∷ x14 ∷ x15 ∷ []) (round_constant i) ≡ temp (x0 ∷ x1 ∷ x2 ∷ x3 ∷ x4 ∷ x5 ∷ x6 ∷ x7 ∷ x8 ∷ x9 ∷ x10 ∷ x11 ∷ x12 ∷ x13 ∷ x14 ∷ x15 ∷ []) i
+unfolding temp sub_bytes sub_word rot_word rcon
 last_of x0 x1 x2 x3 x4 x5 x6 x7 x8 x9 x10 x11 x12 x13 x14 x15 i = zeros_added (s_box x13) (s_box x14) (s_box x15) (s_box x12) (round_constant i)
 
--- SUBWORD of ROTWORD of the last word, and Rcon, of a block behind SUBBYTES
-pub last_word_of : (k s : List ℕ) (r i : ℕ) → length k ≡ 16 → s ≡ sub_bytes k → r ≡ round_constant i
-    → bit_xor (get_or s 13 0) r ∷ get_or s 14 0 ∷ get_or s 15 0 ∷ get_or s 12 0 ∷ [] ≡ xor_with (sub_word (rot_word (word k 3))) (rcon i)
-last_word_of k s r i long e f =
-    rw (e, f) (subst (λ z. last z (round_constant i) ≡ xor_with (sub_word (rot_word (word z 3))) (rcon i)) (bytes_of k long) (last_of (get_or k 0 0) (get_or k 1 0) (get_or k 2 0) (get_or k 3 0) (get_or k 4 0) (get_or k 5 0) (get_or k 6 0) (get_or k 7 0) (get_or k 8 0) (get_or k 9 0) (get_or k 10 0) (get_or k 11 0) (get_or k 12 0) (get_or k 13 0) (get_or k 14 0) (get_or k 15 0) i))
+-- the word temp, from a block behind SUBBYTES
+pub temp_of : (k s : List ℕ) (r i : ℕ) → length k ≡ 16 → s ≡ sub_bytes k → r ≡ round_constant i
+    → bit_xor (get_or s 13 0) r ∷ get_or s 14 0 ∷ get_or s 15 0 ∷ get_or s 12 0 ∷ [] ≡ temp k i
+temp_of k s r i long e f =
+    rw (e, f) (subst (λ z. last z (round_constant i) ≡ temp z i) (bytes_of k long) (last_of (get_or k 0 0) (get_or k 1 0) (get_or k 2 0) (get_or k 3 0) (get_or k 4 0) (get_or k 5 0) (get_or k 6 0) (get_or k 7 0) (get_or k 8 0) (get_or k 9 0) (get_or k 10 0) (get_or k 11 0) (get_or k 12 0) (get_or k 13 0) (get_or k 14 0) (get_or k 15 0) i))

@@ -105,10 +105,14 @@ rcon i = round_constant i ∷ 0 ∷ 0 ∷ 0 ∷ []
 abbrev pub word : List ℕ → ℕ → List ℕ
 word k i = take 4 (drop (4 * i) k)
 
+-- temp of KEYEXPANSION at a word whose number is divisible by 4: SUBWORD(ROTWORD(w[4i + 3])) and Rcon[i + 1], added (FIPS 197, 5.2)
+unfoldable pub temp : List ℕ → ℕ → List ℕ
+temp k i = xor_with (sub_word (rot_word (word k 3))) (rcon i)
+
 -- w[4i + 4] to w[4i + 7] from w[4i] to w[4i + 3] (FIPS 197, 5.2)
 unfoldable pub next_key : List ℕ → ℕ → List ℕ
 next_key k i =
-    let a = xor_with (xor_with (sub_word (rot_word (word k 3))) (rcon i)) (word k 0) in
+    let a = xor_with (temp k i) (word k 0) in
     let b = xor_with a (word k 1) in
     let c = xor_with b (word k 2) in
     let d = xor_with c (word k 3) in

@@ -1,9 +1,9 @@
 //! Four blocks in slices, and the rounds on them.
 
-ghost use Rattle.std.specs.Prelude.{◌≡◌, ℕ, ◌+◌, ◌*◌, ◌/◌, ◌%◌, ◌^◌, ◌<◌, List, [], slice_index, slice_index_or};
-ghost use Rattle.aes128gcm.specs.Aes.{add_round_key, full_round, last_round, cipher};
-ghost use Rattle.aes128gcm.specs.Lanes.{Holds};
-ghost use Rattle.aes128gcm.specs.Keys.{AreSlicedKeys};
+ghost use Rattle.std.specs.Prelude.{◌≡◌, ℕ, ◌<◌, List, [], slice_index_or};
+ghost use Rattle.aes128gcm.specs.Aes.{add_round_key, full_round, last_round};
+ghost use Rattle.aes128gcm.specs.Lanes.{Holds, IsEvenWord, IsOddWord, MapsBlocks};
+ghost use Rattle.aes128gcm.specs.Keys.{EncryptsBlocks};
 
 use crate::sbox::sub_bytes;
 use crate::slices::{Slices, add_slices, mix_columns, shift_rows, transpose};
@@ -14,7 +14,7 @@ pub(crate) type Block = [u8; 16];
 /// The bytes of columns 0 and 2 in turn.
 #[inline(always)]
 fn even_word(s: &Block) -> u64
-    ensures { (m : ℕ) → m < 8 → result / 2 ^ (8 * m) % 256 ≡ slice_index s.now (8 * (m % 2) + m / 2) }
+    ensures { IsEvenWord result s.now }
 {
     u64::from_le_bytes([s[0], s[8], s[1], s[9], s[2], s[10], s[3], s[11]])
 }
@@ -22,7 +22,7 @@ fn even_word(s: &Block) -> u64
 /// The bytes of columns 1 and 3 in turn.
 #[inline(always)]
 fn odd_word(s: &Block) -> u64
-    ensures { (m : ℕ) → m < 8 → result / 2 ^ (8 * m) % 256 ≡ slice_index s.now (8 * (m % 2) + 4 + m / 2) }
+    ensures { IsOddWord result s.now }
 {
     u64::from_le_bytes([s[4], s[12], s[5], s[13], s[6], s[14], s[7], s[15]])
 }
@@ -49,8 +49,8 @@ pub(crate) fn load(a: &Block, b: &Block, c: &Block, d: &Block) -> Slices
 /// The block of two words.
 #[inline(always)]
 fn block_of(even: u64, odd: u64) -> Block
-    ensures even { (m : ℕ) → m < 8 → even / 2 ^ (8 * m) % 256 ≡ slice_index result (8 * (m % 2) + m / 2) }
-    ensures odd { (m : ℕ) → m < 8 → odd / 2 ^ (8 * m) % 256 ≡ slice_index result (8 * (m % 2) + 4 + m / 2) }
+    ensures even { IsEvenWord even result }
+    ensures odd { IsOddWord odd result }
 {
     let [a, b, c, d, e, f, g, h] = even.to_le_bytes();
     let [i, j, k, l, m, n, o, p] = odd.to_le_bytes();
@@ -73,7 +73,7 @@ pub(crate) fn store(q: Slices) -> [Block; 4]
 /// The first ADDROUNDKEY in each block (FIPS 197, 5.1).
 #[inline(always)]
 fn first_round(q: &Slices, k: &Slices) -> Slices
-    ensures { (b : ℕ) (s key : List ℕ) → b < 4 → Holds q.now b s → Holds k.now b key → Holds result b (add_round_key s key) }
+    ensures { MapsBlocks add_round_key q.now k.now result }
 {
     add_slices(*q, *k)
 }
@@ -81,7 +81,7 @@ fn first_round(q: &Slices, k: &Slices) -> Slices
 /// A round but the last in each block (FIPS 197, 5.1).
 #[inline(always)]
 fn full_round(q: &Slices, k: &Slices) -> Slices
-    ensures { (b : ℕ) (s key : List ℕ) → b < 4 → Holds q.now b s → Holds k.now b key → Holds result b (full_round s key) }
+    ensures { MapsBlocks full_round q.now k.now result }
 {
     add_slices(mix_columns(shift_rows(sub_bytes(*q))), *k)
 }
@@ -89,14 +89,14 @@ fn full_round(q: &Slices, k: &Slices) -> Slices
 /// The last round in each block (FIPS 197, 5.1).
 #[inline(always)]
 fn last_round(q: &Slices, k: &Slices) -> Slices
-    ensures { (b : ℕ) (s key : List ℕ) → b < 4 → Holds q.now b s → Holds k.now b key → Holds result b (last_round s key) }
+    ensures { MapsBlocks last_round q.now k.now result }
 {
     add_slices(shift_rows(sub_bytes(*q)), *k)
 }
 
 /// CIPHER in each block (FIPS 197, 5.1).
 pub(crate) fn encrypt_slices(keys: &[Slices; 11], block: Slices) -> Slices
-    ensures { (b : ℕ) (key s : List ℕ) → b < 4 → AreSlicedKeys key keys.now → Holds block b s → Holds result b (cipher key s) }
+    ensures { EncryptsBlocks keys.now block result }
 {
     let mut q = first_round(&block, &keys[0]);
     for i in 1..10usize {

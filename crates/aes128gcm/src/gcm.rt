@@ -137,8 +137,8 @@ fn same_tag(a: &Block, b: &[u8]) -> bool
     difference == 0
 }
 
-/// Seals `pt`: the ciphertext with its tag of 16 bytes behind it (GCM-AE: SP 800-38D, 7.1; RFC 5116,
-/// 5.1), or `OutOfMemory`.
+/// Seals `pt`: the ciphertext with its tag of 16 bytes behind it (GCM-AE: SP 800-38D, 7.1;
+/// RFC 5116, 5.1), or `OutOfMemory`.
 #[tactic(auto, unfolding(crate::specs::Gcm::gcm_ae))]
 pub fn seal(
     alloc: Global,
@@ -158,8 +158,9 @@ pub fn seal(
     Ok(bytes)
 }
 
-/// Opens a ciphertext with its tag behind it (GCM-AD: SP 800-38D, 7.2; RFC 5116, 5.1), or None where
-/// the tag isn't this ciphertext's, or `OutOfMemory`. No byte is decrypted before the tag is compared.
+/// Opens a ciphertext with its tag behind it (GCM-AD: SP 800-38D, 7.2; RFC 5116, 5.1). None where
+/// the tag isn't this ciphertext's, also when an allocation fails, or `OutOfMemory`. No byte is
+/// decrypted before the tag is compared.
 #[tactic(auto, unfolding(crate::specs::Gcm::gcm_ad))]
 pub fn open(
     alloc: Global,
@@ -168,7 +169,9 @@ pub fn open(
     aad: &[u8],
     ct: &[u8],
 ) -> Result<Option<Vec<u8>>, AllocError>
-    ensures answer { IfOk result (λ pt. option_map (λ v. v.items) pt ≡ gcm_ad key.now nonce.now aad.now ct.now) }
+    ensures answer {
+        IfOk result (λ pt. option_map (λ v. v.items) pt ≡ gcm_ad key.now nonce.now aad.now ct.now)
+    }
     ensures refused { gcm_ad key.now nonce.now aad.now ct.now ≡ None → result ≡ Ok None }
 {
     if ct.len() < 16 {

@@ -1,8 +1,8 @@
-//! The product of blocks by a fixed one (SP 800-38D, 6.3), with a table of its multiples that is read
-//! whole, so no index and no branch depends on a block.
+//! The product of blocks by a fixed one (SP 800-38D, 6.3), with a table of its multiples that is
+//! read whole, so no index and no branch depends on a block.
 
-ghost use Rattle.std.specs.Prelude.{◌≡◌, ℕ, ◌+◌, ◌*◌, ◌/◌, ◌^◌, ◌%◌, ◌-◌, ◌<◌, slice_index};
-ghost use Rattle.aes128gcm.specs.Gcm.{times_x, multiple, product};
+ghost use Rattle.std.specs.Prelude.{◌≡◌, ◌*◌, ◌/◌, ◌^◌, ◌%◌};
+ghost use Rattle.aes128gcm.specs.Gcm.{times_x, product};
 
 use std::marker::Model;
 
@@ -15,14 +15,14 @@ pub(crate) struct GhashKey {
 
 // It is seen as the block, which is the first product.
 impl Model for GhashKey {
-    ghost use Rattle.std.specs.Prelude.{◌≡◌, ℕ, ◌*◌, ◌+◌, ◌^◌, ◌<◌, slice_index};
-    ghost use Rattle.aes128gcm.specs.Gcm.{multiple};
+    ghost use Rattle.std.specs.Prelude.{ℕ};
+    ghost use Rattle.aes128gcm.specs.Parts.{entry, AreMultiples};
 
     ghost Value = { ℕ };
 
-    ghost view = { λ k. slice_index k.high 0 * 2 ^ 64 + slice_index k.low 0 };
+    ghost view = { λ k. entry k.high k.low 0 };
 
-    ghost invariant = { λ k. (i : ℕ) → i < 128 → slice_index k.high i * 2 ^ 64 + slice_index k.low i ≡ multiple (slice_index k.high 0 * 2 ^ 64 + slice_index k.low 0) i };
+    ghost invariant = { λ k. AreMultiples k.high k.low };
 }
 
 /// The product with x (SP 800-38D, 6.3).

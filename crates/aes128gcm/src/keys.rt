@@ -1,8 +1,8 @@
 //! KEYEXPANSION (FIPS 197, 5.2), and keys in slices.
 
-ghost use Rattle.std.specs.Prelude.{◌≡◌, ℕ, ◌+◌, ◌<◌, ◌++◌, List, [], ◌∷◌, slice_index};
-ghost use Rattle.aes128gcm.specs.Keys.{AreKeys, AreSlicedKeys};
-ghost use Rattle.aes128gcm.specs.Aes.{xtimes, xor_with, sub_bytes, sub_word, rot_word, rcon, round_constant, word, next_key, round_key, cipher};
+ghost use Rattle.std.specs.Prelude.{◌≡◌, ℕ, ◌++◌, [], ◌∷◌, map};
+ghost use Rattle.aes128gcm.specs.Keys.{AreSlicedKeys};
+ghost use Rattle.aes128gcm.specs.Aes.{xtimes, xor_with, sub_bytes, round_constant, temp, next_key, cipher};
 
 use crate::blocks::{Block, encrypt_slices, load, store};
 use crate::sbox::sub_bytes;
@@ -58,9 +58,9 @@ fn xor_word(mut a: Word, b: &[u8]) -> Word
     a
 }
 
-/// SUBWORD of ROTWORD of the last word of a round key, and the round constant added (FIPS 197, 5.2).
-fn last_word(k: &Block, constant: u8) -> Word
-    ensures { (i : ℕ) → constant ≡ round_constant i → result ≡ xor_with (sub_word (rot_word (word k.now 3))) (rcon i) }
+/// The word `temp` behind a round key: SUBWORD of ROTWORD of its last, and Rcon (FIPS 197, 5.2).
+fn temp(k: &Block, constant: u8) -> Word
+    ensures { (i : ℕ) → constant ≡ round_constant i → result ≡ temp k.now i }
 {
     let s = sub_block(k);
     [s[13] ^ constant, s[14], s[15], s[12]]
@@ -71,36 +71,26 @@ fn last_word(k: &Block, constant: u8) -> Word
 fn next_key(k: &Block, constant: u8) -> Block
     ensures { (i : ℕ) → constant ≡ round_constant i → result ≡ next_key k.now i }
 {
-    let first = xor_word(last_word(k, constant), &k[..4]);
+    let first = xor_word(temp(k, constant), &k[..4]);
     let second = xor_word(first, &k[4..8]);
     let third = xor_word(second, &k[8..12]);
     let fourth = xor_word(third, &k[12..16]);
     concat_words(first, second, third, fourth)
 }
 
-/// KEYEXPANSION (FIPS 197, 5.2).
-#[tactic(auto, unfolding(crate::specs::Aes::round_key, crate::specs::Aes::round_constant, crate::specs::Aes::multiple))]
-fn expand_key(key: &Block) -> [Block; 11]
-    ensures { AreKeys key.now result }
-{
-    let mut keys = [*key; 11];
-    let mut constant = 1;
-    for i in 0..10 {
-        keys[i + 1] = next_key(&keys[i], constant);
-        constant = xtimes(constant);
-    }
-    keys
-}
-
-/// The round keys in slices, each in all four blocks.
-fn slice_keys(key: &Block) -> [Slices; 11]
+/// KEYEXPANSION: the round keys in slices, each in all four blocks (FIPS 197, 5.2).
+fn expand_key(key: &Block) -> [Slices; 11]
     ensures { AreSlicedKeys key.now result }
 {
-    let rounds = expand_key(key);
     let mut keys = [[0; 8]; 11];
-    for i in 0..11usize {
-        keys[i] = load(&rounds[i], &rounds[i], &rounds[i], &rounds[i]);
+    let mut k = *key;
+    let mut constant = 1;
+    for i in 0..10usize {
+        keys[i] = load(&k, &k, &k, &k);
+        k = next_key(&k, constant);
+        constant = xtimes(constant);
     }
+    keys[10] = load(&k, &k, &k, &k);
     keys
 }
 
@@ -128,7 +118,7 @@ impl Aes128 {
         ensures { result ≡ key.now }
     {
         Aes128 {
-            keys: slice_keys(key),
+            keys: expand_key(key),
         }
     }
 
@@ -140,7 +130,7 @@ impl Aes128 {
         c: &[u8; 16],
         d: &[u8; 16],
     ) -> [[u8; 16]; 4]
-        ensures { result ≡ cipher self.now a.now ∷ cipher self.now b.now ∷ cipher self.now c.now ∷ cipher self.now d.now ∷ [] }
+        ensures { result ≡ map (cipher self.now) (a.now ∷ b.now ∷ c.now ∷ d.now ∷ []) }
     {
         store(encrypt_slices(&self.keys, load(a, b, c, d)))
     }

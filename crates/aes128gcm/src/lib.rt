@@ -1,5 +1,5 @@
-//! AES-128-GCM (FIPS 197, SP 800-38D) with no index and no branch on secrets: four blocks at once, in
-//! slices.
+//! AES-128-GCM (FIPS 197, SP 800-38D) with no index and no branch on secrets: four blocks at once,
+//! in slices.
 #![tactic(auto)]
 
 mod blocks;

@@ -1,10 +1,9 @@
 //! Slices: eight words, of which word k has bit k of each of 64 bytes.
 //! The byte of row r, column c and block b is at bit 16r + 4c + b.
 
-ghost use Rattle.std.specs.Prelude.{◌≡◌, ℕ, ◌+◌, ◌*◌, ◌%◌, ◌/◌, ◌<◌, bit_xor, slice_index};
-ghost use Rattle.std.specs.Int.{bit_at};
-ghost use Rattle.aes128gcm.specs.Aes.{xtimes, mix};
-ghost use Rattle.aes128gcm.specs.Lanes.{lane};
+ghost use Rattle.std.specs.Prelude.{◌≡◌, ℕ, ◌+◌, ◌*◌, ◌%◌, ◌/◌, ◌<◌, bit_xor};
+ghost use Rattle.aes128gcm.specs.Aes.{xtimes};
+ghost use Rattle.aes128gcm.specs.Lanes.{lane, IsTransposed, MixesRows};
 ghost use Rattle.aes128gcm.specs.Nets.{rotate_16, rotate_32, shift_rows_word, transpose_words};
 
 /// Eight words in slices.
@@ -77,7 +76,7 @@ fn transpose_words(q: Slices) -> Slices
 /// The squares of bits turned over.
 #[inline(always)]
 pub(crate) fn transpose(q: Slices) -> Slices
-    ensures { (k i : ℕ) → k < 8 → i < 64 → bit_at (slice_index result k) i ≡ bit_at (slice_index q (i % 8)) (8 * (i / 8) + k) }
+    ensures { IsTransposed q result }
 {
     transpose_words(q)
 }
@@ -158,7 +157,7 @@ fn xtimes(q: Slices) -> Slices
 /// MIXCOLUMNS.
 #[inline(always)]
 pub(crate) fn mix_columns(q: Slices) -> Slices
-    ensures { (i : ℕ) → i < 64 → lane result i ≡ mix (lane q i) (lane q ((i + 16) % 64)) (lane q ((i + 32) % 64)) (lane q ((i + 48) % 64)) }
+    ensures { MixesRows q result }
 {
     let next = next_row(q);
     let both = add_slices(q, next);

@@ -8,9 +8,9 @@ use Rattle.aes128gcm.proofs.keys.Aes128.new.Goals as goal
 pub invariant_of-result : goal.invariant_of-result
 unfolding round_key
 invariant_of-result c b i d hb h =
-    subst (λ k. Holds (get_or c.slice_keys.result i d) b (round_key k i)) (sym (held-is (get_or c.slice_keys.result 0 []) c.args.key.now (c.slice_keys.ensures 0 0 [] (omega arith) (omega arith))))
-    (c.slice_keys.ensures b i d hb h)
+    subst (λ k. Holds (get_or c.expand_key.result i d) b (round_key k i)) (sym (held-is (get_or c.expand_key.result 0 []) c.args.key.now (c.expand_key.ensures 0 0 [] (omega arith) (omega arith))))
+    (c.expand_key.ensures b i d hb h)
 
 pub returns : goal.returns
 unfolding round_key
-returns c = held-is (get_or c.slice_keys.result 0 []) c.args.key.now (c.slice_keys.ensures 0 0 [] (omega arith) (omega arith))
+returns c = held-is (get_or c.expand_key.result 0 []) c.args.key.now (c.expand_key.ensures 0 0 [] (omega arith) (omega arith))
