@@ -1,5 +1,5 @@
 -- A test of every number below another, by computation.
-use Rattle.std.proofs.Common.{◌≡◌, ℕ, zero, suc, ◌<◌, Bool, true, ◌&&◌, arith, inl, inr, subst, sym}
+use Rattle.std.proofs.Common.{◌≡◌, ℕ, zero, suc, ◌<◌, Bool, true, ◌&&◌, arith, inl, inr, subst}
 use Rattle.std.proofs.lemmas.Bool.{and_parts, cases_lt}
 
 unfoldable pub all_below : (ℕ → Bool) → ℕ → Bool

@@ -1,5 +1,5 @@
 -- What GCM seals it opens.
-use Rattle.std.proofs.Common.{◌≡◌, ◌≢◌, ℕ, suc, ◌+◌, ◌-◌, ◌<◌, ◌≤◌, Bool, true, false, List, [], ◌∷◌, ◌++◌, length, take, drop, Some, None, ap, sym, ◌∙◌, refl, arith, length-append, inl, inr}
+use Rattle.std.proofs.Common.{◌≡◌, ◌≢◌, ℕ, ◌-◌, ◌<◌, ◌≤◌, true, false, List, [], ◌∷◌, ◌++◌, length, Some, None, ap, sym, ◌∙◌, refl, arith, length-append, inl, inr}
 use Rattle.std.specs.Prelude.{bit_xor, nat_lt, if◌then◌else◌}
 use Rattle.std.specs.Int.Bits.{xor_assoc, xor_self, xor_zero_r}
 use Rattle.std.specs.Int.{w128, to_be_bytes}
@@ -8,7 +8,7 @@ use Rattle.std.proofs.lemmas.List.{take_at, drop_at}
 use Rattle.std.proofs.lemmas.Bool.{le-ltb, lt-ltb, cases_Bool}
 use Rattle.std.proofs.lemmas.Slice.Eq.{bytes_eq-Decides}
 use Rattle.aes128gcm.specs.Aes.{xor_with}
-use Rattle.aes128gcm.specs.Gcm.{gctr, first_block, hash_input, hash_key, ghash, crypt, tag, gcm_ae, gcm_ad}
+use Rattle.aes128gcm.specs.Gcm.{gctr, hash_input, hash_key, ghash, crypt, tag, gcm_ae, gcm_ad}
 use Rattle.aes128gcm.specs.Laws.{OpensSealed, OpensWhereTagged, body, sent}
 use Rattle.aes128gcm.proofs.Streams.{length-xor_with}
 

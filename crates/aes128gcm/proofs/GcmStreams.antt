@@ -1,6 +1,6 @@
 -- GCTR block by block.
-use Rattle.std.proofs.Common.{◌≡◌, ℕ, zero, suc, ◌+◌, ◌*◌, ◌%◌, ◌^◌, ◌<◌, List, [], ◌∷◌, ◌++◌, length, take, drop, ap, sym, ◌∙◌, refl, arith, add-one, length-append, ◌≤◌, ◌-◌, append-nil}
-use Rattle.std.specs.Int.{w32, div_ceil, to_be_bytes, from_be_bytes}
+use Rattle.std.proofs.Common.{◌≡◌, ℕ, zero, suc, ◌+◌, ◌*◌, ◌%◌, ◌^◌, ◌<◌, List, ◌++◌, length, take, drop, ap, sym, ◌∙◌, refl, arith, add-one, length-append, ◌≤◌, ◌-◌, append-nil}
+use Rattle.std.specs.Int.{w32, div_ceil, to_be_bytes}
 use Rattle.std.proofs.lemmas.List.{drop_all, take_all, take_at, drop_at}
 use Rattle.std.proofs.lemmas.Nat.{from_be_bytes-to_be_bytes_4}
 use Rattle.aes128gcm.specs.Aes.{xor_with, cipher}

@@ -1,7 +1,7 @@
 -- GHASH of texts one after another.
-use Rattle.std.proofs.Common.{◌≡◌, ℕ, zero, suc, ◌+◌, ◌-◌, ◌*◌, ◌/◌, ◌<◌, ◌≤◌, ◌%◌, ◌^◌, List, [], ◌++◌, length, take, drop, replicate, ap, sym, ◌∙◌, refl, arith, length-append, length-drop, append-nil, append_assoc, add-one, min}
+use Rattle.std.proofs.Common.{◌≡◌, ℕ, zero, suc, ◌+◌, ◌-◌, ◌*◌, ◌/◌, ◌<◌, ◌≤◌, List, ◌++◌, length, take, drop, replicate, ap, sym, ◌∙◌, refl, arith, length-append, length-drop, append-nil, append_assoc, add-one, min}
 use Rattle.std.specs.Prelude.{bit_xor}
-use Rattle.std.specs.Int.{w64, w128, to_be_bytes, from_be_bytes, div_ceil}
+use Rattle.std.specs.Int.{w128, from_be_bytes, div_ceil}
 use Rattle.std.proofs.Math.Seq.{drop-append-add}
 use Rattle.std.proofs.lemmas.List.{take-append-le, drop-append-le, take_all, length-replicate, length-take-le}
 use Rattle.std.proofs.lemmas.Bool.{cases_lt}

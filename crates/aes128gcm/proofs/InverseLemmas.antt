@@ -1,5 +1,5 @@
 -- The inverse of each byte, by computation.
-use Rattle.std.proofs.Common.{◌≡◌, ℕ, suc, zero, ◌<◌, ◌+◌, ◌-◌, Bool, true, ◌==◌, refl, arith, eqb-true}
+use Rattle.std.proofs.Common.{◌≡◌, ℕ, suc, zero, Bool, true, ◌==◌, refl, arith, eqb-true}
 use Rattle.aes128gcm.specs.Aes.{times, multiples_sum, multiple, xtimes, inverse}
 use Rattle.aes128gcm.specs.Laws.{InverseInverts}
 use Rattle.aes128gcm.proofs.AllBelow.{all_below, all_below-at}

@@ -1,5 +1,5 @@
 -- Lanes of words that are made lane by lane.
-use Rattle.std.proofs.Common.{◌≡◌, ℕ, zero, suc, ◌+◌, ◌*◌, ◌<◌, ◌^◌, ◌%◌, ◌/◌, Bool, true, false, ◌==◌, List, [], ◌∷◌, map, length, get_or, refl, ap, sym, ◌∙◌, arith, eqb-true, inl, inr, subst}
+use Rattle.std.proofs.Common.{◌≡◌, ℕ, ◌+◌, ◌*◌, ◌<◌, ◌^◌, ◌%◌, Bool, true, ◌==◌, List, [], ◌∷◌, map, length, get_or, refl, ap, sym, ◌∙◌, arith, eqb-true, inl, inr, subst}
 use Rattle.std.specs.Prelude.{bit_xor}
 use Rattle.std.specs.Int.{bit_at}
 use Rattle.std.specs.Int.Bits.{xor_assoc}
@@ -8,7 +8,7 @@ use lib.Bits.{xor_block}
 use Rattle.std.proofs.lemmas.Nat.Bits.{bit_at_xor, bit_at-lt}
 use Rattle.aes128gcm.specs.Aes.{xtimes, mix, xor_with}
 use Rattle.aes128gcm.specs.Lanes.{number, bits_at, lane}
-use Rattle.aes128gcm.proofs.CircuitLemmas.{xor1, all_bits, AreBits, all_bits-at, bit_cases, bits-are}
+use Rattle.aes128gcm.proofs.CircuitLemmas.{xor1, all_bits, all_bits-at, bit_cases, bits-are}
 
 pub bits_at-map : (f : ℕ → ℕ) (i j : ℕ) → ((w : ℕ) → bit_at (f w) i ≡ bit_at w j) → (q : List ℕ) → bits_at (map f q) i ≡ bits_at q j
 bits_at-map f i j e [] = refl

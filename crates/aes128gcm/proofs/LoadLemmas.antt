@@ -1,8 +1,7 @@
 -- Blocks into slices and out again.
-use Rattle.std.proofs.Common.{◌≡◌, ℕ, zero, suc, ◌+◌, ◌-◌, ◌*◌, ◌<◌, ◌≤◌, ◌^◌, ◌%◌, ◌/◌, Bool, true, false, ◌==◌, List, [], ◌∷◌, length, get_or, refl, ap, sym, ◌∙◌, arith, eqb-true, subst, inl, inr, ◌⊎◌}
-use Rattle.std.specs.Prelude.{slice_index, bit_and}
+use Rattle.std.proofs.Common.{◌≡◌, ℕ, zero, suc, ◌+◌, ◌*◌, ◌<◌, ◌^◌, ◌%◌, ◌/◌, List, [], ◌∷◌, length, get_or, refl, ap, sym, ◌∙◌, arith, inl, inr, ◌⊎◌}
+use Rattle.std.specs.Prelude.{slice_index}
 use Rattle.std.specs.Int.{bit_at, w64, to_le_bytes}
-use Rattle.std.proofs.lemmas.Nat.Bits.{bit_at_lowest}
 use Rattle.std.proofs.lemmas.Bool.{cases_lt}
 use Rattle.aes128gcm.specs.Lanes.{number, bits_at, lane, place, Holds, held, IsEvenWord, IsOddWord, IsTransposed}
 use Rattle.aes128gcm.proofs.Words.{bytes_of}

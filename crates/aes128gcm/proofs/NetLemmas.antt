@@ -1,10 +1,10 @@
 -- Where each bit of a word of masks and shifts comes from: the word is run beside the places that its bits come from, and these compute.
-use Rattle.std.proofs.Common.{◌≡◌, ◌≢◌, ℕ, zero, suc, ◌+◌, ◌*◌, ◌/◌, ◌<◌, ◌≤◌, ◌^◌, ◌-◌, ◌%◌, min, max, Bool, true, false, cond, ◌&&◌, ◌==◌, nat_lt, List, [], ◌∷◌, map, length, get_or, refl, ap, sym, ◌∙◌, arith, eqb-true, subst, inl, inr, ◌⊎◌, lt-ltb, le-ltb}
-use Rattle.std.specs.Prelude.{bit_or, bit_and, slice_index}
+use Rattle.std.proofs.Common.{◌≡◌, ◌≢◌, ℕ, zero, suc, ◌+◌, ◌*◌, ◌/◌, ◌<◌, ◌≤◌, ◌^◌, ◌-◌, ◌%◌, min, max, true, cond, ◌==◌, nat_lt, List, [], ◌∷◌, map, get_or, refl, ap, sym, ◌∙◌, arith, eqb-true, inl, inr, lt-ltb, le-ltb}
+use Rattle.std.specs.Prelude.{bit_or, slice_index}
 use Rattle.std.specs.Int.{bit_at}
 use Rattle.std.proofs.lemmas.Nat.Bits.{bit_at_or, bit_at_and, bit_at-lt, bit_at-zero, bit_at_above, bit_at_cat_low, bit_at_cat_high}
-use Rattle.std.proofs.lemmas.Nat.{shr-shr, mod_below, pow_pos}
-use Rattle.std.proofs.lemmas.Bool.{and_parts, cases_lt}
+use Rattle.std.proofs.lemmas.Nat.{shr-shr, pow_pos}
+use Rattle.std.proofs.lemmas.Bool.{cases_lt}
 use Rattle.aes128gcm.proofs.AllBelow.{all_below, all_below-at}
 use Rattle.aes128gcm.specs.Nets.{masked, up, down, rotation_16, rotation_32, row_shift, transposition, rotate_16, rotate_32, shift_rows_word, transpose_words}
 

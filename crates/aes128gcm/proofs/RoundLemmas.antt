@@ -1,5 +1,5 @@
 -- Rounds on four blocks in slices.
-use Rattle.std.proofs.Common.{◌≡◌, ℕ, zero, suc, ◌+◌, ◌-◌, ◌*◌, ◌<◌, ◌^◌, ◌%◌, ◌/◌, Bool, true, false, ◌==◌, List, [], ◌∷◌, ◌++◌, length, get_or, refl, ap, sym, ◌∙◌, arith, eqb-true, subst}
+use Rattle.std.proofs.Common.{◌≡◌, ℕ, zero, suc, ◌+◌, ◌-◌, ◌*◌, ◌<◌, ◌^◌, ◌%◌, ◌/◌, true, ◌==◌, List, [], ◌∷◌, length, refl, ap, sym, ◌∙◌, arith, eqb-true, subst}
 use Rattle.std.specs.Prelude.{bit_xor, slice_index}
 use Rattle.std.specs.Int.{bit_at}
 use Rattle.std.proofs.lemmas.Nat.{shr-shr}
@@ -7,8 +7,7 @@ use Rattle.std.proofs.lemmas.Nat.Bits.{bit_at_cat_low}
 use Rattle.aes128gcm.proofs.AllBelow.{all_below, all_below-at}
 use Rattle.aes128gcm.specs.Aes.{s_box, sub_bytes, shift_rows, mix, mix_columns, xor_with, add_round_key, full_round, last_round, rounds, round_key, cipher}
 use Rattle.aes128gcm.proofs.Streams.{length-xor_with}
-use Rattle.aes128gcm.specs.Lanes.{number, bits_at, lane, place, Holds}
-use Rattle.aes128gcm.proofs.LaneLemmas.{eight}
+use Rattle.aes128gcm.specs.Lanes.{number, lane, place, Holds}
 
 index-xor_with : (s k : List ℕ) (n : ℕ) → n < length s → n < length k → slice_index (xor_with s k) n ≡ bit_xor (slice_index s n) (slice_index k n)
 index-xor_with [] k n h j = absurd (omega arith)

@@ -1,6 +1,5 @@
 -- Combining with a stream from the front.
-use Rattle.std.proofs.Common.{◌≡◌, ℕ, zero, suc, ◌+◌, ◌*◌, ◌<◌, ◌≤◌, List, [], ◌∷◌, ◌++◌, length, get_or, set, take, drop, min, ap, sym, refl, arith, add-one, length-append}
-use Rattle.std.proofs.Common.{◌%◌, ◌^◌}
+use Rattle.std.proofs.Common.{◌≡◌, ℕ, zero, suc, ◌+◌, ◌<◌, ◌≤◌, List, [], ◌∷◌, ◌++◌, length, get_or, set, take, drop, min, ap, sym, refl, arith, add-one}
 use Rattle.std.specs.Prelude.{bit_xor}
 use Rattle.aes128gcm.specs.Aes.{xor_with}
 

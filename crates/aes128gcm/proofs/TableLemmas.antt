@@ -1,6 +1,6 @@
 -- The product of blocks by a table.
-use Rattle.std.proofs.Common.{◌≡◌, ℕ, zero, suc, ◌+◌, ◌-◌, ◌*◌, ◌/◌, ◌%◌, ◌^◌, ◌<◌, ◌≤◌, ◌⊎◌, ◌≢◌, List, length, get_or, set, refl, ap, sym, ◌∙◌, arith, inl, inr, subst, add-one, get_or-set_other, get_or-set_same}
-use Rattle.std.specs.Prelude.{bit_and, bit_or, bit_xor, slice_index}
+use Rattle.std.proofs.Common.{◌≡◌, ℕ, zero, suc, ◌+◌, ◌-◌, ◌*◌, ◌/◌, ◌%◌, ◌^◌, ◌<◌, ◌≢◌, List, length, get_or, set, refl, ap, sym, ◌∙◌, arith, inl, inr, add-one, get_or-set_other, get_or-set_same}
+use Rattle.std.specs.Prelude.{bit_and, bit_or, bit_xor}
 use Rattle.std.proofs.lemmas.Bool.{cases_lt}
 use Rattle.std.proofs.lemmas.Nat.{and_mask, and_comm, shr-shr, or_shifted}
 use Rattle.std.proofs.lemmas.Nat.Bits.{bit_at_cat_low}

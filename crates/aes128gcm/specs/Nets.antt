@@ -1,5 +1,5 @@
 -- Words made of masks and shifts alone, over words or over where each bit comes from.
-use Rattle.std.specs.Prelude.{ℕ, ◌*◌, ◌/◌, ◌%◌, ◌^◌, List, [], ◌∷◌, map, bit_or, bit_and, slice_index}
+use Rattle.std.specs.Prelude.{ℕ, ◌*◌, ◌/◌, ◌%◌, ◌^◌, List, [], ◌∷◌, bit_or, bit_and, slice_index}
 
 unfoldable pub masked : ℕ → ℕ → ℕ
 masked m x = bit_and x m

@@ -169,9 +169,7 @@ pub fn open(
     aad: &[u8],
     ct: &[u8],
 ) -> Result<Option<Vec<u8>>, AllocError>
-    ensures answer {
-        IfOk result (λ pt. option_map (λ v. v.items) pt ≡ gcm_ad key.now nonce.now aad.now ct.now)
-    }
+    ensures answer { IfOk result (λ pt. option_map (λ v. v.items) pt ≡ gcm_ad key.now nonce.now aad.now ct.now) }
     ensures refused { gcm_ad key.now nonce.now aad.now ct.now ≡ None → result ≡ Ok None }
 {
     if ct.len() < 16 {

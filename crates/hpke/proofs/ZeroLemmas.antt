@@ -1,5 +1,5 @@
 -- Bytes that are folded to see whether all are zero.
-use Rattle.std.proofs.Common.{◌≡◌, ℕ, zero, suc, ◌+◌, ◌<◌, ◌≤◌, Bool, true, false, List, [], ◌∷◌, length, get_or, replicate, refl, ap, sym, ◌∙◌, arith, inl, inr, eqb-true}
+use Rattle.std.proofs.Common.{◌≡◌, ℕ, zero, suc, ◌+◌, ◌<◌, true, List, [], ◌∷◌, length, get_or, replicate, refl, ap, sym, ◌∙◌, arith, inl, inr, eqb-true}
 use Rattle.std.specs.Prelude.{bit_or, nat_eq}
 use Rattle.std.specs.Str.{bytes_eq}
 use Rattle.std.proofs.lemmas.Nat.{le_or_l, le_or_r}
@@ -35,15 +35,15 @@ zero_bytes b d n long en e =
     let e32 : d ≡ fold_bytes b 32 = e ∙ ap (fold_bytes b) en in
     elim (cases_Bool (bytes_eq b (replicate 32 0))) [
       | inl t ↦
-        let same : b ≡ replicate 32 0 = (bytes_eq-Decides b (replicate 32 0)).0 t in
-        let none : d ≡ 0 = e32 ∙ ap (λ z. fold_bytes z 32) same ∙ zeros_fold in
-        ap (λ z. nat_eq z 0) none ∙ sym t
+          let same : b ≡ replicate 32 0 = (bytes_eq-Decides b (replicate 32 0)).0 t in
+          let none : d ≡ 0 = e32 ∙ ap (λ z. fold_bytes z 32) same ∙ zeros_fold in
+          ap (λ z. nat_eq z 0) none ∙ sym t
       | inr f ↦ elim (cases_Bool (nat_eq d 0)) [
         | inl z ↦
-          let none : fold_bytes b 32 ≡ 0 = sym e32 ∙ eqb-true d 0 z in
-          let same : b ≡ replicate 32 0 = all_zeros b (λ k h. zero_below b 32 none k (omega arith)) ∙ ap (λ n. replicate n 0) long in
-          let t : bytes_eq b (replicate 32 0) ≡ true = (bytes_eq-Decides b (replicate 32 0)).1 same in
-          cc
+            let none : fold_bytes b 32 ≡ 0 = sym e32 ∙ eqb-true d 0 z in
+            let same : b ≡ replicate 32 0 = all_zeros b (λ k h. zero_below b 32 none k (omega arith)) ∙ ap (λ n. replicate n 0) long in
+            let t : bytes_eq b (replicate 32 0) ≡ true = (bytes_eq-Decides b (replicate 32 0)).1 same in
+            cc
         | inr z ↦ z ∙ sym f
       ]
     ]

@@ -38,9 +38,25 @@ fn key_schedule(shared_secret: &Secret, info: &[u8]) -> Context
     let info_hash = labeled_extract(&suite_id, b"", b"info_hash", info);
     let secret = labeled_extract(&suite_id, shared_secret, b"secret", b"");
     let mut key = [0; 16];
-    labeled_expand(&suite_id, &secret, b"key", &[0], &psk_id_hash, &info_hash, &mut key);
+    labeled_expand(
+        &suite_id,
+        &secret,
+        b"key",
+        &[0],
+        &psk_id_hash,
+        &info_hash,
+        &mut key,
+    );
     let mut nonce = [0; 12];
-    labeled_expand(&suite_id, &secret, b"base_nonce", &[0], &psk_id_hash, &info_hash, &mut nonce);
+    labeled_expand(
+        &suite_id,
+        &secret,
+        b"base_nonce",
+        &[0],
+        &psk_id_hash,
+        &info_hash,
+        &mut nonce,
+    );
     Context { key, nonce }
 }
 
@@ -63,9 +79,7 @@ pub fn seal(
     pt: &[u8],
     ikm: &[u8; 32],
 ) -> Result<Option<Sealed>, AllocError>
-    ensures answer {
-        IfOk result (λ s. sealing_of s ≡ seal_base pk.now info.now aad.now pt.now ikm.now)
-    }
+    ensures answer { IfOk result (λ s. sealing_of s ≡ seal_base pk.now info.now aad.now pt.now ikm.now) }
     ensures refused { seal_base pk.now info.now aad.now pt.now ikm.now ≡ None → result ≡ Ok None }
 {
     if !is_fit(pk) {
@@ -93,10 +107,8 @@ pub fn open(
     aad: &[u8],
     ct: &[u8],
 ) -> Result<Option<Vec<u8>>, AllocError>
-    ensures answer {
-        IfOk result (λ pt. option_map (λ v. v.items) pt
-            ≡ open_base enc.now sk.now info.now aad.now ct.now)
-    }
+    ensures answer { IfOk result (λ pt. option_map (λ v. v.items) pt
+        ≡ open_base enc.now sk.now info.now aad.now ct.now) }
     ensures refused { open_base enc.now sk.now info.now aad.now ct.now ≡ None → result ≡ Ok None }
 {
     if enc.len() != 32 {

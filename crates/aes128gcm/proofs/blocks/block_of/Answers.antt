@@ -1,4 +1,4 @@
-use Rattle.std.proofs.Common.{◌≡◌, ℕ, ◌+◌, ◌*◌, ◌/◌, ◌%◌, ap, sym, ◌∙◌, get_or}
+use Rattle.std.proofs.Common.{◌+◌, ◌*◌, ◌/◌, ◌%◌, ap, sym, ◌∙◌, get_or}
 use Rattle.std.specs.Int.{w64, to_le_bytes}
 use Rattle.aes128gcm.proofs.LoadLemmas.{joined_words, concat_words-even, concat_words-odd}
 use Rattle.aes128gcm.proofs.blocks.block_of.Goals as goal

@@ -1,4 +1,4 @@
-use Rattle.std.proofs.Common.{◌≡◌, ℕ, ◌≤◌, ◌<◌, ◌-◌, List, [], get_or, refl, arith, rules, ap, ◌∙◌}
+use Rattle.std.proofs.Common.{◌-◌, [], arith}
 use Rattle.aes128gcm.specs.Aes.{rounds, round_key}
 use Rattle.aes128gcm.proofs.RoundLemmas.{holds-first, holds-next, holds-done}
 use Rattle.aes128gcm.proofs.blocks.encrypt_slices.Goals as goal

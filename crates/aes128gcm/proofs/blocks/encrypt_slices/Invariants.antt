@@ -1,5 +1,5 @@
-use Rattle.std.proofs.Common.{◌≡◌, ℕ, ◌-◌, ◌<◌, List, get_or}
-use Rattle.aes128gcm.specs.Aes.{rounds, round_key}
+use Rattle.std.proofs.Common.{ℕ, ◌-◌, ◌<◌, List}
+use Rattle.aes128gcm.specs.Aes.{rounds}
 use Rattle.aes128gcm.specs.Lanes.{Holds}
 use Rattle.aes128gcm.specs.Keys.{AreSlicedKeys}
 use Rattle.aes128gcm.proofs.blocks.encrypt_slices.Given as goal

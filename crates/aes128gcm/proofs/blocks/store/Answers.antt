@@ -1,4 +1,4 @@
-use Rattle.std.proofs.Common.{◌≡◌, ℕ, ◌<◌, List, [], ◌∷◌, length, rules, arith}
+use Rattle.std.proofs.Common.{◌≡◌, length, rules, arith}
 use Rattle.aes128gcm.specs.Lanes.{Holds}
 use Rattle.aes128gcm.proofs.LoadLemmas.{holds-store, fourth_of}
 use Rattle.aes128gcm.proofs.blocks.store.Goals as goal

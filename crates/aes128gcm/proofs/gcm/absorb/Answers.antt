@@ -1,4 +1,4 @@
-use Rattle.std.proofs.Common.{◌≡◌, ℕ, ◌+◌, ◌*◌, take, drop, arith, rules}
+use Rattle.std.proofs.Common.{arith}
 use Rattle.aes128gcm.specs.Gcm.{pad}
 use Rattle.aes128gcm.proofs.GhashLemmas.{absorb_none, absorb_more, absorb_all, cut-part}
 use Rattle.aes128gcm.proofs.gcm.absorb.Goals as goal

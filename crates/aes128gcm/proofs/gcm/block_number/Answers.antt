@@ -1,4 +1,4 @@
-use Rattle.std.proofs.Common.{◌≡◌, ℕ, ◌≤◌, ◌-◌, ◌++◌, List, length, replicate, drop, refl, arith, ◌∙◌, rules, sym, ap}
+use Rattle.std.proofs.Common.{◌≡◌, ℕ, ◌≤◌, ◌++◌, List, length, replicate, drop, ◌∙◌, ap}
 use Rattle.std.specs.Int.{w128, from_be_bytes}
 use Rattle.aes128gcm.specs.Parts.{block_number}
 use Rattle.aes128gcm.proofs.Parts.{filled}

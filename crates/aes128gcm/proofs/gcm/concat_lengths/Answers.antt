@@ -1,4 +1,4 @@
-use Rattle.std.proofs.Common.{◌≡◌, [], ◌∷◌, refl, arith, ◌∙◌, rules}
+use Rattle.std.proofs.Common.{[], ◌∷◌, refl, rules}
 use Rattle.aes128gcm.proofs.Parts.{joined_at}
 use Rattle.aes128gcm.proofs.gcm.concat_lengths.Goals as goal
 

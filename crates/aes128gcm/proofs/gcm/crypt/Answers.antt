@@ -1,4 +1,4 @@
-use Rattle.std.proofs.Common.{◌+◌, ◌*◌, [], get_or, arith, rules, sym}
+use Rattle.std.proofs.Common.{◌*◌, [], get_or, arith, rules, sym}
 use Rattle.aes128gcm.specs.Gcm.{key_stream}
 use Rattle.aes128gcm.proofs.Streams.{xor_with-nil}
 use Rattle.aes128gcm.proofs.GcmStreams.{stream_four, all_streamed}

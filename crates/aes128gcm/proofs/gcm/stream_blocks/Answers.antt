@@ -1,4 +1,4 @@
-use Rattle.std.proofs.Common.{◌≡◌, ℕ, ◌+◌, ◌%◌, ◌^◌, List, [], get_or, refl, arith, ap, ◌∙◌}
+use Rattle.std.proofs.Common.{◌≡◌, ℕ, ◌+◌, ◌%◌, ◌^◌, List, [], get_or, refl, arith, ap}
 use Rattle.std.proofs.Math.Nat.{mod-mod}
 use Rattle.aes128gcm.specs.Aes.{cipher}
 use Rattle.aes128gcm.specs.Parts.{count_block}

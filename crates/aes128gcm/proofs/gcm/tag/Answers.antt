@@ -1,7 +1,7 @@
-use Rattle.std.proofs.Common.{◌≡◌, ℕ, List, length, replicate, refl, ap, sym, ◌∙◌}
+use Rattle.std.proofs.Common.{◌≡◌, ℕ, List, replicate, refl, ap, sym, ◌∙◌}
 use Rattle.std.specs.Int.{w128, to_be_bytes}
 use Rattle.aes128gcm.specs.Aes.{xor_with, cipher}
-use Rattle.aes128gcm.specs.Gcm.{first_block, hash_key, hash_input, ghash, gctr, tag}
+use Rattle.aes128gcm.specs.Gcm.{first_block, hash_key, hash_input, ghash, tag}
 use Rattle.aes128gcm.specs.Parts.{count_block, block_number}
 use Rattle.aes128gcm.proofs.CipherLemmas.{length-cipher}
 use Rattle.aes128gcm.proofs.GhashLemmas.{block_number-whole}

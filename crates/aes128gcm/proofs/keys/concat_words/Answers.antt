@@ -1,4 +1,4 @@
-use Rattle.std.proofs.Common.{arith, rules}
+use Rattle.std.proofs.Common.{rules}
 use Rattle.aes128gcm.proofs.Words.{sixteen}
 use Rattle.aes128gcm.proofs.keys.concat_words.Goals as goal
 

@@ -1,4 +1,4 @@
-use Rattle.std.proofs.Common.{◌≡◌, ℕ, length, ap, ◌∙◌, rules}
+use Rattle.std.proofs.Common.{ap, ◌∙◌, rules}
 use Rattle.aes128gcm.specs.Lanes.{lane}
 use Rattle.aes128gcm.proofs.CircuitLemmas.{lane-sub_words}
 use Rattle.aes128gcm.proofs.sbox.sub_bytes.Goals as goal

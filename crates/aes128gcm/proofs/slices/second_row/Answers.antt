@@ -1,4 +1,4 @@
-use Rattle.std.proofs.Common.{◌≡◌, ℕ, ◌+◌, ◌*◌, ◌/◌, ◌%◌, map, ap, ◌∙◌, rules}
+use Rattle.std.proofs.Common.{◌+◌, ◌%◌, map, ap, ◌∙◌, rules}
 use Rattle.aes128gcm.specs.Lanes.{lane}
 use Rattle.aes128gcm.specs.Nets.{rotate_32}
 use Rattle.aes128gcm.proofs.NetLemmas.{bit_at-rotate_32}

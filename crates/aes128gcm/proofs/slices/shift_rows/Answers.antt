@@ -1,4 +1,4 @@
-use Rattle.std.proofs.Common.{◌≡◌, ℕ, ◌+◌, ◌*◌, ◌/◌, ◌%◌, map, ap, ◌∙◌, rules}
+use Rattle.std.proofs.Common.{◌+◌, ◌*◌, ◌/◌, ◌%◌, map, ap, ◌∙◌, rules}
 use Rattle.aes128gcm.specs.Lanes.{lane}
 use Rattle.aes128gcm.specs.Nets.{shift_rows_word}
 use Rattle.aes128gcm.proofs.NetLemmas.{bit_at-shift_rows_word}

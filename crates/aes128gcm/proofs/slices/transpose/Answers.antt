@@ -1,4 +1,4 @@
-use Rattle.std.proofs.Common.{◌≡◌, ℕ, ap, ◌∙◌, rules, get_or}
+use Rattle.std.proofs.Common.{ap, ◌∙◌, get_or}
 use Rattle.std.specs.Int.{bit_at}
 use Rattle.aes128gcm.proofs.NetLemmas.{bit_at-transpose_words}
 use Rattle.aes128gcm.proofs.slices.transpose.Goals as goal

@@ -1,4 +1,4 @@
-use Rattle.std.proofs.Common.{◌≡◌, ℕ, rules}
+use Rattle.std.proofs.Common.{rules}
 use Rattle.aes128gcm.proofs.LaneLemmas.{lane-times}
 use Rattle.aes128gcm.proofs.slices.xtimes.Goals as goal
 

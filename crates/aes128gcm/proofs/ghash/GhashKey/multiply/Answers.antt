@@ -1,4 +1,4 @@
-use Rattle.std.proofs.Common.{◌≡◌, ℕ, ◌+◌, ◌-◌, ◌*◌, ◌/◌, ◌%◌, ◌^◌, ◌<◌, get_or, arith, rules, sym, ap, ◌∙◌}
+use Rattle.std.proofs.Common.{◌≡◌, ◌+◌, ◌/◌, ◌%◌, ◌^◌, get_or, arith, rules, ap, ◌∙◌}
 use Rattle.aes128gcm.specs.Gcm.{multiple, multiples_sum}
 use Rattle.aes128gcm.proofs.TableLemmas.{multiples_sum_none, multiples_sum_next, multiples_sum_all, top_bit, bottom_bit, words_joined, up_none, up_next, up_top}
 use Rattle.aes128gcm.proofs.ghash.GhashKey.multiply.Goals as goal

@@ -1,4 +1,4 @@
-use Rattle.std.proofs.Common.{◌≡◌, ℕ, List, length, rules, arith}
+use Rattle.std.proofs.Common.{rules, arith}
 use Rattle.aes128gcm.proofs.LoadLemmas.{four_lists}
 use Rattle.aes128gcm.specs.Aes.{cipher}
 use Rattle.aes128gcm.proofs.keys.Aes128.encrypt_four.Goals as goal

@@ -1,7 +1,6 @@
 use Rattle.std.proofs.Common.{[], get_or, arith, sym, subst}
 use Rattle.aes128gcm.specs.Aes.{round_key}
 use Rattle.aes128gcm.specs.Lanes.{Holds}
-use Rattle.aes128gcm.specs.Keys.{key_of}
 use Rattle.aes128gcm.proofs.LoadLemmas.{held-is}
 use Rattle.aes128gcm.proofs.keys.Aes128.new.Goals as goal
 
