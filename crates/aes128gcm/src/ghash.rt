@@ -1,8 +1,9 @@
 //! The product of blocks by a fixed one (SP 800-38D, 6.3), with a table of its multiples that is
 //! read whole, so no index and no branch depends on a block.
 
-ghost use Rattle.std.specs.Prelude.{◌≡◌, ◌*◌, ◌/◌, ◌^◌, ◌%◌};
+ghost use Rattle.std.specs.Prelude.{◌≡◌, ◌/◌, ◌^◌, ◌%◌};
 ghost use Rattle.aes128gcm.specs.Gcm.{times_x, product};
+ghost use Rattle.aes128gcm.specs.Parts.{AreCopies};
 
 use std::marker::Model;
 
@@ -47,13 +48,19 @@ fn low_word(x: u128) -> u64
     (x % (1 << 64)) as u64
 }
 
-/// The word where the highest bit of `bits` is one, else 0, with no branch.
-#[inline(always)]
-fn select(bits: u64, word: u64) -> u64
-    ensures { result ≡ bits / 2 ^ 63 % 2 * word }
+/// Each bit of a word, from the highest on, as 64 copies of itself. It stays a call: so whoever reads
+/// the words has no condition from which the compiler could make a branch.
+#[inline(never)]
+fn spread(bits: u64) -> [u64; 64]
+    ensures { AreCopies bits result }
 {
-    let bit = (bits >> 63) & 1;
-    0u64.wrapping_sub(bit) & word
+    let mut words = [0; 64];
+    let mut rest = bits;
+    for i in 0..64usize {
+        words[i] = 0u64.wrapping_sub(rest >> 63);
+        rest <<= 1;
+    }
+    words
 }
 
 impl GhashKey {
@@ -76,19 +83,17 @@ impl GhashKey {
     pub(crate) fn multiply(&self, x: u128) -> u128
         ensures { result ≡ product x self.now }
     {
-        let mut top = high_word(x);
-        let mut bottom = low_word(x);
+        let top = spread(high_word(x));
+        let bottom = spread(low_word(x));
         let mut high = 0;
         let mut low = 0;
         for i in 0..64usize {
-            high ^= select(top, self.high[i]);
-            low ^= select(top, self.low[i]);
-            top <<= 1;
+            high ^= top[i] & self.high[i];
+            low ^= top[i] & self.low[i];
         }
         for j in 0..64usize {
-            high ^= select(bottom, self.high[j + 64]);
-            low ^= select(bottom, self.low[j + 64]);
-            bottom <<= 1;
+            high ^= bottom[j] & self.high[j + 64];
+            low ^= bottom[j] & self.low[j + 64];
         }
         (high as u128) << 64 | low as u128
     }
