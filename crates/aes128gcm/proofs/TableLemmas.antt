@@ -112,16 +112,15 @@ up_next k w t e =
 pub up_top : (k w t : ℕ) → k < 64 → t ≡ up k w → t / 2 ^ 63 % 2 ≡ w / 2 ^ (63 - k) % 2
 up_top k w t h e = ap (λ z. z / 2 ^ 63 % 2) e ∙ bit_at-up_mid k w 63 (omega arith) (omega arith)
 
-pub copies_more : (words : List ℕ) (bits rest i new : ℕ) → length words ≡ 64 → i < 64
-    → ((k : ℕ) → k < i → get_or words k 0 ≡ bits / 2 ^ (63 - k) % 2 * 0xFFFFFFFFFFFFFFFF) → rest ≡ up i bits → rest < 2 ^ 64
+pub copies_more : (words : List ℕ) (x i rest new : ℕ) → length words ≡ 128 → i < 128
+    → ((k : ℕ) → k < i → get_or words k 0 ≡ x / 2 ^ (127 - k) % 2 * 0xFFFFFFFFFFFFFFFF) → rest / 2 ^ 63 % 2 ≡ x / 2 ^ (127 - i) % 2 → rest < 2 ^ 64
     → new ≡ (0 + (18446744073709551616 - rest / 2 ^ 63)) % 18446744073709551616
-    → (k : ℕ) → k < i + 1 → get_or (set words i new) k 0 ≡ bits / 2 ^ (63 - k) % 2 * 0xFFFFFFFFFFFFFFFF
-copies_more words bits rest i new long h before er small en k hk = elim (cases_lt k i) [
+    → (k : ℕ) → k < i + 1 → get_or (set words i new) k 0 ≡ x / 2 ^ (127 - k) % 2 * 0xFFFFFFFFFFFFFFFF
+copies_more words x i rest new long h before bit small en k hk = elim (cases_lt k i) [
   | inl lt ↦ let ne : k ≢ i = omega arith in rw get_or-set_other (before k lt)
   | inr ge ↦
       let same : k ≡ i = omega arith in
       let il : i < length words = omega arith in
-      let bit : rest / 2 ^ 63 % 2 ≡ bits / 2 ^ (63 - i) % 2 = up_top i bits rest h er in
-      let b : rest / 2 ^ 63 ≡ bits / 2 ^ (63 - i) % 2 = omega arith in
+      let b : rest / 2 ^ 63 ≡ x / 2 ^ (127 - i) % 2 = omega arith in
       rw (same, get_or-set_same) (en ∙ copies_of (rest / 2 ^ 63) (omega arith) ∙ ap (λ n. n * 0xFFFFFFFFFFFFFFFF) b)
 ]

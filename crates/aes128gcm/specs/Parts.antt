@@ -23,6 +23,6 @@ entry high low i = slice_index high i * 2 ^ 64 + slice_index low i
 abbrev pub AreMultiples : List ℕ → List ℕ → Type 0
 AreMultiples high low = (i : ℕ) → i < 128 → entry high low i ≡ multiple (entry high low 0) i
 
--- each word has 64 copies of a bit, from the highest on
+-- each word has 64 copies of a block's bit, from the highest on
 abbrev pub AreCopies : ℕ → List ℕ → Type 0
-AreCopies bits words = (k : ℕ) → k < 64 → slice_index words k ≡ bits / 2 ^ (63 - k) % 2 * 0xFFFFFFFFFFFFFFFF
+AreCopies x words = (k : ℕ) → k < 128 → slice_index words k ≡ x / 2 ^ (127 - k) % 2 * 0xFFFFFFFFFFFFFFFF

@@ -4,6 +4,3 @@ use Rattle.aes128gcm.proofs.ghash.GhashKey.multiply.Given as goal
 
 abbrev pub invariant-loop-i : goal.invariant-loop-i
 invariant-loop-i l = l.high * 2 ^ 64 + l.low ≡ multiples_sum l.x l.self l.i
-
-abbrev pub invariant-loop-j : goal.invariant-loop-j
-invariant-loop-j l = l.high * 2 ^ 64 + l.low ≡ multiples_sum l.x l.self (64 + l.j)
