@@ -1,0 +1,3 @@
+pub mod Rfc7748
+pub mod Laws
+pub mod States
