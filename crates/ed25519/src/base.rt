@@ -3,12 +3,14 @@ ghost use Rattle.std.specs.Prelude.{◌≡◌, ℕ, ◌<◌, ◌+◌};
 ghost use Rattle.curve25519.specs.Curve25519.{Point, base, multiple};
 ghost use Rattle.ed25519.specs.Coordinates.{number, Represents, Caches};
 ghost use Rattle.ed25519.specs.Digits.{digit, column};
-ghost use Rattle.ed25519.specs.Rows.{row_of, IsRowOf};
+ghost use Rattle.ed25519.specs.Rows.{words_of, row_of, IsRowOf};
 
 use crate::cached::CachedPoint;
 use crate::multiples::MULTIPLES;
 use crate::point::ExtendedPoint;
 use field25519::{Element, Words};
+
+const WORD: u128 = 18446744073709551616;
 
 /// A row of the table of multiples.
 #[derive(Clone, Copy)]
@@ -18,32 +20,32 @@ struct Row {
     product: Words,
 }
 
-/// Row `at` of a list of rows.
+/// The number of two halves.
 #[inline]
-fn row_at(list: &[u64; 192], at: usize) -> Row
+fn words_at(list: &[u128; 96], at: usize) -> Words
+    requires { at < 95 }
+    ensures { result ≡ words_of list.now at }
+{
+    let low = list[at];
+    let high = list[at + 1];
+    Words {
+        a: (low % WORD) as u64,
+        b: (low / WORD) as u64,
+        c: (high % WORD) as u64,
+        d: (high / WORD) as u64,
+    }
+}
+
+/// The three numbers of a list for the digit `at`.
+#[inline]
+fn row_at(list: &[u128; 96], at: usize) -> Row
     requires { at < 16 }
     ensures { result ≡ row_of list.now at }
 {
-    let from = 12 * at;
     Row {
-        sum: Words {
-            a: list[from],
-            b: list[from + 1],
-            c: list[from + 2],
-            d: list[from + 3],
-        },
-        difference: Words {
-            a: list[from + 4],
-            b: list[from + 5],
-            c: list[from + 6],
-            d: list[from + 7],
-        },
-        product: Words {
-            a: list[from + 8],
-            b: list[from + 9],
-            c: list[from + 10],
-            d: list[from + 11],
-        },
+        sum: words_at(list, 6 * at),
+        difference: words_at(list, 6 * at + 2),
+        product: words_at(list, 6 * at + 4),
     }
 }
 
@@ -77,7 +79,7 @@ fn pick_row(bit: u64, x: Row, y: Row) -> Row
 }
 
 /// The row that the digit asks for. Each row is read.
-fn select_row(list: &[u64; 192], digit: u64) -> Row
+fn select_row(list: &[u128; 96], digit: u64) -> Row
     requires { digit < 16 }
     ensures { result ≡ row_of list.now digit }
 {
