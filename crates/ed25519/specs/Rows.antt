@@ -3,7 +3,7 @@ use Rattle.std.specs.Prelude.{ℕ, ◌≡◌, ◌+◌, ◌*◌, ◌/◌, ◌%◌
 use Rattle.curve25519.specs.Field25519.{field, residue}
 use Rattle.curve25519.specs.Curve25519.{d, Point}
 use Rattle.field25519.specs.declared.words.Words.{Words}
-use Rattle.ed25519.specs.declared.base.Row.{Row}
+use Rattle.ed25519.specs.declared.base_multiple.Row.{Row}
 use Rattle.ed25519.specs.Coordinates.{number}
 open field use {Of, add, mul, neg}
 

@@ -6,7 +6,7 @@ use Rattle.field25519.specs.Bytes.{joined_words}
 use Rattle.ed25519.specs.Coordinates.{number, Represents}
 use Rattle.ed25519.specs.Digits.{column}
 use Rattle.ed25519.proofs.Columns.{level, lower, top, bottom}
-use Rattle.ed25519.proofs.base.multiply_base.Goals as goal
+use Rattle.ed25519.proofs.base_multiple.multiply_base.Goals as goal
 
 pub loop-i-init : goal.loop-i-init
 loop-i-init c = subst (Represents c.origin-sum.result) (sym (ap (multiple base) (top (number c.args.scalar) 8) ∙ multiple-zero curve base)) c.origin-sum.ensures

@@ -1,7 +1,7 @@
 //! Multiples of the base point, in the same steps for any scalar.
-ghost use Rattle.std.specs.Prelude.{◌≡◌, ℕ, ◌<◌, ◌+◌};
+ghost use Rattle.std.specs.Prelude.{◌≡◌, ◌<◌};
 ghost use Rattle.curve25519.specs.Curve25519.{Point, base, multiple};
-ghost use Rattle.ed25519.specs.Coordinates.{number, Represents, Caches};
+ghost use Rattle.ed25519.specs.Coordinates.{number, Represents, Caches, AddsOfBase};
 ghost use Rattle.ed25519.specs.Digits.{digit, column};
 ghost use Rattle.ed25519.specs.Rows.{words_of, row_of, IsRowOf};
 
@@ -121,7 +121,7 @@ fn digit_at(scalar: Words, at: u32) -> u64
 /// The sum with a multiple of each list, for one digit of each eight.
 fn add_column(point: ExtendedPoint, scalar: Words, at: u32) -> ExtendedPoint
     requires { at < 8 }
-    ensures { (m : ℕ) → Represents point (multiple base m) → Represents result (multiple base (m + column (number scalar) at 8)) }
+    ensures { AddsOfBase point (column (number scalar) at 8) result }
 {
     let mut sum = point;
     for j in 0..8u32 {

@@ -7,7 +7,7 @@ use Rattle.ed25519.specs.Digits.{digit, column}
 use Rattle.ed25519.specs.Rows.{row_of, IsRowOf}
 use Rattle.ed25519.proofs.Columns.{column-zero, column-suc}
 use Rattle.ed25519.proofs.Table.{multiples_are}
-use Rattle.ed25519.proofs.base.add_column.Goals as goal
+use Rattle.ed25519.proofs.base_multiple.add_column.Goals as goal
 
 pub loop-j-init : goal.loop-j-init
 loop-j-init c = λ m rep.

@@ -1,7 +1,7 @@
-//! Multiples of a point, in time that depends on the scalar.
-ghost use Rattle.std.specs.Prelude.{◌≡◌, ℕ, ◌<◌, ◌+◌};
-ghost use Rattle.curve25519.specs.Curve25519.{Point, On, multiple};
-ghost use Rattle.ed25519.specs.Coordinates.{number, Represents, Caches};
+//! Multiples of a point, in time that depends on it and on the scalar.
+ghost use Rattle.std.specs.Prelude.{◌<◌};
+ghost use Rattle.curve25519.specs.Curve25519.{Point, On};
+ghost use Rattle.ed25519.specs.Coordinates.{number, Represents, CacheMultiples, AddsMultiple, IsMultiple};
 
 use crate::cached::CachedPoint;
 use crate::point::ExtendedPoint;
@@ -18,9 +18,7 @@ struct SmallMultiples {
 impl SmallMultiples {
     /// The multiples of the point.
     fn new(point: &ExtendedPoint) -> SmallMultiples
-        ensures one { (q : Point) → On q → Represents point.now q → Caches result.one (multiple q 1) }
-        ensures two { (q : Point) → On q → Represents point.now q → Caches result.two (multiple q 2) }
-        ensures three { (q : Point) → On q → Represents point.now q → Caches result.three (multiple q 3) }
+        ensures { (q : Point) → On q → Represents point.now q → CacheMultiples result q }
     {
         let one = CachedPoint::new(point);
         let twice = point.double();
@@ -36,7 +34,7 @@ impl SmallMultiples {
     #[inline]
     fn add_to(&self, sum: ExtendedPoint, digit: u64) -> ExtendedPoint
         requires { digit < 4 }
-        ensures { (q : Point) (m : ℕ) → On q → Caches self.now.one (multiple q 1) → Caches self.now.two (multiple q 2) → Caches self.now.three (multiple q 3) → Represents sum (multiple q m) → Represents result (multiple q (m + digit)) }
+        ensures { AddsMultiple self.now sum digit result }
     {
         match digit {
             0 => sum,
@@ -48,8 +46,8 @@ impl SmallMultiples {
 }
 
 /// The point as many times as the scalar says, in time that depends on both.
-pub(crate) fn multiply(point: &ExtendedPoint, scalar: Words) -> ExtendedPoint
-    ensures { (q : Point) → On q → Represents point.now q → Represents result (multiple q (number scalar)) }
+pub(crate) fn multiply_point(point: &ExtendedPoint, scalar: Words) -> ExtendedPoint
+    ensures { IsMultiple point.now (number scalar) result }
 {
     let multiples = SmallMultiples::new(point);
     let mut sum = ExtendedPoint::origin();

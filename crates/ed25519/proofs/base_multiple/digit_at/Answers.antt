@@ -1,6 +1,6 @@
 use Rattle.ed25519.specs.Coordinates.{number}
 use Rattle.ed25519.proofs.Columns.{digit_of_bits}
-use Rattle.ed25519.proofs.base.digit_at.Goals as goal
+use Rattle.ed25519.proofs.base_multiple.digit_at.Goals as goal
 
 pub returns-clause-is : goal.returns-clause-is
 returns-clause-is c =
