@@ -1,0 +1,7 @@
+pub mod Points
+pub mod Signatures
+pub mod Laws
+pub mod Coordinates
+pub mod Digits
+pub mod Rows
+pub mod Equation
