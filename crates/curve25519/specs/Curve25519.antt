@@ -27,6 +27,14 @@ origin = neutral field
 abbrev pub multiple : Point → ℕ → Point
 multiple p n = multiple_over field d p n
 
+-- the point that adds up with p to the neutral one
+abbrev pub negative : Point → Point
+negative p = (field.neg p.0, p.1)
+
+-- the u-coordinate of RFC 7748, section 4.1: (1 + y) / (1 - y)
+abbrev pub u_of : Point → field.Of
+u_of p = field.mul (field.add field.one p.1) (field.inv (field.add field.one (field.neg p.1)))
+
 -- B: its y is 4 / 5, its x even
 unfoldable pub base : Point
 base = (
