@@ -1,11 +1,10 @@
 -- The Montgomery ladder of RFC 7748 computes multiples.
-use Rattle.std.proofs.Common.{◌≡◌, ℕ, zero, suc, ◌+◌, ◌*◌, ◌/◌, ◌%◌, ◌^◌, ◌<◌, Bool, List, [], ◌∷◌, refl, sym, ap, ap₂, subst, ◌∙◌, ◌≢◌, ◌⊎◌, inl, inr, add-zero, div-add-mod', arith}
+use Rattle.std.proofs.Common.{◌≡◌, ℕ, zero, suc, ◌+◌, ◌*◌, ◌/◌, ◌%◌, ◌^◌, ◌<◌, [], ◌∷◌, refl, sym, ap, ap₂, subst, ◌∙◌, ◌≢◌, ◌⊎◌, inl, inr, arith}
 use Rattle.curve25519.specs.Ladder.{State as State_of, ladder_step as step_of, ladder as ladder_of}
-use Rattle.curve25519.proofs.Ring.{Ring}
-use Rattle.curve25519.proofs.Identities.{Term, v, i, o, ◌⊕◌, ◌⊗◌, -◌, ◌⊖◌, lookup, ring, follows}
-use Rattle.curve25519.proofs.Field.{Field, factor, cancel_factor, not_product}
-use Rattle.curve25519.proofs.Edwards.{Pair, IsOn, cross, above_x, above_y, below_x, below_y, below_x≢nil, below_y≢nil, one≢nil}
-use Rattle.curve25519.proofs.Group.{Curve, On, ◌+ₚ◌, stays, inverse_x, inverse_y, associates, with_origin, commutes_here, origin, multiple, multiple_on, multiples_add, multiple-zero, multiple-suc, multiple-one}
+use Rattle.curve25519.proofs.Identities.{Term, v, i, o, ◌⊕◌, ◌⊗◌, ◌⊖◌, lookup, ring, follows, -◌}
+use Rattle.curve25519.proofs.Field.{factor, cancel_factor, not_product}
+use Rattle.curve25519.proofs.Edwards.{Pair, cross, above_y, below_x, below_y, below_x≢nil, below_y≢nil, one≢nil}
+use Rattle.curve25519.proofs.Group.{Curve, On, ◌+ₚ◌, stays, inverse_y, associates, with_origin, commutes_here, origin, multiple, multiple_on, multiples_add, multiple-zero, multiple-suc, multiple-one}
 
 module _ (c : Curve) where
   open c use {field, d, s, root, not_square}
@@ -96,6 +95,10 @@ module _ (c : Curve) where
       (follows field.over 4 ((v 1 ⊗ v 1 ⊕ v 0 ⊗ (- (v 0))) ⊗ v 3) i
       ((v 3, v 1 ⊗ v 1, rhs (v 2) (v 0) (v 1)) ∷ (i, (i ⊖ v 2 ⊗ v 0 ⊗ (- (v 0)) ⊗ v 1 ⊗ v 1) ⊗ v 3, i) ∷ []) refl
       (lookup field.over (p.0 ∷ p.1 ∷ d ∷ field.over.numbers.inv (below_y field d p (neg p.0, p.1)) ∷ [])) (on, (inverse_y c p (negated p) on (negated_on p on), tt)))
+
+  pub cancels_point : (p : Pair field) → On c p → ◌+ₚ◌ c p (neg p.0, p.1) ≡ origin c
+  unfolding negated
+  cancels_point = cancels
 
   difference : (p b : Pair field) → On c p → On c b → ◌+ₚ◌ c (◌+ₚ◌ c p b) (negated p) ≡ b
   difference p b on on' =
