@@ -1,4 +1,4 @@
-use Rattle.std.proofs.Common.{◌≡◌, ℕ, ◌+◌, ◌-◌, ◌/◌, ◌%◌, ◌^◌, ◌<◌, arith, rules, refl, ◌∙◌}
+use Rattle.std.proofs.Common.{ℕ, ◌+◌, ◌-◌, ◌/◌, ◌%◌, ◌^◌, arith, rules, refl, ◌∙◌}
 use Rattle.std.proofs.lemmas.List.{length-set}
 use Rattle.aes128gcm.proofs.TableLemmas.{up_none, up_next, up_top, top_bit, bottom_bit, copies_more}
 use Rattle.aes128gcm.proofs.ghash.spread.Goals as goal

@@ -1,6 +1,6 @@
-use Rattle.std.proofs.Common.{◌≡◌, ℕ, ◌+◌, ◌-◌, ◌*◌, ◌/◌, ◌%◌, ◌^◌, ◌<◌, get_or, arith, rules, refl, ap, ◌∙◌}
+use Rattle.std.proofs.Common.{ℕ, ◌+◌, ◌-◌, ◌/◌, ◌%◌, ◌^◌, get_or, arith, rules, refl, ap, ◌∙◌}
 use Rattle.std.specs.Prelude.{bit_and}
-use Rattle.aes128gcm.specs.Gcm.{multiple, multiples_sum}
+use Rattle.aes128gcm.specs.Gcm.{multiple}
 use Rattle.aes128gcm.proofs.TableLemmas.{multiples_sum_none, multiples_sum_next, multiples_sum_all, words_joined, under_copies}
 use Rattle.aes128gcm.proofs.ghash.GhashKey.multiply.Goals as goal
 

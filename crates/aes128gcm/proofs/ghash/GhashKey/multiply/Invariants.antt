@@ -1,4 +1,4 @@
-use Rattle.std.proofs.Common.{◌≡◌, ℕ, ◌+◌, ◌*◌, ◌^◌}
+use Rattle.std.proofs.Common.{◌≡◌, ◌+◌, ◌*◌, ◌^◌}
 use Rattle.aes128gcm.specs.Gcm.{multiples_sum}
 use Rattle.aes128gcm.proofs.ghash.GhashKey.multiply.Given as goal
 
