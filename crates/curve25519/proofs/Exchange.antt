@@ -68,7 +68,7 @@ module _ (c : Curve) where
       let u = prime.inverse m h in
       k (ap (λ t. t % l) (sym (one-mul n)) ∙ ap (λ t. t * n % l) (sym u.1) ∙ mul-mod_first (u.0 * m) n l ∙ ap (λ t. t % l) (mul_assoc u.0 m n) ∙ sym (mul-mod_second u.0 (m * n) l) ∙ ap (λ t. u.0 * t % l) e ∙ ap (λ t. t % l) (mul-zero u.0) ∙ mod-eq_of_lt (omega (arith, prime.above_one)))
 
-  abbrev Proper : Pair field → Type 0
+  abbrev pub Proper : Pair field → Type 0
   Proper p = (add one p.1 ≢ nil) × (add one (neg p.1) ≢ nil)
 
   proper : (b : Pair field) (l n : ℕ) → Base b l → n % l ≢ 0 → Proper (multiple c b n)
@@ -81,6 +81,10 @@ module _ (c : Curve) where
 
   pub mont : Pair field → Of
   mont p = mul (add one p.1) (field.over.numbers.inv (add one (neg p.1)))
+
+  pub mont_of : (p : Pair field) → mont p ≡ mul (add one p.1) (field.over.numbers.inv (add one (neg p.1)))
+  unfolding mont
+  mont_of p = refl
 
   start_of : (p : Pair field) → On c p → Proper p → Start c p (mont p)
   unfolding mont
@@ -103,7 +107,7 @@ module _ (c : Curve) where
   abbrev pub exchange : Of → ℕ → ℕ → Of → Of
   exchange = exchange_of field.over.numbers
 
-  exchange_is : (k : Of) (f n : ℕ) (p : Pair field) → On c p → Proper p → mul k (add one d) ≡ neg d → n < 2 ^ f → Proper (multiple c p n) → exchange k f n (mont p) ≡ mont (multiple c p n)
+  pub exchange_is : (k : Of) (f n : ℕ) (p : Pair field) → On c p → Proper p → mul k (add one d) ≡ neg d → n < 2 ^ f → Proper (multiple c p n) → exchange k f n (mont p) ≡ mont (multiple c p n)
   unfolding exchange_of
   exchange_is k f n p on h law low h' = reads (ladder c k (mont p) f n).0 (ladder c k (mont p) f n).1 (multiple c p n) (ladder_holds c k (mont p) p f n (start_of p on h) law low).0 h'
 

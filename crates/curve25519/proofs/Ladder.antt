@@ -96,6 +96,10 @@ module _ (c : Curve) where
       ((v 3, v 1 ⊗ v 1, rhs (v 2) (v 0) (v 1)) ∷ (i, (i ⊖ v 2 ⊗ v 0 ⊗ (- (v 0)) ⊗ v 1 ⊗ v 1) ⊗ v 3, i) ∷ []) refl
       (lookup field.over (p.0 ∷ p.1 ∷ d ∷ field.over.numbers.inv (below_y field d p (neg p.0, p.1)) ∷ [])) (on, (inverse_y c p (negated p) on (negated_on p on), tt)))
 
+  pub cancels_point : (p : Pair field) → On c p → ◌+ₚ◌ c p (neg p.0, p.1) ≡ origin c
+  unfolding negated
+  cancels_point = cancels
+
   difference : (p b : Pair field) → On c p → On c b → ◌+ₚ◌ c (◌+ₚ◌ c p b) (negated p) ≡ b
   difference p b on on' =
       ap (λ t. ◌+ₚ◌ c t (negated p)) (commutes_here c p b) ∙ associates c b p (negated p) on' on (negated_on p on) ∙ ap (◌+ₚ◌ c b) (cancels p on) ∙ with_origin c b

@@ -3,22 +3,23 @@ use Rattle.std.proofs.Common.{◌≡◌, ◌≢◌, ℕ, ◌+◌, ◌-◌, ◌*�
 use Rattle.std.proofs.lemmas.Bool.{eqb-false}
 use native.Mathlib.Fin.{val_path}
 use Prim.Native.Nat.{Fin}
-use Rattle.curve25519.proofs.Group.{origin}
+use Rattle.curve25519.proofs.Group.{origin, multiple}
 use Rattle.curve25519.specs.Modular.{of, modulo}
 use Rattle.curve25519.specs.Field25519.{prime, field, residue}
 use Rattle.curve25519.specs.Curve25519.{d, base, order}
 use Rattle.curve25519.specs.Ladder.{exchange}
 use Rattle.curve25519.specs.X25519.{a24, nine, x25519, clear_cofactor}
+use Rattle.curve25519.specs.Laws.{LadderLaw}
 use Rattle.curve25519.proofs.Curve25519.{curve, base_on}
 use Rattle.curve25519.proofs.Order.{order_of_base}
 use Rattle.curve25519.proofs.OrderPrime.{p_order}
-use Rattle.curve25519.proofs.Exchange.{Base, commutes, exchanges_nonzero, mont, mont_is}
+use Rattle.curve25519.proofs.Exchange.{Base, mont_of, exchange_is, commutes, exchanges_nonzero, mont, mont_is}
 
 law : field.mul a24 (field.add field.one d) ≡ field.neg d
 unfolding a24 d residue field modulo of
 law = val_path refl
 
-not_origin : base ≢ origin curve
+pub not_origin : base ≢ origin curve
 unfolding base residue field modulo of
 not_origin e = eqb-false 15112221349535400772501151409588531511454012693041857206046113283949847762202 0 refl (ap (λ (t : Fin prime × Fin prime). t.0.0) e)
 
@@ -42,6 +43,11 @@ low_nonzero e = eqb-false ((1 + (prime - 463168356949264781694283940034751631413
 
 nine_is : mont curve base ≡ nine
 nine_is = mont_is curve base nine nine_stands low_nonzero
+
+-- the ladder takes the u-coordinate of a point to that of its multiple
+pub ladder_law : LadderLaw
+ladder_law n p low on h h' =
+    ap (exchange field a24 255 n) (sym (mont_of curve p)) ∙ exchange_is curve a24 255 n p on h law low h' ∙ mont_of curve (multiple curve p n)
 
 -- a clamped scalar is no multiple of the order
 clamped : (n : ℕ) → 2 ^ 254 ≤ 8 * n → 8 * n < 2 ^ 255 → 8 * n % order ≢ 0

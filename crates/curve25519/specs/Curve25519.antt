@@ -27,9 +27,20 @@ origin = neutral field
 abbrev pub multiple : Point → ℕ → Point
 multiple p n = multiple_over field d p n
 
+-- the point that adds up with p to the neutral one
+abbrev pub negative : Point → Point
+negative p = (field.neg p.0, p.1)
+
+-- the u-coordinate of RFC 7748, section 4.1: (1 + y) / (1 - y)
+abbrev pub u_of : Point → field.Of
+u_of p = field.mul (field.add field.one p.1) (field.inv (field.add field.one (field.neg p.1)))
+
 -- B: its y is 4 / 5, its x even
 unfoldable pub base : Point
-base = (residue 15112221349535400772501151409588531511454012693041857206046113283949847762202, residue 46316835694926478169428394003475163141307993866256225615783033603165251855960)
+base = (
+  residue 15112221349535400772501151409588531511454012693041857206046113283949847762202,
+  residue 46316835694926478169428394003475163141307993866256225615783033603165251855960,
+)
 
 -- L: 2^252 + 27742317777372353535851937790883648493
 abbrev pub order : ℕ

@@ -14,7 +14,7 @@ module _ (f : Numbers) where
   swap zero t = t
   swap (suc n) t = (t.2, t.3, t.0, t.1)
 
-  -- A, AA, B, BB, E, C, D, DA and CB, and the new state
+  -- A, AA, B, BB, E, C, D, DA and CB of the RFC, and the new state
   abbrev pub advance : Of → Of → State → State
   advance a24 x1 t =
       let a = add t.0 t.1 in
@@ -26,7 +26,9 @@ module _ (f : Numbers) where
       let d = add t.2 (neg t.3) in
       let da = mul d a in
       let cb = mul c b in
-      (mul aa bb, mul e (add aa (mul a24 e)), mul (add da cb) (add da cb), mul x1 (mul (add da (neg cb)) (add da (neg cb))))
+      let sum = add da cb in
+      let difference = add da (neg cb) in
+      (mul aa bb, mul e (add aa (mul a24 e)), mul sum sum, mul x1 (mul difference difference))
 
   -- one step, which swaps before and after where the bit is 1
   abbrev pub ladder_step : Of → Of → ℕ → State → State

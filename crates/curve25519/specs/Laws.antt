@@ -1,7 +1,42 @@
--- The laws that X25519 and Ed25519 rest on.
-use Rattle.std.specs.Prelude.{◌≡◌, ℕ, ◌+◌, ◌*◌, ◌%◌, ◌^◌, ◌<◌, ◌≤◌}
-use Rattle.curve25519.specs.Curve25519.{◌+ₚ◌, multiple, base, order}
+-- The laws of the field, of the curve's group and of the ladder.
+use Rattle.std.specs.Prelude.{◌≡◌, ◌≢◌, ℕ, ◌+◌, ◌*◌, ◌%◌, ◌^◌, ◌<◌, ◌≤◌}
+use Rattle.curve25519.specs.Field25519.{field}
+use Rattle.curve25519.specs.Curve25519.{Point, On, ◌+ₚ◌, origin, multiple, negative, u_of, base, order}
 use Rattle.curve25519.specs.X25519.{x25519, nine}
+
+-- what q doesn't divide has an inverse modulo q, so q is prime
+abbrev pub IsPrime : ℕ → Type 0
+IsPrime q = (n : ℕ) → n % q ≢ 0 → (u : ℕ) × (u * n % q ≡ 1)
+
+-- the inverse of the field is one
+abbrev pub InverseLaw : Type 0
+InverseLaw = (x : field.Of) → x ≢ field.nil → field.mul x (field.inv x) ≡ field.one
+
+-- the points of the curve are a commutative group
+abbrev pub ClosedLaw : Type 0
+ClosedLaw = (p q : Point) → On p → On q → On (p +ₚ q)
+
+abbrev pub AssociativeLaw : Type 0
+AssociativeLaw = (p q r : Point) → On p → On q → On r → ((p +ₚ q) +ₚ r) ≡ (p +ₚ (q +ₚ r))
+
+abbrev pub CommutativeLaw : Type 0
+CommutativeLaw = (p q : Point) → (p +ₚ q) ≡ (q +ₚ p)
+
+abbrev pub NeutralLaw : Type 0
+NeutralLaw = (p : Point) → (p +ₚ origin) ≡ p
+
+abbrev pub OppositeLaw : Type 0
+OppositeLaw = (p : Point) → On p → (p +ₚ negative p) ≡ origin
+
+-- 1 + y and 1 - y aren't 0: the point has a u-coordinate, and that isn't 0
+abbrev pub HasCoordinate : Point → Type 0
+HasCoordinate p = (field.add field.one p.1 ≢ field.nil) × (field.add field.one (field.neg p.1) ≢ field.nil)
+
+-- the ladder takes the u-coordinate of a point to that of its multiple
+abbrev pub LadderLaw : Type 0
+LadderLaw =
+    (n : ℕ) (p : Point) → n < 2 ^ 255 → On p → HasCoordinate p → HasCoordinate (multiple p n)
+    → x25519 n (u_of p) ≡ u_of (multiple p n)
 
 -- two clamped scalars, in either order, take 9 to one number
 abbrev pub ExchangeLaw : Type 0

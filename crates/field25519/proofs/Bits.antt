@@ -1,5 +1,6 @@
 -- The bits of a number of four words.
 use Rattle.std.specs.Prelude.{◌≡◌, ℕ, suc, ◌+◌, ◌-◌, ◌*◌, ◌/◌, ◌%◌, ◌^◌, ◌<◌, ◌≤◌}
+use Rattle.std.specs.Int.Bits.{bit_xor, xor_assoc, xor_self, xor_zero_l, xor_zero_r}
 use Rattle.std.proofs.Common.{sym, ap, ◌∙◌, mul_assoc, arith}
 use Rattle.std.proofs.Math.Nat.{pow-suc, div-div-eq-div-mul, add-mul-div_left}
 use Rattle.std.proofs.lemmas.Nat.{pow-add, pow_pos}
@@ -53,3 +54,12 @@ pub bit_d : (a b c d t : ℕ) → a < 2 ^ 64 → b < 2 ^ 64 → c < 2 ^ 64 → 1
 bit_d a b c d t la lb lc from to =
     ap (λ x. x % 2) (sym (shifted c d (t - 128) (t - 192) lc (omega arith)) ∙ sym (shifted b (c + 2 ^ 64 * d) (t - 64) (t - 128) lb (omega arith)) ∙ sym (shifted a (up b c d) t (t - 64) la (omega arith)))
     ∙ ap (λ x. x / 2 ^ t % 2) (nested a b c d)
+
+-- ---- two words that are the same
+
+pub xor_same : (x y : ℕ) → x ≡ y → bit_xor x y ≡ 0
+xor_same x y e = ap (λ t. bit_xor t y) e ∙ xor_self y
+
+pub same_of_xor : (x y : ℕ) → bit_xor x y ≡ 0 → x ≡ y
+same_of_xor x y e =
+    sym (xor_zero_r x) ∙ ap (bit_xor x) (sym (xor_self y)) ∙ sym (xor_assoc x y y) ∙ ap (λ t. bit_xor t y) e ∙ xor_zero_l y

@@ -1,9 +1,9 @@
 //! The operations on numbers modulo 2^255 - 19 in five digits of 51 bits.
 //!
-//! Digits are tight, as a product leaves them, or loose, as a sum or a difference of two tight ones has them.
+//! Digits are tight, as a product leaves them, or loose, as a sum or a difference has them.
 ghost use Rattle.std.specs.Prelude.{◌≡◌, ◌+◌, ◌*◌, ◌^◌, ◌<◌, ◌%◌};
 ghost use Rattle.curve25519.specs.Field25519.{prime};
-ghost use Rattle.field25519.specs.Bytes.{joined_words};
+ghost use Rattle.field25519.specs.Bytes.{joined};
 ghost use Rattle.field25519.specs.Digits.{number, AreTight, AreLoose, AreShort};
 ghost use Rattle.field25519.specs.Sums.{value};
 
@@ -34,6 +34,20 @@ const TWICE_PRIME_LOW: u64 = 4503599627370458;
 /// Its other digits.
 const TWICE_PRIME_HIGH: u64 = 4503599627370494;
 
+/// Where words and digits cut each other.
+const TWO_TO_12: u64 = 4096;
+
+const TWO_TO_13: u64 = 8192;
+
+const TWO_TO_25: u64 = 33554432;
+
+const TWO_TO_26: u64 = 67108864;
+
+const TWO_TO_38: u64 = 274877906944;
+
+const TWO_TO_39: u64 = 549755813888;
+
+/// The product of two digits, one of them perhaps times 19.
 #[inline(always)]
 fn wide(x: u64, y: u64) -> u128
     requires x_low { x < 2 ^ 54 }
@@ -165,14 +179,14 @@ pub fn subtract(x: Digits, y: Digits) -> Digits
 #[inline]
 pub fn from_words(w: Words) -> Digits
     ensures tight { AreTight result }
-    ensures same_number { number result ≡ joined_words w.a w.b w.c w.d % 2 ^ 255 }
+    ensures same_number { number result ≡ joined w % 2 ^ 255 }
 {
     Digits {
-        a: w.a % 2251799813685248,
-        b: w.a / 2251799813685248 + w.b % 274877906944 * 8192,
-        c: w.b / 274877906944 + w.c % 33554432 * 67108864,
-        d: w.c / 33554432 + w.d % 4096 * 549755813888,
-        e: w.d / 4096 % 2251799813685248,
+        a: w.a % BASE,
+        b: w.a / BASE + w.b % TWO_TO_38 * TWO_TO_13,
+        c: w.b / TWO_TO_38 + w.c % TWO_TO_25 * TWO_TO_26,
+        d: w.c / TWO_TO_25 + w.d % TWO_TO_12 * TWO_TO_39,
+        e: w.d / TWO_TO_12 % BASE,
     }
 }
 
@@ -206,13 +220,13 @@ pub fn reduce(x: Digits) -> Digits
 #[inline]
 pub fn to_words(x: Digits) -> Words
     requires short { AreShort x }
-    ensures same_number { joined_words result.a result.b result.c result.d ≡ number x }
+    ensures same_number { joined result ≡ number x }
 {
     Words {
-        a: x.a + x.b % 8192 * 2251799813685248,
-        b: x.b / 8192 + x.c % 67108864 * 274877906944,
-        c: x.c / 67108864 + x.d % 549755813888 * 33554432,
-        d: x.d / 549755813888 + x.e * 4096,
+        a: x.a + x.b % TWO_TO_13 * BASE,
+        b: x.b / TWO_TO_13 + x.c % TWO_TO_26 * TWO_TO_38,
+        c: x.c / TWO_TO_26 + x.d % TWO_TO_39 * TWO_TO_25,
+        d: x.d / TWO_TO_39 + x.e * TWO_TO_12,
     }
 }
 

@@ -1,7 +1,7 @@
 //! Elements of the field of the numbers modulo 2^255 - 19.
 ghost use Rattle.std.specs.Prelude.{◌≡◌, ℕ, ◌+◌, ◌*◌, ◌^◌, ◌-◌, ◌<◌, ◌%◌, ◌==◌};
 ghost use Rattle.curve25519.specs.Field25519.{field, coded_number, residue, least, raise};
-ghost use Rattle.field25519.specs.Bytes.{joined_words};
+ghost use Rattle.field25519.specs.Bytes.{joined};
 ghost use Rattle.field25519.specs.Digits.{number, AreTight, AreLoose};
 
 use crate::digits;
@@ -9,7 +9,7 @@ use crate::digits::Digits;
 use crate::words::Words;
 use std::marker::Model;
 
-/// A number of the field, with digits that are nearly reduced.
+/// A number of the field with tight digits, as a product leaves them.
 #[derive(Drop)]
 pub struct Element {
     digits: Digits,
@@ -25,7 +25,7 @@ impl Model for Element {
     ghost invariant = { λ x. AreTight x.digits };
 }
 
-/// A sum or a difference of two, of which products are made.
+/// A sum or a difference of two elements, of which products are made.
 #[derive(Drop)]
 pub struct Loose {
     digits: Digits,
@@ -42,7 +42,7 @@ impl Model for Loose {
 }
 
 impl Element {
-    /// A small number.
+    /// The element of a small number.
     #[inline]
     pub fn small(n: u32) -> Element
         ensures { result ≡ residue n }
@@ -86,25 +86,25 @@ impl Element {
         }
     }
 
-    /// The number of 255 bits that the words have, without the top bit.
+    /// The element of the 255 lower bits of four words.
     #[inline]
     pub fn from_words(w: Words) -> Element
-        ensures { result ≡ residue (joined_words w.a w.b w.c w.d % 2 ^ 255) }
+        ensures { result ≡ residue (joined w % 2 ^ 255) }
     {
         Element {
             digits: digits::from_words(w),
         }
     }
 
-    /// The words of the least number.
+    /// The words of the least number that this is modulo the prime.
     #[inline]
     pub fn words(&self) -> Words
-        ensures { joined_words result.a result.b result.c result.d ≡ least self.now }
+        ensures { joined result ≡ least self.now }
     {
         digits::to_words(digits::reduce(self.digits))
     }
 
-    /// The number squared so many times.
+    /// The number squared a number of times, which is public.
     pub fn square_times(&self, times: u32) -> Element
         ensures { result ≡ raise self.now (2 ^ times) }
     {
@@ -142,7 +142,7 @@ impl Element {
         most.square_times(5).multiply(&eleven)
     }
 
-    /// The power (p + 3) / 8, a root of what is a fourth power.
+    /// The power (p + 3) / 8, the first candidate for a square root (RFC 8032, section 5.1.3).
     pub fn root_candidate(&self) -> Element
         ensures { result ≡ raise self.now (2 ^ 252 - 2) }
     {
@@ -150,13 +150,11 @@ impl Element {
         most.square_times(2).multiply(&self.square())
     }
 
-    /// Whether the two are one number of the field.
+    /// Whether the two are one number of the field, in the same steps for any.
     pub fn equals(&self, other: &Element) -> bool
         ensures { result ≡ (least self.now == least other.now) }
     {
-        let x = self.words();
-        let y = other.words();
-        x.a == y.a && x.b == y.b && x.c == y.c && x.d == y.d
+        self.words().equals(other.words())
     }
 
     /// The same number, as a factor.
@@ -169,6 +167,7 @@ impl Element {
         }
     }
 
+    /// The sum.
     #[inline]
     pub fn add(&self, other: &Element) -> Loose
         ensures { result ≡ field.add self.now other.now }
@@ -178,6 +177,7 @@ impl Element {
         }
     }
 
+    /// The difference.
     #[inline]
     pub fn subtract(&self, other: &Element) -> Loose
         ensures { result ≡ field.add self.now (field.neg other.now) }
@@ -187,12 +187,11 @@ impl Element {
         }
     }
 
-    /// Whether this is 0.
+    /// Whether this is 0, in the same steps for any.
     pub fn is_zero(&self) -> bool
         ensures { result ≡ (least self.now == 0) }
     {
-        let w = self.words();
-        w.a == 0 && w.b == 0 && w.c == 0 && w.d == 0
+        self.words().is_zero()
     }
 
     /// The lowest bit of the least number.
@@ -210,6 +209,7 @@ impl Element {
         less.multiply(&Element::small(1).loose())
     }
 
+    /// The product.
     #[inline]
     pub fn multiply(&self, other: &Element) -> Element
         ensures { result ≡ field.mul self.now other.now }
@@ -217,6 +217,7 @@ impl Element {
         self.loose().multiply(&other.loose())
     }
 
+    /// The square.
     #[inline]
     pub fn square(&self) -> Element
         ensures { result ≡ field.mul self.now self.now }
@@ -226,6 +227,7 @@ impl Element {
 }
 
 impl Loose {
+    /// The product.
     #[inline]
     pub fn multiply(&self, other: &Loose) -> Element
         ensures { result ≡ field.mul self.now other.now }
@@ -235,6 +237,7 @@ impl Loose {
         }
     }
 
+    /// The square.
     #[inline]
     pub fn square(&self) -> Element
         ensures { result ≡ field.mul self.now self.now }

@@ -5,7 +5,8 @@ use Rattle.x25519.specs.Rfc7748.{nine_bytes, x25519_bytes, clear_cofactor_bytes}
 
 -- two parties, whatever their secrets, come to one shared secret
 abbrev pub ExchangeLaw : Type 0
-ExchangeLaw = (a b : List ℕ) → x25519_bytes a (x25519_bytes b nine_bytes) ≡ x25519_bytes b (x25519_bytes a nine_bytes)
+ExchangeLaw =
+    (a b : List ℕ) → x25519_bytes a (x25519_bytes b nine_bytes) ≡ x25519_bytes b (x25519_bytes a nine_bytes)
 
 -- a secret never brings a public key to 0
 abbrev pub NonzeroLaw : Type 0

@@ -3,7 +3,7 @@ ghost use Rattle.std.specs.Prelude.{◌≡◌, ◌<◌};
 ghost use Rattle.curve25519.specs.Field25519.{field};
 ghost use Rattle.curve25519.specs.Ladder.{State, swap as swap_over, advance as advance_over, ladder as ladder_over};
 ghost use Rattle.curve25519.specs.X25519.{a24};
-ghost use Rattle.field25519.specs.Bytes.{joined_words};
+ghost use Rattle.field25519.specs.Bytes.{joined};
 ghost use Rattle.x25519.specs.States.{coded_state};
 
 use field25519::{Element, Words};
@@ -91,7 +91,7 @@ impl Ladder {
 
     /// The state after the 255 bits of the scalar. Each bit's second swap is made with the next bit's first.
     pub fn climb(scalar: Words, u: &Element) -> Ladder
-        ensures { result ≡ ladder_over field a24 u.now 255 (joined_words scalar.a scalar.b scalar.c scalar.d) }
+        ensures { result ≡ ladder_over field a24 u.now 255 (joined scalar) }
     {
         let mut now = Ladder::start(u);
         let mut last = 0u64;

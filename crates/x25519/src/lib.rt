@@ -20,6 +20,7 @@ pub const BASE_POINT: [u8; 32] = [
 ];
 
 /// The u-coordinate of the scalar times the point (RFC 7748, section 5).
+#[inline(never)]
 pub fn x25519(scalar: &[u8; 32], u: &[u8; 32]) -> [u8; 32]
     ensures { result ≡ x25519_bytes scalar.now u.now }
 {

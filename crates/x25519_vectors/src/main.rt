@@ -1,7 +1,7 @@
-//! Reads lines of a count, a scalar and a u-coordinate, and prints what so many iterations of X25519 give.
+//! Iterates X25519: a line has a count, a scalar and a u-coordinate, and the last result is printed.
 //!
-//! An iteration is that of RFC 7748, section 5.2: the result is the next scalar, and the scalar the next
-//! u-coordinate. Scalars, coordinates and results are in hex.
+//! An iteration is that of RFC 7748, section 5.2: the result is the next scalar, and the scalar is the
+//! next u-coordinate. Scalars, coordinates and results are in hex.
 #![tactic(auto)]
 
 use hex::FromHex;

@@ -1,5 +1,5 @@
-use Rattle.std.proofs.Common.{◌∙◌, ◌<◌, rules}
-use Rattle.x25519.proofs.Steps.{no_bit, stepped, both_low}
+use Rattle.std.proofs.Common.{◌∙◌, rules}
+use Rattle.x25519.proofs.Steps.{no_bit, stepped}
 use Rattle.x25519.proofs.ladder.Ladder.climb.Goals as goal
 
 pub loop-i-init : goal.loop-i-init
