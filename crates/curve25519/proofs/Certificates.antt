@@ -1,5 +1,5 @@
 -- A certificate of primality that the kernel computes.
-use Rattle.std.proofs.Common.{◌≡◌, ◌≢◌, ℕ, zero, suc, ◌+◌, ◌-◌, ◌*◌, ◌/◌, ◌%◌, ◌^◌, ◌<◌, ◌≤◌, Bool, true, false, ◌&&◌, not, eqb, ltb, eqb-true, ltb-true, List, [], ◌∷◌, refl, sym, ap, ◌∙◌, true≢false}
+use Rattle.std.proofs.Common.{◌≡◌, ◌≢◌, ℕ, suc, ◌/◌, ◌%◌, ◌^◌, Bool, true, false, ◌&&◌, not, eqb, ltb, eqb-true, ltb-true, List, [], ◌∷◌, refl, sym, ◌∙◌}
 use Rattle.std.proofs.lemmas.Bool.{eqb-false}
 use Rattle.curve25519.proofs.Evaluation.{and_parts}
 use Rattle.curve25519.specs.Powers.{power}

@@ -1,10 +1,9 @@
 -- The twisted Edwards law with a = -1 over a field is complete, closed and commutative, and what associativity rests on.
 -- The certificates are found by tools/curve25519/make_curve.py; antt checks them.
-use Rattle.std.proofs.Common.{◌≡◌, ℕ, Bool, List, [], ◌∷◌, refl, sym, ap, ap₂, ◌∙◌, ◌≢◌, ◌⊎◌, inl, inr}
+use Rattle.std.proofs.Common.{◌≡◌, ℕ, [], ◌∷◌, refl, ap, ap₂, ◌∙◌, ◌≢◌, ◌⊎◌, inl, inr}
 use Rattle.curve25519.specs.Edwards.{Pair as Pair_of, IsOn as IsOn_of, cross as cross_of, above_x as above_x_of, above_y as above_y_of, below_x as below_x_of, below_y as below_y_of, sum as sum_of, NotSquare as NotSquare_of}
-use Rattle.curve25519.proofs.Ring.{Ring}
-use Rattle.curve25519.proofs.Identities.{Term, v, i, o, ◌⊕◌, ◌⊗◌, -◌, ◌⊖◌, ⟦_⟧, lookup, ring, follows}
-use Rattle.curve25519.proofs.Field.{Field, factor, cancel_factor, not_product}
+use Rattle.curve25519.proofs.Identities.{Term, v, i, o, ◌⊕◌, ◌⊗◌, ◌⊖◌, lookup, ring, follows, -◌}
+use Rattle.curve25519.proofs.Field.{Field, factor}
 
 -- ---- the law as terms
 

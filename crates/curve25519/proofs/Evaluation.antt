@@ -1,6 +1,6 @@
 -- The normaliser keeps the value.
-use Rattle.std.proofs.Common.{◌≡◌, ℕ, zero, suc, ◌+◌, ◌*◌, ◌<◌, Bool, true, false, ◌&&◌, List, [], ◌∷◌, eqb, ltb, refl, sym, ap, ap₂, ◌∙◌, eqb-true, ltb-true, tests, not-suc-le-zero, arith, true≢false}
-use Rattle.curve25519.proofs.Ring.{Ring, nil-add, nil-mul, one-mul, distrib_right, exchange, mul-swap, num, num-zero, num-one, num-add, num-mul}
+use Rattle.std.proofs.Common.{◌≡◌, ℕ, zero, suc, ◌<◌, Bool, true, false, ◌&&◌, List, [], ◌∷◌, eqb, ltb, refl, sym, ap, ap₂, ◌∙◌, eqb-true, ltb-true, tests, not-suc-le-zero, arith, true≢false}
+use Rattle.curve25519.proofs.Ring.{Ring, nil-add, nil-mul, distrib_right, exchange, mul-swap, num, num-zero, num-one, num-add, num-mul}
 use Rattle.curve25519.proofs.Polynomials.{P, plus_list, scale, times_list, none, whole, plus, times, variable, all_none, is_none, same_list, same, Expr, var, unit, _sum, _prod, norm, within}
 
 pub and_parts : (a b : Bool) → (a && b) ≡ true → (a ≡ true) × (b ≡ true)

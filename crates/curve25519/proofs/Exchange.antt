@@ -1,14 +1,13 @@
 -- Two scalars in either order: the law of a key exchange by the ladder.
-use Rattle.std.proofs.Common.{◌≡◌, ℕ, zero, suc, ◌+◌, ◌*◌, ◌/◌, ◌%◌, ◌^◌, ◌<◌, Bool, List, [], ◌∷◌, refl, sym, ap, ap₂, subst, ◌∙◌, ◌≢◌, ◌⊎◌, inl, inr, mul_comm, mul_assoc, mod-eq_of_lt, mul-zero, one-mul, arith}
-use Rattle.std.proofs.lemmas.Nat.{mul-mod_first, mul-mod_second, mul-mod}
+use Rattle.std.proofs.Common.{◌≡◌, ℕ, zero, suc, ◌+◌, ◌*◌, ◌%◌, ◌^◌, ◌<◌, [], ◌∷◌, refl, sym, ap, ap₂, subst, ◌∙◌, ◌≢◌, mul_comm, mul_assoc, mod-eq_of_lt, mul-zero, one-mul, arith}
+use Rattle.std.proofs.lemmas.Nat.{mul-mod_first, mul-mod_second}
 use Rattle.curve25519.specs.Ladder.{exchange as exchange_of}
-use Rattle.curve25519.proofs.Ring.{Ring}
-use Rattle.curve25519.proofs.Identities.{Term, v, i, o, ◌⊕◌, ◌⊗◌, -◌, ◌⊖◌, lookup, ring, follows}
-use Rattle.curve25519.proofs.Field.{Field, factor, cancel_factor, not_product}
-use Rattle.curve25519.proofs.Edwards.{Pair, IsOn, below_y, one≢nil}
-use Rattle.curve25519.proofs.Group.{Curve, On, ◌+ₚ◌, stays, inverse_y, with_origin, origin, origin_on, multiple, multiple_on, multiples_add, multiple-zero, multiple-suc, multiple-one, multiple-mul, multiple-mod}
+use Rattle.curve25519.proofs.Identities.{Term, v, i, o, ◌⊕◌, ◌⊗◌, ◌⊖◌, lookup, follows, -◌}
+use Rattle.curve25519.proofs.Field.{factor, not_product}
+use Rattle.curve25519.proofs.Edwards.{Pair, below_y}
+use Rattle.curve25519.proofs.Group.{Curve, On, ◌+ₚ◌, inverse_y, with_origin, origin, multiple, multiple_on, multiples_add, multiple-zero, multiple-suc, multiple-one, multiple-mul, multiple-mod}
 use Rattle.curve25519.proofs.Prime.{IsPrime}
-use Rattle.curve25519.proofs.Ladder.{Stands, Start, finite, root_nil, ladder, ladder_holds}
+use Rattle.curve25519.proofs.Ladder.{Stands, Start, root_nil, ladder, ladder_holds}
 
 module _ (c : Curve) where
   open c use {field, d, s, root, not_square}

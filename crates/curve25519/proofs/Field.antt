@@ -1,7 +1,7 @@
 -- A field: a ring with an inverse, in which equality is decided.
-use Rattle.std.proofs.Common.{◌≡◌, ◌≢◌, ◌⊎◌, ℕ, List, [], ◌∷◌, refl, sym, ap, ◌∙◌, inl, inr}
+use Rattle.std.proofs.Common.{◌≡◌, ◌≢◌, ◌⊎◌, [], ◌∷◌, refl}
 use Rattle.curve25519.proofs.Ring.{Ring}
-use Rattle.curve25519.proofs.Identities.{v, i, o, ◌⊕◌, ◌⊗◌, -◌, ◌⊖◌, lookup, ring, follows}
+use Rattle.curve25519.proofs.Identities.{v, i, o, ◌⊗◌, ◌⊖◌, lookup, follows, -◌}
 
 pub record Field : Type 1 where
   pub over : Ring

@@ -1,12 +1,11 @@
 -- The laws of the field of the numbers modulo 2^255 - 19.
-use Rattle.std.specs.Prelude.{◌≡◌, ◌≢◌, ◌⊎◌, ℕ, ◌+◌, ◌-◌, ◌*◌, ◌%◌, ◌^◌, ◌<◌, refl}
-use Rattle.std.proofs.Common.{sym, ap, ap₂, ◌∙◌, ltb-true, add-one, arith}
-use Rattle.std.proofs.Math.Nat.{mod-mod}
+use Rattle.std.specs.Prelude.{◌≡◌, ◌≢◌, ◌⊎◌, ℕ, ◌+◌, ◌-◌, ◌*◌, ◌%◌, ◌<◌, refl}
+use Rattle.std.proofs.Common.{sym, ap, ◌∙◌, ltb-true, arith}
 use Rattle.std.proofs.lemmas.Nat.{mul-mod}
 use Rattle.curve25519.specs.Modular.{of, modulo}
 use Rattle.curve25519.specs.Powers.{power}
 use Rattle.curve25519.specs.Field25519.{prime, positive, field, residue, least, raise}
-use Rattle.curve25519.proofs.Ring.{Ring, IsRing, nil-add}
+use Rattle.curve25519.proofs.Ring.{Ring, IsRing}
 use Rattle.curve25519.proofs.Field.{Field}
 use Rattle.curve25519.proofs.Powers.{power_mod_self, power-add, power-mul, power-one}
 use Rattle.curve25519.proofs.Modular.{of_same, of_self, modular, mul-inv as inverse_is, decide as decided, two≢nil as two_is}

@@ -1,6 +1,5 @@
 -- That 2 ^ 255 - 19 is prime: a tree of certificates, written by tools/curve25519/pratt.py.
-use Rattle.std.proofs.Common.{◌≡◌, ℕ, ◌-◌, ◌^◌, List, [], ◌∷◌, refl}
-use Rattle.curve25519.proofs.Prime.{IsPrime}
+use Rattle.std.proofs.Common.{[], ◌∷◌, refl}
 use Rattle.curve25519.proofs.Certificates.{certified, Facts}
 
 pub p2 : Facts 2 1

@@ -1,10 +1,9 @@
 -- The points of the curve under its law: associative, and so the multiples of a point add up.
-use Rattle.std.proofs.Common.{◌≡◌, ℕ, zero, suc, ◌+◌, Bool, List, [], ◌∷◌, refl, sym, ap, ap₂, subst, ◌∙◌, ◌≢◌, ◌⊎◌, inl, inr, zero-add, suc-add, add-zero, zero-mul, suc-mul, add_comm, ◌*◌, ◌/◌, ◌%◌, div-add-mod'}
+use Rattle.std.proofs.Common.{◌≡◌, ℕ, zero, suc, ◌+◌, [], ◌∷◌, refl, sym, ap, ap₂, ◌∙◌, ◌≢◌, zero-add, suc-add, zero-mul, suc-mul, add_comm, ◌*◌, ◌/◌, ◌%◌, div-add-mod'}
 use Rattle.curve25519.specs.Edwards.{origin as origin_of, multiple as multiple_of}
-use Rattle.curve25519.proofs.Ring.{Ring}
-use Rattle.curve25519.proofs.Identities.{Term, v, i, o, ◌⊕◌, ◌⊗◌, -◌, ◌⊖◌, ⟦_⟧, lookup, ring, follows}
-use Rattle.curve25519.proofs.Field.{Field, factor, cancel_factor, not_product}
-use Rattle.curve25519.proofs.Edwards.{Pair, IsOn, cross, above_x, above_y, below_x, below_y, sum, NotSquare, below_x≢nil, below_y≢nil, closed, commutes, over_x, over_y, twist, under_x, under_y, same_x, same_y, one≢nil}
+use Rattle.curve25519.proofs.Identities.{Term, v, i, o, ◌⊕◌, ◌⊗◌, ◌⊖◌, lookup, ring, follows, -◌}
+use Rattle.curve25519.proofs.Field.{Field, cancel_factor, not_product}
+use Rattle.curve25519.proofs.Edwards.{Pair, IsOn, above_x, above_y, below_x, below_y, sum, NotSquare, below_x≢nil, below_y≢nil, closed, commutes, over_x, over_y, under_x, under_y, same_x, same_y, one≢nil}
 
 pub record Curve : Type 1 where
   pub field : Field

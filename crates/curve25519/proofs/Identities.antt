@@ -1,8 +1,8 @@
 -- Identities of a commutative ring, with subtraction, and what follows from relations by a certificate.
-use Rattle.std.proofs.Common.{◌≡◌, ℕ, zero, suc, Bool, true, false, ◌&&◌, List, [], ◌∷◌, refl, sym, ap, ap₂, ◌∙◌}
+use Rattle.std.proofs.Common.{◌≡◌, ℕ, zero, suc, Bool, true, ◌&&◌, List, [], ◌∷◌, refl, sym, ap, ap₂, ◌∙◌}
 use Rattle.curve25519.proofs.Ring.{Ring, nil-add, cancel, neg-add, exchange}
-use Rattle.curve25519.proofs.Polynomials.{P, none, whole, plus, times, variable, same, within, Expr, var, unit, _sum, _prod}
-use Rattle.curve25519.proofs.Evaluation.{equal, meaning, value, value_none, value_whole, value_plus, value_times, value_same, value_variable, and_parts}
+use Rattle.curve25519.proofs.Polynomials.{P, none, whole, plus, times, variable, same, var, _sum, _prod}
+use Rattle.curve25519.proofs.Evaluation.{equal, value, value_none, value_whole, value_plus, value_times, value_same, value_variable, and_parts}
 use Rattle.std.proofs.Common.{ltb}
 
 pub data Term : Type 0 where

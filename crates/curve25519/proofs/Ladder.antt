@@ -1,11 +1,10 @@
 -- The Montgomery ladder of RFC 7748 computes multiples.
-use Rattle.std.proofs.Common.{◌≡◌, ℕ, zero, suc, ◌+◌, ◌*◌, ◌/◌, ◌%◌, ◌^◌, ◌<◌, Bool, List, [], ◌∷◌, refl, sym, ap, ap₂, subst, ◌∙◌, ◌≢◌, ◌⊎◌, inl, inr, add-zero, div-add-mod', arith}
+use Rattle.std.proofs.Common.{◌≡◌, ℕ, zero, suc, ◌+◌, ◌*◌, ◌/◌, ◌%◌, ◌^◌, ◌<◌, [], ◌∷◌, refl, sym, ap, ap₂, subst, ◌∙◌, ◌≢◌, ◌⊎◌, inl, inr, arith}
 use Rattle.curve25519.specs.Ladder.{State as State_of, ladder_step as step_of, ladder as ladder_of}
-use Rattle.curve25519.proofs.Ring.{Ring}
-use Rattle.curve25519.proofs.Identities.{Term, v, i, o, ◌⊕◌, ◌⊗◌, -◌, ◌⊖◌, lookup, ring, follows}
-use Rattle.curve25519.proofs.Field.{Field, factor, cancel_factor, not_product}
-use Rattle.curve25519.proofs.Edwards.{Pair, IsOn, cross, above_x, above_y, below_x, below_y, below_x≢nil, below_y≢nil, one≢nil}
-use Rattle.curve25519.proofs.Group.{Curve, On, ◌+ₚ◌, stays, inverse_x, inverse_y, associates, with_origin, commutes_here, origin, multiple, multiple_on, multiples_add, multiple-zero, multiple-suc, multiple-one}
+use Rattle.curve25519.proofs.Identities.{Term, v, i, o, ◌⊕◌, ◌⊗◌, ◌⊖◌, lookup, ring, follows, -◌}
+use Rattle.curve25519.proofs.Field.{factor, cancel_factor, not_product}
+use Rattle.curve25519.proofs.Edwards.{Pair, cross, above_y, below_x, below_y, below_x≢nil, below_y≢nil, one≢nil}
+use Rattle.curve25519.proofs.Group.{Curve, On, ◌+ₚ◌, stays, inverse_y, associates, with_origin, commutes_here, origin, multiple, multiple_on, multiples_add, multiple-zero, multiple-suc, multiple-one}
 
 module _ (c : Curve) where
   open c use {field, d, s, root, not_square}

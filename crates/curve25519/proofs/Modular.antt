@@ -1,15 +1,14 @@
 -- The laws of the numbers modulo a prime.
-use Rattle.std.proofs.Common.{◌≡◌, ◌≢◌, ◌⊎◌, inl, inr, ℕ, zero, suc, ◌+◌, ◌-◌, ◌*◌, ◌%◌, ◌<◌, ◌≤◌, refl, sym, ap, ap₂, ◌∙◌, add_comm, add_assoc, add-zero, mul_comm, mul_assoc, mul-one, mul-zero, mul-add, mod-lt, mod-eq_of_lt, div-add-mod', arith}
-use Rattle.std.proofs.Math.Nat.{mod-mod, mod-add-mod, add-mod-mod, add-mod, mod_self}
-use Rattle.std.proofs.lemmas.Nat.{mul-mod_first, mul-mod_second, mul-mod}
+use Rattle.std.proofs.Common.{◌≡◌, ◌≢◌, ◌⊎◌, inl, inr, ℕ, ◌+◌, ◌-◌, ◌*◌, ◌%◌, ◌<◌, refl, sym, ap, ◌∙◌, add_comm, add_assoc, add-zero, mul_comm, mul_assoc, mul-one, mul-zero, mul-add, mod-eq_of_lt, arith}
+use Rattle.std.proofs.Math.Nat.{mod-add-mod, add-mod-mod, add-mod, mod_self}
+use Rattle.std.proofs.lemmas.Nat.{mul-mod_first, mul-mod_second}
 use Rattle.std.proofs.lemmas.Bool.{cases_eq}
 use native.Mathlib.Fin.{val_path}
 use Prim.Native.Nat.{Fin}
 use Rattle.curve25519.specs.Modular.{of as residue, modulo}
 use Rattle.curve25519.proofs.Ring.{IsRing}
 use Rattle.curve25519.specs.Powers.{power}
-use Rattle.curve25519.proofs.Powers.{power-suc, power_mod_self}
-use Rattle.curve25519.proofs.Prime.{IsPrime}
+use Rattle.curve25519.proofs.Powers.{power-suc}
 
 module _ (p : ℕ) (above : 0 < p) (odd : 2 < p) where
   abbrev of : ℕ → Fin p

@@ -1,11 +1,9 @@
 -- The order of the base point: L times it is the origin, computed by the kernel in extended coordinates.
-use Rattle.std.proofs.Common.{◌≡◌, ◌≢◌, ℕ, zero, suc, ◌+◌, ◌*◌, ◌%◌, ◌^◌, ◌<◌, ltb-true, refl, sym, ap, ap₂, subst, ◌∙◌}
+use Rattle.std.proofs.Common.{◌≡◌, ℕ, ◌+◌, ◌*◌, ◌%◌, ◌^◌, ltb-true, refl, sym, ap, ap₂, subst, ◌∙◌}
 use native.Mathlib.Fin.{val_path}
-use Prim.Native.Nat.{Fin}
-use Rattle.curve25519.proofs.Ring.{Ring}
-use Rattle.curve25519.proofs.Field.{Field, factor, cancel_factor}
+use Rattle.curve25519.proofs.Field.{factor, cancel_factor}
 use Rattle.curve25519.proofs.Edwards.{Pair, one≢nil}
-use Rattle.curve25519.proofs.Group.{Curve, On, ◌+ₚ◌, origin, multiple, multiple-one, signature_equation}
+use Rattle.curve25519.proofs.Group.{Curve, ◌+ₚ◌, origin, multiple, multiple-one, signature_equation}
 use Rattle.curve25519.proofs.Extended.{Extended, extended, times_extended, extended_origin, Represents, times_is}
 use Rattle.curve25519.specs.Modular.{of, modulo}
 use Rattle.curve25519.specs.Field25519.{field, residue}

@@ -1,7 +1,6 @@
 -- A proved normaliser of polynomials in k variables with coefficients in ℕ: lists of lists .. of numbers, which the
 -- kernel computes with.
-use Rattle.std.proofs.Common.{◌≡◌, ℕ, zero, suc, ◌+◌, ◌*◌, Bool, true, false, ◌&&◌, List, [], ◌∷◌, map, eqb, ltb, refl, sym, ap, ap₂, ◌∙◌, eqb-true, true≢false}
-use Rattle.curve25519.proofs.Ring.{Ring, nil-add, nil-mul, one-mul, distrib_right, exchange, mul-swap, num, num-zero, num-one, num-add, num-mul}
+use Rattle.std.proofs.Common.{ℕ, zero, suc, ◌+◌, ◌*◌, Bool, true, false, ◌&&◌, List, [], ◌∷◌, eqb, ltb}
 
 -- ---- polynomials
 

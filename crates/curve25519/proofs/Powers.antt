@@ -1,7 +1,7 @@
 -- Laws of powers modulo m, and how the kernel computes them.
-use Rattle.std.proofs.Common.{◌≡◌, ◌≢◌, ℕ, zero, suc, ◌+◌, ◌-◌, ◌*◌, ◌/◌, ◌%◌, ◌^◌, ◌<◌, ◌≤◌, List, [], ◌∷◌, refl, sym, ap, ap₂, ◌∙◌, zero-add, suc-add, add-zero, add-suc, mul_assoc, mul_comm, one-mul, mul-one, zero-mul, suc-mul, mul-suc, mul-zero, mod-lt, mod-eq_of_lt, div-add-mod', arith}
+use Rattle.std.proofs.Common.{◌≡◌, ℕ, zero, suc, ◌+◌, ◌*◌, ◌/◌, ◌%◌, ◌^◌, ◌<◌, refl, sym, ap, ◌∙◌, zero-add, suc-add, mul_assoc, one-mul, mul-one, mul-suc, mul-zero, arith}
 use Rattle.std.proofs.Math.Nat.{mod-mod}
-use Rattle.std.proofs.lemmas.Nat.{mul-mod_first, mul-mod_second, mul-mod}
+use Rattle.std.proofs.lemmas.Nat.{mul-mod_first, mul-mod_second}
 use Rattle.curve25519.specs.Powers.{power}
 
 -- what the kernel computes

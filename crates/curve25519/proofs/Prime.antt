@@ -1,7 +1,7 @@
 -- Lucas's test: a number whose units have a generator of full order is prime, and each unit is a power of it.
-use Rattle.std.proofs.Common.{◌≡◌, ◌≢◌, ◌⊎◌, inl, inr, ℕ, zero, suc, pred, ◌+◌, ◌-◌, ◌*◌, ◌/◌, ◌%◌, ◌<◌, ◌≤◌, List, [], ◌∷◌, Bool, true, false, eqb, eqb-true, refl, sym, ap, ap₂, subst, ◌∙◌, mul_assoc, mul_comm, one-mul, mul-one, zero-mul, mul-zero, mod-lt, mod-eq_of_lt, div-add-mod', mul-suc, mul-add, add-mul, mul-div_cancel, not-suc-le-zero, arith}
-use Rattle.std.proofs.Math.Nat.{mod-mod, mul-sub, add-sub_cancel, mul-mod_right, add-mod_left, mul-add-mod_self_right}
-use Rattle.std.proofs.lemmas.Nat.{mul-mod_first, mul-mod_second, mul-mod}
+use Rattle.std.proofs.Common.{◌≡◌, ◌≢◌, ◌⊎◌, inl, inr, ℕ, zero, suc, pred, ◌+◌, ◌-◌, ◌*◌, ◌/◌, ◌%◌, ◌<◌, ◌≤◌, List, [], ◌∷◌, Bool, true, false, eqb, eqb-true, refl, sym, ap, ap₂, subst, ◌∙◌, mul_assoc, mul_comm, one-mul, mul-one, zero-mul, mul-zero, mod-lt, mod-eq_of_lt, div-add-mod', mul-suc, mul-add, mul-div_cancel, arith}
+use Rattle.std.proofs.Math.Nat.{mul-sub, add-sub_cancel}
+use Rattle.std.proofs.lemmas.Nat.{mul-mod_second}
 use Rattle.std.proofs.lemmas.Bool.{cases_lt, cases_eq, eqb-false}
 use Rattle.curve25519.specs.Powers.{power}
 use Rattle.curve25519.proofs.Powers.{power-zero, power-add, power-mul, power-base, power_mod_self}

@@ -1,7 +1,7 @@
 -- A square root where p is 5 modulo 8: what decoding a point of Ed25519 computes, up to the sign.
-use Rattle.std.proofs.Common.{◌≡◌, ℕ, zero, suc, ◌+◌, ◌*◌, List, [], ◌∷◌, refl, sym, ap, ap₂, subst, ◌∙◌, ◌≢◌, ◌⊎◌, inl, inr, zero-add, suc-add, zero-mul, suc-mul, arith}
-use Rattle.curve25519.proofs.Ring.{Ring, one-mul, nil-add}
-use Rattle.curve25519.proofs.Identities.{Term, v, i, o, ◌⊕◌, ◌⊗◌, -◌, ◌⊖◌, lookup, ring, follows}
+use Rattle.std.proofs.Common.{◌≡◌, ℕ, zero, suc, ◌+◌, ◌*◌, [], ◌∷◌, refl, sym, ap, ap₂, ◌∙◌, ◌≢◌, ◌⊎◌, inl, inr, zero-add, suc-add, arith}
+use Rattle.curve25519.proofs.Ring.{one-mul}
+use Rattle.curve25519.proofs.Identities.{v, i, o, ◌⊕◌, ◌⊗◌, ◌⊖◌, lookup, follows, -◌}
 use Rattle.curve25519.proofs.Field.{Field, factor}
 
 module _ (f : Field) where

@@ -1,5 +1,5 @@
 -- The first iteration of RFC 7748, section 5.2: scalar and u are both 9, and the answer is 422c8e7a...ae3079.
-use Rattle.std.proofs.Common.{◌≡◌, ℕ, ◌+◌, ◌^◌, refl}
+use Rattle.std.proofs.Common.{◌≡◌, ◌+◌, ◌^◌, refl}
 use native.Mathlib.Fin.{val_path}
 use Rattle.curve25519.specs.Modular.{of, modulo}
 use Rattle.curve25519.specs.Field25519.{field, residue}

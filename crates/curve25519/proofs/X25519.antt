@@ -1,13 +1,9 @@
 -- X25519 at the base point 9: two scalars commute.
-use Rattle.std.proofs.Common.{◌≡◌, ◌≢◌, ℕ, zero, suc, ◌+◌, ◌-◌, ◌*◌, ◌/◌, ◌%◌, ◌^◌, ◌<◌, ◌≤◌, ltb-true, refl, sym, ap, ap₂, subst, ◌∙◌, div-add-mod', arith}
+use Rattle.std.proofs.Common.{◌≡◌, ◌≢◌, ℕ, ◌+◌, ◌-◌, ◌*◌, ◌/◌, ◌%◌, ◌^◌, ◌<◌, ◌≤◌, ltb-true, refl, sym, ap, subst, ◌∙◌, div-add-mod', arith}
 use Rattle.std.proofs.lemmas.Bool.{eqb-false}
 use native.Mathlib.Fin.{val_path}
 use Prim.Native.Nat.{Fin}
-use Rattle.curve25519.proofs.Ring.{Ring}
-use Rattle.curve25519.proofs.Identities.{v, i, o, ◌⊕◌, ◌⊗◌, -◌, ◌⊖◌, lookup, follows}
-use Rattle.curve25519.proofs.Field.{Field}
-use Rattle.curve25519.proofs.Edwards.{Pair}
-use Rattle.curve25519.proofs.Group.{Curve, On, origin, multiple}
+use Rattle.curve25519.proofs.Group.{origin}
 use Rattle.curve25519.specs.Modular.{of, modulo}
 use Rattle.curve25519.specs.Field25519.{prime, field, residue}
 use Rattle.curve25519.specs.Curve25519.{d, base, order}
@@ -16,7 +12,6 @@ use Rattle.curve25519.specs.X25519.{a24, nine, x25519, clear_cofactor}
 use Rattle.curve25519.proofs.Curve25519.{curve, base_on}
 use Rattle.curve25519.proofs.Order.{order_of_base}
 use Rattle.curve25519.proofs.OrderPrime.{p_order}
-use Rattle.curve25519.proofs.Ladder.{ladder}
 use Rattle.curve25519.proofs.Exchange.{Base, commutes, exchanges_nonzero, mont, mont_is}
 
 law : field.mul a24 (field.add field.one d) ≡ field.neg d

@@ -1,9 +1,9 @@
 -- The bits of a number of four words.
-use Rattle.std.specs.Prelude.{◌≡◌, ℕ, suc, ◌+◌, ◌-◌, ◌*◌, ◌/◌, ◌%◌, ◌^◌, ◌<◌, ◌≤◌, List, [], ◌∷◌, refl}
-use Rattle.std.proofs.Common.{sym, ap, ap₂, ◌∙◌, mul_assoc, arith}
+use Rattle.std.specs.Prelude.{◌≡◌, ℕ, suc, ◌+◌, ◌-◌, ◌*◌, ◌/◌, ◌%◌, ◌^◌, ◌<◌, ◌≤◌}
+use Rattle.std.proofs.Common.{sym, ap, ◌∙◌, mul_assoc, arith}
 use Rattle.std.proofs.Math.Nat.{pow-suc, div-div-eq-div-mul, add-mul-div_left}
 use Rattle.std.proofs.lemmas.Nat.{pow-add, pow_pos}
-use Rattle.field25519.specs.Bytes.{joined_words, encode}
+use Rattle.field25519.specs.Bytes.{joined_words}
 
 -- a bit of the lowest word
 bit_low : (a m t : ℕ) → t < 64 → a / 2 ^ t % 2 ≡ (a + 2 ^ 64 * m) / 2 ^ t % 2

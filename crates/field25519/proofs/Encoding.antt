@@ -1,9 +1,8 @@
 -- The bytes of a number of four words, and decoding after encoding.
 use Rattle.std.specs.Int.{byte_worth, byte_at, sum_through, bytes_low_first}
-use Rattle.std.specs.Prelude.{zero, length, slice_index, ◌≡◌, ℕ, suc, ◌+◌, ◌-◌, ◌*◌, ◌/◌, ◌%◌, ◌^◌, ◌<◌, ◌≤◌, List, [], ◌∷◌, refl}
+use Rattle.std.specs.Prelude.{zero, length, slice_index, ◌≡◌, ℕ, suc, ◌+◌, ◌*◌, ◌/◌, ◌%◌, ◌^◌, ◌<◌, ◌≤◌, List, [], ◌∷◌, refl}
 use Rattle.std.proofs.Common.{sym, ap, ap₂, ◌∙◌, subst, add-zero, zero-add, add_assoc, mul_assoc, mul_comm, mul-add, mul-suc, arith}
 use Rattle.std.proofs.Math.Nat.{pow-suc, div-div-eq-div-mul, add-mul-div_left, div-eq_of_lt, mul-le-mul_left}
-use Rattle.std.proofs.lemmas.Nat.{pow-add, pow_pos}
 use Rattle.field25519.specs.Bytes.{joined_words, encode, decode_little, AreBytes}
 
 -- ---- bytes

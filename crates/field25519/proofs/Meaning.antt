@@ -1,10 +1,9 @@
 -- What the operations on digits give, at what the digits stand for.
-use Rattle.std.specs.Prelude.{◌≡◌, ℕ, suc, ◌+◌, ◌-◌, ◌*◌, ◌%◌, ◌^◌}
+use Rattle.std.specs.Prelude.{◌≡◌, ℕ, suc, ◌+◌, ◌*◌, ◌%◌, ◌^◌}
 use Rattle.std.proofs.Common.{sym, ap, ap₂, ◌∙◌, add-one, arith}
-use Rattle.std.proofs.Math.Nat.{mod-mod}
 use Rattle.curve25519.specs.Field25519.{prime, field, residue, least, raise}
 use Rattle.curve25519.proofs.Ring.{nil-add}
-use Rattle.curve25519.proofs.Field25519.{laws, ring, residue_same, least_residue, residue-mul, residue-add, residue-sub, residue-zero, residue-one, raise-add, raise-mul}
+use Rattle.curve25519.proofs.Field25519.{laws, ring, least_residue, residue-mul, residue-add, residue-sub, residue-zero, residue-one, raise-add, raise-mul}
 
 pub product_is : (r x y : ℕ) (a b : field.Of) → r % prime ≡ x * y % prime → residue x ≡ a → residue y ≡ b → residue r ≡ field.mul a b
 product_is r x y a b e ea eb = residue-mul r x y e ∙ ap₂ field.mul ea eb

@@ -1,14 +1,23 @@
 -- A number in five digits of 51 bits.
 use Rattle.std.specs.Prelude.{ℕ, ◌+◌, ◌*◌, ◌^◌, ◌<◌}
+use Rattle.field25519.specs.declared.digits.Digits.{Digits}
 
-abbrev pub value : ℕ → ℕ → ℕ → ℕ → ℕ → ℕ
-value a b c d e = a + 2 ^ 51 * b + 2 ^ 102 * c + 2 ^ 153 * d + 2 ^ 204 * e
+-- the number that the digits are
+abbrev pub number : Digits → ℕ
+number x = x.a + 2 ^ 51 * x.b + 2 ^ 102 * x.c + 2 ^ 153 * x.d + 2 ^ 204 * x.e
+
+-- each digit is below the bound
+abbrev pub AreBelow : ℕ → Digits → Type 0
+AreBelow n x = (x.a < n) × (x.b < n) × (x.c < n) × (x.d < n) × (x.e < n)
 
 -- what a product leaves
-abbrev pub AreTight : ℕ → ℕ → ℕ → ℕ → ℕ → Type 0
-AreTight a b c d e =
-    (a < 2 ^ 51 + 2 ^ 14) × (b < 2 ^ 51 + 2 ^ 14) × (c < 2 ^ 51 + 2 ^ 14) × (d < 2 ^ 51 + 2 ^ 14) × (e < 2 ^ 51 + 2 ^ 14)
+abbrev pub AreTight : Digits → Type 0
+AreTight = AreBelow (2 ^ 51 + 2 ^ 14)
 
 -- what a product takes: a sum or a difference of two that are tight
-abbrev pub AreLoose : ℕ → ℕ → ℕ → ℕ → ℕ → Type 0
-AreLoose a b c d e = (a < 2 ^ 53) × (b < 2 ^ 53) × (c < 2 ^ 53) × (d < 2 ^ 53) × (e < 2 ^ 53)
+abbrev pub AreLoose : Digits → Type 0
+AreLoose = AreBelow (2 ^ 53)
+
+-- what a number has one spelling in
+abbrev pub AreShort : Digits → Type 0
+AreShort = AreBelow (2 ^ 51)

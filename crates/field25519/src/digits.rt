@@ -1,11 +1,15 @@
 //! The operations on numbers modulo 2^255 - 19 in five digits of 51 bits.
+//!
+//! Digits are tight, as a product leaves them, or loose, as a sum or a difference of two tight ones has them.
 ghost use Rattle.std.specs.Prelude.{◌≡◌, ◌+◌, ◌*◌, ◌^◌, ◌<◌, ◌%◌};
 ghost use Rattle.curve25519.specs.Field25519.{prime};
 ghost use Rattle.field25519.specs.Bytes.{joined_words};
-ghost use Rattle.field25519.specs.Digits.{value, AreTight, AreLoose};
+ghost use Rattle.field25519.specs.Digits.{number, AreTight, AreLoose, AreShort};
+ghost use Rattle.field25519.specs.Sums.{value};
 
 use crate::words::Words;
 
+/// Five digits, the lowest first.
 #[derive(Clone, Copy)]
 pub struct Digits {
     pub a: u64,
@@ -14,6 +18,21 @@ pub struct Digits {
     pub d: u64,
     pub e: u64,
 }
+
+/// 2^51, what a digit counts to.
+const BASE: u64 = 2251799813685248;
+
+/// The same for the sums of products.
+const WIDE_BASE: u128 = 2251799813685248;
+
+/// What 2^255 leaves modulo the prime.
+const FOLD: u64 = 19;
+
+/// The lowest digit of twice the prime.
+const TWICE_PRIME_LOW: u64 = 4503599627370458;
+
+/// Its other digits.
+const TWICE_PRIME_HIGH: u64 = 4503599627370494;
 
 #[inline(always)]
 fn wide(x: u64, y: u64) -> u128
@@ -25,80 +44,81 @@ fn wide(x: u64, y: u64) -> u128
     x as u128 * y as u128
 }
 
-const DIGIT: u128 = 2251799813685248;
-
-const LOW_DIGIT: u64 = 2251799813685248;
-
+/// The digits of five sums of products: two runs of carries, from the first and from the third.
 #[inline(always)]
-fn carried(p: u128, q: u128, r: u128, s: u128, t: u128) -> Digits
-    requires p_low { p < 2 ^ 115 }
-    requires q_low { q < 2 ^ 115 }
-    requires r_low { r < 2 ^ 115 }
-    requires s_low { s < 2 ^ 115 }
+fn carry(p: u128, q: u128, r: u128, s: u128, t: u128) -> Digits
+    requires p_low { p < 5 * 2 ^ 112 }
+    requires q_low { q < 5 * 2 ^ 112 }
+    requires r_low { r < 5 * 2 ^ 112 }
+    requires s_low { s < 5 * 2 ^ 112 }
     requires t_low { t < 2 ^ 109 }
-    ensures tight { AreTight result.a result.b result.c result.d result.e }
-    ensures same_value { value result.a result.b result.c result.d result.e % prime ≡ value p q r s t % prime }
+    ensures tight { AreTight result }
+    ensures same_number { number result % prime ≡ value p q r s t % prime }
 {
-    let q = q + p / DIGIT;
-    let r = r + q / DIGIT;
-    let s = s + r / DIGIT;
-    let t = t + s / DIGIT;
-    let low = (p % DIGIT) as u64 + 19 * (t / DIGIT) as u64;
+    let s = s + r / WIDE_BASE;
+    let q = q + p / WIDE_BASE;
+    let t = t + s / WIDE_BASE;
+    let c = (r % WIDE_BASE) as u64 + (q / WIDE_BASE) as u64;
+    let a = (p % WIDE_BASE) as u64 + FOLD * (t / WIDE_BASE) as u64;
     Digits {
-        a: low % LOW_DIGIT,
-        b: (q % DIGIT) as u64 + low / LOW_DIGIT,
-        c: (r % DIGIT) as u64,
-        d: (s % DIGIT) as u64,
-        e: (t % DIGIT) as u64,
+        a: a % BASE,
+        b: (q % WIDE_BASE) as u64 + a / BASE,
+        c: c % BASE,
+        d: (s % WIDE_BASE) as u64 + c / BASE,
+        e: (t % WIDE_BASE) as u64,
     }
 }
 
+/// The product.
 #[inline]
-pub fn product(x: Digits, y: Digits) -> Digits
-    requires x_loose { AreLoose x.a x.b x.c x.d x.e }
-    requires y_loose { AreLoose y.a y.b y.c y.d y.e }
-    ensures tight { AreTight result.a result.b result.c result.d result.e }
-    ensures same_value { value result.a result.b result.c result.d result.e % prime ≡ value x.a x.b x.c x.d x.e * value y.a y.b y.c y.d y.e % prime }
+pub fn multiply(x: Digits, y: Digits) -> Digits
+    requires x_loose { AreLoose x }
+    requires y_loose { AreLoose y }
+    ensures tight { AreTight result }
+    ensures same_number { number result % prime ≡ number x * number y % prime }
 {
-    let b19 = 19 * y.b;
-    let c19 = 19 * y.c;
-    let d19 = 19 * y.d;
-    let e19 = 19 * y.e;
-    let p = wide(x.a, y.a) + wide(x.b, e19) + wide(x.c, d19) + wide(x.d, c19) + wide(x.e, b19);
-    let q = wide(x.a, y.b) + wide(x.b, y.a) + wide(x.c, e19) + wide(x.d, d19) + wide(x.e, c19);
-    let r = wide(x.a, y.c) + wide(x.b, y.b) + wide(x.c, y.a) + wide(x.d, e19) + wide(x.e, d19);
-    let s = wide(x.a, y.d) + wide(x.b, y.c) + wide(x.c, y.b) + wide(x.d, y.a) + wide(x.e, e19);
+    let b = FOLD * y.b;
+    let c = FOLD * y.c;
+    let d = FOLD * y.d;
+    let e = FOLD * y.e;
+    let p = wide(x.a, y.a) + wide(x.b, e) + wide(x.c, d) + wide(x.d, c) + wide(x.e, b);
+    let q = wide(x.a, y.b) + wide(x.b, y.a) + wide(x.c, e) + wide(x.d, d) + wide(x.e, c);
+    let r = wide(x.a, y.c) + wide(x.b, y.b) + wide(x.c, y.a) + wide(x.d, e) + wide(x.e, d);
+    let s = wide(x.a, y.d) + wide(x.b, y.c) + wide(x.c, y.b) + wide(x.d, y.a) + wide(x.e, e);
     let t = wide(x.a, y.e) + wide(x.b, y.d) + wide(x.c, y.c) + wide(x.d, y.b) + wide(x.e, y.a);
-    carried(p, q, r, s, t)
+    carry(p, q, r, s, t)
 }
 
+/// The square, in fifteen products.
 #[inline]
 pub fn square(x: Digits) -> Digits
-    requires loose { AreLoose x.a x.b x.c x.d x.e }
-    ensures tight { AreTight result.a result.b result.c result.d result.e }
-    ensures same_value { value result.a result.b result.c result.d result.e % prime ≡ value x.a x.b x.c x.d x.e * value x.a x.b x.c x.d x.e % prime }
+    requires loose { AreLoose x }
+    ensures tight { AreTight result }
+    ensures same_number { number result % prime ≡ number x * number x % prime }
 {
     let a2 = 2 * x.a;
     let b2 = 2 * x.b;
     let c2 = 2 * x.c;
-    let d19 = 19 * x.d;
-    let e19 = 19 * x.e;
-    let p = wide(x.a, x.a) + wide(b2, e19) + wide(c2, d19);
-    let q = wide(a2, x.b) + wide(c2, e19) + wide(x.d, d19);
-    let r = wide(a2, x.c) + wide(x.b, x.b) + wide(2 * x.d, e19);
-    let s = wide(a2, x.d) + wide(b2, x.c) + wide(x.e, e19);
+    let d2 = 2 * x.d;
+    let d = FOLD * x.d;
+    let e = FOLD * x.e;
+    let p = wide(x.a, x.a) + wide(b2, e) + wide(c2, d);
+    let q = wide(a2, x.b) + wide(c2, e) + wide(x.d, d);
+    let r = wide(a2, x.c) + wide(x.b, x.b) + wide(d2, e);
+    let s = wide(a2, x.d) + wide(b2, x.c) + wide(x.e, e);
     let t = wide(a2, x.e) + wide(b2, x.d) + wide(x.c, x.c);
-    carried(p, q, r, s, t)
+    carry(p, q, r, s, t)
 }
 
+/// A small multiple.
 #[inline]
 pub fn scale(x: Digits, factor: u64) -> Digits
-    requires loose { AreLoose x.a x.b x.c x.d x.e }
+    requires loose { AreLoose x }
     requires small { factor < 2 ^ 20 }
-    ensures tight { AreTight result.a result.b result.c result.d result.e }
-    ensures same_value { value result.a result.b result.c result.d result.e % prime ≡ factor * value x.a x.b x.c x.d x.e % prime }
+    ensures tight { AreTight result }
+    ensures same_number { number result % prime ≡ factor * number x % prime }
 {
-    carried(
+    carry(
         wide(x.a, factor),
         wide(x.b, factor),
         wide(x.c, factor),
@@ -107,12 +127,13 @@ pub fn scale(x: Digits, factor: u64) -> Digits
     )
 }
 
+/// The sum.
 #[inline]
-pub fn sum(x: Digits, y: Digits) -> Digits
-    requires x_tight { AreTight x.a x.b x.c x.d x.e }
-    requires y_tight { AreTight y.a y.b y.c y.d y.e }
-    ensures loose { AreLoose result.a result.b result.c result.d result.e }
-    ensures same_value { value result.a result.b result.c result.d result.e ≡ value x.a x.b x.c x.d x.e + value y.a y.b y.c y.d y.e }
+pub fn add(x: Digits, y: Digits) -> Digits
+    requires x_tight { AreTight x }
+    requires y_tight { AreTight y }
+    ensures loose { AreLoose result }
+    ensures same_number { number result ≡ number x + number y }
 {
     Digits {
         a: x.a + y.a,
@@ -123,27 +144,28 @@ pub fn sum(x: Digits, y: Digits) -> Digits
     }
 }
 
+/// The difference, with twice the prime added.
 #[inline]
-pub fn difference(x: Digits, y: Digits) -> Digits
-    requires x_tight { AreTight x.a x.b x.c x.d x.e }
-    requires y_tight { AreTight y.a y.b y.c y.d y.e }
-    ensures loose { AreLoose result.a result.b result.c result.d result.e }
-    ensures same_value { value result.a result.b result.c result.d result.e + value y.a y.b y.c y.d y.e ≡ value x.a x.b x.c x.d x.e + 2 * prime }
+pub fn subtract(x: Digits, y: Digits) -> Digits
+    requires x_tight { AreTight x }
+    requires y_tight { AreTight y }
+    ensures loose { AreLoose result }
+    ensures same_number { number result + number y ≡ number x + 2 * prime }
 {
     Digits {
-        a: x.a + 4503599627370458 - y.a,
-        b: x.b + 4503599627370494 - y.b,
-        c: x.c + 4503599627370494 - y.c,
-        d: x.d + 4503599627370494 - y.d,
-        e: x.e + 4503599627370494 - y.e,
+        a: x.a + TWICE_PRIME_LOW - y.a,
+        b: x.b + TWICE_PRIME_HIGH - y.b,
+        c: x.c + TWICE_PRIME_HIGH - y.c,
+        d: x.d + TWICE_PRIME_HIGH - y.d,
+        e: x.e + TWICE_PRIME_HIGH - y.e,
     }
 }
 
-/// The digits of a number, without its top bit.
+/// The digits of a number of four words, without its top bit.
 #[inline]
 pub fn from_words(w: Words) -> Digits
-    ensures tight { AreTight result.a result.b result.c result.d result.e }
-    ensures same_value { value result.a result.b result.c result.d result.e ≡ joined_words w.a w.b w.c w.d % 2 ^ 255 }
+    ensures tight { AreTight result }
+    ensures same_number { number result ≡ joined_words w.a w.b w.c w.d % 2 ^ 255 }
 {
     Digits {
         a: w.a % 2251799813685248,
@@ -154,45 +176,37 @@ pub fn from_words(w: Words) -> Digits
     }
 }
 
-/// The least digits of a number modulo the prime.
+/// The digits of the least number that is the same modulo the prime.
 #[inline]
-pub fn canonical(x: Digits) -> Digits
-    requires tight { AreTight x.a x.b x.c x.d x.e }
-    ensures a_short { result.a < 2 ^ 51 }
-    ensures b_short { result.b < 2 ^ 51 }
-    ensures c_short { result.c < 2 ^ 51 }
-    ensures d_short { result.d < 2 ^ 51 }
-    ensures e_short { result.e < 2 ^ 51 }
-    ensures least { value result.a result.b result.c result.d result.e ≡ value x.a x.b x.c x.d x.e % prime }
+pub fn reduce(x: Digits) -> Digits
+    requires tight { AreTight x }
+    ensures short { AreShort result }
+    ensures least { number result ≡ number x % prime }
 {
-    let p = (x.a + 19) / LOW_DIGIT;
-    let q = (x.b + p) / LOW_DIGIT;
-    let r = (x.c + q) / LOW_DIGIT;
-    let s = (x.d + r) / LOW_DIGIT;
-    let over = (x.e + s) / LOW_DIGIT;
-    let a = x.a + 19 * over;
-    let b = x.b + a / LOW_DIGIT;
-    let c = x.c + b / LOW_DIGIT;
-    let d = x.d + c / LOW_DIGIT;
-    let e = x.e + d / LOW_DIGIT;
+    let p = (x.a + FOLD) / BASE;
+    let q = (x.b + p) / BASE;
+    let r = (x.c + q) / BASE;
+    let s = (x.d + r) / BASE;
+    let over = (x.e + s) / BASE;
+    let a = x.a + FOLD * over;
+    let b = x.b + a / BASE;
+    let c = x.c + b / BASE;
+    let d = x.d + c / BASE;
+    let e = x.e + d / BASE;
     Digits {
-        a: a % LOW_DIGIT,
-        b: b % LOW_DIGIT,
-        c: c % LOW_DIGIT,
-        d: d % LOW_DIGIT,
-        e: e % LOW_DIGIT,
+        a: a % BASE,
+        b: b % BASE,
+        c: c % BASE,
+        d: d % BASE,
+        e: e % BASE,
     }
 }
 
 /// The words of five short digits.
 #[inline]
 pub fn to_words(x: Digits) -> Words
-    requires a_short { x.a < 2 ^ 51 }
-    requires b_short { x.b < 2 ^ 51 }
-    requires c_short { x.c < 2 ^ 51 }
-    requires d_short { x.d < 2 ^ 51 }
-    requires e_short { x.e < 2 ^ 51 }
-    ensures same_value { joined_words result.a result.b result.c result.d ≡ value x.a x.b x.c x.d x.e }
+    requires short { AreShort x }
+    ensures same_number { joined_words result.a result.b result.c result.d ≡ number x }
 {
     Words {
         a: x.a + x.b % 8192 * 2251799813685248,
@@ -202,7 +216,7 @@ pub fn to_words(x: Digits) -> Words
     }
 }
 
-/// One of two numbers, in the same steps for either.
+/// One of two words, by a mask, in the same steps for either.
 #[inline(always)]
 pub fn select(bit: u64, x: u64, y: u64) -> u64
     requires { bit < 2 }

@@ -2,7 +2,7 @@
 ghost use Rattle.std.specs.Prelude.{◌≡◌, ℕ, ◌+◌, ◌*◌, ◌^◌, ◌-◌, ◌<◌, ◌%◌, ◌==◌};
 ghost use Rattle.curve25519.specs.Field25519.{field, coded_number, residue, least, raise};
 ghost use Rattle.field25519.specs.Bytes.{joined_words};
-ghost use Rattle.field25519.specs.Digits.{value, AreTight, AreLoose};
+ghost use Rattle.field25519.specs.Digits.{number, AreTight, AreLoose};
 
 use crate::digits;
 use crate::digits::Digits;
@@ -20,9 +20,9 @@ impl Model for Element {
 
     ghost coded = { coded_number };
 
-    ghost view = { λ x. residue (value x.digits.a x.digits.b x.digits.c x.digits.d x.digits.e) };
+    ghost view = { λ x. residue (number x.digits) };
 
-    ghost invariant = { λ x. AreTight x.digits.a x.digits.b x.digits.c x.digits.d x.digits.e };
+    ghost invariant = { λ x. AreTight x.digits };
 }
 
 /// A sum or a difference of two, of which products are made.
@@ -36,9 +36,9 @@ impl Model for Loose {
 
     ghost coded = { coded_number };
 
-    ghost view = { λ x. residue (value x.digits.a x.digits.b x.digits.c x.digits.d x.digits.e) };
+    ghost view = { λ x. residue (number x.digits) };
 
-    ghost invariant = { λ x. AreLoose x.digits.a x.digits.b x.digits.c x.digits.d x.digits.e };
+    ghost invariant = { λ x. AreLoose x.digits };
 }
 
 impl Element {
@@ -101,7 +101,7 @@ impl Element {
     pub fn words(&self) -> Words
         ensures { joined_words result.a result.b result.c result.d ≡ least self.now }
     {
-        digits::to_words(digits::canonical(self.digits))
+        digits::to_words(digits::reduce(self.digits))
     }
 
     /// The number squared so many times.
@@ -174,7 +174,7 @@ impl Element {
         ensures { result ≡ field.add self.now other.now }
     {
         Loose {
-            digits: digits::sum(self.digits, other.digits),
+            digits: digits::add(self.digits, other.digits),
         }
     }
 
@@ -183,7 +183,7 @@ impl Element {
         ensures { result ≡ field.add self.now (field.neg other.now) }
     {
         Loose {
-            digits: digits::difference(self.digits, other.digits),
+            digits: digits::subtract(self.digits, other.digits),
         }
     }
 
@@ -231,7 +231,7 @@ impl Loose {
         ensures { result ≡ field.mul self.now other.now }
     {
         Element {
-            digits: digits::product(self.digits, other.digits),
+            digits: digits::multiply(self.digits, other.digits),
         }
     }
 

@@ -1,5 +1,5 @@
 -- What the code's steps compute, in the ladder's terms.
-use Rattle.std.specs.Prelude.{◌≡◌, ℕ, zero, suc, ◌+◌, ◌-◌, ◌/◌, ◌%◌, ◌^◌, ◌<◌, refl}
+use Rattle.std.specs.Prelude.{◌≡◌, ℕ, suc, ◌+◌, ◌-◌, ◌/◌, ◌%◌, ◌^◌, ◌<◌, refl}
 use Rattle.std.proofs.Common.{sym, ap, ap₂, ◌∙◌, add-one, arith}
 use Rattle.std.proofs.Math.Nat.{pow-suc, div-div-eq-div-mul}
 use Rattle.curve25519.specs.Field25519.{field, residue}

@@ -1,4 +1,4 @@
-use Rattle.std.proofs.Common.{ap, sym, ◌∙◌}
+use Rattle.std.proofs.Common.{sym, ◌∙◌}
 use Rattle.curve25519.proofs.Field25519.{raise-one}
 use Rattle.field25519.proofs.Meaning.{once_more}
 use Rattle.field25519.proofs.element.Element.square_times.Goals as goal

@@ -2,4 +2,4 @@ use Rattle.field25519.proofs.Meaning.{product_is}
 use Rattle.field25519.proofs.element.Loose.square.Goals as goal
 
 pub returns : goal.returns
-returns c = product_is _ _ _ _ _ c.square.ensures.same_value c.self.view_is c.self.view_is
+returns c = product_is _ _ _ _ _ c.square.ensures.same_number c.self.view_is c.self.view_is

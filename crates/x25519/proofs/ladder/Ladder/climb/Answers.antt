@@ -1,4 +1,4 @@
-use Rattle.std.proofs.Common.{ap, ap₂, ◌∙◌}
+use Rattle.std.proofs.Common.{ap₂, ◌∙◌}
 use Rattle.curve25519.specs.Field25519.{field}
 use Rattle.curve25519.specs.Ladder.{ladder_step}
 use Rattle.curve25519.specs.X25519.{a24}

@@ -1,0 +1,13 @@
+pub mod Doubling
+pub mod Represented
+pub mod Addition
+pub mod RoundTrip
+pub mod Opposite
+pub mod Branches
+pub mod UniqueBytes
+pub mod Reduction
+pub mod Columns
+pub mod Halves
+pub mod Table
+pub mod Steps
+pub mod Verified

@@ -1,0 +1,16 @@
+use Rattle.std.proofs.Common.{subst}
+use Rattle.curve25519.proofs.Group.{stays}
+use Rattle.curve25519.proofs.Curve25519.{curve}
+use Rattle.ed25519.specs.Coordinates.{Caches}
+use Rattle.ed25519.proofs.Steps.{once, twice, thrice}
+use Rattle.ed25519.proofs.times.SmallMultiples.new.Goals as goal
+
+pub returns-clause-one : goal.returns-clause-one
+returns-clause-one c = λ q on rep. subst (Caches c.new-one.result) (once q) (c.new-one.ensures q rep)
+
+pub returns-clause-two : goal.returns-clause-two
+returns-clause-two c = λ q on rep. subst (Caches c.new.result) (twice q) (c.new.ensures _ (c.double-twice.ensures q on rep))
+
+pub returns-clause-three : goal.returns-clause-three
+returns-clause-three c = λ q on rep.
+    subst (Caches c.new-2.result) (thrice q) (c.new-2.ensures _ (c.add-thrice.ensures _ q (stays curve q q on on) on (c.double-twice.ensures q on rep) (c.new-one.ensures q rep)))

@@ -1,0 +1,38 @@
+-- The rows of the table of multiples.
+use Rattle.std.specs.Prelude.{ℕ, ◌≡◌, ◌+◌, ◌*◌, ◌%◌, ◌^◌, List, slice_index}
+use Rattle.curve25519.specs.Field25519.{field, residue}
+use Rattle.curve25519.specs.Curve25519.{d, Point}
+use Rattle.field25519.specs.declared.words.Words.{Words}
+use Rattle.ed25519.specs.declared.base.Row.{Row}
+use Rattle.ed25519.specs.Coordinates.{number}
+open field use {Of, add, mul, neg}
+
+-- four numbers of a list
+abbrev pub words_of : List ℕ → ℕ → Words
+words_of list i =
+    record {
+      a = slice_index list i;
+      b = slice_index list (i + 1);
+      c = slice_index list (i + 2);
+      d = slice_index list (i + 3);
+    }
+
+-- twelve numbers of a list
+abbrev pub row_of : List ℕ → ℕ → Row
+row_of list k =
+    record {
+      sum = words_of list (12 * k);
+      difference = words_of list (12 * k + 4);
+      product = words_of list (12 * k + 8);
+    }
+
+-- the number of the field that 255 bits of four words are
+abbrev pub field_number : Words → Of
+field_number w = residue (number w % 2 ^ 255)
+
+-- half the sum and half the difference of y and x, and d x y, of the point
+abbrev pub IsRowOf : Row → Point → Type 0
+IsRowOf r q =
+    (add (field_number r.sum) (field_number r.difference) ≡ q.1)
+    × (add (field_number r.sum) (neg (field_number r.difference)) ≡ q.0)
+    × (field_number r.product ≡ mul d (mul q.0 q.1))
