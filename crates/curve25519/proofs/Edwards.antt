@@ -1,5 +1,5 @@
 -- The twisted Edwards law with a = -1 over a field is complete, closed and commutative, and what associativity rests on.
--- The certificates are found by tools/curve25519/make_curve.py; antt checks them.
+-- The certificates are found by tools/curve25519/certificates; antt checks them.
 use Rattle.std.proofs.Common.{◌≡◌, ℕ, [], ◌∷◌, refl, ap, ap₂, ◌∙◌, ◌≢◌, ◌⊎◌, inl, inr}
 use Rattle.curve25519.specs.Edwards.{Pair as Pair_of, IsOn as IsOn_of, cross as cross_of, above_x as above_x_of, above_y as above_y_of, below_x as below_x_of, below_y as below_y_of, sum as sum_of, NotSquare as NotSquare_of}
 use Rattle.curve25519.proofs.Identities.{Term, v, i, o, ◌⊕◌, ◌⊗◌, ◌⊖◌, lookup, ring, follows, -◌}

@@ -1,4 +1,4 @@
--- That 2 ^ 255 - 19 is prime: a tree of certificates, written by tools/curve25519/pratt.py.
+-- That 2 ^ 255 - 19 is prime: a tree of certificates, which tools/curve25519/certificates finds.
 use Rattle.std.proofs.Common.{[], ◌∷◌, refl}
 use Rattle.curve25519.proofs.Certificates.{certified, Facts}
 

@@ -1,4 +1,4 @@
--- That the order of the base point is prime: a tree of certificates, written by tools/curve25519/pratt.py.
+-- That the order of the base point is prime: a tree of certificates, which tools/curve25519/certificates finds.
 use Rattle.std.proofs.Common.{[], ◌∷◌, refl}
 use Rattle.curve25519.proofs.Certificates.{certified, Facts}
 use Rattle.curve25519.proofs.FieldPrime.{p2, p3, p5, p7, p11, p13, p17, p19, p23, p41, p43, p47, p1723}

@@ -1,6 +1,6 @@
 -- The doubling formula gives coordinates of the sum of a point and itself.
-use Rattle.std.proofs.Common.{◌≡◌, ◌≢◌, ℕ, List, [], ◌∷◌, refl, sym, ap, ap₂, ◌∙◌}
-use Rattle.curve25519.proofs.Identities.{Term, v, i, o, ◌⊕◌, ◌⊗◌, -◌, ◌⊖◌, lookup, ring, follows}
+use Rattle.std.proofs.Common.{◌≡◌, ◌≢◌, ℕ, [], ◌∷◌, refl, ap, ◌∙◌}
+use Rattle.curve25519.proofs.Identities.{Term, v, i, ◌⊕◌, ◌⊗◌, -◌, ◌⊖◌, lookup, follows}
 use Rattle.curve25519.proofs.Field.{not_product}
 use Rattle.curve25519.proofs.Edwards.{Pair, below_x, below_y, below_x≢nil, below_y≢nil}
 use Rattle.curve25519.proofs.Group.{Curve, On, ◌+ₚ◌, inverse_x, inverse_y}

@@ -1,5 +1,5 @@
 -- The opposite of a point, and what a signer's equation comes to.
-use Rattle.std.specs.Prelude.{ℕ, ◌≡◌, ◌+◌, ◌-◌, ◌*◌, ◌%◌, ◌<◌, [], ◌∷◌, refl}
+use Rattle.std.specs.Prelude.{ℕ, ◌≡◌, ◌+◌, ◌-◌, ◌*◌, ◌%◌, [], ◌∷◌, refl}
 use Rattle.std.proofs.Common.{sym, ap, ap₂, ◌∙◌, arith}
 use Rattle.curve25519.specs.Field25519.{field}
 use Rattle.curve25519.specs.Curve25519.{d, Point, On, ◌+ₚ◌, origin, multiple, base, order}

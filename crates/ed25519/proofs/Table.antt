@@ -1,5 +1,5 @@
 -- The rows of the table are the multiples of the base point, by computing them.
-use Rattle.std.specs.Prelude.{ℕ, ◌≡◌, ◌≢◌, zero, suc, ◌+◌, ◌*◌, ◌^◌, ◌<◌, Bool, true, false, ◌&&◌, List, [], ◌∷◌, length, get_or, refl}
+use Rattle.std.specs.Prelude.{ℕ, ◌≡◌, ◌≢◌, zero, suc, ◌+◌, ◌*◌, ◌^◌, ◌<◌, Bool, true, ◌&&◌, List, [], ◌∷◌, length, get_or, refl}
 use Rattle.std.proofs.Common.{sym, ap, ap₂, ◌∙◌, subst, arith}
 use Rattle.std.proofs.Math.Nat.{pow-suc}
 use Rattle.std.proofs.lemmas.Nat.{pow-add}
@@ -7,13 +7,13 @@ use Rattle.std.proofs.lemmas.Bool.{and_parts}
 use Rattle.curve25519.specs.Modular.{of, modulo}
 use Rattle.curve25519.specs.Field25519.{field, residue, least}
 use Rattle.curve25519.specs.Extended.{Extended, extended, add_extended, Represents, extended_origin}
-use Rattle.curve25519.specs.Curve25519.{d, Point, On, ◌+ₚ◌, multiple, base}
+use Rattle.curve25519.specs.Curve25519.{d, Point, multiple, base}
 use Rattle.curve25519.proofs.Field.{cancel_factor}
 use Rattle.curve25519.proofs.Edwards.{one≢nil}
 use Rattle.curve25519.proofs.Group.{multiple_on, multiples_add, multiple-zero, multiple-one}
 use Rattle.curve25519.proofs.Extended.{add_rep, origin_rep}
 use Rattle.curve25519.proofs.Curve25519.{curve, base_on}
-use Rattle.ed25519.specs.declared.base.Row.{Row}
+use Rattle.ed25519.specs.declared.base_multiple.Row.{Row}
 use Rattle.ed25519.specs.declared.multiples.TheConstants.{MULTIPLES}
 use Rattle.ed25519.specs.Points.{same}
 use Rattle.ed25519.specs.Rows.{row_of, field_number, IsRowOf}

@@ -1,7 +1,7 @@
 -- What a check of a signature's parts says of the whole, and that a signer's signature passes it.
-use Rattle.std.specs.Prelude.{ℕ, ◌≡◌, ◌+◌, ◌*◌, ◌%◌, ◌^◌, ◌<◌, ◌==◌, ◌&&◌, Bool, true, false, List, ◌++◌, length, take, drop, Option, Some, None, nat_lt, refl}
+use Rattle.std.specs.Prelude.{ℕ, ◌≡◌, ◌+◌, ◌*◌, ◌%◌, ◌^◌, ◌<◌, ◌&&◌, Bool, true, false, List, length, take, drop, Some, None, refl}
 use Rattle.std.proofs.Common.{sym, ap, ap₂, ◌∙◌, mod-lt, arith}
-use Rattle.std.proofs.lemmas.Bool.{eq-eqb, ne_eqb, lt-ltb, le-ltb}
+use Rattle.std.proofs.lemmas.Bool.{eq-eqb, lt-ltb, le-ltb}
 use Rattle.std.proofs.lemmas.Slice.Eq.{bytes_eq-Decides}
 use Rattle.std.specs.Str.{bytes_eq}
 use Rattle.curve25519.specs.Curve25519.{Point, ◌+ₚ◌, multiple, base, order}
@@ -11,7 +11,6 @@ use Rattle.field25519.specs.Bytes.{decode_little, encode}
 use Rattle.field25519.proofs.Encoding.{decode_little-encode}
 use Rattle.ed25519.specs.Points.{negative, encode_point, decode_point}
 use Rattle.ed25519.specs.Signatures.{secret_scalar, nonce, commitment, challenge, answer, public_key, sign, is_met, is_met_by, verify_halves, verify}
-use Rattle.ed25519.specs.Laws.{VerifiesSigned}
 use Rattle.ed25519.proofs.RoundTrip.{decode-encode}
 use Rattle.ed25519.proofs.Opposite.{returns}
 

@@ -4,3 +4,4 @@ pub mod Laws
 pub mod Coordinates
 pub mod Digits
 pub mod Rows
+pub mod Equation

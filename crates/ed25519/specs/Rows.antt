@@ -1,30 +1,26 @@
 -- The rows of the table of multiples.
-use Rattle.std.specs.Prelude.{ℕ, ◌≡◌, ◌+◌, ◌*◌, ◌%◌, ◌^◌, List, slice_index}
+use Rattle.std.specs.Prelude.{ℕ, ◌≡◌, ◌+◌, ◌*◌, ◌/◌, ◌%◌, ◌^◌, List, slice_index}
 use Rattle.curve25519.specs.Field25519.{field, residue}
 use Rattle.curve25519.specs.Curve25519.{d, Point}
 use Rattle.field25519.specs.declared.words.Words.{Words}
-use Rattle.ed25519.specs.declared.base.Row.{Row}
+use Rattle.ed25519.specs.declared.base_multiple.Row.{Row}
 use Rattle.ed25519.specs.Coordinates.{number}
 open field use {Of, add, mul, neg}
 
--- four numbers of a list
+-- two halves of a list as one number
 abbrev pub words_of : List ℕ → ℕ → Words
 words_of list i =
     record {
-      a = slice_index list i;
-      b = slice_index list (i + 1);
-      c = slice_index list (i + 2);
-      d = slice_index list (i + 3);
+      a = slice_index list i % 2 ^ 64;
+      b = slice_index list i / 2 ^ 64;
+      c = slice_index list (i + 1) % 2 ^ 64;
+      d = slice_index list (i + 1) / 2 ^ 64;
     }
 
--- twelve numbers of a list
+-- three numbers of a list
 abbrev pub row_of : List ℕ → ℕ → Row
 row_of list k =
-    record {
-      sum = words_of list (12 * k);
-      difference = words_of list (12 * k + 4);
-      product = words_of list (12 * k + 8);
-    }
+    record { sum = words_of list (6 * k); difference = words_of list (6 * k + 2); product = words_of list (6 * k + 4) }
 
 -- the number of the field that 255 bits of four words are
 abbrev pub field_number : Words → Of

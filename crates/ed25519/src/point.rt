@@ -1,8 +1,8 @@
 //! Points in extended coordinates (RFC 8032, section 5.1.4).
-ghost use Rattle.std.specs.Prelude.{◌≡◌, ℕ, ◌*◌};
-ghost use Rattle.curve25519.specs.Curve25519.{d as curve_d, Point, On, ◌+ₚ◌, origin, multiple};
+ghost use Rattle.std.specs.Prelude.{◌≡◌};
+ghost use Rattle.curve25519.specs.Curve25519.{d as curve_d, Point, origin};
 ghost use Rattle.ed25519.specs.Points.{negative, encode_point};
-ghost use Rattle.ed25519.specs.Coordinates.{coordinates, of_factors, Represents, Caches};
+ghost use Rattle.ed25519.specs.Coordinates.{coordinates, of_factors, Represents, IsSum, IsTwice, IsFourTimes};
 
 use crate::cached::CachedPoint;
 use field25519::{Element, Loose, Words};
@@ -83,7 +83,7 @@ impl ExtendedPoint {
     /// The sum with a point.
     #[inline]
     pub(crate) fn add(&self, other: &CachedPoint) -> ExtendedPoint
-        ensures { (p q : Point) → On p → On q → Represents self.now p → Caches other.now q → Represents result (p +ₚ q) }
+        ensures { IsSum self.now other.now result }
     {
         let a = self.y.subtract(&self.x).multiply(&other.difference.loose());
         let b = self.y.add(&self.x).multiply(&other.sum.loose());
@@ -95,7 +95,7 @@ impl ExtendedPoint {
     /// The sum with itself.
     #[inline]
     pub(crate) fn double(&self) -> ExtendedPoint
-        ensures { (q : Point) → On q → Represents self.now q → Represents result (q +ₚ q) }
+        ensures { IsTwice self.now result }
     {
         let a = self.x.square();
         let b = self.y.square();
@@ -107,7 +107,7 @@ impl ExtendedPoint {
 
     /// Four times the point.
     pub(crate) fn quadruple(&self) -> ExtendedPoint
-        ensures { (q : Point) (m : ℕ) → On q → Represents self.now (multiple q m) → Represents result (multiple q (4 * m)) }
+        ensures { IsFourTimes self.now result }
     {
         self.double().double()
     }

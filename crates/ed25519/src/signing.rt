@@ -1,24 +1,25 @@
 //! Keys, signatures and their verification (RFC 8032, sections 5.1.5 to 5.1.7).
-ghost use Rattle.std.specs.Prelude.{◌≡◌, ℕ, ◌<◌, ◌+◌, ◌*◌, ◌^◌, ◌%◌, ◌++◌, length, take, drop, slice_index};
-ghost use Rattle.curve25519.specs.Curve25519.{Point, On, order as L};
+ghost use Rattle.std.specs.Prelude.{◌≡◌, ◌<◌, ◌+◌, ◌*◌, ◌^◌, ◌%◌, ◌++◌, length, take, drop};
+ghost use Rattle.curve25519.specs.Curve25519.{order as L};
 ghost use Rattle.field25519.specs.Bytes.{decode_little};
 ghost use Rattle.field25519.specs.Scalars.{decode_scalar};
-ghost use Rattle.ed25519.specs.Coordinates.{number, Represents};
-ghost use Rattle.ed25519.specs.Signatures.{decode_64, hash_number, multiple_bytes, public_key as key_of, sign as signature_of, is_met as holds_equation, verify as is_signature, verify_halves as are_halves};
+ghost use Rattle.ed25519.specs.Coordinates.{number};
+ghost use Rattle.ed25519.specs.Equation.{TellsMet};
+ghost use Rattle.ed25519.specs.Signatures.{word_of, decode_64, hash_number, multiple_bytes, public_key as key_of, sign as signature_of, verify as is_signature, verify_halves as are_halves};
 
-use crate::base::multiply_base;
+use crate::base_multiple::multiply_base;
 use crate::cached::CachedPoint;
 use crate::decoding::decode;
 use crate::order;
 use crate::point::ExtendedPoint;
-use crate::times::multiply;
+use crate::point_multiple::multiply_point;
 use field25519::Words;
 use sha2::{Digest, Sha512};
 
 /// Eight bytes as a number, the lowest first.
 fn word_at(digest: &[u8; 64], at: usize) -> u64
     requires { at < 57 }
-    ensures { result ≡ slice_index digest.now (at) + 256 ^ 1 * slice_index digest.now (at + 1) + 256 ^ 2 * slice_index digest.now (at + 2) + 256 ^ 3 * slice_index digest.now (at + 3) + 256 ^ 4 * slice_index digest.now (at + 4) + 256 ^ 5 * slice_index digest.now (at + 5) + 256 ^ 6 * slice_index digest.now (at + 6) + 256 ^ 7 * slice_index digest.now (at + 7) }
+    ensures { result ≡ word_of digest.now at }
 {
     u64::from_le_bytes([
         digest[at],
@@ -154,11 +155,11 @@ pub fn sign(secret: &[u8; 32], message: &[u8]) -> [u8; 64]
 
 /// Whether the answer times the base point, less the challenge times the key, is the commitment.
 fn is_met(key: &ExtendedPoint, commitment: &[u8; 32], answer: Words, challenge: Words) -> bool
-    ensures { (q : Point) → On q → Represents key.now q → result ≡ holds_equation q commitment.now (number answer) (number challenge) }
+    ensures { TellsMet key.now commitment.now (number answer) (number challenge) result }
 {
     let first = multiply_base(answer);
     let opposite = key.negate();
-    let second = multiply(&opposite, challenge);
+    let second = multiply_point(&opposite, challenge);
     let sum = first.add(&CachedPoint::new(&second));
     let bytes = sum.encode();
     bytes == *commitment
@@ -180,7 +181,8 @@ fn verify_halves(key: &[u8; 32], message: &[u8], commitment: &[u8; 32], answer: 
     }
 }
 
-/// Whether the signature is one of the message by the public key (RFC 8032, section 5.1.7, with no cofactor).
+/// Whether the signature is one of the message by the public key, with no cofactor (RFC 8032,
+/// section 5.1.7).
 pub fn verify(public_key: &[u8], message: &[u8], signature: &[u8]) -> bool
     ensures { result ≡ is_signature public_key.now message.now signature.now }
 {

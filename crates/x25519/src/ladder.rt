@@ -1,7 +1,7 @@
 //! The Montgomery ladder of RFC 7748, section 5.
 ghost use Rattle.std.specs.Prelude.{◌≡◌, ◌<◌};
 ghost use Rattle.curve25519.specs.Field25519.{field};
-ghost use Rattle.curve25519.specs.Ladder.{State, swap as swap_over, advance as advance_over, ladder_step, ladder as ladder_over};
+ghost use Rattle.curve25519.specs.Ladder.{State, swap as swap_over, advance as advance_over, ladder as ladder_over};
 ghost use Rattle.curve25519.specs.X25519.{a24};
 ghost use Rattle.field25519.specs.Bytes.{joined_words};
 ghost use Rattle.x25519.specs.States.{coded_state};
@@ -80,27 +80,27 @@ impl Ladder {
         }
     }
 
-    /// A step at a bit of the scalar.
+    /// A step after a swap.
     #[inline]
-    fn step(&self, bit: u64, u: &Element) -> Ladder
-        requires { bit < 2 }
-        ensures { result ≡ ladder_step field a24 u.now bit self.now }
+    fn step(&self, toggle: u64, u: &Element) -> Ladder
+        requires { toggle < 2 }
+        ensures { result ≡ advance_over field a24 u.now (swap_over field toggle self.now) }
     {
-        let before = Ladder::swap(bit, self);
-        let after = before.advance(u);
-        Ladder::swap(bit, &after)
+        Ladder::swap(toggle, self).advance(u)
     }
 
-    /// The state after the 255 bits of the scalar.
+    /// The state after the 255 bits of the scalar. Each bit's second swap is made with the next bit's first.
     pub fn climb(scalar: Words, u: &Element) -> Ladder
         ensures { result ≡ ladder_over field a24 u.now 255 (joined_words scalar.a scalar.b scalar.c scalar.d) }
     {
         let mut now = Ladder::start(u);
+        let mut last = 0u64;
         for i in 0..255 {
             let bit = scalar.bit_at(254 - i);
-            now = now.step(bit, u);
+            now = now.step(last ^ bit, u);
+            last = bit;
         }
-        now
+        Ladder::swap(last, &now)
     }
 
     /// The state after the four bits of 8.
@@ -108,7 +108,7 @@ impl Ladder {
         ensures { result ≡ ladder_over field a24 u.now 4 8 }
     {
         let once = Ladder::start(u).step(1, u);
-        let twice = once.step(0, u);
+        let twice = once.step(1, u);
         let four_times = twice.step(0, u);
         four_times.step(0, u)
     }

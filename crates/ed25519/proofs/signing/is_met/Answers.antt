@@ -15,5 +15,5 @@ returns c = λ q on rep.
     let opposite = negative_on q on in
     let bytes = c.encode-bytes.ensures (multiple base s +ₚ multiple (negative q) k)
     (c.add-sum.ensures (multiple base s) (multiple (negative q) k) (multiple_on curve base base_on s) (multiple_on curve (negative q) opposite k) c.multiply_base-first.ensures
-    (c.new.ensures (multiple (negative q) k) (c.multiply-second.ensures (negative q) opposite (c.negate-opposite.ensures q rep)))) in
+    (c.new.ensures (multiple (negative q) k) (c.multiply_point-second.ensures (negative q) opposite (c.negate-opposite.ensures q rep)))) in
     c.eq.ensures ∙ ap (λ t. bytes_eq t c.args.commitment.now) bytes

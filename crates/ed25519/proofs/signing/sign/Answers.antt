@@ -1,6 +1,5 @@
 use Rattle.std.proofs.Common.{ap, ap₂, ◌∙◌, ◌≡◌, ◌+◌, ◌*◌, ◌%◌, ◌++◌, take, drop}
 use Rattle.std.proofs.Math.Nat.{add-mod-mod}
-use Rattle.sha2.specs.Sha512.{sha512}
 use Rattle.curve25519.specs.Curve25519.{order}
 use Rattle.field25519.specs.Bytes.{encode}
 use Rattle.field25519.specs.Scalars.{decode_scalar}

@@ -1,14 +1,13 @@
-use Rattle.std.proofs.Common.{ap₂, ◌∙◌}
-use Rattle.curve25519.specs.Field25519.{field}
-use Rattle.curve25519.specs.Ladder.{ladder_step}
-use Rattle.curve25519.specs.X25519.{a24}
-use Rattle.x25519.proofs.Steps.{no_bit, ladder_more}
+use Rattle.std.proofs.Common.{◌∙◌, ◌<◌, rules}
+use Rattle.x25519.proofs.Steps.{no_bit, stepped, both_low}
 use Rattle.x25519.proofs.ladder.Ladder.climb.Goals as goal
 
 pub loop-i-init : goal.loop-i-init
-loop-i-init c = c.start-now.ensures ∙ no_bit _ _ _
+loop-i-init c = (search rules, c.start-now.ensures ∙ no_bit _ _ _)
 
 pub loop-i-preserved : goal.loop-i-preserved
-loop-i-preserved c =
-    ladder_more c.args.u.now c.loop-i.i _ _ c.loop-i-test.true
-    (c.step-now.ensures ∙ ap₂ (λ b s. ladder_step field a24 c.args.u.now b s) c.bit_at-bit.ensures.bit c.loop-i.invariant)
+loop-i-preserved c = (
+  c.bit_at-bit.ensures.low,
+  stepped c.args.u.now c.loop-i.last c.bit_at-bit.result c.loop-i.i _ c.loop-i.now _ c.loop-i.invariant.0 c.bit_at-bit.ensures.low c.loop-i-test.true
+      c.bit_at-bit.ensures.bit c.loop-i.invariant.1 c.step-now.ensures,
+)
