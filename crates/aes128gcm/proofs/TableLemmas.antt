@@ -13,19 +13,16 @@ use Rattle.aes128gcm.specs.Gcm.{times_x, multiple, multiples_sum, product}
 and_all : (w : ℕ) → w < 2 ^ 64 → bit_and 18446744073709551615 w ≡ w
 and_all w h = and_comm 18446744073709551615 w ∙ and_mask w 64 ∙ omega arith
 
-pub masked_word : (n w : ℕ) → w < 2 ^ 64 → bit_and ((0 + (18446744073709551616 - bit_and n 1)) % 18446744073709551616) w ≡ n % 2 * w
-masked_word n w h =
-    let low : bit_and n 1 ≡ n % 2 = and_mask n 1 in
-    elim (cases_lt (n % 2) 1) [
-      | inl lt ↦
-          let e : (0 + (18446744073709551616 - bit_and n 1)) % 18446744073709551616 ≡ 0 = omega arith in
-          let z : n % 2 ≡ 0 = omega arith in
-          ap (λ x. bit_and x w) e ∙ (let o : 0 ≡ 0 * w = omega arith in o) ∙ ap (λ x. x * w) (sym z)
-      | inr le ↦
-          let e : (0 + (18446744073709551616 - bit_and n 1)) % 18446744073709551616 ≡ 18446744073709551615 = omega arith in
-          let z : n % 2 ≡ 1 = omega arith in
-          ap (λ x. bit_and x w) e ∙ and_all w h ∙ (let o : w ≡ 1 * w = omega arith in o) ∙ ap (λ x. x * w) (sym z)
-    ]
+-- a bit's copies, and a word under them
+copies_of : (b : ℕ) → b < 2 → (0 + (18446744073709551616 - b)) % 18446744073709551616 ≡ b * 0xFFFFFFFFFFFFFFFF
+copies_of zero h = omega arith
+copies_of (suc zero) h = omega arith
+copies_of (suc (suc b)) h = absurd (omega arith)
+
+pub under_copies : (b m w : ℕ) → m ≡ b * 0xFFFFFFFFFFFFFFFF → b < 2 → w < 2 ^ 64 → bit_and m w ≡ b * w
+under_copies zero m w e h k = let z : m ≡ 0 = omega arith in ap (λ x. bit_and x w) z ∙ (let o : 0 ≡ 0 * w = omega arith in o)
+under_copies (suc zero) m w e h k = let z : m ≡ 18446744073709551615 = omega arith in ap (λ x. bit_and x w) z ∙ and_all w k ∙ (let o : w ≡ 1 * w = omega arith in o)
+under_copies (suc (suc b)) m w e h k = absurd (omega arith)
 
 -- ---- the sum, in two words
 
@@ -114,3 +111,16 @@ up_next k w t e =
 
 pub up_top : (k w t : ℕ) → k < 64 → t ≡ up k w → t / 2 ^ 63 % 2 ≡ w / 2 ^ (63 - k) % 2
 up_top k w t h e = ap (λ z. z / 2 ^ 63 % 2) e ∙ bit_at-up_mid k w 63 (omega arith) (omega arith)
+
+pub copies_more : (words : List ℕ) (x i rest new : ℕ) → length words ≡ 128 → i < 128
+    → ((k : ℕ) → k < i → get_or words k 0 ≡ x / 2 ^ (127 - k) % 2 * 0xFFFFFFFFFFFFFFFF) → rest / 2 ^ 63 % 2 ≡ x / 2 ^ (127 - i) % 2 → rest < 2 ^ 64
+    → new ≡ (0 + (18446744073709551616 - rest / 2 ^ 63)) % 18446744073709551616
+    → (k : ℕ) → k < i + 1 → get_or (set words i new) k 0 ≡ x / 2 ^ (127 - k) % 2 * 0xFFFFFFFFFFFFFFFF
+copies_more words x i rest new long h before bit small en k hk = elim (cases_lt k i) [
+  | inl lt ↦ let ne : k ≢ i = omega arith in rw get_or-set_other (before k lt)
+  | inr ge ↦
+      let same : k ≡ i = omega arith in
+      let il : i < length words = omega arith in
+      let b : rest / 2 ^ 63 ≡ x / 2 ^ (127 - i) % 2 = omega arith in
+      rw (same, get_or-set_same) (en ∙ copies_of (rest / 2 ^ 63) (omega arith) ∙ ap (λ n. n * 0xFFFFFFFFFFFFFFFF) b)
+]

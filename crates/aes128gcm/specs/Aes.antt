@@ -49,11 +49,11 @@ s_box b = affine (inverse b)
 
 -- ---- states (FIPS 197, 3.4)
 
--- the byte in a row and a column
+-- the byte in a row and a column (FIPS 197, 3.4)
 abbrev pub at : List ℕ → ℕ → ℕ → ℕ
 at s r c = slice_index s (4 * c + r)
 
--- the state of these bytes, each given by its row and column
+-- the state of these bytes, each given by its row and column (FIPS 197, 3.4)
 abbrev pub state : (ℕ → ℕ → ℕ) → List ℕ
 state f = f 0 0 ∷ f 1 0 ∷ f 2 0 ∷ f 3 0 ∷ f 0 1 ∷ f 1 1 ∷ f 2 1 ∷ f 3 1 ∷ f 0 2 ∷ f 1 2 ∷ f 2 2 ∷ f 3 2 ∷ f 0 3 ∷ f 1 3 ∷ f 2 3 ∷ f 3 3 ∷ []
 
@@ -73,7 +73,7 @@ mix a b c d = bit_xor (bit_xor (bit_xor (xtimes a) (bit_xor (xtimes b) b)) c) d
 unfoldable pub mix_columns : List ℕ → List ℕ
 mix_columns s = state (λ r c. mix (at s r c) (at s ((r + 1) % 4) c) (at s ((r + 2) % 4) c) (at s ((r + 3) % 4) c))
 
--- each byte of the first list, added to the byte of the second at its place, if there is one
+-- each byte of the first list, added to the byte of the second at its place, if there is one (FIPS 197, 4.1)
 abbrev pub xor_with : List ℕ → List ℕ → List ℕ
 xor_with [] ys = []
 xor_with (x ∷ xs) [] = x ∷ xs
@@ -101,7 +101,7 @@ round_constant i = multiple 1 i
 unfoldable pub rcon : ℕ → List ℕ
 rcon i = round_constant i ∷ 0 ∷ 0 ∷ 0 ∷ []
 
--- word i of a round key
+-- word i of a round key (FIPS 197, 5.2)
 abbrev pub word : List ℕ → ℕ → List ℕ
 word k i = take 4 (drop (4 * i) k)
 

@@ -1,5 +1,5 @@
 -- Parts of GCM as the code makes them (SP 800-38D), which contracts of private functions cite.
-use Rattle.std.specs.Prelude.{◌≡◌, ℕ, ◌+◌, ◌-◌, ◌*◌, ◌%◌, ◌^◌, ◌<◌, List, ◌++◌, length, replicate, slice_index}
+use Rattle.std.specs.Prelude.{◌≡◌, ℕ, ◌+◌, ◌-◌, ◌*◌, ◌/◌, ◌%◌, ◌^◌, ◌<◌, List, ◌++◌, length, replicate, slice_index}
 use Rattle.std.specs.Int.{w32, w128, to_be_bytes, from_be_bytes, div_ceil}
 use Rattle.aes128gcm.specs.Gcm.{multiple, absorb, pad}
 
@@ -22,3 +22,7 @@ entry high low i = slice_index high i * 2 ^ 64 + slice_index low i
 -- the table has the first entry times each power of x (SP 800-38D, 6.3)
 abbrev pub AreMultiples : List ℕ → List ℕ → Type 0
 AreMultiples high low = (i : ℕ) → i < 128 → entry high low i ≡ multiple (entry high low 0) i
+
+-- each word has 64 copies of a block's bit, from the highest on
+abbrev pub AreCopies : ℕ → List ℕ → Type 0
+AreCopies x words = (k : ℕ) → k < 128 → slice_index words k ≡ x / 2 ^ (127 - k) % 2 * 0xFFFFFFFFFFFFFFFF

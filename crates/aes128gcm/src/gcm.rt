@@ -93,10 +93,11 @@ fn concat_lengths(a: [u8; 8], b: [u8; 8]) -> Block
 fn absorb(h: &GhashKey, from: u128, bytes: &[u8]) -> u128
     ensures { result ≡ absorb_padded h.now from bytes.now }
 {
+    let mut copies = [0; 128];
     let mut y = from;
     for i in 0..bytes.len().div_ceil(16) {
         let end = bytes.len().min(16 * i + 16);
-        y = h.multiply(y ^ block_number(&bytes[16 * i..end]));
+        y = h.multiply(y ^ block_number(&bytes[16 * i..end]), &mut copies);
     }
     y
 }

@@ -1,8 +1,9 @@
 //! The product of blocks by a fixed one (SP 800-38D, 6.3), with a table of its multiples that is
 //! read whole, so no index and no branch depends on a block.
 
-ghost use Rattle.std.specs.Prelude.{◌≡◌, ◌*◌, ◌/◌, ◌^◌, ◌%◌};
+ghost use Rattle.std.specs.Prelude.{◌≡◌, ◌/◌, ◌^◌, ◌%◌, length};
 ghost use Rattle.aes128gcm.specs.Gcm.{times_x, product};
+ghost use Rattle.aes128gcm.specs.Parts.{AreCopies};
 
 use std::marker::Model;
 
@@ -47,13 +48,23 @@ fn low_word(x: u128) -> u64
     (x % (1 << 64)) as u64
 }
 
-/// The word where the highest bit of `bits` is one, else 0, with no branch.
-#[inline(always)]
-fn select(bits: u64, word: u64) -> u64
-    ensures { result ≡ bits / 2 ^ 63 % 2 * word }
+/// Writes each bit of a block, from the highest on, as 64 copies of itself. It stays a call: so whoever
+/// reads the words has no condition from which the compiler could make a branch.
+#[inline(never)]
+fn spread(x: u128, copies: &mut [u64; 128])
+    ensures bits { AreCopies x copies.new }
+    ensures count { length copies.new ≡ 128 }
 {
-    let bit = (bits >> 63) & 1;
-    0u64.wrapping_sub(bit) & word
+    let mut top = high_word(x);
+    for i in 0..64usize {
+        copies[i] = 0u64.wrapping_sub(top >> 63);
+        top <<= 1;
+    }
+    let mut bottom = low_word(x);
+    for j in 0..64usize {
+        copies[64 + j] = 0u64.wrapping_sub(bottom >> 63);
+        bottom <<= 1;
+    }
 }
 
 impl GhashKey {
@@ -72,23 +83,17 @@ impl GhashKey {
         GhashKey { high, low }
     }
 
-    /// The product of a block with the table's (SP 800-38D, 6.3).
-    pub(crate) fn multiply(&self, x: u128) -> u128
-        ensures { result ≡ product x self.now }
+    /// The product of a block with the table's, with room for the copies of its bits (SP 800-38D, 6.3).
+    pub(crate) fn multiply(&self, x: u128, copies: &mut [u64; 128]) -> u128
+        ensures product { result ≡ product x self.now }
+        ensures count { length copies.new ≡ 128 }
     {
-        let mut top = high_word(x);
-        let mut bottom = low_word(x);
+        spread(x, copies);
         let mut high = 0;
         let mut low = 0;
-        for i in 0..64usize {
-            high ^= select(top, self.high[i]);
-            low ^= select(top, self.low[i]);
-            top <<= 1;
-        }
-        for j in 0..64usize {
-            high ^= select(bottom, self.high[j + 64]);
-            low ^= select(bottom, self.low[j + 64]);
-            bottom <<= 1;
+        for i in 0..128usize {
+            high ^= copies[i] & self.high[i];
+            low ^= copies[i] & self.low[i];
         }
         (high as u128) << 64 | low as u128
     }

@@ -123,7 +123,7 @@ impl Aes128 {
     }
 
     /// CIPHER of four blocks (FIPS 197, 5.1).
-    pub fn encrypt_four(
+    pub(crate) fn encrypt_four(
         &self,
         a: &[u8; 16],
         b: &[u8; 16],

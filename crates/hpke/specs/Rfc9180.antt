@@ -52,8 +52,9 @@ unfoldable pub eight_times : List ℕ → List ℕ
 eight_times pk = clear_cofactor_bytes pk
 
 -- A public key is fit where it has 32 bytes, and eight times it isn't 0.
--- RFC 9180 (7.1.4) asks for another test of the sender: that DH(skE, pkR) isn't the all-zero value. Both refuse the same
--- keys if the order of each point is a divisor of 8 times a prime, as it is; that isn't proved here.
+-- RFC 9180 (7.1.4) asks the sender for another test: that DH(skE, pkR) isn't the all-zero value. A clamped scalar is a
+-- multiple of 8, so it brings an unfit key to that value. That it brings no fit key there rests on the numbers of points of
+-- the curve and its twist, and isn't proved here, except for keys that are `public sk`.
 unfoldable pub is_fit : List ℕ → Bool
 is_fit pk = (if nat_eq (length pk) 32 then not (is_zero (eight_times pk)) else false)
 
