@@ -4,7 +4,7 @@ use Rattle.curve25519.specs.Field25519.{field}
 use Rattle.curve25519.specs.Curve25519.{Point, On, ◌+ₚ◌, origin, multiple, negative, u_of, base, order}
 use Rattle.curve25519.specs.X25519.{x25519, nine}
 
--- what q doesn't divide has an inverse modulo q, so q is prime
+-- what q doesn't divide has an inverse modulo q: above 1 this says that q is prime
 abbrev pub IsPrime : ℕ → Type 0
 IsPrime q = (n : ℕ) → n % q ≢ 0 → (u : ℕ) × (u * n % q ≡ 1)
 

@@ -9,7 +9,6 @@ ghost use Rattle.std.specs.Prelude.{IfOk};
 ghost use Rattle.mls_member.specs.Answers.{IsShortItem, AreShortItems};
 
 use anyhow::{Result, bail};
-use mls_leaf::Proposal;
 use mls_member::{Candidate, Item, Made, Member};
 use mls_suite::Glass;
 use std::alloc::Global;
@@ -52,8 +51,7 @@ fn seed(purpose: Purpose, number: u32) -> [u8; 32] {
 fn addition(candidate: &Candidate<Glass>) -> Result<Item>
     ensures { IfOk result IsShortItem }
 {
-    candidate.addition_is_short();
-    Ok(Item::Full(Proposal::Add(candidate.key_package().clone()?)))
+    Ok(Item::Full(candidate.addition()?))
 }
 
 /// The list of a commit that adds a candidate.

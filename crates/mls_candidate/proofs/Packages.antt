@@ -1,5 +1,5 @@
 -- KeyPackages that are made are short.
-use Rattle.std.proofs.Common.{◌≡◌, ℕ, ◌+◌, ◌<◌, ◌≤◌, ◌^◌, List, [], ◌++◌, length, ap, arith, lit<}
+use Rattle.std.proofs.Common.{◌≡◌, ℕ, ◌+◌, ◌-◌, ◌<◌, ◌≤◌, ◌^◌, List, [], ◌++◌, length, ap, arith, lit<}
 use Rattle.std.specs.Int.{w16, to_be_bytes}
 use Rattle.std.proofs.lemmas.List.{length-append}
 use Rattle.mls_wire.specs.Reading.{opaque, uint}
@@ -8,12 +8,12 @@ use Rattle.mls_leaf.specs.InputLaws.{key_package-spelled}
 use Rattle.mls_leaf.specs.KeyPackage.{key_package}
 use Rattle.mls_leaf.specs.Leaf.{leaf_node}
 use Rattle.mls_leaf.specs.Limits.{input_limit}
-use Rattle.mls_leaf.specs.Proposal.{proposal as proposal_format}
 use Rattle.mls_leaf.specs.declared.key_package.KeyPackage.{KeyPackage}
 use Rattle.mls_leaf.specs.declared.proposal.Proposal.TheVariants.{Add}
 use Rattle.mls_types.specs.Message.{mls_message}
 use Rattle.mls_model.specs.Candidate.{package_message}
 use Rattle.mls_public_group.specs.Short.{IsBelow}
+use Rattle.mls_public_group.specs.ShortProposal.{IsShortProposal}
 use Rattle.mls_candidate.specs.Short.{IsShortPackage}
 use Rattle.mls_candidate.specs.LeafLaws.{owner_in}
 use Rattle.mls_public_group.specs.Lengths.{opaque_most}
@@ -56,7 +56,6 @@ pub leaf_below : (n : ℕ) (k : KeyPackage) → IsBelow n key_package k → IsBe
 unfolding key_package
 leaf_below n k b = record { fits = b.fits.1.1.0; below = omega (arith, leaf_in k, b.below) }
 
--- and the proposal that adds it is two bytes longer
-pub addition_below : (k : KeyPackage) → IsBelow (2 ^ 27) key_package k → IsBelow (2 ^ 28) proposal_format (Add k)
-unfolding proposal_format uint
-addition_below k b = record { fits = (lit< tt, b.fits); below = omega (arith, b.below, length-append (to_be_bytes w16 1) (key_package.spell k)) }
+-- and the proposal that adds it is short
+pub addition_short : (k : KeyPackage) → IsBelow (2 ^ 27) key_package k → IsShortProposal (Add k)
+addition_short k b = record { fits = b.fits; below = omega (arith, b.below) }

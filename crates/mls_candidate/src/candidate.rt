@@ -1,12 +1,13 @@
 //! Candidates.
 
-ghost use Rattle.std.specs.Prelude.{◌≡◌, ◌^◌};
+ghost use Rattle.std.specs.Prelude.{◌≡◌, ◌^◌, IfOk};
 ghost use Rattle.mls_leaf.specs.KeyPackage.{key_package as key_package_format};
 ghost use Rattle.mls_wire.specs.Checks.{Answers};
 ghost use Rattle.mls_leaf.specs.Leaf.{leaf_node as leaf_format};
-ghost use Rattle.mls_leaf.specs.Proposal.{proposal as proposal_format};
 ghost use Rattle.mls_leaf.specs.declared.proposal.Proposal.TheVariants.{Add};
 ghost use Rattle.mls_public_group.specs.Short.{IsBelow};
+ghost use Rattle.mls_public_group.specs.ShortProposal.{IsShortProposal};
+ghost use Rattle.mls_model.specs.Agreement.{IsGoodCandidate};
 ghost use Rattle.mls_model.specs.Candidate.{new_candidate, package_message};
 ghost use Rattle.mls_candidate.specs.Faults.{number_of};
 
@@ -15,8 +16,8 @@ use crate::leaf::leaf_pair;
 use crate::package::{init_pair, offered_package, package_message};
 use crate::texts::within_limit;
 use mls_kdf::{Secret, Seed};
-use mls_leaf::{INPUT_LIMIT, KeyPackage, LeafError, LeafNode};
-use mls_suite::Suite;
+use mls_leaf::{INPUT_LIMIT, KeyPackage, LeafError, LeafNode, Proposal};
+use mls_suite::{OutOfMemory, Suite};
 use mls_treekem::sign_seed;
 use mls_wire::WireError;
 use std::alloc::Global;
@@ -53,7 +54,8 @@ impl<S: Suite> Model for Candidate<S> {
 impl<S: Suite> Candidate<S> {
     /// A candidate of an identity and a seed: 57 where both keys are one, 6 where the message is too large.
     pub fn new(alloc: Global, identity: &[u8], seed: &Seed) -> Result<Candidate<S>, CandidateError>
-        ensures { Answers (λ k. k) number_of (new_candidate S.crypto identity.now seed.now) result }
+        ensures answer { Answers (λ k. k) number_of (new_candidate S.crypto identity.now seed.now) result }
+        ensures good { IfOk result (IsGoodCandidate S.crypto) }
     {
         let init = init_pair::<S>(alloc, seed)?;
         let leaf = leaf_pair::<S>(alloc, seed)?;
@@ -129,10 +131,11 @@ impl<S: Suite> Candidate<S> {
         let _offered = &self.offered;
     }
 
-    /// A law: the proposal that adds it is short.
-    pub fn addition_is_short(&self)
-        ensures { IsBelow (2 ^ 28) proposal_format (Add self.now.offered) }
+    /// The proposal that adds it (RFC 9420, 12.1.1).
+    pub fn addition(&self) -> Result<Proposal, OutOfMemory>
+        ensures add { IfOk result (λ p. p ≡ Add self.now.offered) }
+        ensures short { IfOk result IsShortProposal }
     {
-        let _offered = &self.offered;
+        Ok(Proposal::Add(self.offered.clone()?))
     }
 }

@@ -2,3 +2,4 @@ mod GoodTrees
 mod Orders
 mod SentTrees
 mod ShortLeaves
+mod Texts

@@ -39,6 +39,16 @@ within_limit bs = if nat_lt input_limit (length bs) then Err 6 else Ok bs
 unfoldable pub group_in : List ℕ → Result (List ℕ) ℕ
 group_in text = given 8 (decoded (decode_of text)) >>= within_limit
 
+abbrev pub both : List ℕ → List ℕ → Result (List ℕ × List ℕ) ℕ
+both spelled id = Ok (spelled, id)
+
+-- the bytes of a file's text and of a group's: 8 the file's isn't hex, then 8 and 6 of the group's
+unfoldable pub texts_in : List ℕ → List ℕ → Result (List ℕ × List ℕ) ℕ
+texts_in text group = do
+  spelled ← given 8 (bytes_in text)
+  id ← group_in group
+  both spelled id
+
 -- ---- lines, and the first check that fails
 
 -- nothing is left to check

@@ -1,6 +1,12 @@
 -- The joiners' claim.
-use Rattle.std.proofs.Common.{◌≡◌, ℕ, false, List, [], length, zip, Option, Some, None, Ok, refl, sym, ap, subst, ◌∙◌, arith}
+use Rattle.std.proofs.Common.{◌≡◌, ℕ, true, false, List, [], length, zip, Option, Some, None, Ok, refl, sym, ap, subst, ◌∙◌, arith}
+use Rattle.std.specs.Prelude.{◌≢◌}
+use Rattle.std.specs.List.{list_any}
+use Rattle.std.specs.Str.{bytes_eq}
 use Rattle.mls_wire.specs.Checks.{passed}
+use Rattle.mls_wire.specs.CheckLaws.{require_ok, bind_ok}
+use Rattle.mls_wire.specs.Laws.{ok_is}
+use Rattle.mls_leaf.specs.KeyPackage.{key_package}
 use Rattle.mls_leaf.specs.declared.key_package.KeyPackage.{KeyPackage}
 use Rattle.mls_leaf.specs.declared.leaf.LeafNode.{LeafNode}
 use Rattle.mls_group.specs.GroupContext.{group_context}
@@ -8,7 +14,9 @@ use Rattle.mls_group.specs.GroupInfo.{group_info}
 use Rattle.mls_types.specs.declared.commit.ProposalOrRef.{ProposalOrRef}
 use Rattle.mls_suite.specs.Crypto.{Crypto, Lawful}
 use Rattle.mls_term.specs.Arrays.{to_nodes}
-use Rattle.mls_term.specs.Term.{leaf_of}
+use Rattle.mls_term.specs.Term.{Term, leaf_of}
+use Rattle.mls_paths.specs.Join.{take_answer}
+use Rattle.mls_paths.specs.Keys.{PrivateKeys}
 use Rattle.mls_paths.specs.Laws.{AreTwo}
 use Rattle.mls_schedule.specs.Epoch.{epoch_secret, confirmation_tag}
 use Rattle.mls_schedule.specs.Lengths.{length-joiner_secret}
@@ -16,7 +24,9 @@ use Rattle.mls_model.specs.Agreement.{IsGoodCandidate}
 use Rattle.mls_model.specs.Candidate.{Candidate}
 use Rattle.mls_model.specs.Claims.{IsMade, JoinsTo, JoinersClaim}
 use Rattle.mls_model.specs.Commit.{Edits, Change, merged, public_with}
-use Rattle.mls_model.specs.Join.{Joined, joined_tree, signer_checks, place_of, member_of, join_verdict}
+use Rattle.mls_model.specs.Join.{Joined, joined_tree, signer_checks, place_of, joined_keys, member_of, join_verdict}
+use Rattle.mls_model.specs.Journal.{adds_in}
+use Rattle.mls_model.specs.KeyLaws.{leaf_stays}
 use Rattle.mls_model.specs.Make.{MadePath, Made, path_secret_for, path_seals}
 use Rattle.mls_model.specs.Member.{Member}
 use Rattle.mls_model.specs.Opening.{Opened, opened_welcome}
@@ -42,6 +52,22 @@ use Rattle.mls_claims.specs.Welcomed.{welcome_opens}
 joiner_32 : (m : Member) (path : MadePath) (change : Change) → length (joiner_of m path change) ≡ 32
 unfolding joiner_of
 joiner_32 m path change = length-joiner_secret _ _ _
+
+-- a candidate joins the maker at another leaf
+pub record JoinsBeside (c : Crypto) (m : Member) (k : Candidate) (welcome : List ℕ) (made : Made) : Type 0 where
+  pub to : JoinsTo c k welcome made
+  pub active : to.joined.member.gone ≡ false
+  pub apart : m.keys.leaf ≢ to.joined.member.keys.leaf
+
+-- its keys are those of its leaf
+keys_at : (c : Crypto) (t : Term) (signer leaf : ℕ) (own : List ℕ) (secret : Option (List ℕ)) (keys : PrivateKeys) → joined_keys c t signer (record { leaf = leaf; own = own; above = [] }) secret ≡ Ok keys → keys.leaf ≡ leaf
+unfolding joined_keys
+keys_at c t signer leaf own None keys h =
+    let s = require_ok _ _ _ _ h in
+    ap (λ (x : PrivateKeys). x.leaf) (sym (ok_is _ keys s.1))
+keys_at c t signer leaf own (Some secret) keys h =
+    let s = bind_ok (take_answer c t signer leaf own secret) _ _ h in
+    ap (λ (x : PrivateKeys). x.leaf) (sym (ok_is _ keys s.2)) ∙ leaf_stays (record { leaf = leaf; own = own; above = [] }) s.0.keys
 
 one_leaf : (x y : LeafNode) (o : Option LeafNode) → o ≡ Some x → o ≡ Some y → x ≡ y
 one_leaf x y o a b = cc
@@ -140,17 +166,26 @@ module _ (c : Crypto) (laws : Lawful c) (m : Member) (list : List ProposalOrRef)
   unfolding opened joined public_with
   becomes = joins_at c k m.signing s.change (joiner_of m s.path s.change) (tag_of m s.path s.change) m.keys.leaf (secret_made m s.path s.change is.seed j.entry.leaf) (j.entry.leaf, k.offered.leaf_node) keys.0 tree signer place keys.1 confirmed
 
-  pub joins_to : JoinsTo c k welcome made
+  pub joins_beside : JoinsBeside c m k welcome made
   unfolding joined join_verdict made_of epoch_of
-  joins_to = record {
-    joined = joined;
-    is = rw opens becomes;
-    public = ap (λ (x : Made). x.pending.public) s.made_is;
-    epoch = ap (λ (x : Made). x.pending.epoch) s.made_is;
+  joins_beside = record {
+    to = record {
+      joined = joined;
+      is = rw opens becomes;
+      public = ap (λ (x : Made). x.pending.public) s.made_is;
+      epoch = ap (λ (x : Made). x.pending.epoch) s.made_is;
+    };
+    active = refl;
+    apart = λ e. j.joins.other (sym (e ∙ keys_at c s.change.tree m.keys.leaf j.entry.leaf k.leaf (secret_made m s.path s.change is.seed j.entry.leaf) keys.0 keys.1));
   }
 
--- A made Welcome passes the join verdict of each candidate whose own KeyPackage the commit adds.
-pub joiners_hold : JoinersClaim
-joiners_hold c laws m list made welcome k is w good any =
+-- A made Welcome passes the join verdict of each candidate whose own KeyPackage the commit adds, which then stands at
+-- another leaf than the maker.
+pub joiners_beside : (c : Crypto) → Lawful c → (m : Member) (list : List ProposalOrRef) (made : Made) (welcome : List ℕ) (k : Candidate) → IsMade c m list made → made.welcome ≡ Some welcome → IsGoodCandidate c k →
+    list_any (bytes_eq (key_package.spell k.offered)) (adds_in m.kept list) ≡ true → JoinsBeside c m k welcome made
+joiners_beside c laws m list made welcome k is w good any =
     let s = make_did c m list is.wants_path is.seed made is.is in
-    joins_to c laws m list made is s welcome k good (joining c m list made is s welcome k w good any)
+    joins_beside c laws m list made is s welcome k good (joining c m list made is s welcome k w good any)
+
+pub joiners_hold : JoinersClaim
+joiners_hold c laws m list made welcome k is w good any = (joiners_beside c laws m list made welcome k is w good any).to

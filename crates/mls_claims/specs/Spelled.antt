@@ -124,6 +124,11 @@ full_fits x f = f.1
 abbrev used_as : Proposal → ℕ → Bool → Used
 used_as said sender full = record { proposal = said; sender = sender; is_full = full }
 
+-- of a list, a proposal that is given in full has a spelling
+abbrev pub FullFits : ProposalOrRef → Type 0
+FullFits (listed.Proposal said) = proposal.Fits said
+FullFits (listed.Reference r) = Unit {0}
+
 one_fits : (c : Crypto) (m : Member) (i : ℕ) (x : ProposalOrRef) (u : Used) → AreGoodKept c m m.kept → proposal_or_ref.Fits x → used_one m.kept i x ≡ Ok u → UsedFits u
 one_fits c m i (listed.Proposal said) u good f e = subst UsedFits (ok_is (used_as said i true) u e) (full_fits said f)
 one_fits c m i (listed.Reference r) u good f e = by_kept (kept_under m.kept r) refl e

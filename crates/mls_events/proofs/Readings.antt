@@ -1,8 +1,9 @@
 -- What bytes stand for, by a view of the message that they are.
+use denote.Ref.{Bor}
 use Rattle.std.proofs.lemmas.List.{length-append}
 use Rattle.std.proofs.Math.Seq.{take-length}
-use Rattle.std.proofs.Common.{◌≡◌, ℕ, ◌-◌, length-drop, ◌<◌, ◌≤◌, ◌^◌, List, [], ◌++◌, length, take, drop, Some, None, Result, Ok, Err, refl, sym, ap, subst, ◌∙◌, arith, lit<}
-use Rattle.std.specs.Prelude.{◌≢◌, IfOk}
+use Rattle.std.proofs.Common.{◌≡◌, ℕ, ◌-◌, length-drop, ◌<◌, ◌≤◌, ◌^◌, List, [], ◌++◌, length, take, drop, Option, Some, None, Result, Ok, Err, refl, sym, ap, subst, ◌∙◌, arith, lit<}
+use Rattle.std.specs.Prelude.{◌≢◌, IfOk, IfSome}
 use Rattle.std.specs.Int.{w16}
 use Rattle.mls_wire.specs.Reading.{uint}
 use Rattle.mls_wire.specs.Format.{IsBytes}
@@ -13,6 +14,7 @@ use Rattle.mls_leaf.specs.WholeLaws.{whole_takes, spells_same}
 use Rattle.mls_leaf.specs.KeyPackage.{key_package}
 use Rattle.mls_leaf.specs.Proposal.{proposal as proposal_format}
 use Rattle.mls_leaf.specs.declared.key_package.KeyPackage.{KeyPackage}
+use Rattle.mls_leaf.specs.declared.proposal.Proposal.{Proposal}
 use Rattle.mls_leaf.specs.declared.proposal.Proposal.TheVariants as proposes
 use Rattle.mls_types.specs.Message.{mls_message}
 use Rattle.mls_types.specs.Commit.{proposal_or_ref, proposal_or_ref_nonempty}
@@ -35,6 +37,8 @@ use Rattle.mls_view.specs.declared.public_message.PublicMessageView.{PublicMessa
 use Rattle.mls_view.specs.Shown.{Shows, ShowsPublic, ShowsContent}
 use Rattle.mls_view.specs.Views.{LendsAll}
 use Rattle.mls_public_group.specs.Short.{IsBelow}
+use Rattle.mls_public_group.specs.ShortProposal.{IsShortProposal}
+use Rattle.mls_public_group.proofs.ShortProposal.{short_parts}
 use Rattle.mls_model.specs.Messages.{decoded, reference_of}
 use Rattle.mls_model.specs.World.{if_proposal}
 use Rattle.mls_model.specs.Journal.{list_in, list_of_body, list_of_message}
@@ -82,18 +86,14 @@ package_below bytes part k fits p spells =
     let lek : length (key_package.spell k) ≤ input_limit = subst (λ (x : KeyPackage). length (key_package.spell x) ≤ input_limit) same le in
     record { fits = spells.fits; below = omega (arith, lek) }
 
--- nor are the proposals of it and of a leaf
-pub item_added : (k : KeyPackage) → IsBelow (2 ^ 27) key_package k → IsBelow (2 ^ 28) proposal_format (proposes.Add k)
-unfolding proposal_format
-item_added k h = record { fits = (lit< tt, h.fits); below = omega (arith, h.below, length-append (uint w16 1) (key_package.spell k), length-uint16 1) }
+-- so the proposal that adds it is short
+pub item_added : (k : KeyPackage) → IsBelow (2 ^ 27) key_package k → IsShortProposal (proposes.Add k)
+item_added k h = record { fits = h.fits; below = omega (arith, h.below) }
 
-pub item_removed : (leaf : ℕ) → leaf < 2 ^ 32 → IsBelow (2 ^ 28) proposal_format (proposes.Remove leaf)
-unfolding proposal_format uint
-item_removed leaf lt = record { fits = (lit< tt, lt); below = lit< tt }
-
-pub added_fits : (k : KeyPackage) → IsBelow (2 ^ 28) proposal_format (proposes.Add k) → key_package.Fits k
-unfolding proposal_format
-added_fits k h = h.fits.1
+-- and so is one that is kept
+pub kept_short : (o : Option (Bor Proposal)) → IfSome o (λ p. IsBelow (2 ^ 27) proposal_format p.now) → IfSome o (λ p. IsShortProposal p.now)
+kept_short None h = h
+kept_short (Some p) h = short_parts p.now (record { fits = h.fits; below = omega (arith, h.below) })
 
 pub wider : (k : KeyPackage) → IsBelow (2 ^ 27) key_package k → IsBelow (2 ^ 28) key_package k
 wider k h = record { fits = h.fits; below = omega (arith, h.below) }

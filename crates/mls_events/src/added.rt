@@ -1,10 +1,9 @@
 //! The KeyPackages that a commit adds.
 
-ghost use Rattle.std.specs.Prelude.{◌≡◌, ◌^◌, map, IfOk, IfSome, OnOk};
+ghost use Rattle.std.specs.Prelude.{◌≡◌, map, IfOk, IfSome, OnOk};
 ghost use Rattle.std.specs.Option.{option_copied};
 ghost use Rattle.mls_leaf.specs.KeyPackage.{key_package};
-ghost use Rattle.mls_leaf.specs.Proposal.{proposal as proposal_format};
-ghost use Rattle.mls_public_group.specs.Short.{IsBelow};
+ghost use Rattle.mls_public_group.specs.ShortProposal.{IsShortProposal};
 ghost use Rattle.mls_member.specs.Answers.{IsShortItem, AreShortItems};
 ghost use Rattle.mls_model.specs.Make.{listed_of};
 ghost use Rattle.mls_model.specs.Journal.{adds_in};
@@ -21,7 +20,7 @@ use std::alloc::{AllocError, Global};
 fn said_by<'a, S: Suite>(member: &'a Member<S>, item: &'a Item) -> Option<&'a Proposal>
     requires { IsShortItem item.now }
     ensures said { option_copied result ≡ said_by member.now.kept (listed_of item.now) }
-    ensures below { IfSome result (λ p. IsBelow (2 ^ 28) proposal_format p.now) }
+    ensures short { IfSome result (λ p. IsShortProposal p.now) }
 {
     match item {
         Item::Full(proposal) => Some(proposal),
@@ -43,7 +42,7 @@ fn spelled(alloc: Global, offered: &KeyPackage) -> Result<Bytes, AllocError>
 
 /// One more KeyPackage, where a proposal adds one.
 fn push_added(alloc: Global, adds: &mut Vec<Bytes>, proposal: &Proposal) -> Result<(), AllocError>
-    requires { IsBelow (2 ^ 28) proposal_format proposal.now }
+    requires { IsShortProposal proposal.now }
     ensures { OnOk result (adds.new.items ≡ also adds.old.items (add_in proposal.now)) }
 {
     match proposal {

@@ -1,29 +1,11 @@
 //! The life of a small group, as a caller of the library writes it.
 #![tactic(auto)]
 
-ghost use Rattle.std.specs.Prelude.{IfOk};
-ghost use Rattle.mls_member.specs.Answers.{IsShortItem};
-
 use anyhow::{Result, bail};
 use mls_leaf::Proposal;
 use mls_member::{Candidate, Effect, Item, Made, Member};
 use mls_suite::Glass;
 use std::alloc::Global;
-
-/// The proposal that adds a candidate.
-fn addition(candidate: &Candidate<Glass>) -> Result<Item>
-    ensures { IfOk result IsShortItem }
-{
-    candidate.addition_is_short();
-    Ok(Item::Full(Proposal::Add(candidate.key_package().clone()?)))
-}
-
-/// The proposal that removes the member at a leaf.
-fn removal(leaf: u32) -> Item
-    ensures { IsShortItem result }
-{
-    Item::Full(Proposal::Remove(leaf))
-}
 
 /// A key that all members of the epoch can make (RFC 9420, 8.5).
 fn exported(member: &Member<Glass>) -> Result<[u8; 16]> {
@@ -37,7 +19,8 @@ fn run(rt: &impl Print, alloc: Global) -> Result<()> {
     let alice = Candidate::new(alloc, b"alice", &[1; 32])?;
     let bob = Candidate::new(alloc, b"bob", &[2; 32])?;
     let mut alice: Member<Glass> = Member::create(alloc, &alice, b"group", &[3; 32])?;
-    let Made { commit, welcome } = alice.commit(&[addition(&bob)?], true, &[4; 32])?;
+    let addition = Item::Full(bob.addition()?);
+    let Made { commit, welcome } = alice.commit(&[addition], true, &[4; 32])?;
     let Some(welcome) = welcome else {
         bail!("nobody is welcome");
     };
@@ -61,7 +44,8 @@ fn run(rt: &impl Print, alloc: Global) -> Result<()> {
     println!(rt; "both export the same key: {same}")?;
 
     // Alice removes Bob.
-    let made = alice.commit(&[removal(bob.leaf_index())], true, &[7; 32])?;
+    let removal = Item::Full(Proposal::Remove(bob.leaf_index()));
+    let made = alice.commit(&[removal], true, &[7; 32])?;
     alice.process(&made.commit)?;
     bob.process(&made.commit)?;
     println!(rt; "bob is gone: {}", bob.is_gone())?;

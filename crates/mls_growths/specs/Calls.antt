@@ -3,7 +3,7 @@ use Rattle.mls_growths.specs.declared.call.Call.{Call}
 use Rattle.mls_growths.specs.declared.call.Call.TheVariants.{Commit, Process, ProposeAdd, ProposeUpdate, ProposeRemove}
 use Rattle.mls_member.specs.Answers.{AreShortItems}
 
--- a commit's proposals in full encode to fewer than 2^28 bytes
+-- a commit's proposals in full are short
 abbrev pub IsShortCall : Call → Type 0
 IsShortCall (Commit items seed) = AreShortItems items.items
 IsShortCall (Process bytes) = Unit {0}

@@ -6,7 +6,6 @@ ghost use Rattle.mls_growths.specs.Calls.{IsShortCall};
 
 use anyhow::Result;
 use mls_kdf::Seed;
-use mls_leaf::Proposal;
 use mls_member::{Candidate, Effect, Item, Made, Member, Refusal};
 use mls_suite::Glass;
 
@@ -33,8 +32,7 @@ pub(crate) enum Answer {
 pub(crate) fn addition(candidate: &Candidate<Glass>) -> Result<Item>
     ensures { IfOk result IsShortItem }
 {
-    candidate.addition_is_short();
-    Ok(Item::Full(Proposal::Add(candidate.key_package().clone()?)))
+    Ok(Item::Full(candidate.addition()?))
 }
 
 /// The message of the proposal to add a candidate.

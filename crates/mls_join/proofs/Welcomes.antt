@@ -1,8 +1,9 @@
 -- What a message is read as, and what a Welcome opens.
-use Rattle.std.proofs.Common.{◌≡◌, ℕ, suc, ◌<◌, Bool, true, ◌&&◌, List, [], ◌∷◌, length, Result, Ok, Err, refl, ap, subst, ◌∙◌, lt-ltb}
+use Rattle.std.proofs.Common.{◌≡◌, ℕ, suc, ◌<◌, ◌==◌, Bool, true, false, ◌&&◌, List, [], ◌∷◌, length, Result, Ok, Err, refl, sym, ap, subst, ◌∙◌, lt-ltb}
 use Rattle.std.specs.Prelude.{nat_lt, ◌^◌}
 use Rattle.std.specs.List.{list_all}
-use Rattle.mls_wire.specs.Checks.{given, passed}
+use Rattle.std.proofs.lemmas.Bool.{eq-eqb}
+use Rattle.mls_wire.specs.Checks.{Passed, passed, given, require, ◌>>◌}
 use Rattle.mls_wire.specs.Reading.{◌>>=◌}
 use Rattle.mls_wire.specs.Format.{IsBytes}
 use Rattle.mls_leaf.specs.Faults.{whole}
@@ -22,7 +23,7 @@ use Rattle.mls_model.specs.Candidate.{Candidate}
 use Rattle.mls_model.specs.Messages.{decoded, are_bytes}
 use Rattle.mls_model.specs.Opening.{Opened, opened_welcome, welcome_in}
 use Rattle.mls_join.specs.Entrance.{outer_checks}
-use Rattle.mls_join.specs.Stages.{read_welcome, opened_in, opened_with, IsShownIn}
+use Rattle.mls_join.specs.Stages.{read_welcome, suited_welcome, opened_in, opened_with, IsShownIn}
 
 -- a fault of decoding
 pub fault_read : (bytes : List ℕ) (n : ℕ) → whole mls_message input_limit bytes ≡ Err n → read_welcome bytes ≡ Err n
@@ -64,21 +65,55 @@ lent_other bytes view other lends = other_shown bytes view lends.value other len
 
 -- ---- the outer checks
 
-outer_is : (r : Result MlsMessage ℕ) → (r >>= λ outer. given 70 (welcome_in outer) >>= λ w. Ok passed) ≡ ((r >>= λ outer. given 70 (welcome_in outer)) >>= λ w. Ok passed)
-outer_is (Ok m) = refl
-outer_is (Err n) = refl
+outer_is : (r : Result MlsMessage ℕ) (f : Welcome → Result Passed ℕ) → (r >>= λ outer. given 70 (welcome_in outer) >>= f) ≡ ((r >>= λ outer. given 70 (welcome_in outer)) >>= f)
+outer_is (Ok m) f = refl
+outer_is (Err n) f = refl
 
-outer_read : (bytes : List ℕ) → outer_checks bytes ≡ (read_welcome bytes >>= λ w. Ok passed)
+outer_read : (number : ℕ) (bytes : List ℕ) → outer_checks number bytes ≡ (read_welcome bytes >>= λ w. require 71 (w.cipher_suite == number))
 unfolding outer_checks read_welcome
-outer_read bytes = outer_is (decoded bytes)
+outer_read number bytes = outer_is (decoded bytes) (λ w. require 71 (w.cipher_suite == number))
 
 -- they fail with the fault of the Welcome
-pub outer_fault : (bytes : List ℕ) (n m : ℕ) → read_welcome bytes ≡ Err n → outer_checks bytes ≡ Err m → n ≡ m
-outer_fault bytes n m e h = let same : outer_checks bytes ≡ Err n = outer_read bytes ∙ rw e refl in cc
+pub outer_fault : (number : ℕ) (bytes : List ℕ) (n m : ℕ) → read_welcome bytes ≡ Err n → outer_checks number bytes ≡ Err m → n ≡ m
+outer_fault number bytes n m e h = let same : outer_checks number bytes ≡ Err n = outer_read number bytes ∙ rw e refl in cc
 
--- and where there is one they pass
-pub outer_passes : (bytes : List ℕ) (w : Welcome) (m : ℕ) → read_welcome bytes ≡ Ok w → outer_checks bytes ≡ Err m → ⊥
-outer_passes bytes w m e h = let same : outer_checks bytes ≡ Ok passed = outer_read bytes ∙ rw e refl in cc
+-- where there is one, they ask for its suite
+pub outer_suits : (number : ℕ) (bytes : List ℕ) (w : Welcome) → read_welcome bytes ≡ Ok w → outer_checks number bytes ≡ require 71 (w.cipher_suite == number)
+outer_suits number bytes w e = outer_read number bytes ∙ rw e refl
+
+-- so has the Welcome of the suite
+pub suited_fault : (number : ℕ) (bytes : List ℕ) (n : ℕ) → read_welcome bytes ≡ Err n → suited_welcome number bytes ≡ Err n
+unfolding suited_welcome
+suited_fault number bytes n e = rw e refl
+
+suited_is : (number : ℕ) (bytes : List ℕ) (w : Welcome) → read_welcome bytes ≡ Ok w → suited_welcome number bytes ≡ (require 71 (w.cipher_suite == number) >> Ok w)
+unfolding suited_welcome
+suited_is number bytes w e = rw e refl
+
+-- a Welcome of the suite
+module _ (number : ℕ) (bytes : List ℕ) (view : WelcomeView) (shown : IsShownIn bytes view) (same : view.cipher_suite ≡ number) where
+  test_passes : (shown.value.cipher_suite == number) ≡ true
+  test_passes = eq-eqb shown.value.cipher_suite number (sym shown.shows.cipher_suite ∙ same)
+
+  pub outer_suited : outer_checks number bytes ≡ Ok passed
+  outer_suited = outer_suits number bytes shown.value shown.is_read ∙ rw test_passes refl
+
+  pub suited : suited_welcome number bytes ≡ Ok shown.value
+  suited = suited_is number bytes shown.value shown.is_read ∙ rw test_passes refl
+
+  pub never_refused : (n : ℕ) → outer_checks number bytes ≡ Err n → ⊥
+  never_refused n h = let ok = outer_suited in cc (ok, h)
+
+-- one of another suite
+module _ (number : ℕ) (bytes : List ℕ) (view : WelcomeView) (shown : IsShownIn bytes view) (other : (view.cipher_suite == number) ≡ false) where
+  test_fails : (shown.value.cipher_suite == number) ≡ false
+  test_fails = ap (λ k. k == number) (sym shown.shows.cipher_suite) ∙ other
+
+  pub outer_other : outer_checks number bytes ≡ Err 71
+  outer_other = outer_suits number bytes shown.value shown.is_read ∙ rw test_fails refl
+
+  pub suited_other : suited_welcome number bytes ≡ Err 71
+  suited_other = suited_is number bytes shown.value shown.is_read ∙ rw test_fails refl
 
 -- ---- what a Welcome opens
 
@@ -86,13 +121,21 @@ pub welcome_short : (w : Welcome) → welcome.Fits w → length w.encrypted_grou
 unfolding welcome
 welcome_short w fits = fits.1.1
 
-then_opened : (r : Result MlsMessage ℕ) (f : Welcome → Result Opened ℕ) → (r >>= λ outer. given 70 (welcome_in outer) >>= f) ≡ ((r >>= λ outer. given 70 (welcome_in outer)) >>= f)
-then_opened (Ok m) f = refl
-then_opened (Err n) f = refl
+if_suited : (test : Bool) (w : Welcome) (f : Welcome → Result Opened ℕ) → (require 71 test >> f w) ≡ ((require 71 test >> Ok w) >>= f)
+if_suited true w f = refl
+if_suited false w f = refl
 
-pub opened_read : (c : Crypto) (k : Candidate) (bytes : List ℕ) → opened_welcome c k bytes ≡ (read_welcome bytes >>= opened_in c k)
-unfolding opened_welcome read_welcome opened_in opened_with
-opened_read c k bytes = then_opened (decoded bytes) (opened_in c k)
+of_suit : (o : Result Welcome ℕ) (number : ℕ) (f : Welcome → Result Opened ℕ) → (o >>= λ w. require 71 (w.cipher_suite == number) >> f w) ≡ ((o >>= λ w. require 71 (w.cipher_suite == number) >> Ok w) >>= f)
+of_suit (Ok w) number f = if_suited (w.cipher_suite == number) w f
+of_suit (Err n) number f = refl
+
+then_opened : (r : Result MlsMessage ℕ) (number : ℕ) (f : Welcome → Result Opened ℕ) → (r >>= λ outer. given 70 (welcome_in outer) >>= λ w. require 71 (w.cipher_suite == number) >> f w) ≡ (((r >>= λ outer. given 70 (welcome_in outer)) >>= λ w. require 71 (w.cipher_suite == number) >> Ok w) >>= f)
+then_opened (Ok m) number f = of_suit (given 70 (welcome_in m)) number f
+then_opened (Err n) number f = refl
+
+pub opened_read : (c : Crypto) (k : Candidate) (bytes : List ℕ) → opened_welcome c k bytes ≡ (suited_welcome c.number bytes >>= opened_in c k)
+unfolding opened_welcome suited_welcome read_welcome opened_in opened_with
+opened_read c k bytes = then_opened (decoded bytes) c.number (opened_in c k)
 
 -- what code has is bytes
 pub bytes_are : (bytes : List ℕ) → IsBytes bytes → are_bytes bytes ≡ true

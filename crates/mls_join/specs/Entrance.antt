@@ -1,6 +1,6 @@
 -- The member that an entrance makes of a candidate.
-use Rattle.std.specs.Prelude.{ℕ, false, List, [], None, Result, Ok}
-use Rattle.mls_wire.specs.Checks.{Passed, passed, given}
+use Rattle.std.specs.Prelude.{ℕ, ◌==◌, false, List, [], None, Result, Ok}
+use Rattle.mls_wire.specs.Checks.{Passed, require, given}
 use Rattle.mls_wire.specs.Reading.{◌>>=◌}
 use Rattle.mls_model.specs.Candidate.{Candidate}
 use Rattle.mls_model.specs.Join.{Joined}
@@ -15,9 +15,9 @@ joined_by k e = record {
   info = e.group_info.items;
 }
 
--- what is decided of the message alone: decoding, 70 it is no Welcome
-unfoldable pub outer_checks : List ℕ → Result Passed ℕ
-outer_checks bytes = do
+-- what is decided of the message alone, for a suite's number: decoding, 70 it is no Welcome, 71 it is of another suite
+unfoldable pub outer_checks : ℕ → List ℕ → Result Passed ℕ
+outer_checks number bytes = do
   outer ← decoded bytes
   w ← given 70 (welcome_in outer)
-  Ok passed
+  require 71 (w.cipher_suite == number)

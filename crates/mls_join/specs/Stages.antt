@@ -33,6 +33,10 @@ use Rattle.mls_join.specs.Faults.{number_of}
 unfoldable pub read_welcome : List ℕ → Result Welcome ℕ
 read_welcome bytes = decoded bytes >>= λ outer. given 70 (welcome_in outer)
 
+-- the Welcome of a suite's number that the bytes are: decoding, 70, 71 (RFC 9420, 12.4.3.1)
+unfoldable pub suited_welcome : ℕ → List ℕ → Result Welcome ℕ
+suited_welcome number bytes = read_welcome bytes >>= λ w. require 71 (w.cipher_suite == number) >> Ok w
+
 -- a view shows the Welcome that all of the bytes are
 pub record IsShownIn (bytes : List ℕ) (view : WelcomeView) : Type 0 where
   pub value : Welcome
@@ -80,10 +84,9 @@ opened_with c secrets sealed = do
   require 71 (info.group_context.cipher_suite == c.number)
   Ok (record { joiner = secrets.joiner_secret; path_secret = secrets.path_secret; bytes = plain; info = info })
 
--- what a Welcome gives to a candidate: 71 to 75
+-- what a Welcome of the suite gives to a candidate: 72 to 75, 71 the GroupInfo is of another suite
 unfoldable pub opened_in : Crypto → Candidate → Welcome → Result Opened ℕ
 opened_in c k w = do
-  require 71 (w.cipher_suite == c.number)
   entry ← given 72 (entry_of (package_reference k.offered) w.secrets)
   secrets ← opened_secrets c k w entry
   require 74 (length secrets.psks == 0)

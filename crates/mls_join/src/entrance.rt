@@ -109,8 +109,8 @@ fn member_of<S: Suite>(
 /// The group that a Welcome leads the candidate into, or the first check that fails: decoding; 70 no Welcome; 71 another
 /// suite; 72 no entry for the candidate; 73 and 75 what doesn't open or isn't what it has to be; 74 a pre-shared key; 76
 /// no tree, 20 and 21 its shape and size, 77 its hash, then 23 to 26, 51, 52 and 36 the tree; 78 and 79 the signer; 80 no
-/// leaf is the candidate's; 34 and 35 its keys; 65 the confirmation tag (RFC 9420, 12.4.3.1). Decoding and 70 take no
-/// memory.
+/// leaf is the candidate's; 34 and 35 its keys; 65 the confirmation tag (RFC 9420, 12.4.3.1). Decoding, 70 and the
+/// first 71 take no memory.
 #[tactic(auto, unfolding(mls_model::specs::Join::join_verdict))]
 pub fn join<S: Suite>(
     alloc: Global,
@@ -118,8 +118,8 @@ pub fn join<S: Suite>(
     bytes: &[u8],
 ) -> Result<Entrance, JoinError>
     ensures answer { Answers (joined_by candidate.now) number_of (join_verdict S.crypto candidate.now bytes.now) result }
-    // Decoding and 70 come whatever memory there is.
-    ensures outright { RefusesOutright number_of (outer_checks bytes.now) result }
+    // Decoding, 70 and 71 of the Welcome come also when an allocation fails.
+    ensures outright { RefusesOutright number_of (outer_checks S.crypto.number bytes.now) result }
 {
     candidate.is_short();
     let opened = opened_welcome::<S>(alloc, candidate, bytes)?;

@@ -15,7 +15,7 @@ ghost use Rattle.mls_model.specs.Proposals.{package_reference};
 ghost use Rattle.mls_join.specs.Entrance.{outer_checks};
 ghost use Rattle.mls_join.specs.Faults.{number_of};
 ghost use Rattle.mls_join.specs.Parts.{opened_by, secrets_by};
-ghost use Rattle.mls_join.specs.Stages.{LendsWelcome, read_welcome, entry_of, plain_info, opened_with, opened_in, IsMemory};
+ghost use Rattle.mls_join.specs.Stages.{LendsWelcome, suited_welcome, entry_of, plain_info, opened_with, opened_in, IsMemory};
 
 use crate::error::JoinError;
 use crate::secrets::{Secrets, opened_secrets};
@@ -52,13 +52,16 @@ fn welcome_view<'a>(bytes: &'a [u8]) -> Result<WelcomeView<'a>, JoinError>
     }
 }
 
-/// The Welcome that the bytes are: decoding, 70.
-pub(crate) fn read_welcome(alloc: Global, bytes: &[u8]) -> Result<Welcome, JoinError>
-    ensures answer { Answers (λ w. w) number_of (read_welcome bytes.now) result }
-    ensures outright { RefusesOutright number_of (outer_checks bytes.now) result }
+/// The Welcome of the suite that the bytes are: decoding, 70, 71.
+fn suited_welcome<S: Suite>(alloc: Global, bytes: &[u8]) -> Result<Welcome, JoinError>
+    ensures answer { Answers (λ w. w) number_of (suited_welcome S.crypto.number bytes.now) result }
+    ensures outright { RefusesOutright number_of (outer_checks S.crypto.number bytes.now) result }
     ensures short { IfOk result (λ w. length w.encrypted_group_info < 2 ^ 30) }
 {
     let view = welcome_view(bytes)?;
+    if view.cipher_suite != S::NUMBER {
+        return Err(JoinError::WrongSuite);
+    }
     let welcome = view.to_owned(alloc)?;
     Ok(welcome)
 }
@@ -131,7 +134,7 @@ fn opened_with<S: Suite>(
     })
 }
 
-/// What a Welcome gives to a candidate: 71 to 75.
+/// What a Welcome of the suite gives to a candidate: 72 to 75, 71 the GroupInfo is of another suite.
 #[tactic(auto, unfolding(crate::specs::Stages::opened_in))]
 fn opened_in<S: Suite>(
     alloc: Global,
@@ -143,9 +146,6 @@ fn opened_in<S: Suite>(
     ensures answer { Answers opened_by number_of (opened_in S.crypto candidate.now welcome.now) result }
     ensures below { IfOk result (λ o. IsBelow (2 ^ 27) group_info o.info) }
 {
-    if welcome.cipher_suite != S::NUMBER {
-        return Err(JoinError::WrongSuite);
-    }
     let reference = package_reference(alloc, candidate.key_package())?;
     let Some(entry) = entry_of(&reference, welcome.secrets.as_slice()) else {
         return Err(JoinError::NotForMe);
@@ -165,9 +165,9 @@ pub(crate) fn opened_welcome<S: Suite>(
 ) -> Result<Opened, JoinError>
     requires offered { IsBelow (2 ^ 27) key_package candidate.now.offered }
     ensures answer { Answers opened_by number_of (opened_welcome S.crypto candidate.now bytes.now) result }
-    ensures outright { RefusesOutright number_of (outer_checks bytes.now) result }
+    ensures outright { RefusesOutright number_of (outer_checks S.crypto.number bytes.now) result }
     ensures below { IfOk result (λ o. IsBelow (2 ^ 27) group_info o.info) }
 {
-    let welcome = read_welcome(alloc, bytes)?;
+    let welcome = suited_welcome::<S>(alloc, bytes)?;
     opened_in::<S>(alloc, candidate, &welcome)
 }

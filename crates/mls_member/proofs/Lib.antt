@@ -9,3 +9,4 @@ pub mod Own
 pub mod Taken
 pub mod Keeps
 pub mod Commits
+pub mod Good

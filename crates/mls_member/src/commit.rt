@@ -1,11 +1,14 @@
 //! Committing.
 
 ghost use Rattle.std.specs.Prelude.{◌≡◌, ◌+◌, ◌<◌, ◌^◌, true, false, Err, is_some, IsSome, IfOk, map};
+ghost use Rattle.std.specs.List.{AllByRecursion};
 ghost use Rattle.mls_wire.specs.Checks.{Answers, DoesAs};
+ghost use Rattle.mls_claims.specs.Spelled.{FullFits};
 ghost use Rattle.mls_make.specs.Parts.{made_as, AreShortUsed};
+ghost use Rattle.mls_model.specs.Agreement.{IsGoodMember};
 ghost use Rattle.mls_model.specs.Make.{listed_of, committed};
 ghost use Rattle.mls_model.specs.Member.{used_by};
-ghost use Rattle.mls_member.specs.Answers.{messages_of, AreShortItems};
+ghost use Rattle.mls_member.specs.Answers.{messages_of, AreShortItems, HasMade};
 ghost use Rattle.mls_member.specs.Committing.{made_of_list, made_and_kept};
 ghost use Rattle.mls_member.specs.Faults.{number_of};
 ghost use Rattle.mls_member.specs.declared.error.Refusal.TheVariants.{Gone, PendingCommit};
@@ -51,7 +54,8 @@ impl<S: Suite> Member<S> {
     fn new_commit(&self, items: &[Item], path: bool, seed: &Seed) -> Result<NewCommit, Refusal>
         requires epoch { self.now.public.context.epoch + 1 < 2 ^ 64 }
         requires items { AreShortItems items.now }
-        ensures { Answers made_as number_of (made_of_list S.crypto self.now (map listed_of items.now) path seed.now) result }
+        ensures answer { Answers made_as number_of (made_of_list S.crypto self.now (map listed_of items.now) path seed.now) result }
+        ensures full { IfOk result (λ _. AllByRecursion FullFits (map listed_of items.now)) }
     {
         let used = self.used_items(items)?;
         let list = listed(self.alloc, items)?;
@@ -92,6 +96,8 @@ impl<S: Suite> Member<S> {
     pub fn commit(&mut self, items: &[Item], path: bool, seed: &Seed) -> Result<Made, Refusal>
         requires { AreShortItems items.now }
         ensures answer { DoesAs messages_of number_of (committed S.crypto self.old (map listed_of items.now) path seed.now) self.old self.new result }
+        ensures good { IsGoodMember S.crypto self.old → IsGoodMember S.crypto self.new }
+        ensures reaches { IsGoodMember S.crypto self.old → IfOk result (λ made. HasMade S.crypto self.old self.new (map listed_of items.now) made) }
         // These two take no memory.
         ensures gone { self.old.gone ≡ true → result ≡ Err Gone }
         ensures pending { self.old.gone ≡ false → IsSome self.old.pending → result ≡ Err PendingCommit }

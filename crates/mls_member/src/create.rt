@@ -10,6 +10,7 @@ ghost use Rattle.mls_model.specs.Messages.{is_within_limit};
 ghost use Rattle.mls_tree.specs.Tree.{term};
 ghost use Rattle.mls_leaf.specs.Limits.{input_limit};
 ghost use Rattle.mls_term.specs.Term.{Leaf};
+ghost use Rattle.mls_model.specs.Agreement.{IsGoodMember, IsGoodCandidate};
 ghost use Rattle.mls_model.specs.Candidate.{first_context, created};
 ghost use Rattle.mls_member.specs.Faults.{number_of};
 
@@ -116,7 +117,8 @@ impl<S: Suite> Member<S> {
         group_id: &[u8],
         seed: &Seed,
     ) -> Result<Member<S>, Refusal>
-        ensures { Answers (λ m. m) number_of (created S.crypto candidate.now group_id.now seed.now) result }
+        ensures answer { Answers (λ m. m) number_of (created S.crypto candidate.now group_id.now seed.now) result }
+        ensures good { IsGoodCandidate S.crypto candidate.now → IfOk result (λ m. IsGoodMember S.crypto m) }
     {
         let epoch = Epoch::first(seed);
         let group = match first_group::<S>(alloc, candidate.leaf_node(), group_id, &epoch) {

@@ -1,9 +1,13 @@
 //! The proposals of a commit call (RFC 9420, 12.4).
 
-ghost use Rattle.std.specs.Prelude.{◌≡◌, map, IfOk};
+ghost use Rattle.std.specs.Prelude.{◌≡◌, ◌^◌, map, IfOk};
 ghost use Rattle.mls_wire.specs.Checks.{Answers};
+ghost use Rattle.mls_leaf.specs.Proposal.{proposal as proposal_format};
+ghost use Rattle.mls_leaf.specs.declared.proposal.Proposal.TheVariants.{Remove};
 ghost use Rattle.mls_model.specs.Make.{listed_of};
 ghost use Rattle.mls_model.specs.Member.{used_one, used_by};
+ghost use Rattle.mls_public_group.specs.Short.{IsBelow};
+ghost use Rattle.mls_public_group.specs.ShortProposal.{IsShortProposal};
 ghost use Rattle.mls_make.specs.Parts.{IsShortUsed, AreShortUsed};
 ghost use Rattle.mls_member.specs.Answers.{IsShortItem, AreShortItems};
 ghost use Rattle.mls_member.specs.Faults.{number_of};
@@ -11,7 +15,7 @@ ghost use Rattle.mls_member.specs.Faults.{number_of};
 use crate::error::Refusal;
 use crate::kept::Kept;
 use crate::used::{kept_under, used_kept};
-use mls_leaf::{Bytes, Items};
+use mls_leaf::{Bytes, Items, Proposal};
 use mls_model::Item;
 use mls_public_group::Used;
 use mls_types::ProposalOrRef;
@@ -41,6 +45,23 @@ pub(crate) fn listed(alloc: Global, items: &[Item]) -> Result<Items<ProposalOrRe
     Ok(Items::from_vec(list))
 }
 
+/// A law: a removal has a spelling, of fewer than 2^28 bytes.
+fn know_removal(leaf: u32)
+    ensures { IsBelow (2 ^ 28) proposal_format (Remove leaf) }
+{}
+
+/// A law: so has a proposal whose KeyPackage or leaf is short.
+fn know_short(proposal: &Proposal)
+    requires { IsShortProposal proposal.now }
+    ensures { IsBelow (2 ^ 28) proposal_format proposal.now }
+{
+    match proposal {
+        Proposal::Add(_) => {}
+        Proposal::Update(_) => {}
+        Proposal::Remove(leaf) => know_removal(*leaf),
+    }
+}
+
 /// One proposal that a commit call uses: of the committer where it is given in full, else a kept one, or 60.
 fn used_item<'a>(kept: &'a [Kept], committer: u32, item: &'a Item) -> Result<Used<'a>, Refusal>
     requires { IsShortItem item.now }
@@ -48,11 +69,14 @@ fn used_item<'a>(kept: &'a [Kept], committer: u32, item: &'a Item) -> Result<Use
     ensures short { IfOk result (λ u. IsShortUsed u) }
 {
     match item {
-        Item::Full(proposal) => Ok(Used {
-            proposal,
-            sender: committer,
-            is_full: true,
-        }),
+        Item::Full(proposal) => {
+            know_short(proposal);
+            Ok(Used {
+                proposal,
+                sender: committer,
+                is_full: true,
+            })
+        }
         Item::Ref(reference) => match kept_under(kept, reference) {
             Some(k) => Ok(used_kept(k)),
             None => Err(Refusal::UnknownReference),

@@ -7,6 +7,7 @@ ghost use Rattle.mls_group.specs.GroupInfo.{ratchet_tree};
 ghost use Rattle.mls_leaf.specs.Faults.{Encodes};
 ghost use Rattle.mls_term.specs.Arrays.{to_nodes};
 ghost use Rattle.mls_paths.specs.Height.{ArePairs};
+ghost use Rattle.mls_model.specs.Agreement.{IsGoodMember};
 ghost use Rattle.mls_model.specs.Member as model;
 
 use crate::kept::{Kept, Pending};
@@ -22,7 +23,8 @@ use std::alloc::Global;
 use std::marker::{Model, PhantomData};
 
 /// A member of a group: the public state of the group, the epoch's secrets, its private keys, the proposals that it keeps,
-/// and its pending commit.
+/// and its pending commit. One that a good candidate created or joined as is good, and stays so over each call: its tree is
+/// good, and it holds just the private keys that are due to it.
 #[derive(Drop)]
 pub struct Member<S: Suite> {
     pub(crate) gone: bool,
@@ -158,6 +160,7 @@ impl<S: Suite> Member<S> {
     pub fn drop_pending(&mut self) -> bool
         ensures had { result ≡ is_some self.old.pending }
         ensures none { self.new ≡ model.without_pending self.old }
+        ensures good { IsGoodMember S.crypto self.old → IsGoodMember S.crypto self.new }
     {
         let had = self.pending.is_some();
         self.pending = None;

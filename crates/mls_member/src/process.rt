@@ -2,6 +2,7 @@
 
 ghost use Rattle.std.specs.Prelude.{◌≡◌, true, false, None, Err, IsOk, IsSome, is_some, MatchOption};
 ghost use Rattle.mls_wire.specs.Checks.{DoesAs};
+ghost use Rattle.mls_model.specs.Agreement.{IsGoodMember};
 ghost use Rattle.mls_model.specs.Member.{without_pending};
 ghost use Rattle.mls_model.specs.Verdict.{verdict, own_pending};
 ghost use Rattle.mls_tree.specs.Refusals.{RefusesOutright};
@@ -43,6 +44,7 @@ impl<S: Suite> Member<S> {
     #[tactic(auto, unfolding(mls_model::specs::Verdict::verdict, mls_model::specs::Member::advanced, mls_model::specs::Member::without_pending))]
     pub fn process(&mut self, bytes: &[u8]) -> Result<Effect, Refusal>
         ensures verdict { DoesAs (λ e. e) number_of (verdict S.crypto self.old bytes.now) self.old self.new result }
+        ensures good { IsGoodMember S.crypto self.old → IsGoodMember S.crypto self.new }
         ensures gone { self.old.gone ≡ true → result ≡ Err Gone }
         ensures own { self.old.gone ≡ false → IsSome (own_pending self.old.pending bytes.now) → IsOk result }
         // Of other bytes, faults of decoding and 41 to 45 come whatever memory there is.

@@ -10,6 +10,7 @@ ghost use Rattle.mls_checks.specs.Checks.{key_package_checks};
 ghost use Rattle.mls_checks.specs.Short.{IsShort};
 ghost use Rattle.mls_public_group.specs.Faults.{number_of as number_of_group};
 ghost use Rattle.mls_public_group.specs.Short.{IsBelow};
+ghost use Rattle.mls_model.specs.Agreement.{IsGoodMember};
 ghost use Rattle.mls_model.specs.Propose.{proposed_add, proposed_update, proposed_remove};
 ghost use Rattle.mls_member.specs.Faults.{number_of};
 ghost use Rattle.mls_member.specs.Proposing.{updated_answer};
@@ -59,6 +60,7 @@ impl<S: Suite> Member<S> {
     pub fn propose_add(&mut self, key_package: &KeyPackage) -> Result<Vec<u8>, Refusal>
         requires { IsBelow (2 ^ 28) key_package_format key_package.now }
         ensures answer { DoesAs (λ v. v.items) number_of (proposed_add S.crypto self.old key_package.now) self.old self.new result }
+        ensures good { IsGoodMember S.crypto self.old → IsGoodMember S.crypto self.new }
         // It takes no memory.
         ensures gone { self.old.gone ≡ true → result ≡ Err Gone }
     {
@@ -74,6 +76,7 @@ impl<S: Suite> Member<S> {
     #[tactic(auto, unfolding(mls_model::specs::Propose::proposed_update, mls_model::specs::Propose::proposed))]
     pub fn propose_update(&mut self, seed: &Seed) -> Result<Vec<u8>, Refusal>
         ensures answer { DoesAs (λ v. v.items) number_of (proposed_update S.crypto self.old seed.now) self.old self.new result }
+        ensures good { IsGoodMember S.crypto self.old → IsGoodMember S.crypto self.new }
         // It takes no memory.
         ensures gone { self.old.gone ≡ true → result ≡ Err Gone }
     {
@@ -98,6 +101,7 @@ impl<S: Suite> Member<S> {
     #[tactic(auto, unfolding(mls_model::specs::Propose::proposed_remove, mls_model::specs::Propose::proposed))]
     pub fn propose_remove(&mut self, leaf: u32) -> Result<Vec<u8>, Refusal>
         ensures answer { DoesAs (λ v. v.items) number_of (proposed_remove S.crypto self.old leaf) self.old self.new result }
+        ensures good { IsGoodMember S.crypto self.old → IsGoodMember S.crypto self.new }
         // It takes no memory.
         ensures gone { self.old.gone ≡ true → result ≡ Err Gone }
     {

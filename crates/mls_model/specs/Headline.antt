@@ -1,5 +1,5 @@
 -- What holds of each world that a list of events leaves.
-use Rattle.std.specs.Prelude.{◌≡◌, ◌≢◌, ℕ, ◌+◌, true, false, List, length, slice_get, Option, Some, None, Result, Ok, Err}
+use Rattle.std.specs.Prelude.{◌≡◌, ◌≢◌, ℕ, ◌+◌, ◌<◌, Bool, true, false, List, length, take, slice_get, Option, Some, None, Result, Ok, Err}
 use Rattle.std.specs.List.{AllByRecursion, list_any}
 use Rattle.std.specs.Str.{bytes_eq}
 use Rattle.mls_leaf.specs.KeyPackage.{key_package}
@@ -16,7 +16,7 @@ use Rattle.mls_model.specs.declared.event.Reply.TheVariants.{Delivered, Joined, 
 use Rattle.mls_model.specs.Member.{Pending}
 use Rattle.mls_model.specs.Messages.{decoded}
 use Rattle.mls_model.specs.Verdict.{own_pending}
-use Rattle.mls_model.specs.Journal.{Entry, Journal, CommitMade, with_entry, list_in, removes_in, is_homemade}
+use Rattle.mls_model.specs.Journal.{CommitMade, with_entry, names_in, entry_of, list_in, removes_in, is_homemade}
 use Rattle.mls_model.specs.World.{World, Entrant, Seat, empty_world, bytes_of, made_for}
 use Rattle.mls_model.specs.Run.{answer, step, run}
 use Rattle.mls_model.specs.Range.{IsInRange}
@@ -43,34 +43,51 @@ AgreeByConfirmation w = (i j : ℕ) (s t : Seat) → IsActive w i s → IsActive
 
 -- ---- acceptance
 
--- the member follows a commit into the next epoch, and its journal has one more entry
-pub record Follows (c : Crypto) (w : World) (k : ℕ) (s : Seat) (source : Source) (e : Entry) : Type 0 where
+-- the member follows a commit into the next epoch and stays active there; its journal has the commit's entry too, and its
+-- epoch secret is the one that the commit reaches
+pub record Follows (c : Crypto) (w : World) (k : ℕ) (s : Seat) (source : Source) (d : CommitMade) : Type 0 where
   pub after : Seat
   pub reply : (step c w (Deliver k source)).0 ≡ Delivered (Advanced (s.member.public.context.epoch + 1))
-  pub is_after : slice_get (step c w (Deliver k source)).1.seats k ≡ Some after
-  pub journal : after.journal ≡ with_entry s.journal e
+  pub is_after : IsActive (step c w (Deliver k source)).1 k after
+  pub context : after.member.public.context.epoch ≡ s.member.public.context.epoch + 1
+  pub journal : after.journal ≡ with_entry s.journal d.entry
+  pub epoch : after.member.epoch ≡ d.epoch
 
--- or answers that it was removed, just where the commit removes it
-pub record Accepts (c : Crypto) (w : World) (k : ℕ) (s : Seat) (source : Source) (e : Entry) : Type 0 where
-  pub removed : has (removes_in s.member.kept (list_in e.commit)) s.member.keys.leaf ≡ true → (step c w (Deliver k source)).0 ≡ Delivered Removed
-  pub follows : has (removes_in s.member.kept (list_in e.commit)) s.member.keys.leaf ≡ false → Follows c w k s source e
+-- or it answers that it was removed, and is active no more; its journal is as it was
+pub record Leaves (c : Crypto) (w : World) (k : ℕ) (s : Seat) (source : Source) : Type 0 where
+  pub after : Seat
+  pub reply : (step c w (Deliver k source)).0 ≡ Delivered Removed
+  pub is_after : slice_get (step c w (Deliver k source)).1.seats k ≡ Some after
+  pub gone : after.member.gone ≡ true
+  pub journal : after.journal ≡ s.journal
+
+-- whether a commit that was made removes a member, by what the member keeps (RFC 9420, 12.3)
+abbrev pub is_removed : Seat → CommitMade → Bool
+is_removed s d = has (removes_in s.member.kept (list_in d.entry.commit)) s.member.keys.leaf
+
+-- it leaves exactly when the commit removes it, and else follows it
+pub record Accepts (c : Crypto) (w : World) (k : ℕ) (s : Seat) (source : Source) (d : CommitMade) : Type 0 where
+  pub removed : is_removed s d ≡ true → Leaves c w k s source
+  pub follows : is_removed s d ≡ false → Follows c w k s source d
 
 -- a commit that was made at a homemade journal is accepted by every other active member that has that journal and keeps
 -- under each reference that the commit names the very message that the maker named
 abbrev pub AcceptsHomemade : Crypto → World → Type 0
 AcceptsHomemade c w = (n k : ℕ) (d : CommitMade) (s : Seat) (source : Source) → slice_get w.made n ≡ Some d → is_homemade w.made d.journal ≡ true →
     IsActive w k s → k ≢ d.maker → s.journal ≡ d.journal → Keeps s.member.kept (list_in d.entry.commit) d.entry.names →
-    bytes_of w source ≡ Ok d.entry.commit → Accepts c w k s source d.entry
+    bytes_of w source ≡ Ok d.entry.commit → Accepts c w k s source d
 
 -- ---- joins
 
--- the candidate becomes the next member, with this journal
-pub record Joins (c : Crypto) (w : World) (n : ℕ) (source : Source) (j : Journal) : Type 0 where
-  pub epoch : ℕ
+-- the candidate becomes the next member, an active one, in the epoch that its context names; its journal is that of the
+-- commit's maker with the commit, and its epoch secret the one that the commit reaches
+pub record Joins (c : Crypto) (w : World) (n : ℕ) (source : Source) (d : CommitMade) : Type 0 where
   pub after : Seat
-  pub reply : (step c w (Join n source)).0 ≡ Joined (length w.seats) epoch
-  pub is_after : slice_get (step c w (Join n source)).1.seats (length w.seats) ≡ Some after
-  pub journal : after.journal ≡ j
+  pub reply : (step c w (Join n source)).0 ≡ Joined (length w.seats) after.member.public.context.epoch
+  pub is_after : IsActive (step c w (Join n source)).1 (length w.seats) after
+  pub one_more : length (step c w (Join n source)).1.seats ≡ length w.seats + 1
+  pub journal : after.journal ≡ with_entry d.journal d.entry
+  pub epoch : after.member.epoch ≡ d.epoch
 
 -- a candidate that isn't spent, and whose own KeyPackage a commit adds
 pub record IsAdded (w : World) (n : ℕ) (e : Entrant) (d : CommitMade) : Type 0 where
@@ -82,7 +99,7 @@ pub record IsAdded (w : World) (n : ℕ) (e : Entrant) (d : CommitMade) : Type 0
 -- journal and that commit
 abbrev pub JoinsByNumber : Crypto → World → Type 0
 JoinsByNumber c w = (i n number : ℕ) (bytes : List ℕ) (d : CommitMade) (e : Entrant) → slice_get w.made i ≡ Some d → d.welcome ≡ Some (number, bytes) →
-    IsAdded w n e d → Joins c w n (Message number) (with_entry d.journal d.entry)
+    IsAdded w n e d → Joins c w n (Message number) d
 
 -- a source is these bytes, given as such
 abbrev pub IsGiven : Source → List ℕ → Type 0
@@ -92,7 +109,7 @@ IsGiven (Message n) bytes = ⊥
 -- by its bytes they join too, with the journal of the first such Welcome that has these bytes
 abbrev pub JoinsByBytes : Crypto → World → Type 0
 JoinsByBytes c w = (i n number : ℕ) (bytes : List ℕ) (source : Source) (d : CommitMade) (e : Entrant) → slice_get w.made i ≡ Some d → d.welcome ≡ Some (number, bytes) →
-    IsGiven source bytes → IsAdded w n e d → (f : CommitMade) × (made_for w.made source e.candidate ≡ Some f) × Joins c w n source (with_entry f.journal f.entry)
+    IsGiven source bytes → IsAdded w n e d → (f : CommitMade) × (made_for w.made source e.candidate ≡ Some f) × Joins c w n source f
 
 -- ---- keys and trees, whatever bytes came
 
@@ -110,12 +127,66 @@ TreesAreGood c w = (k : ℕ) (s : Seat) → IsActive w k s → HasGoodTree c s.m
 abbrev pub RefusalsChangeNothing : Crypto → World → Type 0
 RefusalsChangeNothing c w = (e : Event) (n : ℕ) → (step c w e).0 ≡ Refused n → (answer c w e ≡ Err n) × ((step c w e).1 ≡ w)
 
+-- ---- what deliveries and joins leave as it was
+
+-- other members than k, all candidates and messages, and the record of what was made
+pub record KeepsOthers (w v : World) (k : ℕ) : Type 0 where
+  pub count : length v.seats ≡ length w.seats
+  pub seats : (i : ℕ) → i ≢ k → slice_get v.seats i ≡ slice_get w.seats i
+  pub entrants : v.entrants ≡ w.entrants
+  pub messages : v.messages ≡ w.messages
+  pub made : v.made ≡ w.made
+
+-- a delivery changes nobody but the member that it is made to
+abbrev pub DeliveriesKeepOthers : Crypto → World → Type 0
+DeliveriesKeepOthers c w = (k : ℕ) (source : Source) → KeepsOthers w (step c w (Deliver k source)).1 k
+
+-- all members, other candidates than n, all messages, and the record of what was made
+pub record KeepsMembers (w v : World) (n : ℕ) : Type 0 where
+  pub seats : (i : ℕ) → i < length w.seats → slice_get v.seats i ≡ slice_get w.seats i
+  pub entrants : (i : ℕ) → i ≢ n → slice_get v.entrants i ≡ slice_get w.entrants i
+  pub messages : v.messages ≡ w.messages
+  pub made : v.made ≡ w.made
+
+-- a join changes no member
+abbrev pub JoinsKeepMembers : Crypto → World → Type 0
+JoinsKeepMembers c w = (n : ℕ) (source : Source) → KeepsMembers w (step c w (Join n source)).1 n
+
 -- ---- the maker of a commit
+
+-- a pending commit is one of those that its member made at its journal
+pub record IsPendingOf (w : World) (k : ℕ) (s : Seat) (p : Pending) : Type 0 where
+  pub which : CommitMade
+  pub place : ℕ
+  pub is : slice_get w.made place ≡ Some which
+  pub maker : which.maker ≡ k
+  pub journal : which.journal ≡ s.journal
+  pub commit : which.entry.commit ≡ p.message
+  pub names : which.entry.names ≡ names_in s.member.kept (list_in p.message)
+  pub epoch : which.epoch ≡ p.epoch
+
+-- and so is that of each active member
+abbrev pub PendingWasMade : World → Type 0
+PendingWasMade w = (k : ℕ) (s : Seat) (p : Pending) → IsActive w k s → s.member.pending ≡ Some p → IsPendingOf w k s p
+
+-- a member follows its pending commit into the state that it made, and stays active there; its journal has the commit's
+-- entry too
+pub record FollowsPending (c : Crypto) (w : World) (k : ℕ) (s : Seat) (p : Pending) (source : Source) : Type 0 where
+  pub after : Seat
+  pub reply : (step c w (Deliver k source)).0 ≡ Delivered (Advanced p.public.context.epoch)
+  pub is_after : IsActive (step c w (Deliver k source)).1 k after
+  pub public : after.member.public ≡ p.public
+  pub journal : after.journal ≡ with_entry s.journal (entry_of s.member p.message)
+  pub epoch : after.member.epoch ≡ p.epoch
 
 -- while it holds a commit as its pending one, it follows it
 abbrev pub FollowsOwn : Crypto → World → Type 0
 FollowsOwn c w = (k : ℕ) (s : Seat) (p : Pending) (source : Source) → IsActive w k s → s.member.pending ≡ Some p → bytes_of w source ≡ Ok p.message →
-    (step c w (Deliver k source)).0 ≡ Delivered (Advanced p.public.context.epoch)
+    FollowsPending c w k s p source
+
+-- while it stands at the journal at which it made a commit, it keeps the very messages that the commit names
+abbrev pub MakersKeep : World → Type 0
+MakersKeep w = (n : ℕ) (d : CommitMade) (s : Seat) → slice_get w.made n ≡ Some d → IsActive w d.maker s → s.journal ≡ d.journal → Keeps s.member.kept (list_in d.entry.commit) d.entry.names
 
 -- the epoch that a message names in its content (RFC 9420, 6)
 abbrev pub epoch_of_message : Result MlsMessage ℕ → Option ℕ
@@ -130,7 +201,8 @@ RefusesOwn c w = (n : ℕ) (d : CommitMade) (s : Seat) (source : Source) → sli
 
 -- ---- the whole
 
--- what holds of a world: agreement, acceptance, joins, keys and trees, refusals, and what the maker does with its commit
+-- what holds of a world: agreement, acceptance, joins, keys and trees, refusals, what deliveries and joins leave as it was,
+-- and what the maker does with its commit
 pub record Headline (c : Crypto) (w : World) : Type 0 where
   pub public : AgreeByJournal w
   pub secret : AgreeSecretIfHomemade w
@@ -141,9 +213,17 @@ pub record Headline (c : Crypto) (w : World) : Type 0 where
   pub keys : KeysAreExact c w
   pub trees : TreesAreGood c w
   pub refused : RefusalsChangeNothing c w
+  pub delivered : DeliveriesKeepOthers c w
+  pub joined : JoinsKeepMembers c w
+  pub pending : PendingWasMade w
+  pub names : MakersKeep w
   pub own : FollowsOwn c w
   pub own_refused : RefusesOwn c w
 
 -- for every lawful suite and every list of events
 abbrev pub HoldsOnRuns : Type 0
 HoldsOnRuns = (c : Crypto) → Lawful c → (events : List Event) → AllByRecursion IsInRange events → Headline c (run c empty_world events)
+
+-- and of the world after each event of a list, that before the first among them
+abbrev pub HoldsAlong : Crypto → World → List Event → Type 0
+HoldsAlong c w events = (n : ℕ) → Headline c (run c w (take n events))

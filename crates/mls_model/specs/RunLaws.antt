@@ -1,10 +1,11 @@
 -- What holds of runs by their definition alone.
-use Rattle.std.proofs.Common.{◌≡◌, ℕ, suc, Bool, true, false, List, [], ◌∷◌, ◌++◌, length, Result, Ok, Err, refl, ap, sym, ◌∙◌}
+use Rattle.std.proofs.Common.{◌≡◌, ℕ, suc, Bool, true, false, List, [], ◌∷◌, ◌++◌, length, slice_get, Result, Ok, Err, refl, ap, sym, ◌∙◌}
 use Rattle.std.proofs.lemmas.Slice.Eq.{bytes_eq-Decides}
 use Rattle.mls_wire.specs.Laws.{ok_is}
 use Rattle.mls_wire.specs.CheckLaws.{bind_ok, then_ok}
 use Rattle.mls_wire.specs.Checks.{require}
 use Rattle.mls_suite.specs.Crypto.{Crypto}
+use Rattle.mls_model.specs.declared.effect.Effect.{Effect}
 use Rattle.mls_model.specs.declared.effect.Effect.TheVariants.{Advanced}
 use Rattle.mls_model.specs.declared.event.Source.{Source}
 use Rattle.mls_model.specs.declared.event.WorldItem.{WorldItem}
@@ -12,19 +13,20 @@ use Rattle.mls_model.specs.declared.event.Event.{Event}
 use Rattle.mls_model.specs.declared.event.Event.TheVariants as event
 use Rattle.mls_model.specs.declared.event.Reply.{Reply}
 use Rattle.mls_model.specs.declared.event.Reply.TheVariants as reply
-use Rattle.mls_model.specs.Member.{advanced}
+use Rattle.mls_model.specs.Member.{Member, advanced}
 use Rattle.mls_model.specs.Verdict.{verdict}
 use Rattle.mls_model.specs.Candidate.{new_candidate, created}
 use Rattle.mls_model.specs.Propose.{proposed_add, proposed_update, proposed_remove}
 use Rattle.mls_model.specs.Make.{make}
 use Rattle.mls_model.specs.Join.{join_verdict}
-use Rattle.mls_model.specs.World.{World, seat_at, entrant_at, bytes_of, package_of, items_of}
-use Rattle.mls_model.specs.Calls.{candidate_answer, create_answer, propose_add_answer, propose_update_answer, propose_remove_answer, commit_answer, drop_answer, deliver_answer, join_answer}
+use Rattle.mls_model.specs.World.{World, Seat, seat_at, entrant_at, bytes_of, package_of, items_of}
+use Rattle.mls_model.specs.Calls.{journal_after, candidate_answer, create_answer, propose_add_answer, propose_update_answer, propose_remove_answer, commit_answer, drop_answer, deliver_answer, join_answer}
 use Rattle.mls_model.specs.Run.{answer, step_by, step, run, replies}
 use Rattle.mls_model.specs.Headline.{RefusalsChangeNothing, FollowsOwn}
 use Rattle.mls_model.specs.Found.{DidPending}
 use Rattle.mls_model.specs.Ways.{Taking.follows_own}
 use Rattle.mls_model.specs.WayBackLaws.{so_taken}
+use Rattle.mls_model.specs.StillLaws.{get_here, DeliveryIs, delivery}
 
 -- ---- lists put together
 
@@ -138,15 +140,25 @@ answered_step c w e x h = ap (step_by w) h
 
 -- ---- the own pending commit
 
--- in every world an active member follows its pending commit, from wherever the bytes come
+-- in every world an active member follows its pending commit, from wherever the bytes come, into the state that it made
 abbrev pub OwnIsFollowed : Type 0
 OwnIsFollowed = (c : Crypto) (w : World) → FollowsOwn c w
 
 pub own_is_followed : OwnIsFollowed
-unfolding step answer deliver_answer
+unfolding advanced
 own_is_followed c w k s p source a pending b =
-    let took : DidPending s.member p.message (Advanced p.public.context.epoch, advanced s.member p.public p.epoch p.keys) =
+    let n : Member = advanced s.member p.public p.epoch p.keys in
+    let x : Effect × Member = (Advanced p.public.context.epoch, n) in
+    let took : DidPending s.member p.message x =
     record { pending = p; is_pending = pending; is_message = (bytes_eq-Decides p.message p.message).1 refl; is = refl } in
-    let v : verdict c s.member p.message ≡ Ok (Advanced p.public.context.epoch, advanced s.member p.public p.epoch p.keys) =
-    so_taken c s.member p.message _ (follows_own a.active took) in
-    rw (a.is, b, v) refl
+    let v : verdict c s.member p.message ≡ Ok x = so_taken c s.member p.message x (follows_own a.active took) in
+    let d : DeliveryIs c w k s source p.message x = delivery c w k s source p.message x a.is b v in
+    let t : Seat = record { member = n; journal = journal_after s p.message x.0 } in
+    record {
+      after = t;
+      reply = d.reply;
+      is_after = record { is = ap (λ (l : List Seat). slice_get l k) d.seats ∙ get_here w.seats k t s a.is; active = a.active };
+      public = refl;
+      journal = refl;
+      epoch = refl;
+    }

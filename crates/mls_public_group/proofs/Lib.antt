@@ -1,2 +1,3 @@
 pub mod Folding
 pub mod Sorting
+pub mod ShortProposal

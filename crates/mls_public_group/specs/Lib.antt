@@ -12,3 +12,4 @@ pub mod Lengths
 pub mod NextTree
 pub mod Rest
 pub mod Memory
+pub mod ShortProposal

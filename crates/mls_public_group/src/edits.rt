@@ -47,13 +47,13 @@ fn require_distinct(alloc: Global, edits: &Edits, used: &[Used<'_>]) -> Result<(
     requires { AreBelow (2 ^ 28) used.now }
     ensures { Answers (λ _. passed) number_of (apart_after edits.now used.now) result }
 {
-    if !edits.tree.as_tree().has_distinct_clients()? {
+    if !edits.tree.as_tree().has_distinct_clients() {
         return Err(GroupError::Tree(TreeError::ClientRepeated));
     }
     if !has_distinct_references(alloc, used)? {
         return Err(GroupError::Tree(TreeError::ClientRepeated));
     }
-    if !edits.tree.as_tree().has_distinct_keys()? {
+    if !edits.tree.as_tree().has_distinct_keys() {
         return Err(GroupError::Tree(TreeError::KeyRepeated));
     }
     Ok(())

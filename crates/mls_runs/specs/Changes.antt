@@ -5,13 +5,15 @@ use Rattle.std.proofs.lemmas.Bool.{eqb-false}
 use Rattle.std.specs.Prelude.{◌≢◌}
 use Rattle.std.proofs.Math.ListN.{length-set}
 use Rattle.mls_wire.specs.Format.{IsBytes}
+use Rattle.mls_types.specs.declared.commit.ProposalOrRef.{ProposalOrRef}
 use Rattle.mls_suite.specs.Crypto.{Crypto}
-use Rattle.mls_model.specs.Agreement.{IsGoodCandidate}
+use Rattle.mls_model.specs.Agreement.{Keeps, IsGoodCandidate}
 use Rattle.mls_model.specs.Candidate.{Candidate}
-use Rattle.mls_model.specs.Invariant.{IsSeated, IsRecorded, IsPendingOf, IsSpentFor, IsGoodBy}
+use Rattle.mls_model.specs.Headline.{IsPendingOf}
+use Rattle.mls_model.specs.Invariant.{IsSeated, IsRecorded, IsSpentFor, IsGoodBy}
 use Rattle.mls_model.specs.Journal.{CommitMade}
 use Rattle.mls_model.specs.Lineage.{IsSameState, IsReached}
-use Rattle.mls_model.specs.Member.{Member, Pending}
+use Rattle.mls_model.specs.Member.{Kept, Member, Pending}
 use Rattle.mls_model.specs.PublicOf.{Creations}
 use Rattle.mls_model.specs.World.{World, Entrant, Seat}
 use Rattle.mls_claims.specs.Journals.{same_itself}
@@ -33,18 +35,32 @@ since_on l m n (inl a) (inr b) = inr (let e = epoch_same l m a in omega arith)
 since_on l m n (inr a) (inl b) = inr (let e = epoch_same m n b in omega arith)
 since_on l m n (inr a) (inr b) = inr (omega arith)
 
+-- in its epoch it keeps whatever it kept
+abbrev pub KeepsOn : Member → Member → Type 0
+KeepsOn m n = m.public.context.epoch ≡ n.public.context.epoch → (list : List ProposalOrRef) (names : List (List ℕ)) → Keeps m.kept list names → Keeps n.kept list names
+
+pub keeps_same : (m n : Member) → m.kept ≡ n.kept → KeepsOn m n
+keeps_same m n same e list names h = subst (λ (kept : List Kept). Keeps kept list names) same h
+
 -- member k goes on in another world
 pub record GoesOn (w : World) (k : ℕ) (s : Seat) : Type 0 where
   pub after : Seat
   pub is : slice_get w.seats k ≡ Some after
   pub signing : s.member.signing ≡ after.member.signing
   pub since : IsSince s.member after.member
+  pub keeps : KeepsOn s.member after.member
 
 abbrev pub SeatsGoOn : World → World → Type 0
 SeatsGoOn w v = (k : ℕ) (s : Seat) → slice_get w.seats k ≡ Some s → GoesOn v k s
 
 pub goes_still : (w : World) (k : ℕ) (s : Seat) → slice_get w.seats k ≡ Some s → GoesOn w k s
-goes_still w k s is = record { after = s; is = is; signing = refl; since = inl (same_itself s.member) }
+goes_still w k s is = record { after = s; is = is; signing = refl; since = inl (same_itself s.member); keeps = keeps_same s.member s.member refl }
+
+-- where no epoch began from the first to the third of three states, none did between
+no_epoch_began : (l m n : Member) → IsSince l m → IsSince m n → l.public.context.epoch ≡ n.public.context.epoch → (l.public.context.epoch ≡ m.public.context.epoch) × (m.public.context.epoch ≡ n.public.context.epoch)
+no_epoch_began l m n (inl a) b e = let s = epoch_same l m a in (s, sym s ∙ e)
+no_epoch_began l m n (inr a) (inl b) e = absurd (let s = epoch_same m n b in omega (arith, a, s, e))
+no_epoch_began l m n (inr a) (inr b) e = absurd (omega (arith, a, b, e))
 
 -- ---- what grows
 
@@ -74,6 +90,7 @@ record_grows c creations creations' w v g d r =
       is_seat = n.is;
       same_signing = r.same_signing ∙ n.signing;
       since = since_on r.maker r.seat.member n.after.member r.since n.since;
+      keeps = λ e. let x = no_epoch_began r.maker r.seat.member n.after.member r.since n.since e in n.keeps x.1 r.list d.entry.names (r.keeps x.0);
     }
 
 pub seated_grows : (c : Crypto) (creations creations' : Creations) (w v : World) → WorldGrows creations creations' w v → (s : Seat) → IsSeated c creations w s → IsSeated c creations' v s
@@ -163,10 +180,10 @@ either_way i k false e = inr (eqb-false i k e)
 pub either_place : (i k : ℕ) → (i ≡ k) ⊎ (i ≢ k)
 either_place i k = either_way i k (i == k) refl
 
-pub change_member : (c : Crypto) (creations : Creations) (w : World) (k : ℕ) (s t : Seat) → IsGoodBy c creations w → slice_get w.seats k ≡ Some s → s.member.signing ≡ t.member.signing → IsSince s.member t.member →
+pub change_member : (c : Crypto) (creations : Creations) (w : World) (k : ℕ) (s t : Seat) → IsGoodBy c creations w → slice_get w.seats k ≡ Some s → s.member.signing ≡ t.member.signing → IsSince s.member t.member → KeepsOn s.member t.member →
     (t.member.gone ≡ false → IsReached c creations w.made t.journal.origin t.journal.entries t.member) → ((p : Pending) → t.member.gone ≡ false → t.member.pending ≡ Some p → IsPendingOf w k t p) →
     IsGoodBy c creations (record w { seats = slice_set w.seats k t })
-change_member c creations w k s t g at signing since reached pending =
+change_member c creations w k s t g at signing since keeps reached pending =
     record {
       seats = g.seats ∙ sym (length-set w.seats k t);
       candidates = g.candidates;
@@ -192,8 +209,9 @@ change_member c creations w k s t g at signing since reached pending =
           is = ap (slice_get v.seats) same ∙ set_here w.seats k t s at;
           signing = ap (λ (y : Seat). y.member.signing) (sym one) ∙ signing;
           since = subst (λ (y : Seat). IsSince y.member t.member) one since;
+          keeps = subst (λ (y : Seat). KeepsOn y.member t.member) one keeps;
         }
-    go i x e (inr other) = record { after = x; is = set_other w.seats k t i x other e; signing = refl; since = inl (same_itself x.member) }
+    go i x e (inr other) = record { after = x; is = set_other w.seats k t i x other e; signing = refl; since = inl (same_itself x.member); keeps = keeps_same x.member x.member refl }
 
     grows : WorldGrows creations creations w v
     grows = record {

@@ -22,7 +22,9 @@ use Rattle.mls_model.specs.Agreement.{IsGoodMember}
 use Rattle.mls_model.specs.Calls.{made_by, commit_messages, commit_answer}
 use Rattle.mls_model.specs.Claims.{IsMade}
 use Rattle.mls_model.specs.Commit.{Change}
-use Rattle.mls_model.specs.Invariant.{IsRecorded, IsPendingOf, IsGoodBy, IsGoodWorld}
+use Rattle.mls_model.specs.CommitLaws.{names_in_order}
+use Rattle.mls_model.specs.Headline.{IsPendingOf}
+use Rattle.mls_model.specs.Invariant.{IsRecorded, IsGoodBy, IsGoodWorld}
 use Rattle.mls_model.specs.Journal.{CommitMade, names_in, list_in}
 use Rattle.mls_model.specs.Make.{MadePath, Made, make, welcome_if}
 use Rattle.mls_model.specs.Member.{Member, Pending, with_pending}
@@ -36,7 +38,7 @@ use Rattle.mls_claims.specs.Makes.{Makes, make_did, made_of}
 use Rattle.mls_claims.specs.Pends.{made_pends}
 use Rattle.mls_claims.specs.Still.{pending_good}
 use Rattle.mls_claims.specs.Journals.{pending_same, same_itself}
-use Rattle.mls_runs.specs.Changes.{AreMessages, one_message, two_messages, more_messages, IsNewNumber, more_made, change_member}
+use Rattle.mls_runs.specs.Changes.{KeepsOn, keeps_same, AreMessages, one_message, two_messages, more_messages, IsNewNumber, more_made, change_member}
 use Rattle.mls_runs.specs.Lists.{some, grows_none, get_append, get_length, get_below, get_second}
 use Rattle.mls_runs.specs.Past.{past_grows, reached_same}
 use Rattle.mls_runs.specs.Secrets.{pending_message}
@@ -120,6 +122,7 @@ recorded c creations w k s list made g at active is =
       is_seat = at;
       same_signing = refl;
       since = inl (same_itself s.member);
+      keeps = λ _. let k = make_did c s.member list is.wants_path is.seed made is.is in names_in_order s.member.kept s.member.keys.leaf list k.used k.uses;
     }
 
 new_number : (c : Crypto) (creations : Creations) (w : World) (k : ℕ) (s : Seat) (list : List ProposalOrRef) (made : Made) → IsGoodBy c creations w → IsNewNumber w (made_by w k s list made)
@@ -130,6 +133,10 @@ new_number c creations w k s list made g i n x y e at is new =
     omega (arith, low, p)
 
 -- ---- its maker
+
+keeps_pending : (m : Member) (p : Pending) → KeepsOn m (with_pending m p)
+unfolding with_pending
+keeps_pending m p = keeps_same m (with_pending m p) refl
 
 abbrev some_pending : Pending → Option Pending
 some_pending p = Some p
@@ -176,7 +183,7 @@ commits c creations w k s list wants_path seed made g at fits h =
     let n : Member = with_pending s.member made.pending in
     let same = pending_same s.member made.pending in
     let good' : IsGoodMember c n = pending_good c s.member made.pending good (made_pends c s.member list made is) in
-    change_member c creations w2 k s (record { member = n; journal = s.journal }) g2 at same.signing (inl same)
+    change_member c creations w2 k s (record { member = n; journal = s.journal }) g2 at same.signing (inl same) (keeps_pending s.member made.pending)
     (λ _. reached_same c creations w2.made s.journal.origin s.journal.entries s.member n same good' (g2.members k s (record { is = at; active = active })).reached)
     (λ p _ e. subst (IsPendingOf w2 k (record { member = n; journal = s.journal })) (one_pending made.pending p (is_pending s.member made.pending p e)) (pends c w k s list made w2 refl is))
 

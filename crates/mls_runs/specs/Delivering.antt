@@ -20,7 +20,8 @@ use Rattle.mls_model.specs.declared.event.Source.{Source}
 use Rattle.mls_model.specs.Agreement.{IsGoodPending, IsGoodIfPending, IsGoodMember}
 use Rattle.mls_model.specs.Calls.{journal_after, deliver_answer}
 use Rattle.mls_model.specs.Commit.{Change, body, public_with, next_public}
-use Rattle.mls_model.specs.Invariant.{IsPendingOf, IsGoodBy, IsGoodWorld}
+use Rattle.mls_model.specs.Headline.{IsPendingOf}
+use Rattle.mls_model.specs.Invariant.{IsGoodBy, IsGoodWorld}
 use Rattle.mls_model.specs.Journal.{Entry, Journal, CommitMade, with_entry, names_in, list_in, entry_of}
 use Rattle.mls_model.specs.Lineage.{Steps, IsReached}
 use Rattle.mls_model.specs.Member.{Pending, Member, with_keys, advanced, left}
@@ -34,7 +35,7 @@ use Rattle.mls_model.specs.Receipts.{did_receive, did_take}
 use Rattle.mls_claims.specs.Delivered.{delivered_good}
 use Rattle.mls_claims.specs.Opened.{body_did}
 use Rattle.mls_claims.specs.Journals.{same_itself}
-use Rattle.mls_runs.specs.Changes.{change_member}
+use Rattle.mls_runs.specs.Changes.{keeps_same, change_member}
 use Rattle.mls_runs.specs.Homemade.{entry_with}
 use Rattle.mls_runs.specs.Keeping.{keeps_one, keeps_none, to_world}
 use Rattle.mls_runs.specs.Lists.{none_there}
@@ -53,7 +54,7 @@ reached_next c creations made j m n e past good steps = (m, past, good, steps)
 advances : (c : Crypto) (creations : Creations) (w : World) (k : ℕ) (s : Seat) (n : Member) (e : Entry) → IsGoodBy c creations w → slice_get w.seats k ≡ Some s → s.member.gone ≡ false → s.member.signing ≡ n.signing → s.member.public.context.epoch < n.public.context.epoch →
     n.pending ≡ None → IsGoodMember c n → Steps c w.made s.journal s.member e n → IsGoodBy c creations (record w { seats = slice_set w.seats k (seat_with n (with_entry s.journal e)) })
 advances c creations w k s n e g at active signing later free good steps =
-    change_member c creations w k s (seat_with n (with_entry s.journal e)) g at signing (inr later)
+    change_member c creations w k s (seat_with n (with_entry s.journal e)) g at signing (inr later) (λ same. absurd (omega (arith, later, same)))
     (λ _. reached_next c creations w.made s.journal s.member n e (g.members k s (record { is = at; active = active })).reached good steps) (λ p _ h. absurd (none_there n.pending p free h))
 
 -- what is new of it
@@ -66,7 +67,8 @@ fresh m public epoch keys = (refl, refl, λ l. l)
 removes : (c : Crypto) (creations : Creations) (w : World) (k : ℕ) (s : Seat) → IsGoodBy c creations w → slice_get w.seats k ≡ Some s → IsGoodBy c creations (record w { seats = slice_set w.seats k (seat_with (left s.member) s.journal) })
 unfolding left
 removes c creations w k s g at =
-    change_member c creations w k s (seat_with (left s.member) s.journal) g at refl (inl (record { public = refl; epoch = refl; keys = refl; signing = refl })) (λ h. absurd cc) (λ p h e. absurd cc)
+    change_member c creations w k s (seat_with (left s.member) s.journal) g at refl (inl (record { public = refl; epoch = refl; keys = refl; signing = refl }))
+    (keeps_same s.member (left s.member) refl) (λ h. absurd cc) (λ p h e. absurd cc)
 
 -- ---- what was delivered
 

@@ -4,13 +4,14 @@ use Rattle.std.specs.Prelude.{◌≢◌}
 use Rattle.mls_suite.specs.Crypto.{Crypto}
 use Rattle.mls_model.specs.Agreement.{IsGoodCandidate}
 use Rattle.mls_model.specs.Candidate.{Candidate}
-use Rattle.mls_model.specs.Invariant.{IsSeated, IsPendingOf, IsSpentFor, IsGoodBy}
+use Rattle.mls_model.specs.Headline.{IsPendingOf}
+use Rattle.mls_model.specs.Invariant.{IsSeated, IsSpentFor, IsGoodBy}
 use Rattle.mls_model.specs.Lineage.{IsReached}
 use Rattle.mls_model.specs.Member.{Member, Pending}
 use Rattle.mls_model.specs.PublicOf.{Creations}
 use Rattle.mls_model.specs.World.{World, Entrant, Seat, with_joined}
 use Rattle.mls_claims.specs.Journals.{same_itself}
-use Rattle.mls_runs.specs.Changes.{WorldGrows, record_grows, seated_grows, pending_grows}
+use Rattle.mls_runs.specs.Changes.{keeps_same, WorldGrows, record_grows, seated_grows, pending_grows}
 use Rattle.mls_runs.specs.Lists.{one_there, none_there, grows_none, get_append, get_last, get_set, set_here, set_other}
 use Rattle.mls_runs.specs.Past.{seated_by}
 
@@ -54,7 +55,7 @@ one_more c creations w n e t first g at unspent signing free reached =
       creations_grow = get_append creations (first_of first);
       made_grow = grows_none w.made;
       messages_grow = grows_none w.messages;
-      seats_go_on = λ i x h. record { after = x; is = get_append w.seats (t ∷ []) i x h; signing = refl; since = inl (same_itself x.member) };
+      seats_go_on = λ i x h. record { after = x; is = get_append w.seats (t ∷ []) i x h; signing = refl; since = inl (same_itself x.member); keeps = keeps_same x.member x.member refl };
     }
 
     -- who stood at a place, with the same candidate

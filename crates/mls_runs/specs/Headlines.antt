@@ -4,8 +4,9 @@ use Rattle.mls_model.specs.Headline.{Headline, HoldsOnRuns}
 use Rattle.mls_model.specs.Invariant.{IsGoodWorld}
 use Rattle.mls_model.specs.Run.{run}
 use Rattle.mls_model.specs.RunLaws.{refused_leave, own_is_followed}
+use Rattle.mls_model.specs.StillLaws.{others_kept, members_kept}
 use Rattle.mls_model.specs.World.{World, empty_world}
-use Rattle.mls_runs.specs.Accepting.{accepts_homemade}
+use Rattle.mls_runs.specs.Accepting.{accepts_homemade, makers_keep}
 use Rattle.mls_runs.specs.Agreeing.{agree_by_journal, secret_if_homemade, agree_by_confirmation, keys_are_exact, trees_are_good}
 use Rattle.mls_runs.specs.Refusing.{refuses_own}
 use Rattle.mls_runs.specs.Runs.{empty_good, runs_keep_good}
@@ -26,6 +27,10 @@ headline_of_good c laws w g = record {
   keys = keys_are_exact c g.0 w g.1;
   trees = trees_are_good c g.0 w g.1;
   refused = refused_leave c w;
+  delivered = others_kept c w;
+  joined = members_kept c w;
+  pending = g.1.pending;
+  names = makers_keep c g.0 w g.1;
   own = own_is_followed c w;
   own_refused = refuses_own c laws g.0 w g.1;
 }

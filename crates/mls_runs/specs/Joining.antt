@@ -1,5 +1,5 @@
 -- A good world is kept by a join, by a Welcome that was made here or by any other.
-use Rattle.std.proofs.Common.{◌≡◌, ℕ, true, ◌&&◌, List, [], ◌∷◌, ◌++◌, Option, Some, None, Result, Ok, refl, sym, ap, subst, ◌∙◌, inr, slice_get, eqb-true, true≢false}
+use Rattle.std.proofs.Common.{◌≡◌, ℕ, true, false, ◌&&◌, List, [], ◌∷◌, ◌++◌, Option, Some, None, Result, Ok, refl, sym, ap, subst, ◌∙◌, inr, slice_get, eqb-true, true≢false}
 use Rattle.std.specs.Prelude.{option_map}
 use Rattle.std.specs.List.{list_any}
 use Rattle.std.specs.Str.{bytes_eq}
@@ -35,15 +35,16 @@ use Rattle.mls_runs.specs.Past.{past_grows}
 
 -- ---- a new member
 
-record JoinedDid (k : Candidate) (j : Joined) : Type 0 where
-  signing : k.signing ≡ j.member.signing
-  free : j.member.pending ≡ None
+pub record JoinedDid (k : Candidate) (j : Joined) : Type 0 where
+  pub active : j.member.gone ≡ false
+  pub signing : k.signing ≡ j.member.signing
+  pub free : j.member.pending ≡ None
 
 by_parts : (k : Candidate) (o : Opened) (c : Crypto) (j : Joined) → MemberDid c k o j → JoinedDid k j
 unfolding joined_by
-by_parts k o c j d = subst (JoinedDid k) d.is (record { signing = refl; free = refl })
+by_parts k o c j d = subst (JoinedDid k) d.is (record { active = refl; signing = refl; free = refl })
 
-joined_did : (c : Crypto) (k : Candidate) (bytes : List ℕ) (j : Joined) → join_verdict c k bytes ≡ Ok j → JoinedDid k j
+pub joined_did : (c : Crypto) (k : Candidate) (bytes : List ℕ) (j : Joined) → join_verdict c k bytes ≡ Ok j → JoinedDid k j
 unfolding join_verdict
 joined_did c k bytes j h = let s = bind_ok (opened_welcome c k bytes) _ _ h in by_parts k s.0 c j (member_did c k s.0 j s.2)
 
@@ -57,7 +58,7 @@ pub record HasWelcome (d : CommitMade) (bytes : List ℕ) : Type 0 where
   pub number : ℕ
   pub is : d.welcome ≡ Some (number, bytes)
 
-welcome_by : (w : World) (source : Source) (bytes : List ℕ) (d : CommitMade) (o : Option (ℕ × List ℕ)) → d.welcome ≡ o → ((n : ℕ) (x : List ℕ) → d.welcome ≡ Some (n, x) → slice_get w.messages n ≡ Some x) →
+pub welcome_by : (w : World) (source : Source) (bytes : List ℕ) (d : CommitMade) (o : Option (ℕ × List ℕ)) → d.welcome ≡ o → ((n : ℕ) (x : List ℕ) → d.welcome ≡ Some (n, x) → slice_get w.messages n ≡ Some x) →
     has_source source o ≡ true → bytes_of w source ≡ Ok bytes → HasWelcome d bytes
 welcome_by w source bytes d None e numbered h b = absurd (true≢false (sym h))
 welcome_by w (Given given) bytes d (Some x) e numbered h b =

@@ -15,7 +15,8 @@ use Rattle.mls_model.specs.declared.event.Source.{Source}
 use Rattle.mls_model.specs.Agreement.{IsGoodPending, IsGoodIfPending, IsGoodMember}
 use Rattle.mls_model.specs.Candidate.{leaf_key_of}
 use Rattle.mls_model.specs.Calls.{sent, propose_add_answer, propose_update_answer, propose_remove_answer, drop_answer}
-use Rattle.mls_model.specs.Invariant.{IsPendingOf, IsGoodBy, IsGoodWorld}
+use Rattle.mls_model.specs.Headline.{IsPendingOf}
+use Rattle.mls_model.specs.Invariant.{IsGoodBy, IsGoodWorld}
 use Rattle.mls_model.specs.Journal.{names_in, list_in}
 use Rattle.mls_model.specs.Lineage.{IsSameState}
 use Rattle.mls_model.specs.Member.{Kept, Pending, Member, kept_under, keeping, without_pending}
@@ -28,18 +29,18 @@ use Rattle.mls_claims.specs.Along.{list_at}
 use Rattle.mls_claims.specs.Proposing.{added_good, updated_good, removed_good}
 use Rattle.mls_claims.specs.Still.{dropped_good}
 use Rattle.mls_claims.specs.Journals.{same_itself}
-use Rattle.mls_runs.specs.Changes.{more_messages, one_message, change_member}
-use Rattle.mls_runs.specs.Names.{names_stable}
+use Rattle.mls_runs.specs.Changes.{KeepsOn, keeps_same, more_messages, one_message, change_member}
+use Rattle.mls_runs.specs.Names.{keeps_more, names_stable}
 use Rattle.mls_runs.specs.Past.{reached_same}
 use Rattle.mls_runs.specs.Sources.{bytes_within, package_fits}
 
 -- ---- a member in its state
 
 -- a member that keeps its state, with a pending commit of this world or none
-pub stays : (c : Crypto) (creations : Creations) (w : World) (k : ℕ) (s : Seat) (n : Member) → IsGoodBy c creations w → slice_get w.seats k ≡ Some s → IsSameState s.member n → n.gone ≡ s.member.gone → (n.gone ≡ false → IsGoodMember c n) →
+pub stays : (c : Crypto) (creations : Creations) (w : World) (k : ℕ) (s : Seat) (n : Member) → IsGoodBy c creations w → slice_get w.seats k ≡ Some s → IsSameState s.member n → KeepsOn s.member n → n.gone ≡ s.member.gone → (n.gone ≡ false → IsGoodMember c n) →
     ((p : Pending) → n.gone ≡ false → n.pending ≡ Some p → IsPendingOf w k (record { member = n; journal = s.journal }) p) → IsGoodBy c creations (with_member w k s n)
-stays c creations w k s n g at same gone good pending =
-    change_member c creations w k s (record { member = n; journal = s.journal }) g at same.signing (inl same)
+stays c creations w k s n g at same keeps gone good pending =
+    change_member c creations w k s (record { member = n; journal = s.journal }) g at same.signing (inl same) keeps
     (λ active. reached_same c creations w.made s.journal.origin s.journal.entries s.member n same (good active) (g.members k s (record { is = at; active = sym gone ∙ active })).reached) pending
 
 -- ---- one more proposal
@@ -53,7 +54,8 @@ names_kept c m p x h =
 pub keeps_one : (c : Crypto) (creations : Creations) (w : World) (k : ℕ) (s : Seat) (x : Kept) → IsGoodBy c creations w → slice_get w.seats k ≡ Some s → s.member.gone ≡ false → IsGoodMember c (keeping s.member x) → IsGoodBy c creations (with_member w k s (keeping s.member x))
 unfolding keeping
 keeps_one c creations w k s x g at active good =
-    stays c creations w k s (keeping s.member x) g at (record { public = refl; epoch = refl; keys = refl; signing = refl }) refl (λ _. good)
+    stays c creations w k s (keeping s.member x) g at (record { public = refl; epoch = refl; keys = refl; signing = refl })
+    (λ e list names h. keeps_more s.member.kept (x ∷ []) list names h) refl (λ _. good)
     (λ p _ e.
     let q : IsPendingOf w k s p = g.pending k s p (record { is = at; active = active }) e in
     let is : IsGoodPending c s.member p = subst (IsGoodIfPending c s.member) e (g.members k s (record { is = at; active = active })).good.pending in
@@ -62,7 +64,7 @@ keeps_one c creations w k s x g at active good =
 -- nothing changes
 pub keeps_none : (c : Crypto) (creations : Creations) (w : World) (k : ℕ) (s : Seat) → IsGoodBy c creations w → slice_get w.seats k ≡ Some s → IsGoodBy c creations (with_member w k s s.member)
 keeps_none c creations w k s g at =
-    stays c creations w k s s.member g at (same_itself s.member) refl (λ active. (g.members k s (record { is = at; active = active })).good)
+    stays c creations w k s s.member g at (same_itself s.member) (keeps_same s.member s.member refl) refl (λ active. (g.members k s (record { is = at; active = active })).good)
     (λ p active e.
     let q : IsPendingOf w k s p = g.pending k s p (record { is = at; active = active }) e in
     record { which = q.which; place = q.place; is = q.is; maker = q.maker; journal = q.journal; commit = q.commit; names = q.names; epoch = q.epoch })
@@ -143,7 +145,8 @@ propose_remove_kept c creations w g k leaf x h =
 drops : (c : Crypto) (creations : Creations) (w : World) (k : ℕ) (s : Seat) → IsGoodBy c creations w → slice_get w.seats k ≡ Some s → IsGoodBy c creations (with_member w k s (without_pending s.member))
 unfolding without_pending
 drops c creations w k s g at =
-    stays c creations w k s (without_pending s.member) g at (record { public = refl; epoch = refl; keys = refl; signing = refl }) refl
+    stays c creations w k s (without_pending s.member) g at (record { public = refl; epoch = refl; keys = refl; signing = refl })
+    (keeps_same s.member (without_pending s.member) refl) refl
     (λ active. dropped_good c s.member (member_good c creations w k s g at active)) (λ p _ e. absurd cc)
 
 pub drop_kept : (c : Crypto) (creations : Creations) (w : World) → IsGoodBy c creations w → (k : ℕ) (x : Reply × World) → drop_answer w k ≡ Ok x → IsGoodWorld c x.1

@@ -11,7 +11,8 @@ use Rattle.mls_model.specs.CommitLaws.{names_are_held, names_in_order, by_option
 use Rattle.mls_claims.specs.Still.{under_still}
 use Rattle.mls_runs.specs.Lists.{some}
 
-keeps_more : (kept more : List Kept) (list : List ProposalOrRef) (names : List (List ℕ)) → Keeps kept list names → Keeps (kept ++ more) list names
+-- what is kept under the references of a list is kept with more behind it
+pub keeps_more : (kept more : List Kept) (list : List ProposalOrRef) (names : List (List ℕ)) → Keeps kept list names → Keeps (kept ++ more) list names
 unfolding Keeps
 keeps_more kept more [] [] h = tt
 keeps_more kept more [] (b ∷ bs) h = absurd h

@@ -1,8 +1,8 @@
 //! The lines of messages of Messaging Layer Security (RFC 9420), and what `mls show` prints of a file.
 #![tactic(auto)]
 
-ghost use Rattle.std.specs.Prelude.{◌≡◌, ◌%◌, length, IfOk, IsOk};
-ghost use Rattle.mls_text.specs.File.{trimmed};
+ghost use Rattle.std.specs.Prelude.{◌≡◌, None, IfOk, IsOk};
+ghost use Rattle.mls_text.specs.File.{bytes_in};
 ghost use Rattle.mls_text.specs.Page.{page_of as seen, page_on};
 ghost use Rattle.mls_text.specs.Text.{entry_of};
 ghost use Rattle.mls_show.specs.Message.{text_of};
@@ -42,8 +42,8 @@ fn bytes_page(alloc: Global, bytes: &[u8]) -> Result<Page<Line>, AllocError>
 #[tactic(auto, unfolding(crate::specs::Show::page_of))]
 pub fn show_page(alloc: Global, text: &[u8]) -> Result<Page<Line>, AllocError>
     ensures page { IfOk result (λ page. seen entry_of page ≡ page_of text.now) }
-    // An odd number of digits is refused before anything grows.
-    ensures odd { length (trimmed text.now) % 2 ≡ 1 → IsOk result }
+    // A text that isn't hex is refused also when an allocation fails.
+    ensures not_hex { bytes_in text.now ≡ None → IsOk result }
 {
     match file_bytes(alloc, text) {
         Ok(bytes) => bytes_page(alloc, bytes.as_slice()),

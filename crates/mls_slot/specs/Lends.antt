@@ -6,6 +6,8 @@ use Rattle.mls_leaf.specs.declared.node.Node.{Node}
 use Rattle.mls_leaf.specs.declared.node.Node.TheVariants.{Leaf as in_leaf, Parent as in_parent}
 use Rattle.mls_leaf.specs.contracts.parent_node.ParentNode.{the_row as parent_row}
 use Rattle.mls_slot.specs.contracts.slot.Slot.{the_row}
+use Rattle.mls_slot.specs.declared.slot.NoParent.{NoParent}
+use Rattle.mls_slot.specs.declared.slot.NoParent.TheVariants.{Absent, OutOfMemory}
 
 -- the slot holds the parent as it was left, and where none was lent it stays
 abbrev pub lends_parent : {E : Type 0} → MutBor (Option Node) → Result (MutBor Parent) E → Fml
@@ -16,3 +18,8 @@ abbrev pub holds_parent : Option Node → Bool
 holds_parent None = false
 holds_parent (Some (in_leaf v)) = false
 holds_parent (Some (in_parent p)) = true
+
+-- whether a parent was not lent for want of memory alone
+abbrev pub wants_memory : NoParent → Bool
+wants_memory Absent = false
+wants_memory OutOfMemory = true

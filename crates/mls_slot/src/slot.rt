@@ -1,6 +1,6 @@
 //! A place of a tree.
 
-ghost use Rattle.std.specs.Prelude.{◌≡◌, Some, None, false, is_some, IfOk, MatchResult};
+ghost use Rattle.std.specs.Prelude.{◌≡◌, Some, None, is_some, IfOk, MatchResult};
 ghost use Rattle.std.specs.Option.{option_copied};
 
 use mls_leaf::{Node, ParentNode};
@@ -37,8 +37,7 @@ impl Model for Slot {
 impl Slot {
     ghost use Rattle.std.specs.Borrow.{sem};
     ghost use Rattle.mls_leaf.specs.declared.node.Node.TheVariants.{Parent as in_parent};
-    ghost use Rattle.mls_slot.specs.declared.slot.NoParent.TheVariants.{Absent};
-    ghost use Rattle.mls_slot.specs.Lends.{lends_parent, holds_parent};
+    ghost use Rattle.mls_slot.specs.Lends.{lends_parent, holds_parent, wants_memory};
 
     /// A blank place.
     pub fn blank() -> Slot
@@ -75,13 +74,28 @@ impl Slot {
         self.node.is_some()
     }
 
-    /// The parent in it, which is copied first where another place shares it. Without memory for that all stays as it was.
+    /// Whether there is a parent in it.
+    fn holds_parent(&self) -> bool
+        ensures { result ≡ holds_parent self.now }
+    {
+        match self.node() {
+            Some(Node::Parent(_)) => true,
+            Some(Node::Leaf(_)) => false,
+            None => false,
+        }
+    }
+
+    /// The parent in it, which is copied first where another place shares it. `Absent` is answered exactly when there is
+    /// none, also when an allocation fails; without memory for the copy all stays as it was.
     pub fn parent_mut(&mut self) -> Result<&mut ParentNode, NoParent>
         ensures* writes_back { sem 𝓛 (lends_parent self.entry result) }
         ensures value { MatchResult result
             (λ p. self.old ≡ Some (in_parent p.now))
-            (λ e. e ≡ Absent → holds_parent self.old ≡ false) }
+            (λ e. holds_parent self.old ≡ wants_memory e) }
     {
+        if !self.holds_parent() {
+            return Err(NoParent::Absent);
+        }
         let Some(shared) = &mut self.node else {
             return Err(NoParent::Absent);
         };
@@ -96,6 +110,9 @@ impl Slot {
 
 impl Clone for Slot {
     ghost is_clone = { λ s t. t ≡ s };
+
+    // A blank place takes no memory.
+    ghost is_infallible = { λ s. s ≡ None };
 
     fn clone(&self) -> Result<Slot, AllocError> {
         match &self.node {

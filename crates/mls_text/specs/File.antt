@@ -1,5 +1,5 @@
 -- What a hex file holds: its text without the blanks at both ends, as bytes.
-use Rattle.std.specs.Prelude.{◌==◌, ◌||◌, ℕ, Bool, List, [], ◌∷◌, if◌then◌else◌, reverse, Option, Some, None, Result, Ok, Err}
+use Rattle.std.specs.Prelude.{◌==◌, ◌||◌, ℕ, Bool, List, [], ◌∷◌, if◌then◌else◌, reverse, Option, Some, None, is_some, Result, Ok, Err}
 use Rattle.hex.specs.Hex.{decode_of}
 
 -- a space, a tab, a carriage return or a line feed
@@ -23,6 +23,10 @@ trimmed text = without_back (without_front text)
 abbrev pub decoded : {E : Type 0} → Result (List ℕ) E → Option (List ℕ)
 decoded (Ok bytes) = Some bytes
 decoded (Err e) = None
+
+-- whether a text is an even number of hex digits
+abbrev pub is_hex : List ℕ → Bool
+is_hex text = is_some (decoded (decode_of text))
 
 -- the bytes of a hex file, where it is one
 abbrev pub bytes_in : List ℕ → Option (List ℕ)

@@ -1,8 +1,10 @@
 //! A file of hex digits.
 
-ghost use Rattle.std.specs.Prelude.{◌≡◌, ◌⊎◌, Some, None, IfOk, Err, length, ◌%◌};
+ghost use Rattle.std.specs.Prelude.{◌≡◌, Some, None, IfOk, Err, is_some};
+ghost use Rattle.hex.specs.Hex.{is_hex_digit};
+ghost use Rattle.std.specs.List.{list_all};
 ghost use Rattle.mls_wire.specs.Names.{refusal_name};
-ghost use Rattle.mls_text.specs.File.{bytes_in, is_blank, trimmed, without_back, without_front};
+ghost use Rattle.mls_text.specs.File.{bytes_in, is_blank, is_hex, without_back, without_front};
 ghost use Rattle.mls_text.specs.Faults.{number_of};
 
 use hex::FromHexError;
@@ -76,15 +78,43 @@ fn before_blanks(text: &[u8]) -> &[u8]
     rest
 }
 
-/// The bytes that a file's hex digits stand for.
+fn is_digit(byte: u8) -> bool
+    ensures { result ≡ is_hex_digit byte }
+{
+    byte.is_ascii_hexdigit()
+}
+
+fn are_digits(text: &[u8]) -> bool
+    ensures { result ≡ list_all is_hex_digit text.now }
+{
+    text.iter().all(|byte| is_digit(*byte))
+}
+
+/// Whether a text is an even number of hex digits.
+pub fn is_hex(text: &[u8]) -> bool
+    ensures { result ≡ is_hex text.now }
+{
+    text.len() % 2 == 0 && are_digits(text)
+}
+
+/// Whether a file's text is hex digits between blanks: whether `file_bytes` has bytes for it.
+pub fn is_hex_file(text: &[u8]) -> bool
+    ensures { result ≡ is_some (bytes_in text.now) }
+{
+    is_hex(before_blanks(after_blanks(text)))
+}
+
+/// The bytes that a file's hex digits stand for. A text that isn't hex is refused (8) also when an allocation fails.
 pub fn file_bytes(alloc: Global, text: &[u8]) -> Result<Vec<u8>, FileError>
     ensures bytes { IfOk result (λ bytes. bytes_in text.now ≡ Some bytes.items) }
-    ensures other { bytes_in text.now ≡ None → (result ≡ Err FileError.NotHex) ⊎ (result ≡ Err FileError.OutOfMemory) }
+    ensures other { bytes_in text.now ≡ None → result ≡ Err FileError.NotHex }
     ensures refused { result ≡ Err FileError.NotHex → bytes_in text.now ≡ None }
-    // An odd number of digits is refused before anything grows.
-    ensures odd { length (trimmed text.now) % 2 ≡ 1 → result ≡ Err FileError.NotHex }
 {
-    match hex::decode(alloc, before_blanks(after_blanks(text))) {
+    let digits = before_blanks(after_blanks(text));
+    if !is_hex(digits) {
+        return Err(FileError::NotHex);
+    }
+    match hex::decode(alloc, digits) {
         Ok(bytes) => Ok(bytes),
         Err(FromHexError::OutOfMemory) => Err(FileError::OutOfMemory),
         Err(_) => Err(FileError::NotHex),

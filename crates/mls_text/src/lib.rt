@@ -12,7 +12,7 @@ mod refusal;
 mod text;
 
 pub use fault::Fault;
-pub use file::{FileError, file_bytes};
+pub use file::{FileError, file_bytes, is_hex, is_hex_file};
 pub use input::{In, Input};
 pub use output::{Out, Output};
 pub use page::{Ending, Page, print_made_page, print_page, refused_page};

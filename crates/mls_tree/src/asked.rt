@@ -19,17 +19,17 @@ pub(crate) fn counts(alloc: Global, tree: &PublicTree) -> Result<Vec<u64>, TreeE
     )
 }
 
-fn has_distinct_keys(tree: &PublicTree) -> Result<bool, AllocError> {
+fn has_distinct_keys(tree: &PublicTree) -> bool {
     tree.has_distinct_keys()
 }
 
-fn has_distinct_clients(tree: &PublicTree) -> Result<bool, AllocError> {
+fn has_distinct_clients(tree: &PublicTree) -> bool {
     tree.has_distinct_clients()
 }
 
 pub(crate) fn distinct(alloc: Global, tree: &PublicTree) -> Result<Vec<u64>, TreeError> {
-    let keys = has_distinct_keys(tree)?;
-    let clients = has_distinct_clients(tree)?;
+    let keys = has_distinct_keys(tree);
+    let clients = has_distinct_clients(tree);
     pair(alloc, u64::from(keys), u64::from(clients))
 }
 

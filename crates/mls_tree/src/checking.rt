@@ -199,16 +199,16 @@ impl PublicTree {
     }
 
     /// Whether no two nodes have one encryption key (RFC 9420, 7.3).
-    pub fn has_distinct_keys(&self) -> Result<bool, AllocError>
-        ensures { IfOk result (λ b. b ≡ has_distinct_keys (term self.now)) }
+    pub fn has_distinct_keys(&self) -> bool
+        ensures { result ≡ has_distinct_keys (term self.now) }
     {
-        Ok(self.indexes.has_distinct_keys())
+        self.indexes.has_distinct_keys()
     }
 
     /// Whether no two members have one signature key (RFC 9420, 7.3).
-    pub fn has_distinct_clients(&self) -> Result<bool, AllocError>
-        ensures { IfOk result (λ b. b ≡ has_distinct_clients (term self.now)) }
+    pub fn has_distinct_clients(&self) -> bool
+        ensures { result ≡ has_distinct_clients (term self.now) }
     {
-        Ok(self.indexes.has_distinct_clients())
+        self.indexes.has_distinct_clients()
     }
 }

@@ -4,7 +4,7 @@ ghost use Rattle.std.specs.Prelude.{◌≡◌, ℕ, Ok, Err, slice_get, option_m
 ghost use Rattle.std.specs.Option.{option_copied};
 ghost use Rattle.mls_model.specs.declared.event.Reply.TheVariants as reply;
 ghost use Rattle.mls_model.specs.Answers.{Runs};
-ghost use Rattle.mls_model.specs.Headline.{Headline};
+ghost use Rattle.mls_model.specs.Headline.{Headline, HoldsAlong};
 ghost use Rattle.mls_model.specs.World as model;
 ghost use Rattle.mls_events.specs.Answers.{Steps};
 ghost use Rattle.mls_events.specs.Outright.{early_checks};
@@ -50,22 +50,25 @@ impl<S: Suite> World<S> {
         }
     }
 
-    /// One event: a refusal is the reply, but for want of memory, at which the world is as before.
+    /// One event: a refusal is the reply, but for want of memory, at which the world is as before. Of the world that it
+    /// leaves the headline holds.
     pub fn step(&mut self, event: &Event) -> Result<Reply, OutOfMemory>
         ensures does { Steps S.crypto event.now self.old self.new result }
         // What is decided before anything grows is the reply whatever memory there is.
         ensures refused { (n : ℕ) → early_checks self.old event.now ≡ Err n → (result ≡ Ok (reply.Refused n)) × (self.new ≡ self.old) }
+        ensures headline { Headline S.crypto self.new }
     {
         know_event(event);
         self.world.step(event)
     }
 
     /// The events in order, with a reply to each; a refusal is a reply. Where one finds no memory, the world and the replies
-    /// are those of the events before it. Of the world that it leaves the headline holds: what members agree on, what they
-    /// accept, and which keys they have.
+    /// are those of the events before it. Of the world that it leaves the headline holds, and of that after each event of the
+    /// list: what members agree on, what they accept, and which keys they have.
     pub fn run(&mut self, events: &[Event], replies: &mut Vec<Reply>) -> Result<(), OutOfMemory>
         ensures run { Runs S.crypto events.now self.old self.new replies.old.items replies.new.items result }
         ensures headline { Headline S.crypto self.new }
+        ensures along { HoldsAlong S.crypto self.old events.now }
     {
         know_events(events);
         push_replies(&mut self.world, events, replies)

@@ -1,4 +1,4 @@
-//! Callers of worlds: one that needs no more than what `run` promises, and worked rows with worlds.
+//! Callers of worlds: two that need no more than what `run` promises, and worked rows with worlds.
 #![tactic(auto)]
 
 ghost use Rattle.std.specs.Prelude.{◌≡◌, ◌++◌, IfOk};
@@ -6,6 +6,7 @@ ghost use Rattle.mls_model.specs.Headline.{AgreeSecretIfHomemade};
 ghost use Rattle.mls_model.specs.Run as model;
 ghost use Rattle.mls_model.specs.World.{empty_world};
 
+mod deliveries;
 #[cfg(test)]
 mod numbers;
 #[cfg(test)]
@@ -13,6 +14,7 @@ mod rows;
 #[cfg(test)]
 mod script;
 
+pub use deliveries::deliver_commit;
 use mls_model::{Event, Reply};
 use mls_suite::{OutOfMemory, Suite};
 use mls_world::World;

@@ -17,6 +17,6 @@ nine_bytes = encode 9
 abbrev pub x25519_bytes : List ℕ → List ℕ → List ℕ
 x25519_bytes k u = encode (least (x25519 (decode_scalar k) (decode_u u)))
 
--- eight times a point, which is 0 exactly where the point has order 1, 2, 4 or 8
+-- the u-coordinate of eight times a point
 abbrev pub clear_cofactor_bytes : List ℕ → List ℕ
 clear_cofactor_bytes u = encode (least (clear_cofactor (decode_u u)))

@@ -1,7 +1,8 @@
 //! X25519, as in RFC 7748.
 //!
-//! No branch and no index depends on a scalar or a coordinate: the swaps of the ladder are made by
-//! masks, and every loop has a fixed count. Nothing is claimed of the compiled code.
+//! No branch and no index depends on a scalar or a coordinate: the ladder swaps by masks, and every loop
+//! has a fixed count. `tools/curve25519/count-instructions` counts what the built program does; nothing is
+//! claimed of the compiled code, and secrets aren't wiped.
 #![tactic(auto)]
 
 mod ladder;
@@ -36,7 +37,7 @@ pub fn public_key(secret: &[u8; 32]) -> [u8; 32]
     x25519(secret, &BASE_POINT)
 }
 
-/// Eight times a point, 8 being the cofactor; 0 exactly where the point is of low order.
+/// The u-coordinate of eight times the point, 8 being the cofactor of the curve.
 pub fn clear_cofactor(u: &[u8; 32]) -> [u8; 32]
     ensures { result ≡ clear_cofactor_bytes u.now }
 {

@@ -1,4 +1,3 @@
-
 use Rattle.field25519.proofs.Bits.{xor_same, same_of_xor}
 use Rattle.field25519.proofs.words.difference.Goals as goal
 

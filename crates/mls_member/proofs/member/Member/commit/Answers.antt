@@ -1,5 +1,6 @@
 use Rattle.std.proofs.Common.{refl, sym, ◌∙◌}
 use Rattle.mls_member.proofs.CommitSteps.{has_room}
+use Rattle.mls_member.proofs.Good.{commit_good}
 use Rattle.mls_member.proofs.Commits.{is_gone, is_pending, is_last, commit_fails, commit_does}
 use Rattle.mls_member.proofs.member.Member.commit.Goals as goal
 
@@ -25,11 +26,17 @@ returns-in-Err-clause-answer g c = (
   λ h.
       commit_fails g.S.Suite.crypto c.args.self.now _ c.args.path c.args.seed.now _
       (record { here = sym c.is_gone.ensures ∙ c.if-is_gone.false; none = sym c.has_pending.ensures ∙ c.if-has_pending.false; room = sym c.has_next.ensures ∙ c.if-not-has_next.false })
-      (c.in-Err.ensures h),
+      (c.in-Err.ensures.answer h),
 )
 
 pub returns-in-Ok-clause-answer : goal.returns-in-Ok-clause-answer
 returns-in-Ok-clause-answer g c =
     commit_does _ g.S.Suite.crypto c.args.self.now _ _ c.args.path c.args.seed.now _ _
     (record { here = sym c.is_gone.ensures ∙ c.if-is_gone.false; none = sym c.has_pending.ensures ∙ c.if-has_pending.false; room = sym c.has_next.ensures ∙ c.if-not-has_next.false })
-    c.in-Ok.ensures c.keep_pending.ensures
+    c.in-Ok.ensures.answer c.keep_pending.ensures
+
+pub returns-in-Ok-clause-good : goal.returns-in-Ok-clause-good
+returns-in-Ok-clause-good g c = λ good. (commit_good g.S.Suite.crypto g.met.S.Suite.lawful c.args.self.now _ _ c.args.path c.args.seed.now _ good c.in-Ok.ensures.full (returns-in-Ok-clause-answer g c)).0
+
+pub returns-in-Ok-clause-reaches : goal.returns-in-Ok-clause-reaches
+returns-in-Ok-clause-reaches g c = λ good. (commit_good g.S.Suite.crypto g.met.S.Suite.lawful c.args.self.now _ _ c.args.path c.args.seed.now _ good c.in-Ok.ensures.full (returns-in-Ok-clause-answer g c)).1

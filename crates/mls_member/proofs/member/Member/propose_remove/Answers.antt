@@ -1,4 +1,5 @@
 use Rattle.std.proofs.Common.{arith}
+use Rattle.mls_member.proofs.Good.{not_gone, checks_at, remove_good}
 use Rattle.mls_member.proofs.Own.{remove_fits, remove_short}
 use Rattle.mls_member.proofs.member.Member.propose_remove.Goals as goal
 
@@ -7,3 +8,8 @@ require_proposal-requires g c = remove_short c.args.leaf (omega (arith, c.ranges
 
 pub send_and_keep-requires : goal.send_and_keep-requires
 send_and_keep-requires g c = remove_fits c.args.leaf (omega (arith, c.ranges.leaf.fits))
+
+pub returns-clause-good : goal.returns-clause-good
+returns-clause-good g c = λ good.
+    remove_good g.S.Suite.crypto c.args.self.now c.send_and_keep.new.self c.args.leaf c.send_and_keep.result good (not_gone c.args.self.now _ c.self.view_is c.if-self.false)
+    (checks_at g.S.Suite.crypto c.args.self.now _ c.leaf-sender.result _ c.self.view_is c.leaf-sender.ensures c.in_ok-require_proposal.ensures.answer) c.send_and_keep.ensures

@@ -1,0 +1,16 @@
+pub mod CircuitLemmas
+pub mod NetLemmas
+pub mod LaneLemmas
+pub mod Streams
+pub mod Words
+pub mod AllBelow
+pub mod CipherLemmas
+pub mod GcmLaws
+pub mod InverseLemmas
+pub mod GhashLemmas
+pub mod GcmStreams
+pub mod Parts
+pub mod RoundLemmas
+pub mod LoadLemmas
+pub mod TableLemmas
+pub mod TagLemmas

@@ -1,0 +1,17 @@
+//! AES-128-GCM (FIPS 197, SP 800-38D) with no index and no branch on secrets: four blocks at once,
+//! in slices.
+#![tactic(auto)]
+
+mod blocks;
+mod gcm;
+mod ghash;
+mod keys;
+mod laws;
+mod sbox;
+mod slices;
+#[cfg(test)]
+mod tests;
+
+pub use gcm::{open, seal};
+pub use keys::Aes128;
+pub use laws::{inverse_inverts, opens_sealed, opens_where_tagged};

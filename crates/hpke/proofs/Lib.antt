@@ -1,0 +1,2 @@
+pub mod HpkeLaws
+pub mod ZeroLemmas

@@ -1,0 +1,3 @@
+pub mod Rfc9180
+pub mod Laws
+pub mod Made

@@ -1,0 +1,2 @@
+pub mod Suite0001
+pub mod Suite0001Laws
