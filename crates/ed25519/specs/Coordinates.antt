@@ -3,16 +3,10 @@ use Rattle.std.specs.Prelude.{ℕ, ◌≡◌, ◌+◌, ◌*◌, Option, MatchOpt
 use Rattle.curve25519.specs.Field25519.{field}
 use Rattle.curve25519.specs.Extended.{Extended, Represents as Represents_over}
 use Rattle.curve25519.specs.Curve25519.{d, Point, On, ◌+ₚ◌, multiple, base}
-use Rattle.field25519.specs.Bytes.{joined_words}
-use Rattle.field25519.specs.declared.words.Words.{Words}
 use Rattle.ed25519.specs.declared.point.ExtendedPoint.{ExtendedPoint}
 use Rattle.ed25519.specs.declared.cached.CachedPoint.{CachedPoint}
 use Rattle.ed25519.specs.declared.point_multiple.SmallMultiples.{SmallMultiples}
 open field use {Of, add, mul, neg}
-
--- the number of four words
-abbrev pub number : Words → ℕ
-number w = joined_words w.a w.b w.c w.d
 
 -- X, Y, Z, T
 abbrev pub coordinates : ExtendedPoint → Extended field

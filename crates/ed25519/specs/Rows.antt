@@ -3,8 +3,8 @@ use Rattle.std.specs.Prelude.{ℕ, ◌≡◌, ◌+◌, ◌*◌, ◌/◌, ◌%◌
 use Rattle.curve25519.specs.Field25519.{field, residue}
 use Rattle.curve25519.specs.Curve25519.{d, Point}
 use Rattle.field25519.specs.declared.words.Words.{Words}
+use Rattle.field25519.specs.Bytes.{joined}
 use Rattle.ed25519.specs.declared.base_multiple.Row.{Row}
-use Rattle.ed25519.specs.Coordinates.{number}
 open field use {Of, add, mul, neg}
 
 -- two halves of a list as one number
@@ -24,7 +24,7 @@ row_of list k =
 
 -- the number of the field that 255 bits of four words are
 abbrev pub field_number : Words → Of
-field_number w = residue (number w % 2 ^ 255)
+field_number w = residue (joined w % 2 ^ 255)
 
 -- half the sum and half the difference of y and x, and d x y, of the point
 abbrev pub IsRowOf : Row → Point → Type 0

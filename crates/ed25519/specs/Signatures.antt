@@ -1,5 +1,5 @@
 -- Keys and signatures on bytes: RFC 8032, sections 5.1.5 to 5.1.7.
-use Rattle.std.specs.Prelude.{ℕ, ◌+◌, ◌*◌, ◌%◌, ◌^◌, ◌==◌, ◌&&◌, Bool, false, List, ◌++◌, length, take, drop, slice_index, Option, Some, None, nat_lt}
+use Rattle.std.specs.Prelude.{ℕ, ◌+◌, ◌*◌, ◌%◌, ◌==◌, ◌&&◌, Bool, false, List, ◌++◌, length, take, drop, slice_index, Option, Some, None, nat_lt}
 use Rattle.std.specs.Int.{byte_worth, sum_through}
 use Rattle.std.specs.Str.{bytes_eq}
 use Rattle.sha2.specs.Sha512.{sha512}
@@ -7,18 +7,6 @@ use Rattle.curve25519.specs.Curve25519.{Point, ◌+ₚ◌, multiple, base, order
 use Rattle.field25519.specs.Bytes.{decode_little, encode}
 use Rattle.field25519.specs.Scalars.{decode_scalar}
 use Rattle.ed25519.specs.Points.{negative, encode_point, decode_point}
-
--- eight bytes as a number, the lowest first
-abbrev pub word_of : List ℕ → ℕ → ℕ
-word_of b i =
-    slice_index b i
-    + 256 ^ 1 * slice_index b (i + 1)
-    + 256 ^ 2 * slice_index b (i + 2)
-    + 256 ^ 3 * slice_index b (i + 3)
-    + 256 ^ 4 * slice_index b (i + 4)
-    + 256 ^ 5 * slice_index b (i + 5)
-    + 256 ^ 6 * slice_index b (i + 6)
-    + 256 ^ 7 * slice_index b (i + 7)
 
 -- 64 bytes as a number, the lowest first
 abbrev pub decode_64 : List ℕ → ℕ

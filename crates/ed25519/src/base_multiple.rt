@@ -1,7 +1,8 @@
 //! Multiples of the base point, in the same steps for any scalar.
 ghost use Rattle.std.specs.Prelude.{◌≡◌, ◌<◌};
 ghost use Rattle.curve25519.specs.Curve25519.{Point, base, multiple};
-ghost use Rattle.ed25519.specs.Coordinates.{number, Represents, Caches, AddsOfBase};
+ghost use Rattle.field25519.specs.Bytes.{joined};
+ghost use Rattle.ed25519.specs.Coordinates.{Represents, Caches, AddsOfBase};
 ghost use Rattle.ed25519.specs.Digits.{digit, column};
 ghost use Rattle.ed25519.specs.Rows.{words_of, row_of, IsRowOf};
 
@@ -51,7 +52,7 @@ fn row_at(list: &[u128; 96], at: usize) -> Row
 
 /// One of two numbers, in the same steps for either.
 #[inline]
-fn pick_words(bit: u64, x: Words, y: Words) -> Words
+fn select_words(bit: u64, x: Words, y: Words) -> Words
     requires { bit < 2 }
     ensures first { bit ≡ 0 → result ≡ x }
     ensures second { bit ≡ 1 → result ≡ y }
@@ -66,27 +67,27 @@ fn pick_words(bit: u64, x: Words, y: Words) -> Words
 
 /// One of two rows, in the same steps for either.
 #[inline]
-fn pick_row(bit: u64, x: Row, y: Row) -> Row
+fn select_row(bit: u64, x: Row, y: Row) -> Row
     requires { bit < 2 }
     ensures first { bit ≡ 0 → result ≡ x }
     ensures second { bit ≡ 1 → result ≡ y }
 {
     Row {
-        sum: pick_words(bit, x.sum, y.sum),
-        difference: pick_words(bit, x.difference, y.difference),
-        product: pick_words(bit, x.product, y.product),
+        sum: select_words(bit, x.sum, y.sum),
+        difference: select_words(bit, x.difference, y.difference),
+        product: select_words(bit, x.product, y.product),
     }
 }
 
 /// The row that the digit asks for. Each row is read.
-fn select_row(list: &[u128; 96], digit: u64) -> Row
+fn read_row(list: &[u128; 96], digit: u64) -> Row
     requires { digit < 16 }
     ensures { result ≡ row_of list.now digit }
 {
     let mut row = row_at(list, 0);
     for i in 1..16u64 {
         let is_asked = (16 - (i + 16 - digit) % 16) / 16;
-        row = pick_row(is_asked, row, row_at(list, i as usize));
+        row = select_row(is_asked, row, row_at(list, i as usize));
     }
     row
 }
@@ -109,7 +110,7 @@ fn cached_row(row: Row) -> CachedPoint
 fn digit_at(scalar: Words, at: u32) -> u64
     requires { at < 64 }
     ensures low { result < 16 }
-    ensures is { result ≡ digit (number scalar) at }
+    ensures is { result ≡ digit (joined scalar) at }
 {
     let first = scalar.bit_at(4 * at);
     let second = scalar.bit_at(4 * at + 1);
@@ -121,12 +122,12 @@ fn digit_at(scalar: Words, at: u32) -> u64
 /// The sum with a multiple of each list, for one digit of each eight.
 fn add_column(point: ExtendedPoint, scalar: Words, at: u32) -> ExtendedPoint
     requires { at < 8 }
-    ensures { AddsOfBase point (column (number scalar) at 8) result }
+    ensures { AddsOfBase point (column (joined scalar) at 8) result }
 {
     let mut sum = point;
     for j in 0..8u32 {
         let digit = digit_at(scalar, 8 * j + at);
-        let row = select_row(&MULTIPLES[j as usize], digit);
+        let row = read_row(&MULTIPLES[j as usize], digit);
         sum = sum.add(&cached_row(row));
     }
     sum
@@ -134,7 +135,7 @@ fn add_column(point: ExtendedPoint, scalar: Words, at: u32) -> ExtendedPoint
 
 /// The base point as many times as the scalar says.
 pub(crate) fn multiply_base(scalar: Words) -> ExtendedPoint
-    ensures { Represents result (multiple base (number scalar)) }
+    ensures { Represents result (multiple base (joined scalar)) }
 {
     let mut sum = ExtendedPoint::origin();
     for i in 0..8u32 {

@@ -2,8 +2,9 @@
 ghost use Rattle.std.specs.Prelude.{◌≡◌, ◌<◌, ◌^◌, ◌↔◌, IsTrue};
 ghost use Rattle.curve25519.specs.Field25519.{prime};
 ghost use Rattle.curve25519.specs.Curve25519.{root_of_minus_one as root_of_minus, On};
+ghost use Rattle.field25519.specs.Bytes.{joined};
 ghost use Rattle.ed25519.specs.Points.{decode_point, square_root as root_of, x_squared as x_squared_of, choose_sign as signed_by, with_y as of_height};
-ghost use Rattle.ed25519.specs.Coordinates.{number, Decodes};
+ghost use Rattle.ed25519.specs.Coordinates.{Decodes};
 
 use crate::point::{ExtendedPoint, curve_constant};
 use field25519::{Element, Words};
@@ -49,8 +50,8 @@ fn square_root(z: &Element) -> Element
 
 /// Whether a number of 255 bits is below p.
 fn is_least(w: Words) -> bool
-    requires { number w < 2 ^ 255 }
-    ensures { IsTrue result ↔ (number w < prime) }
+    requires { joined w < 2 ^ 255 }
+    ensures { IsTrue result ↔ (joined w < prime) }
 {
     w.a < 18446744073709551597 || w.b < u64::MAX || w.c < u64::MAX || w.d < 9223372036854775807
 }

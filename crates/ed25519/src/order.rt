@@ -1,7 +1,7 @@
 //! Scalars modulo the order L of the base point, in the same steps for any.
 ghost use Rattle.std.specs.Prelude.{◌≡◌, ◌+◌, ◌-◌, ◌*◌, ◌/◌, ◌^◌, ◌<◌, ◌%◌, ◌↔◌, IsTrue};
 ghost use Rattle.curve25519.specs.Curve25519.{order};
-ghost use Rattle.ed25519.specs.Coordinates.{number};
+ghost use Rattle.field25519.specs.Bytes.{joined};
 
 use field25519::Words;
 
@@ -9,9 +9,9 @@ const WORD: u128 = 18446744073709551616;
 
 /// The sum with what the order lacks of 2^256, and whether it came past 2^256.
 #[inline]
-fn lifted(x: Words) -> (Words, u64)
+fn lift(x: Words) -> (Words, u64)
     ensures carry { result.1 < 2 }
-    ensures sum { number result.0 + 2 ^ 256 * result.1 ≡ number x + (2 ^ 256 - order) }
+    ensures sum { joined result.0 + 2 ^ 256 * result.1 ≡ joined x + (2 ^ 256 - order) }
 {
     let a = x.a as u128 + 12100500283911187475;
     let b = x.b as u128 + 16942830013509034793 + a / WORD;
@@ -29,10 +29,10 @@ fn lifted(x: Words) -> (Words, u64)
 }
 
 #[inline]
-fn pick(bit: u64, x: Words, y: Words) -> Words
+fn select(bit: u64, x: Words, y: Words) -> Words
     requires { bit < 2 }
-    ensures first { bit ≡ 0 → number result ≡ number x }
-    ensures second { bit ≡ 1 → number result ≡ number y }
+    ensures first { bit ≡ 0 → joined result ≡ joined x }
+    ensures second { bit ≡ 1 → joined result ≡ joined y }
 {
     Words {
         a: field25519::select(bit, x.a, y.a),
@@ -44,22 +44,22 @@ fn pick(bit: u64, x: Words, y: Words) -> Words
 
 /// What is below twice the order, modulo the order.
 #[inline]
-fn once_reduced(x: Words) -> Words
-    requires { number x < 2 * order }
-    ensures { number result ≡ number x % order }
+fn reduce_once(x: Words) -> Words
+    requires { joined x < 2 * order }
+    ensures { joined result ≡ joined x % order }
 {
-    let (less, over) = lifted(x);
-    pick(over, x, less)
+    let (less, over) = lift(x);
+    select(over, x, less)
 }
 
 /// Twice a number and a bit.
 #[inline]
-fn doubled(x: Words, bit: u64) -> Words
-    requires low { number x < order }
+fn double(x: Words, bit: u64) -> Words
+    requires low { joined x < order }
     requires bit_low { bit < 2 }
-    ensures { number result ≡ (2 * number x + bit) % order }
+    ensures { joined result ≡ (2 * joined x + bit) % order }
 {
-    once_reduced(Words {
+    reduce_once(Words {
         a: x.a % 9223372036854775808 * 2 + bit,
         b: x.b % 9223372036854775808 * 2 + x.a / 9223372036854775808,
         c: x.c % 9223372036854775808 * 2 + x.b / 9223372036854775808,
@@ -68,16 +68,16 @@ fn doubled(x: Words, bit: u64) -> Words
 }
 
 /// The sum of two numbers.
-pub fn sum(x: Words, y: Words) -> Words
-    requires x_low { number x < order }
-    requires y_low { number y < order }
-    ensures { number result ≡ (number x + number y) % order }
+pub fn add(x: Words, y: Words) -> Words
+    requires x_low { joined x < order }
+    requires y_low { joined y < order }
+    ensures { joined result ≡ (joined x + joined y) % order }
 {
     let a = x.a as u128 + y.a as u128;
     let b = x.b as u128 + y.b as u128 + a / WORD;
     let c = x.c as u128 + y.c as u128 + b / WORD;
     let d = x.d as u128 + y.d as u128 + c / WORD;
-    once_reduced(Words {
+    reduce_once(Words {
         a: (a % WORD) as u64,
         b: (b % WORD) as u64,
         c: (c % WORD) as u64,
@@ -87,9 +87,9 @@ pub fn sum(x: Words, y: Words) -> Words
 
 /// Whether the number is below the order.
 pub fn is_below(x: Words) -> bool
-    ensures { IsTrue result ↔ (number x < order) }
+    ensures { IsTrue result ↔ (joined x < order) }
 {
-    let (_, over) = lifted(x);
+    let (_, over) = lift(x);
     over == 0
 }
 
@@ -102,35 +102,35 @@ const NONE: Words = Words {
 
 /// What is left of a number times 2^256 and another.
 fn absorb(high: Words, low: Words) -> Words
-    requires { number high < order }
-    ensures { number result ≡ (number high * 2 ^ 256 + number low) % order }
+    requires { joined high < order }
+    ensures { joined result ≡ (joined high * 2 ^ 256 + joined low) % order }
 {
     let mut left = high;
     for i in 0..256 {
         let bit = low.bit_at(255 - i);
-        left = doubled(left, bit);
+        left = double(left, bit);
     }
     left
 }
 
 /// A number of 512 bits.
-pub fn reduced(high: Words, low: Words) -> Words
-    ensures { number result ≡ (number high * 2 ^ 256 + number low) % order }
+pub fn reduce(high: Words, low: Words) -> Words
+    ensures { joined result ≡ (joined high * 2 ^ 256 + joined low) % order }
 {
     absorb(absorb(NONE, high), low)
 }
 
 /// The product of two numbers, one of them of any size.
-pub fn product(x: Words, y: Words) -> Words
-    requires { number x < order }
-    ensures { number result ≡ number x * number y % order }
+pub fn multiply(x: Words, y: Words) -> Words
+    requires { joined x < order }
+    ensures { joined result ≡ joined x * joined y % order }
 {
     let mut all = NONE;
     for i in 0..256 {
         let bit = y.bit_at(255 - i);
-        let twice = doubled(all, 0);
-        let more = pick(bit, NONE, x);
-        all = sum(twice, more);
+        let twice = double(all, 0);
+        let more = select(bit, NONE, x);
+        all = add(twice, more);
     }
     all
 }

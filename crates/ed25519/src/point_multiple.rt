@@ -1,7 +1,8 @@
 //! Multiples of a point, in time that depends on it and on the scalar.
 ghost use Rattle.std.specs.Prelude.{◌<◌};
 ghost use Rattle.curve25519.specs.Curve25519.{Point, On};
-ghost use Rattle.ed25519.specs.Coordinates.{number, Represents, CacheMultiples, AddsMultiple, IsMultiple};
+ghost use Rattle.field25519.specs.Bytes.{joined};
+ghost use Rattle.ed25519.specs.Coordinates.{Represents, CacheMultiples, AddsMultiple, IsMultiple};
 
 use crate::cached::CachedPoint;
 use crate::point::ExtendedPoint;
@@ -47,7 +48,7 @@ impl SmallMultiples {
 
 /// The point as many times as the scalar says, in time that depends on both.
 pub(crate) fn multiply_point(point: &ExtendedPoint, scalar: Words) -> ExtendedPoint
-    ensures { IsMultiple point.now (number scalar) result }
+    ensures { IsMultiple point.now (joined scalar) result }
 {
     let multiples = SmallMultiples::new(point);
     let mut sum = ExtendedPoint::origin();

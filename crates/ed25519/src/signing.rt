@@ -1,11 +1,10 @@
 //! Keys, signatures and their verification (RFC 8032, sections 5.1.5 to 5.1.7).
 ghost use Rattle.std.specs.Prelude.{◌≡◌, ◌<◌, ◌+◌, ◌*◌, ◌^◌, ◌%◌, ◌++◌, length, take, drop};
 ghost use Rattle.curve25519.specs.Curve25519.{order as L};
-ghost use Rattle.field25519.specs.Bytes.{decode_little};
+ghost use Rattle.field25519.specs.Bytes.{decode_little, joined, word_at};
 ghost use Rattle.field25519.specs.Scalars.{decode_scalar};
-ghost use Rattle.ed25519.specs.Coordinates.{number};
 ghost use Rattle.ed25519.specs.Equation.{TellsMet};
-ghost use Rattle.ed25519.specs.Signatures.{word_of, decode_64, hash_number, multiple_bytes, public_key as key_of, sign as signature_of, verify as is_signature, verify_halves as are_halves};
+ghost use Rattle.ed25519.specs.Signatures.{decode_64, hash_number, multiple_bytes, public_key as key_of, sign as signature_of, verify as is_signature, verify_halves as are_halves};
 
 use crate::base_multiple::multiply_base;
 use crate::cached::CachedPoint;
@@ -17,9 +16,9 @@ use field25519::Words;
 use sha2::{Digest, Sha512};
 
 /// Eight bytes as a number, the lowest first.
-fn word_at(digest: &[u8; 64], at: usize) -> u64
+fn word(digest: &[u8; 64], at: usize) -> u64
     requires { at < 57 }
-    ensures { result ≡ word_of digest.now at }
+    ensures { result ≡ word_at digest.now at }
 {
     u64::from_le_bytes([
         digest[at],
@@ -35,33 +34,33 @@ fn word_at(digest: &[u8; 64], at: usize) -> u64
 
 /// The first 32 bytes as a number.
 fn low_half(digest: &[u8; 64]) -> Words
-    ensures { number result ≡ decode_little digest.now }
+    ensures { joined result ≡ decode_little digest.now }
 {
     Words {
-        a: word_at(digest, 0),
-        b: word_at(digest, 8),
-        c: word_at(digest, 16),
-        d: word_at(digest, 24),
+        a: word(digest, 0),
+        b: word(digest, 8),
+        c: word(digest, 16),
+        d: word(digest, 24),
     }
 }
 
 /// The last 32 bytes as a number.
 fn high_half(digest: &[u8; 64]) -> Words
-    ensures { decode_little digest.now + 2 ^ 256 * number result ≡ decode_64 digest.now }
+    ensures { decode_little digest.now + 2 ^ 256 * joined result ≡ decode_64 digest.now }
 {
     Words {
-        a: word_at(digest, 32),
-        b: word_at(digest, 40),
-        c: word_at(digest, 48),
-        d: word_at(digest, 56),
+        a: word(digest, 32),
+        b: word(digest, 40),
+        c: word(digest, 48),
+        d: word(digest, 56),
     }
 }
 
 /// The digest's number modulo L.
 fn reduce_digest(digest: &[u8; 64]) -> Words
-    ensures { number result ≡ decode_64 digest.now % L }
+    ensures { joined result ≡ decode_64 digest.now % L }
 {
-    order::reduced(high_half(digest), low_half(digest))
+    order::reduce(high_half(digest), low_half(digest))
 }
 
 /// A half of a signature or of a digest, or a key.
@@ -76,7 +75,7 @@ fn copy_half(bytes: &[u8]) -> [u8; 32]
 
 /// The secret scalar, from the secret's digest.
 fn scalar_of(digest: &[u8; 64]) -> Words
-    ensures { number result ≡ decode_scalar (take 32 digest.now) }
+    ensures { joined result ≡ decode_scalar (take 32 digest.now) }
 {
     let (first, _) = digest.split_at(32);
     Words::from_scalar(&copy_half(first))
@@ -84,7 +83,7 @@ fn scalar_of(digest: &[u8; 64]) -> Words
 
 /// The digest of two pieces, modulo L.
 fn hash_two(first: &[u8], second: &[u8]) -> Words
-    ensures { number result ≡ hash_number (first.now ++ second.now) }
+    ensures { joined result ≡ hash_number (first.now ++ second.now) }
 {
     let mut hasher = Sha512::new();
     hasher.update(first);
@@ -95,7 +94,7 @@ fn hash_two(first: &[u8], second: &[u8]) -> Words
 
 /// The digest of three pieces, modulo L.
 fn hash_three(first: &[u8], second: &[u8], third: &[u8]) -> Words
-    ensures { number result ≡ hash_number (first.now ++ second.now ++ third.now) }
+    ensures { joined result ≡ hash_number (first.now ++ second.now ++ third.now) }
 {
     let mut hasher = Sha512::new();
     hasher.update(first);
@@ -107,7 +106,7 @@ fn hash_three(first: &[u8], second: &[u8], third: &[u8]) -> Words
 
 /// The nonce of a message, from the secret's digest.
 fn nonce_of(digest: &[u8; 64], message: &[u8]) -> Words
-    ensures { number result ≡ hash_number (drop 32 digest.now ++ message.now) }
+    ensures { joined result ≡ hash_number (drop 32 digest.now ++ message.now) }
 {
     hash_two(&digest[32..], message)
 }
@@ -124,7 +123,7 @@ fn join(r: &[u8; 32], s: &[u8; 32]) -> [u8; 64]
 
 /// The bytes of the base point as many times as the scalar says.
 fn multiple_of_base(scalar: Words) -> [u8; 32]
-    ensures { result ≡ multiple_bytes (number scalar) }
+    ensures { result ≡ multiple_bytes (joined scalar) }
 {
     multiply_base(scalar).encode()
 }
@@ -147,15 +146,15 @@ pub fn sign(secret: &[u8; 32], message: &[u8]) -> [u8; 64]
     let nonce = nonce_of(&digest, message);
     let commitment = multiple_of_base(nonce);
     let challenge = hash_three(&commitment, &key, message);
-    let product = order::product(challenge, scalar);
-    let answer = order::sum(nonce, product);
+    let product = order::multiply(challenge, scalar);
+    let answer = order::add(nonce, product);
     let bytes = answer.to_bytes();
     join(&commitment, &bytes)
 }
 
 /// Whether the answer times the base point, less the challenge times the key, is the commitment.
 fn is_met(key: &ExtendedPoint, commitment: &[u8; 32], answer: Words, challenge: Words) -> bool
-    ensures { TellsMet key.now commitment.now (number answer) (number challenge) result }
+    ensures { TellsMet key.now commitment.now (joined answer) (joined challenge) result }
 {
     let first = multiply_base(answer);
     let opposite = key.negate();

@@ -12,13 +12,13 @@ loop-i-init c =
     let ld : c.args.low.d < 2 ^ 64 = search rules in
     sym (begins (joined_words c.args.high.a c.args.high.b c.args.high.c c.args.high.d) (joined_words c.args.low.a c.args.low.b c.args.low.c c.args.low.d) (joined_words c.args.high.a c.args.high.b c.args.high.c c.args.high.d) c.requires (small _ _ _ _ la lb lc ld))
 
-pub doubled-left-requires-clause-low : goal.doubled-left-requires-clause-low
-doubled-left-requires-clause-low c = below _ _ c.loop-i.invariant
+pub double-left-requires-clause-low : goal.double-left-requires-clause-low
+double-left-requires-clause-low c = below _ _ c.loop-i.invariant
 
 pub loop-i-preserved : goal.loop-i-preserved
 loop-i-preserved c =
     absorbed (joined_words c.args.high.a c.args.high.b c.args.high.c c.args.high.d) (joined_words c.args.low.a c.args.low.b c.args.low.c c.args.low.d) c.loop-i.i _ _ c.loop-i-test.true c.loop-i.invariant
-    (c.doubled-left.ensures ∙ ap (λ b. (2 * (joined_words c.loop-i.left.a c.loop-i.left.b c.loop-i.left.c c.loop-i.left.d) + b) % order) c.bit_at-bit.ensures.bit)
+    (c.double-left.ensures ∙ ap (λ b. (2 * (joined_words c.loop-i.left.a c.loop-i.left.b c.loop-i.left.c c.loop-i.left.d) + b) % order) c.bit_at-bit.ensures.bit)
 
 pub returns : goal.returns
 returns c =

@@ -2,14 +2,14 @@ use Rattle.std.proofs.Common.{arith, ap, ◌∙◌, ◌≡◌, ◌*◌, ◌%◌,
 use Rattle.field25519.specs.Bytes.{joined_words}
 use Rattle.curve25519.specs.Curve25519.{order}
 use Rattle.ed25519.proofs.Reduction.{multiplied, chosen, ends}
-use Rattle.ed25519.proofs.order.product.Goals as goal
+use Rattle.ed25519.proofs.order.multiply.Goals as goal
 
 pub loop-i-preserved : goal.loop-i-preserved
 loop-i-preserved c =
-    multiplied (joined_words c.args.x.a c.args.x.b c.args.x.c c.args.x.d) (joined_words c.args.y.a c.args.y.b c.args.y.c c.args.y.d) c.loop-i.i _ _ _ _ c.loop-i-test.true c.loop-i.invariant c.doubled-twice.ensures
-    (chosen (joined_words c.args.x.a c.args.x.b c.args.x.c c.args.x.d) c.bit_at-bit.result _ c.bit_at-bit.ensures.low c.pick-more.ensures.first c.pick-more.ensures.second
+    multiplied (joined_words c.args.x.a c.args.x.b c.args.x.c c.args.x.d) (joined_words c.args.y.a c.args.y.b c.args.y.c c.args.y.d) c.loop-i.i _ _ _ _ c.loop-i-test.true c.loop-i.invariant c.double-twice.ensures
+    (chosen (joined_words c.args.x.a c.args.x.b c.args.x.c c.args.x.d) c.bit_at-bit.result _ c.bit_at-bit.ensures.low c.select-more.ensures.first c.select-more.ensures.second
     ∙ ap (λ b. (joined_words c.args.x.a c.args.x.b c.args.x.c c.args.x.d) * b) c.bit_at-bit.ensures.bit)
-    c.sum-all.ensures
+    c.add-all.ensures
 
 pub returns : goal.returns
 returns c =

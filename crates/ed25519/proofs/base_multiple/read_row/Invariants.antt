@@ -1,6 +1,6 @@
 use Rattle.std.proofs.Common.{◌≡◌, ◌<◌}
 use Rattle.ed25519.specs.Rows.{row_of}
-use Rattle.ed25519.proofs.base_multiple.select_row.Given as goal
+use Rattle.ed25519.proofs.base_multiple.read_row.Given as goal
 
 abbrev pub invariant-loop-i : goal.invariant-loop-i
 invariant-loop-i l = l.digit < l.i → l.row ≡ row_of l.list l.digit
