@@ -17,7 +17,7 @@ returns-in-Err-create-clause-does g c =
     let same : c.entrant.inside.candidate ≡ c.in-Ok.entrant.now.candidate = ap (λ (x : Entrant). x.candidate) c.entrant.view_is in (
       refl,
       λ h. create_refused g.S.Suite.crypto c.args.self.now c.args.candidate c.args.group.now c.args.seed.now c.in-Ok.entrant.now _ c.in-Ok.ensures
-          (ap (λ (x : Candidate). created g.S.Suite.crypto x c.args.group.now c.args.seed.now) (sym same) ∙ c.in-Err-create.ensures h),
+          (ap (λ (x : Candidate). created g.S.Suite.crypto x c.args.group.now c.args.seed.now) (sym same) ∙ c.in-Err-create.ensures.answer h),
     )
 
 pub begin_member-requires : goal.begin_member-requires
@@ -31,7 +31,7 @@ returns-clause-does g c =
     let seats : length w.seats ≡ length c.self.inside.seats.items = ap (λ (x : World). length x.seats) (sym c.self.view_is) ∙ length-map c.self.inside.seats.items (seat_of c.self.inside.journals) in
     let at : c.len.result ≡ length w.seats = omega (arith, c.len.ensures, stored, seats) in
     create_is g.S.Suite.crypto w c.begin_member.new.self c.args.candidate c.in_ok-number.number c.args.group.now c.args.seed.now c.in-Ok.entrant.now c.in-Ok-create.member c.in-Ok.ensures
-    (ap (λ (x : Candidate). created g.S.Suite.crypto x c.args.group.now c.args.seed.now) (sym same) ∙ c.in-Ok-create.ensures)
+    (ap (λ (x : Candidate). created g.S.Suite.crypto x c.args.group.now c.args.seed.now) (sym same) ∙ c.in-Ok-create.ensures.answer)
     c.in_ok-number.ensures.number
     (λ x q. subst (λ (i : ℕ). c.begin_member.new.self ≡ with_joined w c.args.candidate x (record { member = c.in-Ok-create.member; journal = begun (from.Creation i) })) at (c.in_ok-number.ensures.ok x q))
 
