@@ -1,5 +1,6 @@
 //! Hostile use: messages that are changed, cut, repeated and out of order, given to the members and candidates of small
-//! groups, with what these answer. Without words a fixed part; with the word `whole` each change of each message.
+//! groups, with what these answer. Without words a fixed part, a group of forty, and the recordings that lie where it runs;
+//! with the word `large` or `recordings` one of these, with `whole` each change of each message.
 #![tactic(auto)]
 
 mod acts;
@@ -7,32 +8,57 @@ mod changes;
 mod checks;
 mod forgery;
 mod groups;
+mod large;
 mod outcome;
 mod page;
 mod part;
 mod pieces;
+mod recordings;
 mod shape;
 mod stage;
 mod states;
 mod trial;
 mod whole;
 
-use anyhow::Result;
+use anyhow::{Result, bail};
 
-/// Whether the first word asks for the whole.
-fn wants_whole(rt: &HostRuntime) -> Result<bool> {
+/// What is run.
+#[derive(Clone, Copy)]
+enum Portion {
+    /// All that is fixed.
+    Fixed,
+    /// The group of forty alone.
+    Large,
+    /// The recordings alone.
+    Recordings,
+    /// Each change of each message.
+    Whole,
+}
+
+/// The portion that the first word asks for.
+fn wanted(rt: &HostRuntime) -> Result<Portion> {
     let words: Vec<String> = std::env::args(rt)?.collect(rt.alloc())?;
-    match words.get(1) {
-        Some(word) => Ok(word.as_str() == "whole"),
-        None => Ok(false),
+    let Some(word) = words.get(1) else {
+        return Ok(Portion::Fixed);
+    };
+    match word.as_str() {
+        "large" => Ok(Portion::Large),
+        "recordings" => Ok(Portion::Recordings),
+        "whole" => Ok(Portion::Whole),
+        _ => bail!("no portion of that name"),
     }
 }
 
 fn main(rt: HostRuntime) -> Result<()> {
     let alloc = rt.alloc();
-    if wants_whole(&rt)? {
-        whole::run(&rt, alloc)
-    } else {
-        part::run(&rt, alloc)
+    match wanted(&rt)? {
+        Portion::Fixed => {
+            part::run(&rt, alloc)?;
+            large::run(&rt, alloc)?;
+            recordings::run(&rt)
+        }
+        Portion::Large => large::run(&rt, alloc),
+        Portion::Recordings => recordings::run(&rt),
+        Portion::Whole => whole::run(&rt, alloc),
     }
 }

@@ -111,6 +111,16 @@ impl Stage {
         self.answered(reply)
     }
 
+    /// What a delivery or a join is answered.
+    pub fn answer(&mut self, event: &Event) -> Result<Outcome> {
+        match self.world.step(event)? {
+            Reply::Delivered { effect } => Ok(Outcome::of(effect)),
+            Reply::Joined { epoch, .. } => Ok(Outcome::Joined(epoch)),
+            Reply::Refused { number } => Ok(Outcome::Refused(number)),
+            _ => bail!("no delivery, and no join"),
+        }
+    }
+
     /// One act, which isn't refused.
     fn act(&mut self, alloc: Global, act: Act) -> Result<()> {
         match act {
