@@ -1,7 +1,7 @@
 //! What `mls show` prints, and what the program says of faults.
 
 mod check;
-mod hostile;
+mod ends;
 mod replay;
 mod rows;
 mod vectors;
@@ -35,6 +35,15 @@ const HELP: &str =
 
 const SHOW_HELP: &str =
     "Prints a message field by field\n\nUsage: mls show <FILE>\n\nArguments:\n  <FILE>  An MLSMessage in hex, or - for the standard input\n\nOptions:\n  -h, --help  Print help\n";
+
+const CHECK_HELP: &str =
+    "Checks a ratchet tree\n\nUsage: mls check [OPTIONS] <FILE>\n\nArguments:\n  <FILE>  A ratchet tree in hex, or - for the standard input\n\nOptions:\n      --suite <SUITE>  The group's cipher suite, f001 or 0001 [default: f001]\n      --group <HEX>    The group's id, empty by default\n  -h, --help           Print help\n";
+
+const REPLAY_HELP: &str =
+    "Replays a recording of groups\n\nUsage: mls replay <FILE>\n\nArguments:\n  <FILE>  A recording in JSON, or - for the standard input\n\nOptions:\n  -h, --help  Print help\n";
+
+const VECTORS_HELP: &str =
+    "Judges test vectors\n\nUsage: mls vectors <FILE>\n\nArguments:\n  <FILE>  A JSON array of vectors, or - for the standard input\n\nOptions:\n  -h, --help  Print help\n";
 
 const NO_TEXT: &str =
     "error: invalid UTF-8 was detected in one or more arguments\n\nUsage: mls <COMMAND>\n\nFor more information, try '--help'.\n";
@@ -133,7 +142,7 @@ impl Read for Broken<'_> {
 fn shows_and_refuses(rt: HostRuntime) -> Result<(), Fail> {
     let alloc = rt.alloc();
     let longer = format!(in alloc; "\r\n\t {KEY_PACKAGE}00\n")?;
-    let table: [(&str, u8, &str); 6] = [
+    let table: [(&str, u8, &str); 7] = [
         (KEY_PACKAGE, 0, TEXT),
         (longer.as_str(), 1, "refused: 3 Trailing\n"),
         (&KEY_PACKAGE[..106], 1, "refused: 2 Truncated\n"),
@@ -148,6 +157,7 @@ fn shows_and_refuses(rt: HostRuntime) -> Result<(), Fail> {
             "refused: 11 UnsupportedCredential\n",
         ),
         ("0", 1, "refused: 8 NotHex\n"),
+        ("zz", 1, "refused: 8 NotHex\n"),
     ];
     let words = ["mls", "show", "FILE"];
     for (file, status, text) in table {
@@ -264,10 +274,13 @@ fn says_what_is_wrong(rt: HostRuntime) -> Result<(), Fail> {
 #[test]
 fn prints_help(rt: HostRuntime) -> Result<(), Fail> {
     let alloc = rt.alloc();
-    let table: [(&[&str], &str); 5] = [
+    let table: [(&[&str], &str); 8] = [
         (&["mls", "--help"], HELP),
         (&["mls", "help", "show"], SHOW_HELP),
         (&["mls", "show", "--help"], SHOW_HELP),
+        (&["mls", "check", "--help"], CHECK_HELP),
+        (&["mls", "replay", "--help"], REPLAY_HELP),
+        (&["mls", "vectors", "-h"], VECTORS_HELP),
         (&["mls", "--version"], "mls 0.1.0\n"),
         (&["mls", "-V"], "mls 0.1.0\n"),
     ];

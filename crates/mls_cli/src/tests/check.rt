@@ -22,7 +22,7 @@ const LINES_OF_SUITE_1: &str =
 #[test]
 fn checks_and_refuses(rt: HostRuntime) -> Result<(), Fail> {
     let alloc = rt.alloc();
-    let table: [(&[&str], &str, u8, &str); 9] = [
+    let table: [(&[&str], &str, u8, &str); 11] = [
         (&["mls", "check", "FILE"], TREE, 1, LINES),
         (
             &["mls", "check", "FILE", "--suite", "0001", "--group", "67"],
@@ -43,6 +43,13 @@ fn checks_and_refuses(rt: HostRuntime) -> Result<(), Fail> {
             "refused: 20 TreeShape\n",
         ),
         (&["mls", "check", "FILE"], "0", 1, "refused: 8 NotHex\n"),
+        (&["mls", "check", "FILE"], "zz", 1, "refused: 8 NotHex\n"),
+        (
+            &["mls", "check", "FILE", "--group", "zz"],
+            "02",
+            1,
+            "refused: 8 NotHex\n",
+        ),
         (&["mls", "check", "FILE"], "02", 1, "refused: 2 Truncated\n"),
         (
             &["mls", "check", "FILE", "--group", "6"],

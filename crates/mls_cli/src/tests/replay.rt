@@ -157,8 +157,9 @@ fn replays_less(rt: HostRuntime) -> Result<(), Fail> {
 #[test]
 fn refuses_recordings(rt: HostRuntime) -> Result<(), Fail> {
     let alloc = rt.alloc();
-    let table: [(&str, &str); 9] = [
+    let table: [(&str, &str); 10] = [
         ("", BAD_JSON),
+        ("zz", BAD_JSON),
         ("[]", BAD_JSON),
         (r#"{"version":2,"suite":"f001","events":[]}"#, BAD_JSON),
         (r#"{"version":1,"suite":"0001","events":[]}"#, BAD_JSON),

@@ -101,8 +101,9 @@ fn judges(rt: HostRuntime) -> Result<(), Fail> {
 #[test]
 fn refuses_files(rt: HostRuntime) -> Result<(), Fail> {
     let alloc = rt.alloc();
-    let table: [(&str, &str); 18] = [
+    let table: [(&str, &str); 19] = [
         ("[", BAD_JSON),
+        ("zz", BAD_JSON),
         ("{}", BAD_JSON),
         ("[7]", BAD_JSON),
         (r#"[{"length":1,"bytes":"01"}]"#, BAD_JSON),
