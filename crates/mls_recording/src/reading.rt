@@ -1,9 +1,11 @@
 //! All of a recording, read in one pass.
 
-ghost use Rattle.std.specs.Prelude.{map, option_map};
+ghost use Rattle.std.specs.Prelude.{◌≡◌, Err, map, option_map};
+ghost use Rattle.std.specs.Str.{IsUtf8};
 ghost use Rattle.serde_json.specs.View.{view, items_view};
 ghost use Rattle.mls_wire.specs.Checks.{Answers};
 ghost use Rattle.mls_json.specs.Faults.{Finds, number_of};
+ghost use Rattle.mls_json.specs.declared.error.JsonError.TheVariants.{BadJson};
 ghost use Rattle.mls_recording.specs.Calls.{recorded_view};
 ghost use Rattle.mls_recording.specs.Recording.{each_of, events_in, recorded_in, recording};
 
@@ -83,7 +85,9 @@ fn events(alloc: Global, value: &Value) -> Result<Option<Vec<Recorded>>, JsonErr
 /// shape (BadJson, 9), or else that a text in it isn't hex (NotHex, 8).
 #[tactic(auto, unfolding(crate::specs::Recording::recording))]
 pub fn recording(alloc: Global, text: &[u8]) -> Result<Vec<Recorded>, JsonError>
-    ensures { Answers (λ v. map recorded_view v.items) number_of (recording text.now) result }
+    ensures calls { Answers (λ v. map recorded_view v.items) number_of (recording text.now) result }
+    // A file that is no text is refused also when an allocation fails.
+    ensures no_text { ¬ (IsUtf8 text.now) → result ≡ Err BadJson }
 {
     let value = value_in(alloc, text)?;
     match events(alloc, &value)? {

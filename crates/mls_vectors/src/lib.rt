@@ -5,7 +5,8 @@ mod reading;
 mod report;
 mod verdict;
 
-ghost use Rattle.std.specs.Prelude.{◌≡◌, Ok, map, IfOk};
+ghost use Rattle.std.specs.Prelude.{◌≡◌, Ok, map, IfOk, IsOk};
+ghost use Rattle.std.specs.Str.{IsUtf8};
 ghost use Rattle.mls_text.specs.Page.{page_of};
 ghost use Rattle.mls_vectors.specs.Vectors.{vector_view};
 ghost use Rattle.mls_vectors.specs.VectorsReport.{entry_of, page_on, vectors_page};
@@ -29,7 +30,9 @@ fn judged(alloc: Global, vectors: &[Vector]) -> Result<Page<ReportLine>, AllocEr
 /// What is printed of a vector file: the report on its vectors, or the refusal of the file (9, 8).
 #[tactic(auto, unfolding(crate::specs::VectorsReport::vectors_page))]
 pub fn vectors_page(alloc: Global, text: &[u8]) -> Result<Page<ReportLine>, AllocError>
-    ensures { IfOk result (λ page. page_of entry_of page ≡ vectors_page text.now) }
+    ensures page { IfOk result (λ page. page_of entry_of page ≡ vectors_page text.now) }
+    // A file that is no text is refused also when an allocation fails.
+    ensures no_text { ¬ (IsUtf8 text.now) → IsOk result }
 {
     match vectors_in(alloc, text) {
         Ok(vectors) => judged(alloc, vectors.as_slice()),

@@ -1,10 +1,12 @@
 //! The vectors of a file, read in one pass. A text that isn't hex is kept as None: a fault of the file's shape that comes
 //! later goes before it.
 
-ghost use Rattle.std.specs.Prelude.{◌≡◌, ◌&&◌, ◌++◌, is_some, map, option_map, option_and_then, OnOk, IfOk, string_bytes};
+ghost use Rattle.std.specs.Prelude.{◌≡◌, Err, ◌&&◌, ◌++◌, is_some, map, option_map, option_and_then, OnOk, IfOk, string_bytes};
+ghost use Rattle.std.specs.Str.{IsUtf8};
 ghost use Rattle.serde_json.specs.Find.{get};
 ghost use Rattle.serde_json.specs.View.{view, items_view};
 ghost use Rattle.mls_json.specs.Faults.{Finds};
+ghost use Rattle.mls_json.specs.declared.error.JsonError.TheVariants.{BadJson};
 ghost use Rattle.mls_vectors.specs.Vectors.{vector_view};
 ghost use Rattle.mls_vectors.specs.VectorsFile.{Reads, claim_in, claims_in, claims_of, expand_in, expand_of, header_in, header_of, hex_or_null, hkdf_in, hkdf_of, hmac_in, hmac_of, kind_in, label_at, listed_one, message_in, message_of, numbered, numbers_at, numbers_of, tree_in, tree_of, treemath_in};
 
@@ -363,7 +365,8 @@ fn vectors_of(alloc: Global, values: &[Value]) -> Result<Vec<Vector>, JsonError>
 /// The vectors of a file, or the fault of its shape (9), or else that a text in it isn't hex (8).
 #[tactic(auto, unfolding(crate::specs::VectorsFile::claims_in))]
 pub fn vectors_in(alloc: Global, file: &[u8]) -> Result<Vec<Vector>, JsonError>
-    ensures { Reads result (claims_in file.now) }
+    ensures vectors { Reads result (claims_in file.now) }
+    ensures no_text { ¬ (IsUtf8 file.now) → result ≡ Err BadJson }
 {
     let value = value_in(alloc, file)?;
     match value.as_array() {
