@@ -16,4 +16,4 @@ returns-in-Check-clause-prints g c =
 
 pub returns-in-Vectors-clause-prints : goal.returns-in-Vectors-clause-prints
 returns-in-Vectors-clause-prints g c =
-    rw c.in-Vectors.is (prints_it _ _ _ _ _ refl (made_prints entry_text report_entry_of _ _ c.vectors_page.result _ _ c.vectors_page.ensures c.print_made_page-in-Vectors.ensures.prints))
+    rw c.in-Vectors.is (prints_it _ _ _ _ _ refl (made_prints entry_text report_entry_of _ _ c.vectors_page.result _ _ c.vectors_page.ensures.page c.print_made_page-in-Vectors.ensures.prints))
