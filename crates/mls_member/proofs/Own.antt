@@ -1,7 +1,8 @@
 -- Own proposals are short.
-use Rattle.std.proofs.Common.{◌≡◌, ℕ, ◌+◌, ◌<◌, ◌≤◌, ◌^◌, List, [], ◌++◌, length, Ok, refl, ap, subst, arith, lit<, length-append}
+use Rattle.std.proofs.Common.{◌≡◌, ℕ, ◌+◌, ◌<◌, ◌≤◌, ◌^◌, List, [], ◌++◌, length, Ok, Err, refl, sym, ap, subst, arith, lit<, length-append}
+use Rattle.std.specs.Prelude.{is_some}
 use Rattle.std.specs.Int.{w16}
-use Rattle.mls_wire.specs.Checks.{passed}
+use Rattle.mls_wire.specs.Checks.{passed, require}
 use Rattle.mls_wire.specs.Reading.{uint, opaque}
 use Rattle.mls_leaf.specs.Inputs.{leaf_content}
 use Rattle.mls_leaf.specs.InputLaws.{leaf_node-spelled}
@@ -22,6 +23,7 @@ use Rattle.mls_types.specs.declared.signed.SignedContent.{SignedContent}
 use Rattle.mls_checks.specs.Short.{IsShort}
 use Rattle.mls_suite.specs.Crypto.{Crypto, Lawful}
 use Rattle.mls_suite.specs.LabelLaws.{signs_short}
+use Rattle.mls_term.specs.Term.{leaf_of}
 use Rattle.mls_public_group.specs.Lengths.{opaque_most}
 use Rattle.mls_public_group.specs.Limits.{length_within}
 use Rattle.mls_public_group.specs.Short.{IsBelow}
@@ -99,3 +101,7 @@ unfolding proposal_format
 update_short c laws m old made seed b e fits =
     let most : length (leaf_node.spell made) < 2 ^ 27 + 2 ^ 20 = rw e (updated_length c laws m old seed b) in
     record { fits = (lit< tt, fits); short = omega (arith, ap length (update_spelled made), length-append (uint w16 2) (leaf_node.spell made), two, most) }
+
+-- that nobody is at a leaf, in the state of a member's parts
+pub no_leaf_at : (m v : Member) (leaf n : ℕ) → v ≡ m → require 22 (is_some (leaf_of m.public.tree leaf)) ≡ Err n → require 22 (is_some (leaf_of v.public.tree leaf)) ≡ Err n
+no_leaf_at m v leaf n same h = subst (λ (x : Member). require 22 (is_some (leaf_of x.public.tree leaf)) ≡ Err n) (sym same) h

@@ -51,18 +51,20 @@ says_handshake (view_of.Application text) = false
 says_handshake (view_of.Proposal part) = true
 says_handshake (view_of.Commit proposals path) = true
 
--- the same of a message
+-- the same of a message, and 46 its membership tag (RFC 9420, 6.2)
 abbrev pub sender_of : Member → PublicMessage → Result LeafNode ℕ
-sender_of m v = sender_at m v.content.group_id v.content.epoch (sender_leaf v.content.sender) (is_handshake v.content.body)
+sender_of m v = do
+  leaf ← sender_at m v.content.group_id v.content.epoch (sender_leaf v.content.sender) (is_handshake v.content.body)
+  require 46 (bytes_eq v.membership_tag (content_tag m.epoch v.content m.public.context))
+  Ok leaf
 
--- 46 the membership tag, 47 the signature, 48 the member's own leaf, and no proposal that it keeps (RFC 9420, 6.1 and 6.2)
+-- 47 the signature, 48 the member's own leaf, and no proposal that it keeps (RFC 9420, 6.1)
 unfoldable pub vouched : Crypto → Member → PublicMessage → List ℕ → LeafNode → Result Passed ℕ
 vouched c m v bytes leaf = do
-  require 46 (bytes_eq v.membership_tag (content_tag m.epoch v.content m.public.context))
   require 47 (is_content_signed c leaf.signature_key v.content m.public.context)
   require 48 (not (sender_leaf v.content.sender == m.keys.leaf) || is_kept m.kept bytes)
 
--- the checks of bytes that take no memory: decoding, 41 no PublicMessage, and 42 to 45
+-- the checks of bytes that take no memory: decoding, 41 no PublicMessage, and 42 to 46
 unfoldable pub outer_checks : Member → List ℕ → Result LeafNode ℕ
 outer_checks m bytes = do
   whole ← decoded bytes

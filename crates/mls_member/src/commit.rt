@@ -1,6 +1,6 @@
 //! Committing.
 
-ghost use Rattle.std.specs.Prelude.{◌≡◌, ◌+◌, ◌<◌, ◌^◌, true, false, Err, is_some, IsSome, IfOk, map};
+ghost use Rattle.std.specs.Prelude.{◌≡◌, ◌+◌, ◌<◌, ◌≤◌, ◌^◌, true, false, None, Err, is_some, IsSome, IfOk, map};
 ghost use Rattle.std.specs.List.{AllByRecursion};
 ghost use Rattle.mls_wire.specs.Checks.{Answers, DoesAs};
 ghost use Rattle.mls_claims.specs.Spelled.{FullFits};
@@ -11,7 +11,7 @@ ghost use Rattle.mls_model.specs.Member.{used_by};
 ghost use Rattle.mls_member.specs.Answers.{messages_of, AreShortItems, HasMade};
 ghost use Rattle.mls_member.specs.Committing.{made_of_list, made_and_kept};
 ghost use Rattle.mls_member.specs.Faults.{number_of};
-ghost use Rattle.mls_member.specs.declared.error.Refusal.TheVariants.{Gone, PendingCommit};
+ghost use Rattle.mls_member.specs.declared.error.Refusal.TheVariants.{Gone, PendingCommit, EpochEnd};
 
 use crate::error::Refusal;
 use crate::items::{listed, used_of_items};
@@ -98,9 +98,10 @@ impl<S: Suite> Member<S> {
         ensures answer { DoesAs messages_of number_of (committed S.crypto self.old (map listed_of items.now) path seed.now) self.old self.new result }
         ensures good { IsGoodMember S.crypto self.old → IsGoodMember S.crypto self.new }
         ensures reaches { IsGoodMember S.crypto self.old → IfOk result (λ made. HasMade S.crypto self.old self.new (map listed_of items.now) made) }
-        // These two take no memory.
+        // These three come also when an allocation fails.
         ensures gone { self.old.gone ≡ true → result ≡ Err Gone }
         ensures pending { self.old.gone ≡ false → IsSome self.old.pending → result ≡ Err PendingCommit }
+        ensures last { self.old.gone ≡ false → self.old.pending ≡ None → 2 ^ 64 ≤ self.old.public.context.epoch + 1 → result ≡ Err EpochEnd }
     {
         if self.is_gone() {
             return Err(Refusal::Gone);

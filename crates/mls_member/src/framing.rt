@@ -75,14 +75,18 @@ impl<S: Suite> Member<S> {
         Ok(leaf)
     }
 
-    /// The same of a message.
+    /// The same of a message, and 46 its membership tag (RFC 9420, 6.2). It takes no memory.
     fn sender_of(&self, view: &PublicMessageView<'_>) -> Result<&LeafNode, Refusal>
         ensures { (shown : messages.PublicMessage) → ShowsPublic view.now shown → AnswersOutright (λ l. l.now) number_of (sender_of self.now shown) result }
     {
         let content = &view.content;
         let sender = sender_leaf(&content.sender);
         let is_handshake = says_handshake(&content.content);
-        self.sender_at(content.group_id, content.epoch, sender, is_handshake)
+        let leaf = self.sender_at(content.group_id, content.epoch, sender, is_handshake)?;
+        if !self.has_tag(view) {
+            return Err(Refusal::BadMembershipTag);
+        }
+        Ok(leaf)
     }
 
     /// Whether the membership tag is that of the message (RFC 9420, 6.2). It takes no memory.
@@ -110,7 +114,7 @@ impl<S: Suite> Member<S> {
         verify_with_label::<S>(self.alloc, key, "FramedContentTBS", &input, signature)
     }
 
-    /// 46 the membership tag (RFC 9420, 6.2), 47 the signature (6.1), 48 the member's own leaf, and no proposal that it keeps.
+    /// 47 the signature (RFC 9420, 6.1), 48 the member's own leaf, and no proposal that it keeps.
     #[tactic(auto, unfolding(crate::specs::Process::vouched))]
     fn vouched(
         &self,
@@ -121,9 +125,6 @@ impl<S: Suite> Member<S> {
         requires { IsShortView view.now }
         ensures { (shown : messages.PublicMessage) → ShowsPublic view.now shown → Answers (λ _. passed) number_of (vouched S.crypto self.now shown bytes.now leaf.now) result }
     {
-        if !self.has_tag(view) {
-            return Err(Refusal::BadMembershipTag);
-        }
         if !self.is_signed(view, leaf.signature_key.as_slice())? {
             return Err(Refusal::BadSignature);
         }
@@ -143,7 +144,7 @@ impl<S: Suite> Member<S> {
     ) -> Result<(), Refusal>
         requires { IsShortView view.now }
         ensures answer { (shown : messages.PublicMessage) → ShowsPublic view.now shown → Answers (λ _. passed) number_of (framing_checks S.crypto self.now shown bytes.now) result }
-        // 42 to 45 come whatever memory there is.
+        // 42 to 46 come also when an allocation fails.
         ensures outright { (shown : messages.PublicMessage) → ShowsPublic view.now shown → RefusesOutright number_of (sender_of self.now shown) result }
     {
         let leaf = self.sender_of(view)?;

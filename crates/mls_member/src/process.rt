@@ -47,7 +47,7 @@ impl<S: Suite> Member<S> {
         ensures good { IsGoodMember S.crypto self.old → IsGoodMember S.crypto self.new }
         ensures gone { self.old.gone ≡ true → result ≡ Err Gone }
         ensures own { self.old.gone ≡ false → IsSome (own_pending self.old.pending bytes.now) → IsOk result }
-        // Of other bytes, faults of decoding and 41 to 45 come whatever memory there is.
+        // Of other bytes, faults of decoding and 41 to 46 come also when an allocation fails.
         ensures outright { self.old.gone ≡ false → own_pending self.old.pending bytes.now ≡ None → RefusesOutright number_of (outer_checks self.old bytes.now) result }
     {
         if self.gone {

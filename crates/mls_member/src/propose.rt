@@ -1,13 +1,15 @@
 //! Proposing. Where a call ends early, a large proposal is given to `drop`: that is one call, and the prover doesn't take
 //! it apart there.
 
-ghost use Rattle.std.specs.Prelude.{◌≡◌, ◌^◌, true, Err, IfOk};
-ghost use Rattle.mls_wire.specs.Checks.{Answers, DoesAs, passed};
+ghost use Rattle.std.specs.Prelude.{◌≡◌, ◌^◌, true, false, Err, is_some, IfOk};
+ghost use Rattle.mls_wire.specs.Checks.{Answers, AnswersOutright, DoesAs, passed, require};
 ghost use Rattle.mls_leaf.specs.KeyPackage.{key_package as key_package_format};
 ghost use Rattle.mls_leaf.specs.Proposal.{proposal as proposal_format};
 ghost use Rattle.mls_leaf.specs.declared.proposal.Proposal.TheVariants.{Update};
 ghost use Rattle.mls_checks.specs.Checks.{key_package_checks};
 ghost use Rattle.mls_checks.specs.Short.{IsShort};
+ghost use Rattle.mls_term.specs.Term.{leaf_of};
+ghost use Rattle.mls_tree.specs.Refusals.{RefusesOutright};
 ghost use Rattle.mls_public_group.specs.Faults.{number_of as number_of_group};
 ghost use Rattle.mls_public_group.specs.Short.{IsBelow};
 ghost use Rattle.mls_model.specs.Agreement.{IsGoodMember};
@@ -54,6 +56,16 @@ impl<S: Suite> Member<S> {
         Ok(leaf)
     }
 
+    /// That the member has a leaf: 22. It takes no memory.
+    fn require_own_leaf(&self) -> Result<(), GroupError>
+        ensures { AnswersOutright (λ _. passed) number_of_group (require 22 (is_some (leaf_of self.now.public.tree self.now.keys.leaf))) result }
+    {
+        match self.group.tree().leaf(self.keys.leaf()) {
+            Some(_) => Ok(()),
+            None => Err(GroupError::Tree(TreeError::NoSuchLeaf)),
+        }
+    }
+
     /// Proposes to add a KeyPackage: its message, which the member keeps. 40 the member was removed, then the checks of the
     /// KeyPackage, 6 the message is too long, 49 another message is kept under its reference (RFC 9420, 12.1.1).
     #[tactic(auto, unfolding(mls_model::specs::Propose::proposed_add, mls_model::specs::Propose::proposed, mls_model::specs::Proposals::proposal_checks))]
@@ -77,12 +89,14 @@ impl<S: Suite> Member<S> {
     pub fn propose_update(&mut self, seed: &Seed) -> Result<Vec<u8>, Refusal>
         ensures answer { DoesAs (λ v. v.items) number_of (proposed_update S.crypto self.old seed.now) self.old self.new result }
         ensures good { IsGoodMember S.crypto self.old → IsGoodMember S.crypto self.new }
-        // It takes no memory.
+        // 40, and then 22, come also when an allocation fails.
         ensures gone { self.old.gone ≡ true → result ≡ Err Gone }
+        ensures no_leaf { self.old.gone ≡ false → RefusesOutright number_of (require 22 (is_some (leaf_of self.old.public.tree self.old.keys.leaf))) result }
     {
         if self.gone {
             return Err(Refusal::Gone);
         }
+        self.require_own_leaf()?;
         let own_key = leaf_key::<S>(self.alloc, seed)?;
         let proposal = Proposal::Update(self.updated_leaf(seed)?);
         let sender = self.keys.leaf();
@@ -102,8 +116,9 @@ impl<S: Suite> Member<S> {
     pub fn propose_remove(&mut self, leaf: u32) -> Result<Vec<u8>, Refusal>
         ensures answer { DoesAs (λ v. v.items) number_of (proposed_remove S.crypto self.old leaf) self.old self.new result }
         ensures good { IsGoodMember S.crypto self.old → IsGoodMember S.crypto self.new }
-        // It takes no memory.
+        // 40, and then 22, come also when an allocation fails.
         ensures gone { self.old.gone ≡ true → result ≡ Err Gone }
+        ensures no_leaf { self.old.gone ≡ false → RefusesOutright number_of (require 22 (is_some (leaf_of self.old.public.tree leaf))) result }
     {
         if self.gone {
             return Err(Refusal::Gone);

@@ -18,7 +18,7 @@ impl<S: Suite> Member<S> {
     /// What bytes do: decoding, 41 no PublicMessage, the checks of every message, and then by content (RFC 9420, 6).
     pub(crate) fn received(&mut self, bytes: &[u8]) -> Result<Effect, Refusal>
         ensures verdict { DoesAs (λ e. e) number_of (received S.crypto self.old bytes.now) self.old self.new result }
-        // Decoding, and 41 to 45, come whatever memory there is.
+        // Decoding, and 41 to 46, come also when an allocation fails.
         ensures outright { RefusesOutright number_of (outer_checks self.old bytes.now) result }
     {
         match MessageView::read(bytes)? {

@@ -1,4 +1,4 @@
-use Rattle.std.proofs.Common.{refl, sym, ◌∙◌}
+use Rattle.std.proofs.Common.{refl, sym, ◌∙◌, arith}
 use Rattle.mls_member.proofs.CommitSteps.{has_room}
 use Rattle.mls_member.proofs.Good.{commit_good}
 use Rattle.mls_member.proofs.Commits.{is_gone, is_pending, is_last, commit_fails, commit_does}
@@ -40,3 +40,9 @@ returns-in-Ok-clause-good g c = λ good. (commit_good g.S.Suite.crypto g.met.S.S
 
 pub returns-in-Ok-clause-reaches : goal.returns-in-Ok-clause-reaches
 returns-in-Ok-clause-reaches g c = λ good. (commit_good g.S.Suite.crypto g.met.S.Suite.lawful c.args.self.now _ _ c.args.path c.args.seed.now _ good c.in-Ok.ensures.full (returns-in-Ok-clause-answer g c)).1
+
+pub returns-in-Err-clause-last : goal.returns-in-Err-clause-last
+returns-in-Err-clause-last g c = λ here none over. let room = has_room _ (sym c.has_next.ensures ∙ c.if-not-has_next.false) in absurd (omega (arith, room, over))
+
+pub returns-in-Ok-clause-last : goal.returns-in-Ok-clause-last
+returns-in-Ok-clause-last g c = λ here none over. let room = has_room _ (sym c.has_next.ensures ∙ c.if-not-has_next.false) in absurd (omega (arith, room, over))
