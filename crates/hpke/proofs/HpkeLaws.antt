@@ -7,7 +7,7 @@ use Rattle.field25519.specs.Bytes.{decode_little}
 use Rattle.x25519.specs.Rfc7748.{x25519_bytes, clear_cofactor_bytes, nine_bytes}
 use Rattle.x25519.proofs.Bytes.{exchange_law, nonzero_law, high_order_law}
 use Rattle.aes128gcm.proofs.GcmLaws as gcm
-use Rattle.mls_kdf.specs.Lengths.{length-expand}
+use Rattle.mls_kdf.proofs.Lengths.{length-expand}
 use Rattle.hpke.specs.Rfc9180.{labeled_expand, dh, public, derive, is_zero, eight_times, is_fit, extract_and_expand, encap, encapsulated_key, decap, key, base_nonce, context_seal, context_open, seal_base, open_base}
 use Rattle.hpke.specs.Laws.{OpensSealed, SealsWhereFit, PublicIsFit, PublicIsShort}
 

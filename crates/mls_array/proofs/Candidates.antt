@@ -13,8 +13,8 @@ use Rattle.mls_term.specs.Hashes.{hash_at}
 use Rattle.mls_term.specs.Arrays.{leaf_in, parent_in, term_of}
 use Rattle.mls_array.specs.Witnesses.{numbers_in, others, first_off, kept, only_off, candidate}
 use Rattle.mls_array.proofs.Others.{find_here, find_later}
-use Rattle.mls_term.specs.ArrayLaws.{term_of-zero}
-use Rattle.mls_term.specs.ArrayLaws.{width-term_of}
+use Rattle.mls_term.proofs.ArrayLaws.{term_of-zero}
+use Rattle.mls_term.proofs.ArrayLaws.{width-term_of}
 use Rattle.mls_array.proofs.Readings.{leaf_term, left_side, right_side, InParts}
 
 -- ---- the first node that a list doesn't have, from place i on

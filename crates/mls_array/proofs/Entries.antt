@@ -8,11 +8,11 @@ use Rattle.mls_treemath.specs.Paths.{nodes_in}
 use Rattle.mls_term.specs.Term.{Branch}
 use Rattle.mls_term.specs.Edits.{enter, listing}
 use Rattle.mls_term.specs.Arrays.{leaf_in, parent_in, leaf_cell, parent_cell, term_of, in_order, HasMiddle}
-use Rattle.mls_term.specs.Equations.{enter_leaf, enter_left, enter_right}
+use Rattle.mls_term.proofs.Equations.{enter_leaf, enter_left, enter_right}
 use Rattle.mls_array.specs.Standing.{Stands}
-use Rattle.mls_term.specs.ArrayLaws.{width-term_of}
-use Rattle.mls_array.specs.StandingLaws.{in_order-leaf}
-use Rattle.mls_term.specs.ArrayLaws.{term_of-zero}
+use Rattle.mls_term.proofs.ArrayLaws.{width-term_of}
+use Rattle.mls_array.proofs.StandingLaws.{in_order-leaf}
+use Rattle.mls_term.proofs.ArrayLaws.{term_of-zero}
 use Rattle.mls_array.proofs.Parts.{split}
 use Rattle.mls_array.proofs.Standings.{half, left_put, right_put, left_stands, right_stands, root_stands, with_left, with_right, one_set}
 

@@ -5,8 +5,8 @@ use Rattle.mls_term.specs.Term.{size}
 use Rattle.mls_term.specs.Resolution.{is_reached}
 use Rattle.mls_term.specs.Way.{filtered_path, target_count, ciphertext_counts}
 use Rattle.mls_term.specs.Arrays.{leaf_in, parent_in, term_of}
-use Rattle.mls_term.specs.Equations.{filtered_path_leaf, filtered_path_left, filtered_path_right, ciphertext_counts_leaf, ciphertext_counts_left, ciphertext_counts_right}
-use Rattle.mls_term.specs.ArrayLaws.{term_of-zero}
+use Rattle.mls_term.proofs.Equations.{filtered_path_leaf, filtered_path_left, filtered_path_right, ciphertext_counts_leaf, ciphertext_counts_left, ciphertext_counts_right}
+use Rattle.mls_term.proofs.ArrayLaws.{term_of-zero}
 use Rattle.mls_array.proofs.Readings.{left_side, right_side, InParts}
 
 pub filtered_no_more : (b h i : ℕ) (xs : List (Option Node)) → h ≡ 0 → filtered_path b (term_of h xs) i ≡ []

@@ -5,7 +5,7 @@ use Rattle.mls_treemath.specs.Paths.{nodes_in}
 use Rattle.mls_term.specs.Inputs.{leaf_hash, branch_hash}
 use Rattle.mls_term.specs.Hashes.{tree_hash}
 use Rattle.mls_term.specs.Arrays.{leaf_in, parent_in, term_of}
-use Rattle.mls_term.specs.Equations.{tree_hash_leaf, tree_hash_branch}
+use Rattle.mls_term.proofs.Equations.{tree_hash_leaf, tree_hash_branch}
 use Rattle.mls_array.proofs.Readings.{leaf_term, left_side, right_side, InParts}
 
 pub hash_one : (b h : ℕ) (xs : List (Option Node)) (n : Option Node) → h ≡ 0 → length xs ≡ nodes_in h → n ≡ get_or xs 0 n → tree_hash b (term_of h xs) ≡ leaf_hash b (leaf_in n)

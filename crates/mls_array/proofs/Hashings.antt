@@ -8,10 +8,10 @@ use Rattle.mls_term.specs.Term.{Term, Leaf, Branch, width, size}
 use Rattle.mls_term.specs.Inputs.{leaf_hash}
 use Rattle.mls_term.specs.Hashes.{tree_hash}
 use Rattle.mls_term.specs.Arrays.{leaf_in, term_of}
-use Rattle.mls_term.specs.ArrayLaws.{size-term_of, term_of-zero, term_of-suc}
-use Rattle.mls_term.specs.Equations.{tree_hash_leaf}
+use Rattle.mls_term.proofs.ArrayLaws.{size-term_of, term_of-zero, term_of-suc}
+use Rattle.mls_term.proofs.Equations.{tree_hash_leaf}
 use Rattle.mls_array.specs.Kept.{hashes_of}
-use Rattle.mls_array.specs.KeptLaws.{length-hashes_of}
+use Rattle.mls_array.proofs.KeptLaws.{length-hashes_of}
 use Rattle.mls_array.proofs.Readings.{leaf_term, left_side, right_side, InParts}
 
 pub hashes_one : (b h : ℕ) (xs : List (Option Node)) (n : Option Node) → h ≡ 0 → length xs ≡ nodes_in h → n ≡ get_or xs 0 n → hashes_of b (term_of h xs) ≡ Some (leaf_hash b (leaf_in n)) ∷ []

@@ -5,15 +5,15 @@ use Rattle.std.proofs.lemmas.Bool.{true≢false, and_parts}
 use borrow.Rule.Slice.PartMut.{put_mid}
 use Rattle.mls_leaf.specs.declared.node.Node.{Node}
 use Rattle.mls_treemath.specs.Paths.{nodes_in}
-use Rattle.mls_treemath.specs.Sizes.{nodes_in-zero}
+use Rattle.mls_treemath.proofs.Sizes.{nodes_in-zero}
 use Rattle.mls_term.specs.Term.{Term, Leaf, Branch, width, size, is_perfect}
 use Rattle.mls_term.specs.Hashes.{tree_hash}
 use Rattle.mls_term.specs.Arrays.{leaf_in, term_of, HasMiddle}
-use Rattle.mls_term.specs.ShapeLaws.{width-perfect}
-use Rattle.mls_term.specs.ArrayLaws.{size-perfect}
+use Rattle.mls_term.proofs.ShapeLaws.{width-perfect}
+use Rattle.mls_term.proofs.ArrayLaws.{size-perfect}
 use Rattle.mls_hash.specs.Counter.{counted}
 use Rattle.mls_array.specs.Kept.{hashes_of, Keeps, dropped, cold_places}
-use Rattle.mls_array.specs.KeptLaws.{length-hashes_of, keeps_sides, warm_leaf, warm_branch, KeepsSides, cold-append, cold-cons, dropped_leaf, dropped_left, dropped_right, none_cold}
+use Rattle.mls_array.proofs.KeptLaws.{length-hashes_of, keeps_sides, warm_leaf, warm_branch, KeepsSides, cold-append, cold-cons, dropped_leaf, dropped_left, dropped_right, none_cold}
 use Rattle.mls_term.specs.Inputs.{leaf_hash}
 use Rattle.mls_array.proofs.Hashed.{hash_one}
 use Rattle.mls_array.proofs.Hashings.{hashes_one, hashes_sides}

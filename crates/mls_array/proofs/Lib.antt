@@ -1,3 +1,11 @@
+pub mod EndLaws
+pub mod Gathered
+pub mod GatheredLaws
+pub mod KeptLaws
+pub mod MergingLaws
+pub mod OrderLaws
+pub mod StandingLaws
+pub mod WayHashLaws
 pub mod Parts
 pub mod Readings
 pub mod Resolving

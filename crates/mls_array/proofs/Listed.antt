@@ -9,9 +9,9 @@ use Rattle.mls_treemath.specs.Paths.{nodes_in}
 use Rattle.mls_term.specs.Term.{Term, width}
 use Rattle.mls_term.specs.Lists.{asked, all_parents, may_list, is_listed, may_be_listed}
 use Rattle.mls_term.specs.Arrays.{leaf_in, parent_in, term_of}
-use Rattle.mls_term.specs.Equations.{all_parents_leaf, all_parents_branch}
-use Rattle.mls_term.specs.ArrayLaws.{term_of-zero}
-use Rattle.mls_term.specs.ArrayLaws.{width-term_of}
+use Rattle.mls_term.proofs.Equations.{all_parents_leaf, all_parents_branch}
+use Rattle.mls_term.proofs.ArrayLaws.{term_of-zero}
+use Rattle.mls_term.proofs.ArrayLaws.{width-term_of}
 use Rattle.mls_array.proofs.Readings.{leaf_term, left_side, right_side, InParts}
 
 -- ---- a leaf that is listed

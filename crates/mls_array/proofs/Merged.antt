@@ -16,13 +16,13 @@ use Rattle.mls_term.specs.Way.{path_length}
 use Rattle.mls_term.specs.Hashes.{tree_hash, parent_hash}
 use Rattle.mls_term.specs.Merge.{new_parent, keys_below, hash_below, merge, path_hash, parent_beside, keys_beside, hash_beside}
 use Rattle.mls_term.specs.Arrays.{leaf_in, parent_in, leaf_cell, parent_cell, term_of, in_order, HasMiddle}
-use Rattle.mls_term.specs.Equations.{path_length_leaf, path_length_left, path_length_right, path_hash_leaf, path_hash_left, path_hash_right, merge_leaf, merge_left, merge_right}
-use Rattle.mls_term.specs.MemberLaws.{original-none}
+use Rattle.mls_term.proofs.Equations.{path_length_leaf, path_length_left, path_length_right, path_hash_leaf, path_hash_left, path_hash_right, merge_leaf, merge_left, merge_right}
+use Rattle.mls_term.proofs.MemberLaws.{original-none}
 use Rattle.mls_array.specs.Standing.{Stands}
-use Rattle.mls_term.specs.ArrayLaws.{width-term_of}
-use Rattle.mls_array.specs.StandingLaws.{in_order-leaf}
+use Rattle.mls_term.proofs.ArrayLaws.{width-term_of}
+use Rattle.mls_array.proofs.StandingLaws.{in_order-leaf}
 use Rattle.mls_array.specs.Merging.{path_parents, first_if, rest_if}
-use Rattle.mls_term.specs.ArrayLaws.{term_of-zero}
+use Rattle.mls_term.proofs.ArrayLaws.{term_of-zero}
 use Rattle.mls_array.proofs.Parts.{split, left_of_set, right_of_set}
 use Rattle.mls_array.proofs.Readings.{left_side, right_side, InParts}
 use Rattle.mls_array.proofs.Standings.{half, with_left, with_right, one_set}

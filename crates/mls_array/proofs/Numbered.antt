@@ -4,14 +4,14 @@ use Rattle.std.proofs.lemmas.List.{get_or-take, get_or-drop, get_or_past, length
 use Rattle.std.proofs.lemmas.Bool.{cases_lt}
 use Rattle.mls_leaf.specs.declared.node.Node.{Node}
 use Rattle.mls_treemath.specs.Paths.{nodes_in}
-use Rattle.mls_treemath.specs.Sizes.{nodes_in-suc}
+use Rattle.mls_treemath.proofs.Sizes.{nodes_in-suc}
 use Rattle.mls_term.specs.Term.{width, leaf_at, leaf_of}
 use Rattle.mls_term.specs.Arrays.{leaf_in, parent_in, term_of, node_at}
-use Rattle.mls_term.specs.Equations.{leaf_at_leaf, leaf_at_left, leaf_at_right, leaf_of_in, leaf_of_out}
-use Rattle.mls_term.specs.ArrayLaws.{node-in_order}
+use Rattle.mls_term.proofs.Equations.{leaf_at_leaf, leaf_at_left, leaf_at_right, leaf_of_in, leaf_of_out}
+use Rattle.mls_term.proofs.ArrayLaws.{node-in_order}
 use Rattle.mls_array.specs.Standing.{Stands}
-use Rattle.mls_term.specs.ArrayLaws.{nodes_in-leaves, term_of-zero, term_of-suc}
-use Rattle.mls_term.specs.ArrayLaws.{width-term_of}
+use Rattle.mls_term.proofs.ArrayLaws.{nodes_in-leaves, term_of-zero, term_of-suc}
+use Rattle.mls_term.proofs.ArrayLaws.{width-term_of}
 
 -- ---- leaves
 

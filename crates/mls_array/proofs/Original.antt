@@ -9,9 +9,9 @@ use Rattle.mls_term.specs.Term.{Term, Leaf, Branch, width}
 use Rattle.mls_term.specs.Inputs.{leaf_hash, branch_hash}
 use Rattle.mls_term.specs.Hashes.{tree_hash, unlisting, original}
 use Rattle.mls_term.specs.Arrays.{leaf_in, parent_in, term_of}
-use Rattle.mls_term.specs.Equations.{tree_hash_leaf, tree_hash_branch, original_leaf, original_branch}
-use Rattle.mls_term.specs.ArrayLaws.{term_of-zero}
-use Rattle.mls_term.specs.CountLaws.{bytes_true}
+use Rattle.mls_term.proofs.Equations.{tree_hash_leaf, tree_hash_branch, original_leaf, original_branch}
+use Rattle.mls_term.proofs.ArrayLaws.{term_of-zero}
+use Rattle.mls_term.proofs.CountLaws.{bytes_true}
 use Rattle.mls_array.specs.Witnesses.{listed}
 use Rattle.mls_array.proofs.Readings.{left_side, right_side, InParts}
 

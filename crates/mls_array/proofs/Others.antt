@@ -11,7 +11,7 @@ use Rattle.mls_term.specs.Sets.{has, within, leaf_numbers, is_same_set}
 use Rattle.mls_term.specs.Term.{Term, width}
 use Rattle.mls_term.specs.Resolution.{resolution}
 use Rattle.mls_term.specs.Hashes.{hash_at, is_some_bytes, is_witness, has_witness, parent_hash}
-use Rattle.mls_term.specs.SetLaws.{eqb_refl, any_at, any_from, has-filter, has-leaf_numbers, of_leaf_numbers, set_at, has-any}
+use Rattle.mls_term.proofs.SetLaws.{eqb_refl, any_at, any_from, has-filter, has-leaf_numbers, of_leaf_numbers, set_at, has-any}
 use Rattle.mls_array.specs.Witnesses.{numbers_in, others, first_off, kept, only_off, candidate}
 
 -- ---- lists as sets

@@ -3,11 +3,11 @@ use Rattle.std.proofs.Common.{◌≡◌, ℕ, zero, suc, ◌+◌, ◌-◌, ◌/�
 use Rattle.std.proofs.lemmas.List.{length-take-le, length-drop, take-append-drop, drop_more, take-set, take_rest, drop-set-lt}
 use Rattle.mls_leaf.specs.declared.node.Node.{Node}
 use Rattle.mls_treemath.specs.Paths.{nodes_in}
-use Rattle.mls_treemath.specs.Sizes.{nodes_in-suc}
+use Rattle.mls_treemath.proofs.Sizes.{nodes_in-suc}
 pub use Rattle.mls_treemath.specs.Sizes.{nodes_in_pos}
 use Rattle.mls_term.specs.Term.{Branch}
 use Rattle.mls_term.specs.Arrays.{parent_in, term_of, HasMiddle}
-use Rattle.mls_term.specs.ArrayLaws.{nodes_in-leaves, term_of-parts}
+use Rattle.mls_term.proofs.ArrayLaws.{nodes_in-leaves, term_of-parts}
 
 -- the middle of a tree of height above 0
 middle_at : (h n : ℕ) → n ≡ nodes_in h + suc (nodes_in h) → HasMiddle (suc h) n (nodes_in h)

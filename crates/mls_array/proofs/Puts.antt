@@ -7,11 +7,11 @@ use Rattle.mls_treemath.specs.Paths.{nodes_in}
 use Rattle.mls_term.specs.Term.{Branch}
 use Rattle.mls_term.specs.Edits.{put}
 use Rattle.mls_term.specs.Arrays.{leaf_in, parent_in, leaf_cell, term_of, in_order, HasMiddle}
-use Rattle.mls_term.specs.Equations.{put_leaf, put_left, put_right}
+use Rattle.mls_term.proofs.Equations.{put_leaf, put_left, put_right}
 use Rattle.mls_array.specs.Standing.{Stands}
-use Rattle.mls_term.specs.ArrayLaws.{width-term_of}
-use Rattle.mls_array.specs.StandingLaws.{in_order-leaf}
-use Rattle.mls_term.specs.ArrayLaws.{term_of-zero}
+use Rattle.mls_term.proofs.ArrayLaws.{width-term_of}
+use Rattle.mls_array.proofs.StandingLaws.{in_order-leaf}
+use Rattle.mls_term.proofs.ArrayLaws.{term_of-zero}
 use Rattle.mls_array.proofs.Parts.{split, left_of_set, right_of_set}
 use Rattle.mls_array.proofs.Standings.{half, with_left, with_right, one_set}
 

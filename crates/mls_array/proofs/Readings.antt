@@ -3,10 +3,10 @@ use Rattle.std.proofs.Common.{◌≡◌, ℕ, ◌+◌, ◌-◌, ◌*◌, ◌/◌
 use Rattle.std.proofs.lemmas.List.{get_or_read, get_or_default, take_rest}
 use Rattle.mls_leaf.specs.declared.node.Node.{Node}
 use Rattle.mls_treemath.specs.Paths.{nodes_in}
-use Rattle.mls_treemath.specs.Sizes.{nodes_in_pos}
+use Rattle.mls_treemath.proofs.Sizes.{nodes_in_pos}
 use Rattle.mls_term.specs.Term.{Term, Leaf, Branch, width, size}
 use Rattle.mls_term.specs.Arrays.{leaf_in, parent_in, term_of, HasMiddle}
-use Rattle.mls_term.specs.ArrayLaws.{term_of-zero, size-term_of, width-term_of}
+use Rattle.mls_term.proofs.ArrayLaws.{term_of-zero, size-term_of, width-term_of}
 use Rattle.mls_array.proofs.Parts.{split, left_len, right_len}
 
 -- ---- its root

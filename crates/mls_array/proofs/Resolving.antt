@@ -9,8 +9,8 @@ use Rattle.mls_term.specs.Term.{Leaf, Branch}
 use Rattle.mls_term.specs.Resolution.{resolution, is_empty, is_reached}
 use Rattle.mls_term.specs.Places.{at_node, resolution_at}
 use Rattle.mls_term.specs.Arrays.{leaf_in, parent_in, term_of}
-use Rattle.mls_term.specs.Equations.{resolution_blank_leaf, resolution_leaf as resolution_taken_leaf, resolution_parent as resolution_full, resolution_blank, at_node_leaf, at_node_no_leaf, at_node_here, at_node_left, at_node_right}
-use Rattle.mls_term.specs.ArrayLaws.{term_of-zero}
+use Rattle.mls_term.proofs.Equations.{resolution_blank_leaf, resolution_leaf as resolution_taken_leaf, resolution_parent as resolution_full, resolution_blank, at_node_leaf, at_node_no_leaf, at_node_here, at_node_left, at_node_right}
+use Rattle.mls_term.proofs.ArrayLaws.{term_of-zero}
 use Rattle.mls_array.proofs.Readings.{leaf_term, left_side, right_side, InParts}
 
 -- ---- of a leaf

@@ -7,7 +7,7 @@ use Rattle.std.proofs.Math.Pow.{pow_mono}
 use Rattle.mls_leaf.specs.declared.node.Node.{Node}
 use Rattle.mls_treemath.specs.Paths.{nodes_in}
 use Rattle.mls_term.specs.Arrays.{before, cut, has_last, may_stand, alternates, height_for}
-use Rattle.mls_term.specs.ArrayLaws.{nodes_in-leaves, least_height}
+use Rattle.mls_term.proofs.ArrayLaws.{nodes_in-leaves, least_height}
 
 -- ---- the last node
 

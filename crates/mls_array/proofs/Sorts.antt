@@ -14,8 +14,8 @@ use Rattle.std.specs.Bool.{MatchBool, ⊤}
 use Rattle.std.specs.Cmp.Lexicographic.{pointwise, slice_cmp, nat_list_cmp_total, texts_ties, same_text}
 use Rattle.std.proofs.Math.Bool.{and-false}
 use Rattle.mls_term.specs.Sets.{same_bytes, count, is_distinct}
-use Rattle.mls_term.specs.MergeLaws.{bytes_refl}
-use Rattle.mls_term.specs.CountLaws.{bytes_true, distinct_at, distinct_from}
+use Rattle.mls_term.proofs.MergeLaws.{bytes_refl}
+use Rattle.mls_term.proofs.CountLaws.{bytes_true, distinct_at, distinct_from}
 use Rattle.mls_array.specs.Merged.{Differ, Repeats, bytes_in}
 
 -- ---- counting

@@ -7,15 +7,15 @@ use Rattle.std.proofs.lemmas.List.{get_or-take, get_or-drop, take-append-drop, l
 use Rattle.std.proofs.lemmas.List.Sorted.{searched}
 use Rattle.std.proofs.Math.Bool.{or-false}
 use Rattle.mls_leaf.specs.Parent.{Parent, rises_from}
-use Rattle.mls_leaf.specs.ParentLaws.{rises_from-nil, rises_from-cons, rises_from-more}
-use Rattle.mls_leaf.specs.RisingLaws.{above_front, no_less, from_lower}
+use Rattle.mls_leaf.proofs.ParentLaws.{rises_from-nil, rises_from-cons, rises_from-more}
+use Rattle.mls_leaf.proofs.RisingLaws.{above_front, no_less, from_lower}
 use Rattle.mls_leaf.specs.declared.node.Node.{Node}
 use Rattle.mls_term.specs.Term.{Term, Leaf, Branch, width}
 use Rattle.mls_term.specs.Sets.{has, less}
-use Rattle.mls_term.specs.SetLaws.{has-append, eqb_refl}
+use Rattle.mls_term.proofs.SetLaws.{has-append, eqb_refl}
 use Rattle.mls_term.specs.Lists.{asked, all_parents, lists_here}
-use Rattle.mls_term.specs.NamedLaws.{lists_bound}
-use Rattle.mls_term.specs.ParentLaws.{parents_parts}
+use Rattle.mls_term.proofs.NamedLaws.{lists_bound}
+use Rattle.mls_term.proofs.ParentLaws.{parents_parts}
 use Rattle.mls_term.specs.Hashes.{tree_hash, unlisting, original}
 use Rattle.mls_term.specs.Arrays.{term_of}
 use Rattle.mls_array.specs.Splits.{Splits}

@@ -5,12 +5,12 @@ use borrow.Rule.Slice.PartMut.{put_mid}
 use Rattle.mls_leaf.specs.Parent.{Parent}
 use Rattle.mls_leaf.specs.declared.node.Node.{Node}
 use Rattle.mls_treemath.specs.Paths.{nodes_in}
-use Rattle.mls_treemath.specs.Sizes.{nodes_in-zero}
+use Rattle.mls_treemath.proofs.Sizes.{nodes_in-zero}
 use Rattle.mls_term.specs.Term.{Term, Branch}
 use Rattle.mls_term.specs.Arrays.{parent_in, parent_cell, term_of, in_order, HasMiddle}
 use Rattle.mls_array.specs.Standing.{Stands}
-use Rattle.mls_term.specs.ArrayLaws.{perfect-term_of}
-use Rattle.mls_array.specs.StandingLaws.{in_order-branch, length-perfect}
+use Rattle.mls_term.proofs.ArrayLaws.{perfect-term_of}
+use Rattle.mls_array.proofs.StandingLaws.{in_order-branch, length-perfect}
 use Rattle.mls_array.proofs.Parts.{split, left_len, right_len, left_of_set, right_of_set}
 use Rattle.mls_array.proofs.Pieces.{set_then_front, set_then_back}
 

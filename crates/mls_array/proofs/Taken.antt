@@ -7,10 +7,10 @@ use Rattle.mls_term.specs.Term.{Leaf, width, has_leaf, is_full_width}
 use Rattle.mls_term.specs.Edits.{first_blank, or_else}
 use Rattle.mls_term.specs.Keys.{members}
 use Rattle.mls_term.specs.Arrays.{leaf_in, parent_in, term_of}
-use Rattle.mls_term.specs.Equations.{has_leaf_leaf, has_leaf_branch, is_full_width_leaf, is_full_width_branch, first_blank_leaf, first_blank_blank_leaf, first_blank_branch, members_leaf, members_blank_leaf, members_branch}
-use Rattle.mls_term.specs.PlaceLaws.{first_blank_at}
+use Rattle.mls_term.proofs.Equations.{has_leaf_leaf, has_leaf_branch, is_full_width_leaf, is_full_width_branch, first_blank_leaf, first_blank_blank_leaf, first_blank_branch, members_leaf, members_blank_leaf, members_branch}
+use Rattle.mls_term.proofs.PlaceLaws.{first_blank_at}
 use Rattle.mls_array.specs.Ends.{taken_end}
-use Rattle.mls_array.specs.EndLaws.{has_or_not, has_none, has_some, end-blank_leaf, end-leaf, end-right, end-left, end-none, end-within, ends_right, ends_left}
+use Rattle.mls_array.proofs.EndLaws.{has_or_not, has_none, has_some, end-blank_leaf, end-leaf, end-right, end-left, end-none, end-within, ends_right, ends_left}
 use Rattle.mls_array.proofs.Readings.{leaf_term, left_side, right_side, InParts}
 
 module _ (h : ℕ) (xs : List (Option Node)) (n : Option Node) (low : h ≡ 0) (all : length xs ≡ nodes_in h) (is : n ≡ get_or xs 0 n) where

@@ -5,12 +5,12 @@ use Rattle.std.specs.Prelude.{nat_le}
 use Rattle.std.proofs.lemmas.Bool.{and_parts, leb-true, false_from_ne_true}
 use Rattle.std.proofs.lemmas.List.Elements.{filter-append}
 use Rattle.mls_leaf.specs.Parent.{Parent, rises_from}
-use Rattle.mls_leaf.specs.ParentLaws.{rises_from-cons}
+use Rattle.mls_leaf.proofs.ParentLaws.{rises_from-cons}
 use Rattle.mls_leaf.specs.declared.leaf.LeafNode.{LeafNode}
 use Rattle.mls_leaf.specs.declared.node.Node.{Node}
 use Rattle.mls_treemath.specs.Paths.{nodes_in}
 use Rattle.mls_term.specs.Sets.{has, less, leaf_numbers}
-use Rattle.mls_term.specs.SetLaws.{of_leaf_numbers}
+use Rattle.mls_term.proofs.SetLaws.{of_leaf_numbers}
 use Rattle.mls_term.specs.Way.{target_count}
 use Rattle.mls_term.specs.Arrays.{leaf_in, parent_in, term_of}
 use Rattle.mls_array.proofs.Readings.{left_side, right_side, InParts}

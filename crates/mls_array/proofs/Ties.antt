@@ -11,7 +11,7 @@ use Rattle.mls_term.specs.Inputs.{sibling_hash}
 use Rattle.mls_term.specs.Hashes.{tree_hash, original, parent_hash, hash_at, is_some_bytes, has_witness, is_parent_hash_valid}
 use Rattle.mls_term.specs.Arrays.{parent_in, term_of, HasMiddle}
 use Rattle.mls_array.specs.Kept.{hashes_of}
-use Rattle.mls_array.specs.KeptLaws.{length-hashes_of, right_part}
+use Rattle.mls_array.proofs.KeptLaws.{length-hashes_of, right_part}
 use Rattle.mls_array.specs.Witnesses.{candidate}
 use Rattle.mls_array.proofs.Others.{given, witness_is}
 use Rattle.mls_array.proofs.Listed.{each_sides}

@@ -8,22 +8,22 @@ use Rattle.mls_leaf.specs.Parent.{Parent}
 use Rattle.mls_leaf.specs.declared.leaf.LeafNode.{LeafNode}
 use Rattle.mls_leaf.specs.declared.node.Node.{Node}
 use Rattle.mls_treemath.specs.Paths.{nodes_in}
-use Rattle.mls_treemath.specs.Sizes.{nodes_in-zero}
+use Rattle.mls_treemath.proofs.Sizes.{nodes_in-zero}
 use Rattle.mls_term.specs.Term.{Term, Leaf, Branch, width, size, is_perfect}
 use Rattle.mls_term.specs.Inputs.{leaf_hash, branch_hash}
 use Rattle.mls_term.specs.Resolution.{is_reached}
 use Rattle.mls_term.specs.Hashes.{tree_hash}
 use Rattle.mls_term.specs.Merge.{merge, parent_beside, keys_beside, hash_beside}
 use Rattle.mls_term.specs.Arrays.{leaf_in, parent_in, term_of, HasMiddle}
-use Rattle.mls_term.specs.Equations.{tree_hash_leaf, tree_hash_branch, merge_leaf, merge_left, merge_right}
-use Rattle.mls_term.specs.MergeLaws.{width-merge}
-use Rattle.mls_term.specs.ShapeLaws.{width-perfect}
-use Rattle.mls_term.specs.ArrayLaws.{size-perfect, term_of-zero}
+use Rattle.mls_term.proofs.Equations.{tree_hash_leaf, tree_hash_branch, merge_leaf, merge_left, merge_right}
+use Rattle.mls_term.proofs.MergeLaws.{width-merge}
+use Rattle.mls_term.proofs.ShapeLaws.{width-perfect}
+use Rattle.mls_term.proofs.ArrayLaws.{size-perfect, term_of-zero}
 use Rattle.mls_array.specs.Kept.{hashes_of}
-use Rattle.mls_array.specs.KeptLaws.{length-hashes_of, hashes_of_branch, right_part}
+use Rattle.mls_array.proofs.KeptLaws.{length-hashes_of, hashes_of_branch, right_part}
 use Rattle.mls_array.specs.Merging.{path_parents, first_if, rest_if}
 use Rattle.mls_array.specs.WayHashes.{way_hashes, HashesMerged, PutsHashes}
-use Rattle.mls_array.specs.WayHashLaws.{way_hashes_leaf, way_hashes_left, way_hashes_right}
+use Rattle.mls_array.proofs.WayHashLaws.{way_hashes_leaf, way_hashes_left, way_hashes_right}
 use Rattle.mls_array.proofs.Keepings.{one_set_to}
 use Rattle.mls_array.proofs.Merged.{parents_left, parents_right, no_parents, none_below, first_made, rest_made}
 use Rattle.mls_array.proofs.Readings.{left_side, right_side, InParts}

@@ -6,10 +6,10 @@ use Rattle.mls_treemath.specs.Paths.{nodes_in}
 use Rattle.mls_term.specs.Term.{has_leaf}
 use Rattle.mls_term.specs.Edits.{grow, trim}
 use Rattle.mls_term.specs.Arrays.{leaf_in, parent_in, term_of, in_order, HasMiddle}
-use Rattle.mls_term.specs.Equations.{has_leaf_branch, trim_leaf, trim_full, trim_empty}
+use Rattle.mls_term.proofs.Equations.{has_leaf_branch, trim_leaf, trim_full, trim_empty}
 use Rattle.mls_array.specs.Standing.{Stands}
-use Rattle.mls_array.specs.StandingLaws.{in_order-grow}
-use Rattle.mls_term.specs.ArrayLaws.{term_of-zero}
+use Rattle.mls_array.proofs.StandingLaws.{in_order-grow}
+use Rattle.mls_term.proofs.ArrayLaws.{term_of-zero}
 use Rattle.mls_array.proofs.Parts.{split}
 use Rattle.mls_array.proofs.Standings.{left_stands}
 

@@ -4,7 +4,7 @@ use Rattle.mls_leaf.specs.Parent.{Parent}
 use Rattle.mls_leaf.specs.declared.leaf.LeafNode.{LeafNode}
 use Rattle.mls_leaf.specs.declared.node.Node.{Node}
 use Rattle.mls_leaf.specs.declared.node.Node.TheVariants.{Leaf as in_leaf, Parent as in_parent}
-use Rattle.mls_term.specs.Keys.{leaf_key, parent_key, leaf_signature}
+use Rattle.mls_term.specs.Keys.{leaf_key, parent_key}
 
 -- what is gathered from a cell
 abbrev pub cell_value : (Option LeafNode → List (List ℕ)) → (Option Parent → List (List ℕ)) → Option Node → List (List ℕ)
@@ -15,6 +15,3 @@ cell_value f g (Some (in_parent p)) = g (Some p)
 -- the encryption key in a cell, and the signature key
 abbrev pub cell_key : Option Node → List (List ℕ)
 cell_key c = cell_value leaf_key parent_key c
-
-abbrev pub cell_signature : Option Node → List (List ℕ)
-cell_signature c = cell_value leaf_signature (λ p. []) c

@@ -1,16 +1,10 @@
 pub mod Standing
-pub mod OrderLaws
 pub mod StandingLaws
 pub mod Merging
-pub mod MergingLaws
 pub mod Merged
 pub mod Witnesses
 pub mod Gathered
-pub mod GatheredLaws
 pub mod Kept
-pub mod KeptLaws
 pub mod Ends
-pub mod EndLaws
 pub mod Splits
 pub mod WayHashes
-pub mod WayHashLaws

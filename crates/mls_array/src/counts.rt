@@ -41,7 +41,7 @@ fn count_others(leaves: &[u32], added: &[u32]) -> usize
 }
 
 /// How many nodes of the resolution aren't leaves just added.
-#[tactic(auto, using(mls_treemath::specs::Sizes::nodes_in_pos))]
+#[tactic(auto, using(mls_treemath::proofs::Sizes::nodes_in_pos))]
 fn target_count(nodes: &[Slot], height: u32, first: u32, added: &[u32]) -> usize
     requires shape { length nodes.now ≡ nodes_in height }
     requires fits { first + 2 ^ height ≤ 2 ^ 31 }
@@ -85,7 +85,7 @@ fn push_count(
 
 /// Adds to `out` how many ciphertexts each node of a leaf's path has, the lowest first (RFC 9420, 7.6): one for each node
 /// of the resolution of its other side, without the leaves just added.
-#[tactic(auto, using(mls_treemath::specs::Sizes::nodes_in_pos))]
+#[tactic(auto, using(mls_treemath::proofs::Sizes::nodes_in_pos))]
 pub fn ciphertext_counts(
     nodes: &[Slot],
     height: u32,

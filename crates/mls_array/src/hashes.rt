@@ -15,7 +15,7 @@ use mls_slot::Slot;
 
 /// The tree hash (RFC 9420, 7.8). The kept hashes have a place for each node: those that are missing are made and kept,
 /// and `done` counts them. Takes no memory.
-#[tactic(auto, using(mls_treemath::specs::Sizes::nodes_in_pos))]
+#[tactic(auto, using(mls_treemath::proofs::Sizes::nodes_in_pos))]
 pub(crate) fn tree_hash(
     nodes: &[Slot],
     kept: &mut [Option<Hash>],
@@ -64,7 +64,7 @@ pub(crate) fn tree_hash(
 }
 
 /// Takes the hashes of leaf i and of the nodes over it out of the kept ones; visits one node a level.
-#[tactic(auto, using(mls_treemath::specs::Sizes::nodes_in_pos))]
+#[tactic(auto, using(mls_treemath::proofs::Sizes::nodes_in_pos))]
 pub(crate) fn drop_hashes(kept: &mut [Option<Hash>], height: u32, first: u32, i: u32)
     requires shape { length kept.old ≡ nodes_in height }
     requires fits { first + 2 ^ height ≤ 2 ^ 31 }

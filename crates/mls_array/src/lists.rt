@@ -33,7 +33,7 @@ fn may_list(parent: Option<&ParentNode>, leaf: u32) -> bool
 }
 
 /// Whether a leaf is taken, and each parent over it lists it.
-#[tactic(auto, using(mls_treemath::specs::Sizes::nodes_in_pos))]
+#[tactic(auto, using(mls_treemath::proofs::Sizes::nodes_in_pos))]
 fn is_listed(nodes: &[Slot], height: u32, first: u32, leaf: u32) -> bool
     requires shape { length nodes.now ≡ nodes_in height }
     requires fits { first + 2 ^ height ≤ 2 ^ 31 }
@@ -131,7 +131,7 @@ fn root_lists(
 }
 
 /// Whether each parent of a tree lists only what it may list.
-#[tactic(auto, using(mls_treemath::specs::Sizes::nodes_in_pos))]
+#[tactic(auto, using(mls_treemath::proofs::Sizes::nodes_in_pos))]
 fn each_lists(nodes: &[Slot], height: u32, first: u32) -> bool
     requires shape { length nodes.now ≡ nodes_in height }
     requires fits { first + 2 ^ height ≤ 2 ^ 31 }

@@ -13,7 +13,7 @@ use crate::places::{leaf_in, middle_of};
 use mls_slot::Slot;
 
 /// The number of the leftmost blank leaf, where each leaf before `from` is taken: it looks at none of them but the last.
-#[tactic(auto, using(mls_treemath::specs::Sizes::nodes_in_pos))]
+#[tactic(auto, using(mls_treemath::proofs::Sizes::nodes_in_pos))]
 pub fn first_blank(nodes: &[Slot], height: u32, first: u32, from: u32) -> Option<u32>
     requires shape { length nodes.now ≡ nodes_in height }
     requires fits { first + 2 ^ height ≤ 2 ^ 31 }
@@ -39,7 +39,7 @@ pub fn first_blank(nodes: &[Slot], height: u32, first: u32, from: u32) -> Option
 
 /// One past the rightmost taken leaf, where each leaf from `end` on is blank: it looks at none of them but the first. It is
 /// `first` where no leaf is taken.
-#[tactic(auto, using(mls_treemath::specs::Sizes::nodes_in_pos))]
+#[tactic(auto, using(mls_treemath::proofs::Sizes::nodes_in_pos))]
 pub fn taken_end(nodes: &[Slot], height: u32, first: u32, end: u32) -> u32
     requires shape { length nodes.now ≡ nodes_in height }
     requires fits { first + 2 ^ height ≤ 2 ^ 31 }
@@ -65,7 +65,7 @@ pub fn taken_end(nodes: &[Slot], height: u32, first: u32, end: u32) -> u32
 }
 
 /// Whether the tree has a member.
-#[tactic(auto, using(mls_treemath::specs::Sizes::nodes_in_pos))]
+#[tactic(auto, using(mls_treemath::proofs::Sizes::nodes_in_pos))]
 pub fn has_leaf(nodes: &[Slot], height: u32) -> bool
     requires shape { length nodes.now ≡ nodes_in height }
     ensures { result ≡ has_leaf (term_of height nodes.now) }
@@ -82,7 +82,7 @@ pub fn has_leaf(nodes: &[Slot], height: u32) -> bool
 }
 
 /// Whether no smaller tree would do: the right half has a member, or the only leaf is one.
-#[tactic(auto, using(mls_treemath::specs::Sizes::nodes_in_pos))]
+#[tactic(auto, using(mls_treemath::proofs::Sizes::nodes_in_pos))]
 pub fn is_full_width(nodes: &[Slot], height: u32) -> bool
     requires shape { length nodes.now ≡ nodes_in height }
     ensures { result ≡ is_full_width (term_of height nodes.now) }
@@ -99,7 +99,7 @@ pub fn is_full_width(nodes: &[Slot], height: u32) -> bool
 }
 
 /// How many members the tree has.
-#[tactic(auto, using(mls_treemath::specs::Sizes::nodes_in_pos))]
+#[tactic(auto, using(mls_treemath::proofs::Sizes::nodes_in_pos))]
 pub fn member_count(nodes: &[Slot], height: u32) -> u32
     requires shape { length nodes.now ≡ nodes_in height }
     requires low { height ≤ max_height }

@@ -23,7 +23,7 @@ use std::alloc::{AllocError, Global};
 use std::vec;
 
 /// How many parents the filtered direct path of a leaf takes in (RFC 9420, 4.1.2). Takes no memory.
-#[tactic(auto, using(mls_treemath::specs::Sizes::nodes_in_pos))]
+#[tactic(auto, using(mls_treemath::proofs::Sizes::nodes_in_pos))]
 pub fn path_length(nodes: &[Slot], height: u32, first: u32, leaf: u32) -> u32
     requires shape { length nodes.now ≡ nodes_in height }
     requires fits { first + 2 ^ height ≤ 2 ^ 31 }
@@ -84,7 +84,7 @@ fn handed_down<'a>(
 
 /// The parent hash that reaches a leaf when a path with these keys is merged, the lowest first (RFC 9420, 7.9), where
 /// `kept` are the tree hashes of all subtrees. Takes no memory.
-#[tactic(auto, using(mls_treemath::specs::Sizes::nodes_in_pos))]
+#[tactic(auto, using(mls_treemath::proofs::Sizes::nodes_in_pos))]
 pub fn path_hash(
     nodes: &[Slot],
     kept: &[Option<Hash>],
@@ -165,7 +165,7 @@ fn add_parent(
 
 /// Adds the parents that a merge makes over a leaf to `out`, the highest first, and answers the parent hash that reaches
 /// the leaf. Their keys are the last ones, which are taken.
-#[tactic(auto, using(mls_treemath::specs::Sizes::nodes_in_pos))]
+#[tactic(auto, using(mls_treemath::proofs::Sizes::nodes_in_pos))]
 fn add_parents(
     alloc: Global,
     nodes: &[Slot],

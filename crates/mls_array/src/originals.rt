@@ -101,7 +101,7 @@ fn count_before(leaves: &[u32], end: u32) -> usize
 /// The tree hash of a side as it was before some leaves were added, where `hashes` are the tree hashes of its subtrees and
 /// its parents list leaves below them alone: only the subtrees that have one of the leaves are walked, and of these only
 /// those that they change are hashed.
-#[tactic(auto, using(mls_treemath::specs::Sizes::nodes_in_pos))]
+#[tactic(auto, using(mls_treemath::proofs::Sizes::nodes_in_pos))]
 pub(crate) fn original_of(
     nodes: &[Slot],
     hashes: &[Option<Hash>],

@@ -21,7 +21,7 @@ fn push_if(test: bool, x: u32, out: &mut Vec<u32>) -> Result<(), AllocError>
 }
 
 /// Adds the filtered direct path of a leaf to `out`, the lowest node first (RFC 9420, 4.1.2).
-#[tactic(auto, using(mls_treemath::specs::Sizes::nodes_in_pos))]
+#[tactic(auto, using(mls_treemath::proofs::Sizes::nodes_in_pos))]
 pub fn filtered_path(
     nodes: &[Slot],
     height: u32,

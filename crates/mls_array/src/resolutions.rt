@@ -23,7 +23,7 @@ fn push_unmerged(parent: &ParentNode, out: &mut Vec<u64>) -> Result<(), AllocErr
 }
 
 /// Adds the resolution of the tree to `out`, as node numbers (RFC 9420, 4.1.1).
-#[tactic(auto, using(mls_treemath::specs::Sizes::nodes_in_pos))]
+#[tactic(auto, using(mls_treemath::proofs::Sizes::nodes_in_pos))]
 pub fn resolution(
     nodes: &[Slot],
     height: u32,
@@ -55,7 +55,7 @@ pub fn resolution(
 }
 
 /// Adds the resolution of node `x`: nothing where no node has that number.
-#[tactic(auto, using(mls_treemath::specs::Sizes::nodes_in_pos))]
+#[tactic(auto, using(mls_treemath::proofs::Sizes::nodes_in_pos))]
 pub fn resolution_at(
     nodes: &[Slot],
     height: u32,
@@ -86,7 +86,7 @@ pub fn resolution_at(
 }
 
 /// Whether the resolution isn't empty.
-#[tactic(auto, using(mls_treemath::specs::Sizes::nodes_in_pos))]
+#[tactic(auto, using(mls_treemath::proofs::Sizes::nodes_in_pos))]
 pub fn is_reached(nodes: &[Slot], height: u32) -> bool
     requires shape { length nodes.now ≡ nodes_in height }
     ensures { (b : ℕ) → result ≡ is_reached b (term_of height nodes.now) }
@@ -108,7 +108,7 @@ pub fn is_reached(nodes: &[Slot], height: u32) -> bool
 }
 
 /// Whether the resolution of node `x` isn't empty; where no node has that number it is.
-#[tactic(auto, using(mls_treemath::specs::Sizes::nodes_in_pos))]
+#[tactic(auto, using(mls_treemath::proofs::Sizes::nodes_in_pos))]
 pub fn is_reached_at(nodes: &[Slot], height: u32, first: u32, x: u32) -> bool
     requires shape { length nodes.now ≡ nodes_in height }
     requires fits { first + 2 ^ height ≤ 2 ^ 31 }

@@ -52,7 +52,7 @@ fn parent_has_hash(node: &Slot, hash: &Hash) -> bool
 }
 
 /// Whether a node of a tree has this parent hash.
-#[tactic(auto, using(mls_treemath::specs::Sizes::nodes_in_pos))]
+#[tactic(auto, using(mls_treemath::proofs::Sizes::nodes_in_pos))]
 fn has_hash(nodes: &[Slot], height: u32, first: u32, node: u64, hash: &Hash) -> bool
     requires shape { length nodes.now ≡ nodes_in height }
     requires fits { first + 2 ^ height ≤ 2 ^ 31 }
@@ -172,7 +172,7 @@ fn root_is_valid(
 }
 
 /// Whether each parent of a tree is parent-hash valid.
-#[tactic(auto, using(mls_treemath::specs::Sizes::nodes_in_pos))]
+#[tactic(auto, using(mls_treemath::proofs::Sizes::nodes_in_pos))]
 fn each_is_valid(
     nodes: &[Slot],
     hashes: &[Option<Hash>],

@@ -34,7 +34,7 @@ fn next_parent(wanted: bool, parents: &[SharedParent]) -> (Option<&ParentNode>, 
 /// The tree hash that a tree will have once a path is merged into it (RFC 9420, 7.5 and 7.8), whose parents are given
 /// highest first. Adds those of leaf i and of the nodes over it to `out`, the lowest first; they alone are made, and
 /// counted in `done`. `kept` are the tree hashes of all subtrees.
-#[tactic(auto, using(mls_treemath::specs::Sizes::nodes_in_pos))]
+#[tactic(auto, using(mls_treemath::proofs::Sizes::nodes_in_pos))]
 pub fn merged_hashes(
     nodes: &[Slot],
     kept: &[Option<Hash>],
@@ -78,7 +78,7 @@ pub fn merged_hashes(
 }
 
 /// Keeps these hashes of leaf i and of the nodes over it, the lowest first; visits one node a level. Takes no memory.
-#[tactic(auto, using(mls_treemath::specs::Sizes::nodes_in_pos))]
+#[tactic(auto, using(mls_treemath::proofs::Sizes::nodes_in_pos))]
 pub(crate) fn put_hashes(
     kept: &mut [Option<Hash>],
     height: u32,

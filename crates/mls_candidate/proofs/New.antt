@@ -9,7 +9,7 @@ use Rattle.mls_paths.specs.Seeds.{sign_seed}
 use Rattle.mls_suite.specs.Crypto.{Crypto}
 use Rattle.mls_model.specs.Candidate.{Candidate, init_key_of, leaf_key_of, unsigned_leaf, signed_leaf, offered_leaf, unsigned_package, signed_package, package_message, new_candidate}
 use Rattle.mls_model.specs.Messages.{is_within_limit}
-use Rattle.mls_public_group.specs.Limits.{past_limit, length_within}
+use Rattle.mls_public_group.proofs.Limits.{past_limit, length_within}
 use Rattle.mls_public_group.specs.Short.{IsBelow}
 use Rattle.mls_candidate.proofs.Packages.{identity_in, package_below}
 

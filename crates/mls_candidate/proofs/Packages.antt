@@ -4,7 +4,7 @@ use Rattle.std.specs.Int.{w16, to_be_bytes}
 use Rattle.std.proofs.lemmas.List.{length-append}
 use Rattle.mls_wire.specs.Reading.{opaque, uint}
 use Rattle.mls_leaf.specs.Inputs.{key_package_tbs, KeyPackageTbsFits}
-use Rattle.mls_leaf.specs.InputLaws.{key_package-spelled}
+use Rattle.mls_leaf.proofs.InputLaws.{key_package-spelled}
 use Rattle.mls_leaf.specs.KeyPackage.{key_package}
 use Rattle.mls_leaf.specs.Leaf.{leaf_node}
 use Rattle.mls_leaf.specs.Limits.{input_limit}
@@ -15,8 +15,8 @@ use Rattle.mls_model.specs.Candidate.{package_message}
 use Rattle.mls_public_group.specs.Short.{IsBelow}
 use Rattle.mls_public_group.specs.ShortProposal.{IsShortProposal}
 use Rattle.mls_candidate.specs.Short.{IsShortPackage}
-use Rattle.mls_candidate.specs.LeafLaws.{owner_in}
-use Rattle.mls_public_group.specs.Lengths.{opaque_most}
+use Rattle.mls_candidate.proofs.LeafLaws.{owner_in}
+use Rattle.mls_public_group.proofs.Lengths.{opaque_most}
 
 pub package_tbs_fits : (k : KeyPackage) → IsShortPackage k → KeyPackageTbsFits k
 package_tbs_fits k s = let key = s.key in (s.suite, (omega arith, s.leaf.fits))

@@ -6,7 +6,7 @@ use Rattle.mls_wire.specs.Checks.{require}
 use Rattle.mls_wire.specs.Format.{IsBytes}
 use Rattle.mls_leaf.specs.Limits.{input_limit}
 use Rattle.mls_model.specs.Messages.{are_bytes, is_within_limit}
-use Rattle.mls_public_group.specs.Limits.{all_bytes}
+use Rattle.mls_public_group.proofs.Limits.{all_bytes}
 
 all_there : (a b : Bool) → b ≡ true → (a && b) ≡ a
 all_there true b e = e

@@ -97,7 +97,7 @@ pub(crate) fn offered_package<S: Suite>(
 
 /// Writes the message of a KeyPackage: version 1, wire format 5, and the KeyPackage.
 /// TooLong where a vector in it has 2^30 bytes or more.
-#[tactic(auto, using(mls_leaf::specs::Codecs::codecs), unfolding(mls_model::specs::Candidate::package_message, mls_types::specs::Message::mls_message))]
+#[tactic(auto, using(mls_leaf::proofs::Codecs::codecs), unfolding(mls_model::specs::Candidate::package_message, mls_types::specs::Message::mls_message))]
 fn write_message(alloc: Global, offered: &KeyPackage) -> Result<Vec<u8>, LeafError>
     ensures { Writes (key_package.Fits offered.now) (package_message offered.now) result }
 {

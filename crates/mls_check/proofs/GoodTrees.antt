@@ -13,11 +13,11 @@ use Rattle.mls_leaf.specs.Faults.{whole}
 use Rattle.mls_leaf.specs.Limits.{input_limit}
 use Rattle.mls_leaf.specs.Node.{node}
 use Rattle.mls_leaf.specs.Parent.{Parent, rises_from}
-use Rattle.mls_leaf.specs.ParentLaws.{rises_from-nil, rises_from-more}
+use Rattle.mls_leaf.proofs.ParentLaws.{rises_from-nil, rises_from-more}
 use Rattle.mls_leaf.specs.ParentNode.{parent_node, rising}
 use Rattle.mls_leaf.specs.declared.node.Node.{Node}
 use Rattle.mls_leaf.specs.declared.node.Node.TheVariants.{Leaf as in_leaf, Parent as in_parent}
-use Rattle.mls_leaf.specs.WholeLaws.{whole_takes}
+use Rattle.mls_leaf.proofs.WholeLaws.{whole_takes}
 use Rattle.mls_group.specs.GroupInfo.{ratchet_tree}
 use Rattle.mls_suite.specs.Crypto.{Crypto}
 use Rattle.mls_treemath.specs.Paths.{nodes_in}
@@ -25,9 +25,9 @@ use Rattle.mls_term.specs.Term.{Term, height, is_full_width, is_perfect}
 use Rattle.mls_term.specs.Lists.{all_parents, asked, rises_here}
 use Rattle.mls_term.specs.Good.{IsGood, has_good_shape, is_within, tree_checks}
 use Rattle.mls_term.specs.Arrays.{parent_in, term_of, padded, height_for, sent_term, from_nodes}
-use Rattle.mls_term.specs.ArrayLaws.{perfect-term_of}
-use Rattle.mls_term.specs.GoodLaws.{good_from_checks, good_passes}
-use Rattle.mls_term.specs.PlaceLaws.{perfect_itself}
+use Rattle.mls_term.proofs.ArrayLaws.{perfect-term_of}
+use Rattle.mls_term.proofs.GoodLaws.{good_from_checks, good_passes}
+use Rattle.mls_term.proofs.PlaceLaws.{perfect_itself}
 use Rattle.mls_tree.specs.Rules.{rules_of}
 use Rattle.mls_tree.specs.Tree.{max_leaves}
 use Rattle.mls_text.specs.Page.{page_of}
@@ -36,11 +36,11 @@ use Rattle.mls_text.specs.declared.page.Ending.TheVariants.{Good}
 use Rattle.mls_text.specs.declared.page.Page as code
 use Rattle.mls_text.specs.declared.text.Line.{Line}
 use Rattle.mls_check.specs.Check.{SpellsGoodTree, check_text, report_on, tree_in}
-use Rattle.mls_check.specs.Reports.{report_by}
+use Rattle.mls_check.proofs.Reports.{report_by}
 use Rattle.mls_check.specs.declared.report.SuiteChecks.{SuiteChecks}
-use Rattle.mls_tree.specs.Cells.{Cells, of_front, of_back, of_padded}
+use Rattle.mls_tree.proofs.Cells.{Cells, of_front, of_back, of_padded}
 use Rattle.mls_check.proofs.Orders.{rules-by_order}
-use Rattle.mls_tree.specs.Sent.{sent_is}
+use Rattle.mls_tree.proofs.SentLemmas.{sent_is}
 
 -- ---- the lists of a tree that bytes spell rise
 

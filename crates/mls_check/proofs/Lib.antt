@@ -1,3 +1,4 @@
+pub mod Reports
 mod GoodTrees
 mod Orders
 mod SentTrees

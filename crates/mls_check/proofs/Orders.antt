@@ -12,7 +12,8 @@ use Rattle.mls_text.specs.Text.{Entry, entry_of}
 use Rattle.mls_text.specs.declared.page.Page as code
 use Rattle.mls_text.specs.declared.text.Line.{Line}
 use Rattle.mls_check.specs.Check.{all_passed, behind, step, ok_line, suite_line, rules_report, tree_entries, tree_report}
-use Rattle.mls_check.specs.Reports.{lines_before, report_by, rule_entries}
+use Rattle.mls_check.specs.Reports.{lines_before, rule_entries}
+use Rattle.mls_check.proofs.Reports.{report_by}
 use Rattle.mls_check.specs.declared.report.SuiteChecks.{SuiteChecks}
 
 -- whatever the checks come to

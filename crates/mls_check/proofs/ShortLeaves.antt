@@ -13,8 +13,8 @@ use Rattle.mls_term.specs.Term.{Term}
 use Rattle.mls_term.specs.Arrays.{from_nodes}
 use Rattle.mls_tree.specs.Tree.{max_leaves}
 use Rattle.mls_tree.specs.Short.{HasShortLeaves}
-use Rattle.mls_tree.specs.ShortLeaves.{short_leaves}
-use Rattle.mls_tree.specs.Sent.{sent_is}
+use Rattle.mls_tree.proofs.ShortLeaves.{short_leaves}
+use Rattle.mls_tree.proofs.SentLemmas.{sent_is}
 
 abbrev too_long : Result (List (Option Node)) ℕ
 too_long = Err 6

@@ -1,9 +1,7 @@
 -- The lines of the checks, and what the first that fails leaves of them.
-use Rattle.std.specs.Prelude.{◌==◌, ℕ, List, [], ◌∷◌, codes, if◌then◌else◌, take, Result, Ok, Err}
-use Rattle.mls_wire.specs.Checks.{Passed}
-use Rattle.mls_text.specs.Page.{Page, refused}
+use Rattle.std.specs.Prelude.{◌==◌, ℕ, List, [], ◌∷◌, codes, if◌then◌else◌}
 use Rattle.mls_text.specs.Text.{Entry}
-use Rattle.mls_check.specs.Check.{all_passed, behind, ok_line, suite_line}
+use Rattle.mls_check.specs.Check.{ok_line, suite_line}
 use Rattle.mls_check.specs.declared.report.SuiteChecks.{SuiteChecks}
 
 -- the lines of all checks of a good tree
@@ -17,8 +15,3 @@ unfoldable pub lines_before : ℕ → ℕ
 lines_before n =
     if n == 23 then 0 else (if n == 24 then 1 else (if n == 25 then 2 else (
     if n == 26 then 3 else (if n == 51 then 4 else (if n == 52 then 5 else 6)))))
-
--- the page that the first failing check decides
-abbrev pub report_by : SuiteChecks → Result Passed ℕ → Page Entry
-report_by own (Ok p) = behind (rule_entries own) all_passed
-report_by own (Err n) = behind (take (lines_before n) (rule_entries own)) (refused n)

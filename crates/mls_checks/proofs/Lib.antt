@@ -1,0 +1,3 @@
+pub mod LeafLaws
+pub mod Names
+pub mod SignedLaws

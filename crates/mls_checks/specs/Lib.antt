@@ -4,5 +4,3 @@ pub mod Short
 pub mod Leaf
 pub mod Checks
 pub mod Laws
-pub mod LeafLaws
-pub mod SignedLaws

@@ -10,7 +10,7 @@ use Rattle.mls_wire.specs.Checks.{passed}
 use Rattle.mls_wire.specs.Format.{IsBytes}
 use Rattle.mls_wire.specs.Laws.{bind_ok, ok_is}
 use Rattle.mls_wire.specs.Reading.{◌>>=◌}
-use Rattle.mls_kdf.specs.Lengths.{length-ref_hash}
+use Rattle.mls_kdf.proofs.Lengths.{length-ref_hash}
 use Rattle.mls_leaf.specs.KeyPackage.{key_package}
 use Rattle.mls_leaf.specs.Proposal.{proposal}
 use Rattle.mls_leaf.specs.declared.key_package.KeyPackage.{KeyPackage}
@@ -29,29 +29,32 @@ use Rattle.mls_model.specs.Agreement.{Agree, AgreeSecret, Keeps, IsGoodPending, 
 use Rattle.mls_model.specs.Candidate.{Candidate}
 use Rattle.mls_model.specs.Claims.{IsMade, FollowsTo, Receives}
 use Rattle.mls_model.specs.Commit.{Change, public_with}
-use Rattle.mls_model.specs.Found.{DidPending, DidOther}
+use Rattle.mls_model.specs.Found.{DidPending}
+use Rattle.mls_model.proofs.Found.{DidOther}
 use Rattle.mls_model.specs.Journal.{names_in, adds_in, used_of}
 use Rattle.mls_model.specs.Make.{MadePath, Made, path_secret_for, path_seals, welcome_if, make, committed}
 use Rattle.mls_model.specs.Member.{Kept, Pending, Member, kept_under, used_one, used_by, advanced, with_pending}
 use Rattle.mls_model.specs.Messages.{is_within_limit, reference_of}
 use Rattle.mls_model.specs.Proposals.{adds}
 use Rattle.mls_model.specs.Public.{PublicState, Used}
-use Rattle.mls_model.specs.Receipts.{did_take}
+use Rattle.mls_model.proofs.Receipts.{did_take}
 use Rattle.mls_model.specs.Sharing.{ShareEpoch, SharesNext, IsAccepted, JoinsNext, ReachesGroup}
 use Rattle.mls_model.specs.Welcome.{unsigned_info, signed_info, secrets_with, welcome_message}
 use Rattle.mls_model.specs.Verdict.{own_pending, pending_or_received, verdict}
-use Rattle.mls_laws.specs.Joining.{adds_counted}
-use Rattle.mls_claims.specs.Along.{received_along}
-use Rattle.mls_claims.specs.Delivered.{pending_leads, delivered_good}
-use Rattle.mls_claims.specs.Entered.{are_from, joined_good}
-use Rattle.mls_claims.specs.Joiners.{JoinsBeside, joiners_beside}
-use Rattle.mls_claims.specs.Makes.{message_of, made_of, Makes, make_did, joiner_of, tag_of}
-use Rattle.mls_claims.specs.One.{was_found}
-use Rattle.mls_claims.specs.Pends.{made_pends}
+use Rattle.mls_laws.proofs.Joining.{adds_counted}
+use Rattle.mls_claims.proofs.Along.{received_along}
+use Rattle.mls_claims.proofs.Delivered.{pending_leads, delivered_good}
+use Rattle.mls_claims.proofs.Entered.{are_from, joined_good}
+use Rattle.mls_claims.proofs.Joiners.{JoinsBeside, joiners_beside}
+use Rattle.mls_claims.specs.Makes.{message_of, made_of, Makes, joiner_of, tag_of}
+use Rattle.mls_claims.proofs.Makes.{make_did}
+use Rattle.mls_claims.proofs.One.{was_found}
+use Rattle.mls_claims.proofs.Pends.{made_pends}
 use Rattle.mls_claims.specs.Spelled.{FullFits}
-use Rattle.mls_claims.specs.Stays.{receivers_hold}
-use Rattle.mls_claims.specs.Still.{pending_good}
-use Rattle.mls_claims.specs.Used.{AreGoodKept, kept_good, IsUsedAlike, used_for_other}
+use Rattle.mls_claims.proofs.Stays.{receivers_hold}
+use Rattle.mls_claims.proofs.Still.{pending_good}
+use Rattle.mls_claims.specs.Used.{AreGoodKept, IsUsedAlike}
+use Rattle.mls_claims.proofs.Used.{kept_good, used_for_other}
 
 -- ---- the list has a spelling
 

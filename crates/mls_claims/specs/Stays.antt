@@ -1,65 +1,25 @@
 -- A member that a commit doesn't remove stands in the tree of its edits with the keys that are due.
-use Rattle.std.proofs.Common.{◌≡◌, ℕ, false, List, Option, Some, IsSome, Ok, refl, sym, ap, ◌∙◌, arith}
-use Rattle.std.specs.Prelude.{◌≢◌}
+use Rattle.std.specs.Prelude.{◌≡◌, ℕ, false, List, Some, Ok, ◌≢◌}
 use Rattle.mls_leaf.specs.declared.leaf.LeafNode.{LeafNode}
 use Rattle.mls_types.specs.declared.commit.ProposalOrRef.{ProposalOrRef}
 use Rattle.mls_suite.specs.Crypto.{Crypto, Lawful}
-use Rattle.mls_term.specs.Good.{has_good_lists}
-use Rattle.mls_term.specs.Laws.{IsIn}
 use Rattle.mls_term.specs.Sets.{has}
-use Rattle.mls_term.specs.Term.{Term, leaf_of}
-use Rattle.mls_paths.specs.ListLaws.{right_are_below}
-use Rattle.mls_paths.specs.Lists.{ListsBelow}
-use Rattle.mls_model.specs.Public.{PublicState, Used}
+use Rattle.mls_term.specs.Term.{leaf_of}
+use Rattle.mls_model.specs.Public.{Used}
 use Rattle.mls_model.specs.Proposals.{removed}
 use Rattle.mls_model.specs.Commit.{Edits, edited}
-use Rattle.mls_model.specs.Member.{Member, used_by, named, first_own_key}
+use Rattle.mls_model.specs.Member.{Member, used_by}
 use Rattle.mls_model.specs.Agreement.{IsGoodMember}
-use Rattle.mls_model.specs.Claims.{ReceiversClaim}
-use Rattle.mls_laws.specs.Keys.{IsStanding}
-use Rattle.mls_laws.specs.Laws.{HasGood, IsKept}
-use Rattle.mls_laws.specs.Exact.{member_stands, followed_exact}
-use Rattle.mls_laws.specs.Own.{used_have_passed, used_are_owned}
-use Rattle.mls_laws.specs.Sound.{edits_good}
-use Rattle.mls_laws.specs.Staying.{edits_follow_committer}
 use Rattle.mls_claims.specs.Opened.{Stays}
-use Rattle.mls_claims.specs.Sent.{leaf_is_in}
 use Rattle.mls_model.specs.Agreement.{Agree, AgreeSecret, Keeps}
 use Rattle.mls_model.specs.Claims.{IsMade}
 use Rattle.mls_model.specs.Journal.{names_in}
 use Rattle.mls_model.specs.Make.{Made}
-use Rattle.mls_claims.specs.Received.{ReceivesOther, receivers_of_staying, receives_by}
-
--- ---- the whole
-
-pub taken : (t : Term) (i : ℕ) (x : LeafNode) → leaf_of t i ≡ Some x → IsSome (leaf_of t i)
-taken t i x e = rw e refl
-
-pub inside : (t : Term) (i : ℕ) (x : LeafNode) → leaf_of t i ≡ Some x → IsIn 0 t i
-inside t i x e = let p = (leaf_is_in t i x e).0 in record { low = omega arith; high = omega arith }
-
-lists_of_good : (c : Crypto) (p : PublicState) (t : Term) → HasGood c p t → ListsBelow 0 t
-unfolding has_good_lists
-lists_of_good c p t good = right_are_below 0 t (record { right = good.lists; rising = good.rising })
+use Rattle.mls_claims.specs.Received.{ReceivesOther}
 
 abbrev pub MemberStays : Type 0
 MemberStays = (c : Crypto) (m : Member) (i : ℕ) (list : List ProposalOrRef) (used : List Used) (e : Edits) (x : LeafNode) → IsGoodMember c m → i ≢ m.keys.leaf → leaf_of m.public.tree i ≡ Some x →
     used_by m.kept i list ≡ Ok used → edited c m.public i used ≡ Ok e → has (removed used) m.keys.leaf ≡ false → Stays c m i list e
-
-pub member_stays : MemberStays
-member_stays c m i list used e x good apart is uses edits here =
-    let own = used_are_owned c m i list used good.kept apart uses in
-    let new : Option (List ℕ) = first_own_key (named m.kept list) in
-    let there : IsSome (leaf_of m.public.tree m.keys.leaf) = taken _ _ good.own good.is_own in
-    let s : IsStanding m.keys.leaf e = member_stands c m.public i used e new m.keys.leaf edits there here own in
-    let k : IsKept i m.public.tree e = edits_follow_committer c m.public i used e edits (taken _ _ x is) in
-    let sound : HasGood c m.public e.tree = edits_good c m.public i used e good.tree (used_have_passed c m i list used good.kept uses) (taken _ _ x is) edits in
-    record {
-      two = record { first = inside e.tree i x (k.leaf ∙ is); second = inside e.tree m.keys.leaf s.leaf s.is_leaf; apart = λ q. apart (sym q) };
-      lists = lists_of_good c m.public e.tree sound;
-      exact = followed_exact c m.public i used e new m.keys edits there here own good.keys;
-      old = s.old;
-    }
 
 -- A made commit passes the verdict of each active member at another leaf that agrees with its maker, in secrets too, and
 -- keeps the proposals that it names.
@@ -67,11 +27,3 @@ member_stays c m i list used e x good apart is uses edits here =
 abbrev pub MadeIsReceived : Type 0
 MadeIsReceived = (c : Crypto) → Lawful c → (maker m : Member) (list : List ProposalOrRef) (made : Made) → IsMade c maker list made → IsGoodMember c m → maker.keys.leaf ≢ m.keys.leaf → Agree maker m → AgreeSecret maker m →
     Keeps m.kept list (names_in maker.kept list) → ReceivesOther c m list made
-
-pub made_is_received : MadeIsReceived
-made_is_received c laws maker m list made is good apart agree secret keeps =
-    receivers_of_staying c laws maker m list made is good apart agree secret keeps
-    (λ used e uses edits here. member_stays c m maker.keys.leaf list used e is.good.own good apart (ap (λ (t : Term). leaf_of t maker.keys.leaf) (sym agree.tree) ∙ is.good.is_own) uses edits here)
-
-pub receivers_hold : ReceiversClaim
-receivers_hold c laws maker m list made is good active apart agree secret keeps = receives_by c m list made active (made_is_received c laws maker m list made is good apart agree secret keeps)

@@ -1,3 +1,5 @@
+pub mod Below
+pub mod Names
 mod Paths
 mod Contexts
 mod Mapped

@@ -13,11 +13,11 @@ use Rattle.mls_checks.specs.Checks.{replaced_checks}
 use Rattle.mls_checks.specs.declared.checks.Source.TheVariants as made_for
 use Rattle.mls_term.specs.Term.{Term, leaf_of}
 use Rattle.mls_term.specs.Way.{Step, filtered_way, path_length, target_count, ciphertext_counts}
-use Rattle.mls_term.specs.TakenLaws.{some_at}
+use Rattle.mls_term.proofs.TakenLaws.{some_at}
 use Rattle.mls_tree.specs.Paths.{counts_answer, merge_answer}
 use Rattle.mls_model.specs.Public.{PublicState, Used}
 use Rattle.mls_model.specs.Commit.{Edits, edited, node_keys, cipher_counts, due_counts, with_path}
-use Rattle.mls_laws.specs.Staying.{edits_follow_committer}
+use Rattle.mls_laws.proofs.Staying.{edits_follow_committer}
 use Rattle.mls_commit.specs.Staying.{Stays, count_checks}
 
 -- ---- counts

@@ -18,7 +18,7 @@ use Rattle.mls_commit.specs.Changed.{change_of}
 use Rattle.mls_public_group.specs.NextTree.{next_term, is_merged, Follows}
 use Rattle.mls_public_group.specs.declared.next_tree.NextTree.{NextTree}
 use Rattle.mls_public_group.specs.declared.next_tree.NextTree.TheVariants.{Edited, EditedMerged, Merged}
-use Rattle.mls_laws.specs.Inversion.{edited_steps}
+use Rattle.mls_laws.proofs.Inversion.{edited_steps}
 
 pub next_alike : (s t : Term) (n : NextTree) → (is_merged n ≡ true → s ≡ t) → next_term s n ≡ next_term t n
 unfolding next_term

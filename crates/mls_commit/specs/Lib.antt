@@ -2,6 +2,5 @@ pub mod Faults
 pub mod Names
 pub mod Codes
 pub mod Changed
-pub mod Below
 pub mod Staying
 pub mod Received

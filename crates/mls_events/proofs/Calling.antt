@@ -6,7 +6,7 @@ use Rattle.mls_model.specs.Member.{Member}
 use Rattle.mls_model.specs.declared.event.Reply.{Reply}
 use Rattle.mls_model.specs.Calls.{sent}
 use Rattle.mls_model.specs.World.{Entrant, Seat, World, with_member, seat_at}
-use Rattle.mls_public_group.specs.Rest.{all_at}
+use Rattle.mls_public_group.proofs.Rest.{all_at}
 use Rattle.mls_events.specs.Stored.{Seated, Making, seat_of, made_of, world_of, AreStored, IsWithin}
 use Rattle.mls_events.proofs.Stores.{seat_set, all_set}
 

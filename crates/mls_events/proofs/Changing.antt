@@ -16,7 +16,7 @@ use Rattle.mls_model.specs.Member.{Member}
 use Rattle.mls_model.specs.Verdict.{verdict}
 use Rattle.mls_model.specs.Calls.{journal_after, deliver_answer}
 use Rattle.mls_model.specs.World.{Entrant, Seat, World, bytes_of, with_joined}
-use Rattle.mls_public_group.specs.Rest.{all_at, all_behind}
+use Rattle.mls_public_group.proofs.Rest.{all_at, all_behind}
 use Rattle.mls_events.specs.Parts.{seat_verdict, advances}
 use Rattle.mls_events.specs.Stored.{journal_at, IsWithin, HasEntry, AreMore, Seated, Making, seat_of, made_of, world_of, AreStored}
 use Rattle.mls_events.proofs.Stores.{seat_set, seats_stay, made_stay, stored_more, unchanged, all_set}

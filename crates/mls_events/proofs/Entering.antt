@@ -4,7 +4,7 @@ use Rattle.std.specs.List.{list_any}
 use Rattle.std.specs.Str.{bytes_eq}
 use Rattle.std.proofs.lemmas.Option.{slice_get_within}
 use Rattle.mls_wire.specs.Checks.{Passed, require, given, ◌>>◌}
-use Rattle.mls_wire.specs.CheckLaws.{bind_ok, require_ok, given_ok}
+use Rattle.mls_wire.proofs.CheckLaws.{bind_ok, require_ok, given_ok}
 use Rattle.mls_wire.specs.Laws.{ok_is}
 use Rattle.mls_wire.specs.Reading.{◌>>=◌}
 use Rattle.mls_suite.specs.Crypto.{Crypto}

@@ -1,3 +1,4 @@
+pub mod NamesLemmas
 pub mod Unrolled
 pub mod Stores
 pub mod Readings

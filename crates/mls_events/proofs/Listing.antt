@@ -22,7 +22,7 @@ use Rattle.mls_model.specs.Make.{listed_of}
 use Rattle.mls_model.specs.Member.{Kept, kept_under, used_one, used_by, named_one, named}
 use Rattle.mls_model.specs.Journal.{Journal, names_in, used_of, adds_in}
 use Rattle.mls_model.specs.World.{World, item_of, items_of, made_for}
-use Rattle.mls_public_group.specs.Rest.{here, all_behind}
+use Rattle.mls_public_group.proofs.Rest.{here, all_behind}
 use Rattle.mls_member.specs.Answers.{IsShortItem, AreShortItems}
 use Rattle.mls_events.specs.Listed.{said_by, also}
 use Rattle.mls_events.specs.Parts.{adds_for, FirstIs}

@@ -10,7 +10,7 @@ use Rattle.mls_wire.specs.Format.{IsBytes}
 use Rattle.mls_wire.specs.Combine.{vector}
 use Rattle.mls_leaf.specs.Faults.{Spells, whole}
 use Rattle.mls_leaf.specs.Limits.{input_limit}
-use Rattle.mls_leaf.specs.WholeLaws.{whole_takes, spells_same}
+use Rattle.mls_leaf.proofs.WholeLaws.{whole_takes, spells_same}
 use Rattle.mls_leaf.specs.KeyPackage.{key_package}
 use Rattle.mls_leaf.specs.Proposal.{proposal as proposal_format}
 use Rattle.mls_leaf.specs.declared.key_package.KeyPackage.{KeyPackage}
@@ -43,9 +43,9 @@ use Rattle.mls_model.specs.Messages.{decoded, reference_of}
 use Rattle.mls_model.specs.World.{if_proposal}
 use Rattle.mls_model.specs.Journal.{list_in, list_of_body, list_of_message}
 use Rattle.mls_model.specs.Candidate.{package_message}
-use Rattle.mls_public_group.specs.Lengths.{last_within, length-uint16}
-use Rattle.mls_member.specs.LengthLaws.{within_limit}
-use Rattle.mls_member.specs.ContentLaws.{IsPublic}
+use Rattle.mls_public_group.proofs.Lengths.{last_within, length-uint16}
+use Rattle.mls_member.proofs.LengthLaws.{within_limit}
+use Rattle.mls_member.proofs.ContentLaws.{IsPublic}
 use Rattle.mls_events.specs.Sources.{package_read, reference_read, reference_said}
 
 -- ---- KeyPackages

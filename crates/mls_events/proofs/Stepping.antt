@@ -3,7 +3,8 @@ use Rattle.std.proofs.Common.{◌≡◌, ℕ, Bool, true, not, List, [], ◌∷�
 use Rattle.std.specs.Global.{Vec}
 use Rattle.mls_wire.specs.Checks.{given}
 use Rattle.mls_leaf.specs.Limits.{input_limit}
-use Rattle.mls_leaf.specs.WholeLaws.{is_input_fault, is_input_answered}
+use Rattle.mls_leaf.specs.WholeLaws.{is_input_fault}
+use Rattle.mls_leaf.proofs.WholeLaws.{is_input_answered}
 use Rattle.mls_types.specs.Answered.{mls_message_faults}
 use Rattle.mls_types.specs.Message.{mls_message}
 use Rattle.mls_model.specs.declared.event.Source.{Source}
@@ -13,7 +14,7 @@ use Rattle.mls_model.specs.declared.event.WorldItem.TheVariants.{RefOf, Add, Rem
 use Rattle.mls_model.specs.declared.event.Event.{Event}
 use Rattle.mls_model.specs.declared.event.Event.TheVariants as event
 use Rattle.mls_model.specs.Messages.{decoded}
-use Rattle.mls_model.specs.RefusedSteps.{bind_refused, test_refused, given_refused}
+use Rattle.mls_model.proofs.RefusedSteps.{bind_refused, test_refused, given_refused}
 use Rattle.mls_model.specs.World.{World, seat_at, entrant_at, bytes_of, package_in, proposal_in, package_of, proposal_of, item_of}
 use Rattle.mls_events.specs.Outright.{early_add_checks, first_checks, early_commit_checks, early_delivery_checks, early_join_checks, early_checks}
 use Rattle.mls_model.specs.Calls.{drop_answer}

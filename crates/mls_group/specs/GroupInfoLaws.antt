@@ -1,5 +1,5 @@
 -- What is signed of a group info is all of its spelling in front of the signature.
-use Rattle.std.proofs.Common.{◌≡◌, ◌++◌, append_assoc}
+use Rattle.std.specs.Prelude.{◌≡◌, ◌++◌}
 use Rattle.mls_wire.specs.Reading.{opaque}
 use Rattle.mls_group.specs.GroupInfo.{group_info, group_info_tbs}
 use Rattle.mls_group.specs.declared.group_info.GroupInfo.{GroupInfo}
@@ -7,7 +7,3 @@ use Rattle.mls_group.specs.declared.group_info.GroupInfo.{GroupInfo}
 -- a group info is spelled as its GroupInfoTBS, and then its signature (RFC 9420, 12.4.3)
 abbrev pub GroupInfoIsSpelled : Type 0
 GroupInfoIsSpelled = (v : GroupInfo) → group_info.spell v ≡ group_info_tbs v ++ opaque v.signature
-
-pub group_info-spelled : GroupInfoIsSpelled
-unfolding group_info
-group_info-spelled v = simp append_assoc

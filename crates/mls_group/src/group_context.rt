@@ -29,7 +29,7 @@ impl Codec for GroupContext {
 
     ghost faults = { group_context_faults };
 
-    #[tactic(auto, using(mls_leaf::specs::Codecs::codecs), unfolding(crate::specs::GroupContext::group_context))]
+    #[tactic(auto, using(mls_leaf::proofs::Codecs::codecs), unfolding(crate::specs::GroupContext::group_context))]
     fn read(alloc: Global, reader: &mut Reader<'_>) -> Result<GroupContext, LeafError> {
         pass_mark(reader, 1, LeafError::BadTag)?;
         let cipher_suite = u16::read(alloc, reader)?;
@@ -47,7 +47,7 @@ impl Codec for GroupContext {
         })
     }
 
-    #[tactic(auto, using(mls_leaf::specs::Codecs::codecs), unfolding(crate::specs::GroupContext::group_context))]
+    #[tactic(auto, using(mls_leaf::proofs::Codecs::codecs), unfolding(crate::specs::GroupContext::group_context))]
     fn check(reader: &mut Reader<'_>) -> Result<(), LeafError> {
         pass_mark(reader, 1, LeafError::BadTag)?;
         u16::check(reader)?;
@@ -59,7 +59,7 @@ impl Codec for GroupContext {
         Ok(())
     }
 
-    #[tactic(auto, using(mls_leaf::specs::Codecs::codecs), unfolding(crate::specs::GroupContext::group_context))]
+    #[tactic(auto, using(mls_leaf::proofs::Codecs::codecs), unfolding(crate::specs::GroupContext::group_context))]
     fn write(&self, alloc: Global, writer: &mut Writer) -> Result<(), LeafError> {
         writer.u16(1)?;
         self.cipher_suite.write(alloc, writer)?;

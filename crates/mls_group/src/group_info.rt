@@ -32,7 +32,7 @@ pub struct GroupInfo {
 }
 
 /// Reads the extensions of a group info.
-#[tactic(auto, using(mls_leaf::specs::Codecs::codecs), unfolding(crate::specs::GroupInfo::group_info_extensions))]
+#[tactic(auto, using(mls_leaf::proofs::Codecs::codecs), unfolding(crate::specs::GroupInfo::group_info_extensions))]
 fn read_extensions(alloc: Global, reader: &mut Reader<'_>) -> Result<Option<RatchetTree>, LeafError>
     ensures { ReadsFront group_info_extensions reader.old result reader.new }
 {
@@ -56,7 +56,7 @@ fn read_extensions(alloc: Global, reader: &mut Reader<'_>) -> Result<Option<Ratc
 }
 
 /// Reads past the extensions of a group info.
-#[tactic(auto, using(mls_leaf::specs::Codecs::codecs), unfolding(crate::specs::GroupInfo::group_info_extensions))]
+#[tactic(auto, using(mls_leaf::proofs::Codecs::codecs), unfolding(crate::specs::GroupInfo::group_info_extensions))]
 fn check_extensions(reader: &mut Reader<'_>) -> Result<(), LeafError>
     ensures { ReadsPast group_info_extensions.pass reader.old result reader.new }
 {
@@ -80,7 +80,7 @@ fn check_extensions(reader: &mut Reader<'_>) -> Result<(), LeafError>
 }
 
 /// Adds the extensions of a group info.
-#[tactic(auto, using(mls_leaf::specs::Codecs::codecs), unfolding(crate::specs::GroupInfo::group_info_extensions))]
+#[tactic(auto, using(mls_leaf::proofs::Codecs::codecs), unfolding(crate::specs::GroupInfo::group_info_extensions))]
 fn write_extensions(
     ratchet_tree: &Option<RatchetTree>,
     alloc: Global,
@@ -108,7 +108,7 @@ impl Codec for GroupInfo {
 
     ghost faults = { group_info_faults };
 
-    #[tactic(auto, using(mls_leaf::specs::Codecs::codecs), unfolding(crate::specs::GroupInfo::group_info))]
+    #[tactic(auto, using(mls_leaf::proofs::Codecs::codecs), unfolding(crate::specs::GroupInfo::group_info))]
     fn read(alloc: Global, reader: &mut Reader<'_>) -> Result<GroupInfo, LeafError> {
         let group_context = GroupContext::read(alloc, reader)?;
         let ratchet_tree = read_extensions(alloc, reader)?;
@@ -124,7 +124,7 @@ impl Codec for GroupInfo {
         })
     }
 
-    #[tactic(auto, using(mls_leaf::specs::Codecs::codecs), unfolding(crate::specs::GroupInfo::group_info))]
+    #[tactic(auto, using(mls_leaf::proofs::Codecs::codecs), unfolding(crate::specs::GroupInfo::group_info))]
     fn check(reader: &mut Reader<'_>) -> Result<(), LeafError> {
         GroupContext::check(reader)?;
         check_extensions(reader)?;
@@ -134,7 +134,7 @@ impl Codec for GroupInfo {
         Ok(())
     }
 
-    #[tactic(auto, using(mls_leaf::specs::Codecs::codecs), unfolding(crate::specs::GroupInfo::group_info))]
+    #[tactic(auto, using(mls_leaf::proofs::Codecs::codecs), unfolding(crate::specs::GroupInfo::group_info))]
     fn write(&self, alloc: Global, writer: &mut Writer) -> Result<(), LeafError> {
         self.group_context.write(alloc, writer)?;
         write_extensions(&self.ratchet_tree, alloc, writer)?;
@@ -151,7 +151,7 @@ impl GroupInfo {
 
     /// The GroupInfoTBS, which its signer signs: the group info without its signature (RFC 9420, 12.4.3).
     /// TooLong where a vector in it has 2^30 bytes or more, unless memory runs out before it.
-    #[tactic(auto, using(mls_leaf::specs::Codecs::codecs))]
+    #[tactic(auto, using(mls_leaf::proofs::Codecs::codecs))]
     pub fn to_be_signed(&self, alloc: Global) -> Result<Vec<u8>, LeafError>
         ensures { Writes (GroupInfoTbsFits self.now) (group_info_tbs self.now) result }
     {

@@ -41,7 +41,7 @@ impl Codec for HpkeCiphertext {
 
     ghost faults = { hpke_ciphertext_faults };
 
-    #[tactic(auto, using(mls_leaf::specs::Codecs::codecs), unfolding(crate::specs::UpdatePath::hpke_ciphertext))]
+    #[tactic(auto, using(mls_leaf::proofs::Codecs::codecs), unfolding(crate::specs::UpdatePath::hpke_ciphertext))]
     fn read(alloc: Global, reader: &mut Reader<'_>) -> Result<HpkeCiphertext, LeafError> {
         let kem_output = Bytes::read(alloc, reader)?;
         let ciphertext = Bytes::read(alloc, reader)?;
@@ -51,14 +51,14 @@ impl Codec for HpkeCiphertext {
         })
     }
 
-    #[tactic(auto, using(mls_leaf::specs::Codecs::codecs), unfolding(crate::specs::UpdatePath::hpke_ciphertext))]
+    #[tactic(auto, using(mls_leaf::proofs::Codecs::codecs), unfolding(crate::specs::UpdatePath::hpke_ciphertext))]
     fn check(reader: &mut Reader<'_>) -> Result<(), LeafError> {
         Bytes::check(reader)?;
         Bytes::check(reader)?;
         Ok(())
     }
 
-    #[tactic(auto, using(mls_leaf::specs::Codecs::codecs), unfolding(crate::specs::UpdatePath::hpke_ciphertext))]
+    #[tactic(auto, using(mls_leaf::proofs::Codecs::codecs), unfolding(crate::specs::UpdatePath::hpke_ciphertext))]
     fn write(&self, alloc: Global, writer: &mut Writer) -> Result<(), LeafError> {
         self.kem_output.write(alloc, writer)?;
         self.ciphertext.write(alloc, writer)?;
@@ -73,7 +73,7 @@ impl Codec for UpdatePathNode {
 
     ghost faults = { update_path_node_faults };
 
-    #[tactic(auto, using(mls_leaf::specs::Codecs::codecs), unfolding(crate::specs::UpdatePath::update_path_node))]
+    #[tactic(auto, using(mls_leaf::proofs::Codecs::codecs), unfolding(crate::specs::UpdatePath::update_path_node))]
     fn read(alloc: Global, reader: &mut Reader<'_>) -> Result<UpdatePathNode, LeafError> {
         let encryption_key = Bytes::read(alloc, reader)?;
         let ciphertexts = Items::<HpkeCiphertext>::read(alloc, reader)?;
@@ -83,14 +83,14 @@ impl Codec for UpdatePathNode {
         })
     }
 
-    #[tactic(auto, using(mls_leaf::specs::Codecs::codecs), unfolding(crate::specs::UpdatePath::update_path_node))]
+    #[tactic(auto, using(mls_leaf::proofs::Codecs::codecs), unfolding(crate::specs::UpdatePath::update_path_node))]
     fn check(reader: &mut Reader<'_>) -> Result<(), LeafError> {
         Bytes::check(reader)?;
         Items::<HpkeCiphertext>::check(reader)?;
         Ok(())
     }
 
-    #[tactic(auto, using(mls_leaf::specs::Codecs::codecs), unfolding(crate::specs::UpdatePath::update_path_node))]
+    #[tactic(auto, using(mls_leaf::proofs::Codecs::codecs), unfolding(crate::specs::UpdatePath::update_path_node))]
     fn write(&self, alloc: Global, writer: &mut Writer) -> Result<(), LeafError> {
         self.encryption_key.write(alloc, writer)?;
         self.ciphertexts.write(alloc, writer)?;
@@ -105,21 +105,21 @@ impl Codec for UpdatePath {
 
     ghost faults = { update_path_faults };
 
-    #[tactic(auto, using(mls_leaf::specs::Codecs::codecs), unfolding(crate::specs::UpdatePath::update_path))]
+    #[tactic(auto, using(mls_leaf::proofs::Codecs::codecs), unfolding(crate::specs::UpdatePath::update_path))]
     fn read(alloc: Global, reader: &mut Reader<'_>) -> Result<UpdatePath, LeafError> {
         let leaf_node = LeafNode::read(alloc, reader)?;
         let nodes = Items::<UpdatePathNode>::read(alloc, reader)?;
         Ok(UpdatePath { leaf_node, nodes })
     }
 
-    #[tactic(auto, using(mls_leaf::specs::Codecs::codecs), unfolding(crate::specs::UpdatePath::update_path))]
+    #[tactic(auto, using(mls_leaf::proofs::Codecs::codecs), unfolding(crate::specs::UpdatePath::update_path))]
     fn check(reader: &mut Reader<'_>) -> Result<(), LeafError> {
         LeafNode::check(reader)?;
         Items::<UpdatePathNode>::check(reader)?;
         Ok(())
     }
 
-    #[tactic(auto, using(mls_leaf::specs::Codecs::codecs), unfolding(crate::specs::UpdatePath::update_path))]
+    #[tactic(auto, using(mls_leaf::proofs::Codecs::codecs), unfolding(crate::specs::UpdatePath::update_path))]
     fn write(&self, alloc: Global, writer: &mut Writer) -> Result<(), LeafError> {
         self.leaf_node.write(alloc, writer)?;
         self.nodes.write(alloc, writer)?;

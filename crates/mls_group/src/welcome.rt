@@ -46,7 +46,7 @@ impl Codec for EncryptedGroupSecrets {
 
     ghost faults = { encrypted_group_secrets_faults };
 
-    #[tactic(auto, using(mls_leaf::specs::Codecs::codecs), unfolding(crate::specs::Welcome::encrypted_group_secrets))]
+    #[tactic(auto, using(mls_leaf::proofs::Codecs::codecs), unfolding(crate::specs::Welcome::encrypted_group_secrets))]
     fn read(alloc: Global, reader: &mut Reader<'_>) -> Result<EncryptedGroupSecrets, LeafError> {
         let new_member = Bytes::read(alloc, reader)?;
         let encrypted_group_secrets = HpkeCiphertext::read(alloc, reader)?;
@@ -56,14 +56,14 @@ impl Codec for EncryptedGroupSecrets {
         })
     }
 
-    #[tactic(auto, using(mls_leaf::specs::Codecs::codecs), unfolding(crate::specs::Welcome::encrypted_group_secrets))]
+    #[tactic(auto, using(mls_leaf::proofs::Codecs::codecs), unfolding(crate::specs::Welcome::encrypted_group_secrets))]
     fn check(reader: &mut Reader<'_>) -> Result<(), LeafError> {
         Bytes::check(reader)?;
         HpkeCiphertext::check(reader)?;
         Ok(())
     }
 
-    #[tactic(auto, using(mls_leaf::specs::Codecs::codecs), unfolding(crate::specs::Welcome::encrypted_group_secrets))]
+    #[tactic(auto, using(mls_leaf::proofs::Codecs::codecs), unfolding(crate::specs::Welcome::encrypted_group_secrets))]
     fn write(&self, alloc: Global, writer: &mut Writer) -> Result<(), LeafError> {
         self.new_member.write(alloc, writer)?;
         self.encrypted_group_secrets.write(alloc, writer)?;
@@ -78,7 +78,7 @@ impl Codec for GroupSecrets {
 
     ghost faults = { group_secrets_faults };
 
-    #[tactic(auto, using(mls_leaf::specs::Codecs::codecs), unfolding(crate::specs::Welcome::group_secrets))]
+    #[tactic(auto, using(mls_leaf::proofs::Codecs::codecs), unfolding(crate::specs::Welcome::group_secrets))]
     fn read(alloc: Global, reader: &mut Reader<'_>) -> Result<GroupSecrets, LeafError> {
         let joiner_secret = Bytes::read(alloc, reader)?;
         let path_secret = Option::<Bytes>::read(alloc, reader)?;
@@ -90,7 +90,7 @@ impl Codec for GroupSecrets {
         })
     }
 
-    #[tactic(auto, using(mls_leaf::specs::Codecs::codecs), unfolding(crate::specs::Welcome::group_secrets))]
+    #[tactic(auto, using(mls_leaf::proofs::Codecs::codecs), unfolding(crate::specs::Welcome::group_secrets))]
     fn check(reader: &mut Reader<'_>) -> Result<(), LeafError> {
         Bytes::check(reader)?;
         Option::<Bytes>::check(reader)?;
@@ -98,7 +98,7 @@ impl Codec for GroupSecrets {
         Ok(())
     }
 
-    #[tactic(auto, using(mls_leaf::specs::Codecs::codecs), unfolding(crate::specs::Welcome::group_secrets))]
+    #[tactic(auto, using(mls_leaf::proofs::Codecs::codecs), unfolding(crate::specs::Welcome::group_secrets))]
     fn write(&self, alloc: Global, writer: &mut Writer) -> Result<(), LeafError> {
         self.joiner_secret.write(alloc, writer)?;
         self.path_secret.write(alloc, writer)?;
@@ -114,7 +114,7 @@ impl Codec for Welcome {
 
     ghost faults = { welcome_faults };
 
-    #[tactic(auto, using(mls_leaf::specs::Codecs::codecs), unfolding(crate::specs::Welcome::welcome))]
+    #[tactic(auto, using(mls_leaf::proofs::Codecs::codecs), unfolding(crate::specs::Welcome::welcome))]
     fn read(alloc: Global, reader: &mut Reader<'_>) -> Result<Welcome, LeafError> {
         let cipher_suite = u16::read(alloc, reader)?;
         let secrets = Items::<EncryptedGroupSecrets>::read(alloc, reader)?;
@@ -126,7 +126,7 @@ impl Codec for Welcome {
         })
     }
 
-    #[tactic(auto, using(mls_leaf::specs::Codecs::codecs), unfolding(crate::specs::Welcome::welcome))]
+    #[tactic(auto, using(mls_leaf::proofs::Codecs::codecs), unfolding(crate::specs::Welcome::welcome))]
     fn check(reader: &mut Reader<'_>) -> Result<(), LeafError> {
         u16::check(reader)?;
         Items::<EncryptedGroupSecrets>::check(reader)?;
@@ -134,7 +134,7 @@ impl Codec for Welcome {
         Ok(())
     }
 
-    #[tactic(auto, using(mls_leaf::specs::Codecs::codecs), unfolding(crate::specs::Welcome::welcome))]
+    #[tactic(auto, using(mls_leaf::proofs::Codecs::codecs), unfolding(crate::specs::Welcome::welcome))]
     fn write(&self, alloc: Global, writer: &mut Writer) -> Result<(), LeafError> {
         self.cipher_suite.write(alloc, writer)?;
         self.secrets.write(alloc, writer)?;

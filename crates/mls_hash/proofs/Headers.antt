@@ -3,7 +3,7 @@ use Rattle.std.proofs.Common.{◌≡◌, ℕ, ◌+◌, ◌%◌, ◌^◌, ◌<◌
 use Rattle.std.specs.Int.{w32, to_be_bytes}
 use Rattle.std.proofs.lemmas.Bool.{le-ltb, lt-ltb}
 use Rattle.mls_wire.specs.Reading.{header}
-use Rattle.mls_wire.specs.Laws.{low_bytes}
+use Rattle.mls_wire.proofs.LawsLemmas.{low_bytes}
 
 pub short_header : (n : ℕ) → n < 64 → n ∷ [] ≡ header n
 unfolding header

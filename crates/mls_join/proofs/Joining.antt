@@ -13,7 +13,7 @@ use Rattle.mls_model.specs.Candidate.{Candidate}
 use Rattle.mls_model.specs.Opening.{Opened}
 use Rattle.mls_model.specs.Join.{joined_tree, signer_checks, place_of, joined_keys, member_of}
 use Rattle.mls_model.specs.Member.{with_keys}
-use Rattle.mls_model.specs.KeyLaws.{with_all_keys}
+use Rattle.mls_model.proofs.KeyLaws.{with_all_keys}
 use Rattle.mls_join.specs.Stages.{entered}
 
 abbrev keys_of : ℕ → List ℕ → Keys → PrivateKeys

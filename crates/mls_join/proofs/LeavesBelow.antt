@@ -17,8 +17,8 @@ use Rattle.mls_term.specs.Term.{Term, leaf_at, leaf_of, width}
 use Rattle.mls_term.specs.Arrays.{leaf_in, term_of, padded, height_for, sent_term, from_nodes}
 use Rattle.mls_tree.specs.Tree.{max_leaves}
 use Rattle.mls_tree.specs.Short.{HasShortLeaves}
-use Rattle.mls_tree.specs.Cells.{Cells, of_front, of_back, of_padded}
-use Rattle.mls_tree.specs.Sent.{sent_is}
+use Rattle.mls_tree.proofs.Cells.{Cells, of_front, of_back, of_padded}
+use Rattle.mls_tree.proofs.SentLemmas.{sent_is}
 use Rattle.mls_public_group.specs.Short.{IsBelow, HasLeavesBelow}
 
 -- the leaf in a cell is short, where there is one

@@ -1,3 +1,4 @@
+pub mod Names
 pub mod Lengths
 pub mod LeavesBelow
 pub mod Welcomes

@@ -5,8 +5,8 @@ use Rattle.std.specs.List.Sorted.{IsBinarySearchResult}
 use Rattle.std.proofs.lemmas.Bool.{cases_lt}
 use Rattle.std.proofs.lemmas.List.Sorted.{searched}
 use Rattle.mls_leaf.specs.Parent.{rises_from, inserted}
-use Rattle.mls_leaf.specs.RisingLaws.{above_front, no_less, taken_out}
-use Rattle.mls_leaf.specs.ParentLaws.{put_behind, put_on, put_before, put_there, put_last}
+use Rattle.mls_leaf.proofs.RisingLaws.{above_front, no_less, taken_out}
+use Rattle.mls_leaf.proofs.ParentLaws.{put_behind, put_on, put_before, put_there, put_last}
 
 -- ---- the place of a number
 

@@ -1,5 +1,5 @@
 -- What is signed is all of a spelling in front of the signature.
-use Rattle.std.proofs.Common.{◌≡◌, ◌++◌, append_assoc}
+use Rattle.std.specs.Prelude.{◌≡◌, ◌++◌}
 use Rattle.mls_wire.specs.Reading.{opaque}
 use Rattle.mls_leaf.specs.Leaf.{leaf_node}
 use Rattle.mls_leaf.specs.KeyPackage.{key_package}
@@ -14,11 +14,3 @@ LeafIsSpelled = (v : LeafNode) → leaf_node.spell v ≡ leaf_content v ++ opaqu
 -- a key package is spelled as its KeyPackageTBS, and then its signature (RFC 9420, section 10)
 abbrev pub KeyPackageIsSpelled : Type 0
 KeyPackageIsSpelled = (v : KeyPackage) → key_package.spell v ≡ key_package_tbs v ++ opaque v.signature
-
-pub leaf_node-spelled : (v : LeafNode) → leaf_node.spell v ≡ leaf_content v ++ opaque v.signature
-unfolding leaf_node leaf_content
-leaf_node-spelled v = simp append_assoc
-
-pub key_package-spelled : (v : KeyPackage) → key_package.spell v ≡ key_package_tbs v ++ opaque v.signature
-unfolding key_package key_package_tbs
-key_package-spelled v = simp append_assoc

@@ -1,18 +1,9 @@
 -- The names of refusals stand in the one table, each at its number.
-use Rattle.std.specs.Prelude.{◌≡◌, refl}
-use Rattle.mls_wire.specs.Names.{refusal_name, names_listed}
+use Rattle.std.specs.Prelude.{◌≡◌}
+use Rattle.mls_wire.specs.Names.{refusal_name}
 use Rattle.mls_leaf.specs.declared.error.LeafError.{LeafError}
-use Rattle.mls_leaf.specs.declared.error.LeafError.TheVariants.{Wire, BadTag, UnsupportedCredential, UnsupportedProposal, NotRising, ExtensionNotAllowed}
 use Rattle.mls_leaf.specs.Faults.{number_of, name_of}
 
 -- each name stands in the table at its number
 abbrev pub LeafNamesAreListed : Type 0
 LeafNamesAreListed = (e : LeafError) → name_of e ≡ refusal_name (number_of e)
-
-pub leaf_names_listed : LeafNamesAreListed
-leaf_names_listed (Wire e) = names_listed e
-leaf_names_listed BadTag = refl
-leaf_names_listed UnsupportedCredential = refl
-leaf_names_listed UnsupportedProposal = refl
-leaf_names_listed NotRising = refl
-leaf_names_listed ExtensionNotAllowed = refl

@@ -25,21 +25,21 @@ impl Codec for Extension {
 
     ghost faults = { extension_faults };
 
-    #[tactic(auto, using(crate::specs::Codecs::codecs), unfolding(crate::specs::Extension::extension))]
+    #[tactic(auto, using(crate::proofs::Codecs::codecs), unfolding(crate::specs::Extension::extension))]
     fn read(alloc: Global, reader: &mut Reader<'_>) -> Result<Extension, LeafError> {
         let kind = u16::read(alloc, reader)?;
         let content = Bytes::read(alloc, reader)?;
         Ok(Extension { kind, content })
     }
 
-    #[tactic(auto, using(crate::specs::Codecs::codecs), unfolding(crate::specs::Extension::extension))]
+    #[tactic(auto, using(crate::proofs::Codecs::codecs), unfolding(crate::specs::Extension::extension))]
     fn check(reader: &mut Reader<'_>) -> Result<(), LeafError> {
         u16::check(reader)?;
         Bytes::check(reader)?;
         Ok(())
     }
 
-    #[tactic(auto, using(crate::specs::Codecs::codecs), unfolding(crate::specs::Extension::extension))]
+    #[tactic(auto, using(crate::proofs::Codecs::codecs), unfolding(crate::specs::Extension::extension))]
     fn write(&self, alloc: Global, writer: &mut Writer) -> Result<(), LeafError> {
         self.kind.write(alloc, writer)?;
         self.content.write(alloc, writer)?;

@@ -38,7 +38,7 @@ fn add_optional<T: Codec>(
 
 /// The input of a leaf's tree hash (RFC 9420, section 7.8): 1, the leaf index, and the leaf, if the
 /// place is not blank.
-#[tactic(auto, using(crate::specs::Codecs::codecs), unfolding(crate::specs::Inputs::tree_hash_input_of_leaf))]
+#[tactic(auto, using(crate::proofs::Codecs::codecs), unfolding(crate::specs::Inputs::tree_hash_input_of_leaf))]
 pub fn tree_hash_input_of_leaf(
     alloc: Global,
     leaf_index: u32,
@@ -55,7 +55,7 @@ pub fn tree_hash_input_of_leaf(
 
 /// The input of a parent's tree hash (RFC 9420, section 7.8): 2, the parent, if the place is not
 /// blank, and the tree hashes of its children.
-#[tactic(auto, using(crate::specs::Codecs::codecs), unfolding(crate::specs::Inputs::tree_hash_input_of_parent))]
+#[tactic(auto, using(crate::proofs::Codecs::codecs), unfolding(crate::specs::Inputs::tree_hash_input_of_parent))]
 pub fn tree_hash_input_of_parent(
     alloc: Global,
     parent: Option<&ParentNode>,
@@ -74,7 +74,7 @@ pub fn tree_hash_input_of_parent(
 
 /// The input of a parent hash (RFC 9420, section 7.9): the parent's public key, its own parent hash,
 /// and the tree hash of the sibling as it was when the parent was set.
-#[tactic(auto, using(crate::specs::Codecs::codecs), unfolding(crate::specs::Inputs::parent_hash_input))]
+#[tactic(auto, using(crate::proofs::Codecs::codecs), unfolding(crate::specs::Inputs::parent_hash_input))]
 pub fn parent_hash_input(
     alloc: Global,
     encryption_key: &[u8],
@@ -91,7 +91,7 @@ pub fn parent_hash_input(
 }
 
 /// Adds the leaf without its signature.
-#[tactic(auto, using(crate::specs::Codecs::codecs), unfolding(crate::specs::Inputs::leaf_content))]
+#[tactic(auto, using(crate::proofs::Codecs::codecs), unfolding(crate::specs::Inputs::leaf_content))]
 fn add_leaf_content(alloc: Global, leaf: &LeafNode, writer: &mut Writer) -> Result<(), LeafError>
     ensures { AddsInput (LeafContentFits leaf.now) (leaf_content leaf.now) writer.old result writer.new }
 {
@@ -105,7 +105,7 @@ fn add_leaf_content(alloc: Global, leaf: &LeafNode, writer: &mut Writer) -> Resu
 }
 
 /// Adds where a leaf stands, if it is made in a group.
-#[tactic(auto, using(crate::specs::Codecs::codecs))]
+#[tactic(auto, using(crate::proofs::Codecs::codecs))]
 fn add_leaf_place(
     source: &LeafSource,
     group_id: &[u8],
@@ -132,7 +132,7 @@ fn add_leaf_place(
 impl LeafNode {
     /// What is signed of a leaf (RFC 9420, section 7.2): all but the signature, and for the sources
     /// update and commit the group and the leaf index. For a leaf of a key package these two do not count.
-    #[tactic(auto, using(crate::specs::Codecs::codecs), unfolding(crate::specs::Inputs::leaf_node_tbs))]
+    #[tactic(auto, using(crate::proofs::Codecs::codecs), unfolding(crate::specs::Inputs::leaf_node_tbs))]
     pub fn to_be_signed(
         &self,
         alloc: Global,
@@ -150,7 +150,7 @@ impl LeafNode {
 
 impl KeyPackage {
     /// What is signed of a key package (RFC 9420, section 10): all but the signature.
-    #[tactic(auto, using(crate::specs::Codecs::codecs), unfolding(crate::specs::Inputs::key_package_tbs))]
+    #[tactic(auto, using(crate::proofs::Codecs::codecs), unfolding(crate::specs::Inputs::key_package_tbs))]
     pub fn to_be_signed(&self, alloc: Global) -> Result<Vec<u8>, LeafError>
         ensures { Writes (KeyPackageTbsFits self.now) (key_package_tbs self.now) result }
     {

@@ -40,7 +40,7 @@ impl Codec for KeyPackage {
 
     ghost faults = { key_package_faults };
 
-    #[tactic(auto, using(crate::specs::Codecs::codecs), unfolding(crate::specs::KeyPackage::key_package))]
+    #[tactic(auto, using(crate::proofs::Codecs::codecs), unfolding(crate::specs::KeyPackage::key_package))]
     fn read(alloc: Global, reader: &mut Reader<'_>) -> Result<KeyPackage, LeafError> {
         pass_mark(reader, 1, LeafError::BadTag)?;
         let cipher_suite = u16::read(alloc, reader)?;
@@ -56,7 +56,7 @@ impl Codec for KeyPackage {
         })
     }
 
-    #[tactic(auto, using(crate::specs::Codecs::codecs), unfolding(crate::specs::KeyPackage::key_package))]
+    #[tactic(auto, using(crate::proofs::Codecs::codecs), unfolding(crate::specs::KeyPackage::key_package))]
     fn check(reader: &mut Reader<'_>) -> Result<(), LeafError> {
         pass_mark(reader, 1, LeafError::BadTag)?;
         u16::check(reader)?;
@@ -67,7 +67,7 @@ impl Codec for KeyPackage {
         Ok(())
     }
 
-    #[tactic(auto, using(crate::specs::Codecs::codecs), unfolding(crate::specs::KeyPackage::key_package))]
+    #[tactic(auto, using(crate::proofs::Codecs::codecs), unfolding(crate::specs::KeyPackage::key_package))]
     fn write(&self, alloc: Global, writer: &mut Writer) -> Result<(), LeafError> {
         writer.u16(1)?;
         self.cipher_suite.write(alloc, writer)?;

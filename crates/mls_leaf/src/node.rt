@@ -36,7 +36,7 @@ impl Codec for Node {
 
     ghost faults = { node_faults };
 
-    #[tactic(auto, using(crate::specs::Codecs::codecs), unfolding(crate::specs::Node::node))]
+    #[tactic(auto, using(crate::proofs::Codecs::codecs), unfolding(crate::specs::Node::node))]
     fn read(alloc: Global, reader: &mut Reader<'_>) -> Result<Node, LeafError> {
         match reader.u8()? {
             1 => {
@@ -51,7 +51,7 @@ impl Codec for Node {
         }
     }
 
-    #[tactic(auto, using(crate::specs::Codecs::codecs), unfolding(crate::specs::Node::node))]
+    #[tactic(auto, using(crate::proofs::Codecs::codecs), unfolding(crate::specs::Node::node))]
     fn check(reader: &mut Reader<'_>) -> Result<(), LeafError> {
         match reader.u8()? {
             1 => {
@@ -66,7 +66,7 @@ impl Codec for Node {
         }
     }
 
-    #[tactic(auto, using(crate::specs::Codecs::codecs), unfolding(crate::specs::Node::node))]
+    #[tactic(auto, using(crate::proofs::Codecs::codecs), unfolding(crate::specs::Node::node))]
     fn write(&self, alloc: Global, writer: &mut Writer) -> Result<(), LeafError> {
         match self {
             Node::Leaf(leaf) => {

@@ -88,7 +88,7 @@ fn check_rising(mut content: Reader<'_>) -> Result<(), LeafError>
 }
 
 /// Adds rising entries as a vector.
-#[tactic(auto, using(crate::specs::ParentLaws::rising_added))]
+#[tactic(auto, using(crate::proofs::ParentLaws::rising_added))]
 fn add_rising(alloc: Global, entries: &[u32], writer: &mut Writer) -> Result<(), LeafError>
     requires { rises entries.now ≡ true }
     ensures { AddsSpelling (vector_from rising 0) entries.now writer.old result writer.new }
@@ -201,7 +201,7 @@ impl Codec for ParentNode {
 
     ghost faults = { parent_node_faults };
 
-    #[tactic(auto, using(crate::specs::Codecs::codecs), unfolding(crate::specs::ParentNode::parent_node))]
+    #[tactic(auto, using(crate::proofs::Codecs::codecs), unfolding(crate::specs::ParentNode::parent_node))]
     fn read(alloc: Global, reader: &mut Reader<'_>) -> Result<ParentNode, LeafError> {
         let encryption_key = Bytes::read(alloc, reader)?;
         let parent_hash = Bytes::read(alloc, reader)?;
@@ -214,7 +214,7 @@ impl Codec for ParentNode {
         })
     }
 
-    #[tactic(auto, using(crate::specs::Codecs::codecs), unfolding(crate::specs::ParentNode::parent_node))]
+    #[tactic(auto, using(crate::proofs::Codecs::codecs), unfolding(crate::specs::ParentNode::parent_node))]
     fn check(reader: &mut Reader<'_>) -> Result<(), LeafError> {
         Bytes::check(reader)?;
         Bytes::check(reader)?;
@@ -223,7 +223,7 @@ impl Codec for ParentNode {
         Ok(())
     }
 
-    #[tactic(auto, using(crate::specs::Codecs::codecs), unfolding(crate::specs::ParentNode::parent_node))]
+    #[tactic(auto, using(crate::proofs::Codecs::codecs), unfolding(crate::specs::ParentNode::parent_node))]
     fn write(&self, alloc: Global, writer: &mut Writer) -> Result<(), LeafError> {
         self.encryption_key.write(alloc, writer)?;
         self.parent_hash.write(alloc, writer)?;

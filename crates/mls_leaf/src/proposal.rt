@@ -38,7 +38,7 @@ impl Codec for Proposal {
 
     ghost faults = { proposal_faults };
 
-    #[tactic(auto, using(crate::specs::Codecs::codecs), unfolding(crate::specs::Proposal::proposal))]
+    #[tactic(auto, using(crate::proofs::Codecs::codecs), unfolding(crate::specs::Proposal::proposal))]
     fn read(alloc: Global, reader: &mut Reader<'_>) -> Result<Proposal, LeafError> {
         match reader.u16()? {
             1 => {
@@ -57,7 +57,7 @@ impl Codec for Proposal {
         }
     }
 
-    #[tactic(auto, using(crate::specs::Codecs::codecs), unfolding(crate::specs::Proposal::proposal))]
+    #[tactic(auto, using(crate::proofs::Codecs::codecs), unfolding(crate::specs::Proposal::proposal))]
     fn check(reader: &mut Reader<'_>) -> Result<(), LeafError> {
         match reader.u16()? {
             1 => {
@@ -76,7 +76,7 @@ impl Codec for Proposal {
         }
     }
 
-    #[tactic(auto, using(crate::specs::Codecs::codecs), unfolding(crate::specs::Proposal::proposal))]
+    #[tactic(auto, using(crate::proofs::Codecs::codecs), unfolding(crate::specs::Proposal::proposal))]
     fn write(&self, alloc: Global, writer: &mut Writer) -> Result<(), LeafError> {
         match self {
             Proposal::Add(key_package) => {

@@ -10,7 +10,7 @@ use Rattle.mls_leaf.specs.declared.proposal.Proposal.TheVariants.{Add, Update, R
 use Rattle.mls_model.specs.Public.{Used}
 use Rattle.mls_model.specs.Proposals.{adds, add_in}
 use Rattle.mls_public_group.specs.Short.{IsBelow, AreBelow}
-use Rattle.mls_public_group.specs.ShortLaws.{add_below}
+use Rattle.mls_public_group.proofs.ShortLaws.{add_below}
 use Rattle.mls_welcome.specs.Joiners.{place_of, AreShortJoiners}
 use Rattle.mls_welcome.specs.declared.making.Joiner.{Joiner}
 use Rattle.mls_make.specs.Parts.{AreShortUsed}

@@ -1,3 +1,8 @@
+pub mod Bodies
+pub mod Fitting
+pub mod Lengths
+pub mod Names
+pub mod Steps
 mod Adds
 mod OwnPath
 mod Sent

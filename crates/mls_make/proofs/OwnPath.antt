@@ -4,7 +4,7 @@ use Rattle.std.specs.Prelude.{replicate}
 use Rattle.mls_term.specs.Term.{Term}
 use Rattle.mls_paths.specs.Height.{HasFollowed}
 use Rattle.mls_paths.specs.Keys.{Keys, PrivateKeys, all_keys}
-use Rattle.mls_laws.specs.Exact.{has_followed}
+use Rattle.mls_laws.proofs.Exact.{has_followed}
 use Rattle.mls_model.specs.Commit.{Edits}
 use Rattle.mls_model.specs.Make.{MadePath, no_path}
 use Rattle.mls_model.specs.Member.{Member}

@@ -4,13 +4,13 @@ use Rattle.std.specs.Prelude.{if◌then◌else◌, ◌||◌}
 use Rattle.std.specs.List.{AllByRecursion, zip}
 use Rattle.std.specs.Option.{option_copied}
 use Rattle.mls_wire.specs.Checks.{given}
-use Rattle.mls_wire.specs.CheckLaws.{bind_ok}
+use Rattle.mls_wire.proofs.CheckLaws.{bind_ok}
 use Rattle.mls_leaf.specs.declared.leaf.LeafNode.{LeafNode}
 use Rattle.mls_leaf.specs.declared.key_package.KeyPackage.{KeyPackage}
 use Rattle.mls_group.specs.declared.update_path.UpdatePath.{UpdatePath}
 use Rattle.mls_suite.specs.Crypto.{Crypto}
 use Rattle.mls_term.specs.Laws.{IsIn}
-use Rattle.mls_term.specs.TakenLaws.{taken_at, some_at}
+use Rattle.mls_term.proofs.TakenLaws.{taken_at, some_at}
 use Rattle.mls_term.specs.Term.{Term, leaf_of}
 use Rattle.mls_term.specs.Way.{path_length}
 use Rattle.mls_tree.specs.Tree.{member_at}
@@ -23,8 +23,8 @@ use Rattle.mls_model.specs.Commit.{Edits, edited}
 use Rattle.mls_model.specs.Member.{Member}
 use Rattle.mls_model.specs.Make.{MadePath, new_path, no_path, path_secret_for}
 use Rattle.mls_model.specs.Welcome.{secrets_with}
-use Rattle.mls_laws.specs.Joining.{edits_add}
-use Rattle.mls_laws.specs.Staying.{edits_follow_committer}
+use Rattle.mls_laws.proofs.Joining.{edits_add}
+use Rattle.mls_laws.proofs.Staying.{edits_follow_committer}
 use Rattle.mls_laws.specs.Laws.{IsJoiner}
 use Rattle.mls_welcome.specs.Joiners.{place_of, AreSecretsOf}
 use Rattle.mls_welcome.specs.Sent.{AreSentTo}

@@ -4,7 +4,7 @@ use Rattle.std.specs.Prelude.{zip}
 use Rattle.mls_wire.specs.Checks.{Passed, ◌>>◌}
 use Rattle.std.proofs.Math.Nat.{mod-eq_of_lt}
 use Rattle.std.proofs.lemmas.Bool.{eqb-true}
-use Rattle.mls_wire.specs.CheckLaws.{then_ok}
+use Rattle.mls_wire.proofs.CheckLaws.{then_ok}
 use Rattle.mls_wire.specs.Reading.{◌>>=◌}
 use Rattle.mls_leaf.specs.declared.key_package.KeyPackage.{KeyPackage}
 use Rattle.mls_group.specs.GroupContext.{group_context}
@@ -33,12 +33,12 @@ use Rattle.mls_message.specs.Sending.{limited}
 use Rattle.mls_message.specs.Speaks.{Speaks}
 use Rattle.mls_message.specs.declared.speaker.Speaker.{Speaker}
 use Rattle.mls_treekem.specs.declared.secrets.PathSecrets.{PathSecrets}
-use Rattle.mls_model.specs.KeyLaws.{with_all_keys}
+use Rattle.mls_model.proofs.KeyLaws.{with_all_keys}
 use Rattle.mls_welcome.specs.Joiners.{place_of, AreSecretsOf}
 use Rattle.mls_welcome.specs.Sent.{AreSentTo}
 use Rattle.mls_welcome.specs.declared.making.Joiner.{Joiner}
-use Rattle.mls_make.specs.Bodies.{body_is, path_due}
-use Rattle.mls_make.specs.Lengths.{commit_within}
+use Rattle.mls_make.proofs.Bodies.{body_is, path_due}
+use Rattle.mls_make.proofs.Lengths.{commit_within}
 use Rattle.mls_make.specs.Making.{path_made, made_of, made_with}
 use Rattle.mls_make.specs.OwnPath.{IsOwn}
 use Rattle.mls_make.specs.TwoSteps.{SentCommit, sent_commit, welcome_from, welcomed}

@@ -2,9 +2,5 @@ pub mod Faults
 pub mod Names
 pub mod Making
 pub mod Parts
-pub mod Bodies
-pub mod Lengths
-pub mod Fitting
-pub mod Steps
 pub mod OwnPath
 pub mod TwoSteps

@@ -15,7 +15,7 @@ use Rattle.mls_types.specs.Commit.{proposal_or_ref, proposal_or_ref_nonempty}
 use Rattle.mls_types.specs.declared.commit.ProposalOrRef.{ProposalOrRef}
 use Rattle.mls_types.specs.declared.commit.ProposalOrRef.TheVariants as listed
 use Rattle.mls_public_group.specs.Short.{IsBelow}
-use Rattle.mls_make.specs.Lengths.{front, back, inside}
+use Rattle.mls_make.proofs.Lengths.{front, back, inside}
 use Rattle.mls_member.specs.Process.{IsListedBelow}
 
 -- ---- a commit's list

@@ -5,7 +5,7 @@ use Rattle.std.specs.List.{list_any}
 use Rattle.std.proofs.lemmas.Bool.{ltb-true}
 use Rattle.mls_wire.specs.Combine.{vector, optional}
 use Rattle.mls_leaf.specs.Faults.{Spells}
-use Rattle.mls_leaf.specs.WholeLaws.{spells_same}
+use Rattle.mls_leaf.proofs.WholeLaws.{spells_same}
 use Rattle.mls_group.specs.UpdatePath.{update_path}
 use Rattle.mls_types.specs.Commit.{proposal_or_ref, proposal_or_ref_nonempty}
 use Rattle.mls_types.specs.declared.signed.SignedBody.{SignedBody}
@@ -37,7 +37,7 @@ use Rattle.mls_model.specs.Commit.{Change, body, public_with}
 use Rattle.mls_model.specs.Member.{Member, used_by, with_keys, followed, advanced, left}
 use Rattle.mls_model.specs.Messages.{sender_leaf}
 use Rattle.mls_model.specs.Verdict.{commit_verdict, climbed, entered}
-use Rattle.mls_model.specs.KeyLaws.{with_all_keys}
+use Rattle.mls_model.proofs.KeyLaws.{with_all_keys}
 use Rattle.mls_member.specs.declared.error.Refusal.{Refusal}
 use Rattle.mls_member.specs.Faults.{number_of}
 use Rattle.mls_member.specs.Process.{changed, after_change, followed_commit, edited_keys, entered_with, removes_leaf}

@@ -9,7 +9,7 @@ use Rattle.mls_leaf.specs.declared.leaf.LeafNode.{LeafNode}
 use Rattle.mls_group.specs.GroupContext.{group_context}
 use Rattle.mls_group.specs.declared.group_context.GroupContext.{GroupContext}
 use Rattle.mls_suite.specs.Crypto.{Crypto}
-use Rattle.mls_term.specs.LengthLaws.{length-tree_hash}
+use Rattle.mls_term.proofs.LengthLaws.{length-tree_hash}
 use Rattle.mls_term.specs.Term.{Term, Leaf, width, leaf_at, leaf_of}
 use Rattle.mls_public_group.specs.Short.{IsBelow, HasLeavesBelow, IsShortContext}
 use Rattle.mls_wire.specs.Checks.{Passed, passed, ◌>>◌}
@@ -22,8 +22,8 @@ use Rattle.mls_model.specs.Member.{Member, Kept}
 use Rattle.mls_model.specs.Public.{PublicState}
 use Rattle.mls_member.specs.First.{first_public}
 use Rattle.mls_model.specs.Messages.{is_within_limit}
-use Rattle.mls_public_group.specs.Lengths.{first_within, last_within}
-use Rattle.mls_public_group.specs.Limits.{past_limit}
+use Rattle.mls_public_group.proofs.Lengths.{first_within, last_within}
+use Rattle.mls_public_group.proofs.Limits.{past_limit}
 
 -- its context is short where its identifier is within the limit
 pub first_short : (c : Crypto) (group : List ℕ) (t : Term) → c.number < 2 ^ 16 → length group ≤ input_limit → IsShortContext (first_context c group t)

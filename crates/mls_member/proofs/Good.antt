@@ -30,12 +30,12 @@ use Rattle.mls_model.specs.Public.{PublicState, Used}
 use Rattle.mls_paths.specs.Keys.{PrivateKeys, all_keys}
 use Rattle.mls_model.specs.Verdict.{own_pending, received, verdict}
 use Rattle.mls_claims.proofs.Sharing.{commits_reach}
-use Rattle.mls_claims.specs.Committed.{created_good}
-use Rattle.mls_claims.specs.Delivered.{delivered_good}
-use Rattle.mls_claims.specs.Entered.{joined_good}
-use Rattle.mls_claims.specs.Proposing.{added_good, updated_good, removed_good}
+use Rattle.mls_claims.proofs.Committed.{created_good}
+use Rattle.mls_claims.proofs.Delivered.{delivered_good}
+use Rattle.mls_claims.proofs.Entered.{joined_good}
+use Rattle.mls_claims.proofs.Proposing.{added_good, updated_good, removed_good}
 use Rattle.mls_claims.specs.Spelled.{FullFits}
-use Rattle.mls_claims.specs.Still.{good_still}
+use Rattle.mls_claims.proofs.Still.{good_still}
 use Rattle.mls_make.specs.Parts.{AreShortUsed}
 use Rattle.mls_member.specs.declared.commit.Made.{Made}
 use Rattle.mls_member.specs.declared.error.Refusal.{Refusal}

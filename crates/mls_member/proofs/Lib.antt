@@ -1,3 +1,6 @@
+pub mod ContentLaws
+pub mod LengthLaws
+pub mod Names
 pub mod TwoParts
 pub mod Known
 pub mod Uses

@@ -5,7 +5,7 @@ use Rattle.std.specs.Int.{w16}
 use Rattle.mls_wire.specs.Checks.{passed, require}
 use Rattle.mls_wire.specs.Reading.{uint, opaque}
 use Rattle.mls_leaf.specs.Inputs.{leaf_content}
-use Rattle.mls_leaf.specs.InputLaws.{leaf_node-spelled}
+use Rattle.mls_leaf.proofs.InputLaws.{leaf_node-spelled}
 use Rattle.mls_leaf.specs.KeyPackage.{key_package as package_format}
 use Rattle.mls_leaf.specs.Leaf.{leaf_node}
 use Rattle.mls_leaf.specs.Limits.{input_limit}
@@ -16,26 +16,27 @@ use Rattle.mls_leaf.specs.declared.leaf.LeafSource.TheVariants as made_for
 use Rattle.mls_leaf.specs.declared.proposal.Proposal.{Proposal}
 use Rattle.mls_leaf.specs.declared.proposal.Proposal.TheVariants.{Add, Update, Remove}
 use Rattle.mls_types.specs.Content.{framed_content}
-use Rattle.mls_types.specs.SignedParts.{framed, auth_data, signed_with, framed_signed_with}
+use Rattle.mls_types.specs.SignedParts.{framed, auth_data, signed_with}
+use Rattle.mls_types.proofs.SignedParts.{framed_signed_with}
 use Rattle.mls_types.specs.declared.content.Content.TheVariants as says
 use Rattle.mls_types.specs.declared.content.FramedContent.{FramedContent}
 use Rattle.mls_types.specs.declared.signed.SignedContent.{SignedContent}
 use Rattle.mls_checks.specs.Short.{IsShort}
 use Rattle.mls_suite.specs.Crypto.{Crypto, Lawful}
-use Rattle.mls_suite.specs.LabelLaws.{signs_short}
+use Rattle.mls_suite.proofs.LabelLaws.{signs_short}
 use Rattle.mls_term.specs.Term.{leaf_of}
-use Rattle.mls_public_group.specs.Lengths.{opaque_most}
-use Rattle.mls_public_group.specs.Limits.{length_within}
+use Rattle.mls_public_group.proofs.Lengths.{opaque_most}
+use Rattle.mls_public_group.proofs.Limits.{length_within}
 use Rattle.mls_public_group.specs.Short.{IsBelow}
 use Rattle.mls_model.specs.Candidate.{leaf_key_of, unsigned_leaf, signed_leaf}
 use Rattle.mls_model.specs.Member.{Member}
 use Rattle.mls_model.specs.Messages.{is_within_limit, said_by, content_signature, content_tag, sent_by}
 use Rattle.mls_model.specs.Propose.{proposal_by, updated_leaf}
 use Rattle.mls_candidate.specs.Short.{IsShortLeaf}
-use Rattle.mls_candidate.specs.LengthLaws.{content_most}
-use Rattle.mls_candidate.specs.LeafLaws.{renewed_short, update_fits}
-use Rattle.mls_make.specs.Lengths.{front, content_inside}
-use Rattle.mls_member.specs.LengthLaws.{signed_parts, proposal_inside}
+use Rattle.mls_candidate.proofs.LengthLaws.{content_most}
+use Rattle.mls_candidate.proofs.LeafLaws.{renewed_short, update_fits}
+use Rattle.mls_make.proofs.Lengths.{front, content_inside}
+use Rattle.mls_member.proofs.LengthLaws.{signed_parts, proposal_inside}
 
 -- ---- by their messages
 

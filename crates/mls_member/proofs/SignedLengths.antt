@@ -11,8 +11,8 @@ use Rattle.mls_types.specs.declared.public_message.WireFormat.TheVariants as for
 use Rattle.mls_view.specs.Shown.{ShowsPublic}
 use Rattle.mls_view.specs.declared.public_message.PublicMessageView.{PublicMessageView}
 use Rattle.mls_public_group.specs.Short.{IsShortContext}
-use Rattle.mls_message.specs.TextLaws.{signed_is}
-use Rattle.mls_message.specs.WithinLaws.{signed_short}
+use Rattle.mls_message.proofs.TextLaws.{signed_is}
+use Rattle.mls_message.proofs.WithinLaws.{signed_short}
 use Rattle.mls_member.specs.Process.{IsShown, IsShortView}
 
 -- these are the bytes that the sender signed of the message that a view shows

@@ -5,7 +5,7 @@ use Rattle.mls_model.specs.declared.item.Item.{Item}
 use Rattle.mls_model.specs.Make.{listed_of}
 use Rattle.mls_model.specs.Public.{Used}
 use Rattle.mls_model.specs.Member.{Kept, used_one, used_by}
-use Rattle.mls_public_group.specs.Rest.{all_behind, here}
+use Rattle.mls_public_group.proofs.Rest.{all_behind, here}
 use Rattle.mls_make.specs.Parts.{IsShortUsed, AreShortUsed}
 use Rattle.mls_member.specs.Answers.{IsShortItem, AreShortItems}
 use Rattle.mls_member.proofs.Uses.{with_rest, all_ok, nothing_first, one_more}

@@ -10,7 +10,7 @@ use Rattle.mls_model.specs.Public.{Used}
 use Rattle.mls_model.specs.Member.{Kept, used_one, used_by, named_one, named, first_own_key, first_key}
 use Rattle.mls_model.specs.Proposals.{removed, remove_in}
 use Rattle.mls_public_group.specs.Short.{IsBelow, AreBelow}
-use Rattle.mls_public_group.specs.Rest.{here, all_behind}
+use Rattle.mls_public_group.proofs.Rest.{here, all_behind}
 use Rattle.mls_member.specs.Process.{IsListedBelow, key_of, is_leaf, removes_leaf}
 
 -- what is used so far, and then the rest of the list

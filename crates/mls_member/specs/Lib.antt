@@ -6,5 +6,3 @@ pub mod Process
 pub mod First
 pub mod Proposing
 pub mod Committing
-pub mod LengthLaws
-pub mod ContentLaws

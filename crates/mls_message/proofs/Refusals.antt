@@ -10,16 +10,17 @@ use Rattle.mls_leaf.specs.declared.error.LeafError.{LeafError}
 use Rattle.mls_leaf.specs.declared.error.LeafError.TheVariants.{Wire, BadTag, UnsupportedCredential, UnsupportedProposal, NotRising, ExtensionNotAllowed}
 use Rattle.mls_types.specs.Content.{framed_content}
 use Rattle.mls_types.specs.Signed.{signed_content}
-use Rattle.mls_types.specs.SignedParts.{framed, auth_data, signed_with, signed_content_spelled, framed_signed_with}
+use Rattle.mls_types.specs.SignedParts.{framed, auth_data, signed_with}
+use Rattle.mls_types.proofs.SignedParts.{signed_content_spelled, framed_signed_with}
 use Rattle.mls_types.specs.declared.content.FramedContent.{FramedContent}
 use Rattle.mls_types.specs.declared.signed.SignedContent.{SignedContent}
 use Rattle.mls_model.specs.Member.{Member}
 use Rattle.mls_model.specs.Messages.{sent_by}
-use Rattle.mls_public_group.specs.Lengths.{first_within, last_within}
-use Rattle.mls_public_group.specs.Limits.{past_limit}
+use Rattle.mls_public_group.proofs.Lengths.{first_within, last_within}
+use Rattle.mls_public_group.proofs.Limits.{past_limit}
 use Rattle.mls_message.specs.Pieces.{untagged, tag_length, IsLong, IsTooLarge}
 use Rattle.mls_message.specs.Sending.{IsRefused}
-use Rattle.mls_message.specs.TextLaws.{sent_length}
+use Rattle.mls_message.proofs.TextLaws.{sent_length}
 
 -- ---- by its content
 

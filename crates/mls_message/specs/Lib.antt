@@ -1,5 +1,3 @@
 pub mod Speaks
 pub mod Sending
 pub mod Pieces
-pub mod WithinLaws
-pub mod TextLaws

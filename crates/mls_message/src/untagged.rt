@@ -45,7 +45,7 @@ impl<'a> Model for Untagged<'a> {
 }
 
 /// Version 1, wire format 1 and the content. TooLong where a vector in it has 2^30 bytes or more.
-#[tactic(auto, using(mls_leaf::specs::Codecs::codecs))]
+#[tactic(auto, using(mls_leaf::proofs::Codecs::codecs))]
 fn spelled(alloc: Global, content: &SignedContent) -> Result<Vec<u8>, LeafError>
     ensures { Writes (signed_content.Fits content.now) (untagged content.now) result }
 {

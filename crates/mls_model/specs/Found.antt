@@ -1,16 +1,12 @@
 -- What a member found in a message that it took.
-use Rattle.std.specs.Prelude.{◌≡◌, ◌⊎◌, ℕ, ◌^◌, ◌-◌, ◌==◌, nat_lt, true, false, not, ◌||◌, List, Some, None, is_some, Ok}
+use Rattle.std.specs.Prelude.{◌≡◌, ℕ, ◌==◌, true, false, not, ◌||◌, List, Some, is_some, Ok}
 use Rattle.std.specs.Str.{bytes_eq}
 use Rattle.mls_wire.specs.Checks.{passed}
 use Rattle.mls_leaf.specs.declared.leaf.LeafNode.{LeafNode}
 use Rattle.mls_leaf.specs.declared.proposal.Proposal.{Proposal}
 use Rattle.mls_group.specs.GroupContext.{group_context}
-use Rattle.mls_types.specs.SignedParts.{framed}
 use Rattle.mls_types.specs.declared.commit.Commit.{Commit}
-use Rattle.mls_types.specs.declared.message.MlsMessage.TheVariants as message
 use Rattle.mls_types.specs.declared.public_message.PublicMessage.{PublicMessage}
-use Rattle.mls_types.specs.declared.signed.SignedBody.{SignedBody}
-use Rattle.mls_types.specs.declared.signed.SignedBody.TheVariants as body_of
 use Rattle.mls_types.specs.declared.signed.SignedContent.{SignedContent}
 use Rattle.mls_suite.specs.Crypto.{Crypto}
 use Rattle.mls_term.specs.Term.{leaf_of}
@@ -21,10 +17,10 @@ use Rattle.mls_model.specs.declared.effect.Effect.{Effect}
 use Rattle.mls_model.specs.declared.effect.Effect.TheVariants.{Proposed, Known, Advanced, Removed}
 use Rattle.mls_model.specs.Public.{Used}
 use Rattle.mls_model.specs.Proposals.{proposal_checks, removed}
-use Rattle.mls_model.specs.Commit.{Change, body, public_with}
-use Rattle.mls_model.specs.Member.{Pending, Member, kept_under, used_by, named, first_own_key, with_keys, followed, keeping, advanced, left}
-use Rattle.mls_model.specs.Messages.{decoded, sender_leaf, is_handshake, is_content_signed, content_tag, reference_of}
-use Rattle.mls_model.specs.Verdict.{is_kept, kept_of, climbed, received, own_pending}
+use Rattle.mls_model.specs.Commit.{Change, public_with}
+use Rattle.mls_model.specs.Member.{Pending, Member, kept_under, named, first_own_key, with_keys, followed, keeping, advanced, left}
+use Rattle.mls_model.specs.Messages.{sender_leaf, is_handshake, is_content_signed, content_tag, reference_of}
+use Rattle.mls_model.specs.Verdict.{is_kept, kept_of, climbed}
 
 -- ---- framing
 
@@ -51,9 +47,6 @@ pub record IsNowKept (c : Crypto) (m : Member) (v : SignedContent) (bytes : List
   pub checks : proposal_checks c m.public (sender_leaf v.sender) said ≡ Ok passed
   pub is : (Proposed (reference_of v), keeping m (kept_of v bytes said)) ≡ x
 
-abbrev pub ProposalDid : Crypto → Member → SignedContent → List ℕ → Proposal → Effect × Member → Type 0
-ProposalDid c m v bytes said x = WasKnown m v x ⊎ IsNowKept c m v bytes said x
-
 -- ---- commits
 
 -- the commit removed the member
@@ -73,40 +66,9 @@ pub record HasFollowed (c : Crypto) (m : Member) (v : SignedContent) (commit : C
   pub confirmed : bytes_eq tag (confirmation_tag (reached_epoch m change climb) change.context.confirmed_transcript_hash) ≡ true
   pub is : (Advanced change.context.epoch, advanced m (public_with change tag) (reached_epoch m change climb) (with_keys m.keys climb.keys)) ≡ x
 
--- what all receivers of a commit find
-pub record CommitDid (c : Crypto) (m : Member) (v : SignedContent) (commit : Commit) (tag : List ℕ) (x : Effect × Member) : Type 0 where
-  pub below : nat_lt m.public.context.epoch (2 ^ 64 - 1) ≡ true
-  pub used : List Used
-  pub uses : used_by m.kept (sender_leaf v.sender) commit.proposals ≡ Ok used
-  pub change : Change
-  pub change_is : body c m.public (sender_leaf v.sender) used commit (framed v) v.signature ≡ Ok change
-  pub did : WasRemoved m used x ⊎ HasFollowed c m v commit tag used change x
-
--- ---- any message
-
-abbrev pub ContentDid : Crypto → Member → SignedContent → List ℕ → SignedBody → Effect × Member → Type 0
-ContentDid c m v bytes (body_of.Application text) x = ⊥
-ContentDid c m v bytes (body_of.Proposal said) x = ProposalDid c m v bytes said x
-ContentDid c m v bytes (body_of.Commit commit tag) x = CommitDid c m v commit tag x
-
--- bytes that are not its pending commit
-pub record ReceivedDid (c : Crypto) (m : Member) (bytes : List ℕ) (x : Effect × Member) : Type 0 where
-  pub said : PublicMessage
-  pub decodes : decoded bytes ≡ Ok (message.PublicMessage said)
-  pub is_framed : IsFramed c m said bytes
-  pub did : ContentDid c m said.content bytes said.content.body x
-
 -- it followed its pending commit
 pub record DidPending (m : Member) (bytes : List ℕ) (x : Effect × Member) : Type 0 where
   pub pending : Pending
   pub is_pending : m.pending ≡ Some pending
   pub is_message : bytes_eq pending.message bytes ≡ true
   pub is : (Advanced pending.public.context.epoch, advanced m pending.public pending.epoch pending.keys) ≡ x
-
-pub record DidOther (c : Crypto) (m : Member) (bytes : List ℕ) (x : Effect × Member) : Type 0 where
-  pub free : own_pending m.pending bytes ≡ None
-  pub is : received c m bytes ≡ Ok x
-
-pub record VerdictDid (c : Crypto) (m : Member) (bytes : List ℕ) (x : Effect × Member) : Type 0 where
-  pub active : not m.gone ≡ true
-  pub did : DidPending m bytes x ⊎ DidOther c m bytes x

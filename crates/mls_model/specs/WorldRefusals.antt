@@ -1,37 +1,13 @@
 -- Each call on a world is refused with one of its numbers.
-use Rattle.std.proofs.Common.{◌≡◌, ℕ, true, false, ◌||◌, not, List, [], ◌∷◌, Err, refl}
-use Rattle.std.specs.Prelude.{Bool, slice_get}
-use Rattle.std.specs.List.{list_any, list_all}
-use Rattle.std.specs.Str.{bytes_eq}
-use Rattle.std.proofs.lemmas.Bool.{or_left, or_right}
-use Rattle.mls_wire.specs.Checks.{given}
-use Rattle.mls_leaf.specs.Limits.{input_limit}
-use Rattle.mls_leaf.specs.WholeLaws.{is_input_fault, is_input_answered}
-use Rattle.mls_types.specs.Answered.{mls_message_faults}
-use Rattle.mls_types.specs.Message.{mls_message}
+use Rattle.std.specs.Prelude.{◌≡◌, ℕ, true, ◌||◌, [], ◌∷◌, Err, Bool}
+use Rattle.mls_leaf.specs.WholeLaws.{is_input_fault}
 use Rattle.mls_suite.specs.Crypto.{Crypto}
 use Rattle.mls_term.specs.Sets.{has}
-use Rattle.mls_paths.specs.Seeds.{sign_seed}
-use Rattle.mls_model.specs.declared.event.Source.{Source}
-use Rattle.mls_model.specs.declared.event.Source.TheVariants.{Given, Message}
-use Rattle.mls_model.specs.declared.event.WorldItem.{WorldItem}
-use Rattle.mls_model.specs.declared.event.WorldItem.TheVariants.{RefOf, Add, Remove}
 use Rattle.mls_model.specs.declared.event.Event.{Event}
 use Rattle.mls_model.specs.declared.event.Event.TheVariants as event
-use Rattle.mls_model.specs.Messages.{decoded}
-use Rattle.mls_model.specs.Verdict.{verdict}
-use Rattle.mls_model.specs.Candidate.{new_candidate, created}
-use Rattle.mls_model.specs.Propose.{proposed_add, proposed_update, proposed_remove}
-use Rattle.mls_model.specs.Make.{make}
-use Rattle.mls_model.specs.Join.{join_verdict}
-use Rattle.mls_model.specs.World.{World, Entrant, seat_at, entrant_at, bytes_of, package_in, proposal_in, package_of, proposal_of, item_of, items_of}
-use Rattle.mls_model.specs.Calls.{candidate_answer, create_answer, propose_add_answer, propose_update_answer, propose_remove_answer, commit_answer, drop_answer, deliver_answer, join_answer}
+use Rattle.mls_model.specs.World.{World}
 use Rattle.mls_model.specs.Run.{answer}
 use Rattle.mls_model.specs.Refusals.{verdict_numbers, proposed_numbers, make_numbers, join_numbers}
-use Rattle.mls_model.specs.RefusedSteps.{is_one, widen, bind_refused, test_refused, given_refused}
-use Rattle.mls_model.specs.VerdictRefusals.{verdict_refused}
-use Rattle.mls_model.specs.CallRefusals.{add_refused, update_refused, remove_refused, make_refused, candidate_refused, create_refused}
-use Rattle.mls_model.specs.JoinRefusals.{join_refused}
 
 -- ---- which numbers
 
@@ -50,101 +26,3 @@ is_refusal_of (event.Join k source) n = is_input_fault n || has (91 ∷ 92 ∷ 9
 -- an event that is refused is so with one of its numbers
 abbrev pub EventNumbers : Type 0
 EventNumbers = (c : Crypto) (w : World) (e : Event) (n : ℕ) → answer c w e ≡ Err n → is_refusal_of e n ≡ true
-
--- ---- look-ups and sources
-
-seat_refused : (w : World) (k n : ℕ) → seat_at w k ≡ Err n → 90 ≡ n
-seat_refused w k n h = given_refused 90 (slice_get w.seats k) n h
-
-entrant_refused : (ns : List ℕ) (w : World) (k n : ℕ) → has ns 91 ≡ true → has ns 92 ≡ true → entrant_at w k ≡ Err n → has ns n ≡ true
-unfolding entrant_at
-entrant_refused ns w k n a b h =
-    bind_refused (given 92 (slice_get w.entrants k)) _ n h (λ e. is_one ns 92 n b (given_refused 92 (slice_get w.entrants k) n e)) (λ e h1.
-    test_refused 91 (not e.is_spent) _ n h1 (is_one ns 91 n a) (λ never. absurd cc))
-
-bytes_refused : (w : World) (source : Source) (n : ℕ) → bytes_of w source ≡ Err n → 94 ≡ n
-bytes_refused w (Given bytes) n h = absurd cc
-bytes_refused w (Message k) n h = given_refused 94 (slice_get w.messages k) n h
-
--- decoding's, or one of these
-or_read : (ns : List ℕ) (m n : ℕ) → has ns m ≡ true → m ≡ n → (is_input_fault n || has ns n) ≡ true
-or_read ns m n h e = or_right (is_input_fault n) (has ns n) (is_one ns m n h e)
-
-decoded_refused : (ns : List ℕ) (bytes : List ℕ) (n : ℕ) → decoded bytes ≡ Err n → (is_input_fault n || has ns n) ≡ true
-unfolding decoded
-decoded_refused ns bytes n h = or_left (is_input_fault n) (has ns n) (is_input_answered mls_message input_limit mls_message_faults bytes n h)
-
-package_refused : (ns : List ℕ) (w : World) (source : Source) (n : ℕ) → has ns 94 ≡ true → has ns 95 ≡ true → package_of w source ≡ Err n → (is_input_fault n || has ns n) ≡ true
-unfolding package_of
-package_refused ns w source n a b h =
-    bind_refused (bytes_of w source) _ n h (λ e. or_read ns 94 n a (bytes_refused w source n e)) (λ bytes h1.
-    bind_refused (decoded bytes) _ n h1 (decoded_refused ns bytes n) (λ m h2. or_read ns 95 n b (given_refused 95 (package_in m) n h2)))
-
-proposal_refused : (ns : List ℕ) (w : World) (source : Source) (n : ℕ) → has ns 94 ≡ true → has ns 95 ≡ true → proposal_of w source ≡ Err n → (is_input_fault n || has ns n) ≡ true
-unfolding proposal_of
-proposal_refused ns w source n a b h =
-    bind_refused (bytes_of w source) _ n h (λ e. or_read ns 94 n a (bytes_refused w source n e)) (λ bytes h1.
-    bind_refused (decoded bytes) _ n h1 (decoded_refused ns bytes n) (λ m h2. or_read ns 95 n b (given_refused 95 (proposal_in m) n h2)))
-
-item_refused : (ns : List ℕ) (w : World) (item : WorldItem) (n : ℕ) → has ns 94 ≡ true → has ns 95 ≡ true → item_of w item ≡ Err n → (is_input_fault n || has ns n) ≡ true
-item_refused ns w (RefOf source) n a b h = bind_refused (proposal_of w source) _ n h (proposal_refused ns w source n a b) (λ v never. absurd cc)
-item_refused ns w (Add source) n a b h = bind_refused (package_of w source) _ n h (package_refused ns w source n a b) (λ v never. absurd cc)
-item_refused ns w (Remove leaf) n a b h = absurd cc
-
-items_refused : (ns : List ℕ) (w : World) (items : List WorldItem) (n : ℕ) → has ns 94 ≡ true → has ns 95 ≡ true → items_of w items ≡ Err n → (is_input_fault n || has ns n) ≡ true
-unfolding items_of
-items_refused ns w [] n a b h = absurd cc
-items_refused ns w (x ∷ xs) n a b h =
-    bind_refused (item_of w x) _ n h (item_refused ns w x n a b) (λ y h1.
-    bind_refused (items_of w xs) _ n h1 (items_refused ns w xs n a b) (λ ys never. absurd cc))
-
--- ---- numbers of a member among those of an event
-
-among : (ms ns : List ℕ) (n : ℕ) → list_all (has ns) ms ≡ true → has ms n ≡ true → (is_input_fault n || has ns n) ≡ true
-among ms ns n a h = or_right (is_input_fault n) (has ns n) (widen ms ns n a h)
-
-among_read : (ms ns : List ℕ) (n : ℕ) (b : Bool) → is_input_fault n ≡ b → list_all (has ns) ms ≡ true → (b || has ms n) ≡ true → (b || has ns n) ≡ true
-among_read ms ns n true e a h = refl
-among_read ms ns n false e a h = widen ms ns n a h
-
--- ---- events
-
-pub event_refused : EventNumbers
-unfolding answer candidate_answer create_answer propose_add_answer propose_update_answer propose_remove_answer commit_answer drop_answer deliver_answer join_answer has
-event_refused c w (event.Candidate identity seed) n h =
-    let ns : List ℕ = 6 ∷ 57 ∷ 93 ∷ [] in
-    test_refused 93 (not (list_any (λ (e : Entrant). bytes_eq e.candidate.offered.leaf_node.signature_key (c.sig_public (sign_seed seed))) w.entrants)) _ n h (is_one ns 93 n refl) (λ h1.
-    bind_refused (new_candidate c identity.items seed) _ n h1 (λ e. widen (6 ∷ 57 ∷ []) ns n refl (candidate_refused c identity.items seed n e)) (λ k never. absurd cc))
-event_refused c w (event.Create k group seed) n h =
-    let ns : List ℕ = 6 ∷ 91 ∷ 92 ∷ [] in
-    bind_refused (entrant_at w k) _ n h (entrant_refused ns w k n refl refl) (λ e h1.
-    bind_refused (created c e.candidate group.items seed) _ n h1 (λ f. widen (6 ∷ []) ns n refl (create_refused c e.candidate group.items seed n f)) (λ m never. absurd cc))
-event_refused c w (event.ProposeAdd k source) n h =
-    let ns : List ℕ = 90 ∷ 94 ∷ 95 ∷ proposed_numbers in
-    bind_refused (seat_at w k) _ n h (λ e. or_read ns 90 n refl (seat_refused w k n e)) (λ s h1.
-    bind_refused (package_of w source) _ n h1 (package_refused ns w source n refl refl) (λ offered h2.
-    bind_refused (proposed_add c s.member offered) _ n h2 (λ e. among proposed_numbers ns n refl (add_refused c s.member offered n e)) (λ x never. absurd cc)))
-event_refused c w (event.ProposeUpdate k seed) n h =
-    let ns : List ℕ = 90 ∷ proposed_numbers in
-    bind_refused (seat_at w k) _ n h (λ e. is_one ns 90 n refl (seat_refused w k n e)) (λ s h1.
-    bind_refused (proposed_update c s.member seed) _ n h1 (λ e. widen proposed_numbers ns n refl (update_refused c s.member seed n e)) (λ x never. absurd cc))
-event_refused c w (event.ProposeRemove k leaf) n h =
-    let ns : List ℕ = 90 ∷ proposed_numbers in
-    bind_refused (seat_at w k) _ n h (λ e. is_one ns 90 n refl (seat_refused w k n e)) (λ s h1.
-    bind_refused (proposed_remove c s.member leaf) _ n h1 (λ e. widen proposed_numbers ns n refl (remove_refused c s.member leaf n e)) (λ x never. absurd cc))
-event_refused c w (event.Commit k items path seed) n h =
-    let ns : List ℕ = 90 ∷ 94 ∷ 95 ∷ make_numbers in
-    bind_refused (seat_at w k) _ n h (λ e. or_read ns 90 n refl (seat_refused w k n e)) (λ s h1.
-    bind_refused (items_of w items.items) _ n h1 (items_refused ns w items.items n refl refl) (λ list h2.
-    bind_refused (make c s.member list path seed) _ n h2 (λ e. among make_numbers ns n refl (make_refused c s.member list path seed n e)) (λ made never. absurd cc)))
-event_refused c w (event.DropPending k) n h = bind_refused (seat_at w k) _ n h (λ e. is_one (90 ∷ []) 90 n refl (seat_refused w k n e)) (λ s never. absurd cc)
-event_refused c w (event.Deliver k source) n h =
-    let ns : List ℕ = 90 ∷ 94 ∷ verdict_numbers in
-    bind_refused (seat_at w k) _ n h (λ e. or_read ns 90 n refl (seat_refused w k n e)) (λ s h1.
-    bind_refused (bytes_of w source) _ n h1 (λ e. or_read ns 94 n refl (bytes_refused w source n e)) (λ bytes h2.
-    bind_refused (verdict c s.member bytes) _ n h2 (λ e. among_read verdict_numbers ns n (is_input_fault n) refl refl (verdict_refused c s.member bytes n e)) (λ x never. absurd cc)))
-event_refused c w (event.Join k source) n h =
-    let ns : List ℕ = 91 ∷ 92 ∷ 94 ∷ join_numbers in
-    bind_refused (entrant_at w k) _ n h (λ e. or_right (is_input_fault n) (has ns n) (entrant_refused ns w k n refl refl e)) (λ e h1.
-    bind_refused (bytes_of w source) _ n h1 (λ f. or_read ns 94 n refl (bytes_refused w source n f)) (λ bytes h2.
-    bind_refused (join_verdict c e.candidate bytes) _ n h2 (λ f. among_read join_numbers ns n (is_input_fault n) refl refl (join_refused c e.candidate bytes n f)) (λ j never. absurd cc)))

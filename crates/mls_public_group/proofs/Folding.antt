@@ -17,7 +17,7 @@ use Rattle.mls_model.specs.Public.{PublicState, Used}
 use Rattle.mls_model.specs.Proposals.{update_in, remove_in, add_in, updates, updated, removed, adds, package_reference, proposal_checks, full_checks}
 use Rattle.mls_model.specs.Commit.{Edits, all_updated, all_removed, all_added}
 use Rattle.mls_public_group.specs.Edited.{apart, applied, behind}
-use Rattle.mls_public_group.specs.Rest.{here, over}
+use Rattle.mls_public_group.proofs.Rest.{here, over}
 
 -- ---- what one proposal is
 

@@ -1,3 +1,11 @@
+pub mod EditedLemmas
+pub mod Leaves
+pub mod Lengths
+pub mod Limits
+pub mod Memory
+pub mod Names
+pub mod Rest
+pub mod ShortLaws
 pub mod Folding
 pub mod Sorting
 pub mod ShortProposal

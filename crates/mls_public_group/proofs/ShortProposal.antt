@@ -9,7 +9,7 @@ use Rattle.mls_leaf.specs.declared.key_package.KeyPackage.{KeyPackage}
 use Rattle.mls_leaf.specs.declared.leaf.LeafNode.{LeafNode}
 use Rattle.mls_leaf.specs.declared.proposal.Proposal.{Proposal}
 use Rattle.mls_leaf.specs.declared.proposal.Proposal.TheVariants.{Add, Update, Remove}
-use Rattle.mls_public_group.specs.Lengths.{length-uint16}
+use Rattle.mls_public_group.proofs.Lengths.{length-uint16}
 use Rattle.mls_public_group.specs.Short.{IsBelow}
 use Rattle.mls_public_group.specs.ShortProposal.{IsShortProposal}
 

@@ -3,13 +3,7 @@ pub mod Names
 pub mod Short
 pub mod Codes
 pub mod PublicCodes
-pub mod ShortLaws
 pub mod Numbers
 pub mod Edited
-pub mod Leaves
-pub mod Limits
-pub mod Lengths
 pub mod NextTree
-pub mod Rest
-pub mod Memory
 pub mod ShortProposal

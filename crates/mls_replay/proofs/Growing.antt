@@ -2,7 +2,7 @@
 use Rattle.std.proofs.Common.{◌≡◌, ◌≤◌, ℕ, suc, ◌+◌, Bool, List, [], ◌∷◌, ◌++◌, length, Result, Ok, Err, refl, ap, sym, subst, arith, length-append, slice_set, ◌∙◌}
 use Rattle.std.proofs.Math.ListN.{length-set}
 use Rattle.mls_wire.specs.Laws.{ok_is}
-use Rattle.mls_wire.specs.CheckLaws.{bind_ok, then_ok}
+use Rattle.mls_wire.proofs.CheckLaws.{bind_ok, then_ok}
 use Rattle.mls_wire.specs.Checks.{require}
 use Rattle.mls_suite.specs.Crypto.{Crypto}
 use Rattle.mls_model.specs.declared.event.Source.{Source}

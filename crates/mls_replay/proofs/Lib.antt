@@ -1,3 +1,4 @@
+pub mod PrintLaws
 mod Playing
 mod Naming
 mod Growing

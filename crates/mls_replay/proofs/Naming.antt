@@ -8,7 +8,7 @@ use Rattle.std.specs.Io.KnownBytes.{Appends}
 use Rattle.mls_model.specs.Member.{Member}
 use Rattle.mls_model.specs.World.{Seat}
 use Rattle.mls_text.specs.Ends.{AppendsPart}
-use Rattle.mls_text.specs.Pieces.{part_behind, part_of_front}
+use Rattle.mls_text.proofs.Pieces.{part_behind, part_of_front}
 use Rattle.mls_replay.specs.Replay.{entry_text, member_entries, member_entry}
 
 abbrev pub named : ℕ → List Seat → List ℕ

@@ -13,7 +13,7 @@ use Rattle.mls_model.specs.declared.event.Reply.{Reply}
 use Rattle.mls_model.specs.World.{World}
 use Rattle.mls_model.specs.Run.{step, run, replies}
 use Rattle.mls_text.specs.Ends.{AppendsPart}
-use Rattle.mls_text.specs.Pieces.{part_behind, part_of_front}
+use Rattle.mls_text.proofs.Pieces.{part_behind, part_of_front}
 use Rattle.mls_recording.specs.declared.reading.Recorded.{Recorded}
 use Rattle.mls_replay.specs.Reply.{reply_text}
 use Rattle.mls_replay.specs.Replay.{all_met, entry_text, event_entries, events_of, expectation, expectations_of, expected_entries, is_met, replied, reply_entries, unmet}

@@ -1,7 +1,6 @@
 pub mod Epoch
 pub mod Transcript
 pub mod Twins
-pub mod Lengths
 pub mod Laws
 pub mod Held
 pub mod Faults

@@ -18,7 +18,7 @@ impl Codec for Slot {
 
     ghost faults = { optional_faults node_faults };
 
-    #[tactic(auto, using(mls_leaf::specs::Codecs::codecs))]
+    #[tactic(auto, using(mls_leaf::proofs::Codecs::codecs))]
     fn read(alloc: Global, reader: &mut Reader<'_>) -> Result<Slot, LeafError> {
         match reader.u8()? {
             0 => Ok(Slot::blank()),
@@ -31,7 +31,7 @@ impl Codec for Slot {
         }
     }
 
-    #[tactic(auto, using(mls_leaf::specs::Codecs::codecs))]
+    #[tactic(auto, using(mls_leaf::proofs::Codecs::codecs))]
     fn check(reader: &mut Reader<'_>) -> Result<(), LeafError> {
         match reader.u8()? {
             0 => Ok(()),
@@ -40,7 +40,7 @@ impl Codec for Slot {
         }
     }
 
-    #[tactic(auto, using(mls_leaf::specs::Codecs::codecs))]
+    #[tactic(auto, using(mls_leaf::proofs::Codecs::codecs))]
     fn write(&self, alloc: Global, writer: &mut Writer) -> Result<(), LeafError> {
         match self.node() {
             None => writer.u8(0)?,

@@ -1,6 +1,6 @@
 -- The practice suite is lawful.
-use Rattle.std.proofs.Common.{◌≡◌, ℕ, suc, lit<, ◌+◌, ◌-◌, Bool, true, false, List, [], ◌∷◌, ◌++◌, length, Some, None, ap, sym, ◌∙◌, refl, arith, length-append}
-use Rattle.std.specs.Prelude.{bit_xor, nat_lt, nat_eq, is_some, if◌then◌else◌}
+use Rattle.std.specs.Prelude.{◌≡◌, ℕ, suc, ◌-◌, Bool, true, false, List, [], ◌∷◌, ◌++◌, length, Some, None, refl, bit_xor, nat_lt, nat_eq, is_some, if◌then◌else◌}
+use Rattle.std.proofs.Common.{lit<, ap, sym, ◌∙◌, arith, length-append}
 use Rattle.std.specs.Int.Bits.{xor_assoc, xor_self, xor_zero_r}
 use Rattle.std.specs.Str.{bytes_eq}
 use Rattle.std.proofs.lemmas.List.{take_at, drop_at}
@@ -25,10 +25,6 @@ xor_with-twice [] ys = refl
 xor_with-twice (x ∷ xs) [] = refl
 xor_with-twice (x ∷ xs) (y ∷ ys) = rw (xor_twice x y, xor_with-twice xs ys) refl
 
-pub length-streamed : (key text : List ℕ) → length (streamed key text) ≡ length text
-unfolding streamed
-length-streamed key text = length-xor_with text _
-
 streamed-twice : (key text : List ℕ) → streamed key (streamed key text) ≡ text
 unfolding streamed
 streamed-twice key text = rw (length-xor_with text _) (xor_with-twice text _)
@@ -36,7 +32,7 @@ streamed-twice key text = rw (length-xor_with text _) (xor_with-twice text _)
 same_bytes : (xs : List ℕ) → bytes_eq xs xs ≡ true
 same_bytes xs = (bytes_eq-Decides xs xs).1 refl
 
-length-box_tag : (key body : List ℕ) → length (box_tag key body) ≡ 32
+pub length-box_tag : (key body : List ℕ) → length (box_tag key body) ≡ 32
 unfolding box_tag
 length-box_tag key body = length-hmac _ _
 
@@ -51,10 +47,6 @@ unbox_parts key body =
 pub unbox-boxed : (key pt : List ℕ) → unbox key (boxed key pt) ≡ Some pt
 unfolding boxed
 unbox-boxed key pt = unbox_parts key (streamed key pt) ∙ ap Some (streamed-twice key pt)
-
-pub length-boxed : (key pt : List ℕ) → length (boxed key pt) ≡ length pt + 32
-unfolding boxed
-length-boxed key pt = omega (arith, length-append (streamed key pt) (box_tag key (streamed key pt)), length-streamed key pt, length-box_tag key (streamed key pt))
 
 length-glass_public : (sk : List ℕ) → length (glass_public sk) ≡ 32
 unfolding glass_public

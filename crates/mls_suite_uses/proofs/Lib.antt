@@ -1,1 +1,2 @@
+pub mod BareLaws
 pub mod Uses

@@ -3,7 +3,7 @@ use Rattle.std.proofs.Common.{◌≡◌, ℕ, List, Option, Some, None, Bool, tr
 use Rattle.std.specs.Prelude.{is_some}
 use Rattle.mls_suite.specs.Crypto.{Crypto, Lawful, Sealing}
 use Rattle.mls_suite.specs.Labels.{encrypt_with_label, decrypt_with_label, sign_with_label, verify_with_label}
-use Rattle.mls_suite.specs.LabelLaws.{verifies_signed, opens_sealed, seals_where_fit}
+use Rattle.mls_suite.proofs.LabelLaws.{verifies_signed, opens_sealed, seals_where_fit}
 
 -- a seal to a public key is made
 pub made : (c : Crypto) (laws : Lawful c) (sk pk label context pt rnd : List ℕ) (s : Option Sealing)

@@ -1,17 +1,13 @@
 -- The suite to copy is lawful.
 use Rattle.std.specs.Prelude.{◌≡◌, ℕ, Bool, true, false, List, ◌++◌, length, replicate, is_some, if◌then◌else◌, Some, None, refl}
 use Rattle.std.proofs.Common.{arith, length-append, lit<}
-use Rattle.std.proofs.lemmas.List.{length-replicate, length-take-le, take_at}
+use Rattle.std.proofs.lemmas.List.{length-replicate, length-take-le}
 use Rattle.mls_suite.specs.Crypto.{Lawful, Sealing}
 use Rattle.mls_suite_uses.specs.Bare.{fitted, is_key, in_the_open, bare_seal, bare}
 
 -- each list is brought to 32
 pub length-fitted : (xs : List ℕ) → length (fitted xs) ≡ 32
 length-fitted xs = length-take-le 32 (xs ++ replicate 32 0) (omega (arith, length-append xs (replicate 32 0), length-replicate {A = ℕ} 32 0))
-
--- and a key of 32 bytes stays as it is
-pub fitted_key : (xs : List ℕ) → length xs ≡ 32 → fitted xs ≡ xs
-fitted_key xs e = take_at xs (replicate 32 0) 32 e
 
 is_fitted : (sk : List ℕ) → is_key (fitted sk) ≡ true
 is_fitted sk = rw (length-fitted sk) refl

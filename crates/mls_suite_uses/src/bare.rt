@@ -12,7 +12,7 @@ use std::alloc::Global;
 pub struct Bare;
 
 /// A key is its own public key.
-#[tactic(auto, using(crate::specs::BareLaws::fitted_key))]
+#[tactic(auto, using(crate::proofs::BareLaws::fitted_key))]
 fn public_key(alloc: Global, sk: &[u8; 32]) -> Result<Vec<u8>, OutOfMemory>
     ensures { IfOk result (λ pk. pk.items ≡ fitted sk.now) }
 {

@@ -4,11 +4,11 @@ use Rattle.std.proofs.lemmas.Bool.{true≢false, and_parts, cases_Bool, cond-tru
 use Rattle.mls_leaf.specs.Parent.{Parent}
 use Rattle.mls_treemath.specs.Paths.{Path, nodes_in, root_of, index_of, path_to}
 use Rattle.mls_treemath.specs.Steps.{above}
-use Rattle.mls_term.specs.Equations.{way_leaf, way_left, way_right}
+use Rattle.mls_term.proofs.Equations.{way_leaf, way_left, way_right}
 use Rattle.mls_term.specs.Term.{Term, Leaf, Branch, width, size, is_perfect}
 use Rattle.mls_term.specs.Way.{way}
-use Rattle.mls_term.specs.ShapeLaws.{size-width}
-use Rattle.mls_term.specs.ArrayLaws.{nodes_in-leaves, size-perfect}
+use Rattle.mls_term.proofs.ShapeLaws.{size-width}
+use Rattle.mls_term.proofs.ArrayLaws.{nodes_in-leaves, size-perfect}
 use Rattle.mls_term.proofs.Numbers.{way_cases}
 
 -- the indices of the ancestors, of a way with one more step

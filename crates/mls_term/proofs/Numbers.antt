@@ -4,14 +4,14 @@ use Rattle.std.proofs.lemmas.Bool.{true≢false, and_parts, cases_lt, cases_Bool
 use Rattle.mls_leaf.specs.declared.leaf.LeafNode.{LeafNode}
 use Rattle.mls_leaf.specs.Parent.{Parent}
 use Rattle.mls_treemath.specs.Paths.{Path, nodes_in, longer, path_to, leaf_path}
-use Rattle.mls_treemath.specs.Sizes.{width_perfect}
-use Rattle.mls_treemath.specs.Leaves.{path_to-leaf}
-use Rattle.mls_term.specs.Equations.{at_node_leaf, at_node_here, at_node_left, at_node_right, leaf_at_leaf, leaf_at_left, leaf_at_right}
+use Rattle.mls_treemath.proofs.Sizes.{width_perfect}
+use Rattle.mls_treemath.proofs.Leaves.{path_to-leaf}
+use Rattle.mls_term.proofs.Equations.{at_node_leaf, at_node_here, at_node_left, at_node_right, leaf_at_leaf, leaf_at_left, leaf_at_right}
 use Rattle.mls_term.specs.Term.{Term, Leaf, Branch, width, is_perfect, leaf_at}
 use Rattle.mls_term.specs.Places.{at_node}
 use Rattle.mls_term.specs.Arrays.{leaf_in, own_node, node_at, under}
-use Rattle.mls_term.specs.ShapeLaws.{size-width, width-perfect}
-use Rattle.mls_term.specs.ArrayLaws.{leaf_in-cell, size-perfect}
+use Rattle.mls_term.proofs.ShapeLaws.{size-width, width-perfect}
+use Rattle.mls_term.proofs.ArrayLaws.{leaf_in-cell, size-perfect}
 
 leaf_is_node : (b : ℕ) (t : Term) (i : ℕ) → b ≤ i → i < b + width t → leaf_in (at_node None own_node b t (2 * i)) ≡ leaf_at b t i
 unfolding width

@@ -17,15 +17,6 @@ at_node none f b (Branch c l r) n =
 unfoldable pub resolution_at : ℕ → Term → ℕ → List ℕ
 resolution_at b t n = at_node [] resolution b t n
 
--- the leaf or the parent that a subtree has at its own node
-abbrev pub own_leaf : ℕ → Term → Option LeafNode
-own_leaf b (Leaf v) = v
-own_leaf b (Branch c l r) = None
-
-abbrev pub own_parent : ℕ → Term → Option Parent
-own_parent b (Leaf v) = None
-own_parent b (Branch c l r) = c
-
 -- the encryption key of a subtree's own node
 abbrev pub leaf_own_key : Option LeafNode → Option (List ℕ)
 leaf_own_key None = None

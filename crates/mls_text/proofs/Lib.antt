@@ -1,3 +1,5 @@
+pub mod Pages
+pub mod Pieces
 mod Digits
 mod Names
 mod Trims

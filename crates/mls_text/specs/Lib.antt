@@ -3,6 +3,5 @@ pub mod Ends
 pub mod File
 pub mod Faults
 pub mod Page
-pub mod Pieces
 pub mod TextLaws
 pub mod Pages

@@ -8,13 +8,13 @@ use Rattle.mls_treemath.specs.Limits.{max_height}
 use Rattle.mls_term.specs.Term.{Term, width, height, is_perfect}
 use Rattle.mls_term.specs.Edits.{first_blank, enter, grow, add, place_for, room_for}
 use Rattle.mls_term.specs.Arrays.{term_of}
-use Rattle.mls_term.specs.Equations.{add_is}
+use Rattle.mls_term.proofs.Equations.{add_is}
 use Rattle.mls_term.specs.Good.{is_within}
-use Rattle.mls_term.specs.ArrayLaws.{width-term_of}
-use Rattle.mls_term.specs.LimitLaws.{add_within}
+use Rattle.mls_term.proofs.ArrayLaws.{width-term_of}
+use Rattle.mls_term.proofs.LimitLaws.{add_within}
 use Rattle.mls_array.specs.StandingLaws.{StandsFor}
 use Rattle.mls_tree.specs.Tree.{Tree, term, max_leaves, add_answer}
-use Rattle.mls_tree.specs.Perfect.{perfect}
+use Rattle.mls_tree.proofs.Perfect.{perfect}
 
 module _ (t : Term) (x : LeafNode) (perfect : is_perfect (height t) t ≡ true) (low : width t ≤ max_leaves) where
   room : (o : Option ℕ) → first_blank 0 t ≡ o → is_within max_leaves (add t x) ≡ not (is_none o && (width t == max_leaves))

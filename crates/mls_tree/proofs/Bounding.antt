@@ -9,14 +9,14 @@ use Rattle.mls_term.specs.Edits.{put, enter, grow, trim, first_blank}
 use Rattle.mls_term.specs.Merge.{merge, merge_path}
 use Rattle.mls_leaf.specs.declared.node.Node.{Node}
 use Rattle.mls_term.specs.Arrays.{term_of}
-use Rattle.mls_term.specs.ArrayLaws.{width-term_of}
-use Rattle.mls_term.specs.Equations.{leaf_of_in, leaf_of_out, remove_is}
-use Rattle.mls_term.specs.ShapeLaws.{width-put, width-enter}
-use Rattle.mls_term.specs.MergeLaws.{width-merge}
-use Rattle.mls_term.specs.PlaceLaws.{first_blank_at, first_blank_none, first_blank_first, leaf_at-put, leaf_at-enter, leaf_at-merge, leaf_at-grow, leaf_at-grown, leaf_at-trim, width-grow, width-trim}
-use Rattle.mls_term.specs.MemberLaws.{remove_elsewhere}
+use Rattle.mls_term.proofs.ArrayLaws.{width-term_of}
+use Rattle.mls_term.proofs.Equations.{leaf_of_in, leaf_of_out, remove_is}
+use Rattle.mls_term.proofs.ShapeLaws.{width-put, width-enter}
+use Rattle.mls_term.proofs.MergeLaws.{width-merge}
+use Rattle.mls_term.proofs.PlaceLaws.{first_blank_at, first_blank_none, first_blank_first, leaf_at-put, leaf_at-enter, leaf_at-merge, leaf_at-grow, leaf_at-grown, leaf_at-trim, width-grow, width-trim}
+use Rattle.mls_term.proofs.MemberLaws.{remove_elsewhere}
 use Rattle.mls_array.specs.Ends.{taken_end}
-use Rattle.mls_array.specs.EndLaws.{end_before, blank_behind}
+use Rattle.mls_array.proofs.EndLaws.{end_before, blank_behind}
 use Rattle.mls_array.specs.StandingLaws.{StandsFor}
 use Rattle.mls_tree.specs.Bounds.{Bounds}
 use Rattle.mls_tree.proofs.Pathing.{merge_is}

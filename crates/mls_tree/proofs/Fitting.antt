@@ -9,7 +9,7 @@ use Rattle.mls_term.specs.Good.{is_all_fit}
 use Rattle.mls_term.specs.Arrays.{term_of}
 use Rattle.mls_array.specs.Standing.{Stands}
 use Rattle.mls_array.specs.Gathered.{cell_key}
-use Rattle.mls_array.specs.GatheredLaws.{keys_standing}
+use Rattle.mls_array.proofs.GatheredLaws.{keys_standing}
 use Rattle.mls_suite.specs.Crypto.{Crypto}
 use Rattle.mls_tree.specs.Rules.{rules_of}
 

@@ -12,22 +12,22 @@ use Rattle.mls_term.specs.Hashes.{tree_hash}
 use Rattle.mls_term.specs.Resolution.{is_reached}
 use Rattle.mls_term.specs.Way.{path_length}
 use Rattle.mls_term.specs.Merge.{new_parent, keys_below, keys_beside, hash_beside, merge, merge_path}
-use Rattle.mls_term.specs.Equations.{path_length_leaf, path_length_left, path_length_right}
+use Rattle.mls_term.proofs.Equations.{path_length_leaf, path_length_left, path_length_right}
 use Rattle.mls_term.specs.Arrays.{term_of}
-use Rattle.mls_term.specs.ArrayLaws.{perfect-term_of}
-use Rattle.mls_term.specs.PlaceLaws.{perfect-merge}
+use Rattle.mls_term.proofs.ArrayLaws.{perfect-term_of}
+use Rattle.mls_term.proofs.PlaceLaws.{perfect-merge}
 use Rattle.mls_hash.specs.Counter.{counted}
 use Rattle.mls_array.specs.Kept.{hashes_of, Keeps, dropped, cold_places}
-use Rattle.mls_array.specs.KeptLaws.{hashes_of_branch, length-hashes_of, left_part, right_part, dropped_leaf, dropped_left, dropped_right, cold-append, cold-cons, none_cold}
+use Rattle.mls_array.proofs.KeptLaws.{hashes_of_branch, length-hashes_of, left_part, right_part, dropped_leaf, dropped_left, dropped_right, cold-append, cold-cons, none_cold}
 use Rattle.mls_array.specs.Merging.{path_parents}
 use Rattle.mls_array.specs.StandingLaws.{StandsFor}
 use Rattle.mls_array.specs.WayHashes.{way_hashes, HashesMerged, PutsHashes}
-use Rattle.mls_array.specs.WayHashLaws.{length-way_hashes}
+use Rattle.mls_array.proofs.WayHashLaws.{length-way_hashes}
 use Rattle.mls_tree.specs.Tree.{Tree, term}
 use Rattle.mls_tree.specs.Cold.{Warms, Chills}
 use Rattle.mls_tree.specs.Paths.{merge_checks, merge_answer}
 use Rattle.mls_tree.specs.Prepared.{Prepared, IsPrepared, IsFor, keys_of, merged_by}
-use Rattle.mls_tree.specs.Steps.{merge_steps}
+use Rattle.mls_tree.proofs.Steps.{merge_steps}
 use Rattle.mls_tree.proofs.Pathing.{merge_is, merge_done}
 use Rattle.mls_tree.proofs.Chilling.{tree_of, warmed, edited_in}
 

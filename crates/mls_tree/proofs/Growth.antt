@@ -5,8 +5,8 @@ use Rattle.mls_leaf.specs.declared.node.Node.{Node}
 use Rattle.mls_term.specs.Term.{Term, Branch, width, height, blanks}
 use Rattle.mls_term.specs.Edits.{put, enter, grow}
 use Rattle.mls_term.specs.Arrays.{term_of}
-use Rattle.mls_term.specs.Equations.{put_right, enter_right, grow_is}
-use Rattle.mls_term.specs.ArrayLaws.{width-term_of}
+use Rattle.mls_term.proofs.Equations.{put_right, enter_right, grow_is}
+use Rattle.mls_term.proofs.ArrayLaws.{width-term_of}
 use Rattle.mls_array.specs.StandingLaws.{StandsFor}
 
 -- among blank nodes no list takes a leaf in

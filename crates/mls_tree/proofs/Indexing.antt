@@ -13,21 +13,23 @@ use Rattle.mls_term.specs.Sets.{is_distinct}
 use Rattle.mls_term.specs.Edits.{put, enter, grow, trim, first_blank}
 use Rattle.mls_term.specs.Merge.{merge_path}
 use Rattle.mls_term.specs.Arrays.{term_of, in_order}
-use Rattle.mls_term.specs.PlaceLaws.{first_blank_at, leaf_at-grow, width-grow}
-use Rattle.mls_term.specs.ArrayLaws.{perfect-term_of, width-term_of, nodes_in-leaves}
+use Rattle.mls_term.proofs.PlaceLaws.{first_blank_at, leaf_at-grow, width-grow}
+use Rattle.mls_term.proofs.ArrayLaws.{perfect-term_of, width-term_of, nodes_in-leaves}
 use Rattle.mls_array.specs.Standing.{Stands}
-use Rattle.mls_array.specs.StandingLaws.{StandsFor, in_order-grow, no_more_nodes, stands_for-trim}
+use Rattle.mls_array.specs.StandingLaws.{StandsFor}
+use Rattle.mls_array.proofs.StandingLaws.{in_order-grow, no_more_nodes, stands_for-trim}
 use Rattle.mls_index.specs.declared.kind.KeyKind.{KeyKind}
 use Rattle.mls_index.specs.Indexes.{Listing, Indexes, Without}
 use Rattle.mls_index.specs.Cleared.{cleared}
-use Rattle.mls_index.specs.StepLaws.{same_index}
-use Rattle.mls_index.specs.Laws.{indexes_padded}
+use Rattle.mls_index.proofs.StepLaws.{same_index}
+use Rattle.mls_index.proofs.Laws.{indexes_padded}
 use Rattle.mls_tree.specs.declared.key_indexes.KeyIndexes.{KeyIndexes}
 use Rattle.mls_tree.specs.Indexed.{AreIndexes, AreBeside, AreSame, Fills, IsClient}
-use Rattle.mls_tree.specs.ClientLaws.{indexes-client}
+use Rattle.mls_tree.proofs.ClientLaws.{indexes-client}
 use Rattle.mls_tree.specs.Way.{way_numbers}
-use Rattle.mls_tree.specs.WayLaws.{way_distinct}
-use Rattle.mls_tree.specs.WayIndexes.{indexes-put, indexes-merge, indexes-remove}
+use Rattle.mls_tree.proofs.WayLaws.{way_distinct}
+use Rattle.mls_tree.specs.WayIndexes.{indexes-put, indexes-merge}
+use Rattle.mls_tree.proofs.WayIndexes.{indexes-remove}
 use Rattle.mls_tree.proofs.Filling.{filled}
 use Rattle.mls_tree.proofs.Keepings.{grown_perfect}
 use Rattle.mls_tree.proofs.Pathing.{merge_is}

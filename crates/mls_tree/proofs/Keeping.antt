@@ -4,15 +4,15 @@ use Rattle.mls_leaf.specs.declared.leaf.LeafNode.{LeafNode}
 use Rattle.mls_term.specs.Term.{Term, width, has_leaf, leaf_of}
 use Rattle.mls_term.specs.Edits.{put, add, place_in}
 use Rattle.mls_term.specs.Good.{IsGood, IsSound, AreNew, AreFit, has_distinct_keys, has_distinct_clients}
-use Rattle.mls_term.specs.Equations.{update_is}
-use Rattle.mls_term.specs.SoundLaws.{sound_update, sound_remove, sound_add, good_of_sound}
-use Rattle.mls_term.specs.KeptLaws.{good_update, good_remove, good_add}
-use Rattle.mls_term.specs.PathLaws.{good_merge_path, sound_merge_path}
-use Rattle.mls_term.specs.ClientLaws.{distinct_clients-merge_path}
+use Rattle.mls_term.proofs.Equations.{update_is}
+use Rattle.mls_term.proofs.SoundLaws.{sound_update, sound_remove, sound_add, good_of_sound}
+use Rattle.mls_term.proofs.KeptLaws.{good_update, good_remove, good_add}
+use Rattle.mls_term.proofs.PathLaws.{good_merge_path, sound_merge_path}
+use Rattle.mls_term.proofs.ClientLaws.{distinct_clients-merge_path}
 use Rattle.mls_tree.specs.Tree.{max_leaves, add_answer, update_answer, remove_answer}
 use Rattle.mls_tree.specs.Paths.{merge_answer}
 use Rattle.mls_tree.specs.Kept.{KeepsGood, KeepsSound, MergesGood}
-use Rattle.mls_tree.specs.Steps.{update_steps, remove_steps, add_steps, merge_steps}
+use Rattle.mls_tree.proofs.Steps.{update_steps, remove_steps, add_steps, merge_steps}
 
 module _ (t u : Term) (i : ℕ) where
   pub update_good : (x : LeafNode) → update_answer t i x ≡ Ok u → KeepsGood (λ rules. AreNew rules i x [] (put 0 t i None)) t u

@@ -18,9 +18,9 @@ use Rattle.mls_term.specs.Merge.{merge, path_hash, merge_path, path_parent_hash}
 use Rattle.mls_leaf.specs.declared.node.Node.{Node}
 use Rattle.mls_term.specs.Arrays.{term_of, in_order}
 use Rattle.mls_array.specs.StandingLaws.{StandsFor}
-use Rattle.mls_array.specs.MergingLaws.{stands_for-merge}
+use Rattle.mls_array.proofs.MergingLaws.{stands_for-merge}
 use Rattle.mls_tree.specs.Paths.{path_checks, path_hash_answer, merge_checks, merge_answer}
-use Rattle.mls_term.specs.SetLaws.{same-pointwise}
+use Rattle.mls_term.proofs.SetLaws.{same-pointwise}
 
 -- ---- whole trees
 

@@ -8,8 +8,8 @@ use Rattle.mls_term.specs.Term.{width, is_full_width}
 use Rattle.mls_term.specs.Good.{is_within}
 use Rattle.mls_term.specs.Arrays.{term_of, has_last, alternates, height_for, padded, sent_term, from_nodes}
 use Rattle.mls_array.specs.Standing.{Stands}
-use Rattle.mls_term.specs.ArrayLaws.{width-term_of}
-use Rattle.mls_array.specs.OrderLaws.{Stands-padded}
+use Rattle.mls_term.proofs.ArrayLaws.{width-term_of}
+use Rattle.mls_array.proofs.OrderLaws.{Stands-padded}
 use Rattle.mls_tree.specs.Tree.{max_leaves}
 
 module _ (xs : List (Option Node)) where

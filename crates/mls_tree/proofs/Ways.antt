@@ -6,9 +6,9 @@ use Rattle.std.proofs.lemmas.Bool.{cases_lt}
 use Rattle.std.proofs.lemmas.List.{drop_all}
 use borrow.Rule.Slice.PartMut.{put_mid}
 use Rattle.mls_treemath.specs.Paths.{nodes_in}
-use Rattle.mls_term.specs.ArrayLaws.{nodes_in-leaves}
+use Rattle.mls_term.proofs.ArrayLaws.{nodes_in-leaves}
 use Rattle.mls_tree.specs.Way.{numbers_from}
-use Rattle.mls_tree.specs.WayLaws.{numbers_leaf, numbers_left, numbers_right}
+use Rattle.mls_tree.proofs.WayLaws.{numbers_leaf, numbers_left, numbers_right}
 
 one_set : (xs : List ℕ) (n : ℕ) → length xs ≡ 1 → set xs 0 n ≡ n ∷ []
 one_set [] n e = absurd (omega arith)

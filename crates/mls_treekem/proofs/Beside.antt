@@ -4,10 +4,10 @@ use Rattle.mls_leaf.specs.declared.node.Node.{Node}
 use Rattle.mls_term.specs.Term.{Term, Leaf, Branch, width, size, height}
 use Rattle.mls_term.specs.Arrays.{own_node, node_at}
 use Rattle.mls_term.specs.Places.{at_node, own_key, key_at}
-use Rattle.mls_term.specs.Equations.{at_node_no_leaf, at_node_left, at_node_right}
-use Rattle.mls_term.specs.ShapeLaws.{size-width, width-perfect}
+use Rattle.mls_term.proofs.Equations.{at_node_no_leaf, at_node_left, at_node_right}
+use Rattle.mls_term.proofs.ShapeLaws.{size-width, width-perfect}
 use Rattle.mls_tree.specs.Tree.{Tree, term}
-use Rattle.mls_tree.specs.Perfect.{width_is}
+use Rattle.mls_tree.proofs.Perfect.{width_is}
 use Rattle.mls_treekem.specs.declared.places.Place.{Place}
 use Rattle.mls_treekem.specs.Place.{subtree_at, IsPlaced}
 use Rattle.mls_treekem.specs.Beside.{cell_key}

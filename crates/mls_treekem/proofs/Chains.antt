@@ -4,7 +4,7 @@ use Rattle.mls_suite.specs.Crypto.{Crypto}
 use Rattle.mls_suite.specs.declared.KeyPair.{KeyPair}
 use Rattle.mls_paths.specs.Chain.{next_secret, chain, path_secrets, node_key, node_public}
 use Rattle.mls_treekem.specs.Secrets.{ArePairsOf}
-use Rattle.mls_paths.specs.MakeLaws.{map-append}
+use Rattle.mls_paths.proofs.MakeLaws.{map-append}
 
 pub secrets_none : (start : List ℕ) → path_secrets start 0 ≡ []
 unfolding path_secrets

@@ -10,7 +10,7 @@ use Rattle.mls_paths.specs.Follow.{key_above, leaf_key_after, follow_edit}
 use Rattle.mls_paths.specs.Height.{follow_above, HasFollowed}
 use Rattle.mls_treekem.specs.Place.{step_of, IsWay}
 use Rattle.mls_treekem.proofs.Levels.{key_own}
-use Rattle.mls_paths.specs.HeightLaws.{reverse-end}
+use Rattle.mls_paths.proofs.HeightLaws.{reverse-end}
 
 follow_whole : (own : Option (List ℕ)) (ss : List Step) (ks : Keys) → follow_edit own ss ks ≡ follow_above ss ks ++ (leaf_key_after own ks ∷ [])
 unfolding follow_edit follow_above

@@ -10,7 +10,7 @@ use Rattle.mls_term.specs.Resolution.{is_empty}
 use Rattle.mls_term.specs.Way.{way, is_filtered, is_beside}
 use Rattle.mls_paths.specs.Make.{one_if, filtered_count}
 use Rattle.mls_paths.specs.Join.{secret_among}
-use Rattle.mls_paths.specs.SecretLaws.{secret_is_among}
+use Rattle.mls_paths.proofs.SecretLaws.{secret_is_among}
 use Rattle.mls_treekem.specs.Place.{step_of, ArePlaced, IsWay}
 use Rattle.mls_treekem.specs.Secrets.{IsSentOf}
 use Rattle.mls_treekem.specs.declared.places.Place.{Place}

@@ -4,15 +4,15 @@ use Rattle.std.proofs.lemmas.Bool.{cond-true, cond-false, cases_lt, cases_eq, tr
 use Rattle.std.proofs.lemmas.List.{reverse-reverse, length-reverse, get_or-append_right, get_or_append_left, get_or_past}
 use Rattle.mls_term.specs.Term.{Term, Leaf, Branch, width, size, is_perfect}
 use Rattle.mls_term.specs.Way.{way}
-use Rattle.mls_term.specs.Equations.{way_leaf, way_left, way_right}
-use Rattle.mls_term.specs.ShapeLaws.{size-width, width-perfect}
-use Rattle.mls_term.specs.PathLaws.{reverse-cons}
+use Rattle.mls_term.proofs.Equations.{way_leaf, way_left, way_right}
+use Rattle.mls_term.proofs.ShapeLaws.{size-width, width-perfect}
+use Rattle.mls_term.proofs.PathLaws.{reverse-cons}
 use Rattle.mls_paths.specs.Keys.{Keys, PrivateKeys, all_keys}
 use Rattle.mls_paths.specs.Follow.{key_above, on_way}
 use Rattle.mls_paths.specs.Height.{pairs_from, listed, ArePairs}
 use Rattle.mls_paths.specs.Pairs.{Pair, pair_of, pairs}
-use Rattle.mls_paths.specs.OnePassLaws.{no_key_above}
-use Rattle.mls_paths.specs.HeightLaws.{above_take, above_pass, length-end, own_above, way_height}
+use Rattle.mls_paths.proofs.OnePassLaws.{no_key_above}
+use Rattle.mls_paths.proofs.HeightLaws.{above_take, above_pass, length-end, own_above, way_height}
 
 -- ---- a key with others above the leaf's
 

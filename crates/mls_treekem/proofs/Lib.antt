@@ -1,3 +1,4 @@
+pub mod Names
 pub mod Chains
 pub mod Levels
 pub mod Place

@@ -17,8 +17,8 @@ use Rattle.mls_term.specs.Term.{Term, Leaf, Branch, width, size, is_perfect}
 use Rattle.mls_term.specs.Places.{resolution_at}
 use Rattle.mls_term.specs.Resolution.{is_empty}
 use Rattle.mls_term.specs.Way.{Step, way, is_filtered, is_beside}
-use Rattle.mls_term.specs.Equations.{way_leaf, way_left, way_right}
-use Rattle.mls_term.specs.ShapeLaws.{size-width, width-perfect}
+use Rattle.mls_term.proofs.Equations.{way_leaf, way_left, way_right}
+use Rattle.mls_term.proofs.ShapeLaws.{size-width, width-perfect}
 use Rattle.mls_treekem.specs.declared.places.Place.{Place}
 use Rattle.mls_treekem.specs.Climbing.{with_own}
 use Rattle.mls_treekem.specs.Faults.{number_of}
@@ -32,7 +32,7 @@ use Rattle.mls_paths.specs.Height.{keys_on}
 use Rattle.mls_treekem.specs.Opening.{key_of, IsKeyOf, AreKeysUpTo, OpensAlong}
 use Rattle.mls_treekem.specs.Place.{subtree_at, step_of, IsPlaced, ArePlaced, IsWay}
 use Rattle.mls_paths.specs.Seal.{targets}
-use Rattle.mls_paths.specs.HeightLaws.{way_height, reverse-end, own_above, length-end, length-on_way, same_length}
+use Rattle.mls_paths.proofs.HeightLaws.{way_height, reverse-end, own_above, length-end, length-on_way, same_length}
 
 -- ---- answers by an equal definition
 

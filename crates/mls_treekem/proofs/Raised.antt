@@ -11,16 +11,16 @@ use Rattle.mls_paths.specs.Follow.{key_above, on_way}
 use Rattle.mls_paths.specs.Make.{one_if, filtered_count, secret_above, key_if, made_keys, HasMade}
 use Rattle.mls_treekem.specs.Secrets.{ArePairsOf}
 use Rattle.mls_treekem.specs.Raised.{level_of, raised, raised_all, IsRaised}
-use Rattle.mls_paths.specs.OnePassLaws.{no_key_above}
-use Rattle.mls_paths.specs.HeightLaws.{lower, way_height, above_take, above_pass, length-end, reverse-end}
+use Rattle.mls_paths.proofs.OnePassLaws.{no_key_above}
+use Rattle.mls_paths.proofs.HeightLaws.{lower, way_height, above_take, above_pass, length-end, reverse-end}
 use Rattle.mls_treemath.specs.Paths.{Path, nodes_in, path_to, longer}
 use Rattle.mls_treemath.specs.Steps.{level_in, height_left}
-use Rattle.mls_treemath.specs.Ways.{path_left, path_root, path_right}
+use Rattle.mls_treemath.proofs.Ways.{path_left, path_root, path_right}
 use Rattle.mls_term.specs.Term.{Term, Leaf, Branch, width, size, is_perfect}
-use Rattle.mls_term.specs.Equations.{way_leaf, way_left, way_right}
-use Rattle.mls_term.specs.ShapeLaws.{size-width}
-use Rattle.mls_term.specs.ArrayLaws.{size-perfect, nodes_in-leaves}
-use Rattle.mls_term.specs.PathLaws.{reverse-cons}
+use Rattle.mls_term.proofs.Equations.{way_leaf, way_left, way_right}
+use Rattle.mls_term.proofs.ShapeLaws.{size-width}
+use Rattle.mls_term.proofs.ArrayLaws.{size-perfect, nodes_in-leaves}
+use Rattle.mls_term.proofs.PathLaws.{reverse-cons}
 
 -- node n has level k in a perfect tree of height h whose first leaf is b
 record HasLevel (h b n k : ℕ) : Type 0 where

@@ -27,8 +27,8 @@ use Rattle.mls_paths.specs.Seeds.{seal_seed, seals_in}
 use Rattle.mls_treekem.specs.Place.{subtree_at, step_of, IsPlaced, ArePlaced, IsWay}
 use Rattle.mls_treekem.specs.declared.places.Place.{Place}
 use Rattle.mls_treekem.specs.declared.secrets.PathSecrets.{PathSecrets}
-use Rattle.mls_paths.specs.SeedLaws.{seed_low}
-use Rattle.mls_paths.specs.SecretLaws.{sealed_of_chain}
+use Rattle.mls_paths.proofs.SeedLaws.{seed_low}
+use Rattle.mls_paths.proofs.SecretLaws.{sealed_of_chain}
 
 -- ---- seals by the low bits of their number
 

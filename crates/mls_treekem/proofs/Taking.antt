@@ -20,8 +20,8 @@ use Rattle.mls_paths.specs.Keys.{Keys, leaf_only}
 use Rattle.mls_paths.specs.Make.{past_node, Climb}
 use Rattle.mls_paths.specs.Join.{past_present, is_present, climb_take, is_due, is_complete, take_keys, take_answer}
 use Rattle.mls_treekem.specs.Place.{step_of, ArePlaced, IsWay}
-use Rattle.mls_paths.specs.HeightLaws.{reverse-end, way_height}
-use Rattle.mls_paths.specs.JoinLaws.{sounds, present_is, take_inside}
+use Rattle.mls_paths.proofs.HeightLaws.{reverse-end, way_height}
+use Rattle.mls_paths.proofs.JoinLaws.{sounds, present_is, take_inside}
 use Rattle.mls_treekem.proofs.Opening.{beside_is, first_placed}
 
 -- ---- one place

@@ -3,8 +3,9 @@ use Rattle.std.proofs.Common.{◌≡◌, ℕ, ◌+◌, ◌≤◌, length, Some, 
 use Rattle.std.proofs.lemmas.List.{length-append}
 use Rattle.mls_treemath.specs.Paths.{Path, index_of, path_to}
 use Rattle.mls_treemath.specs.Steps.{common, height_of, common_ancestor_of, parting, parting_among}
-use Rattle.mls_treemath.specs.Ways.{Node, node_at, index_within, path_to-index_of, path_to_within, index_of-path_to, same_some}
-use Rattle.mls_treemath.specs.Fronts.{Under, common_over_first, common_over_second, common_lowest}
+use Rattle.mls_treemath.proofs.Ways.{Node, node_at, index_within, path_to-index_of, path_to_within, index_of-path_to, same_some}
+use Rattle.mls_treemath.specs.Fronts.{Under}
+use Rattle.mls_treemath.proofs.Fronts.{common_over_first, common_over_second, common_lowest}
 use Rattle.mls_treemath.specs.Laws.{NodeHasWay, WayLeadsBack, NodeOfWay, CommonAncestorIsLowest}
 
 pub node_has_way : NodeHasWay

@@ -3,8 +3,8 @@ use Rattle.std.proofs.Common.{◌≡◌, ℕ, suc, ◌+◌, ◌-◌, ◌*◌, �
 use Rattle.std.proofs.Math.Nat.{pow-suc}
 use Rattle.std.proofs.lemmas.Bool.{cases_order, cases_lt}
 use Rattle.mls_treemath.specs.Paths.{Path, nodes_in, root_of, index_of, longer, path_to}
-use Rattle.mls_treemath.specs.Sizes.{nodes_in-suc, nodes_in-pow, suc-root_of, root_of-suc, nodes_in-zero}
-use Rattle.mls_treemath.specs.Ways.{Node, node_at, no_node, path_left, path_root, path_right, same_some}
+use Rattle.mls_treemath.proofs.Sizes.{nodes_in-suc, nodes_in-pow, suc-root_of, root_of-suc, nodes_in-zero}
+use Rattle.mls_treemath.proofs.Ways.{Node, node_at, no_node, path_left, path_root, path_right, same_some}
 use Rattle.mls_treemath.specs.Steps.{common, height_of, parting, parting_among, common_ancestor_of, IsTreeOf}
 use Rattle.mls_treemath.specs.Descent.{apart, Reached}
 use Rattle.mls_treemath.proofs.Moves.{limit_fits, nodes_of}

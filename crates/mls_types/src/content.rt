@@ -48,7 +48,7 @@ impl Codec for Sender {
 
     ghost faults = { sender_faults };
 
-    #[tactic(auto, using(mls_leaf::specs::Codecs::codecs), unfolding(crate::specs::Content::sender))]
+    #[tactic(auto, using(mls_leaf::proofs::Codecs::codecs), unfolding(crate::specs::Content::sender))]
     fn read(alloc: Global, reader: &mut Reader<'_>) -> Result<Sender, LeafError> {
         match reader.u8()? {
             1 => {
@@ -59,7 +59,7 @@ impl Codec for Sender {
         }
     }
 
-    #[tactic(auto, using(mls_leaf::specs::Codecs::codecs), unfolding(crate::specs::Content::sender))]
+    #[tactic(auto, using(mls_leaf::proofs::Codecs::codecs), unfolding(crate::specs::Content::sender))]
     fn check(reader: &mut Reader<'_>) -> Result<(), LeafError> {
         match reader.u8()? {
             1 => {
@@ -70,7 +70,7 @@ impl Codec for Sender {
         }
     }
 
-    #[tactic(auto, using(mls_leaf::specs::Codecs::codecs), unfolding(crate::specs::Content::sender))]
+    #[tactic(auto, using(mls_leaf::proofs::Codecs::codecs), unfolding(crate::specs::Content::sender))]
     fn write(&self, alloc: Global, writer: &mut Writer) -> Result<(), LeafError> {
         match self {
             Sender::Member(leaf_index) => {
@@ -89,7 +89,7 @@ impl Codec for Content {
 
     ghost faults = { content_faults };
 
-    #[tactic(auto, using(mls_leaf::specs::Codecs::codecs), unfolding(crate::specs::Content::content))]
+    #[tactic(auto, using(mls_leaf::proofs::Codecs::codecs), unfolding(crate::specs::Content::content))]
     fn read(alloc: Global, reader: &mut Reader<'_>) -> Result<Content, LeafError> {
         match reader.u8()? {
             1 => {
@@ -108,7 +108,7 @@ impl Codec for Content {
         }
     }
 
-    #[tactic(auto, using(mls_leaf::specs::Codecs::codecs), unfolding(crate::specs::Content::content))]
+    #[tactic(auto, using(mls_leaf::proofs::Codecs::codecs), unfolding(crate::specs::Content::content))]
     fn check(reader: &mut Reader<'_>) -> Result<(), LeafError> {
         match reader.u8()? {
             1 => {
@@ -127,7 +127,7 @@ impl Codec for Content {
         }
     }
 
-    #[tactic(auto, using(mls_leaf::specs::Codecs::codecs), unfolding(crate::specs::Content::content))]
+    #[tactic(auto, using(mls_leaf::proofs::Codecs::codecs), unfolding(crate::specs::Content::content))]
     fn write(&self, alloc: Global, writer: &mut Writer) -> Result<(), LeafError> {
         match self {
             Content::Application(data) => {
@@ -156,7 +156,7 @@ impl Codec for FramedContent {
 
     ghost faults = { framed_content_faults };
 
-    #[tactic(auto, using(mls_leaf::specs::Codecs::codecs), unfolding(crate::specs::Content::framed_content))]
+    #[tactic(auto, using(mls_leaf::proofs::Codecs::codecs), unfolding(crate::specs::Content::framed_content))]
     fn read(alloc: Global, reader: &mut Reader<'_>) -> Result<FramedContent, LeafError> {
         let group_id = Bytes::read(alloc, reader)?;
         let epoch = u64::read(alloc, reader)?;
@@ -172,7 +172,7 @@ impl Codec for FramedContent {
         })
     }
 
-    #[tactic(auto, using(mls_leaf::specs::Codecs::codecs), unfolding(crate::specs::Content::framed_content))]
+    #[tactic(auto, using(mls_leaf::proofs::Codecs::codecs), unfolding(crate::specs::Content::framed_content))]
     fn check(reader: &mut Reader<'_>) -> Result<(), LeafError> {
         Bytes::check(reader)?;
         u64::check(reader)?;
@@ -182,7 +182,7 @@ impl Codec for FramedContent {
         Ok(())
     }
 
-    #[tactic(auto, using(mls_leaf::specs::Codecs::codecs), unfolding(crate::specs::Content::framed_content))]
+    #[tactic(auto, using(mls_leaf::proofs::Codecs::codecs), unfolding(crate::specs::Content::framed_content))]
     fn write(&self, alloc: Global, writer: &mut Writer) -> Result<(), LeafError> {
         self.group_id.write(alloc, writer)?;
         self.epoch.write(alloc, writer)?;

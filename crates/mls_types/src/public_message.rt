@@ -46,7 +46,7 @@ impl Codec for WireFormat {
 
     ghost faults = { wire_format_faults };
 
-    #[tactic(auto, using(mls_leaf::specs::Codecs::codecs), unfolding(crate::specs::PublicMessage::wire_format))]
+    #[tactic(auto, using(mls_leaf::proofs::Codecs::codecs), unfolding(crate::specs::PublicMessage::wire_format))]
     fn read(_alloc: Global, reader: &mut Reader<'_>) -> Result<WireFormat, LeafError> {
         match reader.u16()? {
             1 => Ok(WireFormat::PublicMessage),
@@ -57,7 +57,7 @@ impl Codec for WireFormat {
         }
     }
 
-    #[tactic(auto, using(mls_leaf::specs::Codecs::codecs), unfolding(crate::specs::PublicMessage::wire_format))]
+    #[tactic(auto, using(mls_leaf::proofs::Codecs::codecs), unfolding(crate::specs::PublicMessage::wire_format))]
     fn check(reader: &mut Reader<'_>) -> Result<(), LeafError> {
         match reader.u16()? {
             1 => Ok(()),
@@ -68,7 +68,7 @@ impl Codec for WireFormat {
         }
     }
 
-    #[tactic(auto, using(mls_leaf::specs::Codecs::codecs), unfolding(crate::specs::PublicMessage::wire_format))]
+    #[tactic(auto, using(mls_leaf::proofs::Codecs::codecs), unfolding(crate::specs::PublicMessage::wire_format))]
     fn write(&self, _alloc: Global, writer: &mut Writer) -> Result<(), LeafError> {
         match self {
             WireFormat::PublicMessage => {
@@ -98,7 +98,7 @@ impl Codec for PublicMessage {
 
     ghost faults = { public_message_faults };
 
-    #[tactic(auto, using(mls_leaf::specs::Codecs::codecs), unfolding(crate::specs::PublicMessage::public_message))]
+    #[tactic(auto, using(mls_leaf::proofs::Codecs::codecs), unfolding(crate::specs::PublicMessage::public_message))]
     fn read(alloc: Global, reader: &mut Reader<'_>) -> Result<PublicMessage, LeafError> {
         let (content, membership_tag) = read_signed::<SignedContent>(alloc, reader)?;
         Ok(PublicMessage {
@@ -107,14 +107,14 @@ impl Codec for PublicMessage {
         })
     }
 
-    #[tactic(auto, using(mls_leaf::specs::Codecs::codecs), unfolding(crate::specs::PublicMessage::public_message))]
+    #[tactic(auto, using(mls_leaf::proofs::Codecs::codecs), unfolding(crate::specs::PublicMessage::public_message))]
     fn check(reader: &mut Reader<'_>) -> Result<(), LeafError> {
         SignedContent::check(reader)?;
         Bytes::check(reader)?;
         Ok(())
     }
 
-    #[tactic(auto, using(mls_leaf::specs::Codecs::codecs), unfolding(crate::specs::PublicMessage::public_message))]
+    #[tactic(auto, using(mls_leaf::proofs::Codecs::codecs), unfolding(crate::specs::PublicMessage::public_message))]
     fn write(&self, alloc: Global, writer: &mut Writer) -> Result<(), LeafError> {
         self.content.write(alloc, writer)?;
         self.membership_tag.write(alloc, writer)?;
@@ -129,7 +129,7 @@ impl Codec for AuthenticatedContent {
 
     ghost faults = { authenticated_content_faults };
 
-    #[tactic(auto, using(mls_leaf::specs::Codecs::codecs), unfolding(crate::specs::PublicMessage::authenticated_content))]
+    #[tactic(auto, using(mls_leaf::proofs::Codecs::codecs), unfolding(crate::specs::PublicMessage::authenticated_content))]
     fn read(alloc: Global, reader: &mut Reader<'_>) -> Result<AuthenticatedContent, LeafError> {
         let wire_format = WireFormat::read(alloc, reader)?;
         let content = SignedContent::read(alloc, reader)?;
@@ -139,14 +139,14 @@ impl Codec for AuthenticatedContent {
         })
     }
 
-    #[tactic(auto, using(mls_leaf::specs::Codecs::codecs), unfolding(crate::specs::PublicMessage::authenticated_content))]
+    #[tactic(auto, using(mls_leaf::proofs::Codecs::codecs), unfolding(crate::specs::PublicMessage::authenticated_content))]
     fn check(reader: &mut Reader<'_>) -> Result<(), LeafError> {
         WireFormat::check(reader)?;
         SignedContent::check(reader)?;
         Ok(())
     }
 
-    #[tactic(auto, using(mls_leaf::specs::Codecs::codecs), unfolding(crate::specs::PublicMessage::authenticated_content))]
+    #[tactic(auto, using(mls_leaf::proofs::Codecs::codecs), unfolding(crate::specs::PublicMessage::authenticated_content))]
     fn write(&self, alloc: Global, writer: &mut Writer) -> Result<(), LeafError> {
         self.wire_format.write(alloc, writer)?;
         self.content.write(alloc, writer)?;

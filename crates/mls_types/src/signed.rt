@@ -69,7 +69,7 @@ fn read_confirmed<T: Codec>(
 }
 
 /// Reads from the content's type on.
-#[tactic(auto, using(mls_leaf::specs::Codecs::codecs), unfolding(crate::specs::Signed::signed_tail))]
+#[tactic(auto, using(mls_leaf::proofs::Codecs::codecs), unfolding(crate::specs::Signed::signed_tail))]
 fn read_tail(alloc: Global, reader: &mut Reader<'_>) -> Result<(SignedBody, Bytes), LeafError>
     ensures { ReadsFront signed_tail reader.old result reader.new }
 {
@@ -95,7 +95,7 @@ fn read_tail(alloc: Global, reader: &mut Reader<'_>) -> Result<(SignedBody, Byte
 }
 
 /// Reads past all from the content's type on.
-#[tactic(auto, using(mls_leaf::specs::Codecs::codecs), unfolding(crate::specs::Signed::signed_tail))]
+#[tactic(auto, using(mls_leaf::proofs::Codecs::codecs), unfolding(crate::specs::Signed::signed_tail))]
 fn check_tail(reader: &mut Reader<'_>) -> Result<(), LeafError>
     ensures { ReadsPast signed_tail.pass reader.old result reader.new }
 {
@@ -156,7 +156,7 @@ impl SignedContent {
     }
 
     /// The spelling of its FramedContent.
-    #[tactic(auto, using(mls_leaf::specs::Codecs::codecs))]
+    #[tactic(auto, using(mls_leaf::proofs::Codecs::codecs))]
     pub fn encode_framed_content(&self, alloc: Global) -> Result<Vec<u8>, LeafError>
         ensures { Encodes framed_content (framed self.now) result }
     {
@@ -166,7 +166,7 @@ impl SignedContent {
     }
 
     /// Adds the spelling of its FramedContent.
-    #[tactic(auto, using(mls_leaf::specs::Codecs::codecs), unfolding(crate::specs::Content::framed_content, crate::specs::Content::content))]
+    #[tactic(auto, using(mls_leaf::proofs::Codecs::codecs), unfolding(crate::specs::Content::framed_content, crate::specs::Content::content))]
     pub(crate) fn add_framed_content(
         &self,
         alloc: Global,
@@ -201,7 +201,7 @@ impl SignedContent {
     }
 
     /// Adds the FramedContentAuthData: the signature, and for a commit the confirmation tag.
-    #[tactic(auto, using(mls_leaf::specs::Codecs::codecs))]
+    #[tactic(auto, using(mls_leaf::proofs::Codecs::codecs))]
     pub(crate) fn add_auth_data(&self, alloc: Global, writer: &mut Writer) -> Result<(), LeafError>
         ensures { AddsInput (AuthDataFits self.now) (auth_data self.now) writer.old result writer.new }
     {
@@ -227,7 +227,7 @@ impl Codec for SignedContent {
 
     ghost faults = { signed_content_faults };
 
-    #[tactic(auto, using(mls_leaf::specs::Codecs::codecs), unfolding(crate::specs::Signed::signed_content))]
+    #[tactic(auto, using(mls_leaf::proofs::Codecs::codecs), unfolding(crate::specs::Signed::signed_content))]
     fn read(alloc: Global, reader: &mut Reader<'_>) -> Result<SignedContent, LeafError> {
         let group_id = Bytes::read(alloc, reader)?;
         let epoch = u64::read(alloc, reader)?;
@@ -244,7 +244,7 @@ impl Codec for SignedContent {
         })
     }
 
-    #[tactic(auto, using(mls_leaf::specs::Codecs::codecs), unfolding(crate::specs::Signed::signed_content))]
+    #[tactic(auto, using(mls_leaf::proofs::Codecs::codecs), unfolding(crate::specs::Signed::signed_content))]
     fn check(reader: &mut Reader<'_>) -> Result<(), LeafError> {
         Bytes::check(reader)?;
         u64::check(reader)?;

@@ -14,7 +14,7 @@ impl FramedContent {
 
     /// The FramedContentTBS, which the sender signs (RFC 9420, 6.1).
     /// TooLong where a vector in it has 2^30 bytes or more, unless memory runs out before it.
-    #[tactic(auto, using(mls_leaf::specs::Codecs::codecs))]
+    #[tactic(auto, using(mls_leaf::proofs::Codecs::codecs))]
     pub fn to_be_signed(
         &self,
         alloc: Global,
@@ -39,7 +39,7 @@ impl SignedContent {
 
     /// The FramedContentTBS, which the sender signed (RFC 9420, 6.1).
     /// TooLong where a vector in it has 2^30 bytes or more, unless memory runs out before it.
-    #[tactic(auto, using(mls_leaf::specs::Codecs::codecs))]
+    #[tactic(auto, using(mls_leaf::proofs::Codecs::codecs))]
     pub fn to_be_signed(
         &self,
         alloc: Global,
@@ -55,7 +55,7 @@ impl SignedContent {
 
     /// The AuthenticatedContentTBM, which the membership tag is of (RFC 9420, 6.2).
     /// TooLong where a vector in it has 2^30 bytes or more, unless memory runs out before it.
-    #[tactic(auto, using(mls_leaf::specs::Codecs::codecs))]
+    #[tactic(auto, using(mls_leaf::proofs::Codecs::codecs))]
     pub fn to_be_tagged(
         &self,
         alloc: Global,
@@ -71,7 +71,7 @@ impl SignedContent {
     }
 
     /// Adds the FramedContentTBS.
-    #[tactic(auto, using(mls_leaf::specs::Codecs::codecs))]
+    #[tactic(auto, using(mls_leaf::proofs::Codecs::codecs))]
     fn add_to_be_signed(
         &self,
         wire_format: WireFormat,

@@ -3,7 +3,7 @@ use Rattle.std.proofs.Common.{◌≡◌, ℕ, suc, ◌^◌, ◌<◌, ◌≤◌, 
 use Rattle.std.proofs.lemmas.Bool.{cases_lt}
 use Rattle.std.proofs.lemmas.List.{length-reverse, length-map}
 use Rattle.std.proofs.Math.Pow.{pow_mono}
-use Rattle.mls_wire.specs.CheckLaws.{bind_ok, then_ok}
+use Rattle.mls_wire.proofs.CheckLaws.{bind_ok, then_ok}
 use Rattle.mls_leaf.specs.Parent.{Parent}
 use Rattle.mls_leaf.specs.declared.leaf.LeafNode.{LeafNode}
 use Rattle.mls_suite.specs.Crypto.{Crypto}
@@ -12,14 +12,14 @@ use Rattle.mls_term.specs.Way.{Step, way, filtered_way, filtered_path, path_leng
 use Rattle.mls_term.specs.Merge.{merge_path, path_parent_hash}
 use Rattle.mls_tree.specs.Tree.{Tree, term, member_at, path_answer}
 use Rattle.mls_tree.specs.Paths.{path_checks, path_hash_answer}
-use Rattle.mls_tree.specs.Perfect.{perfect, width_is}
+use Rattle.mls_tree.proofs.Perfect.{perfect, width_is}
 use Rattle.mls_paths.specs.Follow.{key_above, on_way, follow_edit}
 use Rattle.mls_paths.specs.Height.{keys_on, HasFollowed}
 use Rattle.mls_paths.specs.Keys.{Keys, PrivateKeys, all_keys, Along, Fits, Exact}
 use Rattle.mls_paths.specs.Make.{made_keys, HasMade}
-use Rattle.mls_paths.specs.MemberLaws.{keys_merged}
+use Rattle.mls_paths.proofs.MemberLaws.{keys_merged}
 use Rattle.mls_paths.specs.Whole.{keys_of_path}
-use Rattle.mls_paths.specs.WholeLaws.{made_exact}
+use Rattle.mls_paths.proofs.WholeLaws.{made_exact}
 use Rattle.mls_treekem.specs.Secrets.{AreOfChain}
 use Rattle.mls_treekem.specs.declared.secrets.PathSecrets.{PathSecrets}
 

@@ -5,7 +5,7 @@ use Rattle.mls_leaf.specs.declared.leaf.LeafNode.{LeafNode}
 use Rattle.mls_term.specs.Term.{Term}
 use Rattle.mls_tree.specs.Paths.{merge_answer}
 use Rattle.mls_public_group.specs.Short.{IsBelow, HasLeavesBelow}
-use Rattle.mls_public_group.specs.Leaves.{below_merge_path}
+use Rattle.mls_public_group.proofs.Leaves.{below_merge_path}
 use Rattle.mls_update_path.proofs.Merges.{merge_is}
 
 pub leaves_below : (n : ℕ) (t : Term) (i : ℕ) (x : LeafNode) (keys : List (List ℕ)) (u : Term) → merge_answer t i x keys ≡ Ok u → HasLeavesBelow n t → IsBelow n leaf_node x → HasLeavesBelow n u

@@ -1,3 +1,4 @@
+pub mod Names
 pub mod Drafts
 pub mod Merges
 pub mod Leaves

@@ -1,7 +1,7 @@
 -- The new leaf and the tree with the path, as code makes them.
 use Rattle.std.proofs.Common.{◌≡◌, ℕ, ◌≤◌, List, length, Some, Result, Ok, Err, refl, ap, ap₂, sym, ◌∙◌, inl, inr, arith}
 use Rattle.mls_wire.specs.Checks.{Passed, passed}
-use Rattle.mls_wire.specs.CheckLaws.{then_ok}
+use Rattle.mls_wire.proofs.CheckLaws.{then_ok}
 use Rattle.mls_leaf.specs.declared.leaf.LeafNode.{LeafNode}
 use Rattle.mls_leaf.specs.declared.leaf.LeafSource.TheVariants as made_for
 use Rattle.mls_suite.specs.Crypto.{Crypto}
@@ -10,7 +10,7 @@ use Rattle.mls_checks.specs.declared.checks.Source.TheVariants as replaced_for
 use Rattle.mls_term.specs.Term.{Term, leaf_of}
 use Rattle.mls_term.specs.Way.{path_length}
 use Rattle.mls_term.specs.Merge.{merge_path, path_parent_hash}
-use Rattle.mls_term.specs.LengthLaws.{none_or_long}
+use Rattle.mls_term.proofs.LengthLaws.{none_or_long}
 use Rattle.mls_tree.specs.Paths.{merge_checks, merge_answer}
 use Rattle.mls_paths.specs.Seeds.{path_seed}
 use Rattle.mls_paths.specs.Whole.{keys_of_path}

@@ -5,7 +5,7 @@ use Rattle.std.specs.Str.{bytes_eq}
 use Rattle.std.proofs.lemmas.Slice.Eq.{bytes_eq-Decides}
 use Rattle.std.proofs.lemmas.List.{length-map}
 use Rattle.mls_wire.specs.Checks.{Passed, passed, ◌>>◌}
-use Rattle.mls_wire.specs.CheckLaws.{bind_ok, then_ok}
+use Rattle.mls_wire.proofs.CheckLaws.{bind_ok, then_ok}
 use Rattle.mls_wire.specs.Reading.{◌>>=◌}
 use Rattle.mls_leaf.specs.declared.leaf.LeafNode.{LeafNode}
 use Rattle.mls_group.specs.GroupContext.{group_context}
@@ -21,11 +21,11 @@ use Rattle.mls_tree.specs.Paths.{merge_answer}
 use Rattle.mls_paths.specs.Chain.{chain, path_secrets, node_public}
 use Rattle.mls_paths.specs.Keys.{Keys}
 use Rattle.mls_paths.specs.Make.{Climb, climb_make, made_keys}
-use Rattle.mls_paths.specs.MakeLaws.{count_is_length}
+use Rattle.mls_paths.proofs.MakeLaws.{count_is_length}
 use Rattle.mls_paths.specs.Seal.{targets, sealed_path}
 use Rattle.mls_paths.specs.Seeds.{path_seed, seal_seed}
 use Rattle.mls_paths.specs.Whole.{keys_of_path}
-use Rattle.mls_paths.specs.WholeLaws.{sealed_keys, sealed_lengths}
+use Rattle.mls_paths.proofs.WholeLaws.{sealed_keys, sealed_lengths}
 use Rattle.mls_treekem.specs.Secrets.{AreOfChain}
 use Rattle.mls_treekem.specs.declared.secrets.PathSecrets.{PathSecrets}
 use Rattle.mls_model.specs.Public.{PublicState, provisional_context}

@@ -1,8 +1,4 @@
 pub mod Views
-pub mod WalkLaws
-pub mod PartLaws
 pub mod Shown
-pub mod PublicLaws
-pub mod MessageLaws
 pub mod Fed
 pub mod Entries

@@ -42,7 +42,7 @@ pub struct FramedContentView<'a> {
     pub content: ContentView<'a>,
 }
 
-#[tactic(auto, using(mls_leaf::specs::Codecs::codecs), unfolding(mls_types::specs::Content::sender))]
+#[tactic(auto, using(mls_leaf::proofs::Codecs::codecs), unfolding(mls_types::specs::Content::sender))]
 fn read_sender(reader: &mut Reader<'_>) -> Result<Sender, LeafError>
     ensures { ReadsFrontNow sender reader.old result reader.new }
 {
@@ -55,7 +55,7 @@ fn read_sender(reader: &mut Reader<'_>) -> Result<Sender, LeafError>
     }
 }
 
-#[tactic(auto, using(mls_leaf::specs::Codecs::codecs), unfolding(mls_types::specs::Content::content, mls_types::specs::Commit::commit))]
+#[tactic(auto, using(mls_leaf::proofs::Codecs::codecs), unfolding(mls_types::specs::Content::content, mls_types::specs::Commit::commit))]
 fn read_content<'a>(reader: &mut Reader<'a>) -> Result<ContentView<'a>, LeafError>
     ensures { LendsView content ShowsContent reader.old result reader.new }
 {
@@ -78,7 +78,7 @@ fn read_content<'a>(reader: &mut Reader<'a>) -> Result<ContentView<'a>, LeafErro
 }
 
 /// The framed content at the front. It makes no value and takes no memory.
-#[tactic(auto, using(mls_leaf::specs::Codecs::codecs), unfolding(mls_types::specs::Content::framed_content))]
+#[tactic(auto, using(mls_leaf::proofs::Codecs::codecs), unfolding(mls_types::specs::Content::framed_content))]
 pub(crate) fn read_framed<'a>(reader: &mut Reader<'a>) -> Result<FramedContentView<'a>, LeafError>
     ensures { LendsView framed_content ShowsFramed reader.old result reader.new }
 {

@@ -33,7 +33,7 @@ pub enum ProposalOrRefView<'a> {
     Reference(&'a [u8]),
 }
 
-#[tactic(auto, using(mls_leaf::specs::Codecs::codecs), unfolding(mls_group::specs::Welcome::encrypted_group_secrets, mls_group::specs::UpdatePath::hpke_ciphertext))]
+#[tactic(auto, using(mls_leaf::proofs::Codecs::codecs), unfolding(mls_group::specs::Welcome::encrypted_group_secrets, mls_group::specs::UpdatePath::hpke_ciphertext))]
 fn read_secrets<'a>(reader: &mut Reader<'a>) -> Result<EncryptedGroupSecretsView<'a>, LeafError>
     ensures { LendsView encrypted_group_secrets ShowsSecrets reader.old result reader.new }
 {
@@ -47,7 +47,7 @@ fn read_secrets<'a>(reader: &mut Reader<'a>) -> Result<EncryptedGroupSecretsView
     })
 }
 
-#[tactic(auto, using(mls_leaf::specs::Codecs::codecs), unfolding(mls_types::specs::Commit::proposal_or_ref))]
+#[tactic(auto, using(mls_leaf::proofs::Codecs::codecs), unfolding(mls_types::specs::Commit::proposal_or_ref))]
 fn read_proposal_or_ref<'a>(reader: &mut Reader<'a>) -> Result<ProposalOrRefView<'a>, LeafError>
     ensures { LendsView proposal_or_ref ShowsProposalOrRef reader.old result reader.new }
 {

@@ -30,7 +30,7 @@ pub enum MessageView<'a> {
 }
 
 /// The message at the front. It makes no value and takes no memory.
-#[tactic(auto, using(mls_leaf::specs::Codecs::codecs), unfolding(mls_types::specs::Message::mls_message))]
+#[tactic(auto, using(mls_leaf::proofs::Codecs::codecs), unfolding(mls_types::specs::Message::mls_message))]
 fn read_message<'a>(reader: &mut Reader<'a>) -> Result<MessageView<'a>, LeafError>
     ensures { LendsView mls_message Shows reader.old result reader.new }
 {

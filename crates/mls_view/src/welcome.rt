@@ -25,7 +25,7 @@ pub struct WelcomeView<'a> {
 }
 
 /// The welcome at the front. It makes no value and takes no memory.
-#[tactic(auto, using(mls_leaf::specs::Codecs::codecs), unfolding(mls_group::specs::Welcome::welcome))]
+#[tactic(auto, using(mls_leaf::proofs::Codecs::codecs), unfolding(mls_group::specs::Welcome::welcome))]
 pub(crate) fn read_welcome<'a>(reader: &mut Reader<'a>) -> Result<WelcomeView<'a>, LeafError>
     ensures { LendsView welcome ShowsWelcome reader.old result reader.new }
 {

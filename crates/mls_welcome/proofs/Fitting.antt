@@ -13,7 +13,7 @@ use Rattle.mls_leaf.specs.Nonempty.{optional_nonempty}
 use Rattle.mls_leaf.specs.Leaf.{credential, uint16s, capabilities, leaf_source, leaf_node}
 use Rattle.mls_leaf.specs.Parent.{Parent, rises}
 use Rattle.mls_leaf.specs.ParentNode.{rising, parent_node}
-use Rattle.mls_leaf.specs.ParentLaws.{RunFits-rising}
+use Rattle.mls_leaf.proofs.ParentLaws.{RunFits-rising}
 use Rattle.mls_leaf.specs.Node.{node}
 use Rattle.mls_leaf.specs.declared.leaf.Capabilities.{Capabilities}
 use Rattle.mls_leaf.specs.declared.leaf.Credential.{Credential}

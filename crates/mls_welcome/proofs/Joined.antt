@@ -10,7 +10,7 @@ use Rattle.mls_leaf.specs.declared.key_package.KeyPackage.{KeyPackage}
 use Rattle.mls_group.specs.declared.welcome.EncryptedGroupSecrets.{EncryptedGroupSecrets}
 use Rattle.mls_suite.specs.Crypto.{Crypto, Sealing, Lawful}
 use Rattle.mls_suite.specs.Labels.{encrypt_with_label}
-use Rattle.mls_suite.specs.LabelLaws.{seals_where_fit}
+use Rattle.mls_suite.proofs.LabelLaws.{seals_where_fit}
 use Rattle.mls_suite.specs.Made.{sealing_of}
 use Rattle.mls_suite.specs.declared.Sealed.{Sealed}
 use Rattle.mls_paths.specs.Seal.{ciphertext_of}

@@ -1,3 +1,4 @@
+pub mod Names
 mod Joined
 mod Fitting
 mod Measured

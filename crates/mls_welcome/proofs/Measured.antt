@@ -12,13 +12,13 @@ use Rattle.mls_leaf.specs.Faults.{number_of, Refuses}
 use Rattle.mls_leaf.specs.declared.error.LeafError.{LeafError}
 use Rattle.mls_leaf.specs.declared.error.LeafError.TheVariants.{Wire, BadTag, UnsupportedCredential, UnsupportedProposal, NotRising, ExtensionNotAllowed}
 use Rattle.mls_group.specs.GroupInfo.{group_info, group_info_tbs, GroupInfoTbsFits}
-use Rattle.mls_group.specs.GroupInfoLaws.{group_info-spelled}
+use Rattle.mls_group.proofs.GroupInfoLaws.{group_info-spelled}
 use Rattle.mls_group.specs.declared.group_info.GroupInfo.{GroupInfo}
 use Rattle.mls_suite.specs.Crypto.{Crypto}
 use Rattle.mls_suite.specs.Labels.{sign_with_label}
 use Rattle.mls_model.specs.Welcome.{signed_info}
 use Rattle.mls_model.specs.Messages.{are_bytes, is_within_limit}
-use Rattle.mls_public_group.specs.Limits.{past_limit}
+use Rattle.mls_public_group.proofs.Limits.{past_limit}
 use Rattle.mls_welcome.specs.Spelled.{FitsIfShort, IsRanged, limited}
 use Rattle.mls_welcome.proofs.Fitting.{tbs_fit}
 

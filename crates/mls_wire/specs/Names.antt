@@ -1,5 +1,5 @@
 -- The name of each refusal, by its number: one table for all crates, of which each refusal's own name is an entry.
-use Rattle.std.specs.Prelude.{◌≡◌, ℕ, ◌==◌, if◌then◌else◌, List, [], ◌∷◌, ◌++◌, codes, refl}
+use Rattle.std.specs.Prelude.{◌≡◌, ℕ, ◌==◌, if◌then◌else◌, List, [], ◌∷◌, ◌++◌, codes}
 use Rattle.mls_wire.specs.Faults.{number_of, name_of}
 use Rattle.mls_wire.specs.declared.WireError.{WireError}
 use Rattle.mls_wire.specs.declared.WireError.TheVariants.{OutOfMemory, Truncated, Trailing, BadLength, NotMinimal, TooLong}
@@ -45,11 +45,3 @@ refusal_name n = name_in (names_of_bytes ++ names_of_trees ++ names_of_members +
 -- each name stands in the table at its number
 abbrev pub NamesAreListed : Type 0
 NamesAreListed = (e : WireError) → name_of e ≡ refusal_name (number_of e)
-
-pub names_listed : NamesAreListed
-names_listed OutOfMemory = refl
-names_listed Truncated = refl
-names_listed Trailing = refl
-names_listed BadLength = refl
-names_listed NotMinimal = refl
-names_listed TooLong = refl

@@ -13,9 +13,10 @@ use Rattle.mls_model.specs.declared.event.Reply.{Reply}
 use Rattle.mls_model.specs.Calls.{candidate_answer, create_answer, propose_add_answer, propose_update_answer, propose_remove_answer, commit_answer, drop_answer, deliver_answer, join_answer}
 use Rattle.mls_model.specs.Range.{IsSourceInRange, IsItemInRange, IsInRange}
 use Rattle.mls_model.specs.Run.{answer}
-use Rattle.mls_model.specs.RunLaws.{answered_step}
+use Rattle.mls_model.proofs.RunLaws.{answered_step}
 use Rattle.mls_model.specs.World.{World}
-use Rattle.mls_runs.specs.Reachable.{IsReachable, steps_reach}
+use Rattle.mls_runs.specs.Reachable.{IsReachable}
+use Rattle.mls_runs.proofs.Reachable.{steps_reach}
 
 -- elements as a `Vec`, wherever it would lie
 abbrev in_vec : {X : Type 0} → Global → (xs : List X) → length xs < 2 ^ 63 → Vec X

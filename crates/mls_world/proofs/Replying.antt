@@ -7,7 +7,7 @@ use Rattle.mls_model.specs.declared.event.Event.{Event}
 use Rattle.mls_model.specs.declared.event.Reply.{Reply}
 use Rattle.mls_model.specs.Answers.{Runs}
 use Rattle.mls_model.specs.Run.{step, run, replies}
-use Rattle.mls_model.specs.RunLaws.{run_in_parts, replies_in_parts}
+use Rattle.mls_model.proofs.RunLaws.{run_in_parts, replies_in_parts}
 use Rattle.mls_model.specs.World.{World}
 
 one_more : (es : List Event) (i : ℕ) (e : Event) → i < length es → e ≡ get_or es i e → take (i + 1) es ≡ take i es ++ e ∷ []

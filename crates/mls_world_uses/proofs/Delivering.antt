@@ -13,7 +13,7 @@ use Rattle.mls_model.specs.declared.event.Source.TheVariants.{Given, Message}
 use Rattle.mls_model.specs.declared.event.Reply.{Reply}
 use Rattle.mls_model.specs.Answers.{Runs}
 use Rattle.mls_model.specs.Agreement.{AgreeSecret, Keeps}
-use Rattle.mls_model.specs.CommitLaws.{names_are_held}
+use Rattle.mls_model.proofs.CommitLaws.{names_are_held}
 use Rattle.mls_model.specs.Headline.{IsActive, IsAdded, is_removed, Accepts, Joins, KeepsOthers, KeepsMembers, FollowsPending, Headline, HoldsAlong}
 use Rattle.mls_model.specs.Journal.{Entry, CommitMade, with_entry, list_in, entry_of, is_homemade}
 use Rattle.mls_model.specs.Member.{Member}

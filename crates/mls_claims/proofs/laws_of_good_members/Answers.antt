@@ -1,11 +1,11 @@
 use Rattle.mls_claims.proofs.laws_of_good_members.Goals as goal
-use Rattle.mls_claims.specs.Committed.{created_good, committed_good}
-use Rattle.mls_claims.specs.Delivered.{delivered_good}
-use Rattle.mls_claims.specs.Entered.{joined_good}
-use Rattle.mls_claims.specs.Next.{is_next}
-use Rattle.mls_claims.specs.Offered.{candidate_good}
-use Rattle.mls_claims.specs.Proposing.{added_good, updated_good, removed_good}
-use Rattle.mls_claims.specs.Still.{dropped_good}
+use Rattle.mls_claims.proofs.Committed.{created_good, committed_good}
+use Rattle.mls_claims.proofs.Delivered.{delivered_good}
+use Rattle.mls_claims.proofs.Entered.{joined_good}
+use Rattle.mls_claims.proofs.Next.{is_next}
+use Rattle.mls_claims.proofs.Offered.{candidate_good}
+use Rattle.mls_claims.proofs.Proposing.{added_good, updated_good, removed_good}
+use Rattle.mls_claims.proofs.Still.{dropped_good}
 
 pub returns : goal.returns
 returns c = record {

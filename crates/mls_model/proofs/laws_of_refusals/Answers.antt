@@ -1,8 +1,8 @@
 use Rattle.mls_model.proofs.laws_of_refusals.Goals as goal
-use Rattle.mls_model.specs.VerdictRefusals.{verdict_refused}
-use Rattle.mls_model.specs.CallRefusals.{add_refused, update_refused, remove_refused, make_refused, candidate_refused, create_refused}
-use Rattle.mls_model.specs.JoinRefusals.{join_refused}
-use Rattle.mls_model.specs.WorldRefusals.{event_refused}
+use Rattle.mls_model.proofs.VerdictRefusals.{verdict_refused}
+use Rattle.mls_model.proofs.CallRefusals.{add_refused, update_refused, remove_refused, make_refused, candidate_refused, create_refused}
+use Rattle.mls_model.proofs.JoinRefusals.{join_refused}
+use Rattle.mls_model.proofs.WorldRefusals.{event_refused}
 
 pub returns : goal.returns
 returns c =

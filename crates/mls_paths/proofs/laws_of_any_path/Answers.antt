@@ -1,6 +1,6 @@
 use Rattle.mls_paths.proofs.laws_of_any_path.Goals as goal
-use Rattle.mls_paths.specs.AnyPathLaws.{refused_unopened, judged_by_keys}
-use Rattle.mls_paths.specs.TakeLaws.{taken_fits, fit_is_taken}
+use Rattle.mls_paths.proofs.AnyPathLaws.{refused_unopened, judged_by_keys}
+use Rattle.mls_paths.proofs.TakeLaws.{taken_fits, fit_is_taken}
 
 pub returns : goal.returns
 returns c =

@@ -1,5 +1,5 @@
 use Rattle.mls_paths.proofs.laws_of_following.Goals as goal
-use Rattle.mls_paths.specs.FollowLaws.{tame_put, tame_enter, tame_refl, tame_trans, follow_tame, follow_grow, follow_trim_by, follow_own}
+use Rattle.mls_paths.proofs.FollowLaws.{tame_put, tame_enter, tame_refl, tame_trans, follow_tame, follow_grow, follow_trim_by, follow_own}
 
 pub returns : goal.returns
 returns c =

@@ -1,7 +1,7 @@
 use Rattle.mls_paths.proofs.laws_of_joining.Goals as goal
 use Rattle.mls_term.specs.Way.{way}
-use Rattle.mls_paths.specs.JoinLaws.{take_exact, leaf_due, leaf_exact, take_agree, entered_lists, tame_lists, take_inside}
-use Rattle.mls_paths.specs.CommitLaws.{join_agree}
+use Rattle.mls_paths.proofs.JoinLaws.{take_exact, leaf_due, leaf_exact, take_agree, entered_lists, tame_lists, take_inside}
+use Rattle.mls_paths.proofs.CommitLaws.{join_agree}
 
 pub returns : goal.returns
 returns c =

@@ -1,6 +1,6 @@
 use Rattle.mls_paths.proofs.laws_of_lists.Goals as goal
-use Rattle.mls_paths.specs.ListLaws.{right_are_below}
-use Rattle.mls_paths.specs.BelowLaws.{below_put, below_enter, below_grow, below_trim, below_merge}
+use Rattle.mls_paths.proofs.ListLaws.{right_are_below}
+use Rattle.mls_paths.proofs.BelowLaws.{below_put, below_enter, below_grow, below_trim, below_merge}
 
 pub returns : goal.returns
 returns c =

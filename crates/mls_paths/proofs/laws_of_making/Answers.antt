@@ -1,8 +1,8 @@
 use Rattle.mls_paths.proofs.laws_of_making.Goals as goal
-use Rattle.mls_paths.specs.MakeLaws.{keys_are_chain, keys_of_secrets, count_is_length, making_climbs, make_exact}
-use Rattle.mls_paths.specs.SeedLaws.{seed_wraps}
-use Rattle.mls_paths.specs.SealLaws.{made_path, path_some}
-use Rattle.mls_paths.specs.MergedLaws.{path_has_keys, make_merged, seal_merged, count_merged, path_merged}
+use Rattle.mls_paths.proofs.MakeLaws.{keys_are_chain, keys_of_secrets, count_is_length, making_climbs, make_exact}
+use Rattle.mls_paths.proofs.SeedLaws.{seed_wraps}
+use Rattle.mls_paths.proofs.SealLaws.{made_path, path_some}
+use Rattle.mls_paths.proofs.MergedLaws.{path_has_keys, make_merged, seal_merged, count_merged, path_merged}
 
 pub returns : goal.returns
 returns c =

@@ -1,5 +1,5 @@
 use Rattle.mls_paths.proofs.laws_of_members.Goals as goal
-use Rattle.mls_paths.specs.MemberLaws.{exact_whole, exact_made, exact_followed, exact_updated, exact_opened, keys_merged, exact_received, made_received, shown_are_due, exact_taken, exact_alone}
+use Rattle.mls_paths.proofs.MemberLaws.{exact_whole, exact_made, exact_followed, exact_updated, exact_opened, keys_merged, exact_received, made_received, shown_are_due, exact_taken, exact_alone}
 
 pub returns : goal.returns
 returns c =

@@ -1,6 +1,6 @@
 use Rattle.mls_paths.proofs.laws_of_one_pass.Goals as goal
-use Rattle.mls_paths.specs.OnePassLaws.{follows_trans, follows_tame, follows_grow, follows_trim, follow_edit_exact, own_edit_exact}
-use Rattle.mls_paths.specs.HeightLaws.{exact_is_on_way, leaf_is_on_way, edit_is_follow}
+use Rattle.mls_paths.proofs.OnePassLaws.{follows_trans, follows_tame, follows_grow, follows_trim, follow_edit_exact, own_edit_exact}
+use Rattle.mls_paths.proofs.HeightLaws.{exact_is_on_way, leaf_is_on_way, edit_is_follow}
 
 pub returns : goal.returns
 returns c =

@@ -1,9 +1,9 @@
 use Rattle.mls_paths.proofs.laws_of_paths.Goals as goal
-use Rattle.mls_paths.specs.FitLaws.{fit_targets}
-use Rattle.mls_paths.specs.SecretLaws.{sealed_of_chain, secret_is_among}
-use Rattle.mls_paths.specs.ForkLaws.{secret_at_ancestor}
-use Rattle.mls_paths.specs.WholeLaws.{sealed_keys, sealed_lengths, sealed_where_fit, refused_where_unfit, sealed_merged, opened_merged, secret_merged, made_exact, made_merged, length_merged, filtered_merged, opened_exact, opened_agrees, opened_is_sent, taken_agrees, secret_for_merged}
-use Rattle.mls_paths.specs.NumberLaws.{sealed_by_number, seals_are_counted}
+use Rattle.mls_paths.proofs.FitLaws.{fit_targets}
+use Rattle.mls_paths.proofs.SecretLaws.{sealed_of_chain, secret_is_among}
+use Rattle.mls_paths.proofs.ForkLaws.{secret_at_ancestor}
+use Rattle.mls_paths.proofs.WholeLaws.{sealed_keys, sealed_lengths, sealed_where_fit, refused_where_unfit, sealed_merged, opened_merged, secret_merged, made_exact, made_merged, length_merged, filtered_merged, opened_exact, opened_agrees, opened_is_sent, taken_agrees, secret_for_merged}
+use Rattle.mls_paths.proofs.NumberLaws.{sealed_by_number, seals_are_counted}
 
 pub returns : goal.returns
 returns c =

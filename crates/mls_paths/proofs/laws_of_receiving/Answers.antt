@@ -1,7 +1,7 @@
 use Rattle.mls_paths.proofs.laws_of_receiving.Goals as goal
-use Rattle.mls_paths.specs.MergedLaws.{open_merged}
-use Rattle.mls_paths.specs.OpenLaws.{climb_exact, climb_agree}
-use Rattle.mls_paths.specs.CommitLaws.{commit_agree}
+use Rattle.mls_paths.proofs.MergedLaws.{open_merged}
+use Rattle.mls_paths.proofs.OpenLaws.{climb_exact, climb_agree}
+use Rattle.mls_paths.proofs.CommitLaws.{commit_agree}
 
 pub returns : goal.returns
 returns c =

@@ -1,12 +1,12 @@
 use Rattle.mls_paths.proofs.laws_of_targets.Goals as goal
-use Rattle.mls_term.specs.ResolutionLaws.{reached, resolution_range}
-use Rattle.mls_term.specs.CountLaws.{resolution_distinct}
-use Rattle.mls_term.specs.EntryLaws.{one_filtered}
+use Rattle.mls_term.proofs.ResolutionLaws.{reached, resolution_range}
+use Rattle.mls_term.proofs.CountLaws.{resolution_distinct}
+use Rattle.mls_term.proofs.EntryLaws.{one_filtered}
 use Rattle.mls_paths.specs.Lists.{below_here}
-use Rattle.mls_paths.specs.ListLaws.{below_bound}
-use Rattle.mls_paths.specs.TargetLaws.{one_node, one_target}
-use Rattle.mls_paths.specs.EntryLaws.{key_where_held, one_entry, entry_key}
-use Rattle.mls_paths.specs.PairLaws.{pairs_in_order, pairs_found}
+use Rattle.mls_paths.proofs.ListLaws.{below_bound}
+use Rattle.mls_paths.proofs.TargetLaws.{one_node, one_target}
+use Rattle.mls_paths.proofs.EntryLaws.{key_where_held, one_entry, entry_key}
+use Rattle.mls_paths.proofs.PairLaws.{pairs_in_order, pairs_found}
 
 pub returns : goal.returns
 returns c =

@@ -1,5 +1,5 @@
 use Rattle.mls_text.specs.Page.{printout}
-use Rattle.mls_text.specs.Pages.{cut_ending, cut_lines}
+use Rattle.mls_text.proofs.Pages.{cut_ending, cut_lines}
 use Rattle.mls_replay.specs.Replay.{entry_text, played_page}
 use Rattle.mls_replay.proofs.Closing.{closing, text_from}
 use Rattle.mls_replay.proofs.Growing.{no_more_members}

@@ -1,5 +1,5 @@
 use Rattle.std.proofs.Common.{refl}
-use Rattle.mls_replay.specs.PrintLaws.{prints_it}
+use Rattle.mls_replay.proofs.PrintLaws.{prints_it}
 use Rattle.mls_replay.proofs.print_error.Goals as goal
 
 pub returns-in-NotHex-clause-prints : goal.returns-in-NotHex-clause-prints

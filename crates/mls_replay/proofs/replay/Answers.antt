@@ -1,4 +1,4 @@
-use Rattle.mls_replay.specs.PrintLaws.{prints_it}
+use Rattle.mls_replay.proofs.PrintLaws.{prints_it}
 use Rattle.mls_replay.proofs.Closing.{is_replay, refusal_prints}
 use Rattle.mls_replay.proofs.replay.Goals as goal
 

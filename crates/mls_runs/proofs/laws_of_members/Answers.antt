@@ -1,6 +1,6 @@
 use Rattle.mls_runs.proofs.laws_of_members.Goals as goal
-use Rattle.mls_runs.specs.Names.{names_stable}
-use Rattle.mls_runs.specs.Leaves.{own_leaves}
+use Rattle.mls_runs.proofs.Names.{names_stable}
+use Rattle.mls_runs.proofs.Leaves.{own_leaves}
 
 pub returns : goal.returns
 returns c = record { names = names_stable; leaves = own_leaves }

@@ -1,5 +1,5 @@
 use Rattle.mls_term.proofs.laws_of_clients.Goals as goal
-use Rattle.mls_term.specs.ClientLaws.{clients-merge, distinct_clients-merge_path, one_client}
+use Rattle.mls_term.proofs.ClientLaws.{clients-merge, distinct_clients-merge_path, one_client}
 
 pub returns : goal.returns
 returns c =

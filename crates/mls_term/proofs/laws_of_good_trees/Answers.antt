@@ -1,8 +1,8 @@
 use Rattle.mls_term.proofs.laws_of_good_trees.Goals as goal
-use Rattle.mls_term.specs.GoodLaws.{good_passes, good_from_checks}
-use Rattle.mls_term.specs.SoundLaws.{sound_of_good, good_of_sound, sound_update, sound_remove, sound_add}
-use Rattle.mls_term.specs.KeptLaws.{good_single, good_update, good_remove, good_add, good_merge}
-use Rattle.mls_term.specs.PathLaws.{good_merge_path, sound_merge_path}
+use Rattle.mls_term.proofs.GoodLaws.{good_passes, good_from_checks}
+use Rattle.mls_term.proofs.SoundLaws.{sound_of_good, good_of_sound, sound_update, sound_remove, sound_add}
+use Rattle.mls_term.proofs.KeptLaws.{good_single, good_update, good_remove, good_add, good_merge}
+use Rattle.mls_term.proofs.PathLaws.{good_merge_path, sound_merge_path}
 
 pub returns : goal.returns
 returns c =

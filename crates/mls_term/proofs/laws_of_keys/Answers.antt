@@ -1,5 +1,5 @@
 use Rattle.mls_term.proofs.laws_of_keys.Goals as goal
-use Rattle.mls_term.specs.MemberLaws.{keys-put, keys-enter, keys-merge, keys-grow, keys-trim}
+use Rattle.mls_term.proofs.MemberLaws.{keys-put, keys-enter, keys-merge, keys-grow, keys-trim}
 
 pub returns : goal.returns
 returns c =

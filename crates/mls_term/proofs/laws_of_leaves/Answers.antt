@@ -1,7 +1,7 @@
 use Rattle.mls_term.proofs.laws_of_leaves.Goals as goal
-use Rattle.mls_term.specs.PlaceLaws.{leaf_at-put, leaf_at-enter, leaf_at-merge, members-grow, members-trim, first_blank_at, first_blank_first, first_blank_none}
-use Rattle.mls_term.specs.MemberLaws.{add_there, add_elsewhere, add_wider, remove_elsewhere}
-use Rattle.mls_term.specs.LimitLaws.{add_within}
+use Rattle.mls_term.proofs.PlaceLaws.{leaf_at-put, leaf_at-enter, leaf_at-merge, members-grow, members-trim, first_blank_at, first_blank_first, first_blank_none}
+use Rattle.mls_term.proofs.MemberLaws.{add_there, add_elsewhere, add_wider, remove_elsewhere}
+use Rattle.mls_term.proofs.LimitLaws.{add_within}
 
 pub returns : goal.returns
 returns c =

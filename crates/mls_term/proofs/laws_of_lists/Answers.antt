@@ -1,8 +1,8 @@
 use Rattle.mls_term.proofs.laws_of_lists.Goals as goal
-use Rattle.mls_term.specs.NamedLaws.{named_range, fresh, lists-enter, rises-enter}
-use Rattle.mls_term.specs.ParentLaws.{parents-put, parents-grow, parents-trim}
-use Rattle.mls_term.specs.MergeLaws.{lists-merge, rises-merge}
-use Rattle.mls_term.specs.WholeLaws.{right_update, right_remove, right_add, right_merge_path, rising_update, rising_remove, rising_add, rising_merge_path}
+use Rattle.mls_term.proofs.NamedLaws.{named_range, fresh, lists-enter, rises-enter}
+use Rattle.mls_term.proofs.ParentLaws.{parents-put, parents-grow, parents-trim}
+use Rattle.mls_term.proofs.MergeLaws.{lists-merge, rises-merge}
+use Rattle.mls_term.proofs.WholeLaws.{right_update, right_remove, right_add, right_merge_path, rising_update, rising_remove, rising_add, rising_merge_path}
 
 pub returns : goal.returns
 returns c =

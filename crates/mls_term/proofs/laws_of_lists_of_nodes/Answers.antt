@@ -1,6 +1,6 @@
 use Rattle.mls_term.proofs.laws_of_lists_of_nodes.Goals as goal
-use Rattle.mls_term.specs.ArrayLaws.{term_of-in_order, perfect-term_of, from_to_nodes}
-use Rattle.mls_term.specs.ArrayLaws.{node-in_order}
+use Rattle.mls_term.proofs.ArrayLaws.{term_of-in_order, perfect-term_of, from_to_nodes}
+use Rattle.mls_term.proofs.ArrayLaws.{node-in_order}
 use Rattle.mls_term.proofs.Numbers.{leaf-is_node, node-of_way, leaf-by_bits}
 use Rattle.mls_term.proofs.Directs.{way_above}
 

@@ -1,6 +1,6 @@
 use Rattle.mls_term.proofs.laws_of_members.Goals as goal
-use Rattle.mls_term.specs.MemberLaws.{members-put, members-enter, members-merge, all_members-grow, all_members-trim}
-use Rattle.mls_term.specs.ClientLaws.{member_passes}
+use Rattle.mls_term.proofs.MemberLaws.{members-put, members-enter, members-merge, all_members-grow, all_members-trim}
+use Rattle.mls_term.proofs.ClientLaws.{member_passes}
 
 pub returns : goal.returns
 returns c =

@@ -1,11 +1,11 @@
 use Rattle.mls_term.proofs.laws_of_parent_hashes.Goals as goal
-use Rattle.mls_term.specs.MemberLaws.{original-none}
-use Rattle.mls_term.specs.OriginalLaws.{original-enter, original-with}
-use Rattle.mls_term.specs.ResolutionLaws.{hash_at-enter}
-use Rattle.mls_term.specs.AddLaws.{valid-add}
-use Rattle.mls_term.specs.MergeLaws.{merge_head, valid-merge}
-use Rattle.mls_term.specs.WholeLaws.{tied_update, tied_remove, tied_add, tied_merge_path}
-use Rattle.mls_term.specs.LengthLaws.{length-tree_hash, none_or_long, length-path_parent_hash}
+use Rattle.mls_term.proofs.MemberLaws.{original-none}
+use Rattle.mls_term.proofs.OriginalLaws.{original-enter, original-with}
+use Rattle.mls_term.proofs.ResolutionLaws.{hash_at-enter}
+use Rattle.mls_term.proofs.AddLaws.{valid-add}
+use Rattle.mls_term.proofs.MergeLaws.{merge_head, valid-merge}
+use Rattle.mls_term.proofs.WholeLaws.{tied_update, tied_remove, tied_add, tied_merge_path}
+use Rattle.mls_term.proofs.LengthLaws.{length-tree_hash, none_or_long, length-path_parent_hash}
 
 pub returns : goal.returns
 returns c =

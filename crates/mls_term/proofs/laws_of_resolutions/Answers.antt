@@ -1,10 +1,10 @@
 use Rattle.mls_term.proofs.laws_of_resolutions.Goals as goal
 use Rattle.mls_term.specs.Lists.{lists_here}
-use Rattle.mls_term.specs.NamedLaws.{lists_bound}
-use Rattle.mls_term.specs.ResolutionLaws.{reached, resolution_range, resolution-enter}
-use Rattle.mls_term.specs.PathLaws.{length-filtered_path}
-use Rattle.mls_term.specs.CountLaws.{resolution_distinct}
-use Rattle.mls_term.specs.EntryLaws.{one_held, one_held_of_rest, one_filtered}
+use Rattle.mls_term.proofs.NamedLaws.{lists_bound}
+use Rattle.mls_term.proofs.ResolutionLaws.{reached, resolution_range, resolution-enter}
+use Rattle.mls_term.proofs.PathLaws.{length-filtered_path}
+use Rattle.mls_term.proofs.CountLaws.{resolution_distinct}
+use Rattle.mls_term.proofs.EntryLaws.{one_held, one_held_of_rest, one_filtered}
 
 pub returns : goal.returns
 returns c =

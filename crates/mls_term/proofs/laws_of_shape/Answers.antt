@@ -1,7 +1,7 @@
 use Rattle.mls_term.proofs.laws_of_shape.Goals as goal
-use Rattle.mls_term.specs.ShapeLaws.{width-perfect, size-width, width-put, width-enter, perfect-put, perfect-enter, perfect-grow, perfect-trim, full-trim}
-use Rattle.mls_term.specs.MergeLaws.{width-merge}
-use Rattle.mls_term.specs.PlaceLaws.{perfect-merge}
+use Rattle.mls_term.proofs.ShapeLaws.{width-perfect, size-width, width-put, width-enter, perfect-put, perfect-enter, perfect-grow, perfect-trim, full-trim}
+use Rattle.mls_term.proofs.MergeLaws.{width-merge}
+use Rattle.mls_term.proofs.PlaceLaws.{perfect-merge}
 
 pub returns : goal.returns
 returns c =

@@ -1,5 +1,5 @@
 use Rattle.std.proofs.Common.{arith, sym, ◌∙◌}
-use Rattle.mls_term.specs.SetLaws.{leaf_here, leaf_elsewhere, leaf_nowhere}
+use Rattle.mls_term.proofs.SetLaws.{leaf_here, leaf_elsewhere, leaf_nowhere}
 use Rattle.mls_array.proofs.counts.is_one_of.Goals as goal
 
 pub returns-then-from-node : goal.returns-then-from-node

@@ -1,5 +1,5 @@
 use Rattle.std.proofs.Common.{◌<◌, ◌∙◌, length, set, refl, ap, arith, rules}
-use Rattle.mls_treemath.specs.Sizes.{nodes_in_pos}
+use Rattle.mls_treemath.proofs.Sizes.{nodes_in_pos}
 use Rattle.mls_array.proofs.Standings.{half}
 use Rattle.mls_array.proofs.Entries.{both_ok, enter_one, root_cell, left_side, right_side, entered_left, entered_right}
 use Rattle.mls_array.proofs.edits.+entering.Goals as goal

@@ -1,5 +1,5 @@
 use Rattle.std.proofs.Common.{◌<◌, length, refl, arith, rules}
-use Rattle.mls_treemath.specs.Sizes.{nodes_in_pos}
+use Rattle.mls_treemath.proofs.Sizes.{nodes_in_pos}
 use Rattle.mls_array.proofs.Standings.{half, left_of, right_of}
 use Rattle.mls_array.proofs.Puts.{put_one, put_left_blank, put_right_blank}
 use Rattle.mls_array.proofs.edits.+put.Goals as goal

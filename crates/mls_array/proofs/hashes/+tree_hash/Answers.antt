@@ -1,6 +1,6 @@
 use Rattle.std.proofs.Common.{◌+◌, length, get_or, None, ◌∙◌, arith, ap, sym, subst}
 use Rattle.std.proofs.lemmas.List.{get_or_default, take_rest}
-use Rattle.mls_treemath.specs.Sizes.{nodes_in_pos}
+use Rattle.mls_treemath.proofs.Sizes.{nodes_in_pos}
 use Rattle.mls_term.specs.Inputs.{leaf_hash}
 use Rattle.mls_array.specs.Kept.{Keeps}
 use Rattle.mls_array.proofs.Readings.{in_parts, in_sides}

@@ -1,5 +1,5 @@
 use Rattle.std.proofs.Common.{◌∙◌}
-use Rattle.mls_term.specs.SearchLaws.{found}
+use Rattle.mls_term.proofs.SearchLaws.{found}
 use Rattle.mls_array.proofs.lists.has.Goals as goal
 
 pub returns : goal.returns

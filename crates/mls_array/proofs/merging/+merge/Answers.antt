@@ -1,5 +1,5 @@
 use Rattle.std.proofs.Common.{◌<◌, ◌∙◌, length, set, ap, refl, arith, rules}
-use Rattle.mls_treemath.specs.Sizes.{nodes_in_pos}
+use Rattle.mls_treemath.proofs.Sizes.{nodes_in_pos}
 use Rattle.mls_array.proofs.Standings.{half, left_of, right_of}
 use Rattle.mls_array.proofs.Merged.{merge_one, merge_in_left, merge_in_right}
 use Rattle.mls_array.proofs.merging.+merge.Goals as goal

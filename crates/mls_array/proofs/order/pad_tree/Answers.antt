@@ -2,7 +2,7 @@ use Rattle.std.proofs.Common.{◌≡◌, ℕ, ◌^◌, ◌+◌, ◌-◌, ◌++�
 use Rattle.std.proofs.lemmas.Nat.{one_shl, pow_pos}
 use Rattle.mls_treemath.specs.Paths.{nodes_in}
 use Rattle.mls_term.specs.Arrays.{height_for, padded}
-use Rattle.mls_term.specs.ArrayLaws.{nodes_in-leaves}
+use Rattle.mls_term.proofs.ArrayLaws.{nodes_in-leaves}
 use Rattle.mls_array.proofs.order.pad_tree.Goals as goal
 
 tree_len : (leaves height : ℕ) → leaves ≡ 2 ^ height → leaves - 1 + leaves ≡ nodes_in height

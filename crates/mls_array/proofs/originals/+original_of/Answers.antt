@@ -2,7 +2,7 @@ use Rattle.std.proofs.Common.{◌+◌, ◌/◌, length, arith, sym, ◌∙◌, a
 use Rattle.std.proofs.lemmas.List.{nil_from_length, take_rest}
 use Rattle.mls_term.specs.Hashes.{tree_hash, original}
 use Rattle.mls_term.specs.Arrays.{term_of}
-use Rattle.mls_term.specs.MemberLaws.{original-none}
+use Rattle.mls_term.proofs.MemberLaws.{original-none}
 use Rattle.mls_leaf.specs.Parent.{rises}
 use Rattle.mls_array.proofs.Readings.{right_side, in_parts, in_sides}
 use Rattle.mls_array.proofs.Splitting.{right_lists, left_original, right_original}

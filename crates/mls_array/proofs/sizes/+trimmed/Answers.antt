@@ -2,7 +2,7 @@ use Rattle.std.proofs.Common.{◌-◌, arith, sym, ap, ◌∙◌, refl}
 use Rattle.std.proofs.lemmas.List.{take-take, take_all}
 use Rattle.mls_treemath.specs.Paths.{nodes_in}
 use Rattle.mls_term.specs.Arrays.{in_order}
-use Rattle.mls_array.specs.StandingLaws.{no_more_nodes}
+use Rattle.mls_array.proofs.StandingLaws.{no_more_nodes}
 use Rattle.mls_array.proofs.Readings.{in_sides}
 use Rattle.mls_array.proofs.Taken.{end_low, end_high, end_on_left}
 use Rattle.mls_array.proofs.Widths.{trim_one, trim_stays, trim_goes, left_alone}

@@ -1,5 +1,5 @@
 use Rattle.std.proofs.Common.{◌∙◌}
-use Rattle.mls_term.specs.SetLaws.{same-pointwise}
+use Rattle.mls_term.proofs.SetLaws.{same-pointwise}
 use Rattle.mls_array.proofs.validity.same_bytes.Goals as goal
 
 pub returns : goal.returns

@@ -1,6 +1,6 @@
 use Rattle.std.proofs.Common.{◌*◌, arith, sym, ap, ◌∙◌}
 use Rattle.mls_term.specs.Sets.{has}
-use Rattle.mls_term.specs.SearchLaws.{found_sorted}
+use Rattle.mls_term.proofs.SearchLaws.{found_sorted}
 use Rattle.mls_array.proofs.Others.{inside_same, inside_other}
 use Rattle.mls_array.proofs.witnesses.is_out_or_other.Goals as goal
 

@@ -1,5 +1,5 @@
 use Rattle.std.proofs.Common.{arith}
-use Rattle.mls_candidate.specs.LeafLaws.{lifetime_fits}
+use Rattle.mls_candidate.proofs.LeafLaws.{lifetime_fits}
 use Rattle.mls_candidate.proofs.leaf.lifetime_has_spelling.Goals as goal
 
 pub returns : goal.returns

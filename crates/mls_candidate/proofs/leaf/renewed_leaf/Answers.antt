@@ -1,6 +1,6 @@
 use Rattle.std.proofs.Common.{◌∙◌}
 use Rattle.mls_model.specs.Candidate.{leaf_key_of}
-use Rattle.mls_candidate.specs.LeafLaws.{renewed_short}
+use Rattle.mls_candidate.proofs.LeafLaws.{renewed_short}
 use Rattle.mls_candidate.proofs.leaf.renewed_leaf.Goals as goal
 
 pub sign_leaf-requires-clause-leaf : goal.sign_leaf-requires-clause-leaf

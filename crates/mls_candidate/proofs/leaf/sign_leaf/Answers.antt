@@ -1,9 +1,9 @@
 use Rattle.std.proofs.Common.{refl}
 use Rattle.mls_leaf.specs.Inputs.{leaf_node_tbs, LeafNodeTbsFits}
-use Rattle.mls_suite.specs.LabelLaws.{signs_short}
+use Rattle.mls_suite.proofs.LabelLaws.{signs_short}
 use Rattle.mls_model.specs.Candidate.{signed_leaf}
-use Rattle.mls_checks.specs.SignedLaws.{written_or_wanting, written_is}
-use Rattle.mls_candidate.specs.LeafLaws.{tbs_fits, tbs_short, signed_below}
+use Rattle.mls_checks.proofs.SignedLaws.{written_or_wanting, written_is}
+use Rattle.mls_candidate.proofs.LeafLaws.{tbs_fits, tbs_short, signed_below}
 use Rattle.mls_candidate.proofs.leaf.sign_leaf.Goals as goal
 
 pub memory_aside-requires : goal.memory_aside-requires

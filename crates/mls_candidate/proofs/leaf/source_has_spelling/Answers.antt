@@ -1,4 +1,4 @@
-use Rattle.mls_candidate.specs.LeafLaws.{update_fits, commit_fits}
+use Rattle.mls_candidate.proofs.LeafLaws.{update_fits, commit_fits}
 use Rattle.mls_candidate.proofs.leaf.source_has_spelling.Goals as goal
 
 pub returns-in-KeyPackage : goal.returns-in-KeyPackage

@@ -3,7 +3,7 @@ use Rattle.std.specs.Prelude.{◌-◌}
 use Rattle.mls_leaf.specs.declared.leaf.Credential.{Credential}
 use Rattle.mls_leaf.specs.declared.leaf.LeafSource.TheVariants as made_for
 use Rattle.mls_model.specs.Candidate.{leaf_key_of}
-use Rattle.mls_candidate.specs.LeafLaws.{lifetime_fits, unsigned_short}
+use Rattle.mls_candidate.proofs.LeafLaws.{lifetime_fits, unsigned_short}
 use Rattle.mls_candidate.proofs.package.offered_leaf.Goals as goal
 
 pub sign_leaf-requires-clause-leaf : goal.sign_leaf-requires-clause-leaf

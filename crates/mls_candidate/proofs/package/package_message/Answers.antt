@@ -1,6 +1,6 @@
 use Rattle.mls_leaf.specs.KeyPackage.{key_package}
 use Rattle.mls_model.specs.Candidate.{package_message}
-use Rattle.mls_checks.specs.SignedLaws.{written_or_wanting}
+use Rattle.mls_checks.proofs.SignedLaws.{written_or_wanting}
 use Rattle.mls_candidate.proofs.package.package_message.Goals as goal
 
 pub memory_aside-requires : goal.memory_aside-requires

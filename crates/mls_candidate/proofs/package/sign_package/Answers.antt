@@ -1,8 +1,8 @@
 use Rattle.std.proofs.Common.{refl}
 use Rattle.mls_leaf.specs.Inputs.{key_package_tbs, KeyPackageTbsFits}
-use Rattle.mls_suite.specs.LabelLaws.{signs_short}
+use Rattle.mls_suite.proofs.LabelLaws.{signs_short}
 use Rattle.mls_model.specs.Candidate.{signed_package}
-use Rattle.mls_checks.specs.SignedLaws.{written_or_wanting, written_is}
+use Rattle.mls_checks.proofs.SignedLaws.{written_or_wanting, written_is}
 use Rattle.mls_candidate.proofs.Packages.{package_tbs_fits, package_tbs_short, package_fits}
 use Rattle.mls_candidate.proofs.package.sign_package.Goals as goal
 

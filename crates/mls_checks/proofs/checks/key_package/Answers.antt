@@ -1,4 +1,4 @@
-use Rattle.mls_checks.specs.SignedLaws.{leaf_is_short}
+use Rattle.mls_checks.proofs.SignedLaws.{leaf_is_short}
 use Rattle.mls_checks.proofs.checks.key_package.Goals as goal
 
 pub leaf_signed-requires-clause-leaf : goal.leaf_signed-requires-clause-leaf

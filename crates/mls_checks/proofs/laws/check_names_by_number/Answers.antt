@@ -1,4 +1,4 @@
-use Rattle.mls_checks.specs.Names.{check_names_listed}
+use Rattle.mls_checks.proofs.Names.{check_names_listed}
 use Rattle.mls_checks.proofs.laws.check_names_by_number.Goals as goal
 
 pub returns : goal.returns

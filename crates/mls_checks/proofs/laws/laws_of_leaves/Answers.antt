@@ -1,5 +1,5 @@
 use Rattle.mls_checks.proofs.laws.laws_of_leaves.Goals as goal
-use Rattle.mls_checks.specs.LeafLaws.{signed_anywhere, package_steps, replaced_steps}
+use Rattle.mls_checks.proofs.LeafLaws.{signed_anywhere, package_steps, replaced_steps}
 
 pub returns : goal.returns
 returns c =

@@ -1,6 +1,6 @@
 use Rattle.mls_leaf.specs.Inputs.{leaf_node_tbs, LeafNodeTbsFits}
 use Rattle.mls_checks.specs.Leaf.{is_signed}
-use Rattle.mls_checks.specs.SignedLaws.{written_or_wanting, written_is, leaf_tbs_fits, leaf_tbs_short}
+use Rattle.mls_checks.proofs.SignedLaws.{written_or_wanting, written_is, leaf_tbs_fits, leaf_tbs_short}
 use Rattle.mls_checks.proofs.leaf.leaf_signed.Goals as goal
 
 pub memory_aside-requires : goal.memory_aside-requires

@@ -1,6 +1,6 @@
 use Rattle.mls_leaf.specs.Inputs.{key_package_tbs, KeyPackageTbsFits}
 use Rattle.mls_checks.specs.Checks.{is_package_signed}
-use Rattle.mls_checks.specs.SignedLaws.{written_or_wanting, written_is, package_tbs_fits, package_tbs_short}
+use Rattle.mls_checks.proofs.SignedLaws.{written_or_wanting, written_is, package_tbs_fits, package_tbs_short}
 use Rattle.mls_checks.proofs.leaf.package_signed.Goals as goal
 
 pub memory_aside-requires : goal.memory_aside-requires

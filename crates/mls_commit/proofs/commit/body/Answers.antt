@@ -1,5 +1,5 @@
 use Rattle.std.proofs.Common.{sym, ◌∙◌}
-use Rattle.mls_commit.specs.Below.{below_merged}
+use Rattle.mls_commit.proofs.Below.{below_merged}
 use Rattle.mls_public_group.specs.NextTree.{next_term}
 use Rattle.mls_commit.proofs.Bodies.{body_ok, below_change}
 use Rattle.mls_commit.proofs.Paths.{edits_stay}

@@ -1,5 +1,5 @@
 use Rattle.std.proofs.Common.{rules, arith}
-use Rattle.mls_tree.specs.RefusalLaws.{one_number, not_refused}
+use Rattle.mls_tree.proofs.RefusalLaws.{one_number, not_refused}
 use Rattle.mls_events.specs.Sources.{package_read}
 use Rattle.mls_events.proofs.Readings.{package_of, package_is, package_below, no_package, no_message}
 use Rattle.mls_events.proofs.sources.read_package.Goals as goal

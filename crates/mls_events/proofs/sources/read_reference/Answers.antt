@@ -1,5 +1,5 @@
 use Rattle.std.proofs.Common.{rules, arith}
-use Rattle.mls_member.specs.ContentLaws.{public_of, short_public}
+use Rattle.mls_member.proofs.ContentLaws.{public_of, short_public}
 use Rattle.mls_events.proofs.Readings.{no_message, public_reference, no_reference}
 use Rattle.mls_events.proofs.sources.read_reference.Goals as goal
 

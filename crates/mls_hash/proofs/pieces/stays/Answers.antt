@@ -1,5 +1,5 @@
 use Rattle.std.proofs.Common.{◌∙◌}
-use Rattle.mls_term.specs.SearchLaws.{not_found}
+use Rattle.mls_term.proofs.SearchLaws.{not_found}
 use Rattle.mls_hash.proofs.pieces.stays.Goals as goal
 
 pub returns : goal.returns

@@ -1,6 +1,6 @@
 use Rattle.std.proofs.Common.{◌≡◌, ◌-◌, length, get_or, refl, ◌∙◌, ap, subst, arith}
 use Rattle.std.proofs.lemmas.List.{get_or_append_left}
-use Rattle.mls_index.specs.GapLaws.{shift_none, shift_all, shift_more, IsShifted}
+use Rattle.mls_index.proofs.GapLaws.{shift_none, shift_all, shift_more, IsShifted}
 use Rattle.mls_index.proofs.moves.fill.Goals as goal
 
 pub loop-gap-init : goal.loop-gap-init

@@ -1,7 +1,7 @@
 use Rattle.std.proofs.Common.{◌≡◌, ℕ, ◌+◌, ◌<◌, ◌≤◌, length, get_or, vec_len}
 use Rattle.std.specs.Vec.{vec_capacity}
 use Rattle.mls_index.specs.Gaps.{gap_at}
-use Rattle.mls_index.specs.GapLaws.{IsShifted}
+use Rattle.mls_index.proofs.GapLaws.{IsShifted}
 use Rattle.mls_index.proofs.moves.fill.Given as goal
 
 abbrev pub invariant-loop-gap : goal.invariant-loop-gap

@@ -1,7 +1,7 @@
 use Rattle.std.proofs.Common.{take, refl, sym, ◌∙◌, ap, arith}
 use Rattle.std.proofs.lemmas.List.{take_all, length-take-le}
 use Rattle.mls_index.specs.Moves.{without}
-use Rattle.mls_index.specs.MoveLaws.{without_none, moved}
+use Rattle.mls_index.proofs.MoveLaws.{without_none, moved}
 use Rattle.mls_index.proofs.moves.take_out_all.Goals as goal
 
 pub loop-from-init : goal.loop-from-init

@@ -3,7 +3,7 @@ use Rattle.std.specs.Option.{option_map}
 use Rattle.mls_leaf.specs.declared.key_package.KeyPackage.{KeyPackage}
 use Rattle.mls_tree.specs.Tree.{term}
 use Rattle.mls_model.specs.Join.{place_of, joined_keys}
-use Rattle.mls_public_group.specs.ShortLaws.{package_below}
+use Rattle.mls_public_group.proofs.ShortLaws.{package_below}
 use Rattle.mls_join.specs.Parts.{opened_by}
 use Rattle.mls_join.proofs.Joining.{alone_at, member_is}
 use Rattle.mls_join.proofs.entrance.member_of.Goals as goal

@@ -1,6 +1,6 @@
 use Rattle.std.proofs.Common.{◌∙◌}
 use Rattle.std.proofs.lemmas.Bool.Decides.{same_from_decides}
-use Rattle.mls_leaf.specs.EqualLaws.{leaves_decide}
+use Rattle.mls_leaf.proofs.EqualLaws.{leaves_decide}
 use Rattle.mls_join.proofs.Places.{same_decides}
 use Rattle.mls_join.proofs.keys.is_leaf.Goals as goal
 

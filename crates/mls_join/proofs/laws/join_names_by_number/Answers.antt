@@ -1,4 +1,4 @@
-use Rattle.mls_join.specs.Names.{join_names_listed}
+use Rattle.mls_join.proofs.Names.{join_names_listed}
 use Rattle.mls_join.proofs.laws.join_names_by_number.Goals as goal
 
 pub returns : goal.returns

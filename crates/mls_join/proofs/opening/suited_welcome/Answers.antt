@@ -1,5 +1,5 @@
 use Rattle.std.proofs.Common.{◌≡◌, ◌==◌, false, rules}
-use Rattle.mls_tree.specs.RefusalLaws.{one_number}
+use Rattle.mls_tree.proofs.RefusalLaws.{one_number}
 use Rattle.std.proofs.lemmas.Result.{err_from_is_err_and}
 use Rattle.mls_join.proofs.Welcomes.{outer_fault, suited_fault, outer_other, suited_other, never_refused, suited, welcome_short}
 use Rattle.mls_join.proofs.opening.suited_welcome.Goals as goal

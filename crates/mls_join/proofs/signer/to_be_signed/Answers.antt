@@ -1,6 +1,6 @@
 use Rattle.std.proofs.Common.{◌^◌, ap, length, arith}
 use Rattle.std.proofs.lemmas.Result.{err_from_is_err_and}
-use Rattle.mls_public_group.specs.Memory.{memory_alone}
+use Rattle.mls_public_group.proofs.Memory.{memory_alone}
 use Rattle.mls_join.proofs.Lengths.{parts_below}
 use Rattle.mls_join.proofs.signer.to_be_signed.Goals as goal
 

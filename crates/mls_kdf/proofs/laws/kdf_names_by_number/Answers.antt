@@ -1,4 +1,4 @@
-use Rattle.mls_kdf.specs.Names.{kdf_names_listed}
+use Rattle.mls_kdf.proofs.Names.{kdf_names_listed}
 use Rattle.mls_kdf.proofs.laws.kdf_names_by_number.Goals as goal
 
 pub returns : goal.returns

@@ -1,5 +1,5 @@
 use Rattle.mls_leaf.specs.Limits.{input_limit}
-use Rattle.mls_leaf.specs.WholeLaws.{is_answered, is_input_answered}
+use Rattle.mls_leaf.proofs.WholeLaws.{is_answered, is_input_answered}
 use Rattle.mls_leaf.proofs.codec.fault_numbers.Goals as goal
 
 pub returns : goal.returns

@@ -1,5 +1,5 @@
 use Rattle.mls_leaf.specs.Limits.{input_limit}
-use Rattle.mls_leaf.specs.WholeLaws.{told_outright, whole_answered}
+use Rattle.mls_leaf.proofs.WholeLaws.{told_outright, whole_answered}
 use Rattle.mls_leaf.proofs.codec.fault_or.Goals as goal
 
 pub returns-in-Err-clause-outright : goal.returns-in-Err-clause-outright

@@ -1,5 +1,5 @@
 use Rattle.std.proofs.lemmas.Slice.Eq.{bytes_eq-Decides}
-use Rattle.mls_leaf.specs.EqualLaws.{leaves_decide}
+use Rattle.mls_leaf.proofs.EqualLaws.{leaves_decide}
 use Rattle.mls_leaf.proofs.laws.laws_of_equality.Goals as goal
 
 pub returns-clause-byte_strings : goal.returns-clause-byte_strings

@@ -1,4 +1,4 @@
-use Rattle.mls_leaf.specs.InputLaws.{leaf_node-spelled, key_package-spelled}
+use Rattle.mls_leaf.proofs.InputLaws.{leaf_node-spelled, key_package-spelled}
 use Rattle.mls_leaf.proofs.laws.laws_of_signed_parts.Goals as goal
 
 pub returns : goal.returns

@@ -1,4 +1,4 @@
-use Rattle.mls_leaf.specs.Names.{leaf_names_listed}
+use Rattle.mls_leaf.proofs.Names.{leaf_names_listed}
 use Rattle.mls_leaf.proofs.laws.leaf_names_by_number.Goals as goal
 
 pub returns : goal.returns

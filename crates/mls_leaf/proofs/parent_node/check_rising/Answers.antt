@@ -1,7 +1,7 @@
 use Rattle.std.proofs.Common.{length}
 use Rattle.mls_wire.specs.CombineLaws.{forgotten}
 use Rattle.mls_wire.specs.Stateful.{run_at}
-use Rattle.mls_leaf.specs.RunLoops.{is_shorter, past_goes_on_from}
+use Rattle.mls_leaf.proofs.RunLoops.{is_shorter, past_goes_on_from}
 use Rattle.mls_leaf.specs.ParentNode.{entry_from, entry_from_nonempty, rising}
 use Rattle.mls_leaf.proofs.parent_node.check_rising.Goals as goal
 

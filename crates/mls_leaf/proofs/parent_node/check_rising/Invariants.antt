@@ -1,7 +1,7 @@
 use Rattle.std.proofs.Common.{length}
 use Rattle.mls_wire.specs.CombineLaws.{forgotten}
 use Rattle.mls_wire.specs.Stateful.{run_at}
-use Rattle.mls_leaf.specs.RunLoops.{PastFrom}
+use Rattle.mls_leaf.proofs.RunLoops.{PastFrom}
 use Rattle.mls_leaf.specs.ParentNode.{rising}
 use Rattle.mls_leaf.proofs.parent_node.check_rising.Given as goal
 

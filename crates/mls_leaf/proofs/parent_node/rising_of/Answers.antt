@@ -1,8 +1,8 @@
 use Rattle.std.proofs.Common.{◌≡◌, [], length, rules}
 use Rattle.mls_wire.specs.Stateful.{run_at}
-use Rattle.mls_leaf.specs.RunLoops.{is_shorter, goes_on_from, is_done_from}
+use Rattle.mls_leaf.proofs.RunLoops.{is_shorter, goes_on_from, is_done_from}
 use Rattle.mls_leaf.specs.ParentNode.{entry_from, entry_from_nonempty, rising}
-use Rattle.mls_leaf.specs.ParentLaws.{run_rises}
+use Rattle.mls_leaf.proofs.ParentLaws.{run_rises}
 use Rattle.mls_leaf.proofs.parent_node.rising_of.Goals as goal
 
 pub loop-content-smaller : goal.loop-content-smaller

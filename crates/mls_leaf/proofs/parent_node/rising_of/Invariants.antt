@@ -1,6 +1,6 @@
 use Rattle.std.proofs.Common.{length}
 use Rattle.mls_wire.specs.Stateful.{run_at}
-use Rattle.mls_leaf.specs.RunLoops.{GoesOnFrom}
+use Rattle.mls_leaf.proofs.RunLoops.{GoesOnFrom}
 use Rattle.mls_leaf.specs.ParentNode.{rising}
 use Rattle.mls_leaf.proofs.parent_node.rising_of.Given as goal
 

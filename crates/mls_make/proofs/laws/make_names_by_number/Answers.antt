@@ -1,4 +1,4 @@
-use Rattle.mls_make.specs.Names.{make_names_listed}
+use Rattle.mls_make.proofs.Names.{make_names_listed}
 use Rattle.mls_make.proofs.laws.make_names_by_number.Goals as goal
 
 pub returns : goal.returns

@@ -9,8 +9,8 @@ use Rattle.mls_model.specs.Make.{path_seals}
 use Rattle.mls_model.specs.Proposals.{adds}
 use Rattle.mls_public_group.specs.Short.{HasLeavesBelow}
 use Rattle.mls_make.specs.Faults.{number_of}
-use Rattle.mls_make.specs.Fitting.{commit_fits_if_short}
-use Rattle.mls_make.specs.Lengths.{used_below, path_leaf_below, seals_short}
+use Rattle.mls_make.proofs.Fitting.{commit_fits_if_short}
+use Rattle.mls_make.proofs.Lengths.{used_below, path_leaf_below, seals_short}
 use Rattle.mls_make.specs.OwnPath.{made_path}
 use Rattle.mls_make.specs.TwoSteps.{sent_as}
 use Rattle.mls_make.proofs.Adds.{used_short}

@@ -1,5 +1,5 @@
 use Rattle.std.proofs.Common.{arith}
-use Rattle.mls_public_group.specs.Limits.{within_limit}
+use Rattle.mls_public_group.proofs.Limits.{within_limit}
 use Rattle.mls_member.proofs.create.require_within_limit.Goals as goal
 
 pub returns : goal.returns

@@ -1,4 +1,4 @@
-use Rattle.mls_member.specs.Names.{member_names_listed}
+use Rattle.mls_member.proofs.Names.{member_names_listed}
 use Rattle.mls_member.proofs.laws.member_names_by_number.Goals as goal
 
 pub returns : goal.returns

@@ -4,7 +4,7 @@ use Rattle.mls_wire.specs.Reading.{uint, header, opaque}
 use Rattle.mls_types.specs.Content.{content}
 use Rattle.mls_types.specs.declared.content.Content.TheVariants as says
 use Rattle.mls_message.specs.Sending.{FitsIfShort}
-use Rattle.mls_public_group.specs.Lengths.{last_within}
+use Rattle.mls_public_group.proofs.Lengths.{last_within}
 use Rattle.mls_member_uses.proofs.messages.text.Goals as goal
 
 application_fits : (x : List ℕ) → FitsIfShort content (says.Application x)

@@ -1,4 +1,4 @@
-use Rattle.mls_message.specs.WithinLaws.{said_fits}
+use Rattle.mls_message.proofs.WithinLaws.{said_fits}
 use Rattle.mls_message.proofs.framed.said.Goals as goal
 
 pub returns-clause-fits : goal.returns-clause-fits

@@ -11,8 +11,8 @@ use Rattle.mls_model.specs.Messages.{content_signature}
 use Rattle.mls_message.specs.Pieces.{signed_pieces}
 use Rattle.mls_message.specs.Speaks.{Speaks}
 use Rattle.mls_message.specs.declared.speaker.Speaker.{Speaker}
-use Rattle.mls_message.specs.TextLaws.{signed_is}
-use Rattle.mls_message.specs.WithinLaws.{signed_short}
+use Rattle.mls_message.proofs.TextLaws.{signed_is}
+use Rattle.mls_message.proofs.WithinLaws.{signed_short}
 use Rattle.mls_message.proofs.framed.sign.Goals as goal
 
 -- a signature of the text is the member's

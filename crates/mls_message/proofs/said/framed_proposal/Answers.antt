@@ -3,7 +3,7 @@ use Rattle.mls_leaf.specs.declared.proposal.Proposal.{Proposal}
 use Rattle.mls_types.specs.declared.content.Content.TheVariants as says
 use Rattle.mls_model.specs.Messages.{said_by}
 use Rattle.mls_message.specs.Sending.{IsRefused}
-use Rattle.mls_message.specs.WithinLaws.{proposal_fits}
+use Rattle.mls_message.proofs.WithinLaws.{proposal_fits}
 use Rattle.mls_message.proofs.said.framed_proposal.Goals as goal
 
 pub new-requires : goal.new-requires

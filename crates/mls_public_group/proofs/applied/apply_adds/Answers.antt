@@ -6,7 +6,7 @@ use Rattle.mls_model.specs.Proposals.{adds}
 use Rattle.mls_model.specs.Commit.{all_added}
 use Rattle.mls_public_group.specs.Edited.{behind}
 use Rattle.mls_public_group.specs.Faults.{number_of}
-use Rattle.mls_public_group.specs.Rest.{here, over}
+use Rattle.mls_public_group.proofs.Rest.{here, over}
 use Rattle.mls_public_group.proofs.Folding.{adds_more, adds_fail, adds_end}
 use Rattle.mls_public_group.proofs.applied.apply_adds.Goals as goal
 

@@ -3,7 +3,7 @@ use Rattle.std.proofs.lemmas.Result.{err_from_is_err_and}
 use Rattle.mls_tree.specs.Tree.{term}
 use Rattle.mls_tree.specs.Faults.{number_of as number_of_tree}
 use Rattle.mls_model.specs.Commit.{all_removed}
-use Rattle.mls_public_group.specs.Rest.{here_number, over}
+use Rattle.mls_public_group.proofs.Rest.{here_number, over}
 use Rattle.mls_public_group.proofs.Folding.{removes_more, removes_fail, removes_end}
 use Rattle.mls_public_group.proofs.applied.apply_removes.Goals as goal
 

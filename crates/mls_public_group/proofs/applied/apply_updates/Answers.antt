@@ -5,7 +5,7 @@ use Rattle.mls_model.specs.Public.{Used}
 use Rattle.mls_model.specs.Proposals.{updates}
 use Rattle.mls_model.specs.Commit.{all_updated}
 use Rattle.mls_public_group.specs.Faults.{number_of}
-use Rattle.mls_public_group.specs.Rest.{here, over}
+use Rattle.mls_public_group.proofs.Rest.{here, over}
 use Rattle.mls_public_group.proofs.Folding.{updates_more, updates_fail, updates_end}
 use Rattle.mls_public_group.proofs.applied.apply_updates.Goals as goal
 

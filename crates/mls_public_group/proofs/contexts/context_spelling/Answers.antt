@@ -1,5 +1,5 @@
 use Rattle.std.proofs.Common.{ℕ, List, length, ◌<◌, ◌^◌, sym, subst}
-use Rattle.mls_public_group.specs.ShortLaws.{context_fits, context_short}
+use Rattle.mls_public_group.proofs.ShortLaws.{context_fits, context_short}
 use Rattle.mls_public_group.proofs.contexts.context_spelling.Goals as goal
 
 pub spelling-requires : goal.spelling-requires

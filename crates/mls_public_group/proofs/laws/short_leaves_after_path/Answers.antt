@@ -1,4 +1,4 @@
-use Rattle.mls_public_group.specs.Leaves.{below_merge_path}
+use Rattle.mls_public_group.proofs.Leaves.{below_merge_path}
 use Rattle.mls_public_group.proofs.laws.short_leaves_after_path.Goals as goal
 
 pub returns : goal.returns

@@ -3,7 +3,7 @@ use Rattle.mls_leaf.specs.Proposal.{proposal as proposal_format}
 use Rattle.mls_leaf.specs.Reference.{key_package_reference}
 use Rattle.mls_model.specs.Public.{Used}
 use Rattle.mls_public_group.specs.Short.{IsBelow}
-use Rattle.mls_public_group.specs.ShortLaws.{add_below}
+use Rattle.mls_public_group.proofs.ShortLaws.{add_below}
 use Rattle.mls_public_group.proofs.Folding.{reference_one, reference_same}
 use Rattle.mls_public_group.proofs.references.push_reference.Goals as goal
 

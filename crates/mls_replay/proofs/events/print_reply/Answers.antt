@@ -3,7 +3,7 @@ use Rattle.std.proofs.KnownBytes.{Appends-trans}
 use Rattle.std.specs.List.{flat_map}
 use Rattle.std.specs.Io.KnownBytes.{Appends}
 use Rattle.mls_text.specs.Ends.{AppendsPart}
-use Rattle.mls_text.specs.Pieces.{nothing_yet, part_behind, part_of_front}
+use Rattle.mls_text.proofs.Pieces.{nothing_yet, part_behind, part_of_front}
 use Rattle.mls_replay.specs.Replay.{entry_text, expected_entries, is_met, replied, unmet}
 use Rattle.mls_replay.proofs.Playing.{on_err, said_nonempty, said_unmet}
 use Rattle.mls_replay.proofs.events.print_reply.Goals as goal

@@ -1,4 +1,4 @@
-use Rattle.mls_schedule.specs.Laws.{one_or_twins}
+use Rattle.mls_schedule.proofs.LawsLemmas.{one_or_twins}
 use Rattle.mls_schedule.proofs.laws.equal_or_twins.Goals as goal
 
 pub returns : goal.returns

@@ -1,4 +1,4 @@
-use Rattle.mls_schedule.specs.Laws.{reaches_next}
+use Rattle.mls_schedule.proofs.LawsLemmas.{reaches_next}
 use Rattle.mls_schedule.proofs.laws.joiner_reaches_next.Goals as goal
 
 pub returns : goal.returns

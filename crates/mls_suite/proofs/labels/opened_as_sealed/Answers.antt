@@ -1,4 +1,4 @@
-use Rattle.mls_suite.specs.LabelLaws.{opens_sealed}
+use Rattle.mls_suite.proofs.LabelLaws.{opens_sealed}
 use Rattle.mls_suite.proofs.labels.opened_as_sealed.Goals as goal
 
 pub returns : goal.returns

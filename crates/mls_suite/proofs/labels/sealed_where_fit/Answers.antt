@@ -1,4 +1,4 @@
-use Rattle.mls_suite.specs.LabelLaws.{seals_where_fit}
+use Rattle.mls_suite.proofs.LabelLaws.{seals_where_fit}
 use Rattle.mls_suite.proofs.labels.sealed_where_fit.Goals as goal
 
 pub returns : goal.returns

@@ -1,4 +1,4 @@
-use Rattle.mls_suite.specs.LabelLaws.{signs_short}
+use Rattle.mls_suite.proofs.LabelLaws.{signs_short}
 use Rattle.mls_suite.proofs.labels.signature_is_short.Goals as goal
 
 pub returns : goal.returns

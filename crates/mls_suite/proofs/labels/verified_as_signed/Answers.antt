@@ -1,4 +1,4 @@
-use Rattle.mls_suite.specs.LabelLaws.{verifies_signed}
+use Rattle.mls_suite.proofs.LabelLaws.{verifies_signed}
 use Rattle.mls_suite.proofs.labels.verified_as_signed.Goals as goal
 
 pub returns : goal.returns

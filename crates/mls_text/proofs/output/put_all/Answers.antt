@@ -1,5 +1,5 @@
 use Rattle.std.proofs.Common.{List, ℕ, ap, Bor}
-use Rattle.mls_text.specs.Pieces.{grown, kept}
+use Rattle.mls_text.proofs.Pieces.{grown, kept}
 use Rattle.mls_text.proofs.output.put_all.Goals as goal
 use Rattle.mls_text.proofs.output.put_all.Goals.{in-Ok, in-Err+else-ne}
 

@@ -1,7 +1,7 @@
 use Rattle.std.proofs.Common.{◌++◌, ap, sym}
 use Rattle.std.specs.List.{flat_map}
 use Rattle.mls_text.specs.Page.{ending_text, printout_of}
-use Rattle.mls_text.specs.Pages.{cut_ending, cut_lines}
+use Rattle.mls_text.proofs.Pages.{cut_ending, cut_lines}
 use Rattle.mls_text.proofs.page.print_page.Goals as goal
 
 pub returns-in_err-print_lines-clause-prints : goal.returns-in_err-print_lines-clause-prints

@@ -1,4 +1,4 @@
-use Rattle.mls_text.specs.Pieces.{nothing_yet}
+use Rattle.mls_text.proofs.Pieces.{nothing_yet}
 use Rattle.mls_text.proofs.printing.print.Goals as goal
 
 pub returns-in_err-bytes-clause-part : goal.returns-in_err-bytes-clause-part

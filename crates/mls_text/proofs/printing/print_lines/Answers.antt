@@ -1,5 +1,5 @@
 use Rattle.std.proofs.Common.{arith}
-use Rattle.mls_text.specs.Pieces.{part_of_texts}
+use Rattle.mls_text.proofs.Pieces.{part_of_texts}
 use Rattle.mls_text.proofs.printing.print_lines.Goals as goal
 
 pub returns-in_err-print-clause-part : goal.returns-in_err-print-clause-part

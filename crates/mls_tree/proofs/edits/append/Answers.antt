@@ -4,7 +4,7 @@ use Rattle.mls_treemath.specs.Paths.{nodes_in}
 use Rattle.mls_term.specs.Edits.{grow}
 use Rattle.mls_term.specs.Arrays.{term_of}
 use Rattle.mls_array.specs.Kept.{dropped}
-use Rattle.mls_array.specs.StandingLaws.{stands_for-grow}
+use Rattle.mls_array.proofs.StandingLaws.{stands_for-grow}
 use Rattle.mls_tree.proofs.Growth.{appended}
 use Rattle.mls_tree.proofs.Keepings.{kept_long, grown_is, grown_long, grown_perfect, cut_back}
 use Rattle.mls_tree.proofs.edits.append.Goals as goal

@@ -1,4 +1,4 @@
-use Rattle.mls_tree.specs.Names.{tree_names_listed}
+use Rattle.mls_tree.proofs.Names.{tree_names_listed}
 use Rattle.mls_tree.proofs.laws.tree_names_by_number.Goals as goal
 
 pub returns : goal.returns

@@ -1,4 +1,4 @@
-use Rattle.mls_treekem.specs.Names.{treekem_names_listed}
+use Rattle.mls_treekem.proofs.Names.{treekem_names_listed}
 use Rattle.mls_treekem.proofs.laws.treekem_names_by_number.Goals as goal
 
 pub returns : goal.returns

@@ -1,4 +1,4 @@
-use Rattle.mls_treemath.specs.Ways.{no_node}
+use Rattle.mls_treemath.proofs.Ways.{no_node}
 use Rattle.mls_treemath.proofs.Lowest.{node_has_way, way_leads_back, node_of_way}
 use Rattle.mls_treemath.proofs.laws.laws_of_ways.Goals as goal
 

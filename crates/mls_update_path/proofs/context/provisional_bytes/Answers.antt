@@ -2,7 +2,7 @@ use Rattle.std.proofs.Common.{◌∙◌, ap, sym, subst}
 use Rattle.mls_group.specs.GroupContext.{group_context}
 use Rattle.mls_tree.specs.Tree.{term}
 use Rattle.mls_public_group.specs.Short.{IsShortContext}
-use Rattle.mls_public_group.specs.ShortLaws.{short_provisional}
+use Rattle.mls_public_group.proofs.ShortLaws.{short_provisional}
 use Rattle.mls_update_path.proofs.context.provisional_bytes.Goals as goal
 
 pub context_spelling-requires : goal.context_spelling-requires

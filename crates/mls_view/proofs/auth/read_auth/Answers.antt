@@ -1,4 +1,4 @@
-use Rattle.mls_view.specs.PublicLaws.{text_auth, proposal_auth, commit_auth}
+use Rattle.mls_view.proofs.PublicLaws.{text_auth, proposal_auth, commit_auth}
 use Rattle.mls_view.proofs.auth.read_auth.Goals as goal
 
 pub returns-in-Application : goal.returns-in-Application

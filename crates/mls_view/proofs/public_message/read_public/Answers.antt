@@ -1,7 +1,7 @@
 use Rattle.std.proofs.Common.{subst}
 use Rattle.std.proofs.lemmas.Result.{err_from_is_err_and}
 use Rattle.mls_wire.specs.Format.{IsBytes}
-use Rattle.mls_view.specs.PublicLaws.{fault_of_content, fault_of_auth, fault_of_tag, message_of, public_is_read, public_shown}
+use Rattle.mls_view.proofs.PublicLaws.{fault_of_content, fault_of_auth, fault_of_tag, message_of, public_is_read, public_shown}
 use Rattle.mls_view.proofs.public_message.read_public.Goals as goal
 
 pub returns-in_err-content : goal.returns-in_err-content

@@ -1,4 +1,4 @@
-use Rattle.mls_welcome.specs.Names.{welcome_names_listed}
+use Rattle.mls_welcome.proofs.Names.{welcome_names_listed}
 use Rattle.mls_welcome.proofs.laws.welcome_names_by_number.Goals as goal
 
 pub returns : goal.returns

@@ -1,5 +1,5 @@
 use Rattle.std.proofs.Common.{arith}
-use Rattle.mls_public_group.specs.Limits.{past_limit}
+use Rattle.mls_public_group.proofs.Limits.{past_limit}
 use Rattle.mls_welcome.proofs.Measured.{within}
 use Rattle.mls_welcome.proofs.limits.is_within_limit.Goals as goal
 

@@ -1,4 +1,4 @@
-use Rattle.mls_wire.specs.Names.{names_listed}
+use Rattle.mls_wire.proofs.Names.{names_listed}
 use Rattle.mls_wire.proofs.laws.names_by_number.Goals as goal
 
 pub returns : goal.returns

@@ -1,6 +1,7 @@
 use Rattle.std.specs.Int.{w8, w16, w32, w64}
 use Rattle.std.specs.Prelude.{◌^◌}
-use Rattle.mls_wire.specs.Laws.{uint_lawful, wide8, wide16, wide32, wide64, length_lawful, opaque_lawful}
+use Rattle.mls_wire.specs.Laws.{uint_lawful, wide8, wide16, wide32, wide64, opaque_lawful}
+use Rattle.mls_wire.proofs.LawsLemmas.{length_lawful}
 use Rattle.mls_wire.proofs.laws.one_spelling.Goals as goal
 
 pub returns : goal.returns

@@ -3,7 +3,7 @@ use Rattle.std.proofs.lemmas.List.{length-map}
 use Rattle.mls_model.specs.declared.origin.Origin.TheVariants as from
 use Rattle.mls_model.specs.Candidate.{Candidate, created}
 use Rattle.mls_model.specs.Journal.{begun}
-use Rattle.mls_tree.specs.RefusalLaws.{one_number, not_refused}
+use Rattle.mls_tree.proofs.RefusalLaws.{one_number, not_refused}
 use Rattle.mls_model.specs.World.{Entrant, World, entrant_at, with_joined}
 use Rattle.mls_events.specs.Stored.{seat_of}
 use Rattle.mls_events.proofs.Entering.{create_is, create_absent, create_refused, entrant_within}

@@ -1,6 +1,6 @@
 use Rattle.std.proofs.Common.{Err, sym, subst, slice_set}
 use Rattle.std.proofs.lemmas.Result.{err_from_is_err_and}
-use Rattle.mls_tree.specs.RefusalLaws.{one_number, not_refused}
+use Rattle.mls_tree.proofs.RefusalLaws.{one_number, not_refused}
 use Rattle.mls_model.specs.World.{World, bytes_of}
 use Rattle.mls_events.specs.Stored.{world_of}
 use Rattle.mls_events.proofs.Changing.{stored_moved}

@@ -3,7 +3,7 @@ use Rattle.mls_model.specs.declared.item.Item.{Item}
 use Rattle.mls_model.specs.World.{item_of}
 use Rattle.mls_events.proofs.Listing.{AreItems, items_start, items_next, items_fail, items_end}
 use Rattle.mls_events.proofs.Early.{past_none, past_next, first_refused, list_passes}
-use Rattle.mls_tree.specs.RefusalLaws.{not_refused}
+use Rattle.mls_tree.proofs.RefusalLaws.{not_refused}
 use Rattle.mls_events.proofs.world.PlainWorld.items_of.Goals as goal
 
 pub returns-in-Err-clause-answer : goal.returns-in-Err-clause-answer

@@ -3,7 +3,7 @@ use Rattle.mls_model.specs.declared.origin.Origin.TheVariants as from
 use Rattle.mls_model.specs.Candidate.{Candidate}
 use Rattle.mls_model.specs.Join.{Joined, join_verdict}
 use Rattle.mls_model.specs.Journal.{begun}
-use Rattle.mls_tree.specs.RefusalLaws.{one_number, not_refused}
+use Rattle.mls_tree.proofs.RefusalLaws.{one_number, not_refused}
 use Rattle.mls_model.specs.World.{Entrant, World, bytes_of, made_for, with_joined}
 use Rattle.mls_events.specs.Parts.{made_at, IsThere}
 use Rattle.mls_events.proofs.Early.{join_nobody, join_refused as no_bytes}

@@ -1,6 +1,6 @@
 use Rattle.std.proofs.Common.{◌∙◌}
 use Rattle.std.proofs.lemmas.Result.{err_from_is_err_and}
-use Rattle.mls_tree.specs.RefusalLaws.{not_refused}
+use Rattle.mls_tree.proofs.RefusalLaws.{not_refused}
 use Rattle.mls_model.specs.World.{package_of}
 use Rattle.mls_events.proofs.Early.{add_nobody, add_refused}
 use Rattle.mls_events.proofs.world.PlainWorld.propose_add.Goals as goal

@@ -3,7 +3,7 @@ use Rattle.std.proofs.lemmas.List.{length-take-le, length-set}
 use Rattle.std.specs.List.{insert}
 use Rattle.mls_index.specs.declared.gaps.Gap.{Gap}
 use Rattle.mls_index.specs.Gaps.{Ascends}
-use Rattle.mls_index.specs.GapLaws.{inserted, ascends_with}
+use Rattle.mls_index.proofs.GapLaws.{inserted, ascends_with}
 use Rattle.mls_index.proofs.gaps.Gaps.add.Goals as goal
 
 few : (count : ℕ) (list gs : List Gap) → length list ≡ 32 → count ≤ 32 → take count list ≡ gs → length gs < 32 → count < 32

@@ -2,7 +2,7 @@ use Rattle.std.proofs.Common.{◌++◌, sym, ◌∙◌, ap}
 use Rattle.std.proofs.lemmas.List.{nil_from_length}
 use Rattle.mls_term.specs.Sets.{same_bytes, is_distinct}
 use Rattle.mls_index.specs.Keys.{keys_of, is_held}
-use Rattle.mls_index.specs.DistinctLaws.{searched, both_new, first_again, others_have}
+use Rattle.mls_index.proofs.DistinctLaws.{searched, both_new, first_again, others_have}
 use Rattle.mls_index.proofs.index.Index.+accepts.Goals as goal
 use Rattle.mls_index.proofs.index.Index.+accepts.Goals.{then-contains-via-then-contains, then-contains-via-else-contains+then-holds}
 

@@ -3,8 +3,8 @@ use Rattle.std.proofs.lemmas.List.{nil_from_length}
 use Rattle.mls_term.specs.Sets.{same_bytes, is_distinct}
 use Rattle.mls_index.specs.Keys.{keys_of, is_held}
 use Rattle.mls_index.specs.Cleared.{cleared}
-use Rattle.mls_index.specs.DistinctLaws.{searched, both_new, first_again, others_have}
-use Rattle.mls_index.specs.BesideLaws.{cleared_distinct}
+use Rattle.mls_index.proofs.DistinctLaws.{searched, both_new, first_again, others_have}
+use Rattle.mls_index.proofs.BesideLaws.{cleared_distinct}
 use Rattle.mls_index.proofs.index.Index.+accepts_new.Goals as goal
 use Rattle.mls_index.proofs.index.Index.+accepts_new.Goals.{then-is_among-via-then-is_among, then-is_among-via-else-is_among+then-holds_beside}
 

@@ -3,7 +3,8 @@ use Rattle.std.proofs.lemmas.List.{nil_from_length}
 use Rattle.mls_term.specs.Sets.{is_distinct}
 use Rattle.mls_index.specs.Indexes.{Indexes, Without}
 use Rattle.mls_index.specs.Cleared.{HasPlaces, cleared}
-use Rattle.mls_index.specs.ClearedLaws.{rest_distinct, first_without, rest_places, all_blank, cleared_none}
+use Rattle.mls_index.specs.ClearedLaws.{first_without, rest_places}
+use Rattle.mls_index.proofs.ClearedLaws.{rest_distinct, all_blank, cleared_none}
 use Rattle.mls_index.proofs.index.Index.+enter_each.Goals as goal
 
 pub enter_each-requires : goal.enter_each-requires

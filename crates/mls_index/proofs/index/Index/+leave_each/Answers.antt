@@ -3,7 +3,8 @@ use Rattle.std.proofs.lemmas.List.{nil_from_length}
 use Rattle.mls_term.specs.Sets.{is_distinct}
 use Rattle.mls_index.specs.Indexes.{Indexes}
 use Rattle.mls_index.specs.Cleared.{HasPlaces, cleared}
-use Rattle.mls_index.specs.ClearedLaws.{rest_distinct, first_without, rest_places, all_left, none_cleared}
+use Rattle.mls_index.specs.ClearedLaws.{first_without, rest_places}
+use Rattle.mls_index.proofs.ClearedLaws.{rest_distinct, all_left, none_cleared}
 use Rattle.mls_index.proofs.index.Index.+leave_each.Goals as goal
 
 pub leave_each-requires : goal.leave_each-requires

@@ -2,8 +2,8 @@ use Rattle.std.proofs.Common.{◌∷◌, ◌++◌, refl, ◌∙◌, ap}
 use Rattle.mls_term.specs.Sets.{same_bytes, is_distinct}
 use Rattle.mls_index.specs.Keys.{keys_of}
 use Rattle.mls_index.specs.Cleared.{cleared}
-use Rattle.mls_index.specs.ClearedLaws.{cleared_part}
-use Rattle.mls_index.specs.StepLaws.{same_index}
+use Rattle.mls_index.proofs.ClearedLaws.{cleared_part}
+use Rattle.mls_index.proofs.StepLaws.{same_index}
 use Rattle.mls_index.proofs.index.Index.accepts_beside.Goals as goal
 
 pub returns-clause-answer : goal.returns-clause-answer

@@ -1,6 +1,6 @@
 use Rattle.std.proofs.Common.{◌∙◌, ap, ◌==◌}
 use Rattle.mls_index.specs.Keys.{keys_of}
-use Rattle.mls_index.specs.CountLaws.{distinct_where}
+use Rattle.mls_index.proofs.CountLaws.{distinct_where}
 use Rattle.mls_index.proofs.index.Index.are_distinct.Goals as goal
 
 pub returns : goal.returns

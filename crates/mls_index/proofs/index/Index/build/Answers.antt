@@ -1,5 +1,5 @@
 use Rattle.std.proofs.Common.{refl, ◌∙◌, arith}
-use Rattle.mls_index.specs.FrontLaws.{without_front, front_none, front_all}
+use Rattle.mls_index.proofs.FrontLaws.{without_front, front_none, front_all}
 use Rattle.mls_index.proofs.index.Index.build.Goals as goal
 
 pub loop-x-init : goal.loop-x-init

@@ -1,6 +1,6 @@
 use Rattle.std.proofs.Common.{◌≡◌, ◌+◌, ◌≤◌, length}
 use Rattle.mls_index.specs.Indexes.{Indexes}
-use Rattle.mls_index.specs.FrontLaws.{front}
+use Rattle.mls_index.proofs.FrontLaws.{front}
 use Rattle.mls_index.proofs.index.Index.build.Given as goal
 
 abbrev pub invariant-loop-x : goal.invariant-loop-x

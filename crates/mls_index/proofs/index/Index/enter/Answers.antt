@@ -1,7 +1,8 @@
 use Rattle.std.proofs.Common.{◌≡◌, sym, ◌∙◌, ap, arith}
 use Rattle.std.specs.List.{insert}
 use Rattle.mls_index.specs.Keys.{key_in, keys_of, repeats_in}
-use Rattle.mls_index.specs.StepLaws.{nothing_entered, part_before, one_held, none_held, entered, few, indexes_from}
+use Rattle.mls_index.specs.StepLaws.{one_held, none_held, entered, few}
+use Rattle.mls_index.proofs.StepLaws.{nothing_entered, part_before, indexes_from}
 use Rattle.mls_index.proofs.index.Index.enter.Goals as goal
 
 pub returns-in_default-clause-entered : goal.returns-in_default-clause-entered

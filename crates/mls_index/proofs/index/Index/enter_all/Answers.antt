@@ -1,6 +1,6 @@
 use Rattle.std.proofs.Common.{◌≡◌, sym, ◌∙◌, ap, arith}
 use Rattle.mls_index.specs.Gaps.{filled}
-use Rattle.mls_index.specs.FillLaws.{entered_at_once}
+use Rattle.mls_index.proofs.FillLaws.{entered_at_once}
 use Rattle.mls_index.proofs.index.Index.enter_all.Goals as goal
 
 pub returns-in-Some-clause-entered : goal.returns-in-Some-clause-entered

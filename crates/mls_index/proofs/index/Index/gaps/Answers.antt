@@ -7,10 +7,10 @@ use Rattle.mls_index.specs.declared.kind.KeyKind.{KeyKind}
 use Rattle.mls_index.specs.Keys.{key_in}
 use Rattle.mls_index.specs.Order.{IsPart}
 use Rattle.mls_index.specs.Cleared.{cleared, HasPlaces}
-use Rattle.mls_index.specs.ClearedLaws.{cleared_part}
+use Rattle.mls_index.proofs.ClearedLaws.{cleared_part}
 use Rattle.mls_index.specs.Gaps.{IsWith, IsWithin, Opens}
-use Rattle.mls_index.specs.FillLaws.{opens_none, opens_same, opens_more}
-use Rattle.mls_index.specs.GapLaws.{within_more}
+use Rattle.mls_index.proofs.FillLaws.{opens_none, opens_same, opens_more}
+use Rattle.mls_index.proofs.GapLaws.{within_more}
 use Rattle.mls_index.proofs.index.Index.gaps.Goals as goal
 use Rattle.mls_index.proofs.index.Index.gaps.Goals.{in-Some+else-is_beside+else-not-add, in_default}
 

@@ -2,7 +2,7 @@ use Rattle.std.proofs.Common.{refl, ◌&&◌, nat_lt, length, get_or, sym, ◌�
 use Rattle.std.proofs.Math.Bool.{and-false}
 use Rattle.std.proofs.lemmas.List.{get_or_default}
 use Rattle.mls_index.specs.Keys.{key_in, is_key, IsHolder}
-use Rattle.mls_index.specs.StepLaws.{held_first}
+use Rattle.mls_index.proofs.StepLaws.{held_first}
 use Rattle.mls_index.proofs.index.Index.holder.Goals as goal
 
 pub returns-in_err-x : goal.returns-in_err-x

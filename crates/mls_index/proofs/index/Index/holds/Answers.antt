@@ -1,5 +1,5 @@
 use Rattle.std.proofs.Common.{◌∙◌}
-use Rattle.mls_index.specs.StepLaws.{held_first}
+use Rattle.mls_index.proofs.StepLaws.{held_first}
 use Rattle.mls_index.proofs.index.Index.holds.Goals as goal
 
 pub returns : goal.returns

@@ -1,7 +1,7 @@
 use Rattle.std.proofs.Common.{not, sym, ◌∙◌, ap, inl, inr}
 use Rattle.std.proofs.lemmas.Bool.{cases_Bool}
 use Rattle.mls_term.specs.Sets.{has}
-use Rattle.mls_index.specs.BesideLaws.{beside_none, beside_on, beside_out, has_searched}
+use Rattle.mls_index.proofs.BesideLaws.{beside_none, beside_on, beside_out, has_searched}
 use Rattle.mls_index.proofs.index.Index.holds_beside.Goals as goal
 
 pub returns-in-Some : goal.returns-in-Some

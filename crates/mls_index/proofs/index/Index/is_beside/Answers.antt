@@ -1,6 +1,6 @@
 use Rattle.std.proofs.Common.{◌-◌, sym, ◌∙◌, le-ltb, arith, inl, inr}
 use Rattle.std.proofs.lemmas.Bool.{cases_Bool}
-use Rattle.mls_index.specs.StepLaws.{held_here, held_not_beside}
+use Rattle.mls_index.proofs.StepLaws.{held_here, held_not_beside}
 use Rattle.mls_index.proofs.index.Index.is_beside.Goals as goal
 
 pub returns-then-is_key_at : goal.returns-then-is_key_at

@@ -1,6 +1,6 @@
 use Rattle.std.proofs.Common.{◌≡◌, ◌∙◌, ap, arith}
 use Rattle.mls_index.specs.Moves.{without}
-use Rattle.mls_index.specs.PassLaws.{left_at_once}
+use Rattle.mls_index.proofs.PassLaws.{left_at_once}
 use Rattle.mls_index.proofs.index.Index.leave_all.Goals as goal
 
 pub returns-clause-left : goal.returns-clause-left

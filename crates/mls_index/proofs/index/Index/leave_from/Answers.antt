@@ -1,6 +1,6 @@
 use Rattle.std.proofs.Common.{◌≡◌, ◌+◌, ◌-◌, refl, ◌∙◌, subst, arith}
 use Rattle.mls_index.specs.Indexes.{Without}
-use Rattle.mls_index.specs.FrontLaws.{front, without_front, front_whole, front_cut}
+use Rattle.mls_index.proofs.FrontLaws.{front, without_front, front_whole, front_cut}
 use Rattle.mls_index.proofs.index.Index.leave_from.Goals as goal
 
 pub loop-end-init : goal.loop-end-init

@@ -1,6 +1,6 @@
 use Rattle.std.proofs.Common.{◌≡◌, ℕ, ◌<◌, ◌≤◌, length}
 use Rattle.mls_index.specs.Indexes.{Indexes}
-use Rattle.mls_index.specs.FrontLaws.{front}
+use Rattle.mls_index.proofs.FrontLaws.{front}
 use Rattle.mls_index.proofs.index.Index.leave_from.Given as goal
 
 abbrev pub invariant-loop-end : goal.invariant-loop-end

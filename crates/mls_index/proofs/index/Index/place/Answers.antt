@@ -3,7 +3,7 @@ use Rattle.std.specs.Ordering.{is_lt}
 use Rattle.std.specs.Prelude.{◌<◌, false, length, get_or}
 use Rattle.mls_index.specs.Keys.{key_in}
 use Rattle.mls_index.specs.Order.{entry_at, entry_cmp}
-use Rattle.mls_index.specs.EntryLaws.{gap_between}
+use Rattle.mls_index.proofs.EntryLaws.{gap_between}
 use Rattle.mls_index.proofs.index.Index.place.Goals as goal
 
 pub returns-clause-gap : goal.returns-clause-gap

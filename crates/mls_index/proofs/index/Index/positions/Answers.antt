@@ -2,7 +2,7 @@ use Rattle.std.proofs.Common.{◌+◌, ◌∷◌, [], length, length-append, get
 use Rattle.std.proofs.lemmas.List.{take_all}
 use Rattle.mls_index.specs.Keys.{key_in}
 use Rattle.mls_index.specs.Moves.{Marks}
-use Rattle.mls_index.specs.PassLaws.{marks_none, marks_same, marks_more}
+use Rattle.mls_index.proofs.PassLaws.{marks_none, marks_same, marks_more}
 use Rattle.mls_index.proofs.index.Index.positions.Goals as goal
 use Rattle.mls_index.proofs.index.Index.positions.Goals.{in-Some, in_default}
 

@@ -1,7 +1,7 @@
 use Rattle.std.proofs.Common.{◌+◌, take, sym, ◌∙◌, subst, arith}
 use Rattle.std.proofs.lemmas.List.{take_all}
 use Rattle.mls_index.specs.Moves.{IsNext}
-use Rattle.mls_index.specs.MoveLaws.{next_none, next_lower, next_same}
+use Rattle.mls_index.proofs.MoveLaws.{next_none, next_lower, next_same}
 use Rattle.mls_index.proofs.positions.Positions.next.Goals as goal
 use Rattle.mls_index.proofs.positions.Positions.next.Goals.{then-from-place+then-place-least, else-from-place, else-from-place-via-then-from-place+else-place-least, else-from-place-via-else-from-place}
 

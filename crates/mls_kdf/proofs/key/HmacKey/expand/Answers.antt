@@ -3,7 +3,8 @@ use Rattle.std.specs.Int.{div_ceil}
 use Rattle.std.proofs.lemmas.List.{take_all}
 use Rattle.mls_kdf.specs.Kdf.{joined, hmac, expand, hkdf_block, hkdf_blocks}
 use Rattle.mls_kdf.proofs.Lists.{block_more}
-use Rattle.mls_kdf.specs.Lengths.{length-hkdf_blocks, length-hmac}
+use Rattle.mls_kdf.specs.Lengths.{length-hmac}
+use Rattle.mls_kdf.proofs.Lengths.{length-hkdf_blocks}
 use Rattle.mls_kdf.proofs.key.HmacKey.expand.Goals as goal
 use Rattle.mls_kdf.proofs.key.HmacKey.expand.Goals.{then-i-eq0, else-i-eq0}
 

@@ -1,5 +1,5 @@
 use Rattle.mls_leaf.specs.Limits.{input_limit}
-use Rattle.mls_leaf.specs.WholeLaws.{whole_told}
+use Rattle.mls_leaf.proofs.WholeLaws.{whole_told}
 use Rattle.mls_leaf.proofs.codec.Codec.check_all.Goals as goal
 
 pub returns : goal.returns

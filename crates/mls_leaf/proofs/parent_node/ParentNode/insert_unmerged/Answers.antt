@@ -1,6 +1,6 @@
 use Rattle.std.proofs.Common.{◌∙◌, sym, subst, arith, List, ℕ, ◌≡◌, true, insert}
 use Rattle.mls_leaf.specs.Parent.{rises, inserted}
-use Rattle.mls_leaf.specs.ParentLaws.{rises_from-inserted}
+use Rattle.mls_leaf.proofs.ParentLaws.{rises_from-inserted}
 use Rattle.mls_leaf.proofs.parent_node.ParentNode.insert_unmerged.Goals as goal
 
 pub invariant_of-self-2 : goal.invariant_of-self-2

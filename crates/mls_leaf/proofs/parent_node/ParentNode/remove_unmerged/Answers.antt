@@ -1,7 +1,7 @@
 use Rattle.std.proofs.Common.{◌≡◌, ℕ, ◌==◌, true, not, List, sym, subst, rules}
 use Rattle.std.proofs.lemmas.Fn.{filter_same}
 use Rattle.mls_leaf.specs.Parent.{rises}
-use Rattle.mls_leaf.specs.RisingLaws.{some_rise}
+use Rattle.mls_leaf.proofs.RisingLaws.{some_rise}
 use Rattle.mls_leaf.proofs.parent_node.ParentNode.remove_unmerged.Goals as goal
 
 pub invariant_of-self : goal.invariant_of-self

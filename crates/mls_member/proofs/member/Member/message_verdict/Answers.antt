@@ -1,5 +1,5 @@
 use Rattle.std.proofs.Common.{rules}
-use Rattle.mls_member.specs.ContentLaws.{application_is, proposal_does, commit_does}
+use Rattle.mls_member.proofs.ContentLaws.{application_is, proposal_does, commit_does}
 use Rattle.mls_member.proofs.member.Member.message_verdict.Goals as goal
 
 pub returns-in-Application-clause-verdict : goal.returns-in-Application-clause-verdict

@@ -1,6 +1,6 @@
 use Rattle.std.proofs.Common.{refl, sym, ◌∙◌}
 use Rattle.mls_leaf.specs.Proposal.{proposal as proposal_format}
-use Rattle.mls_leaf.specs.WholeLaws.{spells_same}
+use Rattle.mls_leaf.proofs.WholeLaws.{spells_same}
 use Rattle.mls_member.proofs.Known.{known_is, new_does}
 use Rattle.mls_member.proofs.member.Member.proposal_verdict.Goals as goal
 

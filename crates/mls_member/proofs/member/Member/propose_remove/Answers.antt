@@ -1,6 +1,6 @@
 use Rattle.std.proofs.Common.{refl, arith}
 use Rattle.std.proofs.lemmas.Result.{err_from_is_err_and}
-use Rattle.mls_tree.specs.RefusalLaws.{one_number, not_refused}
+use Rattle.mls_tree.proofs.RefusalLaws.{one_number, not_refused}
 use Rattle.mls_member.proofs.Good.{not_gone, checks_at, remove_good}
 use Rattle.mls_member.proofs.Own.{remove_fits, remove_short, no_leaf_at}
 use Rattle.mls_member.proofs.member.Member.propose_remove.Goals as goal

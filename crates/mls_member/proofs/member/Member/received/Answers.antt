@@ -1,5 +1,5 @@
 use Rattle.std.proofs.Common.{rules, arith}
-use Rattle.mls_member.specs.ContentLaws.{public_of, short_public, public_does, public_outright, other_of, no_message}
+use Rattle.mls_member.proofs.ContentLaws.{public_of, short_public, public_does, public_outright, other_of, no_message}
 use Rattle.mls_member.proofs.member.Member.received.Goals as goal
 
 pub returns-in_err-view-clause-verdict : goal.returns-in_err-view-clause-verdict

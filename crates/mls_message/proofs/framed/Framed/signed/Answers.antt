@@ -1,4 +1,4 @@
-use Rattle.mls_message.specs.WithinLaws.{signed_fits}
+use Rattle.mls_message.proofs.WithinLaws.{signed_fits}
 use Rattle.mls_message.proofs.framed.Framed.signed.Goals as goal
 
 pub returns-clause-fits : goal.returns-clause-fits

@@ -1,8 +1,8 @@
 use Rattle.std.proofs.Common.{◌≡◌, length, refl, subst, ap, ◌∙◌, arith}
-use Rattle.mls_types.specs.SignedParts.{signed_content_parts_fit}
+use Rattle.mls_types.proofs.SignedParts.{signed_content_parts_fit}
 use Rattle.mls_types.specs.declared.signed.SignedContent.{SignedContent}
 use Rattle.mls_model.specs.Messages.{content_tag}
-use Rattle.mls_message.specs.TextLaws.{auth_within, tag_is}
+use Rattle.mls_message.proofs.TextLaws.{auth_within, tag_is}
 use Rattle.mls_message.proofs.untagged.Untagged.membership_tag.Goals as goal
 
 pub auth_data_length-requires : goal.auth_data_length-requires

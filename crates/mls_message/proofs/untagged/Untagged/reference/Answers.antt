@@ -2,7 +2,7 @@ use Rattle.std.proofs.Common.{◌≡◌, drop, subst, ap, ◌∙◌}
 use Rattle.mls_types.specs.Reference.{proposal_reference}
 use Rattle.mls_types.specs.declared.signed.SignedContent.{SignedContent}
 use Rattle.mls_model.specs.Messages.{reference_of}
-use Rattle.mls_message.specs.TextLaws.{reference_is, version_within}
+use Rattle.mls_message.proofs.TextLaws.{reference_is, version_within}
 use Rattle.mls_message.proofs.untagged.Untagged.reference.Goals as goal
 
 pub split_at-requires : goal.split_at-requires

@@ -2,7 +2,7 @@ use Rattle.std.proofs.Common.{ℕ, List, subst}
 use Rattle.mls_wire.specs.Format.{IsBytes}
 use Rattle.mls_types.specs.declared.signed.SignedContent.{SignedContent}
 use Rattle.mls_message.specs.Pieces.{IsUntagged}
-use Rattle.mls_message.specs.TextLaws.{message_is}
+use Rattle.mls_message.proofs.TextLaws.{message_is}
 use Rattle.mls_message.proofs.untagged.Untagged.tagged.Goals as goal
 
 pub returns : goal.returns

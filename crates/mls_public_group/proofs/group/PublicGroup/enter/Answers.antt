@@ -1,4 +1,4 @@
-use Rattle.mls_public_group.specs.ShortLaws.{context_fits}
+use Rattle.mls_public_group.proofs.ShortLaws.{context_fits}
 use Rattle.mls_public_group.proofs.group.PublicGroup.enter.Goals as goal
 
 pub spelling-requires : goal.spelling-requires

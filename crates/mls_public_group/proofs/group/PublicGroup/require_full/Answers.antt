@@ -2,7 +2,7 @@ use Rattle.std.proofs.Common.{◌+◌, drop, sym, ap, ◌∙◌}
 use Rattle.std.proofs.lemmas.Result.{err_from_is_err_and}
 use Rattle.mls_model.specs.Proposals.{full_checks}
 use Rattle.mls_public_group.specs.Faults.{number_of}
-use Rattle.mls_public_group.specs.Rest.{here, over}
+use Rattle.mls_public_group.proofs.Rest.{here, over}
 use Rattle.mls_public_group.proofs.Folding.{full_more, full_fail, full_end}
 use Rattle.mls_public_group.proofs.group.PublicGroup.require_full.Goals as goal
 

@@ -8,7 +8,7 @@ use Rattle.mls_checks.specs.Short.{IsShort}
 use Rattle.mls_model.specs.Proposals.{proposal_checks}
 use Rattle.mls_public_group.specs.Faults.{number_of}
 use Rattle.mls_public_group.specs.declared.error.GroupError.{GroupError}
-use Rattle.mls_public_group.specs.ShortLaws.{short_below, below_short, add_below, update_below}
+use Rattle.mls_public_group.proofs.ShortLaws.{short_below, below_short, add_below, update_below}
 use Rattle.mls_public_group.proofs.group.PublicGroup.require_proposal.Goals as goal
 
 pub key_package-requires : goal.key_package-requires

@@ -1,7 +1,7 @@
 use Rattle.std.proofs.Common.{◌∙◌, ap}
 use Rattle.mls_term.specs.Sets.{same_bytes, is_distinct}
 use Rattle.mls_index.specs.Keys.{keys_of}
-use Rattle.mls_tree.specs.KindLaws.{distinct_keys}
+use Rattle.mls_tree.proofs.KindLaws.{distinct_keys}
 use Rattle.mls_tree.proofs.key_indexes.KeyIndexes.has_distinct_keys.Goals as goal
 
 pub returns : goal.returns

@@ -5,9 +5,9 @@ use Rattle.mls_tree.specs.Tree.{term}
 use Rattle.mls_tree.proofs.Indexing.{same_indexes, first_is, fills-enter, fills-append, filled_by, new_half, indexed-padded}
 use Rattle.mls_tree.proofs.Keeping.{add_good, add_sound}
 use Rattle.mls_tree.proofs.Adding.{add_full, may_add_in, may_add_beside, add_in, add_beside}
-use Rattle.mls_tree.specs.RefusalLaws.{one_number, not_refused}
+use Rattle.mls_tree.proofs.RefusalLaws.{one_number, not_refused}
 use Rattle.mls_tree.proofs.Keepings.{kept_long, kept-enter, kept-appended}
-use Rattle.mls_term.specs.ArrayLaws.{perfect-term_of}
+use Rattle.mls_term.proofs.ArrayLaws.{perfect-term_of}
 use Rattle.mls_tree.proofs.Bounding.{from_there, found_low, added, added_beside as bounds_beside}
 use Rattle.mls_tree.proofs.Chilling.{added_in, added_beside}
 use Rattle.mls_tree.proofs.tree.PublicTree.add.Goals as goal

@@ -2,11 +2,11 @@ use Rattle.std.proofs.Common.{◌≡◌, ◌^◌, ◌≤◌, length, ap, ◌∙�
 use Rattle.std.proofs.Math.Pow.{pow_mono}
 use Rattle.mls_term.specs.Term.{width}
 use Rattle.mls_term.specs.Arrays.{term_of}
-use Rattle.mls_term.specs.ArrayLaws.{width-term_of}
-use Rattle.mls_term.specs.SoundLaws.{within_from}
+use Rattle.mls_term.proofs.ArrayLaws.{width-term_of}
+use Rattle.mls_term.proofs.SoundLaws.{within_from}
 use Rattle.mls_tree.specs.Tree.{term, max_leaves}
 use Rattle.mls_tree.specs.Rules.{rules_of}
-use Rattle.mls_tree.specs.Perfect.{perfect}
+use Rattle.mls_tree.proofs.Perfect.{perfect}
 use Rattle.mls_tree.proofs.Checked.{good_checked}
 use Rattle.mls_tree.proofs.Keepings.{kept_long}
 use Rattle.mls_tree.proofs.Chilling.{warmed}

@@ -4,7 +4,7 @@ use Rattle.mls_term.specs.Arrays.{term_of}
 use Rattle.mls_tree.specs.Tree.{term}
 use Rattle.mls_tree.specs.Faults.{number_of}
 use Rattle.mls_tree.proofs.Answering.{path_refused, path_found}
-use Rattle.mls_tree.specs.RefusalLaws.{one_number, not_refused}
+use Rattle.mls_tree.proofs.RefusalLaws.{one_number, not_refused}
 use Rattle.mls_tree.proofs.tree.PublicTree.filtered_path.Goals as goal
 
 pub returns-in-Err-clause-answer : goal.returns-in-Err-clause-answer

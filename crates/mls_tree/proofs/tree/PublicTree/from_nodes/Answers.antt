@@ -8,10 +8,10 @@ use Rattle.mls_term.specs.Term.{is_full_width}
 use Rattle.mls_term.specs.Good.{has_good_shape}
 use Rattle.mls_term.specs.Arrays.{has_last, alternates, term_of}
 use Rattle.mls_tree.specs.Short.{HasShortLeaves}
-use Rattle.mls_tree.specs.ShortLeaves.{short_leaves}
-use Rattle.mls_tree.specs.Sent.{sent_is}
+use Rattle.mls_tree.proofs.ShortLeaves.{short_leaves}
+use Rattle.mls_tree.proofs.SentLemmas.{sent_is}
 use Rattle.mls_tree.proofs.Receiving.{no_last, misplaced, stands_as, half_empty, too_large, received}
-use Rattle.mls_term.specs.ArrayLaws.{size-term_of}
+use Rattle.mls_term.proofs.ArrayLaws.{size-term_of}
 use Rattle.mls_tree.proofs.Chilling.{new_tree}
 use Rattle.mls_tree.proofs.tree.PublicTree.from_nodes.Goals as goal
 

@@ -6,8 +6,8 @@ use Rattle.mls_index.specs.Indexes.{Indexes}
 use Rattle.mls_index.specs.Cleared.{cleared}
 use Rattle.mls_tree.specs.Tree.{term}
 use Rattle.mls_tree.specs.Way.{way_numbers}
-use Rattle.mls_tree.specs.Steps.{path_steps}
-use Rattle.mls_tree.specs.MergedKeyLaws.{merged_distinct}
+use Rattle.mls_tree.proofs.Steps.{path_steps}
+use Rattle.mls_tree.proofs.MergedKeyLaws.{merged_distinct}
 use Rattle.mls_tree.proofs.Indexing.{way_once}
 use Rattle.mls_tree.proofs.tree.PublicTree.keys_differ.Goals as goal
 

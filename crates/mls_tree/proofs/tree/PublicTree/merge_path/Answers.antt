@@ -1,7 +1,7 @@
 use Rattle.std.proofs.Common.{◌≡◌, true, is_some, Ok, [], reverse, sym, ◌∙◌, ap, subst}
 use Rattle.mls_term.specs.Term.{leaf_of}
 use Rattle.mls_term.specs.Merge.{merge_path}
-use Rattle.mls_term.specs.ArrayLaws.{perfect-term_of}
+use Rattle.mls_term.proofs.ArrayLaws.{perfect-term_of}
 use Rattle.mls_array.specs.Merging.{path_parents}
 use Rattle.mls_tree.specs.Cold.{Chills}
 use Rattle.mls_tree.specs.Cold.{Warms}

@@ -4,7 +4,7 @@ use Rattle.std.proofs.lemmas.List.{length-reverse}
 use Rattle.mls_paths.specs.Make.{Climb}
 use Rattle.mls_term.specs.Term.{height}
 use Rattle.mls_tree.specs.Tree.{term}
-use Rattle.mls_tree.specs.Perfect.{perfect}
+use Rattle.mls_tree.proofs.Perfect.{perfect}
 use Rattle.mls_treekem.specs.Climbing.{with_own}
 use Rattle.mls_treekem.proofs.Followed.{way_read}
 use Rattle.mls_treekem.proofs.Opening.{above_low, opened_is}

@@ -3,13 +3,13 @@ use Rattle.std.proofs.lemmas.Result.{err_from_is_err_and}
 use Rattle.mls_wire.specs.Reading.{◌>>=◌}
 use Rattle.mls_wire.specs.CombineLaws.{seen_read}
 use Rattle.mls_wire.specs.Combine.{case, others}
-use Rattle.mls_leaf.specs.Codecs.{Fails-then}
+use Rattle.mls_leaf.proofs.Codecs.{Fails-then}
 use Rattle.mls_leaf.specs.KeyPackage.{key_package}
 use Rattle.mls_group.specs.GroupInfo.{group_info}
 use Rattle.mls_group.specs.Welcome.{welcome}
 use Rattle.mls_types.specs.Message.{mls_message, Bodies, make_message}
 use Rattle.mls_types.specs.PublicMessage.{public_message}
-use Rattle.mls_types.specs.Cases.{read_other}
+use Rattle.mls_types.proofs.Cases.{read_other}
 use Rattle.mls_types.proofs.message.MlsMessageCodec.read.Goals as goal
 
 pub returns-in_err-key_package-in-5 : goal.returns-in_err-key_package-in-5

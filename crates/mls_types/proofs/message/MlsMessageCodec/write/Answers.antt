@@ -2,7 +2,7 @@ use Rattle.std.proofs.Common.{◌≡◌, ℕ, List, ◌++◌, lit<, append_assoc
 use Rattle.std.specs.Int.{w16}
 use Rattle.std.proofs.lemmas.Result.{err_from_is_err_and}
 use Rattle.mls_wire.specs.Reading.{uint}
-use Rattle.mls_leaf.specs.Codecs.{Refuses-whole}
+use Rattle.mls_leaf.proofs.Codecs.{Refuses-whole}
 use Rattle.mls_leaf.specs.KeyPackage.{key_package}
 use Rattle.mls_types.specs.Message.{mls_message}
 use Rattle.mls_types.proofs.message.MlsMessageCodec.write.Goals as goal

@@ -1,9 +1,10 @@
 use Rattle.std.proofs.Common.{◌∙◌, ap, sym, append_assoc, List, ℕ, ◌++◌}
 use Rattle.std.proofs.lemmas.Result.{err_from_is_err_and}
-use Rattle.mls_leaf.specs.Codecs.{Refuses-whole}
+use Rattle.mls_leaf.proofs.Codecs.{Refuses-whole}
 use Rattle.mls_types.specs.Content.{framed_content}
 use Rattle.mls_types.specs.Signed.{signed_content}
-use Rattle.mls_types.specs.SignedParts.{framed, auth_data, AuthDataFits, signed_content_spelled, signed_content_fits, signed_content_parts_fit}
+use Rattle.mls_types.specs.SignedParts.{framed, auth_data, AuthDataFits}
+use Rattle.mls_types.proofs.SignedParts.{signed_content_spelled, signed_content_fits, signed_content_parts_fit}
 use Rattle.mls_types.proofs.signed.SignedContentCodec.write.Goals as goal
 
 pub returns-in_err-add_framed_content : goal.returns-in_err-add_framed_content

@@ -1,6 +1,7 @@
 use Rattle.std.proofs.Common.{◌≡◌, ◌∙◌, List, ℕ, ap, subst, sym}
 use Rattle.mls_group.specs.Welcome.{encrypted_group_secrets}
-use Rattle.mls_view.specs.Entries.{ShowsSecrets, shown_of, no_fault_of}
+use Rattle.mls_view.specs.Entries.{ShowsSecrets}
+use Rattle.mls_view.proofs.EntriesLemmas.{shown_of, no_fault_of}
 use Rattle.mls_view.specs.Views.{Lends}
 use Rattle.mls_view.proofs.entries.EncryptedGroupSecretsView.of.Goals as goal
 

@@ -1,6 +1,7 @@
 use Rattle.std.proofs.Common.{◌≡◌, ◌∙◌, List, ℕ, ap, subst, sym}
 use Rattle.mls_types.specs.Commit.{proposal_or_ref}
-use Rattle.mls_view.specs.Entries.{ShowsProposalOrRef, shown_of, no_fault_of}
+use Rattle.mls_view.specs.Entries.{ShowsProposalOrRef}
+use Rattle.mls_view.proofs.EntriesLemmas.{shown_of, no_fault_of}
 use Rattle.mls_view.specs.Views.{Lends}
 use Rattle.mls_view.proofs.entries.ProposalOrRefView.of.Goals as goal
 

@@ -1,4 +1,4 @@
-use Rattle.mls_view.specs.MessageLaws.{never_memory}
+use Rattle.mls_view.proofs.MessageLaws.{never_memory}
 use Rattle.mls_view.proofs.message.MessageView.read.Goals as goal
 
 pub returns-clause-no_memory : goal.returns-clause-no_memory

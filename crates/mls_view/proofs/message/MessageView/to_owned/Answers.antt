@@ -1,4 +1,4 @@
-use Rattle.mls_view.specs.MessageLaws.{group_info_owned, key_package_owned}
+use Rattle.mls_view.proofs.MessageLaws.{group_info_owned, key_package_owned}
 use Rattle.mls_view.proofs.message.MessageView.to_owned.Goals as goal
 
 pub returns-in_ok-group_info-in-GroupInfo : goal.returns-in_ok-group_info-in-GroupInfo

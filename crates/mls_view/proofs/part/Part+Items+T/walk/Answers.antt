@@ -1,6 +1,6 @@
 use Rattle.std.proofs.Common.{◌≡◌, ◌∙◌, ap, sym}
 use Rattle.mls_wire.specs.Reading.{opaque_at}
-use Rattle.mls_view.specs.WalkLaws.{walked}
+use Rattle.mls_view.proofs.WalkLaws.{walked}
 use Rattle.mls_view.proofs.part.Part+Items+T.walk.Goals as goal
 
 pub returns-in-Ok : goal.returns-in-Ok

@@ -1,4 +1,4 @@
-use Rattle.mls_leaf.specs.WholeLaws.{passed_spells}
+use Rattle.mls_leaf.proofs.WholeLaws.{passed_spells}
 use Rattle.mls_view.proofs.part.Part.bytes.Goals as goal
 
 pub returns-clause-spelled : goal.returns-clause-spelled

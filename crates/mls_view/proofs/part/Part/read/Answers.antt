@@ -1,5 +1,5 @@
 use Rattle.std.proofs.Common.{◌∙◌, ap}
-use Rattle.mls_leaf.specs.WholeLaws.{spelling_passes}
+use Rattle.mls_leaf.proofs.WholeLaws.{spelling_passes}
 use Rattle.mls_view.proofs.part.Part.read.Goals as goal
 
 pub invariant_of-result : goal.invariant_of-result

@@ -1,7 +1,7 @@
 use Rattle.std.proofs.Common.{◌≡◌, ◌∙◌, List, ℕ, subst}
 use Rattle.mls_leaf.specs.Faults.{ReadsFront}
 use Rattle.mls_view.specs.Views.{Owns}
-use Rattle.mls_view.specs.PartLaws.{owned}
+use Rattle.mls_view.proofs.PartLaws.{owned}
 use Rattle.mls_view.proofs.part.Part.to_owned.Goals as goal
 
 pub returns : goal.returns

@@ -1,4 +1,4 @@
-use Rattle.mls_view.specs.Fed.{signed_made}
+use Rattle.mls_view.proofs.Fed.{signed_made}
 use Rattle.mls_view.proofs.public_message.PublicMessageView.to_be_signed.Goals as goal
 
 pub returns : goal.returns

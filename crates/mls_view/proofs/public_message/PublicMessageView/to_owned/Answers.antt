@@ -1,5 +1,5 @@
 use Rattle.mls_types.specs.PublicMessage.{public_message}
-use Rattle.mls_view.specs.PartLaws.{owned_is}
+use Rattle.mls_view.proofs.PartLaws.{owned_is}
 use Rattle.mls_view.proofs.public_message.PublicMessageView.to_owned.Goals as goal
 
 pub returns : goal.returns

@@ -1,5 +1,5 @@
 use Rattle.mls_group.specs.Welcome.{welcome}
-use Rattle.mls_view.specs.PartLaws.{owned_is}
+use Rattle.mls_view.proofs.PartLaws.{owned_is}
 use Rattle.mls_view.proofs.welcome.WelcomeView.to_owned.Goals as goal
 
 pub returns : goal.returns

@@ -1,0 +1,76 @@
+-- What a commit makes of a tree, in the parts in which it is worked out.
+use Rattle.std.specs.Prelude.{◌≡◌, ℕ, nat_eq, not, List, ◌++◌, map, Result, Ok, Err}
+use Rattle.std.proofs.Common.{refl, sym, ap, ◌∙◌}
+use Rattle.mls_wire.specs.Checks.{Passed, passed, require, ◌>>◌}
+use Rattle.mls_wire.specs.Reading.{◌>>=◌}
+use Rattle.mls_suite.specs.Crypto.{Crypto}
+use Rattle.mls_term.specs.Term.{Term}
+use Rattle.mls_term.specs.Sets.{has, same_bytes, is_distinct}
+use Rattle.mls_term.specs.Good.{has_distinct_keys, has_distinct_clients}
+use Rattle.mls_model.specs.Public.{PublicState, Used}
+use Rattle.mls_model.specs.Proposals.{full_checks, updates, updated, removed, adds, package_reference}
+use Rattle.mls_model.specs.Commit.{Edits, all_updated, all_removed, all_added, edited}
+use Rattle.mls_public_group.specs.Edited.{apart, applied, apart_after}
+
+-- ---- the definition is worked out in these parts
+
+regroup : {B : Type 0} (a b c : Result Passed ℕ) (rest : Result B ℕ) → (a >> (b >> (c >> rest))) ≡ ((a >> (b >> c)) >> rest)
+regroup (Ok passed) (Ok passed) c rest = refl
+regroup (Ok passed) (Err n) c rest = refl
+regroup (Err n) b c rest = refl
+
+bound : {A B C : Type 0} (r : Result A ℕ) (f : A → Result B ℕ) (g : B → Result C ℕ) → (r >>= λ x. f x >>= g) ≡ ((r >>= f) >>= g)
+bound (Ok x) f g = refl
+bound (Err n) f g = refl
+
+module _ (c : Crypto) (p : PublicState) (committer : ℕ) (used : List Used) where
+  abbrev last : Edits → Result Edits ℕ
+  last e = require 26 (has_distinct_clients e.tree) >> (require 26 (is_distinct same_bytes (map package_reference (adds used))) >> (require 25 (has_distinct_keys e.tree) >> Ok e))
+
+  last_is : (e : Edits) → last e ≡ (apart_after e used >> Ok e)
+  unfolding apart_after
+  last_is e = regroup (require 26 (has_distinct_clients e.tree)) (require 26 (is_distinct same_bytes (map package_reference (adds used)))) (require 25 (has_distinct_keys e.tree)) (Ok e)
+
+  rest_is : (applied p.tree used >>= last) ≡ (all_updated p.tree (updates used) >>= λ a. all_removed a (removed used) >>= λ b. all_added b (adds used) >>= last)
+  unfolding applied
+  rest_is =
+      sym (bound (all_updated p.tree (updates used)) (λ a. all_removed a (removed used) >>= λ b. all_added b (adds used)) last)
+      ∙ inner (all_updated p.tree (updates used))
+    where
+      inner : (r : Result Term ℕ) → (r >>= λ a. (all_removed a (removed used) >>= λ b. all_added b (adds used)) >>= last) ≡ (r >>= λ a. all_removed a (removed used) >>= λ b. all_added b (adds used) >>= last)
+      inner (Ok a) = sym (bound (all_removed a (removed used)) (λ b. all_added b (adds used)) last)
+      inner (Err n) = refl
+
+  pub edited_is : edited c p committer used ≡ (full_checks c p used >> (apart committer used >> (applied p.tree used >>= last)))
+  unfolding edited apart
+  edited_is =
+      ap (λ (r : Result Edits ℕ). full_checks c p used >> r)
+      (regroup (require 61 (not (has (updated used) committer))) (require 62 (not (has (removed used) committer))) (require 63 (is_distinct nat_eq (updated used ++ removed used))) _
+      ∙ ap (λ (r : Result Edits ℕ). apart committer used >> r) (sym rest_is))
+
+  module _ (full : full_checks c p used ≡ Ok passed) where
+    after_full : edited c p committer used ≡ (apart committer used >> (applied p.tree used >>= last))
+    after_full = edited_is ∙ ap (λ (r : Result Passed ℕ). r >> (apart committer used >> (applied p.tree used >>= last))) full
+
+    pub edited_apart : (n : ℕ) → apart committer used ≡ Err n → edited c p committer used ≡ Err n
+    edited_apart n h = after_full ∙ ap (λ (r : Result Passed ℕ). r >> (applied p.tree used >>= last)) h
+
+    module _ (differ : apart committer used ≡ Ok passed) where
+      after_apart : edited c p committer used ≡ (applied p.tree used >>= last)
+      after_apart = after_full ∙ ap (λ (r : Result Passed ℕ). r >> (applied p.tree used >>= last)) differ
+
+      pub edited_applied : (n : ℕ) → applied p.tree used ≡ Err n → edited c p committer used ≡ Err n
+      edited_applied n h = after_apart ∙ ap (λ (r : Result Edits ℕ). r >>= last) h
+
+      module _ (e : Edits) (done : applied p.tree used ≡ Ok e) where
+        after_applied : edited c p committer used ≡ (apart_after e used >> Ok e)
+        after_applied = after_apart ∙ ap (λ (r : Result Edits ℕ). r >>= last) done ∙ last_is e
+
+        pub edited_distinct : (n : ℕ) → apart_after e used ≡ Err n → edited c p committer used ≡ Err n
+        edited_distinct n h = after_applied ∙ ap (λ (r : Result Passed ℕ). r >> Ok e) h
+
+        pub edited_ok : apart_after e used ≡ Ok passed → edited c p committer used ≡ Ok e
+        edited_ok h = after_applied ∙ ap (λ (r : Result Passed ℕ). r >> Ok e) h
+
+  pub edited_full : (n : ℕ) → full_checks c p used ≡ Err n → edited c p committer used ≡ Err n
+  edited_full n h = edited_is ∙ ap (λ (r : Result Passed ℕ). r >> (apart committer used >> (applied p.tree used >>= last))) h

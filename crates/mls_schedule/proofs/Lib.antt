@@ -1,0 +1,3 @@
+pub mod LawsLemmas
+pub mod Lengths
+pub mod Names

@@ -1,0 +1,5 @@
+pub mod CheckLaws
+pub mod Combine
+pub mod CombineLaws
+pub mod LawsLemmas
+pub mod Names
