@@ -5,7 +5,7 @@ use Rattle.mls_wire.specs.Checks.{passed, require, ◌>>◌}
 use Rattle.mls_leaf.specs.Limits.{input_limit}
 use Rattle.mls_leaf.specs.KeyPackage.{key_package}
 use Rattle.mls_leaf.specs.declared.key_package.KeyPackage.{KeyPackage}
-use Rattle.mls_paths.specs.Seeds.{sign_seed}
+use Rattle.mls_treekem_model.specs.Seeds.{sign_seed}
 use Rattle.mls_suite.specs.Crypto.{Crypto}
 use Rattle.mls_model.specs.Candidate.{Candidate, init_key_of, leaf_key_of, unsigned_leaf, signed_leaf, offered_leaf, unsigned_package, signed_package, package_message, new_candidate}
 use Rattle.mls_model.specs.Messages.{is_within_limit}

@@ -5,7 +5,7 @@ ghost use Rattle.mls_leaf.specs.Faults.{Writes};
 ghost use Rattle.mls_leaf.specs.KeyPackage.{key_package};
 ghost use Rattle.mls_leaf.specs.Leaf.{leaf_node as leaf_format};
 ghost use Rattle.mls_leaf.specs.Limits.{input_limit};
-ghost use Rattle.mls_paths.specs.Seeds.{sign_seed};
+ghost use Rattle.mls_treekem_model.specs.Seeds.{sign_seed};
 ghost use Rattle.mls_public_group.specs.Short.{IsBelow};
 ghost use Rattle.mls_candidate.specs.Short.{IsShortPackage};
 ghost use Rattle.mls_model.specs.Candidate.{init_key_of, leaf_key_of, offered_leaf, unsigned_package, signed_package, package_message};

@@ -9,18 +9,18 @@ use Rattle.mls_cli.specs.declared.tasks.SuiteChoice.{SuiteChoice}
 use Rattle.mls_cli.specs.declared.tasks.SuiteChoice.TheVariants as choice
 use Rattle.mls_cli.specs.declared.tasks.Job.{Job}
 use Rattle.mls_cli.specs.declared.tasks.Job.TheVariants as job
-use Rattle.mls_text.specs.Ends.{AppendsPart}
-use Rattle.mls_text.specs.Page.{Printout, printout}
-use Rattle.mls_text.specs.Text.{line_text}
-use Rattle.mls_text.specs.declared.fault.Fault.{Fault}
-use Rattle.mls_text.specs.declared.fault.Fault.TheVariants as fault
-use Rattle.mls_show.specs.Show.{page_of as show_page}
-use Rattle.mls_check.specs.Check.{check_page}
-use Rattle.mls_check.specs.Unchecked.{unchecked}
-use Rattle.mls_check.specs.declared.report.SuiteChecks.{SuiteChecks}
-use Rattle.mls_check.specs.declared.report.SuiteChecks.TheVariants.{Made, Left}
-use Rattle.mls_vectors.specs.VectorsReport.{entry_text, vectors_page}
-use Rattle.mls_replay.specs.Replay.{IsReplay}
+use Rattle.mls_cli_text.specs.Ends.{AppendsPart}
+use Rattle.mls_cli_text.specs.Page.{Printout, printout}
+use Rattle.mls_cli_text.specs.Text.{line_text}
+use Rattle.mls_cli_text.specs.declared.fault.Fault.{Fault}
+use Rattle.mls_cli_text.specs.declared.fault.Fault.TheVariants as fault
+use Rattle.mls_cli_show.specs.Show.{page_of as show_page}
+use Rattle.mls_cli_check.specs.Check.{check_page}
+use Rattle.mls_cli_check.specs.Unchecked.{unchecked}
+use Rattle.mls_cli_check.specs.declared.report.SuiteChecks.{SuiteChecks}
+use Rattle.mls_cli_check.specs.declared.report.SuiteChecks.TheVariants.{Made, Left}
+use Rattle.mls_cli_vectors.specs.VectorsReport.{entry_text, vectors_page}
+use Rattle.mls_cli_replay.specs.Replay.{IsReplay}
 
 -- the suite by which a tree is checked, and whether it makes the checks that are its own functions
 abbrev pub crypto_of : SuiteChoice → Crypto

@@ -2,7 +2,7 @@
 #![tactic(auto)]
 
 ghost use Rattle.std.specs.Prelude.{◌≡◌, map, false, IfOk, IfSome, string_bytes};
-ghost use Rattle.mls_text.specs.Ends.{in_failed};
+ghost use Rattle.mls_cli_text.specs.Ends.{in_failed};
 ghost use Rattle.mls_cli.specs.Arguments.{named_mls};
 
 mod arguments;
@@ -11,7 +11,7 @@ mod source;
 mod tasks;
 
 use arguments::{job, no_text};
-use mls_text::{In, Out};
+use mls_cli_text::{In, Out};
 use serving::serve;
 use source::Source;
 use std::alloc::{AllocError, Global};

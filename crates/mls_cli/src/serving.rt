@@ -2,21 +2,21 @@
 
 ghost use Rattle.std.specs.Prelude.{is_some, ◌≡◌, ◌≢◌, ◌≤◌, [], true, false, Ok, Err, Some, None, IfOk, IfErr, IfSome, OnOk, OnErr};
 ghost use Rattle.std.specs.Io.KnownBytes.{Appends, Keeps};
-ghost use Rattle.mls_text.specs.Ends.{AppendsPart, out_failed, out_writer, read_failed, write_failed};
-ghost use Rattle.mls_text.specs.Page.{page_of};
-ghost use Rattle.mls_text.specs.Text.{entry_of};
-ghost use Rattle.mls_check.specs.Check.{check_page};
-ghost use Rattle.mls_replay.specs.Replay.{PrintsOne};
+ghost use Rattle.mls_cli_text.specs.Ends.{AppendsPart, out_failed, out_writer, read_failed, write_failed};
+ghost use Rattle.mls_cli_text.specs.Page.{page_of};
+ghost use Rattle.mls_cli_text.specs.Text.{entry_of};
+ghost use Rattle.mls_cli_check.specs.Check.{check_page};
+ghost use Rattle.mls_cli_replay.specs.Replay.{PrintsOne};
 ghost use Rattle.mls_cli.specs.Arguments.{file_of};
 ghost use Rattle.mls_cli.specs.Serving.{Ends, EndsUnasked, IsPrintout, Leaves, Said, ShowsHelp, checks_of, crypto_of, fault_text, out_of_memory as memory_text, unread, unreadable};
 
 use crate::tasks::{Job, NoJob, SuiteChoice};
-use mls_check::{SuiteChecks, Unchecked, check_page};
-use mls_replay::replay;
-use mls_show::show_page;
+use mls_cli_check::{SuiteChecks, Unchecked, check_page};
+use mls_cli_replay::replay;
+use mls_cli_show::show_page;
 use mls_suite::Glass;
-use mls_text::{Fault, Input, Line, Out, Output, Page, print_made_page};
-use mls_vectors::vectors_page;
+use mls_cli_text::{Fault, Input, Line, Out, Output, Page, print_made_page};
+use mls_cli_vectors::vectors_page;
 use std::alloc::{AllocError, Global};
 use std::io::Write;
 

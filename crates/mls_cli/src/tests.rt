@@ -12,7 +12,7 @@ use crate::arguments::{job, no_text};
 use crate::serving::serve;
 use crate::tasks::{Job, NoJob};
 use crate::tests::vectors::repeated;
-use mls_text::{In, Out};
+use mls_cli_text::{In, Out};
 use std::alloc::{AllocError, Global};
 use std::io;
 use std::io::{ErrorKind, Read, Write};

@@ -3,13 +3,13 @@ use Rattle.std.proofs.Common.{◌≡◌, ℕ, Option, Some, None, Ok, sym, subst
 use Rattle.std.specs.Prelude.{IfSome}
 use Rattle.mls_wire.specs.Laws.{ok_is}
 use Rattle.mls_leaf.specs.Leaf.{leaf_node}
-use Rattle.mls_group.specs.declared.update_path.UpdatePath.{UpdatePath}
+use Rattle.mls_types.specs.declared.update_path.UpdatePath.{UpdatePath}
 use Rattle.mls_suite.specs.Crypto.{Crypto}
-use Rattle.mls_term.specs.Term.{Term}
+use Rattle.mls_tree_model.specs.Term.{Term}
 use Rattle.mls_model.specs.Public.{PublicState}
 use Rattle.mls_model.specs.Commit.{Edits, node_keys, merged}
 use Rattle.mls_public_group.specs.Short.{IsBelow, HasLeavesBelow}
-use Rattle.mls_laws.proofs.Inversion.{with_path_steps}
+use Rattle.mls_theorems.proofs.Inversion.{with_path_steps}
 use Rattle.mls_public_group.proofs.Leaves.{below_merge_path}
 
 pub below_merged : (c : Crypto) (p : PublicState) (i : ℕ) (e : Edits) (path : Option UpdatePath) (t : Term) (n : ℕ) → merged c p i e path ≡ Ok t → IfSome path (λ u. IsBelow n leaf_node u.leaf_node) → HasLeavesBelow n e.tree → HasLeavesBelow n t

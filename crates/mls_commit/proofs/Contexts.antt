@@ -1,6 +1,6 @@
 -- The contexts that a commit makes are short.
 use Rattle.std.proofs.Common.{◌≡◌, ℕ, List, length, arith}
-use Rattle.mls_group.specs.declared.group_context.GroupContext.{GroupContext}
+use Rattle.mls_types.specs.declared.group_context.GroupContext.{GroupContext}
 use Rattle.mls_model.specs.Public.{confirmed_context}
 use Rattle.mls_public_group.specs.Short.{IsShortContext}
 

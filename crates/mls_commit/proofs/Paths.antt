@@ -6,18 +6,18 @@ use Rattle.std.specs.Str.{bytes_eq}
 use Rattle.mls_wire.specs.Checks.{passed, require, ◌>>◌}
 use Rattle.mls_wire.specs.Laws.{ok_is}
 use Rattle.mls_leaf.specs.declared.leaf.LeafNode.{LeafNode}
-use Rattle.mls_group.specs.declared.update_path.UpdatePath.{UpdatePath}
-use Rattle.mls_group.specs.declared.update_path.UpdatePathNode.{UpdatePathNode}
+use Rattle.mls_types.specs.declared.update_path.UpdatePath.{UpdatePath}
+use Rattle.mls_types.specs.declared.update_path.UpdatePathNode.{UpdatePathNode}
 use Rattle.mls_suite.specs.Crypto.{Crypto}
 use Rattle.mls_checks.specs.Checks.{replaced_checks}
 use Rattle.mls_checks.specs.declared.checks.Source.TheVariants as made_for
-use Rattle.mls_term.specs.Term.{Term, leaf_of}
-use Rattle.mls_term.specs.Way.{Step, filtered_way, path_length, target_count, ciphertext_counts}
-use Rattle.mls_term.proofs.TakenLaws.{some_at}
+use Rattle.mls_tree_model.specs.Term.{Term, leaf_of}
+use Rattle.mls_tree_model.specs.Way.{Step, filtered_way, path_length, target_count, ciphertext_counts}
+use Rattle.mls_tree_model.proofs.TakenLaws.{some_at}
 use Rattle.mls_tree.specs.Paths.{counts_answer, merge_answer}
 use Rattle.mls_model.specs.Public.{PublicState, Used}
 use Rattle.mls_model.specs.Commit.{Edits, edited, node_keys, cipher_counts, due_counts, with_path}
-use Rattle.mls_laws.proofs.Staying.{edits_follow_committer}
+use Rattle.mls_theorems.proofs.Staying.{edits_follow_committer}
 use Rattle.mls_commit.specs.Staying.{Stays, count_checks}
 
 -- ---- counts

@@ -3,22 +3,22 @@ use Rattle.std.proofs.Common.{◌≡◌, ℕ, ◌==◌, true, List, [], ◌∷�
 use Rattle.mls_wire.specs.Laws.{ok_is}
 use Rattle.mls_leaf.specs.declared.leaf.LeafNode.{LeafNode}
 use Rattle.mls_suite.specs.Crypto.{Crypto}
-use Rattle.mls_term.specs.Merge.{merge_path}
+use Rattle.mls_tree_model.specs.Merge.{merge_path}
 use Rattle.mls_tree.specs.Paths.{merge_answer}
 use Rattle.mls_tree.specs.Prepared.{Prepared, IsFor, merged_by}
 use Rattle.mls_tree.specs.Tree.{Tree, term}
-use Rattle.mls_term.specs.Term.{Term}
+use Rattle.mls_tree_model.specs.Term.{Term}
 use Rattle.mls_model.specs.Public.{PublicState, Used}
 use Rattle.mls_model.specs.Proposals.{updates, removed, adds}
 use Rattle.mls_model.specs.Commit.{Edits, Change, all_updated, all_removed, all_added, edited, merged, public_with}
 use Rattle.mls_schedule.specs.Transcript.{interim_hash}
-use Rattle.mls_group.specs.declared.group_context.GroupContext.{GroupContext}
-use Rattle.mls_group.specs.declared.update_path.UpdatePath.{UpdatePath}
+use Rattle.mls_types.specs.declared.group_context.GroupContext.{GroupContext}
+use Rattle.mls_types.specs.declared.update_path.UpdatePath.{UpdatePath}
 use Rattle.mls_commit.specs.Changed.{change_of}
 use Rattle.mls_public_group.specs.NextTree.{next_term, is_merged, Follows}
 use Rattle.mls_public_group.specs.declared.next_tree.NextTree.{NextTree}
 use Rattle.mls_public_group.specs.declared.next_tree.NextTree.TheVariants.{Edited, EditedMerged, Merged}
-use Rattle.mls_laws.proofs.Inversion.{edited_steps}
+use Rattle.mls_theorems.proofs.Inversion.{edited_steps}
 
 pub next_alike : (s t : Term) (n : NextTree) → (is_merged n ≡ true → s ≡ t) → next_term s n ≡ next_term t n
 unfolding next_term

@@ -1,6 +1,6 @@
 -- What a commit makes of a public state, where its edits and the tree with its path are known.
 use Rattle.std.specs.Prelude.{ℕ, List}
-use Rattle.mls_term.specs.Term.{Term}
+use Rattle.mls_tree_model.specs.Term.{Term}
 use Rattle.mls_schedule.specs.Transcript.{confirmed_hash}
 use Rattle.mls_model.specs.Public.{PublicState, provisional_context, confirmed_context}
 use Rattle.mls_model.specs.Commit.{Edits, Change}

@@ -2,8 +2,8 @@
 use Rattle.std.proofs.Common.{refl}
 use Rattle.std.specs.Prelude.{Bool}
 use Rattle.std.specs.Coded.{Coded, code_by, coded×, coded_bool}
-use Rattle.mls_group.specs.declared.group_context.GroupContext.{GroupContext}
-use Rattle.mls_term.specs.Term.{Term}
+use Rattle.mls_types.specs.declared.group_context.GroupContext.{GroupContext}
+use Rattle.mls_tree_model.specs.Term.{Term}
 use Rattle.mls_model.specs.Commit.{Edits, Change}
 use Rattle.mls_commit.specs.Received.{Received}
 use Rattle.mls_public_group.specs.Codes.{coded_tree}

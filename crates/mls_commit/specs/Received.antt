@@ -1,6 +1,6 @@
 -- What a received commit makes of a public state.
 use Rattle.std.specs.Prelude.{◌≡◌, Bool, true}
-use Rattle.mls_term.specs.Term.{Term}
+use Rattle.mls_tree_model.specs.Term.{Term}
 use Rattle.mls_model.specs.Commit.{Change}
 
 -- what it makes of it, and whether its tree is the group's own with a path that was prepared for it

@@ -2,9 +2,9 @@
 use Rattle.std.specs.Prelude.{ℕ, ◌==◌, length, Result, IsSome}
 use Rattle.std.specs.Str.{bytes_eq}
 use Rattle.mls_wire.specs.Checks.{Passed, require, ◌>>◌}
-use Rattle.mls_group.specs.declared.update_path.UpdatePath.{UpdatePath}
-use Rattle.mls_term.specs.Term.{Term, leaf_of}
-use Rattle.mls_term.specs.Way.{path_length}
+use Rattle.mls_types.specs.declared.update_path.UpdatePath.{UpdatePath}
+use Rattle.mls_tree_model.specs.Term.{Term, leaf_of}
+use Rattle.mls_tree_model.specs.Way.{path_length}
 use Rattle.mls_model.specs.Commit.{Edits, cipher_counts, due_counts}
 
 -- where leaf i was a member, it is one still

@@ -5,10 +5,10 @@ ghost use Rattle.mls_commit.specs.Changed.{change_of};
 ghost use Rattle.mls_model.specs.Commit.{public_with};
 ghost use Rattle.mls_model.specs.Public as model;
 ghost use Rattle.mls_public_group.specs.Short.{HasLeavesBelow};
-ghost use Rattle.mls_term.specs.Hashes.{tree_hash};
+ghost use Rattle.mls_tree_model.specs.Hashes.{tree_hash};
 ghost use Rattle.mls_tree.specs.Tree.{term};
 
-use mls_group::GroupContext;
+use mls_types::GroupContext;
 use mls_leaf::Bytes;
 use mls_public_group::{Edits, PublicGroup, provisional_context};
 use mls_schedule::Transcript;

@@ -16,7 +16,7 @@ ghost use Rattle.mls_commit.specs.Staying.{Stays};
 use crate::error::CommitError;
 use crate::path::with_path;
 use crate::received::Received;
-use mls_group::UpdatePath;
+use mls_types::UpdatePath;
 use mls_public_group::{Edits, NextTree, PublicGroup, Used, is_path_required};
 use mls_suite::Suite;
 use mls_types::Commit;

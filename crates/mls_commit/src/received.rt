@@ -8,7 +8,7 @@ ghost use Rattle.mls_public_group.specs.NextTree.{next_term, is_merged, Follows}
 ghost use Rattle.mls_public_group.specs.Short.{HasLeavesBelow};
 
 use crate::change::confirmed_context;
-use mls_group::GroupContext;
+use mls_types::GroupContext;
 use mls_public_group::{Edits, NextTree, PublicGroup, provisional_context};
 use mls_schedule::Transcript;
 use std::alloc::{AllocError, Global};

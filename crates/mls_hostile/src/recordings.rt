@@ -2,7 +2,7 @@
 //! definitions and written by hand before that.
 
 use anyhow::{Result, bail};
-use mls_replay::replay;
+use mls_cli_replay::replay;
 use mls_suite::Glass;
 use std::alloc::Global;
 use std::fs;

@@ -5,10 +5,10 @@ use Rattle.mls_wire.specs.Checks.{passed}
 use Rattle.mls_wire.specs.Reading.{◌>>=◌}
 use Rattle.mls_leaf.specs.declared.leaf.LeafNode.{LeafNode}
 use Rattle.mls_suite.specs.Crypto.{Crypto}
-use Rattle.mls_term.specs.Term.{Term}
-use Rattle.mls_paths.specs.Join.{take_answer, has_due}
-use Rattle.mls_paths.specs.Keys.{Keys, PrivateKeys, all_keys}
-use Rattle.mls_paths.specs.Make.{Climb, climb_to}
+use Rattle.mls_tree_model.specs.Term.{Term}
+use Rattle.mls_treekem_model.specs.Join.{take_answer, has_due}
+use Rattle.mls_treekem_model.specs.Keys.{Keys, PrivateKeys, all_keys}
+use Rattle.mls_treekem_model.specs.Make.{Climb, climb_to}
 use Rattle.mls_model.specs.Candidate.{Candidate}
 use Rattle.mls_model.specs.Opening.{Opened}
 use Rattle.mls_model.specs.Join.{joined_tree, signer_checks, place_of, joined_keys, member_of}

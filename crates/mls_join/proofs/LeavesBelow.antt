@@ -11,10 +11,10 @@ use Rattle.mls_leaf.specs.declared.leaf.LeafNode.{LeafNode}
 use Rattle.mls_leaf.specs.declared.node.Node.{Node}
 use Rattle.mls_leaf.specs.declared.node.Node.TheVariants.{Leaf as in_leaf, Parent as in_parent}
 use Rattle.mls_checks.specs.Short.{IsShort}
-use Rattle.mls_group.specs.GroupInfo.{ratchet_tree}
+use Rattle.mls_types.specs.GroupInfo.{ratchet_tree}
 use Rattle.mls_treemath.specs.Paths.{nodes_in}
-use Rattle.mls_term.specs.Term.{Term, leaf_at, leaf_of, width}
-use Rattle.mls_term.specs.Arrays.{leaf_in, term_of, padded, height_for, sent_term, from_nodes}
+use Rattle.mls_tree_model.specs.Term.{Term, leaf_at, leaf_of, width}
+use Rattle.mls_tree_model.specs.Arrays.{leaf_in, term_of, padded, height_for, sent_term, from_nodes}
 use Rattle.mls_tree.specs.Tree.{max_leaves}
 use Rattle.mls_tree.specs.Short.{HasShortLeaves}
 use Rattle.mls_tree.proofs.Cells.{Cells, of_front, of_back, of_padded}

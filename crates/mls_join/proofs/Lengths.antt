@@ -7,10 +7,10 @@ use Rattle.mls_wire.specs.Format.{Format}
 use Rattle.mls_leaf.specs.Faults.{Spells, whole}
 use Rattle.mls_leaf.specs.Limits.{input_limit}
 use Rattle.mls_leaf.specs.declared.node.Node.{Node}
-use Rattle.mls_group.specs.GroupContext.{group_context}
-use Rattle.mls_group.specs.GroupInfo.{group_info, group_info_extensions, group_info_tbs, GroupInfoTbsFits, ratchet_tree}
-use Rattle.mls_group.specs.declared.group_context.GroupContext.{GroupContext}
-use Rattle.mls_group.specs.declared.group_info.GroupInfo.{GroupInfo}
+use Rattle.mls_types.specs.GroupContext.{group_context}
+use Rattle.mls_types.specs.GroupInfo.{group_info, group_info_extensions, group_info_tbs, GroupInfoTbsFits, ratchet_tree}
+use Rattle.mls_types.specs.declared.group_context.GroupContext.{GroupContext}
+use Rattle.mls_types.specs.declared.group_info.GroupInfo.{GroupInfo}
 use Rattle.mls_public_group.specs.Short.{IsBelow, IsShortContext}
 
 abbrev too_long : {V : Type 0} → Result V ℕ

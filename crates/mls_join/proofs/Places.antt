@@ -8,9 +8,9 @@ use Rattle.std.proofs.lemmas.Slice.Eq.{bytes_eq-Decides}
 use Rattle.mls_leaf.specs.Leaf.{leaf_node}
 use Rattle.mls_leaf.proofs.WholeLaws.{spells_same}
 use Rattle.mls_leaf.specs.declared.leaf.LeafNode.{LeafNode}
-use Rattle.mls_term.specs.Term.{Term, Leaf, Branch, width, leaf_at, leaf_of}
-use Rattle.mls_term.specs.Keys.{members}
-use Rattle.mls_term.proofs.Equations.{leaf_at_leaf, leaf_at_left, leaf_at_right, leaf_of_in, members_blank_leaf, members_leaf, members_branch}
+use Rattle.mls_tree_model.specs.Term.{Term, Leaf, Branch, width, leaf_at, leaf_of}
+use Rattle.mls_tree_model.specs.Keys.{members}
+use Rattle.mls_tree_model.proofs.Equations.{leaf_at_leaf, leaf_at_left, leaf_at_right, leaf_of_in, members_blank_leaf, members_leaf, members_branch}
 use Rattle.mls_model.specs.Join.{is_same_leaf, place_of}
 use Rattle.mls_join.specs.Stages.{is_at}
 

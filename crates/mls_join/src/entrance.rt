@@ -3,8 +3,8 @@
 ghost use Rattle.std.specs.Prelude.{◌^◌};
 ghost use Rattle.mls_wire.specs.Checks.{Answers};
 ghost use Rattle.mls_leaf.specs.KeyPackage.{key_package};
-ghost use Rattle.mls_group.specs.GroupContext.{group_context};
-ghost use Rattle.mls_group.specs.GroupInfo.{group_info};
+ghost use Rattle.mls_types.specs.GroupContext.{group_context};
+ghost use Rattle.mls_types.specs.GroupInfo.{group_info};
 ghost use Rattle.mls_tree.specs.Refusals.{RefusesOutright};
 ghost use Rattle.mls_tree.specs.Tree.{term};
 ghost use Rattle.mls_public_group.specs.Short.{IsBelow, HasLeavesBelow};

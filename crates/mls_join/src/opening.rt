@@ -6,7 +6,7 @@ ghost use Rattle.mls_wire.specs.Checks.{Answers};
 ghost use Rattle.mls_leaf.specs.Faults.{whole};
 ghost use Rattle.mls_leaf.specs.KeyPackage.{key_package};
 ghost use Rattle.mls_leaf.specs.Limits.{input_limit};
-ghost use Rattle.mls_group.specs.GroupInfo.{group_info};
+ghost use Rattle.mls_types.specs.GroupInfo.{group_info};
 ghost use Rattle.mls_tree.specs.Refusals.{RefusesOutright};
 ghost use Rattle.mls_public_group.specs.Short.{IsBelow};
 ghost use Rattle.mls_model.specs.Messages.{are_bytes};

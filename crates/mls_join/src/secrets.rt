@@ -4,7 +4,7 @@ ghost use Rattle.std.specs.Prelude.{◌<◌, ◌^◌, length};
 ghost use Rattle.mls_wire.specs.Checks.{Answers, AnswersOutright};
 ghost use Rattle.mls_leaf.specs.Faults.{whole};
 ghost use Rattle.mls_leaf.specs.Limits.{input_limit};
-ghost use Rattle.mls_group.specs.Welcome.{group_secrets};
+ghost use Rattle.mls_types.specs.Welcome.{group_secrets};
 ghost use Rattle.mls_model.specs.Opening.{or_fault, opened_secrets};
 ghost use Rattle.mls_join.specs.Faults.{number_of};
 ghost use Rattle.mls_join.specs.Parts.{secrets_by};

@@ -2,7 +2,7 @@
 
 ghost use Rattle.std.specs.Prelude.{◌≡◌, ◌<◌, ◌^◌, length, IfOk, MatchResult};
 ghost use Rattle.mls_wire.specs.Checks.{Answers, passed};
-ghost use Rattle.mls_group.specs.GroupInfo.{group_info, group_info_tbs};
+ghost use Rattle.mls_types.specs.GroupInfo.{group_info, group_info_tbs};
 ghost use Rattle.mls_tree.specs.Tree.{term};
 ghost use Rattle.mls_public_group.specs.Short.{IsBelow};
 ghost use Rattle.mls_model.specs.Join.{signer_checks};

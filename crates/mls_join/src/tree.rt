@@ -2,8 +2,8 @@
 
 ghost use Rattle.std.specs.Prelude.{◌≡◌, ◌^◌, IfOk};
 ghost use Rattle.mls_wire.specs.Checks.{Answers};
-ghost use Rattle.mls_group.specs.GroupInfo.{group_info, ratchet_tree};
-ghost use Rattle.mls_term.specs.Arrays.{from_nodes};
+ghost use Rattle.mls_types.specs.GroupInfo.{group_info, ratchet_tree};
+ghost use Rattle.mls_tree_model.specs.Arrays.{from_nodes};
 ghost use Rattle.mls_tree.specs.Tree.{term, max_leaves};
 ghost use Rattle.mls_public_group.specs.Short.{IsBelow, HasLeavesBelow};
 ghost use Rattle.mls_model.specs.Join.{joined_tree};

@@ -3,22 +3,22 @@ use Rattle.std.proofs.Common.{◌≡◌, ℕ, ◌||◌, not, Bool, true, false, 
 use Rattle.mls_wire.proofs.CheckLaws.{bind_ok, then_ok}
 use Rattle.mls_wire.specs.Laws.{ok_is}
 use Rattle.mls_leaf.specs.declared.leaf.LeafNode.{LeafNode}
-use Rattle.mls_group.specs.GroupContext.{group_context}
-use Rattle.mls_group.specs.declared.update_path.UpdatePath.{UpdatePath}
+use Rattle.mls_types.specs.GroupContext.{group_context}
+use Rattle.mls_types.specs.declared.update_path.UpdatePath.{UpdatePath}
 use Rattle.mls_types.specs.Content.{framed_content}
 use Rattle.mls_types.specs.declared.commit.Commit.{Commit}
 use Rattle.mls_types.specs.declared.content.FramedContent.{FramedContent}
 use Rattle.mls_suite.specs.Crypto.{Crypto}
 use Rattle.mls_checks.specs.Checks.{replaced_checks}
 use Rattle.mls_checks.specs.declared.checks.Source.TheVariants as replaced_for
-use Rattle.mls_term.specs.Term.{Term}
-use Rattle.mls_term.specs.Way.{way}
+use Rattle.mls_tree_model.specs.Term.{Term}
+use Rattle.mls_tree_model.specs.Way.{way}
 use Rattle.mls_tree.specs.Tree.{member_at}
 use Rattle.mls_tree.specs.Paths.{merge_answer}
-use Rattle.mls_paths.specs.Make.{Climb, climb_make}
-use Rattle.mls_paths.specs.Seal.{sealed_path}
-use Rattle.mls_paths.specs.Seeds.{path_seed, seal_seed}
-use Rattle.mls_paths.specs.Whole.{keys_of_path}
+use Rattle.mls_treekem_model.specs.Make.{Climb, climb_make}
+use Rattle.mls_treekem_model.specs.Seal.{sealed_path}
+use Rattle.mls_treekem_model.specs.Seeds.{path_seed, seal_seed}
+use Rattle.mls_treekem_model.specs.Whole.{keys_of_path}
 use Rattle.mls_model.specs.Public.{Used, provisional_context}
 use Rattle.mls_model.specs.Proposals.{is_path_required}
 use Rattle.mls_model.specs.Candidate.{leaf_key_of}

@@ -8,8 +8,8 @@ use Rattle.mls_wire.specs.Laws.{ok_is}
 use Rattle.mls_leaf.specs.Leaf.{leaf_node}
 use Rattle.mls_leaf.specs.Proposal.{proposal}
 use Rattle.mls_leaf.specs.declared.proposal.Proposal as proposals
-use Rattle.mls_group.specs.UpdatePath.{update_path}
-use Rattle.mls_group.specs.declared.update_path.UpdatePath.{UpdatePath}
+use Rattle.mls_types.specs.UpdatePath.{update_path}
+use Rattle.mls_types.specs.declared.update_path.UpdatePath.{UpdatePath}
 use Rattle.mls_types.specs.Commit.{proposal_or_ref, commit}
 use Rattle.mls_types.specs.Content.{content}
 use Rattle.mls_types.specs.declared.commit.Commit.{Commit}
@@ -20,8 +20,8 @@ use Rattle.mls_model.specs.Public.{Used}
 use Rattle.mls_model.specs.Member.{Kept, used_one, used_by}
 use Rattle.mls_public_group.specs.Short.{IsBelow}
 use Rattle.mls_message.specs.Sending.{FitsIfShort}
-use Rattle.mls_claims.specs.Fit.{LeafFitsIfShort}
-use Rattle.mls_claims.proofs.Fit.{short_first, short_last, short_text, commit_fits}
+use Rattle.mls_theorems.specs.Fit.{LeafFitsIfShort}
+use Rattle.mls_theorems.proofs.Fit.{short_first, short_last, short_text, commit_fits}
 use Rattle.mls_make.specs.Parts.{AreShortUsed}
 
 -- ---- its path

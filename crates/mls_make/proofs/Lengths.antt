@@ -15,10 +15,10 @@ use Rattle.mls_leaf.specs.Nonempty.{header_nonempty}
 use Rattle.mls_leaf.specs.Proposal.{proposal}
 use Rattle.mls_leaf.specs.declared.key_package.KeyPackage.{KeyPackage}
 use Rattle.mls_leaf.specs.declared.proposal.Proposal as proposals
-use Rattle.mls_group.specs.UpdatePath.{hpke_ciphertext, update_path_node, update_path}
-use Rattle.mls_group.specs.declared.update_path.HpkeCiphertext.{HpkeCiphertext}
-use Rattle.mls_group.specs.declared.update_path.UpdatePath.{UpdatePath}
-use Rattle.mls_group.specs.declared.update_path.UpdatePathNode.{UpdatePathNode}
+use Rattle.mls_types.specs.UpdatePath.{hpke_ciphertext, update_path_node, update_path}
+use Rattle.mls_types.specs.declared.update_path.HpkeCiphertext.{HpkeCiphertext}
+use Rattle.mls_types.specs.declared.update_path.UpdatePath.{UpdatePath}
+use Rattle.mls_types.specs.declared.update_path.UpdatePathNode.{UpdatePathNode}
 use Rattle.mls_types.specs.Commit.{proposal_or_ref, proposal_or_ref_nonempty, commit}
 use Rattle.mls_types.specs.Content.{sender, content, framed_content}
 use Rattle.mls_types.specs.declared.commit.Commit.{Commit}
@@ -27,8 +27,8 @@ use Rattle.mls_types.specs.declared.commit.ProposalOrRef.TheVariants as listed
 use Rattle.mls_types.specs.declared.content.Content.TheVariants as says
 use Rattle.mls_types.specs.declared.content.FramedContent.{FramedContent}
 use Rattle.mls_suite.specs.Crypto.{Crypto}
-use Rattle.mls_term.specs.Term.{Term}
-use Rattle.mls_paths.specs.Seeds.{seals_in}
+use Rattle.mls_tree_model.specs.Term.{Term}
+use Rattle.mls_treekem_model.specs.Seeds.{seals_in}
 use Rattle.mls_model.specs.Public.{PublicState, Used}
 use Rattle.mls_model.specs.Proposals.{add_in, adds}
 use Rattle.mls_model.specs.Commit.{Edits, edited, merged}
@@ -39,7 +39,7 @@ use Rattle.mls_public_group.specs.Edited.{applied}
 use Rattle.mls_public_group.proofs.Leaves.{below_applied}
 use Rattle.mls_public_group.specs.Short.{IsBelow, AreBelow, HasLeavesBelow}
 use Rattle.mls_commit.proofs.Below.{below_merged}
-use Rattle.mls_laws.proofs.Inversion.{edited_steps}
+use Rattle.mls_theorems.proofs.Inversion.{edited_steps}
 use Rattle.mls_make.specs.Parts.{IsShortUsed, AreShortUsed}
 
 -- ---- lists

@@ -1,10 +1,10 @@
 -- The path, or none, that a member makes for a commit.
 use Rattle.std.proofs.Common.{◌≡◌, None, sym, ap, subst, ◌∙◌}
 use Rattle.std.specs.Prelude.{replicate}
-use Rattle.mls_term.specs.Term.{Term}
-use Rattle.mls_paths.specs.Height.{HasFollowed}
-use Rattle.mls_paths.specs.Keys.{Keys, PrivateKeys, all_keys}
-use Rattle.mls_laws.proofs.Exact.{has_followed}
+use Rattle.mls_tree_model.specs.Term.{Term}
+use Rattle.mls_treekem_model.specs.Height.{HasFollowed}
+use Rattle.mls_treekem_model.specs.Keys.{Keys, PrivateKeys, all_keys}
+use Rattle.mls_theorems.proofs.Exact.{has_followed}
 use Rattle.mls_model.specs.Commit.{Edits}
 use Rattle.mls_model.specs.Make.{MadePath, no_path}
 use Rattle.mls_model.specs.Member.{Member}

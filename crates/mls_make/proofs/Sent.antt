@@ -7,14 +7,14 @@ use Rattle.mls_wire.specs.Checks.{given}
 use Rattle.mls_wire.proofs.CheckLaws.{bind_ok}
 use Rattle.mls_leaf.specs.declared.leaf.LeafNode.{LeafNode}
 use Rattle.mls_leaf.specs.declared.key_package.KeyPackage.{KeyPackage}
-use Rattle.mls_group.specs.declared.update_path.UpdatePath.{UpdatePath}
+use Rattle.mls_types.specs.declared.update_path.UpdatePath.{UpdatePath}
 use Rattle.mls_suite.specs.Crypto.{Crypto}
-use Rattle.mls_term.specs.Laws.{IsIn}
-use Rattle.mls_term.proofs.TakenLaws.{taken_at, some_at}
-use Rattle.mls_term.specs.Term.{Term, leaf_of}
-use Rattle.mls_term.specs.Way.{path_length}
+use Rattle.mls_tree_model.specs.Laws.{IsIn}
+use Rattle.mls_tree_model.proofs.TakenLaws.{taken_at, some_at}
+use Rattle.mls_tree_model.specs.Term.{Term, leaf_of}
+use Rattle.mls_tree_model.specs.Way.{path_length}
 use Rattle.mls_tree.specs.Tree.{member_at}
-use Rattle.mls_paths.specs.Seeds.{path_seed}
+use Rattle.mls_treekem_model.specs.Seeds.{path_seed}
 use Rattle.mls_treekem.specs.Secrets.{AreOfChain, IsSentOf}
 use Rattle.mls_treekem.specs.declared.secrets.PathSecrets.{PathSecrets}
 use Rattle.mls_model.specs.Public.{Used}
@@ -23,9 +23,9 @@ use Rattle.mls_model.specs.Commit.{Edits, edited}
 use Rattle.mls_model.specs.Member.{Member}
 use Rattle.mls_model.specs.Make.{MadePath, new_path, no_path, path_secret_for}
 use Rattle.mls_model.specs.Welcome.{secrets_with}
-use Rattle.mls_laws.proofs.Joining.{edits_add}
-use Rattle.mls_laws.proofs.Staying.{edits_follow_committer}
-use Rattle.mls_laws.specs.Laws.{IsJoiner}
+use Rattle.mls_theorems.proofs.Joining.{edits_add}
+use Rattle.mls_theorems.proofs.Staying.{edits_follow_committer}
+use Rattle.mls_theorems.specs.CommitLaws.{IsJoiner}
 use Rattle.mls_welcome.specs.Joiners.{place_of, AreSecretsOf}
 use Rattle.mls_welcome.specs.Sent.{AreSentTo}
 use Rattle.mls_welcome.specs.declared.making.Joiner.{Joiner}

@@ -3,7 +3,7 @@ use Rattle.std.proofs.Common.{◌≡◌, ℕ, ◌-◌, ◌<◌, ◌^◌, nat_lt,
 use Rattle.mls_wire.specs.Checks.{Passed, require, ◌>>◌}
 use Rattle.mls_wire.specs.Reading.{◌>>=◌}
 use Rattle.mls_leaf.specs.declared.key_package.KeyPackage.{KeyPackage}
-use Rattle.mls_group.specs.declared.update_path.UpdatePath.{UpdatePath}
+use Rattle.mls_types.specs.declared.update_path.UpdatePath.{UpdatePath}
 use Rattle.mls_types.specs.Content.{framed_content}
 use Rattle.mls_types.specs.SignedParts.{signed_with}
 use Rattle.mls_types.specs.declared.commit.Commit.{Commit}
@@ -11,8 +11,8 @@ use Rattle.mls_types.specs.declared.commit.ProposalOrRef.{ProposalOrRef}
 use Rattle.mls_types.specs.declared.content.Content.TheVariants as says
 use Rattle.mls_types.specs.declared.content.FramedContent.{FramedContent}
 use Rattle.mls_suite.specs.Crypto.{Crypto}
-use Rattle.mls_term.specs.Term.{Term}
-use Rattle.mls_paths.specs.Seeds.{seal_seed}
+use Rattle.mls_tree_model.specs.Term.{Term}
+use Rattle.mls_treekem_model.specs.Seeds.{seal_seed}
 use Rattle.mls_model.specs.Public.{Used}
 use Rattle.mls_model.specs.Proposals.{adds}
 use Rattle.mls_model.specs.Commit.{Edits, Change, edited, merged, public_with}
@@ -24,7 +24,7 @@ use Rattle.mls_commit.specs.Changed.{change_of}
 use Rattle.mls_message.specs.Sending.{limited}
 use Rattle.mls_message.specs.Speaks.{Speaks}
 use Rattle.mls_message.specs.declared.speaker.Speaker.{Speaker}
-use Rattle.mls_claims.specs.Makes.{joiner_of, epoch_of, tag_of}
+use Rattle.mls_theorems.specs.Makes.{joiner_of, epoch_of, tag_of}
 use Rattle.mls_make.proofs.Bodies.{body_is, path_due}
 use Rattle.mls_make.specs.Making.{path_made, made_of, made_with, made_by}
 

@@ -2,7 +2,7 @@
 use Rattle.std.specs.Prelude.{ℕ, Bool, ◌||◌, if◌then◌else◌, List, zip, Option, Result, Ok}
 use Rattle.mls_wire.specs.Checks.{◌>>◌}
 use Rattle.mls_wire.specs.Reading.{◌>>=◌}
-use Rattle.mls_group.specs.GroupContext.{group_context}
+use Rattle.mls_types.specs.GroupContext.{group_context}
 use Rattle.mls_types.specs.SignedParts.{signed_with}
 use Rattle.mls_types.specs.declared.commit.Commit.{Commit}
 use Rattle.mls_types.specs.declared.commit.ProposalOrRef.{ProposalOrRef}

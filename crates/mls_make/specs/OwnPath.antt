@@ -1,11 +1,11 @@
 -- What a member has of the path that it makes.
 use Rattle.std.specs.Prelude.{◌≡◌, ℕ, Bool, List, Option, Some, None, Ok}
-use Rattle.mls_group.specs.declared.update_path.UpdatePath.{UpdatePath}
+use Rattle.mls_types.specs.declared.update_path.UpdatePath.{UpdatePath}
 use Rattle.mls_suite.specs.Crypto.{Crypto}
-use Rattle.mls_term.specs.Way.{path_length}
+use Rattle.mls_tree_model.specs.Way.{path_length}
 use Rattle.mls_tree.specs.Tree.{term}
-use Rattle.mls_paths.specs.Keys.{PrivateKeys, all_keys}
-use Rattle.mls_paths.specs.Seeds.{path_seed}
+use Rattle.mls_treekem_model.specs.Keys.{PrivateKeys, all_keys}
+use Rattle.mls_treekem_model.specs.Seeds.{path_seed}
 use Rattle.mls_treekem.specs.Secrets.{AreOfChain}
 use Rattle.mls_treekem.specs.declared.secrets.PathSecrets.{PathSecrets}
 use Rattle.mls_model.specs.Public.{Used}

@@ -16,7 +16,7 @@ ghost use Rattle.mls_make.specs.Making.{path_made};
 ghost use Rattle.mls_make.specs.OwnPath.{made_path, HaveSecrets};
 
 use crate::error::MakeError;
-use mls_group::UpdatePath;
+use mls_types::UpdatePath;
 use mls_kdf::{Secret, Seed};
 use mls_message::Speaker;
 use mls_public_group::{Edits, Used, is_path_required};

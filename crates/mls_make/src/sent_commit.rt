@@ -4,7 +4,7 @@ ghost use Rattle.std.specs.Prelude.{◌≡◌, ◌+◌, ◌<◌, ◌≤◌, ◌^
 ghost use Rattle.mls_wire.specs.Checks.{Answers};
 ghost use Rattle.mls_leaf.specs.Faults.{number_of as number_of_leaf};
 ghost use Rattle.mls_leaf.specs.Limits.{input_limit};
-ghost use Rattle.mls_group.specs.GroupContext.{group_context};
+ghost use Rattle.mls_types.specs.GroupContext.{group_context};
 ghost use Rattle.mls_types.specs.Commit.{commit as commit_format};
 ghost use Rattle.mls_types.specs.Content.{content as content_format, framed_content};
 ghost use Rattle.mls_types.specs.SignedParts.{signed_with};

@@ -19,7 +19,7 @@ use crate::error::MakeError;
 use crate::new_commit::NewCommit;
 use crate::sent_commit::SentCommit;
 use mls_commit::Change;
-use mls_group::UpdatePath;
+use mls_types::UpdatePath;
 use mls_kdf::{Secret, Seed};
 use mls_message::Speaker;
 use mls_public_group::{PublicGroup, Used};

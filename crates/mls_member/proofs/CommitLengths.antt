@@ -9,8 +9,8 @@ use Rattle.mls_leaf.specs.Faults.{Spells}
 use Rattle.mls_leaf.specs.Limits.{input_limit}
 use Rattle.mls_leaf.specs.Leaf.{leaf_node}
 use Rattle.mls_leaf.specs.Proposal.{proposal as proposal_format}
-use Rattle.mls_group.specs.declared.update_path.UpdatePath.{UpdatePath}
-use Rattle.mls_group.specs.UpdatePath.{update_path}
+use Rattle.mls_types.specs.declared.update_path.UpdatePath.{UpdatePath}
+use Rattle.mls_types.specs.UpdatePath.{update_path}
 use Rattle.mls_types.specs.Commit.{proposal_or_ref, proposal_or_ref_nonempty}
 use Rattle.mls_types.specs.declared.commit.ProposalOrRef.{ProposalOrRef}
 use Rattle.mls_types.specs.declared.commit.ProposalOrRef.TheVariants as listed

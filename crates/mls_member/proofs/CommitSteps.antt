@@ -6,7 +6,7 @@ use Rattle.std.proofs.lemmas.Bool.{ltb-true}
 use Rattle.mls_wire.specs.Combine.{vector, optional}
 use Rattle.mls_leaf.specs.Faults.{Spells}
 use Rattle.mls_leaf.proofs.WholeLaws.{spells_same}
-use Rattle.mls_group.specs.UpdatePath.{update_path}
+use Rattle.mls_types.specs.UpdatePath.{update_path}
 use Rattle.mls_types.specs.Commit.{proposal_or_ref, proposal_or_ref_nonempty}
 use Rattle.mls_types.specs.declared.signed.SignedBody.{SignedBody}
 use Rattle.mls_types.specs.declared.signed.SignedBody.TheVariants as body_of
@@ -15,16 +15,16 @@ use denote.Ref.{Bor}
 use Rattle.mls_wire.specs.Checks.{DoesAs}
 use Rattle.mls_wire.specs.Reading.{◌>>=◌}
 use Rattle.std.specs.Str.{bytes_eq}
-use Rattle.mls_group.specs.GroupContext.{group_context}
+use Rattle.mls_types.specs.GroupContext.{group_context}
 use Rattle.mls_schedule.specs.Epoch.{init_secret, next_epoch_secret, confirmation_tag}
 use Rattle.mls_suite.specs.Crypto.{Crypto}
-use Rattle.mls_term.specs.Sets.{has}
-use Rattle.mls_term.specs.Term.{Term}
-use Rattle.mls_paths.specs.Height.{HasFollowed}
-use Rattle.mls_group.specs.declared.update_path.UpdatePath.{UpdatePath}
+use Rattle.mls_tree_model.specs.Sets.{has}
+use Rattle.mls_tree_model.specs.Term.{Term}
+use Rattle.mls_treekem_model.specs.Height.{HasFollowed}
+use Rattle.mls_types.specs.declared.update_path.UpdatePath.{UpdatePath}
 use Rattle.mls_types.specs.declared.content.FramedContent.{FramedContent}
-use Rattle.mls_paths.specs.Keys.{Keys, PrivateKeys}
-use Rattle.mls_paths.specs.Make.{climb_to}
+use Rattle.mls_treekem_model.specs.Keys.{Keys, PrivateKeys}
+use Rattle.mls_treekem_model.specs.Make.{climb_to}
 use Rattle.mls_types.specs.SignedParts.{framed}
 use Rattle.mls_types.specs.declared.commit.Commit.{Commit}
 use Rattle.mls_types.specs.declared.commit.ProposalOrRef.{ProposalOrRef}

@@ -6,18 +6,18 @@ use Rattle.mls_wire.specs.Reading.{uint, header, opaque}
 use Rattle.mls_leaf.specs.Leaf.{leaf_node}
 use Rattle.mls_leaf.specs.Limits.{input_limit}
 use Rattle.mls_leaf.specs.declared.leaf.LeafNode.{LeafNode}
-use Rattle.mls_group.specs.GroupContext.{group_context}
-use Rattle.mls_group.specs.declared.group_context.GroupContext.{GroupContext}
+use Rattle.mls_types.specs.GroupContext.{group_context}
+use Rattle.mls_types.specs.declared.group_context.GroupContext.{GroupContext}
 use Rattle.mls_suite.specs.Crypto.{Crypto}
-use Rattle.mls_term.proofs.LengthLaws.{length-tree_hash}
-use Rattle.mls_term.specs.Term.{Term, Leaf, width, leaf_at, leaf_of}
+use Rattle.mls_tree_model.proofs.LengthLaws.{length-tree_hash}
+use Rattle.mls_tree_model.specs.Term.{Term, Leaf, width, leaf_at, leaf_of}
 use Rattle.mls_public_group.specs.Short.{IsBelow, HasLeavesBelow, IsShortContext}
 use Rattle.mls_wire.specs.Checks.{Passed, passed, ◌>>◌}
 use Rattle.mls_wire.specs.Reading.{◌>>=◌}
 use Rattle.mls_schedule.specs.Epoch.{confirmation_tag}
 use Rattle.mls_schedule.specs.Transcript.{interim_hash}
 use Rattle.mls_model.specs.Candidate.{Candidate, first_context, created}
-use Rattle.mls_paths.specs.Keys.{Keys, PrivateKeys, all_keys}
+use Rattle.mls_treekem_model.specs.Keys.{Keys, PrivateKeys, all_keys}
 use Rattle.mls_model.specs.Member.{Member, Kept}
 use Rattle.mls_model.specs.Public.{PublicState}
 use Rattle.mls_member.specs.First.{first_public}

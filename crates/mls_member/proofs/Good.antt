@@ -27,15 +27,15 @@ use Rattle.mls_model.specs.Member.{Kept, Pending, Member, used_one, used_by, adv
 use Rattle.mls_model.specs.Proposals.{proposal_checks}
 use Rattle.mls_model.specs.Propose.{proposed, proposed_add, updated_leaf, proposed_update, proposed_remove}
 use Rattle.mls_model.specs.Public.{PublicState, Used}
-use Rattle.mls_paths.specs.Keys.{PrivateKeys, all_keys}
+use Rattle.mls_treekem_model.specs.Keys.{PrivateKeys, all_keys}
 use Rattle.mls_model.specs.Verdict.{own_pending, received, verdict}
-use Rattle.mls_claims.proofs.Sharing.{commits_reach}
-use Rattle.mls_claims.proofs.Committed.{created_good}
-use Rattle.mls_claims.proofs.Delivered.{delivered_good}
-use Rattle.mls_claims.proofs.Entered.{joined_good}
-use Rattle.mls_claims.proofs.Proposing.{added_good, updated_good, removed_good}
-use Rattle.mls_claims.specs.Spelled.{FullFits}
-use Rattle.mls_claims.proofs.Still.{good_still}
+use Rattle.mls_theorems.proofs.Sharing.{commits_reach}
+use Rattle.mls_theorems.proofs.Committed.{created_good}
+use Rattle.mls_theorems.proofs.Delivered.{delivered_good}
+use Rattle.mls_theorems.proofs.Entered.{joined_good}
+use Rattle.mls_theorems.proofs.Proposing.{added_good, updated_good, removed_good}
+use Rattle.mls_theorems.specs.Spelled.{FullFits}
+use Rattle.mls_theorems.proofs.Still.{good_still}
 use Rattle.mls_make.specs.Parts.{AreShortUsed}
 use Rattle.mls_member.specs.declared.commit.Made.{Made}
 use Rattle.mls_member.specs.declared.error.Refusal.{Refusal}

@@ -24,7 +24,7 @@ use Rattle.mls_types.specs.declared.signed.SignedContent.{SignedContent}
 use Rattle.mls_checks.specs.Short.{IsShort}
 use Rattle.mls_suite.specs.Crypto.{Crypto, Lawful}
 use Rattle.mls_suite.proofs.LabelLaws.{signs_short}
-use Rattle.mls_term.specs.Term.{leaf_of}
+use Rattle.mls_tree_model.specs.Term.{leaf_of}
 use Rattle.mls_public_group.proofs.Lengths.{opaque_most}
 use Rattle.mls_public_group.proofs.Limits.{length_within}
 use Rattle.mls_public_group.specs.Short.{IsBelow}

@@ -1,8 +1,8 @@
 -- What the sender of a shown message signed is short.
 use Rattle.std.proofs.Common.{◌≡◌, ℕ, ◌<◌, ◌≤◌, ◌^◌, List, length, sym, subst, ◌∙◌}
 use Rattle.mls_leaf.specs.Limits.{input_limit}
-use Rattle.mls_group.specs.GroupContext.{group_context}
-use Rattle.mls_group.specs.declared.group_context.GroupContext.{GroupContext}
+use Rattle.mls_types.specs.GroupContext.{group_context}
+use Rattle.mls_types.specs.declared.group_context.GroupContext.{GroupContext}
 use Rattle.mls_types.specs.Content.{framed_content}
 use Rattle.mls_types.specs.SignedParts.{framed}
 use Rattle.mls_types.specs.Signing.{framed_content_tbs}

@@ -4,7 +4,7 @@ use Rattle.mls_wire.specs.Checks.{Passed, require, given, ◌>>◌}
 use Rattle.mls_wire.specs.Reading.{◌>>=◌}
 use Rattle.mls_leaf.specs.declared.leaf.LeafNode.{LeafNode}
 use Rattle.mls_suite.specs.Crypto.{Crypto}
-use Rattle.mls_term.specs.Term.{leaf_of}
+use Rattle.mls_tree_model.specs.Term.{leaf_of}
 use Rattle.mls_types.specs.declared.public_message.PublicMessage.{PublicMessage}
 use Rattle.mls_model.specs.Member.{Member}
 use Rattle.mls_model.specs.Verdict.{framing_checks}

@@ -5,7 +5,7 @@ use Rattle.std.proofs.lemmas.List.{append-nil, drop_all}
 use Rattle.mls_wire.specs.Reading.{◌>>=◌}
 use Rattle.mls_leaf.specs.Proposal.{proposal as proposal_format}
 use Rattle.mls_types.specs.declared.commit.ProposalOrRef.{ProposalOrRef}
-use Rattle.mls_term.specs.Sets.{has}
+use Rattle.mls_tree_model.specs.Sets.{has}
 use Rattle.mls_model.specs.Public.{Used}
 use Rattle.mls_model.specs.Member.{Kept, used_one, used_by, named_one, named, first_own_key, first_key}
 use Rattle.mls_model.specs.Proposals.{removed, remove_in}

@@ -2,9 +2,9 @@
 use Rattle.std.specs.Prelude.{ℕ, List, [], Some, Result, Ok}
 use Rattle.mls_wire.specs.Checks.{◌>>◌}
 use Rattle.mls_leaf.specs.declared.leaf.LeafNode.{LeafNode}
-use Rattle.mls_group.specs.GroupContext.{group_context}
+use Rattle.mls_types.specs.GroupContext.{group_context}
 use Rattle.mls_suite.specs.Crypto.{Crypto}
-use Rattle.mls_term.specs.Term.{Leaf}
+use Rattle.mls_tree_model.specs.Term.{Leaf}
 use Rattle.mls_schedule.specs.Epoch.{confirmation_tag}
 use Rattle.mls_schedule.specs.Transcript.{interim_hash}
 use Rattle.mls_model.specs.Candidate.{first_context}

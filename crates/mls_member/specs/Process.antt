@@ -9,7 +9,7 @@ use Rattle.mls_leaf.specs.Leaf.{leaf_node}
 use Rattle.mls_leaf.specs.Proposal.{proposal as proposal_format}
 use Rattle.mls_leaf.specs.declared.leaf.LeafNode.{LeafNode}
 use Rattle.mls_leaf.specs.declared.proposal.Proposal.{Proposal}
-use Rattle.mls_group.specs.GroupContext.{group_context}
+use Rattle.mls_types.specs.GroupContext.{group_context}
 use Rattle.mls_types.specs.declared.commit.Commit.{Commit}
 use Rattle.mls_types.specs.declared.commit.ProposalOrRef.{ProposalOrRef}
 use Rattle.mls_types.specs.declared.commit.ProposalOrRef.TheVariants as listed
@@ -20,8 +20,8 @@ use Rattle.mls_view.specs.declared.content.ContentView.TheVariants as view_of
 use Rattle.mls_view.specs.declared.public_message.PublicMessageView.{PublicMessageView}
 use Rattle.mls_view.specs.Shown.{ShowsPublic}
 use Rattle.mls_suite.specs.Crypto.{Crypto}
-use Rattle.mls_term.specs.Term.{leaf_of}
-use Rattle.mls_paths.specs.Keys.{PrivateKeys}
+use Rattle.mls_tree_model.specs.Term.{leaf_of}
+use Rattle.mls_treekem_model.specs.Keys.{PrivateKeys}
 use Rattle.mls_schedule.specs.Epoch.{init_secret, next_epoch_secret, confirmation_tag}
 use Rattle.mls_model.specs.declared.effect.Effect.{Effect}
 use Rattle.mls_model.specs.declared.effect.Effect.TheVariants.{Proposed, Advanced, Removed}

@@ -3,7 +3,7 @@
 ghost use Rattle.std.specs.Prelude.{◌≡◌, ◌+◌, ◌<◌, ◌≤◌, ◌^◌, true, false, None, Err, is_some, IsSome, IfOk, map};
 ghost use Rattle.std.specs.List.{AllByRecursion};
 ghost use Rattle.mls_wire.specs.Checks.{Answers, DoesAs};
-ghost use Rattle.mls_claims.specs.Spelled.{FullFits};
+ghost use Rattle.mls_theorems.specs.Spelled.{FullFits};
 ghost use Rattle.mls_make.specs.Parts.{made_as, AreShortUsed};
 ghost use Rattle.mls_model.specs.Agreement.{IsGoodMember};
 ghost use Rattle.mls_model.specs.Make.{listed_of, committed};

@@ -2,17 +2,17 @@
 
 ghost use Rattle.std.specs.Prelude.{◌≡◌, option_map, is_some, IfOk};
 ghost use Rattle.std.specs.Option.{option_copied};
-ghost use Rattle.mls_group.specs.GroupContext.{group_context};
-ghost use Rattle.mls_group.specs.GroupInfo.{ratchet_tree};
+ghost use Rattle.mls_types.specs.GroupContext.{group_context};
+ghost use Rattle.mls_types.specs.GroupInfo.{ratchet_tree};
 ghost use Rattle.mls_leaf.specs.Faults.{Encodes};
-ghost use Rattle.mls_term.specs.Arrays.{to_nodes};
-ghost use Rattle.mls_paths.specs.Height.{ArePairs};
+ghost use Rattle.mls_tree_model.specs.Arrays.{to_nodes};
+ghost use Rattle.mls_treekem_model.specs.Height.{ArePairs};
 ghost use Rattle.mls_model.specs.Agreement.{IsGoodMember};
 ghost use Rattle.mls_model.specs.Member as model;
 
 use crate::kept::{Kept, Pending};
 use crate::used::kept_under;
-use mls_group::RatchetTree;
+use mls_types::RatchetTree;
 use mls_kdf::Secret;
 use mls_leaf::{Codec, LeafError};
 use mls_public_group::PublicGroup;

@@ -8,7 +8,7 @@ ghost use Rattle.mls_leaf.specs.Proposal.{proposal as proposal_format};
 ghost use Rattle.mls_leaf.specs.declared.proposal.Proposal.TheVariants.{Update};
 ghost use Rattle.mls_checks.specs.Checks.{key_package_checks};
 ghost use Rattle.mls_checks.specs.Short.{IsShort};
-ghost use Rattle.mls_term.specs.Term.{leaf_of};
+ghost use Rattle.mls_tree_model.specs.Term.{leaf_of};
 ghost use Rattle.mls_tree.specs.Refusals.{RefusesOutright};
 ghost use Rattle.mls_public_group.specs.Faults.{number_of as number_of_group};
 ghost use Rattle.mls_public_group.specs.Short.{IsBelow};

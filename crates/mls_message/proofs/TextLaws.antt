@@ -6,8 +6,8 @@ use Rattle.std.proofs.Math.Seq.{take-append_seam, drop-append_seam}
 use Rattle.mls_wire.specs.Format.{IsBytes}
 use Rattle.mls_wire.specs.Reading.{uint, header, opaque}
 use Rattle.mls_kdf.specs.Lengths.{length-hmac}
-use Rattle.mls_group.specs.GroupContext.{group_context}
-use Rattle.mls_group.specs.declared.group_context.GroupContext.{GroupContext}
+use Rattle.mls_types.specs.GroupContext.{group_context}
+use Rattle.mls_types.specs.declared.group_context.GroupContext.{GroupContext}
 use Rattle.mls_types.specs.Content.{framed_content}
 use Rattle.mls_types.specs.Message.{mls_message}
 use Rattle.mls_types.specs.Reference.{proposal_reference}

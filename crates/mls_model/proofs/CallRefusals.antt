@@ -7,9 +7,9 @@ use Rattle.mls_leaf.specs.Limits.{input_limit}
 use Rattle.mls_leaf.specs.declared.key_package.KeyPackage.{KeyPackage}
 use Rattle.mls_leaf.specs.declared.proposal.Proposal.{Proposal}
 use Rattle.mls_leaf.specs.declared.proposal.Proposal.TheVariants as proposal
-use Rattle.mls_group.specs.GroupContext.{group_context}
-use Rattle.mls_group.specs.GroupInfo.{group_info}
-use Rattle.mls_group.specs.declared.group_info.GroupInfo.{GroupInfo}
+use Rattle.mls_types.specs.GroupContext.{group_context}
+use Rattle.mls_types.specs.GroupInfo.{group_info}
+use Rattle.mls_types.specs.declared.group_info.GroupInfo.{GroupInfo}
 use Rattle.mls_types.specs.Message.{mls_message}
 use Rattle.mls_types.specs.declared.commit.Commit.{Commit}
 use Rattle.mls_types.specs.SignedParts.{signed_with}
@@ -19,13 +19,13 @@ use Rattle.mls_suite.specs.Crypto.{Crypto}
 use Rattle.mls_suite.specs.Labels.{encrypt_with_label}
 use Rattle.mls_checks.specs.Checks.{replaced_checks}
 use Rattle.mls_checks.specs.declared.checks.Source.TheVariants as replaced_for
-use Rattle.mls_term.specs.Sets.{has}
-use Rattle.mls_term.specs.Term.{Term, Leaf, leaf_of}
-use Rattle.mls_term.specs.Way.{way}
+use Rattle.mls_tree_model.specs.Sets.{has}
+use Rattle.mls_tree_model.specs.Term.{Term, Leaf, leaf_of}
+use Rattle.mls_tree_model.specs.Way.{way}
 use Rattle.mls_tree.specs.Tree.{member_at}
-use Rattle.mls_paths.specs.Seal.{seal_along, sealed_path}
-use Rattle.mls_paths.specs.Seeds.{sign_seed, path_seed, seal_seed}
-use Rattle.mls_paths.specs.Whole.{keys_of_path}
+use Rattle.mls_treekem_model.specs.Seal.{seal_along, sealed_path}
+use Rattle.mls_treekem_model.specs.Seeds.{sign_seed, path_seed, seal_seed}
+use Rattle.mls_treekem_model.specs.Whole.{keys_of_path}
 use Rattle.mls_schedule.specs.Epoch.{init_secret, joiner_secret, epoch_secret, confirmation_tag, welcome_key, welcome_nonce}
 use Rattle.mls_tree.specs.Paths.{merge_answer}
 use Rattle.mls_model.specs.Public.{provisional_context}

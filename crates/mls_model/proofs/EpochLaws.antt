@@ -5,7 +5,7 @@ use Rattle.mls_types.specs.declared.signed.SignedBody.{SignedBody}
 use Rattle.mls_types.specs.declared.signed.SignedBody.TheVariants as body_of
 use Rattle.mls_types.specs.declared.public_message.PublicMessage.{PublicMessage}
 use Rattle.mls_suite.specs.Crypto.{Crypto}
-use Rattle.mls_paths.specs.Keys.{PrivateKeys}
+use Rattle.mls_treekem_model.specs.Keys.{PrivateKeys}
 use Rattle.mls_model.specs.declared.effect.Effect.{Effect}
 use Rattle.mls_model.specs.declared.effect.Effect.TheVariants.{Advanced}
 use Rattle.mls_model.specs.Commit.{Change, public_with}

@@ -1,13 +1,13 @@
 -- Small states, worked out.
 use Rattle.std.proofs.Common.{refl}
-use Rattle.mls_term.specs.Term.{width, height, leaf_at, leaf_of, has_leaf, blanks}
-use Rattle.mls_term.specs.Sets.{has, count, same_bytes, is_distinct}
-use Rattle.mls_term.specs.Edits.{put, enter, grow, trim, first_blank, add, remove}
-use Rattle.mls_term.specs.Keys.{gather}
-use Rattle.mls_term.specs.Good.{is_within, has_distinct_keys, has_distinct_clients}
-use Rattle.mls_term.specs.Way.{way}
+use Rattle.mls_tree_model.specs.Term.{width, height, leaf_at, leaf_of, has_leaf, blanks}
+use Rattle.mls_tree_model.specs.Sets.{has, count, same_bytes, is_distinct}
+use Rattle.mls_tree_model.specs.Edits.{put, enter, grow, trim, first_blank, add, remove}
+use Rattle.mls_tree_model.specs.Keys.{gather}
+use Rattle.mls_tree_model.specs.Good.{is_within, has_distinct_keys, has_distinct_clients}
+use Rattle.mls_tree_model.specs.Way.{way}
 use Rattle.mls_tree.specs.Tree.{add_answer, remove_answer}
-use Rattle.mls_paths.specs.Follow.{key_above, follow_edit}
+use Rattle.mls_treekem_model.specs.Follow.{key_above, follow_edit}
 use Rattle.mls_model.specs.Proposals.{full_checks, updates, updated, removed, adds}
 use Rattle.mls_model.specs.Commit.{all_updated, all_removed, all_added, edited}
 use Rattle.mls_model.specs.Member.{kept_under, used_by, above_leaf, of_leaf, with_keys, followed}

@@ -10,28 +10,28 @@ use Rattle.mls_leaf.specs.WholeLaws.{is_input_fault}
 use Rattle.mls_leaf.proofs.WholeLaws.{is_input_answered}
 use Rattle.mls_leaf.specs.Parent.{Parent}
 use Rattle.mls_leaf.specs.declared.node.Node.{Node}
-use Rattle.mls_group.specs.GroupContext.{group_context}
-use Rattle.mls_group.specs.GroupInfo.{group_info, group_info_tbs}
-use Rattle.mls_group.specs.Welcome.{group_secrets}
-use Rattle.mls_group.specs.declared.group_info.GroupInfo.{GroupInfo}
-use Rattle.mls_group.specs.declared.welcome.EncryptedGroupSecrets.{EncryptedGroupSecrets}
-use Rattle.mls_group.specs.declared.welcome.Welcome.{Welcome}
+use Rattle.mls_types.specs.GroupContext.{group_context}
+use Rattle.mls_types.specs.GroupInfo.{group_info, group_info_tbs}
+use Rattle.mls_types.specs.Welcome.{group_secrets}
+use Rattle.mls_types.specs.declared.group_info.GroupInfo.{GroupInfo}
+use Rattle.mls_types.specs.declared.welcome.EncryptedGroupSecrets.{EncryptedGroupSecrets}
+use Rattle.mls_types.specs.declared.welcome.Welcome.{Welcome}
 use Rattle.mls_types.specs.Answered.{mls_message_faults}
 use Rattle.mls_types.specs.Message.{mls_message}
 use Rattle.mls_suite.specs.Crypto.{Crypto}
 use Rattle.mls_suite.specs.Labels.{verify_with_label, decrypt_with_label}
-use Rattle.mls_term.specs.Arrays.{has_last, alternates, sent_term, from_nodes}
-use Rattle.mls_term.specs.Good.{Rules, is_within, has_good_lists, has_good_hashes, has_distinct_keys, has_distinct_clients, is_all_signed, is_all_capable, is_all_fit, tree_checks}
-use Rattle.mls_term.specs.Hashes.{tree_hash}
-use Rattle.mls_term.specs.Sets.{has}
-use Rattle.mls_term.specs.Term.{Term, width, leaf_of, is_full_width}
-use Rattle.mls_term.specs.Way.{Step, way, is_beside}
+use Rattle.mls_tree_model.specs.Arrays.{has_last, alternates, sent_term, from_nodes}
+use Rattle.mls_tree_model.specs.Good.{Rules, is_within, has_good_lists, has_good_hashes, has_distinct_keys, has_distinct_clients, is_all_signed, is_all_capable, is_all_fit, tree_checks}
+use Rattle.mls_tree_model.specs.Hashes.{tree_hash}
+use Rattle.mls_tree_model.specs.Sets.{has}
+use Rattle.mls_tree_model.specs.Term.{Term, width, leaf_of, is_full_width}
+use Rattle.mls_tree_model.specs.Way.{Step, way, is_beside}
 use Rattle.mls_tree.specs.Rules.{rules_of}
 use Rattle.mls_tree.specs.Tree.{max_leaves}
-use Rattle.mls_paths.specs.Chain.{next_secret, node_key, node_public}
-use Rattle.mls_paths.specs.Join.{past_present, is_present, climb_take, is_complete, take_keys, take_answer, has_due}
-use Rattle.mls_paths.specs.Keys.{Keys, PrivateKeys, rest, leaf_only}
-use Rattle.mls_paths.specs.Make.{Climb}
+use Rattle.mls_treekem_model.specs.Chain.{next_secret, node_key, node_public}
+use Rattle.mls_treekem_model.specs.Join.{past_present, is_present, climb_take, is_complete, take_keys, take_answer, has_due}
+use Rattle.mls_treekem_model.specs.Keys.{Keys, PrivateKeys, rest, leaf_only}
+use Rattle.mls_treekem_model.specs.Make.{Climb}
 use Rattle.mls_schedule.specs.Epoch.{welcome_key, welcome_nonce, epoch_secret, confirmation_tag}
 use Rattle.mls_model.specs.Proposals.{package_reference}
 use Rattle.mls_model.specs.Messages.{decoded, are_bytes}

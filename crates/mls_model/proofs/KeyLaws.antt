@@ -1,6 +1,6 @@
 -- Private keys that are written back at their own leaf.
 use Rattle.std.proofs.Common.{◌≡◌, List, ℕ, [], ◌∷◌, ◌++◌, Some, None, refl, ap}
-use Rattle.mls_paths.specs.Keys.{Keys, PrivateKeys, all_keys}
+use Rattle.mls_treekem_model.specs.Keys.{Keys, PrivateKeys, all_keys}
 use Rattle.mls_model.specs.Member.{above_leaf, of_leaf, with_keys}
 
 pub above_end : (ks : Keys) (own : List ℕ) → above_leaf (ks ++ (Some own ∷ [])) ≡ ks

@@ -7,7 +7,7 @@ use Rattle.mls_leaf.specs.declared.leaf.LeafNode.{LeafNode}
 use Rattle.mls_leaf.specs.declared.key_package.KeyPackage.{KeyPackage}
 use Rattle.mls_leaf.specs.declared.proposal.Proposal.{Proposal}
 use Rattle.mls_leaf.specs.declared.proposal.Proposal.TheVariants as proposal
-use Rattle.mls_group.specs.declared.update_path.UpdatePath.{UpdatePath}
+use Rattle.mls_types.specs.declared.update_path.UpdatePath.{UpdatePath}
 use Rattle.mls_types.specs.declared.commit.Commit.{Commit}
 use Rattle.mls_types.specs.declared.content.FramedContent.{FramedContent}
 use Rattle.mls_suite.specs.Crypto.{Crypto}
@@ -15,15 +15,15 @@ use Rattle.mls_checks.specs.Checks.{is_package_signed, key_package_checks, repla
 use Rattle.mls_checks.specs.Leaf.{is_signed, is_capable, is_of_key_package, is_of, has_identity_of}
 use Rattle.mls_checks.specs.declared.checks.Source.{Source}
 use Rattle.mls_checks.specs.declared.checks.Source.TheVariants as made_for
-use Rattle.mls_term.specs.Term.{Term, leaf_of}
-use Rattle.mls_term.specs.Node.{source_hash}
-use Rattle.mls_term.specs.Sets.{has, same_bytes, is_distinct}
-use Rattle.mls_term.specs.Way.{path_length}
-use Rattle.mls_term.specs.Edits.{add}
-use Rattle.mls_term.specs.Good.{is_within, has_distinct_keys, has_distinct_clients}
-use Rattle.mls_term.specs.Hashes.{is_some_bytes}
-use Rattle.mls_term.specs.Keys.{encryption_keys}
-use Rattle.mls_term.specs.Merge.{merge_path, path_parent_hash}
+use Rattle.mls_tree_model.specs.Term.{Term, leaf_of}
+use Rattle.mls_tree_model.specs.Node.{source_hash}
+use Rattle.mls_tree_model.specs.Sets.{has, same_bytes, is_distinct}
+use Rattle.mls_tree_model.specs.Way.{path_length}
+use Rattle.mls_tree_model.specs.Edits.{add}
+use Rattle.mls_tree_model.specs.Good.{is_within, has_distinct_keys, has_distinct_clients}
+use Rattle.mls_tree_model.specs.Hashes.{is_some_bytes}
+use Rattle.mls_tree_model.specs.Keys.{encryption_keys}
+use Rattle.mls_tree_model.specs.Merge.{merge_path, path_parent_hash}
 use Rattle.mls_tree.specs.Tree.{max_leaves, member_at, add_answer, update_answer, remove_answer}
 use Rattle.mls_tree.specs.Paths.{path_checks, merge_checks, merge_answer}
 use Rattle.mls_model.specs.Public.{PublicState, Used}

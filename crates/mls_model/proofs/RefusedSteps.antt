@@ -5,8 +5,8 @@ use Rattle.std.proofs.lemmas.Bool.{and_parts}
 use Rattle.std.proofs.Common.{eqb-true}
 use Rattle.mls_wire.specs.Checks.{Passed, require, given, ◌>>◌}
 use Rattle.mls_wire.specs.Reading.{◌>>=◌}
-use Rattle.mls_term.specs.Sets.{has}
-use Rattle.mls_paths.specs.Keys.{rest}
+use Rattle.mls_tree_model.specs.Sets.{has}
+use Rattle.mls_treekem_model.specs.Keys.{rest}
 
 -- ---- one of some numbers
 

@@ -1,7 +1,7 @@
 -- The seals of a Welcome by their numbers: one for each place among its entries, behind those of the path.
 use Rattle.std.proofs.Common.{◌≡◌, ℕ, zero, suc, ◌+◌, List, [], ◌∷◌, length, Some, ap, sym, ◌∙◌, subst, arith, slice_get}
 use Rattle.mls_wire.specs.Laws.{bind_ok, ok_is}
-use Rattle.mls_group.specs.declared.welcome.EncryptedGroupSecrets.{EncryptedGroupSecrets}
+use Rattle.mls_types.specs.declared.welcome.EncryptedGroupSecrets.{EncryptedGroupSecrets}
 use Rattle.mls_model.specs.Welcome.{entry_for, entries_for}
 use Rattle.mls_model.specs.SealLaws.{IsEntryUnder, EntriesByNumber, EntriesAreCounted}
 

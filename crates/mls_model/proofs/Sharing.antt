@@ -7,7 +7,7 @@ use Rattle.mls_wire.specs.Laws.{ok_is}
 use Rattle.mls_leaf.specs.KeyPackage.{key_package}
 use Rattle.mls_types.specs.declared.commit.ProposalOrRef.{ProposalOrRef}
 use Rattle.mls_suite.specs.Crypto.{Crypto}
-use Rattle.mls_term.specs.Sets.{has}
+use Rattle.mls_tree_model.specs.Sets.{has}
 use Rattle.mls_model.specs.declared.effect.Effect.{Effect}
 use Rattle.mls_model.specs.Agreement.{Keeps, IsGoodCandidate}
 use Rattle.mls_model.specs.Candidate.{Candidate}

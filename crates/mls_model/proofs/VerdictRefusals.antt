@@ -6,25 +6,25 @@ use Rattle.mls_wire.specs.Checks.{given}
 use Rattle.mls_leaf.specs.Limits.{input_limit}
 use Rattle.mls_leaf.specs.WholeLaws.{is_input_fault}
 use Rattle.mls_leaf.proofs.WholeLaws.{is_input_answered}
-use Rattle.mls_group.specs.declared.update_path.HpkeCiphertext.{HpkeCiphertext}
-use Rattle.mls_group.specs.declared.update_path.UpdatePath.{UpdatePath}
-use Rattle.mls_group.specs.declared.update_path.UpdatePathNode.{UpdatePathNode}
+use Rattle.mls_types.specs.declared.update_path.HpkeCiphertext.{HpkeCiphertext}
+use Rattle.mls_types.specs.declared.update_path.UpdatePath.{UpdatePath}
+use Rattle.mls_types.specs.declared.update_path.UpdatePathNode.{UpdatePathNode}
 use Rattle.mls_types.specs.Answered.{mls_message_faults}
 use Rattle.mls_types.specs.Message.{mls_message}
 use Rattle.mls_types.specs.declared.commit.ProposalOrRef.{ProposalOrRef}
 use Rattle.mls_types.specs.declared.commit.ProposalOrRef.TheVariants as listed
 use Rattle.mls_types.specs.declared.public_message.PublicMessage.{PublicMessage}
 use Rattle.mls_suite.specs.Crypto.{Crypto}
-use Rattle.mls_term.specs.Term.{leaf_of}
-use Rattle.mls_term.specs.Sets.{has}
-use Rattle.mls_term.specs.Way.{Step, way, is_filtered, is_beside}
-use Rattle.mls_group.specs.GroupContext.{group_context}
-use Rattle.mls_paths.specs.Chain.{next_secret, node_key, node_public}
-use Rattle.mls_paths.specs.Height.{keys_on}
-use Rattle.mls_paths.specs.Keys.{Keys, PrivateKeys, rest, key_in}
-use Rattle.mls_paths.specs.Seal.{targets}
-use Rattle.mls_paths.specs.Make.{Climb}
-use Rattle.mls_paths.specs.Open.{unseal_secret, of_32, open_with, open_first, past_parent, open_here, climb_open, opened_path, left_by, first_ciphertexts}
+use Rattle.mls_tree_model.specs.Term.{leaf_of}
+use Rattle.mls_tree_model.specs.Sets.{has}
+use Rattle.mls_tree_model.specs.Way.{Step, way, is_filtered, is_beside}
+use Rattle.mls_types.specs.GroupContext.{group_context}
+use Rattle.mls_treekem_model.specs.Chain.{next_secret, node_key, node_public}
+use Rattle.mls_treekem_model.specs.Height.{keys_on}
+use Rattle.mls_treekem_model.specs.Keys.{Keys, PrivateKeys, rest, key_in}
+use Rattle.mls_treekem_model.specs.Seal.{targets}
+use Rattle.mls_treekem_model.specs.Make.{Climb}
+use Rattle.mls_treekem_model.specs.Open.{unseal_secret, of_32, open_with, open_first, past_parent, open_here, climb_open, opened_path, left_by, first_ciphertexts}
 use Rattle.mls_model.specs.Commit.{Change}
 use Rattle.mls_model.specs.Member.{Kept, Member, kept_under, used_one, used_by}
 use Rattle.mls_model.specs.Messages.{decoded, sender_leaf, is_handshake, is_content_signed, content_tag}

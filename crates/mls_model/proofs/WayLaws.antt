@@ -13,8 +13,8 @@ use Rattle.mls_types.specs.declared.public_message.PublicMessage.{PublicMessage}
 use Rattle.mls_types.specs.declared.signed.SignedBody.{SignedBody}
 use Rattle.mls_types.specs.declared.signed.SignedBody.TheVariants as body_of
 use Rattle.mls_suite.specs.Crypto.{Crypto}
-use Rattle.mls_term.specs.Sets.{has}
-use Rattle.mls_paths.specs.Make.{Climb}
+use Rattle.mls_tree_model.specs.Sets.{has}
+use Rattle.mls_treekem_model.specs.Make.{Climb}
 use Rattle.mls_schedule.specs.Epoch.{confirmation_tag}
 use Rattle.mls_model.specs.declared.effect.Effect.{Effect}
 use Rattle.mls_model.specs.declared.effect.Effect.TheVariants.{Removed}

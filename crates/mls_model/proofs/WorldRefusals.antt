@@ -10,8 +10,8 @@ use Rattle.mls_leaf.specs.WholeLaws.{is_input_fault}
 use Rattle.mls_leaf.proofs.WholeLaws.{is_input_answered}
 use Rattle.mls_types.specs.Answered.{mls_message_faults}
 use Rattle.mls_types.specs.Message.{mls_message}
-use Rattle.mls_term.specs.Sets.{has}
-use Rattle.mls_paths.specs.Seeds.{sign_seed}
+use Rattle.mls_tree_model.specs.Sets.{has}
+use Rattle.mls_treekem_model.specs.Seeds.{sign_seed}
 use Rattle.mls_model.specs.declared.event.Source.{Source}
 use Rattle.mls_model.specs.declared.event.Source.TheVariants.{Given, Message}
 use Rattle.mls_model.specs.declared.event.WorldItem.{WorldItem}

@@ -8,7 +8,7 @@ use Rattle.mls_leaf.specs.declared.leaf.LeafNode.{LeafNode}
 use Rattle.mls_leaf.specs.declared.node.Node.{Node}
 use Rattle.mls_leaf.specs.declared.proposal.Proposal.{Proposal}
 use Rattle.mls_leaf.specs.declared.proposal.Proposal.TheVariants as proposal
-use Rattle.mls_group.specs.GroupContext.{group_context}
+use Rattle.mls_types.specs.GroupContext.{group_context}
 use Rattle.mls_types.specs.Message.{mls_message}
 use Rattle.mls_types.specs.SignedParts.{framed}
 use Rattle.mls_types.specs.declared.commit.Commit.{Commit}
@@ -19,12 +19,12 @@ use Rattle.mls_types.specs.declared.public_message.PublicMessage.{PublicMessage}
 use Rattle.mls_types.specs.declared.signed.SignedBody.TheVariants as body
 use Rattle.mls_suite.specs.Crypto.{Crypto}
 use Rattle.mls_checks.specs.Checks.{key_package_checks}
-use Rattle.mls_term.specs.Term.{leaf_of}
-use Rattle.mls_term.specs.Arrays.{in_order}
-use Rattle.mls_term.specs.Good.{IsGood}
-use Rattle.mls_term.specs.Hashes.{tree_hash}
+use Rattle.mls_tree_model.specs.Term.{leaf_of}
+use Rattle.mls_tree_model.specs.Arrays.{in_order}
+use Rattle.mls_tree_model.specs.Good.{IsGood}
+use Rattle.mls_tree_model.specs.Hashes.{tree_hash}
 use Rattle.mls_tree.specs.Rules.{rules_of}
-use Rattle.mls_paths.specs.Members.{HasExact}
+use Rattle.mls_treekem_model.specs.Members.{HasExact}
 use Rattle.mls_schedule.specs.Epoch.{nine_secrets, confirmation_tag}
 use Rattle.mls_schedule.specs.Twins.{Twins}
 use Rattle.mls_model.specs.Public.{Used}

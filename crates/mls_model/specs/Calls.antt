@@ -6,7 +6,7 @@ use Rattle.mls_wire.specs.Checks.{require, ◌>>◌}
 use Rattle.mls_wire.specs.Reading.{◌>>=◌}
 use Rattle.mls_types.specs.declared.commit.ProposalOrRef.{ProposalOrRef}
 use Rattle.mls_suite.specs.Crypto.{Crypto}
-use Rattle.mls_paths.specs.Seeds.{sign_seed}
+use Rattle.mls_treekem_model.specs.Seeds.{sign_seed}
 use Rattle.mls_model.specs.declared.effect.Effect.{Effect}
 use Rattle.mls_model.specs.declared.effect.Effect.TheVariants.{Advanced}
 use Rattle.mls_model.specs.declared.event.Source.{Source}

@@ -6,7 +6,7 @@ use Rattle.mls_leaf.specs.KeyPackage.{key_package}
 use Rattle.mls_types.specs.Commit.{proposal_or_ref}
 use Rattle.mls_types.specs.declared.commit.ProposalOrRef.{ProposalOrRef}
 use Rattle.mls_suite.specs.Crypto.{Crypto, Lawful}
-use Rattle.mls_term.specs.Sets.{has}
+use Rattle.mls_tree_model.specs.Sets.{has}
 use Rattle.mls_model.specs.declared.effect.Effect.TheVariants.{Advanced, Removed}
 use Rattle.mls_model.specs.Member.{Member, left}
 use Rattle.mls_model.specs.Verdict.{verdict}

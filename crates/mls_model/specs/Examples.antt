@@ -6,12 +6,12 @@ use Rattle.mls_leaf.specs.declared.leaf.LeafSource.TheVariants as made_for
 use Rattle.mls_leaf.specs.declared.key_package.KeyPackage.{KeyPackage}
 use Rattle.mls_leaf.specs.declared.proposal.Proposal.{Proposal}
 use Rattle.mls_leaf.specs.declared.proposal.Proposal.TheVariants as proposal
-use Rattle.mls_group.specs.declared.group_context.GroupContext.{GroupContext}
+use Rattle.mls_types.specs.declared.group_context.GroupContext.{GroupContext}
 use Rattle.mls_types.specs.declared.commit.ProposalOrRef.TheVariants as listed
 use Rattle.mls_suite.specs.Crypto.{Crypto}
-use Rattle.mls_term.specs.Term.{Term, Branch}
-use Rattle.mls_term.specs.Sets.{has}
-use Rattle.mls_term.specs.Examples.{member, blank, over, listing_these}
+use Rattle.mls_tree_model.specs.Term.{Term, Branch}
+use Rattle.mls_tree_model.specs.Sets.{has}
+use Rattle.mls_tree_model.specs.Examples.{member, blank, over, listing_these}
 use Rattle.mls_model.specs.Public.{PublicState, Used}
 use Rattle.mls_model.specs.Proposals.{removed}
 use Rattle.mls_model.specs.Commit.{edited}

@@ -4,14 +4,14 @@ use Rattle.std.specs.Str.{bytes_eq}
 use Rattle.mls_wire.specs.Checks.{passed}
 use Rattle.mls_leaf.specs.declared.leaf.LeafNode.{LeafNode}
 use Rattle.mls_leaf.specs.declared.proposal.Proposal.{Proposal}
-use Rattle.mls_group.specs.GroupContext.{group_context}
+use Rattle.mls_types.specs.GroupContext.{group_context}
 use Rattle.mls_types.specs.declared.commit.Commit.{Commit}
 use Rattle.mls_types.specs.declared.public_message.PublicMessage.{PublicMessage}
 use Rattle.mls_types.specs.declared.signed.SignedContent.{SignedContent}
 use Rattle.mls_suite.specs.Crypto.{Crypto}
-use Rattle.mls_term.specs.Term.{leaf_of}
-use Rattle.mls_term.specs.Sets.{has}
-use Rattle.mls_paths.specs.Make.{Climb}
+use Rattle.mls_tree_model.specs.Term.{leaf_of}
+use Rattle.mls_tree_model.specs.Sets.{has}
+use Rattle.mls_treekem_model.specs.Make.{Climb}
 use Rattle.mls_schedule.specs.Epoch.{init_secret, next_epoch_secret, confirmation_tag}
 use Rattle.mls_model.specs.declared.effect.Effect.{Effect}
 use Rattle.mls_model.specs.declared.effect.Effect.TheVariants.{Proposed, Known, Advanced, Removed}

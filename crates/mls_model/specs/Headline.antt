@@ -6,7 +6,7 @@ use Rattle.mls_leaf.specs.KeyPackage.{key_package}
 use Rattle.mls_types.specs.declared.message.MlsMessage.{MlsMessage}
 use Rattle.mls_types.specs.declared.message.MlsMessage.TheVariants as message
 use Rattle.mls_suite.specs.Crypto.{Crypto, Lawful}
-use Rattle.mls_term.specs.Sets.{has}
+use Rattle.mls_tree_model.specs.Sets.{has}
 use Rattle.mls_model.specs.declared.effect.Effect.TheVariants.{Advanced, Removed}
 use Rattle.mls_model.specs.declared.event.Source.{Source}
 use Rattle.mls_model.specs.declared.event.Source.TheVariants.{Given, Message}

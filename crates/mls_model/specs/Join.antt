@@ -6,21 +6,21 @@ use Rattle.mls_wire.specs.Checks.{Passed, require, given, ◌>>◌}
 use Rattle.mls_wire.specs.Reading.{◌>>=◌}
 use Rattle.mls_leaf.specs.Leaf.{leaf_node}
 use Rattle.mls_leaf.specs.declared.leaf.LeafNode.{LeafNode}
-use Rattle.mls_group.specs.GroupContext.{group_context}
-use Rattle.mls_group.specs.GroupInfo.{group_info_tbs}
-use Rattle.mls_group.specs.declared.group_context.GroupContext.{GroupContext}
-use Rattle.mls_group.specs.declared.group_info.GroupInfo.{GroupInfo}
+use Rattle.mls_types.specs.GroupContext.{group_context}
+use Rattle.mls_types.specs.GroupInfo.{group_info_tbs}
+use Rattle.mls_types.specs.declared.group_context.GroupContext.{GroupContext}
+use Rattle.mls_types.specs.declared.group_info.GroupInfo.{GroupInfo}
 use Rattle.mls_suite.specs.Crypto.{Crypto}
 use Rattle.mls_suite.specs.Labels.{verify_with_label}
-use Rattle.mls_term.specs.Term.{Term, leaf_of}
-use Rattle.mls_term.specs.Arrays.{from_nodes}
-use Rattle.mls_term.specs.Good.{tree_checks}
-use Rattle.mls_term.specs.Hashes.{tree_hash}
-use Rattle.mls_term.specs.Keys.{members}
+use Rattle.mls_tree_model.specs.Term.{Term, leaf_of}
+use Rattle.mls_tree_model.specs.Arrays.{from_nodes}
+use Rattle.mls_tree_model.specs.Good.{tree_checks}
+use Rattle.mls_tree_model.specs.Hashes.{tree_hash}
+use Rattle.mls_tree_model.specs.Keys.{members}
 use Rattle.mls_tree.specs.Rules.{rules_of}
 use Rattle.mls_tree.specs.Tree.{max_leaves}
-use Rattle.mls_paths.specs.Join.{take_answer, has_due}
-use Rattle.mls_paths.specs.Keys.{PrivateKeys}
+use Rattle.mls_treekem_model.specs.Join.{take_answer, has_due}
+use Rattle.mls_treekem_model.specs.Keys.{PrivateKeys}
 use Rattle.mls_schedule.specs.Epoch.{epoch_secret, confirmation_tag}
 use Rattle.mls_schedule.specs.Transcript.{interim_hash}
 use Rattle.mls_model.specs.Member.{Member, with_keys}

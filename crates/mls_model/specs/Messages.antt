@@ -4,7 +4,7 @@ use Rattle.std.specs.List.{list_all}
 use Rattle.mls_wire.specs.Checks.{Passed, require}
 use Rattle.mls_leaf.specs.Faults.{whole}
 use Rattle.mls_leaf.specs.Limits.{input_limit}
-use Rattle.mls_group.specs.declared.group_context.GroupContext.{GroupContext}
+use Rattle.mls_types.specs.declared.group_context.GroupContext.{GroupContext}
 use Rattle.mls_types.specs.Message.{mls_message}
 use Rattle.mls_types.specs.PublicMessage.{authenticated_content}
 use Rattle.mls_types.specs.Reference.{proposal_reference}

@@ -4,7 +4,7 @@ use Rattle.mls_wire.specs.Checks.{given}
 use Rattle.mls_wire.specs.Reading.{◌>>=◌}
 use Rattle.mls_leaf.specs.Faults.{whole}
 use Rattle.mls_leaf.specs.Limits.{input_limit}
-use Rattle.mls_group.specs.GroupInfo.{group_info}
+use Rattle.mls_types.specs.GroupInfo.{group_info}
 use Rattle.mls_types.specs.SignedParts.{framed}
 use Rattle.mls_types.specs.declared.commit.ProposalOrRef.{ProposalOrRef}
 use Rattle.mls_types.specs.declared.commit.ProposalOrRef.TheVariants as listed
@@ -12,7 +12,7 @@ use Rattle.mls_types.specs.declared.signed.SignedBody.{SignedBody}
 use Rattle.mls_types.specs.declared.signed.SignedBody.TheVariants as body_of
 use Rattle.mls_types.specs.declared.signed.SignedContent.{SignedContent}
 use Rattle.mls_suite.specs.Crypto.{Crypto}
-use Rattle.mls_term.specs.Arrays.{from_nodes}
+use Rattle.mls_tree_model.specs.Arrays.{from_nodes}
 use Rattle.mls_tree.specs.Tree.{max_leaves}
 use Rattle.mls_schedule.specs.Transcript.{interim_hash}
 use Rattle.mls_model.specs.declared.origin.Origin.{Origin}

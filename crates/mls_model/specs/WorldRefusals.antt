@@ -2,7 +2,7 @@
 use Rattle.std.specs.Prelude.{◌≡◌, ℕ, true, ◌||◌, [], ◌∷◌, Err, Bool}
 use Rattle.mls_leaf.specs.WholeLaws.{is_input_fault}
 use Rattle.mls_suite.specs.Crypto.{Crypto}
-use Rattle.mls_term.specs.Sets.{has}
+use Rattle.mls_tree_model.specs.Sets.{has}
 use Rattle.mls_model.specs.declared.event.Event.{Event}
 use Rattle.mls_model.specs.declared.event.Event.TheVariants as event
 use Rattle.mls_model.specs.World.{World}

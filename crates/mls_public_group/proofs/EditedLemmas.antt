@@ -4,9 +4,9 @@ use Rattle.std.proofs.Common.{refl, sym, ap, ◌∙◌}
 use Rattle.mls_wire.specs.Checks.{Passed, passed, require, ◌>>◌}
 use Rattle.mls_wire.specs.Reading.{◌>>=◌}
 use Rattle.mls_suite.specs.Crypto.{Crypto}
-use Rattle.mls_term.specs.Term.{Term}
-use Rattle.mls_term.specs.Sets.{has, same_bytes, is_distinct}
-use Rattle.mls_term.specs.Good.{has_distinct_keys, has_distinct_clients}
+use Rattle.mls_tree_model.specs.Term.{Term}
+use Rattle.mls_tree_model.specs.Sets.{has, same_bytes, is_distinct}
+use Rattle.mls_tree_model.specs.Good.{has_distinct_keys, has_distinct_clients}
 use Rattle.mls_model.specs.Public.{PublicState, Used}
 use Rattle.mls_model.specs.Proposals.{full_checks, updates, updated, removed, adds, package_reference}
 use Rattle.mls_model.specs.Commit.{Edits, all_updated, all_removed, all_added, edited}

@@ -8,11 +8,11 @@ use Rattle.mls_wire.specs.Laws.{ok_is}
 use Rattle.mls_leaf.specs.Leaf.{leaf_node}
 use Rattle.mls_leaf.specs.declared.key_package.KeyPackage.{KeyPackage}
 use Rattle.mls_leaf.specs.declared.leaf.LeafNode.{LeafNode}
-use Rattle.mls_term.specs.Term.{Term, Leaf, Branch, width, height, blanks, has_leaf, leaf_at, leaf_of}
-use Rattle.mls_term.specs.Edits.{put, enter, grow, trim, first_blank, room_for, place_in, add, remove}
-use Rattle.mls_term.proofs.Equations.{leaf_at_leaf, leaf_at_left, leaf_at_right, leaf_of_in, leaf_of_out, put_left, put_right, enter_left, enter_right, merge_left, merge_right, trim_full, trim_empty, add_is, remove_is}
-use Rattle.mls_term.specs.Resolution.{is_reached}
-use Rattle.mls_term.specs.Merge.{new_parent, keys_below, hash_below, merge, merge_path}
+use Rattle.mls_tree_model.specs.Term.{Term, Leaf, Branch, width, height, blanks, has_leaf, leaf_at, leaf_of}
+use Rattle.mls_tree_model.specs.Edits.{put, enter, grow, trim, first_blank, room_for, place_in, add, remove}
+use Rattle.mls_tree_model.proofs.Equations.{leaf_at_leaf, leaf_at_left, leaf_at_right, leaf_of_in, leaf_of_out, put_left, put_right, enter_left, enter_right, merge_left, merge_right, trim_full, trim_empty, add_is, remove_is}
+use Rattle.mls_tree_model.specs.Resolution.{is_reached}
+use Rattle.mls_tree_model.specs.Merge.{new_parent, keys_below, hash_below, merge, merge_path}
 use Rattle.mls_tree.specs.Tree.{add_answer, update_answer, remove_answer}
 use Rattle.mls_tree.proofs.Steps.{update_steps, remove_steps, add_steps}
 use Rattle.mls_model.specs.Public.{Used}

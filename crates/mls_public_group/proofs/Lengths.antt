@@ -3,8 +3,8 @@ use Rattle.std.proofs.Common.{◌≡◌, ℕ, ◌+◌, ◌<◌, ◌≤◌, ◌^�
 use Rattle.std.specs.Int.{w16, w32, w64, to_be_bytes}
 use Rattle.mls_wire.specs.Laws.{wide16, wide64}
 use Rattle.mls_wire.specs.Reading.{uint, header, opaque}
-use Rattle.mls_group.specs.GroupContext.{group_context}
-use Rattle.mls_group.specs.declared.group_context.GroupContext.{GroupContext}
+use Rattle.mls_types.specs.GroupContext.{group_context}
+use Rattle.mls_types.specs.declared.group_context.GroupContext.{GroupContext}
 
 -- ---- parts
 

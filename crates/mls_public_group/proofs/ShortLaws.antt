@@ -13,10 +13,10 @@ use Rattle.mls_leaf.specs.declared.key_package.KeyPackage.{KeyPackage}
 use Rattle.mls_leaf.specs.declared.leaf.LeafNode.{LeafNode}
 use Rattle.mls_leaf.specs.declared.proposal.Proposal.{Proposal}
 use Rattle.mls_leaf.specs.declared.proposal.Proposal.TheVariants.{Add, Update, Remove}
-use Rattle.mls_group.specs.GroupContext.{group_context}
-use Rattle.mls_group.specs.declared.group_context.GroupContext.{GroupContext}
-use Rattle.mls_term.proofs.LengthLaws.{length-tree_hash}
-use Rattle.mls_term.specs.Term.{Term}
+use Rattle.mls_types.specs.GroupContext.{group_context}
+use Rattle.mls_types.specs.declared.group_context.GroupContext.{GroupContext}
+use Rattle.mls_tree_model.proofs.LengthLaws.{length-tree_hash}
+use Rattle.mls_tree_model.specs.Term.{Term}
 use Rattle.mls_checks.specs.Short.{IsShort}
 use Rattle.mls_model.specs.Public.{Used, provisional_context}
 use Rattle.mls_model.specs.Proposals.{update_in, add_in, updates, adds}

@@ -10,8 +10,8 @@ use Rattle.std.specs.Ordering.{nat_cmp, is_lt}
 use Rattle.std.specs.Cmp.{both_ways}
 use Rattle.std.specs.Bool.{MatchBool, ⊤}
 use Rattle.std.proofs.Math.Bool.{and-false}
-use Rattle.mls_term.specs.Sets.{count, is_distinct}
-use Rattle.mls_term.proofs.CountLaws.{distinct_at, distinct_from}
+use Rattle.mls_tree_model.specs.Sets.{count, is_distinct}
+use Rattle.mls_tree_model.proofs.CountLaws.{distinct_at, distinct_from}
 use Rattle.mls_public_group.specs.Numbers.{Differ, Repeats}
 
 count_cons : (x y : ℕ) (ys : List ℕ) → count nat_eq x (y ∷ ys) ≡ cond (nat_eq y x) 1 0 + count nat_eq x ys

@@ -12,7 +12,7 @@ use Rattle.mls_leaf.specs.declared.leaf.Capabilities.{Capabilities}
 use Rattle.mls_leaf.specs.declared.leaf.LeafNode.{LeafNode}
 use Rattle.mls_leaf.specs.declared.leaf.LeafSource.{LeafSource}
 use Rattle.mls_leaf.specs.declared.leaf.LeafSource.TheVariants as made_for
-use Rattle.mls_term.specs.Term.{Term, Leaf, Branch}
+use Rattle.mls_tree_model.specs.Term.{Term, Leaf, Branch}
 
 -- ---- leaves and parents
 

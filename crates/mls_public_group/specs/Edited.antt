@@ -1,9 +1,9 @@
 -- What a commit makes of a tree, in the parts in which it is worked out.
 use Rattle.std.specs.Prelude.{ℕ, nat_eq, not, List, ◌++◌, map, Result, Ok, Err}
 use Rattle.mls_wire.specs.Checks.{Passed, require}
-use Rattle.mls_term.specs.Term.{Term}
-use Rattle.mls_term.specs.Sets.{has, same_bytes, is_distinct}
-use Rattle.mls_term.specs.Good.{has_distinct_keys, has_distinct_clients}
+use Rattle.mls_tree_model.specs.Term.{Term}
+use Rattle.mls_tree_model.specs.Sets.{has, same_bytes, is_distinct}
+use Rattle.mls_tree_model.specs.Good.{has_distinct_keys, has_distinct_clients}
 use Rattle.mls_model.specs.Public.{Used}
 use Rattle.mls_model.specs.Proposals.{updates, updated, removed, adds, package_reference}
 use Rattle.mls_model.specs.Commit.{Edits, all_updated, all_removed, all_added}

@@ -1,5 +1,5 @@
 -- The ratchet tree of the next epoch.
-use Rattle.mls_term.specs.Term.{Term}
+use Rattle.mls_tree_model.specs.Term.{Term}
 use Rattle.mls_tree.specs.Tree.{term}
 use Rattle.mls_tree.specs.Prepared.{merged_by, IsFor}
 use Rattle.mls_public_group.specs.declared.next_tree.NextTree.{NextTree}

@@ -4,8 +4,8 @@ use Rattle.std.specs.List.{AllByRecursion}
 use Rattle.mls_wire.specs.Format.{Format}
 use Rattle.mls_leaf.specs.Leaf.{leaf_node}
 use Rattle.mls_leaf.specs.Proposal.{proposal}
-use Rattle.mls_group.specs.declared.group_context.GroupContext.{GroupContext}
-use Rattle.mls_term.specs.Term.{Term, leaf_of}
+use Rattle.mls_types.specs.declared.group_context.GroupContext.{GroupContext}
+use Rattle.mls_tree_model.specs.Term.{Term, leaf_of}
 use Rattle.mls_model.specs.Public.{Used}
 
 -- the value has a spelling, of fewer than n bytes

@@ -1,14 +1,14 @@
 //! The context of the next epoch before its transcript is known, and the spelling of contexts.
 
 ghost use Rattle.std.specs.Prelude.{◌≡◌, ◌+◌, ◌<◌, ◌^◌, IfOk, length};
-ghost use Rattle.mls_group.specs.GroupContext.{group_context};
-ghost use Rattle.mls_term.specs.Hashes.{tree_hash};
-ghost use Rattle.mls_term.specs.Term.{Term};
+ghost use Rattle.mls_types.specs.GroupContext.{group_context};
+ghost use Rattle.mls_tree_model.specs.Hashes.{tree_hash};
+ghost use Rattle.mls_tree_model.specs.Term.{Term};
 ghost use Rattle.mls_model.specs.Public as model;
 ghost use Rattle.mls_public_group.specs.Short.{IsShortContext};
 
 use crate::spelling::spelling;
-use mls_group::GroupContext;
+use mls_types::GroupContext;
 use mls_leaf::Bytes;
 use mls_tree::Hash;
 use std::alloc::{AllocError, Global};

@@ -2,7 +2,7 @@
 
 ghost use Rattle.std.specs.Prelude.{◌≡◌, nat_eq};
 ghost use Rattle.std.specs.Bool.{MatchBool};
-ghost use Rattle.mls_term.specs.Sets.{is_distinct};
+ghost use Rattle.mls_tree_model.specs.Sets.{is_distinct};
 ghost use Rattle.mls_public_group.specs.Numbers.{Differ, Repeats};
 
 /// Whether no number is the same as the one before it.

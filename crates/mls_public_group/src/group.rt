@@ -1,7 +1,7 @@
 //! The public state of a group.
 
 ghost use Rattle.std.specs.Prelude.{◌≡◌, ◌^◌, IfOk, OnOk, OnErr};
-ghost use Rattle.mls_group.specs.GroupContext.{group_context};
+ghost use Rattle.mls_types.specs.GroupContext.{group_context};
 ghost use Rattle.mls_tree.specs.Tree.{term};
 ghost use Rattle.mls_public_group.specs.NextTree.{next_term, Follows};
 ghost use Rattle.mls_public_group.specs.Short.{HasLeavesBelow, IsShortContext};
@@ -9,7 +9,7 @@ ghost use Rattle.mls_public_group.specs.Short.{HasLeavesBelow, IsShortContext};
 use crate::next_tree::NextTree;
 use crate::shared_tree::SharedTree;
 use crate::spelling::spelling;
-use mls_group::GroupContext;
+use mls_types::GroupContext;
 use mls_leaf::Codec;
 use mls_schedule::Transcript;
 use mls_tree::PublicTree;
@@ -29,7 +29,7 @@ pub struct PublicGroup {
 
 impl Model for PublicGroup {
     ghost use Rattle.std.specs.Prelude.{◌≡◌, ◌^◌};
-    ghost use Rattle.mls_group.specs.GroupContext.{group_context};
+    ghost use Rattle.mls_types.specs.GroupContext.{group_context};
     ghost use Rattle.mls_tree.specs.Tree.{term};
     ghost use Rattle.mls_public_group.specs.Short.{HasLeavesBelow, IsShortContext};
     ghost use Rattle.mls_model.specs.Public.{PublicState};

@@ -3,8 +3,8 @@
 ghost use Rattle.std.specs.Prelude.{ℕ, List};
 ghost use Rattle.mls_leaf.specs.Leaf.{leaf_node};
 ghost use Rattle.mls_leaf.specs.declared.leaf.LeafNode.{LeafNode};
-ghost use Rattle.mls_term.specs.Term.{Term};
-ghost use Rattle.mls_term.specs.Merge.{merge_path};
+ghost use Rattle.mls_tree_model.specs.Term.{Term};
+ghost use Rattle.mls_tree_model.specs.Merge.{merge_path};
 ghost use Rattle.mls_public_group.specs.Short.{HasLeavesBelow, IsBelow};
 ghost use Rattle.mls_public_group.specs.Names.{GroupNamesAreListed};
 

@@ -1,8 +1,8 @@
 //! The ratchet tree of the next epoch.
 
 ghost use Rattle.std.specs.Prelude.{◌≡◌, OnOk, OnErr};
-ghost use Rattle.mls_term.specs.Term.{Term};
-ghost use Rattle.mls_term.specs.Hashes.{tree_hash};
+ghost use Rattle.mls_tree_model.specs.Term.{Term};
+ghost use Rattle.mls_tree_model.specs.Hashes.{tree_hash};
 ghost use Rattle.mls_tree.specs.Tree.{term};
 ghost use Rattle.mls_public_group.specs.NextTree.{next_term, Follows};
 

@@ -7,7 +7,7 @@ ghost use Rattle.mls_leaf.specs.Proposal.{proposal as proposal_format};
 ghost use Rattle.mls_leaf.specs.declared.leaf.LeafNode.{LeafNode};
 ghost use Rattle.mls_leaf.specs.declared.proposal.Proposal.TheVariants.{Update, Remove};
 ghost use Rattle.mls_checks.specs.Short.{IsShort};
-ghost use Rattle.mls_term.specs.Term.{leaf_of};
+ghost use Rattle.mls_tree_model.specs.Term.{leaf_of};
 ghost use Rattle.mls_tree.specs.Refusals.{RefusesOutright};
 ghost use Rattle.mls_model.specs.Proposals.{full_checks, proposal_checks, update_checks};
 ghost use Rattle.mls_public_group.specs.Faults.{number_of};

@@ -1,8 +1,8 @@
 //! A ratchet tree that groups and edits share.
 
 ghost use Rattle.std.specs.Prelude.{◌≡◌, IfOk, OnOk, OnErr};
-ghost use Rattle.mls_term.specs.Hashes.{tree_hash};
-ghost use Rattle.mls_array.specs.Kept.{hashes_of};
+ghost use Rattle.mls_tree_model.specs.Hashes.{tree_hash};
+ghost use Rattle.mls_tree_array.specs.Kept.{hashes_of};
 ghost use Rattle.mls_tree.specs.Prepared.{merged_by, IsFor};
 ghost use Rattle.mls_tree.specs.Tree.{term};
 
@@ -22,8 +22,8 @@ pub struct SharedTree {
 
 impl Model for SharedTree {
     ghost use Rattle.std.specs.Prelude.{◌≡◌};
-    ghost use Rattle.mls_term.specs.Hashes.{tree_hash};
-    ghost use Rattle.mls_array.specs.Kept.{hashes_of};
+    ghost use Rattle.mls_tree_model.specs.Hashes.{tree_hash};
+    ghost use Rattle.mls_tree_array.specs.Kept.{hashes_of};
     ghost use Rattle.mls_tree.specs.Tree.{Tree, term};
 
     ghost Value = { Tree };

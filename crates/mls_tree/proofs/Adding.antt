@@ -5,14 +5,14 @@ use Rattle.std.proofs.lemmas.Bool.{eq-eqb, ne_eqb}
 use Rattle.mls_leaf.specs.declared.leaf.LeafNode.{LeafNode}
 use Rattle.mls_leaf.specs.declared.node.Node.{Node}
 use Rattle.mls_treemath.specs.Limits.{max_height}
-use Rattle.mls_term.specs.Term.{Term, width, height, is_perfect}
-use Rattle.mls_term.specs.Edits.{first_blank, enter, grow, add, place_for, room_for}
-use Rattle.mls_term.specs.Arrays.{term_of}
-use Rattle.mls_term.proofs.Equations.{add_is}
-use Rattle.mls_term.specs.Good.{is_within}
-use Rattle.mls_term.proofs.ArrayLaws.{width-term_of}
-use Rattle.mls_term.proofs.LimitLaws.{add_within}
-use Rattle.mls_array.specs.StandingLaws.{StandsFor}
+use Rattle.mls_tree_model.specs.Term.{Term, width, height, is_perfect}
+use Rattle.mls_tree_model.specs.Edits.{first_blank, enter, grow, add, place_for, room_for}
+use Rattle.mls_tree_model.specs.Arrays.{term_of}
+use Rattle.mls_tree_model.proofs.Equations.{add_is}
+use Rattle.mls_tree_model.specs.Good.{is_within}
+use Rattle.mls_tree_model.proofs.ArrayLaws.{width-term_of}
+use Rattle.mls_tree_model.proofs.LimitLaws.{add_within}
+use Rattle.mls_tree_array.specs.StandingLaws.{StandsFor}
 use Rattle.mls_tree.specs.Tree.{Tree, term, max_leaves, add_answer}
 use Rattle.mls_tree.proofs.Perfect.{perfect}
 

@@ -2,9 +2,9 @@
 use Rattle.std.proofs.Common.{◌≡◌, ℕ, true, List, Option, Some, None, is_some, Ok, Err, refl, sym}
 use Rattle.std.proofs.lemmas.Bool.{true≢false}
 use Rattle.mls_leaf.specs.declared.leaf.LeafNode.{LeafNode}
-use Rattle.mls_term.specs.Term.{Term, leaf_of}
-use Rattle.mls_term.specs.Edits.{update, remove}
-use Rattle.mls_term.specs.Way.{filtered_path, ciphertext_counts}
+use Rattle.mls_tree_model.specs.Term.{Term, leaf_of}
+use Rattle.mls_tree_model.specs.Edits.{update, remove}
+use Rattle.mls_tree_model.specs.Way.{filtered_path, ciphertext_counts}
 use Rattle.mls_tree.specs.Tree.{path_answer, update_answer, remove_answer}
 use Rattle.mls_tree.specs.Paths.{counts_answer}
 

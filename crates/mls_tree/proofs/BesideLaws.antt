@@ -6,16 +6,16 @@ use Rattle.mls_leaf.specs.Parent.{Parent}
 use Rattle.mls_leaf.specs.declared.leaf.LeafNode.{LeafNode}
 use Rattle.mls_leaf.specs.declared.node.Node.{Node}
 use Rattle.mls_treemath.specs.Paths.{nodes_in}
-use Rattle.mls_term.specs.Term.{Term, Leaf, Branch, width, is_perfect}
-use Rattle.mls_term.specs.Sets.{has}
-use Rattle.mls_term.specs.Edits.{put, enter}
-use Rattle.mls_term.specs.Merge.{merge}
-use Rattle.mls_term.specs.Arrays.{parent_cell, in_order}
-use Rattle.mls_term.proofs.Equations.{put_leaf, put_left, put_right, enter_leaf, enter_left, enter_right, merge_leaf, merge_left, merge_right}
-use Rattle.mls_term.proofs.ShapeLaws.{width-perfect, width-put, width-enter, size_from_width}
-use Rattle.mls_term.proofs.MergeLaws.{width-merge}
-use Rattle.mls_term.proofs.ArrayLaws.{nodes_in-leaves, length-in_order, size-perfect}
-use Rattle.mls_array.proofs.StandingLaws.{in_order-leaf, in_order-branch}
+use Rattle.mls_tree_model.specs.Term.{Term, Leaf, Branch, width, is_perfect}
+use Rattle.mls_tree_model.specs.Sets.{has}
+use Rattle.mls_tree_model.specs.Edits.{put, enter}
+use Rattle.mls_tree_model.specs.Merge.{merge}
+use Rattle.mls_tree_model.specs.Arrays.{parent_cell, in_order}
+use Rattle.mls_tree_model.proofs.Equations.{put_leaf, put_left, put_right, enter_leaf, enter_left, enter_right, merge_leaf, merge_left, merge_right}
+use Rattle.mls_tree_model.proofs.ShapeLaws.{width-perfect, width-put, width-enter, size_from_width}
+use Rattle.mls_tree_model.proofs.MergeLaws.{width-merge}
+use Rattle.mls_tree_model.proofs.ArrayLaws.{nodes_in-leaves, length-in_order, size-perfect}
+use Rattle.mls_tree_array.proofs.StandingLaws.{in_order-leaf, in_order-branch}
 use Rattle.mls_tree.specs.Way.{numbers_from}
 use Rattle.mls_tree.proofs.WayLaws.{numbers_leaf, numbers_left, numbers_right, other_number}
 

@@ -2,14 +2,14 @@
 use Rattle.std.proofs.Common.{◌≡◌, ℕ, zero, suc, ◌+◌, ◌-◌, ◌*◌, ◌^◌, ◌<◌, ◌≤◌, true, ◌||◌, List, ◌∷◌, get_or, None, refl, sym, ◌∙◌, ap, arith, inl, inr, ne_eqb}
 use Rattle.std.proofs.lemmas.Bool.{true≢false, cases_lt, cases_order, and_parts}
 use Rattle.mls_treemath.specs.Paths.{nodes_in}
-use Rattle.mls_term.specs.Term.{Term, Leaf, Branch, width, is_perfect}
-use Rattle.mls_term.specs.Sets.{has}
-use Rattle.mls_term.specs.Edits.{put}
-use Rattle.mls_term.specs.Arrays.{in_order}
-use Rattle.mls_term.proofs.Equations.{put_leaf, put_left, put_right}
-use Rattle.mls_term.proofs.ShapeLaws.{width-perfect, width-put}
-use Rattle.mls_term.proofs.ArrayLaws.{nodes_in-leaves}
-use Rattle.mls_array.proofs.StandingLaws.{in_order-leaf}
+use Rattle.mls_tree_model.specs.Term.{Term, Leaf, Branch, width, is_perfect}
+use Rattle.mls_tree_model.specs.Sets.{has}
+use Rattle.mls_tree_model.specs.Edits.{put}
+use Rattle.mls_tree_model.specs.Arrays.{in_order}
+use Rattle.mls_tree_model.proofs.Equations.{put_leaf, put_left, put_right}
+use Rattle.mls_tree_model.proofs.ShapeLaws.{width-perfect, width-put}
+use Rattle.mls_tree_model.proofs.ArrayLaws.{nodes_in-leaves}
+use Rattle.mls_tree_array.proofs.StandingLaws.{in_order-leaf}
 use Rattle.mls_tree.specs.Way.{numbers_from}
 use Rattle.mls_tree.proofs.WayLaws.{numbers_left, numbers_right, has-cons, below_way, behind_way}
 use Rattle.mls_tree.proofs.BesideLaws.{in_left, in_right, at_root, long_as}

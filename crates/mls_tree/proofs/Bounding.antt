@@ -4,20 +4,20 @@ use Rattle.std.proofs.Math.Pow.{pow_mono}
 use Rattle.std.proofs.lemmas.Bool.{cases_lt, cond_both, cond-true, cond-false, true≢false}
 use Rattle.mls_leaf.specs.declared.leaf.LeafNode.{LeafNode}
 use Rattle.mls_treemath.specs.Limits.{max_height}
-use Rattle.mls_term.specs.Term.{Term, width, leaf_of}
-use Rattle.mls_term.specs.Edits.{put, enter, grow, trim, first_blank}
-use Rattle.mls_term.specs.Merge.{merge, merge_path}
+use Rattle.mls_tree_model.specs.Term.{Term, width, leaf_of}
+use Rattle.mls_tree_model.specs.Edits.{put, enter, grow, trim, first_blank}
+use Rattle.mls_tree_model.specs.Merge.{merge, merge_path}
 use Rattle.mls_leaf.specs.declared.node.Node.{Node}
-use Rattle.mls_term.specs.Arrays.{term_of}
-use Rattle.mls_term.proofs.ArrayLaws.{width-term_of}
-use Rattle.mls_term.proofs.Equations.{leaf_of_in, leaf_of_out, remove_is}
-use Rattle.mls_term.proofs.ShapeLaws.{width-put, width-enter}
-use Rattle.mls_term.proofs.MergeLaws.{width-merge}
-use Rattle.mls_term.proofs.PlaceLaws.{first_blank_at, first_blank_none, first_blank_first, leaf_at-put, leaf_at-enter, leaf_at-merge, leaf_at-grow, leaf_at-grown, leaf_at-trim, width-grow, width-trim}
-use Rattle.mls_term.proofs.MemberLaws.{remove_elsewhere}
-use Rattle.mls_array.specs.Ends.{taken_end}
-use Rattle.mls_array.proofs.EndLaws.{end_before, blank_behind}
-use Rattle.mls_array.specs.StandingLaws.{StandsFor}
+use Rattle.mls_tree_model.specs.Arrays.{term_of}
+use Rattle.mls_tree_model.proofs.ArrayLaws.{width-term_of}
+use Rattle.mls_tree_model.proofs.Equations.{leaf_of_in, leaf_of_out, remove_is}
+use Rattle.mls_tree_model.proofs.ShapeLaws.{width-put, width-enter}
+use Rattle.mls_tree_model.proofs.MergeLaws.{width-merge}
+use Rattle.mls_tree_model.proofs.PlaceLaws.{first_blank_at, first_blank_none, first_blank_first, leaf_at-put, leaf_at-enter, leaf_at-merge, leaf_at-grow, leaf_at-grown, leaf_at-trim, width-grow, width-trim}
+use Rattle.mls_tree_model.proofs.MemberLaws.{remove_elsewhere}
+use Rattle.mls_tree_array.specs.Ends.{taken_end}
+use Rattle.mls_tree_array.proofs.EndLaws.{end_before, blank_behind}
+use Rattle.mls_tree_array.specs.StandingLaws.{StandsFor}
 use Rattle.mls_tree.specs.Bounds.{Bounds}
 use Rattle.mls_tree.proofs.Pathing.{merge_is}
 

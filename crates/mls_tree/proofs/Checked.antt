@@ -5,11 +5,11 @@ use Rattle.mls_leaf.specs.declared.node.Node.{Node}
 use Rattle.mls_treemath.specs.Limits.{max_height}
 use Rattle.mls_treemath.specs.Paths.{nodes_in}
 use Rattle.mls_treemath.proofs.Sizes.{nodes_in-pow, nodes_in_up}
-use Rattle.mls_term.specs.Term.{Term, height, is_perfect}
-use Rattle.mls_term.specs.Lists.{all_parents, rises_here}
-use Rattle.mls_term.specs.Good.{Rules, IsGood, has_good_shape, is_within, tree_checks}
-use Rattle.mls_term.proofs.GoodLaws.{good_from_checks}
-use Rattle.mls_array.specs.Standing.{Stands}
+use Rattle.mls_tree_model.specs.Term.{Term, height, is_perfect}
+use Rattle.mls_tree_model.specs.Lists.{all_parents, rises_here}
+use Rattle.mls_tree_model.specs.Good.{Rules, IsGood, has_good_shape, is_within, tree_checks}
+use Rattle.mls_tree_model.proofs.GoodLaws.{good_from_checks}
+use Rattle.mls_tree_array.specs.Standing.{Stands}
 use Rattle.mls_tree.specs.declared.error.TreeError.{TreeError}
 use Rattle.mls_tree.specs.Faults.{number_of}
 

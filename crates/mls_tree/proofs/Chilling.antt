@@ -7,18 +7,18 @@ use Rattle.std.proofs.lemmas.List.{get_or_append_left, get_or-append_right, leng
 use Rattle.mls_leaf.specs.declared.node.Node.{Node}
 use Rattle.mls_treemath.specs.Paths.{nodes_in}
 use Rattle.mls_treemath.proofs.Sizes.{nodes_in-suc, nodes_in_up}
-use Rattle.mls_term.specs.Sets.{has}
-use Rattle.mls_term.specs.Term.{Term, width, size, height, is_perfect, leaf_of}
-use Rattle.mls_term.specs.Edits.{first_blank, room_for, grow}
-use Rattle.mls_term.specs.Arrays.{term_of}
-use Rattle.mls_term.proofs.ShapeLaws.{height-perfect}
-use Rattle.mls_term.proofs.PlaceLaws.{first_blank_at, width-grow}
-use Rattle.mls_term.proofs.TakenLaws.{some_at, taken_at}
-use Rattle.mls_term.proofs.ArrayLaws.{size-term_of, size-perfect, width-term_of, perfect-term_of}
-use Rattle.mls_array.proofs.StandingLaws.{height-term_of}
-use Rattle.mls_hash.specs.Counter.{counted}
-use Rattle.mls_array.specs.Kept.{hashes_of, Keeps, is_cold_at, cold_places, dropped, upward}
-use Rattle.mls_array.proofs.KeptLaws.{keeps_long, none_cold, none_counted, all_counted, cold_none, cold-append, length-dropped, cold-dropped, few_dropped, few_taken, cold_in_take}
+use Rattle.mls_tree_model.specs.Sets.{has}
+use Rattle.mls_tree_model.specs.Term.{Term, width, size, height, is_perfect, leaf_of}
+use Rattle.mls_tree_model.specs.Edits.{first_blank, room_for, grow}
+use Rattle.mls_tree_model.specs.Arrays.{term_of}
+use Rattle.mls_tree_model.proofs.ShapeLaws.{height-perfect}
+use Rattle.mls_tree_model.proofs.PlaceLaws.{first_blank_at, width-grow}
+use Rattle.mls_tree_model.proofs.TakenLaws.{some_at, taken_at}
+use Rattle.mls_tree_model.proofs.ArrayLaws.{size-term_of, size-perfect, width-term_of, perfect-term_of}
+use Rattle.mls_tree_array.proofs.StandingLaws.{height-term_of}
+use Rattle.mls_tree_hash.specs.Counter.{counted}
+use Rattle.mls_tree_array.specs.Kept.{hashes_of, Keeps, is_cold_at, cold_places, dropped, upward}
+use Rattle.mls_tree_array.proofs.KeptLaws.{keeps_long, none_cold, none_counted, all_counted, cold_none, cold-append, length-dropped, cold-dropped, few_dropped, few_taken, cold_in_take}
 use Rattle.mls_tree.specs.Tree.{Tree, term}
 use Rattle.mls_tree.specs.Cold.{is_cold, cold_nodes, IsNew, Warms, Chills}
 use Rattle.mls_tree.proofs.Keepings.{grown_perfect}

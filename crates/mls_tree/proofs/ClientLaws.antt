@@ -6,16 +6,16 @@ use Rattle.std.proofs.Math.ListN.{get_or-map}
 use Rattle.mls_leaf.specs.Parent.{Parent}
 use Rattle.mls_leaf.specs.declared.leaf.LeafNode.{LeafNode}
 use Rattle.mls_leaf.specs.declared.node.Node.{Node}
-use Rattle.mls_term.specs.Term.{Term, Leaf, Branch, width, leaf_at, leaf_of}
-use Rattle.mls_term.specs.Merge.{merge, merge_path, keys_beside, hash_beside}
-use Rattle.mls_term.specs.Arrays.{term_of, in_order, parent_cell}
-use Rattle.mls_term.proofs.Equations.{leaf_at_leaf, leaf_at_left, leaf_at_right, merge_leaf, merge_left, merge_right}
-use Rattle.mls_index.specs.declared.kind.KeyKind.TheVariants.{Signature}
-use Rattle.mls_index.specs.Keys.{key_of, key_in}
-use Rattle.mls_index.specs.Indexes.{Listing, Indexes}
-use Rattle.mls_index.proofs.Laws.{indexes_alike}
-use Rattle.mls_array.specs.Standing.{Stands}
-use Rattle.mls_array.specs.StandingLaws.{StandsFor}
+use Rattle.mls_tree_model.specs.Term.{Term, Leaf, Branch, width, leaf_at, leaf_of}
+use Rattle.mls_tree_model.specs.Merge.{merge, merge_path, keys_beside, hash_beside}
+use Rattle.mls_tree_model.specs.Arrays.{term_of, in_order, parent_cell}
+use Rattle.mls_tree_model.proofs.Equations.{leaf_at_leaf, leaf_at_left, leaf_at_right, merge_leaf, merge_left, merge_right}
+use Rattle.mls_tree_index.specs.declared.kind.KeyKind.TheVariants.{Signature}
+use Rattle.mls_tree_index.specs.Keys.{key_of, key_in}
+use Rattle.mls_tree_index.specs.Indexes.{Listing, Indexes}
+use Rattle.mls_tree_index.proofs.Laws.{indexes_alike}
+use Rattle.mls_tree_array.specs.Standing.{Stands}
+use Rattle.mls_tree_array.specs.StandingLaws.{StandsFor}
 use Rattle.mls_tree.specs.Indexed.{IsClient}
 use Rattle.mls_tree.proofs.WayIndexes.{listed}
 

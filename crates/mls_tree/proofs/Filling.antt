@@ -4,17 +4,17 @@ use Rattle.std.proofs.lemmas.Bool.{true≢false, cases_lt, cases_order, and_part
 use Rattle.mls_leaf.specs.Parent.{Parent}
 use Rattle.mls_leaf.specs.declared.leaf.LeafNode.{LeafNode}
 use Rattle.mls_treemath.specs.Paths.{nodes_in}
-use Rattle.mls_term.specs.Term.{Term, Leaf, Branch, width, is_perfect, leaf_at}
-use Rattle.mls_term.specs.Edits.{enter, listing}
-use Rattle.mls_term.specs.Arrays.{leaf_cell, parent_cell, in_order}
-use Rattle.mls_term.proofs.Equations.{enter_leaf, enter_left, enter_right, leaf_at_leaf, leaf_at_left, leaf_at_right}
-use Rattle.mls_term.proofs.ShapeLaws.{width-perfect, width-enter, perfect-enter}
-use Rattle.mls_term.proofs.ArrayLaws.{nodes_in-leaves}
-use Rattle.mls_array.proofs.StandingLaws.{in_order-leaf, length-perfect}
-use Rattle.mls_index.specs.declared.kind.KeyKind.{KeyKind}
-use Rattle.mls_index.specs.declared.kind.KeyKind.TheVariants.{Encryption, Signature}
-use Rattle.mls_index.specs.Keys.{key_of}
-use Rattle.mls_index.proofs.CountLaws.{none_blank}
+use Rattle.mls_tree_model.specs.Term.{Term, Leaf, Branch, width, is_perfect, leaf_at}
+use Rattle.mls_tree_model.specs.Edits.{enter, listing}
+use Rattle.mls_tree_model.specs.Arrays.{leaf_cell, parent_cell, in_order}
+use Rattle.mls_tree_model.proofs.Equations.{enter_leaf, enter_left, enter_right, leaf_at_leaf, leaf_at_left, leaf_at_right}
+use Rattle.mls_tree_model.proofs.ShapeLaws.{width-perfect, width-enter, perfect-enter}
+use Rattle.mls_tree_model.proofs.ArrayLaws.{nodes_in-leaves}
+use Rattle.mls_tree_array.proofs.StandingLaws.{in_order-leaf, length-perfect}
+use Rattle.mls_tree_index.specs.declared.kind.KeyKind.{KeyKind}
+use Rattle.mls_tree_index.specs.declared.kind.KeyKind.TheVariants.{Encryption, Signature}
+use Rattle.mls_tree_index.specs.Keys.{key_of}
+use Rattle.mls_tree_index.proofs.CountLaws.{none_blank}
 use Rattle.mls_tree.specs.Indexed.{Fills}
 use Rattle.mls_tree.proofs.BesideLaws.{in_left, in_right, at_root, long_as}
 

@@ -5,11 +5,11 @@ use Rattle.std.proofs.lemmas.List.{drop_more, drop_all}
 use Rattle.std.proofs.lemmas.List.Concat.{flat_map-cons}
 use Rattle.std.proofs.lemmas.List.Folds.{list_all-append}
 use Rattle.mls_leaf.specs.declared.node.Node.{Node}
-use Rattle.mls_term.specs.Good.{is_all_fit}
-use Rattle.mls_term.specs.Arrays.{term_of}
-use Rattle.mls_array.specs.Standing.{Stands}
-use Rattle.mls_array.specs.Gathered.{cell_key}
-use Rattle.mls_array.proofs.GatheredLaws.{keys_standing}
+use Rattle.mls_tree_model.specs.Good.{is_all_fit}
+use Rattle.mls_tree_model.specs.Arrays.{term_of}
+use Rattle.mls_tree_array.specs.Standing.{Stands}
+use Rattle.mls_tree_array.specs.Gathered.{cell_key}
+use Rattle.mls_tree_array.proofs.GatheredLaws.{keys_standing}
 use Rattle.mls_suite.specs.Crypto.{Crypto}
 use Rattle.mls_tree.specs.Rules.{rules_of}
 

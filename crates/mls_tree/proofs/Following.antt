@@ -7,22 +7,22 @@ use Rattle.mls_wire.specs.Checks.{passed}
 use Rattle.mls_leaf.specs.Parent.{Parent}
 use Rattle.mls_leaf.specs.declared.leaf.LeafNode.{LeafNode}
 use Rattle.mls_leaf.specs.declared.node.Node.{Node}
-use Rattle.mls_term.specs.Term.{Term, Leaf, Branch, width, size, is_perfect, leaf_of}
-use Rattle.mls_term.specs.Hashes.{tree_hash}
-use Rattle.mls_term.specs.Resolution.{is_reached}
-use Rattle.mls_term.specs.Way.{path_length}
-use Rattle.mls_term.specs.Merge.{new_parent, keys_below, keys_beside, hash_beside, merge, merge_path}
-use Rattle.mls_term.proofs.Equations.{path_length_leaf, path_length_left, path_length_right}
-use Rattle.mls_term.specs.Arrays.{term_of}
-use Rattle.mls_term.proofs.ArrayLaws.{perfect-term_of}
-use Rattle.mls_term.proofs.PlaceLaws.{perfect-merge}
-use Rattle.mls_hash.specs.Counter.{counted}
-use Rattle.mls_array.specs.Kept.{hashes_of, Keeps, dropped, cold_places}
-use Rattle.mls_array.proofs.KeptLaws.{hashes_of_branch, length-hashes_of, left_part, right_part, dropped_leaf, dropped_left, dropped_right, cold-append, cold-cons, none_cold}
-use Rattle.mls_array.specs.Merging.{path_parents}
-use Rattle.mls_array.specs.StandingLaws.{StandsFor}
-use Rattle.mls_array.specs.WayHashes.{way_hashes, HashesMerged, PutsHashes}
-use Rattle.mls_array.proofs.WayHashLaws.{length-way_hashes}
+use Rattle.mls_tree_model.specs.Term.{Term, Leaf, Branch, width, size, is_perfect, leaf_of}
+use Rattle.mls_tree_model.specs.Hashes.{tree_hash}
+use Rattle.mls_tree_model.specs.Resolution.{is_reached}
+use Rattle.mls_tree_model.specs.Way.{path_length}
+use Rattle.mls_tree_model.specs.Merge.{new_parent, keys_below, keys_beside, hash_beside, merge, merge_path}
+use Rattle.mls_tree_model.proofs.Equations.{path_length_leaf, path_length_left, path_length_right}
+use Rattle.mls_tree_model.specs.Arrays.{term_of}
+use Rattle.mls_tree_model.proofs.ArrayLaws.{perfect-term_of}
+use Rattle.mls_tree_model.proofs.PlaceLaws.{perfect-merge}
+use Rattle.mls_tree_hash.specs.Counter.{counted}
+use Rattle.mls_tree_array.specs.Kept.{hashes_of, Keeps, dropped, cold_places}
+use Rattle.mls_tree_array.proofs.KeptLaws.{hashes_of_branch, length-hashes_of, left_part, right_part, dropped_leaf, dropped_left, dropped_right, cold-append, cold-cons, none_cold}
+use Rattle.mls_tree_array.specs.Merging.{path_parents}
+use Rattle.mls_tree_array.specs.StandingLaws.{StandsFor}
+use Rattle.mls_tree_array.specs.WayHashes.{way_hashes, HashesMerged, PutsHashes}
+use Rattle.mls_tree_array.proofs.WayHashLaws.{length-way_hashes}
 use Rattle.mls_tree.specs.Tree.{Tree, term}
 use Rattle.mls_tree.specs.Cold.{Warms, Chills}
 use Rattle.mls_tree.specs.Paths.{merge_checks, merge_answer}

@@ -2,12 +2,12 @@
 use Rattle.std.proofs.Common.{◌≡◌, ℕ, zero, suc, ◌+◌, ◌^◌, nat_lt, List, Option, Some, None, refl, sym, ◌∙◌, ap, arith, if◌then◌else◌}
 use Rattle.mls_leaf.specs.declared.leaf.LeafNode.{LeafNode}
 use Rattle.mls_leaf.specs.declared.node.Node.{Node}
-use Rattle.mls_term.specs.Term.{Term, Branch, width, height, blanks}
-use Rattle.mls_term.specs.Edits.{put, enter, grow}
-use Rattle.mls_term.specs.Arrays.{term_of}
-use Rattle.mls_term.proofs.Equations.{put_right, enter_right, grow_is}
-use Rattle.mls_term.proofs.ArrayLaws.{width-term_of}
-use Rattle.mls_array.specs.StandingLaws.{StandsFor}
+use Rattle.mls_tree_model.specs.Term.{Term, Branch, width, height, blanks}
+use Rattle.mls_tree_model.specs.Edits.{put, enter, grow}
+use Rattle.mls_tree_model.specs.Arrays.{term_of}
+use Rattle.mls_tree_model.proofs.Equations.{put_right, enter_right, grow_is}
+use Rattle.mls_tree_model.proofs.ArrayLaws.{width-term_of}
+use Rattle.mls_tree_array.specs.StandingLaws.{StandsFor}
 
 -- among blank nodes no list takes a leaf in
 enter_blanks : (h b i : ℕ) (x : LeafNode) → enter b (blanks h) i x ≡ put b (blanks h) i (Some x)

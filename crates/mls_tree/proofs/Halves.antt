@@ -7,10 +7,10 @@ use Rattle.mls_leaf.specs.declared.leaf.LeafNode.{LeafNode}
 use Rattle.mls_leaf.specs.declared.node.Node.{Node}
 use Rattle.mls_checks.specs.Short.{IsShort}
 use Rattle.mls_treemath.specs.Paths.{nodes_in}
-use Rattle.mls_term.specs.Term.{Term, Leaf, Branch, is_perfect, leaf_at, leaf_of, width}
-use Rattle.mls_term.specs.Arrays.{leaf_cell, parent_cell, term_of, in_order}
-use Rattle.mls_array.specs.StandingLaws.{StandsFor}
-use Rattle.mls_array.proofs.StandingLaws.{stands_for}
+use Rattle.mls_tree_model.specs.Term.{Term, Leaf, Branch, is_perfect, leaf_at, leaf_of, width}
+use Rattle.mls_tree_model.specs.Arrays.{leaf_cell, parent_cell, term_of, in_order}
+use Rattle.mls_tree_array.specs.StandingLaws.{StandsFor}
+use Rattle.mls_tree_array.proofs.StandingLaws.{stands_for}
 
 module _ (x : LeafNode) (p : Parent) (y : LeafNode) where
   abbrev pub halves : Term

@@ -8,21 +8,21 @@ use Rattle.mls_leaf.specs.declared.leaf.LeafNode.{LeafNode}
 use Rattle.mls_leaf.specs.declared.node.Node.{Node}
 use Rattle.mls_treemath.specs.Paths.{nodes_in}
 use Rattle.mls_treemath.specs.Limits.{max_height}
-use Rattle.mls_term.specs.Term.{Term, leaf_of}
-use Rattle.mls_term.specs.Sets.{is_distinct}
-use Rattle.mls_term.specs.Edits.{put, enter, grow, trim, first_blank}
-use Rattle.mls_term.specs.Merge.{merge_path}
-use Rattle.mls_term.specs.Arrays.{term_of, in_order}
-use Rattle.mls_term.proofs.PlaceLaws.{first_blank_at, leaf_at-grow, width-grow}
-use Rattle.mls_term.proofs.ArrayLaws.{perfect-term_of, width-term_of, nodes_in-leaves}
-use Rattle.mls_array.specs.Standing.{Stands}
-use Rattle.mls_array.specs.StandingLaws.{StandsFor}
-use Rattle.mls_array.proofs.StandingLaws.{in_order-grow, no_more_nodes, stands_for-trim}
-use Rattle.mls_index.specs.declared.kind.KeyKind.{KeyKind}
-use Rattle.mls_index.specs.Indexes.{Listing, Indexes, Without}
-use Rattle.mls_index.specs.Cleared.{cleared}
-use Rattle.mls_index.proofs.StepLaws.{same_index}
-use Rattle.mls_index.proofs.Laws.{indexes_padded}
+use Rattle.mls_tree_model.specs.Term.{Term, leaf_of}
+use Rattle.mls_tree_model.specs.Sets.{is_distinct}
+use Rattle.mls_tree_model.specs.Edits.{put, enter, grow, trim, first_blank}
+use Rattle.mls_tree_model.specs.Merge.{merge_path}
+use Rattle.mls_tree_model.specs.Arrays.{term_of, in_order}
+use Rattle.mls_tree_model.proofs.PlaceLaws.{first_blank_at, leaf_at-grow, width-grow}
+use Rattle.mls_tree_model.proofs.ArrayLaws.{perfect-term_of, width-term_of, nodes_in-leaves}
+use Rattle.mls_tree_array.specs.Standing.{Stands}
+use Rattle.mls_tree_array.specs.StandingLaws.{StandsFor}
+use Rattle.mls_tree_array.proofs.StandingLaws.{in_order-grow, no_more_nodes, stands_for-trim}
+use Rattle.mls_tree_index.specs.declared.kind.KeyKind.{KeyKind}
+use Rattle.mls_tree_index.specs.Indexes.{Listing, Indexes, Without}
+use Rattle.mls_tree_index.specs.Cleared.{cleared}
+use Rattle.mls_tree_index.proofs.StepLaws.{same_index}
+use Rattle.mls_tree_index.proofs.Laws.{indexes_padded}
 use Rattle.mls_tree.specs.declared.key_indexes.KeyIndexes.{KeyIndexes}
 use Rattle.mls_tree.specs.Indexed.{AreIndexes, AreBeside, AreSame, Fills, IsClient}
 use Rattle.mls_tree.proofs.ClientLaws.{indexes-client}

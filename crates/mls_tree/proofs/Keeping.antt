@@ -1,14 +1,14 @@
 -- What the edits of a tree keep.
 use Rattle.std.proofs.Common.{◌≡◌, ℕ, ◌≤◌, true, List, [], None, is_some, Ok, sym, ◌∙◌, ap, subst, arith}
 use Rattle.mls_leaf.specs.declared.leaf.LeafNode.{LeafNode}
-use Rattle.mls_term.specs.Term.{Term, width, has_leaf, leaf_of}
-use Rattle.mls_term.specs.Edits.{put, add, place_in}
-use Rattle.mls_term.specs.Good.{IsGood, IsSound, AreNew, AreFit, has_distinct_keys, has_distinct_clients}
-use Rattle.mls_term.proofs.Equations.{update_is}
-use Rattle.mls_term.proofs.SoundLaws.{sound_update, sound_remove, sound_add, good_of_sound}
-use Rattle.mls_term.proofs.KeptLaws.{good_update, good_remove, good_add}
-use Rattle.mls_term.proofs.PathLaws.{good_merge_path, sound_merge_path}
-use Rattle.mls_term.proofs.ClientLaws.{distinct_clients-merge_path}
+use Rattle.mls_tree_model.specs.Term.{Term, width, has_leaf, leaf_of}
+use Rattle.mls_tree_model.specs.Edits.{put, add, place_in}
+use Rattle.mls_tree_model.specs.Good.{IsGood, IsSound, AreNew, AreFit, has_distinct_keys, has_distinct_clients}
+use Rattle.mls_tree_model.proofs.Equations.{update_is}
+use Rattle.mls_tree_model.proofs.SoundLaws.{sound_update, sound_remove, sound_add, good_of_sound}
+use Rattle.mls_tree_model.proofs.KeptLaws.{good_update, good_remove, good_add}
+use Rattle.mls_tree_model.proofs.PathLaws.{good_merge_path, sound_merge_path}
+use Rattle.mls_tree_model.proofs.ClientLaws.{distinct_clients-merge_path}
 use Rattle.mls_tree.specs.Tree.{max_leaves, add_answer, update_answer, remove_answer}
 use Rattle.mls_tree.specs.Paths.{merge_answer}
 use Rattle.mls_tree.specs.Kept.{KeepsGood, KeepsSound, MergesGood}

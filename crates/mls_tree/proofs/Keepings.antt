@@ -4,16 +4,16 @@ use Rattle.std.proofs.lemmas.List.{take_at}
 use Rattle.mls_leaf.specs.declared.leaf.LeafNode.{LeafNode}
 use Rattle.mls_leaf.specs.declared.node.Node.{Node}
 use Rattle.mls_treemath.specs.Paths.{nodes_in}
-use Rattle.mls_term.specs.Term.{size, height, blanks, is_perfect}
-use Rattle.mls_term.specs.Edits.{put, enter, grow, trim}
-use Rattle.mls_term.specs.Merge.{merge, merge_path}
-use Rattle.mls_term.specs.Arrays.{term_of}
-use Rattle.mls_term.proofs.ShapeLaws.{perfect-blanks, perfect-grow}
-use Rattle.mls_term.proofs.ArrayLaws.{size-term_of, size-perfect, perfect-term_of}
-use Rattle.mls_array.specs.StandingLaws.{StandsFor}
-use Rattle.mls_array.proofs.StandingLaws.{height-term_of}
-use Rattle.mls_array.specs.Kept.{hashes_of, Keeps, dropped, KeptHashes}
-use Rattle.mls_array.proofs.KeptLaws.{keeps_all, keeps_none, keeps_long, keeps-put, keeps-enter, keeps-merge, keeps-grow, keeps-trim}
+use Rattle.mls_tree_model.specs.Term.{size, height, blanks, is_perfect}
+use Rattle.mls_tree_model.specs.Edits.{put, enter, grow, trim}
+use Rattle.mls_tree_model.specs.Merge.{merge, merge_path}
+use Rattle.mls_tree_model.specs.Arrays.{term_of}
+use Rattle.mls_tree_model.proofs.ShapeLaws.{perfect-blanks, perfect-grow}
+use Rattle.mls_tree_model.proofs.ArrayLaws.{size-term_of, size-perfect, perfect-term_of}
+use Rattle.mls_tree_array.specs.StandingLaws.{StandsFor}
+use Rattle.mls_tree_array.proofs.StandingLaws.{height-term_of}
+use Rattle.mls_tree_array.specs.Kept.{hashes_of, Keeps, dropped, KeptHashes}
+use Rattle.mls_tree_array.proofs.KeptLaws.{keeps_all, keeps_none, keeps_long, keeps-put, keeps-enter, keeps-merge, keeps-grow, keeps-trim}
 use Rattle.mls_tree.proofs.Pathing.{merge_is}
 
 pub cold_tree : (h n : ℕ) (xs : List (Option Node)) → n ≡ nodes_in h → Keeps 0 (term_of h xs) (replicate n None)

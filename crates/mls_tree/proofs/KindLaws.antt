@@ -4,17 +4,17 @@ use Rattle.std.specs.List.{flat_map}
 use Rattle.std.specs.Option.{option_to_list}
 use Rattle.mls_leaf.specs.declared.node.Node.{Node}
 use Rattle.mls_leaf.specs.declared.node.Node.TheVariants.{Leaf as in_leaf, Parent as in_parent}
-use Rattle.mls_term.specs.Term.{Term}
-use Rattle.mls_term.specs.Keys.{leaf_key, parent_key, encryption_keys}
-use Rattle.mls_term.specs.Sets.{same_bytes, is_distinct}
-use Rattle.mls_term.specs.Arrays.{term_of, in_order}
-use Rattle.mls_term.specs.Good.{has_distinct_keys, has_distinct_clients}
-use Rattle.mls_index.specs.declared.kind.KeyKind.TheVariants.{Encryption, Signature}
-use Rattle.mls_index.specs.Keys.{key_of, keys_of}
-use Rattle.mls_array.specs.Standing.{Stands}
-use Rattle.mls_array.specs.Gathered.{cell_key}
-use Rattle.mls_array.proofs.Gathered.{cell_signature}
-use Rattle.mls_array.proofs.GatheredLaws.{gather-in_order, keys_standing, signatures_standing}
+use Rattle.mls_tree_model.specs.Term.{Term}
+use Rattle.mls_tree_model.specs.Keys.{leaf_key, parent_key, encryption_keys}
+use Rattle.mls_tree_model.specs.Sets.{same_bytes, is_distinct}
+use Rattle.mls_tree_model.specs.Arrays.{term_of, in_order}
+use Rattle.mls_tree_model.specs.Good.{has_distinct_keys, has_distinct_clients}
+use Rattle.mls_tree_index.specs.declared.kind.KeyKind.TheVariants.{Encryption, Signature}
+use Rattle.mls_tree_index.specs.Keys.{key_of, keys_of}
+use Rattle.mls_tree_array.specs.Standing.{Stands}
+use Rattle.mls_tree_array.specs.Gathered.{cell_key}
+use Rattle.mls_tree_array.proofs.Gathered.{cell_signature}
+use Rattle.mls_tree_array.proofs.GatheredLaws.{gather-in_order, keys_standing, signatures_standing}
 
 -- a cell's key, by its kind
 encryption_key : (c : Option Node) → option_to_list (key_of Encryption c) ≡ cell_key c

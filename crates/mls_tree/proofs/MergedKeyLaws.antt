@@ -5,23 +5,23 @@ use Rattle.std.proofs.lemmas.List.{length-reverse}
 use Rattle.mls_leaf.specs.Parent.{Parent}
 use Rattle.mls_leaf.specs.declared.leaf.LeafNode.{LeafNode}
 use Rattle.mls_leaf.specs.declared.node.Node.{Node}
-use Rattle.mls_term.specs.Term.{Term, Leaf, Branch, width}
-use Rattle.mls_term.specs.Sets.{same_bytes, count, is_distinct}
-use Rattle.mls_term.specs.Resolution.{is_reached}
-use Rattle.mls_term.specs.Way.{path_length}
-use Rattle.mls_term.specs.Edits.{put}
-use Rattle.mls_term.specs.Merge.{new_parent, keys_below, merge, merge_path, keys_beside, hash_beside, parent_beside}
-use Rattle.mls_term.specs.Keys.{gather, parent_key, encryption_keys}
-use Rattle.mls_term.specs.Arrays.{term_of, in_order}
-use Rattle.mls_term.proofs.Equations.{put_leaf, put_left, put_right, merge_leaf, merge_left, merge_right, path_length_leaf, path_length_left, path_length_right}
-use Rattle.mls_term.proofs.CountLaws.{bytes_true, count-append, distinct_at, distinct_from}
-use Rattle.mls_term.proofs.MergeLaws.{bytes_refl}
-use Rattle.mls_term.proofs.PathLaws.{reverse-cons}
-use Rattle.mls_index.specs.declared.kind.KeyKind.TheVariants.{Encryption}
-use Rattle.mls_index.specs.Keys.{key_of, keys_of}
-use Rattle.mls_index.specs.Cleared.{cleared}
-use Rattle.mls_index.proofs.CountLaws.{same_gathered, none_blank}
-use Rattle.mls_array.specs.Standing.{Stands}
+use Rattle.mls_tree_model.specs.Term.{Term, Leaf, Branch, width}
+use Rattle.mls_tree_model.specs.Sets.{same_bytes, count, is_distinct}
+use Rattle.mls_tree_model.specs.Resolution.{is_reached}
+use Rattle.mls_tree_model.specs.Way.{path_length}
+use Rattle.mls_tree_model.specs.Edits.{put}
+use Rattle.mls_tree_model.specs.Merge.{new_parent, keys_below, merge, merge_path, keys_beside, hash_beside, parent_beside}
+use Rattle.mls_tree_model.specs.Keys.{gather, parent_key, encryption_keys}
+use Rattle.mls_tree_model.specs.Arrays.{term_of, in_order}
+use Rattle.mls_tree_model.proofs.Equations.{put_leaf, put_left, put_right, merge_leaf, merge_left, merge_right, path_length_leaf, path_length_left, path_length_right}
+use Rattle.mls_tree_model.proofs.CountLaws.{bytes_true, count-append, distinct_at, distinct_from}
+use Rattle.mls_tree_model.proofs.MergeLaws.{bytes_refl}
+use Rattle.mls_tree_model.proofs.PathLaws.{reverse-cons}
+use Rattle.mls_tree_index.specs.declared.kind.KeyKind.TheVariants.{Encryption}
+use Rattle.mls_tree_index.specs.Keys.{key_of, keys_of}
+use Rattle.mls_tree_index.specs.Cleared.{cleared}
+use Rattle.mls_tree_index.proofs.CountLaws.{same_gathered, none_blank}
+use Rattle.mls_tree_array.specs.Standing.{Stands}
 use Rattle.mls_tree.specs.Way.{way_numbers}
 use Rattle.mls_tree.proofs.WayIndexes.{removed_key}
 use Rattle.mls_tree.proofs.KindLaws.{keys_in_order}

@@ -5,15 +5,15 @@ use Rattle.mls_leaf.specs.declared.leaf.LeafNode.{LeafNode}
 use Rattle.mls_leaf.specs.declared.node.Node.{Node}
 use Rattle.mls_treemath.specs.Paths.{nodes_in}
 use Rattle.mls_treemath.proofs.Sizes.{nodes_in-pow}
-use Rattle.mls_term.specs.Term.{Term, Leaf, Branch, width, leaf_at, leaf_of}
-use Rattle.mls_term.specs.Keys.{passes, all_members}
+use Rattle.mls_tree_model.specs.Term.{Term, Leaf, Branch, width, leaf_at, leaf_of}
+use Rattle.mls_tree_model.specs.Keys.{passes, all_members}
 use Rattle.mls_suite.specs.Crypto.{Crypto}
 use Rattle.mls_checks.specs.Leaf.{is_capable}
-use Rattle.mls_term.specs.Good.{is_all_capable}
-use Rattle.mls_term.specs.Arrays.{term_of}
+use Rattle.mls_tree_model.specs.Good.{is_all_capable}
+use Rattle.mls_tree_model.specs.Arrays.{term_of}
 use Rattle.mls_tree.specs.Rules.{rules_of}
-use Rattle.mls_term.proofs.Equations.{leaf_at_leaf, leaf_at_left, leaf_at_right, leaf_of_in, all_members_leaf, all_members_branch}
-use Rattle.mls_term.proofs.ArrayLaws.{width-term_of}
+use Rattle.mls_tree_model.proofs.Equations.{leaf_at_leaf, leaf_at_left, leaf_at_right, leaf_of_in, all_members_leaf, all_members_branch}
+use Rattle.mls_tree_model.proofs.ArrayLaws.{width-term_of}
 
 -- whether the n leaves from leaf i on pass a test
 abbrev pub rest : (ℕ → LeafNode → Bool) → (ℕ → Option LeafNode) → ℕ → ℕ → Bool

@@ -8,19 +8,19 @@ use Rattle.mls_wire.specs.Checks.{passed}
 use Rattle.mls_leaf.specs.declared.leaf.LeafNode.{LeafNode}
 use Rattle.mls_leaf.specs.declared.leaf.LeafSource.{LeafSource}
 use Rattle.mls_leaf.specs.declared.leaf.LeafSource.TheVariants.{Commit}
-use Rattle.mls_term.specs.Node.{source_hash}
-use Rattle.mls_term.specs.Sets.{same_bytes, is_distinct}
-use Rattle.mls_term.specs.Term.{Term, leaf_of}
-use Rattle.mls_term.specs.Way.{path_length}
-use Rattle.mls_term.specs.Hashes.{is_some_bytes}
-use Rattle.mls_term.specs.Keys.{encryption_keys}
-use Rattle.mls_term.specs.Merge.{merge, path_hash, merge_path, path_parent_hash}
+use Rattle.mls_tree_model.specs.Node.{source_hash}
+use Rattle.mls_tree_model.specs.Sets.{same_bytes, is_distinct}
+use Rattle.mls_tree_model.specs.Term.{Term, leaf_of}
+use Rattle.mls_tree_model.specs.Way.{path_length}
+use Rattle.mls_tree_model.specs.Hashes.{is_some_bytes}
+use Rattle.mls_tree_model.specs.Keys.{encryption_keys}
+use Rattle.mls_tree_model.specs.Merge.{merge, path_hash, merge_path, path_parent_hash}
 use Rattle.mls_leaf.specs.declared.node.Node.{Node}
-use Rattle.mls_term.specs.Arrays.{term_of, in_order}
-use Rattle.mls_array.specs.StandingLaws.{StandsFor}
-use Rattle.mls_array.proofs.MergingLaws.{stands_for-merge}
+use Rattle.mls_tree_model.specs.Arrays.{term_of, in_order}
+use Rattle.mls_tree_array.specs.StandingLaws.{StandsFor}
+use Rattle.mls_tree_array.proofs.MergingLaws.{stands_for-merge}
 use Rattle.mls_tree.specs.Paths.{path_checks, path_hash_answer, merge_checks, merge_answer}
-use Rattle.mls_term.proofs.SetLaws.{same-pointwise}
+use Rattle.mls_tree_model.proofs.SetLaws.{same-pointwise}
 
 -- ---- whole trees
 

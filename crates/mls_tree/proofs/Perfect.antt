@@ -1,9 +1,9 @@
 -- A public tree is perfect, whatever its nodes are.
 use Rattle.std.proofs.Common.{◌≡◌, ◌^◌, true}
-use Rattle.mls_term.specs.Term.{height, is_perfect, width}
-use Rattle.mls_term.proofs.ArrayLaws.{perfect-term_of}
-use Rattle.mls_term.proofs.ShapeLaws.{width-perfect, height-perfect}
-use Rattle.mls_term.proofs.PlaceLaws.{perfect_itself}
+use Rattle.mls_tree_model.specs.Term.{height, is_perfect, width}
+use Rattle.mls_tree_model.proofs.ArrayLaws.{perfect-term_of}
+use Rattle.mls_tree_model.proofs.ShapeLaws.{width-perfect, height-perfect}
+use Rattle.mls_tree_model.proofs.PlaceLaws.{perfect_itself}
 use Rattle.mls_tree.specs.Tree.{Tree, term}
 
 pub perfect : (t : Tree) → is_perfect (height (term t)) (term t) ≡ true

@@ -4,12 +4,12 @@ use Rattle.std.proofs.Math.Pow.{pow_mono, pow-lt}
 use Rattle.std.proofs.lemmas.Bool.{lt-leb}
 use Rattle.mls_leaf.specs.declared.node.Node.{Node}
 use Rattle.mls_treemath.specs.Limits.{max_height}
-use Rattle.mls_term.specs.Term.{width, is_full_width}
-use Rattle.mls_term.specs.Good.{is_within}
-use Rattle.mls_term.specs.Arrays.{term_of, has_last, alternates, height_for, padded, sent_term, from_nodes}
-use Rattle.mls_array.specs.Standing.{Stands}
-use Rattle.mls_term.proofs.ArrayLaws.{width-term_of}
-use Rattle.mls_array.proofs.OrderLaws.{Stands-padded}
+use Rattle.mls_tree_model.specs.Term.{width, is_full_width}
+use Rattle.mls_tree_model.specs.Good.{is_within}
+use Rattle.mls_tree_model.specs.Arrays.{term_of, has_last, alternates, height_for, padded, sent_term, from_nodes}
+use Rattle.mls_tree_array.specs.Standing.{Stands}
+use Rattle.mls_tree_model.proofs.ArrayLaws.{width-term_of}
+use Rattle.mls_tree_array.proofs.OrderLaws.{Stands-padded}
 use Rattle.mls_tree.specs.Tree.{max_leaves}
 
 module _ (xs : List (Option Node)) where

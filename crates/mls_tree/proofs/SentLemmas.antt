@@ -2,9 +2,9 @@
 use Rattle.std.proofs.Common.{◌≡◌, true, List, Option, Ok}
 use Rattle.mls_wire.proofs.CheckLaws.{require_ok}
 use Rattle.mls_leaf.specs.declared.node.Node.{Node}
-use Rattle.mls_term.specs.Term.{Term, is_full_width}
-use Rattle.mls_term.specs.Good.{is_within}
-use Rattle.mls_term.specs.Arrays.{sent_term, has_last, alternates, from_nodes}
+use Rattle.mls_tree_model.specs.Term.{Term, is_full_width}
+use Rattle.mls_tree_model.specs.Good.{is_within}
+use Rattle.mls_tree_model.specs.Arrays.{sent_term, has_last, alternates, from_nodes}
 use Rattle.mls_tree.specs.Tree.{max_leaves}
 
 pub sent_is : (xs : List (Option Node)) (t : Term) → from_nodes max_leaves xs ≡ Ok t → (sent_term xs ≡ t) × (is_full_width (sent_term xs) ≡ true) × (is_within max_leaves (sent_term xs) ≡ true)

@@ -4,19 +4,19 @@ use Rattle.mls_wire.specs.Checks.{passed}
 use Rattle.mls_wire.specs.CheckLaws.{required}
 use Rattle.mls_wire.proofs.CheckLaws.{bind_ok, then_ok, require_ok, given_ok}
 use Rattle.mls_leaf.specs.declared.leaf.LeafNode.{LeafNode}
-use Rattle.mls_term.specs.Node.{source_hash}
-use Rattle.mls_term.specs.Term.{Term, width, leaf_of}
-use Rattle.mls_term.specs.Sets.{same_bytes, is_distinct}
-use Rattle.mls_term.specs.Way.{path_length}
-use Rattle.mls_term.specs.Edits.{put, place_in, add, update, remove}
-use Rattle.mls_term.specs.Hashes.{is_some_bytes}
-use Rattle.mls_term.specs.Keys.{encryption_keys}
-use Rattle.mls_term.specs.Merge.{merge_path, path_parent_hash}
-use Rattle.mls_term.specs.Good.{is_within, has_distinct_keys}
-use Rattle.mls_term.proofs.Equations.{update_is}
-use Rattle.mls_term.proofs.CountLaws.{bytes_true}
-use Rattle.mls_term.proofs.SoundLaws.{within_at}
-use Rattle.mls_term.proofs.TakenLaws.{taken_at}
+use Rattle.mls_tree_model.specs.Node.{source_hash}
+use Rattle.mls_tree_model.specs.Term.{Term, width, leaf_of}
+use Rattle.mls_tree_model.specs.Sets.{same_bytes, is_distinct}
+use Rattle.mls_tree_model.specs.Way.{path_length}
+use Rattle.mls_tree_model.specs.Edits.{put, place_in, add, update, remove}
+use Rattle.mls_tree_model.specs.Hashes.{is_some_bytes}
+use Rattle.mls_tree_model.specs.Keys.{encryption_keys}
+use Rattle.mls_tree_model.specs.Merge.{merge_path, path_parent_hash}
+use Rattle.mls_tree_model.specs.Good.{is_within, has_distinct_keys}
+use Rattle.mls_tree_model.proofs.Equations.{update_is}
+use Rattle.mls_tree_model.proofs.CountLaws.{bytes_true}
+use Rattle.mls_tree_model.proofs.SoundLaws.{within_at}
+use Rattle.mls_tree_model.proofs.TakenLaws.{taken_at}
 use Rattle.mls_tree.specs.Tree.{max_leaves, member_at, add_answer, update_answer, remove_answer}
 use Rattle.mls_tree.specs.Paths.{path_checks, merge_checks, merge_answer}
 

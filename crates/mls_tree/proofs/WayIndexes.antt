@@ -3,21 +3,21 @@ use Rattle.std.proofs.Common.{◌≡◌, ℕ, ◌+◌, ◌*◌, false, List, get
 use Rattle.std.proofs.lemmas.Bool.{cases_Bool}
 use Rattle.mls_leaf.specs.declared.leaf.LeafNode.{LeafNode}
 use Rattle.mls_leaf.specs.declared.node.Node.{Node}
-use Rattle.mls_term.specs.Term.{Term}
-use Rattle.mls_term.specs.Sets.{has}
-use Rattle.mls_term.specs.Edits.{put, enter}
-use Rattle.mls_term.specs.Merge.{merge}
-use Rattle.mls_term.specs.Arrays.{term_of, in_order}
-use Rattle.mls_term.proofs.ArrayLaws.{perfect-term_of}
-use Rattle.mls_index.specs.declared.kind.KeyKind.{KeyKind}
-use Rattle.mls_index.specs.Keys.{key_of, key_in}
-use Rattle.mls_index.specs.Indexes.{Listing, Indexes}
-use Rattle.mls_index.specs.Cleared.{cleared, HasPlaces}
-use Rattle.mls_index.proofs.CountLaws.{none_blank}
-use Rattle.mls_index.proofs.ClearedLaws.{cleared_alike, key_cleared, key_left}
-use Rattle.mls_index.proofs.Laws.{indexes_alike}
-use Rattle.mls_array.specs.Standing.{Stands}
-use Rattle.mls_array.specs.StandingLaws.{StandsFor}
+use Rattle.mls_tree_model.specs.Term.{Term}
+use Rattle.mls_tree_model.specs.Sets.{has}
+use Rattle.mls_tree_model.specs.Edits.{put, enter}
+use Rattle.mls_tree_model.specs.Merge.{merge}
+use Rattle.mls_tree_model.specs.Arrays.{term_of, in_order}
+use Rattle.mls_tree_model.proofs.ArrayLaws.{perfect-term_of}
+use Rattle.mls_tree_index.specs.declared.kind.KeyKind.{KeyKind}
+use Rattle.mls_tree_index.specs.Keys.{key_of, key_in}
+use Rattle.mls_tree_index.specs.Indexes.{Listing, Indexes}
+use Rattle.mls_tree_index.specs.Cleared.{cleared, HasPlaces}
+use Rattle.mls_tree_index.proofs.CountLaws.{none_blank}
+use Rattle.mls_tree_index.proofs.ClearedLaws.{cleared_alike, key_cleared, key_left}
+use Rattle.mls_tree_index.proofs.Laws.{indexes_alike}
+use Rattle.mls_tree_array.specs.Standing.{Stands}
+use Rattle.mls_tree_array.specs.StandingLaws.{StandsFor}
 use Rattle.mls_tree.specs.Way.{way_numbers}
 use Rattle.mls_tree.proofs.BesideLaws.{StaysBeside, put_stays, enter_stays, merge_stays}
 use Rattle.mls_tree.proofs.BlankLaws.{put_blanks}

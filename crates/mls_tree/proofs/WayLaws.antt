@@ -2,9 +2,9 @@
 use Rattle.std.proofs.Common.{◌≡◌, ℕ, zero, suc, ◌+◌, ◌*◌, ◌^◌, ◌<◌, ◌≤◌, ◌==◌, nat_eq, true, false, ◌||◌, List, [], ◌∷◌, length, refl, sym, ◌∙◌, ap, arith, inl, inr, eqb-true, eq-eqb, lt-ltb, le-ltb}
 use Rattle.std.proofs.lemmas.Bool.{true≢false, cases_Bool, cases_lt, cond-true, cond-false, and_from, or_parts}
 use Rattle.mls_treemath.specs.Paths.{nodes_in}
-use Rattle.mls_term.specs.Sets.{has, count, is_distinct}
-use Rattle.mls_term.proofs.CountLaws.{count_none}
-use Rattle.mls_term.proofs.ArrayLaws.{nodes_in-leaves}
+use Rattle.mls_tree_model.specs.Sets.{has, count, is_distinct}
+use Rattle.mls_tree_model.proofs.CountLaws.{count_none}
+use Rattle.mls_tree_model.proofs.ArrayLaws.{nodes_in-leaves}
 use Rattle.mls_tree.specs.Way.{numbers_from, way_numbers}
 
 pub numbers_leaf : (b i : ℕ) → numbers_from 0 b i ≡ (2 * b) ∷ []

@@ -6,7 +6,7 @@ use Rattle.std.proofs.lemmas.Bool.{cases_lt}
 use Rattle.std.proofs.lemmas.List.{drop_all}
 use borrow.Rule.Slice.PartMut.{put_mid}
 use Rattle.mls_treemath.specs.Paths.{nodes_in}
-use Rattle.mls_term.proofs.ArrayLaws.{nodes_in-leaves}
+use Rattle.mls_tree_model.proofs.ArrayLaws.{nodes_in-leaves}
 use Rattle.mls_tree.specs.Way.{numbers_from}
 use Rattle.mls_tree.proofs.WayLaws.{numbers_leaf, numbers_left, numbers_right}
 

@@ -1,6 +1,6 @@
 -- What a tree keeps of which leaves are taken, so that no edit looks at all of them.
 use Rattle.std.specs.Prelude.{◌≡◌, ℕ, ◌<◌, ◌≤◌, None, IsSome}
-use Rattle.mls_term.specs.Term.{Term, leaf_of}
+use Rattle.mls_tree_model.specs.Term.{Term, leaf_of}
 
 -- each leaf before the first number is taken, and each leaf from the second on is blank
 pub record Bounds (t : Term) (full_to blank_from : ℕ) : Type 0 where

@@ -1,9 +1,9 @@
 -- Which nodes of a tree have no kept hash, and what calls make of them.
 use Rattle.std.specs.Prelude.{◌≡◌, ℕ, suc, ◌+◌, ◌-◌, ◌*◌, ◌<◌, ◌≤◌, nat_le, Bool, true, ◌||◌, List, [], ◌∷◌, length}
-use Rattle.mls_term.specs.Sets.{has}
-use Rattle.mls_term.specs.Term.{Term, size, height}
-use Rattle.mls_hash.specs.Counter.{counted}
-use Rattle.mls_array.specs.Kept.{is_cold_at, cold_places, upward}
+use Rattle.mls_tree_model.specs.Sets.{has}
+use Rattle.mls_tree_model.specs.Term.{Term, size, height}
+use Rattle.mls_tree_hash.specs.Counter.{counted}
+use Rattle.mls_tree_array.specs.Kept.{is_cold_at, cold_places, upward}
 use Rattle.mls_tree.specs.Tree.{Tree, term}
 
 -- whether a node has no kept hash

@@ -2,11 +2,11 @@
 use Rattle.std.specs.Prelude.{◌≡◌, ℕ, ◌≤◌, Bool, cond, List, length, Option, Some, None}
 use Rattle.mls_leaf.specs.declared.leaf.LeafNode.{LeafNode}
 use Rattle.mls_leaf.specs.declared.node.Node.{Node}
-use Rattle.mls_index.specs.declared.kind.KeyKind.{KeyKind}
-use Rattle.mls_index.specs.declared.kind.KeyKind.TheVariants.{Encryption, Signature}
-use Rattle.mls_index.specs.Cleared.{cleared}
-use Rattle.mls_index.specs.Keys.{key_in}
-use Rattle.mls_index.specs.Indexes.{Indexes, SameIndex}
+use Rattle.mls_tree_index.specs.declared.kind.KeyKind.{KeyKind}
+use Rattle.mls_tree_index.specs.declared.kind.KeyKind.TheVariants.{Encryption, Signature}
+use Rattle.mls_tree_index.specs.Cleared.{cleared}
+use Rattle.mls_tree_index.specs.Keys.{key_in}
+use Rattle.mls_tree_index.specs.Indexes.{Indexes, SameIndex}
 use Rattle.mls_tree.specs.declared.key_indexes.KeyIndexes.{KeyIndexes}
 
 -- both are of these cells

@@ -1,8 +1,8 @@
 -- What an edit keeps of a tree, whatever rules a group has for its tree.
 use Rattle.std.specs.Prelude.{◌≡◌, ℕ, true, List, Some}
 use Rattle.mls_leaf.specs.declared.leaf.LeafNode.{LeafNode}
-use Rattle.mls_term.specs.Term.{Term, leaf_of}
-use Rattle.mls_term.specs.Good.{Rules, IsGood, IsSound, AreFit, has_distinct_clients}
+use Rattle.mls_tree_model.specs.Term.{Term, leaf_of}
+use Rattle.mls_tree_model.specs.Good.{Rules, IsGood, IsSound, AreFit, has_distinct_clients}
 
 -- a good tree stays good, where the edit is allowed
 abbrev pub KeepsGood : (Rules → Type 0) → Term → Term → Type 0

@@ -7,7 +7,7 @@ use Rattle.mls_leaf.specs.declared.key_package.KeyPackage.{KeyPackage}
 use Rattle.mls_suite.specs.Crypto.{Crypto}
 use Rattle.mls_checks.specs.declared.checks.Source.{Source}
 use Rattle.mls_checks.specs.Checks.{key_package_checks, replaced_checks}
-use Rattle.mls_term.specs.Good.{AreFit}
+use Rattle.mls_tree_model.specs.Good.{AreFit}
 use Rattle.mls_tree.specs.Rules.{rules_of}
 
 -- the leaf of a KeyPackage that passed its checks, at whatever place of whatever group it lands

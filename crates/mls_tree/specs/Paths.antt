@@ -3,13 +3,13 @@ use Rattle.std.specs.Prelude.{◌≡◌, ◌≢◌, ℕ, ◌==◌, List, length,
 use Rattle.mls_wire.specs.Checks.{Passed, require, ◌>>◌}
 use Rattle.mls_wire.specs.Reading.{◌>>=◌}
 use Rattle.mls_leaf.specs.declared.leaf.LeafNode.{LeafNode}
-use Rattle.mls_term.specs.Node.{source_hash}
-use Rattle.mls_term.specs.Sets.{same_bytes, is_distinct}
-use Rattle.mls_term.specs.Term.{Term}
-use Rattle.mls_term.specs.Way.{path_length, ciphertext_counts}
-use Rattle.mls_term.specs.Hashes.{is_some_bytes}
-use Rattle.mls_term.specs.Keys.{encryption_keys}
-use Rattle.mls_term.specs.Merge.{merge_path, path_parent_hash}
+use Rattle.mls_tree_model.specs.Node.{source_hash}
+use Rattle.mls_tree_model.specs.Sets.{same_bytes, is_distinct}
+use Rattle.mls_tree_model.specs.Term.{Term}
+use Rattle.mls_tree_model.specs.Way.{path_length, ciphertext_counts}
+use Rattle.mls_tree_model.specs.Hashes.{is_some_bytes}
+use Rattle.mls_tree_model.specs.Keys.{encryption_keys}
+use Rattle.mls_tree_model.specs.Merge.{merge_path, path_parent_hash}
 use Rattle.mls_tree.specs.Tree.{member_at}
 
 -- 22 where no member is at leaf i, then 30 where there aren't as many keys as its filtered path has parents

@@ -2,11 +2,11 @@
 use Rattle.std.specs.Prelude.{◌≡◌, ℕ, List, [], map, reverse, Ok}
 use Rattle.mls_leaf.specs.Parent.{Parent}
 use Rattle.mls_leaf.specs.declared.leaf.LeafNode.{LeafNode}
-use Rattle.mls_term.specs.Term.{Term}
-use Rattle.mls_term.specs.Hashes.{tree_hash}
-use Rattle.mls_term.specs.Merge.{merge_path}
-use Rattle.mls_array.specs.Merging.{path_parents}
-use Rattle.mls_array.specs.WayHashes.{way_hashes}
+use Rattle.mls_tree_model.specs.Term.{Term}
+use Rattle.mls_tree_model.specs.Hashes.{tree_hash}
+use Rattle.mls_tree_model.specs.Merge.{merge_path}
+use Rattle.mls_tree_array.specs.Merging.{path_parents}
+use Rattle.mls_tree_array.specs.WayHashes.{way_hashes}
 use Rattle.mls_tree.specs.Paths.{merge_answer}
 
 -- the leaf index and the leaf, the parents over it, the highest first, the tree hashes of the leaf and of the nodes over

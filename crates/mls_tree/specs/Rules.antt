@@ -2,7 +2,7 @@
 use Rattle.std.specs.Prelude.{ℕ, List}
 use Rattle.mls_suite.specs.Crypto.{Crypto}
 use Rattle.mls_checks.specs.Leaf.{is_signed, is_capable}
-use Rattle.mls_term.specs.Good.{Rules}
+use Rattle.mls_tree_model.specs.Good.{Rules}
 use Rattle.mls_tree.specs.Tree.{max_leaves}
 
 -- the rules of a suite and a group: at most 4,096 leaves, and the checks of a leaf (RFC 9420, 7.3)

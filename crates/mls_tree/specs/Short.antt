@@ -6,7 +6,7 @@ use Rattle.mls_leaf.specs.Leaf.{leaf_node}
 use Rattle.mls_leaf.specs.Node.{node}
 use Rattle.mls_leaf.specs.declared.node.Node.{Node}
 use Rattle.mls_checks.specs.Short.{IsShort}
-use Rattle.mls_term.specs.Term.{Term, leaf_of}
+use Rattle.mls_tree_model.specs.Term.{Term, leaf_of}
 
 -- each member's leaf encodes to fewer than 2^28 bytes
 abbrev pub HasShortLeaves : Term → Type 0

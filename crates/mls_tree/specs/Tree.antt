@@ -5,11 +5,11 @@ use Rattle.mls_wire.specs.Reading.{◌>>=◌}
 use Rattle.mls_leaf.specs.declared.node.Node.{Node}
 use Rattle.mls_leaf.specs.declared.leaf.LeafNode.{LeafNode}
 use Rattle.mls_treemath.specs.Limits.{max_height}
-use Rattle.mls_term.specs.Term.{Term, leaf_of}
-use Rattle.mls_term.specs.Edits.{add, update, remove, place_in}
-use Rattle.mls_term.specs.Way.{filtered_path}
-use Rattle.mls_term.specs.Good.{is_within}
-use Rattle.mls_term.specs.Arrays.{term_of}
+use Rattle.mls_tree_model.specs.Term.{Term, leaf_of}
+use Rattle.mls_tree_model.specs.Edits.{add, update, remove, place_in}
+use Rattle.mls_tree_model.specs.Way.{filtered_path}
+use Rattle.mls_tree_model.specs.Good.{is_within}
+use Rattle.mls_tree_model.specs.Arrays.{term_of}
 
 -- the nodes in order, and the height; the kept hashes beside the nodes, and how many hashes of nodes were made
 pub record Tree : Type 0 where

@@ -2,7 +2,7 @@
 
 use crate::edited::number;
 use crate::{PublicTree, TreeError};
-use mls_array as array;
+use mls_tree_array as array;
 use mls_leaf::Node;
 use std::alloc::{AllocError, Global};
 

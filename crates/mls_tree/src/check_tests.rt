@@ -2,14 +2,14 @@ ghost use Rattle.std.specs.Prelude.{◌≡◌, ℕ, [], ◌∷◌, Some, None, I
 ghost use Rattle.mls_leaf.specs.declared.node.Node.TheVariants.{Leaf as in_leaf, Parent as in_parent};
 ghost use Rattle.mls_leaf.specs.Leaf.{leaf_node};
 ghost use Rattle.mls_checks.specs.Short.{IsShort};
-ghost use Rattle.mls_term.specs.Term.{leaf_of};
+ghost use Rattle.mls_tree_model.specs.Term.{leaf_of};
 ghost use Rattle.mls_tree.specs.Tree.{term};
 
 use crate::key_indexes::KeyIndexes;
 use crate::{PublicTree, TreeError};
-use mls_array::Hashes;
+use mls_tree_array::Hashes;
 use mls_leaf::{Bytes, Codec, Items, LeafNode, ParentNode};
-use mls_slot::{SharedLeaf, SharedParent, Slot};
+use mls_tree_slot::{SharedLeaf, SharedParent, Slot};
 use mls_suite::Glass;
 use std::alloc::{AllocError, Global};
 use std::test::*;

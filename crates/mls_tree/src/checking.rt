@@ -9,13 +9,13 @@ ghost use Rattle.mls_treemath.specs.Limits.{max_height};
 ghost use Rattle.mls_checks.specs.Leaf.{is_signed, is_capable};
 ghost use Rattle.mls_checks.specs.Short.{IsShort};
 ghost use Rattle.mls_leaf.specs.Leaf.{leaf_node};
-ghost use Rattle.mls_term.specs.Keys.{passes};
-ghost use Rattle.mls_term.specs.Lists.{all_parents, rises_here};
-ghost use Rattle.mls_term.specs.Good.{IsGood, has_good_shape, has_good_lists, has_distinct_keys, has_distinct_clients, is_all_signed, is_all_capable, is_all_fit, tree_checks};
-ghost use Rattle.mls_term.specs.Arrays.{term_of};
-ghost use Rattle.mls_array.specs.Kept.{hashes_of};
-ghost use Rattle.mls_array.specs.Standing.{Stands};
-ghost use Rattle.mls_array.specs.Gathered.{cell_key};
+ghost use Rattle.mls_tree_model.specs.Keys.{passes};
+ghost use Rattle.mls_tree_model.specs.Lists.{all_parents, rises_here};
+ghost use Rattle.mls_tree_model.specs.Good.{IsGood, has_good_shape, has_good_lists, has_distinct_keys, has_distinct_clients, is_all_signed, is_all_capable, is_all_fit, tree_checks};
+ghost use Rattle.mls_tree_model.specs.Arrays.{term_of};
+ghost use Rattle.mls_tree_array.specs.Kept.{hashes_of};
+ghost use Rattle.mls_tree_array.specs.Standing.{Stands};
+ghost use Rattle.mls_tree_array.specs.Gathered.{cell_key};
 ghost use Rattle.mls_suite.specs.Crypto.{Crypto};
 ghost use Rattle.mls_tree.specs.Cold.{Warms};
 ghost use Rattle.mls_tree.specs.Faults.{number_of};
@@ -28,10 +28,10 @@ ghost use Rattle.mls_tree.specs.Tree.{term};
 use crate::error::TreeError;
 use crate::key_indexes::KeyIndexes;
 use crate::tree::PublicTree;
-use mls_array::{self as array, Hash};
+use mls_tree_array::{self as array, Hash};
 use mls_checks::{leaf_capable, leaf_signed};
 use mls_leaf::{LeafNode, Node};
-use mls_slot::Slot;
+use mls_tree_slot::Slot;
 use mls_suite::Suite;
 use std::alloc::{AllocError, Global};
 
@@ -124,7 +124,7 @@ fn all_fit<S: Suite>(nodes: &[Slot], height: u32) -> bool
 }
 
 /// The checks of a whole tree in their order.
-#[tactic(auto, unfolding(mls_term::specs::Good::tree_checks))]
+#[tactic(auto, unfolding(mls_tree_model::specs::Good::tree_checks))]
 fn check<S: Suite>(
     alloc: Global,
     nodes: &[Slot],

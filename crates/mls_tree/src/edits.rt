@@ -3,17 +3,17 @@
 ghost use Rattle.std.specs.Prelude.{◌≡◌, suc, ◌+◌, ◌^◌, ◌≤◌, ◌<◌, ◌++◌, None, replicate, OnOk, OnErr};
 ghost use Rattle.mls_treemath.specs.Paths.{nodes_in};
 ghost use Rattle.mls_treemath.specs.Limits.{max_height};
-ghost use Rattle.mls_term.specs.Edits.{put, enter, grow, trim};
-ghost use Rattle.mls_term.specs.Arrays.{term_of};
-ghost use Rattle.mls_array.specs.Ends.{taken_end};
-ghost use Rattle.mls_array.specs.Kept.{Keeps, dropped};
-ghost use Rattle.mls_array.specs.Standing.{Stands};
-ghost use Rattle.mls_array.specs.StandingLaws.{StandsFor};
+ghost use Rattle.mls_tree_model.specs.Edits.{put, enter, grow, trim};
+ghost use Rattle.mls_tree_model.specs.Arrays.{term_of};
+ghost use Rattle.mls_tree_array.specs.Ends.{taken_end};
+ghost use Rattle.mls_tree_array.specs.Kept.{Keeps, dropped};
+ghost use Rattle.mls_tree_array.specs.Standing.{Stands};
+ghost use Rattle.mls_tree_array.specs.StandingLaws.{StandsFor};
 ghost use Rattle.mls_tree.specs.Indexed.{AreIndexes};
 
 use crate::key_indexes::KeyIndexes;
-use mls_array::{self as array, Hashes};
-use mls_slot::{SharedLeaf, Slot};
+use mls_tree_array::{self as array, Hashes};
+use mls_tree_slot::{SharedLeaf, Slot};
 use std::alloc::AllocError;
 
 /// Replaces leaf i and blanks the parents over it.

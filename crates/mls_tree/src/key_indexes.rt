@@ -2,15 +2,15 @@
 
 ghost use Rattle.std.specs.Prelude.{◌≡◌, ℕ, ◌≤◌, ◌^◌, nat_eq, true, take, Option, List, length, IfOk, OnOk};
 ghost use Rattle.mls_leaf.specs.declared.node.Node.{Node};
-ghost use Rattle.mls_term.specs.Sets.{is_distinct};
-ghost use Rattle.mls_term.specs.Good.{has_distinct_keys, has_distinct_clients};
-ghost use Rattle.mls_term.specs.Arrays.{term_of};
-ghost use Rattle.mls_array.specs.Standing.{Stands};
-ghost use Rattle.mls_index.specs.Cleared.{cleared};
+ghost use Rattle.mls_tree_model.specs.Sets.{is_distinct};
+ghost use Rattle.mls_tree_model.specs.Good.{has_distinct_keys, has_distinct_clients};
+ghost use Rattle.mls_tree_model.specs.Arrays.{term_of};
+ghost use Rattle.mls_tree_array.specs.Standing.{Stands};
+ghost use Rattle.mls_tree_index.specs.Cleared.{cleared};
 ghost use Rattle.mls_tree.specs.Indexed.{AreIndexes, AreBeside, HaveRoom, AreSame, Fills};
 
-use mls_index::{Index, KeyKind};
-use mls_slot::Slot;
+use mls_tree_index::{Index, KeyKind};
+use mls_tree_slot::Slot;
 use std::alloc::{AllocError, Global};
 
 /// The indexes of the cells of a tree.

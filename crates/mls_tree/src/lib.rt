@@ -37,6 +37,6 @@ mod way_tests;
 
 pub use error::TreeError;
 pub use laws::{hashing_costs, laws_of_leaves, tree_names_by_number};
-pub use mls_array::Hash;
+pub use mls_tree_array::Hash;
 pub use prepared::PreparedPath;
 pub use tree::PublicTree;

@@ -3,7 +3,7 @@
 
 use crate::{PublicTree, TreeError};
 use mls_leaf::{Bytes, Capabilities, Credential, Items, LeafNode, LeafSource, Node, ParentNode};
-use mls_slot::Slot;
+use mls_tree_slot::Slot;
 use std::alloc::{AllocError, Global};
 
 fn byte(alloc: Global, b: u8) -> Result<Bytes, AllocError> {

@@ -2,16 +2,16 @@
 
 ghost use Rattle.std.specs.Prelude.{◌≡◌, [], reverse, length, None, Ok, IfOk, OnOk, OnErr};
 ghost use Rattle.mls_wire.specs.Checks.{passed, Answers};
-ghost use Rattle.mls_term.specs.Term.{Term};
-ghost use Rattle.mls_term.specs.Sets.{same_bytes, is_distinct};
-ghost use Rattle.mls_term.specs.Hashes.{tree_hash};
-ghost use Rattle.mls_term.specs.Keys.{encryption_keys};
-ghost use Rattle.mls_term.specs.Edits.{put};
-ghost use Rattle.mls_term.specs.Merge.{merge_path};
-ghost use Rattle.mls_term.specs.Good.{AreNew};
-ghost use Rattle.mls_array.specs.Kept.{hashes_of};
-ghost use Rattle.mls_array.specs.Merging.{path_parents};
-ghost use Rattle.mls_array.specs.WayHashes.{HashesMerged};
+ghost use Rattle.mls_tree_model.specs.Term.{Term};
+ghost use Rattle.mls_tree_model.specs.Sets.{same_bytes, is_distinct};
+ghost use Rattle.mls_tree_model.specs.Hashes.{tree_hash};
+ghost use Rattle.mls_tree_model.specs.Keys.{encryption_keys};
+ghost use Rattle.mls_tree_model.specs.Edits.{put};
+ghost use Rattle.mls_tree_model.specs.Merge.{merge_path};
+ghost use Rattle.mls_tree_model.specs.Good.{AreNew};
+ghost use Rattle.mls_tree_array.specs.Kept.{hashes_of};
+ghost use Rattle.mls_tree_array.specs.Merging.{path_parents};
+ghost use Rattle.mls_tree_array.specs.WayHashes.{HashesMerged};
 ghost use Rattle.mls_tree.specs.Cold.{Warms, Chills};
 ghost use Rattle.mls_tree.specs.Faults.{number_of};
 ghost use Rattle.mls_tree.specs.Kept.{KeepsGood, MergesGood};
@@ -23,9 +23,9 @@ ghost use Rattle.mls_tree.specs.Tree.{Tree, term};
 use crate::error::TreeError;
 use crate::paths::merge_indexed;
 use crate::tree::PublicTree;
-use mls_array::{self as array, Hash};
+use mls_tree_array::{self as array, Hash};
 use mls_leaf::{Bytes, LeafNode};
-use mls_slot::SharedParent;
+use mls_tree_slot::SharedParent;
 use std::alloc::AllocError;
 use std::marker::Model;
 

@@ -1,11 +1,11 @@
 -- Keys of a tree's nodes, as they are read at the nodes beside a place.
 use Rattle.std.proofs.Common.{◌≡◌, ℕ, ◌+◌, ◌-◌, ◌*◌, ◌^◌, ◌<◌, ◌≤◌, ◌==◌, nat_lt, if◌then◌else◌, Bool, true, false, Option, Some, None, refl, sym, ◌∙◌, ap, ap₂, arith}
 use Rattle.mls_leaf.specs.declared.node.Node.{Node}
-use Rattle.mls_term.specs.Term.{Term, Leaf, Branch, width, size, height}
-use Rattle.mls_term.specs.Arrays.{own_node, node_at}
-use Rattle.mls_term.specs.Places.{at_node, own_key, key_at}
-use Rattle.mls_term.proofs.Equations.{at_node_no_leaf, at_node_left, at_node_right}
-use Rattle.mls_term.proofs.ShapeLaws.{size-width, width-perfect}
+use Rattle.mls_tree_model.specs.Term.{Term, Leaf, Branch, width, size, height}
+use Rattle.mls_tree_model.specs.Arrays.{own_node, node_at}
+use Rattle.mls_tree_model.specs.Places.{at_node, own_key, key_at}
+use Rattle.mls_tree_model.proofs.Equations.{at_node_no_leaf, at_node_left, at_node_right}
+use Rattle.mls_tree_model.proofs.ShapeLaws.{size-width, width-perfect}
 use Rattle.mls_tree.specs.Tree.{Tree, term}
 use Rattle.mls_tree.proofs.Perfect.{width_is}
 use Rattle.mls_treekem.specs.declared.places.Place.{Place}

@@ -2,9 +2,9 @@
 use Rattle.std.proofs.Common.{◌≡◌, ℕ, ◌+◌, List, [], ◌∷◌, ◌++◌, refl, ap, ap₂, sym, ◌∙◌, subst, add-one}
 use Rattle.mls_suite.specs.Crypto.{Crypto}
 use Rattle.mls_suite.specs.declared.KeyPair.{KeyPair}
-use Rattle.mls_paths.specs.Chain.{next_secret, chain, path_secrets, node_key, node_public}
+use Rattle.mls_treekem_model.specs.Chain.{next_secret, chain, path_secrets, node_key, node_public}
 use Rattle.mls_treekem.specs.Secrets.{ArePairsOf}
-use Rattle.mls_paths.proofs.MakeLaws.{map-append}
+use Rattle.mls_treekem_model.proofs.MakeLaws.{map-append}
 
 pub secrets_none : (start : List ℕ) → path_secrets start 0 ≡ []
 unfolding path_secrets

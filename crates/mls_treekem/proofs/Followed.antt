@@ -2,15 +2,15 @@
 use Rattle.std.proofs.Common.{◌≡◌, ℕ, suc, ◌+◌, ◌≤◌, if◌then◌else◌, List, [], ◌∷◌, ◌++◌, length, map, reverse, unwrap_or, Option, Some, None, is_some, Bool, refl, sym, subst, ◌∙◌, ap, ap₂, arith, append-nil, Bor}
 use Rattle.std.proofs.lemmas.List.{length-map, length-reverse, reverse-reverse}
 use Rattle.std.specs.Option.{option_copied}
-use Rattle.mls_term.specs.Term.{Term}
-use Rattle.mls_term.specs.Way.{Step, way}
+use Rattle.mls_tree_model.specs.Term.{Term}
+use Rattle.mls_tree_model.specs.Way.{Step, way}
 use Rattle.mls_treekem.specs.declared.places.Place.{Place}
-use Rattle.mls_paths.specs.Keys.{Keys, PrivateKeys, all_keys}
-use Rattle.mls_paths.specs.Follow.{key_above, leaf_key_after, follow_edit}
-use Rattle.mls_paths.specs.Height.{follow_above, HasFollowed}
+use Rattle.mls_treekem_model.specs.Keys.{Keys, PrivateKeys, all_keys}
+use Rattle.mls_treekem_model.specs.Follow.{key_above, leaf_key_after, follow_edit}
+use Rattle.mls_treekem_model.specs.Height.{follow_above, HasFollowed}
 use Rattle.mls_treekem.specs.Place.{step_of, IsWay}
 use Rattle.mls_treekem.proofs.Levels.{key_own}
-use Rattle.mls_paths.proofs.HeightLaws.{reverse-end}
+use Rattle.mls_treekem_model.proofs.HeightLaws.{reverse-end}
 
 follow_whole : (own : Option (List ℕ)) (ss : List Step) (ks : Keys) → follow_edit own ss ks ≡ follow_above ss ks ++ (leaf_key_after own ks ∷ [])
 unfolding follow_edit follow_above

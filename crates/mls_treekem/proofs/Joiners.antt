@@ -4,13 +4,13 @@ use Rattle.std.specs.List.{slice_get}
 use Rattle.std.specs.Option.{option_copied}
 use Rattle.std.specs.Slice.{IsItemAt}
 use Rattle.std.proofs.lemmas.Option.{slice_get_past, slice_get-get_or}
-use Rattle.mls_term.specs.Term.{Term}
-use Rattle.mls_term.specs.Places.{resolution_at}
-use Rattle.mls_term.specs.Resolution.{is_empty}
-use Rattle.mls_term.specs.Way.{way, is_filtered, is_beside}
-use Rattle.mls_paths.specs.Make.{one_if, filtered_count}
-use Rattle.mls_paths.specs.Join.{secret_among}
-use Rattle.mls_paths.proofs.SecretLaws.{secret_is_among}
+use Rattle.mls_tree_model.specs.Term.{Term}
+use Rattle.mls_tree_model.specs.Places.{resolution_at}
+use Rattle.mls_tree_model.specs.Resolution.{is_empty}
+use Rattle.mls_tree_model.specs.Way.{way, is_filtered, is_beside}
+use Rattle.mls_treekem_model.specs.Make.{one_if, filtered_count}
+use Rattle.mls_treekem_model.specs.Join.{secret_among}
+use Rattle.mls_treekem_model.proofs.SecretLaws.{secret_is_among}
 use Rattle.mls_treekem.specs.Place.{step_of, ArePlaced, IsWay}
 use Rattle.mls_treekem.specs.Secrets.{IsSentOf}
 use Rattle.mls_treekem.specs.declared.places.Place.{Place}

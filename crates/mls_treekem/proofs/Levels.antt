@@ -2,17 +2,17 @@
 use Rattle.std.proofs.Common.{◌≡◌, ℕ, zero, suc, ◌+◌, ◌-◌, ◌*◌, ◌^◌, ◌<◌, ◌≤◌, true, List, [], ◌∷◌, ◌++◌, length, reverse, get_or, Option, Some, None, Result, OnOk, refl, subst, sym, ◌∙◌, ap, ap₂, inl, inr, arith, append-nil, append_assoc, lt-ltb, le-ltb, pow-suc}
 use Rattle.std.proofs.lemmas.Bool.{cond-true, cond-false, cases_lt, cases_eq, true≢false, and_parts}
 use Rattle.std.proofs.lemmas.List.{reverse-reverse, length-reverse, get_or-append_right, get_or_append_left, get_or_past}
-use Rattle.mls_term.specs.Term.{Term, Leaf, Branch, width, size, is_perfect}
-use Rattle.mls_term.specs.Way.{way}
-use Rattle.mls_term.proofs.Equations.{way_leaf, way_left, way_right}
-use Rattle.mls_term.proofs.ShapeLaws.{size-width, width-perfect}
-use Rattle.mls_term.proofs.PathLaws.{reverse-cons}
-use Rattle.mls_paths.specs.Keys.{Keys, PrivateKeys, all_keys}
-use Rattle.mls_paths.specs.Follow.{key_above, on_way}
-use Rattle.mls_paths.specs.Height.{pairs_from, listed, ArePairs}
-use Rattle.mls_paths.specs.Pairs.{Pair, pair_of, pairs}
-use Rattle.mls_paths.proofs.OnePassLaws.{no_key_above}
-use Rattle.mls_paths.proofs.HeightLaws.{above_take, above_pass, length-end, own_above, way_height}
+use Rattle.mls_tree_model.specs.Term.{Term, Leaf, Branch, width, size, is_perfect}
+use Rattle.mls_tree_model.specs.Way.{way}
+use Rattle.mls_tree_model.proofs.Equations.{way_leaf, way_left, way_right}
+use Rattle.mls_tree_model.proofs.ShapeLaws.{size-width, width-perfect}
+use Rattle.mls_tree_model.proofs.PathLaws.{reverse-cons}
+use Rattle.mls_treekem_model.specs.Keys.{Keys, PrivateKeys, all_keys}
+use Rattle.mls_treekem_model.specs.Follow.{key_above, on_way}
+use Rattle.mls_treekem_model.specs.Height.{pairs_from, listed, ArePairs}
+use Rattle.mls_treekem_model.specs.Pairs.{Pair, pair_of, pairs}
+use Rattle.mls_treekem_model.proofs.OnePassLaws.{no_key_above}
+use Rattle.mls_treekem_model.proofs.HeightLaws.{above_take, above_pass, length-end, own_above, way_height}
 
 -- ---- a key with others above the leaf's
 

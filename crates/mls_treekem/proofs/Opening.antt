@@ -7,32 +7,32 @@ use Rattle.std.proofs.lemmas.List.{drop_all, length-map}
 use Rattle.mls_wire.specs.Checks.{given, Answers, AnswersOutright}
 use Rattle.mls_wire.specs.Reading.{◌>>=◌}
 use Rattle.mls_wire.specs.Laws.{bind_ok}
-use Rattle.mls_group.specs.declared.update_path.HpkeCiphertext.{HpkeCiphertext}
-use Rattle.mls_group.specs.declared.update_path.UpdatePathNode.{UpdatePathNode}
+use Rattle.mls_types.specs.declared.update_path.HpkeCiphertext.{HpkeCiphertext}
+use Rattle.mls_types.specs.declared.update_path.UpdatePathNode.{UpdatePathNode}
 use Rattle.mls_suite.specs.Crypto.{Crypto}
 use Rattle.mls_suite.specs.Labels.{decrypt_with_label}
 use Rattle.mls_leaf.specs.Parent.{Parent}
-use Rattle.mls_term.specs.Sets.{has, leaf_numbers, less}
-use Rattle.mls_term.specs.Term.{Term, Leaf, Branch, width, size, is_perfect}
-use Rattle.mls_term.specs.Places.{resolution_at}
-use Rattle.mls_term.specs.Resolution.{is_empty}
-use Rattle.mls_term.specs.Way.{Step, way, is_filtered, is_beside}
-use Rattle.mls_term.proofs.Equations.{way_leaf, way_left, way_right}
-use Rattle.mls_term.proofs.ShapeLaws.{size-width, width-perfect}
+use Rattle.mls_tree_model.specs.Sets.{has, leaf_numbers, less}
+use Rattle.mls_tree_model.specs.Term.{Term, Leaf, Branch, width, size, is_perfect}
+use Rattle.mls_tree_model.specs.Places.{resolution_at}
+use Rattle.mls_tree_model.specs.Resolution.{is_empty}
+use Rattle.mls_tree_model.specs.Way.{Step, way, is_filtered, is_beside}
+use Rattle.mls_tree_model.proofs.Equations.{way_leaf, way_left, way_right}
+use Rattle.mls_tree_model.proofs.ShapeLaws.{size-width, width-perfect}
 use Rattle.mls_treekem.specs.declared.places.Place.{Place}
 use Rattle.mls_treekem.specs.Climbing.{with_own}
 use Rattle.mls_treekem.specs.Faults.{number_of}
 use Rattle.mls_treekem.specs.declared.error.TreeKemError.{TreeKemError}
-use Rattle.mls_paths.specs.Chain.{next_secret, node_key, node_public}
-use Rattle.mls_paths.specs.Follow.{key_above, on_way}
-use Rattle.mls_paths.specs.Keys.{Keys, key_for, key_in, PrivateKeys, all_keys}
-use Rattle.mls_paths.specs.Make.{past_node, past_blank, Climb}
-use Rattle.mls_paths.specs.Open.{left_by, unseal_secret, of_32, open_first, first_ciphertexts, open_here, past_parent, climb_open, opened_path, secret_in}
-use Rattle.mls_paths.specs.Height.{keys_on}
+use Rattle.mls_treekem_model.specs.Chain.{next_secret, node_key, node_public}
+use Rattle.mls_treekem_model.specs.Follow.{key_above, on_way}
+use Rattle.mls_treekem_model.specs.Keys.{Keys, key_for, key_in, PrivateKeys, all_keys}
+use Rattle.mls_treekem_model.specs.Make.{past_node, past_blank, Climb}
+use Rattle.mls_treekem_model.specs.Open.{left_by, unseal_secret, of_32, open_first, first_ciphertexts, open_here, past_parent, climb_open, opened_path, secret_in}
+use Rattle.mls_treekem_model.specs.Height.{keys_on}
 use Rattle.mls_treekem.specs.Opening.{key_of, IsKeyOf, AreKeysUpTo, OpensAlong}
 use Rattle.mls_treekem.specs.Place.{subtree_at, step_of, IsPlaced, ArePlaced, IsWay}
-use Rattle.mls_paths.specs.Seal.{targets}
-use Rattle.mls_paths.proofs.HeightLaws.{way_height, reverse-end, own_above, length-end, length-on_way, same_length}
+use Rattle.mls_treekem_model.specs.Seal.{targets}
+use Rattle.mls_treekem_model.proofs.HeightLaws.{way_height, reverse-end, own_above, length-end, length-on_way, same_length}
 
 -- ---- answers by an equal definition
 

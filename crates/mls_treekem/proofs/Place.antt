@@ -5,18 +5,18 @@ use Rattle.std.proofs.Math.Pow.{pow_mono}
 use Rattle.std.specs.Int.{bit_at, trailing_zeros}
 use Rattle.std.proofs.lemmas.Nat.{pow_pos, pow_below}
 use Rattle.std.proofs.lemmas.Nat.Bits.{bit_at-trailing_zeros, bit_at-pow_other}
-use Rattle.mls_term.proofs.ArrayLaws.{parent_in-cell}
+use Rattle.mls_tree_model.proofs.ArrayLaws.{parent_in-cell}
 use Rattle.mls_tree.specs.Tree.{Tree, term}
 use Rattle.mls_tree.proofs.Perfect.{perfect, width_is}
 use Rattle.mls_leaf.specs.Parent.{Parent}
 use Rattle.mls_leaf.specs.declared.node.Node.{Node}
-use Rattle.mls_term.specs.Term.{Term, Leaf, Branch, width, size, height, is_perfect}
-use Rattle.mls_term.specs.Arrays.{parent_in, own_node, node_at}
-use Rattle.mls_term.specs.Places.{at_node, resolution_at}
-use Rattle.mls_term.specs.Resolution.{resolution}
-use Rattle.mls_term.specs.Way.{Step, step_at, way}
-use Rattle.mls_term.proofs.Equations.{way_leaf, way_left, way_right, at_node_leaf, at_node_here, at_node_left, at_node_right}
-use Rattle.mls_term.proofs.ShapeLaws.{size-width, width-perfect, width_pos}
+use Rattle.mls_tree_model.specs.Term.{Term, Leaf, Branch, width, size, height, is_perfect}
+use Rattle.mls_tree_model.specs.Arrays.{parent_in, own_node, node_at}
+use Rattle.mls_tree_model.specs.Places.{at_node, resolution_at}
+use Rattle.mls_tree_model.specs.Resolution.{resolution}
+use Rattle.mls_tree_model.specs.Way.{Step, step_at, way}
+use Rattle.mls_tree_model.proofs.Equations.{way_leaf, way_left, way_right, at_node_leaf, at_node_here, at_node_left, at_node_right}
+use Rattle.mls_tree_model.proofs.ShapeLaws.{size-width, width-perfect, width_pos}
 use Rattle.mls_treekem.specs.declared.places.Place.{Place}
 use Rattle.mls_treekem.specs.Place.{place, places_from, subtree_at, step_of, IsPlaced, ArePlaced, IsWay}
 use Rattle.mls_treekem.proofs.Levels.{pow_pred}

@@ -4,23 +4,23 @@ use Rattle.std.proofs.lemmas.Bool.{true≢false, and_parts, cases_lt, cases_eq, 
 use Rattle.std.proofs.lemmas.List.{length-reverse, length-replicate, reverse-append, map-append}
 use Rattle.mls_suite.specs.Crypto.{Crypto}
 use Rattle.mls_suite.specs.declared.KeyPair.{KeyPair}
-use Rattle.mls_term.specs.Way.{is_filtered, filtered_way, filtered_path, Step, way}
-use Rattle.mls_paths.specs.Chain.{chain, path_secrets, node_key}
-use Rattle.mls_paths.specs.Keys.{Keys, PrivateKeys}
-use Rattle.mls_paths.specs.Follow.{key_above, on_way}
-use Rattle.mls_paths.specs.Make.{one_if, filtered_count, secret_above, key_if, made_keys, HasMade}
+use Rattle.mls_tree_model.specs.Way.{is_filtered, filtered_way, filtered_path, Step, way}
+use Rattle.mls_treekem_model.specs.Chain.{chain, path_secrets, node_key}
+use Rattle.mls_treekem_model.specs.Keys.{Keys, PrivateKeys}
+use Rattle.mls_treekem_model.specs.Follow.{key_above, on_way}
+use Rattle.mls_treekem_model.specs.Make.{one_if, filtered_count, secret_above, key_if, made_keys, HasMade}
 use Rattle.mls_treekem.specs.Secrets.{ArePairsOf}
 use Rattle.mls_treekem.specs.Raised.{level_of, raised, raised_all, IsRaised}
-use Rattle.mls_paths.proofs.OnePassLaws.{no_key_above}
-use Rattle.mls_paths.proofs.HeightLaws.{lower, way_height, above_take, above_pass, length-end, reverse-end}
+use Rattle.mls_treekem_model.proofs.OnePassLaws.{no_key_above}
+use Rattle.mls_treekem_model.proofs.HeightLaws.{lower, way_height, above_take, above_pass, length-end, reverse-end}
 use Rattle.mls_treemath.specs.Paths.{Path, nodes_in, path_to, longer}
 use Rattle.mls_treemath.specs.Steps.{level_in, height_left}
 use Rattle.mls_treemath.proofs.Ways.{path_left, path_root, path_right}
-use Rattle.mls_term.specs.Term.{Term, Leaf, Branch, width, size, is_perfect}
-use Rattle.mls_term.proofs.Equations.{way_leaf, way_left, way_right}
-use Rattle.mls_term.proofs.ShapeLaws.{size-width}
-use Rattle.mls_term.proofs.ArrayLaws.{size-perfect, nodes_in-leaves}
-use Rattle.mls_term.proofs.PathLaws.{reverse-cons}
+use Rattle.mls_tree_model.specs.Term.{Term, Leaf, Branch, width, size, is_perfect}
+use Rattle.mls_tree_model.proofs.Equations.{way_leaf, way_left, way_right}
+use Rattle.mls_tree_model.proofs.ShapeLaws.{size-width}
+use Rattle.mls_tree_model.proofs.ArrayLaws.{size-perfect, nodes_in-leaves}
+use Rattle.mls_tree_model.proofs.PathLaws.{reverse-cons}
 
 -- node n has level k in a perfect tree of height h whose first leaf is b
 record HasLevel (h b n k : ℕ) : Type 0 where

@@ -5,30 +5,30 @@ use Rattle.std.specs.List.{slice_get}
 use Rattle.std.specs.Option.{option_map, option_copied}
 use Rattle.std.proofs.lemmas.List.{drop_more, drop_all, reverse-append}
 use Rattle.mls_wire.specs.Checks.{given}
-use Rattle.mls_group.specs.declared.update_path.HpkeCiphertext.{HpkeCiphertext}
-use Rattle.mls_group.specs.declared.update_path.UpdatePathNode.{UpdatePathNode}
+use Rattle.mls_types.specs.declared.update_path.HpkeCiphertext.{HpkeCiphertext}
+use Rattle.mls_types.specs.declared.update_path.UpdatePathNode.{UpdatePathNode}
 use Rattle.mls_suite.specs.Crypto.{Crypto}
 use Rattle.mls_suite.specs.Labels.{encrypt_with_label}
 use Rattle.mls_suite.specs.Made.{sealing_of}
 use Rattle.mls_suite.specs.declared.Sealed.{Sealed}
-use Rattle.mls_term.specs.Sets.{has, leaf_numbers, less}
-use Rattle.mls_term.specs.Term.{Term}
-use Rattle.mls_term.specs.Places.{key_at, resolution_at}
-use Rattle.mls_term.specs.Resolution.{resolution, is_empty}
-use Rattle.mls_term.specs.Way.{Step, way, is_filtered, path_length}
+use Rattle.mls_tree_model.specs.Sets.{has, leaf_numbers, less}
+use Rattle.mls_tree_model.specs.Term.{Term}
+use Rattle.mls_tree_model.specs.Places.{key_at, resolution_at}
+use Rattle.mls_tree_model.specs.Resolution.{resolution, is_empty}
+use Rattle.mls_tree_model.specs.Way.{Step, way, is_filtered, path_length}
 use Rattle.mls_treekem.specs.declared.error.TreeKemError.{TreeKemError}
 use Rattle.mls_treekem.specs.declared.error.TreeKemError.TheVariants as error
 use Rattle.mls_treekem.specs.Faults.{number_of, IsMemoryOrKey}
 use Rattle.mls_treekem.specs.Secrets.{AreOfChain, public_keys}
 use Rattle.mls_treekem.specs.Sealing.{sealed_along}
-use Rattle.mls_paths.specs.Make.{one_if, filtered_count}
-use Rattle.mls_paths.specs.Seal.{targets, seal_count, ciphertext_of, seal_secret, seal_to, cons_both, seal_all, with_ciphertexts, path_past, node_with, seal_with, sealed_path, sealed_with}
-use Rattle.mls_paths.specs.Seeds.{seal_seed, seals_in}
+use Rattle.mls_treekem_model.specs.Make.{one_if, filtered_count}
+use Rattle.mls_treekem_model.specs.Seal.{targets, seal_count, ciphertext_of, seal_secret, seal_to, cons_both, seal_all, with_ciphertexts, path_past, node_with, seal_with, sealed_path, sealed_with}
+use Rattle.mls_treekem_model.specs.Seeds.{seal_seed, seals_in}
 use Rattle.mls_treekem.specs.Place.{subtree_at, step_of, IsPlaced, ArePlaced, IsWay}
 use Rattle.mls_treekem.specs.declared.places.Place.{Place}
 use Rattle.mls_treekem.specs.declared.secrets.PathSecrets.{PathSecrets}
-use Rattle.mls_paths.proofs.SeedLaws.{seed_low}
-use Rattle.mls_paths.proofs.SecretLaws.{sealed_of_chain}
+use Rattle.mls_treekem_model.proofs.SeedLaws.{seed_low}
+use Rattle.mls_treekem_model.proofs.SecretLaws.{sealed_of_chain}
 
 -- ---- seals by the low bits of their number
 

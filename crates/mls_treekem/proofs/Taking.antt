@@ -7,21 +7,21 @@ use Rattle.mls_wire.specs.Checks.{Answers}
 use Rattle.mls_wire.specs.Reading.{◌>>=◌}
 use Rattle.mls_wire.specs.Laws.{bind_ok}
 use Rattle.mls_leaf.specs.Parent.{Parent}
-use Rattle.mls_term.specs.Sets.{has}
-use Rattle.mls_term.specs.Term.{Term, width, is_perfect}
-use Rattle.mls_term.specs.Way.{Step, way, is_beside}
+use Rattle.mls_tree_model.specs.Sets.{has}
+use Rattle.mls_tree_model.specs.Term.{Term, width, is_perfect}
+use Rattle.mls_tree_model.specs.Way.{Step, way, is_beside}
 use Rattle.mls_suite.specs.Crypto.{Crypto}
 use Rattle.mls_treekem.specs.declared.places.Place.{Place}
-use Rattle.mls_paths.specs.Chain.{node_public}
+use Rattle.mls_treekem_model.specs.Chain.{node_public}
 use Rattle.mls_treekem.specs.declared.error.TreeKemError.{TreeKemError}
 use Rattle.mls_treekem.specs.Climbing.{with_own}
 use Rattle.mls_treekem.specs.Faults.{number_of}
-use Rattle.mls_paths.specs.Keys.{Keys, leaf_only}
-use Rattle.mls_paths.specs.Make.{past_node, Climb}
-use Rattle.mls_paths.specs.Join.{past_present, is_present, climb_take, is_due, is_complete, take_keys, take_answer}
+use Rattle.mls_treekem_model.specs.Keys.{Keys, leaf_only}
+use Rattle.mls_treekem_model.specs.Make.{past_node, Climb}
+use Rattle.mls_treekem_model.specs.Join.{past_present, is_present, climb_take, is_due, is_complete, take_keys, take_answer}
 use Rattle.mls_treekem.specs.Place.{step_of, ArePlaced, IsWay}
-use Rattle.mls_paths.proofs.HeightLaws.{reverse-end, way_height}
-use Rattle.mls_paths.proofs.JoinLaws.{sounds, present_is, take_inside}
+use Rattle.mls_treekem_model.proofs.HeightLaws.{reverse-end, way_height}
+use Rattle.mls_treekem_model.proofs.JoinLaws.{sounds, present_is, take_inside}
 use Rattle.mls_treekem.proofs.Opening.{beside_is, first_placed}
 
 -- ---- one place

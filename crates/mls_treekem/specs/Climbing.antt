@@ -1,6 +1,6 @@
 -- A climb as code has it.
 use Rattle.std.specs.Prelude.{ℕ, List, [], ◌∷◌, ◌++◌, Some}
-use Rattle.mls_paths.specs.Make.{Climb}
+use Rattle.mls_treekem_model.specs.Make.{Climb}
 
 -- a climb with the leaf's key, which code leaves out
 abbrev pub with_own : List ℕ → Climb → Climb

@@ -1,20 +1,20 @@
 -- What a member's climb along a committer's way is made of.
 use Rattle.std.specs.Prelude.{◌≡◌, ℕ, true, List, [], ◌∷◌, ◌++◌, length, reverse, Option, Some, Result}
 use Rattle.mls_wire.specs.Checks.{Answers}
-use Rattle.mls_group.specs.declared.update_path.HpkeCiphertext.{HpkeCiphertext}
-use Rattle.mls_group.specs.declared.update_path.UpdatePathNode.{UpdatePathNode}
+use Rattle.mls_types.specs.declared.update_path.HpkeCiphertext.{HpkeCiphertext}
+use Rattle.mls_types.specs.declared.update_path.UpdatePathNode.{UpdatePathNode}
 use Rattle.mls_suite.specs.Crypto.{Crypto}
-use Rattle.mls_term.specs.Sets.{leaf_numbers, less}
-use Rattle.mls_term.specs.Term.{Term, is_perfect}
-use Rattle.mls_term.specs.Way.{Step, way}
+use Rattle.mls_tree_model.specs.Sets.{leaf_numbers, less}
+use Rattle.mls_tree_model.specs.Term.{Term, is_perfect}
+use Rattle.mls_tree_model.specs.Way.{Step, way}
 use Rattle.mls_treekem.specs.declared.error.TreeKemError.{TreeKemError}
 use Rattle.mls_treekem.specs.declared.places.Place.{Place}
 use Rattle.mls_treekem.specs.Climbing.{with_own}
 use Rattle.mls_treekem.specs.Faults.{number_of}
-use Rattle.mls_paths.specs.Follow.{on_way}
-use Rattle.mls_paths.specs.Keys.{Keys, key_in, PrivateKeys, all_keys}
-use Rattle.mls_paths.specs.Make.{Climb}
-use Rattle.mls_paths.specs.Open.{open_first, open_here, climb_open}
+use Rattle.mls_treekem_model.specs.Follow.{on_way}
+use Rattle.mls_treekem_model.specs.Keys.{Keys, key_in, PrivateKeys, all_keys}
+use Rattle.mls_treekem_model.specs.Make.{Climb}
+use Rattle.mls_treekem_model.specs.Open.{open_first, open_here, climb_open}
 use Rattle.mls_treekem.specs.Place.{step_of}
 
 -- the key that a member has for a node of a tree whose first leaf is b

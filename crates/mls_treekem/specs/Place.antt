@@ -1,10 +1,10 @@
 -- The parents over a leaf by their numbers, as code goes over them.
 use Rattle.std.specs.Prelude.{◌≡◌, ℕ, zero, suc, ◌+◌, ◌-◌, ◌*◌, ◌^◌, ◌<◌, ◌≤◌, nat_lt, if◌then◌else◌, true, List, [], ◌∷◌, length, map, None}
-use Rattle.mls_term.specs.Term.{Term, Leaf, size, is_perfect}
-use Rattle.mls_term.specs.Arrays.{parent_in, node_at}
-use Rattle.mls_term.specs.Places.{at_node, resolution_at}
-use Rattle.mls_term.specs.Resolution.{resolution}
-use Rattle.mls_term.specs.Way.{Step, way}
+use Rattle.mls_tree_model.specs.Term.{Term, Leaf, size, is_perfect}
+use Rattle.mls_tree_model.specs.Arrays.{parent_in, node_at}
+use Rattle.mls_tree_model.specs.Places.{at_node, resolution_at}
+use Rattle.mls_tree_model.specs.Resolution.{resolution}
+use Rattle.mls_tree_model.specs.Way.{Step, way}
 use Rattle.mls_treekem.specs.declared.places.Place.{Place}
 
 abbrev pub place : ℕ → ℕ → ℕ → ℕ → Place

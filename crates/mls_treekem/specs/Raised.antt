@@ -2,8 +2,8 @@
 use Rattle.std.specs.Prelude.{◌≡◌, ℕ, ◌-◌, nat_lt, if◌then◌else◌, List, [], ◌∷◌, ◌++◌, length, map, replicate, reverse, unwrap_or, Some, None}
 use Rattle.mls_treemath.specs.Steps.{level_in}
 use Rattle.mls_suite.specs.Crypto.{Crypto}
-use Rattle.mls_paths.specs.Chain.{path_secrets, node_key}
-use Rattle.mls_paths.specs.Keys.{Keys, PrivateKeys}
+use Rattle.mls_treekem_model.specs.Chain.{path_secrets, node_key}
+use Rattle.mls_treekem_model.specs.Keys.{Keys, PrivateKeys}
 
 -- how far above the leaves a node is
 abbrev pub level_of : ℕ → ℕ

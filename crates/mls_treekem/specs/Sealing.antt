@@ -3,14 +3,14 @@ use Rattle.std.specs.Prelude.{ℕ, List, reverse, Result}
 use Rattle.std.specs.List.{slice_get}
 use Rattle.std.specs.Option.{option_map}
 use Rattle.mls_wire.specs.Checks.{given, Answers}
-use Rattle.mls_group.specs.declared.update_path.HpkeCiphertext.{HpkeCiphertext}
-use Rattle.mls_group.specs.declared.update_path.UpdatePathNode.{UpdatePathNode}
+use Rattle.mls_types.specs.declared.update_path.HpkeCiphertext.{HpkeCiphertext}
+use Rattle.mls_types.specs.declared.update_path.UpdatePathNode.{UpdatePathNode}
 use Rattle.mls_suite.specs.Crypto.{Crypto}
-use Rattle.mls_term.specs.Sets.{leaf_numbers, less}
-use Rattle.mls_term.specs.Term.{Term}
-use Rattle.mls_term.specs.Way.{Step}
-use Rattle.mls_paths.specs.Seal.{seal_all, node_with, seal_with}
-use Rattle.mls_paths.specs.Seeds.{seal_seed}
+use Rattle.mls_tree_model.specs.Sets.{leaf_numbers, less}
+use Rattle.mls_tree_model.specs.Term.{Term}
+use Rattle.mls_tree_model.specs.Way.{Step}
+use Rattle.mls_treekem_model.specs.Seal.{seal_all, node_with, seal_with}
+use Rattle.mls_treekem_model.specs.Seeds.{seal_seed}
 use Rattle.mls_treekem.specs.declared.error.TreeKemError.{TreeKemError}
 use Rattle.mls_treekem.specs.declared.places.Place.{Place}
 use Rattle.mls_treekem.specs.declared.secrets.PathSecrets.{PathSecrets}

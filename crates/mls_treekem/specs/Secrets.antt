@@ -2,11 +2,11 @@
 use Rattle.std.specs.Prelude.{◌≡◌, ℕ, ◌≤◌, List, map, Option, Some, IsSome}
 use Rattle.mls_suite.specs.Crypto.{Crypto}
 use Rattle.mls_suite.specs.declared.KeyPair.{KeyPair}
-use Rattle.mls_term.specs.Term.{Term, leaf_at}
-use Rattle.mls_term.specs.Way.{way, path_length}
-use Rattle.mls_paths.specs.Join.{secret_for}
-use Rattle.mls_paths.specs.Laws.{AreTwo}
-use Rattle.mls_paths.specs.Chain.{chain, path_secrets, node_key, node_public}
+use Rattle.mls_tree_model.specs.Term.{Term, leaf_at}
+use Rattle.mls_tree_model.specs.Way.{way, path_length}
+use Rattle.mls_treekem_model.specs.Join.{secret_for}
+use Rattle.mls_treekem_model.specs.Laws.{AreTwo}
+use Rattle.mls_treekem_model.specs.Chain.{chain, path_secrets, node_key, node_public}
 use Rattle.mls_treekem.specs.declared.secrets.PathSecrets.{PathSecrets}
 
 -- key pairs are those of some path secrets

@@ -2,7 +2,7 @@
 
 ghost use Rattle.std.specs.Prelude.{◌≡◌, ◌+◌, ◌&&◌, nat_le, nat_lt, IfOk};
 ghost use Rattle.mls_wire.specs.Checks.{Answers};
-ghost use Rattle.mls_paths.specs.Make.{past_key, past_blank};
+ghost use Rattle.mls_treekem_model.specs.Make.{past_key, past_blank};
 ghost use Rattle.mls_treekem.specs.Faults.{number_of};
 
 use crate::TreeKemError;
@@ -24,7 +24,7 @@ pub(crate) struct Climb {
 // The keys are seen in the order of the way to the leaf.
 impl Model for Climb {
     ghost use Rattle.std.specs.Prelude.{reverse};
-    ghost use Rattle.mls_paths.specs.Make.{Climb};
+    ghost use Rattle.mls_treekem_model.specs.Make.{Climb};
 
     ghost Value = { Climb };
 

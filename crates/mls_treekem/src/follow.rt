@@ -3,9 +3,9 @@
 ghost use Rattle.std.specs.Prelude.{◌≡◌, ◌≤◌, ◌++◌, if◌then◌else◌, None, length, map, reverse, unwrap_or, OnOk, OnErr};
 ghost use Rattle.std.specs.Option.{option_copied};
 ghost use Rattle.mls_tree.specs.Tree.{term};
-ghost use Rattle.mls_paths.specs.Follow.{key_above};
-ghost use Rattle.mls_paths.specs.Height.{follow_above, HasFollowed};
-ghost use Rattle.mls_paths.specs.Keys.{all_keys};
+ghost use Rattle.mls_treekem_model.specs.Follow.{key_above};
+ghost use Rattle.mls_treekem_model.specs.Height.{follow_above, HasFollowed};
+ghost use Rattle.mls_treekem_model.specs.Keys.{all_keys};
 ghost use Rattle.mls_treekem.specs.Place.{step_of};
 
 use crate::PrivatePath;

@@ -2,10 +2,10 @@
 
 ghost use Rattle.std.specs.Prelude.{◌≡◌, ◌≤◌, length, map, IfOk};
 ghost use Rattle.std.specs.Option.{option_copied};
-ghost use Rattle.mls_term.specs.Way.{way};
+ghost use Rattle.mls_tree_model.specs.Way.{way};
 ghost use Rattle.mls_tree.specs.Tree.{term};
-ghost use Rattle.mls_paths.specs.Make.{filtered_count};
-ghost use Rattle.mls_paths.specs.Join.{secret_among};
+ghost use Rattle.mls_treekem_model.specs.Make.{filtered_count};
+ghost use Rattle.mls_treekem_model.specs.Join.{secret_among};
 ghost use Rattle.mls_treekem.specs.Place.{step_of, ArePlaced};
 ghost use Rattle.mls_treekem.specs.Secrets.{IsSentOf};
 

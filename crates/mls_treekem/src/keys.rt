@@ -1,10 +1,10 @@
 //! Which keys a member has.
 
 ghost use Rattle.std.specs.Prelude.{◌≡◌, ◌+◌, ◌^◌, ◌≤◌, ◌++◌, None, slice_index_or, IfOk, OnOk};
-ghost use Rattle.mls_paths.specs.Follow.{key_above};
-ghost use Rattle.mls_paths.specs.Height.{pairs_from, listed, ArePairs};
-ghost use Rattle.mls_paths.specs.Keys.{all_keys};
-ghost use Rattle.mls_paths.specs.Pairs.{pair_of};
+ghost use Rattle.mls_treekem_model.specs.Follow.{key_above};
+ghost use Rattle.mls_treekem_model.specs.Height.{pairs_from, listed, ArePairs};
+ghost use Rattle.mls_treekem_model.specs.Keys.{all_keys};
+ghost use Rattle.mls_treekem_model.specs.Pairs.{pair_of};
 
 use crate::PrivatePath;
 use crate::places::side_of;

@@ -3,7 +3,7 @@
 ghost use Rattle.std.specs.Prelude.{◌≡◌, ◌++◌, None, length, map, replicate, IfOk, OnOk, OnErr};
 ghost use Rattle.mls_treekem.specs.Secrets.{AreOfChain};
 ghost use Rattle.mls_treekem.specs.Raised.{level_of, raised, raised_all, IsRaised};
-ghost use Rattle.mls_paths.specs.Make.{HasMade};
+ghost use Rattle.mls_treekem_model.specs.Make.{HasMade};
 
 use crate::{PathSecrets, PrivatePath};
 use mls_kdf::Secret;

@@ -2,14 +2,14 @@
 
 ghost use Rattle.std.specs.Prelude.{◌≡◌, ◌+◌, ◌*◌, ◌^◌, ◌<◌, ◌≤◌, ◌==◌, not, length, map, reverse, IfOk, OnErr};
 ghost use Rattle.mls_wire.specs.Checks.{Answers, AnswersOutright};
-ghost use Rattle.mls_term.specs.Places.{resolution_at};
-ghost use Rattle.mls_term.specs.Resolution.{is_empty};
+ghost use Rattle.mls_tree_model.specs.Places.{resolution_at};
+ghost use Rattle.mls_tree_model.specs.Resolution.{is_empty};
 ghost use Rattle.mls_tree.specs.Tree.{term};
-ghost use Rattle.mls_paths.specs.Make.{climb_to};
+ghost use Rattle.mls_treekem_model.specs.Make.{climb_to};
 ghost use Rattle.mls_treekem.specs.Faults.{number_of};
-ghost use Rattle.mls_paths.specs.Open.{of_32, left_by, past_parent, opened_path};
-ghost use Rattle.mls_paths.specs.Open.{secret_in};
-ghost use Rattle.mls_paths.specs.Height.{keys_on};
+ghost use Rattle.mls_treekem_model.specs.Open.{of_32, left_by, past_parent, opened_path};
+ghost use Rattle.mls_treekem_model.specs.Open.{secret_in};
+ghost use Rattle.mls_treekem_model.specs.Height.{keys_on};
 ghost use Rattle.mls_treekem.specs.Opening.{IsKeyOf, AreKeysUpTo, OpensFirst, OpensHere, OpensAlong};
 ghost use Rattle.mls_treekem.specs.Place.{step_of, IsPlaced, ArePlaced};
 
@@ -17,7 +17,7 @@ use crate::climb::Climb;
 use crate::places::{Place, parents_over, side_of};
 use crate::seal::is_one_of;
 use crate::{PrivatePath, TreeKemError};
-use mls_group::{HpkeCiphertext, UpdatePathNode};
+use mls_types::{HpkeCiphertext, UpdatePathNode};
 use mls_kdf::Secret;
 use mls_suite::{OutOfMemory, Suite, decrypt_with_label};
 use mls_tree::PublicTree;

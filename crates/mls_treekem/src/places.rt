@@ -2,7 +2,7 @@
 
 ghost use Rattle.std.specs.Prelude.{◌≡◌, ◌+◌, ◌-◌, ◌*◌, ◌^◌, ◌<◌, ◌≤◌, ◌++◌, is_some, IfOk, OnOk};
 ghost use Rattle.std.specs.Option.{option_copied};
-ghost use Rattle.mls_term.specs.Arrays.{parent_in};
+ghost use Rattle.mls_tree_model.specs.Arrays.{parent_in};
 ghost use Rattle.mls_tree.specs.Tree.{term};
 ghost use Rattle.mls_treekem.specs.Place.{places_from, step_of, IsWay};
 

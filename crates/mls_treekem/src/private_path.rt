@@ -1,7 +1,7 @@
 //! The private keys of a member.
 
 ghost use Rattle.std.specs.Prelude.{◌≡◌, ◌∷◌, [], Some};
-ghost use Rattle.mls_paths.specs.Keys.{all_keys};
+ghost use Rattle.mls_treekem_model.specs.Keys.{all_keys};
 
 use mls_kdf::Secret;
 use std::alloc::{AllocError, Global};
@@ -19,7 +19,7 @@ pub struct PrivatePath {
 // The keys above the leaf are seen in the order of the way to it.
 impl Model for PrivatePath {
     ghost use Rattle.std.specs.Prelude.{◌^◌, ◌<◌, ◌≤◌, length, reverse};
-    ghost use Rattle.mls_paths.specs.Keys.{PrivateKeys};
+    ghost use Rattle.mls_treekem_model.specs.Keys.{PrivateKeys};
 
     ghost Value = { PrivateKeys };
 

@@ -1,7 +1,7 @@
 //! The secrets of a path and their key pairs (RFC 9420, 7.4).
 
 ghost use Rattle.std.specs.Prelude.{◌≡◌, IfOk};
-ghost use Rattle.mls_paths.specs.Chain.{next_secret, node_key, node_public};
+ghost use Rattle.mls_treekem_model.specs.Chain.{next_secret, node_key, node_public};
 ghost use Rattle.mls_treekem.specs.Secrets.{AreOfChain};
 
 use mls_kdf::{HmacKey, Secret};
@@ -20,7 +20,7 @@ pub struct PathSecrets {
 }
 
 /// The path secret of the next node above.
-#[tactic(auto, unfolding(mls_paths::specs::Chain::next_secret))]
+#[tactic(auto, unfolding(mls_treekem_model::specs::Chain::next_secret))]
 pub(crate) fn next_secret(secret: &HmacKey) -> Secret
     ensures { result ≡ next_secret secret.now }
 {
@@ -28,7 +28,7 @@ pub(crate) fn next_secret(secret: &HmacKey) -> Secret
 }
 
 /// The key pair of the node with a path secret.
-#[tactic(auto, unfolding(mls_paths::specs::Chain::node_key))]
+#[tactic(auto, unfolding(mls_treekem_model::specs::Chain::node_key))]
 pub(crate) fn node_pair<S: Suite>(alloc: Global, secret: &HmacKey) -> Result<KeyPair, OutOfMemory>
     ensures private { IfOk result (λ pair. pair.sk ≡ node_key S.crypto secret.now) }
     ensures public { IfOk result (λ pair. pair.pk.items ≡ node_public S.crypto secret.now) }

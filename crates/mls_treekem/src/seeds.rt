@@ -2,12 +2,12 @@
 //! takes memory.
 
 ghost use Rattle.std.specs.Prelude.{◌≡◌};
-ghost use Rattle.mls_paths.specs.Seeds.{init_seed, leaf_seed, sign_seed, path_seed, seal_seed};
+ghost use Rattle.mls_treekem_model.specs.Seeds.{init_seed, leaf_seed, sign_seed, path_seed, seal_seed};
 
 use mls_kdf::{Secret, Seed, derive_secret, expand_with_label};
 
 /// The input key material of a KeyPackage's init key.
-#[tactic(auto, unfolding(mls_paths::specs::Seeds::init_seed))]
+#[tactic(auto, unfolding(mls_treekem_model::specs::Seeds::init_seed))]
 pub fn init_seed(seed: &Seed) -> Secret
     ensures { result ≡ init_seed seed.now }
 {
@@ -15,7 +15,7 @@ pub fn init_seed(seed: &Seed) -> Secret
 }
 
 /// The input key material of a leaf's key.
-#[tactic(auto, unfolding(mls_paths::specs::Seeds::leaf_seed))]
+#[tactic(auto, unfolding(mls_treekem_model::specs::Seeds::leaf_seed))]
 pub fn leaf_seed(seed: &Seed) -> Secret
     ensures { result ≡ leaf_seed seed.now }
 {
@@ -23,7 +23,7 @@ pub fn leaf_seed(seed: &Seed) -> Secret
 }
 
 /// The private signature key.
-#[tactic(auto, unfolding(mls_paths::specs::Seeds::sign_seed))]
+#[tactic(auto, unfolding(mls_treekem_model::specs::Seeds::sign_seed))]
 pub fn sign_seed(seed: &Seed) -> Secret
     ensures { result ≡ sign_seed seed.now }
 {
@@ -31,7 +31,7 @@ pub fn sign_seed(seed: &Seed) -> Secret
 }
 
 /// The first path secret.
-#[tactic(auto, unfolding(mls_paths::specs::Seeds::path_seed))]
+#[tactic(auto, unfolding(mls_treekem_model::specs::Seeds::path_seed))]
 pub fn path_seed(seed: &Seed) -> Secret
     ensures { result ≡ path_seed seed.now }
 {
@@ -40,7 +40,7 @@ pub fn path_seed(seed: &Seed) -> Secret
 
 /// The randomness of seal number `i` of a commit, from 0 on: the seals of its path come first, node by node, the lowest
 /// first, and then those of its Welcome in the order of adds.
-#[tactic(auto, unfolding(mls_paths::specs::Seeds::seal_seed, mls_wire::specs::Reading::uint))]
+#[tactic(auto, unfolding(mls_treekem_model::specs::Seeds::seal_seed, mls_wire::specs::Reading::uint))]
 pub fn seal_seed(seed: &Seed, i: u32) -> Secret
     ensures { result ≡ seal_seed seed.now i }
 {

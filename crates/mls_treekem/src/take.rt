@@ -3,13 +3,13 @@
 ghost use Rattle.std.specs.Prelude.{◌≡◌, ◌+◌, ◌^◌, ◌≤◌, true, false, length, map, replicate, reverse, None, IfOk, OnErr, MatchResult};
 ghost use Rattle.std.specs.Option.{option_copied};
 ghost use Rattle.mls_wire.specs.Checks.{Answers};
-ghost use Rattle.mls_term.specs.Sets.{has};
+ghost use Rattle.mls_tree_model.specs.Sets.{has};
 ghost use Rattle.mls_tree.specs.Tree.{term};
 ghost use Rattle.mls_treekem.specs.Climbing.{with_own};
-ghost use Rattle.mls_paths.specs.Make.{climb_to};
+ghost use Rattle.mls_treekem_model.specs.Make.{climb_to};
 ghost use Rattle.mls_treekem.specs.Faults.{number_of};
-ghost use Rattle.mls_paths.specs.Join.{past_present, is_present, climb_take, is_due, is_complete, take_answer};
-ghost use Rattle.mls_paths.specs.Join.{has_due_on, has_due};
+ghost use Rattle.mls_treekem_model.specs.Join.{past_present, is_present, climb_take, is_due, is_complete, take_answer};
+ghost use Rattle.mls_treekem_model.specs.Join.{has_due_on, has_due};
 ghost use Rattle.mls_treekem.specs.Place.{places_from, step_of, ArePlaced};
 ghost use Rattle.mls_treekem.specs.declared.error.TreeKemError.TheVariants.{KeyMissing};
 

@@ -1,3 +1,4 @@
 pub mod Cases
 pub mod SignedLaws
 pub mod SignedParts
+pub mod GroupInfoLaws

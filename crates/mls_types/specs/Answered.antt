@@ -3,7 +3,7 @@ use Rattle.std.specs.Prelude.{refl}
 use Rattle.std.proofs.Common.{lit<}
 use Rattle.mls_wire.specs.Answered.{HasFaults, mark_faults, pair_faults, behind_answered, seen_answered, others_faults, case_faults, by_uint8_faults, by_uint16_faults, vector_faults, optional_faults, byte_string_faults, nothing_faults, uint32_faults, uint64_faults}
 use Rattle.mls_leaf.specs.Answered.{key_package_faults, proposal_faults}
-use Rattle.mls_group.specs.Answered.{update_path_faults, group_info_faults, welcome_faults}
+use Rattle.mls_types.specs.AnsweredGroups.{update_path_faults, group_info_faults, welcome_faults}
 use Rattle.mls_types.specs.Commit.{proposal_or_ref, proposal_or_ref_nonempty, commit}
 use Rattle.mls_types.specs.Content.{sender, content, framed_content}
 use Rattle.mls_types.specs.Signed.{signed_tail, signed_content}

@@ -5,11 +5,11 @@ use Rattle.mls_wire.specs.Reading.{uint}
 use Rattle.mls_types.specs.Content.{framed_content}
 use Rattle.mls_types.specs.SignedParts.{framed, auth_data, AuthDataFits}
 use Rattle.mls_types.specs.PublicMessage.{wire_format}
-use Rattle.mls_group.specs.GroupContext.{group_context}
+use Rattle.mls_types.specs.GroupContext.{group_context}
 use Rattle.mls_types.specs.declared.content.FramedContent.{FramedContent}
 use Rattle.mls_types.specs.declared.signed.SignedContent.{SignedContent}
 use Rattle.mls_types.specs.declared.public_message.WireFormat.{WireFormat}
-use Rattle.mls_group.specs.declared.group_context.GroupContext.{GroupContext}
+use Rattle.mls_types.specs.declared.group_context.GroupContext.{GroupContext}
 
 -- FramedContentTBS (RFC 9420, 6.1): uint16 version (1), uint16 wire_format, FramedContent, GroupContext
 abbrev pub framed_content_tbs : WireFormat → FramedContent → GroupContext → List ℕ

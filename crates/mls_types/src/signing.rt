@@ -3,7 +3,7 @@
 use crate::content::FramedContent;
 use crate::public_message::WireFormat;
 use crate::signed::SignedContent;
-use mls_group::GroupContext;
+use crate::GroupContext;
 use mls_leaf::{Codec, LeafError};
 use mls_wire::Writer;
 use std::alloc::Global;

@@ -7,19 +7,19 @@ use Rattle.mls_wire.proofs.CheckLaws.{bind_ok, then_ok}
 use Rattle.mls_leaf.specs.Parent.{Parent}
 use Rattle.mls_leaf.specs.declared.leaf.LeafNode.{LeafNode}
 use Rattle.mls_suite.specs.Crypto.{Crypto}
-use Rattle.mls_term.specs.Term.{Term, width, height, leaf_at}
-use Rattle.mls_term.specs.Way.{Step, way, filtered_way, filtered_path, path_length}
-use Rattle.mls_term.specs.Merge.{merge_path, path_parent_hash}
+use Rattle.mls_tree_model.specs.Term.{Term, width, height, leaf_at}
+use Rattle.mls_tree_model.specs.Way.{Step, way, filtered_way, filtered_path, path_length}
+use Rattle.mls_tree_model.specs.Merge.{merge_path, path_parent_hash}
 use Rattle.mls_tree.specs.Tree.{Tree, term, member_at, path_answer}
 use Rattle.mls_tree.specs.Paths.{path_checks, path_hash_answer}
 use Rattle.mls_tree.proofs.Perfect.{perfect, width_is}
-use Rattle.mls_paths.specs.Follow.{key_above, on_way, follow_edit}
-use Rattle.mls_paths.specs.Height.{keys_on, HasFollowed}
-use Rattle.mls_paths.specs.Keys.{Keys, PrivateKeys, all_keys, Along, Fits, Exact}
-use Rattle.mls_paths.specs.Make.{made_keys, HasMade}
-use Rattle.mls_paths.proofs.MemberLaws.{keys_merged}
-use Rattle.mls_paths.specs.Whole.{keys_of_path}
-use Rattle.mls_paths.proofs.WholeLaws.{made_exact}
+use Rattle.mls_treekem_model.specs.Follow.{key_above, on_way, follow_edit}
+use Rattle.mls_treekem_model.specs.Height.{keys_on, HasFollowed}
+use Rattle.mls_treekem_model.specs.Keys.{Keys, PrivateKeys, all_keys, Along, Fits, Exact}
+use Rattle.mls_treekem_model.specs.Make.{made_keys, HasMade}
+use Rattle.mls_treekem_model.proofs.MemberLaws.{keys_merged}
+use Rattle.mls_treekem_model.specs.Whole.{keys_of_path}
+use Rattle.mls_treekem_model.proofs.WholeLaws.{made_exact}
 use Rattle.mls_treekem.specs.Secrets.{AreOfChain}
 use Rattle.mls_treekem.specs.declared.secrets.PathSecrets.{PathSecrets}
 

@@ -2,7 +2,7 @@
 use Rattle.std.proofs.Common.{◌≡◌, ℕ, List, Ok, sym, subst}
 use Rattle.mls_leaf.specs.Leaf.{leaf_node}
 use Rattle.mls_leaf.specs.declared.leaf.LeafNode.{LeafNode}
-use Rattle.mls_term.specs.Term.{Term}
+use Rattle.mls_tree_model.specs.Term.{Term}
 use Rattle.mls_tree.specs.Paths.{merge_answer}
 use Rattle.mls_public_group.specs.Short.{IsBelow, HasLeavesBelow}
 use Rattle.mls_public_group.proofs.Leaves.{below_merge_path}

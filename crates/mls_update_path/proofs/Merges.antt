@@ -7,13 +7,13 @@ use Rattle.mls_leaf.specs.declared.leaf.LeafSource.TheVariants as made_for
 use Rattle.mls_suite.specs.Crypto.{Crypto}
 use Rattle.mls_checks.specs.Checks.{replaced_checks}
 use Rattle.mls_checks.specs.declared.checks.Source.TheVariants as replaced_for
-use Rattle.mls_term.specs.Term.{Term, leaf_of}
-use Rattle.mls_term.specs.Way.{path_length}
-use Rattle.mls_term.specs.Merge.{merge_path, path_parent_hash}
-use Rattle.mls_term.proofs.LengthLaws.{none_or_long}
+use Rattle.mls_tree_model.specs.Term.{Term, leaf_of}
+use Rattle.mls_tree_model.specs.Way.{path_length}
+use Rattle.mls_tree_model.specs.Merge.{merge_path, path_parent_hash}
+use Rattle.mls_tree_model.proofs.LengthLaws.{none_or_long}
 use Rattle.mls_tree.specs.Paths.{merge_checks, merge_answer}
-use Rattle.mls_paths.specs.Seeds.{path_seed}
-use Rattle.mls_paths.specs.Whole.{keys_of_path}
+use Rattle.mls_treekem_model.specs.Seeds.{path_seed}
+use Rattle.mls_treekem_model.specs.Whole.{keys_of_path}
 use Rattle.mls_treekem.specs.Secrets.{AreOfChain, public_keys}
 use Rattle.mls_treekem.specs.declared.secrets.PathSecrets.{PathSecrets}
 use Rattle.mls_model.specs.Public.{PublicState}

@@ -7,13 +7,13 @@ use Rattle.mls_leaf.specs.declared.leaf.LeafNode.{LeafNode}
 use Rattle.mls_suite.specs.Crypto.{Crypto}
 use Rattle.mls_checks.specs.Checks.{replaced_checks}
 use Rattle.mls_checks.specs.declared.checks.Source.TheVariants as replaced_for
-use Rattle.mls_term.specs.Term.{Term, leaf_of}
-use Rattle.mls_term.specs.Way.{way}
+use Rattle.mls_tree_model.specs.Term.{Term, leaf_of}
+use Rattle.mls_tree_model.specs.Way.{way}
 use Rattle.mls_tree.specs.Paths.{merge_answer}
-use Rattle.mls_paths.specs.Keys.{PrivateKeys, all_keys}
-use Rattle.mls_paths.specs.Height.{HasFollowed, keys_on}
-use Rattle.mls_paths.specs.Make.{made_keys}
-use Rattle.mls_paths.specs.Seeds.{path_seed}
+use Rattle.mls_treekem_model.specs.Keys.{PrivateKeys, all_keys}
+use Rattle.mls_treekem_model.specs.Height.{HasFollowed, keys_on}
+use Rattle.mls_treekem_model.specs.Make.{made_keys}
+use Rattle.mls_treekem_model.specs.Seeds.{path_seed}
 use Rattle.mls_public_group.specs.Short.{IsBelow, HasLeavesBelow}
 use Rattle.mls_model.specs.Public.{PublicState}
 use Rattle.mls_model.specs.Candidate.{leaf_key_of}

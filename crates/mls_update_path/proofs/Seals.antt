@@ -8,24 +8,24 @@ use Rattle.mls_wire.specs.Checks.{Passed, passed, ◌>>◌}
 use Rattle.mls_wire.proofs.CheckLaws.{bind_ok, then_ok}
 use Rattle.mls_wire.specs.Reading.{◌>>=◌}
 use Rattle.mls_leaf.specs.declared.leaf.LeafNode.{LeafNode}
-use Rattle.mls_group.specs.GroupContext.{group_context}
-use Rattle.mls_group.specs.declared.update_path.UpdatePath.{UpdatePath}
-use Rattle.mls_group.specs.declared.update_path.UpdatePathNode.{UpdatePathNode}
+use Rattle.mls_types.specs.GroupContext.{group_context}
+use Rattle.mls_types.specs.declared.update_path.UpdatePath.{UpdatePath}
+use Rattle.mls_types.specs.declared.update_path.UpdatePathNode.{UpdatePathNode}
 use Rattle.mls_suite.specs.Crypto.{Crypto, Lawful}
 use Rattle.mls_checks.specs.Checks.{replaced_checks}
 use Rattle.mls_checks.specs.declared.checks.Source.TheVariants as replaced_for
-use Rattle.mls_term.specs.Term.{Term}
-use Rattle.mls_term.specs.Way.{way, path_length, ciphertext_counts}
+use Rattle.mls_tree_model.specs.Term.{Term}
+use Rattle.mls_tree_model.specs.Way.{way, path_length, ciphertext_counts}
 use Rattle.mls_tree.specs.Tree.{member_at}
 use Rattle.mls_tree.specs.Paths.{merge_answer}
-use Rattle.mls_paths.specs.Chain.{chain, path_secrets, node_public}
-use Rattle.mls_paths.specs.Keys.{Keys}
-use Rattle.mls_paths.specs.Make.{Climb, climb_make, made_keys}
-use Rattle.mls_paths.proofs.MakeLaws.{count_is_length}
-use Rattle.mls_paths.specs.Seal.{targets, sealed_path}
-use Rattle.mls_paths.specs.Seeds.{path_seed, seal_seed}
-use Rattle.mls_paths.specs.Whole.{keys_of_path}
-use Rattle.mls_paths.proofs.WholeLaws.{sealed_keys, sealed_lengths}
+use Rattle.mls_treekem_model.specs.Chain.{chain, path_secrets, node_public}
+use Rattle.mls_treekem_model.specs.Keys.{Keys}
+use Rattle.mls_treekem_model.specs.Make.{Climb, climb_make, made_keys}
+use Rattle.mls_treekem_model.proofs.MakeLaws.{count_is_length}
+use Rattle.mls_treekem_model.specs.Seal.{targets, sealed_path}
+use Rattle.mls_treekem_model.specs.Seeds.{path_seed, seal_seed}
+use Rattle.mls_treekem_model.specs.Whole.{keys_of_path}
+use Rattle.mls_treekem_model.proofs.WholeLaws.{sealed_keys, sealed_lengths}
 use Rattle.mls_treekem.specs.Secrets.{AreOfChain}
 use Rattle.mls_treekem.specs.declared.secrets.PathSecrets.{PathSecrets}
 use Rattle.mls_model.specs.Public.{PublicState, provisional_context}

@@ -1,6 +1,6 @@
 -- What a path gives its committer.
 use Rattle.std.specs.Prelude.{Some}
-use Rattle.mls_paths.specs.Keys.{all_keys}
+use Rattle.mls_treekem_model.specs.Keys.{all_keys}
 use Rattle.mls_model.specs.Make.{MadePath}
 use Rattle.mls_update_path.specs.declared.path.NewPath.{NewPath}
 

@@ -4,19 +4,19 @@ use Rattle.mls_wire.specs.Checks.{Passed, ◌>>◌}
 use Rattle.mls_wire.specs.Reading.{◌>>=◌}
 use Rattle.mls_leaf.specs.declared.leaf.LeafNode.{LeafNode}
 use Rattle.mls_leaf.specs.declared.leaf.LeafSource.TheVariants as made_for
-use Rattle.mls_group.specs.GroupContext.{group_context}
+use Rattle.mls_types.specs.GroupContext.{group_context}
 use Rattle.mls_suite.specs.Crypto.{Crypto}
 use Rattle.mls_checks.specs.Checks.{replaced_checks}
 use Rattle.mls_checks.specs.declared.checks.Source.TheVariants as replaced_for
-use Rattle.mls_term.specs.Term.{Term}
-use Rattle.mls_term.specs.Way.{way}
-use Rattle.mls_term.specs.Merge.{path_parent_hash}
+use Rattle.mls_tree_model.specs.Term.{Term}
+use Rattle.mls_tree_model.specs.Way.{way}
+use Rattle.mls_tree_model.specs.Merge.{path_parent_hash}
 use Rattle.mls_tree.specs.Tree.{member_at}
 use Rattle.mls_tree.specs.Paths.{merge_answer}
-use Rattle.mls_paths.specs.Make.{climb_make}
-use Rattle.mls_paths.specs.Seal.{sealed_path}
-use Rattle.mls_paths.specs.Seeds.{path_seed, seal_seed}
-use Rattle.mls_paths.specs.Whole.{keys_of_path}
+use Rattle.mls_treekem_model.specs.Make.{climb_make}
+use Rattle.mls_treekem_model.specs.Seal.{sealed_path}
+use Rattle.mls_treekem_model.specs.Seeds.{path_seed, seal_seed}
+use Rattle.mls_treekem_model.specs.Whole.{keys_of_path}
 use Rattle.mls_model.specs.Public.{PublicState, provisional_context}
 use Rattle.mls_model.specs.Commit.{Edits}
 use Rattle.mls_model.specs.Candidate.{leaf_key_of, unsigned_leaf, signed_leaf}

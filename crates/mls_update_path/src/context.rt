@@ -1,12 +1,12 @@
 //! The context under which a path is sealed.
 
 ghost use Rattle.std.specs.Prelude.{◌≡◌, ◌+◌, ◌<◌, ◌^◌, length, IfOk};
-ghost use Rattle.mls_group.specs.GroupContext.{group_context};
+ghost use Rattle.mls_types.specs.GroupContext.{group_context};
 ghost use Rattle.mls_tree.specs.Tree.{term};
 ghost use Rattle.mls_public_group.specs.Short.{IsShortContext};
 ghost use Rattle.mls_model.specs.Public as model;
 
-use mls_group::GroupContext;
+use mls_types::GroupContext;
 use mls_public_group::{context_spelling, provisional_context};
 use mls_suite::OutOfMemory;
 use mls_tree::PublicTree;

@@ -1,12 +1,12 @@
 //! The secrets and keys of a path.
 
 ghost use Rattle.std.specs.Prelude.{◌≡◌, length, IfOk, OnOk};
-ghost use Rattle.mls_term.specs.Merge.{path_parent_hash};
-ghost use Rattle.mls_term.specs.Way.{way, path_length};
+ghost use Rattle.mls_tree_model.specs.Merge.{path_parent_hash};
+ghost use Rattle.mls_tree_model.specs.Way.{way, path_length};
 ghost use Rattle.mls_tree.specs.Tree.{term};
-ghost use Rattle.mls_paths.specs.Height.{keys_on};
-ghost use Rattle.mls_paths.specs.Make.{made_keys};
-ghost use Rattle.mls_paths.specs.Seeds.{path_seed};
+ghost use Rattle.mls_treekem_model.specs.Height.{keys_on};
+ghost use Rattle.mls_treekem_model.specs.Make.{made_keys};
+ghost use Rattle.mls_treekem_model.specs.Seeds.{path_seed};
 ghost use Rattle.mls_treekem.specs.Secrets.{AreOfChain, public_keys};
 ghost use Rattle.mls_model.specs.Candidate.{leaf_key_of};
 

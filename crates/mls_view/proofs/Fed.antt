@@ -5,8 +5,8 @@ use Rattle.std.specs.Global.{Vec}
 use Rattle.std.specs.Prelude.{MatchResult}
 use Rattle.std.proofs.lemmas.List.{append-nil, length-append}
 use Rattle.mls_wire.specs.Reading.{uint, header, opaque}
-use Rattle.mls_group.specs.GroupContext.{group_context}
-use Rattle.mls_group.specs.declared.group_context.GroupContext.{GroupContext}
+use Rattle.mls_types.specs.GroupContext.{group_context}
+use Rattle.mls_types.specs.declared.group_context.GroupContext.{GroupContext}
 use Rattle.mls_schedule.specs.Transcript.{confirmed_hash}
 use Rattle.mls_types.specs.Content.{framed_content}
 use Rattle.mls_types.specs.SignedParts.{framed, auth_data}

@@ -2,7 +2,7 @@
 use Rattle.std.specs.Prelude.{◌≡◌}
 use Rattle.mls_leaf.specs.Faults.{Spells}
 use Rattle.mls_leaf.specs.Proposal.{proposal}
-use Rattle.mls_group.specs.declared.welcome.EncryptedGroupSecrets.{EncryptedGroupSecrets}
+use Rattle.mls_types.specs.declared.welcome.EncryptedGroupSecrets.{EncryptedGroupSecrets}
 use Rattle.mls_types.specs.declared.commit.ProposalOrRef.{ProposalOrRef}
 use Rattle.mls_types.specs.declared.commit.ProposalOrRef.TheVariants as shown
 use Rattle.mls_view.specs.declared.entries.EncryptedGroupSecretsView.{EncryptedGroupSecretsView}

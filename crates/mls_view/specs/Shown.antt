@@ -5,10 +5,10 @@ use Rattle.mls_leaf.specs.declared.error.LeafError.{LeafError}
 use Rattle.mls_leaf.specs.Faults.{Spells, number_of}
 use Rattle.mls_leaf.specs.KeyPackage.{key_package}
 use Rattle.mls_leaf.specs.Proposal.{proposal}
-use Rattle.mls_group.specs.UpdatePath.{update_path}
-use Rattle.mls_group.specs.GroupInfo.{group_info}
-use Rattle.mls_group.specs.Welcome.{encrypted_group_secrets, encrypted_group_secrets_nonempty, welcome}
-use Rattle.mls_group.specs.declared.welcome.Welcome as welcomes
+use Rattle.mls_types.specs.UpdatePath.{update_path}
+use Rattle.mls_types.specs.GroupInfo.{group_info}
+use Rattle.mls_types.specs.Welcome.{encrypted_group_secrets, encrypted_group_secrets_nonempty, welcome}
+use Rattle.mls_types.specs.declared.welcome.Welcome as welcomes
 use Rattle.mls_types.specs.Commit.{proposal_or_ref, proposal_or_ref_nonempty}
 use Rattle.mls_types.specs.Content.{framed_content}
 use Rattle.mls_types.specs.SignedParts.{framed, auth_data}

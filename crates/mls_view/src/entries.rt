@@ -1,8 +1,8 @@
 //! Views of a welcome's entries and of a commit's proposals.
 
 ghost use Rattle.mls_leaf.specs.Faults.{Spells};
-ghost use Rattle.mls_group.specs.Welcome.{encrypted_group_secrets};
-ghost use Rattle.mls_group.specs.declared.welcome.EncryptedGroupSecrets as entries;
+ghost use Rattle.mls_types.specs.Welcome.{encrypted_group_secrets};
+ghost use Rattle.mls_types.specs.declared.welcome.EncryptedGroupSecrets as entries;
 ghost use Rattle.mls_types.specs.Commit.{proposal_or_ref};
 ghost use Rattle.mls_types.specs.declared.commit.ProposalOrRef as proposals;
 ghost use Rattle.mls_view.specs.Views.{LendsView};
@@ -33,7 +33,7 @@ pub enum ProposalOrRefView<'a> {
     Reference(&'a [u8]),
 }
 
-#[tactic(auto, using(mls_leaf::proofs::Codecs::codecs), unfolding(mls_group::specs::Welcome::encrypted_group_secrets, mls_group::specs::UpdatePath::hpke_ciphertext))]
+#[tactic(auto, using(mls_leaf::proofs::Codecs::codecs), unfolding(mls_types::specs::Welcome::encrypted_group_secrets, mls_types::specs::UpdatePath::hpke_ciphertext))]
 fn read_secrets<'a>(reader: &mut Reader<'a>) -> Result<EncryptedGroupSecretsView<'a>, LeafError>
     ensures { LendsView encrypted_group_secrets ShowsSecrets reader.old result reader.new }
 {

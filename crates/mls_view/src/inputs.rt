@@ -3,8 +3,8 @@
 ghost use Rattle.std.specs.Prelude.{◌≡◌, ◌+◌, ◌<◌, ◌≤◌, ◌^◌, ◌++◌, ℕ, length, MatchResult};
 ghost use Rattle.std.specs.Int.{w16};
 ghost use Rattle.mls_kdf.specs.Kdf.{hmac, ref_hash};
-ghost use Rattle.mls_group.specs.GroupContext.{group_context};
-ghost use Rattle.mls_group.specs.declared.group_context.GroupContext as contexts;
+ghost use Rattle.mls_types.specs.GroupContext.{group_context};
+ghost use Rattle.mls_types.specs.declared.group_context.GroupContext as contexts;
 ghost use Rattle.mls_schedule.specs.Transcript.{confirmed_hash};
 ghost use Rattle.mls_types.specs.Content.{framed_content};
 ghost use Rattle.mls_types.specs.SignedParts.{framed};

@@ -1,7 +1,7 @@
 //! Views of welcomes (RFC 9420, 12.4.3.1).
 
-ghost use Rattle.mls_group.specs.Welcome.{welcome};
-ghost use Rattle.mls_group.specs.declared.welcome.Welcome as welcomes;
+ghost use Rattle.mls_types.specs.Welcome.{welcome};
+ghost use Rattle.mls_types.specs.declared.welcome.Welcome as welcomes;
 ghost use Rattle.mls_view.specs.Views.{LendsView, IsOwned};
 ghost use Rattle.mls_view.specs.Shown.{ShowsWelcome};
 
@@ -25,7 +25,7 @@ pub struct WelcomeView<'a> {
 }
 
 /// The welcome at the front. It makes no value and takes no memory.
-#[tactic(auto, using(mls_leaf::proofs::Codecs::codecs), unfolding(mls_group::specs::Welcome::welcome))]
+#[tactic(auto, using(mls_leaf::proofs::Codecs::codecs), unfolding(mls_types::specs::Welcome::welcome))]
 pub(crate) fn read_welcome<'a>(reader: &mut Reader<'a>) -> Result<WelcomeView<'a>, LeafError>
     ensures { LendsView welcome ShowsWelcome reader.old result reader.new }
 {

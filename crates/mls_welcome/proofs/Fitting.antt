@@ -21,16 +21,16 @@ use Rattle.mls_leaf.specs.declared.leaf.LeafNode.{LeafNode}
 use Rattle.mls_leaf.specs.declared.leaf.LeafSource.TheVariants as made_for
 use Rattle.mls_leaf.specs.declared.node.Node.{Node}
 use Rattle.mls_leaf.specs.declared.node.Node.TheVariants.{Leaf as in_leaf, Parent as in_parent}
-use Rattle.mls_group.specs.Enclosed.{Whole, entire, at_most_one, enclosed}
-use Rattle.mls_group.specs.GroupContext.{group_context}
-use Rattle.mls_group.specs.GroupInfo.{ratchet_tree, tree_extension, tree_extension_nonempty, group_info_extensions, group_info, group_info_tbs, GroupInfoTbsFits}
-use Rattle.mls_group.specs.UpdatePath.{hpke_ciphertext}
-use Rattle.mls_group.specs.Welcome.{encrypted_group_secrets, encrypted_group_secrets_nonempty, group_secrets, welcome}
-use Rattle.mls_group.specs.declared.group_context.GroupContext.{GroupContext}
-use Rattle.mls_group.specs.declared.group_info.GroupInfo.{GroupInfo}
-use Rattle.mls_group.specs.declared.update_path.HpkeCiphertext.{HpkeCiphertext}
-use Rattle.mls_group.specs.declared.welcome.EncryptedGroupSecrets.{EncryptedGroupSecrets}
-use Rattle.mls_group.specs.declared.welcome.Welcome.{Welcome}
+use Rattle.mls_types.specs.Enclosed.{Whole, entire, at_most_one, enclosed}
+use Rattle.mls_types.specs.GroupContext.{group_context}
+use Rattle.mls_types.specs.GroupInfo.{ratchet_tree, tree_extension, tree_extension_nonempty, group_info_extensions, group_info, group_info_tbs, GroupInfoTbsFits}
+use Rattle.mls_types.specs.UpdatePath.{hpke_ciphertext}
+use Rattle.mls_types.specs.Welcome.{encrypted_group_secrets, encrypted_group_secrets_nonempty, group_secrets, welcome}
+use Rattle.mls_types.specs.declared.group_context.GroupContext.{GroupContext}
+use Rattle.mls_types.specs.declared.group_info.GroupInfo.{GroupInfo}
+use Rattle.mls_types.specs.declared.update_path.HpkeCiphertext.{HpkeCiphertext}
+use Rattle.mls_types.specs.declared.welcome.EncryptedGroupSecrets.{EncryptedGroupSecrets}
+use Rattle.mls_types.specs.declared.welcome.Welcome.{Welcome}
 use Rattle.mls_types.specs.Message.{mls_message}
 use Rattle.mls_types.specs.declared.message.MlsMessage.TheVariants as message
 use Rattle.mls_welcome.specs.Spelled.{FitsIfShort, IsRanged}

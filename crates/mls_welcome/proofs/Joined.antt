@@ -7,13 +7,13 @@ use Rattle.std.proofs.lemmas.List.{drop_more, drop_all}
 use Rattle.mls_wire.specs.Checks.{given}
 use Rattle.mls_wire.specs.Reading.{◌>>=◌}
 use Rattle.mls_leaf.specs.declared.key_package.KeyPackage.{KeyPackage}
-use Rattle.mls_group.specs.declared.welcome.EncryptedGroupSecrets.{EncryptedGroupSecrets}
+use Rattle.mls_types.specs.declared.welcome.EncryptedGroupSecrets.{EncryptedGroupSecrets}
 use Rattle.mls_suite.specs.Crypto.{Crypto, Sealing, Lawful}
 use Rattle.mls_suite.specs.Labels.{encrypt_with_label}
 use Rattle.mls_suite.proofs.LabelLaws.{seals_where_fit}
 use Rattle.mls_suite.specs.Made.{sealing_of}
 use Rattle.mls_suite.specs.declared.Sealed.{Sealed}
-use Rattle.mls_paths.specs.Seal.{ciphertext_of}
+use Rattle.mls_treekem_model.specs.Seal.{ciphertext_of}
 use Rattle.mls_model.specs.Proposals.{package_reference}
 use Rattle.mls_model.specs.Welcome.{secrets_with, entry_for, entries_for}
 use Rattle.mls_welcome.specs.declared.making.Joiner.{Joiner}

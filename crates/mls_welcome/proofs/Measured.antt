@@ -11,9 +11,9 @@ use Rattle.mls_leaf.specs.Limits.{input_limit}
 use Rattle.mls_leaf.specs.Faults.{number_of, Refuses}
 use Rattle.mls_leaf.specs.declared.error.LeafError.{LeafError}
 use Rattle.mls_leaf.specs.declared.error.LeafError.TheVariants.{Wire, BadTag, UnsupportedCredential, UnsupportedProposal, NotRising, ExtensionNotAllowed}
-use Rattle.mls_group.specs.GroupInfo.{group_info, group_info_tbs, GroupInfoTbsFits}
-use Rattle.mls_group.proofs.GroupInfoLaws.{group_info-spelled}
-use Rattle.mls_group.specs.declared.group_info.GroupInfo.{GroupInfo}
+use Rattle.mls_types.specs.GroupInfo.{group_info, group_info_tbs, GroupInfoTbsFits}
+use Rattle.mls_types.proofs.GroupInfoLaws.{group_info-spelled}
+use Rattle.mls_types.specs.declared.group_info.GroupInfo.{GroupInfo}
 use Rattle.mls_suite.specs.Crypto.{Crypto}
 use Rattle.mls_suite.specs.Labels.{sign_with_label}
 use Rattle.mls_model.specs.Welcome.{signed_info}

@@ -6,11 +6,11 @@ use Rattle.mls_wire.specs.Reading.{◌>>=◌, uint, header, opaque}
 use Rattle.mls_wire.specs.Combine.{vector}
 use Rattle.mls_leaf.specs.Limits.{input_limit}
 use Rattle.mls_leaf.specs.declared.key_package.KeyPackage.{KeyPackage}
-use Rattle.mls_group.specs.GroupInfo.{group_info}
-use Rattle.mls_group.specs.Welcome.{welcome, encrypted_group_secrets, encrypted_group_secrets_nonempty}
-use Rattle.mls_group.specs.declared.group_info.GroupInfo.{GroupInfo}
-use Rattle.mls_group.specs.declared.welcome.EncryptedGroupSecrets.{EncryptedGroupSecrets}
-use Rattle.mls_group.specs.declared.welcome.Welcome.{Welcome}
+use Rattle.mls_types.specs.GroupInfo.{group_info}
+use Rattle.mls_types.specs.Welcome.{welcome, encrypted_group_secrets, encrypted_group_secrets_nonempty}
+use Rattle.mls_types.specs.declared.group_info.GroupInfo.{GroupInfo}
+use Rattle.mls_types.specs.declared.welcome.EncryptedGroupSecrets.{EncryptedGroupSecrets}
+use Rattle.mls_types.specs.declared.welcome.Welcome.{Welcome}
 use Rattle.mls_types.specs.Message.{mls_message}
 use Rattle.mls_types.specs.declared.message.MlsMessage.TheVariants as message
 use Rattle.mls_suite.specs.Crypto.{Crypto, Lawful}

@@ -2,7 +2,7 @@
 use Rattle.std.specs.Prelude.{◌≡◌, ℕ, List, Option, Some, None}
 use Rattle.std.specs.List.{AllByRecursion}
 use Rattle.std.specs.Option.{option_copied}
-use Rattle.mls_term.specs.Term.{Term}
+use Rattle.mls_tree_model.specs.Term.{Term}
 use Rattle.mls_treekem.specs.Secrets.{IsSentOf}
 use Rattle.mls_treekem.specs.declared.secrets.PathSecrets.{PathSecrets}
 use Rattle.mls_welcome.specs.declared.making.Joiner.{Joiner}

@@ -5,7 +5,7 @@ use Rattle.mls_wire.specs.Checks.{◌>>◌}
 use Rattle.mls_wire.specs.Format.{Format}
 use Rattle.mls_wire.specs.Combine.{optional}
 use Rattle.mls_leaf.specs.Node.{node}
-use Rattle.mls_group.specs.declared.group_info.GroupInfo.{GroupInfo}
+use Rattle.mls_types.specs.declared.group_info.GroupInfo.{GroupInfo}
 use Rattle.mls_model.specs.Messages.{is_within_limit}
 
 -- the value has a spelling, unless a vector in it is too long: its numbers are in range

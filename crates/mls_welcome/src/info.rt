@@ -2,7 +2,7 @@
 
 ghost use Rattle.std.specs.Prelude.{◌≡◌, ◌≢◌, codes, Err, IfOk, IfErr};
 ghost use Rattle.mls_wire.specs.Checks.{Answers};
-ghost use Rattle.mls_group.specs.GroupInfo.{group_info, group_info_tbs};
+ghost use Rattle.mls_types.specs.GroupInfo.{group_info, group_info_tbs};
 ghost use Rattle.mls_suite.specs.Labels.{sign_with_label};
 ghost use Rattle.mls_model.specs.Welcome.{unsigned_info, signed_info};
 ghost use Rattle.mls_welcome.specs.Faults.{number_of};
@@ -11,7 +11,7 @@ ghost use Rattle.mls_welcome.specs.Spelled.{IsRanged, limited};
 use crate::error::WelcomeError;
 use crate::limits::{is_within_limit, limited_spelling};
 use crate::ranges::know_slots;
-use mls_group::{GroupContext, GroupInfo};
+use mls_types::{GroupContext, GroupInfo};
 use mls_kdf::Secret;
 use mls_leaf::{Bytes, Items};
 use mls_public_group::PublicGroup;

@@ -2,7 +2,7 @@
 
 ghost use Rattle.std.specs.Prelude.{◌≡◌, ◌≤◌, ◌<◌, ◌^◌, ◌+◌, ℕ, List, Err, length, map};
 ghost use Rattle.mls_wire.specs.Checks.{Answers};
-ghost use Rattle.mls_paths.specs.Seeds.{seal_seed};
+ghost use Rattle.mls_treekem_model.specs.Seeds.{seal_seed};
 ghost use Rattle.mls_model.specs.Welcome.{unsigned_info, signed_info, welcome_message};
 ghost use Rattle.mls_welcome.specs.Joiners.{place_of, AreSecretsOf, AreShortJoiners};
 ghost use Rattle.mls_welcome.specs.Faults.{number_of};
@@ -12,7 +12,7 @@ use crate::entries::{Sealer, have_fit_keys};
 use crate::error::WelcomeError;
 use crate::info::signed_info;
 use crate::limits::limited_spelling;
-use mls_group::{EncryptedGroupSecrets, Welcome};
+use mls_types::{EncryptedGroupSecrets, Welcome};
 use mls_kdf::{Secret, Seed};
 use mls_leaf::{Bytes, Items, KeyPackage, LeafError};
 use mls_public_group::PublicGroup;

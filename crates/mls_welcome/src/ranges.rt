@@ -10,7 +10,7 @@ ghost use Rattle.mls_leaf.specs.ParentNode.{parent_node};
 ghost use Rattle.mls_welcome.specs.Spelled.{FitsIfShort};
 
 use mls_leaf::{Capabilities, LeafNode, LeafSource, Node, ParentNode};
-use mls_slot::Slot;
+use mls_tree_slot::Slot;
 
 /// Numbers of 16 bits.
 fn know_shorts(numbers: &[u16])

@@ -15,8 +15,8 @@ use Rattle.mls_model.specs.Range.{IsSourceInRange, IsItemInRange, IsInRange}
 use Rattle.mls_model.specs.Run.{answer}
 use Rattle.mls_model.proofs.RunLaws.{answered_step}
 use Rattle.mls_model.specs.World.{World}
-use Rattle.mls_runs.specs.Reachable.{IsReachable}
-use Rattle.mls_runs.proofs.Reachable.{steps_reach}
+use Rattle.mls_theorems.specs.Reachable.{IsReachable}
+use Rattle.mls_theorems.proofs.Reachable.{steps_reach}
 
 -- elements as a `Vec`, wherever it would lie
 abbrev in_vec : {X : Type 0} → Global → (xs : List X) → length xs < 2 ^ 63 → Vec X

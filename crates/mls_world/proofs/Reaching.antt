@@ -10,10 +10,10 @@ use Rattle.mls_model.specs.Headline.{HoldsAlong}
 use Rattle.mls_model.specs.Range.{IsInRange}
 use Rattle.mls_model.specs.Run.{run}
 use Rattle.mls_model.specs.World.{World}
-use Rattle.mls_claims.proofs.One.{all_parted}
-use Rattle.mls_events.specs.Answers.{Steps}
-use Rattle.mls_runs.specs.Reachable.{IsReachable}
-use Rattle.mls_runs.proofs.Reachable.{runs_reach, steps_reach, headline_of_reachable}
+use Rattle.mls_theorems.proofs.One.{all_parted}
+use Rattle.mls_world_plain.specs.Answers.{Steps}
+use Rattle.mls_theorems.specs.Reachable.{IsReachable}
+use Rattle.mls_theorems.proofs.Reachable.{runs_reach, steps_reach, headline_of_reachable}
 
 first_ones : (n : ℕ) (events : List Event) → AllByRecursion IsInRange events → AllByRecursion IsInRange (take n events)
 first_ones n events range = (all_parted IsInRange (take n events) (drop n events) (subst (AllByRecursion IsInRange) (sym (take-append-drop n events)) range)).0

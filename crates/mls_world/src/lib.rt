@@ -6,7 +6,7 @@ mod ranges;
 mod replies;
 mod world;
 
-pub use mls_events::{
+pub use mls_world_plain::{
     Candidate, Entry, Journal, Member, NewCandidate, NewCommit, NewMember, WorldError,
 };
 pub use mls_model::{Effect, Event, Origin, Reply, Source, WorldItem};

@@ -2,7 +2,7 @@
 
 ghost use Rattle.mls_model.specs.Answers.{Runs};
 
-use mls_events::PlainWorld;
+use mls_world_plain::PlainWorld;
 use mls_model::{Event, Reply};
 use mls_suite::{OutOfMemory, Suite};
 

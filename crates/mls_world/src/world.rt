@@ -6,12 +6,12 @@ ghost use Rattle.mls_model.specs.declared.event.Reply.TheVariants as reply;
 ghost use Rattle.mls_model.specs.Answers.{Runs};
 ghost use Rattle.mls_model.specs.Headline.{Headline, HoldsAlong};
 ghost use Rattle.mls_model.specs.World as model;
-ghost use Rattle.mls_events.specs.Answers.{Steps};
-ghost use Rattle.mls_events.specs.Outright.{early_checks};
+ghost use Rattle.mls_world_plain.specs.Answers.{Steps};
+ghost use Rattle.mls_world_plain.specs.Outright.{early_checks};
 
 use crate::ranges::{know_event, know_events};
 use crate::replies::push_replies;
-use mls_events::{Journal, Member, PlainWorld};
+use mls_world_plain::{Journal, Member, PlainWorld};
 use mls_model::{Event, Reply};
 use mls_suite::{OutOfMemory, Suite};
 use std::alloc::Global;
@@ -27,8 +27,8 @@ pub struct World<S: Suite> {
 
 impl<S: Suite> Model for World<S> {
     ghost use Rattle.mls_model.specs.World as model;
-    ghost use Rattle.mls_events.specs.Codes.{coded_world};
-    ghost use Rattle.mls_runs.specs.Reachable.{IsReachable};
+    ghost use Rattle.mls_world_plain.specs.Codes.{coded_world};
+    ghost use Rattle.mls_theorems.specs.Reachable.{IsReachable};
 
     ghost Value = { model.World };
 

@@ -7,7 +7,7 @@ use crate::opened;
 use crate::serving::serve;
 use crate::tests::rows::{JOIN, JOIN_TEXT};
 use crate::tests::{KEY_PACKAGE, OUT_OF_MEMORY, TEXT, unless_out_of_memory};
-use mls_text::{Fault, Out, Output};
+use mls_cli_text::{Fault, Out, Output};
 use std::io;
 use std::io::{ErrorKind, Write};
 use std::test::Fail;

@@ -4,7 +4,7 @@ use crate::arguments::job;
 use crate::serving::serve;
 use crate::tests::rows::{EXPECTED, EXPECTED_TEXT, JOIN, JOIN_TEXT};
 use crate::tests::{Broken, OUT_OF_MEMORY, printed, unless_out_of_memory, with_room};
-use mls_text::{In, Out};
+use mls_cli_text::{In, Out};
 use std::alloc::{AllocError, Global};
 use std::test::Fail;
 

@@ -2,7 +2,7 @@ use Rattle.std.proofs.Common.{rules, tests, sym, ◌∙◌, ap}
 use Rattle.std.specs.List.{list_all}
 use Rattle.std.proofs.lemmas.Iterator.{YieldsList-from_slice}
 use Rattle.std.proofs.lemmas.Iterator.Search.{all_from_yields_List}
-use Rattle.mls_group.specs.declared.update_path.UpdatePathNode.{UpdatePathNode}
+use Rattle.mls_types.specs.declared.update_path.UpdatePathNode.{UpdatePathNode}
 use Rattle.mls_commit.proofs.Mapped.{list_all-map}
 use Rattle.mls_commit.proofs.path.has_fit_keys.Goals as goal
 

@@ -1,4 +1,4 @@
-use Rattle.mls_group.specs.declared.update_path.UpdatePathNode.{UpdatePathNode}
+use Rattle.mls_types.specs.declared.update_path.UpdatePathNode.{UpdatePathNode}
 use Rattle.mls_commit.proofs.Keys.{mapped_next}
 use Rattle.mls_commit.proofs.path.node_keys.Goals as goal
 

@@ -1,7 +1,7 @@
 use Rattle.std.proofs.Common.{refl, sym, ◌∙◌, ap, Err}
 use Rattle.std.proofs.lemmas.Result.{err_from_is_err_and}
-use Rattle.mls_group.specs.declared.group_context.GroupContext.{GroupContext}
-use Rattle.mls_term.specs.Term.{leaf_of}
+use Rattle.mls_types.specs.declared.group_context.GroupContext.{GroupContext}
+use Rattle.mls_tree_model.specs.Term.{leaf_of}
 use Rattle.mls_commit.specs.Faults.{number_of}
 use Rattle.mls_commit.proofs.Paths.{replaced_in, path_miscounted, path_unfit, path_merged, merge_alike}
 use Rattle.mls_commit.proofs.path.with_path.Goals as goal

@@ -1,8 +1,8 @@
 use Rattle.std.proofs.Common.{sym, ap, ◌∙◌}
 use Rattle.std.proofs.lemmas.Result.{err_from_is_err_and}
 use Rattle.mls_tree.specs.Tree.{term}
-use Rattle.mls_paths.specs.Join.{has_due, take_answer}
-use Rattle.mls_paths.specs.Keys.{PrivateKeys}
+use Rattle.mls_treekem_model.specs.Join.{has_due, take_answer}
+use Rattle.mls_treekem_model.specs.Keys.{PrivateKeys}
 use Rattle.mls_join.proofs.Joining.{alone_at, alone_is, taken, refused, due, missing}
 use Rattle.mls_join.proofs.keys.joined_keys.Goals as goal
 

@@ -1,6 +1,6 @@
 use Rattle.std.proofs.Common.{◌≡◌, ◌-◌}
 use Rattle.std.specs.Option.{option_map}
-use Rattle.mls_term.specs.Term.{width, leaf_of}
+use Rattle.mls_tree_model.specs.Term.{width, leaf_of}
 use Rattle.mls_tree.specs.Tree.{term}
 use Rattle.mls_model.specs.Join.{place_of}
 use Rattle.mls_join.proofs.Places.{first_from, at}

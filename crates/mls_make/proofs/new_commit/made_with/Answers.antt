@@ -1,7 +1,7 @@
 use Rattle.std.proofs.Common.{◌≡◌, ◌^◌, sym, subst, ap}
 use Rattle.std.specs.List.{zip}
 use Rattle.std.proofs.lemmas.Result.{err_from_is_err_and}
-use Rattle.mls_term.specs.Term.{Term}
+use Rattle.mls_tree_model.specs.Term.{Term}
 use Rattle.mls_tree.specs.Tree.{term}
 use Rattle.mls_types.specs.declared.commit.Commit.{Commit}
 use Rattle.mls_model.specs.Commit.{Edits}

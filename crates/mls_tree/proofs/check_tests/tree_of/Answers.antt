@@ -2,7 +2,7 @@ use Rattle.std.proofs.Common.{◌≡◌, ℕ, Bool, true, false, if◌then◌els
 use Rattle.mls_leaf.specs.Leaf.{leaf_node}
 use Rattle.mls_leaf.specs.declared.leaf.LeafNode.{LeafNode}
 use Rattle.mls_checks.specs.Short.{IsShort}
-use Rattle.mls_term.specs.Term.{Term, Leaf, leaf_at, leaf_of, width}
+use Rattle.mls_tree_model.specs.Term.{Term, Leaf, leaf_at, leaf_of, width}
 use Rattle.mls_tree.proofs.check_tests.tree_of.Goals as goal
 
 either : (b : Bool) (x : LeafNode) → IsShort leaf_node x → IfSome (if b then Some x else None) (λ v. IsShort leaf_node v)

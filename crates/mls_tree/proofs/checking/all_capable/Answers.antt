@@ -1,7 +1,7 @@
 use Rattle.std.proofs.Common.{arith, sym, ap, ◌∙◌}
 use Rattle.mls_checks.specs.Leaf.{is_capable}
-use Rattle.mls_term.specs.Keys.{passes}
-use Rattle.mls_term.specs.Arrays.{term_of}
+use Rattle.mls_tree_model.specs.Keys.{passes}
+use Rattle.mls_tree_model.specs.Arrays.{term_of}
 use Rattle.mls_tree.proofs.Passing.{at_first, fails_here, passes_here, at_end, capable_told}
 use Rattle.mls_tree.proofs.checking.all_capable.Goals as goal
 

@@ -1,8 +1,8 @@
 use Rattle.std.proofs.Common.{◌≡◌, ◌+◌, ◌-◌, ◌/◌, length}
 use Rattle.mls_checks.specs.Leaf.{is_capable}
-use Rattle.mls_term.specs.Term.{leaf_of}
-use Rattle.mls_term.specs.Keys.{all_members}
-use Rattle.mls_term.specs.Arrays.{term_of}
+use Rattle.mls_tree_model.specs.Term.{leaf_of}
+use Rattle.mls_tree_model.specs.Keys.{all_members}
+use Rattle.mls_tree_model.specs.Arrays.{term_of}
 use Rattle.mls_tree.proofs.Passing.{rest}
 use Rattle.mls_tree.proofs.checking.all_capable.Given as goal
 

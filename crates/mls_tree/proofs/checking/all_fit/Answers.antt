@@ -1,6 +1,6 @@
 use Rattle.std.proofs.Common.{arith, sym, ap, ◌∙◌}
 use Rattle.std.specs.List.{list_all}
-use Rattle.mls_array.specs.Gathered.{cell_key}
+use Rattle.mls_tree_array.specs.Gathered.{cell_key}
 use Rattle.mls_tree.proofs.Fitting.{key_fails, key_passes, keys_end, fit_told}
 use Rattle.mls_tree.proofs.checking.all_fit.Goals as goal
 

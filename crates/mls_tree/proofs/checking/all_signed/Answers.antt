@@ -1,7 +1,7 @@
 use Rattle.std.proofs.Common.{arith, sym, ap, ◌∙◌}
 use Rattle.mls_checks.specs.Leaf.{is_signed}
-use Rattle.mls_term.specs.Keys.{passes}
-use Rattle.mls_term.specs.Good.{is_all_signed}
+use Rattle.mls_tree_model.specs.Keys.{passes}
+use Rattle.mls_tree_model.specs.Good.{is_all_signed}
 use Rattle.mls_tree.proofs.Passing.{at_first, fails_here, passes_here, at_end}
 use Rattle.mls_tree.proofs.checking.all_signed.Goals as goal
 

@@ -1,10 +1,10 @@
 use Rattle.std.proofs.Common.{suc, ◌++◌, None, replicate, ◌∙◌, sym, ap, arith}
 use Rattle.std.proofs.lemmas.Nat.{one_shl}
 use Rattle.mls_treemath.specs.Paths.{nodes_in}
-use Rattle.mls_term.specs.Edits.{grow}
-use Rattle.mls_term.specs.Arrays.{term_of}
-use Rattle.mls_array.specs.Kept.{dropped}
-use Rattle.mls_array.proofs.StandingLaws.{stands_for-grow}
+use Rattle.mls_tree_model.specs.Edits.{grow}
+use Rattle.mls_tree_model.specs.Arrays.{term_of}
+use Rattle.mls_tree_array.specs.Kept.{dropped}
+use Rattle.mls_tree_array.proofs.StandingLaws.{stands_for-grow}
 use Rattle.mls_tree.proofs.Growth.{appended}
 use Rattle.mls_tree.proofs.Keepings.{kept_long, grown_is, grown_long, grown_perfect, cut_back}
 use Rattle.mls_tree.proofs.edits.append.Goals as goal

@@ -1,8 +1,8 @@
 use Rattle.std.proofs.Common.{◌∙◌, ap}
 use Rattle.std.proofs.lemmas.List.{with_items_is}
-use Rattle.mls_term.specs.Edits.{enter}
-use Rattle.mls_term.specs.Arrays.{term_of, in_order}
-use Rattle.mls_array.proofs.StandingLaws.{stands_for-enter}
+use Rattle.mls_tree_model.specs.Edits.{enter}
+use Rattle.mls_tree_model.specs.Arrays.{term_of, in_order}
+use Rattle.mls_tree_array.proofs.StandingLaws.{stands_for-enter}
 use Rattle.mls_tree.proofs.edits.enter.Goals as goal
 
 pub returns-clause-ok : goal.returns-clause-ok

@@ -1,8 +1,8 @@
 use Rattle.std.proofs.Common.{◌∙◌, ap}
 use Rattle.std.proofs.lemmas.List.{with_items_is}
-use Rattle.mls_term.specs.Edits.{put}
-use Rattle.mls_term.specs.Arrays.{term_of, in_order}
-use Rattle.mls_array.proofs.StandingLaws.{stands_for-put}
+use Rattle.mls_tree_model.specs.Edits.{put}
+use Rattle.mls_tree_model.specs.Arrays.{term_of, in_order}
+use Rattle.mls_tree_array.proofs.StandingLaws.{stands_for-put}
 use Rattle.mls_tree.proofs.edits.put.Goals as goal
 
 pub returns : goal.returns

@@ -1,8 +1,8 @@
 use Rattle.std.proofs.Common.{[], reverse, sym, ◌∙◌, ap}
 use Rattle.std.proofs.lemmas.List.{with_items_is}
-use Rattle.mls_term.specs.Merge.{merge}
-use Rattle.mls_term.specs.Arrays.{term_of, in_order}
-use Rattle.mls_array.specs.Merging.{path_parents}
+use Rattle.mls_tree_model.specs.Merge.{merge}
+use Rattle.mls_tree_model.specs.Arrays.{term_of, in_order}
+use Rattle.mls_tree_array.specs.Merging.{path_parents}
 use Rattle.mls_tree.proofs.Pathing.{merged_stands}
 use Rattle.mls_tree.proofs.paths.merge.Goals as goal
 

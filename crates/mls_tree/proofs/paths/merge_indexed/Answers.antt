@@ -1,8 +1,8 @@
 use Rattle.std.proofs.Common.{◌∙◌, subst}
 use Rattle.mls_leaf.specs.declared.leaf.LeafNode.{LeafNode}
-use Rattle.mls_term.specs.Arrays.{term_of}
-use Rattle.mls_term.specs.Merge.{merge_path}
-use Rattle.mls_array.specs.StandingLaws.{StandsFor}
+use Rattle.mls_tree_model.specs.Arrays.{term_of}
+use Rattle.mls_tree_model.specs.Merge.{merge_path}
+use Rattle.mls_tree_array.specs.StandingLaws.{StandsFor}
 use Rattle.mls_tree.specs.Way.{way_numbers}
 use Rattle.mls_tree.proofs.Indexing.{same_indexes, left_beside, entered_beside, kept_client, way_once, indexed-merge}
 use Rattle.mls_tree.proofs.paths.merge_indexed.Goals as goal

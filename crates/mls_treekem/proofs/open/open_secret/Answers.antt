@@ -1,6 +1,6 @@
 use Rattle.std.proofs.Common.{sym, ◌∙◌, ap}
 use Rattle.mls_treekem.specs.Faults.{number_of}
-use Rattle.mls_paths.specs.Open.{of_32}
+use Rattle.mls_treekem_model.specs.Open.{of_32}
 use Rattle.mls_treekem.proofs.Opening.{answers_by, answers_outright, opens_none, opens_some}
 use Rattle.mls_treekem.proofs.open.open_secret.Goals as goal
 

@@ -1,5 +1,5 @@
 use Rattle.std.proofs.Common.{◌≡◌, drop}
-use Rattle.mls_term.specs.Sets.{has, leaf_numbers}
+use Rattle.mls_tree_model.specs.Sets.{has, leaf_numbers}
 use Rattle.mls_treekem.proofs.seal.is_one_of.Given as goal
 
 abbrev pub invariant-loop-leaf : goal.invariant-loop-leaf

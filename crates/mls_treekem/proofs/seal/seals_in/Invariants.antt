@@ -1,5 +1,5 @@
 use Rattle.std.proofs.Common.{◌≡◌, ◌+◌, ◌%◌, ◌^◌, drop}
-use Rattle.mls_paths.specs.Seeds.{seals_in}
+use Rattle.mls_treekem_model.specs.Seeds.{seals_in}
 use Rattle.mls_treekem.proofs.seal.seals_in.Given as goal
 
 abbrev pub invariant-loop-node : goal.invariant-loop-node

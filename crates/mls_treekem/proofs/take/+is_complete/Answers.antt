@@ -1,7 +1,7 @@
 use Rattle.std.proofs.Common.{◌∙◌, ap}
 use Rattle.std.proofs.lemmas.List.{nil_from_length}
 use Rattle.mls_tree.specs.Tree.{term}
-use Rattle.mls_paths.specs.Join.{is_due}
+use Rattle.mls_treekem_model.specs.Join.{is_due}
 use Rattle.mls_treekem.proofs.Taking.{complete_none, complete_short, complete_here, complete_not}
 use Rattle.mls_treekem.proofs.take.+is_complete.Goals as goal
 

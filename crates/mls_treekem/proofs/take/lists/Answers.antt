@@ -1,6 +1,6 @@
 use Rattle.std.proofs.Common.{◌∙◌, ap, nat_eq}
 use Rattle.std.specs.List.{list_any}
-use Rattle.mls_term.proofs.SetLaws.{has-any}
+use Rattle.mls_tree_model.proofs.SetLaws.{has-any}
 use Rattle.mls_treekem.proofs.take.lists.Goals as goal
 
 pub returns : goal.returns

@@ -1,6 +1,6 @@
 use Rattle.std.proofs.Common.{◌∙◌, ap, sym, Ok}
-use Rattle.mls_paths.specs.Keys.{Keys}
-use Rattle.mls_paths.specs.Make.{Climb}
+use Rattle.mls_treekem_model.specs.Keys.{Keys}
+use Rattle.mls_treekem_model.specs.Make.{Climb}
 use Rattle.mls_treekem.proofs.Taking.{is_there, nones_pushed}
 use Rattle.mls_treekem.proofs.take.start.Goals as goal
 

@@ -1,5 +1,5 @@
 use Rattle.std.proofs.Common.{◌∙◌, ap, sym, subst}
-use Rattle.mls_group.specs.GroupContext.{group_context}
+use Rattle.mls_types.specs.GroupContext.{group_context}
 use Rattle.mls_tree.specs.Tree.{term}
 use Rattle.mls_public_group.specs.Short.{IsShortContext}
 use Rattle.mls_public_group.proofs.ShortLaws.{short_provisional}

@@ -2,11 +2,11 @@ use Rattle.std.proofs.Common.{◌≡◌, ℕ, List, Some, refl, ap, ap₂, sym, 
 use Rattle.std.proofs.lemmas.Result.{err_from_is_err_and}
 use Rattle.mls_checks.specs.Checks.{replaced_checks}
 use Rattle.mls_checks.specs.declared.checks.Source.TheVariants as replaced_for
-use Rattle.mls_term.specs.Term.{Term, leaf_of}
-use Rattle.mls_term.specs.Merge.{path_parent_hash}
+use Rattle.mls_tree_model.specs.Term.{Term, leaf_of}
+use Rattle.mls_tree_model.specs.Merge.{path_parent_hash}
 use Rattle.mls_tree.specs.Tree.{term}
 use Rattle.mls_tree.specs.Paths.{merge_answer}
-use Rattle.mls_paths.specs.Seeds.{path_seed}
+use Rattle.mls_treekem_model.specs.Seeds.{path_seed}
 use Rattle.mls_update_path.specs.Faults.{number_of}
 use Rattle.mls_update_path.specs.Parts.{made_public, leaf_from, leaf_with}
 use Rattle.mls_update_path.proofs.Merges.{hash_short, keys_are, hash_of, leaf_is, leaf_key_is, leaf_fails}

@@ -1,10 +1,10 @@
 use Rattle.std.proofs.Common.{◌≡◌, ℕ, List, refl, ap, sym, subst, ◌∙◌}
 use Rattle.std.proofs.lemmas.Result.{err_from_is_err_and}
-use Rattle.mls_group.specs.GroupContext.{group_context}
-use Rattle.mls_term.specs.Term.{Term}
+use Rattle.mls_types.specs.GroupContext.{group_context}
+use Rattle.mls_tree_model.specs.Term.{Term}
 use Rattle.mls_tree.specs.Tree.{term}
-use Rattle.mls_paths.specs.Keys.{all_keys}
-use Rattle.mls_paths.specs.Seeds.{path_seed}
+use Rattle.mls_treekem_model.specs.Keys.{all_keys}
+use Rattle.mls_treekem_model.specs.Seeds.{path_seed}
 use Rattle.mls_model.specs.Candidate.{leaf_key_of}
 use Rattle.mls_model.specs.Commit.{Edits}
 use Rattle.mls_model.specs.Public.{provisional_context}

@@ -1,6 +1,6 @@
 use Rattle.std.proofs.Common.{refl}
-use Rattle.mls_group.specs.UpdatePath.{hpke_ciphertext}
-use Rattle.mls_group.specs.Welcome.{encrypted_group_secrets}
+use Rattle.mls_types.specs.UpdatePath.{hpke_ciphertext}
+use Rattle.mls_types.specs.Welcome.{encrypted_group_secrets}
 use Rattle.mls_view.proofs.entries.read_secrets.Goals as goal
 
 pub returns : goal.returns

@@ -1,5 +1,5 @@
 use Rattle.std.proofs.Common.{refl}
-use Rattle.mls_group.specs.Welcome.{welcome}
+use Rattle.mls_types.specs.Welcome.{welcome}
 use Rattle.mls_view.proofs.welcome.read_welcome.Goals as goal
 
 pub of-whole-requires : goal.of-whole-requires

@@ -3,7 +3,7 @@ use Rattle.std.proofs.Common.{Ok, Err, ap, sym, ◌∙◌, map}
 use Rattle.mls_types.specs.Message.{mls_message}
 use Rattle.mls_types.specs.declared.message.MlsMessage.TheVariants as message
 use Rattle.mls_model.specs.Welcome.{entries_for}
-use Rattle.mls_paths.specs.Seeds.{seal_seed}
+use Rattle.mls_treekem_model.specs.Seeds.{seal_seed}
 use Rattle.mls_welcome.specs.Joiners.{place_of}
 use Rattle.mls_welcome.specs.Faults.{number_of}
 use Rattle.mls_welcome.specs.Spelled.{limited}

@@ -1,6 +1,6 @@
 use Rattle.std.proofs.lemmas.Result.{err_from_is_err_and}
 use Rattle.std.proofs.Common.{ap, ◌∙◌, map, []}
-use Rattle.mls_paths.specs.Seeds.{seal_seed}
+use Rattle.mls_treekem_model.specs.Seeds.{seal_seed}
 use Rattle.mls_model.specs.Welcome.{unsigned_info, signed_info}
 use Rattle.mls_welcome.specs.Joiners.{place_of}
 use Rattle.mls_welcome.specs.Faults.{number_of}

@@ -1,6 +1,6 @@
 use Rattle.std.proofs.Common.{◌∙◌, ap, sym, arith}
 use Rattle.mls_model.specs.Messages.{is_within_limit}
-use Rattle.mls_claims.proofs.Offered.{candidate_good}
+use Rattle.mls_theorems.proofs.Offered.{candidate_good}
 use Rattle.mls_candidate.proofs.New.{same_keys, long_identity, long_message, made, message_below}
 use Rattle.mls_candidate.proofs.candidate.Candidate.new.Goals as goal
 

@@ -1,7 +1,7 @@
 use Rattle.std.proofs.Common.{◌+◌, ◌<◌, ◌^◌, length, subst, sym, ◌∙◌, ap}
 use Rattle.mls_schedule.proofs.Lengths.{length-confirmed_hash}
 use Rattle.mls_public_group.specs.Short.{IsShortContext}
-use Rattle.mls_group.specs.declared.group_context.GroupContext.{GroupContext}
+use Rattle.mls_types.specs.declared.group_context.GroupContext.{GroupContext}
 use Rattle.mls_public_group.proofs.ShortLaws.{short_provisional}
 use Rattle.mls_commit.proofs.Contexts.{short_confirmed}
 use Rattle.mls_commit.proofs.received.Received.new.Goals as goal

@@ -7,7 +7,7 @@ use Rattle.mls_tree.proofs.Keeping.{add_good, add_sound}
 use Rattle.mls_tree.proofs.Adding.{add_full, may_add_in, may_add_beside, add_in, add_beside}
 use Rattle.mls_tree.proofs.RefusalLaws.{one_number, not_refused}
 use Rattle.mls_tree.proofs.Keepings.{kept_long, kept-enter, kept-appended}
-use Rattle.mls_term.proofs.ArrayLaws.{perfect-term_of}
+use Rattle.mls_tree_model.proofs.ArrayLaws.{perfect-term_of}
 use Rattle.mls_tree.proofs.Bounding.{from_there, found_low, added, added_beside as bounds_beside}
 use Rattle.mls_tree.proofs.Chilling.{added_in, added_beside}
 use Rattle.mls_tree.proofs.tree.PublicTree.add.Goals as goal

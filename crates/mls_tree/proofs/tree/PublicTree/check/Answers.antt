@@ -1,9 +1,9 @@
 use Rattle.std.proofs.Common.{◌≡◌, ◌^◌, ◌≤◌, length, ap, ◌∙◌, sym, arith}
 use Rattle.std.proofs.Math.Pow.{pow_mono}
-use Rattle.mls_term.specs.Term.{width}
-use Rattle.mls_term.specs.Arrays.{term_of}
-use Rattle.mls_term.proofs.ArrayLaws.{width-term_of}
-use Rattle.mls_term.proofs.SoundLaws.{within_from}
+use Rattle.mls_tree_model.specs.Term.{width}
+use Rattle.mls_tree_model.specs.Arrays.{term_of}
+use Rattle.mls_tree_model.proofs.ArrayLaws.{width-term_of}
+use Rattle.mls_tree_model.proofs.SoundLaws.{within_from}
 use Rattle.mls_tree.specs.Tree.{term, max_leaves}
 use Rattle.mls_tree.specs.Rules.{rules_of}
 use Rattle.mls_tree.proofs.Perfect.{perfect}

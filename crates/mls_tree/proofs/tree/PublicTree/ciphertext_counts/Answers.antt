@@ -1,6 +1,6 @@
 use Rattle.std.proofs.Common.{ap, ◌∙◌, sym, Ok, Err}
-use Rattle.mls_term.specs.Way.{ciphertext_counts}
-use Rattle.mls_term.specs.Arrays.{term_of}
+use Rattle.mls_tree_model.specs.Way.{ciphertext_counts}
+use Rattle.mls_tree_model.specs.Arrays.{term_of}
 use Rattle.mls_tree.specs.Tree.{term}
 use Rattle.mls_tree.specs.Faults.{number_of}
 use Rattle.mls_tree.proofs.Answering.{counts_refused, counts_found}

@@ -1,6 +1,6 @@
 use Rattle.std.proofs.Common.{◌≡◌, is_some, Ok, sym, ◌∙◌, ap, subst}
-use Rattle.mls_term.specs.Term.{leaf_of}
-use Rattle.mls_array.specs.Kept.{hashes_of}
+use Rattle.mls_tree_model.specs.Term.{leaf_of}
+use Rattle.mls_tree_array.specs.Kept.{hashes_of}
 use Rattle.mls_tree.specs.Tree.{Tree, term}
 use Rattle.mls_tree.proofs.Keeping.{merge_checked, merge_new, merge_member}
 use Rattle.mls_tree.proofs.Keepings.{kept_long, all_kept}
@@ -45,7 +45,7 @@ returns-clause-cold c =
     let member = ap (λ t. is_some (leaf_of (term t) c.path.inside.index)) (sym c.self.view_is) ∙ merge_member _ _ _ _ _ own.answer in
     let long = path_long c.self.inside.height c.path.inside.index c.self.inside.nodes.items _ keys _ (c.deref.ensures.value ∙ own.hashes) in
     let h = c.self.inside.height in
-    subst (λ (p : Prepared). IsWarmedEdit p.index c.args.self.now (tree_of h c.merge_indexed.new.nodes.items c.put_way.new.self.kept c.put_way.new.self.done)) c.path.view_is (followed_in h c.path.inside.index c.self.inside.nodes.items _ _ _ c.self.view_is c.self.invariant.2 member _ _ _ warm (returns-clause-warm c) (c.put_way.ensures.counted ∙ ap (Rattle.mls_hash.specs.Counter.counted _) long))
+    subst (λ (p : Prepared). IsWarmedEdit p.index c.args.self.now (tree_of h c.merge_indexed.new.nodes.items c.put_way.new.self.kept c.put_way.new.self.done)) c.path.view_is (followed_in h c.path.inside.index c.self.inside.nodes.items _ _ _ c.self.view_is c.self.invariant.2 member _ _ _ warm (returns-clause-warm c) (c.put_way.ensures.counted ∙ ap (Rattle.mls_tree_hash.specs.Counter.counted _) long))
 
 pub invariant_of-self-2 : goal.invariant_of-self-2
 invariant_of-self-2 c =

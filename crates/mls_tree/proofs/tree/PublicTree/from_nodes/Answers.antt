@@ -4,14 +4,14 @@ use Rattle.mls_tree.specs.Indexed.{AreIndexes}
 use Rattle.mls_tree.proofs.Checked.{size_fits}
 use Rattle.mls_tree.proofs.Keepings.{cold_by}
 use Rattle.mls_tree.proofs.Bounding.{unknown}
-use Rattle.mls_term.specs.Term.{is_full_width}
-use Rattle.mls_term.specs.Good.{has_good_shape}
-use Rattle.mls_term.specs.Arrays.{has_last, alternates, term_of}
+use Rattle.mls_tree_model.specs.Term.{is_full_width}
+use Rattle.mls_tree_model.specs.Good.{has_good_shape}
+use Rattle.mls_tree_model.specs.Arrays.{has_last, alternates, term_of}
 use Rattle.mls_tree.specs.Short.{HasShortLeaves}
 use Rattle.mls_tree.proofs.ShortLeaves.{short_leaves}
 use Rattle.mls_tree.proofs.SentLemmas.{sent_is}
 use Rattle.mls_tree.proofs.Receiving.{no_last, misplaced, stands_as, half_empty, too_large, received}
-use Rattle.mls_term.proofs.ArrayLaws.{size-term_of}
+use Rattle.mls_tree_model.proofs.ArrayLaws.{size-term_of}
 use Rattle.mls_tree.proofs.Chilling.{new_tree}
 use Rattle.mls_tree.proofs.tree.PublicTree.from_nodes.Goals as goal
 

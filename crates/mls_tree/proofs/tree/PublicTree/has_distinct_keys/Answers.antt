@@ -1,5 +1,5 @@
 use Rattle.std.proofs.Common.{◌∙◌, ap}
-use Rattle.mls_term.specs.Good.{has_distinct_keys}
+use Rattle.mls_tree_model.specs.Good.{has_distinct_keys}
 use Rattle.mls_tree.specs.Tree.{term}
 use Rattle.mls_tree.proofs.tree.PublicTree.has_distinct_keys.Goals as goal
 

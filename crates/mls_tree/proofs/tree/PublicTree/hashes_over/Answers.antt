@@ -1,6 +1,6 @@
 use Rattle.std.proofs.Common.{[], length, ◌∙◌, ap, subst}
-use Rattle.mls_term.specs.Arrays.{term_of}
-use Rattle.mls_array.specs.WayHashes.{HashesMerged}
+use Rattle.mls_tree_model.specs.Arrays.{term_of}
+use Rattle.mls_tree_array.specs.WayHashes.{HashesMerged}
 use Rattle.mls_tree.specs.Tree.{term}
 use Rattle.mls_tree.proofs.Keepings.{kept_long}
 use Rattle.mls_tree.proofs.tree.PublicTree.hashes_over.Goals as goal

@@ -1,9 +1,9 @@
 use Rattle.std.proofs.Common.{◌≡◌, ◌∷◌, ◌++◌, length, IfOk, sym, ◌∙◌, ap, subst}
-use Rattle.mls_term.specs.Sets.{same_bytes, is_distinct}
-use Rattle.mls_array.specs.Standing.{Stands}
-use Rattle.mls_index.specs.Keys.{keys_of}
-use Rattle.mls_index.specs.Indexes.{Indexes}
-use Rattle.mls_index.specs.Cleared.{cleared}
+use Rattle.mls_tree_model.specs.Sets.{same_bytes, is_distinct}
+use Rattle.mls_tree_array.specs.Standing.{Stands}
+use Rattle.mls_tree_index.specs.Keys.{keys_of}
+use Rattle.mls_tree_index.specs.Indexes.{Indexes}
+use Rattle.mls_tree_index.specs.Cleared.{cleared}
 use Rattle.mls_tree.specs.Tree.{term}
 use Rattle.mls_tree.specs.Way.{way_numbers}
 use Rattle.mls_tree.proofs.Steps.{path_steps}

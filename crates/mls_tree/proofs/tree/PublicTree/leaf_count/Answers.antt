@@ -1,7 +1,7 @@
 use Rattle.std.proofs.Common.{ap, ◌∙◌, sym, arith}
 use Rattle.std.proofs.lemmas.Nat.{one_shl}
-use Rattle.mls_term.specs.Term.{width}
-use Rattle.mls_term.proofs.ArrayLaws.{width-term_of}
+use Rattle.mls_tree_model.specs.Term.{width}
+use Rattle.mls_tree_model.proofs.ArrayLaws.{width-term_of}
 use Rattle.mls_tree.specs.Tree.{term}
 use Rattle.mls_tree.proofs.tree.PublicTree.leaf_count.Goals as goal
 

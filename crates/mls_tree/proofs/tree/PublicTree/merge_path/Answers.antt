@@ -1,8 +1,8 @@
 use Rattle.std.proofs.Common.{◌≡◌, true, is_some, Ok, [], reverse, sym, ◌∙◌, ap, subst}
-use Rattle.mls_term.specs.Term.{leaf_of}
-use Rattle.mls_term.specs.Merge.{merge_path}
-use Rattle.mls_term.proofs.ArrayLaws.{perfect-term_of}
-use Rattle.mls_array.specs.Merging.{path_parents}
+use Rattle.mls_tree_model.specs.Term.{leaf_of}
+use Rattle.mls_tree_model.specs.Merge.{merge_path}
+use Rattle.mls_tree_model.proofs.ArrayLaws.{perfect-term_of}
+use Rattle.mls_tree_array.specs.Merging.{path_parents}
 use Rattle.mls_tree.specs.Cold.{Chills}
 use Rattle.mls_tree.specs.Cold.{Warms}
 use Rattle.mls_tree.specs.Tree.{term}

@@ -1,7 +1,7 @@
 use Rattle.std.proofs.Common.{length, [], reverse, ◌∙◌, ap}
-use Rattle.mls_term.specs.Merge.{path_hash, path_parent_hash}
-use Rattle.mls_term.specs.Arrays.{term_of}
-use Rattle.mls_array.specs.Merging.{path_parents}
+use Rattle.mls_tree_model.specs.Merge.{path_hash, path_parent_hash}
+use Rattle.mls_tree_model.specs.Arrays.{term_of}
+use Rattle.mls_tree_array.specs.Merging.{path_parents}
 use Rattle.mls_tree.specs.Tree.{term}
 use Rattle.mls_tree.proofs.Pathing.{hash_is}
 use Rattle.mls_tree.proofs.Keepings.{kept_long}

@@ -1,6 +1,6 @@
 use Rattle.std.proofs.Common.{length, [], reverse, ◌∙◌, ap}
-use Rattle.mls_term.specs.Merge.{path_hash, path_parent_hash}
-use Rattle.mls_term.specs.Arrays.{term_of}
+use Rattle.mls_tree_model.specs.Merge.{path_hash, path_parent_hash}
+use Rattle.mls_tree_model.specs.Arrays.{term_of}
 use Rattle.mls_tree.specs.Tree.{term}
 use Rattle.mls_tree.proofs.Pathing.{hash_is}
 use Rattle.mls_tree.proofs.Keepings.{kept_long}

@@ -1,5 +1,5 @@
 use Rattle.std.proofs.Common.{Ok, sym, ◌∙◌, ap}
-use Rattle.mls_term.specs.Merge.{path_parent_hash}
+use Rattle.mls_tree_model.specs.Merge.{path_parent_hash}
 use Rattle.mls_tree.proofs.Pathing.{hash_refused, hash_found}
 use Rattle.std.proofs.Common.{refl}
 use Rattle.mls_tree.proofs.Chilling.{warmed, unchanged}

@@ -1,5 +1,5 @@
 use Rattle.std.proofs.Common.{[], refl, subst}
-use Rattle.mls_array.specs.WayHashes.{HashesMerged}
+use Rattle.mls_tree_array.specs.WayHashes.{HashesMerged}
 use Rattle.mls_tree.specs.Tree.{term}
 use Rattle.mls_tree.proofs.Pathing.{merge_refused, merge_done}
 use Rattle.mls_tree.proofs.Following.{is_prepared}

@@ -1,13 +1,13 @@
 use Rattle.std.proofs.Common.{arith, ap, ◌∙◌, sym, refl, None, Ok}
-use Rattle.mls_term.specs.Edits.{put, trim}
-use Rattle.mls_term.proofs.Equations.{remove_is}
+use Rattle.mls_tree_model.specs.Edits.{put, trim}
+use Rattle.mls_tree_model.proofs.Equations.{remove_is}
 use Rattle.mls_tree.specs.Tree.{term}
 use Rattle.mls_tree.specs.Faults.{number_of}
 use Rattle.mls_tree.proofs.Keeping.{remove_good, remove_sound}
 use Rattle.mls_tree.proofs.Answering.{remove_refused, remove_done}
 use Rattle.mls_tree.proofs.Keepings.{kept_long, kept-put, kept-trimmed}
 use Rattle.mls_tree.proofs.Bounding.{removed, removal_end}
-use Rattle.mls_term.proofs.ArrayLaws.{perfect-term_of}
+use Rattle.mls_tree_model.proofs.ArrayLaws.{perfect-term_of}
 use Rattle.mls_tree.proofs.Chilling.{trimmed_in}
 use Rattle.mls_tree.specs.Way.{way_numbers}
 use Rattle.mls_tree.proofs.Indexing.{left_by, way_once, indexed-remove}

@@ -1,9 +1,9 @@
 use Rattle.std.proofs.Common.{length, sym, ◌∙◌, ap}
-use Rattle.mls_term.specs.Node.{source_hash}
-use Rattle.mls_term.specs.Sets.{same_bytes, is_distinct}
-use Rattle.mls_term.specs.Hashes.{is_some_bytes}
-use Rattle.mls_term.specs.Keys.{encryption_keys}
-use Rattle.mls_term.specs.Merge.{merge_path}
+use Rattle.mls_tree_model.specs.Node.{source_hash}
+use Rattle.mls_tree_model.specs.Sets.{same_bytes, is_distinct}
+use Rattle.mls_tree_model.specs.Hashes.{is_some_bytes}
+use Rattle.mls_tree_model.specs.Keys.{encryption_keys}
+use Rattle.mls_tree_model.specs.Merge.{merge_path}
 use Rattle.mls_tree.specs.Tree.{term}
 use Rattle.mls_tree.specs.Paths.{path_checks}
 use Rattle.mls_tree.proofs.Pathing.{merge_unfit, merge_repeats, merge_untied, merge_fit}

@@ -3,10 +3,10 @@ use Rattle.mls_treemath.proofs.Sizes.{nodes_in-zero}
 use Rattle.mls_tree.specs.Indexed.{AreIndexes}
 use Rattle.mls_tree.proofs.Keepings.{cold_by}
 use Rattle.mls_tree.proofs.Bounding.{unknown}
-use Rattle.mls_term.specs.Good.{IsGood}
-use Rattle.mls_term.proofs.KeptLaws.{good_single}
+use Rattle.mls_tree_model.specs.Good.{IsGood}
+use Rattle.mls_tree_model.proofs.KeptLaws.{good_single}
 use Rattle.mls_tree.proofs.Singles.{single_stands}
-use Rattle.mls_term.proofs.ArrayLaws.{size-term_of}
+use Rattle.mls_tree_model.proofs.ArrayLaws.{size-term_of}
 use Rattle.mls_tree.proofs.Chilling.{new_tree}
 use Rattle.mls_tree.proofs.tree.PublicTree.single.Goals as goal
 

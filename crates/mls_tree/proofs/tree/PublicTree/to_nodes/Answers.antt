@@ -1,6 +1,6 @@
 use Rattle.std.proofs.Common.{ap, ◌∙◌, sym}
-use Rattle.mls_term.specs.Arrays.{cut, to_nodes}
-use Rattle.mls_array.proofs.OrderLaws.{to_nodes-standing}
+use Rattle.mls_tree_model.specs.Arrays.{cut, to_nodes}
+use Rattle.mls_tree_array.proofs.OrderLaws.{to_nodes-standing}
 use Rattle.mls_tree.specs.Tree.{term}
 use Rattle.mls_tree.proofs.tree.PublicTree.to_nodes.Goals as goal
 

@@ -1,6 +1,6 @@
 use Rattle.std.proofs.Common.{ap, ◌∙◌}
-use Rattle.mls_term.specs.Arrays.{term_of}
-use Rattle.mls_array.specs.Kept.{hashes_of}
+use Rattle.mls_tree_model.specs.Arrays.{term_of}
+use Rattle.mls_tree_array.specs.Kept.{hashes_of}
 use Rattle.mls_tree.proofs.Keepings.{kept_long, all_kept}
 use Rattle.mls_tree.proofs.tree.PublicTree.tree_hash.Goals as goal
 

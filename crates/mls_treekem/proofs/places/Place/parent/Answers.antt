@@ -1,5 +1,5 @@
 use Rattle.std.proofs.Common.{◌∙◌, ap}
-use Rattle.mls_term.specs.Arrays.{parent_in}
+use Rattle.mls_tree_model.specs.Arrays.{parent_in}
 use Rattle.mls_treekem.specs.Place.{step_of}
 use Rattle.mls_treekem.proofs.places.Place.parent.Goals as goal
 

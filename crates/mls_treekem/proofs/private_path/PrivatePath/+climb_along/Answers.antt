@@ -2,7 +2,7 @@ use Rattle.std.proofs.lemmas.Result.{err_from_is_err_and}
 use Rattle.std.proofs.Common.{rules, map, reverse}
 use Rattle.std.proofs.lemmas.List.{length-map, nil_from_length}
 use Rattle.mls_tree.specs.Tree.{term}
-use Rattle.mls_paths.specs.Keys.{all_keys}
+use Rattle.mls_treekem_model.specs.Keys.{all_keys}
 use Rattle.mls_treekem.specs.Place.{step_of}
 use Rattle.mls_treekem.proofs.Opening.{along_none, first_placed, others_placed, is_beside_of, beside_ok, beside_err, other_ok, other_err}
 use Rattle.mls_treekem.proofs.private_path.PrivatePath.+climb_along.Goals as goal

@@ -1,5 +1,5 @@
 use Rattle.std.proofs.Common.{◌∙◌, ap}
-use Rattle.mls_term.specs.Arrays.{parent_in}
+use Rattle.mls_tree_model.specs.Arrays.{parent_in}
 use Rattle.mls_tree.specs.Tree.{term}
 use Rattle.mls_treekem.proofs.Due.{due_none, due_left, due_right, due_not}
 use Rattle.mls_treekem.proofs.private_path.PrivatePath.+has_due_keys.Goals as goal

@@ -1,7 +1,7 @@
 use Rattle.std.proofs.Common.{refl, reverse}
 use Rattle.std.proofs.lemmas.List.{nil_from_length}
 use Rattle.mls_tree.specs.Tree.{term}
-use Rattle.mls_paths.specs.Keys.{all_keys}
+use Rattle.mls_treekem_model.specs.Keys.{all_keys}
 use Rattle.mls_treekem.proofs.Followed.{followed_none, followed_more, key_is, plus_one}
 use Rattle.mls_treekem.proofs.private_path.PrivatePath.+push_followed.Goals as goal
 

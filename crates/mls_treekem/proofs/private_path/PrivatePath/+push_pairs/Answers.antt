@@ -1,7 +1,7 @@
 use Rattle.std.proofs.Common.{◌-◌, ◌+◌, ◌*◌, ◌++◌, ap, ap₂, sym, ◌∙◌}
-use Rattle.mls_paths.specs.Height.{listed}
-use Rattle.mls_paths.specs.Keys.{all_keys}
-use Rattle.mls_paths.specs.Pairs.{pair_of}
+use Rattle.mls_treekem_model.specs.Height.{listed}
+use Rattle.mls_treekem_model.specs.Keys.{all_keys}
+use Rattle.mls_treekem_model.specs.Pairs.{pair_of}
 use Rattle.mls_treekem.proofs.Levels.{left_first, root_first, pairs_lowest, on_ok_by}
 use Rattle.mls_treekem.proofs.private_path.PrivatePath.+push_pairs.Goals as goal
 

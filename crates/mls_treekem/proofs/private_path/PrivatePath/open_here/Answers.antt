@@ -2,7 +2,7 @@ use Rattle.std.proofs.lemmas.Result.{err_from_is_err_and}
 use Rattle.std.proofs.Common.{reverse, sym, ◌∙◌, ap}
 use Rattle.std.proofs.lemmas.List.{nil_from_length}
 use Rattle.mls_tree.specs.Tree.{term}
-use Rattle.mls_paths.specs.Open.{first_ciphertexts}
+use Rattle.mls_treekem_model.specs.Open.{first_ciphertexts}
 use Rattle.mls_treekem.specs.Place.{subtree_at}
 use Rattle.mls_treekem.proofs.Opening.{here_ok, here_err, here_missing, last_first}
 use Rattle.mls_treekem.proofs.private_path.PrivatePath.open_here.Goals as goal

@@ -1,8 +1,8 @@
 use Rattle.std.proofs.lemmas.Result.{err_from_is_err_and}
 use Rattle.std.proofs.Common.{Ok, length, reverse, sym, ◌∙◌, ap, arith}
 use Rattle.std.proofs.lemmas.List.{length-reverse}
-use Rattle.mls_paths.specs.Make.{Climb}
-use Rattle.mls_term.specs.Term.{height}
+use Rattle.mls_treekem_model.specs.Make.{Climb}
+use Rattle.mls_tree_model.specs.Term.{height}
 use Rattle.mls_tree.specs.Tree.{term}
 use Rattle.mls_tree.proofs.Perfect.{perfect}
 use Rattle.mls_treekem.specs.Climbing.{with_own}

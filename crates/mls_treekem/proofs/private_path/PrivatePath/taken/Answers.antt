@@ -1,10 +1,10 @@
 use Rattle.std.proofs.lemmas.Result.{err_from_is_err_and}
 use Rattle.std.proofs.Common.{◌≤◌, ◌<◌, ◌∙◌, ap, reverse, map, arith}
-use Rattle.mls_term.specs.Term.{width, height}
+use Rattle.mls_tree_model.specs.Term.{width, height}
 use Rattle.mls_tree.specs.Tree.{Tree, term}
 use Rattle.mls_tree.proofs.Perfect.{perfect}
-use Rattle.mls_paths.specs.Make.{Climb}
-use Rattle.mls_paths.specs.Join.{is_complete}
+use Rattle.mls_treekem_model.specs.Make.{Climb}
+use Rattle.mls_treekem_model.specs.Join.{is_complete}
 use Rattle.mls_treekem.specs.Place.{IsWay, step_of}
 use Rattle.mls_treekem.proofs.Followed.{way_read}
 use Rattle.mls_treekem.proofs.Taking.{take_outside, take_whole, take_missing, take_refused, take_low}

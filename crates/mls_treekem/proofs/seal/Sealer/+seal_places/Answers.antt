@@ -4,7 +4,7 @@ use Rattle.std.proofs.lemmas.List.{nil_from_length}
 use Rattle.mls_tree.specs.Tree.{term}
 use Rattle.mls_treekem.specs.Faults.{number_of}
 use Rattle.mls_treekem.specs.Secrets.{public_keys}
-use Rattle.mls_paths.specs.Seeds.{seals_in}
+use Rattle.mls_treekem_model.specs.Seeds.{seals_in}
 use Rattle.mls_treekem.proofs.Sealing.{along_none, count_none, numbers_none, placed_here, placed_below, along_same, count_same, numbers_same, count_one, numbers_more, along_more, along_fails, below_fails}
 use Rattle.mls_treekem.proofs.seal.Sealer.+seal_places.Goals as goal
 

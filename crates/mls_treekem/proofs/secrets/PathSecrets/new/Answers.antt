@@ -1,5 +1,5 @@
 use Rattle.std.proofs.Common.{◌≡◌, ap, sym, ◌∙◌}
-use Rattle.mls_paths.specs.Chain.{next_secret, node_key, node_public}
+use Rattle.mls_treekem_model.specs.Chain.{next_secret, node_key, node_public}
 use Rattle.mls_treekem.proofs.Chains.{secrets_none, chain_none, pairs_start, secrets_pushed, pairs_more, chain_pushed}
 use Rattle.mls_treekem.proofs.secrets.PathSecrets.new.Goals as goal
 

@@ -1,5 +1,5 @@
 use Rattle.std.proofs.Common.{◌≡◌}
-use Rattle.mls_paths.specs.Chain.{chain, path_secrets}
+use Rattle.mls_treekem_model.specs.Chain.{chain, path_secrets}
 use Rattle.mls_treekem.specs.Secrets.{ArePairsOf}
 use Rattle.mls_treekem.proofs.secrets.PathSecrets.new.Given as goal
 

@@ -5,8 +5,8 @@ use Rattle.mls_wire.specs.CombineLaws.{seen_read}
 use Rattle.mls_wire.specs.Combine.{case, others}
 use Rattle.mls_leaf.proofs.Codecs.{Fails-then}
 use Rattle.mls_leaf.specs.KeyPackage.{key_package}
-use Rattle.mls_group.specs.GroupInfo.{group_info}
-use Rattle.mls_group.specs.Welcome.{welcome}
+use Rattle.mls_types.specs.GroupInfo.{group_info}
+use Rattle.mls_types.specs.Welcome.{welcome}
 use Rattle.mls_types.specs.Message.{mls_message, Bodies, make_message}
 use Rattle.mls_types.specs.PublicMessage.{public_message}
 use Rattle.mls_types.proofs.Cases.{read_other}

@@ -1,5 +1,5 @@
 use Rattle.std.proofs.Common.{◌≡◌, ◌∙◌, List, ℕ, ap, subst, sym}
-use Rattle.mls_group.specs.Welcome.{encrypted_group_secrets}
+use Rattle.mls_types.specs.Welcome.{encrypted_group_secrets}
 use Rattle.mls_view.specs.Entries.{ShowsSecrets}
 use Rattle.mls_view.proofs.EntriesLemmas.{shown_of, no_fault_of}
 use Rattle.mls_view.specs.Views.{Lends}

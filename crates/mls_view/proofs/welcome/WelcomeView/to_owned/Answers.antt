@@ -1,4 +1,4 @@
-use Rattle.mls_group.specs.Welcome.{welcome}
+use Rattle.mls_types.specs.Welcome.{welcome}
 use Rattle.mls_view.proofs.PartLaws.{owned_is}
 use Rattle.mls_view.proofs.welcome.WelcomeView.to_owned.Goals as goal
 

@@ -1,5 +1,5 @@
 use Rattle.std.proofs.Common.{◌≡◌, ◌+◌}
-use Rattle.mls_paths.specs.Seeds.{seal_seed}
+use Rattle.mls_treekem_model.specs.Seeds.{seal_seed}
 use Rattle.mls_welcome.proofs.Joined.{EntriesLeft}
 use Rattle.mls_welcome.proofs.entries.Sealer.entries.Given as goal
 

@@ -1,7 +1,7 @@
 use Rattle.std.proofs.Common.{ℕ}
 use Rattle.mls_model.specs.declared.event.Reply.TheVariants as reply
-use Rattle.mls_events.specs.Faults.{number_of}
-use Rattle.mls_runs.proofs.Reachable.{headline_of_reachable}
+use Rattle.mls_world_plain.specs.Faults.{number_of}
+use Rattle.mls_theorems.proofs.Reachable.{headline_of_reachable}
 use Rattle.mls_world.proofs.Calling.{by_create}
 use Rattle.mls_world.proofs.world.World.create.Goals as goal
 

@@ -1,6 +1,6 @@
 use Rattle.std.proofs.Common.{◌≡◌, subst}
-use Rattle.mls_runs.specs.Reachable.{IsReachable}
-use Rattle.mls_runs.proofs.Reachable.{headline_of_reachable}
+use Rattle.mls_theorems.specs.Reachable.{IsReachable}
+use Rattle.mls_theorems.proofs.Reachable.{headline_of_reachable}
 use Rattle.mls_world.proofs.world.World.headline.Goals as goal
 
 pub returns : goal.returns

@@ -1,7 +1,7 @@
 use Rattle.std.proofs.Common.{◌≡◌, subst}
 use Rattle.mls_model.specs.Headline.{HoldsAlong}
 use Rattle.mls_model.specs.World.{World}
-use Rattle.mls_runs.proofs.Reachable.{headline_of_reachable}
+use Rattle.mls_theorems.proofs.Reachable.{headline_of_reachable}
 use Rattle.mls_world.proofs.Reaching.{reached_by_run, holds_along}
 use Rattle.mls_world.proofs.world.World.run.Goals as goal
 

@@ -1,4 +1,4 @@
-use Rattle.mls_runs.proofs.Reachable.{headline_of_reachable}
+use Rattle.mls_theorems.proofs.Reachable.{headline_of_reachable}
 use Rattle.mls_world.proofs.Reaching.{reached_by_step}
 use Rattle.mls_world.proofs.world.World.step.Goals as goal
 

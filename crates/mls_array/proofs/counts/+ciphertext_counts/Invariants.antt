@@ -1,4 +1,0 @@
-use Rattle.mls_array.proofs.counts.+ciphertext_counts.Given as goal
-
-abbrev pub decreases-ciphertext_counts : goal.decreases-ciphertext_counts
-decreases-ciphertext_counts l = l.height

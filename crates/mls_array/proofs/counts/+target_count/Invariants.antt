@@ -1,4 +1,0 @@
-use Rattle.mls_array.proofs.counts.+target_count.Given as goal
-
-abbrev pub decreases-target_count : goal.decreases-target_count
-decreases-target_count l = l.height

@@ -1,4 +1,0 @@
-use Rattle.mls_array.proofs.lists.+is_listed.Given as goal
-
-abbrev pub decreases-is_listed : goal.decreases-is_listed
-decreases-is_listed l = l.height

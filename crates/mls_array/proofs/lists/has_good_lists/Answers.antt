@@ -1,6 +1,0 @@
-use Rattle.mls_term.specs.Good.{has_good_lists}
-use Rattle.mls_array.proofs.lists.has_good_lists.Goals as goal
-
-pub returns-clause-right : goal.returns-clause-right
-unfolding has_good_lists
-returns-clause-right c = c.each_lists.ensures.right

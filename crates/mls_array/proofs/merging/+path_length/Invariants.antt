@@ -1,4 +1,0 @@
-use Rattle.mls_array.proofs.merging.+path_length.Given as goal
-
-abbrev pub decreases-path_length : goal.decreases-path_length
-decreases-path_length l = l.height

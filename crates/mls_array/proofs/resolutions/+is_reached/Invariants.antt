@@ -1,4 +1,0 @@
-use Rattle.mls_array.proofs.resolutions.+is_reached.Given as goal
-
-abbrev pub decreases-is_reached : goal.decreases-is_reached
-decreases-is_reached l = l.height

@@ -1,4 +1,0 @@
-use Rattle.mls_array.proofs.resolutions.+resolution.Given as goal
-
-abbrev pub decreases-resolution : goal.decreases-resolution
-decreases-resolution l = l.height

@@ -1,0 +1,72 @@
+-- The first failing check decides the report.
+use Rattle.std.proofs.Common.{◌≡◌, ◌≢◌, ◌∙◌, ◌++◌, ℕ, Bool, true, false, List, Result, Ok, Err, refl, sym, ap, append-nil, append_assoc}
+use Rattle.std.specs.Prelude.{IfOk, codes, take}
+use Rattle.std.specs.declared.alloc.AllocError.{AllocError}
+use Rattle.mls_wire.specs.Checks.{Passed, passed, require, ◌>>◌}
+use Rattle.mls_suite.specs.Crypto.{Crypto}
+use Rattle.mls_tree_model.specs.Term.{Term}
+use Rattle.mls_tree_model.specs.Good.{has_good_lists, has_good_hashes, has_distinct_keys, has_distinct_clients, is_all_signed, is_all_capable, is_all_fit, tree_checks}
+use Rattle.mls_tree.specs.Rules.{rules_of}
+use Rattle.mls_cli_text.specs.Page.{Page, good, page_of, refused}
+use Rattle.mls_cli_text.specs.Text.{Entry, entry_of}
+use Rattle.mls_cli_text.specs.declared.page.Page as code
+use Rattle.mls_cli_text.specs.declared.text.Line.{Line}
+use Rattle.mls_cli_check.specs.Check.{all_passed, behind, step, ok_line, suite_line, rules_report, tree_entries, tree_report}
+use Rattle.mls_cli_check.specs.Reports.{lines_before, rule_entries}
+use Rattle.mls_cli_check.proofs.Reports.{report_by}
+use Rattle.mls_cli_check.specs.declared.report.SuiteChecks.{SuiteChecks}
+
+-- whatever the checks come to
+by_order : (own : SuiteChecks) (lists hashes keys clients signed capable fit : Bool)
+    → step 23 lists (ok_line (codes "unmerged"))
+    (step 24 hashes (ok_line (codes "parent_hashes"))
+    (step 25 keys (ok_line (codes "keys"))
+    (step 26 clients (ok_line (codes "clients"))
+    (step 51 signed (suite_line own (codes "signatures"))
+    (step 52 capable (ok_line (codes "capabilities"))
+    (step 36 fit (suite_line own (codes "key_forms"))
+    all_passed))))))
+    ≡ report_by own (require 23 lists >> (require 24 hashes >> (require 25 keys >> (require 26 clients >> (require 51 signed >> (require 52 capable >> require 36 fit))))))
+unfolding rule_entries lines_before
+by_order own false hashes keys clients signed capable fit = refl
+by_order own true false keys clients signed capable fit = refl
+by_order own true true false clients signed capable fit = refl
+by_order own true true true false signed capable fit = refl
+by_order own true true true true false capable fit = refl
+by_order own true true true true true false fit = refl
+by_order own true true true true true true false = refl
+by_order own true true true true true true true = refl
+
+pub rules-by_order : (c : Crypto) (own : SuiteChecks) (group : List ℕ) (t : Term) → rules_report c own group t ≡ report_by own (tree_checks (rules_of c group) t)
+unfolding rules_report tree_checks
+rules-by_order c own group t =
+    by_order own (has_good_lists t) (has_good_hashes t) (has_distinct_keys t) (has_distinct_clients t)
+    (is_all_signed (rules_of c group) t) (is_all_capable (rules_of c group) t) (is_all_fit (rules_of c group) t)
+
+by_answer : (c : Crypto) (own : SuiteChecks) (group : List ℕ) (t u : Term) (r : Result Passed ℕ) → tree_checks (rules_of c group) u ≡ r → u ≡ t → rules_report c own group t ≡ report_by own r
+by_answer c own group t u r e same = rules-by_order c own group t ∙ ap (report_by own) (ap (tree_checks (rules_of c group)) (sym same) ∙ e)
+
+regrouped : (xs ys : List Entry) (r : Page Entry) → behind (xs ++ ys) r ≡ behind xs (behind ys r)
+regrouped xs ys r = ap (λ es. record { entries = es; ending = r.ending }) (append_assoc xs ys r.entries)
+
+-- where all checks pass, all lines are printed
+pub all_lines : (c : Crypto) (own : SuiteChecks) (group : List ℕ) (t u : Term) (all lines more : List Entry)
+    → tree_checks (rules_of c group) u ≡ Ok passed → u ≡ t → all ≡ lines ++ more → lines ≡ tree_entries t → more ≡ rule_entries own
+    → good all ≡ tree_report c own group t
+all_lines c own group t u all lines more checks same a l m =
+    ap good (sym (append-nil all))
+    ∙ rw (a, l, m) (regrouped (tree_entries t) (rule_entries own) all_passed ∙ ap (behind (tree_entries t)) (sym (by_answer c own group t u (Ok passed) checks same)))
+
+-- where one fails, those before it and its refusal
+some_lines : (c : Crypto) (own : SuiteChecks) (group : List ℕ) (t u : Term) (n : ℕ) (all lines more : List Entry)
+    → tree_checks (rules_of c group) u ≡ Err n → u ≡ t → all ≡ lines ++ more → lines ≡ tree_entries t → more ≡ take (lines_before n) (rule_entries own)
+    → behind all (refused n) ≡ tree_report c own group t
+some_lines c own group t u n all lines more checks same a l m =
+    rw (a, l, m) (regrouped (tree_entries t) (take (lines_before n) (rule_entries own)) (refused n) ∙ ap (behind (tree_entries t)) (sym (by_answer c own group t u (Err n) checks same)))
+
+pub lines_or_wanting : (c : Crypto) (own : SuiteChecks) (group : List ℕ) (t u : Term) (n : ℕ) (all lines more : List Entry) (r : Result (code.Page Line) AllocError)
+    → IfOk r (λ page. n ≢ 1) → IfOk r (λ page. page_of entry_of page ≡ behind all (refused n))
+    → (n ≢ 1 → tree_checks (rules_of c group) u ≡ Err n) → u ≡ t → all ≡ lines ++ more → lines ≡ tree_entries t → more ≡ take (lines_before n) (rule_entries own)
+    → IfOk r (λ page. page_of entry_of page ≡ tree_report c own group t)
+lines_or_wanting c own group t u n all lines more (Ok page) ne is checks same a l m = is ∙ some_lines c own group t u n all lines more (checks ne) same a l m
+lines_or_wanting c own group t u n all lines more (Err e) ne is checks same a l m = tt

@@ -1,0 +1,121 @@
+-- What `mls check` prints.
+use Rattle.std.specs.Prelude.{◌≡◌, nat_lt, ℕ, Bool, List, [], ◌∷◌, ◌++◌, codes, length, if◌then◌else◌, Option, Some, None, Result, Ok, Err}
+use Rattle.hex.specs.Hex.{decode_of}
+use Rattle.mls_wire.specs.Checks.{given}
+use Rattle.mls_wire.specs.Reading.{◌>>=◌}
+use Rattle.mls_leaf.specs.Faults.{whole}
+use Rattle.mls_leaf.specs.Limits.{input_limit}
+use Rattle.mls_types.specs.GroupInfo.{ratchet_tree}
+use Rattle.mls_tree_model.specs.Term.{Term, width}
+use Rattle.mls_tree_model.specs.Keys.{members}
+use Rattle.mls_tree_model.specs.Hashes.{tree_hash}
+use Rattle.mls_tree_model.specs.Good.{IsGood, has_good_lists, has_good_hashes, has_distinct_keys, has_distinct_clients, is_all_signed, is_all_capable, is_all_fit}
+use Rattle.mls_tree_model.specs.Arrays.{from_nodes}
+use Rattle.mls_suite.specs.Crypto.{Crypto}
+use Rattle.mls_tree.specs.Tree.{max_leaves}
+use Rattle.mls_tree.specs.Rules.{rules_of}
+use Rattle.mls_cli_text.specs.File.{bytes_in, decoded}
+use Rattle.mls_cli_text.specs.Text.{Entry, entry, bytes, number, word}
+use Rattle.mls_cli_text.specs.Page.{Page, good, refused}
+use Rattle.mls_cli_check.specs.declared.report.SuiteChecks.{SuiteChecks}
+use Rattle.mls_cli_check.specs.declared.report.SuiteChecks.TheVariants.{Made, Left}
+
+-- RFC 9420, section 12.4.3.3: the tree that the bytes spell, or the number of the first fault
+unfoldable pub tree_in : List ℕ → Result Term ℕ
+tree_in spelled = whole ratchet_tree input_limit spelled >>= from_nodes max_leaves
+
+-- RFC 9420, section 4.1 and 7.8: how many leaves and members a tree has, and its tree hash
+unfoldable pub tree_entries : Term → List Entry
+tree_entries t =
+    entry [] (codes "leaves") (number (width t))
+    ∷ entry [] (codes "members") (number (length (members 0 t)))
+    ∷ entry [] (codes "tree_hash") (bytes (tree_hash 0 t)) ∷ []
+
+-- as many bytes as an input may have, or 6
+abbrev pub within_limit : List ℕ → Result (List ℕ) ℕ
+within_limit bs = if nat_lt input_limit (length bs) then Err 6 else Ok bs
+
+-- a group's id, of which the hex digits are given
+unfoldable pub group_in : List ℕ → Result (List ℕ) ℕ
+group_in text = given 8 (decoded (decode_of text)) >>= within_limit
+
+abbrev pub both : List ℕ → List ℕ → Result (List ℕ × List ℕ) ℕ
+both spelled id = Ok (spelled, id)
+
+-- the bytes of a file's text and of a group's: 8 the file's isn't hex, then 8 and 6 of the group's
+unfoldable pub texts_in : List ℕ → List ℕ → Result (List ℕ × List ℕ) ℕ
+texts_in text group = do
+  spelled ← given 8 (bytes_in text)
+  id ← group_in group
+  both spelled id
+
+-- ---- lines, and the first check that fails
+
+-- nothing is left to check
+abbrev pub all_passed : Page Entry
+all_passed = good []
+
+-- lines, and what is printed behind them
+abbrev pub behind : List Entry → Page Entry → Page Entry
+behind entries p = record { entries = entries ++ p.entries; ending = p.ending }
+
+-- a check by its number: where it holds its line, and then the others
+abbrev pub step : ℕ → Bool → Entry → Page Entry → Page Entry
+step n holds line others = if holds then behind (line ∷ []) others else refused n
+
+-- the line of a check that was made
+abbrev pub ok_line : List ℕ → Entry
+ok_line name = entry [] name (word (codes "ok"))
+
+-- the line of a check by the suite's own functions, which a suite that checks nothing leaves out
+abbrev pub suite_word : SuiteChecks → List ℕ
+suite_word Made = codes "ok"
+suite_word Left = codes "not checked"
+
+abbrev pub suite_line : SuiteChecks → List ℕ → Entry
+suite_line own name = entry [] name (word (suite_word own))
+
+-- the checks of a good tree in their order (RFC 9420, 7.3, 7.9.2 and 12.4.3.1), each with its line
+unfoldable pub rules_report : Crypto → SuiteChecks → List ℕ → Term → Page Entry
+rules_report c own group t =
+    step 23 (has_good_lists t) (ok_line (codes "unmerged"))
+    (step 24 (has_good_hashes t) (ok_line (codes "parent_hashes"))
+    (step 25 (has_distinct_keys t) (ok_line (codes "keys"))
+    (step 26 (has_distinct_clients t) (ok_line (codes "clients"))
+    (step 51 (is_all_signed (rules_of c group) t) (suite_line own (codes "signatures"))
+    (step 52 (is_all_capable (rules_of c group) t) (ok_line (codes "capabilities"))
+    (step 36 (is_all_fit (rules_of c group) t) (suite_line own (codes "key_forms"))
+    all_passed))))))
+
+abbrev pub tree_report : Crypto → SuiteChecks → List ℕ → Term → Page Entry
+tree_report c own group t = behind (tree_entries t) (rules_report c own group t)
+
+abbrev pub report_on : Crypto → SuiteChecks → List ℕ → Result Term ℕ → Page Entry
+report_on c own group (Ok t) = tree_report c own group t
+report_on c own group (Err n) = refused n
+
+-- what is printed of the tree's bytes under a suite, for the group with that id, and what of the suite's own checks
+unfoldable pub check_text : Crypto → SuiteChecks → List ℕ → List ℕ → Page Entry
+check_text c own spelled group = report_on c own group (tree_in spelled)
+
+-- the bytes spell a good tree of the group under a suite (RFC 9420, 7.3, 7.9.2, 12.4.3.1 and 12.4.3.3)
+pub record SpellsGoodTree (c : Crypto) (group spelled : List ℕ) : Type 0 where
+  pub tree : Term
+  pub is_read : tree_in spelled ≡ Ok tree
+  pub good : IsGood (rules_of c group) tree
+
+-- ---- pages
+
+-- a group's text that is no group's id is refused before the tree is looked at
+abbrev pub check_page_on : Crypto → SuiteChecks → List ℕ → Result (List ℕ) ℕ → Page Entry
+check_page_on c own spelled (Ok group) = check_text c own spelled group
+check_page_on c own spelled (Err n) = refused n
+
+-- a file that is no hex text is refused with 8, before the group's text is looked at
+abbrev pub check_page_in : Crypto → SuiteChecks → Option (List ℕ) → List ℕ → Page Entry
+check_page_in c own None group = refused 8
+check_page_in c own (Some spelled) group = check_page_on c own spelled (group_in group)
+
+-- what is printed under a suite for a file's text and a group's
+unfoldable pub check_page : Crypto → SuiteChecks → List ℕ → List ℕ → Page Entry
+check_page c own text group = check_page_in c own (bytes_in text) group

@@ -1,0 +1,122 @@
+//! Checks of a ratchet tree as it is sent (RFC 9420, 12.4.3.3), and the engine of `mls check`, which prints them.
+#![tactic(auto)]
+
+mod check_error;
+mod report;
+mod tree;
+mod unchecked;
+
+ghost use Rattle.std.specs.Prelude.{◌≡◌, ℕ, ◌≤◌, length, Err, IfOk, IsOk, MatchResult};
+ghost use Rattle.mls_wire.specs.Checks.{Answers};
+ghost use Rattle.mls_leaf.specs.Limits.{input_limit};
+ghost use Rattle.mls_cli_text.specs.Page.{page_of};
+ghost use Rattle.mls_cli_text.specs.Text.{entry_of};
+ghost use Rattle.mls_cli_check.specs.Check.{check_page, check_page_on, group_in, texts_in};
+ghost use Rattle.mls_cli_check.specs.CheckFaults.{number_of};
+
+pub use check_error::CheckError;
+use hex::FromHexError;
+use mls_leaf::{INPUT_LIMIT, LeafError};
+use mls_suite::Suite;
+use mls_cli_text::{FileError, Line, Page, file_bytes, is_hex, is_hex_file, refused_page};
+use mls_wire::WireError;
+pub use report::{SuiteChecks, check_text};
+use std::alloc::{AllocError, Global};
+pub use tree::{tree_in, tree_lines};
+pub use unchecked::Unchecked;
+
+/// The bytes of a group's id.
+#[tactic(auto, unfolding(crate::specs::Check::group_in))]
+fn group_bytes(alloc: Global, text: &str) -> Result<Vec<u8>, CheckError>
+    ensures id { Answers (λ bytes. bytes.items) number_of (group_in text.now) result }
+    ensures limit { IfOk result (λ bytes. length bytes.items ≤ input_limit) }
+{
+    match hex::decode(alloc, text) {
+        Ok(bytes) => {
+            if bytes.len() > INPUT_LIMIT {
+                return Err(CheckError::Decoding(LeafError::Wire(WireError::TooLong)));
+            }
+            Ok(bytes)
+        }
+        Err(FromHexError::OutOfMemory) => Err(CheckError::OutOfMemory),
+        Err(_) => Err(CheckError::NotHex),
+    }
+}
+
+/// What is printed of a tree's bytes for a group's id in hex.
+fn bytes_page<S: Suite>(
+    alloc: Global,
+    own: SuiteChecks,
+    bytes: &[u8],
+    group: &str,
+) -> Result<Page<Line>, AllocError>
+    ensures { IfOk result (λ page. page_of entry_of page ≡ check_page_on S.crypto own bytes.now (group_in group.now)) }
+{
+    match group_bytes(alloc, group) {
+        Ok(group_id) => check_text::<S>(alloc, own, bytes, group_id.as_slice()),
+        Err(error) => {
+            if error.is_memory() {
+                return Err(AllocError);
+            }
+            Ok(refused_page(alloc, error.number()))
+        }
+    }
+}
+
+/// Whether a group's text is a group's id: 8 it isn't hex, 6 it is too long. It takes no memory.
+fn require_group(text: &str) -> Result<(), CheckError>
+    ensures { MatchResult result (λ _. IsOk (group_in text.now)) (λ e. group_in text.now ≡ Err (number_of e)) }
+{
+    if !is_hex(text.as_bytes()) {
+        return Err(CheckError::NotHex);
+    }
+    if text.len() / 2 > INPUT_LIMIT {
+        return Err(CheckError::Decoding(LeafError::Wire(WireError::TooLong)));
+    }
+    Ok(())
+}
+
+/// Whether a file's text and a group's have bytes: 8 the file's isn't hex, then 8 and 6 of the group's. It takes no memory.
+fn require_texts(text: &[u8], group: &str) -> Result<(), CheckError>
+    ensures { MatchResult result (λ _. IsOk (texts_in text.now group.now)) (λ e. texts_in text.now group.now ≡ Err (number_of e)) }
+{
+    if !is_hex_file(text) {
+        return Err(CheckError::NotHex);
+    }
+    require_group(group)
+}
+
+/// What is printed of a file's text for a group's id in hex.
+#[tactic(auto, unfolding(crate::specs::Check::check_page))]
+fn texts_page<S: Suite>(
+    alloc: Global,
+    own: SuiteChecks,
+    text: &[u8],
+    group: &str,
+) -> Result<Page<Line>, AllocError>
+    ensures { IfOk result (λ page. page_of entry_of page ≡ check_page S.crypto own text.now group.now) }
+{
+    match file_bytes(alloc, text) {
+        Ok(bytes) => bytes_page::<S>(alloc, own, bytes.as_slice(), group),
+        Err(FileError::NotHex) => Ok(refused_page(alloc, 8)),
+        Err(FileError::OutOfMemory) => Err(AllocError),
+    }
+}
+
+/// What is printed of a file's text: the lines of the tree that stands in it as hex digits, for the group with this id in
+/// hex, or the refusal of the file or of the id (8, 6), also when an allocation fails.
+pub fn check_page<S: Suite>(
+    alloc: Global,
+    own: SuiteChecks,
+    text: &[u8],
+    group: &str,
+) -> Result<Page<Line>, AllocError>
+    ensures page { IfOk result (λ page. page_of entry_of page ≡ check_page S.crypto own text.now group.now) }
+    // What is no file of hex digits, or no group's id, is refused also when an allocation fails.
+    ensures texts { (n : ℕ) → texts_in text.now group.now ≡ Err n → IsOk result }
+{
+    if let Err(error) = require_texts(text, group) {
+        return Ok(refused_page(alloc, error.number()));
+    }
+    texts_page::<S>(alloc, own, text, group)
+}

@@ -1,0 +1,50 @@
+//! Ratchet trees as they are sent (RFC 9420, 12.4.3.3), and their lines.
+
+ghost use Rattle.std.specs.Prelude.{◌≡◌, ◌≢◌, ℕ, map, Err, IfErr, IfOk};
+ghost use Rattle.mls_wire.specs.Checks.{Answers};
+ghost use Rattle.mls_leaf.specs.Faults.{whole};
+ghost use Rattle.mls_leaf.specs.Limits.{input_limit};
+ghost use Rattle.mls_types.specs.GroupInfo.{ratchet_tree};
+ghost use Rattle.mls_tree.specs.Tree.{term};
+ghost use Rattle.mls_cli_text.specs.Text.{entry_of};
+ghost use Rattle.mls_cli_check.specs.Check.{tree_entries, tree_in};
+ghost use Rattle.mls_cli_check.specs.CheckFaults.{number_of};
+ghost use Rattle.mls_tree.specs.Short.{HasShortLeaves};
+
+use crate::check_error::CheckError;
+use mls_types::RatchetTree;
+use mls_leaf::{Bytes, Codec};
+use mls_cli_text::{Field, Line, line_of};
+use mls_tree::PublicTree;
+use std::alloc::{AllocError, Global};
+
+/// The tree that the bytes spell: refused with the fault of decoding (2 to 7, 11 to 14), and else with that of its
+/// shape (20) or its size (21).
+pub fn tree_in(alloc: Global, bytes: &[u8]) -> Result<PublicTree, CheckError>
+    ensures tree { Answers term number_of (tree_in bytes.now) result }
+    // Bytes that spell no nodes are refused whatever memory there is.
+    ensures outright { (n : ℕ) → whole ratchet_tree input_limit bytes.now ≡ Err n → IfErr result (λ e. number_of e ≢ 1) }
+    // An input is short, and so are the leaves in it.
+    ensures short { IfOk result (λ tree. HasShortLeaves (term tree)) }
+{
+    let nodes = RatchetTree::decode(alloc, bytes)?;
+    let tree = PublicTree::from_nodes(nodes.into_vec())?;
+    Ok(tree)
+}
+
+/// The lines of a tree: how many leaves and members it has, and its tree hash.
+#[tactic(auto, unfolding(crate::specs::Check::tree_entries))]
+pub fn tree_lines(alloc: Global, tree: &mut PublicTree) -> Result<Vec<Line>, AllocError>
+    ensures lines { IfOk result (λ lines. map entry_of lines.items ≡ tree_entries (term tree.old)) }
+    ensures same { term tree.new ≡ term tree.old }
+{
+    let hash = tree.tree_hash();
+    let hash = Vec::from_slice(alloc, hash.as_slice())?;
+    let leaves = u64::from(tree.leaf_count());
+    let members = u64::from(tree.member_count());
+    Ok(vec![in alloc;
+        line_of("", "leaves", Field::Number(leaves)),
+        line_of("", "members", Field::Number(members)),
+        line_of("", "tree_hash", Field::Bytes(Bytes::from_vec(hash))),
+    ]?)
+}

@@ -1,0 +1,7 @@
+use Rattle.std.proofs.Common.{refl}
+use Rattle.serde_json.proofs.Views.{members_len-members_view}
+use Rattle.mls_cli_json.proofs.lookup.has_members.Goals as goal
+
+pub returns-in-Some : goal.returns-in-Some
+returns-in-Some c =
+    rw (← c.in-Some.ensures, members_len-members_view c.in-Some.members.now.entries, c.len.ensures.len) refl

@@ -1,0 +1,75 @@
+-- Calls on a world as a recording has them, and how the code's values stand for them.
+use Rattle.std.specs.Prelude.{ℕ, Bool, List, map, Option, option_map, string_bytes}
+use Rattle.mls_model.specs.declared.event.Source.{Source}
+use Rattle.mls_model.specs.declared.event.Source.TheVariants as source
+use Rattle.mls_model.specs.declared.event.WorldItem.{WorldItem}
+use Rattle.mls_model.specs.declared.event.WorldItem.TheVariants as item
+use Rattle.mls_model.specs.declared.event.Event.{Event}
+use Rattle.mls_model.specs.declared.event.Event.TheVariants as event
+use Rattle.mls_cli_recording.specs.declared.reading.Recorded.{Recorded}
+
+-- where the bytes of a message come from
+pub data MessageSource : Type 0 where
+  -- these bytes
+  given : List ℕ → MessageSource
+  -- the message of this number
+  message : ℕ → MessageSource
+
+-- a proposal of a commit
+pub data CommitItem : Type 0 where
+  -- the proposal of a message, by its reference
+  ref : MessageSource → CommitItem
+  -- the KeyPackage of a message
+  add : MessageSource → CommitItem
+  -- the leaf that is removed
+  remove : ℕ → CommitItem
+
+pub data Call : Type 0 where
+  -- an identity and a seed
+  candidate : List ℕ → List ℕ → Call
+  -- a candidate, a group and a seed
+  create : ℕ → List ℕ → List ℕ → Call
+  -- a member and the source of a KeyPackage
+  propose_add : ℕ → MessageSource → Call
+  -- a member and a seed
+  propose_update : ℕ → List ℕ → Call
+  -- a member and a leaf
+  propose_remove : ℕ → ℕ → Call
+  -- a member, what it commits, whether a path is forced, and a seed
+  commit : ℕ → List CommitItem → Bool → List ℕ → Call
+  -- a member
+  drop_pending : ℕ → Call
+  -- a member and the source of a message
+  deliver : ℕ → MessageSource → Call
+  -- a candidate and the source of a Welcome
+  join : ℕ → MessageSource → Call
+
+-- a call, and the text of its reply, where one is recorded
+pub record RecordedCall : Type 0 where
+  pub call : Call
+  pub expect : Option (List ℕ)
+
+-- ---- of the code's values
+
+abbrev pub source_view : Source → MessageSource
+source_view (source.Given bytes) = given bytes.items
+source_view (source.Message n) = message n
+
+abbrev pub item_view : WorldItem → CommitItem
+item_view (item.RefOf s) = ref (source_view s)
+item_view (item.Add s) = add (source_view s)
+item_view (item.Remove leaf) = remove leaf
+
+abbrev pub call_view : Event → Call
+call_view (event.Candidate identity seed) = candidate identity.items seed
+call_view (event.Create n group seed) = create n group.items seed
+call_view (event.ProposeAdd k s) = propose_add k (source_view s)
+call_view (event.ProposeUpdate k seed) = propose_update k seed
+call_view (event.ProposeRemove k leaf) = propose_remove k leaf
+call_view (event.Commit k items path seed) = commit k (map item_view items.items) path seed
+call_view (event.DropPending k) = drop_pending k
+call_view (event.Deliver k s) = deliver k (source_view s)
+call_view (event.Join n s) = join n (source_view s)
+
+abbrev pub recorded_view : Recorded → RecordedCall
+recorded_view r = record { call = call_view r.event; expect = option_map string_bytes r.expect }

@@ -1,0 +1,166 @@
+-- What a recording is. Its shape is a fault before a text that isn't hex: such a text is kept, and a call with one is
+-- nothing, where the shape is right.
+use Rattle.std.specs.Prelude.{ℕ, ◌+◌, ◌==◌, ◌&&◌, Bool, List, [], ◌∷◌, codes, if◌then◌else◌, Option, Some, None, option_map, is_some, Result, Ok, Err}
+use Rattle.std.specs.Str.{bytes_eq}
+use Rattle.serde_json.specs.Data.{Data, Items, no_items, item}
+use Rattle.serde_json.specs.Find.{get, as_str}
+use Rattle.mls_cli_json.specs.Hexes.{bytes_of, hex_at, seed_at}
+use Rattle.mls_cli_json.specs.Json.{◌>>=◌, data_in, require, is_object_of, text_at, text_if_any, number_at, bool_at, max_u32, whole_at, items_at}
+use Rattle.mls_cli_recording.specs.Calls.{MessageSource, given, message, CommitItem, ref, add, remove, Call, candidate, create, propose_add, propose_update, propose_remove, commit, drop_pending, deliver, join, RecordedCall}
+
+-- ---- lists
+
+-- another one in front, where all texts are hex
+abbrev pub listed : {X : Type 0} → Option X → Option (List X) → Option (List X)
+listed None more = None
+listed (Some x) None = None
+listed (Some x) (Some xs) = Some (x ∷ xs)
+
+-- what each value of an array is
+unfoldable pub each_of : {X : Type 0} → (Data → Option (Option X)) → Items → Option (Option (List X))
+each_of read no_items = Some (Some [])
+each_of read (item d ds) = do
+  x ← read d
+  xs ← each_of read ds
+  Some (listed x xs)
+
+-- ---- sources and items
+
+-- a text of hex, or else a message's number
+abbrev pub source_by : Option (List ℕ) → Data → Option (Option MessageSource)
+source_by (Some text) d = Some (option_map given (bytes_of text))
+source_by None d = require (is_object_of 1 d) (do
+  n ← number_at (codes "message") d
+  Some (Some (message n)))
+
+abbrev pub source_in : Data → Option (Option MessageSource)
+source_in d = source_by (as_str d) d
+
+abbrev pub source_at : List ℕ → Data → Option (Option MessageSource)
+source_at key d = get key d >>= source_in
+
+-- an item with its source
+abbrev pub sourced : {X : Type 0} → (MessageSource → X) → Option (Option MessageSource) → Option (Option X)
+sourced make source = option_map (option_map make) source
+
+abbrev pub removal_in : Data → Option (Option CommitItem)
+removal_in d = do
+  leaf ← whole_at max_u32 (codes "remove") d
+  Some (Some (remove leaf))
+
+-- by which key is there
+abbrev pub item_by : Option Data → Option Data → Data → Option (Option CommitItem)
+item_by (Some source) added d = sourced ref (source_in source)
+item_by None (Some source) d = sourced add (source_in source)
+item_by None None d = removal_in d
+
+abbrev pub item_in : Data → Option (Option CommitItem)
+item_in d = require (is_object_of 1 d) (item_by (get (codes "ref") d) (get (codes "add") d) d)
+
+abbrev pub commit_items_at : List ℕ → Data → Option (Option (List CommitItem))
+commit_items_at key d = items_at key d >>= each_of item_in
+
+-- ---- calls
+
+-- an object of so many members, and of one more where a reply is recorded
+abbrev pub has_keys : ℕ → Data → Bool
+has_keys n d = is_object_of (if is_some (get (codes "expect") d) then n + 1 else n) d
+
+abbrev pub candidate_in : Data → Option (Option Call)
+candidate_in d = require (has_keys 3 d) (do
+  seed ← seed_at (codes "seed") d
+  identity ← hex_at (codes "identity") d
+  Some (option_map (λ identity. candidate identity seed) identity))
+
+abbrev pub create_in : Data → Option (Option Call)
+create_in d = require (has_keys 4 d) (do
+  n ← number_at (codes "candidate") d
+  seed ← seed_at (codes "seed") d
+  group ← hex_at (codes "group") d
+  Some (option_map (λ group. create n group seed) group))
+
+abbrev pub propose_add_in : Data → Option (Option Call)
+propose_add_in d = require (has_keys 3 d) (do
+  k ← number_at (codes "member") d
+  source ← source_at (codes "key_package") d
+  Some (option_map (propose_add k) source))
+
+abbrev pub propose_update_in : Data → Option (Option Call)
+propose_update_in d = require (has_keys 3 d) (do
+  k ← number_at (codes "member") d
+  seed ← seed_at (codes "seed") d
+  Some (Some (propose_update k seed)))
+
+abbrev pub propose_remove_in : Data → Option (Option Call)
+propose_remove_in d = require (has_keys 3 d) (do
+  k ← number_at (codes "member") d
+  leaf ← whole_at max_u32 (codes "leaf") d
+  Some (Some (propose_remove k leaf)))
+
+abbrev pub commit_in : Data → Option (Option Call)
+commit_in d = require (has_keys 5 d) (do
+  k ← number_at (codes "member") d
+  path ← bool_at (codes "path") d
+  seed ← seed_at (codes "seed") d
+  items ← commit_items_at (codes "items") d
+  Some (option_map (λ items. commit k items path seed) items))
+
+abbrev pub drop_pending_in : Data → Option (Option Call)
+drop_pending_in d = require (has_keys 2 d) (do
+  k ← number_at (codes "member") d
+  Some (Some (drop_pending k)))
+
+abbrev pub deliver_in : Data → Option (Option Call)
+deliver_in d = require (has_keys 3 d) (do
+  k ← number_at (codes "member") d
+  source ← source_at (codes "bytes") d
+  Some (option_map (deliver k) source))
+
+abbrev pub join_in : Data → Option (Option Call)
+join_in d = require (has_keys 3 d) (do
+  n ← number_at (codes "candidate") d
+  source ← source_at (codes "bytes") d
+  Some (option_map (join n) source))
+
+abbrev pub op_in : List ℕ → Data → Option (Option Call)
+op_in op d =
+    if bytes_eq op (codes "candidate") then candidate_in d
+    else if bytes_eq op (codes "create") then create_in d
+    else if bytes_eq op (codes "propose_add") then propose_add_in d
+    else if bytes_eq op (codes "propose_update") then propose_update_in d
+    else if bytes_eq op (codes "propose_remove") then propose_remove_in d
+    else if bytes_eq op (codes "commit") then commit_in d
+    else if bytes_eq op (codes "drop_pending") then drop_pending_in d
+    else if bytes_eq op (codes "deliver") then deliver_in d
+    else if bytes_eq op (codes "join") then join_in d
+    else None
+
+-- ---- all of a recording
+
+abbrev pub recorded_with : Option (List ℕ) → Call → RecordedCall
+recorded_with expect call = record { call = call; expect = expect }
+
+abbrev pub recorded_in : Data → Option (Option RecordedCall)
+recorded_in d = do
+  op ← text_at (codes "op") d
+  expect ← text_if_any (codes "expect") d
+  call ← op_in op d
+  Some (option_map (recorded_with expect) call)
+
+-- of version 1, for the suite f001
+abbrev pub events_in : Data → Option (Option (List RecordedCall))
+events_in d = require (is_object_of 3 d) (do
+  version ← number_at (codes "version") d
+  suite ← text_at (codes "suite") d
+  events ← items_at (codes "events") d
+  require ((version == 1) && bytes_eq suite (codes "f001")) (each_of recorded_in events))
+
+-- 9 where the shape is wrong, and else 8 where a text is no hex
+abbrev pub numbered : {X : Type 0} → Option (Option X) → Result X ℕ
+numbered None = Err 9
+numbered (Some None) = Err 8
+numbered (Some (Some x)) = Ok x
+
+-- The calls that a recording has, each with the reply that it should have, or the number of its refusal.
+unfoldable pub recording : List ℕ → Result (List RecordedCall) ℕ
+recording text = numbered (data_in text >>= events_in)

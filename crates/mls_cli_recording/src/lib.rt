@@ -1,0 +1,21 @@
+//! Recordings of groups, as they are read from JSON: the calls on a world, in order, each with the text that its reply
+//! should have, if one is recorded. The format is this project's own.
+#![tactic(auto)]
+
+mod calls;
+mod parts;
+mod reading;
+mod sources;
+#[cfg(test)]
+mod tests;
+
+ghost use Rattle.mls_cli_recording.specs.CallLaws.{SameReplies, SameRun};
+
+pub use reading::{Recorded, recording};
+
+/// Events that stand for the same calls leave the same world and have the same replies, so what a recording does follows
+/// from its text. The function does nothing.
+pub fn laws_of_calls()
+    ensures run { SameRun }
+    ensures replies { SameReplies }
+{}

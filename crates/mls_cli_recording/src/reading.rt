@@ -1,0 +1,97 @@
+//! All of a recording, read in one pass.
+
+ghost use Rattle.std.specs.Prelude.{◌≡◌, Err, map, option_map};
+ghost use Rattle.std.specs.Str.{IsUtf8};
+ghost use Rattle.serde_json.specs.View.{view, items_view};
+ghost use Rattle.mls_wire.specs.Checks.{Answers};
+ghost use Rattle.mls_cli_json.specs.Faults.{Finds, number_of};
+ghost use Rattle.mls_cli_json.specs.declared.error.JsonError.TheVariants.{BadJson};
+ghost use Rattle.mls_cli_recording.specs.Calls.{recorded_view};
+ghost use Rattle.mls_cli_recording.specs.Recording.{each_of, events_in, recorded_in, recording};
+
+use crate::calls::call_by;
+use crate::parts::{push_found, text_copied};
+use mls_cli_json::{JsonError, has_members, items_at, text_at, u64_at, value_in};
+use mls_model::Event;
+use serde_json::Value;
+use std::alloc::Global;
+
+/// The version of recordings that is read.
+pub const VERSION: u64 = 1;
+
+/// The suite of recordings.
+pub const SUITE: &str = "f001";
+
+/// An event, and the text that its reply should have, if one is recorded.
+#[derive(Debug, Drop)]
+pub struct Recorded {
+    /// The event.
+    pub event: Event,
+    /// The text.
+    pub expect: Option<String>,
+}
+
+/// One event; None where a text in it isn't hex.
+fn one_event(alloc: Global, value: &Value) -> Result<Option<Recorded>, JsonError>
+    ensures { Finds (option_map recorded_view) result (recorded_in (view value.now)) }
+{
+    let Some(op) = text_at(value, "op") else {
+        return Err(JsonError::BadJson);
+    };
+    let expect = text_copied(alloc, value, "expect")?;
+    match call_by(alloc, op, value)? {
+        Some(event) => Ok(Some(Recorded { event, expect })),
+        None => Ok(None),
+    }
+}
+
+#[tactic(auto, unfolding(crate::specs::Recording::each_of))]
+fn each_recorded(alloc: Global, values: &[Value]) -> Result<Option<Vec<Recorded>>, JsonError>
+    ensures { Finds (option_map (λ v. map recorded_view v.items)) result (each_of recorded_in (items_view values.now)) }
+{
+    let mut list = Vec::new(alloc);
+    let mut all_hex = true;
+    for value in values {
+        let found = one_event(alloc, value)?;
+        all_hex = push_found(&mut list, all_hex, found)?;
+    }
+    if all_hex { Ok(Some(list)) } else { Ok(None) }
+}
+
+/// The events of a recording of version 1 for the suite f001.
+fn events(alloc: Global, value: &Value) -> Result<Option<Vec<Recorded>>, JsonError>
+    ensures { Finds (option_map (λ v. map recorded_view v.items)) result (events_in (view value.now)) }
+{
+    if !has_members(value, 3) {
+        return Err(JsonError::BadJson);
+    }
+    let Some(version) = u64_at(value, "version") else {
+        return Err(JsonError::BadJson);
+    };
+    let Some(suite) = text_at(value, "suite") else {
+        return Err(JsonError::BadJson);
+    };
+    let Some(values) = items_at(value, "events") else {
+        return Err(JsonError::BadJson);
+    };
+    if version == VERSION && suite == SUITE {
+        each_recorded(alloc, values)
+    } else {
+        Err(JsonError::BadJson)
+    }
+}
+
+/// The events of a recording, each with the text that its reply should have, if one is recorded; or the fault of its
+/// shape (BadJson, 9), or else that a text in it isn't hex (NotHex, 8).
+#[tactic(auto, unfolding(crate::specs::Recording::recording))]
+pub fn recording(alloc: Global, text: &[u8]) -> Result<Vec<Recorded>, JsonError>
+    ensures calls { Answers (λ v. map recorded_view v.items) number_of (recording text.now) result }
+    // A file that is no text is refused also when an allocation fails.
+    ensures no_text { ¬ (IsUtf8 text.now) → result ≡ Err BadJson }
+{
+    let value = value_in(alloc, text)?;
+    match events(alloc, &value)? {
+        Some(list) => Ok(list),
+        None => Err(JsonError::NotHex),
+    }
+}

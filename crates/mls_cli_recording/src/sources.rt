@@ -1,0 +1,123 @@
+//! Sources of messages, and what a commit names.
+
+ghost use Rattle.std.specs.Prelude.{◌≡◌, IfErr, option_map, map};
+ghost use Rattle.serde_json.specs.View.{view, items_view};
+ghost use Rattle.mls_cli_json.specs.Faults.{Finds};
+ghost use Rattle.mls_cli_json.specs.declared.error.JsonError.TheVariants.{BadJson};
+ghost use Rattle.mls_cli_json.specs.Hexes.{bytes_of};
+ghost use Rattle.mls_cli_recording.specs.Calls.{source_view, item_view};
+ghost use Rattle.mls_cli_recording.specs.Recording.{source_in, source_at, removal_in, item_in, each_of, commit_items_at, sourced};
+ghost use Rattle.mls_cli_recording.specs.Calls as call;
+
+use crate::parts::{index_at, push_found};
+use mls_cli_json::{JsonError, has_members, hex_of, items_at, u32_at};
+use mls_model::{Source, WorldItem};
+use serde_json::Value;
+use std::alloc::Global;
+
+/// Bytes in hex; None where the text isn't hex.
+fn given(alloc: Global, text: &str) -> Result<Option<Source>, JsonError>
+    ensures { Finds (option_map source_view) result (Some (option_map call.given (bytes_of text.now))) }
+{
+    match hex_of(alloc, text)? {
+        Some(bytes) => Ok(Some(Source::Given(bytes))),
+        None => Ok(None),
+    }
+}
+
+/// A text of hex, or an object with the number of a message.
+pub fn source(alloc: Global, value: &Value) -> Result<Option<Source>, JsonError>
+    ensures { Finds (option_map source_view) result (source_in (view value.now)) }
+{
+    if let Some(text) = value.as_str() {
+        return given(alloc, text);
+    }
+    if !has_members(value, 1) {
+        return Err(JsonError::BadJson);
+    }
+    match index_at(value, "message") {
+        Some(number) => Ok(Some(Source::Message(number))),
+        None => Err(JsonError::BadJson),
+    }
+}
+
+/// The source at a key.
+pub fn source_at(alloc: Global, value: &Value, key: &str) -> Result<Option<Source>, JsonError>
+    ensures { Finds (option_map source_view) result (source_at key.now (view value.now)) }
+{
+    match value.get(key) {
+        Some(member) => source(alloc, member),
+        None => Err(JsonError::BadJson),
+    }
+}
+
+fn removal(value: &Value) -> Result<Option<WorldItem>, JsonError>
+    ensures found { Finds (option_map item_view) result (removal_in (view value.now)) }
+    ensures outright { IfErr result (λ e. e ≡ BadJson) }
+{
+    match u32_at(value, "remove") {
+        Some(leaf) => Ok(Some(WorldItem::Remove(leaf))),
+        None => Err(JsonError::BadJson),
+    }
+}
+
+fn reference(alloc: Global, value: &Value) -> Result<Option<WorldItem>, JsonError>
+    ensures { Finds (option_map item_view) result (sourced call.ref (source_in (view value.now))) }
+{
+    match source(alloc, value)? {
+        Some(source) => Ok(Some(WorldItem::RefOf(source))),
+        None => Ok(None),
+    }
+}
+
+fn addition(alloc: Global, value: &Value) -> Result<Option<WorldItem>, JsonError>
+    ensures { Finds (option_map item_view) result (sourced call.add (source_in (view value.now))) }
+{
+    match source(alloc, value)? {
+        Some(source) => Ok(Some(WorldItem::Add(source))),
+        None => Ok(None),
+    }
+}
+
+/// One item of a commit, an object of one member.
+fn item(alloc: Global, value: &Value) -> Result<Option<WorldItem>, JsonError>
+    ensures { Finds (option_map item_view) result (item_in (view value.now)) }
+{
+    if !has_members(value, 1) {
+        return Err(JsonError::BadJson);
+    }
+    if let Some(member) = value.get("ref") {
+        return reference(alloc, member);
+    }
+    match value.get("add") {
+        Some(member) => addition(alloc, member),
+        None => removal(value),
+    }
+}
+
+#[tactic(auto, unfolding(crate::specs::Recording::each_of))]
+fn items_of(alloc: Global, values: &[Value]) -> Result<Option<Vec<WorldItem>>, JsonError>
+    ensures { Finds (option_map (λ v. map item_view v.items)) result (each_of item_in (items_view values.now)) }
+{
+    let mut items = Vec::new(alloc);
+    let mut all_hex = true;
+    for value in values {
+        let found = item(alloc, value)?;
+        all_hex = push_found(&mut items, all_hex, found)?;
+    }
+    if all_hex { Ok(Some(items)) } else { Ok(None) }
+}
+
+/// The items of a commit.
+pub fn commit_items_at(
+    alloc: Global,
+    value: &Value,
+    key: &str,
+) -> Result<Option<Vec<WorldItem>>, JsonError>
+    ensures { Finds (option_map (λ v. map item_view v.items)) result (commit_items_at key.now (view value.now)) }
+{
+    match items_at(value, key) {
+        Some(values) => items_of(alloc, values),
+        None => Err(JsonError::BadJson),
+    }
+}

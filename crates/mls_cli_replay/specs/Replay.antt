@@ -1,0 +1,160 @@
+-- What `mls replay` prints of a recording: a line for each reply, one where it isn't what is expected, and at the end a line
+-- for each member.
+use Rattle.std.specs.Prelude.{◌≡◌, ◌⊎◌, MatchResult, ℕ, ◌+◌, Bool, true, ◌&&◌, if◌then◌else◌, List, [], ◌∷◌, ◌++◌, codes, map, take, slice_get, Option, Some, None, option_map, Result, Ok, Err, string_bytes}
+use Rattle.std.specs.Fmt.{decimal}
+use Rattle.std.specs.List.{flat_map}
+use Rattle.std.specs.Str.{bytes_eq}
+use Rattle.hex.specs.Hex.{encode_lower}
+use Rattle.mls_suite.specs.Crypto.{Crypto}
+use Rattle.mls_schedule.specs.Epoch.{epoch_authenticator}
+use Rattle.mls_model.specs.declared.event.Event.{Event}
+use Rattle.mls_model.specs.declared.event.Reply.{Reply}
+use Rattle.mls_model.specs.Member.{Member}
+use Rattle.mls_model.specs.World.{World, Seat, empty_world}
+use Rattle.mls_model.specs.Run.{run, replies, step}
+use Rattle.std.specs.Io.KnownBytes.{Appends, Keeps}
+use Rattle.mls_cli_text.specs.Ends.{AppendsPart}
+use Rattle.mls_cli_text.specs.Page.{Page, Printout, printout, refused}
+use Rattle.mls_cli_text.specs.declared.fault.Fault.{Fault}
+use Rattle.mls_cli_text.specs.Text.{or_dash}
+use Rattle.mls_cli_text.specs.declared.page.Ending.{Ending}
+use Rattle.mls_cli_text.specs.declared.page.Ending.TheVariants.{Good, Failed}
+use Rattle.mls_cli_json.specs.declared.error.JsonError.{JsonError}
+use Rattle.mls_cli_json.specs.declared.error.JsonError.TheVariants as error
+use Rattle.mls_cli_recording.specs.Calls.{RecordedCall, recorded_view}
+use Rattle.mls_cli_recording.specs.Recording.{recording}
+use Rattle.mls_cli_recording.specs.declared.reading.Recorded.{Recorded}
+use Rattle.mls_cli_replay.specs.Reply.{reply_text}
+use Rattle.mls_cli_replay.specs.declared.line.ReplayLine.{ReplayLine}
+use Rattle.mls_cli_replay.specs.declared.line.ReplayLine.TheVariants as code
+
+-- ---- lines
+
+pub data ReplayEntry : Type 0 where
+  -- the number of an event, and its reply
+  replied : ℕ → Reply → ReplayEntry
+  -- the number of an event, and the text that another reply has
+  expected : ℕ → List ℕ → ReplayEntry
+  -- the number of a member that was removed
+  gone : ℕ → ReplayEntry
+  -- the number of a member, its leaf and epoch, its tree hash and its epoch authenticator
+  present : ℕ → ℕ → ℕ → List ℕ → List ℕ → ReplayEntry
+
+abbrev pub entry_text : ReplayEntry → List ℕ
+entry_text (replied event reply) = decimal event ++ (codes ": " ++ (reply_text reply ++ codes "\n"))
+entry_text (expected event text) = decimal event ++ (codes ": expected " ++ (text ++ codes "\n"))
+entry_text (gone member) = codes "member " ++ (decimal member ++ codes ": gone\n")
+entry_text (present member leaf epoch tree authenticator) =
+    codes "member " ++ (decimal member ++ (codes ": leaf " ++ (decimal leaf ++ (codes ", epoch " ++ (decimal epoch
+    ++ (codes ", tree " ++ (or_dash encode_lower tree ++ (codes ", authenticator " ++ (or_dash encode_lower authenticator ++ codes "\n")))))))))
+
+-- ---- what is said of an event
+
+-- the text of the reply that a recording expects of an event, if it expects one
+abbrev pub expectation : Recorded → Option (List ℕ)
+expectation r = option_map string_bytes r.expect
+
+-- whether the reply is as expected
+abbrev pub is_met : Reply → Option (List ℕ) → Bool
+is_met reply None = true
+is_met reply (Some text) = bytes_eq text (reply_text reply)
+
+-- the text that was expected
+abbrev pub expected_entries : ℕ → Option (List ℕ) → List ReplayEntry
+expected_entries event None = []
+expected_entries event (Some text) = expected event text ∷ []
+
+-- is said where the reply is another
+abbrev pub unmet : ℕ → Reply → Option (List ℕ) → List ReplayEntry
+unmet event reply expect = if is_met reply expect then [] else expected_entries event expect
+
+abbrev pub event_entries : ℕ → Reply → Option (List ℕ) → List ReplayEntry
+event_entries event reply expect = replied event reply ∷ unmet event reply expect
+
+-- ---- and of all, numbered from here on
+
+unfoldable pub reply_entries : ℕ → List Reply → List (Option (List ℕ)) → List ReplayEntry
+reply_entries event (r ∷ rs) (e ∷ es) = event_entries event r e ++ reply_entries (event + 1) rs es
+reply_entries event rs es = []
+
+-- whether all replies are as expected
+unfoldable pub all_met : List Reply → List (Option (List ℕ)) → Bool
+all_met (r ∷ rs) (e ∷ es) = is_met r e && all_met rs es
+all_met rs es = true
+
+-- ---- what is said of members in the end
+
+-- the tree hash is that of the GroupContext (RFC 9420, 8.1)
+abbrev pub member_entry : ℕ → Member → ReplayEntry
+member_entry k m =
+    if m.gone then gone k
+    else present k m.keys.leaf m.public.context.epoch m.public.context.tree_hash (epoch_authenticator m.epoch)
+
+-- from this number on
+unfoldable pub member_entries : ℕ → List Seat → List ReplayEntry
+member_entries k [] = []
+member_entries k (s ∷ ss) = member_entry k s.member ∷ member_entries (k + 1) ss
+
+-- ---- the page
+
+abbrev pub events_of : List Recorded → List Event
+events_of rs = map (λ (r : Recorded). r.event) rs
+
+abbrev pub expectations_of : List Recorded → List (Option (List ℕ))
+expectations_of rs = map expectation rs
+
+-- the replies of the events from the empty world on, and the members of the world that they leave
+unfoldable pub played_entries : Crypto → List Recorded → List ReplayEntry
+played_entries c rs =
+    reply_entries 0 (replies c empty_world (events_of rs)) (expectations_of rs) ++ member_entries 0 (run c empty_world (events_of rs)).seats
+
+-- good where all replies are as expected
+abbrev pub ending_by : Bool → Ending
+ending_by met = if met then Good else Failed
+
+unfoldable pub played_page : Crypto → List Recorded → Page ReplayEntry
+played_page c rs = record {
+  entries = played_entries c rs;
+  ending = ending_by (all_met (replies c empty_world (events_of rs)) (expectations_of rs));
+}
+
+-- the page of a recording: of events that are its calls; or its refusal
+abbrev pub IsPageOn : Crypto → Result (List RecordedCall) ℕ → Page ReplayEntry → Type 0
+IsPageOn c (Ok calls) page = (recorded : List Recorded) × (map recorded_view recorded ≡ calls) × (page ≡ played_page c recorded)
+IsPageOn c (Err n) page = page ≡ refused n
+
+-- what is printed for a file
+abbrev pub IsReplay : Crypto → List ℕ → Printout → Type 0
+IsReplay c file p = (page : Page ReplayEntry) × IsPageOn c (recording file) page × (p ≡ printout entry_text page)
+
+-- the printout of a file that isn't read; there is none where memory was refused
+abbrev pub IsRefusal : JsonError → Printout → Type 0
+IsRefusal error.OutOfMemory p = ⊥
+IsRefusal error.NotHex p = p ≡ printout entry_text (refused 8)
+IsRefusal error.BadJson p = p ≡ printout entry_text (refused 9)
+
+-- The output grows by the text of such a printout, and the answer is its status; on a fault it grows by less than such a
+-- text, or stays as it was.
+abbrev pub PrintsOne : (Printout → Type 0) → Option (List ℕ) → Option (List ℕ) → Result ℕ Fault → Type 0
+PrintsOne Is old new r = MatchResult r
+    (λ status. (p : Printout) × Is p × Appends old new p.text × (status ≡ p.status))
+    (λ _. Keeps old new ⊎ ((p : Printout) × Is p × AppendsPart old new p.text))
+
+-- Where playing stops at a fault: all of what is said of the events before one is out, and a part of what is said of it; the
+-- world is that before it, or after it, so none behind it has run.
+pub record StopsAt (c : Crypto) (w : World) (rs : List Recorded) (old new : Option (List ℕ)) (v : World) : Type 0 where
+  pub count : ℕ
+  pub one : Recorded
+  pub is : slice_get rs count ≡ Some one
+  pub between : Option (List ℕ)
+  pub said : Appends old between (flat_map entry_text (reply_entries 0 (replies c w (events_of (take count rs))) (expectations_of (take count rs))))
+  pub part : AppendsPart between new (flat_map entry_text (event_entries count (step c (run c w (events_of (take count rs))) one.event).0 (expectation one)))
+  pub world : (v ≡ run c w (events_of (take count rs))) ⊎ (v ≡ (step c (run c w (events_of (take count rs))) one.event).1)
+
+-- ---- of the code's values
+
+abbrev pub entry_of : ReplayLine → ReplayEntry
+entry_of (code.Reply event reply) = replied event reply
+entry_of (code.Expected event text) = expected event text.now
+entry_of (code.Gone member) = gone member
+entry_of (code.Present member leaf epoch tree authenticator) = present member leaf epoch tree.now authenticator.now

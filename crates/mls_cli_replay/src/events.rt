@@ -1,0 +1,117 @@
+//! Events, run and printed one by one.
+
+ghost use Rattle.std.specs.Prelude.{◌≡◌, ◌≢◌, ◌⊎◌, IfOk, IfErr, OnOk, OnErr, option_map};
+ghost use Rattle.std.specs.Io.KnownBytes.{Appends};
+ghost use Rattle.std.specs.List.{flat_map};
+ghost use Rattle.mls_model.specs.Run.{replies, run, step};
+ghost use Rattle.mls_cli_text.specs.Ends.{AppendsPart, write_failed};
+ghost use Rattle.mls_cli_replay.specs.Replay.{StopsAt, all_met, entry_text, event_entries, events_of, expectation, expectations_of, expected_entries, is_met, reply_entries};
+
+use crate::line::ReplayLine;
+use crate::reply::reply_text;
+use mls_model::Reply;
+use mls_cli_recording::Recorded;
+use mls_suite::Suite;
+use mls_cli_text::{Fault, Output, print};
+use mls_world::World;
+use std::alloc::{AllocError, Global};
+
+/// Whether the reply is as expected.
+fn is_met(alloc: Global, reply: Reply, expect: Option<&str>) -> Result<bool, AllocError>
+    ensures { IfOk result (λ met. met ≡ is_met reply (option_map (λ t. t.now) expect.entry)) }
+{
+    match expect {
+        Some(text) => {
+            let said = reply_text(alloc, reply)?;
+            Ok(text.as_bytes() == said.as_bytes())
+        }
+        None => Ok(true),
+    }
+}
+
+/// Prints what was expected.
+fn print_expected<O: Output>(
+    alloc: Global,
+    event: usize,
+    expect: Option<&str>,
+    out: &mut O,
+) -> Result<(), Fault>
+    ensures whole { OnOk result (Appends (O.contents out.old) (O.contents out.new) (flat_map entry_text (expected_entries event (option_map (λ t. t.now) expect.entry)))) }
+    ensures part { OnErr result (AppendsPart (O.contents out.old) (O.contents out.new) (flat_map entry_text (expected_entries event (option_map (λ t. t.now) expect.entry)))) }
+    ensures fault { O.failed out.new ≡ write_failed (O.failed out.old) result }
+    ensures written { IfErr result (λ e. e ≢ Fault.Read) }
+{
+    match expect {
+        Some(text) => print(alloc, &ReplayLine::Expected { event, text }, out),
+        None => Ok(()),
+    }
+}
+
+/// Prints the reply to an event, and what was expected instead; it answers whether the reply is as expected.
+fn print_reply<O: Output>(
+    alloc: Global,
+    event: usize,
+    reply: Reply,
+    expect: Option<&str>,
+    out: &mut O,
+) -> Result<bool, Fault>
+    ensures met { IfOk result (λ met. met ≡ is_met reply (option_map (λ t. t.now) expect.entry)) }
+    ensures whole { OnOk result (Appends (O.contents out.old) (O.contents out.new) (flat_map entry_text (event_entries event reply (option_map (λ t. t.now) expect.entry)))) }
+    ensures part { OnErr result (AppendsPart (O.contents out.old) (O.contents out.new) (flat_map entry_text (event_entries event reply (option_map (λ t. t.now) expect.entry)))) }
+    ensures fault { O.failed out.new ≡ write_failed (O.failed out.old) result }
+    ensures written { IfErr result (λ e. e ≢ Fault.Read) }
+{
+    let met = is_met(alloc, reply, expect)?;
+    print(alloc, &ReplayLine::Reply { event, reply }, out)?;
+    if met {
+        return Ok(true);
+    }
+    print_expected(alloc, event, expect, out)?;
+    Ok(false)
+}
+
+/// Runs an event, and prints what is said of it.
+fn play_event<S: Suite, O: Output>(
+    alloc: Global,
+    world: &mut World<S>,
+    event: usize,
+    recorded: &Recorded,
+    out: &mut O,
+) -> Result<bool, Fault>
+    ensures world { OnOk result (world.new ≡ (step S.crypto world.old recorded.now.event).1) }
+    ensures met { IfOk result (λ met. met ≡ is_met (step S.crypto world.old recorded.now.event).0 (expectation recorded.now)) }
+    ensures whole { OnOk result (Appends (O.contents out.old) (O.contents out.new) (flat_map entry_text (event_entries event (step S.crypto world.old recorded.now.event).0 (expectation recorded.now)))) }
+    ensures part { OnErr result (AppendsPart (O.contents out.old) (O.contents out.new) (flat_map entry_text (event_entries event (step S.crypto world.old recorded.now.event).0 (expectation recorded.now)))) }
+    // At a fault the event has run, or it has not.
+    ensures stopped { OnErr result ((world.new ≡ world.old) ⊎ (world.new ≡ (step S.crypto world.old recorded.now.event).1)) }
+    ensures fault { O.failed out.new ≡ write_failed (O.failed out.old) result }
+    ensures written { IfErr result (λ e. e ≢ Fault.Read) }
+{
+    let reply = world.step(&recorded.event)?;
+    print_reply(alloc, event, reply, recorded.expect.as_deref(), out)
+}
+
+/// Runs the events, and prints what is said of each before the next one runs; it answers whether all replies are as
+/// expected.
+pub fn play_events<S: Suite, O: Output>(
+    alloc: Global,
+    world: &mut World<S>,
+    recorded: &[Recorded],
+    out: &mut O,
+) -> Result<bool, Fault>
+    ensures world { OnOk result (world.new ≡ run S.crypto world.old (events_of recorded.now)) }
+    ensures met { IfOk result (λ met. met ≡ all_met (replies S.crypto world.old (events_of recorded.now)) (expectations_of recorded.now)) }
+    ensures whole { OnOk result (Appends (O.contents out.old) (O.contents out.new) (flat_map entry_text (reply_entries 0 (replies S.crypto world.old (events_of recorded.now)) (expectations_of recorded.now)))) }
+    ensures part { OnErr result (AppendsPart (O.contents out.old) (O.contents out.new) (flat_map entry_text (reply_entries 0 (replies S.crypto world.old (events_of recorded.now)) (expectations_of recorded.now)))) }
+    // At a fault all events before one are said, a part of that one is, and none behind it has run.
+    ensures stopped { OnErr result (StopsAt S.crypto world.old recorded.now (O.contents out.old) (O.contents out.new) world.new) }
+    ensures fault { O.failed out.new ≡ write_failed (O.failed out.old) result }
+    ensures written { IfErr result (λ e. e ≢ Fault.Read) }
+{
+    let mut all_met = true;
+    for (event, one) in recorded.iter().enumerate() {
+        let met = play_event(alloc, world, event, one, out)?;
+        all_met = all_met && met;
+    }
+    Ok(all_met)
+}

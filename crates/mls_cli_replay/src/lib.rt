@@ -1,0 +1,94 @@
+//! Recordings of groups, run event by event: what `mls replay` prints of a file.
+#![tactic(auto)]
+
+mod events;
+mod line;
+mod members;
+mod reply;
+
+ghost use Rattle.std.specs.Prelude.{◌≡◌, ◌≢◌, ◌≤◌, IfOk, IfErr};
+ghost use Rattle.mls_cli_text.specs.Ends.{write_failed};
+ghost use Rattle.mls_cli_text.specs.Page.{Prints, ending_status, printout, refused};
+ghost use Rattle.mls_cli_replay.specs.Alike.{OneReplay};
+ghost use Rattle.mls_cli_replay.specs.Replay.{IsRefusal, IsReplay, PrintsOne, ending_by, entry_text, played_page};
+
+use events::play_events;
+pub use line::ReplayLine;
+use members::print_members;
+use mls_cli_json::JsonError;
+use mls_cli_recording::{Recorded, laws_of_calls, recording};
+use mls_suite::Suite;
+use mls_cli_text::{Fault, Output, Page, print_page, refused_page};
+use mls_world::World;
+use std::alloc::Global;
+
+/// The exit status, by whether all replies are as expected.
+fn status_of(met: bool) -> u8
+    ensures status { result ≡ ending_status (ending_by met) }
+    ensures small { result ≤ 1 }
+{
+    if met { 0 } else { 1 }
+}
+
+/// Runs the events in a new world, prints the lines of each before the next one runs, and in the end a line for each
+/// member. It answers the exit status: 1 where a reply isn't as expected, else 0.
+fn play<S: Suite, O: Output>(alloc: Global, recorded: &[Recorded], out: &mut O) -> Result<u8, Fault>
+    ensures prints { Prints (O.contents out.old) (O.contents out.new) result (printout entry_text (played_page S.crypto recorded.now)) }
+    ensures status { IfOk result (λ status. status ≤ 1) }
+    ensures fault { O.failed out.new ≡ write_failed (O.failed out.old) result }
+    ensures written { IfErr result (λ e. e ≢ Fault.Read) }
+{
+    let mut world = World::<S>::new(alloc);
+    let met = play_events(alloc, &mut world, recorded, out)?;
+    print_members(alloc, &world, recorded.len(), out)?;
+    Ok(status_of(met))
+}
+
+/// Prints that a file is refused, and answers the exit status.
+fn print_refusal<O: Output>(alloc: Global, number: u8, out: &mut O) -> Result<u8, Fault>
+    ensures prints { Prints (O.contents out.old) (O.contents out.new) result (printout entry_text (refused number)) }
+    ensures status { IfOk result (λ status. status ≤ 1) }
+    ensures fault { O.failed out.new ≡ write_failed (O.failed out.old) result }
+    ensures written { IfErr result (λ e. e ≢ Fault.Read) }
+{
+    let page: Page<ReplayLine<'_>> = refused_page(alloc, number);
+    print_page(alloc, &page, out)
+}
+
+/// The same of a file that isn't read.
+fn print_error<O: Output>(alloc: Global, error: JsonError, out: &mut O) -> Result<u8, Fault>
+    ensures prints { PrintsOne (IsRefusal error) (O.contents out.old) (O.contents out.new) result }
+    ensures status { IfOk result (λ status. status ≤ 1) }
+    ensures fault { O.failed out.new ≡ write_failed (O.failed out.old) result }
+    ensures written { IfErr result (λ e. e ≢ Fault.Read) }
+{
+    match error {
+        JsonError::OutOfMemory => Err(Fault::OutOfMemory),
+        JsonError::NotHex => print_refusal(alloc, 8, out),
+        JsonError::BadJson => print_refusal(alloc, 9, out),
+    }
+}
+
+/// Prints the replay of a recording, or the refusal of the file (9, 8), and answers the exit status. The whole file is read
+/// before the first event runs, and each event's lines are printed before the next one runs, so that after a failed write
+/// no further event does.
+pub fn replay<S: Suite, O: Output>(alloc: Global, file: &[u8], out: &mut O) -> Result<u8, Fault>
+    // The output grows by the replay's text, or on a fault by less than that.
+    ensures prints { PrintsOne (IsReplay S.crypto file.now) (O.contents out.old) (O.contents out.new) result }
+    ensures status { IfOk result (λ status. status ≤ 1) }
+    // A fault of the output comes just where a write fails.
+    ensures fault { O.failed out.new ≡ write_failed (O.failed out.old) result }
+    ensures written { IfErr result (λ e. e ≢ Fault.Read) }
+{
+    match recording(alloc, file) {
+        Ok(recorded) => play::<S, O>(alloc, recorded.as_slice(), out),
+        Err(error) => print_error(alloc, error, out),
+    }
+}
+
+/// A file has one replay at most, so the one that `replay` prints is the one that it has. The function does nothing.
+pub fn laws_of_replays()
+    ensures one { OneReplay }
+{
+    laws_of_calls();
+}

@@ -1,0 +1,53 @@
+//! The texts of replies.
+
+ghost use Rattle.std.specs.Prelude.{◌≡◌, ◌++◌, IfOk, codes, string_bytes};
+ghost use Rattle.std.specs.Fmt.{decimal};
+ghost use Rattle.mls_cli_replay.specs.Reply.{effect_text, reply_text};
+
+use mls_model::{Effect, Reply};
+use mls_cli_text::refusal_name;
+use std::alloc::{AllocError, Global};
+
+/// What a delivered message did to the member.
+fn effect_text(alloc: Global, effect: Effect) -> Result<String, AllocError>
+    ensures { IfOk result (λ text. string_bytes text ≡ effect_text effect) }
+{
+    match effect {
+        Effect::Proposed { .. } => String::from_str(alloc, "proposed"),
+        Effect::Known { .. } => String::from_str(alloc, "known"),
+        Effect::Advanced { epoch } => format!(in alloc; "advanced to {epoch}"),
+        Effect::Removed => String::from_str(alloc, "removed"),
+    }
+}
+
+fn refusal_text(alloc: Global, number: u8, name: &str) -> Result<String, AllocError>
+    ensures { IfOk result (λ text. string_bytes text ≡ codes "refused " ++ (decimal number ++ (codes " " ++ name.now))) }
+{
+    format!(in alloc; "refused {number} {name}")
+}
+
+/// The text of a reply.
+pub fn reply_text(alloc: Global, reply: Reply) -> Result<String, AllocError>
+    ensures { IfOk result (λ text. string_bytes text ≡ reply_text reply) }
+{
+    match reply {
+        Reply::Candidate { candidate, message } => {
+            format!(in alloc; "candidate {candidate}, message {message}")
+        }
+        Reply::Created { member } => format!(in alloc; "member {member}"),
+        Reply::Proposal { message } => format!(in alloc; "message {message}"),
+        Reply::Commit {
+            message,
+            welcome: None,
+        } => format!(in alloc; "message {message}"),
+        Reply::Commit {
+            message,
+            welcome: Some(welcome),
+        } => format!(in alloc; "message {message}, welcome {welcome}"),
+        Reply::Dropped { pending: true } => String::from_str(alloc, "dropped"),
+        Reply::Dropped { pending: false } => String::from_str(alloc, "nothing pending"),
+        Reply::Delivered { effect } => effect_text(alloc, effect),
+        Reply::Joined { member, epoch } => format!(in alloc; "member {member} at epoch {epoch}"),
+        Reply::Refused { number } => refusal_text(alloc, number, refusal_name(number)),
+    }
+}

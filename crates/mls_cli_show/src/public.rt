@@ -1,0 +1,214 @@
+//! The lines of public messages.
+
+ghost use Rattle.std.specs.Prelude.{◌≡◌, ◌++◌, ◌∷◌, [], codes, map, length, option_map, IfOk};
+ghost use Rattle.mls_cli_text.specs.Text.{bytes, entry, entry_of, number, shown_by, word};
+ghost use Rattle.mls_cli_show.specs.Public.{body_entries, counted, leaf_index, path_nodes, proposal_entries, public_message_entries};
+
+use crate::package::{key_package_lines, leaf_lines};
+use mls_leaf::{Bytes, Proposal};
+use mls_cli_text::{Field, Line, ended, joined, line_of};
+use mls_types::{Commit, PublicMessage, Sender, SignedBody, SignedContent};
+use std::alloc::{AllocError, Global};
+
+/// A count, or `none`.
+pub fn count_field(count: Option<usize>) -> Field
+    ensures { shown_by result ≡ counted count }
+{
+    match count {
+        Some(count) => Field::Number(count as u64),
+        None => Field::Word("none"),
+    }
+}
+
+fn index_of(sender: &Sender) -> u32
+    ensures { result ≡ leaf_index sender.now }
+{
+    match sender {
+        Sender::Member(index) => *index,
+    }
+}
+
+fn frame_lines(
+    alloc: Global,
+    group_id: Bytes,
+    epoch: u64,
+    sender: Sender,
+    authenticated_data: Bytes,
+) -> Result<Vec<Line>, AllocError>
+    ensures { IfOk result (λ lines. map entry_of lines.items
+        ≡ entry [] (codes "group_id") (bytes group_id)
+        ∷ entry [] (codes "epoch") (number epoch)
+        ∷ entry [] (codes "sender") (number (leaf_index sender))
+        ∷ entry [] (codes "authenticated_data") (bytes authenticated_data) ∷ []) }
+{
+    let sender = index_of(&sender);
+    Ok(vec![in alloc;
+        line_of("", "group_id", Field::Bytes(group_id)),
+        line_of("", "epoch", Field::Number(epoch)),
+        line_of("", "sender", Field::Number(u64::from(sender))),
+        line_of("", "authenticated_data", Field::Bytes(authenticated_data)),
+    ]?)
+}
+
+/// The lines behind a line of one word.
+fn behind_word(
+    alloc: Global,
+    name: &'static str,
+    value: &'static str,
+    lines: Vec<Line>,
+) -> Result<Vec<Line>, AllocError>
+    ensures { IfOk result (λ all. map entry_of all.items ≡ entry [] name.entry.now (word value.entry.now) ∷ map entry_of lines.items) }
+{
+    let front = vec![in alloc; line_of("", name, Field::Word(value))]?;
+    joined(front, lines)
+}
+
+fn remove_lines(alloc: Global, removed: u32) -> Result<Vec<Line>, AllocError>
+    ensures { IfOk result (λ lines. map entry_of lines.items
+        ≡ entry [] (codes "proposal") (word (codes "remove")) ∷ entry [] (codes "removed") (number removed) ∷ []) }
+{
+    Ok(vec![in alloc;
+        line_of("", "proposal", Field::Word("remove")),
+        line_of("", "removed", Field::Number(u64::from(removed))),
+    ]?)
+}
+
+/// The lines of a proposal.
+#[tactic(auto, unfolding(crate::specs::Public::proposal_entries))]
+pub fn proposal_lines(alloc: Global, proposal: Proposal) -> Result<Vec<Line>, AllocError>
+    ensures { IfOk result (λ lines. map entry_of lines.items ≡ proposal_entries proposal) }
+{
+    match proposal {
+        Proposal::Add(key_package) => {
+            let lines = key_package_lines(alloc, "add.", key_package)?;
+            behind_word(alloc, "proposal", "add", lines)
+        }
+        Proposal::Update(leaf_node) => {
+            let lines = leaf_lines(alloc, "", leaf_node)?;
+            behind_word(alloc, "proposal", "update", lines)
+        }
+        Proposal::Remove(removed) => remove_lines(alloc, removed),
+    }
+}
+
+fn path_count(commit: &Commit) -> Option<usize>
+    ensures { result ≡ path_nodes commit.now }
+{
+    match &commit.path {
+        Some(path) => Some(path.nodes.as_slice().len()),
+        None => None,
+    }
+}
+
+fn commit_lines(
+    alloc: Global,
+    proposals: usize,
+    nodes: Option<usize>,
+    signature: Bytes,
+    confirmation_tag: Bytes,
+) -> Result<Vec<Line>, AllocError>
+    ensures { IfOk result (λ lines. map entry_of lines.items
+        ≡ entry [] (codes "content") (word (codes "commit"))
+        ∷ entry [] (codes "proposals") (number proposals)
+        ∷ entry [] (codes "path_nodes") (counted nodes)
+        ∷ entry [] (codes "signature") (bytes signature)
+        ∷ entry [] (codes "confirmation_tag") (bytes confirmation_tag) ∷ []) }
+{
+    Ok(vec![in alloc;
+        line_of("", "content", Field::Word("commit")),
+        line_of("", "proposals", Field::Number(proposals as u64)),
+        line_of("", "path_nodes", count_field(nodes)),
+        line_of("", "signature", Field::Bytes(signature)),
+        line_of("", "confirmation_tag", Field::Bytes(confirmation_tag)),
+    ]?)
+}
+
+fn application_lines(
+    alloc: Global,
+    content: Bytes,
+    signature: Bytes,
+) -> Result<Vec<Line>, AllocError>
+    ensures { IfOk result (λ lines. map entry_of lines.items
+        ≡ entry [] (codes "content") (word (codes "application"))
+        ∷ entry [] (codes "data") (bytes content)
+        ∷ entry [] (codes "signature") (bytes signature) ∷ []) }
+{
+    Ok(vec![in alloc;
+        line_of("", "content", Field::Word("application")),
+        line_of("", "data", Field::Bytes(content)),
+        line_of("", "signature", Field::Bytes(signature)),
+    ]?)
+}
+
+fn proposed_lines(
+    alloc: Global,
+    proposal: Proposal,
+    signature: Bytes,
+) -> Result<Vec<Line>, AllocError>
+    ensures { IfOk result (λ lines. map entry_of lines.items
+        ≡ entry [] (codes "content") (word (codes "proposal"))
+        ∷ (proposal_entries proposal ++ entry [] (codes "signature") (bytes signature) ∷ [])) }
+{
+    let lines = proposal_lines(alloc, proposal)?;
+    let lines = behind_word(alloc, "content", "proposal", lines)?;
+    ended(lines, line_of("", "signature", Field::Bytes(signature)))
+}
+
+fn body_lines(alloc: Global, body: SignedBody, signature: Bytes) -> Result<Vec<Line>, AllocError>
+    ensures { IfOk result (λ lines. map entry_of lines.items ≡ body_entries body signature) }
+{
+    match body {
+        SignedBody::Application(content) => application_lines(alloc, content, signature),
+        SignedBody::Proposal(proposal) => proposed_lines(alloc, proposal, signature),
+        SignedBody::Commit {
+            commit,
+            confirmation_tag,
+        } => {
+            let proposals = commit.proposals.as_slice().len();
+            commit_lines(
+                alloc,
+                proposals,
+                path_count(&commit),
+                signature,
+                confirmation_tag,
+            )
+        }
+    }
+}
+
+fn content_lines(alloc: Global, content: SignedContent) -> Result<Vec<Line>, AllocError>
+    ensures { IfOk result (λ lines. map entry_of lines.items
+        ≡ entry [] (codes "group_id") (bytes content.group_id)
+        ∷ entry [] (codes "epoch") (number content.epoch)
+        ∷ entry [] (codes "sender") (number (leaf_index content.sender))
+        ∷ entry [] (codes "authenticated_data") (bytes content.authenticated_data)
+        ∷ body_entries content.body content.signature) }
+{
+    let SignedContent {
+        group_id,
+        epoch,
+        sender,
+        authenticated_data,
+        body,
+        signature,
+    } = content;
+    let body = body_lines(alloc, body, signature)?;
+    let frame = frame_lines(alloc, group_id, epoch, sender, authenticated_data)?;
+    joined(frame, body)
+}
+
+/// The lines of a public message, from its group's identifier on.
+#[tactic(auto, unfolding(crate::specs::Public::public_message_entries))]
+pub fn public_message_lines(alloc: Global, message: PublicMessage) -> Result<Vec<Line>, AllocError>
+    ensures { IfOk result (λ lines. map entry_of lines.items ≡ public_message_entries message) }
+{
+    let PublicMessage {
+        content,
+        membership_tag,
+    } = message;
+    let lines = content_lines(alloc, content)?;
+    ended(
+        lines,
+        line_of("", "membership_tag", Field::Bytes(membership_tag)),
+    )
+}

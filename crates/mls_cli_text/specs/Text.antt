@@ -1,0 +1,62 @@
+-- A text of lines `name: value`.
+use Rattle.std.specs.Prelude.{◌==◌, length, if◌then◌else◌, ◌/◌, ◌%◌, ℕ, List, [], ◌∷◌, ◌++◌, codes}
+use Rattle.std.specs.List.{join_by}
+use Rattle.std.specs.Fmt.{decimal}
+use Rattle.hex.specs.Hex.{encode_lower}
+use Rattle.mls_wire.specs.Names.{refusal_name}
+use Rattle.mls_cli_text.specs.declared.text.Field.{Field}
+use Rattle.mls_cli_text.specs.declared.text.Field.TheVariants as field
+use Rattle.mls_cli_text.specs.declared.text.Line.{Line}
+
+-- what stands behind a name: bytes, a list of uint16, a uint16 in hex, a number, a word, or a
+-- refusal, by its number
+pub data Shown : Type 0 where
+  bytes : List ℕ → Shown
+  numbers : List ℕ → Shown
+  digits : ℕ → Shown
+  number : ℕ → Shown
+  word : List ℕ → Shown
+  refusal : ℕ → Shown
+
+-- a line: its name, and what stands behind it
+pub record Entry : Type 0 where
+  pub name : List ℕ
+  pub shown : Shown
+
+-- the name behind a prefix
+abbrev pub entry : List ℕ → List ℕ → Shown → Entry
+entry prefix name shown = record { name = prefix ++ name; shown = shown }
+
+-- a list as its text, or `-` where it is empty
+abbrev pub or_dash : {X : Type 0} → (List X → List ℕ) → List X → List ℕ
+or_dash text xs = if length xs == 0 then codes "-" else text xs
+
+-- a uint16 as four hex digits
+abbrev pub four_digits : ℕ → List ℕ
+four_digits n = encode_lower (n / 256 ∷ n % 256 ∷ [])
+
+-- byte strings in lower-case hex, lists of uint16 as four digits each with commas between them
+abbrev pub shown_text : Shown → List ℕ
+shown_text (bytes bs) = or_dash encode_lower bs
+shown_text (numbers ns) = or_dash (join_by four_digits (codes ",")) ns
+shown_text (digits n) = four_digits n
+shown_text (number n) = decimal n
+shown_text (word w) = w
+shown_text (refusal n) = decimal n ++ codes " " ++ refusal_name n
+
+-- a name, a colon and a space, what stands behind, and a line feed
+abbrev pub line_text : Entry → List ℕ
+line_text e = ((e.name ++ codes ": ") ++ shown_text e.shown) ++ codes "\n"
+
+-- ---- the same, of the code's values
+
+abbrev pub shown_by : Field → Shown
+shown_by (field.Bytes bs) = bytes bs
+shown_by (field.Numbers ns) = numbers ns
+shown_by (field.Digits n) = digits n
+shown_by (field.Number n) = number n
+shown_by (field.Word w) = word w.now
+shown_by (field.Refusal n) = refusal n
+
+unfoldable pub entry_of : Line → Entry
+entry_of l = record { name = l.prefix.now ++ l.name.now; shown = shown_by l.field }

@@ -1,9 +1,0 @@
-use Rattle.std.proofs.Common.{◌∙◌}
-use Rattle.mls_events.proofs.Readings.{list_whole, no_list_read}
-use Rattle.mls_events.proofs.deliveries.list_in.Goals as goal
-
-pub returns-in-Ok : goal.returns-in-Ok
-returns-in-Ok c = list_whole (λ v. v.items) c.args.bytes.now _ c.list_said.result c.in-Ok.ensures.read c.list_said.ensures
-
-pub returns-in-Err : goal.returns-in-Err
-returns-in-Err c = c.new.ensures.items ∙ no_list_read c.args.bytes.now _ c.in-Err.ensures.read

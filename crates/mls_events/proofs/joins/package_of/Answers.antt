@@ -1,5 +1,0 @@
-use Rattle.mls_events.proofs.Readings.{package_rest}
-use Rattle.mls_events.proofs.joins.package_of.Goals as goal
-
-pub returns : goal.returns
-returns g c = package_rest c.message-message.result.now c.args.candidate.now.offered c.message-message.ensures

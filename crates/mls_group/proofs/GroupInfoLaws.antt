@@ -1,8 +1,0 @@
--- What is signed of a group info is all of its spelling in front of the signature.
-use Rattle.std.proofs.Common.{append_assoc}
-use Rattle.mls_group.specs.GroupInfo.{group_info}
-use Rattle.mls_group.specs.GroupInfoLaws.{GroupInfoIsSpelled}
-
-pub group_info-spelled : GroupInfoIsSpelled
-unfolding group_info
-group_info-spelled v = simp append_assoc

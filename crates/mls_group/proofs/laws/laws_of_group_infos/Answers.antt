@@ -1,5 +1,0 @@
-use Rattle.mls_group.proofs.GroupInfoLaws.{group_info-spelled}
-use Rattle.mls_group.proofs.laws.laws_of_group_infos.Goals as goal
-
-pub returns : goal.returns
-returns c = group_info-spelled

@@ -1,5 +1,0 @@
-use Rattle.mls_replay.proofs.Pages.{one_replay}
-use Rattle.mls_replay.proofs.laws_of_replays.Goals as goal
-
-pub returns : goal.returns
-returns c = record { one = one_replay c.laws_of_calls.ensures.run c.laws_of_calls.ensures.replies }

@@ -1,5 +1,0 @@
-use Rattle.mls_runs.proofs.laws_of_events.Goals as goal
-use Rattle.mls_runs.proofs.Runs.{empty_good, events_keep_good, runs_keep_good}
-
-pub returns : goal.returns
-returns c = record { empty = empty_good; events = events_keep_good; runs = runs_keep_good }

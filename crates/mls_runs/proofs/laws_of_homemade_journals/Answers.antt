@@ -1,5 +1,0 @@
-use Rattle.mls_runs.proofs.laws_of_homemade_journals.Goals as goal
-use Rattle.mls_runs.proofs.Homemade.{homemade_is_made, made_is_homemade}
-
-pub returns : goal.returns
-returns c = record { made = homemade_is_made; homemade = made_is_homemade }

@@ -1,6 +1,0 @@
-use Rattle.mls_runs.proofs.laws_of_members.Goals as goal
-use Rattle.mls_runs.proofs.Names.{names_stable}
-use Rattle.mls_runs.proofs.Leaves.{own_leaves}
-
-pub returns : goal.returns
-returns c = record { names = names_stable; leaves = own_leaves }

@@ -1,9 +1,0 @@
-pub mod Lists
-pub mod Homemade
-pub mod Past
-pub mod Names
-pub mod Leaves
-pub mod Secrets
-pub mod Runs
-pub mod Headlines
-pub mod Reachable

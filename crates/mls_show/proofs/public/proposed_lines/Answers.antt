@@ -1,4 +1,0 @@
-use Rattle.mls_show.proofs.public.proposed_lines.Goals as goal
-
-pub returns : goal.returns
-returns c = rw (c.in_ok-lines-2.ensures, c.in_ok-lines.ensures, c.line_of.ensures) at c.ended.ensures

@@ -1,8 +1,0 @@
--- The suite to copy is lawful.
-use Rattle.std.specs.Prelude.{◌≡◌, ℕ, List, length, replicate}
-use Rattle.std.proofs.lemmas.List.{take_at}
-use Rattle.mls_suite_uses.specs.Bare.{fitted}
-
--- and a key of 32 bytes stays as it is
-pub fitted_key : (xs : List ℕ) → length xs ≡ 32 → fitted xs ≡ xs
-fitted_key xs e = take_at xs (replicate 32 0) 32 e

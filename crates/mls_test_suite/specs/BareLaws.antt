@@ -1,0 +1,40 @@
+-- The suite to copy is lawful.
+use Rattle.std.specs.Prelude.{◌≡◌, ℕ, Bool, true, false, List, ◌++◌, length, replicate, is_some, if◌then◌else◌, Some, None, refl}
+use Rattle.std.proofs.Common.{arith, length-append, lit<}
+use Rattle.std.proofs.lemmas.List.{length-replicate, length-take-le}
+use Rattle.mls_suite.specs.Crypto.{Lawful, Sealing}
+use Rattle.mls_test_suite.specs.Bare.{fitted, is_key, in_the_open, bare_seal, bare}
+
+-- each list is brought to 32
+pub length-fitted : (xs : List ℕ) → length (fitted xs) ≡ 32
+length-fitted xs = length-take-le 32 (xs ++ replicate 32 0) (omega (arith, length-append xs (replicate 32 0), length-replicate {A = ℕ} 32 0))
+
+is_fitted : (sk : List ℕ) → is_key (fitted sk) ≡ true
+is_fitted sk = rw (length-fitted sk) refl
+
+some_where : (b : Bool) (s : Sealing) → is_some (if b then Some s else None) ≡ b
+some_where true s = refl
+some_where false s = refl
+
+seals : (pk pt : List ℕ) → is_some (bare_seal pk pt) ≡ is_key pk
+unfolding bare_seal
+seals pk pt = some_where (is_key pk) (in_the_open pt)
+
+opened : (sk pt : List ℕ) (s : Sealing) → bare_seal (fitted sk) pt ≡ Some s → Some s.ct ≡ Some pt
+unfolding bare_seal
+opened sk pt s e =
+    let made : Some (in_the_open pt) ≡ Some s = rw (is_fitted sk) at e in
+    (let same : in_the_open pt ≡ s = cc in rw (← same) refl)
+
+pub bare_lawful : Lawful bare
+bare_lawful = record {
+  unseals = λ sk info pt rnd s e. opened sk pt s e;
+  verifies = λ sk m. refl;
+  opens = λ key nonce aad pt. refl;
+  public_ok = is_fitted;
+  seals = λ pk info pt rnd. seals pk pt;
+  public_short = λ sk. omega (arith, length-fitted sk);
+  sig_public_short = λ sk. omega (arith, length-fitted sk);
+  sign_short = λ sk m. omega arith;
+  number_short = lit< tt;
+}

@@ -1,0 +1,101 @@
+ghost use Rattle.std.specs.Prelude.{◌≡◌, IfOk, vec_len};
+ghost use Rattle.mls_treemath.specs.Paths.{nodes_in};
+
+use mls_tree_array::{
+    alternates, filtered_path, first_blank, has_last, has_leaf, height_for, is_reached,
+    is_reached_at, leaf, member_count, pad, resolution, resolution_at, to_nodes,
+};
+use mls_leaf::{Codec, LeafError, LeafNode, Node, ParentNode};
+use mls_tree_slot::Slot;
+use std::alloc::Global;
+use std::test::*;
+
+const LEAF: [u8; 25] = [
+    1, 0xbb, 1, 0xcc, 0, 1, 3, 0x62, 0x6f, 0x62, 2, 0, 1, 2, 0xf0, 1, 0, 0, 2, 0, 1, 2, 0, 1, 0xdd,
+];
+
+// A parent that lists leaf 1, and one that lists none.
+const X: [u8; 8] = [1, 0xaa, 0, 4, 0, 0, 0, 1];
+
+const Y: [u8; 4] = [1, 0xbb, 0, 0];
+
+// A node of the example of RFC 9420, 4.1.1: X[B] over A, B, a blank leaf and D, and Y over E and F, beside a
+// blank leaf and H.
+fn example_node(alloc: Global, x: usize) -> Result<Slot, LeafError> {
+    match x {
+        0 | 2 | 6 | 8 | 10 | 14 => Ok(Slot::of(
+            alloc,
+            Node::Leaf(LeafNode::decode(alloc, &LEAF)?),
+        )?),
+        3 => Ok(Slot::of(alloc, Node::Parent(ParentNode::decode(alloc, &X)?))?),
+        9 => Ok(Slot::of(alloc, Node::Parent(ParentNode::decode(alloc, &Y)?))?),
+        _ => Ok(Slot::blank()),
+    }
+}
+
+fn example(alloc: Global) -> Result<Vec<Slot>, LeafError>
+    ensures { IfOk result (λ nodes. vec_len nodes ≡ nodes_in 3) }
+{
+    let mut nodes = Vec::new(alloc);
+    for x in 0..15 {
+        let node = example_node(alloc, x)?;
+        nodes.push(node)?;
+    }
+    Ok(nodes)
+}
+
+#[test]
+fn resolutions_of_the_example(rt: HostRuntime) -> Result<(), Fail> {
+    let nodes = example(rt.alloc())?;
+    let mut out = Vec::new(rt.alloc());
+    resolution(&nodes, 3, 0, &mut out)?;
+    assert_eq!(rt; out.as_slice(), [3, 2, 9, 14].as_slice());
+    out.clear();
+    resolution_at(&nodes, 3, 0, 3, &mut out)?;
+    resolution_at(&nodes, 3, 0, 4, &mut out)?;
+    resolution_at(&nodes, 3, 0, 15, &mut out)?;
+    assert_eq!(rt; out.as_slice(), [3, 2].as_slice());
+    assert!(rt; is_reached_at(&nodes, 3, 0, 3));
+    assert!(rt; !is_reached_at(&nodes, 3, 0, 4));
+    assert!(rt; !is_reached_at(&nodes, 3, 0, 15));
+    Ok(())
+}
+
+#[test]
+fn paths_of_the_example(rt: HostRuntime) -> Result<(), Fail> {
+    let nodes = example(rt.alloc())?;
+    let mut out = Vec::new(rt.alloc());
+    for leaf in [0, 3, 7] {
+        filtered_path(&nodes, 3, 0, leaf, &mut out)?;
+    }
+    assert_eq!(rt; out.as_slice(), [1, 3, 7, 3, 7, 11, 7].as_slice());
+    Ok(())
+}
+
+#[test]
+fn members_of_the_example(rt: HostRuntime) -> Result<(), Fail> {
+    let nodes = example(rt.alloc())?;
+    assert_eq!(rt; first_blank(&nodes, 3, 0, 0), Some(2));
+    assert!(rt; has_leaf(&nodes, 3));
+    assert!(rt; is_reached(&nodes, 3));
+    assert_eq!(rt; member_count(&nodes, 3), 6);
+    for (i, taken) in [(0, true), (2, false), (7, true), (8, false)] {
+        assert_eq!(rt; leaf(&nodes, 3, i).is_some(), taken, "at {i}");
+    }
+    Ok(())
+}
+
+#[test]
+fn lists_from_outside(rt: HostRuntime) -> Result<(), Fail> {
+    let mut nodes = example(rt.alloc())?;
+    assert!(rt; has_last(&nodes));
+    assert!(rt; alternates(&nodes));
+    for (len, height) in [(0, 0), (1, 0), (2, 1), (3, 1), (4, 2), (7, 2), (8, 3)] {
+        assert_eq!(rt; height_for(len), height, "at {len}");
+    }
+    pad(&mut nodes, 31)?;
+    assert_eq!(rt; nodes.len(), 31);
+    assert!(rt; !has_last(&nodes));
+    assert_eq!(rt; to_nodes(rt.alloc(), &nodes)?.len(), 15);
+    Ok(())
+}

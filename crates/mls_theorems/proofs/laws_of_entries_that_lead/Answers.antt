@@ -1,0 +1,5 @@
+use Rattle.mls_theorems.proofs.laws_of_steps.Goals as goal
+use Rattle.mls_theorems.proofs.Makes.{make_did}
+
+pub returns : goal.returns
+returns c = record { made = make_did }

@@ -1,0 +1,239 @@
+-- A merged path, by the root and its sides.
+use Rattle.std.proofs.Common.{◌≡◌, ℕ, ◌+◌, ◌-◌, ◌/◌, ◌<◌, ◌≤◌, Bool, true, false, cond, List, [], ◌∷◌, ◌++◌, length, get_or, take, drop, set, reverse, Option, Some, None, refl, sym, ◌∙◌, ap, arith, nat_lt, lt-ltb, le-ltb}
+use Rattle.std.proofs.lemmas.Bool.{cond-true, cond-false, cond_both}
+use Rattle.std.proofs.lemmas.List.{take-append-drop, drop_more, drop_all, reverse-append}
+use Rattle.std.specs.Option.{option_to_list}
+use borrow.Rule.Slice.PartMut.{put_mid}
+use mir.Val.{bool_byte}
+use Rattle.mls_leaf.specs.Parent.{Parent, rises, rises_from}
+use Rattle.mls_leaf.specs.declared.leaf.LeafNode.{LeafNode}
+use Rattle.mls_leaf.specs.declared.node.Node.{Node}
+use Rattle.mls_treemath.specs.Paths.{nodes_in}
+use Rattle.mls_tree_model.specs.Term.{Term, Leaf, Branch, width}
+use Rattle.mls_tree_model.specs.Inputs.{sibling_hash}
+use Rattle.mls_tree_model.specs.Resolution.{is_reached}
+use Rattle.mls_tree_model.specs.Way.{path_length}
+use Rattle.mls_tree_model.specs.Hashes.{tree_hash, parent_hash}
+use Rattle.mls_tree_model.specs.Merge.{new_parent, keys_below, hash_below, merge, path_hash, parent_beside, keys_beside, hash_beside}
+use Rattle.mls_tree_model.specs.Arrays.{leaf_in, parent_in, leaf_cell, parent_cell, term_of, in_order, HasMiddle}
+use Rattle.mls_tree_model.proofs.Equations.{path_length_leaf, path_length_left, path_length_right, path_hash_leaf, path_hash_left, path_hash_right, merge_leaf, merge_left, merge_right}
+use Rattle.mls_tree_model.proofs.MemberLaws.{original-none}
+use Rattle.mls_tree_array.specs.Standing.{Stands}
+use Rattle.mls_tree_model.proofs.ArrayLaws.{width-term_of}
+use Rattle.mls_tree_array.proofs.StandingLaws.{in_order-leaf}
+use Rattle.mls_tree_array.specs.Merging.{path_parents, first_if, rest_if}
+use Rattle.mls_tree_model.proofs.ArrayLaws.{term_of-zero}
+use Rattle.mls_tree_array.proofs.Parts.{split, left_of_set, right_of_set}
+use Rattle.mls_tree_array.proofs.Readings.{left_side, right_side, InParts}
+use Rattle.mls_tree_array.proofs.Standings.{half, with_left, with_right, one_set}
+
+-- ---- one parent
+
+pub rises_none : rises [] ≡ true
+unfolding rises_from
+rises_none = refl
+
+made_hash : (b : ℕ) (t : Term) (key h : List ℕ) → hash_below (Some (record { encryption_key = key; parent_hash = h; unmerged_leaves = [] })) b t h ≡ sibling_hash key h (tree_hash b t)
+unfolding parent_hash
+made_hash b t key h = ap (λ s. sibling_hash key h (tree_hash b s)) (original-none b t)
+
+made_below : (f : Bool) (b : ℕ) (t : Term) (ks more : List (List ℕ)) (key h : List ℕ) → f ≡ true → ks ≡ key ∷ more → hash_below (new_parent f ks h) b t h ≡ sibling_hash key h (tree_hash b t)
+made_below f b t ks more key h e k =
+    ap (λ g. hash_below (new_parent g ks h) b t h) e
+    ∙ ap (λ js. hash_below (new_parent true js h) b t h) k
+    ∙ made_hash b t key h
+
+-- what the last of some keys is when they are read from behind
+last_first : (ks : List (List ℕ)) (key : List ℕ) → 0 < length ks → key ≡ get_or ks (length ks - 1) key → reverse ks ≡ key ∷ reverse (take (length ks - 1) ks)
+last_first ks key some is =
+    let n : ℕ = length ks - 1 in
+    let none : drop (n + 1) ks ≡ [] = drop_all (n + 1) ks (omega arith) in
+    let behind : drop n ks ≡ key ∷ [] = drop_more ks n key (omega arith) ∙ ap (λ k. k ∷ drop (n + 1) ks) (sym is) ∙ ap (λ ys. key ∷ ys) none in
+    ap reverse (sym (take-append-drop n ks))
+    ∙ ap (λ ys. reverse (take n ks ++ ys)) behind
+    ∙ reverse-append (take n ks) (key ∷ [])
+
+pub below_last : (b : ℕ) (t : Term) (ks : List (List ℕ)) (key h : List ℕ) → is_reached b t ≡ true → 0 < length ks → key ≡ get_or ks (length ks - 1) key → hash_beside b t (reverse ks) h ≡ sibling_hash key h (tree_hash b t)
+below_last b t ks key h e some is = made_below (is_reached b t) b t (reverse ks) _ key h e (last_first ks key some is)
+
+pub below_pushed : (b : ℕ) (t : Term) (ks lower : List (List ℕ)) (key h : List ℕ) → is_reached b t ≡ true → ks ≡ lower ++ (key ∷ []) → hash_beside b t (reverse ks) h ≡ sibling_hash key h (tree_hash b t)
+below_pushed b t ks lower key h e is = made_below (is_reached b t) b t (reverse ks) _ key h e (ap reverse is ∙ reverse-append lower (key ∷ []))
+
+-- ---- reading
+
+pub bit_counts : (b : Bool) (n : ℕ) → bool_byte b + n ≡ cond b 1 0 + n
+bit_counts true n = refl
+bit_counts false n = refl
+
+pub length_no_more : (b h i : ℕ) (xs : List (Option Node)) → h ≡ 0 → path_length b (term_of h xs) i ≡ 0
+length_no_more b h i xs low =
+    ap (λ j. path_length b (term_of j xs) i) low
+    ∙ ap (λ t. path_length b t i) (term_of-zero xs)
+    ∙ path_length_leaf b (leaf_in (get_or xs 0 None)) i
+
+pub hash_no_more : (b h i : ℕ) (xs : List (Option Node)) (ks : List (List ℕ)) (g : List ℕ) → h ≡ 0 → path_hash b (term_of h xs) i ks g ≡ g
+hash_no_more b h i xs ks g low =
+    ap (λ j. path_hash b (term_of j xs) i ks g) low
+    ∙ ap (λ t. path_hash b t i ks g) (term_of-zero xs)
+    ∙ path_hash_leaf b (leaf_in (get_or xs 0 None)) i ks g
+
+parents_leaf : (b : ℕ) (v : Option LeafNode) (i : ℕ) (ks : List (List ℕ)) (g : List ℕ) → path_parents b (Leaf v) i ks g ≡ []
+unfolding path_parents
+parents_leaf b v i ks g = refl
+
+pub parents_no_more : (b h i : ℕ) (xs : List (Option Node)) (ks : List (List ℕ)) (g : List ℕ) → h ≡ 0 → path_parents b (term_of h xs) i ks g ≡ []
+parents_no_more b h i xs ks g low =
+    ap (λ j. path_parents b (term_of j xs) i ks g) low
+    ∙ ap (λ t. path_parents b t i ks g) (term_of-zero xs)
+    ∙ parents_leaf b (leaf_in (get_or xs 0 None)) i ks g
+
+module _ (b : ℕ) (c : Option Parent) (l r : Term) (i : ℕ) (ks : List (List ℕ)) (g : List ℕ) where
+  pub parents_left : i < b + width l → path_parents b (Branch c l r) i ks g ≡ option_to_list (parent_beside (b + width l) r ks g) ++ path_parents b l i (keys_beside (b + width l) r ks) (hash_beside (b + width l) r ks g)
+  unfolding path_parents
+  parents_left lt = cond-true _ _ _ (lt-ltb i (b + width l) lt)
+
+  pub parents_right : b + width l ≤ i → path_parents b (Branch c l r) i ks g ≡ option_to_list (parent_beside b l ks g) ++ path_parents (b + width l) r i (keys_beside b l ks) (hash_beside b l ks g)
+  unfolding path_parents
+  parents_right ge = cond-false _ _ _ (le-ltb i (b + width l) ge)
+
+module _ (b h m i : ℕ) (xs : List (Option Node)) (n : Option Node) (parts : InParts h m xs n) where
+  pub length_in_left : i < b + (m / 2 + 1) → path_length b (term_of h xs) i ≡ cond (is_reached (b + (m / 2 + 1)) (right_side h m xs)) 1 0 + path_length b (left_side h m xs) i
+  length_in_left lt =
+      let w = parts.left_width in
+      ap (λ t. path_length b t i) parts.is
+      ∙ path_length_left b (parent_in n) (left_side h m xs) (right_side h m xs) i (omega arith)
+      ∙ ap (λ k. cond (is_reached (b + k) (right_side h m xs)) 1 0 + path_length b (left_side h m xs) i) w
+
+  pub length_in_right : b + (m / 2 + 1) ≤ i → path_length b (term_of h xs) i ≡ cond (is_reached b (left_side h m xs)) 1 0 + path_length (b + (m / 2 + 1)) (right_side h m xs) i
+  length_in_right ge =
+      let w = parts.left_width in
+      ap (λ t. path_length b t i) parts.is
+      ∙ path_length_right b (parent_in n) (left_side h m xs) (right_side h m xs) i (omega arith)
+      ∙ ap (λ k. cond (is_reached b (left_side h m xs)) 1 0 + path_length (b + k) (right_side h m xs) i) w
+
+  module _ (ks : List (List ℕ)) (g : List ℕ) where
+    pub hash_in_left : i < b + (m / 2 + 1) → path_hash b (term_of h xs) i ks g ≡ path_hash b (left_side h m xs) i (keys_beside (b + (m / 2 + 1)) (right_side h m xs) ks) (hash_beside (b + (m / 2 + 1)) (right_side h m xs) ks g)
+    hash_in_left lt =
+        let w = parts.left_width in
+        ap (λ t. path_hash b t i ks g) parts.is
+        ∙ path_hash_left b (parent_in n) (left_side h m xs) (right_side h m xs) i ks g (omega arith)
+        ∙ ap (λ k. path_hash b (left_side h m xs) i (keys_beside (b + k) (right_side h m xs) ks) (hash_beside (b + k) (right_side h m xs) ks g)) w
+
+    pub hash_in_right : b + (m / 2 + 1) ≤ i → path_hash b (term_of h xs) i ks g ≡ path_hash (b + (m / 2 + 1)) (right_side h m xs) i (keys_beside b (left_side h m xs) ks) (hash_beside b (left_side h m xs) ks g)
+    hash_in_right ge =
+        let w = parts.left_width in
+        ap (λ t. path_hash b t i ks g) parts.is
+        ∙ path_hash_right b (parent_in n) (left_side h m xs) (right_side h m xs) i ks g (omega arith)
+        ∙ ap (λ k. path_hash (b + k) (right_side h m xs) i (keys_beside b (left_side h m xs) ks) (hash_beside b (left_side h m xs) ks g)) w
+
+    pub parents_in_left : i < b + (m / 2 + 1) → path_parents b (term_of h xs) i ks g ≡ option_to_list (parent_beside (b + (m / 2 + 1)) (right_side h m xs) ks g) ++ path_parents b (left_side h m xs) i (keys_beside (b + (m / 2 + 1)) (right_side h m xs) ks) (hash_beside (b + (m / 2 + 1)) (right_side h m xs) ks g)
+    parents_in_left lt =
+        let w = parts.left_width in
+        ap (λ t. path_parents b t i ks g) parts.is
+        ∙ parents_left b (parent_in n) (left_side h m xs) (right_side h m xs) i ks g (omega arith)
+        ∙ ap (λ k. option_to_list (parent_beside (b + k) (right_side h m xs) ks g) ++ path_parents b (left_side h m xs) i (keys_beside (b + k) (right_side h m xs) ks) (hash_beside (b + k) (right_side h m xs) ks g)) w
+
+    pub parents_in_right : b + (m / 2 + 1) ≤ i → path_parents b (term_of h xs) i ks g ≡ option_to_list (parent_beside b (left_side h m xs) ks g) ++ path_parents (b + (m / 2 + 1)) (right_side h m xs) i (keys_beside b (left_side h m xs) ks) (hash_beside b (left_side h m xs) ks g)
+    parents_in_right ge =
+        let w = parts.left_width in
+        ap (λ t. path_parents b t i ks g) parts.is
+        ∙ parents_right b (parent_in n) (left_side h m xs) (right_side h m xs) i ks g (omega arith)
+        ∙ ap (λ k. option_to_list (parent_beside b (left_side h m xs) ks g) ++ path_parents (b + k) (right_side h m xs) i (keys_beside b (left_side h m xs) ks) (hash_beside b (left_side h m xs) ks g)) w
+
+-- ---- writing
+
+pub none_below : (f : Bool) (ks : List (List ℕ)) → ks ≡ [] → keys_below f ks ≡ []
+none_below false ks e = e
+none_below true ks e = ap (keys_below true) e
+
+none_made : (f : Bool) (g : List ℕ) → new_parent f [] g ≡ None
+none_made false g = refl
+none_made true g = refl
+
+-- no keys make no parents
+pub no_parents : (b : ℕ) (t : Term) (i : ℕ) (ks : List (List ℕ)) (g : List ℕ) → ks ≡ [] → path_parents b t i ks g ≡ []
+unfolding path_parents
+no_parents b (Leaf v) i ks g e = refl
+no_parents b (Branch c l r) i ks g e =
+    cond_both (nat_lt i (b + width l)) _ _ (λ ps. ps ≡ [])
+    (λ _. ap (λ js. option_to_list (parent_beside (b + width l) r js g) ++ path_parents b l i (keys_beside (b + width l) r ks) (hash_beside (b + width l) r ks g)) e
+    ∙ ap (λ o. option_to_list o ++ path_parents b l i (keys_beside (b + width l) r ks) (hash_beside (b + width l) r ks g)) (none_made (is_reached (b + width l) r) g)
+    ∙ no_parents b l i (keys_beside (b + width l) r ks) (hash_beside (b + width l) r ks g) (none_below (is_reached (b + width l) r) ks e))
+    (λ _. ap (λ js. option_to_list (parent_beside b l js g) ++ path_parents (b + width l) r i (keys_beside b l ks) (hash_beside b l ks g)) e
+    ∙ ap (λ o. option_to_list o ++ path_parents (b + width l) r i (keys_beside b l ks) (hash_beside b l ks g)) (none_made (is_reached b l) g)
+    ∙ no_parents (b + width l) r i (keys_beside b l ks) (hash_beside b l ks g) (none_below (is_reached b l) ks e))
+
+-- the first of the parents is the new one, where there is one
+pub first_made : (f : Bool) (ks : List (List ℕ)) (g : List ℕ) (more : List Parent) → (ks ≡ [] → more ≡ []) → first_if f (option_to_list (new_parent f ks g) ++ more) ≡ new_parent f ks g
+first_made false ks g more none = refl
+first_made true [] g more none = ap (first_if true) (none refl)
+first_made true (k ∷ ks) g more none = refl
+
+pub rest_made : (f : Bool) (ks : List (List ℕ)) (g : List ℕ) (more : List Parent) → (ks ≡ [] → more ≡ []) → rest_if f (option_to_list (new_parent f ks g) ++ more) ≡ more
+rest_made false ks g more none = refl
+rest_made true [] g more none = ap (rest_if true) (none refl) ∙ sym (none refl)
+rest_made true (k ∷ ks) g more none = refl
+
+pub merge_one : (h b i : ℕ) (xs : List (Option Node)) (ks : List (List ℕ)) (g : List ℕ) (x : LeafNode) → h ≡ 0 → length xs ≡ nodes_in h → set xs 0 (leaf_cell (Some x)) ≡ in_order (merge b (term_of h xs) i ks g x)
+merge_one h b i xs ks g x low size =
+    one_set h xs (leaf_cell (Some x)) low size
+    ∙ sym (in_order-leaf (Some x))
+    ∙ ap in_order (sym (merge_leaf b (leaf_in (get_or xs 0 None)) i ks g x))
+    ∙ ap (λ t. in_order (merge b t i ks g x)) (sym (term_of-zero xs))
+    ∙ ap (λ j. in_order (merge b (term_of j xs) i ks g x)) (sym low)
+
+-- what the rest of a merge makes of a side
+abbrev pub MergesSide : ℕ → Term → ℕ → List Parent → LeafNode → List (Option Node) → Type 0
+MergesSide b t i ps x ys = (ks : List (List ℕ)) (g : List ℕ) → ps ≡ path_parents b t i ks g → ys ≡ in_order (merge b t i ks g x)
+
+module _ (h n m : ℕ) (xs : List (Option Node)) (at : HasMiddle h n m) (len : length xs ≡ n) (pos : 0 < h) (stands : Stands h xs) (b i : ℕ) (x : LeafNode) (ps qs : List Parent) (f : Bool) (c : Option Node) (is_root : c ≡ parent_cell (first_if f ps)) (are_rest : qs ≡ rest_if f ps) where
+  pub merge_in_left : (sub : List (Option Node)) → i < b + (m / 2 + 1) → ((k : ℕ) → f ≡ is_reached k (term_of (h - 1) (drop (m + 1) xs))) → MergesSide b (term_of (h - 1) (take m (set xs m c))) i qs x sub → MergesSide b (term_of h xs) i ps x (sub ++ drop m (set xs m c))
+  merge_in_left sub low reached is ks g made =
+      let l : Term = term_of (h - 1) (take m xs) in
+      let r : Term = term_of (h - 1) (drop (m + 1) xs) in
+      let root : Option Parent = parent_in (get_or xs m None) in
+      let wide : width l ≡ m / 2 + 1 = width-term_of (h - 1) (take m xs) ∙ sym (half h n m xs at len pos) in
+      let k : ℕ = b + width l in
+      let lt : i < b + width l = omega arith in
+      let new : Option Parent = parent_beside k r ks g in
+      let js : List (List ℕ) = keys_beside k r ks in
+      let d : List ℕ = hash_beside k r ks g in
+      let more : List Parent = path_parents b l i js d in
+      let none : ks ≡ [] → more ≡ [] = λ e. no_parents b l i js d (none_below (is_reached k r) ks e) in
+      let all : ps ≡ option_to_list new ++ more = made ∙ ap (λ t. path_parents b t i ks g) (split h n m xs at len pos) ∙ parents_left b root l r i ks g lt in
+      let cell : c ≡ parent_cell new = is_root ∙ ap (λ v. parent_cell (first_if v ps)) (reached k) ∙ ap (λ qs. parent_cell (first_if (is_reached k r) qs)) all ∙ ap parent_cell (first_made (is_reached k r) ks g more none) in
+      let rest : qs ≡ more = are_rest ∙ ap (λ v. rest_if v ps) (reached k) ∙ ap (rest_if (is_reached k r)) all ∙ rest_made (is_reached k r) ks g more none in
+      let same : take m (set xs m c) ≡ take m xs = left_of_set h n m xs at len pos c in
+      let side : sub ≡ in_order (merge b l i js d x) = is js d (rest ∙ ap (λ ys. path_parents b (term_of (h - 1) ys) i js d) (sym same)) ∙ ap (λ ys. in_order (merge b (term_of (h - 1) ys) i js d x)) same in
+      ap (λ a. sub ++ drop m (set xs m a)) cell
+      ∙ with_left h n m xs at len pos stands sub new (merge b l i js d x) side
+      ∙ ap in_order (sym (merge_left b root l r i ks g x lt))
+      ∙ ap (λ t. in_order (merge b t i ks g x)) (sym (split h n m xs at len pos))
+
+  pub merge_in_right : (sub : List (Option Node)) → b + (m / 2 + 1) ≤ i → ((k : ℕ) → f ≡ is_reached k (term_of (h - 1) (take m xs))) → MergesSide (b + (m / 2 + 1)) (term_of (h - 1) (take (length (set xs m c) - (m + 1)) (drop (m + 1) (set xs m c)))) i qs x sub → MergesSide b (term_of h xs) i ps x (put_mid (m + 1) (length (set xs m c) - (m + 1)) (set xs m c) sub)
+  merge_in_right sub high reached is ks g made =
+      let l : Term = term_of (h - 1) (take m xs) in
+      let r : Term = term_of (h - 1) (drop (m + 1) xs) in
+      let root : Option Parent = parent_in (get_or xs m None) in
+      let wide : width l ≡ m / 2 + 1 = width-term_of (h - 1) (take m xs) ∙ sym (half h n m xs at len pos) in
+      let k : ℕ = b + (m / 2 + 1) in
+      let ge : b + width l ≤ i = omega arith in
+      let new : Option Parent = parent_beside b l ks g in
+      let js : List (List ℕ) = keys_beside b l ks in
+      let d : List ℕ = hash_beside b l ks g in
+      let more : List Parent = path_parents k r i js d in
+      let none : ks ≡ [] → more ≡ [] = λ e. no_parents k r i js d (none_below (is_reached b l) ks e) in
+      let all : ps ≡ option_to_list new ++ more =
+      made
+      ∙ ap (λ t. path_parents b t i ks g) (split h n m xs at len pos)
+      ∙ parents_right b root l r i ks g ge
+      ∙ ap (λ w. option_to_list new ++ path_parents (b + w) r i js d) wide in
+      let cell : c ≡ parent_cell new = is_root ∙ ap (λ v. parent_cell (first_if v ps)) (reached b) ∙ ap (λ qs. parent_cell (first_if (is_reached b l) qs)) all ∙ ap parent_cell (first_made (is_reached b l) ks g more none) in
+      let rest : qs ≡ more = are_rest ∙ ap (λ v. rest_if v ps) (reached b) ∙ ap (rest_if (is_reached b l)) all ∙ rest_made (is_reached b l) ks g more none in
+      let same : take (length (set xs m c) - (m + 1)) (drop (m + 1) (set xs m c)) ≡ drop (m + 1) xs = right_of_set h n m xs at len pos c in
+      let side : sub ≡ in_order (merge k r i js d x) = is js d (rest ∙ ap (λ ys. path_parents k (term_of (h - 1) ys) i js d) (sym same)) ∙ ap (λ ys. in_order (merge k (term_of (h - 1) ys) i js d x)) same in
+      ap (λ a. put_mid (m + 1) (length (set xs m a) - (m + 1)) (set xs m a) sub) cell
+      ∙ with_right h n m xs at len pos stands sub new (merge k r i js d x) side
+      ∙ ap (λ w. in_order (Branch new l (merge (b + w) r i js d x))) (sym wide)
+      ∙ ap in_order (sym (merge_right b root l r i ks g x ge))
+      ∙ ap (λ t. in_order (merge b t i ks g x)) (sym (split h n m xs at len pos))

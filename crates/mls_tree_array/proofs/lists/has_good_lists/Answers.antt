@@ -1,0 +1,6 @@
+use Rattle.mls_tree_model.specs.Good.{has_good_lists}
+use Rattle.mls_tree_array.proofs.lists.has_good_lists.Goals as goal
+
+pub returns-clause-right : goal.returns-clause-right
+unfolding has_good_lists
+returns-clause-right c = c.each_lists.ensures.right

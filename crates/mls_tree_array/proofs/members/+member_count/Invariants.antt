@@ -1,0 +1,4 @@
+use Rattle.mls_tree_array.proofs.members.+member_count.Given as goal
+
+abbrev pub decreases-member_count : goal.decreases-member_count
+decreases-member_count l = l.height

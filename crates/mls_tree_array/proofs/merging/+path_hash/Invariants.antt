@@ -1,0 +1,4 @@
+use Rattle.mls_tree_array.proofs.merging.+path_hash.Given as goal
+
+abbrev pub decreases-path_hash : goal.decreases-path_hash
+decreases-path_hash l = l.height

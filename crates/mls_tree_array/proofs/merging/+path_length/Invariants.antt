@@ -1,0 +1,4 @@
+use Rattle.mls_tree_array.proofs.merging.+path_length.Given as goal
+
+abbrev pub decreases-path_length : goal.decreases-path_length
+decreases-path_length l = l.height

@@ -1,0 +1,4 @@
+use Rattle.mls_tree_array.proofs.resolutions.+resolution.Given as goal
+
+abbrev pub decreases-resolution : goal.decreases-resolution
+decreases-resolution l = l.height

@@ -1,0 +1,37 @@
+-- The node that ties a side to its parent (RFC 9420, 7.9.2).
+use Rattle.std.specs.Prelude.{ℕ, ◌-◌, ◌==◌, Bool, not, if◌then◌else◌, List, [], filter, Option, Some, None}
+use Rattle.std.specs.List.{find}
+use Rattle.mls_leaf.specs.Parent.{Parent}
+use Rattle.mls_tree_model.specs.Term.{Term, width}
+use Rattle.mls_tree_model.specs.Sets.{has, within, leaf_numbers, is_same_set}
+use Rattle.mls_tree_model.specs.Resolution.{resolution}
+
+-- the node numbers of a list's leaves from leaf b on, below leaf e
+abbrev pub numbers_in : ℕ → ℕ → List ℕ → List ℕ
+numbers_in b e us = leaf_numbers (within b (e - b) us)
+
+-- some nodes without one of them
+abbrev pub others : ℕ → List ℕ → List ℕ
+others d xs = filter (λ x. not (x == d)) xs
+
+-- the first node that a list doesn't have
+abbrev pub first_off : List ℕ → List ℕ → Option ℕ
+first_off ls xs = find (λ x. not (has ls x)) xs
+
+-- a node, where it passes a test
+abbrev pub kept : (ℕ → Bool) → Option ℕ → Option ℕ
+kept q None = None
+kept q (Some d) = if q d then Some d else None
+
+-- the one node of a resolution that isn't in a list, where all others are, and the list has no more
+unfoldable pub only_off : List ℕ → List ℕ → Option ℕ
+only_off ls xs = kept (λ d. is_same_set ls (others d xs)) (first_off ls xs)
+
+-- the only node that can tie the side c, whose first leaf is b, to the parent p
+unfoldable pub candidate : Parent → ℕ → Term → Option ℕ
+candidate p b c = only_off (leaf_numbers (within b (width c) p.unmerged_leaves)) (resolution b c)
+
+-- the leaves that a place lists, none where it is blank
+abbrev pub listed : Option Parent → List ℕ
+listed None = []
+listed (Some p) = p.unmerged_leaves

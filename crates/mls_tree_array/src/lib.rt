@@ -1,0 +1,42 @@
+//! A ratchet tree as one array of its nodes in order (RFC 9420, appendix C).
+//!
+//! A tree of height h is a slice of its nodes: first those of its left side, then its root, then those of its right
+//! side. Most functions are a recursion over these two parts, and each contract speaks of the term that the slice stands
+//! for. `first` is the number of the tree's first leaf, which the definitions carry along in the same way.
+#![tactic(auto)]
+
+mod counts;
+mod distinct;
+mod edits;
+mod hashes;
+mod kept;
+mod lists;
+mod lookup;
+mod members;
+mod merging;
+mod order;
+mod originals;
+mod path;
+mod places;
+mod resolutions;
+mod sizes;
+mod validity;
+mod way_hashes;
+mod witnesses;
+
+pub use counts::ciphertext_counts;
+pub use distinct::are_distinct;
+pub use edits::{enter, put};
+pub use kept::Hashes;
+pub use lists::has_good_lists;
+pub use lookup::{leaf, node};
+pub use members::{first_blank, has_leaf, is_full_width, member_count, taken_end};
+pub use merging::{MergedPath, bytes_of, merge, path_hash, path_length, path_parents};
+pub use mls_tree_hash::Hash;
+pub use order::{alternates, has_last, height_for, pad, pad_tree, to_nodes};
+pub use path::filtered_path;
+pub use places::{leaf_in, parent_in};
+pub use resolutions::{is_reached, is_reached_at, resolution, resolution_at};
+pub use sizes::{grow, trimmed};
+pub use validity::has_good_hashes;
+pub use way_hashes::merged_hashes;

@@ -1,0 +1,36 @@
+//! What stands at a number.
+
+ghost use Rattle.std.specs.Prelude.{◌≡◌, length};
+ghost use Rattle.std.specs.Option.{option_copied};
+ghost use Rattle.mls_treemath.specs.Paths.{nodes_in};
+ghost use Rattle.mls_tree_model.specs.Term.{leaf_of};
+ghost use Rattle.mls_tree_model.specs.Arrays.{term_of, node_at};
+ghost use Rattle.mls_tree_array.specs.Standing.{Stands};
+
+use crate::places::leaf_in;
+use mls_leaf::{LeafNode, Node};
+use mls_tree_slot::Slot;
+
+/// Leaf `i` of a tree of this height: None where it is blank or outside the tree.
+pub fn leaf(nodes: &[Slot], height: u32, i: u32) -> Option<&LeafNode>
+    requires { length nodes.now ≡ nodes_in height }
+    ensures { option_copied result ≡ leaf_of (term_of height nodes.now) i }
+{
+    let place = 2 * i as usize;
+    if place >= nodes.len() {
+        return None;
+    }
+    leaf_in(&nodes[place])
+}
+
+/// Node `x` of a tree of this height: None where it is blank or outside the tree.
+pub fn node(nodes: &[Slot], height: u32, x: u32) -> Option<&Node>
+    requires { Stands height nodes.now }
+    ensures { option_copied result ≡ node_at 0 (term_of height nodes.now) x }
+{
+    let place = x as usize;
+    if place >= nodes.len() {
+        return None;
+    }
+    nodes[place].node()
+}

@@ -1,0 +1,46 @@
+//! The size of a tree: halved where its right half has no member, or doubled.
+
+ghost use Rattle.std.specs.Prelude.{◌≡◌, ◌≤◌, ◌<◌, take, OnOk, OnErr};
+ghost use Rattle.mls_treemath.specs.Limits.{max_height};
+ghost use Rattle.mls_treemath.specs.Paths.{nodes_in};
+ghost use Rattle.mls_tree_model.specs.Edits.{grow, trim};
+ghost use Rattle.mls_tree_model.specs.Arrays.{term_of, in_order};
+ghost use Rattle.mls_tree_array.specs.Ends.{taken_end};
+ghost use Rattle.mls_tree_array.specs.Standing.{Stands};
+
+use crate::places::middle_of;
+use mls_tree_slot::Slot;
+use std::alloc::AllocError;
+
+/// The height of what a trim keeps: the left half alone as long as the right half has no member (RFC 9420, 7.7), where
+/// `end` is one past the rightmost taken leaf.
+pub fn trimmed(nodes: &[Slot], height: u32, end: u32) -> u32
+    requires stands { Stands height nodes.now }
+    requires end { end ≡ taken_end 0 (term_of height nodes.now) }
+    ensures order { take (nodes_in result) nodes.now ≡ in_order (trim (term_of height nodes.now)) }
+    ensures low { result ≤ height }
+{
+    if height == 0 {
+        return 0;
+    }
+    let middle = middle_of(nodes.len(), height);
+    if middle / 2 + 1 < end as usize {
+        return height;
+    }
+    trimmed(&nodes[..middle], height - 1, end)
+}
+
+/// Twice the leaves: a blank root, the tree on its left, blank nodes on its right (RFC 9420, 7.7).
+pub fn grow(nodes: &mut Vec<Slot>, height: u32) -> Result<(), AllocError>
+    requires stands { Stands height nodes.old.items }
+    requires low { height < max_height }
+    ensures ok { OnOk result (nodes.new.items ≡ in_order (grow (term_of height nodes.old.items))) }
+    ensures err { OnErr result (nodes.new.items ≡ nodes.old.items) }
+{
+    let count = nodes.len();
+    nodes.reserve(count + 1)?;
+    for _ in 0..count + 1 {
+        nodes.push_reserved(Slot::blank());
+    }
+    Ok(())
+}

@@ -1,0 +1,172 @@
+//! The index: numbers of cells in the order of their keys.
+
+ghost use Rattle.std.specs.Prelude.{◌≡◌, ℕ, ◌+◌, ◌<◌, ◌≤◌, ◌^◌, suc, Option, List, length, vec_len, IfOk, OnOk, OnErr};
+ghost use Rattle.std.specs.List.{remove};
+ghost use Rattle.std.specs.Vec.{vec_capacity};
+ghost use Rattle.mls_leaf.specs.declared.node.Node.{Node};
+ghost use Rattle.mls_tree_model.specs.Sets.{same_bytes, is_distinct};
+ghost use Rattle.mls_tree_index.specs.Keys.{key_in, keys_of, is_held, is_key_at, IsHolder};
+ghost use Rattle.mls_tree_index.specs.Order.{Entries, IsGap, IsPart};
+ghost use Rattle.mls_tree_index.specs.Indexes.{Indexes, Without, SameIndex};
+
+use crate::kind::KeyKind;
+use mls_tree_slot::Slot;
+use std::alloc::{AllocError, Global};
+use std::marker::Model;
+
+/// The numbers of the cells that have a key of one kind, in the order of the keys, and of cells with one key by number.
+/// The keys stay in the cells, so a copy is a plain copy of numbers. It keeps count of keys that repeat.
+#[derive(Drop)]
+pub struct Index {
+    pub(crate) kind: KeyKind,
+    pub(crate) numbers: Vec<u32>,
+    pub(crate) repeats: usize,
+}
+
+impl Model for Index {
+    ghost use Rattle.std.specs.Prelude.{◌-◌, vec_len};
+    ghost use Rattle.std.specs.Vec.{vec_capacity};
+    ghost use Rattle.mls_tree_index.specs.Indexes.{Listing};
+
+    ghost Value = { Listing };
+
+    ghost view = { λ t. record { kind = t.kind; numbers = t.numbers.items; repeats = t.repeats; room = vec_capacity t.numbers - vec_len t.numbers } };
+}
+
+/// Takes the number at a place out. `Vec::remove` would move the others in short parts, for twice the work.
+fn take_out(numbers: &mut Vec<u32>, place: usize)
+    requires { place < vec_len numbers.old }
+    ensures items { numbers.new.items ≡ remove numbers.old.items place }
+    ensures len { vec_len numbers.new + 1 ≡ vec_len numbers.old }
+    ensures capacity { vec_capacity numbers.new ≡ vec_capacity numbers.old }
+{
+    let end = numbers.len();
+    numbers.copy_within(place + 1..end, place);
+    numbers.truncate(end - 1);
+}
+
+impl Index {
+    /// The index of these cells. The cells are entered one by one, so that in the worst case the numbers that are moved
+    /// grow with the square of how many there are.
+    pub fn build(alloc: Global, kind: KeyKind, cells: &[Slot]) -> Result<Index, AllocError>
+        requires { length cells.now ≤ 2 ^ 32 }
+        ensures kind { IfOk result (λ t. t.kind ≡ kind) }
+        ensures built { IfOk result (λ t. Indexes cells.now t) }
+    {
+        let mut index = Index {
+            kind,
+            numbers: Vec::with_capacity(alloc, cells.len())?,
+            repeats: 0,
+        };
+        for x in 0..cells.len() {
+            index.enter(cells, x as u32);
+        }
+        Ok(index)
+    }
+
+    /// Makes room for so many more cells, so that entering them takes no memory. Without memory for it all stays.
+    pub fn reserve(&mut self, count: usize) -> Result<(), AllocError>
+        ensures room { OnOk result (count ≤ self.new.room) }
+        ensures more { self.old.room ≤ self.new.room }
+        ensures same { SameIndex self.old self.new }
+    {
+        self.numbers.reserve(count)
+    }
+
+    /// Whether the entry at a place has this key.
+    fn is_key_at(&self, cells: &[Slot], place: usize, key: &[u8]) -> bool
+        ensures { result ≡ is_key_at self.now.kind cells.now self.now.numbers place key.now }
+    {
+        match self.numbers.get(place) {
+            Some(y) => self.kind.is_key_in(cells, *y, key),
+            None => false,
+        }
+    }
+
+    /// Whether the entry at a place or that before it has this key. Where an entry with the key goes there, no other has
+    /// it if neither does.
+    pub(crate) fn is_beside(&self, cells: &[Slot], place: usize, key: &[u8]) -> bool
+        ensures { (c : List (Option Node)) → IsPart (key_in self.now.kind c) (key_in self.now.kind cells.now) → Entries (key_in self.now.kind c) self.now.numbers → (x : ℕ) → IsGap (key_in self.now.kind c) self.now.numbers (key.now, x) place → result ≡ is_held self.now.kind c key.now }
+    {
+        self.is_key_at(cells, place, key) || place > 0 && self.is_key_at(cells, place - 1, key)
+    }
+
+    /// Whether some cell has this key. The cells may have more keys than those that the index is of.
+    pub fn holds(&self, cells: &[Slot], key: &[u8]) -> bool
+        ensures { (c : List (Option Node)) → IsPart (key_in self.now.kind c) (key_in self.now.kind cells.now) → Indexes c self.now → result ≡ is_held self.now.kind c key.now }
+    {
+        self.is_key_at(cells, self.place(cells, key, 0), key)
+    }
+
+    /// A cell that has this key, where there is one.
+    pub(crate) fn holder(&self, cells: &[Slot], key: &[u8]) -> Option<u32>
+        ensures { Indexes cells.now self.now → IsHolder self.now.kind cells.now key.now result }
+    {
+        let place = self.place(cells, key, 0);
+        let x = *self.numbers.get(place)?;
+        if self.kind.is_key_in(cells, x, key) {
+            Some(x)
+        } else {
+            None
+        }
+    }
+
+    /// Enters a cell: after it was filled, where it was blank. Where the cell has no key, all stays.
+    pub fn enter(&mut self, cells: &[Slot], x: u32)
+        requires { 0 < self.old.room }
+        ensures kind { self.new.kind ≡ self.old.kind }
+        ensures room { self.old.room ≤ suc self.new.room }
+        ensures entered { (b c : List (Option Node)) → Without self.old.kind x cells.now b c → Indexes b self.old → Indexes c self.new }
+    {
+        let Some(key) = self.kind.key_in(cells, x) else {
+            return;
+        };
+        let place = self.place(cells, key, x);
+        let repeats = self.is_beside(cells, place, key);
+        // There is room, so this isn't refused.
+        let Ok(()) = self.numbers.insert(place, x) else {
+            return;
+        };
+        if repeats {
+            self.repeats = self.repeats.saturating_add(1);
+        }
+    }
+
+    /// Takes a cell out: before it is blanked or replaced. Where the cell has no key, all stays.
+    pub fn leave(&mut self, cells: &[Slot], x: u32)
+        ensures kind { self.new.kind ≡ self.old.kind }
+        ensures room { self.old.room ≤ self.new.room }
+        ensures left { (b c : List (Option Node)) → Without self.old.kind x cells.now b c → Indexes c self.old → Indexes b self.new }
+    {
+        let Some(key) = self.kind.key_in(cells, x) else {
+            return;
+        };
+        let place = self.place(cells, key, x);
+        if place >= self.numbers.len() {
+            return;
+        }
+        take_out(&mut self.numbers, place);
+        if self.is_beside(cells, place, key) {
+            self.repeats = self.repeats.saturating_sub(1);
+        }
+    }
+
+    /// Whether no two cells have one key.
+    pub fn are_distinct(&self) -> bool
+        ensures { (c : List (Option Node)) → Indexes c self.now → result ≡ is_distinct same_bytes (keys_of self.now.kind c) }
+    {
+        self.repeats == 0
+    }
+}
+
+impl Clone for Index {
+    ghost is_clone = { λ s t. SameIndex s t };
+
+    fn clone(&self) -> Result<Index, AllocError> {
+        Ok(Index {
+            kind: self.kind,
+            numbers: self.numbers.clone()?,
+            repeats: self.repeats,
+        })
+    }
+}

@@ -1,0 +1,75 @@
+-- What a commit's path does to a tree.
+use Rattle.std.specs.Prelude.{◌≡◌, ℕ, ◌+◌, ◌*◌, ◌<◌, ◌≤◌, nat_lt, Bool, true, false, if◌then◌else◌, List, [], ◌∷◌, reverse, length, Option, Some, None}
+use Rattle.mls_leaf.specs.Parent.{Parent}
+use Rattle.mls_leaf.specs.declared.leaf.LeafNode.{LeafNode}
+use Rattle.mls_tree_model.specs.Node.{source_hash}
+use Rattle.mls_tree_model.specs.Term.{Term, Leaf, Branch, width, size}
+use Rattle.mls_tree_model.specs.Resolution.{resolution, is_reached}
+use Rattle.mls_tree_model.specs.Way.{path_length}
+use Rattle.mls_tree_model.specs.Hashes.{parent_hash, hash_at}
+
+-- the new parent, where there is one, of the highest key and a parent hash
+abbrev pub new_parent : Bool → List (List ℕ) → List ℕ → Option Parent
+new_parent false ks h = None
+new_parent true [] h = None
+new_parent true (key ∷ ks) h = Some (record { encryption_key = key; parent_hash = h; unmerged_leaves = [] })
+
+-- the keys below it
+abbrev pub keys_below : Bool → List (List ℕ) → List (List ℕ)
+keys_below false ks = ks
+keys_below true [] = []
+keys_below true (key ∷ ks) = ks
+
+-- the parent hash that is handed down below it, where m is the first leaf of the other side s: a blank parent hands
+-- down the one that it was given
+abbrev pub hash_below : Option Parent → ℕ → Term → List ℕ → List ℕ
+hash_below None m s h = h
+hash_below (Some p) m s h = parent_hash p m s
+
+-- the same by the other side s of the parent, whose first leaf is m: its resolution decides whether there is a new parent
+abbrev pub parent_beside : ℕ → Term → List (List ℕ) → List ℕ → Option Parent
+parent_beside m s ks h = new_parent (is_reached m s) ks h
+
+abbrev pub keys_beside : ℕ → Term → List (List ℕ) → List (List ℕ)
+keys_beside m s ks = keys_below (is_reached m s) ks
+
+abbrev pub hash_beside : ℕ → Term → List (List ℕ) → List ℕ → List ℕ
+hash_beside m s ks h = hash_below (parent_beside m s ks h) m s h
+
+-- a tree with leaf i replaced and the parents over it blanked, but for those of the filtered path: they get these
+-- keys, the highest first, and the parent hashes that are handed down from h (RFC 9420, 7.5 and 7.9)
+unfoldable pub merge : ℕ → Term → ℕ → List (List ℕ) → List ℕ → LeafNode → Term
+merge b (Leaf v) i ks h x = Leaf (Some x)
+merge b (Branch c l r) i ks h x =
+    if nat_lt i (b + width l)
+    then Branch (parent_beside (b + width l) r ks h) (merge b l i (keys_beside (b + width l) r ks) (hash_beside (b + width l) r ks h) x) r
+    else Branch (parent_beside b l ks h) l (merge (b + width l) r i (keys_beside b l ks) (hash_beside b l ks h) x)
+
+-- the parent hash that reaches the leaf (RFC 9420, 7.9)
+unfoldable pub path_hash : ℕ → Term → ℕ → List (List ℕ) → List ℕ → List ℕ
+path_hash b (Leaf v) i ks h = h
+path_hash b (Branch c l r) i ks h =
+    if nat_lt i (b + width l)
+    then path_hash b l i (keys_beside (b + width l) r ks) (hash_beside (b + width l) r ks h)
+    else path_hash (b + width l) r i (keys_beside b l ks) (hash_beside b l ks h)
+
+-- a whole tree with a path merged, whose keys are given lowest first: the highest node's parent hash is empty
+unfoldable pub merge_path : Term → ℕ → LeafNode → List (List ℕ) → Term
+merge_path t i x keys = merge 0 t i (reverse keys) [] x
+
+-- the parent hash that its leaf must have: empty where the filtered path is
+unfoldable pub path_parent_hash : Term → ℕ → List (List ℕ) → List ℕ
+path_parent_hash t i keys = path_hash 0 t i (reverse keys) []
+
+-- a tree whose resolution is one node, with this parent hash
+pub record HasHead (b : ℕ) (t : Term) (h : List ℕ) : Type 0 where
+  pub node : ℕ
+  pub is_all : resolution b t ≡ node ∷ []
+  pub is_hash : hash_at b t node ≡ Some h
+  pub low : 2 * b ≤ node
+  pub high : node < 2 * b + size t
+
+-- a path has a key for each of its parents, and the new leaf has the path's parent hash
+pub record IsPath (b : ℕ) (t : Term) (i : ℕ) (ks : List (List ℕ)) (h : List ℕ) (x : LeafNode) : Type 0 where
+  pub keys : length ks ≡ path_length b t i
+  pub hash : source_hash x.source ≡ Some (path_hash b t i ks h)

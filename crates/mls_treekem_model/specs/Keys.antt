@@ -1,0 +1,77 @@
+-- The private keys that a member holds: a place for each parent over its leaf, the highest first, and the last place
+-- for the leaf. They are aligned with the way to the leaf.
+use Rattle.std.specs.Prelude.{◌≡◌, ℕ, ◌*◌, ◌==◌, if◌then◌else◌, Bool, true, false, List, [], ◌∷◌, Option, Some, None, ◌++◌}
+use Rattle.mls_leaf.specs.Parent.{Parent}
+use Rattle.mls_leaf.specs.declared.leaf.LeafNode.{LeafNode}
+use Rattle.mls_suite.specs.Crypto.{Crypto}
+use Rattle.mls_tree_model.specs.Sets.{has}
+use Rattle.mls_tree_model.specs.Term.{Term, leaf_at}
+use Rattle.mls_tree_model.specs.Way.{Step, way}
+
+abbrev pub Keys : Type 0
+Keys = List (Option (List ℕ))
+
+-- the key that is held at a parent, by whether it lists the member: none, or its private key (RFC 9420, 7.5 and 7.6)
+abbrev pub HoldsKey : Crypto → Bool → Parent → Option (List ℕ) → Type 0
+HoldsKey c true p None = Unit {0}
+HoldsKey c true p (Some k) = ⊥
+HoldsKey c false p None = ⊥
+HoldsKey c false p (Some k) = c.public k ≡ p.encryption_key
+
+-- the same at a place that may be blank, where none is held
+abbrev pub Fits : Crypto → ℕ → Option Parent → Option (List ℕ) → Type 0
+Fits c j None None = Unit {0}
+Fits c j None (Some k) = ⊥
+Fits c j (Some p) o = HoldsKey c (has p.unmerged_leaves j) p o
+
+-- the leaf's private key is the only one left
+abbrev pub IsOwnKey : Crypto → Option LeafNode → Keys → Type 0
+IsOwnKey c (Some x) (Some k ∷ []) = c.public k ≡ x.encryption_key
+IsOwnKey c (Some x) (Some k ∷ o ∷ ks) = ⊥
+IsOwnKey c (Some x) (None ∷ ks) = ⊥
+IsOwnKey c (Some x) [] = ⊥
+IsOwnKey c None ks = ⊥
+
+-- along a way each key stands to its parent as F says, and the last one is the leaf's
+unfoldable pub Along : Crypto → (Option Parent → Option (List ℕ) → Type 0) → List Step → Option LeafNode → Keys → Type 0
+Along c F [] x ks = IsOwnKey c x ks
+Along c F (s ∷ ss) x [] = ⊥
+Along c F (s ∷ ss) x (o ∷ ks) = F s.parent o × Along c F ss x ks
+
+abbrev pub AlongWay : Crypto → (Option Parent → Option (List ℕ) → Type 0) → ℕ → Term → ℕ → Keys → Type 0
+AlongWay c F b t j ks = Along c F (way b t j) (leaf_at b t j) ks
+
+-- member j of a tree whose first leaf is b has a key exactly at its leaf and at each parent over it that isn't blank
+-- and doesn't list it, and there the one whose public key is the node's (RFC 9420, 7.5 and 7.6)
+abbrev pub Exact : Crypto → ℕ → Term → ℕ → Keys → Type 0
+Exact c b t j ks = AlongWay c (Fits c j) b t j ks
+
+-- all but the first
+abbrev pub rest : {A : Type 0} → List A → List A
+rest [] = []
+rest (x ∷ xs) = xs
+
+-- the leaf's key alone
+unfoldable pub leaf_only : List Step → List ℕ → Keys
+leaf_only [] k = Some k ∷ []
+leaf_only (s ∷ ss) k = None ∷ leaf_only ss k
+
+-- the private key that leaf j has for node n, by its way and its keys
+unfoldable pub key_for : List Step → ℕ → Keys → ℕ → Option (List ℕ)
+key_for [] j [] n = None
+key_for [] j (o ∷ ks) n = if n == 2 * j then o else None
+key_for (s ∷ ss) j [] n = None
+key_for (s ∷ ss) j (o ∷ ks) n = if n == s.node then o else key_for ss j ks n
+
+abbrev pub key_in : ℕ → Term → ℕ → Keys → ℕ → Option (List ℕ)
+key_in b t j ks n = key_for (way b t j) j ks n
+
+-- a member's leaf with its private key, and the keys that it has above, the highest first
+pub record PrivateKeys : Type 0 where
+  pub leaf : ℕ
+  pub own : List ℕ
+  pub above : Keys
+
+-- all its keys, the highest first
+abbrev pub all_keys : PrivateKeys → Keys
+all_keys p = p.above ++ (Some p.own ∷ [])

@@ -1,0 +1,52 @@
+-- What a delivery to a seat does to the world.
+use Rattle.std.proofs.Common.{◌≡◌, ℕ, ◌<◌, List, length, Result, Ok, Err, sym, ap, subst, ◌∙◌, get_or, slice_set}
+use Rattle.mls_wire.specs.Checks.{DoesAs}
+use Rattle.mls_suite.specs.Crypto.{Crypto}
+use Rattle.mls_model.specs.declared.effect.Effect.{Effect}
+use Rattle.mls_model.specs.declared.event.Source.{Source}
+use Rattle.mls_model.specs.declared.event.Reply.{Reply}
+use Rattle.mls_model.specs.declared.event.Reply.TheVariants as reply
+use Rattle.mls_model.specs.Journal.{Journal}
+use Rattle.mls_model.specs.Calls.{deliver_answer}
+use Rattle.mls_model.specs.World.{Entrant, World, bytes_of}
+use Rattle.mls_world_plain.specs.declared.error.WorldError.{WorldError}
+use Rattle.mls_world_plain.specs.Faults.{number_of}
+use Rattle.mls_world_plain.specs.Parts.{seat_verdict}
+use Rattle.mls_world_plain.specs.Stored.{AreMore, Seated, Making, seat_of, world_of, AreStored}
+use Rattle.mls_world_plain.specs.Outright.{early_delivery_checks}
+use Rattle.mls_world_plain.proofs.Early.{delivery_refused}
+use Rattle.mls_world_plain.proofs.Stores.{seat_found, unchanged}
+use Rattle.mls_world_plain.proofs.Changing.{delivered, undelivered, no_source, seat_moved, seat_kept}
+
+-- what a delivery promises, from a world to another
+abbrev pub DoesDeliver : Crypto → World → ℕ → Source → World → Result Effect WorldError → Type 0
+DoesDeliver c w k source new r = DoesAs (λ (e : Effect). reply.Delivered e) number_of (deliver_answer c w k source) w new r
+
+abbrev replied : Effect → World → Result (Reply × World) ℕ
+replied e w = Ok (reply.Delivered e, w)
+
+pub handed_over : (c : Crypto) (es : List Entrant) (ss : List Seated) (ms : List (List ℕ)) (ds : List Making) (js new : List Journal) (k : ℕ) (s t : Seated) (source : Source) (bytes : List ℕ) (r : Result Effect WorldError)
+    → AreStored ss ds js → AreMore js new → k < length ss → s ≡ get_or ss k s → bytes_of (world_of es ss ms ds js) source ≡ Ok bytes
+    → DoesAs (λ (e : Effect). e) number_of (seat_verdict c (seat_of js s) bytes) (seat_of js s) (seat_of new t) r
+    → DoesDeliver c (world_of es ss ms ds js) k source (world_of es (slice_set ss k t) ms ds new) r
+handed_over c es ss ms ds js new k s t source bytes (Ok e) stored more lt at lent h =
+    delivered c (world_of es ss ms ds js) k source bytes (seat_of js s) (seat_of new t) e (seat_found js ss k s lt at) lent h
+    ∙ ap (λ (w : World). replied e w) (sym (seat_moved es ss ms ds js new k t stored more))
+handed_over c es ss ms ds js new k s t source bytes (Err e) stored more lt at lent h = (
+  seat_kept es ss ms ds js new k s t stored more at h.0,
+  λ other. undelivered c (world_of es ss ms ds js) k source bytes (seat_of js s) (number_of e) (seat_found js ss k s lt at) lent (h.1 other),
+)
+
+pub not_lent : (c : Crypto) (es : List Entrant) (ss : List Seated) (ms : List (List ℕ)) (ds : List Making) (js : List Journal) (k : ℕ) (s : Seated) (source : Source) (e : WorldError)
+    → k < length ss → s ≡ get_or ss k s → bytes_of (world_of es ss ms ds js) source ≡ Err (number_of e)
+    → DoesDeliver c (world_of es ss ms ds js) k source (world_of es (slice_set ss k s) ms ds js) (Err e)
+not_lent c es ss ms ds js k s source e lt at lent = (
+  ap (λ (l : List Seated). world_of es l ms ds js) (unchanged ss k s at),
+  λ other. no_source c (world_of es ss ms ds js) k source (seat_of js s) (number_of e) (seat_found js ss k s lt at) lent,
+)
+
+-- what is refused before anything grows, of a member that is there
+pub source_refused : (es : List Entrant) (ss : List Seated) (ms : List (List ℕ)) (ds : List Making) (js : List Journal) (w : World) (k : ℕ) (s : Seated) (source : Source) (n : ℕ)
+    → world_of es ss ms ds js ≡ w → k < length ss → s ≡ get_or ss k s → early_delivery_checks w k source ≡ Err n → bytes_of (world_of es ss ms ds js) source ≡ Err n
+source_refused es ss ms ds js w k s source n is lt at h =
+    delivery_refused (world_of es ss ms ds js) k source (seat_of js s) n (seat_found js ss k s lt at) (subst (λ (v : World). early_delivery_checks v k source ≡ Err n) (sym is) h)

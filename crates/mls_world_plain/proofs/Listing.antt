@@ -1,0 +1,273 @@
+-- What lists of commits name and add, one after the other, and the first record that is looked for.
+use Rattle.std.proofs.Common.{◌≡◌, ℕ, ◌+◌, ◌<◌, ◌≤◌, true, false, List, [], ◌∷◌, ◌++◌, length, drop, map, Option, Some, None, Result, Ok, Err, refl, sym, ap, subst, ◌∙◌, append_assoc, get_or, slice_get}
+use Rattle.std.specs.Prelude.{option_map, filter_map, ◌≢◌}
+use Rattle.std.specs.List.{cons_option}
+use Rattle.std.specs.Option.{option_to_list, option_copied}
+use denote.Ref.{Bor}
+use Rattle.std.proofs.lemmas.List.{append-nil, drop_all, map-append}
+use Rattle.std.proofs.lemmas.Option.{slice_get-map, slice_get_read}
+use Rattle.mls_wire.specs.Reading.{◌>>=◌}
+use Rattle.mls_leaf.specs.KeyPackage.{key_package}
+use Rattle.mls_leaf.specs.declared.key_package.KeyPackage.{KeyPackage}
+use Rattle.mls_leaf.specs.declared.proposal.Proposal.{Proposal}
+use Rattle.mls_types.specs.declared.commit.ProposalOrRef.{ProposalOrRef}
+use Rattle.mls_types.specs.declared.commit.ProposalOrRef.TheVariants as listed
+use Rattle.mls_model.specs.declared.event.Source.{Source}
+use Rattle.mls_model.specs.declared.event.WorldItem.{WorldItem}
+use Rattle.mls_model.specs.declared.item.Item.{Item}
+use Rattle.mls_model.specs.Public.{Used}
+use Rattle.mls_model.specs.Proposals.{add_in, adds}
+use Rattle.mls_model.specs.Candidate.{Candidate}
+use Rattle.mls_model.specs.Make.{listed_of}
+use Rattle.mls_model.specs.Member.{Kept, kept_under, used_one, used_by, named_one, named}
+use Rattle.mls_model.specs.Journal.{Journal, names_in, used_of, adds_in}
+use Rattle.mls_model.specs.World.{World, item_of, items_of, made_for}
+use Rattle.mls_public_group.proofs.Rest.{here, all_behind}
+use Rattle.mls_member.specs.Answers.{IsShortItem, AreShortItems}
+use Rattle.mls_world_plain.specs.Listed.{said_by, also}
+use Rattle.mls_world_plain.specs.Parts.{adds_for, FirstIs}
+use Rattle.mls_world_plain.specs.Stored.{Making, made_of}
+
+-- ---- names
+
+abbrev message_of : Kept → List ℕ
+message_of k = k.message
+
+by_option : (o : Option Kept) (ks : List Kept) → map message_of (cons_option o ks) ≡ cons_option (option_map message_of o) (map message_of ks)
+by_option None ks = refl
+by_option (Some k) ks = refl
+
+names_cons : (kept : List Kept) (x : ProposalOrRef) (xs : List ProposalOrRef) → names_in kept (x ∷ xs) ≡ cons_option (option_map message_of (named_one kept x)) (names_in kept xs)
+unfolding names_in named
+names_cons kept x xs = by_option (named_one kept x) (filter_map (named_one kept) xs)
+
+-- names so far, and those of the rest
+abbrev pub AreNames : List Kept → List (List ℕ) → List ProposalOrRef → List (List ℕ) → Type 0
+AreNames kept names rest all = names ++ names_in kept rest ≡ all
+
+one_named : (kept : List Kept) (names : List (List ℕ)) (x : ProposalOrRef) (xs : List ProposalOrRef) (all : List (List ℕ)) (m : List ℕ) → Some m ≡ option_map message_of (named_one kept x) → AreNames kept names (x ∷ xs) all → AreNames kept (names ++ m ∷ []) xs all
+one_named kept names x xs all m e h =
+    let d : names_in kept (x ∷ xs) ≡ m ∷ names_in kept xs = names_cons kept x xs ∙ ap (λ (o : Option (List ℕ)). cons_option o (names_in kept xs)) (sym e) in
+    append_assoc names (m ∷ []) (names_in kept xs) ∙ ap (λ l. names ++ l) (sym d) ∙ h
+
+none_named : (kept : List Kept) (names : List (List ℕ)) (x : ProposalOrRef) (xs : List ProposalOrRef) (all : List (List ℕ)) → None ≡ option_map message_of (named_one kept x) → AreNames kept names (x ∷ xs) all → AreNames kept names xs all
+none_named kept names x xs all e h =
+    let d : names_in kept (x ∷ xs) ≡ names_in kept xs = names_cons kept x xs ∙ ap (λ (o : Option (List ℕ)). cons_option o (names_in kept xs)) (sym e) in
+    ap (λ l. names ++ l) (sym d) ∙ h
+
+-- of a list that is seen as a commit lists it
+abbrev pub NamesFrom : {X : Type 0} → (X → ProposalOrRef) → List Kept → List X → ℕ → List (List ℕ) → Type 0
+NamesFrom f kept list i names = AreNames kept names (map f (drop i list)) (names_in kept (map f list))
+
+pub names_start : {X : Type 0} (f : X → ProposalOrRef) (kept : List Kept) (list : List X) → NamesFrom f kept list 0 []
+names_start f kept list = refl
+
+pub names_next : {X : Type 0} (f : X → ProposalOrRef) (kept : List Kept) (list : List X) (i : ℕ) (x : X) (names : List (List ℕ)) (m : List ℕ) → i < length list → x ≡ get_or list i x → NamesFrom f kept list i names → Some m ≡ option_map message_of (named_one kept (f x)) → NamesFrom f kept list (i + 1) (names ++ m ∷ [])
+names_next f kept list i x names m lt e h named =
+    one_named kept names (f x) (map f (drop (i + 1) list)) (names_in kept (map f list)) m named (subst (λ l. AreNames kept names (map f l) (names_in kept (map f list))) (here list i x lt e) h)
+
+pub names_pass : {X : Type 0} (f : X → ProposalOrRef) (kept : List Kept) (list : List X) (i : ℕ) (x : X) (names : List (List ℕ)) → i < length list → x ≡ get_or list i x → NamesFrom f kept list i names → None ≡ option_map message_of (named_one kept (f x)) → NamesFrom f kept list (i + 1) names
+names_pass f kept list i x names lt e h named =
+    none_named kept names (f x) (map f (drop (i + 1) list)) (names_in kept (map f list)) named (subst (λ l. AreNames kept names (map f l) (names_in kept (map f list))) (here list i x lt e) h)
+
+pub names_step : {X : Type 0} (f : X → ProposalOrRef) (kept : List Kept) (list : List X) (i : ℕ) (x : X) (names : List (List ℕ)) (o : Option (List ℕ)) → i < length list → x ≡ get_or list i x → o ≡ option_map message_of (named_one kept (f x)) → NamesFrom f kept list i names
+    → NamesFrom f kept list (i + 1) (names ++ option_to_list o)
+names_step f kept list i x names None lt e is h = subst (λ (l : List (List ℕ)). NamesFrom f kept list (i + 1) l) (sym (append-nil names)) (names_pass f kept list i x names lt e h is)
+names_step f kept list i x names (Some m) lt e is h = names_next f kept list i x names m lt e h is
+
+pub names_end : {X : Type 0} (f : X → ProposalOrRef) (kept : List Kept) (list : List X) (i : ℕ) (names : List (List ℕ)) → length list ≤ i → NamesFrom f kept list i names → names ≡ names_in kept (map f list)
+unfolding names_in named
+names_end f kept list i names le h = sym (append-nil names) ∙ subst (λ l. AreNames kept names (map f l) (names_in kept (map f list))) (drop_all i list le) h
+
+map_same : (list : List ProposalOrRef) → map (λ (x : ProposalOrRef). x) list ≡ list
+map_same [] = refl
+map_same (x ∷ xs) = ap (λ (l : List ProposalOrRef). x ∷ l) (map_same xs)
+
+-- of a list as it is
+pub names_same : (kept : List Kept) (list : List ProposalOrRef) → names_in kept (map (λ (x : ProposalOrRef). x) list) ≡ names_in kept list
+names_same kept list = ap (λ (l : List ProposalOrRef). names_in kept l) (map_same list)
+
+-- ---- KeyPackages that are added
+
+abbrev spelled : KeyPackage → List ℕ
+spelled offered = key_package.spell offered
+
+-- those so far and those of the rest, none where a reference isn't kept
+abbrev behind : List (List ℕ) → Result (List Used) ℕ → List (List ℕ)
+behind done (Ok us) = done ++ map spelled (adds us)
+behind done (Err n) = []
+
+-- what is used of what one says
+pub record IsUsed (kept : List Kept) (x : ProposalOrRef) (p : Proposal) : Type 0 where
+  pub used : Used
+  pub is : used_one kept 0 x ≡ Ok used
+  pub says : used.proposal ≡ p
+
+used_kept : (kept : List Kept) (r : List ℕ) (o : Option Kept) (p : Proposal) → kept_under kept r ≡ o → option_map (λ (k : Kept). k.proposal) o ≡ Some p → IsUsed kept (listed.Reference r) p
+used_kept kept r None p e h = absurd cc
+used_kept kept r (Some k) p e h = record { used = record { proposal = k.proposal; sender = k.sender; is_full = false }; is = rw e refl; says = cc }
+
+is_used : (kept : List Kept) (x : ProposalOrRef) (p : Proposal) → said_by kept x ≡ Some p → IsUsed kept x p
+is_used kept (listed.Proposal q) p h = record { used = record { proposal = q; sender = 0; is_full = true }; is = refl; says = cc }
+is_used kept (listed.Reference r) p h = used_kept kept r (kept_under kept r) p refl h
+
+unknown : (kept : List Kept) (r : List ℕ) (o : Option Kept) → kept_under kept r ≡ o → option_map (λ (k : Kept). k.proposal) o ≡ None → used_one kept 0 (listed.Reference r) ≡ Err 60
+unknown kept r None e h = rw e refl
+unknown kept r (Some k) e h = absurd cc
+
+not_used : (kept : List Kept) (x : ProposalOrRef) → said_by kept x ≡ None → used_one kept 0 x ≡ Err 60
+not_used kept (listed.Proposal q) h = absurd cc
+not_used kept (listed.Reference r) h = unknown kept r (kept_under kept r) refl h
+
+also_so : (done : List (List ℕ)) (o : Option KeyPackage) (ks : List KeyPackage) → done ++ map spelled (cons_option o ks) ≡ also done o ++ map spelled ks
+also_so done None ks = refl
+also_so done (Some offered) ks = sym (append_assoc done (spelled offered ∷ []) (map spelled ks))
+
+one_used : (done : List (List ℕ)) (u : Used) (r : Result (List Used) ℕ) → behind done (r >>= λ us. Ok (u ∷ us)) ≡ behind (also done (add_in u.proposal)) r
+unfolding adds
+one_used done u (Ok us) = also_so done (add_in u.proposal) (filter_map (λ (v : Used). add_in v.proposal) us)
+one_used done u (Err n) = refl
+
+abbrev pub AddsFrom : List Kept → List Item → ℕ → List (List ℕ) → Type 0
+AddsFrom kept items i done = behind done (used_by kept 0 (map listed_of (drop i items))) ≡ adds_in kept (map listed_of items)
+
+first_adds : (r : Result (List Used) ℕ) → behind [] r ≡ map spelled (adds (used_of r))
+unfolding adds
+first_adds (Ok us) = refl
+first_adds (Err n) = refl
+
+pub adds_start : (kept : List Kept) (items : List Item) → AddsFrom kept items 0 []
+unfolding adds_in
+adds_start kept items = first_adds (used_by kept 0 (map listed_of items))
+
+used_first : (kept : List Kept) (x : ProposalOrRef) (xs : List ProposalOrRef) (p : Proposal) (done all : List (List ℕ)) → IsUsed kept x p → behind done (used_by kept 0 (x ∷ xs)) ≡ all → behind (also done (add_in p)) (used_by kept 0 xs) ≡ all
+unfolding used_by
+used_first kept x xs p done all u h =
+    let e : behind done (used_by kept 0 xs >>= λ us. Ok (u.used ∷ us)) ≡ all = rw u.is at h in
+    subst (λ (q : Proposal). behind (also done (add_in q)) (used_by kept 0 xs) ≡ all) u.says (sym (one_used done u.used (used_by kept 0 xs)) ∙ e)
+
+unused_first : (kept : List Kept) (x : ProposalOrRef) (xs : List ProposalOrRef) (done all : List (List ℕ)) → used_one kept 0 x ≡ Err 60 → behind done (used_by kept 0 (x ∷ xs)) ≡ all → [] ≡ all
+unfolding used_by
+unused_first kept x xs done all e h = rw e at h
+
+at_item : (kept : List Kept) (items : List Item) (i : ℕ) (x : Item) (done : List (List ℕ)) → i < length items → x ≡ get_or items i x → AddsFrom kept items i done → behind done (used_by kept 0 (listed_of x ∷ map listed_of (drop (i + 1) items))) ≡ adds_in kept (map listed_of items)
+at_item kept items i x done lt e h = subst (λ (l : List Item). behind done (used_by kept 0 (map listed_of l)) ≡ adds_in kept (map listed_of items)) (here items i x lt e) h
+
+-- one that says a proposal
+pub adds_next : (kept : List Kept) (items : List Item) (i : ℕ) (x : Item) (p : Proposal) (done : List (List ℕ)) → i < length items → x ≡ get_or items i x → Some p ≡ said_by kept (listed_of x) → AddsFrom kept items i done → AddsFrom kept items (i + 1) (also done (add_in p))
+adds_next kept items i x p done lt e said h =
+    used_first kept (listed_of x) (map listed_of (drop (i + 1) items)) p done (adds_in kept (map listed_of items)) (is_used kept (listed_of x) p (sym said)) (at_item kept items i x done lt e h)
+
+pub adds_stop : (kept : List Kept) (items : List Item) (i : ℕ) (x : Item) (done : List (List ℕ)) → i < length items → x ≡ get_or items i x → None ≡ said_by kept (listed_of x) → AddsFrom kept items i done → [] ≡ adds_in kept (map listed_of items)
+adds_stop kept items i x done lt e said h =
+    unused_first kept (listed_of x) (map listed_of (drop (i + 1) items)) done (adds_in kept (map listed_of items)) (not_used kept (listed_of x) (sym said)) (at_item kept items i x done lt e h)
+
+pub adds_end : (kept : List Kept) (items : List Item) (i : ℕ) (done : List (List ℕ)) → length items ≤ i → AddsFrom kept items i done → done ≡ adds_in kept (map listed_of items)
+unfolding used_by adds
+adds_end kept items i done le h = sym (append-nil done) ∙ subst (λ (l : List Item). behind done (used_by kept 0 (map listed_of l)) ≡ adds_in kept (map listed_of items)) (drop_all i items le) h
+
+no_value : (o : Option (Bor Proposal)) → ((x : Bor Proposal) → o ≢ Some x) → option_copied o ≡ None
+no_value None h = refl
+no_value (Some x) h = absurd (h x refl)
+
+pub adds_none : (kept : List Kept) (items : List Item) (i : ℕ) (x : Item) (done : List (List ℕ)) (o : Option (Bor Proposal)) → i < length items → x ≡ get_or items i x → option_copied o ≡ said_by kept (listed_of x) → ((y : Bor Proposal) → o ≢ Some y) → AddsFrom kept items i done
+    → [] ≡ adds_in kept (map listed_of items)
+adds_none kept items i x done o lt e said none h = adds_stop kept items i x done lt e (sym (no_value o none) ∙ said) h
+
+pub rest_short : (items : List Item) (i : ℕ) (x : Item) → i < length items → x ≡ get_or items i x → AreShortItems (drop i items) → AreShortItems (drop (i + 1) items)
+rest_short items i x lt e h = (subst (λ (l : List Item). AreShortItems l) (here items i x lt e) h).1
+
+-- ---- items
+
+abbrev pub with_items : List ProposalOrRef → Result (List ProposalOrRef) ℕ → Result (List ProposalOrRef) ℕ
+with_items done r = r >>= λ ys. Ok (done ++ ys)
+
+-- items so far, and those of the rest
+pub record AreItems (w : World) (items : List WorldItem) (i : ℕ) (done : List Item) : Type 0 where
+  pub answer : with_items (map listed_of done) (items_of w (drop i items)) ≡ items_of w items
+  pub short : AreShortItems done
+
+none_done : (r : Result (List ProposalOrRef) ℕ) → with_items [] r ≡ r
+none_done (Ok ys) = refl
+none_done (Err n) = refl
+
+pub items_start : (w : World) (items : List WorldItem) → AreItems w items 0 []
+items_start w items = record { answer = none_done (items_of w items); short = tt }
+
+abbrev all_ok : List ProposalOrRef → Result (List ProposalOrRef) ℕ
+all_ok ys = Ok ys
+
+one_item : (done : List ProposalOrRef) (y : ProposalOrRef) (r : Result (List ProposalOrRef) ℕ) → with_items done (r >>= λ ys. Ok (y ∷ ys)) ≡ with_items (done ++ y ∷ []) r
+one_item done y (Ok ys) = ap (λ (l : List ProposalOrRef). all_ok l) (sym (append_assoc done (y ∷ []) ys))
+one_item done y (Err n) = refl
+
+item_done : (w : World) (x : WorldItem) (xs : List WorldItem) (y : ProposalOrRef) (done : List ProposalOrRef) (all : Result (List ProposalOrRef) ℕ) → item_of w x ≡ Ok y → with_items done (items_of w (x ∷ xs)) ≡ all → with_items (done ++ y ∷ []) (items_of w xs) ≡ all
+unfolding items_of
+item_done w x xs y done all e h = sym (one_item done y (items_of w xs)) ∙ (rw e at h)
+
+item_fails : (w : World) (x : WorldItem) (xs : List WorldItem) (n : ℕ) (done : List ProposalOrRef) (all : Result (List ProposalOrRef) ℕ) → item_of w x ≡ Err n → with_items done (items_of w (x ∷ xs)) ≡ all → all ≡ Err n
+unfolding items_of
+item_fails w x xs n done all e h = sym (rw e at h)
+
+pub items_next : (w : World) (items : List WorldItem) (i : ℕ) (x : WorldItem) (y : Item) (done : List Item) → i < length items → x ≡ get_or items i x → AreItems w items i done → item_of w x ≡ Ok (listed_of y) → IsShortItem y → AreItems w items (i + 1) (done ++ y ∷ [])
+items_next w items i x y done lt e h is short = record {
+  answer =
+      let a = subst (λ (l : List WorldItem). with_items (map listed_of done) (items_of w l) ≡ items_of w items) (here items i x lt e) h.answer in
+      let b = item_done w x (drop (i + 1) items) (listed_of y) (map listed_of done) (items_of w items) is a in
+      subst (λ (l : List ProposalOrRef). with_items l (items_of w (drop (i + 1) items)) ≡ items_of w items) (sym (map-append listed_of done (y ∷ []))) b;
+  short = all_behind IsShortItem done y h.short short;
+}
+
+pub items_fail : (w : World) (items : List WorldItem) (i : ℕ) (x : WorldItem) (n : ℕ) (done : List Item) → i < length items → x ≡ get_or items i x → AreItems w items i done → item_of w x ≡ Err n → items_of w items ≡ Err n
+items_fail w items i x n done lt e h is =
+    item_fails w x (drop (i + 1) items) n (map listed_of done) (items_of w items) is (subst (λ (l : List WorldItem). with_items (map listed_of done) (items_of w l) ≡ items_of w items) (here items i x lt e) h.answer)
+
+pub items_end : (w : World) (items : List WorldItem) (i : ℕ) (done : List Item) → length items ≤ i → AreItems w items i done → items_of w items ≡ Ok (map listed_of done)
+unfolding items_of
+items_end w items i done le h =
+    let a = subst (λ (l : List WorldItem). with_items (map listed_of done) (items_of w l) ≡ items_of w items) (drop_all i items le) h.answer in
+    sym a ∙ ap (λ (l : List ProposalOrRef). all_ok l) (append-nil (map listed_of done))
+
+-- ---- the first record
+
+-- none of the records before this one
+abbrev pub FirstFrom : List Journal → List Making → Source → Candidate → ℕ → Type 0
+FirstFrom js ds source k i = made_for (map (made_of js) (drop i ds)) source k ≡ made_for (map (made_of js) ds) source k
+
+first_is : (js : List Journal) (d : Making) (ds : List Making) (source : Source) (k : Candidate) → adds_for source (key_package.spell k.offered) d ≡ true → made_for (map (made_of js) (d ∷ ds)) source k ≡ Some (made_of js d)
+unfolding made_for
+first_is js d ds source k e = rw e refl
+
+first_not : (js : List Journal) (d : Making) (ds : List Making) (source : Source) (k : Candidate) → adds_for source (key_package.spell k.offered) d ≡ false → made_for (map (made_of js) (d ∷ ds)) source k ≡ made_for (map (made_of js) ds) source k
+unfolding made_for
+first_not js d ds source k e = rw e refl
+
+pub first_found : (js : List Journal) (ds : List Making) (source : Source) (k : Candidate) (i : ℕ) (d : Making) → i < length ds → d ≡ get_or ds i d → FirstFrom js ds source k i → adds_for source (key_package.spell k.offered) d ≡ true → made_for (map (made_of js) ds) source k ≡ slice_get (map (made_of js) ds) i
+first_found js ds source k i d lt e h met =
+    let a : made_for (map (made_of js) (d ∷ drop (i + 1) ds)) source k ≡ made_for (map (made_of js) ds) source k = subst (λ (l : List Making). made_for (map (made_of js) l) source k ≡ made_for (map (made_of js) ds) source k) (here ds i d lt e) h in
+    sym a ∙ first_is js d (drop (i + 1) ds) source k met ∙ sym (slice_get-map (made_of js) ds i ∙ ap (λ (o : Option Making). option_map (made_of js) o) (slice_get_read ds (length ds) i d refl lt e))
+
+pub first_passed : (js : List Journal) (ds : List Making) (source : Source) (k : Candidate) (i : ℕ) (d : Making) → i < length ds → d ≡ get_or ds i d → FirstFrom js ds source k i → adds_for source (key_package.spell k.offered) d ≡ false → FirstFrom js ds source k (i + 1)
+first_passed js ds source k i d lt e h passed =
+    let a : made_for (map (made_of js) (d ∷ drop (i + 1) ds)) source k ≡ made_for (map (made_of js) ds) source k = subst (λ (l : List Making). made_for (map (made_of js) l) source k ≡ made_for (map (made_of js) ds) source k) (here ds i d lt e) h in
+    sym (first_not js d (drop (i + 1) ds) source k passed) ∙ a
+
+pub first_none : (js : List Journal) (ds : List Making) (source : Source) (k : Candidate) (i : ℕ) → length ds ≤ i → FirstFrom js ds source k i → made_for (map (made_of js) ds) source k ≡ None
+unfolding made_for
+first_none js ds source k i le h = sym (subst (λ (l : List Making). made_for (map (made_of js) l) source k ≡ made_for (map (made_of js) ds) source k) (drop_all i ds le) h)
+
+-- whatever the journals and the candidate
+abbrev pub NoneBefore : List Making → Source → List ℕ → ℕ → Type 0
+NoneBefore ds source offered i = (js : List Journal) (k : Candidate) → offered ≡ key_package.spell k.offered → FirstFrom js ds source k i
+
+pub none_yet : (ds : List Making) (source : Source) (offered : List ℕ) → NoneBefore ds source offered 0
+none_yet ds source offered js k e = refl
+
+pub none_next : (ds : List Making) (source : Source) (offered : List ℕ) (i : ℕ) (d : Making) → i < length ds → d ≡ get_or ds i d → adds_for source offered d ≡ false → NoneBefore ds source offered i → NoneBefore ds source offered (i + 1)
+none_next ds source offered i d lt at passed h js k e = first_passed js ds source k i d lt at (h js k e) (subst (λ (l : List ℕ). adds_for source l d ≡ false) e passed)
+
+pub now_found : (ds : List Making) (source : Source) (offered : List ℕ) (i : ℕ) (d : Making) → i < length ds → d ≡ get_or ds i d → adds_for source offered d ≡ true → NoneBefore ds source offered i → FirstIs ds source offered (Some i)
+now_found ds source offered i d lt at met h js k e = first_found js ds source k i d lt at (h js k e) (subst (λ (l : List ℕ). adds_for source l d ≡ true) e met)
+
+pub none_found : (ds : List Making) (source : Source) (offered : List ℕ) (i : ℕ) → length ds ≤ i → NoneBefore ds source offered i → FirstIs ds source offered None
+none_found ds source offered i le h js k e = first_none js ds source k i le (h js k e)

@@ -1,0 +1,229 @@
+-- What bytes stand for, by a view of the message that they are.
+use denote.Ref.{Bor}
+use Rattle.std.proofs.lemmas.List.{length-append}
+use Rattle.std.proofs.Math.Seq.{take-length}
+use Rattle.std.proofs.Common.{◌≡◌, ℕ, ◌-◌, length-drop, ◌<◌, ◌≤◌, ◌^◌, List, [], ◌++◌, length, take, drop, Option, Some, None, Result, Ok, Err, refl, sym, ap, subst, ◌∙◌, arith, lit<}
+use Rattle.std.specs.Prelude.{◌≢◌, IfOk, IfSome}
+use Rattle.std.specs.Int.{w16}
+use Rattle.mls_wire.specs.Reading.{uint}
+use Rattle.mls_wire.specs.Format.{IsBytes}
+use Rattle.mls_wire.specs.Combine.{vector}
+use Rattle.mls_leaf.specs.Faults.{Spells, whole}
+use Rattle.mls_leaf.specs.Limits.{input_limit}
+use Rattle.mls_leaf.proofs.WholeLaws.{whole_takes, spells_same}
+use Rattle.mls_leaf.specs.KeyPackage.{key_package}
+use Rattle.mls_leaf.specs.Proposal.{proposal as proposal_format}
+use Rattle.mls_leaf.specs.declared.key_package.KeyPackage.{KeyPackage}
+use Rattle.mls_leaf.specs.declared.proposal.Proposal.{Proposal}
+use Rattle.mls_leaf.specs.declared.proposal.Proposal.TheVariants as proposes
+use Rattle.mls_types.specs.Message.{mls_message}
+use Rattle.mls_types.specs.Commit.{proposal_or_ref, proposal_or_ref_nonempty}
+use Rattle.mls_types.specs.SignedParts.{bare}
+use Rattle.mls_types.specs.PublicMessage.{authenticated_content}
+use Rattle.mls_types.specs.Reference.{proposal_reference}
+use Rattle.mls_types.specs.declared.commit.ProposalOrRef.{ProposalOrRef}
+use Rattle.mls_types.specs.declared.message.MlsMessage.{MlsMessage}
+use Rattle.mls_types.specs.declared.message.MlsMessage.TheVariants as message_of
+use Rattle.mls_types.specs.declared.public_message.PublicMessage.{PublicMessage}
+use Rattle.mls_types.specs.declared.public_message.WireFormat.TheVariants as formats
+use Rattle.mls_types.specs.declared.signed.SignedBody.{SignedBody}
+use Rattle.mls_types.specs.declared.signed.SignedBody.TheVariants as body_of
+use Rattle.mls_types.specs.declared.signed.SignedContent.{SignedContent}
+use Rattle.mls_view.specs.declared.content.ContentView.{ContentView}
+use Rattle.mls_view.specs.declared.content.ContentView.TheVariants as view_of
+use Rattle.mls_view.specs.declared.message.MessageView.{MessageView}
+use Rattle.mls_view.specs.declared.message.MessageView.TheVariants as views
+use Rattle.mls_view.specs.declared.public_message.PublicMessageView.{PublicMessageView}
+use Rattle.mls_view.specs.Shown.{Shows, ShowsPublic, ShowsContent}
+use Rattle.mls_view.specs.Views.{LendsAll}
+use Rattle.mls_public_group.specs.Short.{IsBelow}
+use Rattle.mls_public_group.specs.ShortProposal.{IsShortProposal}
+use Rattle.mls_public_group.proofs.ShortProposal.{short_parts}
+use Rattle.mls_model.specs.Messages.{decoded, reference_of}
+use Rattle.mls_model.specs.World.{if_proposal}
+use Rattle.mls_model.specs.Journal.{list_in, list_of_body, list_of_message}
+use Rattle.mls_model.specs.Candidate.{package_message}
+use Rattle.mls_public_group.proofs.Lengths.{last_within, length-uint16}
+use Rattle.mls_member.proofs.LengthLaws.{within_limit}
+use Rattle.mls_member.proofs.ContentLaws.{IsPublic}
+use Rattle.mls_world_plain.specs.Sources.{package_read, reference_read, reference_said}
+
+-- ---- KeyPackages
+
+pub record IsPackage (bytes part : List ℕ) : Type 0 where
+  pub shown : KeyPackage
+  pub is_read : whole mls_message input_limit bytes ≡ Ok (message_of.KeyPackage shown)
+  pub spells : Spells key_package shown part
+
+is_package : (bytes part : List ℕ) (value : MlsMessage) → whole mls_message input_limit bytes ≡ Ok value → Shows (views.KeyPackage part) value → IsPackage bytes part
+is_package bytes part (message_of.PublicMessage v) e shows = absurd shows
+is_package bytes part (message_of.Welcome v) e shows = absurd shows
+is_package bytes part (message_of.GroupInfo v) e shows = absurd shows
+is_package bytes part (message_of.KeyPackage v) e shows = record { shown = v; is_read = e; spells = shows }
+
+pub package_of : (bytes : List ℕ) (view : MessageView) (part : List ℕ) → LendsAll mls_message input_limit Shows bytes view → view ≡ views.KeyPackage part → IsPackage bytes part
+package_of bytes view part lends is = is_package bytes part lends.value lends.is_read (subst (λ (x : MessageView). Shows x lends.value) is lends.shows)
+
+abbrev the_package : KeyPackage → Result KeyPackage ℕ
+the_package k = Ok k
+
+pub package_is : (bytes part : List ℕ) (k : KeyPackage) → IsPackage bytes part → Spells key_package k part → package_read bytes ≡ Ok k
+unfolding package_read decoded
+package_is bytes part k p spells = rw p.is_read (ap (λ (x : KeyPackage). the_package x) (spells_same key_package p.shown k part p.spells spells))
+
+message_spelled : (v : KeyPackage) → mls_message.spell (message_of.KeyPackage v) ≡ uint w16 1 ++ (uint w16 5 ++ key_package.spell v)
+unfolding mls_message
+message_spelled v = refl
+
+-- it is no longer than an input
+pub package_below : (bytes part : List ℕ) (k : KeyPackage) → IsBytes bytes → IsPackage bytes part → Spells key_package k part → IsBelow (2 ^ 27) key_package k
+package_below bytes part k fits p spells =
+    let same : p.shown ≡ k = spells_same key_package p.shown k part p.spells spells in
+    let all : Spells mls_message (message_of.KeyPackage p.shown) bytes = whole_takes mls_message input_limit bytes (message_of.KeyPackage p.shown) fits p.is_read in
+    let short : length bytes ≤ input_limit = within_limit mls_message input_limit bytes (message_of.KeyPackage p.shown) p.is_read in
+    let inner : length (uint w16 1 ++ (uint w16 5 ++ key_package.spell p.shown)) ≤ input_limit = subst (λ (l : List ℕ). length l ≤ input_limit) (all.spelled ∙ message_spelled p.shown) short in
+    let le : length (key_package.spell p.shown) ≤ input_limit = omega (arith, inner, last_within (uint w16 1) (uint w16 5 ++ key_package.spell p.shown), last_within (uint w16 5) (key_package.spell p.shown)) in
+    let lek : length (key_package.spell k) ≤ input_limit = subst (λ (x : KeyPackage). length (key_package.spell x) ≤ input_limit) same le in
+    record { fits = spells.fits; below = omega (arith, lek) }
+
+-- so the proposal that adds it is short
+pub item_added : (k : KeyPackage) → IsBelow (2 ^ 27) key_package k → IsShortProposal (proposes.Add k)
+item_added k h = record { fits = h.fits; below = omega (arith, h.below) }
+
+-- and so is one that is kept
+pub kept_short : (o : Option (Bor Proposal)) → IfSome o (λ p. IsBelow (2 ^ 27) proposal_format p.now) → IfSome o (λ p. IsShortProposal p.now)
+kept_short None h = h
+kept_short (Some p) h = short_parts p.now (record { fits = h.fits; below = omega (arith, h.below) })
+
+pub wider : (k : KeyPackage) → IsBelow (2 ^ 27) key_package k → IsBelow (2 ^ 28) key_package k
+wider k h = record { fits = h.fits; below = omega (arith, h.below) }
+
+other_package : (bytes : List ℕ) (view : MessageView) (value : MlsMessage) → whole mls_message input_limit bytes ≡ Ok value → Shows view value → ((x : List ℕ) → view ≢ views.KeyPackage x) → package_read bytes ≡ Err 95
+unfolding package_read decoded
+other_package bytes (views.KeyPackage x) value e shows none = absurd (none x refl)
+other_package bytes (views.PublicMessage x) (message_of.KeyPackage v) e shows none = absurd shows
+other_package bytes (views.Welcome x) (message_of.KeyPackage v) e shows none = absurd shows
+other_package bytes (views.GroupInfo x) (message_of.KeyPackage v) e shows none = absurd shows
+other_package bytes view (message_of.PublicMessage v) e shows none = rw e refl
+other_package bytes view (message_of.Welcome v) e shows none = rw e refl
+other_package bytes view (message_of.GroupInfo v) e shows none = rw e refl
+
+pub no_package : (bytes : List ℕ) (view : MessageView) → LendsAll mls_message input_limit Shows bytes view → ((x : List ℕ) → view ≢ views.KeyPackage x) → package_read bytes ≡ Err 95
+no_package bytes view lends none = other_package bytes view lends.value lends.is_read lends.shows none
+
+pub no_message : (bytes : List ℕ) (n : ℕ) → whole mls_message input_limit bytes ≡ Err n → (package_read bytes ≡ Err n) × (reference_read bytes ≡ Err n)
+unfolding package_read reference_read decoded
+no_message bytes n e = (rw e refl, rw e refl)
+
+-- ---- references
+
+-- the reference that is taken over a signed content
+abbrev taken : SignedContent → List ℕ
+taken v = proposal_reference (authenticated_content.spell (record { wire_format = formats.PublicMessage; content = v }))
+
+said : (v : SignedContent) (body : SignedBody) (view : ContentView) (part : List ℕ) → view ≡ view_of.Proposal part → ShowsContent view (bare body) → if_proposal v body ≡ Some v
+said v (body_of.Application t) view part is shows = absurd (subst (λ (x : ContentView). ShowsContent x (bare (body_of.Application t))) is shows)
+said v (body_of.Proposal p) view part is shows = refl
+said v (body_of.Commit k tag) view part is shows = absurd (subst (λ (x : ContentView). ShowsContent x (bare (body_of.Commit k tag))) is shows)
+
+pub said_is : (view : PublicMessageView) (shown : PublicMessage) (part reference : List ℕ) → ShowsPublic view shown → view.content.content ≡ view_of.Proposal part → reference ≡ taken shown.content → reference_said shown.content ≡ Ok reference
+unfolding reference_said reference_of
+said_is view shown part reference shows is e = rw (said shown.content shown.content.body view.content.content part is shows.content.content, e) refl
+
+unsaid : (v : SignedContent) (body : SignedBody) (view : ContentView) → ((x : List ℕ) → view ≢ view_of.Proposal x) → ShowsContent view (bare body) → if_proposal v body ≡ None
+unsaid v (body_of.Application t) view none shows = refl
+unsaid v (body_of.Proposal p) (view_of.Proposal x) none shows = absurd (none x refl)
+unsaid v (body_of.Proposal p) (view_of.Application x) none shows = absurd shows
+unsaid v (body_of.Proposal p) (view_of.Commit x y) none shows = absurd shows
+unsaid v (body_of.Commit k tag) view none shows = refl
+
+pub unsaid_is : (view : PublicMessageView) (shown : PublicMessage) → ShowsPublic view shown → ((x : List ℕ) → view.content.content ≢ view_of.Proposal x) → reference_said shown.content ≡ Err 95
+unfolding reference_said
+unsaid_is view shown shows none = rw (unsaid shown.content shown.content.body view.content.content none shows.content.content) refl
+
+pub public_reference : (bytes : List ℕ) (view : PublicMessageView) (p : IsPublic bytes view) → reference_read bytes ≡ reference_said p.shown.content
+unfolding reference_read reference_said decoded
+public_reference bytes view p = rw p.is_read refl
+
+other_reference : (bytes : List ℕ) (view : MessageView) (value : MlsMessage) → whole mls_message input_limit bytes ≡ Ok value → Shows view value → ((x : PublicMessageView) → view ≢ views.PublicMessage x) → reference_read bytes ≡ Err 95
+unfolding reference_read decoded
+other_reference bytes (views.PublicMessage x) value e shows none = absurd (none x refl)
+other_reference bytes (views.KeyPackage x) (message_of.PublicMessage v) e shows none = absurd shows
+other_reference bytes (views.Welcome x) (message_of.PublicMessage v) e shows none = absurd shows
+other_reference bytes (views.GroupInfo x) (message_of.PublicMessage v) e shows none = absurd shows
+other_reference bytes view (message_of.KeyPackage v) e shows none = rw e refl
+other_reference bytes view (message_of.Welcome v) e shows none = rw e refl
+other_reference bytes view (message_of.GroupInfo v) e shows none = rw e refl
+
+pub no_reference : (bytes : List ℕ) (view : MessageView) → LendsAll mls_message input_limit Shows bytes view → ((x : PublicMessageView) → view ≢ views.PublicMessage x) → reference_read bytes ≡ Err 95
+no_reference bytes view lends none = other_reference bytes view lends.value lends.is_read lends.shows none
+
+-- ---- lists of commits
+
+listed : (body : SignedBody) (view : ContentView) (list path : List ℕ) (items : List ProposalOrRef) → view ≡ view_of.Commit list path → ShowsContent view (bare body) → Spells (vector proposal_or_ref proposal_or_ref_nonempty) items list → items ≡ list_of_body body
+listed (body_of.Application t) view list path items is shows spells = absurd (subst (λ (x : ContentView). ShowsContent x (bare (body_of.Application t))) is shows)
+listed (body_of.Proposal p) view list path items is shows spells = absurd (subst (λ (x : ContentView). ShowsContent x (bare (body_of.Proposal p))) is shows)
+listed (body_of.Commit k tag) view list path items is shows spells =
+    let parts = subst (λ (x : ContentView). ShowsContent x (bare (body_of.Commit k tag))) is shows in
+    spells_same (vector proposal_or_ref proposal_or_ref_nonempty) items k.proposals list spells parts.0
+
+pub list_is : (view : PublicMessageView) (shown : PublicMessage) (list path : List ℕ) (items : List ProposalOrRef) → ShowsPublic view shown → view.content.content ≡ view_of.Commit list path → Spells (vector proposal_or_ref proposal_or_ref_nonempty) items list → items ≡ list_of_body shown.content.body
+list_is view shown list path items shows is spells = listed shown.content.body view.content.content list path items is shows.content.content spells
+
+unlisted : (body : SignedBody) (view : ContentView) → ((x y : List ℕ) → view ≢ view_of.Commit x y) → ShowsContent view (bare body) → [] ≡ list_of_body body
+unlisted (body_of.Application t) view none shows = refl
+unlisted (body_of.Proposal p) view none shows = refl
+unlisted (body_of.Commit k tag) (view_of.Commit x y) none shows = absurd (none x y refl)
+unlisted (body_of.Commit k tag) (view_of.Application x) none shows = absurd shows
+unlisted (body_of.Commit k tag) (view_of.Proposal x) none shows = absurd shows
+
+pub unlisted_is : (view : PublicMessageView) (shown : PublicMessage) → ShowsPublic view shown → ((x y : List ℕ) → view.content.content ≢ view_of.Commit x y) → [] ≡ list_of_body shown.content.body
+unlisted_is view shown shows none = unlisted shown.content.body view.content.content none shows.content.content
+
+public_list : (view : PublicMessageView) (items : List ProposalOrRef) (value : MlsMessage) → ((shown : PublicMessage) → ShowsPublic view shown → items ≡ list_of_body shown.content.body) → Shows (views.PublicMessage view) value → items ≡ list_of_message (Ok value)
+public_list view items (message_of.PublicMessage v) h shows = h v shows
+public_list view items (message_of.Welcome v) h shows = absurd shows
+public_list view items (message_of.GroupInfo v) h shows = absurd shows
+public_list view items (message_of.KeyPackage v) h shows = absurd shows
+
+pub list_shown : {A E : Type 0} (items : A → List ProposalOrRef) (message : MessageView) (view : PublicMessageView) (r : Result A E) → message ≡ views.PublicMessage view → IfOk r (λ v. (shown : PublicMessage) → ShowsPublic view shown → items v ≡ list_of_body shown.content.body)
+    → IfOk r (λ v. (value : MlsMessage) → Shows message value → items v ≡ list_of_message (Ok value))
+list_shown items message view (Ok v) is h = λ value shows. public_list view (items v) value h (subst (λ (x : MessageView). Shows x value) is shows)
+list_shown items message view (Err e) is h = tt
+
+pub other_list : (message : MessageView) (value : MlsMessage) → ((x : PublicMessageView) → message ≢ views.PublicMessage x) → Shows message value → [] ≡ list_of_message (Ok value)
+other_list (views.PublicMessage x) value none shows = absurd (none x refl)
+other_list (views.KeyPackage x) (message_of.PublicMessage v) none shows = absurd shows
+other_list (views.Welcome x) (message_of.PublicMessage v) none shows = absurd shows
+other_list (views.GroupInfo x) (message_of.PublicMessage v) none shows = absurd shows
+other_list message (message_of.KeyPackage v) none shows = refl
+other_list message (message_of.Welcome v) none shows = refl
+other_list message (message_of.GroupInfo v) none shows = refl
+
+list_read : (bytes : List ℕ) (value : MlsMessage) → whole mls_message input_limit bytes ≡ Ok value → list_in bytes ≡ list_of_message (Ok value)
+unfolding list_in decoded
+list_read bytes value e = rw e refl
+
+pub list_whole : {A E : Type 0} (items : A → List ProposalOrRef) (bytes : List ℕ) (message : MessageView) (r : Result A E) → LendsAll mls_message input_limit Shows bytes message → IfOk r (λ v. (value : MlsMessage) → Shows message value → items v ≡ list_of_message (Ok value))
+    → IfOk r (λ v. items v ≡ list_in bytes)
+list_whole items bytes message (Ok v) lends h = h lends.value lends.shows ∙ sym (list_read bytes lends.value lends.is_read)
+list_whole items bytes message (Err e) lends h = tt
+
+pub no_list_read : (bytes : List ℕ) (n : ℕ) → whole mls_message input_limit bytes ≡ Err n → [] ≡ list_in bytes
+unfolding list_in decoded
+no_list_read bytes n e = rw e refl
+
+-- ---- the message of a KeyPackage
+
+pub package_behind : (k : KeyPackage) → drop 4 (package_message k) ≡ key_package.spell k
+unfolding package_message mls_message uint
+package_behind k = refl
+
+pub package_long : (k : KeyPackage) → 4 ≤ length (package_message k)
+unfolding package_message mls_message
+package_long k = omega (arith, length-append (uint w16 1) (uint w16 5 ++ key_package.spell k), length-append (uint w16 5) (key_package.spell k), length-uint16 1, length-uint16 5)
+
+pub package_rest : (m : List ℕ) (k : KeyPackage) → m ≡ package_message k → take (length m - 4) (drop 4 m) ≡ key_package.spell k
+package_rest m k h =
+    let e : length m - 4 ≡ length (drop 4 m) = sym (length-drop 4 m) in
+    ap (λ (n : ℕ). take n (drop 4 m)) e ∙ take-length (drop 4 m) ∙ ap (λ (l : List ℕ). drop 4 l) h ∙ package_behind k

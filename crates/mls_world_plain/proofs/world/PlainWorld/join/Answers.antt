@@ -1,0 +1,77 @@
+use Rattle.std.proofs.Common.{ℕ, List, Option, ◌≡◌, ◌<◌, length, slice_get, refl, sym, ap, subst, ◌∙◌}
+use Rattle.mls_model.specs.declared.origin.Origin.TheVariants as from
+use Rattle.mls_model.specs.Candidate.{Candidate}
+use Rattle.mls_model.specs.Join.{Joined, join_verdict}
+use Rattle.mls_model.specs.Journal.{begun}
+use Rattle.mls_tree.proofs.RefusalLaws.{one_number, not_refused}
+use Rattle.mls_model.specs.World.{Entrant, World, bytes_of, made_for, with_joined}
+use Rattle.mls_world_plain.specs.Parts.{made_at, IsThere}
+use Rattle.mls_world_plain.proofs.Early.{join_nobody, join_refused as no_bytes}
+use Rattle.mls_world_plain.proofs.Entering.{join_begun, join_absent, join_unread, join_refused, entrant_within}
+use Rattle.mls_world_plain.proofs.Welcomed.{join_made}
+use Rattle.mls_world_plain.proofs.world.PlainWorld.join.Goals as goal
+
+pub returns-in-Err-clause-does : goal.returns-in-Err-clause-does
+returns-in-Err-clause-does g c = (refl, λ _. join_absent g.S.Suite.crypto c.args.self.now c.args.candidate c.args.source.now _ c.in-Err.ensures)
+
+pub returns-in-Err-bytes_of-clause-does : goal.returns-in-Err-bytes_of-clause-does
+returns-in-Err-bytes_of-clause-does g c = (refl, λ _. join_unread g.S.Suite.crypto c.args.self.now c.args.candidate c.args.source.now c.in-Ok.entrant.now _ c.in-Ok.ensures c.in-Err-bytes_of.ensures)
+
+pub returns-in-Err-join-clause-does : goal.returns-in-Err-join-clause-does
+returns-in-Err-join-clause-does g c =
+    let same : c.entrant.inside.candidate ≡ c.in-Ok.entrant.now.candidate = ap (λ (x : Entrant). x.candidate) c.entrant.view_is in (
+      refl,
+      λ h. join_refused g.S.Suite.crypto c.args.self.now c.args.candidate c.args.source.now c.in-Ok-bytes_of.bytes.now c.in-Ok.entrant.now _ c.in-Ok.ensures c.in-Ok-bytes_of.ensures
+          (ap (λ (x : Candidate). join_verdict g.S.Suite.crypto x c.in-Ok-bytes_of.bytes.now) (sym same) ∙ c.in-Err-join.ensures.answer h),
+    )
+
+pub follow_member-requires-clause-candidate : goal.follow_member-requires-clause-candidate
+follow_member-requires-clause-candidate g c = entrant_within c.args.self.now c.args.candidate c.in-Ok.entrant.now c.in-Ok.ensures
+
+pub begin_member-requires : goal.begin_member-requires
+begin_member-requires g c = entrant_within c.args.self.now c.args.candidate c.in-Ok.entrant.now c.in-Ok.ensures
+
+pub returns-in_ok-member-in-Some-clause-does : goal.returns-in_ok-member-in-Some-clause-does
+returns-in_ok-member-in-Some-clause-does g c =
+    let w : World = c.args.self.now in
+    let j : Joined = record { member = c.in-Ok-join.joined.member; info = c.in-Ok-join.joined.group_info.items } in
+    let same : c.entrant.inside.candidate ≡ c.in-Ok.entrant.now.candidate = ap (λ (x : Entrant). x.candidate) c.entrant.view_is in
+    let made : made_for w.made c.args.source.now c.in-Ok.entrant.now.candidate ≡ slice_get w.made c.in-Some.made =
+    ap (λ (x : Candidate). made_for w.made c.args.source.now x) (sym same) ∙ c.made_for.ensures.first ∙ ap (λ (o : Option ℕ). made_at w.made o) c.in-Some.is in
+    let there : c.in-Some.made < length w.made = subst (λ (o : Option ℕ). IsThere w.made o) c.in-Some.is c.made_for.ensures.there in
+    join_made g.S.Suite.crypto w c.follow_member.new.self c.args.candidate c.in_ok-member-in-Some.member c.epoch_number-epoch.result c.in-Some.made c.args.source.now c.in-Ok-bytes_of.bytes.now c.in-Ok.entrant.now j c.in-Ok.ensures c.in-Ok-bytes_of.ensures
+    (ap (λ (x : Candidate). join_verdict g.S.Suite.crypto x c.in-Ok-bytes_of.bytes.now) (sym same) ∙ c.in-Ok-join.ensures.answer)
+    made there c.in_ok-member-in-Some.ensures.number c.epoch_number-epoch.ensures
+    (λ x d q r. c.in_ok-member-in-Some.ensures.ok x d q r)
+
+pub returns-in_ok-member-in-None-clause-does : goal.returns-in_ok-member-in-None-clause-does
+returns-in_ok-member-in-None-clause-does g c =
+    let w : World = c.args.self.now in
+    let j : Joined = record { member = c.in-Ok-join.joined.member; info = c.in-Ok-join.joined.group_info.items } in
+    let same : c.entrant.inside.candidate ≡ c.in-Ok.entrant.now.candidate = ap (λ (x : Entrant). x.candidate) c.entrant.view_is in
+    join_begun g.S.Suite.crypto w c.begin_member.new.self c.args.candidate c.in_ok-member-in-None.member c.epoch_number-epoch.result c.args.source.now c.in-Ok-bytes_of.bytes.now c.in-Ok.entrant.now j c.in-Ok.ensures c.in-Ok-bytes_of.ensures
+    (ap (λ (x : Candidate). join_verdict g.S.Suite.crypto x c.in-Ok-bytes_of.bytes.now) (sym same) ∙ c.in-Ok-join.ensures.answer)
+    (ap (λ (x : Candidate). made_for w.made c.args.source.now x) (sym same) ∙ c.made_for.ensures.first ∙ ap (λ (o : Option ℕ). made_at w.made o) c.in-None.is)
+    c.in_ok-member-in-None.ensures.number c.epoch_number-epoch.ensures
+    (λ x q. subst (λ (l : List ℕ). c.begin_member.new.self ≡ with_joined w c.args.candidate x (record { member = j.member; journal = begun (from.GroupInfo l) })) c.from_vec.ensures (c.in_ok-member-in-None.ensures.ok x q))
+
+pub returns-in-Err-clause-outright : goal.returns-in-Err-clause-outright
+returns-in-Err-clause-outright g c = λ n h. join_nobody c.args.self.now c.args.candidate c.args.source.now _ n c.in-Err.ensures h
+
+pub returns-in-Err-bytes_of-clause-outright : goal.returns-in-Err-bytes_of-clause-outright
+returns-in-Err-bytes_of-clause-outright g c = λ n h. one_number (bytes_of c.args.self.now c.args.source.now) _ c.in-Err-bytes_of.ensures n (no_bytes c.args.self.now c.args.candidate c.args.source.now c.in-Ok.entrant.now n c.in-Ok.ensures h)
+
+pub returns-in-Err-join-clause-outright : goal.returns-in-Err-join-clause-outright
+returns-in-Err-join-clause-outright g c = λ n h. absurd (not_refused (bytes_of c.args.self.now c.args.source.now) _ c.in-Ok-bytes_of.ensures n (no_bytes c.args.self.now c.args.candidate c.args.source.now c.in-Ok.entrant.now n c.in-Ok.ensures h))
+
+pub returns-in_err-member-in-Some-clause-outright : goal.returns-in_err-member-in-Some-clause-outright
+returns-in_err-member-in-Some-clause-outright g c = λ n h. absurd (not_refused (bytes_of c.args.self.now c.args.source.now) _ c.in-Ok-bytes_of.ensures n (no_bytes c.args.self.now c.args.candidate c.args.source.now c.in-Ok.entrant.now n c.in-Ok.ensures h))
+
+pub returns-in_err-member-in-None-clause-outright : goal.returns-in_err-member-in-None-clause-outright
+returns-in_err-member-in-None-clause-outright g c = λ n h. absurd (not_refused (bytes_of c.args.self.now c.args.source.now) _ c.in-Ok-bytes_of.ensures n (no_bytes c.args.self.now c.args.candidate c.args.source.now c.in-Ok.entrant.now n c.in-Ok.ensures h))
+
+pub returns-in_ok-member-in-Some-clause-outright : goal.returns-in_ok-member-in-Some-clause-outright
+returns-in_ok-member-in-Some-clause-outright g c = λ n h. not_refused (bytes_of c.args.self.now c.args.source.now) _ c.in-Ok-bytes_of.ensures n (no_bytes c.args.self.now c.args.candidate c.args.source.now c.in-Ok.entrant.now n c.in-Ok.ensures h)
+
+pub returns-in_ok-member-in-None-clause-outright : goal.returns-in_ok-member-in-None-clause-outright
+returns-in_ok-member-in-None-clause-outright g c = λ n h. not_refused (bytes_of c.args.self.now c.args.source.now) _ c.in-Ok-bytes_of.ensures n (no_bytes c.args.self.now c.args.candidate c.args.source.now c.in-Ok.entrant.now n c.in-Ok.ensures h)

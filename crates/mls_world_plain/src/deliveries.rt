@@ -1,0 +1,135 @@
+//! Deliveries to members.
+
+ghost use Rattle.std.specs.Prelude.{◌≡◌, ◌<◌, length, Ok, IfOk};
+ghost use Rattle.mls_wire.specs.Checks.{DoesAs};
+ghost use Rattle.mls_tree.specs.Refusals.{RefusesOutright};
+ghost use Rattle.mls_model.specs.declared.event.Reply.TheVariants as reply;
+ghost use Rattle.mls_model.specs.Calls.{deliver_answer};
+ghost use Rattle.mls_model.specs.Journal.{list_in, list_of_body, list_of_message, entry_of};
+ghost use Rattle.mls_types.specs.declared.public_message.PublicMessage as messages;
+ghost use Rattle.mls_types.specs.declared.message.MlsMessage as sent;
+ghost use Rattle.mls_view.specs.Shown.{ShowsPublic, Shows};
+ghost use Rattle.mls_world_plain.specs.Faults.{number_of};
+ghost use Rattle.mls_world_plain.specs.Outright.{early_delivery_checks};
+ghost use Rattle.mls_world_plain.specs.Parts.{seat_verdict, advances};
+ghost use Rattle.mls_world_plain.specs.Stored.{seat_of, AreMore};
+
+use crate::entry::Entry;
+use crate::error::WorldError;
+use crate::journal::Journals;
+use crate::names::names_in;
+use crate::seats::Seat;
+use crate::sources::bytes_of;
+use crate::world::PlainWorld;
+use mls_leaf::Bytes;
+use mls_member::Member;
+use mls_model::{Effect, Source};
+use mls_suite::Suite;
+use mls_types::ProposalOrRef;
+use mls_view::{ContentView, MessageView, PublicMessageView};
+use std::alloc::{AllocError, Global};
+
+/// The list of the commit that a PublicMessage has, empty where it has none.
+fn list_of(alloc: Global, view: &PublicMessageView<'_>) -> Result<Vec<ProposalOrRef>, AllocError>
+    ensures { IfOk result (λ v. (shown : messages.PublicMessage) → ShowsPublic view.now shown → v.items ≡ list_of_body shown.content.body) }
+{
+    let ContentView::Commit { proposals, .. } = &view.content.content else {
+        return Ok(Vec::new(alloc));
+    };
+    match proposals.to_owned(alloc) {
+        Ok(list) => Ok(list.into_vec()),
+        // Want of memory: the list was read past when the view was made, so only its copy can fail.
+        Err(_) => Err(AllocError),
+    }
+}
+
+/// The list of the commit that a message has, empty where it has none.
+fn list_said(alloc: Global, message: &MessageView<'_>) -> Result<Vec<ProposalOrRef>, AllocError>
+    ensures { IfOk result (λ v. (value : sent.MlsMessage) → Shows message.now value → v.items ≡ list_of_message (Ok value)) }
+{
+    match message {
+        MessageView::PublicMessage(view) => list_of(alloc, view),
+        _ => Ok(Vec::new(alloc)),
+    }
+}
+
+/// The list of the commit that bytes are, empty where they are none.
+fn list_in(alloc: Global, bytes: &[u8]) -> Result<Vec<ProposalOrRef>, AllocError>
+    ensures { IfOk result (λ v. v.items ≡ list_in bytes.now) }
+{
+    match MessageView::read(bytes) {
+        Ok(message) => list_said(alloc, &message),
+        Err(_) => Ok(Vec::new(alloc)),
+    }
+}
+
+/// The entry of a commit that a member would follow.
+#[tactic(auto, using(crate::proofs::Listing::names_same), unfolding(mls_model::specs::Journal::entry_of))]
+fn entry_of<S: Suite>(alloc: Global, member: &Member<S>, bytes: &[u8]) -> Result<Entry, AllocError>
+    ensures { IfOk result (λ e. e ≡ entry_of member.now bytes.now) }
+{
+    let list = list_in(alloc, bytes)?;
+    let names = names_in(alloc, member, &list)?;
+    let commit = Bytes::from_vec(Vec::from_slice(alloc, bytes)?);
+    Ok(Entry { commit, names })
+}
+
+/// Whether a commit was followed into an epoch.
+fn is_advanced(effect: &Effect) -> bool
+    ensures { result ≡ advances effect.now }
+{
+    match effect {
+        Effect::Advanced { epoch: _ } => true,
+        Effect::Proposed { reference: _ } => false,
+        Effect::Known { reference: _ } => false,
+        Effect::Removed => false,
+    }
+}
+
+/// Hands bytes to a member. Its journal has one more entry where it follows a commit.
+#[tactic(auto, using(crate::proofs::Changing::advanced, crate::proofs::Changing::stayed, crate::proofs::Changing::failed, crate::proofs::Changing::one_behind, crate::proofs::Changing::none_behind, crate::proofs::Changing::last_within))]
+fn hand<S: Suite>(
+    alloc: Global,
+    seat: &mut Seat<S>,
+    journals: &mut Journals,
+    bytes: &[u8],
+) -> Result<Effect, WorldError>
+    requires { seat.old.journal < length journals.old }
+    ensures does { DoesAs (λ e. e) number_of (seat_verdict S.crypto (seat_of journals.old seat.old) bytes.now) (seat_of journals.old seat.old) (seat_of journals.new seat.new) result }
+    ensures more { AreMore journals.old journals.new }
+    ensures within { seat.new.journal < length journals.new }
+{
+    let entry = entry_of(alloc, &seat.member, bytes)?;
+    let next = journals.follow(seat.journal, entry)?;
+    match seat.member.process(bytes) {
+        Ok(effect) => {
+            if is_advanced(&effect) {
+                seat.journal = next;
+                return Ok(effect);
+            }
+            journals.take_back();
+            Ok(effect)
+        }
+        Err(refusal) => {
+            journals.take_back();
+            Err(WorldError::Member(refusal))
+        }
+    }
+}
+
+impl<S: Suite> PlainWorld<S> {
+    /// Delivers a source to a member: 90 no such member, 94 no such message, then the member's checks. The world refuses
+    /// no bytes itself. A commit that is followed is a new entry of the member's journal (RFC 9420, 6, 12.1 and 12.4.2).
+    #[tactic(auto, using(crate::proofs::Changing::no_member, crate::proofs::Stores::seat_missing, crate::proofs::Calling::stands_at, crate::proofs::Early::delivery_nobody))]
+    pub fn deliver(&mut self, member: usize, source: &Source) -> Result<Effect, WorldError>
+        ensures does { DoesAs (λ e. reply.Delivered e) number_of (deliver_answer S.crypto self.old member source.now) self.old self.new result }
+        // 90 and 94 come whatever memory there is.
+        ensures outright { RefusesOutright number_of (early_delivery_checks self.old member source.now) result }
+    {
+        let Some(seat) = self.seats.get_mut(member) else {
+            return Err(WorldError::NoSuchMember);
+        };
+        let bytes = bytes_of(&self.messages, source)?;
+        hand(self.alloc, seat, &mut self.journals, bytes)
+    }
+}

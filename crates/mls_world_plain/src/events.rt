@@ -1,0 +1,97 @@
+//! Events.
+
+ghost use Rattle.std.specs.Prelude.{◌≡◌, ℕ, Ok, Err};
+ghost use Rattle.mls_wire.specs.Checks.{DoesAs};
+ghost use Rattle.mls_tree.specs.Refusals.{RefusesOutright};
+ghost use Rattle.mls_model.specs.declared.event.Reply.TheVariants as reply;
+ghost use Rattle.mls_model.specs.Run.{answer};
+ghost use Rattle.mls_world_plain.specs.Answers.{Steps};
+ghost use Rattle.mls_world_plain.specs.Faults.{number_of};
+ghost use Rattle.mls_world_plain.specs.Outright.{early_checks};
+
+use crate::candidates::NewCandidate;
+use crate::commits::NewCommit;
+use crate::error::WorldError;
+use crate::joins::NewMember;
+use crate::world::PlainWorld;
+use mls_model::{Event, Reply};
+use mls_suite::Suite;
+use std::alloc::AllocError;
+
+impl<S: Suite> PlainWorld<S> {
+    /// What an event does, or the first check that fails.
+    #[tactic(auto, unfolding(mls_model::specs::Run::answer))]
+    pub fn answer(&mut self, event: &Event) -> Result<Reply, WorldError>
+        ensures does { DoesAs (λ r. r) number_of (answer S.crypto self.old event.now) self.old self.new result }
+        // What is decided before anything grows comes whatever memory there is.
+        ensures outright { RefusesOutright number_of (early_checks self.old event.now) result }
+    {
+        match event {
+            Event::Candidate { identity, seed } => {
+                let NewCandidate { candidate, message } = self.candidate(identity, seed)?;
+                Ok(Reply::Candidate { candidate, message })
+            }
+            Event::Create {
+                candidate,
+                group,
+                seed,
+            } => {
+                let member = self.create(*candidate, group, seed)?;
+                Ok(Reply::Created { member })
+            }
+            Event::ProposeAdd {
+                member,
+                key_package,
+            } => {
+                let message = self.propose_add(*member, key_package)?;
+                Ok(Reply::Proposal { message })
+            }
+            Event::ProposeUpdate { member, seed } => {
+                let message = self.propose_update(*member, seed)?;
+                Ok(Reply::Proposal { message })
+            }
+            Event::ProposeRemove { member, leaf } => {
+                let message = self.propose_remove(*member, *leaf)?;
+                Ok(Reply::Proposal { message })
+            }
+            Event::Commit {
+                member,
+                items,
+                path,
+                seed,
+            } => {
+                let NewCommit { message, welcome } = self.commit(*member, items, *path, seed)?;
+                Ok(Reply::Commit { message, welcome })
+            }
+            Event::DropPending { member } => {
+                let pending = self.drop_pending(*member)?;
+                Ok(Reply::Dropped { pending })
+            }
+            Event::Deliver { member, bytes } => {
+                let effect = self.deliver(*member, bytes)?;
+                Ok(Reply::Delivered { effect })
+            }
+            Event::Join { candidate, bytes } => {
+                let NewMember { member, epoch } = self.join(*candidate, bytes)?;
+                Ok(Reply::Joined { member, epoch })
+            }
+        }
+    }
+
+    /// One event: a refusal is the reply, but for want of memory, at which the world is as before.
+    #[tactic(auto, unfolding(mls_model::specs::Run::step))]
+    pub fn step(&mut self, event: &Event) -> Result<Reply, AllocError>
+        ensures does { Steps S.crypto event.now self.old self.new result }
+        // What is decided before anything grows is the reply whatever memory there is.
+        ensures refused { (n : ℕ) → early_checks self.old event.now ≡ Err n → (result ≡ Ok (reply.Refused n)) × (self.new ≡ self.old) }
+    {
+        match self.answer(event) {
+            Ok(reply) => Ok(reply),
+            Err(error) => match error.number() {
+                // Want of memory: 1 is its number, and that of no other refusal.
+                1 => Err(AllocError),
+                number => Ok(Reply::Refused { number }),
+            },
+        }
+    }
+}

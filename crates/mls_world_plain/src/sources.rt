@@ -1,0 +1,151 @@
+//! What the sources of a world's events stand for.
+
+ghost use Rattle.std.specs.Prelude.{◌≡◌, ◌^◌, ℕ, List, IfOk, map};
+ghost use Rattle.mls_wire.specs.Checks.{Answers, AnswersOutright};
+ghost use Rattle.mls_tree.specs.Refusals.{RefusesOutright};
+ghost use Rattle.mls_leaf.specs.KeyPackage.{key_package as key_package_format};
+ghost use Rattle.mls_public_group.specs.Short.{IsBelow};
+ghost use Rattle.mls_member.specs.Answers.{IsShortItem, AreShortItems};
+ghost use Rattle.mls_model.specs.Make.{listed_of};
+ghost use Rattle.mls_model.specs.World as model;
+ghost use Rattle.mls_model.specs.declared.item.Item.TheVariants as item;
+ghost use Rattle.mls_leaf.specs.declared.proposal.Proposal.TheVariants as proposes;
+ghost use Rattle.mls_world_plain.specs.Faults.{number_of};
+ghost use Rattle.mls_world_plain.specs.Outright.{first_checks};
+ghost use Rattle.mls_types.specs.declared.public_message.PublicMessage as messages;
+ghost use Rattle.mls_view.specs.Shown.{ShowsPublic};
+ghost use Rattle.mls_member.specs.Process.{IsShortView};
+ghost use Rattle.mls_world_plain.specs.Sources.{package_read, reference_read, reference_said};
+
+use crate::error::WorldError;
+use crate::world::PlainWorld;
+use mls_kdf::Secret;
+use mls_leaf::{Bytes, KeyPackage, Proposal};
+use mls_model::{Item, Source, WorldItem};
+use mls_suite::Suite;
+use mls_view::{ContentView, MessageView, PublicMessageView};
+use std::alloc::Global;
+
+/// The bytes of a source: 94 no message has this number.
+pub(crate) fn bytes_of<'a>(
+    messages: &'a [Bytes],
+    source: &'a Source,
+) -> Result<&'a [u8], WorldError>
+    ensures { (w : model.World) → w.messages ≡ messages.now → AnswersOutright (λ b. b.now) number_of (model.bytes_of w source.now) result }
+{
+    match source {
+        Source::Given(bytes) => Ok(bytes),
+        Source::Message(n) => match messages.get(*n) {
+            Some(message) => Ok(message.as_slice()),
+            None => Err(WorldError::NoSuchMessage),
+        },
+    }
+}
+
+/// The KeyPackage that bytes are: decoding, 95 a message of another kind.
+fn read_package(alloc: Global, bytes: &[u8]) -> Result<KeyPackage, WorldError>
+    ensures answer { Answers (λ k. k) number_of (package_read bytes.now) result }
+    ensures outright { RefusesOutright number_of (package_read bytes.now) result }
+    ensures below { IfOk result (λ k. IsBelow (2 ^ 27) key_package_format k) }
+{
+    match MessageView::read(bytes)? {
+        MessageView::KeyPackage(part) => Ok(part.to_owned(alloc)?),
+        _ => Err(WorldError::WrongMessageKind),
+    }
+}
+
+/// The reference of the proposal that a PublicMessage has (RFC 9420, 5.2): 95 it has none.
+fn reference_in(view: &PublicMessageView<'_>) -> Result<Secret, WorldError>
+    requires { IsShortView view.now }
+    ensures { (shown : messages.PublicMessage) → ShowsPublic view.now shown → AnswersOutright (λ r. r) number_of (reference_said shown.content) result }
+{
+    match &view.content.content {
+        ContentView::Proposal(_) => Ok(view.reference()),
+        _ => Err(WorldError::WrongMessageKind),
+    }
+}
+
+/// The reference of the proposal whose message bytes are: decoding, 95 a message of another kind.
+fn read_reference(bytes: &[u8]) -> Result<Secret, WorldError>
+    ensures { AnswersOutright (λ r. r) number_of (reference_read bytes.now) result }
+{
+    match MessageView::read(bytes)? {
+        MessageView::PublicMessage(view) => reference_in(&view),
+        _ => Err(WorldError::WrongMessageKind),
+    }
+}
+
+/// The proposal that a commit lists for a leaf's removal.
+fn removal(leaf: u32) -> Item
+    ensures same { result ≡ item.Full (proposes.Remove leaf) }
+    ensures short { IsShortItem result }
+{
+    Item::Full(Proposal::Remove(leaf))
+}
+
+impl<S: Suite> PlainWorld<S> {
+    /// The bytes of a source: 94 no message has this number.
+    pub(crate) fn bytes_of<'a>(&'a self, source: &'a Source) -> Result<&'a [u8], WorldError>
+        ensures { AnswersOutright (λ b. b.now) number_of (model.bytes_of self.now source.now) result }
+    {
+        bytes_of(&self.messages, source)
+    }
+
+    /// The KeyPackage of a source: 94, decoding, 95 a message of another kind.
+    #[tactic(auto, unfolding(mls_model::specs::World::package_of, crate::specs::Sources::package_read))]
+    pub(crate) fn package_of(&self, source: &Source) -> Result<KeyPackage, WorldError>
+        ensures answer { Answers (λ k. k) number_of (model.package_of self.now source.now) result }
+        ensures outright { RefusesOutright number_of (model.package_of self.now source.now) result }
+        ensures below { IfOk result (λ k. IsBelow (2 ^ 27) key_package_format k) }
+    {
+        let bytes = self.bytes_of(source)?;
+        read_package(self.alloc, bytes)
+    }
+
+    /// The proposal that a commit lists: 94, decoding, 95 a message of another kind.
+    fn item_of(&self, item: &WorldItem) -> Result<Item, WorldError>
+        ensures answer { Answers listed_of number_of (model.item_of self.now item.now) result }
+        ensures outright { RefusesOutright number_of (model.item_of self.now item.now) result }
+        ensures short { IfOk result (λ i. IsShortItem i) }
+    {
+        match item {
+            WorldItem::RefOf(source) => {
+                let bytes = match self.bytes_of(source) {
+                    Ok(bytes) => bytes,
+                    Err(error) => return Err(error),
+                };
+                let reference = match read_reference(bytes) {
+                    Ok(reference) => reference,
+                    Err(error) => return Err(error),
+                };
+                let copy = Vec::from_slice(self.alloc, &reference)?;
+                Ok(Item::Ref(copy))
+            }
+            WorldItem::Add(source) => {
+                let offered = match self.package_of(source) {
+                    Ok(offered) => offered,
+                    Err(error) => return Err(error),
+                };
+                Ok(Item::Full(Proposal::Add(offered)))
+            }
+            WorldItem::Remove(leaf) => Ok(removal(*leaf)),
+        }
+    }
+
+    /// The list of a commit: the first check that fails of the first of them that does.
+    pub(crate) fn items_of(&self, items: &[WorldItem]) -> Result<Vec<Item>, WorldError>
+        ensures answer { Answers (λ v. map listed_of v.items) number_of (model.items_of self.now items.now) result }
+        // Of the first whatever memory there is.
+        ensures outright { RefusesOutright number_of (first_checks self.now items.now) result }
+        ensures short { IfOk result (λ v. AreShortItems v.items) }
+    {
+        let mut list = Vec::new(self.alloc);
+        for item in items {
+            match self.item_of(item) {
+                Ok(one) => list.push(one)?,
+                Err(error) => return Err(error),
+            }
+        }
+        Ok(list)
+    }
+}
