@@ -27,14 +27,21 @@ use Rattle.mls_suite.specs.Labels.{encrypt_with_label, decrypt_with_label}
 use Rattle.mls_suite.proofs.LabelLaws.{opens_sealed}
 use Rattle.mls_schedule.specs.Epoch.{welcome_key, welcome_nonce}
 use Rattle.mls_model.specs.Candidate.{Candidate}
-use Rattle.mls_model.specs.Messages.{decoded, are_bytes}
+use Rattle.mls_model.specs.Messages.{decoded, are_bytes, is_within_limit}
 use Rattle.mls_model.specs.Opening.{is_none_or_32, opened_secrets, Opened, opened_welcome}
 use Rattle.mls_model.specs.Proposals.{package_reference}
 use Rattle.mls_model.specs.Welcome.{secrets_with, entry_for, welcome_message}
 use Rattle.mls_wire.proofs.CheckLaws.{then_ok, bind_ok, given_ok}
+use Rattle.mls_wire.specs.CheckLaws.{required}
+use Rattle.mls_wire.specs.Checks.{passed}
 use Rattle.mls_theorems.proofs.Fit.{short_first, short_last, short_text, cipher_fits, all_fit}
 use Rattle.mls_theorems.proofs.Sent.{within_is}
-use Rattle.mls_theorems.specs.Welcomed.{encrypted_info, welcome_of, WelcomeDid, bytes_are, WelcomeReads, SecretsOpen, WelcomeOpens}
+use Rattle.mls_theorems.specs.Welcomed.{encrypted_info, welcome_of, WelcomeDid, WelcomeReads, SecretsOpen, WelcomeOpens}
+use Rattle.std.proofs.lemmas.Bool.{and_parts}
+
+bytes_are : (bytes : List ℕ) → is_within_limit bytes ≡ Ok passed → are_bytes bytes ≡ true
+unfolding is_within_limit
+bytes_are bytes h = (and_parts _ _ (required _ _ _ h)).1
 
 pub welcome_did : WelcomeDid
 unfolding welcome_message welcome_of encrypted_info

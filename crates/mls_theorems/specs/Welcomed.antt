@@ -1,7 +1,6 @@
 -- The Welcome of a made commit reads back, and opens at a candidate that it was made for.
 use Rattle.std.specs.Prelude.{◌≡◌, ℕ, ◌<◌, ◌^◌, true, List, [], length, Option, Some, Ok, find}
 use Rattle.std.specs.Str.{bytes_eq}
-use Rattle.std.proofs.lemmas.Bool.{and_parts}
 use Rattle.mls_wire.specs.Checks.{passed}
 use Rattle.mls_leaf.specs.declared.key_package.KeyPackage.{KeyPackage}
 use Rattle.mls_types.specs.GroupInfo.{group_info}
@@ -13,11 +12,10 @@ use Rattle.mls_types.specs.declared.message.MlsMessage.TheVariants as message
 use Rattle.mls_suite.specs.Crypto.{Crypto, Lawful}
 use Rattle.mls_schedule.specs.Epoch.{welcome_key, welcome_nonce}
 use Rattle.mls_model.specs.Candidate.{Candidate}
-use Rattle.mls_model.specs.Messages.{decoded, are_bytes, is_within_limit}
+use Rattle.mls_model.specs.Messages.{decoded, is_within_limit}
 use Rattle.mls_model.specs.Opening.{is_none_or_32, opened_secrets, opened_welcome}
 use Rattle.mls_model.specs.Proposals.{package_reference}
 use Rattle.mls_model.specs.Welcome.{secrets_with, entry_for, entries_for, welcome_message}
-use Rattle.mls_wire.specs.CheckLaws.{required}
 
 -- ---- how a Welcome was made
 
@@ -37,10 +35,6 @@ pub record Welcomes (c : Crypto) (info : GroupInfo) (joiner : List ℕ) (secrets
 abbrev pub WelcomeDid : Type 0
 WelcomeDid = (c : Crypto) (info : GroupInfo) (joiner : List ℕ) (secrets : ℕ → List ℕ) (rnd : ℕ → List ℕ) (n : ℕ) (joiners : List (KeyPackage × ℕ)) (bytes : List ℕ) →
     welcome_message c info joiner secrets rnd n joiners ≡ Ok bytes → Welcomes c info joiner secrets rnd n joiners bytes
-
-pub bytes_are : (bytes : List ℕ) → is_within_limit bytes ≡ Ok passed → are_bytes bytes ≡ true
-unfolding is_within_limit
-bytes_are bytes h = (and_parts _ _ (required _ _ _ h)).1
 
 abbrev pub WelcomeReads : Type 0
 WelcomeReads = (c : Crypto) → c.number < 2 ^ 16 → (info : GroupInfo) (joiner : List ℕ) (secrets : ℕ → List ℕ) (rnd : ℕ → List ℕ) (n : ℕ) (joiners : List (KeyPackage × ℕ)) (bytes : List ℕ)
