@@ -28,7 +28,7 @@ use Rattle.mls_tree.specs.Indexed.{AreIndexes, AreBeside, AreSame, Fills, IsClie
 use Rattle.mls_tree.proofs.ClientLaws.{indexes-client}
 use Rattle.mls_tree.specs.Way.{way_numbers}
 use Rattle.mls_tree.proofs.WayLaws.{way_distinct}
-use Rattle.mls_tree.specs.WayIndexes.{indexes-put, indexes-merge}
+use Rattle.mls_tree.proofs.WayIndexes.{indexes-put, indexes-merge}
 use Rattle.mls_tree.proofs.WayIndexes.{indexes-remove}
 use Rattle.mls_tree.proofs.Filling.{filled}
 use Rattle.mls_tree.proofs.Keepings.{grown_perfect}

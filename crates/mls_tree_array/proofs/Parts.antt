@@ -4,7 +4,7 @@ use Rattle.std.proofs.lemmas.List.{length-take-le, length-drop, take-append-drop
 use Rattle.mls_leaf.specs.declared.node.Node.{Node}
 use Rattle.mls_treemath.specs.Paths.{nodes_in}
 use Rattle.mls_treemath.proofs.Sizes.{nodes_in-suc}
-pub use Rattle.mls_treemath.specs.Sizes.{nodes_in_pos}
+pub use Rattle.mls_treemath.proofs.Sizes.{nodes_in_pos}
 use Rattle.mls_tree_model.specs.Term.{Branch}
 use Rattle.mls_tree_model.specs.Arrays.{parent_in, term_of, HasMiddle}
 use Rattle.mls_tree_model.proofs.ArrayLaws.{nodes_in-leaves, term_of-parts}

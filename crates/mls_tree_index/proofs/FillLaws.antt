@@ -19,7 +19,7 @@ use Rattle.mls_tree_index.specs.Gaps.{gap_at, Ascends, IsWithin, filled, IsNew, 
 use Rattle.mls_tree_index.proofs.GapLaws.{length_filled, each_insert, old_there, new_there}
 use Rattle.mls_tree_index.proofs.MoveLaws.{has_at, has_last}
 use Rattle.mls_tree_index.proofs.OrderLaws.{is_above, cmp_trans, not_both}
-use Rattle.mls_tree_index.specs.EntryLaws.{with_entry}
+use Rattle.mls_tree_index.proofs.EntryLaws.{with_entry}
 use Rattle.mls_tree_index.proofs.EntryLaws.{no_key, entries_alike, key_between}
 use Rattle.mls_tree_index.proofs.ClearedLaws.{key_cleared, key_left}
 use Rattle.mls_tree_index.proofs.CountLaws.{none_blank, counted_at, distinct_where}

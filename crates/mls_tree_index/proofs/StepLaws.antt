@@ -9,7 +9,7 @@ use Rattle.mls_tree_index.specs.Keys.{key_of, key_in, keys_of, is_key, is_key_at
 use Rattle.mls_tree_index.specs.Order.{Entries, IsGap, IsPart}
 use Rattle.mls_tree_index.specs.Indexes.{Listing, Indexes, SameIndex, Without}
 use Rattle.mls_tree_index.proofs.OrderLaws.{key_found, key_missed}
-use Rattle.mls_tree_index.specs.EntryLaws.{with_entry, stands, without_entry, gap_without}
+use Rattle.mls_tree_index.proofs.EntryLaws.{with_entry, stands, without_entry, gap_without}
 use Rattle.mls_tree_index.proofs.EntryLaws.{found_beside, none_before, no_key}
 use Rattle.mls_tree_index.proofs.CountLaws.{none_blank, counted, counted_at, one_more, repeats_within}
 use Rattle.mls_tree_index.proofs.Laws.{indexes_alike}

@@ -3,7 +3,7 @@ use Rattle.std.proofs.lemmas.Result.{err_from_is_err_and}
 use Rattle.mls_public_group.specs.Faults.{number_of as number_of_group}
 use Rattle.mls_make.specs.Faults.{number_of}
 use Rattle.mls_make.specs.OwnPath.{made_path}
-use Rattle.mls_make.specs.Steps.{path_fails, made_by_is}
+use Rattle.mls_make.proofs.Steps.{path_fails, made_by_is}
 use Rattle.mls_make.proofs.Steps.{edits_fail, edited_as, merged_as}
 use Rattle.mls_make.proofs.Adds.{used_short}
 use Rattle.mls_make.proofs.new_commit.make.Goals as goal

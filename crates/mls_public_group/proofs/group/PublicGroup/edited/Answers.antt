@@ -2,7 +2,8 @@ use Rattle.std.proofs.Common.{sym, ap, ◌∙◌}
 use Rattle.std.proofs.lemmas.Result.{err_from_is_err_and}
 use Rattle.mls_tree.specs.Tree.{term}
 use Rattle.mls_model.specs.Public.{PublicState}
-use Rattle.mls_public_group.specs.Edited.{applied, edited_apart, edited_applied, edited_distinct, edited_ok}
+use Rattle.mls_public_group.specs.Edited.{applied}
+use Rattle.mls_public_group.proofs.EditedLemmas.{edited_apart, edited_applied, edited_distinct, edited_ok}
 use Rattle.mls_public_group.proofs.EditedLemmas.{edited_full}
 use Rattle.mls_public_group.specs.Faults.{number_of}
 use Rattle.mls_public_group.proofs.Leaves.{leaves_longer, below_applied}

@@ -3,7 +3,7 @@ use Rattle.std.proofs.lemmas.List.{nil_from_length}
 use Rattle.mls_tree_model.specs.Sets.{is_distinct}
 use Rattle.mls_tree_index.specs.Indexes.{Indexes, Without}
 use Rattle.mls_tree_index.specs.Cleared.{HasPlaces, cleared}
-use Rattle.mls_tree_index.specs.ClearedLaws.{first_without, rest_places}
+use Rattle.mls_tree_index.proofs.ClearedLaws.{first_without, rest_places}
 use Rattle.mls_tree_index.proofs.ClearedLaws.{rest_distinct, all_blank, cleared_none}
 use Rattle.mls_tree_index.proofs.index.Index.+enter_each.Goals as goal
 

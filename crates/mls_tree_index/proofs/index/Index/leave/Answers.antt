@@ -2,7 +2,7 @@ use Rattle.std.proofs.Common.{◌≡◌, length, sym, ◌∙◌, ap, subst, arit
 use Rattle.std.specs.List.{remove}
 use Rattle.mls_tree_index.specs.Keys.{key_in, keys_of, is_held, repeats_in}
 use Rattle.mls_tree_index.specs.Order.{Entries, IsGap, IsPart}
-use Rattle.mls_tree_index.specs.StepLaws.{one_held, none_held, placed, left, gap_left}
+use Rattle.mls_tree_index.proofs.StepLaws.{one_held, none_held, placed, left, gap_left}
 use Rattle.mls_tree_index.proofs.StepLaws.{nothing_left, part_before, indexes_from}
 use Rattle.mls_tree_index.proofs.index.Index.leave.Goals as goal
 
