@@ -71,20 +71,20 @@ fn candidate(alloc: Global, number: u32) -> Result<Box<Candidate<Glass>>> {
 }
 
 /// Member 0 of a new group.
-fn created(alloc: Global) -> Result<Box<Member<Glass>>> {
+fn create_group(alloc: Global) -> Result<Box<Member<Glass>>> {
     let creator = candidate(alloc, 0)?;
     let member = Member::create(alloc, &creator, b"bench", &seed(Purpose::Group, 0))?;
     Ok(Box::new(alloc, member)?)
 }
 
 /// The member that a candidate becomes by a Welcome.
-fn joined(
+fn joined_member(
     alloc: Global,
     candidate: &Candidate<Glass>,
     welcome: &[u8],
 ) -> Result<Box<Member<Glass>>> {
-    let joined = Member::join(alloc, candidate, welcome)?;
-    Ok(Box::new(alloc, joined.member)?)
+    let joined_member = Member::join(alloc, candidate, welcome)?;
+    Ok(Box::new(alloc, joined_member.member)?)
 }
 
 /// Member 0 adds another, who joins and commits with a path. It answers the Welcome.
@@ -96,8 +96,8 @@ fn add(alloc: Global, first: &mut Member<Glass>, number: u32) -> Result<Vec<u8>>
         bail!("nobody is welcome");
     };
     first.process(&commit)?;
-    let mut joined = joined(alloc, &candidate, &welcome)?;
-    let made = joined.commit(&[], true, &seed(Purpose::Renewal, number))?;
+    let mut joined_member = joined_member(alloc, &candidate, &welcome)?;
+    let made = joined_member.commit(&[], true, &seed(Purpose::Renewal, number))?;
     first.process(&made.commit)?;
     Ok(welcome)
 }
@@ -106,7 +106,7 @@ fn add(alloc: Global, first: &mut Member<Glass>, number: u32) -> Result<Vec<u8>>
 /// no parent node is blank.
 fn grow(rt: &impl Print, alloc: Global, members: u32) -> Result<()> {
     println!(rt; "{members}")?;
-    let mut first = created(alloc)?;
+    let mut first = create_group(alloc)?;
     for number in 1..members {
         let welcome = add(alloc, &mut first, number)?;
         if number == members - 1 {
@@ -144,11 +144,11 @@ fn call_joiner(
     let Some(welcome) = welcome else {
         bail!("nobody is welcome");
     };
-    let joined = joined(alloc, &newcomer, &welcome)?;
+    let joined_member = joined_member(alloc, &newcomer, &welcome)?;
     println!(rt;
         "join by that: leaf {} in epoch {}",
-        joined.leaf_index(),
-        joined.epoch_number()
+        joined_member.leaf_index(),
+        joined_member.epoch_number()
     )?;
     Ok(())
 }
@@ -157,7 +157,7 @@ fn call_joiner(
 fn call(rt: &impl Print, alloc: Global, number: u32, welcome: &[u8], far: &[u8]) -> Result<()> {
     let candidate = candidate(alloc, number)?;
     println!(rt; "before: member {number}")?;
-    let mut member = joined(alloc, &candidate, welcome)?;
+    let mut member = joined_member(alloc, &candidate, welcome)?;
     println!(rt; "join: leaf {}", member.leaf_index())?;
     call_member(rt, &mut member, number, far)?;
     let next = number.saturating_add(1);

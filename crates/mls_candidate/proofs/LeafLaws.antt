@@ -9,7 +9,7 @@ use Rattle.mls_leaf.specs.Leaf.{credential, capabilities, leaf_source, leaf_node
 use Rattle.mls_leaf.specs.declared.leaf.Credential.{Credential}
 use Rattle.mls_leaf.specs.declared.leaf.LeafNode.{LeafNode}
 use Rattle.mls_leaf.specs.declared.leaf.LeafSource.{LeafSource}
-use Rattle.mls_leaf.specs.declared.leaf.LeafSource.TheVariants as made_for
+use Rattle.mls_leaf.specs.declared.leaf.LeafSource.TheVariants as leaf_node_source
 use Rattle.mls_suite.specs.Crypto.{Crypto, Lawful}
 use Rattle.mls_model.specs.Candidate.{made_capabilities, unsigned_leaf}
 use Rattle.mls_model.proofs.CandidateLaws.{capabilities_fit}
@@ -21,9 +21,9 @@ use Rattle.mls_candidate.proofs.LengthLaws.{content_most, content_least, place_m
 -- ---- what is signed
 
 place_fits : (source : LeafSource) (group : List ℕ) → length group < 2 ^ 28 → LeafPlaceFits source group
-place_fits (made_for.KeyPackage before after) group lt = tt
-place_fits made_for.Update group lt = omega arith
-place_fits (made_for.Commit hash) group lt = omega arith
+place_fits (leaf_node_source.KeyPackage before after) group lt = tt
+place_fits leaf_node_source.Update group lt = omega arith
+place_fits (leaf_node_source.Commit hash) group lt = omega arith
 
 pub tbs_fits : (v : LeafNode) (group : List ℕ) → IsShortLeaf v → length group < 2 ^ 28 → LeafNodeTbsFits v group
 unfolding credential
@@ -55,32 +55,32 @@ capabilities_length : (c : Crypto) → length (capabilities.spell (made_capabili
 unfolding capabilities made_capabilities uint header
 capabilities_length c = refl
 
-lifetime_length : (before after : ℕ) → length (leaf_source.spell (made_for.KeyPackage before after)) < 2 ^ 16
+lifetime_length : (before after : ℕ) → length (leaf_source.spell (leaf_node_source.KeyPackage before after)) < 2 ^ 16
 unfolding leaf_source uint
 lifetime_length before after = omega arith
 
-hash_length : (hash : List ℕ) → length hash ≤ 32 → length (leaf_source.spell (made_for.Commit hash)) < 2 ^ 16
+hash_length : (hash : List ℕ) → length hash ≤ 32 → length (leaf_source.spell (leaf_node_source.Commit hash)) < 2 ^ 16
 unfolding leaf_source uint
 hash_length hash le = omega (arith, length-append (to_be_bytes w8 3) (opaque hash), opaque_most hash)
 
-update_length : length (leaf_source.spell made_for.Update) < 2 ^ 16
+update_length : length (leaf_source.spell leaf_node_source.Update) < 2 ^ 16
 unfolding leaf_source uint
 update_length = omega arith
 
 source_length : (source : LeafSource) → IsShortSource source → length (leaf_source.spell source) < 2 ^ 16
-source_length (made_for.KeyPackage before after) s = lifetime_length before after
-source_length made_for.Update s = update_length
-source_length (made_for.Commit hash) s = hash_length hash s
+source_length (leaf_node_source.KeyPackage before after) s = lifetime_length before after
+source_length leaf_node_source.Update s = update_length
+source_length (leaf_node_source.Commit hash) s = hash_length hash s
 
-pub update_fits : leaf_source.Fits made_for.Update
+pub update_fits : leaf_source.Fits leaf_node_source.Update
 unfolding leaf_source
 update_fits = (lit< tt, tt)
 
-hash_fits : (hash : List ℕ) → length hash ≤ 32 → leaf_source.Fits (made_for.Commit hash)
+hash_fits : (hash : List ℕ) → length hash ≤ 32 → leaf_source.Fits (leaf_node_source.Commit hash)
 unfolding leaf_source
 hash_fits hash le = (lit< tt, omega arith)
 
-pub lifetime_fits : (before after : ℕ) → before < 2 ^ 64 → after < 2 ^ 64 → leaf_source.Fits (made_for.KeyPackage before after)
+pub lifetime_fits : (before after : ℕ) → before < 2 ^ 64 → after < 2 ^ 64 → leaf_source.Fits (leaf_node_source.KeyPackage before after)
 unfolding leaf_source
 lifetime_fits before after x y = (lit< tt, (x, y))
 
@@ -109,7 +109,7 @@ renewed_short c laws old made sk key own who source e1 e2 e3 e4 b fits short =
     let owner : length old.signature_key + length old.credential.identity < 2 ^ 27 = omega (arith, b.below, owner_in old) in
     rw (e1, e2, e3, e4) (unsigned_short c laws sk old.signature_key old.credential source owner fits short)
 
-pub commit_fits : (source : LeafSource) (hash : List ℕ) → source ≡ made_for.Commit hash → IsShortSource source → leaf_source.Fits source
-commit_fits (made_for.KeyPackage before after) hash e s = absurd cc
-commit_fits made_for.Update hash e s = absurd cc
-commit_fits (made_for.Commit other) hash e s = hash_fits other s
+pub commit_fits : (source : LeafSource) (hash : List ℕ) → source ≡ leaf_node_source.Commit hash → IsShortSource source → leaf_source.Fits source
+commit_fits (leaf_node_source.KeyPackage before after) hash e s = absurd cc
+commit_fits leaf_node_source.Update hash e s = absurd cc
+commit_fits (leaf_node_source.Commit other) hash e s = hash_fits other s

@@ -8,7 +8,7 @@ use Rattle.mls_leaf.specs.Leaf.{credential, capabilities, leaf_source}
 use Rattle.mls_leaf.specs.declared.leaf.Credential.{Credential}
 use Rattle.mls_leaf.specs.declared.leaf.LeafNode.{LeafNode}
 use Rattle.mls_leaf.specs.declared.leaf.LeafSource.{LeafSource}
-use Rattle.mls_leaf.specs.declared.leaf.LeafSource.TheVariants as made_for
+use Rattle.mls_leaf.specs.declared.leaf.LeafSource.TheVariants as leaf_node_source
 use Rattle.mls_public_group.proofs.Lengths.{opaque_most, opaque_least}
 
 credential_most : (v : Credential) → length (credential.spell v) ≤ length v.identity + 6
@@ -52,6 +52,6 @@ place_behind group index = omega (arith, length-append (opaque group) (to_be_byt
 
 -- where a leaf stands
 pub place_most : (source : LeafSource) (group : List ℕ) (index : ℕ) → length (leaf_place source group index) ≤ length group + 8
-place_most (made_for.KeyPackage before after) group index = omega arith
-place_most made_for.Update group index = place_behind group index
-place_most (made_for.Commit hash) group index = place_behind group index
+place_most (leaf_node_source.KeyPackage before after) group index = omega arith
+place_most leaf_node_source.Update group index = place_behind group index
+place_most (leaf_node_source.Commit hash) group index = place_behind group index

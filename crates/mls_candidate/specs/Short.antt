@@ -3,13 +3,13 @@ use Rattle.std.specs.Prelude.{◌+◌, ◌<◌, ◌≤◌, ◌^◌, length}
 use Rattle.mls_leaf.specs.Leaf.{capabilities, leaf_source, leaf_node}
 use Rattle.mls_leaf.specs.declared.leaf.LeafNode.{LeafNode}
 use Rattle.mls_leaf.specs.declared.leaf.LeafSource.{LeafSource}
-use Rattle.mls_leaf.specs.declared.leaf.LeafSource.TheVariants as made_for
+use Rattle.mls_leaf.specs.declared.leaf.LeafSource.TheVariants as leaf_node_source
 use Rattle.mls_leaf.specs.declared.key_package.KeyPackage.{KeyPackage}
 use Rattle.mls_public_group.specs.Short.{IsBelow}
 
 -- a parent hash has at most 32 bytes
 abbrev pub IsShortSource : LeafSource → Type 0
-IsShortSource (made_for.Commit hash) = length hash ≤ 32
+IsShortSource (leaf_node_source.Commit hash) = length hash ≤ 32
 IsShortSource other = Unit {0}
 
 -- a leaf whose parts are short: that it is signed makes it no longer than 2^28 bytes

@@ -8,7 +8,7 @@ use Rattle.mls_leaf.specs.Inputs.{key_package_tbs}
 use Rattle.mls_suite.specs.Crypto.{Crypto}
 use Rattle.mls_suite.specs.Labels.{verify_with_label}
 use Rattle.mls_checks.specs.declared.checks.Source.{Source}
-use Rattle.mls_checks.specs.Leaf.{is_signed, is_capable, is_of_key_package, is_of, has_identity_of}
+use Rattle.mls_checks.specs.Leaf.{is_signed, is_capable, is_of_key_package, is_of_source, has_identity_of}
 
 -- whether the key package's signature is its own, by the leaf's signature key (RFC 9420, 10)
 unfoldable pub is_package_signed : Crypto → KeyPackage → Bool
@@ -28,7 +28,7 @@ key_package_checks c p = do
 -- the checks of a leaf that was made for an update or a commit, and of the leaf that it replaces (RFC 9420, 7.3)
 unfoldable pub replaced_checks : Crypto → LeafNode → LeafNode → Source → List ℕ → ℕ → Result Passed ℕ
 replaced_checks c new old source group index = do
-  require 50 (is_of source new.source)
+  require 50 (is_of_source source new.source)
   require 51 (is_signed c group index new)
   require 52 (is_capable c.number new)
   require 53 (has_identity_of old new)

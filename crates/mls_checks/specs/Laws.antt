@@ -6,7 +6,7 @@ use Rattle.mls_leaf.specs.declared.leaf.LeafNode.{LeafNode}
 use Rattle.mls_leaf.specs.declared.key_package.KeyPackage.{KeyPackage}
 use Rattle.mls_suite.specs.Crypto.{Crypto}
 use Rattle.mls_checks.specs.declared.checks.Source.{Source}
-use Rattle.mls_checks.specs.Leaf.{is_signed, is_capable, is_of_key_package, is_of}
+use Rattle.mls_checks.specs.Leaf.{is_signed, is_capable, is_of_key_package, is_of_source}
 use Rattle.mls_checks.specs.Checks.{key_package_checks, replaced_checks, is_package_signed}
 
 -- a key package's leaf is signed at any place of any group, or at none (RFC 9420, 7.2)
@@ -29,7 +29,7 @@ PackageSteps = (c : Crypto) (k : KeyPackage) → key_package_checks c k ≡ Ok p
 
 -- what the checks of a leaf that replaces another found
 pub record IsReplacement (c : Crypto) (new old : LeafNode) (source : Source) (group : List ℕ) (i : ℕ) : Type 0 where
-  pub source_is : is_of source new.source ≡ true
+  pub source_is : is_of_source source new.source ≡ true
   pub signed : is_signed c group i new ≡ true
   pub capable : is_capable c.number new ≡ true
   pub signature : new.signature_key ≡ old.signature_key

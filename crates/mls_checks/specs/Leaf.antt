@@ -31,13 +31,13 @@ is_of_key_package by_update = false
 is_of_key_package (by_commit hash) = false
 
 -- whether the leaf was made for an update, or for a commit (RFC 9420, 7.2)
-abbrev pub is_of : Source → LeafSource → Bool
-is_of Update (by_key_package before after) = false
-is_of Update by_update = true
-is_of Update (by_commit hash) = false
-is_of Commit (by_key_package before after) = false
-is_of Commit by_update = false
-is_of Commit (by_commit hash) = true
+abbrev pub is_of_source : Source → LeafSource → Bool
+is_of_source Update (by_key_package before after) = false
+is_of_source Update by_update = true
+is_of_source Update (by_commit hash) = false
+is_of_source Commit (by_key_package before after) = false
+is_of_source Commit by_update = false
+is_of_source Commit (by_commit hash) = true
 
 -- whether both leaves have one signature key and one credential (RFC 9420, 7.3)
 unfoldable pub has_identity_of : LeafNode → LeafNode → Bool

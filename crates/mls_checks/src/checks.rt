@@ -6,11 +6,11 @@ ghost use Rattle.mls_leaf.specs.KeyPackage.{key_package as package_format};
 ghost use Rattle.mls_leaf.specs.Leaf.{leaf_node};
 ghost use Rattle.mls_checks.specs.Checks.{key_package_checks, replaced_checks};
 ghost use Rattle.mls_checks.specs.Faults.{number_of};
-ghost use Rattle.mls_checks.specs.Leaf.{is_of, has_identity_of};
+ghost use Rattle.mls_checks.specs.Leaf.{is_of_source, has_identity_of};
 ghost use Rattle.mls_checks.specs.Short.{IsShort};
 
 use crate::error::CheckError;
-use crate::leaf::{leaf_capable, leaf_signed, package_signed};
+use crate::leaf::{leaf_capable, leaf_signed, is_package_signed};
 use mls_leaf::{KeyPackage, LeafNode, LeafSource};
 use mls_suite::Suite;
 use std::alloc::Global;
@@ -25,8 +25,8 @@ pub enum Source {
 }
 
 /// Whether the leaf was made for that.
-fn made_for(source: Source, of: &LeafSource) -> bool
-    ensures { result ≡ is_of source of.now }
+fn is_of_source(source: Source, of: &LeafSource) -> bool
+    ensures { result ≡ is_of_source source of.now }
 {
     match source {
         Source::Update => matches!(of, LeafSource::Update),
@@ -36,7 +36,7 @@ fn made_for(source: Source, of: &LeafSource) -> bool
 
 /// Whether both leaves have one signature key and one credential.
 #[tactic(auto, unfolding(crate::specs::Leaf::has_identity_of))]
-fn same_identity(new: &LeafNode, old: &LeafNode) -> bool
+fn has_identity_of(new: &LeafNode, old: &LeafNode) -> bool
     ensures { result ≡ has_identity_of old.now new.now }
 {
     new.signature_key == old.signature_key && new.credential.identity == old.credential.identity
@@ -62,7 +62,7 @@ pub fn key_package<S: Suite>(alloc: Global, offered: &KeyPackage) -> Result<(), 
     if offered.cipher_suite != S::NUMBER {
         return Err(CheckError::KeyPackageSuite);
     }
-    if !package_signed::<S>(alloc, offered)? {
+    if !is_package_signed::<S>(alloc, offered)? {
         return Err(CheckError::KeyPackageSignature);
     }
     if offered.init_key == leaf.encryption_key {
@@ -89,7 +89,7 @@ pub fn replaced<S: Suite>(
     requires group { length group_id.now < 2 ^ 28 }
     ensures { Answers (λ _. passed) number_of (replaced_checks S.crypto new.now old.now source group_id.now index) result }
 {
-    if !made_for(source, &new.source) {
+    if !is_of_source(source, &new.source) {
         return Err(CheckError::LeafSource);
     }
     if !leaf_signed::<S>(alloc, new, group_id, index)? {
@@ -98,7 +98,7 @@ pub fn replaced<S: Suite>(
     if !leaf_capable(new, S::NUMBER) {
         return Err(CheckError::LeafCapability);
     }
-    if !same_identity(new, old) {
+    if !has_identity_of(new, old) {
         return Err(CheckError::LeafIdentityChanged);
     }
     if new.encryption_key == old.encryption_key {

@@ -59,7 +59,7 @@ pub fn leaf_capable(leaf: &LeafNode, suite: u16) -> bool
 }
 
 /// Whether the key package's signature is its own (RFC 9420, 10).
-pub(crate) fn package_signed<S: Suite>(
+pub(crate) fn is_package_signed<S: Suite>(
     alloc: Global,
     offered: &KeyPackage,
 ) -> Result<bool, OutOfMemory>

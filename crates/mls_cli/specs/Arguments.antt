@@ -17,8 +17,8 @@ abbrev pub file_rule : Rule
 file_rule = record (new_rule (codes "FILE")) { required = true }
 
 -- a subcommand that takes a FILE alone
-abbrev pub on_file : Text → App
-on_file name = with_rule (new_app name) file_rule
+abbrev pub file_app : Text → App
+file_app name = with_rule (new_app name) file_rule
 
 -- an optional --suite SUITE, f001 where it isn't given, and an optional --group HEX
 abbrev pub suite_rule : Rule
@@ -29,25 +29,25 @@ group_rule = record (new_rule (codes "HEX")) { long = Some (codes "group") }
 
 -- `check`, which takes a FILE and both options
 abbrev pub check_app : App
-check_app = with_rule (with_rule (on_file (codes "check")) suite_rule) group_rule
+check_app = with_rule (with_rule (file_app (codes "check")) suite_rule) group_rule
 
 -- one of the subcommands is required, but for `--version`
-abbrev pub needing_one : App → App
-needing_one a = record a { top = record a.top { has_version = true; subcommand_required = true } }
+abbrev pub needing_subcommand : App → App
+needing_subcommand a = record a { top = record a.top { has_version = true; subcommand_required = true } }
 
 -- the command line
 abbrev pub mls : App
-mls = needing_one
+mls = needing_subcommand
     (with_subcommand
     (with_subcommand
-    (with_subcommand (with_subcommand (new_app (codes "mls")) (on_file (codes "show")).top) check_app.top)
-    (on_file (codes "replay")).top)
-    (on_file (codes "vectors")).top)
+    (with_subcommand (with_subcommand (new_app (codes "mls")) (file_app (codes "show")).top) check_app.top)
+    (file_app (codes "replay")).top)
+    (file_app (codes "vectors")).top)
 
 -- the words with the program's name as the first
-abbrev pub named_mls : List Text → List Text
-named_mls [] = []
-named_mls (first ∷ rest) = codes "mls" ∷ rest
+abbrev pub name_program : List Text → List Text
+name_program [] = []
+name_program (first ∷ rest) = codes "mls" ∷ rest
 
 -- a job without where it lies in memory
 pub data Task : Type 0 where
@@ -56,11 +56,11 @@ pub data Task : Type 0 where
   replay : Text → Task
   vectors : Text → Task
 
-abbrev pub view : Job → Task
-view (Show file) = show file.now
-view (Check file suite group) = check file.now suite group.now
-view (Replay file) = replay file.now
-view (Vectors file) = vectors file.now
+abbrev pub task_view : Job → Task
+task_view (Show file) = show file.now
+task_view (Check file suite group) = check file.now suite group.now
+task_view (Replay file) = replay file.now
+task_view (Vectors file) = vectors file.now
 
 -- a suite is named by its number in hex
 abbrev pub suite_of : Text → Option SuiteChoice

@@ -9,7 +9,7 @@ use Rattle.mls_cli.specs.declared.tasks.SuiteChoice.{SuiteChoice}
 use Rattle.mls_cli.specs.declared.tasks.SuiteChoice.TheVariants as choice
 use Rattle.mls_cli.specs.declared.tasks.Job.{Job}
 use Rattle.mls_cli.specs.declared.tasks.Job.TheVariants as job
-use Rattle.mls_cli_text.specs.Ends.{AppendsPart}
+use Rattle.mls_cli_text.specs.InputOutput.{AppendsPart}
 use Rattle.mls_cli_text.specs.Page.{Printout, printout}
 use Rattle.mls_cli_text.specs.Text.{line_text}
 use Rattle.mls_cli_text.specs.declared.fault.Fault.{Fault}
@@ -40,8 +40,8 @@ IsPrintout (job.Vectors file) text p = p ≡ printout entry_text (vectors_page t
 
 -- the output grows by the text of such a printout, with its status; or the status is 3, and it grows by less than such a
 -- text or stays as it was
-abbrev pub Leaves : (Printout → Type 0) → Option (List ℕ) → Option (List ℕ) → ℕ → Type 0
-Leaves Is old new status =
+abbrev pub PrintsOrFails : (Printout → Type 0) → Option (List ℕ) → Option (List ℕ) → ℕ → Type 0
+PrintsOrFails Is old new status =
     ((p : Printout) × Is p × Appends old new p.text × (status ≡ p.status))
     ⊎ ((status ≡ 3) × (Keeps old new ⊎ ((p : Printout) × Is p × AppendsPart old new p.text)))
 
@@ -60,8 +60,8 @@ fault_text file fault.Read = unreadable file
 fault_text file fault.Write = []
 
 -- the errors grow by the text, or they have failed, and grow by less than that
-abbrev pub Said : Option (List ℕ) → Option (List ℕ) → Bool → List ℕ → Type 0
-Said old new failed text = Appends old new text ⊎ ((failed ≡ true) × AppendsPart old new text)
+abbrev pub SaysOrFails : Option (List ℕ) → Option (List ℕ) → Bool → List ℕ → Type 0
+SaysOrFails old new failed text = Appends old new text ⊎ ((failed ≡ true) × AppendsPart old new text)
 
 -- ---- what a fault comes of
 
@@ -83,20 +83,20 @@ cause false false = fault.OutOfMemory
 abbrev pub Ends : List ℕ → ℕ → Bool → Bool → Option (List ℕ) → Option (List ℕ) → Bool → Type 0
 Ends file status unreadable written old new failed =
     ((status ≤ 1) × (unreadable ≡ false) × (written ≡ false) × Keeps old new)
-    ⊎ ((status ≡ 3) × Said old new failed (fault_text file (cause unreadable written)))
+    ⊎ ((status ≡ 3) × SaysOrFails old new failed (fault_text file (cause unreadable written)))
 
 -- a text is written, with status 0; or it can't be, with status 3
 abbrev pub ShowsHelp : List ℕ → ℕ → Option (List ℕ) → Option (List ℕ) → Bool → Option (List ℕ) → Option (List ℕ) → Bool → Type 0
 ShowsHelp text status out_old out_new written old new failed =
     ((status ≡ 0) × Appends out_old out_new text × (written ≡ false) × Keeps old new)
-    ⊎ ((status ≡ 3) × AppendsPart out_old out_new text × Said old new failed (fault_text [] (cause false written)))
+    ⊎ ((status ≡ 3) × AppendsPart out_old out_new text × SaysOrFails old new failed (fault_text [] (cause false written)))
 
 -- Without a job: help is written. A mistake is said, with status 2, and
 -- so is want of memory, with 3; the output stays as it was.
-abbrev pub EndsUnasked : NoJob → ℕ → Option (List ℕ) → Option (List ℕ) → Bool → Option (List ℕ) → Option (List ℕ) → Bool → Type 0
-EndsUnasked (no_job.Shown text) status out_old out_new written old new failed =
+abbrev pub EndsWithoutJob : NoJob → ℕ → Option (List ℕ) → Option (List ℕ) → Bool → Option (List ℕ) → Option (List ℕ) → Bool → Type 0
+EndsWithoutJob (no_job.Shown text) status out_old out_new written old new failed =
     ShowsHelp (string_bytes text) status out_old out_new written old new failed
-EndsUnasked (no_job.Mistaken text) status out_old out_new written old new failed =
-    (status ≡ 2) × Keeps out_old out_new × Said old new failed (string_bytes text)
-EndsUnasked no_job.OutOfMemory status out_old out_new written old new failed =
-    (status ≡ 3) × Keeps out_old out_new × Said old new failed out_of_memory
+EndsWithoutJob (no_job.Mistaken text) status out_old out_new written old new failed =
+    (status ≡ 2) × Keeps out_old out_new × SaysOrFails old new failed (string_bytes text)
+EndsWithoutJob no_job.OutOfMemory status out_old out_new written old new failed =
+    (status ≡ 3) × Keeps out_old out_new × SaysOrFails old new failed out_of_memory

@@ -3,7 +3,7 @@
 ghost use Rattle.std.specs.Prelude.{◌≡◌, map, true, false, codes, Ok, Err, Some, None, IfOk, IfErr, IsSome, OnOk, ◌⊎◌, ◌∷◌, [], option_map};
 ghost use Rattle.clap.specs.Words.{app_of, shape_of, first_of, found_of, kind_of, rows_of, rule_of, subcommand_of, subcommand_rows_of, takes, fault_of, FailsBy, HasKind};
 ghost use Rattle.clap.specs.declared.Command.TheViews.{out-Command as fields_of};
-ghost use Rattle.mls_cli.specs.Arguments.{ComesOf, Explains, check, check_app, check_on, file_rule, group_rule, mls, needing_one, on_file, replay, show, suite_of, suite_rule, task_of, task_on, vectors, view};
+ghost use Rattle.mls_cli.specs.Arguments.{ComesOf, Explains, check, check_app, check_on, file_rule, group_rule, mls, needing_subcommand, file_app, replay, show, suite_of, suite_rule, task_of, task_on, vectors, task_view};
 
 use crate::tasks::{Job, NoJob, SuiteChoice};
 use clap::error::ErrorKind;
@@ -32,7 +32,7 @@ fn file_command<'a>(
     about: &'a str,
     file: &'a str,
 ) -> Result<Command<'a>, AllocError>
-    ensures app { IfOk result (λ c. app_of c ≡ on_file name.entry.now) }
+    ensures app { IfOk result (λ c. app_of c ≡ file_app name.entry.now) }
     ensures local { IfOk result (λ c. (fields_of c).has_globals ≡ false) }
 {
     let file = file_arg(alloc, file);
@@ -73,8 +73,8 @@ fn check_command<'a>(alloc: Global) -> Result<Command<'a>, AllocError>
 }
 
 /// What help says of the whole, and that a subcommand is required.
-fn described<'a>(command: Command<'a>) -> Command<'a>
-    ensures { app_of result ≡ needing_one (app_of command.entry) }
+fn describe<'a>(command: Command<'a>) -> Command<'a>
+    ensures { app_of result ≡ needing_subcommand (app_of command.entry) }
 {
     command
         .about("Shows and checks messages of Messaging Layer Security (RFC 9420)")
@@ -110,7 +110,7 @@ fn command<'a>(alloc: Global) -> Result<Command<'a>, AllocError>
     let second = first.subcommand(check)?;
     let third = second.subcommand(replay)?;
     let all = third.subcommand(vectors)?;
-    Ok(described(all))
+    Ok(describe(all))
 }
 
 /// The suite that a text names.
@@ -126,7 +126,7 @@ fn suite_of(text: &str) -> Option<SuiteChoice>
 
 /// The check that the options and FILE stand for, or None where no suite has that name.
 fn check_on<'a>(suite: Option<&str>, group: Option<&'a str>, file: &'a str) -> Option<Job<'a>>
-    ensures { option_map view result ≡ check_on (option_map (λ s. s.now) suite.entry) (option_map (λ s. s.now) group.entry) file.entry.now }
+    ensures { option_map task_view result ≡ check_on (option_map (λ s. s.now) suite.entry) (option_map (λ s. s.now) group.entry) file.entry.now }
 {
     let suite = suite_of(suite?)?;
     match group {
@@ -141,7 +141,7 @@ fn check_on<'a>(suite: Option<&str>, group: Option<&'a str>, file: &'a str) -> O
 
 /// The job that a subcommand's name, its matches and FILE stand for, or None where no subcommand has that name.
 fn job_on<'a>(name: &str, matches: &ArgMatches<'a>, file: &'a str) -> Option<Job<'a>>
-    ensures { option_map view result ≡ task_on name.now (rows_of (found_of matches.now)) file.entry.now }
+    ensures { option_map task_view result ≡ task_on name.now (rows_of (found_of matches.now)) file.entry.now }
 {
     match name {
         "show" => Some(Job::Show { file }),
@@ -155,24 +155,24 @@ fn job_on<'a>(name: &str, matches: &ArgMatches<'a>, file: &'a str) -> Option<Job
 /// The job that the words name, the program's own name first.
 pub fn job<'a, S: AsStr>(alloc: Global, words: &'a [S]) -> Result<Job<'a>, NoJob>
     // It is the subcommand and the FILE of clap's matches.
-    ensures named { IfOk result (λ job. task_of (subcommand_of mls (map S.text words.entry.now)) ≡ Some (view job)) }
+    ensures named { IfOk result (λ job. task_of (subcommand_of mls (map S.text words.entry.now)) ≡ Some (task_view job)) }
     // It comes only where clap finds no fault in the words.
     ensures faultless { OnOk result (fault_of mls (map S.text words.entry.now) ≡ []) }
     // Where clap finds a fault, it is of a kind that the words have, unless memory runs out. Where it finds
     // none, memory is wanting, or the matches name no job.
     ensures fault { IfErr result (Explains (fault_of mls (map S.text words.entry.now)) (task_of (subcommand_of mls (map S.text words.entry.now)))) }
 {
-    match parsed(alloc, words) {
-        Ok(matches) => match found_in(&matches) {
+    match parse_words(alloc, words) {
+        Ok(matches) => match job_in(&matches) {
             Some(job) => Ok(job),
-            None => Err(suite_refused(alloc, suite_in(&matches))),
+            None => Err(refuse_suite(alloc, suite_in(&matches))),
         },
         Err(error) => Err(no_job(alloc, &error)),
     }
 }
 
 /// What clap makes of the words.
-fn parsed<'a, S: AsStr>(alloc: Global, words: &'a [S]) -> Result<ArgMatches<'a>, Error>
+fn parse_words<'a, S: AsStr>(alloc: Global, words: &'a [S]) -> Result<ArgMatches<'a>, Error>
     ensures rows { IfOk result (λ m. subcommand_rows_of m ≡ subcommand_of mls (map S.text words.entry.now)) }
     ensures faults { FailsBy (fault_of mls (map S.text words.entry.now)) result }
 {
@@ -200,7 +200,7 @@ fn no_job(alloc: Global, error: &Error) -> NoJob
 }
 
 /// That no suite has the name.
-fn suite_refused(alloc: Global, suite: &str) -> NoJob
+fn refuse_suite(alloc: Global, suite: &str) -> NoJob
     ensures { ComesOf result ErrorKind.InvalidValue }
 {
     match suite_error(alloc, suite) {
@@ -255,16 +255,16 @@ fn value_of<'a>(matches: &ArgMatches<'a>, id: &str) -> Option<&'a str>
     matches.get_str(id)
 }
 
-fn entered<'a, 'b>(matches: &'b ArgMatches<'a>) -> Option<(&'a str, &'b ArgMatches<'a>)>
+fn matched_subcommand<'a, 'b>(matches: &'b ArgMatches<'a>) -> Option<(&'a str, &'b ArgMatches<'a>)>
     ensures { option_map (λ p. (p.0.now, rows_of (found_of p.1.now))) result ≡ subcommand_rows_of matches.now }
 {
     matches.subcommand()
 }
 
-fn found_in<'a>(matches: &ArgMatches<'a>) -> Option<Job<'a>>
-    ensures { option_map view result ≡ task_of (subcommand_rows_of matches.now) }
+fn job_in<'a>(matches: &ArgMatches<'a>) -> Option<Job<'a>>
+    ensures { option_map task_view result ≡ task_of (subcommand_rows_of matches.now) }
 {
-    let (name, inner) = entered(matches)?;
+    let (name, inner) = matched_subcommand(matches)?;
     let file = value_of(inner, "FILE")?;
     job_on(name, inner, file)
 }

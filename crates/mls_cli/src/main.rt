@@ -2,8 +2,8 @@
 #![tactic(auto)]
 
 ghost use Rattle.std.specs.Prelude.{◌≡◌, map, false, IfOk, IfSome, string_bytes};
-ghost use Rattle.mls_cli_text.specs.Ends.{in_failed};
-ghost use Rattle.mls_cli.specs.Arguments.{named_mls};
+ghost use Rattle.mls_cli_text.specs.InputOutput.{in_failed};
+ghost use Rattle.mls_cli.specs.Arguments.{name_program};
 
 mod arguments;
 mod serving;
@@ -25,8 +25,8 @@ fn main(rt: HostRuntime) -> ExitCode {
 }
 
 /// The words with `mls` as the first, since usage texts name the program by it.
-fn named_mls(alloc: Global, mut words: Vec<String>) -> Result<Vec<String>, AllocError>
-    ensures { IfOk result (λ named. map string_bytes named.items ≡ named_mls (map string_bytes words.items)) }
+fn name_program(alloc: Global, mut words: Vec<String>) -> Result<Vec<String>, AllocError>
+    ensures { IfOk result (λ named. map string_bytes named.items ≡ name_program (map string_bytes words.items)) }
 {
     if let Some(first) = words.first_mut() {
         *first = String::from_str(alloc, "mls")?;
@@ -38,7 +38,7 @@ fn named_mls(alloc: Global, mut words: Vec<String>) -> Result<Vec<String>, Alloc
 fn words_in(rt: &HostRuntime) -> Result<Vec<String>, NoJob> {
     let alloc = rt.alloc();
     match std::env::args(rt) {
-        Ok(words) => Ok(named_mls(alloc, words.collect(alloc)?)?),
+        Ok(words) => Ok(name_program(alloc, words.collect(alloc)?)?),
         Err(error) => {
             if error.kind() == ErrorKind::OutOfMemory {
                 Err(NoJob::OutOfMemory)
@@ -50,7 +50,7 @@ fn words_in(rt: &HostRuntime) -> Result<Vec<String>, NoJob> {
 }
 
 /// What stands under a path, if it can be opened: `-` is the standard input.
-fn opened(rt: &HostRuntime, path: &str) -> Option<In<Source>>
+fn open_source(rt: &HostRuntime, path: &str) -> Option<In<Source>>
     ensures { IfSome result (λ source. in_failed source ≡ false) }
 {
     if path == "-" {
@@ -63,11 +63,11 @@ fn opened(rt: &HostRuntime, path: &str) -> Option<In<Source>>
 }
 
 /// What the job reads, if there is a job and its file can be opened.
-fn file_of(rt: &HostRuntime, job: &Result<Job<'_>, NoJob>) -> Option<In<Source>>
+fn open_file_of(rt: &HostRuntime, job: &Result<Job<'_>, NoJob>) -> Option<In<Source>>
     ensures { IfSome result (λ source. in_failed source ≡ false) }
 {
     match job {
-        Ok(job) => opened(rt, job.file()),
+        Ok(job) => open_source(rt, job.file()),
         Err(_) => None,
     }
 }
@@ -80,7 +80,7 @@ fn run(rt: &HostRuntime) -> u8 {
     match words_in(rt) {
         Ok(words) => {
             let job = job(alloc, words.as_slice());
-            let mut file = file_of(rt, &job);
+            let mut file = open_file_of(rt, &job);
             serve(alloc, &job, &mut file, &mut out, &mut err)
         }
         Err(no_job) => {

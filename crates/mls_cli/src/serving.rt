@@ -2,13 +2,13 @@
 
 ghost use Rattle.std.specs.Prelude.{is_some, ◌≡◌, ◌≢◌, ◌≤◌, [], true, false, Ok, Err, Some, None, IfOk, IfErr, IfSome, OnOk, OnErr};
 ghost use Rattle.std.specs.Io.KnownBytes.{Appends, Keeps};
-ghost use Rattle.mls_cli_text.specs.Ends.{AppendsPart, out_failed, out_writer, read_failed, write_failed};
+ghost use Rattle.mls_cli_text.specs.InputOutput.{AppendsPart, out_failed, out_writer, read_failed, write_failed};
 ghost use Rattle.mls_cli_text.specs.Page.{page_of};
 ghost use Rattle.mls_cli_text.specs.Text.{entry_of};
 ghost use Rattle.mls_cli_check.specs.Check.{check_page};
 ghost use Rattle.mls_cli_replay.specs.Replay.{PrintsOne};
 ghost use Rattle.mls_cli.specs.Arguments.{file_of};
-ghost use Rattle.mls_cli.specs.Serving.{Ends, EndsUnasked, IsPrintout, Leaves, Said, ShowsHelp, checks_of, crypto_of, fault_text, out_of_memory as memory_text, unread, unreadable};
+ghost use Rattle.mls_cli.specs.Serving.{Ends, EndsWithoutJob, IsPrintout, PrintsOrFails, SaysOrFails, ShowsHelp, checks_of, crypto_of, fault_text, out_of_memory as memory_text, unread, unreadable};
 
 use crate::tasks::{Job, NoJob, SuiteChoice};
 use mls_cli_check::{SuiteChecks, Unchecked, check_page};
@@ -33,20 +33,20 @@ pub fn serve<I: Input, O: Output, E: Write>(
     requires fresh_out { O.failed out.old ≡ false }
     // The output grows by what the job prints for the text that the reader had.
     ensures prints { IfOk job.now (λ j. IfSome file.old (λ reader. IfSome (I.remaining reader) (λ text.
-        Leaves (IsPrintout j text) (O.contents out.old) (O.contents out.new) result))) }
+        PrintsOrFails (IsPrintout j text) (O.contents out.old) (O.contents out.new) result))) }
     // Either nothing failed and nothing is said, or the status is 3 and what failed is said.
     ensures ends { IfOk job.now (λ j. Ends (file_of j) result (unread I.failed file.new) (O.failed out.new)
         (E.contents (out_writer err.old)) (E.contents (out_writer err.new)) (out_failed err.new)) }
     // A file that can't be read leaves the output as it was.
     ensures unread { IfOk job.now (λ j. unread I.failed file.new ≡ true → Keeps (O.contents out.old) (O.contents out.new)) }
     // Without a job help or the version is written, or a mistake or want of memory said.
-    ensures unasked { IfErr job.now (λ e. EndsUnasked e result (O.contents out.old) (O.contents out.new) (O.failed out.new)
+    ensures unasked { IfErr job.now (λ e. EndsWithoutJob e result (O.contents out.old) (O.contents out.new) (O.failed out.new)
         (E.contents (out_writer err.old)) (E.contents (out_writer err.new)) (out_failed err.new)) }
     ensures same { is_some file.new ≡ is_some file.old }
 {
     match job {
         Ok(job) => serve_job(alloc, job, file, out, err),
-        Err(no_job) => answer(no_job, out, err),
+        Err(no_job) => answer_without_job(no_job, out, err),
     }
 }
 
@@ -60,7 +60,7 @@ fn serve_job<I: Input, O: Output, E: Write>(
     requires fresh_file { IfSome file.old (λ reader. I.failed reader ≡ false) }
     requires fresh_out { O.failed out.old ≡ false }
     ensures prints { IfSome file.old (λ reader. IfSome (I.remaining reader) (λ text.
-        Leaves (IsPrintout job.now text) (O.contents out.old) (O.contents out.new) result)) }
+        PrintsOrFails (IsPrintout job.now text) (O.contents out.old) (O.contents out.new) result)) }
     ensures ends { Ends (file_of job.now) result (unread I.failed file.new) (O.failed out.new)
         (E.contents (out_writer err.old)) (E.contents (out_writer err.new)) (out_failed err.new) }
     ensures unread { unread I.failed file.new ≡ true → Keeps (O.contents out.old) (O.contents out.new) }
@@ -68,13 +68,13 @@ fn serve_job<I: Input, O: Output, E: Write>(
 {
     match file {
         None => {
-            say(Fault::Read, job.file(), err);
+            say_fault(Fault::Read, job.file(), err);
             3
         }
         Some(reader) => match print_job(alloc, job, reader, out) {
             Ok(status) => status,
             Err(fault) => {
-                say(fault, job.file(), err);
+                say_fault(fault, job.file(), err);
                 3
             }
         },
@@ -114,7 +114,7 @@ fn print_text<O: Output>(
     match job {
         Job::Show { .. } => print_made_page(alloc, show_page(alloc, text), out),
         Job::Check { suite, group, .. } => {
-            print_made_page(alloc, checked(alloc, *suite, text, group), out)
+            print_made_page(alloc, check_file(alloc, *suite, text, group), out)
         }
         Job::Replay { .. } => replay::<Glass, O>(alloc, text, out),
         Job::Vectors { .. } => print_made_page(alloc, vectors_page(alloc, text), out),
@@ -122,7 +122,7 @@ fn print_text<O: Output>(
 }
 
 /// What is printed of a tree's file under the chosen suite.
-fn checked(
+fn check_file(
     alloc: Global,
     suite: SuiteChoice,
     text: &[u8],
@@ -137,8 +137,8 @@ fn checked(
 }
 
 /// Says why the program stopped.
-fn say<E: Write>(fault: Fault, file: &str, err: &mut Out<E>)
-    ensures { Said (E.contents (out_writer err.old)) (E.contents (out_writer err.new)) (out_failed err.new) (fault_text file.now fault) }
+fn say_fault<E: Write>(fault: Fault, file: &str, err: &mut Out<E>)
+    ensures { SaysOrFails (E.contents (out_writer err.old)) (E.contents (out_writer err.new)) (out_failed err.new) (fault_text file.now fault) }
 {
     match fault {
         Fault::OutOfMemory => say_out_of_memory(err),
@@ -148,13 +148,13 @@ fn say<E: Write>(fault: Fault, file: &str, err: &mut Out<E>)
 }
 
 fn say_out_of_memory<E: Write>(err: &mut Out<E>)
-    ensures { Said (E.contents (out_writer err.old)) (E.contents (out_writer err.new)) (out_failed err.new) memory_text }
+    ensures { SaysOrFails (E.contents (out_writer err.old)) (E.contents (out_writer err.new)) (out_failed err.new) memory_text }
 {
     let _ = err.put(b"mls: out of memory\n");
 }
 
 fn say_unreadable<E: Write>(file: &str, err: &mut Out<E>)
-    ensures { Said (E.contents (out_writer err.old)) (E.contents (out_writer err.new)) (out_failed err.new) (unreadable file.now) }
+    ensures { SaysOrFails (E.contents (out_writer err.old)) (E.contents (out_writer err.new)) (out_failed err.new) (unreadable file.now) }
 {
     let _ = put_unreadable(file, err);
 }
@@ -171,9 +171,9 @@ fn put_unreadable<E: Write>(file: &str, err: &mut Out<E>) -> Result<(), Fault>
 }
 
 /// Help goes to the output with status 0, a mistake to the errors with status 2.
-fn answer<O: Output, E: Write>(no_job: &NoJob, out: &mut O, err: &mut Out<E>) -> u8
+fn answer_without_job<O: Output, E: Write>(no_job: &NoJob, out: &mut O, err: &mut Out<E>) -> u8
     requires { O.failed out.old ≡ false }
-    ensures { EndsUnasked no_job.now result (O.contents out.old) (O.contents out.new) (O.failed out.new)
+    ensures { EndsWithoutJob no_job.now result (O.contents out.old) (O.contents out.new) (O.failed out.new)
         (E.contents (out_writer err.old)) (E.contents (out_writer err.new)) (out_failed err.new) }
 {
     match no_job {
@@ -197,7 +197,7 @@ fn show_help<O: Output, E: Write>(text: &str, out: &mut O, err: &mut Out<E>) -> 
     match out.put(text.as_bytes()) {
         Ok(()) => 0,
         Err(fault) => {
-            say(fault, "", err);
+            say_fault(fault, "", err);
             3
         }
     }

@@ -11,7 +11,7 @@ ghost use Rattle.std.specs.Prelude.{Some};
 use crate::arguments::{job, no_text};
 use crate::serving::serve;
 use crate::tasks::{Job, NoJob};
-use crate::tests::vectors::repeated;
+use crate::tests::vectors::repeat_text;
 use mls_cli_text::{In, Out};
 use std::alloc::{AllocError, Global};
 use std::io;
@@ -67,7 +67,7 @@ fn unless_out_of_memory(status: u8, err: &[u8]) -> Result<(), AllocError> {
 }
 
 /// What the program leaves for words or the lack of them, and a file, where it can be opened.
-fn served(
+fn serve_words(
     alloc: Global,
     job: &Result<Job<'_>, NoJob>,
     file: Option<&[u8]>,
@@ -85,8 +85,8 @@ fn served(
 }
 
 /// The status for words and a file, and what is printed: on the output, and behind it on the errors.
-pub fn printed(alloc: Global, words: &[&str], file: &[u8]) -> Result<(u8, Vec<u8>), AllocError> {
-    let mut left = served(alloc, &job(alloc, words), Some(file))?;
+pub fn serve_file(alloc: Global, words: &[&str], file: &[u8]) -> Result<(u8, Vec<u8>), AllocError> {
+    let mut left = serve_words(alloc, &job(alloc, words), Some(file))?;
     left.out.extend_from_slice(left.err.as_slice())?;
     Ok((left.status, left.out))
 }
@@ -161,7 +161,7 @@ fn shows_and_refuses(rt: HostRuntime) -> Result<(), Fail> {
     ];
     let words = ["mls", "show", "FILE"];
     for (file, status, text) in table {
-        let (answer, out) = printed(alloc, words.as_slice(), file.as_bytes())?;
+        let (answer, out) = serve_file(alloc, words.as_slice(), file.as_bytes())?;
         assert_eq!(rt; answer, status);
         assert!(rt; out.as_slice() == text.as_bytes());
     }
@@ -225,7 +225,7 @@ fn shows_each_kind(rt: HostRuntime) -> Result<(), Fail> {
     ];
     let words = ["mls", "show", "FILE"];
     for (file, status, text) in table {
-        let (answer, out) = printed(alloc, words.as_slice(), file.as_bytes())?;
+        let (answer, out) = serve_file(alloc, words.as_slice(), file.as_bytes())?;
         assert_eq!(rt; answer, status);
         assert!(rt; out.as_slice() == text.as_bytes());
     }
@@ -236,13 +236,13 @@ fn shows_each_kind(rt: HostRuntime) -> Result<(), Fail> {
 #[test]
 fn shows_long_texts(rt: HostRuntime) -> Result<(), Fail> {
     let alloc = rt.alloc();
-    let digits = repeated(alloc, "6a", 5000)?;
+    let digits = repeat_text(alloc, "6a", 5000)?;
     let file = format!(in alloc; "0001000101670000000000000000010000000200015388{digits}01aa01bb")?;
     let text = format!(in alloc;
         "message: public_message\nbytes: 5027\ngroup_id: 67\nepoch: 0\nsender: 2\nauthenticated_data: -\ncontent: application\ndata: {digits}\nsignature: aa\nmembership_tag: bb\n"
     )?;
     let words = ["mls", "show", "FILE"];
-    let (status, out) = printed(alloc, words.as_slice(), file.as_bytes())?;
+    let (status, out) = serve_file(alloc, words.as_slice(), file.as_bytes())?;
     assert_eq!(rt; status, 0);
     assert!(rt; out.as_slice() == text.as_bytes());
     Ok(())
@@ -259,12 +259,12 @@ fn says_what_is_wrong(rt: HostRuntime) -> Result<(), Fail> {
         (&["mls", "export", "FILE"], 2, UNKNOWN),
     ];
     for (words, status, text) in table {
-        let left = served(alloc, &job(alloc, words), None)?;
+        let left = serve_words(alloc, &job(alloc, words), None)?;
         assert_eq!(rt; left.status, status);
         assert!(rt; left.out.is_empty());
         assert!(rt; left.err.as_slice() == text.as_bytes());
     }
-    let left = served(alloc, &Err(no_text(alloc)), None)?;
+    let left = serve_words(alloc, &Err(no_text(alloc)), None)?;
     assert_eq!(rt; left.status, 2);
     assert!(rt; left.out.is_empty());
     assert!(rt; left.err.as_slice() == NO_TEXT.as_bytes());
@@ -285,7 +285,7 @@ fn prints_help(rt: HostRuntime) -> Result<(), Fail> {
         (&["mls", "-V"], "mls 0.1.0\n"),
     ];
     for (words, text) in table {
-        let left = served(alloc, &job(alloc, words), None)?;
+        let left = serve_words(alloc, &job(alloc, words), None)?;
         assert_eq!(rt; left.status, 0);
         assert!(rt; left.out.as_slice() == text.as_bytes());
         assert!(rt; left.err.is_empty());

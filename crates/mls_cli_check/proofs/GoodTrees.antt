@@ -22,7 +22,7 @@ use Rattle.mls_types.specs.GroupInfo.{ratchet_tree}
 use Rattle.mls_suite.specs.Crypto.{Crypto}
 use Rattle.mls_treemath.specs.Paths.{nodes_in}
 use Rattle.mls_tree_model.specs.Term.{Term, height, is_full_width, is_perfect}
-use Rattle.mls_tree_model.specs.Lists.{all_parents, asked, rises_here}
+use Rattle.mls_tree_model.specs.Lists.{all_parents, parent_passes, rises_here}
 use Rattle.mls_tree_model.specs.Good.{IsGood, has_good_shape, is_within, tree_checks}
 use Rattle.mls_tree_model.specs.Arrays.{parent_in, term_of, padded, height_for, sent_term, from_nodes}
 use Rattle.mls_tree_model.proofs.ArrayLaws.{perfect-term_of}
@@ -63,7 +63,7 @@ of_spelled [] fits k = tt
 of_spelled (c ∷ cs) fits zero = of_cell c fits.0
 of_spelled (c ∷ cs) fits (suc k) = of_spelled cs fits.1 k
 
-asked_here : (c : Option Parent) (b : ℕ) (l r : Term) → IfSome c (λ p. rises_from 0 p.unmerged_leaves ≡ true) → asked rises_here b c l r ≡ true
+asked_here : (c : Option Parent) (b : ℕ) (l r : Term) → IfSome c (λ p. rises_from 0 p.unmerged_leaves ≡ true) → parent_passes rises_here b c l r ≡ true
 unfolding rises_here
 asked_here None b l r e = refl
 asked_here (Some p) b l r e = e

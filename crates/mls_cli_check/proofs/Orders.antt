@@ -11,20 +11,20 @@ use Rattle.mls_cli_text.specs.Page.{Page, good, page_of, refused}
 use Rattle.mls_cli_text.specs.Text.{Entry, entry_of}
 use Rattle.mls_cli_text.specs.declared.page.Page as code
 use Rattle.mls_cli_text.specs.declared.text.Line.{Line}
-use Rattle.mls_cli_check.specs.Check.{all_passed, behind, step, ok_line, suite_line, rules_report, tree_entries, tree_report}
-use Rattle.mls_cli_check.specs.Reports.{lines_before, rule_entries}
+use Rattle.mls_cli_check.specs.Check.{all_passed, page_behind, check_step, ok_line, suite_line, rules_report, tree_entries, tree_report}
+use Rattle.mls_cli_check.specs.RuleLines.{lines_before, rule_entries}
 use Rattle.mls_cli_check.proofs.Reports.{report_by}
 use Rattle.mls_cli_check.specs.declared.report.SuiteChecks.{SuiteChecks}
 
 -- whatever the checks come to
 by_order : (own : SuiteChecks) (lists hashes keys clients signed capable fit : Bool)
-    → step 23 lists (ok_line (codes "unmerged"))
-    (step 24 hashes (ok_line (codes "parent_hashes"))
-    (step 25 keys (ok_line (codes "keys"))
-    (step 26 clients (ok_line (codes "clients"))
-    (step 51 signed (suite_line own (codes "signatures"))
-    (step 52 capable (ok_line (codes "capabilities"))
-    (step 36 fit (suite_line own (codes "key_forms"))
+    → check_step 23 lists (ok_line (codes "unmerged"))
+    (check_step 24 hashes (ok_line (codes "parent_hashes"))
+    (check_step 25 keys (ok_line (codes "keys"))
+    (check_step 26 clients (ok_line (codes "clients"))
+    (check_step 51 signed (suite_line own (codes "signatures"))
+    (check_step 52 capable (ok_line (codes "capabilities"))
+    (check_step 36 fit (suite_line own (codes "key_forms"))
     all_passed))))))
     ≡ report_by own (require 23 lists >> (require 24 hashes >> (require 25 keys >> (require 26 clients >> (require 51 signed >> (require 52 capable >> require 36 fit))))))
 unfolding rule_entries lines_before
@@ -46,7 +46,7 @@ rules-by_order c own group t =
 by_answer : (c : Crypto) (own : SuiteChecks) (group : List ℕ) (t u : Term) (r : Result Passed ℕ) → tree_checks (rules_of c group) u ≡ r → u ≡ t → rules_report c own group t ≡ report_by own r
 by_answer c own group t u r e same = rules-by_order c own group t ∙ ap (report_by own) (ap (tree_checks (rules_of c group)) (sym same) ∙ e)
 
-regrouped : (xs ys : List Entry) (r : Page Entry) → behind (xs ++ ys) r ≡ behind xs (behind ys r)
+regrouped : (xs ys : List Entry) (r : Page Entry) → page_behind (xs ++ ys) r ≡ page_behind xs (page_behind ys r)
 regrouped xs ys r = ap (λ es. record { entries = es; ending = r.ending }) (append_assoc xs ys r.entries)
 
 -- where all checks pass, all lines are printed
@@ -55,17 +55,17 @@ pub all_lines : (c : Crypto) (own : SuiteChecks) (group : List ℕ) (t u : Term)
     → good all ≡ tree_report c own group t
 all_lines c own group t u all lines more checks same a l m =
     ap good (sym (append-nil all))
-    ∙ rw (a, l, m) (regrouped (tree_entries t) (rule_entries own) all_passed ∙ ap (behind (tree_entries t)) (sym (by_answer c own group t u (Ok passed) checks same)))
+    ∙ rw (a, l, m) (regrouped (tree_entries t) (rule_entries own) all_passed ∙ ap (page_behind (tree_entries t)) (sym (by_answer c own group t u (Ok passed) checks same)))
 
 -- where one fails, those before it and its refusal
 some_lines : (c : Crypto) (own : SuiteChecks) (group : List ℕ) (t u : Term) (n : ℕ) (all lines more : List Entry)
     → tree_checks (rules_of c group) u ≡ Err n → u ≡ t → all ≡ lines ++ more → lines ≡ tree_entries t → more ≡ take (lines_before n) (rule_entries own)
-    → behind all (refused n) ≡ tree_report c own group t
+    → page_behind all (refused n) ≡ tree_report c own group t
 some_lines c own group t u n all lines more checks same a l m =
-    rw (a, l, m) (regrouped (tree_entries t) (take (lines_before n) (rule_entries own)) (refused n) ∙ ap (behind (tree_entries t)) (sym (by_answer c own group t u (Err n) checks same)))
+    rw (a, l, m) (regrouped (tree_entries t) (take (lines_before n) (rule_entries own)) (refused n) ∙ ap (page_behind (tree_entries t)) (sym (by_answer c own group t u (Err n) checks same)))
 
 pub lines_or_wanting : (c : Crypto) (own : SuiteChecks) (group : List ℕ) (t u : Term) (n : ℕ) (all lines more : List Entry) (r : Result (code.Page Line) AllocError)
-    → IfOk r (λ page. n ≢ 1) → IfOk r (λ page. page_of entry_of page ≡ behind all (refused n))
+    → IfOk r (λ page. n ≢ 1) → IfOk r (λ page. page_of entry_of page ≡ page_behind all (refused n))
     → (n ≢ 1 → tree_checks (rules_of c group) u ≡ Err n) → u ≡ t → all ≡ lines ++ more → lines ≡ tree_entries t → more ≡ take (lines_before n) (rule_entries own)
     → IfOk r (λ page. page_of entry_of page ≡ tree_report c own group t)
 lines_or_wanting c own group t u n all lines more (Ok page) ne is checks same a l m = is ∙ some_lines c own group t u n all lines more (checks ne) same a l m

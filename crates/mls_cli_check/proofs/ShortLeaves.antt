@@ -12,7 +12,7 @@ use Rattle.mls_types.specs.GroupInfo.{ratchet_tree}
 use Rattle.mls_tree_model.specs.Term.{Term}
 use Rattle.mls_tree_model.specs.Arrays.{from_nodes}
 use Rattle.mls_tree.specs.Tree.{max_leaves}
-use Rattle.mls_tree.specs.Short.{HasShortLeaves}
+use Rattle.mls_tree.specs.ShortLeaves.{HasShortLeaves}
 use Rattle.mls_tree.proofs.ShortLeaves.{short_leaves}
 use Rattle.mls_tree.proofs.SentLemmas.{sent_is}
 

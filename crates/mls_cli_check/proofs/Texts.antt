@@ -4,17 +4,17 @@ use Rattle.std.specs.Prelude.{IsOk, MatchResult}
 use Rattle.hex.specs.Hex.{decode_of}
 use Rattle.hex.specs.declared.error.FromHexError.{FromHexError}
 use Rattle.hex.proofs.HexLemmas.{decode_of-ok}
-use Rattle.mls_wire.specs.Checks.{given}
+use Rattle.mls_wire.specs.Checks.{require_some}
 use Rattle.mls_wire.specs.Reading.{◌>>=◌}
 use Rattle.mls_leaf.specs.Limits.{input_limit}
 use Rattle.mls_suite.specs.Crypto.{Crypto}
-use Rattle.mls_cli_text.specs.File.{bytes_in, decoded, is_hex}
+use Rattle.mls_cli_text.specs.HexFile.{bytes_in, decoded_bytes, is_hex}
 use Rattle.mls_cli_text.specs.Text.{Entry}
 use Rattle.mls_cli_text.specs.Page.{Page, refused}
 use Rattle.mls_cli_check.specs.declared.report.SuiteChecks.{SuiteChecks}
 use Rattle.mls_cli_check.specs.CheckFaults.{number_of}
 use Rattle.mls_cli_check.specs.declared.check_error.CheckError.{CheckError}
-use Rattle.mls_cli_check.specs.Check.{group_in, within_limit, both, texts_in, check_page, check_page_in, check_page_on}
+use Rattle.mls_cli_check.specs.Check.{group_in, within_limit, both_texts, texts_in, check_page, check_page_in, check_page_on}
 
 -- ---- a group's text
 
@@ -27,7 +27,7 @@ over bytes h = grind (arith)
 within : (bytes : List ℕ) → length bytes ≤ input_limit → within_limit bytes ≡ Ok bytes
 within bytes h = grind (arith)
 
-over_by : (text : List ℕ) (r : Result (List ℕ) FromHexError) → decode_of text ≡ r → is_some (decoded r) ≡ true → input_limit < length text / 2 → (given 8 (decoded r) >>= within_limit) ≡ Err 6
+over_by : (text : List ℕ) (r : Result (List ℕ) FromHexError) → decode_of text ≡ r → is_some (decoded_bytes r) ≡ true → input_limit < length text / 2 → (require_some 8 (decoded_bytes r) >>= within_limit) ≡ Err 6
 over_by text (Ok bytes) e h long = let is = half text bytes e in over bytes (omega (arith, is))
 over_by text (Err fault) e h long = cc h
 
@@ -35,7 +35,7 @@ pub group_too_long : (text : List ℕ) → is_hex text ≡ true → input_limit 
 unfolding group_in
 group_too_long text h long = over_by text (decode_of text) refl h long
 
-within_by : (text : List ℕ) (r : Result (List ℕ) FromHexError) → decode_of text ≡ r → is_some (decoded r) ≡ true → length text / 2 ≤ input_limit → (bytes : List ℕ) × ((given 8 (decoded r) >>= within_limit) ≡ Ok bytes)
+within_by : (text : List ℕ) (r : Result (List ℕ) FromHexError) → decode_of text ≡ r → is_some (decoded_bytes r) ≡ true → length text / 2 ≤ input_limit → (bytes : List ℕ) × ((require_some 8 (decoded_bytes r) >>= within_limit) ≡ Ok bytes)
 within_by text (Ok bytes) e h short = let is = half text bytes e in (bytes, within bytes (omega (arith, is)))
 within_by text (Err fault) e h short = cc h
 
@@ -43,7 +43,7 @@ pub group_is : (text : List ℕ) → is_hex text ≡ true → length text / 2 �
 unfolding group_in
 group_is text h short = within_by text (decode_of text) refl h short
 
-no_hex_by : (r : Result (List ℕ) FromHexError) → is_some (decoded r) ≡ false → (given 8 (decoded r) >>= within_limit) ≡ Err 8
+no_hex_by : (r : Result (List ℕ) FromHexError) → is_some (decoded_bytes r) ≡ false → (require_some 8 (decoded_bytes r) >>= within_limit) ≡ Err 8
 no_hex_by (Ok bytes) h = cc h
 no_hex_by (Err fault) h = refl
 
@@ -53,7 +53,7 @@ group_no_hex text h = no_hex_by (decode_of text) h
 
 -- ---- both texts
 
-no_file_by : (o : Option (List ℕ)) (g : Result (List ℕ) ℕ) → is_some o ≡ false → (given 8 o >>= λ spelled. g >>= λ id. both spelled id) ≡ Err 8
+no_file_by : (o : Option (List ℕ)) (g : Result (List ℕ) ℕ) → is_some o ≡ false → (require_some 8 o >>= λ spelled. g >>= λ id. both_texts spelled id) ≡ Err 8
 no_file_by None g h = refl
 no_file_by (Some spelled) g h = cc h
 
@@ -61,7 +61,7 @@ pub texts_no_file : (text group : List ℕ) → is_some (bytes_in text) ≡ fals
 unfolding texts_in
 texts_no_file text group h = no_file_by (bytes_in text) (group_in group) h
 
-no_group_by : (o : Option (List ℕ)) (g : Result (List ℕ) ℕ) (n : ℕ) → is_some o ≡ true → g ≡ Err n → (given 8 o >>= λ spelled. g >>= λ id. both spelled id) ≡ Err n
+no_group_by : (o : Option (List ℕ)) (g : Result (List ℕ) ℕ) (n : ℕ) → is_some o ≡ true → g ≡ Err n → (require_some 8 o >>= λ spelled. g >>= λ id. both_texts spelled id) ≡ Err n
 no_group_by (Some spelled) g n h e = rw e refl
 no_group_by None g n h e = cc h
 
@@ -69,7 +69,7 @@ pub texts_no_group : (text group : List ℕ) (n : ℕ) → is_some (bytes_in tex
 unfolding texts_in
 texts_no_group text group n h e = no_group_by (bytes_in text) (group_in group) n h e
 
-both_by : (o : Option (List ℕ)) (g : Result (List ℕ) ℕ) → is_some o ≡ true → IsOk g → IsOk (given 8 o >>= λ spelled. g >>= λ id. both spelled id)
+both_by : (o : Option (List ℕ)) (g : Result (List ℕ) ℕ) → is_some o ≡ true → IsOk g → IsOk (require_some 8 o >>= λ spelled. g >>= λ id. both_texts spelled id)
 both_by (Some spelled) (Ok id) h ok = ok
 both_by (Some spelled) (Err n) h ok = cc ok
 both_by None g h ok = cc h
@@ -84,7 +84,7 @@ handed_on text group (Ok x) file h = texts_are text group file h
 handed_on text group (Err e) file h = texts_no_group text group (number_of e) file h
 
 -- a text that is refused is all that is printed
-page_by : (c : Crypto) (own : SuiteChecks) (o : Option (List ℕ)) (group : List ℕ) (g : Result (List ℕ) ℕ) (n : ℕ) → g ≡ group_in group → (given 8 o >>= λ spelled. g >>= λ id. both spelled id) ≡ Err n → check_page_in c own o group ≡ refused n
+page_by : (c : Crypto) (own : SuiteChecks) (o : Option (List ℕ)) (group : List ℕ) (g : Result (List ℕ) ℕ) (n : ℕ) → g ≡ group_in group → (require_some 8 o >>= λ spelled. g >>= λ id. both_texts spelled id) ≡ Err n → check_page_in c own o group ≡ refused n
 page_by c own None group g n is e = let same : n ≡ 8 = cc e in rw same refl
 page_by c own (Some spelled) group (Ok id) n is e = cc e
 page_by c own (Some spelled) group (Err k) n is e = let same : n ≡ k = cc e in rw (← is, same) refl

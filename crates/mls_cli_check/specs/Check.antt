@@ -1,7 +1,7 @@
 -- What `mls check` prints.
 use Rattle.std.specs.Prelude.{◌≡◌, nat_lt, ℕ, Bool, List, [], ◌∷◌, ◌++◌, codes, length, if◌then◌else◌, Option, Some, None, Result, Ok, Err}
 use Rattle.hex.specs.Hex.{decode_of}
-use Rattle.mls_wire.specs.Checks.{given}
+use Rattle.mls_wire.specs.Checks.{require_some}
 use Rattle.mls_wire.specs.Reading.{◌>>=◌}
 use Rattle.mls_leaf.specs.Faults.{whole}
 use Rattle.mls_leaf.specs.Limits.{input_limit}
@@ -14,7 +14,7 @@ use Rattle.mls_tree_model.specs.Arrays.{from_nodes}
 use Rattle.mls_suite.specs.Crypto.{Crypto}
 use Rattle.mls_tree.specs.Tree.{max_leaves}
 use Rattle.mls_tree.specs.Rules.{rules_of}
-use Rattle.mls_cli_text.specs.File.{bytes_in, decoded}
+use Rattle.mls_cli_text.specs.HexFile.{bytes_in, decoded_bytes}
 use Rattle.mls_cli_text.specs.Text.{Entry, entry, bytes, number, word}
 use Rattle.mls_cli_text.specs.Page.{Page, good, refused}
 use Rattle.mls_cli_check.specs.declared.report.SuiteChecks.{SuiteChecks}
@@ -37,17 +37,17 @@ within_limit bs = if nat_lt input_limit (length bs) then Err 6 else Ok bs
 
 -- a group's id, of which the hex digits are given
 unfoldable pub group_in : List ℕ → Result (List ℕ) ℕ
-group_in text = given 8 (decoded (decode_of text)) >>= within_limit
+group_in text = require_some 8 (decoded_bytes (decode_of text)) >>= within_limit
 
-abbrev pub both : List ℕ → List ℕ → Result (List ℕ × List ℕ) ℕ
-both spelled id = Ok (spelled, id)
+abbrev pub both_texts : List ℕ → List ℕ → Result (List ℕ × List ℕ) ℕ
+both_texts spelled id = Ok (spelled, id)
 
 -- the bytes of a file's text and of a group's: 8 the file's isn't hex, then 8 and 6 of the group's
 unfoldable pub texts_in : List ℕ → List ℕ → Result (List ℕ × List ℕ) ℕ
 texts_in text group = do
-  spelled ← given 8 (bytes_in text)
+  spelled ← require_some 8 (bytes_in text)
   id ← group_in group
-  both spelled id
+  both_texts spelled id
 
 -- ---- lines, and the first check that fails
 
@@ -56,12 +56,12 @@ abbrev pub all_passed : Page Entry
 all_passed = good []
 
 -- lines, and what is printed behind them
-abbrev pub behind : List Entry → Page Entry → Page Entry
-behind entries p = record { entries = entries ++ p.entries; ending = p.ending }
+abbrev pub page_behind : List Entry → Page Entry → Page Entry
+page_behind entries p = record { entries = entries ++ p.entries; ending = p.ending }
 
 -- a check by its number: where it holds its line, and then the others
-abbrev pub step : ℕ → Bool → Entry → Page Entry → Page Entry
-step n holds line others = if holds then behind (line ∷ []) others else refused n
+abbrev pub check_step : ℕ → Bool → Entry → Page Entry → Page Entry
+check_step n holds line others = if holds then page_behind (line ∷ []) others else refused n
 
 -- the line of a check that was made
 abbrev pub ok_line : List ℕ → Entry
@@ -78,17 +78,17 @@ suite_line own name = entry [] name (word (suite_word own))
 -- the checks of a good tree in their order (RFC 9420, 7.3, 7.9.2 and 12.4.3.1), each with its line
 unfoldable pub rules_report : Crypto → SuiteChecks → List ℕ → Term → Page Entry
 rules_report c own group t =
-    step 23 (has_good_lists t) (ok_line (codes "unmerged"))
-    (step 24 (has_good_hashes t) (ok_line (codes "parent_hashes"))
-    (step 25 (has_distinct_keys t) (ok_line (codes "keys"))
-    (step 26 (has_distinct_clients t) (ok_line (codes "clients"))
-    (step 51 (is_all_signed (rules_of c group) t) (suite_line own (codes "signatures"))
-    (step 52 (is_all_capable (rules_of c group) t) (ok_line (codes "capabilities"))
-    (step 36 (is_all_fit (rules_of c group) t) (suite_line own (codes "key_forms"))
+    check_step 23 (has_good_lists t) (ok_line (codes "unmerged"))
+    (check_step 24 (has_good_hashes t) (ok_line (codes "parent_hashes"))
+    (check_step 25 (has_distinct_keys t) (ok_line (codes "keys"))
+    (check_step 26 (has_distinct_clients t) (ok_line (codes "clients"))
+    (check_step 51 (is_all_signed (rules_of c group) t) (suite_line own (codes "signatures"))
+    (check_step 52 (is_all_capable (rules_of c group) t) (ok_line (codes "capabilities"))
+    (check_step 36 (is_all_fit (rules_of c group) t) (suite_line own (codes "key_forms"))
     all_passed))))))
 
 abbrev pub tree_report : Crypto → SuiteChecks → List ℕ → Term → Page Entry
-tree_report c own group t = behind (tree_entries t) (rules_report c own group t)
+tree_report c own group t = page_behind (tree_entries t) (rules_report c own group t)
 
 abbrev pub report_on : Crypto → SuiteChecks → List ℕ → Result Term ℕ → Page Entry
 report_on c own group (Ok t) = tree_report c own group t

@@ -1,4 +1,4 @@
 pub mod Check
 pub mod CheckFaults
-pub mod Reports
+pub mod RuleLines
 pub mod Unchecked

@@ -3,8 +3,8 @@ use Rattle.std.specs.Prelude.{◌≡◌, ℕ, true, List, [], replicate, Some, r
 use Rattle.std.proofs.Common.{arith, lit<}
 use Rattle.mls_suite.specs.Crypto.{Crypto, Lawful, Sealing}
 
-abbrev pub lying : List ℕ → Sealing
-lying pt = record { kem = []; ct = pt }
+abbrev pub open_sealing : List ℕ → Sealing
+open_sealing pt = record { kem = []; ct = pt }
 
 -- under the number of the suite whose own cryptography the program doesn't have
 abbrev pub unchecked : Crypto
@@ -13,7 +13,7 @@ unchecked = record {
   public = λ sk. [];
   key_ok = λ pk. true;
   derive = λ ikm. replicate 32 0;
-  seal = λ pk info pt rnd. Some (lying pt);
+  seal = λ pk info pt rnd. Some (open_sealing pt);
   unseal = λ sk kem info ct. Some ct;
   sig_public = λ sk. [];
   sign = λ sk m. [];
@@ -22,8 +22,8 @@ unchecked = record {
   aead_open = λ key nonce aad ct. Some ct;
 }
 
-opened : (sk info pt rnd : List ℕ) (s : Sealing) → Some (lying pt) ≡ Some s → Some s.ct ≡ Some pt
-opened sk info pt rnd s e = (let same : lying pt ≡ s = cc in rw (← same) refl)
+opened : (sk info pt rnd : List ℕ) (s : Sealing) → Some (open_sealing pt) ≡ Some s → Some s.ct ≡ Some pt
+opened sk info pt rnd s e = (let same : open_sealing pt ≡ s = cc in rw (← same) refl)
 
 pub unchecked_lawful : Lawful unchecked
 unchecked_lawful = record {

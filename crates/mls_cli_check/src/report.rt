@@ -8,15 +8,15 @@ ghost use Rattle.mls_tree.specs.Faults.{number_of as tree_number_of};
 ghost use Rattle.mls_tree.specs.Tree.{term};
 ghost use Rattle.mls_cli_text.specs.Page.{page_of, refused};
 ghost use Rattle.mls_cli_text.specs.Text.{entry_of};
-ghost use Rattle.mls_cli_check.specs.Check.{SpellsGoodTree, behind, check_text, suite_word, tree_report};
+ghost use Rattle.mls_cli_check.specs.Check.{SpellsGoodTree, page_behind, check_text, suite_word, tree_report};
 ghost use Rattle.mls_cli_check.specs.CheckFaults.{number_of};
-ghost use Rattle.mls_cli_check.specs.Reports.{lines_before, rule_entries};
-ghost use Rattle.mls_tree.specs.Short.{HasShortLeaves};
+ghost use Rattle.mls_cli_check.specs.RuleLines.{lines_before, rule_entries};
+ghost use Rattle.mls_tree.specs.ShortLeaves.{HasShortLeaves};
 
 use crate::check_error::CheckError;
 use crate::tree::{tree_in, tree_lines};
 use mls_suite::Suite;
-use mls_cli_text::{Ending, Field, Line, Page, joined, line_of};
+use mls_cli_text::{Ending, Field, Line, Page, append_lines, line_of};
 use mls_tree::{PublicTree, TreeError};
 use std::alloc::{AllocError, Global};
 
@@ -32,7 +32,7 @@ pub enum SuiteChecks {
 /// The lines, and the refusal behind them; where it is want of memory, that.
 fn refused(lines: Vec<Line>, error: CheckError) -> Result<Page<Line>, AllocError>
     ensures memory { IfOk result (λ page. number_of error ≢ 1) }
-    ensures page { IfOk result (λ page. page_of entry_of page ≡ behind (map entry_of lines.items) (refused (number_of error))) }
+    ensures page { IfOk result (λ page. page_of entry_of page ≡ page_behind (map entry_of lines.items) (refused (number_of error))) }
     ensures outright { number_of error ≢ 1 → IsOk result }
 {
     if error.is_memory() {
@@ -55,7 +55,7 @@ fn suite_word(own: SuiteChecks) -> &'static str
 }
 
 /// The lines of all checks of a good tree.
-#[tactic(auto, unfolding(crate::specs::Reports::rule_entries))]
+#[tactic(auto, unfolding(crate::specs::RuleLines::rule_entries))]
 fn all_rule_lines(alloc: Global, own: SuiteChecks) -> Result<Vec<Line>, AllocError>
     ensures { IfOk result (λ lines. map entry_of lines.items ≡ rule_entries own) }
 {
@@ -81,7 +81,7 @@ fn rule_lines(alloc: Global, own: SuiteChecks, passed: usize) -> Result<Vec<Line
 }
 
 /// How many lines come before the check that failed.
-#[tactic(auto, unfolding(crate::specs::Reports::lines_before))]
+#[tactic(auto, unfolding(crate::specs::RuleLines::lines_before))]
 fn lines_before(error: TreeError) -> usize
     ensures { result ≡ lines_before (tree_number_of error) }
 {
@@ -112,13 +112,13 @@ fn tree_page<S: Suite>(
         Ok(()) => {
             let more = all_rule_lines(alloc, own)?;
             Ok(Page {
-                lines: joined(lines, more)?,
+                lines: append_lines(lines, more)?,
                 ending: Ending::Good,
             })
         }
         Err(error) => {
             let more = rule_lines(alloc, own, lines_before(error))?;
-            refused(joined(lines, more)?, CheckError::Tree(error))
+            refused(append_lines(lines, more)?, CheckError::Tree(error))
         }
     }
 }

@@ -9,7 +9,7 @@ ghost use Rattle.mls_tree.specs.Tree.{term};
 ghost use Rattle.mls_cli_text.specs.Text.{entry_of};
 ghost use Rattle.mls_cli_check.specs.Check.{tree_entries, tree_in};
 ghost use Rattle.mls_cli_check.specs.CheckFaults.{number_of};
-ghost use Rattle.mls_tree.specs.Short.{HasShortLeaves};
+ghost use Rattle.mls_tree.specs.ShortLeaves.{HasShortLeaves};
 
 use crate::check_error::CheckError;
 use mls_types::RatchetTree;

@@ -1,3 +1,3 @@
 pub mod Json
-pub mod Hexes
+pub mod HexText
 pub mod Faults

@@ -4,12 +4,12 @@
 
 mod error;
 mod file;
-mod hexes;
+mod hex_text;
 mod lookup;
 
 pub use error::JsonError;
 pub use file::value_in;
-pub use hexes::{hex_at, hex_of, seed_at};
+pub use hex_text::{hex_at, bytes_of_hex, seed_at};
 pub use lookup::{
     bool_at, has_members, items_at, text_at, text_if_any, u16_at, u32_at, u32_of, u64_at,
 };

@@ -9,15 +9,15 @@ use Rattle.mls_model.specs.declared.event.WorldItem.{WorldItem}
 use Rattle.mls_model.specs.declared.event.WorldItem.TheVariants as item
 use Rattle.mls_model.specs.Candidate.{Candidate}
 use Rattle.mls_model.specs.Journal.{CommitMade}
-use Rattle.mls_model.specs.World.{World, bytes_of, package_of, proposal_of, item_of, items_of, is_source, has_source, made_for}
+use Rattle.mls_model.specs.World.{World, bytes_of, package_of, proposal_of, item_of, items_of, is_source, has_source, commit_for_joiner}
 use Rattle.mls_cli_recording.specs.Calls.{MessageSource, CommitItem, source_view, item_view}
 use Rattle.mls_cli_recording.specs.Calls as call
 
 -- ---- bytes
 
 abbrev read_bytes : World → MessageSource → Result (List ℕ) ℕ
-read_bytes w (call.given bytes) = Ok bytes
-read_bytes w (call.message n) = checks.given 94 (slice_get w.messages n)
+read_bytes w (call.require_some bytes) = Ok bytes
+read_bytes w (call.message n) = checks.require_some 94 (slice_get w.messages n)
 
 bytes_by : (w : World) (s : Source) → bytes_of w s ≡ read_bytes w (source_view s)
 bytes_by w (source.Given bytes) = refl
@@ -78,7 +78,7 @@ same_items w xs ys e = let P : List CommitItem → Type 0 = AreItems w (items_of
 -- ---- the commit whose Welcome a source is
 
 abbrev is_by : MessageSource → ℕ × List ℕ → Bool
-is_by (call.given bytes) welcome = bytes_eq bytes welcome.1
+is_by (call.require_some bytes) welcome = bytes_eq bytes welcome.1
 is_by (call.message n) welcome = n == welcome.0
 
 is_source_by : (s : Source) (welcome : ℕ × List ℕ) → is_source s welcome ≡ is_by (source_view s) welcome
@@ -93,6 +93,6 @@ same_find : {X : Type 0} (p q : X → Bool) → ((x : X) → p x ≡ q x) → (x
 same_find p q h [] = refl
 same_find p q h (x ∷ xs) = rw (h x, same_find p q h xs) refl
 
-pub same_made : (made : List CommitMade) (s t : Source) (k : Candidate) → source_view s ≡ source_view t → made_for made s k ≡ made_for made t k
-unfolding made_for
+pub same_made : (made : List CommitMade) (s t : Source) (k : Candidate) → source_view s ≡ source_view t → commit_for_joiner made s k ≡ commit_for_joiner made t k
+unfolding commit_for_joiner
 same_made made s t k e = same_find _ _ (λ d. rw (same_welcome s t e d.welcome) refl) made

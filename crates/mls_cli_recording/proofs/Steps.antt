@@ -5,7 +5,7 @@ use Rattle.serde_json.specs.Data.{Data, Items, item}
 use Rattle.serde_json.specs.View.{view, items_view}
 use Rattle.serde_json.specs.declared.value.Value.{Value}
 use Rattle.mls_cli_json.specs.Json.{◌>>=◌}
-use Rattle.mls_cli_recording.specs.Recording.{each_of, listed}
+use Rattle.mls_cli_recording.specs.Recording.{each_of, prepend_if_hex}
 
 -- those read so far, and more
 abbrev pub joined : {X : Type 0} → Bool → List X → Option (List X) → Option (List X)
@@ -14,7 +14,7 @@ joined true front None = None
 joined true front (Some more) = Some (front ++ more)
 
 longer : {T X : Type 0} (seen : T → X) (hex : Bool) (front : List X) (found : Option T) (more : Option (List X))
-    → joined (hex && is_some found) (front ++ map seen (option_to_list found)) more ≡ joined hex front (listed (option_map seen found) more)
+    → joined (hex && is_some found) (front ++ map seen (option_to_list found)) more ≡ joined hex front (prepend_if_hex (option_map seen found) more)
 longer seen false front found more = refl
 longer seen true front None None = refl
 longer seen true front None (Some more) = refl
@@ -23,7 +23,7 @@ longer seen true front (Some x) (Some more) = ap Some (append_assoc front (seen 
 
 longer_all : {T X : Type 0} (seen : T → X) (hex : Bool) (front : List X) (found : Option T) (rest : Option (Option (List X)))
     → option_map (joined (hex && is_some found) (front ++ map seen (option_to_list found))) rest
-    ≡ option_map (joined hex front) (rest >>= λ more. Some (listed (option_map seen found) more))
+    ≡ option_map (joined hex front) (rest >>= λ more. Some (prepend_if_hex (option_map seen found) more))
 longer_all seen hex front found None = refl
 longer_all seen hex front found (Some more) = ap Some (longer seen hex front found more)
 

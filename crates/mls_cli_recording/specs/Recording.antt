@@ -4,17 +4,17 @@ use Rattle.std.specs.Prelude.{ℕ, ◌+◌, ◌==◌, ◌&&◌, Bool, List, [], 
 use Rattle.std.specs.Str.{bytes_eq}
 use Rattle.serde_json.specs.Data.{Data, Items, no_items, item}
 use Rattle.serde_json.specs.Find.{get, as_str}
-use Rattle.mls_cli_json.specs.Hexes.{bytes_of, hex_at, seed_at}
+use Rattle.mls_cli_json.specs.HexText.{bytes_of, hex_at, seed_at}
 use Rattle.mls_cli_json.specs.Json.{◌>>=◌, data_in, require, is_object_of, text_at, text_if_any, number_at, bool_at, max_u32, whole_at, items_at}
 use Rattle.mls_cli_recording.specs.Calls.{MessageSource, given, message, CommitItem, ref, add, remove, Call, candidate, create, propose_add, propose_update, propose_remove, commit, drop_pending, deliver, join, RecordedCall}
 
 -- ---- lists
 
 -- another one in front, where all texts are hex
-abbrev pub listed : {X : Type 0} → Option X → Option (List X) → Option (List X)
-listed None more = None
-listed (Some x) None = None
-listed (Some x) (Some xs) = Some (x ∷ xs)
+abbrev pub prepend_if_hex : {X : Type 0} → Option X → Option (List X) → Option (List X)
+prepend_if_hex None more = None
+prepend_if_hex (Some x) None = None
+prepend_if_hex (Some x) (Some xs) = Some (x ∷ xs)
 
 -- what each value of an array is
 unfoldable pub each_of : {X : Type 0} → (Data → Option (Option X)) → Items → Option (Option (List X))
@@ -22,7 +22,7 @@ each_of read no_items = Some (Some [])
 each_of read (item d ds) = do
   x ← read d
   xs ← each_of read ds
-  Some (listed x xs)
+  Some (prepend_if_hex x xs)
 
 -- ---- sources and items
 
@@ -40,8 +40,8 @@ abbrev pub source_at : List ℕ → Data → Option (Option MessageSource)
 source_at key d = get key d >>= source_in
 
 -- an item with its source
-abbrev pub sourced : {X : Type 0} → (MessageSource → X) → Option (Option MessageSource) → Option (Option X)
-sourced make source = option_map (option_map make) source
+abbrev pub item_with_source : {X : Type 0} → (MessageSource → X) → Option (Option MessageSource) → Option (Option X)
+item_with_source make source = option_map (option_map make) source
 
 abbrev pub removal_in : Data → Option (Option CommitItem)
 removal_in d = do
@@ -50,8 +50,8 @@ removal_in d = do
 
 -- by which key is there
 abbrev pub item_by : Option Data → Option Data → Data → Option (Option CommitItem)
-item_by (Some source) added d = sourced ref (source_in source)
-item_by None (Some source) d = sourced add (source_in source)
+item_by (Some source) added d = item_with_source ref (source_in source)
+item_by None (Some source) d = item_with_source add (source_in source)
 item_by None None d = removal_in d
 
 abbrev pub item_in : Data → Option (Option CommitItem)
@@ -122,8 +122,8 @@ join_in d = require (has_keys 3 d) (do
   source ← source_at (codes "bytes") d
   Some (option_map (join n) source))
 
-abbrev pub op_in : List ℕ → Data → Option (Option Call)
-op_in op d =
+abbrev pub call_by : List ℕ → Data → Option (Option Call)
+call_by op d =
     if bytes_eq op (codes "candidate") then candidate_in d
     else if bytes_eq op (codes "create") then create_in d
     else if bytes_eq op (codes "propose_add") then propose_add_in d
@@ -144,7 +144,7 @@ abbrev pub recorded_in : Data → Option (Option RecordedCall)
 recorded_in d = do
   op ← text_at (codes "op") d
   expect ← text_if_any (codes "expect") d
-  call ← op_in op d
+  call ← call_by op d
   Some (option_map (recorded_with expect) call)
 
 -- of version 1, for the suite f001
@@ -156,11 +156,11 @@ events_in d = require (is_object_of 3 d) (do
   require ((version == 1) && bytes_eq suite (codes "f001")) (each_of recorded_in events))
 
 -- 9 where the shape is wrong, and else 8 where a text is no hex
-abbrev pub numbered : {X : Type 0} → Option (Option X) → Result X ℕ
-numbered None = Err 9
-numbered (Some None) = Err 8
-numbered (Some (Some x)) = Ok x
+abbrev pub value_or_number : {X : Type 0} → Option (Option X) → Result X ℕ
+value_or_number None = Err 9
+value_or_number (Some None) = Err 8
+value_or_number (Some (Some x)) = Ok x
 
 -- The calls that a recording has, each with the reply that it should have, or the number of its refusal.
 unfoldable pub recording : List ℕ → Result (List RecordedCall) ℕ
-recording text = numbered (data_in text >>= events_in)
+recording text = value_or_number (data_in text >>= events_in)

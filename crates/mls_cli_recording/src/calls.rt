@@ -6,9 +6,9 @@ ghost use Rattle.serde_json.specs.View.{view};
 ghost use Rattle.mls_cli_json.specs.Faults.{Finds};
 ghost use Rattle.mls_cli_json.specs.declared.error.JsonError.TheVariants.{BadJson};
 ghost use Rattle.mls_cli_recording.specs.Calls.{call_view};
-ghost use Rattle.mls_cli_recording.specs.Recording.{candidate_in, create_in, propose_add_in, propose_update_in, propose_remove_in, commit_in, drop_pending_in, deliver_in, join_in, op_in};
+ghost use Rattle.mls_cli_recording.specs.Recording.{candidate_in, create_in, propose_add_in, propose_update_in, propose_remove_in, commit_in, drop_pending_in, deliver_in, join_in, call_by};
 
-use crate::parts::{has_keys, index_at};
+use crate::lookup::{has_keys, index_at};
 use crate::sources::{commit_items_at, source_at};
 use mls_cli_json::{JsonError, bool_at, hex_at, seed_at, u32_at};
 use mls_model::Event;
@@ -30,7 +30,7 @@ fn candidate(alloc: Global, value: &Value) -> Result<Option<Event>, JsonError>
     }
 }
 
-fn create(alloc: Global, value: &Value) -> Result<Option<Event>, JsonError>
+fn create_in(alloc: Global, value: &Value) -> Result<Option<Event>, JsonError>
     ensures { Finds (option_map call_view) result (create_in (view value.now)) }
 {
     if !has_keys(value, 4) {
@@ -52,7 +52,7 @@ fn create(alloc: Global, value: &Value) -> Result<Option<Event>, JsonError>
     }
 }
 
-fn propose_add(alloc: Global, value: &Value) -> Result<Option<Event>, JsonError>
+fn propose_add_in(alloc: Global, value: &Value) -> Result<Option<Event>, JsonError>
     ensures { Finds (option_map call_view) result (propose_add_in (view value.now)) }
 {
     if !has_keys(value, 3) {
@@ -70,7 +70,7 @@ fn propose_add(alloc: Global, value: &Value) -> Result<Option<Event>, JsonError>
     }
 }
 
-fn propose_update(value: &Value) -> Result<Option<Event>, JsonError>
+fn propose_update_in(value: &Value) -> Result<Option<Event>, JsonError>
     ensures found { Finds (option_map call_view) result (propose_update_in (view value.now)) }
     ensures outright { IfErr result (λ e. e ≡ BadJson) }
 {
@@ -86,7 +86,7 @@ fn propose_update(value: &Value) -> Result<Option<Event>, JsonError>
     }
 }
 
-fn propose_remove(value: &Value) -> Result<Option<Event>, JsonError>
+fn propose_remove_in(value: &Value) -> Result<Option<Event>, JsonError>
     ensures found { Finds (option_map call_view) result (propose_remove_in (view value.now)) }
     ensures outright { IfErr result (λ e. e ≡ BadJson) }
 {
@@ -102,7 +102,7 @@ fn propose_remove(value: &Value) -> Result<Option<Event>, JsonError>
     }
 }
 
-fn commit(alloc: Global, value: &Value) -> Result<Option<Event>, JsonError>
+fn commit_in(alloc: Global, value: &Value) -> Result<Option<Event>, JsonError>
     ensures { Finds (option_map call_view) result (commit_in (view value.now)) }
 {
     if !has_keys(value, 5) {
@@ -128,7 +128,7 @@ fn commit(alloc: Global, value: &Value) -> Result<Option<Event>, JsonError>
     }
 }
 
-fn drop_pending(value: &Value) -> Result<Option<Event>, JsonError>
+fn drop_pending_in(value: &Value) -> Result<Option<Event>, JsonError>
     ensures found { Finds (option_map call_view) result (drop_pending_in (view value.now)) }
     ensures outright { IfErr result (λ e. e ≡ BadJson) }
 {
@@ -141,7 +141,7 @@ fn drop_pending(value: &Value) -> Result<Option<Event>, JsonError>
     }
 }
 
-fn deliver(alloc: Global, value: &Value) -> Result<Option<Event>, JsonError>
+fn deliver_in(alloc: Global, value: &Value) -> Result<Option<Event>, JsonError>
     ensures { Finds (option_map call_view) result (deliver_in (view value.now)) }
 {
     if !has_keys(value, 3) {
@@ -156,7 +156,7 @@ fn deliver(alloc: Global, value: &Value) -> Result<Option<Event>, JsonError>
     }
 }
 
-fn join(alloc: Global, value: &Value) -> Result<Option<Event>, JsonError>
+fn join_in(alloc: Global, value: &Value) -> Result<Option<Event>, JsonError>
     ensures { Finds (option_map call_view) result (join_in (view value.now)) }
 {
     if !has_keys(value, 3) {
@@ -173,18 +173,18 @@ fn join(alloc: Global, value: &Value) -> Result<Option<Event>, JsonError>
 
 /// The call that an object names by its op; None where a text in it isn't hex.
 pub fn call_by(alloc: Global, op: &str, value: &Value) -> Result<Option<Event>, JsonError>
-    ensures { Finds (option_map call_view) result (op_in op.now (view value.now)) }
+    ensures { Finds (option_map call_view) result (call_by op.now (view value.now)) }
 {
     match op {
         "candidate" => candidate(alloc, value),
-        "create" => create(alloc, value),
-        "propose_add" => propose_add(alloc, value),
-        "propose_update" => propose_update(value),
-        "propose_remove" => propose_remove(value),
-        "commit" => commit(alloc, value),
-        "drop_pending" => drop_pending(value),
-        "deliver" => deliver(alloc, value),
-        "join" => join(alloc, value),
+        "create" => create_in(alloc, value),
+        "propose_add" => propose_add_in(alloc, value),
+        "propose_update" => propose_update_in(value),
+        "propose_remove" => propose_remove_in(value),
+        "commit" => commit_in(alloc, value),
+        "drop_pending" => drop_pending_in(value),
+        "deliver" => deliver_in(alloc, value),
+        "join" => join_in(alloc, value),
         _ => Err(JsonError::BadJson),
     }
 }

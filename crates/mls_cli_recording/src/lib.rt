@@ -3,7 +3,7 @@
 #![tactic(auto)]
 
 mod calls;
-mod parts;
+mod lookup;
 mod reading;
 mod sources;
 #[cfg(test)]

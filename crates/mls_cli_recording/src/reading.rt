@@ -10,7 +10,7 @@ ghost use Rattle.mls_cli_recording.specs.Calls.{recorded_view};
 ghost use Rattle.mls_cli_recording.specs.Recording.{each_of, events_in, recorded_in, recording};
 
 use crate::calls::call_by;
-use crate::parts::{push_found, text_copied};
+use crate::lookup::{push_found, copy_text_at};
 use mls_cli_json::{JsonError, has_members, items_at, text_at, u64_at, value_in};
 use mls_model::Event;
 use serde_json::Value;
@@ -32,13 +32,13 @@ pub struct Recorded {
 }
 
 /// One event; None where a text in it isn't hex.
-fn one_event(alloc: Global, value: &Value) -> Result<Option<Recorded>, JsonError>
+fn recorded_in(alloc: Global, value: &Value) -> Result<Option<Recorded>, JsonError>
     ensures { Finds (option_map recorded_view) result (recorded_in (view value.now)) }
 {
     let Some(op) = text_at(value, "op") else {
         return Err(JsonError::BadJson);
     };
-    let expect = text_copied(alloc, value, "expect")?;
+    let expect = copy_text_at(alloc, value, "expect")?;
     match call_by(alloc, op, value)? {
         Some(event) => Ok(Some(Recorded { event, expect })),
         None => Ok(None),
@@ -46,13 +46,13 @@ fn one_event(alloc: Global, value: &Value) -> Result<Option<Recorded>, JsonError
 }
 
 #[tactic(auto, unfolding(crate::specs::Recording::each_of))]
-fn each_recorded(alloc: Global, values: &[Value]) -> Result<Option<Vec<Recorded>>, JsonError>
+fn recorded_events_in(alloc: Global, values: &[Value]) -> Result<Option<Vec<Recorded>>, JsonError>
     ensures { Finds (option_map (λ v. map recorded_view v.items)) result (each_of recorded_in (items_view values.now)) }
 {
     let mut list = Vec::new(alloc);
     let mut all_hex = true;
     for value in values {
-        let found = one_event(alloc, value)?;
+        let found = recorded_in(alloc, value)?;
         all_hex = push_found(&mut list, all_hex, found)?;
     }
     if all_hex { Ok(Some(list)) } else { Ok(None) }
@@ -75,7 +75,7 @@ fn events(alloc: Global, value: &Value) -> Result<Option<Vec<Recorded>>, JsonErr
         return Err(JsonError::BadJson);
     };
     if version == VERSION && suite == SUITE {
-        each_recorded(alloc, values)
+        recorded_events_in(alloc, values)
     } else {
         Err(JsonError::BadJson)
     }

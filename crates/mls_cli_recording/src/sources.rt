@@ -4,13 +4,13 @@ ghost use Rattle.std.specs.Prelude.{◌≡◌, IfErr, option_map, map};
 ghost use Rattle.serde_json.specs.View.{view, items_view};
 ghost use Rattle.mls_cli_json.specs.Faults.{Finds};
 ghost use Rattle.mls_cli_json.specs.declared.error.JsonError.TheVariants.{BadJson};
-ghost use Rattle.mls_cli_json.specs.Hexes.{bytes_of};
+ghost use Rattle.mls_cli_json.specs.HexText.{bytes_of};
 ghost use Rattle.mls_cli_recording.specs.Calls.{source_view, item_view};
-ghost use Rattle.mls_cli_recording.specs.Recording.{source_in, source_at, removal_in, item_in, each_of, commit_items_at, sourced};
+ghost use Rattle.mls_cli_recording.specs.Recording.{source_in, source_at, removal_in, item_in, each_of, commit_items_at, item_with_source};
 ghost use Rattle.mls_cli_recording.specs.Calls as call;
 
-use crate::parts::{index_at, push_found};
-use mls_cli_json::{JsonError, has_members, hex_of, items_at, u32_at};
+use crate::lookup::{index_at, push_found};
+use mls_cli_json::{JsonError, has_members, bytes_of_hex, items_at, u32_at};
 use mls_model::{Source, WorldItem};
 use serde_json::Value;
 use std::alloc::Global;
@@ -19,7 +19,7 @@ use std::alloc::Global;
 fn given(alloc: Global, text: &str) -> Result<Option<Source>, JsonError>
     ensures { Finds (option_map source_view) result (Some (option_map call.given (bytes_of text.now))) }
 {
-    match hex_of(alloc, text)? {
+    match bytes_of_hex(alloc, text)? {
         Some(bytes) => Ok(Some(Source::Given(bytes))),
         None => Ok(None),
     }
@@ -51,7 +51,7 @@ pub fn source_at(alloc: Global, value: &Value, key: &str) -> Result<Option<Sourc
     }
 }
 
-fn removal(value: &Value) -> Result<Option<WorldItem>, JsonError>
+fn removal_in(value: &Value) -> Result<Option<WorldItem>, JsonError>
     ensures found { Finds (option_map item_view) result (removal_in (view value.now)) }
     ensures outright { IfErr result (λ e. e ≡ BadJson) }
 {
@@ -61,8 +61,8 @@ fn removal(value: &Value) -> Result<Option<WorldItem>, JsonError>
     }
 }
 
-fn reference(alloc: Global, value: &Value) -> Result<Option<WorldItem>, JsonError>
-    ensures { Finds (option_map item_view) result (sourced call.ref (source_in (view value.now))) }
+fn reference_in(alloc: Global, value: &Value) -> Result<Option<WorldItem>, JsonError>
+    ensures { Finds (option_map item_view) result (item_with_source call.ref (source_in (view value.now))) }
 {
     match source(alloc, value)? {
         Some(source) => Ok(Some(WorldItem::RefOf(source))),
@@ -70,8 +70,8 @@ fn reference(alloc: Global, value: &Value) -> Result<Option<WorldItem>, JsonErro
     }
 }
 
-fn addition(alloc: Global, value: &Value) -> Result<Option<WorldItem>, JsonError>
-    ensures { Finds (option_map item_view) result (sourced call.add (source_in (view value.now))) }
+fn addition_in(alloc: Global, value: &Value) -> Result<Option<WorldItem>, JsonError>
+    ensures { Finds (option_map item_view) result (item_with_source call.add (source_in (view value.now))) }
 {
     match source(alloc, value)? {
         Some(source) => Ok(Some(WorldItem::Add(source))),
@@ -80,18 +80,18 @@ fn addition(alloc: Global, value: &Value) -> Result<Option<WorldItem>, JsonError
 }
 
 /// One item of a commit, an object of one member.
-fn item(alloc: Global, value: &Value) -> Result<Option<WorldItem>, JsonError>
+fn item_in(alloc: Global, value: &Value) -> Result<Option<WorldItem>, JsonError>
     ensures { Finds (option_map item_view) result (item_in (view value.now)) }
 {
     if !has_members(value, 1) {
         return Err(JsonError::BadJson);
     }
     if let Some(member) = value.get("ref") {
-        return reference(alloc, member);
+        return reference_in(alloc, member);
     }
     match value.get("add") {
-        Some(member) => addition(alloc, member),
-        None => removal(value),
+        Some(member) => addition_in(alloc, member),
+        None => removal_in(value),
     }
 }
 
@@ -102,7 +102,7 @@ fn items_of(alloc: Global, values: &[Value]) -> Result<Option<Vec<WorldItem>>, J
     let mut items = Vec::new(alloc);
     let mut all_hex = true;
     for value in values {
-        let found = item(alloc, value)?;
+        let found = item_in(alloc, value)?;
         all_hex = push_found(&mut items, all_hex, found)?;
     }
     if all_hex { Ok(Some(items)) } else { Ok(None) }

@@ -11,14 +11,14 @@ use Rattle.mls_model.specs.declared.event.Event.{Event}
 use Rattle.mls_model.specs.declared.event.Event.TheVariants as event
 use Rattle.mls_model.specs.declared.event.Reply.{Reply}
 use Rattle.mls_model.specs.Verdict.{verdict}
-use Rattle.mls_model.specs.Candidate.{new_candidate, created}
-use Rattle.mls_model.specs.Propose.{proposed_add, proposed_update, proposed_remove}
+use Rattle.mls_model.specs.Candidate.{new_candidate, create_group}
+use Rattle.mls_model.specs.Propose.{propose_add, propose_update, propose_remove}
 use Rattle.mls_model.specs.Make.{make}
 use Rattle.mls_model.specs.Join.{join_verdict}
 use Rattle.mls_cli_recording.specs.declared.reading.Recorded.{Recorded}
 use Rattle.mls_cli_replay.specs.Replay.{events_of}
 use Rattle.mls_model.specs.World.{World, Seat, empty_world, seat_at, entrant_at, bytes_of, package_of, items_of}
-use Rattle.mls_model.specs.Calls.{candidate_answer, create_answer, propose_add_answer, propose_update_answer, propose_remove_answer, commit_answer, drop_answer, deliver_answer, join_answer}
+use Rattle.mls_model.specs.WorldCalls.{candidate_answer, create_answer, propose_add_answer, propose_update_answer, propose_remove_answer, commit_answer, drop_answer, deliver_answer, join_answer}
 use Rattle.mls_model.specs.Run.{answer, step_by, step, run}
 
 -- what a call answered has one member more at most
@@ -43,19 +43,19 @@ of_candidate c w identity seed x h = let s1 = then_ok (require 93 _) _ x h in le
 
 of_create : (c : Crypto) (w : World) (n : ℕ) (group seed : List ℕ) (x : Reply × World) → create_answer c w n group seed ≡ Ok x → IsOneMore w x
 unfolding create_answer
-of_create c w n group seed x h = let s1 = bind_ok (entrant_at w n) _ x h in let s2 = bind_ok (created c s1.0.candidate group seed) _ x s1.2 in by_more w _ x _ s2.2 refl
+of_create c w n group seed x h = let s1 = bind_ok (entrant_at w n) _ x h in let s2 = bind_ok (create_group c s1.0.candidate group seed) _ x s1.2 in by_more w _ x _ s2.2 refl
 
 of_propose_add : (c : Crypto) (w : World) (k : ℕ) (source : Source) (x : Reply × World) → propose_add_answer c w k source ≡ Ok x → IsOneMore w x
 unfolding propose_add_answer
-of_propose_add c w k source x h = let s1 = bind_ok (seat_at w k) _ x h in let s2 = bind_ok (package_of w source) _ x s1.2 in let s3 = bind_ok (proposed_add c s1.0.member s2.0) _ x s2.2 in by_set w _ x k _ s3.2 refl
+of_propose_add c w k source x h = let s1 = bind_ok (seat_at w k) _ x h in let s2 = bind_ok (package_of w source) _ x s1.2 in let s3 = bind_ok (propose_add c s1.0.member s2.0) _ x s2.2 in by_set w _ x k _ s3.2 refl
 
 of_propose_update : (c : Crypto) (w : World) (k : ℕ) (seed : List ℕ) (x : Reply × World) → propose_update_answer c w k seed ≡ Ok x → IsOneMore w x
 unfolding propose_update_answer
-of_propose_update c w k seed x h = let s1 = bind_ok (seat_at w k) _ x h in let s2 = bind_ok (proposed_update c s1.0.member seed) _ x s1.2 in by_set w _ x k _ s2.2 refl
+of_propose_update c w k seed x h = let s1 = bind_ok (seat_at w k) _ x h in let s2 = bind_ok (propose_update c s1.0.member seed) _ x s1.2 in by_set w _ x k _ s2.2 refl
 
 of_propose_remove : (c : Crypto) (w : World) (k leaf : ℕ) (x : Reply × World) → propose_remove_answer c w k leaf ≡ Ok x → IsOneMore w x
 unfolding propose_remove_answer
-of_propose_remove c w k leaf x h = let s1 = bind_ok (seat_at w k) _ x h in let s2 = bind_ok (proposed_remove c s1.0.member leaf) _ x s1.2 in by_set w _ x k _ s2.2 refl
+of_propose_remove c w k leaf x h = let s1 = bind_ok (seat_at w k) _ x h in let s2 = bind_ok (propose_remove c s1.0.member leaf) _ x s1.2 in by_set w _ x k _ s2.2 refl
 
 of_commit : (c : Crypto) (w : World) (k : ℕ) (items : List WorldItem) (path : Bool) (seed : List ℕ) (x : Reply × World) → commit_answer c w k items path seed ≡ Ok x → IsOneMore w x
 unfolding commit_answer

@@ -7,7 +7,7 @@ use Rattle.std.specs.List.{flat_map}
 use Rattle.std.specs.Io.KnownBytes.{Appends}
 use Rattle.mls_model.specs.Member.{Member}
 use Rattle.mls_model.specs.World.{Seat}
-use Rattle.mls_cli_text.specs.Ends.{AppendsPart}
+use Rattle.mls_cli_text.specs.InputOutput.{AppendsPart}
 use Rattle.mls_cli_text.proofs.Pieces.{part_behind, part_of_front}
 use Rattle.mls_cli_replay.specs.Replay.{entry_text, member_entries, member_entry}
 

@@ -10,7 +10,7 @@ use Rattle.mls_cli_recording.specs.CallLaws.{SameReplies, SameRun}
 use Rattle.mls_cli_recording.specs.Recording.{recording}
 use Rattle.mls_cli_recording.specs.declared.reading.Recorded.{Recorded}
 use Rattle.mls_cli_replay.specs.Replay.{IsPageOn, ReplayEntry, all_met, ending_by, entry_text, events_of, expectation, expectations_of, member_entries, played_entries, played_page, reply_entries}
-use Rattle.mls_cli_replay.specs.Alike.{OneReplay}
+use Rattle.mls_cli_replay.specs.OneReplay.{OneReplay}
 
 calls_of : (rs : List Recorded) → map call_view (events_of rs) ≡ map (λ (x : RecordedCall). x.call) (map recorded_view rs)
 calls_of [] = refl

@@ -12,11 +12,11 @@ use Rattle.mls_suite.specs.Crypto.{Crypto}
 use Rattle.mls_model.specs.declared.event.Reply.{Reply}
 use Rattle.mls_model.specs.World.{World}
 use Rattle.mls_model.specs.Run.{step, run, replies}
-use Rattle.mls_cli_text.specs.Ends.{AppendsPart}
+use Rattle.mls_cli_text.specs.InputOutput.{AppendsPart}
 use Rattle.mls_cli_text.proofs.Pieces.{part_behind, part_of_front}
 use Rattle.mls_cli_recording.specs.declared.reading.Recorded.{Recorded}
 use Rattle.mls_cli_replay.specs.Reply.{reply_text}
-use Rattle.mls_cli_replay.specs.Replay.{all_met, entry_text, event_entries, events_of, expectation, expectations_of, expected_entries, is_met, replied, reply_entries, unmet}
+use Rattle.mls_cli_replay.specs.Replay.{all_met, entry_text, event_entries, events_of, expectation, expectations_of, expected_entries, is_met, replied, reply_entries, unmet_entries}
 
 -- ---- the text of events from a world on, and whether they meet what is expected
 
@@ -149,7 +149,7 @@ pub said_nonempty : (i : ℕ) (reply : Reply) (expect : Option (List ℕ)) → 0
 said_nonempty i reply expect =
     omega (
       arith,
-      length-append (entry_text (replied i reply)) (flat_map entry_text (unmet i reply expect)),
+      length-append (entry_text (replied i reply)) (flat_map entry_text (unmet_entries i reply expect)),
       length-append (decimal i) (codes ": " ++ (reply_text reply ++ codes "\n")),
       length-append (codes ": ") (reply_text reply ++ codes "\n"),
     )
@@ -159,4 +159,4 @@ said_met i reply expect met = rw met (append-nil (entry_text (replied i reply)))
 
 pub said_unmet : (i : ℕ) (reply : Reply) (expect : Option (List ℕ)) → is_met reply expect ≡ false
     → flat_map entry_text (event_entries i reply expect) ≡ entry_text (replied i reply) ++ flat_map entry_text (expected_entries i expect)
-said_unmet i reply expect unmet = rw unmet refl
+said_unmet i reply expect unmet_entries = rw unmet_entries refl

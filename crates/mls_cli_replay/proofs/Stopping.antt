@@ -9,7 +9,7 @@ use Rattle.std.specs.Io.KnownBytes.{Appends}
 use Rattle.mls_suite.specs.Crypto.{Crypto}
 use Rattle.mls_model.specs.World.{World}
 use Rattle.mls_model.specs.Run.{step, run}
-use Rattle.mls_cli_text.specs.Ends.{AppendsPart}
+use Rattle.mls_cli_text.specs.InputOutput.{AppendsPart}
 use Rattle.mls_cli_recording.specs.declared.reading.Recorded.{Recorded}
 use Rattle.mls_cli_replay.specs.Replay.{StopsAt, events_of}
 use Rattle.mls_cli_replay.proofs.Playing.{said, said_first, said_none, said_of, run_first, run_none}

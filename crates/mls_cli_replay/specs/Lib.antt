@@ -1,4 +1,4 @@
 pub mod Reply
 pub mod Replay
 pub mod ReplayLaws
-pub mod Alike
+pub mod OneReplay

@@ -13,7 +13,7 @@ use Rattle.mls_model.specs.Member.{Member}
 use Rattle.mls_model.specs.World.{World, Seat, empty_world}
 use Rattle.mls_model.specs.Run.{run, replies, step}
 use Rattle.std.specs.Io.KnownBytes.{Appends, Keeps}
-use Rattle.mls_cli_text.specs.Ends.{AppendsPart}
+use Rattle.mls_cli_text.specs.InputOutput.{AppendsPart}
 use Rattle.mls_cli_text.specs.Page.{Page, Printout, printout, refused}
 use Rattle.mls_cli_text.specs.declared.fault.Fault.{Fault}
 use Rattle.mls_cli_text.specs.Text.{or_dash}
@@ -65,11 +65,11 @@ expected_entries event None = []
 expected_entries event (Some text) = expected event text ∷ []
 
 -- is said where the reply is another
-abbrev pub unmet : ℕ → Reply → Option (List ℕ) → List ReplayEntry
-unmet event reply expect = if is_met reply expect then [] else expected_entries event expect
+abbrev pub unmet_entries : ℕ → Reply → Option (List ℕ) → List ReplayEntry
+unmet_entries event reply expect = if is_met reply expect then [] else expected_entries event expect
 
 abbrev pub event_entries : ℕ → Reply → Option (List ℕ) → List ReplayEntry
-event_entries event reply expect = replied event reply ∷ unmet event reply expect
+event_entries event reply expect = replied event reply ∷ unmet_entries event reply expect
 
 -- ---- and of all, numbered from here on
 

@@ -4,7 +4,7 @@ ghost use Rattle.std.specs.Prelude.{◌≡◌, ◌≢◌, ◌⊎◌, IfOk, IfErr
 ghost use Rattle.std.specs.Io.KnownBytes.{Appends};
 ghost use Rattle.std.specs.List.{flat_map};
 ghost use Rattle.mls_model.specs.Run.{replies, run, step};
-ghost use Rattle.mls_cli_text.specs.Ends.{AppendsPart, write_failed};
+ghost use Rattle.mls_cli_text.specs.InputOutput.{AppendsPart, write_failed};
 ghost use Rattle.mls_cli_replay.specs.Replay.{StopsAt, all_met, entry_text, event_entries, events_of, expectation, expectations_of, expected_entries, is_met, reply_entries};
 
 use crate::line::ReplayLine;

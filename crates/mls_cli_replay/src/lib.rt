@@ -7,9 +7,9 @@ mod members;
 mod reply;
 
 ghost use Rattle.std.specs.Prelude.{◌≡◌, ◌≢◌, ◌≤◌, IfOk, IfErr};
-ghost use Rattle.mls_cli_text.specs.Ends.{write_failed};
+ghost use Rattle.mls_cli_text.specs.InputOutput.{write_failed};
 ghost use Rattle.mls_cli_text.specs.Page.{Prints, ending_status, printout, refused};
-ghost use Rattle.mls_cli_replay.specs.Alike.{OneReplay};
+ghost use Rattle.mls_cli_replay.specs.OneReplay.{OneReplay};
 ghost use Rattle.mls_cli_replay.specs.Replay.{IsRefusal, IsReplay, PrintsOne, ending_by, entry_text, played_page};
 
 use events::play_events;

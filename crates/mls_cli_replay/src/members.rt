@@ -3,7 +3,7 @@
 ghost use Rattle.std.specs.Prelude.{◌≡◌, ◌≢◌, ◌≤◌, length, IfErr, OnOk, OnErr};
 ghost use Rattle.std.specs.Io.KnownBytes.{Appends};
 ghost use Rattle.std.specs.List.{flat_map};
-ghost use Rattle.mls_cli_text.specs.Ends.{AppendsPart, write_failed};
+ghost use Rattle.mls_cli_text.specs.InputOutput.{AppendsPart, write_failed};
 ghost use Rattle.mls_cli_replay.specs.Replay.{entry_of, entry_text, member_entries, member_entry};
 
 use crate::line::ReplayLine;

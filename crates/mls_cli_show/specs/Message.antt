@@ -12,15 +12,15 @@ use Rattle.mls_cli_show.specs.Public.{public_message_entries}
 use Rattle.mls_cli_show.specs.Group.{group_info_entries, welcome_entries}
 
 -- the lines behind which kind of message it is, and in how many bytes it is spelled
-abbrev pub headed : List ℕ → ℕ → List Entry → List Entry
-headed kind size lines = entry [] (codes "message") (word kind) ∷ entry [] (codes "bytes") (number size) ∷ lines
+abbrev pub with_head : List ℕ → ℕ → List Entry → List Entry
+with_head kind size lines = entry [] (codes "message") (word kind) ∷ entry [] (codes "bytes") (number size) ∷ lines
 
 -- RFC 9420, section 6: a message
 unfoldable pub message_entries : ℕ → MlsMessage → List Entry
-message_entries size (message.PublicMessage v) = headed (codes "public_message") size (public_message_entries v)
-message_entries size (message.Welcome v) = headed (codes "welcome") size (welcome_entries v)
-message_entries size (message.GroupInfo v) = headed (codes "group_info") size (group_info_entries v)
-message_entries size (message.KeyPackage v) = headed (codes "key_package") size (key_package_entries [] v)
+message_entries size (message.PublicMessage v) = with_head (codes "public_message") size (public_message_entries v)
+message_entries size (message.Welcome v) = with_head (codes "welcome") size (welcome_entries v)
+message_entries size (message.GroupInfo v) = with_head (codes "group_info") size (group_info_entries v)
+message_entries size (message.KeyPackage v) = with_head (codes "key_package") size (key_package_entries [] v)
 
 -- the lines of the message that the bytes spell, or the number of its first fault
 abbrev pub text_of : List ℕ → Result (List Entry) ℕ

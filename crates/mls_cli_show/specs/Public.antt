@@ -13,9 +13,9 @@ use Rattle.mls_cli_text.specs.Text.{Entry, Shown, entry, bytes, number, word}
 use Rattle.mls_cli_show.specs.Package.{key_package_entries, leaf_entries}
 
 -- a count, or `none`
-abbrev pub counted : Option ℕ → Shown
-counted None = word (codes "none")
-counted (Some n) = number n
+abbrev pub shown_count : Option ℕ → Shown
+shown_count None = word (codes "none")
+shown_count (Some n) = number n
 
 -- the leaf of a sender
 abbrev pub leaf_index : Sender → ℕ
@@ -45,7 +45,7 @@ body_entries (body.Proposal v) signature =
 body_entries (body.Commit c confirmation_tag) signature =
     entry [] (codes "content") (word (codes "commit"))
     ∷ entry [] (codes "proposals") (number (length c.proposals))
-    ∷ entry [] (codes "path_nodes") (counted (path_nodes c))
+    ∷ entry [] (codes "path_nodes") (shown_count (path_nodes c))
     ∷ entry [] (codes "signature") (bytes signature)
     ∷ entry [] (codes "confirmation_tag") (bytes confirmation_tag) ∷ []
 

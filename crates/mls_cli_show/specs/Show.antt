@@ -1,6 +1,6 @@
 -- What `mls show` prints.
 use Rattle.std.specs.Prelude.{ℕ, List, Option, Some, None}
-use Rattle.mls_cli_text.specs.File.{bytes_in}
+use Rattle.mls_cli_text.specs.HexFile.{bytes_in}
 use Rattle.mls_cli_text.specs.Page.{Page, page_on, refused}
 use Rattle.mls_cli_text.specs.Text.{Entry}
 use Rattle.mls_cli_show.specs.Message.{text_of}

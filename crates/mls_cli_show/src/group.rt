@@ -2,12 +2,12 @@
 
 ghost use Rattle.std.specs.Prelude.{◌≡◌, ◌++◌, ◌∷◌, [], codes, map, length, option_map, IfOk};
 ghost use Rattle.mls_cli_text.specs.Text.{bytes, digits, entry, entry_of, number};
-ghost use Rattle.mls_cli_show.specs.Public.{counted};
+ghost use Rattle.mls_cli_show.specs.Public.{shown_count};
 ghost use Rattle.mls_cli_show.specs.Group.{group_info_entries, member_entry, tree_nodes, welcome_entries};
 
 use crate::public::count_field;
 use mls_leaf::Bytes;
-use mls_cli_text::{Field, Line, ended, joined, line_of};
+use mls_cli_text::{Field, Line, append_line, append_lines, line_of};
 use mls_types::{EncryptedGroupSecrets, GroupContext, GroupInfo, RatchetTree, Welcome};
 use std::alloc::{AllocError, Global};
 
@@ -47,8 +47,8 @@ pub fn welcome_lines(alloc: Global, welcome: &Welcome) -> Result<Vec<Line>, Allo
     let secrets = welcome.secrets.as_slice();
     let sealed = welcome.encrypted_group_info.as_slice().len();
     let lines = front_lines(alloc, welcome.cipher_suite, secrets.len())?;
-    let lines = joined(lines, member_lines(alloc, secrets)?)?;
-    let lines = ended(
+    let lines = append_lines(lines, member_lines(alloc, secrets)?)?;
+    let lines = append_line(
         lines,
         line_of("", "group_info_bytes", Field::Number(sealed as u64)),
     )?;
@@ -100,7 +100,7 @@ fn signer_lines(
     signature: Bytes,
 ) -> Result<Vec<Line>, AllocError>
     ensures { IfOk result (λ lines. map entry_of lines.items
-        ≡ entry [] (codes "tree_nodes") (counted nodes)
+        ≡ entry [] (codes "tree_nodes") (shown_count nodes)
         ∷ entry [] (codes "confirmation_tag") (bytes confirmation_tag)
         ∷ entry [] (codes "signer") (number signer)
         ∷ entry [] (codes "signature") (bytes signature) ∷ []) }
@@ -128,6 +128,6 @@ pub fn group_info_lines(alloc: Global, info: GroupInfo) -> Result<Vec<Line>, All
     let lines = context_lines(alloc, group_context)?;
     let nodes = tree_count(&ratchet_tree);
     let rest = signer_lines(alloc, nodes, confirmation_tag, signer, signature)?;
-    let lines = joined(lines, rest)?;
+    let lines = append_lines(lines, rest)?;
     Ok(lines)
 }

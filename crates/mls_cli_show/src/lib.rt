@@ -2,7 +2,7 @@
 #![tactic(auto)]
 
 ghost use Rattle.std.specs.Prelude.{◌≡◌, None, IfOk, IsOk};
-ghost use Rattle.mls_cli_text.specs.File.{bytes_in};
+ghost use Rattle.mls_cli_text.specs.HexFile.{bytes_in};
 ghost use Rattle.mls_cli_text.specs.Page.{page_of as seen, page_on};
 ghost use Rattle.mls_cli_text.specs.Text.{entry_of};
 ghost use Rattle.mls_cli_show.specs.Message.{text_of};

@@ -3,30 +3,30 @@
 ghost use Rattle.std.specs.Prelude.{◌≡◌, ◌++◌, [], map, length, IfOk, Ok};
 ghost use Rattle.mls_leaf.specs.Faults.{FaultsOutright, Gives};
 ghost use Rattle.mls_cli_text.specs.Text.{entry_of};
-ghost use Rattle.mls_cli_show.specs.Message.{headed, message_entries, text_of};
+ghost use Rattle.mls_cli_show.specs.Message.{with_head, message_entries, text_of};
 
 use crate::group::{group_info_lines, welcome_lines};
 use crate::package::key_package_lines;
 use crate::public::public_message_lines;
 use mls_leaf::{Codec, LeafError};
-use mls_cli_text::{Field, Line, joined, line_of};
+use mls_cli_text::{Field, Line, append_lines, line_of};
 use mls_types::MlsMessage;
 use std::alloc::{AllocError, Global};
 
 /// The lines with those that begin each message in front of them.
-fn behind_head(
+fn with_head(
     alloc: Global,
     kind: &'static str,
     size: usize,
     lines: Vec<Line>,
 ) -> Result<Vec<Line>, AllocError>
-    ensures { IfOk result (λ all. map entry_of all.items ≡ headed kind.entry.now size (map entry_of lines.items)) }
+    ensures { IfOk result (λ all. map entry_of all.items ≡ with_head kind.entry.now size (map entry_of lines.items)) }
 {
     let head = vec![in alloc;
         line_of("", "message", Field::Word(kind)),
         line_of("", "bytes", Field::Number(size as u64)),
     ]?;
-    joined(head, lines)
+    append_lines(head, lines)
 }
 
 /// The lines of a message that is spelled in so many bytes.
@@ -41,19 +41,19 @@ pub fn message_lines(
     match message {
         MlsMessage::KeyPackage(key_package) => {
             let lines = key_package_lines(alloc, "", key_package)?;
-            behind_head(alloc, "key_package", size, lines)
+            with_head(alloc, "key_package", size, lines)
         }
         MlsMessage::PublicMessage(message) => {
             let lines = public_message_lines(alloc, message)?;
-            behind_head(alloc, "public_message", size, lines)
+            with_head(alloc, "public_message", size, lines)
         }
         MlsMessage::Welcome(welcome) => {
             let lines = welcome_lines(alloc, &welcome)?;
-            behind_head(alloc, "welcome", size, lines)
+            with_head(alloc, "welcome", size, lines)
         }
         MlsMessage::GroupInfo(info) => {
             let lines = group_info_lines(alloc, info)?;
-            behind_head(alloc, "group_info", size, lines)
+            with_head(alloc, "group_info", size, lines)
         }
     }
 }

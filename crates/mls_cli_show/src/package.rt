@@ -5,7 +5,7 @@ ghost use Rattle.mls_cli_text.specs.Text.{bytes, digits, entry, entry_of, number
 ghost use Rattle.mls_cli_show.specs.Package.{key_package_entries, leaf_entries, source_entries};
 
 use mls_leaf::{Bytes, Capabilities, Credential, KeyPackage, LeafNode, LeafSource};
-use mls_cli_text::{Field, Line, ended, joined, line_of};
+use mls_cli_text::{Field, Line, append_line, append_lines, line_of};
 use std::alloc::{AllocError, Global};
 
 fn identity_lines(
@@ -100,9 +100,9 @@ pub fn leaf_lines(
         signature,
     } = leaf;
     let lines = identity_lines(alloc, prefix, encryption_key, signature_key, credential)?;
-    let lines = joined(lines, capability_lines(alloc, prefix, capabilities)?)?;
-    let lines = joined(lines, source_lines(alloc, prefix, source)?)?;
-    ended(
+    let lines = append_lines(lines, capability_lines(alloc, prefix, capabilities)?)?;
+    let lines = append_lines(lines, source_lines(alloc, prefix, source)?)?;
+    append_line(
         lines,
         line_of(prefix, "leaf.signature", Field::Bytes(signature)),
     )
@@ -140,6 +140,6 @@ pub fn key_package_lines(
         signature,
     } = key_package;
     let leaf = leaf_lines(alloc, prefix, leaf_node)?;
-    let lines = joined(front_lines(alloc, prefix, cipher_suite, init_key)?, leaf)?;
-    ended(lines, line_of(prefix, "signature", Field::Bytes(signature)))
+    let lines = append_lines(front_lines(alloc, prefix, cipher_suite, init_key)?, leaf)?;
+    append_line(lines, line_of(prefix, "signature", Field::Bytes(signature)))
 }

@@ -2,17 +2,17 @@
 
 ghost use Rattle.std.specs.Prelude.{◌≡◌, ◌++◌, ◌∷◌, [], codes, map, length, option_map, IfOk};
 ghost use Rattle.mls_cli_text.specs.Text.{bytes, entry, entry_of, number, shown_by, word};
-ghost use Rattle.mls_cli_show.specs.Public.{body_entries, counted, leaf_index, path_nodes, proposal_entries, public_message_entries};
+ghost use Rattle.mls_cli_show.specs.Public.{body_entries, shown_count, leaf_index, path_nodes, proposal_entries, public_message_entries};
 
 use crate::package::{key_package_lines, leaf_lines};
 use mls_leaf::{Bytes, Proposal};
-use mls_cli_text::{Field, Line, ended, joined, line_of};
+use mls_cli_text::{Field, Line, append_line, append_lines, line_of};
 use mls_types::{Commit, PublicMessage, Sender, SignedBody, SignedContent};
 use std::alloc::{AllocError, Global};
 
 /// A count, or `none`.
 pub fn count_field(count: Option<usize>) -> Field
-    ensures { shown_by result ≡ counted count }
+    ensures { shown_by result ≡ shown_count count }
 {
     match count {
         Some(count) => Field::Number(count as u64),
@@ -51,7 +51,7 @@ fn frame_lines(
 }
 
 /// The lines behind a line of one word.
-fn behind_word(
+fn with_word_line(
     alloc: Global,
     name: &'static str,
     value: &'static str,
@@ -60,7 +60,7 @@ fn behind_word(
     ensures { IfOk result (λ all. map entry_of all.items ≡ entry [] name.entry.now (word value.entry.now) ∷ map entry_of lines.items) }
 {
     let front = vec![in alloc; line_of("", name, Field::Word(value))]?;
-    joined(front, lines)
+    append_lines(front, lines)
 }
 
 fn remove_lines(alloc: Global, removed: u32) -> Result<Vec<Line>, AllocError>
@@ -81,11 +81,11 @@ pub fn proposal_lines(alloc: Global, proposal: Proposal) -> Result<Vec<Line>, Al
     match proposal {
         Proposal::Add(key_package) => {
             let lines = key_package_lines(alloc, "add.", key_package)?;
-            behind_word(alloc, "proposal", "add", lines)
+            with_word_line(alloc, "proposal", "add", lines)
         }
         Proposal::Update(leaf_node) => {
             let lines = leaf_lines(alloc, "", leaf_node)?;
-            behind_word(alloc, "proposal", "update", lines)
+            with_word_line(alloc, "proposal", "update", lines)
         }
         Proposal::Remove(removed) => remove_lines(alloc, removed),
     }
@@ -110,7 +110,7 @@ fn commit_lines(
     ensures { IfOk result (λ lines. map entry_of lines.items
         ≡ entry [] (codes "content") (word (codes "commit"))
         ∷ entry [] (codes "proposals") (number proposals)
-        ∷ entry [] (codes "path_nodes") (counted nodes)
+        ∷ entry [] (codes "path_nodes") (shown_count nodes)
         ∷ entry [] (codes "signature") (bytes signature)
         ∷ entry [] (codes "confirmation_tag") (bytes confirmation_tag) ∷ []) }
 {
@@ -150,8 +150,8 @@ fn proposed_lines(
         ∷ (proposal_entries proposal ++ entry [] (codes "signature") (bytes signature) ∷ [])) }
 {
     let lines = proposal_lines(alloc, proposal)?;
-    let lines = behind_word(alloc, "content", "proposal", lines)?;
-    ended(lines, line_of("", "signature", Field::Bytes(signature)))
+    let lines = with_word_line(alloc, "content", "proposal", lines)?;
+    append_line(lines, line_of("", "signature", Field::Bytes(signature)))
 }
 
 fn body_lines(alloc: Global, body: SignedBody, signature: Bytes) -> Result<Vec<Line>, AllocError>
@@ -194,7 +194,7 @@ fn content_lines(alloc: Global, content: SignedContent) -> Result<Vec<Line>, All
     } = content;
     let body = body_lines(alloc, body, signature)?;
     let frame = frame_lines(alloc, group_id, epoch, sender, authenticated_data)?;
-    joined(frame, body)
+    append_lines(frame, body)
 }
 
 /// The lines of a public message, from its group's identifier on.
@@ -207,7 +207,7 @@ pub fn public_message_lines(alloc: Global, message: PublicMessage) -> Result<Vec
         membership_tag,
     } = message;
     let lines = content_lines(alloc, content)?;
-    ended(
+    append_line(
         lines,
         line_of("", "membership_tag", Field::Bytes(membership_tag)),
     )

@@ -4,12 +4,12 @@ use Rattle.std.specs.Prelude.{IfOk}
 use Rattle.std.specs.declared.alloc.AllocError.{AllocError}
 use Rattle.std.specs.Io.KnownBytes.{Appends}
 use Rattle.std.proofs.lemmas.List.Folds.{flat_map-map}
-use Rattle.mls_cli_text.specs.Ends.{AppendsPart}
+use Rattle.mls_cli_text.specs.InputOutput.{AppendsPart}
 use Rattle.mls_cli_text.proofs.Pieces.{part_behind, part_of_front}
 use Rattle.mls_cli_text.specs.declared.fault.Fault.{Fault}
 use Rattle.mls_cli_text.specs.Page.{Page, Printout, Prints, ending_status, ending_text, page_of, printout, printout_of}
 use Rattle.mls_cli_text.specs.declared.page.Page as code
-use Rattle.mls_cli_text.specs.Pages.{PrintsMade}
+use Rattle.mls_cli_text.specs.MadePage.{PrintsMade}
 
 abbrev with_ending : {L : Type 0} → code.Page L → List ℕ → Printout
 with_ending p text = record { text = text ++ ending_text p.ending; status = ending_status p.ending }

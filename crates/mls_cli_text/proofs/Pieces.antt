@@ -4,7 +4,7 @@ use Rattle.std.proofs.lemmas.List.{take_rest}
 use Rattle.std.specs.List.{flat_map}
 use Rattle.std.specs.Io.KnownBytes.{Appends, Keeps}
 use Rattle.std.proofs.KnownBytes.{Appends-kept, Appends-nil, Appends-trans}
-use Rattle.mls_cli_text.specs.Ends.{AppendsPart}
+use Rattle.mls_cli_text.specs.InputOutput.{AppendsPart}
 
 pub grown : (a b c : Option (List ℕ)) (bytes done rest next : List ℕ) (n : ℕ) → bytes ≡ done ++ rest
     → next ≡ take (length rest - n) (drop n rest) → Appends a b done

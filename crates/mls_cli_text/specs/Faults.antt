@@ -1,7 +1,7 @@
 -- The numbers of what a hex file is refused for.
 use Rattle.std.specs.Prelude.{ℕ}
-use Rattle.mls_cli_text.specs.declared.file.FileError.{FileError}
-use Rattle.mls_cli_text.specs.declared.file.FileError.TheVariants.{OutOfMemory, NotHex}
+use Rattle.mls_cli_text.specs.declared.hex_file.FileError.{FileError}
+use Rattle.mls_cli_text.specs.declared.hex_file.FileError.TheVariants.{OutOfMemory, NotHex}
 
 -- the number that is printed
 abbrev pub number_of : FileError → ℕ

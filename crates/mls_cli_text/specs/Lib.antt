@@ -1,7 +1,7 @@
 pub mod Text
-pub mod Ends
-pub mod File
+pub mod InputOutput
+pub mod HexFile
 pub mod Faults
 pub mod Page
 pub mod TextLaws
-pub mod Pages
+pub mod MadePage

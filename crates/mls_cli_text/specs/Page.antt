@@ -2,7 +2,7 @@
 use Rattle.std.specs.Prelude.{◌≡◌, ℕ, List, [], ◌++◌, codes, map, Option, Result, Ok, Err, MatchResult}
 use Rattle.std.specs.List.{flat_map}
 use Rattle.std.specs.Io.KnownBytes.{Appends}
-use Rattle.mls_cli_text.specs.Ends.{Cut}
+use Rattle.mls_cli_text.specs.InputOutput.{KeepsOrAppendsPart}
 use Rattle.mls_cli_text.specs.Text.{Entry, entry, line_text, refusal}
 use Rattle.mls_cli_text.specs.declared.fault.Fault.{Fault}
 use Rattle.mls_cli_text.specs.declared.page.Ending.{Ending}
@@ -56,7 +56,7 @@ printout text page = record {
 abbrev pub Prints : Option (List ℕ) → Option (List ℕ) → Result ℕ Fault → Printout → Type 0
 Prints old new r p = MatchResult r
     (λ status. Appends old new p.text × (status ≡ p.status))
-    (λ _. Cut old new p.text)
+    (λ _. KeepsOrAppendsPart old new p.text)
 
 -- ---- of the code's value
 

@@ -2,7 +2,7 @@
 
 ghost use Rattle.std.specs.Prelude.{ℕ, List, Bool, Option, Some, true, false, ◌≡◌, IfOk, IfErr, IfSome, ◌≢◌};
 ghost use Rattle.std.specs.IoError.{error_kind};
-ghost use Rattle.mls_cli_text.specs.Ends.{read_failed};
+ghost use Rattle.mls_cli_text.specs.InputOutput.{read_failed};
 
 use crate::fault::Fault;
 use std::alloc::Global;
@@ -32,7 +32,7 @@ pub struct In<R> {
 }
 
 impl<R: Read> In<R> {
-    ghost use Rattle.mls_cli_text.specs.Ends.{in_failed, in_reader};
+    ghost use Rattle.mls_cli_text.specs.InputOutput.{in_failed, in_reader};
 
     /// A reader that has not failed.
     pub fn new(reader: R) -> In<R>

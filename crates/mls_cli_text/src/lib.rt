@@ -3,7 +3,7 @@
 #![tactic(auto)]
 
 mod fault;
-mod file;
+mod hex_file;
 mod input;
 mod output;
 mod page;
@@ -12,10 +12,10 @@ mod refusal;
 mod text;
 
 pub use fault::Fault;
-pub use file::{FileError, file_bytes, is_hex, is_hex_file};
+pub use hex_file::{FileError, file_bytes, is_hex, is_hex_file};
 pub use input::{In, Input};
 pub use output::{Out, Output};
 pub use page::{Ending, Page, print_made_page, print_page, refused_page};
 pub use printing::{Printed, print, print_lines};
 pub use refusal::refusal_name;
-pub use text::{Field, Line, ended, joined, line_of};
+pub use text::{Field, Line, append_line, append_lines, line_of};

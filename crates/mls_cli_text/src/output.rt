@@ -2,7 +2,7 @@
 
 ghost use Rattle.std.specs.Prelude.{ℕ, List, Bool, Option, Some, true, false, ◌≡◌, OnOk, OnErr, IfErr, ◌≢◌};
 ghost use Rattle.std.specs.Io.KnownBytes.{Appends};
-ghost use Rattle.mls_cli_text.specs.Ends.{AppendsPart, PutsIf, write_failed};
+ghost use Rattle.mls_cli_text.specs.InputOutput.{AppendsPart, PutsIf, write_failed};
 
 use crate::fault::Fault;
 use std::io::{ErrorKind, Write};
@@ -31,7 +31,7 @@ pub struct Out<W> {
 }
 
 impl<W: Write> Out<W> {
-    ghost use Rattle.mls_cli_text.specs.Ends.{out_failed, out_writer};
+    ghost use Rattle.mls_cli_text.specs.InputOutput.{out_failed, out_writer};
 
     /// A writer that has not failed.
     pub fn new(writer: W) -> Out<W>

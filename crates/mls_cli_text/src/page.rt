@@ -2,8 +2,8 @@
 
 ghost use Rattle.std.specs.Prelude.{[], ◌≡◌, ◌≢◌, ◌≤◌, IfOk, IfErr, OnOk, OnErr};
 ghost use Rattle.std.specs.Io.KnownBytes.{Appends};
-ghost use Rattle.mls_cli_text.specs.Ends.{AppendsPart, write_failed};
-ghost use Rattle.mls_cli_text.specs.Pages.{PrintsMade};
+ghost use Rattle.mls_cli_text.specs.InputOutput.{AppendsPart, write_failed};
+ghost use Rattle.mls_cli_text.specs.MadePage.{PrintsMade};
 ghost use Rattle.mls_cli_text.specs.Page.{Prints, ending_status, ending_text, printout_of, refused};
 
 use crate::fault::Fault;

@@ -4,7 +4,7 @@ ghost use Rattle.std.specs.Prelude.{ℕ, List, ◌≡◌, ◌≢◌, IfOk, OnOk,
 ghost use Rattle.std.specs.Io.KnownBytes.{Appends};
 ghost use Rattle.std.specs.List.{flat_map};
 ghost use Rattle.mls_cli_text.specs.TextLaws.{NoneIsEmpty};
-ghost use Rattle.mls_cli_text.specs.Ends.{AppendsPart, write_failed};
+ghost use Rattle.mls_cli_text.specs.InputOutput.{AppendsPart, write_failed};
 
 use crate::fault::Fault;
 use crate::output::Output;

@@ -54,7 +54,7 @@ pub fn line_of(prefix: &'static str, name: &'static str, field: Field) -> Line
 }
 
 /// The lines of both, in turn.
-pub fn joined(mut lines: Vec<Line>, mut more: Vec<Line>) -> Result<Vec<Line>, AllocError>
+pub fn append_lines(mut lines: Vec<Line>, mut more: Vec<Line>) -> Result<Vec<Line>, AllocError>
     ensures { IfOk result (λ all. map entry_of all.items ≡ map entry_of lines.items ++ map entry_of more.items) }
 {
     lines.append(&mut more)?;
@@ -62,7 +62,7 @@ pub fn joined(mut lines: Vec<Line>, mut more: Vec<Line>) -> Result<Vec<Line>, Al
 }
 
 /// The lines with one more.
-pub fn ended(mut lines: Vec<Line>, last: Line) -> Result<Vec<Line>, AllocError>
+pub fn append_line(mut lines: Vec<Line>, last: Line) -> Result<Vec<Line>, AllocError>
     ensures { IfOk result (λ all. map entry_of all.items ≡ map entry_of lines.items ++ entry_of last ∷ []) }
 {
     lines.push(last)?;

@@ -6,7 +6,7 @@ use Rattle.serde_json.specs.View.{view, items_view}
 use Rattle.serde_json.specs.declared.value.Value.{Value}
 use Rattle.mls_cli_json.specs.Json.{◌>>=◌}
 use Rattle.mls_cli_vectors.specs.Vectors.{Claim, vector_view}
-use Rattle.mls_cli_vectors.specs.VectorsFile.{claim_in, claims_of, listed, listed_one}
+use Rattle.mls_cli_vectors.specs.VectorsFile.{claim_in, claims_of, prepend_if_hex, listed_one}
 use Rattle.mls_cli_vectors.specs.declared.reading.Vector.{Vector}
 
 -- those read so far, and more
@@ -16,7 +16,7 @@ joined true front None = None
 joined true front (Some more) = Some (front ++ more)
 
 longer : (hex : Bool) (front : List Claim) (found : Option Vector) (more : Option (List Claim))
-    → joined (hex && is_some found) (front ++ map vector_view (listed_one found)) more ≡ joined hex front (listed (option_map vector_view found) more)
+    → joined (hex && is_some found) (front ++ map vector_view (listed_one found)) more ≡ joined hex front (prepend_if_hex (option_map vector_view found) more)
 longer false front found more = refl
 longer true front None None = refl
 longer true front None (Some more) = refl
@@ -25,7 +25,7 @@ longer true front (Some v) (Some more) = ap Some (append_assoc front (vector_vie
 
 longer_all : (hex : Bool) (front : List Claim) (found : Option Vector) (rest : Option (Option (List Claim)))
     → option_map (joined (hex && is_some found) (front ++ map vector_view (listed_one found))) rest
-    ≡ option_map (joined hex front) (rest >>= λ more. Some (listed (option_map vector_view found) more))
+    ≡ option_map (joined hex front) (rest >>= λ more. Some (prepend_if_hex (option_map vector_view found) more))
 longer_all hex front found None = refl
 longer_all hex front found (Some more) = ap Some (longer hex front found more)
 

@@ -5,7 +5,7 @@ use Rattle.std.specs.Str.{bytes_eq}
 use Rattle.std.specs.Global.{Vec}
 use Rattle.serde_json.specs.Data.{Data, Items, no_items, item}
 use Rattle.serde_json.specs.Find.{get, as_str, as_null, as_array}
-use Rattle.mls_cli_json.specs.Hexes.{bytes_of, hex_at}
+use Rattle.mls_cli_json.specs.HexText.{bytes_of, hex_at}
 use Rattle.mls_cli_json.specs.Json.{◌>>=◌, data_in, require, is_object_of, text_at, number_at, max_u32, whole, whole_at, items_at}
 use Rattle.mls_cli_json.specs.declared.error.JsonError.{JsonError}
 use Rattle.mls_cli_json.specs.declared.error.JsonError.TheVariants as error
@@ -146,27 +146,27 @@ claim_in d = do
 -- ---- all of a file
 
 -- another vector in front, where all texts are hex
-abbrev pub listed : Option Claim → Option (List Claim) → Option (List Claim)
-listed None more = None
-listed (Some c) None = None
-listed (Some c) (Some cs) = Some (c ∷ cs)
+abbrev pub prepend_if_hex : Option Claim → Option (List Claim) → Option (List Claim)
+prepend_if_hex None more = None
+prepend_if_hex (Some c) None = None
+prepend_if_hex (Some c) (Some cs) = Some (c ∷ cs)
 
 unfoldable pub claims_of : Items → Option (Option (List Claim))
 claims_of no_items = Some (Some [])
 claims_of (item d ds) = do
   claim ← claim_in d
   claims ← claims_of ds
-  Some (listed claim claims)
+  Some (prepend_if_hex claim claims)
 
 -- 9 where the shape is wrong, and else 8 where a text is no hex
-abbrev pub numbered : Option (Option (List Claim)) → Result (List Claim) ℕ
-numbered None = Err 9
-numbered (Some None) = Err 8
-numbered (Some (Some claims)) = Ok claims
+abbrev pub value_or_number : Option (Option (List Claim)) → Result (List Claim) ℕ
+value_or_number None = Err 9
+value_or_number (Some None) = Err 8
+value_or_number (Some (Some claims)) = Ok claims
 
 -- The claims of a file, which is an array of vectors, or the number of its refusal.
 unfoldable pub claims_in : List ℕ → Result (List Claim) ℕ
-claims_in file = numbered ((data_in file >>= as_array) >>= claims_of)
+claims_in file = value_or_number ((data_in file >>= as_array) >>= claims_of)
 
 -- ---- of the code's values
 

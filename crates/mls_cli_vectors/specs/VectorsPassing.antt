@@ -45,13 +45,13 @@ treemath_passes leaves node direct_path copath =
     bytes_eq (ancestors_of leaves node) direct_path && bytes_eq (copath_of leaves node) copath
 
 -- the number that decoding gives, 0 where there is a value
-abbrev pub number_given : Result MlsMessage ℕ → ℕ
-number_given (Ok m) = 0
-number_given (Err n) = n
+abbrev pub decoding_number : Result MlsMessage ℕ → ℕ
+decoding_number (Ok m) = 0
+decoding_number (Err n) = n
 
 -- RFC 9420, section 6: the bytes are an MLSMessage, or decoding refuses them so
 abbrev pub message_passes : List ℕ → ℕ → Bool
-message_passes bytes refused = number_given (whole mls_message input_limit bytes) == refused
+message_passes bytes refused = decoding_number (whole mls_message input_limit bytes) == refused
 
 -- there is a tree, and it has that tree hash; its first leaf is leaf 0
 abbrev pub has_hash : Result Term ℕ → List ℕ → Bool

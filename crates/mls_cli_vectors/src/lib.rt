@@ -20,7 +20,7 @@ use std::alloc::{AllocError, Global};
 use verdict::verdicts;
 
 /// The report on vectors.
-fn judged(alloc: Global, vectors: &[Vector]) -> Result<Page<ReportLine>, AllocError>
+fn judge_vectors(alloc: Global, vectors: &[Vector]) -> Result<Page<ReportLine>, AllocError>
     ensures { IfOk result (λ page. page_of entry_of page ≡ page_on (Ok (map vector_view vectors.now))) }
 {
     let verdicts = verdicts(alloc, vectors)?;
@@ -35,7 +35,7 @@ pub fn vectors_page(alloc: Global, text: &[u8]) -> Result<Page<ReportLine>, Allo
     ensures no_text { ¬ (IsUtf8 text.now) → IsOk result }
 {
     match vectors_in(alloc, text) {
-        Ok(vectors) => judged(alloc, vectors.as_slice()),
+        Ok(vectors) => judge_vectors(alloc, vectors.as_slice()),
         Err(JsonError::OutOfMemory) => Err(AllocError),
         Err(error) => Ok(refused_page(alloc, error.number())),
     }

@@ -8,10 +8,10 @@ ghost use Rattle.serde_json.specs.View.{view, items_view};
 ghost use Rattle.mls_cli_json.specs.Faults.{Finds};
 ghost use Rattle.mls_cli_json.specs.declared.error.JsonError.TheVariants.{BadJson};
 ghost use Rattle.mls_cli_vectors.specs.Vectors.{vector_view};
-ghost use Rattle.mls_cli_vectors.specs.VectorsFile.{Reads, claim_in, claims_in, claims_of, expand_in, expand_of, header_in, header_of, hex_or_null, hkdf_in, hkdf_of, hmac_in, hmac_of, kind_in, label_at, listed_one, message_in, message_of, numbered, numbers_at, numbers_of, tree_in, tree_of, treemath_in};
+ghost use Rattle.mls_cli_vectors.specs.VectorsFile.{Reads, claim_in, claims_in, claims_of, expand_in, expand_of, header_in, header_of, hex_or_null, hkdf_in, hkdf_of, hmac_in, hmac_of, kind_in, label_at, listed_one, message_in, message_of, value_or_number, numbers_at, numbers_of, tree_in, tree_of, treemath_in};
 
 use mls_cli_json::{
-    JsonError, has_members, hex_at, hex_of, items_at, text_at, u32_at, u32_of, u64_at, value_in,
+    JsonError, has_members, hex_at, bytes_of_hex, items_at, text_at, u32_at, u32_of, u64_at, value_in,
 };
 use serde_json::Value;
 use std::alloc::{AllocError, Global};
@@ -75,7 +75,7 @@ fn hex_or_null(alloc: Global, value: &Value) -> Result<Option<Option<Vec<u8>>>, 
         return Ok(Some(None));
     }
     match value.as_str() {
-        Some(text) => match hex_of(alloc, text)? {
+        Some(text) => match bytes_of_hex(alloc, text)? {
             Some(bytes) => Ok(Some(Some(bytes))),
             None => Ok(None),
         },
@@ -105,7 +105,7 @@ fn header_of(length: u32, bytes: Option<Option<Vec<u8>>>) -> Option<Vector>
     })
 }
 
-fn header(alloc: Global, value: &Value) -> Result<Option<Vector>, JsonError>
+fn header_in(alloc: Global, value: &Value) -> Result<Option<Vector>, JsonError>
     ensures { Finds (option_map vector_view) result (header_in (view value.now)) }
 {
     if !has_members(value, 3) {
@@ -128,7 +128,7 @@ fn hmac_of(key: Option<Vec<u8>>, message: Option<Vec<u8>>, out: Option<Vec<u8>>)
     })
 }
 
-fn hmac(alloc: Global, value: &Value) -> Result<Option<Vector>, JsonError>
+fn hmac_in(alloc: Global, value: &Value) -> Result<Option<Vector>, JsonError>
     ensures { Finds (option_map vector_view) result (hmac_in (view value.now)) }
 {
     if !has_members(value, 4) {
@@ -159,7 +159,7 @@ fn hkdf_of(
     })
 }
 
-fn hkdf(alloc: Global, value: &Value) -> Result<Option<Vector>, JsonError>
+fn hkdf_in(alloc: Global, value: &Value) -> Result<Option<Vector>, JsonError>
     ensures { Finds (option_map vector_view) result (hkdf_in (view value.now)) }
 {
     if !has_members(value, 6) {
@@ -200,7 +200,7 @@ fn expand_of(
     })
 }
 
-fn expand(alloc: Global, value: &Value) -> Result<Option<Vector>, JsonError>
+fn expand_in(alloc: Global, value: &Value) -> Result<Option<Vector>, JsonError>
     ensures { Finds (option_map vector_view) result (expand_in (view value.now)) }
 {
     if !has_members(value, 5) {
@@ -247,7 +247,7 @@ fn tree_of(bytes: Option<Vec<u8>>, tree_hash: Option<Vec<u8>>) -> Option<Vector>
     })
 }
 
-fn tree(alloc: Global, value: &Value) -> Result<Option<Vector>, JsonError>
+fn tree_in(alloc: Global, value: &Value) -> Result<Option<Vector>, JsonError>
     ensures { Finds (option_map vector_view) result (tree_in (view value.now)) }
 {
     if !has_members(value, 3) {
@@ -281,7 +281,7 @@ fn numbers_at(alloc: Global, value: &Value, key: &str) -> Result<Vec<u32>, JsonE
     }
 }
 
-fn treemath(alloc: Global, value: &Value) -> Result<Option<Vector>, JsonError>
+fn treemath_in(alloc: Global, value: &Value) -> Result<Option<Vector>, JsonError>
     ensures { Finds (option_map vector_view) result (treemath_in (view value.now)) }
 {
     if !has_members(value, 5) {
@@ -303,17 +303,17 @@ fn treemath(alloc: Global, value: &Value) -> Result<Option<Vector>, JsonError>
     }))
 }
 
-fn of_kind(alloc: Global, kind: &str, value: &Value) -> Result<Option<Vector>, JsonError>
+fn vector_of_kind(alloc: Global, kind: &str, value: &Value) -> Result<Option<Vector>, JsonError>
     ensures { Finds (option_map vector_view) result (kind_in kind.now (view value.now)) }
 {
     match kind {
-        "header" => header(alloc, value),
-        "hmac" => hmac(alloc, value),
-        "hkdf" => hkdf(alloc, value),
-        "expand" => expand(alloc, value),
-        "treemath" => treemath(alloc, value),
+        "header" => header_in(alloc, value),
+        "hmac" => hmac_in(alloc, value),
+        "hkdf" => hkdf_in(alloc, value),
+        "expand" => expand_in(alloc, value),
+        "treemath" => treemath_in(alloc, value),
         "message" => message(alloc, value),
-        "tree" => tree(alloc, value),
+        "tree" => tree_in(alloc, value),
         _ => Err(JsonError::BadJson),
     }
 }
@@ -322,7 +322,7 @@ fn vector_of(alloc: Global, value: &Value) -> Result<Option<Vector>, JsonError>
     ensures { Finds (option_map vector_view) result (claim_in (view value.now)) }
 {
     match text_at(value, "kind") {
-        Some(kind) => of_kind(alloc, kind, value),
+        Some(kind) => vector_of_kind(alloc, kind, value),
         None => Err(JsonError::BadJson),
     }
 }
@@ -347,7 +347,7 @@ fn push_found(
 
 #[tactic(auto, unfolding(crate::specs::VectorsFile::claims_of))]
 fn vectors_of(alloc: Global, values: &[Value]) -> Result<Vec<Vector>, JsonError>
-    ensures { Reads result (numbered (claims_of (items_view values.now))) }
+    ensures { Reads result (value_or_number (claims_of (items_view values.now))) }
 {
     let mut vectors = Vec::new(alloc);
     let mut all_hex = true;

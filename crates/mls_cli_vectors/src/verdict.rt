@@ -5,7 +5,7 @@ ghost use Rattle.mls_leaf.specs.Faults.{whole};
 ghost use Rattle.mls_leaf.specs.Limits.{input_limit};
 ghost use Rattle.mls_types.specs.Message.{mls_message};
 ghost use Rattle.mls_cli_vectors.specs.Vectors.{vector_view};
-ghost use Rattle.mls_cli_vectors.specs.VectorsPassing.{expand_passes, header_passes, hkdf_passes, hmac_passes, labelled_passes, number_given, passes, tree_passes, treemath_passes};
+ghost use Rattle.mls_cli_vectors.specs.VectorsPassing.{expand_passes, header_passes, hkdf_passes, hmac_passes, labelled_passes, decoding_number, passes, tree_passes, treemath_passes};
 
 use crate::reading::{MAX_LABEL, Vector};
 use mls_cli_check::tree_in;
@@ -99,7 +99,7 @@ fn treemath_passes(
 
 /// The number that decoding gives, 0 where there is a value. It makes no value and takes no memory.
 fn decoding_number(bytes: &[u8]) -> u8
-    ensures { result ≡ number_given (whole mls_message input_limit bytes.now) }
+    ensures { result ≡ decoding_number (whole mls_message input_limit bytes.now) }
 {
     match MlsMessage::check_all(bytes) {
         Ok(()) => 0,

@@ -6,14 +6,14 @@ use Rattle.mls_types.specs.declared.content.FramedContent.{FramedContent}
 use Rattle.mls_suite.specs.Crypto.{Crypto}
 use Rattle.mls_tree_model.specs.Term.{Term}
 use Rattle.mls_model.specs.Proposals.{is_path_required}
-use Rattle.mls_model.specs.Public.{PublicState, Used}
-use Rattle.mls_model.specs.Commit.{Edits, Change, edited, merged, body}
+use Rattle.mls_model.specs.PublicState.{PublicState, Used}
+use Rattle.mls_model.specs.Commit.{Edits, Change, apply_proposals, apply_path_if, change_of_commit}
 use Rattle.mls_public_group.specs.Short.{HasLeavesBelow}
-use Rattle.mls_commit.specs.Changed.{change_of}
+use Rattle.mls_commit.specs.Change.{change_of}
 
 pub body_ok : (c : Crypto) (p : PublicState) (i : ℕ) (used : List Used) (commit : Commit) (content : FramedContent) (said signature : List ℕ) (e : Edits) (t : Term) (change : Change) → framed_content.spell content ≡ said →
-    edited c p i used ≡ Ok e → (is_some commit.path || not (is_path_required used)) ≡ true → merged c p i e commit.path ≡ Ok t → change ≡ change_of p e t said signature → body c p i used commit content signature ≡ Ok change
-unfolding body change_of
+    apply_proposals c p i used ≡ Ok e → (is_some commit.path || not (is_path_required used)) ≡ true → apply_path_if c p i e commit.path ≡ Ok t → change ≡ change_of p e t said signature → change_of_commit c p i used commit content signature ≡ Ok change
+unfolding change_of_commit change_of
 body_ok c p i used commit content said signature e t change spelled edits path tree made = rw (edits, path, tree) (ap Ok (ap (λ bytes. change_of p e t bytes signature) spelled ∙ sym made))
 
 pub below_change : (p : PublicState) (e : Edits) (t : Term) (said signature : List ℕ) (n : ℕ) (change : Change) → change ≡ change_of p e t said signature → HasLeavesBelow n e.tree → HasLeavesBelow n t → HasLeavesBelow n change.edits.tree × HasLeavesBelow n change.tree

@@ -5,17 +5,17 @@ use Rattle.mls_leaf.specs.declared.leaf.LeafNode.{LeafNode}
 use Rattle.mls_suite.specs.Crypto.{Crypto}
 use Rattle.mls_tree_model.specs.Merge.{merge_path}
 use Rattle.mls_tree.specs.Paths.{merge_answer}
-use Rattle.mls_tree.specs.Prepared.{Prepared, IsFor, merged_by}
+use Rattle.mls_tree.specs.PreparedPath.{Prepared, IsFor, merged_by}
 use Rattle.mls_tree.specs.Tree.{Tree, term}
 use Rattle.mls_tree_model.specs.Term.{Term}
-use Rattle.mls_model.specs.Public.{PublicState, Used}
-use Rattle.mls_model.specs.Proposals.{updates, removed, adds}
-use Rattle.mls_model.specs.Commit.{Edits, Change, all_updated, all_removed, all_added, edited, merged, public_with}
+use Rattle.mls_model.specs.PublicState.{PublicState, Used}
+use Rattle.mls_model.specs.Proposals.{updates, removed_leaves, adds}
+use Rattle.mls_model.specs.Commit.{Edits, Change, apply_updates, apply_removes, apply_adds, apply_proposals, apply_path_if, public_with}
 use Rattle.mls_schedule.specs.Transcript.{interim_hash}
 use Rattle.mls_types.specs.declared.group_context.GroupContext.{GroupContext}
 use Rattle.mls_types.specs.declared.update_path.UpdatePath.{UpdatePath}
-use Rattle.mls_commit.specs.Changed.{change_of}
-use Rattle.mls_public_group.specs.NextTree.{next_term, is_merged, Follows}
+use Rattle.mls_commit.specs.Change.{change_of}
+use Rattle.mls_public_group.specs.NextTree.{next_term, is_merged, IsPreparedFor}
 use Rattle.mls_public_group.specs.declared.next_tree.NextTree.{NextTree}
 use Rattle.mls_public_group.specs.declared.next_tree.NextTree.TheVariants.{Edited, EditedMerged, Merged}
 use Rattle.mls_theorems.proofs.Inversion.{edited_steps}
@@ -26,18 +26,18 @@ next_alike s t (Edited u) same = refl
 next_alike s t (EditedMerged u p) same = refl
 next_alike s t (Merged p) same = ap (λ x. next_term x (Merged p)) (same refl)
 
-pub follows_alike : (s t : Term) (n : NextTree) → (is_merged n ≡ true → s ≡ t) → Follows s n → Follows t n
-unfolding Follows
+pub follows_alike : (s t : Term) (n : NextTree) → (is_merged n ≡ true → s ≡ t) → IsPreparedFor s n → IsPreparedFor t n
+unfolding IsPreparedFor
 follows_alike s t (Edited u) same f = f
 follows_alike s t (EditedMerged u p) same f = f
-follows_alike s t (Merged p) same f = subst (λ x. Follows x (Merged p)) (same refl) f
+follows_alike s t (Merged p) same f = subst (λ x. IsPreparedFor x (Merged p)) (same refl) f
 
 -- without proposals the tree is the group's
-unedited : (t s r : Term) (e : Edits) → all_updated t (updates []) ≡ Ok s → all_removed s (removed []) ≡ Ok r → all_added r (adds []) ≡ Ok e → e.tree ≡ t
-unfolding all_updated all_removed all_added updates removed adds
+unedited : (t s r : Term) (e : Edits) → apply_updates t (updates []) ≡ Ok s → apply_removes s (removed_leaves []) ≡ Ok r → apply_adds r (adds []) ≡ Ok e → e.tree ≡ t
+unfolding apply_updates apply_removes apply_adds updates removed_leaves adds
 unedited t s r e one two three = sym (ap (λ (f : Edits). f.tree) (ok_is _ e three)) ∙ sym (ok_is s r two) ∙ sym (ok_is t s one)
 
-pub no_edits : (c : Crypto) (p : PublicState) (i : ℕ) (used : List Used) (e : Edits) → (length used == 0) ≡ true → edited c p i used ≡ Ok e → e.tree ≡ p.tree
+pub no_edits : (c : Crypto) (p : PublicState) (i : ℕ) (used : List Used) (e : Edits) → (length used == 0) ≡ true → apply_proposals c p i used ≡ Ok e → e.tree ≡ p.tree
 no_edits c p i [] e none h = let steps = edited_steps c p i [] e h in unedited p.tree steps.after_updates steps.after_removes e steps.updating steps.removing steps.adding
 no_edits c p i (u ∷ us) e none h = absurd (let z = eqb-true (length (u ∷ us)) 0 none in omega arith)
 
@@ -47,24 +47,24 @@ pub prepared_answer : (s t : Term) (p : Prepared) (i : ℕ) (x : LeafNode) (keys
 unfolding next_term
 prepared_answer s t p i x keys same answer made = subst (λ u. merge_answer u i x keys ≡ Ok (merged_by u p)) same (answer ∙ ap Ok (sym made))
 
-pub prepared_follows : (s t : Term) (p : Prepared) → s ≡ t → IsFor s p → Follows t (Merged p)
-unfolding Follows
+pub prepared_follows : (s t : Term) (p : Prepared) → s ≡ t → IsFor s p → IsPreparedFor t (Merged p)
+unfolding IsPreparedFor
 prepared_follows s t p same is = subst (λ u. IsFor u p) same is
 
 pub edited_answer : (s t : Term) (u : Tree) (p : Prepared) (i : ℕ) (x : LeafNode) (keys : List (List ℕ)) → s ≡ t → term u ≡ s → merge_answer s i x keys ≡ Ok (merge_path s i x keys) → merged_by s p ≡ merge_path s i x keys → merge_answer t i x keys ≡ Ok (next_term t (EditedMerged u p))
 unfolding next_term
 edited_answer s t u p i x keys same is answer made = subst (λ v. merge_answer v i x keys ≡ Ok (merged_by (term u) p)) same (answer ∙ ap Ok (sym made ∙ ap (λ v. merged_by v p) (sym is)))
 
-pub edited_follows : (s t : Term) (u : Tree) (p : Prepared) → term u ≡ s → IsFor s p → Follows t (EditedMerged u p)
-unfolding Follows
+pub edited_follows : (s t : Term) (u : Tree) (p : Prepared) → term u ≡ s → IsFor s p → IsPreparedFor t (EditedMerged u p)
+unfolding IsPreparedFor
 edited_follows s t u p is prepared = subst (λ v. IsFor v p) (sym is) prepared
 
-pub edited_alone_follows : (t : Term) (u : Tree) → Follows t (Edited u)
-unfolding Follows
+pub edited_alone_follows : (t : Term) (u : Tree) → IsPreparedFor t (Edited u)
+unfolding IsPreparedFor
 edited_alone_follows t u = tt
 
-pub none_merged : (c : Crypto) (p : PublicState) (i : ℕ) (e : Edits) (path : Option UpdatePath) (u : Tree) → path ≡ None → term u ≡ e.tree → merged c p i e path ≡ Ok (next_term e.tree (Edited u))
-unfolding merged next_term
+pub none_merged : (c : Crypto) (p : PublicState) (i : ℕ) (e : Edits) (path : Option UpdatePath) (u : Tree) → path ≡ None → term u ≡ e.tree → apply_path_if c p i e path ≡ Ok (next_term e.tree (Edited u))
+unfolding apply_path_if next_term
 none_merged c p i e path u none is = rw none (ap Ok (sym is))
 
 -- ---- the next state

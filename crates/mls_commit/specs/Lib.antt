@@ -1,6 +1,6 @@
 pub mod Faults
 pub mod Names
 pub mod Codes
-pub mod Changed
-pub mod Staying
+pub mod Change
+pub mod PathChecks
 pub mod Received

@@ -9,5 +9,5 @@ pub record Received : Type 0 where
   pub on_own : Bool
 
 -- if it is, the commit edited nothing of the group's tree
-abbrev pub IsOf : Term → Received → Type 0
-IsOf t r = r.on_own ≡ true → r.change.edits.tree ≡ t
+abbrev pub KeepsOwnTree : Term → Received → Type 0
+KeepsOwnTree t r = r.on_own ≡ true → r.change.edits.tree ≡ t

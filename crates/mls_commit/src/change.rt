@@ -1,9 +1,9 @@
 //! What a commit makes of a public state, before its confirmation tag is known.
 
 ghost use Rattle.std.specs.Prelude.{◌≡◌, ◌+◌, ◌<◌, ◌^◌, length, IfOk};
-ghost use Rattle.mls_commit.specs.Changed.{change_of};
+ghost use Rattle.mls_commit.specs.Change.{change_of};
 ghost use Rattle.mls_model.specs.Commit.{public_with};
-ghost use Rattle.mls_model.specs.Public as model;
+ghost use Rattle.mls_model.specs.PublicState as model;
 ghost use Rattle.mls_public_group.specs.Short.{HasLeavesBelow};
 ghost use Rattle.mls_tree_model.specs.Hashes.{tree_hash};
 ghost use Rattle.mls_tree.specs.Tree.{term};
@@ -46,7 +46,7 @@ impl Model for Change {
 }
 
 /// The new epoch's context with the new transcript.
-#[tactic(auto, unfolding(mls_model::specs::Public::confirmed_context))]
+#[tactic(auto, unfolding(mls_model::specs::PublicState::confirmed_context))]
 pub(crate) fn confirmed_context(
     alloc: Global,
     provisional: &GroupContext,
@@ -66,7 +66,7 @@ pub(crate) fn confirmed_context(
 impl Change {
     /// The change with these edits and this tree, its path merged: nothing is checked. `said` is the spelling of the
     /// commit's FramedContent, and `signature` its signature, of less than 2^30 bytes (RFC 9420, 8.1, 8.2 and 12.4.1).
-    #[tactic(auto, unfolding(crate::specs::Changed::change_of))]
+    #[tactic(auto, unfolding(crate::specs::Change::change_of))]
     pub fn new(
         alloc: Global,
         group: &PublicGroup,

@@ -7,14 +7,14 @@ ghost use Rattle.mls_types.specs.Content.{framed_content};
 ghost use Rattle.mls_types.specs.declared.content.FramedContent as contents;
 ghost use Rattle.mls_model.specs.Commit as model;
 ghost use Rattle.mls_model.specs.Proposals as proposals;
-ghost use Rattle.mls_public_group.specs.NextTree.{next_term, is_merged, Follows};
+ghost use Rattle.mls_public_group.specs.NextTree.{next_term, is_merged, IsPreparedFor};
 ghost use Rattle.mls_public_group.specs.Short.{IsBelow, AreBelow, HasLeavesBelow, IsShortContext};
 ghost use Rattle.mls_commit.specs.Faults.{number_of};
-ghost use Rattle.mls_commit.specs.Received.{IsOf};
-ghost use Rattle.mls_commit.specs.Staying.{Stays};
+ghost use Rattle.mls_commit.specs.Received.{KeepsOwnTree};
+ghost use Rattle.mls_commit.specs.PathChecks.{StaysMember};
 
 use crate::error::CommitError;
-use crate::path::with_path;
+use crate::path::apply_update_path;
 use crate::received::Received;
 use mls_types::UpdatePath;
 use mls_public_group::{Edits, NextTree, PublicGroup, Used, is_path_required};
@@ -31,8 +31,8 @@ pub(crate) fn has_due_path(commit: &Commit, used: &[Used<'_>]) -> bool
 
 /// The tree after the edits, with the path merged where there is one. `is_own` says that there are no edits: the tree is
 /// the group's own.
-#[tactic(auto, unfolding(mls_model::specs::Commit::merged))]
-fn merged<S: Suite>(
+#[tactic(auto, unfolding(mls_model::specs::Commit::apply_path_if))]
+fn apply_path_if<S: Suite>(
     alloc: Global,
     group: &PublicGroup,
     committer: u32,
@@ -41,15 +41,15 @@ fn merged<S: Suite>(
     is_own: bool,
 ) -> Result<NextTree, CommitError>
     requires context { IsShortContext group.now.context }
-    requires stays { Stays committer group.now.tree edits.now.tree }
+    requires stays { StaysMember committer group.now.tree edits.now.tree }
     requires path { IfSome path.now (λ p. IsBelow (2 ^ 28) leaf_node p.leaf_node) }
-    ensures answer { Answers (next_term edits.now.tree) number_of (model.merged S.crypto group.now committer edits.now path.now) result }
-    ensures follows { IfOk result (Follows edits.now.tree) }
+    ensures answer { Answers (next_term edits.now.tree) number_of (model.apply_path_if S.crypto group.now committer edits.now path.now) result }
+    ensures follows { IfOk result (IsPreparedFor edits.now.tree) }
     ensures own { IfOk result (λ t. is_merged t ≡ true → is_own ≡ true) }
 {
     match path {
         None => Ok(NextTree::Edited(edits.tree.clone()?)),
-        Some(path) => with_path::<S>(alloc, group, committer, edits, path, is_own),
+        Some(path) => apply_update_path::<S>(alloc, group, committer, edits, path, is_own),
     }
 }
 
@@ -57,8 +57,8 @@ fn merged<S: Suite>(
 /// tree after them, 64 where a path is required and missing, and those of its path; the first that fails is answered
 /// (RFC 9420, 12.4.2). `said` is the spelling of the commit's FramedContent, and `signature` its signature, of less than
 /// 2^30 bytes.
-#[tactic(auto, unfolding(mls_model::specs::Commit::body))]
-pub fn body<S: Suite>(
+#[tactic(auto, unfolding(mls_model::specs::Commit::change_of_commit))]
+pub fn change_of_commit<S: Suite>(
     alloc: Global,
     group: &PublicGroup,
     committer: u32,
@@ -72,19 +72,19 @@ pub fn body<S: Suite>(
     requires path { IfSome commit.now.path (λ p. IsBelow (2 ^ 28) leaf_node p.leaf_node) }
     requires signature { length signature.now < 2 ^ 30 }
     ensures answer { (content : contents.FramedContent) → framed_content.spell content ≡ said.now
-        → Answers (λ r. r.change) number_of (model.body S.crypto group.now committer used.now commit.now content signature.now) result }
+        → Answers (λ r. r.change) number_of (model.change_of_commit S.crypto group.now committer used.now commit.now content signature.now) result }
     // The leaves of both trees are as short as the group's, the proposals and the path's leaf.
     ensures below { IfOk result (λ r. (n : ℕ) → 2 ^ 27 ≤ n → AreBelow n used.now → IfSome commit.now.path (λ p. IsBelow n leaf_node p.leaf_node) → HasLeavesBelow n r.change.edits.tree × HasLeavesBelow n r.change.tree) }
     // A path is prepared for the group's own tree only where no proposal changes that.
-    ensures own { IfOk result (IsOf group.now.tree) }
+    ensures own { IfOk result (KeepsOwnTree group.now.tree) }
 {
     group.is_short();
-    let edits = group.edited::<S>(alloc, committer, used)?;
+    let edits = group.apply_proposals::<S>(alloc, committer, used)?;
     if !has_due_path(commit, used) {
         return Err(CommitError::PathMissing);
     }
     let is_own = used.is_empty();
-    let tree = merged::<S>(alloc, group, committer, &edits, &commit.path, is_own)?;
+    let tree = apply_path_if::<S>(alloc, group, committer, &edits, &commit.path, is_own)?;
     let received = Received::new(alloc, group, edits, tree, said, signature)?;
     Ok(received)
 }

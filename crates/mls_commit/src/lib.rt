@@ -9,7 +9,7 @@ mod path;
 mod received;
 
 pub use change::Change;
-pub use commit::body;
+pub use commit::change_of_commit;
 pub use error::CommitError;
 pub use laws::commit_names_by_number;
 pub use received::Received;

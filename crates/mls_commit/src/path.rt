@@ -7,14 +7,14 @@ ghost use Rattle.mls_wire.specs.Checks.{Answers, passed, require};
 ghost use Rattle.mls_leaf.specs.Leaf.{leaf_node};
 ghost use Rattle.mls_types.specs.declared.update_path.UpdatePathNode.{UpdatePathNode};
 ghost use Rattle.mls_model.specs.Commit as model;
-ghost use Rattle.mls_public_group.specs.NextTree.{next_term, is_merged, Follows};
+ghost use Rattle.mls_public_group.specs.NextTree.{next_term, is_merged, IsPreparedFor};
 ghost use Rattle.mls_public_group.specs.Short.{IsBelow, IsShortContext};
 ghost use Rattle.mls_tree.specs.Refusals.{RefusesOutright};
 ghost use Rattle.mls_tree.specs.Faults.{number_of as number_of_tree};
 ghost use Rattle.mls_tree.specs.Paths.{merge_answer};
 ghost use Rattle.mls_tree_model.specs.Term.{leaf_of};
 ghost use Rattle.mls_commit.specs.Faults.{number_of};
-ghost use Rattle.mls_commit.specs.Staying.{Stays, count_checks};
+ghost use Rattle.mls_commit.specs.PathChecks.{StaysMember, count_checks};
 
 use crate::error::CommitError;
 use mls_checks::{CheckError, Source, replaced};
@@ -83,7 +83,7 @@ fn has_fit_keys<S: Suite>(path: &UpdatePath) -> bool
 
 /// A path that is to be merged, where its keys differ and its leaf has the parent hash: into the group's own tree, where
 /// there are no edits, and else into the one after them. It is prepared, and nothing is copied.
-fn merged_into(
+fn merge_into(
     edits: &Edits,
     committer: u32,
     leaf: LeafNode,
@@ -91,7 +91,7 @@ fn merged_into(
     is_own: bool,
 ) -> Result<NextTree, TreeError>
     ensures answer { Answers (next_term edits.now.tree) number_of_tree (merge_answer edits.now.tree committer leaf keys.items) result }
-    ensures follows { IfOk result (Follows edits.now.tree) }
+    ensures follows { IfOk result (IsPreparedFor edits.now.tree) }
     ensures own { IfOk result (λ t. is_merged t ≡ true → is_own ≡ true) }
 {
     let tree = edits.tree.as_tree();
@@ -106,8 +106,8 @@ fn merged_into(
 /// its leaf, which takes no memory; 50 to 54 of its new leaf; 30 how many nodes the path has; 31 how many ciphertexts each
 /// of them has; 36 a key isn't fit; 25 two nodes have one encryption key; 24 the leaf hasn't the parent hash (RFC 9420,
 /// 12.4.2).
-#[tactic(auto, unfolding(mls_model::specs::Commit::with_path))]
-pub(crate) fn with_path<S: Suite>(
+#[tactic(auto, unfolding(mls_model::specs::Commit::apply_update_path))]
+pub(crate) fn apply_update_path<S: Suite>(
     alloc: Global,
     group: &PublicGroup,
     committer: u32,
@@ -116,10 +116,10 @@ pub(crate) fn with_path<S: Suite>(
     is_own: bool,
 ) -> Result<NextTree, CommitError>
     requires context { IsShortContext group.now.context }
-    requires stays { Stays committer group.now.tree edits.now.tree }
+    requires stays { StaysMember committer group.now.tree edits.now.tree }
     requires path { IsBelow (2 ^ 28) leaf_node path.now.leaf_node }
-    ensures answer { Answers (next_term edits.now.tree) number_of (model.with_path S.crypto group.now committer edits.now path.now) result }
-    ensures follows { IfOk result (Follows edits.now.tree) }
+    ensures answer { Answers (next_term edits.now.tree) number_of (model.apply_update_path S.crypto group.now committer edits.now path.now) result }
+    ensures follows { IfOk result (IsPreparedFor edits.now.tree) }
     ensures own { IfOk result (λ t. is_merged t ≡ true → is_own ≡ true) }
     ensures outright { RefusesOutright number_of (require 22 (is_some (leaf_of group.now.tree committer))) result }
 {
@@ -141,6 +141,6 @@ pub(crate) fn with_path<S: Suite>(
     }
     let keys = node_keys(alloc, path)?;
     let leaf = path.leaf_node.clone()?;
-    let tree = merged_into(edits, committer, leaf, keys, is_own)?;
+    let tree = merge_into(edits, committer, leaf, keys, is_own)?;
     Ok(tree)
 }

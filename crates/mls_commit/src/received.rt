@@ -1,10 +1,10 @@
 //! What a received commit makes of a public state, before its confirmation tag is checked.
 
 ghost use Rattle.std.specs.Prelude.{◌≡◌, ◌+◌, ◌<◌, ◌^◌, length, IfOk, OnOk, OnErr};
-ghost use Rattle.mls_commit.specs.Changed.{change_of};
-ghost use Rattle.mls_commit.specs.Received.{IsOf};
+ghost use Rattle.mls_commit.specs.Change.{change_of};
+ghost use Rattle.mls_commit.specs.Received.{KeepsOwnTree};
 ghost use Rattle.mls_model.specs.Commit.{public_with};
-ghost use Rattle.mls_public_group.specs.NextTree.{next_term, is_merged, Follows};
+ghost use Rattle.mls_public_group.specs.NextTree.{next_term, is_merged, IsPreparedFor};
 ghost use Rattle.mls_public_group.specs.Short.{HasLeavesBelow};
 
 use crate::change::confirmed_context;
@@ -29,7 +29,7 @@ pub struct Received {
 }
 
 impl Model for Received {
-    ghost use Rattle.mls_public_group.specs.NextTree.{next_term, is_merged, Follows};
+    ghost use Rattle.mls_public_group.specs.NextTree.{next_term, is_merged, IsPreparedFor};
     ghost use Rattle.mls_public_group.specs.Short.{IsShortContext};
     ghost use Rattle.mls_commit.specs.Received as model;
     ghost use Rattle.mls_commit.specs.Codes.{coded_received};
@@ -40,13 +40,13 @@ impl Model for Received {
 
     ghost view = { λ r. record { change = record { edits = r.edits; tree = next_term r.edits.tree r.tree; provisional = r.provisional; context = r.context }; on_own = is_merged r.tree } };
 
-    ghost invariant = { λ r. IsShortContext r.provisional × IsShortContext r.context × Follows r.edits.tree r.tree };
+    ghost invariant = { λ r. IsShortContext r.provisional × IsShortContext r.context × IsPreparedFor r.edits.tree r.tree };
 }
 
 impl Received {
     /// The change with these edits and this tree, its path merged: nothing is checked. `said` is the spelling of the
     /// commit's FramedContent, and `signature` its signature (RFC 9420, 8.1, 8.2 and 12.4.1).
-    #[tactic(auto, unfolding(crate::specs::Changed::change_of))]
+    #[tactic(auto, unfolding(crate::specs::Change::change_of))]
     pub(crate) fn new(
         alloc: Global,
         group: &PublicGroup,
@@ -57,7 +57,7 @@ impl Received {
     ) -> Result<Received, AllocError>
         requires epoch { group.now.context.epoch + 1 < 2 ^ 64 }
         requires signature { length signature.now < 2 ^ 30 }
-        requires follows { Follows edits.tree tree }
+        requires follows { IsPreparedFor edits.tree tree }
         ensures change { IfOk result (λ r. r.change ≡ change_of group.now edits (next_term edits.tree tree) said.now signature.now) }
         ensures own { IfOk result (λ r. r.on_own ≡ is_merged tree) }
     {
@@ -79,7 +79,7 @@ impl Received {
     /// no proposals, and else into the edited one, which becomes the group's. Without memory the group is as before.
     #[tactic(auto, unfolding(mls_model::specs::Commit::public_with))]
     pub fn enter(self, alloc: Global, group: &mut PublicGroup, tag: &[u8]) -> Result<(), AllocError>
-        requires of { IsOf group.old.tree self }
+        requires of { KeepsOwnTree group.old.tree self }
         requires leaves { HasLeavesBelow (2 ^ 27) self.change.tree }
         requires tag { length tag.now < 2 ^ 30 }
         ensures next { OnOk result (group.new ≡ public_with self.change tag.now) }

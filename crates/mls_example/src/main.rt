@@ -8,7 +8,7 @@ use mls_suite::Glass;
 use std::alloc::Global;
 
 /// A key that all members of the epoch can make (RFC 9420, 8.5).
-fn exported(member: &Member<Glass>) -> Result<[u8; 16]> {
+fn export_key(member: &Member<Glass>) -> Result<[u8; 16]> {
     let mut key = [0; 16];
     member.epoch().export("example", b"file", &mut key)?;
     Ok(key)
@@ -40,7 +40,7 @@ fn run(rt: &impl Print, alloc: Global) -> Result<()> {
     bob.process(&made.commit)?;
     let (hers, his) = (alice.epoch_number(), bob.epoch_number());
     println!(rt; "both are in epoch {hers} and {his}")?;
-    let same = exported(&alice)? == exported(&bob)?;
+    let same = export_key(&alice)? == export_key(&bob)?;
     println!(rt; "both export the same key: {same}")?;
 
     // Alice removes Bob.

@@ -36,7 +36,7 @@ pub(crate) fn addition(candidate: &Candidate<Glass>) -> Result<Item>
 }
 
 /// The message of the proposal to add a candidate.
-fn proposed_add(
+fn propose_candidate(
     member: &mut Member<Glass>,
     candidate: &Candidate<Glass>,
 ) -> Result<Vec<u8>, Refusal> {
@@ -51,7 +51,7 @@ pub(crate) fn answer_of(member: &mut Member<Glass>, call: &Call) -> Result<Answe
     match call {
         Call::Commit(items, seed) => Ok(Answer::Made(member.commit(items, true, seed)?)),
         Call::Process(bytes) => Ok(Answer::Did(member.process(bytes)?)),
-        Call::ProposeAdd(candidate) => Ok(Answer::Message(proposed_add(member, candidate)?)),
+        Call::ProposeAdd(candidate) => Ok(Answer::Message(propose_candidate(member, candidate)?)),
         Call::ProposeUpdate(seed) => Ok(Answer::Message(member.propose_update(seed)?)),
         Call::ProposeRemove(leaf) => Ok(Answer::Message(member.propose_remove(*leaf)?)),
     }

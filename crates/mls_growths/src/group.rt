@@ -18,14 +18,14 @@ pub(crate) fn candidate(alloc: Global, name: u8, seed: u8) -> Result<Box<Candida
 }
 
 /// A member in a box.
-fn boxed(alloc: Global, member: Member<Glass>) -> Result<Box<Member<Glass>>> {
+fn box_member(alloc: Global, member: Member<Glass>) -> Result<Box<Member<Glass>>> {
     Ok(Box::new(alloc, member)?)
 }
 
 /// The member "a" alone.
-pub(crate) fn alone(alloc: Global) -> Result<Box<Member<Glass>>> {
+pub(crate) fn create_group(alloc: Global) -> Result<Box<Member<Glass>>> {
     let first = candidate(alloc, b'a', 1)?;
-    boxed(alloc, Member::create(alloc, &first, b"g", &[2; 32])?)
+    box_member(alloc, Member::create(alloc, &first, b"g", &[2; 32])?)
 }
 
 /// The Welcome of a commit that adds somebody.
@@ -63,7 +63,7 @@ fn two_additions(alloc: Global, candidates: &[Box<Candidate<Glass>>; 2]) -> Resu
 }
 
 /// A member's commit of a list, which it follows.
-fn commit_followed(member: &mut Member<Glass>, items: &[Item]) -> Result<Made>
+fn commit_and_follow(member: &mut Member<Glass>, items: &[Item]) -> Result<Made>
     requires { AreShortItems items.now }
 {
     let made = member.commit(items, true, &[4; 32])?;
@@ -72,33 +72,33 @@ fn commit_followed(member: &mut Member<Glass>, items: &[Item]) -> Result<Made>
 }
 
 /// The Welcome of the commit by which a member adds two candidates.
-fn added(
+fn add_two(
     alloc: Global,
     member: &mut Member<Glass>,
     candidates: &[Box<Candidate<Glass>>; 2],
 ) -> Result<Vec<u8>> {
     let items = two_additions(alloc, candidates)?;
-    welcome_of(commit_followed(member, &items)?)
+    welcome_of(commit_and_follow(member, &items)?)
 }
 
 /// The member that a candidate becomes by a Welcome.
-fn joined(
+fn join_group(
     alloc: Global,
     candidate: &Candidate<Glass>,
     welcome: &[u8],
 ) -> Result<Box<Member<Glass>>> {
     let Joined { member, .. } = Member::join(alloc, candidate, welcome)?;
-    boxed(alloc, member)
+    box_member(alloc, member)
 }
 
 impl Trio {
     /// "a" adds "b" and "c", who join.
     pub(crate) fn new(alloc: Global) -> Result<Trio> {
-        let mut first = alone(alloc)?;
+        let mut first = create_group(alloc)?;
         let candidates = [candidate(alloc, b'b', 3)?, candidate(alloc, b'c', 5)?];
-        let welcome = added(alloc, &mut first, &candidates)?;
-        let second = joined(alloc, &candidates[0], &welcome)?;
-        let third = joined(alloc, &candidates[1], &welcome)?;
+        let welcome = add_two(alloc, &mut first, &candidates)?;
+        let second = join_group(alloc, &candidates[0], &welcome)?;
+        let third = join_group(alloc, &candidates[1], &welcome)?;
         Ok(Trio {
             first,
             second,
@@ -108,7 +108,7 @@ impl Trio {
 }
 
 /// The reference under which a member keeps a proposal from now on.
-fn kept_under(member: &mut Member<Glass>, message: &[u8]) -> Result<Secret> {
+fn keep_proposal(member: &mut Member<Glass>, message: &[u8]) -> Result<Secret> {
     match member.process(message)? {
         Effect::Proposed { reference } => Ok(reference),
         _ => bail!("the proposal isn't kept"),
@@ -128,7 +128,7 @@ impl Updated {
     pub(crate) fn new(alloc: Global) -> Result<Updated> {
         let mut group = Trio::new(alloc)?;
         let update = group.second.propose_update(&[6; 32])?;
-        let reference = kept_under(&mut group.third, &update)?;
+        let reference = keep_proposal(&mut group.third, &update)?;
         Ok(Updated {
             group,
             update,
@@ -138,7 +138,7 @@ impl Updated {
 }
 
 /// The list of a commit that names one proposal.
-pub(crate) fn named(alloc: Global, reference: &Secret) -> Result<Vec<Item>>
+pub(crate) fn items_naming(alloc: Global, reference: &Secret) -> Result<Vec<Item>>
     ensures { IfOk result (λ items. AreShortItems items.items) }
 {
     let mut items = Vec::new(alloc);
@@ -154,7 +154,7 @@ fn commit_of(
     reference: &Secret,
 ) -> Result<Vec<u8>> {
     member.process(message)?;
-    let items = named(alloc, reference)?;
+    let items = items_naming(alloc, reference)?;
     let made = member.commit(&items, true, &[7; 32])?;
     Ok(made.commit)
 }
@@ -190,7 +190,7 @@ pub(crate) fn reference_of(alloc: Global, call: &Call) -> Result<Secret>
 {
     let mut group = Trio::new(alloc)?;
     match answer_of(&mut group.second, call)? {
-        Answer::Message(message) => kept_under(&mut group.first, &message),
+        Answer::Message(message) => keep_proposal(&mut group.first, &message),
         _ => bail!("no proposal"),
     }
 }

@@ -4,7 +4,7 @@ ghost use Rattle.mls_growths.specs.Calls.{IsShortCall};
 
 use crate::call::Call;
 use crate::group::{
-    Committed, Trio, Updated, additions, alone, candidate, named, reference_of, welcome_of,
+    Committed, Trio, Updated, additions, create_group, candidate, items_naming, reference_of, welcome_of,
 };
 use crate::trial::{try_call, try_join};
 use crate::worlds::try_run;
@@ -99,7 +99,7 @@ impl Scenario {
 }
 
 fn commit_add(rt: &impl Print, alloc: Global) -> Result<()> {
-    let mut member = alone(alloc)?;
+    let mut member = create_group(alloc)?;
     let added = candidate(alloc, b'b', 3)?;
     let call = Call::Commit(additions(alloc, &added)?, [4; 32]);
     try_call(rt, alloc, &mut member, call, &[])
@@ -112,7 +112,7 @@ fn commit_update(rt: &impl Print, alloc: Global) -> Result<()> {
         reference,
     } = Updated::new(alloc)?;
     group.first.process(&update)?;
-    let call = Call::Commit(named(alloc, &reference)?, [7; 32]);
+    let call = Call::Commit(items_naming(alloc, &reference)?, [7; 32]);
     try_call(rt, alloc, &mut group.first, call, &reference)
 }
 
@@ -183,7 +183,7 @@ fn propose(rt: &impl Print, alloc: Global, call: Call, reference: &Secret) -> Re
 }
 
 fn join(rt: &impl Print, alloc: Global) -> Result<()> {
-    let mut member = alone(alloc)?;
+    let mut member = create_group(alloc)?;
     let added = candidate(alloc, b'b', 3)?;
     let made = member.commit(&additions(alloc, &added)?, true, &[4; 32])?;
     try_join(rt, alloc, &added, &welcome_of(made)?)

@@ -6,7 +6,7 @@ use anyhow::{Result, bail};
 use std::alloc::{AllocError, Global};
 
 /// A message with some bits of one byte turned.
-pub fn turned(
+pub fn turn_bits(
     alloc: Global,
     message: &[u8],
     place: usize,
@@ -20,7 +20,7 @@ pub fn turned(
 }
 
 /// A message with a zero behind it.
-fn lengthened(alloc: Global, message: &[u8]) -> Result<Vec<u8>, AllocError> {
+fn append_zero(alloc: Global, message: &[u8]) -> Result<Vec<u8>, AllocError> {
     let mut bytes = Vec::from_slice(alloc, message)?;
     bytes.push(0)?;
     Ok(bytes)
@@ -30,7 +30,7 @@ fn lengthened(alloc: Global, message: &[u8]) -> Result<Vec<u8>, AllocError> {
 pub fn lowest_bits(alloc: Global, trial: &mut Trial<'_>, message: &[u8]) -> Result<Runs> {
     let mut runs = Runs::new(alloc);
     for place in 0..message.len() {
-        let bytes = turned(alloc, message, place, 1)?;
+        let bytes = turn_bits(alloc, message, place, 1)?;
         runs.add(place, trial.give(alloc, &bytes)?)?;
     }
     Ok(runs)
@@ -42,7 +42,7 @@ pub fn lengths(alloc: Global, trial: &mut Trial<'_>, message: &[u8]) -> Result<R
     for length in 0..message.len() {
         runs.add(length, trial.give(alloc, &message[..length])?)?;
     }
-    let longer = lengthened(alloc, message)?;
+    let longer = append_zero(alloc, message)?;
     runs.add(longer.len(), trial.give(alloc, &longer)?)?;
     Ok(runs)
 }
@@ -51,7 +51,7 @@ pub fn lengths(alloc: Global, trial: &mut Trial<'_>, message: &[u8]) -> Result<R
 fn all_bits(alloc: Global, trial: &mut Trial<'_>, message: &[u8], tally: &mut Tally) -> Result<()> {
     for place in 0..message.len() {
         for bits in [1, 2, 4, 8, 16, 32, 64, 128] {
-            let bytes = turned(alloc, message, place, bits)?;
+            let bytes = turn_bits(alloc, message, place, bits)?;
             tally.add_at(place, trial.give(alloc, &bytes)?)?;
         }
     }
@@ -68,7 +68,7 @@ fn all_lengths(
     for length in 0..message.len() {
         tally.add(trial.give(alloc, &message[..length])?);
     }
-    let longer = lengthened(alloc, message)?;
+    let longer = append_zero(alloc, message)?;
     tally.add(trial.give(alloc, &longer)?);
     Ok(())
 }

@@ -1,11 +1,11 @@
 //! Single messages that no honest member sends, or that are sent to the wrong one.
 
 use crate::acts::{Act, Parts, additions};
-use crate::changes::turned;
+use crate::changes::turn_bits;
 use crate::forgery::{Committed, path_secret};
 use crate::groups;
 use crate::outcome::Outcome;
-use crate::pieces::{joined, limited, replaced, without};
+use crate::pieces::{joined, check_limit, replace_text, without_last};
 use crate::stage::{Receiver, Stage};
 use anyhow::{Result, bail};
 use mls_kdf::{Secret, Seed, hash};
@@ -29,7 +29,7 @@ pub struct ForgedAnswers {
 }
 
 /// The stage of three after the acts that make them members, and after these ones.
-fn three_and(alloc: Global, more: &[Act]) -> Result<Box<Stage>> {
+fn three_with(alloc: Global, more: &[Act]) -> Result<Box<Stage>> {
     let mut acts = groups::three(alloc)?;
     acts.extend_from_slice(more)?;
     Stage::after(alloc, &acts, acts.len())
@@ -54,7 +54,7 @@ fn three_committed(alloc: Global) -> Result<Box<Stage>> {
         member: 0,
         message: 5,
     };
-    three_and(alloc, &[commit, deliver])
+    three_with(alloc, &[commit, deliver])
 }
 
 /// The public key of a member's leaf.
@@ -67,7 +67,7 @@ fn leaf_key(stage: &Stage, member: usize) -> Result<&[u8]> {
 }
 
 /// The commit of the first of three, and what it knew.
-fn made<'a>(before: &'a Stage, after: &'a Stage, seed: &'a Seed) -> Result<Committed<'a>> {
+fn commit_of_first<'a>(before: &'a Stage, after: &'a Stage, seed: &'a Seed) -> Result<Committed<'a>> {
     Ok(Committed {
         before: before.member(0)?,
         after: after.member(0)?,
@@ -81,7 +81,7 @@ fn made<'a>(before: &'a Stage, after: &'a Stage, seed: &'a Seed) -> Result<Commi
 /// That commit with a secret sealed to the second member in the place of the right one.
 fn with_secret(alloc: Global, before: &Stage, after: &Stage, secret: &Secret) -> Result<Vec<u8>> {
     let key = leaf_key(before, 1)?;
-    made(before, after, &SEED)?.with_secret(alloc, key, secret)
+    commit_of_first(before, after, &SEED)?.with_secret(alloc, key, secret)
 }
 
 /// What a member answers to bytes, and whether all that can be seen of it is as before.
@@ -105,7 +105,7 @@ fn is_made_alike(alloc: Global, before: &Stage, after: &Stage) -> Result<bool> {
 
 /// The commit of the first of three, which seals zeros to the second, and whether with the right secret it is the one that
 /// the committer makes.
-fn with_zeros(alloc: Global, before: &Stage) -> Result<(Vec<u8>, bool)> {
+fn commit_with_zeros(alloc: Global, before: &Stage) -> Result<(Vec<u8>, bool)> {
     let after = three_committed(alloc)?;
     let is_alike = is_made_alike(alloc, before, &after)?;
     let zeros = with_secret(alloc, before, &after, &[0; 32])?;
@@ -113,9 +113,9 @@ fn with_zeros(alloc: Global, before: &Stage) -> Result<(Vec<u8>, bool)> {
 }
 
 /// The first of three commits nothing, but seals zeros to the second.
-pub fn forged(alloc: Global) -> Result<ForgedAnswers> {
-    let mut stage = three_and(alloc, &[])?;
-    let (zeros, is_made_alike) = with_zeros(alloc, &stage)?;
+pub fn forged_answers(alloc: Global) -> Result<ForgedAnswers> {
+    let mut stage = three_with(alloc, &[])?;
+    let (zeros, is_made_alike) = commit_with_zeros(alloc, &stage)?;
     let (second, is_same) = answered(alloc, &mut stage, Receiver::Member(1), &zeros)?;
     let third = stage.give(alloc, Receiver::Member(2), &zeros)?;
     Ok(ForgedAnswers {
@@ -163,9 +163,9 @@ fn begins_with(alloc: Global, stage: &mut Stage, welcome: &[u8], info: &[u8]) ->
     }
 }
 
-fn welcomed_by(alloc: Global, stage: &mut Stage) -> Result<WelcomeAnswers> {
+fn welcome_answers_of(alloc: Global, stage: &mut Stage) -> Result<WelcomeAnswers> {
     let welcome = stage.message(4)?;
-    let changed = turned(alloc, welcome, IN_SECOND, 1)?;
+    let changed = turn_bits(alloc, welcome, IN_SECOND, 1)?;
     let info = info_in(alloc, stage.candidate(1)?, welcome)?;
     let first = stage.give(alloc, Receiver::Candidate(1), &changed)?;
     let second = stage.give(alloc, Receiver::Candidate(2), &changed)?;
@@ -178,9 +178,9 @@ fn welcomed_by(alloc: Global, stage: &mut Stage) -> Result<WelcomeAnswers> {
 }
 
 /// Two are added, and their Welcome is changed on its way to the first.
-pub fn welcomed(alloc: Global) -> Result<WelcomeAnswers> {
+pub fn welcome_answers(alloc: Global) -> Result<WelcomeAnswers> {
     let mut stage = three_after(alloc, 6)?;
-    welcomed_by(alloc, &mut stage)
+    welcome_answers_of(alloc, &mut stage)
 }
 
 /// A candidate of group "h", the fourth, who creates it.
@@ -204,8 +204,8 @@ fn create_elsewhere(alloc: Global, stage: &mut Stage) -> Result<()> {
 }
 
 /// What a member of another group answers to a message of group "g", and whether it is as before.
-pub fn elsewhere(alloc: Global) -> Result<(Outcome, bool)> {
-    let mut stage = three_and(alloc, &[Act::Update { member: 1, seed: 6 }])?;
+pub fn answer_elsewhere(alloc: Global) -> Result<(Outcome, bool)> {
+    let mut stage = three_with(alloc, &[Act::Update { member: 1, seed: 6 }])?;
     create_elsewhere(alloc, &mut stage)?;
     let update = Vec::from_slice(alloc, stage.message(5)?)?;
     answered(alloc, &mut stage, Receiver::Member(3), &update)
@@ -220,8 +220,8 @@ const SIGNATURE: usize = 32;
 /// The bytes of a leaf for another suite, signed by its candidate.
 fn incapable_leaf(alloc: Global, candidate: &Candidate<Glass>) -> Result<Vec<u8>> {
     let own = candidate.leaf_node().encode(alloc)?;
-    let leaf = turned(alloc, &own, SUITE, 2)?;
-    let content = limited(without(&leaf, SIGNATURE + 1))?;
+    let leaf = turn_bits(alloc, &own, SUITE, 2)?;
+    let content = check_limit(without_last(&leaf, SIGNATURE + 1))?;
     let signing = candidate.signing_key();
     let signature = sign_with_label::<Glass>(alloc, signing, "LeafNodeTBS", content)?;
     joined(alloc, &[content, &[32], &signature])
@@ -230,17 +230,17 @@ fn incapable_leaf(alloc: Global, candidate: &Candidate<Glass>) -> Result<Vec<u8>
 /// The bytes of a leaf with a signature that isn't its own.
 fn unsigned_leaf(alloc: Global, candidate: &Candidate<Glass>) -> Result<Vec<u8>> {
     let own = candidate.leaf_node().encode(alloc)?;
-    joined(alloc, &[without(&own, SIGNATURE), &[0; SIGNATURE]])
+    joined(alloc, &[without_last(&own, SIGNATURE), &[0; SIGNATURE]])
 }
 
 /// The proposal to add a candidate with another leaf.
 fn addition(alloc: Global, candidate: &Candidate<Glass>, leaf: &[u8]) -> Result<WorldItem> {
     let own = candidate.leaf_node().encode(alloc)?;
-    let message = replaced(alloc, candidate.message(), &own, leaf)?;
+    let message = replace_text(alloc, candidate.message(), &own, leaf)?;
     Ok(WorldItem::Add(Source::Given(message)))
 }
 
-fn committed(world: &mut World<Glass>, items: &[WorldItem]) -> u8 {
+fn commit_number(world: &mut World<Glass>, items: &[WorldItem]) -> u8 {
     match world.commit(0, items, true, &[9; 32]) {
         Ok(_) => 0,
         Err(error) => error.number(),
@@ -264,7 +264,7 @@ fn wrong_items(alloc: Global, stage: &Stage, in_order: bool) -> Result<Vec<World
 pub fn wrong_adds(alloc: Global, in_order: bool) -> Result<u8> {
     let mut stage = three_after(alloc, 4)?;
     let items = wrong_items(alloc, &stage, in_order)?;
-    Ok(committed(stage.world_mut(), &items))
+    Ok(commit_number(stage.world_mut(), &items))
 }
 
 /// The members that a tree of 4,096 leaves holds besides the first.
@@ -309,11 +309,11 @@ fn fill(alloc: Global, stage: &mut Stage) -> Result<()> {
 }
 
 /// How many members a full tree has, and what the commit is answered that would add one more.
-pub fn full(alloc: Global) -> Result<(u32, u8)> {
+pub fn try_full_tree(alloc: Global) -> Result<(u32, u8)> {
     let mut stage = three_after(alloc, 2)?;
     fill(alloc, &mut stage)?;
     let items = additions(alloc, OTHERS + 1, 1)?;
-    let number = committed(stage.world_mut(), &items);
+    let number = commit_number(stage.world_mut(), &items);
     let members = stage.member(0)?.group().tree().member_count();
     Ok((members, number))
 }

@@ -2,7 +2,7 @@
 
 ghost use Rattle.std.specs.Prelude.{◌<◌, ◌^◌, length, IfOk};
 
-use crate::pieces::{joined, last, limited, place_of, with_text, without};
+use crate::pieces::{joined, last_bytes, check_limit, place_of, with_text, without_last};
 use anyhow::{Result, bail};
 use mls_kdf::{Secret, Seed, derive_secret, expand_with_label};
 use mls_schedule::Epoch;
@@ -49,39 +49,39 @@ impl<'a> Committed<'a> {
     fn provisional_context(&self, alloc: Global) -> Result<Vec<u8>>
         ensures { IfOk result (λ v. length v.items < 2 ^ 30) }
     {
-        let front = without(self.after.context_bytes(), HASH);
-        let hash = last(self.before.context_bytes(), HASH);
+        let front = without_last(self.after.context_bytes(), HASH);
+        let hash = last_bytes(self.before.context_bytes(), HASH);
         joined(alloc, &[front, hash])
     }
 
     /// The content that was made.
-    fn made_content(&self) -> &'a [u8] {
+    fn original_content(&self) -> &'a [u8] {
         let message = self.message;
-        let content = without(message, BEHIND);
-        last(content, content.len().saturating_sub(FRONT.len()))
+        let content = without_last(message, BEHIND);
+        last_bytes(content, content.len().saturating_sub(FRONT.len()))
     }
 
     /// A secret sealed to a public key, as the first of the path is.
-    fn sealed(&self, alloc: Global, public_key: &[u8], secret: &Secret) -> Result<Sealed> {
+    fn sealed_secret(&self, alloc: Global, public_key: &[u8], secret: &Secret) -> Result<Sealed> {
         let seed = self.seed;
         let mut random = [0; 32];
         expand_with_label(seed, "seed seal", &[0; 4], &mut random)?;
         let context = self.provisional_context(alloc)?;
         let label = "UpdatePathNode";
         match encrypt_with_label::<Glass>(alloc, public_key, label, &context, secret, &random)? {
-            Some(sealed) => Ok(sealed),
+            Some(sealed_secret) => Ok(sealed_secret),
             None => bail!("no key to seal to"),
         }
     }
 
     /// The content, with a secret in the place of the first that is sealed, to a public key.
     fn content(&self, alloc: Global, public_key: &[u8], secret: &Secret) -> Result<Vec<u8>> {
-        let content = self.made_content();
-        let sealed = self.sealed(alloc, public_key, secret)?;
-        let place = place_of(content, &sealed.kem)?;
+        let content = self.original_content();
+        let sealed_secret = self.sealed_secret(alloc, public_key, secret)?;
+        let place = place_of(content, &sealed_secret.kem)?;
         // The header of the ciphertext has two bytes.
-        let place = place.saturating_add(sealed.kem.len()).saturating_add(2);
-        with_text(alloc, content, place, &sealed.ct)
+        let place = place.saturating_add(sealed_secret.kem.len()).saturating_add(2);
+        with_text(alloc, content, place, &sealed_secret.ct)
     }
 
     fn signature(&self, alloc: Global, content: &[u8]) -> Result<Vec<u8>> {
@@ -91,7 +91,7 @@ impl<'a> Committed<'a> {
 
     /// The confirmation tag of the epoch that the commit would begin.
     fn confirmation_tag(&self, alloc: Global, confirmed: &Secret) -> Result<Secret> {
-        let front = without(self.after.context_bytes(), HASH);
+        let front = without_last(self.after.context_bytes(), HASH);
         let context = joined(alloc, &[front, &[32], confirmed, &[0]])?;
         let init = self.before.epoch().init_secret();
         let commit_secret = path_secret(self.seed, self.nodes);
@@ -109,7 +109,7 @@ impl<'a> Committed<'a> {
         let content = self.content(alloc, public_key, secret)?;
         let signature = self.signature(alloc, &content)?;
         let transcript = self.before.group().transcript();
-        let confirmed = transcript.confirm(1, &content, limited(&signature)?);
+        let confirmed = transcript.confirm(1, &content, check_limit(&signature)?);
         let tag = self.confirmation_tag(alloc, &confirmed)?;
         let auth = joined(alloc, &[&[32], &signature, &[32], &tag])?;
         let context = self.before.context_bytes();

@@ -3,7 +3,7 @@
 use crate::acts::{Act, Parts};
 use std::alloc::{AllocError, Global};
 
-fn named(name: u8, seed: u8) -> Act {
+fn candidate_named(name: u8, seed: u8) -> Act {
     Act::Candidate { name, seed }
 }
 
@@ -28,17 +28,17 @@ fn join(candidate: usize, message: usize) -> Act {
     Act::Join { candidate, message }
 }
 
-fn added(first: usize, count: usize) -> Parts {
+fn additions_from(first: usize, count: usize) -> Parts {
     Parts::Added { first, count }
 }
 
 /// One member adds another in full, with a path: message 2 is the commit, 3 the Welcome.
 pub fn pair(alloc: Global) -> Result<Vec<Act>, AllocError> {
     Ok(vec![in alloc;
-        named(b'a', 1),
+        candidate_named(b'a', 1),
         create(2),
-        named(b'b', 3),
-        commit(0, added(1, 1), true, 4),
+        candidate_named(b'b', 3),
+        commit(0, additions_from(1, 1), true, 4),
         deliver(0, 2),
         join(1, 3),
     ]?)
@@ -47,11 +47,11 @@ pub fn pair(alloc: Global) -> Result<Vec<Act>, AllocError> {
 /// One member adds two in full, with a path: message 3 is the commit, 4 the Welcome.
 pub fn three(alloc: Global) -> Result<Vec<Act>, AllocError> {
     Ok(vec![in alloc;
-        named(b'a', 1),
+        candidate_named(b'a', 1),
         create(2),
-        named(b'b', 3),
-        named(b'c', 4),
-        commit(0, added(1, 2), true, 5),
+        candidate_named(b'b', 3),
+        candidate_named(b'c', 4),
+        commit(0, additions_from(1, 2), true, 5),
         deliver(0, 3),
         join(1, 4),
         join(2, 4),
@@ -90,16 +90,16 @@ pub fn removal(alloc: Global) -> Result<Vec<Act>, AllocError> {
 }
 
 /// One member adds four without a path (commit 6, Welcome 7) and removes the fourth member (8).
-fn four_added(alloc: Global) -> Result<Vec<Act>, AllocError> {
+fn add_four_and_remove(alloc: Global) -> Result<Vec<Act>, AllocError> {
     Ok(vec![in alloc;
-        named(b'a', 1),
+        candidate_named(b'a', 1),
         create(2),
-        named(b'b', 3),
-        named(b'c', 4),
-        named(b'd', 5),
-        named(b'e', 6),
-        named(b'f', 7),
-        commit(0, added(1, 4), false, 8),
+        candidate_named(b'b', 3),
+        candidate_named(b'c', 4),
+        candidate_named(b'd', 5),
+        candidate_named(b'e', 6),
+        candidate_named(b'f', 7),
+        commit(0, additions_from(1, 4), false, 8),
         deliver(0, 6),
         join(1, 7),
         join(2, 7),
@@ -116,9 +116,9 @@ fn four_added(alloc: Global) -> Result<Vec<Act>, AllocError> {
 
 /// Then the second member adds a sixth without a path (commit 9, Welcome 10), and the fifth commits nothing (11).
 pub fn four_adds(alloc: Global) -> Result<Vec<Act>, AllocError> {
-    let mut acts = four_added(alloc)?;
+    let mut acts = add_four_and_remove(alloc)?;
     acts.extend_from_slice(&[
-        commit(1, added(5, 1), false, 10),
+        commit(1, additions_from(5, 1), false, 10),
         deliver(0, 9),
         deliver(1, 9),
         deliver(2, 9),

@@ -8,17 +8,17 @@ mod changes;
 mod checks;
 mod forgery;
 mod groups;
-mod large;
+mod large_portion;
 mod outcome;
 mod page;
-mod part;
+mod fixed_portion;
 mod pieces;
 mod recordings;
 mod shape;
 mod stage;
 mod states;
 mod trial;
-mod whole;
+mod whole_portion;
 
 use anyhow::{Result, bail};
 
@@ -36,7 +36,7 @@ enum Portion {
 }
 
 /// The portion that the first word asks for.
-fn wanted(rt: &HostRuntime) -> Result<Portion> {
+fn portion_from_words(rt: &HostRuntime) -> Result<Portion> {
     let words: Vec<String> = std::env::args(rt)?.collect(rt.alloc())?;
     let Some(word) = words.get(1) else {
         return Ok(Portion::Fixed);
@@ -51,14 +51,14 @@ fn wanted(rt: &HostRuntime) -> Result<Portion> {
 
 fn main(rt: HostRuntime) -> Result<()> {
     let alloc = rt.alloc();
-    match wanted(&rt)? {
+    match portion_from_words(&rt)? {
         Portion::Fixed => {
-            part::run(&rt, alloc)?;
-            large::run(&rt, alloc)?;
+            fixed_portion::run(&rt, alloc)?;
+            large_portion::run(&rt, alloc)?;
             recordings::run(&rt)
         }
-        Portion::Large => large::run(&rt, alloc),
+        Portion::Large => large_portion::run(&rt, alloc),
         Portion::Recordings => recordings::run(&rt),
-        Portion::Whole => whole::run(&rt, alloc),
+        Portion::Whole => whole_portion::run(&rt, alloc),
     }
 }

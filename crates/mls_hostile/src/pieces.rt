@@ -7,7 +7,7 @@ use mls_leaf::INPUT_LIMIT;
 use std::alloc::Global;
 
 /// The bytes, where they are no more than a message may have.
-pub fn limited(bytes: &[u8]) -> Result<&[u8]>
+pub fn check_limit(bytes: &[u8]) -> Result<&[u8]>
     ensures same { IfOk result (λ v. v.now ≡ bytes.now) }
     ensures short { IfOk result (λ v. length v.now < 2 ^ 30) }
 {
@@ -25,20 +25,20 @@ pub fn joined(alloc: Global, pieces: &[&[u8]]) -> Result<Vec<u8>>
     for piece in pieces {
         bytes.extend_from_slice(piece)?;
     }
-    limited(&bytes)?;
+    check_limit(&bytes)?;
     Ok(bytes)
 }
 
 /// The bytes but for the last ones.
-pub fn without(bytes: &[u8], behind: usize) -> &[u8] {
+pub fn without_last(bytes: &[u8], behind: usize) -> &[u8] {
     let (front, _) = bytes.split_at(bytes.len().saturating_sub(behind));
     front
 }
 
 /// The last bytes.
-pub fn last(bytes: &[u8], count: usize) -> &[u8] {
-    let (_, last) = bytes.split_at(bytes.len().saturating_sub(count));
-    last
+pub fn last_bytes(bytes: &[u8], count: usize) -> &[u8] {
+    let (_, last_bytes) = bytes.split_at(bytes.len().saturating_sub(count));
+    last_bytes
 }
 
 /// Where a text begins in a longer one.
@@ -64,9 +64,9 @@ pub fn with_text(alloc: Global, bytes: &[u8], place: usize, text: &[u8]) -> Resu
 }
 
 /// The bytes with a text in the place of another, where that stands first.
-pub fn replaced(alloc: Global, bytes: &[u8], old: &[u8], new: &[u8]) -> Result<Vec<u8>> {
+pub fn replace_text(alloc: Global, bytes: &[u8], old: &[u8], new: &[u8]) -> Result<Vec<u8>> {
     let place = place_of(bytes, old)?;
     let rest = bytes.len().saturating_sub(place).saturating_sub(old.len());
-    let front = without(bytes, bytes.len().saturating_sub(place));
-    joined(alloc, &[front, new, last(bytes, rest)])
+    let front = without_last(bytes, bytes.len().saturating_sub(place));
+    joined(alloc, &[front, new, last_bytes(bytes, rest)])
 }

@@ -12,7 +12,7 @@ const NAMES: [&str; 9] = [
 ];
 
 /// What a recording prints, and its status.
-fn printed(alloc: Global, recording: &[u8]) -> Result<(u8, Vec<u8>)> {
+fn replay_recording(alloc: Global, recording: &[u8]) -> Result<(u8, Vec<u8>)> {
     let mut page = Vec::new(alloc);
     match replay::<Glass, Vec<u8>>(alloc, recording, &mut page) {
         Ok(status) => Ok((status, page)),
@@ -41,7 +41,7 @@ fn file(rt: &HostRuntime, name: &str, ending: &str) -> Result<Vec<u8>> {
 fn print_one(rt: &HostRuntime, name: &str) -> Result<()> {
     let recording = file(rt, name, "json")?;
     let due = file(rt, name, "out")?;
-    let (status, page) = printed(rt.alloc(), recording.as_slice())?;
+    let (status, page) = replay_recording(rt.alloc(), recording.as_slice())?;
     let count = lines(page.as_slice());
     let is_due = page == due;
     println!(rt; "  {name}: status {status}, {count} lines, as computed {is_due}")?;

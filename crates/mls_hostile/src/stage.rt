@@ -92,7 +92,7 @@ impl Stage {
     }
 
     /// What an event is answered, which isn't refused.
-    fn answered(&mut self, reply: Reply) -> Result<()> {
+    fn event_answer(&mut self, reply: Reply) -> Result<()> {
         match reply {
             Reply::Refused { number } => bail!("an event was refused: {number}"),
             Reply::Delivered {
@@ -108,7 +108,7 @@ impl Stage {
             self.enter(alloc, identity, seed)?;
         }
         let reply = self.world.step(event)?;
-        self.answered(reply)
+        self.event_answer(reply)
     }
 
     /// What a delivery or a join is answered.
@@ -129,9 +129,9 @@ impl Stage {
             _ => {}
         }
         let event = event_of(alloc, act)?;
-        let answered = self.event(alloc, &event);
+        let event_answer = self.event(alloc, &event);
         drop(event);
-        answered
+        event_answer
     }
 
     /// Acts, none of which is refused.
@@ -202,7 +202,7 @@ impl Stage {
         Ok(receivers)
     }
 
-    fn delivered(&mut self, alloc: Global, member: usize, bytes: &[u8]) -> Result<Outcome> {
+    fn deliver_bytes(&mut self, alloc: Global, member: usize, bytes: &[u8]) -> Result<Outcome> {
         let source = Source::Given(Vec::from_slice(alloc, bytes)?);
         match self.world.deliver(member, &source) {
             Ok(effect) => Ok(Outcome::of(effect)),
@@ -225,7 +225,7 @@ impl Stage {
     /// Gives bytes to a member, or to a candidate, which stays one.
     pub fn give(&mut self, alloc: Global, to: Receiver, bytes: &[u8]) -> Result<Outcome> {
         match to {
-            Receiver::Member(k) => self.delivered(alloc, k, bytes),
+            Receiver::Member(k) => self.deliver_bytes(alloc, k, bytes),
             Receiver::Candidate(n) => self.joined(alloc, n, bytes),
         }
     }

@@ -25,16 +25,16 @@ impl<'a> Trial<'a> {
     }
 
     /// All that can be seen now.
-    fn seen(&self, alloc: Global) -> Result<Vec<u8>> {
+    fn current_page(&self, alloc: Global) -> Result<Vec<u8>> {
         self.stage
             .page(alloc, self.state.of, &self.group.references)
     }
 
     /// Gives bytes: after a refusal all is as it was seen before.
-    fn given(&mut self, alloc: Global, bytes: &[u8], before: &[u8]) -> Result<Outcome> {
+    fn give_checked(&mut self, alloc: Global, bytes: &[u8], before: &[u8]) -> Result<Outcome> {
         let outcome = self.stage.give(alloc, self.state.of, bytes)?;
         if outcome.is_refused() {
-            let after = self.seen(alloc)?;
+            let after = self.current_page(alloc)?;
             if after.as_slice() != before {
                 bail!("something changed");
             }
@@ -45,13 +45,13 @@ impl<'a> Trial<'a> {
     /// Gives bytes, before any were taken.
     pub fn give(&mut self, alloc: Global, bytes: &[u8]) -> Result<Outcome> {
         let state = self.state;
-        self.given(alloc, bytes, &state.page)
+        self.give_checked(alloc, bytes, &state.page)
     }
 
     /// Gives bytes once more, whatever the first time did.
     pub fn give_again(&mut self, alloc: Global, bytes: &[u8]) -> Result<Outcome> {
-        let before = self.seen(alloc)?;
-        self.given(alloc, bytes, &before)
+        let before = self.current_page(alloc)?;
+        self.give_checked(alloc, bytes, &before)
     }
 
     /// Whether it is a member's.

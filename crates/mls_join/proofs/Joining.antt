@@ -10,11 +10,11 @@ use Rattle.mls_treekem_model.specs.Join.{take_answer, has_due}
 use Rattle.mls_treekem_model.specs.Keys.{Keys, PrivateKeys, all_keys}
 use Rattle.mls_treekem_model.specs.Make.{Climb, climb_to}
 use Rattle.mls_model.specs.Candidate.{Candidate}
-use Rattle.mls_model.specs.Opening.{Opened}
+use Rattle.mls_model.specs.OpenedWelcome.{Opened}
 use Rattle.mls_model.specs.Join.{joined_tree, signer_checks, place_of, joined_keys, member_of}
 use Rattle.mls_model.specs.Member.{with_keys}
 use Rattle.mls_model.proofs.KeyLaws.{with_all_keys}
-use Rattle.mls_join.specs.Stages.{entered}
+use Rattle.mls_join.specs.Stages.{enter_group}
 
 abbrev keys_of : ℕ → List ℕ → Keys → PrivateKeys
 keys_of leaf own above = record { leaf = leaf; own = own; above = above }
@@ -63,8 +63,8 @@ placed (Some x) place e = let same : x.0 ≡ place = cc in (x.1, ap (λ (n : ℕ
 -- its stages, one after the other
 pub member_is : (c : Crypto) (k : Candidate) (o : Opened) (t : Term) (place : ℕ) (keys : PrivateKeys)
     → joined_tree c o.info ≡ Ok t → signer_checks c k o.info t ≡ Ok passed → option_map (λ x. x.0) (place_of k.offered.leaf_node t) ≡ Some place
-    → joined_keys c t o.info.signer (alone_at place k.leaf) o.path_secret ≡ Ok keys → member_of c k o ≡ entered k o t keys
-unfolding member_of entered
+    → joined_keys c t o.info.signer (alone_at place k.leaf) o.path_secret ≡ Ok keys → member_of c k o ≡ enter_group k o t keys
+unfolding member_of enter_group
 member_is c k o t place keys tree signer at joined =
     let p = placed (place_of k.offered.leaf_node t) place at in
     rw (tree, signer, p.1, joined) refl

@@ -16,7 +16,7 @@ use Rattle.mls_treemath.specs.Paths.{nodes_in}
 use Rattle.mls_tree_model.specs.Term.{Term, leaf_at, leaf_of, width}
 use Rattle.mls_tree_model.specs.Arrays.{leaf_in, term_of, padded, height_for, sent_term, from_nodes}
 use Rattle.mls_tree.specs.Tree.{max_leaves}
-use Rattle.mls_tree.specs.Short.{HasShortLeaves}
+use Rattle.mls_tree.specs.ShortLeaves.{HasShortLeaves}
 use Rattle.mls_tree.proofs.Cells.{Cells, of_front, of_back, of_padded}
 use Rattle.mls_tree.proofs.SentLemmas.{sent_is}
 use Rattle.mls_public_group.specs.Short.{IsBelow, HasLeavesBelow}

@@ -3,7 +3,7 @@ use Rattle.std.proofs.Common.{◌≡◌, ℕ, suc, ◌<◌, ◌==◌, Bool, true
 use Rattle.std.specs.Prelude.{nat_lt, ◌^◌}
 use Rattle.std.specs.List.{list_all}
 use Rattle.std.proofs.lemmas.Bool.{eq-eqb}
-use Rattle.mls_wire.specs.Checks.{Passed, passed, given, require, ◌>>◌}
+use Rattle.mls_wire.specs.Checks.{Passed, passed, require_some, require, ◌>>◌}
 use Rattle.mls_wire.specs.Reading.{◌>>=◌}
 use Rattle.mls_wire.specs.Format.{IsBytes}
 use Rattle.mls_leaf.specs.Faults.{whole}
@@ -20,18 +20,18 @@ use Rattle.mls_view.specs.Views.{LendsAll}
 use Rattle.mls_view.specs.Shown.{Shows}
 use Rattle.mls_suite.specs.Crypto.{Crypto}
 use Rattle.mls_model.specs.Candidate.{Candidate}
-use Rattle.mls_model.specs.Messages.{decoded, are_bytes}
-use Rattle.mls_model.specs.Opening.{Opened, opened_welcome, welcome_in}
+use Rattle.mls_model.specs.Messages.{decode_message, are_bytes}
+use Rattle.mls_model.specs.OpenedWelcome.{Opened, opened_welcome, welcome_in}
 use Rattle.mls_join.specs.Entrance.{outer_checks}
-use Rattle.mls_join.specs.Stages.{read_welcome, suited_welcome, opened_in, opened_with, IsShownIn}
+use Rattle.mls_join.specs.Stages.{read_welcome, read_welcome_of_suite, open_for_candidate, open_group_info, IsShownIn}
 
 -- a fault of decoding
 pub fault_read : (bytes : List ℕ) (n : ℕ) → whole mls_message input_limit bytes ≡ Err n → read_welcome bytes ≡ Err n
-unfolding read_welcome decoded
+unfolding read_welcome decode_message
 fault_read bytes n e = rw e refl
 
-message_read : (bytes : List ℕ) (m : MlsMessage) → whole mls_message input_limit bytes ≡ Ok m → read_welcome bytes ≡ given 70 (welcome_in m)
-unfolding read_welcome decoded
+message_read : (bytes : List ℕ) (m : MlsMessage) → whole mls_message input_limit bytes ≡ Ok m → read_welcome bytes ≡ require_some 70 (welcome_in m)
+unfolding read_welcome decode_message
 message_read bytes m e = rw e refl
 
 shown_welcome : (bytes : List ℕ) (view : WelcomeView) (m : MlsMessage) → whole mls_message input_limit bytes ≡ Ok m → Shows (views.Welcome view) m → IsShownIn bytes view
@@ -65,13 +65,13 @@ lent_other bytes view other lends = other_shown bytes view lends.value other len
 
 -- ---- the outer checks
 
-outer_is : (r : Result MlsMessage ℕ) (f : Welcome → Result Passed ℕ) → (r >>= λ outer. given 70 (welcome_in outer) >>= f) ≡ ((r >>= λ outer. given 70 (welcome_in outer)) >>= f)
+outer_is : (r : Result MlsMessage ℕ) (f : Welcome → Result Passed ℕ) → (r >>= λ outer. require_some 70 (welcome_in outer) >>= f) ≡ ((r >>= λ outer. require_some 70 (welcome_in outer)) >>= f)
 outer_is (Ok m) f = refl
 outer_is (Err n) f = refl
 
 outer_read : (number : ℕ) (bytes : List ℕ) → outer_checks number bytes ≡ (read_welcome bytes >>= λ w. require 71 (w.cipher_suite == number))
 unfolding outer_checks read_welcome
-outer_read number bytes = outer_is (decoded bytes) (λ w. require 71 (w.cipher_suite == number))
+outer_read number bytes = outer_is (decode_message bytes) (λ w. require 71 (w.cipher_suite == number))
 
 -- they fail with the fault of the Welcome
 pub outer_fault : (number : ℕ) (bytes : List ℕ) (n m : ℕ) → read_welcome bytes ≡ Err n → outer_checks number bytes ≡ Err m → n ≡ m
@@ -82,12 +82,12 @@ pub outer_suits : (number : ℕ) (bytes : List ℕ) (w : Welcome) → read_welco
 outer_suits number bytes w e = outer_read number bytes ∙ rw e refl
 
 -- so has the Welcome of the suite
-pub suited_fault : (number : ℕ) (bytes : List ℕ) (n : ℕ) → read_welcome bytes ≡ Err n → suited_welcome number bytes ≡ Err n
-unfolding suited_welcome
+pub suited_fault : (number : ℕ) (bytes : List ℕ) (n : ℕ) → read_welcome bytes ≡ Err n → read_welcome_of_suite number bytes ≡ Err n
+unfolding read_welcome_of_suite
 suited_fault number bytes n e = rw e refl
 
-suited_is : (number : ℕ) (bytes : List ℕ) (w : Welcome) → read_welcome bytes ≡ Ok w → suited_welcome number bytes ≡ (require 71 (w.cipher_suite == number) >> Ok w)
-unfolding suited_welcome
+suited_is : (number : ℕ) (bytes : List ℕ) (w : Welcome) → read_welcome bytes ≡ Ok w → read_welcome_of_suite number bytes ≡ (require 71 (w.cipher_suite == number) >> Ok w)
+unfolding read_welcome_of_suite
 suited_is number bytes w e = rw e refl
 
 -- a Welcome of the suite
@@ -98,7 +98,7 @@ module _ (number : ℕ) (bytes : List ℕ) (view : WelcomeView) (shown : IsShown
   pub outer_suited : outer_checks number bytes ≡ Ok passed
   outer_suited = outer_suits number bytes shown.value shown.is_read ∙ rw test_passes refl
 
-  pub suited : suited_welcome number bytes ≡ Ok shown.value
+  pub suited : read_welcome_of_suite number bytes ≡ Ok shown.value
   suited = suited_is number bytes shown.value shown.is_read ∙ rw test_passes refl
 
   pub never_refused : (n : ℕ) → outer_checks number bytes ≡ Err n → ⊥
@@ -112,7 +112,7 @@ module _ (number : ℕ) (bytes : List ℕ) (view : WelcomeView) (shown : IsShown
   pub outer_other : outer_checks number bytes ≡ Err 71
   outer_other = outer_suits number bytes shown.value shown.is_read ∙ rw test_fails refl
 
-  pub suited_other : suited_welcome number bytes ≡ Err 71
+  pub suited_other : read_welcome_of_suite number bytes ≡ Err 71
   suited_other = suited_is number bytes shown.value shown.is_read ∙ rw test_fails refl
 
 -- ---- what a Welcome opens
@@ -129,13 +129,13 @@ of_suit : (o : Result Welcome ℕ) (number : ℕ) (f : Welcome → Result Opened
 of_suit (Ok w) number f = if_suited (w.cipher_suite == number) w f
 of_suit (Err n) number f = refl
 
-then_opened : (r : Result MlsMessage ℕ) (number : ℕ) (f : Welcome → Result Opened ℕ) → (r >>= λ outer. given 70 (welcome_in outer) >>= λ w. require 71 (w.cipher_suite == number) >> f w) ≡ (((r >>= λ outer. given 70 (welcome_in outer)) >>= λ w. require 71 (w.cipher_suite == number) >> Ok w) >>= f)
-then_opened (Ok m) number f = of_suit (given 70 (welcome_in m)) number f
+then_opened : (r : Result MlsMessage ℕ) (number : ℕ) (f : Welcome → Result Opened ℕ) → (r >>= λ outer. require_some 70 (welcome_in outer) >>= λ w. require 71 (w.cipher_suite == number) >> f w) ≡ (((r >>= λ outer. require_some 70 (welcome_in outer)) >>= λ w. require 71 (w.cipher_suite == number) >> Ok w) >>= f)
+then_opened (Ok m) number f = of_suit (require_some 70 (welcome_in m)) number f
 then_opened (Err n) number f = refl
 
-pub opened_read : (c : Crypto) (k : Candidate) (bytes : List ℕ) → opened_welcome c k bytes ≡ (suited_welcome c.number bytes >>= opened_in c k)
-unfolding opened_welcome suited_welcome read_welcome opened_in opened_with
-opened_read c k bytes = then_opened (decoded bytes) c.number (opened_in c k)
+pub opened_read : (c : Crypto) (k : Candidate) (bytes : List ℕ) → opened_welcome c k bytes ≡ (read_welcome_of_suite c.number bytes >>= open_for_candidate c k)
+unfolding opened_welcome read_welcome_of_suite read_welcome open_for_candidate open_group_info
+opened_read c k bytes = then_opened (decode_message bytes) c.number (open_for_candidate c k)
 
 -- what code has is bytes
 pub bytes_are : (bytes : List ℕ) → IsBytes bytes → are_bytes bytes ≡ true

@@ -1,6 +1,6 @@
 -- The values that the stages of a join hand on, as the definitions have them.
 use Rattle.mls_types.specs.declared.welcome.GroupSecrets.{GroupSecrets}
-use Rattle.mls_model.specs.Opening as model
+use Rattle.mls_model.specs.OpenedWelcome as model
 use Rattle.mls_join.specs.declared.opening.Opened.{Opened}
 use Rattle.mls_join.specs.declared.secrets.Secrets.{Secrets}
 

@@ -1,7 +1,7 @@
 -- The parts of the definitions that functions of their own answer.
 use Rattle.std.specs.Prelude.{◌≡◌, ℕ, ◌==◌, Bool, false, List, [], length, codes, find, Option, Some, None, Result, Ok, Err}
 use Rattle.std.specs.Str.{bytes_eq}
-use Rattle.mls_wire.specs.Checks.{require, given, ◌>>◌}
+use Rattle.mls_wire.specs.Checks.{require, require_some, ◌>>◌}
 use Rattle.mls_wire.specs.Reading.{◌>>=◌}
 use Rattle.mls_leaf.specs.Faults.{whole}
 use Rattle.mls_leaf.specs.Limits.{input_limit}
@@ -22,20 +22,20 @@ use Rattle.mls_schedule.specs.Transcript.{interim_hash}
 use Rattle.mls_view.specs.declared.welcome.WelcomeView.{WelcomeView}
 use Rattle.mls_view.specs.Shown.{ShowsWelcome}
 use Rattle.mls_model.specs.Candidate.{Candidate}
-use Rattle.mls_model.specs.Join.{Joined, is_same_leaf}
-use Rattle.mls_model.specs.Messages.{decoded, are_bytes}
-use Rattle.mls_model.specs.Opening.{Opened, welcome_in, or_fault, is_none_or_32, opened_secrets}
+use Rattle.mls_model.specs.Join.{JoinedMember, is_same_leaf}
+use Rattle.mls_model.specs.Messages.{decode_message, are_bytes}
+use Rattle.mls_model.specs.OpenedWelcome.{Opened, welcome_in, or_fault, is_none_or_32, opened_secrets}
 use Rattle.mls_model.specs.Proposals.{package_reference}
 use Rattle.mls_join.specs.declared.error.JoinError.{JoinError}
 use Rattle.mls_join.specs.Faults.{number_of}
 
 -- the Welcome that the bytes are: decoding, 70 (RFC 9420, 6)
 unfoldable pub read_welcome : List ℕ → Result Welcome ℕ
-read_welcome bytes = decoded bytes >>= λ outer. given 70 (welcome_in outer)
+read_welcome bytes = decode_message bytes >>= λ outer. require_some 70 (welcome_in outer)
 
 -- the Welcome of a suite's number that the bytes are: decoding, 70, 71 (RFC 9420, 12.4.3.1)
-unfoldable pub suited_welcome : ℕ → List ℕ → Result Welcome ℕ
-suited_welcome number bytes = read_welcome bytes >>= λ w. require 71 (w.cipher_suite == number) >> Ok w
+unfoldable pub read_welcome_of_suite : ℕ → List ℕ → Result Welcome ℕ
+read_welcome_of_suite number bytes = read_welcome bytes >>= λ w. require 71 (w.cipher_suite == number) >> Ok w
 
 -- a view shows the Welcome that all of the bytes are
 pub record IsShownIn (bytes : List ℕ) (view : WelcomeView) : Type 0 where
@@ -53,31 +53,31 @@ abbrev pub entry_of : List ℕ → List EncryptedGroupSecrets → Option Encrypt
 entry_of reference entries = find (λ (e : EncryptedGroupSecrets). bytes_eq e.new_member reference) entries
 
 -- a secret: 73 unless it has 32 bytes
-abbrev pub of_32 : List ℕ → Result (List ℕ) ℕ
-of_32 bytes = require 73 (length bytes == 32) >> Ok bytes
+abbrev pub secret_of_32 : List ℕ → Result (List ℕ) ℕ
+secret_of_32 bytes = require 73 (length bytes == 32) >> Ok bytes
 
 -- a secret that may be left out
-abbrev pub none_or_32 : Option (List ℕ) → Result (Option (List ℕ)) ℕ
-none_or_32 bytes = require 73 (is_none_or_32 bytes) >> Ok bytes
+abbrev pub optional_secret_of_32 : Option (List ℕ) → Result (Option (List ℕ)) ℕ
+optional_secret_of_32 bytes = require 73 (is_none_or_32 bytes) >> Ok bytes
 
 -- what a candidate's init key opens: 73 where it doesn't
-abbrev pub unsealed : Crypto → Candidate → List ℕ → HpkeCiphertext → Result (List ℕ) ℕ
-unsealed c k info sealed = given 73 (decrypt_with_label c k.init (codes "Welcome") info sealed.kem_output sealed.ciphertext)
+abbrev pub decrypt_group_secrets : Crypto → Candidate → List ℕ → HpkeCiphertext → Result (List ℕ) ℕ
+decrypt_group_secrets c k info sealed = require_some 73 (decrypt_with_label c k.init (codes "Welcome") info sealed.kem_output sealed.ciphertext)
 
 -- 73 the joiner secret or the path secret hasn't 32 bytes
-unfoldable pub with_lengths : GroupSecrets → Result GroupSecrets ℕ
-with_lengths secrets = do
+unfoldable pub check_secret_lengths : GroupSecrets → Result GroupSecrets ℕ
+check_secret_lengths secrets = do
   require 73 (length secrets.joiner_secret == 32)
   require 73 (is_none_or_32 secrets.path_secret)
   Ok secrets
 
 -- the bytes of the GroupInfo that is sealed under a joiner secret: 75 where it doesn't open
 abbrev pub plain_info : Crypto → List ℕ → List ℕ → Result (List ℕ) ℕ
-plain_info c joiner sealed = given 75 (c.aead_open (welcome_key joiner) (welcome_nonce joiner) [] sealed)
+plain_info c joiner sealed = require_some 75 (c.aead_open (welcome_key joiner) (welcome_nonce joiner) [] sealed)
 
 -- what the secrets of an entry open: 75, 71 the GroupInfo is of another suite
-unfoldable pub opened_with : Crypto → GroupSecrets → List ℕ → Result Opened ℕ
-opened_with c secrets sealed = do
+unfoldable pub open_group_info : Crypto → GroupSecrets → List ℕ → Result Opened ℕ
+open_group_info c secrets sealed = do
   plain ← plain_info c secrets.joiner_secret sealed
   require 75 (are_bytes plain)
   info ← or_fault 75 (whole group_info input_limit plain)
@@ -85,12 +85,12 @@ opened_with c secrets sealed = do
   Ok (record { joiner = secrets.joiner_secret; path_secret = secrets.path_secret; bytes = plain; info = info })
 
 -- what a Welcome of the suite gives to a candidate: 72 to 75, 71 the GroupInfo is of another suite
-unfoldable pub opened_in : Crypto → Candidate → Welcome → Result Opened ℕ
-opened_in c k w = do
-  entry ← given 72 (entry_of (package_reference k.offered) w.secrets)
+unfoldable pub open_for_candidate : Crypto → Candidate → Welcome → Result Opened ℕ
+open_for_candidate c k w = do
+  entry ← require_some 72 (entry_of (package_reference k.offered) w.secrets)
   secrets ← opened_secrets c k w entry
   require 74 (length secrets.psks == 0)
-  opened_with c secrets w.encrypted_group_info
+  open_group_info c secrets w.encrypted_group_info
 
 -- whether a leaf is there, and this one
 abbrev pub is_at : LeafNode → Option LeafNode → Bool
@@ -98,8 +98,8 @@ is_at leaf None = false
 is_at leaf (Some x) = is_same_leaf x leaf
 
 -- the new member with these keys in this tree: 65 the confirmation tag
-unfoldable pub entered : Candidate → Opened → Term → PrivateKeys → Result Joined ℕ
-entered k o t keys = do
+unfoldable pub enter_group : Candidate → Opened → Term → PrivateKeys → Result JoinedMember ℕ
+enter_group k o t keys = do
   let context : GroupContext = o.info.group_context
   let epoch = epoch_secret o.joiner (group_context.spell context)
   require 65 (bytes_eq o.info.confirmation_tag (confirmation_tag epoch context.confirmed_transcript_hash))

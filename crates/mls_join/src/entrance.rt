@@ -13,7 +13,7 @@ ghost use Rattle.mls_model.specs.Join.{member_of, join_verdict};
 ghost use Rattle.mls_join.specs.Entrance.{joined_by, outer_checks};
 ghost use Rattle.mls_join.specs.Faults.{number_of};
 ghost use Rattle.mls_join.specs.Parts.{opened_by};
-ghost use Rattle.mls_join.specs.Stages.{entered};
+ghost use Rattle.mls_join.specs.Stages.{enter_group};
 
 use crate::error::JoinError;
 use crate::keys::{joined_keys, place_of};
@@ -42,8 +42,8 @@ pub struct Entrance {
 }
 
 /// The new member with these keys in this tree: 65 the confirmation tag.
-#[tactic(auto, unfolding(crate::specs::Stages::entered))]
-fn entered(
+#[tactic(auto, unfolding(crate::specs::Stages::enter_group))]
+fn enter_group(
     alloc: Global,
     tree: PublicTree,
     keys: PrivatePath,
@@ -51,7 +51,7 @@ fn entered(
 ) -> Result<Entrance, JoinError>
     requires short { IsBelow (2 ^ 27) group_info opened.info }
     requires leaves { HasLeavesBelow (2 ^ 27) (term tree) }
-    ensures { (k : model.Candidate) → Answers (joined_by k) number_of (entered k (opened_by opened) (term tree) keys) result }
+    ensures { (k : model.Candidate) → Answers (joined_by k) number_of (enter_group k (opened_by opened) (term tree) keys) result }
 {
     let Opened {
         joiner,
@@ -103,7 +103,7 @@ fn member_of<S: Suite>(
         candidate.leaf_key(),
         &opened.path_secret,
     )?;
-    entered(alloc, tree, keys, opened)
+    enter_group(alloc, tree, keys, opened)
 }
 
 /// The group that a Welcome leads the candidate into, or the first check that fails: decoding; 70 no Welcome; 71 another

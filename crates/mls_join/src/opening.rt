@@ -10,12 +10,12 @@ ghost use Rattle.mls_types.specs.GroupInfo.{group_info};
 ghost use Rattle.mls_tree.specs.Refusals.{RefusesOutright};
 ghost use Rattle.mls_public_group.specs.Short.{IsBelow};
 ghost use Rattle.mls_model.specs.Messages.{are_bytes};
-ghost use Rattle.mls_model.specs.Opening.{or_fault, opened_welcome};
+ghost use Rattle.mls_model.specs.OpenedWelcome.{or_fault, opened_welcome};
 ghost use Rattle.mls_model.specs.Proposals.{package_reference};
 ghost use Rattle.mls_join.specs.Entrance.{outer_checks};
 ghost use Rattle.mls_join.specs.Faults.{number_of};
 ghost use Rattle.mls_join.specs.Parts.{opened_by, secrets_by};
-ghost use Rattle.mls_join.specs.Stages.{LendsWelcome, suited_welcome, entry_of, plain_info, opened_with, opened_in, IsMemory};
+ghost use Rattle.mls_join.specs.Stages.{LendsWelcome, read_welcome_of_suite, entry_of, plain_info, open_group_info, open_for_candidate, IsMemory};
 
 use crate::error::JoinError;
 use crate::secrets::{Secrets, opened_secrets};
@@ -53,8 +53,8 @@ fn welcome_view<'a>(bytes: &'a [u8]) -> Result<WelcomeView<'a>, JoinError>
 }
 
 /// The Welcome of the suite that the bytes are: decoding, 70, 71.
-fn suited_welcome<S: Suite>(alloc: Global, bytes: &[u8]) -> Result<Welcome, JoinError>
-    ensures answer { Answers (λ w. w) number_of (suited_welcome S.crypto.number bytes.now) result }
+fn read_welcome_of_suite<S: Suite>(alloc: Global, bytes: &[u8]) -> Result<Welcome, JoinError>
+    ensures answer { Answers (λ w. w) number_of (read_welcome_of_suite S.crypto.number bytes.now) result }
     ensures outright { RefusesOutright number_of (outer_checks S.crypto.number bytes.now) result }
     ensures short { IfOk result (λ w. length w.encrypted_group_info < 2 ^ 30) }
 {
@@ -112,13 +112,13 @@ fn plain_info<S: Suite>(alloc: Global, joiner: &Secret, sealed: &[u8]) -> Result
 }
 
 /// What the secrets of an entry open: 75, 71 the GroupInfo is of another suite.
-#[tactic(auto, unfolding(crate::specs::Stages::opened_with))]
-fn opened_with<S: Suite>(
+#[tactic(auto, unfolding(crate::specs::Stages::open_group_info))]
+fn open_group_info<S: Suite>(
     alloc: Global,
     secrets: Secrets,
     sealed: &[u8],
 ) -> Result<Opened, JoinError>
-    ensures answer { Answers opened_by number_of (opened_with S.crypto (secrets_by secrets) sealed.now) result }
+    ensures answer { Answers opened_by number_of (open_group_info S.crypto (secrets_by secrets) sealed.now) result }
     ensures below { IfOk result (λ o. IsBelow (2 ^ 27) group_info o.info) }
 {
     let bytes = plain_info::<S>(alloc, &secrets.joiner, sealed)?;
@@ -135,15 +135,15 @@ fn opened_with<S: Suite>(
 }
 
 /// What a Welcome of the suite gives to a candidate: 72 to 75, 71 the GroupInfo is of another suite.
-#[tactic(auto, unfolding(crate::specs::Stages::opened_in))]
-fn opened_in<S: Suite>(
+#[tactic(auto, unfolding(crate::specs::Stages::open_for_candidate))]
+fn open_for_candidate<S: Suite>(
     alloc: Global,
     candidate: &Candidate<S>,
     welcome: &Welcome,
 ) -> Result<Opened, JoinError>
     requires offered { IsBelow (2 ^ 27) key_package candidate.now.offered }
     requires short { length welcome.now.encrypted_group_info < 2 ^ 30 }
-    ensures answer { Answers opened_by number_of (opened_in S.crypto candidate.now welcome.now) result }
+    ensures answer { Answers opened_by number_of (open_for_candidate S.crypto candidate.now welcome.now) result }
     ensures below { IfOk result (λ o. IsBelow (2 ^ 27) group_info o.info) }
 {
     let reference = package_reference(alloc, candidate.key_package())?;
@@ -154,7 +154,7 @@ fn opened_in<S: Suite>(
     if !secrets.psks.as_slice().is_empty() {
         return Err(JoinError::PskPresent);
     }
-    opened_with::<S>(alloc, secrets, welcome.encrypted_group_info.as_slice())
+    open_group_info::<S>(alloc, secrets, welcome.encrypted_group_info.as_slice())
 }
 
 /// What a candidate finds in a Welcome: decoding, 70 to 75.
@@ -168,6 +168,6 @@ pub(crate) fn opened_welcome<S: Suite>(
     ensures outright { RefusesOutright number_of (outer_checks S.crypto.number bytes.now) result }
     ensures below { IfOk result (λ o. IsBelow (2 ^ 27) group_info o.info) }
 {
-    let welcome = suited_welcome::<S>(alloc, bytes)?;
-    opened_in::<S>(alloc, candidate, &welcome)
+    let welcome = read_welcome_of_suite::<S>(alloc, bytes)?;
+    open_for_candidate::<S>(alloc, candidate, &welcome)
 }

@@ -5,10 +5,10 @@ ghost use Rattle.mls_wire.specs.Checks.{Answers, AnswersOutright};
 ghost use Rattle.mls_leaf.specs.Faults.{whole};
 ghost use Rattle.mls_leaf.specs.Limits.{input_limit};
 ghost use Rattle.mls_types.specs.Welcome.{group_secrets};
-ghost use Rattle.mls_model.specs.Opening.{or_fault, opened_secrets};
+ghost use Rattle.mls_model.specs.OpenedWelcome.{or_fault, opened_secrets};
 ghost use Rattle.mls_join.specs.Faults.{number_of};
 ghost use Rattle.mls_join.specs.Parts.{secrets_by};
-ghost use Rattle.mls_join.specs.Stages.{of_32, none_or_32, with_lengths, unsealed};
+ghost use Rattle.mls_join.specs.Stages.{secret_of_32, optional_secret_of_32, check_secret_lengths, decrypt_group_secrets};
 
 use crate::error::JoinError;
 use mls_candidate::Candidate;
@@ -32,7 +32,7 @@ pub(crate) struct Secrets {
 
 /// The secret that these bytes are: 73 unless there are 32.
 fn secret_of(bytes: &Bytes) -> Result<Secret, JoinError>
-    ensures { AnswersOutright (λ s. s) number_of (of_32 bytes.now) result }
+    ensures { AnswersOutright (λ s. s) number_of (secret_of_32 bytes.now) result }
 {
     match <[u8; 32]>::try_from(bytes.as_slice()) {
         Ok(secret) => Ok(secret),
@@ -42,7 +42,7 @@ fn secret_of(bytes: &Bytes) -> Result<Secret, JoinError>
 
 /// The path secret, where there is one: 73 unless it has 32 bytes.
 fn path_secret_of(bytes: &Option<Bytes>) -> Result<Option<Secret>, JoinError>
-    ensures { AnswersOutright (λ s. s) number_of (none_or_32 bytes.now) result }
+    ensures { AnswersOutright (λ s. s) number_of (optional_secret_of_32 bytes.now) result }
 {
     match bytes {
         None => Ok(None),
@@ -51,9 +51,9 @@ fn path_secret_of(bytes: &Option<Bytes>) -> Result<Option<Secret>, JoinError>
 }
 
 /// The secrets, each of 32 bytes: 73.
-#[tactic(auto, unfolding(crate::specs::Stages::with_lengths))]
-fn with_lengths(secrets: GroupSecrets) -> Result<Secrets, JoinError>
-    ensures { AnswersOutright secrets_by number_of (with_lengths secrets) result }
+#[tactic(auto, unfolding(crate::specs::Stages::check_secret_lengths))]
+fn check_secret_lengths(secrets: GroupSecrets) -> Result<Secrets, JoinError>
+    ensures { AnswersOutright secrets_by number_of (check_secret_lengths secrets) result }
 {
     let joiner = secret_of(&secrets.joiner_secret)?;
     let path_secret = path_secret_of(&secrets.path_secret)?;
@@ -78,14 +78,14 @@ fn secrets_in(alloc: Global, bytes: &[u8]) -> Result<GroupSecrets, JoinError>
 }
 
 /// What a candidate's init key opens: 73 where it doesn't.
-fn unsealed<S: Suite>(
+fn decrypt_group_secrets<S: Suite>(
     alloc: Global,
     candidate: &Candidate<S>,
     info: &[u8],
     sealed: &HpkeCiphertext,
 ) -> Result<Vec<u8>, JoinError>
     requires { length info.now < 2 ^ 30 }
-    ensures { Answers (λ v. v.items) number_of (unsealed S.crypto candidate.now info.now sealed.now) result }
+    ensures { Answers (λ v. v.items) number_of (decrypt_group_secrets S.crypto candidate.now info.now sealed.now) result }
 {
     let opened = decrypt_with_label::<S>(
         alloc,
@@ -103,7 +103,7 @@ fn unsealed<S: Suite>(
 
 /// What is sealed in a candidate's entry: 73 where it doesn't open, is no GroupSecrets, or has a secret that isn't 32
 /// bytes.
-#[tactic(auto, unfolding(mls_model::specs::Opening::opened_secrets, crate::specs::Stages::with_lengths))]
+#[tactic(auto, unfolding(mls_model::specs::OpenedWelcome::opened_secrets, crate::specs::Stages::check_secret_lengths))]
 pub(crate) fn opened_secrets<S: Suite>(
     alloc: Global,
     candidate: &Candidate<S>,
@@ -114,7 +114,7 @@ pub(crate) fn opened_secrets<S: Suite>(
     ensures { Answers secrets_by number_of (opened_secrets S.crypto candidate.now welcome.now entry.now) result }
 {
     let info = welcome.encrypted_group_info.as_slice();
-    let bytes = unsealed::<S>(alloc, candidate, info, &entry.encrypted_group_secrets)?;
+    let bytes = decrypt_group_secrets::<S>(alloc, candidate, info, &entry.encrypted_group_secrets)?;
     let secrets = secrets_in(alloc, &bytes)?;
-    with_lengths(secrets)
+    check_secret_lengths(secrets)
 }

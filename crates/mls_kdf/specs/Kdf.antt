@@ -8,8 +8,8 @@ use Rattle.mls_wire.specs.Reading.{opaque}
 use denote.Ref.{Bor}
 
 -- the pieces, one after another
-abbrev pub joined : List (Bor (List ℕ)) → List ℕ
-joined pieces = flat_map (λ p. p.now) pieces
+abbrev pub joined_pieces : List (Bor (List ℕ)) → List ℕ
+joined_pieces pieces = flat_map (λ p. p.now) pieces
 
 -- ---- HMAC (RFC 2104, 2)
 

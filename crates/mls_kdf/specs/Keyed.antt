@@ -2,7 +2,7 @@
 use Rattle.std.specs.Prelude.{ℕ, List, ◌++◌}
 use Rattle.sha2.specs.Hashers.{Holds256}
 use Rattle.mls_kdf.specs.Kdf.{padded_key}
-use Rattle.mls_kdf.specs.declared.keyed.KeyedHash.{KeyedHash}
+use Rattle.mls_kdf.specs.declared.keyed_hash.KeyedHash.{KeyedHash}
 
 -- the keyed hash s has this key, and holds this text
 pub record IsKeyed (s : KeyedHash) (key text : List ℕ) : Type 0 where

@@ -1,7 +1,7 @@
 //! HKDF (RFC 5869).
 
 ghost use Rattle.std.specs.Prelude.{◌≡◌, ℕ, ◌+◌, ◌-◌, ◌*◌, ◌<◌, ◌≤◌, ◌↔◌, [], ◌∷◌, ◌++◌, List, length, take, drop, IsErrOf, OnOk, OnErr};
-ghost use Rattle.mls_kdf.specs.Kdf.{joined, hmac, extract, expand, hkdf_block, max_output};
+ghost use Rattle.mls_kdf.specs.Kdf.{joined_pieces, hmac, extract, expand, hkdf_block, max_output};
 
 use crate::{HmacKey, KdfError, MAX_OUTPUT, Secret, hmac};
 
@@ -15,7 +15,7 @@ pub fn extract(salt: &[u8], ikm: &[u8]) -> Secret
 
 /// The block with this number, from the one before; the first comes from none.
 fn next_block(key: &HmacKey, previous: &[u8], info: &[&[u8]], number: u8) -> Secret
-    ensures { result ≡ hmac key.now (previous.now ++ joined info.now ++ number ∷ []) }
+    ensures { result ≡ hmac key.now (previous.now ++ joined_pieces info.now ++ number ∷ []) }
 {
     let mut keyed = key.begin();
     keyed.update(previous);
@@ -25,7 +25,7 @@ fn next_block(key: &HmacKey, previous: &[u8], info: &[&[u8]], number: u8) -> Sec
 }
 
 /// Writes the block at `at`, as far as there is room.
-fn put(out: &mut [u8], at: usize, block: &Secret)
+fn write_block(out: &mut [u8], at: usize, block: &Secret)
     requires { at ≤ length out.old }
     ensures { out.new ≡ take at out.old ++ take (length out.old - at) block.now ++ drop (at + 32) out.old }
 {
@@ -38,7 +38,7 @@ impl HmacKey<'_> {
     /// 8,160 bytes are refused with `OutputTooLong`, and `out` is as it was.
     pub fn expand(&self, info: &[&[u8]], out: &mut [u8]) -> Result<(), KdfError>
         ensures too_long { IsErrOf result KdfError.OutputTooLong ↔ (max_output < length out.old) }
-        ensures ok { OnOk result (out.new ≡ expand self.now (joined info.now) (length out.old)) }
+        ensures ok { OnOk result (out.new ≡ expand self.now (joined_pieces info.now) (length out.old)) }
         ensures err { OnErr result (out.new ≡ out.old) }
     {
         if out.len() > MAX_OUTPUT {
@@ -48,7 +48,7 @@ impl HmacKey<'_> {
         for i in 0..out.len().div_ceil(32) {
             let previous: &[u8] = if i == 0 { &[] } else { &block };
             block = next_block(self, previous, info, (i + 1) as u8);
-            put(out, 32 * i, &block);
+            write_block(out, 32 * i, &block);
         }
         Ok(())
     }
@@ -58,7 +58,7 @@ impl HmacKey<'_> {
 /// bytes are refused with `OutputTooLong`, and `out` is as it was.
 pub fn expand(prk: &[u8], info: &[&[u8]], out: &mut [u8]) -> Result<(), KdfError>
     ensures too_long { IsErrOf result KdfError.OutputTooLong ↔ (max_output < length out.old) }
-    ensures ok { OnOk result (out.new ≡ expand prk.now (joined info.now) (length out.old)) }
+    ensures ok { OnOk result (out.new ≡ expand prk.now (joined_pieces info.now) (length out.old)) }
     ensures err { OnErr result (out.new ≡ out.old) }
 {
     HmacKey::new(prk).expand(info, out)

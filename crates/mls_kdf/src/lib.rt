@@ -4,8 +4,8 @@
 
 mod header;
 mod hkdf;
-mod key;
-mod keyed;
+mod hmac_key;
+mod keyed_hash;
 mod labels;
 mod laws;
 #[cfg(test)]
@@ -13,8 +13,8 @@ mod tests;
 
 pub use header::content_header;
 pub use hkdf::{expand, extract};
-pub use key::HmacKey;
-pub use keyed::{KeyedHash, hash, hmac};
+pub use hmac_key::HmacKey;
+pub use keyed_hash::{KeyedHash, hash, hmac};
 pub use labels::{derive_secret, expand_with_label, ref_hash};
 pub use laws::kdf_names_by_number;
 use thiserror::Error;

@@ -13,7 +13,7 @@ use Rattle.mls_leaf.specs.declared.error.LeafError.{LeafError}
 use Rattle.mls_leaf.specs.Faults.{AddsSpelling}
 use Rattle.mls_leaf.proofs.Codecs.{Refuses-whole}
 use Rattle.mls_leaf.specs.Nonempty.{uint32_nonempty}
-use Rattle.mls_leaf.specs.Parent.{rises_from, inserted}
+use Rattle.mls_leaf.specs.Parent.{rises_from, rising_with}
 use Rattle.mls_leaf.specs.ParentNode.{rising}
 
 -- ---- an entry at a time
@@ -76,53 +76,53 @@ rising_added xs old new (Err e) rise h =
 
 -- ---- a number put in
 
-pub inserted-nil : (x : ℕ) → inserted x [] ≡ x ∷ []
-unfolding inserted
-inserted-nil x = refl
+pub rising_with-nil : (x : ℕ) → rising_with x [] ≡ x ∷ []
+unfolding rising_with
+rising_with-nil x = refl
 
-pub inserted-cons : (x y : ℕ) (ys : List ℕ) → inserted x (y ∷ ys) ≡ cond (ltb x y) (x ∷ y ∷ ys) (cond (eqb x y) (y ∷ ys) (y ∷ inserted x ys))
-unfolding inserted
-inserted-cons x y ys = refl
+pub rising_with-cons : (x y : ℕ) (ys : List ℕ) → rising_with x (y ∷ ys) ≡ cond (ltb x y) (x ∷ y ∷ ys) (cond (eqb x y) (y ∷ ys) (y ∷ rising_with x ys))
+unfolding rising_with
+rising_with-cons x y ys = refl
 
-pub inserted-before : (x y : ℕ) (ys : List ℕ) → x < y → inserted x (y ∷ ys) ≡ x ∷ y ∷ ys
-inserted-before x y ys lt = inserted-cons x y ys ∙ rw (lt-ltb x y lt) refl
+pub rising_with-before : (x y : ℕ) (ys : List ℕ) → x < y → rising_with x (y ∷ ys) ≡ x ∷ y ∷ ys
+rising_with-before x y ys lt = rising_with-cons x y ys ∙ rw (lt-ltb x y lt) refl
 
-pub inserted-there : (x y : ℕ) (ys : List ℕ) → x ≡ y → inserted x (y ∷ ys) ≡ y ∷ ys
-inserted-there x y ys e = inserted-cons x y ys ∙ rw (le-ltb x y (omega arith), eq-eqb x y e) refl
+pub rising_with-there : (x y : ℕ) (ys : List ℕ) → x ≡ y → rising_with x (y ∷ ys) ≡ y ∷ ys
+rising_with-there x y ys e = rising_with-cons x y ys ∙ rw (le-ltb x y (omega arith), eq-eqb x y e) refl
 
-pub inserted-behind : (x y : ℕ) (ys : List ℕ) → y < x → inserted x (y ∷ ys) ≡ y ∷ inserted x ys
-inserted-behind x y ys lt = inserted-cons x y ys ∙ rw (le-ltb x y (omega arith), ne_eqb x y (λ e. omega arith)) refl
+pub rising_with-behind : (x y : ℕ) (ys : List ℕ) → y < x → rising_with x (y ∷ ys) ≡ y ∷ rising_with x ys
+rising_with-behind x y ys lt = rising_with-cons x y ys ∙ rw (le-ltb x y (omega arith), ne_eqb x y (λ e. omega arith)) refl
 
 -- a rising list keeps rising
-pub rises_from-inserted : (low x : ℕ) (xs : List ℕ) → low ≤ x → rises_from low xs ≡ true → rises_from low (inserted x xs) ≡ true
-rises_from-inserted low x [] le rise = rw (inserted-nil x) (rises_from-more low x [] le ∙ rises_from-nil (x + 1))
-rises_from-inserted low x (y ∷ ys) le rise =
+pub rises_from-rising_with : (low x : ℕ) (xs : List ℕ) → low ≤ x → rises_from low xs ≡ true → rises_from low (rising_with x xs) ≡ true
+rises_from-rising_with low x [] le rise = rw (rising_with-nil x) (rises_from-more low x [] le ∙ rises_from-nil (x + 1))
+rises_from-rising_with low x (y ∷ ys) le rise =
     let both = and_parts (nat_le low y) (rises_from (y + 1) ys) (sym (rises_from-cons low y ys) ∙ rise) in
     elim (cases_order x y) [
-      | inl e ↦ rw (inserted-there x y ys e) rise
-      | inr (inl lt) ↦ rw (inserted-before x y ys lt) (rises_from-more low x (y ∷ ys) le ∙ rises_from-more (x + 1) y ys (omega arith) ∙ both.1)
-      | inr (inr lt) ↦ rw (inserted-behind x y ys lt) (rises_from-more low y (inserted x ys) (leb-true low y both.0) ∙ rises_from-inserted (y + 1) x ys (omega arith) both.1)
+      | inl e ↦ rw (rising_with-there x y ys e) rise
+      | inr (inl lt) ↦ rw (rising_with-before x y ys lt) (rises_from-more low x (y ∷ ys) le ∙ rises_from-more (x + 1) y ys (omega arith) ∙ both.1)
+      | inr (inr lt) ↦ rw (rising_with-behind x y ys lt) (rises_from-more low y (rising_with x ys) (leb-true low y both.0) ∙ rises_from-rising_with (y + 1) x ys (omega arith) both.1)
     ]
 
 -- the search for its place: what is in front of the place, and the number put into what is behind it
 abbrev pub put_behind : ℕ → ℕ → List ℕ → List ℕ
-put_behind i x xs = take i xs ++ inserted x (drop i xs)
+put_behind i x xs = take i xs ++ rising_with x (drop i xs)
 
 pub put_on : (xs : List ℕ) (i x y : ℕ) → i < length xs → y ≡ get_or xs i 0 → y < x → put_behind i x xs ≡ put_behind (i + 1) x xs
 put_on xs i x y lt is below =
-    ap (λ (l : List ℕ). take i xs ++ l) (at_drop_more (inserted x) xs i 0 lt ∙ ap (λ (z : ℕ). inserted x (z ∷ drop (i + 1) xs)) (sym is) ∙ inserted-behind x y (drop (i + 1) xs) below)
-    ∙ sym (append_assoc (take i xs) (y ∷ []) (inserted x (drop (i + 1) xs)))
-    ∙ ap (λ (l : List ℕ). l ++ inserted x (drop (i + 1) xs)) (sym (take_more xs i 0 lt ∙ ap (λ (z : ℕ). take i xs ++ z ∷ []) (sym is)))
+    ap (λ (l : List ℕ). take i xs ++ l) (at_drop_more (rising_with x) xs i 0 lt ∙ ap (λ (z : ℕ). rising_with x (z ∷ drop (i + 1) xs)) (sym is) ∙ rising_with-behind x y (drop (i + 1) xs) below)
+    ∙ sym (append_assoc (take i xs) (y ∷ []) (rising_with x (drop (i + 1) xs)))
+    ∙ ap (λ (l : List ℕ). l ++ rising_with x (drop (i + 1) xs)) (sym (take_more xs i 0 lt ∙ ap (λ (z : ℕ). take i xs ++ z ∷ []) (sym is)))
 
 pub put_before : (xs : List ℕ) (i x y : ℕ) → i < length xs → y ≡ get_or xs i 0 → x < y → put_behind i x xs ≡ insert xs i x
 put_before xs i x y lt is below =
     let next : drop i xs ≡ y ∷ drop (i + 1) xs = at_drop_more (λ (l : List ℕ). l) xs i 0 lt ∙ ap (λ (z : ℕ). z ∷ drop (i + 1) xs) (sym is) in
-    ap (λ (l : List ℕ). take i xs ++ l) (ap (inserted x) next ∙ inserted-before x y (drop (i + 1) xs) below ∙ ap (λ (l : List ℕ). x ∷ l) (sym next))
+    ap (λ (l : List ℕ). take i xs ++ l) (ap (rising_with x) next ∙ rising_with-before x y (drop (i + 1) xs) below ∙ ap (λ (l : List ℕ). x ∷ l) (sym next))
 
 pub put_there : (xs : List ℕ) (i x y : ℕ) → i < length xs → y ≡ get_or xs i 0 → x ≡ y → put_behind i x xs ≡ xs
 put_there xs i x y lt is same =
     let next : drop i xs ≡ y ∷ drop (i + 1) xs = at_drop_more (λ (l : List ℕ). l) xs i 0 lt ∙ ap (λ (z : ℕ). z ∷ drop (i + 1) xs) (sym is) in
-    ap (λ (l : List ℕ). take i xs ++ l) (ap (inserted x) next ∙ inserted-there x y (drop (i + 1) xs) same ∙ sym next) ∙ take-append-drop i xs
+    ap (λ (l : List ℕ). take i xs ++ l) (ap (rising_with x) next ∙ rising_with-there x y (drop (i + 1) xs) same ∙ sym next) ∙ take-append-drop i xs
 
 pub put_last : (xs : List ℕ) (i x : ℕ) → length xs ≤ i → put_behind i x xs ≡ insert xs i x
-put_last xs i x le = ap (λ (l : List ℕ). take i xs ++ l) (at_drop_all (inserted x) xs i le ∙ inserted-nil x ∙ ap (λ (l : List ℕ). x ∷ l) (sym (at_drop_all (λ (l : List ℕ). l) xs i le)))
+put_last xs i x le = ap (λ (l : List ℕ). take i xs ++ l) (at_drop_all (rising_with x) xs i le ∙ rising_with-nil x ∙ ap (λ (l : List ℕ). x ∷ l) (sym (at_drop_all (λ (l : List ℕ). l) xs i le)))

@@ -4,14 +4,14 @@ use Rattle.std.specs.Prelude.{MatchOption}
 use Rattle.std.specs.List.Sorted.{IsBinarySearchResult}
 use Rattle.std.proofs.lemmas.Bool.{cases_lt}
 use Rattle.std.proofs.lemmas.List.Sorted.{searched}
-use Rattle.mls_leaf.specs.Parent.{rises_from, inserted}
+use Rattle.mls_leaf.specs.Parent.{rises_from, rising_with}
 use Rattle.mls_leaf.proofs.RisingLaws.{above_front, no_less, taken_out}
 use Rattle.mls_leaf.proofs.ParentLaws.{put_behind, put_on, put_before, put_there, put_last}
 
 -- ---- the place of a number
 
 -- behind numbers that are all below it
-reached : (xs : List ℕ) (i x : ℕ) → i ≤ length xs → ((k : ℕ) → k < i → get_or xs k 0 < x) → put_behind i x xs ≡ inserted x xs
+reached : (xs : List ℕ) (i x : ℕ) → i ≤ length xs → ((k : ℕ) → k < i → get_or xs k 0 < x) → put_behind i x xs ≡ rising_with x xs
 reached xs zero x fits below = refl
 reached xs (suc i) x fits below =
     ap (λ k. put_behind k x xs) (sym (add-one i))
@@ -22,7 +22,7 @@ abbrev place_of : Result ℕ ℕ → Option ℕ
 place_of (Ok i) = None
 place_of (Err i) = Some i
 
-pub placed : (xs : List ℕ) (x : ℕ) (r : Result ℕ ℕ) → rises_from 0 xs ≡ true → IsBinarySearchResult (λ y. nat_cmp y x) xs r → MatchOption (place_of r) (inserted x xs ≡ xs) (λ i. (i ≤ length xs) × (inserted x xs ≡ insert xs i x))
+pub placed : (xs : List ℕ) (x : ℕ) (r : Result ℕ ℕ) → rises_from 0 xs ≡ true → IsBinarySearchResult (λ y. nat_cmp y x) xs r → MatchOption (place_of r) (rising_with x xs ≡ xs) (λ i. (i ≤ length xs) × (rising_with x xs ≡ insert xs i x))
 placed xs x (Ok i) rise h =
     let at = searched xs x (Ok i) h (λ a b. no_less xs a b rise) in
     let low = at.0 in
@@ -38,7 +38,7 @@ placed xs x (Err i) rise h =
     ]
 
 -- a number that the search doesn't find can be put in and taken out again
-pub fresh : (xs : List ℕ) (x i : ℕ) → rises_from 0 xs ≡ true → IsBinarySearchResult (λ y. nat_cmp y x) xs (Err i) → filter (λ u. not (u == x)) (inserted x xs) ≡ xs
+pub fresh : (xs : List ℕ) (x i : ℕ) → rises_from 0 xs ≡ true → IsBinarySearchResult (λ y. nat_cmp y x) xs (Err i) → filter (λ u. not (u == x)) (rising_with x xs) ≡ xs
 fresh xs x i rise h =
     let at = searched xs x (Err i) h (λ a b. no_less xs a b rise) in
     taken_out x xs (λ k lt same. elim (cases_lt k i) [

@@ -2,8 +2,8 @@
 use Rattle.std.proofs.Common.{◌≡◌, ◌≢◌, ◌∙◌, ℕ, zero, suc, ◌+◌, ◌<◌, ◌≤◌, ◌==◌, Bool, true, false, not, cond, List, [], ◌∷◌, length, get_or, filter, refl, sym, ap, arith, inl, inr}
 use Rattle.std.specs.Prelude.{nat_le}
 use Rattle.std.proofs.lemmas.Bool.{and_parts, leb-true, cases_lt, cases_order, ne_eqb, eq-eqb}
-use Rattle.mls_leaf.specs.Parent.{rises_from, inserted}
-use Rattle.mls_leaf.proofs.ParentLaws.{rises_from-nil, rises_from-cons, rises_from-more, inserted-nil, inserted-before, inserted-behind}
+use Rattle.mls_leaf.specs.Parent.{rises_from, rising_with}
+use Rattle.mls_leaf.proofs.ParentLaws.{rises_from-nil, rises_from-cons, rises_from-more, rising_with-nil, rising_with-before, rising_with-behind}
 
 -- ---- each number of a rising list is above those before it
 
@@ -63,14 +63,14 @@ stays x (y ∷ ys) none =
     ∙ ap (λ l. y ∷ l) (stays x ys (λ k lt. none (suc k) (omega arith)))
 
 -- and put in and taken out again
-pub taken_out : (x : ℕ) (xs : List ℕ) → ((k : ℕ) → k < length xs → get_or xs k 0 ≢ x) → filter (λ u. not (u == x)) (inserted x xs) ≡ xs
-taken_out x [] none = rw (inserted-nil x) (ap (λ b. cond (not b) (x ∷ []) []) (eq-eqb x x refl))
+pub taken_out : (x : ℕ) (xs : List ℕ) → ((k : ℕ) → k < length xs → get_or xs k 0 ≢ x) → filter (λ u. not (u == x)) (rising_with x xs) ≡ xs
+taken_out x [] none = rw (rising_with-nil x) (ap (λ b. cond (not b) (x ∷ []) []) (eq-eqb x x refl))
 taken_out x (y ∷ ys) none =
     elim (cases_order x y) [
       | inl e ↦ absurd (none 0 (omega arith) (sym e))
-      | inr (inl lt) ↦ rw (inserted-before x y ys lt)
+      | inr (inl lt) ↦ rw (rising_with-before x y ys lt)
           (ap (λ b. cond (not b) (x ∷ filter (λ u. not (u == x)) (y ∷ ys)) (filter (λ u. not (u == x)) (y ∷ ys))) (eq-eqb x x refl) ∙ stays x (y ∷ ys) none)
-      | inr (inr lt) ↦ rw (inserted-behind x y ys lt)
-          (ap (λ b. cond (not b) (y ∷ filter (λ u. not (u == x)) (inserted x ys)) (filter (λ u. not (u == x)) (inserted x ys))) (ne_eqb y x (none 0 (omega arith)))
+      | inr (inr lt) ↦ rw (rising_with-behind x y ys lt)
+          (ap (λ b. cond (not b) (y ∷ filter (λ u. not (u == x)) (rising_with x ys)) (filter (λ u. not (u == x)) (rising_with x ys))) (ne_eqb y x (none 0 (omega arith)))
           ∙ ap (λ l. y ∷ l) (taken_out x ys (λ k lt'. none (suc k) (omega arith))))
     ]

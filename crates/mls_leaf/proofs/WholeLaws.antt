@@ -8,7 +8,7 @@ use Rattle.mls_wire.specs.Format.{Format, IsBytes}
 use Rattle.mls_wire.specs.Laws.{ok_is}
 use Rattle.mls_wire.specs.CombineLaws.{good, forgotten, ended, ended_past, entire_takes, entire_passes}
 use Rattle.mls_leaf.specs.declared.error.LeafError.{LeafError}
-use Rattle.mls_wire.specs.Answered.{is_fault, HasFaults, Answered, answered_then, ended_answered}
+use Rattle.mls_wire.specs.ReadFaults.{is_fault, HasFaults, Answered, answered_then, ended_answered}
 use Rattle.mls_wire.specs.declared.WireError.TheVariants as wire
 use Rattle.mls_leaf.specs.declared.error.LeafError.TheVariants.{Wire, BadTag, UnsupportedCredential, UnsupportedProposal, NotRising, ExtensionNotAllowed}
 use Rattle.mls_leaf.specs.Faults.{Fails, Outright, Gives, Spells, Tells, ReadsAllPast, number_of, whole, whole_past}

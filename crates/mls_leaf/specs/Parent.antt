@@ -17,6 +17,6 @@ abbrev pub rises : List ℕ → Bool
 rises xs = rises_from 0 xs
 
 -- A number put into a rising list, where it stands once.
-unfoldable pub inserted : ℕ → List ℕ → List ℕ
-inserted x [] = x ∷ []
-inserted x (y ∷ ys) = if nat_lt x y then x ∷ y ∷ ys else if x == y then y ∷ ys else y ∷ inserted x ys
+unfoldable pub rising_with : ℕ → List ℕ → List ℕ
+rising_with x [] = x ∷ []
+rising_with x (y ∷ ys) = if nat_lt x y then x ∷ y ∷ ys else if x == y then y ∷ ys else y ∷ rising_with x ys

@@ -2,7 +2,7 @@
 use Rattle.std.specs.Prelude.{ℕ, ◌+◌, nat_le, refl}
 use Rattle.mls_wire.specs.Format.{Format}
 use Rattle.mls_wire.specs.CombineLaws.{IsNonempty}
-use Rattle.mls_wire.specs.Answered.{HasFaults, pair_faults, seen_answered, guarded_faults, vector_from_faults, byte_string_faults, uint32_faults}
+use Rattle.mls_wire.specs.ReadFaults.{HasFaults, pair_faults, seen_answered, guarded_faults, vector_from_faults, byte_string_faults, uint32_faults}
 use Rattle.mls_wire.specs.Combine.{◌⨾◌, seen, guarded, byte_string, uint32}
 use Rattle.mls_wire.specs.Stateful.{Rule, vector_from}
 use Rattle.mls_leaf.specs.Nonempty.{byte_string_nonempty, first_nonempty, uint32_nonempty}

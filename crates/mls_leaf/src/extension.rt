@@ -1,7 +1,7 @@
 //! Extensions.
 
 ghost use Rattle.mls_leaf.specs.Extension.{extension, extension_nonempty};
-ghost use Rattle.mls_leaf.specs.Answered.{extension_faults};
+ghost use Rattle.mls_leaf.specs.ReadFaults.{extension_faults};
 
 use crate::bytes::Bytes;
 use crate::codec::Codec;

@@ -2,7 +2,7 @@
 
 ghost use Rattle.std.specs.Prelude.{◌≡◌};
 ghost use Rattle.mls_leaf.specs.KeyPackage.{key_package, key_package_nonempty};
-ghost use Rattle.mls_leaf.specs.Answered.{key_package_faults};
+ghost use Rattle.mls_leaf.specs.ReadFaults.{key_package_faults};
 
 use crate::bytes::Bytes;
 use crate::codec::{Codec, pass_empty, pass_mark};

@@ -2,7 +2,7 @@
 
 ghost use Rattle.std.specs.Prelude.{◌≡◌};
 ghost use Rattle.mls_leaf.specs.Node.{node, node_nonempty};
-ghost use Rattle.mls_leaf.specs.Answered.{node_faults};
+ghost use Rattle.mls_leaf.specs.ReadFaults.{node_faults};
 
 use crate::codec::Codec;
 use crate::error::LeafError;

@@ -5,7 +5,7 @@ ghost use Rattle.mls_wire.specs.CombineLaws.{forgotten};
 ghost use Rattle.mls_wire.specs.Stateful.{run_at, vector_from};
 ghost use Rattle.mls_leaf.specs.declared.error.LeafError.TheVariants.{NotRising};
 ghost use Rattle.mls_leaf.specs.Faults.{Gives, AddsSpelling, ReadsFrontNow, ReadsAllPast};
-ghost use Rattle.mls_leaf.specs.Parent.{Parent, rises, inserted};
+ghost use Rattle.mls_leaf.specs.Parent.{Parent, rises, rising_with};
 ghost use Rattle.mls_leaf.specs.ParentNode.{entry_from, rising, parent_node, parent_node_nonempty, parent_node_faults};
 
 use crate::bytes::Bytes;
@@ -100,9 +100,9 @@ fn add_rising(alloc: Global, entries: &[u32], writer: &mut Writer) -> Result<(),
 fn place_for(entries: &[u32], leaf: u32) -> Option<usize>
     requires { rises entries.now ≡ true }
     ensures { MatchOption result
-        (inserted leaf entries.now ≡ entries.now)
-        (λ place. (place ≤ length entries.now) × (inserted leaf entries.now ≡ insert entries.now place leaf)
-        × (filter (λ u. not (u == leaf)) (inserted leaf entries.now) ≡ entries.now)) }
+        (rising_with leaf entries.now ≡ entries.now)
+        (λ place. (place ≤ length entries.now) × (rising_with leaf entries.now ≡ insert entries.now place leaf)
+        × (filter (λ u. not (u == leaf)) (rising_with leaf entries.now) ≡ entries.now)) }
 {
     match entries.binary_search(&leaf) {
         Ok(_) => None,
@@ -173,9 +173,9 @@ impl ParentNode {
     /// it all stays as it was.
     pub fn insert_unmerged(&mut self, leaf: u32) -> Result<bool, AllocError>
         ensures put { MatchResult result
-            (λ _. self.new ≡ record self.old { unmerged_leaves = inserted leaf self.old.unmerged_leaves })
+            (λ _. self.new ≡ record self.old { unmerged_leaves = rising_with leaf self.old.unmerged_leaves })
             (λ _. self.new ≡ self.old) }
-        ensures there { inserted leaf self.old.unmerged_leaves ≡ self.old.unmerged_leaves → IsOk result }
+        ensures there { rising_with leaf self.old.unmerged_leaves ≡ self.old.unmerged_leaves → IsOk result }
         ensures new { result ≡ Ok true → filter (λ u. not (u == leaf)) self.new.unmerged_leaves ≡ self.old.unmerged_leaves }
         ensures listed { result ≡ Ok false → self.new ≡ self.old }
     {

@@ -2,7 +2,7 @@
 
 ghost use Rattle.std.specs.Prelude.{◌≡◌};
 ghost use Rattle.mls_leaf.specs.Proposal.{proposal, proposal_nonempty};
-ghost use Rattle.mls_leaf.specs.Answered.{proposal_faults};
+ghost use Rattle.mls_leaf.specs.ReadFaults.{proposal_faults};
 
 use crate::codec::Codec;
 use crate::error::LeafError;

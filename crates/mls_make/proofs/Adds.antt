@@ -7,13 +7,13 @@ use Rattle.mls_leaf.specs.Proposal.{proposal as proposal_format}
 use Rattle.mls_leaf.specs.declared.key_package.KeyPackage.{KeyPackage}
 use Rattle.mls_leaf.specs.declared.proposal.Proposal.{Proposal}
 use Rattle.mls_leaf.specs.declared.proposal.Proposal.TheVariants.{Add, Update, Remove}
-use Rattle.mls_model.specs.Public.{Used}
+use Rattle.mls_model.specs.PublicState.{Used}
 use Rattle.mls_model.specs.Proposals.{adds, add_in}
 use Rattle.mls_public_group.specs.Short.{IsBelow, AreBelow}
 use Rattle.mls_public_group.proofs.ShortLaws.{add_below}
-use Rattle.mls_welcome.specs.Joiners.{place_of, AreShortJoiners}
-use Rattle.mls_welcome.specs.declared.making.Joiner.{Joiner}
-use Rattle.mls_make.specs.Parts.{AreShortUsed}
+use Rattle.mls_welcome.specs.Joiners.{package_and_leaf_of, AreShortJoiners}
+use Rattle.mls_welcome.specs.declared.welcome_message.Joiner.{Joiner}
+use Rattle.mls_make.specs.CommitCall.{AreShortUsed}
 
 -- each proposal that is used is short
 pub used_short : (used : List Used) → AreShortUsed used → AreBelow (2 ^ 28) used
@@ -40,17 +40,17 @@ module _ (n : ℕ) where
 
 -- ---- joiners
 
-of_places : (js : List Joiner) → AllByRecursion (λ (x : KeyPackage × ℕ). IsBelow (2 ^ 28) key_package x.0) (map place_of js) → AreShortJoiners js
+of_places : (js : List Joiner) → AllByRecursion (λ (x : KeyPackage × ℕ). IsBelow (2 ^ 28) key_package x.0) (map package_and_leaf_of js) → AreShortJoiners js
 of_places [] h = tt
 of_places (j ∷ js) h = (h.0, of_places js h.1)
 
-pub joiners_short : (used : List Used) (added : List ℕ) (js : List Joiner) → AreBelow (2 ^ 28) used → map place_of js ≡ zip (adds used) added → AreShortJoiners js
+pub joiners_short : (used : List Used) (added : List ℕ) (js : List Joiner) → AreBelow (2 ^ 28) used → map package_and_leaf_of js ≡ zip (adds used) added → AreShortJoiners js
 joiners_short used added js below places =
     of_places js (subst (AllByRecursion (λ (x : KeyPackage × ℕ). IsBelow (2 ^ 28) key_package x.0)) (sym places) (places_below (2 ^ 28) (adds used) added (packages_below (2 ^ 28) used below)))
 
 -- there are as many as places
-joiners_counted : (js : List Joiner) (places : List (KeyPackage × ℕ)) → map place_of js ≡ places → length js ≡ length places
-joiners_counted js places is = sym (length-map js place_of) ∙ ap length is
+joiners_counted : (js : List Joiner) (places : List (KeyPackage × ℕ)) → map package_and_leaf_of js ≡ places → length js ≡ length places
+joiners_counted js places is = sym (length-map js package_and_leaf_of) ∙ ap length is
 
-pub joiners_fit : (first : ℕ) (js : List Joiner) (places : List (KeyPackage × ℕ)) → map place_of js ≡ places → first + length places < 2 ^ 32 → first + length js < 2 ^ 32
+pub joiners_fit : (first : ℕ) (js : List Joiner) (places : List (KeyPackage × ℕ)) → map package_and_leaf_of js ≡ places → first + length places < 2 ^ 32 → first + length js < 2 ^ 32
 joiners_fit first js places is lt = let same : length js ≡ length places = joiners_counted js places is in omega arith

@@ -19,21 +19,21 @@ use Rattle.mls_treekem_model.specs.Make.{Climb, climb_make}
 use Rattle.mls_treekem_model.specs.Seal.{sealed_path}
 use Rattle.mls_treekem_model.specs.Seeds.{path_seed, seal_seed}
 use Rattle.mls_treekem_model.specs.Whole.{keys_of_path}
-use Rattle.mls_model.specs.Public.{Used, provisional_context}
+use Rattle.mls_model.specs.PublicState.{Used, provisional_context}
 use Rattle.mls_model.specs.Proposals.{is_path_required}
 use Rattle.mls_model.specs.Candidate.{leaf_key_of}
-use Rattle.mls_model.specs.Commit.{Edits, edited, merged, body}
+use Rattle.mls_model.specs.Commit.{Edits, apply_proposals, apply_path_if, change_of_commit}
 use Rattle.mls_model.specs.Member.{Member}
 use Rattle.mls_model.specs.Make.{MadePath, committed_leaf, new_path, no_path}
-use Rattle.mls_commit.specs.Changed.{change_of}
-use Rattle.mls_make.specs.Making.{path_made}
+use Rattle.mls_commit.specs.Change.{change_of}
+use Rattle.mls_make.specs.CommitSteps.{path_if_needed}
 
 -- ---- the body of a commit whose checks have passed
 
 pub body_is : (c : Crypto) (m : Member) (used : List Used) (e : Edits) (commit : Commit) (t : Term) (said : FramedContent) (signature : List ℕ) →
-    edited c m.public m.keys.leaf used ≡ Ok e → (is_some commit.path || not (is_path_required used)) ≡ true → merged c m.public m.keys.leaf e commit.path ≡ Ok t →
-    body c m.public m.keys.leaf used commit said signature ≡ Ok (change_of m.public e t (framed_content.spell said) signature)
-unfolding body change_of
+    apply_proposals c m.public m.keys.leaf used ≡ Ok e → (is_some commit.path || not (is_path_required used)) ≡ true → apply_path_if c m.public m.keys.leaf e commit.path ≡ Ok t →
+    change_of_commit c m.public m.keys.leaf used commit said signature ≡ Ok (change_of m.public e t (framed_content.spell said) signature)
+unfolding change_of_commit change_of
 body_is c m used e commit t said signature edits path tree = rw (edits, path, tree) refl
 
 -- ---- a path is there where one is required (RFC 9420, 12.4)
@@ -64,6 +64,6 @@ either_path false false new old made some h = some_or_none (is_some made.path)
     some_or_none true = refl
     some_or_none false = refl
 
-pub path_due : (c : Crypto) (m : Member) (e : Edits) (used : List Used) (wants_path : Bool) (seed : List ℕ) (made : MadePath) → path_made c m e used wants_path seed ≡ Ok made → (is_some made.path || not (is_path_required used)) ≡ true
-unfolding path_made
+pub path_due : (c : Crypto) (m : Member) (e : Edits) (used : List Used) (wants_path : Bool) (seed : List ℕ) (made : MadePath) → path_if_needed c m e used wants_path seed ≡ Ok made → (is_some made.path || not (is_path_required used)) ≡ true
+unfolding path_if_needed
 path_due c m e used wants_path seed made h = either_path wants_path (is_path_required used) (new_path c m e seed) (Ok (no_path m e)) made (new_path_some c m e seed made) h

@@ -16,13 +16,13 @@ use Rattle.mls_types.specs.declared.commit.Commit.{Commit}
 use Rattle.mls_types.specs.declared.commit.ProposalOrRef.{ProposalOrRef}
 use Rattle.mls_types.specs.declared.commit.ProposalOrRef.TheVariants as listed
 use Rattle.mls_types.specs.declared.content.Content.TheVariants as says
-use Rattle.mls_model.specs.Public.{Used}
-use Rattle.mls_model.specs.Member.{Kept, used_one, used_by}
+use Rattle.mls_model.specs.PublicState.{Used}
+use Rattle.mls_model.specs.Member.{KeptProposal, find_proposal, find_proposals}
 use Rattle.mls_public_group.specs.Short.{IsBelow}
 use Rattle.mls_message.specs.Sending.{FitsIfShort}
-use Rattle.mls_theorems.specs.Fit.{LeafFitsIfShort}
+use Rattle.mls_theorems.specs.CommitSpelling.{LeafFitsIfShort}
 use Rattle.mls_theorems.proofs.Fit.{short_first, short_last, short_text, commit_fits}
-use Rattle.mls_make.specs.Parts.{AreShortUsed}
+use Rattle.mls_make.specs.CommitCall.{AreShortUsed}
 
 -- ---- its path
 
@@ -38,7 +38,7 @@ path_leaf_fits (Some q) h p is lt = subst (λ (u : UpdatePath). leaf_node.Fits u
 
 -- ---- its list, by what it uses
 
-one_fits : (kept : List Kept) (leaf : ℕ) (x : ProposalOrRef) (u : Used) → used_one kept leaf x ≡ Ok u → IsBelow (2 ^ 28) proposal u.proposal → length (proposal_or_ref.spell x) < 2 ^ 30 → proposal_or_ref.Fits x
+one_fits : (kept : List KeptProposal) (leaf : ℕ) (x : ProposalOrRef) (u : Used) → find_proposal kept leaf x ≡ Ok u → IsBelow (2 ^ 28) proposal u.proposal → length (proposal_or_ref.spell x) < 2 ^ 30 → proposal_or_ref.Fits x
 unfolding proposal_or_ref
 one_fits kept leaf (listed.Proposal p) u h short lt =
     let same : u.proposal ≡ p = ap (λ (v : Used). v.proposal) (sym (ok_is _ _ h)) in
@@ -46,8 +46,8 @@ one_fits kept leaf (listed.Proposal p) u h short lt =
 one_fits kept leaf (listed.Reference r) u h short lt = (lit< tt, short_text r _ (short_last _ _ _ lt))
 
 -- each has a spelling where the whole list's is short
-pub list_fits : (kept : List Kept) (leaf : ℕ) (xs : List ProposalOrRef) (used : List Used) → used_by kept leaf xs ≡ Ok used → AreShortUsed used → length (flat_map proposal_or_ref.spell xs) < 2 ^ 30 → AllByRecursion proposal_or_ref.Fits xs
-unfolding used_by
+pub list_fits : (kept : List KeptProposal) (leaf : ℕ) (xs : List ProposalOrRef) (used : List Used) → find_proposals kept leaf xs ≡ Ok used → AreShortUsed used → length (flat_map proposal_or_ref.spell xs) < 2 ^ 30 → AllByRecursion proposal_or_ref.Fits xs
+unfolding find_proposals
 list_fits kept leaf [] used h short lt = tt
 list_fits kept leaf (x ∷ xs) used h short lt =
     let one = bind_ok _ _ _ h in
@@ -69,7 +69,7 @@ unfolding content
 content_fits_if_short k fits lt = (lit< tt, fits (short_last _ (commit.spell k) _ lt))
 
 -- by the proposals that it uses, and a path whose leaf has a spelling
-pub commit_fits_if_short : (kept : List Kept) (leaf : ℕ) (list : List ProposalOrRef) (used : List Used) (path : Option UpdatePath) → used_by kept leaf list ≡ Ok used → AreShortUsed used → IfSome path (λ p. IsBelow (2 ^ 28) leaf_node p.leaf_node) →
+pub commit_fits_if_short : (kept : List KeptProposal) (leaf : ℕ) (list : List ProposalOrRef) (used : List Used) (path : Option UpdatePath) → find_proposals kept leaf list ≡ Ok used → AreShortUsed used → IfSome path (λ p. IsBelow (2 ^ 28) leaf_node p.leaf_node) →
     let k : Commit = record { proposals = list; path = path } in FitsIfShort content (says.Commit k)
 commit_fits_if_short kept leaf list used path h short own =
     let k : Commit = record { proposals = list; path = path } in

@@ -4,7 +4,7 @@ use Rattle.std.specs.Prelude.{IfSome}
 use Rattle.std.specs.Int.{w8}
 use Rattle.std.specs.List.{cons_option, flat_map}
 use Rattle.std.proofs.lemmas.Slice.Zip.{length-zip}
-use Rattle.mls_wire.specs.Checks.{given}
+use Rattle.mls_wire.specs.Checks.{require_some}
 use Rattle.mls_wire.proofs.CheckLaws.{bind_ok}
 use Rattle.mls_wire.specs.Combine.{vector, optional, byte_string, uint64}
 use Rattle.mls_wire.specs.Laws.{ok_is}
@@ -28,19 +28,19 @@ use Rattle.mls_types.specs.declared.content.Content.TheVariants as says
 use Rattle.mls_types.specs.declared.content.FramedContent.{FramedContent}
 use Rattle.mls_suite.specs.Crypto.{Crypto}
 use Rattle.mls_tree_model.specs.Term.{Term}
-use Rattle.mls_treekem_model.specs.Seeds.{seals_in}
-use Rattle.mls_model.specs.Public.{PublicState, Used}
+use Rattle.mls_treekem_model.specs.Seeds.{seal_count_of}
+use Rattle.mls_model.specs.PublicState.{PublicState, Used}
 use Rattle.mls_model.specs.Proposals.{add_in, adds}
-use Rattle.mls_model.specs.Commit.{Edits, edited, merged}
-use Rattle.mls_model.specs.Member.{Kept, Member, kept_under, used_one, used_by}
-use Rattle.mls_model.specs.Messages.{said_by}
+use Rattle.mls_model.specs.Commit.{Edits, apply_proposals, apply_path_if}
+use Rattle.mls_model.specs.Member.{KeptProposal, Member, kept_under, find_proposal, find_proposals}
+use Rattle.mls_model.specs.Messages.{content_by}
 use Rattle.mls_model.specs.Make.{path_seals}
-use Rattle.mls_public_group.specs.Edited.{applied}
+use Rattle.mls_public_group.specs.ProposalList.{edit_tree}
 use Rattle.mls_public_group.proofs.Leaves.{below_applied}
 use Rattle.mls_public_group.specs.Short.{IsBelow, AreBelow, HasLeavesBelow}
 use Rattle.mls_commit.proofs.Below.{below_merged}
 use Rattle.mls_theorems.proofs.Inversion.{edited_steps}
-use Rattle.mls_make.specs.Parts.{IsShortUsed, AreShortUsed}
+use Rattle.mls_make.specs.CommitCall.{IsShortUsed, AreShortUsed}
 
 -- ---- lists
 
@@ -69,9 +69,9 @@ unfolding content
 commit_inside k n h = back _ (commit.spell k) n h
 
 -- what a member says is no shorter than the commit
-pub commit_within : (m : Member) (k : Commit) → length (framed_content.spell (said_by m (says.Commit k))) ≤ input_limit → length (commit.spell k) ≤ input_limit
-unfolding said_by
-commit_within m k h = commit_inside k input_limit (content_inside (said_by m (says.Commit k)) input_limit h)
+pub commit_within : (m : Member) (k : Commit) → length (framed_content.spell (content_by m (says.Commit k))) ≤ input_limit → length (commit.spell k) ≤ input_limit
+unfolding content_by
+commit_within m k h = commit_inside k input_limit (content_inside (content_by m (says.Commit k)) input_limit h)
 
 pub list_inside : (k : Commit) (n : ℕ) → length (commit.spell k) ≤ n → length ((vector proposal_or_ref proposal_or_ref_nonempty).spell k.proposals) ≤ n
 unfolding commit
@@ -91,13 +91,13 @@ unfolding proposal_or_ref
 listed_inside p n h = back (uint w8 1) (proposal.spell p) n h
 
 -- one that is named is a kept one
-named_kept : (kept : List Kept) (leaf : ℕ) (r : List ℕ) (u : Used) → used_one kept leaf (listed.Reference r) ≡ Ok u → u.is_full ≡ false
+named_kept : (kept : List KeptProposal) (leaf : ℕ) (r : List ℕ) (u : Used) → find_proposal kept leaf (listed.Reference r) ≡ Ok u → u.is_full ≡ false
 named_kept kept leaf r u h =
-    let k = bind_ok (given 60 (kept_under kept r)) _ u h in
+    let k = bind_ok (require_some 60 (kept_under kept r)) _ u h in
     let made : Used = record { proposal = k.0.proposal; sender = k.0.sender; is_full = false } in
     sym (ap (λ (v : Used). v.is_full) (ok_is made u k.2))
 
-one_below : (kept : List Kept) (leaf : ℕ) (x : ProposalOrRef) (u : Used) → used_one kept leaf x ≡ Ok u → IsShortUsed u → length (proposal_or_ref.spell x) ≤ input_limit → IsBelow (2 ^ 27) proposal u.proposal
+one_below : (kept : List KeptProposal) (leaf : ℕ) (x : ProposalOrRef) (u : Used) → find_proposal kept leaf x ≡ Ok u → IsShortUsed u → length (proposal_or_ref.spell x) ≤ input_limit → IsBelow (2 ^ 27) proposal u.proposal
 one_below kept leaf (listed.Proposal p) u h short le =
     let same : p ≡ u.proposal = ap (λ (v : Used). v.proposal) (ok_is _ _ h) in
     let whole : length (proposal.spell p) ≤ input_limit = listed_inside p input_limit le in
@@ -105,8 +105,8 @@ one_below kept leaf (listed.Proposal p) u h short le =
     record { fits = short.0.fits; below = omega arith }
 one_below kept leaf (listed.Reference r) u h short le = short.1 (named_kept kept leaf r u h)
 
-all_below : (kept : List Kept) (leaf : ℕ) (xs : List ProposalOrRef) (used : List Used) → used_by kept leaf xs ≡ Ok used → AreShortUsed used → length (flat_map proposal_or_ref.spell xs) ≤ input_limit → AreBelow (2 ^ 27) used
-unfolding used_by
+all_below : (kept : List KeptProposal) (leaf : ℕ) (xs : List ProposalOrRef) (used : List Used) → find_proposals kept leaf xs ≡ Ok used → AreShortUsed used → length (flat_map proposal_or_ref.spell xs) ≤ input_limit → AreBelow (2 ^ 27) used
+unfolding find_proposals
 all_below kept leaf [] used h short le = subst (AreBelow (2 ^ 27)) (ok_is _ _ h) tt
 all_below kept leaf (x ∷ xs) used h short le =
     let one = bind_ok _ _ _ h in
@@ -119,7 +119,7 @@ all_below kept leaf (x ∷ xs) used h short le =
     )
 
 -- each encodes to fewer than 2^27 bytes
-pub used_below : (kept : List Kept) (leaf : ℕ) (k : Commit) (used : List Used) → length (commit.spell k) ≤ input_limit → used_by kept leaf k.proposals ≡ Ok used → AreShortUsed used → AreBelow (2 ^ 27) used
+pub used_below : (kept : List KeptProposal) (leaf : ℕ) (k : Commit) (used : List Used) → length (commit.spell k) ≤ input_limit → find_proposals kept leaf k.proposals ≡ Ok used → AreShortUsed used → AreBelow (2 ^ 27) used
 used_below kept leaf k used le h short = all_below kept leaf k.proposals used h short (items_inside k input_limit le)
 
 -- ---- its path
@@ -155,8 +155,8 @@ node_counted x =
     let inner : List ℕ = flat_map hpke_ciphertext.spell x.ciphertexts in
     omega (arith, ciphers_counted x.ciphertexts, length-append (header (length inner)) inner, length-append (opaque x.encryption_key) (opaque inner))
 
-nodes_counted : (xs : List UpdatePathNode) → seals_in xs ≤ length (flat_map update_path_node.spell xs)
-unfolding seals_in
+nodes_counted : (xs : List UpdatePathNode) → seal_count_of xs ≤ length (flat_map update_path_node.spell xs)
+unfolding seal_count_of
 nodes_counted [] = omega arith
 nodes_counted (x ∷ xs) = omega (arith, node_counted x, nodes_counted xs, length-append (update_path_node.spell x) (flat_map update_path_node.spell xs))
 
@@ -182,12 +182,12 @@ list_counted [] = omega arith
 list_counted (x ∷ xs) = omega (arith, listed_nonempty x, list_counted xs, length-append (proposal_or_ref.spell x) (flat_map proposal_or_ref.spell xs))
 
 -- it uses as many proposals as it lists
-pub used_counted : (kept : List Kept) (leaf : ℕ) (xs : List ProposalOrRef) (used : List Used) → used_by kept leaf xs ≡ Ok used → length used ≡ length xs
-unfolding used_by
+pub used_counted : (kept : List KeptProposal) (leaf : ℕ) (xs : List ProposalOrRef) (used : List Used) → find_proposals kept leaf xs ≡ Ok used → length used ≡ length xs
+unfolding find_proposals
 used_counted kept leaf [] used h = sym (ap length (ok_is _ _ h))
 used_counted kept leaf (x ∷ xs) used h =
-    let one = bind_ok (used_one kept leaf x) _ used h in
-    let more = bind_ok (used_by kept leaf xs) _ used one.2 in
+    let one = bind_ok (find_proposal kept leaf x) _ used h in
+    let more = bind_ok (find_proposals kept leaf xs) _ used one.2 in
     let is : one.0 ∷ more.0 ≡ used = ok_is _ _ more.2 in
     omega (arith, used_counted kept leaf xs more.0 more.1, ap length is)
 
@@ -201,7 +201,7 @@ adds_counted (u ∷ us) = one_more (add_in u.proposal) (adds us) (adds_counted u
     one_more (Some x) xs le = omega arith
 
 -- seals of its path and of its Welcome together are fewer than 2^32
-pub seals_short : (kept : List Kept) (leaf : ℕ) (k : Commit) (used : List Used) (added : List ℕ) → length (commit.spell k) ≤ input_limit → used_by kept leaf k.proposals ≡ Ok used → path_seals k.path + length (zip (adds used) added) < 2 ^ 32
+pub seals_short : (kept : List KeptProposal) (leaf : ℕ) (k : Commit) (used : List Used) (added : List ℕ) → length (commit.spell k) ≤ input_limit → find_proposals kept leaf k.proposals ≡ Ok used → path_seals k.path + length (zip (adds used) added) < 2 ^ 32
 seals_short kept leaf k used added le h =
     let seals : path_seals k.path ≤ input_limit = path_seals_within k input_limit le in
     let items : length (flat_map proposal_or_ref.spell k.proposals) ≤ input_limit = items_inside k input_limit le in
@@ -210,13 +210,13 @@ seals_short kept leaf k used added le h =
 -- ---- the leaves of the tree with it
 
 -- after the edits they are as short as before them and as the proposals
-pub leaves_edited : (c : Crypto) (p : PublicState) (i n : ℕ) (used : List Used) (e : Edits) → edited c p i used ≡ Ok e → AreBelow n used → HasLeavesBelow n p.tree → HasLeavesBelow n e.tree
-unfolding applied
+pub leaves_edited : (c : Crypto) (p : PublicState) (i n : ℕ) (used : List Used) (e : Edits) → apply_proposals c p i used ≡ Ok e → AreBelow n used → HasLeavesBelow n p.tree → HasLeavesBelow n e.tree
+unfolding edit_tree
 leaves_edited c p i n used e h short old =
     let s = edited_steps c p i used e h in
     below_applied n p.tree used e short (rw (s.updating, s.removing) s.adding) old
 
 -- and with the path as short as its leaf too
-pub leaves_below : (c : Crypto) (p : PublicState) (i : ℕ) (used : List Used) (e : Edits) (path : Option UpdatePath) (t : Term) → edited c p i used ≡ Ok e → merged c p i e path ≡ Ok t →
+pub leaves_below : (c : Crypto) (p : PublicState) (i : ℕ) (used : List Used) (e : Edits) (path : Option UpdatePath) (t : Term) → apply_proposals c p i used ≡ Ok e → apply_path_if c p i e path ≡ Ok t →
     AreBelow (2 ^ 27) used → IfSome path (λ u. IsBelow (2 ^ 27) leaf_node u.leaf_node) → HasLeavesBelow (2 ^ 27) p.tree → HasLeavesBelow (2 ^ 27) t
 leaves_below c p i used e path t h g short leaf old = below_merged c p i e path t (2 ^ 27) g leaf (leaves_edited c p i (2 ^ 27) used e h short old)

@@ -13,27 +13,27 @@ use Rattle.mls_types.specs.declared.content.FramedContent.{FramedContent}
 use Rattle.mls_suite.specs.Crypto.{Crypto}
 use Rattle.mls_tree_model.specs.Term.{Term}
 use Rattle.mls_treekem_model.specs.Seeds.{seal_seed}
-use Rattle.mls_model.specs.Public.{Used}
+use Rattle.mls_model.specs.PublicState.{Used}
 use Rattle.mls_model.specs.Proposals.{adds}
-use Rattle.mls_model.specs.Commit.{Edits, Change, edited, merged, public_with}
-use Rattle.mls_model.specs.Member.{Member, used_by, with_keys}
-use Rattle.mls_model.specs.Messages.{is_within_limit, said_by, content_signature, sent_by}
+use Rattle.mls_model.specs.Commit.{Edits, Change, apply_proposals, apply_path_if, public_with}
+use Rattle.mls_model.specs.Member.{Member, find_proposals, with_keys}
+use Rattle.mls_model.specs.Messages.{is_within_limit, content_by, content_signature, message_by}
 use Rattle.mls_model.specs.Make.{MadePath, Made, path_secret_for, path_seals, welcome_if, make}
 use Rattle.mls_model.specs.Welcome.{unsigned_info, signed_info, secrets_with, welcome_message}
-use Rattle.mls_commit.specs.Changed.{change_of}
-use Rattle.mls_message.specs.Sending.{limited}
+use Rattle.mls_commit.specs.Change.{change_of}
+use Rattle.mls_message.specs.Sending.{limited_text}
 use Rattle.mls_message.specs.Speaks.{Speaks}
 use Rattle.mls_message.specs.declared.speaker.Speaker.{Speaker}
-use Rattle.mls_theorems.specs.Makes.{joiner_of, epoch_of, tag_of}
+use Rattle.mls_theorems.specs.CommitCalls.{joiner_of, epoch_of, tag_of}
 use Rattle.mls_make.proofs.Bodies.{body_is, path_due}
-use Rattle.mls_make.specs.Making.{path_made, made_of, made_with, made_by}
+use Rattle.mls_make.specs.CommitSteps.{path_if_needed, commit_from_change, commit_from_path, commit_from_proposals}
 
 -- ---- the checks before them (RFC 9420, 12.4.1)
 
 -- 40 the member was removed, 67 it has a pending commit, 66 no epoch is left, 60, and then what stands behind its list
 pub make_is : (c : Crypto) (m : Member) (list : List ProposalOrRef) (wants_path : Bool) (seed : List ℕ) →
-    make c m list wants_path seed ≡ (require 40 (not m.gone) >> (require 67 (is_none m.pending) >> (require 66 (nat_lt m.public.context.epoch (2 ^ 64 - 1)) >> (used_by m.kept m.keys.leaf list >>= λ used. made_by c m list used wants_path seed))))
-unfolding make made_by made_with made_of path_made
+    make c m list wants_path seed ≡ (require 40 (not m.gone) >> (require 67 (is_none m.pending) >> (require 66 (nat_lt m.public.context.epoch (2 ^ 64 - 1)) >> (find_proposals m.kept m.keys.leaf list >>= λ used. commit_from_proposals c m list used wants_path seed))))
+unfolding make commit_from_proposals commit_from_path commit_from_change path_if_needed
 make_is c m list wants_path seed = refl
 
 -- ---- what a commit says, and where it leads
@@ -42,7 +42,7 @@ abbrev pub commit_in : List ProposalOrRef → MadePath → Commit
 commit_in list made = record { proposals = list; path = made.path }
 
 abbrev pub said_in : Member → List ProposalOrRef → MadePath → FramedContent
-said_in m list made = said_by m (says.Commit (commit_in list made))
+said_in m list made = content_by m (says.Commit (commit_in list made))
 
 abbrev pub signature_in : Crypto → Member → List ProposalOrRef → MadePath → List ℕ
 signature_in c m list made = content_signature c m.signing (said_in m list made) m.public.context
@@ -53,33 +53,33 @@ change_in c m list e made t = change_of m.public e t (framed_content.spell (said
 -- ---- the edits, the path, the tree with it
 
 module _ (c : Crypto) (m : Member) (list : List ProposalOrRef) (used : List Used) (wants_path : Bool) (seed : List ℕ) where
-  pub edits_fail : (n : ℕ) → edited c m.public m.keys.leaf used ≡ Err n → made_by c m list used wants_path seed ≡ Err n
-  unfolding made_by
+  pub edits_fail : (n : ℕ) → apply_proposals c m.public m.keys.leaf used ≡ Err n → commit_from_proposals c m list used wants_path seed ≡ Err n
+  unfolding commit_from_proposals
   edits_fail n h = rw h refl
 
-  module _ (e : Edits) (edits : edited c m.public m.keys.leaf used ≡ Ok e) where
-    pub path_fails : (n : ℕ) → path_made c m e used wants_path seed ≡ Err n → made_by c m list used wants_path seed ≡ Err n
-    unfolding made_by
+  module _ (e : Edits) (edits : apply_proposals c m.public m.keys.leaf used ≡ Ok e) where
+    pub path_fails : (n : ℕ) → path_if_needed c m e used wants_path seed ≡ Err n → commit_from_proposals c m list used wants_path seed ≡ Err n
+    unfolding commit_from_proposals
     path_fails n h = rw (edits, h) refl
 
-    module _ (made : MadePath) (path : path_made c m e used wants_path seed ≡ Ok made) where
-      pub made_by_is : made_by c m list used wants_path seed ≡ made_with c m list used e made seed
-      unfolding made_by
+    module _ (made : MadePath) (path : path_if_needed c m e used wants_path seed ≡ Ok made) where
+      pub made_by_is : commit_from_proposals c m list used wants_path seed ≡ commit_from_path c m list used e made seed
+      unfolding commit_from_proposals
       made_by_is = rw (edits, path) refl
 
-      module _ (t : Term) (tree : merged c m.public m.keys.leaf e made.path ≡ Ok t) where
-        pub made_with_is : made_with c m list used e made seed ≡ made_of c m (said_in m list made) (signature_in c m list made) used e made seed (change_in c m list e made t)
-        unfolding made_with
+      module _ (t : Term) (tree : apply_path_if c m.public m.keys.leaf e made.path ≡ Ok t) where
+        pub made_with_is : commit_from_path c m list used e made seed ≡ commit_from_change c m (said_in m list made) (signature_in c m list made) used e made seed (change_in c m list e made t)
+        unfolding commit_from_path
         made_with_is =
             rw (body_is c m used e (commit_in list made) t (said_in m list made) (signature_in c m list made) edits (path_due c m e used wants_path seed made path) tree) refl
 
         -- all of it in one
-        pub made_is : made_by c m list used wants_path seed ≡ made_of c m (said_in m list made) (signature_in c m list made) used e made seed (change_in c m list e made t)
+        pub made_is : commit_from_proposals c m list used wants_path seed ≡ commit_from_change c m (said_in m list made) (signature_in c m list made) used e made seed (change_in c m list e made t)
         made_is = made_by_is ∙ made_with_is
 
         -- a content alone is too large
-        pub content_fails : (n : ℕ) → ((signature tag : List ℕ) → is_within_limit (sent_by m (signed_with (said_in m list made) signature tag)) ≡ Err n) → made_by c m list used wants_path seed ≡ Err n
-        unfolding made_of
+        pub content_fails : (n : ℕ) → ((signature tag : List ℕ) → is_within_limit (message_by m (signed_with (said_in m list made) signature tag)) ≡ Err n) → commit_from_proposals c m list used wants_path seed ≡ Err n
+        unfolding commit_from_change
         content_fails n h = made_is ∙ rw (h _ _) refl
 
 -- ---- the message, and the Welcome
@@ -98,26 +98,26 @@ through (Err n) bytes f = refl
 
 module _ (c : Crypto) (m : Member) (said : FramedContent) (signature : List ℕ) (used : List Used) (e : Edits) (made : MadePath) (seed : List ℕ) (change : Change) where
   abbrev message : List ℕ
-  message = sent_by m (signed_with said signature (tag_of m made change))
+  message = message_by m (signed_with said signature (tag_of m made change))
 
-  abbrev welcomed : Result (Option (List ℕ)) ℕ
-  welcomed = welcome_if c m change made (joiner_of m made change) (tag_of m made change) seed (zip (adds used) e.added)
+  abbrev with_welcome : Result (Option (List ℕ)) ℕ
+  with_welcome = welcome_if c m change made (joiner_of m made change) (tag_of m made change) seed (zip (adds used) e.added)
 
-  pub made_of_is : made_of c m said signature used e made seed change ≡ (limited message >>= λ bytes. welcomed >>= λ welcome. Ok (made_as_of m made change bytes welcome))
-  unfolding made_of joiner_of epoch_of tag_of
-  made_of_is = through (is_within_limit message) message (λ bytes. welcomed >>= λ welcome. Ok (made_as_of m made change bytes welcome))
+  pub made_of_is : commit_from_change c m said signature used e made seed change ≡ (limited_text message >>= λ bytes. with_welcome >>= λ welcome. Ok (made_as_of m made change bytes welcome))
+  unfolding commit_from_change joiner_of epoch_of tag_of
+  made_of_is = through (is_within_limit message) message (λ bytes. with_welcome >>= λ welcome. Ok (made_as_of m made change bytes welcome))
 
-  pub message_fails : (n : ℕ) → limited message ≡ Err n → made_of c m said signature used e made seed change ≡ Err n
-  message_fails n h = made_of_is ∙ ap (λ (r : Result (List ℕ) ℕ). r >>= λ bytes. welcomed >>= λ welcome. Ok (made_as_of m made change bytes welcome)) h
+  pub message_fails : (n : ℕ) → limited_text message ≡ Err n → commit_from_change c m said signature used e made seed change ≡ Err n
+  message_fails n h = made_of_is ∙ ap (λ (r : Result (List ℕ) ℕ). r >>= λ bytes. with_welcome >>= λ welcome. Ok (made_as_of m made change bytes welcome)) h
 
-  module _ (bytes : List ℕ) (sent : limited message ≡ Ok bytes) where
-    pub after_message : made_of c m said signature used e made seed change ≡ (welcomed >>= λ welcome. Ok (made_as_of m made change bytes welcome))
-    after_message = made_of_is ∙ ap (λ (r : Result (List ℕ) ℕ). r >>= λ bytes. welcomed >>= λ welcome. Ok (made_as_of m made change bytes welcome)) sent
+  module _ (bytes : List ℕ) (sent : limited_text message ≡ Ok bytes) where
+    pub after_message : commit_from_change c m said signature used e made seed change ≡ (with_welcome >>= λ welcome. Ok (made_as_of m made change bytes welcome))
+    after_message = made_of_is ∙ ap (λ (r : Result (List ℕ) ℕ). r >>= λ bytes. with_welcome >>= λ welcome. Ok (made_as_of m made change bytes welcome)) sent
 
-    pub welcome_fails : (n : ℕ) → welcomed ≡ Err n → made_of c m said signature used e made seed change ≡ Err n
+    pub welcome_fails : (n : ℕ) → with_welcome ≡ Err n → commit_from_change c m said signature used e made seed change ≡ Err n
     welcome_fails n h = after_message ∙ ap (λ (r : Result (Option (List ℕ)) ℕ). r >>= λ welcome. Ok (made_as_of m made change bytes welcome)) h
 
-    pub made_of_ok : (welcome : Option (List ℕ)) → welcomed ≡ Ok welcome → made_of c m said signature used e made seed change ≡ Ok (made_as_of m made change bytes welcome)
+    pub made_of_ok : (welcome : Option (List ℕ)) → with_welcome ≡ Ok welcome → commit_from_change c m said signature used e made seed change ≡ Ok (made_as_of m made change bytes welcome)
     made_of_ok welcome h = after_message ∙ ap (λ (r : Result (Option (List ℕ)) ℕ). r >>= λ welcome. Ok (made_as_of m made change bytes welcome)) h
 
 -- ---- a Welcome where somebody is added
@@ -146,8 +146,8 @@ module _ (c : Crypto) (m : Member) (change : Change) (made : MadePath) (joiner t
 -- ---- of a member that speaks
 
 -- what is made of a speaker's parts is made of its member's
-pub edited_as : (c : Crypto) (m : Member) (s : Speaker) (used : List Used) (r : Result Edits ℕ) → Speaks m s → edited c s.group.now s.leaf used ≡ r → edited c m.public m.keys.leaf used ≡ r
+pub edited_as : (c : Crypto) (m : Member) (s : Speaker) (used : List Used) (r : Result Edits ℕ) → Speaks m s → apply_proposals c s.group.now s.leaf used ≡ r → apply_proposals c m.public m.keys.leaf used ≡ r
 edited_as c m s used r sp h = rw (sp.public, sp.leaf) h
 
-pub merged_as : (c : Crypto) (m : Member) (s : Speaker) (e : Edits) (path : Option UpdatePath) (r : Result Term ℕ) → Speaks m s → merged c s.group.now s.leaf e path ≡ r → merged c m.public m.keys.leaf e path ≡ r
+pub merged_as : (c : Crypto) (m : Member) (s : Speaker) (e : Edits) (path : Option UpdatePath) (r : Result Term ℕ) → Speaks m s → apply_path_if c s.group.now s.leaf e path ≡ r → apply_path_if c m.public m.keys.leaf e path ≡ r
 merged_as c m s e path r sp h = rw (sp.public, sp.leaf) h

@@ -21,27 +21,27 @@ use Rattle.mls_tree_model.specs.Term.{Term}
 use Rattle.mls_treekem_model.specs.Keys.{Keys, PrivateKeys, all_keys}
 use Rattle.mls_treekem_model.specs.Seeds.{seal_seed}
 use Rattle.mls_schedule.specs.Epoch.{init_secret, joiner_secret, epoch_secret, confirmation_tag}
-use Rattle.mls_model.specs.Public.{PublicState, Used}
+use Rattle.mls_model.specs.PublicState.{PublicState, Used}
 use Rattle.mls_model.specs.Proposals.{adds}
-use Rattle.mls_model.specs.Commit.{Edits, Change, edited, merged, body, public_with}
+use Rattle.mls_model.specs.Commit.{Edits, Change, apply_proposals, apply_path_if, change_of_commit, public_with}
 use Rattle.mls_model.specs.Member.{Member, with_keys}
-use Rattle.mls_model.specs.Messages.{is_within_limit, said_by, content_signature, sent_by}
+use Rattle.mls_model.specs.Messages.{is_within_limit, content_by, content_signature, message_by}
 use Rattle.mls_model.specs.Make.{Made, MadePath, welcome_if, path_secret_for, path_seals}
 use Rattle.mls_model.specs.Welcome.{secrets_with, unsigned_info, signed_info, welcome_message}
-use Rattle.mls_commit.specs.Changed.{change_of}
-use Rattle.mls_message.specs.Sending.{limited}
+use Rattle.mls_commit.specs.Change.{change_of}
+use Rattle.mls_message.specs.Sending.{limited_text}
 use Rattle.mls_message.specs.Speaks.{Speaks}
 use Rattle.mls_message.specs.declared.speaker.Speaker.{Speaker}
 use Rattle.mls_treekem.specs.declared.secrets.PathSecrets.{PathSecrets}
 use Rattle.mls_model.proofs.KeyLaws.{with_all_keys}
-use Rattle.mls_welcome.specs.Joiners.{place_of, AreSecretsOf}
-use Rattle.mls_welcome.specs.Sent.{AreSentTo}
-use Rattle.mls_welcome.specs.declared.making.Joiner.{Joiner}
+use Rattle.mls_welcome.specs.Joiners.{package_and_leaf_of, AreSecretsOf}
+use Rattle.mls_welcome.specs.SentSecrets.{AreSentTo}
+use Rattle.mls_welcome.specs.declared.welcome_message.Joiner.{Joiner}
 use Rattle.mls_make.proofs.Bodies.{body_is, path_due}
 use Rattle.mls_make.proofs.Lengths.{commit_within}
-use Rattle.mls_make.specs.Making.{path_made, made_of, made_with}
+use Rattle.mls_make.specs.CommitSteps.{path_if_needed, commit_from_change, commit_from_path}
 use Rattle.mls_make.specs.OwnPath.{IsOwn}
-use Rattle.mls_make.specs.TwoSteps.{SentCommit, sent_commit, welcome_from, welcomed}
+use Rattle.mls_make.specs.TwoSteps.{SentCommit, send_commit, welcome_from, with_welcome}
 use Rattle.mls_make.proofs.Sent.{secrets_sent}
 
 abbrev pub commit_of : List ProposalOrRef → MadePath → Commit
@@ -49,7 +49,7 @@ commit_of list made = record { proposals = list; path = made.path }
 
 -- ---- the first step
 
-refused_through : {A : Type 0} (bytes : List ℕ) (x : A) (n : ℕ) → limited bytes ≡ Err n → (is_within_limit bytes >> Ok x) ≡ Err n
+refused_through : {A : Type 0} (bytes : List ℕ) (x : A) (n : ℕ) → limited_text bytes ≡ Err n → (is_within_limit bytes >> Ok x) ≡ Err n
 refused_through bytes x n h = through (is_within_limit bytes) h
   where
     through : (r : Result Passed ℕ) → (r >> Ok bytes) ≡ Err n → (r >> Ok x) ≡ Err n
@@ -57,20 +57,20 @@ refused_through bytes x n h = through (is_within_limit bytes) h
     through (Err k) e = cc
 
 -- a content alone is too large
-pub content_refused : (c : Crypto) (m : Member) (commit : Commit) (e : Edits) (t : Term) (secret : List ℕ) (n : ℕ) → ((signature tag : List ℕ) → is_within_limit (sent_by m (signed_with (said_by m (says.Commit commit)) signature tag)) ≡ Err n) → sent_commit c m commit e t secret ≡ Err n
-unfolding sent_commit
+pub content_refused : (c : Crypto) (m : Member) (commit : Commit) (e : Edits) (t : Term) (secret : List ℕ) (n : ℕ) → ((signature tag : List ℕ) → is_within_limit (message_by m (signed_with (content_by m (says.Commit commit)) signature tag)) ≡ Err n) → send_commit c m commit e t secret ≡ Err n
+unfolding send_commit
 content_refused c m commit e t secret n h = rw (h _ _) refl
 
 abbrev sent_parts : List ℕ → Change → List ℕ → List ℕ → List ℕ → SentCommit
 sent_parts message change joiner epoch tag = record { message = message; change = change; joiner = joiner; epoch = epoch; tag = tag }
 
 -- its parts, one after the other, as a speaker makes them
-module _ (c : Crypto) (m : Member) (s : Speaker) (commit : Commit) (e : Edits) (t : Term) (secret : List ℕ) (speaks : Speaks m s) (said : FramedContent) (said_is : said ≡ said_by m (says.Commit commit))
+module _ (c : Crypto) (m : Member) (s : Speaker) (commit : Commit) (e : Edits) (t : Term) (secret : List ℕ) (speaks : Speaks m s) (said : FramedContent) (said_is : said ≡ content_by m (says.Commit commit))
     (signature : List ℕ) (signature_is : signature ≡ content_signature c m.signing said m.public.context) (bytes signed : List ℕ) (bytes_are : bytes ≡ framed_content.spell said) (signed_is : signed ≡ signature)
     (change : Change) (change_is : change ≡ change_of s.group.now e t bytes signed) (joiner epoch tag : List ℕ) (joiner_is : joiner ≡ joiner_secret (init_secret s.epoch.now) secret (group_context.spell change.context))
     (epoch_is : epoch ≡ epoch_secret joiner (group_context.spell change.context)) (tag_is : tag ≡ confirmation_tag epoch change.context.confirmed_transcript_hash) where
   abbrev message_of : List ℕ
-  message_of = sent_by m (signed_with said signature tag)
+  message_of = message_by m (signed_with said signature tag)
 
   change_as : change ≡ change_of m.public e t (framed_content.spell said) signature
   change_as = change_is ∙ (rw (bytes_are, signed_is, ← speaks.public) refl)
@@ -78,14 +78,14 @@ module _ (c : Crypto) (m : Member) (s : Speaker) (commit : Commit) (e : Edits) (
   joiner_as : joiner ≡ joiner_secret (init_secret m.epoch) secret (group_context.spell change.context)
   joiner_as = joiner_is ∙ ap (λ (l : List ℕ). joiner_secret (init_secret l) secret (group_context.spell change.context)) (sym speaks.epoch)
 
-  sent_is : sent_commit c m commit e t secret ≡ (is_within_limit message_of >> Ok (sent_parts message_of change joiner epoch tag))
-  unfolding sent_commit
+  sent_is : send_commit c m commit e t secret ≡ (is_within_limit message_of >> Ok (sent_parts message_of change joiner epoch tag))
+  unfolding send_commit
   sent_is = let a = change_as in let b = joiner_as in cc
 
-  pub sent_fails : (n : ℕ) → limited message_of ≡ Err n → sent_commit c m commit e t secret ≡ Err n
+  pub sent_fails : (n : ℕ) → limited_text message_of ≡ Err n → send_commit c m commit e t secret ≡ Err n
   sent_fails n h = sent_is ∙ refused_through message_of (sent_parts message_of change joiner epoch tag) n h
 
-  pub sent_done : (message : List ℕ) → limited message_of ≡ Ok message → sent_commit c m commit e t secret ≡ Ok (sent_parts message change joiner epoch tag)
+  pub sent_done : (message : List ℕ) → limited_text message_of ≡ Ok message → send_commit c m commit e t secret ≡ Ok (sent_parts message change joiner epoch tag)
   sent_done message h =
       let two = then_ok (is_within_limit message_of) (Ok message_of) message h in
       let same : message_of ≡ message = cc in
@@ -109,7 +109,7 @@ pub speaking_is : (s : Speaker) → Speaks (speaking s) s
 speaking_is s = record { public = refl; epoch = refl; leaf = refl; signing = refl }
 
 -- a commit whose content is no larger than a message may be
-pub commit_short : (s : Speaker) (commit : Commit) (said : FramedContent) (bytes : List ℕ) → said ≡ said_by (speaking s) (says.Commit commit) → bytes ≡ framed_content.spell said → length bytes ≤ input_limit → length (commit_format.spell commit) ≤ input_limit
+pub commit_short : (s : Speaker) (commit : Commit) (said : FramedContent) (bytes : List ℕ) → said ≡ content_by (speaking s) (says.Commit commit) → bytes ≡ framed_content.spell said → length bytes ≤ input_limit → length (commit_format.spell commit) ≤ input_limit
 commit_short s commit said bytes is spelled le = commit_within (speaking s) commit (subst (λ (v : FramedContent). length (framed_content.spell v) ≤ input_limit) is (subst (λ (l : List ℕ). length l ≤ input_limit) spelled le))
 
 -- ---- both steps
@@ -120,7 +120,7 @@ in_two (Err n) x f = refl
 
 module _ (c : Crypto) (m : Member) (list : List ProposalOrRef) (used : List Used) (e : Edits) (t : Term) (made : MadePath) (seed : List ℕ) where
   abbrev said : FramedContent
-  said = said_by m (says.Commit (commit_of list made))
+  said = content_by m (says.Commit (commit_of list made))
 
   abbrev signature : List ℕ
   signature = content_signature c m.signing said m.public.context
@@ -128,25 +128,25 @@ module _ (c : Crypto) (m : Member) (list : List ProposalOrRef) (used : List Used
   abbrev change : Change
   change = change_of m.public e t (framed_content.spell said) signature
 
-  of_change : made_of c m said signature used e made seed change ≡ (sent_commit c m (commit_of list made) e t made.climb.secret >>= welcomed c m used made seed)
-  unfolding made_of sent_commit welcomed change_of
+  of_change : commit_from_change c m said signature used e made seed change ≡ (send_commit c m (commit_of list made) e t made.climb.secret >>= with_welcome c m used made seed)
+  unfolding commit_from_change send_commit with_welcome change_of
   of_change = sym (in_two (is_within_limit _) _ _)
 
-  in_steps : body c m.public m.keys.leaf used (commit_of list made) said signature ≡ Ok change → made_with c m list used e made seed ≡ (sent_commit c m (commit_of list made) e t made.climb.secret >>= welcomed c m used made seed)
-  unfolding made_with
-  in_steps is = ap (λ (r : Result Change ℕ). r >>= made_of c m said signature used e made seed) is ∙ of_change
+  in_steps : change_of_commit c m.public m.keys.leaf used (commit_of list made) said signature ≡ Ok change → commit_from_path c m list used e made seed ≡ (send_commit c m (commit_of list made) e t made.climb.secret >>= with_welcome c m used made seed)
+  unfolding commit_from_path
+  in_steps is = ap (λ (r : Result Change ℕ). r >>= commit_from_change c m said signature used e made seed) is ∙ of_change
 
-  pub with_steps : (wants : Bool) → edited c m.public m.keys.leaf used ≡ Ok e → path_made c m e used wants seed ≡ Ok made → merged c m.public m.keys.leaf e made.path ≡ Ok t
-      → made_with c m list used e made seed ≡ (sent_commit c m (commit_of list made) e t made.climb.secret >>= welcomed c m used made seed)
+  pub with_steps : (wants : Bool) → apply_proposals c m.public m.keys.leaf used ≡ Ok e → path_if_needed c m e used wants seed ≡ Ok made → apply_path_if c m.public m.keys.leaf e made.path ≡ Ok t
+      → commit_from_path c m list used e made seed ≡ (send_commit c m (commit_of list made) e t made.climb.secret >>= with_welcome c m used made seed)
   with_steps wants edits path merges = in_steps (body_is c m used e (commit_of list made) t said signature edits (path_due c m e used wants seed made path) merges)
 
-  pub sending_fails : (wants : Bool) (n : ℕ) → edited c m.public m.keys.leaf used ≡ Ok e → path_made c m e used wants seed ≡ Ok made → merged c m.public m.keys.leaf e made.path ≡ Ok t
-      → sent_commit c m (commit_of list made) e t made.climb.secret ≡ Err n → made_with c m list used e made seed ≡ Err n
-  sending_fails wants n edits path merges h = with_steps wants edits path merges ∙ ap (λ (r : Result SentCommit ℕ). r >>= welcomed c m used made seed) h
+  pub sending_fails : (wants : Bool) (n : ℕ) → apply_proposals c m.public m.keys.leaf used ≡ Ok e → path_if_needed c m e used wants seed ≡ Ok made → apply_path_if c m.public m.keys.leaf e made.path ≡ Ok t
+      → send_commit c m (commit_of list made) e t made.climb.secret ≡ Err n → commit_from_path c m list used e made seed ≡ Err n
+  sending_fails wants n edits path merges h = with_steps wants edits path merges ∙ ap (λ (r : Result SentCommit ℕ). r >>= with_welcome c m used made seed) h
 
-  pub sending_goes : (wants : Bool) (sent : SentCommit) → edited c m.public m.keys.leaf used ≡ Ok e → path_made c m e used wants seed ≡ Ok made → merged c m.public m.keys.leaf e made.path ≡ Ok t
-      → sent_commit c m (commit_of list made) e t made.climb.secret ≡ Ok sent → made_with c m list used e made seed ≡ welcomed c m used made seed sent
-  sending_goes wants sent edits path merges h = with_steps wants edits path merges ∙ ap (λ (r : Result SentCommit ℕ). r >>= welcomed c m used made seed) h
+  pub sending_goes : (wants : Bool) (sent : SentCommit) → apply_proposals c m.public m.keys.leaf used ≡ Ok e → path_if_needed c m e used wants seed ≡ Ok made → apply_path_if c m.public m.keys.leaf e made.path ≡ Ok t
+      → send_commit c m (commit_of list made) e t made.climb.secret ≡ Ok sent → commit_from_path c m list used e made seed ≡ with_welcome c m used made seed sent
+  sending_goes wants sent edits path merges h = with_steps wants edits path merges ∙ ap (λ (r : Result SentCommit ℕ). r >>= with_welcome c m used made seed) h
 
 -- ---- the second step
 
@@ -163,32 +163,32 @@ welcome_is c m change made joiner tag seed (x ∷ xs) = refl
 abbrev made_so : SentCommit → Option (List ℕ) → PublicState → PrivateKeys → Made
 made_so s welcome p keys = record { commit = s.message; welcome = welcome; pending = record { message = s.message; public = p; epoch = s.epoch; keys = keys } }
 
-if_fails : (c : Crypto) (m : Member) (used : List Used) (made : MadePath) (seed : List ℕ) (s : SentCommit) (n : ℕ) → welcome_if c m s.change made s.joiner s.tag seed (zip (adds used) s.change.edits.added) ≡ Err n → welcomed c m used made seed s ≡ Err n
-unfolding welcomed
+if_fails : (c : Crypto) (m : Member) (used : List Used) (made : MadePath) (seed : List ℕ) (s : SentCommit) (n : ℕ) → welcome_if c m s.change made s.joiner s.tag seed (zip (adds used) s.change.edits.added) ≡ Err n → with_welcome c m used made seed s ≡ Err n
+unfolding with_welcome
 if_fails c m used made seed s n h = rw h refl
 
 if_done : (c : Crypto) (m : Member) (used : List Used) (made : MadePath) (seed : List ℕ) (s : SentCommit) (w : Option (List ℕ)) → welcome_if c m s.change made s.joiner s.tag seed (zip (adds used) s.change.edits.added) ≡ Ok w →
-    welcomed c m used made seed s ≡ Ok (made_so s w (public_with s.change s.tag) (with_keys m.keys made.climb.keys))
-unfolding welcomed
+    with_welcome c m used made seed s ≡ Ok (made_so s w (public_with s.change s.tag) (with_keys m.keys made.climb.keys))
+unfolding with_welcome
 if_done c m used made seed s w h = rw h refl
 
 -- of a speaker and of what it has of its path
 module _ (c : Crypto) (m : Member) (s : Speaker) (speaks : Speaks m s) (used : List Used) (sent : SentCommit) (wants : Bool) (made : MadePath) (seed : List ℕ) (secrets : Option PathSecrets) (keys : PrivateKeys)
-    (own : IsOwn c m used sent.change.edits wants seed made secrets keys) (js : List Joiner) (places : map place_of js ≡ zip (adds used) sent.change.edits.added) where
+    (own : IsOwn c m used sent.change.edits wants seed made secrets keys) (js : List Joiner) (places : map package_and_leaf_of js ≡ zip (adds used) sent.change.edits.added) where
   pub secrets_are : AreSentTo sent.change.edits.tree s.leaf secrets js → AreSecretsOf sent.joiner (sent_to m sent.change made sent.joiner seed) js
   secrets_are h = secrets_sent c m used sent.change.edits wants seed sent.joiner made secrets js own.edits own.path own.sends places (subst (λ (i : ℕ). AreSentTo sent.change.edits.tree i secrets js) (sym speaks.leaf) h)
 
   module _ (p : PublicState) (p_is : p ≡ public_with sent.change sent.tag) (first : ℕ) (seals : path_seals made.path ≡ first) where
     abbrev welcome_made : Result (Option (List ℕ)) ℕ
-    welcome_made = welcome_from c s.signing.now s.leaf p sent.tag sent.joiner (sent_to m sent.change made sent.joiner seed) seed first (map place_of js)
+    welcome_made = welcome_from c s.signing.now s.leaf p sent.tag sent.joiner (sent_to m sent.change made sent.joiner seed) seed first (map package_and_leaf_of js)
 
     made_is : welcome_if c m sent.change made sent.joiner sent.tag seed (zip (adds used) sent.change.edits.added) ≡ welcome_made
     made_is = welcome_is c m sent.change made sent.joiner sent.tag seed (zip (adds used) sent.change.edits.added) ∙ (rw (← places, ← p_is, seals, speaks.signing, speaks.leaf) refl)
 
-    pub welcomed_fails : (n : ℕ) → welcome_made ≡ Err n → welcomed c m used made seed sent ≡ Err n
+    pub welcomed_fails : (n : ℕ) → welcome_made ≡ Err n → with_welcome c m used made seed sent ≡ Err n
     welcomed_fails n h = if_fails c m used made seed sent n (made_is ∙ h)
 
-    pub welcomed_done : (w : Option (List ℕ)) → welcome_made ≡ Ok w → welcomed c m used made seed sent ≡ Ok (made_so sent w p keys)
+    pub welcomed_done : (w : Option (List ℕ)) → welcome_made ≡ Ok w → with_welcome c m used made seed sent ≡ Ok (made_so sent w p keys)
     welcomed_done w h =
         let all : with_keys m.keys made.climb.keys ≡ keys = ap (λ (ks : Keys). with_keys m.keys ks) own.keys_are ∙ with_all_keys m.keys keys own.leaf in
         if_done c m used made seed sent w (made_is ∙ h) ∙ ap (λ (q : PublicState). Ok (made_so sent w q (with_keys m.keys made.climb.keys))) (sym p_is) ∙ ap (λ (k : PrivateKeys). Ok (made_so sent w p k)) all
@@ -197,22 +197,22 @@ module _ (c : Crypto) (m : Member) (s : Speaker) (speaks : Speaks m s) (used : L
 
 module _ (c : Crypto) (signing : List ℕ) (signer : ℕ) (p : PublicState) (tag joiner : List ℕ) (secrets : ℕ → List ℕ) (seed : List ℕ) (first : ℕ) where
   abbrev message_to : List Joiner → Result (List ℕ) ℕ
-  message_to js = welcome_message c (signed_info c signing (unsigned_info p tag signer)) joiner secrets (seal_seed seed) first (map place_of js)
+  message_to js = welcome_message c (signed_info c signing (unsigned_info p tag signer)) joiner secrets (seal_seed seed) first (map package_and_leaf_of js)
 
-  pub from_none : (js : List Joiner) → (length js == 0) ≡ true → welcome_from c signing signer p tag joiner secrets seed first (map place_of js) ≡ Ok None
+  pub from_none : (js : List Joiner) → (length js == 0) ≡ true → welcome_from c signing signer p tag joiner secrets seed first (map package_and_leaf_of js) ≡ Ok None
   unfolding welcome_from
   from_none [] e = refl
   from_none (j ∷ js) e = let none : length (j ∷ js) ≡ 0 = eqb-true (length (j ∷ js)) 0 e in absurd (omega arith)
 
-  from_some : (js : List Joiner) → (length js == 0) ≡ false → welcome_from c signing signer p tag joiner secrets seed first (map place_of js) ≡ (message_to js >>= λ bytes. Ok (Some bytes))
+  from_some : (js : List Joiner) → (length js == 0) ≡ false → welcome_from c signing signer p tag joiner secrets seed first (map package_and_leaf_of js) ≡ (message_to js >>= λ bytes. Ok (Some bytes))
   unfolding welcome_from
   from_some [] e = let same : true ≡ false = e in cc
   from_some (j ∷ js) e = refl
 
-  pub from_refused : (js : List Joiner) (n : ℕ) → (length js == 0) ≡ false → message_to js ≡ Err n → welcome_from c signing signer p tag joiner secrets seed first (map place_of js) ≡ Err n
+  pub from_refused : (js : List Joiner) (n : ℕ) → (length js == 0) ≡ false → message_to js ≡ Err n → welcome_from c signing signer p tag joiner secrets seed first (map package_and_leaf_of js) ≡ Err n
   from_refused js n e h = from_some js e ∙ ap (λ (r : Result (List ℕ) ℕ). r >>= λ bytes. Ok (Some bytes)) h
 
-  pub from_done : (js : List Joiner) (bytes : List ℕ) → (length js == 0) ≡ false → message_to js ≡ Ok bytes → welcome_from c signing signer p tag joiner secrets seed first (map place_of js) ≡ Ok (Some bytes)
+  pub from_done : (js : List Joiner) (bytes : List ℕ) → (length js == 0) ≡ false → message_to js ≡ Ok bytes → welcome_from c signing signer p tag joiner secrets seed first (map package_and_leaf_of js) ≡ Ok (Some bytes)
   from_done js bytes e h = from_some js e ∙ ap (λ (r : Result (List ℕ) ℕ). r >>= λ b. Ok (Some b)) h
 
 -- ---- the number of the first seal

@@ -8,16 +8,16 @@ use Rattle.mls_treekem_model.specs.Keys.{PrivateKeys, all_keys}
 use Rattle.mls_treekem_model.specs.Seeds.{path_seed}
 use Rattle.mls_treekem.specs.Secrets.{AreOfChain}
 use Rattle.mls_treekem.specs.declared.secrets.PathSecrets.{PathSecrets}
-use Rattle.mls_model.specs.Public.{Used}
-use Rattle.mls_model.specs.Commit.{Edits, edited, merged}
+use Rattle.mls_model.specs.PublicState.{Used}
+use Rattle.mls_model.specs.Commit.{Edits, apply_proposals, apply_path_if}
 use Rattle.mls_model.specs.Make.{MadePath}
 use Rattle.mls_model.specs.Member.{Member}
-use Rattle.mls_make.specs.Making.{path_made}
+use Rattle.mls_make.specs.CommitSteps.{path_if_needed}
 use Rattle.mls_make.specs.declared.own_path.OwnPath.{OwnPath}
 
 -- a path or none, with the commit secret and the committer's keys
-abbrev pub made_path : OwnPath → MadePath
-made_path o = record { path = o.path; climb = record { secret = o.commit_secret; keys = all_keys o.keys } }
+abbrev pub made_own_path : OwnPath → MadePath
+made_own_path o = record { path = o.path; climb = record { secret = o.commit_secret; keys = all_keys o.keys } }
 
 -- the secrets of a path of leaf i are there just where the path is, and are those of the seed's chain
 abbrev pub HaveSecrets : Crypto → ℕ → Edits → List ℕ → Option UpdatePath → Option PathSecrets → Type 0
@@ -28,13 +28,13 @@ HaveSecrets c i e seed (Some path) (Some s) = AreOfChain c (path_seed seed) (pat
 
 -- what a member made of a path for a commit with these edits, its secrets and the committer's keys
 pub record IsOwn (c : Crypto) (m : Member) (used : List Used) (e : Edits) (wants : Bool) (seed : List ℕ) (made : MadePath) (secrets : Option PathSecrets) (keys : PrivateKeys) : Type 0 where
-  pub edits : edited c m.public m.keys.leaf used ≡ Ok e
-  pub path : path_made c m e used wants seed ≡ Ok made
+  pub edits : apply_proposals c m.public m.keys.leaf used ≡ Ok e
+  pub path : path_if_needed c m e used wants seed ≡ Ok made
   pub sends : HaveSecrets c m.keys.leaf e seed made.path secrets
   pub keys_are : made.climb.keys ≡ all_keys keys
   pub leaf : keys.leaf ≡ m.keys.leaf
 
 -- the same of them together, with the tree that each member makes of the path
 pub record IsOwnPath (c : Crypto) (m : Member) (used : List Used) (e : Edits) (wants : Bool) (seed : List ℕ) (o : OwnPath) : Type 0 where
-  pub own : IsOwn c m used e wants seed (made_path o) o.secrets o.keys
-  pub merges : merged c m.public m.keys.leaf e o.path ≡ Ok (term o.tree)
+  pub own : IsOwn c m used e wants seed (made_own_path o) o.secrets o.keys
+  pub merges : apply_path_if c m.public m.keys.leaf e o.path ≡ Ok (term o.tree)

@@ -5,9 +5,9 @@ mod error;
 mod laws;
 mod new_commit;
 mod own_path;
-mod sent_commit;
-mod welcomed;
+mod send_commit;
+mod commit_welcome;
 
 pub use error::MakeError;
 pub use laws::make_names_by_number;
-pub use new_commit::{NewCommit, make};
+pub use new_commit::{NewCommit, make_commit};

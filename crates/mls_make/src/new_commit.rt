@@ -8,14 +8,14 @@ ghost use Rattle.mls_model.specs.Member as model;
 ghost use Rattle.mls_public_group.specs.Short.{IsBelow, AreBelow, HasLeavesBelow};
 ghost use Rattle.mls_message.specs.Speaks.{Speaks};
 ghost use Rattle.mls_make.specs.Faults.{number_of};
-ghost use Rattle.mls_make.specs.Making.{made_by, made_with};
-ghost use Rattle.mls_make.specs.OwnPath.{made_path, IsOwnPath};
-ghost use Rattle.mls_make.specs.Parts.{made_as, AreShortUsed, AreUsedBy};
+ghost use Rattle.mls_make.specs.CommitSteps.{commit_from_proposals, commit_from_path};
+ghost use Rattle.mls_make.specs.OwnPath.{made_own_path, IsOwnPath};
+ghost use Rattle.mls_make.specs.CommitCall.{made_as, AreShortUsed, AreUsedBy};
 
 use crate::error::MakeError;
 use crate::own_path::{OwnPath, own_path};
-use crate::sent_commit::sent_commit;
-use crate::welcomed::{path_seals, welcomed};
+use crate::send_commit::send_commit;
+use crate::commit_welcome::{path_seals, with_welcome};
 use mls_kdf::Seed;
 use mls_leaf::Items;
 use mls_message::Speaker;
@@ -42,7 +42,7 @@ pub struct NewCommit {
 }
 
 /// What a member makes by a commit of a list, with these edits and this path.
-fn made_with<S: Suite>(
+fn commit_from_path<S: Suite>(
     alloc: Global,
     speaker: &Speaker<'_>,
     list: Items<ProposalOrRef>,
@@ -57,7 +57,7 @@ fn made_with<S: Suite>(
     requires path { IfSome own.path (λ p. IsBelow (2 ^ 28) leaf_node p.leaf_node) }
     requires leaves { AreBelow (2 ^ 27) used.now → IfSome own.path (λ p. IsBelow (2 ^ 27) leaf_node p.leaf_node) → HasLeavesBelow (2 ^ 27) (term own.tree) }
     ensures { (m : model.Member) (wants : Bool) → Speaks m speaker.now → IsOwnPath S.crypto m used.now edits wants seed.now own
-        → Answers made_as number_of (made_with S.crypto m list used.now edits (made_path own) seed.now) result }
+        → Answers made_as number_of (commit_from_path S.crypto m list used.now edits (made_own_path own) seed.now) result }
 {
     let OwnPath {
         path,
@@ -71,14 +71,14 @@ fn made_with<S: Suite>(
         proposals: list,
         path,
     };
-    let sent = sent_commit::<S>(alloc, speaker, commit, edits, tree, &commit_secret)?;
+    let sent = send_commit::<S>(alloc, speaker, commit, edits, tree, &commit_secret)?;
     let secrets = secrets.as_ref();
-    welcomed::<S>(alloc, speaker, used, sent, secrets, keys, first_seal, seed)
+    with_welcome::<S>(alloc, speaker, used, sent, secrets, keys, first_seal, seed)
 }
 
 /// What a member makes by a commit of a list that uses these proposals, with a path where one is wanted or required: the
 /// first check of the commit that fails, 6 where a message or the GroupInfo is too long (RFC 9420, 12.4.1).
-pub fn make<S: Suite>(
+pub fn make_commit<S: Suite>(
     alloc: Global,
     speaker: &Speaker<'_>,
     keys: &PrivatePath,
@@ -90,10 +90,10 @@ pub fn make<S: Suite>(
     requires epoch { speaker.now.group.now.context.epoch + 1 < 2 ^ 64 }
     requires list { AreUsedBy list used.now }
     requires used { AreShortUsed used.now }
-    ensures { (m : model.Member) → Speaks m speaker.now → m.keys ≡ keys.now → model.used_by m.kept m.keys.leaf list ≡ Ok used.now
-        → Answers made_as number_of (made_by S.crypto m list used.now wants_path seed.now) result }
+    ensures { (m : model.Member) → Speaks m speaker.now → m.keys ≡ keys.now → model.find_proposals m.kept m.keys.leaf list ≡ Ok used.now
+        → Answers made_as number_of (commit_from_proposals S.crypto m list used.now wants_path seed.now) result }
 {
-    let edits = speaker.group.edited::<S>(alloc, speaker.leaf, used)?;
+    let edits = speaker.group.apply_proposals::<S>(alloc, speaker.leaf, used)?;
     let own = own_path::<S>(alloc, speaker, keys, &edits, used, wants_path, seed)?;
-    made_with::<S>(alloc, speaker, list, used, edits, own, seed)
+    commit_from_path::<S>(alloc, speaker, list, used, edits, own, seed)
 }

@@ -4,16 +4,16 @@ ghost use Rattle.std.specs.Prelude.{◌≡◌, ◌<◌, ◌+◌, ◌^◌, ℕ, N
 ghost use Rattle.mls_wire.specs.Checks.{Answers};
 ghost use Rattle.mls_leaf.specs.Leaf.{leaf_node};
 ghost use Rattle.mls_tree.specs.Tree.{term};
-ghost use Rattle.mls_model.specs.Commit.{merged};
+ghost use Rattle.mls_model.specs.Commit.{apply_path_if};
 ghost use Rattle.mls_model.specs.Make.{no_path};
 ghost use Rattle.mls_model.specs.Member as model;
 ghost use Rattle.mls_model.specs.Proposals as proposals;
-ghost use Rattle.mls_model.specs.Public.{Used};
+ghost use Rattle.mls_model.specs.PublicState.{Used};
 ghost use Rattle.mls_public_group.specs.Short.{IsBelow, HasLeavesBelow};
 ghost use Rattle.mls_message.specs.Speaks.{Speaks};
 ghost use Rattle.mls_make.specs.Faults.{number_of};
-ghost use Rattle.mls_make.specs.Making.{path_made};
-ghost use Rattle.mls_make.specs.OwnPath.{made_path, HaveSecrets};
+ghost use Rattle.mls_make.specs.CommitSteps.{path_if_needed};
+ghost use Rattle.mls_make.specs.OwnPath.{made_own_path, HaveSecrets};
 
 use crate::error::MakeError;
 use mls_types::UpdatePath;
@@ -43,7 +43,7 @@ pub(crate) struct OwnPath {
 
 /// Without a path the commit secret is zeros, and the keys follow the edits (RFC 9420, 8).
 fn no_path(keys: &PrivatePath, edits: &Edits) -> Result<OwnPath, OutOfMemory>
-    ensures made { IfOk result (λ o. (m : model.Member) → m.keys ≡ keys.now → made_path o ≡ no_path m edits.now) }
+    ensures made { IfOk result (λ o. (m : model.Member) → m.keys ≡ keys.now → made_own_path o ≡ no_path m edits.now) }
     ensures none { IfOk result (λ o. o.path ≡ None) }
     ensures leaf { IfOk result (λ o. o.keys.leaf ≡ keys.now.leaf) }
     ensures tree { IfOk result (λ o. term o.tree ≡ edits.now.tree) }
@@ -62,7 +62,7 @@ fn no_path(keys: &PrivatePath, edits: &Edits) -> Result<OwnPath, OutOfMemory>
 }
 
 /// A path where one is wanted or required, else none (RFC 9420, 12.4.1).
-#[tactic(auto, unfolding(crate::specs::Making::path_made, mls_model::specs::Commit::merged))]
+#[tactic(auto, unfolding(crate::specs::CommitSteps::path_if_needed, mls_model::specs::Commit::apply_path_if))]
 pub(crate) fn own_path<S: Suite>(
     alloc: Global,
     speaker: &Speaker<'_>,
@@ -73,12 +73,12 @@ pub(crate) fn own_path<S: Suite>(
     seed: &Seed,
 ) -> Result<OwnPath, MakeError>
     requires epoch { speaker.now.group.now.context.epoch + 1 < 2 ^ 64 }
-    ensures answer { (m : model.Member) → Speaks m speaker.now → m.keys ≡ keys.now → Answers made_path number_of (path_made S.crypto m edits.now used.now wants_path seed.now) result }
+    ensures answer { (m : model.Member) → Speaks m speaker.now → m.keys ≡ keys.now → Answers made_own_path number_of (path_if_needed S.crypto m edits.now used.now wants_path seed.now) result }
     ensures leaf { IfOk result (λ o. keys.now.leaf ≡ speaker.now.leaf → o.keys.leaf ≡ speaker.now.leaf) }
     ensures below { IfOk result (λ o. IfSome o.path (λ p. IsBelow (2 ^ 28) leaf_node p.leaf_node)) }
     ensures secrets { IfOk result (λ o. HaveSecrets S.crypto speaker.now.leaf edits.now seed.now o.path o.secrets) }
     // Each member merges it so.
-    ensures merged { IfOk result (λ o. merged S.crypto speaker.now.group.now speaker.now.leaf edits.now o.path ≡ Ok (term o.tree)) }
+    ensures apply_path_if { IfOk result (λ o. apply_path_if S.crypto speaker.now.group.now speaker.now.leaf edits.now o.path ≡ Ok (term o.tree)) }
     // The leaves of the tree with it are as short as those of the tree after the edits and the new one.
     ensures leaves { IfOk result (λ o. (n : ℕ) → HasLeavesBelow n edits.now.tree → IfSome o.path (λ p. IsBelow n leaf_node p.leaf_node) → HasLeavesBelow n (term o.tree)) }
 {

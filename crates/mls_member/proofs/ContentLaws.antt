@@ -13,7 +13,7 @@ use Rattle.mls_suite.specs.Crypto.{Crypto}
 use Rattle.mls_tree.specs.Refusals.{RefusesOutright}
 use Rattle.mls_types.specs.Commit.{proposal_or_ref, proposal_or_ref_nonempty}
 use Rattle.mls_types.specs.Message.{mls_message}
-use Rattle.mls_types.specs.SignedParts.{bare}
+use Rattle.mls_types.specs.SignedParts.{content_of_body}
 use Rattle.mls_types.specs.declared.commit.Commit.{Commit}
 use Rattle.mls_types.specs.declared.message.MlsMessage.{MlsMessage}
 use Rattle.mls_types.specs.declared.message.MlsMessage.TheVariants as message_of
@@ -30,8 +30,8 @@ use Rattle.mls_view.specs.Shown.{Shows, ShowsPublic, ShowsContent}
 use Rattle.mls_view.specs.Views.{LendsAll}
 use Rattle.mls_model.specs.declared.effect.Effect.{Effect}
 use Rattle.mls_model.specs.Member.{Member}
-use Rattle.mls_model.specs.Messages.{decoded}
-use Rattle.mls_model.specs.Verdict.{framing_checks, content_verdict, proposal_verdict, commit_verdict, received}
+use Rattle.mls_model.specs.Messages.{decode_message}
+use Rattle.mls_model.specs.Verdict.{framing_checks, content_verdict, proposal_verdict, commit_verdict, bytes_verdict}
 use Rattle.mls_member.specs.declared.error.Refusal.{Refusal}
 use Rattle.mls_member.specs.Faults.{number_of}
 use Rattle.mls_member.specs.Process.{IsShortView, message_verdict, outer_checks, sender_of}
@@ -47,21 +47,21 @@ Does defined old new result = DoesAs (λ e. e) number_of defined old new result
 pub behind_checks : (checks : Result Passed ℕ) (defined : Result (Effect × Member) ℕ) (old new : Member) (result : Result Effect Refusal) → checks ≡ Ok passed → Does defined old new result → Does (checks >> defined) old new result
 behind_checks checks defined old new result e h = subst (λ (r : Result Passed ℕ). Does (r >> defined) old new result) (sym e) h
 
-application_content : (c : Crypto) (m : Member) (v : SignedContent) (bytes : List ℕ) (body : SignedBody) (view : ContentView) (text : _) → view ≡ view_of.Application text → ShowsContent view (bare body) → content_verdict c m v bytes body ≡ Err 45
+application_content : (c : Crypto) (m : Member) (v : SignedContent) (bytes : List ℕ) (body : SignedBody) (view : ContentView) (text : _) → view ≡ view_of.Application text → ShowsContent view (content_of_body body) → content_verdict c m v bytes body ≡ Err 45
 unfolding content_verdict
 application_content c m v bytes (body_of.Application t) view text is shows = refl
-application_content c m v bytes (body_of.Proposal p) view text is shows = absurd (subst (λ (x : ContentView). ShowsContent x (bare (body_of.Proposal p))) is shows)
-application_content c m v bytes (body_of.Commit k tag) view text is shows = absurd (subst (λ (x : ContentView). ShowsContent x (bare (body_of.Commit k tag))) is shows)
+application_content c m v bytes (body_of.Proposal p) view text is shows = absurd (subst (λ (x : ContentView). ShowsContent x (content_of_body (body_of.Proposal p))) is shows)
+application_content c m v bytes (body_of.Commit k tag) view text is shows = absurd (subst (λ (x : ContentView). ShowsContent x (content_of_body (body_of.Commit k tag))) is shows)
 
 pub application_is : (c : Crypto) (m : Member) (view : PublicMessageView) (shown : PublicMessage) (bytes : List ℕ) (text : _) → ShowsPublic view shown → view.content.content ≡ view_of.Application text → framing_checks c m shown bytes ≡ Ok passed → message_verdict c m shown bytes ≡ Err 45
 application_is c m view shown bytes text shows is e = rw e (application_content c m shown.content bytes shown.content.body view.content.content text is shows.content.content)
 
-proposal_content : (c : Crypto) (m : Member) (v : SignedContent) (bytes : List ℕ) (body : SignedBody) (view : ContentView) (part : List ℕ) (new : Member) (result : Result Effect Refusal) → view ≡ view_of.Proposal part → ShowsContent view (bare body)
+proposal_content : (c : Crypto) (m : Member) (v : SignedContent) (bytes : List ℕ) (body : SignedBody) (view : ContentView) (part : List ℕ) (new : Member) (result : Result Effect Refusal) → view ≡ view_of.Proposal part → ShowsContent view (content_of_body body)
     → ((made : Proposal) → Spells proposal_format made part → Does (proposal_verdict c m v bytes made) m new result) → Does (content_verdict c m v bytes body) m new result
 unfolding content_verdict
-proposal_content c m v bytes (body_of.Application t) view part new result is shows h = absurd (subst (λ (x : ContentView). ShowsContent x (bare (body_of.Application t))) is shows)
-proposal_content c m v bytes (body_of.Proposal p) view part new result is shows h = h p (subst (λ (x : ContentView). ShowsContent x (bare (body_of.Proposal p))) is shows)
-proposal_content c m v bytes (body_of.Commit k tag) view part new result is shows h = absurd (subst (λ (x : ContentView). ShowsContent x (bare (body_of.Commit k tag))) is shows)
+proposal_content c m v bytes (body_of.Application t) view part new result is shows h = absurd (subst (λ (x : ContentView). ShowsContent x (content_of_body (body_of.Application t))) is shows)
+proposal_content c m v bytes (body_of.Proposal p) view part new result is shows h = h p (subst (λ (x : ContentView). ShowsContent x (content_of_body (body_of.Proposal p))) is shows)
+proposal_content c m v bytes (body_of.Commit k tag) view part new result is shows h = absurd (subst (λ (x : ContentView). ShowsContent x (content_of_body (body_of.Commit k tag))) is shows)
 
 pub proposal_does : (c : Crypto) (m : Member) (view : PublicMessageView) (shown : PublicMessage) (bytes part : List ℕ) (new : Member) (result : Result Effect Refusal) → ShowsPublic view shown → view.content.content ≡ view_of.Proposal part → framing_checks c m shown bytes ≡ Ok passed
     → ((made : Proposal) → Spells proposal_format made part → Does (proposal_verdict c m shown.content bytes made) m new result) → Does (message_verdict c m shown bytes) m new result
@@ -69,13 +69,13 @@ proposal_does c m view shown bytes part new result shows is e h =
     behind_checks (framing_checks c m shown bytes) (content_verdict c m shown.content bytes shown.content.body) m new result e
     (proposal_content c m shown.content bytes shown.content.body view.content.content part new result is shows.content.content h)
 
-commit_content : (c : Crypto) (m : Member) (v : SignedContent) (bytes : List ℕ) (body : SignedBody) (view : ContentView) (list path : List ℕ) (new : Member) (result : Result Effect Refusal) → view ≡ view_of.Commit list path → ShowsContent view (bare body)
+commit_content : (c : Crypto) (m : Member) (v : SignedContent) (bytes : List ℕ) (body : SignedBody) (view : ContentView) (list path : List ℕ) (new : Member) (result : Result Effect Refusal) → view ≡ view_of.Commit list path → ShowsContent view (content_of_body body)
     → ((k : Commit) (tag : List ℕ) → body ≡ body_of.Commit k tag → Spells (vector proposal_or_ref proposal_or_ref_nonempty) k.proposals list → Spells (optional update_path) k.path path → Does (commit_verdict c m v k tag) m new result) → Does (content_verdict c m v bytes body) m new result
 unfolding content_verdict
-commit_content c m v bytes (body_of.Application t) view list path new result is shows h = absurd (subst (λ (x : ContentView). ShowsContent x (bare (body_of.Application t))) is shows)
-commit_content c m v bytes (body_of.Proposal p) view list path new result is shows h = absurd (subst (λ (x : ContentView). ShowsContent x (bare (body_of.Proposal p))) is shows)
+commit_content c m v bytes (body_of.Application t) view list path new result is shows h = absurd (subst (λ (x : ContentView). ShowsContent x (content_of_body (body_of.Application t))) is shows)
+commit_content c m v bytes (body_of.Proposal p) view list path new result is shows h = absurd (subst (λ (x : ContentView). ShowsContent x (content_of_body (body_of.Proposal p))) is shows)
 commit_content c m v bytes (body_of.Commit k tag) view list path new result is shows h =
-    let parts = subst (λ (x : ContentView). ShowsContent x (bare (body_of.Commit k tag))) is shows in
+    let parts = subst (λ (x : ContentView). ShowsContent x (content_of_body (body_of.Commit k tag))) is shows in
     h k tag refl parts.0 parts.1
 
 pub commit_does : (c : Crypto) (m : Member) (view : PublicMessageView) (shown : PublicMessage) (bytes list path : List ℕ) (new : Member) (result : Result Effect Refusal) → ShowsPublic view shown → view.content.content ≡ view_of.Commit list path → framing_checks c m shown bytes ≡ Ok passed
@@ -106,18 +106,18 @@ pub short_public : (bytes : List ℕ) (view : PublicMessageView) → IsBytes byt
 short_public bytes view fits p = short_lent view p.shown bytes fits p.is_read p.shows
 
 pub public_does : (c : Crypto) (m : Member) (bytes : List ℕ) (view : PublicMessageView) (new : Member) (result : Result Effect Refusal) → IsPublic bytes view
-    → ((shown : PublicMessage) → ShowsPublic view shown → Does (message_verdict c m shown bytes) m new result) → Does (received c m bytes) m new result
-unfolding received decoded
+    → ((shown : PublicMessage) → ShowsPublic view shown → Does (message_verdict c m shown bytes) m new result) → Does (bytes_verdict c m bytes) m new result
+unfolding bytes_verdict decode_message
 public_does c m bytes view new result p h = rw p.is_read (h p.shown p.shows)
 
 pub public_outright : (m : Member) (bytes : List ℕ) (view : PublicMessageView) (result : Result Effect Refusal) → IsPublic bytes view
     → ((shown : PublicMessage) → ShowsPublic view shown → RefusesOutright number_of (sender_of m shown) result) → RefusesOutright number_of (outer_checks m bytes) result
-unfolding outer_checks decoded
+unfolding outer_checks decode_message
 public_outright m bytes view result p h = rw p.is_read (h p.shown p.shows)
 
 -- another message
-other_message : (c : Crypto) (m : Member) (bytes : List ℕ) (view : MessageView) (value : MlsMessage) → whole mls_message input_limit bytes ≡ Ok value → Shows view value → ((x : PublicMessageView) → view ≢ views.PublicMessage x) → (received c m bytes ≡ Err 41) × (outer_checks m bytes ≡ Err 41)
-unfolding received outer_checks decoded
+other_message : (c : Crypto) (m : Member) (bytes : List ℕ) (view : MessageView) (value : MlsMessage) → whole mls_message input_limit bytes ≡ Ok value → Shows view value → ((x : PublicMessageView) → view ≢ views.PublicMessage x) → (bytes_verdict c m bytes ≡ Err 41) × (outer_checks m bytes ≡ Err 41)
+unfolding bytes_verdict outer_checks decode_message
 other_message c m bytes (views.PublicMessage x) value e shows none = absurd (none x refl)
 other_message c m bytes (views.Welcome x) (message_of.PublicMessage v) e shows none = absurd shows
 other_message c m bytes (views.GroupInfo x) (message_of.PublicMessage v) e shows none = absurd shows
@@ -126,10 +126,10 @@ other_message c m bytes view (message_of.Welcome v) e shows none = (rw e refl, r
 other_message c m bytes view (message_of.GroupInfo v) e shows none = (rw e refl, rw e refl)
 other_message c m bytes view (message_of.KeyPackage v) e shows none = (rw e refl, rw e refl)
 
-pub other_of : (c : Crypto) (m : Member) (bytes : List ℕ) (view : MessageView) → LendsAll mls_message input_limit Shows bytes view → ((x : PublicMessageView) → view ≢ views.PublicMessage x) → (received c m bytes ≡ Err 41) × (outer_checks m bytes ≡ Err 41)
+pub other_of : (c : Crypto) (m : Member) (bytes : List ℕ) (view : MessageView) → LendsAll mls_message input_limit Shows bytes view → ((x : PublicMessageView) → view ≢ views.PublicMessage x) → (bytes_verdict c m bytes ≡ Err 41) × (outer_checks m bytes ≡ Err 41)
 other_of c m bytes view lends none = other_message c m bytes view lends.value lends.is_read lends.shows none
 
 -- bytes that are no message
-pub no_message : (c : Crypto) (m : Member) (bytes : List ℕ) (n : ℕ) → whole mls_message input_limit bytes ≡ Err n → (received c m bytes ≡ Err n) × (outer_checks m bytes ≡ Err n)
-unfolding received outer_checks decoded
+pub no_message : (c : Crypto) (m : Member) (bytes : List ℕ) (n : ℕ) → whole mls_message input_limit bytes ≡ Err n → (bytes_verdict c m bytes ≡ Err n) × (outer_checks m bytes ≡ Err n)
+unfolding bytes_verdict outer_checks decode_message
 no_message c m bytes n e = (rw e refl, rw e refl)

@@ -22,28 +22,28 @@ use Rattle.mls_model.specs.declared.effect.Effect.TheVariants.{Advanced}
 use Rattle.mls_model.specs.Agreement.{IsGoodMember, IsGoodCandidate}
 use Rattle.mls_model.specs.Candidate.{Candidate, leaf_key_of}
 use Rattle.mls_model.specs.Join.{join_verdict}
-use Rattle.mls_model.specs.Make.{committed}
-use Rattle.mls_model.specs.Member.{Kept, Pending, Member, used_one, used_by, advanced, without_pending}
+use Rattle.mls_model.specs.Make.{commit_call}
+use Rattle.mls_model.specs.Member.{KeptProposal, Pending, Member, find_proposal, find_proposals, with_epoch, without_pending}
 use Rattle.mls_model.specs.Proposals.{proposal_checks}
-use Rattle.mls_model.specs.Propose.{proposed, proposed_add, updated_leaf, proposed_update, proposed_remove}
-use Rattle.mls_model.specs.Public.{PublicState, Used}
+use Rattle.mls_model.specs.Propose.{make_proposal, propose_add, updated_leaf, propose_update, propose_remove}
+use Rattle.mls_model.specs.PublicState.{PublicState, Used}
 use Rattle.mls_treekem_model.specs.Keys.{PrivateKeys, all_keys}
-use Rattle.mls_model.specs.Verdict.{own_pending, received, verdict}
+use Rattle.mls_model.specs.Verdict.{own_pending, bytes_verdict, verdict}
 use Rattle.mls_theorems.proofs.Sharing.{commits_reach}
 use Rattle.mls_theorems.proofs.Committed.{created_good}
 use Rattle.mls_theorems.proofs.Delivered.{delivered_good}
 use Rattle.mls_theorems.proofs.Entered.{joined_good}
 use Rattle.mls_theorems.proofs.Proposing.{added_good, updated_good, removed_good}
-use Rattle.mls_theorems.specs.Spelled.{FullFits}
-use Rattle.mls_theorems.proofs.Still.{good_still}
-use Rattle.mls_make.specs.Parts.{AreShortUsed}
+use Rattle.mls_theorems.specs.SpelledParts.{FullFits}
+use Rattle.mls_theorems.proofs.UnchangedMembers.{good_still}
+use Rattle.mls_make.specs.CommitCall.{AreShortUsed}
 use Rattle.mls_member.specs.declared.commit.Made.{Made}
 use Rattle.mls_member.specs.declared.error.Refusal.{Refusal}
 use Rattle.mls_member.specs.Answers.{messages_of, HasMade}
 use Rattle.mls_member.specs.Faults.{number_of}
-use Rattle.mls_member.specs.First.{first_public}
-use Rattle.mls_member.specs.Proposing.{sent_and_kept, updated_answer}
-use Rattle.mls_member.proofs.First.{created_made}
+use Rattle.mls_member.specs.FirstEpoch.{first_public}
+use Rattle.mls_member.specs.Proposing.{send_and_keep, updated_answer}
+use Rattle.mls_member.proofs.FirstEpoch.{created_made}
 
 -- a call that does as its definition leaves a good member wherever that does
 good_after : {A B : Type 0} (c : Crypto) (value : B → A) (defined : Result (A × Member) ℕ) (m n : Member) (r : Result B Refusal) → IsGoodMember c m → ((x : A × Member) → defined ≡ Ok x → IsGoodMember c x.1) → DoesAs value number_of defined m n r → IsGoodMember c n
@@ -52,12 +52,12 @@ good_after c value defined m n (Err e) good keeps h = subst (IsGoodMember c) (sy
 
 -- ---- how members come about, and a drop
 
-pub create_good : (c : Crypto) (k : Candidate) (group seed : List ℕ) (leaf : LeafNode) (epoch own signing : List ℕ) (kept : List Kept) (q : PublicState) (p : PrivateKeys) → leaf ≡ k.offered.leaf_node → epoch ≡ seed → own ≡ k.leaf → signing ≡ k.signing → kept ≡ [] →
+pub create_good : (c : Crypto) (k : Candidate) (group seed : List ℕ) (leaf : LeafNode) (epoch own signing : List ℕ) (kept : List KeptProposal) (q : PublicState) (p : PrivateKeys) → leaf ≡ k.offered.leaf_node → epoch ≡ seed → own ≡ k.leaf → signing ≡ k.signing → kept ≡ [] →
     first_public c leaf group epoch ≡ Ok q → p.leaf ≡ 0 → all_keys p ≡ Some own ∷ [] → IsGoodCandidate c k → IsGoodMember c (record { gone = false; public = q; epoch = epoch; keys = p; signing = signing; kept = kept; pending = None })
 create_good c k group seed leaf epoch own signing kept q p leaf_is epoch_is own_is signing_is kept_is made at keys good =
     created_good c k group seed _ good (created_made c k group seed leaf epoch own signing kept q p leaf_is epoch_is own_is signing_is kept_is made at keys)
 
-pub join_good : (c : Crypto) (k : Candidate) (bytes : List ℕ) (public : PublicState) (epoch : List ℕ) (keys : PrivateKeys) (info signing : List ℕ) (kept : List Kept) → IsGoodCandidate c k →
+pub join_good : (c : Crypto) (k : Candidate) (bytes : List ℕ) (public : PublicState) (epoch : List ℕ) (keys : PrivateKeys) (info signing : List ℕ) (kept : List KeptProposal) → IsGoodCandidate c k →
     join_verdict c k bytes ≡ Ok (record { member = record { gone = false; public = public; epoch = epoch; keys = keys; signing = k.signing; kept = []; pending = None }; info = info }) → signing ≡ k.signing → kept ≡ [] →
     IsGoodMember c (record { gone = false; public = public; epoch = epoch; keys = keys; signing = signing; kept = kept; pending = None })
 join_good c k bytes public epoch keys info signing kept good verdict_is signing_is kept_is = rw (signing_is, kept_is) (joined_good c k bytes _ good verdict_is)
@@ -67,35 +67,35 @@ drop_good c m good = good_still c m m.gone m.kept None good good.kept tt
 
 -- ---- messages
 
-own_does : (c : Crypto) (m : Member) (bytes : List ℕ) (p : Pending) → m.gone ≡ false → own_pending m.pending bytes ≡ Some p → verdict c m bytes ≡ Ok (Advanced p.public.context.epoch, advanced m p.public p.epoch p.keys)
+own_does : (c : Crypto) (m : Member) (bytes : List ℕ) (p : Pending) → m.gone ≡ false → own_pending m.pending bytes ≡ Some p → verdict c m bytes ≡ Ok (Advanced p.public.context.epoch, with_epoch m p.public p.epoch p.keys)
 unfolding verdict
 own_does c m bytes p gone own = let a : not m.gone ≡ true = ap not gone in rw (a, own) refl
 
-other_does : (c : Crypto) (m : Member) (bytes : List ℕ) → m.gone ≡ false → own_pending m.pending bytes ≡ None → verdict c m bytes ≡ received c m bytes
+other_does : (c : Crypto) (m : Member) (bytes : List ℕ) → m.gone ≡ false → own_pending m.pending bytes ≡ None → verdict c m bytes ≡ bytes_verdict c m bytes
 unfolding verdict
 other_does c m bytes gone own = let a : not m.gone ≡ true = ap not gone in rw (a, own) refl
 
-still_advanced : (m : Member) (p : Pending) → advanced (without_pending m) p.public p.epoch p.keys ≡ advanced m p.public p.epoch p.keys
-unfolding advanced without_pending
+still_advanced : (m : Member) (p : Pending) → with_epoch (without_pending m) p.public p.epoch p.keys ≡ with_epoch m p.public p.epoch p.keys
+unfolding with_epoch without_pending
 still_advanced m p = refl
 
-pub own_good : (c : Crypto) (m w n : Member) (bytes : List ℕ) (p : Pending) → IsGoodMember c m → IsBytes bytes → m.gone ≡ false → own_pending m.pending bytes ≡ Some p → w ≡ without_pending m → n ≡ advanced w p.public p.epoch p.keys → IsGoodMember c n
+pub own_good : (c : Crypto) (m w n : Member) (bytes : List ℕ) (p : Pending) → IsGoodMember c m → IsBytes bytes → m.gone ≡ false → own_pending m.pending bytes ≡ Some p → w ≡ without_pending m → n ≡ with_epoch w p.public p.epoch p.keys → IsGoodMember c n
 own_good c m w n bytes p good are gone own free is =
-    let same : advanced m p.public p.epoch p.keys ≡ n = sym (is ∙ ap (λ (x : Member). advanced x p.public p.epoch p.keys) free ∙ still_advanced m p) in
-    subst (IsGoodMember c) same (delivered_good c m bytes (Advanced p.public.context.epoch, advanced m p.public p.epoch p.keys) good are (own_does c m bytes p gone own))
+    let same : with_epoch m p.public p.epoch p.keys ≡ n = sym (is ∙ ap (λ (x : Member). with_epoch x p.public p.epoch p.keys) free ∙ still_advanced m p) in
+    subst (IsGoodMember c) same (delivered_good c m bytes (Advanced p.public.context.epoch, with_epoch m p.public p.epoch p.keys) good are (own_does c m bytes p gone own))
 
-pub other_good : (c : Crypto) (m w n : Member) (bytes : List ℕ) (r : Result Effect Refusal) → IsGoodMember c m → IsBytes bytes → m.gone ≡ false → own_pending m.pending bytes ≡ None → w ≡ m → DoesAs (λ (e : Effect). e) number_of (received c w bytes) w n r → IsGoodMember c n
+pub other_good : (c : Crypto) (m w n : Member) (bytes : List ℕ) (r : Result Effect Refusal) → IsGoodMember c m → IsBytes bytes → m.gone ≡ false → own_pending m.pending bytes ≡ None → w ≡ m → DoesAs (λ (e : Effect). e) number_of (bytes_verdict c w bytes) w n r → IsGoodMember c n
 other_good c m w n bytes r good are gone own same does =
-    good_after c (λ (e : Effect). e) (received c m bytes) m n r good (λ x h. delivered_good c m bytes x good are (other_does c m bytes gone own ∙ h))
-    (subst (λ (x : Member). DoesAs (λ (e : Effect). e) number_of (received c x bytes) x n r) same does)
+    good_after c (λ (e : Effect). e) (bytes_verdict c m bytes) m n r good (λ x h. delivered_good c m bytes x good are (other_does c m bytes gone own ∙ h))
+    (subst (λ (x : Member). DoesAs (λ (e : Effect). e) number_of (bytes_verdict c x bytes) x n r) same does)
 
 -- ---- proposals
 
 abbrev pub HasSent : Crypto → Member → Member → Proposal → Option (List ℕ) → Result (Vec ℕ) Refusal → Type 0
-HasSent c m n said own r = DoesAs (λ (v : Vec ℕ). v.items) number_of (sent_and_kept c m said own) m n r
+HasSent c m n said own r = DoesAs (λ (v : Vec ℕ). v.items) number_of (send_and_keep c m said own) m n r
 
-proposed_is : (c : Crypto) (m : Member) (said : Proposal) (own : Option (List ℕ)) → m.gone ≡ false → proposal_checks c m.public m.keys.leaf said ≡ Ok passed → proposed c m said own ≡ sent_and_kept c m said own
-unfolding proposed
+proposed_is : (c : Crypto) (m : Member) (said : Proposal) (own : Option (List ℕ)) → m.gone ≡ false → proposal_checks c m.public m.keys.leaf said ≡ Ok passed → make_proposal c m said own ≡ send_and_keep c m said own
+unfolding make_proposal
 proposed_is c m said own gone checks = let a : not m.gone ≡ true = ap not gone in rw (a, checks) refl
 
 -- the checks of a proposal, in the state and from the leaf of a member's parts
@@ -111,14 +111,14 @@ unfolding proposal_checks
 package_passes c m k h = h
 
 pub add_good : (c : Crypto) (m n : Member) (k l : KeyPackage) (r : Result (Vec ℕ) Refusal) → IsGoodMember c m → key_package.Fits k → l ≡ k → m.gone ≡ false → key_package_checks c k ≡ Ok passed → HasSent c m n (proposes.Add l) None r → IsGoodMember c n
-unfolding proposed_add
+unfolding propose_add
 add_good c m n k l r good fits same gone checks does =
-    good_after c (λ (v : Vec ℕ). v.items) (sent_and_kept c m (proposes.Add l) None) m n r good
+    good_after c (λ (v : Vec ℕ). v.items) (send_and_keep c m (proposes.Add l) None) m n r good
     (λ x h. added_good c m l x good (subst key_package.Fits (sym same) fits) (proposed_is c m (proposes.Add l) None gone (package_passes c m l (subst (λ (y : KeyPackage). key_package_checks c y ≡ Ok passed) (sym same) checks)) ∙ h)) does
 
 update_is : (c : Crypto) (m : Member) (seed own : List ℕ) (made : LeafNode) → m.gone ≡ false → updated_answer c m seed ≡ Ok made → own ≡ leaf_key_of c seed → proposal_checks c m.public m.keys.leaf (proposes.Update made) ≡ Ok passed →
-    proposed_update c m seed ≡ sent_and_kept c m (proposes.Update made) (Some own)
-unfolding proposed_update
+    propose_update c m seed ≡ send_and_keep c m (proposes.Update made) (Some own)
+unfolding propose_update
 update_is c m seed own made gone leaf key checks =
     let a : not m.gone ≡ true = ap not gone in
     let s = bind_ok (member_at m.public.tree m.keys.leaf) (λ (old : LeafNode). Ok (updated_leaf c m old seed)) made leaf in
@@ -129,30 +129,30 @@ update_is c m seed own made gone leaf key checks =
 pub update_good : (c : Crypto) (m n : Member) (seed own : List ℕ) (made : LeafNode) (r : Result (Vec ℕ) Refusal) → IsGoodMember c m → m.gone ≡ false → updated_answer c m seed ≡ Ok made → own ≡ leaf_key_of c seed →
     proposal_checks c m.public m.keys.leaf (proposes.Update made) ≡ Ok passed → HasSent c m n (proposes.Update made) (Some own) r → IsGoodMember c n
 update_good c m n seed own made r good gone leaf key checks does =
-    good_after c (λ (v : Vec ℕ). v.items) (sent_and_kept c m (proposes.Update made) (Some own)) m n r good (λ x h. updated_good c m seed x good (update_is c m seed own made gone leaf key checks ∙ h)) does
+    good_after c (λ (v : Vec ℕ). v.items) (send_and_keep c m (proposes.Update made) (Some own)) m n r good (λ x h. updated_good c m seed x good (update_is c m seed own made gone leaf key checks ∙ h)) does
 
 pub remove_good : (c : Crypto) (m n : Member) (leaf : ℕ) (r : Result (Vec ℕ) Refusal) → IsGoodMember c m → m.gone ≡ false → proposal_checks c m.public m.keys.leaf (proposes.Remove leaf) ≡ Ok passed → HasSent c m n (proposes.Remove leaf) None r → IsGoodMember c n
-unfolding proposed_remove
+unfolding propose_remove
 remove_good c m n leaf r good gone checks does =
-    good_after c (λ (v : Vec ℕ). v.items) (sent_and_kept c m (proposes.Remove leaf) None) m n r good (λ x h. removed_good c m leaf x good (proposed_is c m (proposes.Remove leaf) None gone checks ∙ h)) does
+    good_after c (λ (v : Vec ℕ). v.items) (send_and_keep c m (proposes.Remove leaf) None) m n r good (λ x h. removed_good c m leaf x good (proposed_is c m (proposes.Remove leaf) None gone checks ∙ h)) does
 
 -- ---- commits
 
 -- what a list has in full is short, since what it uses is
-full_first : (kept : List Kept) (i : ℕ) (x : ProposalOrRef) (u : Used) (us : List Used) → used_one kept i x ≡ Ok u → AreShortUsed (u ∷ us) → FullFits x
+full_first : (kept : List KeptProposal) (i : ℕ) (x : ProposalOrRef) (u : Used) (us : List Used) → find_proposal kept i x ≡ Ok u → AreShortUsed (u ∷ us) → FullFits x
 full_first kept i (listed.Proposal said) u us e short = (subst (λ (y : Used). AreShortUsed (y ∷ us)) (sym (ok_is _ u e)) short).0.0.fits
 full_first kept i (listed.Reference r) u us e short = tt
 
-pub full_fit : (kept : List Kept) (i : ℕ) (list : List ProposalOrRef) (used : List Used) → used_by kept i list ≡ Ok used → AreShortUsed used → AllByRecursion FullFits list
-unfolding used_by
+pub full_fit : (kept : List KeptProposal) (i : ℕ) (list : List ProposalOrRef) (used : List Used) → find_proposals kept i list ≡ Ok used → AreShortUsed used → AllByRecursion FullFits list
+unfolding find_proposals
 full_fit kept i [] used e short = tt
 full_fit kept i (x ∷ xs) used e short =
-    let s = bind_ok (used_one kept i x) (λ u. used_by kept i xs >>= λ us. Ok (u ∷ us)) used e in
-    let t = bind_ok (used_by kept i xs) (λ us. Ok (s.0 ∷ us)) used s.2 in
+    let s = bind_ok (find_proposal kept i x) (λ u. find_proposals kept i xs >>= λ us. Ok (u ∷ us)) used e in
+    let t = bind_ok (find_proposals kept i xs) (λ us. Ok (s.0 ∷ us)) used s.2 in
     let both : AreShortUsed (s.0 ∷ t.0) = subst AreShortUsed (sym (ok_is (s.0 ∷ t.0) used t.2)) short in
     (full_first kept i x s.0 t.0 s.1 both, full_fit kept i xs t.0 t.1 both.1)
 
-pub commit_good : (c : Crypto) → Lawful c → (m n : Member) (list : List ProposalOrRef) (path : Bool) (seed : List ℕ) (r : Result Made Refusal) → IsGoodMember c m → AllByRecursion FullFits list → DoesAs messages_of number_of (committed c m list path seed) m n r →
+pub commit_good : (c : Crypto) → Lawful c → (m n : Member) (list : List ProposalOrRef) (path : Bool) (seed : List ℕ) (r : Result Made Refusal) → IsGoodMember c m → AllByRecursion FullFits list → DoesAs messages_of number_of (commit_call c m list path seed) m n r →
     IsGoodMember c n × IfOk r (λ made. HasMade c m n list made)
 commit_good c laws m n list path seed (Ok made) good full h = commits_reach c laws m list path seed (messages_of made, n) good full h
 commit_good c laws m n list path seed (Err e) good full h = (subst (IsGoodMember c) (sym h.0) good, tt)

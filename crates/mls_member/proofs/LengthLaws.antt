@@ -13,7 +13,7 @@ use Rattle.mls_types.specs.Content.{content, framed_content}
 use Rattle.mls_types.specs.Message.{mls_message}
 use Rattle.mls_types.specs.PublicMessage.{public_message}
 use Rattle.mls_types.specs.Signed.{signed_content}
-use Rattle.mls_types.specs.SignedParts.{framed, bare, auth_data, tag_spelling}
+use Rattle.mls_types.specs.SignedParts.{framed, content_of_body, auth_data, tag_spelling}
 use Rattle.mls_types.proofs.SignedParts.{signed_content_spelled}
 use Rattle.mls_types.specs.declared.content.Content as contents
 use Rattle.mls_types.specs.declared.content.Content.TheVariants as says
@@ -100,7 +100,7 @@ short_view view shown shows h =
       auth = subst (λ (l : List ℕ). length l ≤ input_limit) (sym shows.auth_data) auth;
       signature = subst (λ (l : List ℕ). length l ≤ input_limit) (sym shows.signature) (inside shown.content.signature input_limit (front (opaque shown.content.signature) _ input_limit auth));
       tag = short_tag view.auth.confirmation_tag shown.content.body shows.confirmation_tag (back (opaque shown.content.signature) (tag_spelling shown.content.body) input_limit auth);
-      content = short_content view.content.content (bare shown.content.body) shows.content.content (content_inside (framed shown.content) input_limit said);
+      content = short_content view.content.content (content_of_body shown.content.body) shows.content.content (content_inside (framed shown.content) input_limit said);
     }
 
 -- a view of a message that all of the bytes spell

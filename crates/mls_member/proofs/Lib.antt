@@ -7,9 +7,9 @@ pub mod Uses
 pub mod CommitLengths
 pub mod SignedLengths
 pub mod CommitSteps
-pub mod First
+pub mod FirstEpoch
 pub mod Own
-pub mod Taken
+pub mod UsedItems
 pub mod Keeps
 pub mod Commits
 pub mod Good

@@ -12,7 +12,7 @@ use Rattle.mls_leaf.specs.Limits.{input_limit}
 use Rattle.mls_leaf.specs.Proposal.{proposal as proposal_format}
 use Rattle.mls_leaf.specs.declared.key_package.KeyPackage.{KeyPackage}
 use Rattle.mls_leaf.specs.declared.leaf.LeafNode.{LeafNode}
-use Rattle.mls_leaf.specs.declared.leaf.LeafSource.TheVariants as made_for
+use Rattle.mls_leaf.specs.declared.leaf.LeafSource.TheVariants as leaf_node_source
 use Rattle.mls_leaf.specs.declared.proposal.Proposal.{Proposal}
 use Rattle.mls_leaf.specs.declared.proposal.Proposal.TheVariants.{Add, Update, Remove}
 use Rattle.mls_types.specs.Content.{framed_content}
@@ -30,7 +30,7 @@ use Rattle.mls_public_group.proofs.Limits.{length_within}
 use Rattle.mls_public_group.specs.Short.{IsBelow}
 use Rattle.mls_model.specs.Candidate.{leaf_key_of, unsigned_leaf, signed_leaf}
 use Rattle.mls_model.specs.Member.{Member}
-use Rattle.mls_model.specs.Messages.{is_within_limit, said_by, content_signature, content_tag, sent_by}
+use Rattle.mls_model.specs.Messages.{is_within_limit, content_by, content_signature, content_tag, message_by}
 use Rattle.mls_model.specs.Propose.{proposal_by, updated_leaf}
 use Rattle.mls_candidate.specs.Short.{IsShortLeaf}
 use Rattle.mls_candidate.proofs.LengthLaws.{content_most}
@@ -41,23 +41,23 @@ use Rattle.mls_member.proofs.LengthLaws.{signed_parts, proposal_inside}
 -- ---- by their messages
 
 -- a content is no longer than its message
-content_within : (m : Member) (v : SignedContent) → is_within_limit (sent_by m v) ≡ Ok passed → length (framed_content.spell (framed v)) ≤ input_limit
-unfolding sent_by
+content_within : (m : Member) (v : SignedContent) → is_within_limit (message_by m v) ≡ Ok passed → length (framed_content.spell (framed v)) ≤ input_limit
+unfolding message_by
 content_within m v h = front _ (auth_data v) input_limit (signed_parts (record { content = v; membership_tag = content_tag m.epoch v m.public.context }) input_limit (length_within _ h))
 
 -- nor is a proposal
-said_within : (m : Member) (p : Proposal) → length (framed_content.spell (said_by m (says.Proposal p))) ≤ input_limit → length (proposal_format.spell p) ≤ input_limit
-unfolding said_by
+said_within : (m : Member) (p : Proposal) → length (framed_content.spell (content_by m (says.Proposal p))) ≤ input_limit → length (proposal_format.spell p) ≤ input_limit
+unfolding content_by
 said_within m p h = proposal_inside p input_limit (content_inside _ input_limit h)
 
-proposal_within : (c : Crypto) (m : Member) (p : Proposal) → is_within_limit (sent_by m (proposal_by c m p)) ≡ Ok passed → length (proposal_format.spell p) ≤ input_limit
+proposal_within : (c : Crypto) (m : Member) (p : Proposal) → is_within_limit (message_by m (proposal_by c m p)) ≡ Ok passed → length (proposal_format.spell p) ≤ input_limit
 unfolding proposal_by
 proposal_within c m p h =
-    let said : FramedContent = said_by m (says.Proposal p) in
+    let said : FramedContent = content_by m (says.Proposal p) in
     let signature : List ℕ = content_signature c m.signing said m.public.context in
     said_within m p (subst (λ (v : FramedContent). length (framed_content.spell v) ≤ input_limit) (framed_signed_with said signature []) (content_within m (signed_with said signature []) h))
 
-pub own_below : (c : Crypto) (m : Member) (p : Proposal) → proposal_format.Fits p → is_within_limit (sent_by m (proposal_by c m p)) ≡ Ok passed → IsBelow (2 ^ 27) proposal_format p
+pub own_below : (c : Crypto) (m : Member) (p : Proposal) → proposal_format.Fits p → is_within_limit (message_by m (proposal_by c m p)) ≡ Ok passed → IsBelow (2 ^ 27) proposal_format p
 own_below c m p fits h = record { fits = fits; below = omega (arith, proposal_within c m p h) }
 
 -- ---- what has a spelling
@@ -93,8 +93,8 @@ signed_length v signature s lt =
 updated_length : (c : Crypto) → Lawful c → (m : Member) (old : LeafNode) (seed : List ℕ) → IsBelow (2 ^ 27) leaf_node old → length (leaf_node.spell (updated_leaf c m old seed)) < 2 ^ 27 + 2 ^ 20
 unfolding updated_leaf signed_leaf
 updated_length c laws m old seed b =
-    signed_length (unsigned_leaf c (c.public (leaf_key_of c seed)) old.signature_key old.credential made_for.Update) _
-    (renewed_short c laws old _ (leaf_key_of c seed) _ _ _ made_for.Update refl refl refl refl b update_fits tt) (signs_short c laws _ _ _)
+    signed_length (unsigned_leaf c (c.public (leaf_key_of c seed)) old.signature_key old.credential leaf_node_source.Update) _
+    (renewed_short c laws old _ (leaf_key_of c seed) _ _ _ leaf_node_source.Update refl refl refl refl b update_fits tt) (signs_short c laws _ _ _)
 
 -- the update of a short leaf
 pub update_short : (c : Crypto) → Lawful c → (m : Member) (old made : LeafNode) (seed : List ℕ) → IsBelow (2 ^ 27) leaf_node old → made ≡ updated_leaf c m old seed → leaf_node.Fits made → IsShort proposal_format (Update made)

@@ -6,9 +6,9 @@ use Rattle.mls_wire.specs.Reading.{◌>>=◌}
 use Rattle.mls_leaf.specs.Proposal.{proposal as proposal_format}
 use Rattle.mls_types.specs.declared.commit.ProposalOrRef.{ProposalOrRef}
 use Rattle.mls_tree_model.specs.Sets.{has}
-use Rattle.mls_model.specs.Public.{Used}
-use Rattle.mls_model.specs.Member.{Kept, used_one, used_by, named_one, named, first_own_key, first_key}
-use Rattle.mls_model.specs.Proposals.{removed, remove_in}
+use Rattle.mls_model.specs.PublicState.{Used}
+use Rattle.mls_model.specs.Member.{KeptProposal, find_proposal, find_proposals, named_proposal, named_proposals, first_own_key, first_key}
+use Rattle.mls_model.specs.Proposals.{removed_leaves, remove_in}
 use Rattle.mls_public_group.specs.Short.{IsBelow, AreBelow}
 use Rattle.mls_public_group.proofs.Rest.{here, all_behind}
 use Rattle.mls_member.specs.Process.{IsListedBelow, key_of, is_leaf, removes_leaf}
@@ -17,8 +17,8 @@ use Rattle.mls_member.specs.Process.{IsListedBelow, key_of, is_leaf, removes_lea
 abbrev pub with_rest : List Used → Result (List Used) ℕ → Result (List Used) ℕ
 with_rest used rest = rest >>= λ us. Ok (used ++ us)
 
-pub record AreUsed (kept : List Kept) (committer : ℕ) (list rest : List ProposalOrRef) (used : List Used) : Type 0 where
-  pub answer : with_rest used (used_by kept committer rest) ≡ used_by kept committer list
+pub record AreUsed (kept : List KeptProposal) (committer : ℕ) (list rest : List ProposalOrRef) (used : List Used) : Type 0 where
+  pub answer : with_rest used (find_proposals kept committer rest) ≡ find_proposals kept committer list
   pub below : AreBelow (2 ^ 27) used
   pub short : AllByRecursion (IsListedBelow (2 ^ 27)) rest
 
@@ -33,23 +33,23 @@ pub one_more : (used : List Used) (u : Used) (r : Result (List Used) ℕ) → wi
 one_more used u (Ok us) = ap (λ (l : List Used). all_ok l) (sym (append_assoc used (u ∷ []) us))
 one_more used u (Err n) = refl
 
-pub used_first : (kept : List Kept) (committer : ℕ) (list : List ProposalOrRef) → AllByRecursion (IsListedBelow (2 ^ 27)) list → AreUsed kept committer list list []
-used_first kept committer list h = record { answer = nothing_first (used_by kept committer list); below = tt; short = h }
+pub used_first : (kept : List KeptProposal) (committer : ℕ) (list : List ProposalOrRef) → AllByRecursion (IsListedBelow (2 ^ 27)) list → AreUsed kept committer list list []
+used_first kept committer list h = record { answer = nothing_first (find_proposals kept committer list); below = tt; short = h }
 
-pub used_next : (kept : List Kept) (committer : ℕ) (list rest : List ProposalOrRef) (x : ProposalOrRef) (used : List Used) (u : Used) → AreUsed kept committer list (x ∷ rest) used → used_one kept committer x ≡ Ok u → IsBelow (2 ^ 27) proposal_format u.proposal → AreUsed kept committer list rest (used ++ u ∷ [])
-unfolding used_by
+pub used_next : (kept : List KeptProposal) (committer : ℕ) (list rest : List ProposalOrRef) (x : ProposalOrRef) (used : List Used) (u : Used) → AreUsed kept committer list (x ∷ rest) used → find_proposal kept committer x ≡ Ok u → IsBelow (2 ^ 27) proposal_format u.proposal → AreUsed kept committer list rest (used ++ u ∷ [])
+unfolding find_proposals
 used_next kept committer list rest x used u h e below = record {
-  answer = sym (one_more used u (used_by kept committer rest)) ∙ (rw e at h.answer);
+  answer = sym (one_more used u (find_proposals kept committer rest)) ∙ (rw e at h.answer);
   below = all_behind (λ (v : Used). IsBelow (2 ^ 27) proposal_format v.proposal) used u h.below below;
   short = h.short.1;
 }
 
-pub used_fails : (kept : List Kept) (committer : ℕ) (list rest : List ProposalOrRef) (x : ProposalOrRef) (used : List Used) (n : ℕ) → AreUsed kept committer list (x ∷ rest) used → used_one kept committer x ≡ Err n → used_by kept committer list ≡ Err n
-unfolding used_by
+pub used_fails : (kept : List KeptProposal) (committer : ℕ) (list rest : List ProposalOrRef) (x : ProposalOrRef) (used : List Used) (n : ℕ) → AreUsed kept committer list (x ∷ rest) used → find_proposal kept committer x ≡ Err n → find_proposals kept committer list ≡ Err n
+unfolding find_proposals
 used_fails kept committer list rest x used n h e = sym (rw e at h.answer)
 
-pub used_all : (kept : List Kept) (committer : ℕ) (list : List ProposalOrRef) (used : List Used) → AreUsed kept committer list [] used → used_by kept committer list ≡ Ok used
-unfolding used_by
+pub used_all : (kept : List KeptProposal) (committer : ℕ) (list : List ProposalOrRef) (used : List Used) → AreUsed kept committer list [] used → find_proposals kept committer list ≡ Ok used
+unfolding find_proposals
 used_all kept committer list used h = sym h.answer ∙ ap (λ (l : List Used). all_ok l) (append-nil used)
 
 -- ---- wider limits
@@ -60,17 +60,17 @@ used_wider (u ∷ us) h = (record { fits = h.0.fits; below = omega (arith, h.0.b
 
 -- ---- lists
 
-pub used_step : (kept : List Kept) (committer : ℕ) (list : List ProposalOrRef) (i : ℕ) (x : ProposalOrRef) (used : List Used) (u : Used) → i < length list → x ≡ get_or list i x → AreUsed kept committer list (drop i list) used
-    → used_one kept committer x ≡ Ok u → IsBelow (2 ^ 27) proposal_format u.proposal → AreUsed kept committer list (drop (i + 1) list) (used ++ u ∷ [])
+pub used_step : (kept : List KeptProposal) (committer : ℕ) (list : List ProposalOrRef) (i : ℕ) (x : ProposalOrRef) (used : List Used) (u : Used) → i < length list → x ≡ get_or list i x → AreUsed kept committer list (drop i list) used
+    → find_proposal kept committer x ≡ Ok u → IsBelow (2 ^ 27) proposal_format u.proposal → AreUsed kept committer list (drop (i + 1) list) (used ++ u ∷ [])
 used_step kept committer list i x used u lt e h one below =
     used_next kept committer list (drop (i + 1) list) x used u (subst (λ (l : List ProposalOrRef). AreUsed kept committer list l used) (here list i x lt e) h) one below
 
-pub used_stops : (kept : List Kept) (committer : ℕ) (list : List ProposalOrRef) (i : ℕ) (x : ProposalOrRef) (used : List Used) (n : ℕ) → i < length list → x ≡ get_or list i x → AreUsed kept committer list (drop i list) used
-    → used_one kept committer x ≡ Err n → used_by kept committer list ≡ Err n
+pub used_stops : (kept : List KeptProposal) (committer : ℕ) (list : List ProposalOrRef) (i : ℕ) (x : ProposalOrRef) (used : List Used) (n : ℕ) → i < length list → x ≡ get_or list i x → AreUsed kept committer list (drop i list) used
+    → find_proposal kept committer x ≡ Err n → find_proposals kept committer list ≡ Err n
 used_stops kept committer list i x used n lt e h one =
     used_fails kept committer list (drop (i + 1) list) x used n (subst (λ (l : List ProposalOrRef). AreUsed kept committer list l used) (here list i x lt e) h) one
 
-pub used_end : (kept : List Kept) (committer : ℕ) (list : List ProposalOrRef) (i : ℕ) (used : List Used) → length list ≤ i → AreUsed kept committer list (drop i list) used → used_by kept committer list ≡ Ok used
+pub used_end : (kept : List KeptProposal) (committer : ℕ) (list : List ProposalOrRef) (i : ℕ) (used : List Used) → length list ≤ i → AreUsed kept committer list (drop i list) used → find_proposals kept committer list ≡ Ok used
 used_end kept committer list i used le h = used_all kept committer list used (subst (λ (l : List ProposalOrRef). AreUsed kept committer list l used) (drop_all i list le) h)
 
 -- ---- removes
@@ -80,37 +80,37 @@ unfolding has
 has_next None xs leaf = refl
 has_next (Some i) xs leaf = refl
 
-pub any_removes : (us : List Used) (leaf : ℕ) → list_any (removes_leaf leaf) us ≡ has (removed us) leaf
-unfolding has removed
+pub any_removes : (us : List Used) (leaf : ℕ) → list_any (removes_leaf leaf) us ≡ has (removed_leaves us) leaf
+unfolding has removed_leaves
 any_removes [] leaf = refl
-any_removes (u ∷ us) leaf = rw (any_removes us leaf) (sym (has_next (remove_in u.proposal) (removed us) leaf))
+any_removes (u ∷ us) leaf = rw (any_removes us leaf) (sym (has_next (remove_in u.proposal) (removed_leaves us) leaf))
 
 -- ---- keys
 
-by_name : (o : Option Kept) (ks : List Kept) → first_own_key (cons_option o ks) ≡ first_key (key_of o) (first_own_key ks)
+by_name : (o : Option KeptProposal) (ks : List KeptProposal) → first_own_key (cons_option o ks) ≡ first_key (key_of o) (first_own_key ks)
 unfolding first_own_key
 by_name None ks = refl
 by_name (Some k) ks = refl
 
 -- the first key of a list is that of its first entry, or of the others
-own_key_next : (kept : List Kept) (x : ProposalOrRef) (xs : List ProposalOrRef) → first_own_key (named kept (x ∷ xs)) ≡ first_key (key_of (named_one kept x)) (first_own_key (named kept xs))
-unfolding named
-own_key_next kept x xs = by_name (named_one kept x) (named kept xs)
+own_key_next : (kept : List KeptProposal) (x : ProposalOrRef) (xs : List ProposalOrRef) → first_own_key (named_proposals kept (x ∷ xs)) ≡ first_key (key_of (named_proposal kept x)) (first_own_key (named_proposals kept xs))
+unfolding named_proposals
+own_key_next kept x xs = by_name (named_proposal kept x) (named_proposals kept xs)
 
 -- what is left of a list from a place on has the key that is looked for
-abbrev pub HasKey : List Kept → List ProposalOrRef → ℕ → Option (List ℕ) → Type 0
-HasKey kept list i key = first_own_key (named kept (drop i list)) ≡ key
+abbrev pub HasKey : List KeptProposal → List ProposalOrRef → ℕ → Option (List ℕ) → Type 0
+HasKey kept list i key = first_own_key (named_proposals kept (drop i list)) ≡ key
 
-pub key_found : (kept : List Kept) (list : List ProposalOrRef) (i : ℕ) (x : ProposalOrRef) (k : List ℕ) (key : Option (List ℕ)) → i < length list → x ≡ get_or list i x → HasKey kept list i key → Some k ≡ key_of (named_one kept x) → Some k ≡ key
+pub key_found : (kept : List KeptProposal) (list : List ProposalOrRef) (i : ℕ) (x : ProposalOrRef) (k : List ℕ) (key : Option (List ℕ)) → i < length list → x ≡ get_or list i x → HasKey kept list i key → Some k ≡ key_of (named_proposal kept x) → Some k ≡ key
 key_found kept list i x k key lt e h found =
-    let a : first_key (key_of (named_one kept x)) (first_own_key (named kept (drop (i + 1) list))) ≡ key = sym (own_key_next kept x (drop (i + 1) list)) ∙ ap (λ (l : List ProposalOrRef). first_own_key (named kept l)) (sym (here list i x lt e)) ∙ h in
-    subst (λ (o : Option (List ℕ)). first_key o (first_own_key (named kept (drop (i + 1) list))) ≡ key) (sym found) a
+    let a : first_key (key_of (named_proposal kept x)) (first_own_key (named_proposals kept (drop (i + 1) list))) ≡ key = sym (own_key_next kept x (drop (i + 1) list)) ∙ ap (λ (l : List ProposalOrRef). first_own_key (named_proposals kept l)) (sym (here list i x lt e)) ∙ h in
+    subst (λ (o : Option (List ℕ)). first_key o (first_own_key (named_proposals kept (drop (i + 1) list))) ≡ key) (sym found) a
 
-pub key_passed : (kept : List Kept) (list : List ProposalOrRef) (i : ℕ) (x : ProposalOrRef) (key : Option (List ℕ)) → i < length list → x ≡ get_or list i x → HasKey kept list i key → None ≡ key_of (named_one kept x) → HasKey kept list (i + 1) key
+pub key_passed : (kept : List KeptProposal) (list : List ProposalOrRef) (i : ℕ) (x : ProposalOrRef) (key : Option (List ℕ)) → i < length list → x ≡ get_or list i x → HasKey kept list i key → None ≡ key_of (named_proposal kept x) → HasKey kept list (i + 1) key
 key_passed kept list i x key lt e h none =
-    let a : first_key (key_of (named_one kept x)) (first_own_key (named kept (drop (i + 1) list))) ≡ key = sym (own_key_next kept x (drop (i + 1) list)) ∙ ap (λ (l : List ProposalOrRef). first_own_key (named kept l)) (sym (here list i x lt e)) ∙ h in
-    subst (λ (o : Option (List ℕ)). first_key o (first_own_key (named kept (drop (i + 1) list))) ≡ key) (sym none) a
+    let a : first_key (key_of (named_proposal kept x)) (first_own_key (named_proposals kept (drop (i + 1) list))) ≡ key = sym (own_key_next kept x (drop (i + 1) list)) ∙ ap (λ (l : List ProposalOrRef). first_own_key (named_proposals kept l)) (sym (here list i x lt e)) ∙ h in
+    subst (λ (o : Option (List ℕ)). first_key o (first_own_key (named_proposals kept (drop (i + 1) list))) ≡ key) (sym none) a
 
-pub key_end : (kept : List Kept) (list : List ProposalOrRef) (i : ℕ) (key : Option (List ℕ)) → length list ≤ i → HasKey kept list i key → None ≡ key
-unfolding named first_own_key
-key_end kept list i key le h = subst (λ (l : List ProposalOrRef). first_own_key (named kept l) ≡ key) (drop_all i list le) h
+pub key_end : (kept : List KeptProposal) (list : List ProposalOrRef) (i : ℕ) (key : Option (List ℕ)) → length list ≤ i → HasKey kept list i key → None ≡ key
+unfolding named_proposals first_own_key
+key_end kept list i key le h = subst (λ (l : List ProposalOrRef). first_own_key (named_proposals kept l) ≡ key) (drop_all i list le) h

@@ -21,7 +21,7 @@ abbrev pub HasMade : Crypto → Member → Member → List ProposalOrRef → Mad
 HasMade c maker after list made = ReachesGroup c maker after list made.commit.items (option_map (λ v. v.items) made.welcome)
 
 -- a new member with the GroupInfo
-abbrev pub joined_as : {S : Type 0} → Joined S → model.Joined
+abbrev pub joined_as : {S : Type 0} → Joined S → model.JoinedMember
 joined_as j = record { member = j.member; info = j.group_info.items }
 
 -- a proposal in full is short; of a reference nothing is asked

@@ -3,6 +3,6 @@ pub mod Names
 pub mod Codes
 pub mod Answers
 pub mod Process
-pub mod First
+pub mod FirstEpoch
 pub mod Proposing
 pub mod Committing

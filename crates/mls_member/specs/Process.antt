@@ -2,7 +2,7 @@
 use Rattle.std.specs.Prelude.{ℕ, ◌==◌, ◌≤◌, ◌^◌, Bool, true, false, not, ◌||◌, if◌then◌else◌, List, length, Option, Some, None, Result, Ok, IfSome}
 use Rattle.std.specs.List.{AllByRecursion, list_any}
 use Rattle.std.specs.Str.{bytes_eq}
-use Rattle.mls_wire.specs.Checks.{Passed, require, given, ◌>>◌}
+use Rattle.mls_wire.specs.Checks.{Passed, require, require_some, ◌>>◌}
 use Rattle.mls_wire.specs.Reading.{◌>>=◌}
 use Rattle.mls_leaf.specs.Limits.{input_limit}
 use Rattle.mls_leaf.specs.Leaf.{leaf_node}
@@ -26,11 +26,11 @@ use Rattle.mls_schedule.specs.Epoch.{init_secret, next_epoch_secret, confirmatio
 use Rattle.mls_model.specs.declared.effect.Effect.{Effect}
 use Rattle.mls_model.specs.declared.effect.Effect.TheVariants.{Proposed, Advanced, Removed}
 use Rattle.mls_model.specs.Proposals.{proposal_checks, remove_in}
-use Rattle.mls_model.specs.Public.{Used}
-use Rattle.mls_model.specs.Commit.{Change, body, public_with}
-use Rattle.mls_model.specs.Member.{Kept, Member, used_by, named, first_own_key, followed, keeping, advanced, left}
-use Rattle.mls_model.specs.Messages.{decoded, public_in, sender_leaf, is_handshake, is_content_signed, content_tag}
-use Rattle.mls_model.specs.Verdict.{is_kept, framing_checks, content_verdict, climbed, entered}
+use Rattle.mls_model.specs.PublicState.{Used}
+use Rattle.mls_model.specs.Commit.{Change, change_of_commit, public_with}
+use Rattle.mls_model.specs.Member.{KeptProposal, Member, find_proposals, named_proposals, first_own_key, follow_edits, with_kept, with_epoch, after_removal}
+use Rattle.mls_model.specs.Messages.{decode_message, public_in, sender_leaf, is_handshake, is_content_signed, content_tag}
+use Rattle.mls_model.specs.Verdict.{is_kept, framing_checks, content_verdict, open_path_secret, enter_epoch}
 use Rattle.mls_public_group.specs.Short.{IsBelow}
 
 -- ---- every message
@@ -41,7 +41,7 @@ unfoldable pub sender_at : Member → List ℕ → ℕ → ℕ → Bool → Resu
 sender_at m group_id epoch sender handshake = do
   require 42 (bytes_eq group_id m.public.context.group_id)
   require 43 (epoch == m.public.context.epoch)
-  leaf ← given 44 (leaf_of m.public.tree sender)
+  leaf ← require_some 44 (leaf_of m.public.tree sender)
   require 45 handshake
   Ok leaf
 
@@ -59,16 +59,16 @@ sender_of m v = do
   Ok leaf
 
 -- 47 the signature, 48 the member's own leaf, and no proposal that it keeps (RFC 9420, 6.1)
-unfoldable pub vouched : Crypto → Member → PublicMessage → List ℕ → LeafNode → Result Passed ℕ
-vouched c m v bytes leaf = do
+unfoldable pub check_sender : Crypto → Member → PublicMessage → List ℕ → LeafNode → Result Passed ℕ
+check_sender c m v bytes leaf = do
   require 47 (is_content_signed c leaf.signature_key v.content m.public.context)
   require 48 (not (sender_leaf v.content.sender == m.keys.leaf) || is_kept m.kept bytes)
 
 -- the checks of bytes that take no memory: decoding, 41 no PublicMessage, and 42 to 46
 unfoldable pub outer_checks : Member → List ℕ → Result LeafNode ℕ
 outer_checks m bytes = do
-  whole ← decoded bytes
-  v ← given 41 (public_in whole)
+  whole ← decode_message bytes
+  v ← require_some 41 (public_in whole)
   sender_of m v
 
 -- what a PublicMessage does
@@ -80,12 +80,12 @@ message_verdict c m v bytes = framing_checks c m v bytes >> content_verdict c m 
 -- it is checked and kept under its reference (RFC 9420, 12.1)
 unfoldable pub new_proposal : Crypto → Member → List ℕ → ℕ → List ℕ → Proposal → Result (Effect × Member) ℕ
 new_proposal c m reference sender bytes proposal =
-    proposal_checks c m.public sender proposal >> Ok (Proposed reference, keeping m (record { reference = reference; message = bytes; proposal = proposal; sender = sender; own_key = None }))
+    proposal_checks c m.public sender proposal >> Ok (Proposed reference, with_kept m (record { reference = reference; message = bytes; proposal = proposal; sender = sender; own_key = None }))
 
 -- ---- a commit
 
 -- the private key that a kept proposal has, where there is one
-abbrev pub key_of : Option Kept → Option (List ℕ)
+abbrev pub key_of : Option KeptProposal → Option (List ℕ)
 key_of None = None
 key_of (Some k) = k.own_key
 
@@ -98,32 +98,32 @@ abbrev pub removes_leaf : ℕ → Used → Bool
 removes_leaf leaf u = is_leaf leaf (remove_in u.proposal)
 
 -- what a commit makes of the public state, and whether it removes the member (RFC 9420, 12.4.2)
-unfoldable pub changed : Crypto → Member → ℕ → Commit → FramedContent → List ℕ → Result (Change × Bool) ℕ
-changed c m committer commit said signature = do
-  used ← used_by m.kept committer commit.proposals
-  change ← body c m.public committer used commit said signature
+unfoldable pub check_commit : Crypto → Member → ℕ → Commit → FramedContent → List ℕ → Result (Change × Bool) ℕ
+check_commit c m committer commit said signature = do
+  used ← find_proposals m.kept committer commit.proposals
+  change ← change_of_commit c m.public committer used commit said signature
   Ok (change, list_any (removes_leaf m.keys.leaf) used)
 
 -- the private keys after a commit's edits
 abbrev pub edited_keys : Member → Commit → Change → PrivateKeys
-edited_keys m commit change = followed (first_own_key (named m.kept commit.proposals)) change.edits.tree m.keys
+edited_keys m commit change = follow_edits (first_own_key (named_proposals m.kept commit.proposals)) change.edits.tree m.keys
 
 -- the member after a commit whose change is known (RFC 9420, 12.4.2)
 unfoldable pub after_change : Crypto → Member → ℕ → Commit → List ℕ → Change × Bool → Result (Effect × Member) ℕ
 after_change c m committer commit tag (change, removes) =
-    if removes then Ok (Removed, left m)
-    else (climbed c m committer change (edited_keys m commit change) commit.path >>= λ climb. entered m change climb tag)
+    if removes then Ok (Removed, after_removal m)
+    else (open_path_secret c m committer change (edited_keys m commit change) commit.path >>= λ climb. enter_epoch m change climb tag)
 
 -- the member after a commit that isn't in the last epoch
-abbrev pub followed_commit : Crypto → Member → ℕ → Commit → FramedContent → List ℕ → List ℕ → Result (Effect × Member) ℕ
-followed_commit c m committer commit said signature tag = changed c m committer commit said signature >>= after_change c m committer commit tag
+abbrev pub follow_commit : Crypto → Member → ℕ → Commit → FramedContent → List ℕ → List ℕ → Result (Effect × Member) ℕ
+follow_commit c m committer commit said signature tag = check_commit c m committer commit said signature >>= after_change c m committer commit tag
 
 -- the next epoch by its commit secret, with the keys that the member has in it; 65 where the tag isn't that of it
-unfoldable pub entered_with : Member → Change → List ℕ → PrivateKeys → List ℕ → Result (Effect × Member) ℕ
-entered_with m change secret keys tag = do
+unfoldable pub enter_epoch_with : Member → Change → List ℕ → PrivateKeys → List ℕ → Result (Effect × Member) ℕ
+enter_epoch_with m change secret keys tag = do
   let epoch = next_epoch_secret (init_secret m.epoch) secret (group_context.spell change.context)
   require 65 (bytes_eq tag (confirmation_tag epoch change.context.confirmed_transcript_hash))
-  Ok (Advanced change.context.epoch, advanced m (public_with change tag) epoch keys)
+  Ok (Advanced change.context.epoch, with_epoch m (public_with change tag) epoch keys)
 
 -- ---- lengths
 

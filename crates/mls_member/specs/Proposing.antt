@@ -7,27 +7,27 @@ use Rattle.mls_leaf.specs.declared.leaf.LeafNode.{LeafNode}
 use Rattle.mls_leaf.specs.declared.proposal.Proposal.{Proposal}
 use Rattle.mls_suite.specs.Crypto.{Crypto}
 use Rattle.mls_tree.specs.Tree.{member_at}
-use Rattle.mls_model.specs.Member.{Kept, Member, kept_under, keeping}
-use Rattle.mls_model.specs.Messages.{is_within_limit, sent_by, reference_of}
-use Rattle.mls_model.specs.Propose.{proposal_by, kept_once, updated_leaf}
+use Rattle.mls_model.specs.Member.{KeptProposal, Member, kept_under, with_kept}
+use Rattle.mls_model.specs.Messages.{is_within_limit, message_by, reference_of}
+use Rattle.mls_model.specs.Propose.{proposal_by, keep_once, updated_leaf}
 
 -- a member's proposal, as it keeps it
-abbrev pub kept_as : Crypto → Member → Proposal → Option (List ℕ) → Kept
-kept_as c m said own_key = record { reference = reference_of (proposal_by c m said); message = sent_by m (proposal_by c m said); proposal = said; sender = m.keys.leaf; own_key = own_key }
+abbrev pub kept_as : Crypto → Member → Proposal → Option (List ℕ) → KeptProposal
+kept_as c m said own_key = record { reference = reference_of (proposal_by c m said); message = message_by m (proposal_by c m said); proposal = said; sender = m.keys.leaf; own_key = own_key }
 
 -- whether the same message is kept, where one is kept under its reference: 49 another one is (RFC 9420, 12.1)
-abbrev pub known_as : Option Kept → List ℕ → Result Bool ℕ
+abbrev pub known_as : Option KeptProposal → List ℕ → Result Bool ℕ
 known_as None message = Ok false
 known_as (Some old) message = require 49 (bytes_eq old.message message) >> Ok true
 
 -- a proposal is kept with its message and its reference
-abbrev pub kept_with : Member → List ℕ → List ℕ → Proposal → Option (List ℕ) → Result (List ℕ × Member) ℕ
-kept_with m message reference said own_key = Ok (message, keeping m (record { reference = reference; message = message; proposal = said; sender = m.keys.leaf; own_key = own_key }))
+abbrev pub keep_sent_proposal : Member → List ℕ → List ℕ → Proposal → Option (List ℕ) → Result (List ℕ × Member) ℕ
+keep_sent_proposal m message reference said own_key = Ok (message, with_kept m (record { reference = reference; message = message; proposal = said; sender = m.keys.leaf; own_key = own_key }))
 
 -- a proposal whose checks have passed is sent and kept: 6 its message is too large, 49 another message is kept under its
 -- reference (RFC 9420, 12.1)
-abbrev pub sent_and_kept : Crypto → Member → Proposal → Option (List ℕ) → Result (List ℕ × Member) ℕ
-sent_and_kept c m said own_key = is_within_limit (sent_by m (proposal_by c m said)) >> kept_once m (kept_as c m said own_key) (kept_under m.kept (reference_of (proposal_by c m said)))
+abbrev pub send_and_keep : Crypto → Member → Proposal → Option (List ℕ) → Result (List ℕ × Member) ℕ
+send_and_keep c m said own_key = is_within_limit (message_by m (proposal_by c m said)) >> keep_once m (kept_as c m said own_key) (kept_under m.kept (reference_of (proposal_by c m said)))
 
 -- the leaf of an update, where the member has one (RFC 9420, 12.1.2)
 abbrev pub updated_answer : Crypto → Member → List ℕ → Result LeafNode ℕ

@@ -3,19 +3,19 @@
 ghost use Rattle.std.specs.Prelude.{◌≡◌, ◌+◌, ◌<◌, ◌≤◌, ◌^◌, true, false, None, Err, is_some, IsSome, IfOk, map};
 ghost use Rattle.std.specs.List.{AllByRecursion};
 ghost use Rattle.mls_wire.specs.Checks.{Answers, DoesAs};
-ghost use Rattle.mls_theorems.specs.Spelled.{FullFits};
-ghost use Rattle.mls_make.specs.Parts.{made_as, AreShortUsed};
+ghost use Rattle.mls_theorems.specs.SpelledParts.{FullFits};
+ghost use Rattle.mls_make.specs.CommitCall.{made_as, AreShortUsed};
 ghost use Rattle.mls_model.specs.Agreement.{IsGoodMember};
-ghost use Rattle.mls_model.specs.Make.{listed_of, committed};
-ghost use Rattle.mls_model.specs.Member.{used_by};
+ghost use Rattle.mls_model.specs.Make.{listed_of, commit_call};
+ghost use Rattle.mls_model.specs.Member.{find_proposals};
 ghost use Rattle.mls_member.specs.Answers.{messages_of, AreShortItems, HasMade};
-ghost use Rattle.mls_member.specs.Committing.{made_of_list, made_and_kept};
+ghost use Rattle.mls_member.specs.Committing.{made_of_list, keep_pending};
 ghost use Rattle.mls_member.specs.Faults.{number_of};
 ghost use Rattle.mls_member.specs.declared.error.Refusal.TheVariants.{Gone, PendingCommit, EpochEnd};
 
 use crate::error::Refusal;
-use crate::items::{listed, used_of_items};
-use crate::kept::Pending;
+use crate::commit_items::{list_items, used_of_items};
+use crate::kept_and_pending::Pending;
 use crate::member::Member;
 use mls_kdf::Seed;
 use mls_make::NewCommit;
@@ -41,9 +41,9 @@ impl<S: Suite> Member<S> {
     }
 
     /// The proposals that a commit call uses: 60 a reference isn't kept.
-    fn used_items<'a>(&'a self, items: &'a [Item]) -> Result<Vec<Used<'a>>, Refusal>
+    fn resolve_items<'a>(&'a self, items: &'a [Item]) -> Result<Vec<Used<'a>>, Refusal>
         requires { AreShortItems items.now }
-        ensures answer { Answers (λ v. v.items) number_of (used_by self.now.kept self.now.keys.leaf (map listed_of items.now)) result }
+        ensures answer { Answers (λ v. v.items) number_of (find_proposals self.now.kept self.now.keys.leaf (map listed_of items.now)) result }
         ensures short { IfOk result (λ v. AreShortUsed v.items) }
     {
         used_of_items(self.alloc, &self.kept, self.keys.leaf(), items)
@@ -57,12 +57,12 @@ impl<S: Suite> Member<S> {
         ensures answer { Answers made_as number_of (made_of_list S.crypto self.now (map listed_of items.now) path seed.now) result }
         ensures full { IfOk result (λ _. AllByRecursion FullFits (map listed_of items.now)) }
     {
-        let used = self.used_items(items)?;
-        let list = listed(self.alloc, items)?;
+        let used = self.resolve_items(items)?;
+        let list = list_items(self.alloc, items)?;
         let proposals = used.as_slice();
         let keys = self.keys();
         let speaker = self.speaker();
-        match mls_make::make::<S>(self.alloc, &speaker, keys, list, proposals, path, seed) {
+        match mls_make::make_commit::<S>(self.alloc, &speaker, keys, list, proposals, path, seed) {
             Ok(made) => Ok(made),
             Err(error) => Err(Refusal::Make(error)),
         }
@@ -71,7 +71,7 @@ impl<S: Suite> Member<S> {
     /// Keeps the state that a new commit leads to as pending, and answers its messages.
     #[tactic(auto, unfolding(mls_model::specs::Member::with_pending))]
     fn keep_pending(&mut self, new: NewCommit) -> Result<Made, Refusal>
-        ensures { DoesAs messages_of number_of (made_and_kept self.old (made_as new)) self.old self.new result }
+        ensures { DoesAs messages_of number_of (keep_pending self.old (made_as new)) self.old self.new result }
     {
         let message = Vec::from_slice(self.alloc, &new.commit)?;
         let NewCommit {
@@ -95,7 +95,7 @@ impl<S: Suite> Member<S> {
     /// a message or the GroupInfo is too long (RFC 9420, 12.4.1).
     pub fn commit(&mut self, items: &[Item], path: bool, seed: &Seed) -> Result<Made, Refusal>
         requires { AreShortItems items.now }
-        ensures answer { DoesAs messages_of number_of (committed S.crypto self.old (map listed_of items.now) path seed.now) self.old self.new result }
+        ensures answer { DoesAs messages_of number_of (commit_call S.crypto self.old (map listed_of items.now) path seed.now) self.old self.new result }
         ensures good { IsGoodMember S.crypto self.old → IsGoodMember S.crypto self.new }
         ensures reaches { IsGoodMember S.crypto self.old → IfOk result (λ made. HasMade S.crypto self.old self.new (map listed_of items.now) made) }
         // These three come also when an allocation fails.

@@ -3,7 +3,7 @@
 ghost use Rattle.std.specs.Prelude.{◌≡◌, ◌≤◌, ◌^◌, Some, length, IfOk};
 ghost use Rattle.mls_leaf.specs.Leaf.{leaf_node};
 ghost use Rattle.mls_public_group.specs.Short.{IsBelow, HasLeavesBelow, IsShortContext};
-ghost use Rattle.mls_member.specs.First.{first_public};
+ghost use Rattle.mls_member.specs.FirstEpoch.{first_public};
 ghost use Rattle.mls_wire.specs.Checks.{Answers, AnswersOutright, passed};
 ghost use Rattle.mls_wire.specs.Format.{IsBytes};
 ghost use Rattle.mls_model.specs.Messages.{is_within_limit};
@@ -11,7 +11,7 @@ ghost use Rattle.mls_tree.specs.Tree.{term};
 ghost use Rattle.mls_leaf.specs.Limits.{input_limit};
 ghost use Rattle.mls_tree_model.specs.Term.{Leaf};
 ghost use Rattle.mls_model.specs.Agreement.{IsGoodMember, IsGoodCandidate};
-ghost use Rattle.mls_model.specs.Candidate.{first_context, created};
+ghost use Rattle.mls_model.specs.Candidate.{first_context, create_group};
 ghost use Rattle.mls_member.specs.Faults.{number_of};
 
 use crate::error::Refusal;
@@ -67,7 +67,7 @@ fn first_context<S: Suite>(
 }
 
 /// The tree of epoch 0 with its context.
-#[tactic(auto, using(crate::proofs::First::first_short, crate::proofs::First::leaf_below))]
+#[tactic(auto, using(crate::proofs::FirstEpoch::first_short, crate::proofs::FirstEpoch::leaf_below))]
 fn first_parts<S: Suite>(
     alloc: Global,
     leaf: &LeafNode,
@@ -86,7 +86,7 @@ fn first_parts<S: Suite>(
 }
 
 /// The public state of epoch 0, or 6 where its context is too long.
-#[tactic(auto, using(crate::proofs::First::public_refused, crate::proofs::First::public_made, crate::proofs::First::public_long))]
+#[tactic(auto, using(crate::proofs::FirstEpoch::public_refused, crate::proofs::FirstEpoch::public_made, crate::proofs::FirstEpoch::public_long))]
 fn first_group<S: Suite>(
     alloc: Global,
     leaf: &LeafNode,
@@ -110,14 +110,14 @@ fn first_group<S: Suite>(
 
 impl<S: Suite> Member<S> {
     /// The group of a candidate alone, whose epoch secret is the seed: 6 where its GroupContext is too long (RFC 9420, 11).
-    #[tactic(auto, using(crate::proofs::First::created_made, crate::proofs::First::created_refused))]
+    #[tactic(auto, using(crate::proofs::FirstEpoch::created_made, crate::proofs::FirstEpoch::created_refused))]
     pub fn create(
         alloc: Global,
         candidate: &Candidate<S>,
         group_id: &[u8],
         seed: &Seed,
     ) -> Result<Member<S>, Refusal>
-        ensures answer { Answers (λ m. m) number_of (created S.crypto candidate.now group_id.now seed.now) result }
+        ensures answer { Answers (λ m. m) number_of (create_group S.crypto candidate.now group_id.now seed.now) result }
         ensures good { IsGoodCandidate S.crypto candidate.now → IfOk result (λ m. IsGoodMember S.crypto m) }
     {
         let epoch = Epoch::first(seed);

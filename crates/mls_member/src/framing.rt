@@ -9,10 +9,10 @@ ghost use Rattle.mls_model.specs.Verdict.{is_kept, framing_checks};
 ghost use Rattle.mls_types.specs.declared.public_message.PublicMessage as messages;
 ghost use Rattle.mls_view.specs.Shown.{ShowsPublic};
 ghost use Rattle.mls_member.specs.Faults.{number_of};
-ghost use Rattle.mls_member.specs.Process.{sender_at, sender_of, vouched, says_handshake, IsShortView};
+ghost use Rattle.mls_member.specs.Process.{sender_at, sender_of, check_sender, says_handshake, IsShortView};
 
 use crate::error::Refusal;
-use crate::kept::Kept;
+use crate::kept_and_pending::KeptProposal;
 use crate::member::Member;
 use mls_leaf::LeafNode;
 use mls_suite::{Suite, verify_with_label};
@@ -41,7 +41,7 @@ fn says_handshake(content: &ContentView<'_>) -> bool
 }
 
 /// Whether one of the kept proposals has this very message (RFC 9420, 12.1).
-fn is_kept(kept: &[Kept], bytes: &[u8]) -> bool
+fn is_kept(kept: &[KeptProposal], bytes: &[u8]) -> bool
     ensures { result ≡ is_kept kept.now bytes.now }
 {
     kept.iter().any(|k| k.message.as_slice() == bytes)
@@ -115,15 +115,15 @@ impl<S: Suite> Member<S> {
     }
 
     /// 47 the signature (RFC 9420, 6.1), 48 the member's own leaf, and no proposal that it keeps.
-    #[tactic(auto, unfolding(crate::specs::Process::vouched))]
-    fn vouched(
+    #[tactic(auto, unfolding(crate::specs::Process::check_sender))]
+    fn check_sender(
         &self,
         view: &PublicMessageView<'_>,
         bytes: &[u8],
         leaf: &LeafNode,
     ) -> Result<(), Refusal>
         requires { IsShortView view.now }
-        ensures { (shown : messages.PublicMessage) → ShowsPublic view.now shown → Answers (λ _. passed) number_of (vouched S.crypto self.now shown bytes.now leaf.now) result }
+        ensures { (shown : messages.PublicMessage) → ShowsPublic view.now shown → Answers (λ _. passed) number_of (check_sender S.crypto self.now shown bytes.now leaf.now) result }
     {
         if !self.is_signed(view, leaf.signature_key.as_slice())? {
             return Err(Refusal::BadSignature);
@@ -148,6 +148,6 @@ impl<S: Suite> Member<S> {
         ensures outright { (shown : messages.PublicMessage) → ShowsPublic view.now shown → RefusesOutright number_of (sender_of self.now shown) result }
     {
         let leaf = self.sender_of(view)?;
-        self.vouched(view, bytes, leaf)
+        self.check_sender(view, bytes, leaf)
     }
 }

@@ -1,24 +1,24 @@
 //! Members of groups: what they make, and what they do with messages (RFC 9420, 11 and 12).
 #![tactic(auto)]
 
-mod advance;
+mod received_commit;
 mod commit;
 mod create;
 mod error;
 mod framing;
-mod items;
+mod commit_items;
 mod join;
-mod keeping;
-mod kept;
-mod kept_getter;
+mod sent_proposal;
+mod kept_and_pending;
+mod kept_proposal;
 mod laws;
 mod member;
 mod process;
-mod proposals;
-mod propose;
-mod received;
+mod received_proposal;
+mod own_proposal;
+mod received_message;
 mod speaker;
-mod used;
+mod used_proposals;
 
 pub use commit::Made;
 pub use error::Refusal;

@@ -10,8 +10,8 @@ ghost use Rattle.mls_treekem_model.specs.Height.{ArePairs};
 ghost use Rattle.mls_model.specs.Agreement.{IsGoodMember};
 ghost use Rattle.mls_model.specs.Member as model;
 
-use crate::kept::{Kept, Pending};
-use crate::used::kept_under;
+use crate::kept_and_pending::{KeptProposal, Pending};
+use crate::used_proposals::kept_under;
 use mls_types::RatchetTree;
 use mls_kdf::Secret;
 use mls_leaf::{Codec, LeafError};
@@ -32,7 +32,7 @@ pub struct Member<S: Suite> {
     pub(crate) epoch: Epoch,
     pub(crate) keys: PrivatePath,
     pub(crate) signing: Secret,
-    pub(crate) kept: Vec<Kept>,
+    pub(crate) kept: Vec<KeptProposal>,
     pub(crate) pending: Option<Pending>,
     pub(crate) alloc: Global,
     pub(crate) suite: PhantomData<S>,
@@ -137,7 +137,7 @@ impl<S: Suite> Member<S> {
 
     /// The message of the proposal that it keeps under a reference (RFC 9420, 12.1).
     pub fn kept(&self, reference: &[u8]) -> Option<&[u8]>
-        ensures { option_copied result ≡ option_map (λ (k : model.Kept). k.message) (model.kept_under self.now.kept reference.now) }
+        ensures { option_copied result ≡ option_map (λ (k : model.KeptProposal). k.message) (model.kept_under self.now.kept reference.now) }
     {
         match kept_under(&self.kept, reference) {
             Some(k) => Some(&k.message),

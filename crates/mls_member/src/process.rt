@@ -11,7 +11,7 @@ ghost use Rattle.mls_member.specs.Process.{outer_checks};
 ghost use Rattle.mls_member.specs.declared.error.Refusal.TheVariants.{Gone};
 
 use crate::error::Refusal;
-use crate::kept::Pending;
+use crate::kept_and_pending::Pending;
 use crate::member::Member;
 use mls_model::Effect;
 use mls_suite::Suite;
@@ -41,7 +41,7 @@ impl<S: Suite> Member<S> {
 
     /// What a message does to the member, or the first check that fails (RFC 9420, 6, 12.1 and 12.4.2). A member that was
     /// removed answers 40; any other follows its own pending commit, whatever memory there is.
-    #[tactic(auto, unfolding(mls_model::specs::Verdict::verdict, mls_model::specs::Member::advanced, mls_model::specs::Member::without_pending))]
+    #[tactic(auto, unfolding(mls_model::specs::Verdict::verdict, mls_model::specs::Member::with_epoch, mls_model::specs::Member::without_pending))]
     pub fn process(&mut self, bytes: &[u8]) -> Result<Effect, Refusal>
         ensures verdict { DoesAs (λ e. e) number_of (verdict S.crypto self.old bytes.now) self.old self.new result }
         ensures good { IsGoodMember S.crypto self.old → IsGoodMember S.crypto self.new }
@@ -55,7 +55,7 @@ impl<S: Suite> Member<S> {
         }
         match self.take_own(bytes) {
             Some(pending) => Ok(self.advance(pending.group, pending.epoch, pending.keys)),
-            None => self.received(bytes),
+            None => self.bytes_verdict(bytes),
         }
     }
 }

@@ -15,7 +15,7 @@ use Rattle.mls_types.proofs.SignedParts.{signed_content_spelled, framed_signed_w
 use Rattle.mls_types.specs.declared.content.FramedContent.{FramedContent}
 use Rattle.mls_types.specs.declared.signed.SignedContent.{SignedContent}
 use Rattle.mls_model.specs.Member.{Member}
-use Rattle.mls_model.specs.Messages.{sent_by}
+use Rattle.mls_model.specs.Messages.{message_by}
 use Rattle.mls_public_group.proofs.Lengths.{first_within, last_within}
 use Rattle.mls_public_group.proofs.Limits.{past_limit}
 use Rattle.mls_message.specs.Pieces.{untagged, tag_length, IsLong, IsTooLarge}
@@ -25,7 +25,7 @@ use Rattle.mls_message.proofs.TextLaws.{sent_length}
 -- ---- by its content
 
 -- a content is no longer than its message
-content_within : (m : Member) (v : SignedContent) → length (framed_content.spell (framed v)) ≤ length (sent_by m v)
+content_within : (m : Member) (v : SignedContent) → length (framed_content.spell (framed v)) ≤ length (message_by m v)
 content_within m v =
     omega (
       arith,
@@ -36,14 +36,14 @@ content_within m v =
       first_within (framed_content.spell (framed v)) (auth_data v),
     )
 
-framed_within : (m : Member) (said : FramedContent) (signature tag : List ℕ) → length (framed_content.spell said) ≤ length (sent_by m (signed_with said signature tag))
+framed_within : (m : Member) (said : FramedContent) (signature tag : List ℕ) → length (framed_content.spell said) ≤ length (message_by m (signed_with said signature tag))
 framed_within m said signature tag =
-    subst (λ (x : FramedContent). length (framed_content.spell x) ≤ length (sent_by m (signed_with said signature tag))) (framed_signed_with said signature tag) (content_within m (signed_with said signature tag))
+    subst (λ (x : FramedContent). length (framed_content.spell x) ≤ length (message_by m (signed_with said signature tag))) (framed_signed_with said signature tag) (content_within m (signed_with said signature tag))
 
 -- a content that is longer than the limit is refused
 pub refused_long : (m : Member) (said : FramedContent) (e : LeafError) → IsLong (framed_content.spell said) e → IsRefused m said e
 refused_long m said e long = λ no signature tag.
-    rw (long no).0 (past_limit (sent_by m (signed_with said signature tag)) (omega (arith, (long no).1, framed_within m said signature tag)))
+    rw (long no).0 (past_limit (message_by m (signed_with said signature tag)) (omega (arith, (long no).1, framed_within m said signature tag)))
 
 -- what has no spelling is longer
 unfit_long : (text : List ℕ) (P : Type 0) → (length text < 2 ^ 30 → P) → (P → ⊥) → input_limit < length text
@@ -74,7 +74,7 @@ refused_past text bytes e is six lt = λ no. (six, omega (arith, lt, ap length i
 
 -- a text that has no room for its tag is refused
 pub too_large : (v : SignedContent) (e : LeafError) → number_of e ≡ 6 → input_limit < length (untagged v) + tag_length → IsTooLarge v e
-too_large v e six lt = λ no m. rw (six, past_limit (sent_by m v) (omega (arith, lt, sent_length m v))) refl
+too_large v e six lt = λ no m. rw (six, past_limit (message_by m v) (omega (arith, lt, sent_length m v))) refl
 
 -- what isn't written of a content that has a spelling is wanted for memory
 pub wanted : (v : SignedContent) (e : LeafError) → signed_content.Fits v → Refuses (signed_content.Fits v) e → IsTooLarge v e

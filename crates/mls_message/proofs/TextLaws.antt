@@ -22,9 +22,9 @@ use Rattle.mls_types.specs.declared.public_message.WireFormat.TheVariants as for
 use Rattle.mls_types.specs.declared.signed.SignedContent.{SignedContent}
 use Rattle.mls_schedule.specs.Epoch.{membership_tag}
 use Rattle.mls_model.specs.Member.{Member}
-use Rattle.mls_model.specs.Messages.{content_tag, sent_by, reference_of}
+use Rattle.mls_model.specs.Messages.{content_tag, message_by, reference_of}
 use Rattle.mls_message.specs.Pieces.{signed_pieces, untagged, IsUntagged}
-use Rattle.mls_message.specs.Sending.{limited}
+use Rattle.mls_message.specs.Sending.{limited_text}
 use Rattle.mls_message.specs.Speaks.{Speaks}
 use Rattle.mls_message.specs.declared.speaker.Speaker.{Speaker}
 use Rattle.mls_message.proofs.WithinLaws.{limited_within}
@@ -93,8 +93,8 @@ unfolding mls_message public_message
 message_spelled v tag = refl
 
 -- a message is the text, and the tag behind it
-sent_is : (m : Member) (v : SignedContent) → sent_by m v ≡ untagged v ++ opaque (content_tag m.epoch v m.public.context)
-unfolding sent_by
+sent_is : (m : Member) (v : SignedContent) → message_by m v ≡ untagged v ++ opaque (content_tag m.epoch v m.public.context)
+unfolding message_by
 sent_is m v = message_spelled v (content_tag m.epoch v m.public.context) ∙ simp append_assoc
 
 tag_is_32 : (epoch : List ℕ) (v : SignedContent) (context : GroupContext) → length (content_tag epoch v context) ≡ 32
@@ -105,13 +105,13 @@ behind_header : (tag : List ℕ) → length tag ≡ 32 → length (opaque tag) �
 unfolding header
 behind_header tag e = rw e (omega (arith, e))
 
-pub sent_length : (m : Member) (v : SignedContent) → length (sent_by m v) ≡ length (untagged v) + 33
+pub sent_length : (m : Member) (v : SignedContent) → length (message_by m v) ≡ length (untagged v) + 33
 sent_length m v =
     let tag : List ℕ = content_tag m.epoch v m.public.context in
     omega (arith, ap length (sent_is m v), length-append (untagged v) (opaque tag), behind_header tag (tag_is_32 m.epoch v m.public.context))
 
 -- code's message is the member's
-pub message_is : (m : Member) (v : SignedContent) (text tag bytes : List ℕ) → IsUntagged v text → tag ≡ content_tag m.epoch v m.public.context → bytes ≡ text ++ opaque tag → IsBytes bytes → limited (sent_by m v) ≡ Ok bytes
+pub message_is : (m : Member) (v : SignedContent) (text tag bytes : List ℕ) → IsUntagged v text → tag ≡ content_tag m.epoch v m.public.context → bytes ≡ text ++ opaque tag → IsBytes bytes → limited_text (message_by m v) ≡ Ok bytes
 message_is m v text tag bytes u t e is_bytes =
-    let is : sent_by m v ≡ bytes = sent_is m v ∙ sym (e ∙ rw (u.spelled, t) refl) in
+    let is : message_by m v ≡ bytes = sent_is m v ∙ sym (e ∙ rw (u.spelled, t) refl) in
     rw is (limited_within bytes is_bytes (omega (arith, ap length is, sent_length m v, u.room, ap length u.spelled)))

@@ -20,12 +20,12 @@ use Rattle.mls_public_group.proofs.Lengths.{first_within, last_within, length-ui
 use Rattle.mls_public_group.proofs.Limits.{within_limit}
 use Rattle.mls_public_group.specs.Short.{IsShortContext}
 use Rattle.mls_message.specs.Pieces.{signed_pieces}
-use Rattle.mls_message.specs.Sending.{FitsIfShort, limited}
+use Rattle.mls_message.specs.Sending.{FitsIfShort, limited_text}
 
 -- ---- texts within the limit
 
 -- code's bytes are within the limit, if there aren't more
-pub limited_within : (bytes : List ℕ) → IsBytes bytes → length bytes ≤ input_limit → limited bytes ≡ Ok bytes
+pub limited_within : (bytes : List ℕ) → IsBytes bytes → length bytes ≤ input_limit → limited_text bytes ≡ Ok bytes
 limited_within bytes h le = rw (within_limit bytes h le) refl
 
 -- ---- what is signed

@@ -8,8 +8,8 @@ use Rattle.mls_leaf.specs.declared.error.LeafError.{LeafError}
 use Rattle.mls_types.specs.Signed.{signed_content}
 use Rattle.mls_types.specs.declared.signed.SignedContent.{SignedContent}
 use Rattle.mls_model.specs.Member.{Member}
-use Rattle.mls_model.specs.Messages.{sent_by}
-use Rattle.mls_message.specs.Sending.{limited}
+use Rattle.mls_model.specs.Messages.{message_by}
+use Rattle.mls_message.specs.Sending.{limited_text}
 
 -- the text is larger than a message may be, and refused with 6, memory aside
 abbrev pub IsLong : List ℕ → LeafError → Type 0
@@ -35,4 +35,4 @@ pub record IsUntagged (v : SignedContent) (text : List ℕ) : Type 0 where
 
 -- each member's message of the content is refused with this number, memory aside
 abbrev pub IsTooLarge : SignedContent → LeafError → Type 0
-IsTooLarge v e = number_of e ≢ 1 → (m : Member) → limited (sent_by m v) ≡ Err (number_of e)
+IsTooLarge v e = number_of e ≢ 1 → (m : Member) → limited_text (message_by m v) ≡ Err (number_of e)

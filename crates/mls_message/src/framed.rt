@@ -8,12 +8,12 @@ ghost use Rattle.mls_types.specs.Content.{content as content_format, framed_cont
 ghost use Rattle.mls_types.specs.Signed.{signed_content};
 ghost use Rattle.mls_types.specs.SignedParts.{signed_with};
 ghost use Rattle.mls_model.specs.Member as model;
-ghost use Rattle.mls_model.specs.Messages.{said_by, content_signature, sent_by};
+ghost use Rattle.mls_model.specs.Messages.{content_by, content_signature, message_by};
 ghost use Rattle.mls_message.specs.Pieces.{signed_pieces};
-ghost use Rattle.mls_message.specs.Sending.{limited, FitsIfShort, IsRefused};
+ghost use Rattle.mls_message.specs.Sending.{limited_text, FitsIfShort, IsRefused};
 ghost use Rattle.mls_message.specs.Speaks.{Speaks};
 
-use crate::limits::limited_spelling;
+use crate::limits::spell_within_limit;
 use crate::speaker::Speaker;
 use crate::untagged::Untagged;
 use mls_leaf::{Bytes, LeafError};
@@ -48,14 +48,14 @@ fn know_index(index: u32)
 {}
 
 /// A content of a speaker in its epoch (RFC 9420, 6).
-#[tactic(auto, unfolding(mls_model::specs::Messages::said_by))]
-fn said(
+#[tactic(auto, unfolding(mls_model::specs::Messages::content_by))]
+fn frame_content(
     alloc: Global,
     speaker: &Speaker<'_>,
     content: Content,
 ) -> Result<FramedContent, OutOfMemory>
     requires { FitsIfShort content_format content }
-    ensures said { IfOk result (λ v. (m : model.Member) → Speaks m speaker.now → v ≡ said_by m content) }
+    ensures said { IfOk result (λ v. (m : model.Member) → Speaks m speaker.now → v ≡ content_by m content) }
     ensures fits { IfOk result (FitsIfShort framed_content) }
 {
     speaker.group.is_short();
@@ -87,10 +87,10 @@ impl Framed {
     /// can then be (RFC 9420, 6).
     pub fn new(alloc: Global, speaker: &Speaker<'_>, content: Content) -> Result<Framed, LeafError>
         requires { FitsIfShort content_format content }
-        ensures { (m : model.Member) → Speaks m speaker.now → MatchResult result (λ f. f ≡ said_by m content) (IsRefused m (said_by m content)) }
+        ensures { (m : model.Member) → Speaks m speaker.now → MatchResult result (λ f. f ≡ content_by m content) (IsRefused m (content_by m content)) }
     {
-        let content = Box::new(alloc, said(alloc, speaker, content)?)?;
-        let bytes = limited_spelling::<FramedContent>(alloc, &content)?;
+        let content = Box::new(alloc, frame_content(alloc, speaker, content)?)?;
+        let bytes = spell_within_limit::<FramedContent>(alloc, &content)?;
         Ok(Framed { content, bytes })
     }
 
@@ -103,7 +103,7 @@ impl Framed {
     }
 
     /// The content with its signature, and a commit with its confirmation tag, which others leave (RFC 9420, 6.1).
-    pub fn signed(self, signature: Vec<u8>, confirmation_tag: Vec<u8>) -> SignedContent
+    pub fn with_signature(self, signature: Vec<u8>, confirmation_tag: Vec<u8>) -> SignedContent
         requires signature { length signature.items < 2 ^ 30 }
         requires tag { length confirmation_tag.items < 2 ^ 30 }
         ensures content { result ≡ signed_with self signature.items confirmation_tag.items }
@@ -148,8 +148,8 @@ pub fn send(
     content: &SignedContent,
 ) -> Result<Vec<u8>, LeafError>
     requires { signed_content.Fits content.now }
-    ensures { (m : model.Member) → Speaks m speaker.now → Answers (λ v. v.items) number_of (limited (sent_by m content.now)) result }
+    ensures { (m : model.Member) → Speaks m speaker.now → Answers (λ v. v.items) number_of (limited_text (message_by m content.now)) result }
 {
     let untagged = Untagged::new(alloc, content)?;
-    Ok(untagged.tagged(speaker)?)
+    Ok(untagged.with_membership_tag(speaker)?)
 }

@@ -3,10 +3,10 @@
 
 mod framed;
 mod limits;
-mod said;
+mod said_proposal;
 mod speaker;
 mod untagged;
 
 pub use framed::{Framed, send, sign};
-pub use said::{SaidProposal, proposal};
+pub use said_proposal::{SaidProposal, sign_proposal};
 pub use speaker::Speaker;

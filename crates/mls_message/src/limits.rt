@@ -30,7 +30,7 @@ pub(crate) fn require_room(text: &[u8], more: usize) -> Result<(), LeafError>
 }
 
 /// The spelling of a value whose numbers are in range: 6 where it alone is larger than a message may be.
-pub(crate) fn limited_spelling<T: Codec>(alloc: Global, value: &T) -> Result<Vec<u8>, LeafError>
+pub(crate) fn spell_within_limit<T: Codec>(alloc: Global, value: &T) -> Result<Vec<u8>, LeafError>
     requires { FitsIfShort T.format value.now }
     ensures { MatchResult result (λ v. Spells T.format value.now v.items × (length v.items ≤ input_limit)) (IsLong (T.format.spell value.now)) }
 {

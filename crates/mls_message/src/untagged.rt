@@ -7,9 +7,9 @@ ghost use Rattle.mls_types.specs.Signed.{signed_content};
 ghost use Rattle.mls_types.specs.SignedParts.{auth_data, AuthDataFits};
 ghost use Rattle.mls_schedule.specs.Epoch.{membership_tag};
 ghost use Rattle.mls_model.specs.Member as model;
-ghost use Rattle.mls_model.specs.Messages.{content_tag, sent_by, reference_of};
+ghost use Rattle.mls_model.specs.Messages.{content_tag, message_by, reference_of};
 ghost use Rattle.mls_message.specs.Pieces.{untagged, IsUntagged, IsTooLarge};
-ghost use Rattle.mls_message.specs.Sending.{limited};
+ghost use Rattle.mls_message.specs.Sending.{limited_text};
 ghost use Rattle.mls_message.specs.Speaks.{Speaks};
 
 use crate::limits::{know_bytes, require_room, vector_length};
@@ -46,7 +46,7 @@ impl<'a> Model for Untagged<'a> {
 
 /// Version 1, wire format 1 and the content. TooLong where a vector in it has 2^30 bytes or more.
 #[tactic(auto, using(mls_leaf::proofs::Codecs::codecs))]
-fn spelled(alloc: Global, content: &SignedContent) -> Result<Vec<u8>, LeafError>
+fn spell_front(alloc: Global, content: &SignedContent) -> Result<Vec<u8>, LeafError>
     ensures { Writes (signed_content.Fits content.now) (untagged content.now) result }
 {
     let mut writer = Writer::new(alloc);
@@ -96,7 +96,7 @@ impl<'a> Untagged<'a> {
         requires { signed_content.Fits content.now }
         ensures { MatchResult result (λ u. u ≡ content.now) (IsTooLarge content.now) }
     {
-        let bytes = spelled(alloc, content)?;
+        let bytes = spell_front(alloc, content)?;
         require_room(&bytes, TAG_LENGTH)?;
         Ok(Untagged { content, bytes })
     }
@@ -122,8 +122,8 @@ impl<'a> Untagged<'a> {
     }
 
     /// The whole message, with the speaker's membership tag (RFC 9420, 6 and 6.2).
-    pub(crate) fn tagged(self, speaker: &Speaker<'_>) -> Result<Vec<u8>, OutOfMemory>
-        ensures { IfOk result (λ v. (m : model.Member) → Speaks m speaker.now → limited (sent_by m self.entry) ≡ Ok v.items) }
+    pub(crate) fn with_membership_tag(self, speaker: &Speaker<'_>) -> Result<Vec<u8>, OutOfMemory>
+        ensures { IfOk result (λ v. (m : model.Member) → Speaks m speaker.now → limited_text (message_by m self.entry) ≡ Ok v.items) }
     {
         let tag = self.membership_tag(speaker);
         let Untagged { bytes, .. } = self;

@@ -2,7 +2,7 @@
 use Rattle.std.proofs.Common.{◌≡◌, ℕ, nat_lt, true, cond, ◌||◌, ◌&&◌, not, List, [], ◌∷◌, nat_le, suc, ◌-◌, ◌^◌, length, reverse, Option, Some, None, Ok, Err, refl}
 use Rattle.std.specs.Prelude.{codes, option_map, zip, is_none}
 use Rattle.std.specs.Str.{bytes_eq}
-use Rattle.mls_wire.specs.Checks.{given}
+use Rattle.mls_wire.specs.Checks.{require_some}
 use Rattle.mls_leaf.specs.Limits.{input_limit}
 use Rattle.mls_leaf.specs.declared.key_package.KeyPackage.{KeyPackage}
 use Rattle.mls_leaf.specs.declared.proposal.Proposal.{Proposal}
@@ -28,13 +28,13 @@ use Rattle.mls_treekem_model.specs.Seeds.{sign_seed, path_seed, seal_seed}
 use Rattle.mls_treekem_model.specs.Whole.{keys_of_path}
 use Rattle.mls_schedule.specs.Epoch.{init_secret, joiner_secret, epoch_secret, confirmation_tag, welcome_key, welcome_nonce}
 use Rattle.mls_tree.specs.Paths.{merge_answer}
-use Rattle.mls_model.specs.Public.{provisional_context}
+use Rattle.mls_model.specs.PublicState.{provisional_context}
 use Rattle.mls_model.specs.Proposals.{proposal_checks, adds, is_path_required}
-use Rattle.mls_model.specs.Commit.{Edits, Change, edited, body, public_with}
-use Rattle.mls_model.specs.Member.{Kept, Member, kept_under, used_by}
-use Rattle.mls_model.specs.Messages.{are_bytes, is_within_limit, said_by, content_signature, sent_by, reference_of}
-use Rattle.mls_model.specs.Candidate.{leaf_key_of, unsigned_package, signed_package, package_message, first_context, new_candidate, created}
-use Rattle.mls_model.specs.Propose.{proposal_by, kept_once, updated_leaf, proposed, proposed_add, proposed_update, proposed_remove}
+use Rattle.mls_model.specs.Commit.{Edits, Change, apply_proposals, change_of_commit, public_with}
+use Rattle.mls_model.specs.Member.{KeptProposal, Member, kept_under, find_proposals}
+use Rattle.mls_model.specs.Messages.{are_bytes, is_within_limit, content_by, content_signature, message_by, reference_of}
+use Rattle.mls_model.specs.Candidate.{leaf_key_of, unsigned_package, signed_package, package_message, first_context, new_candidate, create_group}
+use Rattle.mls_model.specs.Propose.{proposal_by, keep_once, updated_leaf, make_proposal, propose_add, propose_update, propose_remove}
 use Rattle.mls_model.specs.Welcome.{unsigned_info, signed_info, secrets_with, entry_for, entries_for, welcome_message}
 use Rattle.mls_model.specs.Make.{MadePath, committed_leaf, new_path, no_path, path_secret_for, path_seals, welcome_if, make}
 use Rattle.mls_model.specs.Refusals.{proposal_numbers, body_numbers, proposed_numbers, make_numbers, AddNumbers, UpdateNumbers, RemoveNumbers, MakeNumbers, CandidateNumbers, CreateNumbers}
@@ -48,33 +48,33 @@ limit_refused bytes n h = last_refused 6 (nat_le (length bytes) input_limit && a
 
 -- ---- proposals
 
-kept_refused : (m : Member) (new : Kept) (o : Option Kept) (n : ℕ) → kept_once m new o ≡ Err n → 49 ≡ n
+kept_refused : (m : Member) (new : KeptProposal) (o : Option KeptProposal) (n : ℕ) → keep_once m new o ≡ Err n → 49 ≡ n
 kept_refused m new None n h = absurd cc
 kept_refused m new (Some old) n h = test_refused 49 (bytes_eq old.message new.message) _ n h (λ e. e) (λ never. absurd cc)
 
-proposed_refused : (c : Crypto) (m : Member) (said : Proposal) (own : Option (List ℕ)) (n : ℕ) → proposed c m said own ≡ Err n → has proposed_numbers n ≡ true
-unfolding proposed has
+proposed_refused : (c : Crypto) (m : Member) (said : Proposal) (own : Option (List ℕ)) (n : ℕ) → make_proposal c m said own ≡ Err n → has proposed_numbers n ≡ true
+unfolding make_proposal has
 proposed_refused c m said own n h =
     let v = proposal_by c m said in
-    let new : Kept = record { reference = reference_of v; message = sent_by m v; proposal = said; sender = m.keys.leaf; own_key = own } in
+    let new : KeptProposal = record { reference = reference_of v; message = message_by m v; proposal = said; sender = m.keys.leaf; own_key = own } in
     test_refused 40 (not m.gone) _ n h (is_one proposed_numbers 40 n refl) (λ h1.
     then_refused (proposal_checks c m.public m.keys.leaf said) _ n h1 (λ e. widen proposal_numbers proposed_numbers n refl (proposal_refused c m.public m.keys.leaf said n e)) (λ h2.
-    then_refused (is_within_limit (sent_by m v)) _ n h2 (λ e. is_one proposed_numbers 6 n refl (limit_refused (sent_by m v) n e)) (λ h3.
+    then_refused (is_within_limit (message_by m v)) _ n h2 (λ e. is_one proposed_numbers 6 n refl (limit_refused (message_by m v) n e)) (λ h3.
     is_one proposed_numbers 49 n refl (kept_refused m new (kept_under m.kept (reference_of v)) n h3))))
 
 pub add_refused : AddNumbers
-unfolding proposed_add
+unfolding propose_add
 add_refused c m offered n h = proposed_refused c m (proposal.Add offered) None n h
 
 pub update_refused : UpdateNumbers
-unfolding proposed_update has
+unfolding propose_update has
 update_refused c m seed n h =
     test_refused 40 (not m.gone) _ n h (is_one proposed_numbers 40 n refl) (λ h1.
     bind_refused (member_at m.public.tree m.keys.leaf) _ n h1 (λ e. is_one proposed_numbers 22 n refl (given_refused 22 (leaf_of m.public.tree m.keys.leaf) n e)) (λ old h2.
     proposed_refused c m (proposal.Update (updated_leaf c m old seed)) (Some (leaf_key_of c seed)) n h2))
 
 pub remove_refused : RemoveNumbers
-unfolding proposed_remove
+unfolding propose_remove
 remove_refused c m leaf n h = proposed_refused c m (proposal.Remove leaf) None n h
 
 -- ---- candidates and groups
@@ -87,7 +87,7 @@ candidate_refused c identity seed n h =
     then_refused (is_within_limit (package_message offered)) _ n h1 (λ e. is_one (6 ∷ 57 ∷ []) 6 n refl (limit_refused (package_message offered) n e)) (λ never. absurd cc))
 
 pub create_refused : CreateNumbers
-unfolding created has
+unfolding create_group has
 create_refused c k group seed n h =
     let context = group_context.spell (first_context c group (Leaf (Some k.offered.leaf_node))) in
     then_refused (is_within_limit context) _ n h (λ e. is_one (6 ∷ []) 6 n refl (limit_refused context n e)) (λ never. absurd cc)
@@ -115,7 +115,7 @@ unfolding entries_for entry_for
 entries_refused c info secrets rnd i [] n h = absurd cc
 entries_refused c info secrets rnd i (x ∷ xs) n h =
     let box = encrypt_with_label c x.0.init_key (codes "Welcome") info (secrets x.1) (rnd i) in
-    bind_refused (entry_for c info x.0 (secrets x.1) (rnd i)) _ n h (λ e. bind_refused (given 36 box) _ n e (given_refused 36 box n) (λ s never. absurd cc)) (λ entry h1.
+    bind_refused (entry_for c info x.0 (secrets x.1) (rnd i)) _ n h (λ e. bind_refused (require_some 36 box) _ n e (given_refused 36 box n) (λ s never. absurd cc)) (λ entry h1.
     bind_refused (entries_for c info secrets rnd (suc i) xs) _ n h1 (entries_refused c info secrets rnd (suc i) xs n) (λ others never. absurd cc))
 
 welcome_refused : (c : Crypto) (info : GroupInfo) (joiner : List ℕ) (secrets rnd : ℕ → List ℕ) (i : ℕ) (xs : List (KeyPackage × ℕ)) (n : ℕ) → welcome_message c info joiner secrets rnd i xs ≡ Err n → has make_numbers n ≡ true
@@ -141,17 +141,17 @@ make_refused c m list wants_path seed n h =
     test_refused 40 (not m.gone) _ n h (is_one make_numbers 40 n refl) (λ h1.
     test_refused 67 (is_none m.pending) _ n h1 (is_one make_numbers 67 n refl) (λ h2.
     test_refused 66 (nat_lt m.public.context.epoch (2 ^ 64 - 1)) _ n h2 (is_one make_numbers 66 n refl) (λ h3.
-    bind_refused (used_by m.kept m.keys.leaf list) _ n h3 (λ g. is_one make_numbers 60 n refl (used_refused m.kept m.keys.leaf list n g)) (λ used h4.
-    bind_refused (edited c m.public m.keys.leaf used) _ n h4 (λ g. widen body_numbers make_numbers n refl (edited_refused c m.public m.keys.leaf used n g)) (λ e h5.
+    bind_refused (find_proposals m.kept m.keys.leaf list) _ n h3 (λ g. is_one make_numbers 60 n refl (used_refused m.kept m.keys.leaf list n g)) (λ used h4.
+    bind_refused (apply_proposals c m.public m.keys.leaf used) _ n h4 (λ g. widen body_numbers make_numbers n refl (edited_refused c m.public m.keys.leaf used n g)) (λ e h5.
     bind_refused (cond (wants_path || is_path_required used) (new_path c m e seed) (Ok (no_path m e))) _ n h5
     (λ g. if_refused (wants_path || is_path_required used) (new_path c m e seed) (Ok (no_path m e)) n g (λ f. widen body_numbers make_numbers n refl (path_refused c m e seed n f)) (λ never. absurd cc)) (λ made h6.
     let commit : Commit = record { proposals = list; path = made.path } in
-    let said = said_by m (says.Commit commit) in
+    let said = content_by m (says.Commit commit) in
     let signature = content_signature c m.signing said m.public.context in
-    bind_refused (body c m.public m.keys.leaf used commit said signature) _ n h6
+    bind_refused (change_of_commit c m.public m.keys.leaf used commit said signature) _ n h6
     (λ g. widen body_numbers make_numbers n refl (body_refused c m.public m.keys.leaf used commit said signature n g)) (λ change h7.
     let joiner = joiner_secret (init_secret m.epoch) made.climb.secret (group_context.spell change.context) in
     let epoch = epoch_secret joiner (group_context.spell change.context) in
     let tag = confirmation_tag epoch change.context.confirmed_transcript_hash in
-    then_refused (is_within_limit (sent_by m (signed_with said signature tag))) _ n h7 (λ g. is_one make_numbers 6 n refl (limit_refused (sent_by m (signed_with said signature tag)) n g)) (λ h8.
+    then_refused (is_within_limit (message_by m (signed_with said signature tag))) _ n h7 (λ g. is_one make_numbers 6 n refl (limit_refused (message_by m (signed_with said signature tag)) n g)) (λ h8.
     bind_refused (welcome_if c m change made joiner tag seed (zip (adds used) e.added)) _ n h8 (welcomes_refused c m change made joiner tag seed (zip (adds used) e.added) n) (λ welcome never. absurd cc)))))))))

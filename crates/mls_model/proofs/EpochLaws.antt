@@ -9,10 +9,10 @@ use Rattle.mls_treekem_model.specs.Keys.{PrivateKeys}
 use Rattle.mls_model.specs.declared.effect.Effect.{Effect}
 use Rattle.mls_model.specs.declared.effect.Effect.TheVariants.{Advanced}
 use Rattle.mls_model.specs.Commit.{Change, public_with}
-use Rattle.mls_model.specs.Found.{WasRemoved, HasFollowed, DidPending, reached_epoch}
+use Rattle.mls_model.specs.VerdictFindings.{WasRemoved, HasFollowed, DidPending, reached_epoch}
 use Rattle.mls_model.proofs.Found.{ContentDid, DidOther}
-use Rattle.mls_model.specs.Member.{Member, advanced, with_keys}
-use Rattle.mls_model.specs.Public.{PublicState}
+use Rattle.mls_model.specs.Member.{Member, with_epoch, with_keys}
+use Rattle.mls_model.specs.PublicState.{PublicState}
 use Rattle.mls_model.proofs.Receipts.{did_receive, did_take}
 use Rattle.mls_model.specs.EpochLaws.{IsIn, AdvancedIsActive}
 
@@ -33,11 +33,11 @@ to_epoch n = Advanced n
 one_epoch : (i j : ℕ) → to_epoch i ≡ Advanced j → i ≡ j
 one_epoch i j e = cc
 
-arrives : (m : Member) (public : PublicState) (secret : List ℕ) (keys : PrivateKeys) → m.gone ≡ false → Arrives (Advanced public.context.epoch, advanced m public secret keys)
-unfolding advanced
+arrives : (m : Member) (public : PublicState) (secret : List ℕ) (keys : PrivateKeys) → m.gone ≡ false → Arrives (Advanced public.context.epoch, with_epoch m public secret keys)
+unfolding with_epoch
 arrives m public secret keys active epoch e = record { active = active; context = one_epoch public.context.epoch epoch e }
 
-arrives_changed : (m : Member) (change : Change) (tag secret : List ℕ) (keys : PrivateKeys) → m.gone ≡ false → Arrives (Advanced change.context.epoch, advanced m (public_with change tag) secret keys)
+arrives_changed : (m : Member) (change : Change) (tag secret : List ℕ) (keys : PrivateKeys) → m.gone ≡ false → Arrives (Advanced change.context.epoch, with_epoch m (public_with change tag) secret keys)
 unfolding public_with
 arrives_changed m change tag secret keys active = arrives m (public_with change tag) secret keys active
 

@@ -8,51 +8,51 @@ use Rattle.mls_tree_model.specs.Good.{is_within, has_distinct_keys, has_distinct
 use Rattle.mls_tree_model.specs.Way.{way}
 use Rattle.mls_tree.specs.Tree.{add_answer, remove_answer}
 use Rattle.mls_treekem_model.specs.Follow.{key_above, follow_edit}
-use Rattle.mls_model.specs.Proposals.{full_checks, updates, updated, removed, adds}
-use Rattle.mls_model.specs.Commit.{all_updated, all_removed, all_added, edited}
-use Rattle.mls_model.specs.Member.{kept_under, used_by, above_leaf, of_leaf, with_keys, followed}
+use Rattle.mls_model.specs.Proposals.{full_checks, updates, updated_leaves, removed_leaves, adds}
+use Rattle.mls_model.specs.Commit.{apply_updates, apply_removes, apply_adds, apply_proposals}
+use Rattle.mls_model.specs.Member.{kept_under, find_proposals, keys_above_leaf, leaf_key_or, with_keys, follow_edits}
 use Rattle.mls_model.specs.Examples.{HalvesAndDoubles, KeysOfCutNodes, TakenAgain, TakenBySame, RemovedByList, UpdatedTwice, UpdatedAndRemoved, CommitterFirst, CommitterRemoved, UsesKept, UsesUnknown}
 
 pub halves_and_doubles : HalvesAndDoubles
-unfolding edited full_checks updates updated removed adds all_updated all_removed all_added remove_answer add_answer remove add put enter grow trim first_blank has_leaf leaf_at leaf_of blanks height width has count same_bytes is_distinct gather is_within has_distinct_keys has_distinct_clients
+unfolding apply_proposals full_checks updates updated_leaves removed_leaves adds apply_updates apply_removes apply_adds remove_answer add_answer remove add put enter grow trim first_blank has_leaf leaf_at leaf_of blanks height width has count same_bytes is_distinct gather is_within has_distinct_keys has_distinct_clients
 halves_and_doubles c context interim key hash = refl
 
 pub keys_of_cut_nodes : KeysOfCutNodes
-unfolding followed with_keys above_leaf of_leaf follow_edit key_above way width
+unfolding follow_edits with_keys keys_above_leaf leaf_key_or follow_edit key_above way width
 keys_of_cut_nodes own key = refl
 
 pub taken_again : TakenAgain
-unfolding edited full_checks updates updated removed adds all_updated all_removed all_added remove_answer add_answer remove add put enter grow trim first_blank has_leaf leaf_at leaf_of width has count same_bytes is_distinct gather is_within has_distinct_keys has_distinct_clients
+unfolding apply_proposals full_checks updates updated_leaves removed_leaves adds apply_updates apply_removes apply_adds remove_answer add_answer remove add put enter grow trim first_blank has_leaf leaf_at leaf_of width has count same_bytes is_distinct gather is_within has_distinct_keys has_distinct_clients
 taken_again c context interim = refl
 
 pub taken_by_same : TakenBySame
-unfolding edited full_checks updates updated removed adds all_updated all_removed all_added remove_answer add_answer remove add put enter grow trim first_blank has_leaf leaf_at leaf_of width has count same_bytes is_distinct gather is_within has_distinct_keys has_distinct_clients
+unfolding apply_proposals full_checks updates updated_leaves removed_leaves adds apply_updates apply_removes apply_adds remove_answer add_answer remove add put enter grow trim first_blank has_leaf leaf_at leaf_of width has count same_bytes is_distinct gather is_within has_distinct_keys has_distinct_clients
 taken_by_same c context interim = refl
 
 pub removed_by_list : RemovedByList
-unfolding removed has
+unfolding removed_leaves has
 removed_by_list = refl
 
 pub updated_twice : UpdatedTwice
-unfolding edited full_checks updates updated removed has count is_distinct
+unfolding apply_proposals full_checks updates updated_leaves removed_leaves has count is_distinct
 updated_twice c context interim = refl
 
 pub updated_and_removed : UpdatedAndRemoved
-unfolding edited full_checks updates updated removed has count is_distinct
+unfolding apply_proposals full_checks updates updated_leaves removed_leaves has count is_distinct
 updated_and_removed c context interim = refl
 
 pub committer_first : CommitterFirst
-unfolding edited full_checks updates updated removed has count is_distinct
+unfolding apply_proposals full_checks updates updated_leaves removed_leaves has count is_distinct
 committer_first c context interim = refl
 
 pub committer_removed : CommitterRemoved
-unfolding edited full_checks updates updated removed has count is_distinct
+unfolding apply_proposals full_checks updates updated_leaves removed_leaves has count is_distinct
 committer_removed c context interim = refl
 
 pub uses_kept : UsesKept
-unfolding used_by kept_under
+unfolding find_proposals kept_under
 uses_kept message = refl
 
 pub uses_unknown : UsesUnknown
-unfolding used_by kept_under
+unfolding find_proposals kept_under
 uses_unknown message = refl

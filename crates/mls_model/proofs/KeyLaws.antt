@@ -1,16 +1,16 @@
 -- Private keys that are written back at their own leaf.
 use Rattle.std.proofs.Common.{◌≡◌, List, ℕ, [], ◌∷◌, ◌++◌, Some, None, refl, ap}
 use Rattle.mls_treekem_model.specs.Keys.{Keys, PrivateKeys, all_keys}
-use Rattle.mls_model.specs.Member.{above_leaf, of_leaf, with_keys}
+use Rattle.mls_model.specs.Member.{keys_above_leaf, leaf_key_or, with_keys}
 
-pub above_end : (ks : Keys) (own : List ℕ) → above_leaf (ks ++ (Some own ∷ [])) ≡ ks
-unfolding above_leaf
+pub above_end : (ks : Keys) (own : List ℕ) → keys_above_leaf (ks ++ (Some own ∷ [])) ≡ ks
+unfolding keys_above_leaf
 above_end [] own = refl
 above_end (k ∷ []) own = refl
 above_end (k ∷ (j ∷ ks)) own = ap (λ (xs : Keys). k ∷ xs) (above_end (j ∷ ks) own)
 
-pub own_end : (first : List ℕ) (ks : Keys) (own : List ℕ) → of_leaf first (ks ++ (Some own ∷ [])) ≡ own
-unfolding of_leaf
+pub own_end : (first : List ℕ) (ks : Keys) (own : List ℕ) → leaf_key_or first (ks ++ (Some own ∷ [])) ≡ own
+unfolding leaf_key_or
 own_end first [] own = refl
 own_end first (None ∷ ks) own = own_end first ks own
 own_end first (Some k ∷ ks) own = own_end k ks own

@@ -10,7 +10,7 @@ pub mod RefusalLaws
 pub mod RefusedSteps
 pub mod RunLaws
 pub mod SealLaws
-pub mod StillLaws
+pub mod UnchangedLaws
 pub mod VerdictRefusals
 pub mod WayBackLaws
 pub mod WayLaws

@@ -16,10 +16,10 @@ use Rattle.mls_suite.specs.Crypto.{Crypto}
 use Rattle.mls_model.specs.declared.effect.Effect.{Effect}
 use Rattle.mls_model.specs.Member.{Pending, Member}
 use Rattle.mls_model.specs.Messages.{public_in}
-use Rattle.mls_model.specs.Verdict.{framing_checks, proposal_verdict, entered, commit_verdict, content_verdict, received, own_pending, pending_or_received, verdict}
-use Rattle.mls_model.specs.Found.{WasRemoved, reached_epoch, HasFollowed, DidPending}
+use Rattle.mls_model.specs.Verdict.{framing_checks, proposal_verdict, enter_epoch, commit_verdict, content_verdict, bytes_verdict, own_pending, pending_or_received, verdict}
+use Rattle.mls_model.specs.VerdictFindings.{WasRemoved, reached_epoch, HasFollowed, DidPending}
 use Rattle.mls_model.proofs.Found.{ProposalDid, CommitDid, ContentDid, ReceivedDid, DidOther, VerdictDid}
-use Rattle.mls_model.specs.Receipts.{FramingDid, FramingPasses}
+use Rattle.mls_model.specs.FramingLaws.{FramingDid, FramingPasses}
 
 -- which way a test went
 pub either_way : {A P Q : Type 0} (b : Bool) (x y : Result A ℕ) (z : A) → cond b x y ≡ Ok z → (b ≡ true → x ≡ Ok z → P) → (b ≡ false → y ≡ Ok z → Q) → P ⊎ Q
@@ -57,13 +57,13 @@ proposal_did c m v bytes said x h = either_way _ _ _ _ h
     (λ e f. let t = then_ok _ _ _ f in record { fresh = e; checks = t.0; is = ok_is _ _ t.1 })
 
 pub commit_did : (c : Crypto) (m : Member) (v : SignedContent) (commit : Commit) (tag : List ℕ) (x : Effect × Member) → commit_verdict c m v commit tag ≡ Ok x → CommitDid c m v commit tag x
-unfolding commit_verdict entered reached_epoch
+unfolding commit_verdict enter_epoch reached_epoch
 commit_did c m v commit tag x h =
     let s1 = require_ok _ _ _ _ h in
     let s2 = bind_ok _ _ _ s1.1 in
     let s3 = bind_ok _ _ _ s2.2 in
     let did : WasRemoved m s2.0 x ⊎ HasFollowed c m v commit tag s2.0 s3.0 x = either_way _ _ _ _ s3.2
-    (λ e f. record { named = e; is = ok_is _ _ f })
+    (λ e f. record { is_named = e; is = ok_is _ _ f })
     (λ e f. let t = bind_ok _ _ _ f in let u = require_ok _ _ _ _ t.2 in record { stays = e; climb = t.0; opens = t.1; confirmed = u.0; is = ok_is _ _ u.1 }) in
     record { below = s1.0; used = s2.0; uses = s2.1; change = s3.0; change_is = s3.1; did = did }
 
@@ -83,10 +83,10 @@ public_is (message.GroupInfo u) v e = absurd cc
 public_is (message.KeyPackage u) v e = absurd cc
 
 abbrev pub DidReceive : Type 0
-DidReceive = (c : Crypto) (m : Member) (bytes : List ℕ) (x : Effect × Member) → received c m bytes ≡ Ok x → ReceivedDid c m bytes x
+DidReceive = (c : Crypto) (m : Member) (bytes : List ℕ) (x : Effect × Member) → bytes_verdict c m bytes ≡ Ok x → ReceivedDid c m bytes x
 
 pub did_receive : DidReceive
-unfolding received
+unfolding bytes_verdict
 did_receive c m bytes x h =
     let s1 = bind_ok _ _ _ h in
     let s2 = bind_ok _ _ _ s1.2 in

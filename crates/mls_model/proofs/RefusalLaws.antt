@@ -12,9 +12,9 @@ use Rattle.mls_types.specs.declared.commit.Commit.{Commit}
 use Rattle.mls_types.specs.declared.content.FramedContent.{FramedContent}
 use Rattle.mls_suite.specs.Crypto.{Crypto}
 use Rattle.mls_checks.specs.Checks.{is_package_signed, key_package_checks, replaced_checks}
-use Rattle.mls_checks.specs.Leaf.{is_signed, is_capable, is_of_key_package, is_of, has_identity_of}
+use Rattle.mls_checks.specs.Leaf.{is_signed, is_capable, is_of_key_package, is_of_source, has_identity_of}
 use Rattle.mls_checks.specs.declared.checks.Source.{Source}
-use Rattle.mls_checks.specs.declared.checks.Source.TheVariants as made_for
+use Rattle.mls_checks.specs.declared.checks.Source.TheVariants as leaf_node_source
 use Rattle.mls_tree_model.specs.Term.{Term, leaf_of}
 use Rattle.mls_tree_model.specs.Node.{source_hash}
 use Rattle.mls_tree_model.specs.Sets.{has, same_bytes, is_distinct}
@@ -26,9 +26,9 @@ use Rattle.mls_tree_model.specs.Keys.{encryption_keys}
 use Rattle.mls_tree_model.specs.Merge.{merge_path, path_parent_hash}
 use Rattle.mls_tree.specs.Tree.{max_leaves, member_at, add_answer, update_answer, remove_answer}
 use Rattle.mls_tree.specs.Paths.{path_checks, merge_checks, merge_answer}
-use Rattle.mls_model.specs.Public.{PublicState, Used}
-use Rattle.mls_model.specs.Proposals.{update_checks, proposal_checks, full_checks, updates, updated, removed, adds, package_reference, is_path_required}
-use Rattle.mls_model.specs.Commit.{Edits, all_updated, all_removed, all_added, edited, node_keys, cipher_counts, due_counts, with_path, merged, body}
+use Rattle.mls_model.specs.PublicState.{PublicState, Used}
+use Rattle.mls_model.specs.Proposals.{update_checks, proposal_checks, full_checks, updates, updated_leaves, removed_leaves, adds, package_reference, is_path_required}
+use Rattle.mls_model.specs.Commit.{Edits, apply_updates, apply_removes, apply_adds, apply_proposals, node_keys, cipher_counts, due_counts, apply_update_path, apply_path_if, change_of_commit}
 use Rattle.mls_model.specs.Refusals.{proposal_numbers, body_numbers}
 use Rattle.mls_model.proofs.RefusedSteps.{is_one, widen, bind_refused, then_refused, test_refused, last_refused, given_refused, if_refused}
 
@@ -48,7 +48,7 @@ package_refused c p n h =
 pub replaced_refused : (c : Crypto) (new old : LeafNode) (source : Source) (group : List ℕ) (i n : ℕ) → replaced_checks c new old source group i ≡ Err n → has proposal_numbers n ≡ true
 unfolding replaced_checks has
 replaced_refused c new old source group i n h =
-    test_refused 50 (is_of source new.source) _ n h (is_one proposal_numbers 50 n refl) (λ h1.
+    test_refused 50 (is_of_source source new.source) _ n h (is_one proposal_numbers 50 n refl) (λ h1.
     test_refused 51 (is_signed c group i new) _ n h1 (is_one proposal_numbers 51 n refl) (λ h2.
     test_refused 52 (is_capable c.number new) _ n h2 (is_one proposal_numbers 52 n refl) (λ h3.
     test_refused 53 (has_identity_of old new) _ n h3 (is_one proposal_numbers 53 n refl) (λ h4.
@@ -59,7 +59,7 @@ unfolding proposal_checks update_checks has
 proposal_refused c p sender (proposal.Add offered) n h = package_refused c offered n h
 proposal_refused c p sender (proposal.Update leaf) n h =
     bind_refused (member_at p.tree sender) _ n h (λ e. is_one proposal_numbers 22 n refl (given_refused 22 (leaf_of p.tree sender) n e)) (λ old h1.
-    then_refused (replaced_checks c leaf old made_for.Update p.context.group_id sender) _ n h1 (replaced_refused c leaf old made_for.Update p.context.group_id sender n) (λ h2.
+    then_refused (replaced_checks c leaf old leaf_node_source.Update p.context.group_id sender) _ n h1 (replaced_refused c leaf old leaf_node_source.Update p.context.group_id sender n) (λ h2.
     is_one proposal_numbers 36 n refl (last_refused 36 (c.key_ok leaf.encryption_key) n h2)))
 proposal_refused c p sender (proposal.Remove leaf) n h = is_one proposal_numbers 22 n refl (last_refused 22 (is_some (leaf_of p.tree leaf)) n h)
 
@@ -77,35 +77,35 @@ full_refused c p (u ∷ us) n h =
     (λ e. if_refused u.is_full (proposal_checks c p u.sender u.proposal) (Ok passed) n e (proposal_refused c p u.sender u.proposal n) (λ never. absurd cc))
     (full_refused c p us n)
 
-updated_refused : (t : Term) (us : List (ℕ × LeafNode)) (n : ℕ) → all_updated t us ≡ Err n → 22 ≡ n
-unfolding all_updated update_answer
+updated_refused : (t : Term) (us : List (ℕ × LeafNode)) (n : ℕ) → apply_updates t us ≡ Err n → 22 ≡ n
+unfolding apply_updates update_answer
 updated_refused t [] n h = absurd cc
 updated_refused t (u ∷ us) n h =
     bind_refused (update_answer t u.0 u.1) _ n h (λ e. bind_refused (member_at t u.0) _ n e (given_refused 22 (leaf_of t u.0) n) (λ v never. absurd cc)) (λ s. updated_refused s us n)
 
-removed_refused : (t : Term) (is : List ℕ) (n : ℕ) → all_removed t is ≡ Err n → 22 ≡ n
-unfolding all_removed remove_answer
+removed_refused : (t : Term) (is : List ℕ) (n : ℕ) → apply_removes t is ≡ Err n → 22 ≡ n
+unfolding apply_removes remove_answer
 removed_refused t [] n h = absurd cc
 removed_refused t (i ∷ is) n h =
     bind_refused (remove_answer t i) _ n h (λ e. bind_refused (member_at t i) _ n e (given_refused 22 (leaf_of t i) n) (λ v never. absurd cc)) (λ s. removed_refused s is n)
 
-added_refused : (t : Term) (xs : List KeyPackage) (n : ℕ) → all_added t xs ≡ Err n → 21 ≡ n
-unfolding all_added add_answer
+added_refused : (t : Term) (xs : List KeyPackage) (n : ℕ) → apply_adds t xs ≡ Err n → 21 ≡ n
+unfolding apply_adds add_answer
 added_refused t [] n h = absurd cc
 added_refused t (x ∷ xs) n h =
     bind_refused (add_answer t x.leaf_node) _ n h (λ e. test_refused 21 (is_within max_leaves (add t x.leaf_node)) _ n e (λ same. same) (λ never. absurd cc)) (λ first h1.
-    bind_refused (all_added first.1 xs) _ n h1 (added_refused first.1 xs n) (λ later never. absurd cc))
+    bind_refused (apply_adds first.1 xs) _ n h1 (added_refused first.1 xs n) (λ later never. absurd cc))
 
-pub edited_refused : (c : Crypto) (p : PublicState) (committer : ℕ) (used : List Used) (n : ℕ) → edited c p committer used ≡ Err n → has body_numbers n ≡ true
-unfolding edited has
+pub edited_refused : (c : Crypto) (p : PublicState) (committer : ℕ) (used : List Used) (n : ℕ) → apply_proposals c p committer used ≡ Err n → has body_numbers n ≡ true
+unfolding apply_proposals has
 edited_refused c p committer used n h =
     then_refused (full_checks c p used) _ n h (λ e. in_body n (full_refused c p used n e)) (λ h1.
-    test_refused 61 (not (has (updated used) committer)) _ n h1 (is_one body_numbers 61 n refl) (λ h2.
-    test_refused 62 (not (has (removed used) committer)) _ n h2 (is_one body_numbers 62 n refl) (λ h3.
-    test_refused 63 (is_distinct nat_eq (updated used ++ removed used)) _ n h3 (is_one body_numbers 63 n refl) (λ h4.
-    bind_refused (all_updated p.tree (updates used)) _ n h4 (λ e. is_one body_numbers 22 n refl (updated_refused p.tree (updates used) n e)) (λ s h5.
-    bind_refused (all_removed s (removed used)) _ n h5 (λ e. is_one body_numbers 22 n refl (removed_refused s (removed used) n e)) (λ t h6.
-    bind_refused (all_added t (adds used)) _ n h6 (λ e. is_one body_numbers 21 n refl (added_refused t (adds used) n e)) (λ e h7.
+    test_refused 61 (not (has (updated_leaves used) committer)) _ n h1 (is_one body_numbers 61 n refl) (λ h2.
+    test_refused 62 (not (has (removed_leaves used) committer)) _ n h2 (is_one body_numbers 62 n refl) (λ h3.
+    test_refused 63 (is_distinct nat_eq (updated_leaves used ++ removed_leaves used)) _ n h3 (is_one body_numbers 63 n refl) (λ h4.
+    bind_refused (apply_updates p.tree (updates used)) _ n h4 (λ e. is_one body_numbers 22 n refl (updated_refused p.tree (updates used) n e)) (λ s h5.
+    bind_refused (apply_removes s (removed_leaves used)) _ n h5 (λ e. is_one body_numbers 22 n refl (removed_refused s (removed_leaves used) n e)) (λ t h6.
+    bind_refused (apply_adds t (adds used)) _ n h6 (λ e. is_one body_numbers 21 n refl (added_refused t (adds used) n e)) (λ e h7.
     test_refused 26 (has_distinct_clients e.tree) _ n h7 (is_one body_numbers 26 n refl) (λ h8.
     test_refused 26 (is_distinct same_bytes (map package_reference (adds used))) _ n h8 (is_one body_numbers 26 n refl) (λ h9.
     test_refused 25 (has_distinct_keys e.tree) _ n h9 (is_one body_numbers 25 n refl) (λ never. absurd cc))))))))))
@@ -118,21 +118,21 @@ merge_refused t i x keys n h =
     bind_refused (member_at t i) _ n f (λ g. is_one body_numbers 22 n refl (given_refused 22 (leaf_of t i) n g)) (λ v g. is_one body_numbers 30 n refl (last_refused 30 (length keys == path_length 0 t i) n g))) (λ f.
     test_refused 25 (is_distinct same_bytes (encryption_keys (merge_path t i x keys))) _ n f (is_one body_numbers 25 n refl) (λ g. is_one body_numbers 24 n refl (last_refused 24 (is_some_bytes (source_hash x.source) (path_parent_hash t i keys)) n g)))) (λ never. absurd cc)
 
-merged_refused : (c : Crypto) (p : PublicState) (committer : ℕ) (e : Edits) (path : Option UpdatePath) (n : ℕ) → merged c p committer e path ≡ Err n → has body_numbers n ≡ true
-unfolding merged with_path has
+merged_refused : (c : Crypto) (p : PublicState) (committer : ℕ) (e : Edits) (path : Option UpdatePath) (n : ℕ) → apply_path_if c p committer e path ≡ Err n → has body_numbers n ≡ true
+unfolding apply_path_if apply_update_path has
 merged_refused c p committer e None n h = absurd cc
 merged_refused c p committer e (Some path) n h =
     bind_refused (member_at p.tree committer) _ n h (λ g. is_one body_numbers 22 n refl (given_refused 22 (leaf_of p.tree committer) n g)) (λ old h1.
-    then_refused (replaced_checks c path.leaf_node old made_for.Commit p.context.group_id committer) _ n h1
-    (λ g. in_body n (replaced_refused c path.leaf_node old made_for.Commit p.context.group_id committer n g)) (λ h2.
+    then_refused (replaced_checks c path.leaf_node old leaf_node_source.Commit p.context.group_id committer) _ n h1
+    (λ g. in_body n (replaced_refused c path.leaf_node old leaf_node_source.Commit p.context.group_id committer n g)) (λ h2.
     test_refused 30 (length path.nodes == path_length 0 e.tree committer) _ n h2 (is_one body_numbers 30 n refl) (λ h3.
     test_refused 31 (bytes_eq (cipher_counts path) (due_counts e committer)) _ n h3 (is_one body_numbers 31 n refl) (λ h4.
     test_refused 36 (list_all c.key_ok (path.leaf_node.encryption_key ∷ node_keys path)) _ n h4 (is_one body_numbers 36 n refl) (λ h5. merge_refused e.tree committer path.leaf_node (node_keys path) n h5)))))
 
 pub body_refused : (c : Crypto) (p : PublicState) (committer : ℕ) (used : List Used) (commit : Commit) (said : FramedContent) (signature : List ℕ) (n : ℕ) →
-    body c p committer used commit said signature ≡ Err n → has body_numbers n ≡ true
-unfolding body has
+    change_of_commit c p committer used commit said signature ≡ Err n → has body_numbers n ≡ true
+unfolding change_of_commit has
 body_refused c p committer used commit said signature n h =
-    bind_refused (edited c p committer used) _ n h (edited_refused c p committer used n) (λ e h1.
+    bind_refused (apply_proposals c p committer used) _ n h (edited_refused c p committer used n) (λ e h1.
     test_refused 64 (is_some commit.path || not (is_path_required used)) _ n h1 (is_one body_numbers 64 n refl) (λ h2.
-    bind_refused (merged c p committer e commit.path) _ n h2 (merged_refused c p committer e commit.path n) (λ t never. absurd cc)))
+    bind_refused (apply_path_if c p committer e commit.path) _ n h2 (merged_refused c p committer e commit.path n) (λ t never. absurd cc)))

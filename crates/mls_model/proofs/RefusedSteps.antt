@@ -3,7 +3,7 @@ use Rattle.std.proofs.Common.{◌≡◌, ℕ, ◌==◌, Bool, true, false, cond,
 use Rattle.std.specs.List.{list_all}
 use Rattle.std.proofs.lemmas.Bool.{and_parts}
 use Rattle.std.proofs.Common.{eqb-true}
-use Rattle.mls_wire.specs.Checks.{Passed, require, given, ◌>>◌}
+use Rattle.mls_wire.specs.Checks.{Passed, require, require_some, ◌>>◌}
 use Rattle.mls_wire.specs.Reading.{◌>>=◌}
 use Rattle.mls_tree_model.specs.Sets.{has}
 use Rattle.mls_treekem_model.specs.Keys.{rest}
@@ -40,7 +40,7 @@ pub last_refused : (m : ℕ) (b : Bool) (n : ℕ) → require m b ≡ Err n → 
 last_refused m true n h = absurd cc
 last_refused m false n h = cc
 
-pub given_refused : {A : Type 0} (m : ℕ) (o : Option A) (n : ℕ) → given m o ≡ Err n → m ≡ n
+pub given_refused : {A : Type 0} (m : ℕ) (o : Option A) (n : ℕ) → require_some m o ≡ Err n → m ≡ n
 given_refused m None n h = cc
 given_refused m (Some x) n h = absurd cc
 

@@ -11,7 +11,7 @@ use Rattle.mls_tree_model.specs.Sets.{has}
 use Rattle.mls_model.specs.declared.effect.Effect.{Effect}
 use Rattle.mls_model.specs.Agreement.{Keeps, IsGoodCandidate}
 use Rattle.mls_model.specs.Candidate.{Candidate}
-use Rattle.mls_model.specs.Join.{Joined, join_verdict}
+use Rattle.mls_model.specs.Join.{JoinedMember, join_verdict}
 use Rattle.mls_model.specs.Journal.{names_in, adds_in, removes_in}
 use Rattle.mls_model.specs.Member.{Member}
 use Rattle.mls_model.specs.Sharing.{ShareEpoch, SharesNext, JoinsNext, ReachesGroup}
@@ -24,7 +24,7 @@ never x n defined a b = cc
 after_is : (e f : Effect) (m n : Member) (defined : Result (Effect × Member) ℕ) → defined ≡ Ok (e, m) → defined ≡ Ok (f, n) → m ≡ n
 after_is e f m n defined a b = ap (λ (x : Effect × Member). x.1) (ok_is (e, m) (f, n) (sym a ∙ b))
 
-joined_is : (x y : Joined) (defined : Result Joined ℕ) → defined ≡ Ok x → defined ≡ Ok y → x ≡ y
+joined_is : (x y : JoinedMember) (defined : Result JoinedMember ℕ) → defined ≡ Ok x → defined ≡ Ok y → x ≡ y
 joined_is x y defined a b = ok_is x y (sym a ∙ b)
 
 one_welcome : (o : Option (List ℕ)) (x y : List ℕ) → o ≡ Some x → o ≡ Some y → x ≡ y
@@ -69,7 +69,7 @@ module _ (c : Crypto) (maker held : Member) (list : List ProposalOrRef) (commit 
     pub joiner_takes : (bytes : List ℕ) (n : ℕ) → welcome ≡ Some bytes → join_verdict c k bytes ≡ Err n → ⊥
     joiner_takes bytes n is h = never _ n (join_verdict c k bytes) (joins_by bytes is) h
 
-    pub joiner_shares : (bytes : List ℕ) (next : Member) (e : Effect) (x : Joined) → welcome ≡ Some bytes → verdict c held commit ≡ Ok (e, next) → join_verdict c k bytes ≡ Ok x → ShareEpoch c next x.member
+    pub joiner_shares : (bytes : List ℕ) (next : Member) (e : Effect) (x : JoinedMember) → welcome ≡ Some bytes → verdict c held commit ≡ Ok (e, next) → join_verdict c k bytes ≡ Ok x → ShareEpoch c next x.member
     joiner_shares bytes next e x is own join =
         subst (λ (y : Member). ShareEpoch c y x.member) (after_is _ e r.next next (verdict c held commit) r.own own)
-        (subst (λ (y : Joined). ShareEpoch c r.next y.member) (joined_is joins.joined x (join_verdict c k bytes) (joins_by bytes is) join) joins.shares)
+        (subst (λ (y : JoinedMember). ShareEpoch c r.next y.member) (joined_is joins.joined x (join_verdict c k bytes) (joins_by bytes is) join) joins.shares)

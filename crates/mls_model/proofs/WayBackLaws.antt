@@ -8,10 +8,10 @@ use Rattle.mls_types.specs.declared.signed.SignedBody.{SignedBody}
 use Rattle.mls_suite.specs.Crypto.{Crypto}
 use Rattle.mls_model.specs.declared.effect.Effect.{Effect}
 use Rattle.mls_model.specs.Member.{Pending, Member}
-use Rattle.mls_model.specs.Verdict.{proposal_verdict, entered, commit_verdict, content_verdict, received, own_pending, verdict}
-use Rattle.mls_model.specs.Found.{DidPending, reached_epoch}
+use Rattle.mls_model.specs.Verdict.{proposal_verdict, enter_epoch, commit_verdict, content_verdict, bytes_verdict, own_pending, verdict}
+use Rattle.mls_model.specs.VerdictFindings.{DidPending, reached_epoch}
 use Rattle.mls_model.proofs.Receipts.{framing_passes}
-use Rattle.mls_model.specs.Ways.{IsOther, IsTaken, IsProposal, IsCommit, SoTaken, SoRefused}
+use Rattle.mls_model.specs.VerdictCases.{IsOther, IsTaken, IsProposal, IsCommit, SoTaken, SoRefused}
 
 -- ---- down to the content
 
@@ -21,12 +21,12 @@ ok_of x = Ok x
 abbrev err_of : ℕ → Result (Effect × Member) ℕ
 err_of n = Err n
 
-by_other : (c : Crypto) (m : Member) (bytes : List ℕ) → IsOther m bytes → verdict c m bytes ≡ received c m bytes
+by_other : (c : Crypto) (m : Member) (bytes : List ℕ) → IsOther m bytes → verdict c m bytes ≡ bytes_verdict c m bytes
 unfolding verdict
 by_other c m bytes o = let n : not m.gone ≡ true = ap not o.active in rw (n, o.free) refl
 
 by_taken : (c : Crypto) (m : Member) (bytes : List ℕ) (v : PublicMessage) → IsTaken c m bytes v → verdict c m bytes ≡ content_verdict c m v.content bytes v.content.body
-unfolding received
+unfolding bytes_verdict
 by_taken c m bytes v t = by_other c m bytes t.other ∙ (rw (t.decodes, framing_passes c m v bytes t.is_framed) refl)
 
 by_proposal : (c : Crypto) (m : Member) (bytes : List ℕ) (v : PublicMessage) (said : Proposal) → IsProposal c m bytes v said → verdict c m bytes ≡ proposal_verdict c m v.content bytes said
@@ -50,11 +50,11 @@ by_own c m bytes x g d =
     rw (n, o) (ap ok_of d.is)
 
 pub so_taken : SoTaken
-unfolding proposal_verdict commit_verdict entered reached_epoch
+unfolding proposal_verdict commit_verdict enter_epoch reached_epoch
 so_taken c m bytes x (follows_own g d) = by_own c m bytes x g d
 so_taken c m bytes x (knows v said p k) = by_proposal c m bytes v said p ∙ (rw (k.kept) (ap ok_of k.is))
 so_taken c m bytes x (keeps v said p k) = by_proposal c m bytes v said p ∙ (rw (k.fresh, k.checks) (ap ok_of k.is))
-so_taken c m bytes x (leaves v commit tag used change p d k) = by_commit c m bytes v commit tag p ∙ (rw (d.is_using.below, d.is_using.uses, d.change_is, k.named) (ap ok_of k.is))
+so_taken c m bytes x (leaves v commit tag used change p d k) = by_commit c m bytes v commit tag p ∙ (rw (d.is_using.below, d.is_using.uses, d.change_is, k.is_named) (ap ok_of k.is))
 so_taken c m bytes x (follows v commit tag used change p d k) =
     by_commit c m bytes v commit tag p ∙ (rw (d.is_using.below, d.is_using.uses, d.change_is, k.stays, k.opens, k.confirmed) (ap ok_of k.is))
 
@@ -65,7 +65,7 @@ unfolding verdict
 by_gone c m bytes g = let n : not m.gone ≡ false = ap not g in rw n refl
 
 pub so_refused : SoRefused
-unfolding received proposal_verdict commit_verdict entered reached_epoch
+unfolding bytes_verdict proposal_verdict commit_verdict enter_epoch reached_epoch
 so_refused c m bytes n (gone g e) = by_gone c m bytes g ∙ ap err_of (sym e)
 so_refused c m bytes n (unread o e) = by_other c m bytes o ∙ (rw e refl)
 so_refused c m bytes n (no_public w o d e f) = by_other c m bytes o ∙ (rw (d, e) (ap err_of (sym f)))

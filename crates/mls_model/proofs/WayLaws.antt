@@ -2,7 +2,7 @@
 use Rattle.std.proofs.Common.{◌≡◌, ℕ, ◌^◌, ◌-◌, nat_lt, Bool, true, false, not, if◌then◌else◌, List, Option, Some, None, is_some, Result, Ok, Err, refl, ◌⊎◌, inl, inr, ap, ◌∙◌}
 use Rattle.std.specs.Str.{bytes_eq}
 use Rattle.std.proofs.lemmas.Bool.{not-true}
-use Rattle.mls_wire.specs.Checks.{Passed, passed, require, given, ◌>>◌}
+use Rattle.mls_wire.specs.Checks.{Passed, passed, require, require_some, ◌>>◌}
 use Rattle.mls_wire.specs.Reading.{◌>>=◌}
 use Rattle.mls_leaf.specs.declared.proposal.Proposal.{Proposal}
 use Rattle.mls_types.specs.SignedParts.{framed}
@@ -18,16 +18,16 @@ use Rattle.mls_treekem_model.specs.Make.{Climb}
 use Rattle.mls_schedule.specs.Epoch.{confirmation_tag}
 use Rattle.mls_model.specs.declared.effect.Effect.{Effect}
 use Rattle.mls_model.specs.declared.effect.Effect.TheVariants.{Removed}
-use Rattle.mls_model.specs.Public.{Used}
-use Rattle.mls_model.specs.Proposals.{proposal_checks, removed}
-use Rattle.mls_model.specs.Commit.{Change, body}
-use Rattle.mls_model.specs.Member.{Pending, Member, kept_under, used_by, left}
-use Rattle.mls_model.specs.Messages.{decoded, public_in, sender_leaf, is_handshake, reference_of}
-use Rattle.mls_model.specs.Verdict.{framing_checks, proposal_verdict, climbed, entered, commit_verdict, content_verdict, received, own_pending, pending_or_received, verdict}
-use Rattle.mls_model.specs.Found.{WasRemoved, HasFollowed, DidPending, reached_epoch}
+use Rattle.mls_model.specs.PublicState.{Used}
+use Rattle.mls_model.specs.Proposals.{proposal_checks, removed_leaves}
+use Rattle.mls_model.specs.Commit.{Change, change_of_commit}
+use Rattle.mls_model.specs.Member.{Pending, Member, kept_under, find_proposals, after_removal}
+use Rattle.mls_model.specs.Messages.{decode_message, public_in, sender_leaf, is_handshake, reference_of}
+use Rattle.mls_model.specs.Verdict.{framing_checks, proposal_verdict, open_path_secret, enter_epoch, commit_verdict, content_verdict, bytes_verdict, own_pending, pending_or_received, verdict}
+use Rattle.mls_model.specs.VerdictFindings.{WasRemoved, HasFollowed, DidPending, reached_epoch}
 use Rattle.mls_model.proofs.Found.{ProposalDid, ContentDid, DidOther}
 use Rattle.mls_model.proofs.Receipts.{framing_did, did_receive, did_take}
-use Rattle.mls_model.specs.Ways.{IsOther, IsTaken, IsProposal, IsCommit, IsUsing, IsChanging, keys_for, Taking, TakenSo, Refusing, RefusedSo}
+use Rattle.mls_model.specs.VerdictCases.{IsOther, IsTaken, IsProposal, IsCommit, IsUsing, IsChanging, keys_for, Taking, TakenSo, Refusing, RefusedSo}
 
 -- ---- taken
 
@@ -60,33 +60,33 @@ taken_so c m bytes x h = let d = did_take c m bytes x h in taken_by c m bytes x 
 -- ---- refused
 
 refused_tag : (c : Crypto) (m : Member) (bytes : List ℕ) (n : ℕ) (v : PublicMessage) (commit : Commit) (tag : List ℕ) (used : List Used) (change : Change) (climb : Climb) → IsCommit c m bytes v commit tag → IsChanging c m v.content commit used change →
-    has (removed used) m.keys.leaf ≡ false → climbed c m (sender_leaf v.content.sender) change (keys_for m commit change) commit.path ≡ Ok climb →
+    has (removed_leaves used) m.keys.leaf ≡ false → open_path_secret c m (sender_leaf v.content.sender) change (keys_for m commit change) commit.path ≡ Ok climb →
     (b : Bool) (x : Effect × Member) → bytes_eq tag (confirmation_tag (reached_epoch m change climb) change.context.confirmed_transcript_hash) ≡ b → (require 65 b >> Ok x) ≡ Err n → Refusing c m bytes n
 refused_tag c m bytes n v commit tag used change climb p d stays opens true x e h = absurd cc
 refused_tag c m bytes n v commit tag used change climb p d stays opens false x e h = untagged v commit tag used change climb p d stays opens e cc
 
 refused_climb : (c : Crypto) (m : Member) (bytes : List ℕ) (n : ℕ) (v : PublicMessage) (commit : Commit) (tag : List ℕ) (used : List Used) (change : Change) → IsCommit c m bytes v commit tag → IsChanging c m v.content commit used change →
-    has (removed used) m.keys.leaf ≡ false →
-    (r : Result Climb ℕ) → climbed c m (sender_leaf v.content.sender) change (keys_for m commit change) commit.path ≡ r → (r >>= λ climb. entered m change climb tag) ≡ Err n → Refusing c m bytes n
-unfolding entered reached_epoch
+    has (removed_leaves used) m.keys.leaf ≡ false →
+    (r : Result Climb ℕ) → open_path_secret c m (sender_leaf v.content.sender) change (keys_for m commit change) commit.path ≡ r → (r >>= λ climb. enter_epoch m change climb tag) ≡ Err n → Refusing c m bytes n
+unfolding enter_epoch reached_epoch
 refused_climb c m bytes n v commit tag used change p d stays (Ok climb) e h = refused_tag c m bytes n v commit tag used change climb p d stays e (bytes_eq tag (confirmation_tag (reached_epoch m change climb) change.context.confirmed_transcript_hash)) _ refl h
 refused_climb c m bytes n v commit tag used change p d stays (Err k) e h = let same : k ≡ n = cc in closed v commit tag used change p d stays (e ∙ ap (λ (i : ℕ). Err i) same)
 
 refused_way : (c : Crypto) (m : Member) (bytes : List ℕ) (n : ℕ) (v : PublicMessage) (commit : Commit) (tag : List ℕ) (used : List Used) (change : Change) → IsCommit c m bytes v commit tag → IsChanging c m v.content commit used change →
-    (b : Bool) → has (removed used) m.keys.leaf ≡ b →
-    (if b then Ok (Removed, left m) else (climbed c m (sender_leaf v.content.sender) change (keys_for m commit change) commit.path >>= λ climb. entered m change climb tag)) ≡ Err n → Refusing c m bytes n
+    (b : Bool) → has (removed_leaves used) m.keys.leaf ≡ b →
+    (if b then Ok (Removed, after_removal m) else (open_path_secret c m (sender_leaf v.content.sender) change (keys_for m commit change) commit.path >>= λ climb. enter_epoch m change climb tag)) ≡ Err n → Refusing c m bytes n
 refused_way c m bytes n v commit tag used change p d true e h = absurd cc
 refused_way c m bytes n v commit tag used change p d false e h = refused_climb c m bytes n v commit tag used change p d e _ refl h
 
 refused_body : (c : Crypto) (m : Member) (bytes : List ℕ) (n : ℕ) (v : PublicMessage) (commit : Commit) (tag : List ℕ) (used : List Used) → IsCommit c m bytes v commit tag → IsUsing m v.content commit used →
-    (r : Result Change ℕ) → body c m.public (sender_leaf v.content.sender) used commit (framed v.content) v.content.signature ≡ r →
-    (r >>= λ change. if has (removed used) m.keys.leaf then Ok (Removed, left m) else (climbed c m (sender_leaf v.content.sender) change (keys_for m commit change) commit.path >>= λ climb. entered m change climb tag)) ≡ Err n → Refusing c m bytes n
-refused_body c m bytes n v commit tag used p d (Ok change) e h = refused_way c m bytes n v commit tag used change p (record { is_using = d; change_is = e }) (has (removed used) m.keys.leaf) refl h
+    (r : Result Change ℕ) → change_of_commit c m.public (sender_leaf v.content.sender) used commit (framed v.content) v.content.signature ≡ r →
+    (r >>= λ change. if has (removed_leaves used) m.keys.leaf then Ok (Removed, after_removal m) else (open_path_secret c m (sender_leaf v.content.sender) change (keys_for m commit change) commit.path >>= λ climb. enter_epoch m change climb tag)) ≡ Err n → Refusing c m bytes n
+refused_body c m bytes n v commit tag used p d (Ok change) e h = refused_way c m bytes n v commit tag used change p (record { is_using = d; change_is = e }) (has (removed_leaves used) m.keys.leaf) refl h
 refused_body c m bytes n v commit tag used p d (Err k) e h = let same : k ≡ n = cc in unsound v commit tag used p d (e ∙ ap (λ (i : ℕ). Err i) same)
 
-refused_commit : (c : Crypto) (m : Member) (bytes : List ℕ) (n : ℕ) (v : PublicMessage) (commit : Commit) (tag : List ℕ) → IsCommit c m bytes v commit tag → (b : Bool) → nat_lt m.public.context.epoch (2 ^ 64 - 1) ≡ b → (r : Result (List Used) ℕ) → used_by m.kept (sender_leaf v.content.sender) commit.proposals ≡ r →
-    (require 66 b >> (r >>= λ used. body c m.public (sender_leaf v.content.sender) used commit (framed v.content) v.content.signature >>= λ change.
-    if has (removed used) m.keys.leaf then Ok (Removed, left m) else (climbed c m (sender_leaf v.content.sender) change (keys_for m commit change) commit.path >>= λ climb. entered m change climb tag))) ≡ Err n → Refusing c m bytes n
+refused_commit : (c : Crypto) (m : Member) (bytes : List ℕ) (n : ℕ) (v : PublicMessage) (commit : Commit) (tag : List ℕ) → IsCommit c m bytes v commit tag → (b : Bool) → nat_lt m.public.context.epoch (2 ^ 64 - 1) ≡ b → (r : Result (List Used) ℕ) → find_proposals m.kept (sender_leaf v.content.sender) commit.proposals ≡ r →
+    (require 66 b >> (r >>= λ used. change_of_commit c m.public (sender_leaf v.content.sender) used commit (framed v.content) v.content.signature >>= λ change.
+    if has (removed_leaves used) m.keys.leaf then Ok (Removed, after_removal m) else (open_path_secret c m (sender_leaf v.content.sender) change (keys_for m commit change) commit.path >>= λ climb. enter_epoch m change climb tag))) ≡ Err n → Refusing c m bytes n
 refused_commit c m bytes n v commit tag p false f r e h = last_epoch v commit tag p f cc
 refused_commit c m bytes n v commit tag p true f (Ok used) e h = refused_body c m bytes n v commit tag used p (record { below = f; uses = e }) _ refl h
 refused_commit c m bytes n v commit tag p true f (Err k) e h = let same : k ≡ n = cc in unknown v commit tag p f (e ∙ ap (λ (i : ℕ). Err i) same)
@@ -106,13 +106,13 @@ refused_content c m bytes n v (body_of.Application text) e t h = absurd (no_appl
 refused_content c m bytes n v (body_of.Proposal said) e t h = refused_proposal c m bytes n v said (record { is_taken = t; says = e }) _ refl _ _ _ refl h
 refused_content c m bytes n v (body_of.Commit commit tag) e t h = refused_commit c m bytes n v commit tag (record { is_taken = t; says = e }) _ refl _ refl h
 
-refused_framing : (c : Crypto) (m : Member) (bytes : List ℕ) (n : ℕ) (v : PublicMessage) → IsOther m bytes → decoded bytes ≡ Ok (message.PublicMessage v) → (r : Result Passed ℕ) → framing_checks c m v bytes ≡ r →
+refused_framing : (c : Crypto) (m : Member) (bytes : List ℕ) (n : ℕ) (v : PublicMessage) → IsOther m bytes → decode_message bytes ≡ Ok (message.PublicMessage v) → (r : Result Passed ℕ) → framing_checks c m v bytes ≡ r →
     (r >> content_verdict c m v.content bytes v.content.body) ≡ Err n → Refusing c m bytes n
 refused_framing c m bytes n v o d (Ok passed) e h = refused_content c m bytes n v v.content.body refl (record { other = o; decodes = d; is_framed = framing_did c m v bytes e }) h
 refused_framing c m bytes n v o d (Err k) e h = let same : k ≡ n = cc in unframed v o d (e ∙ ap (λ (i : ℕ). Err i) same)
 
-refused_message : (c : Crypto) (m : Member) (bytes : List ℕ) (n : ℕ) → IsOther m bytes → (r : Result MlsMessage ℕ) → decoded bytes ≡ r →
-    (r >>= λ whole. given 41 (public_in whole) >>= λ v. framing_checks c m v bytes >> content_verdict c m v.content bytes v.content.body) ≡ Err n → Refusing c m bytes n
+refused_message : (c : Crypto) (m : Member) (bytes : List ℕ) (n : ℕ) → IsOther m bytes → (r : Result MlsMessage ℕ) → decode_message bytes ≡ r →
+    (r >>= λ whole. require_some 41 (public_in whole) >>= λ v. framing_checks c m v bytes >> content_verdict c m v.content bytes v.content.body) ≡ Err n → Refusing c m bytes n
 refused_message c m bytes n o (Ok (message.PublicMessage v)) e h = refused_framing c m bytes n v o e _ refl h
 refused_message c m bytes n o (Ok (message.Welcome w)) e h = no_public (message.Welcome w) o e refl cc
 refused_message c m bytes n o (Ok (message.GroupInfo w)) e h = no_public (message.GroupInfo w) o e refl cc
@@ -120,9 +120,9 @@ refused_message c m bytes n o (Ok (message.KeyPackage w)) e h = no_public (messa
 refused_message c m bytes n o (Err k) e h = let same : k ≡ n = cc in unread o (e ∙ ap (λ (i : ℕ). Err i) same)
 
 refused_other : (c : Crypto) (m : Member) (bytes : List ℕ) (n : ℕ) → m.gone ≡ false → (o : Option Pending) → own_pending m.pending bytes ≡ o → pending_or_received c m bytes o ≡ Err n → Refusing c m bytes n
-unfolding received
+unfolding bytes_verdict
 refused_other c m bytes n g (Some p) e h = absurd cc
-refused_other c m bytes n g None e h = refused_message c m bytes n (record { active = g; free = e }) (decoded bytes) refl h
+refused_other c m bytes n g None e h = refused_message c m bytes n (record { active = g; free = e }) (decode_message bytes) refl h
 
 refused_by : (c : Crypto) (m : Member) (bytes : List ℕ) (n : ℕ) (b : Bool) → m.gone ≡ b → (require 40 (not b) >> pending_or_received c m bytes (own_pending m.pending bytes)) ≡ Err n → Refusing c m bytes n
 refused_by c m bytes n true g h = gone g cc

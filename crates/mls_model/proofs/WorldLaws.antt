@@ -9,7 +9,7 @@ use Rattle.mls_model.specs.declared.event.Source.{Source}
 use Rattle.mls_model.specs.declared.event.Source.TheVariants.{Given, Message}
 use Rattle.mls_model.specs.Candidate.{Candidate}
 use Rattle.mls_model.specs.Journal.{CommitMade}
-use Rattle.mls_model.specs.World.{has_source, made_for}
+use Rattle.mls_model.specs.World.{has_source, commit_for_joiner}
 use Rattle.mls_model.specs.WorldLaws.{IsSourceOf, IsFor, FoundIsFirst, FirstIsFound, NoneIsFound, NoneToFind}
 
 -- ---- the first of a list that passes a test
@@ -114,19 +114,19 @@ for_none source k d h = by_test (is_for source k d) refl
     by_test false e = refl
 
 pub found_is_first : FoundIsFirst
-unfolding made_for
+unfolding commit_for_joiner
 found_is_first made source k d h =
     let f = first_found (is_for source k) made d h in
     record { place = f.place; is = f.is; fits = for_of source k d f.passes; before = λ i e l g. not_for source k e (f.before i e l g) }
 
 pub first_is_found : FirstIsFound
-unfolding made_for
+unfolding commit_for_joiner
 first_is_found made source k d h = finds_first (is_for source k) made d h.place h.is (of_for source k d h.fits) (λ i e l g. for_none source k e (h.before i e l g))
 
 pub none_is_found : NoneIsFound
-unfolding made_for
+unfolding commit_for_joiner
 none_is_found made source k h i d e = not_for source k d (none_passes (is_for source k) made h i d e)
 
 pub none_to_find : NoneToFind
-unfolding made_for
+unfolding commit_for_joiner
 none_to_find made source k h = finds_none (is_for source k) made (λ i d e. for_none source k d (h i d e))

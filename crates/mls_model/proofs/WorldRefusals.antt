@@ -4,11 +4,11 @@ use Rattle.std.specs.Prelude.{Bool, slice_get}
 use Rattle.std.specs.List.{list_any, list_all}
 use Rattle.std.specs.Str.{bytes_eq}
 use Rattle.std.proofs.lemmas.Bool.{or_left, or_right}
-use Rattle.mls_wire.specs.Checks.{given}
+use Rattle.mls_wire.specs.Checks.{require_some}
 use Rattle.mls_leaf.specs.Limits.{input_limit}
 use Rattle.mls_leaf.specs.WholeLaws.{is_input_fault}
 use Rattle.mls_leaf.proofs.WholeLaws.{is_input_answered}
-use Rattle.mls_types.specs.Answered.{mls_message_faults}
+use Rattle.mls_types.specs.ReadFaults.{mls_message_faults}
 use Rattle.mls_types.specs.Message.{mls_message}
 use Rattle.mls_tree_model.specs.Sets.{has}
 use Rattle.mls_treekem_model.specs.Seeds.{sign_seed}
@@ -17,14 +17,14 @@ use Rattle.mls_model.specs.declared.event.Source.TheVariants.{Given, Message}
 use Rattle.mls_model.specs.declared.event.WorldItem.{WorldItem}
 use Rattle.mls_model.specs.declared.event.WorldItem.TheVariants.{RefOf, Add, Remove}
 use Rattle.mls_model.specs.declared.event.Event.TheVariants as event
-use Rattle.mls_model.specs.Messages.{decoded}
+use Rattle.mls_model.specs.Messages.{decode_message}
 use Rattle.mls_model.specs.Verdict.{verdict}
-use Rattle.mls_model.specs.Candidate.{new_candidate, created}
-use Rattle.mls_model.specs.Propose.{proposed_add, proposed_update, proposed_remove}
+use Rattle.mls_model.specs.Candidate.{new_candidate, create_group}
+use Rattle.mls_model.specs.Propose.{propose_add, propose_update, propose_remove}
 use Rattle.mls_model.specs.Make.{make}
 use Rattle.mls_model.specs.Join.{join_verdict}
 use Rattle.mls_model.specs.World.{World, Entrant, seat_at, entrant_at, bytes_of, package_in, proposal_in, package_of, proposal_of, item_of, items_of}
-use Rattle.mls_model.specs.Calls.{candidate_answer, create_answer, propose_add_answer, propose_update_answer, propose_remove_answer, commit_answer, drop_answer, deliver_answer, join_answer}
+use Rattle.mls_model.specs.WorldCalls.{candidate_answer, create_answer, propose_add_answer, propose_update_answer, propose_remove_answer, commit_answer, drop_answer, deliver_answer, join_answer}
 use Rattle.mls_model.specs.Run.{answer}
 use Rattle.mls_model.specs.Refusals.{verdict_numbers, proposed_numbers, make_numbers, join_numbers}
 use Rattle.mls_model.proofs.RefusedSteps.{is_one, widen, bind_refused, test_refused, given_refused}
@@ -41,7 +41,7 @@ seat_refused w k n h = given_refused 90 (slice_get w.seats k) n h
 entrant_refused : (ns : List ℕ) (w : World) (k n : ℕ) → has ns 91 ≡ true → has ns 92 ≡ true → entrant_at w k ≡ Err n → has ns n ≡ true
 unfolding entrant_at
 entrant_refused ns w k n a b h =
-    bind_refused (given 92 (slice_get w.entrants k)) _ n h (λ e. is_one ns 92 n b (given_refused 92 (slice_get w.entrants k) n e)) (λ e h1.
+    bind_refused (require_some 92 (slice_get w.entrants k)) _ n h (λ e. is_one ns 92 n b (given_refused 92 (slice_get w.entrants k) n e)) (λ e h1.
     test_refused 91 (not e.is_spent) _ n h1 (is_one ns 91 n a) (λ never. absurd cc))
 
 bytes_refused : (w : World) (source : Source) (n : ℕ) → bytes_of w source ≡ Err n → 94 ≡ n
@@ -52,21 +52,21 @@ bytes_refused w (Message k) n h = given_refused 94 (slice_get w.messages k) n h
 or_read : (ns : List ℕ) (m n : ℕ) → has ns m ≡ true → m ≡ n → (is_input_fault n || has ns n) ≡ true
 or_read ns m n h e = or_right (is_input_fault n) (has ns n) (is_one ns m n h e)
 
-decoded_refused : (ns : List ℕ) (bytes : List ℕ) (n : ℕ) → decoded bytes ≡ Err n → (is_input_fault n || has ns n) ≡ true
-unfolding decoded
+decoded_refused : (ns : List ℕ) (bytes : List ℕ) (n : ℕ) → decode_message bytes ≡ Err n → (is_input_fault n || has ns n) ≡ true
+unfolding decode_message
 decoded_refused ns bytes n h = or_left (is_input_fault n) (has ns n) (is_input_answered mls_message input_limit mls_message_faults bytes n h)
 
 package_refused : (ns : List ℕ) (w : World) (source : Source) (n : ℕ) → has ns 94 ≡ true → has ns 95 ≡ true → package_of w source ≡ Err n → (is_input_fault n || has ns n) ≡ true
 unfolding package_of
 package_refused ns w source n a b h =
     bind_refused (bytes_of w source) _ n h (λ e. or_read ns 94 n a (bytes_refused w source n e)) (λ bytes h1.
-    bind_refused (decoded bytes) _ n h1 (decoded_refused ns bytes n) (λ m h2. or_read ns 95 n b (given_refused 95 (package_in m) n h2)))
+    bind_refused (decode_message bytes) _ n h1 (decoded_refused ns bytes n) (λ m h2. or_read ns 95 n b (given_refused 95 (package_in m) n h2)))
 
 proposal_refused : (ns : List ℕ) (w : World) (source : Source) (n : ℕ) → has ns 94 ≡ true → has ns 95 ≡ true → proposal_of w source ≡ Err n → (is_input_fault n || has ns n) ≡ true
 unfolding proposal_of
 proposal_refused ns w source n a b h =
     bind_refused (bytes_of w source) _ n h (λ e. or_read ns 94 n a (bytes_refused w source n e)) (λ bytes h1.
-    bind_refused (decoded bytes) _ n h1 (decoded_refused ns bytes n) (λ m h2. or_read ns 95 n b (given_refused 95 (proposal_in m) n h2)))
+    bind_refused (decode_message bytes) _ n h1 (decoded_refused ns bytes n) (λ m h2. or_read ns 95 n b (given_refused 95 (proposal_in m) n h2)))
 
 item_refused : (ns : List ℕ) (w : World) (item : WorldItem) (n : ℕ) → has ns 94 ≡ true → has ns 95 ≡ true → item_of w item ≡ Err n → (is_input_fault n || has ns n) ≡ true
 item_refused ns w (RefOf source) n a b h = bind_refused (proposal_of w source) _ n h (proposal_refused ns w source n a b) (λ v never. absurd cc)
@@ -100,20 +100,20 @@ event_refused c w (event.Candidate identity seed) n h =
 event_refused c w (event.Create k group seed) n h =
     let ns : List ℕ = 6 ∷ 91 ∷ 92 ∷ [] in
     bind_refused (entrant_at w k) _ n h (entrant_refused ns w k n refl refl) (λ e h1.
-    bind_refused (created c e.candidate group.items seed) _ n h1 (λ f. widen (6 ∷ []) ns n refl (create_refused c e.candidate group.items seed n f)) (λ m never. absurd cc))
+    bind_refused (create_group c e.candidate group.items seed) _ n h1 (λ f. widen (6 ∷ []) ns n refl (create_refused c e.candidate group.items seed n f)) (λ m never. absurd cc))
 event_refused c w (event.ProposeAdd k source) n h =
     let ns : List ℕ = 90 ∷ 94 ∷ 95 ∷ proposed_numbers in
     bind_refused (seat_at w k) _ n h (λ e. or_read ns 90 n refl (seat_refused w k n e)) (λ s h1.
     bind_refused (package_of w source) _ n h1 (package_refused ns w source n refl refl) (λ offered h2.
-    bind_refused (proposed_add c s.member offered) _ n h2 (λ e. among proposed_numbers ns n refl (add_refused c s.member offered n e)) (λ x never. absurd cc)))
+    bind_refused (propose_add c s.member offered) _ n h2 (λ e. among proposed_numbers ns n refl (add_refused c s.member offered n e)) (λ x never. absurd cc)))
 event_refused c w (event.ProposeUpdate k seed) n h =
     let ns : List ℕ = 90 ∷ proposed_numbers in
     bind_refused (seat_at w k) _ n h (λ e. is_one ns 90 n refl (seat_refused w k n e)) (λ s h1.
-    bind_refused (proposed_update c s.member seed) _ n h1 (λ e. widen proposed_numbers ns n refl (update_refused c s.member seed n e)) (λ x never. absurd cc))
+    bind_refused (propose_update c s.member seed) _ n h1 (λ e. widen proposed_numbers ns n refl (update_refused c s.member seed n e)) (λ x never. absurd cc))
 event_refused c w (event.ProposeRemove k leaf) n h =
     let ns : List ℕ = 90 ∷ proposed_numbers in
     bind_refused (seat_at w k) _ n h (λ e. is_one ns 90 n refl (seat_refused w k n e)) (λ s h1.
-    bind_refused (proposed_remove c s.member leaf) _ n h1 (λ e. widen proposed_numbers ns n refl (remove_refused c s.member leaf n e)) (λ x never. absurd cc))
+    bind_refused (propose_remove c s.member leaf) _ n h1 (λ e. widen proposed_numbers ns n refl (remove_refused c s.member leaf n e)) (λ x never. absurd cc))
 event_refused c w (event.Commit k items path seed) n h =
     let ns : List ℕ = 90 ∷ 94 ∷ 95 ∷ make_numbers in
     bind_refused (seat_at w k) _ n h (λ e. or_read ns 90 n refl (seat_refused w k n e)) (λ s h1.

@@ -27,11 +27,11 @@ use Rattle.mls_tree.specs.Rules.{rules_of}
 use Rattle.mls_treekem_model.specs.Members.{HasExact}
 use Rattle.mls_schedule.specs.Epoch.{nine_secrets, confirmation_tag}
 use Rattle.mls_schedule.specs.Twins.{Twins}
-use Rattle.mls_model.specs.Public.{Used}
+use Rattle.mls_model.specs.PublicState.{Used}
 use Rattle.mls_model.specs.Proposals.{proposal_checks}
 use Rattle.mls_model.specs.Commit.{next_public}
-use Rattle.mls_model.specs.Member.{Kept, Pending, Member, kept_under, used_by}
-use Rattle.mls_model.specs.Messages.{decoded, sender_leaf, reference_of}
+use Rattle.mls_model.specs.Member.{KeptProposal, Pending, Member, kept_under, find_proposals}
+use Rattle.mls_model.specs.Messages.{decode_message, sender_leaf, reference_of}
 use Rattle.mls_model.specs.Candidate.{Candidate}
 
 -- ---- agreement
@@ -65,11 +65,11 @@ HasExactKeys c m = HasExact c m.public.tree m.keys
 -- ---- what it keeps
 
 -- under a reference it keeps these very bytes
-abbrev pub KeepsUnder : List Kept → List ℕ → List ℕ → Type 0
-KeepsUnder kept reference bytes = option_map (λ (k : Kept). k.message) (kept_under kept reference) ≡ Some bytes
+abbrev pub KeepsUnder : List KeptProposal → List ℕ → List ℕ → Type 0
+KeepsUnder kept reference bytes = option_map (λ (k : KeptProposal). k.message) (kept_under kept reference) ≡ Some bytes
 
 -- and so under each reference that a list names
-unfoldable pub Keeps : List Kept → List ProposalOrRef → List (List ℕ) → Type 0
+unfoldable pub Keeps : List KeptProposal → List ProposalOrRef → List (List ℕ) → Type 0
 Keeps kept [] [] = Unit {0}
 Keeps kept [] (b ∷ bs) = ⊥
 Keeps kept (listed.Proposal said ∷ xs) bs = Keeps kept xs bs
@@ -82,9 +82,9 @@ HasOwnKey c (proposal.Update leaf) own = (key : List ℕ) × (own ≡ Some key) 
 HasOwnKey c other own = own ≡ None
 
 -- a kept proposal is what its message says, has passed its checks here, and has a private key just where it is an own update
-pub record IsGoodKept (c : Crypto) (m : Member) (k : Kept) : Type 0 where
+pub record IsGoodKept (c : Crypto) (m : Member) (k : KeptProposal) : Type 0 where
   pub said : PublicMessage
-  pub decodes : decoded k.message ≡ Ok (message.PublicMessage said)
+  pub decodes : decode_message k.message ≡ Ok (message.PublicMessage said)
   pub fits : mls_message.Fits (message.PublicMessage said)
   pub says : said.content.body ≡ body.Proposal k.proposal
   pub from : sender_leaf said.content.sender ≡ k.sender
@@ -102,12 +102,12 @@ pub record IsGoodPending (c : Crypto) (m : Member) (p : Pending) : Type 0 where
   pub commit : Commit
   pub tag : List ℕ
   pub used : List Used
-  pub decodes : decoded p.message ≡ Ok (message.PublicMessage said)
+  pub decodes : decode_message p.message ≡ Ok (message.PublicMessage said)
   pub fits : mls_message.Fits (message.PublicMessage said)
   pub says : said.content.body ≡ body.Commit commit tag
   pub from : sender_leaf said.content.sender ≡ m.keys.leaf
   pub below : nat_lt m.public.context.epoch (2 ^ 64 - 1) ≡ true
-  pub uses : used_by m.kept m.keys.leaf commit.proposals ≡ Ok used
+  pub uses : find_proposals m.kept m.keys.leaf commit.proposals ≡ Ok used
   pub next : next_public c m.public m.keys.leaf used commit (framed said.content) said.content.signature tag ≡ Ok p.public
   pub confirmed : tag ≡ confirmation_tag p.epoch p.public.context.confirmed_transcript_hash
   pub keys : HasExact c p.public.tree p.keys

@@ -8,11 +8,11 @@ use Rattle.mls_types.specs.declared.commit.ProposalOrRef.{ProposalOrRef}
 use Rattle.mls_suite.specs.Crypto.{Crypto, Lawful}
 use Rattle.mls_tree_model.specs.Sets.{has}
 use Rattle.mls_model.specs.declared.effect.Effect.TheVariants.{Advanced, Removed}
-use Rattle.mls_model.specs.Member.{Member, left}
+use Rattle.mls_model.specs.Member.{Member, after_removal}
 use Rattle.mls_model.specs.Verdict.{verdict}
 use Rattle.mls_model.specs.Candidate.{Candidate}
 use Rattle.mls_model.specs.Make.{Made, make}
-use Rattle.mls_model.specs.Join.{Joined, join_verdict}
+use Rattle.mls_model.specs.Join.{JoinedMember, join_verdict}
 use Rattle.mls_model.specs.Journal.{names_in, adds_in, removes_in}
 use Rattle.mls_model.specs.Agreement.{Agree, AgreeSecret, Keeps, IsGoodMember, IsGoodCandidate}
 
@@ -35,7 +35,7 @@ pub record FollowsTo (c : Crypto) (m : Member) (made : Made) : Type 0 where
 
 -- and one that the commit removes answers so
 pub record Receives (c : Crypto) (m : Member) (list : List ProposalOrRef) (made : Made) : Type 0 where
-  pub removed : has (removes_in m.kept list) m.keys.leaf ≡ true → verdict c m made.commit ≡ Ok (Removed, left m)
+  pub removed : has (removes_in m.kept list) m.keys.leaf ≡ true → verdict c m made.commit ≡ Ok (Removed, after_removal m)
   pub follows : has (removes_in m.kept list) m.keys.leaf ≡ false → FollowsTo c m made
 
 -- A made commit passes the verdict of each active member at another leaf that agrees with its maker, in secrets too, and
@@ -49,7 +49,7 @@ ReceiversClaim = (c : Crypto) → Lawful c → (maker m : Member) (list : List P
 
 -- a candidate becomes a member in the maker's next public state and epoch
 pub record JoinsTo (c : Crypto) (k : Candidate) (welcome : List ℕ) (made : Made) : Type 0 where
-  pub joined : Joined
+  pub joined : JoinedMember
   pub is : join_verdict c k welcome ≡ Ok joined
   pub public : joined.member.public ≡ made.pending.public
   pub epoch : joined.member.epoch ≡ made.pending.epoch

@@ -2,7 +2,7 @@
 -- suite and all that a statement doesn't look at are variables.
 use Rattle.std.specs.Prelude.{◌≡◌, ℕ, true, false, List, [], ◌∷◌, Some, None, Ok, Err}
 use Rattle.mls_leaf.specs.declared.leaf.LeafNode.{LeafNode}
-use Rattle.mls_leaf.specs.declared.leaf.LeafSource.TheVariants as made_for
+use Rattle.mls_leaf.specs.declared.leaf.LeafSource.TheVariants as leaf_node_source
 use Rattle.mls_leaf.specs.declared.key_package.KeyPackage.{KeyPackage}
 use Rattle.mls_leaf.specs.declared.proposal.Proposal.{Proposal}
 use Rattle.mls_leaf.specs.declared.proposal.Proposal.TheVariants as proposal
@@ -12,10 +12,10 @@ use Rattle.mls_suite.specs.Crypto.{Crypto}
 use Rattle.mls_tree_model.specs.Term.{Term, Branch}
 use Rattle.mls_tree_model.specs.Sets.{has}
 use Rattle.mls_tree_model.specs.Examples.{member, blank, over, listing_these}
-use Rattle.mls_model.specs.Public.{PublicState, Used}
-use Rattle.mls_model.specs.Proposals.{removed}
-use Rattle.mls_model.specs.Commit.{edited}
-use Rattle.mls_model.specs.Member.{Kept, used_by, followed}
+use Rattle.mls_model.specs.PublicState.{PublicState, Used}
+use Rattle.mls_model.specs.Proposals.{removed_leaves}
+use Rattle.mls_model.specs.Commit.{apply_proposals}
+use Rattle.mls_model.specs.Member.{KeptProposal, find_proposals, follow_edits}
 
 -- ---- what a commit makes of a tree
 
@@ -26,7 +26,7 @@ leaf_with n = record {
   signature_key = n ∷ [];
   credential = record { identity = [] };
   capabilities = record { versions = []; cipher_suites = []; extensions = []; proposals = []; credentials = [] };
-  source = made_for.Update;
+  source = leaf_node_source.Update;
   signature = [];
 }
 
@@ -51,60 +51,60 @@ use_of sender said = record { proposal = said; sender = sender; is_full = false 
 -- twice and then doubles it. It has 4 leaves, the new one is leaf 2, and that parent was cut off
 abbrev pub HalvesAndDoubles : Type 0
 HalvesAndDoubles = (c : Crypto) (context : GroupContext) (interim key hash : List ℕ) →
-    edited c (state_with context interim (over (Branch (listing_these key hash []) (over (member_with 1) (member_with 2)) (over blank blank)) (over (over (member_with 3) blank) (over blank blank)))) 0
+    apply_proposals c (state_with context interim (over (Branch (listing_these key hash []) (over (member_with 1) (member_with 2)) (over blank blank)) (over (over (member_with 3) blank) (over blank blank)))) 0
     (use_of 1 (proposal.Remove 4) ∷ use_of 1 (proposal.Add (package_with 5)) ∷ [])
     ≡ Ok (record { tree = over (over (member_with 1) (member_with 2)) (over (member_with 5) blank); added = 2 ∷ [] })
 
 -- and the key that leaf 0 had for it is gone
 abbrev pub KeysOfCutNodes : Type 0
 KeysOfCutNodes = (own key : List ℕ) →
-    followed None (over (over (member_with 1) (member_with 2)) (over (member_with 5) blank)) (record { leaf = 0; own = own; above = None ∷ Some key ∷ None ∷ [] })
+    follow_edits None (over (over (member_with 1) (member_with 2)) (over (member_with 5) blank)) (record { leaf = 0; own = own; above = None ∷ Some key ∷ None ∷ [] })
     ≡ record { leaf = 0; own = own; above = None ∷ None ∷ [] }
 
 -- of 4 members leaf 1 is removed and another added: it stands at leaf 1
 abbrev pub TakenAgain : Type 0
 TakenAgain = (c : Crypto) (context : GroupContext) (interim : List ℕ) →
-    edited c (state_with context interim four_members) 0 (use_of 2 (proposal.Remove 1) ∷ use_of 2 (proposal.Add (package_with 5)) ∷ [])
+    apply_proposals c (state_with context interim four_members) 0 (use_of 2 (proposal.Remove 1) ∷ use_of 2 (proposal.Add (package_with 5)) ∷ [])
     ≡ Ok (record { tree = over (over (member_with 1) (member_with 5)) (over (member_with 3) (member_with 4)); added = 1 ∷ [] })
 
 -- even where it is the very leaf that was removed, so that the tree is as before. That leaf 1 is removed is told by the
 -- list of removes alone
 abbrev pub TakenBySame : Type 0
 TakenBySame = (c : Crypto) (context : GroupContext) (interim : List ℕ) →
-    edited c (state_with context interim four_members) 0 (use_of 2 (proposal.Remove 1) ∷ use_of 2 (proposal.Add (package_with 2)) ∷ [])
+    apply_proposals c (state_with context interim four_members) 0 (use_of 2 (proposal.Remove 1) ∷ use_of 2 (proposal.Add (package_with 2)) ∷ [])
     ≡ Ok (record { tree = four_members; added = 1 ∷ [] })
 
 abbrev pub RemovedByList : Type 0
-RemovedByList = has (removed (use_of 2 (proposal.Remove 1) ∷ use_of 2 (proposal.Add (package_with 2)) ∷ [])) 1 ≡ true
+RemovedByList = has (removed_leaves (use_of 2 (proposal.Remove 1) ∷ use_of 2 (proposal.Add (package_with 2)) ∷ [])) 1 ≡ true
 
 -- two updates of one leaf, or one that is removed too, are refused; before that the committer's removal, and before that its
 -- update
 abbrev pub UpdatedTwice : Type 0
 UpdatedTwice = (c : Crypto) (context : GroupContext) (interim : List ℕ) →
-    edited c (state_with context interim four_members) 0 (use_of 1 (proposal.Update (leaf_with 5)) ∷ use_of 1 (proposal.Update (leaf_with 6)) ∷ []) ≡ Err 63
+    apply_proposals c (state_with context interim four_members) 0 (use_of 1 (proposal.Update (leaf_with 5)) ∷ use_of 1 (proposal.Update (leaf_with 6)) ∷ []) ≡ Err 63
 
 abbrev pub UpdatedAndRemoved : Type 0
 UpdatedAndRemoved = (c : Crypto) (context : GroupContext) (interim : List ℕ) →
-    edited c (state_with context interim four_members) 0 (use_of 2 (proposal.Remove 1) ∷ use_of 1 (proposal.Update (leaf_with 6)) ∷ []) ≡ Err 63
+    apply_proposals c (state_with context interim four_members) 0 (use_of 2 (proposal.Remove 1) ∷ use_of 1 (proposal.Update (leaf_with 6)) ∷ []) ≡ Err 63
 
 abbrev pub CommitterFirst : Type 0
 CommitterFirst = (c : Crypto) (context : GroupContext) (interim : List ℕ) →
-    edited c (state_with context interim four_members) 1 (use_of 2 (proposal.Remove 1) ∷ use_of 1 (proposal.Update (leaf_with 6)) ∷ []) ≡ Err 61
+    apply_proposals c (state_with context interim four_members) 1 (use_of 2 (proposal.Remove 1) ∷ use_of 1 (proposal.Update (leaf_with 6)) ∷ []) ≡ Err 61
 
 abbrev pub CommitterRemoved : Type 0
 CommitterRemoved = (c : Crypto) (context : GroupContext) (interim : List ℕ) →
-    edited c (state_with context interim four_members) 1 (use_of 2 (proposal.Remove 1) ∷ use_of 2 (proposal.Remove 1) ∷ []) ≡ Err 62
+    apply_proposals c (state_with context interim four_members) 1 (use_of 2 (proposal.Remove 1) ∷ use_of 2 (proposal.Remove 1) ∷ []) ≡ Err 62
 
 -- ---- which proposals it uses
 
-abbrev pub kept_under_7 : List ℕ → Kept
+abbrev pub kept_under_7 : List ℕ → KeptProposal
 kept_under_7 message = record { reference = 7 ∷ []; message = message; proposal = proposal.Remove 3; sender = 2; own_key = None }
 
 -- the kept one with its sender, the full one with the committer
 abbrev pub UsesKept : Type 0
 UsesKept = (message : List ℕ) →
-    used_by (kept_under_7 message ∷ []) 1 (listed.Proposal (proposal.Remove 0) ∷ listed.Reference (7 ∷ []) ∷ [])
+    find_proposals (kept_under_7 message ∷ []) 1 (listed.Proposal (proposal.Remove 0) ∷ listed.Reference (7 ∷ []) ∷ [])
     ≡ Ok (record { proposal = proposal.Remove 0; sender = 1; is_full = true } ∷ use_of 2 (proposal.Remove 3) ∷ [])
 
 abbrev pub UsesUnknown : Type 0
-UsesUnknown = (message : List ℕ) → used_by (kept_under_7 message ∷ []) 1 (listed.Reference (7 ∷ []) ∷ listed.Reference (8 ∷ []) ∷ []) ≡ Err 60
+UsesUnknown = (message : List ℕ) → find_proposals (kept_under_7 message ∷ []) 1 (listed.Reference (7 ∷ []) ∷ listed.Reference (8 ∷ []) ∷ []) ≡ Err 60

@@ -14,12 +14,12 @@ use Rattle.mls_model.specs.declared.event.Event.{Event}
 use Rattle.mls_model.specs.declared.event.Event.TheVariants.{Deliver, Join}
 use Rattle.mls_model.specs.declared.event.Reply.TheVariants.{Delivered, Joined, Refused}
 use Rattle.mls_model.specs.Member.{Pending}
-use Rattle.mls_model.specs.Messages.{decoded}
+use Rattle.mls_model.specs.Messages.{decode_message}
 use Rattle.mls_model.specs.Verdict.{own_pending}
 use Rattle.mls_model.specs.Journal.{CommitMade, with_entry, names_in, entry_of, list_in, removes_in, is_homemade}
-use Rattle.mls_model.specs.World.{World, Entrant, Seat, empty_world, bytes_of, made_for}
+use Rattle.mls_model.specs.World.{World, Entrant, Seat, empty_world, bytes_of, commit_for_joiner}
 use Rattle.mls_model.specs.Run.{answer, step, run}
-use Rattle.mls_model.specs.Range.{IsInRange}
+use Rattle.mls_model.specs.EventRange.{IsInRange}
 use Rattle.mls_model.specs.Agreement.{Agree, AgreeSecret, AgreeOrTwins, HasGoodTree, HasExactKeys, Keeps}
 
 -- member k, which wasn't removed
@@ -45,7 +45,7 @@ AgreeByConfirmation w = (i j : ℕ) (s t : Seat) → IsActive w i s → IsActive
 
 -- the member follows a commit into the next epoch and stays active there; its journal has the commit's entry too, and its
 -- epoch secret is the one that the commit reaches
-pub record Follows (c : Crypto) (w : World) (k : ℕ) (s : Seat) (source : Source) (d : CommitMade) : Type 0 where
+pub record FollowsCommit (c : Crypto) (w : World) (k : ℕ) (s : Seat) (source : Source) (d : CommitMade) : Type 0 where
   pub after : Seat
   pub reply : (step c w (Deliver k source)).0 ≡ Delivered (Advanced (s.member.public.context.epoch + 1))
   pub is_after : IsActive (step c w (Deliver k source)).1 k after
@@ -54,7 +54,7 @@ pub record Follows (c : Crypto) (w : World) (k : ℕ) (s : Seat) (source : Sourc
   pub epoch : after.member.epoch ≡ d.epoch
 
 -- or it answers that it was removed, and is active no more; its journal is as it was
-pub record Leaves (c : Crypto) (w : World) (k : ℕ) (s : Seat) (source : Source) : Type 0 where
+pub record LeavesGroup (c : Crypto) (w : World) (k : ℕ) (s : Seat) (source : Source) : Type 0 where
   pub after : Seat
   pub reply : (step c w (Deliver k source)).0 ≡ Delivered Removed
   pub is_after : slice_get (step c w (Deliver k source)).1.seats k ≡ Some after
@@ -67,8 +67,8 @@ is_removed s d = has (removes_in s.member.kept (list_in d.entry.commit)) s.membe
 
 -- it leaves exactly when the commit removes it, and else follows it
 pub record Accepts (c : Crypto) (w : World) (k : ℕ) (s : Seat) (source : Source) (d : CommitMade) : Type 0 where
-  pub removed : is_removed s d ≡ true → Leaves c w k s source
-  pub follows : is_removed s d ≡ false → Follows c w k s source d
+  pub removed : is_removed s d ≡ true → LeavesGroup c w k s source
+  pub follows : is_removed s d ≡ false → FollowsCommit c w k s source d
 
 -- a commit that was made at a homemade journal is accepted by every other active member that has that journal and keeps
 -- under each reference that the commit names the very message that the maker named
@@ -81,7 +81,7 @@ AcceptsHomemade c w = (n k : ℕ) (d : CommitMade) (s : Seat) (source : Source) 
 
 -- the candidate becomes the next member, an active one, in the epoch that its context names; its journal is that of the
 -- commit's maker with the commit, and its epoch secret the one that the commit reaches
-pub record Joins (c : Crypto) (w : World) (n : ℕ) (source : Source) (d : CommitMade) : Type 0 where
+pub record JoinsGroup (c : Crypto) (w : World) (n : ℕ) (source : Source) (d : CommitMade) : Type 0 where
   pub after : Seat
   pub reply : (step c w (Join n source)).0 ≡ Joined (length w.seats) after.member.public.context.epoch
   pub is_after : IsActive (step c w (Join n source)).1 (length w.seats) after
@@ -99,17 +99,17 @@ pub record IsAdded (w : World) (n : ℕ) (e : Entrant) (d : CommitMade) : Type 0
 -- journal and that commit
 abbrev pub JoinsByNumber : Crypto → World → Type 0
 JoinsByNumber c w = (i n number : ℕ) (bytes : List ℕ) (d : CommitMade) (e : Entrant) → slice_get w.made i ≡ Some d → d.welcome ≡ Some (number, bytes) →
-    IsAdded w n e d → Joins c w n (Message number) d
+    IsAdded w n e d → JoinsGroup c w n (Message number) d
 
 -- a source is these bytes, given as such
 abbrev pub IsGiven : Source → List ℕ → Type 0
-IsGiven (Given given) bytes = given.items ≡ bytes
+IsGiven (Given supplied) bytes = supplied.items ≡ bytes
 IsGiven (Message n) bytes = ⊥
 
 -- by its bytes they join too, with the journal of the first such Welcome that has these bytes
 abbrev pub JoinsByBytes : Crypto → World → Type 0
 JoinsByBytes c w = (i n number : ℕ) (bytes : List ℕ) (source : Source) (d : CommitMade) (e : Entrant) → slice_get w.made i ≡ Some d → d.welcome ≡ Some (number, bytes) →
-    IsGiven source bytes → IsAdded w n e d → (f : CommitMade) × (made_for w.made source e.candidate ≡ Some f) × Joins c w n source f
+    IsGiven source bytes → IsAdded w n e d → (f : CommitMade) × (commit_for_joiner w.made source e.candidate ≡ Some f) × JoinsGroup c w n source f
 
 -- ---- keys and trees, whatever bytes came
 
@@ -196,7 +196,7 @@ epoch_of_message other = None
 -- else, in the epoch of the commit, it answers 48
 abbrev pub RefusesOwn : Crypto → World → Type 0
 RefusesOwn c w = (n : ℕ) (d : CommitMade) (s : Seat) (source : Source) → slice_get w.made n ≡ Some d → IsActive w d.maker s →
-    epoch_of_message (decoded d.entry.commit) ≡ Some s.member.public.context.epoch → own_pending s.member.pending d.entry.commit ≡ None →
+    epoch_of_message (decode_message d.entry.commit) ≡ Some s.member.public.context.epoch → own_pending s.member.pending d.entry.commit ≡ None →
     bytes_of w source ≡ Ok d.entry.commit → (step c w (Deliver d.maker source)).0 ≡ Refused 48
 
 -- ---- the whole

@@ -2,7 +2,7 @@
 -- and the GroupInfo that was opened.
 use Rattle.std.specs.Prelude.{ℕ, Bool, false, not, List, [], codes, find, Option, Some, None, Result, Ok}
 use Rattle.std.specs.Str.{bytes_eq}
-use Rattle.mls_wire.specs.Checks.{Passed, require, given, ◌>>◌}
+use Rattle.mls_wire.specs.Checks.{Passed, require, require_some, ◌>>◌}
 use Rattle.mls_wire.specs.Reading.{◌>>=◌}
 use Rattle.mls_leaf.specs.Leaf.{leaf_node}
 use Rattle.mls_leaf.specs.declared.leaf.LeafNode.{LeafNode}
@@ -25,7 +25,7 @@ use Rattle.mls_schedule.specs.Epoch.{epoch_secret, confirmation_tag}
 use Rattle.mls_schedule.specs.Transcript.{interim_hash}
 use Rattle.mls_model.specs.Member.{Member, with_keys}
 use Rattle.mls_model.specs.Candidate.{Candidate}
-use Rattle.mls_model.specs.Opening.{Opened, opened_welcome}
+use Rattle.mls_model.specs.OpenedWelcome.{Opened, opened_welcome}
 
 -- ---- the group that it tells of
 
@@ -33,7 +33,7 @@ use Rattle.mls_model.specs.Opening.{Opened, opened_welcome}
 -- 12.4.3.1 and 12.4.3.3)
 unfoldable pub joined_tree : Crypto → GroupInfo → Result Term ℕ
 joined_tree c info = do
-  nodes ← given 76 info.ratchet_tree
+  nodes ← require_some 76 info.ratchet_tree
   t ← from_nodes max_leaves nodes
   require 77 (bytes_eq info.group_context.tree_hash (tree_hash 0 t))
   tree_checks (rules_of c info.group_context.group_id) t
@@ -42,7 +42,7 @@ joined_tree c info = do
 -- 78 the signer is no member, or the candidate itself; 79 its signature (RFC 9420, 12.4.3.1)
 unfoldable pub signer_checks : Crypto → Candidate → GroupInfo → Term → Result Passed ℕ
 signer_checks c k info t = do
-  signer ← given 78 (leaf_of t info.signer)
+  signer ← require_some 78 (leaf_of t info.signer)
   require 78 (not (bytes_eq signer.signature_key k.offered.leaf_node.signature_key))
   require 79 (verify_with_label c signer.signature_key (codes "GroupInfoTBS") (group_info_tbs info) info.signature)
 
@@ -63,17 +63,17 @@ joined_keys c t signer alone (Some secret) = take_answer c t signer alone.leaf a
 -- ---- the whole
 
 -- the new member, and the GroupInfo that it opened
-pub record Joined : Type 0 where
+pub record JoinedMember : Type 0 where
   pub member : Member
   pub info : List ℕ
 
 -- the new member of an opened Welcome (RFC 9420, 12.4.3.1): the checks of tree and signer, 80 no leaf is the candidate's,
 -- 34 and 35, 65 the confirmation tag
-unfoldable pub member_of : Crypto → Candidate → Opened → Result Joined ℕ
+unfoldable pub member_of : Crypto → Candidate → Opened → Result JoinedMember ℕ
 member_of c k o = do
   t ← joined_tree c o.info
   signer_checks c k o.info t
-  place ← given 80 (place_of k.offered.leaf_node t)
+  place ← require_some 80 (place_of k.offered.leaf_node t)
   keys ← joined_keys c t o.info.signer (record { leaf = place.0; own = k.leaf; above = [] }) o.path_secret
   let context : GroupContext = o.info.group_context
   let epoch = epoch_secret o.joiner (group_context.spell context)
@@ -92,5 +92,5 @@ member_of c k o = do
   })
 
 -- of any bytes (RFC 9420, 12.4.3.1)
-unfoldable pub join_verdict : Crypto → Candidate → List ℕ → Result Joined ℕ
+unfoldable pub join_verdict : Crypto → Candidate → List ℕ → Result JoinedMember ℕ
 join_verdict c k bytes = opened_welcome c k bytes >>= λ o. member_of c k o

@@ -29,8 +29,8 @@ use Rattle.mls_model.specs.Member.{Member}
 -- ---- whole messages
 
 -- the message that all of the bytes are, or the number of the first fault (RFC 9420, 6)
-unfoldable pub decoded : List ℕ → Result MlsMessage ℕ
-decoded bytes = whole mls_message input_limit bytes
+unfoldable pub decode_message : List ℕ → Result MlsMessage ℕ
+decode_message bytes = whole mls_message input_limit bytes
 
 -- whether each entry of a list is a byte, as all are that code has
 unfoldable pub are_bytes : List ℕ → Bool
@@ -57,8 +57,8 @@ is_handshake (body.Application text) = false
 is_handshake other = true
 
 -- a content of a member in its epoch (RFC 9420, 6)
-unfoldable pub said_by : Member → Content → FramedContent
-said_by m content =
+unfoldable pub content_by : Member → Content → FramedContent
+content_by m content =
     record { group_id = m.public.context.group_id; epoch = m.public.context.epoch; sender = sender.Member m.keys.leaf; authenticated_data = []; content = content }
 
 -- its signature under the context of the epoch (RFC 9420, 6.1)
@@ -74,8 +74,8 @@ unfoldable pub content_tag : List ℕ → SignedContent → GroupContext → Lis
 content_tag epoch v context = membership_tag epoch (authenticated_content_tbm format.PublicMessage v context)
 
 -- the message of a signed content, as a member sends it (RFC 9420, 6 and 6.2)
-unfoldable pub sent_by : Member → SignedContent → List ℕ
-sent_by m v = mls_message.spell (message.PublicMessage (record { content = v; membership_tag = content_tag m.epoch v m.public.context }))
+unfoldable pub message_by : Member → SignedContent → List ℕ
+message_by m v = mls_message.spell (message.PublicMessage (record { content = v; membership_tag = content_tag m.epoch v m.public.context }))
 
 -- the reference of a proposal (RFC 9420, 5.2)
 unfoldable pub reference_of : SignedContent → List ℕ

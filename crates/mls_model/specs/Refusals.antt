@@ -7,8 +7,8 @@ use Rattle.mls_suite.specs.Crypto.{Crypto}
 use Rattle.mls_tree_model.specs.Sets.{has}
 use Rattle.mls_model.specs.Member.{Member}
 use Rattle.mls_model.specs.Verdict.{verdict}
-use Rattle.mls_model.specs.Candidate.{Candidate, new_candidate, created}
-use Rattle.mls_model.specs.Propose.{proposed_add, proposed_update, proposed_remove}
+use Rattle.mls_model.specs.Candidate.{Candidate, new_candidate, create_group}
+use Rattle.mls_model.specs.Propose.{propose_add, propose_update, propose_remove}
 use Rattle.mls_model.specs.Make.{make}
 use Rattle.mls_model.specs.Join.{join_verdict}
 
@@ -40,13 +40,13 @@ abbrev pub proposed_numbers : List ℕ
 proposed_numbers = 6 ∷ 40 ∷ 49 ∷ proposal_numbers
 
 abbrev pub AddNumbers : Type 0
-AddNumbers = (c : Crypto) (m : Member) (offered : KeyPackage) (n : ℕ) → proposed_add c m offered ≡ Err n → has proposed_numbers n ≡ true
+AddNumbers = (c : Crypto) (m : Member) (offered : KeyPackage) (n : ℕ) → propose_add c m offered ≡ Err n → has proposed_numbers n ≡ true
 
 abbrev pub UpdateNumbers : Type 0
-UpdateNumbers = (c : Crypto) (m : Member) (seed : List ℕ) (n : ℕ) → proposed_update c m seed ≡ Err n → has proposed_numbers n ≡ true
+UpdateNumbers = (c : Crypto) (m : Member) (seed : List ℕ) (n : ℕ) → propose_update c m seed ≡ Err n → has proposed_numbers n ≡ true
 
 abbrev pub RemoveNumbers : Type 0
-RemoveNumbers = (c : Crypto) (m : Member) (leaf : ℕ) (n : ℕ) → proposed_remove c m leaf ≡ Err n → has proposed_numbers n ≡ true
+RemoveNumbers = (c : Crypto) (m : Member) (leaf : ℕ) (n : ℕ) → propose_remove c m leaf ≡ Err n → has proposed_numbers n ≡ true
 
 -- of a commit that is made
 abbrev pub make_numbers : List ℕ
@@ -60,7 +60,7 @@ abbrev pub CandidateNumbers : Type 0
 CandidateNumbers = (c : Crypto) (identity seed : List ℕ) (n : ℕ) → new_candidate c identity seed ≡ Err n → has (6 ∷ 57 ∷ []) n ≡ true
 
 abbrev pub CreateNumbers : Type 0
-CreateNumbers = (c : Crypto) (k : Candidate) (group seed : List ℕ) (n : ℕ) → created c k group seed ≡ Err n → has (6 ∷ []) n ≡ true
+CreateNumbers = (c : Crypto) (k : Candidate) (group seed : List ℕ) (n : ℕ) → create_group c k group seed ≡ Err n → has (6 ∷ []) n ≡ true
 
 -- of a join, beside the numbers of decoding
 abbrev pub join_numbers : List ℕ

@@ -10,9 +10,9 @@ use Rattle.mls_tree_model.specs.Sets.{has}
 use Rattle.mls_model.specs.declared.effect.Effect.TheVariants.{Advanced, Removed}
 use Rattle.mls_model.specs.Agreement.{Agree, AgreeSecret, Keeps, IsGoodMember, IsGoodCandidate}
 use Rattle.mls_model.specs.Candidate.{Candidate}
-use Rattle.mls_model.specs.Join.{Joined, join_verdict}
+use Rattle.mls_model.specs.Join.{JoinedMember, join_verdict}
 use Rattle.mls_model.specs.Journal.{names_in, adds_in, removes_in}
-use Rattle.mls_model.specs.Member.{Member, left}
+use Rattle.mls_model.specs.Member.{Member, after_removal}
 use Rattle.mls_model.specs.Verdict.{verdict}
 
 -- two members of one group share an epoch: both are good and active, stand at two leaves, and agree, in secrets too
@@ -33,14 +33,14 @@ pub record SharesNext (c : Crypto) (next m : Member) (commit : List ℕ) : Type 
 
 -- a member accepts a commit of a list (RFC 9420, 12.4.2): one that the list removes answers so
 pub record IsAccepted (c : Crypto) (next m : Member) (list : List ProposalOrRef) (commit : List ℕ) : Type 0 where
-  pub removed : has (removes_in m.kept list) m.keys.leaf ≡ true → verdict c m commit ≡ Ok (Removed, left m)
+  pub removed : has (removes_in m.kept list) m.keys.leaf ≡ true → verdict c m commit ≡ Ok (Removed, after_removal m)
   pub follows : has (removes_in m.kept list) m.keys.leaf ≡ false → SharesNext c next m commit
 
 -- a candidate joins by the Welcome of a commit (RFC 9420, 12.4.3.1), and shares the next epoch with its committer
 pub record JoinsNext (c : Crypto) (next : Member) (k : Candidate) (welcome : Option (List ℕ)) : Type 0 where
   pub bytes : List ℕ
   pub is : welcome ≡ Some bytes
-  pub joined : Joined
+  pub joined : JoinedMember
   pub joins : join_verdict c k bytes ≡ Ok joined
   pub shares : ShareEpoch c next joined.member
 

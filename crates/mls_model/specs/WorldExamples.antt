@@ -8,8 +8,8 @@ use Rattle.mls_model.specs.declared.event.Event.TheVariants as event
 use Rattle.mls_model.specs.declared.event.Reply.TheVariants as reply
 use Rattle.mls_model.specs.declared.origin.Origin.TheVariants.{Creation}
 use Rattle.mls_model.specs.Candidate.{Candidate}
-use Rattle.mls_model.specs.Journal.{Entry, Journal, CommitMade, begun, with_entry, is_homemade}
-use Rattle.mls_model.specs.World.{World, Seat, empty_world, made_for}
+use Rattle.mls_model.specs.Journal.{Entry, Journal, CommitMade, new_journal, with_entry, is_homemade}
+use Rattle.mls_model.specs.World.{World, Seat, empty_world, commit_for_joiner}
 use Rattle.mls_model.specs.Run.{replies}
 
 -- ---- homemade journals
@@ -23,7 +23,7 @@ abbrev pub made_at : Journal → ℕ → ℕ → CommitMade
 made_at j n epoch = record { maker = 0; journal = j; entry = entry_with n; epoch = epoch ∷ []; adds = []; welcome = None }
 
 abbrev pub created_0 : Journal
-created_0 = begun (Creation 0)
+created_0 = new_journal (Creation 0)
 
 abbrev pub CreationIsHomemade : Type 0
 CreationIsHomemade = is_homemade [] created_0 ≡ true
@@ -45,7 +45,7 @@ MadeOtherwise = is_homemade (made_at created_0 1 9 ∷ made_at created_0 1 8 ∷
 
 -- that it was made at another journal is nothing
 abbrev pub MadeElsewhere : Type 0
-MadeElsewhere = is_homemade (made_at (begun (Creation 1)) 1 9 ∷ []) (with_entry created_0 (entry_with 1)) ≡ false
+MadeElsewhere = is_homemade (made_at (new_journal (Creation 1)) 1 9 ∷ []) (with_entry created_0 (entry_with 1)) ≡ false
 
 -- each entry counts: commit 2 was made behind commit 1, and commit 1 was not made
 abbrev pub MadeBehind : Type 0
@@ -61,15 +61,15 @@ welcoming adds number bytes = record { maker = 0; journal = created_0; entry = e
 -- message, by bytes the first whose commit adds the candidate
 abbrev pub ByNumber : Type 0
 ByNumber = (k : Candidate) (bytes : List ℕ) →
-    made_for (welcoming [] 2 bytes ∷ welcoming (key_package.spell k.offered ∷ []) 4 bytes ∷ []) (Message 4) k ≡ Some (welcoming (key_package.spell k.offered ∷ []) 4 bytes)
+    commit_for_joiner (welcoming [] 2 bytes ∷ welcoming (key_package.spell k.offered ∷ []) 4 bytes ∷ []) (Message 4) k ≡ Some (welcoming (key_package.spell k.offered ∷ []) 4 bytes)
 
 abbrev pub ByOtherNumber : Type 0
 ByOtherNumber = (k : Candidate) (bytes : List ℕ) →
-    made_for (welcoming [] 2 bytes ∷ welcoming (key_package.spell k.offered ∷ []) 4 bytes ∷ []) (Message 2) k ≡ None
+    commit_for_joiner (welcoming [] 2 bytes ∷ welcoming (key_package.spell k.offered ∷ []) 4 bytes ∷ []) (Message 2) k ≡ None
 
 abbrev pub ByBytes : Type 0
 ByBytes = (k : Candidate) (bytes : Vec ℕ) →
-    made_for (welcoming [] 2 bytes.items ∷ welcoming (key_package.spell k.offered ∷ []) 4 bytes.items ∷ []) (Given bytes) k ≡ Some (welcoming (key_package.spell k.offered ∷ []) 4 bytes.items)
+    commit_for_joiner (welcoming [] 2 bytes.items ∷ welcoming (key_package.spell k.offered ∷ []) 4 bytes.items ∷ []) (Given bytes) k ≡ Some (welcoming (key_package.spell k.offered ∷ []) 4 bytes.items)
 
 -- ---- what a world answers before its members do
 

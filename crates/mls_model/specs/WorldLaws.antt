@@ -5,13 +5,13 @@ use Rattle.mls_model.specs.declared.event.Source.{Source}
 use Rattle.mls_model.specs.declared.event.Source.TheVariants.{Given, Message}
 use Rattle.mls_model.specs.Candidate.{Candidate}
 use Rattle.mls_model.specs.Journal.{CommitMade}
-use Rattle.mls_model.specs.World.{made_for}
+use Rattle.mls_model.specs.World.{commit_for_joiner}
 
 -- ---- records that are for a candidate
 
 -- a source is a Welcome, given by its bytes or by its number
 abbrev pub IsSourceOf : Source → ℕ × List ℕ → Type 0
-IsSourceOf (Given given) welcome = given.items ≡ welcome.1
+IsSourceOf (Given supplied) welcome = supplied.items ≡ welcome.1
 IsSourceOf (Message n) welcome = n ≡ welcome.0
 
 -- a commit made the Welcome that a source is, and adds the candidate's own KeyPackage
@@ -33,11 +33,11 @@ pub record IsFirstFor (made : List CommitMade) (source : Source) (k : Candidate)
 
 -- the record that is found is in the list, has the source and adds the candidate, and none before it does
 abbrev pub FoundIsFirst : Type 0
-FoundIsFirst = (made : List CommitMade) (source : Source) (k : Candidate) (d : CommitMade) → made_for made source k ≡ Some d → IsFirstFor made source k d
+FoundIsFirst = (made : List CommitMade) (source : Source) (k : Candidate) (d : CommitMade) → commit_for_joiner made source k ≡ Some d → IsFirstFor made source k d
 
 -- and each such record is found
 abbrev pub FirstIsFound : Type 0
-FirstIsFound = (made : List CommitMade) (source : Source) (k : Candidate) (d : CommitMade) → IsFirstFor made source k d → made_for made source k ≡ Some d
+FirstIsFound = (made : List CommitMade) (source : Source) (k : Candidate) (d : CommitMade) → IsFirstFor made source k d → commit_for_joiner made source k ≡ Some d
 
 -- no record is for the candidate
 abbrev pub NoneIsFor : List CommitMade → Source → Candidate → Type 0
@@ -45,7 +45,7 @@ NoneIsFor made source k = (i : ℕ) (d : CommitMade) → slice_get made i ≡ So
 
 -- none is found just where there is none
 abbrev pub NoneIsFound : Type 0
-NoneIsFound = (made : List CommitMade) (source : Source) (k : Candidate) → made_for made source k ≡ None → NoneIsFor made source k
+NoneIsFound = (made : List CommitMade) (source : Source) (k : Candidate) → commit_for_joiner made source k ≡ None → NoneIsFor made source k
 
 abbrev pub NoneToFind : Type 0
-NoneToFind = (made : List CommitMade) (source : Source) (k : Candidate) → NoneIsFor made source k → made_for made source k ≡ None
+NoneToFind = (made : List CommitMade) (source : Source) (k : Candidate) → NoneIsFor made source k → commit_for_joiner made source k ≡ None

@@ -13,10 +13,10 @@ use Rattle.mls_leaf.specs.declared.proposal.Proposal.{Proposal}
 use Rattle.mls_leaf.specs.declared.proposal.Proposal.TheVariants.{Add, Update, Remove}
 use Rattle.mls_tree_model.specs.Term.{Term}
 use Rattle.mls_tree.specs.Tree.{add_answer, update_answer, remove_answer}
-use Rattle.mls_model.specs.Public.{PublicState, Used}
-use Rattle.mls_model.specs.Proposals.{update_in, remove_in, add_in, updates, updated, removed, adds, package_reference, proposal_checks, full_checks}
-use Rattle.mls_model.specs.Commit.{Edits, all_updated, all_removed, all_added}
-use Rattle.mls_public_group.specs.Edited.{apart, applied, behind}
+use Rattle.mls_model.specs.PublicState.{PublicState, Used}
+use Rattle.mls_model.specs.Proposals.{update_in, remove_in, add_in, updates, updated_leaves, removed_leaves, adds, package_reference, proposal_checks, full_checks}
+use Rattle.mls_model.specs.Commit.{Edits, apply_updates, apply_removes, apply_adds}
+use Rattle.mls_public_group.specs.ProposalList.{proposal_list_checks, edit_tree, prepend_added}
 use Rattle.mls_public_group.proofs.Rest.{here, over}
 
 -- ---- what one proposal is
@@ -44,20 +44,20 @@ pub update_isnt : (u : Used) → ((x : LeafNode) → u.proposal ≡ Update x →
 unfolding updates
 update_isnt u other = rw (no_update u u.proposal other) refl
 
-pub updated_is : (u : Used) (x : LeafNode) → u.proposal ≡ Update x → updated (u ∷ []) ≡ u.sender ∷ []
-unfolding updated
+pub updated_is : (u : Used) (x : LeafNode) → u.proposal ≡ Update x → updated_leaves (u ∷ []) ≡ u.sender ∷ []
+unfolding updated_leaves
 updated_is u x e = rw (update_is u x e) refl
 
-pub updated_isnt : (u : Used) → ((x : LeafNode) → u.proposal ≡ Update x → ⊥) → updated (u ∷ []) ≡ []
-unfolding updated
+pub updated_isnt : (u : Used) → ((x : LeafNode) → u.proposal ≡ Update x → ⊥) → updated_leaves (u ∷ []) ≡ []
+unfolding updated_leaves
 updated_isnt u other = rw (update_isnt u other) refl
 
-pub removed_is : (u : Used) (i : ℕ) → u.proposal ≡ Remove i → removed (u ∷ []) ≡ i ∷ []
-unfolding removed
+pub removed_is : (u : Used) (i : ℕ) → u.proposal ≡ Remove i → removed_leaves (u ∷ []) ≡ i ∷ []
+unfolding removed_leaves
 removed_is u i e = rw e refl
 
-pub removed_isnt : (u : Used) → ((i : ℕ) → u.proposal ≡ Remove i → ⊥) → removed (u ∷ []) ≡ []
-unfolding removed
+pub removed_isnt : (u : Used) → ((i : ℕ) → u.proposal ≡ Remove i → ⊥) → removed_leaves (u ∷ []) ≡ []
+unfolding removed_leaves
 removed_isnt u other = rw (no_remove u.proposal other) refl
 
 pub add_is : (u : Used) (x : KeyPackage) → u.proposal ≡ Add x → adds (u ∷ []) ≡ x ∷ []
@@ -82,12 +82,12 @@ firsts : (o : Option (ℕ × LeafNode)) (ys : List (ℕ × LeafNode)) → map (�
 firsts None ys = refl
 firsts (Some y) ys = refl
 
-pub updated_split : (u : Used) (us : List Used) → updated (u ∷ us) ≡ updated (u ∷ []) ++ updated us
-unfolding updated updates
+pub updated_split : (u : Used) (us : List Used) → updated_leaves (u ∷ us) ≡ updated_leaves (u ∷ []) ++ updated_leaves us
+unfolding updated_leaves updates
 updated_split u us = firsts (update_in u u.proposal) _
 
-pub removed_split : (u : Used) (us : List Used) → removed (u ∷ us) ≡ removed (u ∷ []) ++ removed us
-unfolding removed
+pub removed_split : (u : Used) (us : List Used) → removed_leaves (u ∷ us) ≡ removed_leaves (u ∷ []) ++ removed_leaves us
+unfolding removed_leaves
 removed_split u us = one_more (remove_in u.proposal) _
 
 pub adds_split : (u : Used) (us : List Used) → adds (u ∷ us) ≡ adds (u ∷ []) ++ adds us
@@ -113,12 +113,12 @@ module _ {A : Type 0} (f : List Used → List A) where
   all_gathered none us k xs whole le so_far =
       sym (append-nil xs) ∙ ap (λ ys. xs ++ ys) (sym none ∙ sym (ap f (over us k le))) ∙ so_far
 
-pub updated_none : updated [] ≡ []
-unfolding updated updates
+pub updated_none : updated_leaves [] ≡ []
+unfolding updated_leaves updates
 updated_none = refl
 
-pub removed_none : removed [] ≡ []
-unfolding removed
+pub removed_none : removed_leaves [] ≡ []
+unfolding removed_leaves
 removed_none = refl
 
 pub references_none : map package_reference (adds []) ≡ []
@@ -127,17 +127,17 @@ references_none = refl
 
 -- what one proposal adds to a list of leaves or references
 module _ (u v : Used) (seen : v ≡ u) where
-  pub updated_one : (old new : List ℕ) (x : LeafNode) → v.proposal ≡ Update x → new ≡ old ++ v.sender ∷ [] → new ≡ old ++ updated (u ∷ [])
-  updated_one old new x is pushed = pushed ∙ ap (λ ys. old ++ ys) (sym (updated_is v x is) ∙ ap (λ (w : Used). updated (w ∷ [])) seen)
+  pub updated_one : (old new : List ℕ) (x : LeafNode) → v.proposal ≡ Update x → new ≡ old ++ v.sender ∷ [] → new ≡ old ++ updated_leaves (u ∷ [])
+  updated_one old new x is pushed = pushed ∙ ap (λ ys. old ++ ys) (sym (updated_is v x is) ∙ ap (λ (w : Used). updated_leaves (w ∷ [])) seen)
 
-  pub updated_same : (old : List ℕ) → ((x : LeafNode) → v.proposal ≡ Update x → ⊥) → old ≡ old ++ updated (u ∷ [])
-  updated_same old other = sym (append-nil old) ∙ ap (λ ys. old ++ ys) (sym (updated_isnt v other) ∙ ap (λ (w : Used). updated (w ∷ [])) seen)
+  pub updated_same : (old : List ℕ) → ((x : LeafNode) → v.proposal ≡ Update x → ⊥) → old ≡ old ++ updated_leaves (u ∷ [])
+  updated_same old other = sym (append-nil old) ∙ ap (λ ys. old ++ ys) (sym (updated_isnt v other) ∙ ap (λ (w : Used). updated_leaves (w ∷ [])) seen)
 
-  pub removed_one : (old new : List ℕ) (i : ℕ) → v.proposal ≡ Remove i → new ≡ old ++ i ∷ [] → new ≡ old ++ removed (u ∷ [])
-  removed_one old new i is pushed = pushed ∙ ap (λ ys. old ++ ys) (sym (removed_is v i is) ∙ ap (λ (w : Used). removed (w ∷ [])) seen)
+  pub removed_one : (old new : List ℕ) (i : ℕ) → v.proposal ≡ Remove i → new ≡ old ++ i ∷ [] → new ≡ old ++ removed_leaves (u ∷ [])
+  removed_one old new i is pushed = pushed ∙ ap (λ ys. old ++ ys) (sym (removed_is v i is) ∙ ap (λ (w : Used). removed_leaves (w ∷ [])) seen)
 
-  pub removed_same : (old : List ℕ) → ((i : ℕ) → v.proposal ≡ Remove i → ⊥) → old ≡ old ++ removed (u ∷ [])
-  removed_same old other = sym (append-nil old) ∙ ap (λ ys. old ++ ys) (sym (removed_isnt v other) ∙ ap (λ (w : Used). removed (w ∷ [])) seen)
+  pub removed_same : (old : List ℕ) → ((i : ℕ) → v.proposal ≡ Remove i → ⊥) → old ≡ old ++ removed_leaves (u ∷ [])
+  removed_same old other = sym (append-nil old) ∙ ap (λ ys. old ++ ys) (sym (removed_isnt v other) ∙ ap (λ (w : Used). removed_leaves (w ∷ [])) seen)
 
   pub reference_one : (old new : List (List ℕ)) (x : KeyPackage) → v.proposal ≡ Add x → new ≡ old ++ package_reference x ∷ [] → new ≡ old ++ map package_reference (adds (u ∷ []))
   reference_one old new x is pushed = pushed ∙ ap (λ ys. old ++ ys) (sym (ap (map package_reference) (add_is v x is)) ∙ ap (λ (w : Used). map package_reference (adds (w ∷ []))) seen)
@@ -171,98 +171,98 @@ has_any (y ∷ ys) x = ap (λ b. (y == x) || b) (has_any ys x)
 has_found : (xs ys : List ℕ) (x : ℕ) (found answer : Bool) → ys ≡ xs → found ≡ list_any (λ y. y == x) ys → found ≡ answer → has xs x ≡ answer
 has_found xs ys x found answer same is told = sym (is ∙ ap (list_any (λ y. y == x)) same ∙ has_any xs x) ∙ told
 
-module _ (committer : ℕ) (used : List Used) (ys : List ℕ) (found : Bool) (same : ys ≡ updated used) (is : found ≡ list_any (λ y. y == committer) ys) where
-  pub apart_updated : found ≡ true → apart committer used ≡ Err 61
-  unfolding apart
-  apart_updated told = rw (has_found (updated used) ys committer found true same is told) refl
+module _ (committer : ℕ) (used : List Used) (ys : List ℕ) (found : Bool) (same : ys ≡ updated_leaves used) (is : found ≡ list_any (λ y. y == committer) ys) where
+  pub apart_updated : found ≡ true → proposal_list_checks committer used ≡ Err 61
+  unfolding proposal_list_checks
+  apart_updated told = rw (has_found (updated_leaves used) ys committer found true same is told) refl
 
-  module _ (no : found ≡ false) (zs : List ℕ) (other : Bool) (alike : zs ≡ removed used) (tells : other ≡ list_any (λ y. y == committer) zs) where
-    pub apart_removed : other ≡ true → apart committer used ≡ Err 62
-    unfolding apart
-    apart_removed told = rw (has_found (updated used) ys committer found false same is no, has_found (removed used) zs committer other true alike tells told) refl
+  module _ (no : found ≡ false) (zs : List ℕ) (other : Bool) (alike : zs ≡ removed_leaves used) (tells : other ≡ list_any (λ y. y == committer) zs) where
+    pub apart_removed : other ≡ true → proposal_list_checks committer used ≡ Err 62
+    unfolding proposal_list_checks
+    apart_removed told = rw (has_found (updated_leaves used) ys committer found false same is no, has_found (removed_leaves used) zs committer other true alike tells told) refl
 
     module _ (nor : other ≡ false) (all : List ℕ) (r : Bool) (joined : all ≡ ys ++ zs) (decides : r ≡ is_distinct nat_eq all) where
-      differ_is : is_distinct nat_eq (updated used ++ removed used) ≡ r
-      differ_is = sym (decides ∙ ap (is_distinct nat_eq) (joined ∙ ap (λ xs. xs ++ zs) same ∙ ap (λ xs. updated used ++ xs) alike))
+      differ_is : is_distinct nat_eq (updated_leaves used ++ removed_leaves used) ≡ r
+      differ_is = sym (decides ∙ ap (is_distinct nat_eq) (joined ∙ ap (λ xs. xs ++ zs) same ∙ ap (λ xs. updated_leaves used ++ xs) alike))
 
-      pub apart_twice : r ≡ false → apart committer used ≡ Err 63
-      unfolding apart
-      apart_twice told = rw (has_found (updated used) ys committer found false same is no, has_found (removed used) zs committer other false alike tells nor, differ_is, told) refl
+      pub apart_twice : r ≡ false → proposal_list_checks committer used ≡ Err 63
+      unfolding proposal_list_checks
+      apart_twice told = rw (has_found (updated_leaves used) ys committer found false same is no, has_found (removed_leaves used) zs committer other false alike tells nor, differ_is, told) refl
 
-      pub apart_fine : r ≡ true → apart committer used ≡ Ok passed
-      unfolding apart
-      apart_fine told = rw (has_found (updated used) ys committer found false same is no, has_found (removed used) zs committer other false alike tells nor, differ_is, told) refl
+      pub apart_fine : r ≡ true → proposal_list_checks committer used ≡ Ok passed
+      unfolding proposal_list_checks
+      apart_fine told = rw (has_found (updated_leaves used) ys committer found false same is no, has_found (removed_leaves used) zs committer other false alike tells nor, differ_is, told) refl
 
 -- ---- updates
 
-update_whole : (r : Result Term ℕ) → (r >>= λ x. all_updated x []) ≡ r
-unfolding all_updated
+update_whole : (r : Result Term ℕ) → (r >>= λ x. apply_updates x []) ≡ r
+unfolding apply_updates
 update_whole (Ok x) = refl
 update_whole (Err n) = refl
 
-update_alone : (t : Term) (n : ℕ) (x : LeafNode) → all_updated t ((n, x) ∷ []) ≡ update_answer t n x
-unfolding all_updated
+update_alone : (t : Term) (n : ℕ) (x : LeafNode) → apply_updates t ((n, x) ∷ []) ≡ update_answer t n x
+unfolding apply_updates
 update_alone t n x = update_whole (update_answer t n x)
 
 -- of a proposal u whose parts v shows
-pub update_one : (t : Term) (u v : Used) (r : Result Term ℕ) (x y : LeafNode) → v ≡ u → v.proposal ≡ Update x → y ≡ x → update_answer t v.sender y ≡ r → all_updated t (updates (u ∷ [])) ≡ r
+pub update_one : (t : Term) (u v : Used) (r : Result Term ℕ) (x y : LeafNode) → v ≡ u → v.proposal ≡ Update x → y ≡ x → update_answer t v.sender y ≡ r → apply_updates t (updates (u ∷ [])) ≡ r
 update_one t u v r x y seen is same done =
-    sym (ap (λ (w : Used). all_updated t (updates (w ∷ []))) seen)
-    ∙ ap (all_updated t) (update_is v x is)
+    sym (ap (λ (w : Used). apply_updates t (updates (w ∷ []))) seen)
+    ∙ ap (apply_updates t) (update_is v x is)
     ∙ update_alone t v.sender x
     ∙ sym (ap (update_answer t v.sender) same)
     ∙ done
 
-pub update_none : (t : Term) (u v : Used) → v ≡ u → ((x : LeafNode) → v.proposal ≡ Update x → ⊥) → all_updated t (updates (u ∷ [])) ≡ Ok t
-unfolding all_updated
-update_none t u v seen other = sym (ap (λ (w : Used). all_updated t (updates (w ∷ []))) seen) ∙ ap (all_updated t) (update_isnt v other)
+pub update_none : (t : Term) (u v : Used) → v ≡ u → ((x : LeafNode) → v.proposal ≡ Update x → ⊥) → apply_updates t (updates (u ∷ [])) ≡ Ok t
+unfolding apply_updates
+update_none t u v seen other = sym (ap (λ (w : Used). apply_updates t (updates (w ∷ []))) seen) ∙ ap (apply_updates t) (update_isnt v other)
 
-after_update : (r : Result Term ℕ) (s : Term) (ys : List (ℕ × LeafNode)) → (r >>= λ x. all_updated x []) ≡ Ok s → (r >>= λ x. all_updated x ys) ≡ all_updated s ys
-unfolding all_updated
-after_update (Ok x) s ys h = ap (λ y. all_updated y ys) (ok_is x s h)
+after_update : (r : Result Term ℕ) (s : Term) (ys : List (ℕ × LeafNode)) → (r >>= λ x. apply_updates x []) ≡ Ok s → (r >>= λ x. apply_updates x ys) ≡ apply_updates s ys
+unfolding apply_updates
+after_update (Ok x) s ys h = ap (λ y. apply_updates y ys) (ok_is x s h)
 after_update (Err n) s ys h = cc
 
-refused_update : (r : Result Term ℕ) (n : ℕ) (ys : List (ℕ × LeafNode)) → (r >>= λ x. all_updated x []) ≡ Err n → (r >>= λ x. all_updated x ys) ≡ Err n
-unfolding all_updated
+refused_update : (r : Result Term ℕ) (n : ℕ) (ys : List (ℕ × LeafNode)) → (r >>= λ x. apply_updates x []) ≡ Err n → (r >>= λ x. apply_updates x ys) ≡ Err n
+unfolding apply_updates
 refused_update (Ok x) n ys h = cc
 refused_update (Err m) n ys h = cc
 
-update_then : (t : Term) (o : Option (ℕ × LeafNode)) (s : Term) (ys : List (ℕ × LeafNode)) → all_updated t (cons_option o []) ≡ Ok s → all_updated t (cons_option o ys) ≡ all_updated s ys
-unfolding all_updated
-update_then t None s ys h = ap (λ y. all_updated y ys) (ok_is t s h)
+update_then : (t : Term) (o : Option (ℕ × LeafNode)) (s : Term) (ys : List (ℕ × LeafNode)) → apply_updates t (cons_option o []) ≡ Ok s → apply_updates t (cons_option o ys) ≡ apply_updates s ys
+unfolding apply_updates
+update_then t None s ys h = ap (λ y. apply_updates y ys) (ok_is t s h)
 update_then t (Some v) s ys h = after_update (update_answer t v.0 v.1) s ys h
 
-update_stops : (t : Term) (o : Option (ℕ × LeafNode)) (n : ℕ) (ys : List (ℕ × LeafNode)) → all_updated t (cons_option o []) ≡ Err n → all_updated t (cons_option o ys) ≡ Err n
-unfolding all_updated
+update_stops : (t : Term) (o : Option (ℕ × LeafNode)) (n : ℕ) (ys : List (ℕ × LeafNode)) → apply_updates t (cons_option o []) ≡ Err n → apply_updates t (cons_option o ys) ≡ Err n
+unfolding apply_updates
 update_stops t None n ys h = cc
 update_stops t (Some v) n ys h = refused_update (update_answer t v.0 v.1) n ys h
 
 module _ (t : Term) (u : Used) (us : List Used) where
-  pub updates_more : (s : Term) → all_updated t (updates (u ∷ [])) ≡ Ok s → all_updated t (updates (u ∷ us)) ≡ all_updated s (updates us)
+  pub updates_more : (s : Term) → apply_updates t (updates (u ∷ [])) ≡ Ok s → apply_updates t (updates (u ∷ us)) ≡ apply_updates s (updates us)
   unfolding updates
   updates_more s h = update_then t (update_in u u.proposal) s _ h
 
-  pub updates_fail : (n : ℕ) → all_updated t (updates (u ∷ [])) ≡ Err n → all_updated t (updates (u ∷ us)) ≡ Err n
+  pub updates_fail : (n : ℕ) → apply_updates t (updates (u ∷ [])) ≡ Err n → apply_updates t (updates (u ∷ us)) ≡ Err n
   unfolding updates
   updates_fail n h = update_stops t (update_in u u.proposal) n _ h
 
-pub updates_end : (t : Term) → all_updated t (updates []) ≡ Ok t
-unfolding all_updated updates
+pub updates_end : (t : Term) → apply_updates t (updates []) ≡ Ok t
+unfolding apply_updates updates
 updates_end t = refl
 
 -- ---- removes
 
 module _ (t : Term) (i : ℕ) (is : List ℕ) where
-  pub removes_more : (s : Term) → remove_answer t i ≡ Ok s → all_removed t (i ∷ is) ≡ all_removed s is
-  unfolding all_removed
+  pub removes_more : (s : Term) → remove_answer t i ≡ Ok s → apply_removes t (i ∷ is) ≡ apply_removes s is
+  unfolding apply_removes
   removes_more s h = rw h refl
 
-  pub removes_fail : (n : ℕ) → remove_answer t i ≡ Err n → all_removed t (i ∷ is) ≡ Err n
-  unfolding all_removed
+  pub removes_fail : (n : ℕ) → remove_answer t i ≡ Err n → apply_removes t (i ∷ is) ≡ Err n
+  unfolding apply_removes
   removes_fail n h = rw h refl
 
-pub removes_end : (t : Term) → all_removed t [] ≡ Ok t
-unfolding all_removed
+pub removes_end : (t : Term) → apply_removes t [] ≡ Ok t
+unfolding apply_removes
 removes_end t = refl
 
 -- ---- adds
@@ -271,90 +271,90 @@ abbrev made : Term → List ℕ → Edits
 made t added = record { tree = t; added = added }
 
 -- no proposals leave the tree
-pub untouched : (t u : Term) (added : List ℕ) → u ≡ t → added ≡ [] → applied t [] ≡ Ok (made u added)
-unfolding applied all_updated updates all_removed removed all_added adds
+pub untouched : (t u : Term) (added : List ℕ) → u ≡ t → added ≡ [] → edit_tree t [] ≡ Ok (made u added)
+unfolding edit_tree apply_updates updates apply_removes removed_leaves apply_adds adds
 untouched t u added same none = sym (ap (λ (v : Term). Ok (made v added)) same ∙ ap (λ (xs : List ℕ). Ok (made t xs)) none)
 
 -- an add before those that follow
 abbrev before : ℕ → Result Edits ℕ → Result Edits ℕ
 before i r = r >>= λ later. Ok (made later.tree (i ∷ later.added))
 
-regrouped : (front : List ℕ) (i : ℕ) (r : Result Edits ℕ) → behind front (before i r) ≡ behind (front ++ i ∷ []) r
+regrouped : (front : List ℕ) (i : ℕ) (r : Result Edits ℕ) → prepend_added front (before i r) ≡ prepend_added (front ++ i ∷ []) r
 regrouped front i (Ok e) = ap (λ xs. Ok (made e.tree xs)) (sym (append_assoc front (i ∷ []) e.added))
 regrouped front i (Err n) = refl
 
-again : (front : List ℕ) (t : Term) (rest : List ℕ) (s : Term) (ys : List KeyPackage) → made t front ≡ made s rest → behind front (all_added t ys) ≡ behind rest (all_added s ys)
-again front t rest s ys e = ap (λ (m : Edits). behind m.added (all_added m.tree ys)) e
+again : (front : List ℕ) (t : Term) (rest : List ℕ) (s : Term) (ys : List KeyPackage) → made t front ≡ made s rest → prepend_added front (apply_adds t ys) ≡ prepend_added rest (apply_adds s ys)
+again front t rest s ys e = ap (λ (m : Edits). prepend_added m.added (apply_adds m.tree ys)) e
 
 after_add : (front : List ℕ) (r : Result (ℕ × Term) ℕ) (s : Term) (rest : List ℕ) (ys : List KeyPackage)
-    → behind front (r >>= λ first. before first.0 (all_added first.1 [])) ≡ Ok (made s rest) → behind front (r >>= λ first. before first.0 (all_added first.1 ys)) ≡ behind rest (all_added s ys)
-unfolding all_added
+    → prepend_added front (r >>= λ first. before first.0 (apply_adds first.1 [])) ≡ Ok (made s rest) → prepend_added front (r >>= λ first. before first.0 (apply_adds first.1 ys)) ≡ prepend_added rest (apply_adds s ys)
+unfolding apply_adds
 after_add front (Ok first) s rest ys h =
-    regrouped front first.0 (all_added first.1 ys) ∙ again (front ++ first.0 ∷ []) first.1 rest s ys (ok_is (made first.1 (front ++ first.0 ∷ [])) (made s rest) h)
+    regrouped front first.0 (apply_adds first.1 ys) ∙ again (front ++ first.0 ∷ []) first.1 rest s ys (ok_is (made first.1 (front ++ first.0 ∷ [])) (made s rest) h)
 after_add front (Err n) s rest ys h = cc
 
 refused_add : (front : List ℕ) (r : Result (ℕ × Term) ℕ) (n : ℕ) (ys : List KeyPackage)
-    → behind front (r >>= λ first. before first.0 (all_added first.1 [])) ≡ Err n → behind front (r >>= λ first. before first.0 (all_added first.1 ys)) ≡ Err n
-unfolding all_added
+    → prepend_added front (r >>= λ first. before first.0 (apply_adds first.1 [])) ≡ Err n → prepend_added front (r >>= λ first. before first.0 (apply_adds first.1 ys)) ≡ Err n
+unfolding apply_adds
 refused_add front (Ok first) n ys h = cc
 refused_add front (Err m) n ys h = cc
 
-add_then : (front : List ℕ) (t : Term) (o : Option KeyPackage) (s : Term) (rest : List ℕ) (ys : List KeyPackage) → behind front (all_added t (cons_option o [])) ≡ Ok (made s rest) → behind front (all_added t (cons_option o ys)) ≡ behind rest (all_added s ys)
-unfolding all_added
+add_then : (front : List ℕ) (t : Term) (o : Option KeyPackage) (s : Term) (rest : List ℕ) (ys : List KeyPackage) → prepend_added front (apply_adds t (cons_option o [])) ≡ Ok (made s rest) → prepend_added front (apply_adds t (cons_option o ys)) ≡ prepend_added rest (apply_adds s ys)
+unfolding apply_adds
 add_then front t None s rest ys h =
     again front t rest s ys (sym (ap (made t) (append-nil front)) ∙ ok_is (made t (front ++ [])) (made s rest) h)
 add_then front t (Some x) s rest ys h = after_add front (add_answer t x.leaf_node) s rest ys h
 
-add_stops : (front : List ℕ) (t : Term) (o : Option KeyPackage) (n : ℕ) (ys : List KeyPackage) → behind front (all_added t (cons_option o [])) ≡ Err n → behind front (all_added t (cons_option o ys)) ≡ Err n
-unfolding all_added
+add_stops : (front : List ℕ) (t : Term) (o : Option KeyPackage) (n : ℕ) (ys : List KeyPackage) → prepend_added front (apply_adds t (cons_option o [])) ≡ Err n → prepend_added front (apply_adds t (cons_option o ys)) ≡ Err n
+unfolding apply_adds
 add_stops front t None n ys h = cc
 add_stops front t (Some x) n ys h = refused_add front (add_answer t x.leaf_node) n ys h
 
 add_alone : (front : List ℕ) (r : Result (ℕ × Term) ℕ) → Result Edits ℕ
 add_alone front r = r >>= λ first. Ok (made first.1 (front ++ first.0 ∷ []))
 
-add_whole : (front : List ℕ) (r : Result (ℕ × Term) ℕ) → behind front (r >>= λ first. before first.0 (all_added first.1 [])) ≡ add_alone front r
-unfolding all_added add_alone
+add_whole : (front : List ℕ) (r : Result (ℕ × Term) ℕ) → prepend_added front (r >>= λ first. before first.0 (apply_adds first.1 [])) ≡ add_alone front r
+unfolding apply_adds add_alone
 add_whole front (Ok first) = refl
 add_whole front (Err n) = refl
 
-added_alone : (t : Term) (front : List ℕ) (x : LeafNode) (r : Result (ℕ × Term) ℕ) (k : KeyPackage) → x ≡ k.leaf_node → add_answer t x ≡ r → behind front (all_added t (k ∷ [])) ≡ add_alone front r
-unfolding all_added
+added_alone : (t : Term) (front : List ℕ) (x : LeafNode) (r : Result (ℕ × Term) ℕ) (k : KeyPackage) → x ≡ k.leaf_node → add_answer t x ≡ r → prepend_added front (apply_adds t (k ∷ [])) ≡ add_alone front r
+unfolding apply_adds
 added_alone t front x r k same done = add_whole front (add_answer t k.leaf_node) ∙ ap (add_alone front) (sym (ap (add_answer t) same) ∙ done)
 
 module _ (t : Term) (u v : Used) (front : List ℕ) (seen : v ≡ u) where
-  pub add_done : (x : KeyPackage) (y : LeafNode) (i : ℕ) (s : Term) → v.proposal ≡ Add x → y ≡ x.leaf_node → add_answer t y ≡ Ok (i, s) → behind front (all_added t (adds (u ∷ []))) ≡ Ok (made s (front ++ i ∷ []))
+  pub add_done : (x : KeyPackage) (y : LeafNode) (i : ℕ) (s : Term) → v.proposal ≡ Add x → y ≡ x.leaf_node → add_answer t y ≡ Ok (i, s) → prepend_added front (apply_adds t (adds (u ∷ []))) ≡ Ok (made s (front ++ i ∷ []))
   unfolding add_alone
   add_done x y i s is same done =
-      sym (ap (λ (w : Used). behind front (all_added t (adds (w ∷ [])))) seen)
-      ∙ ap (λ xs. behind front (all_added t xs)) (add_is v x is) ∙ added_alone t front y (Ok (i, s)) x same done
+      sym (ap (λ (w : Used). prepend_added front (apply_adds t (adds (w ∷ [])))) seen)
+      ∙ ap (λ xs. prepend_added front (apply_adds t xs)) (add_is v x is) ∙ added_alone t front y (Ok (i, s)) x same done
 
-  pub add_refused : (x : KeyPackage) (y : LeafNode) (n : ℕ) → v.proposal ≡ Add x → y ≡ x.leaf_node → add_answer t y ≡ Err n → behind front (all_added t (adds (u ∷ []))) ≡ Err n
+  pub add_refused : (x : KeyPackage) (y : LeafNode) (n : ℕ) → v.proposal ≡ Add x → y ≡ x.leaf_node → add_answer t y ≡ Err n → prepend_added front (apply_adds t (adds (u ∷ []))) ≡ Err n
   unfolding add_alone
   add_refused x y n is same done =
-      sym (ap (λ (w : Used). behind front (all_added t (adds (w ∷ [])))) seen)
-      ∙ ap (λ xs. behind front (all_added t xs)) (add_is v x is) ∙ added_alone t front y (Err n) x same done
+      sym (ap (λ (w : Used). prepend_added front (apply_adds t (adds (w ∷ [])))) seen)
+      ∙ ap (λ xs. prepend_added front (apply_adds t xs)) (add_is v x is) ∙ added_alone t front y (Err n) x same done
 
-  pub add_none : ((x : KeyPackage) → v.proposal ≡ Add x → ⊥) → behind front (all_added t (adds (u ∷ []))) ≡ Ok (made t front)
-  unfolding all_added
+  pub add_none : ((x : KeyPackage) → v.proposal ≡ Add x → ⊥) → prepend_added front (apply_adds t (adds (u ∷ []))) ≡ Ok (made t front)
+  unfolding apply_adds
   add_none other =
-      sym (ap (λ (w : Used). behind front (all_added t (adds (w ∷ [])))) seen)
-      ∙ ap (λ xs. behind front (all_added t xs)) (add_isnt v other) ∙ ap (λ xs. Ok (made t xs)) (append-nil front)
+      sym (ap (λ (w : Used). prepend_added front (apply_adds t (adds (w ∷ [])))) seen)
+      ∙ ap (λ xs. prepend_added front (apply_adds t xs)) (add_isnt v other) ∙ ap (λ xs. Ok (made t xs)) (append-nil front)
 
 module _ (t : Term) (front : List ℕ) (u : Used) (us : List Used) where
-  pub adds_more : (s : Term) (rest : List ℕ) → behind front (all_added t (adds (u ∷ []))) ≡ Ok (made s rest) → behind front (all_added t (adds (u ∷ us))) ≡ behind rest (all_added s (adds us))
+  pub adds_more : (s : Term) (rest : List ℕ) → prepend_added front (apply_adds t (adds (u ∷ []))) ≡ Ok (made s rest) → prepend_added front (apply_adds t (adds (u ∷ us))) ≡ prepend_added rest (apply_adds s (adds us))
   unfolding adds
   adds_more s rest h = add_then front t (add_in u.proposal) s rest _ h
 
-  pub adds_fail : (n : ℕ) → behind front (all_added t (adds (u ∷ []))) ≡ Err n → behind front (all_added t (adds (u ∷ us))) ≡ Err n
+  pub adds_fail : (n : ℕ) → prepend_added front (apply_adds t (adds (u ∷ []))) ≡ Err n → prepend_added front (apply_adds t (adds (u ∷ us))) ≡ Err n
   unfolding adds
   adds_fail n h = add_stops front t (add_in u.proposal) n _ h
 
-pub adds_end : (t : Term) (front : List ℕ) → behind front (all_added t (adds [])) ≡ Ok (made t front)
-unfolding all_added adds
+pub adds_end : (t : Term) (front : List ℕ) → prepend_added front (apply_adds t (adds [])) ≡ Ok (made t front)
+unfolding apply_adds adds
 adds_end t front = ap (λ xs. Ok (made t xs)) (append-nil front)
 
 -- with nothing in front
-pub adds_alone : (r : Result Edits ℕ) → behind [] r ≡ r
+pub adds_alone : (r : Result Edits ℕ) → prepend_added [] r ≡ r
 adds_alone (Ok e) = refl
 adds_alone (Err n) = refl

@@ -15,12 +15,12 @@ use Rattle.mls_tree_model.specs.Resolution.{is_reached}
 use Rattle.mls_tree_model.specs.Merge.{new_parent, keys_below, hash_below, merge, merge_path}
 use Rattle.mls_tree.specs.Tree.{add_answer, update_answer, remove_answer}
 use Rattle.mls_tree.proofs.Steps.{update_steps, remove_steps, add_steps}
-use Rattle.mls_model.specs.Public.{Used}
-use Rattle.mls_model.specs.Proposals.{updates, removed, adds}
-use Rattle.mls_model.specs.Commit.{Edits, all_updated, all_removed, all_added}
+use Rattle.mls_model.specs.PublicState.{Used}
+use Rattle.mls_model.specs.Proposals.{updates, removed_leaves, adds}
+use Rattle.mls_model.specs.Commit.{Edits, apply_updates, apply_removes, apply_adds}
 use Rattle.mls_public_group.specs.Short.{AreBelow, HasLeavesBelow, IsBelow}
 use Rattle.mls_public_group.proofs.ShortLaws.{below_more, updates_below, adds_below}
-use Rattle.mls_public_group.specs.Edited.{applied}
+use Rattle.mls_public_group.specs.ProposalList.{edit_tree}
 
 -- each member's leaf has it
 unfoldable pub AllLeaves : (LeafNode → Type 0) → Term → Type 0
@@ -133,41 +133,41 @@ module _ (P : LeafNode → Type 0) where
 
   -- ---- the proposals of a commit
 
-  pub leaves_updated : (us : List (ℕ × LeafNode)) (t s : Term) → AllByRecursion (λ (u : ℕ × LeafNode). P u.1) us → all_updated t us ≡ Ok s → AllLeaves P t → AllLeaves P s
-  unfolding all_updated
+  pub leaves_updated : (us : List (ℕ × LeafNode)) (t s : Term) → AllByRecursion (λ (u : ℕ × LeafNode). P u.1) us → apply_updates t us ≡ Ok s → AllLeaves P t → AllLeaves P s
+  unfolding apply_updates
   leaves_updated [] t s p h q = subst (AllLeaves P) (ok_is t s h) q
   leaves_updated (u ∷ us) t s p h q =
-      let first = bind_ok (update_answer t u.0 u.1) (λ r. all_updated r us) s h in
+      let first = bind_ok (update_answer t u.0 u.1) (λ r. apply_updates r us) s h in
       let is = update_steps t u.0 u.1 first.0 first.1 in
       leaves_updated us first.0 s p.1 first.2 (subst (AllLeaves P) (sym is.tree) (leaves_put 0 t u.0 (Some u.1) p.0 q))
 
-  pub leaves_removed : (is : List ℕ) (t s : Term) → all_removed t is ≡ Ok s → AllLeaves P t → AllLeaves P s
-  unfolding all_removed
+  pub leaves_removed : (is : List ℕ) (t s : Term) → apply_removes t is ≡ Ok s → AllLeaves P t → AllLeaves P s
+  unfolding apply_removes
   leaves_removed [] t s h q = subst (AllLeaves P) (ok_is t s h) q
   leaves_removed (i ∷ is) t s h q =
-      let first = bind_ok (remove_answer t i) (λ r. all_removed r is) s h in
+      let first = bind_ok (remove_answer t i) (λ r. apply_removes r is) s h in
       let one = remove_steps t i first.0 first.1 in
       leaves_removed is first.0 s first.2 (subst (AllLeaves P) (sym one.tree) (leaves_remove t i q))
 
-  pub leaves_added : (xs : List KeyPackage) (t : Term) (e : Edits) → AllByRecursion (λ (x : KeyPackage). P x.leaf_node) xs → all_added t xs ≡ Ok e → AllLeaves P t → AllLeaves P e.tree
-  unfolding all_added
+  pub leaves_added : (xs : List KeyPackage) (t : Term) (e : Edits) → AllByRecursion (λ (x : KeyPackage). P x.leaf_node) xs → apply_adds t xs ≡ Ok e → AllLeaves P t → AllLeaves P e.tree
+  unfolding apply_adds
   leaves_added [] t e p h q =
       let made : Edits = record { tree = t; added = [] } in
       subst (AllLeaves P) (ap (λ (f : Edits). f.tree) (ok_is made e h)) q
   leaves_added (x ∷ xs) t e p h q =
       let first = bind_ok (add_answer t x.leaf_node) _ e h in
       let is = add_steps t x.leaf_node first.0.0 first.0.1 first.1 in
-      let later = bind_ok (all_added first.0.1 xs) _ e first.2 in
+      let later = bind_ok (apply_adds first.0.1 xs) _ e first.2 in
       let made : Edits = record { tree = later.0.tree; added = first.0.0 ∷ later.0.added } in
       subst (AllLeaves P) (ap (λ (f : Edits). f.tree) (ok_is made e later.2))
       (leaves_added xs first.0.1 later.0 p.1 later.1 (subst (AllLeaves P) (sym is.tree) (leaves_add t x.leaf_node p.0 q)))
 
-  pub leaves_applied : (t : Term) (used : List Used) (e : Edits) → AllByRecursion (λ (u : ℕ × LeafNode). P u.1) (updates used) → AllByRecursion (λ (x : KeyPackage). P x.leaf_node) (adds used) → applied t used ≡ Ok e → AllLeaves P t → AllLeaves P e.tree
-  unfolding applied
+  pub leaves_applied : (t : Term) (used : List Used) (e : Edits) → AllByRecursion (λ (u : ℕ × LeafNode). P u.1) (updates used) → AllByRecursion (λ (x : KeyPackage). P x.leaf_node) (adds used) → edit_tree t used ≡ Ok e → AllLeaves P t → AllLeaves P e.tree
+  unfolding edit_tree
   leaves_applied t used e us xs h q =
-      let one = bind_ok (all_updated t (updates used)) _ e h in
-      let two = bind_ok (all_removed one.0 (removed used)) _ e one.2 in
-      leaves_added (adds used) two.0 e xs two.2 (leaves_removed (removed used) one.0 two.0 two.1 (leaves_updated (updates used) t one.0 us one.1 q))
+      let one = bind_ok (apply_updates t (updates used)) _ e h in
+      let two = bind_ok (apply_removes one.0 (removed_leaves used)) _ e one.2 in
+      leaves_added (adds used) two.0 e xs two.2 (leaves_removed (removed_leaves used) one.0 two.0 two.1 (leaves_updated (updates used) t one.0 us one.1 q))
 
 -- ---- how long they are
 
@@ -179,7 +179,7 @@ pub leaves_longer : (m n : ℕ) (t : Term) → m ≤ n → HasLeavesBelow m t �
 leaves_longer m n t le h = λ i. longer m n (leaf_of t i) le (h i)
 
 -- after the proposals they are below what the old ones and the proposals are below
-pub below_applied : (n : ℕ) (t : Term) (used : List Used) (e : Edits) → AreBelow n used → applied t used ≡ Ok e → HasLeavesBelow n t → HasLeavesBelow n e.tree
+pub below_applied : (n : ℕ) (t : Term) (used : List Used) (e : Edits) → AreBelow n used → edit_tree t used ≡ Ok e → HasLeavesBelow n t → HasLeavesBelow n e.tree
 below_applied n t used e short h q =
     leaves_of (IsBelow n leaf_node) e.tree
     (leaves_applied (IsBelow n leaf_node) t used e (updates_below n used short) (adds_below n used short) h (leaves_from (IsBelow n leaf_node) t q))

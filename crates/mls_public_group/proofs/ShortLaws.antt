@@ -18,7 +18,7 @@ use Rattle.mls_types.specs.declared.group_context.GroupContext.{GroupContext}
 use Rattle.mls_tree_model.proofs.LengthLaws.{length-tree_hash}
 use Rattle.mls_tree_model.specs.Term.{Term}
 use Rattle.mls_checks.specs.Short.{IsShort}
-use Rattle.mls_model.specs.Public.{Used, provisional_context}
+use Rattle.mls_model.specs.PublicState.{Used, provisional_context}
 use Rattle.mls_model.specs.Proposals.{update_in, add_in, updates, adds}
 use Rattle.mls_public_group.specs.Short.{AreBelow, IsBelow, IsShortContext}
 use Rattle.mls_public_group.proofs.Lengths.{context_length}

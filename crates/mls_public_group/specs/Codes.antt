@@ -11,7 +11,7 @@ use Rattle.mls_leaf.specs.declared.proposal.Proposal.TheVariants as proposal
 use Rattle.mls_leaf.specs.declared.leaf.Capabilities.{Capabilities}
 use Rattle.mls_leaf.specs.declared.leaf.LeafNode.{LeafNode}
 use Rattle.mls_leaf.specs.declared.leaf.LeafSource.{LeafSource}
-use Rattle.mls_leaf.specs.declared.leaf.LeafSource.TheVariants as made_for
+use Rattle.mls_leaf.specs.declared.leaf.LeafSource.TheVariants as leaf_node_source
 use Rattle.mls_tree_model.specs.Term.{Term, Leaf, Branch}
 
 -- ---- leaves and parents
@@ -26,19 +26,19 @@ coded_capabilities =
     (λ p. record { versions = p.0; cipher_suites = p.1.0; extensions = p.1.1.0; proposals = p.1.1.1.0; credentials = p.1.1.1.1 }) (λ _. refl)
 
 abbrev source_cases : LeafSource → (ℕ × ℕ) ⊎ Option (List ℕ)
-source_cases (made_for.KeyPackage x y) = inl (x, y)
-source_cases made_for.Update = inr None
-source_cases (made_for.Commit hash) = inr (Some hash)
+source_cases (leaf_node_source.KeyPackage x y) = inl (x, y)
+source_cases leaf_node_source.Update = inr None
+source_cases (leaf_node_source.Commit hash) = inr (Some hash)
 
 abbrev source_of : (ℕ × ℕ) ⊎ Option (List ℕ) → LeafSource
-source_of (inl p) = made_for.KeyPackage p.0 p.1
-source_of (inr None) = made_for.Update
-source_of (inr (Some hash)) = made_for.Commit hash
+source_of (inl p) = leaf_node_source.KeyPackage p.0 p.1
+source_of (inr None) = leaf_node_source.Update
+source_of (inr (Some hash)) = leaf_node_source.Commit hash
 
 pub source_again : (s : LeafSource) → source_of (source_cases s) ≡ s
-source_again (made_for.KeyPackage x y) = refl
-source_again made_for.Update = refl
-source_again (made_for.Commit hash) = refl
+source_again (leaf_node_source.KeyPackage x y) = refl
+source_again leaf_node_source.Update = refl
+source_again (leaf_node_source.Commit hash) = refl
 
 abbrev coded_source : Coded LeafSource
 coded_source = code_by ((ℕ × ℕ) ⊎ Option (List ℕ)) (coded⊎ (coded× coded_ℕ coded_ℕ) (coded_option coded_bytes)) source_cases source_of source_again

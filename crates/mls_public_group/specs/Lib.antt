@@ -4,6 +4,6 @@ pub mod Short
 pub mod Codes
 pub mod PublicCodes
 pub mod Numbers
-pub mod Edited
+pub mod ProposalList
 pub mod NextTree
 pub mod ShortProposal

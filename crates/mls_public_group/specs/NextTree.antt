@@ -1,7 +1,7 @@
 -- The ratchet tree of the next epoch.
 use Rattle.mls_tree_model.specs.Term.{Term}
 use Rattle.mls_tree.specs.Tree.{term}
-use Rattle.mls_tree.specs.Prepared.{merged_by, IsFor}
+use Rattle.mls_tree.specs.PreparedPath.{merged_by, IsFor}
 use Rattle.mls_public_group.specs.declared.next_tree.NextTree.{NextTree}
 use Rattle.mls_public_group.specs.declared.next_tree.NextTree.TheVariants.{Edited, EditedMerged, Merged}
 use Rattle.std.specs.Prelude.{Bool, true, false}
@@ -13,10 +13,10 @@ next_term t (EditedMerged u p) = merged_by (term u) p
 next_term t (Merged p) = merged_by t p
 
 -- a path was prepared for the tree that it is merged into
-unfoldable pub Follows : Term → NextTree → Type 0
-Follows t (Edited u) = Unit {0}
-Follows t (EditedMerged u p) = IsFor (term u) p
-Follows t (Merged p) = IsFor t p
+unfoldable pub IsPreparedFor : Term → NextTree → Type 0
+IsPreparedFor t (Edited u) = Unit {0}
+IsPreparedFor t (EditedMerged u p) = IsFor (term u) p
+IsPreparedFor t (Merged p) = IsFor t p
 
 -- whether it is the group's own tree with a path
 abbrev pub is_merged : NextTree → Bool

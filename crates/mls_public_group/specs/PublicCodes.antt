@@ -4,7 +4,7 @@ use Rattle.std.proofs.Common.{refl}
 use Rattle.std.specs.Coded.{Coded, code_by, coded×, coded_ℕ, coded_list}
 use Rattle.mls_types.specs.declared.group_context.GroupContext.{GroupContext}
 use Rattle.mls_tree_model.specs.Term.{Term}
-use Rattle.mls_model.specs.Public.{PublicState}
+use Rattle.mls_model.specs.PublicState.{PublicState}
 use Rattle.mls_model.specs.Commit.{Edits}
 use Rattle.mls_public_group.specs.Codes.{coded_tree}
 

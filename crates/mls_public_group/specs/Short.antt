@@ -6,7 +6,7 @@ use Rattle.mls_leaf.specs.Leaf.{leaf_node}
 use Rattle.mls_leaf.specs.Proposal.{proposal}
 use Rattle.mls_types.specs.declared.group_context.GroupContext.{GroupContext}
 use Rattle.mls_tree_model.specs.Term.{Term, leaf_of}
-use Rattle.mls_model.specs.Public.{Used}
+use Rattle.mls_model.specs.PublicState.{Used}
 
 -- the value has a spelling, of fewer than n bytes
 pub record IsBelow {V : Type 0} (n : ℕ) (format : Format V) (v : V) : Type 0 where

@@ -4,7 +4,7 @@ ghost use Rattle.std.specs.Prelude.{◌≡◌, ◌+◌, ◌<◌, ◌^◌, IfOk, 
 ghost use Rattle.mls_types.specs.GroupContext.{group_context};
 ghost use Rattle.mls_tree_model.specs.Hashes.{tree_hash};
 ghost use Rattle.mls_tree_model.specs.Term.{Term};
-ghost use Rattle.mls_model.specs.Public as model;
+ghost use Rattle.mls_model.specs.PublicState as model;
 ghost use Rattle.mls_public_group.specs.Short.{IsShortContext};
 
 use crate::spelling::spelling;
@@ -14,7 +14,7 @@ use mls_tree::Hash;
 use std::alloc::{AllocError, Global};
 
 /// The next epoch's context with the new tree's hash, and as yet the old transcript (RFC 9420, 12.4.1).
-#[tactic(auto, unfolding(mls_model::specs::Public::provisional_context))]
+#[tactic(auto, unfolding(mls_model::specs::PublicState::provisional_context))]
 pub fn provisional_context(
     alloc: Global,
     old: &GroupContext,

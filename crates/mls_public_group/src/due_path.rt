@@ -3,9 +3,9 @@
 ghost use Rattle.std.specs.Prelude.{◌≡◌};
 ghost use Rattle.std.specs.List.{list_any};
 ghost use Rattle.mls_model.specs.Proposals as proposals;
-ghost use Rattle.mls_model.specs.Public as model;
+ghost use Rattle.mls_model.specs.PublicState as model;
 
-use crate::used::Used;
+use crate::used_proposal::Used;
 use mls_leaf::Proposal;
 
 /// Whether a proposal asks for a path: each but an add (RFC 9420, 17.4).
@@ -16,7 +16,7 @@ fn asks_for_path(proposal: &Proposal) -> bool
 }
 
 /// Whether one of them asks for a path.
-fn some_ask(used: &[Used<'_>]) -> bool
+fn any_asks_for_path(used: &[Used<'_>]) -> bool
     ensures { result ≡ list_any (λ (u : model.Used). proposals.asks_for_path u.proposal) used.now }
 {
     used.iter().any(|u| asks_for_path(u.proposal))
@@ -30,5 +30,5 @@ pub fn is_path_required(used: &[Used<'_>]) -> bool
     if used.is_empty() {
         return true;
     }
-    some_ask(used)
+    any_asks_for_path(used)
 }

@@ -2,18 +2,18 @@
 
 ghost use Rattle.std.specs.Prelude.{◌≤◌, ◌^◌, ℕ, IfOk};
 ghost use Rattle.mls_wire.specs.Checks.{Answers, passed};
-ghost use Rattle.mls_model.specs.Commit.{edited};
-ghost use Rattle.mls_public_group.specs.Edited.{apart_after};
+ghost use Rattle.mls_model.specs.Commit.{apply_proposals};
+ghost use Rattle.mls_public_group.specs.ProposalList.{edited_tree_checks};
 ghost use Rattle.mls_public_group.specs.Faults.{number_of};
 ghost use Rattle.mls_public_group.specs.Short.{AreBelow, HasLeavesBelow};
 
-use crate::applied::applied;
-use crate::changed::require_apart;
+use crate::proposal_list::edit_tree;
+use crate::changed_leaves::check_proposal_list;
 use crate::error::GroupError;
 use crate::group::PublicGroup;
 use crate::references::has_distinct_references;
 use crate::shared_tree::SharedTree;
-use crate::used::Used;
+use crate::used_proposal::Used;
 use mls_suite::Suite;
 use mls_tree::TreeError;
 use std::alloc::Global;
@@ -42,10 +42,10 @@ impl Model for Edits {
 
 /// That no two members have one signature key (26), no two adds one reference (26), and no two nodes one encryption key
 /// (25).
-#[tactic(auto, unfolding(crate::specs::Edited::apart_after))]
+#[tactic(auto, unfolding(crate::specs::ProposalList::edited_tree_checks))]
 fn require_distinct(alloc: Global, edits: &Edits, used: &[Used<'_>]) -> Result<(), GroupError>
     requires { AreBelow (2 ^ 28) used.now }
-    ensures { Answers (λ _. passed) number_of (apart_after edits.now used.now) result }
+    ensures { Answers (λ _. passed) number_of (edited_tree_checks edits.now used.now) result }
 {
     if !edits.tree.as_tree().has_distinct_clients() {
         return Err(GroupError::Tree(TreeError::ClientRepeated));
@@ -64,20 +64,20 @@ impl PublicGroup {
     /// proposal in full; 61 an update of the committer, 62 its removal, 63 two updates or removes of one leaf; 22 no member
     /// is where one is updated or removed; 21 the tree is too large; 26 two members have one signature key, or two adds one
     /// reference; 25 two nodes have one encryption key (RFC 9420, 12.2, 12.3 and 7.3). The group stays as it is.
-    pub fn edited<S: Suite>(
+    pub fn apply_proposals<S: Suite>(
         &self,
         alloc: Global,
         committer: u32,
         used: &[Used<'_>],
     ) -> Result<Edits, GroupError>
         requires { AreBelow (2 ^ 28) used.now }
-        ensures answer { Answers (λ e. e) number_of (edited S.crypto self.now committer used.now) result }
+        ensures answer { Answers (λ e. e) number_of (apply_proposals S.crypto self.now committer used.now) result }
         // Its leaves are as short as the group's and the proposals.
         ensures below { IfOk result (λ e. (n : ℕ) → 2 ^ 27 ≤ n → AreBelow n used.now → HasLeavesBelow n e.tree) }
     {
         self.require_full::<S>(alloc, used)?;
-        require_apart(alloc, committer, used)?;
-        let edits = applied(alloc, &self.tree, used)?;
+        check_proposal_list(alloc, committer, used)?;
+        let edits = edit_tree(alloc, &self.tree, used)?;
         require_distinct(alloc, &edits, used)?;
         Ok(edits)
     }

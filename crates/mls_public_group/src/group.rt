@@ -3,7 +3,7 @@
 ghost use Rattle.std.specs.Prelude.{◌≡◌, ◌^◌, IfOk, OnOk, OnErr};
 ghost use Rattle.mls_types.specs.GroupContext.{group_context};
 ghost use Rattle.mls_tree.specs.Tree.{term};
-ghost use Rattle.mls_public_group.specs.NextTree.{next_term, Follows};
+ghost use Rattle.mls_public_group.specs.NextTree.{next_term, IsPreparedFor};
 ghost use Rattle.mls_public_group.specs.Short.{HasLeavesBelow, IsShortContext};
 
 use crate::next_tree::NextTree;
@@ -32,7 +32,7 @@ impl Model for PublicGroup {
     ghost use Rattle.mls_types.specs.GroupContext.{group_context};
     ghost use Rattle.mls_tree.specs.Tree.{term};
     ghost use Rattle.mls_public_group.specs.Short.{HasLeavesBelow, IsShortContext};
-    ghost use Rattle.mls_model.specs.Public.{PublicState};
+    ghost use Rattle.mls_model.specs.PublicState.{PublicState};
     ghost use Rattle.mls_public_group.specs.PublicCodes.{coded_public};
 
     ghost Value = { PublicState };
@@ -75,7 +75,7 @@ impl PublicGroup {
         transcript: Transcript,
     ) -> Result<(), AllocError>
         requires context { IsShortContext context }
-        requires follows { Follows self.old.tree tree }
+        requires follows { IsPreparedFor self.old.tree tree }
         requires leaves { HasLeavesBelow (2 ^ 27) (next_term self.old.tree tree) }
         ensures next { OnOk result (self.new ≡ record { context = context; tree = next_term self.old.tree tree; interim = transcript }) }
         ensures same { OnErr result (self.new ≡ self.old) }

@@ -2,8 +2,8 @@
 //! make of the tree (RFC 9420, 12.1 to 12.3).
 #![tactic(auto)]
 
-mod applied;
-mod changed;
+mod proposal_list;
+mod changed_leaves;
 mod contexts;
 mod distinct;
 mod due_path;
@@ -16,7 +16,7 @@ mod proposals;
 mod references;
 mod shared_tree;
 mod spelling;
-mod used;
+mod used_proposal;
 
 pub use contexts::{context_spelling, provisional_context};
 pub use due_path::is_path_required;
@@ -26,4 +26,4 @@ pub use group::PublicGroup;
 pub use laws::{group_names_by_number, short_leaves_after_path};
 pub use next_tree::NextTree;
 pub use shared_tree::SharedTree;
-pub use used::Used;
+pub use used_proposal::Used;

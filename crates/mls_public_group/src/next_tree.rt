@@ -4,7 +4,7 @@ ghost use Rattle.std.specs.Prelude.{◌≡◌, OnOk, OnErr};
 ghost use Rattle.mls_tree_model.specs.Term.{Term};
 ghost use Rattle.mls_tree_model.specs.Hashes.{tree_hash};
 ghost use Rattle.mls_tree.specs.Tree.{term};
-ghost use Rattle.mls_public_group.specs.NextTree.{next_term, Follows};
+ghost use Rattle.mls_public_group.specs.NextTree.{next_term, IsPreparedFor};
 
 use crate::shared_tree::SharedTree;
 use mls_tree::{Hash, PreparedPath};
@@ -24,9 +24,9 @@ pub enum NextTree {
 
 impl NextTree {
     /// The tree hash (RFC 9420, 7.8).
-    #[tactic(auto, unfolding(crate::specs::NextTree::next_term, crate::specs::NextTree::Follows))]
+    #[tactic(auto, unfolding(crate::specs::NextTree::next_term, crate::specs::NextTree::IsPreparedFor))]
     pub fn tree_hash(&self) -> Hash
-        ensures { (t : Term) → Follows t self.now → result ≡ tree_hash 0 (next_term t self.now) }
+        ensures { (t : Term) → IsPreparedFor t self.now → result ≡ tree_hash 0 (next_term t self.now) }
     {
         match self {
             NextTree::Edited(tree) => tree.tree_hash(),
@@ -38,9 +38,9 @@ impl NextTree {
 
 impl SharedTree {
     /// Becomes the next epoch's tree. Without memory it is as before.
-    #[tactic(auto, unfolding(crate::specs::NextTree::next_term, crate::specs::NextTree::Follows))]
+    #[tactic(auto, unfolding(crate::specs::NextTree::next_term, crate::specs::NextTree::IsPreparedFor))]
     pub(crate) fn enter(&mut self, next: NextTree) -> Result<(), AllocError>
-        requires { Follows (term self.old) next }
+        requires { IsPreparedFor (term self.old) next }
         ensures next { OnOk result (term self.new ≡ next_term (term self.old) next) }
         ensures same { OnErr result (term self.new ≡ term self.old) }
     {

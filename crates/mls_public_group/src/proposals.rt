@@ -15,7 +15,7 @@ ghost use Rattle.mls_public_group.specs.Short.{AreBelow, IsBelow};
 
 use crate::error::GroupError;
 use crate::group::PublicGroup;
-use crate::used::Used;
+use crate::used_proposal::Used;
 use mls_checks::{CheckError, Source, key_package, replaced};
 use mls_leaf::{LeafNode, Proposal};
 use mls_suite::Suite;

@@ -2,13 +2,13 @@
 
 ghost use Rattle.std.specs.Prelude.{◌≡◌, ◌^◌, [], ◌∷◌, ◌++◌, map, IfOk, OnOk};
 ghost use Rattle.mls_leaf.specs.Proposal.{proposal as proposal_format};
-ghost use Rattle.mls_tree_array.specs.Merged.{bytes_in};
+ghost use Rattle.mls_tree_array.specs.DistinctStrings.{bytes_in};
 ghost use Rattle.mls_tree_model.specs.Sets.{is_distinct, same_bytes};
 ghost use Rattle.mls_model.specs.Proposals.{adds, package_reference};
 ghost use Rattle.mls_public_group.specs.Short.{AreBelow, IsBelow};
 
 use crate::spelling::spelling;
-use crate::used::Used;
+use crate::used_proposal::Used;
 use mls_tree_array::are_distinct;
 use mls_kdf::Secret;
 use mls_leaf::{KeyPackage, Proposal, key_package_reference};

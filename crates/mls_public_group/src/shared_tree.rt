@@ -2,8 +2,8 @@
 
 ghost use Rattle.std.specs.Prelude.{◌≡◌, IfOk, OnOk, OnErr};
 ghost use Rattle.mls_tree_model.specs.Hashes.{tree_hash};
-ghost use Rattle.mls_tree_array.specs.Kept.{hashes_of};
-ghost use Rattle.mls_tree.specs.Prepared.{merged_by, IsFor};
+ghost use Rattle.mls_tree_array.specs.KeptHashes.{hashes_of};
+ghost use Rattle.mls_tree.specs.PreparedPath.{merged_by, IsFor};
 ghost use Rattle.mls_tree.specs.Tree.{term};
 
 use mls_tree::{Hash, PreparedPath, PublicTree};
@@ -23,7 +23,7 @@ pub struct SharedTree {
 impl Model for SharedTree {
     ghost use Rattle.std.specs.Prelude.{◌≡◌};
     ghost use Rattle.mls_tree_model.specs.Hashes.{tree_hash};
-    ghost use Rattle.mls_tree_array.specs.Kept.{hashes_of};
+    ghost use Rattle.mls_tree_array.specs.KeptHashes.{hashes_of};
     ghost use Rattle.mls_tree.specs.Tree.{Tree, term};
 
     ghost Value = { Tree };

@@ -2,6 +2,6 @@ pub mod Epoch
 pub mod Transcript
 pub mod Twins
 pub mod Laws
-pub mod Held
+pub mod EpochFields
 pub mod Faults
 pub mod Names

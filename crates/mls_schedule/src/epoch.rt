@@ -2,7 +2,7 @@
 //! 2^30.
 
 ghost use Rattle.std.specs.Prelude.{◌≡◌, ◌<◌, ◌≤◌, ◌^◌, ◌↔◌, length, IsErrOf, OnOk, OnErr};
-ghost use Rattle.mls_kdf.specs.Kdf.{joined, expand_with_label, max_output};
+ghost use Rattle.mls_kdf.specs.Kdf.{joined_pieces, expand_with_label, max_output};
 ghost use Rattle.mls_schedule.specs.Epoch.{joiner_secret, welcome_secret, next_welcome_secret, welcome_key, welcome_nonce, intermediate_secret, epoch_secret, next_epoch_secret, nine_secrets, confirmation_tag, membership_tag, exported};
 
 use crate::ScheduleError;
@@ -32,7 +32,7 @@ impl Model for Epoch {
 
     ghost Value = { List ℕ };
 
-    ghost use Rattle.mls_schedule.specs.Held.{IsOfEpoch};
+    ghost use Rattle.mls_schedule.specs.EpochFields.{IsOfEpoch};
 
     ghost view = { λ e. e.epoch };
 
@@ -60,7 +60,7 @@ pub struct WelcomeKey {
 }
 
 /// A secret made under a label and a context.
-fn expanded(secret: &Secret, label: &str, context: &[u8]) -> Secret
+fn expand_secret(secret: &Secret, label: &str, context: &[u8]) -> Secret
     requires label { length label.now ≤ 200 }
     requires context { length context.now < 2 ^ 30 }
     ensures { result ≡ expand_with_label secret.now label.now context.now 32 }
@@ -108,7 +108,7 @@ impl Epoch {
         ensures welcome { result.welcome ≡ next_welcome_secret init.now commit_secret.now context.now }
         ensures epoch { result.epoch ≡ next_epoch_secret init.now commit_secret.now context.now }
     {
-        let joiner = expanded(&extract(init, commit_secret), "joiner", context);
+        let joiner = expand_secret(&extract(init, commit_secret), "joiner", context);
         Epoch::from_joiner(&joiner, context)
     }
 
@@ -122,7 +122,7 @@ impl Epoch {
     {
         let intermediate = intermediate_secret(joiner);
         let welcome = derive_secret(&intermediate, "welcome");
-        let epoch = expanded(&intermediate, "epoch", context);
+        let epoch = expand_secret(&intermediate, "epoch", context);
         Start {
             joiner: *joiner,
             welcome,
@@ -226,7 +226,7 @@ impl Epoch {
     /// AuthenticatedContentTBM, given in pieces, one after another (RFC 9420, 6.2).
     #[tactic(auto, unfolding(crate::specs::Epoch::membership_tag))]
     pub fn membership_tag(&self, said: &[&[u8]]) -> Secret
-        ensures { result ≡ membership_tag self.now (joined said.now) }
+        ensures { result ≡ membership_tag self.now (joined_pieces said.now) }
     {
         hmac(&self.membership, said)
     }

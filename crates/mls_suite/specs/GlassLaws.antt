@@ -10,7 +10,7 @@ use Rattle.mls_kdf.specs.Lengths.{length-sha256}
 use Rattle.mls_kdf.specs.Lengths.{length-hmac}
 use Rattle.mls_kdf.specs.Kdf.{hmac}
 use Rattle.mls_suite.specs.Crypto.{Sealing, Lawful}
-use Rattle.mls_suite.specs.Glass.{xor_with, streamed, box_tag, boxed, unbox, glass_public, glass_key_ok, glass_kem, glass_box_key, glass_seal, glass_unseal, glass_sig_public, glass_verify, glass}
+use Rattle.mls_suite.specs.Glass.{xor_with, xor_with_stream, box_tag, make_box, open_box, glass_public, glass_key_ok, glass_kem, glass_box_key, glass_seal, glass_unseal, glass_sig_public, glass_verify, glass}
 
 xor_twice : (a b : ℕ) → bit_xor (bit_xor a b) b ≡ a
 xor_twice a b = xor_assoc a b b ∙ ap (bit_xor a) (xor_self b) ∙ xor_zero_r a
@@ -25,9 +25,9 @@ xor_with-twice [] ys = refl
 xor_with-twice (x ∷ xs) [] = refl
 xor_with-twice (x ∷ xs) (y ∷ ys) = rw (xor_twice x y, xor_with-twice xs ys) refl
 
-streamed-twice : (key text : List ℕ) → streamed key (streamed key text) ≡ text
-unfolding streamed
-streamed-twice key text = rw (length-xor_with text _) (xor_with-twice text _)
+xor_with_stream-twice : (key text : List ℕ) → xor_with_stream key (xor_with_stream key text) ≡ text
+unfolding xor_with_stream
+xor_with_stream-twice key text = rw (length-xor_with text _) (xor_with-twice text _)
 
 same_bytes : (xs : List ℕ) → bytes_eq xs xs ≡ true
 same_bytes xs = (bytes_eq-Decides xs xs).1 refl
@@ -37,16 +37,16 @@ unfolding box_tag
 length-box_tag key body = length-hmac _ _
 
 -- a body and its tag are opened
-unbox_parts : (key body : List ℕ) → unbox key (body ++ box_tag key body) ≡ Some (streamed key body)
-unfolding unbox
+unbox_parts : (key body : List ℕ) → open_box key (body ++ box_tag key body) ≡ Some (xor_with_stream key body)
+unfolding open_box
 unbox_parts key body =
     let n : length (body ++ box_tag key body) - 32 ≡ length body = omega (arith, length-append body (box_tag key body), length-box_tag key body) in
     let long : nat_lt (length (body ++ box_tag key body)) 32 ≡ false = le-ltb _ _ (omega (arith, length-append body (box_tag key body), length-box_tag key body)) in
     rw (long, n, take_at body (box_tag key body) (length body) refl, drop_at body (box_tag key body) (length body) refl, same_bytes (box_tag key body)) refl
 
-pub unbox-boxed : (key pt : List ℕ) → unbox key (boxed key pt) ≡ Some pt
-unfolding boxed
-unbox-boxed key pt = unbox_parts key (streamed key pt) ∙ ap Some (streamed-twice key pt)
+pub open_box-make_box : (key pt : List ℕ) → open_box key (make_box key pt) ≡ Some pt
+unfolding make_box
+open_box-make_box key pt = unbox_parts key (xor_with_stream key pt) ∙ ap Some (xor_with_stream-twice key pt)
 
 length-glass_public : (sk : List ℕ) → length (glass_public sk) ≡ 32
 unfolding glass_public
@@ -65,7 +65,7 @@ is_32 xs e = rw e refl
 
 -- what is sealed to a public key
 abbrev sealed : List ℕ → List ℕ → List ℕ → List ℕ → Sealing
-sealed sk info pt rnd = record { kem = glass_kem rnd; ct = boxed (glass_box_key (glass_public sk) (glass_kem rnd) info) pt }
+sealed sk info pt rnd = record { kem = glass_kem rnd; ct = make_box (glass_box_key (glass_public sk) (glass_kem rnd) info) pt }
 
 seals_public : (sk info pt rnd : List ℕ) → glass_seal (glass_public sk) info pt rnd ≡ Some (sealed sk info pt rnd)
 unfolding glass_seal
@@ -75,7 +75,7 @@ unseals : (sk info pt rnd : List ℕ) (s : Sealing) → glass_seal (glass_public
 unfolding glass_unseal
 unseals sk info pt rnd s e =
     let same : sealed sk info pt rnd ≡ s = (let h = sym (seals_public sk info pt rnd) ∙ e in cc) in
-    rw (← same, is_32 _ (length-glass_kem rnd)) (unbox-boxed _ pt)
+    rw (← same, is_32 _ (length-glass_kem rnd)) (open_box-make_box _ pt)
 
 is_some_if : (b : Bool) (x : Sealing) → is_some (if b then Some x else None) ≡ b
 is_some_if true x = refl
@@ -92,7 +92,7 @@ pub glass_lawful : Lawful glass
 glass_lawful = record {
   unseals = unseals;
   verifies = verifies;
-  opens = λ key nonce aad pt. unbox-boxed _ pt;
+  opens = λ key nonce aad pt. open_box-make_box _ pt;
   public_ok = λ sk. is_32 _ (length-glass_public sk);
   seals = seals;
   number_short = lit< tt;

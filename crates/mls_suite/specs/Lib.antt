@@ -1,5 +1,5 @@
 pub mod Crypto
-pub mod Made
+pub mod Sealings
 pub mod Labels
 pub mod LabelLaws
 pub mod Glass

@@ -2,7 +2,7 @@
 
 ghost use Rattle.std.specs.Prelude.{◌≡◌, ◌+◌, ◌-◌, ◌*◌, ◌<◌, ◌≤◌, ◌^◌, ◌++◌, length, take, drop, IfOk};
 ghost use Rattle.std.specs.Option.{option_map};
-ghost use Rattle.mls_suite.specs.Glass.{xor_with, stream_block, streamed, box_tag, boxed, unbox};
+ghost use Rattle.mls_suite.specs.Glass.{xor_with, stream_block, xor_with_stream, box_tag, make_box, open_box};
 
 use crate::OutOfMemory;
 use mls_kdf::{HmacKey, Secret};
@@ -35,8 +35,8 @@ pub(crate) fn stream_block(key: &HmacKey, i: usize) -> Secret
 }
 
 /// Combines the text with the stream of the key, in place.
-fn stream(key: &HmacKey, text: &mut [u8])
-    ensures { text.new ≡ streamed key.now text.old }
+fn xor_with_stream(key: &HmacKey, text: &mut [u8])
+    ensures { text.new ≡ xor_with_stream key.now text.old }
 {
     for i in 0..text.len().div_ceil(32) {
         xor_block_at(text, 32 * i, &stream_block(key, i));
@@ -50,22 +50,22 @@ fn box_tag(key: &HmacKey, body: &[u8]) -> Secret
     key.mac(&[&[0x74], body])
 }
 
-#[tactic(auto, unfolding(crate::specs::Glass::boxed))]
+#[tactic(auto, unfolding(crate::specs::Glass::make_box))]
 pub(crate) fn make_box(alloc: Global, key: &[u8], pt: &[u8]) -> Result<Vec<u8>, OutOfMemory>
-    ensures { IfOk result (λ ct. ct.items ≡ boxed key.now pt.now) }
+    ensures { IfOk result (λ ct. ct.items ≡ make_box key.now pt.now) }
 {
     let key = HmacKey::new(key);
     let mut bytes = Vec::with_capacity(alloc, pt.len() + 32)?;
     bytes.extend_from_slice(pt)?;
-    stream(&key, &mut bytes);
+    xor_with_stream(&key, &mut bytes);
     let tag = box_tag(&key, &bytes);
     bytes.extend_from_slice(&tag)?;
     Ok(bytes)
 }
 
-#[tactic(auto, unfolding(crate::specs::Glass::unbox))]
+#[tactic(auto, unfolding(crate::specs::Glass::open_box))]
 pub(crate) fn open_box(alloc: Global, key: &[u8], ct: &[u8]) -> Result<Option<Vec<u8>>, OutOfMemory>
-    ensures { IfOk result (λ pt. option_map (λ v. v.items) pt ≡ unbox key.now ct.now) }
+    ensures { IfOk result (λ pt. option_map (λ v. v.items) pt ≡ open_box key.now ct.now) }
 {
     if ct.len() < 32 {
         return Ok(None);
@@ -77,6 +77,6 @@ pub(crate) fn open_box(alloc: Global, key: &[u8], ct: &[u8]) -> Result<Option<Ve
         return Ok(None);
     }
     let mut bytes = Vec::from_slice(alloc, body)?;
-    stream(&key, &mut bytes);
+    xor_with_stream(&key, &mut bytes);
     Ok(Some(bytes))
 }

@@ -4,8 +4,8 @@
 
 ghost use Rattle.std.specs.Prelude.{◌≡◌, ◌+◌, ◌<◌, ◌≤◌, ◌^◌, length, IfOk};
 ghost use Rattle.std.specs.Option.{option_map};
-ghost use Rattle.mls_suite.specs.Made.{sealing_of};
-ghost use Rattle.mls_suite.specs.Labels.{labelled, sign_with_label, verify_with_label, encrypt_with_label, decrypt_with_label};
+ghost use Rattle.mls_suite.specs.Sealings.{sealing_of};
+ghost use Rattle.mls_suite.specs.Labels.{content_with_label, sign_with_label, verify_with_label, encrypt_with_label, decrypt_with_label};
 ghost use Rattle.mls_suite.specs.LabelLaws.{VerifiesSigned, OpensSealed, SealsWhereFit, SignsShort};
 
 use crate::{OutOfMemory, Sealed, Suite};
@@ -17,10 +17,10 @@ const PREFIX: &[u8] = b"MLS 1.0 ";
 
 /// The label and the content, each behind its header, in one allocation: the headers have at most
 /// four bytes each.
-fn labelled(alloc: Global, label: &str, content: &[u8]) -> Result<Vec<u8>, OutOfMemory>
+fn content_with_label(alloc: Global, label: &str, content: &[u8]) -> Result<Vec<u8>, OutOfMemory>
     requires label { length label.now ≤ 200 }
     requires content { length content.now < 2 ^ 30 }
-    ensures { IfOk result (λ v. v.items ≡ labelled label.now content.now) }
+    ensures { IfOk result (λ v. v.items ≡ content_with_label label.now content.now) }
 {
     let label_header = content_header(PREFIX.len() + label.len());
     let content_header = content_header(content.len());
@@ -45,7 +45,7 @@ pub fn sign_with_label<S: Suite>(
     requires content { length content.now < 2 ^ 30 }
     ensures { IfOk result (λ s. s.items ≡ sign_with_label S.crypto sk.now label.now content.now) }
 {
-    let bytes = labelled(alloc, label, content)?;
+    let bytes = content_with_label(alloc, label, content)?;
     S::sign(alloc, sk, &bytes)
 }
 
@@ -62,7 +62,7 @@ pub fn verify_with_label<S: Suite>(
     requires content { length content.now < 2 ^ 30 }
     ensures { IfOk result (λ b. b ≡ verify_with_label S.crypto pk.now label.now content.now signature.now) }
 {
-    let bytes = labelled(alloc, label, content)?;
+    let bytes = content_with_label(alloc, label, content)?;
     Ok(S::verify(pk, &bytes, signature))
 }
 
@@ -81,7 +81,7 @@ pub fn encrypt_with_label<S: Suite>(
     requires context { length context.now < 2 ^ 30 }
     ensures { IfOk result (λ s. sealing_of s ≡ encrypt_with_label S.crypto pk.now label.now context.now pt.now rnd.now) }
 {
-    let info = labelled(alloc, label, context)?;
+    let info = content_with_label(alloc, label, context)?;
     S::seal(alloc, pk, &info, pt, rnd)
 }
 
@@ -100,7 +100,7 @@ pub fn decrypt_with_label<S: Suite>(
     requires context { length context.now < 2 ^ 30 }
     ensures { IfOk result (λ pt. option_map (λ v. v.items) pt ≡ decrypt_with_label S.crypto sk.now label.now context.now kem.now ct.now) }
 {
-    let info = labelled(alloc, label, context)?;
+    let info = content_with_label(alloc, label, context)?;
     S::unseal(alloc, sk, kem, &info, ct)
 }
 

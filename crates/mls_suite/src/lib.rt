@@ -5,7 +5,7 @@
 ghost use Rattle.std.specs.Prelude.{◌≡◌, ℕ, IfOk};
 ghost use Rattle.std.specs.Option.{option_map};
 ghost use Rattle.mls_suite.specs.Crypto.{Crypto, Lawful};
-ghost use Rattle.mls_suite.specs.Made.{sealing_of};
+ghost use Rattle.mls_suite.specs.Sealings.{sealing_of};
 
 use std::alloc::{AllocError, Global};
 

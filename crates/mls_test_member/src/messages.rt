@@ -9,7 +9,7 @@ use crate::sole::sole;
 use mls_kdf::Secret;
 use mls_leaf::{Bytes, INPUT_LIMIT, LeafError, Proposal};
 use mls_member::{Member, Refusal};
-use mls_message::{Framed, SaidProposal, Speaker, proposal, send, sign};
+use mls_message::{Framed, SaidProposal, Speaker, sign_proposal, send, sign};
 use mls_suite::Glass;
 use mls_types::{Content, SignedContent, proposal_reference};
 use std::alloc::{AllocError, Global};
@@ -35,7 +35,7 @@ const REMOVAL: &[u8] = &[
 /// The removal of leaf 9.
 #[tactic(auto, unfolding(mls_leaf::specs::Proposal::proposal))]
 fn removal(alloc: Global, member: &Member<Glass>) -> Result<SaidProposal, LeafError> {
-    proposal::<Glass>(alloc, &speaker(member), &Proposal::Remove(9))
+    sign_proposal::<Glass>(alloc, &speaker(member), &Proposal::Remove(9))
 }
 
 /// Whether a proposal's reference is that of its message without the version and the tag.
@@ -72,12 +72,12 @@ fn text(alloc: Global, length: usize) -> Result<Content, AllocError>
 }
 
 /// A text of so many bytes, framed.
-fn framed(alloc: Global, speaker: &Speaker<'_>, length: usize) -> Result<Framed, LeafError> {
+fn frame_text(alloc: Global, speaker: &Speaker<'_>, length: usize) -> Result<Framed, LeafError> {
     Framed::new(alloc, speaker, text(alloc, length)?)
 }
 
 /// It, signed.
-fn signed(
+fn sign_framed(
     alloc: Global,
     speaker: &Speaker<'_>,
     framed: Framed,
@@ -85,21 +85,21 @@ fn signed(
     ensures { IfOk result (λ b. signed_content.Fits b.value) }
 {
     let signature = sign::<Glass>(alloc, speaker, &framed)?;
-    let content = framed.signed(signature, Vec::new(alloc));
+    let content = framed.with_signature(signature, Vec::new(alloc));
     Ok(Box::new(alloc, content)?)
 }
 
 /// Its message.
-fn sent(alloc: Global, speaker: &Speaker<'_>, framed: Framed) -> Result<Vec<u8>, LeafError> {
-    let content = signed(alloc, speaker, framed)?;
+fn send_framed(alloc: Global, speaker: &Speaker<'_>, framed: Framed) -> Result<Vec<u8>, LeafError> {
+    let content = sign_framed(alloc, speaker, framed)?;
     send(alloc, speaker, &content)
 }
 
 /// The number with which a text of so many bytes is refused when it is framed, and when it is sent; 0 where it isn't.
 fn refusals(alloc: Global, member: &Member<Glass>, length: usize) -> (u8, u8) {
     let speaker = speaker(member);
-    match framed(alloc, &speaker, length) {
-        Ok(framed) => match sent(alloc, &speaker, framed) {
+    match frame_text(alloc, &speaker, length) {
+        Ok(framed) => match send_framed(alloc, &speaker, framed) {
             Ok(_) => (0, 0),
             Err(error) => (0, error.number()),
         },

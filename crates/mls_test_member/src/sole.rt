@@ -16,7 +16,7 @@ pub(crate) fn candidate(
 }
 
 /// The only member of the group "g" in epoch 0.
-fn first(alloc: Global) -> Result<Box<Member<Glass>>, Refusal> {
+fn create_first(alloc: Global) -> Result<Box<Member<Glass>>, Refusal> {
     let candidate = candidate(alloc, 3)?;
     let member = Member::create(alloc, &candidate, b"g", &[2; 32])?;
     Ok(Box::new(alloc, member)?)
@@ -36,7 +36,7 @@ fn advance(member: &mut Member<Glass>) -> Result<(), Refusal> {
 
 /// The only member of the group "g" in epoch 1, behind a commit of its own with a path.
 pub(crate) fn sole(alloc: Global) -> Result<Box<Member<Glass>>, Refusal> {
-    let mut member = first(alloc)?;
+    let mut member = create_first(alloc)?;
     advance(&mut member)?;
     Ok(member)
 }

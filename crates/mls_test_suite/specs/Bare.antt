@@ -6,8 +6,8 @@ use Rattle.mls_suite.specs.Crypto.{Crypto, Sealing}
 -- ---- arguments that no code can pass
 
 -- A list as a key of 32: it is cut, or zeros are added at its end. A key that code can pass stays as it is.
-abbrev pub fitted : List ℕ → List ℕ
-fitted xs = take 32 (xs ++ replicate 32 0)
+abbrev pub key_from : List ℕ → List ℕ
+key_from xs = take 32 (xs ++ replicate 32 0)
 
 -- ---- the record
 
@@ -15,22 +15,22 @@ fitted xs = take 32 (xs ++ replicate 32 0)
 abbrev pub is_key : List ℕ → Bool
 is_key pk = nat_eq (length pk) 32
 
-abbrev pub in_the_open : List ℕ → Sealing
-in_the_open pt = record { kem = []; ct = pt }
+abbrev pub open_sealing : List ℕ → Sealing
+open_sealing pt = record { kem = []; ct = pt }
 
 -- what is sealed to a fit key lies open
 unfoldable pub bare_seal : List ℕ → List ℕ → Option Sealing
-bare_seal pk pt = if is_key pk then Some (in_the_open pt) else None
+bare_seal pk pt = if is_key pk then Some (open_sealing pt) else None
 
 abbrev pub bare : Crypto
 bare = record {
   number = 0xF0FF;
-  public = fitted;
+  public = key_from;
   key_ok = is_key;
   derive = λ ikm. replicate 32 0;
   seal = λ pk info pt rnd. bare_seal pk pt;
   unseal = λ sk kem info ct. Some ct;
-  sig_public = fitted;
+  sig_public = key_from;
   sign = λ sk m. [];
   verify = λ pk m s. true;
   aead_seal = λ key nonce aad pt. pt;

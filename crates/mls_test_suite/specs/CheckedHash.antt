@@ -10,5 +10,5 @@ use Rattle.mls_cli_check.specs.Check.{tree_in}
 
 -- RFC 9420, sections 7.3, 7.8, 7.9.2, 12.4.3.1 and 12.4.3.3: the tree hash of the tree that the bytes spell, where it
 -- passes the checks of a good tree of the group; else the number of the first fault
-abbrev pub checked_hash : Crypto → List ℕ → List ℕ → Result (List ℕ) ℕ
-checked_hash c group spelled = tree_in spelled >>= λ t. tree_checks (rules_of c group) t >> Ok (tree_hash 0 t)
+abbrev pub hash_of_checked_tree : Crypto → List ℕ → List ℕ → Result (List ℕ) ℕ
+hash_of_checked_tree c group spelled = tree_in spelled >>= λ t. tree_checks (rules_of c group) t >> Ok (tree_hash 0 t)

@@ -2,7 +2,7 @@
 //! lies open.
 
 ghost use Rattle.std.specs.Prelude.{◌≡◌, IfOk, refl};
-ghost use Rattle.mls_test_suite.specs.Bare.{bare, fitted};
+ghost use Rattle.mls_test_suite.specs.Bare.{bare, key_from};
 ghost use Rattle.mls_test_suite.specs.BareLaws.{bare_lawful};
 
 use mls_suite::{KeyPair, OutOfMemory, Sealed, Suite};
@@ -14,7 +14,7 @@ pub struct Bare;
 /// A key is its own public key.
 #[tactic(auto, using(crate::proofs::BareLaws::fitted_key))]
 fn public_key(alloc: Global, sk: &[u8; 32]) -> Result<Vec<u8>, OutOfMemory>
-    ensures { IfOk result (λ pk. pk.items ≡ fitted sk.now) }
+    ensures { IfOk result (λ pk. pk.items ≡ key_from sk.now) }
 {
     Vec::from_slice(alloc, sk)
 }

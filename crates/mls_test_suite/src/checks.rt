@@ -19,7 +19,7 @@ const ODD: &str =
     "4190010120229800b4d728ad0141f588fef32fa17b9f067fe306063db26e189b7cd2adda5a20db08ed06d0ae96dfda3100301cd064676571dbce976ffae2942556268881455f000105616c69636502000102f00100000200010320fdf15627604a683b6ada6309c89ac4df817ede06c9545a805919630f92092e0d0020dfec853ddc3ed771cc06c58fe9fa2f3080b2b752c9357785cc6a1b27f231c7cc010220bfe6ee21c80171c3ec2fc0efa5a189abe731361b13a76f9dff72fe9eb697e9f620ca4a43bde726c6cdc7968b490171d45b2b89a8b4618c05125382f0cecb99952a0000010220f5e5604ae523c6ca88e5502a24044b6a353d672dcc1f9c2177c3ab3876cd3e0f00000101200347e66841a09f8efd4d7c7b6b67ea015240c96bad8b688a467d9a849d4de19b200a8e960e536b58cb33c6182dc9b1910817568fa05797237c2f9b04610f07d4d50001056361726f6c02000102f0010000020001010000000000000000ffffffffffffffff0020a60fd413153c88977aee7a4f7d221974ded793884ec5518dd3225beff25d7568";
 
 /// The status and the text for a file and a group's id in hex, under a suite.
-fn printed<S: Suite>(
+fn print_checks<S: Suite>(
     alloc: Global,
     own: SuiteChecks,
     file: &str,
@@ -41,7 +41,7 @@ fn agrees<S: Suite>(
     rows: &[(&str, &str, u8, &str)],
 ) -> Result<bool, AllocError> {
     for (file, group, status, text) in rows {
-        let (answer, out) = printed::<S>(alloc, own, file, group)?;
+        let (answer, out) = print_checks::<S>(alloc, own, file, group)?;
         if answer != *status || out.as_slice() != text.as_bytes() {
             return Ok(false);
         }

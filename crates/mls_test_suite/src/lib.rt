@@ -16,11 +16,11 @@ use mls_suite::{
     OutOfMemory, Suite, decrypt_with_label, encrypt_with_label, sign_with_label, verify_with_label,
 };
 use std::alloc::Global;
-pub use trees::checked_tree_hash;
+pub use trees::hash_of_checked_tree;
 
 /// Seals `pt` under a label and a context to the public key of `sk`, and opens it again: it is `pt`,
 /// in each suite.
-pub fn sealed_and_opened<S: Suite>(
+pub fn seal_and_open<S: Suite>(
     alloc: Global,
     sk: &[u8; 32],
     label: &str,
@@ -41,7 +41,7 @@ pub fn sealed_and_opened<S: Suite>(
 }
 
 /// Signs a content under a label, and verifies the signature: it holds, in each suite.
-pub fn signed_and_verified<S: Suite>(
+pub fn sign_and_verify<S: Suite>(
     alloc: Global,
     sk: &[u8; 32],
     label: &str,

@@ -16,8 +16,8 @@ const TREE_HASH: &str = "5aa2ff38429ed7a8eda870fed2c679aa14e6d375b3aa0af910656f1
 // Whether what is sealed is read again and a signature holds, in the suite S.
 fn works<S: Suite>(alloc: Global) -> Result<bool, OutOfMemory> {
     let sk = [3; 32];
-    let read = sealed_and_opened::<S>(alloc, &sk, "Welcome", b"context", b"secret", &[4; 32])?;
-    let good = signed_and_verified::<S>(alloc, &sk, "LeafNodeTBS", b"leaf")?;
+    let read = seal_and_open::<S>(alloc, &sk, "Welcome", b"context", b"secret", &[4; 32])?;
+    let good = sign_and_verify::<S>(alloc, &sk, "LeafNodeTBS", b"leaf")?;
     Ok(good && matches!(read, Some(text) if text.as_slice() == b"secret".as_slice()))
 }
 
@@ -33,7 +33,7 @@ fn three_suites(rt: HostRuntime) -> Result<(), Fail> {
 fn answer(alloc: Global, bytes: &[u8], group_id: &[u8]) -> Result<u8, CheckError>
     requires { length group_id.now < 2 ^ 28 }
 {
-    match checked_tree_hash::<Glass>(alloc, bytes, group_id) {
+    match hash_of_checked_tree::<Glass>(alloc, bytes, group_id) {
         Ok(_) => Ok(0),
         Err(error) => if error.is_memory() {
             Err(error)
@@ -46,7 +46,7 @@ fn answer(alloc: Global, bytes: &[u8], group_id: &[u8]) -> Result<u8, CheckError
 #[test]
 fn a_tree_under_glass(rt: HostRuntime) -> Result<(), Fail> {
     let bytes = hex::decode(rt.alloc(), TREE)?;
-    let hash = checked_tree_hash::<Glass>(rt.alloc(), &bytes, b"g")?;
+    let hash = hash_of_checked_tree::<Glass>(rt.alloc(), &bytes, b"g")?;
     let wanted = hex::decode(rt.alloc(), TREE_HASH)?;
     assert!(rt; hash.as_slice() == wanted.as_slice());
     // Its leaves were signed for that group alone.

@@ -2,7 +2,7 @@
 //! opened by members and taken by a joiner.
 
 use crate::small_trees::{
-    boxed, follow_edit, four, gave, has_nodes, holds, leaf, make_path, next, open_path, public,
+    boxed, follow_edit, four, answers_with, has_nodes, holds, leaf, make_path, next, open_path, public,
     sealed_path, take_secret, with_key,
 };
 use mls_types::UpdatePathNode;
@@ -10,7 +10,7 @@ use mls_kdf::Secret;
 use mls_leaf::{Bytes, LeafNode, LeafSource};
 use mls_suite::KeyPair;
 use mls_tree::PublicTree;
-use mls_treekem::{PathSecrets, PrivatePath, init_seed, leaf_seed, path_seed, seals_in, sign_seed};
+use mls_treekem::{PathSecrets, PrivatePath, init_seed, leaf_seed, path_seed, seal_count_of, sign_seed};
 use std::alloc::Global;
 
 const SEED: Secret = [5; 32];
@@ -86,7 +86,7 @@ fn merge(alloc: Global, tree: &mut PublicTree, secrets: &PathSecrets) -> Option<
 }
 
 /// The commit's path, sealed.
-fn sealed(alloc: Global, tree: &PublicTree, secrets: &PathSecrets) -> Option<Vec<UpdatePathNode>> {
+fn seal_path(alloc: Global, tree: &PublicTree, secrets: &PathSecrets) -> Option<Vec<UpdatePathNode>> {
     sealed_path(alloc, tree, &[3], secrets, &SEED).ok()
 }
 
@@ -94,7 +94,7 @@ fn sealed(alloc: Global, tree: &PublicTree, secrets: &PathSecrets) -> Option<Vec
 fn make_commit(alloc: Global) -> Option<Box<Commit>> {
     let mut tree = four(alloc)?;
     let secrets = made_path(alloc, &tree)?;
-    let nodes = sealed(alloc, &tree, &secrets)?;
+    let nodes = seal_path(alloc, &tree, &secrets)?;
     merge(alloc, &mut tree, &secrets)?;
     boxed(
         alloc,
@@ -115,7 +115,7 @@ fn follower(alloc: Global, i: u8) -> Option<Box<PrivatePath>> {
 
 /// Whether a member opens the commit's path on the merged tree, and has keys of these nodes then.
 fn opens(commit: &Commit, own: &mut PrivatePath, nodes: &[u64]) -> bool {
-    gave(
+    answers_with(
         open_path(own, &commit.tree, &[3], &commit.nodes),
         &commit.secrets.commit_secret,
     ) && has_nodes(own, nodes)
@@ -131,7 +131,7 @@ fn is_received(alloc: Global, i: u8, nodes: &[u64]) -> Option<bool> {
 /// Whether the commit's path is sealed so often.
 fn is_sealed(alloc: Global, seals: u32) -> bool {
     match make_commit(alloc) {
-        Some(commit) => seals_in(&commit.nodes) == seals,
+        Some(commit) => seal_count_of(&commit.nodes) == seals,
         None => false,
     }
 }
@@ -161,7 +161,7 @@ fn sends(alloc: Global, i: u32, secret: Option<&Secret>) -> bool {
 
 /// Whether leaf 3 takes a path secret on the merged tree, and has keys of these nodes then.
 fn takes(commit: &Commit, joiner: &mut PrivatePath, secret: &Secret, nodes: &[u64]) -> bool {
-    gave(
+    answers_with(
         take_secret(joiner, &commit.tree, 1, secret),
         &commit.secrets.commit_secret,
     ) && has_nodes(joiner, nodes)

@@ -1,7 +1,7 @@
 //! What a joiner takes.
 
 use crate::small_trees::{
-    boxed, gave, has_key, has_nodes, holds, key_of, make_path, member, node_pair, number_of,
+    boxed, answers_with, has_key, has_nodes, holds, key_of, make_path, member, node_pair, number_of,
     take_secret, with_key,
 };
 use mls_kdf::Secret;
@@ -90,7 +90,7 @@ fn commit_secret(alloc: Global) -> Option<Secret> {
 /// Whether a joiner takes this commit secret of two members, whose root lists nobody.
 fn takes(alloc: Global, joiner: &mut PrivatePath, commit_secret: &Secret) -> Option<bool> {
     let tree = two(alloc, &[])?;
-    Some(gave(take_secret(joiner, &tree, 0, &SECRET), commit_secret))
+    Some(answers_with(take_secret(joiner, &tree, 0, &SECRET), commit_secret))
 }
 
 /// The second of two members, who took the commit secret of the first.

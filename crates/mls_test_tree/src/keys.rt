@@ -116,14 +116,14 @@ fn keys_of_a_maker(rt: HostRuntime) {
 }
 
 /// A copy of a member.
-fn copied(alloc: Global, own: &PrivatePath) -> Option<Box<PrivatePath>> {
+fn copy_of(alloc: Global, own: &PrivatePath) -> Option<Box<PrivatePath>> {
     boxed(alloc, own.clone().ok()?)
 }
 
 /// Whether a copy of the maker is of the same leaf, and has its leaf's key and those of the path of two nodes.
 fn copy_has_made(alloc: Global) -> Option<bool> {
     let maker = two_maker(alloc)?;
-    let copy = copied(alloc, &maker.own)?;
+    let copy = copy_of(alloc, &maker.own)?;
     Some(copy.leaf() == 1 && has_made(&copy, &maker.made))
 }
 
@@ -140,7 +140,7 @@ fn two(alloc: Global) -> Option<Box<PublicTree>> {
 }
 
 /// The second of two members, who made a path and then followed its own update.
-fn updated(alloc: Global) -> Option<Box<PrivatePath>> {
+fn own_after_update(alloc: Global) -> Option<Box<PrivatePath>> {
     let mut own = with_key(alloc, 1, 1)?;
     make_path(alloc, &mut own, &START, &[1])?;
     follow_edit(&mut own, &*two(alloc)?, Some(&[9; 32]))?;
@@ -149,7 +149,7 @@ fn updated(alloc: Global) -> Option<Box<PrivatePath>> {
 
 /// Whether that member has the new key of its leaf alone.
 fn updated_has_its_leaf(alloc: Global) -> bool {
-    match updated(alloc) {
+    match own_after_update(alloc) {
         Some(own) => has_nodes(&own, &[2]) && has_key(&own, 0, &[9; 32]),
         None => false,
     }

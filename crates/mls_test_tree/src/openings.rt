@@ -1,7 +1,7 @@
 //! Leaf 1's path in a tree of four members, as the others open it.
 
 use crate::small_trees::{
-    gave, has_nodes, holds, next, node_pair, number_of, of_four, path_secrets, public,
+    answers_with, has_nodes, holds, next, node_pair, number_of, of_four, path_secrets, public,
 };
 use mls_types::{HpkeCiphertext, UpdatePathNode};
 use mls_kdf::Secret;
@@ -13,7 +13,7 @@ use std::alloc::Global;
 const START: Secret = [7; 32];
 
 /// A text sealed to a public key.
-fn encrypted(alloc: Global, pk: &[u8], text: &[u8]) -> Option<Sealed> {
+fn encrypt(alloc: Global, pk: &[u8], text: &[u8]) -> Option<Sealed> {
     encrypt_with_label::<Glass>(alloc, pk, "UpdatePathNode", b"context", text, &[9; 32]).ok()?
 }
 
@@ -27,7 +27,7 @@ fn ciphertext(sealed: Sealed) -> HpkeCiphertext {
 /// A text sealed to the key of a private key of 32 such bytes.
 fn sealed(alloc: Global, key: u8, text: &[u8]) -> Option<HpkeCiphertext> {
     let pk = public(alloc, &[key; 32])?;
-    Some(ciphertext(encrypted(alloc, &pk, text)?))
+    Some(ciphertext(encrypt(alloc, &pk, text)?))
 }
 
 /// A text sealed to each of some keys.
@@ -95,7 +95,7 @@ fn is_opened(
     let commit_secret = commit_secret(alloc)?;
     let mut own = of_four(alloc, i)?;
     let opened = own.open(added, path);
-    Some(gave(opened, &commit_secret) && has_nodes(&own.path, nodes))
+    Some(answers_with(opened, &commit_secret) && has_nodes(&own.path, nodes))
 }
 
 /// Whether leaf i so opens leaf 1's path.

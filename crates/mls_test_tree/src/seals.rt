@@ -1,14 +1,14 @@
 //! Paths that are sealed in small trees.
 
 use crate::small_trees::{
-    four, gave, holds, leaf, next, number_of, of_four, path_secrets, sealed_path,
+    four, answers_with, holds, leaf, next, number_of, of_four, path_secrets, sealed_path,
 };
 use mls_types::{HpkeCiphertext, UpdatePathNode};
 use mls_kdf::Secret;
 use mls_leaf::LeafNode;
 use mls_suite::{Glass, decrypt_with_label};
 use mls_tree::PublicTree;
-use mls_treekem::{TreeKemError, seal_seed, seals_in};
+use mls_treekem::{TreeKemError, seal_seed, seal_count_of};
 use std::alloc::Global;
 
 // By Python's hmac and hashlib: ExpandWithLabel of 32 bytes 09, "seed seal" and the number 0x01020304.
@@ -59,13 +59,13 @@ fn have_counts(nodes: &[UpdatePathNode], lower: usize, upper: usize) -> bool {
 /// Whether the path is of two nodes with so many ciphertexts, and so many in all, in a commit that added these leaves.
 fn has_counts(alloc: Global, added: &[u32], lower: usize, upper: usize, seals: u32) -> bool {
     match sealed_in_four(alloc, added) {
-        Some(nodes) => have_counts(&nodes, lower, upper) && seals_in(&nodes) == seals,
+        Some(nodes) => have_counts(&nodes, lower, upper) && seal_count_of(&nodes) == seals,
         None => false,
     }
 }
 
 /// What a ciphertext opens to by the key of 32 such bytes.
-fn decrypted(alloc: Global, byte: u8, sealed: &HpkeCiphertext) -> Option<Vec<u8>> {
+fn decrypt(alloc: Global, byte: u8, sealed: &HpkeCiphertext) -> Option<Vec<u8>> {
     let kem = sealed.kem_output.as_slice();
     let ct = sealed.ciphertext.as_slice();
     decrypt_with_label::<Glass>(alloc, &[byte; 32], "UpdatePathNode", b"context", kem, ct).ok()?
@@ -78,7 +78,7 @@ fn ciphertext_at(nodes: &[UpdatePathNode], i: usize, place: usize) -> Option<&Hp
 /// What a ciphertext of the path opens to, by the key of 32 such bytes, in a commit that added these leaves.
 fn opened(alloc: Global, added: &[u32], i: usize, place: usize, byte: u8) -> Option<Vec<u8>> {
     let nodes = sealed_in_four(alloc, added)?;
-    decrypted(alloc, byte, ciphertext_at(&nodes, i, place)?)
+    decrypt(alloc, byte, ciphertext_at(&nodes, i, place)?)
 }
 
 /// Whether that is this secret.
@@ -116,7 +116,7 @@ fn a_path_of_four(rt: HostRuntime) {
 fn takes(alloc: Global, i: u8, commit_secret: &Secret) -> Option<bool> {
     let mut own = of_four(alloc, i)?;
     let path = sealed(alloc, &own.tree, &[]).ok()?;
-    Some(gave(own.open(&[], &path), commit_secret))
+    Some(answers_with(own.open(&[], &path), commit_secret))
 }
 
 /// Whether leaf i takes the commit secret of the path in a tree of four.

@@ -11,7 +11,7 @@ const LEAF: [u8; 25] = [
 const PARENT: [u8; 4] = [1, 0xaa, 0, 0];
 
 /// How many leaves the parent in a place lists.
-fn listed(slot: &Slot) -> usize {
+fn unmerged_count(slot: &Slot) -> usize {
     match slot.node() {
         Some(Node::Parent(parent)) => parent.unmerged_leaves().len(),
         _ => 0,
@@ -27,7 +27,7 @@ fn a_copy_keeps_its_node(rt: HostRuntime) -> Result<(), Fail> {
         Ok(parent) => assert!(rt; parent.insert_unmerged(7)?),
         Err(_) => assert!(rt; false),
     }
-    assert_eq!(rt; (listed(&slot), listed(&copy)), (1, 0));
+    assert_eq!(rt; (unmerged_count(&slot), unmerged_count(&copy)), (1, 0));
     slot = Slot::blank();
     assert!(rt; !slot.is_taken());
     assert!(rt; copy.is_taken());

@@ -180,7 +180,7 @@ pub(crate) fn holds(answer: Option<bool>) -> bool {
 }
 
 /// Whether a call gave this secret.
-pub(crate) fn gave(taken: Result<Secret, TreeKemError>, secret: &Secret) -> bool {
+pub(crate) fn answers_with(taken: Result<Secret, TreeKemError>, secret: &Secret) -> bool {
     match taken {
         Ok(given) => given == *secret,
         Err(_) => false,

@@ -28,13 +28,13 @@ pub(crate) fn value_of<T: Codec>(alloc: Global, digits: &str) -> Result<Box<T>, 
 }
 
 /// The spelling of a value that isn't needed any more.
-pub(crate) fn spelled<T: Codec>(value: T, alloc: Global) -> Result<Vec<u8>, LeafError> {
+pub(crate) fn spelling_of<T: Codec>(value: T, alloc: Global) -> Result<Vec<u8>, LeafError> {
     value.encode(alloc)
 }
 
 /// The number that `decode` refuses these bytes with, or 0 where the value is spelled so again, or 255. Want of memory
 /// is passed on.
-pub(crate) fn decoded<T: Codec>(alloc: Global, bytes: &[u8]) -> Result<u8, LeafError> {
+pub(crate) fn number_of_decoding<T: Codec>(alloc: Global, bytes: &[u8]) -> Result<u8, LeafError> {
     match T::decode(alloc, bytes) {
         Ok(value) => {
             let again = value.encode(alloc)?;
@@ -52,7 +52,7 @@ pub(crate) fn decoded<T: Codec>(alloc: Global, bytes: &[u8]) -> Result<u8, LeafE
 }
 
 /// The number of the refusal, or 0, with no value made.
-pub(crate) fn checked<T: Codec>(bytes: &[u8]) -> u8 {
+pub(crate) fn number_of_check<T: Codec>(bytes: &[u8]) -> u8 {
     match T::check_all(bytes) {
         Ok(()) => 0,
         Err(error) => error.number(),
@@ -62,7 +62,7 @@ pub(crate) fn checked<T: Codec>(bytes: &[u8]) -> u8 {
 /// What `decode` answers of these digits, and what `check_all` does.
 fn answer<T: Codec>(alloc: Global, digits: &str) -> Result<(u8, u8), LeafError> {
     let bytes = bytes_of(alloc, digits)?;
-    Ok((decoded::<T>(alloc, &bytes)?, checked::<T>(&bytes)))
+    Ok((number_of_decoding::<T>(alloc, &bytes)?, number_of_check::<T>(&bytes)))
 }
 
 /// Asserts that these are the two answers.

@@ -167,7 +167,7 @@ fn refusals_named(rt: HostRuntime) -> Result<(), Fail> {
 }
 
 /// A parent that lists 1 and 3, once 2 and 3 have been inserted.
-fn listed(alloc: Global) -> Result<Vec<u8>, LeafError> {
+fn insert_two_leaves(alloc: Global) -> Result<Vec<u8>, LeafError> {
     let mut parent = value_of::<ParentNode>(alloc, "01aa00080000000100000003")?;
     parent.insert_unmerged(2)?;
     parent.insert_unmerged(3)?;
@@ -180,7 +180,7 @@ fn parents_listed(rt: HostRuntime) -> Result<(), Fail> {
     spells(
         &rt,
         alloc,
-        listed(alloc),
+        insert_two_leaves(alloc),
         "01aa000c000000010000000200000003",
     )
 }
@@ -197,7 +197,7 @@ fn parents(rt: HostRuntime) -> Result<(), Fail> {
 }
 
 /// A parent of the parts of another, whose list does not rise.
-fn falling(alloc: Global) -> Result<ParentNode, LeafError> {
+fn parent_with_falling_leaves(alloc: Global) -> Result<ParentNode, LeafError> {
     let list = Items::from_vec(vec![in alloc; 2, 1]?);
     let parent = ParentNode::decode(alloc, &bytes_of(alloc, "01aa0000")?)?;
     let (encryption_key, parent_hash, _) = parent.into_parts();
@@ -205,7 +205,7 @@ fn falling(alloc: Global) -> Result<ParentNode, LeafError> {
 }
 
 fn is_not_rising(alloc: Global) -> Result<bool, LeafError> {
-    match falling(alloc) {
+    match parent_with_falling_leaves(alloc) {
         Ok(_) => Ok(false),
         Err(LeafError::NotRising) => Ok(true),
         Err(error) => Err(error),

@@ -1,6 +1,6 @@
 //! Messages and commits.
 
-use crate::digits::{answers, checked, decoded, gives, holds, value_of};
+use crate::digits::{answers, number_of_check, number_of_decoding, gives, holds, value_of};
 use mls_types::*;
 use std::alloc::Global;
 use std::test::Fail;
@@ -94,20 +94,20 @@ fn a_removal(rt: HostRuntime) -> Result<(), Fail> {
 }
 
 /// What `decode` answers of so many zero bytes as a message, and what `check_all` does. Want of memory is passed on.
-fn zeros_answered(alloc: Global, count: usize) -> Result<(u8, u8), LeafError> {
+fn answers_for_zeros(alloc: Global, count: usize) -> Result<(u8, u8), LeafError> {
     let mut bytes: Vec<u8> = Vec::new(alloc);
     bytes.resize(count, 0)?;
     Ok((
-        decoded::<MlsMessage>(alloc, &bytes)?,
-        checked::<MlsMessage>(&bytes),
+        number_of_decoding::<MlsMessage>(alloc, &bytes)?,
+        number_of_check::<MlsMessage>(&bytes),
     ))
 }
 
 #[test]
 fn long_inputs(rt: HostRuntime) -> Result<(), Fail> {
     let alloc = rt.alloc();
-    let longest = zeros_answered(alloc, 4_194_304);
+    let longest = answers_for_zeros(alloc, 4_194_304);
     gives(&rt, longest, (7, 7), "4,194,304 zeros")?;
-    let longer = zeros_answered(alloc, 4_194_305);
+    let longer = answers_for_zeros(alloc, 4_194_305);
     gives(&rt, longer, (6, 6), "4,194,305 zeros")
 }

@@ -1,6 +1,6 @@
 //! Signed contents: spelled, made, signed, tagged and named.
 
-use crate::digits::{GROUP_CONTEXT, answers, bytes_of, holds, spelled, spells, value_of};
+use crate::digits::{GROUP_CONTEXT, answers, bytes_of, holds, spelling_of, spells, value_of};
 use mls_types::*;
 use std::alloc::Global;
 use std::test::Fail;
@@ -80,7 +80,7 @@ fn signed_with(alloc: Global, framed: &str) -> Result<Vec<u8>, LeafError> {
     let confirmation_tag = Bytes::from_vec(bytes_of(alloc, "bb")?);
     let content = value_of::<FramedContent>(alloc, framed)?;
     let content = SignedContent::new(Box::into_inner(content), signature, confirmation_tag);
-    spelled(content, alloc)
+    spelling_of(content, alloc)
 }
 
 fn framed_of(alloc: Global, signed: &str) -> Result<Vec<u8>, LeafError> {

@@ -1,6 +1,6 @@
 //! Messages that are lent from their bytes.
 
-use crate::digits::{bytes_of, decoded, holds, spelled};
+use crate::digits::{bytes_of, number_of_decoding, holds, spelling_of};
 use mls_types::*;
 use mls_view::*;
 use std::alloc::{AllocError, Global};
@@ -53,7 +53,7 @@ fn public_messages(rt: HostRuntime) -> Result<(), Fail> {
 fn is_owned(alloc: Global, digits: &str) -> Result<bool, LeafError> {
     let bytes = bytes_of(alloc, digits)?;
     let view = MessageView::read(&bytes)?;
-    let again = spelled(view.to_owned(alloc)?, alloc)?;
+    let again = spelling_of(view.to_owned(alloc)?, alloc)?;
     Ok(again == bytes)
 }
 
@@ -132,7 +132,7 @@ fn number_of(bytes: &[u8]) -> u8 {
 /// Whether the view answers what `decode` does.
 fn agrees(alloc: Global, digits: &str) -> Result<bool, LeafError> {
     let bytes = bytes_of(alloc, digits)?;
-    Ok(number_of(&bytes) == decoded::<MlsMessage>(alloc, &bytes)?)
+    Ok(number_of(&bytes) == number_of_decoding::<MlsMessage>(alloc, &bytes)?)
 }
 
 /// Asserts that of each message.
@@ -161,7 +161,7 @@ fn messages_refused(rt: HostRuntime) -> Result<(), Fail> {
 }
 
 /// A message of 4,194,304 bytes: these in front, then a byte string of zeros that fills it up, and these behind it.
-fn filled(alloc: Global, front: &str, behind: &str) -> Result<Vec<u8>, AllocError> {
+fn fill_message(alloc: Global, front: &str, behind: &str) -> Result<Vec<u8>, AllocError> {
     let mut bytes = bytes_of(alloc, front)?;
     let behind = bytes_of(alloc, behind)?;
     let content = 4_194_300usize
@@ -176,7 +176,7 @@ fn filled(alloc: Global, front: &str, behind: &str) -> Result<Vec<u8>, AllocErro
 
 /// Whether the view reads the message that is filled up so.
 fn is_read(alloc: Global, front: &str, behind: &str) -> Result<bool, LeafError> {
-    let bytes = filled(alloc, front, behind)?;
+    let bytes = fill_message(alloc, front, behind)?;
     Ok(number_of(&bytes) == 0)
 }
 

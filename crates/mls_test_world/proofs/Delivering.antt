@@ -14,11 +14,11 @@ use Rattle.mls_model.specs.declared.event.Reply.{Reply}
 use Rattle.mls_model.specs.Answers.{Runs}
 use Rattle.mls_model.specs.Agreement.{AgreeSecret, Keeps}
 use Rattle.mls_model.proofs.CommitLaws.{names_are_held}
-use Rattle.mls_model.specs.Headline.{IsActive, IsAdded, is_removed, Accepts, Joins, KeepsOthers, KeepsMembers, FollowsPending, Headline, HoldsAlong}
+use Rattle.mls_model.specs.Headline.{IsActive, IsAdded, is_removed, Accepts, JoinsGroup, KeepsOthers, KeepsMembers, FollowsPending, Headline, HoldsAlong}
 use Rattle.mls_model.specs.Journal.{Entry, CommitMade, with_entry, list_in, entry_of, is_homemade}
 use Rattle.mls_model.specs.Member.{Member}
 use Rattle.mls_model.specs.Run.{step, run}
-use Rattle.mls_model.specs.World.{World, Entrant, Seat, bytes_of, made_for}
+use Rattle.mls_model.specs.World.{World, Entrant, Seat, bytes_of, commit_for_joiner}
 use Rattle.mls_test_world.specs.Deliveries.{HasPending, CanFollow, IsReceiver, IsWelcomeFor, IsDelivery, AreApart, EachOnce, IsNext, FollowsOrLeaves, TookPart, joins_in, CommitsReachAll}
 
 -- ---- lists
@@ -61,7 +61,7 @@ added_alike : (w v : World) (d : CommitMade) (n : ℕ) (e : Entrant) → slice_g
 added_alike w v d n e same a = record { is = same ∙ a.is; unspent = a.unspent; adds = a.adds }
 
 welcome_alike : (w v : World) (d : CommitMade) (e : Entrant) (source : Source) → v.made ≡ w.made → IsWelcomeFor w d e source → IsWelcomeFor v d e source
-welcome_alike w v d e (Given given) same h = (h.0, ap (λ (made : List CommitMade). made_for made (Given given) e.candidate) same ∙ h.1)
+welcome_alike w v d e (Given given) same h = (h.0, ap (λ (made : List CommitMade). commit_for_joiner made (Given given) e.candidate) same ∙ h.1)
 welcome_alike w v d e (Message n) same h = h
 
 -- after a delivery
@@ -159,11 +159,11 @@ delivered_to c w place d k s source h made home r b = by_maker r.can
     by_maker (inl own) = inl (inl own.0, own_delivery c w place d k s source h made r.active r.journal own.0 own.1 b)
     by_maker (inr other) = by_accepts (is_removed s d) refl (h.accepted place k d s source made home r.active other.0 r.journal other.1 b)
 
-joined_to : (c : Crypto) (w : World) (place : ℕ) (d : CommitMade) (n : ℕ) (e : Entrant) (source : Source) → Headline c w → slice_get w.made place ≡ Some d → IsAdded w n e d → IsWelcomeFor w d e source → Joins c w n source d
+joined_to : (c : Crypto) (w : World) (place : ℕ) (d : CommitMade) (n : ℕ) (e : Entrant) (source : Source) → Headline c w → slice_get w.made place ≡ Some d → IsAdded w n e d → IsWelcomeFor w d e source → JoinsGroup c w n source d
 joined_to c w place d n e (Message m) h made added x = h.joined_by_number place n m x.0 d e made x.1 added
 joined_to c w place d n e (Given given) h made added x =
     let j = h.joined_by_bytes place n x.0.0 given.items (Given given) d e made x.0.1 refl added in
-    subst (λ (f : CommitMade). Joins c w n (Given given) f) (one_there (made_for w.made (Given given) e.candidate) j.0 d j.1 x.1) j.2
+    subst (λ (f : CommitMade). JoinsGroup c w n (Given given) f) (one_there (commit_for_joiner w.made (Given given) e.candidate) j.0 d j.1 x.1) j.2
 
 -- ---- what stays of it
 
@@ -272,7 +272,7 @@ progress c d place (Join n source ∷ es) w made home h each once =
     let now : Headline c w = holds_now c w (Join n source ∷ es) h in
     let u : World = (step c w (Join n source)).1 in
     let o : KeepsMembers w u n = now.joined n source in
-    let j : Joins c w n source d = joined_to c w place d n x.0 source now made x.1 x.2 in
+    let j : JoinsGroup c w n source d = joined_to c w place d n x.0 source now made x.1 x.2 in
     let did : IsNext u d (length w.seats) = record { seat = j.after; active = j.is_after; journal = j.journal; epoch = j.epoch } in
     let rest : Progress u (run c u es) d es = progress c d place es u
     (ap (λ (m : List CommitMade). slice_get m place) o.made ∙ made) (ap (λ (m : List CommitMade). is_homemade m d.journal) o.made ∙ home) (holds_on c w (Join n source) es h)

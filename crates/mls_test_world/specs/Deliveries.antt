@@ -10,7 +10,7 @@ use Rattle.mls_model.specs.Agreement.{Agree, AgreeSecret, Keeps}
 use Rattle.mls_model.specs.Headline.{IsActive, IsAdded, is_removed}
 use Rattle.mls_model.specs.Journal.{CommitMade, with_entry, list_in, is_homemade}
 use Rattle.mls_model.specs.Member.{Pending}
-use Rattle.mls_model.specs.World.{World, Entrant, Seat, bytes_of, made_for}
+use Rattle.mls_model.specs.World.{World, Entrant, Seat, bytes_of, commit_for_joiner}
 
 -- ---- whom a commit is for
 
@@ -36,7 +36,7 @@ pub record IsReceiver (w : World) (d : CommitMade) (k : ℕ) (s : Seat) : Type 0
 -- these bytes for the candidate
 abbrev pub IsWelcomeFor : World → CommitMade → Entrant → Source → Type 0
 IsWelcomeFor w d e (Message n) = (bytes : List ℕ) × (d.welcome ≡ Some (n, bytes))
-IsWelcomeFor w d e (Given given) = ((n : ℕ) × (d.welcome ≡ Some (n, given.items))) × (made_for w.made (Given given) e.candidate ≡ Some d)
+IsWelcomeFor w d e (Given given) = ((n : ℕ) × (d.welcome ≡ Some (n, given.items))) × (commit_for_joiner w.made (Given given) e.candidate ≡ Some d)
 
 -- an event delivers the commit to one that it is for, or its Welcome to a candidate that isn't spent and that it adds
 abbrev pub IsDelivery : World → CommitMade → Event → Type 0
@@ -97,13 +97,13 @@ abbrev pub TookPart : World → List Event → ℕ → Type 0
 TookPart w events k = IsDeliveredTo events k ⊎ (length w.seats ≤ k)
 
 -- how many join by an event, and by a list of them
-abbrev pub joined_by : Event → ℕ
-joined_by (Join n source) = 1
-joined_by other = 0
+abbrev pub joins_by : Event → ℕ
+joins_by (Join n source) = 1
+joins_by other = 0
 
 unfoldable pub joins_in : List Event → ℕ
 joins_in [] = 0
-joins_in (e ∷ es) = joined_by e + joins_in es
+joins_in (e ∷ es) = joins_by e + joins_in es
 
 -- each receiver follows the commit or is removed by it; as many members are new as joins, each of them in the commit's
 -- epoch; and all that took part and weren't removed hold one public state, and one epoch secret with its nine secrets

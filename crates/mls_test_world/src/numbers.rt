@@ -1,6 +1,6 @@
 //! The numbers that a world answers before its members do.
 
-use crate::script::{Act, Part, Parts, Said, Sent, both_ways};
+use crate::script::{Act, Part, Parts, Said, Sent, run_both_ways};
 use std::test::Fail;
 
 #[test]
@@ -24,7 +24,7 @@ fn candidates(rt: HostRuntime) -> Result<(), Fail> {
         (Act::Join(1, Sent::Cut), Said::Refused(2)),
         (Act::Create(1, 3), Said::Created(1)),
     ];
-    let _world = both_ways(&rt, rt.alloc(), &acts)?;
+    let _world = run_both_ways(&rt, rt.alloc(), &acts)?;
     Ok(())
 }
 
@@ -44,7 +44,7 @@ fn members(rt: HostRuntime) -> Result<(), Fail> {
         (Act::Drop(1), Said::Refused(90)),
         (Act::Drop(0), Said::Dropped(false)),
     ];
-    let _world = both_ways(&rt, rt.alloc(), &acts)?;
+    let _world = run_both_ways(&rt, rt.alloc(), &acts)?;
     Ok(())
 }
 
@@ -69,6 +69,6 @@ fn sources(rt: HostRuntime) -> Result<(), Fail> {
         // The first source decides.
         (Act::Commit(0, both, true, 3), Said::Refused(2)),
     ];
-    let _world = both_ways(&rt, rt.alloc(), &acts)?;
+    let _world = run_both_ways(&rt, rt.alloc(), &acts)?;
     Ok(())
 }

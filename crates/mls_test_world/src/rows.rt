@@ -1,6 +1,6 @@
 //! Groups of two and three members, and what crosses between them.
 
-use crate::script::{Act, Part, Parts, Said, Sent, both_ways, run};
+use crate::script::{Act, Part, Parts, Said, Sent, run_both_ways, run};
 use mls_model::{Effect, Event, Origin, Reply, Source};
 use mls_suite::{Glass, OutOfMemory};
 use mls_world::World;
@@ -30,7 +30,7 @@ fn two_members(rt: &impl Abort, alloc: Global) -> Result<World<Glass>, OutOfMemo
         (Act::Deliver(0, Sent::Made(2)), Said::Advanced(1)),
         (Act::Join(1, Sent::Made(3)), Said::Joined(1, 1)),
     ];
-    both_ways(rt, alloc, &acts)
+    run_both_ways(rt, alloc, &acts)
 }
 
 /// Whether the journal of member k begins with a creation by the first member, and has that message as its one commit.

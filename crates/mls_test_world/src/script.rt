@@ -154,7 +154,7 @@ fn event_of(alloc: Global, act: Act) -> Result<Event, OutOfMemory> {
     }
 }
 
-fn shown_effect(effect: Effect) -> Said {
+fn said_of_effect(effect: Effect) -> Said {
     match effect {
         Effect::Proposed { .. } => Said::Proposed,
         Effect::Known { .. } => Said::Known,
@@ -163,7 +163,7 @@ fn shown_effect(effect: Effect) -> Said {
     }
 }
 
-fn shown(reply: Reply) -> Said {
+fn said_of_reply(reply: Reply) -> Said {
     match reply {
         Reply::Candidate { candidate, message } => Said::Candidate(candidate, message),
         Reply::Created { member } => Said::Created(member),
@@ -177,7 +177,7 @@ fn shown(reply: Reply) -> Said {
             welcome: Some(welcome),
         } => Said::Welcome(message, welcome),
         Reply::Dropped { pending } => Said::Dropped(pending),
-        Reply::Delivered { effect: e } => shown_effect(e),
+        Reply::Delivered { effect: e } => said_of_effect(e),
         Reply::Joined { member, epoch } => Said::Joined(member, epoch),
         Reply::Refused { number } => Said::Refused(number),
     }
@@ -198,13 +198,13 @@ pub fn run(
     world.run(&events, &mut replies)?;
     assert_eq!(rt; replies.len(), acts.len());
     for (reply, (_, wanted)) in replies.iter().zip(acts) {
-        assert_eq!(rt; shown(*reply), *wanted);
+        assert_eq!(rt; said_of_reply(*reply), *wanted);
     }
     Ok(())
 }
 
 /// What the call that an event is answers: candidates, groups and joins.
-fn entered(world: &mut World<Glass>, event: &Event) -> Result<Said, WorldError> {
+fn call_event(world: &mut World<Glass>, event: &Event) -> Result<Said, WorldError> {
     match event {
         Event::Candidate { identity, seed } => {
             let new = world.candidate(identity, seed)?;
@@ -219,12 +219,12 @@ fn entered(world: &mut World<Glass>, event: &Event) -> Result<Said, WorldError> 
             let new = world.join(*candidate, bytes)?;
             Ok(Said::Joined(new.member, new.epoch))
         }
-        _ => proposed(world, event),
+        _ => call_proposal(world, event),
     }
 }
 
 /// What members propose.
-fn proposed(world: &mut World<Glass>, event: &Event) -> Result<Said, WorldError> {
+fn call_proposal(world: &mut World<Glass>, event: &Event) -> Result<Said, WorldError> {
     match event {
         Event::ProposeAdd {
             member,
@@ -236,12 +236,12 @@ fn proposed(world: &mut World<Glass>, event: &Event) -> Result<Said, WorldError>
         Event::ProposeRemove { member, leaf } => {
             Ok(Said::Proposal(world.propose_remove(*member, *leaf)?))
         }
-        _ => followed(world, event),
+        _ => call_commit_or_delivery(world, event),
     }
 }
 
 /// What members commit and follow.
-fn followed(world: &mut World<Glass>, event: &Event) -> Result<Said, WorldError> {
+fn call_commit_or_delivery(world: &mut World<Glass>, event: &Event) -> Result<Said, WorldError> {
     match event {
         Event::Commit {
             member,
@@ -256,7 +256,7 @@ fn followed(world: &mut World<Glass>, event: &Event) -> Result<Said, WorldError>
             }
         }
         Event::DropPending { member } => Ok(Said::Dropped(world.drop_pending(*member)?)),
-        Event::Deliver { member, bytes } => Ok(shown_effect(world.deliver(*member, bytes)?)),
+        Event::Deliver { member, bytes } => Ok(said_of_effect(world.deliver(*member, bytes)?)),
         _ => Ok(Said::Refused(0)),
     }
 }
@@ -270,7 +270,7 @@ pub fn call_each(
 ) -> Result<(), OutOfMemory> {
     for (act, wanted) in acts {
         let event = event_of(alloc, *act)?;
-        let said = match entered(world, &event) {
+        let said = match call_event(world, &event) {
             Ok(said) => said,
             Err(error) => Said::Refused(error.number()),
         };
@@ -280,7 +280,7 @@ pub fn call_each(
 }
 
 /// Runs acts in one world, and calls them in another.
-pub fn both_ways(
+pub fn run_both_ways(
     rt: &impl Abort,
     alloc: Global,
     acts: &[(Act, Said)],

@@ -9,20 +9,20 @@ use Rattle.mls_model.specs.declared.effect.Effect.{Effect}
 use Rattle.mls_model.specs.declared.effect.Effect.TheVariants.{Advanced, Removed}
 use Rattle.mls_model.specs.declared.event.Source.{Source}
 use Rattle.mls_model.specs.Agreement.{Agree, Keeps}
-use Rattle.mls_model.specs.Public.{PublicState}
+use Rattle.mls_model.specs.PublicState.{PublicState}
 use Rattle.mls_model.specs.Claims.{Receives, FollowsTo}
 use Rattle.mls_model.specs.EpochLaws.{IsIn}
 use Rattle.mls_model.proofs.EpochLaws.{advanced_active}
-use Rattle.mls_model.specs.Headline.{Follows, Leaves, Accepts, AcceptsHomemade, MakersKeep}
+use Rattle.mls_model.specs.Headline.{FollowsCommit, LeavesGroup, Accepts, AcceptsHomemade, MakersKeep}
 use Rattle.mls_model.specs.Invariant.{IsSeated, IsRecorded, IsGoodBy}
 use Rattle.mls_model.specs.Journal.{Entry, CommitMade, with_entry, names_in, removes_in, list_in, entry_of}
 use Rattle.mls_model.specs.Lineage.{IsReached}
-use Rattle.mls_model.specs.Member.{Member, left}
-use Rattle.mls_model.specs.PublicOf.{Creations}
+use Rattle.mls_model.specs.Member.{Member, after_removal}
+use Rattle.mls_model.specs.JournalState.{Creations}
 use Rattle.mls_model.specs.Verdict.{verdict}
 use Rattle.mls_model.specs.World.{World, Seat, bytes_of}
 use Rattle.mls_model.proofs.CommitLaws.{names_are_held}
-use Rattle.mls_model.proofs.StillLaws.{DeliveryIs, delivery}
+use Rattle.mls_model.proofs.UnchangedLaws.{DeliveryIs, delivery}
 use Rattle.mls_theorems.proofs.Framing.{one_public}
 use Rattle.mls_theorems.proofs.Journals.{public_agreement}
 use Rattle.mls_theorems.proofs.Stays.{receivers_hold}
@@ -38,24 +38,24 @@ entry_is : (m : Member) (e : Entry) → names_in m.kept (list_in e.commit) ≡ e
 unfolding entry_of
 entry_is m e h = ap (λ (x : List (List ℕ)). entry_with e.commit x) h
 
-gone_is : (m : Member) → (left m).gone ≡ true
-unfolding left
+gone_is : (m : Member) → (after_removal m).gone ≡ true
+unfolding after_removal
 gone_is m = refl
 
 accepts : (c : Crypto) (creations : Creations) (w : World) (k : ℕ) (d : CommitMade) (s : Seat) (source : Source) (r : IsRecorded c creations w d) → slice_get w.seats k ≡ Some s → Keeps s.member.kept (list_in d.entry.commit) d.entry.names →
     bytes_of w source ≡ Ok d.entry.commit → Receives c s.member r.list r.call → Accepts c w k s source d
 accepts c creations w k d s source r at keeps b claim =
     record {
-      removed = λ e. by_leaves (delivery c w k s source d.entry.commit (Removed, left s.member) at b (ap (verdict c s.member) r.commit ∙ claim.removed (ap (λ (l : List ProposalOrRef). has (removes_in s.member.kept l) s.member.keys.leaf) (sym r.listed) ∙ e)));
+      removed = λ e. by_leaves (delivery c w k s source d.entry.commit (Removed, after_removal s.member) at b (ap (verdict c s.member) r.commit ∙ claim.removed (ap (λ (l : List ProposalOrRef). has (removes_in s.member.kept l) s.member.keys.leaf) (sym r.listed) ∙ e)));
       follows = λ e. by_follows (claim.follows (ap (λ (l : List ProposalOrRef). has (removes_in s.member.kept l) s.member.keys.leaf) (sym r.listed) ∙ e));
     }
   where
-    by_leaves : DeliveryIs c w k s source d.entry.commit (Removed, left s.member) → Leaves c w k s source
+    by_leaves : DeliveryIs c w k s source d.entry.commit (Removed, after_removal s.member) → LeavesGroup c w k s source
     by_leaves v =
-        let t : Seat = record { member = left s.member; journal = s.journal } in
+        let t : Seat = record { member = after_removal s.member; journal = s.journal } in
         record { after = t; reply = v.reply; is_after = ap (λ (l : List Seat). slice_get l k) v.seats ∙ set_here w.seats k t s at; gone = gone_is s.member; journal = refl }
 
-    by_follows : FollowsTo c s.member r.call → Follows c w k s source d
+    by_follows : FollowsTo c s.member r.call → FollowsCommit c w k s source d
     by_follows f =
         let x : Effect × Member = (Advanced (s.member.public.context.epoch + 1), f.after) in
         let takes : verdict c s.member d.entry.commit ≡ Ok x = ap (verdict c s.member) r.commit ∙ f.is in

@@ -2,7 +2,7 @@
 -- same or twins; their trees are good and their private keys exact.
 use Rattle.std.proofs.Common.{◌≡◌, ℕ, true, List, [], ◌∷◌, Some, Result, Ok, refl, sym, ap, subst, ◌∙◌, inl}
 use Rattle.mls_wire.proofs.CheckLaws.{bind_ok, given_ok}
-use Rattle.mls_wire.specs.Checks.{given}
+use Rattle.mls_wire.specs.Checks.{require_some}
 use Rattle.mls_leaf.specs.Faults.{whole}
 use Rattle.mls_leaf.specs.Limits.{input_limit}
 use Rattle.mls_types.specs.GroupInfo.{group_info}
@@ -22,18 +22,18 @@ use Rattle.mls_model.specs.Invariant.{tag_of_body, tag_of_message, tag_of_info, 
 use Rattle.mls_model.specs.Journal.{Entry, Journal, CommitMade, is_homemade, is_homemade_from}
 use Rattle.mls_model.specs.Lineage.{IsReached}
 use Rattle.mls_model.specs.Member.{Member}
-use Rattle.mls_model.specs.Messages.{decoded, public_in}
-use Rattle.mls_model.specs.Public.{PublicState}
-use Rattle.mls_model.specs.PublicOf.{Creations, public_after_body, public_after, public_of_info, public_of}
+use Rattle.mls_model.specs.Messages.{decode_message, public_in}
+use Rattle.mls_model.specs.PublicState.{PublicState}
+use Rattle.mls_model.specs.JournalState.{Creations, public_after_body, public_after, public_of_info, public_of}
 use Rattle.mls_model.specs.World.{World}
-use Rattle.mls_theorems.specs.Journals.{StandsAlong}
+use Rattle.mls_theorems.specs.Journals.{StandsAtJournal}
 use Rattle.mls_theorems.proofs.Journals.{public_agreement, secret_agreement, last_more}
 use Rattle.mls_theorems.proofs.Past.{past_along}
 use Rattle.mls_theorems.proofs.Secrets.{agree_secret, one_creation, same_secret}
 
 -- ---- where a member stands
 
-pub stands : (c : Crypto) (creations : Creations) (w : World) (j : Journal) (m : Member) → IsReached c creations w.made j.origin j.entries m → StandsAlong c creations j.origin j.entries m
+pub stands : (c : Crypto) (creations : Creations) (w : World) (j : Journal) (m : Member) → IsReached c creations w.made j.origin j.entries m → StandsAtJournal c creations j.origin j.entries m
 stands c creations w j m r = past_along c creations w.made j.origin j.entries m r
 
 -- a member that was reached along a journal was along one that is equal
@@ -78,13 +78,13 @@ public_is (message.KeyPackage u) v e = absurd cc
 abbrev found : MlsMessage → Result MlsMessage ℕ
 found m = Ok m
 
-tag_after : (c : Crypto) (p q : PublicState) (e : Entry) → public_after c p e ≡ Ok q → (tag : List ℕ) × (tag_of_message (decoded e.commit) ≡ Some tag)
+tag_after : (c : Crypto) (p q : PublicState) (e : Entry) → public_after c p e ≡ Ok q → (tag : List ℕ) × (tag_of_message (decode_message e.commit) ≡ Some tag)
 unfolding public_after
 tag_after c p q e h =
-    let s1 = bind_ok (decoded e.commit) _ _ h in
-    let s2 = bind_ok (given 41 (public_in s1.0)) _ _ s1.2 in
+    let s1 = bind_ok (decode_message e.commit) _ _ h in
+    let s2 = bind_ok (require_some 41 (public_in s1.0)) _ _ s1.2 in
     let t = tag_in_body c p q e.names s2.0.content s2.0.content.body s2.2 in
-    let reads : decoded e.commit ≡ found (message.PublicMessage s2.0) = s1.1 ∙ ap found (public_is s1.0 s2.0 (given_ok 41 (public_in s1.0) s2.0 s2.1)) in
+    let reads : decode_message e.commit ≡ found (message.PublicMessage s2.0) = s1.1 ∙ ap found (public_is s1.0 s2.0 (given_ok 41 (public_in s1.0) s2.0 s2.1)) in
     (t.0, ap tag_of_message reads ∙ t.1)
 
 tag_of_entry : (c : Crypto) (creations : Creations) (origin : Origin) (e : Entry) (es : List Entry) (p : PublicState) → public_of c creations origin (e ∷ es) ≡ Ok p → (tag : List ℕ) × (last_tag origin (e ∷ es) ≡ Some tag)
@@ -103,7 +103,7 @@ tag_of_joined c creations info p h =
     let s = bind_ok (whole group_info input_limit info) _ _ h in
     (s.0.confirmation_tag, ap tag_of_info s.1)
 
-or_twins : (c : Crypto) (creations : Creations) (w : World) (origin : Origin) (es : List Entry) (m n : Member) → IsReached c creations w.made origin es m → IsReached c creations w.made origin es n → StandsAlong c creations origin es m → StandsAlong c creations origin es n → AgreeOrTwins m n
+or_twins : (c : Crypto) (creations : Creations) (w : World) (origin : Origin) (es : List Entry) (m n : Member) → IsReached c creations w.made origin es m → IsReached c creations w.made origin es n → StandsAtJournal c creations origin es m → StandsAtJournal c creations origin es n → AgreeOrTwins m n
 or_twins c creations w (Creation k) [] m n a b p q = inl (agree_secret m n (one_creation c creations w.made k m n a b))
 or_twins c creations w (JoinedBy info) [] m n a b p q =
     let t = tag_of_joined c creations info m.public p.public in

@@ -13,14 +13,14 @@ use Rattle.mls_treekem_model.specs.Seeds.{sign_seed}
 use Rattle.mls_model.specs.declared.event.Reply.{Reply}
 use Rattle.mls_model.specs.declared.origin.Origin.TheVariants as from
 use Rattle.mls_model.specs.Agreement.{IsGoodMember}
-use Rattle.mls_model.specs.Calls.{candidate_answer, create_answer}
-use Rattle.mls_model.specs.Candidate.{Candidate, offered_leaf, signed_leaf, unsigned_leaf, signed_package, unsigned_package, package_message, new_candidate, created}
+use Rattle.mls_model.specs.WorldCalls.{candidate_answer, create_answer}
+use Rattle.mls_model.specs.Candidate.{Candidate, offered_leaf, signed_leaf, unsigned_leaf, signed_package, unsigned_package, package_message, new_candidate, create_group}
 use Rattle.mls_model.specs.Invariant.{IsGoodBy, IsGoodWorld}
-use Rattle.mls_model.specs.Journal.{CommitMade, begun}
+use Rattle.mls_model.specs.Journal.{CommitMade, new_journal}
 use Rattle.mls_model.specs.Lineage.{IsReached}
 use Rattle.mls_model.specs.Member.{Member}
 use Rattle.mls_model.specs.Messages.{is_within_limit}
-use Rattle.mls_model.specs.PublicOf.{Creations}
+use Rattle.mls_model.specs.JournalState.{Creations}
 use Rattle.mls_model.specs.World.{World, Entrant, Seat, entrant_at}
 use Rattle.mls_theorems.proofs.Committed.{created_good}
 use Rattle.mls_theorems.proofs.Offered.{candidate_good}
@@ -79,8 +79,8 @@ record CreatedDid (k : Candidate) (m : Member) : Type 0 where
   signing : k.signing ≡ m.signing
   free : m.pending ≡ None
 
-created_did : (c : Crypto) (k : Candidate) (group seed : List ℕ) (m : Member) → created c k group seed ≡ Ok m → CreatedDid k m
-unfolding created
+created_did : (c : Crypto) (k : Candidate) (group seed : List ℕ) (m : Member) → create_group c k group seed ≡ Ok m → CreatedDid k m
+unfolding create_group
 created_did c k group seed m h = let s = then_ok _ _ _ h in subst (CreatedDid k) (ok_is _ m s.1) (record { signing = refl; free = refl })
 
 abbrev some_member : Member → Option Member
@@ -94,12 +94,12 @@ pub create_kept : (c : Crypto) (creations : Creations) (w : World) → IsGoodBy 
 unfolding create_answer
 create_kept c creations w g n group seed x h =
     let s1 = bind_ok (entrant_at w n) _ _ h in
-    let s2 = bind_ok (created c s1.0.candidate group seed) _ _ s1.2 in
+    let s2 = bind_ok (create_group c s1.0.candidate group seed) _ _ s1.2 in
     let u : IsUnspent w n s1.0 = entrant_did w n s1.0 s1.1 in
     let m : Member = s2.0 in
     let did : CreatedDid s1.0.candidate m = created_did c s1.0.candidate group seed m s2.1 in
     let good : IsGoodMember c m = created_good c s1.0.candidate group seed m (g.candidates n s1.0 u.is) s2.1 in
     let at : slice_get (creations ++ (Some m ∷ [])) (length w.seats) ≡ Some (Some m) = subst (λ (i : ℕ). slice_get (creations ++ (Some m ∷ [])) i ≡ Some (Some m)) g.seats (get_length creations (some_member m)) in
-    let t : Seat = record { member = m; journal = begun (from.Creation (length w.seats)) } in
+    let t : Seat = record { member = m; journal = new_journal (from.Creation (length w.seats)) } in
     subst (λ (y : Reply × World). IsGoodWorld c y.1) (ok_is _ x s2.2)
     (creations ++ (Some m ∷ []), one_more c creations w n s1.0 t (Some m) g u.is u.unspent did.signing did.free (alone c (creations ++ (Some m ∷ [])) w.made (length w.seats) m at good))

@@ -17,13 +17,13 @@ use Rattle.mls_tree_model.proofs.ArrayLaws.{perfect-term_of}
 use Rattle.mls_tree_model.specs.Arrays.{leaf_in, parent_in, term_of, padded, height_for, has_last, alternates, sent_term, from_nodes}
 use Rattle.mls_tree_model.specs.Good.{IsGood, has_good_shape, is_within, tree_checks}
 use Rattle.mls_tree_model.proofs.GoodLaws.{good_from_checks}
-use Rattle.mls_tree_model.specs.Lists.{all_parents, asked, rises_here}
+use Rattle.mls_tree_model.specs.Lists.{all_parents, parent_passes, rises_here}
 use Rattle.mls_tree_model.proofs.PlaceLaws.{perfect_itself}
 use Rattle.mls_tree_model.specs.Term.{Term, height, is_full_width, is_perfect}
 use Rattle.mls_tree.specs.Rules.{rules_of}
 use Rattle.mls_tree.specs.Tree.{max_leaves}
 use Rattle.mls_model.specs.Agreement.{NodeFits}
-use Rattle.mls_theorems.specs.Nodes.{LeafFits, ParentShort, PartsFit}
+use Rattle.mls_theorems.specs.NodeSpelling.{LeafFits, ParentShort, PartsFit}
 use Rattle.mls_wire.proofs.CheckLaws.{require_ok}
 use Rattle.mls_tree.proofs.Cells.{Cells, of_front, of_back, of_padded}
 
@@ -51,7 +51,7 @@ cell_rises None fits = tt
 cell_rises (Some (in_leaf v)) fits = tt
 cell_rises (Some (in_parent p)) fits = list_rises 0 p.unmerged_leaves fits.1.1.1.0
 
-asked_here : (c : Option Parent) (b : ℕ) (l r : Term) → ParentRises c → asked rises_here b c l r ≡ true
+asked_here : (c : Option Parent) (b : ℕ) (l r : Term) → ParentRises c → parent_passes rises_here b c l r ≡ true
 unfolding rises_here
 asked_here None b l r e = refl
 asked_here (Some p) b l r e = e

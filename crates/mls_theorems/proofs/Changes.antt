@@ -13,8 +13,8 @@ use Rattle.mls_model.specs.Headline.{IsPendingOf}
 use Rattle.mls_model.specs.Invariant.{IsSeated, IsRecorded, IsSpentFor, IsGoodBy}
 use Rattle.mls_model.specs.Journal.{CommitMade}
 use Rattle.mls_model.specs.Lineage.{IsSameState, IsReached}
-use Rattle.mls_model.specs.Member.{Kept, Member, Pending}
-use Rattle.mls_model.specs.PublicOf.{Creations}
+use Rattle.mls_model.specs.Member.{KeptProposal, Member, Pending}
+use Rattle.mls_model.specs.JournalState.{Creations}
 use Rattle.mls_model.specs.World.{World, Entrant, Seat}
 use Rattle.mls_theorems.proofs.Journals.{same_itself}
 use Rattle.mls_theorems.specs.Lists.{Grows}
@@ -41,7 +41,7 @@ abbrev pub KeepsOn : Member → Member → Type 0
 KeepsOn m n = m.public.context.epoch ≡ n.public.context.epoch → (list : List ProposalOrRef) (names : List (List ℕ)) → Keeps m.kept list names → Keeps n.kept list names
 
 pub keeps_same : (m n : Member) → m.kept ≡ n.kept → KeepsOn m n
-keeps_same m n same e list names h = subst (λ (kept : List Kept). Keeps kept list names) same h
+keeps_same m n same e list names h = subst (λ (kept : List KeptProposal). Keeps kept list names) same h
 
 -- member k goes on in another world
 pub record GoesOn (w : World) (k : ℕ) (s : Seat) : Type 0 where

@@ -25,12 +25,12 @@ use Rattle.mls_tree_model.specs.Way.{way}
 use Rattle.mls_tree_model.proofs.KeptLaws.{good_single}
 use Rattle.mls_tree_model.specs.Term.{Term, Leaf, width, leaf_at, leaf_of}
 use Rattle.mls_tree.specs.Rules.{rules_of}
-use Rattle.mls_treekem_model.specs.Keys.{Along, Exact}
+use Rattle.mls_treekem_model.specs.Keys.{AreKeysAlong, Exact}
 use Rattle.mls_treekem_model.proofs.MemberLaws.{exact_whole}
 use Rattle.mls_treekem_model.specs.Members.{HasExact}
 use Rattle.mls_model.specs.Agreement.{NodeFits, IsGoodMember, IsGoodCandidate}
-use Rattle.mls_model.specs.Candidate.{Candidate, first_context, created}
-use Rattle.mls_model.specs.Make.{committed}
+use Rattle.mls_model.specs.Candidate.{Candidate, first_context, create_group}
+use Rattle.mls_model.specs.Make.{commit_call}
 use Rattle.mls_model.specs.Member.{Member}
 use Rattle.mls_model.specs.Messages.{is_within_limit}
 use Rattle.mls_schedule.specs.Epoch.{confirmation_tag}
@@ -42,13 +42,13 @@ use Rattle.mls_tree_model.proofs.LengthLaws.{length-tree_hash}
 use Rattle.mls_theorems.proofs.Pends.{made_pends}
 use Rattle.mls_theorems.proofs.Spelled.{package_leaf}
 use Rattle.mls_wire.proofs.CheckLaws.{then_ok, bind_ok}
-use Rattle.mls_theorems.proofs.Still.{pending_good}
+use Rattle.mls_theorems.proofs.UnchangedMembers.{pending_good}
 use Rattle.mls_theorems.proofs.Sent.{within_is}
 
 -- ---- a commit
 
-pub committed_good : (c : Crypto) (m : Member) (list : List ProposalOrRef) (wants_path : Bool) (seed : List ℕ) (x : (List ℕ × Option (List ℕ)) × Member) → IsGoodMember c m → AllByRecursion proposal_or_ref.Fits list → committed c m list wants_path seed ≡ Ok x → IsGoodMember c x.1
-unfolding committed
+pub committed_good : (c : Crypto) (m : Member) (list : List ProposalOrRef) (wants_path : Bool) (seed : List ℕ) (x : (List ℕ × Option (List ℕ)) × Member) → IsGoodMember c m → AllByRecursion proposal_or_ref.Fits list → commit_call c m list wants_path seed ≡ Ok x → IsGoodMember c x.1
+unfolding commit_call
 committed_good c m list wants_path seed x good fits h =
     let s = bind_ok _ _ _ h in
     subst (λ (y : (List ℕ × Option (List ℕ)) × Member). IsGoodMember c y.1) (ok_is _ x s.2)
@@ -83,7 +83,7 @@ unfolding leaf_of leaf_at width
 alone_leaf x = refl
 
 exact_alone : (c : Crypto) (x : LeafNode) (own : List ℕ) → x.encryption_key ≡ c.public own → Exact c 0 (Leaf (Some x)) 0 (Some own ∷ [])
-unfolding Along way leaf_at
+unfolding AreKeysAlong way leaf_at
 exact_alone c x own e = sym e
 
 alone_exact : (c : Crypto) (x : LeafNode) (own : List ℕ) → x.encryption_key ≡ c.public own → HasExact c (Leaf (Some x)) (record { leaf = 0; own = own; above = [] })
@@ -123,8 +123,8 @@ first_good c k group seed good low =
       nodes = alone_nodes k.offered.leaf_node (package_leaf k.offered good.package_of);
     }
 
-pub created_good : (c : Crypto) (k : Candidate) (group seed : List ℕ) (m : Member) → IsGoodCandidate c k → created c k group seed ≡ Ok m → IsGoodMember c m
-unfolding created first_member
+pub created_good : (c : Crypto) (k : Candidate) (group seed : List ℕ) (m : Member) → IsGoodCandidate c k → create_group c k group seed ≡ Ok m → IsGoodMember c m
+unfolding create_group first_member
 created_good c k group seed m good h =
     let s = then_ok _ _ _ h in
     subst (IsGoodMember c) (ok_is (first_member c k group seed) m s.1) (first_good c k group seed good s.0)

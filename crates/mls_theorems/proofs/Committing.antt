@@ -19,7 +19,7 @@ use Rattle.mls_schedule.specs.Epoch.{welcome_key, welcome_nonce}
 use Rattle.mls_model.specs.declared.event.Reply.{Reply}
 use Rattle.mls_model.specs.declared.event.WorldItem.{WorldItem}
 use Rattle.mls_model.specs.Agreement.{IsGoodMember}
-use Rattle.mls_model.specs.Calls.{made_by, commit_messages, commit_answer}
+use Rattle.mls_model.specs.WorldCalls.{commit_record, commit_messages, commit_answer}
 use Rattle.mls_model.specs.Claims.{IsMade}
 use Rattle.mls_model.specs.Commit.{Change}
 use Rattle.mls_model.proofs.CommitLaws.{names_in_order}
@@ -29,15 +29,15 @@ use Rattle.mls_model.specs.Journal.{CommitMade, names_in, list_in}
 use Rattle.mls_model.specs.Make.{MadePath, Made, make, welcome_if}
 use Rattle.mls_model.specs.Member.{Member, Pending, with_pending}
 use Rattle.mls_model.specs.Messages.{is_within_limit}
-use Rattle.mls_model.specs.PublicOf.{Creations}
-use Rattle.mls_model.specs.Range.{IsItemInRange}
+use Rattle.mls_model.specs.JournalState.{Creations}
+use Rattle.mls_model.specs.EventRange.{IsItemInRange}
 use Rattle.mls_model.specs.Welcome.{entries_for, welcome_message}
 use Rattle.mls_model.specs.World.{World, Seat, with_member, seat_at, items_of}
-use Rattle.mls_theorems.proofs.Along.{made_along}
-use Rattle.mls_theorems.specs.Makes.{Makes, made_of}
+use Rattle.mls_theorems.proofs.CommitEntries.{made_along}
+use Rattle.mls_theorems.specs.CommitCalls.{Makes, made_of}
 use Rattle.mls_theorems.proofs.Makes.{make_did}
 use Rattle.mls_theorems.proofs.Pends.{made_pends}
-use Rattle.mls_theorems.proofs.Still.{pending_good}
+use Rattle.mls_theorems.proofs.UnchangedMembers.{pending_good}
 use Rattle.mls_theorems.proofs.Journals.{pending_same, same_itself}
 use Rattle.mls_theorems.proofs.Changes.{KeepsOn, keeps_same, AreMessages, one_message, two_messages, more_messages, IsNewNumber, more_made, change_member}
 use Rattle.mls_theorems.proofs.Lists.{some, grows_none, get_append, get_length, get_below, get_second}
@@ -100,10 +100,10 @@ welcome_at made messages None x e = absurd cc
 welcome_at made messages (Some b) x e = get_second messages [] made.commit b ∙ e
 
 recorded : (c : Crypto) (creations : Creations) (w : World) (k : ℕ) (s : Seat) (list : List ProposalOrRef) (made : Made) → IsGoodBy c creations w → slice_get w.seats k ≡ Some s → s.member.gone ≡ false → IsMade c s.member list made →
-    IsRecorded c creations (record w { messages = w.messages ++ commit_messages made made.welcome; made = w.made ++ (made_by w k s list made ∷ []) }) (made_by w k s list made)
-unfolding made_by
+    IsRecorded c creations (record w { messages = w.messages ++ commit_messages made made.welcome; made = w.made ++ (commit_record w k s list made ∷ []) }) (commit_record w k s list made)
+unfolding commit_record
 recorded c creations w k s list made g at active is =
-    let d : CommitMade = made_by w k s list made in
+    let d : CommitMade = commit_record w k s list made in
     record {
       maker = s.member;
       list = list;
@@ -126,8 +126,8 @@ recorded c creations w k s list made g at active is =
       keeps = λ _. let k = make_did c s.member list is.wants_path is.seed made is.is in names_in_order s.member.kept s.member.keys.leaf list k.used k.uses;
     }
 
-new_number : (c : Crypto) (creations : Creations) (w : World) (k : ℕ) (s : Seat) (list : List ProposalOrRef) (made : Made) → IsGoodBy c creations w → IsNewNumber w (made_by w k s list made)
-unfolding made_by
+new_number : (c : Crypto) (creations : Creations) (w : World) (k : ℕ) (s : Seat) (list : List ProposalOrRef) (made : Made) → IsGoodBy c creations w → IsNewNumber w (commit_record w k s list made)
+unfolding commit_record
 new_number c creations w k s list made g i n x y e at is new =
     let low = get_below w.messages n y ((g.records i e at).number n y is) in
     let p = (number_is made.welcome (length w.messages + 1) n x new).0 in
@@ -149,11 +149,11 @@ is_pending m p q e = e
 one_pending : (p q : Pending) → some_pending p ≡ Some q → p ≡ q
 one_pending p q e = cc
 
-pends : (c : Crypto) (w : World) (k : ℕ) (s : Seat) (list : List ProposalOrRef) (made : Made) (v : World) → v.made ≡ w.made ++ (made_by w k s list made ∷ []) → IsMade c s.member list made →
+pends : (c : Crypto) (w : World) (k : ℕ) (s : Seat) (list : List ProposalOrRef) (made : Made) (v : World) → v.made ≡ w.made ++ (commit_record w k s list made ∷ []) → IsMade c s.member list made →
     IsPendingOf v k (record { member = with_pending s.member made.pending; journal = s.journal }) made.pending
-unfolding made_by with_pending
+unfolding commit_record with_pending
 pends c w k s list made v is_made is =
-    let d : CommitMade = made_by w k s list made in
+    let d : CommitMade = commit_record w k s list made in
     let message = pending_message c s.member list made is in
     let lists : list_in made.pending.message ≡ list = ap list_in message ∙ (made_along c s.member list made is).lists in
     record {
@@ -169,14 +169,14 @@ pends c w k s list made v is_made is =
 
 commits : (c : Crypto) (creations : Creations) (w : World) (k : ℕ) (s : Seat) (list : List ProposalOrRef) (wants_path : Bool) (seed : List ℕ) (made : Made) → IsGoodBy c creations w → slice_get w.seats k ≡ Some s →
     AllByRecursion proposal_or_ref.Fits list → make c s.member list wants_path seed ≡ Ok made →
-    IsGoodBy c creations (record (with_member w k s (with_pending s.member made.pending)) { messages = w.messages ++ commit_messages made made.welcome; made = w.made ++ (made_by w k s list made ∷ []) })
+    IsGoodBy c creations (record (with_member w k s (with_pending s.member made.pending)) { messages = w.messages ++ commit_messages made made.welcome; made = w.made ++ (commit_record w k s list made ∷ []) })
 commits c creations w k s list wants_path seed made g at fits h =
     let steps = make_did c s.member list wants_path seed made h in
     let active : s.member.gone ≡ false = not-true s.member.gone steps.active in
     let good : IsGoodMember c s.member = (g.members k s (record { is = at; active = active })).good in
     let is : IsMade c s.member list made = record { good = good; fits = fits; wants_path = wants_path; seed = seed; is = h } in
     let within = made_within c s.member list wants_path seed made steps in
-    let d : CommitMade = made_by w k s list made in
+    let d : CommitMade = commit_record w k s list made in
     let g1 = more_messages c creations w (commit_messages made made.welcome) g (messages_by made made.welcome (bytes_within made.commit within.commit) (λ bytes e. bytes_within bytes (within.welcome bytes e))) in
     let w1 : World = record w { messages = w.messages ++ commit_messages made made.welcome } in
     let g2 = more_made c creations w1 d g1 (recorded c creations w k s list made g at active is) (new_number c creations w k s list made g) in

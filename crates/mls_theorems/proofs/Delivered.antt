@@ -27,9 +27,9 @@ use Rattle.mls_model.specs.declared.effect.Effect.{Effect}
 use Rattle.mls_model.specs.declared.effect.Effect.TheVariants.{Proposed, Known, Advanced, Removed}
 use Rattle.mls_model.specs.Agreement.{IsGoodKept, IsGoodPending, IsGoodIfPending, IsGoodMember}
 use Rattle.mls_model.specs.Commit.{Change, public_with, next_public}
-use Rattle.mls_model.specs.Member.{Kept, Pending, Member, kept_under, named, first_own_key, with_keys, advanced, keeping, left}
-use Rattle.mls_model.specs.Messages.{decoded, sender_leaf, reference_of}
-use Rattle.mls_model.specs.Public.{PublicState}
+use Rattle.mls_model.specs.Member.{KeptProposal, Pending, Member, kept_under, named_proposals, first_own_key, with_keys, with_epoch, with_kept, after_removal}
+use Rattle.mls_model.specs.Messages.{decode_message, sender_leaf, reference_of}
+use Rattle.mls_model.specs.PublicState.{PublicState}
 use Rattle.mls_model.specs.Verdict.{is_kept, kept_of, verdict}
 use Rattle.mls_treekem_model.specs.Keys.{PrivateKeys}
 use Rattle.mls_theorems.specs.CommitLaws.{KeepsSignature}
@@ -37,18 +37,18 @@ use Rattle.mls_theorems.proofs.Exact.{keys_next}
 use Rattle.mls_theorems.proofs.Inversion.{edited_steps, body_steps}
 use Rattle.mls_theorems.proofs.Own.{used_have_passed, used_are_owned}
 use Rattle.mls_theorems.proofs.Signatures.{signatures_next}
-use Rattle.mls_theorems.specs.Next.{IsNext}
+use Rattle.mls_theorems.specs.NextStates.{IsNext}
 use Rattle.mls_theorems.proofs.Next.{is_next}
 use Rattle.mls_theorems.proofs.One.{IsOneOf}
-use Rattle.mls_model.specs.Found.{IsFramed, IsNowKept, WasRemoved, HasFollowed, DidPending, reached_epoch}
+use Rattle.mls_model.specs.VerdictFindings.{IsFramed, IsNowKept, WasRemoved, HasFollowed, DidPending, reached_epoch}
 use Rattle.mls_model.proofs.Found.{CommitDid, ContentDid, ReceivedDid, DidOther}
 use Rattle.mls_model.proofs.Receipts.{did_receive, did_take}
 use Rattle.mls_theorems.proofs.Spelled.{commit_in}
 use Rattle.mls_theorems.proofs.Stays.{taken}
 use Rattle.mls_wire.proofs.CheckLaws.{bind_ok}
 use Rattle.mls_model.proofs.KeyLaws.{leaf_stays}
-use Rattle.mls_theorems.proofs.Still.{keeping_good, left_good}
-use Rattle.mls_theorems.proofs.Along.{to}
+use Rattle.mls_theorems.proofs.UnchangedMembers.{keeping_good, left_good}
+use Rattle.mls_theorems.proofs.CommitEntries.{to}
 
 abbrev framed_of : PublicMessage → FramedContent
 framed_of v = framed v.content
@@ -58,30 +58,30 @@ framed_of v = framed v.content
 pub one_said : (v w : PublicMessage) (r : Result MlsMessage ℕ) → r ≡ Ok (message.PublicMessage v) → r ≡ Ok (message.PublicMessage w) → v ≡ w
 one_said v w r a b = cc
 
-message_fits : (bytes : List ℕ) (v : PublicMessage) → IsBytes bytes → decoded bytes ≡ Ok (message.PublicMessage v) → mls_message.Fits (message.PublicMessage v)
-unfolding decoded
+message_fits : (bytes : List ℕ) (v : PublicMessage) → IsBytes bytes → decode_message bytes ≡ Ok (message.PublicMessage v) → mls_message.Fits (message.PublicMessage v)
+unfolding decode_message
 message_fits bytes v are h = (whole_takes mls_message input_limit bytes (message.PublicMessage v) are h).fits
 
 -- a message that is kept is a proposal, kept under its reference
-pub kept_as : (c : Crypto) (m : Member) (kept : List Kept) (bytes : List ℕ) → AllByRecursion (IsGoodKept c m) kept → is_kept kept bytes ≡ true → (k : Kept) × IsGoodKept c m k × IsOneOf k kept × (k.message ≡ bytes)
+pub kept_as : (c : Crypto) (m : Member) (kept : List KeptProposal) (bytes : List ℕ) → AllByRecursion (IsGoodKept c m) kept → is_kept kept bytes ≡ true → (k : KeptProposal) × IsGoodKept c m k × IsOneOf k kept × (k.message ≡ bytes)
 unfolding IsOneOf
 kept_as c m [] bytes good h = absurd (true≢false (sym h))
 kept_as c m (k ∷ ks) bytes good h = by_test (bytes_eq k.message bytes) refl h (kept_as c m ks bytes good.1)
   where
-    by_test : (b : Bool) → bytes_eq k.message bytes ≡ b → (b || is_kept ks bytes) ≡ true → (is_kept ks bytes ≡ true → (x : Kept) × IsGoodKept c m x × IsOneOf x ks × (x.message ≡ bytes)) →
-        (x : Kept) × IsGoodKept c m x × IsOneOf x (k ∷ ks) × (x.message ≡ bytes)
+    by_test : (b : Bool) → bytes_eq k.message bytes ≡ b → (b || is_kept ks bytes) ≡ true → (is_kept ks bytes ≡ true → (x : KeptProposal) × IsGoodKept c m x × IsOneOf x ks × (x.message ≡ bytes)) →
+        (x : KeptProposal) × IsGoodKept c m x × IsOneOf x (k ∷ ks) × (x.message ≡ bytes)
     by_test true e t rest = (k, good.0, inl refl, (bytes_eq-Decides _ _).0 e)
     by_test false e t rest = let r = rest t in (r.0, r.1, inr r.2, r.3)
 
 -- what stands in a list is found by its reference
-under_one : (kept : List Kept) (k : Kept) → IsOneOf k kept → is_some (kept_under kept k.reference) ≡ true
+under_one : (kept : List KeptProposal) (k : KeptProposal) → IsOneOf k kept → is_some (kept_under kept k.reference) ≡ true
 unfolding IsOneOf kept_under
 under_one [] k is = absurd is
 under_one (x ∷ xs) k is = by_test (bytes_eq x.reference k.reference) refl is (under_one xs k)
   where
-    by_test : (b : Bool) → bytes_eq x.reference k.reference ≡ b → (x ≡ k) ⊎ IsOneOf k xs → (IsOneOf k xs → is_some (find (λ (y : Kept). bytes_eq y.reference k.reference) xs) ≡ true) → is_some (cond b (Some x) (find (λ (y : Kept). bytes_eq y.reference k.reference) xs)) ≡ true
+    by_test : (b : Bool) → bytes_eq x.reference k.reference ≡ b → (x ≡ k) ⊎ IsOneOf k xs → (IsOneOf k xs → is_some (find (λ (y : KeptProposal). bytes_eq y.reference k.reference) xs) ≡ true) → is_some (cond b (Some x) (find (λ (y : KeptProposal). bytes_eq y.reference k.reference) xs)) ≡ true
     by_test true e o rest = refl
-    by_test false e (inl same) rest = absurd (true≢false (sym ((bytes_eq-Decides _ _).1 (ap (λ (y : Kept). y.reference) same)) ∙ e))
+    by_test false e (inl same) rest = absurd (true≢false (sym ((bytes_eq-Decides _ _).1 (ap (λ (y : KeptProposal). y.reference) same)) ∙ e))
     by_test false e (inr o) rest = rest o
 
 -- a message of the member's own leaf is one that it keeps
@@ -94,16 +94,16 @@ some_leaf : (o : Option LeafNode) (x : LeafNode) → o ≡ Some x → IsSome o
 some_leaf o x e = rw e refl
 
 -- where it is new, it isn't the member's own
-not_own : (c : Crypto) (m : Member) (bytes : List ℕ) (v : PublicMessage) → IsGoodMember c m → decoded bytes ≡ Ok (message.PublicMessage v) → IsFramed c m v bytes → is_some (kept_under m.kept (reference_of v.content)) ≡ false → sender_leaf v.content.sender ≢ m.keys.leaf
+not_own : (c : Crypto) (m : Member) (bytes : List ℕ) (v : PublicMessage) → IsGoodMember c m → decode_message bytes ≡ Ok (message.PublicMessage v) → IsFramed c m v bytes → is_some (kept_under m.kept (reference_of v.content)) ≡ false → sender_leaf v.content.sender ≢ m.keys.leaf
 not_own c m bytes v good reads framed fresh same =
     let kept : is_kept m.kept bytes ≡ true = own_is_kept (sender_leaf v.content.sender) m.keys.leaf (is_kept m.kept bytes) framed.other same in
     let k = kept_as c m m.kept bytes good.kept kept in
-    let said : k.1.said ≡ v = one_said k.1.said v (decoded bytes) (sym (ap decoded k.3) ∙ k.1.decodes) reads in
+    let said : k.1.said ≡ v = one_said k.1.said v (decode_message bytes) (sym (ap decode_message k.3) ∙ k.1.decodes) reads in
     let reference : k.0.reference ≡ reference_of v.content = sym k.1.reference ∙ ap (λ (x : PublicMessage). reference_of x.content) said in
     let known : is_some (kept_under m.kept (reference_of v.content)) ≡ true = ap (λ (r : List ℕ). is_some (kept_under m.kept r)) (sym reference) ∙ under_one m.kept k.0 k.2 in
     true≢false (sym known ∙ fresh)
 
-proposed_kept : (c : Crypto) (m : Member) (bytes : List ℕ) (v : PublicMessage) (said : Proposal) (x : Effect × Member) → IsGoodMember c m → IsBytes bytes → decoded bytes ≡ Ok (message.PublicMessage v) → IsFramed c m v bytes → v.content.body ≡ body_of.Proposal said →
+proposed_kept : (c : Crypto) (m : Member) (bytes : List ℕ) (v : PublicMessage) (said : Proposal) (x : Effect × Member) → IsGoodMember c m → IsBytes bytes → decode_message bytes ≡ Ok (message.PublicMessage v) → IsFramed c m v bytes → v.content.body ≡ body_of.Proposal said →
     IsNowKept c m v.content bytes said x → IsGoodKept c m (kept_of v.content bytes said)
 proposed_kept c m bytes v said x good are reads framed says new = record {
   said = v;
@@ -126,18 +126,18 @@ after_is P e m x q h = subst P (ap (λ (y : Effect × Member). y.1) q) h
 -- ---- a commit
 
 -- its committer isn't the member itself, since it keeps proposals alone
-pub other_committer : (c : Crypto) (m : Member) (bytes : List ℕ) (v : PublicMessage) (x : Commit) (tag : List ℕ) → IsGoodMember c m → decoded bytes ≡ Ok (message.PublicMessage v) → IsFramed c m v bytes → v.content.body ≡ body_of.Commit x tag → sender_leaf v.content.sender ≢ m.keys.leaf
+pub other_committer : (c : Crypto) (m : Member) (bytes : List ℕ) (v : PublicMessage) (x : Commit) (tag : List ℕ) → IsGoodMember c m → decode_message bytes ≡ Ok (message.PublicMessage v) → IsFramed c m v bytes → v.content.body ≡ body_of.Commit x tag → sender_leaf v.content.sender ≢ m.keys.leaf
 other_committer c m bytes v x tag good reads framed says same =
     let kept : is_kept m.kept bytes ≡ true = own_is_kept (sender_leaf v.content.sender) m.keys.leaf (is_kept m.kept bytes) framed.other same in
     let k = kept_as c m m.kept bytes good.kept kept in
-    let said : k.1.said ≡ v = one_said k.1.said v (decoded bytes) (sym (ap decoded k.3) ∙ k.1.decodes) reads in
+    let said : k.1.said ≡ v = one_said k.1.said v (decode_message bytes) (sym (ap decode_message k.3) ∙ k.1.decodes) reads in
     let both : body_of.Proposal k.0.proposal ≡ body_of.Commit x tag = sym k.1.says ∙ ap (λ (y : PublicMessage). y.content.body) said ∙ says in
     absurd cc
 
 -- the member in the next epoch
 next_good : (c : Crypto) (m : Member) (change : Change) (tag epoch : List ℕ) (keys : PrivateKeys) (good : IsGoodMember c m) → IsNext c change → keys.leaf ≡ m.keys.leaf → HasExact c change.tree keys → KeepsSignature m.keys.leaf good.own change.tree →
-    IsGoodMember c (advanced m (public_with change tag) epoch keys)
-unfolding advanced public_with
+    IsGoodMember c (with_epoch m (public_with change tag) epoch keys)
+unfolding with_epoch public_with
 next_good c m change tag epoch keys good next same exact signed = record {
   tree = next.good;
   hash = next.hash;
@@ -152,7 +152,7 @@ next_good c m change tag epoch keys good next same exact signed = record {
   nodes = next.nodes;
 }
 
-followed_good : (c : Crypto) (m : Member) (bytes : List ℕ) (v : PublicMessage) (y : Commit) (tag : List ℕ) (x : Effect × Member) → IsGoodMember c m → IsBytes bytes → decoded bytes ≡ Ok (message.PublicMessage v) → IsFramed c m v bytes → v.content.body ≡ body_of.Commit y tag →
+followed_good : (c : Crypto) (m : Member) (bytes : List ℕ) (v : PublicMessage) (y : Commit) (tag : List ℕ) (x : Effect × Member) → IsGoodMember c m → IsBytes bytes → decode_message bytes ≡ Ok (message.PublicMessage v) → IsFramed c m v bytes → v.content.body ≡ body_of.Commit y tag →
     (d : CommitDid c m v.content y tag x) → HasFollowed c m v.content y tag d.used d.change x → IsGoodMember c x.1
 followed_good c m bytes v y tag x good are reads framed says d f =
     let i : ℕ = sender_leaf v.content.sender in
@@ -162,9 +162,9 @@ followed_good c m bytes v y tag x good are reads framed says d f =
     let next = is_next c m i d.used y (framed_of v) v.content.signature d.change good there d.below (commit_in v y tag (message_fits bytes v are reads) says) d.uses d.change_is in
     let owns = used_are_owned c m i y.proposals d.used good.kept apart d.uses in
     let passed = used_have_passed c m i y.proposals d.used good.kept d.uses in
-    let exact = keys_next c m i d.used y (framed_of v) v.content.signature d.change (first_own_key (named m.kept y.proposals)) f.climb d.change_is there mine apart f.stays owns good.keys f.opens in
+    let exact = keys_next c m i d.used y (framed_of v) v.content.signature d.change (first_own_key (named_proposals m.kept y.proposals)) f.climb d.change_is there mine apart f.stays owns good.keys f.opens in
     let signed = signatures_next c m.public i d.used y (framed_of v) v.content.signature d.change m.keys.leaf good.own passed there d.change_is good.is_own f.stays in
-    after_is (IsGoodMember c) (Advanced d.change.context.epoch) (advanced m (public_with d.change tag) (reached_epoch m d.change f.climb) (with_keys m.keys f.climb.keys)) x f.is
+    after_is (IsGoodMember c) (Advanced d.change.context.epoch) (with_epoch m (public_with d.change tag) (reached_epoch m d.change f.climb) (with_keys m.keys f.climb.keys)) x f.is
     (next_good c m d.change tag (reached_epoch m d.change f.climb) (with_keys m.keys f.climb.keys) good next (leaf_stays m.keys f.climb.keys) exact signed)
 
 tree_with : (change : Change) (tag : List ℕ) (q : PublicState) → public_with change tag ≡ q → change.tree ≡ q.tree
@@ -172,7 +172,7 @@ unfolding public_with
 tree_with change tag q e = ap (λ (y : PublicState). y.tree) e
 
 -- and over its own pending commit
-pub pending_leads : (c : Crypto) (m : Member) (p : Pending) → IsGoodMember c m → IsGoodPending c m p → IsGoodMember c (advanced m p.public p.epoch p.keys)
+pub pending_leads : (c : Crypto) (m : Member) (p : Pending) → IsGoodMember c m → IsGoodPending c m p → IsGoodMember c (with_epoch m p.public p.epoch p.keys)
 unfolding next_public
 pending_leads c m p good h =
     let s = bind_ok _ _ _ h.next in
@@ -185,21 +185,21 @@ pending_leads c m p good h =
     let e = edited_steps c m.public m.keys.leaf h.used change.edits b.edits in
     let signed = signatures_next c m.public m.keys.leaf h.used h.commit (framed_of h.said) h.said.content.signature change m.keys.leaf good.own passed mine s.1 good.is_own e.not_removed in
     let exact : HasExact c change.tree p.keys = subst (λ (t : Term). HasExact c t p.keys) (sym (tree_with change h.tag p.public public)) h.keys in
-    subst (λ (q : PublicState). IsGoodMember c (advanced m q p.epoch p.keys)) public (next_good c m change h.tag p.epoch p.keys good next h.leaf exact signed)
+    subst (λ (q : PublicState). IsGoodMember c (with_epoch m q p.epoch p.keys)) public (next_good c m change h.tag p.epoch p.keys good next h.leaf exact signed)
 
 -- ---- any bytes
 
-content_good : (c : Crypto) (m : Member) (bytes : List ℕ) (v : PublicMessage) (b : SignedBody) (x : Effect × Member) → IsGoodMember c m → IsBytes bytes → decoded bytes ≡ Ok (message.PublicMessage v) → IsFramed c m v bytes → v.content.body ≡ b →
+content_good : (c : Crypto) (m : Member) (bytes : List ℕ) (v : PublicMessage) (b : SignedBody) (x : Effect × Member) → IsGoodMember c m → IsBytes bytes → decode_message bytes ≡ Ok (message.PublicMessage v) → IsFramed c m v bytes → v.content.body ≡ b →
     ContentDid c m v.content bytes b x → IsGoodMember c x.1
 content_good c m bytes v (body_of.Application text) x good are reads framed says d = absurd d
 content_good c m bytes v (body_of.Proposal said) x good are reads framed says (inl d) = after_is (IsGoodMember c) (Known (reference_of v.content)) m x d.is good
 content_good c m bytes v (body_of.Proposal said) x good are reads framed says (inr d) =
-    after_is (IsGoodMember c) (Proposed (reference_of v.content)) (keeping m (kept_of v.content bytes said)) x d.is
+    after_is (IsGoodMember c) (Proposed (reference_of v.content)) (with_kept m (kept_of v.content bytes said)) x d.is
     (keeping_good c m (kept_of v.content bytes said) good (proposed_kept c m bytes v said x good are reads framed says d))
 content_good c m bytes v (body_of.Commit y tag) x good are reads framed says d = by_case d.did
   where
     by_case : WasRemoved m d.used x ⊎ HasFollowed c m v.content y tag d.used d.change x → IsGoodMember c x.1
-    by_case (inl r) = after_is (IsGoodMember c) Removed (left m) x r.is (left_good c m good)
+    by_case (inl r) = after_is (IsGoodMember c) Removed (after_removal m) x r.is (left_good c m good)
     by_case (inr f) = followed_good c m bytes v y tag x good are reads framed says d f
 
 -- Whatever bytes a good member takes, it is good afterwards.
@@ -209,7 +209,7 @@ delivered_good c m bytes x good are h = by_case (did_take c m bytes x h).did
     by_case : DidPending m bytes x ⊎ DidOther c m bytes x → IsGoodMember c x.1
     by_case (inl d) =
         let p : IsGoodPending c m d.pending = subst (IsGoodIfPending c m) d.is_pending good.pending in
-        after_is (IsGoodMember c) (Advanced d.pending.public.context.epoch) (advanced m d.pending.public d.pending.epoch d.pending.keys) x d.is (pending_leads c m d.pending good p)
+        after_is (IsGoodMember c) (Advanced d.pending.public.context.epoch) (with_epoch m d.pending.public d.pending.epoch d.pending.keys) x d.is (pending_leads c m d.pending good p)
     by_case (inr d) =
         let r : ReceivedDid c m bytes x = did_receive c m bytes x d.is in
         content_good c m bytes r.said r.said.content.body x good are r.decodes r.is_framed refl r.did

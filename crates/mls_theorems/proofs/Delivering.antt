@@ -18,19 +18,19 @@ use Rattle.mls_model.specs.declared.effect.Effect.TheVariants.{Advanced}
 use Rattle.mls_model.specs.declared.event.Reply.{Reply}
 use Rattle.mls_model.specs.declared.event.Source.{Source}
 use Rattle.mls_model.specs.Agreement.{IsGoodPending, IsGoodIfPending, IsGoodMember}
-use Rattle.mls_model.specs.Calls.{journal_after, deliver_answer}
-use Rattle.mls_model.specs.Commit.{Change, body, public_with, next_public}
+use Rattle.mls_model.specs.WorldCalls.{journal_after, deliver_answer}
+use Rattle.mls_model.specs.Commit.{Change, change_of_commit, public_with, next_public}
 use Rattle.mls_model.specs.Headline.{IsPendingOf}
 use Rattle.mls_model.specs.Invariant.{IsGoodBy, IsGoodWorld}
 use Rattle.mls_model.specs.Journal.{Entry, Journal, CommitMade, with_entry, names_in, list_in, entry_of}
-use Rattle.mls_model.specs.Lineage.{Steps, IsReached}
-use Rattle.mls_model.specs.Member.{Pending, Member, with_keys, advanced, left}
-use Rattle.mls_model.specs.Public.{PublicState, Used}
-use Rattle.mls_model.specs.PublicOf.{Creations}
-use Rattle.mls_model.specs.Range.{IsSourceInRange}
+use Rattle.mls_model.specs.Lineage.{IsReachedOver, IsReached}
+use Rattle.mls_model.specs.Member.{Pending, Member, with_keys, with_epoch, after_removal}
+use Rattle.mls_model.specs.PublicState.{PublicState, Used}
+use Rattle.mls_model.specs.JournalState.{Creations}
+use Rattle.mls_model.specs.EventRange.{IsSourceInRange}
 use Rattle.mls_model.specs.Verdict.{kept_of, own_pending, verdict}
 use Rattle.mls_model.specs.World.{World, Seat, seat_at, bytes_of}
-use Rattle.mls_model.specs.Found.{reached_epoch, HasFollowed, WasRemoved, DidPending}
+use Rattle.mls_model.specs.VerdictFindings.{reached_epoch, HasFollowed, WasRemoved, DidPending}
 use Rattle.mls_model.proofs.Found.{ContentDid, ReceivedDid, DidOther}
 use Rattle.mls_model.proofs.Receipts.{did_receive, did_take}
 use Rattle.mls_theorems.proofs.Delivered.{delivered_good}
@@ -47,29 +47,29 @@ use Rattle.mls_theorems.proofs.Sources.{source_bytes}
 abbrev seat_with : Member → Journal → Seat
 seat_with m j = record { member = m; journal = j }
 
-reached_next : (c : Crypto) (creations : Creations) (made : List CommitMade) (j : Journal) (m n : Member) (e : Entry) → IsReached c creations made j.origin j.entries m → IsGoodMember c n → Steps c made j m e n → IsReached c creations made j.origin (e ∷ j.entries) n
+reached_next : (c : Crypto) (creations : Creations) (made : List CommitMade) (j : Journal) (m n : Member) (e : Entry) → IsReached c creations made j.origin j.entries m → IsGoodMember c n → IsReachedOver c made j m e n → IsReached c creations made j.origin (e ∷ j.entries) n
 unfolding IsReached
 reached_next c creations made j m n e past good steps = (m, past, good, steps)
 
 -- a member that followed a commit
 advances : (c : Crypto) (creations : Creations) (w : World) (k : ℕ) (s : Seat) (n : Member) (e : Entry) → IsGoodBy c creations w → slice_get w.seats k ≡ Some s → s.member.gone ≡ false → s.member.signing ≡ n.signing → s.member.public.context.epoch < n.public.context.epoch →
-    n.pending ≡ None → IsGoodMember c n → Steps c w.made s.journal s.member e n → IsGoodBy c creations (record w { seats = slice_set w.seats k (seat_with n (with_entry s.journal e)) })
+    n.pending ≡ None → IsGoodMember c n → IsReachedOver c w.made s.journal s.member e n → IsGoodBy c creations (record w { seats = slice_set w.seats k (seat_with n (with_entry s.journal e)) })
 advances c creations w k s n e g at active signing later free good steps =
     change_member c creations w k s (seat_with n (with_entry s.journal e)) g at signing (inr later) (λ same. absurd (omega (arith, later, same)))
     (λ _. reached_next c creations w.made s.journal s.member n e (g.members k s (record { is = at; active = active })).reached good steps) (λ p _ h. absurd (none_there n.pending p free h))
 
 -- what is new of it
-fresh : (m : Member) (public : PublicState) (epoch : List ℕ) (keys : PrivateKeys) → let n : Member = advanced m public epoch keys in (m.signing ≡ n.signing) × (n.pending ≡ None) × (m.public.context.epoch < public.context.epoch → m.public.context.epoch < n.public.context.epoch)
-unfolding advanced
+fresh : (m : Member) (public : PublicState) (epoch : List ℕ) (keys : PrivateKeys) → let n : Member = with_epoch m public epoch keys in (m.signing ≡ n.signing) × (n.pending ≡ None) × (m.public.context.epoch < public.context.epoch → m.public.context.epoch < n.public.context.epoch)
+unfolding with_epoch
 fresh m public epoch keys = (refl, refl, λ l. l)
 
 -- ---- it was removed
 
-removes : (c : Crypto) (creations : Creations) (w : World) (k : ℕ) (s : Seat) → IsGoodBy c creations w → slice_get w.seats k ≡ Some s → IsGoodBy c creations (record w { seats = slice_set w.seats k (seat_with (left s.member) s.journal) })
-unfolding left
+removes : (c : Crypto) (creations : Creations) (w : World) (k : ℕ) (s : Seat) → IsGoodBy c creations w → slice_get w.seats k ≡ Some s → IsGoodBy c creations (record w { seats = slice_set w.seats k (seat_with (after_removal s.member) s.journal) })
+unfolding after_removal
 removes c creations w k s g at =
-    change_member c creations w k s (seat_with (left s.member) s.journal) g at refl (inl (record { public = refl; epoch = refl; keys = refl; signing = refl }))
-    (keeps_same s.member (left s.member) refl) (λ h. absurd cc) (λ p h e. absurd cc)
+    change_member c creations w k s (seat_with (after_removal s.member) s.journal) g at refl (inl (record { public = refl; epoch = refl; keys = refl; signing = refl }))
+    (keeps_same s.member (after_removal s.member) refl) (λ h. absurd cc) (λ p h e. absurd cc)
 
 -- ---- what was delivered
 
@@ -89,44 +89,44 @@ next_epoch c p q i used commit said signature tag h =
     omega (arith, d, e)
 
 -- its pending commit
-own_steps : (c : Crypto) (w : World) (k : ℕ) (s : Seat) (bytes : List ℕ) (p : Pending) → IsPendingOf w k s p → p.message ≡ bytes → verdict c s.member bytes ≡ Ok (Advanced p.public.context.epoch, advanced s.member p.public p.epoch p.keys) →
-    Steps c w.made s.journal s.member (entry_of s.member bytes) (advanced s.member p.public p.epoch p.keys)
-unfolding entry_of advanced
+own_steps : (c : Crypto) (w : World) (k : ℕ) (s : Seat) (bytes : List ℕ) (p : Pending) → IsPendingOf w k s p → p.message ≡ bytes → verdict c s.member bytes ≡ Ok (Advanced p.public.context.epoch, with_epoch s.member p.public p.epoch p.keys) →
+    IsReachedOver c w.made s.journal s.member (entry_of s.member bytes) (with_epoch s.member p.public p.epoch p.keys)
+unfolding entry_of with_epoch
 own_steps c w k s bytes p q same h = inr (inl (record {
   which = q.which;
   here = record { place = q.place; is = q.is; journal = q.journal; entry = ap₂ entry_with (q.commit ∙ same) (q.names ∙ ap (λ (b : List ℕ). names_in s.member.kept (list_in b)) same) };
   reaches = q.epoch;
   epoch = p.public.context.epoch;
-  after = advanced s.member p.public p.epoch p.keys;
+  after = with_epoch s.member p.public p.epoch p.keys;
   is = h;
   entry = refl;
-  same = same_itself (advanced s.member p.public p.epoch p.keys);
+  same = same_itself (with_epoch s.member p.public p.epoch p.keys);
 }))
 
 follows_own : (c : Crypto) (creations : Creations) (w : World) (k : ℕ) (s : Seat) (bytes : List ℕ) (p : Pending) → IsGoodBy c creations w → slice_get w.seats k ≡ Some s → s.member.gone ≡ false → s.member.pending ≡ Some p → p.message ≡ bytes →
-    verdict c s.member bytes ≡ Ok (Advanced p.public.context.epoch, advanced s.member p.public p.epoch p.keys) → IsGoodMember c (advanced s.member p.public p.epoch p.keys) →
-    IsGoodBy c creations (world_by w k s bytes (Advanced p.public.context.epoch, advanced s.member p.public p.epoch p.keys))
+    verdict c s.member bytes ≡ Ok (Advanced p.public.context.epoch, with_epoch s.member p.public p.epoch p.keys) → IsGoodMember c (with_epoch s.member p.public p.epoch p.keys) →
+    IsGoodBy c creations (world_by w k s bytes (Advanced p.public.context.epoch, with_epoch s.member p.public p.epoch p.keys))
 follows_own c creations w k s bytes p g at active is same h good =
     let a = g.members k s (record { is = at; active = active }) in
     let q : IsGoodPending c s.member p = subst (IsGoodIfPending c s.member) is a.good.pending in
     let f = fresh s.member p.public p.epoch p.keys in
-    advances c creations w k s (advanced s.member p.public p.epoch p.keys) (entry_of s.member bytes) g at active f.0
+    advances c creations w k s (with_epoch s.member p.public p.epoch p.keys) (entry_of s.member bytes) g at active f.0
     (f.2 (next_epoch c s.member.public p.public s.member.keys.leaf q.used q.commit (framed q.said.content) q.said.content.signature q.tag q.next)) f.1 good
     (own_steps c w k s bytes p (g.pending k s p (record { is = at; active = active }) is) same h)
 
 -- another's commit
-other_steps : (c : Crypto) (w : World) (s : Seat) (bytes : List ℕ) (epoch : ℕ) (n : Member) → own_pending s.member.pending bytes ≡ None → verdict c s.member bytes ≡ Ok (Advanced epoch, n) → Steps c w.made s.journal s.member (entry_of s.member bytes) n
+other_steps : (c : Crypto) (w : World) (s : Seat) (bytes : List ℕ) (epoch : ℕ) (n : Member) → own_pending s.member.pending bytes ≡ None → verdict c s.member bytes ≡ Ok (Advanced epoch, n) → IsReachedOver c w.made s.journal s.member (entry_of s.member bytes) n
 unfolding entry_of
 other_steps c w s bytes epoch n free h = inl (record { free = free; epoch = epoch; after = n; is = h; entry = refl; same = same_itself n })
 
 follows_other : (c : Crypto) (creations : Creations) (w : World) (k : ℕ) (s : Seat) (bytes : List ℕ) (epoch : ℕ) (public : PublicState) (secret : List ℕ) (keys : PrivateKeys) → IsGoodBy c creations w → slice_get w.seats k ≡ Some s → s.member.gone ≡ false →
-    own_pending s.member.pending bytes ≡ None → verdict c s.member bytes ≡ Ok (Advanced epoch, advanced s.member public secret keys) → s.member.public.context.epoch < public.context.epoch → IsGoodMember c (advanced s.member public secret keys) →
-    IsGoodBy c creations (world_by w k s bytes (Advanced epoch, advanced s.member public secret keys))
+    own_pending s.member.pending bytes ≡ None → verdict c s.member bytes ≡ Ok (Advanced epoch, with_epoch s.member public secret keys) → s.member.public.context.epoch < public.context.epoch → IsGoodMember c (with_epoch s.member public secret keys) →
+    IsGoodBy c creations (world_by w k s bytes (Advanced epoch, with_epoch s.member public secret keys))
 follows_other c creations w k s bytes epoch public secret keys g at active free h later good =
     let f = fresh s.member public secret keys in
-    advances c creations w k s (advanced s.member public secret keys) (entry_of s.member bytes) g at active f.0 (f.2 later) f.1 good (other_steps c w s bytes epoch (advanced s.member public secret keys) free h)
+    advances c creations w k s (with_epoch s.member public secret keys) (entry_of s.member bytes) g at active f.0 (f.2 later) f.1 good (other_steps c w s bytes epoch (with_epoch s.member public secret keys) free h)
 
-change_epoch : (c : Crypto) (p : PublicState) (i : ℕ) (used : List Used) (commit : Commit) (said : FramedContent) (signature tag : List ℕ) (change : Change) → body c p i used commit said signature ≡ Ok change → p.context.epoch < (public_with change tag).context.epoch
+change_epoch : (c : Crypto) (p : PublicState) (i : ℕ) (used : List Used) (commit : Commit) (said : FramedContent) (signature tag : List ℕ) (change : Change) → change_of_commit c p i used commit said signature ≡ Ok change → p.context.epoch < (public_with change tag).context.epoch
 unfolding public_with
 change_epoch c p i used commit said signature tag change h = let d = (body_did c p i used commit said signature change h).epoch_is in omega (arith, d)
 
@@ -143,7 +143,7 @@ content_kept c creations w k s bytes v (body_of.Commit commit tag) x g at active
     by_case : WasRemoved s.member d.used x ⊎ HasFollowed c s.member v.content commit tag d.used d.change x → IsGoodBy c creations (world_by w k s bytes x)
     by_case (inl r) = subst (λ (y : Effect × Member). IsGoodBy c creations (world_by w k s bytes y)) r.is (removes c creations w k s g at)
     by_case (inr f) =
-        let n : Member = advanced s.member (public_with d.change tag) (reached_epoch s.member d.change f.climb) (with_keys s.member.keys f.climb.keys) in
+        let n : Member = with_epoch s.member (public_with d.change tag) (reached_epoch s.member d.change f.climb) (with_keys s.member.keys f.climb.keys) in
         subst (λ (y : Effect × Member). IsGoodBy c creations (world_by w k s bytes y)) f.is
         (follows_other c creations w k s bytes d.change.context.epoch (public_with d.change tag) (reached_epoch s.member d.change f.climb) (with_keys s.member.keys f.climb.keys) g at active free (h ∙ ap answered (sym f.is))
         (change_epoch c s.member.public _ d.used commit (framed v.content) v.content.signature tag d.change d.change_is) (subst (IsGoodMember c) (ap (λ (y : Effect × Member). y.1) (sym f.is)) good))

@@ -5,7 +5,7 @@ use Rattle.std.specs.List.{AllByRecursion, list_all}
 use Rattle.std.specs.Str.{bytes_eq}
 use Rattle.std.proofs.lemmas.Bool.{and_parts, ltb-true}
 use Rattle.std.proofs.lemmas.Slice.Eq.{bytes_eq-Decides}
-use Rattle.mls_wire.specs.Checks.{passed, given}
+use Rattle.mls_wire.specs.Checks.{passed, require_some}
 use Rattle.mls_wire.specs.Combine.{optional}
 use Rattle.mls_wire.specs.Format.{IsBytes}
 use Rattle.mls_wire.specs.Laws.{ok_is}
@@ -37,16 +37,16 @@ use Rattle.mls_schedule.specs.Epoch.{welcome_key, welcome_nonce, epoch_secret, c
 use Rattle.mls_schedule.specs.Transcript.{interim_hash}
 use Rattle.mls_model.specs.Agreement.{NodeFits, IsGoodMember, IsGoodCandidate}
 use Rattle.mls_model.specs.Candidate.{Candidate}
-use Rattle.mls_model.specs.Join.{Joined, joined_tree, signer_checks, is_same_leaf, place_of, joined_keys, member_of, join_verdict}
-use Rattle.mls_model.specs.Messages.{decoded, are_bytes}
-use Rattle.mls_model.specs.Opening.{or_fault, welcome_in, Opened, opened_secrets, opened_welcome}
+use Rattle.mls_model.specs.Join.{JoinedMember, joined_tree, signer_checks, is_same_leaf, place_of, joined_keys, member_of, join_verdict}
+use Rattle.mls_model.specs.Messages.{decode_message, are_bytes}
+use Rattle.mls_model.specs.OpenedWelcome.{or_fault, welcome_in, Opened, opened_secrets, opened_welcome}
 use Rattle.mls_model.specs.Proposals.{package_reference}
 use Rattle.mls_theorems.proofs.Exact.{exact_written}
 use Rattle.mls_theorems.proofs.Cells.{taken_good, taken_parts}
 use Rattle.mls_theorems.proofs.Clients.{stands_in}
-use Rattle.mls_theorems.proofs.Grown.{good_nodes_fit}
+use Rattle.mls_theorems.proofs.SpelledTrees.{good_nodes_fit}
 use Rattle.mls_theorems.proofs.Next.{FitsAt, members_fit}
-use Rattle.mls_theorems.specs.Nodes.{PartsFit}
+use Rattle.mls_theorems.specs.NodeSpelling.{PartsFit}
 use Rattle.mls_theorems.proofs.One.{at_one, was_found}
 use Rattle.mls_theorems.proofs.Sent.{leaf_is_in}
 use Rattle.mls_theorems.proofs.Spelled.{one_spelled, package_leaf}
@@ -79,13 +79,13 @@ pub record HasOpened (c : Crypto) (o : Opened) : Type 0 where
 pub has_opened : (c : Crypto) (k : Candidate) (bytes : List ℕ) (o : Opened) → opened_welcome c k bytes ≡ Ok o → HasOpened c o
 unfolding opened_welcome
 has_opened c k bytes o h =
-    let s1 = bind_ok (decoded bytes) _ _ h in
-    let s2 = bind_ok (given 70 (welcome_in s1.0)) _ _ s1.2 in
+    let s1 = bind_ok (decode_message bytes) _ _ h in
+    let s2 = bind_ok (require_some 70 (welcome_in s1.0)) _ _ s1.2 in
     let s3 = require_ok 71 (s2.0.cipher_suite == c.number) _ _ s2.2 in
-    let s4 = bind_ok (given 72 (find (λ (e : EncryptedGroupSecrets). bytes_eq e.new_member (package_reference k.offered)) s2.0.secrets)) _ _ s3.1 in
+    let s4 = bind_ok (require_some 72 (find (λ (e : EncryptedGroupSecrets). bytes_eq e.new_member (package_reference k.offered)) s2.0.secrets)) _ _ s3.1 in
     let s5 = bind_ok (opened_secrets c k s2.0 s4.0) _ _ s4.2 in
     let s6 = require_ok 74 (length s5.0.psks == 0) _ _ s5.2 in
-    let s7 = bind_ok (given 75 (c.aead_open (welcome_key s5.0.joiner_secret) (welcome_nonce s5.0.joiner_secret) [] s2.0.encrypted_group_info)) _ _ s6.1 in
+    let s7 = bind_ok (require_some 75 (c.aead_open (welcome_key s5.0.joiner_secret) (welcome_nonce s5.0.joiner_secret) [] s2.0.encrypted_group_info)) _ _ s6.1 in
     let s8 = require_ok 75 (are_bytes s7.0) _ _ s7.2 in
     let s9 = bind_ok (or_fault 75 (whole group_info input_limit s7.0)) _ _ s8.1 in
     let s10 = require_ok 71 (s9.0.group_context.cipher_suite == c.number) _ _ s9.2 in
@@ -121,7 +121,7 @@ pub record TreeDid (c : Crypto) (info : GroupInfo) (t : Term) : Type 0 where
 pub tree_did : (c : Crypto) (info : GroupInfo) (t : Term) → joined_tree c info ≡ Ok t → TreeDid c info t
 unfolding joined_tree
 tree_did c info t h =
-    let s1 = bind_ok (given 76 info.ratchet_tree) _ _ h in
+    let s1 = bind_ok (require_some 76 info.ratchet_tree) _ _ h in
     let s2 = bind_ok (from_nodes max_leaves s1.0) _ _ s1.2 in
     let s3 = require_ok 77 (bytes_eq info.group_context.tree_hash (tree_hash 0 s2.0)) _ _ s2.2 in
     let s4 = then_ok (tree_checks (rules_of c info.group_context.group_id) s2.0) _ _ s3.1 in
@@ -137,7 +137,7 @@ pub record SignerDid (k : Candidate) (info : GroupInfo) (t : Term) : Type 0 wher
 pub signer_did : (c : Crypto) (k : Candidate) (info : GroupInfo) (t : Term) → signer_checks c k info t ≡ Ok passed → SignerDid k info t
 unfolding signer_checks
 signer_did c k info t h =
-    let s1 = bind_ok (given 78 (leaf_of t info.signer)) _ _ h in
+    let s1 = bind_ok (require_some 78 (leaf_of t info.signer)) _ _ h in
     let s2 = require_ok 78 (not (bytes_eq s1.0.signature_key k.offered.leaf_node.signature_key)) _ _ s1.2 in
     record { leaf = s1.0; is_leaf = given_ok 78 (leaf_of t info.signer) s1.0 s1.1; other = s2.0 }
 
@@ -146,7 +146,7 @@ signer_did c k info t h =
 unfoldable pub alone_at : Candidate → ℕ → PrivateKeys
 alone_at k leaf = record { leaf = leaf; own = k.leaf; above = [] }
 
-unfoldable pub joined_by : Candidate → Opened → Term → PrivateKeys → Joined
+unfoldable pub joined_by : Candidate → Opened → Term → PrivateKeys → JoinedMember
 joined_by k o t keys = record {
   member = record {
     gone = false;
@@ -160,7 +160,7 @@ joined_by k o t keys = record {
   info = o.bytes;
 }
 
-pub record MemberDid (c : Crypto) (k : Candidate) (o : Opened) (joined : Joined) : Type 0 where
+pub record MemberDid (c : Crypto) (k : Candidate) (o : Opened) (joined : JoinedMember) : Type 0 where
   pub tree : Term
   pub is_tree : joined_tree c o.info ≡ Ok tree
   pub signer : signer_checks c k o.info tree ≡ Ok passed
@@ -171,12 +171,12 @@ pub record MemberDid (c : Crypto) (k : Candidate) (o : Opened) (joined : Joined)
   pub confirmed : bytes_eq o.info.confirmation_tag (confirmation_tag (epoch_secret o.joiner (group_context.spell o.info.group_context)) o.info.group_context.confirmed_transcript_hash) ≡ true
   pub is : joined_by k o tree keys ≡ joined
 
-pub member_did : (c : Crypto) (k : Candidate) (o : Opened) (joined : Joined) → member_of c k o ≡ Ok joined → MemberDid c k o joined
+pub member_did : (c : Crypto) (k : Candidate) (o : Opened) (joined : JoinedMember) → member_of c k o ≡ Ok joined → MemberDid c k o joined
 unfolding member_of alone_at joined_by
 member_did c k o joined h =
     let s1 = bind_ok (joined_tree c o.info) _ _ h in
     let s2 = then_ok (signer_checks c k o.info s1.0) _ _ s1.2 in
-    let s3 = bind_ok (given 80 (place_of k.offered.leaf_node s1.0)) _ _ s2.1 in
+    let s3 = bind_ok (require_some 80 (place_of k.offered.leaf_node s1.0)) _ _ s2.1 in
     let s4 = bind_ok (joined_keys c s1.0 o.info.signer (record { leaf = s3.0.0; own = k.leaf; above = [] }) o.path_secret) _ _ s3.2 in
     let s5 = require_ok 65 (bytes_eq o.info.confirmation_tag (confirmation_tag (epoch_secret o.joiner (group_context.spell o.info.group_context)) o.info.group_context.confirmed_transcript_hash)) _ _ s4.2 in
     record { tree = s1.0; is_tree = s1.1; signer = s2.0; place = s3.0; is_place = given_ok 80 (place_of k.offered.leaf_node s1.0) s3.0 s3.1; keys = s4.0; are_keys = s4.1; confirmed = s5.0; is = ok_is _ joined s5.1 }
@@ -244,7 +244,7 @@ became_good c k o t keys good opened context tree is_good parts own exact = reco
 }
 
 -- Whatever Welcome it was given, a candidate that joins is a good member.
-pub joined_good : (c : Crypto) (k : Candidate) (bytes : List ℕ) (joined : Joined) → IsGoodCandidate c k → join_verdict c k bytes ≡ Ok joined → IsGoodMember c joined.member
+pub joined_good : (c : Crypto) (k : Candidate) (bytes : List ℕ) (joined : JoinedMember) → IsGoodCandidate c k → join_verdict c k bytes ≡ Ok joined → IsGoodMember c joined.member
 unfolding join_verdict
 joined_good c k bytes joined good h =
     let s = bind_ok (opened_welcome c k bytes) _ _ h in
@@ -262,4 +262,4 @@ joined_good c k bytes joined good h =
     let signer = signer_did c k o.info m.tree m.signer in
     let keys = keys_did c k m.tree o.info.signer m.place.0 k.offered.leaf_node signer.leaf o.path_secret m.keys signer.is_leaf here
     (apart_by o.info.signer m.place.0 m.tree signer.leaf k.offered.leaf_node signer.is_leaf here signer.other) (sym good.leaf) m.are_keys in
-    subst (λ (j : Joined). IsGoodMember c j.member) m.is (became_good c k o m.tree m.keys good opened parts.0 tree is_good fit (ap (leaf_of m.tree) keys.same ∙ here) keys.exact)
+    subst (λ (j : JoinedMember). IsGoodMember c j.member) m.is (became_good c k o m.tree m.keys good opened parts.0 tree is_good fit (ap (leaf_of m.tree) keys.same ∙ here) keys.exact)

@@ -8,8 +8,8 @@ use Rattle.mls_model.specs.Headline.{IsPendingOf}
 use Rattle.mls_model.specs.Invariant.{IsSeated, IsSpentFor, IsGoodBy}
 use Rattle.mls_model.specs.Lineage.{IsReached}
 use Rattle.mls_model.specs.Member.{Member, Pending}
-use Rattle.mls_model.specs.PublicOf.{Creations}
-use Rattle.mls_model.specs.World.{World, Entrant, Seat, with_joined}
+use Rattle.mls_model.specs.JournalState.{Creations}
+use Rattle.mls_model.specs.World.{World, Entrant, Seat, with_new_member}
 use Rattle.mls_theorems.proofs.Journals.{same_itself}
 use Rattle.mls_theorems.proofs.Changes.{keeps_same, WorldGrows, record_grows, seated_grows, pending_grows}
 use Rattle.mls_theorems.proofs.Lists.{one_there, none_there, grows_none, get_append, get_last, get_set, set_here, set_other}
@@ -20,7 +20,7 @@ first_of o = o ∷ []
 
 -- The new member's first state, where it created its group, is one more creation.
 pub one_more : (c : Crypto) (creations : Creations) (w : World) (n : ℕ) (e : Entrant) (t : Seat) (first : Option Member) → IsGoodBy c creations w → slice_get w.entrants n ≡ Some e → e.is_spent ≡ false → e.candidate.signing ≡ t.member.signing →
-    t.member.pending ≡ None → IsReached c (creations ++ first_of first) w.made t.journal.origin t.journal.entries t.member → IsGoodBy c (creations ++ first_of first) (with_joined w n e t)
+    t.member.pending ≡ None → IsReached c (creations ++ first_of first) w.made t.journal.origin t.journal.entries t.member → IsGoodBy c (creations ++ first_of first) (with_new_member w n e t)
 one_more c creations w n e t first g at unspent signing free reached =
     record {
       seats = let a = length-append creations (first_of first) in let b = length-append w.seats (t ∷ []) in let q = g.seats in omega arith;
@@ -39,7 +39,7 @@ one_more c creations w n e t first g at unspent signing free reached =
     }
   where
     v : World
-    v = with_joined w n e t
+    v = with_new_member w n e t
 
     more : Creations
     more = creations ++ first_of first

@@ -12,17 +12,17 @@ use Rattle.mls_tree_model.specs.Merge.{merge_path}
 use Rattle.mls_treekem_model.specs.Follow.{key_above, leaf_key_after, follow_edit}
 use Rattle.mls_treekem_model.specs.Height.{HasFollowed, keys_on}
 use Rattle.mls_treekem_model.proofs.HeightLaws.{length-end}
-use Rattle.mls_treekem_model.specs.Keys.{Keys, Fits, Along, Exact, PrivateKeys, all_keys}
+use Rattle.mls_treekem_model.specs.Keys.{Keys, Fits, AreKeysAlong, Exact, PrivateKeys, all_keys}
 use Rattle.mls_treekem_model.specs.Laws.{AreTwo}
 use Rattle.mls_treekem_model.specs.Make.{Climb}
 use Rattle.mls_treekem_model.proofs.MemberLaws.{exact_whole, exact_followed, exact_updated}
 use Rattle.mls_treekem_model.specs.Members.{HasExact}
 use Rattle.mls_treekem_model.specs.Open.{opened_path}
 use Rattle.mls_treekem_model.proofs.WholeLaws.{opened_exact}
-use Rattle.mls_model.specs.Proposals.{updates, updated}
-use Rattle.mls_model.specs.Commit.{Change, merged, node_keys}
-use Rattle.mls_model.specs.Member.{Member, above_leaf, of_leaf, with_keys, followed}
-use Rattle.mls_model.specs.Verdict.{climbed}
+use Rattle.mls_model.specs.Proposals.{updates, updated_leaves}
+use Rattle.mls_model.specs.Commit.{Change, apply_path_if, node_keys}
+use Rattle.mls_model.specs.Member.{Member, keys_above_leaf, leaf_key_or, with_keys, follow_edits}
+use Rattle.mls_model.specs.Verdict.{open_path_secret}
 use Rattle.mls_theorems.specs.CommitLaws.{IsRenewed}
 use Rattle.mls_theorems.specs.KeyLaws.{MemberStands, FollowedExact, KeysNext}
 use Rattle.mls_theorems.proofs.Inversion.{edited_steps, with_path_steps, body_steps}
@@ -42,8 +42,8 @@ pub keys_back : (old : PrivateKeys) (own : List ℕ) (ks : Keys) → EndsIn (Som
 unfolding with_keys
 keys_back old own ks h =
     ap₂ (λ (above : Keys) (k : List ℕ). above ++ (Some k ∷ []))
-    (ap above_leaf h.is ∙ above_end h.above own)
-    (ap (of_leaf old.own) h.is ∙ own_end old.own h.above own)
+    (ap keys_above_leaf h.is ∙ above_end h.above own)
+    (ap (leaf_key_or old.own) h.is ∙ own_end old.own h.above own)
     ∙ sym h.is
 
 -- so do keys that followed edits
@@ -63,8 +63,8 @@ lowest_key (k ∷ ks) own =
     rw e (lowest_key ks own)
 
 -- and exact ones
-along_ends : (c : Crypto) (F : Option Parent → Option (List ℕ) → Type 0) (ss : List Step) (x : Option LeafNode) (ks : Keys) → Along c F ss x ks → (own : List ℕ) × EndsIn (Some own) ks
-unfolding Along
+along_ends : (c : Crypto) (F : Option Parent → Option (List ℕ) → Type 0) (ss : List Step) (x : Option LeafNode) (ks : Keys) → AreKeysAlong c F ss x ks → (own : List ℕ) × EndsIn (Some own) ks
+unfolding AreKeysAlong
 along_ends c F [] (Some x) (Some k ∷ []) h = (k, record { above = []; is = refl })
 along_ends c F [] (Some x) (Some k ∷ (o ∷ ks)) h = absurd h
 along_ends c F [] (Some x) (None ∷ ks) h = absurd h
@@ -81,8 +81,8 @@ leaf_after : (own : Option (List ℕ)) (old : PrivateKeys) → (k : List ℕ) ×
 leaf_after None old = (old.own, lowest_key old.above old.own)
 leaf_after (Some k) old = (k, refl)
 
-pub has_followed : (own : Option (List ℕ)) (t : Term) (old : PrivateKeys) → HasFollowed own t old (followed own t old)
-unfolding followed with_keys
+pub has_followed : (own : Option (List ℕ)) (t : Term) (old : PrivateKeys) → HasFollowed own t old (follow_edits own t old)
+unfolding follow_edits with_keys
 has_followed own t old =
     let last = leaf_after own old in
     let ends = subst (λ o. EndsIn o (follow_edit own (way 0 t old.leaf) (all_keys old))) last.1 (follow_ends own (way 0 t old.leaf) (all_keys old)) in
@@ -94,15 +94,15 @@ one_at P (y ∷ xs) zero x h e = let same : y ≡ x = cc in subst P same h.0
 one_at P (y ∷ xs) (suc n) x h e = one_at P xs n x h.1 e
 
 pub followed_exact : FollowedExact
-unfolding updated
+unfolding updated_leaves
 followed_exact c p i used e None old h some r none had =
     let s = edited_steps c p i used e h in
     let x = some_at (leaf_of p.tree old.leaf) some in
     let kept = kept_by c p i used e old.leaf x.0 s x.1 none r in
-    exact_followed c p.tree e.tree old (followed None e.tree old) had kept.follows (has_followed None e.tree old)
+    exact_followed c p.tree e.tree old (follow_edits None e.tree old) had kept.follows (has_followed None e.tree old)
 followed_exact c p i used e (Some key) old h some r own had =
     let renewed = one_at (IsRenewed p.tree e) (updates used) own.place (old.leaf, own.leaf) (edits_renew c p i used e h) own.at in
-    exact_updated c p.tree e.tree own.leaf key old (followed (Some key) e.tree old) own.fits renewed.follows (has_followed (Some key) e.tree old)
+    exact_updated c p.tree e.tree own.leaf key old (follow_edits (Some key) e.tree old) own.fits renewed.follows (has_followed (Some key) e.tree old)
 
 -- ---- the path
 
@@ -123,7 +123,7 @@ path_exact c context added t i path old keys climb two same had opens =
 
 -- where the member stands after the edits
 pub member_stands : MemberStands
-unfolding updated
+unfolding updated_leaves
 member_stands c p i used e None j h some r none =
     let s = edited_steps c p i used e h in
     let x = some_at (leaf_of p.tree j) some in
@@ -134,8 +134,8 @@ member_stands c p i used e (Some key) j h some r own =
     record { leaf = own.leaf; is_leaf = renewed.leaf; old = renewed.old }
 
 module _ (c : Crypto) (m : Member) (i : ℕ) (change : Change) (keys : PrivateKeys) (climb : Climb) (same : keys.leaf ≡ m.keys.leaf) (two : AreTwo 0 change.edits.tree i keys.leaf) (had : HasExact c change.edits.tree keys) where
-  climbed_exact : (path : Option UpdatePath) → merged c m.public i change.edits path ≡ Ok change.tree → climbed c m i change keys path ≡ Ok climb → HasExact c change.tree (with_keys m.keys climb.keys)
-  unfolding merged climbed
+  climbed_exact : (path : Option UpdatePath) → apply_path_if c m.public i change.edits path ≡ Ok change.tree → open_path_secret c m i change keys path ≡ Ok climb → HasExact c change.tree (with_keys m.keys climb.keys)
+  unfolding apply_path_if open_path_secret
   climbed_exact None is takes =
       let tree : change.edits.tree ≡ change.tree = cc in
       let all : all_keys keys ≡ climb.keys = (let made : Climb = record { secret = replicate 32 0; keys = all_keys keys } in let e : made ≡ climb = cc in ap (λ (d : Climb). d.keys) e) in
@@ -153,7 +153,7 @@ keys_next c m i used commit said signature change own climb h maker some apart r
     let kept = kept_by c m.public i used change.edits i x.0 s x.1 s.not_updated s.not_removed in
     let first = taken_at change.edits.tree i x.0 (kept.leaf ∙ x.1) in
     let second = member_stands c m.public i used change.edits own m.keys.leaf b.edits some r owns in
-    let keys = followed own change.edits.tree m.keys in
+    let keys = follow_edits own change.edits.tree m.keys in
     let same : keys.leaf ≡ m.keys.leaf = (has_followed own change.edits.tree m.keys).leaf in
     let two : AreTwo 0 change.edits.tree i m.keys.leaf = record { first = taken_in change.edits.tree i x.0 first; second = taken_in change.edits.tree m.keys.leaf second.leaf (taken_at change.edits.tree m.keys.leaf second.leaf second.is_leaf); apart = λ q. apart (sym q) } in
-    climbed_exact c m i change keys climb same (subst (AreTwo 0 change.edits.tree i) (sym same) two) (followed_exact c m.public i used change.edits own m.keys b.edits some r owns had) commit.path b.merged takes
+    climbed_exact c m i change keys climb same (subst (AreTwo 0 change.edits.tree i) (sym same) two) (followed_exact c m.public i used change.edits own m.keys b.edits some r owns had) commit.path b.path_merged takes

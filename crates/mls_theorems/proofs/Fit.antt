@@ -10,13 +10,13 @@ use Rattle.mls_leaf.specs.declared.leaf.Credential.{Credential}
 use Rattle.mls_leaf.specs.declared.leaf.Capabilities.{Capabilities}
 use Rattle.mls_leaf.specs.declared.leaf.LeafNode.{LeafNode}
 use Rattle.mls_leaf.specs.declared.leaf.LeafSource.{LeafSource}
-use Rattle.mls_leaf.specs.declared.leaf.LeafSource.TheVariants as made_for
+use Rattle.mls_leaf.specs.declared.leaf.LeafSource.TheVariants as leaf_node_source
 use Rattle.mls_types.specs.UpdatePath.{hpke_ciphertext, update_path_node, update_path}
 use Rattle.mls_types.specs.declared.update_path.HpkeCiphertext.{HpkeCiphertext}
 use Rattle.mls_types.specs.declared.update_path.UpdatePathNode.{UpdatePathNode}
 use Rattle.mls_types.specs.declared.update_path.UpdatePath.{UpdatePath}
 use Rattle.mls_types.specs.Commit.{commit}
-use Rattle.mls_theorems.specs.Fit.{LeafFitsIfShort, CommitFits}
+use Rattle.mls_theorems.specs.CommitSpelling.{LeafFitsIfShort, CommitFits}
 
 -- ---- lengths
 
@@ -73,11 +73,11 @@ made_leaf_fits key signing who able source signature able_fits source_fits lt =
       ),
     )
 
-pub commit_source_fits : (hash : List ℕ) → length (leaf_source.spell (made_for.Commit hash)) < 2 ^ 30 → leaf_source.Fits (made_for.Commit hash)
+pub commit_source_fits : (hash : List ℕ) → length (leaf_source.spell (leaf_node_source.Commit hash)) < 2 ^ 30 → leaf_source.Fits (leaf_node_source.Commit hash)
 unfolding leaf_source
 commit_source_fits hash lt = (lit< tt, short_text hash _ (short_last (uint w8 3) (opaque hash) _ lt))
 
-pub update_source_fits : leaf_source.Fits made_for.Update
+pub update_source_fits : leaf_source.Fits leaf_node_source.Update
 unfolding leaf_source
 update_source_fits = (lit< tt, tt)
 

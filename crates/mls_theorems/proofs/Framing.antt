@@ -10,17 +10,17 @@ use Rattle.mls_types.specs.declared.public_message.PublicMessage.{PublicMessage}
 use Rattle.mls_suite.specs.Crypto.{Crypto, Lawful}
 use Rattle.mls_suite.proofs.LabelLaws.{verifies_signed}
 use Rattle.mls_tree_model.specs.Term.{Term, leaf_of}
-use Rattle.mls_model.specs.Public.{PublicState}
+use Rattle.mls_model.specs.PublicState.{PublicState}
 use Rattle.mls_model.specs.Commit.{Change}
 use Rattle.mls_model.specs.Member.{Member}
-use Rattle.mls_model.specs.Messages.{said_by, content_signature, is_content_signed, content_tag, sender_leaf, is_handshake}
+use Rattle.mls_model.specs.Messages.{content_by, content_signature, is_content_signed, content_tag, sender_leaf, is_handshake}
 use Rattle.mls_model.specs.Make.{MadePath}
 use Rattle.mls_model.specs.Verdict.{is_kept}
 use Rattle.mls_model.specs.Agreement.{Agree, AgreeSecret, IsGoodMember}
-use Rattle.mls_theorems.specs.Makes.{commit_of, said_of, signature_of, content_of}
-use Rattle.mls_model.specs.Found.{IsFramed}
+use Rattle.mls_theorems.specs.CommitCalls.{commit_of, said_of, signature_of, content_of}
+use Rattle.mls_model.specs.VerdictFindings.{IsFramed}
 use Rattle.mls_model.proofs.Receipts.{framing_passes}
-use Rattle.mls_theorems.specs.Sent.{sent_of}
+use Rattle.mls_theorems.specs.SentCommits.{sent_of}
 use Rattle.mls_theorems.specs.Framing.{MadeIsFramed}
 
 -- ---- agreement
@@ -40,7 +40,7 @@ one_public m n a = public_same m.public n.public a.context a.tree a.interim
 
 -- what a member signs of a content verifies under its signature key
 pub signed_verifies : (c : Crypto) → Lawful c → (m : Member) (list : List ProposalOrRef) (path : MadePath) (change : Change) → is_content_signed c (c.sig_public m.signing) (content_of c m list path change) m.public.context ≡ true
-unfolding is_content_signed content_of signature_of content_signature said_of said_by commit_of
+unfolding is_content_signed content_of signature_of content_signature said_of content_by commit_of
 signed_verifies c laws m list path change = verifies_signed c laws m.signing (codes "FramedContentTBS") _
 
 same_bytes_pass : (x y : List ℕ) → x ≡ y → bytes_eq x y ≡ true
@@ -60,7 +60,7 @@ pub record IsFramedButOwn (c : Crypto) (m : Member) (v : PublicMessage) : Type 0
   pub signed : is_content_signed c leaf.signature_key v.content m.public.context ≡ true
 
 pub framed_but_own : (c : Crypto) → Lawful c → (maker m : Member) (list : List ProposalOrRef) (path : MadePath) (change : Change) → IsGoodMember c maker → Agree maker m → maker.epoch ≡ m.epoch → IsFramedButOwn c m (sent_of c maker list path change)
-unfolding sent_of content_of said_of said_by commit_of
+unfolding sent_of content_of said_of content_by commit_of
 framed_but_own c laws maker m list path change good agree secret = record {
   group = same_bytes_pass _ _ (ap (λ (x : GroupContext). x.group_id) agree.context);
   epoch = eq-eqb _ _ (ap (λ (x : GroupContext). x.epoch) agree.context);
@@ -75,7 +75,7 @@ framed_but_own c laws maker m list path change good agree secret = record {
 
 pub is_framed : (c : Crypto) → Lawful c → (maker m : Member) (list : List ProposalOrRef) (path : MadePath) (change : Change) (bytes : List ℕ) →
     IsGoodMember c maker → maker.keys.leaf ≢ m.keys.leaf → Agree maker m → AgreeSecret maker m → IsFramed c m (sent_of c maker list path change) bytes
-unfolding sent_of content_of said_of said_by commit_of
+unfolding sent_of content_of said_of content_by commit_of
 is_framed c laws maker m list path change bytes good apart agree secret =
     let f = framed_but_own c laws maker m list path change good agree secret.epoch in
     record {

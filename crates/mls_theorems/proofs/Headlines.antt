@@ -2,7 +2,7 @@
 use Rattle.mls_model.specs.Headline.{HoldsOnRuns}
 use Rattle.mls_model.specs.Run.{run}
 use Rattle.mls_model.proofs.RunLaws.{refused_leave, own_is_followed}
-use Rattle.mls_model.proofs.StillLaws.{others_kept, members_kept}
+use Rattle.mls_model.proofs.UnchangedLaws.{others_kept, members_kept}
 use Rattle.mls_model.specs.World.{empty_world}
 use Rattle.mls_theorems.proofs.Accepting.{accepts_homemade, makers_keep}
 use Rattle.mls_theorems.proofs.Agreeing.{agree_by_journal, secret_if_homemade, agree_by_confirmation, keys_are_exact, trees_are_good}

@@ -7,7 +7,7 @@ use Rattle.std.proofs.lemmas.Bool.{and_parts, and_from}
 use Rattle.std.proofs.lemmas.Slice.Eq.{bytes_eq-Decides}
 use Rattle.mls_model.specs.declared.origin.Origin.{Origin}
 use Rattle.mls_model.specs.declared.origin.Origin.TheVariants as from
-use Rattle.mls_model.specs.Journal.{Entry, Journal, CommitMade, is_same_origin, are_same_bytes, is_same_entry, are_same_entries, is_same_journal, is_creation, reached, is_one, is_homemade_from, is_homemade}
+use Rattle.mls_model.specs.Journal.{Entry, Journal, CommitMade, is_same_origin, are_same_bytes, is_same_entry, are_same_entries, is_same_journal, is_creation, reached_epochs, has_one_value, is_homemade_from, is_homemade}
 use Rattle.mls_model.specs.Lineage.{MadeHere}
 use Rattle.mls_theorems.proofs.Lists.{some}
 use Rattle.mls_theorems.specs.Homemade.{IsMadeAt, HomemadeIsMade, MadeIsHomemade}
@@ -135,7 +135,7 @@ same_as_first : (x y : List ℕ) (xs : List (List ℕ)) (i : ℕ) → list_all (
 same_as_first x y xs zero h e = cc
 same_as_first x y xs (suc i) h e = sym ((bytes_eq-Decides x y).0 (all_at (bytes_eq x) xs i y h e))
 
-one_of : (made : List CommitMade) (j : Journal) (e : Entry) (xs : List (List ℕ)) → map epoch_of (filter (is_here j e) made) ≡ xs → is_one xs ≡ true → HasOneSecret made j e
+one_of : (made : List CommitMade) (j : Journal) (e : Entry) (xs : List (List ℕ)) → map epoch_of (filter (is_here j e) made) ≡ xs → has_one_value xs ≡ true → HasOneSecret made j e
 one_of made j e [] is h = absurd (true≢false (sym h))
 one_of made j e (x ∷ xs) is h =
     let k = kept_from epoch_of (is_here j e) made 0 x (ap (λ (l : List (List ℕ)). slice_get l 0) is) in
@@ -148,8 +148,8 @@ one_of made j e (x ∷ xs) is h =
       here = here_from made j e x k;
     }
 
-pub one_secret : (made : List CommitMade) (j : Journal) (e : Entry) → is_one (reached made j e) ≡ true → HasOneSecret made j e
-unfolding reached
+pub one_secret : (made : List CommitMade) (j : Journal) (e : Entry) → has_one_value (reached_epochs made j e) ≡ true → HasOneSecret made j e
+unfolding reached_epochs
 one_secret made j e h = one_of made j e (map epoch_of (filter (is_here j e) made)) refl h
 
 -- the last entry of a homemade journal, and the journal before it
@@ -158,7 +158,7 @@ pub homemade_parts : (made : List CommitMade) (origin : Origin) (e : Entry) (es 
 unfolding is_homemade_from
 homemade_parts made origin e es h =
     let j : Journal = record { origin = origin; entries = es } in
-    let p = and_parts (is_one (reached made j e)) (is_homemade_from made origin es) h in
+    let p = and_parts (has_one_value (reached_epochs made j e)) (is_homemade_from made origin es) h in
     (one_secret made j e p.0, p.1)
 
 of_one_secret : (made : List CommitMade) (j : Journal) (e : Entry) → HasOneSecret made j e → IsMadeAt made j e
@@ -168,7 +168,7 @@ at_each : {A : Type 0} (test : A → Bool) (xs : List A) → ((i : ℕ) (x : A) 
 at_each test [] h = refl
 at_each test (x ∷ xs) h = and_from (test x) (list_all test xs) (h 0 x refl) (at_each test xs (λ i y e. h (suc i) y e))
 
-of_records : (made : List CommitMade) (j : Journal) (e : Entry) (xs : List (List ℕ)) → map epoch_of (filter (is_here j e) made) ≡ xs → IsMadeAt made j e → is_one xs ≡ true
+of_records : (made : List CommitMade) (j : Journal) (e : Entry) (xs : List (List ℕ)) → map epoch_of (filter (is_here j e) made) ≡ xs → IsMadeAt made j e → has_one_value xs ≡ true
 of_records made j e [] is h =
     let p = kept_at epoch_of (is_here j e) made h.here.place h.which h.here.is (is_here_at j e h.which h.here.journal h.here.entry) in
     let found : slice_get [] p.0 ≡ Some h.which.epoch = ap (λ (l : List (List ℕ)). slice_get l p.0) (sym is) ∙ p.1 in
@@ -179,8 +179,8 @@ of_records made j e (x ∷ xs) is h =
     let k = kept_from epoch_of (is_here j e) made (suc i) y (ap (λ (l : List (List ℕ)). slice_get l (suc i)) is ∙ g) in
     (bytes_eq-Decides x y).1 (sym first.mapped ∙ h.one first.one k.one (here_from made j e x first) (here_from made j e y k) ∙ k.mapped))
 
-one_reached : (made : List CommitMade) (j : Journal) (e : Entry) → IsMadeAt made j e → is_one (reached made j e) ≡ true
-unfolding reached
+one_reached : (made : List CommitMade) (j : Journal) (e : Entry) → IsMadeAt made j e → has_one_value (reached_epochs made j e) ≡ true
+unfolding reached_epochs
 one_reached made j e h = of_records made j e (map epoch_of (filter (is_here j e) made)) refl h
 
 of_creation : (a : Origin) → is_creation a ≡ true → (k : ℕ) × (a ≡ from.Creation k)
@@ -219,7 +219,7 @@ of_entries : (made : List CommitMade) (origin : Origin) (es : List Entry) → is
 unfolding is_homemade_from
 of_entries made origin [] o h = o
 of_entries made origin (d ∷ es) o h =
-    and_from (is_one (reached made (journal_with origin es) d)) (is_homemade_from made origin es) (one_reached made (journal_with origin es) d (h [] d es refl))
+    and_from (has_one_value (reached_epochs made (journal_with origin es) d)) (is_homemade_from made origin es) (one_reached made (journal_with origin es) d (h [] d es refl))
     (of_entries made origin es o (λ later e earlier is. h (d ∷ later) e earlier (ap (λ (l : List Entry). d ∷ l) is)))
 
 pub homemade_is_made : HomemadeIsMade

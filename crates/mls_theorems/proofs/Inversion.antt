@@ -8,7 +8,7 @@ use Rattle.mls_leaf.specs.declared.leaf.LeafNode.{LeafNode}
 use Rattle.mls_tree_model.specs.Term.{Term}
 use Rattle.mls_tree_model.specs.Sets.{has, same_bytes, is_distinct}
 use Rattle.mls_checks.specs.Checks.{replaced_checks}
-use Rattle.mls_checks.specs.declared.checks.Source.TheVariants as made_for
+use Rattle.mls_checks.specs.declared.checks.Source.TheVariants as leaf_node_source
 use Rattle.mls_tree_model.specs.Node.{source_hash}
 use Rattle.mls_tree_model.specs.Term.{leaf_of}
 use Rattle.mls_tree_model.specs.Way.{path_length}
@@ -21,31 +21,31 @@ use Rattle.mls_tree.specs.Paths.{path_checks, merge_checks, merge_answer}
 use Rattle.mls_types.specs.Content.{framed_content}
 use Rattle.mls_schedule.specs.Transcript.{confirmed_hash}
 use Rattle.mls_tree_model.specs.Good.{has_distinct_keys, has_distinct_clients}
-use Rattle.mls_model.specs.Public.{provisional_context, confirmed_context}
-use Rattle.mls_model.specs.Proposals.{full_checks, updates, updated, removed, adds, package_reference, is_path_required}
-use Rattle.mls_model.specs.Commit.{Edits, Change, all_updated, all_removed, all_added, edited, node_keys, cipher_counts, due_counts, with_path, merged, body}
+use Rattle.mls_model.specs.PublicState.{provisional_context, confirmed_context}
+use Rattle.mls_model.specs.Proposals.{full_checks, updates, updated_leaves, removed_leaves, adds, package_reference, is_path_required}
+use Rattle.mls_model.specs.Commit.{Edits, Change, apply_updates, apply_removes, apply_adds, apply_proposals, node_keys, cipher_counts, due_counts, apply_update_path, apply_path_if, change_of_commit}
 use Rattle.mls_theorems.specs.EditLaws.{EditedSteps, WithPathSteps, IsBody, BodySteps}
 use Rattle.mls_wire.specs.CheckLaws.{required}
 use Rattle.mls_wire.proofs.CheckLaws.{bind_ok, then_ok, require_ok, given_ok}
 
 pub edited_steps : EditedSteps
-unfolding edited
+unfolding apply_proposals
 edited_steps c p committer used e h =
     let full = then_ok (full_checks c p used) _ e h in
-    let one = require_ok 61 (not (has (updated used) committer)) _ e full.1 in
-    let two = require_ok 62 (not (has (removed used) committer)) _ e one.1 in
-    let three = require_ok 63 (is_distinct nat_eq (updated used ++ removed used)) _ e two.1 in
-    let four = bind_ok (all_updated p.tree (updates used)) _ e three.1 in
-    let five = bind_ok (all_removed four.0 (removed used)) _ e four.2 in
-    let six = bind_ok (all_added five.0 (adds used)) _ e five.2 in
+    let one = require_ok 61 (not (has (updated_leaves used) committer)) _ e full.1 in
+    let two = require_ok 62 (not (has (removed_leaves used) committer)) _ e one.1 in
+    let three = require_ok 63 (is_distinct nat_eq (updated_leaves used ++ removed_leaves used)) _ e two.1 in
+    let four = bind_ok (apply_updates p.tree (updates used)) _ e three.1 in
+    let five = bind_ok (apply_removes four.0 (removed_leaves used)) _ e four.2 in
+    let six = bind_ok (apply_adds five.0 (adds used)) _ e five.2 in
     let seven = require_ok 26 (has_distinct_clients six.0.tree) _ e six.2 in
     let eight = require_ok 26 (is_distinct same_bytes (map package_reference (adds used))) _ e seven.1 in
     let nine = require_ok 25 (has_distinct_keys six.0.tree) _ e eight.1 in
     let is : six.0 ≡ e = cc in
     record {
       full = full.0;
-      not_updated = not-true (has (updated used) committer) one.0;
-      not_removed = not-true (has (removed used) committer) two.0;
+      not_updated = not-true (has (updated_leaves used) committer) one.0;
+      not_removed = not-true (has (removed_leaves used) committer) two.0;
       apart = three.0;
       after_updates = four.0;
       updating = four.1;
@@ -69,10 +69,10 @@ is_the_hash None wanted h = cc
 is_the_hash (Some found) wanted h = ap Some (bytes_true found wanted h)
 
 pub with_path_steps : WithPathSteps
-unfolding with_path merge_answer merge_checks has_distinct_keys
+unfolding apply_update_path merge_answer merge_checks has_distinct_keys
 with_path_steps c p committer e path t h =
     let member = bind_ok (member_at p.tree committer) _ t h in
-    let replaced = then_ok (replaced_checks c path.leaf_node member.0 made_for.Commit p.context.group_id committer) _ t member.2 in
+    let replaced = then_ok (replaced_checks c path.leaf_node member.0 leaf_node_source.Commit p.context.group_id committer) _ t member.2 in
     let count = require_ok 30 (length path.nodes == path_length 0 e.tree committer) _ t replaced.1 in
     let counts = require_ok 31 (bytes_eq (cipher_counts path) (due_counts e committer)) _ t count.1 in
     let fit = require_ok 36 (list_all c.key_ok (path.leaf_node.encryption_key ∷ node_keys path)) _ t counts.1 in
@@ -98,17 +98,17 @@ with_path_steps c p committer e path t h =
     }
 
 pub body_steps : BodySteps
-unfolding body
+unfolding change_of_commit
 body_steps c p committer used commit said signature change h =
-    let edits = bind_ok (edited c p committer used) _ change h in
+    let edits = bind_ok (apply_proposals c p committer used) _ change h in
     let path = require_ok 64 (is_some commit.path || not (is_path_required used)) _ change edits.2 in
-    let tree = bind_ok (merged c p committer edits.0 commit.path) _ change path.1 in
+    let tree = bind_ok (apply_path_if c p committer edits.0 commit.path) _ change path.1 in
     let made : Change = record { edits = edits.0; tree = tree.0; provisional = provisional_context p.context tree.0; context = confirmed_context (provisional_context p.context tree.0) (confirmed_hash p.interim 1 (framed_content.spell said) signature) } in
     let is : made ≡ change = cc in
     subst (IsBody c p committer used commit said signature) is (record {
       edits = edits.1;
       path = path.0;
-      merged = tree.1;
+      path_merged = tree.1;
       provisional = refl;
       context = refl;
     })

@@ -23,13 +23,13 @@ use Rattle.mls_schedule.proofs.Lengths.{length-joiner_secret}
 use Rattle.mls_model.specs.Agreement.{IsGoodCandidate}
 use Rattle.mls_model.specs.Candidate.{Candidate}
 use Rattle.mls_model.specs.Claims.{IsMade, JoinsTo, JoinersClaim}
-use Rattle.mls_model.specs.Commit.{Edits, Change, merged, public_with}
-use Rattle.mls_model.specs.Join.{Joined, joined_tree, signer_checks, place_of, joined_keys, member_of, join_verdict}
+use Rattle.mls_model.specs.Commit.{Edits, Change, apply_path_if, public_with}
+use Rattle.mls_model.specs.Join.{JoinedMember, joined_tree, signer_checks, place_of, joined_keys, member_of, join_verdict}
 use Rattle.mls_model.specs.Journal.{adds_in}
 use Rattle.mls_model.proofs.KeyLaws.{leaf_stays}
 use Rattle.mls_model.specs.Make.{MadePath, Made, path_secret_for, path_seals}
 use Rattle.mls_model.specs.Member.{Member}
-use Rattle.mls_model.specs.Opening.{Opened, opened_welcome}
+use Rattle.mls_model.specs.OpenedWelcome.{Opened, opened_welcome}
 use Rattle.mls_model.specs.Proposals.{adds}
 use Rattle.mls_model.specs.Welcome.{unsigned_info, signed_info}
 use Rattle.mls_treekem_model.specs.Seeds.{seal_seed}
@@ -37,21 +37,21 @@ use Rattle.mls_theorems.proofs.Staying.{edits_follow_committer}
 use Rattle.mls_theorems.specs.CommitLaws.{HasLeaves}
 use Rattle.mls_theorems.proofs.Clients.{clients_apart}
 use Rattle.mls_theorems.proofs.Info.{info_fits}
-use Rattle.mls_theorems.specs.Joined.{info_of}
-use Rattle.mls_theorems.proofs.Joined.{tree_is_taken, signer_passes, joins_at}
+use Rattle.mls_theorems.specs.JoinChecks.{info_of}
+use Rattle.mls_theorems.proofs.JoinChecks.{tree_is_taken, signer_passes, joins_at}
 use Rattle.mls_theorems.proofs.Joins.{info_made, secret_made, secrets_made, Joining, joining, next_of_made, leaves_of_made, sent_32}
-use Rattle.mls_theorems.specs.Makes.{commit_of, said_of, signature_of, joiner_of, epoch_of, tag_of, made_of, Makes}
+use Rattle.mls_theorems.specs.CommitCalls.{commit_of, said_of, signature_of, joiner_of, epoch_of, tag_of, made_of, Makes}
 use Rattle.mls_theorems.proofs.Makes.{make_did}
-use Rattle.mls_theorems.specs.Next.{IsNext}
+use Rattle.mls_theorems.specs.NextStates.{IsNext}
 use Rattle.mls_theorems.proofs.Next.{place_found}
 use Rattle.mls_theorems.proofs.Nodes.{sent_nodes_fit}
-use Rattle.mls_theorems.specs.Opened.{IsChange}
+use Rattle.mls_theorems.specs.OpenedPaths.{IsChange}
 use Rattle.mls_theorems.proofs.Opened.{body_did, same_edits}
 use Rattle.mls_theorems.proofs.Sent.{leaf_is_in, leaf_short, path_did, within_is}
 use Rattle.mls_theorems.proofs.Spelled.{package_leaf}
 use Rattle.mls_theorems.proofs.Stays.{taken, inside}
-use Rattle.mls_theorems.specs.Taken.{TakesKeys}
-use Rattle.mls_theorems.proofs.Taken.{keys_taken}
+use Rattle.mls_theorems.specs.JoinerKeys.{TakesKeys}
+use Rattle.mls_theorems.proofs.JoinerKeys.{keys_taken}
 use Rattle.mls_theorems.proofs.Welcomed.{welcome_opens}
 
 joiner_32 : (m : Member) (path : MadePath) (change : Change) → length (joiner_of m path change) ≡ 32
@@ -139,9 +139,9 @@ module _ (c : Crypto) (laws : Lawful c) (m : Member) (list : List ProposalOrRef)
   place = place_found s.change.tree j.entry.leaf k.offered.leaf_node next.good.clients next.parts (package_leaf k.offered good.package_of) stands
 
   -- 34 and 35
-  merges : merged c m.public m.keys.leaf s.edits s.path.path ≡ Ok s.change.tree
+  merges : apply_path_if c m.public m.keys.leaf s.edits s.path.path ≡ Ok s.change.tree
   unfolding commit_of
-  merges = sym (ap (λ (e : Edits). merged c m.public m.keys.leaf e s.path.path) same) ∙ change_did.merges
+  merges = sym (ap (λ (e : Edits). apply_path_if c m.public m.keys.leaf e s.path.path) same) ∙ change_did.merges
 
   keys : TakesKeys c s.change.tree m.keys.leaf j.entry.leaf k.leaf (secret_made m s.path s.change is.seed j.entry.leaf)
   keys =
@@ -157,7 +157,7 @@ module _ (c : Crypto) (laws : Lawful c) (m : Member) (list : List ProposalOrRef)
       (leaf_is_in s.edits.tree j.entry.leaf j.entry.offered.leaf_node j.joins.leaf).1 public j.joins.listed)
 
   -- 65, and the whole
-  joined : Joined
+  joined : JoinedMember
   joined = record {
     member = record { gone = false; public = public_with s.change (tag_of m s.path s.change); epoch = epoch_secret (joiner_of m s.path s.change) (group_context.spell s.change.context); keys = keys.0; signing = k.signing; kept = []; pending = None };
     info = group_info.spell (info_made c m s.path s.change);

@@ -9,8 +9,8 @@ use Rattle.mls_tree_model.specs.Edits.{add, place_in}
 use Rattle.mls_tree.specs.Tree.{max_leaves}
 use Rattle.mls_treekem_model.specs.Join.{AllList}
 use Rattle.mls_treekem_model.proofs.WholeLaws.{added_is_listed, add_keeps_listed}
-use Rattle.mls_model.specs.Proposals.{updates, updated, removed, adds}
-use Rattle.mls_model.specs.Commit.{Edits, all_added}
+use Rattle.mls_model.specs.Proposals.{updates, updated_leaves, removed_leaves, adds}
+use Rattle.mls_model.specs.Commit.{Edits, apply_adds}
 use Rattle.mls_theorems.specs.CommitLaws.{IsJoiner, EditsAdd, AddsCounted}
 use Rattle.mls_theorems.proofs.Inversion.{edited_steps}
 use Rattle.mls_tree_model.proofs.TakenLaws.{Taken, taken_at, at_taken, some_at, taken_in, taken_some, place_free, taken_add, add_taken}
@@ -44,7 +44,7 @@ all_joiners : (i : ℕ) (e f : Edits) → e.tree ≡ f.tree → (ks : List (KeyP
 all_joiners i e f q [] h = tt
 all_joiners i e f q (k ∷ ks) h = (joiner_tree i e f q k h.0, all_joiners i e f q ks h.1)
 
-adds_join : (i : ℕ) (x : LeafNode) (ks : List KeyPackage) (t : Term) (e : Edits) → Taken i x t → all_added t ks ≡ Ok e → AllByRecursion (IsJoiner i e) (zip ks e.added)
+adds_join : (i : ℕ) (x : LeafNode) (ks : List KeyPackage) (t : Term) (e : Edits) → Taken i x t → apply_adds t ks ≡ Ok e → AllByRecursion (IsJoiner i e) (zip ks e.added)
 adds_join i x [] t e own h = tt
 adds_join i x (k ∷ ks) t e own h =
     let f = adds_first t k ks e h in
@@ -55,16 +55,16 @@ adds_join i x (k ∷ ks) t e own h =
     subst (λ js. AllByRecursion (IsJoiner i e) (zip (k ∷ ks) js)) f.added (first, all_joiners i f.later e f.tree (zip ks f.later.added) rest)
 
 pub edits_add : EditsAdd
-unfolding updated
+unfolding updated_leaves
 edits_add c p i used e some h =
     let s = edited_steps c p i used e h in
     let x = some_at (leaf_of p.tree i) some in
     let start = still_here i x.0 p.tree (taken_at p.tree i x.0 x.1) in
     let one = still_after_updates i x.0 p.tree (updates used) s.not_updated p.tree s.after_updates s.updating start in
-    let two = still_after_removes i x.0 p.tree (removed used) s.not_removed s.after_updates s.after_removes s.removing one in
+    let two = still_after_removes i x.0 p.tree (removed_leaves used) s.not_removed s.after_updates s.after_removes s.removing one in
     adds_join i x.0 (adds used) s.after_removes e two.taken s.adding
 
-count_added : (ks : List KeyPackage) (t : Term) (e : Edits) → all_added t ks ≡ Ok e → length e.added ≡ length ks
+count_added : (ks : List KeyPackage) (t : Term) (e : Edits) → apply_adds t ks ≡ Ok e → length e.added ≡ length ks
 count_added [] t e h = sym (ap length (adds_none t e h).1)
 count_added (k ∷ ks) t e h =
     let f = adds_first t k ks e h in

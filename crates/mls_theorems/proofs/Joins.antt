@@ -22,31 +22,31 @@ use Rattle.mls_model.specs.Claims.{IsMade}
 use Rattle.mls_model.specs.Commit.{Edits, Change, public_with}
 use Rattle.mls_model.specs.Journal.{adds_in, used_of}
 use Rattle.mls_model.specs.Make.{MadePath, Made, path_secret_for, path_seals, welcome_if}
-use Rattle.mls_model.specs.Member.{Kept, Member, used_by}
-use Rattle.mls_model.specs.Opening.{is_none_or_32}
+use Rattle.mls_model.specs.Member.{KeptProposal, Member, find_proposals}
+use Rattle.mls_model.specs.OpenedWelcome.{is_none_or_32}
 use Rattle.mls_model.specs.Proposals.{adds}
-use Rattle.mls_model.specs.Public.{Used}
+use Rattle.mls_model.specs.PublicState.{Used}
 use Rattle.mls_model.specs.Welcome.{unsigned_info, signed_info, secrets_with, welcome_message}
 use Rattle.mls_theorems.specs.CommitLaws.{IsJoiner, HasLeaves}
 use Rattle.mls_theorems.proofs.Inversion.{edited_steps}
 use Rattle.mls_theorems.proofs.Joining.{edits_add, adds_counted}
 use Rattle.mls_theorems.proofs.NextStates.{leaves_next}
-use Rattle.mls_theorems.proofs.Along.{body_is}
+use Rattle.mls_theorems.proofs.CommitEntries.{body_is}
 use Rattle.mls_theorems.proofs.Entries.{HasEntry, is_among, first_entry}
-use Rattle.mls_theorems.specs.Joined.{info_of}
-use Rattle.mls_theorems.specs.Makes.{commit_of, said_of, signature_of, joiner_of, tag_of, made_of, Makes}
-use Rattle.mls_theorems.specs.Next.{IsNext}
+use Rattle.mls_theorems.specs.JoinChecks.{info_of}
+use Rattle.mls_theorems.specs.CommitCalls.{commit_of, said_of, signature_of, joiner_of, tag_of, made_of, Makes}
+use Rattle.mls_theorems.specs.NextStates.{IsNext}
 use Rattle.mls_theorems.proofs.Next.{is_next}
 use Rattle.mls_theorems.proofs.One.{IsOneOf, at_one}
-use Rattle.mls_theorems.specs.Sent.{sent_of}
+use Rattle.mls_theorems.specs.SentCommits.{sent_of}
 use Rattle.mls_theorems.proofs.Sent.{made_fits}
 use Rattle.mls_theorems.proofs.Spelled.{one_spelled, commit_in, used_fit, adds_fit}
 use Rattle.mls_theorems.proofs.Stays.{taken}
 use Rattle.mls_wire.proofs.CheckLaws.{bind_ok}
 use Rattle.mls_treekem_model.proofs.OpenLaws.{chain_length}
-use Rattle.mls_theorems.specs.Used.{IsUsedAlike}
+use Rattle.mls_theorems.specs.UsedProposals.{IsUsedAlike}
 use Rattle.mls_theorems.proofs.Used.{used_for_other}
-use Rattle.mls_theorems.specs.Welcomed.{encrypted_info, Welcomes}
+use Rattle.mls_theorems.specs.OpenedWelcomes.{encrypted_info, Welcomes}
 use Rattle.mls_theorems.proofs.Welcomed.{welcome_did}
 
 -- ---- secrets have 32 bytes
@@ -80,7 +80,7 @@ welcome_some c m change path joiner tag seed (x ∷ xs) bytes h =
     s.1 ∙ ap Ok e
 
 -- what a list adds, whoever commits it
-adds_of : (kept : List Kept) (i : ℕ) (list : List ProposalOrRef) (used : List Used) (k : KeyPackage) → used_by kept i list ≡ Ok used → list_any (bytes_eq (key_package.spell k)) (adds_in kept list) ≡ true → is_among k (adds used) ≡ true
+adds_of : (kept : List KeptProposal) (i : ℕ) (list : List ProposalOrRef) (used : List Used) (k : KeyPackage) → find_proposals kept i list ≡ Ok used → list_any (bytes_eq (key_package.spell k)) (adds_in kept list) ≡ true → is_among k (adds used) ≡ true
 unfolding adds_in
 adds_of kept i list used k uses any =
     let a : IsUsedAlike kept 0 list used = used_for_other kept i 0 list used uses in

@@ -14,20 +14,20 @@ use Rattle.mls_model.specs.declared.event.Reply.{Reply}
 use Rattle.mls_model.specs.declared.event.Source.{Source}
 use Rattle.mls_model.specs.Agreement.{IsGoodPending, IsGoodIfPending, IsGoodMember}
 use Rattle.mls_model.specs.Candidate.{leaf_key_of}
-use Rattle.mls_model.specs.Calls.{sent, propose_add_answer, propose_update_answer, propose_remove_answer, drop_answer}
+use Rattle.mls_model.specs.WorldCalls.{proposal_answer, propose_add_answer, propose_update_answer, propose_remove_answer, drop_answer}
 use Rattle.mls_model.specs.Headline.{IsPendingOf}
 use Rattle.mls_model.specs.Invariant.{IsGoodBy, IsGoodWorld}
 use Rattle.mls_model.specs.Journal.{names_in, list_in}
 use Rattle.mls_model.specs.Lineage.{IsSameState}
-use Rattle.mls_model.specs.Member.{Kept, Pending, Member, kept_under, keeping, without_pending}
+use Rattle.mls_model.specs.Member.{KeptProposal, Pending, Member, kept_under, with_kept, without_pending}
 use Rattle.mls_model.specs.Messages.{is_within_limit, reference_of}
-use Rattle.mls_model.specs.Propose.{proposal_by, kept_once, proposed, proposed_add, updated_leaf, proposed_update, proposed_remove}
-use Rattle.mls_model.specs.PublicOf.{Creations}
-use Rattle.mls_model.specs.Range.{IsSourceInRange}
+use Rattle.mls_model.specs.Propose.{proposal_by, keep_once, make_proposal, propose_add, updated_leaf, propose_update, propose_remove}
+use Rattle.mls_model.specs.JournalState.{Creations}
+use Rattle.mls_model.specs.EventRange.{IsSourceInRange}
 use Rattle.mls_model.specs.World.{World, Seat, with_member, seat_at, package_of}
-use Rattle.mls_theorems.proofs.Along.{list_at}
+use Rattle.mls_theorems.proofs.CommitEntries.{list_at}
 use Rattle.mls_theorems.proofs.Proposing.{added_good, updated_good, removed_good}
-use Rattle.mls_theorems.proofs.Still.{dropped_good}
+use Rattle.mls_theorems.proofs.UnchangedMembers.{dropped_good}
 use Rattle.mls_theorems.proofs.Journals.{same_itself}
 use Rattle.mls_theorems.proofs.Changes.{KeepsOn, keeps_same, more_messages, one_message, change_member}
 use Rattle.mls_theorems.proofs.Names.{keeps_more, names_stable}
@@ -46,15 +46,15 @@ stays c creations w k s n g at same keeps gone good pending =
 -- ---- one more proposal
 
 -- the names of a pending commit are those that they were
-names_kept : (c : Crypto) (m : Member) (p : Pending) (x : Kept) → IsGoodPending c m p → names_in (m.kept ++ (x ∷ [])) (list_in p.message) ≡ names_in m.kept (list_in p.message)
+names_kept : (c : Crypto) (m : Member) (p : Pending) (x : KeptProposal) → IsGoodPending c m p → names_in (m.kept ++ (x ∷ [])) (list_in p.message) ≡ names_in m.kept (list_in p.message)
 names_kept c m p x h =
     let list : list_in p.message ≡ h.commit.proposals = list_at p.message h.said h.commit h.tag h.decodes h.says in
     ap (names_in (m.kept ++ (x ∷ []))) list ∙ names_stable m.kept (x ∷ []) m.keys.leaf h.commit.proposals h.used h.uses ∙ ap (names_in m.kept) (sym list)
 
-pub keeps_one : (c : Crypto) (creations : Creations) (w : World) (k : ℕ) (s : Seat) (x : Kept) → IsGoodBy c creations w → slice_get w.seats k ≡ Some s → s.member.gone ≡ false → IsGoodMember c (keeping s.member x) → IsGoodBy c creations (with_member w k s (keeping s.member x))
-unfolding keeping
+pub keeps_one : (c : Crypto) (creations : Creations) (w : World) (k : ℕ) (s : Seat) (x : KeptProposal) → IsGoodBy c creations w → slice_get w.seats k ≡ Some s → s.member.gone ≡ false → IsGoodMember c (with_kept s.member x) → IsGoodBy c creations (with_member w k s (with_kept s.member x))
+unfolding with_kept
 keeps_one c creations w k s x g at active good =
-    stays c creations w k s (keeping s.member x) g at (record { public = refl; epoch = refl; keys = refl; signing = refl })
+    stays c creations w k s (with_kept s.member x) g at (record { public = refl; epoch = refl; keys = refl; signing = refl })
     (λ e list names h. keeps_more s.member.kept (x ∷ []) list names h) refl (λ _. good)
     (λ p _ e.
     let q : IsPendingOf w k s p = g.pending k s p (record { is = at; active = active }) e in
@@ -74,27 +74,27 @@ keeps_none c creations w k s g at =
 pub record ProposedDid (m : Member) (x : List ℕ × Member) : Type 0 where
   pub active : m.gone ≡ false
   pub within : is_within_limit x.0 ≡ Ok passed
-  pub is : (m ≡ x.1) ⊎ ((k : Kept) × (keeping m k ≡ x.1))
+  pub is : (m ≡ x.1) ⊎ ((k : KeptProposal) × (with_kept m k ≡ x.1))
 
-once_did : (m : Member) (k : Kept) (o : Option Kept) (x : List ℕ × Member) → m.gone ≡ false → is_within_limit k.message ≡ Ok passed → kept_once m k o ≡ Ok x → ProposedDid m x
+once_did : (m : Member) (k : KeptProposal) (o : Option KeptProposal) (x : List ℕ × Member) → m.gone ≡ false → is_within_limit k.message ≡ Ok passed → keep_once m k o ≡ Ok x → ProposedDid m x
 once_did m k None x active within h = subst (ProposedDid m) (ok_is _ x h) (record { active = active; within = within; is = inr (k, refl) })
 once_did m k (Some old) x active within h =
     let r = require_ok 49 (bytes_eq old.message k.message) _ _ h in
     let same : old.message ≡ k.message = (bytes_eq-Decides old.message k.message).0 r.0 in
     subst (ProposedDid m) (ok_is _ x r.1) (record { active = active; within = ap is_within_limit same ∙ within; is = inl refl })
 
-pub proposed_did : (c : Crypto) (m : Member) (said : Proposal) (own_key : Option (List ℕ)) (x : List ℕ × Member) → proposed c m said own_key ≡ Ok x → ProposedDid m x
-unfolding proposed
+pub proposed_did : (c : Crypto) (m : Member) (said : Proposal) (own_key : Option (List ℕ)) (x : List ℕ × Member) → make_proposal c m said own_key ≡ Ok x → ProposedDid m x
+unfolding make_proposal
 proposed_did c m said own_key x h =
     let s1 = require_ok _ _ _ _ h in
     let s2 = then_ok _ _ _ s1.1 in
     let s3 = then_ok _ _ _ s2.1 in
     once_did m _ (kept_under m.kept (reference_of (proposal_by c m said))) x (not-true m.gone s1.0) s3.0 s3.1
 
-sent_kept : (c : Crypto) (creations : Creations) (w : World) (k : ℕ) (s : Seat) (x : List ℕ × Member) → IsGoodBy c creations w → slice_get w.seats k ≡ Some s → ProposedDid s.member x → IsGoodMember c x.1 → IsGoodWorld c (sent w k s x).1
+sent_kept : (c : Crypto) (creations : Creations) (w : World) (k : ℕ) (s : Seat) (x : List ℕ × Member) → IsGoodBy c creations w → slice_get w.seats k ≡ Some s → ProposedDid s.member x → IsGoodMember c x.1 → IsGoodWorld c (proposal_answer w k s x).1
 sent_kept c creations w k s x g at did good = (creations, more_messages c creations (with_member w k s x.1) (x.0 ∷ []) (by_case did.is) (one_message x.0 (bytes_within x.0 did.within)))
   where
-    by_case : (s.member ≡ x.1) ⊎ ((y : Kept) × (keeping s.member y ≡ x.1)) → IsGoodBy c creations (with_member w k s x.1)
+    by_case : (s.member ≡ x.1) ⊎ ((y : KeptProposal) × (with_kept s.member y ≡ x.1)) → IsGoodBy c creations (with_member w k s x.1)
     by_case (inl e) = subst (λ (n : Member). IsGoodBy c creations (with_member w k s n)) e (keeps_none c creations w k s g at)
     by_case (inr e) = subst (λ (n : Member). IsGoodBy c creations (with_member w k s n)) e.1 (keeps_one c creations w k s e.0 g at did.active (subst (IsGoodMember c) (sym e.1) good))
 
@@ -108,37 +108,37 @@ pub to_world : (c : Crypto) (x y : Reply × World) → answered y ≡ Ok x → I
 to_world c x y e g = subst (λ (z : Reply × World). IsGoodWorld c z.1) (ok_is y x e) g
 
 pub propose_add_kept : (c : Crypto) (creations : Creations) (w : World) → IsGoodBy c creations w → (k : ℕ) (source : Source) (x : Reply × World) → IsSourceInRange source → propose_add_answer c w k source ≡ Ok x → IsGoodWorld c x.1
-unfolding propose_add_answer proposed_add
+unfolding propose_add_answer propose_add
 propose_add_kept c creations w g k source x range h =
     let s1 = bind_ok (seat_at w k) _ _ h in
     let s2 = bind_ok (package_of w source) _ _ s1.2 in
-    let s3 = bind_ok (proposed_add c s1.0.member s2.0) _ _ s2.2 in
+    let s3 = bind_ok (propose_add c s1.0.member s2.0) _ _ s2.2 in
     let at : slice_get w.seats k ≡ Some s1.0 = given_ok 90 (slice_get w.seats k) s1.0 s1.1 in
     let did : ProposedDid s1.0.member s3.0 = proposed_did c s1.0.member _ None s3.0 s3.1 in
     let good = added_good c s1.0.member s2.0 s3.0 (member_good c creations w k s1.0 g at did.active) (package_fits w source s2.0 g.messages range s2.1) s3.1 in
-    to_world c x (sent w k s1.0 s3.0) s3.2 (sent_kept c creations w k s1.0 s3.0 g at did good)
+    to_world c x (proposal_answer w k s1.0 s3.0) s3.2 (sent_kept c creations w k s1.0 s3.0 g at did good)
 
 pub propose_update_kept : (c : Crypto) (creations : Creations) (w : World) → IsGoodBy c creations w → (k : ℕ) (seed : List ℕ) (x : Reply × World) → propose_update_answer c w k seed ≡ Ok x → IsGoodWorld c x.1
-unfolding propose_update_answer proposed_update
+unfolding propose_update_answer propose_update
 propose_update_kept c creations w g k seed x h =
     let s1 = bind_ok (seat_at w k) _ _ h in
-    let s3 = bind_ok (proposed_update c s1.0.member seed) _ _ s1.2 in
+    let s3 = bind_ok (propose_update c s1.0.member seed) _ _ s1.2 in
     let at : slice_get w.seats k ≡ Some s1.0 = given_ok 90 (slice_get w.seats k) s1.0 s1.1 in
     let t1 = require_ok 40 (not s1.0.member.gone) _ _ s3.1 in
     let t2 = bind_ok (member_at s1.0.member.public.tree s1.0.member.keys.leaf) _ _ t1.1 in
     let did : ProposedDid s1.0.member s3.0 = proposed_did c s1.0.member (proposes.Update (updated_leaf c s1.0.member t2.0 seed)) (Some (leaf_key_of c seed)) s3.0 t2.2 in
     let good = updated_good c s1.0.member seed s3.0 (member_good c creations w k s1.0 g at did.active) s3.1 in
-    to_world c x (sent w k s1.0 s3.0) s3.2 (sent_kept c creations w k s1.0 s3.0 g at did good)
+    to_world c x (proposal_answer w k s1.0 s3.0) s3.2 (sent_kept c creations w k s1.0 s3.0 g at did good)
 
 pub propose_remove_kept : (c : Crypto) (creations : Creations) (w : World) → IsGoodBy c creations w → (k leaf : ℕ) (x : Reply × World) → propose_remove_answer c w k leaf ≡ Ok x → IsGoodWorld c x.1
-unfolding propose_remove_answer proposed_remove
+unfolding propose_remove_answer propose_remove
 propose_remove_kept c creations w g k leaf x h =
     let s1 = bind_ok (seat_at w k) _ _ h in
-    let s3 = bind_ok (proposed_remove c s1.0.member leaf) _ _ s1.2 in
+    let s3 = bind_ok (propose_remove c s1.0.member leaf) _ _ s1.2 in
     let at : slice_get w.seats k ≡ Some s1.0 = given_ok 90 (slice_get w.seats k) s1.0 s1.1 in
     let did : ProposedDid s1.0.member s3.0 = proposed_did c s1.0.member _ None s3.0 s3.1 in
     let good = removed_good c s1.0.member leaf s3.0 (member_good c creations w k s1.0 g at did.active) s3.1 in
-    to_world c x (sent w k s1.0 s3.0) s3.2 (sent_kept c creations w k s1.0 s3.0 g at did good)
+    to_world c x (proposal_answer w k s1.0 s3.0) s3.2 (sent_kept c creations w k s1.0 s3.0 g at did good)
 
 -- ---- drops
 

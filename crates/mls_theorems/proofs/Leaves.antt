@@ -2,9 +2,9 @@
 use Rattle.std.proofs.Common.{◌≡◌, Some, ap, ap₂, sym, ◌∙◌}
 use Rattle.mls_leaf.specs.declared.leaf.LeafNode.{LeafNode}
 use Rattle.mls_tree_model.specs.Term.{leaf_of}
-use Rattle.mls_model.specs.Public.{PublicState}
+use Rattle.mls_model.specs.PublicState.{PublicState}
 use Rattle.mls_theorems.proofs.Lists.{one_there}
-use Rattle.mls_theorems.specs.Leaves.{OwnLeaves}
+use Rattle.mls_theorems.specs.OwnLeaves.{OwnLeaves}
 
 pub own_leaves : OwnLeaves
 own_leaves c m n a b same apart leaf =

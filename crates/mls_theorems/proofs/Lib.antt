@@ -7,7 +7,7 @@ pub mod Own
 pub mod Signatures
 pub mod Sound
 pub mod Staying
-pub mod Along
+pub mod CommitEntries
 pub mod Cells
 pub mod Clients
 pub mod Committed
@@ -16,9 +16,9 @@ pub mod Entered
 pub mod Entries
 pub mod Fit
 pub mod Framing
-pub mod Grown
+pub mod SpelledTrees
 pub mod Info
-pub mod Joined
+pub mod JoinChecks
 pub mod Joiners
 pub mod Joins
 pub mod Journals
@@ -34,8 +34,8 @@ pub mod Received
 pub mod Sent
 pub mod Spelled
 pub mod Stays
-pub mod Still
-pub mod Taken
+pub mod UnchangedMembers
+pub mod JoinerKeys
 pub mod Used
 pub mod Welcomed
 pub mod Sharing

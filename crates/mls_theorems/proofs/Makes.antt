@@ -2,7 +2,7 @@
 use Rattle.mls_wire.specs.Laws.{ok_is}
 use Rattle.mls_model.specs.Make.{make}
 use Rattle.mls_wire.proofs.CheckLaws.{require_ok, then_ok, bind_ok}
-use Rattle.mls_theorems.specs.Makes.{commit_of, said_of, signature_of, joiner_of, epoch_of, tag_of, content_of, message_of, made_of, path_for, MakeDid}
+use Rattle.mls_theorems.specs.CommitCalls.{commit_of, said_of, signature_of, joiner_of, epoch_of, tag_of, content_of, message_of, made_of, path_for, MakeDid}
 
 pub make_did : MakeDid
 unfolding make commit_of said_of signature_of joiner_of epoch_of tag_of content_of message_of made_of path_for

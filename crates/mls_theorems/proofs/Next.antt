@@ -13,12 +13,12 @@ use Rattle.mls_model.specs.Join.{is_same_leaf, place_of}
 use Rattle.mls_theorems.proofs.NextStates.{good_next, context_of_tree}
 use Rattle.mls_theorems.proofs.Own.{used_have_passed}
 use Rattle.mls_theorems.proofs.Clients.{is_member, stands_in}
-use Rattle.mls_theorems.proofs.Grown.{parts_next, good_nodes_fit, context_next}
-use Rattle.mls_theorems.specs.Nodes.{LeafFits, PartsFit}
+use Rattle.mls_theorems.proofs.SpelledTrees.{parts_next, good_nodes_fit, context_next}
+use Rattle.mls_theorems.specs.NodeSpelling.{LeafFits, PartsFit}
 use Rattle.mls_theorems.proofs.Nodes.{parts_of}
 use Rattle.mls_theorems.proofs.One.{IsOneOf, at_one, all_both, finds_one}
 use Rattle.mls_theorems.proofs.Spelled.{one_spelled, list_of, path_of, used_fit}
-use Rattle.mls_theorems.specs.Next.{NextStatesGood}
+use Rattle.mls_theorems.specs.NextStates.{NextStatesGood}
 
 pub is_next : NextStatesGood
 is_next c m i used x said signature change good there below fits uses h =

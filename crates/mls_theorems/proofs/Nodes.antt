@@ -15,18 +15,18 @@ use Rattle.mls_leaf.proofs.ParentLaws.{rises_from-cons, run_spelling-rising, Run
 use Rattle.mls_leaf.specs.declared.leaf.LeafNode.{LeafNode}
 use Rattle.mls_leaf.specs.declared.node.Node.{Node}
 use Rattle.mls_tree_model.specs.Arrays.{leaf_cell, parent_cell, in_order, before, cut, to_nodes}
-use Rattle.mls_tree_model.specs.Edits.{put, enter, listing, grow, trim, first_blank, room_for, place_in, add, remove}
+use Rattle.mls_tree_model.specs.Edits.{put, enter, list_leaf, grow, trim, first_blank, room_for, place_in, add, remove}
 use Rattle.mls_tree_model.proofs.Equations.{put_left, put_right, enter_left, enter_right, merge_left, merge_right, trim_full, trim_empty, add_is, remove_is}
 use Rattle.mls_tree_model.specs.Hashes.{parent_hash}
 use Rattle.mls_tree_model.specs.Inputs.{sibling_hash}
-use Rattle.mls_tree_model.specs.Lists.{asked, all_parents, rises_here}
+use Rattle.mls_tree_model.specs.Lists.{parent_passes, all_parents, rises_here}
 use Rattle.mls_tree_model.specs.Merge.{new_parent, keys_below, hash_below, merge}
 use Rattle.mls_tree_model.specs.Resolution.{is_reached}
 use Rattle.mls_tree_model.specs.Term.{Term, Leaf, Branch, width, height, blanks, has_leaf}
 use Rattle.mls_treekem_model.specs.Lists.{below_here}
 use Rattle.mls_model.specs.Agreement.{NodeFits}
 use Rattle.mls_theorems.proofs.One.{all_both, all_parted}
-use Rattle.mls_theorems.specs.Nodes.{LeafFits, IsShort, ParentShort, PartsFit}
+use Rattle.mls_theorems.specs.NodeSpelling.{LeafFits, IsShort, ParentShort, PartsFit}
 
 -- ---- edits keep it
 
@@ -42,7 +42,7 @@ parts_put b (Branch c l r) i x fits h = elim (cases_lt i (b + width l)) [
   | inr ge ↦ rw (put_right b c l r i x ge) (tt, (h.1.0, parts_put (b + width l) r i x fits h.1.1))
 ]
 
-short_listing : (i : ℕ) (c : Option Parent) → ParentShort c → ParentShort (listing i c)
+short_listing : (i : ℕ) (c : Option Parent) → ParentShort c → ParentShort (list_leaf i c)
 short_listing i None h = tt
 short_listing i (Some p) h = h
 
@@ -183,7 +183,7 @@ below_all b high n (u ∷ us) le l =
     let lt : nat_lt u high ≡ true = lt-ltb u high (omega arith) in
     rw lt (below_all b high n us le q.1)
 
-parent_fits : (b : ℕ) (c : Option Parent) (l r : Term) → b + (width l + width r) ≤ 4096 → ParentShort c → asked below_here b c l r ≡ true → asked rises_here b c l r ≡ true → NodeFits (parent_cell c)
+parent_fits : (b : ℕ) (c : Option Parent) (l r : Term) → b + (width l + width r) ≤ 4096 → ParentShort c → parent_passes below_here b c l r ≡ true → parent_passes rises_here b c l r ≡ true → NodeFits (parent_cell c)
 unfolding node parent_node below_here rises_here
 parent_fits b None l r le short low rise = tt
 parent_fits b (Some p) l r le short low rise =
@@ -197,9 +197,9 @@ pub nodes_fit : (b : ℕ) (t : Term) → b + width t ≤ 4096 → PartsFit t →
 unfolding in_order PartsFit all_parents width
 nodes_fit b (Leaf v) le h low rise = (leaf_fits v h, tt)
 nodes_fit b (Branch c l r) le h low rise =
-    let p = and_parts (asked below_here b c l r) _ low in
+    let p = and_parts (parent_passes below_here b c l r) _ low in
     let p' = and_parts (all_parents below_here b l) _ p.1 in
-    let q = and_parts (asked rises_here b c l r) _ rise in
+    let q = and_parts (parent_passes rises_here b c l r) _ rise in
     let q' = and_parts (all_parents rises_here b l) _ q.1 in
     all_both NodeFits (in_order l) (parent_cell c ∷ in_order r) (nodes_fit b l (omega arith) h.1.0 p'.0 q'.0)
     (parent_fits b c l r le h.0 p.0 q.0, nodes_fit (b + width l) r (omega arith) h.1.1 p'.1 q'.1)

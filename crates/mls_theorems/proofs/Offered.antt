@@ -12,7 +12,7 @@ use Rattle.mls_leaf.specs.KeyPackage.{key_package}
 use Rattle.mls_leaf.specs.Leaf.{leaf_source, leaf_node}
 use Rattle.mls_leaf.specs.declared.key_package.KeyPackage.{KeyPackage}
 use Rattle.mls_leaf.specs.declared.leaf.LeafNode.{LeafNode}
-use Rattle.mls_leaf.specs.declared.leaf.LeafSource.TheVariants as made_for
+use Rattle.mls_leaf.specs.declared.leaf.LeafSource.TheVariants as leaf_node_source
 use Rattle.mls_types.specs.Message.{mls_message}
 use Rattle.mls_suite.specs.Crypto.{Crypto, Lawful}
 use Rattle.mls_suite.proofs.LabelLaws.{verifies_signed}
@@ -34,7 +34,7 @@ offered_by c identity seed = signed_package c (sign_seed seed) (unsigned_package
 
 -- ---- it has a spelling
 
-lifetime_fits : leaf_source.Fits (made_for.KeyPackage 0 (2 ^ 64 - 1))
+lifetime_fits : leaf_source.Fits (leaf_node_source.KeyPackage 0 (2 ^ 64 - 1))
 unfolding leaf_source
 lifetime_fits = (lit< tt, (lit< tt, lit< tt))
 

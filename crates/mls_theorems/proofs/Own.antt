@@ -2,7 +2,7 @@
 use Rattle.std.proofs.Common.{◌≡◌, ◌≢◌, ℕ, suc, ◌==◌, true, false, List, [], ◌∷◌, filter_map, Option, Some, None, Ok, refl, sym, ◌∙◌, ap, subst, ne_eqb, inl, inr}
 use Rattle.std.specs.List.{AllByRecursion, cons_option}
 use Rattle.std.proofs.lemmas.Bool.{cases_eq, true≢false}
-use Rattle.mls_wire.specs.Checks.{given}
+use Rattle.mls_wire.specs.Checks.{require_some}
 use Rattle.mls_leaf.specs.declared.leaf.LeafNode.{LeafNode}
 use Rattle.mls_leaf.specs.declared.proposal.Proposal.{Proposal}
 use Rattle.mls_leaf.specs.declared.proposal.Proposal.TheVariants as proposal
@@ -10,9 +10,9 @@ use Rattle.mls_types.specs.declared.commit.ProposalOrRef.{ProposalOrRef}
 use Rattle.mls_types.specs.declared.commit.ProposalOrRef.TheVariants as listed
 use Rattle.mls_suite.specs.Crypto.{Crypto}
 use Rattle.mls_tree_model.specs.Sets.{has}
-use Rattle.mls_model.specs.Public.{Used}
+use Rattle.mls_model.specs.PublicState.{Used}
 use Rattle.mls_model.specs.Proposals.{update_in, updates}
-use Rattle.mls_model.specs.Member.{Kept, Member, kept_under, used_one, used_by, named_one, named, first_key, first_own_key}
+use Rattle.mls_model.specs.Member.{KeptProposal, Member, kept_under, find_proposal, find_proposals, named_proposal, named_proposals, first_key, first_own_key}
 use Rattle.mls_model.specs.Agreement.{HasOwnKey, IsGoodKept}
 use Rattle.mls_theorems.specs.CommitLaws.{HasPassed, AllHavePassed}
 use Rattle.mls_theorems.specs.KeyLaws.{OwnsUpdate, UsedHavePassed, UsedAreOwned}
@@ -22,43 +22,43 @@ use Rattle.mls_model.proofs.CommitLaws.{found_good}
 -- ---- one that is kept
 
 module _ (c : Crypto) (m : Member) (good : AllByRecursion (IsGoodKept c m) m.kept) where
-  kept_good : (reference : List ℕ) (k : Kept) → kept_under m.kept reference ≡ Some k → IsGoodKept c m k
+  kept_good : (reference : List ℕ) (k : KeptProposal) → kept_under m.kept reference ≡ Some k → IsGoodKept c m k
   unfolding kept_under
   kept_good reference k e = found_good (IsGoodKept c m) _ m.kept k good e
 
 -- a list's first, and the others
-record UsesFirst (kept : List Kept) (i : ℕ) (x : ProposalOrRef) (xs : List ProposalOrRef) (used : List Used) : Type 0 where
+record UsesFirst (kept : List KeptProposal) (i : ℕ) (x : ProposalOrRef) (xs : List ProposalOrRef) (used : List Used) : Type 0 where
   first : Used
-  one : used_one kept i x ≡ Ok first
+  one : find_proposal kept i x ≡ Ok first
   later : List Used
-  others : used_by kept i xs ≡ Ok later
+  others : find_proposals kept i xs ≡ Ok later
   whole : first ∷ later ≡ used
 
-uses_first : (kept : List Kept) (i : ℕ) (x : ProposalOrRef) (xs : List ProposalOrRef) (used : List Used) → used_by kept i (x ∷ xs) ≡ Ok used → UsesFirst kept i x xs used
-unfolding used_by
+uses_first : (kept : List KeptProposal) (i : ℕ) (x : ProposalOrRef) (xs : List ProposalOrRef) (used : List Used) → find_proposals kept i (x ∷ xs) ≡ Ok used → UsesFirst kept i x xs used
+unfolding find_proposals
 uses_first kept i x xs used h =
-    let first = bind_ok (used_one kept i x) _ used h in
-    let later = bind_ok (used_by kept i xs) _ used first.2 in
+    let first = bind_ok (find_proposal kept i x) _ used h in
+    let later = bind_ok (find_proposals kept i xs) _ used first.2 in
     record { first = first.0; one = first.1; later = later.0; others = later.1; whole = cc }
 
-uses_none : (kept : List Kept) (i : ℕ) (used : List Used) → used_by kept i [] ≡ Ok used → [] ≡ used
-unfolding used_by
+uses_none : (kept : List KeptProposal) (i : ℕ) (used : List Used) → find_proposals kept i [] ≡ Ok used → [] ≡ used
+unfolding find_proposals
 uses_none kept i used h = cc
 
 full_one : Proposal → ℕ → Used
 full_one said i = record { proposal = said; sender = i; is_full = true }
 
-kept_one : Kept → Used
+kept_one : KeptProposal → Used
 kept_one k = record { proposal = k.proposal; sender = k.sender; is_full = false }
 
-uses_full : (kept : List Kept) (i : ℕ) (said : Proposal) (u : Used) → used_one kept i (listed.Proposal said) ≡ Ok u → full_one said i ≡ u
+uses_full : (kept : List KeptProposal) (i : ℕ) (said : Proposal) (u : Used) → find_proposal kept i (listed.Proposal said) ≡ Ok u → full_one said i ≡ u
 unfolding full_one
 uses_full kept i said u h = cc
 
-uses_kept : (kept : List Kept) (i : ℕ) (reference : List ℕ) (u : Used) → used_one kept i (listed.Reference reference) ≡ Ok u → (k : Kept) × (kept_under kept reference ≡ Some k) × (kept_one k ≡ u)
+uses_kept : (kept : List KeptProposal) (i : ℕ) (reference : List ℕ) (u : Used) → find_proposal kept i (listed.Reference reference) ≡ Ok u → (k : KeptProposal) × (kept_under kept reference ≡ Some k) × (kept_one k ≡ u)
 unfolding kept_one
 uses_kept kept i reference u h =
-    let found = bind_ok (given 60 (kept_under kept reference)) _ u h in
+    let found = bind_ok (require_some 60 (kept_under kept reference)) _ u h in
     (found.0, given_ok 60 (kept_under kept reference) found.0 found.1, cc)
 
 -- ---- they have passed their checks
@@ -67,11 +67,11 @@ full_passed : (c : Crypto) (m : Member) (said : Proposal) (i : ℕ) → HasPasse
 unfolding full_one
 full_passed c m said i e = absurd (true≢false e)
 
-kept_passed : (c : Crypto) (m : Member) (k : Kept) → IsGoodKept c m k → HasPassed c m.public (kept_one k)
+kept_passed : (c : Crypto) (m : Member) (k : KeptProposal) → IsGoodKept c m k → HasPassed c m.public (kept_one k)
 unfolding kept_one
 kept_passed c m k g e = g.checked
 
-passed_all : (c : Crypto) (m : Member) (i : ℕ) → AllByRecursion (IsGoodKept c m) m.kept → (list : List ProposalOrRef) (used : List Used) → used_by m.kept i list ≡ Ok used → AllHavePassed c m.public used
+passed_all : (c : Crypto) (m : Member) (i : ℕ) → AllByRecursion (IsGoodKept c m) m.kept → (list : List ProposalOrRef) (used : List Used) → find_proposals m.kept i list ≡ Ok used → AllHavePassed c m.public used
 passed_all c m i good [] used h = subst (AllHavePassed c m.public) (uses_none m.kept i used h) tt
 passed_all c m i good (listed.Proposal said ∷ xs) used h =
     let f = uses_first m.kept i (listed.Proposal said) xs used h in
@@ -121,7 +121,7 @@ module _ (c : Crypto) (m : Member) where
       let u : Used = record { proposal = said; sender = i; is_full = true } in
       subst (λ ys. OwnsUpdate c m.keys.leaf ys own) (sym (updates_first_is u us)) (owns_other c m.keys.leaf u said (updates us) own ne h)
 
-  owns_kept : (k : Kept) (us : List Used) (own : Option (List ℕ)) → IsGoodKept c m k → OwnsUpdate c m.keys.leaf (updates us) own → OwnsUpdate c m.keys.leaf (updates (kept_one k ∷ us)) (first_key k.own_key own)
+  owns_kept : (k : KeptProposal) (us : List Used) (own : Option (List ℕ)) → IsGoodKept c m k → OwnsUpdate c m.keys.leaf (updates us) own → OwnsUpdate c m.keys.leaf (updates (kept_one k ∷ us)) (first_key k.own_key own)
   unfolding kept_one
   owns_kept k us own g h =
       let u : Used = record { proposal = k.proposal; sender = k.sender; is_full = false } in
@@ -130,44 +130,44 @@ module _ (c : Crypto) (m : Member) where
         | inr ne ↦ subst (λ key. OwnsUpdate c m.keys.leaf (cons_option (update_in u k.proposal) (updates us)) (first_key key own)) (sym (g.others ne)) (owns_other c m.keys.leaf u k.proposal (updates us) own ne h)
       ])
 
-named_full : (kept : List Kept) (said : Proposal) (xs : List ProposalOrRef) → named kept (listed.Proposal said ∷ xs) ≡ named kept xs
-unfolding named
+named_full : (kept : List KeptProposal) (said : Proposal) (xs : List ProposalOrRef) → named_proposals kept (listed.Proposal said ∷ xs) ≡ named_proposals kept xs
+unfolding named_proposals
 named_full kept said xs = refl
 
-named_kept : (kept : List Kept) (reference : List ℕ) (xs : List ProposalOrRef) (k : Kept) → kept_under kept reference ≡ Some k → named kept (listed.Reference reference ∷ xs) ≡ k ∷ named kept xs
-unfolding named
-named_kept kept reference xs k e = ap (λ o. cons_option o (filter_map (named_one kept) xs)) e
+named_kept : (kept : List KeptProposal) (reference : List ℕ) (xs : List ProposalOrRef) (k : KeptProposal) → kept_under kept reference ≡ Some k → named_proposals kept (listed.Reference reference ∷ xs) ≡ k ∷ named_proposals kept xs
+unfolding named_proposals
+named_kept kept reference xs k e = ap (λ o. cons_option o (filter_map (named_proposal kept) xs)) e
 
-no_key : (kept : List Kept) → first_own_key (named kept []) ≡ None
-unfolding named first_own_key
+no_key : (kept : List KeptProposal) → first_own_key (named_proposals kept []) ≡ None
+unfolding named_proposals first_own_key
 no_key kept = refl
 
 no_updates : (c : Crypto) (j : ℕ) → OwnsUpdate c j (updates []) None
 unfolding updates has
 no_updates c j = refl
 
-key_first : (k : Kept) (ks : List Kept) → first_own_key (k ∷ ks) ≡ first_key k.own_key (first_own_key ks)
+key_first : (k : KeptProposal) (ks : List KeptProposal) → first_own_key (k ∷ ks) ≡ first_key k.own_key (first_own_key ks)
 unfolding first_own_key
 key_first k ks = refl
 
-owned_all : (c : Crypto) (m : Member) (i : ℕ) → AllByRecursion (IsGoodKept c m) m.kept → i ≢ m.keys.leaf → (list : List ProposalOrRef) (used : List Used) → used_by m.kept i list ≡ Ok used → OwnsUpdate c m.keys.leaf (updates used) (first_own_key (named m.kept list))
+owned_all : (c : Crypto) (m : Member) (i : ℕ) → AllByRecursion (IsGoodKept c m) m.kept → i ≢ m.keys.leaf → (list : List ProposalOrRef) (used : List Used) → find_proposals m.kept i list ≡ Ok used → OwnsUpdate c m.keys.leaf (updates used) (first_own_key (named_proposals m.kept list))
 owned_all c m i good ne [] used h =
-    subst (λ us. OwnsUpdate c m.keys.leaf (updates us) (first_own_key (named m.kept []))) (uses_none m.kept i used h) (subst (OwnsUpdate c m.keys.leaf (updates [])) (sym (no_key m.kept)) (no_updates c m.keys.leaf))
+    subst (λ us. OwnsUpdate c m.keys.leaf (updates us) (first_own_key (named_proposals m.kept []))) (uses_none m.kept i used h) (subst (OwnsUpdate c m.keys.leaf (updates [])) (sym (no_key m.kept)) (no_updates c m.keys.leaf))
 owned_all c m i good ne (listed.Proposal said ∷ xs) used h =
     let f = uses_first m.kept i (listed.Proposal said) xs used h in
     let rest = owned_all c m i good ne xs f.later f.others in
-    let one = owns_full c m said i f.later (first_own_key (named m.kept xs)) ne rest in
+    let one = owns_full c m said i f.later (first_own_key (named_proposals m.kept xs)) ne rest in
     let list = ap (λ u. u ∷ f.later) (uses_full m.kept i said f.first f.one) ∙ f.whole in
-    subst (λ us. OwnsUpdate c m.keys.leaf (updates us) (first_own_key (named m.kept (listed.Proposal said ∷ xs)))) list
+    subst (λ us. OwnsUpdate c m.keys.leaf (updates us) (first_own_key (named_proposals m.kept (listed.Proposal said ∷ xs)))) list
     (subst (λ ks. OwnsUpdate c m.keys.leaf (updates (full_one said i ∷ f.later)) (first_own_key ks)) (sym (named_full m.kept said xs)) one)
 owned_all c m i good ne (listed.Reference reference ∷ xs) used h =
     let f = uses_first m.kept i (listed.Reference reference) xs used h in
     let k = uses_kept m.kept i reference f.first f.one in
     let rest = owned_all c m i good ne xs f.later f.others in
-    let one = owns_kept c m k.0 f.later (first_own_key (named m.kept xs)) (kept_good c m good reference k.0 k.1) rest in
+    let one = owns_kept c m k.0 f.later (first_own_key (named_proposals m.kept xs)) (kept_good c m good reference k.0 k.1) rest in
     let list = ap (λ u. u ∷ f.later) k.2 ∙ f.whole in
-    let keys = ap first_own_key (named_kept m.kept reference xs k.0 k.1) ∙ key_first k.0 (named m.kept xs) in
-    subst (λ us. OwnsUpdate c m.keys.leaf (updates us) (first_own_key (named m.kept (listed.Reference reference ∷ xs)))) list
+    let keys = ap first_own_key (named_kept m.kept reference xs k.0 k.1) ∙ key_first k.0 (named_proposals m.kept xs) in
+    subst (λ us. OwnsUpdate c m.keys.leaf (updates us) (first_own_key (named_proposals m.kept (listed.Reference reference ∷ xs)))) list
     (subst (OwnsUpdate c m.keys.leaf (updates (kept_one k.0 ∷ f.later))) (sym keys) one)
 
 pub used_are_owned : UsedAreOwned

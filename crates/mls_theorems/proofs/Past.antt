@@ -6,15 +6,15 @@ use Rattle.mls_model.specs.declared.origin.Origin.TheVariants.{Creation, GroupIn
 use Rattle.mls_model.specs.Agreement.{IsGoodMember}
 use Rattle.mls_model.specs.Invariant.{IsSeated}
 use Rattle.mls_model.specs.Journal.{Entry, Journal, CommitMade, names_in}
-use Rattle.mls_model.specs.Lineage.{IsSameState, Begins, MadeHere, Steps, IsReached}
+use Rattle.mls_model.specs.Lineage.{IsSameState, Begins, MadeHere, IsReachedOver, IsReached}
 use Rattle.mls_model.specs.Member.{Member}
-use Rattle.mls_model.specs.PublicOf.{Creations}
+use Rattle.mls_model.specs.JournalState.{Creations}
 use Rattle.mls_model.specs.World.{World, Seat}
-use Rattle.mls_theorems.specs.Journals.{StandsAlong}
+use Rattle.mls_theorems.specs.Journals.{StandsAtJournal}
 use Rattle.mls_theorems.proofs.Journals.{creations_along, joins_along, joins_here_along, deliveries_along, states_along}
 use Rattle.mls_theorems.proofs.Homemade.{entry_with}
 use Rattle.mls_theorems.specs.Lists.{Grows}
-use Rattle.mls_theorems.specs.Past.{PastGrows, PastAlong}
+use Rattle.mls_theorems.specs.PastStates.{PastGrows, PastAlong}
 
 -- ---- one state
 
@@ -28,7 +28,7 @@ begins_same : (c : Crypto) (creations : Creations) (origin : Origin) (m n : Memb
 begins_same c creations (Creation k) m n s b = record { first = b.first; is = b.is; same = same_on b.first m n b.same s }
 begins_same c creations (JoinedBy info) m n s b = record { candidate = b.candidate; bytes = b.bytes; joined = b.joined; is = b.is; info_is = b.info_is; same = same_on b.joined.member m n b.same s }
 
-steps_same : (c : Crypto) (made : List CommitMade) (j : Journal) (before : Member) (e : Entry) (m n : Member) → IsSameState m n → Steps c made j before e m → Steps c made j before e n
+steps_same : (c : Crypto) (made : List CommitMade) (j : Journal) (before : Member) (e : Entry) (m n : Member) → IsSameState m n → IsReachedOver c made j before e m → IsReachedOver c made j before e n
 steps_same c made j before e m n s (inl f) = inl (record { free = f.free; epoch = f.epoch; after = f.after; is = f.is; entry = f.entry; same = same_on f.after m n f.same s })
 steps_same c made j before e m n s (inr (inl f)) =
     inr (inl (record { which = f.which; here = f.here; reaches = f.reaches ∙ s.epoch; epoch = f.epoch; after = f.after; is = f.is; entry = f.entry; same = same_on f.after m n f.same s }))
@@ -68,7 +68,7 @@ begins_grow c creations more g (JoinedBy info) m b = b
 pub here_grows : (made more : List CommitMade) → Grows made more → (j : Journal) (e : Entry) (d : CommitMade) → MadeHere made j e d → MadeHere more j e d
 here_grows made more g j e d h = record { place = h.place; is = g h.place d h.is; journal = h.journal; entry = h.entry }
 
-steps_grow : (c : Crypto) (made more : List CommitMade) → Grows made more → (j : Journal) (before : Member) (e : Entry) (m : Member) → Steps c made j before e m → Steps c more j before e m
+steps_grow : (c : Crypto) (made more : List CommitMade) → Grows made more → (j : Journal) (before : Member) (e : Entry) (m : Member) → IsReachedOver c made j before e m → IsReachedOver c more j before e m
 steps_grow c made more g j before e m (inl f) = inl f
 steps_grow c made more g j before e m (inr (inl f)) =
     inr (inl (record { which = f.which; here = here_grows made more g j e f.which f.here; reaches = f.reaches; epoch = f.epoch; after = f.after; is = f.is; entry = f.entry; same = f.same }))
@@ -93,26 +93,26 @@ past_grows c creations creations' made made' g h origin [] m r = (begins_grow c 
 past_grows c creations creations' made made' g h origin (e ∷ es) m r =
     (r.0, past_grows c creations creations' made made' g h origin es r.0 r.1, r.2, steps_grow c made made' h (record { origin = origin; entries = es }) r.0 e m r.3)
 
-begins_along : (c : Crypto) (creations : Creations) (origin : Origin) (m : Member) → Begins c creations origin m → StandsAlong c creations origin [] m
+begins_along : (c : Crypto) (creations : Creations) (origin : Origin) (m : Member) → Begins c creations origin m → StandsAtJournal c creations origin [] m
 begins_along c creations (Creation k) m b = states_along c creations (Creation k) [] b.first m b.same (creations_along c creations k b.first b.is)
 begins_along c creations (JoinedBy info) m b =
     states_along c creations (JoinedBy info) [] b.joined.member m b.same
-    (subst (λ (i : List ℕ). StandsAlong c creations (JoinedBy i) [] b.joined.member) b.info_is (joins_along c creations b.candidate b.bytes b.joined b.is))
+    (subst (λ (i : List ℕ). StandsAtJournal c creations (JoinedBy i) [] b.joined.member) b.info_is (joins_along c creations b.candidate b.bytes b.joined b.is))
 
 entry_by : (e : Entry) (commit : List ℕ) (names : List (List ℕ)) → commit ≡ e.commit → names ≡ e.names → entry_with commit names ≡ e
 entry_by e commit names a b = ap (λ (x : List ℕ). entry_with x names) a ∙ ap (λ (x : List (List ℕ)). entry_with e.commit x) b
 
-steps_along : (c : Crypto) (creations : Creations) (made : List CommitMade) (origin : Origin) (es : List Entry) (before : Member) (e : Entry) (m : Member) → IsGoodMember c before → StandsAlong c creations origin es before →
-    Steps c made (record { origin = origin; entries = es }) before e m → StandsAlong c creations origin (e ∷ es) m
+steps_along : (c : Crypto) (creations : Creations) (made : List CommitMade) (origin : Origin) (es : List Entry) (before : Member) (e : Entry) (m : Member) → IsGoodMember c before → StandsAtJournal c creations origin es before →
+    IsReachedOver c made (record { origin = origin; entries = es }) before e m → StandsAtJournal c creations origin (e ∷ es) m
 steps_along c creations made origin es before e m good along (inl f) =
     states_along c creations origin (e ∷ es) f.after m f.same
-    (subst (λ (x : Entry). StandsAlong c creations origin (x ∷ es) f.after) f.entry (deliveries_along c creations origin es before e.commit f.epoch f.after good along f.is))
+    (subst (λ (x : Entry). StandsAtJournal c creations origin (x ∷ es) f.after) f.entry (deliveries_along c creations origin es before e.commit f.epoch f.after good along f.is))
 steps_along c creations made origin es before e m good along (inr (inl f)) =
     states_along c creations origin (e ∷ es) f.after m f.same
-    (subst (λ (x : Entry). StandsAlong c creations origin (x ∷ es) f.after) f.entry (deliveries_along c creations origin es before e.commit f.epoch f.after good along f.is))
+    (subst (λ (x : Entry). StandsAtJournal c creations origin (x ∷ es) f.after) f.entry (deliveries_along c creations origin es before e.commit f.epoch f.after good along f.is))
 steps_along c creations made origin es before e m good along (inr (inr f)) =
     states_along c creations origin (e ∷ es) f.joins.joined.member m f.same
-    (subst (λ (x : Entry). StandsAlong c creations origin (x ∷ es) f.joins.joined.member) (entry_by e f.call.commit (names_in before.kept f.list) f.commit f.names)
+    (subst (λ (x : Entry). StandsAtJournal c creations origin (x ∷ es) f.joins.joined.member) (entry_by e f.call.commit (names_in before.kept f.list) f.commit f.names)
     (joins_here_along c creations origin es before f.list f.call f.candidate f.welcome f.joins along f.is_made))
 
 pub past_along : PastAlong

@@ -16,30 +16,30 @@ use Rattle.mls_treekem_model.proofs.MemberLaws.{exact_whole, exact_followed}
 use Rattle.mls_treekem_model.specs.Members.{HasExact}
 use Rattle.mls_treekem_model.specs.Whole.{keys_of_path}
 use Rattle.mls_treekem_model.proofs.WholeLaws.{made_exact}
-use Rattle.mls_model.specs.Public.{PublicState}
+use Rattle.mls_model.specs.PublicState.{PublicState}
 use Rattle.mls_model.specs.Candidate.{leaf_key_of, unsigned_leaf, signed_leaf}
 use Rattle.mls_treekem_model.specs.Seeds.{path_seed}
-use Rattle.mls_model.specs.Commit.{Edits, merged, public_with, next_public}
-use Rattle.mls_model.specs.Member.{Member, with_keys, followed}
-use Rattle.mls_model.specs.Messages.{decoded}
+use Rattle.mls_model.specs.Commit.{Edits, apply_path_if, public_with, next_public}
+use Rattle.mls_model.specs.Member.{Member, with_keys, follow_edits}
+use Rattle.mls_model.specs.Messages.{decode_message}
 use Rattle.mls_model.specs.Make.{MadePath, Made, committed_leaf, no_path}
 use Rattle.mls_model.specs.Agreement.{IsGoodMember, IsGoodPending}
 use Rattle.mls_model.specs.Claims.{IsMade}
 use Rattle.mls_wire.proofs.CheckLaws.{then_ok}
 use Rattle.mls_model.proofs.KeyLaws.{with_all_keys}
-use Rattle.mls_theorems.specs.Makes.{commit_of, said_of, tag_of, content_of, made_of, Makes}
+use Rattle.mls_theorems.specs.CommitCalls.{commit_of, said_of, tag_of, content_of, made_of, Makes}
 use Rattle.mls_theorems.proofs.Makes.{make_did}
-use Rattle.mls_theorems.specs.Sent.{IsNewPath, ReadsBack, sent_of}
+use Rattle.mls_theorems.specs.SentCommits.{IsNewPath, ReadsBack, sent_of}
 use Rattle.mls_theorems.proofs.Sent.{path_did, made_fits}
-use Rattle.mls_theorems.specs.Opened.{IsChange}
+use Rattle.mls_theorems.specs.OpenedPaths.{IsChange}
 use Rattle.mls_theorems.proofs.Opened.{body_did, same_edits, one_tree}
 use Rattle.mls_theorems.proofs.Received.{sender_is}
-use Rattle.mls_theorems.proofs.Along.{body_is}
-use Rattle.mls_theorems.specs.CommitLaws.{IsKept}
+use Rattle.mls_theorems.proofs.CommitEntries.{body_is}
+use Rattle.mls_theorems.specs.CommitLaws.{IsUntouched}
 use Rattle.mls_theorems.proofs.Exact.{keys_back, has_followed}
 use Rattle.mls_theorems.proofs.Staying.{edits_follow_committer}
 use Rattle.mls_theorems.proofs.Stays.{taken}
-use Rattle.mls_theorems.specs.Pends.{MadePends}
+use Rattle.mls_theorems.specs.PendingCommits.{MadePends}
 
 -- ---- the keys of the maker
 
@@ -76,15 +76,15 @@ keys_with_path c m e seed path new =
     let whole : HasExact c new.tree p = exact_whole c new.tree p (subst (λ (ks : Keys). Exact c 0 new.tree i ks) (sym (made_back c m.keys (way 0 e.tree i) start sk)) there) in
     subst (λ (k : Climb). HasExact c new.tree (with_keys m.keys k.keys)) (sym new.climb_is) whole
 
-keys_alone : (c : Crypto) (m : Member) (e : Edits) → IsGoodMember c m → IsKept m.keys.leaf m.public.tree e → HasExact c e.tree (with_keys m.keys (all_keys (followed None e.tree m.keys)))
-unfolding followed with_keys
+keys_alone : (c : Crypto) (m : Member) (e : Edits) → IsGoodMember c m → IsUntouched m.keys.leaf m.public.tree e → HasExact c e.tree (with_keys m.keys (all_keys (follow_edits None e.tree m.keys)))
+unfolding follow_edits with_keys
 keys_alone c m e good k =
-    let new : PrivateKeys = followed None e.tree m.keys in
+    let new : PrivateKeys = follow_edits None e.tree m.keys in
     let exact : HasExact c e.tree new = exact_followed c m.public.tree e.tree m.keys new good.keys k.follows (has_followed None e.tree m.keys) in
     subst (λ (p : PrivateKeys). HasExact c e.tree p) (sym (with_all_keys m.keys new refl)) exact
 
-pub merged_alone : (c : Crypto) (p : PublicState) (i : ℕ) (e : Edits) (t : Term) → merged c p i e None ≡ Ok t → e.tree ≡ t
-unfolding merged
+pub merged_alone : (c : Crypto) (p : PublicState) (i : ℕ) (e : Edits) (t : Term) → apply_path_if c p i e None ≡ Ok t → e.tree ≡ t
+unfolding apply_path_if
 merged_alone c p i e t h = ok_is _ _ h
 
 made_keys_exact : (c : Crypto) (m : Member) (list : List ProposalOrRef) (wants_path : Bool) (seed : List ℕ) (made : Made) (k : Makes c m list wants_path seed made) → IsGoodMember c m →
@@ -93,20 +93,20 @@ unfolding commit_of no_path
 made_keys_exact c m list wants_path seed made k good (inl new) =
     let d : IsChange c m.public m.keys.leaf k.used (commit_of list k.path) k.change = body_did c m.public m.keys.leaf k.used (commit_of list k.path) _ _ k.change k.change_is in
     let same : k.change.edits ≡ k.edits = same_edits c m.public m.keys.leaf k.used k.change.edits k.edits d.edits_are k.edits_are in
-    let tree : k.change.tree ≡ new.tree = one_tree c m k.edits seed k.path k.change.tree new (sym (ap (λ (x : Edits). merged c m.public m.keys.leaf x k.path.path) same) ∙ d.merges) in
+    let tree : k.change.tree ≡ new.tree = one_tree c m k.edits seed k.path k.change.tree new (sym (ap (λ (x : Edits). apply_path_if c m.public m.keys.leaf x k.path.path) same) ∙ d.merges) in
     subst (λ (t : Term). HasExact c t (with_keys m.keys k.path.climb.keys)) (sym tree) (keys_with_path c m k.edits seed k.path new)
 made_keys_exact c m list wants_path seed made k good (inr none) =
     let d : IsChange c m.public m.keys.leaf k.used (commit_of list k.path) k.change = body_did c m.public m.keys.leaf k.used (commit_of list k.path) _ _ k.change k.change_is in
     let same : k.change.edits ≡ k.edits = same_edits c m.public m.keys.leaf k.used k.change.edits k.edits d.edits_are k.edits_are in
     let tree : k.edits.tree ≡ k.change.tree = merged_alone c m.public m.keys.leaf k.edits k.change.tree
-    (sym (ap (λ (x : MadePath). merged c m.public m.keys.leaf k.edits x.path) none) ∙ sym (ap (λ (x : Edits). merged c m.public m.keys.leaf x k.path.path) same) ∙ d.merges) in
-    let kept : IsKept m.keys.leaf m.public.tree k.edits = edits_follow_committer c m.public m.keys.leaf k.used k.edits k.edits_are (taken _ _ good.own good.is_own) in
+    (sym (ap (λ (x : MadePath). apply_path_if c m.public m.keys.leaf k.edits x.path) none) ∙ sym (ap (λ (x : Edits). apply_path_if c m.public m.keys.leaf x k.path.path) same) ∙ d.merges) in
+    let kept : IsUntouched m.keys.leaf m.public.tree k.edits = edits_follow_committer c m.public m.keys.leaf k.used k.edits k.edits_are (taken _ _ good.own good.is_own) in
     subst (λ (t : Term). HasExact c t (with_keys m.keys k.path.climb.keys)) tree
     (subst (λ (x : MadePath). HasExact c k.edits.tree (with_keys m.keys x.climb.keys)) (sym none) (keys_alone c m k.edits good kept))
 
 next_is : (c : Crypto) (m : Member) (list : List ProposalOrRef) (wants_path : Bool) (seed : List ℕ) (made : Made) (k : Makes c m list wants_path seed made) →
     next_public c m.public m.keys.leaf k.used (commit_of list k.path) (framed (sent_of c m list k.path k.change).content) (sent_of c m list k.path k.change).content.signature (tag_of m k.path k.change) ≡ Ok (public_with k.change (tag_of m k.path k.change))
-unfolding next_public sent_of content_of said_of Rattle.mls_model.specs.Messages.said_by commit_of
+unfolding next_public sent_of content_of said_of Rattle.mls_model.specs.Messages.content_by commit_of
 next_is c m list wants_path seed made k = rw k.change_is refl
 
 -- by what was made, before it has its name
@@ -120,7 +120,7 @@ pends_by c m list made is k =
       tag = tag_of m k.path k.change;
       used = k.used;
       fits = reads.fits;
-      decodes = ap (λ (x : Made). decoded x.commit) k.made_is ∙ reads.decodes;
+      decodes = ap (λ (x : Made). decode_message x.commit) k.made_is ∙ reads.decodes;
       says = body_is c m list k.path k.change;
       from = sender_is c m list k.path k.change;
       below = k.below;

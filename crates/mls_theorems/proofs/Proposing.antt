@@ -30,19 +30,19 @@ use Rattle.mls_tree_model.specs.Term.{width, leaf_of}
 use Rattle.mls_tree.specs.Tree.{member_at}
 use Rattle.mls_model.specs.Agreement.{HasOwnKey, IsGoodKept, IsGoodMember}
 use Rattle.mls_model.specs.Candidate.{leaf_key_of, unsigned_leaf, signed_leaf}
-use Rattle.mls_model.specs.Member.{Kept, Member, kept_under}
-use Rattle.mls_model.specs.Messages.{decoded, is_within_limit, said_by, content_tag, sent_by, reference_of}
+use Rattle.mls_model.specs.Member.{KeptProposal, Member, kept_under}
+use Rattle.mls_model.specs.Messages.{decode_message, is_within_limit, content_by, content_tag, message_by, reference_of}
 use Rattle.mls_model.specs.Proposals.{proposal_checks}
-use Rattle.mls_model.specs.Propose.{proposal_by, kept_once, proposed, proposed_add, updated_leaf, proposed_update, proposed_remove}
+use Rattle.mls_model.specs.Propose.{proposal_by, keep_once, make_proposal, propose_add, updated_leaf, propose_update, propose_remove}
 use Rattle.mls_theorems.proofs.Fit.{short_first, short_last, short_text, made_leaf_fits, update_source_fits}
-use Rattle.mls_theorems.specs.Sent.{ReadsBack}
+use Rattle.mls_theorems.specs.SentCommits.{ReadsBack}
 use Rattle.mls_theorems.proofs.Sent.{message_fits, leaf_short, leaf_is_in, context_fits, within_is}
 use Rattle.mls_theorems.proofs.Stays.{taken}
 use Rattle.mls_wire.specs.CheckLaws.{required}
 use Rattle.mls_wire.proofs.CheckLaws.{require_ok, then_ok, bind_ok}
 use Rattle.mls_tree_model.proofs.TakenLaws.{some_at}
 use Rattle.mls_model.proofs.CandidateLaws.{capabilities_fit}
-use Rattle.mls_theorems.proofs.Still.{keeping_good}
+use Rattle.mls_theorems.proofs.UnchangedMembers.{keeping_good}
 
 -- ---- its message reads back
 
@@ -71,7 +71,7 @@ said_fits group at leaf x signature g a l fits lt =
     signed_content_fits (signed_with s signature []) (g, (a, ((lit< tt, l), (lit< tt, (lit< tt, fits l5))))) (short_text signature _ (short_first (opaque signature) [] _ auth), tt)
 
 by_fits : (c : Crypto) (m : Member) (x : Proposal) → IsGoodMember c m → FitsIfShort x → length (signed_content.spell (proposal_by c m x)) < 2 ^ 30 → signed_content.Fits (proposal_by c m x)
-unfolding proposal_by said_by
+unfolding proposal_by content_by
 by_fits c m x good fits lt =
     let k = context_fits c m good in
     said_fits m.public.context.group_id m.public.context.epoch m.keys.leaf x _ k.group k.epoch (leaf_short c m good) fits lt
@@ -80,28 +80,28 @@ by_fits c m x good fits lt =
 unfoldable sent_as : Crypto → Member → Proposal → PublicMessage
 sent_as c m x = record { content = proposal_by c m x; membership_tag = content_tag m.epoch (proposal_by c m x) m.public.context }
 
-sent_is : (c : Crypto) (m : Member) (x : Proposal) → sent_by m (proposal_by c m x) ≡ mls_message.spell (message.PublicMessage (sent_as c m x))
-unfolding sent_by sent_as
+sent_is : (c : Crypto) (m : Member) (x : Proposal) → message_by m (proposal_by c m x) ≡ mls_message.spell (message.PublicMessage (sent_as c m x))
+unfolding message_by sent_as
 sent_is c m x = refl
 
 sent_fits : (c : Crypto) (m : Member) (x : Proposal) → IsGoodMember c m → FitsIfShort x → length (mls_message.spell (message.PublicMessage (sent_as c m x))) < 2 ^ 30 → mls_message.Fits (message.PublicMessage (sent_as c m x))
 unfolding sent_as
 sent_fits c m x good fits lt = message_fits (proposal_by c m x) (content_tag m.epoch (proposal_by c m x) m.public.context) (by_fits c m x good fits) lt
 
-proposal_reads : (c : Crypto) (m : Member) (x : Proposal) → IsGoodMember c m → FitsIfShort x → is_within_limit (sent_by m (proposal_by c m x)) ≡ Ok passed → ReadsBack (sent_by m (proposal_by c m x)) (sent_as c m x)
-unfolding decoded
+proposal_reads : (c : Crypto) (m : Member) (x : Proposal) → IsGoodMember c m → FitsIfShort x → is_within_limit (message_by m (proposal_by c m x)) ≡ Ok passed → ReadsBack (message_by m (proposal_by c m x)) (sent_as c m x)
+unfolding decode_message
 proposal_reads c m x good fits h =
     let short : length (mls_message.spell (message.PublicMessage (sent_as c m x))) ≤ input_limit = subst (λ (b : List ℕ). length b ≤ input_limit) (sent_is c m x) (within_is _ h) in
     let f : mls_message.Fits (message.PublicMessage (sent_as c m x)) = sent_fits c m x good fits (omega arith) in
-    record { fits = f; decodes = whole_again mls_message input_limit (sent_by m (proposal_by c m x)) (message.PublicMessage (sent_as c m x)) (record { fits = f; spelled = sent_is c m x }) (within_is _ h) }
+    record { fits = f; decodes = whole_again mls_message input_limit (message_by m (proposal_by c m x)) (message.PublicMessage (sent_as c m x)) (record { fits = f; spelled = sent_is c m x }) (within_is _ h) }
 
 -- ---- it is kept
 
-unfoldable kept_as : Crypto → Member → Proposal → Option (List ℕ) → Kept
-kept_as c m x own = record { reference = reference_of (proposal_by c m x); message = sent_by m (proposal_by c m x); proposal = x; sender = m.keys.leaf; own_key = own }
+unfoldable kept_as : Crypto → Member → Proposal → Option (List ℕ) → KeptProposal
+kept_as c m x own = record { reference = reference_of (proposal_by c m x); message = message_by m (proposal_by c m x); proposal = x; sender = m.keys.leaf; own_key = own }
 
-kept_good : (c : Crypto) (m : Member) (x : Proposal) (own : Option (List ℕ)) → IsGoodMember c m → HasOwnKey c x own → proposal_checks c m.public m.keys.leaf x ≡ Ok passed → ReadsBack (sent_by m (proposal_by c m x)) (sent_as c m x) → IsGoodKept c m (kept_as c m x own)
-unfolding kept_as sent_as proposal_by said_by
+kept_good : (c : Crypto) (m : Member) (x : Proposal) (own : Option (List ℕ)) → IsGoodMember c m → HasOwnKey c x own → proposal_checks c m.public m.keys.leaf x ≡ Ok passed → ReadsBack (message_by m (proposal_by c m x)) (sent_as c m x) → IsGoodKept c m (kept_as c m x own)
+unfolding kept_as sent_as proposal_by content_by
 kept_good c m x own good key checks reads = record {
   said = sent_as c m x;
   decodes = reads.decodes;
@@ -117,12 +117,12 @@ kept_good c m x own good key checks reads = record {
   others = λ apart. absurd (apart refl);
 }
 
-once_good : (c : Crypto) (m : Member) (k : Kept) (o : Option Kept) (x : List ℕ × Member) → IsGoodMember c m → IsGoodKept c m k → kept_once m k o ≡ Ok x → IsGoodMember c x.1
+once_good : (c : Crypto) (m : Member) (k : KeptProposal) (o : Option KeptProposal) (x : List ℕ × Member) → IsGoodMember c m → IsGoodKept c m k → keep_once m k o ≡ Ok x → IsGoodMember c x.1
 once_good c m k None x good new h = subst (λ (y : List ℕ × Member). IsGoodMember c y.1) (ok_is _ x h) (keeping_good c m k good new)
 once_good c m k (Some old) x good new h = subst (λ (y : List ℕ × Member). IsGoodMember c y.1) (ok_is _ x (require_ok _ _ _ _ h).1) good
 
-pub proposed_good : (c : Crypto) (m : Member) (x : Proposal) (own : Option (List ℕ)) (y : List ℕ × Member) → IsGoodMember c m → FitsIfShort x → (proposal_checks c m.public m.keys.leaf x ≡ Ok passed → HasOwnKey c x own) → proposed c m x own ≡ Ok y → IsGoodMember c y.1
-unfolding proposed kept_as
+pub proposed_good : (c : Crypto) (m : Member) (x : Proposal) (own : Option (List ℕ)) (y : List ℕ × Member) → IsGoodMember c m → FitsIfShort x → (proposal_checks c m.public m.keys.leaf x ≡ Ok passed → HasOwnKey c x own) → make_proposal c m x own ≡ Ok y → IsGoodMember c y.1
+unfolding make_proposal kept_as
 proposed_good c m x own y good fits key h =
     let s1 = require_ok _ _ _ _ h in
     let s2 = then_ok _ _ _ s1.1 in
@@ -135,8 +135,8 @@ add_fits : (x : KeyPackage) → key_package.Fits x → FitsIfShort (proposes.Add
 unfolding proposal
 add_fits x f lt = (lit< tt, f)
 
-pub added_good : (c : Crypto) (m : Member) (x : KeyPackage) (y : List ℕ × Member) → IsGoodMember c m → key_package.Fits x → proposed_add c m x ≡ Ok y → IsGoodMember c y.1
-unfolding proposed_add
+pub added_good : (c : Crypto) (m : Member) (x : KeyPackage) (y : List ℕ × Member) → IsGoodMember c m → key_package.Fits x → propose_add c m x ≡ Ok y → IsGoodMember c y.1
+unfolding propose_add
 added_good c m x y good f h = proposed_good c m (proposes.Add x) None y good (add_fits x f) (λ _. refl) h
 
 update_fits : (x : LeafNode) → (length (leaf_node.spell x) < 2 ^ 30 → leaf_node.Fits x) → FitsIfShort (proposes.Update x)
@@ -151,8 +151,8 @@ new_leaf_key : (c : Crypto) (m : Member) (old : LeafNode) (seed : List ℕ) → 
 unfolding updated_leaf signed_leaf unsigned_leaf
 new_leaf_key c m old seed = refl
 
-pub updated_good : (c : Crypto) (m : Member) (seed : List ℕ) (y : List ℕ × Member) → IsGoodMember c m → proposed_update c m seed ≡ Ok y → IsGoodMember c y.1
-unfolding proposed_update
+pub updated_good : (c : Crypto) (m : Member) (seed : List ℕ) (y : List ℕ × Member) → IsGoodMember c m → propose_update c m seed ≡ Ok y → IsGoodMember c y.1
+unfolding propose_update
 updated_good c m seed y good h =
     let s1 = require_ok 40 (not m.gone) _ _ h in
     let s2 = bind_ok (member_at m.public.tree m.keys.leaf) _ _ s1.1 in
@@ -175,10 +175,10 @@ low_leaf c m i good there =
     let within : width m.public.tree ≤ 4096 = leb-true _ _ good.tree.within in
     omega arith
 
-was_checked : (c : Crypto) (m : Member) (x : Proposal) (own : Option (List ℕ)) (y : List ℕ × Member) → proposed c m x own ≡ Ok y → proposal_checks c m.public m.keys.leaf x ≡ Ok passed
-unfolding proposed
+was_checked : (c : Crypto) (m : Member) (x : Proposal) (own : Option (List ℕ)) (y : List ℕ × Member) → make_proposal c m x own ≡ Ok y → proposal_checks c m.public m.keys.leaf x ≡ Ok passed
+unfolding make_proposal
 was_checked c m x own y h = (then_ok _ _ _ (require_ok _ _ _ _ h).1).0
 
-pub removed_good : (c : Crypto) (m : Member) (i : ℕ) (y : List ℕ × Member) → IsGoodMember c m → proposed_remove c m i ≡ Ok y → IsGoodMember c y.1
-unfolding proposed_remove
+pub removed_good : (c : Crypto) (m : Member) (i : ℕ) (y : List ℕ × Member) → IsGoodMember c m → propose_remove c m i ≡ Ok y → IsGoodMember c y.1
+unfolding propose_remove
 removed_good c m i y good h = proposed_good c m (proposes.Remove i) None y good (remove_fits i (low_leaf c m i good (is_member_at c m i (was_checked c m (proposes.Remove i) None y h)))) (λ _. refl) h

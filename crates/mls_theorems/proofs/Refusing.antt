@@ -10,27 +10,27 @@ use Rattle.mls_model.specs.declared.event.Event.TheVariants as event
 use Rattle.mls_model.specs.declared.event.Reply.TheVariants as reply
 use Rattle.mls_model.specs.declared.event.Source.{Source}
 use Rattle.mls_model.specs.Agreement.{Agree, IsGoodMember}
-use Rattle.mls_model.specs.Calls.{deliver_answer}
+use Rattle.mls_model.specs.WorldCalls.{deliver_answer}
 use Rattle.mls_model.specs.Headline.{RefusesOwn, epoch_of_message}
 use Rattle.mls_model.specs.Invariant.{IsRecorded, IsGoodBy}
 use Rattle.mls_model.specs.Lineage.{IsSameState}
 use Rattle.mls_model.specs.Commit.{Change}
 use Rattle.mls_model.specs.Make.{MadePath}
 use Rattle.mls_model.specs.Member.{Member}
-use Rattle.mls_model.specs.Messages.{decoded, sender_leaf}
-use Rattle.mls_model.specs.Public.{PublicState}
-use Rattle.mls_model.specs.PublicOf.{Creations}
+use Rattle.mls_model.specs.Messages.{decode_message, sender_leaf}
+use Rattle.mls_model.specs.PublicState.{PublicState}
+use Rattle.mls_model.specs.JournalState.{Creations}
 use Rattle.mls_model.specs.Run.{answer, step}
-use Rattle.mls_model.specs.Verdict.{is_kept, framing_checks, received, own_pending, verdict}
+use Rattle.mls_model.specs.Verdict.{is_kept, framing_checks, bytes_verdict, own_pending, verdict}
 use Rattle.mls_model.specs.World.{World, Seat, bytes_of}
-use Rattle.mls_model.specs.Found.{IsFramed}
+use Rattle.mls_model.specs.VerdictFindings.{IsFramed}
 use Rattle.mls_theorems.proofs.Delivered.{other_committer}
 use Rattle.mls_theorems.proofs.Framing.{IsFramedButOwn, framed_but_own}
-use Rattle.mls_theorems.proofs.Along.{body_is}
-use Rattle.mls_theorems.specs.Makes.{commit_of, said_of, tag_of, content_of, Makes}
+use Rattle.mls_theorems.proofs.CommitEntries.{body_is}
+use Rattle.mls_theorems.specs.CommitCalls.{commit_of, said_of, tag_of, content_of, Makes}
 use Rattle.mls_theorems.proofs.Makes.{make_did}
 use Rattle.mls_theorems.proofs.Received.{sender_is}
-use Rattle.mls_theorems.specs.Sent.{sent_of}
+use Rattle.mls_theorems.specs.SentCommits.{sent_of}
 use Rattle.mls_theorems.proofs.Sent.{made_fits}
 use Rattle.mls_theorems.proofs.Changes.{IsSince}
 use Rattle.mls_theorems.proofs.Lists.{one_there}
@@ -56,16 +56,16 @@ fails_at_last : (c : Crypto) (m : Member) (v : PublicMessage) (bytes : List ℕ)
 unfolding framing_checks
 fails_at_last c m v bytes f last = rw (f.group, f.epoch, f.sender, f.handshake, f.tag, f.signed, last) refl
 
-refuses : (c : Crypto) (m : Member) (v : PublicMessage) (bytes : List ℕ) → m.gone ≡ false → own_pending m.pending bytes ≡ None → decoded bytes ≡ Ok (message.PublicMessage v) → framing_checks c m v bytes ≡ Err 48 → verdict c m bytes ≡ Err 48
-unfolding verdict received
+refuses : (c : Crypto) (m : Member) (v : PublicMessage) (bytes : List ℕ) → m.gone ≡ false → own_pending m.pending bytes ≡ None → decode_message bytes ≡ Ok (message.PublicMessage v) → framing_checks c m v bytes ≡ Err 48 → verdict c m bytes ≡ Err 48
+unfolding verdict bytes_verdict
 refuses c m v bytes active free reads f = let n : not m.gone ≡ true = ap not active in rw (n, free, reads, f) refl
 
 epoch_is : (c : Crypto) (m : Member) (list : List ProposalOrRef) (path : MadePath) (change : Change) → (sent_of c m list path change).content.epoch ≡ m.public.context.epoch
-unfolding sent_of content_of said_of Rattle.mls_model.specs.Messages.said_by
+unfolding sent_of content_of said_of Rattle.mls_model.specs.Messages.content_by
 epoch_is c m list path change = refl
 
 refuses_made : (c : Crypto) → Lawful c → (maker m : Member) (list : List ProposalOrRef) (path : MadePath) (change : Change) (bytes : List ℕ) → IsGoodMember c maker → IsGoodMember c m → m.gone ≡ false → IsSameState maker m → own_pending m.pending bytes ≡ None →
-    decoded bytes ≡ Ok (message.PublicMessage (sent_of c maker list path change)) → verdict c m bytes ≡ Err 48
+    decode_message bytes ≡ Ok (message.PublicMessage (sent_of c maker list path change)) → verdict c m bytes ≡ Err 48
 refuses_made c laws maker m list path change bytes good good' active same free reads = by_kept (is_kept m.kept bytes) refl
   where
     v : PublicMessage
@@ -104,8 +104,8 @@ refuses_own c laws creations w g n d s source at a epoch free b =
     k : Makes c r.maker r.list r.is_made.wants_path r.is_made.seed r.call
     k = make_did c r.maker r.list r.is_made.wants_path r.is_made.seed r.call r.is_made.is
 
-    reads : decoded d.entry.commit ≡ Ok (message.PublicMessage (sent_of c r.maker r.list k.path k.change))
-    reads = ap decoded r.commit ∙ (made_fits c r.maker r.list r.is_made.wants_path r.is_made.seed r.call k r.is_made.good r.is_made.fits).decodes
+    reads : decode_message d.entry.commit ≡ Ok (message.PublicMessage (sent_of c r.maker r.list k.path k.change))
+    reads = ap decode_message r.commit ∙ (made_fits c r.maker r.list r.is_made.wants_path r.is_made.seed r.call k r.is_made.good r.is_made.fits).decodes
 
     seat : r.seat ≡ s
     seat = one_there (slice_get w.seats d.maker) r.seat s r.is_seat a.is

@@ -5,7 +5,7 @@ use Rattle.mls_model.specs.declared.event.Event.{Event}
 use Rattle.mls_model.specs.declared.event.Event.TheVariants as event
 use Rattle.mls_model.specs.declared.event.Reply.{Reply}
 use Rattle.mls_model.specs.Invariant.{IsGoodWorld}
-use Rattle.mls_model.specs.Range.{IsInRange}
+use Rattle.mls_model.specs.EventRange.{IsInRange}
 use Rattle.mls_model.specs.Run.{answer, step_by, step, run}
 use Rattle.mls_model.specs.World.{World, empty_world}
 use Rattle.mls_theorems.proofs.Beginning.{candidate_kept, create_kept}
@@ -13,7 +13,7 @@ use Rattle.mls_theorems.proofs.Committing.{commit_kept}
 use Rattle.mls_theorems.proofs.Delivering.{deliver_kept}
 use Rattle.mls_theorems.proofs.WorldJoins.{join_kept}
 use Rattle.mls_theorems.proofs.Keeping.{propose_add_kept, propose_update_kept, propose_remove_kept, drop_kept}
-use Rattle.mls_theorems.specs.Runs.{EmptyWorldGood, EventsKeepGood, RunsKeepGood}
+use Rattle.mls_theorems.specs.GoodWorlds.{EmptyWorldGood, EventsKeepGood, RunsKeepGood}
 
 pub empty_good : EmptyWorldGood
 unfolding empty_world

@@ -18,27 +18,27 @@ use Rattle.mls_model.specs.Agreement.{Agree, AgreeSecret, Keeps, IsGoodMember, I
 use Rattle.mls_model.specs.Claims.{IsMade, Receives, FollowsTo}
 use Rattle.mls_model.specs.Invariant.{IsRecorded}
 use Rattle.mls_model.specs.Journal.{Entry, Journal, CommitMade, names_in, removes_in, list_in, entry_of, is_homemade_from}
-use Rattle.mls_model.specs.Lineage.{FollowedOther, Steps, IsReached}
+use Rattle.mls_model.specs.Lineage.{FollowedOther, IsReachedOver, IsReached}
 use Rattle.mls_model.specs.Make.{Made}
-use Rattle.mls_model.specs.Member.{Member, left}
-use Rattle.mls_model.specs.Messages.{decoded, sender_leaf}
-use Rattle.mls_model.specs.PublicOf.{Creations}
+use Rattle.mls_model.specs.Member.{Member, after_removal}
+use Rattle.mls_model.specs.Messages.{decode_message, sender_leaf}
+use Rattle.mls_model.specs.JournalState.{Creations}
 use Rattle.mls_model.specs.Verdict.{own_pending, verdict}
 use Rattle.mls_model.specs.World.{World}
-use Rattle.mls_model.specs.Found.{IsFramed, DidPending}
+use Rattle.mls_model.specs.VerdictFindings.{IsFramed, DidPending}
 use Rattle.mls_model.proofs.Found.{ContentDid, CommitDid, ReceivedDid, DidOther}
 use Rattle.mls_model.proofs.Receipts.{did_receive, did_take}
 use Rattle.mls_model.proofs.CommitLaws.{names_in_order}
-use Rattle.mls_theorems.proofs.Along.{list_at, made_along, removed_is}
+use Rattle.mls_theorems.proofs.CommitEntries.{list_at, made_along, removed_is}
 use Rattle.mls_theorems.proofs.Delivered.{other_committer, one_said}
 use Rattle.mls_theorems.proofs.Journals.{public_agreement}
-use Rattle.mls_theorems.specs.Makes.{Makes, made_of}
+use Rattle.mls_theorems.specs.CommitCalls.{Makes, made_of}
 use Rattle.mls_theorems.proofs.Makes.{make_did}
 use Rattle.mls_theorems.proofs.Pends.{made_pends}
 use Rattle.mls_theorems.proofs.Stays.{receivers_hold}
 use Rattle.mls_theorems.proofs.Homemade.{HasOneSecret, homemade_parts}
 use Rattle.mls_theorems.proofs.Past.{reached_good, past_along}
-use Rattle.mls_theorems.specs.Secrets.{AllRecorded, OneSecret, SameSecret}
+use Rattle.mls_theorems.specs.EpochSecrets.{AllRecorded, OneSecret, SameSecret}
 
 -- ---- a made commit, as bytes
 
@@ -57,9 +57,9 @@ pub record FoundMade (c : Crypto) (maker before : Member) (list : List ProposalO
   pub keeps : Keeps before.kept list (names_in before.kept list)
 
 found_by : (c : Crypto) (maker before : Member) (list : List ProposalOrRef) (call : Made) (bytes : List ℕ) (x : Effect × Member) → IsGoodMember c before → (g : IsGoodPending c maker call.pending) →
-    decoded bytes ≡ Ok (message.PublicMessage g.said) → list_in bytes ≡ list → ReceivedDid c before bytes x → FoundMade c maker before list bytes x
+    decode_message bytes ≡ Ok (message.PublicMessage g.said) → list_in bytes ≡ list → ReceivedDid c before bytes x → FoundMade c maker before list bytes x
 found_by c maker before list call bytes x good g reads lists d =
-    let one : d.said ≡ g.said = one_said d.said g.said (decoded bytes) d.decodes reads in
+    let one : d.said ≡ g.said = one_said d.said g.said (decode_message bytes) d.decodes reads in
     let framed : IsFramed c before g.said bytes = subst (λ (v : PublicMessage). IsFramed c before v bytes) one d.is_framed in
     let did : ContentDid c before g.said.content bytes g.said.content.body x = subst (λ (v : PublicMessage). ContentDid c before v.content bytes v.content.body x) one d.did in
     let commit : CommitDid c before g.said.content g.commit g.tag x = subst (λ (b : SignedBody). ContentDid c before g.said.content bytes b x) g.says did in
@@ -93,7 +93,7 @@ reached_by c maker before m list call bytes epoch after same is claim = by_test 
     here = ap (verdict c before) same ∙ is
 
     by_test : (b : Bool) → has (removes_in before.kept list) before.keys.leaf ≡ b → after.epoch ≡ call.pending.epoch
-    by_test true e = absurd (removed_is (left before) after epoch (one_answer (verdict c before call.commit) _ _ (claim.removed e) here))
+    by_test true e = absurd (removed_is (after_removal before) after epoch (one_answer (verdict c before call.commit) _ _ (claim.removed e) here))
     by_test false e =
         let f : FollowsTo c before call = claim.follows e in
         sym (ap (λ (x : Effect × Member). x.1.epoch) (one_answer (verdict c before call.commit) _ _ f.is here)) ∙ f.epoch
@@ -105,7 +105,7 @@ unfolding entry_of
 followed_secret c laws maker before m list call e is good agree secret commit names f =
     let g : IsGoodPending c maker call.pending = made_pends c maker list call is in
     let a = made_along c maker list call is in
-    let reads : decoded e.commit ≡ Ok (message.PublicMessage g.said) = ap decoded (sym commit ∙ sym (pending_message c maker list call is)) ∙ g.decodes in
+    let reads : decode_message e.commit ≡ Ok (message.PublicMessage g.said) = ap decode_message (sym commit ∙ sym (pending_message c maker list call is)) ∙ g.decodes in
     let lists : list_in e.commit ≡ list = ap list_in (sym commit) ∙ a.lists in
     let found = found_by c maker before list call e.commit (Advanced f.epoch, f.after) good g reads lists (received_as c before e.commit (Advanced f.epoch, f.after) f.free f.is) in
     let kept : names_in before.kept list ≡ names_in maker.kept list =
@@ -116,7 +116,7 @@ followed_secret c laws maker before m list call e is good agree secret commit na
     sym f.same.epoch ∙ reached_by c maker before m list call e.commit f.epoch f.after commit f.is claim
 
 reaches : (c : Crypto) → Lawful c → (creations : Creations) (w : World) → AllRecorded c creations w → (origin : Origin) (e : Entry) (es : List Entry) (one : HasOneSecret w.made (record { origin = origin; entries = es }) e) → OneSecret c creations w origin es →
-    (before m : Member) → IsReached c creations w.made origin es before → Steps c w.made (record { origin = origin; entries = es }) before e m → m.epoch ≡ one.secret
+    (before m : Member) → IsReached c creations w.made origin es before → IsReachedOver c w.made (record { origin = origin; entries = es }) before e m → m.epoch ≡ one.secret
 reaches c laws creations w all origin e es one same before m past (inl f) =
     let here = one.here in
     let d : IsRecorded c creations w one.which = all here.place one.which here.is in

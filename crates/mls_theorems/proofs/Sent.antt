@@ -35,17 +35,17 @@ use Rattle.mls_tree_model.specs.Term.{Term, width, leaf_at, leaf_of}
 use Rattle.mls_model.specs.Candidate.{unsigned_leaf, signed_leaf}
 use Rattle.mls_model.specs.Commit.{Edits, Change}
 use Rattle.mls_model.specs.Member.{Member}
-use Rattle.mls_model.specs.Messages.{decoded, is_within_limit, said_by, content_tag, sent_by}
+use Rattle.mls_model.specs.Messages.{decode_message, is_within_limit, content_by, content_tag, message_by}
 use Rattle.mls_model.specs.Make.{MadePath, Made, committed_leaf, new_path, no_path}
 use Rattle.mls_model.specs.Agreement.{IsGoodMember}
 use Rattle.mls_wire.specs.CheckLaws.{required}
 use Rattle.mls_wire.proofs.CheckLaws.{then_ok, bind_ok, given_ok}
 use Rattle.mls_model.proofs.Receipts.{either_way}
 use Rattle.mls_model.proofs.CandidateLaws.{capabilities_fit}
-use Rattle.mls_theorems.specs.Fit.{LeafFitsIfShort}
+use Rattle.mls_theorems.specs.CommitSpelling.{LeafFitsIfShort}
 use Rattle.mls_theorems.proofs.Fit.{short_first, short_last, short_text, made_leaf_fits, commit_source_fits, commit_fits}
-use Rattle.mls_theorems.specs.Makes.{commit_of, said_of, signature_of, tag_of, content_of, message_of, made_of, path_for}
-use Rattle.mls_theorems.specs.Sent.{IsNewPath, PathDid, sent_of, MadeFits}
+use Rattle.mls_theorems.specs.CommitCalls.{commit_of, said_of, signature_of, tag_of, content_of, message_of, made_of, path_for}
+use Rattle.mls_theorems.specs.SentCommits.{IsNewPath, PathDid, sent_of, MadeFits}
 
 new_path_did : (c : Crypto) (m : Member) (e : Edits) (seed : List ℕ) (path : MadePath) → new_path c m e seed ≡ Ok path → IsNewPath c m e seed path
 unfolding new_path
@@ -135,7 +135,7 @@ message_fits v tag fits lt =
     (lit< tt, (fits (short_first (signed_content.spell v) (opaque tag) _ l1), short_text tag _ (short_last (signed_content.spell v) (opaque tag) _ l1)))
 
 pub message_is : (c : Crypto) (m : Member) (list : List ProposalOrRef) (path : MadePath) (change : Change) → message_of c m list path change ≡ mls_message.spell (message.PublicMessage (sent_of c m list path change))
-unfolding message_of sent_by sent_of
+unfolding message_of message_by sent_of
 message_is c m list path change = refl
 
 -- ---- numbers in range
@@ -173,7 +173,7 @@ context_fits c m good =
 
 made_content_fits : (c : Crypto) (m : Member) (list : List ProposalOrRef) (path : MadePath) (change : Change) → IsGoodMember c m → AllByRecursion proposal_or_ref.Fits list → LeafFitsIfShort path.path →
     length (signed_content.spell (content_of c m list path change)) < 2 ^ 30 → signed_content.Fits (content_of c m list path change)
-unfolding content_of said_of said_by commit_of
+unfolding content_of said_of content_by commit_of
 made_content_fits c m list path change good listed leaf lt =
     let k = context_fits c m good in
     content_fits m.public.context.group_id m.public.context.epoch m.keys.leaf (record { proposals = list; path = path.path }) (signature_of c m list path) (tag_of m path change)
@@ -190,7 +190,7 @@ sent_fits c m list path change good listed leaf lt =
     message_fits (content_of c m list path change) (content_tag m.epoch (content_of c m list path change) m.public.context) (made_content_fits c m list path change good listed leaf) lt
 
 pub made_fits : MadeFits
-unfolding decoded made_of
+unfolding decode_message made_of
 made_fits c m list wants_path seed made k good listed =
     let leaf : LeafFitsIfShort k.path.path = path_leaf_fits c m k.edits seed k.path (context_fits c m good).suite (path_did c m k.used k.edits wants_path seed k.path k.path_is) in
     let p : MlsMessage = message.PublicMessage (sent_of c m list k.path k.change) in

@@ -29,31 +29,31 @@ use Rattle.mls_model.specs.Agreement.{Agree, AgreeSecret, Keeps, IsGoodPending, 
 use Rattle.mls_model.specs.Candidate.{Candidate}
 use Rattle.mls_model.specs.Claims.{IsMade, FollowsTo, Receives}
 use Rattle.mls_model.specs.Commit.{Change, public_with}
-use Rattle.mls_model.specs.Found.{DidPending}
+use Rattle.mls_model.specs.VerdictFindings.{DidPending}
 use Rattle.mls_model.proofs.Found.{DidOther}
 use Rattle.mls_model.specs.Journal.{names_in, adds_in, used_of}
-use Rattle.mls_model.specs.Make.{MadePath, Made, path_secret_for, path_seals, welcome_if, make, committed}
-use Rattle.mls_model.specs.Member.{Kept, Pending, Member, kept_under, used_one, used_by, advanced, with_pending}
+use Rattle.mls_model.specs.Make.{MadePath, Made, path_secret_for, path_seals, welcome_if, make, commit_call}
+use Rattle.mls_model.specs.Member.{KeptProposal, Pending, Member, kept_under, find_proposal, find_proposals, with_epoch, with_pending}
 use Rattle.mls_model.specs.Messages.{is_within_limit, reference_of}
 use Rattle.mls_model.specs.Proposals.{adds}
-use Rattle.mls_model.specs.Public.{PublicState, Used}
+use Rattle.mls_model.specs.PublicState.{PublicState, Used}
 use Rattle.mls_model.proofs.Receipts.{did_take}
 use Rattle.mls_model.specs.Sharing.{ShareEpoch, SharesNext, IsAccepted, JoinsNext, ReachesGroup}
 use Rattle.mls_model.specs.Welcome.{unsigned_info, signed_info, secrets_with, welcome_message}
 use Rattle.mls_model.specs.Verdict.{own_pending, pending_or_received, verdict}
 use Rattle.mls_theorems.proofs.Joining.{adds_counted}
-use Rattle.mls_theorems.proofs.Along.{received_along}
+use Rattle.mls_theorems.proofs.CommitEntries.{received_along}
 use Rattle.mls_theorems.proofs.Delivered.{pending_leads, delivered_good}
 use Rattle.mls_theorems.proofs.Entered.{are_from, joined_good}
 use Rattle.mls_theorems.proofs.Joiners.{JoinsBeside, joiners_beside}
-use Rattle.mls_theorems.specs.Makes.{message_of, made_of, Makes, joiner_of, tag_of}
+use Rattle.mls_theorems.specs.CommitCalls.{message_of, made_of, Makes, joiner_of, tag_of}
 use Rattle.mls_theorems.proofs.Makes.{make_did}
 use Rattle.mls_theorems.proofs.One.{was_found}
 use Rattle.mls_theorems.proofs.Pends.{made_pends}
-use Rattle.mls_theorems.specs.Spelled.{FullFits}
+use Rattle.mls_theorems.specs.SpelledParts.{FullFits}
 use Rattle.mls_theorems.proofs.Stays.{receivers_hold}
-use Rattle.mls_theorems.proofs.Still.{pending_good}
-use Rattle.mls_theorems.specs.Used.{AreGoodKept, IsUsedAlike}
+use Rattle.mls_theorems.proofs.UnchangedMembers.{pending_good}
+use Rattle.mls_theorems.specs.UsedProposals.{AreGoodKept, IsUsedAlike}
 use Rattle.mls_theorems.proofs.Used.{kept_good, used_for_other}
 
 -- ---- the list has a spelling
@@ -71,24 +71,24 @@ unfolding proposal_or_ref
 full_fits said f = (lit< tt, f)
 
 -- so has one that is named, since what is kept under it is good
-named_fits : (c : Crypto) (m : Member) (r : List ℕ) (o : Option Kept) → AreGoodKept c m m.kept → kept_under m.kept r ≡ o → (u : Used) → used_one m.kept 0 (listed.Reference r) ≡ Ok u → proposal_or_ref.Fits (listed.Reference r)
+named_fits : (c : Crypto) (m : Member) (r : List ℕ) (o : Option KeptProposal) → AreGoodKept c m m.kept → kept_under m.kept r ≡ o → (u : Used) → find_proposal m.kept 0 (listed.Reference r) ≡ Ok u → proposal_or_ref.Fits (listed.Reference r)
 unfolding kept_under
 named_fits c m r None good e u h = absurd (let n = rw e at h in cc)
 named_fits c m r (Some k) good e u h =
     let g = kept_good c m m.kept r k good e in
-    let same : k.reference ≡ r = (bytes_eq-Decides k.reference r).0 (was_found (λ (x : Kept). bytes_eq x.reference r) k m.kept e).1 in
+    let same : k.reference ≡ r = (bytes_eq-Decides k.reference r).0 (was_found (λ (x : KeptProposal). bytes_eq x.reference r) k m.kept e).1 in
     subst (λ (x : List ℕ). proposal_or_ref.Fits (listed.Reference x)) (g.reference ∙ same) (reference_fits g.said.content)
 
-one_fits : (c : Crypto) (m : Member) (i : ℕ) (x : ProposalOrRef) (u : Used) → AreGoodKept c m m.kept → FullFits x → used_one m.kept i x ≡ Ok u → proposal_or_ref.Fits x
+one_fits : (c : Crypto) (m : Member) (i : ℕ) (x : ProposalOrRef) (u : Used) → AreGoodKept c m m.kept → FullFits x → find_proposal m.kept i x ≡ Ok u → proposal_or_ref.Fits x
 one_fits c m i (listed.Proposal said) u good f h = full_fits said f
 one_fits c m i (listed.Reference r) u good f h = named_fits c m r (kept_under m.kept r) good refl u h
 
-pub list_fits : (c : Crypto) (m : Member) (i : ℕ) (list : List ProposalOrRef) (used : List Used) → AreGoodKept c m m.kept → AllByRecursion FullFits list → used_by m.kept i list ≡ Ok used → AllByRecursion proposal_or_ref.Fits list
-unfolding used_by
+pub list_fits : (c : Crypto) (m : Member) (i : ℕ) (list : List ProposalOrRef) (used : List Used) → AreGoodKept c m m.kept → AllByRecursion FullFits list → find_proposals m.kept i list ≡ Ok used → AllByRecursion proposal_or_ref.Fits list
+unfolding find_proposals
 list_fits c m i [] used good f h = tt
 list_fits c m i (x ∷ xs) used good f h =
-    let s = bind_ok (used_one m.kept i x) (λ u. used_by m.kept i xs >>= λ us. Ok (u ∷ us)) used h in
-    let t = bind_ok (used_by m.kept i xs) (λ us. Ok (s.0 ∷ us)) used s.2 in
+    let s = bind_ok (find_proposal m.kept i x) (λ u. find_proposals m.kept i xs >>= λ us. Ok (u ∷ us)) used h in
+    let t = bind_ok (find_proposals m.kept i xs) (λ us. Ok (s.0 ∷ us)) used s.2 in
     (one_fits c m i x s.0 good f.0 s.1, list_fits c m i xs t.0 good f.1 t.1)
 
 -- ---- agreement
@@ -127,7 +127,7 @@ number_of_advanced : (m n : Member) (j k : ℕ) → Path (Effect × Member) (Adv
 number_of_advanced m n j k e = let f : Advanced j ≡ Advanced k = ap (λ (x : Effect × Member). x.0) e in cc
 
 stays_by : (c : Crypto) (m : Member) (bytes : List ℕ) (number : ℕ) (after : Member) → IsGoodMember c m → DidPending m bytes (Advanced number, after) ⊎ DidOther c m bytes (Advanced number, after) → StaysAt m number after
-unfolding advanced
+unfolding with_epoch
 stays_by c m bytes number after good (inl d) =
     let is = ap (λ (x : Effect × Member). x.1) d.is in
     record {
@@ -155,11 +155,11 @@ welcome_of c m change path joiner tag seed (k ∷ ks) (j ∷ js) o some count h 
     (λ bytes. Ok (Some bytes)) o h in
     (s.0, sym (ok_is _ o s.2))
 
-adds_some : (kept : List Kept) (i : ℕ) (list : List ProposalOrRef) (used : List Used) (test : List ℕ → Bool) → used_by kept i list ≡ Ok used → list_any test (adds_in kept list) ≡ true → adds used ≡ [] → ⊥
+adds_some : (kept : List KeptProposal) (i : ℕ) (list : List ProposalOrRef) (used : List Used) (test : List ℕ → Bool) → find_proposals kept i list ≡ Ok used → list_any test (adds_in kept list) ≡ true → adds used ≡ [] → ⊥
 unfolding adds_in
 adds_some kept i list used test uses any none =
     let a : IsUsedAlike kept 0 list used = used_for_other kept i 0 list used uses in
-    nobody_any test (adds (used_of (used_by kept 0 list))) (ap (λ (r : Result (List Used) ℕ). adds (used_of r)) a.is ∙ a.adding ∙ none) any
+    nobody_any test (adds (used_of (find_proposals kept 0 list))) (ap (λ (r : Result (List Used) ℕ). adds (used_of r)) a.is ∙ a.adding ∙ none) any
 
 -- ---- the whole
 
@@ -171,7 +171,7 @@ module _ (c : Crypto) (laws : Lawful c) (maker : Member) (list : List ProposalOr
   after = with_pending maker made.pending
 
   unfoldable next : Member
-  next = advanced after made.pending.public made.pending.epoch made.pending.keys
+  next = with_epoch after made.pending.public made.pending.epoch made.pending.keys
 
   after_good : IsGoodMember c after
   unfolding after
@@ -182,19 +182,19 @@ module _ (c : Crypto) (laws : Lawful c) (maker : Member) (list : List ProposalOr
   next_good = pending_leads c after made.pending after_good after_good.pending
 
   next_active : next.gone ≡ false
-  unfolding next after with_pending advanced
+  unfolding next after with_pending with_epoch
   next_active = not-true maker.gone s.active
 
   next_leaf : next.keys.leaf ≡ maker.keys.leaf
-  unfolding next advanced
+  unfolding next with_epoch
   next_leaf = pend.leaf
 
   next_public : next.public ≡ made.pending.public
-  unfolding next advanced
+  unfolding next with_epoch
   next_public = refl
 
   next_epoch : next.epoch ≡ made.pending.epoch
-  unfolding next advanced
+  unfolding next with_epoch
   next_epoch = refl
 
   message_is : made.pending.message ≡ made.commit
@@ -207,7 +207,7 @@ module _ (c : Crypto) (laws : Lawful c) (maker : Member) (list : List ProposalOr
 
   -- the committer follows its own commit
   own : verdict c after made.commit ≡ Ok (Advanced next.public.context.epoch, next)
-  unfolding verdict next after with_pending advanced
+  unfolding verdict next after with_pending with_epoch
   own = let e : bytes_eq made.pending.message made.commit ≡ true = (bytes_eq-Decides _ _).1 message_is in let a = s.active in rw (a, e) refl
 
   -- the others accept it
@@ -280,8 +280,8 @@ HasReached c maker list x = ReachesGroup c maker x.1 list x.0.0 x.0.1
 
 -- a commit call that succeeded leads the group on, and its maker is good with the commit as its pending one
 pub commits_reach : (c : Crypto) → Lawful c → (maker : Member) (list : List ProposalOrRef) (wants_path : Bool) (seed : List ℕ) (x : (List ℕ × Option (List ℕ)) × Member) → IsGoodMember c maker → AllByRecursion FullFits list →
-    committed c maker list wants_path seed ≡ Ok x → IsGoodMember c x.1 × HasReached c maker list x
-unfolding committed
+    commit_call c maker list wants_path seed ≡ Ok x → IsGoodMember c x.1 × HasReached c maker list x
+unfolding commit_call
 commits_reach c laws maker list wants_path seed x good full h =
     let s = bind_ok (make c maker list wants_path seed) _ _ h in
     let is : IsMade c maker list s.0 = is_made c maker list wants_path seed s.0 good full s.1 in

@@ -8,13 +8,13 @@ use Rattle.mls_leaf.specs.declared.proposal.Proposal.{Proposal}
 use Rattle.mls_leaf.specs.declared.proposal.Proposal.TheVariants as proposal
 use Rattle.mls_suite.specs.Crypto.{Crypto}
 use Rattle.mls_checks.specs.Checks.{replaced_checks}
-use Rattle.mls_checks.specs.declared.checks.Source.TheVariants as made_for
+use Rattle.mls_checks.specs.declared.checks.Source.TheVariants as leaf_node_source
 use Rattle.mls_tree_model.specs.Sets.{has}
 use Rattle.mls_tree_model.specs.Term.{leaf_of}
 use Rattle.mls_tree.specs.Tree.{member_at}
-use Rattle.mls_model.specs.Public.{PublicState, Used}
-use Rattle.mls_model.specs.Proposals.{update_checks, proposal_checks, update_in, updates, updated, removed}
-use Rattle.mls_model.specs.Commit.{Edits, edited}
+use Rattle.mls_model.specs.PublicState.{PublicState, Used}
+use Rattle.mls_model.specs.Proposals.{update_checks, proposal_checks, update_in, updates, updated_leaves, removed_leaves}
+use Rattle.mls_model.specs.Commit.{Edits, apply_proposals}
 use Rattle.mls_theorems.specs.CommitLaws.{AllHavePassed, IsRenewed, KeepsSignature, SignaturesNext}
 use Rattle.mls_wire.proofs.CheckLaws.{bind_ok, then_ok, given_ok}
 use Rattle.mls_theorems.proofs.Inversion.{edited_steps, body_steps}
@@ -34,8 +34,8 @@ module _ (c : Crypto) (p : PublicState) where
   unfolding update_checks
   update_identity i x h =
       let old = bind_ok (member_at p.tree i) _ passed h in
-      let replaced = then_ok (replaced_checks c x old.0 made_for.Update p.context.group_id i) _ passed old.2 in
-      let r = replaced_steps c x old.0 made_for.Update p.context.group_id i replaced.0 in
+      let replaced = then_ok (replaced_checks c x old.0 leaf_node_source.Update p.context.group_id i) _ passed old.2 in
+      let r = replaced_steps c x old.0 leaf_node_source.Update p.context.group_id i replaced.0 in
       record { old = old.0; is_old = given_ok 22 (leaf_of p.tree i) old.0 old.1; signature = r.signature }
 
   identity_at : (u : Used) (q : Proposal) (y : ℕ × LeafNode) → update_in u q ≡ Some y → proposal_checks c p u.sender q ≡ Ok passed → HasIdentity p y
@@ -60,22 +60,22 @@ the_update P Q (u ∷ us) j h ps qs = by_test (u.0 == j) refl h (λ e. the_updat
         (u.1, subst (λ i. P (i, u.1)) is ps.0, subst (λ i. Q (i, u.1)) is qs.0)
     by_test false e k rest = rest k
 
-is_updated : (used : List Used) (j : ℕ) → has (updated used) j ≡ true → has (map (λ (u : ℕ × LeafNode). u.0) (updates used)) j ≡ true
-unfolding updated
+is_updated : (used : List Used) (j : ℕ) → has (updated_leaves used) j ≡ true → has (map (λ (u : ℕ × LeafNode). u.0) (updates used)) j ≡ true
+unfolding updated_leaves
 is_updated used j h = h
 
 -- after the edits
-edits_sign : (c : Crypto) (p : PublicState) (i : ℕ) (used : List Used) (e : Edits) (j : ℕ) (x : LeafNode) → AllHavePassed c p used → edited c p i used ≡ Ok e → leaf_of p.tree j ≡ Some x → has (removed used) j ≡ false → KeepsSignature j x e.tree
-edits_sign c p i used e j x before h at r = by_test (has (updated used) j) refl
+edits_sign : (c : Crypto) (p : PublicState) (i : ℕ) (used : List Used) (e : Edits) (j : ℕ) (x : LeafNode) → AllHavePassed c p used → apply_proposals c p i used ≡ Ok e → leaf_of p.tree j ≡ Some x → has (removed_leaves used) j ≡ false → KeepsSignature j x e.tree
+edits_sign c p i used e j x before h at r = by_test (has (updated_leaves used) j) refl
   where
-    renewed : has (updated used) j ≡ true → KeepsSignature j x e.tree
+    renewed : has (updated_leaves used) j ≡ true → KeepsSignature j x e.tree
     renewed u =
         let s = edited_steps c p i used e h in
         let found = the_update (IsRenewed p.tree e) (HasIdentity p) (updates used) j (is_updated used j u) (edits_renew c p i used e h) (identities c p used (all_passed c p used s.full before)) in
         let old : found.2.old ≡ x = (let a = found.2.is_old in cc) in
         record { after = found.0; is = found.1.leaf; signature = found.2.signature ∙ ap (λ (y : LeafNode). y.signature_key) old }
 
-    by_test : (b : Bool) → has (updated used) j ≡ b → KeepsSignature j x e.tree
+    by_test : (b : Bool) → has (updated_leaves used) j ≡ b → KeepsSignature j x e.tree
     by_test true u = renewed u
     by_test false u =
         let kept = kept_by c p i used e j x (edited_steps c p i used e h) at u r in

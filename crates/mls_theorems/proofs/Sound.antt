@@ -8,7 +8,7 @@ use Rattle.mls_leaf.specs.declared.key_package.KeyPackage.{KeyPackage}
 use Rattle.mls_leaf.specs.declared.proposal.Proposal.{Proposal}
 use Rattle.mls_leaf.specs.declared.proposal.Proposal.TheVariants as proposal
 use Rattle.mls_suite.specs.Crypto.{Crypto}
-use Rattle.mls_checks.specs.declared.checks.Source.TheVariants as made_for
+use Rattle.mls_checks.specs.declared.checks.Source.TheVariants as leaf_node_source
 use Rattle.mls_checks.specs.Checks.{replaced_checks}
 use Rattle.mls_tree_model.specs.Term.{Term, width, leaf_of}
 use Rattle.mls_tree_model.specs.Edits.{put, add, place_in, remove}
@@ -18,8 +18,8 @@ use Rattle.mls_tree_model.proofs.SoundLaws.{sound_of_good, good_of_sound, sound_
 use Rattle.mls_tree.specs.Tree.{max_leaves, member_at}
 use Rattle.mls_tree.proofs.FitLaws.{package_fit, replacement_fit}
 use Rattle.mls_tree.specs.Rules.{rules_of}
-use Rattle.mls_model.specs.Public.{PublicState, Used}
-use Rattle.mls_model.specs.Proposals.{update_checks, proposal_checks, full_checks, update_in, add_in, updates, updated, removed, adds}
+use Rattle.mls_model.specs.PublicState.{PublicState, Used}
+use Rattle.mls_model.specs.Proposals.{update_checks, proposal_checks, full_checks, update_in, add_in, updates, updated_leaves, removed_leaves, adds}
 use Rattle.mls_model.specs.Commit.{Edits}
 use Rattle.mls_theorems.specs.EditLaws.{IsEdited}
 use Rattle.mls_theorems.specs.CommitLaws.{AllHavePassed, EditsSound, EditsGood, EditsWithin}
@@ -37,8 +37,8 @@ pub update_fit : (c : Crypto) (p : PublicState) (i : ℕ) (x : LeafNode) → upd
 unfolding update_checks
 update_fit c p i x h =
     let old = bind_ok (member_at p.tree i) _ passed h in
-    let replaced = then_ok (replaced_checks c x old.0 made_for.Update p.context.group_id i) _ passed old.2 in
-    replacement_fit c p.context.group_id x old.0 made_for.Update i [] replaced.0 (and_from (c.key_ok x.encryption_key) _ (required 36 _ passed replaced.1) refl)
+    let replaced = then_ok (replaced_checks c x old.0 leaf_node_source.Update p.context.group_id i) _ passed old.2 in
+    replacement_fit c p.context.group_id x old.0 leaf_node_source.Update i [] replaced.0 (and_from (c.key_ok x.encryption_key) _ (required 36 _ passed replaced.1) refl)
 
 -- ---- all proposals of a commit
 
@@ -116,14 +116,14 @@ module _ (rules : Rules) where
       sound_add rules t k.leaf_node g (omega arith) (fit (place_in t))
 
 pub sound_edits : (c : Crypto) (p : PublicState) (i : ℕ) (used : List Used) (e : Edits) → IsEdited c p i used e → IsSound (rules_of c p.context.group_id) p.tree → AllHavePassed c p used → IsSome (leaf_of p.tree i) → IsSound (rules_of c p.context.group_id) e.tree
-unfolding updated
+unfolding updated_leaves
 sound_edits c p i used e s g before some =
     let rules = rules_of c p.context.group_id in
     let x = some_at (leaf_of p.tree i) some in
     let fine = all_passed c p used s.full before in
     let one = updates_keep (IsSound rules) _ (sound_updated rules) (updates used) (updates_fit c p used fine) p.tree s.after_updates s.updating g in
     let there = still_after_updates i x.0 p.tree (updates used) s.not_updated p.tree s.after_updates s.updating (still_here i x.0 p.tree (taken_at p.tree i x.0 x.1)) in
-    let two = removes_keep (SoundWith rules i x.0) _ (sound_removed rules i x.0) (removed used) (none_is (removed used) i s.not_removed) s.after_updates s.after_removes s.removing (record { sound = one; taken = there.taken }) in
+    let two = removes_keep (SoundWith rules i x.0) _ (sound_removed rules i x.0) (removed_leaves used) (none_is (removed_leaves used) i s.not_removed) s.after_updates s.after_removes s.removing (record { sound = one; taken = there.taken }) in
     adds_keep (IsSound rules) _ (sound_added rules refl) (adds used) (adds_fit c p used fine) s.after_removes e s.adding two.sound
 
 pub edits_sound : EditsSound

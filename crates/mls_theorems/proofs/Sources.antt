@@ -5,7 +5,7 @@ use Rattle.std.specs.List.{AllByRecursion}
 use Rattle.std.proofs.lemmas.Bool.{and_parts}
 use Rattle.mls_wire.specs.CheckLaws.{required}
 use Rattle.mls_wire.proofs.CheckLaws.{bind_ok, given_ok}
-use Rattle.mls_wire.specs.Checks.{passed, given}
+use Rattle.mls_wire.specs.Checks.{passed, require_some}
 use Rattle.mls_wire.specs.Format.{IsBytes}
 use Rattle.mls_wire.specs.Laws.{ok_is}
 use Rattle.mls_kdf.proofs.Lengths.{length-ref_hash}
@@ -27,8 +27,8 @@ use Rattle.mls_model.specs.declared.event.Source.{Source}
 use Rattle.mls_model.specs.declared.event.Source.TheVariants.{Given, Message}
 use Rattle.mls_model.specs.declared.event.WorldItem.{WorldItem}
 use Rattle.mls_model.specs.declared.event.WorldItem.TheVariants.{RefOf, Add, Remove}
-use Rattle.mls_model.specs.Messages.{decoded, is_within_limit, reference_of}
-use Rattle.mls_model.specs.Range.{IsSourceInRange, IsItemInRange}
+use Rattle.mls_model.specs.Messages.{decode_message, is_within_limit, reference_of}
+use Rattle.mls_model.specs.EventRange.{IsSourceInRange, IsItemInRange}
 use Rattle.mls_model.specs.World.{World, bytes_of, package_in, package_of, proposal_of, item_of, items_of}
 use Rattle.mls_theorems.proofs.Entered.{are_from}
 
@@ -43,7 +43,7 @@ abbrev pub AllBytes : World → Type 0
 AllBytes w = (n : ℕ) (bytes : List ℕ) → slice_get w.messages n ≡ Some bytes → IsBytes bytes
 
 pub source_bytes : (w : World) (source : Source) (bytes : List ℕ) → AllBytes w → IsSourceInRange source → bytes_of w source ≡ Ok bytes → IsBytes bytes
-source_bytes w (Given given) bytes all range h = subst IsBytes (ok_is given.items bytes h) range
+source_bytes w (Given require_some) bytes all range h = subst IsBytes (ok_is require_some.items bytes h) range
 source_bytes w (Message n) bytes all range h = all n bytes (given_ok 94 (slice_get w.messages n) bytes h)
 
 -- ---- KeyPackages
@@ -54,8 +54,8 @@ package_is (message.Welcome v) offered e = absurd cc
 package_is (message.GroupInfo v) offered e = absurd cc
 package_is (message.KeyPackage v) offered e = cc
 
-whole_fits : (bytes : List ℕ) (m : MlsMessage) → IsBytes bytes → decoded bytes ≡ Ok m → mls_message.Fits m
-unfolding decoded
+whole_fits : (bytes : List ℕ) (m : MlsMessage) → IsBytes bytes → decode_message bytes ≡ Ok m → mls_message.Fits m
+unfolding decode_message
 whole_fits bytes m are h = (whole_takes mls_message input_limit bytes m are h).fits
 
 package_inside : (offered : KeyPackage) → mls_message.Fits (message.KeyPackage offered) → key_package.Fits offered
@@ -66,7 +66,7 @@ pub package_fits : (w : World) (source : Source) (offered : KeyPackage) → AllB
 unfolding package_of
 package_fits w source offered all range h =
     let s1 = bind_ok (bytes_of w source) _ _ h in
-    let s2 = bind_ok (decoded s1.0) _ _ s1.2 in
+    let s2 = bind_ok (decode_message s1.0) _ _ s1.2 in
     let is : message.KeyPackage offered ≡ s2.0 = package_is s2.0 offered (given_ok 95 (package_in s2.0) offered s2.2) in
     package_inside offered (subst mls_message.Fits (sym is) (whole_fits s1.0 s2.0 (source_bytes w source s1.0 all range s1.1) s2.1))
 

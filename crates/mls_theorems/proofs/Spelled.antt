@@ -3,7 +3,7 @@ use Rattle.std.proofs.Common.{◌≡◌, ℕ, Bool, true, false, List, [], ◌�
 use Rattle.std.specs.Prelude.{map}
 use Rattle.std.specs.List.{AllByRecursion, cons_option}
 use Rattle.mls_wire.specs.Format.{Format}
-use Rattle.mls_wire.specs.Checks.{given}
+use Rattle.mls_wire.specs.Checks.{require_some}
 use Rattle.mls_wire.specs.Reading.{◌>>=◌}
 use Rattle.mls_wire.specs.Combine.{optional}
 use Rattle.mls_wire.specs.Laws.{bind_ok, ok_is}
@@ -22,7 +22,7 @@ use Rattle.mls_types.specs.Content.{content, framed_content}
 use Rattle.mls_types.specs.Message.{mls_message}
 use Rattle.mls_types.specs.PublicMessage.{public_message}
 use Rattle.mls_types.specs.Signed.{signed_content}
-use Rattle.mls_types.specs.SignedParts.{bare, framed}
+use Rattle.mls_types.specs.SignedParts.{content_of_body, framed}
 use Rattle.mls_types.proofs.SignedParts.{signed_content_parts_fit}
 use Rattle.mls_types.specs.declared.commit.Commit.{Commit}
 use Rattle.mls_types.specs.declared.commit.ProposalOrRef.{ProposalOrRef}
@@ -35,14 +35,14 @@ use Rattle.mls_types.specs.declared.signed.SignedBody.TheVariants as body
 use Rattle.mls_types.specs.declared.signed.SignedContent.{SignedContent}
 use Rattle.mls_suite.specs.Crypto.{Crypto}
 use Rattle.mls_tree_model.proofs.PathLaws.{reverse-cons}
-use Rattle.mls_model.specs.Public.{Used}
+use Rattle.mls_model.specs.PublicState.{Used}
 use Rattle.mls_model.specs.Proposals.{update_in, add_in, updates, adds}
 use Rattle.mls_model.specs.Commit.{node_keys}
-use Rattle.mls_model.specs.Member.{Kept, Member, kept_under, used_one, used_by}
+use Rattle.mls_model.specs.Member.{KeptProposal, Member, kept_under, find_proposal, find_proposals}
 use Rattle.mls_model.specs.Agreement.{IsGoodKept}
-use Rattle.mls_theorems.specs.Nodes.{IsShort}
+use Rattle.mls_theorems.specs.NodeSpelling.{IsShort}
 use Rattle.mls_theorems.proofs.One.{all_both}
-use Rattle.mls_theorems.specs.Used.{AreGoodKept}
+use Rattle.mls_theorems.specs.UsedProposals.{AreGoodKept}
 use Rattle.mls_theorems.proofs.Used.{kept_good}
 
 -- ---- one spelling
@@ -61,11 +61,11 @@ pub content_of_message : (v : PublicMessage) → mls_message.Fits (message.Publi
 unfolding mls_message public_message
 content_of_message v f = f.1.0
 
-said_fits : (v : SignedContent) (b : SignedBody) → v.body ≡ b → framed_content.Fits (framed v) → content.Fits (bare b)
+said_fits : (v : SignedContent) (b : SignedBody) → v.body ≡ b → framed_content.Fits (framed v) → content.Fits (content_of_body b)
 unfolding framed_content
-said_fits v b e f = subst (λ (x : SignedBody). content.Fits (bare x)) e f.1.1.1.1
+said_fits v b e f = subst (λ (x : SignedBody). content.Fits (content_of_body x)) e f.1.1.1.1
 
-body_fits : (v : PublicMessage) (b : SignedBody) → mls_message.Fits (message.PublicMessage v) → v.content.body ≡ b → content.Fits (bare b)
+body_fits : (v : PublicMessage) (b : SignedBody) → mls_message.Fits (message.PublicMessage v) → v.content.body ≡ b → content.Fits (content_of_body b)
 body_fits v b f e = said_fits v.content b e (signed_content_parts_fit v.content (content_of_message v f)).0
 
 proposal_said : (x : Proposal) → content.Fits (says.Proposal x) → proposal.Fits x
@@ -116,7 +116,7 @@ all_reversed (x ∷ xs) h = rw (reverse-cons x xs) (all_both IsShort (reverse xs
 abbrev pub UsedFits : Used → Type 0
 UsedFits u = proposal.Fits u.proposal
 
-pub kept_fits : (c : Crypto) (m : Member) (k : Kept) → IsGoodKept c m k → proposal.Fits k.proposal
+pub kept_fits : (c : Crypto) (m : Member) (k : KeptProposal) → IsGoodKept c m k → proposal.Fits k.proposal
 kept_fits c m k g = proposal_in g.said k.proposal g.fits g.says
 
 full_fits : (x : Proposal) → proposal_or_ref.Fits (listed.Proposal x) → proposal.Fits x
@@ -126,21 +126,21 @@ full_fits x f = f.1
 abbrev used_as : Proposal → ℕ → Bool → Used
 used_as said sender full = record { proposal = said; sender = sender; is_full = full }
 
-one_fits : (c : Crypto) (m : Member) (i : ℕ) (x : ProposalOrRef) (u : Used) → AreGoodKept c m m.kept → proposal_or_ref.Fits x → used_one m.kept i x ≡ Ok u → UsedFits u
+one_fits : (c : Crypto) (m : Member) (i : ℕ) (x : ProposalOrRef) (u : Used) → AreGoodKept c m m.kept → proposal_or_ref.Fits x → find_proposal m.kept i x ≡ Ok u → UsedFits u
 one_fits c m i (listed.Proposal said) u good f e = subst UsedFits (ok_is (used_as said i true) u e) (full_fits said f)
 one_fits c m i (listed.Reference r) u good f e = by_kept (kept_under m.kept r) refl e
   where
-    by_kept : (o : Option Kept) → kept_under m.kept r ≡ o → (given 60 o >>= λ k. Ok (used_as k.proposal k.sender false)) ≡ Ok u → UsedFits u
+    by_kept : (o : Option KeptProposal) → kept_under m.kept r ≡ o → (require_some 60 o >>= λ k. Ok (used_as k.proposal k.sender false)) ≡ Ok u → UsedFits u
     by_kept None is h = absurd cc
     by_kept (Some k) is h = subst UsedFits (ok_is (used_as k.proposal k.sender false) u h) (kept_fits c m k (kept_good c m m.kept r k good is))
 
 -- the proposals of a list have a spelling
-pub used_fit : (c : Crypto) (m : Member) (i : ℕ) (list : List ProposalOrRef) (used : List Used) → AreGoodKept c m m.kept → AllByRecursion proposal_or_ref.Fits list → used_by m.kept i list ≡ Ok used → AllByRecursion UsedFits used
-unfolding used_by
+pub used_fit : (c : Crypto) (m : Member) (i : ℕ) (list : List ProposalOrRef) (used : List Used) → AreGoodKept c m m.kept → AllByRecursion proposal_or_ref.Fits list → find_proposals m.kept i list ≡ Ok used → AllByRecursion UsedFits used
+unfolding find_proposals
 used_fit c m i [] used good f e = subst (AllByRecursion UsedFits) (ok_is [] used e) tt
 used_fit c m i (x ∷ xs) used good f e =
-    let s = bind_ok (used_one m.kept i x) (λ u. used_by m.kept i xs >>= λ us. Ok (u ∷ us)) used e in
-    let t = bind_ok (used_by m.kept i xs) (λ us. Ok (s.0 ∷ us)) used s.2 in
+    let s = bind_ok (find_proposal m.kept i x) (λ u. find_proposals m.kept i xs >>= λ us. Ok (u ∷ us)) used e in
+    let t = bind_ok (find_proposals m.kept i xs) (λ us. Ok (s.0 ∷ us)) used s.2 in
     subst (AllByRecursion UsedFits) (ok_is (s.0 ∷ t.0) used t.2) (one_fits c m i x s.0 good f.0 s.1, used_fit c m i xs t.0 good f.1 t.1)
 
 -- and so have the leaves and the KeyPackages in them

@@ -12,16 +12,16 @@ use Rattle.mls_tree_model.proofs.Equations.{update_is}
 use Rattle.mls_tree_model.proofs.SetLaws.{has-append}
 use Rattle.mls_tree_model.proofs.ShapeLaws.{width-put}
 use Rattle.mls_tree.specs.Tree.{max_leaves}
-use Rattle.mls_treekem_model.specs.Follow.{TameAt, parent_above, Follows}
+use Rattle.mls_treekem_model.specs.Follow.{TameAt, parent_above, TameEdits}
 use Rattle.mls_treekem_model.specs.Laws.{AreTwo}
 use Rattle.mls_treekem_model.proofs.OnePassLaws.{follows_refl, follows_trans, blank_above}
 use Rattle.mls_treekem_model.proofs.WholeLaws.{follows_update, follows_remove, follows_add}
 use Rattle.mls_suite.specs.Crypto.{Crypto}
-use Rattle.mls_model.specs.Public.{PublicState, Used}
-use Rattle.mls_model.specs.Proposals.{updates, updated, removed, adds}
-use Rattle.mls_model.specs.Commit.{Edits, all_updated, all_removed, all_added}
+use Rattle.mls_model.specs.PublicState.{PublicState, Used}
+use Rattle.mls_model.specs.Proposals.{updates, updated_leaves, removed_leaves, adds}
+use Rattle.mls_model.specs.Commit.{Edits, apply_updates, apply_removes, apply_adds}
 use Rattle.mls_theorems.specs.EditLaws.{IsEdited}
-use Rattle.mls_theorems.specs.CommitLaws.{IsKept, EditsFollow, EditsFollowCommitter, IsRenewed, EditsRenew}
+use Rattle.mls_theorems.specs.CommitLaws.{IsUntouched, EditsFollow, EditsFollowCommitter, IsRenewed, EditsRenew}
 use Rattle.mls_theorems.proofs.Inversion.{edited_steps}
 use Rattle.mls_tree_model.proofs.TakenLaws.{Taken, taken_at, at_taken, some_at, taken_in, taken_some, taken_put, put_taken, taken_remove, place_free, taken_add}
 use Rattle.mls_theorems.proofs.Folds.{updates_first, adds_first, adds_none, updates_keep, removes_keep, adds_keep, all_any}
@@ -65,7 +65,7 @@ has_parts xs ys j h = by_test (has xs j) refl (sym (has-append xs ys j) ∙ h)
 -- it has its leaf still, and followed the edits since a tree
 pub record IsStill (j : ℕ) (x : LeafNode) (start t : Term) : Type 0 where
   pub taken : Taken j x t
-  pub follows : Follows j start t
+  pub follows : TameEdits j start t
 
 module _ (j : ℕ) (x : LeafNode) (start : Term) where
   pub still_here : Taken j x start → IsStill j x start start
@@ -78,7 +78,7 @@ module _ (j : ℕ) (x : LeafNode) (start : Term) where
   still_updated t u ne inside s =
       record {
         taken = taken_put t u.0 j x (Some u.1) inside ne s.taken;
-        follows = follows_trans j start t (put 0 t u.0 (Some u.1)) s.follows (subst (Follows j t) (update_is t u.0 u.1) (follows_update t u.0 j u.1 (two_of t u.0 inside ne s.taken)));
+        follows = follows_trans j start t (put 0 t u.0 (Some u.1)) s.follows (subst (TameEdits j t) (update_is t u.0 u.1) (follows_update t u.0 j u.1 (two_of t u.0 inside ne s.taken)));
       }
 
   still_removed : (t : Term) (i : ℕ) → (j ≡ i → ⊥) → i < width t → IsStill j x start t → IsStill j x start (remove t i)
@@ -95,17 +95,17 @@ module _ (j : ℕ) (x : LeafNode) (start : Term) where
         follows = follows_trans j start t (add t y.leaf_node) s.follows (follows_add t j y.leaf_node (taken_in t j x s.taken) (taken_some t j x s.taken));
       }
 
-  pub still_after_updates : (us : List (ℕ × LeafNode)) → has (map (λ (u : ℕ × LeafNode). u.0) us) j ≡ false → (t s : Term) → all_updated t us ≡ Ok s → IsStill j x start t → IsStill j x start s
+  pub still_after_updates : (us : List (ℕ × LeafNode)) → has (map (λ (u : ℕ × LeafNode). u.0) us) j ≡ false → (t s : Term) → apply_updates t us ≡ Ok s → IsStill j x start t → IsStill j x start s
   still_after_updates us none t s h k = updates_keep (IsStill j x start) (λ u. j ≡ u.0 → ⊥) still_updated us (none_of_map (λ (u : ℕ × LeafNode). u.0) us j none) t s h k
 
-  pub still_after_removes : (is : List ℕ) → has is j ≡ false → (t s : Term) → all_removed t is ≡ Ok s → IsStill j x start t → IsStill j x start s
+  pub still_after_removes : (is : List ℕ) → has is j ≡ false → (t s : Term) → apply_removes t is ≡ Ok s → IsStill j x start t → IsStill j x start s
   still_after_removes is none t s h k = removes_keep (IsStill j x start) (λ i. j ≡ i → ⊥) still_removed is (none_is is j none) t s h k
 
-  pub still_after_adds : (xs : List KeyPackage) (t : Term) (e : Edits) → all_added t xs ≡ Ok e → IsStill j x start t → IsStill j x start e.tree
+  pub still_after_adds : (xs : List KeyPackage) (t : Term) (e : Edits) → apply_adds t xs ≡ Ok e → IsStill j x start t → IsStill j x start e.tree
   still_after_adds xs t e h k = adds_keep (IsStill j x start) (λ y. Unit {0}) still_added xs (all_any xs) t e h k
 
 -- nobody is added at a leaf that is taken
-pub not_added : (xs : List KeyPackage) (j : ℕ) (x : LeafNode) (t : Term) (e : Edits) → all_added t xs ≡ Ok e → Taken j x t → has e.added j ≡ false
+pub not_added : (xs : List KeyPackage) (j : ℕ) (x : LeafNode) (t : Term) (e : Edits) → apply_adds t xs ≡ Ok e → Taken j x t → has e.added j ≡ false
 unfolding has
 not_added [] j x t e h k = sym (ap (λ is. has is j) (adds_none t e h).1)
 not_added (y ∷ ys) j x t e h k =
@@ -114,12 +114,12 @@ not_added (y ∷ ys) j x t e h k =
     let rest = not_added ys j x (add t y.leaf_node) f.later f.others (taken_add t j x y.leaf_node k) in
     sym (ap (λ is. has is j) f.added) ∙ rw here rest
 
-pub kept_by : (c : Crypto) (p : PublicState) (i : ℕ) (used : List Used) (e : Edits) (j : ℕ) (x : LeafNode) → IsEdited c p i used e → leaf_of p.tree j ≡ Some x → has (updated used) j ≡ false → has (removed used) j ≡ false → IsKept j p.tree e
-unfolding updated
+pub kept_by : (c : Crypto) (p : PublicState) (i : ℕ) (used : List Used) (e : Edits) (j : ℕ) (x : LeafNode) → IsEdited c p i used e → leaf_of p.tree j ≡ Some x → has (updated_leaves used) j ≡ false → has (removed_leaves used) j ≡ false → IsUntouched j p.tree e
+unfolding updated_leaves
 kept_by c p i used e j x s at u r =
     let start = still_here j x p.tree (taken_at p.tree j x at) in
     let one = still_after_updates j x p.tree (updates used) u p.tree s.after_updates s.updating start in
-    let two = still_after_removes j x p.tree (removed used) r s.after_updates s.after_removes s.removing one in
+    let two = still_after_removes j x p.tree (removed_leaves used) r s.after_updates s.after_removes s.removing one in
     let three = still_after_adds j x p.tree (adds used) s.after_removes e s.adding two in
     record {
       follows = three.follows;
@@ -141,7 +141,7 @@ edits_follow_committer c p i used e h some =
 -- ---- one that is updated
 
 -- so what came before doesn't matter
-follows_put : (t s : Term) (j : ℕ) (x : LeafNode) → j < width t → j < width s → Follows j (put 0 t j (Some x)) (put 0 s j (Some x))
+follows_put : (t s : Term) (j : ℕ) (x : LeafNode) → j < width t → j < width s → TameEdits j (put 0 t j (Some x)) (put 0 s j (Some x))
 follows_put t s j x one two =
     record {
       above = λ n. subst (TameAt j (parent_above n (way 0 (put 0 t j (Some x)) j))) (sym (blank_above 0 s j (Some x) n)) tt;
@@ -169,7 +169,7 @@ done_before t s i x (u ∷ us) h =
       done_before t s i x us h.1,
     )
 
-updates_done : (more : List ℕ) (us : List (ℕ × LeafNode)) (t s : Term) → is_distinct nat_eq (map (λ (u : ℕ × LeafNode). u.0) us ++ more) ≡ true → all_updated t us ≡ Ok s → AllByRecursion (IsDone t s) us
+updates_done : (more : List ℕ) (us : List (ℕ × LeafNode)) (t s : Term) → is_distinct nat_eq (map (λ (u : ℕ × LeafNode). u.0) us ++ more) ≡ true → apply_updates t us ≡ Ok s → AllByRecursion (IsDone t s) us
 unfolding is_distinct
 updates_done more [] t s apart h = tt
 updates_done more (u ∷ us) t s apart h =
@@ -190,10 +190,10 @@ not_removed more (u ∷ us) apart =
     ((has_parts (map (λ (u : ℕ × LeafNode). u.0) us) more u.0 (uncounted _ u.0 a.0)).1, not_removed more us a.1)
 
 module _ (c : Crypto) (p : PublicState) (i : ℕ) (used : List Used) (e : Edits) (s : IsEdited c p i used e) where
-  renewed : (u : ℕ × LeafNode) → IsDone p.tree s.after_updates u → has (removed used) u.0 ≡ false → IsRenewed p.tree e u
+  renewed : (u : ℕ × LeafNode) → IsDone p.tree s.after_updates u → has (removed_leaves used) u.0 ≡ false → IsRenewed p.tree e u
   renewed u d r =
       let start = put 0 p.tree u.0 (Some u.1) in
-      let two = still_after_removes u.0 u.1 (put 0 p.tree u.0 (Some u.1)) (removed used) r s.after_updates s.after_removes s.removing d.still in
+      let two = still_after_removes u.0 u.1 (put 0 p.tree u.0 (Some u.1)) (removed_leaves used) r s.after_updates s.after_removes s.removing d.still in
       let three = still_after_adds u.0 u.1 (put 0 p.tree u.0 (Some u.1)) (adds used) s.after_removes e s.adding two in
       record {
         follows = three.follows;
@@ -201,12 +201,12 @@ module _ (c : Crypto) (p : PublicState) (i : ℕ) (used : List Used) (e : Edits)
         old = not_added (adds used) u.0 u.1 s.after_removes e s.adding two.taken;
       }
 
-  all_renewed : (us : List (ℕ × LeafNode)) → AllByRecursion (IsDone p.tree s.after_updates) us → AllByRecursion (λ (u : ℕ × LeafNode). has (removed used) u.0 ≡ false) us → AllByRecursion (IsRenewed p.tree e) us
+  all_renewed : (us : List (ℕ × LeafNode)) → AllByRecursion (IsDone p.tree s.after_updates) us → AllByRecursion (λ (u : ℕ × LeafNode). has (removed_leaves used) u.0 ≡ false) us → AllByRecursion (IsRenewed p.tree e) us
   all_renewed [] d r = tt
   all_renewed (u ∷ us) d r = (renewed u d.0 r.0, all_renewed us d.1 r.1)
 
 pub edits_renew : EditsRenew
-unfolding updated
+unfolding updated_leaves
 edits_renew c p i used e h =
     let s = edited_steps c p i used e h in
-    all_renewed c p i used e s (updates used) (updates_done (removed used) (updates used) p.tree s.after_updates s.apart s.updating) (not_removed (removed used) (updates used) s.apart)
+    all_renewed c p i used e s (updates used) (updates_done (removed_leaves used) (updates used) p.tree s.after_updates s.apart s.updating) (not_removed (removed_leaves used) (updates used) s.apart)

@@ -7,18 +7,18 @@ use Rattle.mls_tree_model.specs.Laws.{IsIn}
 use Rattle.mls_tree_model.specs.Term.{Term, leaf_of}
 use Rattle.mls_treekem_model.proofs.ListLaws.{right_are_below}
 use Rattle.mls_treekem_model.specs.Lists.{ListsBelow}
-use Rattle.mls_model.specs.Public.{PublicState}
-use Rattle.mls_model.specs.Member.{named, first_own_key}
+use Rattle.mls_model.specs.PublicState.{PublicState}
+use Rattle.mls_model.specs.Member.{named_proposals, first_own_key}
 use Rattle.mls_model.specs.Claims.{ReceiversClaim}
 use Rattle.mls_theorems.specs.KeyLaws.{IsStanding}
-use Rattle.mls_theorems.specs.CommitLaws.{HasGood, IsKept}
+use Rattle.mls_theorems.specs.CommitLaws.{HasGood, IsUntouched}
 use Rattle.mls_theorems.proofs.Exact.{member_stands, followed_exact}
 use Rattle.mls_theorems.proofs.Own.{used_have_passed, used_are_owned}
 use Rattle.mls_theorems.proofs.Sound.{edits_good}
 use Rattle.mls_theorems.proofs.Staying.{edits_follow_committer}
 use Rattle.mls_theorems.proofs.Sent.{leaf_is_in}
 use Rattle.mls_theorems.proofs.Received.{receivers_of_staying, receives_by}
-use Rattle.mls_theorems.specs.Stays.{MemberStays, MadeIsReceived}
+use Rattle.mls_theorems.specs.StayingMembers.{MemberStays, MadeIsReceived}
 
 -- ---- the whole
 
@@ -35,10 +35,10 @@ lists_of_good c p t good = right_are_below 0 t (record { right = good.lists; ris
 pub member_stays : MemberStays
 member_stays c m i list used e x good apart is uses edits here =
     let own = used_are_owned c m i list used good.kept apart uses in
-    let new : Option (List ℕ) = first_own_key (named m.kept list) in
+    let new : Option (List ℕ) = first_own_key (named_proposals m.kept list) in
     let there : IsSome (leaf_of m.public.tree m.keys.leaf) = taken _ _ good.own good.is_own in
     let s : IsStanding m.keys.leaf e = member_stands c m.public i used e new m.keys.leaf edits there here own in
-    let k : IsKept i m.public.tree e = edits_follow_committer c m.public i used e edits (taken _ _ x is) in
+    let k : IsUntouched i m.public.tree e = edits_follow_committer c m.public i used e edits (taken _ _ x is) in
     let sound : HasGood c m.public e.tree = edits_good c m.public i used e good.tree (used_have_passed c m i list used good.kept uses) (taken _ _ x is) edits in
     record {
       two = record { first = inside e.tree i x (k.leaf ∙ is); second = inside e.tree m.keys.leaf s.leaf s.is_leaf; apart = λ q. apart (sym q) };

@@ -11,25 +11,25 @@ use Rattle.mls_suite.specs.Crypto.{Crypto}
 use Rattle.mls_model.specs.Agreement.{Keeps, IsGoodKept}
 use Rattle.mls_model.proofs.CommitLaws.{names_in_order, by_option, keeps_more, found_good}
 use Rattle.mls_model.specs.Journal.{names_in, used_of, adds_in, removes_in}
-use Rattle.mls_model.specs.Member.{Kept, Member, kept_under, used_one, used_by, named}
-use Rattle.mls_model.specs.Proposals.{adds, removed}
-use Rattle.mls_model.specs.Public.{Used}
-use Rattle.mls_model.specs.PublicOf.{used_in, used_by_names}
-use Rattle.mls_theorems.specs.Used.{AreGoodKept, UsedByNames, UsedByEntry, UsedAlike, IsUsedAlike, UsedForOther, RemovesIn, AddsIn, UsedSame}
+use Rattle.mls_model.specs.Member.{KeptProposal, Member, kept_under, find_proposal, find_proposals, named_proposals}
+use Rattle.mls_model.specs.Proposals.{adds, removed_leaves}
+use Rattle.mls_model.specs.PublicState.{Used}
+use Rattle.mls_model.specs.JournalState.{used_in, used_by_names}
+use Rattle.mls_theorems.specs.UsedProposals.{AreGoodKept, UsedByNames, UsedByEntry, UsedAlike, IsUsedAlike, UsedForOther, RemovesIn, AddsIn, UsedSame}
 
 -- ---- one that is kept
 
-pub kept_good : (c : Crypto) (m : Member) (kept : List Kept) (reference : List ℕ) (k : Kept) → AreGoodKept c m kept → kept_under kept reference ≡ Some k → IsGoodKept c m k
+pub kept_good : (c : Crypto) (m : Member) (kept : List KeptProposal) (reference : List ℕ) (k : KeptProposal) → AreGoodKept c m kept → kept_under kept reference ≡ Some k → IsGoodKept c m k
 unfolding kept_under
 kept_good c m kept reference k all e = found_good (IsGoodKept c m) _ kept k all e
 
 -- what its message says is what is used of it
-pub used_kept : (c : Crypto) (m : Member) (k : Kept) → IsGoodKept c m k → used_in k.message ≡ Ok (record { proposal = k.proposal; sender = k.sender; is_full = false })
+pub used_kept : (c : Crypto) (m : Member) (k : KeptProposal) → IsGoodKept c m k → used_in k.message ≡ Ok (record { proposal = k.proposal; sender = k.sender; is_full = false })
 unfolding used_in
 used_kept c m k g = rw (g.decodes, g.says, g.from) refl
 
 pub used_by_names_lem : UsedByNames
-unfolding used_by used_by_names Keeps
+unfolding find_proposals used_by_names Keeps
 used_by_names_lem c m kept i [] [] good h = refl
 used_by_names_lem c m kept i [] (b ∷ bs) good h = absurd h
 used_by_names_lem c m kept i (listed.Proposal said ∷ xs) bs good h =
@@ -48,8 +48,8 @@ pub used_alike : UsedAlike
 used_alike c maker m i list us good good' keeps e =
     used_by_names_lem c m m.kept i list (names_in maker.kept list) good' keeps ∙ used_by_entry c maker maker.kept i list us good e
 
-one_alike : (kept : List Kept) (j : ℕ) (x : ProposalOrRef) (xs : List ProposalOrRef) (u w : Used) (us : List Used) → used_one kept j x ≡ Ok w → w.proposal ≡ u.proposal → IsUsedAlike kept j xs us → IsUsedAlike kept j (x ∷ xs) (u ∷ us)
-unfolding used_by removed adds
+one_alike : (kept : List KeptProposal) (j : ℕ) (x : ProposalOrRef) (xs : List ProposalOrRef) (u w : Used) (us : List Used) → find_proposal kept j x ≡ Ok w → w.proposal ≡ u.proposal → IsUsedAlike kept j xs us → IsUsedAlike kept j (x ∷ xs) (u ∷ us)
+unfolding find_proposals removed_leaves adds
 one_alike kept j x xs u w us e p a = record {
   used = w ∷ a.used;
   is = rw (e, a.is) refl;
@@ -57,24 +57,24 @@ one_alike kept j x xs u w us e p a = record {
   adding = rw (p, a.adding) refl;
 }
 
-used_first : (kept : List Kept) (i j : ℕ) (x : ProposalOrRef) (u : Used) → used_one kept i x ≡ Ok u → (w : Used) × (used_one kept j x ≡ Ok w) × (w.proposal ≡ u.proposal)
+used_first : (kept : List KeptProposal) (i j : ℕ) (x : ProposalOrRef) (u : Used) → find_proposal kept i x ≡ Ok u → (w : Used) × (find_proposal kept j x ≡ Ok w) × (w.proposal ≡ u.proposal)
 used_first kept i j (listed.Proposal said) u e = (record { proposal = said; sender = j; is_full = true }, refl, cc)
 used_first kept i j (listed.Reference r) u e = (u, e, refl)
 
 pub used_for_other : UsedForOther
-unfolding used_by removed adds
+unfolding find_proposals removed_leaves adds
 used_for_other kept i j [] us e =
     let f : [] ≡ us = ok_is [] us e in
     subst (λ (l : List Used). IsUsedAlike kept j [] l) f (record { used = []; is = refl; removes = refl; adding = refl })
 used_for_other kept i j (x ∷ xs) us e =
-    let s = bind_ok (used_one kept i x) (λ u. used_by kept i xs >>= λ vs. Ok (u ∷ vs)) us e in
-    let t = bind_ok (used_by kept i xs) (λ vs. Ok (s.0 ∷ vs)) us s.2 in
+    let s = bind_ok (find_proposal kept i x) (λ u. find_proposals kept i xs >>= λ vs. Ok (u ∷ vs)) us e in
+    let t = bind_ok (find_proposals kept i xs) (λ vs. Ok (s.0 ∷ vs)) us s.2 in
     let w = used_first kept i j x s.0 s.1 in
     subst (λ (l : List Used). IsUsedAlike kept j (x ∷ xs) l) (ok_is (s.0 ∷ t.0) us t.2) (one_alike kept j x xs s.0 w.0 t.0 w.1 w.2 (used_for_other kept i j xs t.0 t.1))
 
 pub removes_in_lem : RemovesIn
 unfolding removes_in
-removes_in_lem kept i list us e = let a = used_for_other kept i 0 list us e in ap (λ (r : Result (List Used) ℕ). removed (used_of r)) a.is ∙ a.removes
+removes_in_lem kept i list us e = let a = used_for_other kept i 0 list us e in ap (λ (r : Result (List Used) ℕ). removed_leaves (used_of r)) a.is ∙ a.removes
 
 pub adds_in_lem : AddsIn
 unfolding adds_in
@@ -93,7 +93,7 @@ unfoldable references : List ProposalOrRef → ℕ
 references [] = 0
 references (x ∷ xs) = one_more x (references xs)
 
-keeps_count : (kept : List Kept) (list : List ProposalOrRef) (names : List (List ℕ)) → Keeps kept list names → length names ≡ references list
+keeps_count : (kept : List KeptProposal) (list : List ProposalOrRef) (names : List (List ℕ)) → Keeps kept list names → length names ≡ references list
 unfolding Keeps references
 keeps_count kept [] [] h = refl
 keeps_count kept [] (b ∷ bs) h = absurd h
@@ -101,28 +101,28 @@ keeps_count kept (listed.Proposal said ∷ xs) bs h = keeps_count kept xs bs h
 keeps_count kept (listed.Reference r ∷ xs) [] h = absurd h
 keeps_count kept (listed.Reference r ∷ xs) (b ∷ bs) h = ap suc (keeps_count kept xs bs h.1)
 
-names_at : List (List ℕ) → Option Kept → List (List ℕ)
+names_at : List (List ℕ) → Option KeptProposal → List (List ℕ)
 names_at names None = names
 names_at names (Some k) = k.message ∷ names
 
-names_first : (kept : List Kept) (r : List ℕ) (xs : List ProposalOrRef) (o : Option Kept) → kept_under kept r ≡ o → names_in kept (listed.Reference r ∷ xs) ≡ names_at (names_in kept xs) o
-unfolding names_in named names_at
+names_first : (kept : List KeptProposal) (r : List ℕ) (xs : List ProposalOrRef) (o : Option KeptProposal) → kept_under kept r ≡ o → names_in kept (listed.Reference r ∷ xs) ≡ names_at (names_in kept xs) o
+unfolding names_in named_proposals names_at
 names_first kept r xs None e = rw e refl
 names_first kept r xs (Some k) e = rw e refl
 
-at_most : (names : List (List ℕ)) (o : Option Kept) (n : ℕ) → length names ≤ n → length (names_at names o) ≤ suc n
+at_most : (names : List (List ℕ)) (o : Option KeptProposal) (n : ℕ) → length names ≤ n → length (names_at names o) ≤ suc n
 unfolding names_at
 at_most names None n le = omega arith
 at_most names (Some k) n le = omega arith
 
-names_count : (kept : List Kept) (list : List ProposalOrRef) → length (names_in kept list) ≤ references list
-unfolding names_in named references
+names_count : (kept : List KeptProposal) (list : List ProposalOrRef) → length (names_in kept list) ≤ references list
+unfolding names_in named_proposals references
 names_count kept [] = omega arith
 names_count kept (listed.Proposal said ∷ xs) = names_count kept xs
 names_count kept (listed.Reference r ∷ xs) =
     rw (names_first kept r xs (kept_under kept r) refl) (at_most (names_in kept xs) (kept_under kept r) (references xs) (names_count kept xs))
 
-named_by : (kept : List Kept) (r : List ℕ) (xs : List ProposalOrRef) (o : Option Kept) → kept_under kept r ≡ o → (length (names_in kept xs) ≡ references xs → Keeps kept xs (names_in kept xs)) → length (names_in kept (listed.Reference r ∷ xs)) ≡ suc (references xs) →
+named_by : (kept : List KeptProposal) (r : List ℕ) (xs : List ProposalOrRef) (o : Option KeptProposal) → kept_under kept r ≡ o → (length (names_in kept xs) ≡ references xs → Keeps kept xs (names_in kept xs)) → length (names_in kept (listed.Reference r ∷ xs)) ≡ suc (references xs) →
     Keeps kept (listed.Reference r ∷ xs) (names_in kept (listed.Reference r ∷ xs))
 unfolding names_at
 named_by kept r xs None e more h =
@@ -132,8 +132,8 @@ named_by kept r xs (Some k) e more h =
     let n : suc (length (names_in kept xs)) ≡ suc (references xs) = sym (ap length (names_first kept r xs (Some k) e)) ∙ h in
     keeps_more kept r xs k e (more (omega (arith, n)))
 
-all_named : (kept : List Kept) (list : List ProposalOrRef) → length (names_in kept list) ≡ references list → Keeps kept list (names_in kept list)
-unfolding Keeps names_in named references
+all_named : (kept : List KeptProposal) (list : List ProposalOrRef) → length (names_in kept list) ≡ references list → Keeps kept list (names_in kept list)
+unfolding Keeps names_in named_proposals references
 all_named kept [] h = tt
 all_named kept (listed.Proposal said ∷ xs) h = all_named kept xs h
 all_named kept (listed.Reference r ∷ xs) h = named_by kept r xs (kept_under kept r) refl (all_named kept xs) h

@@ -27,8 +27,8 @@ use Rattle.mls_suite.specs.Labels.{encrypt_with_label, decrypt_with_label}
 use Rattle.mls_suite.proofs.LabelLaws.{opens_sealed}
 use Rattle.mls_schedule.specs.Epoch.{welcome_key, welcome_nonce}
 use Rattle.mls_model.specs.Candidate.{Candidate}
-use Rattle.mls_model.specs.Messages.{decoded, are_bytes, is_within_limit}
-use Rattle.mls_model.specs.Opening.{is_none_or_32, opened_secrets, Opened, opened_welcome}
+use Rattle.mls_model.specs.Messages.{decode_message, are_bytes, is_within_limit}
+use Rattle.mls_model.specs.OpenedWelcome.{is_none_or_32, opened_secrets, Opened, opened_welcome}
 use Rattle.mls_model.specs.Proposals.{package_reference}
 use Rattle.mls_model.specs.Welcome.{secrets_with, entry_for, welcome_message}
 use Rattle.mls_wire.proofs.CheckLaws.{then_ok, bind_ok, given_ok}
@@ -36,7 +36,7 @@ use Rattle.mls_wire.specs.CheckLaws.{required}
 use Rattle.mls_wire.specs.Checks.{passed}
 use Rattle.mls_theorems.proofs.Fit.{short_first, short_last, short_text, cipher_fits, all_fit}
 use Rattle.mls_theorems.proofs.Sent.{within_is}
-use Rattle.mls_theorems.specs.Welcomed.{encrypted_info, welcome_of, WelcomeDid, WelcomeReads, SecretsOpen, WelcomeOpens}
+use Rattle.mls_theorems.specs.OpenedWelcomes.{encrypted_info, welcome_of, WelcomeDid, WelcomeReads, SecretsOpen, WelcomeOpens}
 use Rattle.std.proofs.lemmas.Bool.{and_parts}
 
 bytes_are : (bytes : List ℕ) → is_within_limit bytes ≡ Ok passed → are_bytes bytes ≡ true
@@ -79,7 +79,7 @@ unfolding welcome_of
 number_fits c info joiner entries n = n
 
 pub welcome_reads : WelcomeReads
-unfolding decoded
+unfolding decode_message
 welcome_reads c number info joiner secrets rnd n joiners bytes w =
     let v : Welcome = welcome_of c info joiner w.entries in
     let p : MlsMessage = message.Welcome v in
@@ -157,7 +157,7 @@ abbrev opened_as : GroupInfo → List ℕ → Option (List ℕ) → Opened
 opened_as info joiner path_secret = record { joiner = joiner; path_secret = path_secret; bytes = group_info.spell info; info = info }
 
 opened_by : (c : Crypto) (k : Candidate) (bytes : List ℕ) (w : Welcome) (entry : EncryptedGroupSecrets) (info : GroupInfo) (joiner : List ℕ) (path_secret : Option (List ℕ)) →
-    decoded bytes ≡ Ok (message.Welcome w) → (w.cipher_suite == c.number) ≡ true → find (λ (e : EncryptedGroupSecrets). bytes_eq e.new_member (package_reference k.offered)) w.secrets ≡ Some entry →
+    decode_message bytes ≡ Ok (message.Welcome w) → (w.cipher_suite == c.number) ≡ true → find (λ (e : EncryptedGroupSecrets). bytes_eq e.new_member (package_reference k.offered)) w.secrets ≡ Some entry →
     opened_secrets c k w entry ≡ Ok (secrets_of joiner path_secret) → c.aead_open (welcome_key joiner) (welcome_nonce joiner) [] w.encrypted_group_info ≡ Some (group_info.spell info) →
     are_bytes (group_info.spell info) ≡ true → whole group_info input_limit (group_info.spell info) ≡ Ok info → (info.group_context.cipher_suite == c.number) ≡ true → opened_welcome c k bytes ≡ Ok (opened_as info joiner path_secret)
 unfolding opened_welcome

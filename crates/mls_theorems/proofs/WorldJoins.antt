@@ -14,16 +14,16 @@ use Rattle.mls_model.specs.declared.event.Source.{Source}
 use Rattle.mls_model.specs.declared.event.Source.TheVariants.{Given, Message}
 use Rattle.mls_model.specs.declared.origin.Origin.TheVariants as from
 use Rattle.mls_model.specs.Agreement.{IsGoodCandidate}
-use Rattle.mls_model.specs.Calls.{join_answer}
+use Rattle.mls_model.specs.WorldCalls.{join_answer}
 use Rattle.mls_model.specs.Candidate.{Candidate}
 use Rattle.mls_model.specs.Claims.{JoinsTo}
 use Rattle.mls_model.specs.Invariant.{IsRecorded, IsGoodBy, IsGoodWorld}
-use Rattle.mls_model.specs.Join.{Joined, join_verdict}
+use Rattle.mls_model.specs.Join.{JoinedMember, join_verdict}
 use Rattle.mls_model.specs.Journal.{CommitMade}
 use Rattle.mls_model.specs.Lineage.{IsSameState, IsReached}
-use Rattle.mls_model.specs.Opening.{Opened, opened_welcome}
-use Rattle.mls_model.specs.PublicOf.{Creations}
-use Rattle.mls_model.specs.World.{World, Seat, entrant_at, bytes_of, has_source, made_for, joiner_journal}
+use Rattle.mls_model.specs.OpenedWelcome.{Opened, opened_welcome}
+use Rattle.mls_model.specs.JournalState.{Creations}
+use Rattle.mls_model.specs.World.{World, Seat, entrant_at, bytes_of, has_source, commit_for_joiner, joiner_journal}
 use Rattle.mls_theorems.proofs.Entered.{MemberDid, member_did, joined_by, joined_good}
 use Rattle.mls_theorems.proofs.Joiners.{joiners_hold}
 use Rattle.mls_theorems.proofs.Journals.{same_itself}
@@ -35,16 +35,16 @@ use Rattle.mls_theorems.proofs.Past.{past_grows}
 
 -- ---- a new member
 
-pub record JoinedDid (k : Candidate) (j : Joined) : Type 0 where
+pub record JoinedDid (k : Candidate) (j : JoinedMember) : Type 0 where
   pub active : j.member.gone ≡ false
   pub signing : k.signing ≡ j.member.signing
   pub free : j.member.pending ≡ None
 
-by_parts : (k : Candidate) (o : Opened) (c : Crypto) (j : Joined) → MemberDid c k o j → JoinedDid k j
+by_parts : (k : Candidate) (o : Opened) (c : Crypto) (j : JoinedMember) → MemberDid c k o j → JoinedDid k j
 unfolding joined_by
 by_parts k o c j d = subst (JoinedDid k) d.is (record { active = refl; signing = refl; free = refl })
 
-pub joined_did : (c : Crypto) (k : Candidate) (bytes : List ℕ) (j : Joined) → join_verdict c k bytes ≡ Ok j → JoinedDid k j
+pub joined_did : (c : Crypto) (k : Candidate) (bytes : List ℕ) (j : JoinedMember) → join_verdict c k bytes ≡ Ok j → JoinedDid k j
 unfolding join_verdict
 joined_did c k bytes j h = let s = bind_ok (opened_welcome c k bytes) _ _ h in by_parts k s.0 c j (member_did c k s.0 j s.2)
 
@@ -61,8 +61,8 @@ pub record HasWelcome (d : CommitMade) (bytes : List ℕ) : Type 0 where
 pub welcome_by : (w : World) (source : Source) (bytes : List ℕ) (d : CommitMade) (o : Option (ℕ × List ℕ)) → d.welcome ≡ o → ((n : ℕ) (x : List ℕ) → d.welcome ≡ Some (n, x) → slice_get w.messages n ≡ Some x) →
     has_source source o ≡ true → bytes_of w source ≡ Ok bytes → HasWelcome d bytes
 welcome_by w source bytes d None e numbered h b = absurd (true≢false (sym h))
-welcome_by w (Given given) bytes d (Some x) e numbered h b =
-    let same : x.1 ≡ bytes = sym ((bytes_eq-Decides given.items x.1).0 h) ∙ ok_is given.items bytes b in
+welcome_by w (Given supplied) bytes d (Some x) e numbered h b =
+    let same : x.1 ≡ bytes = sym ((bytes_eq-Decides supplied.items x.1).0 h) ∙ ok_is supplied.items bytes b in
     record { number = x.0; is = e ∙ ap (λ (y : List ℕ). welcome_with x.0 y) same }
 welcome_by w (Message n) bytes d (Some x) e numbered h b =
     let at : slice_get w.messages n ≡ Some bytes = given_ok 94 (slice_get w.messages n) bytes b in
@@ -81,14 +81,14 @@ joins_by c laws creations w d k bytes r good h any =
 
 -- ---- its journal
 
-one_joined : (r : Result Joined ℕ) (x y : Joined) → r ≡ Ok x → r ≡ Ok y → x ≡ y
+one_joined : (r : Result JoinedMember ℕ) (x y : JoinedMember) → r ≡ Ok x → r ≡ Ok y → x ≡ y
 one_joined r x y a b = ok_is x y (sym a ∙ b)
 
-by_info : (c : Crypto) (creations : Creations) (made : List CommitMade) (k : Candidate) (bytes : List ℕ) (j : Joined) → IsGoodCandidate c k → join_verdict c k bytes ≡ Ok j → IsReached c creations made (from.GroupInfo j.info) [] j.member
+by_info : (c : Crypto) (creations : Creations) (made : List CommitMade) (k : Candidate) (bytes : List ℕ) (j : JoinedMember) → IsGoodCandidate c k → join_verdict c k bytes ≡ Ok j → IsReached c creations made (from.GroupInfo j.info) [] j.member
 unfolding IsReached
 by_info c creations made k bytes j good h = (record { candidate = k; bytes = bytes; joined = j; is = h; info_is = refl; same = same_itself j.member }, joined_good c k bytes j good h)
 
-by_commit : (c : Crypto) (creations more : Creations) (w : World) (d : CommitMade) (place : ℕ) (k : Candidate) (bytes : List ℕ) (j : Joined) (r : IsRecorded c creations w d) → slice_get w.made place ≡ Some d → IsGoodCandidate c k → (joins : JoinsTo c k bytes r.call) → join_verdict c k bytes ≡ Ok j →
+by_commit : (c : Crypto) (creations more : Creations) (w : World) (d : CommitMade) (place : ℕ) (k : Candidate) (bytes : List ℕ) (j : JoinedMember) (r : IsRecorded c creations w d) → slice_get w.made place ≡ Some d → IsGoodCandidate c k → (joins : JoinsTo c k bytes r.call) → join_verdict c k bytes ≡ Ok j →
     IsReached c (creations ++ more) w.made d.journal.origin (d.entry ∷ d.journal.entries) j.member
 unfolding IsReached
 by_commit c creations more w d place k bytes j r at good joins h =
@@ -108,13 +108,13 @@ by_commit c creations more w d place k bytes j r at good joins h =
         candidate = k;
         welcome = bytes;
         joins = joins;
-        same = subst (λ (x : Joined). IsSameState joins.joined.member x.member) one (same_itself joins.joined.member);
+        same = subst (λ (x : JoinedMember). IsSameState joins.joined.member x.member) one (same_itself joins.joined.member);
       })),
     )
 
-joiner_reached : (c : Crypto) → Lawful c → (creations : Creations) (w : World) → IsGoodBy c creations w → (k : Candidate) (source : Source) (bytes : List ℕ) (j : Joined) → IsGoodCandidate c k → bytes_of w source ≡ Ok bytes → join_verdict c k bytes ≡ Ok j →
-    (o : Option CommitMade) → made_for w.made source k ≡ o → IsReached c (creations ++ (None ∷ [])) w.made (joiner_journal o j.info).origin (joiner_journal o j.info).entries j.member
-unfolding made_for
+joiner_reached : (c : Crypto) → Lawful c → (creations : Creations) (w : World) → IsGoodBy c creations w → (k : Candidate) (source : Source) (bytes : List ℕ) (j : JoinedMember) → IsGoodCandidate c k → bytes_of w source ≡ Ok bytes → join_verdict c k bytes ≡ Ok j →
+    (o : Option CommitMade) → commit_for_joiner w.made source k ≡ o → IsReached c (creations ++ (None ∷ [])) w.made (joiner_journal o j.info).origin (joiner_journal o j.info).entries j.member
+unfolding commit_for_joiner
 joiner_reached c laws creations w g k source bytes j good b h None is = by_info c (creations ++ (None ∷ [])) w.made k bytes j good h
 joiner_reached c laws creations w g k source bytes j good b h (Some d) is =
     let f = find_stands (λ (x : CommitMade). has_source source x.welcome && list_any (bytes_eq (key_package.spell k.offered)) x.adds) w.made d is in
@@ -131,6 +131,6 @@ join_kept c laws creations w g n source x h =
     let s3 = bind_ok (join_verdict c s1.0.candidate s2.0) _ _ s2.2 in
     let u : IsUnspent w n s1.0 = entrant_did w n s1.0 s1.1 in
     let did : JoinedDid s1.0.candidate s3.0 = joined_did c s1.0.candidate s2.0 s3.0 s3.1 in
-    let t : Seat = record { member = s3.0.member; journal = joiner_journal (made_for w.made source s1.0.candidate) s3.0.info } in
+    let t : Seat = record { member = s3.0.member; journal = joiner_journal (commit_for_joiner w.made source s1.0.candidate) s3.0.info } in
     to_world c x _ s3.2
-    (creations ++ (None ∷ []), one_more c creations w n s1.0 t None g u.is u.unspent did.signing did.free (joiner_reached c laws creations w g s1.0.candidate source s2.0 s3.0 (g.candidates n s1.0 u.is) s2.1 s3.1 (made_for w.made source s1.0.candidate) refl))
+    (creations ++ (None ∷ []), one_more c creations w n s1.0 t None g u.is u.unspent did.signing did.free (joiner_reached c laws creations w g s1.0.candidate source s2.0 s3.0 (g.candidates n s1.0 u.is) s2.1 s3.1 (commit_for_joiner w.made source s1.0.candidate) refl))

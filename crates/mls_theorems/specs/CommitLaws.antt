@@ -15,11 +15,11 @@ use Rattle.mls_tree_model.specs.Hashes.{tree_hash}
 use Rattle.mls_tree_model.specs.Good.{IsGood, IsSound}
 use Rattle.mls_tree.specs.Tree.{max_leaves}
 use Rattle.mls_tree.specs.Rules.{rules_of}
-use Rattle.mls_treekem_model.specs.Follow.{Follows}
+use Rattle.mls_treekem_model.specs.Follow.{TameEdits}
 use Rattle.mls_treekem_model.specs.Join.{AllList}
-use Rattle.mls_model.specs.Public.{PublicState, Used}
-use Rattle.mls_model.specs.Proposals.{proposal_checks, updates, updated, removed, adds}
-use Rattle.mls_model.specs.Commit.{Edits, Change, edited, body}
+use Rattle.mls_model.specs.PublicState.{PublicState, Used}
+use Rattle.mls_model.specs.Proposals.{proposal_checks, updates, updated_leaves, removed_leaves, adds}
+use Rattle.mls_model.specs.Commit.{Edits, Change, apply_proposals, change_of_commit}
 
 -- ---- a good tree
 
@@ -36,22 +36,22 @@ AllHavePassed c p used = AllByRecursion (HasPassed c p) used
 
 -- after its edits a sound tree is good, where a member commits; so a good one is, and it isn't too large
 abbrev pub EditsSound : Type 0
-EditsSound = (c : Crypto) (p : PublicState) (committer : ℕ) (used : List Used) (e : Edits) → IsSound (rules_of c p.context.group_id) p.tree → AllHavePassed c p used → IsSome (leaf_of p.tree committer) → edited c p committer used ≡ Ok e → HasGood c p e.tree
+EditsSound = (c : Crypto) (p : PublicState) (committer : ℕ) (used : List Used) (e : Edits) → IsSound (rules_of c p.context.group_id) p.tree → AllHavePassed c p used → IsSome (leaf_of p.tree committer) → apply_proposals c p committer used ≡ Ok e → HasGood c p e.tree
 
 abbrev pub EditsGood : Type 0
-EditsGood = (c : Crypto) (p : PublicState) (committer : ℕ) (used : List Used) (e : Edits) → HasGood c p p.tree → AllHavePassed c p used → IsSome (leaf_of p.tree committer) → edited c p committer used ≡ Ok e → HasGood c p e.tree
+EditsGood = (c : Crypto) (p : PublicState) (committer : ℕ) (used : List Used) (e : Edits) → HasGood c p p.tree → AllHavePassed c p used → IsSome (leaf_of p.tree committer) → apply_proposals c p committer used ≡ Ok e → HasGood c p e.tree
 
 abbrev pub EditsWithin : Type 0
-EditsWithin = (c : Crypto) (p : PublicState) (committer : ℕ) (used : List Used) (e : Edits) → HasGood c p p.tree → AllHavePassed c p used → IsSome (leaf_of p.tree committer) → edited c p committer used ≡ Ok e → width e.tree ≤ max_leaves
+EditsWithin = (c : Crypto) (p : PublicState) (committer : ℕ) (used : List Used) (e : Edits) → HasGood c p p.tree → AllHavePassed c p used → IsSome (leaf_of p.tree committer) → apply_proposals c p committer used ≡ Ok e → width e.tree ≤ max_leaves
 
 -- and so it is after the whole commit, and the new context has its tree hash and the old group
 abbrev pub GoodNext : Type 0
 GoodNext = (c : Crypto) (p : PublicState) (committer : ℕ) (used : List Used) (commit : Commit) (said : FramedContent) (signature : List ℕ) (change : Change) →
-    HasGood c p p.tree → AllHavePassed c p used → IsSome (leaf_of p.tree committer) → body c p committer used commit said signature ≡ Ok change → HasGood c p change.tree
+    HasGood c p p.tree → AllHavePassed c p used → IsSome (leaf_of p.tree committer) → change_of_commit c p committer used commit said signature ≡ Ok change → HasGood c p change.tree
 
 abbrev pub ContextOfTree : Type 0
 ContextOfTree = (c : Crypto) (p : PublicState) (committer : ℕ) (used : List Used) (commit : Commit) (said : FramedContent) (signature : List ℕ) (change : Change) →
-    body c p committer used commit said signature ≡ Ok change →
+    change_of_commit c p committer used commit said signature ≡ Ok change →
     (change.context.tree_hash ≡ tree_hash 0 change.tree) × (change.context.group_id ≡ p.context.group_id) × (change.context.cipher_suite ≡ p.context.cipher_suite)
 
 -- ---- leaves of the new tree
@@ -60,7 +60,7 @@ ContextOfTree = (c : Crypto) (p : PublicState) (committer : ℕ) (used : List Us
 pub record HasLeaves (committer : ℕ) (p : PublicState) (change : Change) : Type 0 where
   pub before : LeafNode
   pub was : leaf_of p.tree committer ≡ Some before
-  pub edited : leaf_of change.edits.tree committer ≡ Some before
+  pub in_edits : leaf_of change.edits.tree committer ≡ Some before
   pub after : LeafNode
   pub is : leaf_of change.tree committer ≡ Some after
   pub signature : after.signature_key ≡ before.signature_key
@@ -69,7 +69,7 @@ pub record HasLeaves (committer : ℕ) (p : PublicState) (change : Change) : Typ
 
 abbrev pub LeavesNext : Type 0
 LeavesNext = (c : Crypto) (p : PublicState) (committer : ℕ) (used : List Used) (commit : Commit) (said : FramedContent) (signature : List ℕ) (change : Change) →
-    IsSome (leaf_of p.tree committer) → body c p committer used commit said signature ≡ Ok change → HasLeaves committer p change
+    IsSome (leaf_of p.tree committer) → change_of_commit c p committer used commit said signature ≡ Ok change → HasLeaves committer p change
 
 -- whoever a commit doesn't remove has its signature key still
 pub record KeepsSignature (j : ℕ) (x : LeafNode) (t : Term) : Type 0 where
@@ -79,31 +79,31 @@ pub record KeepsSignature (j : ℕ) (x : LeafNode) (t : Term) : Type 0 where
 
 abbrev pub SignaturesNext : Type 0
 SignaturesNext = (c : Crypto) (p : PublicState) (committer : ℕ) (used : List Used) (commit : Commit) (said : FramedContent) (signature : List ℕ) (change : Change) (j : ℕ) (x : LeafNode) →
-    AllHavePassed c p used → IsSome (leaf_of p.tree committer) → body c p committer used commit said signature ≡ Ok change → leaf_of p.tree j ≡ Some x → has (removed used) j ≡ false → KeepsSignature j x change.tree
+    AllHavePassed c p used → IsSome (leaf_of p.tree committer) → change_of_commit c p committer used commit said signature ≡ Ok change → leaf_of p.tree j ≡ Some x → has (removed_leaves used) j ≡ false → KeepsSignature j x change.tree
 
 -- ---- members that stay
 
 -- a member that a commit neither updates nor removes follows its edits and keeps its leaf, and isn't added
-pub record IsKept (j : ℕ) (t : Term) (e : Edits) : Type 0 where
-  pub follows : Follows j t e.tree
+pub record IsUntouched (j : ℕ) (t : Term) (e : Edits) : Type 0 where
+  pub follows : TameEdits j t e.tree
   pub leaf : leaf_of e.tree j ≡ leaf_of t j
   pub old : has e.added j ≡ false
 
 abbrev pub EditsFollow : Type 0
-EditsFollow = (c : Crypto) (p : PublicState) (committer : ℕ) (used : List Used) (e : Edits) (j : ℕ) → edited c p committer used ≡ Ok e → IsSome (leaf_of p.tree j) → has (updated used) j ≡ false → has (removed used) j ≡ false → IsKept j p.tree e
+EditsFollow = (c : Crypto) (p : PublicState) (committer : ℕ) (used : List Used) (e : Edits) (j : ℕ) → apply_proposals c p committer used ≡ Ok e → IsSome (leaf_of p.tree j) → has (updated_leaves used) j ≡ false → has (removed_leaves used) j ≡ false → IsUntouched j p.tree e
 
 -- and so does the committer
 abbrev pub EditsFollowCommitter : Type 0
-EditsFollowCommitter = (c : Crypto) (p : PublicState) (committer : ℕ) (used : List Used) (e : Edits) → edited c p committer used ≡ Ok e → IsSome (leaf_of p.tree committer) → IsKept committer p.tree e
+EditsFollowCommitter = (c : Crypto) (p : PublicState) (committer : ℕ) (used : List Used) (e : Edits) → apply_proposals c p committer used ≡ Ok e → IsSome (leaf_of p.tree committer) → IsUntouched committer p.tree e
 
 -- one that it updates does so from its own update on, and has the new leaf
 pub record IsRenewed (t : Term) (e : Edits) (u : ℕ × LeafNode) : Type 0 where
-  pub follows : Follows u.0 (put 0 t u.0 (Some u.1)) e.tree
+  pub follows : TameEdits u.0 (put 0 t u.0 (Some u.1)) e.tree
   pub leaf : leaf_of e.tree u.0 ≡ Some u.1
   pub old : has e.added u.0 ≡ false
 
 abbrev pub EditsRenew : Type 0
-EditsRenew = (c : Crypto) (p : PublicState) (committer : ℕ) (used : List Used) (e : Edits) → edited c p committer used ≡ Ok e → AllByRecursion (IsRenewed p.tree e) (updates used)
+EditsRenew = (c : Crypto) (p : PublicState) (committer : ℕ) (used : List Used) (e : Edits) → apply_proposals c p committer used ≡ Ok e → AllByRecursion (IsRenewed p.tree e) (updates used)
 
 -- ---- members that are added
 
@@ -114,7 +114,7 @@ pub record IsJoiner (committer : ℕ) (e : Edits) (k : KeyPackage × ℕ) : Type
   pub other : k.1 ≢ committer
 
 abbrev pub EditsAdd : Type 0
-EditsAdd = (c : Crypto) (p : PublicState) (committer : ℕ) (used : List Used) (e : Edits) → IsSome (leaf_of p.tree committer) → edited c p committer used ≡ Ok e → AllByRecursion (IsJoiner committer e) (zip (adds used) e.added)
+EditsAdd = (c : Crypto) (p : PublicState) (committer : ℕ) (used : List Used) (e : Edits) → IsSome (leaf_of p.tree committer) → apply_proposals c p committer used ≡ Ok e → AllByRecursion (IsJoiner committer e) (zip (adds used) e.added)
 
 abbrev pub AddsCounted : Type 0
-AddsCounted = (c : Crypto) (p : PublicState) (committer : ℕ) (used : List Used) (e : Edits) → edited c p committer used ≡ Ok e → length e.added ≡ length (adds used)
+AddsCounted = (c : Crypto) (p : PublicState) (committer : ℕ) (used : List Used) (e : Edits) → apply_proposals c p committer used ≡ Ok e → length e.added ≡ length (adds used)

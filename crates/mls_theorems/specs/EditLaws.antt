@@ -10,7 +10,7 @@ use Rattle.mls_types.specs.declared.commit.Commit.{Commit}
 use Rattle.mls_types.specs.declared.content.FramedContent.{FramedContent}
 use Rattle.mls_suite.specs.Crypto.{Crypto}
 use Rattle.mls_checks.specs.Checks.{replaced_checks}
-use Rattle.mls_checks.specs.declared.checks.Source.TheVariants as made_for
+use Rattle.mls_checks.specs.declared.checks.Source.TheVariants as leaf_node_source
 use Rattle.mls_tree_model.specs.Node.{source_hash}
 use Rattle.mls_tree_model.specs.Term.{Term, leaf_of}
 use Rattle.mls_tree_model.specs.Sets.{has, same_bytes, is_distinct}
@@ -18,33 +18,33 @@ use Rattle.mls_tree_model.specs.Way.{path_length}
 use Rattle.mls_tree_model.specs.Merge.{merge_path, path_parent_hash}
 use Rattle.mls_tree_model.specs.Good.{has_distinct_keys, has_distinct_clients}
 use Rattle.mls_schedule.specs.Transcript.{confirmed_hash}
-use Rattle.mls_model.specs.Public.{PublicState, Used, provisional_context, confirmed_context}
-use Rattle.mls_model.specs.Proposals.{full_checks, updates, updated, removed, adds, package_reference, is_path_required}
-use Rattle.mls_model.specs.Commit.{Edits, Change, all_updated, all_removed, all_added, edited, node_keys, cipher_counts, due_counts, with_path, merged, body}
+use Rattle.mls_model.specs.PublicState.{PublicState, Used, provisional_context, confirmed_context}
+use Rattle.mls_model.specs.Proposals.{full_checks, updates, updated_leaves, removed_leaves, adds, package_reference, is_path_required}
+use Rattle.mls_model.specs.Commit.{Edits, Change, apply_updates, apply_removes, apply_adds, apply_proposals, node_keys, cipher_counts, due_counts, apply_update_path, apply_path_if, change_of_commit}
 
 -- the edits of a commit
 pub record IsEdited (c : Crypto) (p : PublicState) (committer : ℕ) (used : List Used) (e : Edits) : Type 0 where
   pub full : full_checks c p used ≡ Ok passed
-  pub not_updated : has (updated used) committer ≡ false
-  pub not_removed : has (removed used) committer ≡ false
-  pub apart : is_distinct nat_eq (updated used ++ removed used) ≡ true
+  pub not_updated : has (updated_leaves used) committer ≡ false
+  pub not_removed : has (removed_leaves used) committer ≡ false
+  pub apart : is_distinct nat_eq (updated_leaves used ++ removed_leaves used) ≡ true
   pub after_updates : Term
-  pub updating : all_updated p.tree (updates used) ≡ Ok after_updates
+  pub updating : apply_updates p.tree (updates used) ≡ Ok after_updates
   pub after_removes : Term
-  pub removing : all_removed after_updates (removed used) ≡ Ok after_removes
-  pub adding : all_added after_removes (adds used) ≡ Ok e
+  pub removing : apply_removes after_updates (removed_leaves used) ≡ Ok after_removes
+  pub adding : apply_adds after_removes (adds used) ≡ Ok e
   pub clients : has_distinct_clients e.tree ≡ true
   pub references : is_distinct same_bytes (map package_reference (adds used)) ≡ true
   pub keys : has_distinct_keys e.tree ≡ true
 
 abbrev pub EditedSteps : Type 0
-EditedSteps = (c : Crypto) (p : PublicState) (committer : ℕ) (used : List Used) (e : Edits) → edited c p committer used ≡ Ok e → IsEdited c p committer used e
+EditedSteps = (c : Crypto) (p : PublicState) (committer : ℕ) (used : List Used) (e : Edits) → apply_proposals c p committer used ≡ Ok e → IsEdited c p committer used e
 
 -- a path that was merged into the tree after them
 pub record IsWithPath (c : Crypto) (p : PublicState) (committer : ℕ) (e : Edits) (path : UpdatePath) (t : Term) : Type 0 where
   pub old : LeafNode
   pub is_old : leaf_of p.tree committer ≡ Some old
-  pub replaced : replaced_checks c path.leaf_node old made_for.Commit p.context.group_id committer ≡ Ok passed
+  pub replaced : replaced_checks c path.leaf_node old leaf_node_source.Commit p.context.group_id committer ≡ Ok passed
   pub count : length path.nodes ≡ path_length 0 e.tree committer
   pub counts : bytes_eq (cipher_counts path) (due_counts e committer) ≡ true
   pub fit : list_all c.key_ok (path.leaf_node.encryption_key ∷ node_keys path) ≡ true
@@ -56,15 +56,15 @@ pub record IsWithPath (c : Crypto) (p : PublicState) (committer : ℕ) (e : Edit
   pub tree : t ≡ merge_path e.tree committer path.leaf_node (node_keys path)
 
 abbrev pub WithPathSteps : Type 0
-WithPathSteps = (c : Crypto) (p : PublicState) (committer : ℕ) (e : Edits) (path : UpdatePath) (t : Term) → with_path c p committer e path ≡ Ok t → IsWithPath c p committer e path t
+WithPathSteps = (c : Crypto) (p : PublicState) (committer : ℕ) (e : Edits) (path : UpdatePath) (t : Term) → apply_update_path c p committer e path ≡ Ok t → IsWithPath c p committer e path t
 
 -- a whole commit
 pub record IsBody (c : Crypto) (p : PublicState) (committer : ℕ) (used : List Used) (commit : Commit) (said : FramedContent) (signature : List ℕ) (change : Change) : Type 0 where
-  pub edits : edited c p committer used ≡ Ok change.edits
+  pub edits : apply_proposals c p committer used ≡ Ok change.edits
   pub path : (is_some commit.path || not (is_path_required used)) ≡ true
-  pub merged : merged c p committer change.edits commit.path ≡ Ok change.tree
+  pub path_merged : apply_path_if c p committer change.edits commit.path ≡ Ok change.tree
   pub provisional : change.provisional ≡ provisional_context p.context change.tree
   pub context : change.context ≡ confirmed_context change.provisional (confirmed_hash p.interim 1 (framed_content.spell said) signature)
 
 abbrev pub BodySteps : Type 0
-BodySteps = (c : Crypto) (p : PublicState) (committer : ℕ) (used : List Used) (commit : Commit) (said : FramedContent) (signature : List ℕ) (change : Change) → body c p committer used commit said signature ≡ Ok change → IsBody c p committer used commit said signature change
+BodySteps = (c : Crypto) (p : PublicState) (committer : ℕ) (used : List Used) (commit : Commit) (said : FramedContent) (signature : List ℕ) (change : Change) → change_of_commit c p committer used commit said signature ≡ Ok change → IsBody c p committer used commit said signature change

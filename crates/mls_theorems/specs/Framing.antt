@@ -8,7 +8,7 @@ use Rattle.mls_model.specs.Member.{Member}
 use Rattle.mls_model.specs.Make.{MadePath}
 use Rattle.mls_model.specs.Verdict.{framing_checks}
 use Rattle.mls_model.specs.Agreement.{Agree, AgreeSecret, IsGoodMember}
-use Rattle.mls_theorems.specs.Sent.{sent_of}
+use Rattle.mls_theorems.specs.SentCommits.{sent_of}
 
 -- ---- the whole
 

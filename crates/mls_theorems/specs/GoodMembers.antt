@@ -9,11 +9,11 @@ use Rattle.mls_types.specs.declared.commit.ProposalOrRef.{ProposalOrRef}
 use Rattle.mls_suite.specs.Crypto.{Crypto, Lawful}
 use Rattle.mls_model.specs.declared.effect.Effect.{Effect}
 use Rattle.mls_model.specs.Agreement.{IsGoodMember, IsGoodCandidate}
-use Rattle.mls_model.specs.Candidate.{Candidate, new_candidate, created}
-use Rattle.mls_model.specs.Join.{Joined, join_verdict}
-use Rattle.mls_model.specs.Make.{committed}
+use Rattle.mls_model.specs.Candidate.{Candidate, new_candidate, create_group}
+use Rattle.mls_model.specs.Join.{JoinedMember, join_verdict}
+use Rattle.mls_model.specs.Make.{commit_call}
 use Rattle.mls_model.specs.Member.{Member, without_pending}
-use Rattle.mls_model.specs.Propose.{proposed_add, proposed_update, proposed_remove}
+use Rattle.mls_model.specs.Propose.{propose_add, propose_update, propose_remove}
 use Rattle.mls_model.specs.Verdict.{verdict}
 
 -- ---- candidates and groups
@@ -24,28 +24,28 @@ CandidatesGood = (c : Crypto) → Lawful c → (identity seed : List ℕ) (k : C
 
 -- one that creates a group is a good member of it
 abbrev pub CreatorsGood : Type 0
-CreatorsGood = (c : Crypto) (k : Candidate) (group seed : List ℕ) (m : Member) → IsGoodCandidate c k → created c k group seed ≡ Ok m → IsGoodMember c m
+CreatorsGood = (c : Crypto) (k : Candidate) (group seed : List ℕ) (m : Member) → IsGoodCandidate c k → create_group c k group seed ≡ Ok m → IsGoodMember c m
 
 -- and one that joins, whatever Welcome it was given
 abbrev pub JoinersGood : Type 0
-JoinersGood = (c : Crypto) (k : Candidate) (bytes : List ℕ) (joined : Joined) → IsGoodCandidate c k → join_verdict c k bytes ≡ Ok joined → IsGoodMember c joined.member
+JoinersGood = (c : Crypto) (k : Candidate) (bytes : List ℕ) (joined : JoinedMember) → IsGoodCandidate c k → join_verdict c k bytes ≡ Ok joined → IsGoodMember c joined.member
 
 -- ---- calls of a member
 
 -- a good member is good after each proposal that it makes
 abbrev pub AddsKeepGood : Type 0
-AddsKeepGood = (c : Crypto) (m : Member) (offered : KeyPackage) (x : List ℕ × Member) → IsGoodMember c m → key_package.Fits offered → proposed_add c m offered ≡ Ok x → IsGoodMember c x.1
+AddsKeepGood = (c : Crypto) (m : Member) (offered : KeyPackage) (x : List ℕ × Member) → IsGoodMember c m → key_package.Fits offered → propose_add c m offered ≡ Ok x → IsGoodMember c x.1
 
 abbrev pub UpdatesKeepGood : Type 0
-UpdatesKeepGood = (c : Crypto) (m : Member) (seed : List ℕ) (x : List ℕ × Member) → IsGoodMember c m → proposed_update c m seed ≡ Ok x → IsGoodMember c x.1
+UpdatesKeepGood = (c : Crypto) (m : Member) (seed : List ℕ) (x : List ℕ × Member) → IsGoodMember c m → propose_update c m seed ≡ Ok x → IsGoodMember c x.1
 
 abbrev pub RemovesKeepGood : Type 0
-RemovesKeepGood = (c : Crypto) (m : Member) (leaf : ℕ) (x : List ℕ × Member) → IsGoodMember c m → proposed_remove c m leaf ≡ Ok x → IsGoodMember c x.1
+RemovesKeepGood = (c : Crypto) (m : Member) (leaf : ℕ) (x : List ℕ × Member) → IsGoodMember c m → propose_remove c m leaf ≡ Ok x → IsGoodMember c x.1
 
 -- after each commit that it makes, with that as its pending one, and after it dropped it
 abbrev pub CommitsKeepGood : Type 0
 CommitsKeepGood = (c : Crypto) (m : Member) (list : List ProposalOrRef) (wants_path : Bool) (seed : List ℕ) (x : (List ℕ × Option (List ℕ)) × Member) →
-    IsGoodMember c m → AllByRecursion proposal_or_ref.Fits list → committed c m list wants_path seed ≡ Ok x → IsGoodMember c x.1
+    IsGoodMember c m → AllByRecursion proposal_or_ref.Fits list → commit_call c m list wants_path seed ≡ Ok x → IsGoodMember c x.1
 
 abbrev pub DropsKeepGood : Type 0
 DropsKeepGood = (c : Crypto) (m : Member) → IsGoodMember c m → IsGoodMember c (without_pending m)

@@ -4,7 +4,7 @@ use Rattle.std.specs.List.{AllByRecursion}
 use Rattle.mls_suite.specs.Crypto.{Crypto, Lawful}
 use Rattle.mls_model.specs.declared.event.Event.{Event}
 use Rattle.mls_model.specs.Headline.{Headline}
-use Rattle.mls_model.specs.Range.{IsInRange}
+use Rattle.mls_model.specs.EventRange.{IsInRange}
 use Rattle.mls_model.specs.Run.{step, run}
 use Rattle.mls_model.specs.World.{World, empty_world}
 

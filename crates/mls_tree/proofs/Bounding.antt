@@ -15,7 +15,7 @@ use Rattle.mls_tree_model.proofs.ShapeLaws.{width-put, width-enter}
 use Rattle.mls_tree_model.proofs.MergeLaws.{width-merge}
 use Rattle.mls_tree_model.proofs.PlaceLaws.{first_blank_at, first_blank_none, first_blank_first, leaf_at-put, leaf_at-enter, leaf_at-merge, leaf_at-grow, leaf_at-grown, leaf_at-trim, width-grow, width-trim}
 use Rattle.mls_tree_model.proofs.MemberLaws.{remove_elsewhere}
-use Rattle.mls_tree_array.specs.Ends.{taken_end}
+use Rattle.mls_tree_array.specs.EndOfMembers.{end_of_members}
 use Rattle.mls_tree_array.proofs.EndLaws.{end_before, blank_behind}
 use Rattle.mls_tree_array.specs.StandingLaws.{StandsFor}
 use Rattle.mls_tree.specs.Bounds.{Bounds}
@@ -54,7 +54,7 @@ module _ (t : Term) (full_to blank_from : ℕ) (bounds : Bounds t full_to blank_
       ]
 
   -- where leaf i is blanked
-  pub not_behind : (i : ℕ) → i < width t → taken_end 0 (put 0 t i None) ≤ blank_from
+  pub not_behind : (i : ℕ) → i < width t → end_of_members 0 (put 0 t i None) ≤ blank_from
   not_behind i inside =
       let w = width-put 0 t i None in
       end_before 0 (put 0 t i None) blank_from (omega arith)
@@ -130,7 +130,7 @@ module _ (t : Term) (full_to blank_from : ℕ) (bounds : Bounds t full_to blank_
       }
 
   -- leaf i is blanked, and the tree halved as long as its right half has no member
-  pub bounds-remove : (i n m : ℕ) → i < width t → n ≤ full_to → n ≤ i → m ≡ taken_end 0 (put 0 t i None) → Bounds (trim (put 0 t i None)) n m
+  pub bounds-remove : (i n m : ℕ) → i < width t → n ≤ full_to → n ≤ i → m ≡ end_of_members 0 (put 0 t i None) → Bounds (trim (put 0 t i None)) n m
   bounds-remove i n m inside less before end =
       let s = put 0 t i None in
       let w = width-put 0 t i None in
@@ -193,16 +193,16 @@ module _ (h full_to blank_from : ℕ) (xs : List (Option Node)) (old : Term) (vi
       subst (λ t. Bounds t full_to blank_from) (sym stands.term) (bounds-merge (term_of h xs) full_to blank_from bounds i x keys (here i some))
 
   -- leaf i is blanked
-  pub removal_end : (i j : ℕ) (ys cells : List (Option Node)) → cells ≡ ys → StandsFor j ys (put 0 (term_of h xs) i None) → IsSome (leaf_of old i) → taken_end 0 (term_of j cells) ≤ blank_from
+  pub removal_end : (i j : ℕ) (ys cells : List (Option Node)) → cells ≡ ys → StandsFor j ys (put 0 (term_of h xs) i None) → IsSome (leaf_of old i) → end_of_members 0 (term_of j cells) ≤ blank_from
   removal_end i j ys cells same stands some =
       let is : term_of j cells ≡ put 0 (term_of h xs) i None = ap (term_of j) same ∙ stands.term in
-      subst (λ t. taken_end 0 t ≤ blank_from) (sym is) (not_behind (term_of h xs) full_to blank_from bounds i (in_tree (term_of h xs) i (here i some)))
+      subst (λ t. end_of_members 0 t ≤ blank_from) (sym is) (not_behind (term_of h xs) full_to blank_from bounds i (in_tree (term_of h xs) i (here i some)))
 
-  pub removed : (i j k n m : ℕ) (ys cells zs : List (Option Node)) → cells ≡ ys → StandsFor j ys (put 0 (term_of h xs) i None) → StandsFor k zs (trim (term_of j ys)) → IsSome (leaf_of old i) → n ≤ full_to → n ≤ i → m ≡ taken_end 0 (term_of j cells) → Bounds (term_of k zs) n m
+  pub removed : (i j k n m : ℕ) (ys cells zs : List (Option Node)) → cells ≡ ys → StandsFor j ys (put 0 (term_of h xs) i None) → StandsFor k zs (trim (term_of j ys)) → IsSome (leaf_of old i) → n ≤ full_to → n ≤ i → m ≡ end_of_members 0 (term_of j cells) → Bounds (term_of k zs) n m
   removed i j k n m ys cells zs same stands trimmed some less before end =
       let is : term_of k zs ≡ trim (put 0 (term_of h xs) i None) = trimmed.term ∙ ap trim stands.term in
       subst (λ t. Bounds t n m) (sym is)
-      (bounds-remove (term_of h xs) full_to blank_from bounds i n m (in_tree (term_of h xs) i (here i some)) less before (end ∙ ap (λ ws. taken_end 0 (term_of j ws)) same ∙ ap (taken_end 0) stands.term))
+      (bounds-remove (term_of h xs) full_to blank_from bounds i n m (in_tree (term_of h xs) i (here i some)) less before (end ∙ ap (λ ws. end_of_members 0 (term_of j ws)) same ∙ ap (end_of_members 0) stands.term))
 
 -- where the leftmost blank leaf was looked for in a copy of the nodes
 module _ (h full_to blank_from : ℕ) (xs cells : List (Option Node)) (same : cells ≡ xs) (bounds : Bounds (term_of h xs) full_to blank_from) where

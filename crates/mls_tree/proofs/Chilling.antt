@@ -17,17 +17,17 @@ use Rattle.mls_tree_model.proofs.TakenLaws.{some_at, taken_at}
 use Rattle.mls_tree_model.proofs.ArrayLaws.{size-term_of, size-perfect, width-term_of, perfect-term_of}
 use Rattle.mls_tree_array.proofs.StandingLaws.{height-term_of}
 use Rattle.mls_tree_hash.specs.Counter.{counted}
-use Rattle.mls_tree_array.specs.Kept.{hashes_of, Keeps, is_cold_at, cold_places, dropped, upward}
-use Rattle.mls_tree_array.proofs.KeptLaws.{keeps_long, none_cold, none_counted, all_counted, cold_none, cold-append, length-dropped, cold-dropped, few_dropped, few_taken, cold_in_take}
+use Rattle.mls_tree_array.specs.KeptHashes.{hashes_of, Keeps, is_cold_at, cold_places, drop_hashes, nodes_upward}
+use Rattle.mls_tree_array.proofs.KeptLaws.{keeps_long, none_cold, none_counted, all_counted, cold_none, cold-append, length-drop_hashes, cold-drop_hashes, few_dropped, few_taken, cold_in_take}
 use Rattle.mls_tree.specs.Tree.{Tree, term}
-use Rattle.mls_tree.specs.Cold.{is_cold, cold_nodes, IsNew, Warms, Chills}
-use Rattle.mls_tree.proofs.Keepings.{grown_perfect}
+use Rattle.mls_tree.specs.ColdNodes.{is_cold, cold_nodes, IsNewTree, Warms, Chills}
+use Rattle.mls_tree.proofs.KeptHashes.{grown_perfect}
 
 -- a member's place is inside
 inside : (t : Term) (i : ℕ) → is_some (leaf_of t i) ≡ true → i < width t
 inside t i some = let found = some_at (leaf_of t i) some in (taken_at t i found.0 found.1).inside
 
-pub new_tree : (t : Tree) (n : ℕ) → t.kept ≡ replicate n None → n ≡ size (term t) → t.done ≡ 0 → IsNew t
+pub new_tree : (t : Tree) (n : ℕ) → t.kept ≡ replicate n None → n ≡ size (term t) → t.done ≡ 0 → IsNewTree t
 new_tree t n kept all none =
     record {
       each = λ k lt. ap (λ hs. is_cold_at hs k) kept ∙ cold_none n k (omega arith);
@@ -57,7 +57,7 @@ or_middle p q r e = rw e refl
 
 module _ (t : Term) (i : ℕ) (old new : Tree) (is : term old ≡ t) (in_tree : i < width t) (shape : is_perfect (height t) t ≡ true) (same : new.done ≡ old.done) where
   -- an edit in place
-  pub chilled_in : new.kept ≡ dropped 0 t i old.kept → size (term new) ≡ size t → length old.kept ≡ size t → Chills t i old new
+  pub chilled_in : new.kept ≡ drop_hashes 0 t i old.kept → size (term new) ≡ size t → length old.kept ≡ size t → Chills t i old new
   chilled_in kept as_large long =
       record {
         each = λ n lt.
@@ -66,16 +66,16 @@ module _ (t : Term) (i : ℕ) (old new : Tree) (is : term old ≡ t) (in_tree : 
             let at : 2 * 0 + n ≡ n = omega arith in
             let outside : nat_le (size (term old)) n ≡ false = lt-leb (size (term old)) n (subst (λ u. n < size u) (sym is) less) in
             ap (λ hs. is_cold_at hs n) kept
-            ∙ cold-dropped 0 t i old.kept n long (omega arith) high less
-            ∙ ap (λ x. is_cold old n || has (upward 0 t i) x) at
-            ∙ or_middle (is_cold old n) (has (upward 0 t i) n) _ outside;
-        whole = ap length kept ∙ length-dropped 0 t i old.kept long ∙ sym as_large;
-        few = let few = few_dropped (height t) 0 t i old.kept shape long in let e : cold_nodes new ≡ cold_places (dropped 0 t i old.kept) = ap cold_places kept in omega arith;
+            ∙ cold-drop_hashes 0 t i old.kept n long (omega arith) high less
+            ∙ ap (λ x. is_cold old n || has (nodes_upward 0 t i) x) at
+            ∙ or_middle (is_cold old n) (has (nodes_upward 0 t i) n) _ outside;
+        whole = ap length kept ∙ length-drop_hashes 0 t i old.kept long ∙ sym as_large;
+        few = let few = few_dropped (height t) 0 t i old.kept shape long in let e : cold_nodes new ≡ cold_places (drop_hashes 0 t i old.kept) = ap cold_places kept in omega arith;
         done = same;
       }
 
   -- an edit of which only the first nodes are left
-  pub chilled_front : (m : ℕ) → new.kept ≡ take m (dropped 0 t i old.kept) → size (term new) ≡ m → m ≤ size t → length old.kept ≡ size t → Chills t i old new
+  pub chilled_front : (m : ℕ) → new.kept ≡ take m (drop_hashes 0 t i old.kept) → size (term new) ≡ m → m ≤ size t → length old.kept ≡ size t → Chills t i old new
   chilled_front m kept as_large fits long =
       record {
         each = λ n lt.
@@ -84,15 +84,15 @@ module _ (t : Term) (i : ℕ) (old new : Tree) (is : term old ≡ t) (in_tree : 
             let at : 2 * 0 + n ≡ n = omega arith in
             let outside : nat_le (size (term old)) n ≡ false = lt-leb (size (term old)) n (subst (λ u. n < size u) (sym is) less) in
             ap (λ hs. is_cold_at hs n) kept
-            ∙ cold_in_take m n (dropped 0 t i old.kept) (omega arith)
-            ∙ cold-dropped 0 t i old.kept n long (omega arith) high less
-            ∙ ap (λ x. is_cold old n || has (upward 0 t i) x) at
-            ∙ or_middle (is_cold old n) (has (upward 0 t i) n) _ outside;
-        whole = ap length kept ∙ length-take-le m (dropped 0 t i old.kept) (let all = length-dropped 0 t i old.kept long in omega arith) ∙ sym as_large;
+            ∙ cold_in_take m n (drop_hashes 0 t i old.kept) (omega arith)
+            ∙ cold-drop_hashes 0 t i old.kept n long (omega arith) high less
+            ∙ ap (λ x. is_cold old n || has (nodes_upward 0 t i) x) at
+            ∙ or_middle (is_cold old n) (has (nodes_upward 0 t i) n) _ outside;
+        whole = ap length kept ∙ length-take-le m (drop_hashes 0 t i old.kept) (let all = length-drop_hashes 0 t i old.kept long in omega arith) ∙ sym as_large;
         few =
             let few = few_dropped (height t) 0 t i old.kept shape long in
-            let cut = few_taken m (dropped 0 t i old.kept) in
-            let e : cold_nodes new ≡ cold_places (take m (dropped 0 t i old.kept)) = ap cold_places kept in
+            let cut = few_taken m (drop_hashes 0 t i old.kept) in
+            let e : cold_nodes new ≡ cold_places (take m (drop_hashes 0 t i old.kept)) = ap cold_places kept in
             omega arith;
         done = same;
       }
@@ -116,7 +116,7 @@ or_three : (p q r : Bool) → ((p || q) || r) ≡ (p || (q || r))
 or_three true q r = refl
 or_three false q r = refl
 
-pub chilled_beside : (g : Term) (i k : ℕ) (old new : Tree) → i < width g → is_perfect (height g) g ≡ true → new.done ≡ old.done → new.kept ≡ dropped 0 g i (old.kept ++ replicate k None) → size (term new) ≡ size g → length old.kept ≡ size (term old) → size g ≡ size (term old) + k → Chills g i old new
+pub chilled_beside : (g : Term) (i k : ℕ) (old new : Tree) → i < width g → is_perfect (height g) g ≡ true → new.done ≡ old.done → new.kept ≡ drop_hashes 0 g i (old.kept ++ replicate k None) → size (term new) ≡ size g → length old.kept ≡ size (term old) → size g ≡ size (term old) + k → Chills g i old new
 chilled_beside g i k old new in_tree shape same kept as_large long grown =
     let all : length (old.kept ++ replicate k None) ≡ size g = length-append old.kept (replicate k None) ∙ ap (λ m. length old.kept + m) (length-replicate k None) ∙ omega arith in
     record {
@@ -125,15 +125,15 @@ chilled_beside g i k old new in_tree shape same kept as_large long grown =
           let high : i < 0 + width g = omega arith in
           let at : 2 * 0 + n ≡ n = omega arith in
           ap (λ hs. is_cold_at hs n) kept
-          ∙ cold-dropped 0 g i (old.kept ++ replicate k None) n all (omega arith) high less
-          ∙ ap (λ x. is_cold_at (old.kept ++ replicate k None) n || has (upward 0 g i) x) at
-          ∙ ap (λ v. v || has (upward 0 g i) n) (cold_behind old.kept k (size (term old)) n long (omega arith))
-          ∙ or_three (is_cold old n) (nat_le (size (term old)) n) (has (upward 0 g i) n);
-      whole = ap length kept ∙ length-dropped 0 g i (old.kept ++ replicate k None) all ∙ sym as_large;
+          ∙ cold-drop_hashes 0 g i (old.kept ++ replicate k None) n all (omega arith) high less
+          ∙ ap (λ x. is_cold_at (old.kept ++ replicate k None) n || has (nodes_upward 0 g i) x) at
+          ∙ ap (λ v. v || has (nodes_upward 0 g i) n) (cold_behind old.kept k (size (term old)) n long (omega arith))
+          ∙ or_three (is_cold old n) (nat_le (size (term old)) n) (has (nodes_upward 0 g i) n);
+      whole = ap length kept ∙ length-drop_hashes 0 g i (old.kept ++ replicate k None) all ∙ sym as_large;
       few =
           let few = few_dropped (height g) 0 g i (old.kept ++ replicate k None) shape all in
           let sum : cold_places (old.kept ++ replicate k None) ≡ cold_nodes old + k = cold-append old.kept (replicate k None) ∙ ap (λ m. cold_nodes old + m) (all_counted k) in
-          let e : cold_nodes new ≡ cold_places (dropped 0 g i (old.kept ++ replicate k None)) = ap cold_places kept in
+          let e : cold_nodes new ≡ cold_places (drop_hashes 0 g i (old.kept ++ replicate k None)) = ap cold_places kept in
           omega arith;
       done = same;
     }
@@ -150,12 +150,12 @@ module _ (h i : ℕ) (xs : List (Option Node)) (hs : List (Option (List ℕ))) (
   in_tree : i < width (term_of h xs)
   in_tree = inside (term_of h xs) i (ap (λ t. is_some (leaf_of (term t) i)) view ∙ is_member)
 
-  pub edited_in : (ys : List (Option Node)) (gs : List (Option (List ℕ))) (e : ℕ) → gs ≡ dropped 0 (term_of h xs) i hs → e ≡ d → Chills (term old) i old (tree_of h ys gs e)
+  pub edited_in : (ys : List (Option Node)) (gs : List (Option (List ℕ))) (e : ℕ) → gs ≡ drop_hashes 0 (term_of h xs) i hs → e ≡ d → Chills (term old) i old (tree_of h ys gs e)
   edited_in ys gs e is same =
       subst (λ o. Chills (term o) i o (tree_of h ys gs e)) view
       (chilled_in (term_of h xs) i (tree_of h xs hs d) (tree_of h ys gs e) refl in_tree (perfect_here h xs) same is (size-term_of h ys ∙ sym (size-term_of h xs)) (keeps_long 0 (term_of h xs) hs keeps))
 
-  pub trimmed_in : (j n : ℕ) (ys : List (Option Node)) (gs fs : List (Option (List ℕ))) (e : ℕ) → gs ≡ dropped 0 (term_of h xs) i hs → fs ≡ take n gs → n ≡ nodes_in j → j ≤ h → e ≡ d → Chills (term old) i old (tree_of j ys fs e)
+  pub trimmed_in : (j n : ℕ) (ys : List (Option Node)) (gs fs : List (Option (List ℕ))) (e : ℕ) → gs ≡ drop_hashes 0 (term_of h xs) i hs → fs ≡ take n gs → n ≡ nodes_in j → j ≤ h → e ≡ d → Chills (term old) i old (tree_of j ys fs e)
   trimmed_in j n ys gs fs e is cut all low same =
       let fits : n ≤ size (term_of h xs) = let a = size-term_of h xs in let b = up j h low in omega arith in
       subst (λ o. Chills (term o) i o (tree_of j ys fs e)) view
@@ -169,14 +169,14 @@ module _ (h : ℕ) (xs cells : List (Option Node)) (hs : List (Option (List ℕ)
   first_is : (o : Option ℕ) → o ≡ first_blank 0 (term_of h cells) → first_blank 0 (term old) ≡ o
   first_is o e = sym (e ∙ ap (λ ys. first_blank 0 (term_of h ys)) same_cells ∙ ap (λ t. first_blank 0 (term t)) view)
 
-  pub added_in : (i : ℕ) → Some i ≡ first_blank 0 (term_of h cells) → (ys : List (Option Node)) (gs : List (Option (List ℕ))) (e : ℕ) → gs ≡ dropped 0 (term_of h xs) i hs → e ≡ d → Chills (room_for (first_blank 0 (term old)) (term old)) i old (tree_of h ys gs e)
+  pub added_in : (i : ℕ) → Some i ≡ first_blank 0 (term_of h cells) → (ys : List (Option Node)) (gs : List (Option (List ℕ))) (e : ℕ) → gs ≡ drop_hashes 0 (term_of h xs) i hs → e ≡ d → Chills (room_for (first_blank 0 (term old)) (term old)) i old (tree_of h ys gs e)
   added_in i some ys gs e is same =
       let found = first_blank_at 0 (term_of h xs) i (ap (λ t. first_blank 0 (term t)) view ∙ first_is (Some i) some) in
       rw (first_is (Some i) some)
       (subst (λ o. Chills (term o) i o (tree_of h ys gs e)) view
       (chilled_in (term_of h xs) i (tree_of h xs hs d) (tree_of h ys gs e) refl (omega (arith, found.1)) (perfect_here h xs) same is (size-term_of h ys ∙ sym (size-term_of h xs)) (keeps_long 0 (term_of h xs) hs keeps)))
 
-  pub added_beside : (i : ℕ) → None ≡ first_blank 0 (term_of h cells) → i ≡ 2 ^ h → (ys : List (Option Node)) (gs : List (Option (List ℕ))) (e : ℕ) → gs ≡ dropped 0 (grow (term_of h xs)) (2 ^ h) (hs ++ replicate (suc (nodes_in h)) None) → e ≡ d → Chills (room_for (first_blank 0 (term old)) (term old)) i old (tree_of (h + 1) ys gs e)
+  pub added_beside : (i : ℕ) → None ≡ first_blank 0 (term_of h cells) → i ≡ 2 ^ h → (ys : List (Option Node)) (gs : List (Option (List ℕ))) (e : ℕ) → gs ≡ drop_hashes 0 (grow (term_of h xs)) (2 ^ h) (hs ++ replicate (suc (nodes_in h)) None) → e ≡ d → Chills (room_for (first_blank 0 (term old)) (term old)) i old (tree_of (h + 1) ys gs e)
   added_beside i none at ys gs e is same =
       let g = grow (term_of h xs) in
       let wide : width (term_of h xs) < width g = width-grow (term_of h xs) in

@@ -16,7 +16,7 @@ use Rattle.mls_tree_index.specs.Indexes.{Listing, Indexes}
 use Rattle.mls_tree_index.proofs.Laws.{indexes_alike}
 use Rattle.mls_tree_array.specs.Standing.{Stands}
 use Rattle.mls_tree_array.specs.StandingLaws.{StandsFor}
-use Rattle.mls_tree.specs.Indexed.{IsClient}
+use Rattle.mls_tree.specs.IndexedKeys.{IsClient}
 use Rattle.mls_tree.proofs.WayIndexes.{listed}
 
 -- the signature keys of a tree's nodes in order

@@ -1,7 +1,7 @@
 -- What hashing costs over many calls.
 use Rattle.std.proofs.Common.{◌≡◌, ℕ, suc, ◌+◌, ◌*◌, ◌≤◌, List, [], ◌∷◌, arith}
 use Rattle.mls_tree.specs.Tree.{Tree}
-use Rattle.mls_tree.specs.Cold.{cold_nodes, Warms, Call, Asks, Edits, Makes, Called, MakesAll, last_of, one_edit, edits, one_doubling, doubled, FewHashes}
+use Rattle.mls_tree.specs.ColdNodes.{cold_nodes, Warms, Call, Asks, Edits, Makes, Called, MakesAll, last_of, one_edit, edits, one_doubling, doubled, FewHashes}
 
 asked : (old new : Tree) → Warms old new → new.done + cold_nodes new ≤ old.done + cold_nodes old
 asked old new w = let a = w.fewer in let b = w.done in omega arith

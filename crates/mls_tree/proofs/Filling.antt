@@ -5,7 +5,7 @@ use Rattle.mls_leaf.specs.Parent.{Parent}
 use Rattle.mls_leaf.specs.declared.leaf.LeafNode.{LeafNode}
 use Rattle.mls_treemath.specs.Paths.{nodes_in}
 use Rattle.mls_tree_model.specs.Term.{Term, Leaf, Branch, width, is_perfect, leaf_at}
-use Rattle.mls_tree_model.specs.Edits.{enter, listing}
+use Rattle.mls_tree_model.specs.Edits.{enter, list_leaf}
 use Rattle.mls_tree_model.specs.Arrays.{leaf_cell, parent_cell, in_order}
 use Rattle.mls_tree_model.proofs.Equations.{enter_leaf, enter_left, enter_right, leaf_at_leaf, leaf_at_left, leaf_at_right}
 use Rattle.mls_tree_model.proofs.ShapeLaws.{width-perfect, width-enter, perfect-enter}
@@ -15,11 +15,11 @@ use Rattle.mls_tree_index.specs.declared.kind.KeyKind.{KeyKind}
 use Rattle.mls_tree_index.specs.declared.kind.KeyKind.TheVariants.{Encryption, Signature}
 use Rattle.mls_tree_index.specs.Keys.{key_of}
 use Rattle.mls_tree_index.proofs.CountLaws.{none_blank}
-use Rattle.mls_tree.specs.Indexed.{Fills}
+use Rattle.mls_tree.specs.IndexedKeys.{Fills}
 use Rattle.mls_tree.proofs.BesideLaws.{in_left, in_right, at_root, long_as}
 
 -- a list of unmerged leaves is no key
-listed_key : (k : KeyKind) (i : ℕ) (c : Option Parent) → key_of k (parent_cell (listing i c)) ≡ key_of k (parent_cell c)
+listed_key : (k : KeyKind) (i : ℕ) (c : Option Parent) → key_of k (parent_cell (list_leaf i c)) ≡ key_of k (parent_cell c)
 listed_key Encryption i None = refl
 listed_key Signature i None = refl
 listed_key Encryption i (Some p) = refl
@@ -47,20 +47,20 @@ same_key k (suc h) b (Branch c l r) i x p low high y other =
           let new = long_as h l u sides.0 (width-enter b l i x) in
           rw (enter_left b c l r i x lt)
           (elim (cases_order y (nodes_in h)) [
-            | inl same ↦ ap (key_of k) (at_root h b i y c l r long same) ∙ sym (listed_key k i c) ∙ sym (ap (key_of k) (at_root h b i y (listing i c) u r new same))
-            | inr (inl less) ↦ ap (key_of k) (in_left h b i y c l r long less) ∙ same_key k h b l i x sides.0 low lt y other ∙ sym (ap (key_of k) (in_left h b i y (listing i c) u r new less))
-            | inr (inr more) ↦ ap (key_of k) (in_right h b i y c l r long more) ∙ sym (ap (key_of k) (in_right h b i y (listing i c) u r new more))
+            | inl same ↦ ap (key_of k) (at_root h b i y c l r long same) ∙ sym (listed_key k i c) ∙ sym (ap (key_of k) (at_root h b i y (list_leaf i c) u r new same))
+            | inr (inl less) ↦ ap (key_of k) (in_left h b i y c l r long less) ∙ same_key k h b l i x sides.0 low lt y other ∙ sym (ap (key_of k) (in_left h b i y (list_leaf i c) u r new less))
+            | inr (inr more) ↦ ap (key_of k) (in_right h b i y c l r long more) ∙ sym (ap (key_of k) (in_right h b i y (list_leaf i c) u r new more))
           ])
       | inr ge ↦
           let u = enter (b + width l) r i x in
           rw (enter_right b c l r i x ge)
           (elim (cases_order y (nodes_in h)) [
-            | inl same ↦ ap (key_of k) (at_root h b i y c l r long same) ∙ sym (listed_key k i c) ∙ sym (ap (key_of k) (at_root h b i y (listing i c) l u long same))
-            | inr (inl less) ↦ ap (key_of k) (in_left h b i y c l r long less) ∙ sym (ap (key_of k) (in_left h b i y (listing i c) l u long less))
+            | inl same ↦ ap (key_of k) (at_root h b i y c l r long same) ∙ sym (listed_key k i c) ∙ sym (ap (key_of k) (at_root h b i y (list_leaf i c) l u long same))
+            | inr (inl less) ↦ ap (key_of k) (in_left h b i y c l r long less) ∙ sym (ap (key_of k) (in_left h b i y (list_leaf i c) l u long less))
             | inr (inr more) ↦
                 ap (key_of k) (in_right h b i y c l r long more)
                 ∙ same_key k h (b + width l) r i x sides.1 ge (omega arith) (y - suc (nodes_in h)) (λ e. other (omega arith))
-                ∙ sym (ap (key_of k) (in_right h b i y (listing i c) l u long more))
+                ∙ sym (ap (key_of k) (in_right h b i y (list_leaf i c) l u long more))
           ])
     ]
 

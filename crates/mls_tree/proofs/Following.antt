@@ -17,16 +17,16 @@ use Rattle.mls_tree_model.specs.Arrays.{term_of}
 use Rattle.mls_tree_model.proofs.ArrayLaws.{perfect-term_of}
 use Rattle.mls_tree_model.proofs.PlaceLaws.{perfect-merge}
 use Rattle.mls_tree_hash.specs.Counter.{counted}
-use Rattle.mls_tree_array.specs.Kept.{hashes_of, Keeps, dropped, cold_places}
+use Rattle.mls_tree_array.specs.KeptHashes.{hashes_of, Keeps, drop_hashes, cold_places}
 use Rattle.mls_tree_array.proofs.KeptLaws.{hashes_of_branch, length-hashes_of, left_part, right_part, dropped_leaf, dropped_left, dropped_right, cold-append, cold-cons, none_cold}
 use Rattle.mls_tree_array.specs.Merging.{path_parents}
 use Rattle.mls_tree_array.specs.StandingLaws.{StandsFor}
 use Rattle.mls_tree_array.specs.WayHashes.{way_hashes, HashesMerged, PutsHashes}
 use Rattle.mls_tree_array.proofs.WayHashLaws.{length-way_hashes}
 use Rattle.mls_tree.specs.Tree.{Tree, term}
-use Rattle.mls_tree.specs.Cold.{Warms, Chills}
+use Rattle.mls_tree.specs.ColdNodes.{Warms, Chills}
 use Rattle.mls_tree.specs.Paths.{merge_checks, merge_answer}
-use Rattle.mls_tree.specs.Prepared.{Prepared, IsPrepared, IsFor, keys_of, merged_by}
+use Rattle.mls_tree.specs.PreparedPath.{Prepared, IsPrepared, IsFor, keys_of, merged_by}
 use Rattle.mls_tree.proofs.Steps.{merge_steps}
 use Rattle.mls_tree.proofs.Pathing.{merge_is, merge_done}
 use Rattle.mls_tree.proofs.Chilling.{tree_of, warmed, edited_in}
@@ -140,7 +140,7 @@ abbrev pub IsWarmedEdit : ℕ → Tree → Tree → Type 0
 IsWarmedEdit i old new = (between : Tree) × Chills (term old) i old between × (term between ≡ term new) × Warms between new
 
 -- where all were kept, those of a leaf and of the nodes over it are missing after an edit
-way_cold : (h b : ℕ) (t : Term) (i : ℕ) → is_perfect h t ≡ true → cold_places (dropped b t i (hashes_of b t)) ≡ suc h
+way_cold : (h b : ℕ) (t : Term) (i : ℕ) → is_perfect h t ≡ true → cold_places (drop_hashes b t i (hashes_of b t)) ≡ suc h
 unfolding is_perfect
 way_cold zero b (Leaf v) i p = ap cold_places (dropped_leaf b v i (hashes_of b (Leaf v))) ∙ one_cold []
 way_cold (suc h) b (Leaf v) i p = absurd (true≢false (sym p))
@@ -153,14 +153,14 @@ way_cold (suc h) b (Branch c l r) i p =
     let back : drop (suc (size l)) hs ≡ hashes_of (b + width l) r = ap (drop (suc (size l))) (hashes_of_branch b c l r) ∙ right_part (hashes_of b l) (hashes_of (b + width l) r) top (size l) (length-hashes_of b l) in
     elim (cases_lt i (b + width l)) [
       | inl lt ↦
-          let new : List (Option (List ℕ)) = dropped b l i (take (size l) hs) in
-          let below : cold_places new ≡ suc h = ap (λ ys. cold_places (dropped b l i ys)) front ∙ way_cold h b l i sides.0 in
+          let new : List (Option (List ℕ)) = drop_hashes b l i (take (size l) hs) in
+          let below : cold_places new ≡ suc h = ap (λ ys. cold_places (drop_hashes b l i ys)) front ∙ way_cold h b l i sides.0 in
           let beside : cold_places (drop (suc (size l)) hs) ≡ 0 = ap cold_places back ∙ none_cold (b + width l) r in
           let own = one_cold (drop (suc (size l)) hs) in
           ap cold_places (dropped_left b c l r i hs lt) ∙ cold-append new (None ∷ drop (suc (size l)) hs) ∙ omega arith
       | inr ge ↦
-          let new : List (Option (List ℕ)) = dropped (b + width l) r i (drop (suc (size l)) hs) in
-          let below : cold_places new ≡ suc h = ap (λ ys. cold_places (dropped (b + width l) r i ys)) back ∙ way_cold h (b + width l) r i sides.1 in
+          let new : List (Option (List ℕ)) = drop_hashes (b + width l) r i (drop (suc (size l)) hs) in
+          let below : cold_places new ≡ suc h = ap (λ ys. cold_places (drop_hashes (b + width l) r i ys)) back ∙ way_cold h (b + width l) r i sides.1 in
           let beside : cold_places (take (size l) hs) ≡ 0 = ap cold_places front ∙ none_cold b l in
           let own = one_cold new in
           ap cold_places (dropped_right b c l r i hs ge) ∙ cold-append (take (size l) hs) (None ∷ new) ∙ omega arith
@@ -169,8 +169,8 @@ way_cold (suc h) b (Branch c l r) i p =
 module _ (h i : ℕ) (xs : List (Option Node)) (hs : List (Option (List ℕ))) (d : ℕ) (old : Tree) (view : tree_of h xs hs d ≡ old) (keeps : Keeps 0 (term_of h xs) hs) (is_member : is_some (leaf_of (term old) i) ≡ true) where
   pub followed_in : (ys : List (Option Node)) (gs : List (Option (List ℕ))) (e : ℕ) → hs ≡ hashes_of 0 (term_of h xs) → gs ≡ hashes_of 0 (term_of h ys) → e ≡ counted d (suc h) → IsWarmedEdit i old (tree_of h ys gs e)
   followed_in ys gs e all now more =
-      let cold : List (Option (List ℕ)) = dropped 0 (term_of h xs) i hs in
-      let many : cold_places cold ≡ suc h = ap (λ ks. cold_places (dropped 0 (term_of h xs) i ks)) all ∙ way_cold h 0 (term_of h xs) i (perfect-term_of h xs) in (
+      let cold : List (Option (List ℕ)) = drop_hashes 0 (term_of h xs) i hs in
+      let many : cold_places cold ≡ suc h = ap (λ ks. cold_places (drop_hashes 0 (term_of h xs) i ks)) all ∙ way_cold h 0 (term_of h xs) i (perfect-term_of h xs) in (
         tree_of h ys cold d,
         edited_in h i xs hs d old view keeps is_member ys cold d refl refl,
         refl,

@@ -20,18 +20,18 @@ use Rattle.mls_tree_array.specs.StandingLaws.{StandsFor}
 use Rattle.mls_tree_array.proofs.StandingLaws.{in_order-grow, no_more_nodes, stands_for-trim}
 use Rattle.mls_tree_index.specs.declared.kind.KeyKind.{KeyKind}
 use Rattle.mls_tree_index.specs.Indexes.{Listing, Indexes, Without}
-use Rattle.mls_tree_index.specs.Cleared.{cleared}
+use Rattle.mls_tree_index.specs.BlankedCells.{cells_without}
 use Rattle.mls_tree_index.proofs.StepLaws.{same_index}
 use Rattle.mls_tree_index.proofs.Laws.{indexes_padded}
 use Rattle.mls_tree.specs.declared.key_indexes.KeyIndexes.{KeyIndexes}
-use Rattle.mls_tree.specs.Indexed.{AreIndexes, AreBeside, AreSame, Fills, IsClient}
+use Rattle.mls_tree.specs.IndexedKeys.{AreIndexes, AreBeside, AreSame, Fills, IsClient}
 use Rattle.mls_tree.proofs.ClientLaws.{indexes-client}
 use Rattle.mls_tree.specs.Way.{way_numbers}
 use Rattle.mls_tree.proofs.WayLaws.{way_distinct}
 use Rattle.mls_tree.proofs.WayIndexes.{indexes-put, indexes-merge}
 use Rattle.mls_tree.proofs.WayIndexes.{indexes-remove}
 use Rattle.mls_tree.proofs.Filling.{filled}
-use Rattle.mls_tree.proofs.Keepings.{grown_perfect}
+use Rattle.mls_tree.proofs.KeptHashes.{grown_perfect}
 use Rattle.mls_tree.proofs.Pathing.{merge_is}
 
 -- ---- both at once
@@ -72,10 +72,10 @@ listed : (h : ℕ) (ys : List (Option Node)) (t : Term) → StandsFor h ys t →
 listed h ys t edited = sym (ap in_order edited.term) ∙ edited.stands.order
 
 module _ (h i : ℕ) (xs ys : List (Option Node)) (s : KeyIndexes) (stands : Stands h xs) where
-  pub indexed-put : (x : Option LeafNode) → StandsFor h ys (put 0 (term_of h xs) i x) → AreIndexes (cleared 0 (way_numbers h i) xs) s → AreIndexes (cleared 0 (way_numbers h i) ys) s
+  pub indexed-put : (x : Option LeafNode) → StandsFor h ys (put 0 (term_of h xs) i x) → AreIndexes (cells_without 0 (way_numbers h i) xs) s → AreIndexes (cells_without 0 (way_numbers h i) ys) s
   indexed-put x edited = both_of _ _ s (λ t. indexes-put h i xs stands t ys x edited)
 
-  pub indexed-remove : StandsFor h ys (put 0 (term_of h xs) i None) → AreIndexes (cleared 0 (way_numbers h i) xs) s → AreIndexes ys s
+  pub indexed-remove : StandsFor h ys (put 0 (term_of h xs) i None) → AreIndexes (cells_without 0 (way_numbers h i) xs) s → AreIndexes ys s
   indexed-remove edited = both_of _ _ s (λ t. indexes-remove h i xs stands t ys edited)
 
   pub indexed-merge : (x : LeafNode) (keys : List (List ℕ)) (kept : Bool) → (kept ≡ true → IsClient x.signature_key (leaf_of (term_of h xs) i)) → StandsFor h ys (merge_path (term_of h xs) i x keys) → AreBeside kept (way_numbers h i) xs s → AreBeside kept (way_numbers h i) ys s
@@ -86,10 +86,10 @@ module _ (h i : ℕ) (xs ys : List (Option Node)) (s : KeyIndexes) (stands : Sta
     clients = clients kept client is.clients;
   }
     where
-      beside : (t : Listing) → Indexes (cleared 0 (way_numbers h i) xs) t → Indexes (cleared 0 (way_numbers h i) ys) t
+      beside : (t : Listing) → Indexes (cells_without 0 (way_numbers h i) xs) t → Indexes (cells_without 0 (way_numbers h i) ys) t
       beside t = indexes-merge h i xs stands t ys _ _ x (subst (StandsFor h ys) (sym (merge_is (term_of h xs) i x keys)) edited)
 
-      clients : (v : Bool) → (v ≡ true → IsClient x.signature_key (leaf_of (term_of h xs) i)) → Indexes (cond v xs (cleared 0 (way_numbers h i) xs)) s.clients → Indexes (cond v ys (cleared 0 (way_numbers h i) ys)) s.clients
+      clients : (v : Bool) → (v ≡ true → IsClient x.signature_key (leaf_of (term_of h xs) i)) → Indexes (cond v xs (cells_without 0 (way_numbers h i) xs)) s.clients → Indexes (cond v ys (cells_without 0 (way_numbers h i) ys)) s.clients
       clients true own = indexes-client h i xs ys stands x keys (own refl) s.clients is.signature edited
       clients false own = beside s.clients
 
@@ -119,16 +119,16 @@ indexed-padded n xs s = both_of _ _ s (λ t. indexes_padded t xs n)
 -- ---- step by step
 
 -- the cells on the way left
-pub left_by : (ns places : List ℕ) (xs cells : List (Option Node)) (s t : KeyIndexes) → places ≡ ns → cells ≡ xs → (AreIndexes cells s → AreIndexes (cleared 0 places cells) t) → AreIndexes xs s → AreIndexes (cleared 0 ns xs) t
+pub left_by : (ns places : List ℕ) (xs cells : List (Option Node)) (s t : KeyIndexes) → places ≡ ns → cells ≡ xs → (AreIndexes cells s → AreIndexes (cells_without 0 places cells) t) → AreIndexes xs s → AreIndexes (cells_without 0 ns xs) t
 left_by ns places xs cells s t way same left is =
-    subst (λ ms. AreIndexes (cleared 0 ms xs) t) way
-    (subst (λ cs. AreIndexes (cleared 0 places cs) t) same (left (subst (λ cs. AreIndexes cs s) (sym same) is)))
+    subst (λ ms. AreIndexes (cells_without 0 ms xs) t) way
+    (subst (λ cs. AreIndexes (cells_without 0 places cs) t) same (left (subst (λ cs. AreIndexes cs s) (sym same) is)))
 
 -- and entered again
-pub entered_by : (ns places : List ℕ) (ys cells : List (Option Node)) (s t : KeyIndexes) → places ≡ ns → cells ≡ ys → (AreIndexes (cleared 0 places cells) s → AreIndexes cells t) → AreIndexes (cleared 0 ns ys) s → AreIndexes ys t
+pub entered_by : (ns places : List ℕ) (ys cells : List (Option Node)) (s t : KeyIndexes) → places ≡ ns → cells ≡ ys → (AreIndexes (cells_without 0 places cells) s → AreIndexes cells t) → AreIndexes (cells_without 0 ns ys) s → AreIndexes ys t
 entered_by ns places ys cells s t way same entered is =
     subst (λ cs. AreIndexes cs t) same
-    (entered (subst (λ ms. AreIndexes (cleared 0 ms cells) s) (sym way) (subst (λ cs. AreIndexes (cleared 0 ns cs) s) (sym same) is)))
+    (entered (subst (λ ms. AreIndexes (cells_without 0 ms cells) s) (sym way) (subst (λ cs. AreIndexes (cells_without 0 ns cs) s) (sym same) is)))
 
 -- the same of a path
 pub left_beside : (kept : Bool) (ns places : List ℕ) (xs cells : List (Option Node)) (s t : KeyIndexes) → places ≡ ns → cells ≡ xs → (AreIndexes cells s → AreBeside kept places cells t) → AreIndexes xs s → AreBeside kept ns xs t

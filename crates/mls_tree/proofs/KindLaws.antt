@@ -12,12 +12,12 @@ use Rattle.mls_tree_model.specs.Good.{has_distinct_keys, has_distinct_clients}
 use Rattle.mls_tree_index.specs.declared.kind.KeyKind.TheVariants.{Encryption, Signature}
 use Rattle.mls_tree_index.specs.Keys.{key_of, keys_of}
 use Rattle.mls_tree_array.specs.Standing.{Stands}
-use Rattle.mls_tree_array.specs.Gathered.{cell_key}
+use Rattle.mls_tree_array.specs.CellKeys.{cell_keys}
 use Rattle.mls_tree_array.proofs.Gathered.{cell_signature}
 use Rattle.mls_tree_array.proofs.GatheredLaws.{gather-in_order, keys_standing, signatures_standing}
 
 -- a cell's key, by its kind
-encryption_key : (c : Option Node) → option_to_list (key_of Encryption c) ≡ cell_key c
+encryption_key : (c : Option Node) → option_to_list (key_of Encryption c) ≡ cell_keys c
 encryption_key None = refl
 encryption_key (Some (in_leaf v)) = refl
 encryption_key (Some (in_parent p)) = refl
@@ -27,10 +27,10 @@ signature_key None = refl
 signature_key (Some (in_leaf v)) = refl
 signature_key (Some (in_parent p)) = refl
 
-pub encryption_keys_of : (xs : List (Option Node)) → keys_of Encryption xs ≡ flat_map cell_key xs
+pub encryption_keys_of : (xs : List (Option Node)) → keys_of Encryption xs ≡ flat_map cell_keys xs
 encryption_keys_of [] = refl
 encryption_keys_of (c ∷ cs) =
-    ap (λ ks. ks ++ keys_of Encryption cs) (encryption_key c) ∙ ap (λ ks. cell_key c ++ ks) (encryption_keys_of cs)
+    ap (λ ks. ks ++ keys_of Encryption cs) (encryption_key c) ∙ ap (λ ks. cell_keys c ++ ks) (encryption_keys_of cs)
 
 pub signature_keys_of : (xs : List (Option Node)) → keys_of Signature xs ≡ flat_map cell_signature xs
 signature_keys_of [] = refl

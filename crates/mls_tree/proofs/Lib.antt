@@ -23,8 +23,8 @@ pub mod Passing
 pub mod Fitting
 pub mod Checked
 pub mod Halves
-pub mod Keeping
-pub mod Keepings
+pub mod EditsKeepGood
+pub mod KeptHashes
 pub mod Costs
 pub mod Chilling
 pub mod Bounding

@@ -19,7 +19,7 @@ use Rattle.mls_tree_model.proofs.MergeLaws.{bytes_refl}
 use Rattle.mls_tree_model.proofs.PathLaws.{reverse-cons}
 use Rattle.mls_tree_index.specs.declared.kind.KeyKind.TheVariants.{Encryption}
 use Rattle.mls_tree_index.specs.Keys.{key_of, keys_of}
-use Rattle.mls_tree_index.specs.Cleared.{cleared}
+use Rattle.mls_tree_index.specs.BlankedCells.{cells_without}
 use Rattle.mls_tree_index.proofs.CountLaws.{same_gathered, none_blank}
 use Rattle.mls_tree_array.specs.Standing.{Stands}
 use Rattle.mls_tree.specs.Way.{way_numbers}
@@ -116,17 +116,17 @@ module _ (k : List ℕ) where
 
 module _ (h i : ℕ) (xs : List (Option Node)) (stands : Stands h xs) where
   -- the keys beside the way are those of the tree without the leaf
-  keys_beside_way : keys_of Encryption (cleared 0 (way_numbers h i) xs) ≡ encryption_keys (put 0 (term_of h xs) i None)
+  keys_beside_way : keys_of Encryption (cells_without 0 (way_numbers h i) xs) ≡ encryption_keys (put 0 (term_of h xs) i None)
   keys_beside_way =
-      same_gathered (key_of Encryption) (none_blank Encryption) (cleared 0 (way_numbers h i) xs) (in_order (put 0 (term_of h xs) i None)) (removed_key h i xs stands Encryption)
+      same_gathered (key_of Encryption) (none_blank Encryption) (cells_without 0 (way_numbers h i) xs) (in_order (put 0 (term_of h xs) i None)) (removed_key h i xs stands Encryption)
       ∙ keys_in_order (put 0 (term_of h xs) i None)
 
-  pub merged_distinct : (x : LeafNode) (keys : List (List ℕ)) → path_length 0 (term_of h xs) i ≡ length keys → is_distinct same_bytes (encryption_keys (merge_path (term_of h xs) i x keys)) ≡ is_distinct same_bytes (x.encryption_key ∷ (keys ++ keys_of Encryption (cleared 0 (way_numbers h i) xs)))
+  pub merged_distinct : (x : LeafNode) (keys : List (List ℕ)) → path_length 0 (term_of h xs) i ≡ length keys → is_distinct same_bytes (encryption_keys (merge_path (term_of h xs) i x keys)) ≡ is_distinct same_bytes (x.encryption_key ∷ (keys ++ keys_of Encryption (cells_without 0 (way_numbers h i) xs)))
   unfolding merge_path
   merged_distinct x keys long = distinct_alike _ _ (λ k.
       let merged = often-merged k 0 (term_of h xs) i (reverse keys) [] x (length-reverse keys ∙ sym long) in
       let turned = count-reverse k keys in
       let beside = ap (count same_bytes k) keys_beside_way in
-      let first = count-append same_bytes k (x.encryption_key ∷ []) (keys ++ keys_of Encryption (cleared 0 (way_numbers h i) xs)) in
-      let more = count-append same_bytes k keys (keys_of Encryption (cleared 0 (way_numbers h i) xs)) in
+      let first = count-append same_bytes k (x.encryption_key ∷ []) (keys ++ keys_of Encryption (cells_without 0 (way_numbers h i) xs)) in
+      let more = count-append same_bytes k keys (keys_of Encryption (cells_without 0 (way_numbers h i) xs)) in
       omega arith)

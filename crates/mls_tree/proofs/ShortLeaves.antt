@@ -14,7 +14,7 @@ use Rattle.mls_checks.specs.Short.{IsShort}
 use Rattle.mls_treemath.specs.Paths.{nodes_in}
 use Rattle.mls_tree_model.specs.Term.{Term, leaf_at, leaf_of, width}
 use Rattle.mls_tree_model.specs.Arrays.{leaf_in, term_of, padded, height_for, sent_term}
-use Rattle.mls_tree.specs.Short.{HasShortLeaves, AreShort}
+use Rattle.mls_tree.specs.ShortLeaves.{HasShortLeaves, AreShort}
 use Rattle.mls_tree.proofs.Cells.{Cells, of_front, of_back, of_padded}
 
 -- the leaf in a cell is short, where there is one

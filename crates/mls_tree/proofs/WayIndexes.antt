@@ -12,7 +12,7 @@ use Rattle.mls_tree_model.proofs.ArrayLaws.{perfect-term_of}
 use Rattle.mls_tree_index.specs.declared.kind.KeyKind.{KeyKind}
 use Rattle.mls_tree_index.specs.Keys.{key_of, key_in}
 use Rattle.mls_tree_index.specs.Indexes.{Listing, Indexes}
-use Rattle.mls_tree_index.specs.Cleared.{cleared, HasPlaces}
+use Rattle.mls_tree_index.specs.BlankedCells.{cells_without, HasPlaces}
 use Rattle.mls_tree_index.proofs.CountLaws.{none_blank}
 use Rattle.mls_tree_index.proofs.ClearedLaws.{cleared_alike, key_cleared, key_left}
 use Rattle.mls_tree_index.proofs.Laws.{indexes_alike}
@@ -46,21 +46,21 @@ module _ (h i : ℕ) (xs : List (Option Node)) (stands : Stands h xs) where
   cell_beside-merge ks g x = cell_beside (merge 0 (term_of h xs) i ks g x) (merge_stays h 0 (term_of h xs) i ks g x (perfect-term_of h xs))
 
   module _ (t : Listing) (ys : List (Option Node)) where
-    indexes_beside : (u : Term) → StandsFor h ys u → StaysBeside h 0 i (term_of h xs) u → Indexes (cleared 0 (way_numbers h i) xs) t → Indexes (cleared 0 (way_numbers h i) ys) t
+    indexes_beside : (u : Term) → StandsFor h ys u → StaysBeside h 0 i (term_of h xs) u → Indexes (cells_without 0 (way_numbers h i) xs) t → Indexes (cells_without 0 (way_numbers h i) ys) t
     indexes_beside u edited stays =
         cleared_alike t (way_numbers h i) xs ys (λ y out. ap (key_of t.kind) (sym (ap (λ zs. get_or zs y None) (listed h ys u edited) ∙ cell_beside u stays y out)))
 
-    pub indexes-put : (v : Option LeafNode) → StandsFor h ys (put 0 (term_of h xs) i v) → Indexes (cleared 0 (way_numbers h i) xs) t → Indexes (cleared 0 (way_numbers h i) ys) t
+    pub indexes-put : (v : Option LeafNode) → StandsFor h ys (put 0 (term_of h xs) i v) → Indexes (cells_without 0 (way_numbers h i) xs) t → Indexes (cells_without 0 (way_numbers h i) ys) t
     indexes-put v edited = indexes_beside _ edited (put_stays h 0 (term_of h xs) i v (perfect-term_of h xs))
 
-    pub indexes-enter : (x : LeafNode) → StandsFor h ys (enter 0 (term_of h xs) i x) → Indexes (cleared 0 (way_numbers h i) xs) t → Indexes (cleared 0 (way_numbers h i) ys) t
+    pub indexes-enter : (x : LeafNode) → StandsFor h ys (enter 0 (term_of h xs) i x) → Indexes (cells_without 0 (way_numbers h i) xs) t → Indexes (cells_without 0 (way_numbers h i) ys) t
     indexes-enter x edited = indexes_beside _ edited (enter_stays h 0 (term_of h xs) i x (perfect-term_of h xs))
 
-    pub indexes-merge : (ks : List (List ℕ)) (g : List ℕ) (x : LeafNode) → StandsFor h ys (merge 0 (term_of h xs) i ks g x) → Indexes (cleared 0 (way_numbers h i) xs) t → Indexes (cleared 0 (way_numbers h i) ys) t
+    pub indexes-merge : (ks : List (List ℕ)) (g : List ℕ) (x : LeafNode) → StandsFor h ys (merge 0 (term_of h xs) i ks g x) → Indexes (cells_without 0 (way_numbers h i) xs) t → Indexes (cells_without 0 (way_numbers h i) ys) t
     indexes-merge ks g x edited = indexes_beside _ edited (merge_stays h 0 (term_of h xs) i ks g x (perfect-term_of h xs))
 
   -- where the leaf is removed, nothing stands on its way
-  pub removed_key : (k : KeyKind) (y : ℕ) → key_in k (cleared 0 (way_numbers h i) xs) y ≡ key_in k (in_order (put 0 (term_of h xs) i None)) y
+  pub removed_key : (k : KeyKind) (y : ℕ) → key_in k (cells_without 0 (way_numbers h i) xs) y ≡ key_in k (in_order (put 0 (term_of h xs) i None)) y
   removed_key k y = elim (cases_Bool (has (way_numbers h i) y)) [
     | inl on ↦
         let at : 2 * 0 + y ≡ y = omega arith in
@@ -69,6 +69,6 @@ module _ (h i : ℕ) (xs : List (Option Node)) (stands : Stands h xs) where
     | inr out ↦ key_left k (way_numbers h i) xs y out ∙ sym (ap (key_of k) (cell_beside-put None y out))
   ]
 
-  pub indexes-remove : (t : Listing) (ys : List (Option Node)) → StandsFor h ys (put 0 (term_of h xs) i None) → Indexes (cleared 0 (way_numbers h i) xs) t → Indexes ys t
+  pub indexes-remove : (t : Listing) (ys : List (Option Node)) → StandsFor h ys (put 0 (term_of h xs) i None) → Indexes (cells_without 0 (way_numbers h i) xs) t → Indexes ys t
   indexes-remove t ys edited =
-      indexes_alike t (cleared 0 (way_numbers h i) xs) ys (λ y. removed_key t.kind y ∙ ap (λ zs. key_in t.kind zs y) (sym (listed h ys _ edited)))
+      indexes_alike t (cells_without 0 (way_numbers h i) xs) ys (λ y. removed_key t.kind y ∙ ap (λ zs. key_in t.kind zs y) (sym (listed h ys _ edited)))

@@ -3,12 +3,12 @@ pub mod Faults
 pub mod Names
 pub mod Paths
 pub mod Rules
-pub mod Kept
+pub mod EditsKeepGood
 pub mod Refusals
 pub mod Laws
-pub mod Short
-pub mod Cold
+pub mod ShortLeaves
+pub mod ColdNodes
 pub mod Bounds
 pub mod Way
-pub mod Indexed
-pub mod Prepared
+pub mod IndexedKeys
+pub mod PreparedPath

@@ -1,6 +1,6 @@
 -- A public tree as a value, and what its calls answer.
 use Rattle.std.specs.Prelude.{◌≡◌, ℕ, ◌^◌, List, Option, Result, Ok, Err}
-use Rattle.mls_wire.specs.Checks.{require, given, ◌>>◌}
+use Rattle.mls_wire.specs.Checks.{require, require_some, ◌>>◌}
 use Rattle.mls_wire.specs.Reading.{◌>>=◌}
 use Rattle.mls_leaf.specs.declared.node.Node.{Node}
 use Rattle.mls_leaf.specs.declared.leaf.LeafNode.{LeafNode}
@@ -28,7 +28,7 @@ max_leaves = 2 ^ max_height
 
 -- the leaf in a place, where 22 says that there is none
 abbrev pub member_at : Term → ℕ → Result LeafNode ℕ
-member_at t i = given 22 (leaf_of t i)
+member_at t i = require_some 22 (leaf_of t i)
 
 -- the filtered direct path of a member (RFC 9420, 4.1.2)
 unfoldable pub path_answer : Term → ℕ → Result (List ℕ) ℕ

@@ -91,7 +91,7 @@ fn short_leaf(alloc: Global, leaf: &[u8]) -> Result<LeafNode, Fail>
 }
 
 /// The number of what the tree of this leaf is refused with, or 0.
-fn checked(alloc: Global, leaf: &[u8]) -> Result<u8, Fail> {
+fn check_leaf(alloc: Global, leaf: &[u8]) -> Result<u8, Fail> {
     let mut tree = tree_of(alloc, short_leaf(alloc, leaf)?)?;
     refusal(&mut tree)
 }
@@ -99,10 +99,10 @@ fn checked(alloc: Global, leaf: &[u8]) -> Result<u8, Fail> {
 #[test]
 fn trees_of_one_leaf(rt: HostRuntime) -> Result<(), Fail> {
     let alloc = rt.alloc();
-    assert_eq!(rt; checked(alloc, GOOD)?, 0);
-    assert_eq!(rt; checked(alloc, UNSIGNED)?, 51);
-    assert_eq!(rt; checked(alloc, OTHER_VERSION)?, 52);
-    assert_eq!(rt; checked(alloc, SHORT_KEY)?, 36);
+    assert_eq!(rt; check_leaf(alloc, GOOD)?, 0);
+    assert_eq!(rt; check_leaf(alloc, UNSIGNED)?, 51);
+    assert_eq!(rt; check_leaf(alloc, OTHER_VERSION)?, 52);
+    assert_eq!(rt; check_leaf(alloc, SHORT_KEY)?, 36);
     Ok(())
 }
 
@@ -138,7 +138,7 @@ fn half_empty(
     let parent = SharedParent::new(alloc, parent)?;
     let right = SharedLeaf::new(alloc, right)?;
     let nodes = halves(alloc, left, parent, right)?;
-    let hashes = Hashes::none(alloc, 7)?;
+    let hashes = Hashes::new_cold(alloc, 7)?;
     let indexes = KeyIndexes::build(alloc, &nodes)?;
     Ok(PublicTree {
         nodes,
@@ -164,7 +164,7 @@ fn parent(alloc: Global, key: u8) -> Result<ParentNode, Fail> {
 }
 
 /// The number of what the tree is refused with whose parent has this key.
-fn checked_half_empty(alloc: Global, key: u8) -> Result<u8, Fail> {
+fn check_half_empty(alloc: Global, key: u8) -> Result<u8, Fail> {
     let left = short_leaf(alloc, COMMITTED)?;
     let right = short_leaf(alloc, GOOD)?;
     let mut tree = half_empty(alloc, left, parent(alloc, key)?, right)?;
@@ -174,7 +174,7 @@ fn checked_half_empty(alloc: Global, key: u8) -> Result<u8, Fail> {
 #[test]
 fn a_parent_over_an_empty_side(rt: HostRuntime) -> Result<(), Fail> {
     let alloc = rt.alloc();
-    assert_eq!(rt; checked_half_empty(alloc, 0xaa)?, 0);
-    assert_eq!(rt; checked_half_empty(alloc, 0xab)?, 24);
+    assert_eq!(rt; check_half_empty(alloc, 0xaa)?, 0);
+    assert_eq!(rt; check_half_empty(alloc, 0xab)?, 24);
     Ok(())
 }

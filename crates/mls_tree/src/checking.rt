@@ -13,16 +13,16 @@ ghost use Rattle.mls_tree_model.specs.Keys.{passes};
 ghost use Rattle.mls_tree_model.specs.Lists.{all_parents, rises_here};
 ghost use Rattle.mls_tree_model.specs.Good.{IsGood, has_good_shape, has_good_lists, has_distinct_keys, has_distinct_clients, is_all_signed, is_all_capable, is_all_fit, tree_checks};
 ghost use Rattle.mls_tree_model.specs.Arrays.{term_of};
-ghost use Rattle.mls_tree_array.specs.Kept.{hashes_of};
+ghost use Rattle.mls_tree_array.specs.KeptHashes.{hashes_of};
 ghost use Rattle.mls_tree_array.specs.Standing.{Stands};
-ghost use Rattle.mls_tree_array.specs.Gathered.{cell_key};
+ghost use Rattle.mls_tree_array.specs.CellKeys.{cell_keys};
 ghost use Rattle.mls_suite.specs.Crypto.{Crypto};
-ghost use Rattle.mls_tree.specs.Cold.{Warms};
+ghost use Rattle.mls_tree.specs.ColdNodes.{Warms};
 ghost use Rattle.mls_tree.specs.Faults.{number_of};
-ghost use Rattle.mls_tree.specs.Indexed.{AreIndexes};
+ghost use Rattle.mls_tree.specs.IndexedKeys.{AreIndexes};
 ghost use Rattle.mls_tree.specs.Refusals.{RefusesOutright};
 ghost use Rattle.mls_tree.specs.Rules.{rules_of};
-ghost use Rattle.mls_tree.specs.Short.{HasShortLeaves};
+ghost use Rattle.mls_tree.specs.ShortLeaves.{HasShortLeaves};
 ghost use Rattle.mls_tree.specs.Tree.{term};
 
 use crate::error::TreeError;
@@ -46,7 +46,7 @@ fn is_capable_or_blank(leaf: Option<&LeafNode>, suite: u16) -> bool
 }
 
 /// Whether each member has the capabilities that a group of this suite needs.
-fn all_capable(nodes: &[Slot], height: u32, suite: u16) -> bool
+fn are_all_capable(nodes: &[Slot], height: u32, suite: u16) -> bool
     requires shape { length nodes.now ≡ nodes_in height }
     requires fits { length nodes.now < 2 ^ 32 }
     ensures { (c : Crypto) (group : List ℕ) → c.number ≡ suite → result ≡ is_all_capable (rules_of c group) (term_of height nodes.now) }
@@ -78,7 +78,7 @@ fn is_signed_or_blank<S: Suite>(
 }
 
 /// Whether each member's signature is its own.
-fn all_signed<S: Suite>(
+fn are_all_signed<S: Suite>(
     alloc: Global,
     nodes: &[Slot],
     height: u32,
@@ -101,7 +101,7 @@ fn all_signed<S: Suite>(
 
 /// Whether the encryption key in a place is fit for sealing, where it isn't blank.
 fn is_fit_or_blank<S: Suite>(node: &Slot) -> bool
-    ensures { result ≡ list_all S.crypto.key_ok (cell_key node.now) }
+    ensures { result ≡ list_all S.crypto.key_ok (cell_keys node.now) }
 {
     match node.node() {
         Some(Node::Leaf(leaf)) => S::key_ok(leaf.encryption_key.as_slice()),
@@ -111,7 +111,7 @@ fn is_fit_or_blank<S: Suite>(node: &Slot) -> bool
 }
 
 /// Whether each encryption key is fit for sealing. Takes no memory.
-fn all_fit<S: Suite>(nodes: &[Slot], height: u32) -> bool
+fn are_all_fit<S: Suite>(nodes: &[Slot], height: u32) -> bool
     requires { Stands height nodes.now }
     ensures { (group : List ℕ) → result ≡ is_all_fit (rules_of S.crypto group) (term_of height nodes.now) }
 {
@@ -156,13 +156,13 @@ fn check<S: Suite>(
     if !indexes.has_distinct_clients() {
         return Err(TreeError::ClientRepeated);
     }
-    if !all_signed::<S>(alloc, nodes, height, group_id)? {
+    if !are_all_signed::<S>(alloc, nodes, height, group_id)? {
         return Err(TreeError::LeafSignature);
     }
-    if !all_capable(nodes, height, S::NUMBER) {
+    if !are_all_capable(nodes, height, S::NUMBER) {
         return Err(TreeError::LeafCapability);
     }
-    if !all_fit::<S>(nodes, height) {
+    if !are_all_fit::<S>(nodes, height) {
         return Err(TreeError::BadKey);
     }
     Ok(())

@@ -5,11 +5,11 @@ ghost use Rattle.mls_treemath.specs.Paths.{nodes_in};
 ghost use Rattle.mls_treemath.specs.Limits.{max_height};
 ghost use Rattle.mls_tree_model.specs.Edits.{put, enter, grow, trim};
 ghost use Rattle.mls_tree_model.specs.Arrays.{term_of};
-ghost use Rattle.mls_tree_array.specs.Ends.{taken_end};
-ghost use Rattle.mls_tree_array.specs.Kept.{Keeps, dropped};
+ghost use Rattle.mls_tree_array.specs.EndOfMembers.{end_of_members};
+ghost use Rattle.mls_tree_array.specs.KeptHashes.{Keeps, drop_hashes};
 ghost use Rattle.mls_tree_array.specs.Standing.{Stands};
 ghost use Rattle.mls_tree_array.specs.StandingLaws.{StandsFor};
-ghost use Rattle.mls_tree.specs.Indexed.{AreIndexes};
+ghost use Rattle.mls_tree.specs.IndexedKeys.{AreIndexes};
 
 use crate::key_indexes::KeyIndexes;
 use mls_tree_array::{self as array, Hashes};
@@ -52,7 +52,7 @@ pub(crate) fn append(
     requires low { height < max_height }
     requires keeps { Keeps 0 (term_of height nodes.old.items) hashes.old.kept }
     ensures ok { OnOk result (StandsFor (height + 1) nodes.new.items (enter 0 (grow (term_of height nodes.old.items)) (2 ^ height) leaf)) }
-    ensures kept { OnOk result (hashes.new.kept ≡ dropped 0 (grow (term_of height nodes.old.items)) (2 ^ height) (hashes.old.kept ++ replicate (suc (nodes_in height)) None)) }
+    ensures kept { OnOk result (hashes.new.kept ≡ drop_hashes 0 (grow (term_of height nodes.old.items)) (2 ^ height) (hashes.old.kept ++ replicate (suc (nodes_in height)) None)) }
     ensures done { OnOk result (hashes.new.done ≡ hashes.old.done) }
     ensures err { OnErr result (nodes.new.items ≡ nodes.old.items) }
     ensures err_kept { OnErr result (hashes.new ≡ hashes.old) }
@@ -76,12 +76,12 @@ pub(crate) fn append(
 pub(crate) fn trim(nodes: &mut Vec<Slot>, indexes: &mut KeyIndexes, height: u32, end: u32) -> u32
     requires stands { Stands height nodes.old.items }
     requires low { height ≤ max_height }
-    requires end { end ≡ taken_end 0 (term_of height nodes.old.items) }
+    requires end { end ≡ end_of_members 0 (term_of height nodes.old.items) }
     ensures order { StandsFor result nodes.new.items (trim (term_of height nodes.old.items)) }
     ensures low { result ≤ height }
     ensures indexes { AreIndexes nodes.old.items indexes.old → AreIndexes nodes.new.items indexes.new }
 {
-    let low = array::trimmed(nodes, height, end);
+    let low = array::trimmed_height(nodes, height, end);
     let count = (1 << (low + 1)) - 1;
     indexes.leave_from(nodes, count);
     nodes.truncate(count);

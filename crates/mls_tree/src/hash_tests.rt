@@ -1,9 +1,9 @@
-use crate::asked::made;
-use crate::edited::{add_keys, update};
-use crate::members::{copy_of, single};
+use crate::test_queries::count_new_hashes;
+use crate::test_edits::{add_keys, update};
+use crate::test_trees::{copy_of, single};
 use crate::rows::Step::{Add, AddKeys, Counts, HashesMade, Remove, Single, Update};
 use crate::rows::Told::{Done, Is};
-use crate::rows::{Row, met};
+use crate::rows::{Row, count_met};
 use crate::{Hash, PublicTree, TreeError};
 use std::alloc::Global;
 use std::test::*;
@@ -23,7 +23,7 @@ const UPDATES: &[Row] = &[
 
 #[test]
 fn updates_cost_their_ways(rt: HostRuntime) -> Result<(), Fail> {
-    assert_eq!(rt; met(rt.alloc(), UPDATES)?, UPDATES.len());
+    assert_eq!(rt; count_met(rt.alloc(), UPDATES)?, UPDATES.len());
     Ok(())
 }
 
@@ -42,7 +42,7 @@ const DOUBLING: &[Row] = &[
 
 #[test]
 fn a_doubling_costs_its_nodes(rt: HostRuntime) -> Result<(), Fail> {
-    assert_eq!(rt; met(rt.alloc(), DOUBLING)?, DOUBLING.len());
+    assert_eq!(rt; count_met(rt.alloc(), DOUBLING)?, DOUBLING.len());
     Ok(())
 }
 
@@ -51,9 +51,9 @@ fn hash_of(tree: &mut PublicTree) -> Hash {
 }
 
 /// How many hashes are made of a copy of the tree, and the copy's tree hash after an update.
-fn changed_copy(alloc: Global, tree: &PublicTree) -> Result<(u64, Hash), TreeError> {
+fn change_copy(alloc: Global, tree: &PublicTree) -> Result<(u64, Hash), TreeError> {
     let mut copy = copy_of(alloc, tree)?;
-    let made_of_copy = made(&mut copy);
+    let made_of_copy = count_new_hashes(&mut copy);
     update(alloc, &mut copy, 1, 11)?;
     Ok((made_of_copy, hash_of(&mut copy)))
 }
@@ -71,13 +71,13 @@ struct Copied {
     made: (u64, u64),
 }
 
-fn seen_of_copy(alloc: Global) -> Result<Copied, TreeError> {
+fn observe_copy(alloc: Global) -> Result<Copied, TreeError> {
     let mut tree = single(alloc, 0)?;
     add_keys(alloc, &mut tree, 1, 8)?;
     let before = hash_of(&mut tree);
-    let (first, of_copy) = changed_copy(alloc, &tree)?;
+    let (first, of_copy) = change_copy(alloc, &tree)?;
     let after = hash_of(&mut tree);
-    let made = (first, made(&mut tree));
+    let made = (first, count_new_hashes(&mut tree));
     Ok(Copied {
         before,
         of_copy,
@@ -88,7 +88,7 @@ fn seen_of_copy(alloc: Global) -> Result<Copied, TreeError> {
 
 #[test]
 fn copies_keep_their_hashes(rt: HostRuntime) -> Result<(), Fail> {
-    let seen = seen_of_copy(rt.alloc())?;
+    let seen = observe_copy(rt.alloc())?;
     assert!(rt; seen.of_copy != seen.before);
     assert_eq!(rt; seen.after, seen.before);
     assert_eq!(rt; seen.made, (0, 0));

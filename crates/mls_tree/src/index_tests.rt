@@ -2,7 +2,7 @@
 
 use crate::rows::Step::{Add, Counts, Distinct, Merge, Odd, Remove, Single, Update};
 use crate::rows::Told::{Done, Is, Refused};
-use crate::rows::{Row, met, met_by_both};
+use crate::rows::{Row, count_met, count_met_by_both};
 use std::test::*;
 
 const MEMBERS: &[Row] = &[
@@ -20,7 +20,7 @@ const MEMBERS: &[Row] = &[
 
 #[test]
 fn keys_leave_with_their_members(rt: HostRuntime) -> Result<(), Fail> {
-    assert_eq!(rt; met(rt.alloc(), MEMBERS)?, MEMBERS.len());
+    assert_eq!(rt; count_met(rt.alloc(), MEMBERS)?, MEMBERS.len());
     Ok(())
 }
 
@@ -37,7 +37,7 @@ const REFUSED_PATHS: &[Row] = &[
 
 #[test]
 fn a_refused_path_leaves_the_keys(rt: HostRuntime) -> Result<(), Fail> {
-    assert_eq!(rt; met(rt.alloc(), REFUSED_PATHS)?, REFUSED_PATHS.len());
+    assert_eq!(rt; count_met(rt.alloc(), REFUSED_PATHS)?, REFUSED_PATHS.len());
     Ok(())
 }
 
@@ -54,7 +54,7 @@ const REPLACED_KEYS: &[Row] = &[
 
 #[test]
 fn a_path_may_take_the_keys_that_it_replaces(rt: HostRuntime) -> Result<(), Fail> {
-    assert_eq!(rt; met(rt.alloc(), REPLACED_KEYS)?, REPLACED_KEYS.len());
+    assert_eq!(rt; count_met(rt.alloc(), REPLACED_KEYS)?, REPLACED_KEYS.len());
     Ok(())
 }
 
@@ -70,7 +70,7 @@ const ENTERED_KEYS: &[Row] = &[
 
 #[test]
 fn a_path_enters_its_keys(rt: HostRuntime) -> Result<(), Fail> {
-    assert_eq!(rt; met(rt.alloc(), ENTERED_KEYS)?, ENTERED_KEYS.len());
+    assert_eq!(rt; count_met(rt.alloc(), ENTERED_KEYS)?, ENTERED_KEYS.len());
     Ok(())
 }
 
@@ -86,7 +86,7 @@ const CUT_KEYS: &[Row] = &[
 
 #[test]
 fn keys_leave_with_the_half_that_is_cut(rt: HostRuntime) -> Result<(), Fail> {
-    assert_eq!(rt; met(rt.alloc(), CUT_KEYS)?, CUT_KEYS.len());
+    assert_eq!(rt; count_met(rt.alloc(), CUT_KEYS)?, CUT_KEYS.len());
     Ok(())
 }
 
@@ -98,7 +98,7 @@ const COPIED_TREE: &[Row] = &[(Distinct, Is(&[1, 1]))];
 
 #[test]
 fn copies_keep_their_keys(rt: HostRuntime) -> Result<(), Fail> {
-    let met = met_by_both(rt.alloc(), THREE, CHANGED_COPY, COPIED_TREE)?;
-    assert_eq!(rt; met, [THREE.len(), CHANGED_COPY.len(), COPIED_TREE.len()]);
+    let count_met = count_met_by_both(rt.alloc(), THREE, CHANGED_COPY, COPIED_TREE)?;
+    assert_eq!(rt; count_met, [THREE.len(), CHANGED_COPY.len(), COPIED_TREE.len()]);
     Ok(())
 }

@@ -6,8 +6,8 @@ ghost use Rattle.mls_tree_model.specs.Sets.{is_distinct};
 ghost use Rattle.mls_tree_model.specs.Good.{has_distinct_keys, has_distinct_clients};
 ghost use Rattle.mls_tree_model.specs.Arrays.{term_of};
 ghost use Rattle.mls_tree_array.specs.Standing.{Stands};
-ghost use Rattle.mls_tree_index.specs.Cleared.{cleared};
-ghost use Rattle.mls_tree.specs.Indexed.{AreIndexes, AreBeside, HaveRoom, AreSame, Fills};
+ghost use Rattle.mls_tree_index.specs.BlankedCells.{cells_without};
+ghost use Rattle.mls_tree.specs.IndexedKeys.{AreIndexes, AreBeside, HaveRoom, AreSame, Fills};
 
 use mls_tree_index::{Index, KeyKind};
 use mls_tree_slot::Slot;
@@ -55,7 +55,7 @@ impl KeyIndexes {
     pub(crate) fn leave_all(&mut self, cells: &[Slot], places: &[u32])
         requires { is_distinct nat_eq places.now ≡ true }
         ensures room { (n : ℕ) → HaveRoom n self.old → HaveRoom n self.new }
-        ensures left { AreIndexes cells.now self.old → AreIndexes (cleared 0 places.now cells.now) self.new }
+        ensures left { AreIndexes cells.now self.old → AreIndexes (cells_without 0 places.now cells.now) self.new }
     {
         self.keys.leave_all(cells, places);
         self.clients.leave_all(cells, places);
@@ -65,7 +65,7 @@ impl KeyIndexes {
     pub(crate) fn enter_all(&mut self, cells: &[Slot], places: &[u32])
         requires distinct { is_distinct nat_eq places.now ≡ true }
         requires room { HaveRoom (length places.now) self.old }
-        ensures { AreIndexes (cleared 0 places.now cells.now) self.old → AreIndexes cells.now self.new }
+        ensures { AreIndexes (cells_without 0 places.now cells.now) self.old → AreIndexes cells.now self.new }
     {
         self.keys.enter_all(cells, places);
         self.clients.enter_all(cells, places);

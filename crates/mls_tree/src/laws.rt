@@ -1,6 +1,6 @@
 //! What passed its checks is fit for a tree, what hashing costs, and how refusals are named.
 
-ghost use Rattle.mls_tree.specs.Cold.{FewHashes};
+ghost use Rattle.mls_tree.specs.ColdNodes.{FewHashes};
 ghost use Rattle.mls_tree.specs.Laws.{PackageFits, ReplacementFits};
 ghost use Rattle.mls_tree.specs.Names.{TreeNamesAreListed};
 

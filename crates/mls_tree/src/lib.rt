@@ -6,12 +6,12 @@
 #![tactic(auto)]
 
 #[cfg(test)]
-mod asked;
+mod test_queries;
 #[cfg(test)]
 mod check_tests;
 mod checking;
 #[cfg(test)]
-mod edited;
+mod test_edits;
 mod edits;
 mod error;
 #[cfg(test)]
@@ -21,7 +21,7 @@ mod index_tests;
 mod key_indexes;
 mod laws;
 #[cfg(test)]
-mod members;
+mod test_trees;
 #[cfg(test)]
 mod path_tests;
 mod paths;

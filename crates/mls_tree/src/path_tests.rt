@@ -1,10 +1,10 @@
-use crate::members::single;
+use crate::test_trees::single;
 use crate::rows::Step::{
     Add, AddKeys, Counts, Distinct, FilteredPath, Follow, Good, IsBlank, Merge, MergeCommitted,
     MergeGiven, MergeLong, ParentHashLength, Remove, Resolution, Single,
 };
 use crate::rows::Told::{Done, Is, Refused};
-use crate::rows::{Row, met, rows_met};
+use crate::rows::{Row, count_met, count_met_rows};
 use crate::{Hash, PublicTree};
 use mls_leaf::{LeafError, LeafSource, Node, parent_hash_input, tree_hash_input_of_leaf};
 use sha2::{Digest, Sha256};
@@ -22,7 +22,7 @@ const MERGED: &[Row] = &[
 
 #[test]
 fn a_path_is_merged(rt: HostRuntime) -> Result<(), Fail> {
-    assert_eq!(rt; met(rt.alloc(), MERGED)?, MERGED.len());
+    assert_eq!(rt; count_met(rt.alloc(), MERGED)?, MERGED.len());
     Ok(())
 }
 
@@ -43,7 +43,7 @@ const FOLLOWED: &[Row] = &[
 
 #[test]
 fn a_prepared_path_is_followed(rt: HostRuntime) -> Result<(), Fail> {
-    assert_eq!(rt; met(rt.alloc(), FOLLOWED)?, FOLLOWED.len());
+    assert_eq!(rt; count_met(rt.alloc(), FOLLOWED)?, FOLLOWED.len());
     Ok(())
 }
 
@@ -59,7 +59,7 @@ const REFUSED: &[Row] = &[
 
 #[test]
 fn paths_that_are_refused(rt: HostRuntime) -> Result<(), Fail> {
-    assert_eq!(rt; met(rt.alloc(), REFUSED)?, REFUSED.len());
+    assert_eq!(rt; count_met(rt.alloc(), REFUSED)?, REFUSED.len());
     Ok(())
 }
 
@@ -81,7 +81,7 @@ const LISTED: &[Row] = &[
 
 #[test]
 fn the_next_add_is_listed(rt: HostRuntime) -> Result<(), Fail> {
-    assert_eq!(rt; met(rt.alloc(), LISTED)?, LISTED.len());
+    assert_eq!(rt; count_met(rt.alloc(), LISTED)?, LISTED.len());
     Ok(())
 }
 
@@ -101,7 +101,7 @@ const BELOW_ROOT: &[Row] = &[
 
 #[test]
 fn the_highest_filtered_node_is_below_the_root(rt: HostRuntime) -> Result<(), Fail> {
-    assert_eq!(rt; met(rt.alloc(), BELOW_ROOT)?, BELOW_ROOT.len());
+    assert_eq!(rt; count_met(rt.alloc(), BELOW_ROOT)?, BELOW_ROOT.len());
     Ok(())
 }
 
@@ -146,8 +146,8 @@ fn hash_of_node_5(alloc: Global, tree: &PublicTree) -> Result<(usize, bool), Lea
 /// How many of these rows are met, and what is seen of node 5 after them.
 fn hash_below_root(alloc: Global) -> Result<(usize, (usize, bool)), Fail> {
     let mut tree = single(alloc, 1)?;
-    let met = rows_met(alloc, &mut tree, BELOW_ROOT)?;
-    Ok((met, hash_of_node_5(alloc, &tree)?))
+    let count_met = count_met_rows(alloc, &mut tree, BELOW_ROOT)?;
+    Ok((count_met, hash_of_node_5(alloc, &tree)?))
 }
 
 #[test]
@@ -168,6 +168,6 @@ const ALONE: &[Row] = &[
 
 #[test]
 fn paths_of_one_member(rt: HostRuntime) -> Result<(), Fail> {
-    assert_eq!(rt; met(rt.alloc(), ALONE)?, ALONE.len());
+    assert_eq!(rt; count_met(rt.alloc(), ALONE)?, ALONE.len());
     Ok(())
 }

@@ -14,14 +14,14 @@ ghost use Rattle.mls_tree_model.specs.Edits.{put};
 ghost use Rattle.mls_tree_model.specs.Merge.{merge_path, path_parent_hash};
 ghost use Rattle.mls_tree_model.specs.Good.{AreNew};
 ghost use Rattle.mls_tree_model.specs.Arrays.{term_of};
-ghost use Rattle.mls_tree_array.specs.Kept.{hashes_of};
+ghost use Rattle.mls_tree_array.specs.KeptHashes.{hashes_of};
 ghost use Rattle.mls_tree_array.specs.Standing.{Stands};
 ghost use Rattle.mls_tree_array.specs.StandingLaws.{StandsFor};
 ghost use Rattle.mls_tree_array.specs.Merging.{hash_bytes, path_parents};
-ghost use Rattle.mls_tree.specs.Cold.{Warms, Chills};
+ghost use Rattle.mls_tree.specs.ColdNodes.{Warms, Chills};
 ghost use Rattle.mls_tree.specs.Faults.{number_of};
-ghost use Rattle.mls_tree.specs.Indexed.{AreIndexes, AreSame, IsClient};
-ghost use Rattle.mls_tree.specs.Kept.{KeepsGood, MergesGood};
+ghost use Rattle.mls_tree.specs.IndexedKeys.{AreIndexes, AreSame, IsClient};
+ghost use Rattle.mls_tree.specs.EditsKeepGood.{KeepsGood, MergesGood};
 ghost use Rattle.mls_tree.specs.Refusals.{RefusesOutright};
 ghost use Rattle.mls_tree.specs.Tree.{Tree, term};
 ghost use Rattle.mls_tree.specs.Paths.{path_checks, path_hash_answer, counts_answer, merge_checks, merge_answer, ChangesWhole};
@@ -58,7 +58,7 @@ fn is_client(nodes: &[Slot], height: u32, i: u32, key: &Bytes) -> bool
 
 /// Merges a path whose parents these are, the highest first, and its keys into the indexes. Where the leaf keeps its
 /// signature key, the index of clients stays as it is. Without memory for the leaf or the indexes all stays.
-pub(crate) fn merge_indexed(
+pub(crate) fn merge_with_indexes(
     nodes: &mut Vec<Slot>,
     indexes: &mut KeyIndexes,
     height: u32,
@@ -236,7 +236,7 @@ impl PublicTree {
             Ok(parents) => parents,
         };
         let height = self.height;
-        merge_indexed(&mut self.nodes, &mut self.indexes, height, i, leaf, parents)?;
+        merge_with_indexes(&mut self.nodes, &mut self.indexes, height, i, leaf, parents)?;
         self.hashes.drop_way(height, i);
         Ok(())
     }

@@ -9,19 +9,19 @@ ghost use Rattle.mls_tree_model.specs.Keys.{encryption_keys};
 ghost use Rattle.mls_tree_model.specs.Edits.{put};
 ghost use Rattle.mls_tree_model.specs.Merge.{merge_path};
 ghost use Rattle.mls_tree_model.specs.Good.{AreNew};
-ghost use Rattle.mls_tree_array.specs.Kept.{hashes_of};
+ghost use Rattle.mls_tree_array.specs.KeptHashes.{hashes_of};
 ghost use Rattle.mls_tree_array.specs.Merging.{path_parents};
 ghost use Rattle.mls_tree_array.specs.WayHashes.{HashesMerged};
-ghost use Rattle.mls_tree.specs.Cold.{Warms, Chills};
+ghost use Rattle.mls_tree.specs.ColdNodes.{Warms, Chills};
 ghost use Rattle.mls_tree.specs.Faults.{number_of};
-ghost use Rattle.mls_tree.specs.Kept.{KeepsGood, MergesGood};
+ghost use Rattle.mls_tree.specs.EditsKeepGood.{KeepsGood, MergesGood};
 ghost use Rattle.mls_tree.specs.Paths.{path_checks, merge_checks, merge_answer};
-ghost use Rattle.mls_tree.specs.Prepared.{keys_of, merged_by, IsFor};
+ghost use Rattle.mls_tree.specs.PreparedPath.{keys_of, merged_by, IsFor};
 ghost use Rattle.mls_tree.specs.Refusals.{RefusesOutright};
 ghost use Rattle.mls_tree.specs.Tree.{Tree, term};
 
 use crate::error::TreeError;
-use crate::paths::merge_indexed;
+use crate::paths::merge_with_indexes;
 use crate::tree::PublicTree;
 use mls_tree_array::{self as array, Hash};
 use mls_leaf::{Bytes, LeafNode};
@@ -42,7 +42,7 @@ pub struct PreparedPath {
 }
 
 impl Model for PreparedPath {
-    ghost use Rattle.mls_tree.specs.Prepared.{Prepared};
+    ghost use Rattle.mls_tree.specs.PreparedPath.{Prepared};
 
     ghost Value = { Prepared };
 
@@ -133,7 +133,7 @@ impl PublicTree {
     {
         let height = self.height;
         let (nodes, indexes) = (&mut self.nodes, &mut self.indexes);
-        merge_indexed(nodes, indexes, height, path.index, path.leaf, path.parents)?;
+        merge_with_indexes(nodes, indexes, height, path.index, path.leaf, path.parents)?;
         self.hashes.put_way(height, path.index, &path.hashes);
         Ok(())
     }

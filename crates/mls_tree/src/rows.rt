@@ -1,15 +1,15 @@
 //! Tests by rows. A row is a step, which does something with a tree or asks something of it, and what that answers. A
 //! test is one call over its rows, so that no proof of a test goes through many calls.
 
-use crate::asked::{
+use crate::test_queries::{
     ciphertext_counts, counts, distinct, filtered_path, good, hashes_made, is_blank, is_reached,
-    parent_hash_length, resolution, sent,
+    parent_hash_length, resolution, sent_length,
 };
-use crate::edited::{
+use crate::test_edits::{
     add, add_keys, begin, fill, follow, merge, merge_committed, merge_given, merge_long, remove,
     update,
 };
-use crate::members::{copy_of, odd_tree, single, taken_leaves, with_unmerged};
+use crate::test_trees::{copy_of, odd_tree, single, taken_leaves, tree_with_unmerged};
 use crate::{PublicTree, TreeError};
 use std::alloc::Global;
 
@@ -85,7 +85,7 @@ fn answer(alloc: Global, tree: &mut Box<PublicTree>, step: Step) -> Result<Vec<u
     match step {
         Step::Single(key) => begin(alloc, tree, single(alloc, key)),
         Step::Leaves(taken) => begin(alloc, tree, taken_leaves(alloc, taken)),
-        Step::Unmerged => begin(alloc, tree, with_unmerged(alloc)),
+        Step::Unmerged => begin(alloc, tree, tree_with_unmerged(alloc)),
         Step::Odd => begin(alloc, tree, odd_tree(alloc)),
         Step::Add(key) => add(alloc, tree, key),
         Step::AddKeys(from, to) => add_keys(alloc, tree, from, to),
@@ -107,7 +107,7 @@ fn answer(alloc: Global, tree: &mut Box<PublicTree>, step: Step) -> Result<Vec<u
         Step::ParentHashLength(x) => parent_hash_length(alloc, tree, x),
         Step::Good => good(alloc, tree),
         Step::HashesMade => hashes_made(alloc, tree),
-        Step::Sent => sent(alloc, tree),
+        Step::Sent => sent_length(alloc, tree),
     }
 }
 
@@ -128,7 +128,7 @@ fn is_told(answer: Result<Vec<u64>, TreeError>, told: Told) -> Result<bool, Tree
 }
 
 /// How many rows, from the first on, the tree answers as told.
-pub(crate) fn rows_met(
+pub(crate) fn count_met_rows(
     alloc: Global,
     tree: &mut Box<PublicTree>,
     rows: &[Row],
@@ -143,27 +143,27 @@ pub(crate) fn rows_met(
 }
 
 /// How many rows are answered as told, beginning with the tree of one member.
-pub(crate) fn met(alloc: Global, rows: &[Row]) -> Result<usize, TreeError> {
+pub(crate) fn count_met(alloc: Global, rows: &[Row]) -> Result<usize, TreeError> {
     let mut tree = single(alloc, 0)?;
-    rows_met(alloc, &mut tree, rows)
+    count_met_rows(alloc, &mut tree, rows)
 }
 
 /// How many rows a copy of the tree answers as told.
-fn copy_met(alloc: Global, tree: &PublicTree, rows: &[Row]) -> Result<usize, TreeError> {
+fn count_met_by_copy(alloc: Global, tree: &PublicTree, rows: &[Row]) -> Result<usize, TreeError> {
     let mut copy = copy_of(alloc, tree)?;
-    rows_met(alloc, &mut copy, rows)
+    count_met_rows(alloc, &mut copy, rows)
 }
 
 /// How many rows are answered as told: those of a tree, then of its copy, then again of the tree.
-pub(crate) fn met_by_both(
+pub(crate) fn count_met_by_both(
     alloc: Global,
     tree: &[Row],
     copy: &[Row],
     again: &[Row],
 ) -> Result<[usize; 3], TreeError> {
     let mut both = single(alloc, 0)?;
-    let first = rows_met(alloc, &mut both, tree)?;
-    let second = copy_met(alloc, &both, copy)?;
-    let third = rows_met(alloc, &mut both, again)?;
+    let first = count_met_rows(alloc, &mut both, tree)?;
+    let second = count_met_by_copy(alloc, &both, copy)?;
+    let third = count_met_rows(alloc, &mut both, again)?;
     Ok([first, second, third])
 }

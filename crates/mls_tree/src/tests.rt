@@ -3,7 +3,7 @@ use crate::rows::Step::{
     Sent, Single, Unmerged,
 };
 use crate::rows::Told::{Done, Is, Refused};
-use crate::rows::{Row, met};
+use crate::rows::{Row, count_met};
 use std::test::*;
 
 const UNMERGED_LEAVES: &[Row] = &[
@@ -17,7 +17,7 @@ const UNMERGED_LEAVES: &[Row] = &[
 
 #[test]
 fn unmerged_leaves_are_in_the_resolution(rt: HostRuntime) -> Result<(), Fail> {
-    assert_eq!(rt; met(rt.alloc(), UNMERGED_LEAVES)?, UNMERGED_LEAVES.len());
+    assert_eq!(rt; count_met(rt.alloc(), UNMERGED_LEAVES)?, UNMERGED_LEAVES.len());
     Ok(())
 }
 
@@ -32,7 +32,7 @@ const ADDS: &[Row] = &[
 
 #[test]
 fn adds_go_to_the_leftmost_blank_leaf(rt: HostRuntime) -> Result<(), Fail> {
-    assert_eq!(rt; met(rt.alloc(), ADDS)?, ADDS.len());
+    assert_eq!(rt; count_met(rt.alloc(), ADDS)?, ADDS.len());
     Ok(())
 }
 
@@ -51,7 +51,7 @@ const REMOVALS: &[Row] = &[
 
 #[test]
 fn removals_halve(rt: HostRuntime) -> Result<(), Fail> {
-    assert_eq!(rt; met(rt.alloc(), REMOVALS)?, REMOVALS.len());
+    assert_eq!(rt; count_met(rt.alloc(), REMOVALS)?, REMOVALS.len());
     Ok(())
 }
 
@@ -63,7 +63,7 @@ const NO_SHAPES: &[Row] = &[
 
 #[test]
 fn shapes_that_no_tree_has(rt: HostRuntime) -> Result<(), Fail> {
-    assert_eq!(rt; met(rt.alloc(), NO_SHAPES)?, NO_SHAPES.len());
+    assert_eq!(rt; count_met(rt.alloc(), NO_SHAPES)?, NO_SHAPES.len());
     Ok(())
 }
 
@@ -78,7 +78,7 @@ const FULL: &[Row] = &[
 
 #[test]
 fn a_full_tree(rt: HostRuntime) -> Result<(), Fail> {
-    assert_eq!(rt; met(rt.alloc(), FULL)?, FULL.len());
+    assert_eq!(rt; count_met(rt.alloc(), FULL)?, FULL.len());
     Ok(())
 }
 
@@ -92,7 +92,7 @@ const CIPHERTEXTS: &[Row] = &[
 
 #[test]
 fn ciphertexts_of_each_node(rt: HostRuntime) -> Result<(), Fail> {
-    assert_eq!(rt; met(rt.alloc(), CIPHERTEXTS)?, CIPHERTEXTS.len());
+    assert_eq!(rt; count_met(rt.alloc(), CIPHERTEXTS)?, CIPHERTEXTS.len());
     Ok(())
 }
 
@@ -107,6 +107,6 @@ const REPEATED: &[Row] = &[
 
 #[test]
 fn repeated_keys_and_clients(rt: HostRuntime) -> Result<(), Fail> {
-    assert_eq!(rt; met(rt.alloc(), REPEATED)?, REPEATED.len());
+    assert_eq!(rt; count_met(rt.alloc(), REPEATED)?, REPEATED.len());
     Ok(())
 }

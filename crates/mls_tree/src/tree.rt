@@ -12,13 +12,13 @@ ghost use Rattle.mls_tree_model.specs.Arrays.{has_last, alternates, from_nodes, 
 ghost use Rattle.mls_tree_model.specs.Edits.{first_blank, put, room_for, place_in};
 ghost use Rattle.mls_tree_model.specs.Good.{Rules, IsGood, AreNew, AreFit, has_good_shape};
 ghost use Rattle.mls_tree_hash.specs.Counter.{counted};
-ghost use Rattle.mls_tree_array.specs.Kept.{hashes_of, cold_places};
-ghost use Rattle.mls_tree.specs.Cold.{IsNew, Chills};
+ghost use Rattle.mls_tree_array.specs.KeptHashes.{hashes_of, cold_places};
+ghost use Rattle.mls_tree.specs.ColdNodes.{IsNewTree, Chills};
 ghost use Rattle.mls_tree.specs.Faults.{number_of};
 ghost use Rattle.mls_tree.specs.declared.error.TreeError.TheVariants.{NoSuchLeaf};
-ghost use Rattle.mls_tree.specs.Kept.{KeepsGood, KeepsSound};
+ghost use Rattle.mls_tree.specs.EditsKeepGood.{KeepsGood, KeepsSound};
 ghost use Rattle.mls_tree.specs.Refusals.{RefusesOutright};
-ghost use Rattle.mls_tree.specs.Short.{AreShort, HasShortLeaves};
+ghost use Rattle.mls_tree.specs.ShortLeaves.{AreShort, HasShortLeaves};
 ghost use Rattle.mls_tree.specs.Paths.{ChangesWhole};
 ghost use Rattle.mls_tree.specs.Tree.{term, max_leaves, path_answer, add_answer, update_answer, remove_answer, Changes};
 
@@ -53,9 +53,9 @@ impl Model for PublicTree {
     ghost use Rattle.mls_treemath.specs.Limits.{max_height};
     ghost use Rattle.mls_tree_model.specs.Arrays.{term_of};
     ghost use Rattle.mls_tree_array.specs.Standing.{Stands};
-    ghost use Rattle.mls_tree_array.specs.Kept.{Keeps};
+    ghost use Rattle.mls_tree_array.specs.KeptHashes.{Keeps};
     ghost use Rattle.mls_tree.specs.Bounds.{Bounds};
-    ghost use Rattle.mls_tree.specs.Indexed.{AreIndexes};
+    ghost use Rattle.mls_tree.specs.IndexedKeys.{AreIndexes};
     ghost use Rattle.mls_tree.specs.Tree.{Tree};
 
     ghost Value = { Tree };
@@ -71,12 +71,12 @@ impl PublicTree {
         ensures tree { IfOk result (λ t. term t ≡ Leaf (Some leaf)) }
         // It is good where the leaf passes the checks.
         ensures good { IfOk result (λ t. (rules : Rules) → 0 < rules.limit → AreNew rules 0 leaf [] (Leaf None) → IsGood rules (term t)) }
-        ensures cold { IfOk result IsNew }
+        ensures cold { IfOk result IsNewTree }
     {
         let mut nodes = Vec::with_capacity(alloc, 1)?;
         let leaf = SharedLeaf::new(alloc, leaf)?;
         nodes.push(leaf.into_slot())?;
-        let hashes = Hashes::none(alloc, 1)?;
+        let hashes = Hashes::new_cold(alloc, 1)?;
         let indexes = KeyIndexes::build(alloc, &nodes)?;
         Ok(PublicTree {
             nodes,
@@ -99,7 +99,7 @@ impl PublicTree {
         ensures shape { IfOk result (λ t. has_good_shape (term t) ≡ true) }
         // Its leaves are short where the nodes are, as those of an input are.
         ensures short { IfOk result (λ t. AreShort nodes.items → HasShortLeaves (term t)) }
-        ensures cold { IfOk result IsNew }
+        ensures cold { IfOk result IsNewTree }
     {
         if !array::has_last(&nodes) {
             return Err(TreeError::TreeShape);
@@ -115,7 +115,7 @@ impl PublicTree {
         if height > MAX_HEIGHT {
             return Err(TreeError::TreeFull);
         }
-        let hashes = Hashes::none(*nodes.allocator(), nodes.len())?;
+        let hashes = Hashes::new_cold(*nodes.allocator(), nodes.len())?;
         let indexes = KeyIndexes::build(*nodes.allocator(), &nodes)?;
         Ok(PublicTree {
             nodes,
@@ -312,7 +312,7 @@ impl PublicTree {
         self.indexes.leave_all(&self.nodes, way.as_slice());
         edits::put(&mut self.nodes, height, i, None);
         self.hashes.drop_way(height, i);
-        let end = array::taken_end(&self.nodes, height, 0, self.blank_from);
+        let end = array::end_of_members(&self.nodes, height, 0, self.blank_from);
         self.height = edits::trim(&mut self.nodes, &mut self.indexes, height, end);
         self.hashes.cut(self.nodes.len());
         self.full_to = self.full_to.min(i);

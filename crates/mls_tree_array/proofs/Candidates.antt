@@ -11,7 +11,7 @@ use Rattle.mls_tree_model.specs.Term.{width, size}
 use Rattle.mls_tree_model.specs.Resolution.{resolution}
 use Rattle.mls_tree_model.specs.Hashes.{hash_at}
 use Rattle.mls_tree_model.specs.Arrays.{leaf_in, parent_in, term_of}
-use Rattle.mls_tree_array.specs.Witnesses.{numbers_in, others, first_off, kept, only_off, candidate}
+use Rattle.mls_tree_array.specs.Witnesses.{numbers_in, others, first_outside, keep_if, only_outside, candidate}
 use Rattle.mls_tree_array.proofs.Others.{find_here, find_later}
 use Rattle.mls_tree_model.proofs.ArrayLaws.{term_of-zero}
 use Rattle.mls_tree_model.proofs.ArrayLaws.{width-term_of}
@@ -19,46 +19,46 @@ use Rattle.mls_tree_array.proofs.Readings.{leaf_term, left_side, right_side, InP
 
 -- ---- the first node that a list doesn't have, from place i on
 
-pub off_here : (ls xs : List ℕ) (i : ℕ) → i < length xs → has ls (get_or xs i 0) ≡ false → first_off ls (drop i xs) ≡ Some (get_or xs i 0)
+pub off_here : (ls xs : List ℕ) (i : ℕ) → i < length xs → has ls (get_or xs i 0) ≡ false → first_outside ls (drop i xs) ≡ Some (get_or xs i 0)
 off_here ls xs i lt out =
-    ap (first_off ls) (drop_more xs i 0 lt) ∙ find_here (λ x. not (has ls x)) (get_or xs i 0) (drop (i + 1) xs) (ap not out)
+    ap (first_outside ls) (drop_more xs i 0 lt) ∙ find_here (λ x. not (has ls x)) (get_or xs i 0) (drop (i + 1) xs) (ap not out)
 
-pub off_later : (ls xs : List ℕ) (i : ℕ) → i < length xs → has ls (get_or xs i 0) ≡ true → first_off ls (drop (i + 1) xs) ≡ first_off ls (drop i xs)
+pub off_later : (ls xs : List ℕ) (i : ℕ) → i < length xs → has ls (get_or xs i 0) ≡ true → first_outside ls (drop (i + 1) xs) ≡ first_outside ls (drop i xs)
 off_later ls xs i lt there =
-    sym (ap (first_off ls) (drop_more xs i 0 lt) ∙ find_later (λ x. not (has ls x)) (get_or xs i 0) (drop (i + 1) xs) (ap not there))
+    sym (ap (first_outside ls) (drop_more xs i 0 lt) ∙ find_later (λ x. not (has ls x)) (get_or xs i 0) (drop (i + 1) xs) (ap not there))
 
 -- ---- candidates
 
 module _ (p : Parent) (b e h : ℕ) (xs : List (Option Node)) (us fs : List ℕ) (ends : e ≡ b + 2 ^ h) (listed : us ≡ p.unmerged_leaves) (all : fs ≡ resolution b (term_of h xs)) where
-  candidate_is : candidate p b (term_of h xs) ≡ only_off (numbers_in b e us) fs
+  candidate_is : candidate p b (term_of h xs) ≡ only_outside (numbers_in b e us) fs
   unfolding candidate
   candidate_is =
       let wide : width (term_of h xs) ≡ e - b = omega (arith, width-term_of h xs) in
-      ap (λ w. only_off (leaf_numbers (within b w p.unmerged_leaves)) (resolution b (term_of h xs))) wide
-      ∙ ap (λ vs. only_off (numbers_in b e vs) (resolution b (term_of h xs))) (sym listed)
-      ∙ ap (only_off (numbers_in b e us)) (sym all)
+      ap (λ w. only_outside (leaf_numbers (within b w p.unmerged_leaves)) (resolution b (term_of h xs))) wide
+      ∙ ap (λ vs. only_outside (numbers_in b e vs) (resolution b (term_of h xs))) (sym listed)
+      ∙ ap (only_outside (numbers_in b e us)) (sym all)
 
-  pub no_candidate : None ≡ first_off (numbers_in b e us) fs → None ≡ candidate p b (term_of h xs)
-  unfolding only_off
+  pub no_candidate : None ≡ first_outside (numbers_in b e us) fs → None ≡ candidate p b (term_of h xs)
+  unfolding only_outside
   no_candidate none =
-      sym (candidate_is ∙ ap (kept (λ d. is_same_set (numbers_in b e us) (others d fs))) (sym none))
+      sym (candidate_is ∙ ap (keep_if (λ d. is_same_set (numbers_in b e us) (others d fs))) (sym none))
 
-  module _ (gs : List ℕ) (also : gs ≡ resolution b (term_of h xs)) (d : ℕ) (some : Some d ≡ first_off (numbers_in b e us) fs) where
+  module _ (gs : List ℕ) (also : gs ≡ resolution b (term_of h xs)) (d : ℕ) (some : Some d ≡ first_outside (numbers_in b e us) fs) where
     same : is_same_set (numbers_in b e us) (others d fs) ≡ is_same_set (numbers_in b e us) (others d gs)
     same = ap (λ ys. is_same_set (numbers_in b e us) (others d ys)) (all ∙ sym also)
 
     pub more_than_one : is_same_set (numbers_in b e us) (others d gs) ≡ false → None ≡ candidate p b (term_of h xs)
-    unfolding only_off
+    unfolding only_outside
     more_than_one other =
         sym (candidate_is
-        ∙ ap (kept (λ d. is_same_set (numbers_in b e us) (others d fs))) (sym some)
+        ∙ ap (keep_if (λ d. is_same_set (numbers_in b e us) (others d fs))) (sym some)
         ∙ cond-false _ _ _ (same ∙ other))
 
     pub the_candidate : is_same_set (numbers_in b e us) (others d gs) ≡ true → Some d ≡ candidate p b (term_of h xs)
-    unfolding only_off
+    unfolding only_outside
     the_candidate rest =
         sym (candidate_is
-        ∙ ap (kept (λ d. is_same_set (numbers_in b e us) (others d fs))) (sym some)
+        ∙ ap (keep_if (λ d. is_same_set (numbers_in b e us) (others d fs))) (sym some)
         ∙ cond-true _ _ _ (same ∙ rest))
 
 -- ---- the field parent_hash

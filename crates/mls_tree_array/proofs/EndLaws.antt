@@ -6,25 +6,25 @@ use Rattle.mls_leaf.specs.declared.leaf.LeafNode.{LeafNode}
 use Rattle.mls_tree_model.specs.Term.{Term, Leaf, Branch, width, has_leaf, leaf_at}
 use Rattle.mls_tree_model.proofs.Equations.{leaf_at_leaf, leaf_at_left, leaf_at_right}
 use Rattle.mls_tree_model.proofs.MemberLaws.{leaf_taken}
-use Rattle.mls_tree_array.specs.Ends.{taken_end}
+use Rattle.mls_tree_array.specs.EndOfMembers.{end_of_members}
 
 -- ---- of a leaf and a branch
 
-pub end-blank_leaf : (b : ℕ) → taken_end b (Leaf None) ≡ b
-unfolding taken_end
+pub end-blank_leaf : (b : ℕ) → end_of_members b (Leaf None) ≡ b
+unfolding end_of_members
 end-blank_leaf b = refl
 
-pub end-leaf : (b : ℕ) (v : LeafNode) → taken_end b (Leaf (Some v)) ≡ suc b
-unfolding taken_end
+pub end-leaf : (b : ℕ) (v : LeafNode) → end_of_members b (Leaf (Some v)) ≡ suc b
+unfolding end_of_members
 end-leaf b v = refl
 
 module _ (b : ℕ) (c : Option Parent) (l r : Term) where
-  pub end-right : has_leaf r ≡ true → taken_end b (Branch c l r) ≡ taken_end (b + width l) r
-  unfolding taken_end
+  pub end-right : has_leaf r ≡ true → end_of_members b (Branch c l r) ≡ end_of_members (b + width l) r
+  unfolding end_of_members
   end-right e = cond-true _ _ _ e
 
-  pub end-left : has_leaf r ≡ false → taken_end b (Branch c l r) ≡ taken_end b l
-  unfolding taken_end
+  pub end-left : has_leaf r ≡ false → end_of_members b (Branch c l r) ≡ end_of_members b l
+  unfolding end_of_members
   end-left e = cond-false _ _ _ e
 
 pub has_or_not : (t : Term) → (has_leaf t ≡ true) ⊎ (has_leaf t ≡ false)
@@ -37,7 +37,7 @@ has_or_not t = go (has_leaf t)
 -- ---- the last taken leaf
 
 pub record LastTaken (b : ℕ) (t : Term) (k : ℕ) : Type 0 where
-  pub end : taken_end b t ≡ suc k
+  pub end : end_of_members b t ≡ suc k
   pub low : b ≤ k
   pub high : k < b + width t
   pub taken : IsSome (leaf_at b t k)
@@ -63,7 +63,7 @@ last_taken b (Branch c l r) h =
     left true q e f = refl
     left false q e f = absurd (true≢false (sym e ∙ f))
 
-pub end-none : (b : ℕ) (t : Term) → has_leaf t ≡ false → taken_end b t ≡ b
+pub end-none : (b : ℕ) (t : Term) → has_leaf t ≡ false → end_of_members b t ≡ b
 unfolding has_leaf
 end-none b (Leaf None) h = end-blank_leaf b
 end-none b (Leaf (Some v)) h = absurd (true≢false h)
@@ -71,14 +71,14 @@ end-none b (Branch c l r) h =
     let none = or_parts (has_leaf l) (has_leaf r) h in
     end-left b c l r none.1 ∙ end-none b l none.0
 
-pub has_none : (b : ℕ) (t : Term) → taken_end b t ≤ b → has_leaf t ≡ false
+pub has_none : (b : ℕ) (t : Term) → end_of_members b t ≤ b → has_leaf t ≡ false
 has_none b t low =
     elim (has_or_not t) [
       | inr none ↦ none
       | inl some ↦ absurd (let k = last_taken b t some in let end = k.1.end in let least = k.1.low in omega arith)
     ]
 
-pub has_some : (b : ℕ) (t : Term) → b < taken_end b t → has_leaf t ≡ true
+pub has_some : (b : ℕ) (t : Term) → b < end_of_members b t → has_leaf t ≡ true
 has_some b t high =
     elim (has_or_not t) [
       | inl some ↦ some
@@ -86,7 +86,7 @@ has_some b t high =
     ]
 
 -- it lies within the tree
-pub end-within : (b : ℕ) (t : Term) → taken_end b t ≤ b + width t
+pub end-within : (b : ℕ) (t : Term) → end_of_members b t ≤ b + width t
 end-within b t =
     elim (has_or_not t) [
       | inl some ↦ let k = last_taken b t some in let end = k.1.end in let high = k.1.high in omega arith
@@ -101,7 +101,7 @@ blank_at b t j none = go (leaf_at b t j) refl
     go None e = e
     go (Some v) e = absurd (true≢false (sym (leaf_taken b t j (ap is_some e)) ∙ none))
 
-pub blank_behind : (b : ℕ) (t : Term) (j : ℕ) → taken_end b t ≤ j → j < b + width t → leaf_at b t j ≡ None
+pub blank_behind : (b : ℕ) (t : Term) (j : ℕ) → end_of_members b t ≤ j → j < b + width t → leaf_at b t j ≡ None
 unfolding width
 blank_behind b (Leaf None) j le lt = leaf_at_leaf b None j
 blank_behind b (Leaf (Some v)) j le lt = absurd (let end = end-leaf b v in omega arith)
@@ -122,7 +122,7 @@ blank_behind b (Branch c l r) j le lt =
     ]
 
 -- so it is no later than a leaf from which on all are blank
-pub end_before : (b : ℕ) (t : Term) (n : ℕ) → b ≤ n → ((j : ℕ) → n ≤ j → j < b + width t → leaf_at b t j ≡ None) → taken_end b t ≤ n
+pub end_before : (b : ℕ) (t : Term) (n : ℕ) → b ≤ n → ((j : ℕ) → n ≤ j → j < b + width t → leaf_at b t j ≡ None) → end_of_members b t ≤ n
 end_before b t n low blank =
     elim (has_or_not t) [
       | inr none ↦ let end = end-none b t none in omega arith
@@ -139,14 +139,14 @@ end_before b t n low blank =
 
 module _ (b : ℕ) (c : Option Parent) (l r : Term) where
   -- the right half has a taken leaf, or the taken leaves end in the left one
-  pub ends_right : b + width l < taken_end b (Branch c l r) → has_leaf r ≡ true
+  pub ends_right : b + width l < end_of_members b (Branch c l r) → has_leaf r ≡ true
   ends_right past =
       elim (has_or_not r) [
         | inl some ↦ some
         | inr none ↦ absurd (let end = end-left b c l r none in let within = end-within b l in omega arith)
       ]
 
-  pub ends_left : taken_end b (Branch c l r) ≤ b + width l → has_leaf r ≡ false
+  pub ends_left : end_of_members b (Branch c l r) ≤ b + width l → has_leaf r ≡ false
   ends_left short =
       elim (has_or_not r) [
         | inr none ↦ none

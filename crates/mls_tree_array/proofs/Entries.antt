@@ -6,7 +6,7 @@ use Rattle.mls_leaf.specs.Parent.{Parent}
 use Rattle.mls_leaf.specs.declared.node.Node.{Node}
 use Rattle.mls_treemath.specs.Paths.{nodes_in}
 use Rattle.mls_tree_model.specs.Term.{Branch}
-use Rattle.mls_tree_model.specs.Edits.{enter, listing}
+use Rattle.mls_tree_model.specs.Edits.{enter, list_leaf}
 use Rattle.mls_tree_model.specs.Arrays.{leaf_in, parent_in, leaf_cell, parent_cell, term_of, in_order, HasMiddle}
 use Rattle.mls_tree_model.proofs.Equations.{enter_leaf, enter_left, enter_right}
 use Rattle.mls_tree_array.specs.Standing.{Stands}
@@ -50,14 +50,14 @@ module _ (h n m : ℕ) (xs l rest a r : List (Option Node)) (at : HasMiddle h n 
   pub right_side : Stands (h - 1) r
   right_side = subst (Stands (h - 1)) (sym behind) (right_stands h n m xs at len pos stands)
 
-  module _ (b i : ℕ) (x : LeafNode) (sub : List (Option Node)) (c d : Option Node) (root : c ≡ parent_cell (listing i (parent_in (get_or a 0 d)))) where
+  module _ (b i : ℕ) (x : LeafNode) (sub : List (Option Node)) (c d : Option Node) (root : c ≡ parent_cell (list_leaf i (parent_in (get_or a 0 d)))) where
     abbrev listed : Option Parent
-    listed = listing i (parent_in (get_or xs m None))
+    listed = list_leaf i (parent_in (get_or xs m None))
 
     cell : set a 0 c ≡ parent_cell listed ∷ []
     cell =
         ap (λ ys. set ys 0 c) alone
-        ∙ ap (λ z. z ∷ []) (root ∙ ap (λ ys. parent_cell (listing i (parent_in (get_or ys 0 d)))) alone)
+        ∙ ap (λ z. z ∷ []) (root ∙ ap (λ ys. parent_cell (list_leaf i (parent_in (get_or ys 0 d)))) alone)
 
     pub entered_left : i < b + (m / 2 + 1) → sub ≡ in_order (enter b (term_of (h - 1) l) i x) → sub ++ (set a 0 c ++ r) ≡ in_order (enter b (term_of h xs) i x)
     entered_left low is =

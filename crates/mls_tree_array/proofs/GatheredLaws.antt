@@ -9,7 +9,7 @@ use Rattle.mls_tree_model.specs.Term.{Term, Leaf, Branch}
 use Rattle.mls_tree_model.specs.Keys.{gather, leaf_key, parent_key, leaf_signature}
 use Rattle.mls_tree_model.specs.Arrays.{leaf_cell, parent_cell, term_of, in_order}
 use Rattle.mls_tree_array.specs.Standing.{Stands}
-use Rattle.mls_tree_array.specs.Gathered.{cell_value, cell_key}
+use Rattle.mls_tree_array.specs.CellKeys.{cell_value, cell_keys}
 use Rattle.mls_tree_array.proofs.Gathered.{cell_signature}
 
 module _ (f : Option LeafNode → List (List ℕ)) (g : Option Parent → List (List ℕ)) (leaf : f None ≡ []) (blank : g None ≡ []) where
@@ -30,9 +30,9 @@ module _ (f : Option LeafNode → List (List ℕ)) (g : Option Parent → List (
       ∙ ap (λ ys. gather f g l ++ (ys ++ flat_map (cell_value f g) (in_order r))) (of_parent c)
       ∙ ap (λ ys. gather f g l ++ (g c ++ ys)) (gather-in_order r)
 
-pub keys_standing : (h : ℕ) (xs : List (Option Node)) → Stands h xs → flat_map cell_key xs ≡ gather leaf_key parent_key (term_of h xs)
+pub keys_standing : (h : ℕ) (xs : List (Option Node)) → Stands h xs → flat_map cell_keys xs ≡ gather leaf_key parent_key (term_of h xs)
 keys_standing h xs stands =
-    ap (flat_map cell_key) (sym stands.order) ∙ gather-in_order leaf_key parent_key refl refl (term_of h xs)
+    ap (flat_map cell_keys) (sym stands.order) ∙ gather-in_order leaf_key parent_key refl refl (term_of h xs)
 
 pub signatures_standing : (h : ℕ) (xs : List (Option Node)) → Stands h xs → flat_map cell_signature xs ≡ gather leaf_signature (λ c. []) (term_of h xs)
 signatures_standing h xs stands =

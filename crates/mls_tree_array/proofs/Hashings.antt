@@ -10,7 +10,7 @@ use Rattle.mls_tree_model.specs.Hashes.{tree_hash}
 use Rattle.mls_tree_model.specs.Arrays.{leaf_in, term_of}
 use Rattle.mls_tree_model.proofs.ArrayLaws.{size-term_of, term_of-zero, term_of-suc}
 use Rattle.mls_tree_model.proofs.Equations.{tree_hash_leaf}
-use Rattle.mls_tree_array.specs.Kept.{hashes_of}
+use Rattle.mls_tree_array.specs.KeptHashes.{hashes_of}
 use Rattle.mls_tree_array.proofs.KeptLaws.{length-hashes_of}
 use Rattle.mls_tree_array.proofs.Readings.{leaf_term, left_side, right_side, InParts}
 

@@ -14,7 +14,7 @@ use Rattle.mls_tree_model.proofs.ShapeLaws.{size-width, width-put, width-enter}
 use Rattle.mls_tree_model.specs.Sets.{has}
 use Rattle.mls_tree_model.proofs.MergeLaws.{width-merge}
 use Rattle.mls_tree_model.proofs.Equations.{way_leaf, way_left, way_right, put_leaf, put_left, put_right, enter_leaf, enter_left, enter_right, merge_leaf, merge_left, merge_right}
-use Rattle.mls_tree_array.specs.Kept.{hashes_of, by_root, Keeps, dropped, is_cold_at, cold_places, upward}
+use Rattle.mls_tree_array.specs.KeptHashes.{hashes_of, by_root, Keeps, drop_hashes, is_cold_at, cold_places, nodes_upward}
 
 -- ---- a list in three parts
 
@@ -124,23 +124,23 @@ keeps_none b (Branch c l r) =
 -- ---- after an edit
 
 module _ (b : ℕ) (c d : Option Parent) (l r : Term) (i : ℕ) (hs : List (Option (List ℕ))) (k : Keeps b (Branch c l r) hs) where
-  pub edited_left : (u : Term) → i < b + width l → width u ≡ width l → Keeps b u (dropped b l i (take (size l) hs)) → Keeps b (Branch d u r) (dropped b (Branch c l r) i hs)
-  unfolding dropped
+  pub edited_left : (u : Term) → i < b + width l → width u ≡ width l → Keeps b u (drop_hashes b l i (take (size l) hs)) → Keeps b (Branch d u r) (drop_hashes b (Branch c l r) i hs)
+  unfolding drop_hashes
   edited_left u lt same m =
       rw (cond-true _ _ _ (lt-ltb i (b + width l) lt))
       (keeps_joined b d u r _ _ m (subst (λ w. Keeps (b + w) r (drop (suc (size l)) hs)) (sym same) (keeps_sides b c l r hs k).right))
 
-  pub edited_right : (u : Term) → b + width l ≤ i → Keeps (b + width l) u (dropped (b + width l) r i (drop (suc (size l)) hs)) → Keeps b (Branch d l u) (dropped b (Branch c l r) i hs)
-  unfolding dropped
+  pub edited_right : (u : Term) → b + width l ≤ i → Keeps (b + width l) u (drop_hashes (b + width l) r i (drop (suc (size l)) hs)) → Keeps b (Branch d l u) (drop_hashes b (Branch c l r) i hs)
+  unfolding drop_hashes
   edited_right u ge m =
       rw (cond-false _ _ _ (le-ltb i (b + width l) ge))
       (keeps_joined b d l u _ _ (keeps_sides b c l r hs k).left m)
 
-pub dropped_leaf : (b : ℕ) (v : Option LeafNode) (i : ℕ) (hs : List (Option (List ℕ))) → dropped b (Leaf v) i hs ≡ None ∷ []
-unfolding dropped
+pub dropped_leaf : (b : ℕ) (v : Option LeafNode) (i : ℕ) (hs : List (Option (List ℕ))) → drop_hashes b (Leaf v) i hs ≡ None ∷ []
+unfolding drop_hashes
 dropped_leaf b v i hs = refl
 
-pub keeps-put : (b : ℕ) (t : Term) (i : ℕ) (x : Option LeafNode) (hs : List (Option (List ℕ))) → Keeps b t hs → Keeps b (put b t i x) (dropped b t i hs)
+pub keeps-put : (b : ℕ) (t : Term) (i : ℕ) (x : Option LeafNode) (hs : List (Option (List ℕ))) → Keeps b t hs → Keeps b (put b t i x) (drop_hashes b t i hs)
 keeps-put b (Leaf v) i x hs k = rw (put_leaf b v i x, dropped_leaf b v i hs) (keeps_cold_leaf b x)
 keeps-put b (Branch c l r) i x hs k =
     elim (cases_lt i (b + width l)) [
@@ -148,7 +148,7 @@ keeps-put b (Branch c l r) i x hs k =
       | inr ge ↦ rw (put_right b c l r i x ge) (edited_right b c None l r i hs k (put (b + width l) r i x) ge (keeps-put (b + width l) r i x _ (keeps_sides b c l r hs k).right))
     ]
 
-pub keeps-enter : (b : ℕ) (t : Term) (i : ℕ) (x : LeafNode) (hs : List (Option (List ℕ))) → Keeps b t hs → Keeps b (enter b t i x) (dropped b t i hs)
+pub keeps-enter : (b : ℕ) (t : Term) (i : ℕ) (x : LeafNode) (hs : List (Option (List ℕ))) → Keeps b t hs → Keeps b (enter b t i x) (drop_hashes b t i hs)
 keeps-enter b (Leaf v) i x hs k = rw (enter_leaf b v i x, dropped_leaf b v i hs) (keeps_cold_leaf b (Some x))
 keeps-enter b (Branch c l r) i x hs k =
     elim (cases_lt i (b + width l)) [
@@ -156,7 +156,7 @@ keeps-enter b (Branch c l r) i x hs k =
       | inr ge ↦ rw (enter_right b c l r i x ge) (edited_right b c _ l r i hs k (enter (b + width l) r i x) ge (keeps-enter (b + width l) r i x _ (keeps_sides b c l r hs k).right))
     ]
 
-pub keeps-merge : (b : ℕ) (t : Term) (i : ℕ) (ks : List (List ℕ)) (g : List ℕ) (x : LeafNode) (hs : List (Option (List ℕ))) → Keeps b t hs → Keeps b (merge b t i ks g x) (dropped b t i hs)
+pub keeps-merge : (b : ℕ) (t : Term) (i : ℕ) (ks : List (List ℕ)) (g : List ℕ) (x : LeafNode) (hs : List (Option (List ℕ))) → Keeps b t hs → Keeps b (merge b t i ks g x) (drop_hashes b t i hs)
 keeps-merge b (Leaf v) i ks g x hs k = rw (merge_leaf b v i ks g x, dropped_leaf b v i hs) (keeps_cold_leaf b (Some x))
 keeps-merge b (Branch c l r) i ks g x hs k =
     elim (cases_lt i (b + width l)) [
@@ -194,17 +194,17 @@ keeps-trim b (Branch c l r) hs k =
 
 -- ---- which nodes are cold
 
-pub length-dropped : (b : ℕ) (t : Term) (i : ℕ) (hs : List (Option (List ℕ))) → length hs ≡ size t → length (dropped b t i hs) ≡ size t
-unfolding dropped size
-length-dropped b (Leaf v) i hs e = refl
-length-dropped b (Branch c l r) i hs e =
+pub length-drop_hashes : (b : ℕ) (t : Term) (i : ℕ) (hs : List (Option (List ℕ))) → length hs ≡ size t → length (drop_hashes b t i hs) ≡ size t
+unfolding drop_hashes size
+length-drop_hashes b (Leaf v) i hs e = refl
+length-drop_hashes b (Branch c l r) i hs e =
     let left : length (take (size l) hs) ≡ size l = length-take-le (size l) hs (omega arith) in
     let right : length (drop (suc (size l)) hs) ≡ size r = length-drop (suc (size l)) hs ∙ omega arith in
-    let first = length-dropped b l i (take (size l) hs) left in
-    let second = length-dropped (b + width l) r i (drop (suc (size l)) hs) right in
-    cond_both (nat_lt i (b + width l)) (dropped b l i (take (size l) hs) ++ (None ∷ drop (suc (size l)) hs)) (take (size l) hs ++ (None ∷ dropped (b + width l) r i (drop (suc (size l)) hs))) (λ ys. length ys ≡ size l + suc (size r))
-    (λ _. length-append (dropped b l i (take (size l) hs)) (None ∷ drop (suc (size l)) hs) ∙ omega arith)
-    (λ _. length-append (take (size l) hs) (None ∷ dropped (b + width l) r i (drop (suc (size l)) hs)) ∙ omega arith)
+    let first = length-drop_hashes b l i (take (size l) hs) left in
+    let second = length-drop_hashes (b + width l) r i (drop (suc (size l)) hs) right in
+    cond_both (nat_lt i (b + width l)) (drop_hashes b l i (take (size l) hs) ++ (None ∷ drop (suc (size l)) hs)) (take (size l) hs ++ (None ∷ drop_hashes (b + width l) r i (drop (suc (size l)) hs))) (λ ys. length ys ≡ size l + suc (size r))
+    (λ _. length-append (drop_hashes b l i (take (size l) hs)) (None ∷ drop (suc (size l)) hs) ∙ omega arith)
+    (λ _. length-append (take (size l) hs) (None ∷ drop_hashes (b + width l) r i (drop (suc (size l)) hs)) ∙ omega arith)
 
 swapped : (p q s : Bool) → (p || (q || s)) ≡ (q || (p || s))
 swapped true true s = refl
@@ -212,20 +212,20 @@ swapped true false s = refl
 swapped false q s = refl
 
 module _ (b : ℕ) (c : Option Parent) (l r : Term) (i x : ℕ) where
-  up_left : i < b + width l → has (upward b (Branch c l r) i) x ≡ (((2 * b + size l) == x) || has (upward b l i) x)
-  unfolding upward has
+  up_left : i < b + width l → has (nodes_upward b (Branch c l r) i) x ≡ (((2 * b + size l) == x) || has (nodes_upward b l i) x)
+  unfolding nodes_upward has
   up_left lt = rw (way_left b c l r i lt) (swapped ((2 * i) == x) ((2 * b + size l) == x) _)
 
-  up_right : b + width l ≤ i → has (upward b (Branch c l r) i) x ≡ (((2 * b + size l) == x) || has (upward (b + width l) r i) x)
-  unfolding upward has
+  up_right : b + width l ≤ i → has (nodes_upward b (Branch c l r) i) x ≡ (((2 * b + size l) == x) || has (nodes_upward (b + width l) r i) x)
+  unfolding nodes_upward has
   up_right ge = rw (way_right b c l r i ge) (swapped ((2 * i) == x) ((2 * b + size l) == x) _)
 
-up_leaf : (b : ℕ) (v : Option LeafNode) (i x : ℕ) → has (upward b (Leaf v) i) x ≡ (((2 * i) == x) || false)
-unfolding upward has
+up_leaf : (b : ℕ) (v : Option LeafNode) (i x : ℕ) → has (nodes_upward b (Leaf v) i) x ≡ (((2 * i) == x) || false)
+unfolding nodes_upward has
 up_leaf b v i x = rw (way_leaf b v i) refl
 
 -- they are nodes of the tree
-up_outside : (b : ℕ) (t : Term) (i x : ℕ) → b ≤ i → i < b + width t → (x < 2 * b) ⊎ (2 * b + size t ≤ x) → has (upward b t i) x ≡ false
+up_outside : (b : ℕ) (t : Term) (i x : ℕ) → b ≤ i → i < b + width t → (x < 2 * b) ⊎ (2 * b + size t ≤ x) → has (nodes_upward b t i) x ≡ false
 unfolding width size
 up_outside b (Leaf v) i x low high (inl out) = up_leaf b v i x ∙ rw (ne_eqb (2 * i) x (λ e. absurd (omega arith))) refl
 up_outside b (Leaf v) i x low high (inr out) = up_leaf b v i x ∙ rw (ne_eqb (2 * i) x (λ e. absurd (omega arith))) refl
@@ -242,12 +242,12 @@ up_outside b (Branch c l r) i x low high (inr out) =
       | inr ge ↦ up_right b c l r i x ge ∙ rw (ne_eqb (2 * b + size l) x (λ e. absurd (omega arith)), up_outside (b + width l) r i x ge (omega arith) (inr (omega arith))) refl
     ]
 
-pub dropped_left : (b : ℕ) (c : Option Parent) (l r : Term) (i : ℕ) (hs : List (Option (List ℕ))) → i < b + width l → dropped b (Branch c l r) i hs ≡ dropped b l i (take (size l) hs) ++ (None ∷ drop (suc (size l)) hs)
-unfolding dropped
+pub dropped_left : (b : ℕ) (c : Option Parent) (l r : Term) (i : ℕ) (hs : List (Option (List ℕ))) → i < b + width l → drop_hashes b (Branch c l r) i hs ≡ drop_hashes b l i (take (size l) hs) ++ (None ∷ drop (suc (size l)) hs)
+unfolding drop_hashes
 dropped_left b c l r i hs lt = cond-true _ _ _ (lt-ltb i (b + width l) lt)
 
-pub dropped_right : (b : ℕ) (c : Option Parent) (l r : Term) (i : ℕ) (hs : List (Option (List ℕ))) → b + width l ≤ i → dropped b (Branch c l r) i hs ≡ take (size l) hs ++ (None ∷ dropped (b + width l) r i (drop (suc (size l)) hs))
-unfolding dropped
+pub dropped_right : (b : ℕ) (c : Option Parent) (l r : Term) (i : ℕ) (hs : List (Option (List ℕ))) → b + width l ≤ i → drop_hashes b (Branch c l r) i hs ≡ take (size l) hs ++ (None ∷ drop_hashes (b + width l) r i (drop (suc (size l)) hs))
+unfolding drop_hashes
 dropped_right b c l r i hs ge = cond-false _ _ _ (le-ltb i (b + width l) ge)
 
 -- a place of a list in three parts
@@ -281,30 +281,30 @@ or_true p q s e = rw e (sym (or-true p))
 or_skip : (p q s : Bool) → q ≡ false → (p || s) ≡ (p || (q || s))
 or_skip p q s e = rw e refl
 
-pub cold-dropped : (b : ℕ) (t : Term) (i : ℕ) (hs : List (Option (List ℕ))) (n : ℕ) → length hs ≡ size t → b ≤ i → i < b + width t → n < size t → is_cold_at (dropped b t i hs) n ≡ (is_cold_at hs n || has (upward b t i) (2 * b + n))
+pub cold-drop_hashes : (b : ℕ) (t : Term) (i : ℕ) (hs : List (Option (List ℕ))) (n : ℕ) → length hs ≡ size t → b ≤ i → i < b + width t → n < size t → is_cold_at (drop_hashes b t i hs) n ≡ (is_cold_at hs n || has (nodes_upward b t i) (2 * b + n))
 unfolding width size
-cold-dropped b (Leaf v) i hs n e low high in_tree =
+cold-drop_hashes b (Leaf v) i hs n e low high in_tree =
     let at : 2 * i ≡ 2 * b + n = omega arith in
     let first : n ≡ 0 = omega arith in
     ap (λ ys. is_cold_at ys n) (dropped_leaf b v i hs)
     ∙ ap (is_cold_at (None ∷ [])) first
     ∙ or_true (is_cold_at hs n) ((2 * i) == (2 * b + n)) false (eq-eqb (2 * i) (2 * b + n) at)
     ∙ ap (λ q. is_cold_at hs n || q) (sym (up_leaf b v i (2 * b + n)))
-cold-dropped b (Branch c l r) i hs n e low high in_tree =
+cold-drop_hashes b (Branch c l r) i hs n e low high in_tree =
     let half = size-width l in
     let long_left : length (take (size l) hs) ≡ size l = length-take-le (size l) hs (omega arith) in
     let long_right : length (drop (suc (size l)) hs) ≡ size r = length-drop (suc (size l)) hs ∙ omega arith in
     elim (cases_lt i (b + width l)) [
       | inl lt ↦
-          let new = dropped b l i (take (size l) hs) in
+          let new = drop_hashes b l i (take (size l) hs) in
           let old = drop (suc (size l)) hs in
-          let long : length new ≡ size l = length-dropped b l i (take (size l) hs) long_left in
+          let long : length new ≡ size l = length-drop_hashes b l i (take (size l) hs) long_left in
           ap (λ ys. is_cold_at ys n) (dropped_left b c l r i hs lt)
           ∙ elim (cases_lt n (size l)) [
             | inl before ↦
                 cold_before new old (size l) long n before
-                ∙ cold-dropped b l i (take (size l) hs) n long_left low lt before
-                ∙ ap (λ p. p || has (upward b l i) (2 * b + n)) (cold_in_take (size l) n hs before)
+                ∙ cold-drop_hashes b l i (take (size l) hs) n long_left low lt before
+                ∙ ap (λ p. p || has (nodes_upward b l i) (2 * b + n)) (cold_in_take (size l) n hs before)
                 ∙ or_skip (is_cold_at hs n) ((2 * b + size l) == (2 * b + n)) _ (ne_eqb (2 * b + size l) (2 * b + n) (λ k. absurd (omega arith)))
             | inr later ↦ elim (cases_lt (size l) n) [
               | inl behind ↦
@@ -319,7 +319,7 @@ cold-dropped b (Branch c l r) i hs n e low high in_tree =
           ]
           ∙ ap (λ q. is_cold_at hs n || q) (sym (up_left b c l r i (2 * b + n) lt))
       | inr ge ↦
-          let new = dropped (b + width l) r i (drop (suc (size l)) hs) in
+          let new = drop_hashes (b + width l) r i (drop (suc (size l)) hs) in
           let old = take (size l) hs in
           ap (λ ys. is_cold_at ys n) (dropped_right b c l r i hs ge)
           ∙ elim (cases_lt n (size l)) [
@@ -331,9 +331,9 @@ cold-dropped b (Branch c l r) i hs n e low high in_tree =
               | inl behind ↦
                   let at : 2 * (b + width l) + (n - suc (size l)) ≡ 2 * b + n = omega arith in
                   cold_behind old new (size l) long_left n behind
-                  ∙ cold-dropped (b + width l) r i (drop (suc (size l)) hs) (n - suc (size l)) long_right ge (omega arith) (omega arith)
-                  ∙ ap (λ x. is_cold_at (drop (suc (size l)) hs) (n - suc (size l)) || has (upward (b + width l) r i) x) at
-                  ∙ ap (λ p. p || has (upward (b + width l) r i) (2 * b + n)) (cold_in_drop (size l) n hs behind)
+                  ∙ cold-drop_hashes (b + width l) r i (drop (suc (size l)) hs) (n - suc (size l)) long_right ge (omega arith) (omega arith)
+                  ∙ ap (λ x. is_cold_at (drop (suc (size l)) hs) (n - suc (size l)) || has (nodes_upward (b + width l) r i) x) at
+                  ∙ ap (λ p. p || has (nodes_upward (b + width l) r i) (2 * b + n)) (cold_in_drop (size l) n hs behind)
                   ∙ or_skip (is_cold_at hs n) ((2 * b + size l) == (2 * b + n)) _ (ne_eqb (2 * b + size l) (2 * b + n) (λ k. absurd (omega arith)))
               | inr there ↦
                   let at : n ≡ size l = omega arith in
@@ -379,7 +379,7 @@ pub cold_none : (m n : ℕ) → n < m → is_cold_at (replicate m None) n ≡ tr
 cold_none m n lt = ap (λ o. not (is_some o)) (get_or-replicate m n None (Some []) lt)
 
 -- as many as before and the edited nodes, at the most
-pub few_dropped : (h b : ℕ) (t : Term) (i : ℕ) (hs : List (Option (List ℕ))) → is_perfect h t ≡ true → length hs ≡ size t → cold_places (dropped b t i hs) ≤ cold_places hs + suc h
+pub few_dropped : (h b : ℕ) (t : Term) (i : ℕ) (hs : List (Option (List ℕ))) → is_perfect h t ≡ true → length hs ≡ size t → cold_places (drop_hashes b t i hs) ≤ cold_places hs + suc h
 unfolding is_perfect size
 few_dropped zero b (Leaf v) i hs p e = rw (dropped_leaf b v i hs) (omega arith)
 few_dropped (suc h) b (Leaf v) i hs p e = absurd (true≢false (sym p))
@@ -395,12 +395,12 @@ few_dropped (suc h) b (Branch c l r) i hs p e =
     let more : cold_places (drop (suc (size l)) hs) ≤ cold_places (root ∷ drop (suc (size l)) hs) = let at = cold-cons root (drop (suc (size l)) hs) in omega arith in
     elim (cases_lt i (b + width l)) [
       | inl lt ↦
-          let new = dropped b l i (take (size l) hs) in
+          let new = drop_hashes b l i (take (size l) hs) in
           let few = few_dropped h b l i (take (size l) hs) sides.0 long_left in
           let sum : cold_places (new ++ (None ∷ drop (suc (size l)) hs)) ≡ cold_places new + (1 + cold_places (drop (suc (size l)) hs)) = cold-append new (None ∷ drop (suc (size l)) hs) ∙ ap (λ n. cold_places new + n) (cold-cons None (drop (suc (size l)) hs)) in
           rw (dropped_left b c l r i hs lt) (omega arith)
       | inr ge ↦
-          let new = dropped (b + width l) r i (drop (suc (size l)) hs) in
+          let new = drop_hashes (b + width l) r i (drop (suc (size l)) hs) in
           let few = few_dropped h (b + width l) r i (drop (suc (size l)) hs) sides.1 long_right in
           let sum : cold_places (take (size l) hs ++ (None ∷ new)) ≡ cold_places (take (size l) hs) + (1 + cold_places new) = cold-append (take (size l) hs) (None ∷ new) ∙ ap (λ n. cold_places (take (size l) hs) + n) (cold-cons None new) in
           rw (dropped_right b c l r i hs ge) (omega arith)

@@ -11,7 +11,7 @@ pub mod Readings
 pub mod Resolving
 pub mod Filtered
 pub mod Targets
-pub mod Taken
+pub mod MembersAndBlanks
 pub mod Numbered
 pub mod Sent
 pub mod Standings
@@ -28,6 +28,6 @@ pub mod Candidates
 pub mod Hashings
 pub mod Ties
 pub mod Pieces
-pub mod Keepings
+pub mod KeptOrDropped
 pub mod Splitting
 pub mod WayHashes

@@ -7,7 +7,7 @@ use Rattle.mls_leaf.specs.Parent.{Parent}
 use Rattle.mls_leaf.specs.declared.node.Node.{Node}
 use Rattle.mls_treemath.specs.Paths.{nodes_in}
 use Rattle.mls_tree_model.specs.Term.{Term, width}
-use Rattle.mls_tree_model.specs.Lists.{asked, all_parents, may_list, is_listed, may_be_listed}
+use Rattle.mls_tree_model.specs.Lists.{parent_passes, all_parents, may_list, is_listed, may_be_listed}
 use Rattle.mls_tree_model.specs.Arrays.{leaf_in, parent_in, term_of}
 use Rattle.mls_tree_model.proofs.Equations.{all_parents_leaf, all_parents_branch}
 use Rattle.mls_tree_model.proofs.ArrayLaws.{term_of-zero}
@@ -89,8 +89,8 @@ all_end p xs i ge = ap (list_all p) (drop_all i xs ge)
 pub each_leaf : (q : ℕ → Parent → Term → Term → Bool) (b h : ℕ) (xs : List (Option Node)) → h ≡ 0 → all_parents q b (term_of h xs) ≡ true
 each_leaf q b h xs low = ap (λ j. all_parents q b (term_of j xs)) low ∙ ap (all_parents q b) (term_of-zero xs) ∙ all_parents_leaf b _ q
 
-pub each_sides : (q : ℕ → Parent → Term → Term → Bool) (b h m : ℕ) (xs : List (Option Node)) (n : Option Node) → InParts h m xs n → all_parents q b (term_of h xs) ≡ (asked q b (parent_in n) (left_side h m xs) (right_side h m xs) && (all_parents q b (left_side h m xs) && all_parents q (b + (m / 2 + 1)) (right_side h m xs)))
+pub each_sides : (q : ℕ → Parent → Term → Term → Bool) (b h m : ℕ) (xs : List (Option Node)) (n : Option Node) → InParts h m xs n → all_parents q b (term_of h xs) ≡ (parent_passes q b (parent_in n) (left_side h m xs) (right_side h m xs) && (all_parents q b (left_side h m xs) && all_parents q (b + (m / 2 + 1)) (right_side h m xs)))
 each_sides q b h m xs n parts =
     ap (all_parents q b) parts.is
     ∙ all_parents_branch b (parent_in n) (left_side h m xs) (right_side h m xs) q
-    ∙ ap (λ k. asked q b (parent_in n) (left_side h m xs) (right_side h m xs) && (all_parents q b (left_side h m xs) && all_parents q (b + k) (right_side h m xs))) parts.left_width
+    ∙ ap (λ k. parent_passes q b (parent_in n) (left_side h m xs) (right_side h m xs) && (all_parents q b (left_side h m xs) && all_parents q (b + k) (right_side h m xs))) parts.left_width

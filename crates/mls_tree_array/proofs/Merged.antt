@@ -17,7 +17,7 @@ use Rattle.mls_tree_model.specs.Hashes.{tree_hash, parent_hash}
 use Rattle.mls_tree_model.specs.Merge.{new_parent, keys_below, hash_below, merge, path_hash, parent_beside, keys_beside, hash_beside}
 use Rattle.mls_tree_model.specs.Arrays.{leaf_in, parent_in, leaf_cell, parent_cell, term_of, in_order, HasMiddle}
 use Rattle.mls_tree_model.proofs.Equations.{path_length_leaf, path_length_left, path_length_right, path_hash_leaf, path_hash_left, path_hash_right, merge_leaf, merge_left, merge_right}
-use Rattle.mls_tree_model.proofs.MemberLaws.{original-none}
+use Rattle.mls_tree_model.proofs.MemberLaws.{original_tree-none}
 use Rattle.mls_tree_array.specs.Standing.{Stands}
 use Rattle.mls_tree_model.proofs.ArrayLaws.{width-term_of}
 use Rattle.mls_tree_array.proofs.StandingLaws.{in_order-leaf}
@@ -35,7 +35,7 @@ rises_none = refl
 
 made_hash : (b : ℕ) (t : Term) (key h : List ℕ) → hash_below (Some (record { encryption_key = key; parent_hash = h; unmerged_leaves = [] })) b t h ≡ sibling_hash key h (tree_hash b t)
 unfolding parent_hash
-made_hash b t key h = ap (λ s. sibling_hash key h (tree_hash b s)) (original-none b t)
+made_hash b t key h = ap (λ s. sibling_hash key h (tree_hash b s)) (original_tree-none b t)
 
 made_below : (f : Bool) (b : ℕ) (t : Term) (ks more : List (List ℕ)) (key h : List ℕ) → f ≡ true → ks ≡ key ∷ more → hash_below (new_parent f ks h) b t h ≡ sibling_hash key h (tree_hash b t)
 made_below f b t ks more key h e k =

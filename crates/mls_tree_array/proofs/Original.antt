@@ -7,31 +7,31 @@ use Rattle.mls_leaf.specs.declared.node.Node.{Node}
 use Rattle.mls_tree_model.specs.Sets.{has, less, same_bytes}
 use Rattle.mls_tree_model.specs.Term.{Term, Leaf, Branch, width}
 use Rattle.mls_tree_model.specs.Inputs.{leaf_hash, branch_hash}
-use Rattle.mls_tree_model.specs.Hashes.{tree_hash, unlisting, original}
+use Rattle.mls_tree_model.specs.Hashes.{tree_hash, unlist_leaves, original_tree}
 use Rattle.mls_tree_model.specs.Arrays.{leaf_in, parent_in, term_of}
 use Rattle.mls_tree_model.proofs.Equations.{tree_hash_leaf, tree_hash_branch, original_leaf, original_branch}
 use Rattle.mls_tree_model.proofs.ArrayLaws.{term_of-zero}
 use Rattle.mls_tree_model.proofs.CountLaws.{bytes_true}
-use Rattle.mls_tree_array.specs.Witnesses.{listed}
+use Rattle.mls_tree_array.specs.Witnesses.{unmerged_leaves_of}
 use Rattle.mls_tree_array.proofs.Readings.{left_side, right_side, InParts}
 
-pub added_leaf : (us : List ℕ) (b h : ℕ) (xs : List (Option Node)) → h ≡ 0 → has us b ≡ true → tree_hash b (original us b (term_of h xs)) ≡ leaf_hash b None
+pub added_leaf : (us : List ℕ) (b h : ℕ) (xs : List (Option Node)) → h ≡ 0 → has us b ≡ true → tree_hash b (original_tree us b (term_of h xs)) ≡ leaf_hash b None
 added_leaf us b h xs low there =
-    ap (λ j. tree_hash b (original us b (term_of j xs))) low
-    ∙ ap (λ t. tree_hash b (original us b t)) (term_of-zero xs)
+    ap (λ j. tree_hash b (original_tree us b (term_of j xs))) low
+    ∙ ap (λ t. tree_hash b (original_tree us b t)) (term_of-zero xs)
     ∙ ap (tree_hash b) (original_leaf b (leaf_in (get_or xs 0 None)) us)
     ∙ ap (λ v. tree_hash b (Leaf v)) (cond-true _ _ _ there)
     ∙ tree_hash_leaf b None
 
 -- where a leaf isn't among them, its hash stays
-pub same_leaf : (us : List ℕ) (b h : ℕ) (xs : List (Option Node)) → h ≡ 0 → has us b ≡ false → tree_hash b (term_of h xs) ≡ tree_hash b (original us b (term_of h xs))
+pub same_leaf : (us : List ℕ) (b h : ℕ) (xs : List (Option Node)) → h ≡ 0 → has us b ≡ false → tree_hash b (term_of h xs) ≡ tree_hash b (original_tree us b (term_of h xs))
 same_leaf us b h xs low gone =
     ap (λ j. tree_hash b (term_of j xs)) low
     ∙ ap (tree_hash b) (term_of-zero xs)
     ∙ ap (λ v. tree_hash b (Leaf v)) (sym (cond-false _ _ _ gone))
     ∙ ap (tree_hash b) (sym (original_leaf b (leaf_in (get_or xs 0 None)) us))
-    ∙ ap (λ t. tree_hash b (original us b t)) (sym (term_of-zero xs))
-    ∙ ap (λ j. tree_hash b (original us b (term_of j xs))) (sym low)
+    ∙ ap (λ t. tree_hash b (original_tree us b t)) (sym (term_of-zero xs))
+    ∙ ap (λ j. tree_hash b (original_tree us b (term_of j xs))) (sym low)
 
 -- and a list that has none of them stays
 less_kept : (us xs : List ℕ) → list_all (λ u. not (has us u)) xs ≡ true → less us xs ≡ xs
@@ -40,33 +40,33 @@ less_kept us (x ∷ xs) e =
     let p = and_parts (not (has us x)) (list_all (λ u. not (has us u)) xs) e in
     rw p.0 (ap (λ ys. x ∷ ys) (less_kept us xs p.1))
 
-pub unlisting_kept : (us : List ℕ) (c : Option Parent) → list_all (λ u. not (has us u)) (listed c) ≡ true → unlisting us c ≡ c
+pub unlisting_kept : (us : List ℕ) (c : Option Parent) → list_all (λ u. not (has us u)) (unmerged_leaves_of c) ≡ true → unlist_leaves us c ≡ c
 unlisting_kept us None e = refl
 unlisting_kept us (Some p) e =
     ap (λ ys. let r : Parent = record { encryption_key = p.encryption_key; parent_hash = p.parent_hash; unmerged_leaves = ys } in Some r) (less_kept us p.unmerged_leaves e)
 
 -- so a root whose sides keep their hashes keeps its own
-pub same_root : (us l l' r r' own : List ℕ) (c : Option Parent) → own ≡ branch_hash c l' r' → (same_bytes l l' && (same_bytes r r' && list_all (λ u. not (has us u)) (listed c))) ≡ true → own ≡ branch_hash (unlisting us c) l r
+pub same_root : (us l l' r r' own : List ℕ) (c : Option Parent) → own ≡ branch_hash c l' r' → (same_bytes l l' && (same_bytes r r' && list_all (λ u. not (has us u)) (unmerged_leaves_of c))) ≡ true → own ≡ branch_hash (unlist_leaves us c) l r
 same_root us l l' r r' own c is same =
     let p = and_parts (same_bytes l l') _ same in
-    let q = and_parts (same_bytes r r') (list_all (λ u. not (has us u)) (listed c)) p.1 in
+    let q = and_parts (same_bytes r r') (list_all (λ u. not (has us u)) (unmerged_leaves_of c)) p.1 in
     is
     ∙ ap (λ d. branch_hash d l' r') (sym (unlisting_kept us c q.1))
-    ∙ ap (λ x. branch_hash (unlisting us c) x r') (sym (bytes_true l l' p.0))
-    ∙ ap (branch_hash (unlisting us c) l) (sym (bytes_true r r' q.0))
+    ∙ ap (λ x. branch_hash (unlist_leaves us c) x r') (sym (bytes_true l l' p.0))
+    ∙ ap (branch_hash (unlist_leaves us c) l) (sym (bytes_true r r' q.0))
 
 -- an original tree is as wide
-pub width-original : (us : List ℕ) (b : ℕ) (t : Term) → width (original us b t) ≡ width t
-unfolding width original
-width-original us b (Leaf v) = refl
-width-original us b (Branch c l r) = omega (arith, width-original us b l, width-original us (b + width l) r)
+pub width-original_tree : (us : List ℕ) (b : ℕ) (t : Term) → width (original_tree us b t) ≡ width t
+unfolding width original_tree
+width-original_tree us b (Leaf v) = refl
+width-original_tree us b (Branch c l r) = omega (arith, width-original_tree us b l, width-original_tree us (b + width l) r)
 
-pub original_sides : (us : List ℕ) (b h m : ℕ) (xs : List (Option Node)) (n : Option Node) → InParts h m xs n → tree_hash b (original us b (term_of h xs)) ≡ branch_hash (unlisting us (parent_in n)) (tree_hash b (original us b (left_side h m xs))) (tree_hash (b + (m / 2 + 1)) (original us (b + (m / 2 + 1)) (right_side h m xs)))
+pub original_sides : (us : List ℕ) (b h m : ℕ) (xs : List (Option Node)) (n : Option Node) → InParts h m xs n → tree_hash b (original_tree us b (term_of h xs)) ≡ branch_hash (unlist_leaves us (parent_in n)) (tree_hash b (original_tree us b (left_side h m xs))) (tree_hash (b + (m / 2 + 1)) (original_tree us (b + (m / 2 + 1)) (right_side h m xs)))
 original_sides us b h m xs n parts =
     let l = left_side h m xs in
     let r = right_side h m xs in
-    ap (λ t. tree_hash b (original us b t)) parts.is
+    ap (λ t. tree_hash b (original_tree us b t)) parts.is
     ∙ ap (tree_hash b) (original_branch b (parent_in n) l r us)
-    ∙ tree_hash_branch b (unlisting us (parent_in n)) (original us b l) (original us (b + width l) r)
-    ∙ ap (λ w. branch_hash (unlisting us (parent_in n)) (tree_hash b (original us b l)) (tree_hash (b + w) (original us (b + width l) r))) (width-original us b l)
-    ∙ ap (λ w. branch_hash (unlisting us (parent_in n)) (tree_hash b (original us b l)) (tree_hash (b + w) (original us (b + w) r))) parts.left_width
+    ∙ tree_hash_branch b (unlist_leaves us (parent_in n)) (original_tree us b l) (original_tree us (b + width l) r)
+    ∙ ap (λ w. branch_hash (unlist_leaves us (parent_in n)) (tree_hash b (original_tree us b l)) (tree_hash (b + w) (original_tree us (b + width l) r))) (width-original_tree us b l)
+    ∙ ap (λ w. branch_hash (unlist_leaves us (parent_in n)) (tree_hash b (original_tree us b l)) (tree_hash (b + w) (original_tree us (b + w) r))) parts.left_width

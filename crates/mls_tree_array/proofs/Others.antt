@@ -12,7 +12,7 @@ use Rattle.mls_tree_model.specs.Term.{Term, width}
 use Rattle.mls_tree_model.specs.Resolution.{resolution}
 use Rattle.mls_tree_model.specs.Hashes.{hash_at, is_some_bytes, is_witness, has_witness, parent_hash}
 use Rattle.mls_tree_model.proofs.SetLaws.{eqb_refl, any_at, any_from, has-filter, has-leaf_numbers, of_leaf_numbers, set_at, has-any}
-use Rattle.mls_tree_array.specs.Witnesses.{numbers_in, others, first_off, kept, only_off, candidate}
+use Rattle.mls_tree_array.specs.Witnesses.{numbers_in, others, first_outside, keep_if, only_outside, candidate}
 
 -- ---- lists as sets
 
@@ -161,7 +161,7 @@ one ls xs d x same there out =
           set_at ls (others x xs) same d ∙ has-filter (λ y. not (y == x)) xs d ∙ and_from _ _ there (ap not k)) ∙ out))
     ]
 
-tied_at : (ls xs : List ℕ) (f : ℕ → Bool) (o : Option ℕ) → first_off ls xs ≡ o → list_any (λ d. f d && is_same_set ls (others d xs)) xs ≡ given f (kept (λ d. is_same_set ls (others d xs)) o)
+tied_at : (ls xs : List ℕ) (f : ℕ → Bool) (o : Option ℕ) → first_outside ls xs ≡ o → list_any (λ d. f d && is_same_set ls (others d xs)) xs ≡ given f (keep_if (λ d. is_same_set ls (others d xs)) o)
 tied_at ls xs f None e =
     false_from_ne_true _ (λ h.
     let g = any_at (λ d. f d && is_same_set ls (others d xs)) xs h in
@@ -184,6 +184,6 @@ tied_at ls xs f (Some d) e =
     ]
 
 pub witness_is : (p : Parent) (b : ℕ) (c : Term) (m : ℕ) (s : Term) → has_witness p b c m s ≡ given (λ d. is_some_bytes (hash_at b c d) (parent_hash p m s)) (candidate p b c)
-unfolding has_witness is_witness candidate only_off
+unfolding has_witness is_witness candidate only_outside
 witness_is p b c m s =
     tied_at (leaf_numbers (within b (width c) p.unmerged_leaves)) (resolution b c) (λ d. is_some_bytes (hash_at b c d) (parent_hash p m s)) _ refl

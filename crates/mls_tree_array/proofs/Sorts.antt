@@ -16,7 +16,7 @@ use Rattle.std.proofs.Math.Bool.{and-false}
 use Rattle.mls_tree_model.specs.Sets.{same_bytes, count, is_distinct}
 use Rattle.mls_tree_model.proofs.MergeLaws.{bytes_refl}
 use Rattle.mls_tree_model.proofs.CountLaws.{bytes_true, distinct_at, distinct_from}
-use Rattle.mls_tree_array.specs.Merged.{Differ, Repeats, bytes_in}
+use Rattle.mls_tree_array.specs.DistinctStrings.{Differ, Repeats, bytes_in}
 
 -- ---- counting
 

@@ -13,10 +13,10 @@ use Rattle.mls_leaf.specs.declared.node.Node.{Node}
 use Rattle.mls_tree_model.specs.Term.{Term, Leaf, Branch, width}
 use Rattle.mls_tree_model.specs.Sets.{has, less}
 use Rattle.mls_tree_model.proofs.SetLaws.{has-append, eqb_refl}
-use Rattle.mls_tree_model.specs.Lists.{asked, all_parents, lists_here}
+use Rattle.mls_tree_model.specs.Lists.{parent_passes, all_parents, lists_here}
 use Rattle.mls_tree_model.proofs.NamedLaws.{lists_bound}
 use Rattle.mls_tree_model.proofs.ParentLaws.{parents_parts}
-use Rattle.mls_tree_model.specs.Hashes.{tree_hash, unlisting, original}
+use Rattle.mls_tree_model.specs.Hashes.{tree_hash, unlist_leaves, original_tree}
 use Rattle.mls_tree_model.specs.Arrays.{term_of}
 use Rattle.mls_tree_array.specs.Splits.{Splits}
 use Rattle.mls_tree_array.proofs.Readings.{left_side, right_side, InParts}
@@ -95,20 +95,20 @@ less_same us vs (x ∷ xs) same =
     let rest = less_same us vs xs (λ y e. same y (or_right (x == y) (has xs y) e)) in
     rw (here, rest) refl
 
-unlisting_same : (us vs : List ℕ) (b : ℕ) (c : Option Parent) (l r : Term) → asked lists_here b c l r ≡ true → ((j : ℕ) → b ≤ j → j < b + (width l + width r) → has us j ≡ has vs j) → unlisting us c ≡ unlisting vs c
+unlisting_same : (us vs : List ℕ) (b : ℕ) (c : Option Parent) (l r : Term) → parent_passes lists_here b c l r ≡ true → ((j : ℕ) → b ≤ j → j < b + (width l + width r) → has us j ≡ has vs j) → unlist_leaves us c ≡ unlist_leaves vs c
 unlisting_same us vs b None l r h same = refl
 unlisting_same us vs b (Some p) l r h same =
     ap (λ ys. let q : Parent = record { encryption_key = p.encryption_key; parent_hash = p.parent_hash; unmerged_leaves = ys } in Some q)
     (less_same us vs p.unmerged_leaves (λ x e. let at = lists_bound b p l r x h e in same x at.0 at.1))
 
-original_same : (us vs : List ℕ) (b : ℕ) (t : Term) → all_parents lists_here b t ≡ true → ((j : ℕ) → b ≤ j → j < b + width t → has us j ≡ has vs j) → original us b t ≡ original vs b t
-unfolding original width
+original_same : (us vs : List ℕ) (b : ℕ) (t : Term) → all_parents lists_here b t ≡ true → ((j : ℕ) → b ≤ j → j < b + width t → has us j ≡ has vs j) → original_tree us b t ≡ original_tree vs b t
+unfolding original_tree width
 original_same us vs b (Leaf v) h same = ap (λ w. Leaf (cond w None v)) (same b (omega arith) (omega arith))
 original_same us vs b (Branch c l r) h same =
     let p = parents_parts lists_here b c l r h in
-    ap (λ d. Branch d (original us b l) (original us (b + width l) r)) (unlisting_same us vs b c l r p.0 same)
-    ∙ ap (λ x. Branch (unlisting vs c) x (original us (b + width l) r)) (original_same us vs b l p.1 (λ j low high. same j low (omega arith)))
-    ∙ ap (λ x. Branch (unlisting vs c) (original vs b l) x) (original_same us vs (b + width l) r p.2 (λ j low high. same j (omega arith) (omega arith)))
+    ap (λ d. Branch d (original_tree us b l) (original_tree us (b + width l) r)) (unlisting_same us vs b c l r p.0 same)
+    ∙ ap (λ x. Branch (unlist_leaves vs c) x (original_tree us (b + width l) r)) (original_same us vs b l p.1 (λ j low high. same j low (omega arith)))
+    ∙ ap (λ x. Branch (unlist_leaves vs c) (original_tree vs b l) x) (original_same us vs (b + width l) r p.2 (λ j low high. same j (omega arith) (omega arith)))
 
 -- so each side needs the leaves on it alone
 module _ (h m : ℕ) (xs : List (Option Node)) (n : Option Node) (parts : InParts h m xs n) (b : ℕ) (lists : all_parents lists_here b (term_of h xs) ≡ true) where
@@ -117,11 +117,11 @@ module _ (h m : ℕ) (xs : List (Option Node)) (n : Option Node) (parts : InPart
       let p = parents_parts lists_here b _ (left_side h m xs) (right_side h m xs) (ap (all_parents lists_here b) (sym parts.is) ∙ lists) in
       (p.1, ap (λ k. all_parents lists_here (b + k) (right_side h m xs)) (sym parts.left_width) ∙ p.2)
 
-  pub left_original : (us : List ℕ) (k : ℕ) → Splits us (b + (m / 2 + 1)) k → tree_hash b (original (take k us) b (left_side h m xs)) ≡ tree_hash b (original us b (left_side h m xs))
+  pub left_original : (us : List ℕ) (k : ℕ) → Splits us (b + (m / 2 + 1)) k → tree_hash b (original_tree (take k us) b (left_side h m xs)) ≡ tree_hash b (original_tree us b (left_side h m xs))
   left_original us k splits =
       let wide = parts.left_width in
       ap (tree_hash b) (original_same (take k us) us b (left_side h m xs) right_lists.0 (λ j low high. sym (splits.before j (omega arith))))
 
-  pub right_original : (us : List ℕ) (k : ℕ) → Splits us (b + (m / 2 + 1)) k → tree_hash (b + (m / 2 + 1)) (original (drop k us) (b + (m / 2 + 1)) (right_side h m xs)) ≡ tree_hash (b + (m / 2 + 1)) (original us (b + (m / 2 + 1)) (right_side h m xs))
+  pub right_original : (us : List ℕ) (k : ℕ) → Splits us (b + (m / 2 + 1)) k → tree_hash (b + (m / 2 + 1)) (original_tree (drop k us) (b + (m / 2 + 1)) (right_side h m xs)) ≡ tree_hash (b + (m / 2 + 1)) (original_tree us (b + (m / 2 + 1)) (right_side h m xs))
   right_original us k splits =
       ap (tree_hash (b + (m / 2 + 1))) (original_same (drop k us) us (b + (m / 2 + 1)) (right_side h m xs) right_lists.1 (λ j low high. sym (splits.behind j low)))

@@ -6,11 +6,11 @@ use Rattle.mls_leaf.specs.Parent.{Parent}
 use Rattle.mls_leaf.specs.declared.node.Node.{Node}
 use Rattle.mls_treemath.specs.Paths.{nodes_in}
 use Rattle.mls_tree_model.specs.Term.{Term, Leaf, Branch, width}
-use Rattle.mls_tree_model.specs.Lists.{asked, all_parents}
+use Rattle.mls_tree_model.specs.Lists.{parent_passes, all_parents}
 use Rattle.mls_tree_model.specs.Inputs.{sibling_hash}
-use Rattle.mls_tree_model.specs.Hashes.{tree_hash, original, parent_hash, hash_at, is_some_bytes, has_witness, is_parent_hash_valid}
+use Rattle.mls_tree_model.specs.Hashes.{tree_hash, original_tree, parent_hash, hash_at, is_some_bytes, has_witness, is_parent_hash_valid}
 use Rattle.mls_tree_model.specs.Arrays.{parent_in, term_of, HasMiddle}
-use Rattle.mls_tree_array.specs.Kept.{hashes_of}
+use Rattle.mls_tree_array.specs.KeptHashes.{hashes_of}
 use Rattle.mls_tree_array.proofs.KeptLaws.{length-hashes_of, right_part}
 use Rattle.mls_tree_array.specs.Witnesses.{candidate}
 use Rattle.mls_tree_array.proofs.Others.{given, witness_is}
@@ -84,20 +84,20 @@ module _ (h m : ℕ) (xs : List (Option Node)) (hs : List (Option (List ℕ))) (
 -- ---- a side that a node ties
 
 -- the hash that is asked for
-asked_hash : (p : Parent) (k : ℕ) (s : Term) (key hash us sibling g : List ℕ) → key ≡ p.encryption_key → hash ≡ p.parent_hash → us ≡ p.unmerged_leaves → sibling ≡ tree_hash k (original us k s) → g ≡ sibling_hash key hash sibling → g ≡ parent_hash p k s
+asked_hash : (p : Parent) (k : ℕ) (s : Term) (key hash us sibling g : List ℕ) → key ≡ p.encryption_key → hash ≡ p.parent_hash → us ≡ p.unmerged_leaves → sibling ≡ tree_hash k (original_tree us k s) → g ≡ sibling_hash key hash sibling → g ≡ parent_hash p k s
 unfolding parent_hash
 asked_hash p k s key hash us sibling g is_key is_hash is_list is_sibling is =
     is
     ∙ ap (λ x. sibling_hash x hash sibling) is_key
     ∙ ap (λ x. sibling_hash p.encryption_key x sibling) is_hash
     ∙ ap (sibling_hash p.encryption_key p.parent_hash) is_sibling
-    ∙ ap (λ x. sibling_hash p.encryption_key p.parent_hash (tree_hash k (original x k s))) is_list
+    ∙ ap (λ x. sibling_hash p.encryption_key p.parent_hash (tree_hash k (original_tree x k s))) is_list
 
 pub untied : (p : Parent) (b k : ℕ) (t s : Term) → None ≡ candidate p b t → false ≡ has_witness p b t k s
 untied p b k t s none =
     sym (witness_is p b t k s ∙ ap (given (λ d. is_some_bytes (hash_at b t d) (parent_hash p k s))) (sym none))
 
-pub tied : (p : Parent) (b k d : ℕ) (t s : Term) (v : Bool) (key hash us sibling g : List ℕ) → Some d ≡ candidate p b t → key ≡ p.encryption_key → hash ≡ p.parent_hash → us ≡ p.unmerged_leaves → sibling ≡ tree_hash k (original us k s) → g ≡ sibling_hash key hash sibling → v ≡ is_some_bytes (hash_at b t d) g → v ≡ has_witness p b t k s
+pub tied : (p : Parent) (b k d : ℕ) (t s : Term) (v : Bool) (key hash us sibling g : List ℕ) → Some d ≡ candidate p b t → key ≡ p.encryption_key → hash ≡ p.parent_hash → us ≡ p.unmerged_leaves → sibling ≡ tree_hash k (original_tree us k s) → g ≡ sibling_hash key hash sibling → v ≡ is_some_bytes (hash_at b t d) g → v ≡ has_witness p b t k s
 tied p b k d t s v key hash us sibling g some is_key is_hash is_list is_sibling is_asked is =
     is
     ∙ ap (is_some_bytes (hash_at b t d)) (asked_hash p k s key hash us sibling g is_key is_hash is_list is_sibling is_asked)
@@ -127,24 +127,24 @@ module _ (h m : ℕ) (xs : List (Option Node)) (n : Option Node) (parts : InPart
   unfolding own
   same_root = ap own (sym parts.is ∙ is)
 
-  pub blank_root : None ≡ parent_in n → true ≡ asked is_parent_hash_valid b c l r
-  blank_root none = ap (λ d. asked is_parent_hash_valid b d l r) (none ∙ same_root)
+  pub blank_root : None ≡ parent_in n → true ≡ parent_passes is_parent_hash_valid b c l r
+  blank_root none = ap (λ d. parent_passes is_parent_hash_valid b d l r) (none ∙ same_root)
 
-  full_root : (p : Parent) → Some p ≡ parent_in n → (has_witness p b l (b + width l) r || has_witness p (b + width l) r b l) ≡ asked is_parent_hash_valid b c l r
+  full_root : (p : Parent) → Some p ≡ parent_in n → (has_witness p b l (b + width l) r || has_witness p (b + width l) r b l) ≡ parent_passes is_parent_hash_valid b c l r
   unfolding is_parent_hash_valid
-  full_root p some = ap (λ d. asked is_parent_hash_valid b d l r) (some ∙ same_root)
+  full_root p some = ap (λ d. parent_passes is_parent_hash_valid b d l r) (some ∙ same_root)
 
-  pub tied_root : (p : Parent) (v : Bool) → Some p ≡ parent_in n → v ≡ has_witness p b l (b + width l) r → v ≡ true → true ≡ asked is_parent_hash_valid b c l r
+  pub tied_root : (p : Parent) (v : Bool) → Some p ≡ parent_in n → v ≡ has_witness p b l (b + width l) r → v ≡ true → true ≡ parent_passes is_parent_hash_valid b c l r
   tied_root p v some left yes_left =
       sym (ap (λ w. w || has_witness p (b + width l) r b l) (sym left ∙ yes_left)) ∙ full_root p some
 
-  pub other_root : (p : Parent) (v w : Bool) → Some p ≡ parent_in n → v ≡ has_witness p b l (b + width l) r → v ≡ false → w ≡ has_witness p (b + width l) r b l → w ≡ asked is_parent_hash_valid b c l r
+  pub other_root : (p : Parent) (v w : Bool) → Some p ≡ parent_in n → v ≡ has_witness p b l (b + width l) r → v ≡ false → w ≡ has_witness p (b + width l) r b l → w ≡ parent_passes is_parent_hash_valid b c l r
   other_root p v w some left no_left right =
       right ∙ sym (ap (λ x. x || has_witness p (b + width l) r b l) (sym left ∙ no_left)) ∙ full_root p some
 
 -- ---- each parent, by the root and then the sides
 
-module _ (q : ℕ → Parent → Term → Term → Bool) (b h m : ℕ) (xs : List (Option Node)) (n : Option Node) (parts : InParts h m xs n) (v : Bool) (root : v ≡ asked q b (parent_in n) (left_side h m xs) (right_side h m xs)) where
+module _ (q : ℕ → Parent → Term → Term → Bool) (b h m : ℕ) (xs : List (Option Node)) (n : Option Node) (parts : InParts h m xs n) (v : Bool) (root : v ≡ parent_passes q b (parent_in n) (left_side h m xs) (right_side h m xs)) where
   pub not_root : v ≡ false → false ≡ all_parents q b (term_of h xs)
   not_root fails = rw (each_sides q b h m xs n parts, ← root, fails) refl
 

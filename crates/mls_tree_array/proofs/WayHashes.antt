@@ -19,12 +19,12 @@ use Rattle.mls_tree_model.proofs.Equations.{tree_hash_leaf, tree_hash_branch, me
 use Rattle.mls_tree_model.proofs.MergeLaws.{width-merge}
 use Rattle.mls_tree_model.proofs.ShapeLaws.{width-perfect}
 use Rattle.mls_tree_model.proofs.ArrayLaws.{size-perfect, term_of-zero}
-use Rattle.mls_tree_array.specs.Kept.{hashes_of}
+use Rattle.mls_tree_array.specs.KeptHashes.{hashes_of}
 use Rattle.mls_tree_array.proofs.KeptLaws.{length-hashes_of, hashes_of_branch, right_part}
 use Rattle.mls_tree_array.specs.Merging.{path_parents, first_if, rest_if}
 use Rattle.mls_tree_array.specs.WayHashes.{way_hashes, HashesMerged, PutsHashes}
 use Rattle.mls_tree_array.proofs.WayHashLaws.{way_hashes_leaf, way_hashes_left, way_hashes_right}
-use Rattle.mls_tree_array.proofs.Keepings.{one_set_to}
+use Rattle.mls_tree_array.proofs.KeptOrDropped.{one_set_to}
 use Rattle.mls_tree_array.proofs.Merged.{parents_left, parents_right, no_parents, none_below, first_made, rest_made}
 use Rattle.mls_tree_array.proofs.Readings.{left_side, right_side, InParts}
 use Rattle.mls_tree_array.proofs.Pieces.{set_then_front, set_then_back, front_then, back_then}

@@ -1,10 +1,10 @@
 pub mod Standing
 pub mod StandingLaws
 pub mod Merging
-pub mod Merged
+pub mod DistinctStrings
 pub mod Witnesses
-pub mod Gathered
-pub mod Kept
-pub mod Ends
+pub mod CellKeys
+pub mod KeptHashes
+pub mod EndOfMembers
 pub mod Splits
 pub mod WayHashes

@@ -5,7 +5,7 @@ use Rattle.mls_leaf.specs.declared.leaf.LeafNode.{LeafNode}
 use Rattle.mls_tree_model.specs.Term.{Term, Leaf, Branch, width, is_perfect}
 use Rattle.mls_tree_model.specs.Hashes.{tree_hash}
 use Rattle.mls_tree_model.specs.Merge.{merge}
-use Rattle.mls_tree_array.specs.Kept.{hashes_of}
+use Rattle.mls_tree_array.specs.KeptHashes.{hashes_of}
 use Rattle.mls_tree_array.specs.Merging.{path_parents}
 
 -- the tree hashes of leaf i and of the nodes over it (RFC 9420, 4.1.2 and 7.8), the lowest first

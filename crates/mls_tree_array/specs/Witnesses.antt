@@ -15,23 +15,23 @@ abbrev pub others : ℕ → List ℕ → List ℕ
 others d xs = filter (λ x. not (x == d)) xs
 
 -- the first node that a list doesn't have
-abbrev pub first_off : List ℕ → List ℕ → Option ℕ
-first_off ls xs = find (λ x. not (has ls x)) xs
+abbrev pub first_outside : List ℕ → List ℕ → Option ℕ
+first_outside ls xs = find (λ x. not (has ls x)) xs
 
 -- a node, where it passes a test
-abbrev pub kept : (ℕ → Bool) → Option ℕ → Option ℕ
-kept q None = None
-kept q (Some d) = if q d then Some d else None
+abbrev pub keep_if : (ℕ → Bool) → Option ℕ → Option ℕ
+keep_if q None = None
+keep_if q (Some d) = if q d then Some d else None
 
 -- the one node of a resolution that isn't in a list, where all others are, and the list has no more
-unfoldable pub only_off : List ℕ → List ℕ → Option ℕ
-only_off ls xs = kept (λ d. is_same_set ls (others d xs)) (first_off ls xs)
+unfoldable pub only_outside : List ℕ → List ℕ → Option ℕ
+only_outside ls xs = keep_if (λ d. is_same_set ls (others d xs)) (first_outside ls xs)
 
 -- the only node that can tie the side c, whose first leaf is b, to the parent p
 unfoldable pub candidate : Parent → ℕ → Term → Option ℕ
-candidate p b c = only_off (leaf_numbers (within b (width c) p.unmerged_leaves)) (resolution b c)
+candidate p b c = only_outside (leaf_numbers (within b (width c) p.unmerged_leaves)) (resolution b c)
 
 -- the leaves that a place lists, none where it is blank
-abbrev pub listed : Option Parent → List ℕ
-listed None = []
-listed (Some p) = p.unmerged_leaves
+abbrev pub unmerged_leaves_of : Option Parent → List ℕ
+unmerged_leaves_of None = []
+unmerged_leaves_of (Some p) = p.unmerged_leaves

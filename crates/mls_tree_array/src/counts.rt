@@ -14,7 +14,7 @@ use mls_tree_slot::Slot;
 use std::alloc::AllocError;
 
 /// Whether a node is one of these leaves.
-fn is_one_of(leaves: &[u32], node: u64) -> bool
+fn is_leaf_among(leaves: &[u32], node: u64) -> bool
     ensures { result ≡ has (leaf_numbers leaves.now) node }
 {
     for leaf in leaves {
@@ -32,7 +32,7 @@ fn count_others(leaves: &[u32], added: &[u32]) -> usize
 {
     let mut count = 0usize;
     for leaf in leaves {
-        if is_one_of(added, 2 * u64::from(*leaf)) {
+        if is_leaf_among(added, 2 * u64::from(*leaf)) {
             continue;
         }
         count += 1;
@@ -50,7 +50,7 @@ fn target_count(nodes: &[Slot], height: u32, first: u32, added: &[u32]) -> usize
 {
     if height == 0 {
         return match leaf_in(&nodes[0]) {
-            Some(_) => usize::from(!is_one_of(added, 2 * u64::from(first))),
+            Some(_) => usize::from(!is_leaf_among(added, 2 * u64::from(first))),
             None => 0,
         };
     }

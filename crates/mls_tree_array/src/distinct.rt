@@ -3,7 +3,7 @@
 ghost use Rattle.std.specs.Prelude.{◌≡◌};
 ghost use Rattle.std.specs.Bool.{MatchBool};
 ghost use Rattle.mls_tree_model.specs.Sets.{same_bytes, is_distinct};
-ghost use Rattle.mls_tree_array.specs.Merged.{Differ, Repeats, bytes_in};
+ghost use Rattle.mls_tree_array.specs.DistinctStrings.{Differ, Repeats, bytes_in};
 
 /// Whether no byte string is the same as the one before it.
 fn neighbours_differ(strings: &[&[u8]]) -> bool

@@ -1,7 +1,7 @@
 //! Edits at a leaf: it is replaced, or filled and listed by the parents over it.
 
 ghost use Rattle.std.specs.Prelude.{◌≡◌, ◌+◌, ◌^◌, ◌≤◌, OnOk, OnErr};
-ghost use Rattle.mls_tree_model.specs.Edits.{put, enter, listing};
+ghost use Rattle.mls_tree_model.specs.Edits.{put, enter, list_leaf};
 ghost use Rattle.mls_tree_model.specs.Arrays.{parent_in, leaf_cell, parent_cell, term_of, in_order};
 ghost use Rattle.mls_tree_array.specs.Standing.{Stands};
 
@@ -83,7 +83,7 @@ fn enter_below(
     requires root { parent_cell (parent_in root.old) ≡ root.old }
     requires stands { Stands height side.old }
     requires fits { first + 2 ^ height ≤ 2 ^ 31 }
-    ensures root { OnOk result (root.new ≡ parent_cell (listing i (parent_in root.old))) }
+    ensures root { OnOk result (root.new ≡ parent_cell (list_leaf i (parent_in root.old))) }
     ensures side { OnOk result (side.new ≡ in_order (enter first (term_of height side.old) i leaf)) }
     ensures err { OnErr result ((root.new ≡ root.old) × (side.new ≡ side.old)) }
 {

@@ -7,7 +7,7 @@ ghost use Rattle.mls_tree_model.specs.Term.{Term, is_perfect};
 ghost use Rattle.mls_tree_model.specs.Hashes.{tree_hash};
 ghost use Rattle.mls_tree_model.specs.Arrays.{term_of};
 ghost use Rattle.mls_tree_hash.specs.Counter.{counted};
-ghost use Rattle.mls_tree_array.specs.Kept.{hashes_of, Keeps, dropped, cold_places};
+ghost use Rattle.mls_tree_array.specs.KeptHashes.{hashes_of, Keeps, drop_hashes, cold_places};
 
 use crate::places::{leaf_in, middle_of, parent_in};
 use mls_tree_hash::{Hash, branch_hash, leaf_hash};
@@ -68,7 +68,7 @@ pub(crate) fn tree_hash(
 pub(crate) fn drop_hashes(kept: &mut [Option<Hash>], height: u32, first: u32, i: u32)
     requires shape { length kept.old ≡ nodes_in height }
     requires fits { first + 2 ^ height ≤ 2 ^ 31 }
-    ensures { (t : Term) → is_perfect height t ≡ true → kept.new ≡ dropped first t i kept.old }
+    ensures { (t : Term) → is_perfect height t ≡ true → kept.new ≡ drop_hashes first t i kept.old }
 {
     if height == 0 {
         kept[0] = None;

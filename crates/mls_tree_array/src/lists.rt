@@ -6,7 +6,7 @@ ghost use Rattle.mls_leaf.specs.Parent.{rises};
 ghost use Rattle.mls_treemath.specs.Paths.{nodes_in};
 ghost use Rattle.mls_treemath.specs.Limits.{max_height};
 ghost use Rattle.mls_tree_model.specs.Sets.{has};
-ghost use Rattle.mls_tree_model.specs.Lists.{may_list, is_listed, may_be_listed, lists_here, rises_here, asked, all_parents};
+ghost use Rattle.mls_tree_model.specs.Lists.{may_list, is_listed, may_be_listed, lists_here, rises_here, parent_passes, all_parents};
 ghost use Rattle.mls_tree_model.specs.Good.{has_good_lists};
 ghost use Rattle.mls_tree_model.specs.Arrays.{parent_in, term_of};
 
@@ -109,7 +109,7 @@ fn lists_here(
 }
 
 /// The same of the root of a tree, which may be blank.
-fn root_lists(
+fn is_root_list_right(
     root: &Slot,
     left: &[Slot],
     right: &[Slot],
@@ -121,8 +121,8 @@ fn root_lists(
     requires right_shape { length right.now ≡ nodes_in height }
     requires middle { second ≡ first + 2 ^ height }
     requires fits { second + 2 ^ height ≤ 2 ^ 31 }
-    ensures right { result ≡ asked lists_here first (parent_in root.now) (term_of height left.now) (term_of height right.now) }
-    ensures rising { asked rises_here first (parent_in root.now) (term_of height left.now) (term_of height right.now) ≡ true }
+    ensures right { result ≡ parent_passes lists_here first (parent_in root.now) (term_of height left.now) (term_of height right.now) }
+    ensures rising { parent_passes rises_here first (parent_in root.now) (term_of height left.now) (term_of height right.now) ≡ true }
 {
     match parent_in(root) {
         Some(parent) => lists_here(parent, left, right, height, first, second),
@@ -132,7 +132,7 @@ fn root_lists(
 
 /// Whether each parent of a tree lists only what it may list.
 #[tactic(auto, using(mls_treemath::proofs::Sizes::nodes_in_pos))]
-fn each_lists(nodes: &[Slot], height: u32, first: u32) -> bool
+fn are_lists_right(nodes: &[Slot], height: u32, first: u32) -> bool
     requires shape { length nodes.now ≡ nodes_in height }
     requires fits { first + 2 ^ height ≤ 2 ^ 31 }
     ensures right { result ≡ all_parents lists_here first (term_of height nodes.now) }
@@ -145,13 +145,13 @@ fn each_lists(nodes: &[Slot], height: u32, first: u32) -> bool
     let second = first + (middle / 2 + 1) as u32;
     let left = &nodes[..middle];
     let right = &nodes[middle + 1..];
-    if !root_lists(&nodes[middle], left, right, height - 1, first, second) {
+    if !is_root_list_right(&nodes[middle], left, right, height - 1, first, second) {
         return false;
     }
-    if !each_lists(left, height - 1, first) {
+    if !are_lists_right(left, height - 1, first) {
         return false;
     }
-    each_lists(right, height - 1, second)
+    are_lists_right(right, height - 1, second)
 }
 
 /// Whether each unmerged leaf is a member below its parent, and each parent between lists it too. Takes no memory. Each
@@ -162,5 +162,5 @@ pub fn has_good_lists(nodes: &[Slot], height: u32) -> bool
     ensures right { result ≡ has_good_lists (term_of height nodes.now) }
     ensures rising { result ≡ true → all_parents rises_here 0 (term_of height nodes.now) ≡ true }
 {
-    each_lists(nodes, height, 0)
+    are_lists_right(nodes, height, 0)
 }

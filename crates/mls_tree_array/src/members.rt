@@ -7,7 +7,7 @@ ghost use Rattle.mls_tree_model.specs.Term.{has_leaf, is_full_width};
 ghost use Rattle.mls_tree_model.specs.Edits.{first_blank};
 ghost use Rattle.mls_tree_model.specs.Keys.{members};
 ghost use Rattle.mls_tree_model.specs.Arrays.{term_of};
-ghost use Rattle.mls_tree_array.specs.Ends.{taken_end};
+ghost use Rattle.mls_tree_array.specs.EndOfMembers.{end_of_members};
 
 use crate::places::{leaf_in, middle_of};
 use mls_tree_slot::Slot;
@@ -40,11 +40,11 @@ pub fn first_blank(nodes: &[Slot], height: u32, first: u32, from: u32) -> Option
 /// One past the rightmost taken leaf, where each leaf from `end` on is blank: it looks at none of them but the first. It is
 /// `first` where no leaf is taken.
 #[tactic(auto, using(mls_treemath::proofs::Sizes::nodes_in_pos))]
-pub fn taken_end(nodes: &[Slot], height: u32, first: u32, end: u32) -> u32
+pub fn end_of_members(nodes: &[Slot], height: u32, first: u32, end: u32) -> u32
     requires shape { length nodes.now ≡ nodes_in height }
     requires fits { first + 2 ^ height ≤ 2 ^ 31 }
-    requires blank { taken_end first (term_of height nodes.now) ≤ end }
-    ensures { result ≡ taken_end first (term_of height nodes.now) }
+    requires blank { end_of_members first (term_of height nodes.now) ≤ end }
+    ensures { result ≡ end_of_members first (term_of height nodes.now) }
 {
     if height == 0 {
         return match leaf_in(&nodes[0]) {
@@ -55,13 +55,13 @@ pub fn taken_end(nodes: &[Slot], height: u32, first: u32, end: u32) -> u32
     let middle = middle_of(nodes.len(), height);
     let second = first + (middle / 2 + 1) as u32;
     if end <= second {
-        return taken_end(&nodes[..middle], height - 1, first, end);
+        return end_of_members(&nodes[..middle], height - 1, first, end);
     }
-    let right = taken_end(&nodes[middle + 1..], height - 1, second, end);
+    let right = end_of_members(&nodes[middle + 1..], height - 1, second, end);
     if second < right {
         return right;
     }
-    taken_end(&nodes[..middle], height - 1, first, second)
+    end_of_members(&nodes[..middle], height - 1, first, second)
 }
 
 /// Whether the tree has a member.

@@ -10,7 +10,7 @@ ghost use Rattle.mls_tree_model.specs.Resolution.{is_reached};
 ghost use Rattle.mls_tree_model.specs.Merge.{merge, path_hash, parent_beside, keys_beside, hash_beside};
 ghost use Rattle.mls_tree_model.specs.Arrays.{term_of, in_order, parent_cell, HasMiddle};
 ghost use Rattle.mls_tree_array.specs.Standing.{Stands};
-ghost use Rattle.mls_tree_array.specs.Kept.{hashes_of};
+ghost use Rattle.mls_tree_array.specs.KeptHashes.{hashes_of};
 ghost use Rattle.mls_tree_array.specs.Merging.{path_parents, first_if, rest_if, hash_bytes};
 
 use crate::hashes::root_hash;
@@ -56,7 +56,7 @@ pub fn bytes_of(hash: &Option<Hash>) -> &[u8]
 
 /// The keys and the parent hash that a merge hands down below a parent with this other side, whose tree hash is
 /// `sibling`. The keys are those of the parents from there on, the lowest first.
-fn handed_down<'a>(
+fn hand_down<'a>(
     side: &[Slot],
     height: u32,
     first: u32,
@@ -111,11 +111,11 @@ pub fn path_hash(
     let upper_kept = &kept[middle + 1..];
     if leaf < second {
         let sibling = root_hash(upper_kept);
-        let (lower, below) = handed_down(right, height - 1, second, &sibling, keys, hash);
+        let (lower, below) = hand_down(right, height - 1, second, &sibling, keys, hash);
         path_hash(left, lower_kept, height - 1, first, leaf, lower, below)
     } else {
         let sibling = root_hash(lower_kept);
-        let (lower, below) = handed_down(left, height - 1, first, &sibling, keys, hash);
+        let (lower, below) = hand_down(left, height - 1, first, &sibling, keys, hash);
         path_hash(right, upper_kept, height - 1, second, leaf, lower, below)
     }
 }

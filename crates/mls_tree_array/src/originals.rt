@@ -7,12 +7,12 @@ ghost use Rattle.mls_leaf.specs.Parent.{rises};
 ghost use Rattle.mls_treemath.specs.Paths.{nodes_in};
 ghost use Rattle.mls_tree_model.specs.Sets.{has, same_bytes};
 ghost use Rattle.mls_tree_model.specs.Inputs.{branch_hash};
-ghost use Rattle.mls_tree_model.specs.Hashes.{tree_hash, unlisting, original};
+ghost use Rattle.mls_tree_model.specs.Hashes.{tree_hash, unlist_leaves, original_tree};
 ghost use Rattle.mls_tree_model.specs.Lists.{lists_here, all_parents};
 ghost use Rattle.mls_tree_model.specs.Arrays.{term_of};
-ghost use Rattle.mls_tree_array.specs.Kept.{hashes_of};
+ghost use Rattle.mls_tree_array.specs.KeptHashes.{hashes_of};
 ghost use Rattle.mls_tree_array.specs.Splits.{Splits};
-ghost use Rattle.mls_tree_array.specs.Witnesses.{listed};
+ghost use Rattle.mls_tree_array.specs.Witnesses.{unmerged_leaves_of};
 
 use crate::hashes::root_hash;
 use crate::lists::has;
@@ -23,8 +23,8 @@ use mls_leaf::ParentNode;
 use mls_tree_slot::Slot;
 
 /// The unmerged leaves of a place that may be blank.
-fn listed(parent: Option<&ParentNode>) -> &[u32]
-    ensures { result.now ≡ listed (option_copied parent.entry) }
+fn unmerged_leaves_of(parent: Option<&ParentNode>) -> &[u32]
+    ensures { result.now ≡ unmerged_leaves_of (option_copied parent.entry) }
 {
     match parent {
         Some(parent) => parent.unmerged_leaves(),
@@ -33,7 +33,7 @@ fn listed(parent: Option<&ParentNode>) -> &[u32]
 }
 
 /// Whether a list has none of some leaves.
-fn has_none(leaves: &[u32], unmerged: &[u32]) -> bool
+fn are_disjoint(leaves: &[u32], unmerged: &[u32]) -> bool
     requires { rises unmerged.now ≡ true }
     ensures { result ≡ list_all (λ u. not (has unmerged.now u)) leaves.now }
 {
@@ -55,7 +55,7 @@ fn keeps_hash(
     old_right: &Hash,
 ) -> bool
     requires { rises unmerged.now ≡ true }
-    ensures { result ≡ (same_bytes left.now old_left.now && (same_bytes right.now old_right.now && list_all (λ u. not (has unmerged.now u)) (listed (option_copied parent.entry)))) }
+    ensures { result ≡ (same_bytes left.now old_left.now && (same_bytes right.now old_right.now && list_all (λ u. not (has unmerged.now u)) (unmerged_leaves_of (option_copied parent.entry)))) }
 {
     if !same_bytes(left, old_left) {
         return false;
@@ -63,12 +63,12 @@ fn keeps_hash(
     if !same_bytes(right, old_right) {
         return false;
     }
-    has_none(listed(parent), unmerged)
+    are_disjoint(unmerged_leaves_of(parent), unmerged)
 }
 
 /// The tree hash of an original by those of its sides. It is `own`, the tree hash of the tree, where its root lists none
 /// of the leaves and its sides have the hashes that they had, `old_left` and `old_right`.
-fn original_root(
+fn original_root_hash(
     parent: Option<&ParentNode>,
     unmerged: &[u32],
     left: &Hash,
@@ -79,7 +79,7 @@ fn original_root(
 ) -> Hash
     requires rise { rises unmerged.now ≡ true }
     requires own { own.now ≡ branch_hash (option_copied parent) old_left.now old_right.now }
-    ensures { result ≡ branch_hash (unlisting unmerged.now (option_copied parent.entry)) left.now right.now }
+    ensures { result ≡ branch_hash (unlist_leaves unmerged.now (option_copied parent.entry)) left.now right.now }
 {
     if keeps_hash(parent, unmerged, left, right, old_left, old_right) {
         return *own;
@@ -102,7 +102,7 @@ fn count_before(leaves: &[u32], end: u32) -> usize
 /// its parents list leaves below them alone: only the subtrees that have one of the leaves are walked, and of these only
 /// those that they change are hashed.
 #[tactic(auto, using(mls_treemath::proofs::Sizes::nodes_in_pos))]
-pub(crate) fn original_of(
+pub(crate) fn original_hash(
     nodes: &[Slot],
     hashes: &[Option<Hash>],
     height: u32,
@@ -115,7 +115,7 @@ pub(crate) fn original_of(
     requires rise { rises unmerged.now ≡ true }
     requires hashed { hashes.now ≡ hashes_of first (term_of height nodes.now) }
     requires lists { all_parents lists_here first (term_of height nodes.now) ≡ true }
-    ensures { result ≡ tree_hash first (original unmerged.now first (term_of height nodes.now)) }
+    ensures { result ≡ tree_hash first (original_tree unmerged.now first (term_of height nodes.now)) }
 {
     if unmerged.is_empty() {
         return root_hash(hashes);
@@ -133,11 +133,11 @@ pub(crate) fn original_of(
     let count = count_before(unmerged, second);
     let before = &unmerged[..count];
     let behind = &unmerged[count..];
-    let left = original_of(&nodes[..middle], lower, height - 1, first, before);
-    let right = original_of(&nodes[middle + 1..], upper, height - 1, second, behind);
+    let left = original_hash(&nodes[..middle], lower, height - 1, first, before);
+    let right = original_hash(&nodes[middle + 1..], upper, height - 1, second, behind);
     let old_left = root_hash(lower);
     let old_right = root_hash(upper);
     let own = root_hash(hashes);
     let parent = parent_in(&nodes[middle]);
-    original_root(parent, unmerged, &left, &right, &old_left, &old_right, &own)
+    original_root_hash(parent, unmerged, &left, &right, &old_left, &old_right, &own)
 }

@@ -5,7 +5,7 @@ ghost use Rattle.mls_treemath.specs.Limits.{max_height};
 ghost use Rattle.mls_treemath.specs.Paths.{nodes_in};
 ghost use Rattle.mls_tree_model.specs.Edits.{grow, trim};
 ghost use Rattle.mls_tree_model.specs.Arrays.{term_of, in_order};
-ghost use Rattle.mls_tree_array.specs.Ends.{taken_end};
+ghost use Rattle.mls_tree_array.specs.EndOfMembers.{end_of_members};
 ghost use Rattle.mls_tree_array.specs.Standing.{Stands};
 
 use crate::places::middle_of;
@@ -14,9 +14,9 @@ use std::alloc::AllocError;
 
 /// The height of what a trim keeps: the left half alone as long as the right half has no member (RFC 9420, 7.7), where
 /// `end` is one past the rightmost taken leaf.
-pub fn trimmed(nodes: &[Slot], height: u32, end: u32) -> u32
+pub fn trimmed_height(nodes: &[Slot], height: u32, end: u32) -> u32
     requires stands { Stands height nodes.now }
-    requires end { end ≡ taken_end 0 (term_of height nodes.now) }
+    requires end { end ≡ end_of_members 0 (term_of height nodes.now) }
     ensures order { take (nodes_in result) nodes.now ≡ in_order (trim (term_of height nodes.now)) }
     ensures low { result ≤ height }
 {
@@ -27,7 +27,7 @@ pub fn trimmed(nodes: &[Slot], height: u32, end: u32) -> u32
     if middle / 2 + 1 < end as usize {
         return height;
     }
-    trimmed(&nodes[..middle], height - 1, end)
+    trimmed_height(&nodes[..middle], height - 1, end)
 }
 
 /// Twice the leaves: a blank root, the tree on its left, blank nodes on its right (RFC 9420, 7.7).

@@ -7,13 +7,13 @@ ghost use Rattle.mls_treemath.specs.Limits.{max_height};
 ghost use Rattle.mls_tree_model.specs.Node.{leaf_parent_hash, own_parent_hash};
 ghost use Rattle.mls_tree_model.specs.Sets.{same_bytes};
 ghost use Rattle.mls_tree_model.specs.Term.{Term, Branch, width};
-ghost use Rattle.mls_tree_model.specs.Lists.{asked, lists_here, all_parents};
+ghost use Rattle.mls_tree_model.specs.Lists.{parent_passes, lists_here, all_parents};
 ghost use Rattle.mls_tree_model.specs.Hashes.{hash_at, is_some_bytes, has_witness, is_parent_hash_valid};
 ghost use Rattle.mls_tree_model.specs.Good.{has_good_lists, has_good_hashes};
 ghost use Rattle.mls_tree_model.specs.Arrays.{leaf_in, parent_in, term_of};
-ghost use Rattle.mls_tree_array.specs.Kept.{hashes_of};
+ghost use Rattle.mls_tree_array.specs.KeptHashes.{hashes_of};
 
-use crate::originals::original_of;
+use crate::originals::original_hash;
 use crate::places::{leaf_in, middle_of, parent_in};
 use crate::witnesses::candidate;
 use mls_tree_hash::{Hash, sibling_hash};
@@ -77,7 +77,7 @@ fn has_hash(nodes: &[Slot], height: u32, first: u32, node: u64, hash: &Hash) -> 
 }
 
 /// Whether the left side has a node that ties it to its parent.
-fn left_ties(
+fn has_left_witness(
     parent: &ParentNode,
     nodes: &[Slot],
     hashes: &[Option<Hash>],
@@ -101,7 +101,7 @@ fn left_ties(
             let right = &nodes[middle + 1..];
             let hashes = &hashes[middle + 1..];
             let unmerged = parent.unmerged_leaves();
-            let sibling = original_of(right, hashes, height - 1, second, unmerged);
+            let sibling = original_hash(right, hashes, height - 1, second, unmerged);
             let hash = sibling_hash(parent.encryption_key(), parent.parent_hash(), &sibling);
             Ok(has_hash(left, height - 1, first, node, &hash))
         }
@@ -110,7 +110,7 @@ fn left_ties(
 }
 
 /// Whether the right side has one.
-fn right_ties(
+fn has_right_witness(
     parent: &ParentNode,
     nodes: &[Slot],
     hashes: &[Option<Hash>],
@@ -135,7 +135,7 @@ fn right_ties(
             let left = &nodes[..middle];
             let hashes = &hashes[..middle];
             let unmerged = parent.unmerged_leaves();
-            let sibling = original_of(left, hashes, height - 1, first, unmerged);
+            let sibling = original_hash(left, hashes, height - 1, first, unmerged);
             let hash = sibling_hash(parent.encryption_key(), parent.parent_hash(), &sibling);
             Ok(has_hash(right, height - 1, second, node, &hash))
         }
@@ -144,7 +144,7 @@ fn right_ties(
 }
 
 /// Whether the root of a tree above a leaf is parent-hash valid, where it isn't blank.
-fn root_is_valid(
+fn is_root_valid(
     nodes: &[Slot],
     hashes: &[Option<Hash>],
     height: u32,
@@ -157,15 +157,15 @@ fn root_is_valid(
     requires fits { first + 2 ^ height ≤ 2 ^ 31 }
     requires hashed { hashes.now ≡ hashes_of first (term_of height nodes.now) }
     requires lists { all_parents lists_here first (term_of height nodes.now) ≡ true }
-    ensures { IfOk result (λ v. (c : Option Parent) (l r : Term) → term_of height nodes.now ≡ Branch c l r → v ≡ asked is_parent_hash_valid first c l r) }
+    ensures { IfOk result (λ v. (c : Option Parent) (l r : Term) → term_of height nodes.now ≡ Branch c l r → v ≡ parent_passes is_parent_hash_valid first c l r) }
 {
     let middle = middle_of(nodes.len(), height);
     match parent_in(&nodes[middle]) {
         Some(parent) => {
-            if left_ties(parent, nodes, hashes, height, first, found)? {
+            if has_left_witness(parent, nodes, hashes, height, first, found)? {
                 return Ok(true);
             }
-            right_ties(parent, nodes, hashes, height, first, found)
+            has_right_witness(parent, nodes, hashes, height, first, found)
         }
         None => Ok(true),
     }
@@ -173,7 +173,7 @@ fn root_is_valid(
 
 /// Whether each parent of a tree is parent-hash valid.
 #[tactic(auto, using(mls_treemath::proofs::Sizes::nodes_in_pos))]
-fn each_is_valid(
+fn are_parents_valid(
     nodes: &[Slot],
     hashes: &[Option<Hash>],
     height: u32,
@@ -192,10 +192,10 @@ fn each_is_valid(
     }
     let middle = middle_of(nodes.len(), height);
     let second = first + (middle / 2 + 1) as u32;
-    if !root_is_valid(nodes, hashes, height, first, found)? {
+    if !is_root_valid(nodes, hashes, height, first, found)? {
         return Ok(false);
     }
-    if !each_is_valid(
+    if !are_parents_valid(
         &nodes[..middle],
         &hashes[..middle],
         height - 1,
@@ -205,7 +205,7 @@ fn each_is_valid(
         return Ok(false);
     }
     let right = &nodes[middle + 1..];
-    each_is_valid(right, &hashes[middle + 1..], height - 1, second, found)
+    are_parents_valid(right, &hashes[middle + 1..], height - 1, second, found)
 }
 
 /// Whether each parent is parent-hash valid, where the lists of unmerged leaves are right and `hashes` are the tree hashes
@@ -224,5 +224,5 @@ pub fn has_good_hashes(
     ensures { IfOk result (λ v. v ≡ has_good_hashes (term_of height nodes.now)) }
 {
     let mut found = Vec::new(alloc);
-    each_is_valid(nodes, hashes, height, 0, &mut found)
+    are_parents_valid(nodes, hashes, height, 0, &mut found)
 }

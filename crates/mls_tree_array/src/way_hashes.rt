@@ -5,7 +5,7 @@ ghost use Rattle.std.specs.Option.{option_copied};
 ghost use Rattle.mls_treemath.specs.Paths.{nodes_in};
 ghost use Rattle.mls_tree_model.specs.Arrays.{term_of};
 ghost use Rattle.mls_tree_hash.specs.Counter.{counted};
-ghost use Rattle.mls_tree_array.specs.Kept.{hashes_of};
+ghost use Rattle.mls_tree_array.specs.KeptHashes.{hashes_of};
 ghost use Rattle.mls_tree_array.specs.Merging.{first_if, rest_if};
 ghost use Rattle.mls_tree_array.specs.WayHashes.{HashesMerged, PutsHashes};
 

@@ -7,7 +7,7 @@ ghost use Rattle.mls_leaf.specs.Parent.{rises};
 ghost use Rattle.mls_treemath.specs.Paths.{nodes_in};
 ghost use Rattle.mls_tree_model.specs.Sets.{has, is_same_set};
 ghost use Rattle.mls_tree_model.specs.Arrays.{term_of};
-ghost use Rattle.mls_tree_array.specs.Witnesses.{numbers_in, others, first_off, candidate};
+ghost use Rattle.mls_tree_array.specs.Witnesses.{numbers_in, others, first_outside, candidate};
 
 use crate::lists::has;
 use crate::resolutions::resolution;
@@ -32,10 +32,10 @@ fn is_among(leaves: &[u32], first: u32, end: u32, node: u64) -> bool
 }
 
 /// The first node that isn't.
-fn first_off(leaves: &[u32], first: u32, end: u32, nodes: &[u64]) -> Option<u64>
+fn first_outside(leaves: &[u32], first: u32, end: u32, nodes: &[u64]) -> Option<u64>
     requires rise { rises leaves.now ≡ true }
     requires order { first ≤ end }
-    ensures { result ≡ first_off (numbers_in first end leaves.now) nodes.now }
+    ensures { result ≡ first_outside (numbers_in first end leaves.now) nodes.now }
 {
     for node in nodes {
         if !is_among(leaves, first, end, *node) {
@@ -130,7 +130,7 @@ pub(crate) fn candidate(
     found.clear();
     resolution(nodes, height, first, found)?;
     let leaves = parent.unmerged_leaves();
-    match first_off(leaves, first, end, found) {
+    match first_outside(leaves, first, end, found) {
         Some(node) => {
             if !are_others(leaves, first, end, found, node) {
                 return Ok(None);

@@ -97,7 +97,7 @@ pub(crate) fn add_entries(feed: &mut Feed, entries: &[u32])
 }
 
 /// Whether the entry is none of the leaves.
-fn stays(entry: u32, leaves: &[u32]) -> bool
+fn is_remaining(entry: u32, leaves: &[u32]) -> bool
     requires { rises leaves.now ≡ true }
     ensures { result ≡ not (has leaves.now entry) }
 {
@@ -112,7 +112,7 @@ fn count_remaining(entries: &[u32], leaves: &[u32]) -> usize
 {
     let mut count = 0;
     for entry in entries {
-        if stays(*entry, leaves) {
+        if is_remaining(*entry, leaves) {
             count += 1;
         }
     }
@@ -120,11 +120,11 @@ fn count_remaining(entries: &[u32], leaves: &[u32]) -> usize
 }
 
 /// The entry, if it is none of the leaves.
-fn add_if_stays(feed: &mut Feed, entry: u32, leaves: &[u32])
+fn add_if_remaining(feed: &mut Feed, entry: u32, leaves: &[u32])
     requires { rises leaves.now ≡ true }
     ensures { Feeds feed.old (flat_map (uint w32) (less leaves.now (entry ∷ []))) feed.new }
 {
-    if stays(entry, leaves) {
+    if is_remaining(entry, leaves) {
         add_u32(feed, entry);
     }
 }
@@ -136,6 +136,6 @@ pub(crate) fn add_remaining(feed: &mut Feed, entries: &[u32], leaves: &[u32])
 {
     add_header(feed, 4 * count_remaining(entries, leaves));
     for entry in entries {
-        add_if_stays(feed, *entry, leaves);
+        add_if_remaining(feed, *entry, leaves);
     }
 }

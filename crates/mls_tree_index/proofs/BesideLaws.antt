@@ -7,7 +7,7 @@ use Rattle.mls_leaf.specs.declared.node.Node.{Node}
 use Rattle.mls_tree_model.specs.Sets.{same_bytes, has, count, is_distinct}
 use Rattle.mls_tree_index.specs.declared.kind.KeyKind.{KeyKind}
 use Rattle.mls_tree_index.specs.Keys.{key_of, key_in, keys_of, is_held}
-use Rattle.mls_tree_index.specs.Cleared.{cleared}
+use Rattle.mls_tree_index.specs.BlankedCells.{cells_without}
 use Rattle.mls_tree_index.proofs.ClearedLaws.{key_cleared, key_left}
 use Rattle.mls_tree_index.proofs.CountLaws.{none_blank, counted}
 use Rattle.mls_tree_index.proofs.StepLaws.{held_at, held_nowhere}
@@ -42,8 +42,8 @@ distinct_both (Some m) xs ys few rest h =
 -- ---- cells of which some are blanked
 
 module _ (k : KeyKind) (ns : List ℕ) where
-  fewer : (b : ℕ) (cs : List (Option Node)) (l : List ℕ) → count same_bytes l (keys_of k (cleared b ns cs)) ≤ count same_bytes l (keys_of k cs)
-  unfolding cleared
+  fewer : (b : ℕ) (cs : List (Option Node)) (l : List ℕ) → count same_bytes l (keys_of k (cells_without b ns cs)) ≤ count same_bytes l (keys_of k cs)
+  unfolding cells_without
   fewer b [] l = omega arith
   fewer b (c ∷ cs) l =
       let rest = fewer (suc b) cs l in
@@ -51,27 +51,27 @@ module _ (k : KeyKind) (ns : List ℕ) where
         | inl on ↦
             let blank : key_of k (cond (has ns b) None c) ≡ None = ap (λ v. key_of k (cond v None c)) on ∙ none_blank k in
             let more = count_below l (key_of k c) (keys_of k cs) in
-            subst (λ o. count same_bytes l (option_to_list o ++ keys_of k (cleared (suc b) ns cs)) ≤ count same_bytes l (option_to_list (key_of k c) ++ keys_of k cs)) (sym blank) (omega arith)
+            subst (λ o. count same_bytes l (option_to_list o ++ keys_of k (cells_without (suc b) ns cs)) ≤ count same_bytes l (option_to_list (key_of k c) ++ keys_of k cs)) (sym blank) (omega arith)
         | inr out ↦
             let same : key_of k (cond (has ns b) None c) ≡ key_of k c = ap (λ v. key_of k (cond v None c)) out in
-            subst (λ o. count same_bytes l (option_to_list o ++ keys_of k (cleared (suc b) ns cs)) ≤ count same_bytes l (option_to_list (key_of k c) ++ keys_of k cs)) (sym same) (count_both l (key_of k c) _ _ rest)
+            subst (λ o. count same_bytes l (option_to_list o ++ keys_of k (cells_without (suc b) ns cs)) ≤ count same_bytes l (option_to_list (key_of k c) ++ keys_of k cs)) (sym same) (count_both l (key_of k c) _ _ rest)
       ]
 
-  distinct_from : (b : ℕ) (cs : List (Option Node)) → is_distinct same_bytes (keys_of k cs) ≡ true → is_distinct same_bytes (keys_of k (cleared b ns cs)) ≡ true
-  unfolding cleared
+  distinct_from : (b : ℕ) (cs : List (Option Node)) → is_distinct same_bytes (keys_of k cs) ≡ true → is_distinct same_bytes (keys_of k (cells_without b ns cs)) ≡ true
+  unfolding cells_without
   distinct_from b [] h = h
   distinct_from b (c ∷ cs) h =
       elim (cases_Bool (has ns b)) [
         | inl on ↦
             let blank : key_of k (cond (has ns b) None c) ≡ None = ap (λ v. key_of k (cond v None c)) on ∙ none_blank k in
-            subst (λ o. is_distinct same_bytes (option_to_list o ++ keys_of k (cleared (suc b) ns cs)) ≡ true) (sym blank) (distinct_from (suc b) cs (distinct_below (key_of k c) (keys_of k cs) h))
+            subst (λ o. is_distinct same_bytes (option_to_list o ++ keys_of k (cells_without (suc b) ns cs)) ≡ true) (sym blank) (distinct_from (suc b) cs (distinct_below (key_of k c) (keys_of k cs) h))
         | inr out ↦
             let same : key_of k (cond (has ns b) None c) ≡ key_of k c = ap (λ v. key_of k (cond v None c)) out in
-            subst (λ o. is_distinct same_bytes (option_to_list o ++ keys_of k (cleared (suc b) ns cs)) ≡ true) (sym same) (distinct_both (key_of k c) _ (keys_of k cs) (fewer (suc b) cs) (distinct_from (suc b) cs) h)
+            subst (λ o. is_distinct same_bytes (option_to_list o ++ keys_of k (cells_without (suc b) ns cs)) ≡ true) (sym same) (distinct_both (key_of k c) _ (keys_of k cs) (fewer (suc b) cs) (distinct_from (suc b) cs) h)
       ]
 
   -- blanked cells have no key twice where none had before
-  pub cleared_distinct : (cs : List (Option Node)) → is_distinct same_bytes (keys_of k cs) ≡ true → is_distinct same_bytes (keys_of k (cleared 0 ns cs)) ≡ true
+  pub cleared_distinct : (cs : List (Option Node)) → is_distinct same_bytes (keys_of k cs) ≡ true → is_distinct same_bytes (keys_of k (cells_without 0 ns cs)) ≡ true
   cleared_distinct cs = distinct_from 0 cs
 
 module _ (k : KeyKind) (l : List ℕ) where
@@ -95,22 +95,22 @@ module _ (k : KeyKind) (l : List ℕ) where
 -- ---- whether a cell beside them has a key
 
 module _ (k : KeyKind) (ns : List ℕ) (cs : List (Option Node)) (l : List ℕ) where
-  left_key : (x : ℕ) → key_in k (cleared 0 ns cs) x ≡ Some l → (has ns x ≡ false) × (key_in k cs x ≡ Some l)
+  left_key : (x : ℕ) → key_in k (cells_without 0 ns cs) x ≡ Some l → (has ns x ≡ false) × (key_in k cs x ≡ Some l)
   left_key x is = elim (cases_Bool (has ns x)) [
     | inl on ↦ absurd (true≢false (ap is_some (sym is ∙ key_cleared k ns cs x on)))
     | inr out ↦ (out, sym (key_left k ns cs x out) ∙ is)
   ]
 
-  pub beside_none : false ≡ is_held k cs l → false ≡ is_held k (cleared 0 ns cs) l
-  beside_none none = held_nowhere k (cleared 0 ns cs) l (λ x is. true≢false (held_at k cs l x (left_key x is).1 ∙ sym none))
+  pub beside_none : false ≡ is_held k cs l → false ≡ is_held k (cells_without 0 ns cs) l
+  beside_none none = held_nowhere k (cells_without 0 ns cs) l (λ x is. true≢false (held_at k cs l x (left_key x is).1 ∙ sym none))
 
-  pub beside_on : (y : ℕ) → is_distinct same_bytes (keys_of k cs) ≡ true → key_in k cs y ≡ Some l → has ns y ≡ true → false ≡ is_held k (cleared 0 ns cs) l
-  beside_on y h here on = held_nowhere k (cleared 0 ns cs) l (λ x is.
+  pub beside_on : (y : ℕ) → is_distinct same_bytes (keys_of k cs) ≡ true → key_in k cs y ≡ Some l → has ns y ≡ true → false ≡ is_held k (cells_without 0 ns cs) l
+  beside_on y h here on = held_nowhere k (cells_without 0 ns cs) l (λ x is.
       let there = left_key x is in
       true≢false (sym on ∙ ap (has ns) (only_one k l cs y x h here there.1) ∙ there.0))
 
-  pub beside_out : (y : ℕ) → key_in k cs y ≡ Some l → has ns y ≡ false → true ≡ is_held k (cleared 0 ns cs) l
-  beside_out y here out = held_at k (cleared 0 ns cs) l y (key_left k ns cs y out ∙ here)
+  pub beside_out : (y : ℕ) → key_in k cs y ≡ Some l → has ns y ≡ false → true ≡ is_held k (cells_without 0 ns cs) l
+  beside_out y here out = held_at k (cells_without 0 ns cs) l y (key_left k ns cs y out ∙ here)
 
 -- a search of some numbers
 pub has_searched : (ns : List ℕ) (x : ℕ) → list_any (λ n. n == x) ns ≡ has ns x

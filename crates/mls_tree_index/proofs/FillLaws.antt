@@ -14,8 +14,8 @@ use Rattle.mls_tree_index.specs.declared.gaps.Gap.{Gap}
 use Rattle.mls_tree_index.specs.Keys.{key_of, key_in, keys_of, is_held, repeats_in}
 use Rattle.mls_tree_index.specs.Order.{entry_at, entry_cmp, Entries, IsGap}
 use Rattle.mls_tree_index.specs.Indexes.{Listing, Indexes}
-use Rattle.mls_tree_index.specs.Cleared.{cleared, HasPlaces}
-use Rattle.mls_tree_index.specs.Gaps.{gap_at, Ascends, IsWithin, filled, IsNew, IsWith, Opens}
+use Rattle.mls_tree_index.specs.BlankedCells.{cells_without, HasPlaces}
+use Rattle.mls_tree_index.specs.Gaps.{gap_at, Ascends, IsWithin, fill_gaps, IsNewGap, HasOneMore, Opens}
 use Rattle.mls_tree_index.proofs.GapLaws.{length_filled, each_insert, old_there, new_there}
 use Rattle.mls_tree_index.proofs.MoveLaws.{has_at, has_last}
 use Rattle.mls_tree_index.proofs.OrderLaws.{is_above, cmp_trans, not_both}
@@ -80,16 +80,16 @@ module _ (b c : ℕ → Option (List ℕ)) (ns : List ℕ) (es : Entries b ns) w
   ]
 
   -- two gaps for one key, and so for one cell, are one
-  one_new : (g h : Gap) → (e : IsNew b c ns g) → (f : IsNew b c ns h) → e.key ≡ f.key → g.place ≡ h.place
+  one_new : (g h : Gap) → (e : IsNewGap b c ns g) → (f : IsNewGap b c ns h) → e.key ≡ f.key → g.place ≡ h.place
   one_new g h e f same = one_gap f.key g.number h.number g.place h.place f.fresh (subst (λ k. IsGap b ns (k, g.number) g.place) same e.gap) f.gap
 
-  one_key : (g h : Gap) → (e : IsNew b c ns g) → (f : IsNew b c ns h) → g.number ≡ h.number → e.key ≡ f.key
+  one_key : (g h : Gap) → (e : IsNewGap b c ns g) → (f : IsNewGap b c ns h) → g.number ≡ h.number → e.key ≡ f.key
   one_key g h e f same = let is : Some e.key ≡ Some f.key = sym e.here ∙ ap c same ∙ f.here in cc
 
   -- what the entries are after some gaps are filled
   record Fills (gs : List Gap) : Type 0 where
-    entries : Entries (part b c gs) (filled gs ns)
-    gaps : (k : List ℕ) (x p : ℕ) → b x ≡ None → ((j : ℕ) → j < length gs → p < (gap_at gs j).place) → ((j : ℕ) → j < length gs → (gap_at gs j).number ≡ x → ⊥) → IsGap b ns (k, x) p → IsGap (part b c gs) (filled gs ns) (k, x) p
+    entries : Entries (part b c gs) (fill_gaps gs ns)
+    gaps : (k : List ℕ) (x p : ℕ) → b x ≡ None → ((j : ℕ) → j < length gs → p < (gap_at gs j).place) → ((j : ℕ) → j < length gs → (gap_at gs j).number ≡ x → ⊥) → IsGap b ns (k, x) p → IsGap (part b c gs) (fill_gaps gs ns) (k, x) p
 
   part_more : (g : Gap) (gs : List Gap) (y : ℕ) → (y ≡ g.number → ⊥) → part b c gs y ≡ part b c (g ∷ gs) y
   unfolding has
@@ -106,27 +106,27 @@ module _ (b c : ℕ → Option (List ℕ)) (ns : List ℕ) (es : Entries b ns) w
   ]
 
   fills_none : Fills []
-  unfolding has filled
+  unfolding has fill_gaps
   fills_none = record { entries = entries_alike b (part b c []) (λ y. refl) ns es; gaps = λ k x p blank low apart gap. gap }
 
-  module _ (g : Gap) (gs : List Gap) (new : IsNew b c ns g) (within : IsWithin (length ns) (g ∷ gs)) (before : (j : ℕ) → j < length gs → g.place < (gap_at gs j).place) (apart : (j : ℕ) → j < length gs → (gap_at gs j).number ≡ g.number → ⊥) (rest : Fills gs) where
-    mid_gap : IsGap (part b c gs) (filled gs ns) (new.key, g.number) g.place
+  module _ (g : Gap) (gs : List Gap) (new : IsNewGap b c ns g) (within : IsWithin (length ns) (g ∷ gs)) (before : (j : ℕ) → j < length gs → g.place < (gap_at gs j).place) (apart : (j : ℕ) → j < length gs → (gap_at gs j).number ≡ g.number → ⊥) (rest : Fills gs) where
+    mid_gap : IsGap (part b c gs) (fill_gaps gs ns) (new.key, g.number) g.place
     mid_gap = rest.gaps new.key g.number g.place new.blank before apart new.gap
 
-    fills_entries : Entries (part b c (g ∷ gs)) (filled (g ∷ gs) ns)
-    unfolding filled
-    fills_entries = with_entry g.number new.key (part b c gs) (part b c (g ∷ gs)) (part_here g gs ∙ new.here) (part_other gs g.number apart ∙ new.blank) (part_more g gs) (filled gs ns) g.place rest.entries mid_gap
+    fills_entries : Entries (part b c (g ∷ gs)) (fill_gaps (g ∷ gs) ns)
+    unfolding fill_gaps
+    fills_entries = with_entry g.number new.key (part b c gs) (part b c (g ∷ gs)) (part_here g gs ∙ new.here) (part_other gs g.number apart ∙ new.blank) (part_more g gs) (fill_gaps gs ns) g.place rest.entries mid_gap
 
-    wide : length (filled gs ns) ≡ length ns + length gs
+    wide : length (fill_gaps gs ns) ≡ length ns + length gs
     wide = length_filled gs ns (λ j lt. within (suc j) (omega arith))
 
-    more_entry : (m : ℕ) → m < length (filled gs ns) → entry_at (part b c (g ∷ gs)) (get_or (filled gs ns) m 0) ≡ entry_at (part b c gs) (get_or (filled gs ns) m 0)
-    more_entry m lt = ap (λ o. (unwrap_or o [], get_or (filled gs ns) m 0)) (sym (part_more g gs (get_or (filled gs ns) m 0) (λ e. no_key (part b c gs (get_or (filled gs ns) m 0)) (ap (part b c gs) e ∙ part_other gs g.number apart ∙ new.blank) (rest.entries.keyed m lt))))
+    more_entry : (m : ℕ) → m < length (fill_gaps gs ns) → entry_at (part b c (g ∷ gs)) (get_or (fill_gaps gs ns) m 0) ≡ entry_at (part b c gs) (get_or (fill_gaps gs ns) m 0)
+    more_entry m lt = ap (λ o. (unwrap_or o [], get_or (fill_gaps gs ns) m 0)) (sym (part_more g gs (get_or (fill_gaps gs ns) m 0) (λ e. no_key (part b c gs (get_or (fill_gaps gs ns) m 0)) (ap (part b c gs) e ∙ part_other gs g.number apart ∙ new.blank) (rest.entries.keyed m lt))))
 
-    fills_gap : (k : List ℕ) (x p : ℕ) → b x ≡ None → IsGap b ns (k, x) p → p < g.place → IsGap (part b c gs) (filled gs ns) (k, x) p → IsGap (part b c (g ∷ gs)) (filled (g ∷ gs) ns) (k, x) p
-    unfolding filled
+    fills_gap : (k : List ℕ) (x p : ℕ) → b x ≡ None → IsGap b ns (k, x) p → p < g.place → IsGap (part b c gs) (fill_gaps gs ns) (k, x) p → IsGap (part b c (g ∷ gs)) (fill_gaps (g ∷ gs) ns) (k, x) p
+    unfolding fill_gaps
     fills_gap k x p blank first lt gap =
-        let ws : List ℕ = filled gs ns in
+        let ws : List ℕ = fill_gaps gs ns in
         let full = wide in
         let le = within 0 (omega arith) in
         let long = length-insert ws g.place g.number (omega arith) in
@@ -156,7 +156,7 @@ module _ (b c : ℕ → Option (List ℕ)) (ns : List ℕ) (es : Entries b ns) w
       gaps = λ k x p blank low other gap. fills_gap k x p blank gap (low 0 (omega arith)) (rest.gaps k x p blank (λ j lt. low (suc j) (omega arith)) (λ j lt. other (suc j) (omega arith)) gap);
     }
 
-  fills : (gs : List Gap) → Ascends gs → IsWithin (length ns) gs → ((j : ℕ) → j < length gs → IsNew b c ns (gap_at gs j)) → Fills gs
+  fills : (gs : List Gap) → Ascends gs → IsWithin (length ns) gs → ((j : ℕ) → j < length gs → IsNewGap b c ns (gap_at gs j)) → Fills gs
   fills [] up within each = fills_none
   fills (g ∷ gs) up within each =
       let before : (j : ℕ) → j < length gs → g.place < (gap_at gs j).place = λ j lt. up 0 (suc j) (omega arith) (omega arith) in
@@ -167,14 +167,14 @@ module _ (b c : ℕ → Option (List ℕ)) (ns : List ℕ) (es : Entries b ns) w
       let less = before j lt in
       absurd (omega arith)) (fills gs (λ i j lt le. up (suc i) (suc j) (omega arith) (omega arith)) (λ j lt. within (suc j) (omega arith)) (λ j lt. each (suc j) (omega arith)))
 
-  pub entries_filled : (gs : List Gap) → Ascends gs → IsWithin (length ns) gs → ((j : ℕ) → j < length gs → IsNew b c ns (gap_at gs j)) → ((y : ℕ) → ((j : ℕ) → j < length gs → (gap_at gs j).number ≡ y → ⊥) → b y ≡ c y) → Entries c (filled gs ns)
+  pub entries_filled : (gs : List Gap) → Ascends gs → IsWithin (length ns) gs → ((j : ℕ) → j < length gs → IsNewGap b c ns (gap_at gs j)) → ((y : ℕ) → ((j : ℕ) → j < length gs → (gap_at gs j).number ≡ y → ⊥) → b y ≡ c y) → Entries c (fill_gaps gs ns)
   entries_filled gs up within each others = entries_alike (part b c gs) c (λ y. elim (cases_Bool (has (numbers gs) y)) [
     | inl on ↦ ap (λ v. cond v (c y) (b y)) on
     | inr out ↦ ap (λ v. cond v (c y) (b y)) out ∙ others y (λ j lt is. true≢false (sym (there_number gs y j lt is) ∙ out))
-  ]) (filled gs ns) (fills gs up within each).entries
+  ]) (fill_gaps gs ns) (fills gs up within each).entries
 
   -- no two cells have one key
-  module _ (gs : List Gap) (up : Ascends gs) (each : (j : ℕ) → j < length gs → IsNew b c ns (gap_at gs j)) (others : (y : ℕ) → ((j : ℕ) → j < length gs → (gap_at gs j).number ≡ y → ⊥) → b y ≡ c y) (once : (x y : ℕ) (l : List ℕ) → b x ≡ Some l → b y ≡ Some l → x ≡ y) where
+  module _ (gs : List Gap) (up : Ascends gs) (each : (j : ℕ) → j < length gs → IsNewGap b c ns (gap_at gs j)) (others : (y : ℕ) → ((j : ℕ) → j < length gs → (gap_at gs j).number ≡ y → ⊥) → b y ≡ c y) (once : (x y : ℕ) (l : List ℕ) → b x ≡ Some l → b y ≡ Some l → x ≡ y) where
     both_new : (i j : ℕ) → i < length gs → j < length gs → (gap_at gs i).place ≡ (gap_at gs j).place → (gap_at gs i).number ≡ (gap_at gs j).number
     both_new i j lt le same = elim (cases_lt i j) [
       | inl less ↦ let place = up i j less le in absurd (omega arith)
@@ -227,9 +227,9 @@ distinct_apart kind (c ∷ cs) once = first (key_of kind c) refl (distinct_apart
     ])
 
 -- an index of distinct keys, with the cells of those gaps
-pub entered_at_once : (s t : Listing) (places : List ℕ) (gs : List Gap) (c : List (Option Node)) → t.kind ≡ s.kind → t.numbers ≡ filled gs s.numbers → s.repeats ≡ 0 → t.repeats ≡ 0 → Ascends gs → IsWithin (length s.numbers) gs → Opens s.kind places places c s.numbers gs → Indexes (cleared 0 places c) s → Indexes c t
+pub entered_at_once : (s t : Listing) (places : List ℕ) (gs : List Gap) (c : List (Option Node)) → t.kind ≡ s.kind → t.numbers ≡ fill_gaps gs s.numbers → s.repeats ≡ 0 → t.repeats ≡ 0 → Ascends gs → IsWithin (length s.numbers) gs → Opens s.kind places places c s.numbers gs → Indexes (cells_without 0 places c) s → Indexes c t
 entered_at_once s t places gs c kind numbers none none_after up within opens is =
-    let before : List (Option Node) = cleared 0 places c in
+    let before : List (Option Node) = cells_without 0 places c in
     let distinct : is_distinct same_bytes (keys_of s.kind before) ≡ true = sym (distinct_where (keys_of s.kind before)) ∙ eq-eqb (repeats_in (keys_of s.kind before)) 0 (sym is.repeats ∙ none) in
     let others : (y : ℕ) → ((j : ℕ) → j < length gs → (gap_at gs j).number ≡ y → ⊥) → key_in s.kind before y ≡ key_in s.kind c y = λ y apart. elim (cases_Bool (has places y)) [
       | inl on ↦ key_cleared s.kind places c y on ∙ sym (keyless (key_in s.kind c y) (λ some. let j = opens.all y on some in apart j.0 j.1 j.2))
@@ -237,7 +237,7 @@ entered_at_once s t places gs c kind numbers none none_after up within opens is 
     ] in
     let once = apart_filled (key_in s.kind before) (key_in s.kind c) s.numbers is.entries gs up opens.each others (λ x y l one two. only_one s.kind l before x y distinct one two) in
     let after : repeats_in (keys_of s.kind c) ≡ 0 = eqb-true (repeats_in (keys_of s.kind c)) 0 (distinct_where (keys_of s.kind c) ∙ distinct_apart s.kind c once) in
-    indexes_from s.kind (filled gs s.numbers) c t kind numbers (entries_filled (key_in s.kind before) (key_in s.kind c) s.numbers is.entries gs up within opens.each others) (none_after ∙ sym after)
+    indexes_from s.kind (fill_gaps gs s.numbers) c t kind numbers (entries_filled (key_in s.kind before) (key_in s.kind c) s.numbers is.entries gs up within opens.each others) (none_after ∙ sym after)
   where
     keyless : (o : Option (List ℕ)) → (is_some o ≡ true → ⊥) → o ≡ None
     keyless None h = refl
@@ -265,20 +265,20 @@ module _ (kind : KeyKind) (places : List ℕ) (cells c : List (Option Node)) (he
     ];
   }
 
-  pub opens_more : (gs hs : List Gap) (p : ℕ) (k : List ℕ) → key_in kind cells (get_or places i 0) ≡ Some k → IsGap (key_in kind (cleared 0 places c)) ns (k, get_or places i 0) p → false ≡ is_held kind (cleared 0 places c) k → IsWith (record { place = p; number = get_or places i 0 }) gs hs → Opens kind places (take i places) c ns gs → Opens kind places (take (i + 1) places) c ns hs
+  pub opens_more : (gs hs : List Gap) (p : ℕ) (k : List ℕ) → key_in kind cells (get_or places i 0) ≡ Some k → IsGap (key_in kind (cells_without 0 places c)) ns (k, get_or places i 0) p → false ≡ is_held kind (cells_without 0 places c) k → HasOneMore (record { place = p; number = get_or places i 0 }) gs hs → Opens kind places (take i places) c ns gs → Opens kind places (take (i + 1) places) c ns hs
   opens_more gs hs p k key gap fresh more opens =
       let x : ℕ = get_or places i 0 in
       let g : Gap = record { place = p; number = x } in
       let d : Gap = record { place = 0; number = 0 } in
-      let new : IsNew (key_in kind (cleared 0 places c)) (key_in kind c) ns g = record {
+      let new : IsNewGap (key_in kind (cells_without 0 places c)) (key_in kind c) ns g = record {
         key = k;
         here = here.here x (has_at places i inside) ∙ key;
         blank = key_cleared kind places c x (has_at places i inside);
         gap = gap;
-        fresh = λ y is. true≢false (held_at kind (cleared 0 places c) k y is ∙ sym fresh);
+        fresh = λ y is. true≢false (held_at kind (cells_without 0 places c) k y is ∙ sym fresh);
       } in
       subst (λ fs. Opens kind places (take (i + 1) places) c ns fs) (sym more.is) (record {
-        each = each_insert d gs more.at g more.within (λ f. IsNew (key_in kind (cleared 0 places c)) (key_in kind c) ns f) new opens.each;
+        each = each_insert d gs more.at g more.within (λ f. IsNewGap (key_in kind (cells_without 0 places c)) (key_in kind c) ns f) new opens.each;
         all = λ y on some. elim (one_of y on) [
           | inl old ↦
               let j = opens.all y old some in

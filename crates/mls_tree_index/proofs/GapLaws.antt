@@ -6,7 +6,7 @@ use Rattle.std.proofs.lemmas.List.Edits.{take-paste, length-insert, get_or-inser
 use Rattle.std.proofs.Math.Seq.{take-set-lt}
 use Rattle.std.specs.List.{insert, copy_within, CopiedTo, SameBelow, SameFrom}
 use Rattle.mls_tree_index.specs.declared.gaps.Gap.{Gap}
-use Rattle.mls_tree_index.specs.Gaps.{gap_at, Ascends, IsWithin, IsFree, IsWith, filled}
+use Rattle.mls_tree_index.specs.Gaps.{gap_at, Ascends, IsWithin, IsFree, HasOneMore, fill_gaps}
 
 -- ---- one element more
 
@@ -87,26 +87,26 @@ ascends_with gs g at up free i j lt inside =
           ]
     ]
 
-pub within_more : (g : Gap) (gs hs : List Gap) (n : ℕ) → g.place ≤ n → IsWith g gs hs → IsWithin n gs → IsWithin n hs
+pub within_more : (g : Gap) (gs hs : List Gap) (n : ℕ) → g.place ≤ n → HasOneMore g gs hs → IsWithin n gs → IsWithin n hs
 within_more g gs hs n le more within =
     let d : Gap = record { place = 0; number = 0 } in
     subst (IsWithin n) (sym more.is) (each_insert d gs more.at g more.within (λ f. f.place ≤ n) le within)
 
 -- ---- all gaps of a list, the last ones first
 
-pub length_filled : (gs : List Gap) (xs : List ℕ) → IsWithin (length xs) gs → length (filled gs xs) ≡ length xs + length gs
-unfolding filled
+pub length_filled : (gs : List Gap) (xs : List ℕ) → IsWithin (length xs) gs → length (fill_gaps gs xs) ≡ length xs + length gs
+unfolding fill_gaps
 length_filled [] xs within = omega arith
 length_filled (g ∷ gs) xs within =
     let rest = length_filled gs xs (λ j lt. within (suc j) (omega arith)) in
     let le = within 0 (omega arith) in
-    let wide = length-insert (filled gs xs) g.place g.number (omega arith) in
+    let wide = length-insert (fill_gaps gs xs) g.place g.number (omega arith) in
     omega arith
 
 -- a list whose last gaps are filled: the part before them stands where it stood, that behind them further on
 pub record IsShifted (old : List ℕ) (gs : List Gap) (from left : ℕ) (xs : List ℕ) : Type 0 where
-  pub low : (j : ℕ) → j < from → get_or xs j 0 ≡ get_or (filled (drop left gs) old) j 0
-  pub high : (j : ℕ) → from ≤ j → j < length (filled (drop left gs) old) → get_or xs (j + left) 0 ≡ get_or (filled (drop left gs) old) j 0
+  pub low : (j : ℕ) → j < from → get_or xs j 0 ≡ get_or (fill_gaps (drop left gs) old) j 0
+  pub high : (j : ℕ) → from ≤ j → j < length (fill_gaps (drop left gs) old) → get_or xs (j + left) 0 ≡ get_or (fill_gaps (drop left gs) old) j 0
 
 module _ (old : List ℕ) (gs : List Gap) (up : Ascends gs) (within : IsWithin (length old) gs) where
   within_rest : (n : ℕ) → IsWithin (length old) (drop n gs)
@@ -114,38 +114,38 @@ module _ (old : List ℕ) (gs : List Gap) (up : Ascends gs) (within : IsWithin (
       let short = length-drop n gs in
       subst (λ g. g.place ≤ length old) (sym (get_or-drop n gs j (record { place = 0; number = 0 }))) (within (n + j) (omega arith))
 
-  wide_rest : (n : ℕ) → n ≤ length gs → length (filled (drop n gs) old) + n ≡ length old + length gs
+  wide_rest : (n : ℕ) → n ≤ length gs → length (fill_gaps (drop n gs) old) + n ≡ length old + length gs
   wide_rest n le = let wide = length_filled (drop n gs) old (within_rest n) in let short = length-drop n gs in omega arith
 
   pub shift_none : (xs : List ℕ) → ((j : ℕ) → j < length old → get_or xs j 0 ≡ get_or old j 0) → IsShifted old gs (length old) (length gs) xs
-  unfolding filled
+  unfolding fill_gaps
   shift_none xs same =
       let none : drop (length gs) gs ≡ [] = drop_all (length gs) gs (omega arith) in
-      let all : filled (drop (length gs) gs) old ≡ old = ap (λ hs. filled hs old) none in
+      let all : fill_gaps (drop (length gs) gs) old ≡ old = ap (λ hs. fill_gaps hs old) none in
       record {
         low = λ j lt. same j lt ∙ ap (λ zs. get_or zs j 0) (sym all);
         high = λ j ge lt. let wide = ap length all in absurd (omega arith);
       }
 
-  pub shift_all : (from : ℕ) (xs : List ℕ) → length xs ≡ length old + length gs → IsShifted old gs from 0 xs → xs ≡ filled gs old
+  pub shift_all : (from : ℕ) (xs : List ℕ) → length xs ≡ length old + length gs → IsShifted old gs from 0 xs → xs ≡ fill_gaps gs old
   shift_all from xs wide is =
       let full = length_filled gs old within in
-      ext_get_or 0 xs (filled gs old) (omega arith) (λ j lt. elim (cases_lt j from) [
+      ext_get_or 0 xs (fill_gaps gs old) (omega arith) (λ j lt. elim (cases_lt j from) [
         | inl low ↦ is.low j low
         | inr high ↦ let plain : j ≡ j + 0 = omega arith in ap (λ m. get_or xs m 0) plain ∙ is.high j high (omega arith)
       ])
 
   -- the next gap before them is filled
   pub shift_more : (from left : ℕ) (xs ys zs : List ℕ) → 1 ≤ left → left ≤ length gs → from ≤ length old → (gap_at gs (left - 1)).place ≤ from → length xs ≡ length old + length gs → length ys ≡ length xs → CopiedTo xs ys (gap_at gs (left - 1)).place ((gap_at gs (left - 1)).place + left) (from - (gap_at gs (left - 1)).place) → SameBelow xs ys ((gap_at gs (left - 1)).place + left) → SameFrom xs ys (((gap_at gs (left - 1)).place + left) + (from - (gap_at gs (left - 1)).place)) → zs ≡ set ys ((gap_at gs (left - 1)).place + (left - 1)) (gap_at gs (left - 1)).number → IsShifted old gs from left xs → IsShifted old gs (gap_at gs (left - 1)).place (left - 1) zs
-  unfolding filled
+  unfolding fill_gaps
   shift_more from left xs ys zs some most inside place wide same copied below behind is shifted =
       let d : Gap = record { place = 0; number = 0 } in
       let p : ℕ = (gap_at gs (left - 1)).place in
       let n : ℕ = (gap_at gs (left - 1)).number in
-      let rest : List ℕ = filled (drop left gs) old in
+      let rest : List ℕ = fill_gaps (drop left gs) old in
       let room = wide_rest left most in
       let back : (left - 1) + 1 ≡ left = omega arith in
-      let parts : filled (drop (left - 1) gs) old ≡ insert rest p n = ap (λ hs. filled hs old) (drop_more gs (left - 1) d (omega arith) ∙ ap (λ m. gap_at gs (left - 1) ∷ drop m gs) back) in
+      let parts : fill_gaps (drop (left - 1) gs) old ≡ insert rest p n = ap (λ hs. fill_gaps hs old) (drop_more gs (left - 1) d (omega arith) ∙ ap (λ m. gap_at gs (left - 1) ∷ drop m gs) back) in
       let long = length-insert rest p n (omega arith) in
       let total = ap length parts in
       let other : (m : ℕ) → (p + (left - 1) ≡ m → ⊥) → get_or zs m 0 ≡ get_or ys m 0 = λ m apart. ap (λ vs. get_or vs m 0) is ∙ get_or-set_other ys (p + (left - 1)) m n 0 (λ e. apart (sym e)) in

@@ -7,7 +7,7 @@ use Rattle.std.proofs.Math.Seq.{take-add}
 use Rattle.std.specs.List.{copy_within}
 use Rattle.mls_tree_model.specs.Sets.{has}
 use Rattle.mls_tree_model.proofs.SetLaws.{has-append}
-use Rattle.mls_tree_index.specs.Moves.{without, IsNext}
+use Rattle.mls_tree_index.specs.Moves.{list_without, IsNext}
 
 -- ---- the numbers of a list, one after another
 
@@ -66,27 +66,27 @@ next_none from end le = record { ge = le; le = omega arith; none = λ j low high
 -- ---- part by part
 
 module _ {A : Type 0} (ps : List ℕ) where
-  without-append : (b n : ℕ) (xs ys : List A) → b + length xs ≡ n → without b ps (xs ++ ys) ≡ without b ps xs ++ without n ps ys
-  unfolding without
-  without-append b n [] ys end = let same : b ≡ n = omega arith in ap (λ m. without m ps ys) same
-  without-append b n (x ∷ xs) ys end =
-      let rest = without-append (suc b) n xs ys (omega arith) in
+  list_without-append : (b n : ℕ) (xs ys : List A) → b + length xs ≡ n → list_without b ps (xs ++ ys) ≡ list_without b ps xs ++ list_without n ps ys
+  unfolding list_without
+  list_without-append b n [] ys end = let same : b ≡ n = omega arith in ap (λ m. list_without m ps ys) same
+  list_without-append b n (x ∷ xs) ys end =
+      let rest = list_without-append (suc b) n xs ys (omega arith) in
       elim (cases_Bool (has ps b)) [
         | inl held ↦ rw held rest
         | inr other ↦ rw other (ap (λ zs. x ∷ zs) rest)
       ]
 
-  pub without_none : (b : ℕ) (xs : List A) → ((j : ℕ) → b ≤ j → j < b + length xs → has ps j ≡ false) → without b ps xs ≡ xs
-  unfolding without
+  pub without_none : (b : ℕ) (xs : List A) → ((j : ℕ) → b ≤ j → j < b + length xs → has ps j ≡ false) → list_without b ps xs ≡ xs
+  unfolding list_without
   without_none b [] none = refl
   without_none b (x ∷ xs) none = rw (none b (omega arith) (omega arith)) (ap (λ zs. x ∷ zs) (without_none (suc b) xs (λ j ge lt. none j (omega arith) (omega arith))))
 
-  without_first : (b : ℕ) (x : A) (xs : List A) → has ps b ≡ true → without b ps (x ∷ xs) ≡ without (suc b) ps xs
-  unfolding without
-  without_first b x xs held = ap (λ v. cond v (without (suc b) ps xs) (x ∷ without (suc b) ps xs)) held
+  without_first : (b : ℕ) (x : A) (xs : List A) → has ps b ≡ true → list_without b ps (x ∷ xs) ≡ list_without (suc b) ps xs
+  unfolding list_without
+  without_first b x xs held = ap (λ v. cond v (list_without (suc b) ps xs) (x ∷ list_without (suc b) ps xs)) held
 
   -- the element at a place is taken out, and those behind it up to another are kept
-  pub without_part : (d : A) (xs : List A) (from next : ℕ) → from < next → next ≤ length xs → has ps from ≡ true → ((j : ℕ) → from + 1 ≤ j → j < next → has ps j ≡ false) → without 0 ps (take next xs) ≡ without 0 ps (take from xs) ++ take (next - (from + 1)) (drop (from + 1) xs)
+  pub without_part : (d : A) (xs : List A) (from next : ℕ) → from < next → next ≤ length xs → has ps from ≡ true → ((j : ℕ) → from + 1 ≤ j → j < next → has ps j ≡ false) → list_without 0 ps (take next xs) ≡ list_without 0 ps (take from xs) ++ take (next - (from + 1)) (drop (from + 1) xs)
   without_part d xs from next lt le held none =
       let more : next ≡ from + (1 + (next - (from + 1))) = omega arith in
       let n : ℕ = next - (from + 1) in
@@ -96,18 +96,18 @@ module _ {A : Type 0} (ps : List ℕ) where
       let part : length (take n (drop (from + 1) xs)) ≡ n = length-take-le n (drop (from + 1) xs) (omega arith) in
       let first : length (take from xs) ≡ from = length-take-le from xs (omega arith) in
       let same : suc from ≡ from + 1 = omega arith in
-      ap (without 0 ps) parts
-      ∙ without-append 0 from (take from xs) (get_or xs from d ∷ take n (drop (from + 1) xs)) (omega arith)
-      ∙ ap (λ zs. without 0 ps (take from xs) ++ zs) (
+      ap (list_without 0 ps) parts
+      ∙ list_without-append 0 from (take from xs) (get_or xs from d ∷ take n (drop (from + 1) xs)) (omega arith)
+      ∙ ap (λ zs. list_without 0 ps (take from xs) ++ zs) (
       without_first from (get_or xs from d) (take n (drop (from + 1) xs)) held
-      ∙ ap (λ m. without m ps (take n (drop (from + 1) xs))) same
+      ∙ ap (λ m. list_without m ps (take n (drop (from + 1) xs))) same
       ∙ without_none (from + 1) (take n (drop (from + 1) xs)) (λ j ge lt. none j ge (omega arith)))
     where
       plain : (n : ℕ) → 1 + n ≡ suc n
       plain n = omega arith
 
   -- a segment is moved to the left
-  pub moved : (d : A) (old xs ys : List A) (to from next : ℕ) → length xs ≡ length old → to ≤ from → from < next → next ≤ length old → has ps from ≡ true → ((j : ℕ) → from + 1 ≤ j → j < next → has ps j ≡ false) → take to xs ≡ without 0 ps (take from old) → drop from xs ≡ drop from old → ys ≡ copy_within xs (from + 1) next to → (take (to + (next - (from + 1))) ys ≡ without 0 ps (take next old)) × (drop next ys ≡ drop next old)
+  pub moved : (d : A) (old xs ys : List A) (to from next : ℕ) → length xs ≡ length old → to ≤ from → from < next → next ≤ length old → has ps from ≡ true → ((j : ℕ) → from + 1 ≤ j → j < next → has ps j ≡ false) → take to xs ≡ list_without 0 ps (take from old) → drop from xs ≡ drop from old → ys ≡ copy_within xs (from + 1) next to → (take (to + (next - (from + 1))) ys ≡ list_without 0 ps (take next old)) × (drop next ys ≡ drop next old)
   moved d old xs ys to from next wide le lt end held none before behind is =
       let n : ℕ = next - (from + 1) in
       let short : length (drop (from + 1) xs) ≡ length xs - (from + 1) = length-drop (from + 1) xs in
@@ -118,7 +118,7 @@ module _ {A : Type 0} (ps : List ℕ) where
         ap (take (to + n)) is
             ∙ take-paste xs to (drop (from + 1) xs) n (omega arith) (omega arith)
             ∙ ap (λ zs. zs ++ take n (drop (from + 1) xs)) before
-            ∙ ap (λ zs. without 0 ps (take from old) ++ take n zs) after
+            ∙ ap (λ zs. list_without 0 ps (take from old) ++ take n zs) after
             ∙ sym (without_part d old from next lt end held none),
         ap (λ m. drop m ys) far
             ∙ sym (drop-drop (next - (to + n)) (to + n) ys)
@@ -149,17 +149,17 @@ module _ (ps : List ℕ) where
       let inside = k.1 in
       (suc k.0, omega arith, ap (has ps) (sym at) ∙ k.2, k.3)
 
-  kept_from : (b : ℕ) (xs : List ℕ) (j : ℕ) → j < length (without b ps xs) → Kept b (without b ps xs) xs j
-  unfolding without
+  kept_from : (b : ℕ) (xs : List ℕ) (j : ℕ) → j < length (list_without b ps xs) → Kept b (list_without b ps xs) xs j
+  unfolding list_without
   kept_from b [] j lt = absurd (omega arith)
   kept_from b (x ∷ xs) j lt =
       elim (cases_Bool (has ps b)) [
         | inl held ↦
-            let is : without b ps (x ∷ xs) ≡ without (suc b) ps xs = ap (λ v. cond v (without (suc b) ps xs) (x ∷ without (suc b) ps xs)) held in
-            subst (λ ws. Kept b ws (x ∷ xs) j) (sym is) (kept_behind b x (without (suc b) ps xs) xs j (kept_from (suc b) xs j (subst (λ ws. j < length ws) is lt)))
+            let is : list_without b ps (x ∷ xs) ≡ list_without (suc b) ps xs = ap (λ v. cond v (list_without (suc b) ps xs) (x ∷ list_without (suc b) ps xs)) held in
+            subst (λ ws. Kept b ws (x ∷ xs) j) (sym is) (kept_behind b x (list_without (suc b) ps xs) xs j (kept_from (suc b) xs j (subst (λ ws. j < length ws) is lt)))
         | inr other ↦
-            let is : without b ps (x ∷ xs) ≡ x ∷ without (suc b) ps xs = ap (λ v. cond v (without (suc b) ps xs) (x ∷ without (suc b) ps xs)) other in
-            subst (λ ws. Kept b ws (x ∷ xs) j) (sym is) (kept_below b x (without (suc b) ps xs) xs other (kept_from (suc b) xs) j (subst (λ ws. j < length ws) is lt))
+            let is : list_without b ps (x ∷ xs) ≡ x ∷ list_without (suc b) ps xs = ap (λ v. cond v (list_without (suc b) ps xs) (x ∷ list_without (suc b) ps xs)) other in
+            subst (λ ws. Kept b ws (x ∷ xs) j) (sym is) (kept_below b x (list_without (suc b) ps xs) xs other (kept_from (suc b) xs) j (subst (λ ws. j < length ws) is lt))
       ]
 
   -- and each that isn't taken out is there
@@ -169,23 +169,23 @@ module _ (ps : List ℕ) where
   there_behind : (x y : ℕ) (ws : List ℕ) → There ws y → There (x ∷ ws) y
   there_behind x y ws t = let lt = t.1 in (suc t.0, omega arith, t.2)
 
-  kept_to : (b : ℕ) (xs : List ℕ) (i : ℕ) → i < length xs → has ps (b + i) ≡ false → There (without b ps xs) (get_or xs i 0)
-  unfolding without
+  kept_to : (b : ℕ) (xs : List ℕ) (i : ℕ) → i < length xs → has ps (b + i) ≡ false → There (list_without b ps xs) (get_or xs i 0)
+  unfolding list_without
   kept_to b [] i lt other = absurd (omega arith)
   kept_to b (x ∷ xs) zero lt other =
       let at : b + 0 ≡ b = omega arith in
-      let is : without b ps (x ∷ xs) ≡ x ∷ without (suc b) ps xs = ap (λ v. cond v (without (suc b) ps xs) (x ∷ without (suc b) ps xs)) (ap (has ps) (sym at) ∙ other) in
+      let is : list_without b ps (x ∷ xs) ≡ x ∷ list_without (suc b) ps xs = ap (λ v. cond v (list_without (suc b) ps xs) (x ∷ list_without (suc b) ps xs)) (ap (has ps) (sym at) ∙ other) in
       subst (λ ws. There ws x) (sym is) (0, omega arith, refl)
   kept_to b (x ∷ xs) (suc i) lt other =
       let at : suc b + i ≡ b + suc i = omega arith in
       let rest = kept_to (suc b) xs i (omega arith) (ap (has ps) at ∙ other) in
       elim (cases_Bool (has ps b)) [
         | inl held ↦
-            let is : without b ps (x ∷ xs) ≡ without (suc b) ps xs = ap (λ v. cond v (without (suc b) ps xs) (x ∷ without (suc b) ps xs)) held in
+            let is : list_without b ps (x ∷ xs) ≡ list_without (suc b) ps xs = ap (λ v. cond v (list_without (suc b) ps xs) (x ∷ list_without (suc b) ps xs)) held in
             subst (λ ws. There ws (get_or xs i 0)) (sym is) rest
         | inr out ↦
-            let is : without b ps (x ∷ xs) ≡ x ∷ without (suc b) ps xs = ap (λ v. cond v (without (suc b) ps xs) (x ∷ without (suc b) ps xs)) out in
-            subst (λ ws. There ws (get_or xs i 0)) (sym is) (there_behind x (get_or xs i 0) (without (suc b) ps xs) rest)
+            let is : list_without b ps (x ∷ xs) ≡ x ∷ list_without (suc b) ps xs = ap (λ v. cond v (list_without (suc b) ps xs) (x ∷ list_without (suc b) ps xs)) out in
+            subst (λ ws. There ws (get_or xs i 0)) (sym is) (there_behind x (get_or xs i 0) (list_without (suc b) ps xs) rest)
       ]
 
   -- in the same order
@@ -201,27 +201,27 @@ module _ (ps : List ℕ) where
       let inside = p.3 in
       (suc p.0, suc p.1, omega arith, omega arith, p.4, p.5)
 
-  pair_from : (b : ℕ) (xs : List ℕ) (i j : ℕ) → i < j → j < length (without b ps xs) → Pair (without b ps xs) xs i j
-  unfolding without
+  pair_from : (b : ℕ) (xs : List ℕ) (i j : ℕ) → i < j → j < length (list_without b ps xs) → Pair (list_without b ps xs) xs i j
+  unfolding list_without
   pair_from b [] i j lt le = absurd (omega arith)
   pair_from b (x ∷ xs) i j lt le =
       elim (cases_Bool (has ps b)) [
         | inl held ↦
-            let is : without b ps (x ∷ xs) ≡ without (suc b) ps xs = ap (λ v. cond v (without (suc b) ps xs) (x ∷ without (suc b) ps xs)) held in
+            let is : list_without b ps (x ∷ xs) ≡ list_without (suc b) ps xs = ap (λ v. cond v (list_without (suc b) ps xs) (x ∷ list_without (suc b) ps xs)) held in
             let p = pair_from (suc b) xs i j lt (subst (λ ws. j < length ws) is le) in
             let less = p.2 in
             let inside = p.3 in
             subst (λ ws. Pair ws (x ∷ xs) i j) (sym is) (suc p.0, suc p.1, omega arith, omega arith, p.4, p.5)
         | inr other ↦
-            let is : without b ps (x ∷ xs) ≡ x ∷ without (suc b) ps xs = ap (λ v. cond v (without (suc b) ps xs) (x ∷ without (suc b) ps xs)) other in
-            subst (λ ws. Pair ws (x ∷ xs) i j) (sym is) (pair_below b x (without (suc b) ps xs) xs (kept_from (suc b) xs) (pair_from (suc b) xs) i j lt (subst (λ ws. j < length ws) is le))
+            let is : list_without b ps (x ∷ xs) ≡ x ∷ list_without (suc b) ps xs = ap (λ v. cond v (list_without (suc b) ps xs) (x ∷ list_without (suc b) ps xs)) other in
+            subst (λ ws. Pair ws (x ∷ xs) i j) (sym is) (pair_below b x (list_without (suc b) ps xs) xs (kept_from (suc b) xs) (pair_from (suc b) xs) i j lt (subst (λ ws. j < length ws) is le))
       ]
 
-  pub each_kept : (xs : List ℕ) (j : ℕ) → j < length (without 0 ps xs) → Kept 0 (without 0 ps xs) xs j
+  pub each_kept : (xs : List ℕ) (j : ℕ) → j < length (list_without 0 ps xs) → Kept 0 (list_without 0 ps xs) xs j
   each_kept = kept_from 0
 
-  pub each_there : (xs : List ℕ) (i : ℕ) → i < length xs → has ps (0 + i) ≡ false → There (without 0 ps xs) (get_or xs i 0)
+  pub each_there : (xs : List ℕ) (i : ℕ) → i < length xs → has ps (0 + i) ≡ false → There (list_without 0 ps xs) (get_or xs i 0)
   each_there = kept_to 0
 
-  pub each_pair : (xs : List ℕ) (i j : ℕ) → i < j → j < length (without 0 ps xs) → Pair (without 0 ps xs) xs i j
+  pub each_pair : (xs : List ℕ) (i j : ℕ) → i < j → j < length (list_without 0 ps xs) → Pair (list_without 0 ps xs) xs i j
   each_pair = pair_from 0

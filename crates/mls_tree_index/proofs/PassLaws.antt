@@ -9,8 +9,8 @@ use Rattle.mls_tree_index.specs.declared.kind.KeyKind.{KeyKind}
 use Rattle.mls_tree_index.specs.Keys.{key_in, keys_of, repeats_in}
 use Rattle.mls_tree_index.specs.Order.{entry_at, Entries, IsGap}
 use Rattle.mls_tree_index.specs.Indexes.{Listing, Indexes}
-use Rattle.mls_tree_index.specs.Cleared.{cleared, HasPlaces}
-use Rattle.mls_tree_index.specs.Moves.{without, Marks}
+use Rattle.mls_tree_index.specs.BlankedCells.{cells_without, HasPlaces}
+use Rattle.mls_tree_index.specs.Moves.{list_without, Marks}
 use Rattle.mls_tree_index.proofs.MoveLaws.{has_at, has_last, each_kept, each_there, each_pair}
 use Rattle.mls_tree_index.proofs.OrderLaws.{as_entries}
 use Rattle.mls_tree_index.proofs.EntryLaws.{no_key, entry_stands, stands_once}
@@ -63,18 +63,18 @@ module _ (kind : KeyKind) (places : List ℕ) (cells c : List (Option Node)) (al
 
 module _ (kind : KeyKind) (places ps : List ℕ) (c : List (Option Node)) (ns : List ℕ) (es : Entries (key_in kind c) ns) (marks : Marks ns places ps) where
   abbrev rest : ℕ → Option (List ℕ)
-  rest = key_in kind (cleared 0 places c)
+  rest = key_in kind (cells_without 0 places c)
 
   left_entry : (y : ℕ) → has places y ≡ false → entry_at rest y ≡ entry_at (key_in kind c) y
   left_entry y out = ap (λ o. (unwrap_or o [], y)) (key_left kind places c y out)
 
-  out_of : (j : ℕ) → j < length (without 0 ps ns) → has places (get_or (without 0 ps ns) j 0) ≡ false
+  out_of : (j : ℕ) → j < length (list_without 0 ps ns) → has places (get_or (list_without 0 ps ns) j 0) ≡ false
   out_of j lt =
       let k = each_kept ps ns j lt in
       let plain : 0 + k.0 ≡ k.0 = omega arith in
       ap (has places) k.3 ∙ sym (marks k.0 k.1) ∙ ap (has ps) (sym plain) ∙ k.2
 
-  pub entries_without : Entries rest (without 0 ps ns)
+  pub entries_without : Entries rest (list_without 0 ps ns)
   entries_without = record {
     all = λ x some. elim (cases_Bool (has places x)) [
       | inl on ↦ absurd (no_key (rest x) (key_cleared kind places c x on) some)
@@ -86,15 +86,15 @@ module _ (kind : KeyKind) (places ps : List ℕ) (c : List (Option Node)) (ns : 
     ];
     keyed = λ j lt.
         let k = each_kept ps ns j lt in
-        ap is_some (key_left kind places c (get_or (without 0 ps ns) j 0) (out_of j lt)) ∙ ap (λ y. is_some (key_in kind c y)) k.3 ∙ es.keyed k.0 k.1;
+        ap is_some (key_left kind places c (get_or (list_without 0 ps ns) j 0) (out_of j lt)) ∙ ap (λ y. is_some (key_in kind c y)) k.3 ∙ es.keyed k.0 k.1;
     ascend = λ i j less lt.
         let p = each_pair ps ns i j less lt in
         as_entries _ _ _ _ (left_entry _ (out_of i (omega arith)) ∙ ap (entry_at (key_in kind c)) p.4) (left_entry _ (out_of j lt) ∙ ap (entry_at (key_in kind c)) p.5) (es.ascend p.0 p.1 p.2 p.3);
   }
 
 -- an index of distinct keys, without them
-pub left_at_once : (s t : Listing) (places ps : List ℕ) (c : List (Option Node)) → t.kind ≡ s.kind → t.numbers ≡ without 0 ps s.numbers → s.repeats ≡ 0 → t.repeats ≡ 0 → Marks s.numbers places ps → Indexes c s → Indexes (cleared 0 places c) t
+pub left_at_once : (s t : Listing) (places ps : List ℕ) (c : List (Option Node)) → t.kind ≡ s.kind → t.numbers ≡ list_without 0 ps s.numbers → s.repeats ≡ 0 → t.repeats ≡ 0 → Marks s.numbers places ps → Indexes c s → Indexes (cells_without 0 places c) t
 left_at_once s t places ps c kind numbers none none_after marks is =
     let distinct : is_distinct same_bytes (keys_of s.kind c) ≡ true = sym (distinct_where (keys_of s.kind c)) ∙ eq-eqb (repeats_in (keys_of s.kind c)) 0 (sym is.repeats ∙ none) in
-    let after : repeats_in (keys_of s.kind (cleared 0 places c)) ≡ 0 = eqb-true (repeats_in (keys_of s.kind (cleared 0 places c))) 0 (distinct_where (keys_of s.kind (cleared 0 places c)) ∙ cleared_distinct s.kind places c distinct) in
-    indexes_from s.kind (without 0 ps s.numbers) (cleared 0 places c) t kind numbers (entries_without s.kind places ps c s.numbers is.entries marks) (none_after ∙ sym after)
+    let after : repeats_in (keys_of s.kind (cells_without 0 places c)) ≡ 0 = eqb-true (repeats_in (keys_of s.kind (cells_without 0 places c))) 0 (distinct_where (keys_of s.kind (cells_without 0 places c)) ∙ cleared_distinct s.kind places c distinct) in
+    indexes_from s.kind (list_without 0 ps s.numbers) (cells_without 0 places c) t kind numbers (entries_without s.kind places ps c s.numbers is.entries marks) (none_after ∙ sym after)

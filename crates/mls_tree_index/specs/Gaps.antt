@@ -7,7 +7,7 @@ use Rattle.mls_tree_index.specs.declared.kind.KeyKind.{KeyKind}
 use Rattle.mls_tree_index.specs.declared.gaps.Gap.{Gap}
 use Rattle.mls_tree_index.specs.Keys.{key_in}
 use Rattle.mls_tree_index.specs.Order.{IsGap}
-use Rattle.mls_tree_index.specs.Cleared.{cleared}
+use Rattle.mls_tree_index.specs.BlankedCells.{cells_without}
 
 -- the gap at a place of a list
 abbrev pub gap_at : List Gap → ℕ → Gap
@@ -22,9 +22,9 @@ abbrev pub IsWithin : ℕ → List Gap → Type 0
 IsWithin end gs = (j : ℕ) → j < length gs → (gap_at gs j).place ≤ end
 
 -- a list with a number in each gap, the last ones first
-unfoldable pub filled : List Gap → List ℕ → List ℕ
-filled [] xs = xs
-filled (g ∷ gs) xs = insert (filled gs xs) g.place g.number
+unfoldable pub fill_gaps : List Gap → List ℕ → List ℕ
+fill_gaps [] xs = xs
+fill_gaps (g ∷ gs) xs = insert (fill_gaps gs xs) g.place g.number
 
 -- so many gaps lie before a place, and the others behind it
 pub record IsFree (gs : List Gap) (place at : ℕ) : Type 0 where
@@ -33,13 +33,13 @@ pub record IsFree (gs : List Gap) (place at : ℕ) : Type 0 where
   pub above : (j : ℕ) → at ≤ j → j < length gs → place < (gap_at gs j).place
 
 -- gaps with one more
-pub record IsWith (g : Gap) (old new : List Gap) : Type 0 where
+pub record HasOneMore (g : Gap) (old new : List Gap) : Type 0 where
   pub at : ℕ
   pub within : at ≤ length old
   pub is : new ≡ insert old at g
 
 -- x is a cell of c with a key that b lacks, and goes into this gap of the list
-pub record IsNew (b c : ℕ → Option (List ℕ)) (ns : List ℕ) (g : Gap) : Type 0 where
+pub record IsNewGap (b c : ℕ → Option (List ℕ)) (ns : List ℕ) (g : Gap) : Type 0 where
   pub key : List ℕ
   pub here : c g.number ≡ Some key
   pub blank : b g.number ≡ None
@@ -48,5 +48,5 @@ pub record IsNew (b c : ℕ → Option (List ℕ)) (ns : List ℕ) (g : Gap) : T
 
 -- into these gaps of the list of all cells but those at some places go the found ones among them
 pub record Opens (kind : KeyKind) (places found : List ℕ) (c : List (Option Node)) (ns : List ℕ) (gs : List Gap) : Type 0 where
-  pub each : (j : ℕ) → j < length gs → IsNew (key_in kind (cleared 0 places c)) (key_in kind c) ns (gap_at gs j)
+  pub each : (j : ℕ) → j < length gs → IsNewGap (key_in kind (cells_without 0 places c)) (key_in kind c) ns (gap_at gs j)
   pub all : (x : ℕ) → has found x ≡ true → is_some (key_in kind c x) ≡ true → (j : ℕ) × (j < length gs) × ((gap_at gs j).number ≡ x)

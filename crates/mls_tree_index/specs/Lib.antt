@@ -1,6 +1,6 @@
 pub mod Keys
 pub mod Order
 pub mod Indexes
-pub mod Cleared
+pub mod BlankedCells
 pub mod Moves
 pub mod Gaps

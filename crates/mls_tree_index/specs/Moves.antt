@@ -3,9 +3,9 @@ use Rattle.std.specs.Prelude.{◌≡◌, ℕ, suc, ◌<◌, ◌≤◌, true, fal
 use Rattle.mls_tree_model.specs.Sets.{has}
 
 -- a list, whose first element stands at place b, without those at some places
-unfoldable pub without : {A : Type 0} → ℕ → List ℕ → List A → List A
-without b ps [] = []
-without b ps (x ∷ xs) = cond (has ps b) (without (suc b) ps xs) (x ∷ without (suc b) ps xs)
+unfoldable pub list_without : {A : Type 0} → ℕ → List ℕ → List A → List A
+list_without b ps [] = []
+list_without b ps (x ∷ xs) = cond (has ps b) (list_without (suc b) ps xs) (x ∷ list_without (suc b) ps xs)
 
 -- some numbers of a list stand at these places, and no others
 abbrev pub Marks : List ℕ → List ℕ → List ℕ → Type 0

@@ -6,7 +6,7 @@ ghost use Rattle.std.specs.Cmp.Lexicographic.{pointwise};
 ghost use Rattle.mls_tree_model.specs.Sets.{same_bytes, is_distinct};
 ghost use Rattle.mls_tree_index.specs.Keys.{keys_of, is_held};
 ghost use Rattle.mls_tree_index.specs.Indexes.{Indexes};
-ghost use Rattle.mls_tree_index.specs.Cleared.{cleared};
+ghost use Rattle.mls_tree_index.specs.BlankedCells.{cells_without};
 
 use crate::index::Index;
 use crate::order::is_same;
@@ -25,7 +25,7 @@ fn is_among(key: &Bytes, keys: &[Bytes]) -> bool
 impl Index {
     /// Whether a cell that stands at none of these places has this key, where no two cells have one key.
     fn holds_beside(&self, cells: &[Slot], places: &[u32], key: &[u8]) -> bool
-        ensures { Indexes cells.now self.now → is_distinct same_bytes (keys_of self.now.kind cells.now) ≡ true → result ≡ is_held self.now.kind (cleared 0 places.now cells.now) key.now }
+        ensures { Indexes cells.now self.now → is_distinct same_bytes (keys_of self.now.kind cells.now) ≡ true → result ≡ is_held self.now.kind (cells_without 0 places.now cells.now) key.now }
     {
         match self.holder(cells, key) {
             Some(x) => !places.contains(&x),
@@ -36,7 +36,7 @@ impl Index {
     /// Whether no two of these keys and those of the cells at none of these places are one, where no two cells have one
     /// key.
     fn accepts_new(&self, cells: &[Slot], places: &[u32], key: &Bytes, keys: &[Bytes]) -> bool
-        ensures { Indexes cells.now self.now → is_distinct same_bytes (keys_of self.now.kind cells.now) ≡ true → result ≡ is_distinct same_bytes (key.now ∷ (keys.now ++ keys_of self.now.kind (cleared 0 places.now cells.now))) }
+        ensures { Indexes cells.now self.now → is_distinct same_bytes (keys_of self.now.kind cells.now) ≡ true → result ≡ is_distinct same_bytes (key.now ∷ (keys.now ++ keys_of self.now.kind (cells_without 0 places.now cells.now))) }
     {
         if is_among(key, keys) || self.holds_beside(cells, places, key.as_slice()) {
             return false;
@@ -57,7 +57,7 @@ impl Index {
         keys: &[Bytes],
     ) -> Result<bool, AllocError>
         requires { is_distinct nat_eq places.now ≡ true }
-        ensures answer { Indexes cells.now self.now → IfOk result (λ b. b ≡ is_distinct same_bytes (key.now ∷ (keys.now ++ keys_of self.now.kind (cleared 0 places.now cells.now)))) }
+        ensures answer { Indexes cells.now self.now → IfOk result (λ b. b ≡ is_distinct same_bytes (key.now ∷ (keys.now ++ keys_of self.now.kind (cells_without 0 places.now cells.now)))) }
         ensures outright { Indexes cells.now self.now → is_distinct same_bytes (keys_of self.now.kind cells.now) ≡ true → IsOk result }
     {
         if self.are_distinct() {

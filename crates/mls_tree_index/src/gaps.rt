@@ -3,7 +3,7 @@
 ghost use Rattle.std.specs.Prelude.{◌≡◌, ◌<◌, ◌≤◌, List, length, take, [], IfSome};
 ghost use Rattle.std.specs.Bool.{OnTrue};
 ghost use Rattle.mls_tree_index.specs.declared.gaps.Gap.{Gap};
-ghost use Rattle.mls_tree_index.specs.Gaps.{Ascends, IsFree, IsWith};
+ghost use Rattle.mls_tree_index.specs.Gaps.{Ascends, IsFree, HasOneMore};
 
 use std::marker::Model;
 
@@ -53,7 +53,7 @@ impl Gaps {
     }
 
     /// How many gaps lie before a place, if none lies at it.
-    fn before(&self, place: usize) -> Option<usize>
+    fn count_before(&self, place: usize) -> Option<usize>
         ensures { IfSome result (λ at. IsFree self.now place at) }
     {
         let gaps = self.as_slice();
@@ -71,9 +71,9 @@ impl Gaps {
     /// Adds a gap, where there is none at its place.
     pub(crate) fn add(&mut self, gap: Gap) -> bool
         requires { length self.old < 32 }
-        ensures { OnTrue result (IsWith gap self.old self.new) }
+        ensures { OnTrue result (HasOneMore gap self.old self.new) }
     {
-        let Some(at) = self.before(gap.place) else {
+        let Some(at) = self.count_before(gap.place) else {
             return false;
         };
         self.list.copy_within(at..self.count, at + 1);

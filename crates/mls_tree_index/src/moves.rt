@@ -3,8 +3,8 @@
 ghost use Rattle.std.specs.Prelude.{◌≡◌, ◌+◌, ◌-◌, ◌≤◌, length, vec_len};
 ghost use Rattle.std.specs.List.{CopiedTo, SameBelow, SameFrom, copy_within};
 ghost use Rattle.std.specs.Vec.{vec_capacity};
-ghost use Rattle.mls_tree_index.specs.Moves.{without};
-ghost use Rattle.mls_tree_index.specs.Gaps.{Ascends, IsWithin, filled};
+ghost use Rattle.mls_tree_index.specs.Moves.{list_without};
+ghost use Rattle.mls_tree_index.specs.Gaps.{Ascends, IsWithin, fill_gaps};
 
 use crate::gaps::Gap;
 use crate::positions::Positions;
@@ -69,7 +69,7 @@ fn move_run(numbers: &mut Vec<u32>, start: usize, end: usize, dest: usize)
 
 /// Takes out the numbers at some places. Each other number is moved once.
 pub(crate) fn take_out_all(numbers: &mut Vec<u32>, positions: &Positions)
-    ensures items { numbers.new.items ≡ without 0 positions.now numbers.old.items }
+    ensures items { numbers.new.items ≡ list_without 0 positions.now numbers.old.items }
     ensures len { vec_len numbers.new ≤ vec_len numbers.old }
     ensures capacity { vec_capacity numbers.new ≡ vec_capacity numbers.old }
 {
@@ -86,12 +86,12 @@ pub(crate) fn take_out_all(numbers: &mut Vec<u32>, positions: &Positions)
 }
 
 /// Puts numbers into some gaps of a list, all in one pass. There is room.
-pub(crate) fn fill(numbers: &mut Vec<u32>, gaps: &[Gap])
+pub(crate) fn fill_gaps(numbers: &mut Vec<u32>, gaps: &[Gap])
     requires ascend { Ascends gaps.now }
     requires few { length gaps.now ≤ 32 }
     requires within { IsWithin (vec_len numbers.old) gaps.now }
     requires room { vec_len numbers.old + length gaps.now ≤ vec_capacity numbers.old }
-    ensures items { numbers.new.items ≡ filled gaps.now numbers.old.items }
+    ensures items { numbers.new.items ≡ fill_gaps gaps.now numbers.old.items }
     ensures len { vec_len numbers.new ≡ vec_len numbers.old + length gaps.now }
     ensures capacity { vec_capacity numbers.new ≡ vec_capacity numbers.old }
 {

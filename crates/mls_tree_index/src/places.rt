@@ -4,7 +4,7 @@ ghost use Rattle.std.specs.Prelude.{◌≡◌, ℕ, ◌+◌, ◌≤◌, ◌^◌,
 ghost use Rattle.mls_leaf.specs.declared.node.Node.{Node};
 ghost use Rattle.mls_tree_model.specs.Sets.{is_distinct};
 ghost use Rattle.mls_tree_index.specs.Indexes.{Indexes};
-ghost use Rattle.mls_tree_index.specs.Cleared.{HasPlaces, cleared};
+ghost use Rattle.mls_tree_index.specs.BlankedCells.{HasPlaces, cells_without};
 ghost use Rattle.mls_tree_index.specs.Keys.{key_in};
 ghost use Rattle.mls_tree_index.specs.Order.{Entries};
 ghost use Rattle.mls_tree_index.specs.Moves.{Marks};
@@ -12,7 +12,7 @@ ghost use Rattle.mls_tree_index.specs.Gaps.{IsWithin, Opens};
 
 use crate::gaps::{Gap, Gaps};
 use crate::index::Index;
-use crate::moves::{fill, take_out_all};
+use crate::moves::{fill_gaps, take_out_all};
 use crate::positions::Positions;
 use mls_tree_slot::Slot;
 
@@ -36,7 +36,7 @@ impl Index {
         requires { is_distinct nat_eq places.now ≡ true }
         ensures kind { self.new.kind ≡ self.old.kind }
         ensures room { self.old.room ≤ self.new.room }
-        ensures left { (c : List (Option Node)) → HasPlaces self.old.kind places.now cells.now c → Indexes c self.old → Indexes (cleared 0 places.now c) self.new }
+        ensures left { (c : List (Option Node)) → HasPlaces self.old.kind places.now cells.now c → Indexes c self.old → Indexes (cells_without 0 places.now c) self.new }
     {
         if let Some((x, rest)) = places.split_first() {
             self.leave(cells, *x);
@@ -49,7 +49,7 @@ impl Index {
         requires { is_distinct nat_eq places.now ≡ true }
         ensures kind { self.new.kind ≡ self.old.kind }
         ensures room { self.old.room ≤ self.new.room }
-        ensures left { (c : List (Option Node)) → HasPlaces self.old.kind places.now cells.now c → Indexes c self.old → Indexes (cleared 0 places.now c) self.new }
+        ensures left { (c : List (Option Node)) → HasPlaces self.old.kind places.now cells.now c → Indexes c self.old → Indexes (cells_without 0 places.now c) self.new }
     {
         if self.repeats > 0 || places.len() > 32 {
             self.leave_each(cells, places);
@@ -78,7 +78,7 @@ impl Index {
         requires { length places.now ≤ 32 }
         ensures few { IfSome result (λ g. length g ≤ length places.now) }
         ensures within { IfSome result (λ g. IsWithin (length self.now.numbers) g) }
-        ensures opens { IfSome result (λ g. (c : List (Option Node)) → HasPlaces self.now.kind places.now cells.now c → Entries (key_in self.now.kind (cleared 0 places.now c)) self.now.numbers → Opens self.now.kind places.now places.now c self.now.numbers g) }
+        ensures opens { IfSome result (λ g. (c : List (Option Node)) → HasPlaces self.now.kind places.now cells.now c → Entries (key_in self.now.kind (cells_without 0 places.now c)) self.now.numbers → Opens self.now.kind places.now places.now c self.now.numbers g) }
     {
         let mut gaps = Gaps::new();
         for x in places {
@@ -98,7 +98,7 @@ impl Index {
         requires room { length places.now ≤ self.old.room }
         ensures kind { self.new.kind ≡ self.old.kind }
         ensures room { self.old.room ≤ self.new.room + length places.now }
-        ensures entered { (c : List (Option Node)) → HasPlaces self.old.kind places.now cells.now c → Indexes (cleared 0 places.now c) self.old → Indexes c self.new }
+        ensures entered { (c : List (Option Node)) → HasPlaces self.old.kind places.now cells.now c → Indexes (cells_without 0 places.now c) self.old → Indexes c self.new }
     {
         if let Some((x, rest)) = places.split_first() {
             self.enter_each(cells, rest);
@@ -112,11 +112,11 @@ impl Index {
         requires room { length places.now ≤ self.old.room }
         ensures kind { self.new.kind ≡ self.old.kind }
         ensures room { self.old.room ≤ self.new.room + length places.now }
-        ensures entered { (c : List (Option Node)) → HasPlaces self.old.kind places.now cells.now c → Indexes (cleared 0 places.now c) self.old → Indexes c self.new }
+        ensures entered { (c : List (Option Node)) → HasPlaces self.old.kind places.now cells.now c → Indexes (cells_without 0 places.now c) self.old → Indexes c self.new }
     {
         if self.repeats == 0 && places.len() <= 32 {
             if let Some(gaps) = self.gaps(cells, places) {
-                fill(&mut self.numbers, gaps.as_slice());
+                fill_gaps(&mut self.numbers, gaps.as_slice());
                 return;
             }
         }

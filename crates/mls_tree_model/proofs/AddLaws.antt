@@ -2,14 +2,14 @@
 use Rattle.std.proofs.Common.{◌≡◌, ℕ, ◌+◌, ◌*◌, ◌<◌, ◌≤◌, ◌==◌, nat_lt, nat_le, Bool, true, false, not, ◌&&◌, ◌||◌, List, filter, Option, Some, None, refl, sym, ◌∙◌, ap, ap₂, arith, inl, inr, eqb-true, ne_eqb, le-leb, lt-ltb, leb-true, ltb-true}
 use Rattle.std.proofs.lemmas.Bool.{true≢false, and_parts, and_from, or_cases, or_left, or_right, or_parts, cases_lt, false_from_ne_true}
 use Rattle.std.proofs.Math.Bool.{or-false}
-use Rattle.mls_leaf.specs.Parent.{Parent, inserted}
+use Rattle.mls_leaf.specs.Parent.{Parent, rising_with}
 use Rattle.mls_leaf.specs.declared.leaf.LeafNode.{LeafNode}
 use Rattle.mls_tree_model.proofs.Equations.{enter_left, enter_right, leaf_at_left, leaf_at_right}
 use Rattle.mls_tree_model.specs.Term.{Term, Leaf, Branch, width, leaf_at}
 use Rattle.mls_tree_model.specs.Sets.{has, within, leaf_numbers, is_same_set}
 use Rattle.mls_tree_model.specs.Resolution.{resolution}
-use Rattle.mls_tree_model.specs.Edits.{enter, listing, with_leaf}
-use Rattle.mls_tree_model.specs.Lists.{asked, all_parents, lists_here, lists, is_named}
+use Rattle.mls_tree_model.specs.Edits.{enter, list_leaf, with_leaf}
+use Rattle.mls_tree_model.specs.Lists.{parent_passes, all_parents, lists_here, lists, is_listed_anywhere}
 use Rattle.mls_tree_model.specs.Hashes.{parent_hash, hash_at, is_some_bytes, is_witness, has_witness, is_parent_hash_valid}
 use Rattle.mls_tree_model.proofs.SetLaws.{numbers_more, numbers_same, any_at, any_from, has-filter, has-with, set_at, set_from}
 use Rattle.mls_tree_model.proofs.ShapeLaws.{width-enter}
@@ -32,18 +32,18 @@ drop false true v h = h refl
 drop false false v h = refl
 
 -- the listed leaves below a side, where the added one is below it and where it isn't
-within_in : (b n i : ℕ) (us : List ℕ) → b ≤ i → i < b + n → (d : ℕ) → has (leaf_numbers (within b n (inserted i us))) d ≡ (has (leaf_numbers (within b n us)) d || (2 * i == d))
+within_in : (b n i : ℕ) (us : List ℕ) → b ≤ i → i < b + n → (d : ℕ) → has (leaf_numbers (within b n (rising_with i us))) d ≡ (has (leaf_numbers (within b n us)) d || (2 * i == d))
 within_in b n i us low high =
-    numbers_more i (within b n (inserted i us)) (within b n us) (λ u.
-    has-filter (λ x. nat_le b x && nat_lt x (b + n)) (inserted i us) u
+    numbers_more i (within b n (rising_with i us)) (within b n us) (λ u.
+    has-filter (λ x. nat_le b x && nat_lt x (b + n)) (rising_with i us) u
     ∙ ap (λ v. v && (nat_le b u && nat_lt u (b + n))) (has-with i us u)
     ∙ mix (has us u) (i == u) _ (λ e. let is : i ≡ u = eqb-true i u e in and_from (nat_le b u) _ (le-leb b u (omega arith)) (lt-ltb u (b + n) (omega arith)))
     ∙ ap (λ v. v || (i == u)) (sym (has-filter (λ x. nat_le b x && nat_lt x (b + n)) us u)))
 
-within_out : (b n i : ℕ) (us : List ℕ) → (b ≤ i → i < b + n → ⊥) → (d : ℕ) → has (leaf_numbers (within b n (inserted i us))) d ≡ has (leaf_numbers (within b n us)) d
+within_out : (b n i : ℕ) (us : List ℕ) → (b ≤ i → i < b + n → ⊥) → (d : ℕ) → has (leaf_numbers (within b n (rising_with i us))) d ≡ has (leaf_numbers (within b n us)) d
 within_out b n i us out =
-    numbers_same (within b n (inserted i us)) (within b n us) (λ u.
-    has-filter (λ x. nat_le b x && nat_lt x (b + n)) (inserted i us) u
+    numbers_same (within b n (rising_with i us)) (within b n us) (λ u.
+    has-filter (λ x. nat_le b x && nat_lt x (b + n)) (rising_with i us) u
     ∙ ap (λ v. v && (nat_le b u && nat_lt u (b + n))) (has-with i us u)
     ∙ drop (has us u) (i == u) _ (λ e. false_from_ne_true _ (λ t.
     let is : i ≡ u = eqb-true i u e in
@@ -55,7 +55,7 @@ within_out b n i us out =
 
 module _ (p : Parent) (i : ℕ) (x : LeafNode) (b : ℕ) (c : Term) (m : ℕ) (s : Term) where
   -- the leaf is added on the witness's side
-  under : b ≤ i → i < b + width c → leaf_at b c i ≡ None → is_named c i ≡ false → is_named s i ≡ false → (m ≤ i → i < m + width s → ⊥) → has_witness p b c m s ≡ true → has_witness (with_leaf i p) b (enter b c i x) m s ≡ true
+  under : b ≤ i → i < b + width c → leaf_at b c i ≡ None → is_listed_anywhere c i ≡ false → is_listed_anywhere s i ≡ false → (m ≤ i → i < m + width s → ⊥) → has_witness p b c m s ≡ true → has_witness (with_leaf i p) b (enter b c i x) m s ≡ true
   unfolding has_witness is_witness
   under low high none nc ns out h =
       let f = any_at (is_witness p b c m s) (resolution b c) h in
@@ -69,9 +69,9 @@ module _ (p : Parent) (i : ℕ) (x : LeafNode) (b : ℕ) (c : Term) (m : ℕ) (s
       ∙ ap (λ v. v && not (e == d)) (resolution-enter b c i x e low high none)
       ∙ mix (has (resolution b c) e) (2 * i == e) (not (e == d)) (λ t. ap not (ne_eqb e d (λ z. ne (eqb-true (2 * i) e t ∙ z))))
       ∙ ap (λ v. v || (2 * i == e)) (sym (has-filter (λ y. not (y == d)) (resolution b c) e)) in
-      let second : is_same_set (leaf_numbers (within b (width (enter b c i x)) (inserted i p.unmerged_leaves))) (filter (λ y. not (y == d)) (resolution b (enter b c i x))) ≡ true =
-      set_from (leaf_numbers (within b (width (enter b c i x)) (inserted i p.unmerged_leaves))) (filter (λ y. not (y == d)) (resolution b (enter b c i x))) (λ e.
-      ap (λ n. has (leaf_numbers (within b n (inserted i p.unmerged_leaves))) e) (width-enter b c i x)
+      let second : is_same_set (leaf_numbers (within b (width (enter b c i x)) (rising_with i p.unmerged_leaves))) (filter (λ y. not (y == d)) (resolution b (enter b c i x))) ≡ true =
+      set_from (leaf_numbers (within b (width (enter b c i x)) (rising_with i p.unmerged_leaves))) (filter (λ y. not (y == d)) (resolution b (enter b c i x))) (λ e.
+      ap (λ n. has (leaf_numbers (within b n (rising_with i p.unmerged_leaves))) e) (width-enter b c i x)
       ∙ within_in b (width c) i p.unmerged_leaves low high e
       ∙ ap (λ v. v || (2 * i == e)) (set_at (leaf_numbers (within b (width c) p.unmerged_leaves)) (filter (λ y. not (y == d)) (resolution b c)) w.1 e)
       ∙ sym (rest e)) in
@@ -80,7 +80,7 @@ module _ (p : Parent) (i : ℕ) (x : LeafNode) (b : ℕ) (c : Term) (m : ℕ) (s
       (and_from _ _ first second)
 
   -- it is added on the other side
-  beside : m ≤ i → i < m + width s → leaf_at m s i ≡ None → is_named s i ≡ false → (b ≤ i → i < b + width c → ⊥) → has_witness p b c m s ≡ true → has_witness (with_leaf i p) b c m (enter m s i x) ≡ true
+  beside : m ≤ i → i < m + width s → leaf_at m s i ≡ None → is_listed_anywhere s i ≡ false → (b ≤ i → i < b + width c → ⊥) → has_witness p b c m s ≡ true → has_witness (with_leaf i p) b c m (enter m s i x) ≡ true
   unfolding has_witness is_witness
   beside low high none ns out h =
       let f = any_at (is_witness p b c m s) (resolution b c) h in
@@ -88,13 +88,13 @@ module _ (p : Parent) (i : ℕ) (x : LeafNode) (b : ℕ) (c : Term) (m : ℕ) (s
       let w = and_parts (is_some_bytes (hash_at b c d) (parent_hash p m s)) _ f.2 in
       let first : is_some_bytes (hash_at b c d) (parent_hash (with_leaf i p) m (enter m s i x)) ≡ true =
       ap (is_some_bytes (hash_at b c d)) (parent_hash-in p i m s ns x low high none) ∙ w.0 in
-      let second : is_same_set (leaf_numbers (within b (width c) (inserted i p.unmerged_leaves))) (filter (λ y. not (y == d)) (resolution b c)) ≡ true =
-      set_from (leaf_numbers (within b (width c) (inserted i p.unmerged_leaves))) (filter (λ y. not (y == d)) (resolution b c)) (λ e.
+      let second : is_same_set (leaf_numbers (within b (width c) (rising_with i p.unmerged_leaves))) (filter (λ y. not (y == d)) (resolution b c)) ≡ true =
+      set_from (leaf_numbers (within b (width c) (rising_with i p.unmerged_leaves))) (filter (λ y. not (y == d)) (resolution b c)) (λ e.
       within_out b (width c) i p.unmerged_leaves out e
       ∙ set_at (leaf_numbers (within b (width c) p.unmerged_leaves)) (filter (λ y. not (y == d)) (resolution b c)) w.1 e) in
       any_from (is_witness (with_leaf i p) b c m (enter m s i x)) (resolution b c) d f.1 (and_from _ _ first second)
 
-valid_left : (b : ℕ) (c : Option Parent) (l r : Term) (i : ℕ) (x : LeafNode) → b ≤ i → i < b + width l → leaf_at b l i ≡ None → is_named l i ≡ false → is_named r i ≡ false → asked is_parent_hash_valid b c l r ≡ true → asked is_parent_hash_valid b (listing i c) (enter b l i x) r ≡ true
+valid_left : (b : ℕ) (c : Option Parent) (l r : Term) (i : ℕ) (x : LeafNode) → b ≤ i → i < b + width l → leaf_at b l i ≡ None → is_listed_anywhere l i ≡ false → is_listed_anywhere r i ≡ false → parent_passes is_parent_hash_valid b c l r ≡ true → parent_passes is_parent_hash_valid b (list_leaf i c) (enter b l i x) r ≡ true
 unfolding is_parent_hash_valid
 valid_left b None l r i x low high none nl nr h = refl
 valid_left b (Some p) l r i x low high none nl nr h =
@@ -108,7 +108,7 @@ valid_left b (Some p) l r i x low high none nl nr h =
           ∙ beside p i x (b + width l) r b l low high none nl (λ far _. absurd (omega arith)) j)
     ]
 
-valid_right : (b : ℕ) (c : Option Parent) (l r : Term) (i : ℕ) (x : LeafNode) → b + width l ≤ i → i < (b + width l) + width r → leaf_at (b + width l) r i ≡ None → is_named l i ≡ false → is_named r i ≡ false → asked is_parent_hash_valid b c l r ≡ true → asked is_parent_hash_valid b (listing i c) l (enter (b + width l) r i x) ≡ true
+valid_right : (b : ℕ) (c : Option Parent) (l r : Term) (i : ℕ) (x : LeafNode) → b + width l ≤ i → i < (b + width l) + width r → leaf_at (b + width l) r i ≡ None → is_listed_anywhere l i ≡ false → is_listed_anywhere r i ≡ false → parent_passes is_parent_hash_valid b c l r ≡ true → parent_passes is_parent_hash_valid b (list_leaf i c) l (enter (b + width l) r i x) ≡ true
 unfolding is_parent_hash_valid
 valid_right b None l r i x low high none nl nr h = refl
 valid_right b (Some p) l r i x low high none nl nr h =
@@ -119,23 +119,23 @@ valid_right b (Some p) l r i x low high none nl nr h =
           (under p i x (b + width l) r b l low high none nr nl (λ _ far. absurd (omega arith)) j)
     ]
 
-pub valid-enter : (b : ℕ) (t : Term) (i : ℕ) (x : LeafNode) → b ≤ i → i < b + width t → leaf_at b t i ≡ None → is_named t i ≡ false → all_parents is_parent_hash_valid b t ≡ true → all_parents is_parent_hash_valid b (enter b t i x) ≡ true
-unfolding width is_named
+pub valid-enter : (b : ℕ) (t : Term) (i : ℕ) (x : LeafNode) → b ≤ i → i < b + width t → leaf_at b t i ≡ None → is_listed_anywhere t i ≡ false → all_parents is_parent_hash_valid b t ≡ true → all_parents is_parent_hash_valid b (enter b t i x) ≡ true
+unfolding width is_listed_anywhere
 valid-enter b (Leaf v) i x low high none n h = valid_leaf b v i x
   where
     valid_leaf : (b : ℕ) (v : Option LeafNode) (i : ℕ) (x : LeafNode) → all_parents is_parent_hash_valid b (enter b (Leaf v) i x) ≡ true
     valid_leaf b v i x = unfold all_parents enter in refl
 valid-enter b (Branch c l r) i x low high none n h =
     let p = parents_parts is_parent_hash_valid b c l r h in
-    let w = or_parts (is_named l i) (is_named r i) (or_parts (lists c i) _ n).1 in
+    let w = or_parts (is_listed_anywhere l i) (is_listed_anywhere r i) (or_parts (lists c i) _ n).1 in
     elim (cases_lt i (b + width l)) [
       | inl j ↦
           let e = sym (leaf_at_left b c l r i j) ∙ none in
-          rw (enter_left b c l r i x j) (parents_from is_parent_hash_valid b (b + width l) (listing i c) (enter b l i x) r (valid_left b c l r i x low j e w.0 w.1 p.0) (valid-enter b l i x low j e w.0 p.1) (ap (λ n. b + n) (sym (width-enter b l i x))) p.2)
+          rw (enter_left b c l r i x j) (parents_from is_parent_hash_valid b (b + width l) (list_leaf i c) (enter b l i x) r (valid_left b c l r i x low j e w.0 w.1 p.0) (valid-enter b l i x low j e w.0 p.1) (ap (λ n. b + n) (sym (width-enter b l i x))) p.2)
       | inr j ↦
           let e = sym (leaf_at_right b c l r i j) ∙ none in
           let top : i < (b + width l) + width r = omega arith in
-          rw (enter_right b c l r i x j) (parents_from is_parent_hash_valid b (b + width l) (listing i c) l (enter (b + width l) r i x) (valid_right b c l r i x j top e w.0 w.1 p.0) p.1 refl (valid-enter (b + width l) r i x j top e w.1 p.2))
+          rw (enter_right b c l r i x j) (parents_from is_parent_hash_valid b (b + width l) (list_leaf i c) l (enter (b + width l) r i x) (valid_right b c l r i x j top e w.0 w.1 p.0) p.1 refl (valid-enter (b + width l) r i x j top e w.1 p.2))
     ]
 
 pub valid-add : (b : ℕ) (t : Term) (i : ℕ) (x : LeafNode) → b ≤ i → i < b + width t → leaf_at b t i ≡ None → all_parents lists_here b t ≡ true → all_parents is_parent_hash_valid b t ≡ true → all_parents is_parent_hash_valid b (enter b t i x) ≡ true

@@ -7,7 +7,7 @@ use Rattle.mls_tree_model.proofs.Equations.{enter_left, enter_right, leaf_at_lef
 use Rattle.mls_tree_model.specs.Term.{Term, Leaf, Branch, width, size, height, blanks, has_leaf, leaf_at}
 use Rattle.mls_tree_model.specs.Sets.{has, leaf_numbers, same_bytes, count, is_distinct}
 use Rattle.mls_tree_model.specs.Resolution.{resolution}
-use Rattle.mls_tree_model.specs.Edits.{put, enter, listing, grow, trim}
+use Rattle.mls_tree_model.specs.Edits.{put, enter, list_leaf, grow, trim}
 use Rattle.mls_tree_model.specs.Lists.{all_parents, rises_here}
 use Rattle.mls_tree_model.specs.Resolution.{is_reached}
 use Rattle.mls_tree_model.specs.Merge.{new_parent, keys_below, hash_below, merge}
@@ -189,7 +189,7 @@ module _ (f : Option LeafNode → List (List ℕ)) (g : Option Parent → List (
   often-enter_leaf b i x = let a = often-none in let e = often-leaf (Some x) in omega arith
 
   -- an added leaf is one more
-  pub often-enter : ((i : ℕ) (c : Option Parent) → g (listing i c) ≡ g c) → (b : ℕ) (t : Term) (i : ℕ) (x : LeafNode) → leaf_at b t i ≡ None → often (enter b t i x) ≡ often t + count same_bytes y (f (Some x))
+  pub often-enter : ((i : ℕ) (c : Option Parent) → g (list_leaf i c) ≡ g c) → (b : ℕ) (t : Term) (i : ℕ) (x : LeafNode) → leaf_at b t i ≡ None → often (enter b t i x) ≡ often t + count same_bytes y (f (Some x))
   unfolding leaf_at
   often-enter alike b (Leaf v) i x none = ap (λ w. often (enter b (Leaf w) i x)) none ∙ often-enter_leaf b i x ∙ sym (ap (λ w. often (Leaf w) + count same_bytes y (f (Some x))) none)
   often-enter alike b (Branch c l r) i x none =
@@ -197,10 +197,10 @@ module _ (f : Option LeafNode → List (List ℕ)) (g : Option Parent → List (
       let q = ap (count same_bytes y) (alike i c) in
       elim (cases_lt i (b + width l)) [
         | inl k ↦ rw (enter_left b c l r i x k) (
-            let a = often-branch (listing i c) (enter b l i x) r in
+            let a = often-branch (list_leaf i c) (enter b l i x) r in
             let e = often-enter alike b l i x (sym (leaf_at_left b c l r i k) ∙ none) in omega arith)
         | inr k ↦ rw (enter_right b c l r i x k) (
-            let a = often-branch (listing i c) l (enter (b + width l) r i x) in
+            let a = often-branch (list_leaf i c) l (enter (b + width l) r i x) in
             let e = often-enter alike (b + width l) r i x (sym (leaf_at_right b c l r i k) ∙ none) in omega arith)
       ]
 
@@ -276,7 +276,7 @@ module _ (f : Option LeafNode → List (List ℕ)) (g : Option Parent → List (
       let e = often-grow f g leaf blank y t in
       omega arith)
 
-  pub distinct-enter : ((i : ℕ) (c : Option Parent) → g (listing i c) ≡ g c) → (b : ℕ) (t : Term) (i : ℕ) (x : LeafNode) → leaf_at b t i ≡ None → is_distinct same_bytes (f (Some x) ++ gather f g t) ≡ true → is_distinct same_bytes (gather f g (enter b t i x)) ≡ true
+  pub distinct-enter : ((i : ℕ) (c : Option Parent) → g (list_leaf i c) ≡ g c) → (b : ℕ) (t : Term) (i : ℕ) (x : LeafNode) → leaf_at b t i ≡ None → is_distinct same_bytes (f (Some x) ++ gather f g t) ≡ true → is_distinct same_bytes (gather f g (enter b t i x)) ≡ true
   distinct-enter alike b t i x none h =
       from_once (enter b t i x) [] (λ y.
       let d = once t (f (Some x)) h y in
@@ -293,9 +293,9 @@ module _ (f : Option LeafNode → List (List ℕ)) (g : Option Parent → List (
       let z = no_more y in
       omega arith)
 
-pub key-listing : (i : ℕ) (c : Option Parent) → parent_key (listing i c) ≡ parent_key c
-key-listing i None = refl
-key-listing i (Some p) = refl
+pub key-list_leaf : (i : ℕ) (c : Option Parent) → parent_key (list_leaf i c) ≡ parent_key c
+key-list_leaf i None = refl
+key-list_leaf i (Some p) = refl
 
 pub key_step : (y : List ℕ) (e : Bool) (ks : List (List ℕ)) (h : List ℕ) → count same_bytes y (parent_key (new_parent e ks h)) + count same_bytes y (keys_below e ks) ≤ count same_bytes y ks
 unfolding count

@@ -11,7 +11,7 @@ use Rattle.mls_tree_model.specs.Sets.{has, leaf_numbers, count}
 use Rattle.mls_tree_model.specs.Resolution.{resolution}
 use Rattle.mls_tree_model.specs.Lists.{all_parents, may_list, rises_here}
 use Rattle.mls_tree_model.specs.Resolution.{is_reached}
-use Rattle.mls_tree_model.specs.Held.{holds, held}
+use Rattle.mls_tree_model.specs.HeldKeys.{holds_key_of, held_nodes}
 use Rattle.mls_tree_model.specs.Way.{Step, step_at, way, is_filtered, is_beside}
 use Rattle.mls_tree_model.proofs.SetLaws.{of_leaf_numbers, has-leaf_numbers, eqb_refl}
 use Rattle.mls_tree_model.proofs.ShapeLaws.{size-width}
@@ -73,20 +73,20 @@ count_some (y ∷ ys) x h =
     ]
 
 module _ (b : ℕ) (c : Option Parent) (l r : Term) (j d : ℕ) where
-  holds_own : d ≡ 2 * b + size l → holds b (Branch c l r) j d ≡ not (may_list c j)
-  unfolding holds
+  holds_own : d ≡ 2 * b + size l → holds_key_of b (Branch c l r) j d ≡ not (may_list c j)
+  unfolding holds_key_of
   holds_own e = cond-true _ _ _ (eq-eqb d (2 * b + size l) e)
 
-  holds_left : (d ≡ 2 * b + size l → ⊥) → j < b + width l → holds b (Branch c l r) j d ≡ holds b l j d
-  unfolding holds
+  holds_left : (d ≡ 2 * b + size l → ⊥) → j < b + width l → holds_key_of b (Branch c l r) j d ≡ holds_key_of b l j d
+  unfolding holds_key_of
   holds_left n lt = cond-false _ _ _ (ne_eqb d (2 * b + size l) n) ∙ cond-true _ _ _ (lt-ltb j (b + width l) lt)
 
-  holds_right : (d ≡ 2 * b + size l → ⊥) → b + width l ≤ j → holds b (Branch c l r) j d ≡ holds (b + width l) r j d
-  unfolding holds
+  holds_right : (d ≡ 2 * b + size l → ⊥) → b + width l ≤ j → holds_key_of b (Branch c l r) j d ≡ holds_key_of (b + width l) r j d
+  unfolding holds_key_of
   holds_right n ge = cond-false _ _ _ (ne_eqb d (2 * b + size l) n) ∙ cond-false _ _ _ (le-ltb j (b + width l) ge)
 
-holds_range : (b : ℕ) (t : Term) (j d : ℕ) → holds b t j d ≡ true → (2 * b ≤ d) × (d < 2 * b + size t)
-unfolding holds size
+holds_range : (b : ℕ) (t : Term) (j d : ℕ) → holds_key_of b t j d ≡ true → (2 * b ≤ d) × (d < 2 * b + size t)
+unfolding holds_key_of size
 holds_range b (Leaf v) j d h = let e : d ≡ 2 * b = eqb-true d (2 * b) h in (omega arith, omega arith)
 holds_range b (Branch c l r) j d h =
     let s = size-width l in
@@ -101,15 +101,15 @@ holds_range b (Branch c l r) j d h =
 twice : (u j : ℕ) → (u == j) ≡ (2 * u == 2 * j)
 twice u j = both_ways _ _ (λ k. let f : u ≡ j = eqb-true u j k in eq-eqb (2 * u) (2 * j) (omega arith)) (λ k. let f : 2 * u ≡ 2 * j = eqb-true (2 * u) (2 * j) k in eq-eqb u j (omega arith))
 
-holds_at_leaf : (b : ℕ) (v : Option LeafNode) (j u : ℕ) → b ≡ j → holds b (Leaf v) j (2 * u) ≡ (u == j)
-unfolding holds
+holds_at_leaf : (b : ℕ) (v : Option LeafNode) (j u : ℕ) → b ≡ j → holds_key_of b (Leaf v) j (2 * u) ≡ (u == j)
+unfolding holds_key_of
 holds_at_leaf b v j u e = ap (λ n. 2 * u == 2 * n) e ∙ sym (twice u j)
 
-alone : (b : ℕ) (v : LeafNode) (j : ℕ) → length (held b (Leaf (Some v)) j) ≡ 1
-unfolding holds resolution
+alone : (b : ℕ) (v : LeafNode) (j : ℕ) → length (held_nodes b (Leaf (Some v)) j) ≡ 1
+unfolding holds_key_of resolution
 alone b v j = ap length (cond-true _ _ _ (eqb_refl (2 * b)))
 
-holds_leaf : (b : ℕ) (t : Term) (j u : ℕ) → b ≤ j → j < b + width t → holds b t j (2 * u) ≡ (u == j)
+holds_leaf : (b : ℕ) (t : Term) (j u : ℕ) → b ≤ j → j < b + width t → holds_key_of b t j (2 * u) ≡ (u == j)
 unfolding width
 holds_leaf b (Leaf v) j u low high = holds_at_leaf b v j u (omega arith)
 holds_leaf b (Branch c l r) j u low high =
@@ -120,18 +120,18 @@ holds_leaf b (Branch c l r) j u low high =
     ]
 
 -- each taken leaf has the key of one node of a resolution
-pub one_held : (test : ℕ → Parent → Term → Term → Bool) → IsBound test → (b : ℕ) (t : Term) (j : ℕ) → all_parents test b t ≡ true → all_parents rises_here b t ≡ true → b ≤ j → j < b + width t → IsSome (leaf_at b t j) → length (held b t j) ≡ 1
+pub one_held : (test : ℕ → Parent → Term → Term → Bool) → IsBound test → (b : ℕ) (t : Term) (j : ℕ) → all_parents test b t ≡ true → all_parents rises_here b t ≡ true → b ≤ j → j < b + width t → IsSome (leaf_at b t j) → length (held_nodes b t j) ≡ 1
 unfolding resolution width leaf_at rises_here
 one_held test bound b (Leaf None) j h g low high some = absurd (true≢false (sym some))
 one_held test bound b (Leaf (Some v)) j h g low high some = alone b v j
 one_held test bound b (Branch (Some p) l r) j h g low high some =
-    let q = holds b (Branch (Some p) l r) j in
+    let q = holds_key_of b (Branch (Some p) l r) j in
     let own = holds_own b (Some p) l r j (2 * b + size l) refl in
     let once = count_once 0 p.unmerged_leaves (2 * j) (parents_parts rises_here b (Some p) l r g).0 in
     let listed : length (filter q (leaf_numbers p.unmerged_leaves)) ≡ count nat_eq (2 * j) (leaf_numbers p.unmerged_leaves) =
     tally_agree q (λ d. d == 2 * j) (leaf_numbers p.unmerged_leaves) (λ d e.
     let f = of_leaf_numbers p.unmerged_leaves d e in
-    let is : holds b (Branch (Some p) l r) j (2 * f.0) ≡ (f.0 == j) = holds_leaf b (Branch (Some p) l r) j f.0 low (wide (Some p) high) in
+    let is : holds_key_of b (Branch (Some p) l r) j (2 * f.0) ≡ (f.0 == j) = holds_leaf b (Branch (Some p) l r) j f.0 low (wide (Some p) high) in
     ap q f.1 ∙ is ∙ twice f.0 j ∙ ap (λ n. n == 2 * j) (sym f.1))
     ∙ tally_count (2 * j) (leaf_numbers p.unmerged_leaves) in
     elim (cases_Bool (has p.unmerged_leaves j)) [
@@ -151,12 +151,12 @@ one_held test bound b (Branch None l r) j h g low high some =
     let s = size-width l in
     let p = parents_parts test b None l r h in
     let w = parents_parts rises_here b None l r g in
-    let q = holds b (Branch None l r) j in
+    let q = holds_key_of b (Branch None l r) j in
     let sum = tally-append q (resolution b l) (resolution (b + width l) r) in
     elim (cases_lt j (b + width l)) [
       | inl lt ↦
           let here = one_held test bound b l j p.1 w.1 low lt (sym (ap is_some (leaf_at_left b None l r j lt)) ∙ some) in
-          let left : length (filter q (resolution b l)) ≡ length (filter (holds b l j) (resolution b l)) = tally_agree q (holds b l j) (resolution b l) (λ d e.
+          let left : length (filter q (resolution b l)) ≡ length (filter (holds_key_of b l j) (resolution b l)) = tally_agree q (holds_key_of b l j) (resolution b l) (λ d e.
           let f = (resolution_range test bound b l d p.1 e).1 in holds_left b None l r j d (λ k. absurd (omega arith)) lt) in
           let right : length (filter q (resolution (b + width l) r)) ≡ 0 = tally_none q (resolution (b + width l) r) (λ d e.
           let f = (resolution_range test bound (b + width l) r d p.2 e).0 in
@@ -165,7 +165,7 @@ one_held test bound b (Branch None l r) j h g low high some =
           omega arith
       | inr ge ↦
           let here = one_held test bound (b + width l) r j p.2 w.2 ge (omega arith) (sym (ap is_some (leaf_at_right b None l r j ge)) ∙ some) in
-          let right : length (filter q (resolution (b + width l) r)) ≡ length (filter (holds (b + width l) r j) (resolution (b + width l) r)) = tally_agree q (holds (b + width l) r j) (resolution (b + width l) r) (λ d e.
+          let right : length (filter q (resolution (b + width l) r)) ≡ length (filter (holds_key_of (b + width l) r j) (resolution (b + width l) r)) = tally_agree q (holds_key_of (b + width l) r j) (resolution (b + width l) r) (λ d e.
           let f = (resolution_range test bound (b + width l) r d p.2 e).0 in holds_right b None l r j d (λ k. absurd (omega arith)) ge) in
           let left : length (filter q (resolution b l)) ≡ 0 = tally_none q (resolution b l) (λ d e.
           let f = (resolution_range test bound b l d p.1 e).1 in
@@ -175,12 +175,12 @@ one_held test bound b (Branch None l r) j h g low high some =
     ]
 
 -- and still does where some other leaves are taken out
-pub one_held_of_rest : (test : ℕ → Parent → Term → Term → Bool) → IsBound test → (b : ℕ) (t : Term) (j : ℕ) (us : List ℕ) → all_parents test b t ≡ true → all_parents rises_here b t ≡ true → b ≤ j → j < b + width t → IsSome (leaf_at b t j) → has us j ≡ false → length (filter (holds b t j) (filter (λ d. not (has (leaf_numbers us) d)) (resolution b t))) ≡ 1
+pub one_held_of_rest : (test : ℕ → Parent → Term → Term → Bool) → IsBound test → (b : ℕ) (t : Term) (j : ℕ) (us : List ℕ) → all_parents test b t ≡ true → all_parents rises_here b t ≡ true → b ≤ j → j < b + width t → IsSome (leaf_at b t j) → has us j ≡ false → length (filter (holds_key_of b t j) (filter (λ d. not (has (leaf_numbers us) d)) (resolution b t))) ≡ 1
 one_held_of_rest test bound b t j us h g low high some out =
-    tally_kept (holds b t j) (λ d. not (has (leaf_numbers us) d)) (resolution b t) (λ d _ e.
+    tally_kept (holds_key_of b t j) (λ d. not (has (leaf_numbers us) d)) (resolution b t) (λ d _ e.
     ap not (false_from_ne_true (has (leaf_numbers us) d) (λ k.
     let f = of_leaf_numbers us d k in
-    let is : f.0 ≡ j = eqb-true f.0 j (sym (holds_leaf b t j f.0 low high) ∙ sym (ap (holds b t j) f.1) ∙ e) in
+    let is : f.0 ≡ j = eqb-true f.0 j (sym (holds_leaf b t j f.0 low high) ∙ sym (ap (holds_key_of b t j) f.1) ∙ e) in
     true≢false (sym f.2 ∙ ap (has us) is ∙ out))))
     ∙ one_held test bound b t j h g low high some
 

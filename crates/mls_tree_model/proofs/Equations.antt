@@ -11,9 +11,9 @@ use Rattle.mls_tree_model.specs.Term.{Term, Leaf, Branch, width, size, height, b
 use Rattle.mls_tree_model.specs.Resolution.{resolution, is_reached}
 use Rattle.mls_tree_model.specs.Way.{Step, step_at, way, is_filtered, filtered_way, filtered_path, path_length, target_count, ciphertext_counts}
 use Rattle.mls_tree_model.specs.Places.{at_node}
-use Rattle.mls_tree_model.specs.Edits.{put, enter, listing, grow, trim, or_else, first_blank, place_in, room_for, add, update, remove}
-use Rattle.mls_tree_model.specs.Lists.{asked, all_parents}
-use Rattle.mls_tree_model.specs.Hashes.{tree_hash, unlisting, original}
+use Rattle.mls_tree_model.specs.Edits.{put, enter, list_leaf, grow, trim, or_else, first_blank, place_in, room_for, add, update, remove}
+use Rattle.mls_tree_model.specs.Lists.{parent_passes, all_parents}
+use Rattle.mls_tree_model.specs.Hashes.{tree_hash, unlist_leaves, original_tree}
 use Rattle.mls_tree_model.specs.Merge.{new_parent, keys_below, hash_below, merge, path_hash}
 use Rattle.mls_tree_model.specs.Keys.{gather, members, passes, all_members}
 
@@ -60,8 +60,8 @@ module _ (b : ℕ) (v : Option LeafNode) where
   unfolding path_length filtered_way way
   path_length_leaf i = refl
 
-  pub original_leaf : (us : List ℕ) → original us b (Leaf v) ≡ Leaf (if has us b then None else v)
-  unfolding original
+  pub original_leaf : (us : List ℕ) → original_tree us b (Leaf v) ≡ Leaf (if has us b then None else v)
+  unfolding original_tree
   original_leaf us = refl
 
   pub all_parents_leaf : (q : ℕ → Parent → Term → Term → Bool) → all_parents q b (Leaf v) ≡ true
@@ -173,8 +173,8 @@ module _ (b : ℕ) (c : Option Parent) (l r : Term) where
   unfolding tree_hash
   tree_hash_branch = refl
 
-  pub original_branch : (us : List ℕ) → original us b (Branch c l r) ≡ Branch (unlisting us c) (original us b l) (original us (b + width l) r)
-  unfolding original
+  pub original_branch : (us : List ℕ) → original_tree us b (Branch c l r) ≡ Branch (unlist_leaves us c) (original_tree us b l) (original_tree us (b + width l) r)
+  unfolding original_tree
   original_branch us = refl
 
   pub first_blank_branch : first_blank b (Branch c l r) ≡ or_else (first_blank b l) (first_blank (b + width l) r)
@@ -189,7 +189,7 @@ module _ (b : ℕ) (c : Option Parent) (l r : Term) where
   unfolding all_members
   all_members_branch p = refl
 
-  pub all_parents_branch : (q : ℕ → Parent → Term → Term → Bool) → all_parents q b (Branch c l r) ≡ (asked q b c l r && (all_parents q b l && all_parents q (b + width l) r))
+  pub all_parents_branch : (q : ℕ → Parent → Term → Term → Bool) → all_parents q b (Branch c l r) ≡ (parent_passes q b c l r && (all_parents q b l && all_parents q (b + width l) r))
   unfolding all_parents
   all_parents_branch q = refl
 
@@ -220,11 +220,11 @@ module _ (b : ℕ) (c : Option Parent) (l r : Term) (i : ℕ) where
   unfolding put
   put_right x h = cond-false _ _ _ (le-ltb i (b + width l) h)
 
-  pub enter_left : (x : LeafNode) → i < b + width l → enter b (Branch c l r) i x ≡ Branch (listing i c) (enter b l i x) r
+  pub enter_left : (x : LeafNode) → i < b + width l → enter b (Branch c l r) i x ≡ Branch (list_leaf i c) (enter b l i x) r
   unfolding enter
   enter_left x h = cond-true _ _ _ (lt-ltb i (b + width l) h)
 
-  pub enter_right : (x : LeafNode) → b + width l ≤ i → enter b (Branch c l r) i x ≡ Branch (listing i c) l (enter (b + width l) r i x)
+  pub enter_right : (x : LeafNode) → b + width l ≤ i → enter b (Branch c l r) i x ≡ Branch (list_leaf i c) l (enter (b + width l) r i x)
   unfolding enter
   enter_right x h = cond-false _ _ _ (le-ltb i (b + width l) h)
 

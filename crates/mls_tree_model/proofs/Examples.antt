@@ -1,6 +1,6 @@
 -- Small trees, worked out.
 use Rattle.std.proofs.Common.{refl}
-use Rattle.mls_leaf.specs.Parent.{inserted}
+use Rattle.mls_leaf.specs.Parent.{rising_with}
 use Rattle.mls_tree_model.specs.Term.{width, size, has_leaf}
 use Rattle.mls_tree_model.specs.Resolution.{resolution}
 use Rattle.mls_tree_model.specs.Places.{at_node, resolution_at}
@@ -22,7 +22,7 @@ unfolding first_blank width
 next_add_of_four x y z = refl
 
 pub add_behind_path : AddBehindPath
-unfolding add merge_path merge enter inserted first_blank resolution width size
+unfolding add merge_path merge enter rising_with first_blank resolution width size
 add_behind_path x y z w v key = refl
 
 pub removal_halves : RemovalHalves

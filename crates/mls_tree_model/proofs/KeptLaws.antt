@@ -8,7 +8,7 @@ use Rattle.mls_tree_model.specs.Lists.{all_parents}
 use Rattle.mls_tree_model.specs.Merge.{merge, IsPath}
 use Rattle.mls_tree_model.specs.Keys.{gather, leaf_key, parent_key, leaf_signature, encryption_keys, signature_keys, all_members}
 use Rattle.mls_tree_model.specs.Good.{Rules, IsGood, AreNew, has_good_shape, is_within, has_good_lists, has_good_hashes, has_distinct_keys, has_distinct_clients, is_all_signed, is_all_capable, is_all_fit}
-use Rattle.mls_tree_model.proofs.CountLaws.{distinct-put, distinct-remove, distinct-grow, distinct-enter, distinct-merge, key-listing, key_step, no_step}
+use Rattle.mls_tree_model.proofs.CountLaws.{distinct-put, distinct-remove, distinct-grow, distinct-enter, distinct-merge, key-list_leaf, key_step, no_step}
 use Rattle.mls_tree_model.proofs.PlaceLaws.{first_blank_at, leaf_at-grow}
 use Rattle.mls_tree_model.proofs.SoundLaws.{sound_of_good, good_of_sound, fit_of_new, sound_update, sound_remove, sound_add, sound_merge}
 
@@ -56,9 +56,9 @@ good_remove rules t i g in_it some =
 keys_in : (t : Term) (x : LeafNode) (o : Option ℕ) → first_blank 0 t ≡ o → is_distinct same_bytes (x.encryption_key ∷ encryption_keys t) ≡ true → has_distinct_keys (enter 0 (room_for o t) (place_for o t) x) ≡ true
 unfolding has_distinct_keys
 keys_in t x (Some i) is new =
-    distinct-enter leaf_key parent_key refl refl key-listing 0 t i x (first_blank_at 0 t i is).2 new
+    distinct-enter leaf_key parent_key refl refl key-list_leaf 0 t i x (first_blank_at 0 t i is).2 new
 keys_in t x None is new =
-    distinct-enter leaf_key parent_key refl refl key-listing 0 (grow t) (width t) x (leaf_at-grow 0 t (width t) (omega arith))
+    distinct-enter leaf_key parent_key refl refl key-list_leaf 0 (grow t) (width t) x (leaf_at-grow 0 t (width t) (omega arith))
     (distinct-grow leaf_key parent_key refl refl t (x.encryption_key ∷ []) new)
 
 clients_in : (t : Term) (x : LeafNode) (o : Option ℕ) → first_blank 0 t ≡ o → is_distinct same_bytes (x.signature_key ∷ signature_keys t) ≡ true → has_distinct_clients (enter 0 (room_for o t) (place_for o t) x) ≡ true

@@ -8,14 +8,14 @@ use Rattle.mls_leaf.specs.declared.leaf.LeafNode.{LeafNode}
 use Rattle.mls_tree_model.proofs.Equations.{enter_left, enter_right, leaf_at_left, leaf_at_right, merge_left, merge_right, put_left, put_right, all_members_leaf}
 use Rattle.mls_tree_model.specs.Term.{Term, Leaf, Branch, width, height, blanks, has_leaf, leaf_at}
 use Rattle.mls_tree_model.specs.Sets.{has, less}
-use Rattle.mls_tree_model.specs.Edits.{put, enter, grow, trim, listing, first_blank, place_for, room_for, place_in, add, remove}
-use Rattle.mls_tree_model.specs.Hashes.{original, unlisting}
+use Rattle.mls_tree_model.specs.Edits.{put, enter, grow, trim, list_leaf, first_blank, place_for, room_for, place_in, add, remove}
+use Rattle.mls_tree_model.specs.Hashes.{original_tree, unlist_leaves}
 use Rattle.mls_tree_model.specs.Resolution.{is_reached}
 use Rattle.mls_tree_model.specs.Merge.{new_parent, keys_below, merge}
 use Rattle.mls_tree_model.specs.Keys.{gather, leaf_key, parent_key, encryption_keys, passes, all_members}
 use Rattle.mls_tree_model.proofs.ShapeLaws.{width-put, width-enter}
 use Rattle.mls_tree_model.proofs.MergeLaws.{width-merge}
-use Rattle.mls_tree_model.proofs.CountLaws.{key-listing}
+use Rattle.mls_tree_model.proofs.CountLaws.{key-list_leaf}
 use Rattle.mls_tree_model.proofs.PlaceLaws.{first_blank_at, leaf_at-enter, leaf_at-put, leaf_at-grow, leaf_at-grown, leaf_at-trim, width-grow}
 
 module _ (p : ℕ → LeafNode → Bool) where
@@ -51,8 +51,8 @@ module _ (p : ℕ → LeafNode → Bool) where
   members-enter b (Branch c l r) i x low high h a =
       let m = members_parts b c l r a in
       elim (cases_lt i (b + width l)) [
-        | inl k ↦ rw (enter_left b c l r i x k) (members_from b (b + width l) (listing i c) (enter b l i x) r (ap (λ n. b + n) (sym (width-enter b l i x))) (members-enter b l i x low k h m.0) m.1)
-        | inr k ↦ rw (enter_right b c l r i x k) (members_from b (b + width l) (listing i c) l (enter (b + width l) r i x) refl m.0 (members-enter (b + width l) r i x k (omega arith) h m.1))
+        | inl k ↦ rw (enter_left b c l r i x k) (members_from b (b + width l) (list_leaf i c) (enter b l i x) r (ap (λ n. b + n) (sym (width-enter b l i x))) (members-enter b l i x low k h m.0) m.1)
+        | inr k ↦ rw (enter_right b c l r i x k) (members_from b (b + width l) (list_leaf i c) l (enter (b + width l) r i x) refl m.0 (members-enter (b + width l) r i x k (omega arith) h m.1))
       ]
 
   merge_of_leaf : (b : ℕ) (v : Option LeafNode) (i : ℕ) (ks : List (List ℕ)) (h : List ℕ) (x : LeafNode) → b ≡ i → p i x ≡ true → all_members p b (merge b (Leaf v) i ks h x) ≡ true
@@ -122,10 +122,10 @@ module _ (q : List ℕ → Bool) where
   enter_keys b (Leaf v) i x h a = key_of_leaf (Some x) (and_from (q x.encryption_key) true h refl)
   enter_keys b (Branch c l r) i x h a =
       let m = keys_parts c l r a in
-      let own = ap (list_all q) (key-listing i c) ∙ m.1 in
+      let own = ap (list_all q) (key-list_leaf i c) ∙ m.1 in
       cond_both (nat_lt i (b + width l)) _ _ (λ t. all_keys t ≡ true)
-      (λ _. keys_from (listing i c) (enter b l i x) r (enter_keys b l i x h m.0) own m.2)
-      (λ _. keys_from (listing i c) l (enter (b + width l) r i x) m.0 own (enter_keys (b + width l) r i x h m.2))
+      (λ _. keys_from (list_leaf i c) (enter b l i x) r (enter_keys b l i x h m.0) own m.2)
+      (λ _. keys_from (list_leaf i c) l (enter (b + width l) r i x) m.0 own (enter_keys (b + width l) r i x h m.2))
 
   new_key : (e : Bool) (ks : List (List ℕ)) (h : List ℕ) → list_all q ks ≡ true → list_all q (parent_key (new_parent e ks h)) ≡ true
   new_key false ks h a = refl
@@ -189,17 +189,17 @@ unfolding has
 less-none [] = refl
 less-none (x ∷ xs) = ap (λ ys. x ∷ ys) (less-none xs)
 
-unlisting-none : (c : Option Parent) → unlisting [] c ≡ c
-unlisting-none None = refl
-unlisting-none (Some p) = ap (λ us. let r : Parent = record { encryption_key = p.encryption_key; parent_hash = p.parent_hash; unmerged_leaves = us } in Some r) (less-none p.unmerged_leaves)
+unlist_leaves-none : (c : Option Parent) → unlist_leaves [] c ≡ c
+unlist_leaves-none None = refl
+unlist_leaves-none (Some p) = ap (λ us. let r : Parent = record { encryption_key = p.encryption_key; parent_hash = p.parent_hash; unmerged_leaves = us } in Some r) (less-none p.unmerged_leaves)
 
-pub original-none : (b : ℕ) (t : Term) → original [] b t ≡ t
-unfolding original has
-original-none b (Leaf v) = refl
-original-none b (Branch c l r) =
-    ap (λ d. Branch d (original [] b l) (original [] (b + width l) r)) (unlisting-none c)
-    ∙ ap (λ t. Branch c t (original [] (b + width l) r)) (original-none b l)
-    ∙ ap (λ t. Branch c l t) (original-none (b + width l) r)
+pub original_tree-none : (b : ℕ) (t : Term) → original_tree [] b t ≡ t
+unfolding original_tree has
+original_tree-none b (Leaf v) = refl
+original_tree-none b (Branch c l r) =
+    ap (λ d. Branch d (original_tree [] b l) (original_tree [] (b + width l) r)) (unlist_leaves-none c)
+    ∙ ap (λ t. Branch c t (original_tree [] (b + width l) r)) (original_tree-none b l)
+    ∙ ap (λ t. Branch c l t) (original_tree-none (b + width l) r)
 
 -- where an added leaf lands
 add_place : (t : Term) (o : Option ℕ) → first_blank 0 t ≡ o → (place_for o t < width (room_for o t)) × (leaf_at 0 (room_for o t) (place_for o t) ≡ None) × (width t ≤ width (room_for o t)) × ((j : ℕ) → j < width t → leaf_at 0 (room_for o t) j ≡ leaf_at 0 t j)

@@ -8,7 +8,7 @@ use Rattle.mls_tree_model.specs.Node.{source_hash}
 use Rattle.mls_tree_model.specs.Term.{Term, Leaf, Branch, width, size}
 use Rattle.mls_tree_model.specs.Sets.{has, within, leaf_numbers, is_same_set, same_bytes}
 use Rattle.mls_tree_model.specs.Resolution.{resolution}
-use Rattle.mls_tree_model.specs.Lists.{asked, all_parents, lists_here, rises_here}
+use Rattle.mls_tree_model.specs.Lists.{parent_passes, all_parents, lists_here, rises_here}
 use Rattle.mls_tree_model.specs.Hashes.{parent_hash, hash_at, is_some_bytes, is_witness, has_witness, is_parent_hash_valid}
 use Rattle.mls_tree_model.specs.Resolution.{is_empty, is_reached}
 use Rattle.mls_tree_model.specs.Merge.{new_parent, keys_below, hash_below, merge, path_hash, HasHead, IsPath}
@@ -150,7 +150,7 @@ witness_head p b c m s e g =
       | inr t ↦ and_left _ (not (z == d)) (ap (λ v. v || false) t)
     ]
 
-valid_down_left : (b m : ℕ) (l r : Term) (f : Bool) (ks : List (List ℕ)) (h : List ℕ) → m ≡ b + width l → HasHead b l (hash_below (new_parent f ks h) m r h) → asked is_parent_hash_valid b (new_parent f ks h) l r ≡ true
+valid_down_left : (b m : ℕ) (l r : Term) (f : Bool) (ks : List (List ℕ)) (h : List ℕ) → m ≡ b + width l → HasHead b l (hash_below (new_parent f ks h) m r h) → parent_passes is_parent_hash_valid b (new_parent f ks h) l r ≡ true
 unfolding is_parent_hash_valid
 valid_down_left b m l r false ks h at g = refl
 valid_down_left b m l r true [] h at g = refl
@@ -158,7 +158,7 @@ valid_down_left b m l r true (key ∷ ks) h at g =
     let p : Parent = record { encryption_key = key; parent_hash = h; unmerged_leaves = [] } in
     or_left (has_witness p b l (b + width l) r) _ (ap (λ n. has_witness p b l n r) (sym at) ∙ witness_head p b l m r refl g)
 
-valid_down_right : (b : ℕ) (l r : Term) (f : Bool) (ks : List (List ℕ)) (h : List ℕ) → HasHead (b + width l) r (hash_below (new_parent f ks h) b l h) → asked is_parent_hash_valid b (new_parent f ks h) l r ≡ true
+valid_down_right : (b : ℕ) (l r : Term) (f : Bool) (ks : List (List ℕ)) (h : List ℕ) → HasHead (b + width l) r (hash_below (new_parent f ks h) b l h) → parent_passes is_parent_hash_valid b (new_parent f ks h) l r ≡ true
 unfolding is_parent_hash_valid
 valid_down_right b l r false ks h g = refl
 valid_down_right b l r true [] h g = refl
@@ -187,7 +187,7 @@ valid-merge b (Branch c l r) i ks h x path a =
 
 -- a merge keeps what holds of every parent with an empty list
 module _ (q : ℕ → Parent → Term → Term → Bool) (free : (b : ℕ) (p : Parent) (l r : Term) → p.unmerged_leaves ≡ [] → q b p l r ≡ true) where
-  asked_new : (b : ℕ) (l r : Term) (f : Bool) (ks : List (List ℕ)) (h : List ℕ) → asked q b (new_parent f ks h) l r ≡ true
+  asked_new : (b : ℕ) (l r : Term) (f : Bool) (ks : List (List ℕ)) (h : List ℕ) → parent_passes q b (new_parent f ks h) l r ≡ true
   asked_new b l r false ks h = refl
   asked_new b l r true [] h = refl
   asked_new b l r true (key ∷ ks) h = let p : Parent = record { encryption_key = key; parent_hash = h; unmerged_leaves = [] } in free b p l r refl

@@ -1,14 +1,14 @@
 -- Where the leaves are that right lists name.
 use Rattle.std.proofs.Common.{◌≡◌, ℕ, ◌+◌, ◌<◌, ◌≤◌, nat_lt, nat_le, true, false, ◌&&◌, cond, Option, Some, None, is_some, refl, sym, ◌∙◌, ap, arith, subst, inl, inr, lt-ltb, le-ltb, ltb-true, leb-true, le-leb, eqb-true, Bool}
 use Rattle.std.proofs.lemmas.Bool.{true≢false, and_parts, and_from, or_cases, or_left, or_right, cond-true, cond-false, cases_lt, false_from_ne_true}
-use Rattle.mls_leaf.specs.Parent.{Parent, inserted}
-use Rattle.mls_leaf.proofs.ParentLaws.{rises_from-inserted}
+use Rattle.mls_leaf.specs.Parent.{Parent, rising_with}
+use Rattle.mls_leaf.proofs.ParentLaws.{rises_from-rising_with}
 use Rattle.mls_leaf.specs.declared.leaf.LeafNode.{LeafNode}
 use Rattle.mls_tree_model.proofs.Equations.{enter_left, enter_right, leaf_at_left, leaf_at_right}
 use Rattle.mls_tree_model.specs.Term.{Term, Leaf, Branch, width, leaf_at}
 use Rattle.mls_tree_model.specs.Sets.{has}
-use Rattle.mls_tree_model.specs.Edits.{enter, listing}
-use Rattle.mls_tree_model.specs.Lists.{asked, all_parents, may_list, is_listed, may_be_listed, lists_here, rises_here, lists, is_named}
+use Rattle.mls_tree_model.specs.Edits.{enter, list_leaf}
+use Rattle.mls_tree_model.specs.Lists.{parent_passes, all_parents, may_list, is_listed, may_be_listed, lists_here, rises_here, lists, is_listed_anywhere}
 use Rattle.mls_tree_model.proofs.SetLaws.{all_at, all_from, has-with, eqb_refl}
 use Rattle.mls_tree_model.proofs.ShapeLaws.{width-enter}
 use Rattle.mls_tree_model.proofs.ParentLaws.{parents_parts, parents_from}
@@ -59,8 +59,8 @@ unfolding lists_here
 lists_bound b p l r u h e = let f = may_parts b l r u (all_at (may_be_listed b l r) p.unmerged_leaves u h e) in (f.0, f.1)
 
 -- a leaf that some parent lists is below it, and taken
-pub named_range : (b : ℕ) (t : Term) (u : ℕ) → all_parents lists_here b t ≡ true → is_named t u ≡ true → (b ≤ u) × (u < b + width t) × (is_some (leaf_at b t u) ≡ true)
-unfolding is_named width lists_here
+pub named_range : (b : ℕ) (t : Term) (u : ℕ) → all_parents lists_here b t ≡ true → is_listed_anywhere t u ≡ true → (b ≤ u) × (u < b + width t) × (is_some (leaf_at b t u) ≡ true)
+unfolding is_listed_anywhere width lists_here
 named_range b (Leaf v) u h e = absurd (true≢false (sym e))
 named_range b (Branch c l r) u h e =
     let p = parents_parts lists_here b c l r h in
@@ -74,20 +74,20 @@ named_range b (Branch c l r) u h e =
               | inr ge ↦ ap is_some (leaf_at_right b c l r u ge) ∙ listed_taken (b + width l) r u (sym (cond-false _ _ _ (le-ltb u (b + width l) ge)) ∙ f.2)
             ],
           )
-      | inr k ↦ elim (or_cases (is_named l u) _ k) [
+      | inr k ↦ elim (or_cases (is_listed_anywhere l u) _ k) [
         | inl m ↦ let f = named_range b l u p.1 m in (f.0, let g = f.1 in omega arith, ap is_some (leaf_at_left b c l r u f.1) ∙ f.2)
         | inr m ↦ let f = named_range (b + width l) r u p.2 m in (let g = f.0 in omega arith, let g = f.1 in omega arith, ap is_some (leaf_at_right b c l r u f.0) ∙ f.2)
       ]
     ]
   where
-    at : (c : Option Parent) → asked lists_here b c l r ≡ true → lists c u ≡ true → may_be_listed b l r u ≡ true
+    at : (c : Option Parent) → parent_passes lists_here b c l r ≡ true → lists c u ≡ true → may_be_listed b l r u ≡ true
     at None h k = absurd (true≢false (sym k))
     at (Some p) h k = all_at (may_be_listed b l r) p.unmerged_leaves u h k
 
 -- a blank leaf is in no right list
-pub fresh : (b : ℕ) (t : Term) (i : ℕ) → all_parents lists_here b t ≡ true → leaf_at b t i ≡ None → is_named t i ≡ false
+pub fresh : (b : ℕ) (t : Term) (i : ℕ) → all_parents lists_here b t ≡ true → leaf_at b t i ≡ None → is_listed_anywhere t i ≡ false
 fresh b t i h e =
-    false_from_ne_true (is_named t i) (λ k. true≢false (sym (named_range b t i h k).2 ∙ ap is_some e))
+    false_from_ne_true (is_listed_anywhere t i) (λ k. true≢false (sym (named_range b t i h k).2 ∙ ap is_some e))
 
 -- an added leaf is listed all the way down to it, and whoever was listed still is
 pub listed-enter : (b : ℕ) (t : Term) (i : ℕ) (x : LeafNode) → is_listed b (enter b t i x) i ≡ true
@@ -95,17 +95,17 @@ unfolding is_listed enter
 listed-enter b (Leaf v) i x = refl
 listed-enter b (Branch c l r) i x =
     elim (cases_lt i (b + width l)) [
-      | inl k ↦ rw (enter_left b c l r i x k, listed_left b (listing i c) (enter b l i x) r i (subst (λ n. i < b + n) (sym (width-enter b l i x)) k)) (and_from (may_list (listing i c) i) _ (own c) (listed-enter b l i x))
-      | inr k ↦ rw (enter_right b c l r i x k, listed_right b (listing i c) l (enter (b + width l) r i x) i k) (and_from (may_list (listing i c) i) _ (own c) (listed-enter (b + width l) r i x))
+      | inl k ↦ rw (enter_left b c l r i x k, listed_left b (list_leaf i c) (enter b l i x) r i (subst (λ n. i < b + n) (sym (width-enter b l i x)) k)) (and_from (may_list (list_leaf i c) i) _ (own c) (listed-enter b l i x))
+      | inr k ↦ rw (enter_right b c l r i x k, listed_right b (list_leaf i c) l (enter (b + width l) r i x) i k) (and_from (may_list (list_leaf i c) i) _ (own c) (listed-enter (b + width l) r i x))
     ]
   where
-    own : (c : Option Parent) → may_list (listing i c) i ≡ true
+    own : (c : Option Parent) → may_list (list_leaf i c) i ≡ true
     own None = refl
     own (Some p) = has-with i p.unmerged_leaves i ∙ or_right (has p.unmerged_leaves i) _ (eqb_refl i)
 
-may_list-listing : (c : Option Parent) (i u : ℕ) → may_list c u ≡ true → may_list (listing i c) u ≡ true
-may_list-listing None i u h = refl
-may_list-listing (Some p) i u h = has-with i p.unmerged_leaves u ∙ or_left (has p.unmerged_leaves u) _ h
+may_list-list_leaf : (c : Option Parent) (i u : ℕ) → may_list c u ≡ true → may_list (list_leaf i c) u ≡ true
+may_list-list_leaf None i u h = refl
+may_list-list_leaf (Some p) i u h = has-with i p.unmerged_leaves u ∙ or_left (has p.unmerged_leaves u) _ h
 
 pub listed_kept : (b : ℕ) (t : Term) (i : ℕ) (x : LeafNode) (u : ℕ) → is_listed b t u ≡ true → is_listed b (enter b t i x) u ≡ true
 listed_kept b (Leaf v) i x u h = unfold is_listed enter in refl
@@ -113,17 +113,17 @@ listed_kept b (Branch c l r) i x u h =
     elim (cases_lt u (b + width l)) [
       | inl k ↦
           let p = and_parts (may_list c u) _ (sym (listed_left b c l r u k) ∙ h) in
-          let m = may_list-listing c i u p.0 in
+          let m = may_list-list_leaf c i u p.0 in
           elim (cases_lt i (b + width l)) [
-            | inl j ↦ rw (enter_left b c l r i x j, listed_left b (listing i c) (enter b l i x) r u (subst (λ n. u < b + n) (sym (width-enter b l i x)) k)) (and_from (may_list (listing i c) u) _ m (listed_kept b l i x u p.1))
-            | inr j ↦ rw (enter_right b c l r i x j, listed_left b (listing i c) l (enter (b + width l) r i x) u k) (and_from (may_list (listing i c) u) _ m p.1)
+            | inl j ↦ rw (enter_left b c l r i x j, listed_left b (list_leaf i c) (enter b l i x) r u (subst (λ n. u < b + n) (sym (width-enter b l i x)) k)) (and_from (may_list (list_leaf i c) u) _ m (listed_kept b l i x u p.1))
+            | inr j ↦ rw (enter_right b c l r i x j, listed_left b (list_leaf i c) l (enter (b + width l) r i x) u k) (and_from (may_list (list_leaf i c) u) _ m p.1)
           ]
       | inr k ↦
           let p = and_parts (may_list c u) _ (sym (listed_right b c l r u k) ∙ h) in
-          let m = may_list-listing c i u p.0 in
+          let m = may_list-list_leaf c i u p.0 in
           elim (cases_lt i (b + width l)) [
-            | inl j ↦ rw (enter_left b c l r i x j, listed_right b (listing i c) (enter b l i x) r u (subst (λ n. b + n ≤ u) (sym (width-enter b l i x)) k)) (and_from (may_list (listing i c) u) _ m (ap (λ n. is_listed (b + n) r u) (width-enter b l i x) ∙ p.1))
-            | inr j ↦ rw (enter_right b c l r i x j, listed_right b (listing i c) l (enter (b + width l) r i x) u k) (and_from (may_list (listing i c) u) _ m (listed_kept (b + width l) r i x u p.1))
+            | inl j ↦ rw (enter_left b c l r i x j, listed_right b (list_leaf i c) (enter b l i x) r u (subst (λ n. b + n ≤ u) (sym (width-enter b l i x)) k)) (and_from (may_list (list_leaf i c) u) _ m (ap (λ n. is_listed (b + n) r u) (width-enter b l i x) ∙ p.1))
+            | inr j ↦ rw (enter_right b c l r i x j, listed_right b (list_leaf i c) l (enter (b + width l) r i x) u k) (and_from (may_list (list_leaf i c) u) _ m (listed_kept (b + width l) r i x u p.1))
           ]
     ]
 
@@ -151,23 +151,23 @@ module _ (b : ℕ) (l r : Term) (i : ℕ) (x : LeafNode) (u : ℕ) where
         | inr k ↦ may_right b l (enter (b + width l) r i x) u k (omega arith) (listed_kept (b + width l) r i x u (sym (cond-false _ _ _ (le-ltb u (b + width l) k)) ∙ f.2))
       ]
 
-asked_left : (b : ℕ) (c : Option Parent) (l r : Term) (i : ℕ) (x : LeafNode) → b ≤ i → i < b + width l → asked lists_here b c l r ≡ true → asked lists_here b (listing i c) (enter b l i x) r ≡ true
+asked_left : (b : ℕ) (c : Option Parent) (l r : Term) (i : ℕ) (x : LeafNode) → b ≤ i → i < b + width l → parent_passes lists_here b c l r ≡ true → parent_passes lists_here b (list_leaf i c) (enter b l i x) r ≡ true
 unfolding lists_here
 asked_left b None l r i x low high h = refl
 asked_left b (Some p) l r i x low high h =
     let w = width-enter b l i x in
-    all_from (may_be_listed b (enter b l i x) r) (inserted i p.unmerged_leaves) (λ u e.
+    all_from (may_be_listed b (enter b l i x) r) (rising_with i p.unmerged_leaves) (λ u e.
     elim (or_cases (has p.unmerged_leaves u) _ (sym (has-with i p.unmerged_leaves u) ∙ e)) [
       | inl k ↦ kept_left b l r i x u (all_at (may_be_listed b l r) p.unmerged_leaves u h k)
       | inr k ↦ subst (λ n. may_be_listed b (enter b l i x) r n ≡ true) (eqb-true i u k) (may_left b (enter b l i x) r i low (omega arith) (listed-enter b l i x))
     ])
 
-asked_right : (b : ℕ) (c : Option Parent) (l r : Term) (i : ℕ) (x : LeafNode) → b + width l ≤ i → i < b + (width l + width r) → asked lists_here b c l r ≡ true → asked lists_here b (listing i c) l (enter (b + width l) r i x) ≡ true
+asked_right : (b : ℕ) (c : Option Parent) (l r : Term) (i : ℕ) (x : LeafNode) → b + width l ≤ i → i < b + (width l + width r) → parent_passes lists_here b c l r ≡ true → parent_passes lists_here b (list_leaf i c) l (enter (b + width l) r i x) ≡ true
 unfolding lists_here
 asked_right b None l r i x low high h = refl
 asked_right b (Some p) l r i x low high h =
     let w = width-enter (b + width l) r i x in
-    all_from (may_be_listed b l (enter (b + width l) r i x)) (inserted i p.unmerged_leaves) (λ u e.
+    all_from (may_be_listed b l (enter (b + width l) r i x)) (rising_with i p.unmerged_leaves) (λ u e.
     elim (or_cases (has p.unmerged_leaves u) _ (sym (has-with i p.unmerged_leaves u) ∙ e)) [
       | inl k ↦ kept_right b l r i x u (all_at (may_be_listed b l r) p.unmerged_leaves u h k)
       | inr k ↦ subst (λ n. may_be_listed b l (enter (b + width l) r i x) n ≡ true) (eqb-true i u k) (may_right b l (enter (b + width l) r i x) i low (omega arith) (listed-enter (b + width l) r i x))
@@ -179,21 +179,21 @@ lists-enter b (Leaf v) i x low high h = unfold all_parents enter in refl
 lists-enter b (Branch c l r) i x low high h =
     let p = parents_parts lists_here b c l r h in
     elim (cases_lt i (b + width l)) [
-      | inl k ↦ rw (enter_left b c l r i x k) (parents_from lists_here b (b + width l) (listing i c) (enter b l i x) r (asked_left b c l r i x low k p.0) (lists-enter b l i x low k p.1) (ap (λ n. b + n) (sym (width-enter b l i x))) p.2)
-      | inr k ↦ rw (enter_right b c l r i x k) (parents_from lists_here b (b + width l) (listing i c) l (enter (b + width l) r i x) (asked_right b c l r i x k high p.0) p.1 refl (lists-enter (b + width l) r i x k (omega arith) p.2))
+      | inl k ↦ rw (enter_left b c l r i x k) (parents_from lists_here b (b + width l) (list_leaf i c) (enter b l i x) r (asked_left b c l r i x low k p.0) (lists-enter b l i x low k p.1) (ap (λ n. b + n) (sym (width-enter b l i x))) p.2)
+      | inr k ↦ rw (enter_right b c l r i x k) (parents_from lists_here b (b + width l) (list_leaf i c) l (enter (b + width l) r i x) (asked_right b c l r i x k high p.0) p.1 refl (lists-enter (b + width l) r i x k (omega arith) p.2))
     ]
 
 -- and rising lists stay rising
-asked_rises : (b i : ℕ) (c : Option Parent) (l r s t : Term) → asked rises_here b c l r ≡ true → asked rises_here b (listing i c) s t ≡ true
+asked_rises : (b i : ℕ) (c : Option Parent) (l r s t : Term) → parent_passes rises_here b c l r ≡ true → parent_passes rises_here b (list_leaf i c) s t ≡ true
 unfolding rises_here
 asked_rises b i None l r s t h = refl
-asked_rises b i (Some p) l r s t h = rises_from-inserted 0 i p.unmerged_leaves (omega arith) h
+asked_rises b i (Some p) l r s t h = rises_from-rising_with 0 i p.unmerged_leaves (omega arith) h
 
 pub rises-enter : (b : ℕ) (t : Term) (i : ℕ) (x : LeafNode) → all_parents rises_here b t ≡ true → all_parents rises_here b (enter b t i x) ≡ true
 rises-enter b (Leaf v) i x h = unfold all_parents enter in refl
 rises-enter b (Branch c l r) i x h =
     let p = parents_parts rises_here b c l r h in
     elim (cases_lt i (b + width l)) [
-      | inl k ↦ rw (enter_left b c l r i x k) (parents_from rises_here b (b + width l) (listing i c) (enter b l i x) r (asked_rises b i c l r (enter b l i x) r p.0) (rises-enter b l i x p.1) (ap (λ n. b + n) (sym (width-enter b l i x))) p.2)
-      | inr k ↦ rw (enter_right b c l r i x k) (parents_from rises_here b (b + width l) (listing i c) l (enter (b + width l) r i x) (asked_rises b i c l r l (enter (b + width l) r i x) p.0) p.1 refl (rises-enter (b + width l) r i x p.2))
+      | inl k ↦ rw (enter_left b c l r i x k) (parents_from rises_here b (b + width l) (list_leaf i c) (enter b l i x) r (asked_rises b i c l r (enter b l i x) r p.0) (rises-enter b l i x p.1) (ap (λ n. b + n) (sym (width-enter b l i x))) p.2)
+      | inr k ↦ rw (enter_right b c l r i x k) (parents_from rises_here b (b + width l) (list_leaf i c) l (enter (b + width l) r i x) (asked_rises b i c l r l (enter (b + width l) r i x) p.0) p.1 refl (rises-enter (b + width l) r i x p.2))
     ]

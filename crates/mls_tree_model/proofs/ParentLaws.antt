@@ -5,21 +5,21 @@ use Rattle.mls_leaf.specs.Parent.{Parent}
 use Rattle.mls_leaf.specs.declared.leaf.LeafNode.{LeafNode}
 use Rattle.mls_tree_model.specs.Term.{Term, Leaf, Branch, width, height, blanks, has_leaf}
 use Rattle.mls_tree_model.specs.Edits.{put, grow, trim}
-use Rattle.mls_tree_model.specs.Lists.{asked, all_parents}
+use Rattle.mls_tree_model.specs.Lists.{parent_passes, all_parents}
 use Rattle.mls_tree_model.proofs.ShapeLaws.{width-put}
 
 module _ (q : ℕ → Parent → Term → Term → Bool) where
-  pub parents_parts : (b : ℕ) (c : Option Parent) (l r : Term) → all_parents q b (Branch c l r) ≡ true → (asked q b c l r ≡ true) × (all_parents q b l ≡ true) × (all_parents q (b + width l) r ≡ true)
+  pub parents_parts : (b : ℕ) (c : Option Parent) (l r : Term) → all_parents q b (Branch c l r) ≡ true → (parent_passes q b c l r ≡ true) × (all_parents q b l ≡ true) × (all_parents q (b + width l) r ≡ true)
   unfolding all_parents
   parents_parts b c l r h =
-      let p = and_parts (asked q b c l r) _ h in
+      let p = and_parts (parent_passes q b c l r) _ h in
       let w = and_parts (all_parents q b l) (all_parents q (b + width l) r) p.1 in
       (p.0, w.0, w.1)
 
-  pub parents_from : (b m : ℕ) (c : Option Parent) (l r : Term) → asked q b c l r ≡ true → all_parents q b l ≡ true → m ≡ b + width l → all_parents q m r ≡ true → all_parents q b (Branch c l r) ≡ true
+  pub parents_from : (b m : ℕ) (c : Option Parent) (l r : Term) → parent_passes q b c l r ≡ true → all_parents q b l ≡ true → m ≡ b + width l → all_parents q m r ≡ true → all_parents q b (Branch c l r) ≡ true
   unfolding all_parents
   parents_from b m c l r h i e j =
-      and_from (asked q b c l r) _ h (and_from (all_parents q b l) _ i (ap (λ n. all_parents q n r) (sym e) ∙ j))
+      and_from (parent_passes q b c l r) _ h (and_from (all_parents q b l) _ i (ap (λ n. all_parents q n r) (sym e) ∙ j))
 
   pub parents-put : (b : ℕ) (t : Term) (i : ℕ) (x : Option LeafNode) → all_parents q b t ≡ true → all_parents q b (put b t i x) ≡ true
   unfolding all_parents put

@@ -4,7 +4,7 @@ use Rattle.std.proofs.lemmas.Bool.{true≢false, and_parts, and_from, or_parts, 
 use Rattle.mls_leaf.specs.declared.leaf.LeafNode.{LeafNode}
 use Rattle.mls_tree_model.proofs.Equations.{enter_left, enter_right, leaf_at_left, leaf_at_right, merge_left, merge_right, put_left, put_right}
 use Rattle.mls_tree_model.specs.Term.{Term, Leaf, Branch, width, height, is_perfect, blanks, has_leaf, is_full_width, leaf_at}
-use Rattle.mls_tree_model.specs.Edits.{put, enter, grow, trim, listing, or_else, first_blank}
+use Rattle.mls_tree_model.specs.Edits.{put, enter, grow, trim, list_leaf, or_else, first_blank}
 use Rattle.mls_tree_model.specs.Resolution.{is_reached}
 use Rattle.mls_tree_model.specs.Merge.{new_parent, keys_below, hash_below, merge}
 use Rattle.mls_tree_model.specs.Keys.{members}
@@ -248,11 +248,11 @@ leaf_at-enter b (Branch c l r) i x j il ih jl jh =
           let w = width-enter b l i x in
           elim (cases_lt j (b + width l)) [
             | inl m ↦
-                leaf_at_left b (listing i c) (enter b l i x) r j (omega arith)
+                leaf_at_left b (list_leaf i c) (enter b l i x) r j (omega arith)
                 ∙ leaf_at-enter b l i x j il k jl m
                 ∙ ap (cond (j == i) (Some x)) (sym (leaf_at_left b c l r j m))
             | inr m ↦
-                leaf_at_right b (listing i c) (enter b l i x) r j (omega arith)
+                leaf_at_right b (list_leaf i c) (enter b l i x) r j (omega arith)
                 ∙ ap (λ n. leaf_at (b + n) r j) w
                 ∙ sym (leaf_at_right b c l r j m)
                 ∙ other_leaf i j (Some x) _ (λ e. absurd (omega arith))
@@ -260,11 +260,11 @@ leaf_at-enter b (Branch c l r) i x j il ih jl jh =
       | inr k ↦ rw (enter_right b c l r i x k) (
           elim (cases_lt j (b + width l)) [
             | inl m ↦
-                leaf_at_left b (listing i c) l (enter (b + width l) r i x) j m
+                leaf_at_left b (list_leaf i c) l (enter (b + width l) r i x) j m
                 ∙ sym (leaf_at_left b c l r j m)
                 ∙ other_leaf i j (Some x) _ (λ e. absurd (omega arith))
             | inr m ↦
-                leaf_at_right b (listing i c) l (enter (b + width l) r i x) j m
+                leaf_at_right b (list_leaf i c) l (enter (b + width l) r i x) j m
                 ∙ leaf_at-enter (b + width l) r i x j k (omega arith) m (omega arith)
                 ∙ ap (cond (j == i) (Some x)) (sym (leaf_at_right b c l r j m))
           ])

@@ -2,15 +2,15 @@
 use Rattle.std.proofs.Common.{◌≡◌, ℕ, ◌+◌, ◌*◌, ◌<◌, ◌≤◌, ◌==◌, Bool, true, false, not, ◌||◌, List, [], ◌∷◌, ◌++◌, Option, Some, None, is_some, refl, sym, ◌∙◌, ap, arith, inl, inr, eqb-true, ne_eqb}
 use Rattle.std.proofs.lemmas.Bool.{true≢false, or_cases, or_from, or_parts, cond-false, cases_lt}
 use Rattle.std.proofs.Math.Bool.{or-false, or_assoc}
-use Rattle.mls_leaf.specs.Parent.{Parent, inserted}
+use Rattle.mls_leaf.specs.Parent.{Parent, rising_with}
 use Rattle.mls_leaf.specs.declared.leaf.LeafNode.{LeafNode}
 use Rattle.mls_tree_model.proofs.Equations.{enter_left, enter_right, leaf_at_left, leaf_at_right}
 use Rattle.mls_tree_model.specs.Term.{Term, Leaf, Branch, width, size, has_leaf, leaf_at}
 use Rattle.mls_tree_model.specs.Sets.{has, leaf_numbers}
 use Rattle.mls_tree_model.specs.Resolution.{resolution}
 use Rattle.mls_tree_model.specs.Resolution.{is_empty, is_reached}
-use Rattle.mls_tree_model.specs.Edits.{enter, listing}
-use Rattle.mls_tree_model.specs.Lists.{all_parents, is_named}
+use Rattle.mls_tree_model.specs.Edits.{enter, list_leaf}
+use Rattle.mls_tree_model.specs.Lists.{all_parents, is_listed_anywhere}
 use Rattle.mls_tree_model.specs.Hashes.{hash_at}
 use Rattle.mls_tree_model.specs.Node.{own_parent_hash}
 use Rattle.mls_tree_model.proofs.SetLaws.{has-append, has-with, has-leaf_numbers, of_leaf_numbers, numbers_more}
@@ -71,8 +71,8 @@ resolution_range test bound b (Branch None l r) d h e =
     ]
 
 -- an added leaf joins the resolution, and nobody else does
-has-leaf_numbers_with : (i : ℕ) (us : List ℕ) (d : ℕ) → has (leaf_numbers (inserted i us)) d ≡ (has (leaf_numbers us) d || (2 * i == d))
-has-leaf_numbers_with i us = numbers_more i (inserted i us) us (has-with i us)
+has-leaf_numbers_with : (i : ℕ) (us : List ℕ) (d : ℕ) → has (leaf_numbers (rising_with i us)) d ≡ (has (leaf_numbers us) d || (2 * i == d))
+has-leaf_numbers_with i us = numbers_more i (rising_with i us) us (has-with i us)
 
 or_past : (x y z : Bool) → ((x || z) || y) ≡ ((x || y) || z)
 or_past true y z = refl
@@ -106,7 +106,7 @@ resolution-enter b (Branch None l r) i x d low high e =
 resolution-enter b (Branch (Some p) l r) i x d low high e =
     elim (cases_lt i (b + width l)) [
       | inl k ↦ rw (enter_left b (Some p) l r i x k) ((
-          ap (λ n. (2 * b + n == d) || has (leaf_numbers (inserted i p.unmerged_leaves)) d) (size_from_width (enter b l i x) l (width-enter b l i x))
+          ap (λ n. (2 * b + n == d) || has (leaf_numbers (rising_with i p.unmerged_leaves)) d) (size_from_width (enter b l i x) l (width-enter b l i x))
           ∙ ap (λ v. (2 * b + size l == d) || v) (has-leaf_numbers_with i p.unmerged_leaves d)
           ∙ sym (or_assoc (2 * b + size l == d) _ _)))
       | inr k ↦ rw (enter_right b (Some p) l r i x k) ((
@@ -115,8 +115,8 @@ resolution-enter b (Branch (Some p) l r) i x d low high e =
     ]
 
 -- a leaf that no list names and that isn't taken in a tree is not in its resolution
-pub unnamed : (b : ℕ) (t : Term) (i : ℕ) → is_named t i ≡ false → (b ≤ i → i < b + width t → leaf_at b t i ≡ None) → has (resolution b t) (2 * i) ≡ false
-unfolding resolution has is_named width leaf_at
+pub unnamed : (b : ℕ) (t : Term) (i : ℕ) → is_listed_anywhere t i ≡ false → (b ≤ i → i < b + width t → leaf_at b t i ≡ None) → has (resolution b t) (2 * i) ≡ false
+unfolding resolution has is_listed_anywhere width leaf_at
 unnamed b (Leaf None) i h e = refl
 unnamed b (Leaf (Some v)) i h e =
     or_from (2 * b == 2 * i) false
@@ -132,15 +132,15 @@ unnamed b (Branch (Some p) l r) i h e =
     (ne_eqb (2 * b + size l) (2 * i) (λ k. absurd (omega arith)))
     (has-leaf_numbers p.unmerged_leaves i ∙ (or_parts (has p.unmerged_leaves i) _ h).0)
 unnamed b (Branch None l r) i h e =
-    let n = or_parts (is_named l i) (is_named r i) h in
+    let n = or_parts (is_listed_anywhere l i) (is_listed_anywhere r i) h in
     has-append (resolution b l) (resolution (b + width l) r) (2 * i)
     ∙ or_from _ _
     (unnamed b l i n.0 (λ low high. sym (leaf_at_left b None l r i high) ∙ e low (omega arith)))
     (unnamed (b + width l) r i n.1 (λ low high. sym (leaf_at_right b None l r i low) ∙ e (omega arith) (omega arith)))
 
-own_parent_hash-listing : (i : ℕ) (c : Option Parent) → own_parent_hash (listing i c) ≡ own_parent_hash c
-own_parent_hash-listing i None = refl
-own_parent_hash-listing i (Some p) = refl
+own_parent_hash-list_leaf : (i : ℕ) (c : Option Parent) → own_parent_hash (list_leaf i c) ≡ own_parent_hash c
+own_parent_hash-list_leaf i None = refl
+own_parent_hash-list_leaf i (Some p) = refl
 
 hash_at-enter_leaf : (b : ℕ) (v : Option LeafNode) (i : ℕ) (x : LeafNode) (d : ℕ) → (d == 2 * b) ≡ false → hash_at b (enter b (Leaf v) i x) d ≡ hash_at b (Leaf v) d
 unfolding enter hash_at
@@ -155,11 +155,11 @@ hash_at-enter b (Branch c l r) i x d low high ne =
       | inl k ↦
           let s = size_from_width (enter b l i x) l (width-enter b l i x) in
           let w = width-enter b l i x in
-          let o = own_parent_hash-listing i c in
+          let o = own_parent_hash-list_leaf i c in
           let g = hash_at-enter b l i x d low k ne in
           rw (enter_left b c l r i x k) (rw (s, w, o, g) refl)
       | inr k ↦
-          let o = own_parent_hash-listing i c in
+          let o = own_parent_hash-list_leaf i c in
           let g = hash_at-enter (b + width l) r i x d k (omega arith) ne in
           rw (enter_right b c l r i x k) (rw (o, g) refl)
     ]

@@ -6,7 +6,7 @@ use Rattle.std.proofs.lemmas.Bool.{true≢false, cases_Bool, and_parts, and_from
 use Rattle.std.proofs.lemmas.List.{drop_more, drop_all}
 use Rattle.std.proofs.Math.Bool.{and-false, or_assoc, or_comm}
 use lib.Pointwise.{pointwise}
-use Rattle.mls_leaf.specs.Parent.{inserted}
+use Rattle.mls_leaf.specs.Parent.{rising_with}
 use Rattle.mls_tree_model.specs.Sets.{has, leaf_numbers, is_same_set, same_bytes}
 
 pub eqb_refl : (x : ℕ) → (x == x) ≡ true
@@ -77,8 +77,8 @@ has-filter p (y ∷ ys) x =
           ]
     ]
 
-pub has-with : (x : ℕ) (ys : List ℕ) (u : ℕ) → has (inserted x ys) u ≡ (has ys u || (x == u))
-unfolding has inserted
+pub has-with : (x : ℕ) (ys : List ℕ) (u : ℕ) → has (rising_with x ys) u ≡ (has ys u || (x == u))
+unfolding has rising_with
 has-with x [] u = elim (x == u) as (λ v. (v || false) ≡ v) [ true ↦ refl | false ↦ refl ]
 has-with x (y ∷ ys) u =
     cond_both (nat_lt x y) _ _ (λ zs. has zs u ≡ (((y == u) || has ys u) || (x == u)))

@@ -1,6 +1,6 @@
 -- Edits of a tree whose first leaf is b.
 use Rattle.std.specs.Prelude.{ℕ, ◌+◌, nat_lt, if◌then◌else◌, Option, Some, None}
-use Rattle.mls_leaf.specs.Parent.{Parent, inserted}
+use Rattle.mls_leaf.specs.Parent.{Parent, rising_with}
 use Rattle.mls_leaf.specs.declared.leaf.LeafNode.{LeafNode}
 use Rattle.mls_tree_model.specs.Term.{Term, Leaf, Branch, width, height, blanks, has_leaf}
 
@@ -13,18 +13,18 @@ put b (Branch c l r) i x =
 -- a parent whose list has leaf i too; the list is a set, and i isn't entered twice
 abbrev pub with_leaf : ℕ → Parent → Parent
 with_leaf i p =
-    record { encryption_key = p.encryption_key; parent_hash = p.parent_hash; unmerged_leaves = inserted i p.unmerged_leaves }
+    record { encryption_key = p.encryption_key; parent_hash = p.parent_hash; unmerged_leaves = rising_with i p.unmerged_leaves }
 
 -- the same of a place that may be blank
-abbrev pub listing : ℕ → Option Parent → Option Parent
-listing i None = None
-listing i (Some p) = Some (with_leaf i p)
+abbrev pub list_leaf : ℕ → Option Parent → Option Parent
+list_leaf i None = None
+list_leaf i (Some p) = Some (with_leaf i p)
 
 -- leaf i filled, and listed by each parent over it that isn't blank (RFC 9420, 12.1.1)
 unfoldable pub enter : ℕ → Term → ℕ → LeafNode → Term
 enter b (Leaf v) i x = Leaf (Some x)
 enter b (Branch c l r) i x =
-    if nat_lt i (b + width l) then Branch (listing i c) (enter b l i x) r else Branch (listing i c) l (enter (b + width l) r i x)
+    if nat_lt i (b + width l) then Branch (list_leaf i c) (enter b l i x) r else Branch (list_leaf i c) l (enter (b + width l) r i x)
 
 -- twice the leaves: a blank root, the tree on its left, blank nodes on its right (RFC 9420, 7.7)
 unfoldable pub grow : Term → Term

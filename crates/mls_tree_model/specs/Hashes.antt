@@ -14,20 +14,20 @@ tree_hash b (Leaf v) = leaf_hash b v
 tree_hash b (Branch c l r) = branch_hash c (tree_hash b l) (tree_hash (b + width l) r)
 
 -- a parent with some leaves taken out of its list
-abbrev pub unlisting : List ℕ → Option Parent → Option Parent
-unlisting us None = None
-unlisting us (Some p) =
+abbrev pub unlist_leaves : List ℕ → Option Parent → Option Parent
+unlist_leaves us None = None
+unlist_leaves us (Some p) =
     Some (record { encryption_key = p.encryption_key; parent_hash = p.parent_hash; unmerged_leaves = less us p.unmerged_leaves })
 
 -- a tree as it was before some leaves were added: these are blanked and taken out of each list (RFC 9420, 7.9)
-unfoldable pub original : List ℕ → ℕ → Term → Term
-original us b (Leaf v) = Leaf (if has us b then None else v)
-original us b (Branch c l r) = Branch (unlisting us c) (original us b l) (original us (b + width l) r)
+unfoldable pub original_tree : List ℕ → ℕ → Term → Term
+original_tree us b (Leaf v) = Leaf (if has us b then None else v)
+original_tree us b (Branch c l r) = Branch (unlist_leaves us c) (original_tree us b l) (original_tree us (b + width l) r)
 
 -- the parent hash of a parent with the side s, whose first leaf is m: it ties what is below the other side to the
 -- parent (RFC 9420, 7.9)
 unfoldable pub parent_hash : Parent → ℕ → Term → List ℕ
-parent_hash p m s = sibling_hash p.encryption_key p.parent_hash (tree_hash m (original p.unmerged_leaves m s))
+parent_hash p m s = sibling_hash p.encryption_key p.parent_hash (tree_hash m (original_tree p.unmerged_leaves m s))
 
 -- the field parent_hash of node d: of a parent, or of a leaf whose source is a commit
 unfoldable pub hash_at : ℕ → Term → ℕ → Option (List ℕ)

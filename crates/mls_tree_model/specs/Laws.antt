@@ -1,7 +1,7 @@
 -- The laws of trees as terms.
 use Rattle.std.specs.Prelude.{◌≡◌, ℕ, suc, ◌+◌, ◌*◌, ◌^◌, ◌<◌, ◌≤◌, ◌==◌, ◌||◌, Bool, true, false, not, nat_eq, if◌then◌else◌, List, [], ◌∷◌, map, filter, length, slice_index_or, Option, Some, None, is_some, is_none, IsSome, Ok, ◌⊎◌, ◌&&◌}
 use Rattle.std.specs.List.{list_all}
-use Rattle.mls_leaf.specs.Parent.{Parent, inserted}
+use Rattle.mls_leaf.specs.Parent.{Parent, rising_with}
 use Rattle.mls_leaf.specs.declared.leaf.LeafNode.{LeafNode}
 use Rattle.mls_tree_model.specs.Term.{Term, Leaf, width, size, height, is_perfect, has_leaf, is_full_width, leaf_at, leaf_of}
 use Rattle.mls_tree_model.specs.Sets.{has, leaf_numbers, is_distinct}
@@ -12,11 +12,11 @@ use Rattle.mls_tree_model.specs.Places.{at_node}
 use Rattle.mls_treemath.specs.Paths.{Path, path_to, index_of, leaf_path}
 use Rattle.mls_treemath.specs.Steps.{above}
 use Rattle.mls_tree_model.specs.Edits.{put, enter, grow, trim, first_blank, place_in, add, update, remove}
-use Rattle.mls_tree_model.specs.Lists.{all_parents, lists_here, rises_here, is_named}
-use Rattle.mls_tree_model.specs.Hashes.{tree_hash, original, hash_at, is_parent_hash_valid}
+use Rattle.mls_tree_model.specs.Lists.{all_parents, lists_here, rises_here, is_listed_anywhere}
+use Rattle.mls_tree_model.specs.Hashes.{tree_hash, original_tree, hash_at, is_parent_hash_valid}
 use Rattle.mls_tree_model.specs.Merge.{merge, merge_path, path_parent_hash, HasHead, IsPath}
 use Rattle.mls_tree_model.specs.Keys.{leaf_key, encryption_keys, signature_keys, members, passes, all_members}
-use Rattle.mls_tree_model.specs.Held.{holds, held}
+use Rattle.mls_tree_model.specs.HeldKeys.{holds_key_of, held_nodes}
 use Rattle.mls_wire.specs.Checks.{passed}
 use Rattle.mls_leaf.specs.declared.node.Node.{Node}
 use Rattle.mls_tree_model.specs.Good.{Rules, IsGood, AreNew, has_good_shape, is_within, tree_checks, IsSound, AreFit, has_good_lists, has_good_hashes, has_distinct_keys, has_distinct_clients}
@@ -180,10 +180,10 @@ KeysTrim = (q : List ℕ → Bool) (t : Term) → list_all q (encryption_keys t)
 
 -- a listed leaf is one of the tree, and a member; so a blank leaf is in no list
 abbrev pub ListedIsMember : Type 0
-ListedIsMember = (b : ℕ) (t : Term) (u : ℕ) → all_parents lists_here b t ≡ true → is_named t u ≡ true → (b ≤ u) × (u < b + width t) × (is_some (leaf_at b t u) ≡ true)
+ListedIsMember = (b : ℕ) (t : Term) (u : ℕ) → all_parents lists_here b t ≡ true → is_listed_anywhere t u ≡ true → (b ≤ u) × (u < b + width t) × (is_some (leaf_at b t u) ≡ true)
 
 abbrev pub BlankIsUnlisted : Type 0
-BlankIsUnlisted = (b : ℕ) (t : Term) (i : ℕ) → all_parents lists_here b t ≡ true → leaf_at b t i ≡ None → is_named t i ≡ false
+BlankIsUnlisted = (b : ℕ) (t : Term) (i : ℕ) → all_parents lists_here b t ≡ true → leaf_at b t i ≡ None → is_listed_anywhere t i ≡ false
 
 -- blanking a path, growing and trimming keep whatever holds of each parent
 abbrev pub ParentsPut : Type 0
@@ -251,10 +251,10 @@ ResolutionIsDistinct = (b : ℕ) (t : Term) → HasLists b t → is_distinct nat
 
 -- each member has the key of one node of a resolution, also where other leaves are taken out of it
 abbrev pub OneIsHeld : Type 0
-OneIsHeld = (b : ℕ) (t : Term) (j : ℕ) → HasLists b t → IsIn b t j → IsSome (leaf_at b t j) → length (held b t j) ≡ 1
+OneIsHeld = (b : ℕ) (t : Term) (j : ℕ) → HasLists b t → IsIn b t j → IsSome (leaf_at b t j) → length (held_nodes b t j) ≡ 1
 
 abbrev pub OneIsHeldOfRest : Type 0
-OneIsHeldOfRest = (b : ℕ) (t : Term) (j : ℕ) (us : List ℕ) → HasLists b t → IsIn b t j → IsSome (leaf_at b t j) → has us j ≡ false → length (filter (holds b t j) (filter (λ d. not (has (leaf_numbers us) d)) (resolution b t))) ≡ 1
+OneIsHeldOfRest = (b : ℕ) (t : Term) (j : ℕ) (us : List ℕ) → HasLists b t → IsIn b t j → IsSome (leaf_at b t j) → has us j ≡ false → length (filter (holds_key_of b t j) (filter (λ d. not (has (leaf_numbers us) d)) (resolution b t))) ≡ 1
 
 -- the ways of two leaves part at one parent, and a path of the one takes it in, where the other is a member
 abbrev pub OneIsFiltered : Type 0
@@ -272,14 +272,14 @@ AddedJoins = (b : ℕ) (t : Term) (i : ℕ) (x : LeafNode) (d : ℕ) → IsIn b 
 
 -- an original sibling with nobody taken out is the sibling itself
 abbrev pub OriginalOfNone : Type 0
-OriginalOfNone = (b : ℕ) (t : Term) → original [] b t ≡ t
+OriginalOfNone = (b : ℕ) (t : Term) → original_tree [] b t ≡ t
 
 -- taking out a leaf that was added leaves the original, and so does taking out one that isn't there
 abbrev pub OriginalOfEnter : Type 0
-OriginalOfEnter = (b : ℕ) (t : Term) (i : ℕ) (us : List ℕ) (x : LeafNode) → IsIn b t i → is_named t i ≡ false → leaf_at b t i ≡ None → original (inserted i us) b (enter b t i x) ≡ original us b t
+OriginalOfEnter = (b : ℕ) (t : Term) (i : ℕ) (us : List ℕ) (x : LeafNode) → IsIn b t i → is_listed_anywhere t i ≡ false → leaf_at b t i ≡ None → original_tree (rising_with i us) b (enter b t i x) ≡ original_tree us b t
 
 abbrev pub OriginalOfOthers : Type 0
-OriginalOfOthers = (b : ℕ) (t : Term) (j : ℕ) (us : List ℕ) → is_named t j ≡ false → (b ≤ j → j < b + width t → leaf_at b t j ≡ None) → original (inserted j us) b t ≡ original us b t
+OriginalOfOthers = (b : ℕ) (t : Term) (j : ℕ) (us : List ℕ) → is_listed_anywhere t j ≡ false → (b ≤ j → j < b + width t → leaf_at b t j ≡ None) → original_tree (rising_with j us) b t ≡ original_tree us b t
 
 -- an add changes no other node's field
 abbrev pub HashesOfEnter : Type 0

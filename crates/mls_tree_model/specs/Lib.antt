@@ -10,7 +10,7 @@ pub mod Inputs
 pub mod Hashes
 pub mod Merge
 pub mod Keys
-pub mod Held
+pub mod HeldKeys
 pub mod Good
 pub mod Arrays
 pub mod Laws

@@ -6,14 +6,14 @@ use Rattle.mls_tree_model.specs.Term.{Term, Leaf, Branch, width}
 use Rattle.mls_tree_model.specs.Sets.{has}
 
 -- what a test asks of a place that may be blank
-abbrev pub asked : (ℕ → Parent → Term → Term → Bool) → ℕ → Option Parent → Term → Term → Bool
-asked q b None l r = true
-asked q b (Some p) l r = q b p l r
+abbrev pub parent_passes : (ℕ → Parent → Term → Term → Bool) → ℕ → Option Parent → Term → Term → Bool
+parent_passes q b None l r = true
+parent_passes q b (Some p) l r = q b p l r
 
 -- whether each parent of a tree passes a test of its first leaf, itself and its two sides
 unfoldable pub all_parents : (ℕ → Parent → Term → Term → Bool) → ℕ → Term → Bool
 all_parents q b (Leaf v) = true
-all_parents q b (Branch c l r) = asked q b c l r && (all_parents q b l && all_parents q (b + width l) r)
+all_parents q b (Branch c l r) = parent_passes q b c l r && (all_parents q b l && all_parents q (b + width l) r)
 
 -- whether a place that isn't blank lists leaf u
 abbrev pub may_list : Option Parent → ℕ → Bool
@@ -45,6 +45,6 @@ lists None u = false
 lists (Some p) u = has p.unmerged_leaves u
 
 -- whether some parent of a tree lists leaf u
-unfoldable pub is_named : Term → ℕ → Bool
-is_named (Leaf v) u = false
-is_named (Branch c l r) u = lists c u || (is_named l u || is_named r u)
+unfoldable pub is_listed_anywhere : Term → ℕ → Bool
+is_listed_anywhere (Leaf v) u = false
+is_listed_anywhere (Branch c l r) u = lists c u || (is_listed_anywhere l u || is_listed_anywhere r u)

@@ -109,7 +109,7 @@ pub fn laws_of_resolutions()
 /// Original siblings are blind to adds, each edit keeps parents parent-hash valid where lists are right, and hashes have
 /// 32 bytes.
 pub fn laws_of_parent_hashes()
-    ensures original { OriginalOfNone }
+    ensures original_tree { OriginalOfNone }
     ensures original_enter { OriginalOfEnter }
     ensures original_others { OriginalOfOthers }
     ensures field { HashesOfEnter }

@@ -1,8 +1,8 @@
 //! Places as they stand on the wire: an optional node (RFC 9420, 12.4.3.3).
 
-ghost use Rattle.mls_wire.specs.Answered.{optional_faults};
+ghost use Rattle.mls_wire.specs.ReadFaults.{optional_faults};
 ghost use Rattle.mls_wire.specs.Combine.{optional};
-ghost use Rattle.mls_leaf.specs.Answered.{node_faults};
+ghost use Rattle.mls_leaf.specs.ReadFaults.{node_faults};
 ghost use Rattle.mls_leaf.specs.Node.{node};
 ghost use Rattle.mls_leaf.specs.Nonempty.{optional_nonempty};
 

@@ -2,8 +2,8 @@
 #![tactic(auto)]
 
 mod codec;
-mod kinds;
+mod shared_nodes;
 mod slot;
 
-pub use kinds::{SharedLeaf, SharedParent};
+pub use shared_nodes::{SharedLeaf, SharedParent};
 pub use slot::{NoParent, Slot};

@@ -10,7 +10,7 @@ use Rattle.mls_tree.specs.Tree.{Tree, term}
 use Rattle.mls_tree.proofs.Perfect.{width_is}
 use Rattle.mls_treekem.specs.declared.places.Place.{Place}
 use Rattle.mls_treekem.specs.Place.{subtree_at, IsPlaced}
-use Rattle.mls_treekem.specs.Beside.{cell_key}
+use Rattle.mls_treekem.specs.NodeKeys.{encryption_key_of}
 use Rattle.mls_treekem.proofs.Place.{zeros_are, zeros_fit}
 
 -- ---- no node is outside a tree
@@ -28,17 +28,17 @@ at_node_past none f b (Branch c l r) n ge =
 
 -- ---- a node's key is that of what stands there
 
-own_cell : (b : ℕ) (t : Term) → own_key b t ≡ cell_key (own_node b t)
+own_cell : (b : ℕ) (t : Term) → own_key b t ≡ encryption_key_of (own_node b t)
 own_cell b (Leaf None) = refl
 own_cell b (Leaf (Some v)) = refl
 own_cell b (Branch None l r) = refl
 own_cell b (Branch (Some p) l r) = refl
 
-of_test : (t : Bool) (x y : Option Node) → cell_key (if t then x else y) ≡ (if t then cell_key x else cell_key y)
+of_test : (t : Bool) (x y : Option Node) → encryption_key_of (if t then x else y) ≡ (if t then encryption_key_of x else encryption_key_of y)
 of_test true x y = refl
 of_test false x y = refl
 
-key_cell : (b : ℕ) (t : Term) (n : ℕ) → at_node None own_key b t n ≡ cell_key (at_node None own_node b t n)
+key_cell : (b : ℕ) (t : Term) (n : ℕ) → at_node None own_key b t n ≡ encryption_key_of (at_node None own_node b t n)
 unfolding at_node
 key_cell b (Leaf v) n =
     ap (λ k. if n == 2 * b then k else None) (own_cell b (Leaf v)) ∙ sym (of_test (n == 2 * b) (own_node b (Leaf v)) None)
@@ -71,12 +71,12 @@ module _ (t : Term) (h : ℕ) (p : Place) (at : IsPlaced t h p) where
   unfolding key_at
   key_past n ge = let s = size_is in sym (at_node_past None own_key p.first (subtree_at t p.beside) n (omega arith))
 
-  pub key_inside : (n : ℕ) → 2 * p.first ≤ n → n < 2 * p.first + 2 * p.leaves - 1 → cell_key (node_at 0 t n) ≡ key_at p.first (subtree_at t p.beside) n
+  pub key_inside : (n : ℕ) → 2 * p.first ≤ n → n < 2 * p.first + 2 * p.leaves - 1 → encryption_key_of (node_at 0 t n) ≡ key_at p.first (subtree_at t p.beside) n
   unfolding key_at node_at
-  key_inside n low high = let s = size_is in ap cell_key (at.inside n low (omega arith)) ∙ sym (key_cell p.first (subtree_at t p.beside) n)
+  key_inside n low high = let s = size_is in ap encryption_key_of (at.inside n low (omega arith)) ∙ sym (key_cell p.first (subtree_at t p.beside) n)
 
   pub key_nowhere : (n : ℕ) → 2 * p.first ≤ n → n < 2 * p.first + 2 * p.leaves - 1 → 2 * width t ≤ n → None ≡ key_at p.first (subtree_at t p.beside) n
   unfolding node_at
   key_nowhere n low high far =
       let s = size-width t in
-      ap cell_key (sym (at_node_past None own_node 0 t n (omega arith))) ∙ key_inside n low high
+      ap encryption_key_of (sym (at_node_past None own_node 0 t n (omega arith))) ∙ key_inside n low high

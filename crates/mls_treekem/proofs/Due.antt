@@ -8,7 +8,7 @@ use Rattle.mls_tree_model.specs.Term.{Term, width}
 use Rattle.mls_tree_model.specs.Arrays.{parent_in, node_at}
 use Rattle.mls_tree.specs.Tree.{Tree, term}
 use Rattle.mls_treekem.specs.declared.places.Place.{Place}
-use Rattle.mls_treekem_model.specs.Follow.{key_above, on_way}
+use Rattle.mls_treekem_model.specs.Follow.{key_above, keys_on_way}
 use Rattle.mls_treekem_model.specs.Join.{is_due, is_complete, has_due_on, has_due}
 use Rattle.mls_treekem_model.specs.Keys.{PrivateKeys, all_keys}
 use Rattle.mls_treekem.specs.Place.{place, places_from, step_of}
@@ -31,7 +31,7 @@ module _ (t : Term) (p : PrivateKeys) where
     one_more = omega arith
 
     due_more : (q : Place) (b' : ℕ) → q.node ≡ 2 * b + (2 * w - 1) → places_from h b p.leaf ≡ q ∷ places_from (h - 1) b' p.leaf → due_over h b ≡ (due_here && due_over (h - 1) b')
-    unfolding is_complete on_way step_of
+    unfolding is_complete keys_on_way step_of
     due_more q b' node e =
         let below : length (map (step_of t) (places_from (h - 1) b' p.leaf)) ≡ h - 1 = length-map (places_from (h - 1) b' p.leaf) (step_of t) ∙ length-places (h - 1) b' p.leaf in
         ap (λ qs. has_due_on p (map (step_of t) qs)) e

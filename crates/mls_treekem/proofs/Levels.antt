@@ -8,8 +8,8 @@ use Rattle.mls_tree_model.proofs.Equations.{way_leaf, way_left, way_right}
 use Rattle.mls_tree_model.proofs.ShapeLaws.{size-width, width-perfect}
 use Rattle.mls_tree_model.proofs.PathLaws.{reverse-cons}
 use Rattle.mls_treekem_model.specs.Keys.{Keys, PrivateKeys, all_keys}
-use Rattle.mls_treekem_model.specs.Follow.{key_above, on_way}
-use Rattle.mls_treekem_model.specs.Height.{pairs_from, listed, ArePairs}
+use Rattle.mls_treekem_model.specs.Follow.{key_above, keys_on_way}
+use Rattle.mls_treekem_model.specs.Height.{pairs_from, as_pairs, ArePairs}
 use Rattle.mls_treekem_model.specs.Pairs.{Pair, pair_of, pairs}
 use Rattle.mls_treekem_model.proofs.OnePassLaws.{no_key_above}
 use Rattle.mls_treekem_model.proofs.HeightLaws.{above_take, above_pass, length-end, own_above, way_height}
@@ -62,8 +62,8 @@ pub pairs_right : (h b j : ℕ) (ks : Keys) → b + 2 ^ h ≤ j → pairs_from (
 unfolding pairs_from
 pairs_right h b j ks ge = cond-false _ _ _ (le-ltb j (b + 2 ^ h) ge)
 
-pub pairs_from-term : (h b : ℕ) (t : Term) (j : ℕ) (ks : Keys) → is_perfect h t ≡ true → pairs b t j (on_way (way b t j) ks) ≡ pairs_from h b j ks
-unfolding is_perfect pairs pairs_from on_way
+pub pairs_from-term : (h b : ℕ) (t : Term) (j : ℕ) (ks : Keys) → is_perfect h t ≡ true → pairs b t j (keys_on_way (way b t j) ks) ≡ pairs_from h b j ks
+unfolding is_perfect pairs pairs_from keys_on_way
 pairs_from-term zero b (Leaf v) j ks e = rw (way_leaf b v j) refl
 pairs_from-term (suc h) b (Leaf v) j ks e = absurd (true≢false (sym e))
 pairs_from-term zero b (Branch c l r) j ks e = absurd (true≢false (sym e))
@@ -73,12 +73,12 @@ pairs_from-term (suc h) b (Branch c l r) j ks e =
     let s : size l ≡ 2 * 2 ^ h - 1 = omega (arith, size-width l) in
     elim (cases_lt j (b + width l)) [
       | inl k ↦
-          ap (pairs b (Branch c l r) j) (ap (λ z. on_way z ks) (way_left b c l r j k))
+          ap (pairs b (Branch c l r) j) (ap (λ z. keys_on_way z ks) (way_left b c l r j k))
           ∙ cond-true _ _ _ (lt-ltb j (b + width l) k)
           ∙ ap₂ (λ x y. x ++ y) (pairs_from-term h b l j ks p.0) (ap₂ (λ n m. pair_of (2 * b + n) (key_above (suc m) ks)) s (way_height h b l j p.0))
           ∙ sym (pairs_left h b j ks (omega arith))
       | inr k ↦
-          ap (pairs b (Branch c l r) j) (ap (λ z. on_way z ks) (way_right b c l r j k))
+          ap (pairs b (Branch c l r) j) (ap (λ z. keys_on_way z ks) (way_right b c l r j k))
           ∙ cond-false _ _ _ (le-ltb j (b + width l) k)
           ∙ ap₂ (λ x y. x ++ y) (ap₂ (λ n m. pair_of (2 * b + n) (key_above (suc m) ks)) s (way_height h (b + width l) r j p.1)) (pairs_from-term h (b + width l) r j ks p.1 ∙ ap (λ n. pairs_from h (b + n) j ks) w)
           ∙ sym (pairs_right h b j ks (omega arith))
@@ -104,7 +104,7 @@ same_pairs a b j ks la lb ka kb = elim (cases_lt a b) [
   | inr k ↦ ap (λ n. pairs_from n 0 j ks) (let z : a ≡ (a - b) + b = omega arith in z) ∙ much_higher (a - b) b j ks lb kb
 ]
 
-pub are_pairs : (p : PrivateKeys) (ps : List (ℕ × List ℕ)) (n : ℕ) → p.leaf < 2 ^ n → length p.above ≤ n → listed ps ≡ pairs_from n 0 p.leaf (all_keys p) → ArePairs p ps
+pub are_pairs : (p : PrivateKeys) (ps : List (ℕ × List ℕ)) (n : ℕ) → p.leaf < 2 ^ n → length p.above ≤ n → as_pairs ps ≡ pairs_from n 0 p.leaf (all_keys p) → ArePairs p ps
 are_pairs p ps n lt low e h t perfect room inside =
     let ks : Keys = all_keys p in
     let w : width t ≡ 2 ^ h = width-perfect h t perfect in
@@ -155,5 +155,5 @@ view_low p above n is low = let e : length p.above ≡ length above = ap length 
 pub from_none : {A : Type 0} (xs ys zs : List A) → xs ≡ ys ++ zs → ys ≡ [] → xs ≡ zs
 from_none xs ys zs e none = e ∙ ap (λ w. w ++ zs) none
 
-pub listed_none : (ps : List Pair) (qs : List (ℕ × List ℕ)) (zs : List Pair) → ps ≡ listed qs ++ zs → qs ≡ [] → ps ≡ zs
-listed_none ps qs zs e none = e ∙ ap (λ w. listed w ++ zs) none
+pub listed_none : (ps : List Pair) (qs : List (ℕ × List ℕ)) (zs : List Pair) → ps ≡ as_pairs qs ++ zs → qs ≡ [] → ps ≡ zs
+listed_none ps qs zs e none = e ∙ ap (λ w. as_pairs w ++ zs) none

@@ -2,7 +2,7 @@ pub mod Names
 pub mod Chains
 pub mod Levels
 pub mod Place
-pub mod Raised
+pub mod KeysAtHeights
 pub mod Followed
 pub mod Opening
 pub mod Taking

@@ -4,7 +4,7 @@ use Rattle.std.specs.Option.{option_map}
 use Rattle.std.specs.Str.{bytes_eq}
 use Rattle.std.proofs.lemmas.Bool.{cond-true, cond-false, cases_lt, true≢false, and_parts}
 use Rattle.std.proofs.lemmas.List.{drop_all, length-map}
-use Rattle.mls_wire.specs.Checks.{given, Answers, AnswersOutright}
+use Rattle.mls_wire.specs.Checks.{require_some, Answers, AnswersOutright}
 use Rattle.mls_wire.specs.Reading.{◌>>=◌}
 use Rattle.mls_wire.specs.Laws.{bind_ok}
 use Rattle.mls_types.specs.declared.update_path.HpkeCiphertext.{HpkeCiphertext}
@@ -24,15 +24,15 @@ use Rattle.mls_treekem.specs.Climbing.{with_own}
 use Rattle.mls_treekem.specs.Faults.{number_of}
 use Rattle.mls_treekem.specs.declared.error.TreeKemError.{TreeKemError}
 use Rattle.mls_treekem_model.specs.Chain.{next_secret, node_key, node_public}
-use Rattle.mls_treekem_model.specs.Follow.{key_above, on_way}
+use Rattle.mls_treekem_model.specs.Follow.{key_above, keys_on_way}
 use Rattle.mls_treekem_model.specs.Keys.{Keys, key_for, key_in, PrivateKeys, all_keys}
-use Rattle.mls_treekem_model.specs.Make.{past_node, past_blank, Climb}
-use Rattle.mls_treekem_model.specs.Open.{left_by, unseal_secret, of_32, open_first, first_ciphertexts, open_here, past_parent, climb_open, opened_path, secret_in}
+use Rattle.mls_treekem_model.specs.Make.{climb_past_node, climb_past_blank, Climb}
+use Rattle.mls_treekem_model.specs.Open.{nodes_below, unseal_secret, secret_of, open_first, first_ciphertexts, open_at_ancestor, climb_past_parent, climb_open, opened_path, secret_in}
 use Rattle.mls_treekem_model.specs.Height.{keys_on}
 use Rattle.mls_treekem.specs.Opening.{key_of, IsKeyOf, AreKeysUpTo, OpensAlong}
 use Rattle.mls_treekem.specs.Place.{subtree_at, step_of, IsPlaced, ArePlaced, IsWay}
 use Rattle.mls_treekem_model.specs.Seal.{targets}
-use Rattle.mls_treekem_model.proofs.HeightLaws.{way_height, reverse-end, own_above, length-end, length-on_way, same_length}
+use Rattle.mls_treekem_model.proofs.HeightLaws.{way_height, reverse-end, own_above, length-end, length-keys_on_way, same_length}
 
 -- ---- answers by an equal definition
 
@@ -46,17 +46,17 @@ answers_outright value number d (Err e) h = λ _. h
 -- ---- the key of a node
 
 module _ (c : Option Parent) (l r : Term) (b j n : ℕ) (ks : Keys) where
-  branch_left : j < b + width l → key_in b (Branch c l r) j (on_way (way b (Branch c l r) j) ks) n ≡ (if n == 2 * b + size l then key_above (suc (length (way b l j))) ks else key_in b l j (on_way (way b l j) ks) n)
-  unfolding key_for on_way
-  branch_left lt = ap (λ ss. key_for ss j (on_way ss ks) n) (way_left b c l r j lt)
+  branch_left : j < b + width l → key_in b (Branch c l r) j (keys_on_way (way b (Branch c l r) j) ks) n ≡ (if n == 2 * b + size l then key_above (suc (length (way b l j))) ks else key_in b l j (keys_on_way (way b l j) ks) n)
+  unfolding key_for keys_on_way
+  branch_left lt = ap (λ ss. key_for ss j (keys_on_way ss ks) n) (way_left b c l r j lt)
 
-  branch_right : b + width l ≤ j → key_in b (Branch c l r) j (on_way (way b (Branch c l r) j) ks) n ≡ (if n == 2 * b + size l then key_above (suc (length (way (b + width l) r j))) ks else key_in (b + width l) r j (on_way (way (b + width l) r j) ks) n)
-  unfolding key_for on_way
-  branch_right ge = ap (λ ss. key_for ss j (on_way ss ks) n) (way_right b c l r j ge)
+  branch_right : b + width l ≤ j → key_in b (Branch c l r) j (keys_on_way (way b (Branch c l r) j) ks) n ≡ (if n == 2 * b + size l then key_above (suc (length (way (b + width l) r j))) ks else key_in (b + width l) r j (keys_on_way (way (b + width l) r j) ks) n)
+  unfolding key_for keys_on_way
+  branch_right ge = ap (λ ss. key_for ss j (keys_on_way ss ks) n) (way_right b c l r j ge)
 
-lowest : (b : ℕ) (t : Term) (j n : ℕ) (ks : Keys) → is_perfect 0 t ≡ true → key_in b t j (on_way (way b t j) ks) n ≡ (if n == 2 * j then key_above 0 ks else None)
-unfolding is_perfect key_for on_way
-lowest b (Leaf v) j n ks e = ap (λ ss. key_for ss j (on_way ss ks) n) (way_leaf b v j)
+lowest : (b : ℕ) (t : Term) (j n : ℕ) (ks : Keys) → is_perfect 0 t ≡ true → key_in b t j (keys_on_way (way b t j) ks) n ≡ (if n == 2 * j then key_above 0 ks else None)
+unfolding is_perfect key_for keys_on_way
+lowest b (Leaf v) j n ks e = ap (λ ss. key_for ss j (keys_on_way ss ks) n) (way_leaf b v j)
 lowest b (Branch c l r) j n ks e = absurd (true≢false (sym e))
 
 module _ (h b : ℕ) (p : PrivateKeys) (n : ℕ) (low : h ≡ 0) where
@@ -125,10 +125,10 @@ module _ (p : PrivateKeys) (n : ℕ) where
 -- ---- a ciphertext
 
 secret_none : (c : Crypto) (context k : List ℕ) (x : HpkeCiphertext) → unseal_secret c context k x ≡ None → secret_in c context k x ≡ Err 32
-secret_none c context k x e = ap (λ o. given 32 o >>= of_32) e
+secret_none c context k x e = ap (λ o. require_some 32 o >>= secret_of) e
 
-secret_some : (c : Crypto) (context k : List ℕ) (x : HpkeCiphertext) (bytes : List ℕ) → unseal_secret c context k x ≡ Some bytes → secret_in c context k x ≡ of_32 bytes
-secret_some c context k x bytes e = ap (λ o. given 32 o >>= of_32) e
+secret_some : (c : Crypto) (context k : List ℕ) (x : HpkeCiphertext) (bytes : List ℕ) → unseal_secret c context k x ≡ Some bytes → secret_in c context k x ≡ secret_of bytes
+secret_some c context k x bytes e = ap (λ o. require_some 32 o >>= secret_of) e
 
 module _ {A : Type 0} (f : A → List ℕ) (c : Crypto) (context k : List ℕ) (x : HpkeCiphertext) (kem ct : List ℕ) (o : Option A) (is_kem : kem ≡ x.kem_output) (is_ct : ct ≡ x.ciphertext) (opened : option_map f o ≡ decrypt_with_label c k (codes "UpdatePathNode") context kem ct) where
   unsealed_is : unseal_secret c context k x ≡ option_map f o
@@ -138,7 +138,7 @@ module _ {A : Type 0} (f : A → List ℕ) (c : Crypto) (context k : List ℕ) (
   pub opens_none : o ≡ None → secret_in c context k x ≡ Err 32
   opens_none e = secret_none c context k x (unsealed_is ∙ ap (option_map f) e)
 
-  pub opens_some : (y : A) → o ≡ Some y → secret_in c context k x ≡ of_32 (f y)
+  pub opens_some : (y : A) → o ≡ Some y → secret_in c context k x ≡ secret_of (f y)
   opens_some y e = secret_some c context k x (f y) (unsealed_is ∙ ap (option_map f) e)
 
 -- ---- the first node whose key is held
@@ -205,12 +205,12 @@ module _ (c : Crypto) (context : List ℕ) (h b : ℕ) (p : PrivateKeys) (added 
 -- ---- keys by their height
 
 pub keys_none : (p : PrivateKeys) (xs : Keys) → xs ≡ [] → AreKeysUpTo 0 p xs
-unfolding on_way
+unfolding keys_on_way
 keys_none p xs e [] low = ap (λ z. reverse z ++ (Some p.own ∷ [])) e ∙ ap (λ o. o ∷ []) (sym (own_above p.above (Some p.own)))
 keys_none p xs e (s ∷ ss) low = absurd (omega arith)
 
 pub keys_more : (n : ℕ) (p : PrivateKeys) (xs ys : Keys) (key : Option (List ℕ)) → AreKeysUpTo n p xs → key ≡ key_above (n + 1) (all_keys p) → ys ≡ xs ++ (key ∷ []) → AreKeysUpTo (n + 1) p ys
-unfolding on_way
+unfolding keys_on_way
 keys_more n p xs ys key rec is pushed [] low = absurd (omega arith)
 keys_more n p xs ys key rec is pushed (s ∷ ss) low =
     let k : length ss ≡ n = omega arith in
@@ -238,34 +238,34 @@ abbrev keep : Keys → List ℕ → Result Climb ℕ
 keep ks secret = Ok (record { secret = secret; keys = ks })
 
 module _ (c : Crypto) (context : List ℕ) (added : List ℕ) (t : Term) (h : ℕ) (q : Place) (at : IsPlaced t h q) (p : PrivateKeys) (ss : List Step) (long : length ss ≡ h) where
-  keys_are : on_way (way q.first (subtree_at t q.beside) p.leaf) (all_keys p) ≡ on_way ss (all_keys p)
+  keys_are : keys_on_way (way q.first (subtree_at t q.beside) p.leaf) (all_keys p) ≡ keys_on_way ss (all_keys p)
   keys_are = same_length (way q.first (subtree_at t q.beside) p.leaf) ss (all_keys p) (way_height h q.first (subtree_at t q.beside) p.leaf at.perfect ∙ sym long)
 
   -- what the first ciphertexts give
   first_here : (nodes : List ℕ) (ns : List UpdatePathNode) (xs : List HpkeCiphertext) → nodes ≡ resolution_at 0 t q.beside → first_ciphertexts ns ≡ xs →
-      open_here c context added (step_of t q) p.leaf (on_way ss (all_keys p)) ns
-      ≡ (open_first c context (key_of q.first (subtree_at t q.beside) p) (less (leaf_numbers added) nodes) xs >>= keep (on_way ss (all_keys p)))
+      open_at_ancestor c context added (step_of t q) p.leaf (keys_on_way ss (all_keys p)) ns
+      ≡ (open_first c context (key_of q.first (subtree_at t q.beside) p) (less (leaf_numbers added) nodes) xs >>= keep (keys_on_way ss (all_keys p)))
   unfolding step_of targets
   first_here nodes ns xs is ciphertexts =
-      ap₂ (λ ys zs. open_first c context (λ n. key_in q.first (subtree_at t q.beside) p.leaf (on_way ss (all_keys p)) n) (less (leaf_numbers added) ys) zs >>= keep (on_way ss (all_keys p)))
+      ap₂ (λ ys zs. open_first c context (λ n. key_in q.first (subtree_at t q.beside) p.leaf (keys_on_way ss (all_keys p)) n) (less (leaf_numbers added) ys) zs >>= keep (keys_on_way ss (all_keys p)))
       (sym (is ∙ at.resolved)) ciphertexts
-      ∙ ap (λ zs. open_first c context (λ n. key_in q.first (subtree_at t q.beside) p.leaf zs n) (less (leaf_numbers added) nodes) xs >>= keep (on_way ss (all_keys p))) (sym keys_are)
+      ∙ ap (λ zs. open_first c context (λ n. key_in q.first (subtree_at t q.beside) p.leaf zs n) (less (leaf_numbers added) nodes) xs >>= keep (keys_on_way ss (all_keys p))) (sym keys_are)
 
   pub here_ok : (nodes : List ℕ) (ns : List UpdatePathNode) (xs : List HpkeCiphertext) (secret : List ℕ) (above : Keys) → nodes ≡ resolution_at 0 t q.beside → first_ciphertexts ns ≡ xs →
       open_first c context (key_of q.first (subtree_at t q.beside) p) (less (leaf_numbers added) nodes) xs ≡ Ok secret → AreKeysUpTo h p above →
-      open_here c context added (step_of t q) p.leaf (on_way ss (all_keys p)) ns ≡ keep (reverse above ++ (Some p.own ∷ [])) secret
+      open_at_ancestor c context added (step_of t q) p.leaf (keys_on_way ss (all_keys p)) ns ≡ keep (reverse above ++ (Some p.own ∷ [])) secret
   here_ok nodes ns xs secret above is ciphertexts opened keys =
       first_here nodes ns xs is ciphertexts
-      ∙ ap (λ r. r >>= keep (on_way ss (all_keys p))) opened
+      ∙ ap (λ r. r >>= keep (keys_on_way ss (all_keys p))) opened
       ∙ ap (λ zs. keep zs secret) (sym (keys ss long))
 
   pub here_err : (nodes : List ℕ) (ns : List UpdatePathNode) (xs : List HpkeCiphertext) (e : ℕ) → nodes ≡ resolution_at 0 t q.beside → first_ciphertexts ns ≡ xs →
       open_first c context (key_of q.first (subtree_at t q.beside) p) (less (leaf_numbers added) nodes) xs ≡ Err e →
-      open_here c context added (step_of t q) p.leaf (on_way ss (all_keys p)) ns ≡ Err e
+      open_at_ancestor c context added (step_of t q) p.leaf (keys_on_way ss (all_keys p)) ns ≡ Err e
   here_err nodes ns xs e is ciphertexts refused =
-      first_here nodes ns xs is ciphertexts ∙ ap (λ r. r >>= keep (on_way ss (all_keys p))) refused
+      first_here nodes ns xs is ciphertexts ∙ ap (λ r. r >>= keep (keys_on_way ss (all_keys p))) refused
 
-  pub here_missing : (path : List UpdatePathNode) → path ≡ [] → open_here c context added (step_of t q) p.leaf (on_way ss (all_keys p)) (reverse path) ≡ Err 32
+  pub here_missing : (path : List UpdatePathNode) → path ≡ [] → open_at_ancestor c context added (step_of t q) p.leaf (keys_on_way ss (all_keys p)) (reverse path) ≡ Err 32
   here_missing path e =
       here_err (resolution_at 0 t q.beside) (reverse path) [] 32 refl (ap (λ ns. first_ciphertexts (reverse ns)) e)
       (no_ciphertexts c context (key_of q.first (subtree_at t q.beside) p) (less (leaf_numbers added) (resolution_at 0 t q.beside)))
@@ -275,35 +275,35 @@ last_first path below n e = ap reverse e ∙ reverse-end below n
 
 -- ---- past a parent, with the leaf's key
 
-past_own : (c : Crypto) (own : List ℕ) (b : Bool) (ns : List UpdatePathNode) (m : Climb) → past_parent c b ns (with_own own m) ≡ (past_parent c b ns m >>= λ z. Ok (with_own own z))
+past_own : (c : Crypto) (own : List ℕ) (b : Bool) (ns : List UpdatePathNode) (m : Climb) → climb_past_parent c b ns (with_own own m) ≡ (climb_past_parent c b ns m >>= λ z. Ok (with_own own z))
 past_own c own false ns m = refl
 past_own c own true [] m = refl
 past_own c own true (n ∷ ns) m = by_test (bytes_eq (node_public c m.secret) n.encryption_key)
   where
     by_test : (t : Bool) →
         if◌then◌else◌ {A = Result Climb ℕ} t (Ok (record { secret = next_secret m.secret; keys = Some (node_key c m.secret) ∷ (m.keys ++ (Some own ∷ [])) })) (Err 34)
-        ≡ (if◌then◌else◌ {A = Result Climb ℕ} t (Ok (past_node c m)) (Err 34) >>= λ z. Ok (with_own own z))
+        ≡ (if◌then◌else◌ {A = Result Climb ℕ} t (Ok (climb_past_node c m)) (Err 34) >>= λ z. Ok (with_own own z))
     by_test true = refl
     by_test false = refl
 
 pub past_with_own : {E : Type 0} (number : E → ℕ) (c : Crypto) (own : List ℕ) (b : Bool) (ns : List UpdatePathNode) (m : Climb) (r : Result Climb E) →
-    Answers (λ z. z) number (past_parent c b ns m) r → Answers (λ z. with_own own z) number (past_parent c b ns (with_own own m)) r
+    Answers (λ z. z) number (climb_past_parent c b ns m) r → Answers (λ z. with_own own z) number (climb_past_parent c b ns (with_own own m)) r
 past_with_own number c own b ns m (Ok z) h = past_own c own b ns m ∙ ap (λ r. r >>= λ z. Ok (with_own own z)) h
 past_with_own number c own b ns m (Err e) h = λ ne. past_own c own b ns m ∙ ap (λ r. r >>= λ z. Ok (with_own own z)) (h ne)
 
 -- ---- along a way
 
 module _ (c : Crypto) (context : List ℕ) (added : List ℕ) (s : Step) (ss : List Step) (j : ℕ) (ks : Keys) (ns : List UpdatePathNode) where
-  along : climb_open c context added (s ∷ ss) j (on_way (s ∷ ss) ks) ns
-      ≡ ((if is_beside s j then open_here c context added s j (on_way ss ks) ns else climb_open c context added ss j (on_way ss ks) (left_by (is_filtered s) ns)) >>= λ m. past_parent c (is_filtered s) ns m)
-  unfolding climb_open on_way
+  along : climb_open c context added (s ∷ ss) j (keys_on_way (s ∷ ss) ks) ns
+      ≡ ((if is_beside s j then open_at_ancestor c context added s j (keys_on_way ss ks) ns else climb_open c context added ss j (keys_on_way ss ks) (nodes_below (is_filtered s) ns)) >>= λ m. climb_past_parent c (is_filtered s) ns m)
+  unfolding climb_open keys_on_way
   along = refl
 
-  pub along_here : (r : Result Climb ℕ) → is_beside s j ≡ true → open_here c context added s j (on_way ss ks) ns ≡ r → climb_open c context added (s ∷ ss) j (on_way (s ∷ ss) ks) ns ≡ (r >>= λ m. past_parent c (is_filtered s) ns m)
-  along_here r e h = along ∙ ap (λ z. z >>= λ m. past_parent c (is_filtered s) ns m) (cond-true _ _ _ e ∙ h)
+  pub along_here : (r : Result Climb ℕ) → is_beside s j ≡ true → open_at_ancestor c context added s j (keys_on_way ss ks) ns ≡ r → climb_open c context added (s ∷ ss) j (keys_on_way (s ∷ ss) ks) ns ≡ (r >>= λ m. climb_past_parent c (is_filtered s) ns m)
+  along_here r e h = along ∙ ap (λ z. z >>= λ m. climb_past_parent c (is_filtered s) ns m) (cond-true _ _ _ e ∙ h)
 
-  pub along_below : (r : Result Climb ℕ) → is_beside s j ≡ false → climb_open c context added ss j (on_way ss ks) (left_by (is_filtered s) ns) ≡ r → climb_open c context added (s ∷ ss) j (on_way (s ∷ ss) ks) ns ≡ (r >>= λ m. past_parent c (is_filtered s) ns m)
-  along_below r e h = along ∙ ap (λ z. z >>= λ m. past_parent c (is_filtered s) ns m) (cond-false _ _ _ e ∙ h)
+  pub along_below : (r : Result Climb ℕ) → is_beside s j ≡ false → climb_open c context added ss j (keys_on_way ss ks) (nodes_below (is_filtered s) ns) ≡ r → climb_open c context added (s ∷ ss) j (keys_on_way (s ∷ ss) ks) ns ≡ (r >>= λ m. climb_past_parent c (is_filtered s) ns m)
+  along_below r e h = along ∙ ap (λ z. z >>= λ m. climb_past_parent c (is_filtered s) ns m) (cond-false _ _ _ e ∙ h)
 
 pub is_beside_of : (first leaves l m : ℕ) (b : Bool) → l ≡ m → b ≡ (nat_le first l && nat_lt l (first + leaves)) → b ≡ (nat_le first m && nat_lt m (first + leaves))
 is_beside_of first leaves l m b e h = subst (λ n. b ≡ (nat_le first n && nat_lt n (first + leaves))) e h
@@ -317,51 +317,51 @@ module _ (c : Crypto) (context : List ℕ) (added : List ℕ) (t : Term) (q : Pl
   is_side : is_beside (step_of t q) p.leaf ≡ beside
   is_side = sym (sided ∙ beside_is t (length below) q at p.leaf)
 
-  over : climb_open c context added (map (step_of t) ps) p.leaf (on_way (map (step_of t) ps) (all_keys p)) (reverse path) ≡ climb_open c context added (step_of t q ∷ map (step_of t) below) p.leaf (on_way (step_of t q ∷ map (step_of t) below) (all_keys p)) (reverse path)
-  over = ap (λ qs. climb_open c context added (map (step_of t) qs) p.leaf (on_way (map (step_of t) qs) (all_keys p)) (reverse path)) split
+  over : climb_open c context added (map (step_of t) ps) p.leaf (keys_on_way (map (step_of t) ps) (all_keys p)) (reverse path) ≡ climb_open c context added (step_of t q ∷ map (step_of t) below) p.leaf (keys_on_way (step_of t q ∷ map (step_of t) below) (all_keys p)) (reverse path)
+  over = ap (λ qs. climb_open c context added (map (step_of t) qs) p.leaf (keys_on_way (map (step_of t) qs) (all_keys p)) (reverse path)) split
 
   past : (m : Climb) (r : Result Climb TreeKemError) →
-      climb_open c context added (step_of t q ∷ map (step_of t) below) p.leaf (on_way (step_of t q ∷ map (step_of t) below) (all_keys p)) (reverse path) ≡ past_parent c (is_filtered (step_of t q)) (reverse path) (with_own p.own m) →
-      Answers (λ z. z) number_of (past_parent c flag (reverse path) m) r → OpensAlong c context added (map (step_of t) ps) p path r
+      climb_open c context added (step_of t q ∷ map (step_of t) below) p.leaf (keys_on_way (step_of t q ∷ map (step_of t) below) (all_keys p)) (reverse path) ≡ climb_past_parent c (is_filtered (step_of t q)) (reverse path) (with_own p.own m) →
+      Answers (λ z. z) number_of (climb_past_parent c flag (reverse path) m) r → OpensAlong c context added (map (step_of t) ps) p path r
   past m r e h =
       answers_by (λ z. with_own p.own z) number_of _ _ r
-      (ap (λ b. past_parent c b (reverse path) (with_own p.own m)) is_flag ∙ sym (over ∙ e))
+      (ap (λ b. climb_past_parent c b (reverse path) (with_own p.own m)) is_flag ∙ sym (over ∙ e))
       (past_with_own number_of c p.own flag (reverse path) m r h)
 
   pub beside_ok : (m : Climb) (r : Result Climb TreeKemError) → beside ≡ true →
-      open_here c context added (step_of t q) p.leaf (on_way (map (step_of t) below) (all_keys p)) (reverse path) ≡ Ok (with_own p.own m) →
-      Answers (λ z. z) number_of (past_parent c flag (reverse path) m) r → OpensAlong c context added (map (step_of t) ps) p path r
+      open_at_ancestor c context added (step_of t q) p.leaf (keys_on_way (map (step_of t) below) (all_keys p)) (reverse path) ≡ Ok (with_own p.own m) →
+      Answers (λ z. z) number_of (climb_past_parent c flag (reverse path) m) r → OpensAlong c context added (map (step_of t) ps) p path r
   beside_ok m r is opened h = past m r (along_here c context added (step_of t q) (map (step_of t) below) p.leaf (all_keys p) (reverse path) (Ok (with_own p.own m)) (is_side ∙ is) opened) h
 
   pub beside_err : (e : ℕ) → beside ≡ true →
-      open_here c context added (step_of t q) p.leaf (on_way (map (step_of t) below) (all_keys p)) (reverse path) ≡ Err e →
-      climb_open c context added (map (step_of t) ps) p.leaf (on_way (map (step_of t) ps) (all_keys p)) (reverse path) ≡ Err e
+      open_at_ancestor c context added (step_of t q) p.leaf (keys_on_way (map (step_of t) below) (all_keys p)) (reverse path) ≡ Err e →
+      climb_open c context added (map (step_of t) ps) p.leaf (keys_on_way (map (step_of t) ps) (all_keys p)) (reverse path) ≡ Err e
   beside_err e is refused = over ∙ along_here c context added (step_of t q) (map (step_of t) below) p.leaf (all_keys p) (reverse path) (Err e) (is_side ∙ is) refused
 
-  module _ (rest : List UpdatePathNode) (left : reverse rest ≡ left_by flag (reverse path)) where
-    is_left : reverse rest ≡ left_by (is_filtered (step_of t q)) (reverse path)
-    is_left = left ∙ ap (λ b. left_by b (reverse path)) is_flag
+  module _ (rest : List UpdatePathNode) (left : reverse rest ≡ nodes_below flag (reverse path)) where
+    is_left : reverse rest ≡ nodes_below (is_filtered (step_of t q)) (reverse path)
+    is_left = left ∙ ap (λ b. nodes_below b (reverse path)) is_flag
 
     pub other_ok : (m : Climb) (r : Result Climb TreeKemError) → beside ≡ false →
-        climb_open c context added (map (step_of t) below) p.leaf (on_way (map (step_of t) below) (all_keys p)) (reverse rest) ≡ Ok (with_own p.own m) →
-        Answers (λ z. z) number_of (past_parent c flag (reverse path) m) r → OpensAlong c context added (map (step_of t) ps) p path r
+        climb_open c context added (map (step_of t) below) p.leaf (keys_on_way (map (step_of t) below) (all_keys p)) (reverse rest) ≡ Ok (with_own p.own m) →
+        Answers (λ z. z) number_of (climb_past_parent c flag (reverse path) m) r → OpensAlong c context added (map (step_of t) ps) p path r
     other_ok m r is opened h =
         past m r
         (along_below c context added (step_of t q) (map (step_of t) below) p.leaf (all_keys p) (reverse path) (Ok (with_own p.own m)) (is_side ∙ is)
-        (ap (λ ns. climb_open c context added (map (step_of t) below) p.leaf (on_way (map (step_of t) below) (all_keys p)) ns) (sym is_left) ∙ opened))
+        (ap (λ ns. climb_open c context added (map (step_of t) below) p.leaf (keys_on_way (map (step_of t) below) (all_keys p)) ns) (sym is_left) ∙ opened))
         h
 
     pub other_err : (e : ℕ) → beside ≡ false →
-        climb_open c context added (map (step_of t) below) p.leaf (on_way (map (step_of t) below) (all_keys p)) (reverse rest) ≡ Err e →
-        climb_open c context added (map (step_of t) ps) p.leaf (on_way (map (step_of t) ps) (all_keys p)) (reverse path) ≡ Err e
+        climb_open c context added (map (step_of t) below) p.leaf (keys_on_way (map (step_of t) below) (all_keys p)) (reverse rest) ≡ Err e →
+        climb_open c context added (map (step_of t) ps) p.leaf (keys_on_way (map (step_of t) ps) (all_keys p)) (reverse path) ≡ Err e
     other_err e is refused =
         over
         ∙ along_below c context added (step_of t q) (map (step_of t) below) p.leaf (all_keys p) (reverse path) (Err e) (is_side ∙ is)
-        (ap (λ ns. climb_open c context added (map (step_of t) below) p.leaf (on_way (map (step_of t) below) (all_keys p)) ns) (sym is_left) ∙ refused)
+        (ap (λ ns. climb_open c context added (map (step_of t) below) p.leaf (keys_on_way (map (step_of t) below) (all_keys p)) ns) (sym is_left) ∙ refused)
 
-pub along_none : (c : Crypto) (context : List ℕ) (added : List ℕ) (t : Term) (ps : List Place) (j : ℕ) (ks : Keys) (ns : List UpdatePathNode) → ps ≡ [] → climb_open c context added (map (step_of t) ps) j (on_way (map (step_of t) ps) ks) ns ≡ Err 32
+pub along_none : (c : Crypto) (context : List ℕ) (added : List ℕ) (t : Term) (ps : List Place) (j : ℕ) (ks : Keys) (ns : List UpdatePathNode) → ps ≡ [] → climb_open c context added (map (step_of t) ps) j (keys_on_way (map (step_of t) ps) ks) ns ≡ Err 32
 unfolding climb_open
-along_none c context added t ps j ks ns e = ap (λ qs. climb_open c context added (map (step_of t) qs) j (on_way (map (step_of t) qs) ks) ns) e
+along_none c context added t ps j ks ns e = ap (λ qs. climb_open c context added (map (step_of t) qs) j (keys_on_way (map (step_of t) qs) ks) ns) e
 
 pub first_placed : (t : Term) (p : Place) (below ps : List Place) → ps ≡ p ∷ below → ArePlaced t ps → IsPlaced t (length below) p
 unfolding ArePlaced
@@ -373,17 +373,17 @@ others_placed t p below ps e h = (subst (λ qs. ArePlaced t qs) e h).1
 
 -- ---- as many keys as nodes
 
-past_length : (c : Crypto) (b : Bool) (ns : List UpdatePathNode) (m m' : Climb) → past_parent c b ns m ≡ Ok m' → length m'.keys ≡ suc (length m.keys)
+past_length : (c : Crypto) (b : Bool) (ns : List UpdatePathNode) (m m' : Climb) → climb_past_parent c b ns m ≡ Ok m' → length m'.keys ≡ suc (length m.keys)
 past_length c false ns m m' e =
-    let made : Climb = past_blank m in
+    let made : Climb = climb_past_blank m in
     let q : made ≡ m' = cc in
     sym (ap (λ (z : Climb). length z.keys) q)
 past_length c true [] m m' e = cc
 past_length c true (n ∷ ns) m m' e = by_test (bytes_eq (node_public c m.secret) n.encryption_key) e
   where
-    by_test : (t : Bool) → if◌then◌else◌ {A = Result Climb ℕ} t (Ok (past_node c m)) (Err 34) ≡ Ok m' → length m'.keys ≡ suc (length m.keys)
+    by_test : (t : Bool) → if◌then◌else◌ {A = Result Climb ℕ} t (Ok (climb_past_node c m)) (Err 34) ≡ Ok m' → length m'.keys ≡ suc (length m.keys)
     by_test true e =
-        let made : Climb = past_node c m in
+        let made : Climb = climb_past_node c m in
         let q : made ≡ m' = cc in
         sym (ap (λ (z : Climb). length z.keys) q)
     by_test false e = cc
@@ -393,11 +393,11 @@ unfolding climb_open
 climb_length c context added [] j ks ns m long e = cc
 climb_length c context added (s ∷ ss) j [] ns m long e = absurd (omega arith)
 climb_length c context added (s ∷ ss) j (o ∷ ks) ns m long e =
-    let b = bind_ok (if is_beside s j then open_here c context added s j ks ns else climb_open c context added ss j ks (left_by (is_filtered s) ns)) (λ z. past_parent c (is_filtered s) ns z) m e in
-    past_length c (is_filtered s) ns b.0 m b.2 ∙ ap suc (by_side (is_beside s j) b.0 b.1 (climb_length c context added ss j ks (left_by (is_filtered s) ns) b.0 (omega arith)))
+    let b = bind_ok (if is_beside s j then open_at_ancestor c context added s j ks ns else climb_open c context added ss j ks (nodes_below (is_filtered s) ns)) (λ z. climb_past_parent c (is_filtered s) ns z) m e in
+    past_length c (is_filtered s) ns b.0 m b.2 ∙ ap suc (by_side (is_beside s j) b.0 b.1 (climb_length c context added ss j ks (nodes_below (is_filtered s) ns) b.0 (omega arith)))
   where
-    by_side : (t : Bool) (m0 : Climb) → (if t then open_here c context added s j ks ns else climb_open c context added ss j ks (left_by (is_filtered s) ns)) ≡ Ok m0 →
-        (climb_open c context added ss j ks (left_by (is_filtered s) ns) ≡ Ok m0 → length m0.keys ≡ suc (length ss)) → length m0.keys ≡ suc (length ss)
+    by_side : (t : Bool) (m0 : Climb) → (if t then open_at_ancestor c context added s j ks ns else climb_open c context added ss j ks (nodes_below (is_filtered s) ns)) ≡ Ok m0 →
+        (climb_open c context added ss j ks (nodes_below (is_filtered s) ns) ≡ Ok m0 → length m0.keys ≡ suc (length ss)) → length m0.keys ≡ suc (length ss)
     by_side true m0 e rec =
         let b = bind_ok (open_first c context (key_in s.first s.other j ks) (targets added s) (first_ciphertexts ns)) (λ secret. Ok (record { secret = secret; keys = ks })) m0 e in
         let made : Climb = record { secret = b.0; keys = ks } in
@@ -406,21 +406,21 @@ climb_length c context added (s ∷ ss) j (o ∷ ks) ns m long e =
     by_side false m0 e rec = rec e
 
 above_length : (c : Crypto) (context : List ℕ) (added : List ℕ) (t : Term) (ps : List Place) (p : PrivateKeys) (ns : List UpdatePathNode) (m : Climb) →
-    climb_open c context added (map (step_of t) ps) p.leaf (on_way (map (step_of t) ps) (all_keys p)) ns ≡ Ok (with_own p.own m) → length m.keys ≡ length ps
+    climb_open c context added (map (step_of t) ps) p.leaf (keys_on_way (map (step_of t) ps) (all_keys p)) ns ≡ Ok (with_own p.own m) → length m.keys ≡ length ps
 above_length c context added t ps p ns m e =
     let ss : List Step = map (step_of t) ps in
-    let k = climb_length c context added ss p.leaf (on_way ss (all_keys p)) ns (with_own p.own m) (length-on_way ss (all_keys p)) e in
+    let k = climb_length c context added ss p.leaf (keys_on_way ss (all_keys p)) ns (with_own p.own m) (length-keys_on_way ss (all_keys p)) e in
     omega (arith, k, length-end m.keys (Some p.own), length-map ps (step_of t))
 
 pub above_low : (c : Crypto) (context : List ℕ) (added : List ℕ) (t : Term) (i : ℕ) (ps : List Place) (p : PrivateKeys) (ns : List UpdatePathNode) (m : Climb) → IsWay t i ps →
-    climb_open c context added (map (step_of t) ps) p.leaf (on_way (map (step_of t) ps) (all_keys p)) ns ≡ Ok (with_own p.own m) → length m.keys ≤ 32
+    climb_open c context added (map (step_of t) ps) p.leaf (keys_on_way (map (step_of t) ps) (all_keys p)) ns ≡ Ok (with_own p.own m) → length m.keys ≤ 32
 above_low c context added t i ps p ns m w e = let l = w.low in omega (arith, above_length c context added t ps p ns m e)
 
 -- ---- the whole path
 
 pub opened_is : (c : Crypto) (context : List ℕ) (added : List ℕ) (t : Term) (h i : ℕ) (ps : List Place) (p : PrivateKeys) (path : List UpdatePathNode) → is_perfect h t ≡ true → IsWay t i ps →
-    climb_open c context added (map (step_of t) ps) p.leaf (on_way (map (step_of t) ps) (all_keys p)) (reverse path) ≡ opened_path c context added t i p.leaf (keys_on t p) path
+    climb_open c context added (map (step_of t) ps) p.leaf (keys_on_way (map (step_of t) ps) (all_keys p)) (reverse path) ≡ opened_path c context added t i p.leaf (keys_on t p) path
 unfolding opened_path
 opened_is c context added t h i ps p path perfect w =
-    ap (λ ss. climb_open c context added ss p.leaf (on_way ss (all_keys p)) (reverse path)) w.steps
+    ap (λ ss. climb_open c context added ss p.leaf (keys_on_way ss (all_keys p)) (reverse path)) w.steps
     ∙ ap (λ ks. climb_open c context added (way 0 t i) p.leaf ks (reverse path)) (same_length (way 0 t i) (way 0 t p.leaf) (all_keys p) (way_height h 0 t i perfect ∙ sym (way_height h 0 t p.leaf perfect)))

@@ -4,12 +4,12 @@ use Rattle.std.specs.Prelude.{codes}
 use Rattle.std.specs.List.{slice_get}
 use Rattle.std.specs.Option.{option_map, option_copied}
 use Rattle.std.proofs.lemmas.List.{drop_more, drop_all, reverse-append}
-use Rattle.mls_wire.specs.Checks.{given}
+use Rattle.mls_wire.specs.Checks.{require_some}
 use Rattle.mls_types.specs.declared.update_path.HpkeCiphertext.{HpkeCiphertext}
 use Rattle.mls_types.specs.declared.update_path.UpdatePathNode.{UpdatePathNode}
 use Rattle.mls_suite.specs.Crypto.{Crypto}
 use Rattle.mls_suite.specs.Labels.{encrypt_with_label}
-use Rattle.mls_suite.specs.Made.{sealing_of}
+use Rattle.mls_suite.specs.Sealings.{sealing_of}
 use Rattle.mls_suite.specs.declared.Sealed.{Sealed}
 use Rattle.mls_tree_model.specs.Sets.{has, leaf_numbers, less}
 use Rattle.mls_tree_model.specs.Term.{Term}
@@ -22,8 +22,8 @@ use Rattle.mls_treekem.specs.Faults.{number_of, IsMemoryOrKey}
 use Rattle.mls_treekem.specs.Secrets.{AreOfChain, public_keys}
 use Rattle.mls_treekem.specs.Sealing.{sealed_along}
 use Rattle.mls_treekem_model.specs.Make.{one_if, filtered_count}
-use Rattle.mls_treekem_model.specs.Seal.{targets, seal_count, ciphertext_of, seal_secret, seal_to, cons_both, seal_all, with_ciphertexts, path_past, node_with, seal_with, sealed_path, sealed_with}
-use Rattle.mls_treekem_model.specs.Seeds.{seal_seed, seals_in}
+use Rattle.mls_treekem_model.specs.Seal.{targets, seal_count, ciphertext_of, seal_secret, seal_to, cons_both, seal_all, with_ciphertexts, path_past, node_with, seal_path_with, sealed_path, sealed_path_with}
+use Rattle.mls_treekem_model.specs.Seeds.{seal_seed, seal_count_of}
 use Rattle.mls_treekem.specs.Place.{subtree_at, step_of, IsPlaced, ArePlaced, IsWay}
 use Rattle.mls_treekem.specs.declared.places.Place.{Place}
 use Rattle.mls_treekem.specs.declared.secrets.PathSecrets.{PathSecrets}
@@ -52,16 +52,16 @@ module _ (c : Crypto) (context secret : List ℕ) (b : ℕ) (t : Term) (seed : L
 
 -- ---- answers with the number of a missing key
 
-pub given_some : {A : Type 0} (o : Option A) (x : A) → given 36 o ≡ Ok x → o ≡ Some x
+pub given_some : {A : Type 0} (o : Option A) (x : A) → require_some 36 o ≡ Ok x → o ≡ Some x
 given_some (Some y) x e = cc
 given_some None x e = cc
 
-pub given_none : {A : Type 0} (o : Option A) (n : ℕ) → given 36 o ≡ Err n → (o ≡ None) × (n ≡ 36)
+pub given_none : {A : Type 0} (o : Option A) (n : ℕ) → require_some 36 o ≡ Err n → (o ≡ None) × (n ≡ 36)
 given_none (Some y) n e = cc
 given_none None n e = (refl, cc)
 
 -- a refusal for want of a key is no other
-pub of_keys : {A : Type 0} (o : Option A) (e : TreeKemError) → (number_of e ≢ 1 → given 36 o ≡ Err (number_of e)) → IsMemoryOrKey e
+pub of_keys : {A : Type 0} (o : Option A) (e : TreeKemError) → (number_of e ≢ 1 → require_some 36 o ≡ Err (number_of e)) → IsMemoryOrKey e
 of_keys o error.OutOfMemory h = tt
 of_keys o error.BadKey h = tt
 of_keys o error.OpenFailed h = let n : 32 ≡ 36 = (given_none o 32 (h (λ x. absurd (omega (arith, x))))).1 in absurd (omega (arith, n))
@@ -69,8 +69,8 @@ of_keys o error.SecretLength h = let n : 33 ≡ 36 = (given_none o 33 (h (λ x. 
 of_keys o error.PathKeyMismatch h = let n : 34 ≡ 36 = (given_none o 34 (h (λ x. absurd (omega (arith, x))))).1 in absurd (omega (arith, n))
 of_keys o error.KeyMissing h = let n : 35 ≡ 36 = (given_none o 35 (h (λ x. absurd (omega (arith, x))))).1 in absurd (omega (arith, n))
 
-pub none_given : {A B : Type 0} (o : Option A) (p : Option B) (n : ℕ) → given 36 o ≡ Err n → (o ≡ None → p ≡ None) → given 36 p ≡ Err n
-none_given o p n e f = let g = given_none o n e in ap (given 36) (f g.0) ∙ ap Err (sym g.1)
+pub none_given : {A B : Type 0} (o : Option A) (p : Option B) (n : ℕ) → require_some 36 o ≡ Err n → (o ≡ None → p ≡ None) → require_some 36 p ≡ Err n
+none_given o p n e f = let g = given_none o n e in ap (require_some 36) (f g.0) ∙ ap Err (sym g.1)
 
 -- ---- one seal
 
@@ -79,13 +79,13 @@ module _ (c : Crypto) (context secret rnd : List ℕ) (key : Option (Bor (List �
   unfolding seal_secret
   seal_is = ap (λ k. seal_to c context secret (option_copied k) rnd) key_is ∙ ap (option_map ciphertext_of) (sym made)
 
-  pub one_sealed : (x : Sealed) → s ≡ Some x → (k ct : List ℕ) → k ≡ x.kem.items → ct ≡ x.ct.items → given 36 (seal_to c context secret (option_copied key) rnd) ≡ Ok (record { kem_output = k; ciphertext = ct })
+  pub one_sealed : (x : Sealed) → s ≡ Some x → (k ct : List ℕ) → k ≡ x.kem.items → ct ≡ x.ct.items → require_some 36 (seal_to c context secret (option_copied key) rnd) ≡ Ok (record { kem_output = k; ciphertext = ct })
   one_sealed x is k ct e f =
-      ap (given 36) (seal_is ∙ ap (λ o. option_map ciphertext_of (sealing_of o)) is)
+      ap (require_some 36) (seal_is ∙ ap (λ o. option_map ciphertext_of (sealing_of o)) is)
       ∙ ap₂ (λ k ct. Ok (let y : HpkeCiphertext = record { kem_output = k; ciphertext = ct } in y)) (sym e) (sym f)
 
-  pub one_unfit : s ≡ None → given 36 (seal_to c context secret (option_copied key) rnd) ≡ Err 36
-  one_unfit is = ap (given 36) (seal_is ∙ ap (λ o. option_map ciphertext_of (sealing_of o)) is)
+  pub one_unfit : s ≡ None → require_some 36 (seal_to c context secret (option_copied key) rnd) ≡ Err 36
+  one_unfit is = ap (require_some 36) (seal_is ∙ ap (λ o. option_map ciphertext_of (sealing_of o)) is)
 
 -- ---- what is left of a list to be sealed to
 
@@ -122,13 +122,13 @@ module _ (c : Crypto) (context secret : List ℕ) (b : ℕ) (t : Term) (seed us 
       same : seal_to c context secret (key_at b t (get_or xs k 0)) (seal_seed seed i) ≡ seal_to c context secret key r
       same = ap₂ (seal_to c context secret) (sym key_is) (sym r_is)
 
-      pub seals_more : (x : HpkeCiphertext) → given 36 (seal_to c context secret key r) ≡ Ok x → (zs : List HpkeCiphertext) → zs ≡ ys ++ (x ∷ []) → (j : ℕ) → j ≡ (i + 1) % 2 ^ 32 → SealsLeft c context secret b t seed us xs first zs j (k + 1)
+      pub seals_more : (x : HpkeCiphertext) → require_some 36 (seal_to c context secret key r) ≡ Ok x → (zs : List HpkeCiphertext) → zs ≡ ys ++ (x ∷ []) → (j : ℕ) → j ≡ (i + 1) % 2 ^ 32 → SealsLeft c context secret b t seed us xs first zs j (k + 1)
       seals_more x e zs pushed j next =
           first_left lt (sym found_is ∙ stays) (Some x) (same ∙ given_some (seal_to c context secret key r) x e)
           ∙ more_onto ys x (seal_all c context secret b t (seal_seed seed) (suc i) (left_from us xs (k + 1)))
           ∙ ap₂ onto (sym pushed) (sealed_low c context secret b t seed (suc i) j (left_from us xs (k + 1)) (omega (arith, next)))
 
-      pub seals_fail : (n : ℕ) → given 36 (seal_to c context secret key r) ≡ Err n → given 36 (seal_all c context secret b t (seal_seed seed) first (less (leaf_numbers us) xs)) ≡ Err n
+      pub seals_fail : (n : ℕ) → require_some 36 (seal_to c context secret key r) ≡ Err n → require_some 36 (seal_all c context secret b t (seal_seed seed) first (less (leaf_numbers us) xs)) ≡ Err n
       seals_fail n e =
           none_given (seal_to c context secret key r) (seal_all c context secret b t (seal_seed seed) first (less (leaf_numbers us) xs)) n e
           (λ none. first_left lt (sym found_is ∙ stays) None (same ∙ none))
@@ -158,23 +158,23 @@ module _ (xs : List ℕ) (k n : ℕ) where
 
 -- ---- how many seals there are
 
-seals_pushed : (ns : List UpdatePathNode) (x : UpdatePathNode) → seals_in (ns ++ (x ∷ [])) ≡ seals_in ns + length x.ciphertexts
-unfolding seals_in
+seals_pushed : (ns : List UpdatePathNode) (x : UpdatePathNode) → seal_count_of (ns ++ (x ∷ [])) ≡ seal_count_of ns + length x.ciphertexts
+unfolding seal_count_of
 seals_pushed [] x = omega arith
 seals_pushed (n ∷ ns) x = let e = seals_pushed ns x in omega arith
 
 module _ (xs : List UpdatePathNode) (k : ℕ) where
-  pub count_next : (x : UpdatePathNode) → k < length xs → x ≡ get_or xs k x → (n m : ℕ) → m ≡ length x.ciphertexts % 2 ^ 32 → (n + seals_in (drop k xs)) % 2 ^ 32 ≡ seals_in xs % 2 ^ 32 → ((n + m) % 2 ^ 32 + seals_in (drop (k + 1) xs)) % 2 ^ 32 ≡ seals_in xs % 2 ^ 32
-  unfolding seals_in
+  pub count_next : (x : UpdatePathNode) → k < length xs → x ≡ get_or xs k x → (n m : ℕ) → m ≡ length x.ciphertexts % 2 ^ 32 → (n + seal_count_of (drop k xs)) % 2 ^ 32 ≡ seal_count_of xs % 2 ^ 32 → ((n + m) % 2 ^ 32 + seal_count_of (drop (k + 1) xs)) % 2 ^ 32 ≡ seal_count_of xs % 2 ^ 32
+  unfolding seal_count_of
   count_next x lt is n m m_is inv =
-      let next : seals_in (drop k xs) ≡ length x.ciphertexts + seals_in (drop (k + 1) xs) =
-      ap seals_in (drop_more xs k x lt) ∙ ap (λ (y : UpdatePathNode). length y.ciphertexts + seals_in (drop (k + 1) xs)) (sym is) in
+      let next : seal_count_of (drop k xs) ≡ length x.ciphertexts + seal_count_of (drop (k + 1) xs) =
+      ap seal_count_of (drop_more xs k x lt) ∙ ap (λ (y : UpdatePathNode). length y.ciphertexts + seal_count_of (drop (k + 1) xs)) (sym is) in
       omega arith
 
-  pub count_end : length xs ≤ k → (n : ℕ) → n < 2 ^ 32 → (n + seals_in (drop k xs)) % 2 ^ 32 ≡ seals_in xs % 2 ^ 32 → n ≡ seals_in xs % 2 ^ 32
-  unfolding seals_in
+  pub count_end : length xs ≤ k → (n : ℕ) → n < 2 ^ 32 → (n + seal_count_of (drop k xs)) % 2 ^ 32 ≡ seal_count_of xs % 2 ^ 32 → n ≡ seal_count_of xs % 2 ^ 32
+  unfolding seal_count_of
   count_end ge n fits inv =
-      let none : seals_in (drop k xs) ≡ 0 = ap seals_in (drop_all k xs ge) in
+      let none : seal_count_of (drop k xs) ≡ 0 = ap seal_count_of (drop_all k xs ge) in
       omega arith
 
 -- ---- the nodes along a way
@@ -208,33 +208,33 @@ pushed (Some y) None x ns e f = cc
 pushed None os x ns e f = cc
 
 module _ (c : Crypto) (context added seed : List ℕ) (s : Step) (ss : List Step) (secrets keys : List (List ℕ)) where
-  step_is : (b : Bool) → is_filtered s ≡ b → seal_with c context added (seal_seed seed) secrets keys (s ∷ ss) ≡ path_past b (node_for c context added seed s ss secrets keys) (seal_with c context added (seal_seed seed) secrets keys ss)
-  unfolding seal_with
-  step_is b e = ap (λ z. path_past z (node_for c context added seed s ss secrets keys) (seal_with c context added (seal_seed seed) secrets keys ss)) e
+  step_is : (b : Bool) → is_filtered s ≡ b → seal_path_with c context added (seal_seed seed) secrets keys (s ∷ ss) ≡ path_past b (node_for c context added seed s ss secrets keys) (seal_path_with c context added (seal_seed seed) secrets keys ss)
+  unfolding seal_path_with
+  step_is b e = ap (λ z. path_past z (node_for c context added seed s ss secrets keys) (seal_path_with c context added (seal_seed seed) secrets keys ss)) e
 
   pub along_out : is_filtered s ≡ false → (ns : List UpdatePathNode) → sealed_along c context added seed secrets keys ss ≡ Ok ns → sealed_along c context added seed secrets keys (s ∷ ss) ≡ Ok ns
-  along_out e ns h = ap (λ o. given 36 (option_map reverse o)) (step_is false e) ∙ h
+  along_out e ns h = ap (λ o. require_some 36 (option_map reverse o)) (step_is false e) ∙ h
 
-  pub along_in : is_filtered s ≡ true → (x : UpdatePathNode) (ns zs : List UpdatePathNode) → given 36 (node_for c context added seed s ss secrets keys) ≡ Ok x → sealed_along c context added seed secrets keys ss ≡ Ok ns → zs ≡ ns ++ (x ∷ []) → sealed_along c context added seed secrets keys (s ∷ ss) ≡ Ok zs
+  pub along_in : is_filtered s ≡ true → (x : UpdatePathNode) (ns zs : List UpdatePathNode) → require_some 36 (node_for c context added seed s ss secrets keys) ≡ Ok x → sealed_along c context added seed secrets keys ss ≡ Ok ns → zs ≡ ns ++ (x ∷ []) → sealed_along c context added seed secrets keys (s ∷ ss) ≡ Ok zs
   along_in e x ns zs here below more =
-      ap (given 36)
+      ap (require_some 36)
       (ap (option_map reverse) (step_is true e)
-      ∙ pushed (node_for c context added seed s ss secrets keys) (seal_with c context added (seal_seed seed) secrets keys ss) x ns (given_some _ x here) (given_some _ ns below))
+      ∙ pushed (node_for c context added seed s ss secrets keys) (seal_path_with c context added (seal_seed seed) secrets keys ss) x ns (given_some _ x here) (given_some _ ns below))
       ∙ ap Ok (sym more)
 
   pub refused_below : (n : ℕ) → sealed_along c context added seed secrets keys ss ≡ Err n → sealed_along c context added seed secrets keys (s ∷ ss) ≡ Err n
   refused_below n h =
-      none_given (option_map reverse (seal_with c context added (seal_seed seed) secrets keys ss)) (option_map reverse (seal_with c context added (seal_seed seed) secrets keys (s ∷ ss))) n h
+      none_given (option_map reverse (seal_path_with c context added (seal_seed seed) secrets keys ss)) (option_map reverse (seal_path_with c context added (seal_seed seed) secrets keys (s ∷ ss))) n h
       (λ none.
       ap (option_map reverse)
       (step_is (is_filtered s) refl
       ∙ ap (path_past (is_filtered s) (node_for c context added seed s ss secrets keys)) (reversed_none _ none)
       ∙ past_none (is_filtered s) (node_for c context added seed s ss secrets keys)))
 
-  pub refused_here : is_filtered s ≡ true → (n : ℕ) → given 36 (node_for c context added seed s ss secrets keys) ≡ Err n → sealed_along c context added seed secrets keys (s ∷ ss) ≡ Err n
+  pub refused_here : is_filtered s ≡ true → (n : ℕ) → require_some 36 (node_for c context added seed s ss secrets keys) ≡ Err n → sealed_along c context added seed secrets keys (s ∷ ss) ≡ Err n
   refused_here e n h =
-      none_given (node_for c context added seed s ss secrets keys) (option_map reverse (seal_with c context added (seal_seed seed) secrets keys (s ∷ ss))) n h
-      (λ none. ap (option_map reverse) (step_is true e ∙ ap (λ o. cons_both o (seal_with c context added (seal_seed seed) secrets keys ss)) none))
+      none_given (node_for c context added seed s ss secrets keys) (option_map reverse (seal_path_with c context added (seal_seed seed) secrets keys (s ∷ ss))) n h
+      (λ none. ap (option_map reverse) (step_is true e ∙ ap (λ o. cons_both o (seal_path_with c context added (seal_seed seed) secrets keys ss)) none))
 
   -- the node that code makes
   pub node_same : (k i : ℕ) (reached : List ℕ) → k ≡ filtered_count ss → i ≡ seal_count added ss % 2 ^ 32 → reached ≡ resolution s.first s.other → node_with c context s.first s.other (seal_seed seed) i (less (leaf_numbers added) reached) (slice_get secrets k) (slice_get keys k) ≡ node_for c context added seed s ss secrets keys
@@ -264,16 +264,16 @@ module _ (added : List ℕ) (s : Step) (ss : List Step) where
 
 module _ (t : Term) (all : List Place) (none : all ≡ []) where
   pub along_none : (c : Crypto) (context added seed : List ℕ) (secrets keys : List (List ℕ)) (ns : List UpdatePathNode) → ns ≡ [] → sealed_along c context added seed secrets keys (map (step_of t) all) ≡ Ok ns
-  unfolding seal_with
+  unfolding seal_path_with
   along_none c context added seed secrets keys ns e = ap (λ ps. sealed_along c context added seed secrets keys (map (step_of t) ps)) none ∙ ap Ok (sym e)
 
   pub count_none : (ns : List UpdatePathNode) → ns ≡ [] → length ns ≡ filtered_count (map (step_of t) all)
   unfolding filtered_count
   count_none ns e = ap length e ∙ sym (ap (λ ps. filtered_count (map (step_of t) ps)) none)
 
-  pub numbers_none : (added : List ℕ) (ns : List UpdatePathNode) → ns ≡ [] → seals_in ns ≡ seal_count added (map (step_of t) all)
-  unfolding seal_count seals_in
-  numbers_none added ns e = ap seals_in e ∙ sym (ap (λ ps. seal_count added (map (step_of t) ps)) none)
+  pub numbers_none : (added : List ℕ) (ns : List UpdatePathNode) → ns ≡ [] → seal_count_of ns ≡ seal_count added (map (step_of t) all)
+  unfolding seal_count seal_count_of
+  numbers_none added ns e = ap seal_count_of e ∙ sym (ap (λ ps. seal_count added (map (step_of t) ps)) none)
 
 filtered_by : (xs : List ℕ) (b : Bool) → b ≡ (length xs == 0) → not (is_empty xs) ≡ not b
 filtered_by [] b e = ap not (sym (e ∙ eq-eqb 0 0 refl))
@@ -319,13 +319,13 @@ module _ (t : Term) (p : Place) (ps all : List Place) (whole : all ≡ p ∷ ps)
       pub count_one : (n : ℕ) → n ≡ filtered_count (map (step_of t) ps) → suc n ≡ filtered_count (map (step_of t) all)
       count_one n h = ap suc h ∙ sym (ap (λ qs. filtered_count (map (step_of t) qs)) whole ∙ count_in [] (step_of t p) (map (step_of t) ps) taken_in)
 
-      pub numbers_more : (added : List ℕ) (x : UpdatePathNode) (ns zs : List UpdatePathNode) → seals_in ns ≡ seal_count added (map (step_of t) ps) → length x.ciphertexts ≡ length (less (leaf_numbers added) reached) → zs ≡ ns ++ (x ∷ []) → seals_in zs ≡ seal_count added (map (step_of t) all)
+      pub numbers_more : (added : List ℕ) (x : UpdatePathNode) (ns zs : List UpdatePathNode) → seal_count_of ns ≡ seal_count added (map (step_of t) ps) → length x.ciphertexts ≡ length (less (leaf_numbers added) reached) → zs ≡ ns ++ (x ∷ []) → seal_count_of zs ≡ seal_count added (map (step_of t) all)
       unfolding targets
       numbers_more added x ns zs below here pushed =
           let all_is : seal_count added (map (step_of t) all) ≡ length (targets added (step_of t p)) + seal_count added (map (step_of t) ps) =
           ap (λ qs. seal_count added (map (step_of t) qs)) whole ∙ numbers_in added (step_of t p) (map (step_of t) ps) taken_in in
           let more : length x.ciphertexts ≡ length (targets added (step_of t p)) = here ∙ ap (λ xs. length (less (leaf_numbers added) xs)) resolved in
-          let sum : seals_in zs ≡ seals_in ns + length x.ciphertexts = ap seals_in pushed ∙ seals_pushed ns x in
+          let sum : seal_count_of zs ≡ seal_count_of ns + length x.ciphertexts = ap seal_count_of pushed ∙ seals_pushed ns x in
           omega arith
 
       module _ (c : Crypto) (context added seed : List ℕ) (secrets keys : List (List ℕ)) (k i : ℕ) (k_is : k ≡ filtered_count (map (step_of t) ps)) (i_is : i ≡ seal_count added (map (step_of t) ps) % 2 ^ 32) (xs : List ℕ) (xs_is : xs ≡ reached) where
@@ -336,17 +336,17 @@ module _ (t : Term) (p : Place) (ps all : List Place) (whole : all ≡ p ∷ ps)
         unfolding here step_of
         here_is = node_same c context added seed (step_of t p) (map (step_of t) ps) secrets keys k i xs k_is i_is (xs_is ∙ resolved)
 
-        pub along_more : (x : UpdatePathNode) (ns zs : List UpdatePathNode) → given 36 (node_with c context p.first (subtree_at t p.beside) (seal_seed seed) i (less (leaf_numbers added) xs) (slice_get secrets k) (slice_get keys k)) ≡ Ok x → sealed_along c context added seed secrets keys (map (step_of t) ps) ≡ Ok ns → zs ≡ ns ++ (x ∷ []) → sealed_along c context added seed secrets keys (map (step_of t) all) ≡ Ok zs
+        pub along_more : (x : UpdatePathNode) (ns zs : List UpdatePathNode) → require_some 36 (node_with c context p.first (subtree_at t p.beside) (seal_seed seed) i (less (leaf_numbers added) xs) (slice_get secrets k) (slice_get keys k)) ≡ Ok x → sealed_along c context added seed secrets keys (map (step_of t) ps) ≡ Ok ns → zs ≡ ns ++ (x ∷ []) → sealed_along c context added seed secrets keys (map (step_of t) all) ≡ Ok zs
         unfolding here
         along_more x ns zs made below pushed =
             ap (λ qs. sealed_along c context added seed secrets keys (map (step_of t) qs)) whole
-            ∙ along_in c context added seed (step_of t p) (map (step_of t) ps) secrets keys taken_in x ns zs (ap (given 36) (sym here_is) ∙ made) below pushed
+            ∙ along_in c context added seed (step_of t p) (map (step_of t) ps) secrets keys taken_in x ns zs (ap (require_some 36) (sym here_is) ∙ made) below pushed
 
-        pub along_fails : (n : ℕ) → given 36 (node_with c context p.first (subtree_at t p.beside) (seal_seed seed) i (less (leaf_numbers added) xs) (slice_get secrets k) (slice_get keys k)) ≡ Err n → sealed_along c context added seed secrets keys (map (step_of t) all) ≡ Err n
+        pub along_fails : (n : ℕ) → require_some 36 (node_with c context p.first (subtree_at t p.beside) (seal_seed seed) i (less (leaf_numbers added) xs) (slice_get secrets k) (slice_get keys k)) ≡ Err n → sealed_along c context added seed secrets keys (map (step_of t) all) ≡ Err n
         unfolding here
         along_fails n fails =
             ap (λ qs. sealed_along c context added seed secrets keys (map (step_of t) qs)) whole
-            ∙ refused_here c context added seed (step_of t p) (map (step_of t) ps) secrets keys taken_in n (ap (given 36) (sym here_is) ∙ fails)
+            ∙ refused_here c context added seed (step_of t p) (map (step_of t) ps) secrets keys taken_in n (ap (require_some 36) (sym here_is) ∙ fails)
 
   pub below_fails : (c : Crypto) (context added seed : List ℕ) (secrets keys : List (List ℕ)) (n : ℕ) → sealed_along c context added seed secrets keys (map (step_of t) ps) ≡ Err n → sealed_along c context added seed secrets keys (map (step_of t) all) ≡ Err n
   below_fails c context added seed secrets keys n fails =
@@ -358,8 +358,8 @@ module _ (t : Term) (i : ℕ) (ps qs : List Place) (w : IsWay t i ps) (same : qs
   steps_are : map (step_of t) qs ≡ way 0 t i
   steps_are = ap (map (step_of t)) same ∙ w.steps
 
-  pub whole_path : (c : Crypto) (context added seed : List ℕ) (secrets keys : List (List ℕ)) (r : Result (List UpdatePathNode) ℕ) → sealed_along c context added seed secrets keys (map (step_of t) qs) ≡ r → sealed_with c context added (seal_seed seed) secrets keys t i ≡ r
-  unfolding sealed_with
+  pub whole_path : (c : Crypto) (context added seed : List ℕ) (secrets keys : List (List ℕ)) (r : Result (List UpdatePathNode) ℕ) → sealed_along c context added seed secrets keys (map (step_of t) qs) ≡ r → sealed_path_with c context added (seal_seed seed) secrets keys t i ≡ r
+  unfolding sealed_path_with
   whole_path c context added seed secrets keys r h = ap (sealed_along c context added seed secrets keys) (sym steps_are) ∙ h
 
   pub whole_seals : (added : List ℕ) (n : ℕ) → n ≡ seal_count added (map (step_of t) qs) → n ≡ seal_count added (way 0 t i)
@@ -368,7 +368,7 @@ module _ (t : Term) (i : ℕ) (ps qs : List Place) (w : IsWay t i ps) (same : qs
 -- ---- a path whose secrets are a chain's
 
 pub chain_path : (c : Crypto) (context added seed : List ℕ) (t : Term) (i : ℕ) (start : List ℕ) (path : PathSecrets) → AreOfChain c start (path_length 0 t i) path →
-    sealed_path c context added (seal_seed seed) t i start ≡ sealed_with c context added (seal_seed seed) path.secrets.items (public_keys path) t i
+    sealed_path c context added (seal_seed seed) t i start ≡ sealed_path_with c context added (seal_seed seed) path.secrets.items (public_keys path) t i
 chain_path c context added seed t i start path made =
     sym (sealed_of_chain c context added (seal_seed seed) t i start (path_length 0 t i) (omega arith))
-    ∙ sym (ap₂ (λ xs ks. sealed_with c context added (seal_seed seed) xs ks t i) made.secrets made.pairs.public)
+    ∙ sym (ap₂ (λ xs ks. sealed_path_with c context added (seal_seed seed) xs ks t i) made.secrets made.pairs.public)

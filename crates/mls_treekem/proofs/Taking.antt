@@ -17,8 +17,8 @@ use Rattle.mls_treekem.specs.declared.error.TreeKemError.{TreeKemError}
 use Rattle.mls_treekem.specs.Climbing.{with_own}
 use Rattle.mls_treekem.specs.Faults.{number_of}
 use Rattle.mls_treekem_model.specs.Keys.{Keys, leaf_only}
-use Rattle.mls_treekem_model.specs.Make.{past_node, Climb}
-use Rattle.mls_treekem_model.specs.Join.{past_present, is_present, climb_take, is_due, is_complete, take_keys, take_answer}
+use Rattle.mls_treekem_model.specs.Make.{climb_past_node, Climb}
+use Rattle.mls_treekem_model.specs.Join.{climb_past_present, require_present, climb_take, is_due, is_complete, take_keys, take_answer}
 use Rattle.mls_treekem.specs.Place.{step_of, ArePlaced, IsWay}
 use Rattle.mls_treekem_model.proofs.HeightLaws.{reverse-end, way_height}
 use Rattle.mls_treekem_model.proofs.JoinLaws.{sounds, present_is, take_inside}
@@ -26,7 +26,7 @@ use Rattle.mls_treekem.proofs.Opening.{beside_is, first_placed}
 
 -- ---- one place
 
-pub is_there : (p : Option Parent) (there : Bool) (m : Climb) → there ≡ is_some p → there ≡ true → is_present p m ≡ Ok m
+pub is_there : (p : Option Parent) (there : Bool) (m : Climb) → there ≡ is_some p → there ≡ true → require_present p m ≡ Ok m
 is_there (Some p) there m e f = refl
 is_there None there m e f = cc
 
@@ -63,10 +63,10 @@ module _ (c : Crypto) (t : Term) (j : ℕ) (secret : List ℕ) where
     beside = test_is ∙ beside_is t (length ps) p (first_placed t p ps all is placed) j
 
     abbrev past : Climb → Result Climb ℕ
-    past m = past_present c j (step_of t p).parent m
+    past m = climb_past_present c j (step_of t p).parent m
 
     abbrev start : Result Climb ℕ
-    start = is_present (step_of t p).parent (record { secret = secret; keys = replicate (length ps) None })
+    start = require_present (step_of t p).parent (record { secret = secret; keys = replicate (length ps) None })
 
     take_here : test ≡ true → taken_over c t j secret all ≡ (start >>= λ m. past m)
     unfolding climb_take
@@ -126,10 +126,10 @@ owned own (Ok m) = Ok (with_own own m)
 owned own (Err e) = Err e
 
 abbrev up : Crypto → Climb → Climb
-up c m = past_node c m
+up c m = climb_past_node c m
 
 module _ (c : Crypto) (j : ℕ) (own : List ℕ) where
-  parent_with : (p : Option Parent) (m : Climb) → past_present c j p (with_own own m) ≡ owned own (past_present c j p m)
+  parent_with : (p : Option Parent) (m : Climb) → climb_past_present c j p (with_own own m) ≡ owned own (climb_past_present c j p m)
   parent_with None m = refl
   parent_with (Some p) m = by_test (not (has p.unmerged_leaves j) && bytes_eq (node_public c m.secret) p.encryption_key)
     where
@@ -137,7 +137,7 @@ module _ (c : Crypto) (j : ℕ) (own : List ℕ) where
       by_test true = refl
       by_test false = refl
 
-  past_with : (p : Option Parent) (r : Result Climb ℕ) → (owned own r >>= λ m. past_present c j p m) ≡ owned own (r >>= λ m. past_present c j p m)
+  past_with : (p : Option Parent) (r : Result Climb ℕ) → (owned own r >>= λ m. climb_past_present c j p m) ≡ owned own (r >>= λ m. climb_past_present c j p m)
   past_with p (Ok m) = parent_with p m
   past_with p (Err e) = refl
 
@@ -146,12 +146,12 @@ module _ (c : Crypto) (j : ℕ) (own : List ℕ) where
   take_with [] ks secret e = refl
   take_with (s ∷ ss) [] secret e = absurd (omega arith)
   take_with (s ∷ ss) (o ∷ ks) secret e =
-      ap (λ r. r >>= λ m. past_present c j s.parent m) (by_side (is_beside s j) s.parent (take_with ss ks secret (omega arith)))
-      ∙ past_with s.parent (if is_beside s j then is_present s.parent (record { secret = secret; keys = ks }) else climb_take c ss j ks secret)
+      ap (λ r. r >>= λ m. climb_past_present c j s.parent m) (by_side (is_beside s j) s.parent (take_with ss ks secret (omega arith)))
+      ∙ past_with s.parent (if is_beside s j then require_present s.parent (record { secret = secret; keys = ks }) else climb_take c ss j ks secret)
     where
       by_side : (t : Bool) (p : Option Parent) → climb_take c ss j (ks ++ (Some own ∷ [])) secret ≡ owned own (climb_take c ss j ks secret) →
-          (if t then is_present p (record { secret = secret; keys = ks ++ (Some own ∷ []) }) else climb_take c ss j (ks ++ (Some own ∷ [])) secret)
-          ≡ owned own (if t then is_present p (record { secret = secret; keys = ks }) else climb_take c ss j ks secret)
+          (if t then require_present p (record { secret = secret; keys = ks ++ (Some own ∷ []) }) else climb_take c ss j (ks ++ (Some own ∷ [])) secret)
+          ≡ owned own (if t then require_present p (record { secret = secret; keys = ks }) else climb_take c ss j ks secret)
       by_side true None rec = refl
       by_side true (Some p) rec = refl
       by_side false p rec = rec
@@ -161,12 +161,12 @@ unfolding climb_take
 take_length c j [] ks secret m e h = cc
 take_length c j (s ∷ ss) [] secret m e h = absurd (omega arith)
 take_length c j (s ∷ ss) (o ∷ ks) secret m e h =
-    let b = bind_ok (if is_beside s j then is_present s.parent (record { secret = secret; keys = ks }) else climb_take c ss j ks secret) (λ z. past_present c j s.parent z) m h in
+    let b = bind_ok (if is_beside s j then require_present s.parent (record { secret = secret; keys = ks }) else climb_take c ss j ks secret) (λ z. climb_past_present c j s.parent z) m h in
     let p = sounds c j s.parent b.0 m b.2 in
     let n : length ks ≡ length ss = omega arith in
     ap length p.keys_are ∙ ap suc (by_side (is_beside s j) b.0 b.1 n (take_length c j ss ks secret b.0 n))
   where
-    by_side : (t : Bool) (m0 : Climb) → (if t then is_present s.parent (record { secret = secret; keys = ks }) else climb_take c ss j ks secret) ≡ Ok m0 → length ks ≡ length ss →
+    by_side : (t : Bool) (m0 : Climb) → (if t then require_present s.parent (record { secret = secret; keys = ks }) else climb_take c ss j ks secret) ≡ Ok m0 → length ks ≡ length ss →
         (climb_take c ss j ks secret ≡ Ok m0 → length m0.keys ≡ length ss) → length m0.keys ≡ length ss
     by_side true m0 f n rec =
         let made : Climb = record { secret = secret; keys = ks } in

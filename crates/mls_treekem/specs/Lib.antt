@@ -2,8 +2,8 @@ pub mod Secrets
 pub mod Faults
 pub mod Names
 pub mod Place
-pub mod Raised
+pub mod KeysAtHeights
 pub mod Climbing
 pub mod Opening
-pub mod Beside
+pub mod NodeKeys
 pub mod Sealing

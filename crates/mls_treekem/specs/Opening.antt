@@ -11,15 +11,15 @@ use Rattle.mls_treekem.specs.declared.error.TreeKemError.{TreeKemError}
 use Rattle.mls_treekem.specs.declared.places.Place.{Place}
 use Rattle.mls_treekem.specs.Climbing.{with_own}
 use Rattle.mls_treekem.specs.Faults.{number_of}
-use Rattle.mls_treekem_model.specs.Follow.{on_way}
+use Rattle.mls_treekem_model.specs.Follow.{keys_on_way}
 use Rattle.mls_treekem_model.specs.Keys.{Keys, key_in, PrivateKeys, all_keys}
 use Rattle.mls_treekem_model.specs.Make.{Climb}
-use Rattle.mls_treekem_model.specs.Open.{open_first, open_here, climb_open}
+use Rattle.mls_treekem_model.specs.Open.{open_first, open_at_ancestor, climb_open}
 use Rattle.mls_treekem.specs.Place.{step_of}
 
 -- the key that a member has for a node of a tree whose first leaf is b
 abbrev pub key_of : ℕ → Term → PrivateKeys → ℕ → Option (List ℕ)
-key_of b t p n = key_in b t p.leaf (on_way (way b t p.leaf) (all_keys p)) n
+key_of b t p n = key_in b t p.leaf (keys_on_way (way b t p.leaf) (all_keys p)) n
 
 -- it is the same in each perfect tree of this height
 abbrev pub IsKeyOf : ℕ → ℕ → PrivateKeys → ℕ → Option (List ℕ) → Type 0
@@ -27,7 +27,7 @@ IsKeyOf h b p n key = (t : Term) → is_perfect h t ≡ true → key ≡ key_of 
 
 -- keys above the leaf, the lowest first, are a member's up to this height
 abbrev pub AreKeysUpTo : ℕ → PrivateKeys → Keys → Type 0
-AreKeysUpTo h p above = (ss : List Step) → length ss ≡ h → reverse above ++ (Some p.own ∷ []) ≡ on_way ss (all_keys p)
+AreKeysUpTo h p above = (ss : List Step) → length ss ≡ h → reverse above ++ (Some p.own ∷ []) ≡ keys_on_way ss (all_keys p)
 
 -- the path secret that is sealed to the first of some nodes whose key a member has, without the leaves just added
 abbrev pub OpensFirst : Crypto → List ℕ → ℕ → ℕ → PrivateKeys → List ℕ → List ℕ → List HpkeCiphertext → Result (List ℕ) TreeKemError → Type 0
@@ -35,11 +35,11 @@ OpensFirst c context h b p added nodes xs result =
     (t : Term) → is_perfect h t ≡ true → Answers (λ s. s) number_of (open_first c context (key_of b t p) (less (leaf_numbers added) nodes) xs) result
 
 -- what is opened at a place, with the keys below
-abbrev pub OpensHere : Crypto → List ℕ → List ℕ → Term → ℕ → Place → PrivateKeys → List UpdatePathNode → Result Climb TreeKemError → Type 0
-OpensHere c context added t h q p path result =
-    (ss : List Step) → length ss ≡ h → Answers (λ m. with_own p.own m) number_of (open_here c context added (step_of t q) p.leaf (on_way ss (all_keys p)) (reverse path)) result
+abbrev pub OpensAtAncestor : Crypto → List ℕ → List ℕ → Term → ℕ → Place → PrivateKeys → List UpdatePathNode → Result Climb TreeKemError → Type 0
+OpensAtAncestor c context added t h q p path result =
+    (ss : List Step) → length ss ≡ h → Answers (λ m. with_own p.own m) number_of (open_at_ancestor c context added (step_of t q) p.leaf (keys_on_way ss (all_keys p)) (reverse path)) result
 
 -- a climb along a way
 abbrev pub OpensAlong : Crypto → List ℕ → List ℕ → List Step → PrivateKeys → List UpdatePathNode → Result Climb TreeKemError → Type 0
 OpensAlong c context added ss p path result =
-    Answers (λ m. with_own p.own m) number_of (climb_open c context added ss p.leaf (on_way ss (all_keys p)) (reverse path)) result
+    Answers (λ m. with_own p.own m) number_of (climb_open c context added ss p.leaf (keys_on_way ss (all_keys p)) (reverse path)) result

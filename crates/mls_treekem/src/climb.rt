@@ -2,7 +2,7 @@
 
 ghost use Rattle.std.specs.Prelude.{◌≡◌, ◌+◌, ◌&&◌, nat_le, nat_lt, IfOk};
 ghost use Rattle.mls_wire.specs.Checks.{Answers};
-ghost use Rattle.mls_treekem_model.specs.Make.{past_key, past_blank};
+ghost use Rattle.mls_treekem_model.specs.Make.{climb_past_key, climb_past_blank};
 ghost use Rattle.mls_treekem.specs.Faults.{number_of};
 
 use crate::TreeKemError;
@@ -34,8 +34,8 @@ impl Model for Climb {
 impl Climb {
     /// Goes past a node with this public key: takes its private key, and the next secret. `PathKeyMismatch` (34) where
     /// the derived public key is another (RFC 9420, 7.5).
-    pub(crate) fn past_key<S: Suite>(self, public_key: &[u8]) -> Result<Climb, TreeKemError>
-        ensures { Answers (λ m. m) number_of (past_key S.crypto public_key.now self) result }
+    pub(crate) fn climb_past_key<S: Suite>(self, public_key: &[u8]) -> Result<Climb, TreeKemError>
+        ensures { Answers (λ m. m) number_of (climb_past_key S.crypto public_key.now self) result }
     {
         let mut climb = self;
         let alloc = *climb.above.allocator();
@@ -51,8 +51,8 @@ impl Climb {
     }
 
     /// Goes past a node that has no key.
-    pub(crate) fn past_blank(self) -> Result<Climb, OutOfMemory>
-        ensures { IfOk result (λ m. m ≡ past_blank self) }
+    pub(crate) fn climb_past_blank(self) -> Result<Climb, OutOfMemory>
+        ensures { IfOk result (λ m. m ≡ climb_past_blank self) }
     {
         let mut climb = self;
         climb.above.push(None)?;

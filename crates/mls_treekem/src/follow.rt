@@ -26,14 +26,14 @@ fn key_after(own_key: Option<&Secret>, own: &Secret) -> Secret
 
 impl PrivatePath {
     /// The key that is held so far above the leaf, where a test holds.
-    fn key_if(&self, test: bool, height: u32) -> Option<Secret>
+    fn key_at_if(&self, test: bool, height: u32) -> Option<Secret>
         ensures { result ≡ (if test then key_above height (all_keys self.now) else None) }
     {
         if test { self.key_at(height) } else { None }
     }
 
     /// Adds the key of each of these parents that isn't blank, the lowest one's first.
-    fn push_followed(
+    fn push_kept_keys(
         &self,
         tree: &PublicTree,
         places: &[Place],
@@ -43,8 +43,8 @@ impl PrivatePath {
         ensures { OnOk result (reverse above.new.items ≡ follow_above (map (step_of (term tree.now)) places.now) (all_keys self.now) ++ reverse above.old.items) }
     {
         if let Some((place, below)) = places.split_first() {
-            self.push_followed(tree, below, above)?;
-            above.push(self.key_if(place.is_present(tree), below.len() as u32 + 1))?;
+            self.push_kept_keys(tree, below, above)?;
+            above.push(self.key_at_if(place.has_parent(tree), below.len() as u32 + 1))?;
         }
         Ok(())
     }
@@ -62,7 +62,7 @@ impl PrivatePath {
         let alloc = *self.above.allocator();
         let places = parents_over(alloc, tree, self.leaf)?;
         let mut above = Vec::with_capacity(alloc, places.len())?;
-        self.push_followed(tree, &places, &mut above)?;
+        self.push_kept_keys(tree, &places, &mut above)?;
         let own = key_after(own_key, &self.own);
         self.above = above;
         self.own = own;

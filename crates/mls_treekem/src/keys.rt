@@ -2,7 +2,7 @@
 
 ghost use Rattle.std.specs.Prelude.{◌≡◌, ◌+◌, ◌^◌, ◌≤◌, ◌++◌, None, slice_index_or, IfOk, OnOk};
 ghost use Rattle.mls_treekem_model.specs.Follow.{key_above};
-ghost use Rattle.mls_treekem_model.specs.Height.{pairs_from, listed, ArePairs};
+ghost use Rattle.mls_treekem_model.specs.Height.{pairs_from, as_pairs, ArePairs};
 ghost use Rattle.mls_treekem_model.specs.Keys.{all_keys};
 ghost use Rattle.mls_treekem_model.specs.Pairs.{pair_of};
 
@@ -31,7 +31,7 @@ fn push_pair(
     key: Option<Secret>,
     pairs: &mut Vec<(u64, Secret)>,
 ) -> Result<(), OutOfMemory>
-    ensures { OnOk result (listed pairs.new.items ≡ listed pairs.old.items ++ pair_of node key) }
+    ensures { OnOk result (as_pairs pairs.new.items ≡ as_pairs pairs.old.items ++ pair_of node key) }
 {
     if let Some(secret) = key {
         pairs.push((node, secret))?;
@@ -59,7 +59,7 @@ impl PrivatePath {
     ) -> Result<(), OutOfMemory>
         requires low { height ≤ 32 }
         requires fits { first + 2 ^ height ≤ 2 ^ 32 }
-        ensures { OnOk result (listed pairs.new.items ≡ listed pairs.old.items ++ pairs_from height first self.now.leaf (all_keys self.now)) }
+        ensures { OnOk result (as_pairs pairs.new.items ≡ as_pairs pairs.old.items ++ pairs_from height first self.now.leaf (all_keys self.now)) }
     {
         let leaf = self.leaf() as u64;
         if height == 0 {

@@ -20,6 +20,6 @@ mod take;
 pub use error::TreeKemError;
 pub use laws::treekem_names_by_number;
 pub use private_path::PrivatePath;
-pub use seal::{seal_path, seals_in};
+pub use seal::{seal_path, seal_count_of};
 pub use secrets::PathSecrets;
 pub use seeds::{init_seed, leaf_seed, path_seed, seal_seed, sign_seed};

@@ -2,7 +2,7 @@
 
 ghost use Rattle.std.specs.Prelude.{◌≡◌, ◌++◌, None, length, map, replicate, IfOk, OnOk, OnErr};
 ghost use Rattle.mls_treekem.specs.Secrets.{AreOfChain};
-ghost use Rattle.mls_treekem.specs.Raised.{level_of, raised, raised_all, IsRaised};
+ghost use Rattle.mls_treekem.specs.KeysAtHeights.{level_of, with_key_at, with_keys_at, HasKeysAtHeights};
 ghost use Rattle.mls_treekem_model.specs.Make.{HasMade};
 
 use crate::{PathSecrets, PrivatePath};
@@ -30,7 +30,7 @@ pub(crate) fn push_none(count: usize, above: &mut Vec<Option<Secret>>) -> Result
 
 /// Puts a key so far above the leaf, where none is as high yet.
 fn put_key(height: u32, key: Secret, above: &mut Vec<Option<Secret>>) -> Result<(), OutOfMemory>
-    ensures { OnOk result (above.new.items ≡ raised height key above.old.items) }
+    ensures { OnOk result (above.new.items ≡ with_key_at height key above.old.items) }
 {
     let height = height as usize;
     let count = above.as_slice().len();
@@ -48,7 +48,7 @@ fn put_keys(
     pairs: &[KeyPair],
     above: &mut Vec<Option<Secret>>,
 ) -> Result<(), OutOfMemory>
-    ensures { OnOk result (above.new.items ≡ raised_all nodes.now (map (λ p. p.sk) pairs.now) above.old.items) }
+    ensures { OnOk result (above.new.items ≡ with_keys_at nodes.now (map (λ p. p.sk) pairs.now) above.old.items) }
 {
     let Some((node, other_nodes)) = nodes.split_first() else {
         return Ok(());
@@ -70,7 +70,7 @@ impl PrivatePath {
         filtered: &[u32],
     ) -> Result<PathSecrets, OutOfMemory>
         ensures made { IfOk result (AreOfChain S.crypto start.now (length filtered.now)) }
-        ensures pins { OnOk result (IsRaised S.crypto start.now filtered.now self.old self.new) }
+        ensures pins { OnOk result (HasKeysAtHeights S.crypto start.now filtered.now self.old self.new) }
         ensures keys { OnOk result (HasMade S.crypto start.now filtered.now self.old self.new) }
         ensures err { OnErr result (self.new ≡ self.old) }
     {

@@ -7,15 +7,15 @@ ghost use Rattle.mls_tree_model.specs.Resolution.{is_empty};
 ghost use Rattle.mls_tree.specs.Tree.{term};
 ghost use Rattle.mls_treekem_model.specs.Make.{climb_to};
 ghost use Rattle.mls_treekem.specs.Faults.{number_of};
-ghost use Rattle.mls_treekem_model.specs.Open.{of_32, left_by, past_parent, opened_path};
+ghost use Rattle.mls_treekem_model.specs.Open.{secret_of, nodes_below, climb_past_parent, opened_path};
 ghost use Rattle.mls_treekem_model.specs.Open.{secret_in};
 ghost use Rattle.mls_treekem_model.specs.Height.{keys_on};
-ghost use Rattle.mls_treekem.specs.Opening.{IsKeyOf, AreKeysUpTo, OpensFirst, OpensHere, OpensAlong};
+ghost use Rattle.mls_treekem.specs.Opening.{IsKeyOf, AreKeysUpTo, OpensFirst, OpensAtAncestor, OpensAlong};
 ghost use Rattle.mls_treekem.specs.Place.{step_of, IsPlaced, ArePlaced};
 
 use crate::climb::Climb;
 use crate::places::{Place, parents_over, side_of};
-use crate::seal::is_one_of;
+use crate::seal::is_leaf_among;
 use crate::{PrivatePath, TreeKemError};
 use mls_types::{HpkeCiphertext, UpdatePathNode};
 use mls_kdf::Secret;
@@ -25,7 +25,7 @@ use std::alloc::Global;
 
 /// The path secret that these bytes are: `SecretLength` (33) unless there are 32.
 fn secret_of(bytes: &[u8]) -> Result<Secret, TreeKemError>
-    ensures { AnswersOutright (λ s. s) number_of (of_32 bytes.now) result }
+    ensures { AnswersOutright (λ s. s) number_of (secret_of bytes.now) result }
 {
     match <[u8; 32]>::try_from(bytes) {
         Ok(secret) => Ok(secret),
@@ -66,7 +66,7 @@ pub(crate) fn is_filtered(tree: &PublicTree, place: &Place) -> bool
 
 /// The nodes of the path below a parent.
 fn nodes_below(is_filtered: bool, path: &[UpdatePathNode]) -> &[UpdatePathNode]
-    ensures { reverse result.now ≡ left_by is_filtered (reverse path.now) }
+    ensures { reverse result.now ≡ nodes_below is_filtered (reverse path.now) }
 {
     if !is_filtered {
         return path;
@@ -78,18 +78,18 @@ fn nodes_below(is_filtered: bool, path: &[UpdatePathNode]) -> &[UpdatePathNode]
 }
 
 /// Goes past a parent, for which the highest node of the path is made where it is filtered (RFC 9420, 7.5).
-fn past_parent<S: Suite>(
+fn climb_past_parent<S: Suite>(
     is_filtered: bool,
     path: &[UpdatePathNode],
     climb: Climb,
 ) -> Result<Climb, TreeKemError>
-    ensures { Answers (λ m. m) number_of (past_parent S.crypto is_filtered (reverse path.now) climb) result }
+    ensures { Answers (λ m. m) number_of (climb_past_parent S.crypto is_filtered (reverse path.now) climb) result }
 {
     if !is_filtered {
-        return Ok(climb.past_blank()?);
+        return Ok(climb.climb_past_blank()?);
     }
     match path.split_last() {
-        Some((node, _)) => climb.past_key::<S>(node.encryption_key.as_slice()),
+        Some((node, _)) => climb.climb_past_key::<S>(node.encryption_key.as_slice()),
         None => Err(TreeKemError::PathKeyMismatch),
     }
 }
@@ -137,7 +137,7 @@ impl PrivatePath {
         let alloc = *self.above.allocator();
         let mut sealed = ciphertexts;
         for node in nodes {
-            if is_one_of(added, *node) {
+            if is_leaf_among(added, *node) {
                 continue;
             }
             let Some((ciphertext, others)) = sealed.split_first() else {
@@ -163,7 +163,7 @@ impl PrivatePath {
     }
 
     /// What is opened at the parent where the ways part, with the keys below.
-    fn open_here<S: Suite>(
+    fn open_at_ancestor<S: Suite>(
         &self,
         tree: &PublicTree,
         place: &Place,
@@ -175,7 +175,7 @@ impl PrivatePath {
         requires context { length context.now < 2 ^ 30 }
         requires low { height ≤ 31 }
         requires placed { IsPlaced (term tree.now) height place.now }
-        ensures { OpensHere S.crypto context.now added.now (term tree.now) height place.now self.now path.now result }
+        ensures { OpensAtAncestor S.crypto context.now added.now (term tree.now) height place.now self.now path.now result }
     {
         let Some((node, _)) = path.split_last() else {
             return Err(TreeKemError::OpenFailed);
@@ -214,12 +214,12 @@ impl PrivatePath {
         let is_filtered = is_filtered(tree, place);
         if place.is_beside(self.leaf()) {
             let height = below.len() as u32;
-            let climb = self.open_here::<S>(tree, place, height, added, path, context)?;
-            return past_parent::<S>(is_filtered, path, climb);
+            let climb = self.open_at_ancestor::<S>(tree, place, height, added, path, context)?;
+            return climb_past_parent::<S>(is_filtered, path, climb);
         }
         let rest = nodes_below(is_filtered, path);
         let climb = self.climb_along::<S>(tree, below, added, rest, context)?;
-        past_parent::<S>(is_filtered, path, climb)
+        climb_past_parent::<S>(is_filtered, path, climb)
     }
 
     /// Takes the commit secret and the new keys of a path that leaf `committer` made, whose nodes come the lowest first

@@ -99,7 +99,7 @@ impl Place {
     }
 
     /// Whether something stands there.
-    pub(crate) fn is_present(&self, tree: &PublicTree) -> bool
+    pub(crate) fn has_parent(&self, tree: &PublicTree) -> bool
         ensures { result ≡ is_some (step_of (term tree.now) self.now).parent }
     {
         self.parent(tree).is_some()

@@ -2,19 +2,19 @@
 
 ghost use Rattle.std.specs.Prelude.{◌≡◌, ℕ, ◌<◌, ◌≤◌, ◌^◌, ◌%◌, List, length, map, reverse, IfOk, IfErr};
 ghost use Rattle.std.specs.Option.{option_copied};
-ghost use Rattle.mls_wire.specs.Checks.{given, Answers};
+ghost use Rattle.mls_wire.specs.Checks.{require_some, Answers};
 ghost use Rattle.mls_tree_model.specs.Sets.{has, leaf_numbers, less};
 ghost use Rattle.mls_tree_model.specs.Places.{key_at};
 ghost use Rattle.mls_tree_model.specs.Way.{way, path_length};
 ghost use Rattle.mls_tree.specs.Tree.{term};
-ghost use Rattle.mls_treekem.specs.Beside.{cell_key};
+ghost use Rattle.mls_treekem.specs.NodeKeys.{encryption_key_of};
 ghost use Rattle.mls_treekem.specs.Faults.{number_of, IsMemoryOrKey};
 ghost use Rattle.mls_treekem.specs.Secrets.{AreOfChain, public_keys};
 ghost use Rattle.mls_treekem.specs.Sealing.{sealed_beside, SealsNode, sealed_along};
 ghost use Rattle.mls_treekem_model.specs.Make.{filtered_count};
 ghost use Rattle.mls_treekem.specs.Place.{subtree_at, step_of, IsPlaced, ArePlaced};
-ghost use Rattle.mls_treekem_model.specs.Seal.{seal_to, seal_count, sealed_path, sealed_with};
-ghost use Rattle.mls_treekem_model.specs.Seeds.{seal_seed, seals_in};
+ghost use Rattle.mls_treekem_model.specs.Seal.{seal_to, seal_count, sealed_path, sealed_path_with};
+ghost use Rattle.mls_treekem_model.specs.Seeds.{seal_seed, seal_count_of};
 
 use crate::places::{Place, parents_over};
 use crate::{PathSecrets, TreeKemError, seal_seed};
@@ -34,8 +34,8 @@ fn low_bits(n: usize) -> u32
 
 /// How many seals nodes of a path have, as a uint32 that wraps: the number of the first seal of the commit's Welcome.
 /// Takes no memory.
-pub fn seals_in(nodes: &[UpdatePathNode]) -> u32
-    ensures { result ≡ seals_in nodes.now % 2 ^ 32 }
+pub fn seal_count_of(nodes: &[UpdatePathNode]) -> u32
+    ensures { result ≡ seal_count_of nodes.now % 2 ^ 32 }
 {
     let mut count: u32 = 0;
     for node in nodes {
@@ -45,7 +45,7 @@ pub fn seals_in(nodes: &[UpdatePathNode]) -> u32
 }
 
 /// Whether a node is one of these leaves.
-pub(crate) fn is_one_of(leaves: &[u32], node: u64) -> bool
+pub(crate) fn is_leaf_among(leaves: &[u32], node: u64) -> bool
     ensures { result ≡ has (leaf_numbers leaves.now) node }
 {
     for leaf in leaves {
@@ -57,8 +57,8 @@ pub(crate) fn is_one_of(leaves: &[u32], node: u64) -> bool
 }
 
 /// The encryption key of what stands at a node.
-fn key_of(node: Option<&Node>) -> Option<&[u8]>
-    ensures { option_copied result ≡ cell_key (option_copied node.entry) }
+fn encryption_key_of(node: Option<&Node>) -> Option<&[u8]>
+    ensures { option_copied result ≡ encryption_key_of (option_copied node.entry) }
 {
     match node {
         Some(Node::Leaf(leaf)) => Some(leaf.encryption_key.as_slice()),
@@ -79,7 +79,7 @@ impl Place {
         if node < start || node >= end || node >= 2 * u64::from(tree.leaf_count()) {
             return None;
         }
-        key_of(tree.node(node as u32))
+        encryption_key_of(tree.node(node as u32))
     }
 }
 
@@ -92,7 +92,7 @@ fn seal_to<S: Suite>(
     rnd: &Secret,
 ) -> Result<HpkeCiphertext, TreeKemError>
     requires { length context.now < 2 ^ 30 }
-    ensures { Answers (λ x. x) number_of (given 36 (seal_to S.crypto context.now secret.now (option_copied key.entry) rnd.now)) result }
+    ensures { Answers (λ x. x) number_of (require_some 36 (seal_to S.crypto context.now secret.now (option_copied key.entry) rnd.now)) result }
 {
     let Some(pk) = key else {
         return Err(TreeKemError::BadKey);
@@ -134,7 +134,7 @@ impl Sealer<'_> {
         let mut sealed = Vec::new(alloc);
         let mut number = first;
         for node in reached {
-            if is_one_of(self.added, *node) {
+            if is_leaf_among(self.added, *node) {
                 continue;
             }
             let key = place.key_beside(self.tree, *node);
@@ -185,7 +185,7 @@ impl Sealer<'_> {
         requires placed { ArePlaced (term self.now.tree.now) places.now }
         ensures answer { Answers (λ v. v.items) number_of (sealed_along S.crypto self.now.context.now self.now.added.now self.now.seed.now self.now.path.now.secrets.items (public_keys self.now.path.now) (map (step_of (term self.now.tree.now)) places.now)) result }
         ensures count { IfOk result (λ v. length v.items ≡ filtered_count (map (step_of (term self.now.tree.now)) places.now)) }
-        ensures seals { IfOk result (λ v. seals_in v.items ≡ seal_count self.now.added.now (map (step_of (term self.now.tree.now)) places.now)) }
+        ensures seals { IfOk result (λ v. seal_count_of v.items ≡ seal_count self.now.added.now (map (step_of (term self.now.tree.now)) places.now)) }
         ensures refused { IfErr result IsMemoryOrKey }
     {
         let Some((place, below)) = places.split_first() else {
@@ -198,7 +198,7 @@ impl Sealer<'_> {
             return Ok(nodes);
         }
         let count = nodes.as_slice().len();
-        let first = seals_in(&nodes);
+        let first = seal_count_of(&nodes);
         let node = self.seal_node::<S>(alloc, place, reached, count, first)?;
         nodes.push(node)?;
         Ok(nodes)
@@ -221,9 +221,9 @@ pub fn seal_path<S: Suite>(
     seed: &Secret,
 ) -> Result<Vec<UpdatePathNode>, TreeKemError>
     requires { length context.now < 2 ^ 30 }
-    ensures answer { Answers (λ v. v.items) number_of (sealed_with S.crypto context.now added.now (seal_seed seed.now) path.now.secrets.items (public_keys path.now) (term tree.now) committer) result }
+    ensures answer { Answers (λ v. v.items) number_of (sealed_path_with S.crypto context.now added.now (seal_seed seed.now) path.now.secrets.items (public_keys path.now) (term tree.now) committer) result }
     ensures chain { (start : List ℕ) → AreOfChain S.crypto start (path_length 0 (term tree.now) committer) path.now → Answers (λ v. v.items) number_of (sealed_path S.crypto context.now added.now (seal_seed seed.now) (term tree.now) committer start) result }
-    ensures seals { IfOk result (λ v. seals_in v.items ≡ seal_count added.now (way 0 (term tree.now) committer)) }
+    ensures seals { IfOk result (λ v. seal_count_of v.items ≡ seal_count added.now (way 0 (term tree.now) committer)) }
     ensures refused { IfErr result IsMemoryOrKey }
 {
     let places = parents_over(alloc, tree, committer)?;

@@ -8,7 +8,7 @@ ghost use Rattle.mls_tree.specs.Tree.{term};
 ghost use Rattle.mls_treekem.specs.Climbing.{with_own};
 ghost use Rattle.mls_treekem_model.specs.Make.{climb_to};
 ghost use Rattle.mls_treekem.specs.Faults.{number_of};
-ghost use Rattle.mls_treekem_model.specs.Join.{past_present, is_present, climb_take, is_due, is_complete, take_answer};
+ghost use Rattle.mls_treekem_model.specs.Join.{climb_past_present, require_present, climb_take, is_due, is_complete, take_answer};
 ghost use Rattle.mls_treekem_model.specs.Join.{has_due_on, has_due};
 ghost use Rattle.mls_treekem.specs.Place.{places_from, step_of, ArePlaced};
 ghost use Rattle.mls_treekem.specs.declared.error.TreeKemError.TheVariants.{KeyMissing};
@@ -31,16 +31,16 @@ fn lists(parent: &ParentNode, leaf: u32) -> bool
 }
 
 /// The climb at the parent where the ways part, which is so far above the leaves: 34 where it is blank.
-fn start(
+fn start_climb(
     alloc: Global,
     tree: &PublicTree,
     place: &Place,
     height: usize,
     secret: &Secret,
 ) -> Result<Climb, TreeKemError>
-    ensures { Answers (λ m. m) number_of (is_present (step_of (term tree.now) place.now).parent (record { secret = secret.now; keys = replicate height None })) result }
+    ensures { Answers (λ m. m) number_of (require_present (step_of (term tree.now) place.now).parent (record { secret = secret.now; keys = replicate height None })) result }
 {
-    if !place.is_present(tree) {
+    if !place.has_parent(tree) {
         return Err(TreeKemError::PathKeyMismatch);
     }
     let mut above = Vec::new(alloc);
@@ -52,21 +52,21 @@ fn start(
 }
 
 /// The climb past a parent: a blank one takes no step; 34 where another one lists the joiner or hasn't the derived key.
-fn past_parent<S: Suite>(
+fn climb_past_parent<S: Suite>(
     tree: &PublicTree,
     place: &Place,
     joiner: u32,
     climb: Climb,
 ) -> Result<Climb, TreeKemError>
-    ensures { Answers (λ m. m) number_of (past_present S.crypto joiner (step_of (term tree.now) place.now).parent climb) result }
+    ensures { Answers (λ m. m) number_of (climb_past_present S.crypto joiner (step_of (term tree.now) place.now).parent climb) result }
 {
     let Some(parent) = place.parent(tree) else {
-        return Ok(climb.past_blank()?);
+        return Ok(climb.climb_past_blank()?);
     };
     if lists(parent, joiner) {
         return Err(TreeKemError::PathKeyMismatch);
     }
-    climb.past_key::<S>(parent.encryption_key())
+    climb.climb_past_key::<S>(parent.encryption_key())
 }
 
 /// The joiner's climb over the parents above the signer, from the one where the ways part: 34 where there is none.
@@ -84,11 +84,11 @@ fn climb_along<S: Suite>(
         return Err(TreeKemError::PathKeyMismatch);
     };
     if place.is_beside(joiner) {
-        let climb = start(alloc, tree, place, lower.len(), secret)?;
-        return past_parent::<S>(tree, place, joiner, climb);
+        let climb = start_climb(alloc, tree, place, lower.len(), secret)?;
+        return climb_past_parent::<S>(tree, place, joiner, climb);
     }
     let climb = climb_along::<S>(alloc, tree, lower, joiner, secret)?;
-    past_parent::<S>(tree, place, joiner, climb)
+    climb_past_parent::<S>(tree, place, joiner, climb)
 }
 
 /// Whether a parent is blank, lists the joiner, or has a key.
@@ -116,7 +116,7 @@ fn is_complete(tree: &PublicTree, places: &[Place], joiner: u32, above: &[Option
 
 impl PrivatePath {
     /// What the member takes.
-    fn taken<S: Suite>(
+    fn climb_from_secret<S: Suite>(
         &self,
         tree: &PublicTree,
         signer: u32,
@@ -156,7 +156,7 @@ impl PrivatePath {
         ensures own { self.new.own ≡ self.old.own }
         ensures err { OnErr result (self.new ≡ self.old) }
     {
-        let Climb { secret, above } = self.taken::<S>(tree, signer, secret)?;
+        let Climb { secret, above } = self.climb_from_secret::<S>(tree, signer, secret)?;
         self.above = above;
         Ok(secret)
     }

@@ -11,7 +11,7 @@ use Rattle.mls_tree_model.proofs.PlaceLaws.{leaf_at-put, leaf_at-merge}
 use Rattle.mls_treekem_model.specs.Keys.{Exact, leaf_only}
 use Rattle.mls_treekem_model.specs.Make.{Climb, climb_make, path_keys}
 use Rattle.mls_treekem_model.specs.Seal.{IsPathOf}
-use Rattle.mls_treekem_model.specs.Open.{climb_open, shared}
+use Rattle.mls_treekem_model.specs.Open.{climb_open, shared_keys}
 use Rattle.mls_treekem_model.specs.Join.{take_keys, secret_for}
 use Rattle.mls_treekem_model.specs.Laws.{CommitAgree, JoinAgree}
 use Rattle.mls_treekem_model.proofs.MakeLaws.{make_exact}
@@ -24,7 +24,7 @@ pub commit_agree : CommitAgree
 commit_agree c l context added rnd b t i j h x start sk ks ns long two good exact old own made =
     let path : IsPathOf c context added (way b t i) start ns = made_path c context added rnd (way b t i) start ns made in
     let keys : map (λ n. n.encryption_key) ns ≡ path_keys c (way b t i) start = path_has_keys c context added start (way b t i) ns path in
-    let got : Climb = record { secret = (climb_make c (way b t i) start sk).secret; keys = shared (way b t i) j (climb_make c (way b t i) start sk).keys ks } in
+    let got : Climb = record { secret = (climb_make c (way b t i) start sk).secret; keys = shared_keys (way b t i) j (climb_make c (way b t i) start sk).keys ks } in
     let opens : climb_open c context added (way b t i) j ks ns ≡ Ok got = climb_agree c l context added b t i j start sk ks ns long two.first two.second two.apart good exact old path in
     record {
       taken = got;
@@ -46,7 +46,7 @@ join_agree c t i j h x y start sk own two leaf is_own lists =
     let keys : List (List ℕ) = path_keys c (way 0 t i) start in
     let made : Term = merge 0 t i keys h x in
     let size : width made ≡ width t = width-merge 0 t i keys h x in
-    let got : Climb = record { secret = (climb_make c (way 0 t i) start sk).secret; keys = shared (way 0 t i) j (climb_make c (way 0 t i) start sk).keys (leaf_only (way 0 t j) own) } in
+    let got : Climb = record { secret = (climb_make c (way 0 t i) start sk).secret; keys = shared_keys (way 0 t i) j (climb_make c (way 0 t i) start sk).keys (leaf_only (way 0 t j) own) } in
     let takes : take_keys c made i j own (secret_for (way 0 t i) j start) ≡ Ok got = take_agree c t i j h x y start sk own two.first two.second two.apart leaf is_own lists in
     let first : IsIn 0 t i = two.first in
     let second : IsIn 0 t j = two.second in

@@ -9,14 +9,14 @@ use Rattle.mls_tree_model.specs.Sets.{has, leaf_numbers, less}
 use Rattle.mls_tree_model.specs.Resolution.{resolution}
 use Rattle.mls_tree_model.specs.Lists.{may_list}
 use Rattle.mls_tree_model.specs.Places.{leaf_own_key, parent_own_key, own_key, key_at}
-use Rattle.mls_tree_model.specs.Held.{holds}
+use Rattle.mls_tree_model.specs.HeldKeys.{holds_key_of}
 use Rattle.mls_tree_model.specs.Way.{Step, way}
 use Rattle.mls_tree_model.proofs.Equations.{way_left, way_right, at_node_leaf, at_node_here, at_node_left, at_node_right}
 use Rattle.mls_tree_model.specs.Laws.{IsIn}
 use Rattle.mls_tree_model.proofs.ShapeLaws.{size-width}
 use Rattle.mls_tree_model.proofs.EntryLaws.{one_held_of_rest}
 use Rattle.mls_suite.specs.Crypto.{Crypto}
-use Rattle.mls_treekem_model.specs.Keys.{Keys, HoldsKey, Fits, IsOwnKey, Along, AlongWay, key_for, key_in}
+use Rattle.mls_treekem_model.specs.Keys.{Keys, HoldsKey, Fits, IsOwnKey, AreKeysAlong, AreKeysOnWay, key_for, key_in}
 use Rattle.mls_treekem_model.specs.Lists.{below_here}
 use Rattle.mls_treekem_model.specs.Open.{held_count}
 use Rattle.mls_treekem_model.proofs.WayLaws.{along_none, along_left, along_right}
@@ -81,8 +81,8 @@ own_none : (c : Crypto) (v : Option LeafNode) → IsOwnKey c v [] → ⊥
 own_none c (Some x) h = h
 own_none c None h = h
 
-at_leaf : (c : Crypto) (F : Option Parent → Option (List ℕ) → Type 0) (b : ℕ) (v : Option LeafNode) (j : ℕ) (ks : Keys) → AlongWay c F b (Leaf v) j ks → IsOwnKey c v ks
-unfolding way leaf_at Along
+at_leaf : (c : Crypto) (F : Option Parent → Option (List ℕ) → Type 0) (b : ℕ) (v : Option LeafNode) (j : ℕ) (ks : Keys) → AreKeysOnWay c F b (Leaf v) j ks → IsOwnKey c v ks
+unfolding way leaf_at AreKeysAlong
 at_leaf c F b v j ks h = h
 
 -- ---- where a key is had
@@ -103,7 +103,7 @@ some_if true o h = h
 some_if false o h = refl
 
 pub key_where_held : KeyWhereHeld
-unfolding holds width
+unfolding holds_key_of width
 key_where_held c b (Leaf v) j [] d hj h = absurd (own_none c v (at_leaf c (Fits c j) b v j [] h))
 key_where_held c b (Leaf v) j (o ∷ ks) d hj h =
     let same : j ≡ b = omega arith in
@@ -139,7 +139,7 @@ held_counted f p h (d ∷ ds) =
 
 pub one_entry : OneEntry
 one_entry c added b t j ks good hj h old =
-    held_counted (key_in b t j ks) (holds b t j) (λ d. key_where_held c b t j ks d hj h) (less (leaf_numbers added) (resolution b t))
+    held_counted (key_in b t j ks) (holds_key_of b t j) (λ d. key_where_held c b t j ks d hj h) (less (leaf_numbers added) (resolution b t))
     ∙ one_held_of_rest below_here below_bound b t j added good.below good.rising hj.low hj.high (along_taken c (Fits c j) (way b t j) (leaf_at b t j) ks h) old
 
 -- ---- the key of a node that is held

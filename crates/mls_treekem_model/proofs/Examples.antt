@@ -7,7 +7,7 @@ use Rattle.mls_tree_model.specs.Way.{way, filtered_way, filtered_path}
 use Rattle.mls_treekem_model.specs.Chain.{chain}
 use Rattle.mls_treekem_model.specs.Make.{filtered_count, made_keys}
 use Rattle.mls_treekem_model.specs.Seal.{targets}
-use Rattle.mls_treekem_model.specs.Open.{shared}
+use Rattle.mls_treekem_model.specs.Open.{shared_keys}
 use Rattle.mls_treekem_model.specs.Pairs.{pairs}
 use Rattle.mls_treekem_model.specs.Examples.{SecretOfOne, SecretOfFour, PathOfFour, TargetsOfFour, KeysOfMaker, KeysBeside, KeysAcross, TargetsBesideAdded}
 
@@ -32,11 +32,11 @@ unfolding made_keys pairs chain filtered_count way resolution width size
 keys_of_maker c x y z w start sk = refl
 
 pub keys_beside : KeysBeside
-unfolding made_keys shared pairs chain filtered_count way resolution width size
+unfolding made_keys shared_keys pairs chain filtered_count way resolution width size
 keys_beside c x y z w start sk own = refl
 
 pub keys_across : KeysAcross
-unfolding made_keys shared pairs chain filtered_count way resolution width size
+unfolding made_keys shared_keys pairs chain filtered_count way resolution width size
 keys_across c x y z w start sk own = refl
 
 pub targets_beside_added : TargetsBesideAdded

@@ -7,14 +7,14 @@ use Rattle.mls_leaf.specs.declared.leaf.LeafNode.{LeafNode}
 use Rattle.mls_tree_model.specs.Sets.{has}
 use Rattle.mls_tree_model.specs.Term.{Term, Leaf, Branch, width, height, leaf_at, has_leaf, blanks}
 use Rattle.mls_tree_model.specs.Way.{Step, way}
-use Rattle.mls_tree_model.specs.Edits.{put, enter, listing, grow, trim}
+use Rattle.mls_tree_model.specs.Edits.{put, enter, list_leaf, grow, trim}
 use Rattle.mls_tree_model.proofs.Equations.{put_left, put_right, enter_left, enter_right, way_left, way_right}
 use Rattle.mls_tree_model.specs.Laws.{IsIn}
 use Rattle.mls_tree_model.proofs.SetLaws.{has-with}
 use Rattle.mls_tree_model.proofs.ShapeLaws.{width-put, width-enter}
 use Rattle.mls_tree_model.proofs.MemberLaws.{leaf_taken}
 use Rattle.mls_suite.specs.Crypto.{Crypto}
-use Rattle.mls_treekem_model.specs.Keys.{Keys, HoldsKey, Fits, IsOwnKey, Along, Exact, leaf_only}
+use Rattle.mls_treekem_model.specs.Keys.{Keys, HoldsKey, Fits, IsOwnKey, AreKeysAlong, Exact, leaf_only}
 use Rattle.mls_treekem_model.specs.Follow.{TameAt, TameAlong, Tame, follow, follow_trim}
 use Rattle.mls_treekem_model.proofs.WayLaws.{along_none, along_left, along_right, left_along, right_along, tame_left, tame_right}
 use Rattle.mls_treekem_model.specs.Laws.{FollowGrow, FollowOwn, FollowTame, TameRefl, TameTrans}
@@ -45,7 +45,7 @@ tame_put j b (Branch p l r) i x ne hi hj = elim (cases_lt i (b + width l)) [
   ])
 ]
 
-tame_listing : (j i : ℕ) (p : Option Parent) → (j ≡ i → ⊥) → TameAt j p (listing i p)
+tame_listing : (j i : ℕ) (p : Option Parent) → (j ≡ i → ⊥) → TameAt j p (list_leaf i p)
 tame_listing j i None ne = tt
 tame_listing j i (Some p) ne =
     let e : (i == j) ≡ false = ne_eqb i j (λ h. ne (sym h)) in
@@ -58,12 +58,12 @@ tame_enter j b (Branch p l r) i x ne hi hj =
     let here = tame_listing j i p ne in
     elim (cases_lt i (b + width l)) [
       | inl li ↦ rw (enter_left b p l r i x li) (elim (cases_lt j (b + width l)) [
-        | inl lj ↦ tame_left j b p (listing i p) l (enter b l i x) r r (width-enter b l i x) here lj (tame_enter j b l i x ne (record { low = hi.low; high = li }) (record { low = hj.low; high = lj }))
-        | inr rj ↦ tame_right j b p (listing i p) l (enter b l i x) r r (width-enter b l i x) here rj (tame_refl j (b + width l) r)
+        | inl lj ↦ tame_left j b p (list_leaf i p) l (enter b l i x) r r (width-enter b l i x) here lj (tame_enter j b l i x ne (record { low = hi.low; high = li }) (record { low = hj.low; high = lj }))
+        | inr rj ↦ tame_right j b p (list_leaf i p) l (enter b l i x) r r (width-enter b l i x) here rj (tame_refl j (b + width l) r)
       ])
       | inr ri ↦ rw (enter_right b p l r i x ri) (elim (cases_lt j (b + width l)) [
-        | inl lj ↦ tame_left j b p (listing i p) l l r (enter (b + width l) r i x) refl here lj (tame_refl j b l)
-        | inr rj ↦ tame_right j b p (listing i p) l l r (enter (b + width l) r i x) refl here rj (tame_enter j (b + width l) r i x ne (record { low = ri; high = omega arith }) (record { low = rj; high = omega arith }))
+        | inl lj ↦ tame_left j b p (list_leaf i p) l l r (enter (b + width l) r i x) refl here lj (tame_refl j b l)
+        | inr rj ↦ tame_right j b p (list_leaf i p) l l r (enter (b + width l) r i x) refl here rj (tame_enter j (b + width l) r i x ne (record { low = ri; high = omega arith }) (record { low = rj; high = omega arith }))
       ])
     ]
 
@@ -95,8 +95,8 @@ fits_follow c j p None o t h = tt
 fits_follow c j None (Some q) o t h = absurd t
 fits_follow c j (Some p) (Some q) o t h = subst (λ (d : Bool). HoldsKey c d q o) t.1 (holds_same c (has p.unmerged_leaves j) p q o t.0 h)
 
-along_follow : (c : Crypto) (j : ℕ) (ss ts : List Step) (x : Option LeafNode) (ks : Keys) → TameAlong j ss ts → Along c (Fits c j) ss x ks → Along c (Fits c j) ts x (follow ts ks)
-unfolding TameAlong Along follow
+along_follow : (c : Crypto) (j : ℕ) (ss ts : List Step) (x : Option LeafNode) (ks : Keys) → TameAlong j ss ts → AreKeysAlong c (Fits c j) ss x ks → AreKeysAlong c (Fits c j) ts x (follow ts ks)
+unfolding TameAlong AreKeysAlong follow
 along_follow c j [] [] x ks t h = h
 along_follow c j [] (s ∷ ts) x ks t h = absurd t
 along_follow c j (s ∷ ss) [] x ks t h = absurd t
@@ -105,15 +105,15 @@ along_follow c j (s ∷ ss) (s' ∷ ts) x (o ∷ ks) t h = (fits_follow c j s.pa
 
 pub follow_tame : FollowTame
 follow_tame c j b t t' ks h tame =
-    subst (λ (x : Option LeafNode). Along c (Fits c j) (way b t' j) x (follow (way b t' j) ks)) tame.leaf (along_follow c j (way b t j) (way b t' j) (leaf_at b t j) ks tame.along h)
+    subst (λ (x : Option LeafNode). AreKeysAlong c (Fits c j) (way b t' j) x (follow (way b t' j) ks)) tame.leaf (along_follow c j (way b t j) (way b t' j) (leaf_at b t j) ks tame.along h)
 
 own_taken : (c : Crypto) (x : Option LeafNode) (ks : Keys) → IsOwnKey c x ks → IsSome x
 own_taken c (Some x) ks h = refl
 own_taken c None ks h = absurd h
 
 -- the leaf at the end is taken
-pub along_taken : (c : Crypto) (F : Option Parent → Option (List ℕ) → Type 0) (ss : List Step) (x : Option LeafNode) (ks : Keys) → Along c F ss x ks → IsSome x
-unfolding Along
+pub along_taken : (c : Crypto) (F : Option Parent → Option (List ℕ) → Type 0) (ss : List Step) (x : Option LeafNode) (ks : Keys) → AreKeysAlong c F ss x ks → IsSome x
+unfolding AreKeysAlong
 along_taken c F [] x ks h = own_taken c x ks h
 along_taken c F (s ∷ ss) x [] h = absurd h
 along_taken c F (s ∷ ss) x (o ∷ ks) h = along_taken c F ss x ks h.1
@@ -140,7 +140,7 @@ follow_trim_by c b (Branch p l r) j (o ∷ ks) inside h = by_right (has_leaf r) 
     ]
 
 own_at_leaf : (c : Crypto) (b : ℕ) (v : Option LeafNode) (i : ℕ) (x : LeafNode) (k : List ℕ) → c.public k ≡ x.encryption_key → Exact c b (put b (Leaf v) i (Some x)) i (leaf_only (way b (Leaf v) i) k)
-unfolding put way leaf_at leaf_only Along
+unfolding put way leaf_at leaf_only AreKeysAlong
 own_at_leaf c b v i x k h = h
 
 own_more : (s : Step) (ss : List Step) (k : List ℕ) → leaf_only (s ∷ ss) k ≡ None ∷ leaf_only ss k

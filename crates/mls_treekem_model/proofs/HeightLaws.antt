@@ -3,7 +3,7 @@ use Rattle.std.proofs.Common.{◌≡◌, ℕ, suc, ◌≤◌, if◌then◌else�
 use Rattle.mls_tree_model.specs.Term.{Term, leaf_at, Leaf, Branch, width, is_perfect}
 use Rattle.mls_tree_model.specs.Way.{Step, way}
 use Rattle.mls_treekem_model.specs.Keys.{Keys, Fits, leaf_only}
-use Rattle.mls_treekem_model.specs.Follow.{follow, key_above, on_way, follow_edit}
+use Rattle.mls_treekem_model.specs.Follow.{follow, key_above, keys_on_way, follow_edit}
 use Rattle.mls_treekem_model.proofs.OnePassLaws.{along_length}
 use Rattle.std.proofs.lemmas.Bool.{cond-true, cond-false, cases_lt, true≢false, and_parts}
 use Rattle.std.proofs.lemmas.List.{reverse-append}
@@ -30,14 +30,14 @@ own_above (x ∷ xs) o = above_pass 0 x (xs ++ (o ∷ [])) (λ e. absurd (omega 
 
 -- ---- keys read on a way
 
-pub length-on_way : (ss : List Step) (ks : Keys) → length (on_way ss ks) ≡ suc (length ss)
-unfolding on_way
-length-on_way [] ks = refl
-length-on_way (s ∷ ss) ks = ap suc (length-on_way ss ks)
+pub length-keys_on_way : (ss : List Step) (ks : Keys) → length (keys_on_way ss ks) ≡ suc (length ss)
+unfolding keys_on_way
+length-keys_on_way [] ks = refl
+length-keys_on_way (s ∷ ss) ks = ap suc (length-keys_on_way ss ks)
 
 -- ways of one length give the same keys
-pub same_length : (ss ts : List Step) (ks : Keys) → length ss ≡ length ts → on_way ss ks ≡ on_way ts ks
-unfolding on_way
+pub same_length : (ss ts : List Step) (ks : Keys) → length ss ≡ length ts → keys_on_way ss ks ≡ keys_on_way ts ks
+unfolding keys_on_way
 same_length [] [] ks e = refl
 same_length [] (t ∷ ts) ks e = absurd (omega arith)
 same_length (s ∷ ss) [] ks e = absurd (omega arith)
@@ -59,13 +59,13 @@ pub reverse-end : {A : Type 0} (xs : List A) (x : A) → reverse (xs ++ (x ∷ [
 reverse-end xs x = reverse-append xs (x ∷ [])
 
 -- a key above all of a way is passed by
-pub lower : (ss : List Step) (o : Option (List ℕ)) (ks : Keys) → suc (length ss) ≤ length ks → on_way ss (o ∷ ks) ≡ on_way ss ks
-unfolding on_way
+pub lower : (ss : List Step) (o : Option (List ℕ)) (ks : Keys) → suc (length ss) ≤ length ks → keys_on_way ss (o ∷ ks) ≡ keys_on_way ss ks
+unfolding keys_on_way
 lower [] o ks h = ap (λ z. z ∷ []) (above_pass 0 o ks (λ e. absurd (omega arith)))
 lower (s ∷ ss) o ks h = ap₂ (λ z zs. z ∷ zs) (above_pass (suc (length ss)) o ks (λ e. absurd (omega arith))) (lower ss o ks (omega arith))
 
-whole : (ss : List Step) (ks : Keys) → length ks ≡ suc (length ss) → on_way ss ks ≡ ks
-unfolding on_way
+whole : (ss : List Step) (ks : Keys) → length ks ≡ suc (length ss) → keys_on_way ss ks ≡ ks
+unfolding keys_on_way
 whole [] [] e = absurd (omega arith)
 whole [] (o ∷ []) e = ap (λ z. z ∷ []) (above_take 0 o [] refl)
 whole [] (o ∷ p ∷ ks) e = absurd (omega arith)
@@ -76,11 +76,11 @@ pub exact_is_on_way : ExactIsOnWay
 exact_is_on_way c b t j ks h = whole (way b t j) ks (along_length c (Fits c j) (way b t j) (leaf_at b t j) ks h)
 
 pub leaf_is_on_way : LeafIsOnWay
-unfolding on_way leaf_only key_above
+unfolding keys_on_way leaf_only key_above
 leaf_is_on_way [] k = refl
 leaf_is_on_way (s ∷ ss) k = ap₂ (λ z zs. z ∷ zs) (above_pass (suc (length ss)) (Some k) [] (λ e. absurd (omega arith))) (leaf_is_on_way ss k)
 
 pub edit_is_follow : EditIsFollow
-unfolding follow_edit follow on_way
+unfolding follow_edit follow keys_on_way
 edit_is_follow [] ks = refl
 edit_is_follow (s ∷ ss) ks = ap (λ zs. (if is_some s.parent then key_above (suc (length ss)) ks else None) ∷ zs) (edit_is_follow ss ks)

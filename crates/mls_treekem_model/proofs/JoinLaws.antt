@@ -10,7 +10,7 @@ use Rattle.mls_leaf.specs.declared.leaf.LeafNode.{LeafNode}
 use Rattle.mls_tree_model.specs.Sets.{has}
 use Rattle.mls_tree_model.specs.Term.{Term, Leaf, Branch, width, leaf_at}
 use Rattle.mls_tree_model.specs.Way.{Step, step_at, way, is_filtered, is_beside}
-use Rattle.mls_tree_model.specs.Edits.{enter, listing}
+use Rattle.mls_tree_model.specs.Edits.{enter, list_leaf}
 use Rattle.mls_tree_model.specs.Merge.{merge, new_parent, keys_below, hash_below, parent_beside, keys_beside, hash_beside}
 use Rattle.mls_tree_model.specs.Hashes.{parent_hash}
 use Rattle.mls_tree_model.proofs.Equations.{way_left, way_right, merge_left, merge_right, enter_left, enter_right}
@@ -20,12 +20,12 @@ use Rattle.mls_tree_model.proofs.ShapeLaws.{width-enter}
 use Rattle.mls_tree_model.proofs.MergeLaws.{width-merge}
 use Rattle.mls_suite.specs.Crypto.{Crypto}
 use Rattle.mls_treekem_model.specs.Chain.{chain, node_key, node_public}
-use Rattle.mls_treekem_model.specs.Keys.{Keys, HoldsKey, Fits, Along, AlongWay, Exact, leaf_only}
+use Rattle.mls_treekem_model.specs.Keys.{Keys, HoldsKey, Fits, AreKeysAlong, AreKeysOnWay, Exact, leaf_only}
 use Rattle.mls_treekem_model.specs.Follow.{TameAt, TameAlong}
-use Rattle.mls_treekem_model.specs.Make.{past_node, past_blank, Climb, one_if, filtered_count, secret_above, key_if, made_keys, climb_make, more_if, path_keys}
+use Rattle.mls_treekem_model.specs.Make.{climb_past_node, climb_past_blank, Climb, one_if, filtered_count, secret_above, key_if, made_keys, climb_make, more_if, path_keys}
 use Rattle.mls_treekem_model.specs.Seal.{Choose}
-use Rattle.mls_treekem_model.specs.Open.{shared}
-use Rattle.mls_treekem_model.specs.Join.{past_present, is_present, climb_take, is_due, is_complete, take_keys, ListsAt, AllList, secret_for, take_answer}
+use Rattle.mls_treekem_model.specs.Open.{shared_keys}
+use Rattle.mls_treekem_model.specs.Join.{climb_past_present, require_present, climb_take, is_due, is_complete, take_keys, ListsAt, AllList, secret_for, take_answer}
 use Rattle.mls_treekem_model.proofs.HeightLaws.{leaf_is_on_way}
 use Rattle.mls_treekem_model.proofs.MeetLaws.{Meets, meets_from, along_from}
 use Rattle.mls_treekem_model.proofs.MakeLaws.{merged_way, way_merge}
@@ -47,23 +47,23 @@ pub not_and : (a b : Bool) → (not a && b) ≡ true → (a ≡ false) × (b ≡
 not_and true b h = cc
 not_and false b h = (refl, h)
 
-pub sounds : (c : Crypto) (j : ℕ) (p : Option Parent) (m m' : Climb) → past_present c j p m ≡ Ok m' → Sounds c j p m m'
+pub sounds : (c : Crypto) (j : ℕ) (p : Option Parent) (m m' : Climb) → climb_past_present c j p m ≡ Ok m' → Sounds c j p m m'
 sounds c j None m m' h =
-    let made : Climb = past_blank m in
+    let made : Climb = climb_past_blank m in
     let e : made ≡ m' = cc in
     record { top = None; keys_are = sym (ap (λ (z : Climb). z.keys) e); sound = tt }
 sounds c j (Some p) m m' h = by_test (not (has p.unmerged_leaves j) && bytes_eq (node_public c m.secret) p.encryption_key) refl h
   where
     by_test : (t : Bool) → (not (has p.unmerged_leaves j) && bytes_eq (node_public c m.secret) p.encryption_key) ≡ t →
-        if◌then◌else◌ {A = Result Climb ℕ} t (Ok (past_node c m)) (Err 34) ≡ Ok m' → Sounds c j (Some p) m m'
+        if◌then◌else◌ {A = Result Climb ℕ} t (Ok (climb_past_node c m)) (Err 34) ≡ Ok m' → Sounds c j (Some p) m m'
     by_test true e h =
-        let made : Climb = past_node c m in
+        let made : Climb = climb_past_node c m in
         let q : made ≡ m' = cc in
         let f = not_and (has p.unmerged_leaves j) (bytes_eq (node_public c m.secret) p.encryption_key) e in
         record { top = Some (node_key c m.secret); keys_are = sym (ap (λ (z : Climb). z.keys) q); sound = (f.0, (bytes_eq-Decides (node_public c m.secret) p.encryption_key).0 f.1) }
     by_test false e h = cc
 
-pub present_is : (p : Option Parent) (m m' : Climb) → is_present p m ≡ Ok m' → m ≡ m'
+pub present_is : (p : Option Parent) (m m' : Climb) → require_present p m ≡ Ok m' → m ≡ m'
 present_is None m m' h = cc
 present_is (Some p) m m' h = cc
 
@@ -73,23 +73,23 @@ unfolding Meets climb_take
 meets_take c j [] ks secret m h e = absurd h
 meets_take c j (s ∷ ss) [] secret m h e = absurd h
 meets_take c j (s ∷ ss) (o ∷ ks) secret m h e =
-    let b = bind_ok (if is_beside s j then is_present s.parent (record { secret = secret; keys = ks }) else climb_take c ss j ks secret) (λ z. past_present c j s.parent z) m e in
+    let b = bind_ok (if is_beside s j then require_present s.parent (record { secret = secret; keys = ks }) else climb_take c ss j ks secret) (λ z. climb_past_present c j s.parent z) m e in
     let p = sounds c j s.parent b.0 m b.2 in
     subst (λ (zs : Keys). Meets c (Sound c j) j (s ∷ ss) zs) (sym p.keys_are)
     (p.sound, by_side (is_beside s j) b.0 b.1 h.1 (meets_take c j ss ks secret b.0))
   where
-    by_side : (t : Bool) (m0 : Climb) → (if t then is_present s.parent (record { secret = secret; keys = ks }) else climb_take c ss j ks secret) ≡ Ok m0 →
-        Choose t (AlongWay c (Sound c j) s.first s.other j ks) (Meets c (Sound c j) j ss ks) →
+    by_side : (t : Bool) (m0 : Climb) → (if t then require_present s.parent (record { secret = secret; keys = ks }) else climb_take c ss j ks secret) ≡ Ok m0 →
+        Choose t (AreKeysOnWay c (Sound c j) s.first s.other j ks) (Meets c (Sound c j) j ss ks) →
         (Meets c (Sound c j) j ss ks → climb_take c ss j ks secret ≡ Ok m0 → Meets c (Sound c j) j ss m0.keys) →
-        Choose t (AlongWay c (Sound c j) s.first s.other j m0.keys) (Meets c (Sound c j) j ss m0.keys)
+        Choose t (AreKeysOnWay c (Sound c j) s.first s.other j m0.keys) (Meets c (Sound c j) j ss m0.keys)
     by_side true m0 e h rec =
         let made : Climb = record { secret = secret; keys = ks } in
         let q : made ≡ m0 = present_is s.parent made m0 e in
-        subst (λ (z : Climb). AlongWay c (Sound c j) s.first s.other j z.keys) q h
+        subst (λ (z : Climb). AreKeysOnWay c (Sound c j) s.first s.other j z.keys) q h
     by_side false m0 e h rec = rec h e
 
-own_sound : (c : Crypto) (j : ℕ) (ss : List Step) (x : LeafNode) (sk : List ℕ) → c.public sk ≡ x.encryption_key → Along c (Sound c j) ss (Some x) (leaf_only ss sk)
-unfolding Along leaf_only
+own_sound : (c : Crypto) (j : ℕ) (ss : List Step) (x : LeafNode) (sk : List ℕ) → c.public sk ≡ x.encryption_key → AreKeysAlong c (Sound c j) ss (Some x) (leaf_only ss sk)
+unfolding AreKeysAlong leaf_only
 own_sound c j [] x sk h = h
 own_sound c j (s ∷ ss) x sk h = (tt, own_sound c j ss x sk h)
 
@@ -99,8 +99,8 @@ fits_from c j None (Some k) h d = absurd h
 fits_from c j (Some p) None h d = subst (λ (t : Bool). HoldsKey c t p None) (sym d ∙ or-false (has p.unmerged_leaves j)) tt
 fits_from c j (Some p) (Some k) h d = subst (λ (t : Bool). HoldsKey c t p (Some k)) (sym h.0) h.1
 
-exact_from : (c : Crypto) (j : ℕ) (ss : List Step) (x : Option LeafNode) (ks : Keys) → Along c (Sound c j) ss x ks → is_complete j ss ks ≡ true → Along c (Fits c j) ss x ks
-unfolding Along is_complete
+exact_from : (c : Crypto) (j : ℕ) (ss : List Step) (x : Option LeafNode) (ks : Keys) → AreKeysAlong c (Sound c j) ss x ks → is_complete j ss ks ≡ true → AreKeysAlong c (Fits c j) ss x ks
+unfolding AreKeysAlong is_complete
 exact_from c j [] x ks h d = h
 exact_from c j (s ∷ ss) x [] h d = absurd h
 exact_from c j (s ∷ ss) x (o ∷ ks) h d =
@@ -112,13 +112,13 @@ pub take_exact : (c : Crypto) (t : Term) (i j : ℕ) (x : LeafNode) (sk secret :
 unfolding take_keys
 take_exact c t i j x sk secret m hi hj ne leaf own e =
     let b = bind_ok (climb_take c (way 0 t i) j (leaf_only (way 0 t j) sk) secret) (λ z. if◌then◌else◌ {A = Result Climb ℕ} (is_complete j (way 0 t j) z.keys) (Ok z) (Err 35)) m e in
-    let start : AlongWay c (Sound c j) 0 t j (leaf_only (way 0 t j) sk) = rw leaf (own_sound c j (way 0 t j) x sk own) in
+    let start : AreKeysOnWay c (Sound c j) 0 t j (leaf_only (way 0 t j) sk) = rw leaf (own_sound c j (way 0 t j) x sk own) in
     let before : Meets c (Sound c j) j (way 0 t i) (leaf_only (way 0 t j) sk) = meets_from c (Sound c j) i j ne 0 t (leaf_only (way 0 t j) sk) hi hj start in
     let after : Meets c (Sound c j) j (way 0 t i) b.0.keys = meets_take c j (way 0 t i) (leaf_only (way 0 t j) sk) secret b.0 before b.1 in
-    let sound : AlongWay c (Sound c j) 0 t j b.0.keys = along_from c (Sound c j) i j ne 0 t b.0.keys hi hj after in
+    let sound : AreKeysOnWay c (Sound c j) 0 t j b.0.keys = along_from c (Sound c j) i j ne 0 t b.0.keys hi hj after in
     by_test b.0 (is_complete j (way 0 t j) b.0.keys) refl b.2 sound
   where
-    by_test : (z : Climb) (d : Bool) → is_complete j (way 0 t j) z.keys ≡ d → if◌then◌else◌ {A = Result Climb ℕ} d (Ok z) (Err 35) ≡ Ok m → AlongWay c (Sound c j) 0 t j z.keys → Exact c 0 t j m.keys
+    by_test : (z : Climb) (d : Bool) → is_complete j (way 0 t j) z.keys ≡ d → if◌then◌else◌ {A = Result Climb ℕ} d (Ok z) (Err 35) ≡ Ok m → AreKeysOnWay c (Sound c j) 0 t j z.keys → Exact c 0 t j m.keys
     by_test z true f e h =
         let q : z ≡ m = cc in
         subst (λ (w : Climb). Exact c 0 t j w.keys) q (exact_from c j (way 0 t j) (leaf_at 0 t j) z.keys h f)
@@ -151,7 +151,7 @@ leaf_due j ss sk = subst (λ (ks : Keys). (is_complete j ss ks ≡ true) ↔ All
 
 pub leaf_exact : LeafExact
 leaf_exact c t j x sk leaf own =
-    let sound : AlongWay c (Sound c j) 0 t j (leaf_only (way 0 t j) sk) = rw leaf (own_sound c j (way 0 t j) x sk own) in
+    let sound : AreKeysOnWay c (Sound c j) 0 t j (leaf_only (way 0 t j) sk) = rw leaf (own_sound c j (way 0 t j) x sk own) in
     subst (λ (ks : Keys). is_complete j (way 0 t j) ks ≡ true → Exact c 0 t j ks) (sym (leaf_is_on_way (way 0 t j) sk))
     (exact_from c j (way 0 t j) (leaf_at 0 t j) (leaf_only (way 0 t j) sk) sound)
 
@@ -160,8 +160,8 @@ leaf_exact c t j x sk leaf own =
 abbrev Due : ℕ → Option Parent → Option (List ℕ) → Type 0
 Due j p o = is_due j p o ≡ true
 
-own_due : (c : Crypto) (j : ℕ) (ss : List Step) (x : LeafNode) (sk : List ℕ) → c.public sk ≡ x.encryption_key → AllList j ss → Along c (Due j) ss (Some x) (leaf_only ss sk)
-unfolding Along leaf_only AllList
+own_due : (c : Crypto) (j : ℕ) (ss : List Step) (x : LeafNode) (sk : List ℕ) → c.public sk ≡ x.encryption_key → AllList j ss → AreKeysAlong c (Due j) ss (Some x) (leaf_only ss sk)
+unfolding AreKeysAlong leaf_only AllList
 own_due c j [] x sk h a = h
 own_due c j (s ∷ ss) x sk h a = (at_parent s.parent a.0, own_due c j ss x sk h a.1)
   where
@@ -169,16 +169,16 @@ own_due c j (s ∷ ss) x sk h a = (at_parent s.parent a.0, own_due c j ss x sk h
     at_parent None l = refl
     at_parent (Some p) l = rw l refl
 
-complete_from : (c : Crypto) (j : ℕ) (ss : List Step) (x : Option LeafNode) (ks : Keys) → Along c (Due j) ss x ks → is_complete j ss ks ≡ true
-unfolding Along is_complete
+complete_from : (c : Crypto) (j : ℕ) (ss : List Step) (x : Option LeafNode) (ks : Keys) → AreKeysAlong c (Due j) ss x ks → is_complete j ss ks ≡ true
+unfolding AreKeysAlong is_complete
 complete_from c j [] x ks h = refl
 complete_from c j (s ∷ ss) x [] h = absurd h
 complete_from c j (s ∷ ss) x (o ∷ ks) h = let e : is_due j s.parent o ≡ true = h.0 in rw e (complete_from c j ss x ks h.1)
 
 -- the keys that the joiner shares with the committer are due in the merged tree
 shared_due : (c : Crypto) (j : ℕ) (start sk : List ℕ) (ss : List Step) (h : List ℕ) (ks : Keys) → Meets c (Due j) j ss ks →
-    Meets c (Due j) j (merged_way ss (path_keys c ss start) h) (shared ss j (made_keys c ss start sk) ks)
-unfolding Meets merged_way path_keys made_keys shared has
+    Meets c (Due j) j (merged_way ss (path_keys c ss start) h) (shared_keys ss j (made_keys c ss start sk) ks)
+unfolding Meets merged_way path_keys made_keys shared_keys has
 shared_due c j start sk [] h ks m = absurd m
 shared_due c j start sk (s ∷ ss) h [] m = absurd m
 shared_due c j start sk (s ∷ ss) h (o ∷ ks) m = by_tests (is_filtered s) (is_beside s j) refl m.1 (λ (g : List ℕ). shared_due c j start sk ss g ks)
@@ -192,12 +192,12 @@ shared_due c j start sk (s ∷ ss) h (o ∷ ks) m = by_tests (is_filtered s) (is
     secret : List ℕ
     secret = secret_above ss start
 
-    by_tests : (t u : Bool) → is_beside s j ≡ u → Choose u (AlongWay c (Due j) s.first s.other j ks) (Meets c (Due j) j ss ks) →
-        ((g : List ℕ) → Meets c (Due j) j ss ks → Meets c (Due j) j (merged_way ss keys g) (shared ss j made ks)) →
+    by_tests : (t u : Bool) → is_beside s j ≡ u → Choose u (AreKeysOnWay c (Due j) s.first s.other j ks) (Meets c (Due j) j ss ks) →
+        ((g : List ℕ) → Meets c (Due j) j ss ks → Meets c (Due j) j (merged_way ss keys g) (shared_keys ss j made ks)) →
         Meets c (Due j) j
         (step_at (new_parent t (more_if t (node_public c secret) keys) h) s.node s.first s.other
         ∷ merged_way ss (keys_below t (more_if t (node_public c secret) keys)) (hash_below (new_parent t (more_if t (node_public c secret) keys) h) s.first s.other h))
-        (shared (s ∷ ss) j (key_if t (node_key c secret) ∷ made) (o ∷ ks))
+        (shared_keys (s ∷ ss) j (key_if t (node_key c secret) ∷ made) (o ∷ ks))
     by_tests true true e m rec = rw e (refl, m)
     by_tests true false e m rec = rw e (refl, rec _ m)
     by_tests false true e m rec = rw e (refl, m)
@@ -206,8 +206,8 @@ shared_due c j start sk (s ∷ ss) h (o ∷ ks) m = by_tests (is_filtered s) (is
 -- the joiner's climb is the committer's
 take_along : (c : Crypto) (F : Option Parent → Option (List ℕ) → Type 0) (j : ℕ) (start sk : List ℕ) (ss : List Step) (h : List ℕ) (ks : Keys) → Meets c F j ss ks →
     climb_take c (merged_way ss (path_keys c ss start) h) j ks (secret_for ss j start)
-    ≡ Ok (record { secret = secret_above ss start; keys = shared ss j (made_keys c ss start sk) ks })
-unfolding Meets merged_way path_keys made_keys shared climb_take secret_for filtered_count chain has
+    ≡ Ok (record { secret = secret_above ss start; keys = shared_keys ss j (made_keys c ss start sk) ks })
+unfolding Meets merged_way path_keys made_keys shared_keys climb_take secret_for filtered_count chain has
 take_along c F j start sk [] h ks m = absurd m
 take_along c F j start sk (s ∷ ss) h [] m = absurd m
 take_along c F j start sk (s ∷ ss) h (o ∷ ks) m = by_tests (is_beside s j) (is_filtered s) refl refl m.1 (λ (g : List ℕ). take_along c F j start sk ss g ks)
@@ -227,13 +227,13 @@ take_along c F j start sk (s ∷ ss) h (o ∷ ks) m = by_tests (is_beside s j) (
     top : Parent
     top = record { encryption_key = node_public c secret; parent_hash = h; unmerged_leaves = [] }
 
-    by_tests : (u t : Bool) → is_beside s j ≡ u → is_filtered s ≡ t → Choose u (AlongWay c F s.first s.other j ks) (Meets c F j ss ks) →
-        ((g : List ℕ) → Meets c F j ss ks → climb_take c (merged_way ss keys g) j ks (secret_for ss j start) ≡ Ok (record { secret = secret; keys = shared ss j made ks })) →
+    by_tests : (u t : Bool) → is_beside s j ≡ u → is_filtered s ≡ t → Choose u (AreKeysOnWay c F s.first s.other j ks) (Meets c F j ss ks) →
+        ((g : List ℕ) → Meets c F j ss ks → climb_take c (merged_way ss keys g) j ks (secret_for ss j start) ≡ Ok (record { secret = secret; keys = shared_keys ss j made ks })) →
         climb_take c
         (step_at (new_parent t (more_if t (node_public c secret) keys) h) s.node s.first s.other
         ∷ merged_way ss (keys_below t (more_if t (node_public c secret) keys)) (hash_below (new_parent t (more_if t (node_public c secret) keys) h) s.first s.other h))
         j (o ∷ ks) (secret_for (s ∷ ss) j start)
-        ≡ Ok (record { secret = chain start (one_if t (filtered_count ss)); keys = shared (s ∷ ss) j (key_if t (node_key c secret) ∷ made) (o ∷ ks) })
+        ≡ Ok (record { secret = chain start (one_if t (filtered_count ss)); keys = shared_keys (s ∷ ss) j (key_if t (node_key c secret) ∷ made) (o ∷ ks) })
     by_tests true false e f m rec = let g = beside_filtered c F s j ks m in absurd (cc (f, g))
     by_tests true true e f m rec = rw (e, same_key) refl
     by_tests false true e f m rec = let q = rec (parent_hash top s.first s.other) m in rw (e, q, same_key) refl
@@ -274,16 +274,16 @@ own_merge b (Branch p l r) i j ks h x own = elim (cases_lt i (b + width l)) [
 pub take_agree : (c : Crypto) (t : Term) (i j : ℕ) (h : List ℕ) (x y : LeafNode) (start sk own : List ℕ) → IsIn 0 t i → IsIn 0 t j → (j ≡ i → ⊥) →
     leaf_at 0 t j ≡ Some y → c.public own ≡ y.encryption_key → AllList j (way 0 t j) →
     take_keys c (merge 0 t i (path_keys c (way 0 t i) start) h x) i j own (secret_for (way 0 t i) j start)
-    ≡ Ok (record { secret = (climb_make c (way 0 t i) start sk).secret; keys = shared (way 0 t i) j (climb_make c (way 0 t i) start sk).keys (leaf_only (way 0 t j) own) })
+    ≡ Ok (record { secret = (climb_make c (way 0 t i) start sk).secret; keys = shared_keys (way 0 t i) j (climb_make c (way 0 t i) start sk).keys (leaf_only (way 0 t j) own) })
 unfolding take_keys
 take_agree c t i j h x y start sk own hi hj ne leaf is_own lists =
     let keys : List (List ℕ) = path_keys c (way 0 t i) start in
     let made : Term = merge 0 t i keys h x in
-    let got : Keys = shared (way 0 t i) j (made_keys c (way 0 t i) start sk) (leaf_only (way 0 t j) own) in
+    let got : Keys = shared_keys (way 0 t i) j (made_keys c (way 0 t i) start sk) (leaf_only (way 0 t j) own) in
     let size : width made ≡ width t = width-merge 0 t i keys h x in
     let before : Meets c (Due j) j (way 0 t i) (leaf_only (way 0 t j) own) = meets_from c (Due j) i j ne 0 t (leaf_only (way 0 t j) own) hi hj (rw leaf (own_due c j (way 0 t j) y own is_own lists)) in
     let taken = take_along c (Due j) j start sk (way 0 t i) h (leaf_only (way 0 t j) own) before in
-    let due : AlongWay c (Due j) 0 made j got =
+    let due : AreKeysOnWay c (Due j) 0 made j got =
     along_from c (Due j) i j ne 0 made got
     (record { low = hi.low; high = rw size hi.high }) (record { low = hj.low; high = rw size hj.high })
     (rw (way_merge 0 t i keys h x) (shared_due c j start sk (way 0 t i) h (leaf_only (way 0 t j) own) before)) in
@@ -293,7 +293,7 @@ take_agree c t i j h x y start sk own hi hj ne leaf is_own lists =
 
 -- ---- who was just added is listed by each parent over it that isn't blank
 
-entered_at : (j : ℕ) (p : Option Parent) → ListsAt j (listing j p)
+entered_at : (j : ℕ) (p : Option Parent) → ListsAt j (list_leaf j p)
 entered_at j None = tt
 entered_at j (Some p) = has-with j p.unmerged_leaves j ∙ or_right (has p.unmerged_leaves j) (j == j) (eq-eqb j j refl)
 
@@ -308,8 +308,8 @@ entered_lists b (Branch p l r) j x = elim (cases_lt j (b + width l)) [
   | inl lj ↦
       let w = width-enter b l j x in
       let k : j < b + width (enter b l j x) = omega arith in
-      rw (enter_left b p l r j x lj, way_left b (listing j p) (enter b l j x) r j k) (entered_at j p, entered_lists b l j x)
-  | inr rj ↦ rw (enter_right b p l r j x rj, way_right b (listing j p) l (enter (b + width l) r j x) j rj) (entered_at j p, entered_lists (b + width l) r j x)
+      rw (enter_left b p l r j x lj, way_left b (list_leaf j p) (enter b l j x) r j k) (entered_at j p, entered_lists b l j x)
+  | inr rj ↦ rw (enter_right b p l r j x rj, way_right b (list_leaf j p) l (enter (b + width l) r j x) j rj) (entered_at j p, entered_lists (b + width l) r j x)
 ]
 
 tame_lists_at : (j : ℕ) (p q : Option Parent) → ListsAt j p → TameAt j p q → ListsAt j q

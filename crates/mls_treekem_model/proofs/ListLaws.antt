@@ -3,7 +3,7 @@ use Rattle.std.proofs.Common.{◌≡◌, ℕ, ◌+◌, true, nat_lt, nat_le, ◌
 use Rattle.std.proofs.lemmas.Bool.{and_parts, and_from}
 use Rattle.mls_leaf.specs.Parent.{Parent}
 use Rattle.mls_tree_model.specs.Term.{Term, Leaf, Branch, width}
-use Rattle.mls_tree_model.specs.Lists.{asked, all_parents, may_be_listed, lists_here, rises_here}
+use Rattle.mls_tree_model.specs.Lists.{parent_passes, all_parents, may_be_listed, lists_here, rises_here}
 use Rattle.mls_tree_model.proofs.SetLaws.{all_at, all_from}
 use Rattle.mls_tree_model.proofs.ParentLaws.{parents_parts, parents_from}
 use Rattle.mls_treekem_model.specs.Lists.{below_here, ListsBelow}
@@ -18,7 +18,7 @@ weaker b p l r h =
     let m = and_parts (nat_lt u (b + (width l + width r))) _ k.1 in
     and_from (nat_le b u) _ k.0 m.0)
 
-asked_weaker : (b : ℕ) (c : Option Parent) (l r : Term) → asked lists_here b c l r ≡ true → asked below_here b c l r ≡ true
+asked_weaker : (b : ℕ) (c : Option Parent) (l r : Term) → parent_passes lists_here b c l r ≡ true → parent_passes below_here b c l r ≡ true
 asked_weaker b None l r h = refl
 asked_weaker b (Some p) l r h = weaker b p l r h
 

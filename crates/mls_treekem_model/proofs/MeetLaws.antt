@@ -7,17 +7,17 @@ use Rattle.mls_tree_model.specs.Way.{Step, way, is_beside}
 use Rattle.mls_tree_model.proofs.Equations.{way_left, way_right}
 use Rattle.mls_tree_model.specs.Laws.{IsIn}
 use Rattle.mls_suite.specs.Crypto.{Crypto}
-use Rattle.mls_treekem_model.specs.Keys.{Keys, AlongWay}
+use Rattle.mls_treekem_model.specs.Keys.{Keys, AreKeysOnWay}
 use Rattle.mls_treekem_model.specs.Seal.{Choose}
 use Rattle.mls_treekem_model.proofs.WayLaws.{within, below, beyond, along_none, along_left, along_right, left_along, right_along}
 
 unfoldable pub Meets : Crypto → (Option Parent → Option (List ℕ) → Type 0) → ℕ → List Step → Keys → Type 0
 Meets c F j [] ks = ⊥
 Meets c F j (s ∷ ss) [] = ⊥
-Meets c F j (s ∷ ss) (o ∷ ks) = F s.parent o × Choose (is_beside s j) (AlongWay c F s.first s.other j ks) (Meets c F j ss ks)
+Meets c F j (s ∷ ss) (o ∷ ks) = F s.parent o × Choose (is_beside s j) (AreKeysOnWay c F s.first s.other j ks) (Meets c F j ss ks)
 
 module _ (c : Crypto) (F : Option Parent → Option (List ℕ) → Type 0) (i j : ℕ) (ne : j ≡ i → ⊥) where
-  pub meets_from : (b : ℕ) (t : Term) (ks : Keys) → IsIn b t i → IsIn b t j → AlongWay c F b t j ks → Meets c F j (way b t i) ks
+  pub meets_from : (b : ℕ) (t : Term) (ks : Keys) → IsIn b t i → IsIn b t j → AreKeysOnWay c F b t j ks → Meets c F j (way b t i) ks
   unfolding width Meets
   meets_from b (Leaf v) ks hi hj h = absurd (ne (omega arith))
   meets_from b (Branch p l r) [] hi hj h = absurd (along_none c F b p l r j h)
@@ -44,7 +44,7 @@ module _ (c : Crypto) (F : Option Parent → Option (List ℕ) → Type 0) (i j 
     ]
   ]
 
-  pub along_from : (b : ℕ) (t : Term) (ks : Keys) → IsIn b t i → IsIn b t j → Meets c F j (way b t i) ks → AlongWay c F b t j ks
+  pub along_from : (b : ℕ) (t : Term) (ks : Keys) → IsIn b t i → IsIn b t j → Meets c F j (way b t i) ks → AreKeysOnWay c F b t j ks
   unfolding width Meets
   along_from b (Leaf v) ks hi hj h = absurd (ne (omega arith))
   along_from b (Branch p l r) [] hi hj h = elim (cases_lt i (b + width l)) [

@@ -8,8 +8,8 @@ use Rattle.mls_tree_model.specs.Term.{Term, leaf_at}
 use Rattle.mls_tree_model.specs.Way.{Step, way}
 use Rattle.mls_tree_model.specs.Merge.{merge, merge_path, keys_beside, hash_beside}
 use Rattle.mls_treekem_model.specs.Make.{climb_to, made_keys}
-use Rattle.mls_treekem_model.specs.Follow.{key_above, on_way, follow_edit}
-use Rattle.mls_treekem_model.specs.Height.{keys_on, listed}
+use Rattle.mls_treekem_model.specs.Follow.{key_above, keys_on_way, follow_edit}
+use Rattle.mls_treekem_model.specs.Height.{keys_on, as_pairs}
 use Rattle.mls_treekem_model.specs.Join.{is_complete}
 use Rattle.mls_treekem_model.specs.Keys.{Keys, Fits, Exact, PrivateKeys, all_keys, leaf_only, key_in}
 use Rattle.mls_treekem_model.specs.Members.{HasExact, KeysMerged, with_nodes, ExactReceived, MadeReceived, ShownAreDue, ExactAlone, ExactFollowed, ExactMade, ExactOpened, ExactTaken, ExactUpdated, ExactWhole}
@@ -18,7 +18,7 @@ use Rattle.mls_treekem_model.specs.Pairs.{pairs, find_key, IsInOrder}
 use Rattle.mls_treekem_model.proofs.EntryLaws.{key_where_held, entry_key}
 use Rattle.mls_treekem_model.proofs.PairLaws.{pairs_in_order, pairs_found}
 use Rattle.mls_treekem_model.specs.Whole.{keys_of_path}
-use Rattle.mls_treekem_model.proofs.HeightLaws.{exact_is_on_way, above_take, above_pass, length-end, length-on_way, same_length, way_height}
+use Rattle.mls_treekem_model.proofs.HeightLaws.{exact_is_on_way, above_take, above_pass, length-end, length-keys_on_way, same_length, way_height}
 use Rattle.mls_treekem_model.proofs.JoinLaws.{take_exact, leaf_exact, take_inside, own_merge}
 use Rattle.mls_treekem_model.proofs.MakeLaws.{merged_way, way_merge}
 use Rattle.mls_treekem_model.proofs.OnePassLaws.{along_length, no_key_above, follow_edit_exact, own_edit_exact}
@@ -26,21 +26,21 @@ use Rattle.mls_treekem_model.proofs.WholeLaws.{made_exact, opened_exact, opened_
 
 -- ---- keys read on a way
 
-low_same : (ss : List Step) (ks : Keys) (n : ℕ) → n ≤ length ss → key_above n (on_way ss ks) ≡ key_above n ks
-unfolding on_way
+low_same : (ss : List Step) (ks : Keys) (n : ℕ) → n ≤ length ss → key_above n (keys_on_way ss ks) ≡ key_above n ks
+unfolding keys_on_way
 low_same [] ks n low = let z : n ≡ 0 = omega arith in rw z (above_take 0 (key_above 0 ks) [] refl)
 low_same (s ∷ ss) ks n low = elim (cases_eq n (suc (length ss))) [
-  | inl e ↦ rw e (above_take (suc (length ss)) (key_above (suc (length ss)) ks) (on_way ss ks) (length-on_way ss ks))
-  | inr ne ↦ above_pass n (key_above (suc (length ss)) ks) (on_way ss ks) (λ e. ne (sym e ∙ length-on_way ss ks)) ∙ low_same ss ks n (omega (arith, ne))
+  | inl e ↦ rw e (above_take (suc (length ss)) (key_above (suc (length ss)) ks) (keys_on_way ss ks) (length-keys_on_way ss ks))
+  | inr ne ↦ above_pass n (key_above (suc (length ss)) ks) (keys_on_way ss ks) (λ e. ne (sym e ∙ length-keys_on_way ss ks)) ∙ low_same ss ks n (omega (arith, ne))
 ]
 
-key_same : (ss : List Step) (ks : Keys) (n : ℕ) → length ks ≤ suc (length ss) → key_above n (on_way ss ks) ≡ key_above n ks
+key_same : (ss : List Step) (ks : Keys) (n : ℕ) → length ks ≤ suc (length ss) → key_above n (keys_on_way ss ks) ≡ key_above n ks
 key_same ss ks n room = elim (cases_lt (length ss) n) [
-  | inl lt ↦ no_key_above n (on_way ss ks) (omega (arith, length-on_way ss ks)) ∙ sym (no_key_above n ks (omega arith))
+  | inl lt ↦ no_key_above n (keys_on_way ss ks) (omega (arith, length-keys_on_way ss ks)) ∙ sym (no_key_above n ks (omega arith))
   | inr ge ↦ low_same ss ks n ge
 ]
 
-follow_same : (ss ts : List Step) (ks : Keys) → length ks ≤ suc (length ss) → follow_edit None ts (on_way ss ks) ≡ follow_edit None ts ks
+follow_same : (ss ts : List Step) (ks : Keys) → length ks ≤ suc (length ss) → follow_edit None ts (keys_on_way ss ks) ≡ follow_edit None ts ks
 unfolding follow_edit
 follow_same ss [] ks room = ap (λ o. o ∷ []) (key_same ss ks 0 room)
 follow_same ss (t ∷ ts) ks room = ap₂ (λ o zs. (if is_some t.parent then o else None) ∷ zs) (key_same ss ks (suc (length ts)) room) (follow_same ss ts ks room)
@@ -74,10 +74,10 @@ exact_made c h t x start old new perfect room own made =
     let long : length (way 0 u old.leaf) ≡ length (way 0 t old.leaf) = way_long t old.leaf x (keys_of_path c t old.leaf start) in
     let high : length (way 0 t old.leaf) ≡ h = way_height h 0 t old.leaf perfect in
     let few : length new.above ≤ h = made.low h t perfect room refl in
-    let same : on_way (way 0 u old.leaf) (all_keys new) ≡ made_keys c (way 0 t old.leaf) start old.own = same_length (way 0 u old.leaf) (way 0 t old.leaf) (all_keys new) long ∙ made.keys h t perfect room refl in
-    let exact : Exact c 0 u old.leaf (on_way (way 0 u old.leaf) (all_keys new)) = subst (λ (ks : Keys). Exact c 0 u old.leaf ks) (sym same) (made_exact c t old.leaf x start old.own own) in
+    let same : keys_on_way (way 0 u old.leaf) (all_keys new) ≡ made_keys c (way 0 t old.leaf) start old.own = same_length (way 0 u old.leaf) (way 0 t old.leaf) (all_keys new) long ∙ made.keys h t perfect room refl in
+    let exact : Exact c 0 u old.leaf (keys_on_way (way 0 u old.leaf) (all_keys new)) = subst (λ (ks : Keys). Exact c 0 u old.leaf ks) (sym same) (made_exact c t old.leaf x start old.own own) in
     record {
-      keys = subst (λ j. Exact c 0 u j (on_way (way 0 u j) (all_keys new))) (sym made.leaf) exact;
+      keys = subst (λ j. Exact c 0 u j (keys_on_way (way 0 u j) (all_keys new))) (sym made.leaf) exact;
       low = subst (λ j. length new.above ≤ length (way 0 u j)) (sym made.leaf) (let z : length new.above ≤ length (way 0 u old.leaf) = omega arith in z);
     }
 
@@ -147,8 +147,8 @@ pub shown_are_due : ShownAreDue
 shown_are_due c h t p ps perfect inside had are =
     let high : length (way 0 t p.leaf) ≡ h = way_height h 0 t p.leaf perfect in
     let few : length p.above ≤ length (way 0 t p.leaf) = had.low in
-    let shown : listed ps ≡ pairs 0 t p.leaf (keys_on t p) = are h t perfect (omega arith) inside in
-    let found : (d : ℕ) → find_key d (listed ps) ≡ key_in 0 t p.leaf (keys_on t p) d = λ d. ap (find_key d) shown ∙ pairs_found 0 t p.leaf (keys_on t p) d inside in
+    let shown : as_pairs ps ≡ pairs 0 t p.leaf (keys_on t p) = are h t perfect (omega arith) inside in
+    let found : (d : ℕ) → find_key d (as_pairs ps) ≡ key_in 0 t p.leaf (keys_on t p) d = λ d. ap (find_key d) shown ∙ pairs_found 0 t p.leaf (keys_on t p) d inside in
     record {
       in_order = subst IsInOrder (sym shown) (pairs_in_order 0 t p.leaf (keys_on t p) inside);
       due = λ d. ap is_some (found d) ∙ key_where_held c 0 t p.leaf (keys_on t p) d inside had.keys;
@@ -166,7 +166,7 @@ exact_alone c t x sk p leaf own only due =
     let none : length p.above ≡ 0 = omega (arith, length-end p.above (Some p.own)) in
     record {
       keys =
-          subst (λ (ks : Keys). is_complete p.leaf (way 0 t p.leaf) (on_way (way 0 t p.leaf) ks) ≡ true → Exact c 0 t p.leaf (on_way (way 0 t p.leaf) ks)) (sym only)
+          subst (λ (ks : Keys). is_complete p.leaf (way 0 t p.leaf) (keys_on_way (way 0 t p.leaf) ks) ≡ true → Exact c 0 t p.leaf (keys_on_way (way 0 t p.leaf) ks)) (sym only)
           (leaf_exact c t p.leaf x sk leaf own) due;
       low = omega arith;
     }

@@ -11,7 +11,7 @@ use Rattle.mls_treekem_model.specs.Chain.{chain, node_key, node_public}
 use Rattle.mls_treekem_model.specs.Keys.{Keys, rest, key_in}
 use Rattle.mls_treekem_model.specs.Make.{one_if, filtered_count, secret_above, key_if, made_keys, climb_make, more_if, path_keys}
 use Rattle.mls_treekem_model.specs.Seal.{Choose, targets, seal_count, seal_along, IsNodeFor, IsPathOf}
-use Rattle.mls_treekem_model.specs.Open.{left_by, open_first, first_ciphertexts, opened_along, past_parent, open_here, climb_open}
+use Rattle.mls_treekem_model.specs.Open.{nodes_below, open_first, first_ciphertexts, opened_along, climb_past_parent, open_at_ancestor, climb_open}
 use Rattle.mls_treekem_model.specs.Laws.{CountMerged, MakeMerged, OpenMerged, PathHasKeys, PathMerged, SealMerged}
 use Rattle.mls_treekem_model.proofs.MakeLaws.{merged_way, way_merge}
 
@@ -20,8 +20,8 @@ open_along : (c : Crypto) (context : List ℕ) (added : List ℕ) (j : ℕ) (ss 
 unfolding merged_way climb_open targets
 open_along c context added j [] ms h ks ns = refl
 open_along c context added j (s ∷ ss) ms h ks ns =
-    ap (λ z. (if is_beside s j then open_here c context added s j (rest ks) ns else z) >>= λ m. past_parent c (is_filtered s) ns m)
-    (open_along c context added j ss (keys_beside s.first s.other ms) (hash_beside s.first s.other ms h) (rest ks) (left_by (is_filtered s) ns))
+    ap (λ z. (if is_beside s j then open_at_ancestor c context added s j (rest ks) ns else z) >>= λ m. climb_past_parent c (is_filtered s) ns m)
+    (open_along c context added j ss (keys_beside s.first s.other ms) (hash_beside s.first s.other ms h) (rest ks) (nodes_below (is_filtered s) ns))
 
 secret_open_along : (c : Crypto) (context : List ℕ) (added : List ℕ) (j : ℕ) (ss : List Step) (ms : List (List ℕ)) (h : List ℕ) (ks : Keys) (ns : List UpdatePathNode) →
     opened_along c context added (merged_way ss ms h) j ks ns ≡ opened_along c context added ss j ks ns
@@ -29,7 +29,7 @@ unfolding merged_way opened_along targets
 secret_open_along c context added j [] ms h ks ns = refl
 secret_open_along c context added j (s ∷ ss) ms h ks ns =
     ap (λ z. if is_beside s j then open_first c context (key_in s.first s.other j (rest ks)) (targets added s) (first_ciphertexts ns) else z)
-    (secret_open_along c context added j ss (keys_beside s.first s.other ms) (hash_beside s.first s.other ms h) (rest ks) (left_by (is_filtered s) ns))
+    (secret_open_along c context added j ss (keys_beside s.first s.other ms) (hash_beside s.first s.other ms h) (rest ks) (nodes_below (is_filtered s) ns))
 
 pub opened_along_merged : (c : Crypto) (context : List ℕ) (added : List ℕ) (b : ℕ) (t : Term) (i j : ℕ) (ms : List (List ℕ)) (h : List ℕ) (x : LeafNode) (ks : Keys) (ns : List UpdatePathNode) →
     opened_along c context added (way b (merge b t i ms h x) i) j ks ns ≡ opened_along c context added (way b t i) j ks ns

@@ -13,7 +13,7 @@ use Rattle.mls_treekem_model.specs.Chain.{node_public}
 use Rattle.mls_treekem_model.specs.Make.{secret_above}
 use Rattle.mls_treekem_model.specs.Seal.{targets, seal_count, seal_to, seal_all, with_ciphertexts, path_past, seal_along}
 use Rattle.mls_treekem_model.proofs.SealLaws.{cons_is, with_is, sealed_all}
-use Rattle.mls_treekem_model.specs.Seeds.{seals_in}
+use Rattle.mls_treekem_model.specs.Seeds.{seal_count_of}
 use Rattle.mls_treekem_model.specs.Whole.{ciphertexts_in, IsSealedUnder, SealedByNumber, SealsAreCounted}
 use Rattle.mls_treekem_model.proofs.WholeLaws.{all_sealed, sealed_is}
 
@@ -117,6 +117,6 @@ sealed_by_number c context added rnd t i start path h k x g =
     r.numbers k x (subst (λ (ns : List UpdatePathNode). slice_get (ciphertexts_in ns) k ≡ Some x) s.turned g)
 
 pub seals_are_counted : SealsAreCounted
-unfolding seals_in
+unfolding seal_count_of
 seals_are_counted [] = refl
 seals_are_counted (n ∷ ns) = length-append n.ciphertexts (ciphertexts_in ns) ∙ ap (λ (m : ℕ). length n.ciphertexts + m) (seals_are_counted ns)

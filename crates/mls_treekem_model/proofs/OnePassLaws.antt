@@ -11,8 +11,8 @@ use Rattle.mls_tree_model.specs.Laws.{IsIn}
 use Rattle.mls_tree_model.proofs.ShapeLaws.{width-put}
 use Rattle.mls_tree_model.proofs.MemberLaws.{leaf_taken}
 use Rattle.mls_suite.specs.Crypto.{Crypto}
-use Rattle.mls_treekem_model.specs.Keys.{Keys, Fits, IsOwnKey, Along}
-use Rattle.mls_treekem_model.specs.Follow.{TameAt, TameAlong, key_above, follow_edit, parent_above, Follows}
+use Rattle.mls_treekem_model.specs.Keys.{Keys, Fits, IsOwnKey, AreKeysAlong}
+use Rattle.mls_treekem_model.specs.Follow.{TameAt, TameAlong, key_above, follow_edit, parent_above, TameEdits}
 use Rattle.mls_treekem_model.proofs.FollowLaws.{tame_at_same, tame_at_trans, fits_follow}
 use Rattle.mls_treekem_model.specs.Laws.{FollowEdit, FollowOwnEdit, FollowsGrow, FollowsTame, FollowsTrans, FollowsTrim}
 
@@ -25,8 +25,8 @@ own_length c (Some x) (Some k ∷ []) h = refl
 own_length c (Some x) (Some k ∷ o ∷ ks) h = absurd h
 own_length c None ks h = absurd h
 
-pub along_length : (c : Crypto) (F : Option Parent → Option (List ℕ) → Type 0) (ss : List Step) (x : Option LeafNode) (ks : Keys) → Along c F ss x ks → length ks ≡ suc (length ss)
-unfolding Along
+pub along_length : (c : Crypto) (F : Option Parent → Option (List ℕ) → Type 0) (ss : List Step) (x : Option LeafNode) (ks : Keys) → AreKeysAlong c F ss x ks → length ks ≡ suc (length ss)
+unfolding AreKeysAlong
 along_length c F [] x ks h = own_length c x ks h
 along_length c F (s ∷ ss) x [] h = absurd h
 along_length c F (s ∷ ss) x (o ∷ ks) h = ap suc (along_length c F ss x ks h.1)
@@ -41,8 +41,8 @@ unfolding parent_above
 no_parent_above n [] h = refl
 no_parent_above n (s ∷ ss) h = let e = ne_eqb (length ss) n (λ e. omega arith) in rw e (no_parent_above n ss (omega arith))
 
-fits_above : (c : Crypto) (j : ℕ) (ss : List Step) (x : Option LeafNode) (ks : Keys) → Along c (Fits c j) ss x ks → (n : ℕ) → Fits c j (parent_above n ss) (key_above (suc n) ks)
-unfolding Along parent_above key_above
+fits_above : (c : Crypto) (j : ℕ) (ss : List Step) (x : Option LeafNode) (ks : Keys) → AreKeysAlong c (Fits c j) ss x ks → (n : ℕ) → Fits c j (parent_above n ss) (key_above (suc n) ks)
+unfolding AreKeysAlong parent_above key_above
 fits_above c j [] x ks h n = let e = no_key_above (suc n) ks (omega (arith, own_length c x ks h)) in rw e tt
 fits_above c j (s ∷ ss) x [] h n = absurd h
 fits_above c j (s ∷ ss) x (o ∷ ks) h n = by_test (length ss == n) refl (fits_above c j ss x ks h.1 n)
@@ -68,8 +68,8 @@ own_above c (Some x) (Some k ∷ []) h = h
 own_above c (Some x) (Some k ∷ o ∷ ks) h = absurd h
 own_above c None ks h = absurd h
 
-leaf_above : (c : Crypto) (F : Option Parent → Option (List ℕ) → Type 0) (ss : List Step) (x : Option LeafNode) (ks : Keys) → Along c F ss x ks → IsOwnKey c x (key_above 0 ks ∷ [])
-unfolding Along key_above
+leaf_above : (c : Crypto) (F : Option Parent → Option (List ℕ) → Type 0) (ss : List Step) (x : Option LeafNode) (ks : Keys) → AreKeysAlong c F ss x ks → IsOwnKey c x (key_above 0 ks ∷ [])
+unfolding AreKeysAlong key_above
 leaf_above c F [] x ks h = own_above c x ks h
 leaf_above c F (s ∷ ss) x [] h = absurd h
 leaf_above c F (s ∷ ss) x (o ∷ ks) h =
@@ -80,8 +80,8 @@ leaf_above c F (s ∷ ss) x (o ∷ ks) h =
 -- ---- the pass
 
 module _ (c : Crypto) (j : ℕ) (x : Option LeafNode) (ks : Keys) (before : ℕ → Option Parent) (own : IsOwnKey c x (key_above 0 ks ∷ [])) (fits : (n : ℕ) → Fits c j (before n) (key_above (suc n) ks)) where
-  pass_along : (ts : List Step) → ((n : ℕ) → n < length ts → TameAt j (before n) (parent_above n ts)) → Along c (Fits c j) ts x (follow_edit None ts ks)
-  unfolding Along follow_edit parent_above
+  pass_along : (ts : List Step) → ((n : ℕ) → n < length ts → TameAt j (before n) (parent_above n ts)) → AreKeysAlong c (Fits c j) ts x (follow_edit None ts ks)
+  unfolding AreKeysAlong follow_edit parent_above
   pass_along [] tame = own
   pass_along (s ∷ ts) tame =
       let e = eq-eqb (length ts) (length ts) refl in
@@ -92,13 +92,13 @@ module _ (c : Crypto) (j : ℕ) (x : Option LeafNode) (ks : Keys) (before : ℕ 
 
 pub follow_edit_exact : FollowEdit
 follow_edit_exact c t t' j ks h f =
-    subst (λ (x : Option LeafNode). Along c (Fits c j) (way 0 t' j) x (follow_edit None (way 0 t' j) ks)) f.leaf
+    subst (λ (x : Option LeafNode). AreKeysAlong c (Fits c j) (way 0 t' j) x (follow_edit None (way 0 t' j) ks)) f.leaf
     (pass_along c j (leaf_at 0 t j) ks (λ n. parent_above n (way 0 t j)) (leaf_above c (Fits c j) (way 0 t j) (leaf_at 0 t j) ks h) (fits_above c j (way 0 t j) (leaf_at 0 t j) ks h)
     (way 0 t' j) (λ n _. f.above n))
 
 -- ---- which edits it follows
 
-pub follows_refl : (j : ℕ) (t : Term) → Follows j t t
+pub follows_refl : (j : ℕ) (t : Term) → TameEdits j t t
 follows_refl j t = record { above = λ n. tame_at_same j (parent_above n (way 0 t j)); leaf = refl }
 
 pub follows_trans : FollowsTrans
@@ -157,11 +157,11 @@ unfolding trim
 follows_trim (Leaf v) j inside taken = follows_refl j (Leaf v)
 follows_trim (Branch p l r) j inside taken = by_right (has_leaf r) refl (follows_trim l j)
   where
-    by_right : (d : Bool) → has_leaf r ≡ d → (IsIn 0 l j → IsSome (leaf_at 0 l j) → Follows j l (trim l)) → Follows j (Branch p l r) (if d then Branch p l r else trim l)
+    by_right : (d : Bool) → has_leaf r ≡ d → (IsIn 0 l j → IsSome (leaf_at 0 l j) → TameEdits j l (trim l)) → TameEdits j (Branch p l r) (if d then Branch p l r else trim l)
     by_right true e rec = follows_refl j (Branch p l r)
     by_right false e rec = elim (cases_lt j (0 + width l)) [
       | inl lj ↦
-          let cut : Follows j (Branch p l r) l = record {
+          let cut : TameEdits j (Branch p l r) l = record {
             above = λ n. rw (way_left 0 p l r j lj) (cut_above j (step_at p (2 * 0 + size l) (0 + width l) r) (way 0 l j) n);
             leaf = leaf_at_left 0 p l r j lj;
           } in
@@ -212,8 +212,8 @@ blank_from j None (Some q) e h = absurd h
 blank_from j (Some p) (Some q) e h = cc
 
 blank_along : (c : Crypto) (j : ℕ) (x : LeafNode) (k : List ℕ) (ks : Keys) → c.public k ≡ x.encryption_key → (ts : List Step) → ((n : ℕ) → n < length ts → parent_above n ts ≡ None) →
-    Along c (Fits c j) ts (Some x) (follow_edit (Some k) ts ks)
-unfolding Along follow_edit parent_above
+    AreKeysAlong c (Fits c j) ts (Some x) (follow_edit (Some k) ts ks)
+unfolding AreKeysAlong follow_edit parent_above
 blank_along c j x k ks h [] blank = h
 blank_along c j x k ks h (s ∷ ts) blank =
     let e = eq-eqb (length ts) (length ts) refl in
@@ -223,12 +223,12 @@ blank_along c j x k ks h (s ∷ ts) blank =
 pub own_edit_exact : FollowOwnEdit
 own_edit_exact c t t' j x k ks h f =
     let leaf : Some x ≡ leaf_at 0 t' j = sym (own_leaf 0 t j (Some x)) ∙ f.leaf in
-    subst (λ (y : Option LeafNode). Along c (Fits c j) (way 0 t' j) y (follow_edit (Some k) (way 0 t' j) ks)) leaf
+    subst (λ (y : Option LeafNode). AreKeysAlong c (Fits c j) (way 0 t' j) y (follow_edit (Some k) (way 0 t' j) ks)) leaf
     (blank_along c j x k ks h (way 0 t' j)
     (λ n _. blank_from j (parent_above n (way 0 (put 0 t j (Some x)) j)) (parent_above n (way 0 t' j)) (blank_above 0 t j (Some x) n) (f.above n)))
 
 -- so two trees are alike for a leaf that was put into both
-pub follows_put : (t u : Term) (j : ℕ) (x : Option LeafNode) → Follows j (put 0 t j x) (put 0 u j x)
+pub follows_put : (t u : Term) (j : ℕ) (x : Option LeafNode) → TameEdits j (put 0 t j x) (put 0 u j x)
 follows_put t u j x =
     record {
       above = λ n. subst (TameAt j (parent_above n (way 0 (put 0 t j x) j))) (sym (blank_above 0 u j x n)) tt;

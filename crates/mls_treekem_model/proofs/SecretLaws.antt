@@ -4,14 +4,14 @@ use Rattle.std.specs.List.{slice_get}
 use Rattle.std.specs.Option.{option_map}
 use Rattle.std.proofs.lemmas.Bool.{cases_lt}
 use Rattle.std.proofs.lemmas.Option.{slice_get-map}
-use Rattle.mls_wire.specs.Checks.{given}
+use Rattle.mls_wire.specs.Checks.{require_some}
 use Rattle.mls_types.specs.declared.update_path.UpdatePathNode.{UpdatePathNode}
 use Rattle.mls_suite.specs.Crypto.{Crypto}
 use Rattle.mls_tree_model.specs.Way.{Step, way, is_filtered, is_beside}
 use Rattle.mls_tree_model.proofs.EntryLaws.{one_filtered}
 use Rattle.mls_treekem_model.specs.Chain.{chain, path_secrets, node_public}
 use Rattle.mls_treekem_model.specs.Make.{one_if, filtered_count, secret_above}
-use Rattle.mls_treekem_model.specs.Seal.{targets, seal_count, seal_all, with_ciphertexts, path_past, seal_along, node_with, seal_with, sealed_path, sealed_with}
+use Rattle.mls_treekem_model.specs.Seal.{targets, seal_count, seal_all, with_ciphertexts, path_past, seal_along, node_with, seal_path_with, sealed_path, sealed_path_with}
 use Rattle.mls_treekem_model.specs.Join.{secret_for, secret_among}
 use Rattle.mls_treekem_model.specs.Whole.{SealedOfChain, SecretIsAmong}
 use Rattle.mls_treekem_model.proofs.MakeLaws.{count_is_length}
@@ -60,8 +60,8 @@ least s ss n le = by_test (is_filtered s) le
     by_test false le = le
 
 with_along : (c : Crypto) (context added : List ℕ) (rnd : ℕ → List ℕ) (start : List ℕ) (n : ℕ) (ss : List Step) → filtered_count ss ≤ n →
-    seal_with c context added rnd (path_secrets start n) (map (node_public c) (path_secrets start n)) ss ≡ seal_along c context added rnd ss start
-unfolding seal_with seal_along filtered_count
+    seal_path_with c context added rnd (path_secrets start n) (map (node_public c) (path_secrets start n)) ss ≡ seal_along c context added rnd ss start
+unfolding seal_path_with seal_along filtered_count
 with_along c context added rnd start n [] le = refl
 with_along c context added rnd start n (s ∷ ss) le =
     by_test (is_filtered s) le
@@ -69,7 +69,7 @@ with_along c context added rnd start n (s ∷ ss) le =
     (with_along c context added rnd start n ss (least s ss n le))
   where
     below : Option (List UpdatePathNode)
-    below = seal_with c context added rnd (path_secrets start n) (map (node_public c) (path_secrets start n)) ss
+    below = seal_path_with c context added rnd (path_secrets start n) (map (node_public c) (path_secrets start n)) ss
 
     by_test : (t : Bool) → one_if t (filtered_count ss) ≤ n →
         path_past t
@@ -82,10 +82,10 @@ with_along c context added rnd start n (s ∷ ss) le =
     by_test false le = refl
 
 pub sealed_of_chain : SealedOfChain
-unfolding sealed_with sealed_path
+unfolding sealed_path_with sealed_path
 sealed_of_chain c context added rnd t i start n le =
     let e = count_is_length 0 t i in
-    ap (λ o. given 36 (option_map reverse o)) (with_along c context added rnd start n (way 0 t i) (omega (arith, e)))
+    ap (λ o. require_some 36 (option_map reverse o)) (with_along c context added rnd start n (way 0 t i) (omega (arith, e)))
 
 -- ---- the one for a joiner
 

@@ -14,9 +14,9 @@ use Rattle.mls_tree_model.specs.Laws.{IsIn}
 use Rattle.mls_suite.specs.Crypto.{Crypto}
 use Rattle.mls_treekem_model.specs.Chain.{next_secret, chain, node_public, chain_keys}
 use Rattle.mls_treekem_model.specs.Keys.{Keys, leaf_only}
-use Rattle.mls_treekem_model.specs.Make.{past_node, past_blank, Climb}
+use Rattle.mls_treekem_model.specs.Make.{climb_past_node, climb_past_blank, Climb}
 use Rattle.mls_treekem_model.specs.Seal.{Choose}
-use Rattle.mls_treekem_model.specs.Join.{past_present, is_present, climb_take, is_due, is_complete, take_keys, AllList}
+use Rattle.mls_treekem_model.specs.Join.{climb_past_present, require_present, climb_take, is_due, is_complete, take_keys, AllList}
 use Rattle.mls_treekem_model.proofs.JoinLaws.{sounds, not_and, due_listed, listed_due, take_inside}
 use Rattle.mls_treekem_model.proofs.WayLaws.{within, below, beyond}
 use Rattle.mls_treekem_model.specs.Whole.{with_parent, parents_over, FitsOver, TakenFits, FitIsTaken}
@@ -156,25 +156,25 @@ module _ (c : Crypto) (j : ℕ) (secret : List ℕ) where
 
   -- ---- what is taken fits
 
-  past_at : (o : Option Parent) (ps : List Parent) (m m' : Climb) → m.secret ≡ chain secret (length ps) → past_present c j o m ≡ Ok m' → FitsAt o (length ps) × (m'.secret ≡ chain secret (length (with_parent o ps)))
+  past_at : (o : Option Parent) (ps : List Parent) (m m' : Climb) → m.secret ≡ chain secret (length ps) → climb_past_present c j o m ≡ Ok m' → FitsAt o (length ps) × (m'.secret ≡ chain secret (length (with_parent o ps)))
   unfolding chain
   past_at None ps m m' h e =
-      let made : Climb = past_blank m in
+      let made : Climb = climb_past_blank m in
       let q : made ≡ m' = cc in
       (tt, ap (λ (z : Climb). z.secret) (sym q) ∙ h)
   past_at (Some p) ps m m' h e = by_test (not (has p.unmerged_leaves j) && bytes_eq (node_public c m.secret) p.encryption_key) refl e
     where
-      by_test : (t : Bool) → (not (has p.unmerged_leaves j) && bytes_eq (node_public c m.secret) p.encryption_key) ≡ t → if◌then◌else◌ {A = Result Climb ℕ} t (Ok (past_node c m)) (Err 34) ≡ Ok m' →
+      by_test : (t : Bool) → (not (has p.unmerged_leaves j) && bytes_eq (node_public c m.secret) p.encryption_key) ≡ t → if◌then◌else◌ {A = Result Climb ℕ} t (Ok (climb_past_node c m)) (Err 34) ≡ Ok m' →
           FitsAt (Some p) (length ps) × (m'.secret ≡ chain secret (suc (length ps)))
       by_test true g e =
-          let made : Climb = past_node c m in
+          let made : Climb = climb_past_node c m in
           let q : made ≡ m' = cc in
           let f = not_and (has p.unmerged_leaves j) (bytes_eq (node_public c m.secret) p.encryption_key) g in
           let key : node_public c m.secret ≡ p.encryption_key = (bytes_eq-Decides (node_public c m.secret) p.encryption_key).0 f.1 in
           ((f.0, sym key ∙ ap (node_public c) h), ap (λ (z : Climb). z.secret) (sym q) ∙ ap next_secret h)
       by_test false g e = cc
 
-  present_at : (o : Option Parent) (m m' : Climb) → is_present o m ≡ Ok m' → (p : Parent) × (o ≡ Some p) × (m ≡ m')
+  present_at : (o : Option Parent) (m m' : Climb) → require_present o m ≡ Ok m' → (p : Parent) × (o ≡ Some p) × (m ≡ m')
   present_at None m m' e = absurd cc
   present_at (Some p) m m' e = let q : m ≡ m' = cc in (p, refl, q)
 
@@ -185,7 +185,7 @@ module _ (c : Crypto) (j : ℕ) (secret : List ℕ) where
   taken_over (s ∷ ss) [] sk m f e d = absurd f
   taken_over (s ∷ ss) (r ∷ rs) sk m f e d =
       let b =
-      bind_ok (if is_beside s j then is_present s.parent (record { secret = secret; keys = leaf_only rs sk }) else climb_take c ss j (leaf_only rs sk) secret) (λ z. past_present c j s.parent z) m e
+      bind_ok (if is_beside s j then require_present s.parent (record { secret = secret; keys = leaf_only rs sk }) else climb_take c ss j (leaf_only rs sk) secret) (λ z. climb_past_present c j s.parent z) m e
       in
       let p = sounds c j s.parent b.0 m b.2 in
       let g : is_complete j (r ∷ rs) (p.top ∷ b.0.keys) ≡ true = subst (λ (ks : Keys). is_complete j (r ∷ rs) ks ≡ true) p.keys_are d in
@@ -193,8 +193,8 @@ module _ (c : Crypto) (j : ℕ) (secret : List ℕ) where
       by_side (is_beside s j) refl b.0 b.1 b.2 f.1 due.1 (taken_over ss rs sk b.0)
     where
       by_side : (u : Bool) → is_beside s j ≡ u → (m0 : Climb) →
-          (if u then is_present s.parent (record { secret = secret; keys = leaf_only rs sk }) else climb_take c ss j (leaf_only rs sk) secret) ≡ Ok m0 →
-          past_present c j s.parent m0 ≡ Ok m → Choose u (rs ≡ way s.first s.other j) (Forks j ss rs) → is_complete j rs m0.keys ≡ true →
+          (if u then require_present s.parent (record { secret = secret; keys = leaf_only rs sk }) else climb_take c ss j (leaf_only rs sk) secret) ≡ Ok m0 →
+          climb_past_present c j s.parent m0 ≡ Ok m → Choose u (rs ≡ way s.first s.other j) (Forks j ss rs) → is_complete j rs m0.keys ≡ true →
           (Forks j ss rs → climb_take c ss j (leaf_only rs sk) secret ≡ Ok m0 → is_complete j rs m0.keys ≡ true → FitsOver c j secret ss × (m0.secret ≡ chain secret (length (parents_over ss j)))) →
           FitsOver c j secret (s ∷ ss) × (m.secret ≡ chain secret (length (parents_over (s ∷ ss) j)))
       by_side true e m0 g h f d rec =
@@ -216,17 +216,17 @@ module _ (c : Crypto) (j : ℕ) (secret : List ℕ) where
 
   record Passes (o : Option Parent) (ps : List Parent) (m : Climb) : Type 0 where
     after : Climb
-    is : past_present c j o m ≡ Ok after
+    is : climb_past_present c j o m ≡ Ok after
     secret_is : after.secret ≡ chain secret (length (with_parent o ps))
     complete : (r : Step) (rs : List Step) → r.parent ≡ o → is_complete j rs m.keys ≡ true → is_complete j (r ∷ rs) after.keys ≡ true
 
   passes_at : (o : Option Parent) (ps : List Parent) (m : Climb) → m.secret ≡ chain secret (length ps) → FitsAt o (length ps) → Passes o ps m
   unfolding chain is_complete
-  passes_at None ps m h f = record { after = past_blank m; is = refl; secret_is = h; complete = λ r rs q d. rw (q, d) refl }
+  passes_at None ps m h f = record { after = climb_past_blank m; is = refl; secret_is = h; complete = λ r rs q d. rw (q, d) refl }
   passes_at (Some p) ps m h f =
       let key : bytes_eq (node_public c m.secret) p.encryption_key ≡ true = (bytes_eq-Decides (node_public c m.secret) p.encryption_key).1 (ap (node_public c) h ∙ sym f.1) in
       let unlisted : has p.unmerged_leaves j ≡ false = f.0 in
-      record { after = past_node c m; is = rw (unlisted, key) refl; secret_is = ap next_secret h; complete = λ r rs q d. rw (q, unlisted, d) refl }
+      record { after = climb_past_node c m; is = rw (unlisted, key) refl; secret_is = ap next_secret h; complete = λ r rs q d. rw (q, unlisted, d) refl }
 
   record Takes (ss rs : List Step) (sk : List ℕ) : Type 0 where
     taken : Climb
@@ -247,7 +247,7 @@ module _ (c : Crypto) (j : ℕ) (secret : List ℕ) where
           let top : FitsAt s.parent 0 = subst (λ (o : Option Parent). FitsAt o 0) (sym here.present) (here.unlisted, here.key) in
           let on = passes_at s.parent [] start refl top in
           let full = listed_due j rs sk (subst (λ (zs : List Step). AllList j zs) (sym g) here.lists) in
-          let there : is_present s.parent start ≡ Ok start = ap (λ (o : Option Parent). is_present o start) here.present in
+          let there : require_present s.parent start ≡ Ok start = ap (λ (o : Option Parent). require_present o start) here.present in
           record {
             taken = on.after;
             is = rw (e, there) on.is;

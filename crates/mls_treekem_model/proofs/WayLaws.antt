@@ -5,7 +5,7 @@ use Rattle.mls_leaf.specs.Parent.{Parent}
 use Rattle.mls_tree_model.specs.Term.{Term, Branch, width, leaf_at}
 use Rattle.mls_tree_model.proofs.Equations.{way_left, way_right, leaf_at_left, leaf_at_right}
 use Rattle.mls_suite.specs.Crypto.{Crypto}
-use Rattle.mls_treekem_model.specs.Keys.{Keys, Along, AlongWay}
+use Rattle.mls_treekem_model.specs.Keys.{Keys, AreKeysAlong, AreKeysOnWay}
 use Rattle.mls_treekem_model.specs.Follow.{TameAt, TameAlong, Tame}
 
 pub within : (a n j : ℕ) → a ≤ j → j < a + n → (nat_le a j && nat_lt j (a + n)) ≡ true
@@ -20,27 +20,27 @@ beyond a n j h = and_right (nat_le a j) _ (le-ltb j (a + n) h)
 -- ---- keys along the way to a leaf of one side
 
 module _ (c : Crypto) (F : Option Parent → Option (List ℕ) → Type 0) (b : ℕ) (p : Option Parent) (l r : Term) (j : ℕ) where
-  pub along_none : AlongWay c F b (Branch p l r) j [] → ⊥
-  unfolding Along
+  pub along_none : AreKeysOnWay c F b (Branch p l r) j [] → ⊥
+  unfolding AreKeysAlong
   along_none h = elim (cases_lt j (b + width l)) [
     | inl lj ↦ rw (way_left b p l r j lj) at h
     | inr rj ↦ rw (way_right b p l r j rj) at h
   ]
 
-  pub along_left : (o : Option (List ℕ)) (ks : Keys) → j < b + width l → AlongWay c F b (Branch p l r) j (o ∷ ks) → F p o × AlongWay c F b l j ks
-  unfolding Along
+  pub along_left : (o : Option (List ℕ)) (ks : Keys) → j < b + width l → AreKeysOnWay c F b (Branch p l r) j (o ∷ ks) → F p o × AreKeysOnWay c F b l j ks
+  unfolding AreKeysAlong
   along_left o ks lj h = rw (way_left b p l r j lj, leaf_at_left b p l r j lj) at h
 
-  pub along_right : (o : Option (List ℕ)) (ks : Keys) → b + width l ≤ j → AlongWay c F b (Branch p l r) j (o ∷ ks) → F p o × AlongWay c F (b + width l) r j ks
-  unfolding Along
+  pub along_right : (o : Option (List ℕ)) (ks : Keys) → b + width l ≤ j → AreKeysOnWay c F b (Branch p l r) j (o ∷ ks) → F p o × AreKeysOnWay c F (b + width l) r j ks
+  unfolding AreKeysAlong
   along_right o ks rj h = rw (way_right b p l r j rj, leaf_at_right b p l r j rj) at h
 
-  pub left_along : (o : Option (List ℕ)) (ks : Keys) → j < b + width l → F p o → AlongWay c F b l j ks → AlongWay c F b (Branch p l r) j (o ∷ ks)
-  unfolding Along
+  pub left_along : (o : Option (List ℕ)) (ks : Keys) → j < b + width l → F p o → AreKeysOnWay c F b l j ks → AreKeysOnWay c F b (Branch p l r) j (o ∷ ks)
+  unfolding AreKeysAlong
   left_along o ks lj f h = rw (way_left b p l r j lj, leaf_at_left b p l r j lj) (f, h)
 
-  pub right_along : (o : Option (List ℕ)) (ks : Keys) → b + width l ≤ j → F p o → AlongWay c F (b + width l) r j ks → AlongWay c F b (Branch p l r) j (o ∷ ks)
-  unfolding Along
+  pub right_along : (o : Option (List ℕ)) (ks : Keys) → b + width l ≤ j → F p o → AreKeysOnWay c F (b + width l) r j ks → AreKeysOnWay c F b (Branch p l r) j (o ∷ ks)
+  unfolding AreKeysAlong
   right_along o ks rj f h = rw (way_right b p l r j rj, leaf_at_right b p l r j rj) (f, h)
 
 -- ---- tame edits of one side

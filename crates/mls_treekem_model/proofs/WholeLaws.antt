@@ -3,7 +3,7 @@ use Rattle.std.proofs.Common.{◌≡◌, ℕ, suc, Bool, true, false, if◌then�
 use Rattle.std.specs.Option.{option_map}
 use Rattle.std.proofs.lemmas.Bool.{true≢false}
 use Rattle.std.proofs.lemmas.List.{reverse-reverse}
-use Rattle.mls_wire.specs.Checks.{given}
+use Rattle.mls_wire.specs.Checks.{require_some}
 use Rattle.mls_types.specs.declared.update_path.HpkeCiphertext.{HpkeCiphertext}
 use Rattle.mls_types.specs.declared.update_path.UpdatePathNode.{UpdatePathNode}
 use Rattle.mls_leaf.specs.declared.leaf.LeafNode.{LeafNode}
@@ -19,7 +19,7 @@ use Rattle.mls_tree_model.proofs.PlaceLaws.{first_blank_at, width-grow}
 use Rattle.mls_suite.specs.Crypto.{Crypto}
 use Rattle.mls_treekem_model.specs.Chain.{chain, chain_keys}
 use Rattle.mls_treekem_model.specs.Keys.{Fits, Exact, rest}
-use Rattle.mls_treekem_model.specs.Follow.{Tame, Follows}
+use Rattle.mls_treekem_model.specs.Follow.{Tame, TameEdits}
 use Rattle.mls_treekem_model.specs.Make.{Climb, filtered_count, secret_above, made_keys, path_keys}
 use Rattle.mls_treekem_model.specs.Seal.{Choose, targets, sealed_path, seal_along, IsSealedToAll, IsNodeFor, IsPathOf}
 use Rattle.mls_treekem_model.specs.Open.{opened_along, opened_secret, opened_path, climb_open}
@@ -53,7 +53,7 @@ follows_remove t i j two taken =
 -- the place of an add is another's, in the room that is made for it
 record IsPlace (t u : Term) (i j : ℕ) : Type 0 where
   two : AreTwo 0 u i j
-  follows : Follows j t u
+  follows : TameEdits j t u
 
 place_of : (t : Term) (j : ℕ) (o : Option ℕ) → first_blank 0 t ≡ o → IsIn 0 t j → IsSome (leaf_at 0 t j) → IsPlace t (room_for o t) (place_for o t) j
 place_of t j None e inside taken =
@@ -125,7 +125,7 @@ pub sealed_is : (c : Crypto) (context : List ℕ) (added : List ℕ) (rnd : ℕ 
 unfolding sealed_path
 sealed_is c context added rnd t i start path h = by_nodes (seal_along c context added rnd (way 0 t i) start) refl h
   where
-    by_nodes : (o : Option (List UpdatePathNode)) → seal_along c context added rnd (way 0 t i) start ≡ o → given 36 (option_map reverse o) ≡ Ok path → IsSealed c context added rnd t i start path
+    by_nodes : (o : Option (List UpdatePathNode)) → seal_along c context added rnd (way 0 t i) start ≡ o → require_some 36 (option_map reverse o) ≡ Ok path → IsSealed c context added rnd t i start path
     by_nodes (Some ns) e h = record { nodes = ns; sealed = e; turned = cc }
     by_nodes None e h = cc
 
@@ -179,16 +179,16 @@ pub sealed_where_fit : SealedWhereFit
 unfolding sealed_path
 sealed_where_fit c l context added rnd t i start h =
     let s = is_there (seal_along c context added rnd (way 0 t i) start) (path_some c l context added rnd (way 0 t i) start ∙ h) in
-    (reverse s.0, ap (λ o. given 36 (option_map reverse o)) s.1)
+    (reverse s.0, ap (λ o. require_some 36 (option_map reverse o)) s.1)
 
 pub refused_where_unfit : RefusedWhereUnfit
 unfolding sealed_path
 refused_where_unfit c l context added rnd t i start h =
-    ap (λ o. given 36 (option_map reverse o)) (is_missing (seal_along c context added rnd (way 0 t i) start) (path_some c l context added rnd (way 0 t i) start ∙ h))
+    ap (λ o. require_some 36 (option_map reverse o)) (is_missing (seal_along c context added rnd (way 0 t i) start) (path_some c l context added rnd (way 0 t i) start ∙ h))
 
 pub sealed_merged : SealedMerged
 unfolding sealed_path merge_path
-sealed_merged c context added rnd t i x keys start = ap (λ o. given 36 (option_map reverse o)) (seal_merged c context added rnd 0 t i (reverse keys) [] x start)
+sealed_merged c context added rnd t i x keys start = ap (λ o. require_some 36 (option_map reverse o)) (seal_merged c context added rnd 0 t i (reverse keys) [] x start)
 
 pub opened_merged : OpenedMerged
 unfolding opened_path merge_path

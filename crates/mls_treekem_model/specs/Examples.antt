@@ -8,7 +8,7 @@ use Rattle.mls_tree_model.specs.Examples.{member, over, listing_these}
 use Rattle.mls_treekem_model.specs.Chain.{next_secret, node_key}
 use Rattle.mls_treekem_model.specs.Make.{secret_above, made_keys}
 use Rattle.mls_treekem_model.specs.Seal.{targets}
-use Rattle.mls_treekem_model.specs.Open.{shared}
+use Rattle.mls_treekem_model.specs.Open.{shared_keys}
 use Rattle.mls_treekem_model.specs.Pairs.{Pair, pairs}
 
 -- a path of no nodes: the commit secret is the first secret
@@ -41,13 +41,13 @@ KeysOfMaker = (c : Crypto) (x y z w : LeafNode) (start sk : List ℕ) →
 -- leaf 0, which had its own alone, those of 0, 1 and 3
 abbrev pub KeysBeside : Type 0
 KeysBeside = (c : Crypto) (x y z w : LeafNode) (start sk own : List ℕ) →
-    pairs 0 (four x y z w) 0 (shared (way 0 (four x y z w) 1) 0 (made_keys c (way 0 (four x y z w) 1) start sk) (None ∷ None ∷ Some own ∷ []))
+    pairs 0 (four x y z w) 0 (shared_keys (way 0 (four x y z w) 1) 0 (made_keys c (way 0 (four x y z w) 1) start sk) (None ∷ None ∷ Some own ∷ []))
     ≡ pair 0 own ∷ pair 1 (node_key c start) ∷ pair 3 (node_key c (next_secret start)) ∷ []
 
 -- and leaf 3 those of 3 and 6
 abbrev pub KeysAcross : Type 0
 KeysAcross = (c : Crypto) (x y z w : LeafNode) (start sk own : List ℕ) →
-    pairs 0 (four x y z w) 3 (shared (way 0 (four x y z w) 1) 3 (made_keys c (way 0 (four x y z w) 1) start sk) (None ∷ None ∷ Some own ∷ []))
+    pairs 0 (four x y z w) 3 (shared_keys (way 0 (four x y z w) 1) 3 (made_keys c (way 0 (four x y z w) 1) start sk) (None ∷ None ∷ Some own ∷ []))
     ≡ pair 3 (node_key c (next_secret start)) ∷ pair 6 own ∷ []
 
 -- where leaf 3 was just added and node 5 lists it, node 3's secret is sealed to node 5 alone

@@ -44,9 +44,9 @@ key_above n [] = None
 key_above n (o ∷ ks) = if length ks == n then o else key_above n ks
 
 -- the keys by their height above the leaf, on a way of any length: none where nothing is so high
-unfoldable pub on_way : List Step → Keys → Keys
-on_way [] ks = key_above 0 ks ∷ []
-on_way (s ∷ ss) ks = key_above (suc (length ss)) ks ∷ on_way ss ks
+unfoldable pub keys_on_way : List Step → Keys → Keys
+keys_on_way [] ks = key_above 0 ks ∷ []
+keys_on_way (s ∷ ss) ks = key_above (suc (length ss)) ks ∷ keys_on_way ss ks
 
 -- the leaf's key, a new one where the leaf was updated
 abbrev pub leaf_key_after : Option (List ℕ) → Keys → Option (List ℕ)
@@ -65,6 +65,6 @@ parent_above n [] = None
 parent_above n (s ∷ ss) = if length ss == n then s.parent else parent_above n ss
 
 -- edits between two whole trees, which may have other heights, are tame for leaf j
-pub record Follows (j : ℕ) (t t' : Term) : Type 0 where
+pub record TameEdits (j : ℕ) (t t' : Term) : Type 0 where
   pub above : (n : ℕ) → TameAt j (parent_above n (way 0 t j)) (parent_above n (way 0 t' j))
   pub leaf : leaf_at 0 t j ≡ leaf_at 0 t' j

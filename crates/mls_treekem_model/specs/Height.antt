@@ -4,7 +4,7 @@ use Rattle.mls_tree_model.specs.Term.{Term, is_perfect}
 use Rattle.mls_tree_model.specs.Way.{Step, way}
 use Rattle.mls_tree_model.specs.Laws.{IsIn}
 use Rattle.mls_treekem_model.specs.Keys.{Keys, PrivateKeys, all_keys}
-use Rattle.mls_treekem_model.specs.Follow.{key_above, on_way, follow_edit}
+use Rattle.mls_treekem_model.specs.Follow.{key_above, keys_on_way, follow_edit}
 use Rattle.mls_treekem_model.specs.Pairs.{Pair, pair_of, pairs}
 
 -- the keys that leaf j has in a perfect tree of height h whose first leaf is b, by rising number of the node
@@ -15,12 +15,12 @@ pairs_from (suc h) b j ks =
     else pair_of (2 * b + (2 * 2 ^ h - 1)) (key_above (suc h) ks) ++ pairs_from h (b + 2 ^ h) j ks
 
 -- numbers of nodes with keys, as pairs
-abbrev pub listed : List (ℕ × List ℕ) → List Pair
-listed ps = map (λ (n, k). record { node = n; key = k }) ps
+abbrev pub as_pairs : List (ℕ × List ℕ) → List Pair
+as_pairs ps = map (λ (n, k). record { node = n; key = k }) ps
 
 -- they are the keys that a member has in each tree with its leaf that isn't lower than its keys
 abbrev pub ArePairs : PrivateKeys → List (ℕ × List ℕ) → Type 0
-ArePairs p ps = (h : ℕ) (t : Term) → is_perfect h t ≡ true → length p.above ≤ h → IsIn 0 t p.leaf → listed ps ≡ pairs 0 t p.leaf (on_way (way 0 t p.leaf) (all_keys p))
+ArePairs p ps = (h : ℕ) (t : Term) → is_perfect h t ≡ true → length p.above ≤ h → IsIn 0 t p.leaf → as_pairs ps ≡ pairs 0 t p.leaf (keys_on_way (way 0 t p.leaf) (all_keys p))
 
 -- the keys above the leaf after edits (RFC 9420, 7.7 and 12.1)
 unfoldable pub follow_above : List Step → Keys → Keys
@@ -34,4 +34,4 @@ pub record HasFollowed (own : Option (List ℕ)) (t : Term) (old new : PrivateKe
 
 -- a member's keys on its way in a whole tree, by their height
 abbrev pub keys_on : Term → PrivateKeys → Keys
-keys_on t p = on_way (way 0 t p.leaf) (all_keys p)
+keys_on t p = keys_on_way (way 0 t p.leaf) (all_keys p)

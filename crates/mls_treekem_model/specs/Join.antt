@@ -10,30 +10,30 @@ use Rattle.mls_tree_model.specs.Term.{Term, width}
 use Rattle.mls_tree_model.specs.Way.{Step, way, is_beside}
 use Rattle.mls_treekem_model.specs.Chain.{node_public}
 use Rattle.mls_treekem_model.specs.Keys.{Keys, rest, leaf_only, PrivateKeys, all_keys}
-use Rattle.mls_treekem_model.specs.Make.{Climb, past_blank, past_node, filtered_count, secret_above}
-use Rattle.mls_treekem_model.specs.Follow.{on_way}
+use Rattle.mls_treekem_model.specs.Make.{Climb, climb_past_blank, climb_past_node, filtered_count, secret_above}
+use Rattle.mls_treekem_model.specs.Follow.{keys_on_way}
 
 -- past a parent: a blank one takes no step, another one doesn't list the joiner and has the derived public key, else 34
 -- (RFC 9420, 12.4.3.1)
-abbrev pub past_present : Crypto → ℕ → Option Parent → Climb → Result Climb ℕ
-past_present c j None m = Ok (past_blank m)
-past_present c j (Some p) m =
+abbrev pub climb_past_present : Crypto → ℕ → Option Parent → Climb → Result Climb ℕ
+climb_past_present c j None m = Ok (climb_past_blank m)
+climb_past_present c j (Some p) m =
     if not (has p.unmerged_leaves j) && bytes_eq (node_public c m.secret) p.encryption_key
-    then Ok (past_node c m)
+    then Ok (climb_past_node c m)
     else Err 34
 
 -- the parent where the ways part isn't blank, else 34
-abbrev pub is_present : Option Parent → Climb → Result Climb ℕ
-is_present None m = Err 34
-is_present (Some p) m = Ok m
+abbrev pub require_present : Option Parent → Climb → Result Climb ℕ
+require_present None m = Err 34
+require_present (Some p) m = Ok m
 
 -- the climb of joiner j along the signer's way, from the path secret of the parent where the ways part, with the keys
 -- that it holds (RFC 9420, 12.4.3.1)
 unfoldable pub climb_take : Crypto → List Step → ℕ → Keys → List ℕ → Result Climb ℕ
 climb_take c [] j ks secret = Err 34
 climb_take c (s ∷ ss) j ks secret =
-    (if is_beside s j then is_present s.parent (record { secret = secret; keys = rest ks }) else climb_take c ss j (rest ks) secret)
-    >>= λ m. past_present c j s.parent m
+    (if is_beside s j then require_present s.parent (record { secret = secret; keys = rest ks }) else climb_take c ss j (rest ks) secret)
+    >>= λ m. climb_past_present c j s.parent m
 
 -- a parent is blank, lists the joiner, or has a key
 abbrev pub is_due : ℕ → Option Parent → Option (List ℕ) → Bool
@@ -81,7 +81,7 @@ secret_among (s ∷ ss) j secrets = if is_beside s j then slice_get secrets (fil
 
 -- whether a member has each key that is due on a way, and on its own in a whole tree (RFC 9420, 12.4.3.1)
 abbrev pub has_due_on : PrivateKeys → List Step → Bool
-has_due_on p ss = is_complete p.leaf ss (on_way ss (all_keys p))
+has_due_on p ss = is_complete p.leaf ss (keys_on_way ss (all_keys p))
 
 abbrev pub has_due : Term → PrivateKeys → Bool
 has_due t p = has_due_on p (way 0 t p.leaf)

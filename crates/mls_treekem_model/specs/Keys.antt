@@ -33,18 +33,18 @@ IsOwnKey c (Some x) [] = ⊥
 IsOwnKey c None ks = ⊥
 
 -- along a way each key stands to its parent as F says, and the last one is the leaf's
-unfoldable pub Along : Crypto → (Option Parent → Option (List ℕ) → Type 0) → List Step → Option LeafNode → Keys → Type 0
-Along c F [] x ks = IsOwnKey c x ks
-Along c F (s ∷ ss) x [] = ⊥
-Along c F (s ∷ ss) x (o ∷ ks) = F s.parent o × Along c F ss x ks
+unfoldable pub AreKeysAlong : Crypto → (Option Parent → Option (List ℕ) → Type 0) → List Step → Option LeafNode → Keys → Type 0
+AreKeysAlong c F [] x ks = IsOwnKey c x ks
+AreKeysAlong c F (s ∷ ss) x [] = ⊥
+AreKeysAlong c F (s ∷ ss) x (o ∷ ks) = F s.parent o × AreKeysAlong c F ss x ks
 
-abbrev pub AlongWay : Crypto → (Option Parent → Option (List ℕ) → Type 0) → ℕ → Term → ℕ → Keys → Type 0
-AlongWay c F b t j ks = Along c F (way b t j) (leaf_at b t j) ks
+abbrev pub AreKeysOnWay : Crypto → (Option Parent → Option (List ℕ) → Type 0) → ℕ → Term → ℕ → Keys → Type 0
+AreKeysOnWay c F b t j ks = AreKeysAlong c F (way b t j) (leaf_at b t j) ks
 
 -- member j of a tree whose first leaf is b has a key exactly at its leaf and at each parent over it that isn't blank
 -- and doesn't list it, and there the one whose public key is the node's (RFC 9420, 7.5 and 7.6)
 abbrev pub Exact : Crypto → ℕ → Term → ℕ → Keys → Type 0
-Exact c b t j ks = AlongWay c (Fits c j) b t j ks
+Exact c b t j ks = AreKeysOnWay c (Fits c j) b t j ks
 
 -- all but the first
 abbrev pub rest : {A : Type 0} → List A → List A

@@ -8,19 +8,19 @@ use Rattle.mls_tree_model.specs.Sets.{has, leaf_numbers, less, is_distinct}
 use Rattle.mls_tree_model.specs.Term.{Term, size, leaf_at}
 use Rattle.mls_tree_model.specs.Resolution.{resolution}
 use Rattle.mls_tree_model.specs.Places.{key_at}
-use Rattle.mls_tree_model.specs.Held.{holds}
+use Rattle.mls_tree_model.specs.HeldKeys.{holds_key_of}
 use Rattle.mls_tree_model.specs.Way.{Step, way, is_filtered, filtered_way, is_beside, path_length}
 use Rattle.mls_tree_model.specs.Edits.{put, enter, grow, trim}
 use Rattle.mls_tree_model.specs.Merge.{merge}
 use Rattle.mls_tree_model.specs.Laws.{IsIn, HasLists}
 use Rattle.mls_treekem_model.specs.Chain.{path_secrets, node_public, chain_keys}
 use Rattle.mls_treekem_model.specs.Keys.{Keys, Exact, leaf_only, key_in}
-use Rattle.mls_treekem_model.specs.Follow.{Tame, follow, follow_trim, on_way, follow_edit, Follows}
+use Rattle.mls_treekem_model.specs.Follow.{Tame, follow, follow_trim, keys_on_way, follow_edit, TameEdits}
 use Rattle.mls_treekem_model.specs.Make.{Climb, filtered_count, climb_make, climb_past, path_keys}
 use Rattle.mls_treekem_model.specs.Lists.{ListsBelow}
 use Rattle.mls_treekem_model.specs.Seeds.{seal_seed}
 use Rattle.mls_treekem_model.specs.Seal.{targets, seal_count, IsPathOf, seal_along, targets_fit}
-use Rattle.mls_treekem_model.specs.Open.{climb_open, shared, held_count}
+use Rattle.mls_treekem_model.specs.Open.{climb_open, shared_keys, held_count}
 use Rattle.mls_treekem_model.specs.Join.{is_complete, take_keys, take_answer, AllList, secret_for}
 use Rattle.mls_treekem_model.specs.Pairs.{pairs, find_key, IsInOrder}
 
@@ -64,34 +64,34 @@ FollowOwn = (c : Crypto) (b : ℕ) (t : Term) (i : ℕ) (x : LeafNode) (k : List
 
 -- edits in turn, also those that make the tree higher or lower, are followed in one pass over the last tree
 abbrev pub FollowsTrans : Type 0
-FollowsTrans = (j : ℕ) (t u v : Term) → Follows j t u → Follows j u v → Follows j t v
+FollowsTrans = (j : ℕ) (t u v : Term) → TameEdits j t u → TameEdits j u v → TameEdits j t v
 
 abbrev pub FollowsTame : Type 0
-FollowsTame = (j : ℕ) (t t' : Term) → Tame j 0 t t' → Follows j t t'
+FollowsTame = (j : ℕ) (t t' : Term) → Tame j 0 t t' → TameEdits j t t'
 
 abbrev pub FollowsGrow : Type 0
-FollowsGrow = (t : Term) (j : ℕ) → IsIn 0 t j → Follows j t (grow t)
+FollowsGrow = (t : Term) (j : ℕ) → IsIn 0 t j → TameEdits j t (grow t)
 
 abbrev pub FollowsTrim : Type 0
-FollowsTrim = (t : Term) (j : ℕ) → IsIn 0 t j → IsSome (leaf_at 0 t j) → Follows j t (trim t)
+FollowsTrim = (t : Term) (j : ℕ) → IsIn 0 t j → IsSome (leaf_at 0 t j) → TameEdits j t (trim t)
 
 abbrev pub FollowEdit : Type 0
-FollowEdit = (c : Crypto) (t t' : Term) (j : ℕ) (ks : Keys) → Exact c 0 t j ks → Follows j t t' → Exact c 0 t' j (follow_edit None (way 0 t' j) ks)
+FollowEdit = (c : Crypto) (t t' : Term) (j : ℕ) (ks : Keys) → Exact c 0 t j ks → TameEdits j t t' → Exact c 0 t' j (follow_edit None (way 0 t' j) ks)
 
 -- with an own update among them, whatever was held before
 abbrev pub FollowOwnEdit : Type 0
-FollowOwnEdit = (c : Crypto) (t t' : Term) (j : ℕ) (x : LeafNode) (k : List ℕ) (ks : Keys) → c.public k ≡ x.encryption_key → Follows j (put 0 t j (Some x)) t' → Exact c 0 t' j (follow_edit (Some k) (way 0 t' j) ks)
+FollowOwnEdit = (c : Crypto) (t t' : Term) (j : ℕ) (x : LeafNode) (k : List ℕ) (ks : Keys) → c.public k ≡ x.encryption_key → TameEdits j (put 0 t j (Some x)) t' → Exact c 0 t' j (follow_edit (Some k) (way 0 t' j) ks)
 
 -- exact keys stand on their way by their height, and a leaf's key alone does on any way to it
 abbrev pub ExactIsOnWay : Type 0
-ExactIsOnWay = (c : Crypto) (b : ℕ) (t : Term) (j : ℕ) (ks : Keys) → Exact c b t j ks → on_way (way b t j) ks ≡ ks
+ExactIsOnWay = (c : Crypto) (b : ℕ) (t : Term) (j : ℕ) (ks : Keys) → Exact c b t j ks → keys_on_way (way b t j) ks ≡ ks
 
 abbrev pub LeafIsOnWay : Type 0
-LeafIsOnWay = (ss : List Step) (k : List ℕ) → on_way ss (Some k ∷ []) ≡ leaf_only ss k
+LeafIsOnWay = (ss : List Step) (k : List ℕ) → keys_on_way ss (Some k ∷ []) ≡ leaf_only ss k
 
 -- the pass drops keys of keys that stand so
 abbrev pub EditIsFollow : Type 0
-EditIsFollow = (ss : List Step) (ks : Keys) → follow_edit None ss ks ≡ follow ss (on_way ss ks)
+EditIsFollow = (ss : List Step) (ks : Keys) → follow_edit None ss ks ≡ follow ss (keys_on_way ss ks)
 
 -- ---- lists of unmerged leaves
 
@@ -133,7 +133,7 @@ OneNode = (b : ℕ) (t : Term) (i j : ℕ) → AreTwo b t i j → IsSome (leaf_a
 
 -- a member with exact keys has one just where it has to
 abbrev pub KeyWhereHeld : Type 0
-KeyWhereHeld = (c : Crypto) (b : ℕ) (t : Term) (j : ℕ) (ks : Keys) (d : ℕ) → IsIn b t j → Exact c b t j ks → is_some (key_in b t j ks d) ≡ holds b t j d
+KeyWhereHeld = (c : Crypto) (b : ℕ) (t : Term) (j : ℕ) (ks : Keys) (d : ℕ) → IsIn b t j → Exact c b t j ks → is_some (key_in b t j ks d) ≡ holds_key_of b t j d
 
 -- of the nodes that reach a member's subtree, less the leaves just added, it has the key of just one
 abbrev pub OneEntry : Type 0
@@ -218,7 +218,7 @@ ClimbExact = (c : Crypto) (context : List ℕ) (added : List ℕ) (b : ℕ) (t :
 -- a path that was made is accepted, with the committer's commit secret, and its keys where the ways are one
 abbrev pub ClimbAgree : Type 0
 ClimbAgree = (c : Crypto) → Lawful c → (context : List ℕ) (added : List ℕ) (b : ℕ) (t : Term) (i j : ℕ) (start sk : List ℕ) (ks : Keys) (ns : List UpdatePathNode) → length start ≡ 32 → AreTwo b t i j → ListsBelow b t → Exact c b t j ks → has added j ≡ false → IsPathOf c context added (way b t i) start ns →
-    climb_open c context added (way b t i) j ks ns ≡ Ok (record { secret = (climb_make c (way b t i) start sk).secret; keys = shared (way b t i) j (climb_make c (way b t i) start sk).keys ks })
+    climb_open c context added (way b t i) j ks ns ≡ Ok (record { secret = (climb_make c (way b t i) start sk).secret; keys = shared_keys (way b t i) j (climb_make c (way b t i) start sk).keys ks })
 
 -- a receiver takes the committer's commit secret, and both have exact keys in the tree with the path
 pub record IsShared (c : Crypto) (context : List ℕ) (added : List ℕ) (b : ℕ) (t : Term) (i j : ℕ) (h : List ℕ) (x : LeafNode) (start sk : List ℕ) (ks : Keys) (ns : List UpdatePathNode) : Type 0 where
@@ -247,16 +247,16 @@ TakeInside = (c : Crypto) (t : Term) (i j : ℕ) (sk secret : List ℕ) → IsIn
 -- without a path secret: a joiner that has its leaf's key alone has all that is due exactly where each parent over it
 -- lists it, and then its keys are exact
 abbrev pub LeafHasDue : Type 0
-LeafHasDue = (j : ℕ) (ss : List Step) (sk : List ℕ) → (is_complete j ss (on_way ss (Some sk ∷ [])) ≡ true) ↔ AllList j ss
+LeafHasDue = (j : ℕ) (ss : List Step) (sk : List ℕ) → (is_complete j ss (keys_on_way ss (Some sk ∷ [])) ≡ true) ↔ AllList j ss
 
 abbrev pub LeafExact : Type 0
-LeafExact = (c : Crypto) (t : Term) (j : ℕ) (x : LeafNode) (sk : List ℕ) → leaf_at 0 t j ≡ Some x → c.public sk ≡ x.encryption_key → is_complete j (way 0 t j) (on_way (way 0 t j) (Some sk ∷ [])) ≡ true → Exact c 0 t j (on_way (way 0 t j) (Some sk ∷ []))
+LeafExact = (c : Crypto) (t : Term) (j : ℕ) (x : LeafNode) (sk : List ℕ) → leaf_at 0 t j ≡ Some x → c.public sk ≡ x.encryption_key → is_complete j (way 0 t j) (keys_on_way (way 0 t j) (Some sk ∷ [])) ≡ true → Exact c 0 t j (keys_on_way (way 0 t j) (Some sk ∷ []))
 
 -- in a tree with a path that was made, a joiner that the parents over it list takes the committer's commit secret and keys
 abbrev pub TakeAgree : Type 0
 TakeAgree = (c : Crypto) (t : Term) (i j : ℕ) (h : List ℕ) (x y : LeafNode) (start sk own : List ℕ) → AreTwo 0 t i j → leaf_at 0 t j ≡ Some y → c.public own ≡ y.encryption_key → AllList j (way 0 t j) →
     take_keys c (merge 0 t i (path_keys c (way 0 t i) start) h x) i j own (secret_for (way 0 t i) j start)
-    ≡ Ok (record { secret = (climb_make c (way 0 t i) start sk).secret; keys = shared (way 0 t i) j (climb_make c (way 0 t i) start sk).keys (leaf_only (way 0 t j) own) })
+    ≡ Ok (record { secret = (climb_make c (way 0 t i) start sk).secret; keys = shared_keys (way 0 t i) j (climb_make c (way 0 t i) start sk).keys (leaf_only (way 0 t j) own) })
 
 -- it takes the committer's commit secret, and has exact keys in the tree with the path
 pub record IsJoined (c : Crypto) (t : Term) (i j : ℕ) (h : List ℕ) (x : LeafNode) (start sk own : List ℕ) : Type 0 where

@@ -6,7 +6,7 @@ use Rattle.mls_tree_model.specs.Way.{Step, is_filtered, way, filtered_path}
 use Rattle.mls_treekem_model.specs.Chain.{next_secret, chain, node_key, node_public}
 use Rattle.mls_treekem_model.specs.Keys.{Keys, PrivateKeys, all_keys}
 use Rattle.mls_tree_model.specs.Term.{Term, is_perfect}
-use Rattle.mls_treekem_model.specs.Follow.{on_way}
+use Rattle.mls_treekem_model.specs.Follow.{keys_on_way}
 
 -- where a climb along a way stands: the path secret of the next node above, and the private keys from there down
 pub record Climb : Type 0 where
@@ -42,21 +42,21 @@ abbrev pub climb_make : Crypto → List Step → List ℕ → List ℕ → Climb
 climb_make c ss start sk = record { secret = secret_above ss start; keys = made_keys c ss start sk }
 
 -- a climb past a node that has a key: it takes its key and the next secret (RFC 9420, 7.4)
-abbrev pub past_node : Crypto → Climb → Climb
-past_node c m = record { secret = next_secret m.secret; keys = Some (node_key c m.secret) ∷ m.keys }
+abbrev pub climb_past_node : Crypto → Climb → Climb
+climb_past_node c m = record { secret = next_secret m.secret; keys = Some (node_key c m.secret) ∷ m.keys }
 
 -- past a node that has none
-abbrev pub past_blank : Climb → Climb
-past_blank m = record { secret = m.secret; keys = None ∷ m.keys }
+abbrev pub climb_past_blank : Climb → Climb
+climb_past_blank m = record { secret = m.secret; keys = None ∷ m.keys }
 
 -- past a node with this public key: 34 where the derived one differs (RFC 9420, 7.5)
-abbrev pub past_key : Crypto → List ℕ → Climb → Result Climb ℕ
-past_key c k m = if bytes_eq (node_public c m.secret) k then Ok (past_node c m) else Err 34
+abbrev pub climb_past_key : Crypto → List ℕ → Climb → Result Climb ℕ
+climb_past_key c k m = if bytes_eq (node_public c m.secret) k then Ok (climb_past_node c m) else Err 34
 
 -- past a parent, where the filtered direct path takes it in and where it doesn't
 abbrev pub climb_past : Crypto → Bool → Climb → Climb
-climb_past c true m = past_node c m
-climb_past c false m = past_blank m
+climb_past c true m = climb_past_node c m
+climb_past c false m = climb_past_blank m
 
 abbrev pub more_if : Bool → List ℕ → List (List ℕ) → List (List ℕ)
 more_if true k ks = k ∷ ks
@@ -76,5 +76,5 @@ climb_to secret p = record { secret = secret; keys = all_keys p }
 pub record HasMade (c : Crypto) (start : List ℕ) (filtered : List ℕ) (old new : PrivateKeys) : Type 0 where
   pub leaf : new.leaf ≡ old.leaf
   pub own : new.own ≡ old.own
-  pub keys : (h : ℕ) (t : Term) → is_perfect h t ≡ true → h ≤ 32 → filtered ≡ filtered_path 0 t old.leaf → on_way (way 0 t old.leaf) (all_keys new) ≡ made_keys c (way 0 t old.leaf) start old.own
+  pub keys : (h : ℕ) (t : Term) → is_perfect h t ≡ true → h ≤ 32 → filtered ≡ filtered_path 0 t old.leaf → keys_on_way (way 0 t old.leaf) (all_keys new) ≡ made_keys c (way 0 t old.leaf) start old.own
   pub low : (h : ℕ) (t : Term) → is_perfect h t ≡ true → h ≤ 32 → filtered ≡ filtered_path 0 t old.leaf → length new.above ≤ h

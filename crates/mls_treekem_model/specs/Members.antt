@@ -8,8 +8,8 @@ use Rattle.mls_tree_model.specs.Way.{way, filtered_path, path_length}
 use Rattle.mls_tree_model.specs.Edits.{put}
 use Rattle.mls_tree_model.specs.Merge.{merge_path}
 use Rattle.mls_treekem_model.specs.Make.{climb_to, HasMade, Climb}
-use Rattle.mls_treekem_model.specs.Follow.{Follows}
-use Rattle.mls_treekem_model.specs.Height.{listed, ArePairs, HasFollowed, keys_on}
+use Rattle.mls_treekem_model.specs.Follow.{TameEdits}
+use Rattle.mls_treekem_model.specs.Height.{as_pairs, ArePairs, HasFollowed, keys_on}
 use Rattle.mls_treekem_model.specs.Join.{take_answer, has_due, secret_for}
 use Rattle.mls_treekem_model.specs.Keys.{Exact, PrivateKeys, all_keys}
 use Rattle.mls_treekem_model.specs.Laws.{AreTwo}
@@ -20,7 +20,7 @@ use Rattle.mls_treekem_model.specs.Lists.{ListsBelow}
 use Rattle.mls_treekem_model.specs.Chain.{chain}
 use Rattle.mls_tree_model.specs.Sets.{has}
 use Rattle.mls_tree_model.specs.Places.{key_at}
-use Rattle.mls_tree_model.specs.Held.{holds}
+use Rattle.mls_tree_model.specs.HeldKeys.{holds_key_of}
 use Rattle.mls_tree_model.specs.Laws.{IsIn}
 use Rattle.mls_treekem_model.specs.Whole.{keys_of_path}
 
@@ -41,10 +41,10 @@ ExactMade = (c : Crypto) (h : ℕ) (t : Term) (x : LeafNode) (start : List ℕ) 
 
 -- a member's after edits that it follows, and after its own update
 abbrev pub ExactFollowed : Type 0
-ExactFollowed = (c : Crypto) (t t' : Term) (old new : PrivateKeys) → HasExact c t old → Follows old.leaf t t' → HasFollowed None t' old new → HasExact c t' new
+ExactFollowed = (c : Crypto) (t t' : Term) (old new : PrivateKeys) → HasExact c t old → TameEdits old.leaf t t' → HasFollowed None t' old new → HasExact c t' new
 
 abbrev pub ExactUpdated : Type 0
-ExactUpdated = (c : Crypto) (t t' : Term) (x : LeafNode) (k : List ℕ) (old new : PrivateKeys) → c.public k ≡ x.encryption_key → Follows old.leaf (put 0 t old.leaf (Some x)) t' → HasFollowed (Some k) t' old new → HasExact c t' new
+ExactUpdated = (c : Crypto) (t t' : Term) (x : LeafNode) (k : List ℕ) (old new : PrivateKeys) → c.public k ≡ x.encryption_key → TameEdits old.leaf (put 0 t old.leaf (Some x)) t' → HasFollowed (Some k) t' old new → HasExact c t' new
 
 -- after it opened a path of leaf i, in the tree with that path
 abbrev pub ExactOpened : Type 0
@@ -85,9 +85,9 @@ MadeReceived = (c : Crypto) → Lawful c → (context : List ℕ) (added : List 
 -- numbers of nodes with keys are in order, a node is among them just where the member has to have its key, and the key
 -- is its node's
 pub record AreDue (c : Crypto) (t : Term) (p : PrivateKeys) (ps : List (ℕ × List ℕ)) : Type 0 where
-  pub in_order : IsInOrder (listed ps)
-  pub due : (d : ℕ) → is_some (find_key d (listed ps)) ≡ holds 0 t p.leaf d
-  pub fit : (d : ℕ) (k : List ℕ) → find_key d (listed ps) ≡ Some k → key_at 0 t d ≡ Some (c.public k)
+  pub in_order : IsInOrder (as_pairs ps)
+  pub due : (d : ℕ) → is_some (find_key d (as_pairs ps)) ≡ holds_key_of 0 t p.leaf d
+  pub fit : (d : ℕ) (k : List ℕ) → find_key d (as_pairs ps) ≡ Some k → key_at 0 t d ≡ Some (c.public k)
 
 abbrev pub ShownAreDue : Type 0
 ShownAreDue = (c : Crypto) (h : ℕ) (t : Term) (p : PrivateKeys) (ps : List (ℕ × List ℕ)) → is_perfect h t ≡ true → IsIn 0 t p.leaf → HasExact c t p → ArePairs p ps → AreDue c t p ps

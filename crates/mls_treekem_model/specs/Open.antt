@@ -1,7 +1,7 @@
 -- What a receiver takes from a path.
 use Rattle.std.specs.Prelude.{ℕ, ◌==◌, if◌then◌else◌, Bool, true, false, List, [], ◌∷◌, length, reverse, codes, Option, Some, None, is_some, Result, Ok, Err}
 use Rattle.mls_wire.specs.Reading.{◌>>=◌}
-use Rattle.mls_wire.specs.Checks.{given}
+use Rattle.mls_wire.specs.Checks.{require_some}
 use Rattle.mls_types.specs.declared.update_path.HpkeCiphertext.{HpkeCiphertext}
 use Rattle.mls_types.specs.declared.update_path.UpdatePathNode.{UpdatePathNode}
 use Rattle.mls_suite.specs.Crypto.{Crypto}
@@ -9,13 +9,13 @@ use Rattle.mls_suite.specs.Labels.{decrypt_with_label}
 use Rattle.mls_tree_model.specs.Term.{Term}
 use Rattle.mls_tree_model.specs.Way.{Step, way, is_filtered, is_beside}
 use Rattle.mls_treekem_model.specs.Keys.{Keys, rest, key_in}
-use Rattle.mls_treekem_model.specs.Make.{Climb, one_if, past_blank, past_key}
+use Rattle.mls_treekem_model.specs.Make.{Climb, one_if, climb_past_blank, climb_past_key}
 use Rattle.mls_treekem_model.specs.Seal.{targets}
 
 -- what a parent of a way leaves of a list with an item for each filtered one
-abbrev pub left_by : {A : Type 0} → Bool → List A → List A
-left_by false xs = xs
-left_by true xs = rest xs
+abbrev pub nodes_below : {A : Type 0} → Bool → List A → List A
+nodes_below false xs = xs
+nodes_below true xs = rest xs
 
 -- ---- at the parent where the ways part
 
@@ -24,12 +24,12 @@ unfoldable pub unseal_secret : Crypto → List ℕ → List ℕ → HpkeCipherte
 unseal_secret c context sk x = decrypt_with_label c sk (codes "UpdatePathNode") context x.kem_output x.ciphertext
 
 -- a path secret has 32 bytes, else 33
-abbrev pub of_32 : List ℕ → Result (List ℕ) ℕ
-of_32 secret = if length secret == 32 then Ok secret else Err 33
+abbrev pub secret_of : List ℕ → Result (List ℕ) ℕ
+secret_of secret = if length secret == 32 then Ok secret else Err 33
 
 -- the path secret in a ciphertext: 32 where it doesn't open, 33 where that isn't 32 bytes (RFC 9420, 7.6)
 abbrev pub secret_in : Crypto → List ℕ → List ℕ → HpkeCiphertext → Result (List ℕ) ℕ
-secret_in c context k x = given 32 (unseal_secret c context k x) >>= of_32
+secret_in c context k x = require_some 32 (unseal_secret c context k x) >>= secret_of
 
 -- the same by a key, where there is one
 abbrev pub open_with : Crypto → List ℕ → Option (List ℕ) → HpkeCiphertext → Result (List ℕ) ℕ → Result (List ℕ) ℕ
@@ -48,8 +48,8 @@ first_ciphertexts [] = []
 first_ciphertexts (n ∷ ns) = n.ciphertexts
 
 -- what is opened there, with the keys below
-abbrev pub open_here : Crypto → List ℕ → List ℕ → Step → ℕ → Keys → List UpdatePathNode → Result Climb ℕ
-open_here c context added s j ks ns =
+abbrev pub open_at_ancestor : Crypto → List ℕ → List ℕ → Step → ℕ → Keys → List UpdatePathNode → Result Climb ℕ
+open_at_ancestor c context added s j ks ns =
     open_first c context (key_in s.first s.other j ks) (targets added s) (first_ciphertexts ns) >>= λ secret. Ok (record { secret = secret; keys = ks })
 
 -- the path secret that member j opens there, along the committer's way
@@ -57,7 +57,7 @@ unfoldable pub opened_along : Crypto → List ℕ → List ℕ → List Step →
 opened_along c context added [] j ks ns = Err 32
 opened_along c context added (s ∷ ss) j ks ns =
     if is_beside s j then open_first c context (key_in s.first s.other j (rest ks)) (targets added s) (first_ciphertexts ns)
-    else opened_along c context added ss j (rest ks) (left_by (is_filtered s) ns)
+    else opened_along c context added ss j (rest ks) (nodes_below (is_filtered s) ns)
 
 -- and of the path of leaf i in a whole tree, whose nodes come the lowest first: 32 where no ciphertext is for the member
 -- or its own doesn't open, 33 where that isn't 32 bytes (RFC 9420, 7.6)
@@ -72,21 +72,21 @@ filtered_from (s ∷ ss) j = one_if (is_filtered s) (if is_beside s j then 0 els
 -- ---- and above it
 
 -- past a filtered parent: the derived public key is the one that the path gives, else 34 (RFC 9420, 7.5)
-abbrev pub past_filtered : Crypto → List UpdatePathNode → Climb → Result Climb ℕ
-past_filtered c [] m = Err 34
-past_filtered c (n ∷ ns) m = past_key c n.encryption_key m
+abbrev pub climb_past_filtered : Crypto → List UpdatePathNode → Climb → Result Climb ℕ
+climb_past_filtered c [] m = Err 34
+climb_past_filtered c (n ∷ ns) m = climb_past_key c n.encryption_key m
 
-abbrev pub past_parent : Crypto → Bool → List UpdatePathNode → Climb → Result Climb ℕ
-past_parent c true ns m = past_filtered c ns m
-past_parent c false ns m = Ok (past_blank m)
+abbrev pub climb_past_parent : Crypto → Bool → List UpdatePathNode → Climb → Result Climb ℕ
+climb_past_parent c true ns m = climb_past_filtered c ns m
+climb_past_parent c false ns m = Ok (climb_past_blank m)
 
 -- member j's climb along the committer's way, with the keys that it holds and the path's nodes, the highest first
 -- (RFC 9420, 7.5)
 unfoldable pub climb_open : Crypto → List ℕ → List ℕ → List Step → ℕ → Keys → List UpdatePathNode → Result Climb ℕ
 climb_open c context added [] j ks ns = Err 32
 climb_open c context added (s ∷ ss) j ks ns =
-    (if is_beside s j then open_here c context added s j (rest ks) ns else climb_open c context added ss j (rest ks) (left_by (is_filtered s) ns))
-    >>= λ m. past_parent c (is_filtered s) ns m
+    (if is_beside s j then open_at_ancestor c context added s j (rest ks) ns else climb_open c context added ss j (rest ks) (nodes_below (is_filtered s) ns))
+    >>= λ m. climb_past_parent c (is_filtered s) ns m
 
 -- what member j of a whole tree takes of the path of leaf i, whose nodes come the lowest first: the commit secret, and
 -- its new keys. 32 where its ciphertext doesn't open, 33 where that isn't 32 bytes, 34 where a derived public key
@@ -97,10 +97,10 @@ opened_path c context added t i j ks path = climb_open c context added (way 0 t 
 -- ---- what comes of a path that was made
 
 -- a member's keys after a path: the committer's where their ways are one, its own below
-unfoldable pub shared : List Step → ℕ → Keys → Keys → Keys
-shared [] j ms ks = []
-shared (s ∷ ss) j [] ks = []
-shared (s ∷ ss) j (m ∷ ms) ks = m ∷ (if is_beside s j then rest ks else shared ss j ms (rest ks))
+unfoldable pub shared_keys : List Step → ℕ → Keys → Keys → Keys
+shared_keys [] j ms ks = []
+shared_keys (s ∷ ss) j [] ks = []
+shared_keys (s ∷ ss) j (m ∷ ms) ks = m ∷ (if is_beside s j then rest ks else shared_keys ss j ms (rest ks))
 
 -- how many of some nodes have a key
 unfoldable pub held_count : (ℕ → Option (List ℕ)) → List ℕ → ℕ

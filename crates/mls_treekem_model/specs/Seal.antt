@@ -2,7 +2,7 @@
 use Rattle.std.specs.Prelude.{◌≡◌, ℕ, suc, ◌+◌, not, ◌&&◌, ◌||◌, if◌then◌else◌, Bool, true, false, List, [], ◌∷◌, length, reverse, codes, Option, Some, None, Result}
 use Rattle.std.specs.List.{slice_get}
 use Rattle.std.specs.Option.{option_map}
-use Rattle.mls_wire.specs.Checks.{given}
+use Rattle.mls_wire.specs.Checks.{require_some}
 use Rattle.mls_types.specs.declared.update_path.HpkeCiphertext.{HpkeCiphertext}
 use Rattle.mls_types.specs.declared.update_path.UpdatePathNode.{UpdatePathNode}
 use Rattle.mls_suite.specs.Crypto.{Crypto, Sealing}
@@ -105,7 +105,7 @@ seal_along c context added rnd (s ∷ ss) start =
 -- the nodes of the path that leaf i of a whole tree sends, the lowest first; 36 where a key is missing or not fit
 -- (RFC 9420, 7.5 and 7.6)
 unfoldable pub sealed_path : Crypto → List ℕ → List ℕ → (ℕ → List ℕ) → Term → ℕ → List ℕ → Result (List UpdatePathNode) ℕ
-sealed_path c context added rnd t i start = given 36 (option_map reverse (seal_along c context added rnd (way 0 t i) start))
+sealed_path c context added rnd t i start = require_some 36 (option_map reverse (seal_along c context added rnd (way 0 t i) start))
 
 -- ---- the path of any secrets and public keys, the lowest node's first
 
@@ -116,16 +116,16 @@ node_with c context b t rnd i ds (Some secret) None = None
 node_with c context b t rnd i ds None k = None
 
 -- the path along a way, the highest node first; none where a filtered parent has no secret or no key, too
-unfoldable pub seal_with : Crypto → List ℕ → List ℕ → (ℕ → List ℕ) → List (List ℕ) → List (List ℕ) → List Step → Option (List UpdatePathNode)
-seal_with c context added rnd secrets keys [] = Some []
-seal_with c context added rnd secrets keys (s ∷ ss) =
+unfoldable pub seal_path_with : Crypto → List ℕ → List ℕ → (ℕ → List ℕ) → List (List ℕ) → List (List ℕ) → List Step → Option (List UpdatePathNode)
+seal_path_with c context added rnd secrets keys [] = Some []
+seal_path_with c context added rnd secrets keys (s ∷ ss) =
     path_past (is_filtered s)
     (node_with c context s.first s.other rnd (seal_count added ss) (targets added s) (slice_get secrets (filtered_count ss)) (slice_get keys (filtered_count ss)))
-    (seal_with c context added rnd secrets keys ss)
+    (seal_path_with c context added rnd secrets keys ss)
 
 -- the nodes of the path of leaf i of a whole tree, the lowest first; 36 where there is none
-unfoldable pub sealed_with : Crypto → List ℕ → List ℕ → (ℕ → List ℕ) → List (List ℕ) → List (List ℕ) → Term → ℕ → Result (List UpdatePathNode) ℕ
-sealed_with c context added rnd secrets keys t i = given 36 (option_map reverse (seal_with c context added rnd secrets keys (way 0 t i)))
+unfoldable pub sealed_path_with : Crypto → List ℕ → List ℕ → (ℕ → List ℕ) → List (List ℕ) → List (List ℕ) → Term → ℕ → Result (List UpdatePathNode) ℕ
+sealed_path_with c context added rnd secrets keys t i = require_some 36 (option_map reverse (seal_path_with c context added rnd secrets keys (way 0 t i)))
 
 -- ---- where there is one
 

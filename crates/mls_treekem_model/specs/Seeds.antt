@@ -32,6 +32,6 @@ unfoldable pub seal_seed : List ℕ → ℕ → List ℕ
 seal_seed seed i = expand_with_label seed (codes "seed seal") (uint w32 i) 32
 
 -- how many seals nodes of a path have
-unfoldable pub seals_in : List UpdatePathNode → ℕ
-seals_in [] = 0
-seals_in (n ∷ ns) = length n.ciphertexts + seals_in ns
+unfoldable pub seal_count_of : List UpdatePathNode → ℕ
+seal_count_of [] = 0
+seal_count_of (n ∷ ns) = length n.ciphertexts + seal_count_of ns

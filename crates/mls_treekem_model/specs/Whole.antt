@@ -16,11 +16,11 @@ use Rattle.mls_tree_model.specs.Merge.{merge_path}
 use Rattle.mls_tree_model.specs.Laws.{IsIn, HasLists}
 use Rattle.mls_treekem_model.specs.Chain.{chain, chain_keys, path_secrets, node_public}
 use Rattle.mls_treekem_model.specs.Keys.{Keys, Exact}
-use Rattle.mls_treekem_model.specs.Follow.{Follows}
+use Rattle.mls_treekem_model.specs.Follow.{TameEdits}
 use Rattle.mls_treekem_model.specs.Make.{Climb, made_keys}
 use Rattle.mls_treekem_model.specs.Lists.{ListsBelow}
-use Rattle.mls_treekem_model.specs.Seal.{targets, seal_secret, sealed_path, sealed_with, targets_fit}
-use Rattle.mls_treekem_model.specs.Seeds.{seals_in}
+use Rattle.mls_treekem_model.specs.Seal.{targets, seal_secret, sealed_path, sealed_path_with, targets_fit}
+use Rattle.mls_treekem_model.specs.Seeds.{seal_count_of}
 use Rattle.mls_treekem_model.specs.Open.{opened_secret, filtered_from, opened_path}
 use Rattle.mls_treekem_model.specs.Join.{take_keys, take_answer, AllList, secret_for, secret_among}
 use Rattle.mls_treekem_model.specs.Laws.{AreTwo}
@@ -29,13 +29,13 @@ use Rattle.mls_treekem_model.specs.Laws.{AreTwo}
 
 -- a member that isn't changed follows each edit
 abbrev pub FollowsUpdate : Type 0
-FollowsUpdate = (t : Term) (i j : ℕ) (x : LeafNode) → AreTwo 0 t i j → Follows j t (update t i x)
+FollowsUpdate = (t : Term) (i j : ℕ) (x : LeafNode) → AreTwo 0 t i j → TameEdits j t (update t i x)
 
 abbrev pub FollowsRemove : Type 0
-FollowsRemove = (t : Term) (i j : ℕ) → AreTwo 0 t i j → IsSome (leaf_at 0 t j) → Follows j t (remove t i)
+FollowsRemove = (t : Term) (i j : ℕ) → AreTwo 0 t i j → IsSome (leaf_at 0 t j) → TameEdits j t (remove t i)
 
 abbrev pub FollowsAdd : Type 0
-FollowsAdd = (t : Term) (j : ℕ) (x : LeafNode) → IsIn 0 t j → IsSome (leaf_at 0 t j) → Follows j t (add t x)
+FollowsAdd = (t : Term) (j : ℕ) (x : LeafNode) → IsIn 0 t j → IsSome (leaf_at 0 t j) → TameEdits j t (add t x)
 
 -- the parents over a leaf that was just added list it, and do so after further adds
 abbrev pub AddedIsListed : Type 0
@@ -61,7 +61,7 @@ SealedLengths = (c : Crypto) (context : List ℕ) (added : List ℕ) (rnd : ℕ 
 -- a path of more secrets than are needed is the same, where they are the chain's
 abbrev pub SealedOfChain : Type 0
 SealedOfChain = (c : Crypto) (context : List ℕ) (added : List ℕ) (rnd : ℕ → List ℕ) (t : Term) (i : ℕ) (start : List ℕ) (n : ℕ) → path_length 0 t i ≤ n →
-    sealed_with c context added rnd (path_secrets start n) (map (node_public c) (path_secrets start n)) t i ≡ sealed_path c context added rnd t i start
+    sealed_path_with c context added rnd (path_secrets start n) (map (node_public c) (path_secrets start n)) t i ≡ sealed_path c context added rnd t i start
 
 -- it is refused with 36 exactly where some key that is sealed to isn't fit
 abbrev pub SealedWhereFit : Type 0
@@ -148,7 +148,7 @@ SealedByNumber = (c : Crypto) (context : List ℕ) (added : List ℕ) (rnd : ℕ
 
 -- and there are as many as are counted for the number of the first seal behind the path
 abbrev pub SealsAreCounted : Type 0
-SealsAreCounted = (path : List UpdatePathNode) → length (ciphertexts_in path) ≡ seals_in path
+SealsAreCounted = (path : List UpdatePathNode) → length (ciphertexts_in path) ≡ seal_count_of path
 
 -- ---- any path, whoever made it
 

@@ -36,7 +36,7 @@ pub fn laws_of_one_pass()
     ensures trim { FollowsTrim }
     ensures edit { FollowEdit }
     ensures own { FollowOwnEdit }
-    ensures on_way { ExactIsOnWay }
+    ensures keys_on_way { ExactIsOnWay }
     ensures leaf { LeafIsOnWay }
     ensures follow { EditIsFollow }
 {}

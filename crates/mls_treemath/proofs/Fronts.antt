@@ -2,52 +2,52 @@
 use Rattle.std.proofs.Common.{◌≡◌, Bool, true, false, [], ◌∷◌, ◌++◌, refl, sym, ◌∙◌, ap}
 use Rattle.std.proofs.lemmas.List.{append-nil}
 use Rattle.mls_treemath.specs.Paths.{Path}
-use Rattle.mls_treemath.specs.Steps.{common}
+use Rattle.mls_treemath.specs.Steps.{common_front}
 use Rattle.mls_treemath.specs.Fronts.{Under}
 
 under_more : (b : Bool) (p q : Path) → Under p q → Under (b ∷ p) (b ∷ q)
 under_more b p q u = record { more = u.more; whole = ap (λ r. b ∷ r) u.whole }
 
 -- the common front is over both
-pub common_over_first : (p q : Path) → Under (common p q) p
-unfolding common
+pub common_over_first : (p q : Path) → Under (common_front p q) p
+unfolding common_front
 common_over_first [] q = record { more = []; whole = refl }
 common_over_first (b ∷ p) [] = record { more = b ∷ p; whole = refl }
-common_over_first (false ∷ p) (false ∷ q) = under_more false (common p q) p (common_over_first p q)
-common_over_first (true ∷ p) (true ∷ q) = under_more true (common p q) p (common_over_first p q)
+common_over_first (false ∷ p) (false ∷ q) = under_more false (common_front p q) p (common_over_first p q)
+common_over_first (true ∷ p) (true ∷ q) = under_more true (common_front p q) p (common_over_first p q)
 common_over_first (false ∷ p) (true ∷ q) = record { more = false ∷ p; whole = refl }
 common_over_first (true ∷ p) (false ∷ q) = record { more = true ∷ p; whole = refl }
 
-pub common-swap : (p q : Path) → common p q ≡ common q p
-unfolding common
-common-swap [] [] = refl
-common-swap [] (b ∷ q) = refl
-common-swap (b ∷ p) [] = refl
-common-swap (false ∷ p) (false ∷ q) = ap (λ r. false ∷ r) (common-swap p q)
-common-swap (true ∷ p) (true ∷ q) = ap (λ r. true ∷ r) (common-swap p q)
-common-swap (false ∷ p) (true ∷ q) = refl
-common-swap (true ∷ p) (false ∷ q) = refl
+pub common_front-swap : (p q : Path) → common_front p q ≡ common_front q p
+unfolding common_front
+common_front-swap [] [] = refl
+common_front-swap [] (b ∷ q) = refl
+common_front-swap (b ∷ p) [] = refl
+common_front-swap (false ∷ p) (false ∷ q) = ap (λ r. false ∷ r) (common_front-swap p q)
+common_front-swap (true ∷ p) (true ∷ q) = ap (λ r. true ∷ r) (common_front-swap p q)
+common_front-swap (false ∷ p) (true ∷ q) = refl
+common_front-swap (true ∷ p) (false ∷ q) = refl
 
-pub common_over_second : (p q : Path) → Under (common p q) q
+pub common_over_second : (p q : Path) → Under (common_front p q) q
 common_over_second p q =
-    let u : Under (common q p) q = common_over_first q p in
-    record { more = u.more; whole = u.whole ∙ ap (λ r. r ++ u.more) (common-swap q p) }
+    let u : Under (common_front q p) q = common_over_first q p in
+    record { more = u.more; whole = u.whole ∙ ap (λ r. r ++ u.more) (common_front-swap q p) }
 
 -- each way that is over both is over their common front too
-pub common-append : (r p q : Path) → common (r ++ p) (r ++ q) ≡ r ++ common p q
-unfolding common
-common-append [] p q = refl
-common-append (false ∷ r) p q = ap (λ s. false ∷ s) (common-append r p q)
-common-append (true ∷ r) p q = ap (λ s. true ∷ s) (common-append r p q)
+pub common_front-append : (r p q : Path) → common_front (r ++ p) (r ++ q) ≡ r ++ common_front p q
+unfolding common_front
+common_front-append [] p q = refl
+common_front-append (false ∷ r) p q = ap (λ s. false ∷ s) (common_front-append r p q)
+common_front-append (true ∷ r) p q = ap (λ s. true ∷ s) (common_front-append r p q)
 
-pub common_lowest : (r p q : Path) → Under r p → Under r q → Under r (common p q)
+pub common_lowest : (r p q : Path) → Under r p → Under r q → Under r (common_front p q)
 common_lowest r p q u v = record {
-  more = common u.more v.more;
-  whole = ap (λ s. common s q) u.whole ∙ ap (common (r ++ u.more)) v.whole ∙ common-append r u.more v.more;
+  more = common_front u.more v.more;
+  whole = ap (λ s. common_front s q) u.whole ∙ ap (common_front (r ++ u.more)) v.whole ∙ common_front-append r u.more v.more;
 }
 
 -- a way and another over it have the other as common front
-pub common_of-over : (p q : Path) → Under p q → common p q ≡ p
-unfolding common
+pub common_of-over : (p q : Path) → Under p q → common_front p q ≡ p
+unfolding common_front
 common_of-over p q u =
-    ap (λ s. common s q) (sym (append-nil p)) ∙ ap (common (p ++ [])) u.whole ∙ common-append p [] u.more ∙ append-nil p
+    ap (λ s. common_front s q) (sym (append-nil p)) ∙ ap (common_front (p ++ [])) u.whole ∙ common_front-append p [] u.more ∙ append-nil p

@@ -6,7 +6,7 @@ use Rattle.mls_treemath.specs.Limits.{max_height}
 use Rattle.mls_treemath.specs.Paths.{Path, root_of, index_of, path_to}
 use Rattle.mls_treemath.proofs.PathsLemmas.{leaves_in}
 use Rattle.mls_treemath.proofs.Sizes.{width_perfect, root_of-leaves}
-use Rattle.mls_treemath.specs.Steps.{height_below, height_of, common, step, step_among, passed, walk_among, parting, parting_among, root_among, root_in}
+use Rattle.mls_treemath.specs.Steps.{height_below, height_of, common_front, step, step_among, indices_at_ends, walk_among, parting, parting_among, root_among, root_in}
 
 -- a power of two below the limit has its exponent as height
 pub height_found : (m d : ℕ) → d < m → height_below m (2 ^ d) ≡ Some d
@@ -69,10 +69,10 @@ unfolding step_among
 step_in n h x move tree = ap (λ o. step_among o move x) tree
 
 pub walk_in : (n h x : ℕ) (ways : Path → List Path) (p : Path) → height_of n ≡ Some h → path_to h x ≡ Some p → walk_among (height_of n) ways x ≡ map (index_of h) (ways p)
-unfolding walk_among passed
-walk_in n h x ways p tree leads = ap (λ o. walk_among o ways x) tree ∙ ap (passed h ways) leads
+unfolding walk_among indices_at_ends
+walk_in n h x ways p tree leads = ap (λ o. walk_among o ways x) tree ∙ ap (indices_at_ends h ways) leads
 
-pub parting_in : (n h x y : ℕ) (p q : Path) → height_of n ≡ Some h → path_to h x ≡ Some p → path_to h y ≡ Some q → parting_among (height_of n) x y ≡ Some (index_of h (common p q))
+pub parting_in : (n h x y : ℕ) (p q : Path) → height_of n ≡ Some h → path_to h x ≡ Some p → path_to h y ≡ Some q → parting_among (height_of n) x y ≡ Some (index_of h (common_front p q))
 unfolding parting_among parting
 parting_in n h x y p q tree to_x to_y =
     ap (λ o. parting_among o x y) tree ∙ ap (λ o. parting h o (path_to h y)) to_x ∙ ap (parting h (Some p)) to_y

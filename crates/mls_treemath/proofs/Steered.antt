@@ -8,7 +8,7 @@ use Rattle.mls_treemath.specs.Paths.{Path, nodes_in, root_of, index_of, leaf_pat
 use Rattle.mls_treemath.proofs.PathsLemmas.{leaves_in}
 use Rattle.mls_treemath.proofs.Sizes.{nodes_in-leaves, root_of-zero}
 use Rattle.mls_treemath.proofs.Leaves.{way_from, way_from-left, way_from-right, way_from_first, path_to-leaf}
-use Rattle.mls_treemath.specs.Steps.{common, above, beside, height_of, walk_among, ancestors_of, copath_of, common_ancestor_of}
+use Rattle.mls_treemath.specs.Steps.{common_front, above, beside, height_of, walk_among, ancestors_of, copath_of, common_ancestor_of}
 use Rattle.mls_treemath.proofs.Heights.{walk_in, parting_in}
 
 -- the branches over leaf i, the highest first
@@ -129,26 +129,26 @@ fork_across h b i j high low = cond-false _ _ _ (le-ltb i (b + leaves_in h) high
 
 -- where two ways part, as a place in the tree of all
 abbrev parted : ℕ → ℕ → Path → Path → ℕ
-parted b h p q = on_from b h (common p q)
+parted b h p q = on_from b h (common_front p q)
 
 parted_left : (h b : ℕ) (p q : Path) → parted b (suc h) (false ∷ p) (false ∷ q) ≡ parted b h p q
-unfolding common index_of
+unfolding common_front index_of
 parted_left h b p q = refl
 
 parted_right : (h b : ℕ) (p q : Path) → parted b (suc h) (true ∷ p) (true ∷ q) ≡ parted (b + leaves_in h) h p q
-unfolding common
-parted_right h b p q = place_right b h (common p q)
+unfolding common_front
+parted_right h b p q = place_right b h (common_front p q)
 
 parted_between : (h b : ℕ) (p q : Path) → parted b (suc h) (false ∷ p) (true ∷ q) ≡ 2 * b + nodes_in h
-unfolding common index_of root_of
+unfolding common_front index_of root_of
 parted_between h b p q = refl
 
 parted_across : (h b : ℕ) (p q : Path) → parted b (suc h) (true ∷ p) (false ∷ q) ≡ 2 * b + nodes_in h
-unfolding common index_of root_of
+unfolding common_front index_of root_of
 parted_across h b p q = refl
 
 pub fork_of-way : (h b i j : ℕ) → parted b h (way_from h b i) (way_from h b j) ≡ fork_of h b i j
-unfolding way_from fork_of common index_of
+unfolding way_from fork_of common_front index_of
 fork_of-way zero b i j = omega (arith, root_of-zero)
 fork_of-way (suc h) b i j = elim (cases_lt i (b + leaves_in h)) [
   | inl low ↦ elim (cases_lt j (b + leaves_in h)) [
@@ -209,8 +209,8 @@ copath_of-leaf n h i tree low = walk_of-leaf n h i beside tree low ∙ ap revers
 -- the lowest node over leaves i and j
 pub common_ancestor_of-leaves : (n h i j : ℕ) → height_of n ≡ Some h → i < leaves_in h → j < leaves_in h → common_ancestor_of n (2 * i) (2 * j) ≡ Some (fork_of h 0 i j)
 common_ancestor_of-leaves n h i j tree low low' =
-    let plain : index_of h (common (way_from h 0 i) (way_from h 0 j)) ≡ parted 0 h (way_from h 0 i) (way_from h 0 j) = omega arith in
+    let plain : index_of h (common_front (way_from h 0 i) (way_from h 0 j)) ≡ parted 0 h (way_from h 0 i) (way_from h 0 j) = omega arith in
     parting_in n h (2 * i) (2 * j) (leaf_path h i) (leaf_path h j) tree (path_to-leaf h i low) (path_to-leaf h j low')
-    ∙ ap (λ p. Some (index_of h (common p (leaf_path h j)))) (sym (way_from_first h i low))
-    ∙ ap (λ q. Some (index_of h (common (way_from h 0 i) q))) (sym (way_from_first h j low'))
+    ∙ ap (λ p. Some (index_of h (common_front p (leaf_path h j)))) (sym (way_from_first h i low))
+    ∙ ap (λ q. Some (index_of h (common_front (way_from h 0 i) q))) (sym (way_from_first h j low'))
     ∙ ap Some (plain ∙ fork_of-way h 0 i j)

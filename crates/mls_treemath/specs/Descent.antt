@@ -4,11 +4,11 @@ use Rattle.mls_treemath.specs.Paths.{nodes_in, root_of, path_to}
 use Rattle.mls_treemath.specs.Steps.{parting, common_ancestor_of}
 
 -- where the ways to u and v part, in a tree of height h
-abbrev pub apart : ℕ → ℕ → ℕ → Option ℕ
-apart h u v = parting h (path_to h u) (path_to h v)
+abbrev pub parting_index : ℕ → ℕ → ℕ → Option ℕ
+parting_index h u v = parting h (path_to h u) (path_to h v)
 
 -- node is the root of a subtree of height k that holds x and y, and where their ways part there, they part in the whole tree
-pub record Reached (n x y k node : ℕ) : Type 0 where
+pub record HoldsBoth (n x y k node : ℕ) : Type 0 where
   pub first : ℕ
   pub from_x : first ≤ x
   pub x_within : x < first + nodes_in k
@@ -16,4 +16,4 @@ pub record Reached (n x y k node : ℕ) : Type 0 where
   pub y_within : y < first + nodes_in k
   pub place : node ≡ first + root_of k
   pub room : first + nodes_in k < 2 ^ 32
-  pub rest : (z : ℕ) → apart k (x - first) (y - first) ≡ Some z → common_ancestor_of n x y ≡ Some (first + z)
+  pub rest : (z : ℕ) → parting_index k (x - first) (y - first) ≡ Some z → common_ancestor_of n x y ≡ Some (first + z)

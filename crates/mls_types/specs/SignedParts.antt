@@ -12,14 +12,14 @@ use Rattle.mls_types.specs.declared.signed.SignedContent.{SignedContent}
 -- ---- from a signed content
 
 -- what is said, without the tag
-abbrev pub bare : SignedBody → contents.Content
-bare (Application text) = says.Application text
-bare (Proposal made) = says.Proposal made
-bare (Commit made tag) = says.Commit made
+abbrev pub content_of_body : SignedBody → contents.Content
+content_of_body (Application text) = says.Application text
+content_of_body (Proposal made) = says.Proposal made
+content_of_body (Commit made tag) = says.Commit made
 
 -- the FramedContent of a signed content (RFC 9420, 6)
 abbrev pub framed : SignedContent → FramedContent
-framed v = record { group_id = v.group_id; epoch = v.epoch; sender = v.sender; authenticated_data = v.authenticated_data; content = bare v.body }
+framed v = record { group_id = v.group_id; epoch = v.epoch; sender = v.sender; authenticated_data = v.authenticated_data; content = content_of_body v.body }
 
 -- for a commit confirmation_tag<V>, else nothing
 abbrev pub tag_spelling : SignedBody → List ℕ

@@ -1,7 +1,7 @@
 //! Framed contents: what a message says, where and by whom (RFC 9420, 6).
 
 ghost use Rattle.mls_types.specs.Content.{sender, content, framed_content, sender_nonempty, content_nonempty, framed_content_nonempty};
-ghost use Rattle.mls_types.specs.Answered.{sender_faults, content_faults, framed_content_faults};
+ghost use Rattle.mls_types.specs.ReadFaults.{sender_faults, content_faults, framed_content_faults};
 
 use crate::commit::Commit;
 use mls_leaf::{Bytes, Codec, LeafError, Proposal};

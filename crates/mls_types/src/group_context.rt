@@ -1,7 +1,7 @@
 //! Group contexts (RFC 9420, 8.1).
 
 ghost use Rattle.mls_types.specs.GroupContext.{group_context, group_context_nonempty};
-ghost use Rattle.mls_types.specs.AnsweredGroups.{group_context_faults};
+ghost use Rattle.mls_types.specs.GroupReadFaults.{group_context_faults};
 
 use mls_leaf::{Bytes, Codec, LeafError, pass_empty, pass_mark};
 use mls_wire::{Reader, Writer};

@@ -2,7 +2,7 @@
 
 ghost use Rattle.mls_leaf.specs.Faults.{ReadsFront, ReadsPast, AddsSpelling};
 ghost use Rattle.mls_types.specs.GroupInfo.{group_info_extensions, group_info, group_info_nonempty};
-ghost use Rattle.mls_types.specs.AnsweredGroups.{group_info_faults};
+ghost use Rattle.mls_types.specs.GroupReadFaults.{group_info_faults};
 
 use crate::group_context::GroupContext;
 use mls_leaf::{Bytes, Codec, Items, LeafError, pass_mark};

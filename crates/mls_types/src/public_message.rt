@@ -1,9 +1,9 @@
 //! Public messages, and the contents that are signed and hashed in them (RFC 9420, 6 and 6.2).
 
 ghost use Rattle.mls_types.specs.PublicMessage.{wire_format, public_message, authenticated_content, wire_format_nonempty, public_message_nonempty, authenticated_content_nonempty};
-ghost use Rattle.mls_types.specs.Answered.{wire_format_faults, public_message_faults, authenticated_content_faults};
+ghost use Rattle.mls_types.specs.ReadFaults.{wire_format_faults, public_message_faults, authenticated_content_faults};
 
-use crate::signed::{SignedContent, read_signed};
+use crate::signed::{SignedContent, read_with_signature};
 use mls_leaf::{Bytes, Codec, LeafError};
 use mls_wire::{Reader, Writer};
 use std::alloc::Global;
@@ -100,7 +100,7 @@ impl Codec for PublicMessage {
 
     #[tactic(auto, using(mls_leaf::proofs::Codecs::codecs), unfolding(crate::specs::PublicMessage::public_message))]
     fn read(alloc: Global, reader: &mut Reader<'_>) -> Result<PublicMessage, LeafError> {
-        let (content, membership_tag) = read_signed::<SignedContent>(alloc, reader)?;
+        let (content, membership_tag) = read_with_signature::<SignedContent>(alloc, reader)?;
         Ok(PublicMessage {
             content,
             membership_tag,

@@ -3,7 +3,7 @@
 ghost use Rattle.mls_wire.specs.Combine.{◌⨾◌, byte_string};
 ghost use Rattle.mls_types.specs.Signed.{signed_tail, signed_content, signed_content_nonempty};
 ghost use Rattle.mls_leaf.specs.Faults.{ReadsFront, ReadsPast};
-ghost use Rattle.mls_types.specs.Answered.{signed_content_faults};
+ghost use Rattle.mls_types.specs.ReadFaults.{signed_content_faults};
 
 use crate::commit::Commit;
 use crate::content::{Content, FramedContent, Sender};
@@ -45,7 +45,7 @@ pub struct SignedContent {
 }
 
 /// Reads a value and the signature or the tag behind it. It is generic, so that its proof goes into no parts of the value.
-pub(crate) fn read_signed<T: Codec>(
+pub(crate) fn read_with_signature<T: Codec>(
     alloc: Global,
     reader: &mut Reader<'_>,
 ) -> Result<(T, Bytes), LeafError>
@@ -57,14 +57,14 @@ pub(crate) fn read_signed<T: Codec>(
 }
 
 /// Reads a value, the signature and the confirmation tag.
-fn read_confirmed<T: Codec>(
+fn read_with_tags<T: Codec>(
     alloc: Global,
     reader: &mut Reader<'_>,
 ) -> Result<(T, (Bytes, Bytes)), LeafError>
     ensures { ReadsFront (T.format ⨾ byte_string ⨾ byte_string) reader.old result reader.new }
 {
     let value = T::read(alloc, reader)?;
-    let tags = read_signed::<Bytes>(alloc, reader)?;
+    let tags = read_with_signature::<Bytes>(alloc, reader)?;
     Ok((value, tags))
 }
 
@@ -75,15 +75,15 @@ fn read_tail(alloc: Global, reader: &mut Reader<'_>) -> Result<(SignedBody, Byte
 {
     match reader.u8()? {
         1 => {
-            let (data, signature) = read_signed::<Bytes>(alloc, reader)?;
+            let (data, signature) = read_with_signature::<Bytes>(alloc, reader)?;
             Ok((SignedBody::Application(data), signature))
         }
         2 => {
-            let (proposal, signature) = read_signed::<Proposal>(alloc, reader)?;
+            let (proposal, signature) = read_with_signature::<Proposal>(alloc, reader)?;
             Ok((SignedBody::Proposal(proposal), signature))
         }
         3 => {
-            let (commit, (signature, confirmation_tag)) = read_confirmed::<Commit>(alloc, reader)?;
+            let (commit, (signature, confirmation_tag)) = read_with_tags::<Commit>(alloc, reader)?;
             let body = SignedBody::Commit {
                 commit,
                 confirmation_tag,

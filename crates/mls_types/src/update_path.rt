@@ -1,7 +1,7 @@
 //! Update paths (RFC 9420, 7.6).
 
 ghost use Rattle.mls_types.specs.UpdatePath.{hpke_ciphertext, update_path_node, update_path, hpke_ciphertext_nonempty, update_path_node_nonempty, update_path_nonempty};
-ghost use Rattle.mls_types.specs.AnsweredGroups.{hpke_ciphertext_faults, update_path_node_faults, update_path_faults};
+ghost use Rattle.mls_types.specs.GroupReadFaults.{hpke_ciphertext_faults, update_path_node_faults, update_path_faults};
 
 use mls_leaf::{Bytes, Codec, Items, LeafError, LeafNode};
 use mls_wire::{Reader, Writer};

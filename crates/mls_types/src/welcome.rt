@@ -1,7 +1,7 @@
 //! Welcomes, and what is sealed in them (RFC 9420, 12.4.3.1).
 
 ghost use Rattle.mls_types.specs.Welcome.{encrypted_group_secrets, group_secrets, welcome, encrypted_group_secrets_nonempty, group_secrets_nonempty, welcome_nonempty};
-ghost use Rattle.mls_types.specs.AnsweredGroups.{encrypted_group_secrets_faults, group_secrets_faults, welcome_faults};
+ghost use Rattle.mls_types.specs.GroupReadFaults.{encrypted_group_secrets_faults, group_secrets_faults, welcome_faults};
 
 use crate::update_path::HpkeCiphertext;
 use mls_leaf::{Bytes, Codec, Items, LeafError};

@@ -13,9 +13,9 @@ use Rattle.mls_tree_model.specs.Merge.{merge_path, path_parent_hash}
 use Rattle.mls_tree.specs.Tree.{Tree, term, member_at, path_answer}
 use Rattle.mls_tree.specs.Paths.{path_checks, path_hash_answer}
 use Rattle.mls_tree.proofs.Perfect.{perfect, width_is}
-use Rattle.mls_treekem_model.specs.Follow.{key_above, on_way, follow_edit}
+use Rattle.mls_treekem_model.specs.Follow.{key_above, keys_on_way, follow_edit}
 use Rattle.mls_treekem_model.specs.Height.{keys_on, HasFollowed}
-use Rattle.mls_treekem_model.specs.Keys.{Keys, PrivateKeys, all_keys, Along, Fits, Exact}
+use Rattle.mls_treekem_model.specs.Keys.{Keys, PrivateKeys, all_keys, AreKeysAlong, Fits, Exact}
 use Rattle.mls_treekem_model.specs.Make.{made_keys, HasMade}
 use Rattle.mls_treekem_model.proofs.MemberLaws.{keys_merged}
 use Rattle.mls_treekem_model.specs.Whole.{keys_of_path}
@@ -60,10 +60,10 @@ module _ (c : Crypto) (t : Tree) (i : ℕ) (start start' : List ℕ) (xs ys : Li
   pub keys_for : (n : ℕ) → n ≡ width (term t) → n < 2 ^ 32 → (sk : List ℕ) (old new : PrivateKeys) → old.leaf ≡ i → all_keys old ≡ Some sk ∷ [] → HasMade c start' ys old new
       → keys_on (term t) new ≡ made_keys c (way 0 (term t) i) start sk
   keys_for n w lt sk old new at own made =
-      let k : on_way (way 0 (term t) old.leaf) (all_keys new) ≡ made_keys c (way 0 (term t) old.leaf) start' old.own =
+      let k : keys_on_way (way 0 (term t) old.leaf) (all_keys new) ≡ made_keys c (way 0 (term t) old.leaf) start' old.own =
       made.keys (height (term t)) (term t) (perfect t) (low_height t n w lt) (ys_are ∙ ap (filtered_path 0 (term t)) (sym at)) in
       let sk_is : old.own ≡ sk = own_is old.above old.own sk own in
-      ap (λ j. on_way (way 0 (term t) j) (all_keys new)) made.leaf
+      ap (λ j. keys_on_way (way 0 (term t) j) (all_keys new)) made.leaf
       ∙ k
       ∙ ap (λ j. made_keys c (way 0 (term t) j) start' old.own) at
       ∙ ap₂ (made_keys c (way 0 (term t) i)) begins sk_is
@@ -81,8 +81,8 @@ fit_stays c j None None h = refl
 fit_stays c j None (Some k) h = absurd h
 fit_stays c j (Some p) o h = refl
 
-follow_stays : (c : Crypto) (j : ℕ) (ss : List Step) (x : Option LeafNode) (ks : Keys) → Along c (Fits c j) ss x (on_way ss ks) → follow_edit None ss ks ≡ on_way ss ks
-unfolding follow_edit on_way Along
+follow_stays : (c : Crypto) (j : ℕ) (ss : List Step) (x : Option LeafNode) (ks : Keys) → AreKeysAlong c (Fits c j) ss x (keys_on_way ss ks) → follow_edit None ss ks ≡ keys_on_way ss ks
+unfolding follow_edit keys_on_way AreKeysAlong
 follow_stays c j [] x ks h = refl
 follow_stays c j (s ∷ ss) x ks h = ap₂ (λ o zs. o ∷ zs) (fit_stays c j s.parent (key_above (suc (length ss)) ks) h.0) (follow_stays c j ss x ks h.1)
 
@@ -91,9 +91,9 @@ pub followed_made : (c : Crypto) (t u : Term) (i : ℕ) (x : LeafNode) (start sk
 followed_made c t u i x start sk old new is own at made done =
     let keys : List (List ℕ) = keys_of_path c t i start in
     let v : Term = merge_path t i x keys in
-    let on : on_way (way 0 v old.leaf) (all_keys old) ≡ made_keys c (way 0 t i) start sk = keys_merged t i x keys old ∙ made in
-    let on_i : on_way (way 0 v i) (all_keys old) ≡ made_keys c (way 0 t i) start sk = ap (λ j. on_way (way 0 v j) (all_keys old)) (sym at) ∙ on in
-    let exact : Exact c 0 v i (on_way (way 0 v i) (all_keys old)) = subst (λ (ks : Keys). Exact c 0 v i ks) (sym on_i) (made_exact c t i x start sk own) in
+    let on : keys_on_way (way 0 v old.leaf) (all_keys old) ≡ made_keys c (way 0 t i) start sk = keys_merged t i x keys old ∙ made in
+    let on_i : keys_on_way (way 0 v i) (all_keys old) ≡ made_keys c (way 0 t i) start sk = ap (λ j. keys_on_way (way 0 v j) (all_keys old)) (sym at) ∙ on in
+    let exact : Exact c 0 v i (keys_on_way (way 0 v i) (all_keys old)) = subst (λ (ks : Keys). Exact c 0 v i ks) (sym on_i) (made_exact c t i x start sk own) in
     done.keys
     ∙ ap₂ (λ w j. follow_edit None (way 0 w j) (all_keys old)) is at
     ∙ follow_stays c i (way 0 v i) (leaf_at 0 v i) (all_keys old) exact

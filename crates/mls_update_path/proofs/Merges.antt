@@ -3,7 +3,7 @@ use Rattle.std.proofs.Common.{◌≡◌, ℕ, ◌≤◌, List, length, Some, Res
 use Rattle.mls_wire.specs.Checks.{Passed, passed}
 use Rattle.mls_wire.proofs.CheckLaws.{then_ok}
 use Rattle.mls_leaf.specs.declared.leaf.LeafNode.{LeafNode}
-use Rattle.mls_leaf.specs.declared.leaf.LeafSource.TheVariants as made_for
+use Rattle.mls_leaf.specs.declared.leaf.LeafSource.TheVariants as leaf_node_source
 use Rattle.mls_suite.specs.Crypto.{Crypto}
 use Rattle.mls_checks.specs.Checks.{replaced_checks}
 use Rattle.mls_checks.specs.declared.checks.Source.TheVariants as replaced_for
@@ -16,9 +16,9 @@ use Rattle.mls_treekem_model.specs.Seeds.{path_seed}
 use Rattle.mls_treekem_model.specs.Whole.{keys_of_path}
 use Rattle.mls_treekem.specs.Secrets.{AreOfChain, public_keys}
 use Rattle.mls_treekem.specs.declared.secrets.PathSecrets.{PathSecrets}
-use Rattle.mls_model.specs.Public.{PublicState}
+use Rattle.mls_model.specs.PublicState.{PublicState}
 use Rattle.mls_model.specs.Candidate.{leaf_key_of, unsigned_leaf, signed_leaf}
-use Rattle.mls_update_path.specs.Parts.{made_public, leaf_with, merged_of}
+use Rattle.mls_update_path.specs.Parts.{path_public_keys, leaf_with, leaf_and_tree_of}
 
 pub hash_short : (t : Term) (i : ℕ) (keys : List (List ℕ)) → length (path_parent_hash t i keys) ≤ 32
 hash_short t i keys = elim (none_or_long t i keys) [
@@ -36,12 +36,12 @@ merge_is t i x keys u e = let s = then_ok (merge_checks t i x keys) (Ok (merge_p
 -- ---- the new leaf
 
 module _ (c : Crypto) (signing : List ℕ) (i : ℕ) (t : Term) (old : LeafNode) (seed : List ℕ) where
-  pub leaf_is : (group group' hash : List ℕ) (leaf : LeafNode) → group' ≡ group → hash ≡ path_parent_hash t i (made_public c i t seed)
-      → leaf ≡ signed_leaf c signing group' i (unsigned_leaf c (c.public (leaf_key_of c seed)) old.signature_key old.credential (made_for.Commit hash))
+  pub leaf_is : (group group' hash : List ℕ) (leaf : LeafNode) → group' ≡ group → hash ≡ path_parent_hash t i (path_public_keys c i t seed)
+      → leaf ≡ signed_leaf c signing group' i (unsigned_leaf c (c.public (leaf_key_of c seed)) old.signature_key old.credential (leaf_node_source.Commit hash))
       → leaf ≡ leaf_with c signing group i t old seed
   unfolding leaf_with
   leaf_is group group' hash leaf g h e =
-      e ∙ ap₂ (λ a b. signed_leaf c signing a i (unsigned_leaf c (c.public (leaf_key_of c seed)) old.signature_key old.credential (made_for.Commit b))) g h
+      e ∙ ap₂ (λ a b. signed_leaf c signing a i (unsigned_leaf c (c.public (leaf_key_of c seed)) old.signature_key old.credential (leaf_node_source.Commit b))) g h
 
   pub leaf_key_is : (group : List ℕ) (leaf : LeafNode) → leaf ≡ leaf_with c signing group i t old seed → c.public (leaf_key_of c seed) ≡ leaf.encryption_key
   unfolding leaf_with signed_leaf unsigned_leaf
@@ -49,7 +49,7 @@ module _ (c : Crypto) (signing : List ℕ) (i : ℕ) (t : Term) (old : LeafNode)
 
 -- the parent hash that code asked for, of a copy of the tree
 pub hash_of : (c : Crypto) (t u : Term) (i : ℕ) (seed : List ℕ) (m : PathSecrets) (keys slice : List (List ℕ)) (hash : List ℕ) → u ≡ t → AreOfChain c (path_seed seed) (path_length 0 t i) m → keys ≡ public_keys m → slice ≡ keys → hash ≡ path_parent_hash u i slice
-    → hash ≡ path_parent_hash t i (made_public c i t seed)
+    → hash ≡ path_parent_hash t i (path_public_keys c i t seed)
 hash_of c t u i seed m keys slice hash copied chained are same is =
     is ∙ ap₂ (λ (v : Term) (ks : List (List ℕ)). path_parent_hash v i ks) copied (same ∙ keys_are c t i (path_seed seed) m keys chained are)
 
@@ -59,17 +59,17 @@ module _ (c : Crypto) (p : PublicState) (signing : List ℕ) (i : ℕ) (t : Term
   check_is : (r : Result Passed ℕ) → replaced_checks c leaf old replaced_for.Commit p.context.group_id i ≡ r → replaced_checks c (leaf_with c signing p.context.group_id i t old seed) old replaced_for.Commit p.context.group_id i ≡ r
   check_is r e = ap (λ l. replaced_checks c l old replaced_for.Commit p.context.group_id i) (sym is) ∙ e
 
-  merge_with : (r : Result Term ℕ) → merge_answer t i leaf (made_public c i t seed) ≡ r → merge_answer t i (leaf_with c signing p.context.group_id i t old seed) (made_public c i t seed) ≡ r
-  merge_with r e = ap (λ l. merge_answer t i l (made_public c i t seed)) (sym is) ∙ e
+  merge_with : (r : Result Term ℕ) → merge_answer t i leaf (path_public_keys c i t seed) ≡ r → merge_answer t i (leaf_with c signing p.context.group_id i t old seed) (path_public_keys c i t seed) ≡ r
+  merge_with r e = ap (λ l. merge_answer t i l (path_public_keys c i t seed)) (sym is) ∙ e
 
-  pub leaf_fails : (n : ℕ) → replaced_checks c leaf old replaced_for.Commit p.context.group_id i ≡ Err n → merged_of c p signing i t seed ≡ Err n
-  unfolding merged_of
+  pub leaf_fails : (n : ℕ) → replaced_checks c leaf old replaced_for.Commit p.context.group_id i ≡ Err n → leaf_and_tree_of c p signing i t seed ≡ Err n
+  unfolding leaf_and_tree_of
   leaf_fails n e = rw (at, check_is (Err n) e) refl
 
-  pub merge_fails : (n : ℕ) → replaced_checks c leaf old replaced_for.Commit p.context.group_id i ≡ Ok passed → merge_answer t i leaf (made_public c i t seed) ≡ Err n → merged_of c p signing i t seed ≡ Err n
-  unfolding merged_of
+  pub merge_fails : (n : ℕ) → replaced_checks c leaf old replaced_for.Commit p.context.group_id i ≡ Ok passed → merge_answer t i leaf (path_public_keys c i t seed) ≡ Err n → leaf_and_tree_of c p signing i t seed ≡ Err n
+  unfolding leaf_and_tree_of
   merge_fails n e f = rw (at, check_is (Ok passed) e, merge_with (Err n) f) refl
 
-  pub merges : (u : Term) → replaced_checks c leaf old replaced_for.Commit p.context.group_id i ≡ Ok passed → merge_answer t i leaf (made_public c i t seed) ≡ Ok u → merged_of c p signing i t seed ≡ Ok (leaf, u)
-  unfolding merged_of
+  pub merges : (u : Term) → replaced_checks c leaf old replaced_for.Commit p.context.group_id i ≡ Ok passed → merge_answer t i leaf (path_public_keys c i t seed) ≡ Ok u → leaf_and_tree_of c p signing i t seed ≡ Ok (leaf, u)
+  unfolding leaf_and_tree_of
   merges u e f = rw (at, check_is (Ok passed) e, merge_with (Ok u) f) (ap (λ l. Ok (l, u)) (sym is))

@@ -28,12 +28,12 @@ use Rattle.mls_treekem_model.specs.Whole.{keys_of_path}
 use Rattle.mls_treekem_model.proofs.WholeLaws.{sealed_keys, sealed_lengths}
 use Rattle.mls_treekem.specs.Secrets.{AreOfChain}
 use Rattle.mls_treekem.specs.declared.secrets.PathSecrets.{PathSecrets}
-use Rattle.mls_model.specs.Public.{PublicState, provisional_context}
-use Rattle.mls_model.specs.Commit.{Edits, node_keys, cipher_counts, due_counts, with_path}
+use Rattle.mls_model.specs.PublicState.{PublicState, provisional_context}
+use Rattle.mls_model.specs.Commit.{Edits, node_keys, cipher_counts, due_counts, apply_update_path}
 use Rattle.mls_model.specs.Candidate.{leaf_key_of}
 use Rattle.mls_model.specs.Member.{Member}
 use Rattle.mls_model.specs.Make.{MadePath, committed_leaf, new_path}
-use Rattle.mls_update_path.specs.Parts.{made_public, leaf_with, merged_of, path_of}
+use Rattle.mls_update_path.specs.Parts.{path_public_keys, leaf_with, leaf_and_tree_of, path_of}
 use Rattle.mls_update_path.proofs.Merges.{leaf_key_is}
 
 -- ---- checks one after another
@@ -61,11 +61,11 @@ sealed_with_leaf c p i e seed x =
     >>= λ nodes. Ok (record { path = Some (record { leaf_node = x.0; nodes = nodes }); climb = climb_make c (way 0 e.tree i) (path_seed seed) (leaf_key_of c seed) })
 
 by_parts : (c : Crypto) (m : Member) (e : Edits) (seed : List ℕ) → new_path c m e seed ≡ path_of c m.public m.signing m.keys.leaf e seed
-unfolding new_path path_of merged_of committed_leaf leaf_with
+unfolding new_path path_of leaf_and_tree_of committed_leaf leaf_with
 by_parts c m e seed =
     let r = member_at m.public.tree m.keys.leaf in
     let check = λ (old : LeafNode). replaced_checks c (leaf_of_member c m e seed old) old replaced_for.Commit m.public.context.group_id m.keys.leaf in
-    let merge = λ (old : LeafNode). merge_answer e.tree m.keys.leaf (leaf_of_member c m e seed old) (made_public c m.keys.leaf e.tree seed) in
+    let merge = λ (old : LeafNode). merge_answer e.tree m.keys.leaf (leaf_of_member c m e seed old) (path_public_keys c m.keys.leaf e.tree seed) in
     let pair = λ (old : LeafNode). merge old >>= λ (tree : Term). Ok (leaf_of_member c m e seed old, tree) in
     let last = sealed_with_leaf c m.public m.keys.leaf e seed in
     sym
@@ -82,12 +82,12 @@ is_path_of c m e d p signing i seed same public signs at =
 -- ---- the chain of checks
 
 module _ (c : Crypto) (p : PublicState) (signing : List ℕ) (i : ℕ) (e : Edits) (seed : List ℕ) where
-  pub path_fails : (n : ℕ) → merged_of c p signing i e.tree seed ≡ Err n → path_of c p signing i e seed ≡ Err n
+  pub path_fails : (n : ℕ) → leaf_and_tree_of c p signing i e.tree seed ≡ Err n → path_of c p signing i e seed ≡ Err n
   unfolding path_of
   path_fails n h = rw h refl
 
   -- what was sealed under the context that code spelled
-  module _ (x : LeafNode) (u : Term) (merged : merged_of c p signing i e.tree seed ≡ Ok (x, u)) (context added : List ℕ) (is : context ≡ group_context.spell (provisional_context p.context u)) (as_added : added ≡ e.added) where
+  module _ (x : LeafNode) (u : Term) (merged : leaf_and_tree_of c p signing i e.tree seed ≡ Ok (x, u)) (context added : List ℕ) (is : context ≡ group_context.spell (provisional_context p.context u)) (as_added : added ≡ e.added) where
     sealed_is : (r : Result (List UpdatePathNode) ℕ) → sealed_path c context added (seal_seed seed) e.tree i (path_seed seed) ≡ r
         → sealed_path c (group_context.spell (provisional_context p.context u)) e.added (seal_seed seed) e.tree i (path_seed seed) ≡ r
     sealed_is r h = ap₂ (λ a b. sealed_path c a b (seal_seed seed) e.tree i (path_seed seed)) (sym is) (sym as_added) ∙ h
@@ -117,7 +117,7 @@ record IsMerged (c : Crypto) (p : PublicState) (signing : List ℕ) (i : ℕ) (t
   at : member_at p.tree i ≡ Ok old
   is : x ≡ leaf_with c signing p.context.group_id i t old seed
   replaced : replaced_checks c x old replaced_for.Commit p.context.group_id i ≡ Ok passed
-  merges : merge_answer t i x (made_public c i t seed) ≡ Ok u
+  merges : merge_answer t i x (path_public_keys c i t seed) ≡ Ok u
 
 abbrev ok_pair : LeafNode × Term → Result (LeafNode × Term) ℕ
 ok_pair x = Ok x
@@ -125,20 +125,20 @@ ok_pair x = Ok x
 pairs_are : (x y : LeafNode) (u v : Term) → ok_pair (x, u) ≡ ok_pair (y, v) → (x ≡ y) × (u ≡ v)
 pairs_are x y u v e = let p : (x, u) ≡ (y, v) = cc in (ap (λ (z : LeafNode × Term). z.0) p, ap (λ (z : LeafNode × Term). z.1) p)
 
-merged_steps : (c : Crypto) (p : PublicState) (signing : List ℕ) (i : ℕ) (t : Term) (seed : List ℕ) (x : LeafNode) (u : Term) → merged_of c p signing i t seed ≡ Ok (x, u) → IsMerged c p signing i t seed x u
-unfolding merged_of
+merged_steps : (c : Crypto) (p : PublicState) (signing : List ℕ) (i : ℕ) (t : Term) (seed : List ℕ) (x : LeafNode) (u : Term) → leaf_and_tree_of c p signing i t seed ≡ Ok (x, u) → IsMerged c p signing i t seed x u
+unfolding leaf_and_tree_of
 merged_steps c p signing i t seed x u h =
     let made = λ (old : LeafNode). leaf_with c signing p.context.group_id i t old seed in
     let member = bind_ok (member_at p.tree i) _ (x, u) h in
     let replaced = then_ok (replaced_checks c (made member.0) member.0 replaced_for.Commit p.context.group_id i) _ (x, u) member.2 in
-    let merge = bind_ok (merge_answer t i (made member.0) (made_public c i t seed)) _ (x, u) replaced.1 in
+    let merge = bind_ok (merge_answer t i (made member.0) (path_public_keys c i t seed)) _ (x, u) replaced.1 in
     let same = pairs_are (made member.0) x merge.0 u merge.2 in
     record {
       old = member.0;
       at = member.1;
       is = sym same.0;
       replaced = subst (λ l. replaced_checks c l member.0 replaced_for.Commit p.context.group_id i ≡ Ok passed) same.0 replaced.0;
-      merges = subst (λ l. merge_answer t i l (made_public c i t seed) ≡ Ok u) same.0 (merge.1 ∙ ap Ok same.1);
+      merges = subst (λ l. merge_answer t i l (path_public_keys c i t seed) ≡ Ok u) same.0 (merge.1 ∙ ap Ok same.1);
     }
 
 publics_fit : (c : Crypto) → Lawful c → (secrets : List (List ℕ)) → list_all c.key_ok (map (node_public c) secrets) ≡ true
@@ -159,21 +159,21 @@ counts_due c context e rnd i start nodes h = sealed_lengths c context e.added rn
 
 checks_pass : (c : Crypto) (p : PublicState) (i : ℕ) (e : Edits) (path : UpdatePath) (old : LeafNode) (u : Term) → member_at p.tree i ≡ Ok old → replaced_checks c path.leaf_node old replaced_for.Commit p.context.group_id i ≡ Ok passed
     → (length path.nodes == path_length 0 e.tree i) ≡ true → bytes_eq (cipher_counts path) (due_counts e i) ≡ true → list_all c.key_ok (path.leaf_node.encryption_key ∷ node_keys path) ≡ true → merge_answer e.tree i path.leaf_node (node_keys path) ≡ Ok u
-    → with_path c p i e path ≡ Ok u
-unfolding with_path
+    → apply_update_path c p i e path ≡ Ok u
+unfolding apply_update_path
 checks_pass c p i e path old u a b d f g h = rw (a, b, d, f, g) h
 
-pub received : (c : Crypto) → Lawful c → (p : PublicState) (signing : List ℕ) (i : ℕ) (e d : Edits) (seed : List ℕ) (x : LeafNode) (u v : Term) (context added : List ℕ) (nodes nodes' : List UpdatePathNode) → e ≡ d → merged_of c p signing i e.tree seed ≡ Ok (x, u) → v ≡ u → added ≡ e.added
-    → sealed_path c context added (seal_seed seed) e.tree i (path_seed seed) ≡ Ok nodes → nodes' ≡ nodes → with_path c p i d (record { leaf_node = x; nodes = nodes' }) ≡ Ok v
+pub received : (c : Crypto) → Lawful c → (p : PublicState) (signing : List ℕ) (i : ℕ) (e d : Edits) (seed : List ℕ) (x : LeafNode) (u v : Term) (context added : List ℕ) (nodes nodes' : List UpdatePathNode) → e ≡ d → leaf_and_tree_of c p signing i e.tree seed ≡ Ok (x, u) → v ≡ u → added ≡ e.added
+    → sealed_path c context added (seal_seed seed) e.tree i (path_seed seed) ≡ Ok nodes → nodes' ≡ nodes → apply_update_path c p i d (record { leaf_node = x; nodes = nodes' }) ≡ Ok v
 received c l p signing i e d seed x u v context added nodes nodes' same merged same_tree as_added sealed same_nodes =
     let m = merged_steps c p signing i e.tree seed x u merged in
     let path : UpdatePath = record { leaf_node = x; nodes = nodes } in
     let s : sealed_path c context e.added (seal_seed seed) e.tree i (path_seed seed) ≡ Ok nodes = ap (λ a. sealed_path c context a (seal_seed seed) e.tree i (path_seed seed)) (sym as_added) ∙ sealed in
-    let keys : node_keys path ≡ made_public c i e.tree seed = sealed_keys c context e.added (seal_seed seed) e.tree i (path_seed seed) nodes s in
+    let keys : node_keys path ≡ path_public_keys c i e.tree seed = sealed_keys c context e.added (seal_seed seed) e.tree i (path_seed seed) nodes s in
     let count : length nodes ≡ path_length 0 e.tree i = sym (length-map nodes (λ n. n.encryption_key)) ∙ ap length keys ∙ length-keys c e.tree i (path_seed seed) in
     let fit : list_all c.key_ok (x.encryption_key ∷ node_keys path) ≡ true =
     ap₂ (λ a b. a && b) (ap c.key_ok (sym (leaf_key_is c signing i e.tree m.old seed p.context.group_id x m.is)) ∙ l.public_ok (leaf_key_of c seed)) (ap (list_all c.key_ok) keys ∙ publics_fit c l (path_secrets (path_seed seed) (path_length 0 e.tree i))) in
-    ap₂ (λ f ns. with_path c p i f (record { leaf_node = x; nodes = ns })) (sym same) same_nodes
+    ap₂ (λ f ns. apply_update_path c p i f (record { leaf_node = x; nodes = ns })) (sym same) same_nodes
     ∙ checks_pass c p i e path m.old u m.at m.replaced (eq-eqb (length nodes) (path_length 0 e.tree i) count) ((bytes_eq-Decides (cipher_counts path) (due_counts e i)).1 (counts_due c context e (seal_seed seed) i (path_seed seed) nodes s)) fit
     (ap (λ ks. merge_answer e.tree i x ks) keys ∙ m.merges)
     ∙ ap Ok (sym same_tree)

@@ -1,4 +1,4 @@
 pub mod Faults
 pub mod Names
-pub mod Made
+pub mod NewPath
 pub mod Parts

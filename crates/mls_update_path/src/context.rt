@@ -4,7 +4,7 @@ ghost use Rattle.std.specs.Prelude.{◌≡◌, ◌+◌, ◌<◌, ◌^◌, length
 ghost use Rattle.mls_types.specs.GroupContext.{group_context};
 ghost use Rattle.mls_tree.specs.Tree.{term};
 ghost use Rattle.mls_public_group.specs.Short.{IsShortContext};
-ghost use Rattle.mls_model.specs.Public as model;
+ghost use Rattle.mls_model.specs.PublicState as model;
 
 use mls_types::GroupContext;
 use mls_public_group::{context_spelling, provisional_context};

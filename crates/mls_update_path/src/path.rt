@@ -8,7 +8,7 @@ ghost use Rattle.mls_tree.specs.Paths.{merge_answer};
 ghost use Rattle.mls_tree.specs.Tree.{term};
 ghost use Rattle.mls_public_group.specs.Short.{IsBelow, HasLeavesBelow, IsShortContext};
 ghost use Rattle.mls_model.specs.Candidate.{leaf_key_of};
-ghost use Rattle.mls_model.specs.Commit.{with_path};
+ghost use Rattle.mls_model.specs.Commit.{apply_update_path};
 ghost use Rattle.mls_model.specs.Make as model;
 ghost use Rattle.mls_model.specs.Member as member;
 ghost use Rattle.mls_treekem_model.specs.Height.{HasFollowed};
@@ -16,9 +16,9 @@ ghost use Rattle.mls_treekem_model.specs.Keys.{all_keys};
 ghost use Rattle.mls_treekem_model.specs.Make.{made_keys};
 ghost use Rattle.mls_treekem_model.specs.Seeds.{path_seed};
 ghost use Rattle.mls_treekem.specs.Secrets.{AreOfChain};
-ghost use Rattle.mls_update_path.specs.Made.{made_path};
+ghost use Rattle.mls_update_path.specs.NewPath.{made_path};
 ghost use Rattle.mls_update_path.specs.Faults.{number_of};
-ghost use Rattle.mls_update_path.specs.Parts.{leaf_from, leaf_checks, merged_of, path_of};
+ghost use Rattle.mls_update_path.specs.Parts.{leaf_from, leaf_checks, leaf_and_tree_of, path_of};
 
 use crate::context::provisional_bytes;
 use crate::draft::{Draft, make_draft, parent_hash, public_keys};
@@ -57,7 +57,7 @@ struct Merged {
 }
 
 /// The new leaf of the member at leaf `index`, with this parent hash, where it passes its checks (50 to 54).
-fn checked_leaf<S: Suite>(
+fn make_checked_leaf<S: Suite>(
     alloc: Global,
     group: &PublicGroup,
     signing: &Secret,
@@ -81,7 +81,7 @@ fn checked_leaf<S: Suite>(
 }
 
 /// The tree with a path's leaf and keys merged, and the committer's private keys in it (25, 24).
-fn merged_with(
+fn merge_leaf_and_keys(
     index: u32,
     tree: PublicTree,
     leaf: LeafNode,
@@ -107,8 +107,8 @@ fn merged_with(
 
 /// A path of the member at leaf `index` in a tree after edits, its committer's keys, and the tree with it: the new leaf
 /// and the merge pass their checks (50 to 54, 25, 24).
-#[tactic(auto, unfolding(crate::specs::Parts::merged_of))]
-fn make_merged<S: Suite>(
+#[tactic(auto, unfolding(crate::specs::Parts::leaf_and_tree_of))]
+fn merge_new_path<S: Suite>(
     alloc: Global,
     group: &PublicGroup,
     signing: &Secret,
@@ -118,7 +118,7 @@ fn make_merged<S: Suite>(
 ) -> Result<Merged, PathError>
     requires context { IsShortContext group.now.context }
     requires leaves { HasLeavesBelow (2 ^ 27) group.now.tree }
-    ensures answer { Answers (λ x. (x.leaf, term x.tree)) number_of (merged_of S.crypto group.now signing.now index (term edited.now) seed.now) result }
+    ensures answer { Answers (λ x. (x.leaf, term x.tree)) number_of (leaf_and_tree_of S.crypto group.now signing.now index (term edited.now) seed.now) result }
     ensures below { IfOk result (λ x. IsBelow (2 ^ 28) leaf_node x.leaf) }
     ensures short { IfOk result (λ x. (n : ℕ) → HasLeavesBelow n (term edited.now) → IsBelow n leaf_node x.leaf → HasLeavesBelow n (term x.tree)) }
     ensures leaf { IfOk result (λ x. x.keys.leaf ≡ index) }
@@ -132,8 +132,8 @@ fn make_merged<S: Suite>(
     let public = public_keys(alloc, &made.secrets)?;
     let mut tree = edited.clone()?;
     let hash = parent_hash(&mut tree, index, &public)?;
-    let leaf = checked_leaf::<S>(alloc, group, signing, index, old, hash, seed)?;
-    merged_with(index, tree, leaf, public, made)
+    let leaf = make_checked_leaf::<S>(alloc, group, signing, index, old, hash, seed)?;
+    merge_leaf_and_keys(index, tree, leaf, public, made)
 }
 
 /// The path of the member at leaf `index` for a commit with these edits: a member is there (22), its new leaf and the
@@ -154,13 +154,13 @@ pub fn new_path<S: Suite>(
     ensures below { IfOk result (λ p. IsBelow (2 ^ 28) leaf_node p.path.leaf_node) }
     ensures chain { IfOk result (λ p. AreOfChain S.crypto (path_seed seed.now) (path_length 0 edits.now.tree index) p.secrets) }
     // It passes the checks that each member makes of a path.
-    ensures received { IfOk result (λ p. with_path S.crypto group.now index edits.now p.path ≡ Ok (term p.tree)) }
+    ensures received { IfOk result (λ p. apply_update_path S.crypto group.now index edits.now p.path ≡ Ok (term p.tree)) }
     // The leaves of the tree with it are as short as those of the tree after the edits and the new one.
     ensures short { IfOk result (λ p. (n : ℕ) → HasLeavesBelow n edits.now.tree → IsBelow n leaf_node p.path.leaf_node → HasLeavesBelow n (term p.tree)) }
 {
     group.is_short();
     let edited = edits.tree.as_tree();
-    let mut made = make_merged::<S>(alloc, group, signing, index, edited, seed)?;
+    let mut made = merge_new_path::<S>(alloc, group, signing, index, edited, seed)?;
     let context = provisional_bytes(alloc, group.context(), &mut made.tree)?;
     let nodes = seal_path::<S>(
         alloc,

@@ -1,5 +1,5 @@
 pub mod EntriesLemmas
-pub mod Fed
+pub mod SliceInputs
 pub mod MessageLaws
 pub mod PartLaws
 pub mod PublicLaws

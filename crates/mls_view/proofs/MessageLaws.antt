@@ -10,7 +10,7 @@ use Rattle.mls_leaf.specs.WholeLaws.{is_input_fault}
 use Rattle.mls_leaf.proofs.WholeLaws.{spells_same, is_input_answered}
 use Rattle.mls_types.specs.GroupInfo.{group_info}
 use Rattle.mls_types.specs.declared.group_info.GroupInfo as group_infos
-use Rattle.mls_types.specs.Answered.{mls_message_faults}
+use Rattle.mls_types.specs.ReadFaults.{mls_message_faults}
 use Rattle.mls_types.specs.Message.{mls_message}
 use Rattle.mls_types.specs.declared.message.MlsMessage.{MlsMessage}
 use Rattle.mls_types.specs.declared.message.MlsMessage.TheVariants as sent

@@ -1,4 +1,4 @@
 pub mod Views
 pub mod Shown
-pub mod Fed
+pub mod SliceInputs
 pub mod Entries

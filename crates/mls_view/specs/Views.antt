@@ -49,8 +49,8 @@ pub record AreItems {V : Type 0} (format : Format V) (vs : List V) (bytes : List
   pub spelled : bytes ≡ flat_map format.spell vs
 
 -- A step of a walk over items: nothing is left, or it lends the next item, and the others are left.
-abbrev pub Steps : {V : Type 0} → Format V → List V → Option (List ℕ) → List ℕ → Type 0
-Steps format [] None new = new ≡ []
-Steps format [] (Some part) new = ⊥
-Steps format (v ∷ vs) None new = ⊥
-Steps format (v ∷ vs) (Some part) new = Spells format v part × AreItems format vs new
+abbrev pub LendsNextItem : {V : Type 0} → Format V → List V → Option (List ℕ) → List ℕ → Type 0
+LendsNextItem format [] None new = new ≡ []
+LendsNextItem format [] (Some part) new = ⊥
+LendsNextItem format (v ∷ vs) None new = ⊥
+LendsNextItem format (v ∷ vs) (Some part) new = Spells format v part × AreItems format vs new

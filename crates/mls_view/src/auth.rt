@@ -17,7 +17,7 @@ pub struct AuthDataView<'a> {
 }
 
 /// The FramedContentAuthData behind a content. It takes no memory.
-pub(crate) fn read_auth<'a>(
+pub(crate) fn read_auth_data<'a>(
     content: &ContentView<'_>,
     reader: &mut Reader<'a>,
 ) -> Result<AuthDataView<'a>, LeafError>

@@ -14,7 +14,7 @@ ghost use Rattle.mls_types.specs.Reference.{proposal_reference};
 ghost use Rattle.mls_types.specs.declared.public_message.PublicMessage as messages;
 ghost use Rattle.mls_types.specs.declared.public_message.WireFormat.TheVariants.{PublicMessage as public_format};
 ghost use Rattle.mls_view.specs.Shown.{ShowsPublic};
-ghost use Rattle.mls_view.specs.Fed.{signed_pieces, tagged_pieces, authenticated_pieces, authenticated};
+ghost use Rattle.mls_view.specs.SliceInputs.{signed_pieces, tagged_pieces, authenticated_pieces, authenticated_content_of};
 
 use crate::public_message::PublicMessageView;
 use mls_kdf::{Secret, content_header, hash, hmac};
@@ -22,7 +22,7 @@ use mls_schedule::Transcript;
 use std::alloc::{AllocError, Global};
 
 /// Version 1 and wire format 1, then the slices.
-fn add_signed(alloc: Global, said: &[u8], context: &[u8]) -> Result<Vec<u8>, AllocError>
+fn join_signed_pieces(alloc: Global, said: &[u8], context: &[u8]) -> Result<Vec<u8>, AllocError>
     ensures { MatchResult result (λ v. v.items ≡ signed_pieces said.now context.now) (λ _. Unit {0}) }
 {
     let front = [0, 1, 0, 1];
@@ -70,7 +70,7 @@ impl<'a> PublicMessageView<'a> {
             → v.items ≡ framed_content_tbs public_format (framed shown.content) group)
             (λ _. Unit {0}) }
     {
-        add_signed(alloc, self.framed_content, context)
+        join_signed_pieces(alloc, self.framed_content, context)
     }
 
     /// The tag of the AuthenticatedContentTBM under a membership key (RFC 9420, 6.2), with the bytes of the epoch's
@@ -86,7 +86,7 @@ impl<'a> PublicMessageView<'a> {
     /// less than 2^30 bytes. It takes no memory.
     pub fn reference(&self) -> Secret
         requires { length self.now.framed_content.now + length self.now.auth_data.now + 2 < 2 ^ 30 }
-        ensures { (shown : messages.PublicMessage) → ShowsPublic self.now shown → result ≡ proposal_reference (authenticated_content.spell (authenticated shown)) }
+        ensures { (shown : messages.PublicMessage) → ShowsPublic self.now shown → result ≡ proposal_reference (authenticated_content.spell (authenticated_content_of shown)) }
     {
         reference_of(
             "MLS 1.0 Proposal Reference",

@@ -9,7 +9,7 @@ ghost use Rattle.mls_view.specs.Views.{LendsView, LendsWhole, IsOwned};
 ghost use Rattle.mls_view.specs.Shown.{Shows};
 
 use crate::part::Part;
-use crate::public_message::{PublicMessageView, read_public};
+use crate::public_message::{PublicMessageView, read_public_message};
 use crate::welcome::{WelcomeView, read_welcome};
 use mls_leaf::{INPUT_LIMIT, KeyPackage, LeafError, pass_mark};
 use mls_types::{GroupInfo, MlsMessage};
@@ -37,7 +37,7 @@ fn read_message<'a>(reader: &mut Reader<'a>) -> Result<MessageView<'a>, LeafErro
     pass_mark(reader, 1, LeafError::BadTag)?;
     match reader.u16()? {
         1 => {
-            let message = read_public(reader)?;
+            let message = read_public_message(reader)?;
             Ok(MessageView::PublicMessage(message))
         }
         3 => {
@@ -57,7 +57,7 @@ fn read_message<'a>(reader: &mut Reader<'a>) -> Result<MessageView<'a>, LeafErro
 }
 
 #[tactic(auto, unfolding(mls_leaf::specs::Faults::whole))]
-fn read_all<'a>(bytes: &'a [u8]) -> Result<MessageView<'a>, LeafError>
+fn read_whole<'a>(bytes: &'a [u8]) -> Result<MessageView<'a>, LeafError>
     ensures { LendsWhole mls_message input_limit Shows bytes.now result }
 {
     if bytes.len() > INPUT_LIMIT {
@@ -76,7 +76,7 @@ impl<'a> MessageView<'a> {
         ensures read { LendsWhole mls_message input_limit Shows bytes.now result }
         ensures no_memory { MatchResult result (λ _. Unit {0}) (λ e. number_of e ≢ 1) }
     {
-        read_all(bytes)
+        read_whole(bytes)
     }
 
     /// The message itself, as `decode` gives it, or want of memory.

@@ -4,15 +4,15 @@ ghost use Rattle.std.specs.Prelude.{◌≡◌, ℕ, List, [], length, ◌<◌, O
 ghost use Rattle.mls_wire.specs.Combine.{vector};
 ghost use Rattle.mls_wire.specs.Format.{IsBytes};
 ghost use Rattle.mls_leaf.specs.Faults.{LendsPart, Spells};
-ghost use Rattle.mls_view.specs.Views.{Owns, AreItems, Steps};
+ghost use Rattle.mls_view.specs.Views.{Owns, AreItems, LendsNextItem};
 
-use mls_leaf::{Codec, Items, LeafError, part, passed};
+use mls_leaf::{Codec, Items, LeafError, lend_part, lend_front};
 use mls_wire::Reader;
 use std::alloc::Global;
 use std::marker::{Model, PhantomData};
 
 /// The same bytes, each of which is one.
-fn lent<'a>(bytes: &'a [u8]) -> &'a [u8]
+fn lend_bytes<'a>(bytes: &'a [u8]) -> &'a [u8]
     ensures same { result.now ≡ bytes.now }
     ensures bytes { IsBytes bytes.now }
 {
@@ -39,7 +39,7 @@ impl<'a, T: Codec> Part<'a, T> {
     pub fn read(reader: &mut Reader<'a>) -> Result<Part<'a, T>, LeafError>
         ensures { LendsPart T.format (λ p. p) reader.old result reader.new }
     {
-        let bytes = part::<T>(reader)?;
+        let bytes = lend_part::<T>(reader)?;
         Ok(Part {
             bytes,
             kind: PhantomData,
@@ -52,7 +52,7 @@ impl<'a, T: Codec> Part<'a, T> {
         ensures { (v : T) → T.format.read before.now ≡ Ok (v, behind.now) → Spells T.format v result }
     {
         Part {
-            bytes: passed(before, behind),
+            bytes: lend_front(before, behind),
             kind: PhantomData,
         }
     }
@@ -62,14 +62,14 @@ impl<'a, T: Codec> Part<'a, T> {
         ensures same { result.now ≡ self.now }
         ensures spelled { (v : T) × Spells T.format v result.now }
     {
-        lent(self.bytes)
+        lend_bytes(self.bytes)
     }
 
     /// The value that the bytes spell, or want of memory.
     pub fn to_owned(&self, alloc: Global) -> Result<T, LeafError>
         ensures { Owns T.format self.now result }
     {
-        let mut reader = Reader::new(lent(self.bytes));
+        let mut reader = Reader::new(lend_bytes(self.bytes));
         T::read(alloc, &mut reader)
     }
 }
@@ -112,7 +112,7 @@ impl<'a, T: Codec> Walk<'a, T> {
 
     /// The next item, None behind the last one. It makes no value and takes no memory.
     pub fn next(&mut self) -> Option<Part<'a, T>>
-        ensures step { (vs : List T) → AreItems T.format vs self.old → Steps T.format vs result self.new }
+        ensures step { (vs : List T) → AreItems T.format vs self.old → LendsNextItem T.format vs result self.new }
         ensures shorter { IsSome result → length self.new < length self.old }
     {
         let mut reader = Reader::new(self.content);

@@ -5,10 +5,10 @@ ghost use Rattle.mls_view.specs.Views.{LendsView, IsOwned};
 ghost use Rattle.mls_view.specs.Shown.{ShowsPublic};
 ghost use Rattle.mls_types.specs.declared.public_message.PublicMessage as messages;
 
-use crate::auth::{AuthDataView, read_auth};
-use crate::content::{FramedContentView, read_framed};
+use crate::auth::{AuthDataView, read_auth_data};
+use crate::content::{FramedContentView, read_framed_content};
 use crate::part::Part;
-use mls_leaf::{LeafError, passed};
+use mls_leaf::{LeafError, lend_front};
 use mls_types::PublicMessage;
 use mls_wire::Reader;
 use std::alloc::Global;
@@ -31,17 +31,17 @@ pub struct PublicMessageView<'a> {
 }
 
 /// The public message at the front. It makes no value and takes no memory.
-pub(crate) fn read_public<'a>(reader: &mut Reader<'a>) -> Result<PublicMessageView<'a>, LeafError>
+pub(crate) fn read_public_message<'a>(reader: &mut Reader<'a>) -> Result<PublicMessageView<'a>, LeafError>
     ensures { LendsView public_message ShowsPublic reader.old result reader.new }
 {
     let before = reader.rest();
-    let content = read_framed(reader)?;
+    let content = read_framed_content(reader)?;
     let middle = reader.rest();
-    let auth = read_auth(&content.content, reader)?;
+    let auth = read_auth_data(&content.content, reader)?;
     let behind = reader.rest();
     let membership_tag = reader.opaque()?;
-    let framed_content = passed(before, middle);
-    let auth_data = passed(middle, behind);
+    let framed_content = lend_front(before, middle);
+    let auth_data = lend_front(middle, behind);
     let whole = Part::of(before, reader.rest());
     Ok(PublicMessageView {
         content,

@@ -5,7 +5,7 @@ use Rattle.std.specs.List.{zip}
 use Rattle.mls_leaf.specs.declared.key_package.KeyPackage.{KeyPackage}
 use Rattle.mls_leaf.specs.declared.proposal.Proposal.{Proposal}
 use Rattle.mls_leaf.specs.declared.proposal.Proposal.TheVariants as proposal
-use Rattle.mls_model.specs.Public.{Used}
+use Rattle.mls_model.specs.PublicState.{Used}
 use Rattle.mls_model.specs.Proposals.{adds}
 
 -- an add stands before those of the rest

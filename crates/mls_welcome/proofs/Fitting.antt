@@ -18,7 +18,7 @@ use Rattle.mls_leaf.specs.Node.{node}
 use Rattle.mls_leaf.specs.declared.leaf.Capabilities.{Capabilities}
 use Rattle.mls_leaf.specs.declared.leaf.Credential.{Credential}
 use Rattle.mls_leaf.specs.declared.leaf.LeafNode.{LeafNode}
-use Rattle.mls_leaf.specs.declared.leaf.LeafSource.TheVariants as made_for
+use Rattle.mls_leaf.specs.declared.leaf.LeafSource.TheVariants as leaf_node_source
 use Rattle.mls_leaf.specs.declared.node.Node.{Node}
 use Rattle.mls_leaf.specs.declared.node.Node.TheVariants.{Leaf as in_leaf, Parent as in_parent}
 use Rattle.mls_types.specs.Enclosed.{Whole, entire, at_most_one, enclosed}
@@ -33,7 +33,7 @@ use Rattle.mls_types.specs.declared.welcome.EncryptedGroupSecrets.{EncryptedGrou
 use Rattle.mls_types.specs.declared.welcome.Welcome.{Welcome}
 use Rattle.mls_types.specs.Message.{mls_message}
 use Rattle.mls_types.specs.declared.message.MlsMessage.TheVariants as message
-use Rattle.mls_welcome.specs.Spelled.{FitsIfShort, IsRanged}
+use Rattle.mls_welcome.specs.Ranges.{FitsIfShort, IsRanged}
 
 -- ---- lengths
 
@@ -96,15 +96,15 @@ capabilities_fit v a b d e f =
     (pair_fit uint16s t4 v.extensions (v.proposals, v.credentials) (uint16s_fit v.extensions d)
     (pair_fit uint16s uint16s v.proposals v.credentials (uint16s_fit v.proposals e) (uint16s_fit v.credentials f))))
 
-pub package_source_fits : (first last : ℕ) → first < 2 ^ 64 → last < 2 ^ 64 → FitsIfShort leaf_source (made_for.KeyPackage first last)
+pub package_source_fits : (first last : ℕ) → first < 2 ^ 64 → last < 2 ^ 64 → FitsIfShort leaf_source (leaf_node_source.KeyPackage first last)
 unfolding leaf_source
 package_source_fits first last a b lt = (lit< tt, (a, b))
 
-pub update_source_fits : FitsIfShort leaf_source made_for.Update
+pub update_source_fits : FitsIfShort leaf_source leaf_node_source.Update
 unfolding leaf_source
 update_source_fits lt = (lit< tt, tt)
 
-pub commit_source_fits : (hash : List ℕ) → FitsIfShort leaf_source (made_for.Commit hash)
+pub commit_source_fits : (hash : List ℕ) → FitsIfShort leaf_source (leaf_node_source.Commit hash)
 unfolding leaf_source
 commit_source_fits hash lt = (lit< tt, short_text hash _ (short_last _ (opaque hash) _ lt))
 

@@ -1,5 +1,5 @@
 pub mod Names
-mod Joined
+mod SealedEntries
 mod Fitting
 mod Measured
 mod Messages

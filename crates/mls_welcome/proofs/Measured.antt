@@ -19,7 +19,7 @@ use Rattle.mls_suite.specs.Labels.{sign_with_label}
 use Rattle.mls_model.specs.Welcome.{signed_info}
 use Rattle.mls_model.specs.Messages.{are_bytes, is_within_limit}
 use Rattle.mls_public_group.proofs.Limits.{past_limit}
-use Rattle.mls_welcome.specs.Spelled.{FitsIfShort, IsRanged, limited}
+use Rattle.mls_welcome.specs.Ranges.{FitsIfShort, IsRanged, limited_text}
 use Rattle.mls_welcome.proofs.Fitting.{tbs_fit}
 
 -- ---- the measure
@@ -35,7 +35,7 @@ pub within : (bytes : List ℕ) → length bytes ≤ input_limit → ((i : ℕ) 
 unfolding is_within_limit are_bytes
 within bytes le h = rw (le-leb (length bytes) input_limit le, bytes_all bytes h) refl
 
-pub limited_long : (bytes : List ℕ) → input_limit < length bytes → limited bytes ≡ Err 6
+pub limited_long : (bytes : List ℕ) → input_limit < length bytes → limited_text bytes ≡ Err 6
 limited_long bytes lt = ap (λ (r : Result Passed ℕ). r >> Ok bytes) (past_limit bytes lt)
 
 -- ---- refusals of a spelling
@@ -61,7 +61,7 @@ long_by bytes P fits none =
       | inr le ↦ omega arith
     ]
 
-pub refused_long : {V : Type 0} (format : Format V) (v : V) → FitsIfShort format v → (e : LeafError) → Refuses (format.Fits v) e → number_of e ≢ 1 → limited (format.spell v) ≡ Err (number_of e)
+pub refused_long : {V : Type 0} (format : Format V) (v : V) → FitsIfShort format v → (e : LeafError) → Refuses (format.Fits v) e → number_of e ≢ 1 → limited_text (format.spell v) ≡ Err (number_of e)
 refused_long format v fits e refused other =
     let is = refused_is (format.Fits v) e refused other in
     limited_long (format.spell v) (long_by (format.spell v) (format.Fits v) fits is.1) ∙ ap Err (sym is.0)
@@ -72,17 +72,17 @@ never_refused P x fits e refused other = absurd ((refused_is P e refused other).
 -- ---- a signed GroupInfo
 
 -- is longer than what is signed of it
-spelled_long : (v : GroupInfo) → input_limit < length (group_info_tbs v) → limited (group_info.spell v) ≡ Err 6
+spelled_long : (v : GroupInfo) → input_limit < length (group_info_tbs v) → limited_text (group_info.spell v) ≡ Err 6
 spelled_long v lt =
     let spelled : length (group_info.spell v) ≡ length (group_info_tbs v ++ opaque v.signature) = ap length (group_info-spelled v) in
     limited_long (group_info.spell v) (omega (arith, length-append (group_info_tbs v) (opaque v.signature)))
 
 module _ (c : Crypto) (signing : List ℕ) (v : GroupInfo) where
-  pub signed_long : input_limit < length (group_info_tbs v) → limited (group_info.spell (signed_info c signing v)) ≡ Err 6
+  pub signed_long : input_limit < length (group_info_tbs v) → limited_text (group_info.spell (signed_info c signing v)) ≡ Err 6
   unfolding signed_info
   signed_long lt = spelled_long (record v { signature = sign_with_label c signing (codes "GroupInfoTBS") (group_info_tbs v) }) lt
 
-  pub tbs_refused : IsRanged v → (e : LeafError) → Refuses (GroupInfoTbsFits v) e → number_of e ≢ 1 → limited (group_info.spell (signed_info c signing v)) ≡ Err (number_of e)
+  pub tbs_refused : IsRanged v → (e : LeafError) → Refuses (GroupInfoTbsFits v) e → number_of e ≢ 1 → limited_text (group_info.spell (signed_info c signing v)) ≡ Err (number_of e)
   tbs_refused ranged e refused other =
       let is = refused_is (GroupInfoTbsFits v) e refused other in
       signed_long (long_by (group_info_tbs v) (GroupInfoTbsFits v) (tbs_fit v ranged) is.1) ∙ ap Err (sym is.0)

@@ -17,10 +17,10 @@ use Rattle.mls_suite.specs.Crypto.{Crypto, Lawful}
 use Rattle.mls_schedule.specs.Epoch.{welcome_key, welcome_nonce}
 use Rattle.mls_model.specs.Messages.{is_within_limit}
 use Rattle.mls_model.specs.Welcome.{entries_for, welcome_message}
-use Rattle.mls_welcome.specs.Making.{have_fit_keys, welcome_of, message_with}
-use Rattle.mls_welcome.specs.Spelled.{limited}
+use Rattle.mls_welcome.specs.WelcomeMessage.{have_fit_keys, welcome_of, message_with}
+use Rattle.mls_welcome.specs.Ranges.{limited_text}
 use Rattle.mls_welcome.proofs.Measured.{limited_long}
-use Rattle.mls_welcome.proofs.Joined.{entries_fit, entries_unfit}
+use Rattle.mls_welcome.proofs.SealedEntries.{entries_fit, entries_unfit}
 
 -- ---- a long GroupInfo
 
@@ -46,9 +46,9 @@ long_message v le =
 
 module _ (c : Crypto) (encrypted : List ℕ) (secrets rnd : ℕ → List ℕ) (n : ℕ) (js : List (KeyPackage × ℕ)) where
   -- the message of entries that are known
-  pub message_is : (r : Result (List EncryptedGroupSecrets) ℕ) → entries_for c encrypted secrets rnd n js ≡ r → message_with c encrypted secrets rnd n js ≡ (r >>= λ xs. limited (mls_message.spell (message.Welcome (welcome_of c xs encrypted))))
+  pub message_is : (r : Result (List EncryptedGroupSecrets) ℕ) → entries_for c encrypted secrets rnd n js ≡ r → message_with c encrypted secrets rnd n js ≡ (r >>= λ xs. limited_text (mls_message.spell (message.Welcome (welcome_of c xs encrypted))))
   unfolding message_with
-  message_is r e = ap (λ (r : Result (List EncryptedGroupSecrets) ℕ). r >>= λ xs. limited (mls_message.spell (message.Welcome (welcome_of c xs encrypted)))) e
+  message_is r e = ap (λ (r : Result (List EncryptedGroupSecrets) ℕ). r >>= λ xs. limited_text (mls_message.spell (message.Welcome (welcome_of c xs encrypted)))) e
 
   pub long_refused : Lawful c → 2 ^ 30 ≤ length encrypted → have_fit_keys c js ≡ true → message_with c encrypted secrets rnd n js ≡ Err 6
   long_refused laws le fit =
@@ -68,7 +68,7 @@ module _ (c : Crypto) (info : GroupInfo) (joiner : List ℕ) (secrets rnd : ℕ 
   unfolding welcome_message message_with
   whole_is = refl
 
-  pub info_refused : (e : ℕ) → limited (group_info.spell info) ≡ Err e → welcome_message c info joiner secrets rnd n js ≡ Err e
+  pub info_refused : (e : ℕ) → limited_text (group_info.spell info) ≡ Err e → welcome_message c info joiner secrets rnd n js ≡ Err e
   info_refused e refused = whole_is ∙ by_within (is_within_limit (group_info.spell info)) refused
     where
       by_within : (r : Result Passed ℕ) → (r >> Ok (group_info.spell info)) ≡ Err e → (r >> after c info joiner secrets rnd n js) ≡ Err e
@@ -76,7 +76,7 @@ module _ (c : Crypto) (info : GroupInfo) (joiner : List ℕ) (secrets rnd : ℕ 
       by_within (Err f) h = cc
 
   -- with the text of the GroupInfo, and what it is sealed to
-  pub info_done : (text encrypted key nonce : List ℕ) → limited (group_info.spell info) ≡ Ok text → key ≡ welcome_key joiner → nonce ≡ welcome_nonce joiner → encrypted ≡ c.aead_seal key nonce [] text
+  pub info_done : (text encrypted key nonce : List ℕ) → limited_text (group_info.spell info) ≡ Ok text → key ≡ welcome_key joiner → nonce ≡ welcome_nonce joiner → encrypted ≡ c.aead_seal key nonce [] text
       → welcome_message c info joiner secrets rnd n js ≡ message_with c encrypted secrets rnd n js
   info_done text encrypted key nonce done key_is nonce_is sealed =
       whole_is ∙ by_within (is_within_limit (group_info.spell info)) done

@@ -6,11 +6,11 @@ use Rattle.mls_leaf.specs.KeyPackage.{key_package}
 use Rattle.mls_leaf.specs.declared.key_package.KeyPackage.{KeyPackage}
 use Rattle.mls_public_group.specs.Short.{IsBelow}
 use Rattle.mls_model.specs.Welcome.{secrets_with}
-use Rattle.mls_welcome.specs.declared.making.Joiner.{Joiner}
+use Rattle.mls_welcome.specs.declared.welcome_message.Joiner.{Joiner}
 
 -- a joiner's KeyPackage and leaf
-abbrev pub place_of : Joiner → KeyPackage × ℕ
-place_of j = (j.key_package.now, j.leaf)
+abbrev pub package_and_leaf_of : Joiner → KeyPackage × ℕ
+package_and_leaf_of j = (j.key_package.now, j.leaf)
 
 -- what each leaf is sent: the joiner secret and the path secret of who was added there
 abbrev pub AreSecretsOf : List ℕ → (ℕ → List ℕ) → List Joiner → Type 0

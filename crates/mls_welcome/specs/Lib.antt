@@ -1,6 +1,6 @@
 pub mod Faults
 pub mod Names
 pub mod Joiners
-pub mod Making
-pub mod Spelled
-pub mod Sent
+pub mod WelcomeMessage
+pub mod Ranges
+pub mod SentSecrets

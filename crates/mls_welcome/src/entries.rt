@@ -9,12 +9,12 @@ ghost use Rattle.mls_treekem_model.specs.Seeds.{seal_seed};
 ghost use Rattle.mls_types.specs.Welcome.{group_secrets};
 ghost use Rattle.mls_model.specs.Proposals.{package_reference};
 ghost use Rattle.mls_model.specs.Welcome.{secrets_with, entry_for, entries_for};
-ghost use Rattle.mls_welcome.specs.Joiners.{place_of, AreSecretsOf, AreShortJoiners};
+ghost use Rattle.mls_welcome.specs.Joiners.{package_and_leaf_of, AreSecretsOf, AreShortJoiners};
 ghost use Rattle.mls_welcome.specs.Faults.{number_of};
-ghost use Rattle.mls_welcome.specs.Making.{have_fit_keys};
+ghost use Rattle.mls_welcome.specs.WelcomeMessage.{have_fit_keys};
 
 use crate::error::WelcomeError;
-use crate::making::Joiner;
+use crate::welcome_message::Joiner;
 use mls_types::{EncryptedGroupSecrets, GroupSecrets, HpkeCiphertext};
 use mls_kdf::{Secret, Seed};
 use mls_leaf::{Bytes, Codec, KeyPackage, key_package_reference};
@@ -148,7 +148,7 @@ impl Sealer<'_> {
         requires short { AreShortJoiners joiners.now }
         requires seals { first + length joiners.now < 2 ^ 32 }
         ensures { (secrets : ℕ → List ℕ) → AreSecretsOf self.now.joiner_secret.now secrets joiners.now
-            → Answers (λ v. v.items) number_of (entries_for S.crypto encrypted_info.now secrets (seal_seed self.now.seed.now) first (map place_of joiners.now)) result }
+            → Answers (λ v. v.items) number_of (entries_for S.crypto encrypted_info.now secrets (seal_seed self.now.seed.now) first (map package_and_leaf_of joiners.now)) result }
     {
         let mut entries = Vec::new(alloc);
         let mut number = first;
@@ -163,7 +163,7 @@ impl Sealer<'_> {
 
 /// Whether the init key of each joiner is fit.
 pub(crate) fn have_fit_keys<S: Suite>(joiners: &[Joiner<'_>]) -> bool
-    ensures { result ≡ have_fit_keys S.crypto (map place_of joiners.now) }
+    ensures { result ≡ have_fit_keys S.crypto (map package_and_leaf_of joiners.now) }
 {
     for joiner in joiners {
         if !S::key_ok(joiner.key_package.init_key.as_slice()) {

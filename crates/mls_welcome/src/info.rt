@@ -6,10 +6,10 @@ ghost use Rattle.mls_types.specs.GroupInfo.{group_info, group_info_tbs};
 ghost use Rattle.mls_suite.specs.Labels.{sign_with_label};
 ghost use Rattle.mls_model.specs.Welcome.{unsigned_info, signed_info};
 ghost use Rattle.mls_welcome.specs.Faults.{number_of};
-ghost use Rattle.mls_welcome.specs.Spelled.{IsRanged, limited};
+ghost use Rattle.mls_welcome.specs.Ranges.{IsRanged, limited_text};
 
 use crate::error::WelcomeError;
-use crate::limits::{is_within_limit, limited_spelling};
+use crate::limits::{is_within_limit, spell_within_limit};
 use crate::ranges::know_slots;
 use mls_types::{GroupContext, GroupInfo};
 use mls_kdf::Secret;
@@ -55,7 +55,7 @@ fn signature_of<S: Suite>(
 ) -> Result<Bytes, WelcomeError>
     requires { IsRanged info.now }
     ensures signature { IfOk result (λ s. s ≡ sign_with_label S.crypto signing.now (codes "GroupInfoTBS") (group_info_tbs info.now)) }
-    ensures refused { IfErr result (λ e. number_of e ≢ 1 → limited (group_info.spell (signed_info S.crypto signing.now info.now)) ≡ Err (number_of e)) }
+    ensures refused { IfErr result (λ e. number_of e ≢ 1 → limited_text (group_info.spell (signed_info S.crypto signing.now info.now)) ≡ Err (number_of e)) }
 {
     let text = info.to_be_signed(alloc)?;
     is_within_limit(&text)?;
@@ -71,9 +71,9 @@ pub(crate) fn signed_info<S: Suite>(
     signer: u32,
     signing: &Secret,
 ) -> Result<Vec<u8>, WelcomeError>
-    ensures { Answers (λ v. v.items) number_of (limited (group_info.spell (signed_info S.crypto signing.now (unsigned_info group.now confirmation_tag.now signer)))) result }
+    ensures { Answers (λ v. v.items) number_of (limited_text (group_info.spell (signed_info S.crypto signing.now (unsigned_info group.now confirmation_tag.now signer)))) result }
 {
     let mut info = unsigned_info(alloc, group, confirmation_tag, signer)?;
     info.signature = signature_of::<S>(alloc, &info, signing)?;
-    limited_spelling(alloc, &info)
+    spell_within_limit(alloc, &info)
 }

@@ -4,11 +4,11 @@ ghost use Rattle.std.specs.Prelude.{◌≡◌, ◌∷◌, ◌++◌, List, IfOk, 
 ghost use Rattle.std.specs.List.{AllByRecursion, zip};
 ghost use Rattle.std.specs.Option.{option_copied};
 ghost use Rattle.mls_model.specs.Proposals.{adds};
-ghost use Rattle.mls_model.specs.Public as model;
-ghost use Rattle.mls_welcome.specs.Joiners.{place_of};
-ghost use Rattle.mls_welcome.specs.Sent.{IsSentTo, AreSentTo};
+ghost use Rattle.mls_model.specs.PublicState as model;
+ghost use Rattle.mls_welcome.specs.Joiners.{package_and_leaf_of};
+ghost use Rattle.mls_welcome.specs.SentSecrets.{IsSentTo, AreSentTo};
 
-use crate::making::Joiner;
+use crate::welcome_message::Joiner;
 use mls_kdf::Secret;
 use mls_leaf::Proposal;
 use mls_public_group::{Edits, Used};
@@ -42,7 +42,7 @@ fn push_joiner<'a, 'b>(
     secrets: Option<&'a PathSecrets>,
     all: &mut Vec<Joiner<'a>>,
 ) -> Result<&'b [u32], OutOfMemory>
-    ensures places { IfOk result (λ rest. (us : List model.Used) → map place_of all.new.items ++ zip (adds us) rest.now ≡ map place_of all.old.items ++ zip (adds (used.now ∷ us)) leaves.now) }
+    ensures places { IfOk result (λ rest. (us : List model.Used) → map package_and_leaf_of all.new.items ++ zip (adds us) rest.now ≡ map package_and_leaf_of all.old.items ++ zip (adds (used.now ∷ us)) leaves.now) }
     ensures sent { OnOk result (AreSentTo edits.now.tree committer (option_copied secrets.entry) all.old.items → AreSentTo edits.now.tree committer (option_copied secrets.entry) all.new.items) }
 {
     let Proposal::Add(key_package) = used.proposal else {
@@ -68,7 +68,7 @@ pub fn joiners_of<'a>(
     committer: u32,
     secrets: Option<&'a PathSecrets>,
 ) -> Result<Vec<Joiner<'a>>, OutOfMemory>
-    ensures places { IfOk result (λ v. map place_of v.items ≡ zip (adds used.now) edits.now.added) }
+    ensures places { IfOk result (λ v. map package_and_leaf_of v.items ≡ zip (adds used.now) edits.now.added) }
     ensures sent { IfOk result (λ v. AreSentTo edits.now.tree committer (option_copied secrets.entry) v.items) }
 {
     let mut all = Vec::new(alloc);

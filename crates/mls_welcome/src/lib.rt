@@ -7,10 +7,10 @@ mod info;
 mod joiners;
 mod laws;
 mod limits;
-mod making;
+mod welcome_message;
 mod ranges;
 
 pub use error::WelcomeError;
 pub use joiners::joiners_of;
 pub use laws::welcome_names_by_number;
-pub use making::{Joiner, welcome};
+pub use welcome_message::{Joiner, welcome};

@@ -5,7 +5,7 @@ ghost use Rattle.mls_leaf.specs.Limits.{input_limit};
 ghost use Rattle.mls_wire.specs.Checks.{Answers, AnswersOutright, passed};
 ghost use Rattle.mls_model.specs.Messages.{is_within_limit};
 ghost use Rattle.mls_welcome.specs.Faults.{number_of};
-ghost use Rattle.mls_welcome.specs.Spelled.{FitsIfShort, limited};
+ghost use Rattle.mls_welcome.specs.Ranges.{FitsIfShort, limited_text};
 
 use crate::error::WelcomeError;
 use mls_leaf::{Codec, INPUT_LIMIT, LeafError};
@@ -30,9 +30,9 @@ pub(crate) fn is_within_limit(bytes: &[u8]) -> Result<(), WelcomeError>
 }
 
 /// The spelling of a value whose numbers are in range: 6 where it is larger than a message may be.
-pub(crate) fn limited_spelling<T: Codec>(alloc: Global, value: &T) -> Result<Vec<u8>, WelcomeError>
+pub(crate) fn spell_within_limit<T: Codec>(alloc: Global, value: &T) -> Result<Vec<u8>, WelcomeError>
     requires { FitsIfShort T.format value.now }
-    ensures { Answers (λ v. v.items) number_of (limited (T.format.spell value.now)) result }
+    ensures { Answers (λ v. v.items) number_of (limited_text (T.format.spell value.now)) result }
 {
     let bytes = value.encode(alloc)?;
     is_within_limit(&bytes)?;

@@ -1,6 +1,6 @@
 -- What follows from a chain of checks that answers Ok: each part did, and the rest did.
 use Rattle.std.proofs.Common.{◌≡◌, ℕ, Bool, true, false, Option, Some, None, Result, Ok, Err, refl}
-use Rattle.mls_wire.specs.Checks.{Passed, passed, require, given, ◌>>◌}
+use Rattle.mls_wire.specs.Checks.{Passed, passed, require, require_some, ◌>>◌}
 use Rattle.mls_wire.specs.Reading.{◌>>=◌}
 
 pub bind_ok : {A B : Type 0} (r : Result A ℕ) (f : A → Result B ℕ) (y : B) → (r >>= f) ≡ Ok y → (x : A) × (r ≡ Ok x) × (f x ≡ Ok y)
@@ -15,6 +15,6 @@ pub require_ok : {B : Type 0} (n : ℕ) (test : Bool) (q : Result B ℕ) (y : B)
 require_ok n true q y h = (refl, h)
 require_ok n false q y h = cc
 
-pub given_ok : {A : Type 0} (n : ℕ) (o : Option A) (x : A) → given n o ≡ Ok x → o ≡ Some x
+pub given_ok : {A : Type 0} (n : ℕ) (o : Option A) (x : A) → require_some n o ≡ Ok x → o ≡ Some x
 given_ok n (Some y) x h = cc
 given_ok n None x h = cc

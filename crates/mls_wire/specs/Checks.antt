@@ -15,9 +15,9 @@ abbrev pub require : ℕ → Bool → Result Passed ℕ
 require n test = if test then Ok passed else Err n
 
 -- the value, or the check of that number fails
-abbrev pub given : {A : Type 0} → ℕ → Option A → Result A ℕ
-given n (Some x) = Ok x
-given n None = Err n
+abbrev pub require_some : {A : Type 0} → ℕ → Option A → Result A ℕ
+require_some n (Some x) = Ok x
+require_some n None = Err n
 
 -- A call answers what the definition does: its value, or the number of its error. Where memory was
 -- refused, number 1, it says nothing.

@@ -10,8 +10,8 @@ use Rattle.mls_model.specs.declared.event.WorldItem.{WorldItem}
 use Rattle.mls_model.specs.declared.event.Event.{Event}
 use Rattle.mls_model.specs.declared.event.Event.TheVariants as event
 use Rattle.mls_model.specs.declared.event.Reply.{Reply}
-use Rattle.mls_model.specs.Calls.{candidate_answer, create_answer, propose_add_answer, propose_update_answer, propose_remove_answer, commit_answer, drop_answer, deliver_answer, join_answer}
-use Rattle.mls_model.specs.Range.{IsSourceInRange, IsItemInRange, IsInRange}
+use Rattle.mls_model.specs.WorldCalls.{candidate_answer, create_answer, propose_add_answer, propose_update_answer, propose_remove_answer, commit_answer, drop_answer, deliver_answer, join_answer}
+use Rattle.mls_model.specs.EventRange.{IsSourceInRange, IsItemInRange, IsInRange}
 use Rattle.mls_model.specs.Run.{answer}
 use Rattle.mls_model.proofs.RunLaws.{answered_step}
 use Rattle.mls_model.specs.World.{World}

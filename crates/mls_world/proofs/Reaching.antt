@@ -7,11 +7,11 @@ use Rattle.mls_model.specs.declared.event.Event.{Event}
 use Rattle.mls_model.specs.declared.event.Reply.{Reply}
 use Rattle.mls_model.specs.Answers.{Runs}
 use Rattle.mls_model.specs.Headline.{HoldsAlong}
-use Rattle.mls_model.specs.Range.{IsInRange}
+use Rattle.mls_model.specs.EventRange.{IsInRange}
 use Rattle.mls_model.specs.Run.{run}
 use Rattle.mls_model.specs.World.{World}
 use Rattle.mls_theorems.proofs.One.{all_parted}
-use Rattle.mls_world_plain.specs.Answers.{Steps}
+use Rattle.mls_world_plain.specs.StepAnswer.{DoesStep}
 use Rattle.mls_theorems.specs.Reachable.{IsReachable}
 use Rattle.mls_theorems.proofs.Reachable.{runs_reach, steps_reach, headline_of_reachable}
 
@@ -25,7 +25,7 @@ reached_by_run c events old new before after (Ok x) reach range h = runs_reach c
 reached_by_run c events old new before after (Err e) reach range h = runs_reach c old new (take h.count events) reach (first_ones h.count events range) h.world
 
 -- one event, or none
-pub reached_by_step : {E : Type 0} (c : Crypto) (e : Event) (old new : World) (r : Result Reply E) → IsReachable c old → IsInRange e → Steps c e old new r → IsReachable c new
+pub reached_by_step : {E : Type 0} (c : Crypto) (e : Event) (old new : World) (r : Result Reply E) → IsReachable c old → IsInRange e → DoesStep c e old new r → IsReachable c new
 reached_by_step c e old new (Ok x) reach range h = steps_reach c old new e reach range (sym (ap (λ (y : Reply × World). y.1) h))
 reached_by_step c e old new (Err f) reach range h = subst (IsReachable c) (sym h) reach
 

@@ -4,11 +4,11 @@ ghost use Rattle.std.specs.Prelude.{◌≡◌, Err, IfErr};
 ghost use Rattle.mls_wire.specs.Checks.{DoesAs};
 ghost use Rattle.mls_tree.specs.Refusals.{RefusesOutright};
 ghost use Rattle.mls_model.specs.declared.event.Reply.TheVariants as reply;
-ghost use Rattle.mls_model.specs.Calls.{candidate_answer, create_answer, propose_add_answer, propose_update_answer, propose_remove_answer, commit_answer, drop_answer, deliver_answer, join_answer};
+ghost use Rattle.mls_model.specs.WorldCalls.{candidate_answer, create_answer, propose_add_answer, propose_update_answer, propose_remove_answer, commit_answer, drop_answer, deliver_answer, join_answer};
 ghost use Rattle.mls_model.specs.Headline.{Headline};
 ghost use Rattle.mls_model.specs.World as model;
 ghost use Rattle.mls_world_plain.specs.Faults.{number_of};
-ghost use Rattle.mls_world_plain.specs.Outright.{early_add_checks, early_commit_checks, early_delivery_checks, early_join_checks};
+ghost use Rattle.mls_world_plain.specs.EarlyChecks.{early_add_checks, early_commit_checks, early_delivery_checks, early_join_checks};
 
 use crate::ranges::{know_few, know_items, know_short, know_source};
 use crate::world::World;

@@ -4,7 +4,7 @@
 ghost use Rattle.std.specs.Prelude.{◌<◌, ◌^◌, length};
 ghost use Rattle.std.specs.List.{AllByRecursion};
 ghost use Rattle.mls_wire.specs.Format.{IsBytes};
-ghost use Rattle.mls_model.specs.Range.{IsSourceInRange, IsItemInRange, IsInRange};
+ghost use Rattle.mls_model.specs.EventRange.{IsSourceInRange, IsItemInRange, IsInRange};
 
 use mls_model::{Event, Source, WorldItem};
 
@@ -57,7 +57,7 @@ pub(crate) fn know_items(items: &[WorldItem])
 }
 
 /// An event is in range.
-#[tactic(auto, unfolding(mls_model::specs::Range::IsInRange))]
+#[tactic(auto, unfolding(mls_model::specs::EventRange::IsInRange))]
 pub(crate) fn know_event(event: &Event)
     ensures { IsInRange event.now }
 {

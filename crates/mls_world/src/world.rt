@@ -6,8 +6,8 @@ ghost use Rattle.mls_model.specs.declared.event.Reply.TheVariants as reply;
 ghost use Rattle.mls_model.specs.Answers.{Runs};
 ghost use Rattle.mls_model.specs.Headline.{Headline, HoldsAlong};
 ghost use Rattle.mls_model.specs.World as model;
-ghost use Rattle.mls_world_plain.specs.Answers.{Steps};
-ghost use Rattle.mls_world_plain.specs.Outright.{early_checks};
+ghost use Rattle.mls_world_plain.specs.StepAnswer.{DoesStep};
+ghost use Rattle.mls_world_plain.specs.EarlyChecks.{early_checks};
 
 use crate::ranges::{know_event, know_events};
 use crate::replies::push_replies;
@@ -53,7 +53,7 @@ impl<S: Suite> World<S> {
     /// One event: a refusal is the reply, but for want of memory, at which the world is as before. Of the world that it
     /// leaves the headline holds.
     pub fn step(&mut self, event: &Event) -> Result<Reply, OutOfMemory>
-        ensures does { Steps S.crypto event.now self.old self.new result }
+        ensures does { DoesStep S.crypto event.now self.old self.new result }
         // What is decided before anything grows is the reply whatever memory there is.
         ensures refused { (n : ℕ) → early_checks self.old event.now ≡ Err n → (result ≡ Ok (reply.Refused n)) × (self.new ≡ self.old) }
         ensures headline { Headline S.crypto self.new }

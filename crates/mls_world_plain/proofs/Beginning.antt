@@ -3,9 +3,9 @@ use Rattle.std.proofs.Common.{arith, ◌≡◌, ℕ, ◌<◌, List, [], ◌∷�
 use Rattle.std.proofs.lemmas.List.{length-map}
 use Rattle.std.proofs.lemmas.Option.{slice_get_read}
 use Rattle.mls_model.specs.Journal.{Journal, CommitMade, with_entry}
-use Rattle.mls_model.specs.World.{Entrant, Seat, World, with_joined}
-use Rattle.mls_world_plain.specs.Stored.{journal_at, IsWithin, AreMore, Seated, Making, made_of, world_of, AreStored}
-use Rattle.mls_world_plain.proofs.Unrolled.{journal_seam}
+use Rattle.mls_model.specs.World.{Entrant, Seat, World, with_new_member}
+use Rattle.mls_world_plain.specs.StoredWorld.{journal_at, IsWithin, AreMore, Seated, Making, commit_made_of, world_of, AreStored}
+use Rattle.mls_world_plain.proofs.JournalSteps.{journal_seam}
 use Rattle.mls_world_plain.proofs.Changing.{spent, member_joined, stored_joined, none_behind, last_within, made_found}
 
 abbrev seat_with : Seated → Journal → Seat
@@ -19,17 +19,17 @@ taken es n x e lt at found =
 
 stored_world : (es : List Entrant) (ss : List Seated) (ms : List (List ℕ)) (ds : List Making) (js new : List Journal) (n : ℕ) (x e : Entrant) (s : Seated) (j : Journal)
     → AreStored ss ds js → AreMore js new → journal_at new s.journal ≡ j → x ≡ get_or es n x → n < length es → slice_get es n ≡ Some e
-    → world_of (slice_set es n (spent x)) (ss ++ s ∷ []) ms ds new ≡ with_joined (world_of es ss ms ds js) n e (seat_with s j)
+    → world_of (slice_set es n (spent x)) (ss ++ s ∷ []) ms ds new ≡ with_new_member (world_of es ss ms ds js) n e (seat_with s j)
 stored_world es ss ms ds js new n x e s j h m is at lt found =
     ap (λ (y : Entrant). world_of (slice_set es n (spent y)) (ss ++ s ∷ []) ms ds new) (taken es n x e lt at found)
     ∙ member_joined es ss ms ds js new n e s h m
-    ∙ ap (λ (k : Journal). with_joined (world_of es ss ms ds js) n e (seat_with s k)) is
+    ∙ ap (λ (k : Journal). with_new_member (world_of es ss ms ds js) n e (seat_with s k)) is
 
 any_world : (w : World) (es : List Entrant) (ss : List Seated) (ms : List (List ℕ)) (ds : List Making) (js new : List Journal) (n : ℕ) (x e : Entrant) (s : Seated) (j : Journal)
     → world_of es ss ms ds js ≡ w → AreStored ss ds js → AreMore js new → journal_at new s.journal ≡ j → x ≡ get_or es n x → n < length w.entrants → slice_get w.entrants n ≡ Some e
-    → world_of (slice_set es n (spent x)) (ss ++ s ∷ []) ms ds new ≡ with_joined w n e (seat_with s j)
+    → world_of (slice_set es n (spent x)) (ss ++ s ∷ []) ms ds new ≡ with_new_member w n e (seat_with s j)
 any_world w es ss ms ds js new n x e s j same h m is at =
-    subst (λ (v : World). n < length v.entrants → slice_get v.entrants n ≡ Some e → world_of (slice_set es n (spent x)) (ss ++ s ∷ []) ms ds new ≡ with_joined v n e (seat_with s j)) same
+    subst (λ (v : World). n < length v.entrants → slice_get v.entrants n ≡ Some e → world_of (slice_set es n (spent x)) (ss ++ s ∷ []) ms ds new ≡ with_new_member v n e (seat_with s j)) same
     (stored_world es ss ms ds js new n x e s j h m is at)
 
 -- its journal is that of its number
@@ -56,7 +56,7 @@ begun_stored ss before after ds js new s j h b a is at =
 pub begun_world : (w : World) (es : List Entrant) (ss before after : List Seated) (ms : List (List ℕ)) (ds : List Making) (js new : List Journal) (n : ℕ) (x y e : Entrant) (s : Seated) (j : Journal)
     → world_of es ss ms ds js ≡ w → AreStored ss ds js → before ≡ ss → after ≡ before ++ s ∷ [] → new ≡ js ++ j ∷ [] → s.journal ≡ length js
     → y ≡ x → x ≡ get_or es n x → n < length w.entrants → slice_get w.entrants n ≡ Some e
-    → world_of (slice_set es n (spent y)) after ms ds new ≡ with_joined w n e (seat_with s j)
+    → world_of (slice_set es n (spent y)) after ms ds new ≡ with_new_member w n e (seat_with s j)
 begun_world w es ss before after ms ds js new n x y e s j same h b a is last seen at lt found =
     let there : y ≡ get_or es n y = subst (λ (z : Entrant). z ≡ get_or es n z) (sym seen) at in
     ap (λ (l : List Seated). world_of (slice_set es n (spent y)) l ms ds new) (seats_are ss before after s b a)
@@ -68,12 +68,12 @@ made_in : (w : World) (es : List Entrant) (ss : List Seated) (ms : List (List �
     → world_of es ss ms ds js ≡ w → AreStored ss ds js → d ≡ get_or ds i d → i < length w.made → slice_get w.made i ≡ Some x → journal_at js d.journal ≡ with_entry x.journal x.entry
 made_in w es ss ms ds js i d x same h at =
     subst (λ (v : World). i < length v.made → slice_get v.made i ≡ Some x → journal_at js d.journal ≡ with_entry x.journal x.entry) same
-    (λ lt found. made_found js ss ds i d x h (omega (arith, lt, length-map ds (made_of js))) at found)
+    (λ lt found. made_found js ss ds i d x h (omega (arith, lt, length-map ds (commit_made_of js))) at found)
 
 pub followed_world : (w : World) (es : List Entrant) (ss before after : List Seated) (ms : List (List ℕ)) (ds : List Making) (js : List Journal) (n : ℕ) (x y e : Entrant) (s : Seated) (i : ℕ) (d f : Making) (k : CommitMade)
     → world_of es ss ms ds js ≡ w → AreStored ss ds js → before ≡ ss → after ≡ before ++ s ∷ [] → s.journal ≡ f.journal → f ≡ d → i < length w.made → d ≡ get_or ds i d → slice_get w.made i ≡ Some k
     → y ≡ x → x ≡ get_or es n x → n < length w.entrants → slice_get w.entrants n ≡ Some e
-    → world_of (slice_set es n (spent y)) after ms ds js ≡ with_joined w n e (seat_with s (with_entry k.journal k.entry))
+    → world_of (slice_set es n (spent y)) after ms ds js ≡ with_new_member w n e (seat_with s (with_entry k.journal k.entry))
 followed_world w es ss before after ms ds js n x y e s i d f k same h b a stands is within made found seen at lt there =
     let y_at : y ≡ get_or es n y = subst (λ (z : Entrant). z ≡ get_or es n z) (sym seen) at in
     let journal : journal_at js s.journal ≡ with_entry k.journal k.entry = ap (λ (i : ℕ). journal_at js i) (stands ∙ ap (λ (z : Making). z.journal) is) ∙ made_in w es ss ms ds js i d k same h made within found in

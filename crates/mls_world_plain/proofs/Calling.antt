@@ -4,10 +4,10 @@ use Rattle.mls_wire.specs.Reading.{◌>>=◌}
 use Rattle.mls_model.specs.Journal.{Journal, CommitMade}
 use Rattle.mls_model.specs.Member.{Member}
 use Rattle.mls_model.specs.declared.event.Reply.{Reply}
-use Rattle.mls_model.specs.Calls.{sent}
+use Rattle.mls_model.specs.WorldCalls.{proposal_answer}
 use Rattle.mls_model.specs.World.{Entrant, Seat, World, with_member, seat_at}
 use Rattle.mls_public_group.proofs.Rest.{all_at}
-use Rattle.mls_world_plain.specs.Stored.{Seated, Making, seat_of, made_of, world_of, AreStored, IsWithin}
+use Rattle.mls_world_plain.specs.StoredWorld.{Seated, Making, seat_of, commit_made_of, world_of, AreStored, IsWithin}
 use Rattle.mls_world_plain.proofs.Stores.{seat_set, all_set}
 
 -- a member that is changed, at the same journal
@@ -20,13 +20,13 @@ the_world es seats ms made = record { entrants = es; seats = seats; messages = m
 -- member k is changed
 pub member_changed : (es : List Entrant) (ss : List Seated) (ms : List (List ℕ)) (ds : List Making) (js : List Journal) (k : ℕ) (s : Seated) (m : Member)
     → world_of es (slice_set ss k (at_same s m)) ms ds js ≡ with_member (world_of es ss ms ds js) k (seat_of js s) m
-member_changed es ss ms ds js k s m = ap (λ (seats : List Seat). the_world es seats ms (map (made_of js) ds)) (seat_set js ss k (at_same s m))
+member_changed es ss ms ds js k s m = ap (λ (seats : List Seat). the_world es seats ms (map (commit_made_of js) ds)) (seat_set js ss k (at_same s m))
 
 -- a call of member k, by what it does to the member
 abbrev calls : World → ℕ → (Member → Result (List ℕ × Member) ℕ) → Result (Reply × World) ℕ
-calls w k f = seat_at w k >>= λ s. f s.member >>= λ x. Ok (sent w k s x)
+calls w k f = seat_at w k >>= λ s. f s.member >>= λ x. Ok (proposal_answer w k s x)
 
-pub sends : (w : World) (k : ℕ) (f : Member → Result (List ℕ × Member) ℕ) (s : Seat) (m : Member) (bytes : List ℕ) → slice_get w.seats k ≡ Some s → f s.member ≡ Ok (bytes, m) → calls w k f ≡ Ok (sent w k s (bytes, m))
+pub sends : (w : World) (k : ℕ) (f : Member → Result (List ℕ × Member) ℕ) (s : Seat) (m : Member) (bytes : List ℕ) → slice_get w.seats k ≡ Some s → f s.member ≡ Ok (bytes, m) → calls w k f ≡ Ok (proposal_answer w k s (bytes, m))
 sends w k f s m bytes found e = rw (found, e) refl
 
 pub refuses : (w : World) (k : ℕ) (f : Member → Result (List ℕ × Member) ℕ) (s : Seat) (n : ℕ) → slice_get w.seats k ≡ Some s → f s.member ≡ Err n → calls w k f ≡ Err n

@@ -14,38 +14,38 @@ use Rattle.mls_model.specs.declared.event.Reply.TheVariants as reply
 use Rattle.mls_model.specs.Journal.{Entry, Journal, CommitMade, with_entry, entry_of}
 use Rattle.mls_model.specs.Member.{Member}
 use Rattle.mls_model.specs.Verdict.{verdict}
-use Rattle.mls_model.specs.Calls.{journal_after, deliver_answer}
-use Rattle.mls_model.specs.World.{Entrant, Seat, World, bytes_of, with_joined}
+use Rattle.mls_model.specs.WorldCalls.{journal_after, deliver_answer}
+use Rattle.mls_model.specs.World.{Entrant, Seat, World, bytes_of, with_new_member}
 use Rattle.mls_public_group.proofs.Rest.{all_at, all_behind}
-use Rattle.mls_world_plain.specs.Parts.{seat_verdict, advances}
-use Rattle.mls_world_plain.specs.Stored.{journal_at, IsWithin, HasEntry, AreMore, Seated, Making, seat_of, made_of, world_of, AreStored}
+use Rattle.mls_world_plain.specs.CallParts.{seat_verdict, is_advanced}
+use Rattle.mls_world_plain.specs.StoredWorld.{journal_at, IsWithin, HasEntry, AreMore, Seated, Making, seat_of, commit_made_of, world_of, AreStored}
 use Rattle.mls_world_plain.proofs.Stores.{seat_set, seats_stay, made_stay, stored_more, unchanged, all_set}
-use Rattle.mls_world_plain.proofs.Unrolled.{journal_seam}
+use Rattle.mls_world_plain.proofs.JournalSteps.{journal_seam}
 
 abbrev parts : List Entrant → List Seat → List (List ℕ) → List CommitMade → World
 parts es seats ms made = record { entrants = es; seats = seats; messages = ms; made = made }
 
 -- ---- deliveries to a seat
 
-going_on : (s : Seat) (bytes : List ℕ) (e : Effect) → advances e ≡ true → journal_after s bytes e ≡ with_entry s.journal (entry_of s.member bytes)
+going_on : (s : Seat) (bytes : List ℕ) (e : Effect) → is_advanced e ≡ true → journal_after s bytes e ≡ with_entry s.journal (entry_of s.member bytes)
 going_on s bytes (Proposed r) h = absurd cc
 going_on s bytes (Known r) h = absurd cc
 going_on s bytes (Advanced n) h = refl
 going_on s bytes Removed h = absurd cc
 
-pub advanced : (c : Crypto) (js new : List Journal) (s : Seated) (bytes : List ℕ) (m : Member) (e : Effect) (entry : Entry) (n : ℕ) → verdict c s.member bytes ≡ Ok (e, m) → true ≡ advances e → entry ≡ entry_of s.member bytes → new ≡ js ++ with_entry (journal_at js s.journal) entry ∷ [] → n ≡ length js
+pub advanced : (c : Crypto) (js new : List Journal) (s : Seated) (bytes : List ℕ) (m : Member) (e : Effect) (entry : Entry) (n : ℕ) → verdict c s.member bytes ≡ Ok (e, m) → true ≡ is_advanced e → entry ≡ entry_of s.member bytes → new ≡ js ++ with_entry (journal_at js s.journal) entry ∷ [] → n ≡ length js
     → seat_verdict c (seat_of js s) bytes ≡ Ok (e, seat_of new (record { member = m; journal = n }))
 unfolding seat_verdict
 advanced c js new s bytes m e entry n h goes is at last =
     rw (h, going_on (seat_of js s) bytes e (sym goes), at, last, is, journal_seam js (with_entry (journal_at js s.journal) (entry_of s.member bytes))) refl
 
-staying : (s : Seat) (bytes : List ℕ) (e : Effect) → advances e ≡ false → journal_after s bytes e ≡ s.journal
+staying : (s : Seat) (bytes : List ℕ) (e : Effect) → is_advanced e ≡ false → journal_after s bytes e ≡ s.journal
 staying s bytes (Proposed r) h = refl
 staying s bytes (Known r) h = refl
 staying s bytes (Advanced n) h = absurd cc
 staying s bytes Removed h = refl
 
-pub stayed : (c : Crypto) (js : List Journal) (s : Seated) (bytes : List ℕ) (m : Member) (e : Effect) → verdict c s.member bytes ≡ Ok (e, m) → false ≡ advances e
+pub stayed : (c : Crypto) (js : List Journal) (s : Seated) (bytes : List ℕ) (m : Member) (e : Effect) → verdict c s.member bytes ≡ Ok (e, m) → false ≡ is_advanced e
     → seat_verdict c (seat_of js s) bytes ≡ Ok (e, seat_of js (record { member = m; journal = s.journal }))
 unfolding seat_verdict
 stayed c js s bytes m e h other = rw (h, staying (seat_of js s) bytes e (sym other)) refl
@@ -75,15 +75,15 @@ not_handed w k s (Err i) bytes n h = cc
 
 pub delivered : (c : Crypto) (w : World) (k : ℕ) (source : Source) (bytes : List ℕ) (s t : Seat) (e : Effect) → slice_get w.seats k ≡ Some s → bytes_of w source ≡ Ok bytes → seat_verdict c s bytes ≡ Ok (e, t) → deliver_answer c w k source ≡ Ok (reply.Delivered e, record w { seats = slice_set w.seats k t })
 unfolding deliver_answer seat_verdict
-delivered c w k source bytes s t e found given h = rw (found, given) (handed_so w k s t (verdict c s.member bytes) bytes e h)
+delivered c w k source bytes s t e found supplied h = rw (found, supplied) (handed_so w k s t (verdict c s.member bytes) bytes e h)
 
 pub undelivered : (c : Crypto) (w : World) (k : ℕ) (source : Source) (bytes : List ℕ) (s : Seat) (n : ℕ) → slice_get w.seats k ≡ Some s → bytes_of w source ≡ Ok bytes → seat_verdict c s bytes ≡ Err n → deliver_answer c w k source ≡ Err n
 unfolding deliver_answer seat_verdict
-undelivered c w k source bytes s n found given h = rw (found, given) (not_handed w k s (verdict c s.member bytes) bytes n h)
+undelivered c w k source bytes s n found supplied h = rw (found, supplied) (not_handed w k s (verdict c s.member bytes) bytes n h)
 
 pub no_source : (c : Crypto) (w : World) (k : ℕ) (source : Source) (s : Seat) (n : ℕ) → slice_get w.seats k ≡ Some s → bytes_of w source ≡ Err n → deliver_answer c w k source ≡ Err n
 unfolding deliver_answer
-no_source c w k source s n found given = rw (found, given) refl
+no_source c w k source s n found supplied = rw (found, supplied) refl
 
 pub no_member : (c : Crypto) (w : World) (k : ℕ) (source : Source) → slice_get w.seats k ≡ None → deliver_answer c w k source ≡ Err 90
 unfolding deliver_answer
@@ -94,16 +94,16 @@ pub seat_moved : (es : List Entrant) (ss : List Seated) (ms : List (List ℕ)) (
     → world_of es (slice_set ss k s) ms ds new ≡ record (world_of es ss ms ds js) { seats = slice_set (map (seat_of js) ss) k (seat_of new s) }
 seat_moved es ss ms ds js new k s h m =
     let a : map (seat_of new) ss ≡ map (seat_of js) ss = rw m.are (seats_stay js m.more ss h.seats) in
-    let b : map (made_of new) ds ≡ map (made_of js) ds = rw m.are (made_stay js m.more ds h.made) in
+    let b : map (commit_made_of new) ds ≡ map (commit_made_of js) ds = rw m.are (made_stay js m.more ds h.made) in
     let d : map (seat_of new) (slice_set ss k s) ≡ slice_set (map (seat_of js) ss) k (seat_of new s) = seat_set new ss k s ∙ ap (λ (l : List Seat). slice_set l k (seat_of new s)) a in
-    ap (λ (l : List Seat). parts es l ms (map (made_of new) ds)) d ∙ ap (λ (l : List CommitMade). parts es (slice_set (map (seat_of js) ss) k (seat_of new s)) ms l) b
+    ap (λ (l : List Seat). parts es l ms (map (commit_made_of new) ds)) d ∙ ap (λ (l : List CommitMade). parts es (slice_set (map (seat_of js) ss) k (seat_of new s)) ms l) b
 
 -- and none where it is as it was
 pub seat_kept : (es : List Entrant) (ss : List Seated) (ms : List (List ℕ)) (ds : List Making) (js new : List Journal) (k : ℕ) (s t : Seated) → AreStored ss ds js → AreMore js new → s ≡ get_or ss k s → seat_of new t ≡ seat_of js s
     → world_of es (slice_set ss k t) ms ds new ≡ world_of es ss ms ds js
 seat_kept es ss ms ds js new k s t h m at same =
     let d : slice_set (map (seat_of js) ss) k (seat_of js s) ≡ map (seat_of js) ss = sym (seat_set js ss k s) ∙ ap (λ (l : List Seated). map (seat_of js) l) (unchanged ss k s at) in
-    seat_moved es ss ms ds js new k t h m ∙ ap (λ (l : List Seat). parts es l ms (map (made_of js) ds)) (ap (λ (x : Seat). slice_set (map (seat_of js) ss) k x) same ∙ d)
+    seat_moved es ss ms ds js new k t h m ∙ ap (λ (l : List Seat). parts es l ms (map (commit_made_of js) ds)) (ap (λ (x : Seat). slice_set (map (seat_of js) ss) k x) same ∙ d)
 
 pub stored_moved : (ss : List Seated) (ds : List Making) (js new : List Journal) (k : ℕ) (s : Seated) → AreStored ss ds js → AreMore js new → IsWithin new s.journal → AreStored (slice_set ss k s) ds new
 stored_moved ss ds js new k s h m lt =
@@ -116,12 +116,12 @@ abbrev pub spent : Entrant → Entrant
 spent e = record { candidate = e.candidate; is_spent = true }
 
 pub member_joined : (es : List Entrant) (ss : List Seated) (ms : List (List ℕ)) (ds : List Making) (js new : List Journal) (n : ℕ) (e : Entrant) (s : Seated) → AreStored ss ds js → AreMore js new
-    → world_of (slice_set es n (spent e)) (ss ++ s ∷ []) ms ds new ≡ with_joined (world_of es ss ms ds js) n e (seat_of new s)
+    → world_of (slice_set es n (spent e)) (ss ++ s ∷ []) ms ds new ≡ with_new_member (world_of es ss ms ds js) n e (seat_of new s)
 member_joined es ss ms ds js new n e s h m =
     let a : map (seat_of new) ss ≡ map (seat_of js) ss = rw m.are (seats_stay js m.more ss h.seats) in
-    let b : map (made_of new) ds ≡ map (made_of js) ds = rw m.are (made_stay js m.more ds h.made) in
+    let b : map (commit_made_of new) ds ≡ map (commit_made_of js) ds = rw m.are (made_stay js m.more ds h.made) in
     let d : map (seat_of new) (ss ++ s ∷ []) ≡ map (seat_of js) ss ++ seat_of new s ∷ [] = map-append (seat_of new) ss (s ∷ []) ∙ ap (λ (l : List Seat). l ++ seat_of new s ∷ []) a in
-    ap (λ (l : List Seat). parts (slice_set es n (spent e)) l ms (map (made_of new) ds)) d ∙ ap (λ (l : List CommitMade). parts (slice_set es n (spent e)) (map (seat_of js) ss ++ seat_of new s ∷ []) ms l) b
+    ap (λ (l : List Seat). parts (slice_set es n (spent e)) l ms (map (commit_made_of new) ds)) d ∙ ap (λ (l : List CommitMade). parts (slice_set es n (spent e)) (map (seat_of js) ss ++ seat_of new s ∷ []) ms l) b
 
 pub stored_joined : (ss : List Seated) (ds : List Making) (js new : List Journal) (s : Seated) → AreStored ss ds js → AreMore js new → IsWithin new s.journal → AreStored (ss ++ s ∷ []) ds new
 stored_joined ss ds js new s h m lt =
@@ -143,21 +143,21 @@ pub entry_last : (js : List Journal) (j : Journal) (e : Entry) → HasEntry (js 
 entry_last js j e = record { within = last_within js (with_entry j e); follows = rw (journal_seam js (with_entry j e)) refl }
 
 pub made_last : (js : List Journal) (j : Journal) (e : Entry) (maker : ℕ) (epoch : List ℕ) (adds : List (List ℕ)) (welcome : Option (ℕ × List ℕ))
-    → made_of (js ++ with_entry j e ∷ []) (record { maker = maker; journal = length js; epoch = epoch; adds = adds; welcome = welcome }) ≡ record { maker = maker; journal = j; entry = e; epoch = epoch; adds = adds; welcome = welcome }
+    → commit_made_of (js ++ with_entry j e ∷ []) (record { maker = maker; journal = length js; epoch = epoch; adds = adds; welcome = welcome }) ≡ record { maker = maker; journal = j; entry = e; epoch = epoch; adds = adds; welcome = welcome }
 made_last js j e maker epoch adds welcome = rw (journal_seam js (with_entry j e)) refl
 
 pub made_added : (es : List Entrant) (ss : List Seated) (ms more : List (List ℕ)) (ds : List Making) (js : List Journal) (j : Journal) (e : Entry) (maker : ℕ) (epoch : List ℕ) (adds : List (List ℕ)) (welcome : Option (ℕ × List ℕ)) → AreStored ss ds js
     → world_of es ss (ms ++ more) (ds ++ record { maker = maker; journal = length js; epoch = epoch; adds = adds; welcome = welcome } ∷ []) (js ++ with_entry j e ∷ [])
-    ≡ record (world_of es ss ms ds js) { messages = ms ++ more; made = map (made_of js) ds ++ record { maker = maker; journal = j; entry = e; epoch = epoch; adds = adds; welcome = welcome } ∷ [] }
+    ≡ record (world_of es ss ms ds js) { messages = ms ++ more; made = map (commit_made_of js) ds ++ record { maker = maker; journal = j; entry = e; epoch = epoch; adds = adds; welcome = welcome } ∷ [] }
 made_added es ss ms more ds js j e maker epoch adds welcome h =
     let new = js ++ with_entry j e ∷ [] in
     let d : Making = record { maker = maker; journal = length js; epoch = epoch; adds = adds; welcome = welcome } in
     let a : map (seat_of new) ss ≡ map (seat_of js) ss = seats_stay js (with_entry j e ∷ []) ss h.seats in
-    let b : map (made_of new) ds ≡ map (made_of js) ds = made_stay js (with_entry j e ∷ []) ds h.made in
-    let last : made_of new d ≡ record { maker = maker; journal = j; entry = e; epoch = epoch; adds = adds; welcome = welcome } = made_last js j e maker epoch adds welcome in
-    let f : map (made_of new) (ds ++ d ∷ []) ≡ map (made_of js) ds ++ record { maker = maker; journal = j; entry = e; epoch = epoch; adds = adds; welcome = welcome } ∷ [] =
-    map-append (made_of new) ds (d ∷ []) ∙ ap (λ (l : List CommitMade). l ++ made_of new d ∷ []) b ∙ ap (λ (x : CommitMade). map (made_of js) ds ++ x ∷ []) last in
-    ap (λ (l : List Seat). parts es l (ms ++ more) (map (made_of new) (ds ++ d ∷ []))) a ∙ ap (λ (l : List CommitMade). parts es (map (seat_of js) ss) (ms ++ more) l) f
+    let b : map (commit_made_of new) ds ≡ map (commit_made_of js) ds = made_stay js (with_entry j e ∷ []) ds h.made in
+    let last : commit_made_of new d ≡ record { maker = maker; journal = j; entry = e; epoch = epoch; adds = adds; welcome = welcome } = made_last js j e maker epoch adds welcome in
+    let f : map (commit_made_of new) (ds ++ d ∷ []) ≡ map (commit_made_of js) ds ++ record { maker = maker; journal = j; entry = e; epoch = epoch; adds = adds; welcome = welcome } ∷ [] =
+    map-append (commit_made_of new) ds (d ∷ []) ∙ ap (λ (l : List CommitMade). l ++ commit_made_of new d ∷ []) b ∙ ap (λ (x : CommitMade). map (commit_made_of js) ds ++ x ∷ []) last in
+    ap (λ (l : List Seat). parts es l (ms ++ more) (map (commit_made_of new) (ds ++ d ∷ []))) a ∙ ap (λ (l : List CommitMade). parts es (map (seat_of js) ss) (ms ++ more) l) f
 
 pub stored_made : (ss : List Seated) (ds : List Making) (js : List Journal) (j : Journal) (e : Entry) (d : Making) → AreStored ss ds js → d.journal ≡ length js → AreStored ss (ds ++ d ∷ []) (js ++ with_entry j e ∷ [])
 stored_made ss ds js j e d h at =
@@ -166,11 +166,11 @@ stored_made ss ds js j e d h at =
     record { seats = all.seats; made = all_behind (λ (x : Making). HasEntry new x.journal) ds d all.made (subst (λ (n : ℕ). HasEntry new n) (sym at) (entry_last js j e)) }
 
 -- a record's journal with its entry
-pub made_found : (js : List Journal) (ss : List Seated) (ds : List Making) (i : ℕ) (d : Making) (x : CommitMade) → AreStored ss ds js → i < length ds → d ≡ get_or ds i d → slice_get (map (made_of js) ds) i ≡ Some x → journal_at js d.journal ≡ with_entry x.journal x.entry
+pub made_found : (js : List Journal) (ss : List Seated) (ds : List Making) (i : ℕ) (d : Making) (x : CommitMade) → AreStored ss ds js → i < length ds → d ≡ get_or ds i d → slice_get (map (commit_made_of js) ds) i ≡ Some x → journal_at js d.journal ≡ with_entry x.journal x.entry
 made_found js ss ds i d x h lt at found =
     let there : HasEntry js d.journal = all_at (λ (y : Making). HasEntry js y.journal) ds i d h.made lt at in
-    let e : slice_get (map (made_of js) ds) i ≡ Some (made_of js d) = slice_get-map (made_of js) ds i ∙ ap (λ (o : Option Making). option_map (made_of js) o) (slice_get_read ds (length ds) i d refl lt at) in
-    let same : x ≡ made_of js d = cc in
+    let e : slice_get (map (commit_made_of js) ds) i ≡ Some (commit_made_of js d) = slice_get-map (commit_made_of js) ds i ∙ ap (λ (o : Option Making). option_map (commit_made_of js) o) (slice_get_read ds (length ds) i d refl lt at) in
+    let same : x ≡ commit_made_of js d = cc in
     rw same (sym there.follows)
 
 pub made_there : (js : List Journal) (ss : List Seated) (ds : List Making) (i : ℕ) (d : Making) → AreStored ss ds js → i < length ds → d ≡ get_or ds i d → IsWithin js d.journal

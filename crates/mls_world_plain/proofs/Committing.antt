@@ -10,10 +10,10 @@ use Rattle.mls_model.specs.declared.event.Reply.{Reply}
 use Rattle.mls_model.specs.declared.event.Reply.TheVariants as reply
 use Rattle.mls_model.specs.Journal.{names_in, adds_in}
 use Rattle.mls_model.specs.Member.{Member, Pending, with_pending, without_pending}
-use Rattle.mls_model.specs.Make.{Made, make, committed}
-use Rattle.mls_model.specs.Calls.{commit_messages, made_by, commit_answer, drop_answer}
+use Rattle.mls_model.specs.Make.{Made, make, commit_call}
+use Rattle.mls_model.specs.WorldCalls.{commit_messages, commit_record, commit_answer, drop_answer}
 use Rattle.mls_model.specs.World.{Seat, World, with_member, items_of}
-use Rattle.mls_world_plain.specs.Parts.{member_commits, IsNamed, messages_with, recorded}
+use Rattle.mls_world_plain.specs.CallParts.{commit_by, IsNamed, messages_with, record_commit}
 
 -- ---- lists
 
@@ -49,8 +49,8 @@ made_so : (c : Crypto) (w : World) (k : ℕ) (s : Seat) (list : List ProposalOrR
 made_so c w k s list path seed x mid (Ok m) e h = record { made = m; is_made = e; messages = sym (ap (λ y. y.0) (ok_is _ _ h)); world = sym (ap (λ y. y.1) (ok_is _ _ h)) }
 made_so c w k s list path seed x mid (Err n) e h = absurd cc
 
-pub was_made : (c : Crypto) (w : World) (k : ℕ) (s : Seat) (list : List ProposalOrRef) (path : Bool) (seed : List ℕ) (x : List ℕ × Option (List ℕ)) (mid : World) → slice_get w.seats k ≡ Some s → member_commits c w k list path seed ≡ Ok (x, mid) → WasMade c w k s list path seed x mid
-unfolding member_commits committed
+pub was_made : (c : Crypto) (w : World) (k : ℕ) (s : Seat) (list : List ProposalOrRef) (path : Bool) (seed : List ℕ) (x : List ℕ × Option (List ℕ)) (mid : World) → slice_get w.seats k ≡ Some s → commit_by c w k list path seed ≡ Ok (x, mid) → WasMade c w k s list path seed x mid
+unfolding commit_by commit_call
 was_made c w k s list path seed x mid found h = made_so c w k s list path seed x mid (make c s.member list path seed) refl (rw found at h)
 
 refused_so : (w : World) (k : ℕ) (s : Seat) (r : Result Made ℕ) (n : ℕ) → outcome w k s r ≡ Err n → r ≡ Err n
@@ -67,43 +67,43 @@ same_messages m (Some welcome) = refl
 abbrev the_outcome : Crypto → World → ℕ → Seat → List ProposalOrRef → Made → Reply × World
 the_outcome c w k s list made = (
   reply.Commit (length w.messages) (option_map (λ (bytes : List ℕ). length w.messages + 1) made.welcome),
-  record (with_member w k s (with_pending s.member made.pending)) { messages = w.messages ++ commit_messages made made.welcome; made = w.made ++ (made_by w k s list made ∷ []) },
+  record (with_member w k s (with_pending s.member made.pending)) { messages = w.messages ++ commit_messages made made.welcome; made = w.made ++ (commit_record w k s list made ∷ []) },
 )
 
 abbrev with_messages : Crypto → World → ℕ → Seat → List ProposalOrRef → Made → List (List ℕ) → Reply × World
 with_messages c w k s list made more = (
   reply.Commit (length w.messages) (option_map (λ (bytes : List ℕ). length w.messages + 1) made.welcome),
-  record (with_member w k s (with_pending s.member made.pending)) { messages = w.messages ++ more; made = w.made ++ (made_by w k s list made ∷ []) },
+  record (with_member w k s (with_pending s.member made.pending)) { messages = w.messages ++ more; made = w.made ++ (commit_record w k s list made ∷ []) },
 )
 
 abbrev the_answer : Reply × World → Result (Reply × World) ℕ
 the_answer y = Ok y
 
 pub commit_is : (c : Crypto) (w mid new : World) (k : ℕ) (items : List WorldItem) (path : Bool) (seed : List ℕ) (list : List ProposalOrRef) (s : Seat) (x : List ℕ × Option (List ℕ)) (names adds : List (List ℕ)) (said : Reply)
-    → slice_get w.seats k ≡ Some s → items_of w items ≡ Ok list → member_commits c w k list path seed ≡ Ok (x, mid) → IsNamed s.member.kept list names adds
-    → ((t : Seat) (p : Pending) → slice_get mid.seats k ≡ Some t → t.member.pending ≡ Some p → recorded mid k t p.epoch x names adds ≡ (said, new))
+    → slice_get w.seats k ≡ Some s → items_of w items ≡ Ok list → commit_by c w k list path seed ≡ Ok (x, mid) → IsNamed s.member.kept list names adds
+    → ((t : Seat) (p : Pending) → slice_get mid.seats k ≡ Some t → t.member.pending ≡ Some p → record_commit mid k t p.epoch x names adds ≡ (said, new))
     → commit_answer c w k items path seed ≡ Ok (said, new)
-unfolding commit_answer made_by with_pending
+unfolding commit_answer commit_record with_pending
 commit_is c w mid new k items path seed list s x names adds said found listed does named h =
     let was = was_made c w k s list path seed x mid found does in
     let m = was.made in
     let t : Seat = record { member = with_pending s.member m.pending; journal = s.journal } in
     let there : slice_get mid.seats k ≡ Some t = ap (λ (v : World). slice_get v.seats k) was.world ∙ set_there w.seats k s t found in
-    let e : recorded mid k t m.pending.epoch x names adds ≡ (said, new) = h t m.pending there refl in
+    let e : record_commit mid k t m.pending.epoch x names adds ≡ (said, new) = h t m.pending there refl in
     let same : messages_with m.commit m.welcome ≡ commit_messages m m.welcome = same_messages m m.welcome in
-    let e1 : recorded mid k t m.pending.epoch x (names_in s.member.kept list) adds ≡ (said, new) = subst (λ (l : List (List ℕ)). recorded mid k t m.pending.epoch x l adds ≡ (said, new)) named.names_are e in
-    let e2 : recorded mid k t m.pending.epoch x (names_in s.member.kept list) (adds_in s.member.kept list) ≡ (said, new) = subst (λ (l : List (List ℕ)). recorded mid k t m.pending.epoch x (names_in s.member.kept list) l ≡ (said, new)) named.adds_are e1 in
-    let e3 : recorded mid k t m.pending.epoch (m.commit, m.welcome) (names_in s.member.kept list) (adds_in s.member.kept list) ≡ (said, new) = subst (λ (y : List ℕ × Option (List ℕ)). recorded mid k t m.pending.epoch y (names_in s.member.kept list) (adds_in s.member.kept list) ≡ (said, new)) was.messages e2 in
-    let e4 : recorded (with_member w k s (with_pending s.member m.pending)) k t m.pending.epoch (m.commit, m.welcome) (names_in s.member.kept list) (adds_in s.member.kept list) ≡ (said, new) = subst (λ (v : World). recorded v k t m.pending.epoch (m.commit, m.welcome) (names_in s.member.kept list) (adds_in s.member.kept list) ≡ (said, new)) was.world e3 in
-    let e5 : the_outcome c w k s list m ≡ recorded (with_member w k s (with_pending s.member m.pending)) k t m.pending.epoch (m.commit, m.welcome) (names_in s.member.kept list) (adds_in s.member.kept list) = ap (λ (l : List (List ℕ)). with_messages c w k s list m l) (sym same) in
+    let e1 : record_commit mid k t m.pending.epoch x (names_in s.member.kept list) adds ≡ (said, new) = subst (λ (l : List (List ℕ)). record_commit mid k t m.pending.epoch x l adds ≡ (said, new)) named.names_are e in
+    let e2 : record_commit mid k t m.pending.epoch x (names_in s.member.kept list) (adds_in s.member.kept list) ≡ (said, new) = subst (λ (l : List (List ℕ)). record_commit mid k t m.pending.epoch x (names_in s.member.kept list) l ≡ (said, new)) named.adds_are e1 in
+    let e3 : record_commit mid k t m.pending.epoch (m.commit, m.welcome) (names_in s.member.kept list) (adds_in s.member.kept list) ≡ (said, new) = subst (λ (y : List ℕ × Option (List ℕ)). record_commit mid k t m.pending.epoch y (names_in s.member.kept list) (adds_in s.member.kept list) ≡ (said, new)) was.messages e2 in
+    let e4 : record_commit (with_member w k s (with_pending s.member m.pending)) k t m.pending.epoch (m.commit, m.welcome) (names_in s.member.kept list) (adds_in s.member.kept list) ≡ (said, new) = subst (λ (v : World). record_commit v k t m.pending.epoch (m.commit, m.welcome) (names_in s.member.kept list) (adds_in s.member.kept list) ≡ (said, new)) was.world e3 in
+    let e5 : the_outcome c w k s list m ≡ record_commit (with_member w k s (with_pending s.member m.pending)) k t m.pending.epoch (m.commit, m.welcome) (names_in s.member.kept list) (adds_in s.member.kept list) = ap (λ (l : List (List ℕ)). with_messages c w k s list m l) (sym same) in
     rw (found, listed, was.is_made) (ap (λ (y : Reply × World). the_answer y) (e5 ∙ e4))
 
 pub items_refused : (c : Crypto) (w : World) (k : ℕ) (items : List WorldItem) (path : Bool) (seed : List ℕ) (s : Seat) (n : ℕ) → slice_get w.seats k ≡ Some s → items_of w items ≡ Err n → commit_answer c w k items path seed ≡ Err n
 unfolding commit_answer
 items_refused c w k items path seed s n found e = rw (found, e) refl
 
-pub commit_refused : (c : Crypto) (w : World) (k : ℕ) (items : List WorldItem) (path : Bool) (seed : List ℕ) (list : List ProposalOrRef) (s : Seat) (n : ℕ) → slice_get w.seats k ≡ Some s → items_of w items ≡ Ok list → member_commits c w k list path seed ≡ Err n → commit_answer c w k items path seed ≡ Err n
-unfolding commit_answer member_commits committed
+pub commit_refused : (c : Crypto) (w : World) (k : ℕ) (items : List WorldItem) (path : Bool) (seed : List ℕ) (list : List ProposalOrRef) (s : Seat) (n : ℕ) → slice_get w.seats k ≡ Some s → items_of w items ≡ Ok list → commit_by c w k list path seed ≡ Err n → commit_answer c w k items path seed ≡ Err n
+unfolding commit_answer commit_by commit_call
 commit_refused c w k items path seed list s n found e h =
     let d = refused_so w k s (make c s.member list path seed) n (rw found at h) in
     rw (found, e, d) refl
@@ -124,7 +124,7 @@ restored m p e = ap (λ (o : Option Pending). pends m o) (sym e)
 abbrev with_seats : World → List Seat → World
 with_seats w seats = record w { seats = seats }
 
-pub forgotten : (c : Crypto) (w mid new : World) (k : ℕ) (list : List ProposalOrRef) (path : Bool) (seed : List ℕ) (s : Seat) (x : List ℕ × Option (List ℕ)) → slice_get w.seats k ≡ Some s → s.member.pending ≡ None → member_commits c w k list path seed ≡ Ok (x, mid)
+pub forgotten : (c : Crypto) (w mid new : World) (k : ℕ) (list : List ProposalOrRef) (path : Bool) (seed : List ℕ) (s : Seat) (x : List ℕ × Option (List ℕ)) → slice_get w.seats k ≡ Some s → s.member.pending ≡ None → commit_by c w k list path seed ≡ Ok (x, mid)
     → ((t : Seat) → slice_get mid.seats k ≡ Some t → new ≡ with_member mid k t (without_pending t.member)) → new ≡ w
 forgotten c w mid new k list path seed s x found free does h =
     let was = was_made c w k s list path seed x mid found does in

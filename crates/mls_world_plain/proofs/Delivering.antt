@@ -7,14 +7,14 @@ use Rattle.mls_model.specs.declared.event.Source.{Source}
 use Rattle.mls_model.specs.declared.event.Reply.{Reply}
 use Rattle.mls_model.specs.declared.event.Reply.TheVariants as reply
 use Rattle.mls_model.specs.Journal.{Journal}
-use Rattle.mls_model.specs.Calls.{deliver_answer}
+use Rattle.mls_model.specs.WorldCalls.{deliver_answer}
 use Rattle.mls_model.specs.World.{Entrant, World, bytes_of}
 use Rattle.mls_world_plain.specs.declared.error.WorldError.{WorldError}
 use Rattle.mls_world_plain.specs.Faults.{number_of}
-use Rattle.mls_world_plain.specs.Parts.{seat_verdict}
-use Rattle.mls_world_plain.specs.Stored.{AreMore, Seated, Making, seat_of, world_of, AreStored}
-use Rattle.mls_world_plain.specs.Outright.{early_delivery_checks}
-use Rattle.mls_world_plain.proofs.Early.{delivery_refused}
+use Rattle.mls_world_plain.specs.CallParts.{seat_verdict}
+use Rattle.mls_world_plain.specs.StoredWorld.{AreMore, Seated, Making, seat_of, world_of, AreStored}
+use Rattle.mls_world_plain.specs.EarlyChecks.{early_delivery_checks}
+use Rattle.mls_world_plain.proofs.EarlyChecks.{delivery_refused}
 use Rattle.mls_world_plain.proofs.Stores.{seat_found, unchanged}
 use Rattle.mls_world_plain.proofs.Changing.{delivered, undelivered, no_source, seat_moved, seat_kept}
 

@@ -1,6 +1,6 @@
 -- What one of a commit's list stands for, by the bytes of its source.
 use Rattle.std.proofs.Common.{◌≡◌, ℕ, List, Result, Ok, Err, refl, ◌∙◌}
-use Rattle.mls_wire.specs.Checks.{given}
+use Rattle.mls_wire.specs.Checks.{require_some}
 use Rattle.mls_wire.specs.Reading.{◌>>=◌}
 use Rattle.mls_types.specs.declared.commit.ProposalOrRef.{ProposalOrRef}
 use Rattle.mls_types.specs.declared.commit.ProposalOrRef.TheVariants as listed
@@ -8,9 +8,9 @@ use Rattle.mls_types.specs.declared.message.MlsMessage.{MlsMessage}
 use Rattle.mls_types.specs.declared.signed.SignedContent.{SignedContent}
 use Rattle.mls_model.specs.declared.event.Source.{Source}
 use Rattle.mls_model.specs.declared.event.WorldItem.TheVariants.{RefOf}
-use Rattle.mls_model.specs.Messages.{decoded, reference_of}
+use Rattle.mls_model.specs.Messages.{decode_message, reference_of}
 use Rattle.mls_model.specs.World.{World, bytes_of, proposal_of, proposal_in, item_of}
-use Rattle.mls_world_plain.specs.Sources.{reference_read}
+use Rattle.mls_world_plain.specs.Sources.{read_reference}
 
 abbrev pub the_reference : List ℕ → Result ProposalOrRef ℕ
 the_reference x = Ok (listed.Reference x)
@@ -19,19 +19,19 @@ of_proposal : (r : Result SignedContent ℕ) → (r >>= λ v. Ok (listed.Referen
 of_proposal (Ok v) = refl
 of_proposal (Err n) = refl
 
-of_message : (r : Result MlsMessage ℕ) → ((r >>= λ m. given 95 (proposal_in m)) >>= λ v. Ok (listed.Reference (reference_of v))) ≡ ((r >>= λ m. given 95 (proposal_in m) >>= λ v. Ok (reference_of v)) >>= λ x. the_reference x)
-of_message (Ok m) = of_proposal (given 95 (proposal_in m))
+of_message : (r : Result MlsMessage ℕ) → ((r >>= λ m. require_some 95 (proposal_in m)) >>= λ v. Ok (listed.Reference (reference_of v))) ≡ ((r >>= λ m. require_some 95 (proposal_in m) >>= λ v. Ok (reference_of v)) >>= λ x. the_reference x)
+of_message (Ok m) = of_proposal (require_some 95 (proposal_in m))
 of_message (Err n) = refl
 
-referred : (w : World) (source : Source) (bytes : List ℕ) → bytes_of w source ≡ Ok bytes → item_of w (RefOf source) ≡ (reference_read bytes >>= λ x. the_reference x)
-unfolding proposal_of reference_read
-referred w source bytes e = rw e (of_message (decoded bytes))
+referred : (w : World) (source : Source) (bytes : List ℕ) → bytes_of w source ≡ Ok bytes → item_of w (RefOf source) ≡ (read_reference bytes >>= λ x. the_reference x)
+unfolding proposal_of read_reference
+referred w source bytes e = rw e (of_message (decode_message bytes))
 
 -- a proposal by reference (RFC 9420, 12.4)
-pub item_referred : (w : World) (source : Source) (bytes reference : List ℕ) → bytes_of w source ≡ Ok bytes → reference_read bytes ≡ Ok reference → item_of w (RefOf source) ≡ Ok (listed.Reference reference)
+pub item_referred : (w : World) (source : Source) (bytes reference : List ℕ) → bytes_of w source ≡ Ok bytes → read_reference bytes ≡ Ok reference → item_of w (RefOf source) ≡ Ok (listed.Reference reference)
 item_referred w source bytes reference e h = referred w source bytes e ∙ (rw h refl)
 
-pub item_unread : (w : World) (source : Source) (bytes : List ℕ) (n : ℕ) → bytes_of w source ≡ Ok bytes → reference_read bytes ≡ Err n → item_of w (RefOf source) ≡ Err n
+pub item_unread : (w : World) (source : Source) (bytes : List ℕ) (n : ℕ) → bytes_of w source ≡ Ok bytes → read_reference bytes ≡ Err n → item_of w (RefOf source) ≡ Err n
 item_unread w source bytes n e h = referred w source bytes e ∙ (rw h refl)
 
 pub item_absent : (w : World) (source : Source) (n : ℕ) → bytes_of w source ≡ Err n → item_of w (RefOf source) ≡ Err n

@@ -1,5 +1,5 @@
 pub mod NamesLemmas
-pub mod Unrolled
+pub mod JournalSteps
 pub mod Stores
 pub mod Readings
 pub mod Calling
@@ -12,5 +12,5 @@ pub mod Beginning
 pub mod Recording
 pub mod Items
 pub mod Welcomed
-pub mod Early
+pub mod EarlyChecks
 pub mod Stepping

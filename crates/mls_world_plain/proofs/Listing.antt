@@ -15,68 +15,68 @@ use Rattle.mls_types.specs.declared.commit.ProposalOrRef.TheVariants as listed
 use Rattle.mls_model.specs.declared.event.Source.{Source}
 use Rattle.mls_model.specs.declared.event.WorldItem.{WorldItem}
 use Rattle.mls_model.specs.declared.item.Item.{Item}
-use Rattle.mls_model.specs.Public.{Used}
+use Rattle.mls_model.specs.PublicState.{Used}
 use Rattle.mls_model.specs.Proposals.{add_in, adds}
 use Rattle.mls_model.specs.Candidate.{Candidate}
 use Rattle.mls_model.specs.Make.{listed_of}
-use Rattle.mls_model.specs.Member.{Kept, kept_under, used_one, used_by, named_one, named}
+use Rattle.mls_model.specs.Member.{KeptProposal, kept_under, find_proposal, find_proposals, named_proposal, named_proposals}
 use Rattle.mls_model.specs.Journal.{Journal, names_in, used_of, adds_in}
-use Rattle.mls_model.specs.World.{World, item_of, items_of, made_for}
+use Rattle.mls_model.specs.World.{World, item_of, items_of, commit_for_joiner}
 use Rattle.mls_public_group.proofs.Rest.{here, all_behind}
 use Rattle.mls_member.specs.Answers.{IsShortItem, AreShortItems}
-use Rattle.mls_world_plain.specs.Listed.{said_by, also}
-use Rattle.mls_world_plain.specs.Parts.{adds_for, FirstIs}
-use Rattle.mls_world_plain.specs.Stored.{Making, made_of}
+use Rattle.mls_world_plain.specs.CommitItems.{proposal_for, with_package}
+use Rattle.mls_world_plain.specs.CallParts.{adds_for, FirstIs}
+use Rattle.mls_world_plain.specs.StoredWorld.{Making, commit_made_of}
 
 -- ---- names
 
-abbrev message_of : Kept → List ℕ
+abbrev message_of : KeptProposal → List ℕ
 message_of k = k.message
 
-by_option : (o : Option Kept) (ks : List Kept) → map message_of (cons_option o ks) ≡ cons_option (option_map message_of o) (map message_of ks)
+by_option : (o : Option KeptProposal) (ks : List KeptProposal) → map message_of (cons_option o ks) ≡ cons_option (option_map message_of o) (map message_of ks)
 by_option None ks = refl
 by_option (Some k) ks = refl
 
-names_cons : (kept : List Kept) (x : ProposalOrRef) (xs : List ProposalOrRef) → names_in kept (x ∷ xs) ≡ cons_option (option_map message_of (named_one kept x)) (names_in kept xs)
-unfolding names_in named
-names_cons kept x xs = by_option (named_one kept x) (filter_map (named_one kept) xs)
+names_cons : (kept : List KeptProposal) (x : ProposalOrRef) (xs : List ProposalOrRef) → names_in kept (x ∷ xs) ≡ cons_option (option_map message_of (named_proposal kept x)) (names_in kept xs)
+unfolding names_in named_proposals
+names_cons kept x xs = by_option (named_proposal kept x) (filter_map (named_proposal kept) xs)
 
 -- names so far, and those of the rest
-abbrev pub AreNames : List Kept → List (List ℕ) → List ProposalOrRef → List (List ℕ) → Type 0
+abbrev pub AreNames : List KeptProposal → List (List ℕ) → List ProposalOrRef → List (List ℕ) → Type 0
 AreNames kept names rest all = names ++ names_in kept rest ≡ all
 
-one_named : (kept : List Kept) (names : List (List ℕ)) (x : ProposalOrRef) (xs : List ProposalOrRef) (all : List (List ℕ)) (m : List ℕ) → Some m ≡ option_map message_of (named_one kept x) → AreNames kept names (x ∷ xs) all → AreNames kept (names ++ m ∷ []) xs all
+one_named : (kept : List KeptProposal) (names : List (List ℕ)) (x : ProposalOrRef) (xs : List ProposalOrRef) (all : List (List ℕ)) (m : List ℕ) → Some m ≡ option_map message_of (named_proposal kept x) → AreNames kept names (x ∷ xs) all → AreNames kept (names ++ m ∷ []) xs all
 one_named kept names x xs all m e h =
     let d : names_in kept (x ∷ xs) ≡ m ∷ names_in kept xs = names_cons kept x xs ∙ ap (λ (o : Option (List ℕ)). cons_option o (names_in kept xs)) (sym e) in
     append_assoc names (m ∷ []) (names_in kept xs) ∙ ap (λ l. names ++ l) (sym d) ∙ h
 
-none_named : (kept : List Kept) (names : List (List ℕ)) (x : ProposalOrRef) (xs : List ProposalOrRef) (all : List (List ℕ)) → None ≡ option_map message_of (named_one kept x) → AreNames kept names (x ∷ xs) all → AreNames kept names xs all
+none_named : (kept : List KeptProposal) (names : List (List ℕ)) (x : ProposalOrRef) (xs : List ProposalOrRef) (all : List (List ℕ)) → None ≡ option_map message_of (named_proposal kept x) → AreNames kept names (x ∷ xs) all → AreNames kept names xs all
 none_named kept names x xs all e h =
     let d : names_in kept (x ∷ xs) ≡ names_in kept xs = names_cons kept x xs ∙ ap (λ (o : Option (List ℕ)). cons_option o (names_in kept xs)) (sym e) in
     ap (λ l. names ++ l) (sym d) ∙ h
 
 -- of a list that is seen as a commit lists it
-abbrev pub NamesFrom : {X : Type 0} → (X → ProposalOrRef) → List Kept → List X → ℕ → List (List ℕ) → Type 0
+abbrev pub NamesFrom : {X : Type 0} → (X → ProposalOrRef) → List KeptProposal → List X → ℕ → List (List ℕ) → Type 0
 NamesFrom f kept list i names = AreNames kept names (map f (drop i list)) (names_in kept (map f list))
 
-pub names_start : {X : Type 0} (f : X → ProposalOrRef) (kept : List Kept) (list : List X) → NamesFrom f kept list 0 []
+pub names_start : {X : Type 0} (f : X → ProposalOrRef) (kept : List KeptProposal) (list : List X) → NamesFrom f kept list 0 []
 names_start f kept list = refl
 
-pub names_next : {X : Type 0} (f : X → ProposalOrRef) (kept : List Kept) (list : List X) (i : ℕ) (x : X) (names : List (List ℕ)) (m : List ℕ) → i < length list → x ≡ get_or list i x → NamesFrom f kept list i names → Some m ≡ option_map message_of (named_one kept (f x)) → NamesFrom f kept list (i + 1) (names ++ m ∷ [])
-names_next f kept list i x names m lt e h named =
-    one_named kept names (f x) (map f (drop (i + 1) list)) (names_in kept (map f list)) m named (subst (λ l. AreNames kept names (map f l) (names_in kept (map f list))) (here list i x lt e) h)
+pub names_next : {X : Type 0} (f : X → ProposalOrRef) (kept : List KeptProposal) (list : List X) (i : ℕ) (x : X) (names : List (List ℕ)) (m : List ℕ) → i < length list → x ≡ get_or list i x → NamesFrom f kept list i names → Some m ≡ option_map message_of (named_proposal kept (f x)) → NamesFrom f kept list (i + 1) (names ++ m ∷ [])
+names_next f kept list i x names m lt e h named_proposals =
+    one_named kept names (f x) (map f (drop (i + 1) list)) (names_in kept (map f list)) m named_proposals (subst (λ l. AreNames kept names (map f l) (names_in kept (map f list))) (here list i x lt e) h)
 
-pub names_pass : {X : Type 0} (f : X → ProposalOrRef) (kept : List Kept) (list : List X) (i : ℕ) (x : X) (names : List (List ℕ)) → i < length list → x ≡ get_or list i x → NamesFrom f kept list i names → None ≡ option_map message_of (named_one kept (f x)) → NamesFrom f kept list (i + 1) names
-names_pass f kept list i x names lt e h named =
-    none_named kept names (f x) (map f (drop (i + 1) list)) (names_in kept (map f list)) named (subst (λ l. AreNames kept names (map f l) (names_in kept (map f list))) (here list i x lt e) h)
+pub names_pass : {X : Type 0} (f : X → ProposalOrRef) (kept : List KeptProposal) (list : List X) (i : ℕ) (x : X) (names : List (List ℕ)) → i < length list → x ≡ get_or list i x → NamesFrom f kept list i names → None ≡ option_map message_of (named_proposal kept (f x)) → NamesFrom f kept list (i + 1) names
+names_pass f kept list i x names lt e h named_proposals =
+    none_named kept names (f x) (map f (drop (i + 1) list)) (names_in kept (map f list)) named_proposals (subst (λ l. AreNames kept names (map f l) (names_in kept (map f list))) (here list i x lt e) h)
 
-pub names_step : {X : Type 0} (f : X → ProposalOrRef) (kept : List Kept) (list : List X) (i : ℕ) (x : X) (names : List (List ℕ)) (o : Option (List ℕ)) → i < length list → x ≡ get_or list i x → o ≡ option_map message_of (named_one kept (f x)) → NamesFrom f kept list i names
+pub names_step : {X : Type 0} (f : X → ProposalOrRef) (kept : List KeptProposal) (list : List X) (i : ℕ) (x : X) (names : List (List ℕ)) (o : Option (List ℕ)) → i < length list → x ≡ get_or list i x → o ≡ option_map message_of (named_proposal kept (f x)) → NamesFrom f kept list i names
     → NamesFrom f kept list (i + 1) (names ++ option_to_list o)
 names_step f kept list i x names None lt e is h = subst (λ (l : List (List ℕ)). NamesFrom f kept list (i + 1) l) (sym (append-nil names)) (names_pass f kept list i x names lt e h is)
 names_step f kept list i x names (Some m) lt e is h = names_next f kept list i x names m lt e h is
 
-pub names_end : {X : Type 0} (f : X → ProposalOrRef) (kept : List Kept) (list : List X) (i : ℕ) (names : List (List ℕ)) → length list ≤ i → NamesFrom f kept list i names → names ≡ names_in kept (map f list)
-unfolding names_in named
+pub names_end : {X : Type 0} (f : X → ProposalOrRef) (kept : List KeptProposal) (list : List X) (i : ℕ) (names : List (List ℕ)) → length list ≤ i → NamesFrom f kept list i names → names ≡ names_in kept (map f list)
+unfolding names_in named_proposals
 names_end f kept list i names le h = sym (append-nil names) ∙ subst (λ l. AreNames kept names (map f l) (names_in kept (map f list))) (drop_all i list le) h
 
 map_same : (list : List ProposalOrRef) → map (λ (x : ProposalOrRef). x) list ≡ list
@@ -84,7 +84,7 @@ map_same [] = refl
 map_same (x ∷ xs) = ap (λ (l : List ProposalOrRef). x ∷ l) (map_same xs)
 
 -- of a list as it is
-pub names_same : (kept : List Kept) (list : List ProposalOrRef) → names_in kept (map (λ (x : ProposalOrRef). x) list) ≡ names_in kept list
+pub names_same : (kept : List KeptProposal) (list : List ProposalOrRef) → names_in kept (map (λ (x : ProposalOrRef). x) list) ≡ names_in kept list
 names_same kept list = ap (λ (l : List ProposalOrRef). names_in kept l) (map_same list)
 
 -- ---- KeyPackages that are added
@@ -98,79 +98,79 @@ behind done (Ok us) = done ++ map spelled (adds us)
 behind done (Err n) = []
 
 -- what is used of what one says
-pub record IsUsed (kept : List Kept) (x : ProposalOrRef) (p : Proposal) : Type 0 where
+pub record IsUsed (kept : List KeptProposal) (x : ProposalOrRef) (p : Proposal) : Type 0 where
   pub used : Used
-  pub is : used_one kept 0 x ≡ Ok used
+  pub is : find_proposal kept 0 x ≡ Ok used
   pub says : used.proposal ≡ p
 
-used_kept : (kept : List Kept) (r : List ℕ) (o : Option Kept) (p : Proposal) → kept_under kept r ≡ o → option_map (λ (k : Kept). k.proposal) o ≡ Some p → IsUsed kept (listed.Reference r) p
+used_kept : (kept : List KeptProposal) (r : List ℕ) (o : Option KeptProposal) (p : Proposal) → kept_under kept r ≡ o → option_map (λ (k : KeptProposal). k.proposal) o ≡ Some p → IsUsed kept (listed.Reference r) p
 used_kept kept r None p e h = absurd cc
 used_kept kept r (Some k) p e h = record { used = record { proposal = k.proposal; sender = k.sender; is_full = false }; is = rw e refl; says = cc }
 
-is_used : (kept : List Kept) (x : ProposalOrRef) (p : Proposal) → said_by kept x ≡ Some p → IsUsed kept x p
+is_used : (kept : List KeptProposal) (x : ProposalOrRef) (p : Proposal) → proposal_for kept x ≡ Some p → IsUsed kept x p
 is_used kept (listed.Proposal q) p h = record { used = record { proposal = q; sender = 0; is_full = true }; is = refl; says = cc }
 is_used kept (listed.Reference r) p h = used_kept kept r (kept_under kept r) p refl h
 
-unknown : (kept : List Kept) (r : List ℕ) (o : Option Kept) → kept_under kept r ≡ o → option_map (λ (k : Kept). k.proposal) o ≡ None → used_one kept 0 (listed.Reference r) ≡ Err 60
+unknown : (kept : List KeptProposal) (r : List ℕ) (o : Option KeptProposal) → kept_under kept r ≡ o → option_map (λ (k : KeptProposal). k.proposal) o ≡ None → find_proposal kept 0 (listed.Reference r) ≡ Err 60
 unknown kept r None e h = rw e refl
 unknown kept r (Some k) e h = absurd cc
 
-not_used : (kept : List Kept) (x : ProposalOrRef) → said_by kept x ≡ None → used_one kept 0 x ≡ Err 60
+not_used : (kept : List KeptProposal) (x : ProposalOrRef) → proposal_for kept x ≡ None → find_proposal kept 0 x ≡ Err 60
 not_used kept (listed.Proposal q) h = absurd cc
 not_used kept (listed.Reference r) h = unknown kept r (kept_under kept r) refl h
 
-also_so : (done : List (List ℕ)) (o : Option KeyPackage) (ks : List KeyPackage) → done ++ map spelled (cons_option o ks) ≡ also done o ++ map spelled ks
+also_so : (done : List (List ℕ)) (o : Option KeyPackage) (ks : List KeyPackage) → done ++ map spelled (cons_option o ks) ≡ with_package done o ++ map spelled ks
 also_so done None ks = refl
 also_so done (Some offered) ks = sym (append_assoc done (spelled offered ∷ []) (map spelled ks))
 
-one_used : (done : List (List ℕ)) (u : Used) (r : Result (List Used) ℕ) → behind done (r >>= λ us. Ok (u ∷ us)) ≡ behind (also done (add_in u.proposal)) r
+one_used : (done : List (List ℕ)) (u : Used) (r : Result (List Used) ℕ) → behind done (r >>= λ us. Ok (u ∷ us)) ≡ behind (with_package done (add_in u.proposal)) r
 unfolding adds
 one_used done u (Ok us) = also_so done (add_in u.proposal) (filter_map (λ (v : Used). add_in v.proposal) us)
 one_used done u (Err n) = refl
 
-abbrev pub AddsFrom : List Kept → List Item → ℕ → List (List ℕ) → Type 0
-AddsFrom kept items i done = behind done (used_by kept 0 (map listed_of (drop i items))) ≡ adds_in kept (map listed_of items)
+abbrev pub AddsFrom : List KeptProposal → List Item → ℕ → List (List ℕ) → Type 0
+AddsFrom kept items i done = behind done (find_proposals kept 0 (map listed_of (drop i items))) ≡ adds_in kept (map listed_of items)
 
 first_adds : (r : Result (List Used) ℕ) → behind [] r ≡ map spelled (adds (used_of r))
 unfolding adds
 first_adds (Ok us) = refl
 first_adds (Err n) = refl
 
-pub adds_start : (kept : List Kept) (items : List Item) → AddsFrom kept items 0 []
+pub adds_start : (kept : List KeptProposal) (items : List Item) → AddsFrom kept items 0 []
 unfolding adds_in
-adds_start kept items = first_adds (used_by kept 0 (map listed_of items))
+adds_start kept items = first_adds (find_proposals kept 0 (map listed_of items))
 
-used_first : (kept : List Kept) (x : ProposalOrRef) (xs : List ProposalOrRef) (p : Proposal) (done all : List (List ℕ)) → IsUsed kept x p → behind done (used_by kept 0 (x ∷ xs)) ≡ all → behind (also done (add_in p)) (used_by kept 0 xs) ≡ all
-unfolding used_by
+used_first : (kept : List KeptProposal) (x : ProposalOrRef) (xs : List ProposalOrRef) (p : Proposal) (done all : List (List ℕ)) → IsUsed kept x p → behind done (find_proposals kept 0 (x ∷ xs)) ≡ all → behind (with_package done (add_in p)) (find_proposals kept 0 xs) ≡ all
+unfolding find_proposals
 used_first kept x xs p done all u h =
-    let e : behind done (used_by kept 0 xs >>= λ us. Ok (u.used ∷ us)) ≡ all = rw u.is at h in
-    subst (λ (q : Proposal). behind (also done (add_in q)) (used_by kept 0 xs) ≡ all) u.says (sym (one_used done u.used (used_by kept 0 xs)) ∙ e)
+    let e : behind done (find_proposals kept 0 xs >>= λ us. Ok (u.used ∷ us)) ≡ all = rw u.is at h in
+    subst (λ (q : Proposal). behind (with_package done (add_in q)) (find_proposals kept 0 xs) ≡ all) u.says (sym (one_used done u.used (find_proposals kept 0 xs)) ∙ e)
 
-unused_first : (kept : List Kept) (x : ProposalOrRef) (xs : List ProposalOrRef) (done all : List (List ℕ)) → used_one kept 0 x ≡ Err 60 → behind done (used_by kept 0 (x ∷ xs)) ≡ all → [] ≡ all
-unfolding used_by
+unused_first : (kept : List KeptProposal) (x : ProposalOrRef) (xs : List ProposalOrRef) (done all : List (List ℕ)) → find_proposal kept 0 x ≡ Err 60 → behind done (find_proposals kept 0 (x ∷ xs)) ≡ all → [] ≡ all
+unfolding find_proposals
 unused_first kept x xs done all e h = rw e at h
 
-at_item : (kept : List Kept) (items : List Item) (i : ℕ) (x : Item) (done : List (List ℕ)) → i < length items → x ≡ get_or items i x → AddsFrom kept items i done → behind done (used_by kept 0 (listed_of x ∷ map listed_of (drop (i + 1) items))) ≡ adds_in kept (map listed_of items)
-at_item kept items i x done lt e h = subst (λ (l : List Item). behind done (used_by kept 0 (map listed_of l)) ≡ adds_in kept (map listed_of items)) (here items i x lt e) h
+at_item : (kept : List KeptProposal) (items : List Item) (i : ℕ) (x : Item) (done : List (List ℕ)) → i < length items → x ≡ get_or items i x → AddsFrom kept items i done → behind done (find_proposals kept 0 (listed_of x ∷ map listed_of (drop (i + 1) items))) ≡ adds_in kept (map listed_of items)
+at_item kept items i x done lt e h = subst (λ (l : List Item). behind done (find_proposals kept 0 (map listed_of l)) ≡ adds_in kept (map listed_of items)) (here items i x lt e) h
 
 -- one that says a proposal
-pub adds_next : (kept : List Kept) (items : List Item) (i : ℕ) (x : Item) (p : Proposal) (done : List (List ℕ)) → i < length items → x ≡ get_or items i x → Some p ≡ said_by kept (listed_of x) → AddsFrom kept items i done → AddsFrom kept items (i + 1) (also done (add_in p))
+pub adds_next : (kept : List KeptProposal) (items : List Item) (i : ℕ) (x : Item) (p : Proposal) (done : List (List ℕ)) → i < length items → x ≡ get_or items i x → Some p ≡ proposal_for kept (listed_of x) → AddsFrom kept items i done → AddsFrom kept items (i + 1) (with_package done (add_in p))
 adds_next kept items i x p done lt e said h =
     used_first kept (listed_of x) (map listed_of (drop (i + 1) items)) p done (adds_in kept (map listed_of items)) (is_used kept (listed_of x) p (sym said)) (at_item kept items i x done lt e h)
 
-pub adds_stop : (kept : List Kept) (items : List Item) (i : ℕ) (x : Item) (done : List (List ℕ)) → i < length items → x ≡ get_or items i x → None ≡ said_by kept (listed_of x) → AddsFrom kept items i done → [] ≡ adds_in kept (map listed_of items)
+pub adds_stop : (kept : List KeptProposal) (items : List Item) (i : ℕ) (x : Item) (done : List (List ℕ)) → i < length items → x ≡ get_or items i x → None ≡ proposal_for kept (listed_of x) → AddsFrom kept items i done → [] ≡ adds_in kept (map listed_of items)
 adds_stop kept items i x done lt e said h =
     unused_first kept (listed_of x) (map listed_of (drop (i + 1) items)) done (adds_in kept (map listed_of items)) (not_used kept (listed_of x) (sym said)) (at_item kept items i x done lt e h)
 
-pub adds_end : (kept : List Kept) (items : List Item) (i : ℕ) (done : List (List ℕ)) → length items ≤ i → AddsFrom kept items i done → done ≡ adds_in kept (map listed_of items)
-unfolding used_by adds
-adds_end kept items i done le h = sym (append-nil done) ∙ subst (λ (l : List Item). behind done (used_by kept 0 (map listed_of l)) ≡ adds_in kept (map listed_of items)) (drop_all i items le) h
+pub adds_end : (kept : List KeptProposal) (items : List Item) (i : ℕ) (done : List (List ℕ)) → length items ≤ i → AddsFrom kept items i done → done ≡ adds_in kept (map listed_of items)
+unfolding find_proposals adds
+adds_end kept items i done le h = sym (append-nil done) ∙ subst (λ (l : List Item). behind done (find_proposals kept 0 (map listed_of l)) ≡ adds_in kept (map listed_of items)) (drop_all i items le) h
 
 no_value : (o : Option (Bor Proposal)) → ((x : Bor Proposal) → o ≢ Some x) → option_copied o ≡ None
 no_value None h = refl
 no_value (Some x) h = absurd (h x refl)
 
-pub adds_none : (kept : List Kept) (items : List Item) (i : ℕ) (x : Item) (done : List (List ℕ)) (o : Option (Bor Proposal)) → i < length items → x ≡ get_or items i x → option_copied o ≡ said_by kept (listed_of x) → ((y : Bor Proposal) → o ≢ Some y) → AddsFrom kept items i done
+pub adds_none : (kept : List KeptProposal) (items : List Item) (i : ℕ) (x : Item) (done : List (List ℕ)) (o : Option (Bor Proposal)) → i < length items → x ≡ get_or items i x → option_copied o ≡ proposal_for kept (listed_of x) → ((y : Bor Proposal) → o ≢ Some y) → AddsFrom kept items i done
     → [] ≡ adds_in kept (map listed_of items)
 adds_none kept items i x done o lt e said none h = adds_stop kept items i x done lt e (sym (no_value o none) ∙ said) h
 
@@ -232,29 +232,29 @@ items_end w items i done le h =
 
 -- none of the records before this one
 abbrev pub FirstFrom : List Journal → List Making → Source → Candidate → ℕ → Type 0
-FirstFrom js ds source k i = made_for (map (made_of js) (drop i ds)) source k ≡ made_for (map (made_of js) ds) source k
+FirstFrom js ds source k i = commit_for_joiner (map (commit_made_of js) (drop i ds)) source k ≡ commit_for_joiner (map (commit_made_of js) ds) source k
 
-first_is : (js : List Journal) (d : Making) (ds : List Making) (source : Source) (k : Candidate) → adds_for source (key_package.spell k.offered) d ≡ true → made_for (map (made_of js) (d ∷ ds)) source k ≡ Some (made_of js d)
-unfolding made_for
+first_is : (js : List Journal) (d : Making) (ds : List Making) (source : Source) (k : Candidate) → adds_for source (key_package.spell k.offered) d ≡ true → commit_for_joiner (map (commit_made_of js) (d ∷ ds)) source k ≡ Some (commit_made_of js d)
+unfolding commit_for_joiner
 first_is js d ds source k e = rw e refl
 
-first_not : (js : List Journal) (d : Making) (ds : List Making) (source : Source) (k : Candidate) → adds_for source (key_package.spell k.offered) d ≡ false → made_for (map (made_of js) (d ∷ ds)) source k ≡ made_for (map (made_of js) ds) source k
-unfolding made_for
+first_not : (js : List Journal) (d : Making) (ds : List Making) (source : Source) (k : Candidate) → adds_for source (key_package.spell k.offered) d ≡ false → commit_for_joiner (map (commit_made_of js) (d ∷ ds)) source k ≡ commit_for_joiner (map (commit_made_of js) ds) source k
+unfolding commit_for_joiner
 first_not js d ds source k e = rw e refl
 
-pub first_found : (js : List Journal) (ds : List Making) (source : Source) (k : Candidate) (i : ℕ) (d : Making) → i < length ds → d ≡ get_or ds i d → FirstFrom js ds source k i → adds_for source (key_package.spell k.offered) d ≡ true → made_for (map (made_of js) ds) source k ≡ slice_get (map (made_of js) ds) i
+pub first_found : (js : List Journal) (ds : List Making) (source : Source) (k : Candidate) (i : ℕ) (d : Making) → i < length ds → d ≡ get_or ds i d → FirstFrom js ds source k i → adds_for source (key_package.spell k.offered) d ≡ true → commit_for_joiner (map (commit_made_of js) ds) source k ≡ slice_get (map (commit_made_of js) ds) i
 first_found js ds source k i d lt e h met =
-    let a : made_for (map (made_of js) (d ∷ drop (i + 1) ds)) source k ≡ made_for (map (made_of js) ds) source k = subst (λ (l : List Making). made_for (map (made_of js) l) source k ≡ made_for (map (made_of js) ds) source k) (here ds i d lt e) h in
-    sym a ∙ first_is js d (drop (i + 1) ds) source k met ∙ sym (slice_get-map (made_of js) ds i ∙ ap (λ (o : Option Making). option_map (made_of js) o) (slice_get_read ds (length ds) i d refl lt e))
+    let a : commit_for_joiner (map (commit_made_of js) (d ∷ drop (i + 1) ds)) source k ≡ commit_for_joiner (map (commit_made_of js) ds) source k = subst (λ (l : List Making). commit_for_joiner (map (commit_made_of js) l) source k ≡ commit_for_joiner (map (commit_made_of js) ds) source k) (here ds i d lt e) h in
+    sym a ∙ first_is js d (drop (i + 1) ds) source k met ∙ sym (slice_get-map (commit_made_of js) ds i ∙ ap (λ (o : Option Making). option_map (commit_made_of js) o) (slice_get_read ds (length ds) i d refl lt e))
 
 pub first_passed : (js : List Journal) (ds : List Making) (source : Source) (k : Candidate) (i : ℕ) (d : Making) → i < length ds → d ≡ get_or ds i d → FirstFrom js ds source k i → adds_for source (key_package.spell k.offered) d ≡ false → FirstFrom js ds source k (i + 1)
 first_passed js ds source k i d lt e h passed =
-    let a : made_for (map (made_of js) (d ∷ drop (i + 1) ds)) source k ≡ made_for (map (made_of js) ds) source k = subst (λ (l : List Making). made_for (map (made_of js) l) source k ≡ made_for (map (made_of js) ds) source k) (here ds i d lt e) h in
+    let a : commit_for_joiner (map (commit_made_of js) (d ∷ drop (i + 1) ds)) source k ≡ commit_for_joiner (map (commit_made_of js) ds) source k = subst (λ (l : List Making). commit_for_joiner (map (commit_made_of js) l) source k ≡ commit_for_joiner (map (commit_made_of js) ds) source k) (here ds i d lt e) h in
     sym (first_not js d (drop (i + 1) ds) source k passed) ∙ a
 
-pub first_none : (js : List Journal) (ds : List Making) (source : Source) (k : Candidate) (i : ℕ) → length ds ≤ i → FirstFrom js ds source k i → made_for (map (made_of js) ds) source k ≡ None
-unfolding made_for
-first_none js ds source k i le h = sym (subst (λ (l : List Making). made_for (map (made_of js) l) source k ≡ made_for (map (made_of js) ds) source k) (drop_all i ds le) h)
+pub first_none : (js : List Journal) (ds : List Making) (source : Source) (k : Candidate) (i : ℕ) → length ds ≤ i → FirstFrom js ds source k i → commit_for_joiner (map (commit_made_of js) ds) source k ≡ None
+unfolding commit_for_joiner
+first_none js ds source k i le h = sym (subst (λ (l : List Making). commit_for_joiner (map (commit_made_of js) l) source k ≡ commit_for_joiner (map (commit_made_of js) ds) source k) (drop_all i ds le) h)
 
 -- whatever the journals and the candidate
 abbrev pub NoneBefore : List Making → Source → List ℕ → ℕ → Type 0

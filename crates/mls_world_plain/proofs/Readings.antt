@@ -18,7 +18,7 @@ use Rattle.mls_leaf.specs.declared.proposal.Proposal.{Proposal}
 use Rattle.mls_leaf.specs.declared.proposal.Proposal.TheVariants as proposes
 use Rattle.mls_types.specs.Message.{mls_message}
 use Rattle.mls_types.specs.Commit.{proposal_or_ref, proposal_or_ref_nonempty}
-use Rattle.mls_types.specs.SignedParts.{bare}
+use Rattle.mls_types.specs.SignedParts.{content_of_body}
 use Rattle.mls_types.specs.PublicMessage.{authenticated_content}
 use Rattle.mls_types.specs.Reference.{proposal_reference}
 use Rattle.mls_types.specs.declared.commit.ProposalOrRef.{ProposalOrRef}
@@ -39,14 +39,14 @@ use Rattle.mls_view.specs.Views.{LendsAll}
 use Rattle.mls_public_group.specs.Short.{IsBelow}
 use Rattle.mls_public_group.specs.ShortProposal.{IsShortProposal}
 use Rattle.mls_public_group.proofs.ShortProposal.{short_parts}
-use Rattle.mls_model.specs.Messages.{decoded, reference_of}
+use Rattle.mls_model.specs.Messages.{decode_message, reference_of}
 use Rattle.mls_model.specs.World.{if_proposal}
 use Rattle.mls_model.specs.Journal.{list_in, list_of_body, list_of_message}
 use Rattle.mls_model.specs.Candidate.{package_message}
 use Rattle.mls_public_group.proofs.Lengths.{last_within, length-uint16}
 use Rattle.mls_member.proofs.LengthLaws.{within_limit}
 use Rattle.mls_member.proofs.ContentLaws.{IsPublic}
-use Rattle.mls_world_plain.specs.Sources.{package_read, reference_read, reference_said}
+use Rattle.mls_world_plain.specs.Sources.{read_package, read_reference, reference_in}
 
 -- ---- KeyPackages
 
@@ -67,8 +67,8 @@ package_of bytes view part lends is = is_package bytes part lends.value lends.is
 abbrev the_package : KeyPackage → Result KeyPackage ℕ
 the_package k = Ok k
 
-pub package_is : (bytes part : List ℕ) (k : KeyPackage) → IsPackage bytes part → Spells key_package k part → package_read bytes ≡ Ok k
-unfolding package_read decoded
+pub package_is : (bytes part : List ℕ) (k : KeyPackage) → IsPackage bytes part → Spells key_package k part → read_package bytes ≡ Ok k
+unfolding read_package decode_message
 package_is bytes part k p spells = rw p.is_read (ap (λ (x : KeyPackage). the_package x) (spells_same key_package p.shown k part p.spells spells))
 
 message_spelled : (v : KeyPackage) → mls_message.spell (message_of.KeyPackage v) ≡ uint w16 1 ++ (uint w16 5 ++ key_package.spell v)
@@ -98,8 +98,8 @@ kept_short (Some p) h = short_parts p.now (record { fits = h.fits; below = omega
 pub wider : (k : KeyPackage) → IsBelow (2 ^ 27) key_package k → IsBelow (2 ^ 28) key_package k
 wider k h = record { fits = h.fits; below = omega (arith, h.below) }
 
-other_package : (bytes : List ℕ) (view : MessageView) (value : MlsMessage) → whole mls_message input_limit bytes ≡ Ok value → Shows view value → ((x : List ℕ) → view ≢ views.KeyPackage x) → package_read bytes ≡ Err 95
-unfolding package_read decoded
+other_package : (bytes : List ℕ) (view : MessageView) (value : MlsMessage) → whole mls_message input_limit bytes ≡ Ok value → Shows view value → ((x : List ℕ) → view ≢ views.KeyPackage x) → read_package bytes ≡ Err 95
+unfolding read_package decode_message
 other_package bytes (views.KeyPackage x) value e shows none = absurd (none x refl)
 other_package bytes (views.PublicMessage x) (message_of.KeyPackage v) e shows none = absurd shows
 other_package bytes (views.Welcome x) (message_of.KeyPackage v) e shows none = absurd shows
@@ -108,11 +108,11 @@ other_package bytes view (message_of.PublicMessage v) e shows none = rw e refl
 other_package bytes view (message_of.Welcome v) e shows none = rw e refl
 other_package bytes view (message_of.GroupInfo v) e shows none = rw e refl
 
-pub no_package : (bytes : List ℕ) (view : MessageView) → LendsAll mls_message input_limit Shows bytes view → ((x : List ℕ) → view ≢ views.KeyPackage x) → package_read bytes ≡ Err 95
+pub no_package : (bytes : List ℕ) (view : MessageView) → LendsAll mls_message input_limit Shows bytes view → ((x : List ℕ) → view ≢ views.KeyPackage x) → read_package bytes ≡ Err 95
 no_package bytes view lends none = other_package bytes view lends.value lends.is_read lends.shows none
 
-pub no_message : (bytes : List ℕ) (n : ℕ) → whole mls_message input_limit bytes ≡ Err n → (package_read bytes ≡ Err n) × (reference_read bytes ≡ Err n)
-unfolding package_read reference_read decoded
+pub no_message : (bytes : List ℕ) (n : ℕ) → whole mls_message input_limit bytes ≡ Err n → (read_package bytes ≡ Err n) × (read_reference bytes ≡ Err n)
+unfolding read_package read_reference decode_message
 no_message bytes n e = (rw e refl, rw e refl)
 
 -- ---- references
@@ -121,32 +121,32 @@ no_message bytes n e = (rw e refl, rw e refl)
 abbrev taken : SignedContent → List ℕ
 taken v = proposal_reference (authenticated_content.spell (record { wire_format = formats.PublicMessage; content = v }))
 
-said : (v : SignedContent) (body : SignedBody) (view : ContentView) (part : List ℕ) → view ≡ view_of.Proposal part → ShowsContent view (bare body) → if_proposal v body ≡ Some v
-said v (body_of.Application t) view part is shows = absurd (subst (λ (x : ContentView). ShowsContent x (bare (body_of.Application t))) is shows)
+said : (v : SignedContent) (body : SignedBody) (view : ContentView) (part : List ℕ) → view ≡ view_of.Proposal part → ShowsContent view (content_of_body body) → if_proposal v body ≡ Some v
+said v (body_of.Application t) view part is shows = absurd (subst (λ (x : ContentView). ShowsContent x (content_of_body (body_of.Application t))) is shows)
 said v (body_of.Proposal p) view part is shows = refl
-said v (body_of.Commit k tag) view part is shows = absurd (subst (λ (x : ContentView). ShowsContent x (bare (body_of.Commit k tag))) is shows)
+said v (body_of.Commit k tag) view part is shows = absurd (subst (λ (x : ContentView). ShowsContent x (content_of_body (body_of.Commit k tag))) is shows)
 
-pub said_is : (view : PublicMessageView) (shown : PublicMessage) (part reference : List ℕ) → ShowsPublic view shown → view.content.content ≡ view_of.Proposal part → reference ≡ taken shown.content → reference_said shown.content ≡ Ok reference
-unfolding reference_said reference_of
+pub said_is : (view : PublicMessageView) (shown : PublicMessage) (part reference : List ℕ) → ShowsPublic view shown → view.content.content ≡ view_of.Proposal part → reference ≡ taken shown.content → reference_in shown.content ≡ Ok reference
+unfolding reference_in reference_of
 said_is view shown part reference shows is e = rw (said shown.content shown.content.body view.content.content part is shows.content.content, e) refl
 
-unsaid : (v : SignedContent) (body : SignedBody) (view : ContentView) → ((x : List ℕ) → view ≢ view_of.Proposal x) → ShowsContent view (bare body) → if_proposal v body ≡ None
+unsaid : (v : SignedContent) (body : SignedBody) (view : ContentView) → ((x : List ℕ) → view ≢ view_of.Proposal x) → ShowsContent view (content_of_body body) → if_proposal v body ≡ None
 unsaid v (body_of.Application t) view none shows = refl
 unsaid v (body_of.Proposal p) (view_of.Proposal x) none shows = absurd (none x refl)
 unsaid v (body_of.Proposal p) (view_of.Application x) none shows = absurd shows
 unsaid v (body_of.Proposal p) (view_of.Commit x y) none shows = absurd shows
 unsaid v (body_of.Commit k tag) view none shows = refl
 
-pub unsaid_is : (view : PublicMessageView) (shown : PublicMessage) → ShowsPublic view shown → ((x : List ℕ) → view.content.content ≢ view_of.Proposal x) → reference_said shown.content ≡ Err 95
-unfolding reference_said
+pub unsaid_is : (view : PublicMessageView) (shown : PublicMessage) → ShowsPublic view shown → ((x : List ℕ) → view.content.content ≢ view_of.Proposal x) → reference_in shown.content ≡ Err 95
+unfolding reference_in
 unsaid_is view shown shows none = rw (unsaid shown.content shown.content.body view.content.content none shows.content.content) refl
 
-pub public_reference : (bytes : List ℕ) (view : PublicMessageView) (p : IsPublic bytes view) → reference_read bytes ≡ reference_said p.shown.content
-unfolding reference_read reference_said decoded
+pub public_reference : (bytes : List ℕ) (view : PublicMessageView) (p : IsPublic bytes view) → read_reference bytes ≡ reference_in p.shown.content
+unfolding read_reference reference_in decode_message
 public_reference bytes view p = rw p.is_read refl
 
-other_reference : (bytes : List ℕ) (view : MessageView) (value : MlsMessage) → whole mls_message input_limit bytes ≡ Ok value → Shows view value → ((x : PublicMessageView) → view ≢ views.PublicMessage x) → reference_read bytes ≡ Err 95
-unfolding reference_read decoded
+other_reference : (bytes : List ℕ) (view : MessageView) (value : MlsMessage) → whole mls_message input_limit bytes ≡ Ok value → Shows view value → ((x : PublicMessageView) → view ≢ views.PublicMessage x) → read_reference bytes ≡ Err 95
+unfolding read_reference decode_message
 other_reference bytes (views.PublicMessage x) value e shows none = absurd (none x refl)
 other_reference bytes (views.KeyPackage x) (message_of.PublicMessage v) e shows none = absurd shows
 other_reference bytes (views.Welcome x) (message_of.PublicMessage v) e shows none = absurd shows
@@ -155,22 +155,22 @@ other_reference bytes view (message_of.KeyPackage v) e shows none = rw e refl
 other_reference bytes view (message_of.Welcome v) e shows none = rw e refl
 other_reference bytes view (message_of.GroupInfo v) e shows none = rw e refl
 
-pub no_reference : (bytes : List ℕ) (view : MessageView) → LendsAll mls_message input_limit Shows bytes view → ((x : PublicMessageView) → view ≢ views.PublicMessage x) → reference_read bytes ≡ Err 95
+pub no_reference : (bytes : List ℕ) (view : MessageView) → LendsAll mls_message input_limit Shows bytes view → ((x : PublicMessageView) → view ≢ views.PublicMessage x) → read_reference bytes ≡ Err 95
 no_reference bytes view lends none = other_reference bytes view lends.value lends.is_read lends.shows none
 
 -- ---- lists of commits
 
-listed : (body : SignedBody) (view : ContentView) (list path : List ℕ) (items : List ProposalOrRef) → view ≡ view_of.Commit list path → ShowsContent view (bare body) → Spells (vector proposal_or_ref proposal_or_ref_nonempty) items list → items ≡ list_of_body body
-listed (body_of.Application t) view list path items is shows spells = absurd (subst (λ (x : ContentView). ShowsContent x (bare (body_of.Application t))) is shows)
-listed (body_of.Proposal p) view list path items is shows spells = absurd (subst (λ (x : ContentView). ShowsContent x (bare (body_of.Proposal p))) is shows)
+listed : (body : SignedBody) (view : ContentView) (list path : List ℕ) (items : List ProposalOrRef) → view ≡ view_of.Commit list path → ShowsContent view (content_of_body body) → Spells (vector proposal_or_ref proposal_or_ref_nonempty) items list → items ≡ list_of_body body
+listed (body_of.Application t) view list path items is shows spells = absurd (subst (λ (x : ContentView). ShowsContent x (content_of_body (body_of.Application t))) is shows)
+listed (body_of.Proposal p) view list path items is shows spells = absurd (subst (λ (x : ContentView). ShowsContent x (content_of_body (body_of.Proposal p))) is shows)
 listed (body_of.Commit k tag) view list path items is shows spells =
-    let parts = subst (λ (x : ContentView). ShowsContent x (bare (body_of.Commit k tag))) is shows in
+    let parts = subst (λ (x : ContentView). ShowsContent x (content_of_body (body_of.Commit k tag))) is shows in
     spells_same (vector proposal_or_ref proposal_or_ref_nonempty) items k.proposals list spells parts.0
 
 pub list_is : (view : PublicMessageView) (shown : PublicMessage) (list path : List ℕ) (items : List ProposalOrRef) → ShowsPublic view shown → view.content.content ≡ view_of.Commit list path → Spells (vector proposal_or_ref proposal_or_ref_nonempty) items list → items ≡ list_of_body shown.content.body
 list_is view shown list path items shows is spells = listed shown.content.body view.content.content list path items is shows.content.content spells
 
-unlisted : (body : SignedBody) (view : ContentView) → ((x y : List ℕ) → view ≢ view_of.Commit x y) → ShowsContent view (bare body) → [] ≡ list_of_body body
+unlisted : (body : SignedBody) (view : ContentView) → ((x y : List ℕ) → view ≢ view_of.Commit x y) → ShowsContent view (content_of_body body) → [] ≡ list_of_body body
 unlisted (body_of.Application t) view none shows = refl
 unlisted (body_of.Proposal p) view none shows = refl
 unlisted (body_of.Commit k tag) (view_of.Commit x y) none shows = absurd (none x y refl)
@@ -201,7 +201,7 @@ other_list message (message_of.Welcome v) none shows = refl
 other_list message (message_of.GroupInfo v) none shows = refl
 
 list_read : (bytes : List ℕ) (value : MlsMessage) → whole mls_message input_limit bytes ≡ Ok value → list_in bytes ≡ list_of_message (Ok value)
-unfolding list_in decoded
+unfolding list_in decode_message
 list_read bytes value e = rw e refl
 
 pub list_whole : {A E : Type 0} (items : A → List ProposalOrRef) (bytes : List ℕ) (message : MessageView) (r : Result A E) → LendsAll mls_message input_limit Shows bytes message → IfOk r (λ v. (value : MlsMessage) → Shows message value → items v ≡ list_of_message (Ok value))
@@ -210,7 +210,7 @@ list_whole items bytes message (Ok v) lends h = h lends.value lends.shows ∙ sy
 list_whole items bytes message (Err e) lends h = tt
 
 pub no_list_read : (bytes : List ℕ) (n : ℕ) → whole mls_message input_limit bytes ≡ Err n → [] ≡ list_in bytes
-unfolding list_in decoded
+unfolding list_in decode_message
 no_list_read bytes n e = rw e refl
 
 -- ---- the message of a KeyPackage

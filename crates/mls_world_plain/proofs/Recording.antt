@@ -8,13 +8,13 @@ use Rattle.mls_model.specs.declared.event.Reply.{Reply}
 use Rattle.mls_model.specs.declared.event.Reply.TheVariants as reply
 use Rattle.mls_model.specs.Journal.{Journal, Entry, with_entry}
 use Rattle.mls_model.specs.declared.item.Item.{Item}
-use Rattle.mls_model.specs.Make.{committed, listed_of}
-use Rattle.mls_model.specs.Calls.{commit_answer, drop_answer}
+use Rattle.mls_model.specs.Make.{commit_call, listed_of}
+use Rattle.mls_model.specs.WorldCalls.{commit_answer, drop_answer}
 use Rattle.mls_model.specs.Member.{Member, Pending, without_pending}
 use Rattle.mls_model.specs.declared.event.WorldItem.{WorldItem}
 use Rattle.mls_model.specs.World.{Entrant, Seat, World, with_member, items_of}
-use Rattle.mls_world_plain.specs.Parts.{member_commits, messages_with, recorded, IsNamed}
-use Rattle.mls_world_plain.specs.Stored.{journal_at, Seated, Making, seat_of, world_of, AreStored}
+use Rattle.mls_world_plain.specs.CallParts.{commit_by, messages_with, record_commit, IsNamed}
+use Rattle.mls_world_plain.specs.StoredWorld.{journal_at, Seated, Making, seat_of, world_of, AreStored}
 use Rattle.mls_world_plain.proofs.Stores.{seat_found, unchanged}
 use Rattle.mls_world_plain.proofs.Calling.{at_same, member_changed}
 use Rattle.mls_world_plain.proofs.Changing.{made_added, stored_made}
@@ -52,28 +52,28 @@ set_to w es ss ms ds js k x y s m n same seen at lt found h =
 -- ---- a commit of a member
 
 commits : (c : Crypto) (w : World) (k : ℕ) (list : List ProposalOrRef) (path : Bool) (seed : List ℕ) (s : Seat) (x : List ℕ × Option (List ℕ)) (m : Member)
-    → slice_get w.seats k ≡ Some s → committed c s.member list path seed ≡ Ok (x, m) → member_commits c w k list path seed ≡ Ok (x, with_member w k s m)
-unfolding member_commits
+    → slice_get w.seats k ≡ Some s → commit_call c s.member list path seed ≡ Ok (x, m) → commit_by c w k list path seed ≡ Ok (x, with_member w k s m)
+unfolding commit_by
 commits c w k list path seed s x m found h = rw (found, h) refl
 
 fails : (c : Crypto) (w : World) (k : ℕ) (list : List ProposalOrRef) (path : Bool) (seed : List ℕ) (s : Seat) (n : ℕ)
-    → slice_get w.seats k ≡ Some s → committed c s.member list path seed ≡ Err n → member_commits c w k list path seed ≡ Err n
-unfolding member_commits
+    → slice_get w.seats k ≡ Some s → commit_call c s.member list path seed ≡ Err n → commit_by c w k list path seed ≡ Err n
+unfolding commit_by
 fails c w k list path seed s n found h = rw (found, h) refl
 
 abbrev the_commit : List ℕ × Option (List ℕ) → World → Result ((List ℕ × Option (List ℕ)) × World) ℕ
 the_commit x w = Ok (x, w)
 
 pub commit_done : (c : Crypto) (w : World) (es : List Entrant) (ss : List Seated) (ms : List (List ℕ)) (ds : List Making) (js : List Journal) (k : ℕ) (x y : Seated) (list : List ProposalOrRef) (path : Bool) (seed : List ℕ) (sent : List ℕ × Option (List ℕ)) (m : Member)
-    → world_of es ss ms ds js ≡ w → y ≡ x → x ≡ get_or ss k x → k < length w.seats → committed c y.member list path seed ≡ Ok (sent, m)
-    → member_commits c w k list path seed ≡ Ok (sent, world_of es (slice_set ss k (at_same y m)) ms ds js)
+    → world_of es ss ms ds js ≡ w → y ≡ x → x ≡ get_or ss k x → k < length w.seats → commit_call c y.member list path seed ≡ Ok (sent, m)
+    → commit_by c w k list path seed ≡ Ok (sent, world_of es (slice_set ss k (at_same y m)) ms ds js)
 commit_done c w es ss ms ds js k x y list path seed sent m same seen at lt h =
     commits c w k list path seed (seat_of js y) sent m (seat_there w es ss ms ds js k x y same seen at lt) h
     ∙ ap (λ (v : World). the_commit sent v) (sym (changed w es ss ms ds js k y m same))
 
 pub commit_fails : (c : Crypto) (w : World) (es : List Entrant) (ss : List Seated) (ms : List (List ℕ)) (ds : List Making) (js : List Journal) (k : ℕ) (x y : Seated) (list : List ProposalOrRef) (path : Bool) (seed : List ℕ) (m : Member) (n : ℕ)
-    → world_of es ss ms ds js ≡ w → y ≡ x → x ≡ get_or ss k x → k < length w.seats → (m ≡ y.member) × (n ≢ 1 → committed c y.member list path seed ≡ Err n)
-    → (world_of es (slice_set ss k (at_same y m)) ms ds js ≡ w) × (n ≢ 1 → member_commits c w k list path seed ≡ Err n)
+    → world_of es ss ms ds js ≡ w → y ≡ x → x ≡ get_or ss k x → k < length w.seats → (m ≡ y.member) × (n ≢ 1 → commit_call c y.member list path seed ≡ Err n)
+    → (world_of es (slice_set ss k (at_same y m)) ms ds js ≡ w) × (n ≢ 1 → commit_by c w k list path seed ≡ Err n)
 commit_fails c w es ss ms ds js k x y list path seed m n same seen at lt h =
     let there = seat_there w es ss ms ds js k x y same seen at lt in
     let as_it_was : slice_set ss k (at_same y y.member) ≡ ss = unchanged ss k y (read_at ss k x y seen at) in (
@@ -139,13 +139,13 @@ pub recorded_is : {X : Type 0} (f : X → List ℕ) (w : World) (es : List Entra
     → at ≡ length js → seen ≡ commit → new ≡ js ++ with_entry (journal_at js y.journal) (record { commit = seen; names = names }) ∷ []
     → said ≡ option_map (λ (v : X). (n + 1, f v)) o → before ≡ ds → after ≡ before ++ making k at epoch adds said ∷ []
     → messages ≡ ms ++ messages_with commit (option_map f o) → answered ≡ option_map (λ (bytes : List ℕ). n + 1) (option_map f o)
-    → recorded w k s p.epoch (commit, option_map f o) names adds ≡ (reply.Commit n answered, world_of es ss messages after new)
+    → record_commit w k s p.epoch (commit, option_map f o) names adds ≡ (reply.Commit n answered, world_of es ss messages after new)
 recorded_is f w es ss ms messages ds before after js new k at n x y s p commit seen o names adds epoch said answered same h is_x read lt found is count last sent journals numbers b a told replied =
     let j : Journal = journal_at js y.journal in
     let r : Option (List ℕ) = option_map f o in
     let seat : seat_of js y ≡ s = seat_is w es ss ms ds js k x y s same is_x read lt found in
     let here : n ≡ length w.messages = count ∙ ap (λ (v : World). length v.messages) same in
-    let e1 : recorded w k s p.epoch (commit, r) names adds ≡ record_of w k s.journal p.epoch commit r names adds n = ap (λ (i : ℕ). record_of w k s.journal p.epoch commit r names adds i) (sym here) in
+    let e1 : record_commit w k s p.epoch (commit, r) names adds ≡ record_of w k s.journal p.epoch commit r names adds n = ap (λ (i : ℕ). record_of w k s.journal p.epoch commit r names adds i) (sym here) in
     let e2 : record_of w k s.journal p.epoch commit r names adds n ≡ record_of w k j p.epoch commit r names adds n = ap (λ (z : Seat). record_of w k z.journal p.epoch commit r names adds n) (sym seat) in
     let e3 : record_of w k j p.epoch commit r names adds n ≡ record_of w k j epoch commit r names adds n = ap (λ (z : List ℕ). record_of w k j z commit r names adds n) (sym is) in
     let made_is : after ≡ ds ++ making k at epoch adds said ∷ [] = a ∙ ap (λ (l : List Making). made_with l (making k at epoch adds said)) b in
@@ -204,28 +204,28 @@ list_refused c w k items path seed n lt h other =
     items_refused c w k items path seed s.item n s.is (h other)
 
 pub make_refused : (c : Crypto) (w : World) (k : ℕ) (items : List WorldItem) (path : Bool) (seed : List ℕ) (list : List ProposalOrRef) (n : ℕ) → k < length w.seats → items_of w items ≡ Ok list
-    → (n ≢ 1 → member_commits c w k list path seed ≡ Err n) → n ≢ 1 → commit_answer c w k items path seed ≡ Err n
+    → (n ≢ 1 → commit_by c w k list path seed ≡ Err n) → n ≢ 1 → commit_answer c w k items path seed ≡ Err n
 make_refused c w k items path seed list n lt listed h other =
     let s = there_of w.seats k lt in
     commit_refused c w k items path seed list s.item n s.is listed (h other)
 
-pub still_there : (c : Crypto) (w mid : World) (k : ℕ) (list : List ProposalOrRef) (path : Bool) (seed : List ℕ) (x : List ℕ × Option (List ℕ)) → k < length w.seats → member_commits c w k list path seed ≡ Ok (x, mid) → k < length mid.seats
+pub still_there : (c : Crypto) (w mid : World) (k : ℕ) (list : List ProposalOrRef) (path : Bool) (seed : List ℕ) (x : List ℕ × Option (List ℕ)) → k < length w.seats → commit_by c w k list path seed ≡ Ok (x, mid) → k < length mid.seats
 still_there c w mid k list path seed x lt h =
     let s = there_of w.seats k lt in
     let world = (was_made c w k s.item list path seed x mid s.is h).world in
     subst (λ (v : World). k < length v.seats) (sym world) (rw length-set lt)
 
 pub whole_is : (c : Crypto) (w mid new : World) (k : ℕ) (items : List WorldItem) (path : Bool) (seed : List ℕ) (list : List ProposalOrRef) (x : List ℕ × Option (List ℕ)) (names adds : List (List ℕ)) (said : Reply)
-    → k < length w.seats → items_of w items ≡ Ok list → member_commits c w k list path seed ≡ Ok (x, mid)
+    → k < length w.seats → items_of w items ≡ Ok list → commit_by c w k list path seed ≡ Ok (x, mid)
     → ((s : Seat) → slice_get w.seats k ≡ Some s → IsNamed s.member.kept list names adds)
-    → ((t : Seat) (p : Pending) → slice_get mid.seats k ≡ Some t → t.member.pending ≡ Some p → recorded mid k t p.epoch x names adds ≡ (said, new))
+    → ((t : Seat) (p : Pending) → slice_get mid.seats k ≡ Some t → t.member.pending ≡ Some p → record_commit mid k t p.epoch x names adds ≡ (said, new))
     → commit_answer c w k items path seed ≡ Ok (said, new)
 whole_is c w mid new k items path seed list x names adds said lt listed does named h =
     let s = there_of w.seats k lt in
     commit_is c w mid new k items path seed list s.item x names adds said s.is listed does (named s.item s.is) h
 
 -- what can't be recorded is forgotten
-pub undone : (c : Crypto) (w mid kept new : World) (k : ℕ) (list : List ProposalOrRef) (path : Bool) (seed : List ℕ) (x : List ℕ × Option (List ℕ)) → k < length w.seats → kept ≡ mid → member_commits c w k list path seed ≡ Ok (x, mid)
+pub undone : (c : Crypto) (w mid kept new : World) (k : ℕ) (list : List ProposalOrRef) (path : Bool) (seed : List ℕ) (x : List ℕ × Option (List ℕ)) → k < length w.seats → kept ≡ mid → commit_by c w k list path seed ≡ Ok (x, mid)
     → ((s : Seat) → slice_get w.seats k ≡ Some s → s.member.pending ≡ None)
     → ((t : Seat) → slice_get kept.seats k ≡ Some t → new ≡ with_member kept k t (without_pending t.member)) → new ≡ w
 undone c w mid kept new k list path seed x lt same does free h =

@@ -1,11 +1,11 @@
 -- What an event is refused before anything grows: of which call, and never with 1, which is want of memory.
 use Rattle.std.proofs.Common.{◌≡◌, ℕ, Bool, true, not, List, [], ◌∷◌, Err, refl, subst, slice_get, arith}
 use Rattle.std.specs.Global.{Vec}
-use Rattle.mls_wire.specs.Checks.{given}
+use Rattle.mls_wire.specs.Checks.{require_some}
 use Rattle.mls_leaf.specs.Limits.{input_limit}
 use Rattle.mls_leaf.specs.WholeLaws.{is_input_fault}
 use Rattle.mls_leaf.proofs.WholeLaws.{is_input_answered}
-use Rattle.mls_types.specs.Answered.{mls_message_faults}
+use Rattle.mls_types.specs.ReadFaults.{mls_message_faults}
 use Rattle.mls_types.specs.Message.{mls_message}
 use Rattle.mls_model.specs.declared.event.Source.{Source}
 use Rattle.mls_model.specs.declared.event.Source.TheVariants.{Given, Message}
@@ -13,15 +13,15 @@ use Rattle.mls_model.specs.declared.event.WorldItem.{WorldItem}
 use Rattle.mls_model.specs.declared.event.WorldItem.TheVariants.{RefOf, Add, Remove}
 use Rattle.mls_model.specs.declared.event.Event.{Event}
 use Rattle.mls_model.specs.declared.event.Event.TheVariants as event
-use Rattle.mls_model.specs.Messages.{decoded}
+use Rattle.mls_model.specs.Messages.{decode_message}
 use Rattle.mls_model.proofs.RefusedSteps.{bind_refused, test_refused, given_refused}
 use Rattle.mls_model.specs.World.{World, seat_at, entrant_at, bytes_of, package_in, proposal_in, package_of, proposal_of, item_of}
-use Rattle.mls_world_plain.specs.Outright.{early_add_checks, first_checks, early_commit_checks, early_delivery_checks, early_join_checks, early_checks}
-use Rattle.mls_model.specs.Calls.{drop_answer}
-use Rattle.mls_world_plain.proofs.Early.{unchecked}
+use Rattle.mls_world_plain.specs.EarlyChecks.{early_add_checks, first_checks, early_commit_checks, early_delivery_checks, early_join_checks, early_checks}
+use Rattle.mls_model.specs.WorldCalls.{drop_answer}
+use Rattle.mls_world_plain.proofs.EarlyChecks.{unchecked}
 
-decoded_so : (bytes : List ℕ) → decoded bytes ≡ Err 1 → ⊥
-unfolding decoded
+decoded_so : (bytes : List ℕ) → decode_message bytes ≡ Err 1 → ⊥
+unfolding decode_message
 decoded_so bytes h = let e : is_input_fault 1 ≡ true = is_input_answered mls_message input_limit mls_message_faults bytes 1 h in cc
 
 seat_so : (w : World) (k : ℕ) → seat_at w k ≡ Err 1 → ⊥
@@ -30,7 +30,7 @@ seat_so w k h = let e = given_refused 90 (slice_get w.seats k) 1 h in omega (ari
 entrant_so : (w : World) (k : ℕ) → entrant_at w k ≡ Err 1 → ⊥
 unfolding entrant_at
 entrant_so w k h =
-    bind_refused (given 92 (slice_get w.entrants k)) _ 1 h (λ e. let a = given_refused 92 (slice_get w.entrants k) 1 e in omega (arith, a)) (λ x h1.
+    bind_refused (require_some 92 (slice_get w.entrants k)) _ 1 h (λ e. let a = given_refused 92 (slice_get w.entrants k) 1 e in omega (arith, a)) (λ x h1.
     test_refused 91 (not x.is_spent) _ 1 h1 (λ a. omega (arith, a)) (λ never. absurd cc))
 
 bytes_so : (w : World) (source : Source) → bytes_of w source ≡ Err 1 → ⊥
@@ -41,13 +41,13 @@ package_so : (w : World) (source : Source) → package_of w source ≡ Err 1 →
 unfolding package_of
 package_so w source h =
     bind_refused (bytes_of w source) _ 1 h (bytes_so w source) (λ bytes h1.
-    bind_refused (decoded bytes) _ 1 h1 (decoded_so bytes) (λ m h2. let e = given_refused 95 (package_in m) 1 h2 in omega (arith, e)))
+    bind_refused (decode_message bytes) _ 1 h1 (decoded_so bytes) (λ m h2. let e = given_refused 95 (package_in m) 1 h2 in omega (arith, e)))
 
 proposal_so : (w : World) (source : Source) → proposal_of w source ≡ Err 1 → ⊥
 unfolding proposal_of
 proposal_so w source h =
     bind_refused (bytes_of w source) _ 1 h (bytes_so w source) (λ bytes h1.
-    bind_refused (decoded bytes) _ 1 h1 (decoded_so bytes) (λ m h2. let e = given_refused 95 (proposal_in m) 1 h2 in omega (arith, e)))
+    bind_refused (decode_message bytes) _ 1 h1 (decoded_so bytes) (λ m h2. let e = given_refused 95 (proposal_in m) 1 h2 in omega (arith, e)))
 
 item_so : (w : World) (item : WorldItem) → item_of w item ≡ Err 1 → ⊥
 item_so w (RefOf source) h = bind_refused (proposal_of w source) _ 1 h (proposal_so w source) (λ v never. absurd cc)

@@ -6,8 +6,8 @@ use Rattle.std.proofs.lemmas.List.{length-append, set-get_or, map-set}
 use Rattle.std.proofs.lemmas.Option.{slice_get-map, slice_get_read, slice_get_past}
 use Rattle.mls_model.specs.Journal.{Journal, CommitMade, with_entry}
 use Rattle.mls_model.specs.World.{Entrant, Seat}
-use Rattle.mls_world_plain.specs.Stored.{before, latest, IsWithin, HasEntry, Seated, Making, seat_of, made_of, world_of, AreStored}
-use Rattle.mls_world_plain.proofs.Unrolled.{journal_stays}
+use Rattle.mls_world_plain.specs.StoredWorld.{before, latest, IsWithin, HasEntry, Seated, Making, seat_of, commit_made_of, world_of, AreStored}
+use Rattle.mls_world_plain.proofs.JournalSteps.{journal_stays}
 
 -- ---- lists
 
@@ -46,8 +46,8 @@ entry_more js more n h = record {
 pub seats_stay : (js more : List Journal) (ss : List Seated) → AllByRecursion (λ (s : Seated). IsWithin js s.journal) ss → map (seat_of (js ++ more)) ss ≡ map (seat_of js) ss
 seats_stay js more ss h = maps_alike (λ (s : Seated). IsWithin js s.journal) (seat_of (js ++ more)) (seat_of js) ss (λ s lt. ap (λ (j : Journal). the_seat s j) (journal_stays js more s.journal lt)) h
 
-pub made_stay : (js more : List Journal) (ds : List Making) → AllByRecursion (λ (d : Making). HasEntry js d.journal) ds → map (made_of (js ++ more)) ds ≡ map (made_of js) ds
-made_stay js more ds h = maps_alike (λ (d : Making). HasEntry js d.journal) (made_of (js ++ more)) (made_of js) ds (λ d e. ap (λ (j : Journal). the_made d j) (journal_stays js more d.journal e.within)) h
+pub made_stay : (js more : List Journal) (ds : List Making) → AllByRecursion (λ (d : Making). HasEntry js d.journal) ds → map (commit_made_of (js ++ more)) ds ≡ map (commit_made_of js) ds
+made_stay js more ds h = maps_alike (λ (d : Making). HasEntry js d.journal) (commit_made_of (js ++ more)) (commit_made_of js) ds (λ d e. ap (λ (j : Journal). the_made d j) (journal_stays js more d.journal e.within)) h
 
 pub stored_more : (ss : List Seated) (ds : List Making) (js more : List Journal) → AreStored ss ds js → AreStored ss ds (js ++ more)
 stored_more ss ds js more h = record {

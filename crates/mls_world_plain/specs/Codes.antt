@@ -12,7 +12,7 @@ use Rattle.mls_model.specs.Candidate.{Candidate}
 use Rattle.mls_model.specs.Member.{Member}
 use Rattle.mls_model.specs.Journal.{Entry, Journal, CommitMade}
 use Rattle.mls_model.specs.World.{Entrant, Seat, World}
-use Rattle.mls_world_plain.specs.Stored.{Seated}
+use Rattle.mls_world_plain.specs.StoredWorld.{Seated}
 
 abbrev coded_bytes : Coded (List ℕ)
 coded_bytes = coded_list coded_ℕ

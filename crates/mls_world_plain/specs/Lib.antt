@@ -1,10 +1,10 @@
 pub mod Faults
 pub mod Names
-pub mod Answers
-pub mod Stored
-pub mod Unrolled
+pub mod StepAnswer
+pub mod StoredWorld
+pub mod JournalSteps
 pub mod Codes
 pub mod Sources
-pub mod Listed
-pub mod Parts
-pub mod Outright
+pub mod CommitItems
+pub mod CallParts
+pub mod EarlyChecks

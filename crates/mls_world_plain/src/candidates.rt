@@ -8,10 +8,10 @@ ghost use Rattle.mls_wire.specs.Checks.{Answers, DoesAs};
 ghost use Rattle.mls_tree.specs.Refusals.{RefusesOutright};
 ghost use Rattle.mls_model.specs.declared.event.Reply.TheVariants as reply;
 ghost use Rattle.mls_model.specs.Candidate as candidates;
-ghost use Rattle.mls_model.specs.Calls.{candidate_answer, create_answer};
+ghost use Rattle.mls_model.specs.WorldCalls.{candidate_answer, create_answer};
 ghost use Rattle.mls_model.specs.World as model;
 ghost use Rattle.mls_world_plain.specs.Faults.{number_of};
-ghost use Rattle.mls_world_plain.specs.Parts.{candidate_made, candidate_added};
+ghost use Rattle.mls_world_plain.specs.CallParts.{make_candidate, add_candidate};
 
 use crate::error::WorldError;
 use crate::seats::Entrant;
@@ -41,8 +41,8 @@ impl<S: Suite> PlainWorld<S> {
     }
 
     /// A candidate that isn't yet in the world: 93 another has its signature key, then the checks of a candidate.
-    fn made_candidate(&self, identity: &[u8], seed: &Seed) -> Result<Candidate<S>, WorldError>
-        ensures { Answers (λ k. k) number_of (candidate_made S.crypto self.now identity.now seed.now) result }
+    fn make_candidate(&self, identity: &[u8], seed: &Seed) -> Result<Candidate<S>, WorldError>
+        ensures { Answers (λ k. k) number_of (make_candidate S.crypto self.now identity.now seed.now) result }
     {
         let key = S::sig_public(self.alloc, &sign_seed(seed))?;
         if self.has_signature_key(&key) {
@@ -54,7 +54,7 @@ impl<S: Suite> PlainWorld<S> {
 
     /// Adds a candidate, and the message of its KeyPackage.
     fn add_candidate(&mut self, candidate: Candidate<S>) -> Result<NewCandidate, WorldError>
-        ensures { DoesAs (λ v. reply.Candidate v.candidate v.message) number_of (candidate_added self.old candidate) self.old self.new result }
+        ensures { DoesAs (λ v. reply.Candidate v.candidate v.message) number_of (add_candidate self.old candidate) self.old self.new result }
     {
         let copy = match Vec::from_slice(self.alloc, candidate.message()) {
             Ok(copy) => copy,
@@ -89,7 +89,7 @@ impl<S: Suite> PlainWorld<S> {
     pub fn candidate(&mut self, identity: &[u8], seed: &Seed) -> Result<NewCandidate, WorldError>
         ensures { DoesAs (λ v. reply.Candidate v.candidate v.message) number_of (candidate_answer S.crypto self.old identity.now seed.now) self.old self.new result }
     {
-        match self.made_candidate(identity, seed) {
+        match self.make_candidate(identity, seed) {
             Ok(candidate) => self.add_candidate(candidate),
             Err(error) => Err(error),
         }
@@ -108,7 +108,7 @@ impl<S: Suite> PlainWorld<S> {
         ensures outright { RefusesOutright number_of (model.entrant_at self.old candidate) result }
     {
         let alloc = self.alloc;
-        let entrant = match self.unspent(candidate) {
+        let entrant = match self.unspent_candidate(candidate) {
             Ok(entrant) => entrant,
             Err(error) => return Err(error),
         };

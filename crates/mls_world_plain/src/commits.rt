@@ -6,18 +6,18 @@ ghost use Rattle.mls_wire.specs.Checks.{DoesAs};
 ghost use Rattle.mls_tree.specs.Refusals.{RefusesOutright};
 ghost use Rattle.mls_member.specs.Answers.{messages_of, AreShortItems};
 ghost use Rattle.mls_model.specs.declared.event.Reply.TheVariants as reply;
-ghost use Rattle.mls_model.specs.Calls.{commit_answer, drop_answer};
+ghost use Rattle.mls_model.specs.WorldCalls.{commit_answer, drop_answer};
 ghost use Rattle.mls_model.specs.Make.{listed_of};
 ghost use Rattle.mls_model.specs.Member as members;
 ghost use Rattle.mls_model.specs.World as model;
 ghost use Rattle.mls_world_plain.specs.Faults.{number_of};
-ghost use Rattle.mls_world_plain.specs.Outright.{early_commit_checks};
-ghost use Rattle.mls_world_plain.specs.Parts.{member_commits, recorded, IsNamed};
+ghost use Rattle.mls_world_plain.specs.EarlyChecks.{early_commit_checks};
+ghost use Rattle.mls_world_plain.specs.CallParts.{commit_by, record_commit, IsNamed};
 
-use crate::added::added_by;
+use crate::commit_adds::added_by;
 use crate::entry::Entry;
 use crate::error::WorldError;
-use crate::names::names_in;
+use crate::commit_names::names_in;
 use crate::seats::Making;
 use crate::world::PlainWorld;
 use mls_kdf::{Secret, Seed};
@@ -44,7 +44,7 @@ pub(crate) struct Named {
 }
 
 /// The Welcome of a commit with the number of its message.
-fn numbered(alloc: Global, number: usize, made: &Made) -> Result<Option<(usize, Bytes)>, AllocError>
+fn welcome_with_number(alloc: Global, number: usize, made: &Made) -> Result<Option<(usize, Bytes)>, AllocError>
     ensures { IfOk result (λ o. o ≡ option_map (λ (v : Vec ℕ). (number, v.items)) made.now.welcome) }
 {
     match &made.welcome {
@@ -69,7 +69,7 @@ impl<S: Suite> PlainWorld<S> {
     }
 
     /// Member k commits a list.
-    fn commit_of(
+    fn commit_by(
         &mut self,
         k: usize,
         list: &[Item],
@@ -78,7 +78,7 @@ impl<S: Suite> PlainWorld<S> {
     ) -> Result<Made, WorldError>
         requires there { k < length self.old.seats }
         requires short { AreShortItems list.now }
-        ensures does { DoesAs messages_of number_of (member_commits S.crypto self.old k (map listed_of list.now) path seed.now) self.old self.new result }
+        ensures does { DoesAs messages_of number_of (commit_by S.crypto self.old k (map listed_of list.now) path seed.now) self.old self.new result }
         ensures free { IfOk result (λ _. (s : model.Seat) → slice_get self.old.seats k ≡ Some s → s.member.pending ≡ None) }
     {
         let seat = &mut self.seats[k];
@@ -116,7 +116,7 @@ impl<S: Suite> PlainWorld<S> {
     fn record(&mut self, k: usize, made: Made, named: Named) -> Result<NewCommit, WorldError>
         requires { k < length self.old.seats }
         ensures ok { IfOk result (λ v. (s : model.Seat) (p : members.Pending) → slice_get self.old.seats k ≡ Some s → s.member.pending ≡ Some p
-            → recorded self.old k s p.epoch (messages_of made) named.names.items named.adds.items ≡ (reply.Commit v.message v.welcome, self.new)) }
+            → record_commit self.old k s p.epoch (messages_of made) named.names.items named.adds.items ≡ (reply.Commit v.message v.welcome, self.new)) }
         ensures err { OnErr result (self.new ≡ self.old) }
         ensures memory { IfErr result (λ e. number_of e ≡ 1) }
     {
@@ -124,7 +124,7 @@ impl<S: Suite> PlainWorld<S> {
         self.messages.reserve(2)?;
         self.made.reserve(1)?;
         let message = self.messages.len();
-        let welcome = numbered(self.alloc, message + 1, &made)?;
+        let welcome = welcome_with_number(self.alloc, message + 1, &made)?;
         let commit = Bytes::from_vec(Vec::from_slice(self.alloc, &made.commit)?);
         let Named { names, adds } = named;
         let before = self.seats[k].journal;
@@ -174,7 +174,7 @@ impl<S: Suite> PlainWorld<S> {
             Err(error) => return Err(error),
         };
         let named = self.named(member, &list)?;
-        let made = match self.commit_of(member, &list, path, seed) {
+        let made = match self.commit_by(member, &list, path, seed) {
             Ok(made) => made,
             Err(error) => return Err(error),
         };

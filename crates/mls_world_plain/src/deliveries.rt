@@ -4,20 +4,20 @@ ghost use Rattle.std.specs.Prelude.{◌≡◌, ◌<◌, length, Ok, IfOk};
 ghost use Rattle.mls_wire.specs.Checks.{DoesAs};
 ghost use Rattle.mls_tree.specs.Refusals.{RefusesOutright};
 ghost use Rattle.mls_model.specs.declared.event.Reply.TheVariants as reply;
-ghost use Rattle.mls_model.specs.Calls.{deliver_answer};
+ghost use Rattle.mls_model.specs.WorldCalls.{deliver_answer};
 ghost use Rattle.mls_model.specs.Journal.{list_in, list_of_body, list_of_message, entry_of};
 ghost use Rattle.mls_types.specs.declared.public_message.PublicMessage as messages;
 ghost use Rattle.mls_types.specs.declared.message.MlsMessage as sent;
 ghost use Rattle.mls_view.specs.Shown.{ShowsPublic, Shows};
 ghost use Rattle.mls_world_plain.specs.Faults.{number_of};
-ghost use Rattle.mls_world_plain.specs.Outright.{early_delivery_checks};
-ghost use Rattle.mls_world_plain.specs.Parts.{seat_verdict, advances};
-ghost use Rattle.mls_world_plain.specs.Stored.{seat_of, AreMore};
+ghost use Rattle.mls_world_plain.specs.EarlyChecks.{early_delivery_checks};
+ghost use Rattle.mls_world_plain.specs.CallParts.{seat_verdict, is_advanced};
+ghost use Rattle.mls_world_plain.specs.StoredWorld.{seat_of, AreMore};
 
 use crate::entry::Entry;
 use crate::error::WorldError;
 use crate::journal::Journals;
-use crate::names::names_in;
+use crate::commit_names::names_in;
 use crate::seats::Seat;
 use crate::sources::bytes_of;
 use crate::world::PlainWorld;
@@ -30,7 +30,7 @@ use mls_view::{ContentView, MessageView, PublicMessageView};
 use std::alloc::{AllocError, Global};
 
 /// The list of the commit that a PublicMessage has, empty where it has none.
-fn list_of(alloc: Global, view: &PublicMessageView<'_>) -> Result<Vec<ProposalOrRef>, AllocError>
+fn list_of_body(alloc: Global, view: &PublicMessageView<'_>) -> Result<Vec<ProposalOrRef>, AllocError>
     ensures { IfOk result (λ v. (shown : messages.PublicMessage) → ShowsPublic view.now shown → v.items ≡ list_of_body shown.content.body) }
 {
     let ContentView::Commit { proposals, .. } = &view.content.content else {
@@ -44,11 +44,11 @@ fn list_of(alloc: Global, view: &PublicMessageView<'_>) -> Result<Vec<ProposalOr
 }
 
 /// The list of the commit that a message has, empty where it has none.
-fn list_said(alloc: Global, message: &MessageView<'_>) -> Result<Vec<ProposalOrRef>, AllocError>
+fn list_of_message(alloc: Global, message: &MessageView<'_>) -> Result<Vec<ProposalOrRef>, AllocError>
     ensures { IfOk result (λ v. (value : sent.MlsMessage) → Shows message.now value → v.items ≡ list_of_message (Ok value)) }
 {
     match message {
-        MessageView::PublicMessage(view) => list_of(alloc, view),
+        MessageView::PublicMessage(view) => list_of_body(alloc, view),
         _ => Ok(Vec::new(alloc)),
     }
 }
@@ -58,7 +58,7 @@ fn list_in(alloc: Global, bytes: &[u8]) -> Result<Vec<ProposalOrRef>, AllocError
     ensures { IfOk result (λ v. v.items ≡ list_in bytes.now) }
 {
     match MessageView::read(bytes) {
-        Ok(message) => list_said(alloc, &message),
+        Ok(message) => list_of_message(alloc, &message),
         Err(_) => Ok(Vec::new(alloc)),
     }
 }
@@ -76,7 +76,7 @@ fn entry_of<S: Suite>(alloc: Global, member: &Member<S>, bytes: &[u8]) -> Result
 
 /// Whether a commit was followed into an epoch.
 fn is_advanced(effect: &Effect) -> bool
-    ensures { result ≡ advances effect.now }
+    ensures { result ≡ is_advanced effect.now }
 {
     match effect {
         Effect::Advanced { epoch: _ } => true,
@@ -88,7 +88,7 @@ fn is_advanced(effect: &Effect) -> bool
 
 /// Hands bytes to a member. Its journal has one more entry where it follows a commit.
 #[tactic(auto, using(crate::proofs::Changing::advanced, crate::proofs::Changing::stayed, crate::proofs::Changing::failed, crate::proofs::Changing::one_behind, crate::proofs::Changing::none_behind, crate::proofs::Changing::last_within))]
-fn hand<S: Suite>(
+fn hand_bytes<S: Suite>(
     alloc: Global,
     seat: &mut Seat<S>,
     journals: &mut Journals,
@@ -120,7 +120,7 @@ fn hand<S: Suite>(
 impl<S: Suite> PlainWorld<S> {
     /// Delivers a source to a member: 90 no such member, 94 no such message, then the member's checks. The world refuses
     /// no bytes itself. A commit that is followed is a new entry of the member's journal (RFC 9420, 6, 12.1 and 12.4.2).
-    #[tactic(auto, using(crate::proofs::Changing::no_member, crate::proofs::Stores::seat_missing, crate::proofs::Calling::stands_at, crate::proofs::Early::delivery_nobody))]
+    #[tactic(auto, using(crate::proofs::Changing::no_member, crate::proofs::Stores::seat_missing, crate::proofs::Calling::stands_at, crate::proofs::EarlyChecks::delivery_nobody))]
     pub fn deliver(&mut self, member: usize, source: &Source) -> Result<Effect, WorldError>
         ensures does { DoesAs (λ e. reply.Delivered e) number_of (deliver_answer S.crypto self.old member source.now) self.old self.new result }
         // 90 and 94 come whatever memory there is.
@@ -130,6 +130,6 @@ impl<S: Suite> PlainWorld<S> {
             return Err(WorldError::NoSuchMember);
         };
         let bytes = bytes_of(&self.messages, source)?;
-        hand(self.alloc, seat, &mut self.journals, bytes)
+        hand_bytes(self.alloc, seat, &mut self.journals, bytes)
     }
 }

@@ -5,9 +5,9 @@ ghost use Rattle.mls_wire.specs.Checks.{DoesAs};
 ghost use Rattle.mls_tree.specs.Refusals.{RefusesOutright};
 ghost use Rattle.mls_model.specs.declared.event.Reply.TheVariants as reply;
 ghost use Rattle.mls_model.specs.Run.{answer};
-ghost use Rattle.mls_world_plain.specs.Answers.{Steps};
+ghost use Rattle.mls_world_plain.specs.StepAnswer.{DoesStep};
 ghost use Rattle.mls_world_plain.specs.Faults.{number_of};
-ghost use Rattle.mls_world_plain.specs.Outright.{early_checks};
+ghost use Rattle.mls_world_plain.specs.EarlyChecks.{early_checks};
 
 use crate::candidates::NewCandidate;
 use crate::commits::NewCommit;
@@ -81,7 +81,7 @@ impl<S: Suite> PlainWorld<S> {
     /// One event: a refusal is the reply, but for want of memory, at which the world is as before.
     #[tactic(auto, unfolding(mls_model::specs::Run::step))]
     pub fn step(&mut self, event: &Event) -> Result<Reply, AllocError>
-        ensures does { Steps S.crypto event.now self.old self.new result }
+        ensures does { DoesStep S.crypto event.now self.old self.new result }
         // What is decided before anything grows is the reply whatever memory there is.
         ensures refused { (n : ℕ) → early_checks self.old event.now ≡ Err n → (result ≡ Ok (reply.Refused n)) × (self.new ≡ self.old) }
     {

@@ -7,11 +7,11 @@ ghost use Rattle.mls_wire.specs.Checks.{DoesAs};
 ghost use Rattle.mls_tree.specs.Refusals.{RefusesOutright};
 ghost use Rattle.mls_leaf.specs.KeyPackage.{key_package};
 ghost use Rattle.mls_model.specs.declared.event.Reply.TheVariants as reply;
-ghost use Rattle.mls_model.specs.Calls.{join_answer};
+ghost use Rattle.mls_model.specs.WorldCalls.{join_answer};
 ghost use Rattle.mls_model.specs.World as model;
 ghost use Rattle.mls_world_plain.specs.Faults.{number_of};
-ghost use Rattle.mls_world_plain.specs.Outright.{early_join_checks};
-ghost use Rattle.mls_world_plain.specs.Parts.{adds_for, made_at, IsThere, FirstIs};
+ghost use Rattle.mls_world_plain.specs.EarlyChecks.{early_join_checks};
+ghost use Rattle.mls_world_plain.specs.CallParts.{adds_for, commit_made_at, IsThere, FirstIs};
 
 use crate::error::WorldError;
 use crate::seats::Making;
@@ -68,7 +68,7 @@ fn adds_for(source: &Source, offered: &[u8], making: &Making) -> bool
 }
 
 /// The number of the first record that has that Welcome and adds that KeyPackage.
-fn first_for(made: &[Making], source: &Source, offered: &[u8]) -> Option<usize>
+fn first_making_for(made: &[Making], source: &Source, offered: &[u8]) -> Option<usize>
     ensures first { FirstIs made.now source.now offered.now result }
     ensures there { IfSome result (λ i. i < length made.now) }
 {
@@ -83,11 +83,11 @@ fn first_for(made: &[Making], source: &Source, offered: &[u8]) -> Option<usize>
 
 impl<S: Suite> PlainWorld<S> {
     /// The number of the first commit whose Welcome that is and which adds the candidate's own KeyPackage.
-    fn made_for(&self, source: &Source, candidate: &Candidate<S>) -> Option<usize>
-        ensures first { model.made_for self.now.made source.now candidate.now ≡ made_at self.now.made result }
+    fn commit_for_joiner(&self, source: &Source, candidate: &Candidate<S>) -> Option<usize>
+        ensures first { model.commit_for_joiner self.now.made source.now candidate.now ≡ commit_made_at self.now.made result }
         ensures there { IsThere self.now.made result }
     {
-        first_for(&self.made, source, package_of(candidate))
+        first_making_for(&self.made, source, package_of(candidate))
     }
 
     /// A candidate joins by a Welcome: 92 no such candidate, 91 it became a member, 94 no such message, then the checks of a
@@ -99,7 +99,7 @@ impl<S: Suite> PlainWorld<S> {
         ensures outright { RefusesOutright number_of (early_join_checks self.old candidate source.now) result }
     {
         let alloc = self.alloc;
-        let entrant = match self.unspent(candidate) {
+        let entrant = match self.unspent_candidate(candidate) {
             Ok(entrant) => entrant,
             Err(error) => return Err(error),
         };
@@ -113,7 +113,7 @@ impl<S: Suite> PlainWorld<S> {
             Err(refusal) => return Err(WorldError::Member(refusal)),
         };
         let epoch = joined.member.epoch_number();
-        match self.made_for(source, own) {
+        match self.commit_for_joiner(source, own) {
             Some(made) => {
                 let member = self.follow_member(candidate, joined.member, made)?;
                 Ok(NewMember { member, epoch })

@@ -3,8 +3,8 @@
 ghost use Rattle.std.specs.Prelude.{◌≡◌, ◌<◌, List, [], ◌∷◌, ◌++◌, length, option_map, slice_get, IfOk, OnOk, OnErr};
 ghost use Rattle.std.specs.Option.{option_copied};
 ghost use Rattle.mls_model.specs.Journal as model;
-ghost use Rattle.mls_world_plain.specs.Stored.{before, journal_at};
-ghost use Rattle.mls_world_plain.specs.Unrolled.{journal_of, GoesBack, HasStep, IsBefore};
+ghost use Rattle.mls_world_plain.specs.StoredWorld.{before, journal_at};
+ghost use Rattle.mls_world_plain.specs.JournalSteps.{journal_of, GoesBack, HasStep, IsBefore};
 
 use crate::entry::{Entry, Step};
 use mls_model::Origin;
@@ -23,16 +23,16 @@ impl Model for Journals {
 
     ghost Value = { List model.Journal };
 
-    ghost use Rattle.mls_world_plain.specs.Unrolled.{unrolled, GoBack};
+    ghost use Rattle.mls_world_plain.specs.JournalSteps.{journals_of, GoBack};
 
-    ghost view = { λ j. unrolled [] j.steps.items };
+    ghost view = { λ j. journals_of [] j.steps.items };
 
     ghost invariant = { λ j. GoBack 0 j.steps.items };
 }
 
 impl Journals {
     /// No journals.
-    #[tactic(auto, using(crate::proofs::Unrolled::goes_none), unfolding(crate::specs::Unrolled::unrolled))]
+    #[tactic(auto, using(crate::proofs::JournalSteps::goes_none), unfolding(crate::specs::JournalSteps::journals_of))]
     pub(crate) fn new(alloc: Global) -> Journals
         ensures { result ≡ [] }
     {
@@ -42,7 +42,7 @@ impl Journals {
     }
 
     /// One more, which begins here or goes on from one that is there.
-    #[tactic(auto, using(crate::proofs::Unrolled::one_more, crate::proofs::Unrolled::as_many, crate::proofs::Unrolled::goes_behind))]
+    #[tactic(auto, using(crate::proofs::JournalSteps::one_more, crate::proofs::JournalSteps::as_many, crate::proofs::JournalSteps::goes_behind))]
     fn add(&mut self, step: Step) -> Result<usize, AllocError>
         requires { GoesBack (length self.old) step }
         ensures ok { OnOk result (self.new ≡ self.old ++ (journal_of self.old step ∷ [])) }
@@ -56,7 +56,7 @@ impl Journals {
 
     /// One more, which begins here.
     pub(crate) fn begin(&mut self, origin: Origin) -> Result<usize, AllocError>
-        ensures ok { OnOk result (self.new ≡ self.old ++ (model.begun origin ∷ [])) }
+        ensures ok { OnOk result (self.new ≡ self.old ++ (model.new_journal origin ∷ [])) }
         ensures number { IfOk result (λ n. n ≡ length self.old) }
         ensures err { OnErr result (self.new ≡ self.old) }
     {
@@ -74,7 +74,7 @@ impl Journals {
     }
 
     /// Takes back the last one.
-    #[tactic(auto, using(crate::proofs::Unrolled::taken_back, crate::proofs::Unrolled::goes_less))]
+    #[tactic(auto, using(crate::proofs::JournalSteps::taken_back, crate::proofs::JournalSteps::goes_less))]
     pub(crate) fn take_back(&mut self)
         ensures { (js : List model.Journal) (j : model.Journal) → self.old ≡ js ++ (j ∷ []) → self.new ≡ js }
     {
@@ -116,7 +116,7 @@ impl Journals {
     }
 
     /// The number of the journal before the latest entry of journal n, where it has one.
-    #[tactic(auto, using(crate::proofs::Unrolled::before_entry))]
+    #[tactic(auto, using(crate::proofs::JournalSteps::before_entry))]
     fn number_before(&self, number: usize) -> Option<usize>
         requires { number < length self.now }
         ensures { IsBefore self.now number result }
@@ -141,7 +141,7 @@ impl<'a> Model for Journal<'a> {
 
     ghost Value = { model.Journal };
 
-    ghost use Rattle.mls_world_plain.specs.Stored.{journal_at};
+    ghost use Rattle.mls_world_plain.specs.StoredWorld.{journal_at};
 
     ghost view = { λ j. journal_at j.journals.now j.number };
 

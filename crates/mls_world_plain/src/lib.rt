@@ -1,7 +1,7 @@
 //! What each event does in a world of members (RFC 9420, 11 and 12), whatever world that is.
 #![tactic(auto)]
 
-mod added;
+mod commit_adds;
 mod candidates;
 mod commits;
 mod deliveries;
@@ -12,7 +12,7 @@ mod joins;
 mod journal;
 mod laws;
 mod members;
-mod names;
+mod commit_names;
 mod proposals;
 mod seats;
 mod sources;

@@ -30,7 +30,7 @@ impl<S: Suite> PlainWorld<S> {
 
     /// The candidate of this number: 92 there is none, 91 it became a member.
     #[tactic(auto, unfolding(mls_model::specs::World::entrant_at))]
-    pub(crate) fn unspent(&self, n: usize) -> Result<&Entrant<S>, WorldError>
+    pub(crate) fn unspent_candidate(&self, n: usize) -> Result<&Entrant<S>, WorldError>
         ensures { AnswersOutright (λ e. e.now) number_of (model.entrant_at self.now n) result }
     {
         let Some(entrant) = self.entrants.get(n) else {
@@ -50,7 +50,7 @@ impl<S: Suite> PlainWorld<S> {
         origin: Origin,
     ) -> Result<usize, AllocError>
         requires { n < length self.old.entrants }
-        ensures ok { OnOk result ((e : model.Entrant) → slice_get self.old.entrants n ≡ Some e → self.new ≡ model.with_joined self.old n e (record { member = member; journal = journals.begun origin })) }
+        ensures ok { OnOk result ((e : model.Entrant) → slice_get self.old.entrants n ≡ Some e → self.new ≡ model.with_new_member self.old n e (record { member = member; journal = journals.new_journal origin })) }
         ensures number { IfOk result (λ k. k ≡ length self.old.seats) }
         ensures err { OnErr result (self.new ≡ self.old) }
     {
@@ -83,7 +83,7 @@ impl<S: Suite> PlainWorld<S> {
         requires candidate { n < length self.old.entrants }
         requires made { made < length self.old.made }
         ensures ok { OnOk result ((e : model.Entrant) (d : journals.CommitMade) → slice_get self.old.entrants n ≡ Some e → slice_get self.old.made made ≡ Some d
-            → self.new ≡ model.with_joined self.old n e (record { member = member; journal = journals.with_entry d.journal d.entry })) }
+            → self.new ≡ model.with_new_member self.old n e (record { member = member; journal = journals.with_entry d.journal d.entry })) }
         ensures number { IfOk result (λ k. k ≡ length self.old.seats) }
         ensures err { OnErr result (self.new ≡ self.old) }
     {

@@ -33,7 +33,7 @@ pub(crate) struct Seat<S: Suite> {
 }
 
 impl<S: Suite> Model for Seat<S> {
-    ghost use Rattle.mls_world_plain.specs.Stored.{Seated};
+    ghost use Rattle.mls_world_plain.specs.StoredWorld.{Seated};
     ghost use Rattle.mls_world_plain.specs.Codes.{coded_seated};
 
     ghost Value = { Seated };
@@ -55,7 +55,7 @@ pub(crate) struct Making {
 }
 
 impl Model for Making {
-    ghost use Rattle.mls_world_plain.specs.Stored as stored;
+    ghost use Rattle.mls_world_plain.specs.StoredWorld as stored;
 
     ghost Value = { stored.Making };
 

@@ -11,11 +11,11 @@ ghost use Rattle.mls_model.specs.World as model;
 ghost use Rattle.mls_model.specs.declared.item.Item.TheVariants as item;
 ghost use Rattle.mls_leaf.specs.declared.proposal.Proposal.TheVariants as proposes;
 ghost use Rattle.mls_world_plain.specs.Faults.{number_of};
-ghost use Rattle.mls_world_plain.specs.Outright.{first_checks};
+ghost use Rattle.mls_world_plain.specs.EarlyChecks.{first_checks};
 ghost use Rattle.mls_types.specs.declared.public_message.PublicMessage as messages;
 ghost use Rattle.mls_view.specs.Shown.{ShowsPublic};
 ghost use Rattle.mls_member.specs.Process.{IsShortView};
-ghost use Rattle.mls_world_plain.specs.Sources.{package_read, reference_read, reference_said};
+ghost use Rattle.mls_world_plain.specs.Sources.{read_package, read_reference, reference_in};
 
 use crate::error::WorldError;
 use crate::world::PlainWorld;
@@ -44,8 +44,8 @@ pub(crate) fn bytes_of<'a>(
 
 /// The KeyPackage that bytes are: decoding, 95 a message of another kind.
 fn read_package(alloc: Global, bytes: &[u8]) -> Result<KeyPackage, WorldError>
-    ensures answer { Answers (λ k. k) number_of (package_read bytes.now) result }
-    ensures outright { RefusesOutright number_of (package_read bytes.now) result }
+    ensures answer { Answers (λ k. k) number_of (read_package bytes.now) result }
+    ensures outright { RefusesOutright number_of (read_package bytes.now) result }
     ensures below { IfOk result (λ k. IsBelow (2 ^ 27) key_package_format k) }
 {
     match MessageView::read(bytes)? {
@@ -57,7 +57,7 @@ fn read_package(alloc: Global, bytes: &[u8]) -> Result<KeyPackage, WorldError>
 /// The reference of the proposal that a PublicMessage has (RFC 9420, 5.2): 95 it has none.
 fn reference_in(view: &PublicMessageView<'_>) -> Result<Secret, WorldError>
     requires { IsShortView view.now }
-    ensures { (shown : messages.PublicMessage) → ShowsPublic view.now shown → AnswersOutright (λ r. r) number_of (reference_said shown.content) result }
+    ensures { (shown : messages.PublicMessage) → ShowsPublic view.now shown → AnswersOutright (λ r. r) number_of (reference_in shown.content) result }
 {
     match &view.content.content {
         ContentView::Proposal(_) => Ok(view.reference()),
@@ -67,7 +67,7 @@ fn reference_in(view: &PublicMessageView<'_>) -> Result<Secret, WorldError>
 
 /// The reference of the proposal whose message bytes are: decoding, 95 a message of another kind.
 fn read_reference(bytes: &[u8]) -> Result<Secret, WorldError>
-    ensures { AnswersOutright (λ r. r) number_of (reference_read bytes.now) result }
+    ensures { AnswersOutright (λ r. r) number_of (read_reference bytes.now) result }
 {
     match MessageView::read(bytes)? {
         MessageView::PublicMessage(view) => reference_in(&view),
@@ -92,7 +92,7 @@ impl<S: Suite> PlainWorld<S> {
     }
 
     /// The KeyPackage of a source: 94, decoding, 95 a message of another kind.
-    #[tactic(auto, unfolding(mls_model::specs::World::package_of, crate::specs::Sources::package_read))]
+    #[tactic(auto, unfolding(mls_model::specs::World::package_of, crate::specs::Sources::read_package))]
     pub(crate) fn package_of(&self, source: &Source) -> Result<KeyPackage, WorldError>
         ensures answer { Answers (λ k. k) number_of (model.package_of self.now source.now) result }
         ensures outright { RefusesOutright number_of (model.package_of self.now source.now) result }

@@ -26,7 +26,7 @@ pub struct PlainWorld<S: Suite> {
 impl<S: Suite> Model for PlainWorld<S> {
     ghost use Rattle.mls_model.specs.World as model;
     ghost use Rattle.mls_world_plain.specs.Codes.{coded_world};
-    ghost use Rattle.mls_world_plain.specs.Stored.{world_of, AreStored};
+    ghost use Rattle.mls_world_plain.specs.StoredWorld.{world_of, AreStored};
 
     ghost Value = { model.World };
 

@@ -1,6 +1,6 @@
 //! What `mls check` prints, by way of `serve`.
 
-use crate::tests::printed;
+use crate::tests::serve_file;
 use std::test::Fail;
 
 /// `examples/tree.hex`. The tree hash is Python's SHA-256 of `01 00000000 01` and the leaf.
@@ -61,7 +61,7 @@ fn checks_and_refuses(rt: HostRuntime) -> Result<(), Fail> {
         (&["mls", "check", "FILE", "--suite=f002"], "", 2, OTHER),
     ];
     for (words, file, status, text) in table {
-        let (answer, out) = printed(alloc, words, file.as_bytes())?;
+        let (answer, out) = serve_file(alloc, words, file.as_bytes())?;
         assert_eq!(rt; answer, status);
         assert!(rt; out.as_slice() == text.as_bytes());
     }

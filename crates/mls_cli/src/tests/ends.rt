@@ -3,7 +3,7 @@
 ghost use Rattle.std.specs.Prelude.{Some, false};
 
 use crate::arguments::job;
-use crate::opened;
+use crate::open_source;
 use crate::serving::serve;
 use crate::tests::rows::{JOIN, JOIN_TEXT};
 use crate::tests::{KEY_PACKAGE, OUT_OF_MEMORY, TEXT, unless_out_of_memory};
@@ -134,7 +134,7 @@ fn stops_a_replay_without_memory(rt: HostRuntime) -> Result<(), Fail> {
 /// The standard input is there; a file that isn't can't be opened.
 #[test]
 fn opens_the_standard_input(rt: HostRuntime) -> Result<(), Fail> {
-    assert!(rt; opened(&rt, "-").is_some());
-    assert!(rt; opened(&rt, "no file of this name").is_none());
+    assert!(rt; open_source(&rt, "-").is_some());
+    assert!(rt; open_source(&rt, "no file of this name").is_none());
     Ok(())
 }

@@ -3,7 +3,7 @@
 use crate::arguments::job;
 use crate::serving::serve;
 use crate::tests::rows::{EXPECTED, EXPECTED_TEXT, JOIN, JOIN_TEXT};
-use crate::tests::{Broken, OUT_OF_MEMORY, printed, unless_out_of_memory, with_room};
+use crate::tests::{Broken, OUT_OF_MEMORY, serve_file, unless_out_of_memory, with_room};
 use mls_cli_text::{In, Out};
 use std::alloc::{AllocError, Global};
 use std::test::Fail;
@@ -116,7 +116,7 @@ fn replays_events(rt: HostRuntime) -> Result<(), Fail> {
     for (events, status, text) in table {
         let file = recording_of_both(alloc, ALONE, events)?;
         let expected = format!(in alloc; "{BEGUN}{text}{ADA}")?;
-        let (answer, out) = printed(alloc, WORDS, file.as_bytes())?;
+        let (answer, out) = serve_file(alloc, WORDS, file.as_bytes())?;
         assert_eq!(rt; answer, status, "for {events}");
         assert!(rt; out.as_slice() == expected.as_bytes(), "for {events}");
     }
@@ -147,7 +147,7 @@ fn replays_less(rt: HostRuntime) -> Result<(), Fail> {
     ];
     for (events, status, text) in table {
         let file = recording_of(alloc, events)?;
-        let (answer, out) = printed(alloc, WORDS, file.as_bytes())?;
+        let (answer, out) = serve_file(alloc, WORDS, file.as_bytes())?;
         assert_eq!(rt; answer, status, "for {events}");
         assert!(rt; out.as_slice() == text.as_bytes(), "for {events}");
     }
@@ -182,7 +182,7 @@ fn refuses_recordings(rt: HostRuntime) -> Result<(), Fail> {
         ),
     ];
     for (file, text) in table {
-        let (status, out) = printed(alloc, WORDS, file.as_bytes())?;
+        let (status, out) = serve_file(alloc, WORDS, file.as_bytes())?;
         assert_eq!(rt; status, 1, "for {file}");
         assert!(rt; out.as_slice() == text.as_bytes(), "for {file}");
     }

@@ -1,7 +1,7 @@
 //! Recordings of whole groups with what is printed of them, by way of `serve`. The replies, the tree hashes and the
 //! authenticators are those of the definitions, which an interpreter ran.
 
-use crate::tests::printed;
+use crate::tests::serve_file;
 use std::test::Fail;
 
 /// A sole member commits an empty list, and follows its commit.
@@ -450,7 +450,7 @@ fn replays_groups(rt: HostRuntime) -> Result<(), Fail> {
         (LAST_EPOCH, 0, LAST_EPOCH_TEXT),
     ];
     for (recording, status, text) in table {
-        let (answer, out) = printed(alloc, &["mls", "replay", "FILE"], recording.as_bytes())?;
+        let (answer, out) = serve_file(alloc, &["mls", "replay", "FILE"], recording.as_bytes())?;
         assert_eq!(rt; answer, status);
         assert!(rt; out.as_slice() == text.as_bytes());
     }

@@ -1,6 +1,6 @@
 //! What `mls vectors` prints, by way of `serve`.
 
-use crate::tests::printed;
+use crate::tests::serve_file;
 use std::alloc::{AllocError, Global};
 use std::test::Fail;
 
@@ -91,7 +91,7 @@ fn judges(rt: HostRuntime) -> Result<(), Fail> {
         ),
     ];
     for (file, status, text) in table {
-        let (answer, out) = printed(alloc, WORDS, file.as_bytes())?;
+        let (answer, out) = serve_file(alloc, WORDS, file.as_bytes())?;
         assert_eq!(rt; answer, status, "for {file}");
         assert!(rt; out.as_slice() == text.as_bytes());
     }
@@ -138,18 +138,18 @@ fn refuses_files(rt: HostRuntime) -> Result<(), Fail> {
         ),
     ];
     for (file, text) in table {
-        let (status, out) = printed(alloc, WORDS, file.as_bytes())?;
+        let (status, out) = serve_file(alloc, WORDS, file.as_bytes())?;
         assert_eq!(rt; status, 1, "for {file}");
         assert!(rt; out.as_slice() == text.as_bytes());
     }
-    let (status, out) = printed(alloc, WORDS, b"[\xff]")?;
+    let (status, out) = serve_file(alloc, WORDS, b"[\xff]")?;
     assert_eq!(rt; status, 1);
     assert!(rt; out.as_slice() == BAD_JSON.as_bytes());
     Ok(())
 }
 
 /// So many copies of a text.
-pub fn repeated(alloc: Global, text: &str, times: usize) -> Result<String, AllocError> {
+pub fn repeat_text(alloc: Global, text: &str, times: usize) -> Result<String, AllocError> {
     let mut all = String::new(alloc);
     for _ in 0..times {
         all.push_str(text)?;
@@ -165,12 +165,12 @@ fn limits(rt: HostRuntime) -> Result<(), Fail> {
         (201, 1, BAD_JSON),
         (1, 8161, "0: fail\npassed 0 of 1\n"),
     ] {
-        let label = repeated(alloc, "a", label)?;
-        let okm = repeated(alloc, "00", okm)?;
+        let label = repeat_text(alloc, "a", label)?;
+        let okm = repeat_text(alloc, "00", okm)?;
         let file = format!(in alloc;
             "[{{\"kind\":\"expand\",\"secret\":\"\",\"label\":\"{label}\",\"context\":\"\",\"out\":\"{okm}\"}}]"
         )?;
-        let (status, out) = printed(alloc, WORDS, file.as_bytes())?;
+        let (status, out) = serve_file(alloc, WORDS, file.as_bytes())?;
         assert_eq!(rt; status, 1);
         assert!(rt; out.as_slice() == text.as_bytes());
     }

@@ -1,5 +1,5 @@
 use Rattle.std.proofs.Common.{◌≡◌, true, false, rules, arith}
-use Rattle.mls_cli_text.specs.File.{is_hex}
+use Rattle.mls_cli_text.specs.HexFile.{is_hex}
 use Rattle.mls_cli_check.proofs.Texts.{group_no_hex, group_too_long, group_is}
 use Rattle.mls_cli_check.proofs.require_group.Goals as goal
 

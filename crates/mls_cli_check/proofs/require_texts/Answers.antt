@@ -1,5 +1,5 @@
 use Rattle.std.proofs.Common.{◌≡◌, true, false, is_some, rules}
-use Rattle.mls_cli_text.specs.File.{bytes_in}
+use Rattle.mls_cli_text.specs.HexFile.{bytes_in}
 use Rattle.mls_cli_check.proofs.Texts.{texts_no_file, handed_on}
 use Rattle.mls_cli_check.proofs.require_texts.Goals as goal
 

@@ -1,5 +1,5 @@
 use Rattle.mls_theorems.proofs.laws_of_entries.Goals as goal
-use Rattle.mls_theorems.proofs.Along.{received_along, made_along}
+use Rattle.mls_theorems.proofs.CommitEntries.{received_along, made_along}
 use Rattle.mls_theorems.proofs.Pends.{made_pends}
 
 pub returns : goal.returns

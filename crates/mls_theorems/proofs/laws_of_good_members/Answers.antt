@@ -5,7 +5,7 @@ use Rattle.mls_theorems.proofs.Entered.{joined_good}
 use Rattle.mls_theorems.proofs.Next.{is_next}
 use Rattle.mls_theorems.proofs.Offered.{candidate_good}
 use Rattle.mls_theorems.proofs.Proposing.{added_good, updated_good, removed_good}
-use Rattle.mls_theorems.proofs.Still.{dropped_good}
+use Rattle.mls_theorems.proofs.UnchangedMembers.{dropped_good}
 
 pub returns : goal.returns
 returns c = record {

@@ -1,6 +1,6 @@
 use Rattle.mls_tree_model.proofs.laws_of_parent_hashes.Goals as goal
-use Rattle.mls_tree_model.proofs.MemberLaws.{original-none}
-use Rattle.mls_tree_model.proofs.OriginalLaws.{original-enter, original-with}
+use Rattle.mls_tree_model.proofs.MemberLaws.{original_tree-none}
+use Rattle.mls_tree_model.proofs.OriginalLaws.{original_tree-enter, original_tree-with}
 use Rattle.mls_tree_model.proofs.ResolutionLaws.{hash_at-enter}
 use Rattle.mls_tree_model.proofs.AddLaws.{valid-add}
 use Rattle.mls_tree_model.proofs.MergeLaws.{merge_head, valid-merge}
@@ -10,9 +10,9 @@ use Rattle.mls_tree_model.proofs.LengthLaws.{length-tree_hash, none_or_long, len
 pub returns : goal.returns
 returns c =
     record {
-      original = original-none;
-      original_enter = λ b t i us x p. original-enter b t i us x p.low p.high;
-      original_others = original-with;
+      original_tree = original_tree-none;
+      original_enter = λ b t i us x p. original_tree-enter b t i us x p.low p.high;
+      original_others = original_tree-with;
       field = λ b t i x d p. hash_at-enter b t i x d p.low p.high;
       valid_enter = λ b t i x p. valid-add b t i x p.low p.high;
       head = merge_head;

@@ -11,7 +11,7 @@ returns c =
       trim = follows_trim;
       edit = follow_edit_exact;
       own = own_edit_exact;
-      on_way = exact_is_on_way;
+      keys_on_way = exact_is_on_way;
       leaf = leaf_is_on_way;
       follow = edit_is_follow;
     }

@@ -1,12 +1,12 @@
 use Rattle.std.proofs.Common.{take, ap, ◌∙◌}
-use Rattle.mls_cli_check.specs.Reports.{rule_entries}
+use Rattle.mls_cli_check.specs.RuleLines.{rule_entries}
 use Rattle.mls_cli_check.proofs.Orders.{all_lines, lines_or_wanting}
 use Rattle.mls_cli_check.proofs.report.tree_page.Goals as goal
 
 pub returns-in-Ok : goal.returns-in-Ok
 returns-in-Ok g c =
-    all_lines g.S.Suite.crypto c.args.own _ _ _ _ _ _ c.in-Ok.ensures.answer c.in_ok-lines.ensures.same c.in_ok-joined-in-Ok.ensures c.in_ok-lines.ensures.lines c.in_ok-more-in-Ok.ensures
+    all_lines g.S.Suite.crypto c.args.own _ _ _ _ _ _ c.in-Ok.ensures.answer c.in_ok-lines.ensures.same c.in_ok-append_lines-in-Ok.ensures c.in_ok-lines.ensures.lines c.in_ok-more-in-Ok.ensures
 
 pub returns : goal.returns
 returns g c =
-    lines_or_wanting g.S.Suite.crypto c.args.own _ _ _ _ _ _ _ _ c.refused.ensures.memory c.refused.ensures.page c.in-Err.ensures.answer c.in_ok-lines.ensures.same c.in_ok-joined-in-Err.ensures c.in_ok-lines.ensures.lines (c.in_ok-more-in-Err.ensures ∙ ap (λ k. take k (rule_entries c.args.own)) c.lines_before.ensures)
+    lines_or_wanting g.S.Suite.crypto c.args.own _ _ _ _ _ _ _ _ c.refused.ensures.memory c.refused.ensures.page c.in-Err.ensures.answer c.in_ok-lines.ensures.same c.in_ok-append_lines-in-Err.ensures c.in_ok-lines.ensures.lines (c.in_ok-more-in-Err.ensures ∙ ap (λ k. take k (rule_entries c.args.own)) c.lines_before.ensures)

@@ -3,7 +3,7 @@ use Rattle.std.specs.List.{flat_map}
 use Rattle.mls_model.specs.declared.event.Reply.{Reply}
 use Rattle.mls_model.specs.World.{World}
 use Rattle.mls_model.specs.Run.{step}
-use Rattle.mls_cli_text.specs.Ends.{AppendsPart}
+use Rattle.mls_cli_text.specs.InputOutput.{AppendsPart}
 use Rattle.mls_cli_replay.specs.Replay.{entry_text, event_entries, expectation}
 use Rattle.mls_cli_replay.proofs.Playing.{on_err}
 use Rattle.mls_cli_replay.proofs.events.play_event.Goals as goal

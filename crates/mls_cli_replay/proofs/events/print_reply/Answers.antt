@@ -2,9 +2,9 @@ use Rattle.std.proofs.Common.{◌≡◌, ◌∙◌, false, Option, List, ℕ, Bo
 use Rattle.std.proofs.KnownBytes.{Appends-trans}
 use Rattle.std.specs.List.{flat_map}
 use Rattle.std.specs.Io.KnownBytes.{Appends}
-use Rattle.mls_cli_text.specs.Ends.{AppendsPart}
+use Rattle.mls_cli_text.specs.InputOutput.{AppendsPart}
 use Rattle.mls_cli_text.proofs.Pieces.{nothing_yet, part_behind, part_of_front}
-use Rattle.mls_cli_replay.specs.Replay.{entry_text, expected_entries, is_met, replied, unmet}
+use Rattle.mls_cli_replay.specs.Replay.{entry_text, expected_entries, is_met, replied, unmet_entries}
 use Rattle.mls_cli_replay.proofs.Playing.{on_err, said_nonempty, said_unmet}
 use Rattle.mls_cli_replay.proofs.events.print_reply.Goals as goal
 
@@ -20,7 +20,7 @@ pub returns-in_err-print-clause-part : goal.returns-in_err-print-clause-part
 returns-in_err-print-clause-part g c =
     on_err c.from_residual-in_err-print.result
     (part_of_front (g.O.Output.contents c.args.out.now) (g.O.Output.contents c.print.new.out) (entry_text (replied c.args.event c.args.reply))
-    (flat_map entry_text (unmet c.args.event c.args.reply (text_of c.args.expect))) c.in_err-print.ensures.part)
+    (flat_map entry_text (unmet_entries c.args.event c.args.reply (text_of c.args.expect))) c.in_err-print.ensures.part)
 
 pub returns-in_err-print_expected-clause-part : goal.returns-in_err-print_expected-clause-part
 returns-in_err-print_expected-clause-part g c =

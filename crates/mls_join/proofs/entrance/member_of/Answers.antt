@@ -18,4 +18,4 @@ returns g c =
     c.in_ok-tree.ensures.answer c.in_ok-signer_checks.ensures
     (ap (λ (v : KeyPackage). option_map (λ x. x.0) (place_of v.leaf_node t)) (sym c.key_package.ensures) ∙ sym c.place_of.ensures ∙ c.in-Some.is)
     (ap (λ (k : List ℕ). joined_keys g.S.Suite.crypto t c.args.opened.info.signer (alone_at c.in-Some.place k) c.args.opened.path_secret) (sym c.leaf_key.ensures) ∙ c.in_ok-keys.ensures))
-    (c.entered.ensures c.args.candidate.now)
+    (c.enter_group.ensures c.args.candidate.now)

@@ -1,7 +1,7 @@
 use Rattle.std.proofs.Common.{◌∙◌}
 use Rattle.std.proofs.lemmas.Result.{err_from_is_err_and}
 use Rattle.mls_member.specs.Faults.{number_of}
-use Rattle.mls_member.proofs.First.{public_refused}
+use Rattle.mls_member.proofs.FirstEpoch.{public_refused}
 use Rattle.mls_member.proofs.create.first_group.Goals as goal
 
 pub returns-in_err-require_within_limit : goal.returns-in_err-require_within_limit

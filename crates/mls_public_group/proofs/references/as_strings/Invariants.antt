@@ -1,5 +1,5 @@
 use Rattle.std.proofs.Common.{◌≡◌, take}
-use Rattle.mls_tree_array.specs.Merged.{bytes_in}
+use Rattle.mls_tree_array.specs.DistinctStrings.{bytes_in}
 use Rattle.mls_public_group.proofs.references.as_strings.Given as goal
 
 abbrev pub invariant-loop-reference : goal.invariant-loop-reference

@@ -1,7 +1,7 @@
 use Rattle.std.proofs.Common.{[], ◌∷◌, ◌++◌, sym, ap, ◌∙◌, subst, arith}
 use Rattle.mls_leaf.specs.Proposal.{proposal as proposal_format}
 use Rattle.mls_leaf.specs.Reference.{key_package_reference}
-use Rattle.mls_model.specs.Public.{Used}
+use Rattle.mls_model.specs.PublicState.{Used}
 use Rattle.mls_public_group.specs.Short.{IsBelow}
 use Rattle.mls_public_group.proofs.ShortLaws.{add_below}
 use Rattle.mls_public_group.proofs.Folding.{reference_one, reference_same}

@@ -1,6 +1,6 @@
 use Rattle.std.proofs.Common.{List}
 use Rattle.std.specs.Prelude.{map}
-use Rattle.mls_model.specs.Public.{Used}
+use Rattle.mls_model.specs.PublicState.{Used}
 use Rattle.mls_model.specs.Proposals.{adds, package_reference}
 use Rattle.mls_public_group.proofs.Folding.{gathered, all_gathered, references_split, references_none}
 use Rattle.mls_public_group.proofs.references.references.Goals as goal

@@ -1,7 +1,7 @@
 use Rattle.std.proofs.Common.{arith, subst}
-use Rattle.mls_tree.specs.Indexed.{AreIndexes}
+use Rattle.mls_tree.specs.IndexedKeys.{AreIndexes}
 use Rattle.mls_tree.proofs.Halves.{halves_stand, halves_short, seven}
-use Rattle.mls_tree.proofs.Keepings.{cold_by}
+use Rattle.mls_tree.proofs.KeptHashes.{cold_by}
 use Rattle.mls_tree.proofs.Bounding.{unbounded_array}
 use Rattle.mls_tree.proofs.check_tests.half_empty.Goals as goal
 

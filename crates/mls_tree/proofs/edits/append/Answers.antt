@@ -3,10 +3,10 @@ use Rattle.std.proofs.lemmas.Nat.{one_shl}
 use Rattle.mls_treemath.specs.Paths.{nodes_in}
 use Rattle.mls_tree_model.specs.Edits.{grow}
 use Rattle.mls_tree_model.specs.Arrays.{term_of}
-use Rattle.mls_tree_array.specs.Kept.{dropped}
+use Rattle.mls_tree_array.specs.KeptHashes.{drop_hashes}
 use Rattle.mls_tree_array.proofs.StandingLaws.{stands_for-grow}
 use Rattle.mls_tree.proofs.Growth.{appended}
-use Rattle.mls_tree.proofs.Keepings.{kept_long, grown_is, grown_long, grown_perfect, cut_back}
+use Rattle.mls_tree.proofs.KeptHashes.{kept_long, grown_is, grown_long, grown_perfect, cut_back}
 use Rattle.mls_tree.proofs.edits.append.Goals as goal
 
 pub put-requires-clause-stands : goal.put-requires-clause-stands
@@ -26,8 +26,8 @@ drop_way-requires-clause-shape c =
 pub returns-clause-kept : goal.returns-clause-kept
 returns-clause-kept c =
     c.drop_way.ensures.kept (grow (term_of c.args.height c.args.nodes.now.items)) (grown_perfect c.args.height c.args.nodes.now.items)
-    ∙ ap (dropped 0 (grow (term_of c.args.height c.args.nodes.now.items)) _) (grown_is c.args.height _ _ _ c.in_ok-add.ensures.ok (c.len-count.ensures ∙ c.args.nodes.now.ok.0 ∙ c.requires.stands.size))
-    ∙ ap (λ i. dropped 0 (grow (term_of c.args.height c.args.nodes.now.items)) i (c.args.hashes.now.kept ++ replicate (suc (nodes_in c.args.height)) None)) (one_shl c.args.height 32 (omega arith))
+    ∙ ap (drop_hashes 0 (grow (term_of c.args.height c.args.nodes.now.items)) _) (grown_is c.args.height _ _ _ c.in_ok-add.ensures.ok (c.len-count.ensures ∙ c.args.nodes.now.ok.0 ∙ c.requires.stands.size))
+    ∙ ap (λ i. drop_hashes 0 (grow (term_of c.args.height c.args.nodes.now.items)) i (c.args.hashes.now.kept ++ replicate (suc (nodes_in c.args.height)) None)) (one_shl c.args.height 32 (omega arith))
 
 pub returns-in-Err-clause-err_kept : goal.returns-in-Err-clause-err_kept
 returns-in-Err-clause-err_kept c =

@@ -1,5 +1,5 @@
 use Rattle.std.proofs.Common.{◌+◌, ◌-◌, ◌*◌, ◌%◌, ◌^◌, take, ap, sym, arith, length, subst}
-use Rattle.mls_tree.specs.Indexed.{AreIndexes}
+use Rattle.mls_tree.specs.IndexedKeys.{AreIndexes}
 use Rattle.mls_tree.proofs.Checked.{size_fits}
 use Rattle.mls_tree.proofs.Indexing.{cut_size, trimmed_as}
 use Rattle.mls_tree.proofs.edits.trim.Goals as goal
@@ -12,12 +12,12 @@ leave_from-requires c =
 
 pub returns-clause-order : goal.returns-clause-order
 returns-clause-order c =
-    let low = c.trimmed-low.ensures.low in
+    let low = c.trimmed_height-low.ensures.low in
     let tall = c.requires.low in
-    trimmed_as c.args.height c.trimmed-low.result _ c.args.nodes.now.items c.deref.result.now _ c.requires.stands low (cut_size c.trimmed-low.result (omega arith)) c.deref.ensures.value c.trimmed-low.ensures.order c.truncate.ensures.items
+    trimmed_as c.args.height c.trimmed_height-low.result _ c.args.nodes.now.items c.deref.result.now _ c.requires.stands low (cut_size c.trimmed_height-low.result (omega arith)) c.deref.ensures.value c.trimmed_height-low.ensures.order c.truncate.ensures.items
 
 pub returns-clause-indexes : goal.returns-clause-indexes
 returns-clause-indexes c = λ is.
     subst (λ cs. AreIndexes cs c.leave_from.new.self) (sym c.truncate.ensures.items)
-    (subst (λ cs. AreIndexes (take ((1 * 2 ^ (c.trimmed-low.result + 1)) % 2 ^ 64 - 1) cs) c.leave_from.new.self) c.deref-2.ensures.value
+    (subst (λ cs. AreIndexes (take ((1 * 2 ^ (c.trimmed_height-low.result + 1)) % 2 ^ 64 - 1) cs) c.leave_from.new.self) c.deref-2.ensures.value
     (c.leave_from.ensures (subst (λ cs. AreIndexes cs c.args.indexes.now) (sym c.deref-2.ensures.value) is)))

@@ -7,7 +7,7 @@ use Rattle.mls_tree_array.proofs.counts.+target_count.Goals as goal
 
 pub returns-in-Some-clause-value : goal.returns-in-Some-clause-value
 returns-in-Some-clause-value t c =
-    let known : c.is_one_of.result ≡ has (leaf_numbers c.args.added.now) (2 * c.args.first) = rw c.from.ensures at c.is_one_of.ensures in
+    let known : c.is_leaf_among.result ≡ has (leaf_numbers c.args.added.now) (2 * c.args.first) = rw c.from.ensures at c.is_leaf_among.ensures in
     let one = targets_one c.args.first _ c.args.added.now _ _ c.if-height-eq0.true c.requires.shape c.index-nodes-0.is _ c.in-Some.ensures in
     c.from-in-Some.ensures ∙ ap (λ b. bool_byte (not b)) known ∙ sym one
 

@@ -1,6 +1,6 @@
 use Rattle.std.proofs.Common.{subst}
 use Rattle.std.specs.Bool.{MatchBool}
-use Rattle.mls_tree_array.specs.Merged.{Differ, Repeats}
+use Rattle.mls_tree_array.specs.DistinctStrings.{Differ, Repeats}
 use Rattle.mls_tree_array.proofs.Sorts.{answer_of}
 use Rattle.mls_tree_array.proofs.distinct.are_distinct.Goals as goal
 

@@ -1,5 +1,5 @@
 use Rattle.std.proofs.Common.{arith}
-use Rattle.mls_tree_array.proofs.Keepings.{drop_one, drop_in_left, drop_in_right}
+use Rattle.mls_tree_array.proofs.KeptOrDropped.{drop_one, drop_in_left, drop_in_right}
 use Rattle.mls_tree_array.proofs.hashes.+drop_hashes.Goals as goal
 
 pub returns-then-height-eq0 : goal.returns-then-height-eq0

@@ -3,4 +3,4 @@ use Rattle.mls_tree_array.proofs.lists.has_good_lists.Goals as goal
 
 pub returns-clause-right : goal.returns-clause-right
 unfolding has_good_lists
-returns-clause-right c = c.each_lists.ensures.right
+returns-clause-right c = c.are_lists_right.ensures.right

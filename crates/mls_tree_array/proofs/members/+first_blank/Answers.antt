@@ -1,6 +1,6 @@
 use Rattle.std.proofs.Common.{arith, sym, ◌∙◌}
 use Rattle.mls_tree_array.proofs.Readings.{in_sides, left_nodes, right_nodes}
-use Rattle.mls_tree_array.proofs.Taken.{no_blank_leaf, blank_leaf, blank_sides, blank_on_left, blank_on_right, no_blank_on_left}
+use Rattle.mls_tree_array.proofs.MembersAndBlanks.{no_blank_leaf, blank_leaf, blank_sides, blank_on_left, blank_on_right, no_blank_on_left}
 use Rattle.mls_tree_array.proofs.members.+first_blank.Goals as goal
 
 pub returns-in-Some : goal.returns-in-Some

@@ -1,6 +1,6 @@
 use Rattle.std.proofs.Common.{arith, sym}
 use Rattle.mls_tree_array.proofs.Readings.{in_sides}
-use Rattle.mls_tree_array.proofs.Taken.{taken_leaf, no_leaf, leaf_sides}
+use Rattle.mls_tree_array.proofs.MembersAndBlanks.{taken_leaf, no_leaf, leaf_sides}
 use Rattle.mls_tree_array.proofs.members.+has_leaf.Goals as goal
 
 pub returns-in-Some : goal.returns-in-Some

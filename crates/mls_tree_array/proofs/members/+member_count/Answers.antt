@@ -1,6 +1,6 @@
 use Rattle.std.proofs.Common.{◌+◌, ◌/◌, arith, sym}
 use Rattle.mls_tree_array.proofs.Readings.{in_sides}
-use Rattle.mls_tree_array.proofs.Taken.{one_member, no_member, member_sides}
+use Rattle.mls_tree_array.proofs.MembersAndBlanks.{one_member, no_member, member_sides}
 use Rattle.mls_tree_array.proofs.members.+member_count.Goals as goal
 
 pub returns-in-Some-clause-count : goal.returns-in-Some-clause-count

@@ -1,6 +1,6 @@
 use Rattle.std.proofs.Common.{arith, ◌∙◌, sym}
 use Rattle.mls_tree_array.proofs.Readings.{in_sides}
-use Rattle.mls_tree_array.proofs.Taken.{full_leaf, empty_leaf, full_sides}
+use Rattle.mls_tree_array.proofs.MembersAndBlanks.{full_leaf, empty_leaf, full_sides}
 use Rattle.mls_tree_array.proofs.members.is_full_width.Goals as goal
 
 pub returns-in-Some : goal.returns-in-Some

@@ -13,7 +13,7 @@ loop-entry-init c = feeds_first (subst (λ (n : ℕ). Feeds c.args.feed.now (hea
 pub loop-entry-preserved : goal.loop-entry-preserved
 loop-entry-preserved c =
     feeds_more (header (4 * length (less c.args.leaves.now c.args.entries.now))) (λ x. flat_map (uint w32) (less c.args.leaves.now (x ∷ []))) c.args.entries.now c.loop-entry.entry-index
-    c.loop-entry-test.true c.loop-entry.invariant c.add_if_stays.ensures
+    c.loop-entry-test.true c.loop-entry.invariant c.add_if_remaining.ensures
 
 pub returns : goal.returns
 unfolding uint

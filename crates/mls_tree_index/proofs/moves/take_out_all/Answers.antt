@@ -1,6 +1,6 @@
 use Rattle.std.proofs.Common.{take, refl, sym, ◌∙◌, ap, arith}
 use Rattle.std.proofs.lemmas.List.{take_all, length-take-le}
-use Rattle.mls_tree_index.specs.Moves.{without}
+use Rattle.mls_tree_index.specs.Moves.{list_without}
 use Rattle.mls_tree_index.proofs.MoveLaws.{without_none, moved}
 use Rattle.mls_tree_index.proofs.moves.take_out_all.Goals as goal
 
@@ -63,7 +63,7 @@ returns-clause-items c =
     let end = i.end in
     let past = c.loop-from-test.false in
     let ok = c.args.numbers.now.ok.0 in
-    c.truncate.ensures.items ∙ i.front ∙ ap (without 0 c.args.positions.now) (take_all c.loop-from.from c.args.numbers.now.items (omega arith))
+    c.truncate.ensures.items ∙ i.front ∙ ap (list_without 0 c.args.positions.now) (take_all c.loop-from.from c.args.numbers.now.items (omega arith))
 
 pub returns-clause-len : goal.returns-clause-len
 returns-clause-len c = let i = c.loop-from.invariant in let len = i.len in let end = i.end in let cut = c.truncate.ensures.len in omega arith

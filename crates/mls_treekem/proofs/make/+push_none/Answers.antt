@@ -1,5 +1,5 @@
 use Rattle.mls_treekem.proofs.Levels.{on_ok_by}
-use Rattle.mls_treekem.proofs.Raised.{no_more, one_more}
+use Rattle.mls_treekem.proofs.KeysAtHeights.{no_more, one_more}
 use Rattle.mls_treekem.proofs.make.+push_none.Goals as goal
 
 pub returns-then-count-eq0 : goal.returns-then-count-eq0

@@ -1,6 +1,6 @@
 use Rattle.std.proofs.lemmas.List.{nil_from_length}
 use Rattle.mls_treekem.proofs.Levels.{on_ok_by}
-use Rattle.mls_treekem.proofs.Raised.{raise_first, raise_none, raise_no_pair}
+use Rattle.mls_treekem.proofs.KeysAtHeights.{raise_first, raise_none, raise_no_pair}
 use Rattle.mls_treekem.proofs.make.+put_keys.Goals as goal
 
 pub returns : goal.returns

@@ -1,5 +1,5 @@
 use Rattle.std.proofs.Common.{sym, ap, unwrap_or}
-use Rattle.mls_treekem.proofs.Raised.{below_32}
+use Rattle.mls_treekem.proofs.KeysAtHeights.{below_32}
 use Rattle.mls_treekem.proofs.make.height_of.Goals as goal
 
 pub returns : goal.returns

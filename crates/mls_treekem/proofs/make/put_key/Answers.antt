@@ -1,5 +1,5 @@
 use Rattle.std.proofs.Common.{length, ap}
-use Rattle.mls_treekem.proofs.Raised.{not_raised, now_raised}
+use Rattle.mls_treekem.proofs.KeysAtHeights.{not_raised, now_raised}
 use Rattle.mls_treekem.proofs.make.put_key.Goals as goal
 
 pub returns-then-count-height : goal.returns-then-count-height

@@ -16,7 +16,7 @@ climb_along-requires g t c κs within = (search rules, (search rules, others_pla
 pub returns-then-is_beside : goal.returns-then-is_beside
 returns-then-is_beside g t c =
     from_here g.S.Suite.crypto (term c.args.tree.now) c.args.joiner c.args.secret.now c.in-Some.place.now c.in-Some.lower.now c.args.places.now c.in-Some.ensures.cases.0 c.requires c.is_beside.result c.is_beside.ensures
-    c.if-is_beside.true c.in_ok-climb.climb c.past_parent.result c.in_ok-climb.ensures c.past_parent.ensures
+    c.if-is_beside.true c.in_ok-climb.climb c.climb_past_parent.result c.in_ok-climb.ensures c.climb_past_parent.ensures
 
 pub returns-in_err-climb : goal.returns-in_err-climb
 returns-in_err-climb g t c =
@@ -28,7 +28,7 @@ returns-in_err-climb g t c =
 pub returns : goal.returns
 returns g t c =
     from_below g.S.Suite.crypto (term c.args.tree.now) c.args.joiner c.args.secret.now c.in-Some.place.now c.in-Some.lower.now c.args.places.now c.in-Some.ensures.cases.0 c.requires c.is_beside.result c.is_beside.ensures
-    c.if-is_beside.false c.in_ok-climb-2.climb c.past_parent-2.result c.in_ok-climb-2.ensures c.past_parent-2.ensures
+    c.if-is_beside.false c.in_ok-climb-2.climb c.climb_past_parent-2.result c.in_ok-climb-2.ensures c.climb_past_parent-2.ensures
 
 pub returns-in_err-climb-2 : goal.returns-in_err-climb-2
 returns-in_err-climb-2 g t c =

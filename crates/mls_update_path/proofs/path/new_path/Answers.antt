@@ -7,7 +7,7 @@ use Rattle.mls_treekem_model.specs.Keys.{all_keys}
 use Rattle.mls_treekem_model.specs.Seeds.{path_seed}
 use Rattle.mls_model.specs.Candidate.{leaf_key_of}
 use Rattle.mls_model.specs.Commit.{Edits}
-use Rattle.mls_model.specs.Public.{provisional_context}
+use Rattle.mls_model.specs.PublicState.{provisional_context}
 use Rattle.mls_public_group.specs.Short.{HasLeavesBelow}
 use Rattle.mls_treekem.specs.Faults.{number_of as number_of_keys}
 use Rattle.mls_update_path.specs.Faults.{number_of}

@@ -2,7 +2,7 @@ use Rattle.std.proofs.Common.{refl, ap, ◌∙◌}
 use Rattle.sha2.specs.Sha256.{sha256}
 use Rattle.mls_wire.specs.Reading.{uint}
 use Rattle.mls_kdf.specs.Kdf.{ref_hash}
-use Rattle.mls_view.proofs.Fed.{referenced}
+use Rattle.mls_view.proofs.SliceInputs.{referenced}
 use Rattle.mls_view.proofs.inputs.reference_of.Goals as goal
 
 pub returns : goal.returns

@@ -1,6 +1,6 @@
 use Rattle.std.proofs.Common.{sym}
 use Rattle.mls_wire.specs.Laws.{ok_is}
-use Rattle.mls_welcome.proofs.Joined.{one_sealed, one_unfit}
+use Rattle.mls_welcome.proofs.SealedEntries.{one_sealed, one_unfit}
 use Rattle.mls_welcome.proofs.entries.entry_for.Goals as goal
 
 pub returns-in-Some : goal.returns-in-Some

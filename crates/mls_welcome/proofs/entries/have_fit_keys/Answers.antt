@@ -1,5 +1,5 @@
 use Rattle.std.proofs.Common.{arith, sym, ap, ◌∙◌}
-use Rattle.mls_welcome.proofs.Joined.{keys_more, keys_fail, keys_end}
+use Rattle.mls_welcome.proofs.SealedEntries.{keys_more, keys_fail, keys_end}
 use Rattle.mls_welcome.proofs.entries.have_fit_keys.Goals as goal
 
 pub returns-then-not-key_ok : goal.returns-then-not-key_ok

@@ -1,5 +1,5 @@
 use Rattle.std.proofs.Common.{arith}
-use Rattle.mls_model.specs.Range.{IsInRange}
+use Rattle.mls_model.specs.EventRange.{IsInRange}
 use Rattle.mls_world.proofs.Ranging.{all_step, all_end}
 use Rattle.mls_world.proofs.ranges.know_events.Goals as goal
 

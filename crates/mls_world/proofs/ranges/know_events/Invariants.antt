@@ -1,6 +1,6 @@
 use Rattle.std.proofs.Common.{drop}
 use Rattle.std.specs.List.{AllByRecursion}
-use Rattle.mls_model.specs.Range.{IsInRange}
+use Rattle.mls_model.specs.EventRange.{IsInRange}
 use Rattle.mls_world.proofs.ranges.know_events.Given as goal
 
 abbrev pub invariant-loop-event : goal.invariant-loop-event

@@ -1,5 +1,5 @@
 use Rattle.std.proofs.Common.{arith}
-use Rattle.mls_model.specs.Range.{IsItemInRange}
+use Rattle.mls_model.specs.EventRange.{IsItemInRange}
 use Rattle.mls_world.proofs.Ranging.{all_step, all_end}
 use Rattle.mls_world.proofs.ranges.know_items.Goals as goal
 

@@ -1,6 +1,6 @@
 use Rattle.std.proofs.Common.{drop}
 use Rattle.std.specs.List.{AllByRecursion}
-use Rattle.mls_model.specs.Range.{IsItemInRange}
+use Rattle.mls_model.specs.EventRange.{IsItemInRange}
 use Rattle.mls_world.proofs.ranges.know_items.Given as goal
 
 abbrev pub invariant-loop-item : goal.invariant-loop-item

@@ -18,4 +18,4 @@ returns-in-Err g c = λ content is.
 
 pub returns : goal.returns
 returns g c = λ content is.
-    follow_does g.S.Suite.crypto c.args.self.now _ c.args.committer c.args.commit.now content c.args.signature.now c.args.tag.now _ _ _ _ _ (c.in_ok-received.ensures.answer content is) c.if-is_removed.false c.in-Ok.ensures.answer c.in-Ok.ensures.leaf c.entered.ensures
+    follow_does g.S.Suite.crypto c.args.self.now _ c.args.committer c.args.commit.now content c.args.signature.now c.args.tag.now _ _ _ _ _ (c.in_ok-received.ensures.answer content is) c.if-is_removed.false c.in-Ok.ensures.answer c.in-Ok.ensures.leaf c.enter_epoch.ensures

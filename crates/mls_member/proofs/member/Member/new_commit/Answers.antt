@@ -3,14 +3,14 @@ use Rattle.mls_member.proofs.Commits.{made_is}
 use Rattle.mls_member.proofs.Good.{full_fit}
 use Rattle.mls_member.proofs.member.Member.new_commit.Goals as goal
 
-pub make-requires-clause-epoch : goal.make-requires-clause-epoch
-make-requires-clause-epoch g c = rw c.speaker-speaker.ensures.public at c.requires.epoch
+pub make_commit-requires-clause-epoch : goal.make_commit-requires-clause-epoch
+make_commit-requires-clause-epoch g c = rw c.speaker-speaker.ensures.public at c.requires.epoch
 
-pub make-requires-clause-list : goal.make-requires-clause-list
-make-requires-clause-list g c = (c.args.self.now.kept, (c.args.self.now.keys.leaf, rw (c.in_ok-list.ensures, c.as_slice-proposals.ensures.value) c.in_ok-used.ensures.answer))
+pub make_commit-requires-clause-list : goal.make_commit-requires-clause-list
+make_commit-requires-clause-list g c = (c.args.self.now.kept, (c.args.self.now.keys.leaf, rw (c.in_ok-list.ensures, c.as_slice-proposals.ensures.value) c.in_ok-used.ensures.answer))
 
-pub make-requires-clause-used : goal.make-requires-clause-used
-make-requires-clause-used g c = rw c.as_slice-proposals.ensures.value c.in_ok-used.ensures.short
+pub make_commit-requires-clause-used : goal.make_commit-requires-clause-used
+make_commit-requires-clause-used g c = rw c.as_slice-proposals.ensures.value c.in_ok-used.ensures.short
 
 pub returns-in-Ok-clause-answer : goal.returns-in-Ok-clause-answer
 returns-in-Ok-clause-answer g c =

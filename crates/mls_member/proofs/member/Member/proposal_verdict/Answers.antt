@@ -10,4 +10,4 @@ returns-then-is_known g c = λ shown made shows spells. known_is g.S.Suite.crypt
 pub returns : goal.returns
 returns g c = λ shown made shows spells.
     new_does g.S.Suite.crypto c.args.self.now shown.content c.args.bytes.now made _ _ _ _ _ (c.reference-reference.ensures shown shows) (rw c.sender_leaf-sender.ensures (rw shows.content.sender refl)) (sym c.is_known.ensures ∙ c.if-is_known.false)
-    (spells_same proposal_format _ made _ c.in_ok-made.ensures spells) c.keep.ensures
+    (spells_same proposal_format _ made _ c.in_ok-made.ensures spells) c.keep_proposal.ensures

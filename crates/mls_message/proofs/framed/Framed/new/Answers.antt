@@ -9,4 +9,4 @@ pub returns-in_err-bytes : goal.returns-in_err-bytes
 returns-in_err-bytes c =
     let p = err_from_is_err_and c.from_residual-in_err-bytes.result c.from_residual-in_err-bytes.ensures.1 in
     λ m speaks.
-    rw (p.1, p.2) (subst (λ (x : FramedContent). IsRefused m x c.in_err-bytes.field-0.0) (c.deref.ensures ∙ c.in_ok-content.ensures.ok ∙ c.in_ok-said.ensures.said m speaks) (refused_long m c.deref.result.now c.in_err-bytes.field-0.0 c.in_err-bytes.ensures))
+    rw (p.1, p.2) (subst (λ (x : FramedContent). IsRefused m x c.in_err-bytes.field-0.0) (c.deref.ensures ∙ c.in_ok-content.ensures.ok ∙ c.in_ok-frame_content.ensures.said m speaks) (refused_long m c.deref.result.now c.in_err-bytes.field-0.0 c.in_err-bytes.ensures))

@@ -1,5 +1,5 @@
 use Rattle.std.proofs.Common.{◌∙◌, ap}
-use Rattle.mls_tree.specs.Prepared.{Prepared}
+use Rattle.mls_tree.specs.PreparedPath.{Prepared}
 use Rattle.mls_tree.proofs.Following.{root_of}
 use Rattle.mls_tree.proofs.prepared.PreparedPath.tree_hash.Goals as goal
 

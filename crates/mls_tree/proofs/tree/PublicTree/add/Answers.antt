@@ -3,10 +3,10 @@ use Rattle.std.proofs.lemmas.Nat.{one_shl}
 use Rattle.mls_treemath.specs.Paths.{nodes_in}
 use Rattle.mls_tree.specs.Tree.{term}
 use Rattle.mls_tree.proofs.Indexing.{same_indexes, first_is, fills-enter, fills-append, filled_by, new_half, indexed-padded}
-use Rattle.mls_tree.proofs.Keeping.{add_good, add_sound}
+use Rattle.mls_tree.proofs.EditsKeepGood.{add_good, add_sound}
 use Rattle.mls_tree.proofs.Adding.{add_full, may_add_in, may_add_beside, add_in, add_beside}
 use Rattle.mls_tree.proofs.RefusalLaws.{one_number, not_refused}
-use Rattle.mls_tree.proofs.Keepings.{kept_long, kept-enter, kept-appended}
+use Rattle.mls_tree.proofs.KeptHashes.{kept_long, kept-enter, kept-appended}
 use Rattle.mls_tree_model.proofs.ArrayLaws.{perfect-term_of}
 use Rattle.mls_tree.proofs.Bounding.{from_there, found_low, added, added_beside as bounds_beside}
 use Rattle.mls_tree.proofs.Chilling.{added_in, added_beside}

@@ -8,7 +8,7 @@ use Rattle.mls_tree.specs.Tree.{term, max_leaves}
 use Rattle.mls_tree.specs.Rules.{rules_of}
 use Rattle.mls_tree.proofs.Perfect.{perfect}
 use Rattle.mls_tree.proofs.Checked.{good_checked}
-use Rattle.mls_tree.proofs.Keepings.{kept_long}
+use Rattle.mls_tree.proofs.KeptHashes.{kept_long}
 use Rattle.mls_tree.proofs.Chilling.{warmed}
 use Rattle.mls_tree.proofs.tree.PublicTree.check.Goals as goal
 

@@ -1,13 +1,13 @@
 use Rattle.std.proofs.Common.{true, subst, ap, ◌∙◌, sym, length, arith}
 use Rattle.std.proofs.lemmas.Nat.{one_shl}
-use Rattle.mls_tree.specs.Indexed.{AreIndexes}
+use Rattle.mls_tree.specs.IndexedKeys.{AreIndexes}
 use Rattle.mls_tree.proofs.Checked.{size_fits}
-use Rattle.mls_tree.proofs.Keepings.{cold_by}
+use Rattle.mls_tree.proofs.KeptHashes.{cold_by}
 use Rattle.mls_tree.proofs.Bounding.{unknown}
 use Rattle.mls_tree_model.specs.Term.{is_full_width}
 use Rattle.mls_tree_model.specs.Good.{has_good_shape}
 use Rattle.mls_tree_model.specs.Arrays.{has_last, alternates, term_of}
-use Rattle.mls_tree.specs.Short.{HasShortLeaves}
+use Rattle.mls_tree.specs.ShortLeaves.{HasShortLeaves}
 use Rattle.mls_tree.proofs.ShortLeaves.{short_leaves}
 use Rattle.mls_tree.proofs.SentLemmas.{sent_is}
 use Rattle.mls_tree.proofs.Receiving.{no_last, misplaced, stands_as, half_empty, too_large, received}

@@ -2,7 +2,7 @@ use Rattle.std.proofs.Common.{[], length, ◌∙◌, ap, subst}
 use Rattle.mls_tree_model.specs.Arrays.{term_of}
 use Rattle.mls_tree_array.specs.WayHashes.{HashesMerged}
 use Rattle.mls_tree.specs.Tree.{term}
-use Rattle.mls_tree.proofs.Keepings.{kept_long}
+use Rattle.mls_tree.proofs.KeptHashes.{kept_long}
 use Rattle.mls_tree.proofs.tree.PublicTree.hashes_over.Goals as goal
 
 pub merged_hashes-requires-clause-long : goal.merged_hashes-requires-clause-long

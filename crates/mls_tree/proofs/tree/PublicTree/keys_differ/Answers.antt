@@ -3,7 +3,7 @@ use Rattle.mls_tree_model.specs.Sets.{same_bytes, is_distinct}
 use Rattle.mls_tree_array.specs.Standing.{Stands}
 use Rattle.mls_tree_index.specs.Keys.{keys_of}
 use Rattle.mls_tree_index.specs.Indexes.{Indexes}
-use Rattle.mls_tree_index.specs.Cleared.{cleared}
+use Rattle.mls_tree_index.specs.BlankedCells.{cells_without}
 use Rattle.mls_tree.specs.Tree.{term}
 use Rattle.mls_tree.specs.Way.{way_numbers}
 use Rattle.mls_tree.proofs.Steps.{path_steps}
@@ -25,7 +25,7 @@ returns c =
     let stands = subst (λ t. Stands t.levels t.listing) c.self.view_is c.self.invariant.0 in
     let index = subst (λ xs. Indexes xs c.self.inside.indexes.keys) (sym c.deref.ensures.value) c.self.invariant.4.keys in
     subst (λ v. IfOk c.accepts_beside.result (λ b. b ≡ v)) (
-    ap (λ xs. is_distinct same_bytes (x.encryption_key ∷ (keys ++ keys_of c.self.inside.indexes.keys.kind (cleared 0 c.as_slice-places.result.now xs)))) cells
-    ∙ ap (λ ns. is_distinct same_bytes (x.encryption_key ∷ (keys ++ keys_of c.self.inside.indexes.keys.kind (cleared 0 ns t.listing)))) way
-    ∙ ap (λ k. is_distinct same_bytes (x.encryption_key ∷ (keys ++ keys_of k (cleared 0 (way_numbers t.levels c.args.i) t.listing)))) kind
+    ap (λ xs. is_distinct same_bytes (x.encryption_key ∷ (keys ++ keys_of c.self.inside.indexes.keys.kind (cells_without 0 c.as_slice-places.result.now xs)))) cells
+    ∙ ap (λ ns. is_distinct same_bytes (x.encryption_key ∷ (keys ++ keys_of c.self.inside.indexes.keys.kind (cells_without 0 ns t.listing)))) way
+    ∙ ap (λ k. is_distinct same_bytes (x.encryption_key ∷ (keys ++ keys_of k (cells_without 0 (way_numbers t.levels c.args.i) t.listing)))) kind
     ∙ sym (merged_distinct t.levels c.args.i t.listing stands x keys (sym (path_steps (term t) c.args.i (length keys) c.requires).count))) (c.accepts_beside.ensures.answer index)

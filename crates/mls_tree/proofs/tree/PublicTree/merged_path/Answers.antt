@@ -4,7 +4,7 @@ use Rattle.mls_tree_model.specs.Arrays.{term_of}
 use Rattle.mls_tree_array.specs.Merging.{path_parents}
 use Rattle.mls_tree.specs.Tree.{term}
 use Rattle.mls_tree.proofs.Pathing.{hash_is}
-use Rattle.mls_tree.proofs.Keepings.{kept_long}
+use Rattle.mls_tree.proofs.KeptHashes.{kept_long}
 use Rattle.mls_tree.proofs.tree.PublicTree.merged_path.Goals as goal
 
 pub returns-clause-parents : goal.returns-clause-parents

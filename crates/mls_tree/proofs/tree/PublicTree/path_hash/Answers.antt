@@ -3,7 +3,7 @@ use Rattle.mls_tree_model.specs.Merge.{path_hash, path_parent_hash}
 use Rattle.mls_tree_model.specs.Arrays.{term_of}
 use Rattle.mls_tree.specs.Tree.{term}
 use Rattle.mls_tree.proofs.Pathing.{hash_is}
-use Rattle.mls_tree.proofs.Keepings.{kept_long}
+use Rattle.mls_tree.proofs.KeptHashes.{kept_long}
 use Rattle.mls_tree.proofs.tree.PublicTree.path_hash.Goals as goal
 
 pub returns : goal.returns

@@ -1,7 +1,7 @@
 use Rattle.std.proofs.Common.{refl, arith, subst, sym, ap, ◌∙◌}
 use Rattle.mls_treemath.proofs.Sizes.{nodes_in-zero}
-use Rattle.mls_tree.specs.Indexed.{AreIndexes}
-use Rattle.mls_tree.proofs.Keepings.{cold_by}
+use Rattle.mls_tree.specs.IndexedKeys.{AreIndexes}
+use Rattle.mls_tree.proofs.KeptHashes.{cold_by}
 use Rattle.mls_tree.proofs.Bounding.{unknown}
 use Rattle.mls_tree_model.specs.Good.{IsGood}
 use Rattle.mls_tree_model.proofs.KeptLaws.{good_single}

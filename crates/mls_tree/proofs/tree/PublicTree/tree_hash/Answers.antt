@@ -1,7 +1,7 @@
 use Rattle.std.proofs.Common.{ap, ◌∙◌}
 use Rattle.mls_tree_model.specs.Arrays.{term_of}
-use Rattle.mls_tree_array.specs.Kept.{hashes_of}
-use Rattle.mls_tree.proofs.Keepings.{kept_long, all_kept}
+use Rattle.mls_tree_array.specs.KeptHashes.{hashes_of}
+use Rattle.mls_tree.proofs.KeptHashes.{kept_long, all_kept}
 use Rattle.mls_tree.proofs.tree.PublicTree.tree_hash.Goals as goal
 
 pub fill-requires-clause-long : goal.fill-requires-clause-long

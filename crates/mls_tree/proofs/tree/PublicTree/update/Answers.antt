@@ -3,10 +3,10 @@ use Rattle.mls_tree_model.specs.Edits.{put}
 use Rattle.mls_tree_model.proofs.Equations.{update_is}
 use Rattle.mls_tree.specs.Tree.{term}
 use Rattle.mls_tree.specs.Faults.{number_of}
-use Rattle.mls_tree.proofs.Keeping.{update_good, update_sound}
+use Rattle.mls_tree.proofs.EditsKeepGood.{update_good, update_sound}
 use Rattle.mls_tree.proofs.Answering.{update_refused, update_done}
 use Rattle.mls_tree.proofs.RefusalLaws.{one_number, not_refused}
-use Rattle.mls_tree.proofs.Keepings.{kept_long, kept-put}
+use Rattle.mls_tree.proofs.KeptHashes.{kept_long, kept-put}
 use Rattle.mls_tree.proofs.Bounding.{updated}
 use Rattle.mls_tree_model.proofs.ArrayLaws.{perfect-term_of}
 use Rattle.mls_tree.proofs.Chilling.{edited_in}

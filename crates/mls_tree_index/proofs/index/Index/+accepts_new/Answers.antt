@@ -2,7 +2,7 @@ use Rattle.std.proofs.Common.{◌++◌, sym, ◌∙◌, ap}
 use Rattle.std.proofs.lemmas.List.{nil_from_length}
 use Rattle.mls_tree_model.specs.Sets.{same_bytes, is_distinct}
 use Rattle.mls_tree_index.specs.Keys.{keys_of, is_held}
-use Rattle.mls_tree_index.specs.Cleared.{cleared}
+use Rattle.mls_tree_index.specs.BlankedCells.{cells_without}
 use Rattle.mls_tree_index.proofs.DistinctLaws.{searched, both_new, first_again, others_have}
 use Rattle.mls_tree_index.proofs.BesideLaws.{cleared_distinct}
 use Rattle.mls_tree_index.proofs.index.Index.+accepts_new.Goals as goal
@@ -12,7 +12,7 @@ pub returns-then-is_among : goal.returns-then-is_among
 returns-then-is_among t c = λ is distinct.
     let k = c.args.key.now in
     let keys = c.args.keys.now in
-    let cells = cleared 0 c.args.places.now c.args.cells.now in
+    let cells = cells_without 0 c.args.places.now c.args.cells.now in
     let held = keys_of c.args.self.now.kind cells in
     elim c.then-is_among.branch [
       | then-is_among-via-then-is_among w ↦ first_again k keys held (sym w.if-is_among.true ∙ c.is_among.ensures ∙ searched k keys)
@@ -23,7 +23,7 @@ pub returns-in-Some : goal.returns-in-Some
 returns-in-Some t c = λ is distinct.
     let k = c.args.key.now in
     let keys = c.args.keys.now in
-    let cells = cleared 0 c.args.places.now c.args.cells.now in
+    let cells = cells_without 0 c.args.places.now c.args.cells.now in
     let held = keys_of c.args.self.now.kind cells in
     c.accepts_new.ensures is distinct
     ∙ ap (λ ks. is_distinct same_bytes (ks ++ held)) (sym c.in-Some.ensures.cases.0)
@@ -33,7 +33,7 @@ pub returns-in-None : goal.returns-in-None
 returns-in-None t c = λ is distinct.
     let k = c.args.key.now in
     let keys = c.args.keys.now in
-    let cells = cleared 0 c.args.places.now c.args.cells.now in
+    let cells = cells_without 0 c.args.places.now c.args.cells.now in
     let held = keys_of c.args.self.now.kind cells in
     sym (cleared_distinct c.args.self.now.kind c.args.places.now c.args.cells.now distinct)
     ∙ ap (λ ks. is_distinct same_bytes (ks ++ held)) (sym (nil_from_length keys c.in-None.ensures.cases))

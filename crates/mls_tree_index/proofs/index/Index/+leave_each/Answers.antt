@@ -2,7 +2,7 @@ use Rattle.std.proofs.Common.{◌≡◌, [], ◌∷◌, nat_eq, true, sym, ◌�
 use Rattle.std.proofs.lemmas.List.{nil_from_length}
 use Rattle.mls_tree_model.specs.Sets.{is_distinct}
 use Rattle.mls_tree_index.specs.Indexes.{Indexes}
-use Rattle.mls_tree_index.specs.Cleared.{HasPlaces, cleared}
+use Rattle.mls_tree_index.specs.BlankedCells.{HasPlaces, cells_without}
 use Rattle.mls_tree_index.proofs.ClearedLaws.{first_without, rest_places}
 use Rattle.mls_tree_index.proofs.ClearedLaws.{rest_distinct, all_left, none_cleared}
 use Rattle.mls_tree_index.proofs.index.Index.+leave_each.Goals as goal
@@ -20,12 +20,12 @@ returns-in-Some-clause-left t c = λ d places is.
     let parts = c.in-Some.ensures.cases.0 in
     let distinct = subst (λ ns. is_distinct nat_eq ns ≡ true) parts c.requires in
     let here = subst (λ ns. HasPlaces c.args.self.now.kind ns cells d) parts places in
-    let first = c.leave.ensures.left (cleared 0 (x ∷ []) d) d (first_without x rest distinct c.args.self.now.kind cells d here) is in
-    let more = subst (λ k. HasPlaces k rest cells (cleared 0 (x ∷ []) d)) (sym c.leave.ensures.kind) (rest_places x rest distinct c.args.self.now.kind cells d here) in
-    let all = c.leave_each.ensures.left (cleared 0 (x ∷ []) d) more first in
+    let first = c.leave.ensures.left (cells_without 0 (x ∷ []) d) d (first_without x rest distinct c.args.self.now.kind cells d here) is in
+    let more = subst (λ k. HasPlaces k rest cells (cells_without 0 (x ∷ []) d)) (sym c.leave.ensures.kind) (rest_places x rest distinct c.args.self.now.kind cells d here) in
+    let all = c.leave_each.ensures.left (cells_without 0 (x ∷ []) d) more first in
     let there = subst (λ k. HasPlaces k (x ∷ rest) cells d) (sym (c.leave_each.ensures.kind ∙ c.leave.ensures.kind)) here in
-    subst (λ ns. Indexes (cleared 0 ns d) c.leave_each.new.self) (sym parts) (all_left x rest distinct c.leave_each.new.self cells d there all)
+    subst (λ ns. Indexes (cells_without 0 ns d) c.leave_each.new.self) (sym parts) (all_left x rest distinct c.leave_each.new.self cells d there all)
 
 pub returns-in_default-clause-left : goal.returns-in_default-clause-left
 returns-in_default-clause-left t c = λ d places is.
-    subst (λ ns. Indexes (cleared 0 ns d) c.args.self.now) (sym (nil_from_length c.args.places.now c.in_default.ensures.cases)) (none_cleared c.args.self.now d is)
+    subst (λ ns. Indexes (cells_without 0 ns d) c.args.self.now) (sym (nil_from_length c.args.places.now c.in_default.ensures.cases)) (none_cleared c.args.self.now d is)

@@ -1,5 +1,5 @@
 use Rattle.std.proofs.Common.{◌≡◌, sym, ◌∙◌, ap, arith}
-use Rattle.mls_tree_index.specs.Gaps.{filled}
+use Rattle.mls_tree_index.specs.Gaps.{fill_gaps}
 use Rattle.mls_tree_index.proofs.FillLaws.{entered_at_once}
 use Rattle.mls_tree_index.proofs.index.Index.enter_all.Goals as goal
 
@@ -11,7 +11,7 @@ returns-in-Some-clause-entered c = λ d places is.
     let found = c.in-Some.ensures in
     entered_at_once s _ c.args.places.now c.in-Some.gaps d
     (ap (λ t. t.kind) c.self.view_is)
-    (c.fill.ensures.items ∙ ap (λ gs. filled gs c.self.inside.numbers.items) c.as_slice.ensures.gaps ∙ ap (λ t. filled c.in-Some.gaps t.numbers) c.self.view_is)
+    (c.fill_gaps.ensures.items ∙ ap (λ gs. fill_gaps gs c.self.inside.numbers.items) c.as_slice.ensures.gaps ∙ ap (λ t. fill_gaps c.in-Some.gaps t.numbers) c.self.view_is)
     (sym before ∙ none)
     none
     c.as_slice.ensures.ascend

@@ -6,18 +6,18 @@ use Rattle.mls_tree_index.specs.declared.gaps.Gap.{Gap}
 use Rattle.mls_tree_index.specs.declared.kind.KeyKind.{KeyKind}
 use Rattle.mls_tree_index.specs.Keys.{key_in}
 use Rattle.mls_tree_index.specs.Order.{IsPart}
-use Rattle.mls_tree_index.specs.Cleared.{cleared, HasPlaces}
+use Rattle.mls_tree_index.specs.BlankedCells.{cells_without, HasPlaces}
 use Rattle.mls_tree_index.proofs.ClearedLaws.{cleared_part}
-use Rattle.mls_tree_index.specs.Gaps.{IsWith, IsWithin, Opens}
+use Rattle.mls_tree_index.specs.Gaps.{HasOneMore, IsWithin, Opens}
 use Rattle.mls_tree_index.proofs.FillLaws.{opens_none, opens_same, opens_more}
 use Rattle.mls_tree_index.proofs.GapLaws.{within_more}
 use Rattle.mls_tree_index.proofs.index.Index.gaps.Goals as goal
 use Rattle.mls_tree_index.proofs.index.Index.gaps.Goals.{in-Some+else-is_beside+else-not-add, in_default}
 
-one_wider : (g : Gap) (gs hs : List Gap) → IsWith g gs hs → length hs ≡ length gs + 1
+one_wider : (g : Gap) (gs hs : List Gap) → HasOneMore g gs hs → length hs ≡ length gs + 1
 one_wider g gs hs more = ap length more.is ∙ length-insert gs more.at g more.within
 
-part_left : (kind : KeyKind) (places : List ℕ) (cells d : List (Option Node)) → HasPlaces kind places cells d → IsPart (key_in kind (cleared 0 places d)) (key_in kind cells)
+part_left : (kind : KeyKind) (places : List ℕ) (cells d : List (Option Node)) → HasPlaces kind places cells d → IsPart (key_in kind (cells_without 0 places d)) (key_in kind cells)
 part_left kind places cells d here y some = let same = cleared_part kind places d y some in here.part y (ap is_some same ∙ some) ∙ same
 
 pub loop-x-init : goal.loop-x-init
@@ -52,8 +52,8 @@ loop-x-preserved c =
             within = subst (IsWithin (length numbers)) (sym w.gaps-is) (within_more _ c.loop-x.gaps w.add.new.self (length numbers) w.place-place.ensures.bound w.if-not-add.ensures before.within);
             opens = λ d here es.
                 let part = part_left kind places cells d here in
-                let gap = w.place-place.ensures.gap (key_in kind (cleared 0 places d)) part es in
-                let fresh = sym w.if-is_beside.false ∙ w.is_beside.ensures (cleared 0 places d) part es (get_or places i 0) gap in
+                let gap = w.place-place.ensures.gap (key_in kind (cells_without 0 places d)) part es in
+                let fresh = sym w.if-is_beside.false ∙ w.is_beside.ensures (cells_without 0 places d) part es (get_or places i 0) gap in
                 subst (λ gs. Opens kind places (take (i + 1) places) d numbers gs) (sym w.gaps-is) (opens_more kind places cells d here numbers i inside c.loop-x.gaps w.add.new.self w.place-place.result w.in-Some.key.now key gap fresh w.if-not-add.ensures (before.opens d here es));
           }
       | in_default w ↦

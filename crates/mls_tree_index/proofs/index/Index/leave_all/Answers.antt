@@ -1,5 +1,5 @@
 use Rattle.std.proofs.Common.{◌≡◌, ◌∙◌, ap, arith}
-use Rattle.mls_tree_index.specs.Moves.{without}
+use Rattle.mls_tree_index.specs.Moves.{list_without}
 use Rattle.mls_tree_index.proofs.PassLaws.{left_at_once}
 use Rattle.mls_tree_index.proofs.index.Index.leave_all.Goals as goal
 
@@ -11,7 +11,7 @@ returns-clause-left c = λ d places is.
     let after = ap (λ t. t.repeats) c.self-2.view_is in
     left_at_once s _ c.args.places.now c.positions-positions.result d
     (ap (λ t. t.kind) c.self-2.view_is)
-    (c.take_out_all.ensures.items ∙ ap (λ t. without 0 c.positions-positions.result t.numbers) c.self-2.view_is)
+    (c.take_out_all.ensures.items ∙ ap (λ t. list_without 0 c.positions-positions.result t.numbers) c.self-2.view_is)
     (omega arith)
     (omega arith)
     (c.positions-positions.ensures d places is.entries)

@@ -2,7 +2,7 @@ use Rattle.std.proofs.Common.{◌≤◌, List, length, take, Option}
 use Rattle.mls_leaf.specs.declared.node.Node.{Node}
 use Rattle.mls_tree_index.specs.Keys.{key_in}
 use Rattle.mls_tree_index.specs.Order.{Entries}
-use Rattle.mls_tree_index.specs.Cleared.{HasPlaces}
+use Rattle.mls_tree_index.specs.BlankedCells.{HasPlaces}
 use Rattle.mls_tree_index.specs.Moves.{Marks}
 use Rattle.mls_tree_index.proofs.index.Index.positions.Given as goal
 

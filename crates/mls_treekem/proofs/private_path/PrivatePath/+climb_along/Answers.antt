@@ -11,8 +11,8 @@ pub returns-in_default : goal.returns-in_default
 returns-in_default g t c =
     λ _. along_none g.S.Suite.crypto c.args.context.now c.args.added.now (term c.args.tree.now) c.args.places.now c.args.self.now.leaf (all_keys c.args.self.now) (reverse c.args.path.now) (nil_from_length _ c.in_default.ensures.cases)
 
-pub open_here-requires-clause-placed : goal.open_here-requires-clause-placed
-open_here-requires-clause-placed g t c = first_placed _ _ _ _ c.in-Some.ensures.cases.0 c.requires.placed
+pub open_at_ancestor-requires-clause-placed : goal.open_at_ancestor-requires-clause-placed
+open_at_ancestor-requires-clause-placed g t c = first_placed _ _ _ _ c.in-Some.ensures.cases.0 c.requires.placed
 
 pub returns-then-is_beside : goal.returns-then-is_beside
 returns-then-is_beside g t c =
@@ -20,7 +20,7 @@ returns-then-is_beside g t c =
     (first_placed _ _ _ _ c.in-Some.ensures.cases.0 c.requires.placed)
     c.args.self.now c.args.path.now c.is_filtered-is_filtered.result c.is_filtered-is_filtered.ensures c.is_beside.result (is_beside_of _ _ _ _ _ c.leaf.ensures c.is_beside.ensures)
     c.in_ok-climb.climb _ c.if-is_beside.true
-    (c.in_ok-climb.ensures (map (step_of (term c.args.tree.now)) c.in-Some.below.now) (length-map c.in-Some.below.now (step_of (term c.args.tree.now)))) c.past_parent.ensures
+    (c.in_ok-climb.ensures (map (step_of (term c.args.tree.now)) c.in-Some.below.now) (length-map c.in-Some.below.now (step_of (term c.args.tree.now)))) c.climb_past_parent.ensures
 
 pub returns-in_err-climb : goal.returns-in_err-climb
 returns-in_err-climb g t c =
@@ -40,7 +40,7 @@ returns g t c =
     other_ok g.S.Suite.crypto c.args.context.now c.args.added.now (term c.args.tree.now) c.in-Some.place.now c.in-Some.below.now c.args.places.now c.in-Some.ensures.cases.0
     (first_placed _ _ _ _ c.in-Some.ensures.cases.0 c.requires.placed)
     c.args.self.now c.args.path.now c.is_filtered-is_filtered.result c.is_filtered-is_filtered.ensures c.is_beside.result (is_beside_of _ _ _ _ _ c.leaf.ensures c.is_beside.ensures)
-    c.nodes_below-rest.result.now c.nodes_below-rest.ensures c.in_ok-climb-2.climb _ c.if-is_beside.false c.in_ok-climb-2.ensures c.past_parent-2.ensures
+    c.nodes_below-rest.result.now c.nodes_below-rest.ensures c.in_ok-climb-2.climb _ c.if-is_beside.false c.in_ok-climb-2.ensures c.climb_past_parent-2.ensures
 
 pub returns-in_err-climb-2 : goal.returns-in_err-climb-2
 returns-in_err-climb-2 g t c =

@@ -1,5 +1,5 @@
 use Rattle.std.proofs.Common.{refl, ap}
-use Rattle.mls_treekem.proofs.Raised.{has_made, raised_is, made_low}
+use Rattle.mls_treekem.proofs.KeysAtHeights.{has_made, raised_is, made_low}
 use Rattle.mls_treekem.proofs.private_path.PrivatePath.make_path.Goals as goal
 
 pub invariant_of-self : goal.invariant_of-self

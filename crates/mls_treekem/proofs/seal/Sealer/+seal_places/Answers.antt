@@ -4,7 +4,7 @@ use Rattle.std.proofs.lemmas.List.{nil_from_length}
 use Rattle.mls_tree.specs.Tree.{term}
 use Rattle.mls_treekem.specs.Faults.{number_of}
 use Rattle.mls_treekem.specs.Secrets.{public_keys}
-use Rattle.mls_treekem_model.specs.Seeds.{seals_in}
+use Rattle.mls_treekem_model.specs.Seeds.{seal_count_of}
 use Rattle.mls_treekem.proofs.Sealing.{along_none, count_none, numbers_none, placed_here, placed_below, along_same, count_same, numbers_same, count_one, numbers_more, along_more, along_fails, below_fails}
 use Rattle.mls_treekem.proofs.seal.Sealer.+seal_places.Goals as goal
 
@@ -58,7 +58,7 @@ returns-in_err-node-clause-answer g t c =
     let count = ap length c.as_slice-count.ensures.value ∙ c.in_ok-nodes.ensures.count in
     along_fails (term c.args.self.now.tree.now) c.in-Some.place.now c.in-Some.below.now c.args.places.now c.in-Some.ensures.cases.0 c.requires.placed c.as_slice-reached.result.now (c.as_slice-reached.ensures.value ∙ c.in_ok-resolution.ensures)
     _ c.is_empty.ensures c.if-is_empty.false g.S.Suite.crypto c.args.self.now.context.now c.args.self.now.added.now c.args.self.now.seed.now c.args.self.now.path.now.secrets.items (public_keys c.args.self.now.path.now)
-    _ _ count (c.seals_in-first.ensures ∙ ap (λ xs. seals_in xs % 2 ^ 32) c.deref.ensures.value ∙ ap (λ n. n % 2 ^ 32) c.in_ok-nodes.ensures.seals) c.as_slice-reached.result.now refl (number_of c.in_err-node.field-0.0)
+    _ _ count (c.seal_count_of-first.ensures ∙ ap (λ xs. seal_count_of xs % 2 ^ 32) c.deref.ensures.value ∙ ap (λ n. n % 2 ^ 32) c.in_ok-nodes.ensures.seals) c.as_slice-reached.result.now refl (number_of c.in_err-node.field-0.0)
     (c.in_err-node.ensures.answer other))
 
 pub returns-clause-answer : goal.returns-clause-answer
@@ -66,7 +66,7 @@ returns-clause-answer g t c =
     let count = ap length c.as_slice-count.ensures.value ∙ c.in_ok-nodes.ensures.count in
     along_more (term c.args.self.now.tree.now) c.in-Some.place.now c.in-Some.below.now c.args.places.now c.in-Some.ensures.cases.0 c.requires.placed c.as_slice-reached.result.now (c.as_slice-reached.ensures.value ∙ c.in_ok-resolution.ensures)
     _ c.is_empty.ensures c.if-is_empty.false g.S.Suite.crypto c.args.self.now.context.now c.args.self.now.added.now c.args.self.now.seed.now c.args.self.now.path.now.secrets.items (public_keys c.args.self.now.path.now)
-    _ _ count (c.seals_in-first.ensures ∙ ap (λ xs. seals_in xs % 2 ^ 32) c.deref.ensures.value ∙ ap (λ n. n % 2 ^ 32) c.in_ok-nodes.ensures.seals) c.as_slice-reached.result.now refl c.in_ok-node.node c.in_ok-nodes.nodes.items c.push.new.self.items
+    _ _ count (c.seal_count_of-first.ensures ∙ ap (λ xs. seal_count_of xs % 2 ^ 32) c.deref.ensures.value ∙ ap (λ n. n % 2 ^ 32) c.in_ok-nodes.ensures.seals) c.as_slice-reached.result.now refl c.in_ok-node.node c.in_ok-nodes.nodes.items c.push.new.self.items
     c.in_ok-node.ensures.answer
     c.in_ok-nodes.ensures.answer
     c.in_ok-push.ensures.items

@@ -1,6 +1,6 @@
 use Rattle.std.proofs.Common.{◌∙◌, ap, List, ℕ}
 use Rattle.mls_kdf.specs.Kdf.{hmac}
-use Rattle.mls_view.proofs.Fed.{tagged_is}
+use Rattle.mls_view.proofs.SliceInputs.{tagged_is}
 use Rattle.mls_view.proofs.public_message.PublicMessageView.membership_tag_under.Goals as goal
 
 pub returns : goal.returns

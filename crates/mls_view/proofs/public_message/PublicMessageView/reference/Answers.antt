@@ -2,7 +2,7 @@ use Rattle.std.proofs.Common.{◌∙◌, ap, List, ℕ}
 use Rattle.std.specs.Prelude.{codes}
 use Rattle.mls_kdf.specs.Kdf.{ref_hash}
 use Rattle.mls_types.specs.Reference.{proposal_reference}
-use Rattle.mls_view.proofs.Fed.{authenticated_is}
+use Rattle.mls_view.proofs.SliceInputs.{authenticated_is}
 use Rattle.mls_view.proofs.public_message.PublicMessageView.reference.Goals as goal
 
 pub returns : goal.returns

@@ -2,7 +2,7 @@ use Rattle.std.proofs.lemmas.Result.{err_from_is_err_and}
 use Rattle.std.proofs.Common.{arith, refl}
 use Rattle.mls_treekem_model.specs.Seeds.{seal_seed}
 use Rattle.mls_welcome.specs.Faults.{number_of}
-use Rattle.mls_welcome.proofs.Joined.{entries_more, entries_fail, entries_end}
+use Rattle.mls_welcome.proofs.SealedEntries.{entries_more, entries_fail, entries_end}
 use Rattle.mls_welcome.proofs.entries.Sealer.entries.Goals as goal
 
 pub returns-in_err-entry : goal.returns-in_err-entry

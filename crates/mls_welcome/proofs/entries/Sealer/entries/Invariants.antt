@@ -1,6 +1,6 @@
 use Rattle.std.proofs.Common.{◌≡◌, ◌+◌}
 use Rattle.mls_treekem_model.specs.Seeds.{seal_seed}
-use Rattle.mls_welcome.proofs.Joined.{EntriesLeft}
+use Rattle.mls_welcome.proofs.SealedEntries.{EntriesLeft}
 use Rattle.mls_welcome.proofs.entries.Sealer.entries.Given as goal
 
 abbrev pub invariant-loop-joiner : goal.invariant-loop-joiner

@@ -1,5 +1,5 @@
 use Rattle.std.proofs.Common.{◌≡◌, ◌<◌, length}
-use Rattle.mls_world_plain.specs.Stored.{journal_at}
+use Rattle.mls_world_plain.specs.StoredWorld.{journal_at}
 use Rattle.mls_world_plain.proofs.journal.Journals.origin_of.Given as goal
 
 abbrev pub invariant-loop-origin : goal.invariant-loop-origin

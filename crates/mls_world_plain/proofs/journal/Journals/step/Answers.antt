@@ -1,7 +1,7 @@
 use Rattle.std.proofs.Common.{◌≡◌, ◌<◌, ◌∙◌, List, length, sym, ap, subst, arith}
 use Rattle.mls_model.specs.Journal.{Journal}
-use Rattle.mls_world_plain.specs.Unrolled.{HasStep}
-use Rattle.mls_world_plain.proofs.Unrolled.{as_many, step_at}
+use Rattle.mls_world_plain.specs.JournalSteps.{HasStep}
+use Rattle.mls_world_plain.proofs.JournalSteps.{as_many, step_at}
 use Rattle.mls_world_plain.proofs.journal.Journals.step.Goals as goal
 
 pub index-requires : goal.index-requires

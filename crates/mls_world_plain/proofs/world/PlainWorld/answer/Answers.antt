@@ -2,8 +2,8 @@ use Rattle.std.proofs.Common.{◌≡◌, List, Err, sym, subst}
 use Rattle.std.proofs.lemmas.Result.{err_from_is_err_and}
 use Rattle.mls_tree.proofs.RefusalLaws.{one_number, not_refused}
 use Rattle.mls_model.specs.declared.event.WorldItem.{WorldItem}
-use Rattle.mls_model.specs.Calls.{drop_answer}
-use Rattle.mls_world_plain.specs.Outright.{early_commit_checks}
+use Rattle.mls_model.specs.WorldCalls.{drop_answer}
+use Rattle.mls_world_plain.specs.EarlyChecks.{early_commit_checks}
 use Rattle.mls_world_plain.proofs.Stepping.{of_candidate, of_create, of_add, of_update, of_remove, of_commit, of_drop, of_delivery, of_join}
 use Rattle.mls_world_plain.proofs.world.PlainWorld.answer.Goals as goal
 

@@ -1,11 +1,11 @@
 use Rattle.std.proofs.Common.{ℕ, ◌≡◌, length, refl, sym, ap, subst, ◌∙◌, arith}
 use Rattle.std.proofs.lemmas.List.{length-map}
 use Rattle.mls_model.specs.declared.origin.Origin.TheVariants as from
-use Rattle.mls_model.specs.Candidate.{Candidate, created}
-use Rattle.mls_model.specs.Journal.{begun}
+use Rattle.mls_model.specs.Candidate.{Candidate, create_group}
+use Rattle.mls_model.specs.Journal.{new_journal}
 use Rattle.mls_tree.proofs.RefusalLaws.{one_number, not_refused}
-use Rattle.mls_model.specs.World.{Entrant, World, entrant_at, with_joined}
-use Rattle.mls_world_plain.specs.Stored.{seat_of}
+use Rattle.mls_model.specs.World.{Entrant, World, entrant_at, with_new_member}
+use Rattle.mls_world_plain.specs.StoredWorld.{seat_of}
 use Rattle.mls_world_plain.proofs.Entering.{create_is, create_absent, create_refused, entrant_within}
 use Rattle.mls_world_plain.proofs.world.PlainWorld.create.Goals as goal
 
@@ -17,7 +17,7 @@ returns-in-Err-create-clause-does g c =
     let same : c.entrant.inside.candidate ≡ c.in-Ok.entrant.now.candidate = ap (λ (x : Entrant). x.candidate) c.entrant.view_is in (
       refl,
       λ h. create_refused g.S.Suite.crypto c.args.self.now c.args.candidate c.args.group.now c.args.seed.now c.in-Ok.entrant.now _ c.in-Ok.ensures
-          (ap (λ (x : Candidate). created g.S.Suite.crypto x c.args.group.now c.args.seed.now) (sym same) ∙ c.in-Err-create.ensures.answer h),
+          (ap (λ (x : Candidate). create_group g.S.Suite.crypto x c.args.group.now c.args.seed.now) (sym same) ∙ c.in-Err-create.ensures.answer h),
     )
 
 pub begin_member-requires : goal.begin_member-requires
@@ -31,9 +31,9 @@ returns-clause-does g c =
     let seats : length w.seats ≡ length c.self.inside.seats.items = ap (λ (x : World). length x.seats) (sym c.self.view_is) ∙ length-map c.self.inside.seats.items (seat_of c.self.inside.journals) in
     let at : c.len.result ≡ length w.seats = omega (arith, c.len.ensures, stored, seats) in
     create_is g.S.Suite.crypto w c.begin_member.new.self c.args.candidate c.in_ok-number.number c.args.group.now c.args.seed.now c.in-Ok.entrant.now c.in-Ok-create.member c.in-Ok.ensures
-    (ap (λ (x : Candidate). created g.S.Suite.crypto x c.args.group.now c.args.seed.now) (sym same) ∙ c.in-Ok-create.ensures.answer)
+    (ap (λ (x : Candidate). create_group g.S.Suite.crypto x c.args.group.now c.args.seed.now) (sym same) ∙ c.in-Ok-create.ensures.answer)
     c.in_ok-number.ensures.number
-    (λ x q. subst (λ (i : ℕ). c.begin_member.new.self ≡ with_joined w c.args.candidate x (record { member = c.in-Ok-create.member; journal = begun (from.Creation i) })) at (c.in_ok-number.ensures.ok x q))
+    (λ x q. subst (λ (i : ℕ). c.begin_member.new.self ≡ with_new_member w c.args.candidate x (record { member = c.in-Ok-create.member; journal = new_journal (from.Creation i) })) at (c.in_ok-number.ensures.ok x q))
 
 pub returns-in-Err-clause-outright : goal.returns-in-Err-clause-outright
 returns-in-Err-clause-outright g c = λ n h. one_number (entrant_at c.args.self.now c.args.candidate) _ c.in-Err.ensures n h

@@ -3,7 +3,7 @@ use Rattle.mls_model.specs.declared.event.WorldItem.{WorldItem}
 use Rattle.mls_tree.proofs.RefusalLaws.{one_number, not_refused}
 use Rattle.mls_model.specs.World.{item_of, package_of}
 use Rattle.mls_world_plain.proofs.Readings.{item_added}
-use Rattle.mls_world_plain.proofs.Early.{item_refused}
+use Rattle.mls_world_plain.proofs.EarlyChecks.{item_refused}
 use Rattle.mls_world_plain.proofs.Items.{the_reference, item_referred, item_unread, item_absent}
 use Rattle.mls_world_plain.proofs.world.PlainWorld.item_of.Goals as goal
 

@@ -2,7 +2,7 @@ use Rattle.std.proofs.Common.{List, sym, subst, ◌+◌}
 use Rattle.mls_model.specs.declared.item.Item.{Item}
 use Rattle.mls_model.specs.World.{item_of}
 use Rattle.mls_world_plain.proofs.Listing.{AreItems, items_start, items_next, items_fail, items_end}
-use Rattle.mls_world_plain.proofs.Early.{past_none, past_next, first_refused, list_passes}
+use Rattle.mls_world_plain.proofs.EarlyChecks.{past_none, past_next, first_refused, list_passes}
 use Rattle.mls_tree.proofs.RefusalLaws.{not_refused}
 use Rattle.mls_world_plain.proofs.world.PlainWorld.items_of.Goals as goal
 

@@ -1,5 +1,5 @@
 use Rattle.mls_world_plain.proofs.Listing.{AreItems}
-use Rattle.mls_world_plain.proofs.Early.{IsPast}
+use Rattle.mls_world_plain.proofs.EarlyChecks.{IsPast}
 use Rattle.mls_world_plain.proofs.world.PlainWorld.items_of.Given as goal
 
 abbrev pub invariant-loop-item : goal.invariant-loop-item

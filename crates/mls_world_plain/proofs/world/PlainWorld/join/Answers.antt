@@ -1,12 +1,12 @@
 use Rattle.std.proofs.Common.{ℕ, List, Option, ◌≡◌, ◌<◌, length, slice_get, refl, sym, ap, subst, ◌∙◌}
 use Rattle.mls_model.specs.declared.origin.Origin.TheVariants as from
 use Rattle.mls_model.specs.Candidate.{Candidate}
-use Rattle.mls_model.specs.Join.{Joined, join_verdict}
-use Rattle.mls_model.specs.Journal.{begun}
+use Rattle.mls_model.specs.Join.{JoinedMember, join_verdict}
+use Rattle.mls_model.specs.Journal.{new_journal}
 use Rattle.mls_tree.proofs.RefusalLaws.{one_number, not_refused}
-use Rattle.mls_model.specs.World.{Entrant, World, bytes_of, made_for, with_joined}
-use Rattle.mls_world_plain.specs.Parts.{made_at, IsThere}
-use Rattle.mls_world_plain.proofs.Early.{join_nobody, join_refused as no_bytes}
+use Rattle.mls_model.specs.World.{Entrant, World, bytes_of, commit_for_joiner, with_new_member}
+use Rattle.mls_world_plain.specs.CallParts.{commit_made_at, IsThere}
+use Rattle.mls_world_plain.proofs.EarlyChecks.{join_nobody, join_refused as no_bytes}
 use Rattle.mls_world_plain.proofs.Entering.{join_begun, join_absent, join_unread, join_refused, entrant_within}
 use Rattle.mls_world_plain.proofs.Welcomed.{join_made}
 use Rattle.mls_world_plain.proofs.world.PlainWorld.join.Goals as goal
@@ -34,11 +34,11 @@ begin_member-requires g c = entrant_within c.args.self.now c.args.candidate c.in
 pub returns-in_ok-member-in-Some-clause-does : goal.returns-in_ok-member-in-Some-clause-does
 returns-in_ok-member-in-Some-clause-does g c =
     let w : World = c.args.self.now in
-    let j : Joined = record { member = c.in-Ok-join.joined.member; info = c.in-Ok-join.joined.group_info.items } in
+    let j : JoinedMember = record { member = c.in-Ok-join.joined.member; info = c.in-Ok-join.joined.group_info.items } in
     let same : c.entrant.inside.candidate ≡ c.in-Ok.entrant.now.candidate = ap (λ (x : Entrant). x.candidate) c.entrant.view_is in
-    let made : made_for w.made c.args.source.now c.in-Ok.entrant.now.candidate ≡ slice_get w.made c.in-Some.made =
-    ap (λ (x : Candidate). made_for w.made c.args.source.now x) (sym same) ∙ c.made_for.ensures.first ∙ ap (λ (o : Option ℕ). made_at w.made o) c.in-Some.is in
-    let there : c.in-Some.made < length w.made = subst (λ (o : Option ℕ). IsThere w.made o) c.in-Some.is c.made_for.ensures.there in
+    let made : commit_for_joiner w.made c.args.source.now c.in-Ok.entrant.now.candidate ≡ slice_get w.made c.in-Some.made =
+    ap (λ (x : Candidate). commit_for_joiner w.made c.args.source.now x) (sym same) ∙ c.commit_for_joiner.ensures.first ∙ ap (λ (o : Option ℕ). commit_made_at w.made o) c.in-Some.is in
+    let there : c.in-Some.made < length w.made = subst (λ (o : Option ℕ). IsThere w.made o) c.in-Some.is c.commit_for_joiner.ensures.there in
     join_made g.S.Suite.crypto w c.follow_member.new.self c.args.candidate c.in_ok-member-in-Some.member c.epoch_number-epoch.result c.in-Some.made c.args.source.now c.in-Ok-bytes_of.bytes.now c.in-Ok.entrant.now j c.in-Ok.ensures c.in-Ok-bytes_of.ensures
     (ap (λ (x : Candidate). join_verdict g.S.Suite.crypto x c.in-Ok-bytes_of.bytes.now) (sym same) ∙ c.in-Ok-join.ensures.answer)
     made there c.in_ok-member-in-Some.ensures.number c.epoch_number-epoch.ensures
@@ -47,13 +47,13 @@ returns-in_ok-member-in-Some-clause-does g c =
 pub returns-in_ok-member-in-None-clause-does : goal.returns-in_ok-member-in-None-clause-does
 returns-in_ok-member-in-None-clause-does g c =
     let w : World = c.args.self.now in
-    let j : Joined = record { member = c.in-Ok-join.joined.member; info = c.in-Ok-join.joined.group_info.items } in
+    let j : JoinedMember = record { member = c.in-Ok-join.joined.member; info = c.in-Ok-join.joined.group_info.items } in
     let same : c.entrant.inside.candidate ≡ c.in-Ok.entrant.now.candidate = ap (λ (x : Entrant). x.candidate) c.entrant.view_is in
     join_begun g.S.Suite.crypto w c.begin_member.new.self c.args.candidate c.in_ok-member-in-None.member c.epoch_number-epoch.result c.args.source.now c.in-Ok-bytes_of.bytes.now c.in-Ok.entrant.now j c.in-Ok.ensures c.in-Ok-bytes_of.ensures
     (ap (λ (x : Candidate). join_verdict g.S.Suite.crypto x c.in-Ok-bytes_of.bytes.now) (sym same) ∙ c.in-Ok-join.ensures.answer)
-    (ap (λ (x : Candidate). made_for w.made c.args.source.now x) (sym same) ∙ c.made_for.ensures.first ∙ ap (λ (o : Option ℕ). made_at w.made o) c.in-None.is)
+    (ap (λ (x : Candidate). commit_for_joiner w.made c.args.source.now x) (sym same) ∙ c.commit_for_joiner.ensures.first ∙ ap (λ (o : Option ℕ). commit_made_at w.made o) c.in-None.is)
     c.in_ok-member-in-None.ensures.number c.epoch_number-epoch.ensures
-    (λ x q. subst (λ (l : List ℕ). c.begin_member.new.self ≡ with_joined w c.args.candidate x (record { member = j.member; journal = begun (from.GroupInfo l) })) c.from_vec.ensures (c.in_ok-member-in-None.ensures.ok x q))
+    (λ x q. subst (λ (l : List ℕ). c.begin_member.new.self ≡ with_new_member w c.args.candidate x (record { member = j.member; journal = new_journal (from.GroupInfo l) })) c.from_vec.ensures (c.in_ok-member-in-None.ensures.ok x q))
 
 pub returns-in-Err-clause-outright : goal.returns-in-Err-clause-outright
 returns-in-Err-clause-outright g c = λ n h. join_nobody c.args.self.now c.args.candidate c.args.source.now _ n c.in-Err.ensures h

@@ -1,5 +1,5 @@
 use Rattle.std.proofs.lemmas.Result.{err_from_is_err_and}
-use Rattle.mls_world_plain.proofs.Early.{package_unlent, package_lent}
+use Rattle.mls_world_plain.proofs.EarlyChecks.{package_unlent, package_lent}
 use Rattle.mls_world_plain.proofs.world.PlainWorld.package_of.Goals as goal
 
 pub returns-in_err-bytes-clause-outright : goal.returns-in_err-bytes-clause-outright

@@ -2,7 +2,7 @@ use Rattle.std.proofs.Common.{◌∙◌}
 use Rattle.std.proofs.lemmas.Result.{err_from_is_err_and}
 use Rattle.mls_tree.proofs.RefusalLaws.{not_refused}
 use Rattle.mls_model.specs.World.{package_of}
-use Rattle.mls_world_plain.proofs.Early.{add_nobody, add_refused}
+use Rattle.mls_world_plain.proofs.EarlyChecks.{add_nobody, add_refused}
 use Rattle.mls_world_plain.proofs.world.PlainWorld.propose_add.Goals as goal
 
 pub returns-in_err-require_member-clause-outright : goal.returns-in_err-require_member-clause-outright

@@ -1,6 +1,6 @@
 use Rattle.std.proofs.Common.{◌∙◌}
 use Rattle.std.proofs.lemmas.Result.{err_from_is_err_and}
-use Rattle.mls_world_plain.proofs.Early.{is_there, not_there}
+use Rattle.mls_world_plain.proofs.EarlyChecks.{is_there, not_there}
 use Rattle.mls_world_plain.proofs.world.PlainWorld.propose_remove.Goals as goal
 
 pub returns-in_err-require_member-clause-outright : goal.returns-in_err-require_member-clause-outright

@@ -1,5 +1,5 @@
 use Rattle.std.proofs.Common.{◌≡◌, ℕ, Err, subst, ◌∙◌, arith}
-use Rattle.mls_world_plain.specs.Outright.{early_checks}
+use Rattle.mls_world_plain.specs.EarlyChecks.{early_checks}
 use Rattle.mls_world_plain.proofs.Stepping.{never_memory}
 use Rattle.mls_world_plain.proofs.world.PlainWorld.step.Goals as goal
 

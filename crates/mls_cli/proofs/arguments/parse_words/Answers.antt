@@ -1,0 +1,15 @@
+use Rattle.std.proofs.Common.{refl, subst, ap, ◌∙◌, ◌≡◌, true, map}
+use Rattle.clap.specs.Words.{App, is_simple_and_free, fault_of, FailsBy}
+use Rattle.clap.proofs.OnLiterals.{clap_on_literals}
+use Rattle.mls_cli.specs.Arguments.{mls}
+use Rattle.mls_cli.proofs.arguments.parse_words.Goals as goal
+
+is_free : is_simple_and_free mls ≡ true
+unfolding clap_on_literals
+is_free = refl
+
+pub returns-clause-faults : goal.returns-clause-faults
+returns-clause-faults g c =
+    subst (λ (a : App). FailsBy (fault_of a (map g.S.AsStr.text c.args.words.now)) c.try_get_matches_from.result)
+    c.in_ok-command.ensures
+    (c.try_get_matches_from.ensures.kinds (ap is_simple_and_free c.in_ok-command.ensures ∙ is_free))

@@ -1,4 +1,0 @@
-use Rattle.mls_cli_show.proofs.message.behind_head.Goals as goal
-
-pub returns : goal.returns
-returns c = rw (c.in_ok-head.ensures.items, c.line_of.ensures, c.line_of-2.ensures) at c.joined.ensures

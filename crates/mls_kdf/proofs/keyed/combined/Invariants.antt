@@ -1,6 +1,0 @@
-use Rattle.std.proofs.Common.{◌≡◌, take, drop, map, ◌++◌}
-use Rattle.std.specs.Prelude.{bit_xor}
-use Rattle.mls_kdf.proofs.keyed.combined.Given as goal
-
-abbrev pub invariant-loop-k : goal.invariant-loop-k
-invariant-loop-k l = l.k-items ≡ map (λ k. bit_xor k l.byte) (take l.k-index l.fn.block) ++ drop l.k-index l.fn.block

@@ -1,7 +1,0 @@
-use Rattle.mls_member.proofs.CommitLengths.{list_below, path_below, path_wider}
-use Rattle.mls_member.proofs.advance.owned_commit.Goals as goal
-
-pub returns-clause-short : goal.returns-clause-short
-returns-clause-short c =
-    let below = path_below _ _ c.in_ok-path.ensures c.requires.path in
-    record { proposals = list_below _ _ c.in_ok-proposals.ensures c.requires.proposals; path = below; wider = path_wider _ below }

@@ -1,6 +1,0 @@
-use Rattle.std.proofs.Common.{drop}
-use Rattle.mls_member.proofs.Uses.{AreUsed}
-use Rattle.mls_member.proofs.used.used_by.Given as goal
-
-abbrev pub invariant-loop-listed : goal.invariant-loop-listed
-invariant-loop-listed l = AreUsed l.kept l.committer l.list (drop l.listed-index l.list) l.used.items

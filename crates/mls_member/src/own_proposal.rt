@@ -1,0 +1,132 @@
+//! Proposing. Where a call ends early, a large proposal is given to `drop`: that is one call, and the prover doesn't take
+//! it apart there.
+
+ghost use Rattle.std.specs.Prelude.{◌≡◌, ◌^◌, true, false, Err, is_some, IfOk};
+ghost use Rattle.mls_wire.specs.Checks.{Answers, AnswersOutright, DoesAs, passed, require};
+ghost use Rattle.mls_leaf.specs.KeyPackage.{key_package as key_package_format};
+ghost use Rattle.mls_leaf.specs.Proposal.{proposal as proposal_format};
+ghost use Rattle.mls_leaf.specs.declared.proposal.Proposal.TheVariants.{Update};
+ghost use Rattle.mls_checks.specs.Checks.{key_package_checks};
+ghost use Rattle.mls_checks.specs.Short.{IsShort};
+ghost use Rattle.mls_tree_model.specs.Term.{leaf_of};
+ghost use Rattle.mls_tree.specs.Refusals.{RefusesOutright};
+ghost use Rattle.mls_public_group.specs.Faults.{number_of as number_of_group};
+ghost use Rattle.mls_public_group.specs.Short.{IsBelow};
+ghost use Rattle.mls_model.specs.Agreement.{IsGoodMember};
+ghost use Rattle.mls_model.specs.Propose.{propose_add, propose_update, propose_remove};
+ghost use Rattle.mls_member.specs.Faults.{number_of};
+ghost use Rattle.mls_member.specs.Proposing.{updated_answer};
+ghost use Rattle.mls_member.specs.declared.error.Refusal.TheVariants.{Gone};
+
+use crate::error::Refusal;
+use crate::member::Member;
+use mls_candidate::{leaf_key, renewed_leaf};
+use mls_kdf::Seed;
+use mls_leaf::{KeyPackage, LeafNode, LeafSource, Proposal};
+use mls_public_group::GroupError;
+use mls_suite::Suite;
+use mls_tree::TreeError;
+
+impl<S: Suite> Member<S> {
+    /// The checks of a KeyPackage (RFC 9420, 12.1.1).
+    fn require_package(&self, key_package: &KeyPackage) -> Result<(), GroupError>
+        requires { IsBelow (2 ^ 28) key_package_format key_package.now }
+        ensures { Answers (λ _. passed) number_of_group (key_package_checks S.crypto key_package.now) result }
+    {
+        mls_checks::key_package::<S>(self.alloc, key_package)?;
+        Ok(())
+    }
+
+    /// The leaf of an update: 22 where the member has none (RFC 9420, 7.2).
+    fn updated_leaf(&self, seed: &Seed) -> Result<LeafNode, GroupError>
+        ensures leaf { Answers (λ v. v) number_of_group (updated_answer S.crypto self.now seed.now) result }
+        ensures short { IfOk result (λ v. IsShort proposal_format (Update v)) }
+    {
+        let speaker = self.speaker();
+        let group = speaker.group;
+        let index = speaker.leaf;
+        group.is_short();
+        let Some(old) = group.tree().leaf(index) else {
+            return Err(GroupError::Tree(TreeError::NoSuchLeaf));
+        };
+        let group_id = group.context().group_id.as_slice();
+        let source = LeafSource::Update;
+        let signing = speaker.signing;
+        let leaf = renewed_leaf::<S>(self.alloc, signing, group_id, index, old, source, seed)?;
+        Ok(leaf)
+    }
+
+    /// That the member has a leaf: 22. It takes no memory.
+    fn require_own_leaf(&self) -> Result<(), GroupError>
+        ensures { AnswersOutright (λ _. passed) number_of_group (require 22 (is_some (leaf_of self.now.public.tree self.now.keys.leaf))) result }
+    {
+        match self.group.tree().leaf(self.keys.leaf()) {
+            Some(_) => Ok(()),
+            None => Err(GroupError::Tree(TreeError::NoSuchLeaf)),
+        }
+    }
+
+    /// Proposes to add a KeyPackage: its message, which the member keeps. 40 the member was removed, then the checks of the
+    /// KeyPackage, 6 the message is too long, 49 another message is kept under its reference (RFC 9420, 12.1.1).
+    #[tactic(auto, unfolding(mls_model::specs::Propose::propose_add, mls_model::specs::Propose::make_proposal, mls_model::specs::Proposals::proposal_checks))]
+    pub fn propose_add(&mut self, key_package: &KeyPackage) -> Result<Vec<u8>, Refusal>
+        requires { IsBelow (2 ^ 28) key_package_format key_package.now }
+        ensures answer { DoesAs (λ v. v.items) number_of (propose_add S.crypto self.old key_package.now) self.old self.new result }
+        ensures good { IsGoodMember S.crypto self.old → IsGoodMember S.crypto self.new }
+        // It takes no memory.
+        ensures gone { self.old.gone ≡ true → result ≡ Err Gone }
+    {
+        if self.gone {
+            return Err(Refusal::Gone);
+        }
+        self.require_package(key_package)?;
+        self.send_and_keep(Proposal::Add(key_package.clone()?), None)
+    }
+
+    /// Proposes a new key for the member's own leaf, made of the seed: its message, which the member keeps with the key. 40
+    /// the member was removed, then the checks of an update, 6 and 49 as of an addition (RFC 9420, 12.1.2).
+    #[tactic(auto, unfolding(mls_model::specs::Propose::propose_update, mls_model::specs::Propose::make_proposal))]
+    pub fn propose_update(&mut self, seed: &Seed) -> Result<Vec<u8>, Refusal>
+        ensures answer { DoesAs (λ v. v.items) number_of (propose_update S.crypto self.old seed.now) self.old self.new result }
+        ensures good { IsGoodMember S.crypto self.old → IsGoodMember S.crypto self.new }
+        // 40, and then 22, come also when an allocation fails.
+        ensures gone { self.old.gone ≡ true → result ≡ Err Gone }
+        ensures no_leaf { self.old.gone ≡ false → RefusesOutright number_of (require 22 (is_some (leaf_of self.old.public.tree self.old.keys.leaf))) result }
+    {
+        if self.gone {
+            return Err(Refusal::Gone);
+        }
+        self.require_own_leaf()?;
+        let own_key = leaf_key::<S>(self.alloc, seed)?;
+        let proposal = Proposal::Update(self.updated_leaf(seed)?);
+        let sender = self.keys.leaf();
+        if let Err(error) = self
+            .group
+            .require_proposal::<S>(self.alloc, sender, &proposal)
+        {
+            drop(proposal);
+            return Err(error.into());
+        }
+        self.send_and_keep(proposal, Some(own_key))
+    }
+
+    /// Proposes to remove the member at a leaf: its message, which the member keeps. 40 the member was removed, 22 no member
+    /// is at that leaf, 6 and 49 as of an addition (RFC 9420, 12.1.3).
+    #[tactic(auto, unfolding(mls_model::specs::Propose::propose_remove, mls_model::specs::Propose::make_proposal))]
+    pub fn propose_remove(&mut self, leaf: u32) -> Result<Vec<u8>, Refusal>
+        ensures answer { DoesAs (λ v. v.items) number_of (propose_remove S.crypto self.old leaf) self.old self.new result }
+        ensures good { IsGoodMember S.crypto self.old → IsGoodMember S.crypto self.new }
+        // 40, and then 22, come also when an allocation fails.
+        ensures gone { self.old.gone ≡ true → result ≡ Err Gone }
+        ensures no_leaf { self.old.gone ≡ false → RefusesOutright number_of (require 22 (is_some (leaf_of self.old.public.tree leaf))) result }
+    {
+        if self.gone {
+            return Err(Refusal::Gone);
+        }
+        let proposal = Proposal::Remove(leaf);
+        let sender = self.keys.leaf();
+        self.group
+            .require_proposal::<S>(self.alloc, sender, &proposal)?;
+        self.send_and_keep(proposal, None)
+    }
+}

@@ -1,0 +1,71 @@
+-- What a candidate finds in a Welcome (RFC 9420, 12.4.3.1): the first check that fails, by its number, or the GroupInfo with
+-- the secrets for it.
+use Rattle.std.specs.Prelude.{ℕ, ◌==◌, Bool, true, List, [], length, codes, find, Option, Some, None, Result, Ok, Err}
+use Rattle.std.specs.Str.{bytes_eq}
+use Rattle.mls_wire.specs.Checks.{require, require_some, ◌>>◌}
+use Rattle.mls_wire.specs.Reading.{◌>>=◌}
+use Rattle.mls_leaf.specs.Faults.{whole}
+use Rattle.mls_leaf.specs.Limits.{input_limit}
+use Rattle.mls_types.specs.GroupInfo.{group_info}
+use Rattle.mls_types.specs.Welcome.{group_secrets}
+use Rattle.mls_types.specs.declared.group_info.GroupInfo.{GroupInfo}
+use Rattle.mls_types.specs.declared.welcome.EncryptedGroupSecrets.{EncryptedGroupSecrets}
+use Rattle.mls_types.specs.declared.welcome.GroupSecrets.{GroupSecrets}
+use Rattle.mls_types.specs.declared.welcome.Welcome.{Welcome}
+use Rattle.mls_types.specs.declared.message.MlsMessage.{MlsMessage}
+use Rattle.mls_types.specs.declared.message.MlsMessage.TheVariants as message
+use Rattle.mls_suite.specs.Crypto.{Crypto}
+use Rattle.mls_suite.specs.Labels.{decrypt_with_label}
+use Rattle.mls_schedule.specs.Epoch.{welcome_key, welcome_nonce}
+use Rattle.mls_model.specs.Proposals.{package_reference}
+use Rattle.mls_model.specs.Messages.{decode_message, are_bytes}
+use Rattle.mls_model.specs.Candidate.{Candidate}
+
+-- the Welcome that a message is (RFC 9420, 6)
+abbrev pub welcome_in : MlsMessage → Option Welcome
+welcome_in (message.Welcome w) = Some w
+welcome_in other = None
+
+-- any fault in what was opened has this number
+abbrev pub or_fault : {A : Type 0} → ℕ → Result A ℕ → Result A ℕ
+or_fault n (Ok x) = Ok x
+or_fault n (Err e) = Err n
+
+-- whether a secret that may be left out has 32 bytes
+abbrev pub is_none_or_32 : Option (List ℕ) → Bool
+is_none_or_32 None = true
+is_none_or_32 (Some secret) = length secret == 32
+
+-- what is sealed in a candidate's entry (RFC 9420, 12.4.3.1): 73 where it doesn't open, is no GroupSecrets, or has a secret
+-- that isn't 32 bytes
+unfoldable pub opened_secrets : Crypto → Candidate → Welcome → EncryptedGroupSecrets → Result GroupSecrets ℕ
+opened_secrets c k w entry = do
+  bytes ← require_some 73 (decrypt_with_label c k.init (codes "Welcome") w.encrypted_group_info entry.encrypted_group_secrets.kem_output entry.encrypted_group_secrets.ciphertext)
+  secrets ← or_fault 73 (whole group_secrets input_limit bytes)
+  require 73 (length secrets.joiner_secret == 32)
+  require 73 (is_none_or_32 secrets.path_secret)
+  Ok secrets
+
+-- what a Welcome gave to a candidate (RFC 9420, 12.4.3.1): the joiner secret, a path secret or none, and the GroupInfo with
+-- its bytes
+pub record Opened : Type 0 where
+  pub joiner : List ℕ
+  pub path_secret : Option (List ℕ)
+  pub bytes : List ℕ
+  pub info : GroupInfo
+
+-- decoding; 70 no Welcome, 71 of another suite, 72 no entry for the candidate's KeyPackage, 73, 74 a pre-shared key is
+-- asked for, 75 the GroupInfo doesn't open or is none, 71 it is of another suite (RFC 9420, 12.4.3.1)
+unfoldable pub opened_welcome : Crypto → Candidate → List ℕ → Result Opened ℕ
+opened_welcome c k bytes = do
+  outer ← decode_message bytes
+  w ← require_some 70 (welcome_in outer)
+  require 71 (w.cipher_suite == c.number)
+  entry ← require_some 72 (find (λ (e : EncryptedGroupSecrets). bytes_eq e.new_member (package_reference k.offered)) w.secrets)
+  secrets ← opened_secrets c k w entry
+  require 74 (length secrets.psks == 0)
+  plain ← require_some 75 (c.aead_open (welcome_key secrets.joiner_secret) (welcome_nonce secrets.joiner_secret) [] w.encrypted_group_info)
+  require 75 (are_bytes plain)
+  info ← or_fault 75 (whole group_info input_limit plain)
+  require 71 (info.group_context.cipher_suite == c.number)
+  Ok (record { joiner = secrets.joiner_secret; path_secret = secrets.path_secret; bytes = plain; info = info })

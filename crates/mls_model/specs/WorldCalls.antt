@@ -1,0 +1,134 @@
+-- What each call on a world does: its reply and the world after it, or the number of the first check that fails.
+use Rattle.std.specs.Prelude.{ℕ, ◌+◌, Bool, false, not, List, [], ◌∷◌, ◌++◌, length, slice_set, option_map, Option, Some, None, is_some, Result, Ok}
+use Rattle.std.specs.List.{list_any}
+use Rattle.std.specs.Str.{bytes_eq}
+use Rattle.mls_wire.specs.Checks.{require, ◌>>◌}
+use Rattle.mls_wire.specs.Reading.{◌>>=◌}
+use Rattle.mls_types.specs.declared.commit.ProposalOrRef.{ProposalOrRef}
+use Rattle.mls_suite.specs.Crypto.{Crypto}
+use Rattle.mls_treekem_model.specs.Seeds.{sign_seed}
+use Rattle.mls_model.specs.declared.effect.Effect.{Effect}
+use Rattle.mls_model.specs.declared.effect.Effect.TheVariants.{Advanced}
+use Rattle.mls_model.specs.declared.event.Source.{Source}
+use Rattle.mls_model.specs.declared.event.WorldItem.{WorldItem}
+use Rattle.mls_model.specs.declared.event.Reply.{Reply}
+use Rattle.mls_model.specs.declared.event.Reply.TheVariants as reply
+use Rattle.mls_model.specs.declared.origin.Origin.TheVariants as from
+use Rattle.mls_model.specs.Member.{Member, with_pending, without_pending}
+use Rattle.mls_model.specs.Verdict.{verdict}
+use Rattle.mls_model.specs.Candidate.{new_candidate, package_message, create_group}
+use Rattle.mls_model.specs.Propose.{propose_add, propose_update, propose_remove}
+use Rattle.mls_model.specs.Make.{Made, make}
+use Rattle.mls_model.specs.Join.{join_verdict}
+use Rattle.mls_model.specs.Journal.{Journal, CommitMade, new_journal, with_entry, names_in, adds_in, entry_of}
+use Rattle.mls_model.specs.World.{World, Entrant, Seat, with_message, with_member, with_new_member, seat_at, entrant_at, bytes_of, package_of, items_of, commit_for_joiner, joiner_journal}
+
+-- ---- candidates and groups
+
+-- 93 a candidate has the signature key already
+unfoldable pub candidate_answer : Crypto → World → List ℕ → List ℕ → Result (Reply × World) ℕ
+candidate_answer c w identity seed = do
+  require 93 (not (list_any (λ (e : Entrant). bytes_eq e.candidate.offered.leaf_node.signature_key (c.sig_public (sign_seed seed))) w.entrants))
+  k ← new_candidate c identity seed
+  Ok (
+    reply.Candidate (length w.entrants) (length w.messages),
+    record w { entrants = w.entrants ++ (record { candidate = k; is_spent = false } ∷ []); messages = w.messages ++ (package_message k.offered ∷ []) },
+  )
+
+-- 92 no such candidate, 91 a spent one; it becomes the only member of a new group (RFC 9420, 11), and its journal begins
+unfoldable pub create_answer : Crypto → World → ℕ → List ℕ → List ℕ → Result (Reply × World) ℕ
+create_answer c w n group seed = do
+  e ← entrant_at w n
+  m ← create_group c e.candidate group seed
+  Ok (reply.Created (length w.seats), with_new_member w n e (record { member = m; journal = new_journal (from.Creation (length w.seats)) }))
+
+-- ---- proposals
+
+-- a proposal's message, and the member that keeps it
+abbrev pub proposal_answer : World → ℕ → Seat → List ℕ × Member → Reply × World
+proposal_answer w k s x = (reply.Proposal (length w.messages), with_message (with_member w k s x.1) x.0)
+
+-- 90 no such member; 94, decoding and 95 of the source; then it proposes to add that KeyPackage (RFC 9420, 12.1.1)
+unfoldable pub propose_add_answer : Crypto → World → ℕ → Source → Result (Reply × World) ℕ
+propose_add_answer c w k source = do
+  s ← seat_at w k
+  offered ← package_of w source
+  x ← propose_add c s.member offered
+  Ok (proposal_answer w k s x)
+
+-- 90 no such member; then it proposes to update its own leaf (RFC 9420, 12.1.2)
+unfoldable pub propose_update_answer : Crypto → World → ℕ → List ℕ → Result (Reply × World) ℕ
+propose_update_answer c w k seed = do
+  s ← seat_at w k
+  x ← propose_update c s.member seed
+  Ok (proposal_answer w k s x)
+
+-- 90 no such member; then it proposes to remove a leaf (RFC 9420, 12.1.3)
+unfoldable pub propose_remove_answer : Crypto → World → ℕ → ℕ → Result (Reply × World) ℕ
+propose_remove_answer c w k leaf = do
+  s ← seat_at w k
+  x ← propose_remove c s.member leaf
+  Ok (proposal_answer w k s x)
+
+-- ---- commits
+
+-- what a commit call of member k made; the message of its Welcome comes behind that of its commit
+unfoldable pub commit_record : World → ℕ → Seat → List ProposalOrRef → Made → CommitMade
+commit_record w k s list made = record {
+  maker = k;
+  journal = s.journal;
+  entry = record { commit = made.commit; names = names_in s.member.kept list };
+  epoch = made.pending.epoch;
+  adds = adds_in s.member.kept list;
+  welcome = option_map (λ bytes. (length w.messages + 1, bytes)) made.welcome;
+}
+
+-- its messages, and the reply
+abbrev pub commit_messages : Made → Option (List ℕ) → List (List ℕ)
+commit_messages made None = made.commit ∷ []
+commit_messages made (Some welcome) = made.commit ∷ (welcome ∷ [])
+
+-- 90 no such member; then what its list stands for; it makes the commit (RFC 9420, 12.4.1) and has it as pending, and
+-- the world has the messages and the record
+unfoldable pub commit_answer : Crypto → World → ℕ → List WorldItem → Bool → List ℕ → Result (Reply × World) ℕ
+commit_answer c w k items path seed = do
+  s ← seat_at w k
+  list ← items_of w items
+  made ← make c s.member list path seed
+  Ok (
+    reply.Commit (length w.messages) (option_map (λ (bytes : List ℕ). length w.messages + 1) made.welcome),
+    record (with_member w k s (with_pending s.member made.pending)) { messages = w.messages ++ commit_messages made made.welcome; made = w.made ++ (commit_record w k s list made ∷ []) },
+  )
+
+-- 90 no such member; it drops its pending commit, and the reply says whether there was one
+unfoldable pub drop_answer : World → ℕ → Result (Reply × World) ℕ
+drop_answer w k = do
+  s ← seat_at w k
+  Ok (reply.Dropped (is_some s.member.pending), with_member w k s (without_pending s.member))
+
+-- ---- deliveries and joins
+
+-- a commit that was followed is a new entry
+abbrev pub journal_after : Seat → List ℕ → Effect → Journal
+journal_after s bytes (Advanced epoch) = with_entry s.journal (entry_of s.member bytes)
+journal_after s bytes other = s.journal
+
+-- 90 no such member, 94 no such message; it does what the verdict on these bytes says (RFC 9420, 6)
+unfoldable pub deliver_answer : Crypto → World → ℕ → Source → Result (Reply × World) ℕ
+deliver_answer c w k source = do
+  s ← seat_at w k
+  bytes ← bytes_of w source
+  x ← verdict c s.member bytes
+  Ok (reply.Delivered x.0, record w { seats = slice_set w.seats k (record { member = x.1; journal = journal_after s bytes x.0 }) })
+
+-- 92 no such candidate, 91 a spent one, 94 no such message; it joins by these bytes as one more member, and is spent
+-- (RFC 9420, 12.4.3.1)
+unfoldable pub join_answer : Crypto → World → ℕ → Source → Result (Reply × World) ℕ
+join_answer c w n source = do
+  e ← entrant_at w n
+  bytes ← bytes_of w source
+  j ← join_verdict c e.candidate bytes
+  Ok (
+    reply.Joined (length w.seats) j.member.public.context.epoch,
+    with_new_member w n e (record { member = j.member; journal = joiner_journal (commit_for_joiner w.made source e.candidate) j.info }),
+  )

@@ -1,0 +1,10 @@
+use Rattle.mls_model.specs.Proposals.{removed_leaves}
+use Rattle.mls_public_group.proofs.Folding.{gathered, all_gathered, removed_split, removed_none}
+use Rattle.mls_public_group.proofs.changed_leaves.removed_leaves.Goals as goal
+
+pub loop-one-preserved : goal.loop-one-preserved
+loop-one-preserved c =
+    gathered removed_leaves removed_split c.args.used.now c.loop-one.one-index c.one-item.result c.loop-one.leaves.items c.push_removed.new.leaves.items _ c.loop-one-test.true c.one-item.is c.in_ok-push_removed.ensures c.loop-one.invariant
+
+pub returns : goal.returns
+returns c = all_gathered removed_leaves removed_none c.args.used.now c.loop-one.one-index c.loop-one.leaves.items _ c.loop-one-test.false c.loop-one.invariant

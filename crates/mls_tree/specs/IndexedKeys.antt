@@ -1,0 +1,45 @@
+-- The indexes that a tree keeps of its keys.
+use Rattle.std.specs.Prelude.{◌≡◌, ℕ, ◌≤◌, Bool, cond, List, length, Option, Some, None}
+use Rattle.mls_leaf.specs.declared.leaf.LeafNode.{LeafNode}
+use Rattle.mls_leaf.specs.declared.node.Node.{Node}
+use Rattle.mls_tree_index.specs.declared.kind.KeyKind.{KeyKind}
+use Rattle.mls_tree_index.specs.declared.kind.KeyKind.TheVariants.{Encryption, Signature}
+use Rattle.mls_tree_index.specs.BlankedCells.{cells_without}
+use Rattle.mls_tree_index.specs.Keys.{key_in}
+use Rattle.mls_tree_index.specs.Indexes.{Indexes, SameIndex}
+use Rattle.mls_tree.specs.declared.key_indexes.KeyIndexes.{KeyIndexes}
+
+-- both are of these cells
+pub record AreIndexes (cells : List (Option Node)) (t : KeyIndexes) : Type 0 where
+  pub encryption : t.keys.kind ≡ Encryption
+  pub signature : t.clients.kind ≡ Signature
+  pub keys : Indexes cells t.keys
+  pub clients : Indexes cells t.clients
+
+-- both have memory for so many more cells
+pub record HaveRoom (n : ℕ) (t : KeyIndexes) : Type 0 where
+  pub keys : n ≤ t.keys.room
+  pub clients : n ≤ t.clients.room
+
+-- they are the same but for their memory
+pub record AreSame (s t : KeyIndexes) : Type 0 where
+  pub keys : SameIndex s.keys t.keys
+  pub clients : SameIndex s.clients t.clients
+
+-- c has the keys of b, and those of cell x, which has none in b
+pub record Fills (x : ℕ) (b c : List (Option Node)) : Type 0 where
+  pub long : length b ≡ length c
+  pub blank : (k : KeyKind) → key_in k b x ≡ None
+  pub others : (k : KeyKind) (y : ℕ) → (y ≡ x → ⊥) → key_in k b y ≡ key_in k c y
+
+-- a leaf that may be missing has this signature key
+abbrev pub IsClient : List ℕ → Option LeafNode → Type 0
+IsClient key None = ⊥
+IsClient key (Some v) = v.signature_key ≡ key
+
+-- the index of keys is of the cells but for those at some places, that of clients too, or of all cells where it is kept
+pub record AreBeside (kept : Bool) (places : List ℕ) (cells : List (Option Node)) (t : KeyIndexes) : Type 0 where
+  pub encryption : t.keys.kind ≡ Encryption
+  pub signature : t.clients.kind ≡ Signature
+  pub keys : Indexes (cells_without 0 places cells) t.keys
+  pub clients : Indexes (cond kept cells (cells_without 0 places cells)) t.clients

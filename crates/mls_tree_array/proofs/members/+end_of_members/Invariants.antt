@@ -1,0 +1,4 @@
+use Rattle.mls_tree_array.proofs.members.+end_of_members.Given as goal
+
+abbrev pub decreases-end_of_members : goal.decreases-end_of_members
+decreases-end_of_members l = l.height

@@ -1,0 +1,4 @@
+use Rattle.mls_tree_array.proofs.originals.+original_hash.Given as goal
+
+abbrev pub decreases-original_hash : goal.decreases-original_hash
+decreases-original_hash l = l.height

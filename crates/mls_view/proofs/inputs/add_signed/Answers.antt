@@ -1,7 +1,0 @@
-use Rattle.std.proofs.Common.{refl}
-use Rattle.mls_wire.specs.Reading.{uint}
-use Rattle.mls_view.proofs.inputs.add_signed.Goals as goal
-
-pub returns : goal.returns
-unfolding uint
-returns c = rw (c.in_ok-extend_from_slice-3.ensures.items, c.in_ok-extend_from_slice-2.ensures.items, c.in_ok-extend_from_slice.ensures.items, c.in_ok-bytes.ensures.items) refl

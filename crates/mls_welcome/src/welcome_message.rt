@@ -1,0 +1,109 @@
+//! Making a Welcome.
+
+ghost use Rattle.std.specs.Prelude.{◌≡◌, ◌≤◌, ◌<◌, ◌^◌, ◌+◌, ℕ, List, Err, length, map};
+ghost use Rattle.mls_wire.specs.Checks.{Answers};
+ghost use Rattle.mls_treekem_model.specs.Seeds.{seal_seed};
+ghost use Rattle.mls_model.specs.Welcome.{unsigned_info, signed_info, welcome_message};
+ghost use Rattle.mls_welcome.specs.Joiners.{package_and_leaf_of, AreSecretsOf, AreShortJoiners};
+ghost use Rattle.mls_welcome.specs.Faults.{number_of};
+ghost use Rattle.mls_welcome.specs.WelcomeMessage.{welcome_of, message_with};
+
+use crate::entries::{Sealer, have_fit_keys};
+use crate::error::WelcomeError;
+use crate::info::signed_info;
+use crate::limits::spell_within_limit;
+use mls_types::{EncryptedGroupSecrets, Welcome};
+use mls_kdf::{Secret, Seed};
+use mls_leaf::{Bytes, Items, KeyPackage, LeafError};
+use mls_public_group::PublicGroup;
+use mls_schedule::Epoch;
+use mls_suite::Suite;
+use mls_types::MlsMessage;
+use mls_wire::WireError;
+use std::alloc::Global;
+
+/// Somebody whom a commit adds.
+#[derive(Drop)]
+pub struct Joiner<'a> {
+    /// The KeyPackage.
+    pub key_package: &'a KeyPackage,
+    /// The leaf where it was added.
+    pub leaf: u32,
+    /// The path secret of the node where its way and the committer's part, where the commit has a path.
+    pub path_secret: Option<&'a Secret>,
+}
+
+/// The refusal of a Welcome whose encrypted GroupInfo is too long to seal anything under it: 36 where an init key isn't
+/// fit, and else 6.
+fn refusal<S: Suite>(joiners: &[Joiner<'_>]) -> WelcomeError
+    ensures { (encrypted_info : List ℕ) (secrets rnd : ℕ → List ℕ) (n : ℕ) → 2 ^ 30 ≤ length encrypted_info → message_with S.crypto encrypted_info secrets rnd n (map package_and_leaf_of joiners.now) ≡ Err (number_of result) }
+{
+    if have_fit_keys::<S>(joiners) {
+        WelcomeError::Leaf(LeafError::Wire(WireError::TooLong))
+    } else {
+        WelcomeError::BadKey
+    }
+}
+
+/// A Welcome with these entries and this encrypted GroupInfo.
+fn welcome_of<S: Suite>(entries: Vec<EncryptedGroupSecrets>, encrypted_info: Vec<u8>) -> Welcome
+    ensures value { result ≡ welcome_of S.crypto entries.items encrypted_info.items }
+    ensures ranged { result.cipher_suite < 2 ^ 16 }
+{
+    Welcome {
+        cipher_suite: S::NUMBER,
+        secrets: Items::from_vec(entries),
+        encrypted_group_info: Bytes::from_vec(encrypted_info),
+    }
+}
+
+/// The message of a Welcome with this encrypted GroupInfo.
+fn message_with<S: Suite>(
+    alloc: Global,
+    encrypted_info: Vec<u8>,
+    sealer: &Sealer<'_>,
+    joiners: &[Joiner<'_>],
+    first_seal: u32,
+) -> Result<Vec<u8>, WelcomeError>
+    requires short { AreShortJoiners joiners.now }
+    requires seals { first_seal + length joiners.now < 2 ^ 32 }
+    ensures { (secrets : ℕ → List ℕ) → AreSecretsOf sealer.now.joiner_secret.now secrets joiners.now
+        → Answers (λ v. v.items) number_of (message_with S.crypto encrypted_info.items secrets (seal_seed sealer.now.seed.now) first_seal (map package_and_leaf_of joiners.now)) result }
+{
+    if encrypted_info.len() >= 1 << 30 {
+        return Err(refusal::<S>(joiners));
+    }
+    let entries = sealer.entries::<S>(alloc, &encrypted_info, joiners, first_seal)?;
+    let welcome = welcome_of::<S>(entries, encrypted_info);
+    spell_within_limit(alloc, &MlsMessage::Welcome(welcome))
+}
+
+/// The message of a Welcome to a group that a commit made, from the committer at leaf `signer`: the GroupInfo, signed and
+/// sealed once, and for each joiner the joiner secret and its path secret, sealed to its init key under the seals' numbers
+/// from `first_seal` on (RFC 9420, 12.4.3.1). 6 where the GroupInfo or the message is too large, 36 where an init key isn't
+/// fit. The confirmation tag has 32 bytes.
+pub fn welcome<S: Suite>(
+    alloc: Global,
+    group: &PublicGroup,
+    confirmation_tag: &Secret,
+    signer: u32,
+    signing: &Secret,
+    joiner_secret: &Secret,
+    joiners: &[Joiner<'_>],
+    seed: &Seed,
+    first_seal: u32,
+) -> Result<Vec<u8>, WelcomeError>
+    requires short { AreShortJoiners joiners.now }
+    requires seals { first_seal + length joiners.now < 2 ^ 32 }
+    ensures { (secrets : ℕ → List ℕ) → AreSecretsOf joiner_secret.now secrets joiners.now
+        → Answers (λ v. v.items) number_of (welcome_message S.crypto (signed_info S.crypto signing.now (unsigned_info group.now confirmation_tag.now signer)) joiner_secret.now secrets (seal_seed seed.now) first_seal (map package_and_leaf_of joiners.now)) result }
+{
+    let info = signed_info::<S>(alloc, group, confirmation_tag, signer, signing)?;
+    let key = Epoch::welcome_key(joiner_secret);
+    let encrypted_info = S::aead_seal(alloc, &key.key, &key.nonce, &[], &info)?;
+    let sealer = Sealer {
+        joiner_secret,
+        seed,
+    };
+    message_with::<S>(alloc, encrypted_info, &sealer, joiners, first_seal)
+}

@@ -1,0 +1,12 @@
+-- What calls on a world answer.
+use Rattle.std.specs.Prelude.{◌≡◌, Result, Ok, Err}
+use Rattle.mls_suite.specs.Crypto.{Crypto}
+use Rattle.mls_model.specs.declared.event.Event.{Event}
+use Rattle.mls_model.specs.declared.event.Reply.{Reply}
+use Rattle.mls_model.specs.World.{World}
+use Rattle.mls_model.specs.Run.{step}
+
+-- an event happened, with its reply, or memory was refused and nothing did
+abbrev pub DoesStep : {E : Type 0} → Crypto → Event → World → World → Result Reply E → Type 0
+DoesStep c event old new (Ok r) = step c old event ≡ (r, new)
+DoesStep c event old new (Err e) = new ≡ old

@@ -1,0 +1,76 @@
+-- How a world is stored: its journals stand in one list, and members and records of commits have numbers there.
+use Rattle.std.specs.Prelude.{◌≡◌, ℕ, ◌<◌, List, [], ◌∷◌, ◌++◌, map, drop, get_or, length, Option}
+use Rattle.std.specs.List.{AllByRecursion}
+use Rattle.mls_model.specs.declared.origin.Origin.TheVariants as from
+use Rattle.mls_model.specs.Member.{Member}
+use Rattle.mls_model.specs.Journal.{Entry, Journal, CommitMade, new_journal, with_entry}
+use Rattle.mls_model.specs.World.{Entrant, Seat, World}
+
+-- ---- journals
+
+-- journal n
+unfoldable pub journal_at : List Journal → ℕ → Journal
+journal_at js n = get_or js n (new_journal (from.Creation 0))
+
+-- a journal before its latest entry, and that entry
+abbrev pub before : Journal → Journal
+before j = record { origin = j.origin; entries = drop 1 j.entries }
+
+abbrev pub first_of : List Entry → Entry
+first_of [] = record { commit = []; names = [] }
+first_of (e ∷ es) = e
+
+abbrev pub latest : Journal → Entry
+latest j = first_of j.entries
+
+-- journal n is there
+abbrev pub IsWithin : List Journal → ℕ → Type 0
+IsWithin js n = n < length js
+
+-- and has an entry
+pub record HasEntry (js : List Journal) (n : ℕ) : Type 0 where
+  pub within : n < length js
+  pub follows : with_entry (before (journal_at js n)) (latest (journal_at js n)) ≡ journal_at js n
+
+-- other journals stand behind these
+pub record AreMore (old new : List Journal) : Type 0 where
+  pub more : List Journal
+  pub are : new ≡ old ++ more
+
+-- ---- members, and commits that were made
+
+-- a member, and the number of its journal
+pub record Seated : Type 0 where
+  pub member : Member
+  pub journal : ℕ
+
+-- what is recorded of a commit call; the journal's latest entry is the commit
+pub record Making : Type 0 where
+  pub maker : ℕ
+  pub journal : ℕ
+  pub epoch : List ℕ
+  pub adds : List (List ℕ)
+  pub welcome : Option (ℕ × List ℕ)
+
+abbrev pub seat_of : List Journal → Seated → Seat
+seat_of js s = record { member = s.member; journal = journal_at js s.journal }
+
+abbrev pub commit_made_of : List Journal → Making → CommitMade
+commit_made_of js d = record {
+  maker = d.maker;
+  journal = before (journal_at js d.journal);
+  entry = latest (journal_at js d.journal);
+  epoch = d.epoch;
+  adds = d.adds;
+  welcome = d.welcome;
+}
+
+-- ---- worlds
+
+abbrev pub world_of : List Entrant → List Seated → List (List ℕ) → List Making → List Journal → World
+world_of entrants seats messages made js = record { entrants = entrants; seats = map (seat_of js) seats; messages = messages; made = map (commit_made_of js) made }
+
+-- members stand at journals, and records at journals with an entry
+pub record AreStored (ss : List Seated) (ds : List Making) (js : List Journal) : Type 0 where
+  pub seats : AllByRecursion (λ (s : Seated). IsWithin js s.journal) ss
+  pub made : AllByRecursion (λ (d : Making). HasEntry js d.journal) ds
