@@ -1,5 +1,5 @@
--- The numbers and names of the checks.
-use Rattle.std.specs.Prelude.{ℕ, List, codes}
+-- The numbers of the checks.
+use Rattle.std.specs.Prelude.{ℕ}
 use Rattle.mls_checks.specs.declared.error.CheckError.{CheckError}
 use Rattle.mls_checks.specs.declared.error.CheckError.TheVariants.{OutOfMemory, BadKey, LeafSource, LeafSignature, LeafCapability, LeafIdentityChanged, LeafKeySame, KeyPackageSuite, KeyPackageSignature, InitKeySame}
 
@@ -15,16 +15,3 @@ number_of LeafKeySame = 54
 number_of KeyPackageSuite = 55
 number_of KeyPackageSignature = 56
 number_of InitKeySame = 57
-
--- the name, as it is printed
-abbrev pub name_of : CheckError → List ℕ
-name_of OutOfMemory = codes "OutOfMemory"
-name_of BadKey = codes "BadKey"
-name_of LeafSource = codes "LeafSource"
-name_of LeafSignature = codes "LeafSignature"
-name_of LeafCapability = codes "LeafCapability"
-name_of LeafIdentityChanged = codes "LeafIdentityChanged"
-name_of LeafKeySame = codes "LeafKeySame"
-name_of KeyPackageSuite = codes "KeyPackageSuite"
-name_of KeyPackageSignature = codes "KeyPackageSignature"
-name_of InitKeySame = codes "InitKeySame"

@@ -2,4 +2,3 @@ pub mod Kdf
 pub mod Keyed
 pub mod Lengths
 pub mod Faults
-pub mod Names

@@ -1,13 +1,9 @@
--- The number and the name of what the schedule refuses.
-use Rattle.std.specs.Prelude.{ℕ, List}
-use Rattle.mls_kdf.specs.Faults.{number_of as kdf_number_of, name_of as kdf_name_of}
+-- The number of what the schedule refuses.
+use Rattle.std.specs.Prelude.{ℕ}
+use Rattle.mls_kdf.specs.Faults.{number_of as kdf_number_of}
 use Rattle.mls_schedule.specs.declared.error.ScheduleError.{ScheduleError}
 use Rattle.mls_schedule.specs.declared.error.ScheduleError.TheVariants.{Kdf}
 
 -- the number that the program answers
 abbrev pub number_of : ScheduleError → ℕ
 number_of (Kdf e) = kdf_number_of e
-
--- the name, as it is printed
-abbrev pub name_of : ScheduleError → List ℕ
-name_of (Kdf e) = kdf_name_of e

@@ -1,8 +1,5 @@
--- The name of each refusal, by its number: one table for all crates, of which each refusal's own name is an entry.
+-- The name of each refusal, by its number: one table for all crates.
 use Rattle.std.specs.Prelude.{◌≡◌, ℕ, ◌==◌, if◌then◌else◌, List, [], ◌∷◌, ◌++◌, codes}
-use Rattle.mls_wire.specs.Faults.{number_of, name_of}
-use Rattle.mls_wire.specs.declared.WireError.{WireError}
-use Rattle.mls_wire.specs.declared.WireError.TheVariants.{OutOfMemory, Truncated, Trailing, BadLength, NotMinimal, TooLong}
 
 abbrev pub name_in : List (ℕ × List ℕ) → ℕ → List ℕ
 name_in [] n = []
@@ -41,7 +38,3 @@ names_of_joins =
 -- the name, as it is printed; no bytes where no refusal has the number
 abbrev pub refusal_name : ℕ → List ℕ
 refusal_name n = name_in (names_of_bytes ++ names_of_trees ++ names_of_members ++ names_of_joins) n
-
--- each name stands in the table at its number
-abbrev pub NamesAreListed : Type 0
-NamesAreListed = (e : WireError) → name_of e ≡ refusal_name (number_of e)
