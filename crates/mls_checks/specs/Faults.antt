@@ -1,5 +1,6 @@
--- The numbers of the checks.
-use Rattle.std.specs.Prelude.{ℕ}
+-- The numbers of the checks, and what a call answers that checks.
+use Rattle.std.specs.Prelude.{ℕ, Result}
+use Rattle.mls_wire.specs.Checks.{Answers, Passed, passed}
 use Rattle.mls_checks.specs.declared.error.CheckError.{CheckError}
 use Rattle.mls_checks.specs.declared.error.CheckError.TheVariants.{OutOfMemory, BadKey, LeafSource, LeafSignature, LeafCapability, LeafIdentityChanged, LeafKeySame, KeyPackageSuite, KeyPackageSignature, InitKeySame}
 
@@ -15,3 +16,7 @@ number_of LeafKeySame = 54
 number_of KeyPackageSuite = 55
 number_of KeyPackageSignature = 56
 number_of InitKeySame = 57
+
+-- a call passes where the checks do, or answers the number of the first that fails, unless memory runs out
+abbrev pub ChecksAs : Result Passed ℕ → Result (Unit {0}) CheckError → Type 0
+ChecksAs checks result = Answers (λ _. passed) number_of checks result

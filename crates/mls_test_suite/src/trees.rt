@@ -1,9 +1,7 @@
 //! A ratchet tree as it was sent (RFC 9420, 12.4.3.3), as an auditor of a group takes it.
 
 ghost use Rattle.std.specs.Prelude.{◌<◌, ◌^◌, length};
-ghost use Rattle.mls_wire.specs.Checks.{Answers};
-ghost use Rattle.mls_cli_check.specs.CheckFaults.{number_of};
-ghost use Rattle.mls_test_suite.specs.CheckedHash.{hash_of_checked_tree};
+ghost use Rattle.mls_test_suite.specs.CheckedHash.{AnswersHash, hash_of_checked_tree};
 
 use mls_cli_check::{CheckError, tree_in};
 use mls_suite::Suite;
@@ -19,7 +17,7 @@ pub fn hash_of_checked_tree<S: Suite>(
     group_id: &[u8],
 ) -> Result<Hash, CheckError>
     requires group { length group_id.now < 2 ^ 28 }
-    ensures { Answers (λ hash. hash) number_of (hash_of_checked_tree S.crypto group_id.now bytes.now) result }
+    ensures { AnswersHash (hash_of_checked_tree S.crypto group_id.now bytes.now) result }
 {
     let mut tree = tree_in(alloc, bytes)?;
     tree.check::<S>(group_id)?;
