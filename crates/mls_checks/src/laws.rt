@@ -2,8 +2,8 @@
 
 ghost use Rattle.mls_checks.specs.Laws.{SignedAnywhere, PackageSteps, ReplacedSteps};
 
-/// A leaf of a key package is signed at any place of any group, and whoever passed the checks has each thing that they ask
-/// for. Does nothing.
+/// A leaf of a key package is signed at any place of any group. Whoever passed the checks has each thing that they
+/// ask for. The function does nothing.
 pub fn laws_of_leaves()
     ensures anywhere { SignedAnywhere }
     ensures offered { PackageSteps }

@@ -7,6 +7,10 @@ pub record Parent : Type 0 where
   pub parent_hash : List ℕ
   pub unmerged_leaves : List ℕ
 
+-- The parent of these parts.
+abbrev pub parent_of : List ℕ → List ℕ → List ℕ → Parent
+parent_of encryption_key parent_hash unmerged_leaves = record { encryption_key = encryption_key; parent_hash = parent_hash; unmerged_leaves = unmerged_leaves }
+
 -- Whether each number is above the one before it, and the first is no less than a bound.
 unfoldable pub rises_from : ℕ → List ℕ → Bool
 rises_from low [] = true

@@ -5,7 +5,7 @@ ghost use Rattle.mls_wire.specs.CombineLaws.{forgotten};
 ghost use Rattle.mls_wire.specs.Stateful.{vector_from};
 ghost use Rattle.mls_leaf.specs.declared.error.LeafError.TheVariants.{NotRising};
 ghost use Rattle.mls_leaf.specs.Faults.{Gives, AddsSpelling, ReadsFrontNow, ReadsAllPast};
-ghost use Rattle.mls_leaf.specs.Parent.{Parent, rises, rising_with, with_unmerged, without_unmerged, without_leaf, ListsUnmerged, HasNewUnmerged};
+ghost use Rattle.mls_leaf.specs.Parent.{Parent, parent_of, rises, rising_with, with_unmerged, without_unmerged, without_leaf, ListsUnmerged, HasNewUnmerged};
 ghost use Rattle.mls_leaf.specs.ParentNode.{entry_from, rising, rising_entries, parent_node, parent_node_nonempty, parent_node_faults};
 
 use crate::bytes::Bytes;
@@ -118,7 +118,7 @@ impl ParentNode {
         unmerged_leaves: Items<u32>,
     ) -> Result<ParentNode, LeafError>
         ensures { MatchResult result
-            (λ p. (p ≡ record { encryption_key = encryption_key; parent_hash = parent_hash; unmerged_leaves = unmerged_leaves }) × (rises unmerged_leaves ≡ true))
+            (λ p. (p ≡ parent_of encryption_key parent_hash unmerged_leaves) × (rises unmerged_leaves ≡ true))
             (λ e. (e ≡ NotRising) × (rises unmerged_leaves ≡ false)) }
     {
         if !rises(unmerged_leaves.as_slice()) {
@@ -169,8 +169,8 @@ impl ParentNode {
         &self.unmerged_leaves
     }
 
-    /// Puts a leaf among the unmerged ones, where it stands once, and answers whether it is new there. Without memory for
-    /// it all stays as it was.
+    /// Puts a leaf among the unmerged ones, where it stands once, and answers whether it is new there. Without
+    /// memory for it all stays as it was.
     pub fn insert_unmerged(&mut self, leaf: u32) -> Result<bool, AllocError>
         ensures put { MatchResult result
             (λ _. self.new ≡ with_unmerged leaf self.old)

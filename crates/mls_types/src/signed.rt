@@ -44,7 +44,8 @@ pub struct SignedContent {
     pub signature: Bytes,
 }
 
-/// Reads a value and the signature or the tag behind it. It is generic, so that its proof goes into no parts of the value.
+/// Reads a value and the signature or the tag behind it. It is generic, so that its proof goes into no
+/// parts of the value.
 pub(crate) fn read_with_signature<T: Codec>(
     alloc: Global,
     reader: &mut Reader<'_>,

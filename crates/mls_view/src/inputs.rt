@@ -9,7 +9,7 @@ use mls_kdf::{Secret, content_header, hash, hmac};
 use mls_schedule::Transcript;
 use std::alloc::{AllocError, Global};
 
-/// Version 1 and wire format 1, then the slices.
+/// Joins version 1, wire format 1 and the slices.
 fn join_signed_pieces(alloc: Global, said: &[u8], context: &[u8]) -> Result<Vec<u8>, AllocError>
     ensures { IfOk result (λ v. v.items ≡ signed_pieces said.now context.now) }
 {

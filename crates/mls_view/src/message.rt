@@ -69,8 +69,8 @@ fn read_whole<'a>(bytes: &'a [u8]) -> Result<MessageView<'a>, LeafError>
 }
 
 impl<'a> MessageView<'a> {
-    /// The message that all of the bytes spell, with the answers of `decode`. It takes no memory, and so
-    /// never answers 1.
+    /// The message that all of the bytes spell, with the answers of `decode`. It takes no memory, and never
+    /// answers `OutOfMemory` (1).
     pub fn read(bytes: &'a [u8]) -> Result<MessageView<'a>, LeafError>
         ensures read { LendsWhole mls_message input_limit Shows bytes.now result }
         ensures no_memory { MatchResult result (λ _. Unit {0}) (λ e. number_of e ≢ 1) }
