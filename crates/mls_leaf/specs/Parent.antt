@@ -1,15 +1,11 @@
 -- Parents, and lists of leaf indices that rise.
-use Rattle.std.specs.Prelude.{◌≡◌, ℕ, ◌+◌, ◌==◌, nat_lt, nat_le, Bool, true, not, ◌&&◌, if◌then◌else◌, List, [], ◌∷◌, filter}
+use Rattle.std.specs.Prelude.{◌≡◌, ℕ, ◌+◌, ◌==◌, nat_lt, nat_le, Bool, true, not, ◌&&◌, if◌then◌else◌, List, [], ◌∷◌, length, filter, insert, ◌≤◌}
 
 -- What a parent holds (RFC 9420, section 7.1): its public key, its parent hash, and the unmerged leaves, those below it that do not know its secret key.
 pub record Parent : Type 0 where
   pub encryption_key : List ℕ
   pub parent_hash : List ℕ
   pub unmerged_leaves : List ℕ
-
--- The parent of these parts.
-abbrev pub parent_of : List ℕ → List ℕ → List ℕ → Parent
-parent_of encryption_key parent_hash unmerged_leaves = record { encryption_key = encryption_key; parent_hash = parent_hash; unmerged_leaves = unmerged_leaves }
 
 -- Whether each number is above the one before it, and the first is no less than a bound.
 unfoldable pub rises_from : ℕ → List ℕ → Bool
@@ -28,6 +24,16 @@ rising_with x (y ∷ ys) = if nat_lt x y then x ∷ y ∷ ys else if x == y then
 -- The list without a leaf.
 abbrev pub without_leaf : ℕ → List ℕ → List ℕ
 without_leaf leaf xs = filter (λ u. not (u == leaf)) xs
+
+-- The parent has these parts, and its unmerged leaves rise.
+abbrev pub IsParentOf : List ℕ → List ℕ → List ℕ → Parent → Type 0
+IsParentOf encryption_key parent_hash unmerged_leaves p =
+    (p ≡ record { encryption_key = encryption_key; parent_hash = parent_hash; unmerged_leaves = unmerged_leaves }) × (rises unmerged_leaves ≡ true)
+
+-- The leaf isn't among the entries, and has to be put there so that they still rise.
+abbrev pub IsPlaceFor : ℕ → List ℕ → ℕ → Type 0
+IsPlaceFor leaf entries place =
+    (place ≤ length entries) × (rising_with leaf entries ≡ insert entries place leaf) × (without_leaf leaf (rising_with leaf entries) ≡ entries)
 
 -- The parent with a leaf among its unmerged ones.
 abbrev pub with_unmerged : ℕ → Parent → Parent

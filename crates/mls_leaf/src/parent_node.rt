@@ -5,7 +5,7 @@ ghost use Rattle.mls_wire.specs.CombineLaws.{forgotten};
 ghost use Rattle.mls_wire.specs.Stateful.{vector_from};
 ghost use Rattle.mls_leaf.specs.declared.error.LeafError.TheVariants.{NotRising};
 ghost use Rattle.mls_leaf.specs.Faults.{Gives, AddsSpelling, ReadsFrontNow, ReadsAllPast};
-ghost use Rattle.mls_leaf.specs.Parent.{Parent, parent_of, rises, rising_with, with_unmerged, without_unmerged, without_leaf, ListsUnmerged, HasNewUnmerged};
+ghost use Rattle.mls_leaf.specs.Parent.{Parent, IsParentOf, rises, rising_with, IsPlaceFor, with_unmerged, without_unmerged, ListsUnmerged, HasNewUnmerged};
 ghost use Rattle.mls_leaf.specs.ParentNode.{entry_from, rising, rising_entries, parent_node, parent_node_nonempty, parent_node_faults};
 
 use crate::bytes::Bytes;
@@ -101,8 +101,7 @@ fn place_for(entries: &[u32], leaf: u32) -> Option<usize>
     requires { rises entries.now ≡ true }
     ensures { MatchOption result
         (rising_with leaf entries.now ≡ entries.now)
-        (λ place. (place ≤ length entries.now) × (rising_with leaf entries.now ≡ insert entries.now place leaf)
-        × (without_leaf leaf (rising_with leaf entries.now) ≡ entries.now)) }
+        (λ place. IsPlaceFor leaf entries.now place) }
 {
     match entries.binary_search(&leaf) {
         Ok(_) => None,
@@ -118,7 +117,7 @@ impl ParentNode {
         unmerged_leaves: Items<u32>,
     ) -> Result<ParentNode, LeafError>
         ensures { MatchResult result
-            (λ p. (p ≡ parent_of encryption_key parent_hash unmerged_leaves) × (rises unmerged_leaves ≡ true))
+            (λ p. IsParentOf encryption_key parent_hash unmerged_leaves p)
             (λ e. (e ≡ NotRising) × (rises unmerged_leaves ≡ false)) }
     {
         if !rises(unmerged_leaves.as_slice()) {

@@ -9,8 +9,8 @@ use mls_tree::Hash;
 use std::alloc::Global;
 
 /// Reads a ratchet tree, checks it for the group with this id, and answers its tree hash (RFC 9420, 7.8). It is refused
-/// with the first fault: of decoding (2 to 7, 11 to 14), `TreeShape` (20), `TreeFull` (21), and those of the checks of a
-/// good tree (23 to 26, 51, 52, 36).
+/// with the first fault: of decoding (2 to 7, 11 to 14), `TreeShape` (20), `TreeFull` (21), and those of the checks of
+/// a good tree (23 to 26, 51, 52, 36).
 pub fn hash_of_checked_tree<S: Suite>(
     alloc: Global,
     bytes: &[u8],
