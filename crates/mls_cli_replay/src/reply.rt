@@ -5,7 +5,7 @@ ghost use Rattle.std.specs.Fmt.{decimal};
 ghost use Rattle.mls_cli_replay.specs.Reply.{effect_text, reply_text};
 
 use mls_model::{Effect, Reply};
-use mls_cli_text::refusal_name;
+use mls_wire::refusal_name;
 use std::alloc::{AllocError, Global};
 
 /// What a delivered message did to the member.

@@ -8,6 +8,7 @@ ghost use Rattle.mls_cli_text.specs.HexFile.{bytes_in, is_blank, is_hex, before_
 ghost use Rattle.mls_cli_text.specs.Faults.{number_of};
 
 use hex::FromHexError;
+use mls_wire::refusal_name;
 use std::alloc::Global;
 use thiserror::Error;
 
@@ -37,10 +38,7 @@ impl FileError {
     pub fn name(self) -> &'static str
         ensures { result.now ≡ refusal_name (number_of self) }
     {
-        match self {
-            FileError::OutOfMemory => "OutOfMemory",
-            FileError::NotHex => "NotHex",
-        }
+        refusal_name(self.number())
     }
 }
 

@@ -9,8 +9,8 @@ ghost use Rattle.mls_cli_text.specs.TextLaws.{line_nonempty};
 ghost use Rattle.mls_cli_text.specs.Text.{entry, entry_of, four_digits, or_dash, line_text, shown_by, shown_text};
 
 use crate::printing::Printed;
-use crate::refusal::refusal_name;
 use mls_leaf::{Bytes, Items};
+use mls_wire::refusal_name;
 use std::alloc::{AllocError, Global};
 
 /// What stands behind a name.

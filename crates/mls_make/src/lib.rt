@@ -2,12 +2,10 @@
 #![tactic(auto)]
 
 mod error;
-mod laws;
 mod new_commit;
 mod own_path;
 mod send_commit;
 mod commit_welcome;
 
 pub use error::MakeError;
-pub use laws::make_names_by_number;
 pub use new_commit::{NewCommit, make_commit};

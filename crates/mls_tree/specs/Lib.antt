@@ -1,6 +1,5 @@
 pub mod Tree
 pub mod Faults
-pub mod Names
 pub mod Paths
 pub mod Rules
 pub mod EditsKeepGood

@@ -1,8 +1,7 @@
-//! What passed its checks is fit for a tree, what hashing costs, and how refusals are named.
+//! What passed its checks is fit for a tree, and what hashing costs.
 
 ghost use Rattle.mls_tree.specs.ColdNodes.{FewHashes};
 ghost use Rattle.mls_tree.specs.Laws.{PackageFits, ReplacementFits};
-ghost use Rattle.mls_tree.specs.Names.{TreeNamesAreListed};
 
 /// A KeyPackage, an update and a path's leaf that passed their checks are fit for the tree of their group. Does nothing.
 pub fn laws_of_leaves()
@@ -14,9 +13,4 @@ pub fn laws_of_leaves()
 /// tree is higher than h and doublings add d nodes. A law, which does nothing.
 pub fn hashing_costs()
     ensures { FewHashes }
-{}
-
-/// The names of refusals stand in one table, each at its number.
-pub fn tree_names_by_number()
-    ensures { TreeNamesAreListed }
 {}

@@ -1,5 +1,5 @@
--- The numbers and names of what private paths refuse.
-use Rattle.std.specs.Prelude.{ℕ, List, codes}
+-- The numbers of what private paths refuse.
+use Rattle.std.specs.Prelude.{ℕ}
 use Rattle.mls_treekem.specs.declared.error.TreeKemError.{TreeKemError}
 use Rattle.mls_treekem.specs.declared.error.TreeKemError.TheVariants.{OutOfMemory, OpenFailed, SecretLength, PathKeyMismatch, KeyMissing, BadKey}
 
@@ -11,15 +11,6 @@ number_of SecretLength = 33
 number_of PathKeyMismatch = 34
 number_of KeyMissing = 35
 number_of BadKey = 36
-
--- the name, as it is printed
-abbrev pub name_of : TreeKemError → List ℕ
-name_of OutOfMemory = codes "OutOfMemory"
-name_of OpenFailed = codes "OpenFailed"
-name_of SecretLength = codes "SecretLength"
-name_of PathKeyMismatch = codes "PathKeyMismatch"
-name_of KeyMissing = codes "KeyMissing"
-name_of BadKey = codes "BadKey"
 
 -- want of memory, or a key that is missing or isn't fit
 abbrev pub IsMemoryOrKey : TreeKemError → Type 0

@@ -1,6 +1,5 @@
 pub mod Secrets
 pub mod Faults
-pub mod Names
 pub mod Place
 pub mod KeysAtHeights
 pub mod Climbing

@@ -1,5 +1,4 @@
 pub mod Faults
-pub mod Names
 pub mod StepAnswer
 pub mod StoredWorld
 pub mod JournalSteps

@@ -1,9 +1,9 @@
-//! The names of refusals.
+//! The names of refusals: one table for all crates.
 
 ghost use Rattle.std.specs.Prelude.{◌≡◌};
 ghost use Rattle.mls_wire.specs.Names.{name_in, names_of_bytes, names_of_trees, names_of_members, names_of_joins, refusal_name};
 
-/// The name of the refusal with that number, as it is printed; nothing for another number.
+/// The name of the refusal with that number, as it is printed. Where no refusal has it, nothing.
 pub fn refusal_name(number: u8) -> &'static str
     ensures { result.now ≡ refusal_name number }
 {
@@ -15,7 +15,7 @@ pub fn refusal_name(number: u8) -> &'static str
     }
 }
 
-/// The name of a refusal of bytes and texts, or nothing.
+/// The name of a refusal of bytes and texts (1 to 14), or nothing.
 fn name_of_bytes(number: u8) -> &'static str
     ensures { result.now ≡ name_in names_of_bytes number }
 {
@@ -38,7 +38,7 @@ fn name_of_bytes(number: u8) -> &'static str
     }
 }
 
-/// Of one of trees and private paths.
+/// The name of a refusal of trees and private paths (20 to 36), or nothing.
 fn name_of_trees(number: u8) -> &'static str
     ensures { result.now ≡ name_in names_of_trees number }
 {
@@ -61,7 +61,7 @@ fn name_of_trees(number: u8) -> &'static str
     }
 }
 
-/// Of one of messages, leaves and commits.
+/// The name of a refusal of messages, leaves and commits (40 to 67), or nothing.
 fn name_of_members(number: u8) -> &'static str
     ensures { result.now ≡ name_in names_of_members number }
 {
@@ -96,7 +96,7 @@ fn name_of_members(number: u8) -> &'static str
     }
 }
 
-/// Of one of Welcomes and of worlds.
+/// The name of a refusal of Welcomes and of worlds (70 to 95), or nothing.
 fn name_of_joins(number: u8) -> &'static str
     ensures { result.now ≡ name_in names_of_joins number }
 {

@@ -1,7 +1,7 @@
 use Rattle.std.proofs.Common.{◌∙◌, ◌<◌, ◌≤◌, ◌++◌, sym, arith}
 use Rattle.mls_wire.specs.Names.{names_of_bytes, names_of_trees, names_of_members, names_of_joins}
-use Rattle.mls_cli_text.proofs.Names.{found_before, past_bytes, past_trees, no_join, no_member, no_tree}
-use Rattle.mls_cli_text.proofs.refusal.refusal_name.Goals as goal
+use Rattle.mls_wire.proofs.Names.{found_before, past_bytes, past_trees, no_join, no_member, no_tree}
+use Rattle.mls_wire.proofs.refusal.refusal_name.Goals as goal
 
 -- src/refusal.rt:7:1
 pub returns-in-0-to-19 : goal.returns-in-0-to-19
