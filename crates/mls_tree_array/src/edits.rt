@@ -1,9 +1,10 @@
 //! Edits at a leaf: it is replaced, or filled and listed by the parents over it.
 
 ghost use Rattle.std.specs.Prelude.{◌≡◌, ◌+◌, ◌^◌, ◌≤◌, OnOk, OnErr};
-ghost use Rattle.mls_tree_model.specs.Edits.{put, enter, list_leaf};
+ghost use Rattle.mls_tree_model.specs.Edits.{put, list_leaf};
 ghost use Rattle.mls_tree_model.specs.Arrays.{parent_in, leaf_cell, parent_cell, term_of, in_order};
 ghost use Rattle.mls_tree_array.specs.Standing.{Stands};
+ghost use Rattle.mls_tree_array.specs.Edits.{EntersLeaf};
 
 use crate::places::middle_of;
 use mls_tree_slot::{NoParent, SharedLeaf, Slot};
@@ -51,7 +52,7 @@ pub fn enter(
 ) -> Result<(), AllocError>
     requires stands { Stands height nodes.old }
     requires fits { first + 2 ^ height ≤ 2 ^ 31 }
-    ensures ok { OnOk result (nodes.new ≡ in_order (enter first (term_of height nodes.old) i leaf)) }
+    ensures ok { OnOk result (EntersLeaf height first i leaf nodes.old nodes.new) }
     ensures err { OnErr result (nodes.new ≡ nodes.old) }
 {
     if height == 0 {
@@ -84,7 +85,7 @@ fn enter_below(
     requires stands { Stands height side.old }
     requires fits { first + 2 ^ height ≤ 2 ^ 31 }
     ensures root { OnOk result (root.new ≡ parent_cell (list_leaf i (parent_in root.old))) }
-    ensures side { OnOk result (side.new ≡ in_order (enter first (term_of height side.old) i leaf)) }
+    ensures side { OnOk result (EntersLeaf height first i leaf side.old side.new) }
     ensures err { OnErr result ((root.new ≡ root.old) × (side.new ≡ side.old)) }
 {
     let parent = match root.parent_mut() {
