@@ -14,7 +14,7 @@ use mls_tree_slot::Slot;
 use std::alloc::AllocError;
 
 /// Whether a node is one of these leaves.
-fn is_leaf_among(leaves: &[u32], node: u64) -> bool
+pub fn is_leaf_among(leaves: &[u32], node: u64) -> bool
     ensures { result ≡ has (leaf_numbers leaves.now) node }
 {
     for leaf in leaves {

@@ -24,7 +24,7 @@ mod validity;
 mod way_hashes;
 mod witnesses;
 
-pub use counts::ciphertext_counts;
+pub use counts::{ciphertext_counts, is_leaf_among};
 pub use distinct::are_distinct;
 pub use edits::{enter, put};
 pub use kept_hashes::Hashes;

@@ -13,12 +13,12 @@ ghost use Rattle.mls_treekem.specs.Place.{IsPlaced, ArePlaced, steps_at};
 
 use crate::climb::Climb;
 use crate::places::{Place, parents_over, side_of};
-use crate::seal::is_leaf_among;
 use crate::{PrivatePath, TreeKemError};
 use mls_types::{HpkeCiphertext, UpdatePathNode};
 use mls_kdf::Secret;
 use mls_suite::{OutOfMemory, Suite, decrypt_with_label};
 use mls_tree::PublicTree;
+use mls_tree_array::is_leaf_among;
 use std::alloc::Global;
 
 /// The path secret that these bytes are: `SecretLength` (33) unless there are 32.

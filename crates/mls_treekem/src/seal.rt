@@ -2,7 +2,6 @@
 
 ghost use Rattle.std.specs.Prelude.{◌≡◌, ℕ, ◌<◌, ◌^◌, ◌%◌, length, IfOk, IfErr};
 ghost use Rattle.std.specs.Option.{option_copied};
-ghost use Rattle.mls_tree_model.specs.Sets.{has, leaf_numbers};
 ghost use Rattle.mls_tree.specs.Tree.{term};
 ghost use Rattle.mls_treekem.specs.NodeKeys.{encryption_key_of};
 ghost use Rattle.mls_treekem.specs.Faults.{IsMemoryOrKey};
@@ -17,6 +16,7 @@ use mls_kdf::Secret;
 use mls_leaf::{Bytes, Items, Node};
 use mls_suite::{Suite, encrypt_with_label};
 use mls_tree::PublicTree;
+use mls_tree_array::is_leaf_among;
 use std::alloc::Global;
 
 /// The low 32 bits of a number.
@@ -36,18 +36,6 @@ pub fn seal_count_of(nodes: &[UpdatePathNode]) -> u32
         count = count.wrapping_add(low_bits(node.ciphertexts.as_slice().len()));
     }
     count
-}
-
-/// Whether a node is one of these leaves.
-pub(crate) fn is_leaf_among(leaves: &[u32], node: u64) -> bool
-    ensures { result ≡ has (leaf_numbers leaves.now) node }
-{
-    for leaf in leaves {
-        if 2 * u64::from(*leaf) == node {
-            return true;
-        }
-    }
-    false
 }
 
 /// The encryption key of what stands at a node.
