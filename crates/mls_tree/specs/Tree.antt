@@ -26,7 +26,7 @@ term t = term_of t.levels t.listing
 abbrev pub max_leaves : ℕ
 max_leaves = 2 ^ max_height
 
--- the leaf in a place, where 22 says that there is none
+-- the leaf in a place, where `NoSuchLeaf` (22) says that there is none
 abbrev pub member_at : Term → ℕ → Result LeafNode ℕ
 member_at t i = require_some 22 (leaf_of t i)
 

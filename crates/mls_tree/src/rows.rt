@@ -35,7 +35,7 @@ pub(crate) enum Step {
     Remove(u32),
     /// Merges this member's path of one parent: the key of its leaf, and that of the parent.
     Merge(u32, u8, u8),
-    /// The same, but that the path is prepared, and then followed: whether the tree hash that it had is the tree's and that
+    /// Merges such a path that is prepared, and then followed: whether the tree hash that it had is the tree's and that
     /// of a copy which it was merged into, and how many hashes the tree counts for it.
     Follow(u32, u8, u8),
     /// A merge with the key 8, and one of 32 bytes; answers how long the leaf's parent hash is.

@@ -139,7 +139,7 @@ KeyWhereHeld = (c : Crypto) (b : ℕ) (t : Term) (j : ℕ) (ks : Keys) (d : ℕ)
 abbrev pub OneEntry : Type 0
 OneEntry = (c : Crypto) (added : List ℕ) (b : ℕ) (t : Term) (j : ℕ) (ks : Keys) → ListsBelow b t → IsIn b t j → Exact c b t j ks → has added j ≡ false → held_count (key_in b t j ks) (less (leaf_numbers added) (resolution b t)) ≡ 1
 
--- and among the targets of all nodes of a path
+-- of the targets of all nodes of a path, a member has the key of just one
 abbrev pub OneTarget : Type 0
 OneTarget = (c : Crypto) (added : List ℕ) (b : ℕ) (t : Term) (i j : ℕ) (ks : Keys) → AreTwo b t i j → ListsBelow b t → Exact c b t j ks → has added j ≡ false → held_count (key_in b t j ks) (flat_map (targets added) (filtered_way b t i)) ≡ 1
 
@@ -160,7 +160,7 @@ PairsFound = (b : ℕ) (t : Term) (j : ℕ) (ks : Keys) (d : ℕ) → IsIn b t j
 abbrev pub KeysAreChain : Type 0
 KeysAreChain = (c : Crypto) (ss : List Step) (start : List ℕ) → path_keys c ss start ≡ chain_keys c start (filtered_count ss)
 
--- the same with the lowest first
+-- the public keys of path secrets that are given lowest first are those of their chain
 abbrev pub KeysOfSecrets : Type 0
 KeysOfSecrets = (c : Crypto) (start : List ℕ) (k : ℕ) → reverse (map (node_public c) (path_secrets start k)) ≡ chain_keys c start k
 

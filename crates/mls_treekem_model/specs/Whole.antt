@@ -54,7 +54,7 @@ keys_of_path c t i start = map (node_public c) (path_secrets start (path_length 
 abbrev pub SealedKeys : Type 0
 SealedKeys = (c : Crypto) (context : List ℕ) (added : List ℕ) (rnd : ℕ → List ℕ) (t : Term) (i : ℕ) (start : List ℕ) (path : List UpdatePathNode) → sealed_path c context added rnd t i start ≡ Ok path → map (λ n. n.encryption_key) path ≡ keys_of_path c t i start
 
--- and each of its nodes a ciphertext for each node that its secret is sealed to
+-- each node of a sealed path has a ciphertext for each node that its secret is sealed to
 abbrev pub SealedLengths : Type 0
 SealedLengths = (c : Crypto) (context : List ℕ) (added : List ℕ) (rnd : ℕ → List ℕ) (t : Term) (i : ℕ) (start : List ℕ) (path : List UpdatePathNode) → sealed_path c context added rnd t i start ≡ Ok path → map (λ n. length n.ciphertexts) path ≡ reverse (map (λ s. length (targets added s)) (filtered_way 0 t i))
 
@@ -89,7 +89,7 @@ SecretMerged = (c : Crypto) (context : List ℕ) (added : List ℕ) (t : Term) (
 abbrev pub MadeExact : Type 0
 MadeExact = (c : Crypto) (t : Term) (i : ℕ) (x : LeafNode) (start sk : List ℕ) → c.public sk ≡ x.encryption_key → Exact c 0 (merge_path t i x (keys_of_path c t i start)) i (made_keys c (way 0 t i) start sk)
 
--- and they are the same read in that tree, as is the number of its secrets
+-- a committer's keys are the same read in the merged tree, as is the number of its secrets
 abbrev pub MadeMerged : Type 0
 MadeMerged = (c : Crypto) (t : Term) (i : ℕ) (x : LeafNode) (keys : List (List ℕ)) (start sk : List ℕ) → made_keys c (way 0 (merge_path t i x keys) i) start sk ≡ made_keys c (way 0 t i) start sk
 
@@ -146,7 +146,7 @@ abbrev pub SealedByNumber : Type 0
 SealedByNumber = (c : Crypto) (context : List ℕ) (added : List ℕ) (rnd : ℕ → List ℕ) (t : Term) (i : ℕ) (start : List ℕ) (path : List UpdatePathNode) → sealed_path c context added rnd t i start ≡ Ok path →
     (k : ℕ) (x : HpkeCiphertext) → slice_get (ciphertexts_in path) k ≡ Some x → IsSealedUnder c context rnd k x
 
--- and there are as many as are counted for the number of the first seal behind the path
+-- a path has as many ciphertexts as are counted for the number of the first seal behind it
 abbrev pub SealsAreCounted : Type 0
 SealsAreCounted = (path : List UpdatePathNode) → length (ciphertexts_in path) ≡ seal_count_of path
 
