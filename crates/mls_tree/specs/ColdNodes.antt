@@ -28,8 +28,8 @@ pub record Warms (old new : Tree) : Type 0 where
   pub fewer : cold_nodes new ≤ cold_nodes old
   pub done : new.done ≡ counted old.done (cold_nodes old - cold_nodes new)
 
--- An edit of leaf i makes its node cold, the nodes over it in the tree t, and those that a doubling adds; nodes that are
--- cut off are counted no more. So it is settled which nodes are cold, and how many.
+-- An edit of leaf i makes its node cold, the nodes over it in the tree t, and those that a doubling adds; nodes that
+-- are cut off are counted no more. So it is settled which nodes are cold, and how many.
 pub record Chills (t : Term) (i : ℕ) (old new : Tree) : Type 0 where
   pub each : (n : ℕ) → n < size (term new) → is_cold new n ≡ (is_cold old n || (nat_le (size (term old)) n || has (nodes_upward 0 t i) n))
   pub whole : length new.kept ≡ size (term new)

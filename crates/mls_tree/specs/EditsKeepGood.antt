@@ -14,8 +14,8 @@ KeepsGood Allowed old new = (rules : Rules) → Allowed rules → IsGood rules o
 abbrev pub KeepsSound : (Rules → Type 0) → Term → Term → Type 0
 KeepsSound Allowed old new = (rules : Rules) → Allowed rules → IsSound rules old → IsSound rules new
 
--- a sound tree in which no client repeats becomes good by a path whose leaf keeps its signature key: the path's own checks
--- are of the encryption keys and of the parent hash
+-- a sound tree in which no client repeats becomes good by a path whose leaf keeps its signature key: the path's own
+-- checks are of the encryption keys and of the parent hash
 abbrev pub MergesGood : ℕ → LeafNode → List (List ℕ) → Term → Term → Type 0
 MergesGood i x keys old new =
     (rules : Rules) (before : LeafNode) → leaf_of old i ≡ Some before → x.signature_key ≡ before.signature_key → AreFit rules i x keys → has_distinct_clients old ≡ true → IsSound rules old → IsGood rules new

@@ -15,8 +15,8 @@ use Rattle.mls_tree.specs.EditsKeepGood.{KeepsGoodAt, MakesGood}
 use Rattle.mls_tree.specs.Tree.{Tree}
 use Rattle.mls_wire.specs.Checks.{Answers}
 
--- the leaf index and the leaf, the parents over it, the highest first, the tree hashes of the leaf and of the nodes over
--- it in the merged tree, the lowest first, and that tree's own
+-- the leaf index and the leaf, the parents over it, the highest first, the tree hashes of the leaf and of the nodes
+-- over it in the merged tree, the lowest first, and that tree's own
 pub record Prepared : Type 0 where
   pub index : ℕ
   pub leaf : LeafNode
@@ -47,8 +47,8 @@ pub record IsPrepared (t : Term) (i : ℕ) (x : LeafNode) (keys : List (List ℕ
 abbrev pub IsFor : Term → Prepared → Type 0
 IsFor t p = IsPrepared t p.index p.leaf (keys_of p) p
 
--- the hashes that are made are those of leaf i and of the nodes over it in the merged tree, the lowest first, and the tree
--- hash of that tree
+-- the hashes that are made are those of leaf i and of the nodes over it in the merged tree, the lowest first, and the
+-- tree hash of that tree
 abbrev pub AreHashesOver : Term → ℕ → List Parent → LeafNode → Vec (List ℕ) × List ℕ → Type 0
 AreHashesOver t i parents leaf made = HashesMerged 0 t i parents leaf made.1 [] made.0.items
 

@@ -30,8 +30,8 @@ max_leaves = 2 ^ max_height
 abbrev pub member_at : Term → ℕ → Result LeafNode ℕ
 member_at t i = require_some 22 (leaf_of t i)
 
--- whether nodes may be those of a tree as it is sent: the last one isn't blank, and leaves stand at even places alone, and
--- parents at odd ones
+-- whether nodes may be those of a tree as it is sent: the last one isn't blank, and leaves stand at even places alone,
+-- and parents at odd ones
 abbrev pub may_be_sent : List (Option Node) → Bool
 may_be_sent nodes = has_last nodes && alternates true nodes
 
@@ -51,7 +51,8 @@ update_answer t i x = member_at t i >>= λ v. Ok (update t i x)
 unfoldable pub remove_answer : Term → ℕ → Result Term ℕ
 remove_answer t i = member_at t i >>= λ v. Ok (remove t i)
 
--- A call that may change a tree does what the definition says, and takes no memory: after a refusal the tree is as before.
+-- A call that may change a tree does what the definition says, and takes no memory: after a refusal the tree is as
+-- before.
 abbrev pub Changes : {E : Type 0} → (E → ℕ) → Result Term ℕ → Term → Term → Result (Unit {0}) E → Type 0
 Changes number defined old new (Ok _) = defined ≡ Ok new
 Changes number defined old new (Err e) = (new ≡ old) × (defined ≡ Err (number e))

@@ -71,8 +71,8 @@ pub(crate) fn append(
     Ok(())
 }
 
-/// Keeps the left half alone as long as the right half has no member, and answers the height, where `end` is one past the
-/// rightmost taken leaf. The cells that are cut off leave the indexes. Takes no memory.
+/// Keeps the left half alone as long as the right half has no member, and answers the height, where `end` is one past
+/// the rightmost taken leaf. The cells that are cut off leave the indexes. Takes no memory.
 pub(crate) fn trim(nodes: &mut Vec<Slot>, indexes: &mut KeyIndexes, height: u32, end: u32) -> u32
     requires stands { Stands height nodes.old.items }
     requires low { height ≤ max_height }

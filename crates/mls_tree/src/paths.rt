@@ -172,9 +172,9 @@ impl PublicTree {
         Ok(path.parents)
     }
 
-    /// How many ciphertexts each node of a path of member i has, the lowest first, where these leaves were just added: one
-    /// for each node of the resolution of its child on the copath that isn't one of them (RFC 9420, 7.6). `NoSuchLeaf`
-    /// (22) where no member is at leaf i, whatever memory there is.
+    /// How many ciphertexts each node of a path of member i has, the lowest first, where these leaves were just added:
+    /// one for each node of the resolution of its child on the copath that isn't one of them (RFC 9420, 7.6).
+    /// `NoSuchLeaf` (22) where no member is at leaf i, whatever memory there is.
     pub fn ciphertext_counts(&self, i: u32, added: &[u32]) -> Result<Vec<usize>, TreeError>
         ensures answer { AnswersList (counts_answer (term self.now) i added.now) result }
         ensures outright { Refuses (counts_answer (term self.now) i added.now) result }
@@ -190,8 +190,8 @@ impl PublicTree {
     }
 
     /// The parent hash that the leaf of a path with these keys must have, the lowest first: empty where the filtered
-    /// path is (RFC 9420, 7.9). Refused with `NoSuchLeaf` (22) where no member is at leaf i, then with `PathLength` (30)
-    /// where there aren't as many keys as its filtered path has parents.
+    /// path is (RFC 9420, 7.9). Refused with `NoSuchLeaf` (22) where no member is at leaf i, then with `PathLength`
+    /// (30) where there aren't as many keys as its filtered path has parents.
     pub fn path_parent_hash(&mut self, i: u32, keys: &[Bytes]) -> Result<Vec<u8>, TreeError>
         ensures answer { AnswersList (path_hash_answer (term self.old) i keys.now) result }
         ensures outright { Refuses (path_checks (term self.old) i (length keys.now)) result }
@@ -211,8 +211,8 @@ impl PublicTree {
     /// lowest first, and blanks the others over it (RFC 9420, 7.5). Refused with `NoSuchLeaf` (22) where no member is
     /// there; then with `PathLength` (30) where there aren't as many keys as the filtered path has parents; then with
     /// `KeyRepeated` (25) where two nodes of the merged tree have one encryption key; then with `ParentHashWrong` (24)
-    /// where the leaf's source isn't a commit with the path's parent hash. After a refusal the tree is as before, but that
-    /// it may keep more hashes.
+    /// where the leaf's source isn't a commit with the path's parent hash. After a refusal the tree is as before, but
+    /// that it may keep more hashes.
     pub fn merge_path(&mut self, i: u32, leaf: LeafNode, keys: Vec<Bytes>) -> Result<(), TreeError>
         ensures answer { AnswersMerge i leaf keys.items self.old self.new result }
         // `NoSuchLeaf` (22) and `PathLength` (30) come whatever memory there is.

@@ -49,8 +49,8 @@ impl PreparedPath {
 }
 
 impl PublicTree {
-    /// The tree hashes of leaf i and of the nodes over it once a path with these parents is merged, the lowest first, and
-    /// the tree hash.
+    /// The tree hashes of leaf i and of the nodes over it once a path with these parents is merged, the lowest first,
+    /// and the tree hash.
     fn hashes_over(
         &self,
         i: u32,
@@ -78,8 +78,8 @@ impl PublicTree {
         Ok((hashes, root))
     }
 
-    /// Checks a commit's path as `merge_path` does, and makes all that its merge makes of a tree in which no node is cold,
-    /// while the tree stays as it is. Refused with `NoSuchLeaf` (22), `PathLength` (30), `KeyRepeated` (25) and
+    /// Checks a commit's path as `merge_path` does, and makes all that its merge makes of a tree in which no node is
+    /// cold, while the tree stays as it is. Refused with `NoSuchLeaf` (22), `PathLength` (30), `KeyRepeated` (25) and
     /// `ParentHashWrong` (24), in this order.
     pub fn prepare_path(
         &self,
@@ -107,14 +107,15 @@ impl PublicTree {
         })
     }
 
-    /// Merges a path that was prepared for this tree, in which no node is cold before or after: nothing is checked again,
-    /// and no hash made. Without memory for the leaf or the indexes the tree is as before.
+    /// Merges a path that was prepared for this tree, in which no node is cold before or after: nothing is checked
+    /// again, and no hash made. Without memory for the leaf or the indexes the tree is as before.
     pub fn follow_path(&mut self, path: PreparedPath) -> Result<(), AllocError>
         requires warm { self.old.kept ≡ hashes_of 0 (term self.old) }
         requires prepared { IsFor (term self.old) path }
         ensures tree { OnOk result (term self.new ≡ merged_by (term self.old) path) }
         ensures warm { OnOk result (self.new.kept ≡ hashes_of 0 (term self.new)) }
-        // It makes the leaf and the nodes over it cold, and then warms them: the hashes that were made for it are counted.
+        // It makes the leaf and the nodes over it cold, and then warms them: the hashes that were made for it are
+        // counted.
         ensures cold { OnOk result (ChillsThenWarms path.index self.old self.new) }
         // What a path keeps of a tree, as a merge does.
         ensures good { OnOk result (PathKeepsGood path self.old self.new) }

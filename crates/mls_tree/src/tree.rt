@@ -86,8 +86,8 @@ impl PublicTree {
     }
 
     /// The tree of nodes in order, as it is sent (RFC 9420, 12.4.3.3): blank nodes follow up to the least tree that
-    /// holds them. Refused with `TreeShape` (20) where there are no nodes, the last one is blank, a leaf is at an odd or
-    /// a parent at an even place, or more than one leaf and no member in the right half; then with `TreeFull` (21)
+    /// holds them. Refused with `TreeShape` (20) where there are no nodes, the last one is blank, a leaf is at an odd
+    /// or a parent at an even place, or more than one leaf and no member in the right half; then with `TreeFull` (21)
     /// above 4,096 leaves.
     pub fn from_nodes(nodes: Vec<Slot>) -> Result<PublicTree, TreeError>
         ensures answer { Answers term number_of (from_nodes max_leaves nodes.items) result }
@@ -222,9 +222,9 @@ impl PublicTree {
         self.hashes.done()
     }
 
-    /// Adds a member at the leftmost blank leaf, in a tree of twice the leaves where none is blank, and answers its leaf
-    /// index (RFC 9420, 12.1.1). Refused with `TreeFull` (21) where that tree would have more than 4,096 leaves, whatever
-    /// memory there is.
+    /// Adds a member at the leftmost blank leaf, in a tree of twice the leaves where none is blank, and answers its
+    /// leaf index (RFC 9420, 12.1.1). Refused with `TreeFull` (21) where that tree would have more than 4,096 leaves,
+    /// whatever memory there is.
     pub fn add(&mut self, leaf: LeafNode) -> Result<u32, TreeError>
         ensures answer { AnswersAdd leaf self.old self.new result }
         ensures outright { Refuses (add_answer (term self.old) leaf) result }

@@ -29,8 +29,8 @@ abbrev pub PutsHashes : ℕ → ℕ → ℕ → List (List ℕ) → List (Option
 PutsHashes n b i hashes old new =
     (t : Term) (ks : List (List ℕ)) (h : List ℕ) (x : LeafNode) → is_perfect n t ≡ true → old ≡ hashes_of b t → hashes ≡ way_hashes b (merge b t i ks h x) i → new ≡ hashes_of b (merge b t i ks h x)
 
--- where these are the parents that a merge makes over leaf i, the hashes on the way to the leaf were added, and the tree
--- hash of the merged tree is answered, where no memory was missing
+-- where these are the parents that a merge makes over leaf i, the hashes on the way to the leaf were added, and the
+-- tree hash of the merged tree is answered, where no memory was missing
 abbrev pub AddsWay : {E : Type 0} → ℕ → ℕ → List (Option Node) → ℕ → List Parent → LeafNode → Vec (List ℕ) → Vec (List ℕ) → Result (List ℕ) E → Type 0
 AddsWay h b nodes i ps x old new result =
     IfOk result (λ hash. HashesMerged b (term_of h nodes) i ps x hash old.items new.items)

@@ -83,8 +83,8 @@ fn push_count(
     Ok(())
 }
 
-/// Adds to `out` how many ciphertexts each node of a leaf's path has, the lowest first (RFC 9420, 7.6): one for each node
-/// of the resolution of its other side, without the leaves just added.
+/// Adds to `out` how many ciphertexts each node of a leaf's path has, the lowest first (RFC 9420, 7.6): one for each
+/// node of the resolution of its other side, without the leaves just added.
 #[tactic(auto, using(mls_treemath::proofs::Sizes::nodes_in_pos))]
 pub fn ciphertext_counts(
     nodes: &[Slot],

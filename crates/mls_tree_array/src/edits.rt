@@ -40,8 +40,8 @@ pub fn put(nodes: &mut [Slot], height: u32, first: u32, i: u32, leaf: Option<Sha
     }
 }
 
-/// Fills leaf i, and enters it in the list of each parent over it that isn't blank (RFC 9420, 12.1.1). The leaf is filled
-/// once all lists have it; where one can't grow, those above are as they were.
+/// Fills leaf i, and enters it in the list of each parent over it that isn't blank (RFC 9420, 12.1.1). The leaf is
+/// filled once all lists have it; where one can't grow, those above are as they were.
 #[cycle(entering)]
 pub fn enter(
     nodes: &mut [Slot],
@@ -70,8 +70,9 @@ pub fn enter(
     }
 }
 
-/// Enters leaf i in the list of the parent in a cell, where there is one, and in the side below it that the leaf is on. A
-/// parent that no other tree shares is not copied; where the side can't take the leaf, it is taken out of the list again.
+/// Enters leaf i in the list of the parent in a cell, where there is one, and in the side below it that the leaf is
+/// on. A parent that no other tree shares is not copied; where the side can't take the leaf, it is taken out of the
+/// list again.
 #[cycle(entering)]
 fn enter_below(
     root: &mut Slot,

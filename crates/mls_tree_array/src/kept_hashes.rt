@@ -16,8 +16,8 @@ use mls_tree_slot::Slot;
 use std::alloc::{AllocError, Global};
 use std::marker::Model;
 
-/// The tree hashes that are kept beside the nodes of a tree, in their order: at a cold node there is none. It counts the
-/// hashes of nodes that were made.
+/// The tree hashes that are kept beside the nodes of a tree, in their order: at a cold node there is none. It counts
+/// the hashes of nodes that were made.
 #[derive(Drop)]
 pub struct Hashes {
     kept: Vec<Option<Hash>>,
@@ -77,8 +77,8 @@ impl Hashes {
         drop_hashes(&mut self.kept, height, 0, i);
     }
 
-    /// Keeps those of leaf i and of the nodes over it that a merge of leaf i was found to make, the lowest first, and counts
-    /// them. Takes no memory.
+    /// Keeps those of leaf i and of the nodes over it that a merge of leaf i was found to make, the lowest first, and
+    /// counts them. Takes no memory.
     pub fn put_way(&mut self, height: u32, i: u32, hashes: &[Hash])
         requires shape { length self.old.kept ≡ nodes_in height }
         requires low { height ≤ max_height }

@@ -130,8 +130,8 @@ fn merged_parent(alloc: Global, key: Bytes, hash: &Option<Hash>) -> Result<Share
     }
 }
 
-/// Adds the parent that a merge makes, whose other side this is, where there is one, and answers the parent hash that it
-/// hands down. `sibling` is the side's tree hash. The parent's key is the last one, which is taken.
+/// Adds the parent that a merge makes, whose other side this is, where there is one, and answers the parent hash that
+/// it hands down. `sibling` is the side's tree hash. The parent's key is the last one, which is taken.
 fn add_parent(
     alloc: Global,
     side: &[Slot],
@@ -162,8 +162,8 @@ fn add_parent(
     }
 }
 
-/// Adds the parents that a merge makes over a leaf to `out`, the highest first, and answers the parent hash that reaches
-/// the leaf. Their keys are the last ones, which are taken.
+/// Adds the parents that a merge makes over a leaf to `out`, the highest first, and answers the parent hash that
+/// reaches the leaf. Their keys are the last ones, which are taken.
 #[tactic(auto, using(mls_treemath::proofs::Sizes::nodes_in_pos))]
 fn add_parents(
     alloc: Global,
@@ -298,8 +298,8 @@ fn is_right_reached(nodes: &[Slot], height: u32, middle: usize) -> bool
     is_reached(&nodes[middle + 1..], height - 1)
 }
 
-/// Merges a path: replaces leaf i and blanks the parents over it, but for those of the filtered path, which are replaced
-/// by the given ones (RFC 9420, 7.5). Takes no memory.
+/// Merges a path: replaces leaf i and blanks the parents over it, but for those of the filtered path, which are
+/// replaced by the given ones (RFC 9420, 7.5). Takes no memory.
 pub fn merge(
     nodes: &mut [Slot],
     height: u32,

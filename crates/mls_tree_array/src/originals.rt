@@ -67,8 +67,8 @@ fn keeps_hash(
     are_disjoint(unmerged_leaves_of(parent), unmerged)
 }
 
-/// The tree hash of an original by those of its sides. It is `own`, the tree hash of the tree, where its root lists none
-/// of the leaves and its sides have the hashes that they had, `old_left` and `old_right`.
+/// The tree hash of an original by those of its sides. It is `own`, the tree hash of the tree, where its root lists
+/// none of the leaves and its sides have the hashes that they had, `old_left` and `old_right`.
 fn original_root_hash(
     parent: Option<&ParentNode>,
     unmerged: &[u32],
@@ -99,9 +99,9 @@ fn count_before(leaves: &[u32], end: u32) -> usize
     }
 }
 
-/// The tree hash of a side as it was before some leaves were added, where `hashes` are the tree hashes of its subtrees and
-/// its parents list leaves below them alone: only the subtrees that have one of the leaves are walked, and of these only
-/// those that they change are hashed.
+/// The tree hash of a side as it was before some leaves were added, where `hashes` are the tree hashes of its subtrees
+/// and its parents list leaves below them alone: only the subtrees that have one of the leaves are walked, and of
+/// these only those that they change are hashed.
 #[tactic(auto, using(mls_treemath::proofs::Sizes::nodes_in_pos))]
 pub(crate) fn original_hash(
     nodes: &[Slot],

@@ -207,8 +207,8 @@ fn are_parents_valid(
     are_parents_valid(right, &hashes[middle + 1..], height - 1, second, found)
 }
 
-/// Whether each parent is parent-hash valid, where the lists of unmerged leaves are right and `hashes` are the tree hashes
-/// of all subtrees.
+/// Whether each parent is parent-hash valid, where the lists of unmerged leaves are right and `hashes` are the tree
+/// hashes of all subtrees.
 pub fn has_good_hashes(
     alloc: Global,
     nodes: &[Slot],

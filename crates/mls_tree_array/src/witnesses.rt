@@ -112,8 +112,8 @@ fn are_others(leaves: &[u32], first: u32, end: u32, nodes: &mut [u64], node: u64
 }
 
 /// The only node that can tie a side, whose leaves are those from `first` on, below `end`, to a parent over it: its
-/// resolution is this node and the leaves that the parent lists below it. `found` is room for the resolution, and may hold
-/// it sorted. Besides the walk for it, n nodes and leaves take time in proportion to n log n.
+/// resolution is this node and the leaves that the parent lists below it. `found` is room for the resolution, and may
+/// hold it sorted. Besides the walk for it, n nodes and leaves take time in proportion to n log n.
 pub(crate) fn candidate(
     parent: &ParentNode,
     nodes: &[Slot],

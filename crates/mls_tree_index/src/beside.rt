@@ -46,8 +46,8 @@ impl Index {
         }
     }
 
-    /// Whether no two of these keys and those of the cells at none of these places, each given once, are one. Takes memory
-    /// only where two cells have one key.
+    /// Whether no two of these keys and those of the cells at none of these places, each given once, are one. Takes
+    /// memory only where two cells have one key.
     pub fn accepts_beside(
         &self,
         cells: &[Slot],

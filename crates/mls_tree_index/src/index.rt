@@ -80,8 +80,8 @@ impl Index {
         }
     }
 
-    /// Whether the entry at a place or that before it has this key. Where an entry with the key goes there, no other has
-    /// it if neither does.
+    /// Whether the entry at a place or that before it has this key. Where an entry with the key goes there, no other
+    /// has it if neither does.
     pub(crate) fn is_beside(&self, cells: &[Slot], place: usize, key: &[u8]) -> bool
         ensures { AnswersAround self.now cells.now place key.now result }
     {

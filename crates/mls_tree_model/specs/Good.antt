@@ -103,8 +103,8 @@ pub record AreFit (rules : Rules) (i : ℕ) (x : LeafNode) (ks : List (List ℕ)
   pub capable : rules.is_capable x ≡ true
   pub fit : list_all rules.is_fit (x.encryption_key ∷ ks) ≡ true
 
--- a new leaf for place i of a tree, and new parents' keys, pass the checks that are made of each alone; none of these keys,
--- nor the client, stands in the tree or twice
+-- a new leaf for place i of a tree, and new parents' keys, pass the checks that are made of each alone; none of these
+-- keys, nor the client, stands in the tree or twice
 pub record AreNew (rules : Rules) (i : ℕ) (x : LeafNode) (ks : List (List ℕ)) (t : Term) : Type 0 where
   pub keys : is_distinct same_bytes (x.encryption_key ∷ (ks ++ encryption_keys t)) ≡ true
   pub clients : is_distinct same_bytes (x.signature_key ∷ signature_keys t) ≡ true

@@ -148,7 +148,8 @@ MembersTrim = (p : ℕ → LeafNode → Bool) (b : ℕ) (t : Term) → all_membe
 
 -- ---- clients
 
--- a merge keeps the list of signature keys where the leaf keeps its own; so clients repeat after it where they did before
+-- a merge keeps the list of signature keys where the leaf keeps its own; so clients repeat after it where they did
+-- before
 abbrev pub ClientsMerge : Type 0
 ClientsMerge = (b : ℕ) (t : Term) (i : ℕ) (ks : List (List ℕ)) (h : List ℕ) (x old : LeafNode) → leaf_at b t i ≡ Some old → x.signature_key ≡ old.signature_key → signature_keys (merge b t i ks h x) ≡ signature_keys t
 
@@ -340,7 +341,8 @@ GoodRemove = (rules : Rules) (t : Term) (i : ℕ) → IsGood rules t → i < wid
 abbrev pub GoodAdd : Type 0
 GoodAdd = (rules : Rules) (t : Term) (x : LeafNode) → IsGood rules t → width (add t x) ≤ rules.limit → AreNew rules (place_in t) x [] t → IsGood rules (add t x)
 
--- a merge keeps a good tree, where the path has its keys, the leaf has its parent hash, and leaf and keys pass the checks
+-- a merge keeps a good tree, where the path has its keys, the leaf has its parent hash, and leaf and keys pass the
+-- checks
 abbrev pub GoodMerge : Type 0
 GoodMerge = (rules : Rules) (t : Term) (i : ℕ) (ks : List (List ℕ)) (h : List ℕ) (x : LeafNode) → IsGood rules t → i < width t → IsPath 0 t i ks h x → AreNew rules i x ks (put 0 t i None) → IsGood rules (merge 0 t i ks h x)
 

@@ -47,8 +47,8 @@ impl PrivatePath {
         Ok(())
     }
 
-    /// Drops the keys of nodes that are blank or cut off in the edited tree, and takes the leaf's new key where there is
-    /// one (RFC 9420, 7.7 and 12.1). Refused for want of memory alone, and then the keys are as before.
+    /// Drops the keys of nodes that are blank or cut off in the edited tree, and takes the leaf's new key where there
+    /// is one (RFC 9420, 7.7 and 12.1). Refused for want of memory alone, and then the keys are as before.
     pub fn follow_edit(
         &mut self,
         tree: &PublicTree,

@@ -62,8 +62,8 @@ fn put_keys(
 
 impl PrivatePath {
     /// Makes a path of the filtered direct path of the leaf, from its first path secret, and keeps its private keys in
-    /// place of those above the leaf (RFC 9420, 7.4 and 7.5). Refused for want of memory alone, and then the keys are as
-    /// before.
+    /// place of those above the leaf (RFC 9420, 7.4 and 7.5). Refused for want of memory alone, and then the keys are
+    /// as before.
     pub fn make_path<S: Suite>(
         &mut self,
         start: &Secret,

@@ -229,12 +229,12 @@ impl PrivatePath {
         climb_past_parent::<S>(is_filtered, path, climb)
     }
 
-    /// Takes the commit secret and the new keys of a path that leaf `committer` made, whose nodes come the lowest first
-    /// (RFC 9420, 7.5). The tree is the one after the commit's edits, with the path merged or not, and `added` are the
-    /// leaves that the commit added. Keys of nodes that the path blanks are dropped. `OpenFailed` (32) where no
-    /// ciphertext is for the member or its own doesn't open, `SecretLength` (33) where what it holds hasn't 32 bytes,
-    /// `PathKeyMismatch` (34) where a derived public key isn't the one that the path gives. After a refusal the keys are
-    /// as before. A context has fewer than 2^30 bytes.
+    /// Takes the commit secret and the new keys of a path that leaf `committer` made, whose nodes come the lowest
+    /// first (RFC 9420, 7.5). The tree is the one after the commit's edits, with the path merged or not, and `added`
+    /// are the leaves that the commit added. Keys of nodes that the path blanks are dropped. `OpenFailed` (32) where
+    /// no ciphertext is for the member or its own doesn't open, `SecretLength` (33) where what it holds hasn't 32
+    /// bytes, `PathKeyMismatch` (34) where a derived public key isn't the one that the path gives. After a refusal the
+    /// keys are as before. A context has fewer than 2^30 bytes.
     pub fn open_path<S: Suite>(
         &mut self,
         tree: &PublicTree,

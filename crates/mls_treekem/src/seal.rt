@@ -188,11 +188,11 @@ impl Sealer<'_> {
 }
 
 /// The nodes of the path that a committer sends, the lowest first: the public key of each node of its filtered direct
-/// path, and its path secret sealed to the resolution of its child on the copath, without the leaves just added
-/// (RFC 9420, 7.5 and 7.6). The tree is the one after the edits, before the path is merged or after; `path` has a secret
-/// and a key pair for each node of the filtered direct path, the lowest first, and any more are left out; the context is
-/// the group's, below 2^30 bytes; `seed` is the commit's. Refused with `BadKey` (36) exactly where a node that a secret is
-/// sealed to has no key, or one that isn't fit, or `path` has too few secrets or key pairs.
+/// path, and its path secret sealed to the resolution of its child on the copath, without the leaves just added (RFC
+/// 9420, 7.5 and 7.6). The tree is the one after the edits, before the path is merged or after; `path` has a secret
+/// and a key pair for each node of the filtered direct path, the lowest first, and any more are left out; the context
+/// is the group's, below 2^30 bytes; `seed` is the commit's. Refused with `BadKey` (36) exactly where a node that a
+/// secret is sealed to has no key, or one that isn't fit, or `path` has too few secrets or key pairs.
 pub fn seal_path<S: Suite>(
     alloc: Global,
     tree: &PublicTree,

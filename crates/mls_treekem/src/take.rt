@@ -47,8 +47,8 @@ fn start_climb(
     })
 }
 
-/// The climb past a parent: a blank one takes no step; `PathKeyMismatch` (34) where another one lists the joiner or hasn't
-/// the derived key.
+/// The climb past a parent: a blank one takes no step; `PathKeyMismatch` (34) where another one lists the joiner or
+/// hasn't the derived key.
 fn climb_past_parent<S: Suite>(
     tree: &PublicTree,
     place: &Place,
@@ -137,12 +137,13 @@ impl PrivatePath {
         Ok(climb)
     }
 
-    /// Takes a path secret as a joiner, in a whole tree with the signer's path: the secret is that of the parent where the
-    /// ways of signer and joiner part, from there up each parent that isn't blank takes a step, and the keys that were
-    /// held above the leaf are dropped (RFC 9420, 12.4.3.1). Answers the commit secret. Refused with `PathKeyMismatch` (34)
-    /// where signer and joiner are not two leaves of the tree, the first of those parents is blank, or one lists the
-    /// joiner or has another public key than the derived one; then with `KeyMissing` (35) where a parent over the joiner
-    /// isn't blank, doesn't list it and got no key. After a refusal the keys are as before.
+    /// Takes a path secret as a joiner, in a whole tree with the signer's path: the secret is that of the parent where
+    /// the ways of signer and joiner part, from there up each parent that isn't blank takes a step, and the keys that
+    /// were held above the leaf are dropped (RFC 9420, 12.4.3.1). Answers the commit secret. Refused with
+    /// `PathKeyMismatch` (34) where signer and joiner are not two leaves of the tree, the first of those parents is
+    /// blank, or one lists the joiner or has another public key than the derived one; then with `KeyMissing` (35)
+    /// where a parent over the joiner isn't blank, doesn't list it and got no key. After a refusal the keys are as
+    /// before.
     pub fn take_secret<S: Suite>(
         &mut self,
         tree: &PublicTree,
@@ -182,8 +183,8 @@ impl PrivatePath {
     }
 
     /// Checks the keys of a joiner that gets no path secret, in a whole tree (RFC 9420, 12.4.3.1). Refused with
-    /// `KeyMissing` (35) exactly where a parent over it isn't blank, doesn't list it and has no key here; the parents over
-    /// a leaf outside the tree are those over its last leaf. Takes no memory.
+    /// `KeyMissing` (35) exactly where a parent over it isn't blank, doesn't list it and has no key here; the parents
+    /// over a leaf outside the tree are those over its last leaf. Takes no memory.
     pub fn require_keys(&self, tree: &PublicTree) -> Result<(), TreeKemError>
         ensures { AnswersDue tree.now self.now result }
     {

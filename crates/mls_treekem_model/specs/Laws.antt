@@ -252,7 +252,8 @@ LeafHasDue = (j : ℕ) (ss : List Step) (sk : List ℕ) → (is_complete j ss (k
 abbrev pub LeafExact : Type 0
 LeafExact = (c : Crypto) (t : Term) (j : ℕ) (x : LeafNode) (sk : List ℕ) → leaf_at 0 t j ≡ Some x → c.public sk ≡ x.encryption_key → is_complete j (way 0 t j) (keys_on_way (way 0 t j) (Some sk ∷ [])) ≡ true → Exact c 0 t j (keys_on_way (way 0 t j) (Some sk ∷ []))
 
--- in a tree with a path that was made, a joiner that the parents over it list takes the committer's commit secret and keys
+-- in a tree with a path that was made, a joiner that the parents over it list takes the committer's commit secret and
+-- keys
 abbrev pub TakeAgree : Type 0
 TakeAgree = (c : Crypto) (t : Term) (i j : ℕ) (h : List ℕ) (x y : LeafNode) (start sk own : List ℕ) → AreTwo 0 t i j → leaf_at 0 t j ≡ Some y → c.public own ≡ y.encryption_key → AllList j (way 0 t j) →
     take_keys c (merge 0 t i (path_keys c (way 0 t i) start) h x) i j own (secret_for (way 0 t i) j start)

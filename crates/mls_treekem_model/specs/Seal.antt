@@ -102,8 +102,8 @@ seal_along c context added rnd (s ∷ ss) start =
     (with_ciphertexts (node_public c secret) (seal_all c context secret s.first s.other rnd (seal_count added ss) (targets added s)))
     (seal_along c context added rnd ss start)
 
--- the nodes of the path that leaf i of a whole tree sends, the lowest first; `BadKey` (36) where a key is missing or not fit
--- (RFC 9420, 7.5 and 7.6)
+-- the nodes of the path that leaf i of a whole tree sends, the lowest first; `BadKey` (36) where a key is missing or
+-- not fit (RFC 9420, 7.5 and 7.6)
 unfoldable pub sealed_path : Crypto → List ℕ → List ℕ → (ℕ → List ℕ) → Term → ℕ → List ℕ → Result (List UpdatePathNode) ℕ
 sealed_path c context added rnd t i start = require_some 36 (option_map reverse (seal_along c context added rnd (way 0 t i) start))
 

@@ -160,8 +160,8 @@ RefusedUnopened = (c : Crypto) (context : List ℕ) (added : List ℕ) (t : Term
 abbrev pub keys_from : Term → ℕ → ℕ → List UpdatePathNode → List (List ℕ)
 keys_from t i j path = take (filtered_from (way 0 t i) j) (map (λ n. n.encryption_key) (reverse path))
 
--- where a secret was opened, the path is accepted just where those keys are the public keys of the chain from it, and then
--- the commit secret is the chain's end; else 34
+-- where a secret was opened, the path is accepted just where those keys are the public keys of the chain from it, and
+-- then the commit secret is the chain's end; else 34
 pub record IsJudged (c : Crypto) (context added : List ℕ) (t : Term) (i j : ℕ) (ks : Keys) (path : List UpdatePathNode) (secret : List ℕ) : Type 0 where
   pub right : keys_from t i j path ≡ chain_keys c secret (filtered_from (way 0 t i) j) → (m : Climb) × (opened_path c context added t i j ks path ≡ Ok m) × (m.secret ≡ chain secret (filtered_from (way 0 t i) j))
   pub wrong : (keys_from t i j path ≡ chain_keys c secret (filtered_from (way 0 t i) j) → ⊥) → opened_path c context added t i j ks path ≡ Err 34
@@ -191,8 +191,8 @@ unfoldable pub parents_over : List Step → ℕ → List Parent
 parents_over [] j = []
 parents_over (s ∷ ss) j = with_parent s.parent (if is_beside s j then [] else parents_over ss j)
 
--- a path secret fits a way over leaf j (RFC 9420, 12.4.3.1): the parent where the ways part is there, it and those above
--- don't list j and have the public keys of the chain from this secret, and those below on j's way list j
+-- a path secret fits a way over leaf j (RFC 9420, 12.4.3.1): the parent where the ways part is there, it and those
+-- above don't list j and have the public keys of the chain from this secret, and those below on j's way list j
 pub record FitsOver (c : Crypto) (j : ℕ) (secret : List ℕ) (ss : List Step) : Type 0 where
   pub step : Step
   pub lowest : Parent
