@@ -6,3 +6,5 @@ pub mod Climbing
 pub mod Opening
 pub mod NodeKeys
 pub mod Sealing
+pub mod Following
+pub mod Taking
