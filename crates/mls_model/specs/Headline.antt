@@ -16,7 +16,7 @@ use Rattle.mls_model.specs.declared.event.Reply.TheVariants.{Delivered, Joined, 
 use Rattle.mls_model.specs.Member.{Pending}
 use Rattle.mls_model.specs.Messages.{decode_message}
 use Rattle.mls_model.specs.Verdict.{own_pending}
-use Rattle.mls_model.specs.Journal.{CommitMade, with_entry, names_in, entry_of, list_in, removes_in, is_homemade}
+use Rattle.mls_model.specs.Journal.{CommitMade, IsHomemade, with_entry, names_in, entry_of, list_in, removes_in}
 use Rattle.mls_model.specs.World.{World, Entrant, Seat, empty_world, bytes_of, commit_for_joiner}
 use Rattle.mls_model.specs.Run.{answer, step, run}
 use Rattle.mls_model.specs.EventRange.{IsInRange}
@@ -35,7 +35,8 @@ AgreeByJournal w = (i j : ℕ) (s t : Seat) → IsActive w i s → IsActive w j 
 
 -- with one homemade journal they hold the same secrets
 abbrev pub AgreeSecretIfHomemade : World → Type 0
-AgreeSecretIfHomemade w = (i j : ℕ) (s t : Seat) → IsActive w i s → IsActive w j t → s.journal ≡ t.journal → is_homemade w.made s.journal ≡ true → AgreeSecret s.member t.member
+AgreeSecretIfHomemade w = (i j : ℕ) (s t : Seat) → IsActive w i s → IsActive w j t → s.journal ≡ t.journal →
+    IsHomemade w.made s.journal → AgreeSecret s.member t.member
 
 -- with one journal of any kind they do too, or their epoch secrets are twins
 abbrev pub AgreeByConfirmation : World → Type 0
@@ -70,12 +71,27 @@ pub record Accepts (c : Crypto) (w : World) (k : ℕ) (s : Seat) (source : Sourc
   pub removed : is_removed s d ≡ true → LeavesGroup c w k s source
   pub follows : is_removed s d ≡ false → FollowsCommit c w k s source d
 
--- a commit that was made at a homemade journal is accepted by every other active member that has that journal and keeps
--- under each reference that the commit names the very message that the maker named
+-- a member is to accept a source: it is a commit of another member, made at a homemade journal that this member has too
+pub record IsToAccept (w : World) (k : ℕ) (s : Seat) (source : Source) (d : CommitMade) : Type 0 where
+  -- a commit call of this world made the commit
+  pub place : ℕ
+  pub made : slice_get w.made place ≡ Some d
+  -- the journal at which it was made is homemade
+  pub homemade : IsHomemade w.made d.journal
+  -- the member is active
+  pub active : IsActive w k s
+  -- it isn't the maker
+  pub other : k ≢ d.maker
+  -- its journal is the one at which the commit was made
+  pub journal : s.journal ≡ d.journal
+  -- it keeps, under each reference that the commit names, the very message that the maker named
+  pub keeps : Keeps s.member.kept (list_in d.entry.commit) d.entry.names
+  -- the source's bytes are those of the commit
+  pub bytes : bytes_of w source ≡ Ok d.entry.commit
+
+-- a member accepts each source that it is to accept
 abbrev pub AcceptsHomemade : Crypto → World → Type 0
-AcceptsHomemade c w = (n k : ℕ) (d : CommitMade) (s : Seat) (source : Source) → slice_get w.made n ≡ Some d → is_homemade w.made d.journal ≡ true →
-    IsActive w k s → k ≢ d.maker → s.journal ≡ d.journal → Keeps s.member.kept (list_in d.entry.commit) d.entry.names →
-    bytes_of w source ≡ Ok d.entry.commit → Accepts c w k s source d
+AcceptsHomemade c w = (k : ℕ) (s : Seat) (source : Source) (d : CommitMade) → IsToAccept w k s source d → Accepts c w k s source d
 
 -- ---- joins
 

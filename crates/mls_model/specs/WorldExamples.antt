@@ -8,7 +8,8 @@ use Rattle.mls_model.specs.declared.event.Event.TheVariants as event
 use Rattle.mls_model.specs.declared.event.Reply.TheVariants as reply
 use Rattle.mls_model.specs.declared.origin.Origin.TheVariants.{Creation}
 use Rattle.mls_model.specs.Candidate.{Candidate}
-use Rattle.mls_model.specs.Journal.{Entry, Journal, CommitMade, new_journal, with_entry, is_homemade}
+use Rattle.mls_model.specs.HomemadeTest.{is_homemade}
+use Rattle.mls_model.specs.Journal.{Entry, Journal, CommitMade, new_journal, with_entry}
 use Rattle.mls_model.specs.World.{World, Seat, empty_world, commit_for_joiner}
 use Rattle.mls_model.specs.Run.{replies}
 

@@ -3,7 +3,8 @@ use Rattle.std.specs.Prelude.{◌≡◌, ℕ, true, List, Some, slice_get}
 use Rattle.mls_suite.specs.Crypto.{Crypto, Lawful}
 use Rattle.mls_model.specs.declared.origin.Origin.{Origin}
 use Rattle.mls_model.specs.Invariant.{IsRecorded}
-use Rattle.mls_model.specs.Journal.{Entry, CommitMade, is_homemade_from}
+use Rattle.mls_model.specs.HomemadeTest.{is_homemade_from}
+use Rattle.mls_model.specs.Journal.{Entry, CommitMade}
 use Rattle.mls_model.specs.Lineage.{IsReached}
 use Rattle.mls_model.specs.Member.{Member}
 use Rattle.mls_model.specs.JournalState.{Creations}
