@@ -20,7 +20,8 @@ use Rattle.mls_model.specs.Journal.{CommitMade, IsHomemade, with_entry, names_in
 use Rattle.mls_model.specs.World.{World, Entrant, Seat, empty_world, bytes_of, commit_for_joiner}
 use Rattle.mls_model.specs.Run.{answer, step, run}
 use Rattle.mls_model.specs.EventRange.{IsInRange}
-use Rattle.mls_model.specs.Agreement.{Agree, AgreeSecret, AgreeOrTwins, HasGoodTree, HasExactKeys, Keeps}
+use Rattle.mls_model.specs.Agreement.{Agree, AgreeSecret, AgreeOrTwins, Keeps}
+use Rattle.mls_model.specs.MemberInvariant.{HasGoodTree, HasExactKeys}
 
 -- member k, which wasn't removed
 pub record IsActive (w : World) (k : ℕ) (s : Seat) : Type 0 where

@@ -25,7 +25,8 @@ use Rattle.mls_model.specs.Member.{Pending, Member, find_proposals, named_propos
 use Rattle.mls_model.specs.Messages.{decode_message, sender_leaf}
 use Rattle.mls_model.specs.Make.{MadePath, Made}
 use Rattle.mls_model.specs.Verdict.{framing_checks, open_path_secret, enter_epoch, commit_verdict, content_verdict, bytes_verdict, own_pending, verdict}
-use Rattle.mls_model.specs.Agreement.{Agree, AgreeSecret, Keeps, IsGoodMember, IsGoodPending, IsGoodIfPending}
+use Rattle.mls_model.specs.Agreement.{Agree, AgreeSecret, Keeps}
+use Rattle.mls_model.specs.MemberInvariant.{IsGoodMember, IsGoodPending, IsGoodIfPending}
 use Rattle.mls_model.specs.Journal.{names_in, removes_in}
 use Rattle.mls_model.specs.Claims.{IsMade, Receives}
 use Rattle.mls_theorems.proofs.Used.{used_alike, removes_in_lem}

@@ -14,7 +14,8 @@ use Rattle.mls_model.specs.declared.effect.Effect.{Effect}
 use Rattle.mls_model.specs.declared.effect.Effect.TheVariants.{Advanced}
 use Rattle.mls_model.specs.declared.origin.Origin.{Origin}
 use Rattle.mls_model.specs.declared.origin.Origin.TheVariants.{Creation, GroupInfo as JoinedBy}
-use Rattle.mls_model.specs.Agreement.{Agree, AgreeSecret, Keeps, IsGoodMember, IsGoodPending}
+use Rattle.mls_model.specs.Agreement.{Agree, AgreeSecret, Keeps}
+use Rattle.mls_model.specs.MemberInvariant.{IsGoodMember, IsGoodPending}
 use Rattle.mls_model.specs.Claims.{IsMade, Receives, FollowsTo}
 use Rattle.mls_model.specs.Invariant.{IsRecorded}
 use Rattle.mls_model.specs.HomemadeTest.{is_homemade_from}

@@ -7,7 +7,8 @@ use Rattle.mls_model.specs.Commit.{Change}
 use Rattle.mls_model.specs.Member.{Member}
 use Rattle.mls_model.specs.Make.{MadePath}
 use Rattle.mls_model.specs.Verdict.{framing_checks}
-use Rattle.mls_model.specs.Agreement.{Agree, AgreeSecret, IsGoodMember}
+use Rattle.mls_model.specs.Agreement.{Agree, AgreeSecret}
+use Rattle.mls_model.specs.MemberInvariant.{IsGoodMember}
 use Rattle.mls_theorems.specs.SentCommits.{sent_of}
 
 -- ---- the whole

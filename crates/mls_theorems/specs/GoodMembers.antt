@@ -8,7 +8,7 @@ use Rattle.mls_types.specs.Commit.{proposal_or_ref}
 use Rattle.mls_types.specs.declared.commit.ProposalOrRef.{ProposalOrRef}
 use Rattle.mls_suite.specs.Crypto.{Crypto, Lawful}
 use Rattle.mls_model.specs.declared.effect.Effect.{Effect}
-use Rattle.mls_model.specs.Agreement.{IsGoodMember, IsGoodCandidate}
+use Rattle.mls_model.specs.MemberInvariant.{IsGoodMember, IsGoodCandidate}
 use Rattle.mls_model.specs.Candidate.{Candidate, new_candidate, create_group}
 use Rattle.mls_model.specs.Join.{JoinedMember, join_verdict}
 use Rattle.mls_model.specs.Make.{commit_call}

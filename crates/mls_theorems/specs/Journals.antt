@@ -8,7 +8,8 @@ use Rattle.mls_schedule.specs.Epoch.{confirmation_tag}
 use Rattle.mls_model.specs.declared.effect.Effect.TheVariants.{Advanced}
 use Rattle.mls_model.specs.declared.origin.Origin.{Origin}
 use Rattle.mls_model.specs.declared.origin.Origin.TheVariants.{Creation, GroupInfo as JoinedBy}
-use Rattle.mls_model.specs.Agreement.{Agree, AgreeOrTwins, IsGoodMember}
+use Rattle.mls_model.specs.Agreement.{Agree, AgreeOrTwins}
+use Rattle.mls_model.specs.MemberInvariant.{IsGoodMember}
 use Rattle.mls_model.specs.Candidate.{Candidate}
 use Rattle.mls_model.specs.Claims.{IsMade, JoinsTo}
 use Rattle.mls_model.specs.Invariant.{last_tag}

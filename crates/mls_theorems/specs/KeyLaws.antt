@@ -16,7 +16,7 @@ use Rattle.mls_model.specs.Proposals.{updates, removed_leaves}
 use Rattle.mls_model.specs.Commit.{Edits, Change, apply_proposals, change_of_commit}
 use Rattle.mls_model.specs.Member.{Member, find_proposals, named_proposals, first_own_key, with_keys, follow_edits}
 use Rattle.mls_model.specs.Verdict.{open_path_secret}
-use Rattle.mls_model.specs.Agreement.{IsGoodKept}
+use Rattle.mls_model.specs.MemberInvariant.{IsGoodKept}
 use Rattle.mls_theorems.specs.CommitLaws.{AllHavePassed}
 
 -- an update of leaf j whose new leaf has the public key of this private key

@@ -11,7 +11,7 @@ use Rattle.mls_tree_model.specs.Good.{IsGood}
 use Rattle.mls_tree_model.specs.Hashes.{tree_hash}
 use Rattle.mls_tree_model.specs.Term.{leaf_of}
 use Rattle.mls_tree.specs.Rules.{rules_of}
-use Rattle.mls_model.specs.Agreement.{NodeFits, IsGoodMember}
+use Rattle.mls_model.specs.MemberInvariant.{NodeFits, IsGoodMember}
 use Rattle.mls_model.specs.Commit.{Change, change_of_commit}
 use Rattle.mls_model.specs.Member.{Member, find_proposals}
 use Rattle.mls_model.specs.PublicState.{Used}

@@ -1,7 +1,7 @@
 -- Members in one public state with different signature keys stand at different leaves.
 use Rattle.std.specs.Prelude.{◌≡◌, ◌≢◌}
 use Rattle.mls_suite.specs.Crypto.{Crypto}
-use Rattle.mls_model.specs.Agreement.{IsGoodMember}
+use Rattle.mls_model.specs.MemberInvariant.{IsGoodMember}
 use Rattle.mls_model.specs.Member.{Member}
 
 abbrev pub OwnLeaves : Type 0

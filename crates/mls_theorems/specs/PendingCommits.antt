@@ -4,7 +4,7 @@ use Rattle.mls_types.specs.declared.commit.ProposalOrRef.{ProposalOrRef}
 use Rattle.mls_suite.specs.Crypto.{Crypto}
 use Rattle.mls_model.specs.Member.{Member}
 use Rattle.mls_model.specs.Make.{Made}
-use Rattle.mls_model.specs.Agreement.{IsGoodPending}
+use Rattle.mls_model.specs.MemberInvariant.{IsGoodPending}
 use Rattle.mls_model.specs.Claims.{IsMade}
 
 -- ---- the whole

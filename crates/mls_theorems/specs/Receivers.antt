@@ -10,7 +10,8 @@ use Rattle.mls_model.specs.Commit.{Edits, apply_proposals}
 use Rattle.mls_model.specs.Member.{Member, find_proposals, after_removal}
 use Rattle.mls_model.specs.Make.{Made}
 use Rattle.mls_model.specs.Verdict.{bytes_verdict, verdict}
-use Rattle.mls_model.specs.Agreement.{Agree, AgreeSecret, Keeps, IsGoodMember}
+use Rattle.mls_model.specs.Agreement.{Agree, AgreeSecret, Keeps}
+use Rattle.mls_model.specs.MemberInvariant.{IsGoodMember}
 use Rattle.mls_model.specs.Journal.{names_in, removes_in}
 use Rattle.mls_model.specs.Claims.{IsMade}
 use Rattle.mls_theorems.specs.OpenedPaths.{Stays}

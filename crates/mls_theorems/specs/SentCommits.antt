@@ -29,7 +29,7 @@ use Rattle.mls_model.specs.Commit.{Edits, Change}
 use Rattle.mls_model.specs.Member.{Member}
 use Rattle.mls_model.specs.Messages.{decode_message, content_tag}
 use Rattle.mls_model.specs.Make.{MadePath, Made, committed_leaf, no_path}
-use Rattle.mls_model.specs.Agreement.{IsGoodMember}
+use Rattle.mls_model.specs.MemberInvariant.{IsGoodMember}
 use Rattle.mls_theorems.specs.CommitCalls.{content_of, path_for, Makes}
 
 -- ---- the path of a made commit

@@ -9,7 +9,7 @@ use Rattle.mls_model.specs.PublicState.{Used}
 use Rattle.mls_model.specs.Proposals.{removed_leaves}
 use Rattle.mls_model.specs.Commit.{Edits, apply_proposals}
 use Rattle.mls_model.specs.Member.{Member, find_proposals}
-use Rattle.mls_model.specs.Agreement.{IsGoodMember}
+use Rattle.mls_model.specs.MemberInvariant.{IsGoodMember}
 use Rattle.mls_theorems.specs.OpenedPaths.{Stays}
 use Rattle.mls_model.specs.Agreement.{Agree, AgreeSecret, Keeps}
 use Rattle.mls_model.specs.Claims.{IsMade}

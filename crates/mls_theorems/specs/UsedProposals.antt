@@ -5,7 +5,8 @@ use Rattle.mls_leaf.specs.KeyPackage.{key_package}
 use Rattle.mls_leaf.specs.declared.key_package.KeyPackage.{KeyPackage}
 use Rattle.mls_types.specs.declared.commit.ProposalOrRef.{ProposalOrRef}
 use Rattle.mls_suite.specs.Crypto.{Crypto}
-use Rattle.mls_model.specs.Agreement.{Keeps, IsGoodKept}
+use Rattle.mls_model.specs.Agreement.{Keeps}
+use Rattle.mls_model.specs.MemberInvariant.{IsGoodKept}
 use Rattle.mls_model.specs.Journal.{names_in, adds_in, removes_in}
 use Rattle.mls_model.specs.Member.{KeptProposal, Member, find_proposals}
 use Rattle.mls_model.specs.Proposals.{adds, removed_leaves}
