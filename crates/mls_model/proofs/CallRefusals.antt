@@ -30,7 +30,7 @@ use Rattle.mls_schedule.specs.Epoch.{init_secret, joiner_secret, epoch_secret, c
 use Rattle.mls_tree.specs.Paths.{merge_answer}
 use Rattle.mls_model.specs.PublicState.{provisional_context}
 use Rattle.mls_model.specs.Proposals.{proposal_checks, adds, is_path_required}
-use Rattle.mls_model.specs.Commit.{Edits, Change, apply_proposals, change_of_commit, public_with}
+use Rattle.mls_model.specs.Commit.{Edits, Change, apply_proposals, change_after_edits, public_with}
 use Rattle.mls_model.specs.Member.{KeptProposal, Member, kept_under, find_proposals}
 use Rattle.mls_model.specs.Messages.{are_bytes, is_within_limit, content_by, content_signature, message_by, reference_of}
 use Rattle.mls_model.specs.Candidate.{leaf_key_of, unsigned_package, signed_package, package_message, first_context, new_candidate, create_group}
@@ -39,7 +39,7 @@ use Rattle.mls_model.specs.Welcome.{unsigned_info, signed_info, secrets_with, en
 use Rattle.mls_model.specs.Make.{MadePath, committed_leaf, new_path, no_path, path_secret_for, path_seals, welcome_if, make}
 use Rattle.mls_model.specs.Refusals.{proposal_numbers, body_numbers, proposed_numbers, make_numbers, AddNumbers, UpdateNumbers, RemoveNumbers, MakeNumbers, CandidateNumbers, CreateNumbers}
 use Rattle.mls_model.proofs.RefusedSteps.{is_one, widen, bind_refused, then_refused, test_refused, last_refused, given_refused, if_refused}
-use Rattle.mls_model.proofs.RefusalLaws.{proposal_refused, replaced_refused, merge_refused, edited_refused, body_refused}
+use Rattle.mls_model.proofs.RefusalLaws.{proposal_refused, replaced_refused, merge_refused, edited_refused, after_edits_refused}
 use Rattle.mls_model.proofs.VerdictRefusals.{used_refused}
 
 limit_refused : (bytes : List ℕ) (n : ℕ) → is_within_limit bytes ≡ Err n → 6 ≡ n
@@ -148,8 +148,8 @@ make_refused c m list wants_path seed n h =
     let commit : Commit = record { proposals = list; path = made.path } in
     let said = content_by m (says.Commit commit) in
     let signature = content_signature c m.signing said m.public.context in
-    bind_refused (change_of_commit c m.public m.keys.leaf used commit said signature) _ n h6
-    (λ g. widen body_numbers make_numbers n refl (body_refused c m.public m.keys.leaf used commit said signature n g)) (λ change h7.
+    bind_refused (change_after_edits c m.public m.keys.leaf used commit said signature e) _ n h6
+    (λ g. widen body_numbers make_numbers n refl (after_edits_refused c m.public m.keys.leaf used commit said signature e n g)) (λ change h7.
     let joiner = joiner_secret (init_secret m.epoch) made.climb.secret (group_context.spell change.context) in
     let epoch = epoch_secret joiner (group_context.spell change.context) in
     let tag = confirmation_tag epoch change.context.confirmed_transcript_hash in

@@ -28,7 +28,7 @@ use Rattle.mls_tree.specs.Tree.{max_leaves, member_at, add_answer, update_answer
 use Rattle.mls_tree.specs.Paths.{path_checks, merge_checks, merge_answer}
 use Rattle.mls_model.specs.PublicState.{PublicState, Used}
 use Rattle.mls_model.specs.Proposals.{update_checks, proposal_checks, full_checks, updates, updated_leaves, removed_leaves, adds, package_reference, is_path_required}
-use Rattle.mls_model.specs.Commit.{Edits, apply_updates, apply_removes, apply_adds, apply_proposals, node_keys, cipher_counts, due_counts, apply_update_path, apply_path_if, change_of_commit}
+use Rattle.mls_model.specs.Commit.{Edits, apply_updates, apply_removes, apply_adds, apply_proposals, node_keys, cipher_counts, due_counts, apply_update_path, apply_path_if, change_after_edits, change_of_commit}
 use Rattle.mls_model.specs.Refusals.{proposal_numbers, body_numbers}
 use Rattle.mls_model.proofs.RefusedSteps.{is_one, widen, bind_refused, then_refused, test_refused, last_refused, given_refused, if_refused}
 
@@ -129,10 +129,15 @@ merged_refused c p committer e (Some path) n h =
     test_refused 31 (bytes_eq (cipher_counts path) (due_counts e committer)) _ n h3 (is_one body_numbers 31 n refl) (λ h4.
     test_refused 36 (list_all c.key_ok (path.leaf_node.encryption_key ∷ node_keys path)) _ n h4 (is_one body_numbers 36 n refl) (λ h5. merge_refused e.tree committer path.leaf_node (node_keys path) n h5)))))
 
+pub after_edits_refused : (c : Crypto) (p : PublicState) (committer : ℕ) (used : List Used) (commit : Commit) (said : FramedContent) (signature : List ℕ) (e : Edits) (n : ℕ) →
+    change_after_edits c p committer used commit said signature e ≡ Err n → has body_numbers n ≡ true
+unfolding has
+after_edits_refused c p committer used commit said signature e n h =
+    test_refused 64 (is_some commit.path || not (is_path_required used)) _ n h (is_one body_numbers 64 n refl) (λ h1.
+    bind_refused (apply_path_if c p committer e commit.path) _ n h1 (merged_refused c p committer e commit.path n) (λ t never. absurd cc))
+
 pub body_refused : (c : Crypto) (p : PublicState) (committer : ℕ) (used : List Used) (commit : Commit) (said : FramedContent) (signature : List ℕ) (n : ℕ) →
     change_of_commit c p committer used commit said signature ≡ Err n → has body_numbers n ≡ true
-unfolding change_of_commit has
+unfolding change_of_commit
 body_refused c p committer used commit said signature n h =
-    bind_refused (apply_proposals c p committer used) _ n h (edited_refused c p committer used n) (λ e h1.
-    test_refused 64 (is_some commit.path || not (is_path_required used)) _ n h1 (is_one body_numbers 64 n refl) (λ h2.
-    bind_refused (apply_path_if c p committer e commit.path) _ n h2 (merged_refused c p committer e commit.path n) (λ t never. absurd cc)))
+    bind_refused (apply_proposals c p committer used) _ n h (edited_refused c p committer used n) (λ e h1. after_edits_refused c p committer used commit said signature e n h1)
