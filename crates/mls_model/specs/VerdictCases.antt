@@ -11,14 +11,13 @@ use Rattle.mls_types.specs.declared.signed.SignedBody.TheVariants as body_of
 use Rattle.mls_types.specs.declared.signed.SignedContent.{SignedContent}
 use Rattle.mls_suite.specs.Crypto.{Crypto}
 use Rattle.mls_tree_model.specs.Sets.{has}
-use Rattle.mls_treekem_model.specs.Keys.{PrivateKeys}
 use Rattle.mls_treekem_model.specs.Make.{Climb}
 use Rattle.mls_schedule.specs.Epoch.{confirmation_tag}
 use Rattle.mls_model.specs.declared.effect.Effect.{Effect}
 use Rattle.mls_model.specs.PublicState.{Used}
 use Rattle.mls_model.specs.Proposals.{proposal_checks, removed_leaves}
 use Rattle.mls_model.specs.Commit.{Change, change_of_commit}
-use Rattle.mls_model.specs.Member.{Member, kept_under, find_proposals, named_proposals, first_own_key, follow_edits}
+use Rattle.mls_model.specs.Member.{Member, kept_under, find_proposals, keys_after_edits}
 use Rattle.mls_model.specs.Messages.{decode_message, public_in, sender_leaf, reference_of}
 use Rattle.mls_model.specs.Verdict.{framing_checks, open_path_secret, own_pending, verdict}
 use Rattle.mls_model.specs.VerdictFindings.{IsFramed, WasKnown, IsNowKept, WasRemoved, HasFollowed, DidPending, reached_epoch}
@@ -54,10 +53,6 @@ pub record IsUsing (m : Member) (v : SignedContent) (commit : Commit) (used : Li
 pub record IsChanging (c : Crypto) (m : Member) (v : SignedContent) (commit : Commit) (used : List Used) (change : Change) : Type 0 where
   pub is_using : IsUsing m v commit used
   pub change_is : change_of_commit c m.public (sender_leaf v.sender) used commit (framed v) v.signature ≡ Ok change
-
--- the keys with which a member opens the path of a commit
-abbrev pub keys_for : Member → Commit → Change → PrivateKeys
-keys_for m commit change = follow_edits (first_own_key (named_proposals m.kept commit.proposals)) change.edits.tree m.keys
 
 -- ---- the five ways in which bytes are taken
 
@@ -100,10 +95,10 @@ pub data Refusing (c : Crypto) (m : Member) (bytes : List ℕ) (n : ℕ) : Type 
       change_of_commit c m.public (sender_leaf v.content.sender) used commit (framed v.content) v.content.signature ≡ Err n → Refusing c m bytes n
   -- the path doesn't open
   closed : (v : PublicMessage) (commit : Commit) (tag : List ℕ) (used : List Used) (change : Change) → IsCommit c m bytes v commit tag → IsChanging c m v.content commit used change →
-      has (removed_leaves used) m.keys.leaf ≡ false → open_path_secret c m (sender_leaf v.content.sender) change (keys_for m commit change) commit.path ≡ Err n → Refusing c m bytes n
+      has (removed_leaves used) m.keys.leaf ≡ false → open_path_secret c m (sender_leaf v.content.sender) change (keys_after_edits m commit.proposals change.edits.tree) commit.path ≡ Err n → Refusing c m bytes n
   -- the confirmation tag isn't that of the next epoch
   untagged : (v : PublicMessage) (commit : Commit) (tag : List ℕ) (used : List Used) (change : Change) (climb : Climb) → IsCommit c m bytes v commit tag → IsChanging c m v.content commit used change →
-      has (removed_leaves used) m.keys.leaf ≡ false → open_path_secret c m (sender_leaf v.content.sender) change (keys_for m commit change) commit.path ≡ Ok climb →
+      has (removed_leaves used) m.keys.leaf ≡ false → open_path_secret c m (sender_leaf v.content.sender) change (keys_after_edits m commit.proposals change.edits.tree) commit.path ≡ Ok climb →
       bytes_eq tag (confirmation_tag (reached_epoch m change climb) change.context.confirmed_transcript_hash) ≡ false → n ≡ 65 → Refusing c m bytes n
 
 -- a verdict refuses bytes just where one of these is there, with its number

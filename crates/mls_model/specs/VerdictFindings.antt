@@ -18,7 +18,7 @@ use Rattle.mls_model.specs.declared.effect.Effect.TheVariants.{Proposed, Known, 
 use Rattle.mls_model.specs.PublicState.{Used}
 use Rattle.mls_model.specs.Proposals.{proposal_checks, removed_leaves}
 use Rattle.mls_model.specs.Commit.{Change, public_with}
-use Rattle.mls_model.specs.Member.{Pending, Member, kept_under, named_proposals, first_own_key, with_keys, follow_edits, with_kept, with_epoch, after_removal}
+use Rattle.mls_model.specs.Member.{Pending, Member, kept_under, with_keys, keys_after_edits, with_kept, with_epoch, after_removal}
 use Rattle.mls_model.specs.Messages.{sender_leaf, is_handshake, is_content_signed, content_tag, reference_of}
 use Rattle.mls_model.specs.Verdict.{is_kept, kept_of, open_path_secret}
 
@@ -62,7 +62,7 @@ reached_epoch m change climb = next_epoch_secret (init_secret m.epoch) climb.sec
 pub record HasFollowed (c : Crypto) (m : Member) (v : SignedContent) (commit : Commit) (tag : List ℕ) (used : List Used) (change : Change) (x : Effect × Member) : Type 0 where
   pub stays : has (removed_leaves used) m.keys.leaf ≡ false
   pub climb : Climb
-  pub opens : open_path_secret c m (sender_leaf v.sender) change (follow_edits (first_own_key (named_proposals m.kept commit.proposals)) change.edits.tree m.keys) commit.path ≡ Ok climb
+  pub opens : open_path_secret c m (sender_leaf v.sender) change (keys_after_edits m commit.proposals change.edits.tree) commit.path ≡ Ok climb
   pub confirmed : bytes_eq tag (confirmation_tag (reached_epoch m change climb) change.context.confirmed_transcript_hash) ≡ true
   pub is : (Advanced change.context.epoch, with_epoch m (public_with change tag) (reached_epoch m change climb) (with_keys m.keys climb.keys)) ≡ x
 

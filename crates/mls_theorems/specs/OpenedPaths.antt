@@ -12,7 +12,7 @@ use Rattle.mls_treekem_model.specs.Members.{HasExact}
 use Rattle.mls_model.specs.PublicState.{PublicState, Used, provisional_context}
 use Rattle.mls_model.specs.Proposals.{is_path_required}
 use Rattle.mls_model.specs.Commit.{Edits, Change, apply_proposals, apply_path_if, change_of_commit}
-use Rattle.mls_model.specs.Member.{Member, first_own_key, named_proposals, follow_edits}
+use Rattle.mls_model.specs.Member.{Member, keys_after_edits}
 use Rattle.mls_model.specs.Make.{MadePath, no_path}
 use Rattle.mls_model.specs.Verdict.{open_path_secret}
 use Rattle.mls_theorems.specs.CommitCalls.{commit_of}
@@ -35,7 +35,7 @@ BodyDid = (c : Crypto) (p : PublicState) (committer : ℕ) (used : List Used) (c
 pub record Stays (c : Crypto) (m : Member) (committer : ℕ) (list : List ProposalOrRef) (e : Edits) : Type 0 where
   pub two : AreTwo 0 e.tree committer m.keys.leaf
   pub lists : ListsBelow 0 e.tree
-  pub exact : HasExact c e.tree (follow_edits (first_own_key (named_proposals m.kept list)) e.tree m.keys)
+  pub exact : HasExact c e.tree (keys_after_edits m list e.tree)
   pub old : has e.added m.keys.leaf ≡ false
 
 -- ---- the climb
@@ -43,7 +43,7 @@ pub record Stays (c : Crypto) (m : Member) (committer : ℕ) (list : List Propos
 -- a receiver's climb reaches the maker's commit secret
 pub record Climbs (c : Crypto) (m : Member) (committer : ℕ) (list : List ProposalOrRef) (path : MadePath) (change : Change) : Type 0 where
   pub climb : Climb
-  pub is : open_path_secret c m committer change (follow_edits (first_own_key (named_proposals m.kept list)) change.edits.tree m.keys) path.path ≡ Ok climb
+  pub is : open_path_secret c m committer change (keys_after_edits m list change.edits.tree) path.path ≡ Ok climb
   pub secret : climb.secret ≡ path.climb.secret
 
 abbrev pub ReceiverClimbs : Type 0
