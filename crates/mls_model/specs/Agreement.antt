@@ -24,16 +24,13 @@ pub record AgreeSecret (m n : Member) : Type 0 where
 abbrev pub AgreeOrTwins : Member → Member → Type 0
 AgreeOrTwins m n = AgreeSecret m n ⊎ Twins m.epoch n.epoch m.public.context.confirmed_transcript_hash
 
--- ---- what it keeps
+-- ---- what members keep
 
--- under a reference it keeps these very bytes
-abbrev pub KeepsUnder : List KeptProposal → List ℕ → List ℕ → Type 0
-KeepsUnder kept reference bytes = option_map (λ (k : KeptProposal). k.message) (kept_under kept reference) ≡ Some bytes
-
--- and so under each reference that a list names
+-- under each reference that a list names, in its order, these very messages are kept (RFC 9420, 12.4)
 unfoldable pub Keeps : List KeptProposal → List ProposalOrRef → List (List ℕ) → Type 0
 Keeps kept [] [] = Unit {0}
 Keeps kept [] (b ∷ bs) = ⊥
 Keeps kept (listed.Proposal said ∷ xs) bs = Keeps kept xs bs
 Keeps kept (listed.Reference reference ∷ xs) [] = ⊥
-Keeps kept (listed.Reference reference ∷ xs) (b ∷ bs) = KeepsUnder kept reference b × Keeps kept xs bs
+Keeps kept (listed.Reference reference ∷ xs) (b ∷ bs) =
+    (option_map (λ (k : KeptProposal). k.message) (kept_under kept reference) ≡ Some b) × Keeps kept xs bs

@@ -7,6 +7,9 @@ use Rattle.mls_types.specs.declared.message.MlsMessage.{MlsMessage}
 use Rattle.mls_types.specs.declared.message.MlsMessage.TheVariants as message
 use Rattle.mls_suite.specs.Crypto.{Crypto, Lawful}
 use Rattle.mls_tree_model.specs.Sets.{has}
+use Rattle.mls_tree_model.specs.Good.{IsGood}
+use Rattle.mls_tree.specs.Rules.{rules_of}
+use Rattle.mls_treekem_model.specs.Members.{HasExact}
 use Rattle.mls_model.specs.declared.effect.Effect.TheVariants.{Advanced, Removed}
 use Rattle.mls_model.specs.declared.event.Source.{Source}
 use Rattle.mls_model.specs.declared.event.Source.TheVariants.{Given, Message}
@@ -21,7 +24,6 @@ use Rattle.mls_model.specs.World.{World, Entrant, Seat, empty_world, bytes_of, c
 use Rattle.mls_model.specs.Run.{answer, step, run}
 use Rattle.mls_model.specs.EventRange.{IsInRange}
 use Rattle.mls_model.specs.Agreement.{Agree, AgreeSecret, AgreeOrTwins, Keeps}
-use Rattle.mls_model.specs.MemberInvariant.{HasGoodTree, HasExactKeys}
 
 -- member k, which wasn't removed
 pub record IsActive (w : World) (k : ℕ) (s : Seat) : Type 0 where
@@ -132,11 +134,12 @@ JoinsByBytes c w = (i n number : ℕ) (bytes : List ℕ) (source : Source) (d : 
 
 -- each active member has just the private keys that are due on its path (RFC 9420, 7.5)
 abbrev pub KeysAreExact : Crypto → World → Type 0
-KeysAreExact c w = (k : ℕ) (s : Seat) → IsActive w k s → HasExactKeys c s.member
+KeysAreExact c w = (k : ℕ) (s : Seat) → IsActive w k s → HasExact c s.member.public.tree s.member.keys
 
 -- each active member's tree is good (RFC 9420, 7)
 abbrev pub TreesAreGood : Crypto → World → Type 0
-TreesAreGood c w = (k : ℕ) (s : Seat) → IsActive w k s → HasGoodTree c s.member
+TreesAreGood c w = (k : ℕ) (s : Seat) → IsActive w k s →
+    IsGood (rules_of c s.member.public.context.group_id) s.member.public.tree
 
 -- ---- refusals
 

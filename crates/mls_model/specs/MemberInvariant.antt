@@ -31,15 +31,7 @@ use Rattle.mls_model.specs.Member.{KeptProposal, Pending, Member, find_proposals
 use Rattle.mls_model.specs.Messages.{decode_message, sender_leaf, reference_of}
 use Rattle.mls_model.specs.Candidate.{Candidate}
 
--- ---- what is good of a member, whatever bytes it met
-
--- its tree is good
-abbrev pub HasGoodTree : Crypto → Member → Type 0
-HasGoodTree c m = IsGood (rules_of c m.public.context.group_id) m.public.tree
-
--- it has just the private keys that are due on its path
-abbrev pub HasExactKeys : Crypto → Member → Type 0
-HasExactKeys c m = HasExact c m.public.tree m.keys
+-- ---- what a member keeps
 
 -- a kept own update has its leaf's private key
 abbrev pub HasOwnKey : Crypto → Proposal → Option (List ℕ) → Type 0
@@ -92,13 +84,13 @@ NodeFits (Some n) = node.Fits n
 
 -- an active member of a run
 pub record IsGoodMember (c : Crypto) (m : Member) : Type 0 where
-  pub tree : HasGoodTree c m
+  pub tree : IsGood (rules_of c m.public.context.group_id) m.public.tree
   pub hash : m.public.context.tree_hash ≡ tree_hash 0 m.public.tree
   pub suite : m.public.context.cipher_suite ≡ c.number
   pub own : LeafNode
   pub is_own : leaf_of m.public.tree m.keys.leaf ≡ Some own
   pub signing : own.signature_key ≡ c.sig_public m.signing
-  pub keys : HasExactKeys c m
+  pub keys : HasExact c m.public.tree m.keys
   pub kept : AllByRecursion (IsGoodKept c m) m.kept
   pub pending : IsGoodIfPending c m m.pending
   pub context : group_context.Fits m.public.context

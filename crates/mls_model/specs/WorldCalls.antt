@@ -21,7 +21,7 @@ use Rattle.mls_model.specs.Propose.{propose_add, propose_update, propose_remove}
 use Rattle.mls_model.specs.Make.{Made, make}
 use Rattle.mls_model.specs.Join.{join_verdict}
 use Rattle.mls_model.specs.Journal.{Journal, CommitMade, new_journal, with_entry, names_in, adds_in, entry_of}
-use Rattle.mls_model.specs.World.{World, Entrant, Seat, with_message, with_member, with_new_member, seat_at, entrant_at, bytes_of, package_of, items_of, commit_for_joiner, joiner_journal}
+use Rattle.mls_model.specs.World.{World, Entrant, Seat, with_member, with_new_member, seat_at, entrant_at, bytes_of, package_of, items_of, commit_for_joiner, joiner_journal}
 
 -- ---- candidates and groups
 
@@ -46,7 +46,10 @@ create_answer c w n group seed = do
 
 -- a proposal's message, and the member that keeps it
 abbrev pub proposal_answer : World → ℕ → Seat → List ℕ × Member → Reply × World
-proposal_answer w k s x = (reply.Proposal (length w.messages), with_message (with_member w k s x.1) x.0)
+proposal_answer w k s x = (
+  reply.Proposal (length w.messages),
+  record (with_member w k s x.1) { messages = w.messages ++ (x.0 ∷ []) },
+)
 
 -- 90 no such member; 94, decoding and 95 of the source; then it proposes to add that KeyPackage (RFC 9420, 12.1.1)
 unfoldable pub propose_add_answer : Crypto → World → ℕ → Source → Result (Reply × World) ℕ
