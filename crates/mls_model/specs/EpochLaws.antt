@@ -12,4 +12,5 @@ pub record IsIn (m : Member) (epoch : ℕ) : Type 0 where
 
 -- a member that follows a commit is active afterwards, and its context names the epoch that it answers
 abbrev pub AdvancedIsActive : Type 0
-AdvancedIsActive = (c : Crypto) (m after : Member) (bytes : List ℕ) (epoch : ℕ) → verdict c m bytes ≡ Ok (Advanced epoch, after) → IsIn after epoch
+AdvancedIsActive = (c : Crypto) (m after : Member) (bytes : List ℕ) (epoch : ℕ) →
+    verdict c m bytes ≡ Ok (Advanced epoch, after) → IsIn after epoch

@@ -51,7 +51,9 @@ use_of sender said = record { proposal = said; sender = sender; is_full = false 
 -- twice and then doubles it. It has 4 leaves, the new one is leaf 2, and that parent was cut off
 abbrev pub HalvesAndDoubles : Type 0
 HalvesAndDoubles = (c : Crypto) (context : GroupContext) (interim key hash : List ℕ) →
-    apply_proposals c (state_with context interim (over (Branch (listing_these key hash []) (over (member_with 1) (member_with 2)) (over blank blank)) (over (over (member_with 3) blank) (over blank blank)))) 0
+    apply_proposals c (state_with context interim (over (Branch (listing_these key hash [])
+    (over (member_with 1) (member_with 2)) (over blank blank)) (over (over (member_with 3) blank)
+    (over blank blank)))) 0
     (use_of 1 (proposal.Remove 4) ∷ use_of 1 (proposal.Add (package_with 5)) ∷ [])
     ≡ Ok (record { tree = over (over (member_with 1) (member_with 2)) (over (member_with 5) blank); added = 2 ∷ [] })
 
@@ -64,36 +66,43 @@ KeysOfCutNodes = (own key : List ℕ) →
 -- of 4 members leaf 1 is removed and another added: it stands at leaf 1
 abbrev pub TakenAgain : Type 0
 TakenAgain = (c : Crypto) (context : GroupContext) (interim : List ℕ) →
-    apply_proposals c (state_with context interim four_members) 0 (use_of 2 (proposal.Remove 1) ∷ use_of 2 (proposal.Add (package_with 5)) ∷ [])
+    apply_proposals c (state_with context interim four_members) 0
+    (use_of 2 (proposal.Remove 1) ∷ use_of 2 (proposal.Add (package_with 5)) ∷ [])
     ≡ Ok (record { tree = over (over (member_with 1) (member_with 5)) (over (member_with 3) (member_with 4)); added = 1 ∷ [] })
 
 -- even where it is the very leaf that was removed, so that the tree is as before. That leaf 1 is removed is told by the
 -- list of removes alone
 abbrev pub TakenBySame : Type 0
 TakenBySame = (c : Crypto) (context : GroupContext) (interim : List ℕ) →
-    apply_proposals c (state_with context interim four_members) 0 (use_of 2 (proposal.Remove 1) ∷ use_of 2 (proposal.Add (package_with 2)) ∷ [])
+    apply_proposals c (state_with context interim four_members) 0
+    (use_of 2 (proposal.Remove 1) ∷ use_of 2 (proposal.Add (package_with 2)) ∷ [])
     ≡ Ok (record { tree = four_members; added = 1 ∷ [] })
 
 abbrev pub RemovedByList : Type 0
-RemovedByList = has (removed_leaves (use_of 2 (proposal.Remove 1) ∷ use_of 2 (proposal.Add (package_with 2)) ∷ [])) 1 ≡ true
+RemovedByList = has (removed_leaves (use_of 2 (proposal.Remove 1) ∷ use_of 2 (proposal.Add (package_with 2)) ∷ [])) 1
+    ≡ true
 
 -- two updates of one leaf, or one that is removed too, are refused; before that the committer's removal, and before that its
 -- update
 abbrev pub UpdatedTwice : Type 0
 UpdatedTwice = (c : Crypto) (context : GroupContext) (interim : List ℕ) →
-    apply_proposals c (state_with context interim four_members) 0 (use_of 1 (proposal.Update (leaf_with 5)) ∷ use_of 1 (proposal.Update (leaf_with 6)) ∷ []) ≡ Err 63
+    apply_proposals c (state_with context interim four_members) 0
+    (use_of 1 (proposal.Update (leaf_with 5)) ∷ use_of 1 (proposal.Update (leaf_with 6)) ∷ []) ≡ Err 63
 
 abbrev pub UpdatedAndRemoved : Type 0
 UpdatedAndRemoved = (c : Crypto) (context : GroupContext) (interim : List ℕ) →
-    apply_proposals c (state_with context interim four_members) 0 (use_of 2 (proposal.Remove 1) ∷ use_of 1 (proposal.Update (leaf_with 6)) ∷ []) ≡ Err 63
+    apply_proposals c (state_with context interim four_members) 0
+    (use_of 2 (proposal.Remove 1) ∷ use_of 1 (proposal.Update (leaf_with 6)) ∷ []) ≡ Err 63
 
 abbrev pub CommitterFirst : Type 0
 CommitterFirst = (c : Crypto) (context : GroupContext) (interim : List ℕ) →
-    apply_proposals c (state_with context interim four_members) 1 (use_of 2 (proposal.Remove 1) ∷ use_of 1 (proposal.Update (leaf_with 6)) ∷ []) ≡ Err 61
+    apply_proposals c (state_with context interim four_members) 1
+    (use_of 2 (proposal.Remove 1) ∷ use_of 1 (proposal.Update (leaf_with 6)) ∷ []) ≡ Err 61
 
 abbrev pub CommitterRemoved : Type 0
 CommitterRemoved = (c : Crypto) (context : GroupContext) (interim : List ℕ) →
-    apply_proposals c (state_with context interim four_members) 1 (use_of 2 (proposal.Remove 1) ∷ use_of 2 (proposal.Remove 1) ∷ []) ≡ Err 62
+    apply_proposals c (state_with context interim four_members) 1
+    (use_of 2 (proposal.Remove 1) ∷ use_of 2 (proposal.Remove 1) ∷ []) ≡ Err 62
 
 -- ---- which proposals it uses
 
@@ -107,4 +116,5 @@ UsesKept = (message : List ℕ) →
     ≡ Ok (record { proposal = proposal.Remove 0; sender = 1; is_full = true } ∷ use_of 2 (proposal.Remove 3) ∷ [])
 
 abbrev pub UsesUnknown : Type 0
-UsesUnknown = (message : List ℕ) → find_proposals (kept_under_7 message ∷ []) 1 (listed.Reference (7 ∷ []) ∷ listed.Reference (8 ∷ []) ∷ []) ≡ Err 60
+UsesUnknown = (message : List ℕ) → find_proposals (kept_under_7 message ∷ []) 1
+    (listed.Reference (7 ∷ []) ∷ listed.Reference (8 ∷ []) ∷ []) ≡ Err 60

@@ -34,7 +34,8 @@ pub record IsActive (w : World) (k : ℕ) (s : Seat) : Type 0 where
 
 -- members with one journal hold one public state
 abbrev pub AgreeByJournal : World → Type 0
-AgreeByJournal w = (i j : ℕ) (s t : Seat) → IsActive w i s → IsActive w j t → s.journal ≡ t.journal → Agree s.member t.member
+AgreeByJournal w = (i j : ℕ) (s t : Seat) → IsActive w i s → IsActive w j t → s.journal ≡ t.journal →
+    Agree s.member t.member
 
 -- with one homemade journal they hold the same secrets
 abbrev pub AgreeSecretIfHomemade : World → Type 0
@@ -43,7 +44,8 @@ AgreeSecretIfHomemade w = (i j : ℕ) (s t : Seat) → IsActive w i s → IsActi
 
 -- with one journal of any kind they do too, or their epoch secrets are twins
 abbrev pub AgreeByConfirmation : World → Type 0
-AgreeByConfirmation w = (i j : ℕ) (s t : Seat) → IsActive w i s → IsActive w j t → s.journal ≡ t.journal → AgreeOrTwins s.member t.member
+AgreeByConfirmation w = (i j : ℕ) (s t : Seat) → IsActive w i s → IsActive w j t → s.journal ≡ t.journal →
+    AgreeOrTwins s.member t.member
 
 -- ---- acceptance
 
@@ -94,7 +96,8 @@ pub record IsToAccept (w : World) (k : ℕ) (s : Seat) (source : Source) (d : Co
 
 -- a member accepts each source that it is to accept
 abbrev pub AcceptsHomemade : Crypto → World → Type 0
-AcceptsHomemade c w = (k : ℕ) (s : Seat) (source : Source) (d : CommitMade) → IsToAccept w k s source d → Accepts c w k s source d
+AcceptsHomemade c w = (k : ℕ) (s : Seat) (source : Source) (d : CommitMade) → IsToAccept w k s source d →
+    Accepts c w k s source d
 
 -- ---- joins
 
@@ -117,7 +120,8 @@ pub record IsAdded (w : World) (n : ℕ) (e : Entrant) (d : CommitMade) : Type 0
 -- by the number of a Welcome that was made, whatever the journal, those whom its commit adds join, with the maker's
 -- journal and that commit
 abbrev pub JoinsByNumber : Crypto → World → Type 0
-JoinsByNumber c w = (i n number : ℕ) (bytes : List ℕ) (d : CommitMade) (e : Entrant) → slice_get w.made i ≡ Some d → d.welcome ≡ Some (number, bytes) →
+JoinsByNumber c w = (i n number : ℕ) (bytes : List ℕ) (d : CommitMade) (e : Entrant) → slice_get w.made i ≡ Some d →
+    d.welcome ≡ Some (number, bytes) →
     IsAdded w n e d → JoinsGroup c w n (Message number) d
 
 -- a source is these bytes, given as such
@@ -127,8 +131,10 @@ IsGiven (Message n) bytes = ⊥
 
 -- by its bytes they join too, with the journal of the first such Welcome that has these bytes
 abbrev pub JoinsByBytes : Crypto → World → Type 0
-JoinsByBytes c w = (i n number : ℕ) (bytes : List ℕ) (source : Source) (d : CommitMade) (e : Entrant) → slice_get w.made i ≡ Some d → d.welcome ≡ Some (number, bytes) →
-    IsGiven source bytes → IsAdded w n e d → (f : CommitMade) × (commit_for_joiner w.made source e.candidate ≡ Some f) × JoinsGroup c w n source f
+JoinsByBytes c w = (i n number : ℕ) (bytes : List ℕ) (source : Source) (d : CommitMade) (e : Entrant) →
+    slice_get w.made i ≡ Some d → d.welcome ≡ Some (number, bytes) →
+    IsGiven source bytes → IsAdded w n e d →
+    (f : CommitMade) × (commit_for_joiner w.made source e.candidate ≡ Some f) × JoinsGroup c w n source f
 
 -- ---- keys and trees, whatever bytes came
 
@@ -145,7 +151,8 @@ TreesAreGood c w = (k : ℕ) (s : Seat) → IsActive w k s →
 
 -- an event that is refused names the first check that fails, and changes nothing
 abbrev pub RefusalsChangeNothing : Crypto → World → Type 0
-RefusalsChangeNothing c w = (e : Event) (n : ℕ) → (step c w e).0 ≡ Refused n → (answer c w e ≡ Err n) × ((step c w e).1 ≡ w)
+RefusalsChangeNothing c w = (e : Event) (n : ℕ) → (step c w e).0 ≡ Refused n →
+    (answer c w e ≡ Err n) × ((step c w e).1 ≡ w)
 
 -- ---- what deliveries and joins leave as it was
 
@@ -201,12 +208,14 @@ pub record FollowsPending (c : Crypto) (w : World) (k : ℕ) (s : Seat) (p : Pen
 
 -- while it holds a commit as its pending one, it follows it
 abbrev pub FollowsOwn : Crypto → World → Type 0
-FollowsOwn c w = (k : ℕ) (s : Seat) (p : Pending) (source : Source) → IsActive w k s → s.member.pending ≡ Some p → bytes_of w source ≡ Ok p.message →
+FollowsOwn c w = (k : ℕ) (s : Seat) (p : Pending) (source : Source) → IsActive w k s → s.member.pending ≡ Some p →
+    bytes_of w source ≡ Ok p.message →
     FollowsPending c w k s p source
 
 -- while it stands at the journal at which it made a commit, it keeps the very messages that the commit names
 abbrev pub MakersKeep : World → Type 0
-MakersKeep w = (n : ℕ) (d : CommitMade) (s : Seat) → slice_get w.made n ≡ Some d → IsActive w d.maker s → s.journal ≡ d.journal → Keeps s.member.kept (list_in d.entry.commit) d.entry.names
+MakersKeep w = (n : ℕ) (d : CommitMade) (s : Seat) → slice_get w.made n ≡ Some d → IsActive w d.maker s →
+    s.journal ≡ d.journal → Keeps s.member.kept (list_in d.entry.commit) d.entry.names
 
 -- the epoch that a message names in its content (RFC 9420, 6)
 abbrev pub epoch_of_message : Result MlsMessage ℕ → Option ℕ
@@ -215,8 +224,10 @@ epoch_of_message other = None
 
 -- else, in the epoch of the commit, it answers 48
 abbrev pub RefusesOwn : Crypto → World → Type 0
-RefusesOwn c w = (n : ℕ) (d : CommitMade) (s : Seat) (source : Source) → slice_get w.made n ≡ Some d → IsActive w d.maker s →
-    epoch_of_message (decode_message d.entry.commit) ≡ Some s.member.public.context.epoch → own_pending s.member.pending d.entry.commit ≡ None →
+RefusesOwn c w = (n : ℕ) (d : CommitMade) (s : Seat) (source : Source) → slice_get w.made n ≡ Some d →
+    IsActive w d.maker s →
+    epoch_of_message (decode_message d.entry.commit) ≡ Some s.member.public.context.epoch →
+    own_pending s.member.pending d.entry.commit ≡ None →
     bytes_of w source ≡ Ok d.entry.commit → (step c w (Deliver d.maker source)).0 ≡ Refused 48
 
 -- ---- the whole
@@ -242,7 +253,8 @@ pub record Headline (c : Crypto) (w : World) : Type 0 where
 
 -- for every lawful suite and every list of events
 abbrev pub HoldsOnRuns : Type 0
-HoldsOnRuns = (c : Crypto) → Lawful c → (events : List Event) → AllByRecursion IsInRange events → Headline c (run c empty_world events)
+HoldsOnRuns = (c : Crypto) → Lawful c → (events : List Event) → AllByRecursion IsInRange events →
+    Headline c (run c empty_world events)
 
 -- and of the world after each event of a list, that before the first among them
 abbrev pub HoldsAlong : Crypto → World → List Event → Type 0

@@ -46,7 +46,8 @@ is_creation (from.GroupInfo g) = false
 
 -- the epoch secrets that commit calls reached which made this entry at this journal
 unfoldable pub reached_epochs : List CommitMade → Journal → Entry → List (List ℕ)
-reached_epochs made j e = map (λ (d : CommitMade). d.epoch) (filter (λ (d : CommitMade). is_same_journal d.journal j && is_same_entry d.entry e) made)
+reached_epochs made j e = map (λ (d : CommitMade). d.epoch)
+    (filter (λ (d : CommitMade). is_same_journal d.journal j && is_same_entry d.entry e) made)
 
 -- whether there is one, and no other
 abbrev pub has_one_value : List (List ℕ) → Bool

@@ -58,7 +58,8 @@ place_of leaf t = find (λ (x : ℕ × LeafNode). is_same_leaf x.1 leaf) (member
 -- one that is due is missing
 unfoldable pub joined_keys : Crypto → Term → ℕ → PrivateKeys → Option (List ℕ) → Result PrivateKeys ℕ
 joined_keys c t signer alone None = require 35 (has_due t alone) >> Ok alone
-joined_keys c t signer alone (Some secret) = take_answer c t signer alone.leaf alone.own secret >>= λ climb. Ok (with_keys alone climb.keys)
+joined_keys c t signer alone (Some secret) =
+    take_answer c t signer alone.leaf alone.own secret >>= λ climb. Ok (with_keys alone climb.keys)
 
 -- ---- the whole
 

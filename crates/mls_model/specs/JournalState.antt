@@ -30,7 +30,8 @@ used_of_body v other = None
 
 -- the proposal that the message in an entry is: decoding, 41 no PublicMessage, 60 no proposal
 unfoldable pub used_in : List ℕ → Result Used ℕ
-used_in bytes = decode_message bytes >>= λ m. require_some 41 (public_in m) >>= λ v. require_some 60 (used_of_body v.content v.content.body)
+used_in bytes = decode_message bytes >>= λ m. require_some 41 (public_in m) >>= λ v. require_some 60
+    (used_of_body v.content v.content.body)
 
 -- a commit's list with each reference replaced by what stands in an entry
 unfoldable pub used_by_names : ℕ → List ProposalOrRef → List (List ℕ) → Result (List Used) ℕ
@@ -38,17 +39,20 @@ used_by_names committer [] names = Ok []
 used_by_names committer (listed.Proposal said ∷ xs) names =
     used_by_names committer xs names >>= λ us. Ok (record { proposal = said; sender = committer; is_full = true } ∷ us)
 used_by_names committer (listed.Reference reference ∷ xs) [] = Err 60
-used_by_names committer (listed.Reference reference ∷ xs) (n ∷ ns) = used_in n >>= λ u. used_by_names committer xs ns >>= λ us. Ok (u ∷ us)
+used_by_names committer (listed.Reference reference ∷ xs) (n ∷ ns) =
+    used_in n >>= λ u. used_by_names committer xs ns >>= λ us. Ok (u ∷ us)
 
 -- the public state after a content with the messages that its entry names: 45 where it is no commit (RFC 9420, 12.4.2)
 abbrev pub public_after_body : Crypto → PublicState → List (List ℕ) → SignedContent → SignedBody → Result PublicState ℕ
 public_after_body c p names v (body_of.Commit commit tag) =
-    used_by_names (sender_leaf v.sender) commit.proposals names >>= λ used. next_public c p (sender_leaf v.sender) used commit (framed v) v.signature tag
+    used_by_names (sender_leaf v.sender) commit.proposals names >>= λ used. next_public c p
+    (sender_leaf v.sender) used commit (framed v) v.signature tag
 public_after_body c p names v other = Err 45
 
 -- the public state after an entry
 unfoldable pub public_after : Crypto → PublicState → Entry → Result PublicState ℕ
-public_after c p e = decode_message e.commit >>= λ m. require_some 41 (public_in m) >>= λ v. public_after_body c p e.names v.content v.content.body
+public_after c p e = decode_message e.commit >>= λ m. require_some 41
+    (public_in m) >>= λ v. public_after_body c p e.names v.content v.content.body
 
 -- that of a GroupInfo
 unfoldable pub public_of_info : List ℕ → Result PublicState ℕ

@@ -63,11 +63,13 @@ content_by m content =
 
 -- its signature under the context of the epoch (RFC 9420, 6.1)
 unfoldable pub content_signature : Crypto → List ℕ → FramedContent → GroupContext → List ℕ
-content_signature c signing said context = sign_with_label c signing (codes "FramedContentTBS") (framed_content_tbs format.PublicMessage said context)
+content_signature c signing said context = sign_with_label c signing (codes "FramedContentTBS")
+    (framed_content_tbs format.PublicMessage said context)
 
 -- whether a signature is that of a signature key (RFC 9420, 6.1)
 unfoldable pub is_content_signed : Crypto → List ℕ → SignedContent → GroupContext → Bool
-is_content_signed c key v context = verify_with_label c key (codes "FramedContentTBS") (framed_content_tbs format.PublicMessage (framed v) context) v.signature
+is_content_signed c key v context = verify_with_label c key (codes "FramedContentTBS")
+    (framed_content_tbs format.PublicMessage (framed v) context) v.signature
 
 -- the membership tag of a signed content, by the epoch secret (RFC 9420, 6.2)
 unfoldable pub content_tag : List ℕ → SignedContent → GroupContext → List ℕ

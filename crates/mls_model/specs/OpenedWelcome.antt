@@ -64,7 +64,8 @@ opened_welcome c k bytes = do
   entry ← require_some 72 (find (λ (e : EncryptedGroupSecrets). bytes_eq e.new_member (package_reference k.offered)) w.secrets)
   secrets ← opened_secrets c k w entry
   require 74 (length secrets.psks == 0)
-  plain ← require_some 75 (c.aead_open (welcome_key secrets.joiner_secret) (welcome_nonce secrets.joiner_secret) [] w.encrypted_group_info)
+  plain ← require_some 75 (c.aead_open (welcome_key secrets.joiner_secret)
+      (welcome_nonce secrets.joiner_secret) [] w.encrypted_group_info)
   require 75 (are_bytes plain)
   info ← or_fault 75 (whole group_info input_limit plain)
   require 71 (info.group_context.cipher_suite == c.number)

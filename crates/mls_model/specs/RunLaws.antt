@@ -15,7 +15,8 @@ RunInParts = (c : Crypto) (w : World) (xs ys : List Event) → run c w (xs ++ ys
 
 -- and so are the replies
 abbrev pub RepliesInParts : Type 0
-RepliesInParts = (c : Crypto) (w : World) (xs ys : List Event) → replies c w (xs ++ ys) ≡ replies c w xs ++ replies c (run c w xs) ys
+RepliesInParts = (c : Crypto) (w : World) (xs ys : List Event) →
+    replies c w (xs ++ ys) ≡ replies c w xs ++ replies c (run c w xs) ys
 
 -- each event has one reply
 abbrev pub OneReplyEach : Type 0

@@ -48,8 +48,11 @@ pub record JoinsNext (c : Crypto) (next : Member) (k : Candidate) (welcome : Opt
 -- A commit of a list reaches the group, made by `maker`, which then has it pending as `after`. The committer follows
 -- it into the next epoch. Each member that shares the committer's epoch, and keeps the proposals that the list names,
 -- accepts it. Each good candidate whose own KeyPackage the list adds joins by the Welcome.
-pub record ReachesGroup (c : Crypto) (maker after : Member) (list : List ProposalOrRef) (commit : List ℕ) (welcome : Option (List ℕ)) : Type 0 where
+pub record ReachesGroup (c : Crypto) (maker after : Member) (list : List ProposalOrRef) (commit : List ℕ)
+    (welcome : Option (List ℕ)) : Type 0 where
   pub next : Member
   pub own : verdict c after commit ≡ Ok (Advanced next.public.context.epoch, next)
-  pub receivers : (m : Member) → ShareEpoch c maker m → Keeps m.kept list (names_in maker.kept list) → IsAccepted c next m list commit
-  pub joiners : (k : Candidate) → IsGoodCandidate c k → list_any (bytes_eq (key_package.spell k.offered)) (adds_in maker.kept list) ≡ true → JoinsNext c next k welcome
+  pub receivers : (m : Member) → ShareEpoch c maker m → Keeps m.kept list (names_in maker.kept list) →
+      IsAccepted c next m list commit
+  pub joiners : (k : Candidate) → IsGoodCandidate c k →
+      list_any (bytes_eq (key_package.spell k.offered)) (adds_in maker.kept list) ≡ true → JoinsNext c next k welcome

@@ -42,7 +42,8 @@ pub record WasKnown (m : Member) (v : SignedContent) (x : Effect × Member) : Ty
   pub kept : is_some (kept_under m.kept (reference_of v)) ≡ true
   pub is : (Known (reference_of v), m) ≡ x
 
-pub record IsNowKept (c : Crypto) (m : Member) (v : SignedContent) (bytes : List ℕ) (said : Proposal) (x : Effect × Member) : Type 0 where
+pub record IsNowKept (c : Crypto) (m : Member) (v : SignedContent) (bytes : List ℕ) (said : Proposal)
+    (x : Effect × Member) : Type 0 where
   pub fresh : is_some (kept_under m.kept (reference_of v)) ≡ false
   pub checks : proposal_checks c m.public (sender_leaf v.sender) said ≡ Ok passed
   pub is : (Proposed (reference_of v), with_kept m (kept_of v bytes said)) ≡ x
@@ -59,12 +60,16 @@ unfoldable pub reached_epoch : Member → Change → Climb → List ℕ
 reached_epoch m change climb = next_epoch_secret (init_secret m.epoch) climb.secret (group_context.spell change.context)
 
 -- it followed the commit
-pub record HasFollowed (c : Crypto) (m : Member) (v : SignedContent) (commit : Commit) (tag : List ℕ) (used : List Used) (change : Change) (x : Effect × Member) : Type 0 where
+pub record HasFollowed (c : Crypto) (m : Member) (v : SignedContent) (commit : Commit) (tag : List ℕ) (used : List Used)
+    (change : Change) (x : Effect × Member) : Type 0 where
   pub stays : has (removed_leaves used) m.keys.leaf ≡ false
   pub climb : Climb
-  pub opens : open_path_secret c m (sender_leaf v.sender) change (keys_after_edits m commit.proposals change.edits.tree) commit.path ≡ Ok climb
-  pub confirmed : bytes_eq tag (confirmation_tag (reached_epoch m change climb) change.context.confirmed_transcript_hash) ≡ true
-  pub is : (Advanced change.context.epoch, with_epoch m (public_with change tag) (reached_epoch m change climb) (with_keys m.keys climb.keys)) ≡ x
+  pub opens : open_path_secret c m (sender_leaf v.sender) change
+      (keys_after_edits m commit.proposals change.edits.tree) commit.path ≡ Ok climb
+  pub confirmed : bytes_eq tag
+      (confirmation_tag (reached_epoch m change climb) change.context.confirmed_transcript_hash) ≡ true
+  pub is : (Advanced change.context.epoch, with_epoch m (public_with change tag) (reached_epoch m change climb)
+      (with_keys m.keys climb.keys)) ≡ x
 
 -- it followed its pending commit
 pub record DidPending (m : Member) (bytes : List ℕ) (x : Effect × Member) : Type 0 where

@@ -39,10 +39,12 @@ MadeLater = is_homemade (made_at created_0 1 9 ∷ []) (with_entry created_0 (en
 
 -- until a call makes it again and reaches another epoch secret
 abbrev pub MadeAgain : Type 0
-MadeAgain = is_homemade (made_at created_0 1 9 ∷ made_at created_0 1 9 ∷ []) (with_entry created_0 (entry_with 1)) ≡ true
+MadeAgain = is_homemade (made_at created_0 1 9 ∷ made_at created_0 1 9 ∷ [])
+    (with_entry created_0 (entry_with 1)) ≡ true
 
 abbrev pub MadeOtherwise : Type 0
-MadeOtherwise = is_homemade (made_at created_0 1 9 ∷ made_at created_0 1 8 ∷ []) (with_entry created_0 (entry_with 1)) ≡ false
+MadeOtherwise = is_homemade (made_at created_0 1 9 ∷ made_at created_0 1 8 ∷ [])
+    (with_entry created_0 (entry_with 1)) ≡ false
 
 -- that it was made at another journal is nothing
 abbrev pub MadeElsewhere : Type 0
@@ -50,7 +52,8 @@ MadeElsewhere = is_homemade (made_at (new_journal (Creation 1)) 1 9 ∷ []) (wit
 
 -- each entry counts: commit 2 was made behind commit 1, and commit 1 was not made
 abbrev pub MadeBehind : Type 0
-MadeBehind = is_homemade (made_at (with_entry created_0 (entry_with 1)) 2 9 ∷ []) (with_entry (with_entry created_0 (entry_with 1)) (entry_with 2)) ≡ false
+MadeBehind = is_homemade (made_at (with_entry created_0 (entry_with 1)) 2 9 ∷ [])
+    (with_entry (with_entry created_0 (entry_with 1)) (entry_with 2)) ≡ false
 
 -- ---- Welcomes
 
@@ -62,15 +65,18 @@ welcoming adds number bytes = record { maker = 0; journal = created_0; entry = e
 -- message, by bytes the first whose commit adds the candidate
 abbrev pub ByNumber : Type 0
 ByNumber = (k : Candidate) (bytes : List ℕ) →
-    commit_for_joiner (welcoming [] 2 bytes ∷ welcoming (key_package.spell k.offered ∷ []) 4 bytes ∷ []) (Message 4) k ≡ Some (welcoming (key_package.spell k.offered ∷ []) 4 bytes)
+    commit_for_joiner (welcoming [] 2 bytes ∷ welcoming (key_package.spell k.offered ∷ []) 4 bytes ∷ [])
+    (Message 4) k ≡ Some (welcoming (key_package.spell k.offered ∷ []) 4 bytes)
 
 abbrev pub ByOtherNumber : Type 0
 ByOtherNumber = (k : Candidate) (bytes : List ℕ) →
-    commit_for_joiner (welcoming [] 2 bytes ∷ welcoming (key_package.spell k.offered ∷ []) 4 bytes ∷ []) (Message 2) k ≡ None
+    commit_for_joiner (welcoming [] 2 bytes ∷ welcoming (key_package.spell k.offered ∷ []) 4 bytes ∷ [])
+    (Message 2) k ≡ None
 
 abbrev pub ByBytes : Type 0
 ByBytes = (k : Candidate) (bytes : Vec ℕ) →
-    commit_for_joiner (welcoming [] 2 bytes.items ∷ welcoming (key_package.spell k.offered ∷ []) 4 bytes.items ∷ []) (Given bytes) k ≡ Some (welcoming (key_package.spell k.offered ∷ []) 4 bytes.items)
+    commit_for_joiner (welcoming [] 2 bytes.items ∷ welcoming (key_package.spell k.offered ∷ []) 4 bytes.items ∷ [])
+    (Given bytes) k ≡ Some (welcoming (key_package.spell k.offered ∷ []) 4 bytes.items)
 
 -- ---- what a world answers before its members do
 
@@ -86,5 +92,6 @@ one_seated k s = record { entrants = record { candidate = k; is_spent = true } �
 -- 91 before 94, 94 before what the member says
 abbrev pub WorldFirst : Type 0
 WorldFirst = (c : Crypto) (k : Candidate) (s : Seat) →
-    replies c (one_seated k s) (event.Join 0 (Message 0) ∷ event.Deliver 0 (Message 0) ∷ event.ProposeAdd 0 (Message 5) ∷ [])
+    replies c (one_seated k s)
+    (event.Join 0 (Message 0) ∷ event.Deliver 0 (Message 0) ∷ event.ProposeAdd 0 (Message 5) ∷ [])
     ≡ reply.Refused 91 ∷ reply.Refused 94 ∷ reply.Refused 94 ∷ []

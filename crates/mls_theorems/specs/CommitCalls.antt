@@ -57,7 +57,8 @@ path_for c m used e wants_path seed = if wants_path || is_path_required used the
 
 -- ---- the steps of a call
 
-pub record Makes (c : Crypto) (m : Member) (list : List ProposalOrRef) (wants_path : Bool) (seed : List ℕ) (made : Made) : Type 0 where
+pub record Makes (c : Crypto) (m : Member) (list : List ProposalOrRef) (wants_path : Bool) (seed : List ℕ)
+    (made : Made) : Type 0 where
   pub active : not m.gone ≡ true
   pub free : is_none m.pending ≡ true
   pub below : nat_lt m.public.context.epoch (2 ^ 64 - 1) ≡ true
@@ -68,12 +69,15 @@ pub record Makes (c : Crypto) (m : Member) (list : List ProposalOrRef) (wants_pa
   pub path : MadePath
   pub path_is : path_for c m used edits wants_path seed ≡ Ok path
   pub change : Change
-  pub change_is : change_of_commit c m.public m.keys.leaf used (commit_of list path) (said_of m list path) (signature_of c m list path) ≡ Ok change
+  pub change_is : change_of_commit c m.public m.keys.leaf used (commit_of list path) (said_of m list path)
+      (signature_of c m list path) ≡ Ok change
   pub short : is_within_limit (message_of c m list path change) ≡ Ok passed
   pub welcome : Option (List ℕ)
-  pub welcome_is : welcome_if c m change path (joiner_of m path change) (tag_of m path change) seed (zip (adds used) edits.added) ≡ Ok welcome
+  pub welcome_is : welcome_if c m change path (joiner_of m path change)
+      (tag_of m path change) seed (zip (adds used) edits.added) ≡ Ok welcome
   pub made_is : made_of c m list path change welcome ≡ made
 
 -- a call that succeeded took these steps
 abbrev pub MakeDid : Type 0
-MakeDid = (c : Crypto) (m : Member) (list : List ProposalOrRef) (wants_path : Bool) (seed : List ℕ) (made : Made) → make c m list wants_path seed ≡ Ok made → Makes c m list wants_path seed made
+MakeDid = (c : Crypto) (m : Member) (list : List ProposalOrRef) (wants_path : Bool) (seed : List ℕ) (made : Made) →
+    make c m list wants_path seed ≡ Ok made → Makes c m list wants_path seed made

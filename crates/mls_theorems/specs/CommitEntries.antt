@@ -29,14 +29,17 @@ pub record FollowsEntry (c : Crypto) (m : Member) (bytes : List ℕ) (epoch : �
   pub active : after.gone ≡ m.gone
 
 abbrev pub ReceivedAlong : Type 0
-ReceivedAlong = (c : Crypto) (m : Member) (bytes : List ℕ) (epoch : ℕ) (after : Member) → AreGoodKept c m m.kept → bytes_verdict c m bytes ≡ Ok (Advanced epoch, after) → FollowsEntry c m bytes epoch after
+ReceivedAlong = (c : Crypto) (m : Member) (bytes : List ℕ) (epoch : ℕ) (after : Member) → AreGoodKept c m m.kept →
+    bytes_verdict c m bytes ≡ Ok (Advanced epoch, after) → FollowsEntry c m bytes epoch after
 
 -- ---- a commit that was made
 
 pub record MakesEntry (c : Crypto) (m : Member) (list : List ProposalOrRef) (made : Made) : Type 0 where
   pub lists : list_in made.commit ≡ list
   pub public : public_after c m.public (record { commit = made.commit; names = names_in m.kept list }) ≡ Ok made.pending.public
-  pub is_tag : tag_of_message (decode_message made.commit) ≡ Some (confirmation_tag made.pending.epoch made.pending.public.context.confirmed_transcript_hash)
+  pub is_tag : tag_of_message (decode_message made.commit)
+      ≡ Some (confirmation_tag made.pending.epoch made.pending.public.context.confirmed_transcript_hash)
 
 abbrev pub MadeAlong : Type 0
-MadeAlong = (c : Crypto) (m : Member) (list : List ProposalOrRef) (made : Made) → IsMade c m list made → MakesEntry c m list made
+MadeAlong = (c : Crypto) (m : Member) (list : List ProposalOrRef) (made : Made) → IsMade c m list made →
+    MakesEntry c m list made

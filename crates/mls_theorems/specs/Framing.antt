@@ -15,5 +15,7 @@ use Rattle.mls_theorems.specs.SentCommits.{sent_of}
 
 -- 42 to 48 pass
 abbrev pub MadeIsFramed : Type 0
-MadeIsFramed = (c : Crypto) → Lawful c → (maker m : Member) (list : List ProposalOrRef) (path : MadePath) (change : Change) (bytes : List ℕ) →
-    IsGoodMember c maker → maker.keys.leaf ≢ m.keys.leaf → Agree maker m → AgreeSecret maker m → framing_checks c m (sent_of c maker list path change) bytes ≡ Ok passed
+MadeIsFramed = (c : Crypto) → Lawful c →
+    (maker m : Member) (list : List ProposalOrRef) (path : MadePath) (change : Change) (bytes : List ℕ) →
+    IsGoodMember c maker → maker.keys.leaf ≢ m.keys.leaf → Agree maker m → AgreeSecret maker m →
+    framing_checks c m (sent_of c maker list path change) bytes ≡ Ok passed

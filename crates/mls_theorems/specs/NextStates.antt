@@ -30,5 +30,7 @@ pub record IsNext (c : Crypto) (change : Change) : Type 0 where
 
 -- so is that of each commit of a member that a good member finds to pass
 abbrev pub NextStatesGood : Type 0
-NextStatesGood = (c : Crypto) (m : Member) (i : ℕ) (used : List Used) (x : Commit) (said : FramedContent) (signature : List ℕ) (change : Change) → IsGoodMember c m → IsSome (leaf_of m.public.tree i) →
-    nat_lt m.public.context.epoch (2 ^ 64 - 1) ≡ true → commit.Fits x → find_proposals m.kept i x.proposals ≡ Ok used → change_of_commit c m.public i used x said signature ≡ Ok change → IsNext c change
+NextStatesGood = (c : Crypto) (m : Member) (i : ℕ) (used : List Used) (x : Commit) (said : FramedContent)
+    (signature : List ℕ) (change : Change) → IsGoodMember c m → IsSome (leaf_of m.public.tree i) →
+    nat_lt m.public.context.epoch (2 ^ 64 - 1) ≡ true → commit.Fits x → find_proposals m.kept i x.proposals ≡ Ok used →
+    change_of_commit c m.public i used x said signature ≡ Ok change → IsNext c change

@@ -18,7 +18,8 @@ use Rattle.mls_model.specs.Verdict.{open_path_secret}
 use Rattle.mls_theorems.specs.CommitCalls.{commit_of}
 use Rattle.mls_theorems.specs.SentCommits.{IsNewPath}
 
-pub record IsChange (c : Crypto) (p : PublicState) (committer : ℕ) (used : List Used) (commit : Commit) (change : Change) : Type 0 where
+pub record IsChange (c : Crypto) (p : PublicState) (committer : ℕ) (used : List Used) (commit : Commit)
+    (change : Change) : Type 0 where
   pub edits_are : apply_proposals c p committer used ≡ Ok change.edits
   pub path_there : (is_some commit.path || not (is_path_required used)) ≡ true
   pub merges : apply_path_if c p committer change.edits commit.path ≡ Ok change.tree
@@ -26,7 +27,8 @@ pub record IsChange (c : Crypto) (p : PublicState) (committer : ℕ) (used : Lis
   pub epoch_is : change.context.epoch ≡ p.context.epoch + 1
 
 abbrev pub BodyDid : Type 0
-BodyDid = (c : Crypto) (p : PublicState) (committer : ℕ) (used : List Used) (commit : Commit) (said : FramedContent) (signature : List ℕ) (change : Change) →
+BodyDid = (c : Crypto) (p : PublicState) (committer : ℕ) (used : List Used) (commit : Commit) (said : FramedContent)
+    (signature : List ℕ) (change : Change) →
     change_of_commit c p committer used commit said signature ≡ Ok change → IsChange c p committer used commit change
 
 -- ---- a member that stays
@@ -41,12 +43,17 @@ pub record Stays (c : Crypto) (m : Member) (committer : ℕ) (list : List Propos
 -- ---- the climb
 
 -- a receiver's climb reaches the maker's commit secret
-pub record Climbs (c : Crypto) (m : Member) (committer : ℕ) (list : List ProposalOrRef) (path : MadePath) (change : Change) : Type 0 where
+pub record Climbs (c : Crypto) (m : Member) (committer : ℕ) (list : List ProposalOrRef) (path : MadePath)
+    (change : Change) : Type 0 where
   pub climb : Climb
   pub is : open_path_secret c m committer change (keys_after_edits m list change.edits.tree) path.path ≡ Ok climb
   pub secret : climb.secret ≡ path.climb.secret
 
 abbrev pub ReceiverClimbs : Type 0
-ReceiverClimbs = (c : Crypto) → Lawful c → (maker m : Member) (list : List ProposalOrRef) (used : List Used) (e : Edits) (seed : List ℕ) (path : MadePath) (change : Change) →
-    IsNewPath c maker e seed path ⊎ (path ≡ no_path maker e) → apply_proposals c maker.public maker.keys.leaf used ≡ Ok e → IsChange c maker.public maker.keys.leaf used (commit_of list path) change →
+ReceiverClimbs = (c : Crypto) → Lawful c →
+    (maker m : Member) (list : List ProposalOrRef) (used : List Used) (e : Edits) (seed : List ℕ) (path : MadePath)
+    (change : Change) →
+    IsNewPath c maker e seed path ⊎ (path ≡ no_path maker e) →
+    apply_proposals c maker.public maker.keys.leaf used ≡ Ok e →
+    IsChange c maker.public maker.keys.leaf used (commit_of list path) change →
     Stays c m maker.keys.leaf list e → Climbs c m maker.keys.leaf list path change

@@ -11,11 +11,13 @@ use Rattle.mls_theorems.specs.Lists.{Grows}
 
 -- what was reached in a world was reached in each that it becomes
 abbrev pub PastGrows : Type 0
-PastGrows = (c : Crypto) (creations creations' : Creations) (made made' : List CommitMade) → Grows creations creations' → Grows made made' → (origin : Origin) (es : List Entry) (m : Member) →
+PastGrows = (c : Crypto) (creations creations' : Creations) (made made' : List CommitMade) →
+    Grows creations creations' → Grows made made' → (origin : Origin) (es : List Entry) (m : Member) →
     IsReached c creations made origin es m → IsReached c creations' made' origin es m
 
 -- ---- where a state that was reached stands
 
 -- it stands where the journal leads
 abbrev pub PastAlong : Type 0
-PastAlong = (c : Crypto) (creations : Creations) (made : List CommitMade) (origin : Origin) (es : List Entry) (m : Member) → IsReached c creations made origin es m → StandsAtJournal c creations origin es m
+PastAlong = (c : Crypto) (creations : Creations) (made : List CommitMade) (origin : Origin) (es : List Entry)
+    (m : Member) → IsReached c creations made origin es m → StandsAtJournal c creations origin es m

@@ -10,4 +10,5 @@ use Rattle.mls_model.specs.Claims.{IsMade}
 -- ---- the whole
 
 abbrev pub MadePends : Type 0
-MadePends = (c : Crypto) (m : Member) (list : List ProposalOrRef) (made : Made) → IsMade c m list made → IsGoodPending c m made.pending
+MadePends = (c : Crypto) (m : Member) (list : List ProposalOrRef) (made : Made) → IsMade c m list made →
+    IsGoodPending c m made.pending

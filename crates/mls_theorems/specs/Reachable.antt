@@ -19,11 +19,13 @@ EmptyIsReachable = (c : Crypto) → IsReachable c empty_world
 
 -- a list of events leads on to such a world
 abbrev pub RunsReach : Type 0
-RunsReach = (c : Crypto) (w v : World) (events : List Event) → IsReachable c w → AllByRecursion IsInRange events → v ≡ run c w events → IsReachable c v
+RunsReach = (c : Crypto) (w v : World) (events : List Event) → IsReachable c w → AllByRecursion IsInRange events →
+    v ≡ run c w events → IsReachable c v
 
 -- and so does one event
 abbrev pub StepsReach : Type 0
-StepsReach = (c : Crypto) (w v : World) (e : Event) → IsReachable c w → IsInRange e → v ≡ (step c w e).1 → IsReachable c v
+StepsReach = (c : Crypto) (w v : World) (e : Event) → IsReachable c w → IsInRange e → v ≡ (step c w e).1 →
+    IsReachable c v
 
 -- of each of them the headline holds
 abbrev pub HeadlineOfReachable : Type 0
