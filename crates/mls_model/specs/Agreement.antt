@@ -15,12 +15,12 @@ pub record Agree (m n : Member) : Type 0 where
   pub confirmed : m.public.context.confirmed_transcript_hash ≡ n.public.context.confirmed_transcript_hash
   pub interim : m.public.interim ≡ n.public.interim
 
--- and one epoch secret, with the nine secrets that it gives
+-- two members hold one epoch secret, and the nine secrets that it gives (RFC 9420, 8)
 pub record AgreeSecret (m n : Member) : Type 0 where
   pub epoch : m.epoch ≡ n.epoch
   pub nine : nine_secrets m.epoch ≡ nine_secrets n.epoch
 
--- or two, with one confirmation tag
+-- two members hold one epoch secret, or two that give one confirmation tag (RFC 9420, 8.1)
 abbrev pub AgreeOrTwins : Member → Member → Type 0
 AgreeOrTwins m n = AgreeSecret m n ⊎ Twins m.epoch n.epoch m.public.context.confirmed_transcript_hash
 

@@ -34,14 +34,14 @@ pub record FollowsTo (c : Crypto) (m : Member) (made : Made) : Type 0 where
   pub public : after.public ≡ made.pending.public
   pub epoch : after.epoch ≡ made.pending.epoch
 
--- and one that the commit removes answers so
+-- a member follows a commit of a list, or answers that it was removed where the list removes it
 pub record Receives (c : Crypto) (m : Member) (list : List ProposalOrRef) (made : Made) : Type 0 where
   pub removed : has (removes_in m.kept list) m.keys.leaf ≡ true →
       verdict c m made.commit ≡ Ok (Removed, after_removal m)
   pub follows : has (removes_in m.kept list) m.keys.leaf ≡ false → FollowsTo c m made
 
--- A made commit passes the verdict of each active member at another leaf that agrees with its maker, in secrets too, and
--- keeps the proposals that it names.
+-- A made commit passes the verdict of each active member at another leaf that agrees with its maker, in secrets too,
+-- and keeps the proposals that it names.
 abbrev pub ReceiversClaim : Type 0
 ReceiversClaim = (c : Crypto) → Lawful c → (maker m : Member) (list : List ProposalOrRef) (made : Made) →
     IsMade c maker list made →

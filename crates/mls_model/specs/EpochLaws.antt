@@ -5,7 +5,7 @@ use Rattle.mls_model.specs.declared.effect.Effect.TheVariants.{Advanced}
 use Rattle.mls_model.specs.Member.{Member}
 use Rattle.mls_model.specs.Verdict.{verdict}
 
--- an active member, whose context names an epoch
+-- a member is active, and its context names an epoch
 pub record IsIn (m : Member) (epoch : ℕ) : Type 0 where
   pub active : m.gone ≡ false
   pub context : m.public.context.epoch ≡ epoch

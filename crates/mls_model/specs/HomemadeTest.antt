@@ -49,7 +49,7 @@ unfoldable pub reached_epochs : List CommitMade → Journal → Entry → List (
 reached_epochs made j e = map (λ (d : CommitMade). d.epoch)
     (filter (λ (d : CommitMade). is_same_journal d.journal j && is_same_entry d.entry e) made)
 
--- whether there is one, and no other
+-- whether a list of epoch secrets has one value, and no other
 abbrev pub has_one_value : List (List ℕ) → Bool
 has_one_value [] = false
 has_one_value (x ∷ xs) = list_all (bytes_eq x) xs
@@ -58,8 +58,9 @@ has_one_value (x ∷ xs) = list_all (bytes_eq x) xs
 -- commit calls that all reached one epoch secret
 unfoldable pub is_homemade_from : List CommitMade → Origin → List Entry → Bool
 is_homemade_from made origin [] = is_creation origin
-is_homemade_from made origin (e ∷ es) = has_one_value (reached_epochs made (record { origin = origin; entries = es }) e) && is_homemade_from made origin es
+is_homemade_from made origin (e ∷ es) =
+    has_one_value (reached_epochs made (record { origin = origin; entries = es }) e) && is_homemade_from made origin es
 
--- and so for a journal as a whole
+-- whether a journal is homemade
 unfoldable pub is_homemade : List CommitMade → Journal → Bool
 is_homemade made j = is_homemade_from made j.origin j.entries

@@ -33,12 +33,13 @@ use Rattle.mls_model.specs.Candidate.{Candidate}
 
 -- ---- what a member keeps
 
--- a kept own update has its leaf's private key
+-- a member has the leaf's private key of an own update that it keeps, and no key of another proposal
 abbrev pub HasOwnKey : Crypto → Proposal → Option (List ℕ) → Type 0
 HasOwnKey c (proposal.Update leaf) own = (key : List ℕ) × (own ≡ Some key) × (c.public key ≡ leaf.encryption_key)
 HasOwnKey c other own = own ≡ None
 
--- a kept proposal is what its message says, has passed its checks here, and has a private key just where it is an own update
+-- a kept proposal is what its message says, has passed its checks here, and has a private key just where it is an own
+-- update
 pub record IsGoodKept (c : Crypto) (m : Member) (k : KeptProposal) : Type 0 where
   pub said : PublicMessage
   pub decodes : decode_message k.message ≡ Ok (message.PublicMessage said)
@@ -71,19 +72,19 @@ pub record IsGoodPending (c : Crypto) (m : Member) (p : Pending) : Type 0 where
   pub keys : HasExact c p.public.tree p.keys
   pub leaf : p.keys.leaf ≡ m.keys.leaf
 
--- and so where a member has a pending commit; nothing is asked where it has none
+-- a member's pending commit is good, where it has one
 abbrev pub IsGoodIfPending : Crypto → Member → Option Pending → Type 0
 IsGoodIfPending c m None = Unit {0}
 IsGoodIfPending c m (Some p) = IsGoodPending c m p
 
 -- ---- the whole
 
--- a node has a spelling, where it isn't blank
+-- a node that isn't blank has a spelling
 abbrev pub NodeFits : Option Node → Type 0
 NodeFits None = Unit {0}
 NodeFits (Some n) = node.Fits n
 
--- an active member of a run
+-- a member of a run is good: its tree, its private keys, what it keeps and what it has pending
 pub record IsGoodMember (c : Crypto) (m : Member) : Type 0 where
   pub tree : IsGood (rules_of c m.public.context.group_id) m.public.tree
   pub hash : m.public.context.tree_hash ≡ tree_hash 0 m.public.tree
@@ -97,7 +98,7 @@ pub record IsGoodMember (c : Crypto) (m : Member) : Type 0 where
   pub context : group_context.Fits m.public.context
   pub nodes : AllByRecursion NodeFits (in_order m.public.tree)
 
--- a candidate has the private keys of its own KeyPackage
+-- a candidate is good: it has the private keys of its own KeyPackage, which passes its checks
 pub record IsGoodCandidate (c : Crypto) (k : Candidate) : Type 0 where
   pub init : k.offered.init_key ≡ c.public k.init
   pub leaf : k.offered.leaf_node.encryption_key ≡ c.public k.leaf

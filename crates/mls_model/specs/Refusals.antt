@@ -93,7 +93,8 @@ CreateNumbers = (c : Crypto) (k : Candidate) (group seed : List ℕ) (n : ℕ) �
 -- a join is refused with these numbers, beside those of decoding
 abbrev pub join_numbers : List ℕ
 join_numbers =
-    20 ∷ 21 ∷ 23 ∷ 24 ∷ 25 ∷ 26 ∷ 34 ∷ 35 ∷ 36 ∷ 51 ∷ 52 ∷ 65 ∷ 70 ∷ 71 ∷ 72 ∷ 73 ∷ 74 ∷ 75 ∷ 76 ∷ 77 ∷ 78 ∷ 79 ∷ 80 ∷ []
+    20 ∷ 21 ∷ 23 ∷ 24 ∷ 25 ∷ 26 ∷ 34 ∷ 35 ∷ 36 ∷ 51 ∷ 52 ∷ 65
+    ∷ 70 ∷ 71 ∷ 72 ∷ 73 ∷ 74 ∷ 75 ∷ 76 ∷ 77 ∷ 78 ∷ 79 ∷ 80 ∷ []
 
 abbrev pub JoinNumbers : Type 0
 JoinNumbers = (c : Crypto) (k : Candidate) (bytes : List ℕ) (n : ℕ) →

@@ -19,7 +19,7 @@ EntriesByNumber = (c : Crypto) (encrypted_info : List ℕ) (secrets : ℕ → Li
     entries_for c encrypted_info secrets rnd n joiners ≡ Ok entries → (k : ℕ) (entry : EncryptedGroupSecrets) →
     slice_get entries k ≡ Some entry → IsEntryUnder c encrypted_info rnd (n + k) entry
 
--- and there is an entry for each of those who join
+-- a Welcome has an entry for each of those who join
 abbrev pub EntriesAreCounted : Type 0
 EntriesAreCounted = (c : Crypto) (encrypted_info : List ℕ) (secrets : ℕ → List ℕ) (rnd : ℕ → List ℕ) (n : ℕ)
     (joiners : List (KeyPackage × ℕ)) (entries : List EncryptedGroupSecrets) →

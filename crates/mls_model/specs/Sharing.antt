@@ -1,5 +1,5 @@
--- Members that share an epoch, and what a commit that one of them makes does: to itself, to the others, and to those that it
--- adds.
+-- Members that share an epoch, and what a commit that one of them makes does: to itself, to the others, and to those
+-- that it adds.
 use Rattle.std.specs.Prelude.{◌≡◌, ◌≢◌, ℕ, true, false, List, Option, Some, Ok}
 use Rattle.std.specs.List.{list_any}
 use Rattle.std.specs.Str.{bytes_eq}

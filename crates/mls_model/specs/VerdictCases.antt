@@ -29,13 +29,13 @@ pub record IsOther (m : Member) (bytes : List ℕ) : Type 0 where
   pub active : m.gone ≡ false
   pub free : own_pending m.pending bytes ≡ None
 
--- and they are a PublicMessage of its group and epoch
+-- the bytes are a PublicMessage that passes the checks of every message, and not the member's pending commit
 pub record IsTaken (c : Crypto) (m : Member) (bytes : List ℕ) (v : PublicMessage) : Type 0 where
   pub other : IsOther m bytes
   pub decodes : decode_message bytes ≡ Ok (message.PublicMessage v)
   pub is_framed : IsFramed c m v bytes
 
--- with a proposal, or a commit
+-- the bytes are such a message with a proposal
 pub record IsProposal (c : Crypto) (m : Member) (bytes : List ℕ) (v : PublicMessage) (said : Proposal) : Type 0 where
   pub is_taken : IsTaken c m bytes v
   pub says : v.content.body ≡ body_of.Proposal said
@@ -45,12 +45,12 @@ pub record IsCommit (c : Crypto) (m : Member) (bytes : List ℕ) (v : PublicMess
   pub is_taken : IsTaken c m bytes v
   pub says : v.content.body ≡ body_of.Commit commit tag
 
--- whose proposals are kept
+-- the proposals that a commit lists are kept, and an epoch comes after this
 pub record IsUsing (m : Member) (v : SignedContent) (commit : Commit) (used : List Used) : Type 0 where
   pub below : nat_lt m.public.context.epoch (2 ^ 64 - 1) ≡ true
   pub uses : find_proposals m.kept (sender_leaf v.sender) commit.proposals ≡ Ok used
 
--- and all that is public of it passes its checks
+-- the proposals that a commit lists are kept, and all that is public of it passes its checks
 pub record IsChanging (c : Crypto) (m : Member) (v : SignedContent) (commit : Commit) (used : List Used)
     (change : Change) : Type 0 where
   pub is_using : IsUsing m v commit used
@@ -71,7 +71,7 @@ pub data Taking (c : Crypto) (m : Member) (bytes : List ℕ) (x : Effect × Memb
       IsCommit c m bytes v commit tag → IsChanging c m v.content commit used change →
       HasFollowed c m v.content commit tag used change x → Taking c m bytes x
 
--- a verdict takes bytes just where one of these ways is there, with what that way says
+-- a verdict takes bytes only where one of these ways is there, with what that way says
 abbrev pub TakenSo : Type 0
 TakenSo = (c : Crypto) (m : Member) (bytes : List ℕ) (x : Effect × Member) → verdict c m bytes ≡ Ok x →
     Taking c m bytes x
@@ -83,13 +83,13 @@ SoTaken = (c : Crypto) (m : Member) (bytes : List ℕ) (x : Effect × Member) �
 -- ---- the ten in which they are refused
 
 pub data Refusing (c : Crypto) (m : Member) (bytes : List ℕ) (n : ℕ) : Type 0 where
-  -- it was removed
+  -- the member was removed
   gone : m.gone ≡ true → n ≡ 40 → Refusing c m bytes n
-  -- they are no message, or no PublicMessage
+  -- the bytes are no message, or no PublicMessage
   unread : IsOther m bytes → decode_message bytes ≡ Err n → Refusing c m bytes n
   no_public : (w : MlsMessage) → IsOther m bytes → decode_message bytes ≡ Ok w → public_in w ≡ None → n ≡ 41 →
       Refusing c m bytes n
-  -- 42 to 48
+  -- a check of every message fails: 42 to 48
   unframed : (v : PublicMessage) → IsOther m bytes → decode_message bytes ≡ Ok (message.PublicMessage v) →
       framing_checks c m v bytes ≡ Err n → Refusing c m bytes n
   -- a proposal that isn't kept fails its checks
@@ -123,7 +123,7 @@ pub data Refusing (c : Crypto) (m : Member) (bytes : List ℕ) (n : ℕ) : Type 
       bytes_eq tag (confirmation_tag (reached_epoch m change climb) change.context.confirmed_transcript_hash) ≡ false →
       n ≡ 65 → Refusing c m bytes n
 
--- a verdict refuses bytes just where one of these is there, with its number
+-- a verdict refuses bytes only where one of these is there, with its number
 abbrev pub RefusedSo : Type 0
 RefusedSo = (c : Crypto) (m : Member) (bytes : List ℕ) (n : ℕ) → verdict c m bytes ≡ Err n → Refusing c m bytes n
 

@@ -37,7 +37,7 @@ pub record IsFramed (c : Crypto) (m : Member) (v : PublicMessage) (bytes : List 
 
 -- ---- proposals
 
--- it was kept already, or it passed its checks and is kept
+-- the proposal of a message was kept already
 pub record WasKnown (m : Member) (v : SignedContent) (x : Effect × Member) : Type 0 where
   pub kept : is_some (kept_under m.kept (reference_of v)) ≡ true
   pub is : (Known (reference_of v), m) ≡ x
@@ -59,7 +59,7 @@ pub record WasRemoved (m : Member) (used : List Used) (x : Effect × Member) : T
 unfoldable pub reached_epoch : Member → Change → Climb → List ℕ
 reached_epoch m change climb = next_epoch_secret (init_secret m.epoch) climb.secret (group_context.spell change.context)
 
--- it followed the commit
+-- a member followed a commit that wasn't its pending one
 pub record HasFollowed (c : Crypto) (m : Member) (v : SignedContent) (commit : Commit) (tag : List ℕ) (used : List Used)
     (change : Change) (x : Effect × Member) : Type 0 where
   pub stays : has (removed_leaves used) m.keys.leaf ≡ false
@@ -68,10 +68,10 @@ pub record HasFollowed (c : Crypto) (m : Member) (v : SignedContent) (commit : C
       (keys_after_edits m commit.proposals change.edits.tree) commit.path ≡ Ok climb
   pub confirmed : bytes_eq tag
       (confirmation_tag (reached_epoch m change climb) change.context.confirmed_transcript_hash) ≡ true
-  pub is : (Advanced change.context.epoch, with_epoch m (public_with change tag) (reached_epoch m change climb)
-      (with_keys m.keys climb.keys)) ≡ x
+  pub is : (Advanced change.context.epoch,
+      with_epoch m (public_with change tag) (reached_epoch m change climb) (with_keys m.keys climb.keys)) ≡ x
 
--- it followed its pending commit
+-- a member followed its pending commit
 pub record DidPending (m : Member) (bytes : List ℕ) (x : Effect × Member) : Type 0 where
   pub pending : Pending
   pub is_pending : m.pending ≡ Some pending

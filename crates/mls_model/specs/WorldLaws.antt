@@ -22,7 +22,7 @@ pub record IsFor (source : Source) (k : Candidate) (d : CommitMade) : Type 0 whe
   pub place : ℕ
   pub adds : slice_get d.adds place ≡ Some (key_package.spell k.offered)
 
--- and no commit that was made before does
+-- a commit is the first of those that made the source and add the candidate
 pub record IsFirstFor (made : List CommitMade) (source : Source) (k : Candidate) (d : CommitMade) : Type 0 where
   pub place : ℕ
   pub is : slice_get made place ≡ Some d
@@ -36,7 +36,7 @@ abbrev pub FoundIsFirst : Type 0
 FoundIsFirst = (made : List CommitMade) (source : Source) (k : Candidate) (d : CommitMade) →
     commit_for_joiner made source k ≡ Some d → IsFirstFor made source k d
 
--- and each such record is found
+-- the first such record is found
 abbrev pub FirstIsFound : Type 0
 FirstIsFound = (made : List CommitMade) (source : Source) (k : Candidate) (d : CommitMade) →
     IsFirstFor made source k d → commit_for_joiner made source k ≡ Some d

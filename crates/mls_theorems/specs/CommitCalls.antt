@@ -37,7 +37,7 @@ epoch_of m path change = epoch_secret (joiner_of m path change) (group_context.s
 unfoldable pub tag_of : Member → MadePath → Change → List ℕ
 tag_of m path change = confirmation_tag (epoch_of m path change) change.context.confirmed_transcript_hash
 
--- the content that is sent
+-- the signed content of a commit that is made
 unfoldable pub content_of : Crypto → Member → List ProposalOrRef → MadePath → Change → SignedContent
 content_of c m list path change = signed_with (said_of m list path) (signature_of c m list path) (tag_of m path change)
 
@@ -48,12 +48,18 @@ unfoldable pub made_of : Crypto → Member → List ProposalOrRef → MadePath �
 made_of c m list path change welcome = record {
   commit = message_of c m list path change;
   welcome = welcome;
-  pending = record { message = message_of c m list path change; public = public_with change (tag_of m path change); epoch = epoch_of m path change; keys = with_keys m.keys path.climb.keys };
+  pending = record {
+    message = message_of c m list path change;
+    public = public_with change (tag_of m path change);
+    epoch = epoch_of m path change;
+    keys = with_keys m.keys path.climb.keys;
+  };
 }
 
--- the path, where one is asked for
+-- the path of a commit that is made, where one is wanted or required
 unfoldable pub path_for : Crypto → Member → List Used → Edits → Bool → List ℕ → Result MadePath ℕ
-path_for c m used e wants_path seed = if wants_path || is_path_required used then new_path c m e seed else Ok (no_path m e)
+path_for c m used e wants_path seed =
+    if wants_path || is_path_required used then new_path c m e seed else Ok (no_path m e)
 
 -- ---- the steps of a call
 

@@ -22,7 +22,7 @@ use Rattle.mls_model.specs.PublicState.{PublicState, Used, provisional_context, 
 use Rattle.mls_model.specs.Proposals.{full_checks, updates, updated_leaves, removed_leaves, adds, package_reference, is_path_required}
 use Rattle.mls_model.specs.Commit.{Edits, Change, apply_updates, apply_removes, apply_adds, apply_proposals, node_keys, cipher_counts, due_counts, apply_update_path, apply_path_if, change_of_commit}
 
--- the edits of a commit
+-- what each check of a commit's proposals found, and what each part of the edits answered
 pub record IsEdited (c : Crypto) (p : PublicState) (committer : ℕ) (used : List Used) (e : Edits) : Type 0 where
   pub full : full_checks c p used ≡ Ok passed
   pub not_updated : has (updated_leaves used) committer ≡ false
@@ -41,7 +41,7 @@ abbrev pub EditedSteps : Type 0
 EditedSteps = (c : Crypto) (p : PublicState) (committer : ℕ) (used : List Used) (e : Edits) →
     apply_proposals c p committer used ≡ Ok e → IsEdited c p committer used e
 
--- a path that was merged into the tree after them
+-- what each check of a path found that was merged into the tree after the edits
 pub record IsWithPath (c : Crypto) (p : PublicState) (committer : ℕ) (e : Edits) (path : UpdatePath)
     (t : Term) : Type 0 where
   pub old : LeafNode
@@ -61,7 +61,7 @@ abbrev pub WithPathSteps : Type 0
 WithPathSteps = (c : Crypto) (p : PublicState) (committer : ℕ) (e : Edits) (path : UpdatePath) (t : Term) →
     apply_update_path c p committer e path ≡ Ok t → IsWithPath c p committer e path t
 
--- a whole commit
+-- what each check of a whole commit found
 pub record IsBody (c : Crypto) (p : PublicState) (committer : ℕ) (used : List Used) (commit : Commit)
     (said : FramedContent) (signature : List ℕ) (change : Change) : Type 0 where
   pub edits : apply_proposals c p committer used ≡ Ok change.edits

@@ -20,7 +20,8 @@ abbrev pub OneSecret : Crypto → Creations → World → Origin → List Entry 
 OneSecret c creations w origin es = (m n : Member) → IsReached c creations w.made origin es m →
     IsReached c creations w.made origin es n → m.epoch ≡ n.epoch
 
--- The recursion is on the journal and not on time: a maker may have stood at it later than who followed its commit.
+-- Two members that were reached along one homemade journal have one epoch secret. The proof goes along the journal and
+-- not along time: a maker may have stood at a journal later than who followed its commit.
 abbrev pub SameSecret : Type 0
 SameSecret = (c : Crypto) → Lawful c → (creations : Creations) (w : World) → AllRecorded c creations w →
     (origin : Origin) (es : List Entry) → is_homemade_from w.made origin es ≡ true → OneSecret c creations w origin es

@@ -23,12 +23,12 @@ abbrev pub CandidatesGood : Type 0
 CandidatesGood = (c : Crypto) → Lawful c → (identity seed : List ℕ) (k : Candidate) →
     new_candidate c identity seed ≡ Ok k → IsGoodCandidate c k
 
--- one that creates a group is a good member of it
+-- a candidate that creates a group is a good member of it
 abbrev pub CreatorsGood : Type 0
 CreatorsGood = (c : Crypto) (k : Candidate) (group seed : List ℕ) (m : Member) → IsGoodCandidate c k →
     create_group c k group seed ≡ Ok m → IsGoodMember c m
 
--- and one that joins, whatever Welcome it was given
+-- a candidate that joins is a good member, whatever Welcome it was given
 abbrev pub JoinersGood : Type 0
 JoinersGood = (c : Crypto) (k : Candidate) (bytes : List ℕ) (joined : JoinedMember) → IsGoodCandidate c k →
     join_verdict c k bytes ≡ Ok joined → IsGoodMember c joined.member
@@ -48,7 +48,7 @@ abbrev pub RemovesKeepGood : Type 0
 RemovesKeepGood = (c : Crypto) (m : Member) (leaf : ℕ) (x : List ℕ × Member) → IsGoodMember c m →
     propose_remove c m leaf ≡ Ok x → IsGoodMember c x.1
 
--- after each commit that it makes, with that as its pending one, and after it dropped it
+-- a good member is good after each commit that it makes, with that as its pending one
 abbrev pub CommitsKeepGood : Type 0
 CommitsKeepGood = (c : Crypto) (m : Member) (list : List ProposalOrRef) (wants_path : Bool) (seed : List ℕ)
     (x : (List ℕ × Option (List ℕ)) × Member) →
@@ -58,7 +58,7 @@ CommitsKeepGood = (c : Crypto) (m : Member) (list : List ProposalOrRef) (wants_p
 abbrev pub DropsKeepGood : Type 0
 DropsKeepGood = (c : Crypto) (m : Member) → IsGoodMember c m → IsGoodMember c (without_pending m)
 
--- and after whatever bytes it takes: proposals, commits of others, its pending one
+-- a good member is good after whatever bytes it takes: proposals, commits of others, its pending one
 abbrev pub DeliveriesKeepGood : Type 0
 DeliveriesKeepGood = (c : Crypto) (m : Member) (bytes : List ℕ) (x : Effect × Member) → IsGoodMember c m →
     IsBytes bytes → verdict c m bytes ≡ Ok x → IsGoodMember c x.1

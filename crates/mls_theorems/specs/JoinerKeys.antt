@@ -13,9 +13,10 @@ use Rattle.mls_model.specs.Make.{MadePath, no_path, path_secret_for}
 use Rattle.mls_model.specs.Join.{joined_keys}
 use Rattle.mls_theorems.specs.SentCommits.{IsNewPath}
 
--- a joiner's keys in a tree
+-- a joiner takes its keys in a tree
 abbrev pub TakesKeys : Crypto → Term → ℕ → ℕ → List ℕ → Option (List ℕ) → Type 0
-TakesKeys c t i j own secret = (keys : PrivateKeys) × (joined_keys c t i (record { leaf = j; own = own; above = [] }) secret ≡ Ok keys)
+TakesKeys c t i j own secret =
+    (keys : PrivateKeys) × (joined_keys c t i (record { leaf = j; own = own; above = [] }) secret ≡ Ok keys)
 
 -- a joiner that the parents over it list in the tree of the edits finds its keys in the maker's next tree
 abbrev pub KeysTaken : Type 0

@@ -1,5 +1,5 @@
--- Public agreement: the public state is a function of the journal, and members with one journal have one epoch secret or
--- are twins.
+-- Public agreement: the public state is a function of the journal, and members with one journal have one epoch secret
+-- or are twins.
 use Rattle.std.specs.Prelude.{◌≡◌, ℕ, Bool, List, [], ◌∷◌, Option, Some, Ok, slice_get}
 use Rattle.mls_leaf.specs.declared.proposal.Proposal.{Proposal}
 use Rattle.mls_types.specs.declared.commit.ProposalOrRef.{ProposalOrRef}
@@ -31,12 +31,12 @@ pub record StandsAtJournal (c : Crypto) (creations : Creations) (origin : Origin
   pub tagged : (tag : List ℕ) → last_tag origin entries ≡ Some tag →
       confirmation_tag m.epoch m.public.context.confirmed_transcript_hash ≡ tag
 
--- the public state is a function of the journal
+-- members that stand at one journal agree: the public state is a function of the journal
 abbrev pub PublicAgreement : Type 0
 PublicAgreement = (c : Crypto) (creations : Creations) (origin : Origin) (entries : List Entry) (m n : Member) →
     StandsAtJournal c creations origin entries m → StandsAtJournal c creations origin entries n → Agree m n
 
--- and equal tags give equal secrets, or twins
+-- members that stand at one journal that ends with a tag have equal secrets, or twins
 abbrev pub SecretAgreement : Type 0
 SecretAgreement = (c : Crypto) (creations : Creations) (origin : Origin) (entries : List Entry) (m n : Member)
     (tag : List ℕ) → StandsAtJournal c creations origin entries m → StandsAtJournal c creations origin entries n →
@@ -44,21 +44,23 @@ SecretAgreement = (c : Crypto) (creations : Creations) (origin : Origin) (entrie
 
 -- ---- each step leads along the journal
 
--- a group begins where its creation does
+-- a member that created a group stands at the journal of the creation
 abbrev pub CreationsAlong : Type 0
 CreationsAlong = (c : Crypto) (creations : Creations) (k : ℕ) (m : Member) → slice_get creations k ≡ Some (Some m) →
     StandsAtJournal c creations (Creation k) [] m
 
--- who joins stands where its GroupInfo says, whatever the Welcome was
+-- a member that joins stands where its GroupInfo says, whatever the Welcome was
 abbrev pub JoinsAlong : Type 0
 JoinsAlong = (c : Crypto) (creations : Creations) (k : Candidate) (bytes : List ℕ) (joined : JoinedMember) →
     join_verdict c k bytes ≡ Ok joined → StandsAtJournal c creations (JoinedBy joined.info) [] joined.member
 
--- who joins by a Welcome that a member made stands where the maker's commit leads
+-- a member that joins by a Welcome that another made stands where the maker's commit leads
 abbrev pub JoinsHereAlong : Type 0
 JoinsHereAlong = (c : Crypto) (creations : Creations) (origin : Origin) (entries : List Entry) (maker : Member)
     (list : List ProposalOrRef) (made : Made) (k : Candidate) (welcome : List ℕ) (joins : JoinsTo c k welcome made) →
-    StandsAtJournal c creations origin entries maker → IsMade c maker list made → StandsAtJournal c creations origin (record { commit = made.commit; names = names_in maker.kept list } ∷ entries) joins.joined.member
+    StandsAtJournal c creations origin entries maker → IsMade c maker list made →
+    StandsAtJournal c creations origin (record { commit = made.commit; names = names_in maker.kept list } ∷ entries)
+    joins.joined.member
 
 -- a commit that a good member follows, its own or another's, leads it where the journal with the entry leads
 abbrev pub DeliveriesAlong : Type 0
@@ -67,7 +69,7 @@ DeliveriesAlong = (c : Crypto) (creations : Creations) (origin : Origin) (entrie
     IsGoodMember c m → StandsAtJournal c creations origin entries m → verdict c m bytes ≡ Ok (Advanced epoch, after) →
     StandsAtJournal c creations origin (entry_of m bytes ∷ entries) after
 
--- and in one state it stands where it stood
+-- a member in one state with another stands where the other stands
 abbrev pub StatesAlong : Type 0
 StatesAlong = (c : Crypto) (creations : Creations) (origin : Origin) (entries : List Entry) (m n : Member) →
     IsSameState m n → StandsAtJournal c creations origin entries m → StandsAtJournal c creations origin entries n

@@ -19,7 +19,8 @@ use Rattle.mls_theorems.specs.NodeSpelling.{PartsFit}
 
 -- ---- the whole of it
 
--- its tree is good, its context is of that tree and of the suite, and all has a spelling
+-- a change leads to a good state: the tree is good, the context is of that tree and of the suite, and all has a
+-- spelling
 pub record IsNext (c : Crypto) (change : Change) : Type 0 where
   pub good : IsGood (rules_of c change.context.group_id) change.tree
   pub hash : change.context.tree_hash ≡ tree_hash 0 change.tree
@@ -28,7 +29,7 @@ pub record IsNext (c : Crypto) (change : Change) : Type 0 where
   pub parts : PartsFit change.tree
   pub nodes : AllByRecursion NodeFits (in_order change.tree)
 
--- so is that of each commit of a member that a good member finds to pass
+-- each commit of a member that a good member finds to pass leads to a good state
 abbrev pub NextStatesGood : Type 0
 NextStatesGood = (c : Crypto) (m : Member) (i : ℕ) (used : List Used) (x : Commit) (said : FramedContent)
     (signature : List ℕ) (change : Change) → IsGoodMember c m → IsSome (leaf_of m.public.tree i) →

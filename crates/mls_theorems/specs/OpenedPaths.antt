@@ -33,7 +33,8 @@ BodyDid = (c : Crypto) (p : PublicState) (committer : ℕ) (used : List Used) (c
 
 -- ---- a member that stays
 
--- after the edits of a commit a member that it didn't remove stands in their tree with the keys that are due, and wasn't added
+-- after the edits of a commit a member that it didn't remove stands in their tree with the keys that are due, and
+-- wasn't added
 pub record Stays (c : Crypto) (m : Member) (committer : ℕ) (list : List ProposalOrRef) (e : Edits) : Type 0 where
   pub two : AreTwo 0 e.tree committer m.keys.leaf
   pub lists : ListsBelow 0 e.tree

@@ -23,7 +23,8 @@ unfoldable pub encrypted_info : Crypto → GroupInfo → List ℕ → List ℕ
 encrypted_info c info joiner = c.aead_seal (welcome_key joiner) (welcome_nonce joiner) [] (group_info.spell info)
 
 unfoldable pub welcome_of : Crypto → GroupInfo → List ℕ → List EncryptedGroupSecrets → Welcome
-welcome_of c info joiner entries = record { cipher_suite = c.number; secrets = entries; encrypted_group_info = encrypted_info c info joiner }
+welcome_of c info joiner entries =
+    record { cipher_suite = c.number; secrets = entries; encrypted_group_info = encrypted_info c info joiner }
 
 pub record Welcomes (c : Crypto) (info : GroupInfo) (joiner : List ℕ) (secrets : ℕ → List ℕ) (rnd : ℕ → List ℕ) (n : ℕ)
     (joiners : List (KeyPackage × ℕ)) (bytes : List ℕ) : Type 0 where
@@ -63,4 +64,5 @@ WelcomeOpens = (c : Crypto) → Lawful c → c.number < 2 ^ 16 →
     offered.init_key ≡ c.public k.init →
     entry_for c (encrypted_info c info joiner) offered (secrets_with joiner path_secret) seed ≡ Ok entry →
     length joiner ≡ 32 → is_none_or_32 path_secret ≡ true →
-    group_info.Fits info → info.group_context.cipher_suite ≡ c.number → opened_welcome c k bytes ≡ Ok (record { joiner = joiner; path_secret = path_secret; bytes = group_info.spell info; info = info })
+    group_info.Fits info → info.group_context.cipher_suite ≡ c.number → opened_welcome c k bytes
+    ≡ Ok (record { joiner = joiner; path_secret = path_secret; bytes = group_info.spell info; info = info })

@@ -16,7 +16,7 @@ use Rattle.mls_model.specs.Journal.{names_in, removes_in}
 use Rattle.mls_model.specs.Claims.{IsMade}
 use Rattle.mls_theorems.specs.OpenedPaths.{Stays}
 
--- one that follows, where it doesn't take the bytes for its pending commit
+-- a receiver follows a commit, where it doesn't take the bytes for its pending commit
 pub record FollowsOther (c : Crypto) (m : Member) (made : Made) : Type 0 where
   pub after : Member
   pub is : bytes_verdict c m made.commit ≡ Ok (Advanced (m.public.context.epoch + 1), after)

@@ -55,7 +55,10 @@ PathDid = (c : Crypto) (m : Member) (used : List Used) (e : Edits) (wants_path :
 
 -- what a made commit is as a message
 unfoldable pub sent_of : Crypto → Member → List ProposalOrRef → MadePath → Change → PublicMessage
-sent_of c m list path change = record { content = content_of c m list path change; membership_tag = content_tag m.epoch (content_of c m list path change) m.public.context }
+sent_of c m list path change = record {
+  content = content_of c m list path change;
+  membership_tag = content_tag m.epoch (content_of c m list path change) m.public.context;
+}
 
 -- bytes are read as a message that has a spelling
 pub record ReadsBack (bytes : List ℕ) (said : PublicMessage) : Type 0 where

@@ -23,9 +23,8 @@ MemberStays = (c : Crypto) (m : Member) (i : ℕ) (list : List ProposalOrRef) (u
     find_proposals m.kept i list ≡ Ok used → apply_proposals c m.public i used ≡ Ok e →
     has (removed_leaves used) m.keys.leaf ≡ false → Stays c m i list e
 
--- A made commit passes the verdict of each active member at another leaf that agrees with its maker, in secrets too, and
--- keeps the proposals that it names.
--- a made commit is received by each good member at another leaf that agrees with its maker, removed or not before
+-- a made commit is received by each good member at another leaf that agrees with its maker, in secrets too, and keeps
+-- the proposals that it names, whether it was removed before or not
 abbrev pub MadeIsReceived : Type 0
 MadeIsReceived = (c : Crypto) → Lawful c → (maker m : Member) (list : List ProposalOrRef) (made : Made) →
     IsMade c maker list made → IsGoodMember c m → maker.keys.leaf ≢ m.keys.leaf → Agree maker m → AgreeSecret maker m →

@@ -32,7 +32,7 @@ UsedByEntry = (c : Crypto) (m : Member) (kept : List KeptProposal) (i : ℕ) (li
     (us : List Used) → AreGoodKept c m kept → find_proposals kept i list ≡ Ok us →
     used_by_names i list (names_in kept list) ≡ Ok us
 
--- who keeps what a maker's list names uses what the maker does
+-- a member that keeps what a maker's list names uses what the maker does
 abbrev pub UsedAlike : Type 0
 UsedAlike = (c : Crypto) (maker m : Member) (i : ℕ) (list : List ProposalOrRef) (us : List Used) →
     AreGoodKept c maker maker.kept → AreGoodKept c m m.kept →
@@ -41,7 +41,7 @@ UsedAlike = (c : Crypto) (maker m : Member) (i : ℕ) (list : List ProposalOrRef
 
 -- ---- whoever commits, the same is removed and added
 
--- what is used for another committer
+-- a list uses, for another committer, proposals that remove and add the same
 pub record IsUsedAlike (kept : List KeptProposal) (j : ℕ) (list : List ProposalOrRef) (us : List Used) : Type 0 where
   pub used : List Used
   pub is : find_proposals kept j list ≡ Ok used
@@ -57,13 +57,13 @@ abbrev pub RemovesIn : Type 0
 RemovesIn = (kept : List KeptProposal) (i : ℕ) (list : List ProposalOrRef) (us : List Used) →
     find_proposals kept i list ≡ Ok us → removes_in kept list ≡ removed_leaves us
 
--- and the KeyPackages, as bytes, that it adds are those of what its commit uses
+-- the KeyPackages, as bytes, that a list adds are those of what its commit uses
 abbrev pub AddsIn : Type 0
 AddsIn = (kept : List KeptProposal) (i : ℕ) (list : List ProposalOrRef) (us : List Used) →
     find_proposals kept i list ≡ Ok us → adds_in kept list ≡ map (λ (offered : KeyPackage). key_package.spell offered)
     (adds us)
 
--- who keeps what another's list names uses the same, also where that is a refusal
+-- a member that keeps what another's list names uses the same, also where that is a refusal
 abbrev pub UsedSame : Type 0
 UsedSame = (c : Crypto) (maker m : Member) (i : ℕ) (list : List ProposalOrRef) → AreGoodKept c maker maker.kept →
     AreGoodKept c m m.kept →
