@@ -5,7 +5,7 @@ ghost use Rattle.std.specs.List.{AllByRecursion};
 ghost use Rattle.mls_wire.specs.Checks.{Answers, DoesAs};
 ghost use Rattle.mls_theorems.specs.SpelledParts.{FullFits};
 ghost use Rattle.mls_make.specs.CommitCall.{made_as, AreShortUsed};
-ghost use Rattle.mls_model.specs.Agreement.{IsGoodMember};
+ghost use Rattle.mls_model.specs.MemberInvariant.{IsGoodMember};
 ghost use Rattle.mls_model.specs.Make.{listed_of, commit_call};
 ghost use Rattle.mls_model.specs.Member.{find_proposals};
 ghost use Rattle.mls_member.specs.Answers.{messages_of, AreShortItems, HasMade};

@@ -10,7 +10,7 @@ ghost use Rattle.mls_model.specs.Messages.{is_within_limit};
 ghost use Rattle.mls_tree.specs.Tree.{term};
 ghost use Rattle.mls_leaf.specs.Limits.{input_limit};
 ghost use Rattle.mls_tree_model.specs.Term.{Leaf};
-ghost use Rattle.mls_model.specs.Agreement.{IsGoodMember, IsGoodCandidate};
+ghost use Rattle.mls_model.specs.MemberInvariant.{IsGoodMember, IsGoodCandidate};
 ghost use Rattle.mls_model.specs.Candidate.{first_context, create_group};
 ghost use Rattle.mls_member.specs.Faults.{number_of};
 

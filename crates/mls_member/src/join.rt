@@ -4,7 +4,7 @@ ghost use Rattle.std.specs.Prelude.{IfOk};
 ghost use Rattle.mls_wire.specs.Checks.{Answers};
 ghost use Rattle.mls_tree.specs.Refusals.{RefusesOutright};
 ghost use Rattle.mls_join.specs.Entrance.{outer_checks};
-ghost use Rattle.mls_model.specs.Agreement.{IsGoodMember, IsGoodCandidate};
+ghost use Rattle.mls_model.specs.MemberInvariant.{IsGoodMember, IsGoodCandidate};
 ghost use Rattle.mls_model.specs.Join.{join_verdict};
 ghost use Rattle.mls_member.specs.Answers.{joined_as};
 ghost use Rattle.mls_member.specs.Faults.{number_of};

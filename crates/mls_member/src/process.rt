@@ -2,7 +2,7 @@
 
 ghost use Rattle.std.specs.Prelude.{◌≡◌, true, false, None, Err, IsOk, IsSome, is_some, MatchOption};
 ghost use Rattle.mls_wire.specs.Checks.{DoesAs};
-ghost use Rattle.mls_model.specs.Agreement.{IsGoodMember};
+ghost use Rattle.mls_model.specs.MemberInvariant.{IsGoodMember};
 ghost use Rattle.mls_model.specs.Member.{without_pending};
 ghost use Rattle.mls_model.specs.Verdict.{verdict, own_pending};
 ghost use Rattle.mls_tree.specs.Refusals.{RefusesOutright};
