@@ -1,5 +1,5 @@
 -- The numbers of what private paths refuse.
-use Rattle.std.specs.Prelude.{ℕ, Result}
+use Rattle.std.specs.Prelude.{ℕ, List, Result}
 use Rattle.std.specs.Global.{Vec}
 use Rattle.mls_treekem.specs.declared.error.TreeKemError.{TreeKemError}
 use Rattle.mls_treekem.specs.declared.error.TreeKemError.TheVariants.{OutOfMemory, OpenFailed, SecretLength, PathKeyMismatch, KeyMissing, BadKey}
