@@ -8,5 +8,5 @@ use Rattle.mls_model.specs.Run.{replies}
 use Rattle.mls_model.specs.World.{empty_world}
 
 -- the replies of the empty world stand behind those before
-abbrev pub HasFirstReplies : Crypto → List Event → Vec Reply → Vec Reply → Type 0
-HasFirstReplies c events before after = after.items ≡ before.items ++ replies c empty_world events
+abbrev pub AreReplied : Crypto → List Event → Vec Reply → Vec Reply → Type 0
+AreReplied c events before after = after.items ≡ before.items ++ replies c empty_world events

@@ -5,7 +5,7 @@ ghost use Rattle.std.specs.Prelude.{◌≡◌, IfOk};
 ghost use Rattle.mls_model.specs.Headline.{AgreeSecretIfHomemade};
 ghost use Rattle.mls_model.specs.Run as model;
 ghost use Rattle.mls_model.specs.World.{empty_world};
-ghost use Rattle.mls_test_world.specs.FirstReplies.{HasFirstReplies};
+ghost use Rattle.mls_test_world.specs.FirstReplies.{AreReplied};
 
 mod deliveries;
 #[cfg(test)]
@@ -30,7 +30,7 @@ pub fn run_from_start<S: Suite>(
     replies: &mut Vec<Reply>,
 ) -> Result<World<S>, OutOfMemory>
     ensures ran { IfOk result (λ w. w ≡ model.run S.crypto empty_world events.now) }
-    ensures replied { IfOk result (λ _. HasFirstReplies S.crypto events.now replies.old replies.new) }
+    ensures replied { IfOk result (λ _. AreReplied S.crypto events.now replies.old replies.new) }
     ensures secret { IfOk result AgreeSecretIfHomemade }
 {
     let mut world = World::new(alloc);
