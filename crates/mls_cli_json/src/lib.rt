@@ -5,11 +5,13 @@
 mod error;
 mod file;
 mod hex_text;
+mod lists;
 mod lookup;
 
 pub use error::JsonError;
 pub use file::value_in;
-pub use hex_text::{hex_at, bytes_of_hex, seed_at};
+pub use hex_text::{bytes_of_hex, hex_at, seed_at};
+pub use lists::push_found;
 pub use lookup::{
     bool_at, has_members, items_at, text_at, text_if_any, u16_at, u32_at, u32_of, u64_at,
 };

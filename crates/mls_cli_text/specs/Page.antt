@@ -68,3 +68,7 @@ printout_of text p = record {
   text = flat_map text p.lines.items ++ ending_text p.ending;
   status = ending_status p.ending;
 }
+
+-- a page is printed
+abbrev pub PrintsPage : {L : Type 0} → (L → List ℕ) → Option (List ℕ) → Option (List ℕ) → code.Page L → Result ℕ Fault → Type 0
+PrintsPage text old new p r = Prints old new r (printout_of text p)

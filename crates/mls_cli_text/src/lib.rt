@@ -18,4 +18,4 @@ pub use output::{Out, Output};
 pub use page::{Ending, Page, print_made_page, print_page, refused_page};
 pub use printing::{Printed, print, print_lines};
 pub use refusal::refusal_name;
-pub use text::{Field, Line, append_line, append_lines, line_of};
+pub use text::{Field, Line, append_line, append_lines, line_of, push_number};
