@@ -165,16 +165,16 @@ abbrev pub expected_text : ℕ → Option (Bor (List ℕ)) → List ℕ
 expected_text event expect = flat_map entry_text (expected_entries event (option_map (λ (t : Bor (List ℕ)). t.now) expect))
 
 -- what is printed of an event
-abbrev pub event_text : ℕ → Reply → Option (Bor (List ℕ)) → List ℕ
-event_text event reply expect = flat_map entry_text (event_entries event reply (option_map (λ (t : Bor (List ℕ)). t.now) expect))
+abbrev pub told : ℕ → Reply → Option (Bor (List ℕ)) → List ℕ
+told event reply expect = flat_map entry_text (event_entries event reply (option_map (λ (t : Bor (List ℕ)). t.now) expect))
 
 -- what is printed of members
 abbrev pub members_text : List Seat → List ℕ
 members_text seats = flat_map entry_text (member_entries 0 seats)
 
 -- what is printed of a member that wasn't removed
-abbrev pub present_text : ℕ → ℕ → ℕ → Bor (List ℕ) → Bor (List ℕ) → List ℕ
-present_text member leaf epoch tree authenticator = entry_text (present member leaf epoch tree.now authenticator.now)
+abbrev pub member_text : ℕ → ℕ → ℕ → Bor (List ℕ) → Bor (List ℕ) → List ℕ
+member_text member leaf epoch tree authenticator = entry_text (present member leaf epoch tree.now authenticator.now)
 
 -- ---- of an event that runs
 

@@ -3,7 +3,7 @@
 ghost use Rattle.std.specs.Prelude.{◌≡◌, ◌≢◌, IfOk, IfErr, OnOk, OnErr, option_map};
 ghost use Rattle.mls_model.specs.Run.{run, step};
 ghost use Rattle.mls_cli_text.specs.InputOutput.{write_failed, Writes, WritesPart};
-ghost use Rattle.mls_cli_replay.specs.Replay.{Begins, BeginsAll, HasRunOrNot, Says, SaysAll, Stops, all_meet, event_text, events_of, expected_text, is_met, meets};
+ghost use Rattle.mls_cli_replay.specs.Replay.{Begins, BeginsAll, HasRunOrNot, Says, SaysAll, Stops, all_meet, told, events_of, expected_text, is_met, meets};
 
 use crate::line::ReplayLine;
 use crate::reply::reply_text;
@@ -54,8 +54,8 @@ fn print_reply<O: Output>(
     out: &mut O,
 ) -> Result<bool, Fault>
     ensures met { IfOk result (λ met. met ≡ is_met reply (option_map (λ t. t.now) expect.entry)) }
-    ensures whole { Writes O.contents out.old out.new (event_text event reply expect.entry) result }
-    ensures part { WritesPart O.contents out.old out.new (event_text event reply expect.entry) result }
+    ensures whole { Writes O.contents out.old out.new (told event reply expect.entry) result }
+    ensures part { WritesPart O.contents out.old out.new (told event reply expect.entry) result }
     ensures fault { O.failed out.new ≡ write_failed (O.failed out.old) result }
     ensures written { IfErr result (λ e. e ≢ Fault.Read) }
 {

@@ -20,7 +20,7 @@ fn with_head(
     size: usize,
     lines: Vec<Line>,
 ) -> Result<Vec<Line>, AllocError>
-    ensures { IfOk result (λ all. entries_of all ≡ with_head kind.entry.now size (entries_of lines)) }
+    ensures { IfOk result (λ v. entries_of v ≡ with_head kind.entry.now size (entries_of lines)) }
 {
     let head = vec![in alloc;
         line_of("", "message", Field::Word(kind)),
