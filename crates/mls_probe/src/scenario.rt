@@ -1,6 +1,6 @@
 //! The scenarios: a state, and the call that is made in it.
 
-ghost use Rattle.mls_growths.specs.Calls.{IsShortCall};
+ghost use Rattle.mls_probe.specs.Calls.{IsShortCall};
 
 use crate::call::Call;
 use crate::group::{
