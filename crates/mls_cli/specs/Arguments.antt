@@ -1,5 +1,5 @@
 -- What the command line of `mls` is, and which job the matches of its words name.
-use Rattle.std.specs.Prelude.{◌≡◌, ◌≢◌, ◌⊎◌, List, [], ◌∷◌, codes, Option, Some, None, option_and_then, option_map, unwrap_or, if◌then◌else◌, true}
+use Rattle.std.specs.Prelude.{◌≡◌, ◌≢◌, ◌⊎◌, List, [], ◌∷◌, codes, map, Option, Some, None, option_and_then, option_map, unwrap_or, if◌then◌else◌, true}
 use Rattle.std.specs.Borrow.{Bor}
 use Rattle.std.specs.Str.{bytes_eq}
 use Rattle.clap.specs.Words.{App, Row, fault_of, subcommand_of, Rule, Text, first_of, new_app, new_rule, with_rule, with_subcommand}
@@ -120,6 +120,14 @@ Explains kinds task e = (k : ErrorKind) × ComesOf e k × IsFault kinds task k
 -- what a call was given, where it was given something
 abbrev pub given : Option (Bor Text) → Option Text
 given text = option_map (λ (t : Bor Text). t.now) text
+
+-- the name and the rows of a subcommand that was found, where one was
+abbrev pub found_rows : {M : Type 0} → (M → List Row) → Option (Bor Text × Bor M) → Option (Text × List Row)
+found_rows {M} rows found = option_map (λ (p : Bor Text × Bor M). (p.0.now, rows p.1.now)) found
+
+-- the words that code has, with the program's name as the first
+abbrev pub NamesProgram : {W : Type 0} → (W → Text) → List W → List W → Type 0
+NamesProgram text words named = map text named ≡ name_program (map text words)
 
 -- the job that was found, where one was
 abbrev pub maybe_task : Option Job → Option Task

@@ -3,7 +3,7 @@
 ghost use Rattle.std.specs.Prelude.{◌≡◌, map, true, false, codes, Ok, Err, Some, None, IfOk, IfErr, IsSome, OnOk, ◌⊎◌, ◌∷◌, [], option_map};
 ghost use Rattle.clap.specs.Words.{app_of, shape_of, first_of, found_of, kind_of, rows_of, rule_of, subcommand_of, subcommand_rows_of, takes, fault_of, FailsBy, HasKind};
 ghost use Rattle.clap.specs.declared.Command.TheViews.{out-Command as fields_of};
-ghost use Rattle.mls_cli.specs.Arguments.{ComesOf, ExplainsWords, check, check_app, check_on, faults_behind, file_app, file_rule, found_in, given, group_rule, maybe_task, mls, needing_subcommand, plain_check, replay, show, suite_of, suite_rule, task_behind, task_in, task_of, task_on, task_view, vectors, words_with_options};
+ghost use Rattle.mls_cli.specs.Arguments.{ComesOf, ExplainsWords, check, check_app, check_on, faults_behind, file_app, file_rule, found_in, found_rows, given, group_rule, maybe_task, mls, needing_subcommand, plain_check, replay, show, suite_of, suite_rule, task_behind, task_in, task_of, task_on, task_view, vectors, words_with_options};
 
 use crate::tasks::{Job, NoJob, SuiteChoice};
 use clap::error::ErrorKind;
@@ -256,7 +256,7 @@ fn value_of<'a>(matches: &ArgMatches<'a>, id: &str) -> Option<&'a str>
 }
 
 fn matched_subcommand<'a, 'b>(matches: &'b ArgMatches<'a>) -> Option<(&'a str, &'b ArgMatches<'a>)>
-    ensures { option_map (λ p. (p.0.now, rows_of (found_of p.1.now))) result ≡ subcommand_rows_of matches.now }
+    ensures { found_rows (λ m. rows_of (found_of m)) result ≡ subcommand_rows_of matches.now }
 {
     matches.subcommand()
 }

@@ -212,9 +212,9 @@ SaysAll contents old new c w rs result = Writes contents old new (replies_text c
 abbrev pub BeginsAll : {O T E : Type 0} → (O → Option (List ℕ)) → O → O → Crypto → World → List Recorded → Result T E → Type 0
 BeginsAll contents old new c w rs result = WritesPart contents old new (replies_text c w rs) result
 
--- Where it fails, a call stops at an event.
-abbrev pub Stops : {O T E : Type 0} → (O → Option (List ℕ)) → O → O → Crypto → World → World → List Recorded → Result T E → Type 0
-Stops contents old new c w v rs result = OnErr result (StopsAt c w rs (contents old) (contents new) v)
+-- Where it fails, a call ends at an event.
+abbrev pub Ends : {O T E : Type 0} → (O → Option (List ℕ)) → O → O → Crypto → World → World → List Recorded → Result T E → Type 0
+Ends contents old new c w v rs result = OnErr result (StopsAt c w rs (contents old) (contents new) v)
 
 -- ---- of a recording
 

@@ -3,7 +3,7 @@
 ghost use Rattle.std.specs.Prelude.{◌≡◌, ◌≢◌, IfOk, IfErr, OnOk, OnErr, option_map};
 ghost use Rattle.mls_model.specs.Run.{run, step};
 ghost use Rattle.mls_cli_text.specs.InputOutput.{write_failed, Writes, WritesPart};
-ghost use Rattle.mls_cli_replay.specs.Replay.{Begins, BeginsAll, HasRunOrNot, Says, SaysAll, Stops, all_meet, told, events_of, expected_text, is_met, meets};
+ghost use Rattle.mls_cli_replay.specs.Replay.{Begins, BeginsAll, Ends, HasRunOrNot, Says, SaysAll, all_meet, told, events_of, expected_text, is_met, meets};
 
 use crate::line::ReplayLine;
 use crate::reply::reply_text;
@@ -102,7 +102,7 @@ pub fn play_events<S: Suite, O: Output>(
     ensures whole { SaysAll O.contents out.old out.new S.crypto world.old recorded.now result }
     ensures part { BeginsAll O.contents out.old out.new S.crypto world.old recorded.now result }
     // At a fault all events before one are said, a part of that one is, and none behind it has run.
-    ensures stopped { Stops O.contents out.old out.new S.crypto world.old world.new recorded.now result }
+    ensures cut { Ends O.contents out.old out.new S.crypto world.old world.new recorded.now result }
     ensures fault { O.failed out.new ≡ write_failed (O.failed out.old) result }
     ensures written { IfErr result (λ e. e ≢ Fault.Read) }
 {

@@ -10,7 +10,7 @@ use Rattle.mls_cli_json.specs.Lists.{each_of, value_or_number}
 use Rattle.mls_cli_json.specs.Json.{◌>>=◌, data_in, require, is_object_of, text_at, number_at, max_u32, whole, whole_at, items_at}
 use Rattle.mls_cli_json.specs.declared.error.JsonError.{JsonError}
 use Rattle.mls_cli_json.specs.declared.error.JsonError.TheVariants as error
-use Rattle.mls_cli_vectors.specs.Vectors.{Claim, header, hmac, hkdf, expand, treemath, message, tree, vector_view}
+use Rattle.mls_cli_vectors.specs.Vectors.{Claim, header, hmac, hkdf, expand, treemath, message, tree, seen, vector_view}
 use Rattle.mls_cli_vectors.specs.declared.reading.Vector.{Vector}
 
 -- ---- vectors of each kind
@@ -155,6 +155,10 @@ unfoldable pub claims_in : List ℕ → Result (List Claim) ℕ
 claims_in file = value_or_number ((data_in file >>= as_array) >>= each_of claim_in)
 
 -- ---- of the code's values
+
+-- the claim of a vector that was read, where all of its texts are hex; the first argument is what a label's text is
+abbrev pub expand_seen : {L : Type 0} → (L → List ℕ) → Option (Vec ℕ) → L → Option (Vec ℕ) → Option (Vec ℕ) → Option Claim
+expand_seen text secret label context out = expand_of (seen secret) (text label) (seen context) (seen out)
 
 -- The vectors are those of the file, or the error is want of memory or has the number of the file's refusal.
 abbrev pub Reads : Result (Vec Vector) JsonError → Result (List Claim) ℕ → Type 0

@@ -8,7 +8,7 @@ ghost use Rattle.mls_cli_json.specs.Faults.{Finds};
 ghost use Rattle.mls_cli_json.specs.declared.error.JsonError.TheVariants.{BadJson};
 ghost use Rattle.mls_cli_json.specs.Lists.{each_of, value_or_number};
 ghost use Rattle.mls_cli_vectors.specs.Vectors.{claim_of, seen};
-ghost use Rattle.mls_cli_vectors.specs.VectorsFile.{Reads, claim_in, claims_in, expand_in, expand_of, header_in, header_of, hex_or_null, hex_or_null_at, hkdf_in, hkdf_of, hmac_in, hmac_of, kind_in, label_at, message_in, message_of, numbers_at, numbers_of, tree_in, tree_of, treemath_in};
+ghost use Rattle.mls_cli_vectors.specs.VectorsFile.{Reads, claim_in, claims_in, expand_in, expand_seen, header_in, header_of, hex_or_null, hex_or_null_at, hkdf_in, hkdf_of, hmac_in, hmac_of, kind_in, label_at, message_in, message_of, numbers_at, numbers_of, tree_in, tree_of, treemath_in};
 
 use mls_cli_json::{
     JsonError, bytes_of_hex, has_members, hex_at, items_at, push_found, text_at, u32_at, u32_of,
@@ -190,7 +190,7 @@ fn expand_of(
     context: Option<Vec<u8>>,
     out: Option<Vec<u8>>,
 ) -> Option<Vector>
-    ensures { claim_of result ≡ expand_of (seen secret) (string_bytes label) (seen context) (seen out) }
+    ensures { claim_of result ≡ expand_seen string_bytes secret label context out }
 {
     Some(Vector::Expand {
         secret: secret?,
