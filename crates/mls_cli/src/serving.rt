@@ -12,9 +12,9 @@ use crate::tasks::{Job, NoJob, SuiteChoice};
 use mls_cli_check::{SuiteChecks, Unchecked, check_page};
 use mls_cli_replay::replay;
 use mls_cli_show::show_page;
-use mls_suite::Glass;
 use mls_cli_text::{Fault, Input, Line, Out, Output, Page, print_made_page};
 use mls_cli_vectors::vectors_page;
+use mls_suite::Glass;
 use std::alloc::{AllocError, Global};
 use std::io::Write;
 

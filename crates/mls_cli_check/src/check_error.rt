@@ -2,8 +2,8 @@
 
 ghost use Rattle.std.specs.Prelude.{◌≡◌, ◌↔◌, IsTrue};
 
-use mls_leaf::LeafError;
 use mls_cli_text::refusal_name as name_of;
+use mls_leaf::LeafError;
 use mls_tree::TreeError;
 use std::alloc::AllocError;
 use thiserror::Error;

@@ -15,9 +15,9 @@ ghost use Rattle.mls_cli_check.specs.CheckFaults.{number_of, ChecksOutright};
 
 pub use check_error::CheckError;
 use hex::FromHexError;
+use mls_cli_text::{FileError, Line, Page, file_bytes, is_hex, is_hex_file, refused_page};
 use mls_leaf::{INPUT_LIMIT, LeafError};
 use mls_suite::Suite;
-use mls_cli_text::{FileError, Line, Page, file_bytes, is_hex, is_hex_file, refused_page};
 use mls_wire::WireError;
 pub use report::{SuiteChecks, check_text};
 use std::alloc::{AllocError, Global};
@@ -75,8 +75,8 @@ fn require_group(text: &str) -> Result<(), CheckError>
     Ok(())
 }
 
-/// Requires that a file's text and a group's have bytes: `NotHex` (8) of the file's, then `NotHex` (8) and `TooLong` (6) of
-/// the group's. It takes no memory.
+/// Requires that a file's text and a group's have bytes: `NotHex` (8) of the file's, then `NotHex` (8) and `TooLong`
+/// (6) of the group's. It takes no memory.
 fn require_texts(text: &[u8], group: &str) -> Result<(), CheckError>
     ensures { ChecksOutright (texts_in text.now group.now) result }
 {
@@ -103,8 +103,8 @@ fn texts_page<S: Suite>(
     }
 }
 
-/// What is printed of a file's text: the lines of the tree that stands in it as hex digits, for the group with this id in
-/// hex, or the refusal of the file or of the id (`NotHex` (8), `TooLong` (6)), even when an allocation fails.
+/// What is printed of a file's text: the lines of the tree that stands in it as hex digits, for the group with this
+/// id in hex, or the refusal of the file or of the id (`NotHex` (8), `TooLong` (6)), even when an allocation fails.
 pub fn check_page<S: Suite>(
     alloc: Global,
     own: SuiteChecks,

@@ -15,8 +15,8 @@ ghost use Rattle.mls_tree.specs.ShortLeaves.{HasShortLeaves};
 
 use crate::check_error::CheckError;
 use crate::tree::{tree_in, tree_lines};
-use mls_suite::Suite;
 use mls_cli_text::{Ending, Field, Line, Page, append_lines, line_of};
+use mls_suite::Suite;
 use mls_tree::{PublicTree, TreeError};
 use std::alloc::{AllocError, Global};
 
@@ -144,7 +144,9 @@ fn bytes_page<S: Suite>(
 /// The lines of the tree that the bytes spell, for the group with this id: how many leaves and members it has and its
 /// tree hash, then a line of each check of a good tree as long as they pass (RFC 9420, 7.3, 7.9.2 and 12.4.3.1), in
 /// the order of `PublicTree::check`. The first fault ends them with its refusal: that of decoding (2 to 7, 11 to 14),
-/// of the tree's shape (20) and size (21), and then of the checks (23 to 26, 51, 52, 36).
+/// of the tree's shape (`TreeShape` (20)) and size (`TreeFull` (21)), and then of the checks (`UnmergedWrong` (23),
+/// `ParentHashWrong` (24), `KeyRepeated` (25), `ClientRepeated` (26), `LeafSignature` (51), `LeafCapability` (52) and
+/// `BadKey` (36)).
 pub fn check_text<S: Suite>(
     alloc: Global,
     own: SuiteChecks,

@@ -9,14 +9,14 @@ ghost use Rattle.mls_cli_check.specs.CheckFaults.{number_of, RefusesNodes};
 ghost use Rattle.mls_tree.specs.ShortLeaves.{HasShortLeaves};
 
 use crate::check_error::CheckError;
-use mls_types::RatchetTree;
-use mls_leaf::{Bytes, Codec};
 use mls_cli_text::{Field, Line, line_of};
+use mls_leaf::{Bytes, Codec};
 use mls_tree::PublicTree;
+use mls_types::RatchetTree;
 use std::alloc::{AllocError, Global};
 
-/// The tree that the bytes spell: refused with the fault of decoding (2 to 7, 11 to 14), and else with that of its
-/// shape (20) or its size (21).
+/// Reads the tree that the bytes spell: refused with the fault of decoding (2 to 7, 11 to 14), and else with that of
+/// its shape (`TreeShape` (20)) or its size (`TreeFull` (21)).
 pub fn tree_in(alloc: Global, bytes: &[u8]) -> Result<PublicTree, CheckError>
     ensures tree { Answers term number_of (tree_in bytes.now) result }
     // Bytes that spell no nodes are refused whatever memory there is.

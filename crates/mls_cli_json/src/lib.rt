@@ -1,5 +1,5 @@
-//! Strict looks into JSON files: a value that is of another kind than it should be is a fault of the file, and so is a text
-//! that should be hex digits and isn't.
+//! Strict looks into JSON files: a value that is of another kind than it should be is a fault of the file, and so is
+//! a text that should be hex digits and isn't.
 #![tactic(auto)]
 
 mod error;

@@ -83,8 +83,8 @@ fn events(alloc: Global, value: &Value) -> Result<Option<Vec<Recorded>>, JsonErr
     }
 }
 
-/// Reads the events of a recording, each with the text that its reply should have, if one is recorded; or answers the fault
-/// of its shape (`BadJson` (9)), or else that a text in it isn't hex (`NotHex` (8)).
+/// Reads the events of a recording, each with the text that its reply should have, if one is recorded; or answers the
+/// fault of its shape (`BadJson` (9)), or else that a text in it isn't hex (`NotHex` (8)).
 #[tactic(auto, unfolding(crate::specs::Recording::recording))]
 pub fn recording(alloc: Global, text: &[u8]) -> Result<Vec<Recorded>, JsonError>
     ensures calls { Answers (λ v. map recorded_view v.items) number_of (recording text.now) result }

@@ -7,10 +7,10 @@ ghost use Rattle.mls_cli_replay.specs.Replay.{Begins, BeginsAll, Ends, HasRunOrN
 
 use crate::line::ReplayLine;
 use crate::reply::reply_text;
-use mls_model::Reply;
 use mls_cli_recording::Recorded;
-use mls_suite::Suite;
 use mls_cli_text::{Fault, Output, print};
+use mls_model::Reply;
+use mls_suite::Suite;
 use mls_world::World;
 use std::alloc::{AllocError, Global};
 

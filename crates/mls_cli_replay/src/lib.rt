@@ -17,8 +17,8 @@ pub use line::ReplayLine;
 use members::print_members;
 use mls_cli_json::JsonError;
 use mls_cli_recording::{Recorded, laws_of_calls, recording};
-use mls_suite::Suite;
 use mls_cli_text::{Fault, Output, Page, print_page, refused_page};
+use mls_suite::Suite;
 use mls_world::World;
 use std::alloc::Global;
 
@@ -69,9 +69,9 @@ fn print_error<O: Output>(alloc: Global, error: JsonError, out: &mut O) -> Resul
     }
 }
 
-/// Prints the replay of a recording, or the refusal of the file (`BadJson` (9), `NotHex` (8)), and answers the exit status. The whole file is read
-/// before the first event runs, and each event's lines are printed before the next one runs, so that after a failed write
-/// no further event does.
+/// Prints the replay of a recording, or the refusal of the file (`BadJson` (9), `NotHex` (8)), and answers the exit
+/// status. The whole file is read before the first event runs, and each event's lines are printed before the next one
+/// runs, so that after a failed write no further event does.
 pub fn replay<S: Suite, O: Output>(alloc: Global, file: &[u8], out: &mut O) -> Result<u8, Fault>
     // The output grows by the replay's text, or on a fault by less than that.
     ensures prints { PrintsReplay O.contents out.old out.new S.crypto file.now result }

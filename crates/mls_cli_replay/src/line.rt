@@ -7,9 +7,9 @@ ghost use Rattle.mls_cli_replay.specs.ReplayLaws.{replay_line_nonempty};
 ghost use Rattle.mls_cli_replay.specs.Replay.{entry_of, entry_text, expected, gone, member_text, replied};
 
 use crate::reply::reply_text;
+use mls_cli_text::Printed;
 use mls_kdf::Secret;
 use mls_model::Reply;
-use mls_cli_text::Printed;
 use std::alloc::{AllocError, Global};
 
 /// A line of a replay.

@@ -5,8 +5,8 @@ ghost use Rattle.mls_cli_text.specs.InputOutput.{write_failed, Writes, WritesPar
 ghost use Rattle.mls_cli_replay.specs.Replay.{entry_of, member_entry, members_text};
 
 use crate::line::ReplayLine;
-use mls_suite::Suite;
 use mls_cli_text::{Fault, Output, print};
+use mls_suite::Suite;
 use mls_world::{Member, World};
 use std::alloc::Global;
 

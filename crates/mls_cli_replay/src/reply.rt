@@ -3,8 +3,8 @@
 ghost use Rattle.std.specs.Prelude.{◌≡◌, IfOk, string_bytes};
 ghost use Rattle.mls_cli_replay.specs.Reply.{effect_text, refused_text, reply_text};
 
-use mls_model::{Effect, Reply};
 use mls_cli_text::refusal_name;
+use mls_model::{Effect, Reply};
 use std::alloc::{AllocError, Global};
 
 /// What a delivered message did to the member.

@@ -8,8 +8,8 @@ ghost use Rattle.mls_cli_show.specs.Message.{with_head, message_entries, text_of
 use crate::group::{group_info_lines, welcome_lines};
 use crate::package::key_package_lines;
 use crate::public::public_message_lines;
-use mls_leaf::{Codec, LeafError};
 use mls_cli_text::{Field, Line, append_lines, line_of};
+use mls_leaf::{Codec, LeafError};
 use mls_types::MlsMessage;
 use std::alloc::{AllocError, Global};
 

@@ -4,8 +4,8 @@ ghost use Rattle.std.specs.Prelude.{◌≡◌, ◌∷◌, [], codes, map, IfOk};
 ghost use Rattle.mls_cli_text.specs.Text.{bytes, digits, entries_of, entry, entry_of, numbers};
 ghost use Rattle.mls_cli_show.specs.Package.{key_package_entries, leaf_entries, source_entries};
 
-use mls_leaf::{Bytes, Capabilities, Credential, KeyPackage, LeafNode, LeafSource};
 use mls_cli_text::{Field, Line, append_line, append_lines, line_of};
+use mls_leaf::{Bytes, Capabilities, Credential, KeyPackage, LeafNode, LeafSource};
 use std::alloc::{AllocError, Global};
 
 fn identity_lines(

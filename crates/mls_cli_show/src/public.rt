@@ -5,8 +5,8 @@ ghost use Rattle.mls_cli_text.specs.Text.{bytes, entries_of, entry, entry_of, nu
 ghost use Rattle.mls_cli_show.specs.Public.{body_entries, shown_count, leaf_index, path_nodes, proposal_entries, public_message_entries, with_word_line};
 
 use crate::package::{key_package_lines, leaf_lines};
-use mls_leaf::{Bytes, Proposal};
 use mls_cli_text::{Field, Line, append_line, append_lines, line_of};
+use mls_leaf::{Bytes, Proposal};
 use mls_types::{Commit, PublicMessage, Sender, SignedBody, SignedContent};
 use std::alloc::{AllocError, Global};
 

@@ -1,5 +1,5 @@
-//! Lines `name: value` and pages of them, hex files, and the ends that files are read from and pages printed to: what the
-//! subcommands of `mls` share.
+//! Lines `name: value` and pages of them, hex files, and the ends that files are read from and pages printed to: what
+//! the subcommands of `mls` share.
 #![tactic(auto)]
 
 mod fault;

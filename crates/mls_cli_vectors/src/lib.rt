@@ -27,8 +27,8 @@ fn judge_vectors(alloc: Global, vectors: &[Vector]) -> Result<Page<ReportLine>, 
     report(alloc, verdicts.as_slice())
 }
 
-/// Makes what is printed of a vector file: the report on its vectors, or the refusal of the file (`BadJson` (9), `NotHex`
-/// (8)).
+/// Makes what is printed of a vector file: the report on its vectors, or the refusal of the file (`BadJson` (9),
+/// `NotHex` (8)).
 #[tactic(auto, unfolding(crate::specs::VectorsReport::vectors_page))]
 pub fn vectors_page(alloc: Global, text: &[u8]) -> Result<Page<ReportLine>, AllocError>
     ensures page { IfOk result (λ page. page_of entry_of page ≡ vectors_page text.now) }

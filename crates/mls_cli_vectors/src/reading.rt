@@ -1,5 +1,5 @@
-//! The vectors of a file, read in one pass. A text that isn't hex is kept as None: a fault of the file's shape that comes
-//! later goes before it.
+//! The vectors of a file, read in one pass. A text that isn't hex is kept as None: a fault of the file's shape that
+//! comes later goes before it.
 
 ghost use Rattle.std.specs.Prelude.{◌≡◌, Err, option_map, string_bytes};
 ghost use Rattle.std.specs.Str.{IsUtf8};

@@ -1,8 +1,8 @@
 //! Calls on large groups, to count what they cost: `tools/count-work` runs this program under callgrind.
 //!
 //! Standard input is a number of members, and then the program grows a group of so many and prints its last stage; or
-//! such a stage, and then it makes the calls, with a line behind each. A stage has three lines: the number of members, and
-//! in hex the Welcome of the last joiner and a commit of member 0 behind the joiner's first commit.
+//! such a stage, and then it makes the calls, with a line behind each. A stage has three lines: the number of
+//! members, and in hex the Welcome of the last joiner and a commit of member 0 behind the joiner's first commit.
 
 use crate::group::{additions, box_candidate, group_of, join_group};
 use anyhow::{Result, bail};
@@ -71,8 +71,8 @@ fn add(alloc: Global, first: &mut Member<Glass>, number: u32) -> Result<Vec<u8>>
     Ok(welcome)
 }
 
-/// Grows a group, and prints its last stage. Member 0 adds each of the others, so that in the end each leaf has committed and
-/// no parent node is blank.
+/// Grows a group, and prints its last stage. Member 0 adds each of the others, so that in the end each leaf has
+/// committed and no parent node is blank.
 fn grow(rt: &impl Print, alloc: Global, members: u32) -> Result<()> {
     println!(rt; "{members}")?;
     let mut first = create_group(alloc)?;

@@ -1,10 +1,10 @@
-//! What is counted and tried of calls from outside. The first word chooses: `growths` plays the scenarios that the other
-//! words name, or all, for `tools/refuse-growths`; `bench` makes calls on large groups, for `tools/count-work`. Without a
-//! word it does both, all scenarios first.
+//! What is counted and tried of calls from outside. The first word chooses: `growths` plays the scenarios that the
+//! other words name, or all, for `tools/refuse-growths`; `bench` makes calls on large groups, for `tools/count-work`.
+//! Without a word it does both, all scenarios first.
 //!
-//! A scenario is a call that takes memory, made twice. Of each it prints what is held before, what the call answers and what
-//! is held after, and the last two again of a second call. Lines around the first call say where it begins and ends, so that
-//! a tool can refuse one growth within it.
+//! A scenario is a call that takes memory, made twice. Of each it prints what is held before, what the call answers
+//! and what is held after, and the last two again of a second call. Lines around the first call say where it begins
+//! and ends, so that a tool can refuse one growth within it.
 #![tactic(auto)]
 
 ghost use Rattle.std.specs.Prelude.{IfOk};

@@ -8,10 +8,11 @@ use mls_model::{Event, Reply};
 use mls_suite::{OutOfMemory, Suite};
 use mls_world::World;
 
-/// Delivers a commit and its Welcome in a world: runs the events, with a reply to each. Let them hand a commit that was made
-/// at a homemade journal to active members with that journal, its maker that has it pending or others that keep the
-/// proposals that it names, and its Welcome to candidates that it adds, each once. Then all of these that the commit doesn't
-/// remove hold one public state, one epoch secret and the nine secrets that it gives: what `run` promises shows it.
+/// Delivers a commit and its Welcome in a world: runs the events, with a reply to each. Let them hand a commit that
+/// was made at a homemade journal to active members with that journal, its maker that has it pending or others that
+/// keep the proposals that it names, and its Welcome to candidates that it adds, each once. Then all of these that
+/// the commit doesn't remove hold one public state, one epoch secret and the nine secrets that it gives: what `run`
+/// promises shows it.
 pub fn deliver_commit<S: Suite>(
     world: &mut World<S>,
     events: &[Event],

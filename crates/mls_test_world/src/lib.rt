@@ -21,9 +21,9 @@ use mls_suite::{OutOfMemory, Suite};
 use mls_world::World;
 use std::alloc::Global;
 
-/// Makes the world that a list of events leaves, with a reply to each. Two of its members that weren't removed, and whose
-/// journals are one homemade journal, hold one epoch secret and the nine secrets that it gives: what `run` promises shows
-/// it, with no proof beside it.
+/// Makes the world that a list of events leaves, with a reply to each. Two of its members that weren't removed, and
+/// whose journals are one homemade journal, hold one epoch secret and the nine secrets that it gives: what `run`
+/// promises shows it, with no proof beside it.
 pub fn run_from_start<S: Suite>(
     alloc: Global,
     events: &[Event],

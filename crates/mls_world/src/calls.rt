@@ -26,8 +26,8 @@ impl<S: Suite> World<S> {
         self.world.candidate(identity, seed)
     }
 
-    /// Creates a group, whose only member the candidate becomes: `NoSuchCandidate` (92), `CandidateSpent` (91), then the
-    /// checks of a creation (RFC 9420, 11). It answers the member's number.
+    /// Creates a group, whose only member the candidate becomes: `NoSuchCandidate` (92), `CandidateSpent` (91), then
+    /// the checks of a creation (RFC 9420, 11). It answers the member's number.
     pub fn create(
         &mut self,
         candidate: usize,
@@ -47,7 +47,8 @@ impl<S: Suite> World<S> {
     /// `NoSuchMessage` (94), decoding, `WrongMessageKind` (95), then the member's checks (RFC 9420, 12.1.1).
     pub fn propose_add(&mut self, member: usize, key_package: &Source) -> Result<usize, WorldError>
         ensures does { ProposesAdd S.crypto self.old self.new member key_package.now result }
-        // `NoSuchMember` (90), `NoSuchMessage` (94), decoding's and `WrongMessageKind` (95) come whatever memory there is.
+        // `NoSuchMember` (90), `NoSuchMessage` (94), decoding's and `WrongMessageKind` (95) come whatever memory
+        // there is.
         ensures outright { RefusesEarly (early_add_checks self.old member key_package.now) result }
         ensures headline { Headline S.crypto self.new }
     {
@@ -55,8 +56,8 @@ impl<S: Suite> World<S> {
         self.world.propose_add(member, key_package)
     }
 
-    /// Proposes a new key for the member's own leaf, and answers the number of the message: `NoSuchMember` (90), then the
-    /// member's checks (RFC 9420, 12.1.2).
+    /// Proposes a new key for the member's own leaf, and answers the number of the message: `NoSuchMember` (90), then
+    /// the member's checks (RFC 9420, 12.1.2).
     pub fn propose_update(&mut self, member: usize, seed: &Seed) -> Result<usize, WorldError>
         ensures does { ProposesUpdate S.crypto self.old self.new member seed.now result }
         // `NoSuchMember` (90) comes whatever memory there is.
@@ -77,9 +78,9 @@ impl<S: Suite> World<S> {
         self.world.propose_remove(member, leaf)
     }
 
-    /// Commits a list, with a path where `path` says so or one is required, and keeps the state that it leads to as pending:
-    /// `NoSuchMember` (90), then in the list's order `NoSuchMessage` (94), decoding, `WrongMessageKind` (95), then the
-    /// member's checks (RFC 9420, 12.4.1). It answers the numbers of the commit and of its Welcome.
+    /// Commits a list, with a path where `path` says so or one is required, and keeps the state that it leads to as
+    /// pending: `NoSuchMember` (90), then in the list's order `NoSuchMessage` (94), decoding, `WrongMessageKind`
+    /// (95), then the member's checks (RFC 9420, 12.4.1). It answers the numbers of the commit and of its Welcome.
     pub fn commit(
         &mut self,
         member: usize,
@@ -108,8 +109,9 @@ impl<S: Suite> World<S> {
         self.world.drop_pending(member)
     }
 
-    /// Delivers a source to a member: `NoSuchMember` (90), `NoSuchMessage` (94), then the member's checks. The world refuses
-    /// no bytes itself. A commit that is followed is a new entry of the member's journal (RFC 9420, 6, 12.1 and 12.4.2).
+    /// Delivers a source to a member: `NoSuchMember` (90), `NoSuchMessage` (94), then the member's checks. The world
+    /// refuses no bytes itself. A commit that is followed is a new entry of the member's journal (RFC 9420, 6, 12.1
+    /// and 12.4.2).
     pub fn deliver(&mut self, member: usize, source: &Source) -> Result<Effect, WorldError>
         ensures does { DeliversTo S.crypto self.old self.new member source.now result }
         // `NoSuchMember` (90) and `NoSuchMessage` (94) come whatever memory there is.
@@ -120,9 +122,10 @@ impl<S: Suite> World<S> {
         self.world.deliver(member, source)
     }
 
-    /// Joins by a Welcome: `NoSuchCandidate` (92), `CandidateSpent` (91), `NoSuchMessage` (94), then the checks of a join
-    /// (RFC 9420, 12.4.3.1). The world refuses no bytes itself. Where the Welcome was made here and its commit adds
-    /// the candidate's own KeyPackage, the journal is the maker's with that commit, else it begins with the GroupInfo.
+    /// Joins by a Welcome: `NoSuchCandidate` (92), `CandidateSpent` (91), `NoSuchMessage` (94), then the checks of a
+    /// join (RFC 9420, 12.4.3.1). The world refuses no bytes itself. Where the Welcome was made here and its commit
+    /// adds the candidate's own KeyPackage, the journal is the maker's with that commit, else it begins with the
+    /// GroupInfo.
     pub fn join(&mut self, candidate: usize, source: &Source) -> Result<NewMember, WorldError>
         ensures does { JoinsBy S.crypto self.old self.new candidate source.now result }
         // `NoSuchCandidate` (92), `CandidateSpent` (91) and `NoSuchMessage` (94) come whatever memory there is.

@@ -6,8 +6,8 @@ use mls_model::{Event, Reply};
 use mls_suite::{OutOfMemory, Suite};
 use mls_world_plain::PlainWorld;
 
-/// Runs the events in order, with a reply to each, up to the first that finds no memory. The room for a reply is made before its
-/// event happens.
+/// Runs the events in order, with a reply to each, up to the first that finds no memory. The room for a reply is made
+/// before its event happens.
 pub(crate) fn push_replies<S: Suite>(
     world: &mut PlainWorld<S>,
     events: &[Event],

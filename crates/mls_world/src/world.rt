@@ -49,8 +49,8 @@ impl<S: Suite> World<S> {
         }
     }
 
-    /// Does what one event says: a refusal is the reply, but for want of memory, at which the world is as before. Of the world that it
-    /// leaves the headline holds.
+    /// Does what one event says: a refusal is the reply, but for want of memory, at which the world is as before. Of
+    /// the world that it leaves the headline holds.
     pub fn step(&mut self, event: &Event) -> Result<Reply, OutOfMemory>
         ensures does { DoesStep S.crypto event.now self.old self.new result }
         // What is decided before anything grows is the reply whatever memory there is.
@@ -61,9 +61,9 @@ impl<S: Suite> World<S> {
         self.world.step(event)
     }
 
-    /// Runs the events in order, with a reply to each; a refusal is a reply. Where one finds no memory, the world and the replies
-    /// are those of the events before it. Of the world that it leaves the headline holds, and of that after each event of the
-    /// list: what members agree on, what they accept, and which keys they have.
+    /// Runs the events in order, with a reply to each; a refusal is a reply. Where one finds no memory, the world and
+    /// the replies are those of the events before it. Of the world that it leaves the headline holds, and of that
+    /// after each event of the list: what members agree on, what they accept, and which keys they have.
     pub fn run(&mut self, events: &[Event], replies: &mut Vec<Reply>) -> Result<(), OutOfMemory>
         ensures run { RunsAll S.crypto events.now self.old self.new replies.old replies.new result }
         ensures headline { Headline S.crypto self.new }
@@ -73,8 +73,8 @@ impl<S: Suite> World<S> {
         push_replies(&mut self.world, events, replies)
     }
 
-    /// Tells what holds of each such world, and does nothing: what members agree on, what they accept, and which keys they
-    /// have.
+    /// Tells what holds of each such world, and does nothing: what members agree on, what they accept, and which keys
+    /// they have.
     pub fn headline(&self)
         ensures { Headline S.crypto self.now }
     {

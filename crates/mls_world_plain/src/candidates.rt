@@ -1,5 +1,5 @@
-//! Candidates, and the groups that they create. Where a call ends early, a candidate is given to `drop`: that is one call,
-//! and the prover doesn't take it apart there.
+//! Candidates, and the groups that they create. Where a call ends early, a candidate is given to `drop`: that is one
+//! call, and the prover doesn't take it apart there.
 
 ghost use Rattle.std.specs.Prelude.{◌≡◌};
 ghost use Rattle.mls_model.specs.World as model;
@@ -89,8 +89,8 @@ impl<S: Suite> PlainWorld<S> {
         }
     }
 
-    /// Creates a group, whose only member the candidate becomes: `NoSuchCandidate` (92), `CandidateSpent` (91), then the
-    /// checks of a creation (RFC 9420, 11). It answers the member's number.
+    /// Creates a group, whose only member the candidate becomes: `NoSuchCandidate` (92), `CandidateSpent` (91), then
+    /// the checks of a creation (RFC 9420, 11). It answers the member's number.
     pub fn create(
         &mut self,
         candidate: usize,

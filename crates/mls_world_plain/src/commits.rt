@@ -146,9 +146,9 @@ impl<S: Suite> PlainWorld<S> {
         }
     }
 
-    /// Commits a list, with a path where `path` says so or one is required, and keeps the state that it leads to as pending:
-    /// `NoSuchMember` (90), then in the list's order `NoSuchMessage` (94), decoding, `WrongMessageKind` (95), then the
-    /// member's checks (RFC 9420, 12.4.1). It answers the numbers of the commit and of its Welcome.
+    /// Commits a list, with a path where `path` says so or one is required, and keeps the state that it leads to as
+    /// pending: `NoSuchMember` (90), then in the list's order `NoSuchMessage` (94), decoding, `WrongMessageKind`
+    /// (95), then the member's checks (RFC 9420, 12.4.1). It answers the numbers of the commit and of its Welcome.
     #[tactic(auto, using(crate::proofs::Committing::nobody))]
     pub fn commit(
         &mut self,

@@ -112,8 +112,9 @@ fn hand_bytes<S: Suite>(
 }
 
 impl<S: Suite> PlainWorld<S> {
-    /// Delivers a source to a member: `NoSuchMember` (90), `NoSuchMessage` (94), then the member's checks. The world refuses
-    /// no bytes itself. A commit that is followed is a new entry of the member's journal (RFC 9420, 6, 12.1 and 12.4.2).
+    /// Delivers a source to a member: `NoSuchMember` (90), `NoSuchMessage` (94), then the member's checks. The world
+    /// refuses no bytes itself. A commit that is followed is a new entry of the member's journal (RFC 9420, 6, 12.1
+    /// and 12.4.2).
     #[tactic(auto, using(crate::proofs::Changing::no_member, crate::proofs::Stores::seat_missing, crate::proofs::Calling::stands_at, crate::proofs::EarlyChecks::delivery_nobody))]
     pub fn deliver(&mut self, member: usize, source: &Source) -> Result<Effect, WorldError>
         ensures does { DeliversTo S.crypto self.old self.new member source.now result }

@@ -86,8 +86,8 @@ impl<S: Suite> PlainWorld<S> {
         first_making_for(&self.made, source, package_of(candidate))
     }
 
-    /// Joins by a Welcome: `NoSuchCandidate` (92), `CandidateSpent` (91), `NoSuchMessage` (94), then the checks of a join
-    /// (RFC 9420, 12.4.3.1). The world decodes nothing. Where the Welcome was made here and its commit adds the
+    /// Joins by a Welcome: `NoSuchCandidate` (92), `CandidateSpent` (91), `NoSuchMessage` (94), then the checks of a
+    /// join (RFC 9420, 12.4.3.1). The world decodes nothing. Where the Welcome was made here and its commit adds the
     /// candidate's own KeyPackage, the journal is the maker's with that commit, else it begins with the GroupInfo.
     pub fn join(&mut self, candidate: usize, source: &Source) -> Result<NewMember, WorldError>
         ensures does { JoinsBy S.crypto self.old self.new candidate source.now result }

@@ -1,5 +1,5 @@
-//! Look-ups of members and candidates, and new members. Where a call ends early, a new member is given to `drop`: that is
-//! one call, and the prover doesn't take it apart there.
+//! Look-ups of members and candidates, and new members. Where a call ends early, a new member is given to `drop`:
+//! that is one call, and the prover doesn't take it apart there.
 
 ghost use Rattle.std.specs.Prelude.{◌≡◌, ◌<◌, length, IfOk, IfErr, OnOk, OnErr};
 ghost use Rattle.mls_model.specs.World as model;

@@ -1,5 +1,5 @@
-//! Proposals of members. A KeyPackage is given to `drop`: that is one call, and the prover doesn't take it apart at each
-//! end.
+//! Proposals of members. A KeyPackage is given to `drop`: that is one call, and the prover doesn't take it apart at
+//! each end.
 
 ghost use Rattle.mls_model.specs.World as model;
 ghost use Rattle.mls_world_plain.specs.CallAnswers.{ProposesAdd, ProposesRemove, ProposesUpdate};
@@ -18,7 +18,8 @@ impl<S: Suite> PlainWorld<S> {
     #[tactic(auto, using(crate::proofs::Stores::seat_found, crate::proofs::Stores::seat_missing, crate::proofs::Stores::seat_set, crate::proofs::Stores::unchanged, crate::proofs::Calling::member_changed, crate::proofs::Readings::wider), unfolding(mls_model::specs::WorldCalls::propose_add_answer))]
     pub fn propose_add(&mut self, member: usize, key_package: &Source) -> Result<usize, WorldError>
         ensures does { ProposesAdd S.crypto self.old self.new member key_package.now result }
-        // `NoSuchMember` (90), `NoSuchMessage` (94), decoding's and `WrongMessageKind` (95) come whatever memory there is.
+        // `NoSuchMember` (90), `NoSuchMessage` (94), decoding's and `WrongMessageKind` (95) come whatever memory
+        // there is.
         ensures outright { RefusesEarly (early_add_checks self.old member key_package.now) result }
     {
         self.require_member(member)?;
@@ -39,8 +40,8 @@ impl<S: Suite> PlainWorld<S> {
         Ok(message)
     }
 
-    /// Proposes a new key for the member's own leaf, and answers the number of the message: `NoSuchMember` (90), then the
-    /// member's checks (RFC 9420, 12.1.2).
+    /// Proposes a new key for the member's own leaf, and answers the number of the message: `NoSuchMember` (90), then
+    /// the member's checks (RFC 9420, 12.1.2).
     #[tactic(auto, using(crate::proofs::Stores::seat_found, crate::proofs::Stores::seat_missing, crate::proofs::Stores::seat_set, crate::proofs::Stores::unchanged, crate::proofs::Calling::member_changed, crate::proofs::Readings::wider), unfolding(mls_model::specs::WorldCalls::propose_update_answer))]
     pub fn propose_update(&mut self, member: usize, seed: &Seed) -> Result<usize, WorldError>
         ensures does { ProposesUpdate S.crypto self.old self.new member seed.now result }
