@@ -102,7 +102,8 @@ pub fn is_hex_file(text: &[u8]) -> bool
     is_hex(before_blanks(after_blanks(text)))
 }
 
-/// The bytes that a file's hex digits stand for. A text that isn't hex is refused (8) also when an allocation fails.
+/// Reads the bytes that a file's hex digits stand for. A text that isn't hex is refused (`NotHex` (8)) even when an
+/// allocation fails.
 pub fn file_bytes(alloc: Global, text: &[u8]) -> Result<Vec<u8>, FileError>
     ensures bytes { IfOk result (λ bytes. bytes_in text.now ≡ Some bytes.items) }
     ensures other { bytes_in text.now ≡ None → result ≡ Err FileError.NotHex }

@@ -50,7 +50,7 @@ AreApart (Deliver k x) (Deliver l y) = k ≢ l
 AreApart (Join m x) (Join n y) = m ≢ n
 AreApart other another = Unit {0}
 
--- and so are any two of a list
+-- any two events of a list are for two members, or for two candidates
 unfoldable pub EachOnce : List Event → Type 0
 EachOnce [] = Unit {0}
 EachOnce (e ∷ es) = AllByRecursion (AreApart e) es × EachOnce es

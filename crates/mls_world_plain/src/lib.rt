@@ -1,8 +1,9 @@
 //! What each event does in a world of members (RFC 9420, 11 and 12), whatever world that is.
 #![tactic(auto)]
 
-mod commit_adds;
 mod candidates;
+mod commit_adds;
+mod commit_names;
 mod commits;
 mod deliveries;
 mod entry;
@@ -11,7 +12,6 @@ mod events;
 mod joins;
 mod journal;
 mod members;
-mod commit_names;
 mod proposals;
 mod seats;
 mod sources;

@@ -1,31 +1,51 @@
-//! Small groups "g" over Glass. A seed is one byte, 32 times.
+//! Groups over Glass: what grows any of them, and the small groups "g" of the scenarios, where a seed is one byte, 32
+//! times.
 
 ghost use Rattle.std.specs.Prelude.{IfOk};
 ghost use Rattle.mls_member.specs.Answers.{AreShortItems};
-ghost use Rattle.mls_growths.specs.Calls.{IsShortCall};
+ghost use Rattle.mls_probe.specs.Calls.{IsShortCall};
 
 use crate::call::{Answer, Call, addition, answer_of};
 use anyhow::{Result, bail};
-use mls_kdf::Secret;
+use mls_kdf::{Secret, Seed};
 use mls_member::{Candidate, Effect, Item, Joined, Made, Member};
 use mls_suite::Glass;
 use std::alloc::Global;
 
-/// A candidate with a name of one byte, in a box, whose drop is one call for the prover.
-pub(crate) fn candidate(alloc: Global, name: u8, seed: u8) -> Result<Box<Candidate<Glass>>> {
-    let candidate = Candidate::new(alloc, &[name], &[seed; 32])?;
+/// Makes a candidate in a box, whose drop is one call for the prover.
+pub(crate) fn box_candidate(
+    alloc: Global,
+    identity: &[u8],
+    seed: &Seed,
+) -> Result<Box<Candidate<Glass>>> {
+    let candidate = Candidate::new(alloc, identity, seed)?;
     Ok(Box::new(alloc, candidate)?)
 }
 
-/// A member in a box.
+/// Makes a candidate with a name of one byte.
+pub(crate) fn candidate(alloc: Global, name: u8, seed: u8) -> Result<Box<Candidate<Glass>>> {
+    box_candidate(alloc, &[name], &[seed; 32])
+}
+
+/// Puts a member in a box.
 fn box_member(alloc: Global, member: Member<Glass>) -> Result<Box<Member<Glass>>> {
     Ok(Box::new(alloc, member)?)
 }
 
-/// The member "a" alone.
+/// Makes the group of a candidate, its only member.
+pub(crate) fn group_of(
+    alloc: Global,
+    creator: &Candidate<Glass>,
+    group: &[u8],
+    seed: &Seed,
+) -> Result<Box<Member<Glass>>> {
+    box_member(alloc, Member::create(alloc, creator, group, seed)?)
+}
+
+/// Makes the group of the member "a" alone.
 pub(crate) fn create_group(alloc: Global) -> Result<Box<Member<Glass>>> {
     let first = candidate(alloc, b'a', 1)?;
-    box_member(alloc, Member::create(alloc, &first, b"g", &[2; 32])?)
+    group_of(alloc, &first, b"g", &[2; 32])
 }
 
 /// The Welcome of a commit that adds somebody.
@@ -81,8 +101,8 @@ fn add_two(
     welcome_of(commit_and_follow(member, &items)?)
 }
 
-/// The member that a candidate becomes by a Welcome.
-fn join_group(
+/// Makes the member that a candidate becomes by a Welcome.
+pub(crate) fn join_group(
     alloc: Global,
     candidate: &Candidate<Glass>,
     welcome: &[u8],

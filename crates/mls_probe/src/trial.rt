@@ -1,6 +1,6 @@
 //! A call made twice.
 
-ghost use Rattle.mls_growths.specs.Calls.{IsShortCall};
+ghost use Rattle.mls_probe.specs.Calls.{IsShortCall};
 
 use crate::call::{Call, answer_of};
 use crate::page::{print_answer, print_candidate, print_joined, print_member};

@@ -1,15 +1,12 @@
 //! Calls on large groups, to count what they cost: `tools/count-work` runs this program under callgrind.
 //!
 //! Standard input is a number of members, and then the program grows a group of so many and prints its last stage; or
-//! such a stage, and then it makes the calls, with a line behind each. A stage has three lines: the number of members, and
-//! in hex the Welcome of the last joiner and a commit of member 0 behind the joiner's first commit.
-#![tactic(auto)]
+//! such a stage, and then it makes the calls, with a line behind each. A stage has three lines: the number of
+//! members, and in hex the Welcome of the last joiner and a commit of member 0 behind the joiner's first commit.
 
-ghost use Rattle.std.specs.Prelude.{IfOk};
-ghost use Rattle.mls_member.specs.Answers.{IsShortItem, AreShortItems};
-
+use crate::group::{additions, box_candidate, group_of, join_group};
 use anyhow::{Result, bail};
-use mls_member::{Candidate, Item, Made, Member};
+use mls_member::{Candidate, Made, Member};
 use mls_suite::Glass;
 use std::alloc::Global;
 use std::io;
@@ -47,44 +44,16 @@ fn seed(purpose: Purpose, number: u32) -> [u8; 32] {
     seed
 }
 
-/// The proposal that adds a candidate.
-fn addition(candidate: &Candidate<Glass>) -> Result<Item>
-    ensures { IfOk result IsShortItem }
-{
-    Ok(Item::Full(candidate.addition()?))
-}
-
-/// The list of a commit that adds a candidate.
-fn additions(alloc: Global, candidate: &Candidate<Glass>) -> Result<Vec<Item>>
-    ensures { IfOk result (λ items. AreShortItems items.items) }
-{
-    let mut items = Vec::new(alloc);
-    items.push(addition(candidate)?)?;
-    Ok(items)
-}
-
-/// A candidate in a box, whose drop is one call for the prover, as is that of a member in one.
+/// Makes the candidate of a number.
 fn candidate(alloc: Global, number: u32) -> Result<Box<Candidate<Glass>>> {
     let identity = number.to_be_bytes();
-    let candidate = Candidate::new(alloc, &identity, &seed(Purpose::Candidate, number))?;
-    Ok(Box::new(alloc, candidate)?)
+    box_candidate(alloc, &identity, &seed(Purpose::Candidate, number))
 }
 
-/// Member 0 of a new group.
+/// Makes a new group of member 0.
 fn create_group(alloc: Global) -> Result<Box<Member<Glass>>> {
     let creator = candidate(alloc, 0)?;
-    let member = Member::create(alloc, &creator, b"bench", &seed(Purpose::Group, 0))?;
-    Ok(Box::new(alloc, member)?)
-}
-
-/// The member that a candidate becomes by a Welcome.
-fn joined_member(
-    alloc: Global,
-    candidate: &Candidate<Glass>,
-    welcome: &[u8],
-) -> Result<Box<Member<Glass>>> {
-    let joined_member = Member::join(alloc, candidate, welcome)?;
-    Ok(Box::new(alloc, joined_member.member)?)
+    group_of(alloc, &creator, b"bench", &seed(Purpose::Group, 0))
 }
 
 /// Member 0 adds another, who joins and commits with a path. It answers the Welcome.
@@ -96,14 +65,14 @@ fn add(alloc: Global, first: &mut Member<Glass>, number: u32) -> Result<Vec<u8>>
         bail!("nobody is welcome");
     };
     first.process(&commit)?;
-    let mut joined_member = joined_member(alloc, &candidate, &welcome)?;
-    let made = joined_member.commit(&[], true, &seed(Purpose::Renewal, number))?;
+    let mut joiner = join_group(alloc, &candidate, &welcome)?;
+    let made = joiner.commit(&[], true, &seed(Purpose::Renewal, number))?;
     first.process(&made.commit)?;
     Ok(welcome)
 }
 
-/// Grows a group, and prints its last stage. Member 0 adds each of the others, so that in the end each leaf has committed and
-/// no parent node is blank.
+/// Grows a group, and prints its last stage. Member 0 adds each of the others, so that in the end each leaf has
+/// committed and no parent node is blank.
 fn grow(rt: &impl Print, alloc: Global, members: u32) -> Result<()> {
     println!(rt; "{members}")?;
     let mut first = create_group(alloc)?;
@@ -144,11 +113,11 @@ fn call_joiner(
     let Some(welcome) = welcome else {
         bail!("nobody is welcome");
     };
-    let joined_member = joined_member(alloc, &newcomer, &welcome)?;
+    let joiner = join_group(alloc, &newcomer, &welcome)?;
     println!(rt;
         "join by that: leaf {} in epoch {}",
-        joined_member.leaf_index(),
-        joined_member.epoch_number()
+        joiner.leaf_index(),
+        joiner.epoch_number()
     )?;
     Ok(())
 }
@@ -157,7 +126,7 @@ fn call_joiner(
 fn call(rt: &impl Print, alloc: Global, number: u32, welcome: &[u8], far: &[u8]) -> Result<()> {
     let candidate = candidate(alloc, number)?;
     println!(rt; "before: member {number}")?;
-    let mut member = joined_member(alloc, &candidate, welcome)?;
+    let mut member = join_group(alloc, &candidate, welcome)?;
     println!(rt; "join: leaf {}", member.leaf_index())?;
     call_member(rt, &mut member, number, far)?;
     let next = number.saturating_add(1);
@@ -185,8 +154,9 @@ fn serve(rt: &impl Print, alloc: Global, text: &str) -> Result<()> {
     call(rt, alloc, members.saturating_sub(1), &welcome, &far)
 }
 
-fn main(rt: HostRuntime) -> Result<()> {
+/// Does what standard input asks for.
+pub(crate) fn serve_input(rt: &HostRuntime) -> Result<()> {
     let alloc = rt.alloc();
     let text = io::read_to_string(alloc, rt.stdin())?;
-    serve(&rt, alloc, text.as_str())
+    serve(rt, alloc, text.as_str())
 }

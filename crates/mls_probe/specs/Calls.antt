@@ -1,6 +1,6 @@
 -- The calls on a member that its contracts allow.
-use Rattle.mls_growths.specs.declared.call.Call.{Call}
-use Rattle.mls_growths.specs.declared.call.Call.TheVariants.{Commit, Process, ProposeAdd, ProposeUpdate, ProposeRemove}
+use Rattle.mls_probe.specs.declared.call.Call.{Call}
+use Rattle.mls_probe.specs.declared.call.Call.TheVariants.{Commit, Process, ProposeAdd, ProposeUpdate, ProposeRemove}
 use Rattle.mls_member.specs.Answers.{AreShortItems}
 
 -- a commit's proposals in full are short

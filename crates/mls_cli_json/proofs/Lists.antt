@@ -1,13 +1,13 @@
--- Lists, read one by one.
+-- Lists in JSON, read value by value.
 use Rattle.std.proofs.Common.{◌≡◌, ◌<◌, ◌++◌, ◌∷◌, [], ◌+◌, ◌∙◌, ◌&&◌, ℕ, suc, Bool, true, false, List, Option, Some, None, option_map, option_to_list, is_some, map, drop, length, get_or, refl, ap, sym, append_assoc, drop-cons, add-one}
 use Rattle.std.proofs.lemmas.List.{map-append}
 use Rattle.serde_json.specs.Data.{Data, Items, item}
 use Rattle.serde_json.specs.View.{view, items_view}
 use Rattle.serde_json.specs.declared.value.Value.{Value}
 use Rattle.mls_cli_json.specs.Json.{◌>>=◌}
-use Rattle.mls_cli_recording.specs.Recording.{each_of, prepend_if_hex}
+use Rattle.mls_cli_json.specs.Lists.{each_of, prepend_if_hex}
 
--- those read so far, and more
+-- the values read so far, and those behind them
 abbrev pub joined : {X : Type 0} → Bool → List X → Option (List X) → Option (List X)
 joined false front more = None
 joined true front None = None

@@ -1,10 +1,11 @@
 //! The scenarios: a state, and the call that is made in it.
 
-ghost use Rattle.mls_growths.specs.Calls.{IsShortCall};
+ghost use Rattle.mls_probe.specs.Calls.{IsShortCall};
 
 use crate::call::Call;
 use crate::group::{
-    Committed, Trio, Updated, additions, create_group, candidate, items_naming, reference_of, welcome_of,
+    Committed, Trio, Updated, additions, candidate, create_group, items_naming, reference_of,
+    welcome_of,
 };
 use crate::trial::{try_call, try_join};
 use crate::worlds::try_run;

@@ -2,7 +2,7 @@
 
 ghost use Rattle.std.specs.Prelude.{IfOk};
 ghost use Rattle.mls_member.specs.Answers.{IsShortItem};
-ghost use Rattle.mls_growths.specs.Calls.{IsShortCall};
+ghost use Rattle.mls_probe.specs.Calls.{IsShortCall};
 
 use anyhow::Result;
 use mls_kdf::Seed;
