@@ -1,5 +1,6 @@
--- The numbers and names of a group's refusals.
-use Rattle.std.specs.Prelude.{ℕ, List, codes}
+-- The numbers and names of a group's refusals, and what calls promise by these numbers.
+use Rattle.std.specs.Prelude.{ℕ, List, Result, codes}
+use Rattle.mls_wire.specs.Checks.{Answers, Passed, passed}
 use Rattle.mls_tree.specs.Faults.{number_of as number_of_tree, name_of as name_of_tree}
 use Rattle.mls_checks.specs.Faults.{number_of as number_of_check, name_of as name_of_check}
 use Rattle.mls_public_group.specs.declared.error.GroupError.{GroupError}
@@ -20,3 +21,12 @@ name_of (Check e) = name_of_check e
 name_of CommitterUpdate = codes "CommitterUpdate"
 name_of CommitterRemoved = codes "CommitterRemoved"
 name_of SameLeafTwice = codes "SameLeafTwice"
+
+-- A call answers what the definition does, or refuses with its number. Where memory was refused it says nothing.
+abbrev pub Gives : {A : Type 0} → Result A ℕ → Result A GroupError → Type 0
+Gives defined result = Answers (λ x. x) number_of defined result
+
+-- These checks pass, or the call refuses with the number of the first that fails. Where memory was refused it says
+-- nothing.
+abbrev pub Passes : {A : Type 0} → Result Passed ℕ → Result A GroupError → Type 0
+Passes checks result = Answers (λ _. passed) number_of checks result

@@ -1,9 +1,12 @@
 pub mod Faults
 pub mod Names
+pub mod MessageLimit
 pub mod Short
 pub mod Codes
 pub mod PublicCodes
 pub mod Numbers
+pub mod PublicState
+pub mod ProposalChecks
 pub mod ProposalList
 pub mod NextTree
 pub mod ShortProposal

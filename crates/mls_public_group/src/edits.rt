@@ -1,16 +1,15 @@
 //! The edits of a commit: updates, then removes, then adds (RFC 9420, 12.3).
 
-ghost use Rattle.std.specs.Prelude.{◌≤◌, ◌^◌, ℕ, IfOk};
-ghost use Rattle.mls_wire.specs.Checks.{Answers, passed};
+ghost use Rattle.std.specs.Prelude.{◌^◌, IfOk};
 ghost use Rattle.mls_model.specs.Commit.{apply_proposals};
 ghost use Rattle.mls_public_group.specs.ProposalList.{edited_tree_checks};
-ghost use Rattle.mls_public_group.specs.Faults.{number_of};
-ghost use Rattle.mls_public_group.specs.Short.{AreBelow, HasLeavesBelow};
+ghost use Rattle.mls_public_group.specs.Faults.{Gives, Passes};
+ghost use Rattle.mls_public_group.specs.Short.{AreBelow, HasLeavesShortAs};
 
-use crate::proposal_list::edit_tree;
 use crate::changed_leaves::check_proposal_list;
 use crate::error::GroupError;
 use crate::group::PublicGroup;
+use crate::proposal_list::edit_tree;
 use crate::references::has_distinct_references;
 use crate::shared_tree::SharedTree;
 use crate::used_proposal::Used;
@@ -45,7 +44,7 @@ impl Model for Edits {
 #[tactic(auto, unfolding(crate::specs::ProposalList::edited_tree_checks))]
 fn require_distinct(alloc: Global, edits: &Edits, used: &[Used<'_>]) -> Result<(), GroupError>
     requires { AreBelow (2 ^ 28) used.now }
-    ensures { Answers (λ _. passed) number_of (edited_tree_checks edits.now used.now) result }
+    ensures { Passes (edited_tree_checks edits.now used.now) result }
 {
     if !edits.tree.as_tree().has_distinct_clients() {
         return Err(GroupError::Tree(TreeError::ClientRepeated));
@@ -71,9 +70,9 @@ impl PublicGroup {
         used: &[Used<'_>],
     ) -> Result<Edits, GroupError>
         requires { AreBelow (2 ^ 28) used.now }
-        ensures answer { Answers (λ e. e) number_of (apply_proposals S.crypto self.now committer used.now) result }
+        ensures answer { Gives (apply_proposals S.crypto self.now committer used.now) result }
         // Its leaves are as short as the group's and the proposals.
-        ensures below { IfOk result (λ e. (n : ℕ) → 2 ^ 27 ≤ n → AreBelow n used.now → HasLeavesBelow n e.tree) }
+        ensures below { IfOk result (λ e. HasLeavesShortAs used.now e.tree) }
     {
         self.require_full::<S>(alloc, used)?;
         check_proposal_list(alloc, committer, used)?;
