@@ -3,4 +3,5 @@ pub mod Names
 pub mod Codes
 pub mod Change
 pub mod PathChecks
+pub mod PathMerge
 pub mod Received
