@@ -1,5 +1,6 @@
--- The numbers and names of these refusals.
-use Rattle.std.specs.Prelude.{ℕ, List, codes}
+-- The numbers and names of these refusals, and what calls promise by these numbers.
+use Rattle.std.specs.Prelude.{ℕ, List, Result, codes}
+use Rattle.mls_wire.specs.Checks.{Answers}
 use Rattle.mls_leaf.specs.Faults.{number_of as number_of_leaf, name_of as name_of_leaf}
 use Rattle.mls_candidate.specs.declared.error.CandidateError.{CandidateError}
 use Rattle.mls_candidate.specs.declared.error.CandidateError.TheVariants.{Leaf, InitKeySame}
@@ -13,3 +14,7 @@ number_of InitKeySame = 57
 abbrev pub name_of : CandidateError → List ℕ
 name_of (Leaf e) = name_of_leaf e
 name_of InitKeySame = codes "InitKeySame"
+
+-- A call answers what the definition does, or refuses with its number. Where memory was refused it says nothing.
+abbrev pub Gives : {A : Type 0} → Result A ℕ → Result A CandidateError → Type 0
+Gives defined result = Answers (λ x. x) number_of defined result

@@ -1,3 +1,4 @@
 pub mod Faults
+pub mod Leaves
 pub mod Names
 pub mod Short
