@@ -15,7 +15,7 @@ ghost use Rattle.mls_schedule.specs.Epoch.{init_secret, joiner_secret, epoch_sec
 ghost use Rattle.mls_model.specs.Member as model;
 ghost use Rattle.mls_model.specs.Messages.{content_by, content_signature, message_by};
 ghost use Rattle.mls_commit.specs.Change.{change_of};
-ghost use Rattle.mls_message.specs.Sending.{limited_text, FitsIfShort};
+ghost use Rattle.mls_public_group.specs.MessageLimit.{limited_text, FitsIfShort};
 ghost use Rattle.mls_message.specs.Speaks.{Speaks};
 ghost use Rattle.mls_make.specs.Faults.{number_of};
 ghost use Rattle.mls_make.specs.TwoSteps.{sent_as, send_commit};

@@ -9,11 +9,7 @@ use Rattle.mls_types.specs.Signed.{signed_content}
 use Rattle.mls_types.specs.declared.signed.SignedContent.{SignedContent}
 use Rattle.mls_model.specs.Member.{Member}
 use Rattle.mls_model.specs.Messages.{message_by}
-use Rattle.mls_message.specs.Sending.{limited_text}
-
--- the text is larger than a message may be, and refused with 6, memory aside
-abbrev pub IsLong : List ℕ → LeafError → Type 0
-IsLong text e = number_of e ≢ 1 → (number_of e ≡ 6) × (input_limit < length text)
+use Rattle.mls_public_group.specs.MessageLimit.{limited_text}
 
 -- FramedContentTBS (RFC 9420, 6.1): version 1, wire format 1, the spellings of the FramedContent and of the GroupContext
 abbrev pub signed_pieces : List ℕ → List ℕ → List ℕ

@@ -9,14 +9,6 @@ use Rattle.mls_types.specs.declared.content.FramedContent.{FramedContent}
 use Rattle.mls_model.specs.Member.{Member}
 use Rattle.mls_model.specs.Messages.{is_within_limit, message_by}
 
--- a text that was made, where it isn't larger than a message may be (6)
-abbrev pub limited_text : List ℕ → Result (List ℕ) ℕ
-limited_text bytes = is_within_limit bytes >> Ok bytes
-
--- a value whose numbers are in range: it has a spelling where that would be short
-abbrev pub FitsIfShort : {V : Type 0} → Format V → V → Type 0
-FitsIfShort format v = length (format.spell v) < 2 ^ 30 → format.Fits v
-
 -- whatever its signature and its confirmation tag are, the message of a content is refused with this number, memory aside
 abbrev pub IsRefused : Member → FramedContent → LeafError → Type 0
 IsRefused m said e = number_of e ≢ 1 → (signature tag : List ℕ) → is_within_limit (message_by m (signed_with said signature tag)) ≡ Err (number_of e)

@@ -10,7 +10,8 @@ ghost use Rattle.mls_types.specs.SignedParts.{signed_with};
 ghost use Rattle.mls_model.specs.Member as model;
 ghost use Rattle.mls_model.specs.Messages.{content_by, content_signature, message_by};
 ghost use Rattle.mls_message.specs.Pieces.{signed_pieces};
-ghost use Rattle.mls_message.specs.Sending.{limited_text, FitsIfShort, IsRefused};
+ghost use Rattle.mls_public_group.specs.MessageLimit.{limited_text, FitsIfShort};
+ghost use Rattle.mls_message.specs.Sending.{IsRefused};
 ghost use Rattle.mls_message.specs.Speaks.{Speaks};
 
 use crate::limits::spell_within_limit;

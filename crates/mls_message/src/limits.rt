@@ -5,8 +5,7 @@ ghost use Rattle.mls_wire.specs.Format.{IsBytes};
 ghost use Rattle.mls_wire.specs.Reading.{opaque};
 ghost use Rattle.mls_leaf.specs.Faults.{Spells, number_of};
 ghost use Rattle.mls_leaf.specs.Limits.{input_limit};
-ghost use Rattle.mls_message.specs.Pieces.{IsLong};
-ghost use Rattle.mls_message.specs.Sending.{FitsIfShort};
+ghost use Rattle.mls_public_group.specs.MessageLimit.{IsLong, FitsIfShort};
 
 use mls_kdf::content_header;
 use mls_leaf::{Codec, INPUT_LIMIT, LeafError};

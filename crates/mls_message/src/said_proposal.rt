@@ -10,7 +10,8 @@ ghost use Rattle.mls_types.specs.declared.content.Content.TheVariants as says;
 ghost use Rattle.mls_model.specs.Member as model;
 ghost use Rattle.mls_model.specs.Messages.{content_by, content_signature, message_by, reference_of};
 ghost use Rattle.mls_model.specs.Propose.{proposal_by};
-ghost use Rattle.mls_message.specs.Sending.{limited_text, IsRefused};
+ghost use Rattle.mls_public_group.specs.MessageLimit.{limited_text};
+ghost use Rattle.mls_message.specs.Sending.{IsRefused};
 ghost use Rattle.mls_message.specs.Speaks.{Speaks};
 
 use crate::framed::{Framed, sign};

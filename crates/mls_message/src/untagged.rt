@@ -9,7 +9,7 @@ ghost use Rattle.mls_schedule.specs.Epoch.{membership_tag};
 ghost use Rattle.mls_model.specs.Member as model;
 ghost use Rattle.mls_model.specs.Messages.{content_tag, message_by, reference_of};
 ghost use Rattle.mls_message.specs.Pieces.{untagged, IsUntagged, IsTooLarge};
-ghost use Rattle.mls_message.specs.Sending.{limited_text};
+ghost use Rattle.mls_public_group.specs.MessageLimit.{limited_text};
 ghost use Rattle.mls_message.specs.Speaks.{Speaks};
 
 use crate::limits::{know_bytes, require_room, vector_length};

@@ -6,7 +6,8 @@ ghost use Rattle.mls_types.specs.GroupInfo.{group_info, group_info_tbs};
 ghost use Rattle.mls_suite.specs.Labels.{sign_with_label};
 ghost use Rattle.mls_model.specs.Welcome.{unsigned_info, signed_info};
 ghost use Rattle.mls_welcome.specs.Faults.{number_of};
-ghost use Rattle.mls_welcome.specs.Ranges.{IsRanged, limited_text};
+ghost use Rattle.mls_public_group.specs.MessageLimit.{limited_text};
+ghost use Rattle.mls_welcome.specs.Ranges.{IsRanged};
 
 use crate::error::WelcomeError;
 use crate::limits::{is_within_limit, spell_within_limit};

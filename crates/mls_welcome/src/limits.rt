@@ -5,7 +5,7 @@ ghost use Rattle.mls_leaf.specs.Limits.{input_limit};
 ghost use Rattle.mls_wire.specs.Checks.{Answers, AnswersOutright, passed};
 ghost use Rattle.mls_model.specs.Messages.{is_within_limit};
 ghost use Rattle.mls_welcome.specs.Faults.{number_of};
-ghost use Rattle.mls_welcome.specs.Ranges.{FitsIfShort, limited_text};
+ghost use Rattle.mls_public_group.specs.MessageLimit.{FitsIfShort, limited_text};
 
 use crate::error::WelcomeError;
 use mls_leaf::{Codec, INPUT_LIMIT, LeafError};

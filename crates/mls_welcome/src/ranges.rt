@@ -7,7 +7,7 @@ ghost use Rattle.mls_wire.specs.Combine.{optional};
 ghost use Rattle.mls_leaf.specs.Leaf.{leaf_node, leaf_source, capabilities};
 ghost use Rattle.mls_leaf.specs.Node.{node};
 ghost use Rattle.mls_leaf.specs.ParentNode.{parent_node};
-ghost use Rattle.mls_welcome.specs.Ranges.{FitsIfShort};
+ghost use Rattle.mls_public_group.specs.MessageLimit.{FitsIfShort};
 
 use mls_leaf::{Capabilities, LeafNode, LeafSource, Node, ParentNode};
 use mls_tree_slot::Slot;
