@@ -1,19 +1,15 @@
 //! What a candidate does with a Welcome.
 
 ghost use Rattle.std.specs.Prelude.{◌^◌};
-ghost use Rattle.mls_wire.specs.Checks.{Answers};
 ghost use Rattle.mls_leaf.specs.KeyPackage.{key_package};
-ghost use Rattle.mls_types.specs.GroupContext.{group_context};
 ghost use Rattle.mls_types.specs.GroupInfo.{group_info};
 ghost use Rattle.mls_tree.specs.Refusals.{RefusesOutright};
 ghost use Rattle.mls_tree.specs.Tree.{term};
 ghost use Rattle.mls_public_group.specs.Short.{IsBelow, HasLeavesBelow};
-ghost use Rattle.mls_model.specs.Candidate as model;
 ghost use Rattle.mls_model.specs.Join.{member_of, join_verdict};
-ghost use Rattle.mls_join.specs.Entrance.{joined_by, outer_checks};
+ghost use Rattle.mls_join.specs.Entrance.{outer_checks, EntersGroup, Joins};
 ghost use Rattle.mls_join.specs.Faults.{number_of};
 ghost use Rattle.mls_join.specs.Parts.{opened_by};
-ghost use Rattle.mls_join.specs.Stages.{enter_group};
 
 use crate::error::JoinError;
 use crate::keys::{joined_keys, place_of};
@@ -51,7 +47,7 @@ fn enter_group(
 ) -> Result<Entrance, JoinError>
     requires short { IsBelow (2 ^ 27) group_info opened.info }
     requires leaves { HasLeavesBelow (2 ^ 27) (term tree) }
-    ensures { (k : model.Candidate) → Answers (joined_by k) number_of (enter_group k (opened_by opened) (term tree) keys) result }
+    ensures { EntersGroup opened (term tree) keys result }
 {
     let Opened {
         joiner,
@@ -87,7 +83,7 @@ fn member_of<S: Suite>(
 ) -> Result<Entrance, JoinError>
     requires offered { IsBelow (2 ^ 27) key_package candidate.now.offered }
     requires short { IsBelow (2 ^ 27) group_info opened.info }
-    ensures { Answers (joined_by candidate.now) number_of (member_of S.crypto candidate.now (opened_by opened)) result }
+    ensures { Joins candidate.now (member_of S.crypto candidate.now (opened_by opened)) result }
 {
     let tree = joined_tree::<S>(&opened.info)?;
     signer_checks::<S>(alloc, candidate, &opened.info, &tree)?;
@@ -117,7 +113,7 @@ pub fn join<S: Suite>(
     candidate: &Candidate<S>,
     bytes: &[u8],
 ) -> Result<Entrance, JoinError>
-    ensures answer { Answers (joined_by candidate.now) number_of (join_verdict S.crypto candidate.now bytes.now) result }
+    ensures answer { Joins candidate.now (join_verdict S.crypto candidate.now bytes.now) result }
     // Decoding, 70 and 71 of the Welcome come also when an allocation fails.
     ensures outright { RefusesOutright number_of (outer_checks S.crypto.number bytes.now) result }
 {

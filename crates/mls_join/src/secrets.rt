@@ -1,13 +1,13 @@
 //! What is sealed in a candidate's entry of a Welcome (RFC 9420, 12.4.3.1).
 
 ghost use Rattle.std.specs.Prelude.{◌<◌, ◌^◌, length};
-ghost use Rattle.mls_wire.specs.Checks.{Answers, AnswersOutright};
+ghost use Rattle.mls_wire.specs.Checks.{AnswersOutright};
 ghost use Rattle.mls_leaf.specs.Faults.{whole};
 ghost use Rattle.mls_leaf.specs.Limits.{input_limit};
 ghost use Rattle.mls_types.specs.Welcome.{group_secrets};
 ghost use Rattle.mls_model.specs.OpenedWelcome.{or_fault, opened_secrets};
-ghost use Rattle.mls_join.specs.Faults.{number_of};
-ghost use Rattle.mls_join.specs.Parts.{secrets_by};
+ghost use Rattle.mls_join.specs.Faults.{number_of, Gives, GivesBytes};
+ghost use Rattle.mls_join.specs.Parts.{secrets_by, OpensSecrets};
 ghost use Rattle.mls_join.specs.Stages.{secret_of_32, optional_secret_of_32, check_secret_lengths, decrypt_group_secrets};
 
 use crate::error::JoinError;
@@ -66,7 +66,7 @@ fn check_secret_lengths(secrets: GroupSecrets) -> Result<Secrets, JoinError>
 
 /// The GroupSecrets that opened bytes are: 73.
 fn secrets_in(alloc: Global, bytes: &[u8]) -> Result<GroupSecrets, JoinError>
-    ensures { Answers (λ v. v) number_of (or_fault 73 (whole group_secrets input_limit bytes.now)) result }
+    ensures { Gives (or_fault 73 (whole group_secrets input_limit bytes.now)) result }
 {
     match GroupSecrets::decode(alloc, bytes) {
         Ok(secrets) => Ok(secrets),
@@ -85,7 +85,7 @@ fn decrypt_group_secrets<S: Suite>(
     sealed: &HpkeCiphertext,
 ) -> Result<Vec<u8>, JoinError>
     requires { length info.now < 2 ^ 30 }
-    ensures { Answers (λ v. v.items) number_of (decrypt_group_secrets S.crypto candidate.now info.now sealed.now) result }
+    ensures { GivesBytes (decrypt_group_secrets S.crypto candidate.now info.now sealed.now) result }
 {
     let opened = decrypt_with_label::<S>(
         alloc,
@@ -111,7 +111,7 @@ pub(crate) fn opened_secrets<S: Suite>(
     entry: &EncryptedGroupSecrets,
 ) -> Result<Secrets, JoinError>
     requires { length welcome.now.encrypted_group_info < 2 ^ 30 }
-    ensures { Answers secrets_by number_of (opened_secrets S.crypto candidate.now welcome.now entry.now) result }
+    ensures { OpensSecrets (opened_secrets S.crypto candidate.now welcome.now entry.now) result }
 {
     let info = welcome.encrypted_group_info.as_slice();
     let bytes = decrypt_group_secrets::<S>(alloc, candidate, info, &entry.encrypted_group_secrets)?;

@@ -1,6 +1,6 @@
 //! The tree of the group that a candidate enters (RFC 9420, 12.4.3.1 and 12.4.3.3).
 
-ghost use Rattle.std.specs.Prelude.{◌≡◌, ◌^◌, IfOk};
+ghost use Rattle.std.specs.Prelude.{◌^◌, IfOk};
 ghost use Rattle.mls_wire.specs.Checks.{Answers};
 ghost use Rattle.mls_types.specs.GroupInfo.{group_info, ratchet_tree};
 ghost use Rattle.mls_tree_model.specs.Arrays.{from_nodes};

@@ -1,6 +1,6 @@
 pub mod Faults
 pub mod Names
 pub mod CommitSteps
-pub mod CommitCall
-pub mod OwnPath
 pub mod TwoSteps
+pub mod OwnPath
+pub mod CommitCall

@@ -1,12 +1,12 @@
 //! What a member makes by a commit (RFC 9420, 12.4.1).
 #![tactic(auto)]
 
+mod commit_welcome;
 mod error;
 mod laws;
 mod new_commit;
 mod own_path;
 mod send_commit;
-mod commit_welcome;
 
 pub use error::MakeError;
 pub use laws::make_names_by_number;

@@ -1,16 +1,14 @@
 //! A signed content, spelled as its message up to the membership tag (RFC 9420, 6 and 6.2).
 
-ghost use Rattle.std.specs.Prelude.{◌≡◌, ◌++◌, ◌<◌, length, Ok, IfOk, MatchResult};
+ghost use Rattle.std.specs.Prelude.{◌≡◌, ◌++◌, length, IfOk, MatchResult};
 ghost use Rattle.mls_wire.specs.Reading.{opaque};
 ghost use Rattle.mls_leaf.specs.Faults.{Writes};
 ghost use Rattle.mls_types.specs.Signed.{signed_content};
 ghost use Rattle.mls_types.specs.SignedParts.{auth_data, AuthDataFits};
 ghost use Rattle.mls_schedule.specs.Epoch.{membership_tag};
-ghost use Rattle.mls_model.specs.Member as model;
-ghost use Rattle.mls_model.specs.Messages.{content_tag, message_by, reference_of};
+ghost use Rattle.mls_model.specs.Messages.{reference_of};
 ghost use Rattle.mls_message.specs.Pieces.{untagged, IsUntagged, IsTooLarge};
-ghost use Rattle.mls_public_group.specs.MessageLimit.{limited_text};
-ghost use Rattle.mls_message.specs.Speaks.{Speaks};
+ghost use Rattle.mls_message.specs.Sending.{IsMessageBy, IsTagBy};
 
 use crate::limits::{know_bytes, require_room, vector_length};
 use crate::speaker::Speaker;
@@ -114,7 +112,7 @@ impl<'a> Untagged<'a> {
     /// Its membership tag under the context of the speaker's epoch (RFC 9420, 6.2): of the text with the context before the
     /// FramedContentAuthData. It takes no memory.
     fn membership_tag(&self, speaker: &Speaker<'_>) -> Secret
-        ensures { (m : model.Member) → Speaks m speaker.now → result ≡ content_tag m.epoch self.now m.public.context }
+        ensures { IsTagBy speaker.now self.now result }
     {
         let text = self.bytes.as_slice();
         let (front, auth) = text.split_at(text.len() - auth_data_length(self.content));
@@ -123,7 +121,7 @@ impl<'a> Untagged<'a> {
 
     /// The whole message, with the speaker's membership tag (RFC 9420, 6 and 6.2).
     pub(crate) fn with_membership_tag(self, speaker: &Speaker<'_>) -> Result<Vec<u8>, OutOfMemory>
-        ensures { IfOk result (λ v. (m : model.Member) → Speaks m speaker.now → limited_text (message_by m self.entry) ≡ Ok v.items) }
+        ensures { IfOk result (λ v. IsMessageBy speaker.now self.entry v.items) }
     {
         let tag = self.membership_tag(speaker);
         let Untagged { bytes, .. } = self;

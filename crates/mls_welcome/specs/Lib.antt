@@ -2,5 +2,6 @@ pub mod Faults
 pub mod Names
 pub mod Joiners
 pub mod WelcomeMessage
+pub mod Entries
 pub mod Ranges
 pub mod SentSecrets

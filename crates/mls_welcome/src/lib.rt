@@ -7,8 +7,8 @@ mod info;
 mod joiners;
 mod laws;
 mod limits;
-mod welcome_message;
 mod ranges;
+mod welcome_message;
 
 pub use error::WelcomeError;
 pub use joiners::joiners_of;
