@@ -1,15 +1,10 @@
 //! The checks of every message (RFC 9420, 6).
 
 ghost use Rattle.std.specs.Prelude.{◌≡◌, IfOk};
-ghost use Rattle.std.specs.Str.{bytes_eq};
-ghost use Rattle.mls_wire.specs.Checks.{Answers, AnswersOutright, passed};
-ghost use Rattle.mls_tree.specs.Refusals.{RefusesOutright};
-ghost use Rattle.mls_model.specs.Messages.{sender_leaf, is_content_signed, content_tag};
-ghost use Rattle.mls_model.specs.Verdict.{is_kept, framing_checks};
-ghost use Rattle.mls_types.specs.declared.public_message.PublicMessage as messages;
-ghost use Rattle.mls_view.specs.Shown.{ShowsPublic};
-ghost use Rattle.mls_member.specs.Faults.{number_of};
-ghost use Rattle.mls_member.specs.Process.{sender_at, sender_of, check_sender, says_handshake, IsShortView};
+ghost use Rattle.mls_model.specs.Messages.{sender_leaf};
+ghost use Rattle.mls_model.specs.Verdict.{is_kept};
+ghost use Rattle.mls_member.specs.Process.{sender_at, says_handshake, IsShortView};
+ghost use Rattle.mls_member.specs.Received.{ChecksFraming, ChecksSender, LendsLeaf, LendsSender, RefusesSender, TellsSigned, TellsTag};
 
 use crate::error::Refusal;
 use crate::kept_and_pending::KeptProposal;
@@ -58,7 +53,7 @@ impl<S: Suite> Member<S> {
         sender: u32,
         is_handshake: bool,
     ) -> Result<&LeafNode, Refusal>
-        ensures { AnswersOutright (λ l. l.now) number_of (sender_at self.now group_id.now epoch sender is_handshake) result }
+        ensures { LendsLeaf (sender_at self.now group_id.now epoch sender is_handshake) result }
     {
         if group_id != self.group.context().group_id.as_slice() {
             return Err(Refusal::WrongGroup);
@@ -77,7 +72,7 @@ impl<S: Suite> Member<S> {
 
     /// The same of a message, and 46 its membership tag (RFC 9420, 6.2). It takes no memory.
     fn sender_of(&self, view: &PublicMessageView<'_>) -> Result<&LeafNode, Refusal>
-        ensures { (shown : messages.PublicMessage) → ShowsPublic view.now shown → AnswersOutright (λ l. l.now) number_of (sender_of self.now shown) result }
+        ensures { LendsSender self.now view.now result }
     {
         let content = &view.content;
         let sender = sender_leaf(&content.sender);
@@ -92,8 +87,7 @@ impl<S: Suite> Member<S> {
     /// Whether the membership tag is that of the message (RFC 9420, 6.2). It takes no memory.
     #[tactic(auto, unfolding(mls_model::specs::Messages::content_tag, mls_schedule::specs::Epoch::membership_tag))]
     fn has_tag(&self, view: &PublicMessageView<'_>) -> bool
-        ensures { (shown : messages.PublicMessage) → ShowsPublic view.now shown
-            → result ≡ bytes_eq shown.membership_tag (content_tag self.now.epoch shown.content self.now.public.context) }
+        ensures { TellsTag self.now view.now result }
     {
         let tag = view.membership_tag_under(
             self.epoch.membership_key(),
@@ -106,7 +100,7 @@ impl<S: Suite> Member<S> {
     #[tactic(auto, unfolding(mls_model::specs::Messages::is_content_signed))]
     fn is_signed(&self, view: &PublicMessageView<'_>, key: &[u8]) -> Result<bool, AllocError>
         requires { IsShortView view.now }
-        ensures { IfOk result (λ b. (shown : messages.PublicMessage) → ShowsPublic view.now shown → b ≡ is_content_signed S.crypto key.now shown.content self.now.public.context) }
+        ensures { IfOk result (TellsSigned S.crypto self.now view.now key.now) }
     {
         self.group.is_short();
         let input = view.to_be_signed(self.alloc, self.group.context_bytes())?;
@@ -123,7 +117,7 @@ impl<S: Suite> Member<S> {
         leaf: &LeafNode,
     ) -> Result<(), Refusal>
         requires { IsShortView view.now }
-        ensures { (shown : messages.PublicMessage) → ShowsPublic view.now shown → Answers (λ _. passed) number_of (check_sender S.crypto self.now shown bytes.now leaf.now) result }
+        ensures { ChecksSender S.crypto self.now view.now bytes.now leaf.now result }
     {
         if !self.is_signed(view, leaf.signature_key.as_slice())? {
             return Err(Refusal::BadSignature);
@@ -143,9 +137,9 @@ impl<S: Suite> Member<S> {
         bytes: &[u8],
     ) -> Result<(), Refusal>
         requires { IsShortView view.now }
-        ensures answer { (shown : messages.PublicMessage) → ShowsPublic view.now shown → Answers (λ _. passed) number_of (framing_checks S.crypto self.now shown bytes.now) result }
+        ensures answer { ChecksFraming S.crypto self.now view.now bytes.now result }
         // 42 to 46 come also when an allocation fails.
-        ensures outright { (shown : messages.PublicMessage) → ShowsPublic view.now shown → RefusesOutright number_of (sender_of self.now shown) result }
+        ensures outright { RefusesSender self.now view.now result }
     {
         let leaf = self.sender_of(view)?;
         self.check_sender(view, bytes, leaf)

@@ -2,12 +2,9 @@
 //! the prover doesn't take the proposal apart there.
 
 ghost use Rattle.std.specs.Prelude.{◌^◌};
-ghost use Rattle.mls_wire.specs.Checks.{AnswersOutright, DoesAs};
 ghost use Rattle.mls_leaf.specs.Proposal.{proposal as proposal_format};
-ghost use Rattle.mls_model.specs.Member.{kept_under};
 ghost use Rattle.mls_public_group.specs.Short.{IsBelow};
-ghost use Rattle.mls_member.specs.Faults.{number_of};
-ghost use Rattle.mls_member.specs.Proposing.{known_as, keep_sent_proposal, send_and_keep};
+ghost use Rattle.mls_member.specs.Proposing.{KeepsSent, SendsAndKeeps, TellsKnown};
 
 use crate::error::Refusal;
 use crate::kept_and_pending::KeptProposal;
@@ -21,7 +18,7 @@ use mls_suite::Suite;
 impl<S: Suite> Member<S> {
     /// Whether the same message is kept under its reference: 49 another one is (RFC 9420, 12.1).
     fn is_said(&self, said: &SaidProposal) -> Result<bool, Refusal>
-        ensures { AnswersOutright (λ b. b) number_of (known_as (kept_under self.now.kept said.now.reference) said.now.message.items) result }
+        ensures { TellsKnown self.now said.now result }
     {
         let Some(old) = kept_under(&self.kept, &said.reference) else {
             return Ok(false);
@@ -41,7 +38,7 @@ impl<S: Suite> Member<S> {
         own_key: Option<Secret>,
     ) -> Result<Vec<u8>, Refusal>
         requires { IsBelow (2 ^ 27) proposal_format proposal }
-        ensures { DoesAs (λ v. v.items) number_of (keep_sent_proposal self.old said.message.items said.reference proposal own_key) self.old self.new result }
+        ensures { KeepsSent said proposal own_key self.old self.new result }
     {
         let answer = match Vec::from_slice(self.alloc, &said.message) {
             Ok(answer) => answer,
@@ -71,7 +68,7 @@ impl<S: Suite> Member<S> {
         own_key: Option<Secret>,
     ) -> Result<Vec<u8>, Refusal>
         requires { proposal_format.Fits proposal }
-        ensures { DoesAs (λ v. v.items) number_of (send_and_keep S.crypto self.old proposal own_key) self.old self.new result }
+        ensures { SendsAndKeeps S.crypto proposal own_key self.old self.new result }
     {
         let said = match mls_message::sign_proposal::<S>(self.alloc, &self.speaker(), &proposal) {
             Ok(said) => said,

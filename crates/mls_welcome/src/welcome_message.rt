@@ -90,7 +90,8 @@ pub fn welcome<S: Suite>(
 ) -> Result<Vec<u8>, WelcomeError>
     requires short { AreShortJoiners joiners.now }
     requires seals { first_seal + length joiners.now < 2 ^ 32 }
-    ensures { MakesWelcome S.crypto (info_of S.crypto signing.now group.now confirmation_tag.now signer)
+    ensures { MakesWelcome S.crypto
+        (info_of S.crypto signing.now group.now confirmation_tag.now signer)
         joiner_secret.now joiners.now seed.now first_seal result }
 {
     let info = signed_info::<S>(alloc, group, confirmation_tag, signer, signing)?;
