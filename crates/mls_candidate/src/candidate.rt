@@ -51,7 +51,8 @@ impl<S: Suite> Model for Candidate<S> {
 }
 
 impl<S: Suite> Candidate<S> {
-    /// A candidate of an identity and a seed: 57 where both keys are one, 6 where the message is too large.
+    /// A candidate of an identity and a seed: `InitKeySame` (57) where both keys are one, `TooLong` (6) where the
+    /// message is too large.
     pub fn new(alloc: Global, identity: &[u8], seed: &Seed) -> Result<Candidate<S>, CandidateError>
         ensures answer { Gives (new_candidate S.crypto identity.now seed.now) result }
         ensures good { IfOk result (IsGoodCandidate S.crypto) }

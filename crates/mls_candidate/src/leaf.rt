@@ -116,8 +116,9 @@ fn source_has_spelling(source: &LeafSource)
     }
 }
 
-/// A leaf that replaces another in a group: its encryption key is made of the seed, its signature key and its credential
-/// are those of the old one, and it is signed (RFC 9420, 7.2). A parent hash in its source has at most 32 bytes.
+/// A leaf that replaces another in a group: its encryption key is made of the seed, its signature key and its
+/// credential are those of the old one, and it is signed (RFC 9420, 7.2). A parent hash in its source has at most 32
+/// bytes.
 pub fn renewed_leaf<S: Suite>(
     alloc: Global,
     signing: &Secret,

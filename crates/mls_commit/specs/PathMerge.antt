@@ -25,7 +25,7 @@ abbrev pub AppliesPath : Crypto → PublicState → ℕ → Edits → UpdatePath
 AppliesPath c p committer e path result =
     Answers (next_term e.tree) number_of (apply_update_path c p committer e path) result
 
--- The call does this with the path of a commit, and leaves the edited tree as it is where the commit has none.
+-- The call applies the path of a commit, and leaves the edited tree as it is where the commit has none.
 abbrev pub AppliesPathIf : Crypto → PublicState → ℕ → Edits → Option UpdatePath → Result NextTree CommitError → Type 0
 AppliesPathIf c p committer e path result =
     Answers (next_term e.tree) number_of (apply_path_if c p committer e path) result

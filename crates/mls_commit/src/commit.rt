@@ -24,8 +24,8 @@ pub(crate) fn has_due_path(commit: &Commit, used: &[Used<'_>]) -> bool
     commit.path.is_some() || !is_path_required(used)
 }
 
-/// The tree after the edits, with the path merged where there is one. `is_own` says that there are no edits: the tree is
-/// the group's own.
+/// The tree after the edits, with the path merged where there is one. `is_own` says that there are no edits: the tree
+/// is the group's own.
 #[tactic(auto, unfolding(mls_model::specs::Commit::apply_path_if))]
 fn apply_path_if<S: Suite>(
     alloc: Global,
@@ -49,9 +49,9 @@ fn apply_path_if<S: Suite>(
 }
 
 /// What a commit makes of a public state, by all of it but its confirmation tag: the checks of its proposals and of the
-/// tree after them, 64 where a path is required and missing, and those of its path; the first that fails is answered
-/// (RFC 9420, 12.4.2). `said` is the spelling of the commit's FramedContent, and `signature` its signature, of less than
-/// 2^30 bytes.
+/// tree after them, `PathMissing` (64) where a path is required and missing, and those of its path; the first that
+/// fails is answered (RFC 9420, 12.4.2). `said` is the spelling of the commit's FramedContent, and `signature` its
+/// signature, of less than 2^30 bytes.
 #[tactic(auto, unfolding(mls_model::specs::Commit::change_of_commit))]
 pub fn change_of_commit<S: Suite>(
     alloc: Global,

@@ -80,8 +80,8 @@ fn has_fit_keys<S: Suite>(path: &UpdatePath) -> bool
             .all(|node| S::key_ok(node.encryption_key.as_slice()))
 }
 
-/// A path that is to be merged, where its keys differ and its leaf has the parent hash: into the group's own tree, where
-/// there are no edits, and else into the one after them. It is prepared, and nothing is copied.
+/// A path that is to be merged, where its keys differ and its leaf has the parent hash: into the group's own tree,
+/// where there are no edits, and else into the one after them. It is prepared, and nothing is copied.
 fn merge_into(
     edits: &Edits,
     committer: u32,
@@ -101,10 +101,10 @@ fn merge_into(
     Ok(NextTree::EditedMerged(edits.tree.clone()?, path))
 }
 
-/// The tree after the edits with the committer's path merged, where these checks pass in this order: 22 no member is at
-/// its leaf, which takes no memory; 50 to 54 of its new leaf; 30 how many nodes the path has; 31 how many ciphertexts each
-/// of them has; 36 a key isn't fit; 25 two nodes have one encryption key; 24 the leaf hasn't the parent hash (RFC 9420,
-/// 12.4.2).
+/// The tree after the edits with the committer's path merged, where these checks pass in this order: `NoSuchLeaf` (22)
+/// no member is at its leaf, which takes no memory; 50 to 54 of its new leaf; `PathLength` (30) how many nodes the path
+/// has; `CipherCount` (31) how many ciphertexts each of them has; `BadKey` (36) a key isn't fit; `KeyRepeated` (25) two
+/// nodes have one encryption key; `ParentHashWrong` (24) the leaf hasn't the parent hash (RFC 9420, 12.4.2).
 #[tactic(auto, unfolding(mls_model::specs::Commit::apply_update_path))]
 pub(crate) fn apply_update_path<S: Suite>(
     alloc: Global,

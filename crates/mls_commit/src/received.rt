@@ -74,8 +74,9 @@ impl Received {
     }
 
     /// Begins the next epoch in the group that the commit was received in, with its confirmation tag (RFC 9420, 8.2),
-    /// which has less than 2^30 bytes. Nothing of a tree is copied: the path is merged into the group's own where there are
-    /// no proposals, and else into the edited one, which becomes the group's. Without memory the group is as before.
+    /// which has less than 2^30 bytes. Nothing of a tree is copied: the path is merged into the group's own where there
+    /// are no proposals, and else into the edited one, which becomes the group's. Without memory the group is as
+    /// before.
     #[tactic(auto, unfolding(mls_model::specs::Commit::public_with))]
     pub fn enter(self, alloc: Global, group: &mut PublicGroup, tag: &[u8]) -> Result<(), AllocError>
         requires of { KeepsOwnTree group.old.tree self }

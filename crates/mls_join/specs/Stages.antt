@@ -43,7 +43,7 @@ pub record IsShownIn (bytes : List ℕ) (view : WelcomeView) : Type 0 where
   pub is_read : read_welcome bytes ≡ Ok value
   pub shows : ShowsWelcome view value
 
--- a call lends it, or answers the first fault
+-- A call lends the view of the Welcome that the bytes are, or answers the first fault.
 abbrev pub LendsWelcome : List ℕ → Result WelcomeView JoinError → Type 0
 LendsWelcome bytes (Ok view) = IsShownIn bytes view
 LendsWelcome bytes (Err e) = read_welcome bytes ≡ Err (number_of e)

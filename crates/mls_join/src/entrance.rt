@@ -37,7 +37,7 @@ pub struct Entrance {
     pub group_info: Vec<u8>,
 }
 
-/// The new member with these keys in this tree: 65 the confirmation tag.
+/// The new member with these keys in this tree: `BadConfirmationTag` (65) the confirmation tag.
 #[tactic(auto, unfolding(crate::specs::Stages::enter_group))]
 fn enter_group(
     alloc: Global,
@@ -73,8 +73,8 @@ fn enter_group(
     })
 }
 
-/// The new member of an opened Welcome: the checks of tree and signer, 80 no leaf is the candidate's, 34 and 35, 65 the
-/// confirmation tag.
+/// The new member of an opened Welcome: the checks of tree and signer, `NotInTree` (80) no leaf is the candidate's,
+/// `PathKeyMismatch` (34) and `KeyMissing` (35), `BadConfirmationTag` (65) the confirmation tag.
 #[tactic(auto, unfolding(mls_model::specs::Join::member_of))]
 fn member_of<S: Suite>(
     alloc: Global,
@@ -102,11 +102,14 @@ fn member_of<S: Suite>(
     enter_group(alloc, tree, keys, opened)
 }
 
-/// The group that a Welcome leads the candidate into, or the first check that fails: decoding; 70 no Welcome; 71 another
-/// suite; 72 no entry for the candidate; 73 and 75 what doesn't open or isn't what it has to be; 74 a pre-shared key; 76
-/// no tree, 20 and 21 its shape and size, 77 its hash, then 23 to 26, 51, 52 and 36 the tree; 78 and 79 the signer; 80 no
-/// leaf is the candidate's; 34 and 35 its keys; 65 the confirmation tag (RFC 9420, 12.4.3.1). Decoding, 70 and the
-/// first 71 take no memory.
+/// The group that a Welcome leads the candidate into, or the first check that fails: decoding; `NotWelcome` (70) no
+/// Welcome; `WrongSuite` (71) another suite; `NotForMe` (72) no entry for the candidate; `SecretsUnreadable` (73) and
+/// `GroupInfoUnreadable` (75) what doesn't open or isn't what it has to be; `PskPresent` (74) a pre-shared key;
+/// `NoTree` (76) no tree, `TreeShape` (20) and `TreeFull` (21) its shape and size, `TreeHashWrong` (77) its hash, then
+/// 23 to 26, `LeafSignature` (51), `LeafCapability` (52) and `BadKey` (36) the tree; `SignerWrong` (78) and
+/// `GroupInfoSignature` (79) the signer; `NotInTree` (80) no leaf is the candidate's; `PathKeyMismatch` (34) and
+/// `KeyMissing` (35) its keys; `BadConfirmationTag` (65) the confirmation tag (RFC 9420, 12.4.3.1). Decoding,
+/// `NotWelcome` (70) and the first `WrongSuite` (71) take no memory.
 #[tactic(auto, unfolding(mls_model::specs::Join::join_verdict))]
 pub fn join<S: Suite>(
     alloc: Global,
@@ -114,7 +117,7 @@ pub fn join<S: Suite>(
     bytes: &[u8],
 ) -> Result<Entrance, JoinError>
     ensures answer { Joins candidate.now (join_verdict S.crypto candidate.now bytes.now) result }
-    // Decoding, 70 and 71 of the Welcome come also when an allocation fails.
+    // Decoding, `NotWelcome` (70) and `WrongSuite` (71) of the Welcome come also when an allocation fails.
     ensures outright { RefusesOutright number_of (outer_checks S.crypto.number bytes.now) result }
 {
     candidate.is_short();

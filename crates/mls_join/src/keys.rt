@@ -42,8 +42,8 @@ pub(crate) fn place_of(tree: &PublicTree, leaf: &LeafNode) -> Option<u32>
     None
 }
 
-/// The new member's keys: with a path secret those that it gives, else its leaf's alone; 34, and 35 where one that is due
-/// is missing.
+/// The new member's keys: with a path secret those that it gives, else its leaf's alone; `PathKeyMismatch` (34), and
+/// `KeyMissing` (35) where one that is due is missing.
 pub(crate) fn joined_keys<S: Suite>(
     alloc: Global,
     tree: &PublicTree,

@@ -41,7 +41,7 @@ pub(crate) struct Opened {
     pub(crate) info: GroupInfo,
 }
 
-/// The Welcome that the bytes are, lent: decoding, 70. Takes no memory.
+/// The Welcome that the bytes are, lent: decoding, `NotWelcome` (70). Takes no memory.
 fn welcome_view<'a>(bytes: &'a [u8]) -> Result<WelcomeView<'a>, JoinError>
     ensures { LendsWelcome bytes.now result }
 {
@@ -51,7 +51,7 @@ fn welcome_view<'a>(bytes: &'a [u8]) -> Result<WelcomeView<'a>, JoinError>
     }
 }
 
-/// The Welcome of the suite that the bytes are: decoding, 70, 71.
+/// The Welcome of the suite that the bytes are: decoding, `NotWelcome` (70), `WrongSuite` (71).
 fn read_welcome_of_suite<S: Suite>(alloc: Global, bytes: &[u8]) -> Result<Welcome, JoinError>
     ensures answer { Gives (read_welcome_of_suite S.crypto.number bytes.now) result }
     ensures outright { RefusesOutright number_of (outer_checks S.crypto.number bytes.now) result }
@@ -84,7 +84,7 @@ fn entry_of<'a>(
     entries.iter().find(|entry| entry.new_member.as_slice() == reference.as_slice())
 }
 
-/// The GroupInfo that opened bytes are: 75.
+/// The GroupInfo that opened bytes are: `GroupInfoUnreadable` (75).
 fn info_in(alloc: Global, plain: &[u8]) -> Result<GroupInfo, JoinError>
     ensures answer { Gives (or_fault 75 (whole group_info input_limit plain.now)) result }
     ensures bytes { are_bytes plain.now ≡ true }
@@ -99,7 +99,7 @@ fn info_in(alloc: Global, plain: &[u8]) -> Result<GroupInfo, JoinError>
     }
 }
 
-/// The bytes of the GroupInfo that is sealed under a joiner secret: 75 where it doesn't open.
+/// The bytes of the GroupInfo that is sealed under a joiner secret: `GroupInfoUnreadable` (75) where it doesn't open.
 fn plain_info<S: Suite>(alloc: Global, joiner: &Secret, sealed: &[u8]) -> Result<Vec<u8>, JoinError>
     ensures { GivesBytes (plain_info S.crypto joiner.now sealed.now) result }
 {
@@ -110,7 +110,7 @@ fn plain_info<S: Suite>(alloc: Global, joiner: &Secret, sealed: &[u8]) -> Result
     }
 }
 
-/// What the secrets of an entry open: 75, 71 the GroupInfo is of another suite.
+/// What the secrets of an entry open: `GroupInfoUnreadable` (75), `WrongSuite` (71) the GroupInfo is of another suite.
 #[tactic(auto, unfolding(crate::specs::Stages::open_group_info))]
 fn open_group_info<S: Suite>(
     alloc: Global,
@@ -133,7 +133,7 @@ fn open_group_info<S: Suite>(
     })
 }
 
-/// What a Welcome of the suite gives to a candidate: 72 to 75, 71 the GroupInfo is of another suite.
+/// What a Welcome of the suite gives to a candidate: 72 to 75, `WrongSuite` (71) the GroupInfo is of another suite.
 #[tactic(auto, unfolding(crate::specs::Stages::open_for_candidate))]
 fn open_for_candidate<S: Suite>(
     alloc: Global,

@@ -30,7 +30,7 @@ pub(crate) struct Secrets {
     pub(crate) psks: Bytes,
 }
 
-/// The secret that these bytes are: 73 unless there are 32.
+/// The secret that these bytes are: `SecretsUnreadable` (73) unless there are 32.
 fn secret_of(bytes: &Bytes) -> Result<Secret, JoinError>
     ensures { AnswersOutright (λ s. s) number_of (secret_of_32 bytes.now) result }
 {
@@ -40,7 +40,7 @@ fn secret_of(bytes: &Bytes) -> Result<Secret, JoinError>
     }
 }
 
-/// The path secret, where there is one: 73 unless it has 32 bytes.
+/// The path secret, where there is one: `SecretsUnreadable` (73) unless it has 32 bytes.
 fn path_secret_of(bytes: &Option<Bytes>) -> Result<Option<Secret>, JoinError>
     ensures { AnswersOutright (λ s. s) number_of (optional_secret_of_32 bytes.now) result }
 {
@@ -50,7 +50,7 @@ fn path_secret_of(bytes: &Option<Bytes>) -> Result<Option<Secret>, JoinError>
     }
 }
 
-/// The secrets, each of 32 bytes: 73.
+/// The secrets, each of 32 bytes: `SecretsUnreadable` (73).
 #[tactic(auto, unfolding(crate::specs::Stages::check_secret_lengths))]
 fn check_secret_lengths(secrets: GroupSecrets) -> Result<Secrets, JoinError>
     ensures { AnswersOutright secrets_by number_of (check_secret_lengths secrets) result }
@@ -64,7 +64,7 @@ fn check_secret_lengths(secrets: GroupSecrets) -> Result<Secrets, JoinError>
     })
 }
 
-/// The GroupSecrets that opened bytes are: 73.
+/// The GroupSecrets that opened bytes are: `SecretsUnreadable` (73).
 fn secrets_in(alloc: Global, bytes: &[u8]) -> Result<GroupSecrets, JoinError>
     ensures { Gives (or_fault 73 (whole group_secrets input_limit bytes.now)) result }
 {
@@ -77,7 +77,7 @@ fn secrets_in(alloc: Global, bytes: &[u8]) -> Result<GroupSecrets, JoinError>
     }
 }
 
-/// What a candidate's init key opens: 73 where it doesn't.
+/// What a candidate's init key opens: `SecretsUnreadable` (73) where it doesn't.
 fn decrypt_group_secrets<S: Suite>(
     alloc: Global,
     candidate: &Candidate<S>,
@@ -101,8 +101,8 @@ fn decrypt_group_secrets<S: Suite>(
     }
 }
 
-/// What is sealed in a candidate's entry: 73 where it doesn't open, is no GroupSecrets, or has a secret that isn't 32
-/// bytes.
+/// What is sealed in a candidate's entry: `SecretsUnreadable` (73) where it doesn't open, is no GroupSecrets, or has a
+/// secret that isn't 32 bytes.
 #[tactic(auto, unfolding(mls_model::specs::OpenedWelcome::opened_secrets, crate::specs::Stages::check_secret_lengths))]
 pub(crate) fn opened_secrets<S: Suite>(
     alloc: Global,

@@ -24,7 +24,7 @@ fn to_be_signed(alloc: Global, info: &GroupInfo) -> Result<Vec<u8>, JoinError>
     Ok(bytes)
 }
 
-/// 78 the signer is no member, or the candidate itself; 79 its signature.
+/// `SignerWrong` (78) the signer is no member, or the candidate itself; `GroupInfoSignature` (79) its signature.
 #[tactic(auto, unfolding(mls_model::specs::Join::signer_checks))]
 pub(crate) fn signer_checks<S: Suite>(
     alloc: Global,

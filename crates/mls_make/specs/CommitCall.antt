@@ -33,6 +33,7 @@ made_as v = record { commit = v.commit.items; welcome = option_map (λ w. w.item
 abbrev pub IsShortUsed : Used → Type 0
 IsShortUsed u = IsBelow (2 ^ 28) proposal u.proposal × (u.is_full ≡ false → IsBelow (2 ^ 27) proposal u.proposal)
 
+-- each of the proposals that a commit uses is so short
 abbrev pub AreShortUsed : List Used → Type 0
 AreShortUsed used = AllByRecursion IsShortUsed used
 

@@ -69,7 +69,7 @@ welcome_from c signing signer p tag joiner secrets seed first [] = Ok None
 welcome_from c signing signer p tag joiner secrets seed first (x ∷ xs) =
     welcome_message c (signed_info c signing (unsigned_info p tag signer)) joiner secrets (seal_seed seed) first (x ∷ xs) >>= λ bytes. Ok (Some bytes)
 
--- with the Welcome for those that a sent commit adds, and the pending state (RFC 9420, 12.4.1)
+-- a sent commit with the Welcome for those that it adds, and with the pending state (RFC 9420, 12.4.1)
 unfoldable pub with_welcome : Crypto → Member → List Used → MadePath → List ℕ → SentCommit → Result Made ℕ
 with_welcome c m used made seed s = do
   welcome ← welcome_if c m s.change made s.joiner s.tag seed (zip (adds used) s.change.edits.added)

@@ -80,8 +80,9 @@ fn welcome_from<S: Suite>(
     Ok(Some(message))
 }
 
-/// A sent commit with the Welcome for those that it adds, and with the next state: 6 the GroupInfo or the Welcome is too
-/// large, 36 an init key isn't fit (RFC 9420, 12.4.1). The seals of the Welcome are numbered behind those of the path.
+/// A sent commit with the Welcome for those that it adds, and with the next state: `TooLong` (6) the GroupInfo or the
+/// Welcome is too large, `BadKey` (36) an init key isn't fit (RFC 9420, 12.4.1). The seals of the Welcome are numbered
+/// behind those of the path.
 pub(crate) fn with_welcome<S: Suite>(
     alloc: Global,
     speaker: &Speaker<'_>,

@@ -69,8 +69,9 @@ fn commit_from_path<S: Suite>(
     with_welcome::<S>(alloc, speaker, used, sent, secrets, keys, first_seal, seed)
 }
 
-/// What a member makes by a commit of a list that uses these proposals, with a path where one is wanted or required: the
-/// first check of the commit that fails, 6 where a message or the GroupInfo is too long (RFC 9420, 12.4.1).
+/// What a member makes by a commit of a list that uses these proposals, with a path where one is wanted or required:
+/// the first check of the commit that fails, `TooLong` (6) where a message or the GroupInfo is too long (RFC 9420,
+/// 12.4.1).
 pub fn make_commit<S: Suite>(
     alloc: Global,
     speaker: &Speaker<'_>,

@@ -69,8 +69,8 @@ fn next_epoch(
     Ok(Begun { joiner, epoch, tag })
 }
 
-/// The message of a content with its signature, and with the confirmation tag where it is a commit: 6 it is too large
-/// (RFC 9420, 6).
+/// The message of a content with its signature, and with the confirmation tag where it is a commit: `TooLong` (6) it is
+/// too large (RFC 9420, 6).
 fn message_with_tag(
     alloc: Global,
     speaker: &Speaker<'_>,
@@ -136,8 +136,8 @@ fn know_short_commit(framed: &Framed, speaker: &Speaker<'_>)
     let _length = bytes.len();
 }
 
-/// Sends a commit that passes its checks, with these edits, this tree with its path merged and this commit secret: 6 its
-/// message is too large (RFC 9420, 12.4.1).
+/// Sends a commit that passes its checks, with these edits, this tree with its path merged and this commit secret:
+/// `TooLong` (6) its message is too large (RFC 9420, 12.4.1).
 pub(crate) fn send_commit<S: Suite>(
     alloc: Global,
     speaker: &Speaker<'_>,

@@ -44,6 +44,7 @@ abbrev pub IsShortItem : Item → Type 0
 IsShortItem (item.Ref reference) = Unit {0}
 IsShortItem (item.Full p) = IsShortProposal p
 
+-- each proposal in full is short
 abbrev pub AreShortItems : List Item → Type 0
 AreShortItems items = AllByRecursion IsShortItem items
 

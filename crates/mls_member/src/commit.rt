@@ -37,7 +37,7 @@ impl<S: Suite> Member<S> {
         self.pending.is_some()
     }
 
-    /// The proposals that a commit call uses: 60 a reference isn't kept.
+    /// The proposals that a commit call uses: `UnknownReference` (60) a reference isn't kept.
     fn resolve_items<'a>(&'a self, items: &'a [Item]) -> Result<Vec<Used<'a>>, Refusal>
         requires { AreShortItems items.now }
         ensures answer { Finds self.now.kept self.now.keys.leaf (map listed_of items.now) result }
@@ -46,8 +46,8 @@ impl<S: Suite> Member<S> {
         used_of_items(self.alloc, &self.kept, self.keys.leaf(), items)
     }
 
-    /// A commit of these proposals: 60 a reference isn't kept, then every check that it will meet, 6 a message or the
-    /// GroupInfo is too long (RFC 9420, 12.4.1).
+    /// A commit of these proposals: `UnknownReference` (60) a reference isn't kept, then every check that it will meet,
+    /// `TooLong` (6) a message or the GroupInfo is too long (RFC 9420, 12.4.1).
     fn new_commit(&self, items: &[Item], path: bool, seed: &Seed) -> Result<NewCommit, Refusal>
         requires epoch { self.now.public.context.epoch + 1 < 2 ^ 64 }
         requires items { AreShortItems items.now }
@@ -87,9 +87,9 @@ impl<S: Suite> Member<S> {
         Ok(Made { commit, welcome })
     }
 
-    /// Commits a list of proposals, with a path where `path` says so or one is required, and keeps the state that it leads
-    /// to as pending. 40 the member was removed, 67 it has a pending commit, then every check that its commit will meet, 6
-    /// a message or the GroupInfo is too long (RFC 9420, 12.4.1).
+    /// Commits a list of proposals, with a path where `path` says so or one is required, and keeps the state that it
+    /// leads to as pending. `Gone` (40) the member was removed, `PendingCommit` (67) it has a pending commit, then
+    /// every check that its commit will meet, `TooLong` (6) a message or the GroupInfo is too long (RFC 9420, 12.4.1).
     pub fn commit(&mut self, items: &[Item], path: bool, seed: &Seed) -> Result<Made, Refusal>
         requires { AreShortItems items.now }
         ensures answer { CommitsItems S.crypto items.now path seed.now self.old self.new result }

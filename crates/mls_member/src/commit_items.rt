@@ -49,7 +49,7 @@ fn know_removal(leaf: u32)
     ensures { IsBelow (2 ^ 28) proposal_format (Remove leaf) }
 {}
 
-/// A law: so has a proposal whose KeyPackage or leaf is short.
+/// A law: a proposal whose KeyPackage or leaf is short has a spelling, of fewer than 2^28 bytes.
 fn know_short(proposal: &Proposal)
     requires { IsShortProposal proposal.now }
     ensures { IsBelow (2 ^ 28) proposal_format proposal.now }
@@ -61,7 +61,8 @@ fn know_short(proposal: &Proposal)
     }
 }
 
-/// One proposal that a commit call uses: of the committer where it is given in full, else a kept one, or 60.
+/// One proposal that a commit call uses: of the committer where it is given in full, else a kept one, or
+/// `UnknownReference` (60).
 fn resolve_item<'a>(kept: &'a [KeptProposal], committer: u32, item: &'a Item) -> Result<Used<'a>, Refusal>
     requires { IsShortItem item.now }
     ensures answer { Gives (find_proposal kept.now committer (listed_of item.now)) result }

@@ -34,7 +34,7 @@ fn know_bytes(bytes: &[u8])
     ensures { IsBytes bytes.now }
 {}
 
-/// 6 where what was made is larger than a message may be.
+/// `TooLong` (6) where what was made is larger than a message may be.
 #[tactic(auto, unfolding(mls_model::specs::Messages::is_within_limit))]
 fn require_within_limit(bytes: &[u8]) -> Result<(), Refusal>
     ensures { AnswersOutright (λ _. passed) number_of (is_within_limit bytes.now) result }
@@ -85,7 +85,7 @@ fn first_parts<S: Suite>(
     Ok((tree, context))
 }
 
-/// The public state of epoch 0, or 6 where its context is too long.
+/// The public state of epoch 0, or `TooLong` (6) where its context is too long.
 #[tactic(auto, using(crate::proofs::FirstEpoch::public_refused, crate::proofs::FirstEpoch::public_made, crate::proofs::FirstEpoch::public_long))]
 fn first_group<S: Suite>(
     alloc: Global,
@@ -109,7 +109,8 @@ fn first_group<S: Suite>(
 }
 
 impl<S: Suite> Member<S> {
-    /// The group of a candidate alone, whose epoch secret is the seed: 6 where its GroupContext is too long (RFC 9420, 11).
+    /// The group of a candidate alone, whose epoch secret is the seed: `TooLong` (6) where its GroupContext is too long
+    /// (RFC 9420, 11).
     #[tactic(auto, using(crate::proofs::FirstEpoch::created_made, crate::proofs::FirstEpoch::created_refused))]
     pub fn create(
         alloc: Global,

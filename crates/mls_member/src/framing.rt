@@ -43,8 +43,9 @@ fn is_kept(kept: &[KeptProposal], bytes: &[u8]) -> bool
 }
 
 impl<S: Suite> Member<S> {
-    /// The leaf of a message's sender: 42 another group, 43 another epoch, 44 no member at the sender's leaf, 45
-    /// application data (RFC 9420, 6). It takes no memory.
+    /// The leaf of a message's sender: `WrongGroup` (42) another group, `WrongEpoch` (43) another epoch,
+    /// `SenderNotMember` (44) no member at the sender's leaf, `NotHandshake` (45) application data (RFC 9420, 6). It
+    /// takes no memory.
     #[tactic(auto, unfolding(crate::specs::Process::sender_at))]
     fn sender_at(
         &self,
@@ -70,7 +71,8 @@ impl<S: Suite> Member<S> {
         Ok(leaf)
     }
 
-    /// The same of a message, and 46 its membership tag (RFC 9420, 6.2). It takes no memory.
+    /// Answers the leaf of a message's sender, where that passes its checks and the message has its membership tag:
+    /// `BadMembershipTag` (46) where it hasn't (RFC 9420, 6.2). It takes no memory.
     fn sender_of(&self, view: &PublicMessageView<'_>) -> Result<&LeafNode, Refusal>
         ensures { LendsSender self.now view.now result }
     {
@@ -108,7 +110,8 @@ impl<S: Suite> Member<S> {
         verify_with_label::<S>(self.alloc, key, "FramedContentTBS", &input, signature)
     }
 
-    /// 47 the signature (RFC 9420, 6.1), 48 the member's own leaf, and no proposal that it keeps.
+    /// `BadSignature` (47) the signature (RFC 9420, 6.1), `OwnUnknown` (48) the member's own leaf, and no proposal that
+    /// it keeps.
     #[tactic(auto, unfolding(crate::specs::Process::check_sender))]
     fn check_sender(
         &self,
@@ -129,8 +132,9 @@ impl<S: Suite> Member<S> {
         Ok(())
     }
 
-    /// 42 another group, 43 another epoch, 44 no member at the sender's leaf, 45 application data, 46 the membership tag
-    /// (RFC 9420, 6.2), 47 the signature (6.1), 48 the member's own leaf, and no proposal that it keeps.
+    /// `WrongGroup` (42) another group, `WrongEpoch` (43) another epoch, `SenderNotMember` (44) no member at the
+    /// sender's leaf, `NotHandshake` (45) application data, `BadMembershipTag` (46) the membership tag (RFC 9420, 6.2),
+    /// `BadSignature` (47) the signature (6.1), `OwnUnknown` (48) the member's own leaf, and no proposal that it keeps.
     pub(crate) fn framing_checks(
         &self,
         view: &PublicMessageView<'_>,

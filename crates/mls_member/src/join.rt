@@ -25,7 +25,7 @@ impl<S: Suite> Member<S> {
     pub fn join(alloc: Global, candidate: &Candidate<S>, bytes: &[u8]) -> Result<Joined<S>, Refusal>
         ensures answer { Joins (join_verdict S.crypto candidate.now bytes.now) result }
         ensures good { AdmitsGood S.crypto candidate.now result }
-        // Decoding, 70 and 71 of the Welcome come also when an allocation fails.
+        // Decoding, `NotWelcome` (70) and `WrongSuite` (71) of the Welcome come also when an allocation fails.
         ensures outright { RefusesOuter S.crypto.number bytes.now result }
     {
         let Entrance {

@@ -23,9 +23,9 @@ use mls_types::RatchetTree;
 use std::alloc::Global;
 use std::marker::{Model, PhantomData};
 
-/// A member of a group: the public state of the group, the epoch's secrets, its private keys, the proposals that it keeps,
-/// and its pending commit. One that a good candidate created or joined as is good, and stays so over each call: its tree is
-/// good, and it holds just the private keys that are due to it.
+/// A member of a group: the public state of the group, the epoch's secrets, its private keys, the proposals that it
+/// keeps, and its pending commit. One that a good candidate created or joined as is good, and stays so over each call:
+/// its tree is good, and it holds just the private keys that are due to it.
 #[derive(Drop)]
 pub struct Member<S: Suite> {
     pub(crate) gone: bool,

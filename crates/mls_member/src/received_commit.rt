@@ -69,7 +69,8 @@ fn tag_of<'a>(view: &PublicMessageView<'a>) -> &'a [u8]
     }
 }
 
-/// The private keys after the edits that made a tree, with the leaf's new key where there is one (RFC 9420, 7.7 and 12.1).
+/// The private keys after the edits that made a tree, with the leaf's new key where there is one (RFC 9420, 7.7 and
+/// 12.1).
 fn follow_edits(
     keys: &PrivatePath,
     tree: &PublicTree,
@@ -142,8 +143,8 @@ impl<S: Suite> Member<S> {
         self.pending = None;
     }
 
-    /// What a commit makes of the public state, and whether it removes the member: 60 a reference isn't kept, then the
-    /// checks of all that is public.
+    /// What a commit makes of the public state, and whether it removes the member: `UnknownReference` (60) a reference
+    /// isn't kept, then the checks of all that is public.
     #[tactic(auto, unfolding(crate::specs::Process::check_commit))]
     fn check_commit(
         &self,
@@ -214,7 +215,7 @@ impl<S: Suite> Member<S> {
         Ok((start.epoch, tag))
     }
 
-    /// Enters the next epoch: 65 where the confirmation tag isn't that of it (RFC 9420, 8.1).
+    /// Enters the next epoch: `BadConfirmationTag` (65) where the confirmation tag isn't that of it (RFC 9420, 8.1).
     #[tactic(auto, unfolding(crate::specs::Process::enter_epoch_with, mls_model::specs::Member::with_epoch))]
     fn enter_epoch(
         &mut self,
@@ -282,9 +283,9 @@ impl<S: Suite> Member<S> {
         self.enter_epoch(received, reached, tag)
     }
 
-    /// Follows a commit: 66 no epoch comes after this, 60 a reference isn't kept, then the checks of all that is public.
-    /// There a member that is removed stops; others take the path's secret, 32 to 34, and 65 where the confirmation tag
-    /// isn't that of the new epoch (RFC 9420, 12.4.2).
+    /// Follows a commit: `EpochEnd` (66) no epoch comes after this, `UnknownReference` (60) a reference isn't kept,
+    /// then the checks of all that is public. There a member that is removed stops; others take the path's secret, 32
+    /// to 34, and `BadConfirmationTag` (65) where the confirmation tag isn't that of the new epoch (RFC 9420, 12.4.2).
     pub(crate) fn commit_verdict(
         &mut self,
         view: &PublicMessageView<'_>,

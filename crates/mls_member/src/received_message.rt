@@ -12,7 +12,8 @@ use mls_suite::Suite;
 use mls_view::{ContentView, MessageView, PublicMessageView};
 
 impl<S: Suite> Member<S> {
-    /// What bytes do: decoding, 41 no PublicMessage, the checks of every message, and then by content (RFC 9420, 6).
+    /// What bytes do: decoding, `NotPublicMessage` (41) no PublicMessage, the checks of every message, and then by
+    /// content (RFC 9420, 6).
     pub(crate) fn bytes_verdict(&mut self, bytes: &[u8]) -> Result<Effect, Refusal>
         ensures verdict { TakesBytes S.crypto bytes.now self.old self.new result }
         // Decoding, and 41 to 46, come also when an allocation fails.

@@ -1,5 +1,5 @@
-//! Proposals that are received (RFC 9420, 12.1). Where a call ends early, a proposal is given to `drop`: that is one call,
-//! and the prover doesn't take it apart there.
+//! Proposals that are received (RFC 9420, 12.1). Where a call ends early, a proposal is given to `drop`: that is one
+//! call, and the prover doesn't take it apart there.
 
 ghost use Rattle.std.specs.Prelude.{◌≡◌, ◌≤◌, ◌^◌, is_some, length};
 ghost use Rattle.mls_leaf.specs.Limits.{input_limit};

@@ -1,5 +1,5 @@
-//! Keeping own proposals (RFC 9420, 12.1). Where a call ends early, a proposal is given to `drop`: that is one call, and
-//! the prover doesn't take the proposal apart there.
+//! Keeping own proposals (RFC 9420, 12.1). Where a call ends early, a proposal is given to `drop`: that is one call,
+//! and the prover doesn't take the proposal apart there.
 
 ghost use Rattle.std.specs.Prelude.{◌^◌};
 ghost use Rattle.mls_leaf.specs.Proposal.{proposal as proposal_format};
@@ -16,7 +16,7 @@ use mls_message::SaidProposal;
 use mls_suite::Suite;
 
 impl<S: Suite> Member<S> {
-    /// Whether the same message is kept under its reference: 49 another one is (RFC 9420, 12.1).
+    /// Whether the same message is kept under its reference: `ReferenceTaken` (49) another one is (RFC 9420, 12.1).
     fn is_said(&self, said: &SaidProposal) -> Result<bool, Refusal>
         ensures { TellsKnown self.now said.now result }
     {
@@ -29,7 +29,8 @@ impl<S: Suite> Member<S> {
         Err(Refusal::ReferenceTaken)
     }
 
-    /// Keeps a proposal behind the others, an update with the new private key of the member's leaf, and answers its message.
+    /// Keeps a proposal behind the others, an update with the new private key of the member's leaf, and answers its
+    /// message.
     #[tactic(auto, unfolding(mls_model::specs::Member::with_kept))]
     fn keep_sent_proposal(
         &mut self,
@@ -60,8 +61,9 @@ impl<S: Suite> Member<S> {
         Ok(answer)
     }
 
-    /// Says a proposal whose checks have passed, and keeps it. 6 its message is too large; where the same message is kept
-    /// already nothing changes, and 49 where another one is kept under its reference (RFC 9420, 12.1).
+    /// Says a proposal whose checks have passed, and keeps it. `TooLong` (6) its message is too large; where the same
+    /// message is kept already nothing changes, and `ReferenceTaken` (49) where another one is kept under its reference
+    /// (RFC 9420, 12.1).
     pub(crate) fn send_and_keep(
         &mut self,
         proposal: Proposal,

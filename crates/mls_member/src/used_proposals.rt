@@ -38,7 +38,8 @@ pub(crate) fn used_kept<'a>(kept: &'a KeptProposal) -> Used<'a>
     }
 }
 
-/// One of a commit's list: of the committer where it is given in full, else a kept one, or 60 (RFC 9420, 12.4.2).
+/// One of a commit's list: of the committer where it is given in full, else a kept one, or `UnknownReference` (60) (RFC
+/// 9420, 12.4.2).
 fn find_proposal<'a>(
     kept: &'a [KeptProposal],
     committer: u32,

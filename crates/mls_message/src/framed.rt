@@ -79,8 +79,8 @@ fn to_be_signed(alloc: Global, said: &[u8], context: &[u8]) -> Result<Vec<u8>, O
 }
 
 impl Framed {
-    /// A content that a member says in its epoch: 6 where that alone is larger than a message may be, which no message of it
-    /// can then be (RFC 9420, 6).
+    /// A content that a member says in its epoch: `TooLong` (6) where that alone is larger than a message may be, which
+    /// no message of it can then be (RFC 9420, 6).
     pub fn new(alloc: Global, speaker: &Speaker<'_>, content: Content) -> Result<Framed, LeafError>
         requires { FitsIfShort content_format content }
         ensures { Frames speaker.now content result }
@@ -137,7 +137,7 @@ pub fn sign<S: Suite>(
     sign_with_label::<S>(alloc, speaker.signing, "FramedContentTBS", &text)
 }
 
-/// The message of a signed content, with its membership tag (RFC 9420, 6 and 6.2). 6 it is too large.
+/// The message of a signed content, with its membership tag (RFC 9420, 6 and 6.2). `TooLong` (6) it is too large.
 pub fn send(
     alloc: Global,
     speaker: &Speaker<'_>,

@@ -17,7 +17,7 @@ pub(crate) fn know_bytes(bytes: &[u8])
     ensures { IsBytes bytes.now }
 {}
 
-/// 6 where a text with so many bytes more behind it is larger than a message may be.
+/// `TooLong` (6) where a text with so many bytes more behind it is larger than a message may be.
 pub(crate) fn require_room(text: &[u8], more: usize) -> Result<(), LeafError>
     requires { more ≤ input_limit }
     ensures { HasRoom text.now more result }
@@ -28,7 +28,7 @@ pub(crate) fn require_room(text: &[u8], more: usize) -> Result<(), LeafError>
     Ok(())
 }
 
-/// The spelling of a value whose numbers are in range: 6 where it alone is larger than a message may be.
+/// The spelling of a value whose numbers are in range: `TooLong` (6) where it alone is larger than a message may be.
 pub(crate) fn spell_within_limit<T: Codec>(alloc: Global, value: &T) -> Result<Vec<u8>, LeafError>
     requires { FitsIfShort T.format value.now }
     ensures { SpellsWithin T.format value.now result }

@@ -25,7 +25,7 @@ pub struct SaidProposal {
     pub reference: Secret,
 }
 
-/// A member's proposal as a content: 6 where that alone is larger than a message may be (RFC 9420, 6).
+/// A member's proposal as a content: `TooLong` (6) where that alone is larger than a message may be (RFC 9420, 6).
 fn framed_proposal(
     alloc: Global,
     speaker: &Speaker<'_>,
@@ -51,7 +51,7 @@ fn sign_framed<S: Suite>(
     Ok(framed.with_signature(signature, Vec::new(alloc)))
 }
 
-/// The message of a signed content and its reference: 6 it is too large.
+/// The message of a signed content and its reference: `TooLong` (6) it is too large.
 fn message_and_reference_of(
     alloc: Global,
     speaker: &Speaker<'_>,
@@ -67,7 +67,7 @@ fn message_and_reference_of(
     Ok(SaidProposal { message, reference })
 }
 
-/// The message of a member's proposal: 6 it is too large (RFC 9420, 6).
+/// The message of a member's proposal: `TooLong` (6) it is too large (RFC 9420, 6).
 #[tactic(auto, unfolding(mls_model::specs::Propose::proposal_by))]
 pub fn sign_proposal<S: Suite>(
     alloc: Global,

@@ -89,7 +89,7 @@ fn with_tag(text: Vec<u8>, tag: &Secret) -> Result<Vec<u8>, OutOfMemory>
 }
 
 impl<'a> Untagged<'a> {
-    /// The message of a content up to its membership tag: 6 where the whole message is too large.
+    /// The message of a content up to its membership tag: `TooLong` (6) where the whole message is too large.
     pub(crate) fn new(alloc: Global, content: &'a SignedContent) -> Result<Untagged<'a>, LeafError>
         requires { signed_content.Fits content.now }
         ensures { MatchResult result (λ u. u ≡ content.now) (IsTooLarge content.now) }
@@ -99,8 +99,8 @@ impl<'a> Untagged<'a> {
         Ok(Untagged { content, bytes })
     }
 
-    /// The reference of the content, where it is a proposal (RFC 9420, 5.2): of the wire format and the content, which stand
-    /// behind the version. It takes no memory.
+    /// The reference of the content, where it is a proposal (RFC 9420, 5.2): of the wire format and the content, which
+    /// stand behind the version. It takes no memory.
     pub(crate) fn reference(&self) -> Secret
         ensures { result ≡ reference_of self.now }
     {
@@ -109,8 +109,8 @@ impl<'a> Untagged<'a> {
         proposal_reference(authenticated)
     }
 
-    /// Its membership tag under the context of the speaker's epoch (RFC 9420, 6.2): of the text with the context before the
-    /// FramedContentAuthData. It takes no memory.
+    /// Its membership tag under the context of the speaker's epoch (RFC 9420, 6.2): of the text with the context before
+    /// the FramedContentAuthData. It takes no memory.
     fn membership_tag(&self, speaker: &Speaker<'_>) -> Secret
         ensures { IsTagBy speaker.now self.now result }
     {

@@ -59,7 +59,8 @@ pub(crate) fn removed_leaves(alloc: Global, used: &[Used<'_>]) -> Result<Vec<u32
     Ok(leaves)
 }
 
-/// Refuses an update of the committer (61), its removal (62), and two updates or removes of one leaf (63).
+/// Refuses an update of the committer (`CommitterUpdate` 61), its removal (`CommitterRemoved` 62), and two updates or
+/// removes of one leaf (`SameLeafTwice` 63).
 pub(crate) fn check_proposal_list(
     alloc: Global,
     committer: u32,

@@ -39,8 +39,8 @@ impl Model for Edits {
     ghost view = { λ e. record { tree = term e.tree; added = e.added.items } };
 }
 
-/// That no two members have one signature key (26), no two adds one reference (26), and no two nodes one encryption key
-/// (25).
+/// Refuses two members with one signature key, two adds of one reference (`ClientRepeated` 26 each), and two nodes with
+/// one encryption key (`KeyRepeated` 25).
 #[tactic(auto, unfolding(crate::specs::ProposalList::edited_tree_checks))]
 fn require_distinct(alloc: Global, edits: &Edits, used: &[Used<'_>]) -> Result<(), GroupError>
     requires { AreBelow (2 ^ 28) used.now }
@@ -60,9 +60,11 @@ fn require_distinct(alloc: Global, edits: &Edits, used: &[Used<'_>]) -> Result<(
 
 impl PublicGroup {
     /// The tree after the proposals of a commit, where they and the tree pass these checks in this order: those of each
-    /// proposal in full; 61 an update of the committer, 62 its removal, 63 two updates or removes of one leaf; 22 no member
-    /// is where one is updated or removed; 21 the tree is too large; 26 two members have one signature key, or two adds one
-    /// reference; 25 two nodes have one encryption key (RFC 9420, 12.2, 12.3 and 7.3). The group stays as it is.
+    /// proposal in full; `CommitterUpdate` (61) an update of the committer, `CommitterRemoved` (62) its removal,
+    /// `SameLeafTwice` (63) two updates or removes of one leaf; `NoSuchLeaf` (22) no member is where one is updated or
+    /// removed; `TreeFull` (21) the tree is too large; `ClientRepeated` (26) two members have one signature key, or two
+    /// adds one reference; `KeyRepeated` (25) two nodes have one encryption key (RFC 9420, 12.2, 12.3 and 7.3). The
+    /// group stays as it is.
     pub fn apply_proposals<S: Suite>(
         &self,
         alloc: Global,

@@ -8,8 +8,8 @@ use crate::shared_tree::SharedTree;
 use mls_tree::{Hash, PreparedPath};
 use std::alloc::AllocError;
 
-/// The ratchet tree of the next epoch. A commit's path is prepared for its tree and merged into it when the epoch begins, so
-/// that no tree is copied for it; until then the group's own tree stays as it is.
+/// The ratchet tree of the next epoch. A commit's path is prepared for its tree and merged into it when the epoch
+/// begins, so that no tree is copied for it; until then the group's own tree stays as it is.
 #[derive(Drop)]
 pub enum NextTree {
     /// A tree of its own.

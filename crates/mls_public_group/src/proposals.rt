@@ -21,9 +21,9 @@ use mls_tree::TreeError;
 use std::alloc::Global;
 
 impl PublicGroup {
-    /// The checks of a proposal of the member at leaf `sender`: of an add those of its KeyPackage (RFC 9420, 12.1.1), of an
-    /// update 22 where no member is there, and those of its leaf (12.1.2), of a remove 22 where there is no member (12.1.3).
-    /// 22 and what a remove answers take no memory.
+    /// The checks of a proposal of the member at leaf `sender`: of an add those of its KeyPackage (RFC 9420, 12.1.1),
+    /// of an update `NoSuchLeaf` (22) where no member is there, and those of its leaf (12.1.2), of a remove
+    /// `NoSuchLeaf` (22) where there is no member (12.1.3). `NoSuchLeaf` (22) and what a remove answers take no memory.
     pub fn require_proposal<S: Suite>(
         &self,
         alloc: Global,
@@ -66,7 +66,7 @@ impl PublicGroup {
         Ok(())
     }
 
-    /// That there is a member to be removed (RFC 9420, 12.1.3).
+    /// Refuses where there is no member to be removed (`NoSuchLeaf` 22) (RFC 9420, 12.1.3).
     fn require_member(&self, leaf: u32) -> Result<(), GroupError>
         ensures { AnswersOutright (λ _. passed) number_of (member_check self.now.tree leaf) result }
     {

@@ -57,8 +57,8 @@ pub(crate) fn public_keys(alloc: Global, secrets: &PathSecrets) -> Result<Vec<By
     Ok(keys)
 }
 
-/// The parent hash that the leaf of a path with these keys must have. There is a member, and there are as many keys as its
-/// filtered path has parents, so only memory can be wanting.
+/// The parent hash that the leaf of a path with these keys must have. There is a member, and there are as many keys as
+/// its filtered path has parents, so only memory can be wanting.
 pub(crate) fn parent_hash(
     tree: &mut PublicTree,
     index: u32,

@@ -68,7 +68,8 @@ fn make_checked_leaf<S: Suite>(
     Ok(leaf)
 }
 
-/// The tree with a path's leaf and keys merged, and the committer's private keys in it (25, 24).
+/// The tree with a path's leaf and keys merged, and the committer's private keys in it (`KeyRepeated` 25,
+/// `ParentHashWrong` 24).
 fn merge_leaf_and_keys(
     index: u32,
     tree: PublicTree,
@@ -94,7 +95,7 @@ fn merge_leaf_and_keys(
 }
 
 /// A path of the member at leaf `index` in a tree after edits, its committer's keys, and the tree with it: the new leaf
-/// and the merge pass their checks (50 to 54, 25, 24).
+/// and the merge pass their checks (50 to 54, `KeyRepeated` (25), `ParentHashWrong` (24)).
 #[tactic(auto, unfolding(crate::specs::Parts::leaf_and_tree_of))]
 fn merge_new_path<S: Suite>(
     alloc: Global,
@@ -124,9 +125,10 @@ fn merge_new_path<S: Suite>(
     merge_leaf_and_keys(index, tree, leaf, public, made)
 }
 
-/// The path of the member at leaf `index` for a commit with these edits: a member is there (22), its new leaf and the
-/// merge of its keys pass their checks (50 to 54, 25, 24), and its secrets are sealed under the context with the merged
-/// tree, where each key can be sealed to (36) (RFC 9420, 12.4.1).
+/// The path of the member at leaf `index` for a commit with these edits: a member is there (`NoSuchLeaf` 22), its new
+/// leaf and the merge of its keys pass their checks (50 to 54, `KeyRepeated` (25), `ParentHashWrong` (24)), and its
+/// secrets are sealed under the context with the merged tree, where each key can be sealed to (`BadKey` 36) (RFC 9420,
+/// 12.4.1).
 pub fn new_path<S: Suite>(
     alloc: Global,
     group: &PublicGroup,

@@ -14,7 +14,7 @@ abbrev pub IsSentTo : Term → ℕ → Option PathSecrets → ℕ → Option (Li
 IsSentTo t i None j secret = secret ≡ None
 IsSentTo t i (Some secrets) j secret = IsSentOf t i j secrets.secrets.items secret
 
--- each joiner is sent that
+-- each joiner is sent what the committer at leaf i sends to its leaf
 abbrev pub AreSentTo : Term → ℕ → Option PathSecrets → List Joiner → Type 0
 AreSentTo t i secrets joiners = AllByRecursion (λ (j : Joiner). IsSentTo t i secrets j.leaf (option_copied j.path_secret)) joiners
 

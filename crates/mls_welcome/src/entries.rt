@@ -82,7 +82,8 @@ fn reference_of(alloc: Global, offered: &KeyPackage) -> Result<Bytes, WelcomeErr
     Ok(reference)
 }
 
-/// Secrets sealed to the init key of a KeyPackage, under the encrypted GroupInfo: `BadKey` (36) where that key isn't fit.
+/// Secrets sealed to the init key of a KeyPackage, under the encrypted GroupInfo: `BadKey` (36) where that key isn't
+/// fit.
 fn entry_for<S: Suite>(
     alloc: Global,
     encrypted_info: &[u8],

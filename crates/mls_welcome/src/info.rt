@@ -43,8 +43,8 @@ fn unsigned_info(
     })
 }
 
-/// The signature of a GroupInfo (RFC 9420, 12.4.3): 6 where what is to be signed is larger alone than the GroupInfo may
-/// be, and then nothing is signed.
+/// The signature of a GroupInfo (RFC 9420, 12.4.3): `TooLong` (6) where what is to be signed is larger alone than the
+/// GroupInfo may be, and then nothing is signed.
 fn signature_of<S: Suite>(
     alloc: Global,
     info: &GroupInfo,
@@ -60,7 +60,7 @@ fn signature_of<S: Suite>(
     Ok(Bytes::from_vec(signature))
 }
 
-/// The spelling of a group's GroupInfo, signed by the member at leaf `signer`: 6 where it is too large.
+/// The spelling of a group's GroupInfo, signed by the member at leaf `signer`: `TooLong` (6) where it is too large.
 pub(crate) fn signed_info<S: Suite>(
     alloc: Global,
     group: &PublicGroup,

@@ -16,7 +16,7 @@ fn know_bytes(bytes: &[u8])
     ensures { (i : ℕ) → slice_index bytes.now i < 256 }
 {}
 
-/// Refuses a text with more bytes than a message may have (6).
+/// Refuses a text with more bytes than a message may have (`TooLong` 6).
 pub(crate) fn is_within_limit(bytes: &[u8]) -> Result<(), WelcomeError>
     ensures answer { AnswersOutright (λ _. passed) number_of (is_within_limit bytes.now) result }
     ensures length { Measures bytes.now result }
@@ -28,7 +28,7 @@ pub(crate) fn is_within_limit(bytes: &[u8]) -> Result<(), WelcomeError>
     Ok(())
 }
 
-/// The spelling of a value whose numbers are in range: 6 where it is larger than a message may be.
+/// The spelling of a value whose numbers are in range: `TooLong` (6) where it is larger than a message may be.
 pub(crate) fn spell_within_limit<T: Codec>(alloc: Global, value: &T) -> Result<Vec<u8>, WelcomeError>
     requires { FitsIfShort T.format value.now }
     ensures { GivesBytes (limited_text (T.format.spell value.now)) result }

@@ -1,5 +1,5 @@
-//! What the types of numbers tell of nodes: one whose spelling would be short has a spelling. These functions do nothing
-//! else.
+//! What the types of numbers tell of nodes: one whose spelling would be short has a spelling. These functions do
+//! nothing else.
 
 ghost use Rattle.std.specs.Prelude.{◌<◌, ◌^◌, ℕ, slice_index};
 ghost use Rattle.std.specs.List.{AllByRecursion};

@@ -29,8 +29,8 @@ pub struct Joiner<'a> {
     pub path_secret: Option<&'a Secret>,
 }
 
-/// The refusal of a Welcome whose encrypted GroupInfo is too long to seal anything under it: 36 where an init key isn't
-/// fit, and else 6.
+/// The refusal of a Welcome whose encrypted GroupInfo is too long to seal anything under it: `BadKey` (36) where an
+/// init key isn't fit, and else `TooLong` (6).
 fn refusal<S: Suite>(joiners: &[Joiner<'_>]) -> WelcomeError
     ensures { RefusesLong S.crypto joiners.now result }
 {
@@ -73,10 +73,10 @@ fn message_with<S: Suite>(
     spell_within_limit(alloc, &MlsMessage::Welcome(welcome))
 }
 
-/// The message of a Welcome to a group that a commit made, from the committer at leaf `signer`: the GroupInfo, signed and
-/// sealed once, and for each joiner the joiner secret and its path secret, sealed to its init key under the seals' numbers
-/// from `first_seal` on (RFC 9420, 12.4.3.1). 6 where the GroupInfo or the message is too large, 36 where an init key isn't
-/// fit. The confirmation tag has 32 bytes.
+/// The message of a Welcome to a group that a commit made, from the committer at leaf `signer`: the GroupInfo, signed
+/// and sealed once, and for each joiner the joiner secret and its path secret, sealed to its init key under the seals'
+/// numbers from `first_seal` on (RFC 9420, 12.4.3.1). `TooLong` (6) where the GroupInfo or the message is too large,
+/// `BadKey` (36) where an init key isn't fit. The confirmation tag has 32 bytes.
 pub fn welcome<S: Suite>(
     alloc: Global,
     group: &PublicGroup,
