@@ -2,14 +2,13 @@
 
 ghost use Rattle.std.specs.Prelude.{◌≡◌, ◌^◌, IfOk};
 ghost use Rattle.mls_leaf.specs.KeyPackage.{key_package as key_package_format};
-ghost use Rattle.mls_wire.specs.Checks.{Answers};
 ghost use Rattle.mls_leaf.specs.Leaf.{leaf_node as leaf_format};
 ghost use Rattle.mls_leaf.specs.declared.proposal.Proposal.TheVariants.{Add};
 ghost use Rattle.mls_public_group.specs.Short.{IsBelow};
 ghost use Rattle.mls_public_group.specs.ShortProposal.{IsShortProposal};
 ghost use Rattle.mls_model.specs.MemberInvariant.{IsGoodCandidate};
 ghost use Rattle.mls_model.specs.Candidate.{new_candidate, package_message};
-ghost use Rattle.mls_candidate.specs.Faults.{number_of};
+ghost use Rattle.mls_candidate.specs.Faults.{Gives};
 
 use crate::error::CandidateError;
 use crate::leaf::leaf_pair;
@@ -52,9 +51,10 @@ impl<S: Suite> Model for Candidate<S> {
 }
 
 impl<S: Suite> Candidate<S> {
-    /// A candidate of an identity and a seed: 57 where both keys are one, 6 where the message is too large.
+    /// A candidate of an identity and a seed: `InitKeySame` (57) where both keys are one, `TooLong` (6) where the
+    /// message is too large.
     pub fn new(alloc: Global, identity: &[u8], seed: &Seed) -> Result<Candidate<S>, CandidateError>
-        ensures answer { Answers (λ k. k) number_of (new_candidate S.crypto identity.now seed.now) result }
+        ensures answer { Gives (new_candidate S.crypto identity.now seed.now) result }
         ensures good { IfOk result (IsGoodCandidate S.crypto) }
     {
         let init = init_pair::<S>(alloc, seed)?;

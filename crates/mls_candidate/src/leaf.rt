@@ -5,7 +5,8 @@ ghost use Rattle.mls_leaf.specs.Leaf.{leaf_node, leaf_source};
 ghost use Rattle.mls_leaf.specs.declared.leaf.LeafSource.TheVariants.{KeyPackage as by_key_package};
 ghost use Rattle.mls_public_group.specs.Short.{IsBelow};
 ghost use Rattle.mls_candidate.specs.Short.{IsShortSource, IsShortLeaf};
-ghost use Rattle.mls_model.specs.Candidate.{leaf_key_of, made_capabilities, unsigned_leaf, signed_leaf};
+ghost use Rattle.mls_model.specs.Candidate.{leaf_key_of, made_capabilities, signed_leaf};
+ghost use Rattle.mls_candidate.specs.Leaves.{IsLeafOf, Renews, public_leaf_key};
 
 use mls_kdf::{Secret, Seed};
 use mls_leaf::{
@@ -19,7 +20,7 @@ use std::alloc::Global;
 #[tactic(auto, unfolding(mls_model::specs::Candidate::leaf_key_of))]
 pub(crate) fn leaf_pair<S: Suite>(alloc: Global, seed: &Seed) -> Result<KeyPair, OutOfMemory>
     ensures private { IfOk result (λ pair. pair.sk ≡ leaf_key_of S.crypto seed.now) }
-    ensures public { IfOk result (λ pair. pair.pk.items ≡ S.crypto.public (leaf_key_of S.crypto seed.now)) }
+    ensures public { IfOk result (λ pair. pair.pk.items ≡ public_leaf_key S.crypto seed.now) }
 {
     S::derive_key_pair(alloc, &leaf_seed(seed))
 }
@@ -62,7 +63,7 @@ pub(crate) fn unsigned_leaf<S: Suite>(
     credential: Credential,
     source: LeafSource,
 ) -> Result<LeafNode, OutOfMemory>
-    ensures { IfOk result (λ v. v ≡ unsigned_leaf S.crypto encryption_key.items signature_key credential source) }
+    ensures { IfOk result (IsLeafOf S.crypto encryption_key.items signature_key credential source) }
 {
     let capabilities = made_capabilities::<S>(alloc)?;
     Ok(LeafNode {
@@ -116,8 +117,9 @@ fn source_has_spelling(source: &LeafSource)
     }
 }
 
-/// A leaf that replaces another in a group: its encryption key is made of the seed, its signature key and its credential
-/// are those of the old one, and it is signed (RFC 9420, 7.2). A parent hash in its source has at most 32 bytes.
+/// A leaf that replaces another in a group: its encryption key is made of the seed, its signature key and its
+/// credential are those of the old one, and it is signed (RFC 9420, 7.2). A parent hash in its source has at most 32
+/// bytes.
 pub fn renewed_leaf<S: Suite>(
     alloc: Global,
     signing: &Secret,
@@ -130,7 +132,7 @@ pub fn renewed_leaf<S: Suite>(
     requires old { IsBelow (2 ^ 27) leaf_node old.now }
     requires group { length group_id.now < 2 ^ 28 }
     requires source { IsShortSource source }
-    ensures leaf { IfOk result (λ leaf. leaf ≡ signed_leaf S.crypto signing.now group_id.now index (unsigned_leaf S.crypto (S.crypto.public (leaf_key_of S.crypto seed.now)) old.now.signature_key old.now.credential source)) }
+    ensures leaf { Renews S.crypto signing.now group_id.now index old.now source seed.now result }
     // It isn't much longer than the old one.
     ensures below { IfOk result (λ leaf. IsBelow (2 ^ 28) leaf_node leaf) }
 {

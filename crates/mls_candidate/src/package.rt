@@ -1,14 +1,14 @@
 //! The KeyPackages that candidates offer.
 
-ghost use Rattle.std.specs.Prelude.{◌≡◌, ◌<◌, ◌≤◌, ◌^◌, length, IfOk};
+ghost use Rattle.std.specs.Prelude.{◌≡◌, ◌≤◌, ◌^◌, length, IfOk};
 ghost use Rattle.mls_leaf.specs.Faults.{Writes};
 ghost use Rattle.mls_leaf.specs.KeyPackage.{key_package};
 ghost use Rattle.mls_leaf.specs.Leaf.{leaf_node as leaf_format};
 ghost use Rattle.mls_leaf.specs.Limits.{input_limit};
-ghost use Rattle.mls_treekem_model.specs.Seeds.{sign_seed};
 ghost use Rattle.mls_public_group.specs.Short.{IsBelow};
 ghost use Rattle.mls_candidate.specs.Short.{IsShortPackage};
-ghost use Rattle.mls_model.specs.Candidate.{init_key_of, leaf_key_of, offered_leaf, unsigned_package, signed_package, package_message};
+ghost use Rattle.mls_model.specs.Candidate.{init_key_of, offered_leaf, signed_package, package_message};
+ghost use Rattle.mls_candidate.specs.Leaves.{offered_package, public_init_key, public_leaf_key};
 
 use crate::leaf::{sign_leaf, unsigned_leaf};
 use mls_kdf::{Secret, Seed};
@@ -24,7 +24,7 @@ use std::alloc::Global;
 #[tactic(auto, unfolding(mls_model::specs::Candidate::init_key_of))]
 pub(crate) fn init_pair<S: Suite>(alloc: Global, seed: &Seed) -> Result<KeyPair, OutOfMemory>
     ensures private { IfOk result (λ pair. pair.sk ≡ init_key_of S.crypto seed.now) }
-    ensures public { IfOk result (λ pair. pair.pk.items ≡ S.crypto.public (init_key_of S.crypto seed.now)) }
+    ensures public { IfOk result (λ pair. pair.pk.items ≡ public_init_key S.crypto seed.now) }
 {
     S::derive_key_pair(alloc, &init_seed(seed))
 }
@@ -38,7 +38,7 @@ fn offered_leaf<S: Suite>(
     encryption_key: Vec<u8>,
 ) -> Result<LeafNode, OutOfMemory>
     requires identity { length identity.now ≤ input_limit }
-    requires key { encryption_key.items ≡ S.crypto.public (leaf_key_of S.crypto seed.now) }
+    requires key { encryption_key.items ≡ public_leaf_key S.crypto seed.now }
     ensures leaf { IfOk result (λ v. v ≡ offered_leaf S.crypto identity.now seed.now) }
     ensures below { IfOk result (λ v. IsBelow (2 ^ 28) leaf_format v) }
 {
@@ -81,9 +81,9 @@ pub(crate) fn offered_package<S: Suite>(
     encryption_key: Vec<u8>,
 ) -> Result<KeyPackage, OutOfMemory>
     requires identity { length identity.now ≤ input_limit }
-    requires init { init_key.items ≡ S.crypto.public (init_key_of S.crypto seed.now) }
-    requires leaf { encryption_key.items ≡ S.crypto.public (leaf_key_of S.crypto seed.now) }
-    ensures package { IfOk result (λ k. k ≡ signed_package S.crypto (sign_seed seed.now) (unsigned_package S.crypto identity.now seed.now)) }
+    requires init { init_key.items ≡ public_init_key S.crypto seed.now }
+    requires leaf { encryption_key.items ≡ public_leaf_key S.crypto seed.now }
+    ensures package { IfOk result (λ k. k ≡ offered_package S.crypto identity.now seed.now) }
     ensures fits { IfOk result (λ k. key_package.Fits k) }
 {
     let leaf_node = offered_leaf::<S>(alloc, identity, seed, encryption_key)?;

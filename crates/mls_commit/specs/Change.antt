@@ -1,5 +1,5 @@
 -- What a commit makes of a public state, where its edits and the tree with its path are known.
-use Rattle.std.specs.Prelude.{ℕ, List}
+use Rattle.std.specs.Prelude.{◌≡◌, ℕ, List}
 use Rattle.mls_tree_model.specs.Term.{Term}
 use Rattle.mls_schedule.specs.Transcript.{confirmed_hash}
 use Rattle.mls_model.specs.PublicState.{PublicState, provisional_context, confirmed_context}
@@ -15,3 +15,7 @@ change_of p e t said signature =
       provisional = provisional_context p.context t;
       context = confirmed_context (provisional_context p.context t) (confirmed_hash p.interim 1 said signature);
     }
+
+-- the change is that one
+abbrev pub IsChange : PublicState → Edits → Term → List ℕ → List ℕ → Change → Type 0
+IsChange p e t said signature change = change ≡ change_of p e t said signature

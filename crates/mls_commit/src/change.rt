@@ -1,18 +1,17 @@
 //! What a commit makes of a public state, before its confirmation tag is known.
 
 ghost use Rattle.std.specs.Prelude.{◌≡◌, ◌+◌, ◌<◌, ◌^◌, length, IfOk};
-ghost use Rattle.mls_commit.specs.Change.{change_of};
+ghost use Rattle.mls_commit.specs.Change.{IsChange};
 ghost use Rattle.mls_model.specs.Commit.{public_with};
 ghost use Rattle.mls_model.specs.PublicState as model;
 ghost use Rattle.mls_public_group.specs.Short.{HasLeavesBelow};
-ghost use Rattle.mls_tree_model.specs.Hashes.{tree_hash};
 ghost use Rattle.mls_tree.specs.Tree.{term};
 
-use mls_types::GroupContext;
 use mls_leaf::Bytes;
 use mls_public_group::{Edits, PublicGroup, provisional_context};
 use mls_schedule::Transcript;
 use mls_tree::PublicTree;
+use mls_types::GroupContext;
 use std::alloc::{AllocError, Global};
 use std::marker::Model;
 
@@ -77,7 +76,7 @@ impl Change {
     ) -> Result<Change, AllocError>
         requires epoch { group.now.context.epoch + 1 < 2 ^ 64 }
         requires signature { length signature.now < 2 ^ 30 }
-        ensures { IfOk result (λ c. c ≡ change_of group.now edits (term tree) said.now signature.now) }
+        ensures { IfOk result (IsChange group.now edits (term tree) said.now signature.now) }
     {
         group.is_short();
         let mut tree = tree;

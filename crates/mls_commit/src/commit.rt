@@ -1,25 +1,20 @@
 //! The checks of a commit, and where it leads.
 
-ghost use Rattle.std.specs.Prelude.{◌≡◌, ◌<◌, ◌≤◌, ◌^◌, ◌+◌, ℕ, ◌||◌, true, not, is_some, length, IfOk, IfSome};
-ghost use Rattle.mls_wire.specs.Checks.{Answers};
+ghost use Rattle.std.specs.Prelude.{◌≡◌, ◌<◌, ◌^◌, ◌+◌, ◌||◌, true, not, is_some, length, IfOk, IfSome};
 ghost use Rattle.mls_leaf.specs.Leaf.{leaf_node};
-ghost use Rattle.mls_types.specs.Content.{framed_content};
-ghost use Rattle.mls_types.specs.declared.content.FramedContent as contents;
-ghost use Rattle.mls_model.specs.Commit as model;
 ghost use Rattle.mls_model.specs.Proposals as proposals;
-ghost use Rattle.mls_public_group.specs.NextTree.{next_term, is_merged, IsPreparedFor};
-ghost use Rattle.mls_public_group.specs.Short.{IsBelow, AreBelow, HasLeavesBelow, IsShortContext};
-ghost use Rattle.mls_commit.specs.Faults.{number_of};
-ghost use Rattle.mls_commit.specs.Received.{KeepsOwnTree};
+ghost use Rattle.mls_public_group.specs.NextTree.{is_merged, IsPreparedFor};
+ghost use Rattle.mls_public_group.specs.Short.{IsBelow, AreBelow, IsShortContext};
+ghost use Rattle.mls_commit.specs.Received.{KeepsOwnTree, Changes, HasTreesShortAs};
 ghost use Rattle.mls_commit.specs.PathChecks.{StaysMember};
+ghost use Rattle.mls_commit.specs.PathMerge.{AppliesPathIf};
 
 use crate::error::CommitError;
 use crate::path::apply_update_path;
 use crate::received::Received;
-use mls_types::UpdatePath;
 use mls_public_group::{Edits, NextTree, PublicGroup, Used, is_path_required};
 use mls_suite::Suite;
-use mls_types::Commit;
+use mls_types::{Commit, UpdatePath};
 use std::alloc::Global;
 
 /// Whether a commit of these has a path where it has to.
@@ -29,8 +24,8 @@ pub(crate) fn has_due_path(commit: &Commit, used: &[Used<'_>]) -> bool
     commit.path.is_some() || !is_path_required(used)
 }
 
-/// The tree after the edits, with the path merged where there is one. `is_own` says that there are no edits: the tree is
-/// the group's own.
+/// The tree after the edits, with the path merged where there is one. `is_own` says that there are no edits: the tree
+/// is the group's own.
 #[tactic(auto, unfolding(mls_model::specs::Commit::apply_path_if))]
 fn apply_path_if<S: Suite>(
     alloc: Global,
@@ -43,7 +38,7 @@ fn apply_path_if<S: Suite>(
     requires context { IsShortContext group.now.context }
     requires stays { StaysMember committer group.now.tree edits.now.tree }
     requires path { IfSome path.now (λ p. IsBelow (2 ^ 28) leaf_node p.leaf_node) }
-    ensures answer { Answers (next_term edits.now.tree) number_of (model.apply_path_if S.crypto group.now committer edits.now path.now) result }
+    ensures answer { AppliesPathIf S.crypto group.now committer edits.now path.now result }
     ensures follows { IfOk result (IsPreparedFor edits.now.tree) }
     ensures own { IfOk result (λ t. is_merged t ≡ true → is_own ≡ true) }
 {
@@ -54,9 +49,9 @@ fn apply_path_if<S: Suite>(
 }
 
 /// What a commit makes of a public state, by all of it but its confirmation tag: the checks of its proposals and of the
-/// tree after them, 64 where a path is required and missing, and those of its path; the first that fails is answered
-/// (RFC 9420, 12.4.2). `said` is the spelling of the commit's FramedContent, and `signature` its signature, of less than
-/// 2^30 bytes.
+/// tree after them, `PathMissing` (64) where a path is required and missing, and those of its path; the first that
+/// fails is answered (RFC 9420, 12.4.2). `said` is the spelling of the commit's FramedContent, and `signature` its
+/// signature, of less than 2^30 bytes.
 #[tactic(auto, unfolding(mls_model::specs::Commit::change_of_commit))]
 pub fn change_of_commit<S: Suite>(
     alloc: Global,
@@ -71,10 +66,10 @@ pub fn change_of_commit<S: Suite>(
     requires used { AreBelow (2 ^ 28) used.now }
     requires path { IfSome commit.now.path (λ p. IsBelow (2 ^ 28) leaf_node p.leaf_node) }
     requires signature { length signature.now < 2 ^ 30 }
-    ensures answer { (content : contents.FramedContent) → framed_content.spell content ≡ said.now
-        → Answers (λ r. r.change) number_of (model.change_of_commit S.crypto group.now committer used.now commit.now content signature.now) result }
+    ensures answer { Changes S.crypto group.now committer used.now commit.now
+        said.now signature.now result }
     // The leaves of both trees are as short as the group's, the proposals and the path's leaf.
-    ensures below { IfOk result (λ r. (n : ℕ) → 2 ^ 27 ≤ n → AreBelow n used.now → IfSome commit.now.path (λ p. IsBelow n leaf_node p.leaf_node) → HasLeavesBelow n r.change.edits.tree × HasLeavesBelow n r.change.tree) }
+    ensures below { IfOk result (λ r. HasTreesShortAs used.now commit.now.path r.change) }
     // A path is prepared for the group's own tree only where no proposal changes that.
     ensures own { IfOk result (KeepsOwnTree group.now.tree) }
 {

@@ -1,28 +1,27 @@
 //! The checks of a commit's path, and its merge.
 
-ghost use Rattle.std.specs.Prelude.{◌≡◌, ◌^◌, ◌∷◌, true, length, map, IfOk, IsSome, is_some};
+ghost use Rattle.std.specs.Prelude.{◌≡◌, ◌^◌, true, length, IfOk, IsSome};
 ghost use Rattle.std.specs.List.{list_all};
 ghost use Rattle.std.specs.Str.{bytes_eq};
-ghost use Rattle.mls_wire.specs.Checks.{Answers, passed, require};
+ghost use Rattle.mls_wire.specs.Checks.{Answers, passed};
 ghost use Rattle.mls_leaf.specs.Leaf.{leaf_node};
-ghost use Rattle.mls_types.specs.declared.update_path.UpdatePathNode.{UpdatePathNode};
 ghost use Rattle.mls_model.specs.Commit as model;
-ghost use Rattle.mls_public_group.specs.NextTree.{next_term, is_merged, IsPreparedFor};
+ghost use Rattle.mls_public_group.specs.NextTree.{is_merged, IsPreparedFor};
 ghost use Rattle.mls_public_group.specs.Short.{IsBelow, IsShortContext};
 ghost use Rattle.mls_tree.specs.Refusals.{RefusesOutright};
-ghost use Rattle.mls_tree.specs.Faults.{number_of as number_of_tree};
-ghost use Rattle.mls_tree.specs.Paths.{merge_answer};
 ghost use Rattle.mls_tree_model.specs.Term.{leaf_of};
 ghost use Rattle.mls_commit.specs.Faults.{number_of};
-ghost use Rattle.mls_commit.specs.PathChecks.{StaysMember, count_checks};
+ghost use Rattle.mls_commit.specs.PathChecks.{StaysMember, count_checks, counts_in, public_keys};
+ghost use Rattle.mls_commit.specs.PathMerge.{AppliesPath, MergesPath};
+ghost use Rattle.mls_public_group.specs.ProposalChecks.{member_check};
 
 use crate::error::CommitError;
 use mls_checks::{CheckError, Source, replaced};
-use mls_types::{UpdatePath, UpdatePathNode};
 use mls_leaf::{Bytes, LeafNode};
 use mls_public_group::{Edits, NextTree, PublicGroup};
 use mls_suite::Suite;
 use mls_tree::TreeError;
+use mls_types::{UpdatePath, UpdatePathNode};
 use std::alloc::{AllocError, Global};
 
 /// The public key of a node.
@@ -47,7 +46,7 @@ pub(crate) fn node_keys(alloc: Global, path: &UpdatePath) -> Result<Vec<Bytes>, 
 /// Whether the nodes, as many as these numbers, have so many ciphertexts.
 fn has_counts(nodes: &[UpdatePathNode], due: &[usize]) -> bool
     requires { length nodes.now ≡ length due.now }
-    ensures { result ≡ bytes_eq (map (λ (n : UpdatePathNode). length n.ciphertexts) nodes.now) due.now }
+    ensures { result ≡ bytes_eq (counts_in nodes.now) due.now }
 {
     let mut pairs = nodes.iter().zip(due);
     pairs.all(|(node, count)| node.ciphertexts.as_slice().len() == *count)
@@ -72,7 +71,7 @@ fn require_counts(committer: u32, edits: &Edits, path: &UpdatePath) -> Result<()
 
 /// Whether the keys of its leaf and of its nodes are fit.
 fn has_fit_keys<S: Suite>(path: &UpdatePath) -> bool
-    ensures { result ≡ list_all S.crypto.key_ok (path.now.leaf_node.encryption_key ∷ model.node_keys path.now) }
+    ensures { result ≡ list_all S.crypto.key_ok (public_keys path.now) }
 {
     let nodes = path.nodes.as_slice();
     S::key_ok(path.leaf_node.encryption_key.as_slice())
@@ -81,8 +80,8 @@ fn has_fit_keys<S: Suite>(path: &UpdatePath) -> bool
             .all(|node| S::key_ok(node.encryption_key.as_slice()))
 }
 
-/// A path that is to be merged, where its keys differ and its leaf has the parent hash: into the group's own tree, where
-/// there are no edits, and else into the one after them. It is prepared, and nothing is copied.
+/// A path that is to be merged, where its keys differ and its leaf has the parent hash: into the group's own tree,
+/// where there are no edits, and else into the one after them. It is prepared, and nothing is copied.
 fn merge_into(
     edits: &Edits,
     committer: u32,
@@ -90,7 +89,7 @@ fn merge_into(
     keys: Vec<Bytes>,
     is_own: bool,
 ) -> Result<NextTree, TreeError>
-    ensures answer { Answers (next_term edits.now.tree) number_of_tree (merge_answer edits.now.tree committer leaf keys.items) result }
+    ensures answer { MergesPath edits.now.tree committer leaf keys.items result }
     ensures follows { IfOk result (IsPreparedFor edits.now.tree) }
     ensures own { IfOk result (λ t. is_merged t ≡ true → is_own ≡ true) }
 {
@@ -102,10 +101,10 @@ fn merge_into(
     Ok(NextTree::EditedMerged(edits.tree.clone()?, path))
 }
 
-/// The tree after the edits with the committer's path merged, where these checks pass in this order: 22 no member is at
-/// its leaf, which takes no memory; 50 to 54 of its new leaf; 30 how many nodes the path has; 31 how many ciphertexts each
-/// of them has; 36 a key isn't fit; 25 two nodes have one encryption key; 24 the leaf hasn't the parent hash (RFC 9420,
-/// 12.4.2).
+/// The tree after the edits with the committer's path merged, where these checks pass in this order: `NoSuchLeaf` (22)
+/// no member is at its leaf, which takes no memory; 50 to 54 of its new leaf; `PathLength` (30) how many nodes the path
+/// has; `CipherCount` (31) how many ciphertexts each of them has; `BadKey` (36) a key isn't fit; `KeyRepeated` (25) two
+/// nodes have one encryption key; `ParentHashWrong` (24) the leaf hasn't the parent hash (RFC 9420, 12.4.2).
 #[tactic(auto, unfolding(mls_model::specs::Commit::apply_update_path))]
 pub(crate) fn apply_update_path<S: Suite>(
     alloc: Global,
@@ -118,10 +117,10 @@ pub(crate) fn apply_update_path<S: Suite>(
     requires context { IsShortContext group.now.context }
     requires stays { StaysMember committer group.now.tree edits.now.tree }
     requires path { IsBelow (2 ^ 28) leaf_node path.now.leaf_node }
-    ensures answer { Answers (next_term edits.now.tree) number_of (model.apply_update_path S.crypto group.now committer edits.now path.now) result }
+    ensures answer { AppliesPath S.crypto group.now committer edits.now path.now result }
     ensures follows { IfOk result (IsPreparedFor edits.now.tree) }
     ensures own { IfOk result (λ t. is_merged t ≡ true → is_own ≡ true) }
-    ensures outright { RefusesOutright number_of (require 22 (is_some (leaf_of group.now.tree committer))) result }
+    ensures outright { RefusesOutright number_of (member_check group.now.tree committer) result }
 {
     let Some(old) = group.tree().leaf(committer) else {
         return Err(CommitError::from(TreeError::NoSuchLeaf));

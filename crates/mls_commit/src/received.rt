@@ -1,16 +1,15 @@
 //! What a received commit makes of a public state, before its confirmation tag is checked.
 
 ghost use Rattle.std.specs.Prelude.{◌≡◌, ◌+◌, ◌<◌, ◌^◌, length, IfOk, OnOk, OnErr};
-ghost use Rattle.mls_commit.specs.Change.{change_of};
-ghost use Rattle.mls_commit.specs.Received.{KeepsOwnTree};
+ghost use Rattle.mls_commit.specs.Received.{KeepsOwnTree, HasChange};
 ghost use Rattle.mls_model.specs.Commit.{public_with};
 ghost use Rattle.mls_public_group.specs.NextTree.{next_term, is_merged, IsPreparedFor};
 ghost use Rattle.mls_public_group.specs.Short.{HasLeavesBelow};
 
 use crate::change::confirmed_context;
-use mls_types::GroupContext;
 use mls_public_group::{Edits, NextTree, PublicGroup, provisional_context};
 use mls_schedule::Transcript;
+use mls_types::GroupContext;
 use std::alloc::{AllocError, Global};
 use std::marker::Model;
 
@@ -58,7 +57,7 @@ impl Received {
         requires epoch { group.now.context.epoch + 1 < 2 ^ 64 }
         requires signature { length signature.now < 2 ^ 30 }
         requires follows { IsPreparedFor edits.tree tree }
-        ensures change { IfOk result (λ r. r.change ≡ change_of group.now edits (next_term edits.tree tree) said.now signature.now) }
+        ensures change { IfOk result (HasChange group.now edits tree said.now signature.now) }
         ensures own { IfOk result (λ r. r.on_own ≡ is_merged tree) }
     {
         group.is_short();
@@ -75,8 +74,9 @@ impl Received {
     }
 
     /// Begins the next epoch in the group that the commit was received in, with its confirmation tag (RFC 9420, 8.2),
-    /// which has less than 2^30 bytes. Nothing of a tree is copied: the path is merged into the group's own where there are
-    /// no proposals, and else into the edited one, which becomes the group's. Without memory the group is as before.
+    /// which has less than 2^30 bytes. Nothing of a tree is copied: the path is merged into the group's own where there
+    /// are no proposals, and else into the edited one, which becomes the group's. Without memory the group is as
+    /// before.
     #[tactic(auto, unfolding(mls_model::specs::Commit::public_with))]
     pub fn enter(self, alloc: Global, group: &mut PublicGroup, tag: &[u8]) -> Result<(), AllocError>
         requires of { KeepsOwnTree group.old.tree self }

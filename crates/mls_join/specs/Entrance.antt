@@ -1,14 +1,21 @@
 -- The member that an entrance makes of a candidate.
 use Rattle.std.specs.Prelude.{ℕ, ◌==◌, false, List, [], None, Result, Ok}
-use Rattle.mls_wire.specs.Checks.{Passed, require, require_some}
+use Rattle.mls_wire.specs.Checks.{Answers, Passed, require, require_some}
 use Rattle.mls_wire.specs.Reading.{◌>>=◌}
+use Rattle.mls_tree_model.specs.Term.{Term}
+use Rattle.mls_treekem_model.specs.Keys.{PrivateKeys}
 use Rattle.mls_model.specs.Candidate.{Candidate}
 use Rattle.mls_model.specs.Join.{JoinedMember}
 use Rattle.mls_model.specs.Messages.{decode_message}
 use Rattle.mls_model.specs.OpenedWelcome.{welcome_in}
+use Rattle.mls_join.specs.Faults.{number_of}
+use Rattle.mls_join.specs.Parts.{opened_by}
+use Rattle.mls_join.specs.Stages.{enter_group}
 use Rattle.mls_join.specs.declared.entrance.Entrance.{Entrance}
+use Rattle.mls_join.specs.declared.error.JoinError.{JoinError}
+use Rattle.mls_join.specs.declared.opening.Opened.{Opened}
 
--- with the candidate's signature key, and with nothing kept or pending yet
+-- the member that a candidate becomes, with its signature key, and with nothing kept or pending yet
 abbrev pub joined_by : Candidate → Entrance → JoinedMember
 joined_by k e = record {
   member = record { gone = false; public = e.group; epoch = e.epoch; keys = e.keys; signing = k.signing; kept = []; pending = None };
@@ -21,3 +28,13 @@ outer_checks number bytes = do
   outer ← decode_message bytes
   w ← require_some 70 (welcome_in outer)
   require 71 (w.cipher_suite == number)
+
+-- A call makes the candidate the member that the definition does, or refuses with its number. Where memory was refused it
+-- says nothing.
+abbrev pub Joins : Candidate → Result JoinedMember ℕ → Result Entrance JoinError → Type 0
+Joins k defined result = Answers (joined_by k) number_of defined result
+
+-- The call makes each candidate the member with these keys in this tree, or refuses with the number of what fails, memory
+-- aside.
+abbrev pub EntersGroup : Opened → Term → PrivateKeys → Result Entrance JoinError → Type 0
+EntersGroup opened t keys result = (k : Candidate) → Joins k (enter_group k (opened_by opened) t keys) result

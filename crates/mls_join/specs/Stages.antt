@@ -22,12 +22,12 @@ use Rattle.mls_schedule.specs.Transcript.{interim_hash}
 use Rattle.mls_view.specs.declared.welcome.WelcomeView.{WelcomeView}
 use Rattle.mls_view.specs.Shown.{ShowsWelcome}
 use Rattle.mls_model.specs.Candidate.{Candidate}
-use Rattle.mls_model.specs.Join.{JoinedMember, is_same_leaf}
+use Rattle.mls_model.specs.Join.{JoinedMember, is_same_leaf, joined_keys}
 use Rattle.mls_model.specs.Messages.{decode_message, are_bytes}
 use Rattle.mls_model.specs.OpenedWelcome.{Opened, welcome_in, or_fault, is_none_or_32, opened_secrets}
 use Rattle.mls_model.specs.Proposals.{package_reference}
 use Rattle.mls_join.specs.declared.error.JoinError.{JoinError}
-use Rattle.mls_join.specs.Faults.{number_of}
+use Rattle.mls_join.specs.Faults.{number_of, Gives}
 
 -- the Welcome that the bytes are: decoding, 70 (RFC 9420, 6)
 unfoldable pub read_welcome : List ℕ → Result Welcome ℕ
@@ -43,7 +43,7 @@ pub record IsShownIn (bytes : List ℕ) (view : WelcomeView) : Type 0 where
   pub is_read : read_welcome bytes ≡ Ok value
   pub shows : ShowsWelcome view value
 
--- a call lends it, or answers the first fault
+-- A call lends the view of the Welcome that the bytes are, or answers the first fault.
 abbrev pub LendsWelcome : List ℕ → Result WelcomeView JoinError → Type 0
 LendsWelcome bytes (Ok view) = IsShownIn bytes view
 LendsWelcome bytes (Err e) = read_welcome bytes ≡ Err (number_of e)
@@ -116,6 +116,8 @@ enter_group k o t keys = do
     info = o.bytes;
   })
 
--- the error is want of memory
-abbrev pub IsMemory : {E : Type 0} → (E → ℕ) → E → Type 0
-IsMemory number e = number e ≡ 1
+-- The call answers a new member's keys: with a path secret those that it gives, else its leaf's alone; or it refuses with
+-- the number of what fails, memory aside.
+abbrev pub GivesKeys : Crypto → Term → ℕ → ℕ → List ℕ → Option (List ℕ) → Result PrivateKeys JoinError → Type 0
+GivesKeys c t signer place own path_secret result =
+    Gives (joined_keys c t signer (record { leaf = place; own = own; above = [] }) path_secret) result

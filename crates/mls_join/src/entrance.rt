@@ -1,19 +1,15 @@
 //! What a candidate does with a Welcome.
 
 ghost use Rattle.std.specs.Prelude.{◌^◌};
-ghost use Rattle.mls_wire.specs.Checks.{Answers};
 ghost use Rattle.mls_leaf.specs.KeyPackage.{key_package};
-ghost use Rattle.mls_types.specs.GroupContext.{group_context};
 ghost use Rattle.mls_types.specs.GroupInfo.{group_info};
 ghost use Rattle.mls_tree.specs.Refusals.{RefusesOutright};
 ghost use Rattle.mls_tree.specs.Tree.{term};
 ghost use Rattle.mls_public_group.specs.Short.{IsBelow, HasLeavesBelow};
-ghost use Rattle.mls_model.specs.Candidate as model;
 ghost use Rattle.mls_model.specs.Join.{member_of, join_verdict};
-ghost use Rattle.mls_join.specs.Entrance.{joined_by, outer_checks};
+ghost use Rattle.mls_join.specs.Entrance.{outer_checks, EntersGroup, Joins};
 ghost use Rattle.mls_join.specs.Faults.{number_of};
 ghost use Rattle.mls_join.specs.Parts.{opened_by};
-ghost use Rattle.mls_join.specs.Stages.{enter_group};
 
 use crate::error::JoinError;
 use crate::keys::{joined_keys, place_of};
@@ -41,7 +37,7 @@ pub struct Entrance {
     pub group_info: Vec<u8>,
 }
 
-/// The new member with these keys in this tree: 65 the confirmation tag.
+/// The new member with these keys in this tree: `BadConfirmationTag` (65) the confirmation tag.
 #[tactic(auto, unfolding(crate::specs::Stages::enter_group))]
 fn enter_group(
     alloc: Global,
@@ -51,7 +47,7 @@ fn enter_group(
 ) -> Result<Entrance, JoinError>
     requires short { IsBelow (2 ^ 27) group_info opened.info }
     requires leaves { HasLeavesBelow (2 ^ 27) (term tree) }
-    ensures { (k : model.Candidate) → Answers (joined_by k) number_of (enter_group k (opened_by opened) (term tree) keys) result }
+    ensures { EntersGroup opened (term tree) keys result }
 {
     let Opened {
         joiner,
@@ -77,8 +73,8 @@ fn enter_group(
     })
 }
 
-/// The new member of an opened Welcome: the checks of tree and signer, 80 no leaf is the candidate's, 34 and 35, 65 the
-/// confirmation tag.
+/// The new member of an opened Welcome: the checks of tree and signer, `NotInTree` (80) no leaf is the candidate's,
+/// `PathKeyMismatch` (34) and `KeyMissing` (35), `BadConfirmationTag` (65) the confirmation tag.
 #[tactic(auto, unfolding(mls_model::specs::Join::member_of))]
 fn member_of<S: Suite>(
     alloc: Global,
@@ -87,7 +83,7 @@ fn member_of<S: Suite>(
 ) -> Result<Entrance, JoinError>
     requires offered { IsBelow (2 ^ 27) key_package candidate.now.offered }
     requires short { IsBelow (2 ^ 27) group_info opened.info }
-    ensures { Answers (joined_by candidate.now) number_of (member_of S.crypto candidate.now (opened_by opened)) result }
+    ensures { Joins candidate.now (member_of S.crypto candidate.now (opened_by opened)) result }
 {
     let tree = joined_tree::<S>(&opened.info)?;
     signer_checks::<S>(alloc, candidate, &opened.info, &tree)?;
@@ -106,19 +102,22 @@ fn member_of<S: Suite>(
     enter_group(alloc, tree, keys, opened)
 }
 
-/// The group that a Welcome leads the candidate into, or the first check that fails: decoding; 70 no Welcome; 71 another
-/// suite; 72 no entry for the candidate; 73 and 75 what doesn't open or isn't what it has to be; 74 a pre-shared key; 76
-/// no tree, 20 and 21 its shape and size, 77 its hash, then 23 to 26, 51, 52 and 36 the tree; 78 and 79 the signer; 80 no
-/// leaf is the candidate's; 34 and 35 its keys; 65 the confirmation tag (RFC 9420, 12.4.3.1). Decoding, 70 and the
-/// first 71 take no memory.
+/// The group that a Welcome leads the candidate into, or the first check that fails: decoding; `NotWelcome` (70) no
+/// Welcome; `WrongSuite` (71) another suite; `NotForMe` (72) no entry for the candidate; `SecretsUnreadable` (73) and
+/// `GroupInfoUnreadable` (75) what doesn't open or isn't what it has to be; `PskPresent` (74) a pre-shared key;
+/// `NoTree` (76) no tree, `TreeShape` (20) and `TreeFull` (21) its shape and size, `TreeHashWrong` (77) its hash, then
+/// 23 to 26, `LeafSignature` (51), `LeafCapability` (52) and `BadKey` (36) the tree; `SignerWrong` (78) and
+/// `GroupInfoSignature` (79) the signer; `NotInTree` (80) no leaf is the candidate's; `PathKeyMismatch` (34) and
+/// `KeyMissing` (35) its keys; `BadConfirmationTag` (65) the confirmation tag (RFC 9420, 12.4.3.1). Decoding,
+/// `NotWelcome` (70) and the first `WrongSuite` (71) take no memory.
 #[tactic(auto, unfolding(mls_model::specs::Join::join_verdict))]
 pub fn join<S: Suite>(
     alloc: Global,
     candidate: &Candidate<S>,
     bytes: &[u8],
 ) -> Result<Entrance, JoinError>
-    ensures answer { Answers (joined_by candidate.now) number_of (join_verdict S.crypto candidate.now bytes.now) result }
-    // Decoding, 70 and 71 of the Welcome come also when an allocation fails.
+    ensures answer { Joins candidate.now (join_verdict S.crypto candidate.now bytes.now) result }
+    // Decoding, `NotWelcome` (70) and `WrongSuite` (71) of the Welcome come also when an allocation fails.
     ensures outright { RefusesOutright number_of (outer_checks S.crypto.number bytes.now) result }
 {
     candidate.is_short();

@@ -1,14 +1,12 @@
 //! A new member's leaf and its private keys (RFC 9420, 12.4.3.1).
 
-ghost use Rattle.std.specs.Prelude.{◌≡◌, ◌^◌, [], IfSome};
+ghost use Rattle.std.specs.Prelude.{◌≡◌, ◌^◌, IfSome};
 ghost use Rattle.std.specs.Option.{option_map, option_copied};
-ghost use Rattle.mls_wire.specs.Checks.{Answers};
 ghost use Rattle.mls_leaf.specs.Leaf.{leaf_node};
 ghost use Rattle.mls_tree.specs.Tree.{term};
 ghost use Rattle.mls_public_group.specs.Short.{IsBelow, HasLeavesBelow};
-ghost use Rattle.mls_model.specs.Join.{place_of, joined_keys};
-ghost use Rattle.mls_join.specs.Faults.{number_of};
-ghost use Rattle.mls_join.specs.Stages.{is_at};
+ghost use Rattle.mls_model.specs.Join.{place_of};
+ghost use Rattle.mls_join.specs.Stages.{is_at, GivesKeys};
 
 use crate::error::JoinError;
 use mls_kdf::Secret;
@@ -44,8 +42,8 @@ pub(crate) fn place_of(tree: &PublicTree, leaf: &LeafNode) -> Option<u32>
     None
 }
 
-/// The new member's keys: with a path secret those that it gives, else its leaf's alone; 34, and 35 where one that is due
-/// is missing.
+/// The new member's keys: with a path secret those that it gives, else its leaf's alone; `PathKeyMismatch` (34), and
+/// `KeyMissing` (35) where one that is due is missing.
 pub(crate) fn joined_keys<S: Suite>(
     alloc: Global,
     tree: &PublicTree,
@@ -54,7 +52,7 @@ pub(crate) fn joined_keys<S: Suite>(
     own: &Secret,
     path_secret: &Option<Secret>,
 ) -> Result<PrivatePath, JoinError>
-    ensures { Answers (λ p. p) number_of (joined_keys S.crypto (term tree.now) signer (record { leaf = place; own = own.now; above = [] }) path_secret.now) result }
+    ensures { GivesKeys S.crypto (term tree.now) signer place own.now path_secret.now result }
 {
     let mut keys = PrivatePath::new(alloc, place, *own);
     let Some(secret) = path_secret else {

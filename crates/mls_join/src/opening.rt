@@ -2,7 +2,6 @@
 
 ghost use Rattle.std.specs.Prelude.{◌≡◌, ◌<◌, ◌^◌, length, true, IfOk, MatchResult};
 ghost use Rattle.std.specs.Option.{option_copied};
-ghost use Rattle.mls_wire.specs.Checks.{Answers};
 ghost use Rattle.mls_leaf.specs.Faults.{whole};
 ghost use Rattle.mls_leaf.specs.KeyPackage.{key_package};
 ghost use Rattle.mls_leaf.specs.Limits.{input_limit};
@@ -13,9 +12,9 @@ ghost use Rattle.mls_model.specs.Messages.{are_bytes};
 ghost use Rattle.mls_model.specs.OpenedWelcome.{or_fault, opened_welcome};
 ghost use Rattle.mls_model.specs.Proposals.{package_reference};
 ghost use Rattle.mls_join.specs.Entrance.{outer_checks};
-ghost use Rattle.mls_join.specs.Faults.{number_of};
-ghost use Rattle.mls_join.specs.Parts.{opened_by, secrets_by};
-ghost use Rattle.mls_join.specs.Stages.{LendsWelcome, read_welcome_of_suite, entry_of, plain_info, open_group_info, open_for_candidate, IsMemory};
+ghost use Rattle.mls_join.specs.Faults.{number_of, Gives, GivesBytes, IsMemory};
+ghost use Rattle.mls_join.specs.Parts.{secrets_by, Opens};
+ghost use Rattle.mls_join.specs.Stages.{LendsWelcome, read_welcome_of_suite, entry_of, plain_info, open_group_info, open_for_candidate};
 
 use crate::error::JoinError;
 use crate::secrets::{Secrets, opened_secrets};
@@ -42,7 +41,7 @@ pub(crate) struct Opened {
     pub(crate) info: GroupInfo,
 }
 
-/// The Welcome that the bytes are, lent: decoding, 70. Takes no memory.
+/// The Welcome that the bytes are, lent: decoding, `NotWelcome` (70). Takes no memory.
 fn welcome_view<'a>(bytes: &'a [u8]) -> Result<WelcomeView<'a>, JoinError>
     ensures { LendsWelcome bytes.now result }
 {
@@ -52,9 +51,9 @@ fn welcome_view<'a>(bytes: &'a [u8]) -> Result<WelcomeView<'a>, JoinError>
     }
 }
 
-/// The Welcome of the suite that the bytes are: decoding, 70, 71.
+/// The Welcome of the suite that the bytes are: decoding, `NotWelcome` (70), `WrongSuite` (71).
 fn read_welcome_of_suite<S: Suite>(alloc: Global, bytes: &[u8]) -> Result<Welcome, JoinError>
-    ensures answer { Answers (λ w. w) number_of (read_welcome_of_suite S.crypto.number bytes.now) result }
+    ensures answer { Gives (read_welcome_of_suite S.crypto.number bytes.now) result }
     ensures outright { RefusesOutright number_of (outer_checks S.crypto.number bytes.now) result }
     ensures short { IfOk result (λ w. length w.encrypted_group_info < 2 ^ 30) }
 {
@@ -69,7 +68,7 @@ fn read_welcome_of_suite<S: Suite>(alloc: Global, bytes: &[u8]) -> Result<Welcom
 /// The reference of a KeyPackage (RFC 9420, 5.2).
 fn package_reference(alloc: Global, offered: &KeyPackage) -> Result<Secret, JoinError>
     requires { IsBelow (2 ^ 27) key_package offered.now }
-    ensures { MatchResult result (λ r. r ≡ package_reference offered.now) (IsMemory number_of) }
+    ensures { MatchResult result (λ r. r ≡ package_reference offered.now) IsMemory }
 {
     let bytes = offered.encode(alloc)?;
     Ok(key_package_reference(&bytes))
@@ -85,9 +84,9 @@ fn entry_of<'a>(
     entries.iter().find(|entry| entry.new_member.as_slice() == reference.as_slice())
 }
 
-/// The GroupInfo that opened bytes are: 75.
+/// The GroupInfo that opened bytes are: `GroupInfoUnreadable` (75).
 fn info_in(alloc: Global, plain: &[u8]) -> Result<GroupInfo, JoinError>
-    ensures answer { Answers (λ v. v) number_of (or_fault 75 (whole group_info input_limit plain.now)) result }
+    ensures answer { Gives (or_fault 75 (whole group_info input_limit plain.now)) result }
     ensures bytes { are_bytes plain.now ≡ true }
     ensures below { IfOk result (λ v. IsBelow (2 ^ 27) group_info v) }
 {
@@ -100,9 +99,9 @@ fn info_in(alloc: Global, plain: &[u8]) -> Result<GroupInfo, JoinError>
     }
 }
 
-/// The bytes of the GroupInfo that is sealed under a joiner secret: 75 where it doesn't open.
+/// The bytes of the GroupInfo that is sealed under a joiner secret: `GroupInfoUnreadable` (75) where it doesn't open.
 fn plain_info<S: Suite>(alloc: Global, joiner: &Secret, sealed: &[u8]) -> Result<Vec<u8>, JoinError>
-    ensures { Answers (λ v. v.items) number_of (plain_info S.crypto joiner.now sealed.now) result }
+    ensures { GivesBytes (plain_info S.crypto joiner.now sealed.now) result }
 {
     let WelcomeKey { key, nonce } = Epoch::welcome_key(joiner);
     match S::aead_open(alloc, &key, &nonce, &[], sealed)? {
@@ -111,14 +110,14 @@ fn plain_info<S: Suite>(alloc: Global, joiner: &Secret, sealed: &[u8]) -> Result
     }
 }
 
-/// What the secrets of an entry open: 75, 71 the GroupInfo is of another suite.
+/// What the secrets of an entry open: `GroupInfoUnreadable` (75), `WrongSuite` (71) the GroupInfo is of another suite.
 #[tactic(auto, unfolding(crate::specs::Stages::open_group_info))]
 fn open_group_info<S: Suite>(
     alloc: Global,
     secrets: Secrets,
     sealed: &[u8],
 ) -> Result<Opened, JoinError>
-    ensures answer { Answers opened_by number_of (open_group_info S.crypto (secrets_by secrets) sealed.now) result }
+    ensures answer { Opens (open_group_info S.crypto (secrets_by secrets) sealed.now) result }
     ensures below { IfOk result (λ o. IsBelow (2 ^ 27) group_info o.info) }
 {
     let bytes = plain_info::<S>(alloc, &secrets.joiner, sealed)?;
@@ -134,7 +133,7 @@ fn open_group_info<S: Suite>(
     })
 }
 
-/// What a Welcome of the suite gives to a candidate: 72 to 75, 71 the GroupInfo is of another suite.
+/// What a Welcome of the suite gives to a candidate: 72 to 75, `WrongSuite` (71) the GroupInfo is of another suite.
 #[tactic(auto, unfolding(crate::specs::Stages::open_for_candidate))]
 fn open_for_candidate<S: Suite>(
     alloc: Global,
@@ -143,7 +142,7 @@ fn open_for_candidate<S: Suite>(
 ) -> Result<Opened, JoinError>
     requires offered { IsBelow (2 ^ 27) key_package candidate.now.offered }
     requires short { length welcome.now.encrypted_group_info < 2 ^ 30 }
-    ensures answer { Answers opened_by number_of (open_for_candidate S.crypto candidate.now welcome.now) result }
+    ensures answer { Opens (open_for_candidate S.crypto candidate.now welcome.now) result }
     ensures below { IfOk result (λ o. IsBelow (2 ^ 27) group_info o.info) }
 {
     let reference = package_reference(alloc, candidate.key_package())?;
@@ -164,7 +163,7 @@ pub(crate) fn opened_welcome<S: Suite>(
     bytes: &[u8],
 ) -> Result<Opened, JoinError>
     requires offered { IsBelow (2 ^ 27) key_package candidate.now.offered }
-    ensures answer { Answers opened_by number_of (opened_welcome S.crypto candidate.now bytes.now) result }
+    ensures answer { Opens (opened_welcome S.crypto candidate.now bytes.now) result }
     ensures outright { RefusesOutright number_of (outer_checks S.crypto.number bytes.now) result }
     ensures below { IfOk result (λ o. IsBelow (2 ^ 27) group_info o.info) }
 {

@@ -1,13 +1,13 @@
 //! What is sealed in a candidate's entry of a Welcome (RFC 9420, 12.4.3.1).
 
 ghost use Rattle.std.specs.Prelude.{◌<◌, ◌^◌, length};
-ghost use Rattle.mls_wire.specs.Checks.{Answers, AnswersOutright};
+ghost use Rattle.mls_wire.specs.Checks.{AnswersOutright};
 ghost use Rattle.mls_leaf.specs.Faults.{whole};
 ghost use Rattle.mls_leaf.specs.Limits.{input_limit};
 ghost use Rattle.mls_types.specs.Welcome.{group_secrets};
 ghost use Rattle.mls_model.specs.OpenedWelcome.{or_fault, opened_secrets};
-ghost use Rattle.mls_join.specs.Faults.{number_of};
-ghost use Rattle.mls_join.specs.Parts.{secrets_by};
+ghost use Rattle.mls_join.specs.Faults.{number_of, Gives, GivesBytes};
+ghost use Rattle.mls_join.specs.Parts.{secrets_by, OpensSecrets};
 ghost use Rattle.mls_join.specs.Stages.{secret_of_32, optional_secret_of_32, check_secret_lengths, decrypt_group_secrets};
 
 use crate::error::JoinError;
@@ -30,7 +30,7 @@ pub(crate) struct Secrets {
     pub(crate) psks: Bytes,
 }
 
-/// The secret that these bytes are: 73 unless there are 32.
+/// The secret that these bytes are: `SecretsUnreadable` (73) unless there are 32.
 fn secret_of(bytes: &Bytes) -> Result<Secret, JoinError>
     ensures { AnswersOutright (λ s. s) number_of (secret_of_32 bytes.now) result }
 {
@@ -40,7 +40,7 @@ fn secret_of(bytes: &Bytes) -> Result<Secret, JoinError>
     }
 }
 
-/// The path secret, where there is one: 73 unless it has 32 bytes.
+/// The path secret, where there is one: `SecretsUnreadable` (73) unless it has 32 bytes.
 fn path_secret_of(bytes: &Option<Bytes>) -> Result<Option<Secret>, JoinError>
     ensures { AnswersOutright (λ s. s) number_of (optional_secret_of_32 bytes.now) result }
 {
@@ -50,7 +50,7 @@ fn path_secret_of(bytes: &Option<Bytes>) -> Result<Option<Secret>, JoinError>
     }
 }
 
-/// The secrets, each of 32 bytes: 73.
+/// The secrets, each of 32 bytes: `SecretsUnreadable` (73).
 #[tactic(auto, unfolding(crate::specs::Stages::check_secret_lengths))]
 fn check_secret_lengths(secrets: GroupSecrets) -> Result<Secrets, JoinError>
     ensures { AnswersOutright secrets_by number_of (check_secret_lengths secrets) result }
@@ -64,9 +64,9 @@ fn check_secret_lengths(secrets: GroupSecrets) -> Result<Secrets, JoinError>
     })
 }
 
-/// The GroupSecrets that opened bytes are: 73.
+/// The GroupSecrets that opened bytes are: `SecretsUnreadable` (73).
 fn secrets_in(alloc: Global, bytes: &[u8]) -> Result<GroupSecrets, JoinError>
-    ensures { Answers (λ v. v) number_of (or_fault 73 (whole group_secrets input_limit bytes.now)) result }
+    ensures { Gives (or_fault 73 (whole group_secrets input_limit bytes.now)) result }
 {
     match GroupSecrets::decode(alloc, bytes) {
         Ok(secrets) => Ok(secrets),
@@ -77,7 +77,7 @@ fn secrets_in(alloc: Global, bytes: &[u8]) -> Result<GroupSecrets, JoinError>
     }
 }
 
-/// What a candidate's init key opens: 73 where it doesn't.
+/// What a candidate's init key opens: `SecretsUnreadable` (73) where it doesn't.
 fn decrypt_group_secrets<S: Suite>(
     alloc: Global,
     candidate: &Candidate<S>,
@@ -85,7 +85,7 @@ fn decrypt_group_secrets<S: Suite>(
     sealed: &HpkeCiphertext,
 ) -> Result<Vec<u8>, JoinError>
     requires { length info.now < 2 ^ 30 }
-    ensures { Answers (λ v. v.items) number_of (decrypt_group_secrets S.crypto candidate.now info.now sealed.now) result }
+    ensures { GivesBytes (decrypt_group_secrets S.crypto candidate.now info.now sealed.now) result }
 {
     let opened = decrypt_with_label::<S>(
         alloc,
@@ -101,8 +101,8 @@ fn decrypt_group_secrets<S: Suite>(
     }
 }
 
-/// What is sealed in a candidate's entry: 73 where it doesn't open, is no GroupSecrets, or has a secret that isn't 32
-/// bytes.
+/// What is sealed in a candidate's entry: `SecretsUnreadable` (73) where it doesn't open, is no GroupSecrets, or has a
+/// secret that isn't 32 bytes.
 #[tactic(auto, unfolding(mls_model::specs::OpenedWelcome::opened_secrets, crate::specs::Stages::check_secret_lengths))]
 pub(crate) fn opened_secrets<S: Suite>(
     alloc: Global,
@@ -111,7 +111,7 @@ pub(crate) fn opened_secrets<S: Suite>(
     entry: &EncryptedGroupSecrets,
 ) -> Result<Secrets, JoinError>
     requires { length welcome.now.encrypted_group_info < 2 ^ 30 }
-    ensures { Answers secrets_by number_of (opened_secrets S.crypto candidate.now welcome.now entry.now) result }
+    ensures { OpensSecrets (opened_secrets S.crypto candidate.now welcome.now entry.now) result }
 {
     let info = welcome.encrypted_group_info.as_slice();
     let bytes = decrypt_group_secrets::<S>(alloc, candidate, info, &entry.encrypted_group_secrets)?;

@@ -1,6 +1,6 @@
 //! The tree of the group that a candidate enters (RFC 9420, 12.4.3.1 and 12.4.3.3).
 
-ghost use Rattle.std.specs.Prelude.{◌≡◌, ◌^◌, IfOk};
+ghost use Rattle.std.specs.Prelude.{◌^◌, IfOk};
 ghost use Rattle.mls_wire.specs.Checks.{Answers};
 ghost use Rattle.mls_types.specs.GroupInfo.{group_info, ratchet_tree};
 ghost use Rattle.mls_tree_model.specs.Arrays.{from_nodes};
@@ -14,7 +14,7 @@ use mls_suite::Suite;
 use mls_tree::PublicTree;
 use mls_types::{GroupInfo, RatchetTree};
 
-/// The tree of nodes that were sent, which shares them: 20 and 21 its shape and size.
+/// The tree of nodes that were sent, which shares them: `TreeShape` (20) and `TreeFull` (21) its shape and size.
 fn tree_of(sent: &RatchetTree) -> Result<PublicTree, JoinError>
     requires { IsBelow (2 ^ 27) ratchet_tree sent.now }
     ensures answer { Answers term number_of (from_nodes max_leaves sent.now) result }
@@ -25,7 +25,8 @@ fn tree_of(sent: &RatchetTree) -> Result<PublicTree, JoinError>
     Ok(tree)
 }
 
-/// The tree of a GroupInfo: 76 there is none, 20 and 21 its shape and size, 77 its hash, then the checks of a whole tree.
+/// The tree of a GroupInfo: `NoTree` (76) there is none, `TreeShape` (20) and `TreeFull` (21) its shape and size,
+/// `TreeHashWrong` (77) its hash, then the checks of a whole tree.
 #[tactic(auto, unfolding(mls_model::specs::Join::joined_tree))]
 pub(crate) fn joined_tree<S: Suite>(info: &GroupInfo) -> Result<PublicTree, JoinError>
     requires { IsBelow (2 ^ 27) group_info info.now }

@@ -19,7 +19,7 @@ use Rattle.mls_types.specs.declared.content.Content.TheVariants as says
 use Rattle.mls_model.specs.PublicState.{Used}
 use Rattle.mls_model.specs.Member.{KeptProposal, find_proposal, find_proposals}
 use Rattle.mls_public_group.specs.Short.{IsBelow}
-use Rattle.mls_message.specs.Sending.{FitsIfShort}
+use Rattle.mls_public_group.specs.MessageLimit.{FitsIfShort}
 use Rattle.mls_theorems.specs.CommitSpelling.{LeafFitsIfShort}
 use Rattle.mls_theorems.proofs.Fit.{short_first, short_last, short_text, commit_fits}
 use Rattle.mls_make.specs.CommitCall.{AreShortUsed}

@@ -21,7 +21,7 @@ use Rattle.mls_model.specs.Messages.{is_within_limit, content_by, content_signat
 use Rattle.mls_model.specs.Make.{MadePath, Made, path_secret_for, path_seals, welcome_if, make}
 use Rattle.mls_model.specs.Welcome.{unsigned_info, signed_info, secrets_with, welcome_message}
 use Rattle.mls_commit.specs.Change.{change_of}
-use Rattle.mls_message.specs.Sending.{limited_text}
+use Rattle.mls_public_group.specs.MessageLimit.{limited_text}
 use Rattle.mls_message.specs.Speaks.{Speaks}
 use Rattle.mls_message.specs.declared.speaker.Speaker.{Speaker}
 use Rattle.mls_theorems.specs.CommitCalls.{joiner_of, epoch_of, tag_of}

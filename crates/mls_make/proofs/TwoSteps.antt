@@ -29,7 +29,7 @@ use Rattle.mls_model.specs.Messages.{is_within_limit, content_by, content_signat
 use Rattle.mls_model.specs.Make.{Made, MadePath, welcome_if, path_secret_for, path_seals}
 use Rattle.mls_model.specs.Welcome.{secrets_with, unsigned_info, signed_info, welcome_message}
 use Rattle.mls_commit.specs.Change.{change_of}
-use Rattle.mls_message.specs.Sending.{limited_text}
+use Rattle.mls_public_group.specs.MessageLimit.{limited_text}
 use Rattle.mls_message.specs.Speaks.{Speaks}
 use Rattle.mls_message.specs.declared.speaker.Speaker.{Speaker}
 use Rattle.mls_treekem.specs.declared.secrets.PathSecrets.{PathSecrets}

@@ -1,5 +1,5 @@
 pub mod Faults
 pub mod CommitSteps
-pub mod CommitCall
-pub mod OwnPath
 pub mod TwoSteps
+pub mod OwnPath
+pub mod CommitCall

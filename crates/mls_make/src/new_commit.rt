@@ -1,21 +1,15 @@
 //! Making a commit.
 
-ghost use Rattle.std.specs.Prelude.{◌≡◌, ◌+◌, ◌<◌, ◌≤◌, ◌^◌, ℕ, Bool, Ok, IfSome};
-ghost use Rattle.mls_wire.specs.Checks.{Answers};
+ghost use Rattle.std.specs.Prelude.{◌+◌, ◌<◌, ◌^◌, IfSome};
 ghost use Rattle.mls_leaf.specs.Leaf.{leaf_node};
-ghost use Rattle.mls_tree.specs.Tree.{term};
-ghost use Rattle.mls_model.specs.Member as model;
-ghost use Rattle.mls_public_group.specs.Short.{IsBelow, AreBelow, HasLeavesBelow};
-ghost use Rattle.mls_message.specs.Speaks.{Speaks};
-ghost use Rattle.mls_make.specs.Faults.{number_of};
-ghost use Rattle.mls_make.specs.CommitSteps.{commit_from_proposals, commit_from_path};
-ghost use Rattle.mls_make.specs.OwnPath.{made_own_path, IsOwnPath};
-ghost use Rattle.mls_make.specs.CommitCall.{made_as, AreShortUsed, AreUsedBy};
+ghost use Rattle.mls_public_group.specs.Short.{IsBelow};
+ghost use Rattle.mls_make.specs.OwnPath.{IsShortWith};
+ghost use Rattle.mls_make.specs.CommitCall.{AreShortUsed, AreUsedBy, CommitsList, CommitsPath};
 
+use crate::commit_welcome::{path_seals, with_welcome};
 use crate::error::MakeError;
 use crate::own_path::{OwnPath, own_path};
 use crate::send_commit::send_commit;
-use crate::commit_welcome::{path_seals, with_welcome};
 use mls_kdf::Seed;
 use mls_leaf::Items;
 use mls_message::Speaker;
@@ -55,9 +49,8 @@ fn commit_from_path<S: Suite>(
     requires list { AreUsedBy list used.now }
     requires used { AreShortUsed used.now }
     requires path { IfSome own.path (λ p. IsBelow (2 ^ 28) leaf_node p.leaf_node) }
-    requires leaves { AreBelow (2 ^ 27) used.now → IfSome own.path (λ p. IsBelow (2 ^ 27) leaf_node p.leaf_node) → HasLeavesBelow (2 ^ 27) (term own.tree) }
-    ensures { (m : model.Member) (wants : Bool) → Speaks m speaker.now → IsOwnPath S.crypto m used.now edits wants seed.now own
-        → Answers made_as number_of (commit_from_path S.crypto m list used.now edits (made_own_path own) seed.now) result }
+    requires leaves { IsShortWith used.now own }
+    ensures { CommitsPath S.crypto speaker.now list used.now edits own seed.now result }
 {
     let OwnPath {
         path,
@@ -76,8 +69,9 @@ fn commit_from_path<S: Suite>(
     with_welcome::<S>(alloc, speaker, used, sent, secrets, keys, first_seal, seed)
 }
 
-/// What a member makes by a commit of a list that uses these proposals, with a path where one is wanted or required: the
-/// first check of the commit that fails, 6 where a message or the GroupInfo is too long (RFC 9420, 12.4.1).
+/// What a member makes by a commit of a list that uses these proposals, with a path where one is wanted or required:
+/// the first check of the commit that fails, `TooLong` (6) where a message or the GroupInfo is too long (RFC 9420,
+/// 12.4.1).
 pub fn make_commit<S: Suite>(
     alloc: Global,
     speaker: &Speaker<'_>,
@@ -90,8 +84,7 @@ pub fn make_commit<S: Suite>(
     requires epoch { speaker.now.group.now.context.epoch + 1 < 2 ^ 64 }
     requires list { AreUsedBy list used.now }
     requires used { AreShortUsed used.now }
-    ensures { (m : model.Member) → Speaks m speaker.now → m.keys ≡ keys.now → model.find_proposals m.kept m.keys.leaf list ≡ Ok used.now
-        → Answers made_as number_of (commit_from_proposals S.crypto m list used.now wants_path seed.now) result }
+    ensures { CommitsList S.crypto speaker.now keys.now list used.now wants_path seed.now result }
 {
     let edits = speaker.group.apply_proposals::<S>(alloc, speaker.leaf, used)?;
     let own = own_path::<S>(alloc, speaker, keys, &edits, used, wants_path, seed)?;

@@ -1,28 +1,20 @@
 //! The path of a commit that a member makes, or none.
 
-ghost use Rattle.std.specs.Prelude.{◌≡◌, ◌<◌, ◌+◌, ◌^◌, ℕ, None, Ok, IfOk, IfSome};
-ghost use Rattle.mls_wire.specs.Checks.{Answers};
+ghost use Rattle.std.specs.Prelude.{◌≡◌, ◌<◌, ◌+◌, ◌^◌, None, IfOk, IfSome};
 ghost use Rattle.mls_leaf.specs.Leaf.{leaf_node};
 ghost use Rattle.mls_tree.specs.Tree.{term};
 ghost use Rattle.mls_model.specs.Commit.{apply_path_if};
-ghost use Rattle.mls_model.specs.Make.{no_path};
-ghost use Rattle.mls_model.specs.Member as model;
-ghost use Rattle.mls_model.specs.Proposals as proposals;
-ghost use Rattle.mls_model.specs.PublicState.{Used};
-ghost use Rattle.mls_public_group.specs.Short.{IsBelow, HasLeavesBelow};
-ghost use Rattle.mls_message.specs.Speaks.{Speaks};
-ghost use Rattle.mls_make.specs.Faults.{number_of};
-ghost use Rattle.mls_make.specs.CommitSteps.{path_if_needed};
-ghost use Rattle.mls_make.specs.OwnPath.{made_own_path, HaveSecrets};
+ghost use Rattle.mls_public_group.specs.Short.{IsBelow};
+ghost use Rattle.mls_make.specs.OwnPath.{HasSecrets, IsMerged, IsNoPath, KeepsLeaf, MakesPath, StaysShort};
 
 use crate::error::MakeError;
-use mls_types::UpdatePath;
 use mls_kdf::{Secret, Seed};
 use mls_message::Speaker;
 use mls_public_group::{Edits, Used, is_path_required};
 use mls_suite::{OutOfMemory, Suite};
 use mls_tree::PublicTree;
 use mls_treekem::{PathSecrets, PrivatePath};
+use mls_types::UpdatePath;
 use mls_update_path::{NewPath, new_path};
 use std::alloc::Global;
 
@@ -43,7 +35,7 @@ pub(crate) struct OwnPath {
 
 /// Without a path the commit secret is zeros, and the keys follow the edits (RFC 9420, 8).
 fn no_path(keys: &PrivatePath, edits: &Edits) -> Result<OwnPath, OutOfMemory>
-    ensures made { IfOk result (λ o. (m : model.Member) → m.keys ≡ keys.now → made_own_path o ≡ no_path m edits.now) }
+    ensures made { IfOk result (IsNoPath keys.now edits.now) }
     ensures none { IfOk result (λ o. o.path ≡ None) }
     ensures leaf { IfOk result (λ o. o.keys.leaf ≡ keys.now.leaf) }
     ensures tree { IfOk result (λ o. term o.tree ≡ edits.now.tree) }
@@ -73,14 +65,15 @@ pub(crate) fn own_path<S: Suite>(
     seed: &Seed,
 ) -> Result<OwnPath, MakeError>
     requires epoch { speaker.now.group.now.context.epoch + 1 < 2 ^ 64 }
-    ensures answer { (m : model.Member) → Speaks m speaker.now → m.keys ≡ keys.now → Answers made_own_path number_of (path_if_needed S.crypto m edits.now used.now wants_path seed.now) result }
-    ensures leaf { IfOk result (λ o. keys.now.leaf ≡ speaker.now.leaf → o.keys.leaf ≡ speaker.now.leaf) }
+    ensures answer { MakesPath S.crypto speaker.now keys.now edits.now used.now
+        wants_path seed.now result }
+    ensures leaf { IfOk result (KeepsLeaf speaker.now keys.now) }
     ensures below { IfOk result (λ o. IfSome o.path (λ p. IsBelow (2 ^ 28) leaf_node p.leaf_node)) }
-    ensures secrets { IfOk result (λ o. HaveSecrets S.crypto speaker.now.leaf edits.now seed.now o.path o.secrets) }
+    ensures secrets { IfOk result (HasSecrets S.crypto speaker.now edits.now seed.now) }
     // Each member merges it so.
-    ensures apply_path_if { IfOk result (λ o. apply_path_if S.crypto speaker.now.group.now speaker.now.leaf edits.now o.path ≡ Ok (term o.tree)) }
+    ensures apply_path_if { IfOk result (IsMerged S.crypto speaker.now edits.now) }
     // The leaves of the tree with it are as short as those of the tree after the edits and the new one.
-    ensures leaves { IfOk result (λ o. (n : ℕ) → HasLeavesBelow n edits.now.tree → IfSome o.path (λ p. IsBelow n leaf_node p.leaf_node) → HasLeavesBelow n (term o.tree)) }
+    ensures leaves { IfOk result (StaysShort edits.now.tree) }
 {
     if !wants_path && !is_path_required(used) {
         let none = no_path(keys, edits)?;

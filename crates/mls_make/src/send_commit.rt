@@ -1,24 +1,15 @@
 //! A commit that is sent, and the epoch that it begins.
 
 ghost use Rattle.std.specs.Prelude.{◌≡◌, ◌+◌, ◌<◌, ◌≤◌, ◌^◌, length, IfOk};
-ghost use Rattle.mls_wire.specs.Checks.{Answers};
-ghost use Rattle.mls_leaf.specs.Faults.{number_of as number_of_leaf};
 ghost use Rattle.mls_leaf.specs.Limits.{input_limit};
-ghost use Rattle.mls_types.specs.GroupContext.{group_context};
 ghost use Rattle.mls_types.specs.Commit.{commit as commit_format};
-ghost use Rattle.mls_types.specs.Content.{content as content_format, framed_content};
+ghost use Rattle.mls_types.specs.Content.{content as content_format};
 ghost use Rattle.mls_types.specs.SignedParts.{signed_with};
-ghost use Rattle.mls_types.specs.declared.commit.Commit as commits;
 ghost use Rattle.mls_types.specs.declared.content.Content.TheVariants as says;
 ghost use Rattle.mls_tree.specs.Tree.{term};
-ghost use Rattle.mls_schedule.specs.Epoch.{init_secret, joiner_secret, epoch_secret, confirmation_tag};
-ghost use Rattle.mls_model.specs.Member as model;
-ghost use Rattle.mls_model.specs.Messages.{content_by, content_signature, message_by};
-ghost use Rattle.mls_commit.specs.Change.{change_of};
-ghost use Rattle.mls_message.specs.Sending.{limited_text, FitsIfShort};
-ghost use Rattle.mls_message.specs.Speaks.{Speaks};
-ghost use Rattle.mls_make.specs.Faults.{number_of};
-ghost use Rattle.mls_make.specs.TwoSteps.{sent_as, send_commit};
+ghost use Rattle.mls_public_group.specs.MessageLimit.{FitsIfShort};
+ghost use Rattle.mls_make.specs.TwoSteps.{HasChange, HasJoiner, IsShortCommit, SendsCommit, epoch_of, tag_of};
+ghost use Rattle.mls_message.specs.Sending.{Sends, Signs};
 
 use crate::error::MakeError;
 use mls_commit::Change;
@@ -63,9 +54,9 @@ fn next_epoch(
     commit_secret: &Secret,
     change: &Change,
 ) -> Result<Begun, OutOfMemory>
-    ensures joiner { IfOk result (λ b. b.joiner ≡ joiner_secret (init_secret speaker.now.epoch.now) commit_secret.now (group_context.spell change.now.context)) }
-    ensures epoch { IfOk result (λ b. b.epoch ≡ epoch_secret b.joiner (group_context.spell change.now.context)) }
-    ensures tag { IfOk result (λ b. b.tag ≡ confirmation_tag b.epoch change.now.context.confirmed_transcript_hash) }
+    ensures joiner { IfOk result (HasJoiner speaker.now commit_secret.now change.now) }
+    ensures epoch { IfOk result (λ b. b.epoch ≡ epoch_of b.joiner change.now) }
+    ensures tag { IfOk result (λ b. b.tag ≡ tag_of b.epoch change.now) }
 {
     let context = &change.context;
     let spelled = context_spelling(alloc, context)?;
@@ -78,8 +69,8 @@ fn next_epoch(
     Ok(Begun { joiner, epoch, tag })
 }
 
-/// The message of a content with its signature, and with the confirmation tag where it is a commit: 6 it is too large
-/// (RFC 9420, 6).
+/// The message of a content with its signature, and with the confirmation tag where it is a commit: `TooLong` (6) it is
+/// too large (RFC 9420, 6).
 fn message_with_tag(
     alloc: Global,
     speaker: &Speaker<'_>,
@@ -88,7 +79,7 @@ fn message_with_tag(
     tag: &Secret,
 ) -> Result<Vec<u8>, LeafError>
     requires { length signature.items < 2 ^ 30 }
-    ensures { (m : model.Member) → Speaks m speaker.now → Answers (λ v. v.items) number_of_leaf (limited_text (message_by m (signed_with framed signature.items tag.now))) result }
+    ensures { Sends speaker.now (λ v. v.items) (signed_with framed signature.items tag.now) result }
 {
     let tag = Vec::from_slice(alloc, tag)?;
     let signed = framed.with_signature(signature, tag);
@@ -113,12 +104,12 @@ fn draft_commit<S: Suite>(
     commit_secret: &Secret,
 ) -> Result<Draft, OutOfMemory>
     requires epoch { speaker.now.group.now.context.epoch + 1 < 2 ^ 64 }
-    ensures signature { IfOk result (λ d. (m : model.Member) → Speaks m speaker.now → d.signature.items ≡ content_signature S.crypto m.signing framed.now m.public.context) }
+    ensures signature { IfOk result (λ d. Signs S.crypto speaker.now framed.now d.signature.items) }
     ensures short { IfOk result (λ d. length d.signature.items < 2 ^ 16) }
-    ensures change { IfOk result (λ d. d.change ≡ change_of speaker.now.group.now edits (term tree) (framed_content.spell framed.now) d.signature.items) }
-    ensures joiner { IfOk result (λ d. d.begun.joiner ≡ joiner_secret (init_secret speaker.now.epoch.now) commit_secret.now (group_context.spell d.change.context)) }
-    ensures epoch { IfOk result (λ d. d.begun.epoch ≡ epoch_secret d.begun.joiner (group_context.spell d.change.context)) }
-    ensures tag { IfOk result (λ d. d.begun.tag ≡ confirmation_tag d.begun.epoch d.change.context.confirmed_transcript_hash) }
+    ensures change { IfOk result (HasChange speaker.now edits tree framed.now) }
+    ensures joiner { IfOk result (λ d. HasJoiner speaker.now commit_secret.now d.change d.begun) }
+    ensures epoch { IfOk result (λ d. d.begun.epoch ≡ epoch_of d.begun.joiner d.change) }
+    ensures tag { IfOk result (λ d. d.begun.tag ≡ tag_of d.begun.epoch d.change) }
 {
     let signature = sign::<S>(alloc, speaker, framed)?;
     let change = Change::new(
@@ -139,14 +130,14 @@ fn draft_commit<S: Suite>(
 
 /// A law: a commit whose content is no larger than a message may be isn't either.
 fn know_short_commit(framed: &Framed, speaker: &Speaker<'_>)
-    ensures { (commit : commits.Commit) → ((m : model.Member) → Speaks m speaker.now → framed.now ≡ content_by m (says.Commit commit)) → length (commit_format.spell commit) ≤ input_limit }
+    ensures { IsShortCommit speaker.now framed.now }
 {
     let bytes = framed.bytes();
     let _length = bytes.len();
 }
 
-/// Sends a commit that passes its checks, with these edits, this tree with its path merged and this commit secret: 6 its
-/// message is too large (RFC 9420, 12.4.1).
+/// Sends a commit that passes its checks, with these edits, this tree with its path merged and this commit secret:
+/// `TooLong` (6) its message is too large (RFC 9420, 12.4.1).
 pub(crate) fn send_commit<S: Suite>(
     alloc: Global,
     speaker: &Speaker<'_>,
@@ -157,7 +148,7 @@ pub(crate) fn send_commit<S: Suite>(
 ) -> Result<SentCommit, MakeError>
     requires epoch { speaker.now.group.now.context.epoch + 1 < 2 ^ 64 }
     requires fits { FitsIfShort content_format (says.Commit commit) }
-    ensures answer { (m : model.Member) → Speaks m speaker.now → Answers sent_as number_of (send_commit S.crypto m commit edits (term tree) commit_secret.now) result }
+    ensures answer { SendsCommit S.crypto speaker.now commit edits tree commit_secret.now result }
     ensures short { IfOk result (λ _. length (commit_format.spell commit) ≤ input_limit) }
     ensures edits { IfOk result (λ s. s.change.edits ≡ edits) }
     ensures tree { IfOk result (λ s. s.change.tree ≡ term tree) }

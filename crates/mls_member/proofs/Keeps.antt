@@ -14,7 +14,7 @@ use Rattle.mls_suite.specs.Crypto.{Crypto}
 use Rattle.mls_tree_model.specs.Term.{Term, leaf_of}
 use Rattle.mls_public_group.specs.Short.{IsBelow, HasLeavesBelow}
 use Rattle.mls_message.specs.Speaks.{Speaks}
-use Rattle.mls_message.specs.Sending.{limited_text}
+use Rattle.mls_public_group.specs.MessageLimit.{limited_text}
 use Rattle.mls_message.specs.declared.speaker.Speaker.{Speaker}
 use Rattle.mls_model.specs.Candidate.{leaf_key_of, unsigned_leaf, signed_leaf}
 use Rattle.mls_model.specs.Member.{KeptProposal, Member, kept_under}

@@ -1,5 +1,6 @@
--- The numbers of these refusals.
-use Rattle.std.specs.Prelude.{ℕ}
+-- The numbers of these refusals, and what calls promise by these numbers.
+use Rattle.std.specs.Prelude.{ℕ, Result}
+use Rattle.mls_wire.specs.Checks.{Answers, DoesAs}
 use Rattle.mls_leaf.specs.Faults.{number_of as number_of_leaf}
 use Rattle.mls_public_group.specs.Faults.{number_of as number_of_group}
 use Rattle.mls_commit.specs.Faults.{number_of as number_of_commit}
@@ -33,3 +34,12 @@ number_of UnknownReference = 60
 number_of BadConfirmationTag = 65
 number_of EpochEnd = 66
 number_of PendingCommit = 67
+
+-- A call answers what the definition does, or refuses with its number. Where memory was refused it says nothing.
+abbrev pub Gives : {A : Type 0} → Result A ℕ → Result A Refusal → Type 0
+Gives defined result = Answers (λ x. x) number_of defined result
+
+-- A call does what the definition says, from an old state to a new one. A refusal changes nothing, and its number is the
+-- definition's, unless memory was refused.
+abbrev pub Does : {A S : Type 0} → Result (A × S) ℕ → S → S → Result A Refusal → Type 0
+Does defined old new result = DoesAs (λ x. x) number_of defined old new result

@@ -1,7 +1,8 @@
 pub mod Faults
 pub mod Codes
+pub mod Committing
 pub mod Answers
 pub mod Process
+pub mod Received
 pub mod FirstEpoch
 pub mod Proposing
-pub mod Committing

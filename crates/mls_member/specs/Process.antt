@@ -51,7 +51,7 @@ says_handshake (view_of.Application text) = false
 says_handshake (view_of.Proposal part) = true
 says_handshake (view_of.Commit proposals path) = true
 
--- the same of a message, and 46 its membership tag (RFC 9420, 6.2)
+-- the leaf of a message's sender, where it passes 42 to 45, and 46 the membership tag of the message (RFC 9420, 6.2)
 abbrev pub sender_of : Member → PublicMessage → Result LeafNode ℕ
 sender_of m v = do
   leaf ← sender_at m v.content.group_id v.content.epoch (sender_leaf v.content.sender) (is_handshake v.content.body)
@@ -77,7 +77,7 @@ message_verdict c m v bytes = framing_checks c m v bytes >> content_verdict c m 
 
 -- ---- a proposal
 
--- it is checked and kept under its reference (RFC 9420, 12.1)
+-- a proposal that is not known yet is checked and kept under its reference (RFC 9420, 12.1)
 unfoldable pub new_proposal : Crypto → Member → List ℕ → ℕ → List ℕ → Proposal → Result (Effect × Member) ℕ
 new_proposal c m reference sender bytes proposal =
     proposal_checks c m.public sender proposal >> Ok (Proposed reference, with_kept m (record { reference = reference; message = bytes; proposal = proposal; sender = sender; own_key = None }))
@@ -89,11 +89,12 @@ abbrev pub key_of : Option KeptProposal → Option (List ℕ)
 key_of None = None
 key_of (Some k) = k.own_key
 
--- whether a used proposal removes a leaf (RFC 9420, 12.1.3)
+-- whether the leaf that a remove names, if it is one, is this (RFC 9420, 12.1.3)
 abbrev pub is_leaf : ℕ → Option ℕ → Bool
 is_leaf leaf None = false
 is_leaf leaf (Some i) = i == leaf
 
+-- whether a used proposal is the remove of a leaf
 abbrev pub removes_leaf : ℕ → Used → Bool
 removes_leaf leaf u = is_leaf leaf (remove_in u.proposal)
 
@@ -137,7 +138,7 @@ IsShortContent (view_of.Commit proposals path) = (length proposals ≤ input_lim
 unfoldable pub IsShown : PublicMessageView → Type 0
 IsShown view = (shown : PublicMessage) × ShowsPublic view shown
 
--- so have the parts of a message
+-- the parts of a shown message have no more bytes than an input
 pub record IsShortView (view : PublicMessageView) : Type 0 where
   pub shown : IsShown view
   pub said : length view.framed_content.now ≤ input_limit

@@ -1,16 +1,15 @@
 //! The proposals of a commit call (RFC 9420, 12.4).
 
 ghost use Rattle.std.specs.Prelude.{◌≡◌, ◌^◌, map, IfOk};
-ghost use Rattle.mls_wire.specs.Checks.{Answers};
 ghost use Rattle.mls_leaf.specs.Proposal.{proposal as proposal_format};
 ghost use Rattle.mls_leaf.specs.declared.proposal.Proposal.TheVariants.{Remove};
 ghost use Rattle.mls_model.specs.Make.{listed_of};
-ghost use Rattle.mls_model.specs.Member.{find_proposal, find_proposals};
+ghost use Rattle.mls_model.specs.Member.{find_proposal};
 ghost use Rattle.mls_public_group.specs.Short.{IsBelow};
 ghost use Rattle.mls_public_group.specs.ShortProposal.{IsShortProposal};
 ghost use Rattle.mls_make.specs.CommitCall.{IsShortUsed, AreShortUsed};
-ghost use Rattle.mls_member.specs.Answers.{IsShortItem, AreShortItems};
-ghost use Rattle.mls_member.specs.Faults.{number_of};
+ghost use Rattle.mls_member.specs.Answers.{IsShortItem, AreShortItems, Finds};
+ghost use Rattle.mls_member.specs.Faults.{Gives};
 
 use crate::error::Refusal;
 use crate::kept_and_pending::KeptProposal;
@@ -50,7 +49,7 @@ fn know_removal(leaf: u32)
     ensures { IsBelow (2 ^ 28) proposal_format (Remove leaf) }
 {}
 
-/// A law: so has a proposal whose KeyPackage or leaf is short.
+/// A law: a proposal whose KeyPackage or leaf is short has a spelling, of fewer than 2^28 bytes.
 fn know_short(proposal: &Proposal)
     requires { IsShortProposal proposal.now }
     ensures { IsBelow (2 ^ 28) proposal_format proposal.now }
@@ -62,10 +61,11 @@ fn know_short(proposal: &Proposal)
     }
 }
 
-/// One proposal that a commit call uses: of the committer where it is given in full, else a kept one, or 60.
+/// One proposal that a commit call uses: of the committer where it is given in full, else a kept one, or
+/// `UnknownReference` (60).
 fn resolve_item<'a>(kept: &'a [KeptProposal], committer: u32, item: &'a Item) -> Result<Used<'a>, Refusal>
     requires { IsShortItem item.now }
-    ensures answer { Answers (λ u. u) number_of (find_proposal kept.now committer (listed_of item.now)) result }
+    ensures answer { Gives (find_proposal kept.now committer (listed_of item.now)) result }
     ensures short { IfOk result (λ u. IsShortUsed u) }
 {
     match item {
@@ -92,7 +92,7 @@ pub(crate) fn used_of_items<'a>(
     items: &'a [Item],
 ) -> Result<Vec<Used<'a>>, Refusal>
     requires { AreShortItems items.now }
-    ensures answer { Answers (λ v. v.items) number_of (find_proposals kept.now committer (map listed_of items.now)) result }
+    ensures answer { Finds kept.now committer (map listed_of items.now) result }
     ensures short { IfOk result (λ v. AreShortUsed v.items) }
 {
     let mut used = Vec::new(alloc);

@@ -3,21 +3,20 @@
 ghost use Rattle.std.specs.Prelude.{◌≡◌, ◌≤◌, ◌^◌, Some, length, IfOk};
 ghost use Rattle.mls_leaf.specs.Leaf.{leaf_node};
 ghost use Rattle.mls_public_group.specs.Short.{IsBelow, HasLeavesBelow, IsShortContext};
-ghost use Rattle.mls_member.specs.FirstEpoch.{first_public};
-ghost use Rattle.mls_wire.specs.Checks.{Answers, AnswersOutright, passed};
+ghost use Rattle.mls_member.specs.FirstEpoch.{first_public, context_with_leaf};
+ghost use Rattle.mls_wire.specs.Checks.{AnswersOutright, passed};
 ghost use Rattle.mls_wire.specs.Format.{IsBytes};
 ghost use Rattle.mls_model.specs.Messages.{is_within_limit};
 ghost use Rattle.mls_tree.specs.Tree.{term};
 ghost use Rattle.mls_leaf.specs.Limits.{input_limit};
 ghost use Rattle.mls_tree_model.specs.Term.{Leaf};
-ghost use Rattle.mls_model.specs.MemberInvariant.{IsGoodMember, IsGoodCandidate};
 ghost use Rattle.mls_model.specs.Candidate.{first_context, create_group};
-ghost use Rattle.mls_member.specs.Faults.{number_of};
+ghost use Rattle.mls_member.specs.Faults.{number_of, Gives};
+ghost use Rattle.mls_member.specs.Answers.{CreatesGood};
 
 use crate::error::Refusal;
 use crate::member::Member;
 use mls_candidate::Candidate;
-use mls_types::GroupContext;
 use mls_kdf::Seed;
 use mls_leaf::{Bytes, INPUT_LIMIT, LeafError, LeafNode};
 use mls_public_group::{PublicGroup, context_spelling};
@@ -25,6 +24,7 @@ use mls_schedule::{Epoch, Transcript};
 use mls_suite::{OutOfMemory, Suite};
 use mls_tree::PublicTree;
 use mls_treekem::PrivatePath;
+use mls_types::GroupContext;
 use mls_wire::WireError;
 use std::alloc::Global;
 use std::marker::PhantomData;
@@ -34,7 +34,7 @@ fn know_bytes(bytes: &[u8])
     ensures { IsBytes bytes.now }
 {}
 
-/// 6 where what was made is larger than a message may be.
+/// `TooLong` (6) where what was made is larger than a message may be.
 #[tactic(auto, unfolding(mls_model::specs::Messages::is_within_limit))]
 fn require_within_limit(bytes: &[u8]) -> Result<(), Refusal>
     ensures { AnswersOutright (λ _. passed) number_of (is_within_limit bytes.now) result }
@@ -76,7 +76,7 @@ fn first_parts<S: Suite>(
     requires leaf { IsBelow (2 ^ 27) leaf_node leaf.now }
     requires group { length group_id.now ≤ input_limit }
     ensures tree { IfOk result (λ p. term p.0 ≡ Leaf (Some leaf.now)) }
-    ensures context { IfOk result (λ p. p.1 ≡ first_context S.crypto group_id.now (Leaf (Some leaf.now))) }
+    ensures context { IfOk result (λ p. p.1 ≡ context_with_leaf S.crypto group_id.now leaf.now) }
     ensures short { IfOk result (λ p. IsShortContext p.1) }
     ensures below { IfOk result (λ p. HasLeavesBelow (2 ^ 27) (term p.0)) }
 {
@@ -85,7 +85,7 @@ fn first_parts<S: Suite>(
     Ok((tree, context))
 }
 
-/// The public state of epoch 0, or 6 where its context is too long.
+/// The public state of epoch 0, or `TooLong` (6) where its context is too long.
 #[tactic(auto, using(crate::proofs::FirstEpoch::public_refused, crate::proofs::FirstEpoch::public_made, crate::proofs::FirstEpoch::public_long))]
 fn first_group<S: Suite>(
     alloc: Global,
@@ -94,7 +94,7 @@ fn first_group<S: Suite>(
     epoch: &Epoch,
 ) -> Result<PublicGroup, Refusal>
     requires { IsBelow (2 ^ 27) leaf_node leaf.now }
-    ensures { Answers (λ g. g) number_of (first_public S.crypto leaf.now group_id.now epoch.now) result }
+    ensures { Gives (first_public S.crypto leaf.now group_id.now epoch.now) result }
 {
     // The context is longer than this.
     if group_id.len() > INPUT_LIMIT {
@@ -109,7 +109,8 @@ fn first_group<S: Suite>(
 }
 
 impl<S: Suite> Member<S> {
-    /// The group of a candidate alone, whose epoch secret is the seed: 6 where its GroupContext is too long (RFC 9420, 11).
+    /// The group of a candidate alone, whose epoch secret is the seed: `TooLong` (6) where its GroupContext is too long
+    /// (RFC 9420, 11).
     #[tactic(auto, using(crate::proofs::FirstEpoch::created_made, crate::proofs::FirstEpoch::created_refused))]
     pub fn create(
         alloc: Global,
@@ -117,8 +118,8 @@ impl<S: Suite> Member<S> {
         group_id: &[u8],
         seed: &Seed,
     ) -> Result<Member<S>, Refusal>
-        ensures answer { Answers (λ m. m) number_of (create_group S.crypto candidate.now group_id.now seed.now) result }
-        ensures good { IsGoodCandidate S.crypto candidate.now → IfOk result (λ m. IsGoodMember S.crypto m) }
+        ensures answer { Gives (create_group S.crypto candidate.now group_id.now seed.now) result }
+        ensures good { CreatesGood S.crypto candidate.now result }
     {
         let epoch = Epoch::first(seed);
         let group = match first_group::<S>(alloc, candidate.leaf_node(), group_id, &epoch) {

@@ -1,15 +1,10 @@
 //! The checks of every message (RFC 9420, 6).
 
 ghost use Rattle.std.specs.Prelude.{◌≡◌, IfOk};
-ghost use Rattle.std.specs.Str.{bytes_eq};
-ghost use Rattle.mls_wire.specs.Checks.{Answers, AnswersOutright, passed};
-ghost use Rattle.mls_tree.specs.Refusals.{RefusesOutright};
-ghost use Rattle.mls_model.specs.Messages.{sender_leaf, is_content_signed, content_tag};
-ghost use Rattle.mls_model.specs.Verdict.{is_kept, framing_checks};
-ghost use Rattle.mls_types.specs.declared.public_message.PublicMessage as messages;
-ghost use Rattle.mls_view.specs.Shown.{ShowsPublic};
-ghost use Rattle.mls_member.specs.Faults.{number_of};
-ghost use Rattle.mls_member.specs.Process.{sender_at, sender_of, check_sender, says_handshake, IsShortView};
+ghost use Rattle.mls_model.specs.Messages.{sender_leaf};
+ghost use Rattle.mls_model.specs.Verdict.{is_kept};
+ghost use Rattle.mls_member.specs.Process.{sender_at, says_handshake, IsShortView};
+ghost use Rattle.mls_member.specs.Received.{ChecksFraming, ChecksSender, LendsLeaf, LendsSender, RefusesSender, TellsSigned, TellsTag};
 
 use crate::error::Refusal;
 use crate::kept_and_pending::KeptProposal;
@@ -48,8 +43,9 @@ fn is_kept(kept: &[KeptProposal], bytes: &[u8]) -> bool
 }
 
 impl<S: Suite> Member<S> {
-    /// The leaf of a message's sender: 42 another group, 43 another epoch, 44 no member at the sender's leaf, 45
-    /// application data (RFC 9420, 6). It takes no memory.
+    /// The leaf of a message's sender: `WrongGroup` (42) another group, `WrongEpoch` (43) another epoch,
+    /// `SenderNotMember` (44) no member at the sender's leaf, `NotHandshake` (45) application data (RFC 9420, 6). It
+    /// takes no memory.
     #[tactic(auto, unfolding(crate::specs::Process::sender_at))]
     fn sender_at(
         &self,
@@ -58,7 +54,7 @@ impl<S: Suite> Member<S> {
         sender: u32,
         is_handshake: bool,
     ) -> Result<&LeafNode, Refusal>
-        ensures { AnswersOutright (λ l. l.now) number_of (sender_at self.now group_id.now epoch sender is_handshake) result }
+        ensures { LendsLeaf (sender_at self.now group_id.now epoch sender is_handshake) result }
     {
         if group_id != self.group.context().group_id.as_slice() {
             return Err(Refusal::WrongGroup);
@@ -75,9 +71,10 @@ impl<S: Suite> Member<S> {
         Ok(leaf)
     }
 
-    /// The same of a message, and 46 its membership tag (RFC 9420, 6.2). It takes no memory.
+    /// Answers the leaf of a message's sender, where that passes its checks and the message has its membership tag:
+    /// `BadMembershipTag` (46) where it hasn't (RFC 9420, 6.2). It takes no memory.
     fn sender_of(&self, view: &PublicMessageView<'_>) -> Result<&LeafNode, Refusal>
-        ensures { (shown : messages.PublicMessage) → ShowsPublic view.now shown → AnswersOutright (λ l. l.now) number_of (sender_of self.now shown) result }
+        ensures { LendsSender self.now view.now result }
     {
         let content = &view.content;
         let sender = sender_leaf(&content.sender);
@@ -92,8 +89,7 @@ impl<S: Suite> Member<S> {
     /// Whether the membership tag is that of the message (RFC 9420, 6.2). It takes no memory.
     #[tactic(auto, unfolding(mls_model::specs::Messages::content_tag, mls_schedule::specs::Epoch::membership_tag))]
     fn has_tag(&self, view: &PublicMessageView<'_>) -> bool
-        ensures { (shown : messages.PublicMessage) → ShowsPublic view.now shown
-            → result ≡ bytes_eq shown.membership_tag (content_tag self.now.epoch shown.content self.now.public.context) }
+        ensures { TellsTag self.now view.now result }
     {
         let tag = view.membership_tag_under(
             self.epoch.membership_key(),
@@ -106,7 +102,7 @@ impl<S: Suite> Member<S> {
     #[tactic(auto, unfolding(mls_model::specs::Messages::is_content_signed))]
     fn is_signed(&self, view: &PublicMessageView<'_>, key: &[u8]) -> Result<bool, AllocError>
         requires { IsShortView view.now }
-        ensures { IfOk result (λ b. (shown : messages.PublicMessage) → ShowsPublic view.now shown → b ≡ is_content_signed S.crypto key.now shown.content self.now.public.context) }
+        ensures { IfOk result (TellsSigned S.crypto self.now view.now key.now) }
     {
         self.group.is_short();
         let input = view.to_be_signed(self.alloc, self.group.context_bytes())?;
@@ -114,7 +110,8 @@ impl<S: Suite> Member<S> {
         verify_with_label::<S>(self.alloc, key, "FramedContentTBS", &input, signature)
     }
 
-    /// 47 the signature (RFC 9420, 6.1), 48 the member's own leaf, and no proposal that it keeps.
+    /// `BadSignature` (47) the signature (RFC 9420, 6.1), `OwnUnknown` (48) the member's own leaf, and no proposal that
+    /// it keeps.
     #[tactic(auto, unfolding(crate::specs::Process::check_sender))]
     fn check_sender(
         &self,
@@ -123,7 +120,7 @@ impl<S: Suite> Member<S> {
         leaf: &LeafNode,
     ) -> Result<(), Refusal>
         requires { IsShortView view.now }
-        ensures { (shown : messages.PublicMessage) → ShowsPublic view.now shown → Answers (λ _. passed) number_of (check_sender S.crypto self.now shown bytes.now leaf.now) result }
+        ensures { ChecksSender S.crypto self.now view.now bytes.now leaf.now result }
     {
         if !self.is_signed(view, leaf.signature_key.as_slice())? {
             return Err(Refusal::BadSignature);
@@ -135,17 +132,18 @@ impl<S: Suite> Member<S> {
         Ok(())
     }
 
-    /// 42 another group, 43 another epoch, 44 no member at the sender's leaf, 45 application data, 46 the membership tag
-    /// (RFC 9420, 6.2), 47 the signature (6.1), 48 the member's own leaf, and no proposal that it keeps.
+    /// `WrongGroup` (42) another group, `WrongEpoch` (43) another epoch, `SenderNotMember` (44) no member at the
+    /// sender's leaf, `NotHandshake` (45) application data, `BadMembershipTag` (46) the membership tag (RFC 9420, 6.2),
+    /// `BadSignature` (47) the signature (6.1), `OwnUnknown` (48) the member's own leaf, and no proposal that it keeps.
     pub(crate) fn framing_checks(
         &self,
         view: &PublicMessageView<'_>,
         bytes: &[u8],
     ) -> Result<(), Refusal>
         requires { IsShortView view.now }
-        ensures answer { (shown : messages.PublicMessage) → ShowsPublic view.now shown → Answers (λ _. passed) number_of (framing_checks S.crypto self.now shown bytes.now) result }
+        ensures answer { ChecksFraming S.crypto self.now view.now bytes.now result }
         // 42 to 46 come also when an allocation fails.
-        ensures outright { (shown : messages.PublicMessage) → ShowsPublic view.now shown → RefusesOutright number_of (sender_of self.now shown) result }
+        ensures outright { RefusesSender self.now view.now result }
     {
         let leaf = self.sender_of(view)?;
         self.check_sender(view, bytes, leaf)

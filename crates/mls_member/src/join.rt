@@ -1,13 +1,7 @@
 //! Joining a group.
 
-ghost use Rattle.std.specs.Prelude.{IfOk};
-ghost use Rattle.mls_wire.specs.Checks.{Answers};
-ghost use Rattle.mls_tree.specs.Refusals.{RefusesOutright};
-ghost use Rattle.mls_join.specs.Entrance.{outer_checks};
-ghost use Rattle.mls_model.specs.MemberInvariant.{IsGoodMember, IsGoodCandidate};
 ghost use Rattle.mls_model.specs.Join.{join_verdict};
-ghost use Rattle.mls_member.specs.Answers.{joined_as};
-ghost use Rattle.mls_member.specs.Faults.{number_of};
+ghost use Rattle.mls_member.specs.Answers.{AdmitsGood, Joins, RefusesOuter};
 
 use crate::error::Refusal;
 use crate::member::Member;
@@ -29,10 +23,10 @@ pub struct Joined<S: Suite> {
 impl<S: Suite> Member<S> {
     /// The member that a Welcome makes of a candidate, or the first check that fails (RFC 9420, 12.4.3.1).
     pub fn join(alloc: Global, candidate: &Candidate<S>, bytes: &[u8]) -> Result<Joined<S>, Refusal>
-        ensures answer { Answers joined_as number_of (join_verdict S.crypto candidate.now bytes.now) result }
-        ensures good { IsGoodCandidate S.crypto candidate.now → IfOk result (λ j. IsGoodMember S.crypto j.member) }
-        // Decoding, 70 and 71 of the Welcome come also when an allocation fails.
-        ensures outright { RefusesOutright number_of (outer_checks S.crypto.number bytes.now) result }
+        ensures answer { Joins (join_verdict S.crypto candidate.now bytes.now) result }
+        ensures good { AdmitsGood S.crypto candidate.now result }
+        // Decoding, `NotWelcome` (70) and `WrongSuite` (71) of the Welcome come also when an allocation fails.
+        ensures outright { RefusesOuter S.crypto.number bytes.now result }
     {
         let Entrance {
             group,

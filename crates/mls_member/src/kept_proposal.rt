@@ -1,10 +1,10 @@
 //! What a kept proposal says.
 
-ghost use Rattle.std.specs.Prelude.{◌≡◌, ◌^◌, option_map, IfSome};
+ghost use Rattle.std.specs.Prelude.{◌≡◌, ◌^◌, IfSome};
 ghost use Rattle.std.specs.Option.{option_copied};
 ghost use Rattle.mls_leaf.specs.Proposal.{proposal as proposal_format};
-ghost use Rattle.mls_model.specs.Member as model;
 ghost use Rattle.mls_public_group.specs.Short.{IsBelow};
+ghost use Rattle.mls_member.specs.Answers.{kept_proposal};
 
 use crate::kept_and_pending::KeptProposal;
 use crate::member::Member;
@@ -23,7 +23,7 @@ fn proposal_of(kept: &KeptProposal) -> &Proposal
 impl<S: Suite> Member<S> {
     /// The proposal that it keeps under a reference (RFC 9420, 12.1), which is spelled in fewer than 2^27 bytes.
     pub fn kept_proposal(&self, reference: &[u8]) -> Option<&Proposal>
-        ensures same { option_copied result ≡ option_map (λ (k : model.KeptProposal). k.proposal) (model.kept_under self.now.kept reference.now) }
+        ensures same { option_copied result ≡ kept_proposal self.now reference.now }
         ensures below { IfSome result (λ p. IsBelow (2 ^ 27) proposal_format p.now) }
     {
         match kept_under(&self.kept, reference) {

@@ -1,6 +1,6 @@
 //! A member.
 
-ghost use Rattle.std.specs.Prelude.{◌≡◌, option_map, is_some, IfOk};
+ghost use Rattle.std.specs.Prelude.{◌≡◌, is_some, IfOk};
 ghost use Rattle.std.specs.Option.{option_copied};
 ghost use Rattle.mls_types.specs.GroupContext.{group_context};
 ghost use Rattle.mls_types.specs.GroupInfo.{ratchet_tree};
@@ -9,22 +9,23 @@ ghost use Rattle.mls_tree_model.specs.Arrays.{to_nodes};
 ghost use Rattle.mls_treekem_model.specs.Height.{ArePairs};
 ghost use Rattle.mls_model.specs.MemberInvariant.{IsGoodMember};
 ghost use Rattle.mls_model.specs.Member as model;
+ghost use Rattle.mls_member.specs.Answers.{kept_message, pending_secret};
 
 use crate::kept_and_pending::{KeptProposal, Pending};
 use crate::used_proposals::kept_under;
-use mls_types::RatchetTree;
 use mls_kdf::Secret;
 use mls_leaf::{Codec, LeafError};
 use mls_public_group::PublicGroup;
 use mls_schedule::Epoch;
 use mls_suite::{OutOfMemory, Suite};
 use mls_treekem::PrivatePath;
+use mls_types::RatchetTree;
 use std::alloc::Global;
 use std::marker::{Model, PhantomData};
 
-/// A member of a group: the public state of the group, the epoch's secrets, its private keys, the proposals that it keeps,
-/// and its pending commit. One that a good candidate created or joined as is good, and stays so over each call: its tree is
-/// good, and it holds just the private keys that are due to it.
+/// A member of a group: the public state of the group, the epoch's secrets, its private keys, the proposals that it
+/// keeps, and its pending commit. One that a good candidate created or joined as is good, and stays so over each call:
+/// its tree is good, and it holds just the private keys that are due to it.
 #[derive(Drop)]
 pub struct Member<S: Suite> {
     pub(crate) gone: bool,
@@ -137,7 +138,7 @@ impl<S: Suite> Member<S> {
 
     /// The message of the proposal that it keeps under a reference (RFC 9420, 12.1).
     pub fn kept(&self, reference: &[u8]) -> Option<&[u8]>
-        ensures { option_copied result ≡ option_map (λ (k : model.KeptProposal). k.message) (model.kept_under self.now.kept reference.now) }
+        ensures { option_copied result ≡ kept_message self.now reference.now }
     {
         match kept_under(&self.kept, reference) {
             Some(k) => Some(&k.message),
@@ -147,7 +148,7 @@ impl<S: Suite> Member<S> {
 
     /// The epoch secret that its pending commit leads to.
     pub fn pending_secret(&self) -> Option<&Secret>
-        ensures { option_copied result ≡ option_map (λ (p : model.Pending). p.epoch) self.now.pending }
+        ensures { option_copied result ≡ pending_secret self.now }
     {
         match &self.pending {
             Some(p) => Some(p.epoch.epoch_secret()),

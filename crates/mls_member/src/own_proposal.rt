@@ -1,21 +1,17 @@
-//! Proposing. Where a call ends early, a large proposal is given to `drop`: that is one call, and the prover doesn't take
-//! it apart there.
+//! Proposing. Where a call ends early, a large proposal is given to `drop`: that is one call, and the prover doesn't
+//! take it apart there.
 
-ghost use Rattle.std.specs.Prelude.{◌≡◌, ◌^◌, true, false, Err, is_some, IfOk};
-ghost use Rattle.mls_wire.specs.Checks.{Answers, AnswersOutright, DoesAs, passed, require};
+ghost use Rattle.std.specs.Prelude.{◌≡◌, ◌^◌, true, Err, IfOk};
+ghost use Rattle.mls_wire.specs.Checks.{AnswersOutright, passed};
 ghost use Rattle.mls_leaf.specs.KeyPackage.{key_package as key_package_format};
 ghost use Rattle.mls_leaf.specs.Proposal.{proposal as proposal_format};
 ghost use Rattle.mls_leaf.specs.declared.proposal.Proposal.TheVariants.{Update};
 ghost use Rattle.mls_checks.specs.Checks.{key_package_checks};
 ghost use Rattle.mls_checks.specs.Short.{IsShort};
-ghost use Rattle.mls_tree_model.specs.Term.{leaf_of};
-ghost use Rattle.mls_tree.specs.Refusals.{RefusesOutright};
-ghost use Rattle.mls_public_group.specs.Faults.{number_of as number_of_group};
+ghost use Rattle.mls_public_group.specs.Faults.{number_of as number_of_group, Gives, Passes};
 ghost use Rattle.mls_public_group.specs.Short.{IsBelow};
 ghost use Rattle.mls_model.specs.MemberInvariant.{IsGoodMember};
-ghost use Rattle.mls_model.specs.Propose.{propose_add, propose_update, propose_remove};
-ghost use Rattle.mls_member.specs.Faults.{number_of};
-ghost use Rattle.mls_member.specs.Proposing.{updated_answer};
+ghost use Rattle.mls_member.specs.Proposing.{updated_answer, ProposesAdd, ProposesRemove, ProposesUpdate, RefusesNonMember, own_leaf_check};
 ghost use Rattle.mls_member.specs.declared.error.Refusal.TheVariants.{Gone};
 
 use crate::error::Refusal;
@@ -31,15 +27,15 @@ impl<S: Suite> Member<S> {
     /// The checks of a KeyPackage (RFC 9420, 12.1.1).
     fn require_package(&self, key_package: &KeyPackage) -> Result<(), GroupError>
         requires { IsBelow (2 ^ 28) key_package_format key_package.now }
-        ensures { Answers (λ _. passed) number_of_group (key_package_checks S.crypto key_package.now) result }
+        ensures { Passes (key_package_checks S.crypto key_package.now) result }
     {
         mls_checks::key_package::<S>(self.alloc, key_package)?;
         Ok(())
     }
 
-    /// The leaf of an update: 22 where the member has none (RFC 9420, 7.2).
+    /// The leaf of an update: `NoSuchLeaf` (22) where the member has none (RFC 9420, 7.2).
     fn updated_leaf(&self, seed: &Seed) -> Result<LeafNode, GroupError>
-        ensures leaf { Answers (λ v. v) number_of_group (updated_answer S.crypto self.now seed.now) result }
+        ensures leaf { Gives (updated_answer S.crypto self.now seed.now) result }
         ensures short { IfOk result (λ v. IsShort proposal_format (Update v)) }
     {
         let speaker = self.speaker();
@@ -56,9 +52,9 @@ impl<S: Suite> Member<S> {
         Ok(leaf)
     }
 
-    /// That the member has a leaf: 22. It takes no memory.
+    /// Refuses where the member has no leaf (`NoSuchLeaf` 22). It takes no memory.
     fn require_own_leaf(&self) -> Result<(), GroupError>
-        ensures { AnswersOutright (λ _. passed) number_of_group (require 22 (is_some (leaf_of self.now.public.tree self.now.keys.leaf))) result }
+        ensures { AnswersOutright (λ _. passed) number_of_group (own_leaf_check self.now) result }
     {
         match self.group.tree().leaf(self.keys.leaf()) {
             Some(_) => Ok(()),
@@ -66,12 +62,13 @@ impl<S: Suite> Member<S> {
         }
     }
 
-    /// Proposes to add a KeyPackage: its message, which the member keeps. 40 the member was removed, then the checks of the
-    /// KeyPackage, 6 the message is too long, 49 another message is kept under its reference (RFC 9420, 12.1.1).
+    /// Proposes to add a KeyPackage: its message, which the member keeps. `Gone` (40) the member was removed, then the
+    /// checks of the KeyPackage, `TooLong` (6) the message is too long, `ReferenceTaken` (49) another message is kept
+    /// under its reference (RFC 9420, 12.1.1).
     #[tactic(auto, unfolding(mls_model::specs::Propose::propose_add, mls_model::specs::Propose::make_proposal, mls_model::specs::Proposals::proposal_checks))]
     pub fn propose_add(&mut self, key_package: &KeyPackage) -> Result<Vec<u8>, Refusal>
         requires { IsBelow (2 ^ 28) key_package_format key_package.now }
-        ensures answer { DoesAs (λ v. v.items) number_of (propose_add S.crypto self.old key_package.now) self.old self.new result }
+        ensures answer { ProposesAdd S.crypto key_package.now self.old self.new result }
         ensures good { IsGoodMember S.crypto self.old → IsGoodMember S.crypto self.new }
         // It takes no memory.
         ensures gone { self.old.gone ≡ true → result ≡ Err Gone }
@@ -83,15 +80,16 @@ impl<S: Suite> Member<S> {
         self.send_and_keep(Proposal::Add(key_package.clone()?), None)
     }
 
-    /// Proposes a new key for the member's own leaf, made of the seed: its message, which the member keeps with the key. 40
-    /// the member was removed, then the checks of an update, 6 and 49 as of an addition (RFC 9420, 12.1.2).
+    /// Proposes a new key for the member's own leaf, made of the seed: its message, which the member keeps with the
+    /// key. `Gone` (40) the member was removed, then the checks of an update, `TooLong` (6) and `ReferenceTaken` (49)
+    /// as of an addition (RFC 9420, 12.1.2).
     #[tactic(auto, unfolding(mls_model::specs::Propose::propose_update, mls_model::specs::Propose::make_proposal))]
     pub fn propose_update(&mut self, seed: &Seed) -> Result<Vec<u8>, Refusal>
-        ensures answer { DoesAs (λ v. v.items) number_of (propose_update S.crypto self.old seed.now) self.old self.new result }
+        ensures answer { ProposesUpdate S.crypto seed.now self.old self.new result }
         ensures good { IsGoodMember S.crypto self.old → IsGoodMember S.crypto self.new }
-        // 40, and then 22, come also when an allocation fails.
+        // `Gone` (40), and then `NoSuchLeaf` (22), come also when an allocation fails.
         ensures gone { self.old.gone ≡ true → result ≡ Err Gone }
-        ensures no_leaf { self.old.gone ≡ false → RefusesOutright number_of (require 22 (is_some (leaf_of self.old.public.tree self.old.keys.leaf))) result }
+        ensures no_leaf { RefusesNonMember self.old self.old.keys.leaf result }
     {
         if self.gone {
             return Err(Refusal::Gone);
@@ -110,15 +108,16 @@ impl<S: Suite> Member<S> {
         self.send_and_keep(proposal, Some(own_key))
     }
 
-    /// Proposes to remove the member at a leaf: its message, which the member keeps. 40 the member was removed, 22 no member
-    /// is at that leaf, 6 and 49 as of an addition (RFC 9420, 12.1.3).
+    /// Proposes to remove the member at a leaf: its message, which the member keeps. `Gone` (40) the member was
+    /// removed, `NoSuchLeaf` (22) no member is at that leaf, `TooLong` (6) and `ReferenceTaken` (49) as of an addition
+    /// (RFC 9420, 12.1.3).
     #[tactic(auto, unfolding(mls_model::specs::Propose::propose_remove, mls_model::specs::Propose::make_proposal))]
     pub fn propose_remove(&mut self, leaf: u32) -> Result<Vec<u8>, Refusal>
-        ensures answer { DoesAs (λ v. v.items) number_of (propose_remove S.crypto self.old leaf) self.old self.new result }
+        ensures answer { ProposesRemove S.crypto leaf self.old self.new result }
         ensures good { IsGoodMember S.crypto self.old → IsGoodMember S.crypto self.new }
-        // 40, and then 22, come also when an allocation fails.
+        // `Gone` (40), and then `NoSuchLeaf` (22), come also when an allocation fails.
         ensures gone { self.old.gone ≡ true → result ≡ Err Gone }
-        ensures no_leaf { self.old.gone ≡ false → RefusesOutright number_of (require 22 (is_some (leaf_of self.old.public.tree leaf))) result }
+        ensures no_leaf { RefusesNonMember self.old leaf result }
     {
         if self.gone {
             return Err(Refusal::Gone);

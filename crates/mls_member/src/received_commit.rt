@@ -1,40 +1,24 @@
 //! Commits that are received, and the next epoch (RFC 9420, 12.4.2). Where a call ends early, what it received is given
 //! to `drop`: that is one call, and the prover doesn't take it apart there.
 
-ghost use Rattle.std.specs.Prelude.{◌≡◌, ◌≤◌, ◌<◌, ◌+◌, ◌^◌, ◌-◌, ℕ, nat_lt, List, length, IfSome, IfOk, IfErr};
-ghost use Rattle.std.specs.Option.{option_copied};
-ghost use Rattle.mls_tree.specs.Tree.{term};
-ghost use Rattle.mls_wire.specs.Checks.{Answers, DoesAs};
-ghost use Rattle.mls_wire.specs.Combine.{vector, optional};
+ghost use Rattle.std.specs.Prelude.{◌≡◌, ◌≤◌, ◌<◌, ◌+◌, ◌^◌, ◌-◌, nat_lt, length, IfSome, IfOk, IfErr};
+ghost use Rattle.mls_wire.specs.Combine.{optional};
 ghost use Rattle.mls_leaf.specs.Faults.{Spells};
 ghost use Rattle.mls_leaf.specs.declared.error.LeafError.TheVariants.{Wire as in_wire};
 ghost use Rattle.mls_wire.specs.declared.WireError.TheVariants.{OutOfMemory};
 ghost use Rattle.mls_leaf.specs.Limits.{input_limit};
 ghost use Rattle.mls_types.specs.UpdatePath.{update_path};
-ghost use Rattle.mls_types.specs.GroupContext.{group_context};
-ghost use Rattle.mls_schedule.specs.Epoch.{init_secret, next_epoch_secret, confirmation_tag};
-ghost use Rattle.mls_types.specs.Commit.{proposal_or_ref, proposal_or_ref_nonempty};
-ghost use Rattle.mls_types.specs.Content.{framed_content};
-ghost use Rattle.mls_types.specs.declared.content.FramedContent as contents;
-ghost use Rattle.mls_types.specs.declared.commit.Commit as commits;
-ghost use Rattle.mls_types.specs.declared.public_message.PublicMessage as messages;
-ghost use Rattle.mls_types.specs.declared.signed.SignedBody.TheVariants as body_of;
-ghost use Rattle.mls_treekem_model.specs.Height.{keys_on};
-ghost use Rattle.mls_treekem_model.specs.Make.{climb_to};
-ghost use Rattle.mls_treekem_model.specs.Open.{opened_path};
-ghost use Rattle.mls_model.specs.Member.{follow_edits, with_epoch, after_removal};
-ghost use Rattle.mls_model.specs.Verdict.{commit_verdict, open_path_secret};
+ghost use Rattle.mls_model.specs.Member.{with_epoch, after_removal};
 ghost use Rattle.mls_model.specs.declared.effect.Effect.TheVariants as effect;
 ghost use Rattle.mls_commit.specs.Received.{KeepsOwnTree};
 ghost use Rattle.mls_public_group.specs.Short.{HasLeavesBelow};
-ghost use Rattle.mls_view.specs.Shown.{ShowsPublic};
-ghost use Rattle.mls_member.specs.Faults.{number_of};
-ghost use Rattle.mls_member.specs.Process.{IsShortView, IsShortCommit, check_commit, follow_commit, edited_keys, enter_epoch_with};
+ghost use Rattle.mls_member.specs.Process.{IsShortView, IsShortCommit};
+ghost use Rattle.mls_member.specs.Received.{ChecksCommit, EntersEpoch, FollowsCommit, FollowsEdits, OpensPath, OpensSecret, SpellsList, TakesCommit, epoch_after, tag_after};
 
 use crate::error::Refusal;
 use crate::framing::sender_leaf;
 use crate::member::Member;
-use crate::used_proposals::{own_key, removes, find_proposals};
+use crate::used_proposals::{find_proposals, own_key, removes};
 use mls_commit::{Received, change_of_commit};
 use mls_kdf::Secret;
 use mls_leaf::{Items, LeafError};
@@ -63,7 +47,7 @@ fn read_commit(
 ) -> Result<Commit, LeafError>
     requires proposals { length proposals.now ≤ input_limit }
     requires path { length path.now ≤ input_limit }
-    ensures list { IfOk result (λ k. Spells (vector proposal_or_ref proposal_or_ref_nonempty) k.proposals proposals.now) }
+    ensures list { IfOk result (λ k. SpellsList k.proposals proposals.now) }
     ensures path { IfOk result (λ k. Spells (optional update_path) k.path path.now) }
     ensures short { IfOk result (λ k. IsShortCommit (2 ^ 27) k) }
     ensures memory { IfErr result (λ e. e ≡ in_wire OutOfMemory) }
@@ -85,13 +69,14 @@ fn tag_of<'a>(view: &PublicMessageView<'a>) -> &'a [u8]
     }
 }
 
-/// The private keys after the edits that made a tree, with the leaf's new key where there is one (RFC 9420, 7.7 and 12.1).
+/// The private keys after the edits that made a tree, with the leaf's new key where there is one (RFC 9420, 7.7 and
+/// 12.1).
 fn follow_edits(
     keys: &PrivatePath,
     tree: &PublicTree,
     own: Option<&Secret>,
 ) -> Result<PrivatePath, AllocError>
-    ensures keys { IfOk result (λ k. k ≡ follow_edits (option_copied own.entry) (term tree.now) keys.now) }
+    ensures keys { IfOk result (FollowsEdits own.entry tree.now keys.now) }
     ensures leaf { IfOk result (λ k. k.leaf ≡ keys.now.leaf) }
 {
     let mut copy = keys.clone()?;
@@ -108,7 +93,7 @@ fn open_commit_path<S: Suite>(
     context: &[u8],
 ) -> Result<Reached, Refusal>
     requires { length context.now < 2 ^ 30 }
-    ensures answer { Answers (λ r. climb_to r.secret r.keys) number_of (opened_path S.crypto context.now edits.now.added edits.now.tree committer keys.leaf (keys_on edits.now.tree keys) path.now.nodes) result }
+    ensures answer { OpensPath S.crypto edits.now committer path.now keys context.now result }
     ensures leaf { IfOk result (λ r. r.keys.leaf ≡ keys.leaf) }
 {
     let nodes = path.nodes.as_slice();
@@ -158,8 +143,8 @@ impl<S: Suite> Member<S> {
         self.pending = None;
     }
 
-    /// What a commit makes of the public state, and whether it removes the member: 60 a reference isn't kept, then the
-    /// checks of all that is public.
+    /// What a commit makes of the public state, and whether it removes the member: `UnknownReference` (60) a reference
+    /// isn't kept, then the checks of all that is public.
     #[tactic(auto, unfolding(crate::specs::Process::check_commit))]
     fn check_commit(
         &self,
@@ -171,8 +156,8 @@ impl<S: Suite> Member<S> {
         requires epoch { self.now.public.context.epoch + 1 < 2 ^ 64 }
         requires commit { IsShortCommit (2 ^ 27) commit.now }
         requires signature { length signature.now < 2 ^ 30 }
-        ensures answer { (content : contents.FramedContent) → framed_content.spell content ≡ said.now
-            → Answers (λ x. (x.0.change, x.1)) number_of (check_commit S.crypto self.now committer commit.now content signature.now) result }
+        ensures answer { ChecksCommit S.crypto self.now committer commit.now
+            said.now signature.now result }
         ensures leaves { IfOk result (λ x. HasLeavesBelow (2 ^ 27) x.0.change.tree) }
         ensures own { IfOk result (λ x. KeepsOwnTree self.now.public.tree x.0) }
     {
@@ -196,7 +181,7 @@ impl<S: Suite> Member<S> {
         received: &Received,
         commit: &Commit,
     ) -> Result<Reached, Refusal>
-        ensures answer { Answers (λ r. climb_to r.secret r.keys) number_of (open_path_secret S.crypto self.now committer received.now.change (edited_keys self.now commit.now received.now.change) commit.now.path) result }
+        ensures answer { OpensSecret S.crypto self.now committer received.now commit.now result }
         ensures leaf { IfOk result (λ r. r.keys.leaf ≡ self.now.keys.leaf) }
     {
         let edits = &received.edits;
@@ -220,8 +205,8 @@ impl<S: Suite> Member<S> {
         received: &Received,
         secret: &Secret,
     ) -> Result<(Epoch, Secret), AllocError>
-        ensures epoch { IfOk result (λ r. r.0 ≡ next_epoch_secret (init_secret self.now.epoch) secret.now (group_context.spell received.now.change.context)) }
-        ensures tag { IfOk result (λ r. r.1 ≡ confirmation_tag r.0 received.now.change.context.confirmed_transcript_hash) }
+        ensures epoch { IfOk result (λ r. r.0 ≡ epoch_after self.now secret.now received.now) }
+        ensures tag { IfOk result (λ r. r.1 ≡ tag_after r.0 received.now) }
     {
         let context = context_spelling(self.alloc, &received.context)?;
         let start = Epoch::next(self.epoch.init_secret(), secret, &context);
@@ -230,7 +215,7 @@ impl<S: Suite> Member<S> {
         Ok((start.epoch, tag))
     }
 
-    /// Enters the next epoch: 65 where the confirmation tag isn't that of it (RFC 9420, 8.1).
+    /// Enters the next epoch: `BadConfirmationTag` (65) where the confirmation tag isn't that of it (RFC 9420, 8.1).
     #[tactic(auto, unfolding(crate::specs::Process::enter_epoch_with, mls_model::specs::Member::with_epoch))]
     fn enter_epoch(
         &mut self,
@@ -241,7 +226,7 @@ impl<S: Suite> Member<S> {
         requires own { KeepsOwnTree self.old.public.tree received }
         requires leaves { HasLeavesBelow (2 ^ 27) received.change.tree }
         requires tag { length tag.now < 2 ^ 30 }
-        ensures { DoesAs (λ e. e) number_of (enter_epoch_with self.old received.change reached.secret reached.keys tag.now) self.old self.new result }
+        ensures { EntersEpoch received reached tag.now self.old self.new result }
     {
         let Reached { secret, keys } = reached;
         let (epoch, due) = match self.next_epoch(&received, &secret) {
@@ -279,8 +264,8 @@ impl<S: Suite> Member<S> {
         requires commit { IsShortCommit (2 ^ 27) commit.now }
         requires signature { length signature.now < 2 ^ 30 }
         requires tag { length tag.now < 2 ^ 30 }
-        ensures { (content : contents.FramedContent) → framed_content.spell content ≡ said.now
-            → DoesAs (λ e. e) number_of (follow_commit S.crypto self.old committer commit.now content signature.now tag.now) self.old self.new result }
+        ensures { FollowsCommit S.crypto committer commit.now said.now signature.now tag.now
+            self.old self.new result }
     {
         let (received, is_removed) = self.check_commit(committer, commit, said, signature)?;
         if is_removed {
@@ -298,9 +283,9 @@ impl<S: Suite> Member<S> {
         self.enter_epoch(received, reached, tag)
     }
 
-    /// Follows a commit: 66 no epoch comes after this, 60 a reference isn't kept, then the checks of all that is public.
-    /// There a member that is removed stops; others take the path's secret, 32 to 34, and 65 where the confirmation tag
-    /// isn't that of the new epoch (RFC 9420, 12.4.2).
+    /// Follows a commit: `EpochEnd` (66) no epoch comes after this, `UnknownReference` (60) a reference isn't kept,
+    /// then the checks of all that is public. There a member that is removed stops; others take the path's secret, 32
+    /// to 34, and `BadConfirmationTag` (65) where the confirmation tag isn't that of the new epoch (RFC 9420, 12.4.2).
     pub(crate) fn commit_verdict(
         &mut self,
         view: &PublicMessageView<'_>,
@@ -310,9 +295,7 @@ impl<S: Suite> Member<S> {
         requires view { IsShortView view.now }
         requires proposals { length proposals.now ≤ input_limit }
         requires path { length path.now ≤ input_limit }
-        ensures { (shown : messages.PublicMessage) (commit : commits.Commit) (tag : List ℕ) → ShowsPublic view.now shown → shown.content.body ≡ body_of.Commit commit tag
-            → Spells (vector proposal_or_ref proposal_or_ref_nonempty) commit.proposals proposals.now → Spells (optional update_path) commit.path path.now
-            → DoesAs (λ e. e) number_of (commit_verdict S.crypto self.old shown.content commit tag) self.old self.new result }
+        ensures { TakesCommit S.crypto view.now proposals.now path.now self.old self.new result }
     {
         if !self.has_next() {
             return Err(Refusal::EpochEnd);

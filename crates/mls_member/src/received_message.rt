@@ -1,12 +1,9 @@
 //! Bytes that are not the member's own pending commit.
 
-ghost use Rattle.mls_wire.specs.Checks.{DoesAs};
 ghost use Rattle.mls_tree.specs.Refusals.{RefusesOutright};
-ghost use Rattle.mls_model.specs.Verdict.{bytes_verdict};
-ghost use Rattle.mls_types.specs.declared.public_message.PublicMessage as messages;
-ghost use Rattle.mls_view.specs.Shown.{ShowsPublic};
 ghost use Rattle.mls_member.specs.Faults.{number_of};
-ghost use Rattle.mls_member.specs.Process.{outer_checks, sender_of, message_verdict, IsShortView};
+ghost use Rattle.mls_member.specs.Process.{outer_checks, IsShortView};
+ghost use Rattle.mls_member.specs.Received.{RefusesSender, TakesBytes, TakesMessage};
 
 use crate::error::Refusal;
 use crate::member::Member;
@@ -15,9 +12,10 @@ use mls_suite::Suite;
 use mls_view::{ContentView, MessageView, PublicMessageView};
 
 impl<S: Suite> Member<S> {
-    /// What bytes do: decoding, 41 no PublicMessage, the checks of every message, and then by content (RFC 9420, 6).
+    /// What bytes do: decoding, `NotPublicMessage` (41) no PublicMessage, the checks of every message, and then by
+    /// content (RFC 9420, 6).
     pub(crate) fn bytes_verdict(&mut self, bytes: &[u8]) -> Result<Effect, Refusal>
-        ensures verdict { DoesAs (λ e. e) number_of (bytes_verdict S.crypto self.old bytes.now) self.old self.new result }
+        ensures verdict { TakesBytes S.crypto bytes.now self.old self.new result }
         // Decoding, and 41 to 46, come also when an allocation fails.
         ensures outright { RefusesOutright number_of (outer_checks self.old bytes.now) result }
     {
@@ -34,9 +32,8 @@ impl<S: Suite> Member<S> {
         bytes: &[u8],
     ) -> Result<Effect, Refusal>
         requires { IsShortView view.now }
-        ensures verdict { (shown : messages.PublicMessage) → ShowsPublic view.now shown
-            → DoesAs (λ e. e) number_of (message_verdict S.crypto self.old shown bytes.now) self.old self.new result }
-        ensures outright { (shown : messages.PublicMessage) → ShowsPublic view.now shown → RefusesOutright number_of (sender_of self.old shown) result }
+        ensures verdict { TakesMessage S.crypto view.now bytes.now self.old self.new result }
+        ensures outright { RefusesSender self.old view.now result }
     {
         self.framing_checks(view, bytes)?;
         match &view.content.content {

@@ -1,19 +1,13 @@
-//! Proposals that are received (RFC 9420, 12.1). Where a call ends early, a proposal is given to `drop`: that is one call,
-//! and the prover doesn't take it apart there.
+//! Proposals that are received (RFC 9420, 12.1). Where a call ends early, a proposal is given to `drop`: that is one
+//! call, and the prover doesn't take it apart there.
 
 ghost use Rattle.std.specs.Prelude.{◌≡◌, ◌≤◌, ◌^◌, is_some, length};
-ghost use Rattle.mls_wire.specs.Checks.{DoesAs};
-ghost use Rattle.mls_leaf.specs.Faults.{Spells};
 ghost use Rattle.mls_leaf.specs.Limits.{input_limit};
 ghost use Rattle.mls_leaf.specs.Proposal.{proposal as proposal_format};
-ghost use Rattle.mls_leaf.specs.declared.proposal.Proposal as proposals;
 ghost use Rattle.mls_model.specs.Member.{kept_under};
-ghost use Rattle.mls_model.specs.Verdict.{proposal_verdict};
-ghost use Rattle.mls_types.specs.declared.public_message.PublicMessage as messages;
 ghost use Rattle.mls_public_group.specs.Short.{IsBelow};
-ghost use Rattle.mls_view.specs.Shown.{ShowsPublic};
-ghost use Rattle.mls_member.specs.Faults.{number_of};
-ghost use Rattle.mls_member.specs.Process.{new_proposal, IsShortView};
+ghost use Rattle.mls_member.specs.Process.{IsShortView};
+ghost use Rattle.mls_member.specs.Received.{KeepsNew, TakesProposal};
 
 use crate::error::Refusal;
 use crate::framing::sender_leaf;
@@ -44,7 +38,7 @@ impl<S: Suite> Member<S> {
         bytes: &[u8],
     ) -> Result<Effect, Refusal>
         requires { IsBelow (2 ^ 27) proposal_format proposal }
-        ensures { DoesAs (λ e. e) number_of (new_proposal S.crypto self.old reference sender bytes.now proposal) self.old self.new result }
+        ensures { KeepsNew S.crypto reference sender bytes.now proposal self.old self.new result }
     {
         if let Err(error) = self
             .group
@@ -80,8 +74,7 @@ impl<S: Suite> Member<S> {
     ) -> Result<Effect, Refusal>
         requires view { IsShortView view.now }
         requires proposal { length proposal.now ≤ input_limit }
-        ensures { (shown : messages.PublicMessage) (made : proposals.Proposal) → ShowsPublic view.now shown → Spells proposal_format made proposal.now
-            → DoesAs (λ e. e) number_of (proposal_verdict S.crypto self.old shown.content bytes.now made) self.old self.new result }
+        ensures { TakesProposal S.crypto view.now bytes.now proposal.now self.old self.new result }
     {
         let reference = view.reference();
         let sender = sender_leaf(&view.content.sender);

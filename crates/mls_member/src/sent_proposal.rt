@@ -1,13 +1,10 @@
-//! Keeping own proposals (RFC 9420, 12.1). Where a call ends early, a proposal is given to `drop`: that is one call, and
-//! the prover doesn't take the proposal apart there.
+//! Keeping own proposals (RFC 9420, 12.1). Where a call ends early, a proposal is given to `drop`: that is one call,
+//! and the prover doesn't take the proposal apart there.
 
 ghost use Rattle.std.specs.Prelude.{◌^◌};
-ghost use Rattle.mls_wire.specs.Checks.{AnswersOutright, DoesAs};
 ghost use Rattle.mls_leaf.specs.Proposal.{proposal as proposal_format};
-ghost use Rattle.mls_model.specs.Member.{kept_under};
 ghost use Rattle.mls_public_group.specs.Short.{IsBelow};
-ghost use Rattle.mls_member.specs.Faults.{number_of};
-ghost use Rattle.mls_member.specs.Proposing.{known_as, keep_sent_proposal, send_and_keep};
+ghost use Rattle.mls_member.specs.Proposing.{KeepsSent, SendsAndKeeps, TellsKnown};
 
 use crate::error::Refusal;
 use crate::kept_and_pending::KeptProposal;
@@ -19,9 +16,9 @@ use mls_message::SaidProposal;
 use mls_suite::Suite;
 
 impl<S: Suite> Member<S> {
-    /// Whether the same message is kept under its reference: 49 another one is (RFC 9420, 12.1).
+    /// Whether the same message is kept under its reference: `ReferenceTaken` (49) another one is (RFC 9420, 12.1).
     fn is_said(&self, said: &SaidProposal) -> Result<bool, Refusal>
-        ensures { AnswersOutright (λ b. b) number_of (known_as (kept_under self.now.kept said.now.reference) said.now.message.items) result }
+        ensures { TellsKnown self.now said.now result }
     {
         let Some(old) = kept_under(&self.kept, &said.reference) else {
             return Ok(false);
@@ -32,7 +29,8 @@ impl<S: Suite> Member<S> {
         Err(Refusal::ReferenceTaken)
     }
 
-    /// Keeps a proposal behind the others, an update with the new private key of the member's leaf, and answers its message.
+    /// Keeps a proposal behind the others, an update with the new private key of the member's leaf, and answers its
+    /// message.
     #[tactic(auto, unfolding(mls_model::specs::Member::with_kept))]
     fn keep_sent_proposal(
         &mut self,
@@ -41,7 +39,7 @@ impl<S: Suite> Member<S> {
         own_key: Option<Secret>,
     ) -> Result<Vec<u8>, Refusal>
         requires { IsBelow (2 ^ 27) proposal_format proposal }
-        ensures { DoesAs (λ v. v.items) number_of (keep_sent_proposal self.old said.message.items said.reference proposal own_key) self.old self.new result }
+        ensures { KeepsSent said proposal own_key self.old self.new result }
     {
         let answer = match Vec::from_slice(self.alloc, &said.message) {
             Ok(answer) => answer,
@@ -63,15 +61,16 @@ impl<S: Suite> Member<S> {
         Ok(answer)
     }
 
-    /// Says a proposal whose checks have passed, and keeps it. 6 its message is too large; where the same message is kept
-    /// already nothing changes, and 49 where another one is kept under its reference (RFC 9420, 12.1).
+    /// Says a proposal whose checks have passed, and keeps it. `TooLong` (6) its message is too large; where the same
+    /// message is kept already nothing changes, and `ReferenceTaken` (49) where another one is kept under its reference
+    /// (RFC 9420, 12.1).
     pub(crate) fn send_and_keep(
         &mut self,
         proposal: Proposal,
         own_key: Option<Secret>,
     ) -> Result<Vec<u8>, Refusal>
         requires { proposal_format.Fits proposal }
-        ensures { DoesAs (λ v. v.items) number_of (send_and_keep S.crypto self.old proposal own_key) self.old self.new result }
+        ensures { SendsAndKeeps S.crypto proposal own_key self.old self.new result }
     {
         let said = match mls_message::sign_proposal::<S>(self.alloc, &self.speaker(), &proposal) {
             Ok(said) => said,

@@ -1,14 +1,14 @@
 //! The proposals that a commit uses (RFC 9420, 12.4).
 
-ghost use Rattle.std.specs.Prelude.{◌≡◌, ◌^◌, false, IfOk};
+ghost use Rattle.std.specs.Prelude.{◌≡◌, ◌^◌, IfOk};
 ghost use Rattle.std.specs.List.{AllByRecursion, list_any};
 ghost use Rattle.std.specs.Option.{option_copied};
-ghost use Rattle.mls_wire.specs.Checks.{Answers};
 ghost use Rattle.mls_leaf.specs.Proposal.{proposal as proposal_format};
-ghost use Rattle.mls_model.specs.Member.{kept_under, find_proposal, find_proposals, named_proposal, named_proposals, first_own_key};
+ghost use Rattle.mls_model.specs.Member.{kept_under, find_proposal, named_proposal, named_proposals, first_own_key};
 ghost use Rattle.mls_public_group.specs.Short.{IsBelow, AreBelow};
-ghost use Rattle.mls_member.specs.Faults.{number_of};
+ghost use Rattle.mls_member.specs.Faults.{Gives};
 ghost use Rattle.mls_member.specs.Process.{IsListedBelow, key_of, removes_leaf};
+ghost use Rattle.mls_member.specs.Answers.{Finds, used_kept};
 
 use crate::error::Refusal;
 use crate::kept_and_pending::KeptProposal;
@@ -28,7 +28,7 @@ pub(crate) fn kept_under<'a>(kept: &'a [KeptProposal], reference: &[u8]) -> Opti
 
 /// A kept proposal, as a commit uses it.
 pub(crate) fn used_kept<'a>(kept: &'a KeptProposal) -> Used<'a>
-    ensures used { result ≡ record { proposal = kept.now.proposal; sender = kept.now.sender; is_full = false } }
+    ensures used { result ≡ used_kept kept.now }
     ensures below { IsBelow (2 ^ 27) proposal_format result.proposal }
 {
     Used {
@@ -38,14 +38,15 @@ pub(crate) fn used_kept<'a>(kept: &'a KeptProposal) -> Used<'a>
     }
 }
 
-/// One of a commit's list: of the committer where it is given in full, else a kept one, or 60 (RFC 9420, 12.4.2).
+/// One of a commit's list: of the committer where it is given in full, else a kept one, or `UnknownReference` (60) (RFC
+/// 9420, 12.4.2).
 fn find_proposal<'a>(
     kept: &'a [KeptProposal],
     committer: u32,
     listed: &'a ProposalOrRef,
 ) -> Result<Used<'a>, Refusal>
     requires { IsListedBelow (2 ^ 27) listed.now }
-    ensures answer { Answers (λ u. u) number_of (find_proposal kept.now committer listed.now) result }
+    ensures answer { Gives (find_proposal kept.now committer listed.now) result }
     ensures below { IfOk result (λ u. IsBelow (2 ^ 27) proposal_format u.proposal) }
 {
     match listed {
@@ -69,7 +70,7 @@ pub(crate) fn find_proposals<'a>(
     list: &'a [ProposalOrRef],
 ) -> Result<Vec<Used<'a>>, Refusal>
     requires { AllByRecursion (IsListedBelow (2 ^ 27)) list.now }
-    ensures answer { Answers (λ v. v.items) number_of (find_proposals kept.now committer list.now) result }
+    ensures answer { Finds kept.now committer list.now result }
     ensures below { IfOk result (λ v. AreBelow (2 ^ 27) v.items) }
     ensures wide { IfOk result (λ v. AreBelow (2 ^ 28) v.items) }
 {

@@ -18,7 +18,8 @@ use Rattle.mls_model.specs.Member.{Member}
 use Rattle.mls_model.specs.Messages.{message_by}
 use Rattle.mls_public_group.proofs.Lengths.{first_within, last_within}
 use Rattle.mls_public_group.proofs.Limits.{past_limit}
-use Rattle.mls_message.specs.Pieces.{untagged, tag_length, IsLong, IsTooLarge}
+use Rattle.mls_public_group.specs.MessageLimit.{IsLong}
+use Rattle.mls_message.specs.Pieces.{untagged, tag_length, IsTooLarge}
 use Rattle.mls_message.specs.Sending.{IsRefused}
 use Rattle.mls_message.proofs.TextLaws.{sent_length}
 

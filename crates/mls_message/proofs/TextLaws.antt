@@ -24,7 +24,7 @@ use Rattle.mls_schedule.specs.Epoch.{membership_tag}
 use Rattle.mls_model.specs.Member.{Member}
 use Rattle.mls_model.specs.Messages.{content_tag, message_by, reference_of}
 use Rattle.mls_message.specs.Pieces.{signed_pieces, untagged, IsUntagged}
-use Rattle.mls_message.specs.Sending.{limited_text}
+use Rattle.mls_public_group.specs.MessageLimit.{limited_text}
 use Rattle.mls_message.specs.Speaks.{Speaks}
 use Rattle.mls_message.specs.declared.speaker.Speaker.{Speaker}
 use Rattle.mls_message.proofs.WithinLaws.{limited_within}

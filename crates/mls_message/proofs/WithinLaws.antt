@@ -20,7 +20,7 @@ use Rattle.mls_public_group.proofs.Lengths.{first_within, last_within, length-ui
 use Rattle.mls_public_group.proofs.Limits.{within_limit}
 use Rattle.mls_public_group.specs.Short.{IsShortContext}
 use Rattle.mls_message.specs.Pieces.{signed_pieces}
-use Rattle.mls_message.specs.Sending.{FitsIfShort, limited_text}
+use Rattle.mls_public_group.specs.MessageLimit.{FitsIfShort, limited_text}
 
 -- ---- texts within the limit
 

@@ -3,7 +3,7 @@ use Rattle.std.specs.Prelude.{◌≡◌}
 use Rattle.mls_model.specs.Member.{Member}
 use Rattle.mls_message.specs.declared.speaker.Speaker.{Speaker}
 
--- it is a member with these parts
+-- the speaker is a member with these parts
 pub record Speaks (m : Member) (s : Speaker) : Type 0 where
   pub public : m.public ≡ s.group.now
   pub epoch : m.epoch ≡ s.epoch.now

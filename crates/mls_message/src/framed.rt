@@ -1,17 +1,13 @@
 //! A content, signed and tagged (RFC 9420, 6).
 
-ghost use Rattle.std.specs.Prelude.{◌≡◌, ◌<◌, ◌≤◌, ◌^◌, length, IfOk, MatchResult};
-ghost use Rattle.mls_wire.specs.Checks.{Answers};
-ghost use Rattle.mls_leaf.specs.Faults.{number_of};
+ghost use Rattle.std.specs.Prelude.{◌≡◌, ◌<◌, ◌≤◌, ◌^◌, length, IfOk};
 ghost use Rattle.mls_leaf.specs.Limits.{input_limit};
 ghost use Rattle.mls_types.specs.Content.{content as content_format, framed_content};
 ghost use Rattle.mls_types.specs.Signed.{signed_content};
 ghost use Rattle.mls_types.specs.SignedParts.{signed_with};
-ghost use Rattle.mls_model.specs.Member as model;
-ghost use Rattle.mls_model.specs.Messages.{content_by, content_signature, message_by};
 ghost use Rattle.mls_message.specs.Pieces.{signed_pieces};
-ghost use Rattle.mls_message.specs.Sending.{limited_text, FitsIfShort, IsRefused};
-ghost use Rattle.mls_message.specs.Speaks.{Speaks};
+ghost use Rattle.mls_public_group.specs.MessageLimit.{FitsIfShort};
+ghost use Rattle.mls_message.specs.Sending.{Frames, IsSaidBy, Sends, Signs};
 
 use crate::limits::spell_within_limit;
 use crate::speaker::Speaker;
@@ -55,7 +51,7 @@ fn frame_content(
     content: Content,
 ) -> Result<FramedContent, OutOfMemory>
     requires { FitsIfShort content_format content }
-    ensures said { IfOk result (λ v. (m : model.Member) → Speaks m speaker.now → v ≡ content_by m content) }
+    ensures said { IfOk result (IsSaidBy speaker.now content) }
     ensures fits { IfOk result (FitsIfShort framed_content) }
 {
     speaker.group.is_short();
@@ -83,11 +79,11 @@ fn to_be_signed(alloc: Global, said: &[u8], context: &[u8]) -> Result<Vec<u8>, O
 }
 
 impl Framed {
-    /// A content that a member says in its epoch: 6 where that alone is larger than a message may be, which no message of it
-    /// can then be (RFC 9420, 6).
+    /// A content that a member says in its epoch: `TooLong` (6) where that alone is larger than a message may be, which
+    /// no message of it can then be (RFC 9420, 6).
     pub fn new(alloc: Global, speaker: &Speaker<'_>, content: Content) -> Result<Framed, LeafError>
         requires { FitsIfShort content_format content }
-        ensures { (m : model.Member) → Speaks m speaker.now → MatchResult result (λ f. f ≡ content_by m content) (IsRefused m (content_by m content)) }
+        ensures { Frames speaker.now content result }
     {
         let content = Box::new(alloc, frame_content(alloc, speaker, content)?)?;
         let bytes = spell_within_limit::<FramedContent>(alloc, &content)?;
@@ -132,7 +128,7 @@ pub fn sign<S: Suite>(
     speaker: &Speaker<'_>,
     framed: &Framed,
 ) -> Result<Vec<u8>, OutOfMemory>
-    ensures signature { IfOk result (λ s. (m : model.Member) → Speaks m speaker.now → s.items ≡ content_signature S.crypto m.signing framed.now m.public.context) }
+    ensures signature { IfOk result (λ s. Signs S.crypto speaker.now framed.now s.items) }
     ensures short { IfOk result (λ s. length s.items < 2 ^ 16) }
 {
     speaker.group.is_short();
@@ -141,14 +137,14 @@ pub fn sign<S: Suite>(
     sign_with_label::<S>(alloc, speaker.signing, "FramedContentTBS", &text)
 }
 
-/// The message of a signed content, with its membership tag (RFC 9420, 6 and 6.2). 6 it is too large.
+/// The message of a signed content, with its membership tag (RFC 9420, 6 and 6.2). `TooLong` (6) it is too large.
 pub fn send(
     alloc: Global,
     speaker: &Speaker<'_>,
     content: &SignedContent,
 ) -> Result<Vec<u8>, LeafError>
     requires { signed_content.Fits content.now }
-    ensures { (m : model.Member) → Speaks m speaker.now → Answers (λ v. v.items) number_of (limited_text (message_by m content.now)) result }
+    ensures { Sends speaker.now (λ v. v.items) content.now result }
 {
     let untagged = Untagged::new(alloc, content)?;
     Ok(untagged.with_membership_tag(speaker)?)

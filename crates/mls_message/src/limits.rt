@@ -1,12 +1,11 @@
 //! How long texts are.
 
-ghost use Rattle.std.specs.Prelude.{◌≡◌, ◌+◌, ◌<◌, ◌≤◌, ◌^◌, length, MatchResult};
+ghost use Rattle.std.specs.Prelude.{◌≡◌, ◌+◌, ◌<◌, ◌≤◌, ◌^◌, length};
 ghost use Rattle.mls_wire.specs.Format.{IsBytes};
 ghost use Rattle.mls_wire.specs.Reading.{opaque};
-ghost use Rattle.mls_leaf.specs.Faults.{Spells, number_of};
 ghost use Rattle.mls_leaf.specs.Limits.{input_limit};
-ghost use Rattle.mls_message.specs.Pieces.{IsLong};
-ghost use Rattle.mls_message.specs.Sending.{FitsIfShort};
+ghost use Rattle.mls_public_group.specs.MessageLimit.{FitsIfShort};
+ghost use Rattle.mls_message.specs.Pieces.{HasRoom, SpellsWithin};
 
 use mls_kdf::content_header;
 use mls_leaf::{Codec, INPUT_LIMIT, LeafError};
@@ -18,10 +17,10 @@ pub(crate) fn know_bytes(bytes: &[u8])
     ensures { IsBytes bytes.now }
 {}
 
-/// 6 where a text with so many bytes more behind it is larger than a message may be.
+/// `TooLong` (6) where a text with so many bytes more behind it is larger than a message may be.
 pub(crate) fn require_room(text: &[u8], more: usize) -> Result<(), LeafError>
     requires { more ≤ input_limit }
-    ensures { MatchResult result (λ _. length text.now + more ≤ input_limit) (λ e. (number_of e ≡ 6) × (input_limit < length text.now + more)) }
+    ensures { HasRoom text.now more result }
 {
     if text.len() > INPUT_LIMIT - more {
         return Err(LeafError::Wire(WireError::TooLong));
@@ -29,10 +28,10 @@ pub(crate) fn require_room(text: &[u8], more: usize) -> Result<(), LeafError>
     Ok(())
 }
 
-/// The spelling of a value whose numbers are in range: 6 where it alone is larger than a message may be.
+/// The spelling of a value whose numbers are in range: `TooLong` (6) where it alone is larger than a message may be.
 pub(crate) fn spell_within_limit<T: Codec>(alloc: Global, value: &T) -> Result<Vec<u8>, LeafError>
     requires { FitsIfShort T.format value.now }
-    ensures { MatchResult result (λ v. Spells T.format value.now v.items × (length v.items ≤ input_limit)) (IsLong (T.format.spell value.now)) }
+    ensures { SpellsWithin T.format value.now result }
 {
     let bytes = value.encode(alloc)?;
     require_room(&bytes, 0)?;

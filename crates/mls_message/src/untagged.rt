@@ -1,16 +1,14 @@
 //! A signed content, spelled as its message up to the membership tag (RFC 9420, 6 and 6.2).
 
-ghost use Rattle.std.specs.Prelude.{◌≡◌, ◌++◌, ◌<◌, length, Ok, IfOk, MatchResult};
+ghost use Rattle.std.specs.Prelude.{◌≡◌, ◌++◌, length, IfOk, MatchResult};
 ghost use Rattle.mls_wire.specs.Reading.{opaque};
 ghost use Rattle.mls_leaf.specs.Faults.{Writes};
 ghost use Rattle.mls_types.specs.Signed.{signed_content};
 ghost use Rattle.mls_types.specs.SignedParts.{auth_data, AuthDataFits};
 ghost use Rattle.mls_schedule.specs.Epoch.{membership_tag};
-ghost use Rattle.mls_model.specs.Member as model;
-ghost use Rattle.mls_model.specs.Messages.{content_tag, message_by, reference_of};
+ghost use Rattle.mls_model.specs.Messages.{reference_of};
 ghost use Rattle.mls_message.specs.Pieces.{untagged, IsUntagged, IsTooLarge};
-ghost use Rattle.mls_message.specs.Sending.{limited_text};
-ghost use Rattle.mls_message.specs.Speaks.{Speaks};
+ghost use Rattle.mls_message.specs.Sending.{IsMessageBy, IsTagBy};
 
 use crate::limits::{know_bytes, require_room, vector_length};
 use crate::speaker::Speaker;
@@ -91,7 +89,7 @@ fn with_tag(text: Vec<u8>, tag: &Secret) -> Result<Vec<u8>, OutOfMemory>
 }
 
 impl<'a> Untagged<'a> {
-    /// The message of a content up to its membership tag: 6 where the whole message is too large.
+    /// The message of a content up to its membership tag: `TooLong` (6) where the whole message is too large.
     pub(crate) fn new(alloc: Global, content: &'a SignedContent) -> Result<Untagged<'a>, LeafError>
         requires { signed_content.Fits content.now }
         ensures { MatchResult result (λ u. u ≡ content.now) (IsTooLarge content.now) }
@@ -101,8 +99,8 @@ impl<'a> Untagged<'a> {
         Ok(Untagged { content, bytes })
     }
 
-    /// The reference of the content, where it is a proposal (RFC 9420, 5.2): of the wire format and the content, which stand
-    /// behind the version. It takes no memory.
+    /// The reference of the content, where it is a proposal (RFC 9420, 5.2): of the wire format and the content, which
+    /// stand behind the version. It takes no memory.
     pub(crate) fn reference(&self) -> Secret
         ensures { result ≡ reference_of self.now }
     {
@@ -111,10 +109,10 @@ impl<'a> Untagged<'a> {
         proposal_reference(authenticated)
     }
 
-    /// Its membership tag under the context of the speaker's epoch (RFC 9420, 6.2): of the text with the context before the
-    /// FramedContentAuthData. It takes no memory.
+    /// Its membership tag under the context of the speaker's epoch (RFC 9420, 6.2): of the text with the context before
+    /// the FramedContentAuthData. It takes no memory.
     fn membership_tag(&self, speaker: &Speaker<'_>) -> Secret
-        ensures { (m : model.Member) → Speaks m speaker.now → result ≡ content_tag m.epoch self.now m.public.context }
+        ensures { IsTagBy speaker.now self.now result }
     {
         let text = self.bytes.as_slice();
         let (front, auth) = text.split_at(text.len() - auth_data_length(self.content));
@@ -123,7 +121,7 @@ impl<'a> Untagged<'a> {
 
     /// The whole message, with the speaker's membership tag (RFC 9420, 6 and 6.2).
     pub(crate) fn with_membership_tag(self, speaker: &Speaker<'_>) -> Result<Vec<u8>, OutOfMemory>
-        ensures { IfOk result (λ v. (m : model.Member) → Speaks m speaker.now → limited_text (message_by m self.entry) ≡ Ok v.items) }
+        ensures { IfOk result (λ v. IsMessageBy speaker.now self.entry v.items) }
     {
         let tag = self.membership_tag(speaker);
         let Untagged { bytes, .. } = self;

@@ -1,8 +1,11 @@
 pub mod Faults
+pub mod MessageLimit
 pub mod Short
 pub mod Codes
 pub mod PublicCodes
 pub mod Numbers
+pub mod PublicState
+pub mod ProposalChecks
 pub mod ProposalList
 pub mod NextTree
 pub mod ShortProposal

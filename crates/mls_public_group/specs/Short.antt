@@ -1,10 +1,12 @@
 -- How long the parts of a group are.
-use Rattle.std.specs.Prelude.{ℕ, ◌<◌, ◌^◌, List, length, IfSome}
+use Rattle.std.specs.Prelude.{ℕ, ◌<◌, ◌≤◌, ◌^◌, List, length, IfSome}
 use Rattle.std.specs.List.{AllByRecursion}
 use Rattle.mls_wire.specs.Format.{Format}
 use Rattle.mls_leaf.specs.Leaf.{leaf_node}
 use Rattle.mls_leaf.specs.Proposal.{proposal}
+use Rattle.mls_leaf.specs.declared.leaf.LeafNode.{LeafNode}
 use Rattle.mls_types.specs.declared.group_context.GroupContext.{GroupContext}
+use Rattle.mls_tree_model.specs.Merge.{merge_path}
 use Rattle.mls_tree_model.specs.Term.{Term, leaf_of}
 use Rattle.mls_model.specs.PublicState.{Used}
 
@@ -20,6 +22,19 @@ HasLeavesBelow n t = (i : ℕ) → IfSome (leaf_of t i) (λ v. IsBelow n leaf_no
 -- each proposal encodes to fewer than n bytes
 abbrev pub AreBelow : ℕ → List Used → Type 0
 AreBelow n used = AllByRecursion (λ (u : Used). IsBelow n proposal u.proposal) used
+
+-- the tree's leaves are below each bound, from that of a group's leaves on, that the proposals are below
+abbrev pub HasLeavesShortAs : List Used → Term → Type 0
+HasLeavesShortAs used t = (n : ℕ) → 2 ^ 27 ≤ n → AreBelow n used → HasLeavesBelow n t
+
+-- the new tree's leaves are below each bound that those of the old one and this leaf are below
+abbrev pub StaysShort : Term → LeafNode → Term → Type 0
+StaysShort old x new = (n : ℕ) → HasLeavesBelow n old → IsBelow n leaf_node x → HasLeavesBelow n new
+
+-- with a path merged, the leaves of a tree are as short as its own and the path's (RFC 9420, 7.5)
+abbrev pub PathsKeepLeavesShort : Type 0
+PathsKeepLeavesShort = (n : ℕ) (t : Term) (i : ℕ) (x : LeafNode) (keys : List (List ℕ)) →
+    IsBelow n leaf_node x → HasLeavesBelow n t → HasLeavesBelow n (merge_path t i x keys)
 
 -- a context each of whose texts has fewer than 2^28 bytes, and whose numbers have 16 and 64 bits: it has a spelling, of
 -- fewer than 2^30 bytes

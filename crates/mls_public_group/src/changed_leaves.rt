@@ -1,10 +1,9 @@
 //! The leaves of members that the proposals of a commit change (RFC 9420, 12.2).
 
 ghost use Rattle.std.specs.Prelude.{◌≡◌, [], ◌∷◌, ◌++◌, IfOk, OnOk};
-ghost use Rattle.mls_wire.specs.Checks.{Answers, passed};
 ghost use Rattle.mls_model.specs.Proposals.{removed_leaves, updated_leaves};
 ghost use Rattle.mls_public_group.specs.ProposalList.{proposal_list_checks};
-ghost use Rattle.mls_public_group.specs.Faults.{number_of};
+ghost use Rattle.mls_public_group.specs.Faults.{Passes};
 
 use crate::distinct::are_distinct;
 use crate::error::GroupError;
@@ -60,13 +59,14 @@ pub(crate) fn removed_leaves(alloc: Global, used: &[Used<'_>]) -> Result<Vec<u32
     Ok(leaves)
 }
 
-/// Refuses an update of the committer (61), its removal (62), and two updates or removes of one leaf (63).
+/// Refuses an update of the committer (`CommitterUpdate` 61), its removal (`CommitterRemoved` 62), and two updates or
+/// removes of one leaf (`SameLeafTwice` 63).
 pub(crate) fn check_proposal_list(
     alloc: Global,
     committer: u32,
     used: &[Used<'_>],
 ) -> Result<(), GroupError>
-    ensures { Answers (λ _. passed) number_of (proposal_list_checks committer used.now) result }
+    ensures { Passes (proposal_list_checks committer used.now) result }
 {
     let mut changed = updated_leaves(alloc, used)?;
     if changed.contains(&committer) {

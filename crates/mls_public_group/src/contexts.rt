@@ -2,15 +2,13 @@
 
 ghost use Rattle.std.specs.Prelude.{◌≡◌, ◌+◌, ◌<◌, ◌^◌, IfOk, length};
 ghost use Rattle.mls_types.specs.GroupContext.{group_context};
-ghost use Rattle.mls_tree_model.specs.Hashes.{tree_hash};
-ghost use Rattle.mls_tree_model.specs.Term.{Term};
-ghost use Rattle.mls_model.specs.PublicState as model;
 ghost use Rattle.mls_public_group.specs.Short.{IsShortContext};
+ghost use Rattle.mls_public_group.specs.PublicState.{IsProvisional};
 
 use crate::spelling::spelling;
-use mls_types::GroupContext;
 use mls_leaf::Bytes;
 use mls_tree::Hash;
+use mls_types::GroupContext;
 use std::alloc::{AllocError, Global};
 
 /// The next epoch's context with the new tree's hash, and as yet the old transcript (RFC 9420, 12.4.1).
@@ -21,7 +19,7 @@ pub fn provisional_context(
     hash: &Hash,
 ) -> Result<GroupContext, AllocError>
     requires { old.now.epoch + 1 < 2 ^ 64 }
-    ensures { (t : Term) → hash.now ≡ tree_hash 0 t → IfOk result (λ g. g ≡ model.provisional_context old.now t) }
+    ensures { IsProvisional old.now hash.now result }
 {
     Ok(GroupContext {
         cipher_suite: old.cipher_suite,

@@ -1,16 +1,15 @@
 //! The edits of a commit: updates, then removes, then adds (RFC 9420, 12.3).
 
-ghost use Rattle.std.specs.Prelude.{◌≤◌, ◌^◌, ℕ, IfOk};
-ghost use Rattle.mls_wire.specs.Checks.{Answers, passed};
+ghost use Rattle.std.specs.Prelude.{◌^◌, IfOk};
 ghost use Rattle.mls_model.specs.Commit.{apply_proposals};
 ghost use Rattle.mls_public_group.specs.ProposalList.{edited_tree_checks};
-ghost use Rattle.mls_public_group.specs.Faults.{number_of};
-ghost use Rattle.mls_public_group.specs.Short.{AreBelow, HasLeavesBelow};
+ghost use Rattle.mls_public_group.specs.Faults.{Gives, Passes};
+ghost use Rattle.mls_public_group.specs.Short.{AreBelow, HasLeavesShortAs};
 
-use crate::proposal_list::edit_tree;
 use crate::changed_leaves::check_proposal_list;
 use crate::error::GroupError;
 use crate::group::PublicGroup;
+use crate::proposal_list::edit_tree;
 use crate::references::has_distinct_references;
 use crate::shared_tree::SharedTree;
 use crate::used_proposal::Used;
@@ -40,12 +39,12 @@ impl Model for Edits {
     ghost view = { λ e. record { tree = term e.tree; added = e.added.items } };
 }
 
-/// That no two members have one signature key (26), no two adds one reference (26), and no two nodes one encryption key
-/// (25).
+/// Refuses two members with one signature key, two adds of one reference (`ClientRepeated` 26 each), and two nodes with
+/// one encryption key (`KeyRepeated` 25).
 #[tactic(auto, unfolding(crate::specs::ProposalList::edited_tree_checks))]
 fn require_distinct(alloc: Global, edits: &Edits, used: &[Used<'_>]) -> Result<(), GroupError>
     requires { AreBelow (2 ^ 28) used.now }
-    ensures { Answers (λ _. passed) number_of (edited_tree_checks edits.now used.now) result }
+    ensures { Passes (edited_tree_checks edits.now used.now) result }
 {
     if !edits.tree.as_tree().has_distinct_clients() {
         return Err(GroupError::Tree(TreeError::ClientRepeated));
@@ -61,9 +60,11 @@ fn require_distinct(alloc: Global, edits: &Edits, used: &[Used<'_>]) -> Result<(
 
 impl PublicGroup {
     /// The tree after the proposals of a commit, where they and the tree pass these checks in this order: those of each
-    /// proposal in full; 61 an update of the committer, 62 its removal, 63 two updates or removes of one leaf; 22 no member
-    /// is where one is updated or removed; 21 the tree is too large; 26 two members have one signature key, or two adds one
-    /// reference; 25 two nodes have one encryption key (RFC 9420, 12.2, 12.3 and 7.3). The group stays as it is.
+    /// proposal in full; `CommitterUpdate` (61) an update of the committer, `CommitterRemoved` (62) its removal,
+    /// `SameLeafTwice` (63) two updates or removes of one leaf; `NoSuchLeaf` (22) no member is where one is updated or
+    /// removed; `TreeFull` (21) the tree is too large; `ClientRepeated` (26) two members have one signature key, or two
+    /// adds one reference; `KeyRepeated` (25) two nodes have one encryption key (RFC 9420, 12.2, 12.3 and 7.3). The
+    /// group stays as it is.
     pub fn apply_proposals<S: Suite>(
         &self,
         alloc: Global,
@@ -71,9 +72,9 @@ impl PublicGroup {
         used: &[Used<'_>],
     ) -> Result<Edits, GroupError>
         requires { AreBelow (2 ^ 28) used.now }
-        ensures answer { Answers (λ e. e) number_of (apply_proposals S.crypto self.now committer used.now) result }
+        ensures answer { Gives (apply_proposals S.crypto self.now committer used.now) result }
         // Its leaves are as short as the group's and the proposals.
-        ensures below { IfOk result (λ e. (n : ℕ) → 2 ^ 27 ≤ n → AreBelow n used.now → HasLeavesBelow n e.tree) }
+        ensures below { IfOk result (λ e. HasLeavesShortAs used.now e.tree) }
     {
         self.require_full::<S>(alloc, used)?;
         check_proposal_list(alloc, committer, used)?;

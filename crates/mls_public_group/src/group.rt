@@ -3,16 +3,17 @@
 ghost use Rattle.std.specs.Prelude.{◌≡◌, ◌^◌, IfOk, OnOk, OnErr};
 ghost use Rattle.mls_types.specs.GroupContext.{group_context};
 ghost use Rattle.mls_tree.specs.Tree.{term};
-ghost use Rattle.mls_public_group.specs.NextTree.{next_term, IsPreparedFor};
+ghost use Rattle.mls_public_group.specs.NextTree.{next_term, IsPreparedFor, next_state};
 ghost use Rattle.mls_public_group.specs.Short.{HasLeavesBelow, IsShortContext};
+ghost use Rattle.mls_public_group.specs.PublicState.{public_of};
 
 use crate::next_tree::NextTree;
 use crate::shared_tree::SharedTree;
 use crate::spelling::spelling;
-use mls_types::GroupContext;
 use mls_leaf::Codec;
 use mls_schedule::Transcript;
 use mls_tree::PublicTree;
+use mls_types::GroupContext;
 use std::alloc::{AllocError, Global};
 use std::marker::Model;
 
@@ -54,7 +55,7 @@ impl PublicGroup {
     ) -> Result<PublicGroup, AllocError>
         requires context { IsShortContext context }
         requires leaves { HasLeavesBelow (2 ^ 27) (term tree) }
-        ensures { IfOk result (λ g. g ≡ record { context = context; tree = term tree; interim = transcript }) }
+        ensures { IfOk result (λ g. g ≡ public_of context (term tree) transcript) }
     {
         let bytes = spelling(alloc, &context)?;
         let tree = SharedTree::new(alloc, tree)?;
@@ -77,7 +78,7 @@ impl PublicGroup {
         requires context { IsShortContext context }
         requires follows { IsPreparedFor self.old.tree tree }
         requires leaves { HasLeavesBelow (2 ^ 27) (next_term self.old.tree tree) }
-        ensures next { OnOk result (self.new ≡ record { context = context; tree = next_term self.old.tree tree; interim = transcript }) }
+        ensures next { OnOk result (self.new ≡ next_state self.old context tree transcript) }
         ensures same { OnErr result (self.new ≡ self.old) }
     {
         let bytes = spelling(alloc, &context)?;

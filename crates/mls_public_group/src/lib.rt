@@ -2,7 +2,6 @@
 //! make of the tree (RFC 9420, 12.1 to 12.3).
 #![tactic(auto)]
 
-mod proposal_list;
 mod changed_leaves;
 mod contexts;
 mod distinct;
@@ -12,6 +11,7 @@ mod error;
 mod group;
 mod laws;
 mod next_tree;
+mod proposal_list;
 mod proposals;
 mod references;
 mod shared_tree;

@@ -1,17 +1,15 @@
 //! The ratchet tree of the next epoch.
 
 ghost use Rattle.std.specs.Prelude.{◌≡◌, OnOk, OnErr};
-ghost use Rattle.mls_tree_model.specs.Term.{Term};
-ghost use Rattle.mls_tree_model.specs.Hashes.{tree_hash};
 ghost use Rattle.mls_tree.specs.Tree.{term};
-ghost use Rattle.mls_public_group.specs.NextTree.{next_term, IsPreparedFor};
+ghost use Rattle.mls_public_group.specs.NextTree.{next_term, IsPreparedFor, IsHashOf};
 
 use crate::shared_tree::SharedTree;
 use mls_tree::{Hash, PreparedPath};
 use std::alloc::AllocError;
 
-/// The ratchet tree of the next epoch. A commit's path is prepared for its tree and merged into it when the epoch begins, so
-/// that no tree is copied for it; until then the group's own tree stays as it is.
+/// The ratchet tree of the next epoch. A commit's path is prepared for its tree and merged into it when the epoch
+/// begins, so that no tree is copied for it; until then the group's own tree stays as it is.
 #[derive(Drop)]
 pub enum NextTree {
     /// A tree of its own.
@@ -26,7 +24,7 @@ impl NextTree {
     /// The tree hash (RFC 9420, 7.8).
     #[tactic(auto, unfolding(crate::specs::NextTree::next_term, crate::specs::NextTree::IsPreparedFor))]
     pub fn tree_hash(&self) -> Hash
-        ensures { (t : Term) → IsPreparedFor t self.now → result ≡ tree_hash 0 (next_term t self.now) }
+        ensures { IsHashOf self.now result }
     {
         match self {
             NextTree::Edited(tree) => tree.tree_hash(),

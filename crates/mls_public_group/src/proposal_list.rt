@@ -1,12 +1,9 @@
 //! The proposals of a commit applied to a tree: updates, then removes, then adds (RFC 9420, 12.3).
 
 ghost use Rattle.std.specs.Prelude.{◌≡◌, [], ◌∷◌, Ok, IfOk};
-ghost use Rattle.mls_wire.specs.Checks.{Answers};
 ghost use Rattle.mls_tree.specs.Tree.{term};
-ghost use Rattle.mls_model.specs.Commit.{apply_adds, apply_removes, apply_updates};
-ghost use Rattle.mls_model.specs.Proposals.{adds, updates};
-ghost use Rattle.mls_public_group.specs.ProposalList.{edit_tree, prepend_added};
-ghost use Rattle.mls_public_group.specs.Faults.{number_of};
+ghost use Rattle.mls_public_group.specs.ProposalList.{edit_tree, AppliesAdd, AppliesAdds, AppliesRemoves, AppliesUpdates};
+ghost use Rattle.mls_public_group.specs.Faults.{Gives};
 
 use crate::changed_leaves::removed_leaves;
 use crate::edits::Edits;
@@ -19,7 +16,7 @@ use std::alloc::{AllocError, Global};
 
 /// Replaces the leaf that a proposal updates, where it is an update.
 fn apply_update(tree: &mut PublicTree, used: &Used<'_>) -> Result<(), GroupError>
-    ensures { Answers (λ _. term tree.new) number_of (apply_updates (term tree.old) (updates (used.now ∷ []))) result }
+    ensures { AppliesUpdates (used.now ∷ []) tree.old tree.new result }
 {
     match used.proposal {
         Proposal::Update(leaf) => {
@@ -32,7 +29,7 @@ fn apply_update(tree: &mut PublicTree, used: &Used<'_>) -> Result<(), GroupError
 
 /// Applies the updates (RFC 9420, 12.1.2).
 fn apply_updates(tree: &mut PublicTree, used: &[Used<'_>]) -> Result<(), GroupError>
-    ensures { Answers (λ _. term tree.new) number_of (apply_updates (term tree.old) (updates used.now)) result }
+    ensures { AppliesUpdates used.now tree.old tree.new result }
 {
     for one in used {
         apply_update(tree, one)?;
@@ -42,7 +39,7 @@ fn apply_updates(tree: &mut PublicTree, used: &[Used<'_>]) -> Result<(), GroupEr
 
 /// Removes the members at these leaves (RFC 9420, 12.1.3).
 fn apply_removes(tree: &mut PublicTree, leaves: &[u32]) -> Result<(), GroupError>
-    ensures { Answers (λ _. term tree.new) number_of (apply_removes (term tree.old) leaves.now) result }
+    ensures { AppliesRemoves leaves.now tree.old tree.new result }
 {
     for leaf in leaves {
         tree.remove(*leaf)?;
@@ -52,7 +49,7 @@ fn apply_removes(tree: &mut PublicTree, leaves: &[u32]) -> Result<(), GroupError
 
 /// Adds the member of a proposal, where it is an add, and its leaf to those that were added.
 fn apply_add(tree: &mut PublicTree, used: &Used<'_>, added: &mut Vec<u32>) -> Result<(), GroupError>
-    ensures { Answers (λ _. record { tree = term tree.new; added = added.new.items }) number_of (prepend_added added.old.items (apply_adds (term tree.old) (adds (used.now ∷ [])))) result }
+    ensures { AppliesAdd used.now tree.old added.old.items tree.new added.new.items result }
 {
     match used.proposal {
         Proposal::Add(offered) => {
@@ -70,7 +67,7 @@ fn apply_adds(
     tree: &mut PublicTree,
     used: &[Used<'_>],
 ) -> Result<Vec<u32>, GroupError>
-    ensures { Answers (λ v. record { tree = term tree.new; added = v.items }) number_of (apply_adds (term tree.old) (adds used.now)) result }
+    ensures { AppliesAdds used.now tree.old tree.new result }
 {
     let mut added = Vec::new(alloc);
     for one in used {
@@ -82,7 +79,7 @@ fn apply_adds(
 /// The tree after one proposal or more, and the leaves that they added.
 #[tactic(auto, unfolding(crate::specs::ProposalList::edit_tree))]
 fn edit_copied_tree(alloc: Global, tree: PublicTree, used: &[Used<'_>]) -> Result<Edits, GroupError>
-    ensures { Answers (λ e. e) number_of (edit_tree (term tree) used.now) result }
+    ensures { Gives (edit_tree (term tree) used.now) result }
 {
     let mut tree = tree;
     apply_updates(&mut tree, used)?;
@@ -109,7 +106,7 @@ pub(crate) fn edit_tree(
     tree: &SharedTree,
     used: &[Used<'_>],
 ) -> Result<Edits, GroupError>
-    ensures { Answers (λ e. e) number_of (edit_tree (term tree.now) used.now) result }
+    ensures { Gives (edit_tree (term tree.now) used.now) result }
 {
     if used.is_empty() {
         let edits = share_tree(alloc, tree)?;

@@ -1,17 +1,15 @@
 //! The checks of proposals (RFC 9420, 12.1).
 
-ghost use Rattle.std.specs.Prelude.{◌≡◌, ◌^◌, if◌then◌else◌, ℕ, is_some, Ok};
-ghost use Rattle.mls_wire.specs.Checks.{Answers, AnswersOutright, passed, require};
+ghost use Rattle.std.specs.Prelude.{◌^◌};
+ghost use Rattle.mls_wire.specs.Checks.{AnswersOutright, passed};
 ghost use Rattle.mls_leaf.specs.Leaf.{leaf_node};
 ghost use Rattle.mls_leaf.specs.Proposal.{proposal as proposal_format};
-ghost use Rattle.mls_leaf.specs.declared.leaf.LeafNode.{LeafNode};
-ghost use Rattle.mls_leaf.specs.declared.proposal.Proposal.TheVariants.{Update, Remove};
 ghost use Rattle.mls_checks.specs.Short.{IsShort};
-ghost use Rattle.mls_tree_model.specs.Term.{leaf_of};
 ghost use Rattle.mls_tree.specs.Refusals.{RefusesOutright};
 ghost use Rattle.mls_model.specs.Proposals.{full_checks, proposal_checks, update_checks};
-ghost use Rattle.mls_public_group.specs.Faults.{number_of};
+ghost use Rattle.mls_public_group.specs.Faults.{number_of, Passes};
 ghost use Rattle.mls_public_group.specs.Short.{AreBelow, IsBelow};
+ghost use Rattle.mls_public_group.specs.ProposalChecks.{AnswersRemove, RefusesUpdate, member_check, used_checks};
 
 use crate::error::GroupError;
 use crate::group::PublicGroup;
@@ -23,9 +21,9 @@ use mls_tree::TreeError;
 use std::alloc::Global;
 
 impl PublicGroup {
-    /// The checks of a proposal of the member at leaf `sender`: of an add those of its KeyPackage (RFC 9420, 12.1.1), of an
-    /// update 22 where no member is there, and those of its leaf (12.1.2), of a remove 22 where there is no member (12.1.3).
-    /// 22 and what a remove answers take no memory.
+    /// The checks of a proposal of the member at leaf `sender`: of an add those of its KeyPackage (RFC 9420, 12.1.1),
+    /// of an update `NoSuchLeaf` (22) where no member is there, and those of its leaf (12.1.2), of a remove
+    /// `NoSuchLeaf` (22) where there is no member (12.1.3). `NoSuchLeaf` (22) and what a remove answers take no memory.
     pub fn require_proposal<S: Suite>(
         &self,
         alloc: Global,
@@ -33,9 +31,9 @@ impl PublicGroup {
         proposal: &Proposal,
     ) -> Result<(), GroupError>
         requires { IsShort proposal_format proposal.now }
-        ensures answer { Answers (λ _. passed) number_of (proposal_checks S.crypto self.now sender proposal.now) result }
-        ensures update { (l : LeafNode) → proposal.now ≡ Update l → RefusesOutright number_of (require 22 (is_some (leaf_of self.now.tree sender))) result }
-        ensures remove { (i : ℕ) → proposal.now ≡ Remove i → AnswersOutright (λ _. passed) number_of (require 22 (is_some (leaf_of self.now.tree i))) result }
+        ensures answer { Passes (proposal_checks S.crypto self.now sender proposal.now) result }
+        ensures update { RefusesUpdate self.now.tree sender proposal.now result }
+        ensures remove { AnswersRemove self.now.tree proposal.now result }
     {
         match proposal {
             Proposal::Add(offered) => Ok(key_package::<S>(alloc, offered)?),
@@ -53,8 +51,8 @@ impl PublicGroup {
         leaf: &LeafNode,
     ) -> Result<(), GroupError>
         requires { IsShort leaf_node leaf.now }
-        ensures answer { Answers (λ _. passed) number_of (update_checks S.crypto self.now sender leaf.now) result }
-        ensures outright { RefusesOutright number_of (require 22 (is_some (leaf_of self.now.tree sender))) result }
+        ensures answer { Passes (update_checks S.crypto self.now sender leaf.now) result }
+        ensures outright { RefusesOutright number_of (member_check self.now.tree sender) result }
     {
         let context = &self.context;
         let Some(old) = self.tree().leaf(sender) else {
@@ -68,9 +66,9 @@ impl PublicGroup {
         Ok(())
     }
 
-    /// That there is a member to be removed (RFC 9420, 12.1.3).
+    /// Refuses where there is no member to be removed (`NoSuchLeaf` 22) (RFC 9420, 12.1.3).
     fn require_member(&self, leaf: u32) -> Result<(), GroupError>
-        ensures { AnswersOutright (λ _. passed) number_of (require 22 (is_some (leaf_of self.now.tree leaf))) result }
+        ensures { AnswersOutright (λ _. passed) number_of (member_check self.now.tree leaf) result }
     {
         if self.tree().leaf(leaf).is_none() {
             return Err(GroupError::Tree(TreeError::NoSuchLeaf));
@@ -81,7 +79,7 @@ impl PublicGroup {
     /// The checks of a proposal where the commit gives it in full.
     fn require_used<S: Suite>(&self, alloc: Global, used: &Used<'_>) -> Result<(), GroupError>
         requires { IsBelow (2 ^ 28) proposal_format used.now.proposal }
-        ensures { Answers (λ _. passed) number_of (if used.now.is_full then proposal_checks S.crypto self.now used.now.sender used.now.proposal else Ok passed) result }
+        ensures { Passes (used_checks S.crypto self.now used.now) result }
     {
         if !used.is_full {
             return Ok(());
@@ -96,7 +94,7 @@ impl PublicGroup {
         used: &[Used<'_>],
     ) -> Result<(), GroupError>
         requires { AreBelow (2 ^ 28) used.now }
-        ensures { Answers (λ _. passed) number_of (full_checks S.crypto self.now used.now) result }
+        ensures { Passes (full_checks S.crypto self.now used.now) result }
     {
         for one in used {
             self.require_used::<S>(alloc, one)?;

@@ -1,17 +1,17 @@
 //! The references of the KeyPackages that a commit adds (RFC 9420, 5.2).
 
-ghost use Rattle.std.specs.Prelude.{◌≡◌, ◌^◌, [], ◌∷◌, ◌++◌, map, IfOk, OnOk};
+ghost use Rattle.std.specs.Prelude.{◌≡◌, ◌^◌, IfOk, OnOk};
 ghost use Rattle.mls_leaf.specs.Proposal.{proposal as proposal_format};
 ghost use Rattle.mls_tree_array.specs.DistinctStrings.{bytes_in};
 ghost use Rattle.mls_tree_model.specs.Sets.{is_distinct, same_bytes};
-ghost use Rattle.mls_model.specs.Proposals.{adds, package_reference};
 ghost use Rattle.mls_public_group.specs.Short.{AreBelow, IsBelow};
+ghost use Rattle.mls_public_group.specs.ProposalList.{added_references, with_reference};
 
 use crate::spelling::spelling;
 use crate::used_proposal::Used;
-use mls_tree_array::are_distinct;
 use mls_kdf::Secret;
 use mls_leaf::{KeyPackage, Proposal, key_package_reference};
+use mls_tree_array::are_distinct;
 use std::alloc::{AllocError, Global};
 
 /// Adds the reference of the KeyPackage that a proposal adds, where it is an add.
@@ -21,7 +21,7 @@ fn push_reference(
     references: &mut Vec<Secret>,
 ) -> Result<(), AllocError>
     requires { IsBelow (2 ^ 28) proposal_format used.now.proposal }
-    ensures { OnOk result (references.new.items ≡ references.old.items ++ map package_reference (adds (used.now ∷ []))) }
+    ensures { OnOk result (references.new.items ≡ with_reference references.old.items used.now) }
 {
     match used.proposal {
         Proposal::Add(offered) => {
@@ -36,7 +36,7 @@ fn push_reference(
 /// The references of the KeyPackages that are added.
 fn references(alloc: Global, used: &[Used<'_>]) -> Result<Vec<Secret>, AllocError>
     requires { AreBelow (2 ^ 28) used.now }
-    ensures { IfOk result (λ v. v.items ≡ map package_reference (adds used.now)) }
+    ensures { IfOk result (λ v. v.items ≡ added_references used.now) }
 {
     let mut references = Vec::new(alloc);
     for one in used {
@@ -59,7 +59,7 @@ fn as_strings(alloc: Global, references: &[Secret]) -> Result<Vec<&[u8]>, AllocE
 /// Whether no two adds have one reference.
 pub(crate) fn has_distinct_references(alloc: Global, used: &[Used<'_>]) -> Result<bool, AllocError>
     requires { AreBelow (2 ^ 28) used.now }
-    ensures { IfOk result (λ b. b ≡ is_distinct same_bytes (map package_reference (adds used.now))) }
+    ensures { IfOk result (λ b. b ≡ is_distinct same_bytes (added_references used.now)) }
 {
     let references = references(alloc, used)?;
     let strings = as_strings(alloc, &references)?;

@@ -62,8 +62,8 @@ impl SharedTree {
         self.hash
     }
 
-    /// Merges a path that was prepared for this tree. It is copied first where it is shared; elsewhere nothing of it is.
-    /// Without memory it is as before.
+    /// Merges a path that was prepared for this tree. It is copied first where it is shared; elsewhere nothing of it
+    /// is. Without memory it is as before.
     pub fn follow_path(&mut self, path: PreparedPath) -> Result<(), AllocError>
         requires { IsFor (term self.old) path }
         ensures tree { OnOk result (term self.new ≡ merged_by (term self.old) path) }

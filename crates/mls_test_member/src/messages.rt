@@ -3,7 +3,7 @@
 ghost use Rattle.std.specs.Prelude.{IfOk};
 ghost use Rattle.mls_types.specs.Content.{content as content_format};
 ghost use Rattle.mls_types.specs.Signed.{signed_content};
-ghost use Rattle.mls_message.specs.Sending.{FitsIfShort};
+ghost use Rattle.mls_public_group.specs.MessageLimit.{FitsIfShort};
 
 use crate::sole::sole;
 use mls_kdf::Secret;

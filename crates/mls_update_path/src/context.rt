@@ -1,15 +1,14 @@
 //! The context under which a path is sealed.
 
 ghost use Rattle.std.specs.Prelude.{◌≡◌, ◌+◌, ◌<◌, ◌^◌, length, IfOk};
-ghost use Rattle.mls_types.specs.GroupContext.{group_context};
 ghost use Rattle.mls_tree.specs.Tree.{term};
 ghost use Rattle.mls_public_group.specs.Short.{IsShortContext};
-ghost use Rattle.mls_model.specs.PublicState as model;
+ghost use Rattle.mls_update_path.specs.Parts.{provisional_bytes};
 
-use mls_types::GroupContext;
 use mls_public_group::{context_spelling, provisional_context};
 use mls_suite::OutOfMemory;
 use mls_tree::PublicTree;
+use mls_types::GroupContext;
 use std::alloc::Global;
 
 /// The spelling of the next epoch's context with this tree, and as yet the old transcript (RFC 9420, 12.4.1).
@@ -20,7 +19,7 @@ pub(crate) fn provisional_bytes(
 ) -> Result<Vec<u8>, OutOfMemory>
     requires short { IsShortContext old.now }
     requires epoch { old.now.epoch + 1 < 2 ^ 64 }
-    ensures bytes { IfOk result (λ v. v.items ≡ group_context.spell (model.provisional_context old.now (term tree.old))) }
+    ensures bytes { IfOk result (λ v. v.items ≡ provisional_bytes old.now (term tree.old)) }
     ensures short { IfOk result (λ v. length v.items < 2 ^ 30) }
     ensures same { term tree.new ≡ term tree.old }
 {

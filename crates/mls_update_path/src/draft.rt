@@ -1,14 +1,10 @@
 //! The secrets and keys of a path.
 
-ghost use Rattle.std.specs.Prelude.{◌≡◌, length, IfOk, OnOk};
+ghost use Rattle.std.specs.Prelude.{◌≡◌, IfOk};
 ghost use Rattle.mls_tree_model.specs.Merge.{path_parent_hash};
-ghost use Rattle.mls_tree_model.specs.Way.{way, path_length};
 ghost use Rattle.mls_tree.specs.Tree.{term};
-ghost use Rattle.mls_treekem_model.specs.Height.{keys_on};
-ghost use Rattle.mls_treekem_model.specs.Make.{made_keys};
-ghost use Rattle.mls_treekem_model.specs.Seeds.{path_seed};
-ghost use Rattle.mls_treekem.specs.Secrets.{AreOfChain, public_keys};
-ghost use Rattle.mls_model.specs.Candidate.{leaf_key_of};
+ghost use Rattle.mls_treekem.specs.Secrets.{public_keys};
+ghost use Rattle.mls_update_path.specs.Parts.{IsChain, AreKeysOn};
 
 use mls_candidate::leaf_key;
 use mls_kdf::Seed;
@@ -36,8 +32,8 @@ pub(crate) fn make_draft<S: Suite>(
     seed: &Seed,
 ) -> Result<Draft, OutOfMemory>
     ensures leaf { IfOk result (λ d. d.keys.leaf ≡ index) }
-    ensures chain { IfOk result (λ d. AreOfChain S.crypto (path_seed seed.now) (path_length 0 (term tree.now) index) d.secrets) }
-    ensures keys { IfOk result (λ d. keys_on (term tree.now) d.keys ≡ made_keys S.crypto (way 0 (term tree.now) index) (path_seed seed.now) (leaf_key_of S.crypto seed.now)) }
+    ensures chain { IfOk result (λ d. IsChain S.crypto (term tree.now) index seed.now d.secrets) }
+    ensures keys { IfOk result (λ d. AreKeysOn S.crypto (term tree.now) index seed.now d.keys) }
 {
     // Its type bounds how wide the tree is, for the proof.
     let _leaves = tree.leaf_count();
@@ -61,8 +57,8 @@ pub(crate) fn public_keys(alloc: Global, secrets: &PathSecrets) -> Result<Vec<By
     Ok(keys)
 }
 
-/// The parent hash that the leaf of a path with these keys must have. There is a member, and there are as many keys as its
-/// filtered path has parents, so only memory can be wanting.
+/// The parent hash that the leaf of a path with these keys must have. There is a member, and there are as many keys as
+/// its filtered path has parents, so only memory can be wanting.
 pub(crate) fn parent_hash(
     tree: &mut PublicTree,
     index: u32,

@@ -1,37 +1,25 @@
 //! Making a path.
 
-ghost use Rattle.std.specs.Prelude.{◌≡◌, ℕ, ◌+◌, ◌<◌, ◌≤◌, ◌^◌, length, None, Ok, IfOk};
-ghost use Rattle.mls_wire.specs.Checks.{Answers, passed};
+ghost use Rattle.std.specs.Prelude.{◌≡◌, ◌+◌, ◌<◌, ◌≤◌, ◌^◌, length, None, IfOk};
 ghost use Rattle.mls_leaf.specs.Leaf.{leaf_node};
-ghost use Rattle.mls_tree_model.specs.Way.{way, path_length};
-ghost use Rattle.mls_tree.specs.Paths.{merge_answer};
 ghost use Rattle.mls_tree.specs.Tree.{term};
-ghost use Rattle.mls_public_group.specs.Short.{IsBelow, HasLeavesBelow, IsShortContext};
-ghost use Rattle.mls_model.specs.Candidate.{leaf_key_of};
-ghost use Rattle.mls_model.specs.Commit.{apply_update_path};
-ghost use Rattle.mls_model.specs.Make as model;
-ghost use Rattle.mls_model.specs.Member as member;
+ghost use Rattle.mls_public_group.specs.Short.{IsBelow, HasLeavesBelow, IsShortContext, StaysShort};
 ghost use Rattle.mls_treekem_model.specs.Height.{HasFollowed};
-ghost use Rattle.mls_treekem_model.specs.Keys.{all_keys};
-ghost use Rattle.mls_treekem_model.specs.Make.{made_keys};
-ghost use Rattle.mls_treekem_model.specs.Seeds.{path_seed};
-ghost use Rattle.mls_treekem.specs.Secrets.{AreOfChain};
-ghost use Rattle.mls_update_path.specs.NewPath.{made_path};
-ghost use Rattle.mls_update_path.specs.Faults.{number_of};
-ghost use Rattle.mls_update_path.specs.Parts.{leaf_from, leaf_checks, leaf_and_tree_of, path_of};
+ghost use Rattle.mls_update_path.specs.NewPath.{MakesPath, IsValid};
+ghost use Rattle.mls_update_path.specs.Parts.{AreAllKeys, ChecksLeaf, IsChain, MakesLeaf, MergesNewPath, MergesPath};
 
 use crate::context::provisional_bytes;
 use crate::draft::{Draft, make_draft, parent_hash, public_keys};
 use crate::error::PathError;
 use mls_candidate::renewed_leaf;
 use mls_checks::{Source, replaced};
-use mls_types::UpdatePath;
 use mls_kdf::{Secret, Seed};
 use mls_leaf::{Bytes, Items, LeafNode, LeafSource};
 use mls_public_group::{Edits, PublicGroup};
 use mls_suite::Suite;
 use mls_tree::{PublicTree, TreeError};
 use mls_treekem::{PathSecrets, PrivatePath, seal_path};
+use mls_types::UpdatePath;
 use std::alloc::Global;
 
 /// A path, and what its committer then has.
@@ -69,9 +57,9 @@ fn make_checked_leaf<S: Suite>(
     requires context { IsShortContext group.now.context }
     requires old { IsBelow (2 ^ 27) leaf_node old.now }
     requires hash { length hash ≤ 32 }
-    ensures leaf { IfOk result (λ leaf. leaf ≡ leaf_from S.crypto signing.now group.now.context.group_id index old.now hash seed.now) }
+    ensures leaf { MakesLeaf S.crypto signing.now group.now index old.now hash seed.now result }
     ensures below { IfOk result (λ leaf. IsBelow (2 ^ 28) leaf_node leaf) }
-    ensures checks { Answers (λ _. passed) number_of (leaf_checks S.crypto signing.now group.now.context.group_id index old.now hash seed.now) result }
+    ensures checks { ChecksLeaf S.crypto signing.now group.now index old.now hash seed.now result }
 {
     let group_id = group.context().group_id.as_slice();
     let source = LeafSource::Commit { parent_hash: hash };
@@ -80,7 +68,8 @@ fn make_checked_leaf<S: Suite>(
     Ok(leaf)
 }
 
-/// The tree with a path's leaf and keys merged, and the committer's private keys in it (25, 24).
+/// The tree with a path's leaf and keys merged, and the committer's private keys in it (`KeyRepeated` 25,
+/// `ParentHashWrong` 24).
 fn merge_leaf_and_keys(
     index: u32,
     tree: PublicTree,
@@ -88,7 +77,7 @@ fn merge_leaf_and_keys(
     public: Vec<Bytes>,
     made: Draft,
 ) -> Result<Merged, PathError>
-    ensures answer { Answers (λ x. term x.tree) number_of (merge_answer (term tree) index leaf public.items) result }
+    ensures answer { MergesPath (term tree) index leaf public.items result }
     ensures leaf { IfOk result (λ x. x.leaf ≡ leaf) }
     ensures secrets { IfOk result (λ x. x.secrets ≡ made.secrets) }
     ensures keys { IfOk result (λ x. HasFollowed None (term x.tree) made.keys x.keys) }
@@ -106,7 +95,7 @@ fn merge_leaf_and_keys(
 }
 
 /// A path of the member at leaf `index` in a tree after edits, its committer's keys, and the tree with it: the new leaf
-/// and the merge pass their checks (50 to 54, 25, 24).
+/// and the merge pass their checks (50 to 54, `KeyRepeated` (25), `ParentHashWrong` (24)).
 #[tactic(auto, unfolding(crate::specs::Parts::leaf_and_tree_of))]
 fn merge_new_path<S: Suite>(
     alloc: Global,
@@ -118,12 +107,12 @@ fn merge_new_path<S: Suite>(
 ) -> Result<Merged, PathError>
     requires context { IsShortContext group.now.context }
     requires leaves { HasLeavesBelow (2 ^ 27) group.now.tree }
-    ensures answer { Answers (λ x. (x.leaf, term x.tree)) number_of (leaf_and_tree_of S.crypto group.now signing.now index (term edited.now) seed.now) result }
+    ensures answer { MergesNewPath S.crypto group.now signing.now index edited.now seed.now result }
     ensures below { IfOk result (λ x. IsBelow (2 ^ 28) leaf_node x.leaf) }
-    ensures short { IfOk result (λ x. (n : ℕ) → HasLeavesBelow n (term edited.now) → IsBelow n leaf_node x.leaf → HasLeavesBelow n (term x.tree)) }
+    ensures short { IfOk result (λ x. StaysShort (term edited.now) x.leaf (term x.tree)) }
     ensures leaf { IfOk result (λ x. x.keys.leaf ≡ index) }
-    ensures chain { IfOk result (λ x. AreOfChain S.crypto (path_seed seed.now) (path_length 0 (term edited.now) index) x.secrets) }
-    ensures keys { IfOk result (λ x. all_keys x.keys ≡ made_keys S.crypto (way 0 (term edited.now) index) (path_seed seed.now) (leaf_key_of S.crypto seed.now)) }
+    ensures chain { IfOk result (λ x. IsChain S.crypto (term edited.now) index seed.now x.secrets) }
+    ensures keys { IfOk result (λ x. AreAllKeys S.crypto (term edited.now) index seed.now x.keys) }
 {
     let Some(old) = group.tree().leaf(index) else {
         return Err(PathError::Tree(TreeError::NoSuchLeaf));
@@ -136,9 +125,10 @@ fn merge_new_path<S: Suite>(
     merge_leaf_and_keys(index, tree, leaf, public, made)
 }
 
-/// The path of the member at leaf `index` for a commit with these edits: a member is there (22), its new leaf and the
-/// merge of its keys pass their checks (50 to 54, 25, 24), and its secrets are sealed under the context with the merged
-/// tree, where each key can be sealed to (36) (RFC 9420, 12.4.1).
+/// The path of the member at leaf `index` for a commit with these edits: a member is there (`NoSuchLeaf` 22), its new
+/// leaf and the merge of its keys pass their checks (50 to 54, `KeyRepeated` (25), `ParentHashWrong` (24)), and its
+/// secrets are sealed under the context with the merged tree, where each key can be sealed to (`BadKey` 36) (RFC 9420,
+/// 12.4.1).
 pub fn new_path<S: Suite>(
     alloc: Global,
     group: &PublicGroup,
@@ -148,15 +138,14 @@ pub fn new_path<S: Suite>(
     seed: &Seed,
 ) -> Result<NewPath, PathError>
     requires epoch { group.now.context.epoch + 1 < 2 ^ 64 }
-    ensures answer { (m : member.Member) → m.public ≡ group.now → m.signing ≡ signing.now → m.keys.leaf ≡ index
-        → Answers made_path number_of (model.new_path S.crypto m edits.now seed.now) result }
+    ensures answer { MakesPath S.crypto group.now signing.now index edits.now seed.now result }
     ensures leaf { IfOk result (λ p. p.keys.leaf ≡ index) }
     ensures below { IfOk result (λ p. IsBelow (2 ^ 28) leaf_node p.path.leaf_node) }
-    ensures chain { IfOk result (λ p. AreOfChain S.crypto (path_seed seed.now) (path_length 0 edits.now.tree index) p.secrets) }
+    ensures chain { IfOk result (λ p. IsChain S.crypto edits.now.tree index seed.now p.secrets) }
     // It passes the checks that each member makes of a path.
-    ensures received { IfOk result (λ p. apply_update_path S.crypto group.now index edits.now p.path ≡ Ok (term p.tree)) }
+    ensures received { IfOk result (IsValid S.crypto group.now index edits.now) }
     // The leaves of the tree with it are as short as those of the tree after the edits and the new one.
-    ensures short { IfOk result (λ p. (n : ℕ) → HasLeavesBelow n edits.now.tree → IsBelow n leaf_node p.path.leaf_node → HasLeavesBelow n (term p.tree)) }
+    ensures short { IfOk result (λ p. StaysShort edits.now.tree p.path.leaf_node (term p.tree)) }
 {
     group.is_short();
     let edited = edits.tree.as_tree();

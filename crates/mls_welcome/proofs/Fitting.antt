@@ -33,7 +33,8 @@ use Rattle.mls_types.specs.declared.welcome.EncryptedGroupSecrets.{EncryptedGrou
 use Rattle.mls_types.specs.declared.welcome.Welcome.{Welcome}
 use Rattle.mls_types.specs.Message.{mls_message}
 use Rattle.mls_types.specs.declared.message.MlsMessage.TheVariants as message
-use Rattle.mls_welcome.specs.Ranges.{FitsIfShort, IsRanged}
+use Rattle.mls_public_group.specs.MessageLimit.{FitsIfShort}
+use Rattle.mls_welcome.specs.Ranges.{IsRanged}
 
 -- ---- lengths
 

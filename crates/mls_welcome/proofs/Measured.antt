@@ -19,7 +19,8 @@ use Rattle.mls_suite.specs.Labels.{sign_with_label}
 use Rattle.mls_model.specs.Welcome.{signed_info}
 use Rattle.mls_model.specs.Messages.{are_bytes, is_within_limit}
 use Rattle.mls_public_group.proofs.Limits.{past_limit}
-use Rattle.mls_welcome.specs.Ranges.{FitsIfShort, IsRanged, limited_text}
+use Rattle.mls_public_group.specs.MessageLimit.{FitsIfShort, limited_text}
+use Rattle.mls_welcome.specs.Ranges.{IsRanged}
 use Rattle.mls_welcome.proofs.Fitting.{tbs_fit}
 
 -- ---- the measure

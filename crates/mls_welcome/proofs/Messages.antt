@@ -18,7 +18,7 @@ use Rattle.mls_schedule.specs.Epoch.{welcome_key, welcome_nonce}
 use Rattle.mls_model.specs.Messages.{is_within_limit}
 use Rattle.mls_model.specs.Welcome.{entries_for, welcome_message}
 use Rattle.mls_welcome.specs.WelcomeMessage.{have_fit_keys, welcome_of, message_with}
-use Rattle.mls_welcome.specs.Ranges.{limited_text}
+use Rattle.mls_public_group.specs.MessageLimit.{limited_text}
 use Rattle.mls_welcome.proofs.Measured.{limited_long}
 use Rattle.mls_welcome.proofs.SealedEntries.{entries_fit, entries_unfit}
 

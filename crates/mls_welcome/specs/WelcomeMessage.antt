@@ -9,7 +9,7 @@ use Rattle.mls_types.specs.Message.{mls_message}
 use Rattle.mls_types.specs.declared.message.MlsMessage.TheVariants as message
 use Rattle.mls_suite.specs.Crypto.{Crypto}
 use Rattle.mls_model.specs.Welcome.{entries_for}
-use Rattle.mls_welcome.specs.Ranges.{limited_text}
+use Rattle.mls_public_group.specs.MessageLimit.{limited_text}
 
 -- whether each init key is fit
 abbrev pub have_fit_keys : Crypto → List (KeyPackage × ℕ) → Bool

@@ -1,17 +1,16 @@
 //! The entries of a Welcome (RFC 9420, 12.4.3.1).
 
-ghost use Rattle.std.specs.Prelude.{◌≡◌, ◌≤◌, ◌<◌, ◌^◌, ◌+◌, ℕ, List, [], Ok, IfOk, IfSome, length, map};
+ghost use Rattle.std.specs.Prelude.{◌≡◌, ◌<◌, ◌^◌, ◌+◌, Ok, IfOk, IfSome, length, map};
 ghost use Rattle.std.specs.Option.{option_copied};
-ghost use Rattle.mls_wire.specs.Checks.{Answers};
 ghost use Rattle.mls_leaf.specs.KeyPackage.{key_package};
 ghost use Rattle.mls_public_group.specs.Short.{IsBelow};
-ghost use Rattle.mls_treekem_model.specs.Seeds.{seal_seed};
 ghost use Rattle.mls_types.specs.Welcome.{group_secrets};
 ghost use Rattle.mls_model.specs.Proposals.{package_reference};
-ghost use Rattle.mls_model.specs.Welcome.{secrets_with, entry_for, entries_for};
-ghost use Rattle.mls_welcome.specs.Joiners.{package_and_leaf_of, AreSecretsOf, AreShortJoiners};
-ghost use Rattle.mls_welcome.specs.Faults.{number_of};
+ghost use Rattle.mls_model.specs.Welcome.{entry_for};
+ghost use Rattle.mls_welcome.specs.Joiners.{package_and_leaf_of, AreShortJoiners};
+ghost use Rattle.mls_welcome.specs.Faults.{Gives};
 ghost use Rattle.mls_welcome.specs.WelcomeMessage.{have_fit_keys};
+ghost use Rattle.mls_welcome.specs.Entries.{IsSecretsOf, SealsEntries, SpellsSecrets, entry_of};
 
 use crate::error::WelcomeError;
 use crate::welcome_message::Joiner;
@@ -49,7 +48,7 @@ fn group_secrets(
     joiner_secret: &Secret,
     path_secret: Option<&Secret>,
 ) -> Result<GroupSecrets, AllocError>
-    ensures value { IfOk result (λ v. v ≡ record { joiner_secret = joiner_secret.now; path_secret = option_copied path_secret.entry; psks = [] }) }
+    ensures value { IfOk result (IsSecretsOf joiner_secret.now (option_copied path_secret.entry)) }
     ensures fits { IfOk result group_secrets.Fits }
 {
     Ok(GroupSecrets {
@@ -66,7 +65,7 @@ fn secrets_with(
     joiner_secret: &Secret,
     path_secret: Option<&Secret>,
 ) -> Result<Vec<u8>, WelcomeError>
-    ensures { Answers (λ v. v.items) number_of (Ok (secrets_with joiner_secret.now (option_copied path_secret.entry))) result }
+    ensures { SpellsSecrets joiner_secret.now (option_copied path_secret.entry) result }
 {
     let secrets = group_secrets(alloc, joiner_secret, path_secret)?;
     let bytes = secrets.encode(alloc)?;
@@ -76,14 +75,15 @@ fn secrets_with(
 /// The reference of a KeyPackage (RFC 9420, 5.2).
 fn reference_of(alloc: Global, offered: &KeyPackage) -> Result<Bytes, WelcomeError>
     requires { IsBelow (2 ^ 28) key_package offered.now }
-    ensures { Answers (λ b. b) number_of (Ok (package_reference offered.now)) result }
+    ensures { Gives (Ok (package_reference offered.now)) result }
 {
     let spelled = offered.encode(alloc)?;
     let reference = bytes_of(alloc, &key_package_reference(&spelled))?;
     Ok(reference)
 }
 
-/// Secrets sealed to the init key of a KeyPackage, under the encrypted GroupInfo: `BadKey` (36) where that key isn't fit.
+/// Secrets sealed to the init key of a KeyPackage, under the encrypted GroupInfo: `BadKey` (36) where that key isn't
+/// fit.
 fn entry_for<S: Suite>(
     alloc: Global,
     encrypted_info: &[u8],
@@ -93,7 +93,7 @@ fn entry_for<S: Suite>(
 ) -> Result<EncryptedGroupSecrets, WelcomeError>
     requires context { length encrypted_info.now < 2 ^ 30 }
     requires short { IsBelow (2 ^ 28) key_package offered.now }
-    ensures { Answers (λ x. x) number_of (entry_for S.crypto encrypted_info.now offered.now secrets.now rnd.now) result }
+    ensures { Gives (entry_for S.crypto encrypted_info.now offered.now secrets.now rnd.now) result }
 {
     let new_member = reference_of(alloc, offered)?;
     let key = offered.init_key.as_slice();
@@ -129,7 +129,7 @@ impl Sealer<'_> {
     ) -> Result<EncryptedGroupSecrets, WelcomeError>
         requires context { length encrypted_info.now < 2 ^ 30 }
         requires short { IsBelow (2 ^ 28) key_package joiner.now.key_package.now }
-        ensures { Answers (λ x. x) number_of (entry_for S.crypto encrypted_info.now joiner.now.key_package.now (secrets_with self.now.joiner_secret.now (option_copied joiner.now.path_secret)) (seal_seed self.now.seed.now n)) result }
+        ensures { Gives (entry_of S.crypto encrypted_info.now self.now joiner.now n) result }
     {
         let secrets = secrets_with(alloc, self.joiner_secret, joiner.path_secret)?;
         let rnd = seal_seed(self.seed, n);
@@ -147,8 +147,7 @@ impl Sealer<'_> {
         requires context { length encrypted_info.now < 2 ^ 30 }
         requires short { AreShortJoiners joiners.now }
         requires seals { first + length joiners.now < 2 ^ 32 }
-        ensures { (secrets : ℕ → List ℕ) → AreSecretsOf self.now.joiner_secret.now secrets joiners.now
-            → Answers (λ v. v.items) number_of (entries_for S.crypto encrypted_info.now secrets (seal_seed self.now.seed.now) first (map package_and_leaf_of joiners.now)) result }
+        ensures { SealsEntries S.crypto encrypted_info.now self.now joiners.now first result }
     {
         let mut entries = Vec::new(alloc);
         let mut number = first;

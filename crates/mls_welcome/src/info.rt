@@ -1,12 +1,9 @@
 //! The GroupInfo of a Welcome (RFC 9420, 12.4.3).
 
-ghost use Rattle.std.specs.Prelude.{◌≡◌, ◌≢◌, codes, Err, IfOk, IfErr};
-ghost use Rattle.mls_wire.specs.Checks.{Answers};
-ghost use Rattle.mls_types.specs.GroupInfo.{group_info, group_info_tbs};
-ghost use Rattle.mls_suite.specs.Labels.{sign_with_label};
-ghost use Rattle.mls_model.specs.Welcome.{unsigned_info, signed_info};
-ghost use Rattle.mls_welcome.specs.Faults.{number_of};
-ghost use Rattle.mls_welcome.specs.Ranges.{IsRanged, limited_text};
+ghost use Rattle.std.specs.Prelude.{◌≡◌, IfOk, IfErr};
+ghost use Rattle.mls_model.specs.Welcome.{unsigned_info};
+ghost use Rattle.mls_welcome.specs.Ranges.{IsRanged};
+ghost use Rattle.mls_welcome.specs.Entries.{IsInfoRefused, SignsInfo, info_signature};
 
 use crate::error::WelcomeError;
 use crate::limits::{is_within_limit, spell_within_limit};
@@ -46,16 +43,16 @@ fn unsigned_info(
     })
 }
 
-/// The signature of a GroupInfo (RFC 9420, 12.4.3): 6 where what is to be signed is larger alone than the GroupInfo may
-/// be, and then nothing is signed.
+/// The signature of a GroupInfo (RFC 9420, 12.4.3): `TooLong` (6) where what is to be signed is larger alone than the
+/// GroupInfo may be, and then nothing is signed.
 fn signature_of<S: Suite>(
     alloc: Global,
     info: &GroupInfo,
     signing: &Secret,
 ) -> Result<Bytes, WelcomeError>
     requires { IsRanged info.now }
-    ensures signature { IfOk result (λ s. s ≡ sign_with_label S.crypto signing.now (codes "GroupInfoTBS") (group_info_tbs info.now)) }
-    ensures refused { IfErr result (λ e. number_of e ≢ 1 → limited_text (group_info.spell (signed_info S.crypto signing.now info.now)) ≡ Err (number_of e)) }
+    ensures signature { IfOk result (λ s. s ≡ info_signature S.crypto signing.now info.now) }
+    ensures refused { IfErr result (IsInfoRefused S.crypto signing.now info.now) }
 {
     let text = info.to_be_signed(alloc)?;
     is_within_limit(&text)?;
@@ -63,7 +60,7 @@ fn signature_of<S: Suite>(
     Ok(Bytes::from_vec(signature))
 }
 
-/// The spelling of a group's GroupInfo, signed by the member at leaf `signer`: 6 where it is too large.
+/// The spelling of a group's GroupInfo, signed by the member at leaf `signer`: `TooLong` (6) where it is too large.
 pub(crate) fn signed_info<S: Suite>(
     alloc: Global,
     group: &PublicGroup,
@@ -71,7 +68,7 @@ pub(crate) fn signed_info<S: Suite>(
     signer: u32,
     signing: &Secret,
 ) -> Result<Vec<u8>, WelcomeError>
-    ensures { Answers (λ v. v.items) number_of (limited_text (group_info.spell (signed_info S.crypto signing.now (unsigned_info group.now confirmation_tag.now signer)))) result }
+    ensures { SignsInfo S.crypto signing.now group.now confirmation_tag.now signer result }
 {
     let mut info = unsigned_info(alloc, group, confirmation_tag, signer)?;
     info.signature = signature_of::<S>(alloc, &info, signing)?;

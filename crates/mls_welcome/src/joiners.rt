@@ -1,12 +1,8 @@
 //! Those whom a commit adds, with what each is sent.
 
-ghost use Rattle.std.specs.Prelude.{◌≡◌, ◌∷◌, ◌++◌, List, IfOk, OnOk, map};
-ghost use Rattle.std.specs.List.{AllByRecursion, zip};
-ghost use Rattle.std.specs.Option.{option_copied};
-ghost use Rattle.mls_model.specs.Proposals.{adds};
-ghost use Rattle.mls_model.specs.PublicState as model;
-ghost use Rattle.mls_welcome.specs.Joiners.{package_and_leaf_of};
-ghost use Rattle.mls_welcome.specs.SentSecrets.{IsSentTo, AreSentTo};
+ghost use Rattle.std.specs.Prelude.{IfOk};
+ghost use Rattle.mls_welcome.specs.Joiners.{HavePlaces, Places};
+ghost use Rattle.mls_welcome.specs.SentSecrets.{AreSentBy, IsLentTo, StaySent};
 
 use crate::welcome_message::Joiner;
 use mls_kdf::Secret;
@@ -24,7 +20,7 @@ fn secret_to<'a>(
     secrets: Option<&'a PathSecrets>,
     leaf: u32,
 ) -> Result<Option<&'a Secret>, OutOfMemory>
-    ensures { IfOk result (λ o. IsSentTo edits.now.tree committer (option_copied secrets.entry) leaf (option_copied o)) }
+    ensures { IfOk result (IsLentTo edits.now committer secrets.entry leaf) }
 {
     match secrets {
         None => Ok(None),
@@ -42,8 +38,8 @@ fn push_joiner<'a, 'b>(
     secrets: Option<&'a PathSecrets>,
     all: &mut Vec<Joiner<'a>>,
 ) -> Result<&'b [u32], OutOfMemory>
-    ensures places { IfOk result (λ rest. (us : List model.Used) → map package_and_leaf_of all.new.items ++ zip (adds us) rest.now ≡ map package_and_leaf_of all.old.items ++ zip (adds (used.now ∷ us)) leaves.now) }
-    ensures sent { OnOk result (AreSentTo edits.now.tree committer (option_copied secrets.entry) all.old.items → AreSentTo edits.now.tree committer (option_copied secrets.entry) all.new.items) }
+    ensures places { IfOk result (Places used.now all.old.items leaves.now all.new.items) }
+    ensures sent { StaySent edits.now committer secrets.entry all.old.items all.new.items result }
 {
     let Proposal::Add(key_package) = used.proposal else {
         return Ok(leaves);
@@ -68,8 +64,8 @@ pub fn joiners_of<'a>(
     committer: u32,
     secrets: Option<&'a PathSecrets>,
 ) -> Result<Vec<Joiner<'a>>, OutOfMemory>
-    ensures places { IfOk result (λ v. map package_and_leaf_of v.items ≡ zip (adds used.now) edits.now.added) }
-    ensures sent { IfOk result (λ v. AreSentTo edits.now.tree committer (option_copied secrets.entry) v.items) }
+    ensures places { IfOk result (λ v. HavePlaces used.now edits.now v.items) }
+    ensures sent { IfOk result (λ v. AreSentBy edits.now committer secrets.entry v.items) }
 {
     let mut all = Vec::new(alloc);
     let mut leaves = edits.added.as_slice();

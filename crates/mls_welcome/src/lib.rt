@@ -6,8 +6,8 @@ mod error;
 mod info;
 mod joiners;
 mod limits;
-mod welcome_message;
 mod ranges;
+mod welcome_message;
 
 pub use error::WelcomeError;
 pub use joiners::joiners_of;

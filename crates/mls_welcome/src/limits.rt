@@ -1,11 +1,10 @@
 //! Spellings that aren't larger than a message may be.
 
-ghost use Rattle.std.specs.Prelude.{◌≡◌, ◌≤◌, ◌<◌, ℕ, slice_index, length, MatchResult};
-ghost use Rattle.mls_leaf.specs.Limits.{input_limit};
-ghost use Rattle.mls_wire.specs.Checks.{Answers, AnswersOutright, passed};
+ghost use Rattle.std.specs.Prelude.{◌<◌, ℕ, slice_index, length};
+ghost use Rattle.mls_wire.specs.Checks.{AnswersOutright, passed};
 ghost use Rattle.mls_model.specs.Messages.{is_within_limit};
-ghost use Rattle.mls_welcome.specs.Faults.{number_of};
-ghost use Rattle.mls_welcome.specs.Ranges.{FitsIfShort, limited_text};
+ghost use Rattle.mls_welcome.specs.Faults.{number_of, GivesBytes, Measures};
+ghost use Rattle.mls_public_group.specs.MessageLimit.{FitsIfShort, limited_text};
 
 use crate::error::WelcomeError;
 use mls_leaf::{Codec, INPUT_LIMIT, LeafError};
@@ -17,10 +16,10 @@ fn know_bytes(bytes: &[u8])
     ensures { (i : ℕ) → slice_index bytes.now i < 256 }
 {}
 
-/// Refuses a text with more bytes than a message may have (6).
+/// Refuses a text with more bytes than a message may have (`TooLong` 6).
 pub(crate) fn is_within_limit(bytes: &[u8]) -> Result<(), WelcomeError>
     ensures answer { AnswersOutright (λ _. passed) number_of (is_within_limit bytes.now) result }
-    ensures length { MatchResult result (λ _. length bytes.now ≤ input_limit) (λ e. (number_of e ≡ 6) × (input_limit < length bytes.now)) }
+    ensures length { Measures bytes.now result }
 {
     know_bytes(bytes);
     if bytes.len() > INPUT_LIMIT {
@@ -29,10 +28,10 @@ pub(crate) fn is_within_limit(bytes: &[u8]) -> Result<(), WelcomeError>
     Ok(())
 }
 
-/// The spelling of a value whose numbers are in range: 6 where it is larger than a message may be.
+/// The spelling of a value whose numbers are in range: `TooLong` (6) where it is larger than a message may be.
 pub(crate) fn spell_within_limit<T: Codec>(alloc: Global, value: &T) -> Result<Vec<u8>, WelcomeError>
     requires { FitsIfShort T.format value.now }
-    ensures { Answers (λ v. v.items) number_of (limited_text (T.format.spell value.now)) result }
+    ensures { GivesBytes (limited_text (T.format.spell value.now)) result }
 {
     let bytes = value.encode(alloc)?;
     is_within_limit(&bytes)?;

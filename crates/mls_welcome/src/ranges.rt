@@ -1,5 +1,5 @@
-//! What the types of numbers tell of nodes: one whose spelling would be short has a spelling. These functions do nothing
-//! else.
+//! What the types of numbers tell of nodes: one whose spelling would be short has a spelling. These functions do
+//! nothing else.
 
 ghost use Rattle.std.specs.Prelude.{◌<◌, ◌^◌, ℕ, slice_index};
 ghost use Rattle.std.specs.List.{AllByRecursion};
@@ -7,7 +7,7 @@ ghost use Rattle.mls_wire.specs.Combine.{optional};
 ghost use Rattle.mls_leaf.specs.Leaf.{leaf_node, leaf_source, capabilities};
 ghost use Rattle.mls_leaf.specs.Node.{node};
 ghost use Rattle.mls_leaf.specs.ParentNode.{parent_node};
-ghost use Rattle.mls_welcome.specs.Ranges.{FitsIfShort};
+ghost use Rattle.mls_public_group.specs.MessageLimit.{FitsIfShort};
 
 use mls_leaf::{Capabilities, LeafNode, LeafSource, Node, ParentNode};
 use mls_tree_slot::Slot;

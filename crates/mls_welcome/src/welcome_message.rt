@@ -1,24 +1,20 @@
 //! Making a Welcome.
 
-ghost use Rattle.std.specs.Prelude.{◌≡◌, ◌≤◌, ◌<◌, ◌^◌, ◌+◌, ℕ, List, Err, length, map};
-ghost use Rattle.mls_wire.specs.Checks.{Answers};
-ghost use Rattle.mls_treekem_model.specs.Seeds.{seal_seed};
-ghost use Rattle.mls_model.specs.Welcome.{unsigned_info, signed_info, welcome_message};
-ghost use Rattle.mls_welcome.specs.Joiners.{package_and_leaf_of, AreSecretsOf, AreShortJoiners};
-ghost use Rattle.mls_welcome.specs.Faults.{number_of};
-ghost use Rattle.mls_welcome.specs.WelcomeMessage.{welcome_of, message_with};
+ghost use Rattle.std.specs.Prelude.{◌≡◌, ◌<◌, ◌^◌, ◌+◌, length};
+ghost use Rattle.mls_welcome.specs.Joiners.{AreShortJoiners};
+ghost use Rattle.mls_welcome.specs.WelcomeMessage.{welcome_of};
+ghost use Rattle.mls_welcome.specs.Entries.{MakesWelcome, RefusesLong, SealsMessage, info_of};
 
 use crate::entries::{Sealer, have_fit_keys};
 use crate::error::WelcomeError;
 use crate::info::signed_info;
 use crate::limits::spell_within_limit;
-use mls_types::{EncryptedGroupSecrets, Welcome};
 use mls_kdf::{Secret, Seed};
 use mls_leaf::{Bytes, Items, KeyPackage, LeafError};
 use mls_public_group::PublicGroup;
 use mls_schedule::Epoch;
 use mls_suite::Suite;
-use mls_types::MlsMessage;
+use mls_types::{EncryptedGroupSecrets, MlsMessage, Welcome};
 use mls_wire::WireError;
 use std::alloc::Global;
 
@@ -33,10 +29,10 @@ pub struct Joiner<'a> {
     pub path_secret: Option<&'a Secret>,
 }
 
-/// The refusal of a Welcome whose encrypted GroupInfo is too long to seal anything under it: 36 where an init key isn't
-/// fit, and else 6.
+/// The refusal of a Welcome whose encrypted GroupInfo is too long to seal anything under it: `BadKey` (36) where an
+/// init key isn't fit, and else `TooLong` (6).
 fn refusal<S: Suite>(joiners: &[Joiner<'_>]) -> WelcomeError
-    ensures { (encrypted_info : List ℕ) (secrets rnd : ℕ → List ℕ) (n : ℕ) → 2 ^ 30 ≤ length encrypted_info → message_with S.crypto encrypted_info secrets rnd n (map package_and_leaf_of joiners.now) ≡ Err (number_of result) }
+    ensures { RefusesLong S.crypto joiners.now result }
 {
     if have_fit_keys::<S>(joiners) {
         WelcomeError::Leaf(LeafError::Wire(WireError::TooLong))
@@ -67,8 +63,7 @@ fn message_with<S: Suite>(
 ) -> Result<Vec<u8>, WelcomeError>
     requires short { AreShortJoiners joiners.now }
     requires seals { first_seal + length joiners.now < 2 ^ 32 }
-    ensures { (secrets : ℕ → List ℕ) → AreSecretsOf sealer.now.joiner_secret.now secrets joiners.now
-        → Answers (λ v. v.items) number_of (message_with S.crypto encrypted_info.items secrets (seal_seed sealer.now.seed.now) first_seal (map package_and_leaf_of joiners.now)) result }
+    ensures { SealsMessage S.crypto encrypted_info.items sealer.now joiners.now first_seal result }
 {
     if encrypted_info.len() >= 1 << 30 {
         return Err(refusal::<S>(joiners));
@@ -78,10 +73,10 @@ fn message_with<S: Suite>(
     spell_within_limit(alloc, &MlsMessage::Welcome(welcome))
 }
 
-/// The message of a Welcome to a group that a commit made, from the committer at leaf `signer`: the GroupInfo, signed and
-/// sealed once, and for each joiner the joiner secret and its path secret, sealed to its init key under the seals' numbers
-/// from `first_seal` on (RFC 9420, 12.4.3.1). 6 where the GroupInfo or the message is too large, 36 where an init key isn't
-/// fit. The confirmation tag has 32 bytes.
+/// The message of a Welcome to a group that a commit made, from the committer at leaf `signer`: the GroupInfo, signed
+/// and sealed once, and for each joiner the joiner secret and its path secret, sealed to its init key under the seals'
+/// numbers from `first_seal` on (RFC 9420, 12.4.3.1). `TooLong` (6) where the GroupInfo or the message is too large,
+/// `BadKey` (36) where an init key isn't fit. The confirmation tag has 32 bytes.
 pub fn welcome<S: Suite>(
     alloc: Global,
     group: &PublicGroup,
@@ -95,8 +90,9 @@ pub fn welcome<S: Suite>(
 ) -> Result<Vec<u8>, WelcomeError>
     requires short { AreShortJoiners joiners.now }
     requires seals { first_seal + length joiners.now < 2 ^ 32 }
-    ensures { (secrets : ℕ → List ℕ) → AreSecretsOf joiner_secret.now secrets joiners.now
-        → Answers (λ v. v.items) number_of (welcome_message S.crypto (signed_info S.crypto signing.now (unsigned_info group.now confirmation_tag.now signer)) joiner_secret.now secrets (seal_seed seed.now) first_seal (map package_and_leaf_of joiners.now)) result }
+    ensures { MakesWelcome S.crypto
+        (info_of S.crypto signing.now group.now confirmation_tag.now signer)
+        joiner_secret.now joiners.now seed.now first_seal result }
 {
     let info = signed_info::<S>(alloc, group, confirmation_tag, signer, signing)?;
     let key = Epoch::welcome_key(joiner_secret);

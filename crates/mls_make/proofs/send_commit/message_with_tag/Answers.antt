@@ -5,7 +5,7 @@ use Rattle.mls_leaf.specs.Faults.{number_of as number_of_leaf}
 use Rattle.mls_types.specs.SignedParts.{signed_with}
 use Rattle.mls_types.specs.declared.signed.SignedContent.{SignedContent}
 use Rattle.mls_model.specs.Messages.{message_by}
-use Rattle.mls_message.specs.Sending.{limited_text}
+use Rattle.mls_public_group.specs.MessageLimit.{limited_text}
 use Rattle.mls_make.proofs.send_commit.message_with_tag.Goals as goal
 
 pub returns : goal.returns

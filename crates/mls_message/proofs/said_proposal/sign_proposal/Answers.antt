@@ -10,7 +10,7 @@ use Rattle.mls_suite.specs.Crypto.{Crypto}
 use Rattle.mls_model.specs.Member.{Member}
 use Rattle.mls_model.specs.Messages.{content_by, content_signature, message_by}
 use Rattle.mls_model.specs.Propose.{proposal_by}
-use Rattle.mls_message.specs.Sending.{limited_text}
+use Rattle.mls_public_group.specs.MessageLimit.{limited_text}
 use Rattle.mls_message.specs.declared.said_proposal.SaidProposal.{SaidProposal}
 use Rattle.mls_message.proofs.said_proposal.sign_proposal.Goals as goal
 

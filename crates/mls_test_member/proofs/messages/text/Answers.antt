@@ -3,7 +3,7 @@ use Rattle.std.specs.Int.{w8}
 use Rattle.mls_wire.specs.Reading.{uint, header, opaque}
 use Rattle.mls_types.specs.Content.{content}
 use Rattle.mls_types.specs.declared.content.Content.TheVariants as says
-use Rattle.mls_message.specs.Sending.{FitsIfShort}
+use Rattle.mls_public_group.specs.MessageLimit.{FitsIfShort}
 use Rattle.mls_public_group.proofs.Lengths.{last_within}
 use Rattle.mls_test_member.proofs.messages.text.Goals as goal
 

@@ -1,7 +1,7 @@
 use Rattle.std.proofs.Common.{sym, subst}
 use Rattle.mls_leaf.specs.Node.{node}
 use Rattle.mls_leaf.specs.declared.node.Node.{Node}
-use Rattle.mls_welcome.specs.Ranges.{FitsIfShort}
+use Rattle.mls_public_group.specs.MessageLimit.{FitsIfShort}
 use Rattle.mls_welcome.proofs.Fitting.{leaf_node_fit, parent_node_fit}
 use Rattle.mls_welcome.proofs.ranges.know_node.Goals as goal
 

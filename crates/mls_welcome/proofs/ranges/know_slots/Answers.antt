@@ -1,7 +1,7 @@
 use Rattle.std.proofs.Common.{arith}
 use Rattle.mls_wire.specs.Combine.{optional}
 use Rattle.mls_leaf.specs.Node.{node}
-use Rattle.mls_welcome.specs.Ranges.{FitsIfShort}
+use Rattle.mls_public_group.specs.MessageLimit.{FitsIfShort}
 use Rattle.mls_welcome.proofs.Fitting.{all_step, all_end}
 use Rattle.mls_welcome.proofs.ranges.know_slots.Goals as goal
 

@@ -1,7 +1,7 @@
 use Rattle.std.proofs.Common.{arith, sym, subst}
 use Rattle.mls_leaf.specs.Leaf.{leaf_source}
 use Rattle.mls_leaf.specs.declared.leaf.LeafSource.{LeafSource}
-use Rattle.mls_welcome.specs.Ranges.{FitsIfShort}
+use Rattle.mls_public_group.specs.MessageLimit.{FitsIfShort}
 use Rattle.mls_welcome.proofs.Fitting.{package_source_fits, update_source_fits, commit_source_fits}
 use Rattle.mls_welcome.proofs.ranges.know_source.Goals as goal
 

@@ -6,7 +6,7 @@ use Rattle.mls_model.specs.Welcome.{entries_for}
 use Rattle.mls_treekem_model.specs.Seeds.{seal_seed}
 use Rattle.mls_welcome.specs.Joiners.{package_and_leaf_of}
 use Rattle.mls_welcome.specs.Faults.{number_of}
-use Rattle.mls_welcome.specs.Ranges.{limited_text}
+use Rattle.mls_public_group.specs.MessageLimit.{limited_text}
 use Rattle.mls_welcome.proofs.Fitting.{message_fits}
 use Rattle.mls_welcome.proofs.Messages.{message_is}
 use Rattle.mls_welcome.proofs.welcome_message.message_with.Goals as goal

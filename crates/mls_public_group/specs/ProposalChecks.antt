@@ -1,0 +1,31 @@
+-- The checks of a proposal, by what it proposes.
+use Rattle.std.specs.Prelude.{◌≡◌, ℕ, if◌then◌else◌, is_some, Result, Ok}
+use Rattle.mls_wire.specs.Checks.{AnswersOutright, Passed, passed, require}
+use Rattle.mls_leaf.specs.declared.leaf.LeafNode.{LeafNode}
+use Rattle.mls_leaf.specs.declared.proposal.Proposal.{Proposal}
+use Rattle.mls_leaf.specs.declared.proposal.Proposal.TheVariants.{Update, Remove}
+use Rattle.mls_suite.specs.Crypto.{Crypto}
+use Rattle.mls_tree_model.specs.Term.{Term, leaf_of}
+use Rattle.mls_tree.specs.Refusals.{RefusesOutright}
+use Rattle.mls_model.specs.PublicState.{PublicState, Used}
+use Rattle.mls_model.specs.Proposals.{proposal_checks}
+use Rattle.mls_public_group.specs.declared.error.GroupError.{GroupError}
+use Rattle.mls_public_group.specs.Faults.{number_of}
+
+-- 22 where no member is at the leaf
+abbrev pub member_check : Term → ℕ → Result Passed ℕ
+member_check t i = require 22 (is_some (leaf_of t i))
+
+-- of an update, 22 is answered where no member is at its sender's leaf, whatever memory there is
+abbrev pub RefusesUpdate : {A : Type 0} → Term → ℕ → Proposal → Result A GroupError → Type 0
+RefusesUpdate t sender p result =
+    (l : LeafNode) → p ≡ Update l → RefusesOutright number_of (member_check t sender) result
+
+-- of a remove, the call answers just whether a member is there, and 22 where none is, whatever memory there is
+abbrev pub AnswersRemove : {A : Type 0} → Term → Proposal → Result A GroupError → Type 0
+AnswersRemove t p result =
+    (i : ℕ) → p ≡ Remove i → AnswersOutright (λ _. passed) number_of (member_check t i) result
+
+-- the checks of a proposal that a commit uses, where the commit gives it in full (RFC 9420, 12.4.2)
+abbrev pub used_checks : Crypto → PublicState → Used → Result Passed ℕ
+used_checks c p u = if u.is_full then proposal_checks c p u.sender u.proposal else Ok passed
