@@ -1,5 +1,5 @@
 use Rattle.std.proofs.Common.{◌∙◌}
-use Rattle.mls_cli_json.proofs.Lists.{grown}
+use Rattle.mls_cli_json.proofs.ListSteps.{grown}
 use Rattle.mls_cli_vectors.specs.Vectors.{vector_view}
 use Rattle.mls_cli_vectors.specs.VectorsFile.{claim_in}
 use Rattle.mls_cli_vectors.proofs.reading.vectors_of.Goals as goal

@@ -2,7 +2,7 @@ use Rattle.std.proofs.Common.{◌≡◌, drop, map, option_map}
 use Rattle.serde_json.specs.View.{items_view}
 use Rattle.mls_cli_vectors.specs.Vectors.{vector_view}
 use Rattle.mls_cli_json.specs.Lists.{each_of}
-use Rattle.mls_cli_json.proofs.Lists.{joined}
+use Rattle.mls_cli_json.proofs.ListSteps.{joined}
 use Rattle.mls_cli_vectors.specs.VectorsFile.{claim_in}
 use Rattle.mls_cli_vectors.proofs.reading.vectors_of.Given as goal
 
