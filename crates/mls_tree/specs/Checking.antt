@@ -16,11 +16,11 @@ AnswersCapable suite t answer = (c : Crypto) (group : List ℕ) → c.number ≡
 
 -- it is told whether the signature of leaf i is its own, where it isn't blank
 abbrev pub AnswersSigned : Crypto → List ℕ → ℕ → Option LeafNode → Bool → Type 0
-AnswersSigned c group i leaf answer = answer ≡ passes (is_signed c group) i leaf
+AnswersSigned c group i leaf = λ answer. answer ≡ passes (is_signed c group) i leaf
 
 -- it is told whether each member's signature is its own
 abbrev pub AnswersAllSigned : Crypto → List ℕ → Term → Bool → Type 0
-AnswersAllSigned c group t answer = answer ≡ is_all_signed (rules_of c group) t
+AnswersAllSigned c group t = λ answer. answer ≡ is_all_signed (rules_of c group) t
 
 -- it is told whether each encryption key is fit for sealing
 abbrev pub AnswersAllFit : Crypto → Term → Bool → Type 0

@@ -46,7 +46,7 @@ ChillsThenWarms i old new = (between : Tree) × Chills (term old) i old between 
 
 -- A call adds leaf i to a tree, which is doubled where it has no blank one.
 abbrev pub AddChills : Tree → Tree → ℕ → Type 0
-AddChills old new i = Chills (room_for (first_blank 0 (term old)) (term old)) i old new
+AddChills old new = λ i. Chills (room_for (first_blank 0 (term old)) (term old)) i old new
 
 -- ---- what hashing costs
 

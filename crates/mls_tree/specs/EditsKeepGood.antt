@@ -22,7 +22,7 @@ MergesGood i x keys old new =
 
 -- a new tree of one leaf is good, where the leaf passes the checks
 abbrev pub IsGoodIfNew : LeafNode → Tree → Type 0
-IsGoodIfNew leaf t = (rules : Rules) → 0 < rules.limit → AreNew rules 0 leaf [] (Leaf None) → IsGood rules (term t)
+IsGoodIfNew leaf = λ t. (rules : Rules) → 0 < rules.limit → AreNew rules 0 leaf [] (Leaf None) → IsGood rules (term t)
 
 -- an added leaf keeps a tree good, where it passes the checks and the tree may be as large
 abbrev pub AddKeepsGood : LeafNode → Tree → Tree → Type 0

@@ -17,11 +17,11 @@ use Rattle.mls_tree.specs.IndexedKeys.{KeepsIndexes}
 
 -- these are the parents over leaf i that a merge makes of keys, the lowest first
 abbrev pub ArePathParents : Term → ℕ → List (List ℕ) → Vec Parent → Type 0
-ArePathParents t i keys parents = parents.items ≡ path_parents 0 t i (reverse keys) []
+ArePathParents t i keys = λ parents. parents.items ≡ path_parents 0 t i (reverse keys) []
 
 -- the hash of a merged path is that which the leaf must have
 abbrev pub HasPathHash : Term → ℕ → List (List ℕ) → MergedPath → Type 0
-HasPathHash t i keys path = hash_bytes path.hash ≡ path_parent_hash t i keys
+HasPathHash t i keys = λ path. hash_bytes path.hash ≡ path_parent_hash t i keys
 
 -- whether a merged tree has no encryption key twice
 abbrev pub keys_differ : Term → ℕ → LeafNode → List (List ℕ) → Bool

@@ -50,7 +50,7 @@ IsFor t p = IsPrepared t p.index p.leaf (keys_of p) p
 -- the hashes that are made are those of leaf i and of the nodes over it in the merged tree, the lowest first, and the
 -- tree hash of that tree
 abbrev pub AreHashesOver : Term → ℕ → List Parent → LeafNode → Vec (List ℕ) × List ℕ → Type 0
-AreHashesOver t i parents leaf made = HashesMerged 0 t i parents leaf made.1 [] made.0.items
+AreHashesOver t i parents leaf = λ made. HashesMerged 0 t i parents leaf made.1 [] made.0.items
 
 -- a call answers what a merge of the path of leaf i does
 abbrev pub AnswersPrepared : {B : Type 0} → Term → ℕ → LeafNode → List (List ℕ) → Result B TreeError → Type 0
@@ -58,7 +58,7 @@ AnswersPrepared t i x keys result = Answers (λ _. merge_path t i x keys) number
 
 -- the path was prepared for the tree, and its merge is that of leaf i with these keys
 abbrev pub IsPreparedFor : Term → ℕ → LeafNode → List (List ℕ) → Prepared → Type 0
-IsPreparedFor t i x keys p = IsFor t p × (merged_by t p ≡ merge_path t i x keys)
+IsPreparedFor t i x keys = λ p. IsFor t p × (merged_by t p ≡ merge_path t i x keys)
 
 -- a prepared path keeps a tree good where its leaf and its keys pass the checks
 abbrev pub PathKeepsGood : Prepared → Tree → Tree → Type 0

@@ -22,13 +22,13 @@ AreKeysBelow h b side keys below = reverse below ≡ keys_beside b (term_of h si
 
 -- the parent hash that is handed down below a parent with this other side
 abbrev pub IsHashBelow : ℕ → ℕ → List (Option Node) → List (List ℕ) → Option (List ℕ) → Option (List ℕ) → Type 0
-IsHashBelow h b side keys above below =
-    hash_bytes below ≡ hash_beside b (term_of h side) (reverse keys) (hash_bytes above)
+IsHashBelow h b side keys above =
+    λ below. hash_bytes below ≡ hash_beside b (term_of h side) (reverse keys) (hash_bytes above)
 
 -- the parent hash that reaches leaf i, by the one above the tree
 abbrev pub IsPathHash : ℕ → ℕ → List (Option Node) → ℕ → List (List ℕ) → Option (List ℕ) → Option (List ℕ) → Type 0
-IsPathHash h b nodes i keys above below =
-    hash_bytes below ≡ path_hash b (term_of h nodes) i (reverse keys) (hash_bytes above)
+IsPathHash h b nodes i keys above =
+    λ below. hash_bytes below ≡ path_hash b (term_of h nodes) i (reverse keys) (hash_bytes above)
 
 -- the parent with this other side was added, where there is one
 abbrev pub AddsParent : ℕ → ℕ → List (Option Node) → Vec (List ℕ) → Option (List ℕ) → Vec Parent → Vec Parent → Type 0
@@ -42,11 +42,11 @@ AddsParents h b nodes i keys above old new result =
 
 -- the parents of a merged path are those over leaf i of a tree, by their keys, the lowest first
 abbrev pub HasParents : ℕ → Term → ℕ → List (List ℕ) → MergedPath → Type 0
-HasParents b t i keys p = p.parents.items ≡ path_parents b t i (reverse keys) []
+HasParents b t i keys = λ p. p.parents.items ≡ path_parents b t i (reverse keys) []
 
 -- the hash of a merged path is the one that reaches leaf i of a tree
 abbrev pub HasHash : ℕ → Term → ℕ → List (List ℕ) → MergedPath → Type 0
-HasHash b t i keys p = hash_bytes p.hash ≡ path_hash b t i (reverse keys) []
+HasHash b t i keys = λ p. hash_bytes p.hash ≡ path_hash b t i (reverse keys) []
 
 -- where these are the parents that a merge makes over leaf i, the merge was made
 abbrev pub MergesPath : ℕ → ℕ → ℕ → LeafNode → List Parent → List (Option Node) → List (Option Node) → Type 0

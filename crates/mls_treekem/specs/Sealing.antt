@@ -57,7 +57,7 @@ SealsAt c s p reached k i result =
 
 -- a node of a path has as many seals as there are nodes to seal to
 abbrev pub HasSeals : Sealer → List ℕ → UpdatePathNode → Type 0
-HasSeals s reached node = length node.ciphertexts ≡ length (less (leaf_numbers s.added.now) reached)
+HasSeals s reached = λ node. length node.ciphertexts ≡ length (less (leaf_numbers s.added.now) reached)
 
 -- a call seals the path at some places, the lowest node first
 abbrev pub SealsAlong : Crypto → Sealer → List Place → Result (Vec UpdatePathNode) TreeKemError → Type 0
@@ -66,11 +66,11 @@ SealsAlong c s places result =
 
 -- a path has as many nodes as the filtered direct path takes parents in
 abbrev pub HasNodes : Sealer → List Place → Vec UpdatePathNode → Type 0
-HasNodes s places nodes = length nodes.items ≡ filtered_count (steps_at (term s.tree.now) places)
+HasNodes s places = λ nodes. length nodes.items ≡ filtered_count (steps_at (term s.tree.now) places)
 
 -- a path has as many seals as there are nodes to seal to along its way
 abbrev pub HasSealsAlong : Sealer → List Place → Vec UpdatePathNode → Type 0
-HasSealsAlong s places nodes = seal_count_of nodes.items ≡ seal_count s.added.now (steps_at (term s.tree.now) places)
+HasSealsAlong s places = λ nodes. seal_count_of nodes.items ≡ seal_count s.added.now (steps_at (term s.tree.now) places)
 
 -- a call seals the path of leaf i
 abbrev pub SealsPath : Crypto → List ℕ → List ℕ → List ℕ → PathSecrets → Tree → ℕ → Result (Vec UpdatePathNode) TreeKemError → Type 0
@@ -84,4 +84,4 @@ SealsChain c context added seed path tree i result =
 
 -- a path of leaf i has as many seals as there are nodes to seal to on its way
 abbrev pub HasSealCount : List ℕ → Tree → ℕ → Vec UpdatePathNode → Type 0
-HasSealCount added tree i nodes = seal_count_of nodes.items ≡ seal_count added (way 0 (term tree) i)
+HasSealCount added tree i = λ nodes. seal_count_of nodes.items ≡ seal_count added (way 0 (term tree) i)

@@ -40,8 +40,8 @@ secret_over made t places j = secret_among (steps_at t places) j made.secrets.it
 
 -- it is told which of some path secrets is for leaf j, where leaf i made them
 abbrev pub AnswersSecret : Term → ℕ → ℕ → PathSecrets → Option (Bor (List ℕ)) → Type 0
-AnswersSecret t i j made answer = option_copied answer ≡ secret_among (way 0 t i) j made.secrets.items
+AnswersSecret t i j made = λ answer. option_copied answer ≡ secret_among (way 0 t i) j made.secrets.items
 
 -- it is told which of some path secrets leaf i sends to leaf j
 abbrev pub AnswersSent : Term → ℕ → ℕ → PathSecrets → Option (Bor (List ℕ)) → Type 0
-AnswersSent t i j made answer = IsSentOf t i j made.secrets.items (option_copied answer)
+AnswersSent t i j made = λ answer. IsSentOf t i j made.secrets.items (option_copied answer)
