@@ -38,11 +38,11 @@ four_digits n = encode_lower (n / 256 ∷ n % 256 ∷ [])
 
 -- a list of uint16 as four digits each with commas between them
 abbrev pub numbers_text : List ℕ → List ℕ
-numbers_text numbers = or_dash (join_by four_digits (codes ",")) numbers
+numbers_text ns = or_dash (join_by four_digits (codes ",")) ns
 
 -- each uint16 behind a comma
 abbrev pub with_commas : List ℕ → List ℕ
-with_commas numbers = flat_map (λ (n : ℕ). codes "," ++ four_digits n) numbers
+with_commas ns = flat_map (λ (n : ℕ). codes "," ++ four_digits n) ns
 
 -- a number, a space and its name
 abbrev pub number_with_name : ℕ → List ℕ → List ℕ
