@@ -9,7 +9,7 @@ ghost use Rattle.mls_checks.specs.Leaf.{is_of_source, has_identity_of};
 ghost use Rattle.mls_checks.specs.Short.{IsShort};
 
 use crate::error::CheckError;
-use crate::leaf::{leaf_capable, leaf_signed, is_package_signed};
+use crate::leaf::{is_package_signed, leaf_capable, leaf_signed};
 use mls_leaf::{KeyPackage, LeafNode, LeafSource};
 use mls_suite::Suite;
 use std::alloc::Global;

@@ -1,8 +1,8 @@
 //! What is printed of trees. Their hashes and signatures, and the texts with them, are another program's.
 
 use mls_cli_check::{SuiteChecks, Unchecked, check_page};
-use mls_suite::{Glass, Suite};
 use mls_cli_text::print_page;
+use mls_suite::{Glass, Suite};
 use std::alloc::{AllocError, Global};
 use std::test::Fail;
 

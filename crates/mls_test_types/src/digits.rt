@@ -62,7 +62,10 @@ pub(crate) fn number_of_check<T: Codec>(bytes: &[u8]) -> u8 {
 /// What `decode` answers of these digits, and what `check_all` does.
 fn answer<T: Codec>(alloc: Global, digits: &str) -> Result<(u8, u8), LeafError> {
     let bytes = bytes_of(alloc, digits)?;
-    Ok((number_of_decoding::<T>(alloc, &bytes)?, number_of_check::<T>(&bytes)))
+    Ok((
+        number_of_decoding::<T>(alloc, &bytes)?,
+        number_of_check::<T>(&bytes),
+    ))
 }
 
 /// Asserts that these are the two answers.

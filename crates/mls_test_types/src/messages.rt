@@ -1,6 +1,6 @@
 //! Messages and commits.
 
-use crate::digits::{answers, number_of_check, number_of_decoding, gives, holds, value_of};
+use crate::digits::{answers, gives, holds, number_of_check, number_of_decoding, value_of};
 use mls_types::*;
 use std::alloc::Global;
 use std::test::Fail;

@@ -1,6 +1,6 @@
 //! Messages that are lent from their bytes.
 
-use crate::digits::{bytes_of, number_of_decoding, holds, spelling_of};
+use crate::digits::{bytes_of, holds, number_of_decoding, spelling_of};
 use mls_types::*;
 use mls_view::*;
 use std::alloc::{AllocError, Global};

@@ -1,9 +1,9 @@
 //! The inputs that are signed and tagged (RFC 9420, 6.1 and 6.2).
 
+use crate::GroupContext;
 use crate::content::FramedContent;
 use crate::public_message::WireFormat;
 use crate::signed::SignedContent;
-use crate::GroupContext;
 use mls_leaf::{Codec, LeafError};
 use mls_wire::Writer;
 use std::alloc::Global;

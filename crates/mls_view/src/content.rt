@@ -79,7 +79,9 @@ fn read_content<'a>(reader: &mut Reader<'a>) -> Result<ContentView<'a>, LeafErro
 
 /// The framed content at the front. It makes no value and takes no memory.
 #[tactic(auto, using(mls_leaf::proofs::Codecs::codecs), unfolding(mls_types::specs::Content::framed_content))]
-pub(crate) fn read_framed_content<'a>(reader: &mut Reader<'a>) -> Result<FramedContentView<'a>, LeafError>
+pub(crate) fn read_framed_content<'a>(
+    reader: &mut Reader<'a>,
+) -> Result<FramedContentView<'a>, LeafError>
     ensures { LendsView framed_content ShowsFramed reader.old result reader.new }
 {
     let group_id = reader.opaque()?;

@@ -5,7 +5,7 @@ ghost use Rattle.mls_wire.specs.Format.{IsBytes};
 ghost use Rattle.mls_leaf.specs.Faults.{LendsPart, Spells};
 ghost use Rattle.mls_view.specs.Views.{Owns, SpellsRead, StepsItems, WalksItems};
 
-use mls_leaf::{Codec, Items, LeafError, lend_part, lend_front};
+use mls_leaf::{Codec, Items, LeafError, lend_front, lend_part};
 use mls_wire::Reader;
 use std::alloc::Global;
 use std::marker::{Model, PhantomData};

@@ -30,7 +30,9 @@ pub struct PublicMessageView<'a> {
 }
 
 /// The public message at the front. It makes no value and takes no memory.
-pub(crate) fn read_public_message<'a>(reader: &mut Reader<'a>) -> Result<PublicMessageView<'a>, LeafError>
+pub(crate) fn read_public_message<'a>(
+    reader: &mut Reader<'a>,
+) -> Result<PublicMessageView<'a>, LeafError>
     ensures { LendsView public_message ShowsPublic reader.old result reader.new }
 {
     let before = reader.rest();
