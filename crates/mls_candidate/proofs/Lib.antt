@@ -1,6 +1,5 @@
 pub mod LeafLaws
 pub mod LengthLaws
-pub mod Names
 pub mod Written
 pub mod Packages
 pub mod New

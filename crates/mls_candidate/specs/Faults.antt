@@ -1,7 +1,7 @@
--- The numbers and names of these refusals, and what calls promise by these numbers.
-use Rattle.std.specs.Prelude.{ℕ, List, Result, codes}
+-- The numbers of these refusals, and what calls promise by these numbers.
+use Rattle.std.specs.Prelude.{ℕ, Result}
 use Rattle.mls_wire.specs.Checks.{Answers}
-use Rattle.mls_leaf.specs.Faults.{number_of as number_of_leaf, name_of as name_of_leaf}
+use Rattle.mls_leaf.specs.Faults.{number_of as number_of_leaf}
 use Rattle.mls_candidate.specs.declared.error.CandidateError.{CandidateError}
 use Rattle.mls_candidate.specs.declared.error.CandidateError.TheVariants.{Leaf, InitKeySame}
 
@@ -9,11 +9,6 @@ use Rattle.mls_candidate.specs.declared.error.CandidateError.TheVariants.{Leaf, 
 abbrev pub number_of : CandidateError → ℕ
 number_of (Leaf e) = number_of_leaf e
 number_of InitKeySame = 57
-
--- the name, as it is printed
-abbrev pub name_of : CandidateError → List ℕ
-name_of (Leaf e) = name_of_leaf e
-name_of InitKeySame = codes "InitKeySame"
 
 -- A call answers what the definition does, or refuses with its number. Where memory was refused it says nothing.
 abbrev pub Gives : {A : Type 0} → Result A ℕ → Result A CandidateError → Type 0

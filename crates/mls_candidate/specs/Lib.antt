@@ -1,4 +1,3 @@
 pub mod Faults
 pub mod Leaves
-pub mod Names
 pub mod Short

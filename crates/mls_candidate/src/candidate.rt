@@ -6,7 +6,7 @@ ghost use Rattle.mls_leaf.specs.Leaf.{leaf_node as leaf_format};
 ghost use Rattle.mls_leaf.specs.declared.proposal.Proposal.TheVariants.{Add};
 ghost use Rattle.mls_public_group.specs.Short.{IsBelow};
 ghost use Rattle.mls_public_group.specs.ShortProposal.{IsShortProposal};
-ghost use Rattle.mls_model.specs.Agreement.{IsGoodCandidate};
+ghost use Rattle.mls_model.specs.MemberInvariant.{IsGoodCandidate};
 ghost use Rattle.mls_model.specs.Candidate.{new_candidate, package_message};
 ghost use Rattle.mls_candidate.specs.Faults.{Gives};
 

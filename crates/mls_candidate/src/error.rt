@@ -1,13 +1,14 @@
 //! What a candidate is refused for.
 
 ghost use Rattle.std.specs.Prelude.{◌≡◌};
-ghost use Rattle.mls_candidate.specs.Faults.{number_of, name_of};
+ghost use Rattle.mls_wire.specs.Names.{refusal_name};
+ghost use Rattle.mls_candidate.specs.Faults.{number_of};
 ghost use Rattle.mls_candidate.specs.declared.error.CandidateError.TheVariants.{Leaf as in_leaf};
 ghost use Rattle.mls_wire.specs.declared.WireError.TheVariants.{OutOfMemory};
 ghost use Rattle.mls_leaf.specs.declared.error.LeafError.TheVariants.{Wire as in_wire};
 
 use mls_leaf::LeafError;
-use mls_wire::WireError;
+use mls_wire::{WireError, refusal_name};
 use std::alloc::{AllocError, AllocFailed};
 use thiserror::Error;
 
@@ -59,11 +60,8 @@ impl CandidateError {
 
     /// The name of the refusal, as it is printed.
     pub fn name(self) -> &'static str
-        ensures { result.now ≡ name_of self }
+        ensures { result.now ≡ refusal_name (number_of self) }
     {
-        match self {
-            CandidateError::Leaf(error) => error.name(),
-            CandidateError::InitKeySame => "InitKeySame",
-        }
+        refusal_name(self.number())
     }
 }

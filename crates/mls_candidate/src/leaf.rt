@@ -8,9 +8,10 @@ ghost use Rattle.mls_candidate.specs.Short.{IsShortSource, IsShortLeaf};
 ghost use Rattle.mls_model.specs.Candidate.{leaf_key_of, made_capabilities, signed_leaf};
 ghost use Rattle.mls_candidate.specs.Leaves.{IsLeafOf, Renews, public_leaf_key};
 
-use crate::texts::memory_aside;
 use mls_kdf::{Secret, Seed};
-use mls_leaf::{Bytes, Capabilities, Credential, Items, LeafNode, LeafSource};
+use mls_leaf::{
+    Bytes, Capabilities, Credential, Items, LeafNode, LeafSource, bytes_or_out_of_memory,
+};
 use mls_suite::{KeyPair, OutOfMemory, Suite, sign_with_label};
 use mls_treekem::leaf_seed;
 use std::alloc::Global;
@@ -90,7 +91,7 @@ pub(crate) fn sign_leaf<S: Suite>(
     ensures leaf { IfOk result (λ v. v ≡ signed_leaf S.crypto signing.now group_id.now index leaf) }
     ensures below { IfOk result (λ v. IsBelow (2 ^ 28) leaf_node v) }
 {
-    let text = memory_aside(leaf.to_be_signed(alloc, group_id, index))?;
+    let text = bytes_or_out_of_memory(leaf.to_be_signed(alloc, group_id, index))?;
     let signature = sign_with_label::<S>(alloc, signing, "LeafNodeTBS", &text)?;
     leaf.signature = Bytes::from_vec(signature);
     Ok(leaf)

@@ -3,12 +3,10 @@
 
 mod candidate;
 mod error;
-mod laws;
 mod leaf;
 mod package;
 mod texts;
 
 pub use candidate::Candidate;
 pub use error::CandidateError;
-pub use laws::candidate_names_by_number;
 pub use leaf::{leaf_key, renewed_leaf};

@@ -11,9 +11,10 @@ ghost use Rattle.mls_model.specs.Candidate.{init_key_of, offered_leaf, signed_pa
 ghost use Rattle.mls_candidate.specs.Leaves.{offered_package, public_init_key, public_leaf_key};
 
 use crate::leaf::{sign_leaf, unsigned_leaf};
-use crate::texts::memory_aside;
 use mls_kdf::{Secret, Seed};
-use mls_leaf::{Bytes, Codec, Credential, KeyPackage, LeafError, LeafNode, LeafSource};
+use mls_leaf::{
+    Bytes, Codec, Credential, KeyPackage, LeafError, LeafNode, LeafSource, bytes_or_out_of_memory,
+};
 use mls_suite::{KeyPair, OutOfMemory, Suite, sign_with_label};
 use mls_treekem::{init_seed, sign_seed};
 use mls_wire::Writer;
@@ -64,7 +65,7 @@ fn sign_package<S: Suite>(
     ensures package { IfOk result (λ k. k ≡ signed_package S.crypto signing.now offered) }
     ensures fits { IfOk result (λ k. key_package.Fits k) }
 {
-    let text = memory_aside(offered.to_be_signed(alloc))?;
+    let text = bytes_or_out_of_memory(offered.to_be_signed(alloc))?;
     let signature = sign_with_label::<S>(alloc, signing, "KeyPackageTBS", &text)?;
     offered.signature = Bytes::from_vec(signature);
     Ok(offered)
@@ -113,5 +114,5 @@ pub(crate) fn package_message(alloc: Global, offered: &KeyPackage) -> Result<Vec
     requires { key_package.Fits offered.now }
     ensures { IfOk result (λ v. v.items ≡ package_message offered.now) }
 {
-    memory_aside(write_message(alloc, offered))
+    bytes_or_out_of_memory(write_message(alloc, offered))
 }

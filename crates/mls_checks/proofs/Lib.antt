@@ -1,3 +1,2 @@
 pub mod LeafLaws
-pub mod Names
 pub mod SignedLaws

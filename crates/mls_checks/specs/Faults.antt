@@ -1,5 +1,6 @@
--- The numbers and names of the checks.
-use Rattle.std.specs.Prelude.{ℕ, List, codes}
+-- The numbers of the checks, and what a call answers that checks.
+use Rattle.std.specs.Prelude.{ℕ, Result}
+use Rattle.mls_wire.specs.Checks.{Answers, Passed, passed}
 use Rattle.mls_checks.specs.declared.error.CheckError.{CheckError}
 use Rattle.mls_checks.specs.declared.error.CheckError.TheVariants.{OutOfMemory, BadKey, LeafSource, LeafSignature, LeafCapability, LeafIdentityChanged, LeafKeySame, KeyPackageSuite, KeyPackageSignature, InitKeySame}
 
@@ -16,15 +17,6 @@ number_of KeyPackageSuite = 55
 number_of KeyPackageSignature = 56
 number_of InitKeySame = 57
 
--- the name, as it is printed
-abbrev pub name_of : CheckError → List ℕ
-name_of OutOfMemory = codes "OutOfMemory"
-name_of BadKey = codes "BadKey"
-name_of LeafSource = codes "LeafSource"
-name_of LeafSignature = codes "LeafSignature"
-name_of LeafCapability = codes "LeafCapability"
-name_of LeafIdentityChanged = codes "LeafIdentityChanged"
-name_of LeafKeySame = codes "LeafKeySame"
-name_of KeyPackageSuite = codes "KeyPackageSuite"
-name_of KeyPackageSignature = codes "KeyPackageSignature"
-name_of InitKeySame = codes "InitKeySame"
+-- a call passes where the checks do, or answers the number of the first that fails, unless memory runs out
+abbrev pub ChecksAs : Result Passed ℕ → Result (Unit {0}) CheckError → Type 0
+ChecksAs checks result = Answers (λ _. passed) number_of checks result

@@ -1,11 +1,10 @@
 //! The checks in order.
 
 ghost use Rattle.std.specs.Prelude.{◌≡◌, ◌<◌, ◌^◌, length};
-ghost use Rattle.mls_wire.specs.Checks.{Answers, passed};
 ghost use Rattle.mls_leaf.specs.KeyPackage.{key_package as package_format};
 ghost use Rattle.mls_leaf.specs.Leaf.{leaf_node};
 ghost use Rattle.mls_checks.specs.Checks.{key_package_checks, replaced_checks};
-ghost use Rattle.mls_checks.specs.Faults.{number_of};
+ghost use Rattle.mls_checks.specs.Faults.{ChecksAs};
 ghost use Rattle.mls_checks.specs.Leaf.{is_of_source, has_identity_of};
 ghost use Rattle.mls_checks.specs.Short.{IsShort};
 
@@ -47,7 +46,7 @@ fn has_identity_of(new: &LeafNode, old: &LeafNode) -> bool
 #[tactic(auto, unfolding(crate::specs::Checks::key_package_checks))]
 pub fn key_package<S: Suite>(alloc: Global, offered: &KeyPackage) -> Result<(), CheckError>
     requires { IsShort package_format offered.now }
-    ensures { Answers (λ _. passed) number_of (key_package_checks S.crypto offered.now) result }
+    ensures { ChecksAs (key_package_checks S.crypto offered.now) result }
 {
     let leaf = &offered.leaf_node;
     if !matches!(leaf.source, LeafSource::KeyPackage { .. }) {
@@ -87,7 +86,7 @@ pub fn replaced<S: Suite>(
 ) -> Result<(), CheckError>
     requires leaf { IsShort leaf_node new.now }
     requires group { length group_id.now < 2 ^ 28 }
-    ensures { Answers (λ _. passed) number_of (replaced_checks S.crypto new.now old.now source group_id.now index) result }
+    ensures { ChecksAs (replaced_checks S.crypto new.now old.now source group_id.now index) result }
 {
     if !is_of_source(source, &new.source) {
         return Err(CheckError::LeafSource);

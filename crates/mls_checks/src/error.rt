@@ -3,6 +3,7 @@
 ghost use Rattle.std.specs.Prelude.{◌≡◌};
 ghost use Rattle.mls_checks.specs.declared.error.CheckError.TheVariants.{OutOfMemory};
 
+use mls_wire::refusal_name;
 use std::alloc::AllocError;
 use thiserror::Error;
 
@@ -50,7 +51,8 @@ impl From<AllocError> for CheckError {
 }
 
 impl CheckError {
-    ghost use Rattle.mls_checks.specs.Faults.{number_of, name_of};
+    ghost use Rattle.mls_wire.specs.Names.{refusal_name};
+    ghost use Rattle.mls_checks.specs.Faults.{number_of};
 
     /// The number of the refusal.
     pub fn number(self) -> u8
@@ -72,19 +74,8 @@ impl CheckError {
 
     /// The name of the refusal, as it is printed.
     pub fn name(self) -> &'static str
-        ensures { result.now ≡ name_of self }
+        ensures { result.now ≡ refusal_name (number_of self) }
     {
-        match self {
-            CheckError::OutOfMemory => "OutOfMemory",
-            CheckError::BadKey => "BadKey",
-            CheckError::LeafSource => "LeafSource",
-            CheckError::LeafSignature => "LeafSignature",
-            CheckError::LeafCapability => "LeafCapability",
-            CheckError::LeafIdentityChanged => "LeafIdentityChanged",
-            CheckError::LeafKeySame => "LeafKeySame",
-            CheckError::KeyPackageSuite => "KeyPackageSuite",
-            CheckError::KeyPackageSignature => "KeyPackageSignature",
-            CheckError::InitKeySame => "InitKeySame",
-        }
+        refusal_name(self.number())
     }
 }

@@ -1,29 +1,15 @@
 //! Checks of one leaf.
 
-ghost use Rattle.std.specs.Prelude.{◌≡◌, ◌<◌, ◌^◌, length, IfOk, IfErr, IsErr, MatchResult, Ok};
-ghost use Rattle.mls_leaf.specs.declared.error.LeafError.TheVariants.{Wire as in_wire};
-ghost use Rattle.mls_wire.specs.declared.WireError.TheVariants.{OutOfMemory as out_of_memory};
+ghost use Rattle.std.specs.Prelude.{◌≡◌, ◌<◌, ◌^◌, length, IfOk};
 ghost use Rattle.mls_leaf.specs.KeyPackage.{key_package};
 ghost use Rattle.mls_leaf.specs.Leaf.{leaf_node};
 ghost use Rattle.mls_checks.specs.Checks.{is_package_signed};
 ghost use Rattle.mls_checks.specs.Leaf.{is_signed, is_capable};
 ghost use Rattle.mls_checks.specs.Short.{IsShort};
 
-use mls_leaf::{KeyPackage, LeafError, LeafNode};
+use mls_leaf::{KeyPackage, LeafNode, bytes_or_out_of_memory};
 use mls_suite::{OutOfMemory, Suite, verify_with_label};
-use std::alloc::{AllocError, Global};
-
-/// What was written, if it could only fail for want of memory.
-fn memory_aside(written: Result<Vec<u8>, LeafError>) -> Result<Vec<u8>, OutOfMemory>
-    requires { IfErr written (λ e. e ≡ in_wire out_of_memory) }
-    ensures { MatchResult result (λ v. written ≡ Ok v) (λ _. IsErr written) }
-{
-    match written {
-        Ok(bytes) => Ok(bytes),
-        // Want of memory: by the condition above there is no other error of writing.
-        Err(_) => Err(AllocError),
-    }
-}
+use std::alloc::Global;
 
 /// Whether the leaf's signature is its own, in a group and at a leaf index (RFC 9420, 7.2). For a leaf of a key
 /// package these two do not count.
@@ -37,7 +23,7 @@ pub fn leaf_signed<S: Suite>(
     requires group { length group_id.now < 2 ^ 28 }
     ensures { IfOk result (λ b. b ≡ is_signed S.crypto group_id.now index leaf.now) }
 {
-    let content = memory_aside(leaf.to_be_signed(alloc, group_id, index))?;
+    let content = bytes_or_out_of_memory(leaf.to_be_signed(alloc, group_id, index))?;
     verify_with_label::<S>(
         alloc,
         leaf.signature_key.as_slice(),
@@ -66,7 +52,7 @@ pub(crate) fn is_package_signed<S: Suite>(
     requires { IsShort key_package offered.now }
     ensures { IfOk result (λ b. b ≡ is_package_signed S.crypto offered.now) }
 {
-    let content = memory_aside(offered.to_be_signed(alloc))?;
+    let content = bytes_or_out_of_memory(offered.to_be_signed(alloc))?;
     verify_with_label::<S>(
         alloc,
         offered.leaf_node.signature_key.as_slice(),

@@ -8,5 +8,5 @@ mod leaf;
 
 pub use checks::{Source, key_package, replaced};
 pub use error::CheckError;
-pub use laws::{check_names_by_number, laws_of_leaves};
+pub use laws::laws_of_leaves;
 pub use leaf::{leaf_capable, leaf_signed};

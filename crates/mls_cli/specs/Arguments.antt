@@ -1,7 +1,8 @@
 -- What the command line of `mls` is, and which job the matches of its words name.
-use Rattle.std.specs.Prelude.{◌≡◌, ◌≢◌, ◌⊎◌, List, [], ◌∷◌, codes, Option, Some, None, option_and_then, option_map, unwrap_or, if◌then◌else◌, true}
+use Rattle.std.specs.Prelude.{◌≡◌, ◌≢◌, ◌⊎◌, List, [], ◌∷◌, codes, map, Option, Some, None, option_and_then, option_map, unwrap_or, if◌then◌else◌, true}
+use Rattle.std.specs.Borrow.{Bor}
 use Rattle.std.specs.Str.{bytes_eq}
-use Rattle.clap.specs.Words.{App, Row, Rule, Text, first_of, new_app, new_rule, with_rule, with_subcommand}
+use Rattle.clap.specs.Words.{App, Row, fault_of, subcommand_of, Rule, Text, first_of, new_app, new_rule, with_rule, with_subcommand}
 use Rattle.clap.specs.Kinds.{IsAmong, Kinds}
 use Rattle.clap.specs.declared.error.kind.ErrorKind.{ErrorKind}
 use Rattle.clap.specs.declared.error.kind.ErrorKind.TheVariants as kind
@@ -113,3 +114,53 @@ IsFault kinds task k =
 
 abbrev pub Explains : Kinds → Option Task → NoJob → Type 0
 Explains kinds task e = (k : ErrorKind) × ComesOf e k × IsFault kinds task k
+
+-- ---- of the code's values
+
+-- what a call was given, where it was given something
+abbrev pub given : Option (Bor Text) → Option Text
+given text = option_map (λ (t : Bor Text). t.now) text
+
+-- the name and the rows of a subcommand that was found, where one was
+abbrev pub found_rows : {M : Type 0} → (M → List Row) → Option (Bor Text × Bor M) → Option (Text × List Row)
+found_rows {M} rows found = option_map (λ (p : Bor Text × Bor M). (p.0.now, rows p.1.now)) found
+
+-- the words that code has, with the program's name as the first
+abbrev pub NamesProgram : {W : Type 0} → (W → Text) → List W → List W → Type 0
+NamesProgram text words named = map text named ≡ name_program (map text words)
+
+-- the job that was found, where one was
+abbrev pub maybe_task : Option Job → Option Task
+maybe_task job = option_map task_view job
+
+-- ---- of the words, the program's own name first
+
+-- the subcommand of the words with its rows
+abbrev pub found_in : List Text → Option (Text × List Row)
+found_in words = subcommand_of mls words
+
+-- the job that the words name
+abbrev pub task_in : List Text → Option Task
+task_in words = task_of (found_in words)
+
+-- why the words name no job
+abbrev pub ExplainsWords : List Text → NoJob → Type 0
+ExplainsWords words e = Explains (fault_of mls words) (task_in words) e
+
+-- ---- of the words behind the program's own name
+
+-- the faults of these words
+abbrev pub faults_behind : List Text → Kinds
+faults_behind words = fault_of mls (codes "mls" ∷ words)
+
+-- the job that these words name
+abbrev pub task_behind : List Text → Option Task
+task_behind words = task_in (codes "mls" ∷ words)
+
+-- a check with the suite and the group that stand where none is given
+abbrev pub plain_check : Text → Task
+plain_check file = check file Glass []
+
+-- a check with both options
+abbrev pub words_with_options : List Text
+words_with_options = codes "check" ∷ codes "a" ∷ codes "--suite" ∷ codes "0001" ∷ codes "--group=67" ∷ []

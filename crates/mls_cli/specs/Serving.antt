@@ -1,5 +1,5 @@
 -- What a served job leaves.
-use Rattle.std.specs.Prelude.{◌≡◌, ◌≤◌, ◌⊎◌, ◌++◌, ℕ, Bool, true, false, List, [], codes, Option, Some, None, string_bytes}
+use Rattle.std.specs.Prelude.{◌≡◌, ◌≤◌, ◌⊎◌, ◌++◌, ℕ, Bool, true, false, List, [], codes, Option, Some, None, Result, Ok, Err, IfOk, IfErr, IfSome, OnOk, OnErr, string_bytes}
 use Rattle.std.specs.Io.KnownBytes.{Appends, Keeps}
 use Rattle.mls_suite.specs.Crypto.{Crypto}
 use Rattle.mls_suite.specs.Glass.{glass}
@@ -9,7 +9,7 @@ use Rattle.mls_cli.specs.declared.tasks.SuiteChoice.{SuiteChoice}
 use Rattle.mls_cli.specs.declared.tasks.SuiteChoice.TheVariants as choice
 use Rattle.mls_cli.specs.declared.tasks.Job.{Job}
 use Rattle.mls_cli.specs.declared.tasks.Job.TheVariants as job
-use Rattle.mls_cli_text.specs.InputOutput.{AppendsPart}
+use Rattle.mls_cli_text.specs.InputOutput.{AppendsPart, out_failed, out_writer}
 use Rattle.mls_cli_text.specs.Page.{Printout, printout}
 use Rattle.mls_cli_text.specs.Text.{line_text}
 use Rattle.mls_cli_text.specs.declared.fault.Fault.{Fault}
@@ -20,7 +20,8 @@ use Rattle.mls_cli_check.specs.Unchecked.{unchecked}
 use Rattle.mls_cli_check.specs.declared.report.SuiteChecks.{SuiteChecks}
 use Rattle.mls_cli_check.specs.declared.report.SuiteChecks.TheVariants.{Made, Left}
 use Rattle.mls_cli_vectors.specs.VectorsReport.{entry_text, vectors_page}
-use Rattle.mls_cli_replay.specs.Replay.{IsReplay}
+use Rattle.mls_cli_text.specs.declared.output.Out.{Out}
+use Rattle.mls_cli_replay.specs.Replay.{IsReplay, PrintsOne}
 
 -- the suite by which a tree is checked, and whether it makes the checks that are its own functions
 abbrev pub crypto_of : SuiteChoice → Crypto
@@ -100,3 +101,40 @@ EndsWithoutJob (no_job.Mistaken text) status out_old out_new written old new fai
     (status ≡ 2) × Keeps out_old out_new × SaysOrFails old new failed (string_bytes text)
 EndsWithoutJob no_job.OutOfMemory status out_old out_new written old new failed =
     (status ≡ 3) × Keeps out_old out_new × SaysOrFails old new failed out_of_memory
+
+-- ---- of the code's ends
+
+-- what a job prints of a text is printed
+abbrev pub PrintsText : {O : Type 0} → (O → Option (List ℕ)) → Job → List ℕ → O → O → Result ℕ Fault → Type 0
+PrintsText contents j text old new result = PrintsOne (IsPrintout j text) (contents old) (contents new) result
+
+-- what a job prints of all that a reader has left is printed
+abbrev pub PrintsRead : {I O : Type 0} → (I → Option (List ℕ)) → (O → Option (List ℕ)) → Job → I → O → O → Result ℕ Fault → Type 0
+PrintsRead remaining contents j reader old new result =
+    IfSome (remaining reader) (λ (text : List ℕ). PrintsOne (IsPrintout j text) (contents old) (contents new) result)
+
+-- what a job prints of a file that can be opened is printed, or the status says that it couldn't be
+abbrev pub PrintsFile : {I O : Type 0} → (I → Option (List ℕ)) → (O → Option (List ℕ)) → Job → Option I → O → O → ℕ → Type 0
+PrintsFile {I} {O} remaining contents j file old new status =
+    IfSome file (λ (reader : I). IfSome (remaining reader) (λ (text : List ℕ). PrintsOrFails (IsPrintout j text) (contents old) (contents new) status))
+
+-- a file that can't be read leaves the output as it was
+abbrev pub KeepsUnread : {I O : Type 0} → (I → Bool) → (O → Option (List ℕ)) → Option I → O → O → Type 0
+KeepsUnread failed contents file old new = unread failed file ≡ true → Keeps (contents old) (contents new)
+
+-- the errors grow by the text, or they have failed, and grow by less than that
+abbrev pub Says : {E : Type 0} → (E → Option (List ℕ)) → Out E → Out E → List ℕ → Type 0
+Says contents old new text = SaysOrFails (contents (out_writer old)) (contents (out_writer new)) (out_failed new) text
+
+-- Where it succeeds, a call writes the text to the errors.
+abbrev pub WritesError : {E T X : Type 0} → (E → Option (List ℕ)) → Out E → Out E → List ℕ → Result T X → Type 0
+WritesError contents old new text result = OnOk result (Appends (contents (out_writer old)) (contents (out_writer new)) text)
+
+-- Where it fails, a call writes a beginning of the text to the errors, and not the whole.
+abbrev pub BeginsError : {E T X : Type 0} → (E → Option (List ℕ)) → Out E → Out E → List ℕ → Result T X → Type 0
+BeginsError contents old new text result = OnErr result (AppendsPart (contents (out_writer old)) (contents (out_writer new)) text)
+
+-- a job's end, with what the errors hold
+abbrev pub EndsWith : {E : Type 0} → (E → Option (List ℕ)) → Out E → Out E → List ℕ → ℕ → Bool → Bool → Type 0
+EndsWith contents old new file status unreadable written =
+    Ends file status unreadable written (contents (out_writer old)) (contents (out_writer new)) (out_failed new)

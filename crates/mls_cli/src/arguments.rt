@@ -3,7 +3,7 @@
 ghost use Rattle.std.specs.Prelude.{◌≡◌, map, true, false, codes, Ok, Err, Some, None, IfOk, IfErr, IsSome, OnOk, ◌⊎◌, ◌∷◌, [], option_map};
 ghost use Rattle.clap.specs.Words.{app_of, shape_of, first_of, found_of, kind_of, rows_of, rule_of, subcommand_of, subcommand_rows_of, takes, fault_of, FailsBy, HasKind};
 ghost use Rattle.clap.specs.declared.Command.TheViews.{out-Command as fields_of};
-ghost use Rattle.mls_cli.specs.Arguments.{ComesOf, Explains, check, check_app, check_on, file_rule, group_rule, mls, needing_subcommand, file_app, replay, show, suite_of, suite_rule, task_of, task_on, vectors, task_view};
+ghost use Rattle.mls_cli.specs.Arguments.{ComesOf, ExplainsWords, check, check_app, check_on, faults_behind, file_app, file_rule, found_in, found_rows, given, group_rule, maybe_task, mls, needing_subcommand, plain_check, replay, show, suite_of, suite_rule, task_behind, task_in, task_of, task_on, task_view, vectors, words_with_options};
 
 use crate::tasks::{Job, NoJob, SuiteChoice};
 use clap::error::ErrorKind;
@@ -126,7 +126,7 @@ fn suite_of(text: &str) -> Option<SuiteChoice>
 
 /// The check that the options and FILE stand for, or None where no suite has that name.
 fn check_on<'a>(suite: Option<&str>, group: Option<&'a str>, file: &'a str) -> Option<Job<'a>>
-    ensures { option_map task_view result ≡ check_on (option_map (λ s. s.now) suite.entry) (option_map (λ s. s.now) group.entry) file.entry.now }
+    ensures { maybe_task result ≡ check_on (given suite.entry) (given group.entry) file.entry.now }
 {
     let suite = suite_of(suite?)?;
     match group {
@@ -141,7 +141,7 @@ fn check_on<'a>(suite: Option<&str>, group: Option<&'a str>, file: &'a str) -> O
 
 /// The job that a subcommand's name, its matches and FILE stand for, or None where no subcommand has that name.
 fn job_on<'a>(name: &str, matches: &ArgMatches<'a>, file: &'a str) -> Option<Job<'a>>
-    ensures { option_map task_view result ≡ task_on name.now (rows_of (found_of matches.now)) file.entry.now }
+    ensures { maybe_task result ≡ task_on name.now (rows_of (found_of matches.now)) file.entry.now }
 {
     match name {
         "show" => Some(Job::Show { file }),
@@ -155,12 +155,12 @@ fn job_on<'a>(name: &str, matches: &ArgMatches<'a>, file: &'a str) -> Option<Job
 /// The job that the words name, the program's own name first.
 pub fn job<'a, S: AsStr>(alloc: Global, words: &'a [S]) -> Result<Job<'a>, NoJob>
     // It is the subcommand and the FILE of clap's matches.
-    ensures named { IfOk result (λ job. task_of (subcommand_of mls (map S.text words.entry.now)) ≡ Some (task_view job)) }
+    ensures named { IfOk result (λ j. task_in (map S.text words.entry.now) ≡ Some (task_view j)) }
     // It comes only where clap finds no fault in the words.
     ensures faultless { OnOk result (fault_of mls (map S.text words.entry.now) ≡ []) }
     // Where clap finds a fault, it is of a kind that the words have, unless memory runs out. Where it finds
     // none, memory is wanting, or the matches name no job.
-    ensures fault { IfErr result (Explains (fault_of mls (map S.text words.entry.now)) (task_of (subcommand_of mls (map S.text words.entry.now)))) }
+    ensures fault { IfErr result (ExplainsWords (map S.text words.entry.now)) }
 {
     match parse_words(alloc, words) {
         Ok(matches) => match job_in(&matches) {
@@ -173,7 +173,7 @@ pub fn job<'a, S: AsStr>(alloc: Global, words: &'a [S]) -> Result<Job<'a>, NoJob
 
 /// What clap makes of the words.
 fn parse_words<'a, S: AsStr>(alloc: Global, words: &'a [S]) -> Result<ArgMatches<'a>, Error>
-    ensures rows { IfOk result (λ m. subcommand_rows_of m ≡ subcommand_of mls (map S.text words.entry.now)) }
+    ensures rows { IfOk result (λ m. subcommand_rows_of m ≡ found_in (map S.text words.entry.now)) }
     ensures faults { FailsBy (fault_of mls (map S.text words.entry.now)) result }
 {
     command(alloc)?.try_get_matches_from(words)
@@ -256,13 +256,13 @@ fn value_of<'a>(matches: &ArgMatches<'a>, id: &str) -> Option<&'a str>
 }
 
 fn matched_subcommand<'a, 'b>(matches: &'b ArgMatches<'a>) -> Option<(&'a str, &'b ArgMatches<'a>)>
-    ensures { option_map (λ p. (p.0.now, rows_of (found_of p.1.now))) result ≡ subcommand_rows_of matches.now }
+    ensures { found_rows (λ m. rows_of (found_of m)) result ≡ subcommand_rows_of matches.now }
 {
     matches.subcommand()
 }
 
 fn job_in<'a>(matches: &ArgMatches<'a>) -> Option<Job<'a>>
-    ensures { option_map task_view result ≡ task_of (subcommand_rows_of matches.now) }
+    ensures { maybe_task result ≡ task_of (subcommand_rows_of matches.now) }
 {
     let (name, inner) = matched_subcommand(matches)?;
     let file = value_of(inner, "FILE")?;
@@ -271,15 +271,15 @@ fn job_in<'a>(matches: &ArgMatches<'a>) -> Option<Job<'a>>
 
 /// Help is found first, so is the version, and a job's words have no fault.
 pub fn examples()
-    ensures help { fault_of mls (codes "mls" ∷ codes "show" ∷ codes "--help" ∷ []) ≡ ErrorKind.DisplayHelp ∷ [] }
-    ensures version { fault_of mls (codes "mls" ∷ codes "--version" ∷ []) ≡ ErrorKind.DisplayVersion ∷ [] }
-    ensures missing { fault_of mls (codes "mls" ∷ codes "show" ∷ []) ≡ ErrorKind.MissingRequiredArgument ∷ [] }
-    ensures shows { task_of (subcommand_of mls (codes "mls" ∷ codes "show" ∷ codes "a" ∷ [])) ≡ Some (show (codes "a")) }
-    ensures replays { task_of (subcommand_of mls (codes "mls" ∷ codes "replay" ∷ codes "a" ∷ [])) ≡ Some (replay (codes "a")) }
-    ensures judges { task_of (subcommand_of mls (codes "mls" ∷ codes "vectors" ∷ codes "a" ∷ [])) ≡ Some (vectors (codes "a")) }
-    ensures checks { task_of (subcommand_of mls (codes "mls" ∷ codes "check" ∷ codes "a" ∷ [])) ≡ Some (check (codes "a") SuiteChoice.Glass []) }
-    ensures chosen { task_of (subcommand_of mls (codes "mls" ∷ codes "check" ∷ codes "a" ∷ codes "--suite" ∷ codes "0001" ∷ codes "--group=67" ∷ []))
+    ensures help { faults_behind (codes "show" ∷ codes "--help" ∷ []) ≡ ErrorKind.DisplayHelp ∷ [] }
+    ensures version { faults_behind (codes "--version" ∷ []) ≡ ErrorKind.DisplayVersion ∷ [] }
+    ensures missing { faults_behind (codes "show" ∷ []) ≡ ErrorKind.MissingRequiredArgument ∷ [] }
+    ensures shows { task_behind (codes "show" ∷ codes "a" ∷ []) ≡ Some (show (codes "a")) }
+    ensures replays { task_behind (codes "replay" ∷ codes "a" ∷ []) ≡ Some (replay (codes "a")) }
+    ensures judges { task_behind (codes "vectors" ∷ codes "a" ∷ []) ≡ Some (vectors (codes "a")) }
+    ensures checks { task_behind (codes "check" ∷ codes "a" ∷ []) ≡ Some (plain_check (codes "a")) }
+    ensures chosen { task_behind words_with_options
         ≡ Some (check (codes "a") SuiteChoice.Unchecked (codes "67")) }
-    ensures other { task_of (subcommand_of mls (codes "mls" ∷ codes "check" ∷ codes "a" ∷ codes "--suite=f002" ∷ [])) ≡ None }
-    ensures taken { fault_of mls (codes "mls" ∷ codes "show" ∷ codes "a" ∷ []) ≡ [] }
+    ensures other { task_behind (codes "check" ∷ codes "a" ∷ codes "--suite=f002" ∷ []) ≡ None }
+    ensures taken { faults_behind (codes "show" ∷ codes "a" ∷ []) ≡ [] }
 {}

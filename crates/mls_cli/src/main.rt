@@ -1,9 +1,9 @@
 //! `mls`: shows and checks messages of Messaging Layer Security (RFC 9420).
 #![tactic(auto)]
 
-ghost use Rattle.std.specs.Prelude.{◌≡◌, map, false, IfOk, IfSome, string_bytes};
+ghost use Rattle.std.specs.Prelude.{◌≡◌, false, IfOk, IfSome, string_bytes};
 ghost use Rattle.mls_cli_text.specs.InputOutput.{in_failed};
-ghost use Rattle.mls_cli.specs.Arguments.{name_program};
+ghost use Rattle.mls_cli.specs.Arguments.{NamesProgram};
 
 mod arguments;
 mod serving;
@@ -26,7 +26,7 @@ fn main(rt: HostRuntime) -> ExitCode {
 
 /// The words with `mls` as the first, since usage texts name the program by it.
 fn name_program(alloc: Global, mut words: Vec<String>) -> Result<Vec<String>, AllocError>
-    ensures { IfOk result (λ named. map string_bytes named.items ≡ name_program (map string_bytes words.items)) }
+    ensures { IfOk result (λ named. NamesProgram string_bytes words.items named.items) }
 {
     if let Some(first) = words.first_mut() {
         *first = String::from_str(alloc, "mls")?;

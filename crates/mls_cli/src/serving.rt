@@ -1,22 +1,20 @@
 //! The jobs of the program, over any FILE, any output and any writer of errors.
 
 ghost use Rattle.std.specs.Prelude.{is_some, ◌≡◌, ◌≢◌, ◌≤◌, [], true, false, Ok, Err, Some, None, IfOk, IfErr, IfSome, OnOk, OnErr};
-ghost use Rattle.std.specs.Io.KnownBytes.{Appends, Keeps};
-ghost use Rattle.mls_cli_text.specs.InputOutput.{AppendsPart, out_failed, out_writer, read_failed, write_failed};
-ghost use Rattle.mls_cli_text.specs.Page.{page_of};
-ghost use Rattle.mls_cli_text.specs.Text.{entry_of};
+ghost use Rattle.std.specs.Io.KnownBytes.{Keeps};
+ghost use Rattle.mls_cli_text.specs.InputOutput.{out_failed, out_writer, read_failed, write_failed};
+ghost use Rattle.mls_cli_text.specs.Page.{MakesPage};
 ghost use Rattle.mls_cli_check.specs.Check.{check_page};
-ghost use Rattle.mls_cli_replay.specs.Replay.{PrintsOne};
 ghost use Rattle.mls_cli.specs.Arguments.{file_of};
-ghost use Rattle.mls_cli.specs.Serving.{Ends, EndsWithoutJob, IsPrintout, PrintsOrFails, SaysOrFails, ShowsHelp, checks_of, crypto_of, fault_text, out_of_memory as memory_text, unread, unreadable};
+ghost use Rattle.mls_cli.specs.Serving.{BeginsError, EndsWith, EndsWithoutJob, KeepsUnread, PrintsFile, PrintsRead, PrintsText, Says, ShowsHelp, WritesError, checks_of, crypto_of, fault_text, out_of_memory as memory_text, unread, unreadable};
 
 use crate::tasks::{Job, NoJob, SuiteChoice};
 use mls_cli_check::{SuiteChecks, Unchecked, check_page};
 use mls_cli_replay::replay;
 use mls_cli_show::show_page;
-use mls_suite::Glass;
 use mls_cli_text::{Fault, Input, Line, Out, Output, Page, print_made_page};
 use mls_cli_vectors::vectors_page;
+use mls_suite::Glass;
 use std::alloc::{AllocError, Global};
 use std::io::Write;
 
@@ -32,15 +30,16 @@ pub fn serve<I: Input, O: Output, E: Write>(
     requires fresh_file { IfSome file.old (λ reader. I.failed reader ≡ false) }
     requires fresh_out { O.failed out.old ≡ false }
     // The output grows by what the job prints for the text that the reader had.
-    ensures prints { IfOk job.now (λ j. IfSome file.old (λ reader. IfSome (I.remaining reader) (λ text.
-        PrintsOrFails (IsPrintout j text) (O.contents out.old) (O.contents out.new) result))) }
+    ensures prints { IfOk job.now (λ j.
+        PrintsFile I.remaining O.contents j file.old out.old out.new result) }
     // Either nothing failed and nothing is said, or the status is 3 and what failed is said.
-    ensures ends { IfOk job.now (λ j. Ends (file_of j) result (unread I.failed file.new) (O.failed out.new)
-        (E.contents (out_writer err.old)) (E.contents (out_writer err.new)) (out_failed err.new)) }
+    ensures ends { IfOk job.now (λ j. EndsWith E.contents err.old err.new (file_of j) result
+        (unread I.failed file.new) (O.failed out.new)) }
     // A file that can't be read leaves the output as it was.
-    ensures unread { IfOk job.now (λ j. unread I.failed file.new ≡ true → Keeps (O.contents out.old) (O.contents out.new)) }
+    ensures unread { IfOk job.now (λ _. KeepsUnread I.failed O.contents file.new out.old out.new) }
     // Without a job help or the version is written, or a mistake or want of memory said.
-    ensures unasked { IfErr job.now (λ e. EndsWithoutJob e result (O.contents out.old) (O.contents out.new) (O.failed out.new)
+    ensures unasked { IfErr job.now (λ e.
+        EndsWithoutJob e result (O.contents out.old) (O.contents out.new) (O.failed out.new)
         (E.contents (out_writer err.old)) (E.contents (out_writer err.new)) (out_failed err.new)) }
     ensures same { is_some file.new ≡ is_some file.old }
 {
@@ -59,11 +58,10 @@ fn serve_job<I: Input, O: Output, E: Write>(
 ) -> u8
     requires fresh_file { IfSome file.old (λ reader. I.failed reader ≡ false) }
     requires fresh_out { O.failed out.old ≡ false }
-    ensures prints { IfSome file.old (λ reader. IfSome (I.remaining reader) (λ text.
-        PrintsOrFails (IsPrintout job.now text) (O.contents out.old) (O.contents out.new) result)) }
-    ensures ends { Ends (file_of job.now) result (unread I.failed file.new) (O.failed out.new)
-        (E.contents (out_writer err.old)) (E.contents (out_writer err.new)) (out_failed err.new) }
-    ensures unread { unread I.failed file.new ≡ true → Keeps (O.contents out.old) (O.contents out.new) }
+    ensures prints { PrintsFile I.remaining O.contents job.now file.old out.old out.new result }
+    ensures ends { EndsWith E.contents err.old err.new (file_of job.now) result
+        (unread I.failed file.new) (O.failed out.new) }
+    ensures unread { KeepsUnread I.failed O.contents file.new out.old out.new }
     ensures same { is_some file.new ≡ is_some file.old }
 {
     match file {
@@ -88,7 +86,7 @@ fn print_job<I: Input, O: Output>(
     file: &mut I,
     out: &mut O,
 ) -> Result<u8, Fault>
-    ensures prints { IfSome (I.remaining file.old) (λ text. PrintsOne (IsPrintout job.now text) (O.contents out.old) (O.contents out.new) result) }
+    ensures prints { PrintsRead I.remaining O.contents job.now file.old out.old out.new result }
     ensures status { IfOk result (λ status. status ≤ 1) }
     // A fault of the output comes just where a write has failed, and one of the file where a read has.
     ensures write { O.failed out.new ≡ write_failed (O.failed out.old) result }
@@ -106,7 +104,7 @@ fn print_text<O: Output>(
     text: &[u8],
     out: &mut O,
 ) -> Result<u8, Fault>
-    ensures prints { PrintsOne (IsPrintout job.now text.now) (O.contents out.old) (O.contents out.new) result }
+    ensures prints { PrintsText O.contents job.now text.now out.old out.new result }
     ensures status { IfOk result (λ status. status ≤ 1) }
     ensures write { O.failed out.new ≡ write_failed (O.failed out.old) result }
     ensures written { IfErr result (λ e. e ≢ Fault.Read) }
@@ -128,7 +126,7 @@ fn check_file(
     text: &[u8],
     group: &str,
 ) -> Result<Page<Line>, AllocError>
-    ensures { IfOk result (λ page. page_of entry_of page ≡ check_page (crypto_of suite) (checks_of suite) text.now group.now) }
+    ensures { MakesPage result (check_page (crypto_of suite) (checks_of suite) text.now group.now) }
 {
     match suite {
         SuiteChoice::Glass => check_page::<Glass>(alloc, SuiteChecks::Made, text, group),
@@ -138,7 +136,7 @@ fn check_file(
 
 /// Says why the program stopped.
 fn say_fault<E: Write>(fault: Fault, file: &str, err: &mut Out<E>)
-    ensures { SaysOrFails (E.contents (out_writer err.old)) (E.contents (out_writer err.new)) (out_failed err.new) (fault_text file.now fault) }
+    ensures { Says E.contents err.old err.new (fault_text file.now fault) }
 {
     match fault {
         Fault::OutOfMemory => say_out_of_memory(err),
@@ -148,20 +146,20 @@ fn say_fault<E: Write>(fault: Fault, file: &str, err: &mut Out<E>)
 }
 
 fn say_out_of_memory<E: Write>(err: &mut Out<E>)
-    ensures { SaysOrFails (E.contents (out_writer err.old)) (E.contents (out_writer err.new)) (out_failed err.new) memory_text }
+    ensures { Says E.contents err.old err.new memory_text }
 {
     let _ = err.put(b"mls: out of memory\n");
 }
 
 fn say_unreadable<E: Write>(file: &str, err: &mut Out<E>)
-    ensures { SaysOrFails (E.contents (out_writer err.old)) (E.contents (out_writer err.new)) (out_failed err.new) (unreadable file.now) }
+    ensures { Says E.contents err.old err.new (unreadable file.now) }
 {
     let _ = put_unreadable(file, err);
 }
 
 fn put_unreadable<E: Write>(file: &str, err: &mut Out<E>) -> Result<(), Fault>
-    ensures whole { OnOk result (Appends (E.contents (out_writer err.old)) (E.contents (out_writer err.new)) (unreadable file.now)) }
-    ensures part { OnErr result (AppendsPart (E.contents (out_writer err.old)) (E.contents (out_writer err.new)) (unreadable file.now)) }
+    ensures whole { WritesError E.contents err.old err.new (unreadable file.now) result }
+    ensures part { BeginsError E.contents err.old err.new (unreadable file.now) result }
     ensures fault { out_failed err.new ≡ write_failed (out_failed err.old) result }
     ensures written { IfErr result (λ e. e ≡ Fault.Write) }
 {
@@ -173,7 +171,8 @@ fn put_unreadable<E: Write>(file: &str, err: &mut Out<E>) -> Result<(), Fault>
 /// Help goes to the output with status 0, a mistake to the errors with status 2.
 fn answer_without_job<O: Output, E: Write>(no_job: &NoJob, out: &mut O, err: &mut Out<E>) -> u8
     requires { O.failed out.old ≡ false }
-    ensures { EndsWithoutJob no_job.now result (O.contents out.old) (O.contents out.new) (O.failed out.new)
+    ensures { EndsWithoutJob no_job.now result
+        (O.contents out.old) (O.contents out.new) (O.failed out.new)
         (E.contents (out_writer err.old)) (E.contents (out_writer err.new)) (out_failed err.new) }
 {
     match no_job {

@@ -1,5 +1,5 @@
 -- What `mls check` prints.
-use Rattle.std.specs.Prelude.{◌≡◌, nat_lt, ℕ, Bool, List, [], ◌∷◌, ◌++◌, codes, length, if◌then◌else◌, Option, Some, None, Result, Ok, Err}
+use Rattle.std.specs.Prelude.{◌≡◌, ◌↔◌, nat_lt, ℕ, Bool, List, [], ◌∷◌, ◌++◌, codes, length, if◌then◌else◌, Option, Some, None, Result, Ok, Err}
 use Rattle.hex.specs.Hex.{decode_of}
 use Rattle.mls_wire.specs.Checks.{require_some}
 use Rattle.mls_wire.specs.Reading.{◌>>=◌}
@@ -17,6 +17,9 @@ use Rattle.mls_tree.specs.Rules.{rules_of}
 use Rattle.mls_cli_text.specs.HexFile.{bytes_in, decoded_bytes}
 use Rattle.mls_cli_text.specs.Text.{Entry, entry, bytes, number, word}
 use Rattle.mls_cli_text.specs.Page.{Page, good, refused}
+use Rattle.mls_cli_text.specs.declared.page.Ending.TheVariants.{Good}
+use Rattle.mls_cli_text.specs.declared.page.Page as code
+use Rattle.mls_cli_text.specs.declared.text.Line.{Line}
 use Rattle.mls_cli_check.specs.declared.report.SuiteChecks.{SuiteChecks}
 use Rattle.mls_cli_check.specs.declared.report.SuiteChecks.TheVariants.{Made, Left}
 
@@ -103,6 +106,10 @@ pub record SpellsGoodTree (c : Crypto) (group spelled : List ℕ) : Type 0 where
   pub tree : Term
   pub is_read : tree_in spelled ≡ Ok tree
   pub good : IsGood (rules_of c group) tree
+
+-- A page ends good just where the bytes spell a good tree of the group.
+abbrev pub JudgesTree : Crypto → List ℕ → List ℕ → code.Page Line → Type 0
+JudgesTree c group spelled page = (page.ending ≡ Good) ↔ SpellsGoodTree c group spelled
 
 -- ---- pages
 

@@ -1,5 +1,8 @@
--- The numbers of what `mls check` refuses.
-use Rattle.std.specs.Prelude.{ℕ}
+-- The numbers of what `mls check` refuses, and which refusals come whatever memory there is.
+use Rattle.std.specs.Prelude.{◌≡◌, ◌≢◌, ℕ, List, Result, Err, IfErr, IsOk, MatchResult}
+use Rattle.mls_leaf.specs.Faults.{whole}
+use Rattle.mls_leaf.specs.Limits.{input_limit}
+use Rattle.mls_types.specs.GroupInfo.{ratchet_tree}
 use Rattle.mls_leaf.specs.Faults.{number_of as leaf_number_of}
 use Rattle.mls_tree.specs.Faults.{number_of as tree_number_of}
 use Rattle.mls_cli_check.specs.declared.check_error.CheckError.{CheckError}
@@ -11,3 +14,11 @@ number_of OutOfMemory = 1
 number_of NotHex = 8
 number_of (Decoding e) = leaf_number_of e
 number_of (Tree e) = tree_number_of e
+
+-- a call that takes no memory succeeds where its definition has a value, and else answers the definition's number
+abbrev pub ChecksOutright : {A B : Type 0} → Result A ℕ → Result B CheckError → Type 0
+ChecksOutright defined result = MatchResult result (λ _. IsOk defined) (λ (e : CheckError). defined ≡ Err (number_of e))
+
+-- Bytes that spell no nodes are refused, and not for want of memory.
+abbrev pub RefusesNodes : {A : Type 0} → List ℕ → Result A CheckError → Type 0
+RefusesNodes bytes result = (n : ℕ) → whole ratchet_tree input_limit bytes ≡ Err n → IfErr result (λ (e : CheckError). number_of e ≢ 1)

@@ -3,8 +3,8 @@
 ghost use Rattle.std.specs.Prelude.{◌≡◌, ◌↔◌, IsTrue};
 
 use mls_leaf::LeafError;
-use mls_cli_text::refusal_name as name_of;
 use mls_tree::TreeError;
+use mls_wire::refusal_name;
 use std::alloc::AllocError;
 use thiserror::Error;
 
@@ -52,7 +52,7 @@ impl CheckError {
     pub fn name(self) -> &'static str
         ensures { result.now ≡ refusal_name (number_of self) }
     {
-        name_of(self.number())
+        refusal_name(self.number())
     }
 }
 

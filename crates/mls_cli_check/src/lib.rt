@@ -6,19 +6,18 @@ mod report;
 mod tree;
 mod unchecked;
 
-ghost use Rattle.std.specs.Prelude.{◌≡◌, ℕ, ◌≤◌, length, Err, IfOk, IsOk, MatchResult};
+ghost use Rattle.std.specs.Prelude.{◌≡◌, ℕ, ◌≤◌, length, Err, IfOk, IsOk};
 ghost use Rattle.mls_wire.specs.Checks.{Answers};
 ghost use Rattle.mls_leaf.specs.Limits.{input_limit};
-ghost use Rattle.mls_cli_text.specs.Page.{page_of};
-ghost use Rattle.mls_cli_text.specs.Text.{entry_of};
+ghost use Rattle.mls_cli_text.specs.Page.{MakesPage};
 ghost use Rattle.mls_cli_check.specs.Check.{check_page, check_page_on, group_in, texts_in};
-ghost use Rattle.mls_cli_check.specs.CheckFaults.{number_of};
+ghost use Rattle.mls_cli_check.specs.CheckFaults.{number_of, ChecksOutright};
 
 pub use check_error::CheckError;
 use hex::FromHexError;
+use mls_cli_text::{FileError, Line, Page, file_bytes, is_hex, is_hex_file, refused_page};
 use mls_leaf::{INPUT_LIMIT, LeafError};
 use mls_suite::Suite;
-use mls_cli_text::{FileError, Line, Page, file_bytes, is_hex, is_hex_file, refused_page};
 use mls_wire::WireError;
 pub use report::{SuiteChecks, check_text};
 use std::alloc::{AllocError, Global};
@@ -50,7 +49,7 @@ fn bytes_page<S: Suite>(
     bytes: &[u8],
     group: &str,
 ) -> Result<Page<Line>, AllocError>
-    ensures { IfOk result (λ page. page_of entry_of page ≡ check_page_on S.crypto own bytes.now (group_in group.now)) }
+    ensures { MakesPage result (check_page_on S.crypto own bytes.now (group_in group.now)) }
 {
     match group_bytes(alloc, group) {
         Ok(group_id) => check_text::<S>(alloc, own, bytes, group_id.as_slice()),
@@ -63,9 +62,9 @@ fn bytes_page<S: Suite>(
     }
 }
 
-/// Whether a group's text is a group's id: 8 it isn't hex, 6 it is too long. It takes no memory.
+/// Requires that a group's text is a group's id: `NotHex` (8), `TooLong` (6). It takes no memory.
 fn require_group(text: &str) -> Result<(), CheckError>
-    ensures { MatchResult result (λ _. IsOk (group_in text.now)) (λ e. group_in text.now ≡ Err (number_of e)) }
+    ensures { ChecksOutright (group_in text.now) result }
 {
     if !is_hex(text.as_bytes()) {
         return Err(CheckError::NotHex);
@@ -76,9 +75,10 @@ fn require_group(text: &str) -> Result<(), CheckError>
     Ok(())
 }
 
-/// Whether a file's text and a group's have bytes: 8 the file's isn't hex, then 8 and 6 of the group's. It takes no memory.
+/// Requires that a file's text and a group's have bytes: `NotHex` (8) of the file's, then `NotHex` (8) and `TooLong`
+/// (6) of the group's. It takes no memory.
 fn require_texts(text: &[u8], group: &str) -> Result<(), CheckError>
-    ensures { MatchResult result (λ _. IsOk (texts_in text.now group.now)) (λ e. texts_in text.now group.now ≡ Err (number_of e)) }
+    ensures { ChecksOutright (texts_in text.now group.now) result }
 {
     if !is_hex_file(text) {
         return Err(CheckError::NotHex);
@@ -94,7 +94,7 @@ fn texts_page<S: Suite>(
     text: &[u8],
     group: &str,
 ) -> Result<Page<Line>, AllocError>
-    ensures { IfOk result (λ page. page_of entry_of page ≡ check_page S.crypto own text.now group.now) }
+    ensures { MakesPage result (check_page S.crypto own text.now group.now) }
 {
     match file_bytes(alloc, text) {
         Ok(bytes) => bytes_page::<S>(alloc, own, bytes.as_slice(), group),
@@ -103,16 +103,16 @@ fn texts_page<S: Suite>(
     }
 }
 
-/// What is printed of a file's text: the lines of the tree that stands in it as hex digits, for the group with this id in
-/// hex, or the refusal of the file or of the id (8, 6), also when an allocation fails.
+/// What is printed of a file's text: the lines of the tree that stands in it as hex digits, for the group with this
+/// id in hex, or the refusal of the file or of the id (`NotHex` (8), `TooLong` (6)), even when an allocation fails.
 pub fn check_page<S: Suite>(
     alloc: Global,
     own: SuiteChecks,
     text: &[u8],
     group: &str,
 ) -> Result<Page<Line>, AllocError>
-    ensures page { IfOk result (λ page. page_of entry_of page ≡ check_page S.crypto own text.now group.now) }
-    // What is no file of hex digits, or no group's id, is refused also when an allocation fails.
+    ensures page { MakesPage result (check_page S.crypto own text.now group.now) }
+    // What is no file of hex digits, or no group's id, is refused even when an allocation fails.
     ensures texts { (n : ℕ) → texts_in text.now group.now ≡ Err n → IsOk result }
 {
     if let Err(error) = require_texts(text, group) {

@@ -1,22 +1,22 @@
 //! What the checks of a tree bring: a line of each that passed, and the first that failed.
 
-ghost use Rattle.std.specs.Prelude.{◌≡◌, ◌≢◌, ◌↔◌, ℕ, ◌<◌, ◌≤◌, ◌^◌, length, map, take, Err, IfOk, IsOk};
+ghost use Rattle.std.specs.Prelude.{◌≡◌, ◌≢◌, ℕ, ◌<◌, ◌≤◌, ◌^◌, length, map, take, Err, IfOk, IsOk};
 ghost use Rattle.mls_leaf.specs.Faults.{whole};
 ghost use Rattle.mls_leaf.specs.Limits.{input_limit};
 ghost use Rattle.mls_types.specs.GroupInfo.{ratchet_tree};
 ghost use Rattle.mls_tree.specs.Faults.{number_of as tree_number_of};
 ghost use Rattle.mls_tree.specs.Tree.{term};
-ghost use Rattle.mls_cli_text.specs.Page.{page_of, refused};
-ghost use Rattle.mls_cli_text.specs.Text.{entry_of};
-ghost use Rattle.mls_cli_check.specs.Check.{SpellsGoodTree, page_behind, check_text, suite_word, tree_report};
+ghost use Rattle.mls_cli_text.specs.Page.{MakesPage, refused};
+ghost use Rattle.mls_cli_text.specs.Text.{entries_of, entry_of};
+ghost use Rattle.mls_cli_check.specs.Check.{JudgesTree, page_behind, check_text, suite_word, tree_report};
 ghost use Rattle.mls_cli_check.specs.CheckFaults.{number_of};
 ghost use Rattle.mls_cli_check.specs.RuleLines.{lines_before, rule_entries};
 ghost use Rattle.mls_tree.specs.ShortLeaves.{HasShortLeaves};
 
 use crate::check_error::CheckError;
 use crate::tree::{tree_in, tree_lines};
-use mls_suite::Suite;
 use mls_cli_text::{Ending, Field, Line, Page, append_lines, line_of};
+use mls_suite::Suite;
 use mls_tree::{PublicTree, TreeError};
 use std::alloc::{AllocError, Global};
 
@@ -32,7 +32,7 @@ pub enum SuiteChecks {
 /// The lines, and the refusal behind them; where it is want of memory, that.
 fn refused(lines: Vec<Line>, error: CheckError) -> Result<Page<Line>, AllocError>
     ensures memory { IfOk result (λ page. number_of error ≢ 1) }
-    ensures page { IfOk result (λ page. page_of entry_of page ≡ page_behind (map entry_of lines.items) (refused (number_of error))) }
+    ensures page { MakesPage result (page_behind (entries_of lines) (refused (number_of error))) }
     ensures outright { number_of error ≢ 1 → IsOk result }
 {
     if error.is_memory() {
@@ -105,7 +105,7 @@ fn tree_page<S: Suite>(
 ) -> Result<Page<Line>, AllocError>
     requires group { length group_id.now < 2 ^ 28 }
     requires short { HasShortLeaves (term tree) }
-    ensures { IfOk result (λ page. page_of entry_of page ≡ tree_report S.crypto own group_id.now (term tree)) }
+    ensures { MakesPage result (tree_report S.crypto own group_id.now (term tree)) }
 {
     let lines = tree_lines(alloc, &mut tree)?;
     match tree.check::<S>(group_id) {
@@ -132,7 +132,7 @@ fn bytes_page<S: Suite>(
     group_id: &[u8],
 ) -> Result<Page<Line>, AllocError>
     requires { length group_id.now ≤ input_limit }
-    ensures page { IfOk result (λ page. page_of entry_of page ≡ check_text S.crypto own bytes.now group_id.now) }
+    ensures page { MakesPage result (check_text S.crypto own bytes.now group_id.now) }
     ensures outright { (n : ℕ) → whole ratchet_tree input_limit bytes.now ≡ Err n → IsOk result }
 {
     match tree_in(alloc, bytes) {
@@ -144,7 +144,9 @@ fn bytes_page<S: Suite>(
 /// The lines of the tree that the bytes spell, for the group with this id: how many leaves and members it has and its
 /// tree hash, then a line of each check of a good tree as long as they pass (RFC 9420, 7.3, 7.9.2 and 12.4.3.1), in
 /// the order of `PublicTree::check`. The first fault ends them with its refusal: that of decoding (2 to 7, 11 to 14),
-/// of the tree's shape (20) and size (21), and then of the checks (23 to 26, 51, 52, 36).
+/// of the tree's shape (`TreeShape` (20)) and size (`TreeFull` (21)), and then of the checks (`UnmergedWrong` (23),
+/// `ParentHashWrong` (24), `KeyRepeated` (25), `ClientRepeated` (26), `LeafSignature` (51), `LeafCapability` (52) and
+/// `BadKey` (36)).
 pub fn check_text<S: Suite>(
     alloc: Global,
     own: SuiteChecks,
@@ -152,11 +154,11 @@ pub fn check_text<S: Suite>(
     group_id: &[u8],
 ) -> Result<Page<Line>, AllocError>
     requires { length group_id.now ≤ input_limit }
-    ensures page { IfOk result (λ page. page_of entry_of page ≡ check_text S.crypto own bytes.now group_id.now) }
+    ensures page { MakesPage result (check_text S.crypto own bytes.now group_id.now) }
     // Bytes that spell no nodes are refused whatever memory there is.
     ensures outright { (n : ℕ) → whole ratchet_tree input_limit bytes.now ≡ Err n → IsOk result }
     // Nothing is refused just where the bytes spell a good tree of the group.
-    ensures good { IfOk result (λ page. (page.ending ≡ Ending.Good) ↔ SpellsGoodTree S.crypto group_id.now bytes.now) }
+    ensures good { IfOk result (λ page. JudgesTree S.crypto group_id.now bytes.now page) }
 {
     bytes_page::<S>(alloc, own, bytes, group_id)
 }

@@ -1,30 +1,27 @@
 //! Ratchet trees as they are sent (RFC 9420, 12.4.3.3), and their lines.
 
-ghost use Rattle.std.specs.Prelude.{◌≡◌, ◌≢◌, ℕ, map, Err, IfErr, IfOk};
+ghost use Rattle.std.specs.Prelude.{◌≡◌, map, IfOk};
 ghost use Rattle.mls_wire.specs.Checks.{Answers};
-ghost use Rattle.mls_leaf.specs.Faults.{whole};
-ghost use Rattle.mls_leaf.specs.Limits.{input_limit};
-ghost use Rattle.mls_types.specs.GroupInfo.{ratchet_tree};
 ghost use Rattle.mls_tree.specs.Tree.{term};
 ghost use Rattle.mls_cli_text.specs.Text.{entry_of};
 ghost use Rattle.mls_cli_check.specs.Check.{tree_entries, tree_in};
-ghost use Rattle.mls_cli_check.specs.CheckFaults.{number_of};
+ghost use Rattle.mls_cli_check.specs.CheckFaults.{number_of, RefusesNodes};
 ghost use Rattle.mls_tree.specs.ShortLeaves.{HasShortLeaves};
 
 use crate::check_error::CheckError;
-use mls_types::RatchetTree;
-use mls_leaf::{Bytes, Codec};
 use mls_cli_text::{Field, Line, line_of};
+use mls_leaf::{Bytes, Codec};
 use mls_tree::PublicTree;
+use mls_types::RatchetTree;
 use std::alloc::{AllocError, Global};
 
-/// The tree that the bytes spell: refused with the fault of decoding (2 to 7, 11 to 14), and else with that of its
-/// shape (20) or its size (21).
+/// Reads the tree that the bytes spell: refused with the fault of decoding (2 to 7, 11 to 14), and else with that of
+/// its shape (`TreeShape` (20)) or its size (`TreeFull` (21)).
 pub fn tree_in(alloc: Global, bytes: &[u8]) -> Result<PublicTree, CheckError>
     ensures tree { Answers term number_of (tree_in bytes.now) result }
     // Bytes that spell no nodes are refused whatever memory there is.
-    ensures outright { (n : ℕ) → whole ratchet_tree input_limit bytes.now ≡ Err n → IfErr result (λ e. number_of e ≢ 1) }
-    // An input is short, and so are the leaves in it.
+    ensures outright { RefusesNodes bytes.now result }
+    // The leaves of an input are short, as it is itself.
     ensures short { IfOk result (λ tree. HasShortLeaves (term tree)) }
 {
     let nodes = RatchetTree::decode(alloc, bytes)?;

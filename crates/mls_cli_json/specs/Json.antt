@@ -44,7 +44,7 @@ whole_number d = option_and_then as_u64 (as_number d)
 abbrev pub number_at : List ℕ → Data → Option ℕ
 number_at key d = option_and_then whole_number (get key d)
 
--- the same, at most the limit
+-- a number that is written as a whole one, at most the limit
 abbrev pub whole : ℕ → Data → Option ℕ
 whole limit d = option_and_then (up_to limit) (whole_number d)
 

@@ -1,3 +1,4 @@
 pub mod Json
 pub mod HexText
+pub mod Lists
 pub mod Faults

@@ -5,6 +5,7 @@ ghost use Rattle.mls_wire.specs.Names.{refusal_name};
 ghost use Rattle.mls_cli_json.specs.Faults.{number_of};
 ghost use Rattle.mls_cli_json.specs.declared.error.JsonError.TheVariants.{OutOfMemory};
 
+use mls_wire::refusal_name;
 use std::alloc::{AllocError, AllocFailed};
 use thiserror::Error;
 
@@ -38,11 +39,7 @@ impl JsonError {
     pub fn name(self) -> &'static str
         ensures { result.now ≡ refusal_name (number_of self) }
     {
-        match self {
-            JsonError::OutOfMemory => "OutOfMemory",
-            JsonError::NotHex => "NotHex",
-            JsonError::BadJson => "BadJson",
-        }
+        refusal_name(self.number())
     }
 }
 

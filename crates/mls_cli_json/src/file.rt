@@ -12,7 +12,7 @@ use serde_json::Value;
 use std::alloc::Global;
 use std::str::from_utf8;
 
-/// The value that a text is.
+/// Reads the value that a text is.
 #[tactic(auto, unfolding(crate::specs::Json::data_in))]
 fn value_of(alloc: Global, file: &[u8]) -> Result<Value, JsonError>
     ensures { Finds view result (data_in file.now) }
@@ -29,8 +29,8 @@ fn value_of(alloc: Global, file: &[u8]) -> Result<Value, JsonError>
     }
 }
 
-/// The value that a file is; there is none (BadJson, 9) where it is no text, or no JSON. A file that is no text is
-/// refused also when an allocation fails.
+/// Reads the value that a file is; there is none (`BadJson` (9)) where it is no text, or no JSON. A file that is no
+/// text is refused even when an allocation fails.
 pub fn value_in(alloc: Global, file: &[u8]) -> Result<Value, JsonError>
     ensures value { Finds view result (data_in file.now) }
     ensures no_text { ¬ (IsUtf8 file.now) → result ≡ Err BadJson }

@@ -11,7 +11,8 @@ use hex::{FromHex, FromHexError};
 use serde_json::Value;
 use std::alloc::{AllocError, Global};
 
-/// The bytes that a text of hex digits stands for; None where it isn't one. A text of an odd length takes no memory.
+/// Reads the bytes that a text of hex digits stands for; None where it isn't one. A text of an odd length takes no
+/// memory.
 pub fn bytes_of_hex(alloc: Global, text: &str) -> Result<Option<Vec<u8>>, AllocError>
     ensures bytes { IfOk result (λ bytes. option_map (λ v. v.items) bytes ≡ bytes_of text.now) }
     ensures outright { length text.now % 2 ≡ 1 → result ≡ Ok None }
@@ -23,8 +24,8 @@ pub fn bytes_of_hex(alloc: Global, text: &str) -> Result<Option<Vec<u8>>, AllocE
     }
 }
 
-/// The same of the text at a key. A text that isn't hex digits is kept as None, since a fault of the file's shape (9)
-/// that comes later goes before it (8).
+/// Reads the bytes that the hex digits at a key stand for. A text that isn't hex digits is kept as None, since a
+/// fault of the file's shape (`BadJson` (9)) that comes later goes before it (`NotHex` (8)).
 pub fn hex_at(alloc: Global, value: &Value, key: &str) -> Result<Option<Vec<u8>>, JsonError>
     ensures { Finds (option_map (λ v. v.items)) result (hex_at key.now (view value.now)) }
 {
@@ -34,7 +35,7 @@ pub fn hex_at(alloc: Global, value: &Value, key: &str) -> Result<Option<Vec<u8>>
     }
 }
 
-/// The seed at a key: 64 hex digits.
+/// Reads the seed at a key: 64 hex digits.
 pub fn seed_at(value: &Value, key: &str) -> Option<[u8; 32]>
     ensures { result ≡ seed_at key.now (view value.now) }
 {

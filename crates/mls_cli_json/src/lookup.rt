@@ -16,21 +16,21 @@ pub fn has_members(value: &Value, count: usize) -> bool
     }
 }
 
-/// The text at a key.
+/// Finds the text at a key.
 pub fn text_at<'a>(value: &'a Value, key: &str) -> Option<&'a str>
     ensures { option_map (λ text. text.now) result ≡ text_at key.now (view value.now) }
 {
     value.get(key)?.as_str()
 }
 
-/// The items of the array at a key.
+/// Finds the items of the array at a key.
 pub fn items_at<'a>(value: &'a Value, key: &str) -> Option<&'a [Value]>
-    ensures { option_map (λ items. items_view items.now) result ≡ items_at key.now (view value.now) }
+    ensures { option_map (λ v. items_view v.now) result ≡ items_at key.now (view value.now) }
 {
     Some(value.get(key)?.as_array()?.as_slice())
 }
 
-/// A uint32 that is written as a whole number.
+/// Reads a uint32 that is written as a whole number.
 pub fn u32_of(value: &Value) -> Option<u32>
     ensures { result ≡ whole max_u32 (view value.now) }
 {
@@ -42,21 +42,21 @@ pub fn u32_of(value: &Value) -> Option<u32>
     }
 }
 
-/// The uint32 at a key.
+/// Finds the uint32 at a key.
 pub fn u32_at(value: &Value, key: &str) -> Option<u32>
     ensures { result ≡ whole_at max_u32 key.now (view value.now) }
 {
     u32_of(value.get(key)?)
 }
 
-/// The uint64 at a key.
+/// Finds the uint64 at a key.
 pub fn u64_at(value: &Value, key: &str) -> Option<u64>
     ensures { result ≡ number_at key.now (view value.now) }
 {
     value.get(key)?.as_u64()
 }
 
-/// The uint16 at a key.
+/// Finds the uint16 at a key.
 pub fn u16_at(value: &Value, key: &str) -> Option<u16>
     ensures { result ≡ whole_at max_u16 key.now (view value.now) }
 {
@@ -75,9 +75,9 @@ pub fn bool_at(value: &Value, key: &str) -> Option<bool>
     value.get(key)?.as_bool()
 }
 
-/// The text at a key that may be missing.
+/// Finds the text at a key that may be missing.
 pub fn text_if_any<'a>(value: &'a Value, key: &str) -> Option<Option<&'a str>>
-    ensures { option_map (λ found. option_map (λ text. text.now) found) result ≡ text_if_any key.now (view value.now) }
+    ensures { option_map (option_map (λ t. t.now)) result ≡ text_if_any key.now (view value.now) }
 {
     match value.get(key) {
         Some(member) => Some(Some(member.as_str()?)),

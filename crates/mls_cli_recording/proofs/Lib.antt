@@ -1,3 +1,2 @@
 mod SameCalls
 mod SameSources
-mod Steps

@@ -16,7 +16,7 @@ use Rattle.mls_cli_recording.specs.Calls as call
 -- ---- bytes
 
 abbrev read_bytes : World → MessageSource → Result (List ℕ) ℕ
-read_bytes w (call.require_some bytes) = Ok bytes
+read_bytes w (call.given bytes) = Ok bytes
 read_bytes w (call.message n) = checks.require_some 94 (slice_get w.messages n)
 
 bytes_by : (w : World) (s : Source) → bytes_of w s ≡ read_bytes w (source_view s)
@@ -55,7 +55,7 @@ of_item w r (item.Remove leaf) h = h
 same_item : (w : World) (x y : WorldItem) → item_view x ≡ item_view y → item_of w x ≡ item_of w y
 same_item w x y e = let P : CommitItem → Type 0 = IsItem w (item_of w x) in of_item w (item_of w x) y (subst P e (is_item w x))
 
--- the same of lists
+-- it is what each list of those views stands for
 abbrev AreItems : World → Result (List ProposalOrRef) ℕ → List CommitItem → Type 0
 AreItems w r [] = r ≡ Ok []
 AreItems w r (i ∷ is) = (x : WorldItem) (xs : List WorldItem) → item_view x ≡ i → map item_view xs ≡ is → r ≡ items_of w (x ∷ xs)
@@ -78,7 +78,7 @@ same_items w xs ys e = let P : List CommitItem → Type 0 = AreItems w (items_of
 -- ---- the commit whose Welcome a source is
 
 abbrev is_by : MessageSource → ℕ × List ℕ → Bool
-is_by (call.require_some bytes) welcome = bytes_eq bytes welcome.1
+is_by (call.given bytes) welcome = bytes_eq bytes welcome.1
 is_by (call.message n) welcome = n == welcome.0
 
 is_source_by : (s : Source) (welcome : ℕ × List ℕ) → is_source s welcome ≡ is_by (source_view s) welcome

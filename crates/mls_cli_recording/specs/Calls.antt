@@ -1,5 +1,6 @@
 -- Calls on a world as a recording has them, and how the code's values stand for them.
 use Rattle.std.specs.Prelude.{ℕ, Bool, List, map, Option, option_map, string_bytes}
+use Rattle.std.specs.Global.{Vec}
 use Rattle.mls_model.specs.declared.event.Source.{Source}
 use Rattle.mls_model.specs.declared.event.Source.TheVariants as source
 use Rattle.mls_model.specs.declared.event.WorldItem.{WorldItem}
@@ -73,3 +74,11 @@ call_view (event.Join n s) = join n (source_view s)
 
 abbrev pub recorded_view : Recorded → RecordedCall
 recorded_view r = record { call = call_view r.event; expect = option_map string_bytes r.expect }
+
+-- the recorded calls of a list that was read, where all of its texts are hex
+abbrev pub recorded_views : Option (Vec Recorded) → Option (List RecordedCall)
+recorded_views found = option_map (λ (v : Vec Recorded). map recorded_view v.items) found
+
+-- the items of a list that was read, where all of its texts are hex
+abbrev pub item_views : Option (Vec WorldItem) → Option (List CommitItem)
+item_views found = option_map (λ (v : Vec WorldItem). map item_view v.items) found

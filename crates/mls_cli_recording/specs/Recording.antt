@@ -1,34 +1,23 @@
 -- What a recording is. Its shape is a fault before a text that isn't hex: such a text is kept, and a call with one is
 -- nothing, where the shape is right.
-use Rattle.std.specs.Prelude.{ℕ, ◌+◌, ◌==◌, ◌&&◌, Bool, List, [], ◌∷◌, codes, if◌then◌else◌, Option, Some, None, option_map, is_some, Result, Ok, Err}
+use Rattle.std.specs.Prelude.{ℕ, ◌+◌, ◌==◌, ◌&&◌, Bool, List, codes, if◌then◌else◌, Option, Some, None, option_map, is_some, Result}
 use Rattle.std.specs.Str.{bytes_eq}
-use Rattle.serde_json.specs.Data.{Data, Items, no_items, item}
+use Rattle.serde_json.specs.Data.{Data}
 use Rattle.serde_json.specs.Find.{get, as_str}
 use Rattle.mls_cli_json.specs.HexText.{bytes_of, hex_at, seed_at}
+use Rattle.mls_cli_json.specs.Lists.{each_of, value_or_number}
 use Rattle.mls_cli_json.specs.Json.{◌>>=◌, data_in, require, is_object_of, text_at, text_if_any, number_at, bool_at, max_u32, whole_at, items_at}
 use Rattle.mls_cli_recording.specs.Calls.{MessageSource, given, message, CommitItem, ref, add, remove, Call, candidate, create, propose_add, propose_update, propose_remove, commit, drop_pending, deliver, join, RecordedCall}
 
--- ---- lists
-
--- another one in front, where all texts are hex
-abbrev pub prepend_if_hex : {X : Type 0} → Option X → Option (List X) → Option (List X)
-prepend_if_hex None more = None
-prepend_if_hex (Some x) None = None
-prepend_if_hex (Some x) (Some xs) = Some (x ∷ xs)
-
--- what each value of an array is
-unfoldable pub each_of : {X : Type 0} → (Data → Option (Option X)) → Items → Option (Option (List X))
-each_of read no_items = Some (Some [])
-each_of read (item d ds) = do
-  x ← read d
-  xs ← each_of read ds
-  Some (prepend_if_hex x xs)
-
 -- ---- sources and items
+
+-- the bytes that a text of hex stands for
+abbrev pub given_in : List ℕ → Option (Option MessageSource)
+given_in text = Some (option_map given (bytes_of text))
 
 -- a text of hex, or else a message's number
 abbrev pub source_by : Option (List ℕ) → Data → Option (Option MessageSource)
-source_by (Some text) d = Some (option_map given (bytes_of text))
+source_by (Some text) d = given_in text
 source_by None d = require (is_object_of 1 d) (do
   n ← number_at (codes "message") d
   Some (Some (message n)))
@@ -43,6 +32,15 @@ source_at key d = get key d >>= source_in
 abbrev pub item_with_source : {X : Type 0} → (MessageSource → X) → Option (Option MessageSource) → Option (Option X)
 item_with_source make source = option_map (option_map make) source
 
+-- the proposal whose message has that source, by its reference
+abbrev pub reference_in : Data → Option (Option CommitItem)
+reference_in d = item_with_source ref (source_in d)
+
+-- the KeyPackage whose message has that source
+abbrev pub addition_in : Data → Option (Option CommitItem)
+addition_in d = item_with_source add (source_in d)
+
+-- the leaf that is removed
 abbrev pub removal_in : Data → Option (Option CommitItem)
 removal_in d = do
   leaf ← whole_at max_u32 (codes "remove") d
@@ -50,8 +48,8 @@ removal_in d = do
 
 -- by which key is there
 abbrev pub item_by : Option Data → Option Data → Data → Option (Option CommitItem)
-item_by (Some source) added d = item_with_source ref (source_in source)
-item_by None (Some source) d = item_with_source add (source_in source)
+item_by (Some source) added d = reference_in source
+item_by None (Some source) d = addition_in source
 item_by None None d = removal_in d
 
 abbrev pub item_in : Data → Option (Option CommitItem)
@@ -154,12 +152,6 @@ events_in d = require (is_object_of 3 d) (do
   suite ← text_at (codes "suite") d
   events ← items_at (codes "events") d
   require ((version == 1) && bytes_eq suite (codes "f001")) (each_of recorded_in events))
-
--- 9 where the shape is wrong, and else 8 where a text is no hex
-abbrev pub value_or_number : {X : Type 0} → Option (Option X) → Result X ℕ
-value_or_number None = Err 9
-value_or_number (Some None) = Err 8
-value_or_number (Some (Some x)) = Ok x
 
 -- The calls that a recording has, each with the reply that it should have, or the number of its refusal.
 unfoldable pub recording : List ℕ → Result (List RecordedCall) ℕ

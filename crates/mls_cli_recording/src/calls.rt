@@ -15,7 +15,7 @@ use mls_model::Event;
 use serde_json::Value;
 use std::alloc::Global;
 
-fn candidate(alloc: Global, value: &Value) -> Result<Option<Event>, JsonError>
+fn candidate_in(alloc: Global, value: &Value) -> Result<Option<Event>, JsonError>
     ensures { Finds (option_map call_view) result (candidate_in (view value.now)) }
 {
     if !has_keys(value, 3) {
@@ -171,12 +171,12 @@ fn join_in(alloc: Global, value: &Value) -> Result<Option<Event>, JsonError>
     }
 }
 
-/// The call that an object names by its op; None where a text in it isn't hex.
+/// Reads the call that an object names by its op; None where a text in it isn't hex.
 pub fn call_by(alloc: Global, op: &str, value: &Value) -> Result<Option<Event>, JsonError>
     ensures { Finds (option_map call_view) result (call_by op.now (view value.now)) }
 {
     match op {
-        "candidate" => candidate(alloc, value),
+        "candidate" => candidate_in(alloc, value),
         "create" => create_in(alloc, value),
         "propose_add" => propose_add_in(alloc, value),
         "propose_update" => propose_update_in(value),

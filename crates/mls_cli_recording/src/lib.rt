@@ -13,8 +13,8 @@ ghost use Rattle.mls_cli_recording.specs.CallLaws.{SameReplies, SameRun};
 
 pub use reading::{Recorded, recording};
 
-/// Events that stand for the same calls leave the same world and have the same replies, so what a recording does follows
-/// from its text. The function does nothing.
+/// Events that stand for the same calls leave the same world and have the same replies, so what a recording does
+/// follows from its text. The function does nothing.
 pub fn laws_of_calls()
     ensures run { SameRun }
     ensures replies { SameReplies }

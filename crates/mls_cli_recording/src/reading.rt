@@ -6,12 +6,13 @@ ghost use Rattle.serde_json.specs.View.{view, items_view};
 ghost use Rattle.mls_wire.specs.Checks.{Answers};
 ghost use Rattle.mls_cli_json.specs.Faults.{Finds, number_of};
 ghost use Rattle.mls_cli_json.specs.declared.error.JsonError.TheVariants.{BadJson};
-ghost use Rattle.mls_cli_recording.specs.Calls.{recorded_view};
-ghost use Rattle.mls_cli_recording.specs.Recording.{each_of, events_in, recorded_in, recording};
+ghost use Rattle.mls_cli_json.specs.Lists.{each_of};
+ghost use Rattle.mls_cli_recording.specs.Calls.{recorded_view, recorded_views};
+ghost use Rattle.mls_cli_recording.specs.Recording.{events_in, recorded_in, recording};
 
 use crate::calls::call_by;
-use crate::lookup::{push_found, copy_text_at};
-use mls_cli_json::{JsonError, has_members, items_at, text_at, u64_at, value_in};
+use crate::lookup::copy_text_at;
+use mls_cli_json::{JsonError, has_members, items_at, push_found, text_at, u64_at, value_in};
 use mls_model::Event;
 use serde_json::Value;
 use std::alloc::Global;
@@ -31,7 +32,7 @@ pub struct Recorded {
     pub expect: Option<String>,
 }
 
-/// One event; None where a text in it isn't hex.
+/// Reads one event; None where a text in it isn't hex.
 fn recorded_in(alloc: Global, value: &Value) -> Result<Option<Recorded>, JsonError>
     ensures { Finds (option_map recorded_view) result (recorded_in (view value.now)) }
 {
@@ -45,9 +46,10 @@ fn recorded_in(alloc: Global, value: &Value) -> Result<Option<Recorded>, JsonErr
     }
 }
 
-#[tactic(auto, unfolding(crate::specs::Recording::each_of))]
+/// Reads all of the events; None where a text in one isn't hex.
+#[tactic(auto, unfolding(mls_cli_json::specs::Lists::each_of))]
 fn recorded_events_in(alloc: Global, values: &[Value]) -> Result<Option<Vec<Recorded>>, JsonError>
-    ensures { Finds (option_map (λ v. map recorded_view v.items)) result (each_of recorded_in (items_view values.now)) }
+    ensures { Finds recorded_views result (each_of recorded_in (items_view values.now)) }
 {
     let mut list = Vec::new(alloc);
     let mut all_hex = true;
@@ -58,9 +60,9 @@ fn recorded_events_in(alloc: Global, values: &[Value]) -> Result<Option<Vec<Reco
     if all_hex { Ok(Some(list)) } else { Ok(None) }
 }
 
-/// The events of a recording of version 1 for the suite f001.
+/// Reads the events of a recording of version 1 for the suite f001.
 fn events(alloc: Global, value: &Value) -> Result<Option<Vec<Recorded>>, JsonError>
-    ensures { Finds (option_map (λ v. map recorded_view v.items)) result (events_in (view value.now)) }
+    ensures { Finds recorded_views result (events_in (view value.now)) }
 {
     if !has_members(value, 3) {
         return Err(JsonError::BadJson);
@@ -81,12 +83,12 @@ fn events(alloc: Global, value: &Value) -> Result<Option<Vec<Recorded>>, JsonErr
     }
 }
 
-/// The events of a recording, each with the text that its reply should have, if one is recorded; or the fault of its
-/// shape (BadJson, 9), or else that a text in it isn't hex (NotHex, 8).
+/// Reads the events of a recording, each with the text that its reply should have, if one is recorded; or answers the
+/// fault of its shape (`BadJson` (9)), or else that a text in it isn't hex (`NotHex` (8)).
 #[tactic(auto, unfolding(crate::specs::Recording::recording))]
 pub fn recording(alloc: Global, text: &[u8]) -> Result<Vec<Recorded>, JsonError>
     ensures calls { Answers (λ v. map recorded_view v.items) number_of (recording text.now) result }
-    // A file that is no text is refused also when an allocation fails.
+    // A file that is no text is refused even when an allocation fails.
     ensures no_text { ¬ (IsUtf8 text.now) → result ≡ Err BadJson }
 {
     let value = value_in(alloc, text)?;

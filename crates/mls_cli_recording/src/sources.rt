@@ -1,23 +1,22 @@
 //! Sources of messages, and what a commit names.
 
-ghost use Rattle.std.specs.Prelude.{◌≡◌, IfErr, option_map, map};
+ghost use Rattle.std.specs.Prelude.{◌≡◌, IfErr, option_map};
 ghost use Rattle.serde_json.specs.View.{view, items_view};
 ghost use Rattle.mls_cli_json.specs.Faults.{Finds};
 ghost use Rattle.mls_cli_json.specs.declared.error.JsonError.TheVariants.{BadJson};
-ghost use Rattle.mls_cli_json.specs.HexText.{bytes_of};
-ghost use Rattle.mls_cli_recording.specs.Calls.{source_view, item_view};
-ghost use Rattle.mls_cli_recording.specs.Recording.{source_in, source_at, removal_in, item_in, each_of, commit_items_at, item_with_source};
-ghost use Rattle.mls_cli_recording.specs.Calls as call;
+ghost use Rattle.mls_cli_json.specs.Lists.{each_of};
+ghost use Rattle.mls_cli_recording.specs.Calls.{item_view, item_views, source_view};
+ghost use Rattle.mls_cli_recording.specs.Recording.{addition_in, commit_items_at, given_in, item_in, reference_in, removal_in, source_at, source_in};
 
-use crate::lookup::{index_at, push_found};
-use mls_cli_json::{JsonError, has_members, bytes_of_hex, items_at, u32_at};
+use crate::lookup::index_at;
+use mls_cli_json::{JsonError, bytes_of_hex, has_members, items_at, push_found, u32_at};
 use mls_model::{Source, WorldItem};
 use serde_json::Value;
 use std::alloc::Global;
 
-/// Bytes in hex; None where the text isn't hex.
+/// Reads bytes in hex; None where the text isn't hex.
 fn given(alloc: Global, text: &str) -> Result<Option<Source>, JsonError>
-    ensures { Finds (option_map source_view) result (Some (option_map call.given (bytes_of text.now))) }
+    ensures { Finds (option_map source_view) result (given_in text.now) }
 {
     match bytes_of_hex(alloc, text)? {
         Some(bytes) => Ok(Some(Source::Given(bytes))),
@@ -25,7 +24,7 @@ fn given(alloc: Global, text: &str) -> Result<Option<Source>, JsonError>
     }
 }
 
-/// A text of hex, or an object with the number of a message.
+/// Reads a text of hex, or an object with the number of a message.
 pub fn source(alloc: Global, value: &Value) -> Result<Option<Source>, JsonError>
     ensures { Finds (option_map source_view) result (source_in (view value.now)) }
 {
@@ -41,7 +40,7 @@ pub fn source(alloc: Global, value: &Value) -> Result<Option<Source>, JsonError>
     }
 }
 
-/// The source at a key.
+/// Reads the source at a key.
 pub fn source_at(alloc: Global, value: &Value, key: &str) -> Result<Option<Source>, JsonError>
     ensures { Finds (option_map source_view) result (source_at key.now (view value.now)) }
 {
@@ -62,7 +61,7 @@ fn removal_in(value: &Value) -> Result<Option<WorldItem>, JsonError>
 }
 
 fn reference_in(alloc: Global, value: &Value) -> Result<Option<WorldItem>, JsonError>
-    ensures { Finds (option_map item_view) result (item_with_source call.ref (source_in (view value.now))) }
+    ensures { Finds (option_map item_view) result (reference_in (view value.now)) }
 {
     match source(alloc, value)? {
         Some(source) => Ok(Some(WorldItem::RefOf(source))),
@@ -71,7 +70,7 @@ fn reference_in(alloc: Global, value: &Value) -> Result<Option<WorldItem>, JsonE
 }
 
 fn addition_in(alloc: Global, value: &Value) -> Result<Option<WorldItem>, JsonError>
-    ensures { Finds (option_map item_view) result (item_with_source call.add (source_in (view value.now))) }
+    ensures { Finds (option_map item_view) result (addition_in (view value.now)) }
 {
     match source(alloc, value)? {
         Some(source) => Ok(Some(WorldItem::Add(source))),
@@ -79,7 +78,7 @@ fn addition_in(alloc: Global, value: &Value) -> Result<Option<WorldItem>, JsonEr
     }
 }
 
-/// One item of a commit, an object of one member.
+/// Reads one item of a commit, an object of one member.
 fn item_in(alloc: Global, value: &Value) -> Result<Option<WorldItem>, JsonError>
     ensures { Finds (option_map item_view) result (item_in (view value.now)) }
 {
@@ -95,9 +94,10 @@ fn item_in(alloc: Global, value: &Value) -> Result<Option<WorldItem>, JsonError>
     }
 }
 
-#[tactic(auto, unfolding(crate::specs::Recording::each_of))]
+/// Reads all of the items; None where a text in one isn't hex.
+#[tactic(auto, unfolding(mls_cli_json::specs::Lists::each_of))]
 fn items_of(alloc: Global, values: &[Value]) -> Result<Option<Vec<WorldItem>>, JsonError>
-    ensures { Finds (option_map (λ v. map item_view v.items)) result (each_of item_in (items_view values.now)) }
+    ensures { Finds item_views result (each_of item_in (items_view values.now)) }
 {
     let mut items = Vec::new(alloc);
     let mut all_hex = true;
@@ -108,13 +108,13 @@ fn items_of(alloc: Global, values: &[Value]) -> Result<Option<Vec<WorldItem>>, J
     if all_hex { Ok(Some(items)) } else { Ok(None) }
 }
 
-/// The items of a commit.
+/// Reads the items of a commit.
 pub fn commit_items_at(
     alloc: Global,
     value: &Value,
     key: &str,
 ) -> Result<Option<Vec<WorldItem>>, JsonError>
-    ensures { Finds (option_map (λ v. map item_view v.items)) result (commit_items_at key.now (view value.now)) }
+    ensures { Finds item_views result (commit_items_at key.now (view value.now)) }
 {
     match items_at(value, key) {
         Some(values) => items_of(alloc, values),

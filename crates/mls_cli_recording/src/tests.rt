@@ -66,7 +66,7 @@ fn answer(alloc: Global, file: &[u8]) -> Result<String, AllocError> {
     }
 }
 
-/// The same of a recording with these events.
+/// What is answered to a recording with these events.
 fn answer_on(alloc: Global, events: &str) -> Result<String, AllocError> {
     let file = format!(in alloc; "{{\"version\":1,\"suite\":\"f001\",\"events\":[{events}]}}")?;
     answer(alloc, file.as_bytes())

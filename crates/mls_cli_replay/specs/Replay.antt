@@ -1,6 +1,7 @@
 -- What `mls replay` prints of a recording: a line for each reply, one where it isn't what is expected, and at the end a line
 -- for each member.
-use Rattle.std.specs.Prelude.{◌≡◌, ◌⊎◌, MatchResult, ℕ, ◌+◌, Bool, true, ◌&&◌, if◌then◌else◌, List, [], ◌∷◌, ◌++◌, codes, map, take, slice_get, Option, Some, None, option_map, Result, Ok, Err, string_bytes}
+use Rattle.std.specs.Prelude.{◌≡◌, ◌⊎◌, MatchResult, ℕ, ◌+◌, Bool, true, ◌&&◌, if◌then◌else◌, List, [], ◌∷◌, ◌++◌, codes, map, take, slice_get, Option, Some, None, option_map, Result, Ok, Err, OnErr, string_bytes}
+use Rattle.std.specs.Borrow.{Bor}
 use Rattle.std.specs.Fmt.{decimal}
 use Rattle.std.specs.List.{flat_map}
 use Rattle.std.specs.Str.{bytes_eq}
@@ -13,8 +14,8 @@ use Rattle.mls_model.specs.Member.{Member}
 use Rattle.mls_model.specs.World.{World, Seat, empty_world}
 use Rattle.mls_model.specs.Run.{run, replies, step}
 use Rattle.std.specs.Io.KnownBytes.{Appends, Keeps}
-use Rattle.mls_cli_text.specs.InputOutput.{AppendsPart}
-use Rattle.mls_cli_text.specs.Page.{Page, Printout, printout, refused}
+use Rattle.mls_cli_text.specs.InputOutput.{AppendsPart, Writes, WritesPart}
+use Rattle.mls_cli_text.specs.Page.{Page, Printout, Prints, printout, refused}
 use Rattle.mls_cli_text.specs.declared.fault.Fault.{Fault}
 use Rattle.mls_cli_text.specs.Text.{or_dash}
 use Rattle.mls_cli_text.specs.declared.page.Ending.{Ending}
@@ -64,14 +65,14 @@ abbrev pub expected_entries : ℕ → Option (List ℕ) → List ReplayEntry
 expected_entries event None = []
 expected_entries event (Some text) = expected event text ∷ []
 
--- is said where the reply is another
+-- the text that was expected is said where the reply has another
 abbrev pub unmet_entries : ℕ → Reply → Option (List ℕ) → List ReplayEntry
 unmet_entries event reply expect = if is_met reply expect then [] else expected_entries event expect
 
 abbrev pub event_entries : ℕ → Reply → Option (List ℕ) → List ReplayEntry
 event_entries event reply expect = replied event reply ∷ unmet_entries event reply expect
 
--- ---- and of all, numbered from here on
+-- ---- what is said of all events, numbered from here on
 
 unfoldable pub reply_entries : ℕ → List Reply → List (Option (List ℕ)) → List ReplayEntry
 reply_entries event (r ∷ rs) (e ∷ es) = event_entries event r e ++ reply_entries (event + 1) rs es
@@ -158,3 +159,73 @@ entry_of (code.Reply event reply) = replied event reply
 entry_of (code.Expected event text) = expected event text.now
 entry_of (code.Gone member) = gone member
 entry_of (code.Present member leaf epoch tree authenticator) = present member leaf epoch tree.now authenticator.now
+
+-- what is printed of the text that was expected
+abbrev pub expected_text : ℕ → Option (Bor (List ℕ)) → List ℕ
+expected_text event expect = flat_map entry_text (expected_entries event (option_map (λ (t : Bor (List ℕ)). t.now) expect))
+
+-- what is printed of an event
+abbrev pub told : ℕ → Reply → Option (Bor (List ℕ)) → List ℕ
+told event reply expect = flat_map entry_text (event_entries event reply (option_map (λ (t : Bor (List ℕ)). t.now) expect))
+
+-- what is printed of members
+abbrev pub members_text : List Seat → List ℕ
+members_text seats = flat_map entry_text (member_entries 0 seats)
+
+-- what is printed of a member that wasn't removed
+abbrev pub member_text : ℕ → ℕ → ℕ → Bor (List ℕ) → Bor (List ℕ) → List ℕ
+member_text member leaf epoch tree authenticator = entry_text (present member leaf epoch tree.now authenticator.now)
+
+-- ---- of an event that runs
+
+-- whether its reply is as expected
+abbrev pub meets : Crypto → World → Recorded → Bool
+meets c w r = is_met (step c w r.event).0 (expectation r)
+
+-- Where it succeeds, a call writes what is said of the event.
+abbrev pub Says : {O T E : Type 0} → (O → Option (List ℕ)) → O → O → Crypto → World → ℕ → Recorded → Result T E → Type 0
+Says contents old new c w event r result = Writes contents old new (flat_map entry_text (event_entries event (step c w r.event).0 (expectation r))) result
+
+-- Where it fails, a call writes a beginning of what is said of the event.
+abbrev pub Begins : {O T E : Type 0} → (O → Option (List ℕ)) → O → O → Crypto → World → ℕ → Recorded → Result T E → Type 0
+Begins contents old new c w event r result = WritesPart contents old new (flat_map entry_text (event_entries event (step c w r.event).0 (expectation r))) result
+
+-- the event has run, or it has not
+abbrev pub HasRunOrNot : Crypto → World → World → Event → Type 0
+HasRunOrNot c old new event = (new ≡ old) ⊎ (new ≡ (step c old event).1)
+
+-- ---- of all events
+
+-- whether all replies are as expected
+abbrev pub all_meet : Crypto → World → List Recorded → Bool
+all_meet c w rs = all_met (replies c w (events_of rs)) (expectations_of rs)
+
+-- what is printed of all events
+abbrev pub replies_text : Crypto → World → List Recorded → List ℕ
+replies_text c w rs = flat_map entry_text (reply_entries 0 (replies c w (events_of rs)) (expectations_of rs))
+
+-- Where it succeeds, a call writes what is said of all events.
+abbrev pub SaysAll : {O T E : Type 0} → (O → Option (List ℕ)) → O → O → Crypto → World → List Recorded → Result T E → Type 0
+SaysAll contents old new c w rs result = Writes contents old new (replies_text c w rs) result
+
+-- Where it fails, a call writes a beginning of what is said of all events.
+abbrev pub BeginsAll : {O T E : Type 0} → (O → Option (List ℕ)) → O → O → Crypto → World → List Recorded → Result T E → Type 0
+BeginsAll contents old new c w rs result = WritesPart contents old new (replies_text c w rs) result
+
+-- Where it fails, a call ends at an event.
+abbrev pub Ends : {O T E : Type 0} → (O → Option (List ℕ)) → O → O → Crypto → World → World → List Recorded → Result T E → Type 0
+Ends contents old new c w v rs result = OnErr result (StopsAt c w rs (contents old) (contents new) v)
+
+-- ---- of a recording
+
+-- the page of these events is printed
+abbrev pub PrintsPlay : {O : Type 0} → (O → Option (List ℕ)) → O → O → Crypto → List Recorded → Result ℕ Fault → Type 0
+PrintsPlay contents old new c rs result = Prints (contents old) (contents new) result (printout entry_text (played_page c rs))
+
+-- the page of a refusal is printed
+abbrev pub PrintsRefusal : {O : Type 0} → (O → Option (List ℕ)) → O → O → ℕ → Result ℕ Fault → Type 0
+PrintsRefusal contents old new number result = Prints (contents old) (contents new) result (printout entry_text (refused number))
+
+-- a replay of a file is printed
+abbrev pub PrintsReplay : {O : Type 0} → (O → Option (List ℕ)) → O → O → Crypto → List ℕ → Result ℕ Fault → Type 0
+PrintsReplay contents old new c file result = PrintsOne (IsReplay c file) (contents old) (contents new) result

@@ -14,6 +14,10 @@ effect_text (effect.Known reference) = codes "known"
 effect_text (effect.Advanced epoch) = codes "advanced to " ++ decimal epoch
 effect_text effect.Removed = codes "removed"
 
+-- the text of a refusal
+abbrev pub refused_text : ℕ → List ℕ → List ℕ
+refused_text number name = codes "refused " ++ (decimal number ++ (codes " " ++ name))
+
 -- the text of a reply; a refusal has its number and its name
 abbrev pub reply_text : Reply → List ℕ
 reply_text (reply.Candidate candidate message) = codes "candidate " ++ (decimal candidate ++ (codes ", message " ++ decimal message))
@@ -25,4 +29,4 @@ reply_text (reply.Dropped true) = codes "dropped"
 reply_text (reply.Dropped false) = codes "nothing pending"
 reply_text (reply.Delivered done) = effect_text done
 reply_text (reply.Joined member epoch) = codes "member " ++ (decimal member ++ (codes " at epoch " ++ decimal epoch))
-reply_text (reply.Refused number) = codes "refused " ++ (decimal number ++ (codes " " ++ refusal_name number))
+reply_text (reply.Refused number) = refused_text number (refusal_name number)

@@ -1,18 +1,16 @@
 //! Events, run and printed one by one.
 
-ghost use Rattle.std.specs.Prelude.{◌≡◌, ◌≢◌, ◌⊎◌, IfOk, IfErr, OnOk, OnErr, option_map};
-ghost use Rattle.std.specs.Io.KnownBytes.{Appends};
-ghost use Rattle.std.specs.List.{flat_map};
-ghost use Rattle.mls_model.specs.Run.{replies, run, step};
-ghost use Rattle.mls_cli_text.specs.InputOutput.{AppendsPart, write_failed};
-ghost use Rattle.mls_cli_replay.specs.Replay.{StopsAt, all_met, entry_text, event_entries, events_of, expectation, expectations_of, expected_entries, is_met, reply_entries};
+ghost use Rattle.std.specs.Prelude.{◌≡◌, ◌≢◌, IfOk, IfErr, OnOk, OnErr, option_map};
+ghost use Rattle.mls_model.specs.Run.{run, step};
+ghost use Rattle.mls_cli_text.specs.InputOutput.{write_failed, Writes, WritesPart};
+ghost use Rattle.mls_cli_replay.specs.Replay.{Begins, BeginsAll, Ends, HasRunOrNot, Says, SaysAll, all_meet, told, events_of, expected_text, is_met, meets};
 
 use crate::line::ReplayLine;
 use crate::reply::reply_text;
-use mls_model::Reply;
 use mls_cli_recording::Recorded;
-use mls_suite::Suite;
 use mls_cli_text::{Fault, Output, print};
+use mls_model::Reply;
+use mls_suite::Suite;
 use mls_world::World;
 use std::alloc::{AllocError, Global};
 
@@ -36,8 +34,8 @@ fn print_expected<O: Output>(
     expect: Option<&str>,
     out: &mut O,
 ) -> Result<(), Fault>
-    ensures whole { OnOk result (Appends (O.contents out.old) (O.contents out.new) (flat_map entry_text (expected_entries event (option_map (λ t. t.now) expect.entry)))) }
-    ensures part { OnErr result (AppendsPart (O.contents out.old) (O.contents out.new) (flat_map entry_text (expected_entries event (option_map (λ t. t.now) expect.entry)))) }
+    ensures whole { Writes O.contents out.old out.new (expected_text event expect.entry) result }
+    ensures part { WritesPart O.contents out.old out.new (expected_text event expect.entry) result }
     ensures fault { O.failed out.new ≡ write_failed (O.failed out.old) result }
     ensures written { IfErr result (λ e. e ≢ Fault.Read) }
 {
@@ -56,8 +54,8 @@ fn print_reply<O: Output>(
     out: &mut O,
 ) -> Result<bool, Fault>
     ensures met { IfOk result (λ met. met ≡ is_met reply (option_map (λ t. t.now) expect.entry)) }
-    ensures whole { OnOk result (Appends (O.contents out.old) (O.contents out.new) (flat_map entry_text (event_entries event reply (option_map (λ t. t.now) expect.entry)))) }
-    ensures part { OnErr result (AppendsPart (O.contents out.old) (O.contents out.new) (flat_map entry_text (event_entries event reply (option_map (λ t. t.now) expect.entry)))) }
+    ensures whole { Writes O.contents out.old out.new (told event reply expect.entry) result }
+    ensures part { WritesPart O.contents out.old out.new (told event reply expect.entry) result }
     ensures fault { O.failed out.new ≡ write_failed (O.failed out.old) result }
     ensures written { IfErr result (λ e. e ≢ Fault.Read) }
 {
@@ -79,11 +77,11 @@ fn play_event<S: Suite, O: Output>(
     out: &mut O,
 ) -> Result<bool, Fault>
     ensures world { OnOk result (world.new ≡ (step S.crypto world.old recorded.now.event).1) }
-    ensures met { IfOk result (λ met. met ≡ is_met (step S.crypto world.old recorded.now.event).0 (expectation recorded.now)) }
-    ensures whole { OnOk result (Appends (O.contents out.old) (O.contents out.new) (flat_map entry_text (event_entries event (step S.crypto world.old recorded.now.event).0 (expectation recorded.now)))) }
-    ensures part { OnErr result (AppendsPart (O.contents out.old) (O.contents out.new) (flat_map entry_text (event_entries event (step S.crypto world.old recorded.now.event).0 (expectation recorded.now)))) }
+    ensures met { IfOk result (λ met. met ≡ meets S.crypto world.old recorded.now) }
+    ensures whole { Says O.contents out.old out.new S.crypto world.old event recorded.now result }
+    ensures part { Begins O.contents out.old out.new S.crypto world.old event recorded.now result }
     // At a fault the event has run, or it has not.
-    ensures stopped { OnErr result ((world.new ≡ world.old) ⊎ (world.new ≡ (step S.crypto world.old recorded.now.event).1)) }
+    ensures stopped { OnErr result (HasRunOrNot S.crypto world.old world.new recorded.now.event) }
     ensures fault { O.failed out.new ≡ write_failed (O.failed out.old) result }
     ensures written { IfErr result (λ e. e ≢ Fault.Read) }
 {
@@ -100,11 +98,11 @@ pub fn play_events<S: Suite, O: Output>(
     out: &mut O,
 ) -> Result<bool, Fault>
     ensures world { OnOk result (world.new ≡ run S.crypto world.old (events_of recorded.now)) }
-    ensures met { IfOk result (λ met. met ≡ all_met (replies S.crypto world.old (events_of recorded.now)) (expectations_of recorded.now)) }
-    ensures whole { OnOk result (Appends (O.contents out.old) (O.contents out.new) (flat_map entry_text (reply_entries 0 (replies S.crypto world.old (events_of recorded.now)) (expectations_of recorded.now)))) }
-    ensures part { OnErr result (AppendsPart (O.contents out.old) (O.contents out.new) (flat_map entry_text (reply_entries 0 (replies S.crypto world.old (events_of recorded.now)) (expectations_of recorded.now)))) }
+    ensures met { IfOk result (λ met. met ≡ all_meet S.crypto world.old recorded.now) }
+    ensures whole { SaysAll O.contents out.old out.new S.crypto world.old recorded.now result }
+    ensures part { BeginsAll O.contents out.old out.new S.crypto world.old recorded.now result }
     // At a fault all events before one are said, a part of that one is, and none behind it has run.
-    ensures stopped { OnErr result (StopsAt S.crypto world.old recorded.now (O.contents out.old) (O.contents out.new) world.new) }
+    ensures cut { Ends O.contents out.old out.new S.crypto world.old world.new recorded.now result }
     ensures fault { O.failed out.new ≡ write_failed (O.failed out.old) result }
     ensures written { IfErr result (λ e. e ≢ Fault.Read) }
 {

@@ -8,17 +8,17 @@ mod reply;
 
 ghost use Rattle.std.specs.Prelude.{◌≡◌, ◌≢◌, ◌≤◌, IfOk, IfErr};
 ghost use Rattle.mls_cli_text.specs.InputOutput.{write_failed};
-ghost use Rattle.mls_cli_text.specs.Page.{Prints, ending_status, printout, refused};
+ghost use Rattle.mls_cli_text.specs.Page.{ending_status};
 ghost use Rattle.mls_cli_replay.specs.OneReplay.{OneReplay};
-ghost use Rattle.mls_cli_replay.specs.Replay.{IsRefusal, IsReplay, PrintsOne, ending_by, entry_text, played_page};
+ghost use Rattle.mls_cli_replay.specs.Replay.{IsRefusal, PrintsOne, PrintsPlay, PrintsRefusal, PrintsReplay, ending_by};
 
 use events::play_events;
 pub use line::ReplayLine;
 use members::print_members;
 use mls_cli_json::JsonError;
 use mls_cli_recording::{Recorded, laws_of_calls, recording};
-use mls_suite::Suite;
 use mls_cli_text::{Fault, Output, Page, print_page, refused_page};
+use mls_suite::Suite;
 use mls_world::World;
 use std::alloc::Global;
 
@@ -33,7 +33,7 @@ fn status_of(met: bool) -> u8
 /// Runs the events in a new world, prints the lines of each before the next one runs, and in the end a line for each
 /// member. It answers the exit status: 1 where a reply isn't as expected, else 0.
 fn play<S: Suite, O: Output>(alloc: Global, recorded: &[Recorded], out: &mut O) -> Result<u8, Fault>
-    ensures prints { Prints (O.contents out.old) (O.contents out.new) result (printout entry_text (played_page S.crypto recorded.now)) }
+    ensures prints { PrintsPlay O.contents out.old out.new S.crypto recorded.now result }
     ensures status { IfOk result (λ status. status ≤ 1) }
     ensures fault { O.failed out.new ≡ write_failed (O.failed out.old) result }
     ensures written { IfErr result (λ e. e ≢ Fault.Read) }
@@ -46,7 +46,7 @@ fn play<S: Suite, O: Output>(alloc: Global, recorded: &[Recorded], out: &mut O) 
 
 /// Prints that a file is refused, and answers the exit status.
 fn print_refusal<O: Output>(alloc: Global, number: u8, out: &mut O) -> Result<u8, Fault>
-    ensures prints { Prints (O.contents out.old) (O.contents out.new) result (printout entry_text (refused number)) }
+    ensures prints { PrintsRefusal O.contents out.old out.new number result }
     ensures status { IfOk result (λ status. status ≤ 1) }
     ensures fault { O.failed out.new ≡ write_failed (O.failed out.old) result }
     ensures written { IfErr result (λ e. e ≢ Fault.Read) }
@@ -55,7 +55,7 @@ fn print_refusal<O: Output>(alloc: Global, number: u8, out: &mut O) -> Result<u8
     print_page(alloc, &page, out)
 }
 
-/// The same of a file that isn't read.
+/// Prints that a file isn't read, and answers the exit status.
 fn print_error<O: Output>(alloc: Global, error: JsonError, out: &mut O) -> Result<u8, Fault>
     ensures prints { PrintsOne (IsRefusal error) (O.contents out.old) (O.contents out.new) result }
     ensures status { IfOk result (λ status. status ≤ 1) }
@@ -69,12 +69,12 @@ fn print_error<O: Output>(alloc: Global, error: JsonError, out: &mut O) -> Resul
     }
 }
 
-/// Prints the replay of a recording, or the refusal of the file (9, 8), and answers the exit status. The whole file is read
-/// before the first event runs, and each event's lines are printed before the next one runs, so that after a failed write
-/// no further event does.
+/// Prints the replay of a recording, or the refusal of the file (`BadJson` (9), `NotHex` (8)), and answers the exit
+/// status. The whole file is read before the first event runs, and each event's lines are printed before the next one
+/// runs, so that after a failed write no further event does.
 pub fn replay<S: Suite, O: Output>(alloc: Global, file: &[u8], out: &mut O) -> Result<u8, Fault>
     // The output grows by the replay's text, or on a fault by less than that.
-    ensures prints { PrintsOne (IsReplay S.crypto file.now) (O.contents out.old) (O.contents out.new) result }
+    ensures prints { PrintsReplay O.contents out.old out.new S.crypto file.now result }
     ensures status { IfOk result (λ status. status ≤ 1) }
     // A fault of the output comes just where a write fails.
     ensures fault { O.failed out.new ≡ write_failed (O.failed out.old) result }

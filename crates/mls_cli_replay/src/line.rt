@@ -4,12 +4,12 @@ ghost use Rattle.std.specs.Prelude.{◌≡◌, IfOk, string_bytes};
 ghost use Rattle.hex.specs.Hex.{encode_lower};
 ghost use Rattle.mls_cli_text.specs.Text.{or_dash};
 ghost use Rattle.mls_cli_replay.specs.ReplayLaws.{replay_line_nonempty};
-ghost use Rattle.mls_cli_replay.specs.Replay.{entry_of, entry_text, expected, gone, present, replied};
+ghost use Rattle.mls_cli_replay.specs.Replay.{entry_of, entry_text, expected, gone, member_text, replied};
 
 use crate::reply::reply_text;
+use mls_cli_text::Printed;
 use mls_kdf::Secret;
 use mls_model::Reply;
-use mls_cli_text::Printed;
 use std::alloc::{AllocError, Global};
 
 /// A line of a replay.
@@ -67,7 +67,7 @@ fn present_line(
     tree: &[u8],
     authenticator: &Secret,
 ) -> Result<String, AllocError>
-    ensures { IfOk result (λ text. string_bytes text ≡ entry_text (present member leaf epoch tree.now authenticator.now)) }
+    ensures { IfOk result (λ t. string_bytes t ≡ member_text member leaf epoch tree authenticator) }
 {
     let tree = hex_text(alloc, tree)?;
     let authenticator = hex_text(alloc, authenticator)?;

@@ -1,18 +1,16 @@
 //! What is printed of members in the end.
 
-ghost use Rattle.std.specs.Prelude.{◌≡◌, ◌≢◌, ◌≤◌, length, IfErr, OnOk, OnErr};
-ghost use Rattle.std.specs.Io.KnownBytes.{Appends};
-ghost use Rattle.std.specs.List.{flat_map};
-ghost use Rattle.mls_cli_text.specs.InputOutput.{AppendsPart, write_failed};
-ghost use Rattle.mls_cli_replay.specs.Replay.{entry_of, entry_text, member_entries, member_entry};
+ghost use Rattle.std.specs.Prelude.{◌≡◌, ◌≢◌, ◌≤◌, length, IfErr};
+ghost use Rattle.mls_cli_text.specs.InputOutput.{write_failed, Writes, WritesPart};
+ghost use Rattle.mls_cli_replay.specs.Replay.{entry_of, member_entry, members_text};
 
 use crate::line::ReplayLine;
-use mls_suite::Suite;
 use mls_cli_text::{Fault, Output, print};
+use mls_suite::Suite;
 use mls_world::{Member, World};
 use std::alloc::Global;
 
-/// The line of a member.
+/// Makes the line of a member.
 fn member_line<S: Suite>(number: usize, member: &Member<S>) -> ReplayLine<'_>
     ensures { entry_of result ≡ member_entry number member.now }
 {
@@ -36,8 +34,8 @@ pub fn print_members<S: Suite, O: Output>(
     out: &mut O,
 ) -> Result<(), Fault>
     requires { length world.now.seats ≤ most }
-    ensures whole { OnOk result (Appends (O.contents out.old) (O.contents out.new) (flat_map entry_text (member_entries 0 world.now.seats))) }
-    ensures part { OnErr result (AppendsPart (O.contents out.old) (O.contents out.new) (flat_map entry_text (member_entries 0 world.now.seats))) }
+    ensures whole { Writes O.contents out.old out.new (members_text world.now.seats) result }
+    ensures part { WritesPart O.contents out.old out.new (members_text world.now.seats) result }
     ensures fault { O.failed out.new ≡ write_failed (O.failed out.old) result }
     ensures written { IfErr result (λ e. e ≢ Fault.Read) }
 {

@@ -1,11 +1,10 @@
 //! The texts of replies.
 
-ghost use Rattle.std.specs.Prelude.{◌≡◌, ◌++◌, IfOk, codes, string_bytes};
-ghost use Rattle.std.specs.Fmt.{decimal};
-ghost use Rattle.mls_cli_replay.specs.Reply.{effect_text, reply_text};
+ghost use Rattle.std.specs.Prelude.{◌≡◌, IfOk, string_bytes};
+ghost use Rattle.mls_cli_replay.specs.Reply.{effect_text, refused_text, reply_text};
 
 use mls_model::{Effect, Reply};
-use mls_cli_text::refusal_name;
+use mls_wire::refusal_name;
 use std::alloc::{AllocError, Global};
 
 /// What a delivered message did to the member.
@@ -21,7 +20,7 @@ fn effect_text(alloc: Global, effect: Effect) -> Result<String, AllocError>
 }
 
 fn refusal_text(alloc: Global, number: u8, name: &str) -> Result<String, AllocError>
-    ensures { IfOk result (λ text. string_bytes text ≡ codes "refused " ++ (decimal number ++ (codes " " ++ name.now))) }
+    ensures { IfOk result (λ text. string_bytes text ≡ refused_text number name.now) }
 {
     format!(in alloc; "refused {number} {name}")
 }

@@ -1,5 +1,7 @@
 -- The lines of public messages.
 use Rattle.std.specs.Prelude.{ℕ, List, [], ◌∷◌, ◌++◌, codes, length, option_map, Option, Some, None}
+use Rattle.std.specs.Borrow.{Bor}
+use Rattle.std.specs.Global.{Vec}
 use Rattle.mls_leaf.specs.declared.proposal.Proposal as proposals
 use Rattle.mls_leaf.specs.declared.proposal.Proposal.TheVariants as proposal
 use Rattle.mls_types.specs.declared.update_path.UpdatePath.{UpdatePath}
@@ -9,7 +11,8 @@ use Rattle.mls_types.specs.declared.content.Sender.TheVariants as sender
 use Rattle.mls_types.specs.declared.signed.SignedBody.{SignedBody}
 use Rattle.mls_types.specs.declared.signed.SignedBody.TheVariants as body
 use Rattle.mls_types.specs.declared.public_message.PublicMessage.{PublicMessage}
-use Rattle.mls_cli_text.specs.Text.{Entry, Shown, entry, bytes, number, word}
+use Rattle.mls_cli_text.specs.Text.{Entry, Shown, entries_of, entry, bytes, number, word}
+use Rattle.mls_cli_text.specs.declared.text.Line.{Line}
 use Rattle.mls_cli_show.specs.Package.{key_package_entries, leaf_entries}
 
 -- a count, or `none`
@@ -58,3 +61,7 @@ public_message_entries m =
     ∷ entry [] (codes "authenticated_data") (bytes m.content.authenticated_data)
     ∷ (body_entries m.content.body m.content.signature
     ++ entry [] (codes "membership_tag") (bytes m.membership_tag) ∷ [])
+
+-- lines behind a line of one word
+abbrev pub with_word_line : Bor (List ℕ) → Bor (List ℕ) → Vec Line → List Entry
+with_word_line name value lines = entry [] name.now (word value.now) ∷ entries_of lines

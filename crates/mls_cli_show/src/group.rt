@@ -6,8 +6,8 @@ ghost use Rattle.mls_cli_show.specs.Public.{shown_count};
 ghost use Rattle.mls_cli_show.specs.Group.{group_info_entries, member_entry, tree_nodes, welcome_entries};
 
 use crate::public::count_field;
-use mls_leaf::Bytes;
 use mls_cli_text::{Field, Line, append_line, append_lines, line_of};
+use mls_leaf::Bytes;
 use mls_types::{EncryptedGroupSecrets, GroupContext, GroupInfo, RatchetTree, Welcome};
 use std::alloc::{AllocError, Global};
 

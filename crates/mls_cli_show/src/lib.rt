@@ -8,8 +8,8 @@ ghost use Rattle.mls_cli_text.specs.Text.{entry_of};
 ghost use Rattle.mls_cli_show.specs.Message.{text_of};
 ghost use Rattle.mls_cli_show.specs.Show.{page_of};
 
-use mls_leaf::LeafError;
 use mls_cli_text::{Ending, FileError, Line, Page, file_bytes, refused_page};
+use mls_leaf::LeafError;
 use mls_wire::WireError;
 use std::alloc::{AllocError, Global};
 
@@ -38,7 +38,7 @@ fn bytes_page(alloc: Global, bytes: &[u8]) -> Result<Page<Line>, AllocError>
 }
 
 /// What is printed of a file's text: the lines of the MLSMessage that stands in it as hex digits, or the refusal of the
-/// file (8) or of its bytes (2 to 7, 11 to 14).
+/// file (`NotHex` (8)) or of its bytes (2 to 7, 11 to 14).
 #[tactic(auto, unfolding(crate::specs::Show::page_of))]
 pub fn show_page(alloc: Global, text: &[u8]) -> Result<Page<Line>, AllocError>
     ensures page { IfOk result (λ page. seen entry_of page ≡ page_of text.now) }

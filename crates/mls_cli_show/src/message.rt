@@ -2,25 +2,25 @@
 
 ghost use Rattle.std.specs.Prelude.{◌≡◌, ◌++◌, [], map, length, IfOk, Ok};
 ghost use Rattle.mls_leaf.specs.Faults.{FaultsOutright, Gives};
-ghost use Rattle.mls_cli_text.specs.Text.{entry_of};
+ghost use Rattle.mls_cli_text.specs.Text.{entries_of, entry_of};
 ghost use Rattle.mls_cli_show.specs.Message.{with_head, message_entries, text_of};
 
 use crate::group::{group_info_lines, welcome_lines};
 use crate::package::key_package_lines;
 use crate::public::public_message_lines;
-use mls_leaf::{Codec, LeafError};
 use mls_cli_text::{Field, Line, append_lines, line_of};
+use mls_leaf::{Codec, LeafError};
 use mls_types::MlsMessage;
 use std::alloc::{AllocError, Global};
 
-/// The lines with those that begin each message in front of them.
+/// Puts the lines that begin each message in front of others.
 fn with_head(
     alloc: Global,
     kind: &'static str,
     size: usize,
     lines: Vec<Line>,
 ) -> Result<Vec<Line>, AllocError>
-    ensures { IfOk result (λ all. map entry_of all.items ≡ with_head kind.entry.now size (map entry_of lines.items)) }
+    ensures { IfOk result (λ v. entries_of v ≡ with_head kind.entry.now size (entries_of lines)) }
 {
     let head = vec![in alloc;
         line_of("", "message", Field::Word(kind)),

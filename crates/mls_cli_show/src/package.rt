@@ -1,11 +1,11 @@
 //! The lines of leaves and KeyPackages.
 
 ghost use Rattle.std.specs.Prelude.{◌≡◌, ◌∷◌, [], codes, map, IfOk};
-ghost use Rattle.mls_cli_text.specs.Text.{bytes, digits, entry, entry_of, numbers};
+ghost use Rattle.mls_cli_text.specs.Text.{bytes, digits, entries_of, entry, entry_of, numbers};
 ghost use Rattle.mls_cli_show.specs.Package.{key_package_entries, leaf_entries, source_entries};
 
-use mls_leaf::{Bytes, Capabilities, Credential, KeyPackage, LeafNode, LeafSource};
 use mls_cli_text::{Field, Line, append_line, append_lines, line_of};
+use mls_leaf::{Bytes, Capabilities, Credential, KeyPackage, LeafNode, LeafSource};
 use std::alloc::{AllocError, Global};
 
 fn identity_lines(
@@ -61,7 +61,7 @@ fn source_lines(
     prefix: &'static str,
     source: LeafSource,
 ) -> Result<Vec<Line>, AllocError>
-    ensures { IfOk result (λ lines. map entry_of lines.items ≡ source_entries prefix.entry.now source) }
+    ensures { IfOk result (λ lines. entries_of lines ≡ source_entries prefix.entry.now source) }
 {
     match source {
         LeafSource::KeyPackage {
@@ -131,7 +131,7 @@ pub fn key_package_lines(
     prefix: &'static str,
     key_package: KeyPackage,
 ) -> Result<Vec<Line>, AllocError>
-    ensures { IfOk result (λ lines. map entry_of lines.items ≡ key_package_entries prefix.entry.now key_package) }
+    ensures { IfOk result (λ v. entries_of v ≡ key_package_entries prefix.entry.now key_package) }
 {
     let KeyPackage {
         cipher_suite,

@@ -1,12 +1,12 @@
 //! The lines of public messages.
 
 ghost use Rattle.std.specs.Prelude.{◌≡◌, ◌++◌, ◌∷◌, [], codes, map, length, option_map, IfOk};
-ghost use Rattle.mls_cli_text.specs.Text.{bytes, entry, entry_of, number, shown_by, word};
-ghost use Rattle.mls_cli_show.specs.Public.{body_entries, shown_count, leaf_index, path_nodes, proposal_entries, public_message_entries};
+ghost use Rattle.mls_cli_text.specs.Text.{bytes, entries_of, entry, entry_of, number, shown_by, word};
+ghost use Rattle.mls_cli_show.specs.Public.{body_entries, shown_count, leaf_index, path_nodes, proposal_entries, public_message_entries, with_word_line};
 
 use crate::package::{key_package_lines, leaf_lines};
-use mls_leaf::{Bytes, Proposal};
 use mls_cli_text::{Field, Line, append_line, append_lines, line_of};
+use mls_leaf::{Bytes, Proposal};
 use mls_types::{Commit, PublicMessage, Sender, SignedBody, SignedContent};
 use std::alloc::{AllocError, Global};
 
@@ -50,14 +50,14 @@ fn frame_lines(
     ]?)
 }
 
-/// The lines behind a line of one word.
+/// Puts a line of one word in front of others.
 fn with_word_line(
     alloc: Global,
     name: &'static str,
     value: &'static str,
     lines: Vec<Line>,
 ) -> Result<Vec<Line>, AllocError>
-    ensures { IfOk result (λ all. map entry_of all.items ≡ entry [] name.entry.now (word value.entry.now) ∷ map entry_of lines.items) }
+    ensures { IfOk result (λ all. entries_of all ≡ with_word_line name.entry value.entry lines) }
 {
     let front = vec![in alloc; line_of("", name, Field::Word(value))]?;
     append_lines(front, lines)

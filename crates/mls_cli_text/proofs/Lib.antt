@@ -1,5 +1,4 @@
 pub mod Pages
 pub mod Pieces
 mod Digits
-mod Names
 mod Trims

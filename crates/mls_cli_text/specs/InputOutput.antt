@@ -1,5 +1,5 @@
 -- What is written, and whether an end has failed.
-use Rattle.std.specs.Prelude.{◌≡◌, ◌⊎◌, ◌<◌, ℕ, List, ◌++◌, length, Bool, true, false, Option, Result, Ok, Err}
+use Rattle.std.specs.Prelude.{◌≡◌, ◌⊎◌, ◌<◌, ℕ, List, ◌++◌, length, Bool, true, false, Option, Result, Ok, Err, IfSome, OnOk, OnErr}
 use Rattle.std.specs.Io.KnownBytes.{Appends, Keeps}
 use Rattle.mls_cli_text.specs.declared.fault.Fault.{Fault}
 use Rattle.mls_cli_text.specs.declared.fault.Fault.TheVariants as fault
@@ -19,6 +19,18 @@ PutsIf old new false bs = AppendsPart old new bs
 abbrev pub KeepsOrAppendsPart : Option (List ℕ) → Option (List ℕ) → List ℕ → Type 0
 KeepsOrAppendsPart old new bs = Keeps old new ⊎ AppendsPart old new bs
 
+-- Where it succeeds, a call writes these bytes: what the output holds grows by them.
+abbrev pub Writes : {O T E : Type 0} → (O → Option (List ℕ)) → O → O → List ℕ → Result T E → Type 0
+Writes contents old new bs result = OnOk result (Appends (contents old) (contents new) bs)
+
+-- Where it fails, a call writes a beginning of these bytes that is not the whole.
+abbrev pub WritesPart : {O T E : Type 0} → (O → Option (List ℕ)) → O → O → List ℕ → Result T E → Type 0
+WritesPart contents old new bs result = OnErr result (AppendsPart (contents old) (contents new) bs)
+
+-- these are all of the bytes that are left, where those are known
+abbrev pub AreAll : Option (List ℕ) → List ℕ → Type 0
+AreAll remaining bs = IfSome remaining (λ (all : List ℕ). bs ≡ all)
+
 -- ---- failures
 
 -- whether a writer has failed, behind a fault
@@ -27,6 +39,7 @@ write_fails was fault.OutOfMemory = was
 write_fails was fault.Read = was
 write_fails was fault.Write = true
 
+-- whether a writer has failed, behind an answer
 abbrev pub write_failed : {T : Type 0} → Bool → Result T Fault → Bool
 write_failed was (Ok x) = was
 write_failed was (Err e) = write_fails was e
@@ -37,6 +50,7 @@ read_fails was fault.OutOfMemory = was
 read_fails was fault.Read = true
 read_fails was fault.Write = was
 
+-- whether a reader has failed, behind an answer
 abbrev pub read_failed : {T : Type 0} → Bool → Result T Fault → Bool
 read_failed was (Ok x) = was
 read_failed was (Err e) = read_fails was e

@@ -1,9 +1,10 @@
 -- A page: what a subcommand prints of a file, and its exit status.
-use Rattle.std.specs.Prelude.{◌≡◌, ℕ, List, [], ◌++◌, codes, map, Option, Result, Ok, Err, MatchResult}
+use Rattle.std.specs.Prelude.{◌≡◌, ℕ, List, [], ◌++◌, codes, map, Option, Result, Ok, Err, IfOk, MatchResult}
 use Rattle.std.specs.List.{flat_map}
 use Rattle.std.specs.Io.KnownBytes.{Appends}
 use Rattle.mls_cli_text.specs.InputOutput.{KeepsOrAppendsPart}
-use Rattle.mls_cli_text.specs.Text.{Entry, entry, line_text, refusal}
+use Rattle.mls_cli_text.specs.Text.{Entry, entry, entry_of, line_text, refusal}
+use Rattle.mls_cli_text.specs.declared.text.Line.{Line}
 use Rattle.mls_cli_text.specs.declared.fault.Fault.{Fault}
 use Rattle.mls_cli_text.specs.declared.page.Ending.{Ending}
 use Rattle.mls_cli_text.specs.declared.page.Ending.TheVariants.{Good, Failed, Refused}
@@ -68,3 +69,11 @@ printout_of text p = record {
   text = flat_map text p.lines.items ++ ending_text p.ending;
   status = ending_status p.ending;
 }
+
+-- Where there is memory for it, this page of lines is made.
+abbrev pub MakesPage : {X : Type 0} → Result (code.Page Line) X → Page Entry → Type 0
+MakesPage result page = IfOk result (λ (p : code.Page Line). page_of entry_of p ≡ page)
+
+-- a page is printed
+abbrev pub PrintsPage : {L : Type 0} → (L → List ℕ) → Option (List ℕ) → Option (List ℕ) → code.Page L → Result ℕ Fault → Type 0
+PrintsPage text old new p r = Prints old new r (printout_of text p)

@@ -1,6 +1,7 @@
 -- A text of lines `name: value`.
-use Rattle.std.specs.Prelude.{◌==◌, length, if◌then◌else◌, ◌/◌, ◌%◌, ℕ, List, [], ◌∷◌, ◌++◌, codes}
-use Rattle.std.specs.List.{join_by}
+use Rattle.std.specs.Prelude.{◌==◌, length, if◌then◌else◌, ◌/◌, ◌%◌, ℕ, List, [], ◌∷◌, ◌++◌, codes, map}
+use Rattle.std.specs.Global.{Vec}
+use Rattle.std.specs.List.{flat_map, join_by}
 use Rattle.std.specs.Fmt.{decimal}
 use Rattle.hex.specs.Hex.{encode_lower}
 use Rattle.mls_wire.specs.Names.{refusal_name}
@@ -35,20 +36,36 @@ or_dash text xs = if length xs == 0 then codes "-" else text xs
 abbrev pub four_digits : ℕ → List ℕ
 four_digits n = encode_lower (n / 256 ∷ n % 256 ∷ [])
 
+-- a list of uint16 as four digits each with commas between them
+abbrev pub numbers_text : List ℕ → List ℕ
+numbers_text numbers = or_dash (join_by four_digits (codes ",")) numbers
+
+-- each uint16 behind a comma
+abbrev pub with_commas : List ℕ → List ℕ
+with_commas numbers = flat_map (λ (n : ℕ). codes "," ++ four_digits n) numbers
+
+-- a number, a space and its name
+abbrev pub number_with_name : ℕ → List ℕ → List ℕ
+number_with_name n name = decimal n ++ codes " " ++ name
+
+-- a refusal's number, a space and its name
+abbrev pub refusal_text : ℕ → List ℕ
+refusal_text n = number_with_name n (refusal_name n)
+
 -- byte strings in lower-case hex, lists of uint16 as four digits each with commas between them
 abbrev pub shown_text : Shown → List ℕ
 shown_text (bytes bs) = or_dash encode_lower bs
-shown_text (numbers ns) = or_dash (join_by four_digits (codes ",")) ns
+shown_text (numbers ns) = numbers_text ns
 shown_text (digits n) = four_digits n
 shown_text (number n) = decimal n
 shown_text (word w) = w
-shown_text (refusal n) = decimal n ++ codes " " ++ refusal_name n
+shown_text (refusal n) = refusal_text n
 
 -- a name, a colon and a space, what stands behind, and a line feed
 abbrev pub line_text : Entry → List ℕ
 line_text e = ((e.name ++ codes ": ") ++ shown_text e.shown) ++ codes "\n"
 
--- ---- the same, of the code's values
+-- ---- of the code's values
 
 abbrev pub shown_by : Field → Shown
 shown_by (field.Bytes bs) = bytes bs
@@ -60,3 +77,7 @@ shown_by (field.Refusal n) = refusal n
 
 unfoldable pub entry_of : Line → Entry
 entry_of l = record { name = l.prefix.now ++ l.name.now; shown = shown_by l.field }
+
+-- the lines that code has
+abbrev pub entries_of : Vec Line → List Entry
+entries_of lines = map entry_of lines.items

@@ -8,6 +8,7 @@ ghost use Rattle.mls_cli_text.specs.HexFile.{bytes_in, is_blank, is_hex, before_
 ghost use Rattle.mls_cli_text.specs.Faults.{number_of};
 
 use hex::FromHexError;
+use mls_wire::refusal_name;
 use std::alloc::Global;
 use thiserror::Error;
 
@@ -37,10 +38,7 @@ impl FileError {
     pub fn name(self) -> &'static str
         ensures { result.now ≡ refusal_name (number_of self) }
     {
-        match self {
-            FileError::OutOfMemory => "OutOfMemory",
-            FileError::NotHex => "NotHex",
-        }
+        refusal_name(self.number())
     }
 }
 
@@ -104,7 +102,8 @@ pub fn is_hex_file(text: &[u8]) -> bool
     is_hex(before_blanks(after_blanks(text)))
 }
 
-/// The bytes that a file's hex digits stand for. A text that isn't hex is refused (8) also when an allocation fails.
+/// Reads the bytes that a file's hex digits stand for. A text that isn't hex is refused (`NotHex` (8)) even when an
+/// allocation fails.
 pub fn file_bytes(alloc: Global, text: &[u8]) -> Result<Vec<u8>, FileError>
     ensures bytes { IfOk result (λ bytes. bytes_in text.now ≡ Some bytes.items) }
     ensures other { bytes_in text.now ≡ None → result ≡ Err FileError.NotHex }

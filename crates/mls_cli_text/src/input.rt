@@ -1,8 +1,8 @@
 //! What is read.
 
-ghost use Rattle.std.specs.Prelude.{ℕ, List, Bool, Option, Some, true, false, ◌≡◌, IfOk, IfErr, IfSome, ◌≢◌};
+ghost use Rattle.std.specs.Prelude.{ℕ, List, Bool, Option, Some, true, false, ◌≡◌, IfOk, IfErr, ◌≢◌};
 ghost use Rattle.std.specs.IoError.{error_kind};
-ghost use Rattle.mls_cli_text.specs.InputOutput.{read_failed};
+ghost use Rattle.mls_cli_text.specs.InputOutput.{AreAll, read_failed};
 
 use crate::fault::Fault;
 use std::alloc::Global;
@@ -17,9 +17,9 @@ pub trait Input {
     // Whether a read has failed.
     ghost failed: { Self → Bool };
 
-    /// All bytes that are left.
+    /// Reads all bytes that are left.
     fn read_all(&mut self, alloc: Global) -> Result<Vec<u8>, Fault>
-        ensures whole { IfOk result (λ bytes. IfSome (remaining self.old) (λ all. bytes.items ≡ all)) }
+        ensures whole { IfOk result (λ bytes. AreAll (remaining self.old) bytes.items) }
         ensures fault { failed self.new ≡ read_failed (failed self.old) result }
         ensures read { IfErr result (λ e. e ≢ Fault.Write) };
 }
@@ -99,9 +99,9 @@ fn read_fault(error: &io::Error) -> Fault
     }
 }
 
-/// All bytes that the reader has left.
+/// Reads all bytes that the reader has left.
 fn read_whole<R: Read>(alloc: Global, reader: &mut R) -> Result<Vec<u8>, Fault>
-    ensures whole { IfOk result (λ bytes. IfSome (R.remaining reader.old) (λ all. bytes.items ≡ all)) }
+    ensures whole { IfOk result (λ bytes. AreAll (R.remaining reader.old) bytes.items) }
     ensures read { IfErr result (λ e. e ≢ Fault.Write) }
 {
     let mut bytes = Vec::new(alloc);

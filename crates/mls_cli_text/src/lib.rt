@@ -1,5 +1,5 @@
-//! Lines `name: value` and pages of them, hex files, and the ends that files are read from and pages printed to: what the
-//! subcommands of `mls` share.
+//! Lines `name: value` and pages of them, hex files, and the ends that files are read from and pages printed to: what
+//! the subcommands of `mls` share.
 #![tactic(auto)]
 
 mod fault;
@@ -8,7 +8,6 @@ mod input;
 mod output;
 mod page;
 mod printing;
-mod refusal;
 mod text;
 
 pub use fault::Fault;
@@ -17,5 +16,4 @@ pub use input::{In, Input};
 pub use output::{Out, Output};
 pub use page::{Ending, Page, print_made_page, print_page, refused_page};
 pub use printing::{Printed, print, print_lines};
-pub use refusal::refusal_name;
-pub use text::{Field, Line, append_line, append_lines, line_of};
+pub use text::{Field, Line, append_line, append_lines, line_of, push_number};

@@ -1,8 +1,7 @@
 //! What is written to.
 
-ghost use Rattle.std.specs.Prelude.{ℕ, List, Bool, Option, Some, true, false, ◌≡◌, OnOk, OnErr, IfErr, ◌≢◌};
-ghost use Rattle.std.specs.Io.KnownBytes.{Appends};
-ghost use Rattle.mls_cli_text.specs.InputOutput.{AppendsPart, PutsIf, write_failed};
+ghost use Rattle.std.specs.Prelude.{ℕ, List, Bool, Option, Some, false, ◌≡◌, IfErr, ◌≢◌};
+ghost use Rattle.mls_cli_text.specs.InputOutput.{PutsIf, write_failed, Writes, WritesPart};
 
 use crate::fault::Fault;
 use std::io::{ErrorKind, Write};
@@ -17,8 +16,8 @@ pub trait Output {
 
     /// Writes all of the bytes.
     fn put(&mut self, bytes: &[u8]) -> Result<(), Fault>
-        ensures whole { OnOk result (Appends (contents self.old) (contents self.new) bytes.now) }
-        ensures part { OnErr result (AppendsPart (contents self.old) (contents self.new) bytes.now) }
+        ensures whole { Writes contents self.old self.new bytes.now result }
+        ensures part { WritesPart contents self.old self.new bytes.now result }
         ensures fault { failed self.new ≡ write_failed (failed self.old) result }
         ensures written { IfErr result (λ e. e ≢ Fault.Read) };
 }
@@ -58,8 +57,8 @@ impl<W: Write> Output for Out<W> {
     ghost failed = { λ o. o.failed };
 
     fn put(&mut self, bytes: &[u8]) -> Result<(), Fault>
-        ensures whole { OnOk result (Appends (W.contents self.old.writer) (W.contents self.new.writer) bytes.now) }
-        ensures part { OnErr result (AppendsPart (W.contents self.old.writer) (W.contents self.new.writer) bytes.now) }
+        ensures whole { Writes W.contents self.old.writer self.new.writer bytes.now result }
+        ensures part { WritesPart W.contents self.old.writer self.new.writer bytes.now result }
         ensures fault { self.new.failed ≡ write_failed self.old.failed result }
         // It never wants memory of its own.
         ensures written { IfErr result (λ e. e ≡ Fault.Write) }

@@ -1,10 +1,9 @@
 //! Pages: what a subcommand prints of a file, and its exit status.
 
-ghost use Rattle.std.specs.Prelude.{[], ◌≡◌, ◌≢◌, ◌≤◌, IfOk, IfErr, OnOk, OnErr};
-ghost use Rattle.std.specs.Io.KnownBytes.{Appends};
-ghost use Rattle.mls_cli_text.specs.InputOutput.{AppendsPart, write_failed};
+ghost use Rattle.std.specs.Prelude.{[], ◌≡◌, ◌≢◌, ◌≤◌, IfOk, IfErr};
+ghost use Rattle.mls_cli_text.specs.InputOutput.{write_failed, Writes, WritesPart};
 ghost use Rattle.mls_cli_text.specs.MadePage.{PrintsMade};
-ghost use Rattle.mls_cli_text.specs.Page.{Prints, ending_status, ending_text, printout_of, refused};
+ghost use Rattle.mls_cli_text.specs.Page.{PrintsPage, ending_status, ending_text};
 
 use crate::fault::Fault;
 use crate::output::Output;
@@ -45,7 +44,7 @@ pub struct Page<L> {
     pub ending: Ending,
 }
 
-/// The page of a refusal alone, which takes no memory.
+/// Makes the page of a refusal alone, which takes no memory.
 pub fn refused_page<L: Drop>(alloc: Global, number: u8) -> Page<L>
     ensures { (result.lines.items ≡ []) × (result.ending ≡ Ending.Refused number) }
 {
@@ -57,8 +56,8 @@ pub fn refused_page<L: Drop>(alloc: Global, number: u8) -> Page<L>
 
 /// Writes what stands behind the lines.
 fn print_ending<O: Output>(alloc: Global, ending: Ending, out: &mut O) -> Result<(), Fault>
-    ensures whole { OnOk result (Appends (O.contents out.old) (O.contents out.new) (ending_text ending)) }
-    ensures part { OnErr result (AppendsPart (O.contents out.old) (O.contents out.new) (ending_text ending)) }
+    ensures whole { Writes O.contents out.old out.new (ending_text ending) result }
+    ensures part { WritesPart O.contents out.old out.new (ending_text ending) result }
     ensures fault { O.failed out.new ≡ write_failed (O.failed out.old) result }
     ensures written { IfErr result (λ e. e ≢ Fault.Read) }
 {
@@ -78,7 +77,7 @@ pub fn print_page<L: Printed + Drop, O: Output>(
     out: &mut O,
 ) -> Result<u8, Fault>
     // The output grows by the page's text, or on a fault by less than that.
-    ensures prints { Prints (O.contents out.old) (O.contents out.new) result (printout_of L.text page.now) }
+    ensures prints { PrintsPage L.text (O.contents out.old) (O.contents out.new) page.now result }
     ensures status { IfOk result (λ status. status ≤ 1) }
     // A fault of the output comes just where a write fails.
     ensures fault { O.failed out.new ≡ write_failed (O.failed out.old) result }

@@ -1,10 +1,9 @@
 //! Texts, printed one by one.
 
-ghost use Rattle.std.specs.Prelude.{ℕ, List, ◌≡◌, ◌≢◌, IfOk, OnOk, OnErr, IfErr};
-ghost use Rattle.std.specs.Io.KnownBytes.{Appends};
+ghost use Rattle.std.specs.Prelude.{ℕ, List, ◌≡◌, ◌≢◌, IfOk, IfErr};
 ghost use Rattle.std.specs.List.{flat_map};
 ghost use Rattle.mls_cli_text.specs.TextLaws.{NoneIsEmpty};
-ghost use Rattle.mls_cli_text.specs.InputOutput.{AppendsPart, write_failed};
+ghost use Rattle.mls_cli_text.specs.InputOutput.{write_failed, Writes, WritesPart};
 
 use crate::fault::Fault;
 use crate::output::Output;
@@ -25,8 +24,8 @@ pub trait Printed {
 
 /// Writes a text.
 pub fn print<T: Printed, O: Output>(alloc: Global, printed: &T, out: &mut O) -> Result<(), Fault>
-    ensures whole { OnOk result (Appends (O.contents out.old) (O.contents out.new) (T.text printed.now)) }
-    ensures part { OnErr result (AppendsPart (O.contents out.old) (O.contents out.new) (T.text printed.now)) }
+    ensures whole { Writes O.contents out.old out.new (T.text printed.now) result }
+    ensures part { WritesPart O.contents out.old out.new (T.text printed.now) result }
     ensures fault { O.failed out.new ≡ write_failed (O.failed out.old) result }
     ensures written { IfErr result (λ e. e ≢ Fault.Read) }
 {
@@ -40,8 +39,8 @@ pub fn print_lines<T: Printed, O: Output>(
     lines: &[T],
     out: &mut O,
 ) -> Result<(), Fault>
-    ensures whole { OnOk result (Appends (O.contents out.old) (O.contents out.new) (flat_map T.text lines.now)) }
-    ensures part { OnErr result (AppendsPart (O.contents out.old) (O.contents out.new) (flat_map T.text lines.now)) }
+    ensures whole { Writes O.contents out.old out.new (flat_map T.text lines.now) result }
+    ensures part { WritesPart O.contents out.old out.new (flat_map T.text lines.now) result }
     ensures fault { O.failed out.new ≡ write_failed (O.failed out.old) result }
     ensures written { IfErr result (λ e. e ≢ Fault.Read) }
 {

@@ -1,16 +1,14 @@
 //! Lines `name: value`, as data and as bytes.
 
-ghost use Rattle.std.specs.Prelude.{◌≡◌, ◌++◌, ◌∷◌, [], codes, map, IfOk, OnOk};
+ghost use Rattle.std.specs.Prelude.{◌≡◌, ◌++◌, ◌∷◌, [], IfOk, OnOk};
 ghost use Rattle.std.specs.Fmt.{decimal};
-ghost use Rattle.std.specs.List.{flat_map, join_by};
 ghost use Rattle.hex.specs.Hex.{encode_lower};
-ghost use Rattle.mls_wire.specs.Names.{refusal_name as name_of};
 ghost use Rattle.mls_cli_text.specs.TextLaws.{line_nonempty};
-ghost use Rattle.mls_cli_text.specs.Text.{entry, entry_of, four_digits, or_dash, line_text, shown_by, shown_text};
+ghost use Rattle.mls_cli_text.specs.Text.{entries_of, entry, entry_of, four_digits, number_with_name, numbers_text, or_dash, line_text, refusal_text, shown_by, shown_text, with_commas};
 
 use crate::printing::Printed;
-use crate::refusal::refusal_name;
 use mls_leaf::{Bytes, Items};
+use mls_wire::refusal_name;
 use std::alloc::{AllocError, Global};
 
 /// What stands behind a name.
@@ -41,7 +39,7 @@ pub struct Line {
     pub field: Field,
 }
 
-/// A line of these parts.
+/// Makes a line of these parts.
 #[tactic(auto, unfolding(crate::specs::Text::entry_of))]
 pub fn line_of(prefix: &'static str, name: &'static str, field: Field) -> Line
     ensures { entry_of result ≡ entry prefix.entry.now name.entry.now (shown_by field) }
@@ -53,17 +51,17 @@ pub fn line_of(prefix: &'static str, name: &'static str, field: Field) -> Line
     }
 }
 
-/// The lines of both, in turn.
+/// Puts the lines of both in turn.
 pub fn append_lines(mut lines: Vec<Line>, mut more: Vec<Line>) -> Result<Vec<Line>, AllocError>
-    ensures { IfOk result (λ all. map entry_of all.items ≡ map entry_of lines.items ++ map entry_of more.items) }
+    ensures { IfOk result (λ all. entries_of all ≡ entries_of lines ++ entries_of more) }
 {
     lines.append(&mut more)?;
     Ok(lines)
 }
 
-/// The lines with one more.
+/// Adds a line.
 pub fn append_line(mut lines: Vec<Line>, last: Line) -> Result<Vec<Line>, AllocError>
-    ensures { IfOk result (λ all. map entry_of all.items ≡ map entry_of lines.items ++ entry_of last ∷ []) }
+    ensures { IfOk result (λ all. entries_of all ≡ entries_of lines ++ entry_of last ∷ []) }
 {
     lines.push(last)?;
     Ok(lines)
@@ -86,6 +84,7 @@ impl Printed for Line {
     }
 }
 
+/// Adds what stands behind a name.
 fn push_field(alloc: Global, text: &mut Vec<u8>, field: &Field) -> Result<(), AllocError>
     ensures { OnOk result (text.new.items ≡ text.old.items ++ shown_text (shown_by field.now)) }
 {
@@ -99,6 +98,7 @@ fn push_field(alloc: Global, text: &mut Vec<u8>, field: &Field) -> Result<(), Al
     }
 }
 
+/// Adds lower-case hex digits, `-` where there are no bytes.
 fn push_hex(alloc: Global, text: &mut Vec<u8>, bytes: &[u8]) -> Result<(), AllocError>
     ensures { OnOk result (text.new.items ≡ text.old.items ++ or_dash encode_lower bytes.now) }
 {
@@ -108,27 +108,30 @@ fn push_hex(alloc: Global, text: &mut Vec<u8>, bytes: &[u8]) -> Result<(), Alloc
     text.extend_from_slice(hex::encode(alloc, bytes)?.as_bytes())
 }
 
-fn push_number(alloc: Global, text: &mut Vec<u8>, number: u64) -> Result<(), AllocError>
+/// Adds a number in decimal.
+pub fn push_number(alloc: Global, text: &mut Vec<u8>, number: u64) -> Result<(), AllocError>
     ensures { OnOk result (text.new.items ≡ text.old.items ++ decimal number) }
 {
     text.extend_from_slice(number.to_string(alloc)?.as_bytes())
 }
 
+/// Adds a refusal's number, a space and its name.
 fn push_refusal(alloc: Global, text: &mut Vec<u8>, number: u8) -> Result<(), AllocError>
-    ensures { OnOk result (text.new.items ≡ text.old.items ++ (decimal number ++ codes " " ++ name_of number)) }
+    ensures { OnOk result (text.new.items ≡ text.old.items ++ refusal_text number) }
 {
     push_named(alloc, text, number, refusal_name(number))
 }
 
 /// Adds a number, a space and its name.
 fn push_named(alloc: Global, text: &mut Vec<u8>, number: u8, name: &str) -> Result<(), AllocError>
-    ensures { OnOk result (text.new.items ≡ text.old.items ++ (decimal number ++ codes " " ++ name.now)) }
+    ensures { OnOk result (text.new.items ≡ text.old.items ++ number_with_name number name.now) }
 {
     push_number(alloc, text, u64::from(number))?;
     text.push(b' ')?;
     text.extend_from_slice(name.as_bytes())
 }
 
+/// Adds four hex digits.
 fn push_digits(alloc: Global, text: &mut Vec<u8>, number: u16) -> Result<(), AllocError>
     ensures { OnOk result (text.new.items ≡ text.old.items ++ four_digits number) }
 {
@@ -137,8 +140,9 @@ fn push_digits(alloc: Global, text: &mut Vec<u8>, number: u16) -> Result<(), All
     text.extend_from_slice(digits.as_bytes())
 }
 
+/// Adds four hex digits for each number, joined by commas, `-` where there are none.
 fn push_numbers(alloc: Global, text: &mut Vec<u8>, numbers: &[u16]) -> Result<(), AllocError>
-    ensures { OnOk result (text.new.items ≡ text.old.items ++ or_dash (join_by four_digits (codes ",")) numbers.now) }
+    ensures { OnOk result (text.new.items ≡ text.old.items ++ numbers_text numbers.now) }
 {
     match numbers {
         [] => text.extend_from_slice(b"-"),
@@ -149,9 +153,9 @@ fn push_numbers(alloc: Global, text: &mut Vec<u8>, numbers: &[u16]) -> Result<()
     }
 }
 
-/// Each number behind a comma.
+/// Adds each number behind a comma.
 fn push_more(alloc: Global, text: &mut Vec<u8>, numbers: &[u16]) -> Result<(), AllocError>
-    ensures { OnOk result (text.new.items ≡ text.old.items ++ flat_map (λ n. codes "," ++ four_digits n) numbers.now) }
+    ensures { OnOk result (text.new.items ≡ text.old.items ++ with_commas numbers.now) }
 {
     for number in numbers {
         text.push(b',')?;

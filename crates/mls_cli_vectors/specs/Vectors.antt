@@ -1,5 +1,6 @@
 -- What a test vector claims.
 use Rattle.std.specs.Prelude.{ℕ, List, Option, option_map, string_bytes}
+use Rattle.std.specs.Global.{Vec}
 use Rattle.mls_cli_vectors.specs.declared.reading.Vector.{Vector}
 use Rattle.mls_cli_vectors.specs.declared.reading.Vector.TheVariants as vector
 
@@ -21,11 +22,20 @@ pub data Claim : Type 0 where
 
 -- ---- of the code's values
 
+-- the bytes of a text that was read, where it is hex
+abbrev pub seen : Option (Vec ℕ) → Option (List ℕ)
+seen bytes = option_map (λ (v : Vec ℕ). v.items) bytes
+
+-- what a vector claims
 abbrev pub vector_view : Vector → Claim
-vector_view (vector.Header length bytes) = header length (option_map (λ v. v.items) bytes)
+vector_view (vector.Header length bytes) = header length (seen bytes)
 vector_view (vector.Hmac key text out) = hmac key.items text.items out.items
 vector_view (vector.Hkdf salt ikm info prk okm) = hkdf salt.items ikm.items info.items prk.items okm.items
 vector_view (vector.Expand secret label context out) = expand secret.items (string_bytes label) context.items out.items
 vector_view (vector.Treemath leaves node direct_path copath) = treemath leaves node direct_path.items copath.items
 vector_view (vector.Message bytes refused) = message bytes.items refused
 vector_view (vector.Tree bytes tree_hash) = tree bytes.items tree_hash.items
+
+-- what a vector claims that was read, where all of its texts are hex
+abbrev pub claim_of : Option Vector → Option Claim
+claim_of found = option_map vector_view found

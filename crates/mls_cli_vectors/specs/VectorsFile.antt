@@ -6,10 +6,11 @@ use Rattle.std.specs.Global.{Vec}
 use Rattle.serde_json.specs.Data.{Data, Items, no_items, item}
 use Rattle.serde_json.specs.Find.{get, as_str, as_null, as_array}
 use Rattle.mls_cli_json.specs.HexText.{bytes_of, hex_at}
+use Rattle.mls_cli_json.specs.Lists.{each_of, value_or_number}
 use Rattle.mls_cli_json.specs.Json.{◌>>=◌, data_in, require, is_object_of, text_at, number_at, max_u32, whole, whole_at, items_at}
 use Rattle.mls_cli_json.specs.declared.error.JsonError.{JsonError}
 use Rattle.mls_cli_json.specs.declared.error.JsonError.TheVariants as error
-use Rattle.mls_cli_vectors.specs.Vectors.{Claim, header, hmac, hkdf, expand, treemath, message, tree, vector_view}
+use Rattle.mls_cli_vectors.specs.Vectors.{Claim, header, hmac, hkdf, expand, treemath, message, tree, seen, vector_view}
 use Rattle.mls_cli_vectors.specs.declared.reading.Vector.{Vector}
 
 -- ---- vectors of each kind
@@ -22,6 +23,10 @@ hex_or_null d = if_null (as_null d) (as_str d)
     if_null (Some x) text = Some (Some None)
     if_null None text = option_map (λ t. option_map Some (bytes_of t)) text
 
+-- the text at a key, or null
+abbrev pub hex_or_null_at : List ℕ → Data → Option (Option (Option (List ℕ)))
+hex_or_null_at key d = option_and_then hex_or_null (get key d)
+
 abbrev pub header_of : ℕ → Option (Option (List ℕ)) → Option Claim
 header_of length bytes = do
   bytes ← bytes
@@ -30,7 +35,7 @@ header_of length bytes = do
 abbrev pub header_in : Data → Option (Option Claim)
 header_in d = require (is_object_of 3 d) (do
   length ← whole_at max_u32 (codes "length") d
-  bytes ← option_and_then hex_or_null (get (codes "bytes") d)
+  bytes ← hex_or_null_at (codes "bytes") d
   Some (header_of length bytes))
 
 abbrev pub hmac_of : Option (List ℕ) → Option (List ℕ) → Option (List ℕ) → Option Claim
@@ -145,34 +150,15 @@ claim_in d = do
 
 -- ---- all of a file
 
--- another vector in front, where all texts are hex
-abbrev pub prepend_if_hex : Option Claim → Option (List Claim) → Option (List Claim)
-prepend_if_hex None more = None
-prepend_if_hex (Some c) None = None
-prepend_if_hex (Some c) (Some cs) = Some (c ∷ cs)
-
-unfoldable pub claims_of : Items → Option (Option (List Claim))
-claims_of no_items = Some (Some [])
-claims_of (item d ds) = do
-  claim ← claim_in d
-  claims ← claims_of ds
-  Some (prepend_if_hex claim claims)
-
--- 9 where the shape is wrong, and else 8 where a text is no hex
-abbrev pub value_or_number : Option (Option (List Claim)) → Result (List Claim) ℕ
-value_or_number None = Err 9
-value_or_number (Some None) = Err 8
-value_or_number (Some (Some claims)) = Ok claims
-
 -- The claims of a file, which is an array of vectors, or the number of its refusal.
 unfoldable pub claims_in : List ℕ → Result (List Claim) ℕ
-claims_in file = value_or_number ((data_in file >>= as_array) >>= claims_of)
+claims_in file = value_or_number ((data_in file >>= as_array) >>= each_of claim_in)
 
 -- ---- of the code's values
 
-abbrev pub listed_one : Option Vector → List Vector
-listed_one None = []
-listed_one (Some v) = v ∷ []
+-- the claim of a vector that was read, where all of its texts are hex; the first argument is what a label's text is
+abbrev pub expand_seen : {L : Type 0} → (L → List ℕ) → Option (Vec ℕ) → L → Option (Vec ℕ) → Option (Vec ℕ) → Option Claim
+expand_seen text secret label context out = expand_of (seen secret) (text label) (seen context) (seen out)
 
 -- The vectors are those of the file, or the error is want of memory or has the number of the file's refusal.
 abbrev pub Reads : Result (Vec Vector) JsonError → Result (List Claim) ℕ → Type 0

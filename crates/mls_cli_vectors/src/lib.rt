@@ -21,17 +21,18 @@ use verdict::verdicts;
 
 /// The report on vectors.
 fn judge_vectors(alloc: Global, vectors: &[Vector]) -> Result<Page<ReportLine>, AllocError>
-    ensures { IfOk result (λ page. page_of entry_of page ≡ page_on (Ok (map vector_view vectors.now))) }
+    ensures { IfOk result (λ p. page_of entry_of p ≡ page_on (Ok (map vector_view vectors.now))) }
 {
     let verdicts = verdicts(alloc, vectors)?;
     report(alloc, verdicts.as_slice())
 }
 
-/// What is printed of a vector file: the report on its vectors, or the refusal of the file (9, 8).
+/// Makes what is printed of a vector file: the report on its vectors, or the refusal of the file (`BadJson` (9),
+/// `NotHex` (8)).
 #[tactic(auto, unfolding(crate::specs::VectorsReport::vectors_page))]
 pub fn vectors_page(alloc: Global, text: &[u8]) -> Result<Page<ReportLine>, AllocError>
     ensures page { IfOk result (λ page. page_of entry_of page ≡ vectors_page text.now) }
-    // A file that is no text is refused also when an allocation fails.
+    // A file that is no text is refused even when an allocation fails.
     ensures no_text { ¬ (IsUtf8 text.now) → IsOk result }
 {
     match vectors_in(alloc, text) {

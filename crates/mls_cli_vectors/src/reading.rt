@@ -1,20 +1,21 @@
-//! The vectors of a file, read in one pass. A text that isn't hex is kept as None: a fault of the file's shape that comes
-//! later goes before it.
+//! The vectors of a file, read in one pass. A text that isn't hex is kept as None: a fault of the file's shape that
+//! comes later goes before it.
 
-ghost use Rattle.std.specs.Prelude.{◌≡◌, Err, ◌&&◌, ◌++◌, is_some, map, option_map, option_and_then, OnOk, IfOk, string_bytes};
+ghost use Rattle.std.specs.Prelude.{◌≡◌, Err, option_map, string_bytes};
 ghost use Rattle.std.specs.Str.{IsUtf8};
-ghost use Rattle.serde_json.specs.Find.{get};
 ghost use Rattle.serde_json.specs.View.{view, items_view};
 ghost use Rattle.mls_cli_json.specs.Faults.{Finds};
 ghost use Rattle.mls_cli_json.specs.declared.error.JsonError.TheVariants.{BadJson};
-ghost use Rattle.mls_cli_vectors.specs.Vectors.{vector_view};
-ghost use Rattle.mls_cli_vectors.specs.VectorsFile.{Reads, claim_in, claims_in, claims_of, expand_in, expand_of, header_in, header_of, hex_or_null, hkdf_in, hkdf_of, hmac_in, hmac_of, kind_in, label_at, listed_one, message_in, message_of, value_or_number, numbers_at, numbers_of, tree_in, tree_of, treemath_in};
+ghost use Rattle.mls_cli_json.specs.Lists.{each_of, value_or_number};
+ghost use Rattle.mls_cli_vectors.specs.Vectors.{claim_of, seen};
+ghost use Rattle.mls_cli_vectors.specs.VectorsFile.{Reads, claim_in, claims_in, expand_in, expand_seen, header_in, header_of, hex_or_null, hex_or_null_at, hkdf_in, hkdf_of, hmac_in, hmac_of, kind_in, label_at, message_in, message_of, numbers_at, numbers_of, tree_in, tree_of, treemath_in};
 
 use mls_cli_json::{
-    JsonError, has_members, hex_at, bytes_of_hex, items_at, text_at, u32_at, u32_of, u64_at, value_in,
+    JsonError, bytes_of_hex, has_members, hex_at, items_at, push_found, text_at, u32_at, u32_of,
+    u64_at, value_in,
 };
 use serde_json::Value;
-use std::alloc::{AllocError, Global};
+use std::alloc::Global;
 
 /// How many bytes a label may have.
 pub const MAX_LABEL: usize = 200;
@@ -67,9 +68,9 @@ pub enum Vector {
     },
 }
 
-/// The bytes of a text, or null; None where the text isn't hex.
+/// Reads the bytes of a text, or null; None where the text isn't hex.
 fn hex_or_null(alloc: Global, value: &Value) -> Result<Option<Option<Vec<u8>>>, JsonError>
-    ensures { Finds (option_map (option_map (λ v. v.items))) result (hex_or_null (view value.now)) }
+    ensures { Finds (option_map seen) result (hex_or_null (view value.now)) }
 {
     if value.as_null().is_some() {
         return Ok(Some(None));
@@ -88,7 +89,7 @@ fn hex_or_null_at(
     value: &Value,
     key: &str,
 ) -> Result<Option<Option<Vec<u8>>>, JsonError>
-    ensures { Finds (option_map (option_map (λ v. v.items))) result (option_and_then hex_or_null (get key.now (view value.now))) }
+    ensures { Finds (option_map seen) result (hex_or_null_at key.now (view value.now)) }
 {
     match value.get(key) {
         Some(member) => hex_or_null(alloc, member),
@@ -97,7 +98,7 @@ fn hex_or_null_at(
 }
 
 fn header_of(length: u32, bytes: Option<Option<Vec<u8>>>) -> Option<Vector>
-    ensures { option_map vector_view result ≡ header_of length (option_map (option_map (λ v. v.items)) bytes) }
+    ensures { claim_of result ≡ header_of length (option_map seen bytes) }
 {
     Some(Vector::Header {
         length,
@@ -106,7 +107,7 @@ fn header_of(length: u32, bytes: Option<Option<Vec<u8>>>) -> Option<Vector>
 }
 
 fn header_in(alloc: Global, value: &Value) -> Result<Option<Vector>, JsonError>
-    ensures { Finds (option_map vector_view) result (header_in (view value.now)) }
+    ensures { Finds claim_of result (header_in (view value.now)) }
 {
     if !has_members(value, 3) {
         return Err(JsonError::BadJson);
@@ -119,7 +120,7 @@ fn header_in(alloc: Global, value: &Value) -> Result<Option<Vector>, JsonError>
 }
 
 fn hmac_of(key: Option<Vec<u8>>, message: Option<Vec<u8>>, out: Option<Vec<u8>>) -> Option<Vector>
-    ensures { option_map vector_view result ≡ hmac_of (option_map (λ v. v.items) key) (option_map (λ v. v.items) message) (option_map (λ v. v.items) out) }
+    ensures { claim_of result ≡ hmac_of (seen key) (seen message) (seen out) }
 {
     Some(Vector::Hmac {
         key: key?,
@@ -129,7 +130,7 @@ fn hmac_of(key: Option<Vec<u8>>, message: Option<Vec<u8>>, out: Option<Vec<u8>>)
 }
 
 fn hmac_in(alloc: Global, value: &Value) -> Result<Option<Vector>, JsonError>
-    ensures { Finds (option_map vector_view) result (hmac_in (view value.now)) }
+    ensures { Finds claim_of result (hmac_in (view value.now)) }
 {
     if !has_members(value, 4) {
         return Err(JsonError::BadJson);
@@ -147,8 +148,7 @@ fn hkdf_of(
     prk: Option<Vec<u8>>,
     okm: Option<Vec<u8>>,
 ) -> Option<Vector>
-    ensures { option_map vector_view result ≡ hkdf_of (option_map (λ v. v.items) salt) (option_map (λ v. v.items) ikm) (option_map (λ v. v.items) info)
-        (option_map (λ v. v.items) prk) (option_map (λ v. v.items) okm) }
+    ensures { claim_of result ≡ hkdf_of (seen salt) (seen ikm) (seen info) (seen prk) (seen okm) }
 {
     Some(Vector::Hkdf {
         salt: salt?,
@@ -160,7 +160,7 @@ fn hkdf_of(
 }
 
 fn hkdf_in(alloc: Global, value: &Value) -> Result<Option<Vector>, JsonError>
-    ensures { Finds (option_map vector_view) result (hkdf_in (view value.now)) }
+    ensures { Finds claim_of result (hkdf_in (view value.now)) }
 {
     if !has_members(value, 6) {
         return Err(JsonError::BadJson);
@@ -190,7 +190,7 @@ fn expand_of(
     context: Option<Vec<u8>>,
     out: Option<Vec<u8>>,
 ) -> Option<Vector>
-    ensures { option_map vector_view result ≡ expand_of (option_map (λ v. v.items) secret) (string_bytes label) (option_map (λ v. v.items) context) (option_map (λ v. v.items) out) }
+    ensures { claim_of result ≡ expand_seen string_bytes secret label context out }
 {
     Some(Vector::Expand {
         secret: secret?,
@@ -201,7 +201,7 @@ fn expand_of(
 }
 
 fn expand_in(alloc: Global, value: &Value) -> Result<Option<Vector>, JsonError>
-    ensures { Finds (option_map vector_view) result (expand_in (view value.now)) }
+    ensures { Finds claim_of result (expand_in (view value.now)) }
 {
     if !has_members(value, 5) {
         return Err(JsonError::BadJson);
@@ -217,7 +217,7 @@ fn expand_in(alloc: Global, value: &Value) -> Result<Option<Vector>, JsonError>
 }
 
 fn message_of(bytes: Option<Vec<u8>>, refused: u64) -> Option<Vector>
-    ensures { option_map vector_view result ≡ message_of (option_map (λ v. v.items) bytes) refused }
+    ensures { claim_of result ≡ message_of (seen bytes) refused }
 {
     Some(Vector::Message {
         bytes: bytes?,
@@ -225,8 +225,8 @@ fn message_of(bytes: Option<Vec<u8>>, refused: u64) -> Option<Vector>
     })
 }
 
-fn message(alloc: Global, value: &Value) -> Result<Option<Vector>, JsonError>
-    ensures { Finds (option_map vector_view) result (message_in (view value.now)) }
+fn message_in(alloc: Global, value: &Value) -> Result<Option<Vector>, JsonError>
+    ensures { Finds claim_of result (message_in (view value.now)) }
 {
     if !has_members(value, 3) {
         return Err(JsonError::BadJson);
@@ -239,7 +239,7 @@ fn message(alloc: Global, value: &Value) -> Result<Option<Vector>, JsonError>
 }
 
 fn tree_of(bytes: Option<Vec<u8>>, tree_hash: Option<Vec<u8>>) -> Option<Vector>
-    ensures { option_map vector_view result ≡ tree_of (option_map (λ v. v.items) bytes) (option_map (λ v. v.items) tree_hash) }
+    ensures { claim_of result ≡ tree_of (seen bytes) (seen tree_hash) }
 {
     Some(Vector::Tree {
         bytes: bytes?,
@@ -248,7 +248,7 @@ fn tree_of(bytes: Option<Vec<u8>>, tree_hash: Option<Vec<u8>>) -> Option<Vector>
 }
 
 fn tree_in(alloc: Global, value: &Value) -> Result<Option<Vector>, JsonError>
-    ensures { Finds (option_map vector_view) result (tree_in (view value.now)) }
+    ensures { Finds claim_of result (tree_in (view value.now)) }
 {
     if !has_members(value, 3) {
         return Err(JsonError::BadJson);
@@ -282,7 +282,7 @@ fn numbers_at(alloc: Global, value: &Value, key: &str) -> Result<Vec<u32>, JsonE
 }
 
 fn treemath_in(alloc: Global, value: &Value) -> Result<Option<Vector>, JsonError>
-    ensures { Finds (option_map vector_view) result (treemath_in (view value.now)) }
+    ensures { Finds claim_of result (treemath_in (view value.now)) }
 {
     if !has_members(value, 5) {
         return Err(JsonError::BadJson);
@@ -304,7 +304,7 @@ fn treemath_in(alloc: Global, value: &Value) -> Result<Option<Vector>, JsonError
 }
 
 fn vector_of_kind(alloc: Global, kind: &str, value: &Value) -> Result<Option<Vector>, JsonError>
-    ensures { Finds (option_map vector_view) result (kind_in kind.now (view value.now)) }
+    ensures { Finds claim_of result (kind_in kind.now (view value.now)) }
 {
     match kind {
         "header" => header_in(alloc, value),
@@ -312,14 +312,14 @@ fn vector_of_kind(alloc: Global, kind: &str, value: &Value) -> Result<Option<Vec
         "hkdf" => hkdf_in(alloc, value),
         "expand" => expand_in(alloc, value),
         "treemath" => treemath_in(alloc, value),
-        "message" => message(alloc, value),
+        "message" => message_in(alloc, value),
         "tree" => tree_in(alloc, value),
         _ => Err(JsonError::BadJson),
     }
 }
 
 fn vector_of(alloc: Global, value: &Value) -> Result<Option<Vector>, JsonError>
-    ensures { Finds (option_map vector_view) result (claim_in (view value.now)) }
+    ensures { Finds claim_of result (claim_in (view value.now)) }
 {
     match text_at(value, "kind") {
         Some(kind) => vector_of_kind(alloc, kind, value),
@@ -327,27 +327,10 @@ fn vector_of(alloc: Global, value: &Value) -> Result<Option<Vector>, JsonError>
     }
 }
 
-/// Adds what was found, and answers whether all texts are hex so far.
-fn push_found(
-    vectors: &mut Vec<Vector>,
-    all_hex: bool,
-    found: Option<Vector>,
-) -> Result<bool, AllocError>
-    ensures hex { IfOk result (λ hex. hex ≡ (all_hex && is_some found)) }
-    ensures items { OnOk result (vectors.new.items ≡ vectors.old.items ++ listed_one found) }
-{
-    match found {
-        Some(vector) => {
-            vectors.push(vector)?;
-            Ok(all_hex)
-        }
-        None => Ok(false),
-    }
-}
-
-#[tactic(auto, unfolding(crate::specs::VectorsFile::claims_of))]
+/// Reads each vector, or answers that a text in one isn't hex (`NotHex` (8)), where the shape of all is right.
+#[tactic(auto, unfolding(mls_cli_json::specs::Lists::each_of))]
 fn vectors_of(alloc: Global, values: &[Value]) -> Result<Vec<Vector>, JsonError>
-    ensures { Reads result (value_or_number (claims_of (items_view values.now))) }
+    ensures { Reads result (value_or_number (each_of claim_in (items_view values.now))) }
 {
     let mut vectors = Vec::new(alloc);
     let mut all_hex = true;
@@ -362,7 +345,8 @@ fn vectors_of(alloc: Global, values: &[Value]) -> Result<Vec<Vector>, JsonError>
     }
 }
 
-/// The vectors of a file, or the fault of its shape (9), or else that a text in it isn't hex (8).
+/// Reads the vectors of a file, or answers the fault of its shape (`BadJson` (9)), or else that a text in it isn't hex
+/// (`NotHex` (8)).
 #[tactic(auto, unfolding(crate::specs::VectorsFile::claims_in))]
 pub fn vectors_in(alloc: Global, file: &[u8]) -> Result<Vec<Vector>, JsonError>
     ensures vectors { Reads result (claims_in file.now) }

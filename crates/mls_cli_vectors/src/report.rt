@@ -1,12 +1,11 @@
 //! What is printed of verdicts.
 
-ghost use Rattle.std.specs.Prelude.{◌≡◌, ◌++◌, map, IfOk, OnOk};
-ghost use Rattle.std.specs.Fmt.{decimal};
+ghost use Rattle.std.specs.Prelude.{◌≡◌, map, IfOk};
 ghost use Rattle.mls_cli_text.specs.Page.{page_of};
 ghost use Rattle.mls_cli_vectors.specs.ReportLaws.{report_line_nonempty};
 ghost use Rattle.mls_cli_vectors.specs.VectorsReport.{entry_of, entry_text, passed_count, report_ending, report_entries, report_page, verdict_entries};
 
-use mls_cli_text::{Ending, Page, Printed};
+use mls_cli_text::{Ending, Page, Printed, push_number};
 use std::alloc::{AllocError, Global};
 
 /// A line of a report.
@@ -16,12 +15,6 @@ pub enum ReportLine {
     Verdict { index: usize, passed: bool },
     /// How many passed of how many.
     Total { passed: usize, all: usize },
-}
-
-fn push_number(alloc: Global, text: &mut Vec<u8>, number: usize) -> Result<(), AllocError>
-    ensures { OnOk result (text.new.items ≡ text.old.items ++ decimal number) }
-{
-    text.extend_from_slice(number.to_string(alloc)?.as_bytes())
 }
 
 impl Printed for ReportLine {
@@ -34,7 +27,7 @@ impl Printed for ReportLine {
         match *self {
             ReportLine::Verdict { index, passed } => {
                 let word = if passed { "pass" } else { "fail" };
-                push_number(alloc, &mut text, index)?;
+                push_number(alloc, &mut text, index as u64)?;
                 text.extend_from_slice(b": ")?;
                 text.extend_from_slice(word.as_bytes())?;
                 text.push(b'\n')?;
@@ -42,9 +35,9 @@ impl Printed for ReportLine {
             }
             ReportLine::Total { passed, all } => {
                 text.extend_from_slice(b"passed ")?;
-                push_number(alloc, &mut text, passed)?;
+                push_number(alloc, &mut text, passed as u64)?;
                 text.extend_from_slice(b" of ")?;
-                push_number(alloc, &mut text, all)?;
+                push_number(alloc, &mut text, all as u64)?;
                 text.push(b'\n')?;
                 Ok(text)
             }

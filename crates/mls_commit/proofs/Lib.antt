@@ -1,5 +1,4 @@
 pub mod Below
-pub mod Names
 mod Paths
 mod Contexts
 mod Mapped

@@ -1,5 +1,4 @@
 pub mod Faults
-pub mod Names
 pub mod Codes
 pub mod Change
 pub mod PathChecks

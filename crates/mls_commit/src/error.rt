@@ -1,7 +1,8 @@
 //! What a commit is refused for.
 
 ghost use Rattle.std.specs.Prelude.{◌≡◌};
-ghost use Rattle.mls_commit.specs.Faults.{number_of, name_of};
+ghost use Rattle.mls_wire.specs.Names.{refusal_name};
+ghost use Rattle.mls_commit.specs.Faults.{number_of};
 ghost use Rattle.mls_commit.specs.declared.error.CommitError.TheVariants.{Group as in_group};
 ghost use Rattle.mls_public_group.specs.declared.error.GroupError.TheVariants.{Tree as of_tree, Check as of_check};
 ghost use Rattle.mls_tree.specs.declared.error.TreeError.TheVariants.{OutOfMemory};
@@ -9,6 +10,7 @@ ghost use Rattle.mls_tree.specs.declared.error.TreeError.TheVariants.{OutOfMemor
 use mls_checks::CheckError;
 use mls_public_group::GroupError;
 use mls_tree::TreeError;
+use mls_wire::refusal_name;
 use std::alloc::{AllocError, AllocFailed};
 use thiserror::Error;
 
@@ -80,12 +82,8 @@ impl CommitError {
 
     /// The name of the refusal, as it is printed.
     pub fn name(self) -> &'static str
-        ensures { result.now ≡ name_of self }
+        ensures { result.now ≡ refusal_name (number_of self) }
     {
-        match self {
-            CommitError::Group(error) => error.name(),
-            CommitError::CipherCount => "CipherCount",
-            CommitError::PathMissing => "PathMissing",
-        }
+        refusal_name(self.number())
     }
 }

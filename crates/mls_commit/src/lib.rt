@@ -4,12 +4,10 @@
 mod change;
 mod commit;
 mod error;
-mod laws;
 mod path;
 mod received;
 
 pub use change::Change;
 pub use commit::change_of_commit;
 pub use error::CommitError;
-pub use laws::commit_names_by_number;
 pub use received::Received;

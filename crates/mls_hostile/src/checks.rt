@@ -5,7 +5,7 @@ use crate::changes::turn_bits;
 use crate::forgery::{Committed, path_secret};
 use crate::groups;
 use crate::outcome::Outcome;
-use crate::pieces::{joined, check_limit, replace_text, without_last};
+use crate::pieces::{check_limit, joined, replace_text, without_last};
 use crate::stage::{Receiver, Stage};
 use anyhow::{Result, bail};
 use mls_kdf::{Secret, Seed, hash};
@@ -103,8 +103,8 @@ fn is_made_alike(alloc: Global, before: &Stage, after: &Stage) -> Result<bool> {
     Ok(right.as_slice() == after.message(5)?)
 }
 
-/// The commit of the first of three, which seals zeros to the second, and whether with the right secret it is the one that
-/// the committer makes.
+/// The commit of the first of three, which seals zeros to the second, and whether with the right secret it is the one
+/// that the committer makes.
 fn commit_with_zeros(alloc: Global, before: &Stage) -> Result<(Vec<u8>, bool)> {
     let after = three_committed(alloc)?;
     let is_alike = is_made_alike(alloc, before, &after)?;
@@ -259,8 +259,8 @@ fn wrong_items(alloc: Global, stage: &Stage, in_order: bool) -> Result<Vec<World
     }
 }
 
-/// What a commit is answered that adds a leaf that lacks a capability, and behind it one that isn't signed; or the other
-/// way round.
+/// What a commit is answered that adds a leaf that lacks a capability, and behind it one that isn't signed; or the
+/// other way round.
 pub fn wrong_adds(alloc: Global, in_order: bool) -> Result<u8> {
     let mut stage = three_after(alloc, 4)?;
     let items = wrong_items(alloc, &stage, in_order)?;

@@ -2,7 +2,7 @@
 
 ghost use Rattle.std.specs.Prelude.{◌<◌, ◌^◌, length, IfOk};
 
-use crate::pieces::{joined, last_bytes, check_limit, place_of, with_text, without_last};
+use crate::pieces::{check_limit, joined, last_bytes, place_of, with_text, without_last};
 use anyhow::{Result, bail};
 use mls_kdf::{Secret, Seed, derive_secret, expand_with_label};
 use mls_schedule::Epoch;
@@ -44,8 +44,8 @@ pub fn path_secret(seed: &Seed, steps: usize) -> Secret {
 }
 
 impl<'a> Committed<'a> {
-    /// The context under which the path is sealed: that after the commit, with the confirmed transcript hash from before
-    /// (RFC 9420, 12.4.1).
+    /// The context under which the path is sealed: that after the commit, with the confirmed transcript hash from
+    /// before (RFC 9420, 12.4.1).
     fn provisional_context(&self, alloc: Global) -> Result<Vec<u8>>
         ensures { IfOk result (λ v. length v.items < 2 ^ 30) }
     {
@@ -99,7 +99,8 @@ impl<'a> Committed<'a> {
         Ok(start.epoch.confirmation_tag(confirmed))
     }
 
-    /// The commit with a secret in the place of the first that is sealed, to a public key: signature and tags are right.
+    /// The commit with a secret in the place of the first that is sealed, to a public key: signature and tags are
+    /// right.
     pub fn with_secret(
         &self,
         alloc: Global,

@@ -73,7 +73,8 @@ pub fn update(alloc: Global) -> Result<Vec<Act>, AllocError> {
     Ok(acts)
 }
 
-/// Of three the second proposes the removal of the third (message 5), which the first commits by its reference (message 6).
+/// Of three the second proposes the removal of the third (message 5), which the first commits by its reference
+/// (message 6).
 pub fn removal(alloc: Global) -> Result<Vec<Act>, AllocError> {
     let mut acts = three(alloc)?;
     acts.extend_from_slice(&[

@@ -1,5 +1,5 @@
-//! A group of forty: a Welcome for twenty, and commits of thirty proposals. Each answer is one that was worked out by hand:
-//! member k stands at leaf k, but for members 40 to 44, who are added at leaves 20 to 24.
+//! A group of forty: a Welcome for twenty, and commits of thirty proposals. Each answer is one that was worked out by
+//! hand: member k stands at leaf k, but for members 40 to 44, who are added at leaves 20 to 24.
 
 use crate::acts::{Act, Parts, event_of};
 use crate::outcome::Outcome;
@@ -134,7 +134,8 @@ fn commit(
     answered
 }
 
-/// Messages 53 and 54: nineteen are added without a path. Messages 55 and 56: the eighth member adds twenty, with a path.
+/// Messages 53 and 54: nineteen are added without a path. Messages 55 and 56: the eighth member adds twenty, with a
+/// path.
 fn add_all(stage: &mut Stage, alloc: Global) -> Result<()> {
     let nineteen = Parts::Added {
         first: 1,

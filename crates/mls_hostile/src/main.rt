@@ -1,6 +1,6 @@
-//! Hostile use: messages that are changed, cut, repeated and out of order, given to the members and candidates of small
-//! groups, with what these answer. Without words a fixed part, a group of forty, and the recordings that lie where it runs;
-//! with the word `large` or `recordings` one of these, with `whole` each change of each message.
+//! Hostile use: messages that are changed, cut, repeated and out of order, given to the members and candidates of
+//! small groups, with what these answer. Without words a fixed part, a group of forty, and the recordings that lie
+//! where it runs; with the word `large` or `recordings` one of these, with `whole` each change of each message.
 #![tactic(auto)]
 
 mod acts;

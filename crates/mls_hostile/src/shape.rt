@@ -71,7 +71,8 @@ fn counts_of(alloc: Global, message: &MlsMessage) -> Result<Vec<usize>> {
     }
 }
 
-/// How many ciphertexts each node of a commit's path has. The message is given to `drop`, which is one call for the prover.
+/// How many ciphertexts each node of a commit's path has. The message is given to `drop`, which is one call for the
+/// prover.
 pub fn ciphertexts(alloc: Global, message: &[u8]) -> Result<Vec<usize>> {
     let message = MlsMessage::decode(alloc, message)?;
     let counts = counts_of(alloc, &message);

@@ -1,5 +1,5 @@
-//! A world of members, and its candidates. Large values are given to `drop` where they aren't needed any more: that is one
-//! call, and the prover doesn't take them apart there.
+//! A world of members, and its candidates. Large values are given to `drop` where they aren't needed any more: that
+//! is one call, and the prover doesn't take them apart there.
 
 use crate::acts::{Act, event_of};
 use crate::outcome::Outcome;

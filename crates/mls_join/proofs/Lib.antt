@@ -1,4 +1,3 @@
-pub mod Names
 pub mod Lengths
 pub mod LeavesBelow
 pub mod Welcomes

@@ -1,10 +1,10 @@
--- The numbers and names of these refusals, and what calls promise by these numbers.
-use Rattle.std.specs.Prelude.{◌≡◌, ℕ, List, Result, codes}
+-- The numbers of these refusals, and what calls promise by these numbers.
+use Rattle.std.specs.Prelude.{◌≡◌, ℕ, List, Result}
 use Rattle.std.specs.Global.{Vec}
 use Rattle.mls_wire.specs.Checks.{Answers, Passed, passed}
-use Rattle.mls_leaf.specs.Faults.{number_of as number_of_leaf, name_of as name_of_leaf}
-use Rattle.mls_tree.specs.Faults.{number_of as number_of_tree, name_of as name_of_tree}
-use Rattle.mls_treekem.specs.Faults.{number_of as number_of_keys, name_of as name_of_keys}
+use Rattle.mls_leaf.specs.Faults.{number_of as number_of_leaf}
+use Rattle.mls_tree.specs.Faults.{number_of as number_of_tree}
+use Rattle.mls_treekem.specs.Faults.{number_of as number_of_keys}
 use Rattle.mls_join.specs.declared.error.JoinError.{JoinError}
 use Rattle.mls_join.specs.declared.error.JoinError.TheVariants.{Leaf, Tree, Keys, BadConfirmationTag, NotWelcome, WrongSuite, NotForMe, SecretsUnreadable, PskPresent, GroupInfoUnreadable, NoTree, TreeHashWrong, SignerWrong, GroupInfoSignature, NotInTree}
 
@@ -25,24 +25,6 @@ number_of TreeHashWrong = 77
 number_of SignerWrong = 78
 number_of GroupInfoSignature = 79
 number_of NotInTree = 80
-
--- the name, as it is printed
-abbrev pub name_of : JoinError → List ℕ
-name_of (Leaf e) = name_of_leaf e
-name_of (Tree e) = name_of_tree e
-name_of (Keys e) = name_of_keys e
-name_of BadConfirmationTag = codes "BadConfirmationTag"
-name_of NotWelcome = codes "NotWelcome"
-name_of WrongSuite = codes "WrongSuite"
-name_of NotForMe = codes "NotForMe"
-name_of SecretsUnreadable = codes "SecretsUnreadable"
-name_of PskPresent = codes "PskPresent"
-name_of GroupInfoUnreadable = codes "GroupInfoUnreadable"
-name_of NoTree = codes "NoTree"
-name_of TreeHashWrong = codes "TreeHashWrong"
-name_of SignerWrong = codes "SignerWrong"
-name_of GroupInfoSignature = codes "GroupInfoSignature"
-name_of NotInTree = codes "NotInTree"
 
 -- A call answers what the definition does, or refuses with its number. Where memory was refused it says nothing.
 abbrev pub Gives : {A : Type 0} → Result A ℕ → Result A JoinError → Type 0

@@ -1,5 +1,4 @@
 pub mod Faults
-pub mod Names
 pub mod Entrance
 pub mod Parts
 pub mod Stages

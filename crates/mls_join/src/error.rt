@@ -1,7 +1,8 @@
 //! What a join is refused for.
 
 ghost use Rattle.std.specs.Prelude.{◌≡◌};
-ghost use Rattle.mls_join.specs.Faults.{number_of, name_of};
+ghost use Rattle.mls_wire.specs.Names.{refusal_name};
+ghost use Rattle.mls_join.specs.Faults.{number_of};
 ghost use Rattle.mls_join.specs.declared.error.JoinError.TheVariants.{Leaf as in_leaf, Tree as in_tree, Keys as in_keys};
 ghost use Rattle.mls_wire.specs.declared.WireError.TheVariants.{OutOfMemory};
 ghost use Rattle.mls_leaf.specs.declared.error.LeafError.TheVariants.{Wire as in_wire};
@@ -9,7 +10,7 @@ ghost use Rattle.mls_leaf.specs.declared.error.LeafError.TheVariants.{Wire as in
 use mls_leaf::LeafError;
 use mls_tree::TreeError;
 use mls_treekem::TreeKemError;
-use mls_wire::WireError;
+use mls_wire::{WireError, refusal_name};
 use std::alloc::{AllocError, AllocFailed};
 use thiserror::Error;
 
@@ -129,24 +130,8 @@ impl JoinError {
 
     /// The name of the refusal, as it is printed.
     pub fn name(self) -> &'static str
-        ensures { result.now ≡ name_of self }
+        ensures { result.now ≡ refusal_name (number_of self) }
     {
-        match self {
-            JoinError::Leaf(error) => error.name(),
-            JoinError::Tree(error) => error.name(),
-            JoinError::Keys(error) => error.name(),
-            JoinError::BadConfirmationTag => "BadConfirmationTag",
-            JoinError::NotWelcome => "NotWelcome",
-            JoinError::WrongSuite => "WrongSuite",
-            JoinError::NotForMe => "NotForMe",
-            JoinError::SecretsUnreadable => "SecretsUnreadable",
-            JoinError::PskPresent => "PskPresent",
-            JoinError::GroupInfoUnreadable => "GroupInfoUnreadable",
-            JoinError::NoTree => "NoTree",
-            JoinError::TreeHashWrong => "TreeHashWrong",
-            JoinError::SignerWrong => "SignerWrong",
-            JoinError::GroupInfoSignature => "GroupInfoSignature",
-            JoinError::NotInTree => "NotInTree",
-        }
+        refusal_name(self.number())
     }
 }

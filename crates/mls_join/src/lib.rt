@@ -4,7 +4,6 @@
 mod entrance;
 mod error;
 mod keys;
-mod laws;
 mod opening;
 mod secrets;
 mod signer;
@@ -12,4 +11,3 @@ mod tree;
 
 pub use entrance::{Entrance, join};
 pub use error::JoinError;
-pub use laws::join_names_by_number;

@@ -2,4 +2,4 @@ pub mod Kdf
 pub mod Keyed
 pub mod Lengths
 pub mod Faults
-pub mod Names
+pub mod Outputs

@@ -1,7 +1,8 @@
 //! HKDF (RFC 5869).
 
-ghost use Rattle.std.specs.Prelude.{◌≡◌, ℕ, ◌+◌, ◌-◌, ◌*◌, ◌<◌, ◌≤◌, ◌↔◌, [], ◌∷◌, ◌++◌, List, length, take, drop, IsErrOf, OnOk, OnErr};
+ghost use Rattle.std.specs.Prelude.{◌≡◌, ℕ, ◌+◌, ◌-◌, ◌*◌, ◌<◌, ◌≤◌, ◌↔◌, [], ◌∷◌, ◌++◌, List, length, IsErrOf, OnErr};
 ghost use Rattle.mls_kdf.specs.Kdf.{joined_pieces, hmac, extract, expand, hkdf_block, max_output};
+ghost use Rattle.mls_kdf.specs.Outputs.{Fills, with_block};
 
 use crate::{HmacKey, KdfError, MAX_OUTPUT, Secret, hmac};
 
@@ -27,7 +28,7 @@ fn next_block(key: &HmacKey, previous: &[u8], info: &[&[u8]], number: u8) -> Sec
 /// Writes the block at `at`, as far as there is room.
 fn write_block(out: &mut [u8], at: usize, block: &Secret)
     requires { at ≤ length out.old }
-    ensures { out.new ≡ take at out.old ++ take (length out.old - at) block.now ++ drop (at + 32) out.old }
+    ensures { out.new ≡ with_block out.old at block.now }
 {
     let end = out.len().min(at + 32);
     out[at..end].copy_from_slice(&block[..end - at]);
@@ -38,7 +39,7 @@ impl HmacKey<'_> {
     /// 8,160 bytes are refused with `OutputTooLong`, and `out` is as it was.
     pub fn expand(&self, info: &[&[u8]], out: &mut [u8]) -> Result<(), KdfError>
         ensures too_long { IsErrOf result KdfError.OutputTooLong ↔ (max_output < length out.old) }
-        ensures ok { OnOk result (out.new ≡ expand self.now (joined_pieces info.now) (length out.old)) }
+        ensures ok { Fills (expand self.now (joined_pieces info.now)) out.old result out.new }
         ensures err { OnErr result (out.new ≡ out.old) }
     {
         if out.len() > MAX_OUTPUT {
@@ -58,7 +59,7 @@ impl HmacKey<'_> {
 /// bytes are refused with `OutputTooLong`, and `out` is as it was.
 pub fn expand(prk: &[u8], info: &[&[u8]], out: &mut [u8]) -> Result<(), KdfError>
     ensures too_long { IsErrOf result KdfError.OutputTooLong ↔ (max_output < length out.old) }
-    ensures ok { OnOk result (out.new ≡ expand prk.now (joined_pieces info.now) (length out.old)) }
+    ensures ok { Fills (expand prk.now (joined_pieces info.now)) out.old result out.new }
     ensures err { OnErr result (out.new ≡ out.old) }
 {
     HmacKey::new(prk).expand(info, out)

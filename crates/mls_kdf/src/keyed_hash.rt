@@ -3,7 +3,7 @@
 ghost use Rattle.std.specs.Prelude.{◌≡◌, ℕ, ◌-◌, ◌<◌, ◌≤◌, [], ◌++◌, List, length, map, bit_xor, replicate};
 ghost use Rattle.sha2.specs.Sha256.{sha256};
 ghost use Rattle.mls_kdf.specs.Kdf.{joined_pieces, short_key, padded_key, hmac};
-ghost use Rattle.mls_kdf.specs.Keyed.{IsKeyed};
+ghost use Rattle.mls_kdf.specs.Keyed.{IsKeyed, AddsText};
 
 use crate::Secret;
 use sha2::{Digest, Sha256};
@@ -65,14 +65,14 @@ impl KeyedHash {
 
     /// Adds a piece to the text.
     pub fn update(&mut self, piece: &[u8])
-        ensures { (key text : List ℕ) → IsKeyed self.old key text → IsKeyed self.new key (text ++ piece.now) }
+        ensures { AddsText self.old piece.now self.new }
     {
         self.inner.update(piece);
     }
 
     /// Adds the pieces to the text, one after another.
     pub fn update_all(&mut self, pieces: &[&[u8]])
-        ensures { (key text : List ℕ) → IsKeyed self.old key text → IsKeyed self.new key (text ++ joined_pieces pieces.now) }
+        ensures { AddsText self.old (joined_pieces pieces.now) self.new }
     {
         for piece in pieces {
             self.update(*piece);

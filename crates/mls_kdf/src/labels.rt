@@ -1,8 +1,9 @@
 //! The labelled functions of RFC 9420 (sections 5.2 and 8). A label has at most 200 bytes, and a
 //! context or a value less than 2^30.
 
-ghost use Rattle.std.specs.Prelude.{◌≡◌, ◌+◌, ◌<◌, ◌≤◌, ◌^◌, ◌↔◌, length, IsErrOf, OnOk, OnErr};
-ghost use Rattle.mls_kdf.specs.Kdf.{expand_with_label, derive_secret, ref_hash, max_output};
+ghost use Rattle.std.specs.Prelude.{◌≡◌, ◌+◌, ◌<◌, ◌≤◌, ◌^◌, ◌↔◌, length, IsErrOf, OnErr};
+ghost use Rattle.mls_kdf.specs.Kdf.{derive_secret, ref_hash, max_output};
+ghost use Rattle.mls_kdf.specs.Outputs.{ExpandsWithLabel};
 
 use crate::{HmacKey, KdfError, MAX_OUTPUT, Secret, content_header, hash};
 
@@ -21,7 +22,7 @@ impl HmacKey<'_> {
         requires label { length label.now ≤ 200 }
         requires context { length context.now < 2 ^ 30 }
         ensures too_long { IsErrOf result KdfError.OutputTooLong ↔ (max_output < length out.old) }
-        ensures ok { OnOk result (out.new ≡ expand_with_label self.now label.now context.now (length out.old)) }
+        ensures ok { ExpandsWithLabel self.now label.now context.now out.old result out.new }
         ensures err { OnErr result (out.new ≡ out.old) }
     {
         if out.len() > MAX_OUTPUT {
@@ -64,7 +65,7 @@ pub fn expand_with_label(
     requires label { length label.now ≤ 200 }
     requires context { length context.now < 2 ^ 30 }
     ensures too_long { IsErrOf result KdfError.OutputTooLong ↔ (max_output < length out.old) }
-    ensures ok { OnOk result (out.new ≡ expand_with_label secret.now label.now context.now (length out.old)) }
+    ensures ok { ExpandsWithLabel secret.now label.now context.now out.old result out.new }
     ensures err { OnErr result (out.new ≡ out.old) }
 {
     HmacKey::new(secret).expand_with_label(label, context, out)

@@ -7,7 +7,6 @@ mod hkdf;
 mod hmac_key;
 mod keyed_hash;
 mod labels;
-mod laws;
 #[cfg(test)]
 mod tests;
 
@@ -16,7 +15,7 @@ pub use hkdf::{expand, extract};
 pub use hmac_key::HmacKey;
 pub use keyed_hash::{KeyedHash, hash, hmac};
 pub use labels::{derive_secret, expand_with_label, ref_hash};
-pub use laws::kdf_names_by_number;
+use mls_wire::refusal_name;
 use thiserror::Error;
 
 /// A hash, or a secret of a hash's length.
@@ -38,7 +37,8 @@ pub enum KdfError {
 
 impl KdfError {
     ghost use Rattle.std.specs.Prelude.{◌≡◌};
-    ghost use Rattle.mls_kdf.specs.Faults.{number_of, name_of};
+    ghost use Rattle.mls_wire.specs.Names.{refusal_name};
+    ghost use Rattle.mls_kdf.specs.Faults.{number_of};
 
     /// The number of the refusal.
     pub fn number(self) -> u8
@@ -51,10 +51,8 @@ impl KdfError {
 
     /// The name of the refusal.
     pub fn name(self) -> &'static str
-        ensures { result.now ≡ name_of self }
+        ensures { result.now ≡ refusal_name (number_of self) }
     {
-        match self {
-            KdfError::OutputTooLong => "OutputTooLong",
-        }
+        refusal_name(self.number())
     }
 }

@@ -41,7 +41,7 @@ from_lower low mid (x ∷ xs) le rise =
     let above = leb-true mid x both.0 in
     rises_from-more low x xs (omega arith) ∙ both.1
 
--- and some of its numbers do
+-- some numbers of a rising list rise
 pub some_rise : (p : ℕ → Bool) (low : ℕ) (xs : List ℕ) → rises_from low xs ≡ true → rises_from low (filter p xs) ≡ true
 some_rise p low [] rise = rise
 some_rise p low (x ∷ xs) rise =
@@ -55,14 +55,14 @@ some_rise p low (x ∷ xs) rise =
 
 -- ---- a number that it doesn't have
 
--- without that number it stays
+-- a list without a number stays when that is taken out
 stays : (x : ℕ) (xs : List ℕ) → ((k : ℕ) → k < length xs → get_or xs k 0 ≢ x) → filter (λ u. not (u == x)) xs ≡ xs
 stays x [] none = refl
 stays x (y ∷ ys) none =
     ap (λ b. cond (not b) (y ∷ filter (λ u. not (u == x)) ys) (filter (λ u. not (u == x)) ys)) (ne_eqb y x (none 0 (omega arith)))
     ∙ ap (λ l. y ∷ l) (stays x ys (λ k lt. none (suc k) (omega arith)))
 
--- and put in and taken out again
+-- a number that is put in and taken out again leaves the list
 pub taken_out : (x : ℕ) (xs : List ℕ) → ((k : ℕ) → k < length xs → get_or xs k 0 ≢ x) → filter (λ u. not (u == x)) (rising_with x xs) ≡ xs
 taken_out x [] none = rw (rising_with-nil x) (ap (λ b. cond (not b) (x ∷ []) []) (eq-eqb x x refl))
 taken_out x (y ∷ ys) none =

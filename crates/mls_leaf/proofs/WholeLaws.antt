@@ -129,7 +129,7 @@ passed_spells format bytes fits e =
     let t = format.lawful.takes bytes v.0 [] fits v.1 in
     (v.0, record { fits = t.1; spelled = t.0.parts ∙ append-nil (format.spell v.0) })
 
--- of one value
+-- bytes spell one value
 pub spells_same : {V : Type 0} (format : Format V) (v w : V) (bytes : List ℕ) → Spells format v bytes → Spells format w bytes → v ≡ w
 spells_same {V} format v w bytes one other =
     let same : format.spell v ≡ format.spell w = sym one.spelled ∙ other.spelled in

@@ -1,10 +1,10 @@
 -- The format of parents.
-use Rattle.std.specs.Prelude.{ℕ, ◌+◌, nat_le, refl}
+use Rattle.std.specs.Prelude.{ℕ, ◌+◌, nat_le, List, length, Result, refl}
 use Rattle.mls_wire.specs.Format.{Format}
 use Rattle.mls_wire.specs.CombineLaws.{IsNonempty}
 use Rattle.mls_wire.specs.ReadFaults.{HasFaults, pair_faults, seen_answered, guarded_faults, vector_from_faults, byte_string_faults, uint32_faults}
 use Rattle.mls_wire.specs.Combine.{◌⨾◌, seen, guarded, byte_string, uint32}
-use Rattle.mls_wire.specs.Stateful.{Rule, vector_from}
+use Rattle.mls_wire.specs.Stateful.{Rule, run_at, vector_from}
 use Rattle.mls_leaf.specs.Nonempty.{byte_string_nonempty, first_nonempty, uint32_nonempty}
 use Rattle.mls_leaf.specs.Parent.{Parent}
 
@@ -20,6 +20,10 @@ entry_from_nonempty low v fits = uint32_nonempty v fits.0
 -- behind an entry the next one is above it
 abbrev pub rising : Rule ℕ ℕ
 rising = record { item = entry_from; next = λ low entry. entry + 1; nonempty = entry_from_nonempty }
+
+-- the rising entries that all of the bytes spell
+abbrev pub rising_entries : List ℕ → Result (List ℕ) ℕ
+rising_entries bytes = run_at rising (length bytes) 0 bytes
 
 unfoldable pub parent_node : Format Parent
 parent_node = seen (byte_string ⨾ byte_string ⨾ vector_from rising 0)

@@ -2,10 +2,8 @@
 
 ghost use Rattle.std.specs.Prelude.{◌≡◌};
 ghost use Rattle.std.specs.Option.{option_copied};
-ghost use Rattle.mls_wire.specs.Combine.{optional, byte_string};
-ghost use Rattle.mls_leaf.specs.Faults.{AddsInput, AddsSpelling, Writes};
-ghost use Rattle.mls_leaf.specs.Leaf.{leaf_node};
-ghost use Rattle.mls_leaf.specs.Inputs.{tree_hash_input_of_leaf, tree_hash_input_of_parent, TreeHashInputOfParentFits, parent_hash_input, ParentHashInputFits, leaf_content, LeafContentFits, leaf_place, LeafPlaceFits, leaf_node_tbs, LeafNodeTbsFits, key_package_tbs, KeyPackageTbsFits};
+ghost use Rattle.mls_leaf.specs.Faults.{AddsOptional};
+ghost use Rattle.mls_leaf.specs.InputCalls.{WritesHashedLeaf, WritesHashedParent, WritesParentHashInput, AddsLeafContent, AddsLeafPlace, WritesLeafNodeTbs, WritesKeyPackageTbs};
 
 use crate::codec::Codec;
 use crate::error::LeafError;
@@ -21,7 +19,7 @@ fn add_optional<T: Codec>(
     value: Option<&T>,
     writer: &mut Writer,
 ) -> Result<(), LeafError>
-    ensures { AddsSpelling (optional T.format) (option_copied value.entry) writer.old result writer.new }
+    ensures { AddsOptional T.format (option_copied value.entry) writer.old result writer.new }
 {
     match value {
         None => {
@@ -44,7 +42,7 @@ pub fn tree_hash_input_of_leaf(
     leaf_index: u32,
     leaf: Option<&LeafNode>,
 ) -> Result<Vec<u8>, LeafError>
-    ensures { Writes ((optional leaf_node).Fits (option_copied leaf.entry)) (tree_hash_input_of_leaf leaf_index (option_copied leaf.entry)) result }
+    ensures { WritesHashedLeaf leaf_index (option_copied leaf.entry) result }
 {
     let mut writer = Writer::new(alloc);
     writer.u8(1)?;
@@ -62,7 +60,7 @@ pub fn tree_hash_input_of_parent(
     left_hash: &[u8],
     right_hash: &[u8],
 ) -> Result<Vec<u8>, LeafError>
-    ensures { Writes (TreeHashInputOfParentFits (option_copied parent.entry) left_hash.now right_hash.now) (tree_hash_input_of_parent (option_copied parent.entry) left_hash.now right_hash.now) result }
+    ensures { WritesHashedParent (option_copied parent.entry) left_hash.now right_hash.now result }
 {
     let mut writer = Writer::new(alloc);
     writer.u8(2)?;
@@ -73,27 +71,27 @@ pub fn tree_hash_input_of_parent(
 }
 
 /// The input of a parent hash (RFC 9420, section 7.9): the parent's public key, its own parent hash,
-/// and the tree hash of the sibling as it was when the parent was set.
+/// and the tree hash that the sibling had when the parent was set, `original_sibling_tree_hash`.
 #[tactic(auto, using(crate::proofs::Codecs::codecs), unfolding(crate::specs::Inputs::parent_hash_input))]
 pub fn parent_hash_input(
     alloc: Global,
     encryption_key: &[u8],
     parent_hash: &[u8],
-    original_sibling_tree_hash: &[u8],
+    sibling_hash: &[u8],
 ) -> Result<Vec<u8>, LeafError>
-    ensures { Writes (ParentHashInputFits encryption_key.now parent_hash.now original_sibling_tree_hash.now) (parent_hash_input encryption_key.now parent_hash.now original_sibling_tree_hash.now) result }
+    ensures { WritesParentHashInput encryption_key.now parent_hash.now sibling_hash.now result }
 {
     let mut writer = Writer::new(alloc);
     writer.opaque(encryption_key)?;
     writer.opaque(parent_hash)?;
-    writer.opaque(original_sibling_tree_hash)?;
+    writer.opaque(sibling_hash)?;
     Ok(writer.into_bytes())
 }
 
 /// Adds the leaf without its signature.
 #[tactic(auto, using(crate::proofs::Codecs::codecs), unfolding(crate::specs::Inputs::leaf_content))]
 fn add_leaf_content(alloc: Global, leaf: &LeafNode, writer: &mut Writer) -> Result<(), LeafError>
-    ensures { AddsInput (LeafContentFits leaf.now) (leaf_content leaf.now) writer.old result writer.new }
+    ensures { AddsLeafContent leaf.now writer.old result writer.new }
 {
     leaf.encryption_key.write(alloc, writer)?;
     leaf.signature_key.write(alloc, writer)?;
@@ -112,7 +110,7 @@ fn add_leaf_place(
     leaf_index: u32,
     writer: &mut Writer,
 ) -> Result<(), LeafError>
-    ensures { AddsInput (LeafPlaceFits source.now group_id.now) (leaf_place source.now group_id.now leaf_index) writer.old result writer.new }
+    ensures { AddsLeafPlace source.now group_id.now leaf_index writer.old result writer.new }
 {
     match source {
         LeafSource::KeyPackage { .. } => Ok(()),
@@ -139,7 +137,7 @@ impl LeafNode {
         group_id: &[u8],
         leaf_index: u32,
     ) -> Result<Vec<u8>, LeafError>
-        ensures { Writes (LeafNodeTbsFits self.now group_id.now) (leaf_node_tbs self.now group_id.now leaf_index) result }
+        ensures { WritesLeafNodeTbs self.now group_id.now leaf_index result }
     {
         let mut writer = Writer::new(alloc);
         add_leaf_content(alloc, self, &mut writer)?;
@@ -152,7 +150,7 @@ impl KeyPackage {
     /// What is signed of a key package (RFC 9420, section 10): all but the signature.
     #[tactic(auto, using(crate::proofs::Codecs::codecs), unfolding(crate::specs::Inputs::key_package_tbs))]
     pub fn to_be_signed(&self, alloc: Global) -> Result<Vec<u8>, LeafError>
-        ensures { Writes (KeyPackageTbsFits self.now) (key_package_tbs self.now) result }
+        ensures { WritesKeyPackageTbs self.now result }
     {
         let mut writer = Writer::new(alloc);
         writer.u16(1)?;

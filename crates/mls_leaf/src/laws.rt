@@ -4,7 +4,6 @@ ghost use Rattle.std.specs.Prelude.{ℕ, List};
 ghost use Rattle.std.specs.Bool.{Decides};
 ghost use Rattle.std.specs.Prelude.{◌≡◌};
 ghost use Rattle.mls_leaf.specs.InputLaws.{LeafIsSpelled, KeyPackageIsSpelled};
-ghost use Rattle.mls_leaf.specs.Names.{LeafNamesAreListed};
 
 use crate::bytes::Bytes;
 use crate::leaf::LeafNode;
@@ -19,9 +18,4 @@ pub fn laws_of_signed_parts()
 pub fn laws_of_equality()
     ensures byte_strings { (x y : List ℕ) → Decides (⟦<Bytes as PartialEq>⟧.eq x y) (x ≡ y) }
     ensures leaves { (v w : LeafNode) → Decides (⟦<LeafNode as PartialEq>⟧.eq v w) (v ≡ w) }
-{}
-
-/// The names of refusals stand in one table, each at its number.
-pub fn leaf_names_by_number()
-    ensures { LeafNamesAreListed }
 {}

@@ -1,12 +1,12 @@
 //! Parents.
 
-ghost use Rattle.std.specs.Prelude.{◌≡◌, ℕ, ◌+◌, ◌<◌, ◌≤◌, ◌==◌, Bool, true, false, not, List, length, filter, Result, Ok, MatchResult, MatchOption, IfOk, IsOk, insert};
+ghost use Rattle.std.specs.Prelude.{◌≡◌, ℕ, ◌+◌, ◌<◌, ◌≤◌, Bool, true, false, List, length, Result, Ok, MatchResult, MatchOption, IfOk, IsOk, insert};
 ghost use Rattle.mls_wire.specs.CombineLaws.{forgotten};
-ghost use Rattle.mls_wire.specs.Stateful.{run_at, vector_from};
+ghost use Rattle.mls_wire.specs.Stateful.{vector_from};
 ghost use Rattle.mls_leaf.specs.declared.error.LeafError.TheVariants.{NotRising};
 ghost use Rattle.mls_leaf.specs.Faults.{Gives, AddsSpelling, ReadsFrontNow, ReadsAllPast};
-ghost use Rattle.mls_leaf.specs.Parent.{Parent, rises, rising_with};
-ghost use Rattle.mls_leaf.specs.ParentNode.{entry_from, rising, parent_node, parent_node_nonempty, parent_node_faults};
+ghost use Rattle.mls_leaf.specs.Parent.{Parent, IsParentOf, rises, rising_with, IsPlaceFor, with_unmerged, without_unmerged, ListsUnmerged, HasNewUnmerged};
+ghost use Rattle.mls_leaf.specs.ParentNode.{entry_from, rising, rising_entries, parent_node, parent_node_nonempty, parent_node_faults};
 
 use crate::bytes::Bytes;
 use crate::codec::Codec;
@@ -62,7 +62,7 @@ fn read_entry(reader: &mut Reader<'_>, least: u64) -> Result<u32, LeafError>
 
 /// The rising entries that the bytes spell.
 fn rising_of(alloc: Global, mut content: Reader<'_>) -> Result<Vec<u32>, LeafError>
-    ensures read { Gives (λ v. v.items) result (run_at rising (length content.entry) 0 content.entry) }
+    ensures read { Gives (λ v. v.items) result (rising_entries content.entry) }
     ensures rises { IfOk result (λ v. rises v.items ≡ true) }
 {
     let mut entries = Vec::new(alloc);
@@ -77,7 +77,7 @@ fn rising_of(alloc: Global, mut content: Reader<'_>) -> Result<Vec<u32>, LeafErr
 
 /// Whether the bytes spell rising entries.
 fn check_rising(mut content: Reader<'_>) -> Result<(), LeafError>
-    ensures { ReadsAllPast (forgotten (run_at rising (length content.entry) 0 content.entry)) result }
+    ensures { ReadsAllPast (forgotten (rising_entries content.entry)) result }
 {
     let mut least = 0u64;
     while !content.is_empty() {
@@ -101,8 +101,7 @@ fn place_for(entries: &[u32], leaf: u32) -> Option<usize>
     requires { rises entries.now ≡ true }
     ensures { MatchOption result
         (rising_with leaf entries.now ≡ entries.now)
-        (λ place. (place ≤ length entries.now) × (rising_with leaf entries.now ≡ insert entries.now place leaf)
-        × (filter (λ u. not (u == leaf)) (rising_with leaf entries.now) ≡ entries.now)) }
+        (λ place. IsPlaceFor leaf entries.now place) }
 {
     match entries.binary_search(&leaf) {
         Ok(_) => None,
@@ -118,7 +117,7 @@ impl ParentNode {
         unmerged_leaves: Items<u32>,
     ) -> Result<ParentNode, LeafError>
         ensures { MatchResult result
-            (λ p. (p ≡ record { encryption_key = encryption_key; parent_hash = parent_hash; unmerged_leaves = unmerged_leaves }) × (rises unmerged_leaves ≡ true))
+            (λ p. IsParentOf encryption_key parent_hash unmerged_leaves p)
             (λ e. (e ≡ NotRising) × (rises unmerged_leaves ≡ false)) }
     {
         if !rises(unmerged_leaves.as_slice()) {
@@ -169,14 +168,14 @@ impl ParentNode {
         &self.unmerged_leaves
     }
 
-    /// Puts a leaf among the unmerged ones, where it stands once, and answers whether it is new there. Without memory for
-    /// it all stays as it was.
+    /// Puts a leaf among the unmerged ones, where it stands once, and answers whether it is new there. Without
+    /// memory for it all stays as it was.
     pub fn insert_unmerged(&mut self, leaf: u32) -> Result<bool, AllocError>
         ensures put { MatchResult result
-            (λ _. self.new ≡ record self.old { unmerged_leaves = rising_with leaf self.old.unmerged_leaves })
+            (λ _. self.new ≡ with_unmerged leaf self.old)
             (λ _. self.new ≡ self.old) }
-        ensures there { rising_with leaf self.old.unmerged_leaves ≡ self.old.unmerged_leaves → IsOk result }
-        ensures new { result ≡ Ok true → filter (λ u. not (u == leaf)) self.new.unmerged_leaves ≡ self.old.unmerged_leaves }
+        ensures there { ListsUnmerged leaf self.old → IsOk result }
+        ensures new { result ≡ Ok true → HasNewUnmerged leaf self.old self.new }
         ensures listed { result ≡ Ok false → self.new ≡ self.old }
     {
         let Some(place) = place_for(&self.unmerged_leaves, leaf) else {
@@ -188,7 +187,7 @@ impl ParentNode {
 
     /// Takes a leaf out of the unmerged ones, which takes no memory.
     pub fn remove_unmerged(&mut self, leaf: u32)
-        ensures { self.new ≡ record self.old { unmerged_leaves = filter (λ u. not (u == leaf)) self.old.unmerged_leaves } }
+        ensures { self.new ≡ without_unmerged leaf self.old }
     {
         self.unmerged_leaves.retain(|entry| *entry != leaf);
     }

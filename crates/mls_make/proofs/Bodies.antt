@@ -22,7 +22,7 @@ use Rattle.mls_treekem_model.specs.Whole.{keys_of_path}
 use Rattle.mls_model.specs.PublicState.{Used, provisional_context}
 use Rattle.mls_model.specs.Proposals.{is_path_required}
 use Rattle.mls_model.specs.Candidate.{leaf_key_of}
-use Rattle.mls_model.specs.Commit.{Edits, apply_proposals, apply_path_if, change_of_commit}
+use Rattle.mls_model.specs.Commit.{Edits, apply_path_if, change_after_edits}
 use Rattle.mls_model.specs.Member.{Member}
 use Rattle.mls_model.specs.Make.{MadePath, committed_leaf, new_path, no_path}
 use Rattle.mls_commit.specs.Change.{change_of}
@@ -31,10 +31,10 @@ use Rattle.mls_make.specs.CommitSteps.{path_if_needed}
 -- ---- the body of a commit whose checks have passed
 
 pub body_is : (c : Crypto) (m : Member) (used : List Used) (e : Edits) (commit : Commit) (t : Term) (said : FramedContent) (signature : List ℕ) →
-    apply_proposals c m.public m.keys.leaf used ≡ Ok e → (is_some commit.path || not (is_path_required used)) ≡ true → apply_path_if c m.public m.keys.leaf e commit.path ≡ Ok t →
-    change_of_commit c m.public m.keys.leaf used commit said signature ≡ Ok (change_of m.public e t (framed_content.spell said) signature)
-unfolding change_of_commit change_of
-body_is c m used e commit t said signature edits path tree = rw (edits, path, tree) refl
+    (is_some commit.path || not (is_path_required used)) ≡ true → apply_path_if c m.public m.keys.leaf e commit.path ≡ Ok t →
+    change_after_edits c m.public m.keys.leaf used commit said signature e ≡ Ok (change_of m.public e t (framed_content.spell said) signature)
+unfolding change_of
+body_is c m used e commit t said signature path tree = rw (path, tree) refl
 
 -- ---- a path is there where one is required (RFC 9420, 12.4)
 

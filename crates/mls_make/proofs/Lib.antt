@@ -1,7 +1,6 @@
 pub mod Bodies
 pub mod Fitting
 pub mod Lengths
-pub mod Names
 pub mod Steps
 mod Adds
 mod OwnPath

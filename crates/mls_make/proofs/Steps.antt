@@ -71,7 +71,7 @@ module _ (c : Crypto) (m : Member) (list : List ProposalOrRef) (used : List Used
         pub made_with_is : commit_from_path c m list used e made seed ≡ commit_from_change c m (said_in m list made) (signature_in c m list made) used e made seed (change_in c m list e made t)
         unfolding commit_from_path
         made_with_is =
-            rw (body_is c m used e (commit_in list made) t (said_in m list made) (signature_in c m list made) edits (path_due c m e used wants_path seed made path) tree) refl
+            rw (body_is c m used e (commit_in list made) t (said_in m list made) (signature_in c m list made) (path_due c m e used wants_path seed made path) tree) refl
 
         -- all of it in one
         pub made_is : commit_from_proposals c m list used wants_path seed ≡ commit_from_change c m (said_in m list made) (signature_in c m list made) used e made seed (change_in c m list e made t)

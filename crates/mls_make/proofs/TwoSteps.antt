@@ -23,7 +23,7 @@ use Rattle.mls_treekem_model.specs.Seeds.{seal_seed}
 use Rattle.mls_schedule.specs.Epoch.{init_secret, joiner_secret, epoch_secret, confirmation_tag}
 use Rattle.mls_model.specs.PublicState.{PublicState, Used}
 use Rattle.mls_model.specs.Proposals.{adds}
-use Rattle.mls_model.specs.Commit.{Edits, Change, apply_proposals, apply_path_if, change_of_commit, public_with}
+use Rattle.mls_model.specs.Commit.{Edits, Change, apply_proposals, apply_path_if, change_after_edits, public_with}
 use Rattle.mls_model.specs.Member.{Member, with_keys}
 use Rattle.mls_model.specs.Messages.{is_within_limit, content_by, content_signature, message_by}
 use Rattle.mls_model.specs.Make.{Made, MadePath, welcome_if, path_secret_for, path_seals}
@@ -132,13 +132,13 @@ module _ (c : Crypto) (m : Member) (list : List ProposalOrRef) (used : List Used
   unfolding commit_from_change send_commit with_welcome change_of
   of_change = sym (in_two (is_within_limit _) _ _)
 
-  in_steps : change_of_commit c m.public m.keys.leaf used (commit_of list made) said signature ≡ Ok change → commit_from_path c m list used e made seed ≡ (send_commit c m (commit_of list made) e t made.climb.secret >>= with_welcome c m used made seed)
+  in_steps : change_after_edits c m.public m.keys.leaf used (commit_of list made) said signature e ≡ Ok change → commit_from_path c m list used e made seed ≡ (send_commit c m (commit_of list made) e t made.climb.secret >>= with_welcome c m used made seed)
   unfolding commit_from_path
   in_steps is = ap (λ (r : Result Change ℕ). r >>= commit_from_change c m said signature used e made seed) is ∙ of_change
 
   pub with_steps : (wants : Bool) → apply_proposals c m.public m.keys.leaf used ≡ Ok e → path_if_needed c m e used wants seed ≡ Ok made → apply_path_if c m.public m.keys.leaf e made.path ≡ Ok t
       → commit_from_path c m list used e made seed ≡ (send_commit c m (commit_of list made) e t made.climb.secret >>= with_welcome c m used made seed)
-  with_steps wants edits path merges = in_steps (body_is c m used e (commit_of list made) t said signature edits (path_due c m e used wants seed made path) merges)
+  with_steps wants edits path merges = in_steps (body_is c m used e (commit_of list made) t said signature (path_due c m e used wants seed made path) merges)
 
   pub sending_fails : (wants : Bool) (n : ℕ) → apply_proposals c m.public m.keys.leaf used ≡ Ok e → path_if_needed c m e used wants seed ≡ Ok made → apply_path_if c m.public m.keys.leaf e made.path ≡ Ok t
       → send_commit c m (commit_of list made) e t made.climb.secret ≡ Err n → commit_from_path c m list used e made seed ≡ Err n

@@ -12,7 +12,7 @@ use Rattle.mls_suite.specs.Crypto.{Crypto}
 use Rattle.mls_schedule.specs.Epoch.{init_secret, joiner_secret, epoch_secret, confirmation_tag}
 use Rattle.mls_model.specs.PublicState.{Used}
 use Rattle.mls_model.specs.Proposals.{adds, is_path_required}
-use Rattle.mls_model.specs.Commit.{Edits, Change, apply_proposals, change_of_commit, public_with}
+use Rattle.mls_model.specs.Commit.{Edits, Change, apply_proposals, change_after_edits, public_with}
 use Rattle.mls_model.specs.Member.{Member, with_keys}
 use Rattle.mls_model.specs.Messages.{is_within_limit, content_by, content_signature, message_by}
 use Rattle.mls_model.specs.Make.{Made, MadePath, new_path, no_path, welcome_if}
@@ -42,7 +42,7 @@ commit_from_path c m list used e made seed = do
   let commit : Commit = record { proposals = list; path = made.path }
   let said = content_by m (says.Commit commit)
   let signature = content_signature c m.signing said m.public.context
-  change ← change_of_commit c m.public m.keys.leaf used commit said signature
+  change ← change_after_edits c m.public m.keys.leaf used commit said signature e
   commit_from_change c m said signature used e made seed change
 
 -- all that stands behind the list of the proposals that it uses

@@ -1,5 +1,4 @@
 pub mod Faults
-pub mod Names
 pub mod CommitSteps
 pub mod TwoSteps
 pub mod OwnPath

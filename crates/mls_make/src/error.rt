@@ -1,7 +1,8 @@
 //! What a commit isn't made for.
 
 ghost use Rattle.std.specs.Prelude.{◌≡◌};
-ghost use Rattle.mls_make.specs.Faults.{number_of, name_of};
+ghost use Rattle.mls_wire.specs.Names.{refusal_name};
+ghost use Rattle.mls_make.specs.Faults.{number_of};
 ghost use Rattle.mls_make.specs.declared.error.MakeError.TheVariants.{Leaf as in_leaf, Group as in_group, Path as in_path, Welcome as in_welcome};
 ghost use Rattle.mls_wire.specs.declared.WireError.TheVariants.{OutOfMemory};
 ghost use Rattle.mls_leaf.specs.declared.error.LeafError.TheVariants.{Wire as in_wire};
@@ -10,7 +11,7 @@ use mls_leaf::LeafError;
 use mls_public_group::GroupError;
 use mls_update_path::PathError;
 use mls_welcome::WelcomeError;
-use mls_wire::WireError;
+use mls_wire::{WireError, refusal_name};
 use std::alloc::{AllocError, AllocFailed};
 use thiserror::Error;
 
@@ -94,13 +95,8 @@ impl MakeError {
 
     /// The name of the refusal, as it is printed.
     pub fn name(self) -> &'static str
-        ensures { result.now ≡ name_of self }
+        ensures { result.now ≡ refusal_name (number_of self) }
     {
-        match self {
-            MakeError::Leaf(error) => error.name(),
-            MakeError::Group(error) => error.name(),
-            MakeError::Path(error) => error.name(),
-            MakeError::Welcome(error) => error.name(),
-        }
+        refusal_name(self.number())
     }
 }

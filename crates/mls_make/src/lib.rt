@@ -3,11 +3,9 @@
 
 mod commit_welcome;
 mod error;
-mod laws;
 mod new_commit;
 mod own_path;
 mod send_commit;
 
 pub use error::MakeError;
-pub use laws::make_names_by_number;
 pub use new_commit::{NewCommit, make_commit};

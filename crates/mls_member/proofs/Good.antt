@@ -19,7 +19,7 @@ use Rattle.mls_checks.specs.Checks.{key_package_checks}
 use Rattle.mls_tree.specs.Tree.{member_at}
 use Rattle.mls_model.specs.declared.effect.Effect.{Effect}
 use Rattle.mls_model.specs.declared.effect.Effect.TheVariants.{Advanced}
-use Rattle.mls_model.specs.Agreement.{IsGoodMember, IsGoodCandidate}
+use Rattle.mls_model.specs.MemberInvariant.{IsGoodMember, IsGoodCandidate}
 use Rattle.mls_model.specs.Candidate.{Candidate, leaf_key_of}
 use Rattle.mls_model.specs.Join.{join_verdict}
 use Rattle.mls_model.specs.Make.{commit_call}

@@ -1,6 +1,5 @@
 pub mod ContentLaws
 pub mod LengthLaws
-pub mod Names
 pub mod TwoParts
 pub mod Known
 pub mod Uses

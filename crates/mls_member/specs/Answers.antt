@@ -9,7 +9,7 @@ use Rattle.mls_suite.specs.Crypto.{Crypto}
 use Rattle.mls_model.specs.declared.item.Item.{Item}
 use Rattle.mls_model.specs.declared.item.Item.TheVariants as item
 use Rattle.mls_tree.specs.Refusals.{RefusesOutright}
-use Rattle.mls_model.specs.Agreement.{IsGoodCandidate, IsGoodMember}
+use Rattle.mls_model.specs.MemberInvariant.{IsGoodCandidate, IsGoodMember}
 use Rattle.mls_model.specs.Candidate.{Candidate}
 use Rattle.mls_model.specs.Join as model
 use Rattle.mls_model.specs.Make.{listed_of, commit_call}

@@ -1,13 +1,13 @@
--- The numbers and names of these refusals, and what calls promise by these numbers.
-use Rattle.std.specs.Prelude.{ℕ, List, Result, codes}
+-- The numbers of these refusals, and what calls promise by these numbers.
+use Rattle.std.specs.Prelude.{ℕ, Result}
 use Rattle.mls_wire.specs.Checks.{Answers, DoesAs}
-use Rattle.mls_leaf.specs.Faults.{number_of as number_of_leaf, name_of as name_of_leaf}
-use Rattle.mls_public_group.specs.Faults.{number_of as number_of_group, name_of as name_of_group}
-use Rattle.mls_commit.specs.Faults.{number_of as number_of_commit, name_of as name_of_commit}
-use Rattle.mls_treekem.specs.Faults.{number_of as number_of_keys, name_of as name_of_keys}
-use Rattle.mls_candidate.specs.Faults.{number_of as number_of_candidate, name_of as name_of_candidate}
-use Rattle.mls_join.specs.Faults.{number_of as number_of_join, name_of as name_of_join}
-use Rattle.mls_make.specs.Faults.{number_of as number_of_make, name_of as name_of_make}
+use Rattle.mls_leaf.specs.Faults.{number_of as number_of_leaf}
+use Rattle.mls_public_group.specs.Faults.{number_of as number_of_group}
+use Rattle.mls_commit.specs.Faults.{number_of as number_of_commit}
+use Rattle.mls_treekem.specs.Faults.{number_of as number_of_keys}
+use Rattle.mls_candidate.specs.Faults.{number_of as number_of_candidate}
+use Rattle.mls_join.specs.Faults.{number_of as number_of_join}
+use Rattle.mls_make.specs.Faults.{number_of as number_of_make}
 use Rattle.mls_member.specs.declared.error.Refusal.{Refusal}
 use Rattle.mls_member.specs.declared.error.Refusal.TheVariants.{Leaf, Group, Commit, Keys, Candidate, Join, Make, Gone, NotPublicMessage, WrongGroup, WrongEpoch, SenderNotMember, NotHandshake, BadMembershipTag, BadSignature, OwnUnknown, ReferenceTaken, UnknownReference, BadConfirmationTag, EpochEnd, PendingCommit}
 
@@ -34,30 +34,6 @@ number_of UnknownReference = 60
 number_of BadConfirmationTag = 65
 number_of EpochEnd = 66
 number_of PendingCommit = 67
-
--- the name, as it is printed
-abbrev pub name_of : Refusal → List ℕ
-name_of (Leaf e) = name_of_leaf e
-name_of (Group e) = name_of_group e
-name_of (Commit e) = name_of_commit e
-name_of (Keys e) = name_of_keys e
-name_of (Candidate e) = name_of_candidate e
-name_of (Join e) = name_of_join e
-name_of (Make e) = name_of_make e
-name_of Gone = codes "Gone"
-name_of NotPublicMessage = codes "NotPublicMessage"
-name_of WrongGroup = codes "WrongGroup"
-name_of WrongEpoch = codes "WrongEpoch"
-name_of SenderNotMember = codes "SenderNotMember"
-name_of NotHandshake = codes "NotHandshake"
-name_of BadMembershipTag = codes "BadMembershipTag"
-name_of BadSignature = codes "BadSignature"
-name_of OwnUnknown = codes "OwnUnknown"
-name_of ReferenceTaken = codes "ReferenceTaken"
-name_of UnknownReference = codes "UnknownReference"
-name_of BadConfirmationTag = codes "BadConfirmationTag"
-name_of EpochEnd = codes "EpochEnd"
-name_of PendingCommit = codes "PendingCommit"
 
 -- A call answers what the definition does, or refuses with its number. Where memory was refused it says nothing.
 abbrev pub Gives : {A : Type 0} → Result A ℕ → Result A Refusal → Type 0

@@ -28,7 +28,7 @@ use Rattle.mls_model.specs.declared.effect.Effect.TheVariants.{Proposed, Advance
 use Rattle.mls_model.specs.Proposals.{proposal_checks, remove_in}
 use Rattle.mls_model.specs.PublicState.{Used}
 use Rattle.mls_model.specs.Commit.{Change, change_of_commit, public_with}
-use Rattle.mls_model.specs.Member.{KeptProposal, Member, find_proposals, named_proposals, first_own_key, follow_edits, with_kept, with_epoch, after_removal}
+use Rattle.mls_model.specs.Member.{KeptProposal, Member, find_proposals, keys_after_edits, with_kept, with_epoch, after_removal}
 use Rattle.mls_model.specs.Messages.{decode_message, public_in, sender_leaf, is_handshake, is_content_signed, content_tag}
 use Rattle.mls_model.specs.Verdict.{is_kept, framing_checks, content_verdict, open_path_secret, enter_epoch}
 use Rattle.mls_public_group.specs.Short.{IsBelow}
@@ -107,7 +107,7 @@ check_commit c m committer commit said signature = do
 
 -- the private keys after a commit's edits
 abbrev pub edited_keys : Member → Commit → Change → PrivateKeys
-edited_keys m commit change = follow_edits (first_own_key (named_proposals m.kept commit.proposals)) change.edits.tree m.keys
+edited_keys m commit change = keys_after_edits m commit.proposals change.edits.tree
 
 -- the member after a commit whose change is known (RFC 9420, 12.4.2)
 unfoldable pub after_change : Crypto → Member → ℕ → Commit → List ℕ → Change × Bool → Result (Effect × Member) ℕ

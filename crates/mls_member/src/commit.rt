@@ -4,7 +4,7 @@ ghost use Rattle.std.specs.Prelude.{◌≡◌, ◌+◌, ◌<◌, ◌^◌, true, 
 ghost use Rattle.std.specs.List.{AllByRecursion};
 ghost use Rattle.mls_theorems.specs.SpelledParts.{FullFits};
 ghost use Rattle.mls_make.specs.CommitCall.{made_as, AreShortUsed};
-ghost use Rattle.mls_model.specs.Agreement.{IsGoodMember};
+ghost use Rattle.mls_model.specs.MemberInvariant.{IsGoodMember};
 ghost use Rattle.mls_model.specs.Make.{listed_of};
 ghost use Rattle.mls_member.specs.Answers.{AreShortItems, Commits, CommitsItems, Finds, MadeReaches, MakesCommit, RefusesLast, RefusesPending};
 ghost use Rattle.mls_member.specs.Committing.{keep_pending};

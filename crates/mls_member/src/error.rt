@@ -1,7 +1,8 @@
 //! What a member refuses.
 
 ghost use Rattle.std.specs.Prelude.{◌≡◌};
-ghost use Rattle.mls_member.specs.Faults.{number_of, name_of};
+ghost use Rattle.mls_wire.specs.Names.{refusal_name};
+ghost use Rattle.mls_member.specs.Faults.{number_of};
 ghost use Rattle.mls_member.specs.declared.error.Refusal.TheVariants.{Leaf as in_leaf, Group as in_group, Commit as in_commit, Keys as in_keys, Candidate as in_candidate, Join as in_join, Make as in_make};
 ghost use Rattle.mls_wire.specs.declared.WireError.TheVariants.{OutOfMemory};
 ghost use Rattle.mls_leaf.specs.declared.error.LeafError.TheVariants.{Wire as in_wire};
@@ -13,7 +14,7 @@ use mls_leaf::LeafError;
 use mls_make::MakeError;
 use mls_public_group::GroupError;
 use mls_treekem::TreeKemError;
-use mls_wire::WireError;
+use mls_wire::{WireError, refusal_name};
 use std::alloc::{AllocError, AllocFailed};
 use thiserror::Error;
 
@@ -189,30 +190,8 @@ impl Refusal {
 
     /// The name of the refusal, as it is printed.
     pub fn name(self) -> &'static str
-        ensures { result.now ≡ name_of self }
+        ensures { result.now ≡ refusal_name (number_of self) }
     {
-        match self {
-            Refusal::Leaf(error) => error.name(),
-            Refusal::Group(error) => error.name(),
-            Refusal::Commit(error) => error.name(),
-            Refusal::Keys(error) => error.name(),
-            Refusal::Candidate(error) => error.name(),
-            Refusal::Join(error) => error.name(),
-            Refusal::Make(error) => error.name(),
-            Refusal::Gone => "Gone",
-            Refusal::NotPublicMessage => "NotPublicMessage",
-            Refusal::WrongGroup => "WrongGroup",
-            Refusal::WrongEpoch => "WrongEpoch",
-            Refusal::SenderNotMember => "SenderNotMember",
-            Refusal::NotHandshake => "NotHandshake",
-            Refusal::BadMembershipTag => "BadMembershipTag",
-            Refusal::BadSignature => "BadSignature",
-            Refusal::OwnUnknown => "OwnUnknown",
-            Refusal::ReferenceTaken => "ReferenceTaken",
-            Refusal::UnknownReference => "UnknownReference",
-            Refusal::BadConfirmationTag => "BadConfirmationTag",
-            Refusal::EpochEnd => "EpochEnd",
-            Refusal::PendingCommit => "PendingCommit",
-        }
+        refusal_name(self.number())
     }
 }

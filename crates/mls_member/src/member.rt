@@ -7,7 +7,7 @@ ghost use Rattle.mls_types.specs.GroupInfo.{ratchet_tree};
 ghost use Rattle.mls_leaf.specs.Faults.{Encodes};
 ghost use Rattle.mls_tree_model.specs.Arrays.{to_nodes};
 ghost use Rattle.mls_treekem_model.specs.Height.{ArePairs};
-ghost use Rattle.mls_model.specs.Agreement.{IsGoodMember};
+ghost use Rattle.mls_model.specs.MemberInvariant.{IsGoodMember};
 ghost use Rattle.mls_model.specs.Member as model;
 ghost use Rattle.mls_member.specs.Answers.{kept_message, pending_secret};
 

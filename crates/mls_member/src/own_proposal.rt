@@ -10,7 +10,7 @@ ghost use Rattle.mls_checks.specs.Checks.{key_package_checks};
 ghost use Rattle.mls_checks.specs.Short.{IsShort};
 ghost use Rattle.mls_public_group.specs.Faults.{number_of as number_of_group, Gives, Passes};
 ghost use Rattle.mls_public_group.specs.Short.{IsBelow};
-ghost use Rattle.mls_model.specs.Agreement.{IsGoodMember};
+ghost use Rattle.mls_model.specs.MemberInvariant.{IsGoodMember};
 ghost use Rattle.mls_member.specs.Proposing.{updated_answer, ProposesAdd, ProposesRemove, ProposesUpdate, RefusesNonMember, own_leaf_check};
 ghost use Rattle.mls_member.specs.declared.error.Refusal.TheVariants.{Gone};
 

@@ -1,7 +1,7 @@
 //! Processing a message.
 
 ghost use Rattle.std.specs.Prelude.{◌≡◌, true, Err, is_some};
-ghost use Rattle.mls_model.specs.Agreement.{IsGoodMember};
+ghost use Rattle.mls_model.specs.MemberInvariant.{IsGoodMember};
 ghost use Rattle.mls_model.specs.Verdict.{verdict, own_pending};
 ghost use Rattle.mls_member.specs.Faults.{Does};
 ghost use Rattle.mls_member.specs.declared.error.Refusal.TheVariants.{Gone};

@@ -30,16 +30,16 @@ use Rattle.mls_schedule.specs.Epoch.{init_secret, joiner_secret, epoch_secret, c
 use Rattle.mls_tree.specs.Paths.{merge_answer}
 use Rattle.mls_model.specs.PublicState.{provisional_context}
 use Rattle.mls_model.specs.Proposals.{proposal_checks, adds, is_path_required}
-use Rattle.mls_model.specs.Commit.{Edits, Change, apply_proposals, change_of_commit, public_with}
+use Rattle.mls_model.specs.Commit.{Edits, Change, apply_proposals, change_after_edits, public_with}
 use Rattle.mls_model.specs.Member.{KeptProposal, Member, kept_under, find_proposals}
 use Rattle.mls_model.specs.Messages.{are_bytes, is_within_limit, content_by, content_signature, message_by, reference_of}
 use Rattle.mls_model.specs.Candidate.{leaf_key_of, unsigned_package, signed_package, package_message, first_context, new_candidate, create_group}
 use Rattle.mls_model.specs.Propose.{proposal_by, keep_once, updated_leaf, make_proposal, propose_add, propose_update, propose_remove}
 use Rattle.mls_model.specs.Welcome.{unsigned_info, signed_info, secrets_with, entry_for, entries_for, welcome_message}
 use Rattle.mls_model.specs.Make.{MadePath, committed_leaf, new_path, no_path, path_secret_for, path_seals, welcome_if, make}
-use Rattle.mls_model.specs.Refusals.{proposal_numbers, body_numbers, proposed_numbers, make_numbers, AddNumbers, UpdateNumbers, RemoveNumbers, MakeNumbers, CandidateNumbers, CreateNumbers}
+use Rattle.mls_model.specs.Refusals.{add_numbers, update_numbers, remove_numbers, body_numbers, propose_add_numbers, propose_update_numbers, propose_remove_numbers, make_numbers, AddNumbers, UpdateNumbers, RemoveNumbers, MakeNumbers, CandidateNumbers, CreateNumbers}
 use Rattle.mls_model.proofs.RefusedSteps.{is_one, widen, bind_refused, then_refused, test_refused, last_refused, given_refused, if_refused}
-use Rattle.mls_model.proofs.RefusalLaws.{proposal_refused, replaced_refused, merge_refused, edited_refused, body_refused}
+use Rattle.mls_model.proofs.RefusalLaws.{add_refused, update_refused, remove_refused, replaced_refused, merge_refused, edited_refused, after_edits_refused}
 use Rattle.mls_model.proofs.VerdictRefusals.{used_refused}
 
 limit_refused : (bytes : List ℕ) (n : ℕ) → is_within_limit bytes ≡ Err n → 6 ≡ n
@@ -52,30 +52,35 @@ kept_refused : (m : Member) (new : KeptProposal) (o : Option KeptProposal) (n : 
 kept_refused m new None n h = absurd cc
 kept_refused m new (Some old) n h = test_refused 49 (bytes_eq old.message new.message) _ n h (λ e. e) (λ never. absurd cc)
 
-proposed_refused : (c : Crypto) (m : Member) (said : Proposal) (own : Option (List ℕ)) (n : ℕ) → make_proposal c m said own ≡ Err n → has proposed_numbers n ≡ true
-unfolding make_proposal has
-proposed_refused c m said own n h =
+proposed_refused : (c : Crypto) (m : Member) (said : Proposal) (own : Option (List ℕ)) (ns : List ℕ) (n : ℕ) → has ns 6 ≡ true → has ns 40 ≡ true → has ns 49 ≡ true →
+    (proposal_checks c m.public m.keys.leaf said ≡ Err n → has ns n ≡ true) → make_proposal c m said own ≡ Err n → has ns n ≡ true
+unfolding make_proposal
+proposed_refused c m said own ns n long gone taken checks h =
     let v = proposal_by c m said in
     let new : KeptProposal = record { reference = reference_of v; message = message_by m v; proposal = said; sender = m.keys.leaf; own_key = own } in
-    test_refused 40 (not m.gone) _ n h (is_one proposed_numbers 40 n refl) (λ h1.
-    then_refused (proposal_checks c m.public m.keys.leaf said) _ n h1 (λ e. widen proposal_numbers proposed_numbers n refl (proposal_refused c m.public m.keys.leaf said n e)) (λ h2.
-    then_refused (is_within_limit (message_by m v)) _ n h2 (λ e. is_one proposed_numbers 6 n refl (limit_refused (message_by m v) n e)) (λ h3.
-    is_one proposed_numbers 49 n refl (kept_refused m new (kept_under m.kept (reference_of v)) n h3))))
+    test_refused 40 (not m.gone) _ n h (is_one ns 40 n gone) (λ h1.
+    then_refused (proposal_checks c m.public m.keys.leaf said) _ n h1 checks (λ h2.
+    then_refused (is_within_limit (message_by m v)) _ n h2 (λ e. is_one ns 6 n long (limit_refused (message_by m v) n e)) (λ h3.
+    is_one ns 49 n taken (kept_refused m new (kept_under m.kept (reference_of v)) n h3))))
 
-pub add_refused : AddNumbers
-unfolding propose_add
-add_refused c m offered n h = proposed_refused c m (proposal.Add offered) None n h
+pub propose_add_refused : AddNumbers
+unfolding propose_add has
+propose_add_refused c m offered n h =
+    proposed_refused c m (proposal.Add offered) None propose_add_numbers n refl refl refl (λ e. widen add_numbers propose_add_numbers n refl (add_refused c m.public m.keys.leaf offered n e)) h
 
-pub update_refused : UpdateNumbers
+pub propose_update_refused : UpdateNumbers
 unfolding propose_update has
-update_refused c m seed n h =
-    test_refused 40 (not m.gone) _ n h (is_one proposed_numbers 40 n refl) (λ h1.
-    bind_refused (member_at m.public.tree m.keys.leaf) _ n h1 (λ e. is_one proposed_numbers 22 n refl (given_refused 22 (leaf_of m.public.tree m.keys.leaf) n e)) (λ old h2.
-    proposed_refused c m (proposal.Update (updated_leaf c m old seed)) (Some (leaf_key_of c seed)) n h2))
+propose_update_refused c m seed n h =
+    let ns : List ℕ = propose_update_numbers in
+    test_refused 40 (not m.gone) _ n h (is_one ns 40 n refl) (λ h1.
+    bind_refused (member_at m.public.tree m.keys.leaf) _ n h1 (λ e. is_one ns 22 n refl (given_refused 22 (leaf_of m.public.tree m.keys.leaf) n e)) (λ old h2.
+    proposed_refused c m (proposal.Update (updated_leaf c m old seed)) (Some (leaf_key_of c seed)) ns n refl refl refl
+    (λ e. widen update_numbers ns n refl (update_refused c m.public m.keys.leaf (updated_leaf c m old seed) n e)) h2))
 
-pub remove_refused : RemoveNumbers
-unfolding propose_remove
-remove_refused c m leaf n h = proposed_refused c m (proposal.Remove leaf) None n h
+pub propose_remove_refused : RemoveNumbers
+unfolding propose_remove has
+propose_remove_refused c m leaf n h =
+    proposed_refused c m (proposal.Remove leaf) None propose_remove_numbers n refl refl refl (λ e. widen remove_numbers propose_remove_numbers n refl (remove_refused c m.public m.keys.leaf leaf n e)) h
 
 -- ---- candidates and groups
 
@@ -104,7 +109,7 @@ path_refused c m e seed n h =
     let keys = keys_of_path c e.tree m.keys.leaf (path_seed seed) in
     bind_refused (member_at m.public.tree m.keys.leaf) _ n h (λ g. is_one body_numbers 22 n refl (given_refused 22 (leaf_of m.public.tree m.keys.leaf) n g)) (λ old h1.
     then_refused (replaced_checks c (committed_leaf c m e old seed) old replaced_for.Commit m.public.context.group_id m.keys.leaf) _ n h1
-    (λ g. widen proposal_numbers body_numbers n refl (replaced_refused c (committed_leaf c m e old seed) old replaced_for.Commit m.public.context.group_id m.keys.leaf n g)) (λ h2.
+    (λ g. widen update_numbers body_numbers n refl (replaced_refused c (committed_leaf c m e old seed) old replaced_for.Commit m.public.context.group_id m.keys.leaf n g)) (λ h2.
     bind_refused (merge_answer e.tree m.keys.leaf (committed_leaf c m e old seed) keys) _ n h2 (merge_refused e.tree m.keys.leaf (committed_leaf c m e old seed) keys n) (λ tree h3.
     let context = group_context.spell (provisional_context m.public.context tree) in
     bind_refused (sealed_path c context e.added (seal_seed seed) e.tree m.keys.leaf (path_seed seed)) _ n h3
@@ -148,8 +153,8 @@ make_refused c m list wants_path seed n h =
     let commit : Commit = record { proposals = list; path = made.path } in
     let said = content_by m (says.Commit commit) in
     let signature = content_signature c m.signing said m.public.context in
-    bind_refused (change_of_commit c m.public m.keys.leaf used commit said signature) _ n h6
-    (λ g. widen body_numbers make_numbers n refl (body_refused c m.public m.keys.leaf used commit said signature n g)) (λ change h7.
+    bind_refused (change_after_edits c m.public m.keys.leaf used commit said signature e) _ n h6
+    (λ g. widen body_numbers make_numbers n refl (after_edits_refused c m.public m.keys.leaf used commit said signature e n g)) (λ change h7.
     let joiner = joiner_secret (init_secret m.epoch) made.climb.secret (group_context.spell change.context) in
     let epoch = epoch_secret joiner (group_context.spell change.context) in
     let tag = confirmation_tag epoch change.context.confirmed_transcript_hash in

@@ -28,40 +28,52 @@ use Rattle.mls_tree.specs.Tree.{max_leaves, member_at, add_answer, update_answer
 use Rattle.mls_tree.specs.Paths.{path_checks, merge_checks, merge_answer}
 use Rattle.mls_model.specs.PublicState.{PublicState, Used}
 use Rattle.mls_model.specs.Proposals.{update_checks, proposal_checks, full_checks, updates, updated_leaves, removed_leaves, adds, package_reference, is_path_required}
-use Rattle.mls_model.specs.Commit.{Edits, apply_updates, apply_removes, apply_adds, apply_proposals, node_keys, cipher_counts, due_counts, apply_update_path, apply_path_if, change_of_commit}
-use Rattle.mls_model.specs.Refusals.{proposal_numbers, body_numbers}
+use Rattle.mls_model.specs.Commit.{Edits, apply_updates, apply_removes, apply_adds, apply_proposals, node_keys, cipher_counts, due_counts, apply_update_path, apply_path_if, change_after_edits, change_of_commit}
+use Rattle.mls_model.specs.Refusals.{add_numbers, update_numbers, remove_numbers, proposal_numbers, body_numbers}
 use Rattle.mls_model.proofs.RefusedSteps.{is_one, widen, bind_refused, then_refused, test_refused, last_refused, given_refused, if_refused}
 
 -- ---- proposals
 
-package_refused : (c : Crypto) (p : KeyPackage) (n : ℕ) → key_package_checks c p ≡ Err n → has proposal_numbers n ≡ true
+package_refused : (c : Crypto) (p : KeyPackage) (n : ℕ) → key_package_checks c p ≡ Err n → has add_numbers n ≡ true
 unfolding key_package_checks has
 package_refused c p n h =
-    test_refused 50 (is_of_key_package p.leaf_node.source) _ n h (is_one proposal_numbers 50 n refl) (λ h1.
-    test_refused 51 (is_signed c [] 0 p.leaf_node) _ n h1 (is_one proposal_numbers 51 n refl) (λ h2.
-    test_refused 52 (is_capable c.number p.leaf_node) _ n h2 (is_one proposal_numbers 52 n refl) (λ h3.
-    test_refused 55 (p.cipher_suite == c.number) _ n h3 (is_one proposal_numbers 55 n refl) (λ h4.
-    test_refused 56 (is_package_signed c p) _ n h4 (is_one proposal_numbers 56 n refl) (λ h5.
-    test_refused 57 (not (bytes_eq p.init_key p.leaf_node.encryption_key)) _ n h5 (is_one proposal_numbers 57 n refl) (λ h6.
-    is_one proposal_numbers 36 n refl (last_refused 36 (c.key_ok p.init_key && c.key_ok p.leaf_node.encryption_key) n h6)))))))
+    test_refused 50 (is_of_key_package p.leaf_node.source) _ n h (is_one add_numbers 50 n refl) (λ h1.
+    test_refused 51 (is_signed c [] 0 p.leaf_node) _ n h1 (is_one add_numbers 51 n refl) (λ h2.
+    test_refused 52 (is_capable c.number p.leaf_node) _ n h2 (is_one add_numbers 52 n refl) (λ h3.
+    test_refused 55 (p.cipher_suite == c.number) _ n h3 (is_one add_numbers 55 n refl) (λ h4.
+    test_refused 56 (is_package_signed c p) _ n h4 (is_one add_numbers 56 n refl) (λ h5.
+    test_refused 57 (not (bytes_eq p.init_key p.leaf_node.encryption_key)) _ n h5 (is_one add_numbers 57 n refl) (λ h6.
+    is_one add_numbers 36 n refl (last_refused 36 (c.key_ok p.init_key && c.key_ok p.leaf_node.encryption_key) n h6)))))))
 
-pub replaced_refused : (c : Crypto) (new old : LeafNode) (source : Source) (group : List ℕ) (i n : ℕ) → replaced_checks c new old source group i ≡ Err n → has proposal_numbers n ≡ true
+pub replaced_refused : (c : Crypto) (new old : LeafNode) (source : Source) (group : List ℕ) (i n : ℕ) → replaced_checks c new old source group i ≡ Err n → has update_numbers n ≡ true
 unfolding replaced_checks has
 replaced_refused c new old source group i n h =
-    test_refused 50 (is_of_source source new.source) _ n h (is_one proposal_numbers 50 n refl) (λ h1.
-    test_refused 51 (is_signed c group i new) _ n h1 (is_one proposal_numbers 51 n refl) (λ h2.
-    test_refused 52 (is_capable c.number new) _ n h2 (is_one proposal_numbers 52 n refl) (λ h3.
-    test_refused 53 (has_identity_of old new) _ n h3 (is_one proposal_numbers 53 n refl) (λ h4.
-    is_one proposal_numbers 54 n refl (last_refused 54 (not (bytes_eq new.encryption_key old.encryption_key)) n h4)))))
+    test_refused 50 (is_of_source source new.source) _ n h (is_one update_numbers 50 n refl) (λ h1.
+    test_refused 51 (is_signed c group i new) _ n h1 (is_one update_numbers 51 n refl) (λ h2.
+    test_refused 52 (is_capable c.number new) _ n h2 (is_one update_numbers 52 n refl) (λ h3.
+    test_refused 53 (has_identity_of old new) _ n h3 (is_one update_numbers 53 n refl) (λ h4.
+    is_one update_numbers 54 n refl (last_refused 54 (not (bytes_eq new.encryption_key old.encryption_key)) n h4)))))
+
+pub add_refused : (c : Crypto) (p : PublicState) (sender : ℕ) (offered : KeyPackage) (n : ℕ) → proposal_checks c p sender (proposal.Add offered) ≡ Err n → has add_numbers n ≡ true
+unfolding proposal_checks
+add_refused c p sender offered n h = package_refused c offered n h
+
+pub update_refused : (c : Crypto) (p : PublicState) (sender : ℕ) (leaf : LeafNode) (n : ℕ) → proposal_checks c p sender (proposal.Update leaf) ≡ Err n → has update_numbers n ≡ true
+unfolding proposal_checks update_checks has
+update_refused c p sender leaf n h =
+    bind_refused (member_at p.tree sender) _ n h (λ e. is_one update_numbers 22 n refl (given_refused 22 (leaf_of p.tree sender) n e)) (λ old h1.
+    then_refused (replaced_checks c leaf old leaf_node_source.Update p.context.group_id sender) _ n h1 (replaced_refused c leaf old leaf_node_source.Update p.context.group_id sender n) (λ h2.
+    is_one update_numbers 36 n refl (last_refused 36 (c.key_ok leaf.encryption_key) n h2)))
+
+pub remove_refused : (c : Crypto) (p : PublicState) (sender leaf n : ℕ) → proposal_checks c p sender (proposal.Remove leaf) ≡ Err n → has remove_numbers n ≡ true
+unfolding proposal_checks has
+remove_refused c p sender leaf n h = is_one remove_numbers 22 n refl (last_refused 22 (is_some (leaf_of p.tree leaf)) n h)
 
 pub proposal_refused : (c : Crypto) (p : PublicState) (sender : ℕ) (said : Proposal) (n : ℕ) → proposal_checks c p sender said ≡ Err n → has proposal_numbers n ≡ true
-unfolding proposal_checks update_checks has
-proposal_refused c p sender (proposal.Add offered) n h = package_refused c offered n h
-proposal_refused c p sender (proposal.Update leaf) n h =
-    bind_refused (member_at p.tree sender) _ n h (λ e. is_one proposal_numbers 22 n refl (given_refused 22 (leaf_of p.tree sender) n e)) (λ old h1.
-    then_refused (replaced_checks c leaf old leaf_node_source.Update p.context.group_id sender) _ n h1 (replaced_refused c leaf old leaf_node_source.Update p.context.group_id sender n) (λ h2.
-    is_one proposal_numbers 36 n refl (last_refused 36 (c.key_ok leaf.encryption_key) n h2)))
-proposal_refused c p sender (proposal.Remove leaf) n h = is_one proposal_numbers 22 n refl (last_refused 22 (is_some (leaf_of p.tree leaf)) n h)
+unfolding has
+proposal_refused c p sender (proposal.Add offered) n h = widen add_numbers proposal_numbers n refl (add_refused c p sender offered n h)
+proposal_refused c p sender (proposal.Update leaf) n h = widen update_numbers proposal_numbers n refl (update_refused c p sender leaf n h)
+proposal_refused c p sender (proposal.Remove leaf) n h = widen remove_numbers proposal_numbers n refl (remove_refused c p sender leaf n h)
 
 -- ---- all that is public of a commit
 
@@ -124,15 +136,20 @@ merged_refused c p committer e None n h = absurd cc
 merged_refused c p committer e (Some path) n h =
     bind_refused (member_at p.tree committer) _ n h (λ g. is_one body_numbers 22 n refl (given_refused 22 (leaf_of p.tree committer) n g)) (λ old h1.
     then_refused (replaced_checks c path.leaf_node old leaf_node_source.Commit p.context.group_id committer) _ n h1
-    (λ g. in_body n (replaced_refused c path.leaf_node old leaf_node_source.Commit p.context.group_id committer n g)) (λ h2.
+    (λ g. widen update_numbers body_numbers n refl (replaced_refused c path.leaf_node old leaf_node_source.Commit p.context.group_id committer n g)) (λ h2.
     test_refused 30 (length path.nodes == path_length 0 e.tree committer) _ n h2 (is_one body_numbers 30 n refl) (λ h3.
     test_refused 31 (bytes_eq (cipher_counts path) (due_counts e committer)) _ n h3 (is_one body_numbers 31 n refl) (λ h4.
     test_refused 36 (list_all c.key_ok (path.leaf_node.encryption_key ∷ node_keys path)) _ n h4 (is_one body_numbers 36 n refl) (λ h5. merge_refused e.tree committer path.leaf_node (node_keys path) n h5)))))
 
+pub after_edits_refused : (c : Crypto) (p : PublicState) (committer : ℕ) (used : List Used) (commit : Commit) (said : FramedContent) (signature : List ℕ) (e : Edits) (n : ℕ) →
+    change_after_edits c p committer used commit said signature e ≡ Err n → has body_numbers n ≡ true
+unfolding has
+after_edits_refused c p committer used commit said signature e n h =
+    test_refused 64 (is_some commit.path || not (is_path_required used)) _ n h (is_one body_numbers 64 n refl) (λ h1.
+    bind_refused (apply_path_if c p committer e commit.path) _ n h1 (merged_refused c p committer e commit.path n) (λ t never. absurd cc))
+
 pub body_refused : (c : Crypto) (p : PublicState) (committer : ℕ) (used : List Used) (commit : Commit) (said : FramedContent) (signature : List ℕ) (n : ℕ) →
     change_of_commit c p committer used commit said signature ≡ Err n → has body_numbers n ≡ true
-unfolding change_of_commit has
+unfolding change_of_commit
 body_refused c p committer used commit said signature n h =
-    bind_refused (apply_proposals c p committer used) _ n h (edited_refused c p committer used n) (λ e h1.
-    test_refused 64 (is_some commit.path || not (is_path_required used)) _ n h1 (is_one body_numbers 64 n refl) (λ h2.
-    bind_refused (apply_path_if c p committer e commit.path) _ n h2 (merged_refused c p committer e commit.path n) (λ t never. absurd cc)))
+    bind_refused (apply_proposals c p committer used) _ n h (edited_refused c p committer used n) (λ e h1. after_edits_refused c p committer used commit said signature e n h1)

@@ -3,7 +3,7 @@ use Rattle.std.proofs.Common.{◌≡◌, ℕ, true, List, refl}
 use Rattle.std.specs.Str.{bytes_eq}
 use Rattle.std.proofs.lemmas.Slice.Eq.{bytes_eq-Decides}
 use Rattle.mls_leaf.specs.KeyPackage.{key_package}
-use Rattle.mls_model.specs.Journal.{are_same_bytes, are_same_entries, reached_epochs, is_homemade_from, is_homemade}
+use Rattle.mls_model.specs.HomemadeTest.{are_same_bytes, are_same_entries, reached_epochs, is_homemade_from, is_homemade}
 use Rattle.mls_model.specs.World.{empty_world, entrant_at, package_of, commit_for_joiner}
 use Rattle.mls_model.specs.WorldCalls.{create_answer, propose_add_answer, propose_update_answer, drop_answer, deliver_answer, join_answer}
 use Rattle.mls_model.specs.Run.{answer, step, replies}

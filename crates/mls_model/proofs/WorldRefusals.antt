@@ -26,10 +26,10 @@ use Rattle.mls_model.specs.Join.{join_verdict}
 use Rattle.mls_model.specs.World.{World, Entrant, seat_at, entrant_at, bytes_of, package_in, proposal_in, package_of, proposal_of, item_of, items_of}
 use Rattle.mls_model.specs.WorldCalls.{candidate_answer, create_answer, propose_add_answer, propose_update_answer, propose_remove_answer, commit_answer, drop_answer, deliver_answer, join_answer}
 use Rattle.mls_model.specs.Run.{answer}
-use Rattle.mls_model.specs.Refusals.{verdict_numbers, proposed_numbers, make_numbers, join_numbers}
+use Rattle.mls_model.specs.Refusals.{verdict_numbers, propose_add_numbers, propose_update_numbers, propose_remove_numbers, make_numbers, join_numbers}
 use Rattle.mls_model.proofs.RefusedSteps.{is_one, widen, bind_refused, test_refused, given_refused}
 use Rattle.mls_model.proofs.VerdictRefusals.{verdict_refused}
-use Rattle.mls_model.proofs.CallRefusals.{add_refused, update_refused, remove_refused, make_refused, candidate_refused, create_refused}
+use Rattle.mls_model.proofs.CallRefusals.{propose_add_refused, propose_update_refused, propose_remove_refused, make_refused, candidate_refused, create_refused}
 use Rattle.mls_model.proofs.JoinRefusals.{join_refused}
 use Rattle.mls_model.specs.WorldRefusals.{EventNumbers}
 
@@ -102,18 +102,18 @@ event_refused c w (event.Create k group seed) n h =
     bind_refused (entrant_at w k) _ n h (entrant_refused ns w k n refl refl) (λ e h1.
     bind_refused (create_group c e.candidate group.items seed) _ n h1 (λ f. widen (6 ∷ []) ns n refl (create_refused c e.candidate group.items seed n f)) (λ m never. absurd cc))
 event_refused c w (event.ProposeAdd k source) n h =
-    let ns : List ℕ = 90 ∷ 94 ∷ 95 ∷ proposed_numbers in
+    let ns : List ℕ = 90 ∷ 94 ∷ 95 ∷ propose_add_numbers in
     bind_refused (seat_at w k) _ n h (λ e. or_read ns 90 n refl (seat_refused w k n e)) (λ s h1.
     bind_refused (package_of w source) _ n h1 (package_refused ns w source n refl refl) (λ offered h2.
-    bind_refused (propose_add c s.member offered) _ n h2 (λ e. among proposed_numbers ns n refl (add_refused c s.member offered n e)) (λ x never. absurd cc)))
+    bind_refused (propose_add c s.member offered) _ n h2 (λ e. among propose_add_numbers ns n refl (propose_add_refused c s.member offered n e)) (λ x never. absurd cc)))
 event_refused c w (event.ProposeUpdate k seed) n h =
-    let ns : List ℕ = 90 ∷ proposed_numbers in
+    let ns : List ℕ = 90 ∷ propose_update_numbers in
     bind_refused (seat_at w k) _ n h (λ e. is_one ns 90 n refl (seat_refused w k n e)) (λ s h1.
-    bind_refused (propose_update c s.member seed) _ n h1 (λ e. widen proposed_numbers ns n refl (update_refused c s.member seed n e)) (λ x never. absurd cc))
+    bind_refused (propose_update c s.member seed) _ n h1 (λ e. widen propose_update_numbers ns n refl (propose_update_refused c s.member seed n e)) (λ x never. absurd cc))
 event_refused c w (event.ProposeRemove k leaf) n h =
-    let ns : List ℕ = 90 ∷ proposed_numbers in
+    let ns : List ℕ = 90 ∷ propose_remove_numbers in
     bind_refused (seat_at w k) _ n h (λ e. is_one ns 90 n refl (seat_refused w k n e)) (λ s h1.
-    bind_refused (propose_remove c s.member leaf) _ n h1 (λ e. widen proposed_numbers ns n refl (remove_refused c s.member leaf n e)) (λ x never. absurd cc))
+    bind_refused (propose_remove c s.member leaf) _ n h1 (λ e. widen propose_remove_numbers ns n refl (propose_remove_refused c s.member leaf n e)) (λ x never. absurd cc))
 event_refused c w (event.Commit k items path seed) n h =
     let ns : List ℕ = 90 ∷ 94 ∷ 95 ∷ make_numbers in
     bind_refused (seat_at w k) _ n h (λ e. or_read ns 90 n refl (seat_refused w k n e)) (λ s h1.

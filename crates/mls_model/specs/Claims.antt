@@ -14,7 +14,8 @@ use Rattle.mls_model.specs.Candidate.{Candidate}
 use Rattle.mls_model.specs.Make.{Made, make}
 use Rattle.mls_model.specs.Join.{JoinedMember, join_verdict}
 use Rattle.mls_model.specs.Journal.{names_in, adds_in, removes_in}
-use Rattle.mls_model.specs.Agreement.{Agree, AgreeSecret, Keeps, IsGoodMember, IsGoodCandidate}
+use Rattle.mls_model.specs.Agreement.{Agree, AgreeSecret, Keeps}
+use Rattle.mls_model.specs.MemberInvariant.{IsGoodMember, IsGoodCandidate}
 
 -- a commit that a good member made of a list and a seed
 pub record IsMade (c : Crypto) (maker : Member) (list : List ProposalOrRef) (made : Made) : Type 0 where
@@ -33,16 +34,19 @@ pub record FollowsTo (c : Crypto) (m : Member) (made : Made) : Type 0 where
   pub public : after.public ≡ made.pending.public
   pub epoch : after.epoch ≡ made.pending.epoch
 
--- and one that the commit removes answers so
+-- a member follows a commit of a list, or answers that it was removed where the list removes it
 pub record Receives (c : Crypto) (m : Member) (list : List ProposalOrRef) (made : Made) : Type 0 where
-  pub removed : has (removes_in m.kept list) m.keys.leaf ≡ true → verdict c m made.commit ≡ Ok (Removed, after_removal m)
+  pub removed : has (removes_in m.kept list) m.keys.leaf ≡ true →
+      verdict c m made.commit ≡ Ok (Removed, after_removal m)
   pub follows : has (removes_in m.kept list) m.keys.leaf ≡ false → FollowsTo c m made
 
--- A made commit passes the verdict of each active member at another leaf that agrees with its maker, in secrets too, and
--- keeps the proposals that it names.
+-- A made commit passes the verdict of each active member at another leaf that agrees with its maker, in secrets too,
+-- and keeps the proposals that it names.
 abbrev pub ReceiversClaim : Type 0
-ReceiversClaim = (c : Crypto) → Lawful c → (maker m : Member) (list : List ProposalOrRef) (made : Made) → IsMade c maker list made →
-    IsGoodMember c m → m.gone ≡ false → maker.keys.leaf ≢ m.keys.leaf → Agree maker m → AgreeSecret maker m → Keeps m.kept list (names_in maker.kept list) →
+ReceiversClaim = (c : Crypto) → Lawful c → (maker m : Member) (list : List ProposalOrRef) (made : Made) →
+    IsMade c maker list made →
+    IsGoodMember c m → m.gone ≡ false → maker.keys.leaf ≢ m.keys.leaf → Agree maker m → AgreeSecret maker m →
+    Keeps m.kept list (names_in maker.kept list) →
     Receives c m list made
 
 -- ---- joiners
@@ -56,6 +60,7 @@ pub record JoinsTo (c : Crypto) (k : Candidate) (welcome : List ℕ) (made : Mad
 
 -- A made Welcome passes the join verdict of each candidate whose own KeyPackage the commit adds.
 abbrev pub JoinersClaim : Type 0
-JoinersClaim = (c : Crypto) → Lawful c → (maker : Member) (list : List ProposalOrRef) (made : Made) (welcome : List ℕ) (k : Candidate) →
+JoinersClaim = (c : Crypto) → Lawful c →
+    (maker : Member) (list : List ProposalOrRef) (made : Made) (welcome : List ℕ) (k : Candidate) →
     IsMade c maker list made → made.welcome ≡ Some welcome → IsGoodCandidate c k →
     list_any (bytes_eq (key_package.spell k.offered)) (adds_in maker.kept list) ≡ true → JoinsTo c k welcome made

@@ -13,24 +13,33 @@ use Rattle.mls_model.specs.Agreement.{Keeps}
 
 -- ---- the next public state
 
--- it is refused just where the body of the commit is
+-- the next public state is refused where the change is
 abbrev pub NextIsRefused : Type 0
-NextIsRefused = (c : Crypto) (p : PublicState) (committer : ℕ) (used : List Used) (commit : Commit) (said : FramedContent) (signature tag : List ℕ) (n : ℕ) →
-    change_of_commit c p committer used commit said signature ≡ Err n → next_public c p committer used commit said signature tag ≡ Err n
+NextIsRefused = (c : Crypto) (p : PublicState) (committer : ℕ) (used : List Used) (commit : Commit)
+    (said : FramedContent) (signature tag : List ℕ) (n : ℕ) →
+    change_of_commit c p committer used commit said signature ≡ Err n →
+    next_public c p committer used commit said signature tag ≡ Err n
 
--- else it is the body's context and tree, and the tag enters its interim hash alone
+-- the next public state has the change's context and tree, and the tag enters its interim hash alone
 abbrev pub NextIsBody : Type 0
-NextIsBody = (c : Crypto) (p : PublicState) (committer : ℕ) (used : List Used) (commit : Commit) (said : FramedContent) (signature tag : List ℕ) (change : Change) →
+NextIsBody = (c : Crypto) (p : PublicState) (committer : ℕ) (used : List Used) (commit : Commit) (said : FramedContent)
+    (signature tag : List ℕ) (change : Change) →
     change_of_commit c p committer used commit said signature ≡ Ok change →
     next_public c p committer used commit said signature tag
-    ≡ Ok (record { context = change.context; tree = change.tree; interim = interim_hash change.context.confirmed_transcript_hash tag })
+    ≡ Ok (record {
+      context = change.context;
+      tree = change.tree;
+      interim = interim_hash change.context.confirmed_transcript_hash tag;
+    })
 
 -- ---- the names of an entry
 
 -- a commit whose references are all kept names, in the order of its list, the message that is kept under each
 abbrev pub NamesInOrder : Type 0
-NamesInOrder = (kept : List KeptProposal) (committer : ℕ) (list : List ProposalOrRef) (used : List Used) → find_proposals kept committer list ≡ Ok used → Keeps kept list (names_in kept list)
+NamesInOrder = (kept : List KeptProposal) (committer : ℕ) (list : List ProposalOrRef) (used : List Used) →
+    find_proposals kept committer list ≡ Ok used → Keeps kept list (names_in kept list)
 
--- and names that are kept in that order are these
+-- names that are kept in the order of a list are the names of that list
 abbrev pub NamesAreHeld : Type 0
-NamesAreHeld = (kept : List KeptProposal) (list : List ProposalOrRef) (names : List (List ℕ)) → Keeps kept list names → names_in kept list ≡ names
+NamesAreHeld = (kept : List KeptProposal) (list : List ProposalOrRef) (names : List (List ℕ)) → Keeps kept list names →
+    names_in kept list ≡ names

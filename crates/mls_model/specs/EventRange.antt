@@ -9,18 +9,18 @@ use Rattle.mls_model.specs.declared.event.WorldItem.TheVariants.{RefOf, Add, Rem
 use Rattle.mls_model.specs.declared.event.Event.{Event}
 use Rattle.mls_model.specs.declared.event.Event.TheVariants as event
 
--- a source whose given bytes are bytes
+-- the given bytes of a source are bytes
 abbrev pub IsSourceInRange : Source → Type 0
 IsSourceInRange (Given bytes) = IsBytes bytes.items
 IsSourceInRange (Message n) = Unit {0}
 
--- one of a commit call's list, with a source in range, or a leaf of 32 bits (RFC 9420, 12.1.3)
+-- an item of a commit call's list has a source in range, or a leaf of 32 bits (RFC 9420, 12.1.3)
 abbrev pub IsItemInRange : WorldItem → Type 0
 IsItemInRange (RefOf source) = IsSourceInRange source
 IsItemInRange (Add source) = IsSourceInRange source
 IsItemInRange (Remove leaf) = leaf < 2 ^ 32
 
--- an event whose given bytes are bytes, and whose leaves have 32 bits
+-- the given bytes of an event are bytes, and its leaves have 32 bits
 unfoldable pub IsInRange : Event → Type 0
 IsInRange (event.ProposeAdd k source) = IsSourceInRange source
 IsInRange (event.Commit k items path seed) = AllByRecursion IsItemInRange items.items

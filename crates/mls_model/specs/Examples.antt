@@ -1,5 +1,5 @@
--- Small states, worked out: what commits make of trees and keys, which journals are homemade, and what worlds answer. The
--- suite and all that a statement doesn't look at are variables.
+-- Small states, worked out: what commits make of trees and keys, which journals are homemade, and what worlds answer.
+-- The suite and all that a statement doesn't look at are variables.
 use Rattle.std.specs.Prelude.{◌≡◌, ℕ, true, false, List, [], ◌∷◌, Some, None, Ok, Err}
 use Rattle.mls_leaf.specs.declared.leaf.LeafNode.{LeafNode}
 use Rattle.mls_leaf.specs.declared.leaf.LeafSource.TheVariants as leaf_node_source
@@ -47,64 +47,79 @@ state_with context interim t = record { context = context; tree = t; interim = i
 abbrev pub use_of : ℕ → Proposal → Used
 use_of sender said = record { proposal = said; sender = sender; is_full = false }
 
--- 8 leaves, members 0, 1 and 4, and a parent over leaves 0 to 3: a commit that removes leaf 4 and adds one halves the tree
--- twice and then doubles it. It has 4 leaves, the new one is leaf 2, and that parent was cut off
+-- 8 leaves, members 0, 1 and 4, and a parent over leaves 0 to 3: a commit that removes leaf 4 and adds one halves the
+-- tree twice and then doubles it. It has 4 leaves, the new one is leaf 2, and that parent was cut off
 abbrev pub HalvesAndDoubles : Type 0
 HalvesAndDoubles = (c : Crypto) (context : GroupContext) (interim key hash : List ℕ) →
-    apply_proposals c (state_with context interim (over (Branch (listing_these key hash []) (over (member_with 1) (member_with 2)) (over blank blank)) (over (over (member_with 3) blank) (over blank blank)))) 0
+    apply_proposals c (state_with context interim (over (Branch (listing_these key hash [])
+    (over (member_with 1) (member_with 2)) (over blank blank)) (over (over (member_with 3) blank)
+    (over blank blank)))) 0
     (use_of 1 (proposal.Remove 4) ∷ use_of 1 (proposal.Add (package_with 5)) ∷ [])
     ≡ Ok (record { tree = over (over (member_with 1) (member_with 2)) (over (member_with 5) blank); added = 2 ∷ [] })
 
--- and the key that leaf 0 had for it is gone
+-- the key that leaf 0 had for a parent is gone where the parent was cut off
 abbrev pub KeysOfCutNodes : Type 0
 KeysOfCutNodes = (own key : List ℕ) →
-    follow_edits None (over (over (member_with 1) (member_with 2)) (over (member_with 5) blank)) (record { leaf = 0; own = own; above = None ∷ Some key ∷ None ∷ [] })
+    follow_edits None (over (over (member_with 1) (member_with 2)) (over (member_with 5) blank))
+    (record { leaf = 0; own = own; above = None ∷ Some key ∷ None ∷ [] })
     ≡ record { leaf = 0; own = own; above = None ∷ None ∷ [] }
 
--- of 4 members leaf 1 is removed and another added: it stands at leaf 1
+-- of 4 members leaf 1 is removed and another added: the new member stands at leaf 1
 abbrev pub TakenAgain : Type 0
 TakenAgain = (c : Crypto) (context : GroupContext) (interim : List ℕ) →
-    apply_proposals c (state_with context interim four_members) 0 (use_of 2 (proposal.Remove 1) ∷ use_of 2 (proposal.Add (package_with 5)) ∷ [])
-    ≡ Ok (record { tree = over (over (member_with 1) (member_with 5)) (over (member_with 3) (member_with 4)); added = 1 ∷ [] })
+    apply_proposals c (state_with context interim four_members) 0
+    (use_of 2 (proposal.Remove 1) ∷ use_of 2 (proposal.Add (package_with 5)) ∷ [])
+    ≡ Ok (record {
+      tree = over (over (member_with 1) (member_with 5)) (over (member_with 3) (member_with 4));
+      added = 1 ∷ [];
+    })
 
--- even where it is the very leaf that was removed, so that the tree is as before. That leaf 1 is removed is told by the
--- list of removes alone
+-- of 4 members leaf 1 is removed and the very same leaf added, so that the tree is as before: that leaf 1 is removed is
+-- told by the list of removes alone
 abbrev pub TakenBySame : Type 0
 TakenBySame = (c : Crypto) (context : GroupContext) (interim : List ℕ) →
-    apply_proposals c (state_with context interim four_members) 0 (use_of 2 (proposal.Remove 1) ∷ use_of 2 (proposal.Add (package_with 2)) ∷ [])
+    apply_proposals c (state_with context interim four_members) 0
+    (use_of 2 (proposal.Remove 1) ∷ use_of 2 (proposal.Add (package_with 2)) ∷ [])
     ≡ Ok (record { tree = four_members; added = 1 ∷ [] })
 
 abbrev pub RemovedByList : Type 0
-RemovedByList = has (removed_leaves (use_of 2 (proposal.Remove 1) ∷ use_of 2 (proposal.Add (package_with 2)) ∷ [])) 1 ≡ true
+RemovedByList = has (removed_leaves (use_of 2 (proposal.Remove 1) ∷ use_of 2 (proposal.Add (package_with 2)) ∷ [])) 1
+    ≡ true
 
--- two updates of one leaf, or one that is removed too, are refused; before that the committer's removal, and before that its
--- update
+-- two updates of one leaf are refused, and an update of a leaf that is removed too; the committer's removal is refused
+-- before these, and its update before that
 abbrev pub UpdatedTwice : Type 0
 UpdatedTwice = (c : Crypto) (context : GroupContext) (interim : List ℕ) →
-    apply_proposals c (state_with context interim four_members) 0 (use_of 1 (proposal.Update (leaf_with 5)) ∷ use_of 1 (proposal.Update (leaf_with 6)) ∷ []) ≡ Err 63
+    apply_proposals c (state_with context interim four_members) 0
+    (use_of 1 (proposal.Update (leaf_with 5)) ∷ use_of 1 (proposal.Update (leaf_with 6)) ∷ []) ≡ Err 63
 
 abbrev pub UpdatedAndRemoved : Type 0
 UpdatedAndRemoved = (c : Crypto) (context : GroupContext) (interim : List ℕ) →
-    apply_proposals c (state_with context interim four_members) 0 (use_of 2 (proposal.Remove 1) ∷ use_of 1 (proposal.Update (leaf_with 6)) ∷ []) ≡ Err 63
+    apply_proposals c (state_with context interim four_members) 0
+    (use_of 2 (proposal.Remove 1) ∷ use_of 1 (proposal.Update (leaf_with 6)) ∷ []) ≡ Err 63
 
 abbrev pub CommitterFirst : Type 0
 CommitterFirst = (c : Crypto) (context : GroupContext) (interim : List ℕ) →
-    apply_proposals c (state_with context interim four_members) 1 (use_of 2 (proposal.Remove 1) ∷ use_of 1 (proposal.Update (leaf_with 6)) ∷ []) ≡ Err 61
+    apply_proposals c (state_with context interim four_members) 1
+    (use_of 2 (proposal.Remove 1) ∷ use_of 1 (proposal.Update (leaf_with 6)) ∷ []) ≡ Err 61
 
 abbrev pub CommitterRemoved : Type 0
 CommitterRemoved = (c : Crypto) (context : GroupContext) (interim : List ℕ) →
-    apply_proposals c (state_with context interim four_members) 1 (use_of 2 (proposal.Remove 1) ∷ use_of 2 (proposal.Remove 1) ∷ []) ≡ Err 62
+    apply_proposals c (state_with context interim four_members) 1
+    (use_of 2 (proposal.Remove 1) ∷ use_of 2 (proposal.Remove 1) ∷ []) ≡ Err 62
 
 -- ---- which proposals it uses
 
 abbrev pub kept_under_7 : List ℕ → KeptProposal
-kept_under_7 message = record { reference = 7 ∷ []; message = message; proposal = proposal.Remove 3; sender = 2; own_key = None }
+kept_under_7 message =
+    record { reference = 7 ∷ []; message = message; proposal = proposal.Remove 3; sender = 2; own_key = None }
 
--- the kept one with its sender, the full one with the committer
+-- a commit uses a kept proposal with its sender, and one in full with the committer
 abbrev pub UsesKept : Type 0
 UsesKept = (message : List ℕ) →
     find_proposals (kept_under_7 message ∷ []) 1 (listed.Proposal (proposal.Remove 0) ∷ listed.Reference (7 ∷ []) ∷ [])
     ≡ Ok (record { proposal = proposal.Remove 0; sender = 1; is_full = true } ∷ use_of 2 (proposal.Remove 3) ∷ [])
 
 abbrev pub UsesUnknown : Type 0
-UsesUnknown = (message : List ℕ) → find_proposals (kept_under_7 message ∷ []) 1 (listed.Reference (7 ∷ []) ∷ listed.Reference (8 ∷ []) ∷ []) ≡ Err 60
+UsesUnknown = (message : List ℕ) → find_proposals (kept_under_7 message ∷ []) 1
+    (listed.Reference (7 ∷ []) ∷ listed.Reference (8 ∷ []) ∷ []) ≡ Err 60

@@ -8,7 +8,9 @@ use Rattle.mls_model.specs.Verdict.{framing_checks}
 use Rattle.mls_model.specs.VerdictFindings.{IsFramed}
 
 abbrev pub FramingDid : Type 0
-FramingDid = (c : Crypto) (m : Member) (v : PublicMessage) (bytes : List ℕ) → framing_checks c m v bytes ≡ Ok passed → IsFramed c m v bytes
+FramingDid = (c : Crypto) (m : Member) (v : PublicMessage) (bytes : List ℕ) → framing_checks c m v bytes ≡ Ok passed →
+    IsFramed c m v bytes
 
 abbrev pub FramingPasses : Type 0
-FramingPasses = (c : Crypto) (m : Member) (v : PublicMessage) (bytes : List ℕ) → IsFramed c m v bytes → framing_checks c m v bytes ≡ Ok passed
+FramingPasses = (c : Crypto) (m : Member) (v : PublicMessage) (bytes : List ℕ) → IsFramed c m v bytes →
+    framing_checks c m v bytes ≡ Ok passed

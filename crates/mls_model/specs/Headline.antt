@@ -7,6 +7,9 @@ use Rattle.mls_types.specs.declared.message.MlsMessage.{MlsMessage}
 use Rattle.mls_types.specs.declared.message.MlsMessage.TheVariants as message
 use Rattle.mls_suite.specs.Crypto.{Crypto, Lawful}
 use Rattle.mls_tree_model.specs.Sets.{has}
+use Rattle.mls_tree_model.specs.Good.{IsGood}
+use Rattle.mls_tree.specs.Rules.{rules_of}
+use Rattle.mls_treekem_model.specs.Members.{HasExact}
 use Rattle.mls_model.specs.declared.effect.Effect.TheVariants.{Advanced, Removed}
 use Rattle.mls_model.specs.declared.event.Source.{Source}
 use Rattle.mls_model.specs.declared.event.Source.TheVariants.{Given, Message}
@@ -16,13 +19,13 @@ use Rattle.mls_model.specs.declared.event.Reply.TheVariants.{Delivered, Joined, 
 use Rattle.mls_model.specs.Member.{Pending}
 use Rattle.mls_model.specs.Messages.{decode_message}
 use Rattle.mls_model.specs.Verdict.{own_pending}
-use Rattle.mls_model.specs.Journal.{CommitMade, with_entry, names_in, entry_of, list_in, removes_in, is_homemade}
+use Rattle.mls_model.specs.Journal.{CommitMade, IsHomemade, with_entry, names_in, entry_of, list_in, removes_in}
 use Rattle.mls_model.specs.World.{World, Entrant, Seat, empty_world, bytes_of, commit_for_joiner}
 use Rattle.mls_model.specs.Run.{answer, step, run}
 use Rattle.mls_model.specs.EventRange.{IsInRange}
-use Rattle.mls_model.specs.Agreement.{Agree, AgreeSecret, AgreeOrTwins, HasGoodTree, HasExactKeys, Keeps}
+use Rattle.mls_model.specs.Agreement.{Agree, AgreeSecret, AgreeOrTwins, Keeps}
 
--- member k, which wasn't removed
+-- a seat is that of member k, which wasn't removed
 pub record IsActive (w : World) (k : ℕ) (s : Seat) : Type 0 where
   pub is : slice_get w.seats k ≡ Some s
   pub active : s.member.gone ≡ false
@@ -31,19 +34,22 @@ pub record IsActive (w : World) (k : ℕ) (s : Seat) : Type 0 where
 
 -- members with one journal hold one public state
 abbrev pub AgreeByJournal : World → Type 0
-AgreeByJournal w = (i j : ℕ) (s t : Seat) → IsActive w i s → IsActive w j t → s.journal ≡ t.journal → Agree s.member t.member
+AgreeByJournal w = (i j : ℕ) (s t : Seat) → IsActive w i s → IsActive w j t → s.journal ≡ t.journal →
+    Agree s.member t.member
 
--- with one homemade journal they hold the same secrets
+-- members with one homemade journal hold the same secrets
 abbrev pub AgreeSecretIfHomemade : World → Type 0
-AgreeSecretIfHomemade w = (i j : ℕ) (s t : Seat) → IsActive w i s → IsActive w j t → s.journal ≡ t.journal → is_homemade w.made s.journal ≡ true → AgreeSecret s.member t.member
+AgreeSecretIfHomemade w = (i j : ℕ) (s t : Seat) → IsActive w i s → IsActive w j t → s.journal ≡ t.journal →
+    IsHomemade w.made s.journal → AgreeSecret s.member t.member
 
--- with one journal of any kind they do too, or their epoch secrets are twins
+-- members with one journal of any kind hold the same secrets, or their epoch secrets are twins
 abbrev pub AgreeByConfirmation : World → Type 0
-AgreeByConfirmation w = (i j : ℕ) (s t : Seat) → IsActive w i s → IsActive w j t → s.journal ≡ t.journal → AgreeOrTwins s.member t.member
+AgreeByConfirmation w = (i j : ℕ) (s t : Seat) → IsActive w i s → IsActive w j t → s.journal ≡ t.journal →
+    AgreeOrTwins s.member t.member
 
 -- ---- acceptance
 
--- the member follows a commit into the next epoch and stays active there; its journal has the commit's entry too, and its
+-- a member follows a commit into the next epoch and stays active there; its journal has the commit's entry too, and its
 -- epoch secret is the one that the commit reaches
 pub record FollowsCommit (c : Crypto) (w : World) (k : ℕ) (s : Seat) (source : Source) (d : CommitMade) : Type 0 where
   pub after : Seat
@@ -53,7 +59,7 @@ pub record FollowsCommit (c : Crypto) (w : World) (k : ℕ) (s : Seat) (source :
   pub journal : after.journal ≡ with_entry s.journal d.entry
   pub epoch : after.member.epoch ≡ d.epoch
 
--- or it answers that it was removed, and is active no more; its journal is as it was
+-- a member answers that it was removed, and is active no more; its journal is as it was
 pub record LeavesGroup (c : Crypto) (w : World) (k : ℕ) (s : Seat) (source : Source) : Type 0 where
   pub after : Seat
   pub reply : (step c w (Deliver k source)).0 ≡ Delivered Removed
@@ -65,21 +71,37 @@ pub record LeavesGroup (c : Crypto) (w : World) (k : ℕ) (s : Seat) (source : S
 abbrev pub is_removed : Seat → CommitMade → Bool
 is_removed s d = has (removes_in s.member.kept (list_in d.entry.commit)) s.member.keys.leaf
 
--- it leaves exactly when the commit removes it, and else follows it
+-- a member leaves the group where a commit removes it, and else follows the commit
 pub record Accepts (c : Crypto) (w : World) (k : ℕ) (s : Seat) (source : Source) (d : CommitMade) : Type 0 where
   pub removed : is_removed s d ≡ true → LeavesGroup c w k s source
   pub follows : is_removed s d ≡ false → FollowsCommit c w k s source d
 
--- a commit that was made at a homemade journal is accepted by every other active member that has that journal and keeps
--- under each reference that the commit names the very message that the maker named
+-- a member is to accept a source: it is a commit of another member, made at a homemade journal that this member has too
+pub record IsToAccept (w : World) (k : ℕ) (s : Seat) (source : Source) (d : CommitMade) : Type 0 where
+  -- a commit call of this world made the commit
+  pub place : ℕ
+  pub made : slice_get w.made place ≡ Some d
+  -- the journal at which it was made is homemade
+  pub homemade : IsHomemade w.made d.journal
+  -- the member is active
+  pub active : IsActive w k s
+  -- it isn't the maker
+  pub other : k ≢ d.maker
+  -- its journal is the one at which the commit was made
+  pub journal : s.journal ≡ d.journal
+  -- it keeps, under each reference that the commit names, the very message that the maker named
+  pub keeps : Keeps s.member.kept (list_in d.entry.commit) d.entry.names
+  -- the source's bytes are those of the commit
+  pub bytes : bytes_of w source ≡ Ok d.entry.commit
+
+-- a member accepts each source that it is to accept
 abbrev pub AcceptsHomemade : Crypto → World → Type 0
-AcceptsHomemade c w = (n k : ℕ) (d : CommitMade) (s : Seat) (source : Source) → slice_get w.made n ≡ Some d → is_homemade w.made d.journal ≡ true →
-    IsActive w k s → k ≢ d.maker → s.journal ≡ d.journal → Keeps s.member.kept (list_in d.entry.commit) d.entry.names →
-    bytes_of w source ≡ Ok d.entry.commit → Accepts c w k s source d
+AcceptsHomemade c w = (k : ℕ) (s : Seat) (source : Source) (d : CommitMade) → IsToAccept w k s source d →
+    Accepts c w k s source d
 
 -- ---- joins
 
--- the candidate becomes the next member, an active one, in the epoch that its context names; its journal is that of the
+-- a candidate becomes the next member, an active one, in the epoch that its context names; its journal is that of the
 -- commit's maker with the commit, and its epoch secret the one that the commit reaches
 pub record JoinsGroup (c : Crypto) (w : World) (n : ℕ) (source : Source) (d : CommitMade) : Type 0 where
   pub after : Seat
@@ -89,47 +111,53 @@ pub record JoinsGroup (c : Crypto) (w : World) (n : ℕ) (source : Source) (d : 
   pub journal : after.journal ≡ with_entry d.journal d.entry
   pub epoch : after.member.epoch ≡ d.epoch
 
--- a candidate that isn't spent, and whose own KeyPackage a commit adds
+-- candidate n isn't spent, and a commit adds its own KeyPackage
 pub record IsAdded (w : World) (n : ℕ) (e : Entrant) (d : CommitMade) : Type 0 where
   pub is : slice_get w.entrants n ≡ Some e
   pub unspent : e.is_spent ≡ false
   pub adds : list_any (bytes_eq (key_package.spell e.candidate.offered)) d.adds ≡ true
 
--- by the number of a Welcome that was made, whatever the journal, those whom its commit adds join, with the maker's
--- journal and that commit
+-- a candidate that a commit adds joins by the number of the commit's Welcome, whatever the journal was, with the
+-- maker's journal and that commit
 abbrev pub JoinsByNumber : Crypto → World → Type 0
-JoinsByNumber c w = (i n number : ℕ) (bytes : List ℕ) (d : CommitMade) (e : Entrant) → slice_get w.made i ≡ Some d → d.welcome ≡ Some (number, bytes) →
+JoinsByNumber c w = (i n number : ℕ) (bytes : List ℕ) (d : CommitMade) (e : Entrant) → slice_get w.made i ≡ Some d →
+    d.welcome ≡ Some (number, bytes) →
     IsAdded w n e d → JoinsGroup c w n (Message number) d
 
--- a source is these bytes, given as such
+-- a source gives these very bytes
 abbrev pub IsGiven : Source → List ℕ → Type 0
 IsGiven (Given supplied) bytes = supplied.items ≡ bytes
 IsGiven (Message n) bytes = ⊥
 
--- by its bytes they join too, with the journal of the first such Welcome that has these bytes
+-- a candidate that a commit adds joins by the bytes of the commit's Welcome too, with the journal of the first such
+-- Welcome that has these bytes
 abbrev pub JoinsByBytes : Crypto → World → Type 0
-JoinsByBytes c w = (i n number : ℕ) (bytes : List ℕ) (source : Source) (d : CommitMade) (e : Entrant) → slice_get w.made i ≡ Some d → d.welcome ≡ Some (number, bytes) →
-    IsGiven source bytes → IsAdded w n e d → (f : CommitMade) × (commit_for_joiner w.made source e.candidate ≡ Some f) × JoinsGroup c w n source f
+JoinsByBytes c w = (i n number : ℕ) (bytes : List ℕ) (source : Source) (d : CommitMade) (e : Entrant) →
+    slice_get w.made i ≡ Some d → d.welcome ≡ Some (number, bytes) →
+    IsGiven source bytes → IsAdded w n e d →
+    (f : CommitMade) × (commit_for_joiner w.made source e.candidate ≡ Some f) × JoinsGroup c w n source f
 
 -- ---- keys and trees, whatever bytes came
 
 -- each active member has just the private keys that are due on its path (RFC 9420, 7.5)
 abbrev pub KeysAreExact : Crypto → World → Type 0
-KeysAreExact c w = (k : ℕ) (s : Seat) → IsActive w k s → HasExactKeys c s.member
+KeysAreExact c w = (k : ℕ) (s : Seat) → IsActive w k s → HasExact c s.member.public.tree s.member.keys
 
 -- each active member's tree is good (RFC 9420, 7)
 abbrev pub TreesAreGood : Crypto → World → Type 0
-TreesAreGood c w = (k : ℕ) (s : Seat) → IsActive w k s → HasGoodTree c s.member
+TreesAreGood c w = (k : ℕ) (s : Seat) → IsActive w k s →
+    IsGood (rules_of c s.member.public.context.group_id) s.member.public.tree
 
 -- ---- refusals
 
 -- an event that is refused names the first check that fails, and changes nothing
 abbrev pub RefusalsChangeNothing : Crypto → World → Type 0
-RefusalsChangeNothing c w = (e : Event) (n : ℕ) → (step c w e).0 ≡ Refused n → (answer c w e ≡ Err n) × ((step c w e).1 ≡ w)
+RefusalsChangeNothing c w = (e : Event) (n : ℕ) → (step c w e).0 ≡ Refused n →
+    (answer c w e ≡ Err n) × ((step c w e).1 ≡ w)
 
 -- ---- what deliveries and joins leave as it was
 
--- other members than k, all candidates and messages, and the record of what was made
+-- other members than k, all candidates and messages, and the record of what was made stay as they were
 pub record KeepsOthers (w v : World) (k : ℕ) : Type 0 where
   pub count : length v.seats ≡ length w.seats
   pub seats : (i : ℕ) → i ≢ k → slice_get v.seats i ≡ slice_get w.seats i
@@ -141,7 +169,7 @@ pub record KeepsOthers (w v : World) (k : ℕ) : Type 0 where
 abbrev pub DeliveriesKeepOthers : Crypto → World → Type 0
 DeliveriesKeepOthers c w = (k : ℕ) (source : Source) → KeepsOthers w (step c w (Deliver k source)).1 k
 
--- all members, other candidates than n, all messages, and the record of what was made
+-- all members, other candidates than n, all messages, and the record of what was made stay as they were
 pub record KeepsMembers (w v : World) (n : ℕ) : Type 0 where
   pub seats : (i : ℕ) → i < length w.seats → slice_get v.seats i ≡ slice_get w.seats i
   pub entrants : (i : ℕ) → i ≢ n → slice_get v.entrants i ≡ slice_get w.entrants i
@@ -154,7 +182,7 @@ JoinsKeepMembers c w = (n : ℕ) (source : Source) → KeepsMembers w (step c w 
 
 -- ---- the maker of a commit
 
--- a pending commit is one of those that its member made at its journal
+-- a pending commit is one of those that its member made at the journal that it has
 pub record IsPendingOf (w : World) (k : ℕ) (s : Seat) (p : Pending) : Type 0 where
   pub which : CommitMade
   pub place : ℕ
@@ -165,7 +193,7 @@ pub record IsPendingOf (w : World) (k : ℕ) (s : Seat) (p : Pending) : Type 0 w
   pub names : which.entry.names ≡ names_in s.member.kept (list_in p.message)
   pub epoch : which.epoch ≡ p.epoch
 
--- and so is that of each active member
+-- the pending commit of each active member is one that it made
 abbrev pub PendingWasMade : World → Type 0
 PendingWasMade w = (k : ℕ) (s : Seat) (p : Pending) → IsActive w k s → s.member.pending ≡ Some p → IsPendingOf w k s p
 
@@ -179,30 +207,35 @@ pub record FollowsPending (c : Crypto) (w : World) (k : ℕ) (s : Seat) (p : Pen
   pub journal : after.journal ≡ with_entry s.journal (entry_of s.member p.message)
   pub epoch : after.member.epoch ≡ p.epoch
 
--- while it holds a commit as its pending one, it follows it
+-- an active member follows the commit that it holds as its pending one
 abbrev pub FollowsOwn : Crypto → World → Type 0
-FollowsOwn c w = (k : ℕ) (s : Seat) (p : Pending) (source : Source) → IsActive w k s → s.member.pending ≡ Some p → bytes_of w source ≡ Ok p.message →
+FollowsOwn c w = (k : ℕ) (s : Seat) (p : Pending) (source : Source) → IsActive w k s → s.member.pending ≡ Some p →
+    bytes_of w source ≡ Ok p.message →
     FollowsPending c w k s p source
 
--- while it stands at the journal at which it made a commit, it keeps the very messages that the commit names
+-- while the maker of a commit stands at the journal at which it made it, it keeps the very messages that the commit
+-- names
 abbrev pub MakersKeep : World → Type 0
-MakersKeep w = (n : ℕ) (d : CommitMade) (s : Seat) → slice_get w.made n ≡ Some d → IsActive w d.maker s → s.journal ≡ d.journal → Keeps s.member.kept (list_in d.entry.commit) d.entry.names
+MakersKeep w = (n : ℕ) (d : CommitMade) (s : Seat) → slice_get w.made n ≡ Some d → IsActive w d.maker s →
+    s.journal ≡ d.journal → Keeps s.member.kept (list_in d.entry.commit) d.entry.names
 
 -- the epoch that a message names in its content (RFC 9420, 6)
 abbrev pub epoch_of_message : Result MlsMessage ℕ → Option ℕ
 epoch_of_message (Ok (message.PublicMessage v)) = Some v.content.epoch
 epoch_of_message other = None
 
--- else, in the epoch of the commit, it answers 48
+-- in the epoch of a commit that it made, and that isn't its pending one, the maker answers 48
 abbrev pub RefusesOwn : Crypto → World → Type 0
-RefusesOwn c w = (n : ℕ) (d : CommitMade) (s : Seat) (source : Source) → slice_get w.made n ≡ Some d → IsActive w d.maker s →
-    epoch_of_message (decode_message d.entry.commit) ≡ Some s.member.public.context.epoch → own_pending s.member.pending d.entry.commit ≡ None →
+RefusesOwn c w = (n : ℕ) (d : CommitMade) (s : Seat) (source : Source) → slice_get w.made n ≡ Some d →
+    IsActive w d.maker s →
+    epoch_of_message (decode_message d.entry.commit) ≡ Some s.member.public.context.epoch →
+    own_pending s.member.pending d.entry.commit ≡ None →
     bytes_of w source ≡ Ok d.entry.commit → (step c w (Deliver d.maker source)).0 ≡ Refused 48
 
 -- ---- the whole
 
--- what holds of a world: agreement, acceptance, joins, keys and trees, refusals, what deliveries and joins leave as it was,
--- and what the maker does with its commit
+-- what holds of a world: agreement, acceptance, joins, keys and trees, refusals, what deliveries and joins leave as it
+-- was, and what the maker does with its commit
 pub record Headline (c : Crypto) (w : World) : Type 0 where
   pub public : AgreeByJournal w
   pub secret : AgreeSecretIfHomemade w
@@ -220,10 +253,11 @@ pub record Headline (c : Crypto) (w : World) : Type 0 where
   pub own : FollowsOwn c w
   pub own_refused : RefusesOwn c w
 
--- for every lawful suite and every list of events
+-- the headline holds for every lawful suite and every list of events
 abbrev pub HoldsOnRuns : Type 0
-HoldsOnRuns = (c : Crypto) → Lawful c → (events : List Event) → AllByRecursion IsInRange events → Headline c (run c empty_world events)
+HoldsOnRuns = (c : Crypto) → Lawful c → (events : List Event) → AllByRecursion IsInRange events →
+    Headline c (run c empty_world events)
 
--- and of the world after each event of a list, that before the first among them
+-- the headline holds of the world before a list of events, and of the world after each of them
 abbrev pub HoldsAlong : Crypto → World → List Event → Type 0
 HoldsAlong c w events = (n : ℕ) → Headline c (run c w (take n events))

@@ -1,5 +1,5 @@
--- What a candidate does with a Welcome (RFC 9420, 12.4.3.1): the first check that fails, by its number, or the new member
--- and the GroupInfo that was opened.
+-- What a candidate does with a Welcome (RFC 9420, 12.4.3.1): the first check that fails, by its number, or the new
+-- member and the GroupInfo that was opened.
 use Rattle.std.specs.Prelude.{ℕ, Bool, false, not, List, [], codes, find, Option, Some, None, Result, Ok}
 use Rattle.std.specs.Str.{bytes_eq}
 use Rattle.mls_wire.specs.Checks.{Passed, require, require_some, ◌>>◌}
@@ -29,8 +29,8 @@ use Rattle.mls_model.specs.OpenedWelcome.{Opened, opened_welcome}
 
 -- ---- the group that it tells of
 
--- its tree: 76 there is none, 20 and 21 its shape and size, 77 its hash, then the checks of a whole tree (RFC 9420,
--- 12.4.3.1 and 12.4.3.3)
+-- the tree of a GroupInfo: 76 there is none, 20 and 21 its shape and size, 77 its hash, then the checks of a whole tree
+-- (RFC 9420, 12.4.3.1 and 12.4.3.3)
 unfoldable pub joined_tree : Crypto → GroupInfo → Result Term ℕ
 joined_tree c info = do
   nodes ← require_some 76 info.ratchet_tree
@@ -39,14 +39,15 @@ joined_tree c info = do
   tree_checks (rules_of c info.group_context.group_id) t
   Ok t
 
--- 78 the signer is no member, or the candidate itself; 79 its signature (RFC 9420, 12.4.3.1)
+-- the checks of a GroupInfo's signer: 78 it is no member, or the candidate itself; 79 its signature (RFC 9420,
+-- 12.4.3.1)
 unfoldable pub signer_checks : Crypto → Candidate → GroupInfo → Term → Result Passed ℕ
 signer_checks c k info t = do
   signer ← require_some 78 (leaf_of t info.signer)
   require 78 (not (bytes_eq signer.signature_key k.offered.leaf_node.signature_key))
   require 79 (verify_with_label c signer.signature_key (codes "GroupInfoTBS") (group_info_tbs info) info.signature)
 
--- whether two leaves are one: they are spelled alike
+-- whether two leaves are one: both have one spelling
 abbrev pub is_same_leaf : LeafNode → LeafNode → Bool
 is_same_leaf x y = bytes_eq (leaf_node.spell x) (leaf_node.spell y)
 
@@ -54,21 +55,22 @@ is_same_leaf x y = bytes_eq (leaf_node.spell x) (leaf_node.spell y)
 unfoldable pub place_of : LeafNode → Term → Option (ℕ × LeafNode)
 place_of leaf t = find (λ (x : ℕ × LeafNode). is_same_leaf x.1 leaf) (members 0 t)
 
--- the joiner's keys (RFC 9420, 12.4.3.1): with a path secret those that it gives, else its leaf's alone; 34, and 35 where
--- one that is due is missing
+-- the joiner's keys (RFC 9420, 12.4.3.1): with a path secret those that the secret gives, else its leaf's alone; 34 a
+-- key differs, and 35 one that is due is missing
 unfoldable pub joined_keys : Crypto → Term → ℕ → PrivateKeys → Option (List ℕ) → Result PrivateKeys ℕ
 joined_keys c t signer alone None = require 35 (has_due t alone) >> Ok alone
-joined_keys c t signer alone (Some secret) = take_answer c t signer alone.leaf alone.own secret >>= λ climb. Ok (with_keys alone climb.keys)
+joined_keys c t signer alone (Some secret) =
+    take_answer c t signer alone.leaf alone.own secret >>= λ climb. Ok (with_keys alone climb.keys)
 
 -- ---- the whole
 
--- the new member, and the GroupInfo that it opened
+-- a new member, and the bytes of the GroupInfo that it opened
 pub record JoinedMember : Type 0 where
   pub member : Member
   pub info : List ℕ
 
--- the new member of an opened Welcome (RFC 9420, 12.4.3.1): the checks of tree and signer, 80 no leaf is the candidate's,
--- 34 and 35, 65 the confirmation tag
+-- the new member of an opened Welcome (RFC 9420, 12.4.3.1): the checks of tree and signer, 80 no leaf is the
+-- candidate's, 34 and 35, 65 the confirmation tag
 unfoldable pub member_of : Crypto → Candidate → Opened → Result JoinedMember ℕ
 member_of c k o = do
   t ← joined_tree c o.info
@@ -81,7 +83,11 @@ member_of c k o = do
   Ok (record {
     member = record {
       gone = false;
-      public = record { context = context; tree = t; interim = interim_hash context.confirmed_transcript_hash o.info.confirmation_tag };
+      public = record {
+        context = context;
+        tree = t;
+        interim = interim_hash context.confirmed_transcript_hash o.info.confirmation_tag;
+      };
       epoch = epoch;
       keys = keys;
       signing = k.signing;
@@ -91,6 +97,6 @@ member_of c k o = do
     info = o.bytes;
   })
 
--- of any bytes (RFC 9420, 12.4.3.1)
+-- what a candidate does with any bytes: it opens the Welcome, and becomes the new member (RFC 9420, 12.4.3.1)
 unfoldable pub join_verdict : Crypto → Candidate → List ℕ → Result JoinedMember ℕ
 join_verdict c k bytes = opened_welcome c k bytes >>= λ o. member_of c k o

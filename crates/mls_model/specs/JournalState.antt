@@ -25,12 +25,14 @@ use Rattle.mls_model.specs.Journal.{Entry}
 
 -- what a kept message says, and who sent it
 abbrev pub used_of_body : SignedContent → SignedBody → Option Used
-used_of_body v (body_of.Proposal said) = Some (record { proposal = said; sender = sender_leaf v.sender; is_full = false })
+used_of_body v (body_of.Proposal said) =
+    Some (record { proposal = said; sender = sender_leaf v.sender; is_full = false })
 used_of_body v other = None
 
 -- the proposal that the message in an entry is: decoding, 41 no PublicMessage, 60 no proposal
 unfoldable pub used_in : List ℕ → Result Used ℕ
-used_in bytes = decode_message bytes >>= λ m. require_some 41 (public_in m) >>= λ v. require_some 60 (used_of_body v.content v.content.body)
+used_in bytes = decode_message bytes >>= λ m. require_some 41 (public_in m) >>= λ v. require_some 60
+    (used_of_body v.content v.content.body)
 
 -- a commit's list with each reference replaced by what stands in an entry
 unfoldable pub used_by_names : ℕ → List ProposalOrRef → List (List ℕ) → Result (List Used) ℕ
@@ -38,25 +40,32 @@ used_by_names committer [] names = Ok []
 used_by_names committer (listed.Proposal said ∷ xs) names =
     used_by_names committer xs names >>= λ us. Ok (record { proposal = said; sender = committer; is_full = true } ∷ us)
 used_by_names committer (listed.Reference reference ∷ xs) [] = Err 60
-used_by_names committer (listed.Reference reference ∷ xs) (n ∷ ns) = used_in n >>= λ u. used_by_names committer xs ns >>= λ us. Ok (u ∷ us)
+used_by_names committer (listed.Reference reference ∷ xs) (n ∷ ns) =
+    used_in n >>= λ u. used_by_names committer xs ns >>= λ us. Ok (u ∷ us)
 
 -- the public state after a content with the messages that its entry names: 45 where it is no commit (RFC 9420, 12.4.2)
 abbrev pub public_after_body : Crypto → PublicState → List (List ℕ) → SignedContent → SignedBody → Result PublicState ℕ
 public_after_body c p names v (body_of.Commit commit tag) =
-    used_by_names (sender_leaf v.sender) commit.proposals names >>= λ used. next_public c p (sender_leaf v.sender) used commit (framed v) v.signature tag
+    used_by_names (sender_leaf v.sender) commit.proposals names >>= λ used. next_public c p
+    (sender_leaf v.sender) used commit (framed v) v.signature tag
 public_after_body c p names v other = Err 45
 
 -- the public state after an entry
 unfoldable pub public_after : Crypto → PublicState → Entry → Result PublicState ℕ
-public_after c p e = decode_message e.commit >>= λ m. require_some 41 (public_in m) >>= λ v. public_after_body c p e.names v.content v.content.body
+public_after c p e = decode_message e.commit >>= λ m. require_some 41
+    (public_in m) >>= λ v. public_after_body c p e.names v.content v.content.body
 
--- that of a GroupInfo
+-- the public state of a GroupInfo: its faults, 76 it has no tree, 20 and 21 the tree's shape and size
 unfoldable pub public_of_info : List ℕ → Result PublicState ℕ
 public_of_info bytes = do
   info ← whole group_info input_limit bytes
   nodes ← require_some 76 info.ratchet_tree
   t ← from_nodes max_leaves nodes
-  Ok (record { context = info.group_context; tree = t; interim = interim_hash info.group_context.confirmed_transcript_hash info.confirmation_tag })
+  Ok (record {
+    context = info.group_context;
+    tree = t;
+    interim = interim_hash info.group_context.confirmed_transcript_hash info.confirmation_tag;
+  })
 
 -- for each member by its number its first state, where a creation made it
 abbrev pub Creations : Type 0
@@ -68,12 +77,12 @@ public_of_creation (Some (Some m)) = Ok m.public
 public_of_creation (Some None) = Err 90
 public_of_creation None = Err 90
 
--- that of an origin
+-- the public state of an origin: of a creation, or of a GroupInfo
 abbrev pub public_of_origin : Creations → Origin → Result PublicState ℕ
 public_of_origin creations (Creation k) = public_of_creation (slice_get creations k)
 public_of_origin creations (JoinedBy info) = public_of_info info
 
--- that of a journal
+-- the public state of a journal: of its origin, then after each entry
 unfoldable pub public_of : Crypto → Creations → Origin → List Entry → Result PublicState ℕ
 public_of c creations origin [] = public_of_origin creations origin
 public_of c creations origin (e ∷ es) = public_of c creations origin es >>= λ p. public_after c p e

@@ -36,7 +36,7 @@ decode_message bytes = whole mls_message input_limit bytes
 unfoldable pub are_bytes : List ℕ → Bool
 are_bytes bytes = list_all (λ (b : ℕ). nat_lt b 256) bytes
 
--- 6 where what was made is larger than a message may be, or no bytes
+-- the check of what was made: 6 where it is larger than a message may be, or no bytes
 unfoldable pub is_within_limit : List ℕ → Result Passed ℕ
 is_within_limit bytes = require 6 (nat_le (length bytes) input_limit && are_bytes bytes)
 
@@ -59,15 +59,23 @@ is_handshake other = true
 -- a content of a member in its epoch (RFC 9420, 6)
 unfoldable pub content_by : Member → Content → FramedContent
 content_by m content =
-    record { group_id = m.public.context.group_id; epoch = m.public.context.epoch; sender = sender.Member m.keys.leaf; authenticated_data = []; content = content }
+    record {
+      group_id = m.public.context.group_id;
+      epoch = m.public.context.epoch;
+      sender = sender.Member m.keys.leaf;
+      authenticated_data = [];
+      content = content;
+    }
 
--- its signature under the context of the epoch (RFC 9420, 6.1)
+-- the signature of a content under the context of the epoch (RFC 9420, 6.1)
 unfoldable pub content_signature : Crypto → List ℕ → FramedContent → GroupContext → List ℕ
-content_signature c signing said context = sign_with_label c signing (codes "FramedContentTBS") (framed_content_tbs format.PublicMessage said context)
+content_signature c signing said context = sign_with_label c signing (codes "FramedContentTBS")
+    (framed_content_tbs format.PublicMessage said context)
 
--- whether a signature is that of a signature key (RFC 9420, 6.1)
+-- whether the signature of a content is that of a signature key (RFC 9420, 6.1)
 unfoldable pub is_content_signed : Crypto → List ℕ → SignedContent → GroupContext → Bool
-is_content_signed c key v context = verify_with_label c key (codes "FramedContentTBS") (framed_content_tbs format.PublicMessage (framed v) context) v.signature
+is_content_signed c key v context = verify_with_label c key (codes "FramedContentTBS")
+    (framed_content_tbs format.PublicMessage (framed v) context) v.signature
 
 -- the membership tag of a signed content, by the epoch secret (RFC 9420, 6.2)
 unfoldable pub content_tag : List ℕ → SignedContent → GroupContext → List ℕ
@@ -75,8 +83,11 @@ content_tag epoch v context = membership_tag epoch (authenticated_content_tbm fo
 
 -- the message of a signed content, as a member sends it (RFC 9420, 6 and 6.2)
 unfoldable pub message_by : Member → SignedContent → List ℕ
-message_by m v = mls_message.spell (message.PublicMessage (record { content = v; membership_tag = content_tag m.epoch v m.public.context }))
+message_by m v =
+    mls_message.spell
+    (message.PublicMessage (record { content = v; membership_tag = content_tag m.epoch v m.public.context }))
 
 -- the reference of a proposal (RFC 9420, 5.2)
 unfoldable pub reference_of : SignedContent → List ℕ
-reference_of v = proposal_reference (authenticated_content.spell (record { wire_format = format.PublicMessage; content = v }))
+reference_of v =
+    proposal_reference (authenticated_content.spell (record { wire_format = format.PublicMessage; content = v }))

@@ -1,5 +1,5 @@
--- What a candidate finds in a Welcome (RFC 9420, 12.4.3.1): the first check that fails, by its number, or the GroupInfo with
--- the secrets for it.
+-- What a candidate finds in a Welcome (RFC 9420, 12.4.3.1): the first check that fails, by its number, or the GroupInfo
+-- with the secrets for it.
 use Rattle.std.specs.Prelude.{ℕ, ◌==◌, Bool, true, List, [], length, codes, find, Option, Some, None, Result, Ok, Err}
 use Rattle.std.specs.Str.{bytes_eq}
 use Rattle.mls_wire.specs.Checks.{require, require_some, ◌>>◌}
@@ -26,7 +26,7 @@ abbrev pub welcome_in : MlsMessage → Option Welcome
 welcome_in (message.Welcome w) = Some w
 welcome_in other = None
 
--- any fault in what was opened has this number
+-- a value that was read, or this number for any fault
 abbrev pub or_fault : {A : Type 0} → ℕ → Result A ℕ → Result A ℕ
 or_fault n (Ok x) = Ok x
 or_fault n (Err e) = Err n
@@ -36,35 +36,39 @@ abbrev pub is_none_or_32 : Option (List ℕ) → Bool
 is_none_or_32 None = true
 is_none_or_32 (Some secret) = length secret == 32
 
--- what is sealed in a candidate's entry (RFC 9420, 12.4.3.1): 73 where it doesn't open, is no GroupSecrets, or has a secret
--- that isn't 32 bytes
+-- what is sealed in a candidate's entry (RFC 9420, 12.4.3.1): 73 where it doesn't open, is no GroupSecrets, or has a
+-- secret that isn't 32 bytes
 unfoldable pub opened_secrets : Crypto → Candidate → Welcome → EncryptedGroupSecrets → Result GroupSecrets ℕ
 opened_secrets c k w entry = do
-  bytes ← require_some 73 (decrypt_with_label c k.init (codes "Welcome") w.encrypted_group_info entry.encrypted_group_secrets.kem_output entry.encrypted_group_secrets.ciphertext)
+  bytes ← require_some 73 (decrypt_with_label c k.init (codes "Welcome") w.encrypted_group_info
+      entry.encrypted_group_secrets.kem_output entry.encrypted_group_secrets.ciphertext)
   secrets ← or_fault 73 (whole group_secrets input_limit bytes)
   require 73 (length secrets.joiner_secret == 32)
   require 73 (is_none_or_32 secrets.path_secret)
   Ok secrets
 
--- what a Welcome gave to a candidate (RFC 9420, 12.4.3.1): the joiner secret, a path secret or none, and the GroupInfo with
--- its bytes
+-- what a Welcome gave to a candidate (RFC 9420, 12.4.3.1): the joiner secret, a path secret or none, and the GroupInfo
+-- with its bytes
 pub record Opened : Type 0 where
   pub joiner : List ℕ
   pub path_secret : Option (List ℕ)
   pub bytes : List ℕ
   pub info : GroupInfo
 
--- decoding; 70 no Welcome, 71 of another suite, 72 no entry for the candidate's KeyPackage, 73, 74 a pre-shared key is
--- asked for, 75 the GroupInfo doesn't open or is none, 71 it is of another suite (RFC 9420, 12.4.3.1)
+-- the secrets and the GroupInfo of a candidate's Welcome: decoding; 70 no Welcome, 71 of another suite, 72 no entry for
+-- the candidate's KeyPackage, 73, 74 a pre-shared key is asked for, 75 the GroupInfo doesn't open or is none, 71 it is
+-- of another suite (RFC 9420, 12.4.3.1)
 unfoldable pub opened_welcome : Crypto → Candidate → List ℕ → Result Opened ℕ
 opened_welcome c k bytes = do
   outer ← decode_message bytes
   w ← require_some 70 (welcome_in outer)
   require 71 (w.cipher_suite == c.number)
-  entry ← require_some 72 (find (λ (e : EncryptedGroupSecrets). bytes_eq e.new_member (package_reference k.offered)) w.secrets)
+  entry ← require_some 72
+      (find (λ (e : EncryptedGroupSecrets). bytes_eq e.new_member (package_reference k.offered)) w.secrets)
   secrets ← opened_secrets c k w entry
   require 74 (length secrets.psks == 0)
-  plain ← require_some 75 (c.aead_open (welcome_key secrets.joiner_secret) (welcome_nonce secrets.joiner_secret) [] w.encrypted_group_info)
+  plain ← require_some 75 (c.aead_open (welcome_key secrets.joiner_secret)
+      (welcome_nonce secrets.joiner_secret) [] w.encrypted_group_info)
   require 75 (are_bytes plain)
   info ← or_fault 75 (whole group_info input_limit plain)
   require 71 (info.group_context.cipher_suite == c.number)

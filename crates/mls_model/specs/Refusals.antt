@@ -1,4 +1,4 @@
--- Which numbers each call of a member and of a world can be refused with, want of memory aside.
+-- Which numbers each call of a member and of a candidate can be refused with, want of memory aside.
 use Rattle.std.specs.Prelude.{◌≡◌, ℕ, ◌||◌, Bool, true, List, [], ◌∷◌, ◌++◌, Err}
 use Rattle.mls_leaf.specs.WholeLaws.{is_input_fault}
 use Rattle.mls_leaf.specs.declared.key_package.KeyPackage.{KeyPackage}
@@ -14,57 +14,88 @@ use Rattle.mls_model.specs.Join.{join_verdict}
 
 -- ---- parts
 
--- of a proposal: 22, 36, 50 to 57
+-- the checks of an add answer these numbers: those of a KeyPackage (RFC 9420, 12.1.1)
+abbrev pub add_numbers : List ℕ
+add_numbers = 36 ∷ 50 ∷ 51 ∷ 52 ∷ 55 ∷ 56 ∷ 57 ∷ []
+
+-- the checks of an update answer these numbers: those of a leaf that replaces another (RFC 9420, 12.1.2)
+abbrev pub update_numbers : List ℕ
+update_numbers = 22 ∷ 36 ∷ 50 ∷ 51 ∷ 52 ∷ 53 ∷ 54 ∷ []
+
+-- the check of a remove answers this number: no member is at the leaf (RFC 9420, 12.1.3)
+abbrev pub remove_numbers : List ℕ
+remove_numbers = 22 ∷ []
+
+-- the checks of a proposal of any kind answer these numbers
 abbrev pub proposal_numbers : List ℕ
 proposal_numbers = 22 ∷ 36 ∷ 50 ∷ 51 ∷ 52 ∷ 53 ∷ 54 ∷ 55 ∷ 56 ∷ 57 ∷ []
 
--- of all that is public of a commit
+-- the checks of all that is public of a commit answer these numbers (RFC 9420, 12.4.2)
 abbrev pub body_numbers : List ℕ
 body_numbers = 21 ∷ 24 ∷ 25 ∷ 26 ∷ 30 ∷ 31 ∷ 61 ∷ 62 ∷ 63 ∷ 64 ∷ proposal_numbers
 
--- of a message's framing: 42 to 48
+-- the checks of a message's framing answer these numbers (RFC 9420, 6)
 abbrev pub framing_numbers : List ℕ
 framing_numbers = 42 ∷ 43 ∷ 44 ∷ 45 ∷ 46 ∷ 47 ∷ 48 ∷ []
 
 -- ---- calls of a member
 
--- of bytes that are processed, beside the numbers of decoding
+-- bytes that are processed are refused with these numbers, beside those of decoding
 abbrev pub verdict_numbers : List ℕ
 verdict_numbers = 32 ∷ 33 ∷ 34 ∷ 40 ∷ 41 ∷ 60 ∷ 65 ∷ 66 ∷ framing_numbers ++ body_numbers
 
 abbrev pub VerdictNumbers : Type 0
-VerdictNumbers = (c : Crypto) (m : Member) (bytes : List ℕ) (n : ℕ) → verdict c m bytes ≡ Err n → (is_input_fault n || has verdict_numbers n) ≡ true
+VerdictNumbers = (c : Crypto) (m : Member) (bytes : List ℕ) (n : ℕ) →
+    verdict c m bytes ≡ Err n → (is_input_fault n || has verdict_numbers n) ≡ true
 
--- of a proposal that is made
-abbrev pub proposed_numbers : List ℕ
-proposed_numbers = 6 ∷ 40 ∷ 49 ∷ proposal_numbers
+-- a call that proposes an add is refused with these numbers
+abbrev pub propose_add_numbers : List ℕ
+propose_add_numbers = 6 ∷ 40 ∷ 49 ∷ add_numbers
 
 abbrev pub AddNumbers : Type 0
-AddNumbers = (c : Crypto) (m : Member) (offered : KeyPackage) (n : ℕ) → propose_add c m offered ≡ Err n → has proposed_numbers n ≡ true
+AddNumbers = (c : Crypto) (m : Member) (offered : KeyPackage) (n : ℕ) →
+    propose_add c m offered ≡ Err n → has propose_add_numbers n ≡ true
+
+-- a call that proposes an update is refused with these numbers
+abbrev pub propose_update_numbers : List ℕ
+propose_update_numbers = 6 ∷ 40 ∷ 49 ∷ update_numbers
 
 abbrev pub UpdateNumbers : Type 0
-UpdateNumbers = (c : Crypto) (m : Member) (seed : List ℕ) (n : ℕ) → propose_update c m seed ≡ Err n → has proposed_numbers n ≡ true
+UpdateNumbers = (c : Crypto) (m : Member) (seed : List ℕ) (n : ℕ) →
+    propose_update c m seed ≡ Err n → has propose_update_numbers n ≡ true
+
+-- a call that proposes a remove is refused with these numbers
+abbrev pub propose_remove_numbers : List ℕ
+propose_remove_numbers = 6 ∷ 40 ∷ 49 ∷ remove_numbers
 
 abbrev pub RemoveNumbers : Type 0
-RemoveNumbers = (c : Crypto) (m : Member) (leaf : ℕ) (n : ℕ) → propose_remove c m leaf ≡ Err n → has proposed_numbers n ≡ true
+RemoveNumbers = (c : Crypto) (m : Member) (leaf : ℕ) (n : ℕ) →
+    propose_remove c m leaf ≡ Err n → has propose_remove_numbers n ≡ true
 
--- of a commit that is made
+-- a commit call is refused with these numbers
 abbrev pub make_numbers : List ℕ
 make_numbers = 6 ∷ 40 ∷ 60 ∷ 66 ∷ 67 ∷ body_numbers
 
 abbrev pub MakeNumbers : Type 0
-MakeNumbers = (c : Crypto) (m : Member) (list : List ProposalOrRef) (wants_path : Bool) (seed : List ℕ) (n : ℕ) → make c m list wants_path seed ≡ Err n → has make_numbers n ≡ true
+MakeNumbers = (c : Crypto) (m : Member) (list : List ProposalOrRef) (wants_path : Bool) (seed : List ℕ) (n : ℕ) →
+    make c m list wants_path seed ≡ Err n → has make_numbers n ≡ true
 
--- of a candidate, and of a group
+-- a candidate is refused with these numbers: its message is too large, or its init key is its leaf's key
 abbrev pub CandidateNumbers : Type 0
-CandidateNumbers = (c : Crypto) (identity seed : List ℕ) (n : ℕ) → new_candidate c identity seed ≡ Err n → has (6 ∷ 57 ∷ []) n ≡ true
+CandidateNumbers = (c : Crypto) (identity seed : List ℕ) (n : ℕ) →
+    new_candidate c identity seed ≡ Err n → has (6 ∷ 57 ∷ []) n ≡ true
 
+-- a group is refused with this number: its context is too large
 abbrev pub CreateNumbers : Type 0
-CreateNumbers = (c : Crypto) (k : Candidate) (group seed : List ℕ) (n : ℕ) → create_group c k group seed ≡ Err n → has (6 ∷ []) n ≡ true
+CreateNumbers = (c : Crypto) (k : Candidate) (group seed : List ℕ) (n : ℕ) →
+    create_group c k group seed ≡ Err n → has (6 ∷ []) n ≡ true
 
--- of a join, beside the numbers of decoding
+-- a join is refused with these numbers, beside those of decoding
 abbrev pub join_numbers : List ℕ
-join_numbers = 20 ∷ 21 ∷ 23 ∷ 24 ∷ 25 ∷ 26 ∷ 34 ∷ 35 ∷ 36 ∷ 51 ∷ 52 ∷ 65 ∷ 70 ∷ 71 ∷ 72 ∷ 73 ∷ 74 ∷ 75 ∷ 76 ∷ 77 ∷ 78 ∷ 79 ∷ 80 ∷ []
+join_numbers =
+    20 ∷ 21 ∷ 23 ∷ 24 ∷ 25 ∷ 26 ∷ 34 ∷ 35 ∷ 36 ∷ 51 ∷ 52 ∷ 65
+    ∷ 70 ∷ 71 ∷ 72 ∷ 73 ∷ 74 ∷ 75 ∷ 76 ∷ 77 ∷ 78 ∷ 79 ∷ 80 ∷ []
 
 abbrev pub JoinNumbers : Type 0
-JoinNumbers = (c : Crypto) (k : Candidate) (bytes : List ℕ) (n : ℕ) → join_verdict c k bytes ≡ Err n → (is_input_fault n || has join_numbers n) ≡ true
+JoinNumbers = (c : Crypto) (k : Candidate) (bytes : List ℕ) (n : ℕ) →
+    join_verdict c k bytes ≡ Err n → (is_input_fault n || has join_numbers n) ≡ true

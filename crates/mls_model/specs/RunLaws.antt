@@ -9,13 +9,14 @@ use Rattle.mls_model.specs.Headline.{RefusalsChangeNothing, FollowsOwn}
 
 -- ---- lists put together
 
--- the world after two lists of events is that after the second, from where the first led
+-- the world after two lists of events is that after the second, which begins where the first led
 abbrev pub RunInParts : Type 0
 RunInParts = (c : Crypto) (w : World) (xs ys : List Event) → run c w (xs ++ ys) ≡ run c (run c w xs) ys
 
--- and so are the replies
+-- the replies to two lists of events are those to the first, then those to the second, which begins where the first led
 abbrev pub RepliesInParts : Type 0
-RepliesInParts = (c : Crypto) (w : World) (xs ys : List Event) → replies c w (xs ++ ys) ≡ replies c w xs ++ replies c (run c w xs) ys
+RepliesInParts = (c : Crypto) (w : World) (xs ys : List Event) →
+    replies c w (xs ++ ys) ≡ replies c w xs ++ replies c (run c w xs) ys
 
 -- each event has one reply
 abbrev pub OneReplyEach : Type 0
@@ -25,7 +26,7 @@ OneReplyEach = (c : Crypto) (w : World) (events : List Event) → length (replie
 abbrev pub RefusedLeave : Type 0
 RefusedLeave = (c : Crypto) (w : World) → RefusalsChangeNothing c w
 
--- and an event that isn't refused answers what its call does
+-- in every world an event that isn't refused does what its call does
 abbrev pub AnsweredStep : Type 0
 AnsweredStep = (c : Crypto) (w : World) (e : Event) (x : Reply × World) → answer c w e ≡ Ok x → step c w e ≡ x
 

@@ -1,5 +1,5 @@
--- Members that share an epoch, and what a commit that one of them makes does: to itself, to the others, and to those that it
--- adds.
+-- Members that share an epoch, and what a commit that one of them makes does: to itself, to the others, and to those
+-- that it adds.
 use Rattle.std.specs.Prelude.{◌≡◌, ◌≢◌, ℕ, true, false, List, Option, Some, Ok}
 use Rattle.std.specs.List.{list_any}
 use Rattle.std.specs.Str.{bytes_eq}
@@ -8,7 +8,8 @@ use Rattle.mls_types.specs.declared.commit.ProposalOrRef.{ProposalOrRef}
 use Rattle.mls_suite.specs.Crypto.{Crypto}
 use Rattle.mls_tree_model.specs.Sets.{has}
 use Rattle.mls_model.specs.declared.effect.Effect.TheVariants.{Advanced, Removed}
-use Rattle.mls_model.specs.Agreement.{Agree, AgreeSecret, Keeps, IsGoodMember, IsGoodCandidate}
+use Rattle.mls_model.specs.Agreement.{Agree, AgreeSecret, Keeps}
+use Rattle.mls_model.specs.MemberInvariant.{IsGoodMember, IsGoodCandidate}
 use Rattle.mls_model.specs.Candidate.{Candidate}
 use Rattle.mls_model.specs.Join.{JoinedMember, join_verdict}
 use Rattle.mls_model.specs.Journal.{names_in, adds_in, removes_in}
@@ -47,8 +48,11 @@ pub record JoinsNext (c : Crypto) (next : Member) (k : Candidate) (welcome : Opt
 -- A commit of a list reaches the group, made by `maker`, which then has it pending as `after`. The committer follows
 -- it into the next epoch. Each member that shares the committer's epoch, and keeps the proposals that the list names,
 -- accepts it. Each good candidate whose own KeyPackage the list adds joins by the Welcome.
-pub record ReachesGroup (c : Crypto) (maker after : Member) (list : List ProposalOrRef) (commit : List ℕ) (welcome : Option (List ℕ)) : Type 0 where
+pub record ReachesGroup (c : Crypto) (maker after : Member) (list : List ProposalOrRef) (commit : List ℕ)
+    (welcome : Option (List ℕ)) : Type 0 where
   pub next : Member
   pub own : verdict c after commit ≡ Ok (Advanced next.public.context.epoch, next)
-  pub receivers : (m : Member) → ShareEpoch c maker m → Keeps m.kept list (names_in maker.kept list) → IsAccepted c next m list commit
-  pub joiners : (k : Candidate) → IsGoodCandidate c k → list_any (bytes_eq (key_package.spell k.offered)) (adds_in maker.kept list) ≡ true → JoinsNext c next k welcome
+  pub receivers : (m : Member) → ShareEpoch c maker m → Keeps m.kept list (names_in maker.kept list) →
+      IsAccepted c next m list commit
+  pub joiners : (k : Candidate) → IsGoodCandidate c k →
+      list_any (bytes_eq (key_package.spell k.offered)) (adds_in maker.kept list) ≡ true → JoinsNext c next k welcome

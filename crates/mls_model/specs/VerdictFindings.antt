@@ -18,7 +18,7 @@ use Rattle.mls_model.specs.declared.effect.Effect.TheVariants.{Proposed, Known, 
 use Rattle.mls_model.specs.PublicState.{Used}
 use Rattle.mls_model.specs.Proposals.{proposal_checks, removed_leaves}
 use Rattle.mls_model.specs.Commit.{Change, public_with}
-use Rattle.mls_model.specs.Member.{Pending, Member, kept_under, named_proposals, first_own_key, with_keys, follow_edits, with_kept, with_epoch, after_removal}
+use Rattle.mls_model.specs.Member.{Pending, Member, kept_under, with_keys, keys_after_edits, with_kept, with_epoch, after_removal}
 use Rattle.mls_model.specs.Messages.{sender_leaf, is_handshake, is_content_signed, content_tag, reference_of}
 use Rattle.mls_model.specs.Verdict.{is_kept, kept_of, open_path_secret}
 
@@ -37,12 +37,13 @@ pub record IsFramed (c : Crypto) (m : Member) (v : PublicMessage) (bytes : List 
 
 -- ---- proposals
 
--- it was kept already, or it passed its checks and is kept
+-- the proposal of a message was kept already
 pub record WasKnown (m : Member) (v : SignedContent) (x : Effect × Member) : Type 0 where
   pub kept : is_some (kept_under m.kept (reference_of v)) ≡ true
   pub is : (Known (reference_of v), m) ≡ x
 
-pub record IsNowKept (c : Crypto) (m : Member) (v : SignedContent) (bytes : List ℕ) (said : Proposal) (x : Effect × Member) : Type 0 where
+pub record IsNowKept (c : Crypto) (m : Member) (v : SignedContent) (bytes : List ℕ) (said : Proposal)
+    (x : Effect × Member) : Type 0 where
   pub fresh : is_some (kept_under m.kept (reference_of v)) ≡ false
   pub checks : proposal_checks c m.public (sender_leaf v.sender) said ≡ Ok passed
   pub is : (Proposed (reference_of v), with_kept m (kept_of v bytes said)) ≡ x
@@ -58,15 +59,19 @@ pub record WasRemoved (m : Member) (used : List Used) (x : Effect × Member) : T
 unfoldable pub reached_epoch : Member → Change → Climb → List ℕ
 reached_epoch m change climb = next_epoch_secret (init_secret m.epoch) climb.secret (group_context.spell change.context)
 
--- it followed the commit
-pub record HasFollowed (c : Crypto) (m : Member) (v : SignedContent) (commit : Commit) (tag : List ℕ) (used : List Used) (change : Change) (x : Effect × Member) : Type 0 where
+-- a member followed a commit that wasn't its pending one
+pub record HasFollowed (c : Crypto) (m : Member) (v : SignedContent) (commit : Commit) (tag : List ℕ) (used : List Used)
+    (change : Change) (x : Effect × Member) : Type 0 where
   pub stays : has (removed_leaves used) m.keys.leaf ≡ false
   pub climb : Climb
-  pub opens : open_path_secret c m (sender_leaf v.sender) change (follow_edits (first_own_key (named_proposals m.kept commit.proposals)) change.edits.tree m.keys) commit.path ≡ Ok climb
-  pub confirmed : bytes_eq tag (confirmation_tag (reached_epoch m change climb) change.context.confirmed_transcript_hash) ≡ true
-  pub is : (Advanced change.context.epoch, with_epoch m (public_with change tag) (reached_epoch m change climb) (with_keys m.keys climb.keys)) ≡ x
+  pub opens : open_path_secret c m (sender_leaf v.sender) change
+      (keys_after_edits m commit.proposals change.edits.tree) commit.path ≡ Ok climb
+  pub confirmed : bytes_eq tag
+      (confirmation_tag (reached_epoch m change climb) change.context.confirmed_transcript_hash) ≡ true
+  pub is : (Advanced change.context.epoch,
+      with_epoch m (public_with change tag) (reached_epoch m change climb) (with_keys m.keys climb.keys)) ≡ x
 
--- it followed its pending commit
+-- a member followed its pending commit
 pub record DidPending (m : Member) (bytes : List ℕ) (x : Effect × Member) : Type 0 where
   pub pending : Pending
   pub is_pending : m.pending ≡ Some pending

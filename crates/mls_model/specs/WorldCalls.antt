@@ -21,34 +21,46 @@ use Rattle.mls_model.specs.Propose.{propose_add, propose_update, propose_remove}
 use Rattle.mls_model.specs.Make.{Made, make}
 use Rattle.mls_model.specs.Join.{join_verdict}
 use Rattle.mls_model.specs.Journal.{Journal, CommitMade, new_journal, with_entry, names_in, adds_in, entry_of}
-use Rattle.mls_model.specs.World.{World, Entrant, Seat, with_message, with_member, with_new_member, seat_at, entrant_at, bytes_of, package_of, items_of, commit_for_joiner, joiner_journal}
+use Rattle.mls_model.specs.World.{World, Entrant, Seat, with_member, with_new_member, seat_at, entrant_at, bytes_of, package_of, items_of, commit_for_joiner, joiner_journal}
 
 -- ---- candidates and groups
 
--- 93 a candidate has the signature key already
+-- a new candidate: 93 a candidate has the signature key already
 unfoldable pub candidate_answer : Crypto → World → List ℕ → List ℕ → Result (Reply × World) ℕ
 candidate_answer c w identity seed = do
-  require 93 (not (list_any (λ (e : Entrant). bytes_eq e.candidate.offered.leaf_node.signature_key (c.sig_public (sign_seed seed))) w.entrants))
+  require 93 (not (list_any (λ (e : Entrant).
+      bytes_eq e.candidate.offered.leaf_node.signature_key (c.sig_public (sign_seed seed))) w.entrants))
   k ← new_candidate c identity seed
   Ok (
     reply.Candidate (length w.entrants) (length w.messages),
-    record w { entrants = w.entrants ++ (record { candidate = k; is_spent = false } ∷ []); messages = w.messages ++ (package_message k.offered ∷ []) },
+    record w {
+      entrants = w.entrants ++ (record { candidate = k; is_spent = false } ∷ []);
+      messages = w.messages ++ (package_message k.offered ∷ []);
+    },
   )
 
--- 92 no such candidate, 91 a spent one; it becomes the only member of a new group (RFC 9420, 11), and its journal begins
+-- a candidate becomes the only member of a new group (RFC 9420, 11), and its journal begins: 92 no such candidate, 91 a
+-- spent one
 unfoldable pub create_answer : Crypto → World → ℕ → List ℕ → List ℕ → Result (Reply × World) ℕ
 create_answer c w n group seed = do
   e ← entrant_at w n
   m ← create_group c e.candidate group seed
-  Ok (reply.Created (length w.seats), with_new_member w n e (record { member = m; journal = new_journal (from.Creation (length w.seats)) }))
+  Ok (
+    reply.Created (length w.seats),
+    with_new_member w n e (record { member = m; journal = new_journal (from.Creation (length w.seats)) }),
+  )
 
 -- ---- proposals
 
 -- a proposal's message, and the member that keeps it
 abbrev pub proposal_answer : World → ℕ → Seat → List ℕ × Member → Reply × World
-proposal_answer w k s x = (reply.Proposal (length w.messages), with_message (with_member w k s x.1) x.0)
+proposal_answer w k s x = (
+  reply.Proposal (length w.messages),
+  record (with_member w k s x.1) { messages = w.messages ++ (x.0 ∷ []) },
+)
 
--- 90 no such member; 94, decoding and 95 of the source; then it proposes to add that KeyPackage (RFC 9420, 12.1.1)
+-- a member proposes to add the KeyPackage of a source (RFC 9420, 12.1.1): 90 no such member; 94, decoding and 95 of the
+-- source
 unfoldable pub propose_add_answer : Crypto → World → ℕ → Source → Result (Reply × World) ℕ
 propose_add_answer c w k source = do
   s ← seat_at w k
@@ -56,14 +68,14 @@ propose_add_answer c w k source = do
   x ← propose_add c s.member offered
   Ok (proposal_answer w k s x)
 
--- 90 no such member; then it proposes to update its own leaf (RFC 9420, 12.1.2)
+-- a member proposes to update its own leaf (RFC 9420, 12.1.2): 90 no such member
 unfoldable pub propose_update_answer : Crypto → World → ℕ → List ℕ → Result (Reply × World) ℕ
 propose_update_answer c w k seed = do
   s ← seat_at w k
   x ← propose_update c s.member seed
   Ok (proposal_answer w k s x)
 
--- 90 no such member; then it proposes to remove a leaf (RFC 9420, 12.1.3)
+-- a member proposes to remove a leaf (RFC 9420, 12.1.3): 90 no such member
 unfoldable pub propose_remove_answer : Crypto → World → ℕ → ℕ → Result (Reply × World) ℕ
 propose_remove_answer c w k leaf = do
   s ← seat_at w k
@@ -83,13 +95,13 @@ commit_record w k s list made = record {
   welcome = option_map (λ bytes. (length w.messages + 1, bytes)) made.welcome;
 }
 
--- its messages, and the reply
+-- the messages of a commit call: its commit, and its Welcome where there is one
 abbrev pub commit_messages : Made → Option (List ℕ) → List (List ℕ)
 commit_messages made None = made.commit ∷ []
 commit_messages made (Some welcome) = made.commit ∷ (welcome ∷ [])
 
--- 90 no such member; then what its list stands for; it makes the commit (RFC 9420, 12.4.1) and has it as pending, and
--- the world has the messages and the record
+-- a member makes a commit of what its list stands for (RFC 9420, 12.4.1) and has it as pending, and the world has the
+-- messages and the record: 90 no such member; 94, decoding and 95 of each source
 unfoldable pub commit_answer : Crypto → World → ℕ → List WorldItem → Bool → List ℕ → Result (Reply × World) ℕ
 commit_answer c w k items path seed = do
   s ← seat_at w k
@@ -97,10 +109,13 @@ commit_answer c w k items path seed = do
   made ← make c s.member list path seed
   Ok (
     reply.Commit (length w.messages) (option_map (λ (bytes : List ℕ). length w.messages + 1) made.welcome),
-    record (with_member w k s (with_pending s.member made.pending)) { messages = w.messages ++ commit_messages made made.welcome; made = w.made ++ (commit_record w k s list made ∷ []) },
+    record (with_member w k s (with_pending s.member made.pending)) {
+      messages = w.messages ++ commit_messages made made.welcome;
+      made = w.made ++ (commit_record w k s list made ∷ []);
+    },
   )
 
--- 90 no such member; it drops its pending commit, and the reply says whether there was one
+-- a member drops its pending commit, and the reply says whether there was one: 90 no such member
 unfoldable pub drop_answer : World → ℕ → Result (Reply × World) ℕ
 drop_answer w k = do
   s ← seat_at w k
@@ -108,21 +123,24 @@ drop_answer w k = do
 
 -- ---- deliveries and joins
 
--- a commit that was followed is a new entry
+-- a member's journal after what it did with these bytes: a commit that it followed is a new entry
 abbrev pub journal_after : Seat → List ℕ → Effect → Journal
 journal_after s bytes (Advanced epoch) = with_entry s.journal (entry_of s.member bytes)
 journal_after s bytes other = s.journal
 
--- 90 no such member, 94 no such message; it does what the verdict on these bytes says (RFC 9420, 6)
+-- a member does with the bytes of a source what its verdict says (RFC 9420, 6): 90 no such member, 94 no such message
 unfoldable pub deliver_answer : Crypto → World → ℕ → Source → Result (Reply × World) ℕ
 deliver_answer c w k source = do
   s ← seat_at w k
   bytes ← bytes_of w source
   x ← verdict c s.member bytes
-  Ok (reply.Delivered x.0, record w { seats = slice_set w.seats k (record { member = x.1; journal = journal_after s bytes x.0 }) })
+  Ok (
+    reply.Delivered x.0,
+    record w { seats = slice_set w.seats k (record { member = x.1; journal = journal_after s bytes x.0 }) },
+  )
 
--- 92 no such candidate, 91 a spent one, 94 no such message; it joins by these bytes as one more member, and is spent
--- (RFC 9420, 12.4.3.1)
+-- a candidate joins by the bytes of a source as one more member, and is spent (RFC 9420, 12.4.3.1): 92 no such
+-- candidate, 91 a spent one, 94 no such message
 unfoldable pub join_answer : Crypto → World → ℕ → Source → Result (Reply × World) ℕ
 join_answer c w n source = do
   e ← entrant_at w n
@@ -130,5 +148,8 @@ join_answer c w n source = do
   j ← join_verdict c e.candidate bytes
   Ok (
     reply.Joined (length w.seats) j.member.public.context.epoch,
-    with_new_member w n e (record { member = j.member; journal = joiner_journal (commit_for_joiner w.made source e.candidate) j.info }),
+    with_new_member w n e (record {
+      member = j.member;
+      journal = joiner_journal (commit_for_joiner w.made source e.candidate) j.info;
+    }),
   )

@@ -22,7 +22,7 @@ pub record IsFor (source : Source) (k : Candidate) (d : CommitMade) : Type 0 whe
   pub place : ℕ
   pub adds : slice_get d.adds place ≡ Some (key_package.spell k.offered)
 
--- and no commit that was made before does
+-- a commit is the first of those that made the source and add the candidate
 pub record IsFirstFor (made : List CommitMade) (source : Source) (k : Candidate) (d : CommitMade) : Type 0 where
   pub place : ℕ
   pub is : slice_get made place ≡ Some d
@@ -33,11 +33,13 @@ pub record IsFirstFor (made : List CommitMade) (source : Source) (k : Candidate)
 
 -- the record that is found is in the list, has the source and adds the candidate, and none before it does
 abbrev pub FoundIsFirst : Type 0
-FoundIsFirst = (made : List CommitMade) (source : Source) (k : Candidate) (d : CommitMade) → commit_for_joiner made source k ≡ Some d → IsFirstFor made source k d
+FoundIsFirst = (made : List CommitMade) (source : Source) (k : Candidate) (d : CommitMade) →
+    commit_for_joiner made source k ≡ Some d → IsFirstFor made source k d
 
--- and each such record is found
+-- the first such record is found
 abbrev pub FirstIsFound : Type 0
-FirstIsFound = (made : List CommitMade) (source : Source) (k : Candidate) (d : CommitMade) → IsFirstFor made source k d → commit_for_joiner made source k ≡ Some d
+FirstIsFound = (made : List CommitMade) (source : Source) (k : Candidate) (d : CommitMade) →
+    IsFirstFor made source k d → commit_for_joiner made source k ≡ Some d
 
 -- no record is for the candidate
 abbrev pub NoneIsFor : List CommitMade → Source → Candidate → Type 0
@@ -45,7 +47,9 @@ NoneIsFor made source k = (i : ℕ) (d : CommitMade) → slice_get made i ≡ So
 
 -- none is found just where there is none
 abbrev pub NoneIsFound : Type 0
-NoneIsFound = (made : List CommitMade) (source : Source) (k : Candidate) → commit_for_joiner made source k ≡ None → NoneIsFor made source k
+NoneIsFound = (made : List CommitMade) (source : Source) (k : Candidate) → commit_for_joiner made source k ≡ None →
+    NoneIsFor made source k
 
 abbrev pub NoneToFind : Type 0
-NoneToFind = (made : List CommitMade) (source : Source) (k : Candidate) → NoneIsFor made source k → commit_for_joiner made source k ≡ None
+NoneToFind = (made : List CommitMade) (source : Source) (k : Candidate) → NoneIsFor made source k →
+    commit_for_joiner made source k ≡ None

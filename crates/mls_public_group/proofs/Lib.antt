@@ -3,7 +3,6 @@ pub mod Leaves
 pub mod Lengths
 pub mod Limits
 pub mod Memory
-pub mod Names
 pub mod Rest
 pub mod ShortLaws
 pub mod Folding

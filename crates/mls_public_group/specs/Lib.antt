@@ -1,5 +1,4 @@
 pub mod Faults
-pub mod Names
 pub mod MessageLimit
 pub mod Short
 pub mod Codes

@@ -1,12 +1,14 @@
 //! What a group refuses.
 
 ghost use Rattle.std.specs.Prelude.{◌≡◌};
-ghost use Rattle.mls_public_group.specs.Faults.{number_of, name_of};
+ghost use Rattle.mls_wire.specs.Names.{refusal_name};
+ghost use Rattle.mls_public_group.specs.Faults.{number_of};
 ghost use Rattle.mls_public_group.specs.declared.error.GroupError.TheVariants.{Tree as in_tree, Check as in_check};
 ghost use Rattle.mls_tree.specs.declared.error.TreeError.TheVariants.{OutOfMemory};
 
 use mls_checks::CheckError;
 use mls_tree::TreeError;
+use mls_wire::refusal_name;
 use std::alloc::{AllocError, AllocFailed};
 use thiserror::Error;
 
@@ -78,14 +80,8 @@ impl GroupError {
 
     /// The name of the refusal, as it is printed.
     pub fn name(self) -> &'static str
-        ensures { result.now ≡ name_of self }
+        ensures { result.now ≡ refusal_name (number_of self) }
     {
-        match self {
-            GroupError::Tree(error) => error.name(),
-            GroupError::Check(error) => error.name(),
-            GroupError::CommitterUpdate => "CommitterUpdate",
-            GroupError::CommitterRemoved => "CommitterRemoved",
-            GroupError::SameLeafTwice => "SameLeafTwice",
-        }
+        refusal_name(self.number())
     }
 }

@@ -25,7 +25,7 @@ pub use due_path::is_path_required;
 pub use edits::Edits;
 pub use error::GroupError;
 pub use group::PublicGroup;
-pub use laws::{group_names_by_number, short_leaves_after_path};
+pub use laws::short_leaves_after_path;
 pub use next_tree::NextTree;
 pub use shared_tree::SharedTree;
 pub use used_proposal::Used;

@@ -1,3 +1,2 @@
 pub mod LawsLemmas
 pub mod Lengths
-pub mod Names

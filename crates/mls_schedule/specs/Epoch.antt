@@ -5,7 +5,7 @@ use Rattle.mls_kdf.specs.Kdf.{hmac, extract, expand_with_label, derive_secret}
 
 -- ---- what leads to an epoch (RFC 9420, 8)
 
--- from the last epoch's init secret, the commit secret and the new context (RFC 9420, 8)
+-- joiner_secret: from the last epoch's init secret, the commit secret and the new context (RFC 9420, 8)
 unfoldable pub joiner_secret : List ℕ → List ℕ → List ℕ → List ℕ
 joiner_secret init commit_secret context = expand_with_label (extract init commit_secret) (codes "joiner") context 32
 
@@ -13,17 +13,17 @@ joiner_secret init commit_secret context = expand_with_label (extract init commi
 unfoldable pub intermediate_secret : List ℕ → List ℕ
 intermediate_secret joiner = extract joiner (replicate 32 0)
 
--- from the joiner secret (RFC 9420, 8)
+-- welcome_secret: from the joiner secret (RFC 9420, 8)
 unfoldable pub welcome_secret : List ℕ → List ℕ
 welcome_secret joiner = derive_secret (intermediate_secret joiner) (codes "welcome")
 
--- from the joiner secret and the new context (RFC 9420, 8)
+-- epoch_secret: from the joiner secret and the new context (RFC 9420, 8)
 unfoldable pub epoch_secret : List ℕ → List ℕ → List ℕ
 epoch_secret joiner context = expand_with_label (intermediate_secret joiner) (codes "epoch") context 32
 
 -- the welcome secret of the next epoch, from init secret, commit secret and new context (RFC 9420, 8)
-unfoldable pub next_welcome_secret : List ℕ → List ℕ → List ℕ → List ℕ
-next_welcome_secret init commit_secret context = welcome_secret (joiner_secret init commit_secret context)
+unfoldable pub next_welcome : List ℕ → List ℕ → List ℕ → List ℕ
+next_welcome init commit_secret context = welcome_secret (joiner_secret init commit_secret context)
 
 -- the epoch secret of the next epoch, from init secret, commit secret and new context (RFC 9420, 8)
 unfoldable pub next_epoch_secret : List ℕ → List ℕ → List ℕ → List ℕ
@@ -31,53 +31,53 @@ next_epoch_secret init commit_secret context = epoch_secret (joiner_secret init 
 
 -- ---- what a Welcome's GroupInfo is sealed under (RFC 9420, 12.4.3.1)
 
--- from the joiner secret (RFC 9420, 12.4.3.1)
+-- welcome_key: from the joiner secret (RFC 9420, 12.4.3.1)
 unfoldable pub welcome_key : List ℕ → List ℕ
 welcome_key joiner = expand_with_label (welcome_secret joiner) (codes "key") [] 16
 
--- from the joiner secret (RFC 9420, 12.4.3.1)
+-- welcome_nonce: from the joiner secret (RFC 9420, 12.4.3.1)
 unfoldable pub welcome_nonce : List ℕ → List ℕ
 welcome_nonce joiner = expand_with_label (welcome_secret joiner) (codes "nonce") [] 12
 
 -- ---- what an epoch secret gives: the nine secrets (RFC 9420, 8)
 
--- (RFC 9420, 8)
+-- sender_data_secret: what the keys of sender data are made of (RFC 9420, 8)
 unfoldable pub sender_data_secret : List ℕ → List ℕ
 sender_data_secret epoch = derive_secret epoch (codes "sender data")
 
--- (RFC 9420, 8)
+-- encryption_secret: the root of the secret tree (RFC 9420, 8)
 unfoldable pub encryption_secret : List ℕ → List ℕ
 encryption_secret epoch = derive_secret epoch (codes "encryption")
 
--- (RFC 9420, 8)
+-- exporter_secret: what exported secrets are made of (RFC 9420, 8)
 unfoldable pub exporter_secret : List ℕ → List ℕ
 exporter_secret epoch = derive_secret epoch (codes "exporter")
 
--- (RFC 9420, 8)
+-- external_secret: what the keys of external commits are made of (RFC 9420, 8)
 unfoldable pub external_secret : List ℕ → List ℕ
 external_secret epoch = derive_secret epoch (codes "external")
 
--- (RFC 9420, 8)
+-- confirmation_key: the key of confirmation tags (RFC 9420, 8)
 unfoldable pub confirmation_key : List ℕ → List ℕ
 confirmation_key epoch = derive_secret epoch (codes "confirm")
 
--- (RFC 9420, 8)
+-- membership_key: the key of membership tags (RFC 9420, 8)
 unfoldable pub membership_key : List ℕ → List ℕ
 membership_key epoch = derive_secret epoch (codes "membership")
 
--- (RFC 9420, 8)
+-- resumption_psk: what a group is resumed with (RFC 9420, 8)
 unfoldable pub resumption_psk : List ℕ → List ℕ
 resumption_psk epoch = derive_secret epoch (codes "resumption")
 
--- (RFC 9420, 8)
+-- epoch_authenticator: what members compare to see that they agree (RFC 9420, 8)
 unfoldable pub epoch_authenticator : List ℕ → List ℕ
 epoch_authenticator epoch = derive_secret epoch (codes "authentication")
 
--- (RFC 9420, 8)
+-- init_secret: what the next epoch is made from (RFC 9420, 8)
 unfoldable pub init_secret : List ℕ → List ℕ
 init_secret epoch = derive_secret epoch (codes "init")
 
--- the nine together (RFC 9420, 8)
+-- the nine secrets that are made of an epoch secret (RFC 9420, 8)
 pub record NineSecrets : Type 0 where
   pub sender_data : List ℕ
   pub encryption : List ℕ
@@ -89,7 +89,7 @@ pub record NineSecrets : Type 0 where
   pub authenticator : List ℕ
   pub init : List ℕ
 
--- (RFC 9420, 8)
+-- the nine secrets of an epoch secret (RFC 9420, 8)
 abbrev pub nine_secrets : List ℕ → NineSecrets
 nine_secrets epoch = record {
   sender_data = sender_data_secret epoch;

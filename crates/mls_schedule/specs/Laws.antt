@@ -3,7 +3,7 @@ use Rattle.std.specs.Prelude.{◌≡◌, ℕ, List, ◌⊎◌, ◌≢◌}
 use Rattle.mls_schedule.specs.Epoch.{epoch_secret, next_epoch_secret, nine_secrets, confirmation_tag}
 use Rattle.mls_schedule.specs.Twins.{Twins}
 
--- two epoch secrets are one, and so are their nine secrets
+-- two epoch secrets are one, and have the same nine secrets
 pub record AreOne (first second : List ℕ) : Type 0 where
   pub epoch : first ≡ second
   pub nine : nine_secrets first ≡ nine_secrets second

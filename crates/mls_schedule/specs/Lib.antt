@@ -4,4 +4,3 @@ pub mod Twins
 pub mod Laws
 pub mod EpochFields
 pub mod Faults
-pub mod Names

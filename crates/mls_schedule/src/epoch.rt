@@ -1,14 +1,14 @@
 //! The secrets of an epoch (RFC 9420, 8). A context is the bytes of the epoch's GroupContext, less than
 //! 2^30.
 
-ghost use Rattle.std.specs.Prelude.{◌≡◌, ◌<◌, ◌≤◌, ◌^◌, ◌↔◌, length, IsErrOf, OnOk, OnErr};
+ghost use Rattle.std.specs.Prelude.{◌≡◌, ◌<◌, ◌≤◌, ◌^◌, ◌↔◌, length, OnErr};
 ghost use Rattle.mls_kdf.specs.Kdf.{joined_pieces, expand_with_label, max_output};
-ghost use Rattle.mls_schedule.specs.Epoch.{joiner_secret, welcome_secret, next_welcome_secret, welcome_key, welcome_nonce, intermediate_secret, epoch_secret, next_epoch_secret, nine_secrets, confirmation_tag, membership_tag, exported};
+ghost use Rattle.mls_kdf.specs.Outputs.{Fills};
+ghost use Rattle.mls_schedule.specs.Faults.{IsTooLong};
+ghost use Rattle.mls_schedule.specs.Epoch.{joiner_secret, welcome_secret, next_welcome, welcome_key, welcome_nonce, intermediate_secret, epoch_secret, next_epoch_secret, nine_secrets, confirmation_tag, membership_tag, exported};
 
 use crate::ScheduleError;
-use mls_kdf::{
-    HmacKey, KdfError, Secret, Seed, derive_secret, expand_with_label, extract, hash, hmac,
-};
+use mls_kdf::{HmacKey, Secret, Seed, derive_secret, expand_with_label, extract, hash, hmac};
 use std::marker::Model;
 
 /// The secrets of one epoch: the epoch secret, and the nine that are made of it.
@@ -101,11 +101,11 @@ impl Epoch {
 
     /// The epoch after one with this init secret, by a commit with this commit secret. The context is
     /// the new epoch's.
-    #[tactic(auto, unfolding(crate::specs::Epoch::joiner_secret, crate::specs::Epoch::next_welcome_secret, crate::specs::Epoch::next_epoch_secret))]
+    #[tactic(auto, unfolding(crate::specs::Epoch::joiner_secret, crate::specs::Epoch::next_welcome, crate::specs::Epoch::next_epoch_secret))]
     pub fn next(init: &Secret, commit_secret: &Secret, context: &[u8]) -> Start
         requires { length context.now < 2 ^ 30 }
         ensures joiner { result.joiner ≡ joiner_secret init.now commit_secret.now context.now }
-        ensures welcome { result.welcome ≡ next_welcome_secret init.now commit_secret.now context.now }
+        ensures welcome { result.welcome ≡ next_welcome init.now commit_secret.now context.now }
         ensures epoch { result.epoch ≡ next_epoch_secret init.now commit_secret.now context.now }
     {
         let joiner = expand_secret(&extract(init, commit_secret), "joiner", context);
@@ -236,8 +236,8 @@ impl Epoch {
     #[tactic(auto, unfolding(crate::specs::Epoch::exported))]
     pub fn export(&self, label: &str, context: &[u8], out: &mut [u8]) -> Result<(), ScheduleError>
         requires { length label.now ≤ 200 }
-        ensures too_long { IsErrOf result (ScheduleError.Kdf KdfError.OutputTooLong) ↔ (max_output < length out.old) }
-        ensures ok { OnOk result (out.new ≡ exported self.now label.now context.now (length out.old)) }
+        ensures too_long { IsTooLong result ↔ (max_output < length out.old) }
+        ensures ok { Fills (exported self.now label.now context.now) out.old result out.new }
         ensures err { OnErr result (out.new ≡ out.old) }
     {
         let secret = derive_secret(&self.exporter, label);

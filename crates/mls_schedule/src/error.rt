@@ -3,6 +3,7 @@
 ghost use Rattle.std.specs.Prelude.{◌≡◌};
 
 use mls_kdf::KdfError;
+use mls_wire::refusal_name;
 use thiserror::Error;
 
 /// Why a secret is not exported.
@@ -24,7 +25,8 @@ impl From<KdfError> for ScheduleError {
 }
 
 impl ScheduleError {
-    ghost use Rattle.mls_schedule.specs.Faults.{number_of, name_of};
+    ghost use Rattle.mls_wire.specs.Names.{refusal_name};
+    ghost use Rattle.mls_schedule.specs.Faults.{number_of};
 
     /// The number of the refusal.
     pub fn number(self) -> u8
@@ -37,10 +39,8 @@ impl ScheduleError {
 
     /// The name of the refusal.
     pub fn name(self) -> &'static str
-        ensures { result.now ≡ name_of self }
+        ensures { result.now ≡ refusal_name (number_of self) }
     {
-        match self {
-            ScheduleError::Kdf(error) => error.name(),
-        }
+        refusal_name(self.number())
     }
 }

@@ -1,7 +1,6 @@
 //! What holds of any epochs: laws, each the contract of a function that does nothing.
 
 ghost use Rattle.mls_schedule.specs.Laws.{JoinerReachesNext, EqualOrTwins, TwinsShareTags};
-ghost use Rattle.mls_schedule.specs.Names.{ScheduleNamesAreListed};
 
 /// A law: two epochs with one confirmation tag over a confirmed hash have one epoch secret and the
 /// same nine secrets, or they are twins.
@@ -18,9 +17,4 @@ pub fn joiner_reaches_next()
 /// A law: twins are different, and have one confirmation tag.
 pub fn twins_share_tags()
     ensures { TwinsShareTags }
-{}
-
-/// The names of refusals stand in one table, each at its number.
-pub fn schedule_names_by_number()
-    ensures { ScheduleNamesAreListed }
 {}

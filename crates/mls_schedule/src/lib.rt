@@ -11,6 +11,6 @@ mod transcript;
 
 pub use epoch::{Epoch, Start, WelcomeKey};
 pub use error::ScheduleError;
-pub use laws::{equal_or_twins, joiner_reaches_next, schedule_names_by_number, twins_share_tags};
+pub use laws::{equal_or_twins, joiner_reaches_next, twins_share_tags};
 pub use mls_kdf::{MAX_OUTPUT, Secret, Seed};
 pub use transcript::Transcript;

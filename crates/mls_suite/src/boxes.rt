@@ -1,7 +1,7 @@
 //! Boxes of the practice suite: a text combined with a stream made of a key, and its tag.
 
 ghost use Rattle.std.specs.Prelude.{◌≡◌, ◌+◌, ◌-◌, ◌*◌, ◌<◌, ◌≤◌, ◌^◌, ◌++◌, length, take, drop, IfOk};
-ghost use Rattle.std.specs.Option.{option_map};
+ghost use Rattle.mls_suite.specs.Sealings.{OpensTo};
 ghost use Rattle.mls_suite.specs.Glass.{xor_with, stream_block, xor_with_stream, box_tag, make_box, open_box};
 
 use crate::OutOfMemory;
@@ -17,7 +17,7 @@ fn xor_block(bytes: &mut [u8], block: &Secret)
     }
 }
 
-/// The same from `start` on.
+/// Combines the bytes from `start` on with those of a block of the stream, as far as both go.
 fn xor_block_at(bytes: &mut [u8], start: usize, block: &Secret)
     requires { start ≤ length bytes.old }
     ensures { bytes.new ≡ take start bytes.old ++ xor_with (drop start bytes.old) block.now }
@@ -65,7 +65,7 @@ pub(crate) fn make_box(alloc: Global, key: &[u8], pt: &[u8]) -> Result<Vec<u8>, 
 
 #[tactic(auto, unfolding(crate::specs::Glass::open_box))]
 pub(crate) fn open_box(alloc: Global, key: &[u8], ct: &[u8]) -> Result<Option<Vec<u8>>, OutOfMemory>
-    ensures { IfOk result (λ pt. option_map (λ v. v.items) pt ≡ open_box key.now ct.now) }
+    ensures { OpensTo (open_box key.now ct.now) result }
 {
     if ct.len() < 32 {
         return Ok(None);

@@ -3,9 +3,8 @@
 //! or a context less than 2^30.
 
 ghost use Rattle.std.specs.Prelude.{◌≡◌, ◌+◌, ◌<◌, ◌≤◌, ◌^◌, length, IfOk};
-ghost use Rattle.std.specs.Option.{option_map};
-ghost use Rattle.mls_suite.specs.Sealings.{sealing_of};
-ghost use Rattle.mls_suite.specs.Labels.{content_with_label, sign_with_label, verify_with_label, encrypt_with_label, decrypt_with_label};
+ghost use Rattle.mls_suite.specs.Labels.{content_with_label, sign_with_label};
+ghost use Rattle.mls_suite.specs.LabelCalls.{VerifiesWithLabel, EncryptsWithLabel, DecryptsWithLabel};
 ghost use Rattle.mls_suite.specs.LabelLaws.{VerifiesSigned, OpensSealed, SealsWhereFit, SignsShort};
 
 use crate::{OutOfMemory, Sealed, Suite};
@@ -60,7 +59,7 @@ pub fn verify_with_label<S: Suite>(
 ) -> Result<bool, OutOfMemory>
     requires label { length label.now ≤ 200 }
     requires content { length content.now < 2 ^ 30 }
-    ensures { IfOk result (λ b. b ≡ verify_with_label S.crypto pk.now label.now content.now signature.now) }
+    ensures { VerifiesWithLabel S.crypto pk.now label.now content.now signature.now result }
 {
     let bytes = content_with_label(alloc, label, content)?;
     Ok(S::verify(pk, &bytes, signature))
@@ -79,7 +78,7 @@ pub fn encrypt_with_label<S: Suite>(
 ) -> Result<Option<Sealed>, OutOfMemory>
     requires label { length label.now ≤ 200 }
     requires context { length context.now < 2 ^ 30 }
-    ensures { IfOk result (λ s. sealing_of s ≡ encrypt_with_label S.crypto pk.now label.now context.now pt.now rnd.now) }
+    ensures { EncryptsWithLabel S.crypto pk.now label.now context.now pt.now rnd.now result }
 {
     let info = content_with_label(alloc, label, context)?;
     S::seal(alloc, pk, &info, pt, rnd)
@@ -98,7 +97,7 @@ pub fn decrypt_with_label<S: Suite>(
 ) -> Result<Option<Vec<u8>>, OutOfMemory>
     requires label { length label.now ≤ 200 }
     requires context { length context.now < 2 ^ 30 }
-    ensures { IfOk result (λ pt. option_map (λ v. v.items) pt ≡ decrypt_with_label S.crypto sk.now label.now context.now kem.now ct.now) }
+    ensures { DecryptsWithLabel S.crypto sk.now label.now context.now kem.now ct.now result }
 {
     let info = content_with_label(alloc, label, context)?;
     S::unseal(alloc, sk, kem, &info, ct)

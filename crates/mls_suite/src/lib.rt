@@ -3,9 +3,8 @@
 #![tactic(auto)]
 
 ghost use Rattle.std.specs.Prelude.{◌≡◌, ℕ, IfOk};
-ghost use Rattle.std.specs.Option.{option_map};
 ghost use Rattle.mls_suite.specs.Crypto.{Crypto, Lawful};
-ghost use Rattle.mls_suite.specs.Sealings.{sealing_of};
+ghost use Rattle.mls_suite.specs.Sealings.{OpensTo, SealsTo};
 
 use std::alloc::{AllocError, Global};
 
@@ -59,8 +58,8 @@ pub trait Suite {
 
     /// The key pair made of input key material.
     fn derive_key_pair(alloc: Global, ikm: &[u8]) -> Result<KeyPair, OutOfMemory>
-        ensures private { IfOk result (λ pair. pair.sk ≡ crypto.derive ikm.now) }
-        ensures public { IfOk result (λ pair. pair.pk.items ≡ crypto.public (crypto.derive ikm.now)) };
+        ensures private { IfOk result (λ p. p.sk ≡ crypto.derive ikm.now) }
+        ensures public { IfOk result (λ p. p.pk.items ≡ crypto.public (crypto.derive ikm.now)) };
 
     /// Seals `pt` to a public key with 32 random bytes; None where the key is not fit.
     fn seal(
@@ -70,7 +69,7 @@ pub trait Suite {
         pt: &[u8],
         rnd: &[u8; 32],
     ) -> Result<Option<Sealed>, OutOfMemory>
-        ensures { IfOk result (λ s. sealing_of s ≡ crypto.seal pk.now info.now pt.now rnd.now) };
+        ensures { SealsTo (crypto.seal pk.now info.now pt.now rnd.now) result };
 
     /// Opens what was sealed; None where it does not open.
     fn unseal(
@@ -80,7 +79,7 @@ pub trait Suite {
         info: &[u8],
         ct: &[u8],
     ) -> Result<Option<Vec<u8>>, OutOfMemory>
-        ensures { IfOk result (λ pt. option_map (λ v. v.items) pt ≡ crypto.unseal sk.now kem.now info.now ct.now) };
+        ensures { OpensTo (crypto.unseal sk.now kem.now info.now ct.now) result };
 
     /// The public key of a signature key.
     fn sig_public(alloc: Global, sk: &[u8; 32]) -> Result<Vec<u8>, OutOfMemory>
@@ -102,7 +101,7 @@ pub trait Suite {
         aad: &[u8],
         pt: &[u8],
     ) -> Result<Vec<u8>, OutOfMemory>
-        ensures { IfOk result (λ ct. ct.items ≡ crypto.aead_seal key.now nonce.now aad.now pt.now) };
+        ensures { IfOk result (λ v. v.items ≡ crypto.aead_seal key.now nonce.now aad.now pt.now) };
 
     /// Opens what was sealed under a key and a nonce; None where it does not open.
     fn aead_open(
@@ -112,7 +111,7 @@ pub trait Suite {
         aad: &[u8],
         ct: &[u8],
     ) -> Result<Option<Vec<u8>>, OutOfMemory>
-        ensures { IfOk result (λ pt. option_map (λ v. v.items) pt ≡ crypto.aead_open key.now nonce.now aad.now ct.now) };
+        ensures { OpensTo (crypto.aead_open key.now nonce.now aad.now ct.now) result };
 
     // The number that definitions see is the suite's.
     ghost numbered: { crypto.number ≡ NUMBER };

@@ -10,7 +10,7 @@ pub made : (c : Crypto) (laws : Lawful c) (sk pk label context pt rnd : List ℕ
     → pk ≡ c.public sk → s ≡ encrypt_with_label c pk label context pt rnd → is_some s ≡ true
 made c laws sk pk label context pt rnd s p e = rw (e, p) ((seals_where_fit c laws).public sk label context pt rnd)
 
--- and what is read is what was sealed
+-- what is read is what was sealed
 pub reads : (c : Crypto) (laws : Lawful c) (sk pk label context pt rnd : List ℕ) (s : Sealing) (read : Option (List ℕ))
     → pk ≡ c.public sk → Some s ≡ encrypt_with_label c pk label context pt rnd
     → read ≡ decrypt_with_label c sk label context s.kem s.ct → read ≡ Some pt
@@ -27,7 +27,7 @@ unmade : (s : Option Sealing) → is_some s ≡ true → s ≡ None → ⊥
 unmade None h e = absurd cc
 unmade (Some x) h e = absurd cc
 
--- so no seal to a public key is refused
+-- no seal to a public key is refused
 pub never_unmade : (c : Crypto) (laws : Lawful c) (sk pk label context pt rnd : List ℕ)
     → pk ≡ c.public sk → None ≡ encrypt_with_label c pk label context pt rnd → ⊥
 never_unmade c laws sk pk label context pt rnd p e = unmade None (made c laws sk pk label context pt rnd None p e) refl
@@ -35,7 +35,7 @@ never_unmade c laws sk pk label context pt rnd p e = unmade None (made c laws sk
 unread : (read : Option (List ℕ)) (text : List ℕ) → read ≡ None → read ≡ Some text → ⊥
 unread read text none some = (let no : None ≡ Some text = sym none ∙ some in absurd cc)
 
--- nor is what was sealed shut
+-- what was sealed is not shut
 pub never_shut : (c : Crypto) (laws : Lawful c) (sk pk label context pt rnd : List ℕ) (s : Sealing)
     → pk ≡ c.public sk → Some s ≡ encrypt_with_label c pk label context pt rnd
     → None ≡ decrypt_with_label c sk label context s.kem s.ct → ⊥

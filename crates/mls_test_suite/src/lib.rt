@@ -1,5 +1,5 @@
 //! Callers that are generic over a suite: two that use its laws through the bound, and an auditor's check of a tree.
-//! Also a suite for authors of suites to copy.
+//! Beside them stands a suite for authors of suites to copy.
 #![tactic(auto)]
 
 ghost use Rattle.std.specs.Prelude.{◌≡◌, ◌<◌, ◌≤◌, ◌^◌, length, IfOk, Some, option_map, true};

@@ -1,9 +1,7 @@
 //! A ratchet tree as it was sent (RFC 9420, 12.4.3.3), as an auditor of a group takes it.
 
 ghost use Rattle.std.specs.Prelude.{◌<◌, ◌^◌, length};
-ghost use Rattle.mls_wire.specs.Checks.{Answers};
-ghost use Rattle.mls_cli_check.specs.CheckFaults.{number_of};
-ghost use Rattle.mls_test_suite.specs.CheckedHash.{hash_of_checked_tree};
+ghost use Rattle.mls_test_suite.specs.CheckedHash.{AnswersHash, hash_of_checked_tree};
 
 use mls_cli_check::{CheckError, tree_in};
 use mls_suite::Suite;
@@ -11,7 +9,7 @@ use mls_tree::Hash;
 use std::alloc::Global;
 
 /// Reads a ratchet tree, checks it for the group with this id, and answers its tree hash (RFC 9420, 7.8). It is refused
-/// with the first fault: of decoding (2 to 7, 11 to 14), of the tree's shape (20) and size (21), and of the checks of
+/// with the first fault: of decoding (2 to 7, 11 to 14), `TreeShape` (20), `TreeFull` (21), and those of the checks of
 /// a good tree (23 to 26, 51, 52, 36).
 pub fn hash_of_checked_tree<S: Suite>(
     alloc: Global,
@@ -19,7 +17,7 @@ pub fn hash_of_checked_tree<S: Suite>(
     group_id: &[u8],
 ) -> Result<Hash, CheckError>
     requires group { length group_id.now < 2 ^ 28 }
-    ensures { Answers (λ hash. hash) number_of (hash_of_checked_tree S.crypto group_id.now bytes.now) result }
+    ensures { AnswersHash (hash_of_checked_tree S.crypto group_id.now bytes.now) result }
 {
     let mut tree = tree_in(alloc, bytes)?;
     tree.check::<S>(group_id)?;

@@ -1,5 +1,5 @@
-//! A commit's path in the order of its calls: the edits are followed, the path is made, sealed and merged, and then it is
-//! opened by members and taken by a joiner.
+//! A commit's path in the order of its calls: the edits are followed, the path is made, sealed and merged, and then it
+//! is opened by members and taken by a joiner.
 
 use crate::small_trees::{
     boxed, follow_edit, four, answers_with, has_nodes, holds, leaf, make_path, next, open_path, public,

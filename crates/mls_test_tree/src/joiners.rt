@@ -157,8 +157,8 @@ fn a_refusal_changes_no_key(rt: HostRuntime) {
     assert!(rt; holds(refuses(alloc, &[1], 0, &SECRET)));
 }
 
-/// Whether leaf 3, where the parent over it lists these, refuses the secret with this number, and has keys of these nodes
-/// then; 0 where it takes it.
+/// Whether leaf 3, where the parent over it lists these, refuses the secret with this number, and has keys of these
+/// nodes then; 0 where it takes it.
 fn is_refused_of_four(
     alloc: Global,
     joiner: &mut PrivatePath,
@@ -193,8 +193,8 @@ fn a_parent_below_lists_the_joiner(rt: HostRuntime) {
     assert!(rt; takes_where_listed(rt.alloc()));
 }
 
-/// Whether a joiner without a path secret, the second of two members, whose root lists these, is refused with this number;
-/// 0 where it isn't.
+/// Whether a joiner without a path secret, the second of two members, whose root lists these, is refused with this
+/// number; 0 where it isn't.
 fn lacks_keys(alloc: Global, listed: &[u32], number: u8) -> Option<bool> {
     let tree = two(alloc, listed)?;
     let joiner = with_key(alloc, 1, 2)?;

@@ -1,6 +1,7 @@
-//! Members of small trees and their keys, for the tests, and the calls that these make. They promise nothing: what a test
-//! expects is run, and a proof that carried the clauses of each call would take minutes. They answer None where a call
-//! is refused or memory runs out, and give what a test holds in a box, since a proof drops all that is held at each end.
+//! Members of small trees and their keys, for the tests, and the calls that these make. They promise nothing: what a
+//! test expects is run, and a proof that carried the clauses of each call would take minutes. They answer None where a
+//! call is refused or memory runs out, and give what a test holds in a box, since a proof drops all that is held at
+//! each end.
 
 use mls_types::UpdatePathNode;
 use mls_kdf::{Secret, derive_secret};

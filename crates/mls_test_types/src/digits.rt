@@ -76,8 +76,8 @@ pub(crate) fn gives(
     Ok(())
 }
 
-/// Asserts of each row that its value is spelled so again, where its number is 0, or that `decode` and `check_all` refuse
-/// it with this number.
+/// Asserts of each row that its value is spelled so again, where its number is 0, or that `decode` and `check_all`
+/// refuse it with this number.
 pub(crate) fn answers<T: Codec>(
     rt: &impl Abort,
     alloc: Global,

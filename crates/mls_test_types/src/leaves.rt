@@ -10,14 +10,14 @@ use std::test::Fail;
 const KEY_PACKAGE: &str =
     "0001f00101aa01bb01cc000103626f6202000102f0010000020001010000000000000000ffffffffffffffff0001dd0001ee";
 
-/// The same without its signature.
+/// The `KEY_PACKAGE` without its signature.
 const KEY_PACKAGE_TBS: &str =
     "0001f00101aa01bb01cc000103626f6202000102f0010000020001010000000000000000ffffffffffffffff0001dd00";
 
-/// The same leaf with the source update.
+/// The leaf of `KEY_PACKAGE` with the source update.
 const UPDATED_LEAF: &str = "01bb01cc000103626f6202000102f0010000020001020001dd";
 
-/// What is signed of it in the group 6701 at leaf 5.
+/// What is signed of `UPDATED_LEAF` in the group 6701 at leaf 5.
 const SIGNED_LEAF: &str = "01bb01cc000103626f6202000102f0010000020001020002670100000005";
 
 /// Whether these fields of the KeyPackage are so.

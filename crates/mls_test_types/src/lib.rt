@@ -1,4 +1,5 @@
-//! Worked examples of the structures on the wire: tests alone, above the crates that they use. Bytes stand as hex digits.
+//! Worked examples of the structures on the wire: tests alone, above the crates that they use. Bytes stand as hex
+//! digits.
 #![tactic(auto)]
 
 #[cfg(test)]

@@ -8,21 +8,21 @@ use std::test::Fail;
 /// The removal of leaf 5, by leaf 2 in the group "g" at epoch 0.
 const FRAMED_CONTENT: &str = "0167000000000000000001000000020002000300000005";
 
-/// The same with a signature.
+/// The removal with a signature.
 const SIGNED_CONTENT: &str = "016700000000000000000100000002000200030000000501aa";
 
 /// Version 1, wire format 1, the framed content and the group context.
 const FRAMED_CONTENT_TBS: &str =
     "0001000101670000000000000000010000000200020003000000050001f001016700000000000000002011111111111111111111111111111111111111111111111111111111111111110000";
 
-/// All that, and the signature.
+/// The `FRAMED_CONTENT_TBS`, and the signature.
 const AUTHENTICATED_CONTENT_TBM: &str =
     "0001000101670000000000000000010000000200020003000000050001f00101670000000000000000201111111111111111111111111111111111111111111111111111111111111111000001aa";
 
 /// An empty commit by the same leaf.
 const FRAMED_COMMIT: &str = "01670000000000000000010000000200030000";
 
-/// The same with a signature and a confirmation tag.
+/// The empty commit with a signature and a confirmation tag.
 const SIGNED_COMMIT: &str = "0167000000000000000001000000020003000001aa01bb";
 
 #[test]

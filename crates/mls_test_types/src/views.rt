@@ -33,7 +33,7 @@ fn lends(alloc: Global, [digits, framed, auth, tag]: [&str; 4]) -> Result<bool, 
     }
 }
 
-/// The removal lends its parts, and so does a commit.
+/// Whether the removal and a commit lend their parts.
 fn both_lend(alloc: Global) -> Result<bool, LeafError> {
     let framed = "0167000000000000000001000000020002000300000005";
     let commit = "000100010167000000000000000001000000020003000001aa01bb01cc";
@@ -107,7 +107,7 @@ fn is_first(alloc: Global, digits: &str, reference: u8, ciphertext: u8) -> Resul
     }
 }
 
-/// Two entries in the one, with this entry first, and none in the other.
+/// Whether the welcome has two entries, with this one first, and the welcome without entries has none.
 fn are_walked(alloc: Global) -> Result<bool, LeafError> {
     Ok(
         entries(alloc, WELCOME)? == 2

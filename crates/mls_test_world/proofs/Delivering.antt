@@ -15,7 +15,7 @@ use Rattle.mls_model.specs.Answers.{Runs}
 use Rattle.mls_model.specs.Agreement.{AgreeSecret, Keeps}
 use Rattle.mls_model.proofs.CommitLaws.{names_are_held}
 use Rattle.mls_model.specs.Headline.{IsActive, IsAdded, is_removed, Accepts, JoinsGroup, KeepsOthers, KeepsMembers, FollowsPending, Headline, HoldsAlong}
-use Rattle.mls_model.specs.Journal.{Entry, CommitMade, with_entry, list_in, entry_of, is_homemade}
+use Rattle.mls_model.specs.Journal.{Entry, CommitMade, IsHomemade, with_entry, list_in, entry_of}
 use Rattle.mls_model.specs.Member.{Member}
 use Rattle.mls_model.specs.Run.{step, run}
 use Rattle.mls_model.specs.World.{World, Entrant, Seat, bytes_of, commit_for_joiner}
@@ -147,7 +147,7 @@ own_delivery c w place d k s source h made a journal own p b =
     let keeps : Keeps s.member.kept (list_in d.entry.commit) d.entry.names = h.names place d s made maker journal in
     record { seat = f.after; active = f.is_after; journal = f.journal ∙ journal_is s d p.pending.message journal p.message keeps; epoch = f.epoch ∙ p.epoch }
 
-delivered_to : (c : Crypto) (w : World) (place : ℕ) (d : CommitMade) (k : ℕ) (s : Seat) (source : Source) → Headline c w → slice_get w.made place ≡ Some d → is_homemade w.made d.journal ≡ true → IsReceiver w d k s → bytes_of w source ≡ Ok d.entry.commit →
+delivered_to : (c : Crypto) (w : World) (place : ℕ) (d : CommitMade) (k : ℕ) (s : Seat) (source : Source) → Headline c w → slice_get w.made place ≡ Some d → IsHomemade w.made d.journal → IsReceiver w d k s → bytes_of w source ≡ Ok d.entry.commit →
     FollowsOrLeaves (step c w (Deliver k source)).1 d k s
 delivered_to c w place d k s source h made home r b = by_maker r.can
   where
@@ -157,7 +157,7 @@ delivered_to c w place d k s source h made home r b = by_maker r.can
 
     by_maker : CanFollow k s d → FollowsOrLeaves (step c w (Deliver k source)).1 d k s
     by_maker (inl own) = inl (inl own.0, own_delivery c w place d k s source h made r.active r.journal own.0 own.1 b)
-    by_maker (inr other) = by_accepts (is_removed s d) refl (h.accepted place k d s source made home r.active other.0 r.journal other.1 b)
+    by_maker (inr other) = by_accepts (is_removed s d) refl (h.accepted k s source d (record { place = place; made = made; homemade = home; active = r.active; other = other.0; journal = r.journal; keeps = other.1; bytes = b }))
 
 joined_to : (c : Crypto) (w : World) (place : ℕ) (d : CommitMade) (n : ℕ) (e : Entrant) (source : Source) → Headline c w → slice_get w.made place ≡ Some d → IsAdded w n e d → IsWelcomeFor w d e source → JoinsGroup c w n source d
 joined_to c w place d n e (Message m) h made added x = h.joined_by_number place n m x.0 d e made x.1 added
@@ -254,7 +254,7 @@ holds_on : (c : Crypto) (w : World) (e : Event) (es : List Event) → HoldsAlong
 unfolding run
 holds_on c w e es h n = h (suc n)
 
-progress : (c : Crypto) (d : CommitMade) (place : ℕ) (es : List Event) (w : World) → slice_get w.made place ≡ Some d → is_homemade w.made d.journal ≡ true → HoldsAlong c w es → AllByRecursion (IsDelivery w d) es → EachOnce es → Progress w (run c w es) d es
+progress : (c : Crypto) (d : CommitMade) (place : ℕ) (es : List Event) (w : World) → slice_get w.made place ≡ Some d → IsHomemade w.made d.journal → HoldsAlong c w es → AllByRecursion (IsDelivery w d) es → EachOnce es → Progress w (run c w es) d es
 unfolding run EachOnce
 progress c d place [] w made home h each once = none_yet w d
 progress c d place (Deliver k source ∷ es) w made home h each once =
@@ -264,7 +264,7 @@ progress c d place (Deliver k source ∷ es) w made home h each once =
     let o : KeepsOthers w u k = now.delivered k source in
     let did : FollowsOrLeaves u d k x.0.0 = delivered_to c w place d k x.0.0 source now made home x.0.1 x.1 in
     let rest : Progress u (run c u es) d es = progress c d place es u
-    (ap (λ (m : List CommitMade). slice_get m place) o.made ∙ made) (ap (λ (m : List CommitMade). is_homemade m d.journal) o.made ∙ home) (holds_on c w (Deliver k source) es h)
+    (ap (λ (m : List CommitMade). slice_get m place) o.made ∙ made) (subst (λ (m : List CommitMade). IsHomemade m d.journal) (sym o.made) home) (holds_on c w (Deliver k source) es h)
     (all_both (IsDelivery w d) (AreApart (Deliver k source)) (IsDelivery u d) (delivery_on w u d k source o) es each.1 once.0) once.1 in
     after_delivery w u (run c u es) d k x.0.0 source es o x.0.1.active did once.0 rest
 progress c d place (Join n source ∷ es) w made home h each once =
@@ -275,7 +275,7 @@ progress c d place (Join n source ∷ es) w made home h each once =
     let j : JoinsGroup c w n source d = joined_to c w place d n x.0 source now made x.1 x.2 in
     let did : IsNext u d (length w.seats) = record { seat = j.after; active = j.is_after; journal = j.journal; epoch = j.epoch } in
     let rest : Progress u (run c u es) d es = progress c d place es u
-    (ap (λ (m : List CommitMade). slice_get m place) o.made ∙ made) (ap (λ (m : List CommitMade). is_homemade m d.journal) o.made ∙ home) (holds_on c w (Join n source) es h)
+    (ap (λ (m : List CommitMade). slice_get m place) o.made ∙ made) (subst (λ (m : List CommitMade). IsHomemade m d.journal) (sym o.made) home) (holds_on c w (Join n source) es h)
     (all_both (IsDelivery w d) (AreApart (Join n source)) (IsDelivery u d) (join_on w u d n source o) es each.1 once.0) once.1 in
     after_join w u (run c u es) d n source es o j.one_more did each.1 rest
 progress c d place (event.Candidate identity seed ∷ es) w made home h each once = absurd each.0

@@ -8,7 +8,7 @@ use Rattle.mls_model.specs.declared.event.Source.{Source}
 use Rattle.mls_model.specs.declared.event.Source.TheVariants.{Given, Message}
 use Rattle.mls_model.specs.Agreement.{Agree, AgreeSecret, Keeps}
 use Rattle.mls_model.specs.Headline.{IsActive, IsAdded, is_removed}
-use Rattle.mls_model.specs.Journal.{CommitMade, with_entry, list_in, is_homemade}
+use Rattle.mls_model.specs.Journal.{CommitMade, IsHomemade, with_entry, list_in}
 use Rattle.mls_model.specs.Member.{Pending}
 use Rattle.mls_model.specs.World.{World, Entrant, Seat, bytes_of, commit_for_joiner}
 
@@ -50,7 +50,7 @@ AreApart (Deliver k x) (Deliver l y) = k ≢ l
 AreApart (Join m x) (Join n y) = m ≢ n
 AreApart other another = Unit {0}
 
--- and so are any two of a list
+-- any two events of a list are for two members, or for two candidates
 unfoldable pub EachOnce : List Event → Type 0
 EachOnce [] = Unit {0}
 EachOnce (e ∷ es) = AllByRecursion (AreApart e) es × EachOnce es
@@ -59,7 +59,7 @@ EachOnce (e ∷ es) = AllByRecursion (AreApart e) es × EachOnce es
 pub record Delivers (w : World) (d : CommitMade) (events : List Event) : Type 0 where
   pub place : ℕ
   pub made : slice_get w.made place ≡ Some d
-  pub homemade : is_homemade w.made d.journal ≡ true
+  pub homemade : IsHomemade w.made d.journal
   pub each : AllByRecursion (IsDelivery w d) events
   pub once : EachOnce events
 

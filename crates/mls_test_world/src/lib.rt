@@ -1,10 +1,11 @@
 //! Callers of worlds: two that need no more than what `run` promises, and worked rows with worlds.
 #![tactic(auto)]
 
-ghost use Rattle.std.specs.Prelude.{◌≡◌, ◌++◌, IfOk};
+ghost use Rattle.std.specs.Prelude.{◌≡◌, IfOk};
 ghost use Rattle.mls_model.specs.Headline.{AgreeSecretIfHomemade};
 ghost use Rattle.mls_model.specs.Run as model;
 ghost use Rattle.mls_model.specs.World.{empty_world};
+ghost use Rattle.mls_test_world.specs.FirstReplies.{AreReplied};
 
 mod deliveries;
 #[cfg(test)]
@@ -20,16 +21,16 @@ use mls_suite::{OutOfMemory, Suite};
 use mls_world::World;
 use std::alloc::Global;
 
-/// The world that a list of events leaves, with a reply to each. Two of its members that weren't removed, and whose journals
-/// are one homemade journal, hold one epoch secret and the nine secrets that it gives: what `run` promises shows it, with
-/// no proof beside it.
+/// Makes the world that a list of events leaves, with a reply to each. Two of its members that weren't removed, and
+/// whose journals are one homemade journal, hold one epoch secret and the nine secrets that it gives: what `run`
+/// promises shows it, with no proof beside it.
 pub fn run_from_start<S: Suite>(
     alloc: Global,
     events: &[Event],
     replies: &mut Vec<Reply>,
 ) -> Result<World<S>, OutOfMemory>
     ensures ran { IfOk result (λ w. w ≡ model.run S.crypto empty_world events.now) }
-    ensures replied { IfOk result (λ _. replies.new.items ≡ replies.old.items ++ model.replies S.crypto empty_world events.now) }
+    ensures replied { IfOk result (λ _. AreReplied S.crypto events.now replies.old replies.new) }
     ensures secret { IfOk result AgreeSecretIfHomemade }
 {
     let mut world = World::new(alloc);

@@ -1,6 +1,6 @@
 //! Groups of two and three members, and what crosses between them.
 
-use crate::script::{Act, Part, Parts, Said, Sent, run_both_ways, run};
+use crate::script::{Act, Part, Parts, Said, Sent, run, run_both_ways};
 use mls_model::{Effect, Event, Origin, Reply, Source};
 use mls_suite::{Glass, OutOfMemory};
 use mls_world::World;

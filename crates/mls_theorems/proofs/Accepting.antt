@@ -72,18 +72,18 @@ accepts c creations w k d s source r at keeps b claim =
         }
 
 pub accepts_homemade : (c : Crypto) → Lawful c → (creations : Creations) (w : World) → IsGoodBy c creations w → AcceptsHomemade c w
-accepts_homemade c laws creations w g n k d s source at home a other same keeps b =
-    let r : IsRecorded c creations w d = g.records n d at in
+accepts_homemade c laws creations w g k s source d x =
+    let r : IsRecorded c creations w d = g.records x.place d x.made in
     let m : Member = s.member in
-    let p : IsSeated c creations w s = g.members k s a in
-    let here : IsReached c creations w.made d.journal.origin d.journal.entries m = along_same c creations w s.journal d.journal m same p.reached in
+    let p : IsSeated c creations w s = g.members k s x.active in
+    let here : IsReached c creations w.made d.journal.origin d.journal.entries m = along_same c creations w s.journal d.journal m x.journal p.reached in
     let agree : Agree r.maker m = public_agreement c creations d.journal.origin d.journal.entries r.maker m (stands c creations w d.journal r.maker r.reached) (stands c creations w d.journal m here) in
-    let secret : r.maker.epoch ≡ m.epoch = same_secret c laws creations w g.records d.journal.origin d.journal.entries (homemade_from w.made d.journal home) r.maker m r.reached here in
-    let keys : c.sig_public r.maker.signing ≢ c.sig_public m.signing = λ e. g.apart d.maker k r.seat s (λ f. other (sym f)) r.is_seat a.is (ap c.sig_public (sym r.same_signing) ∙ e) in
+    let secret : r.maker.epoch ≡ m.epoch = same_secret c laws creations w g.records d.journal.origin d.journal.entries (homemade_from w.made d.journal x.homemade) r.maker m r.reached here in
+    let keys : c.sig_public r.maker.signing ≢ c.sig_public m.signing = λ e. g.apart d.maker k r.seat s (λ f. x.other (sym f)) r.is_seat x.active.is (ap c.sig_public (sym r.same_signing) ∙ e) in
     let leaves : r.maker.keys.leaf ≢ m.keys.leaf = own_leaves c r.maker m r.is_made.good p.good (one_public r.maker m agree) keys in
-    let kept : Keeps m.kept r.list (names_in r.maker.kept r.list) = subst (λ (names : List (List ℕ)). Keeps m.kept r.list names) r.names (subst (λ (l : List ProposalOrRef). Keeps m.kept l d.entry.names) r.listed keeps) in
-    let claim : Receives c m r.list r.call = receivers_hold c laws r.maker m r.list r.call r.is_made p.good a.active leaves agree (agree_secret r.maker m secret) kept in
-    accepts c creations w k d s source r a.is keeps b claim
+    let kept : Keeps m.kept r.list (names_in r.maker.kept r.list) = subst (λ (names : List (List ℕ)). Keeps m.kept r.list names) r.names (subst (λ (l : List ProposalOrRef). Keeps m.kept l d.entry.names) r.listed x.keeps) in
+    let claim : Receives c m r.list r.call = receivers_hold c laws r.maker m r.list r.call r.is_made p.good x.active.active leaves agree (agree_secret r.maker m secret) kept in
+    accepts c creations w k d s source r x.active.is x.keeps x.bytes claim
 
 -- ---- the maker
 

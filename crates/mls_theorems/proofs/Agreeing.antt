@@ -1,6 +1,6 @@
 -- Active members of a good world with one journal hold one public state; with a homemade one the same secrets, with any the
 -- same or twins; their trees are good and their private keys exact.
-use Rattle.std.proofs.Common.{◌≡◌, ℕ, true, List, [], ◌∷◌, Some, Result, Ok, refl, sym, ap, subst, ◌∙◌, inl}
+use Rattle.std.proofs.Common.{◌≡◌, ℕ, true, List, [], ◌∷◌, Some, Result, Ok, refl, ap, subst, ◌∙◌, inl}
 use Rattle.mls_wire.proofs.CheckLaws.{bind_ok, given_ok}
 use Rattle.mls_wire.specs.Checks.{require_some}
 use Rattle.mls_leaf.specs.Faults.{whole}
@@ -19,7 +19,8 @@ use Rattle.mls_model.specs.declared.origin.Origin.TheVariants.{Creation, GroupIn
 use Rattle.mls_model.specs.Agreement.{AgreeOrTwins}
 use Rattle.mls_model.specs.Headline.{AgreeByJournal, AgreeSecretIfHomemade, AgreeByConfirmation, KeysAreExact, TreesAreGood}
 use Rattle.mls_model.specs.Invariant.{tag_of_body, tag_of_message, tag_of_info, last_tag, IsGoodBy}
-use Rattle.mls_model.specs.Journal.{Entry, Journal, CommitMade, is_homemade, is_homemade_from}
+use Rattle.mls_model.specs.HomemadeTest.{is_homemade, is_homemade_from}
+use Rattle.mls_model.specs.Journal.{Entry, Journal, CommitMade, IsHomemade}
 use Rattle.mls_model.specs.Lineage.{IsReached}
 use Rattle.mls_model.specs.Member.{Member}
 use Rattle.mls_model.specs.Messages.{decode_message, public_in}
@@ -27,6 +28,7 @@ use Rattle.mls_model.specs.PublicState.{PublicState}
 use Rattle.mls_model.specs.JournalState.{Creations, public_after_body, public_after, public_of_info, public_of}
 use Rattle.mls_model.specs.World.{World}
 use Rattle.mls_theorems.specs.Journals.{StandsAtJournal}
+use Rattle.mls_theorems.proofs.Homemade.{made_is_homemade}
 use Rattle.mls_theorems.proofs.Journals.{public_agreement, secret_agreement, last_more}
 use Rattle.mls_theorems.proofs.Past.{past_along}
 use Rattle.mls_theorems.proofs.Secrets.{agree_secret, one_creation, same_secret}
@@ -50,15 +52,15 @@ agree_by_journal c creations w g i j s t a b e =
 
 -- ---- a homemade one
 
-pub homemade_from : (made : List CommitMade) (j : Journal) → is_homemade made j ≡ true → is_homemade_from made j.origin j.entries ≡ true
+pub homemade_from : (made : List CommitMade) (j : Journal) → IsHomemade made j → is_homemade_from made j.origin j.entries ≡ true
 unfolding is_homemade
-homemade_from made j h = h
+homemade_from made j h = made_is_homemade made j h
 
 pub secret_if_homemade : (c : Crypto) → Lawful c → (creations : Creations) (w : World) → IsGoodBy c creations w → AgreeSecretIfHomemade w
 secret_if_homemade c laws creations w g i j s t a b e home =
     let p = along_same c creations w s.journal t.journal s.member e (g.members i s a).reached in
     let q = (g.members j t b).reached in
-    let h : is_homemade_from w.made t.journal.origin t.journal.entries ≡ true = homemade_from w.made t.journal (ap (is_homemade w.made) (sym e) ∙ home) in
+    let h : is_homemade_from w.made t.journal.origin t.journal.entries ≡ true = homemade_from w.made t.journal (subst (λ (x : Journal). IsHomemade w.made x) e home) in
     agree_secret s.member t.member (same_secret c laws creations w g.records t.journal.origin t.journal.entries h s.member t.member p q)
 
 -- ---- any

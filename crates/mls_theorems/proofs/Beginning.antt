@@ -12,7 +12,7 @@ use Rattle.mls_suite.specs.Crypto.{Crypto, Lawful}
 use Rattle.mls_treekem_model.specs.Seeds.{sign_seed}
 use Rattle.mls_model.specs.declared.event.Reply.{Reply}
 use Rattle.mls_model.specs.declared.origin.Origin.TheVariants as from
-use Rattle.mls_model.specs.Agreement.{IsGoodMember}
+use Rattle.mls_model.specs.MemberInvariant.{IsGoodMember}
 use Rattle.mls_model.specs.WorldCalls.{candidate_answer, create_answer}
 use Rattle.mls_model.specs.Candidate.{Candidate, offered_leaf, signed_leaf, unsigned_leaf, signed_package, unsigned_package, package_message, new_candidate, create_group}
 use Rattle.mls_model.specs.Invariant.{IsGoodBy, IsGoodWorld}

@@ -22,7 +22,7 @@ use Rattle.mls_tree_model.proofs.PlaceLaws.{perfect_itself}
 use Rattle.mls_tree_model.specs.Term.{Term, height, is_full_width, is_perfect}
 use Rattle.mls_tree.specs.Rules.{rules_of}
 use Rattle.mls_tree.specs.Tree.{max_leaves}
-use Rattle.mls_model.specs.Agreement.{NodeFits}
+use Rattle.mls_model.specs.MemberInvariant.{NodeFits}
 use Rattle.mls_theorems.specs.NodeSpelling.{LeafFits, ParentShort, PartsFit}
 use Rattle.mls_wire.proofs.CheckLaws.{require_ok}
 use Rattle.mls_tree.proofs.Cells.{Cells, of_front, of_back, of_padded}

@@ -7,7 +7,8 @@ use Rattle.std.proofs.Math.ListN.{length-set}
 use Rattle.mls_wire.specs.Format.{IsBytes}
 use Rattle.mls_types.specs.declared.commit.ProposalOrRef.{ProposalOrRef}
 use Rattle.mls_suite.specs.Crypto.{Crypto}
-use Rattle.mls_model.specs.Agreement.{Keeps, IsGoodCandidate}
+use Rattle.mls_model.specs.Agreement.{Keeps}
+use Rattle.mls_model.specs.MemberInvariant.{IsGoodCandidate}
 use Rattle.mls_model.specs.Candidate.{Candidate}
 use Rattle.mls_model.specs.Headline.{IsPendingOf}
 use Rattle.mls_model.specs.Invariant.{IsSeated, IsRecorded, IsSpentFor, IsGoodBy}

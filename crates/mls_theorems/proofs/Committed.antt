@@ -28,7 +28,7 @@ use Rattle.mls_tree.specs.Rules.{rules_of}
 use Rattle.mls_treekem_model.specs.Keys.{AreKeysAlong, Exact}
 use Rattle.mls_treekem_model.proofs.MemberLaws.{exact_whole}
 use Rattle.mls_treekem_model.specs.Members.{HasExact}
-use Rattle.mls_model.specs.Agreement.{NodeFits, IsGoodMember, IsGoodCandidate}
+use Rattle.mls_model.specs.MemberInvariant.{NodeFits, IsGoodMember, IsGoodCandidate}
 use Rattle.mls_model.specs.Candidate.{Candidate, first_context, create_group}
 use Rattle.mls_model.specs.Make.{commit_call}
 use Rattle.mls_model.specs.Member.{Member}

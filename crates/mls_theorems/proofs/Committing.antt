@@ -18,7 +18,7 @@ use Rattle.mls_suite.specs.Crypto.{Crypto}
 use Rattle.mls_schedule.specs.Epoch.{welcome_key, welcome_nonce}
 use Rattle.mls_model.specs.declared.event.Reply.{Reply}
 use Rattle.mls_model.specs.declared.event.WorldItem.{WorldItem}
-use Rattle.mls_model.specs.Agreement.{IsGoodMember}
+use Rattle.mls_model.specs.MemberInvariant.{IsGoodMember}
 use Rattle.mls_model.specs.WorldCalls.{commit_record, commit_messages, commit_answer}
 use Rattle.mls_model.specs.Claims.{IsMade}
 use Rattle.mls_model.specs.Commit.{Change}

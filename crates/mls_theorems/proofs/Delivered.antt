@@ -25,7 +25,7 @@ use Rattle.mls_tree_model.specs.Term.{Term, leaf_of}
 use Rattle.mls_treekem_model.specs.Members.{HasExact}
 use Rattle.mls_model.specs.declared.effect.Effect.{Effect}
 use Rattle.mls_model.specs.declared.effect.Effect.TheVariants.{Proposed, Known, Advanced, Removed}
-use Rattle.mls_model.specs.Agreement.{IsGoodKept, IsGoodPending, IsGoodIfPending, IsGoodMember}
+use Rattle.mls_model.specs.MemberInvariant.{IsGoodKept, IsGoodPending, IsGoodIfPending, IsGoodMember}
 use Rattle.mls_model.specs.Commit.{Change, public_with, next_public}
 use Rattle.mls_model.specs.Member.{KeptProposal, Pending, Member, kept_under, named_proposals, first_own_key, with_keys, with_epoch, with_kept, after_removal}
 use Rattle.mls_model.specs.Messages.{decode_message, sender_leaf, reference_of}

@@ -17,7 +17,7 @@ use Rattle.mls_model.specs.declared.effect.Effect.{Effect}
 use Rattle.mls_model.specs.declared.effect.Effect.TheVariants.{Advanced}
 use Rattle.mls_model.specs.declared.event.Reply.{Reply}
 use Rattle.mls_model.specs.declared.event.Source.{Source}
-use Rattle.mls_model.specs.Agreement.{IsGoodPending, IsGoodIfPending, IsGoodMember}
+use Rattle.mls_model.specs.MemberInvariant.{IsGoodPending, IsGoodIfPending, IsGoodMember}
 use Rattle.mls_model.specs.WorldCalls.{journal_after, deliver_answer}
 use Rattle.mls_model.specs.Commit.{Change, change_of_commit, public_with, next_public}
 use Rattle.mls_model.specs.Headline.{IsPendingOf}

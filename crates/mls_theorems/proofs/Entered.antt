@@ -35,7 +35,7 @@ use Rattle.mls_treekem_model.proofs.MemberLaws.{exact_alone}
 use Rattle.mls_treekem_model.specs.Members.{HasExact}
 use Rattle.mls_schedule.specs.Epoch.{welcome_key, welcome_nonce, epoch_secret, confirmation_tag}
 use Rattle.mls_schedule.specs.Transcript.{interim_hash}
-use Rattle.mls_model.specs.Agreement.{NodeFits, IsGoodMember, IsGoodCandidate}
+use Rattle.mls_model.specs.MemberInvariant.{NodeFits, IsGoodMember, IsGoodCandidate}
 use Rattle.mls_model.specs.Candidate.{Candidate}
 use Rattle.mls_model.specs.Join.{JoinedMember, joined_tree, signer_checks, is_same_leaf, place_of, joined_keys, member_of, join_verdict}
 use Rattle.mls_model.specs.Messages.{decode_message, are_bytes}

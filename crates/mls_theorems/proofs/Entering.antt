@@ -2,7 +2,7 @@
 use Rattle.std.proofs.Common.{◌≡◌, ℕ, true, false, List, [], ◌∷◌, ◌++◌, length, Option, Some, None, refl, ap, sym, ◌∙◌, subst, ◌⊎◌, inl, inr, slice_get, slice_set, arith, length-append, true≢false}
 use Rattle.std.specs.Prelude.{◌≢◌}
 use Rattle.mls_suite.specs.Crypto.{Crypto}
-use Rattle.mls_model.specs.Agreement.{IsGoodCandidate}
+use Rattle.mls_model.specs.MemberInvariant.{IsGoodCandidate}
 use Rattle.mls_model.specs.Candidate.{Candidate}
 use Rattle.mls_model.specs.Headline.{IsPendingOf}
 use Rattle.mls_model.specs.Invariant.{IsSeated, IsSpentFor, IsGoodBy}

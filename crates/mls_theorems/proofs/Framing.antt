@@ -16,7 +16,8 @@ use Rattle.mls_model.specs.Member.{Member}
 use Rattle.mls_model.specs.Messages.{content_by, content_signature, is_content_signed, content_tag, sender_leaf, is_handshake}
 use Rattle.mls_model.specs.Make.{MadePath}
 use Rattle.mls_model.specs.Verdict.{is_kept}
-use Rattle.mls_model.specs.Agreement.{Agree, AgreeSecret, IsGoodMember}
+use Rattle.mls_model.specs.Agreement.{Agree, AgreeSecret}
+use Rattle.mls_model.specs.MemberInvariant.{IsGoodMember}
 use Rattle.mls_theorems.specs.CommitCalls.{commit_of, said_of, signature_of, content_of}
 use Rattle.mls_model.specs.VerdictFindings.{IsFramed}
 use Rattle.mls_model.proofs.Receipts.{framing_passes}

@@ -1,5 +1,5 @@
--- Journals that are told equal are equal, the commit calls of a homemade journal's entry reached one epoch secret, and a
--- journal is homemade just where its records say so.
+-- Journals that are told equal are equal, the commit calls of a homemade journal's entry reached one epoch secret, and the
+-- test for homemade journals says of each journal whether it is one.
 use Rattle.std.proofs.Common.{◌≡◌, ℕ, zero, suc, Bool, true, false, ◌&&◌, cond, List, [], ◌∷◌, ◌++◌, map, filter, Some, refl, ap, ap₂, sym, subst, ◌∙◌, slice_get, eqb-true, eq-eqb, true≢false}
 use Rattle.std.specs.List.{list_all}
 use Rattle.std.specs.Str.{bytes_eq}
@@ -7,10 +7,10 @@ use Rattle.std.proofs.lemmas.Bool.{and_parts, and_from}
 use Rattle.std.proofs.lemmas.Slice.Eq.{bytes_eq-Decides}
 use Rattle.mls_model.specs.declared.origin.Origin.{Origin}
 use Rattle.mls_model.specs.declared.origin.Origin.TheVariants as from
-use Rattle.mls_model.specs.Journal.{Entry, Journal, CommitMade, is_same_origin, are_same_bytes, is_same_entry, are_same_entries, is_same_journal, is_creation, reached_epochs, has_one_value, is_homemade_from, is_homemade}
-use Rattle.mls_model.specs.Lineage.{MadeHere}
+use Rattle.mls_model.specs.HomemadeTest.{is_same_origin, are_same_bytes, is_same_entry, are_same_entries, is_same_journal, is_creation, reached_epochs, has_one_value, is_homemade_from, is_homemade}
+use Rattle.mls_model.specs.Journal.{Entry, Journal, CommitMade, MadeHere, IsMadeAt}
 use Rattle.mls_theorems.proofs.Lists.{some}
-use Rattle.mls_theorems.specs.Homemade.{IsMadeAt, HomemadeIsMade, MadeIsHomemade}
+use Rattle.mls_theorems.specs.Homemade.{HomemadeIsMade, MadeIsHomemade}
 
 -- ---- equality
 

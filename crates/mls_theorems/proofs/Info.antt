@@ -10,7 +10,7 @@ use Rattle.mls_types.specs.GroupContext.{group_context}
 use Rattle.mls_types.specs.GroupInfo.{ratchet_tree, tree_extension, group_info_extensions, group_info}
 use Rattle.mls_types.specs.declared.group_context.GroupContext.{GroupContext}
 use Rattle.mls_types.specs.declared.group_info.GroupInfo.{GroupInfo}
-use Rattle.mls_model.specs.Agreement.{NodeFits}
+use Rattle.mls_model.specs.MemberInvariant.{NodeFits}
 use Rattle.mls_theorems.proofs.Fit.{short_first, short_last, short_text}
 
 cell_fits : (o : Option Node) → NodeFits o → (optional node).Fits o

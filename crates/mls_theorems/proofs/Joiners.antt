@@ -20,7 +20,7 @@ use Rattle.mls_treekem_model.specs.Keys.{PrivateKeys}
 use Rattle.mls_treekem_model.specs.Laws.{AreTwo}
 use Rattle.mls_schedule.specs.Epoch.{epoch_secret, confirmation_tag}
 use Rattle.mls_schedule.proofs.Lengths.{length-joiner_secret}
-use Rattle.mls_model.specs.Agreement.{IsGoodCandidate}
+use Rattle.mls_model.specs.MemberInvariant.{IsGoodCandidate}
 use Rattle.mls_model.specs.Candidate.{Candidate}
 use Rattle.mls_model.specs.Claims.{IsMade, JoinsTo, JoinersClaim}
 use Rattle.mls_model.specs.Commit.{Edits, Change, apply_path_if, public_with}

@@ -15,7 +15,7 @@ use Rattle.mls_treekem_model.specs.Chain.{chain}
 use Rattle.mls_treekem_model.specs.Join.{secret_for}
 use Rattle.mls_treekem_model.specs.Make.{filtered_count}
 use Rattle.mls_treekem_model.specs.Seeds.{seal_seed}
-use Rattle.mls_model.specs.Agreement.{IsGoodCandidate}
+use Rattle.mls_model.specs.MemberInvariant.{IsGoodCandidate}
 use Rattle.mls_model.specs.Candidate.{Candidate}
 use Rattle.mls_treekem_model.specs.Seeds.{path_seed}
 use Rattle.mls_model.specs.Claims.{IsMade}

@@ -19,7 +19,8 @@ use Rattle.mls_model.specs.declared.effect.Effect.{Effect}
 use Rattle.mls_model.specs.declared.effect.Effect.TheVariants.{Advanced}
 use Rattle.mls_model.specs.declared.origin.Origin.{Origin}
 use Rattle.mls_model.specs.declared.origin.Origin.TheVariants.{Creation, GroupInfo as JoinedBy}
-use Rattle.mls_model.specs.Agreement.{Agree, AgreeOrTwins, IsGoodPending, IsGoodIfPending, IsGoodMember}
+use Rattle.mls_model.specs.Agreement.{Agree, AgreeOrTwins}
+use Rattle.mls_model.specs.MemberInvariant.{IsGoodPending, IsGoodIfPending, IsGoodMember}
 use Rattle.mls_model.specs.Candidate.{Candidate}
 use Rattle.mls_model.specs.Commit.{change_of_commit, next_public}
 use Rattle.mls_model.specs.Invariant.{tag_of_message, last_tag}

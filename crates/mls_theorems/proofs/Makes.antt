@@ -1,8 +1,22 @@
 -- What a commit call that succeeded found and made.
+use Rattle.std.proofs.Common.{◌≡◌, ℕ, List, Result, Ok, ap, ◌∙◌}
+use Rattle.mls_types.specs.declared.commit.Commit.{Commit}
+use Rattle.mls_types.specs.declared.content.FramedContent.{FramedContent}
+use Rattle.mls_suite.specs.Crypto.{Crypto}
 use Rattle.mls_wire.specs.Laws.{ok_is}
+use Rattle.mls_wire.specs.Reading.{◌>>=◌}
+use Rattle.mls_model.specs.Commit.{Edits, Change, apply_proposals, change_after_edits, change_of_commit}
+use Rattle.mls_model.specs.PublicState.{PublicState, Used}
 use Rattle.mls_model.specs.Make.{make}
 use Rattle.mls_wire.proofs.CheckLaws.{require_ok, then_ok, bind_ok}
 use Rattle.mls_theorems.specs.CommitCalls.{commit_of, said_of, signature_of, joiner_of, epoch_of, tag_of, content_of, message_of, made_of, path_for, MakeDid}
+
+-- with its edits, what stands behind them is the whole
+whole_change : (c : Crypto) (p : PublicState) (i : ℕ) (used : List Used) (commit : Commit) (said : FramedContent) (signature : List ℕ) (e : Edits) (change : Change) →
+    apply_proposals c p i used ≡ Ok e → change_after_edits c p i used commit said signature e ≡ Ok change → change_of_commit c p i used commit said signature ≡ Ok change
+unfolding change_of_commit
+whole_change c p i used commit said signature e change edits rest =
+    ap (λ (r : Result Edits ℕ). r >>= λ d. change_after_edits c p i used commit said signature d) edits ∙ rest
 
 pub make_did : MakeDid
 unfolding make commit_of said_of signature_of joiner_of epoch_of tag_of content_of message_of made_of path_for
@@ -27,7 +41,7 @@ make_did c m list wants_path seed made h =
       path = s6.0;
       path_is = s6.1;
       change = s7.0;
-      change_is = s7.1;
+      change_is = whole_change c m.public m.keys.leaf s4.0 _ _ _ s5.0 s7.0 s5.1 s7.1;
       short = s8.0;
       welcome = s9.0;
       welcome_is = s9.1;

@@ -24,7 +24,7 @@ use Rattle.mls_tree_model.specs.Merge.{new_parent, keys_below, hash_below, merge
 use Rattle.mls_tree_model.specs.Resolution.{is_reached}
 use Rattle.mls_tree_model.specs.Term.{Term, Leaf, Branch, width, height, blanks, has_leaf}
 use Rattle.mls_treekem_model.specs.Lists.{below_here}
-use Rattle.mls_model.specs.Agreement.{NodeFits}
+use Rattle.mls_model.specs.MemberInvariant.{NodeFits}
 use Rattle.mls_theorems.proofs.One.{all_both, all_parted}
 use Rattle.mls_theorems.specs.NodeSpelling.{LeafFits, IsShort, ParentShort, PartsFit}
 

@@ -18,7 +18,7 @@ use Rattle.mls_suite.specs.Crypto.{Crypto, Lawful}
 use Rattle.mls_suite.proofs.LabelLaws.{verifies_signed}
 use Rattle.mls_checks.specs.Checks.{is_package_signed, key_package_checks}
 use Rattle.mls_checks.specs.Leaf.{is_of_key_package, is_signed, is_capable}
-use Rattle.mls_model.specs.Agreement.{IsGoodCandidate}
+use Rattle.mls_model.specs.MemberInvariant.{IsGoodCandidate}
 use Rattle.mls_model.specs.Candidate.{Candidate, init_key_of, leaf_key_of, unsigned_leaf, signed_leaf, made_capabilities, offered_leaf, unsigned_package, signed_package, package_message, new_candidate}
 use Rattle.mls_treekem_model.specs.Seeds.{sign_seed}
 use Rattle.mls_model.specs.Messages.{is_within_limit}

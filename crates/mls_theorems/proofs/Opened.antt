@@ -29,7 +29,7 @@ use Rattle.mls_treekem_model.proofs.WholeLaws.{sealed_keys, opened_agrees}
 use Rattle.mls_model.specs.PublicState.{PublicState, Used, provisional_context, confirmed_context}
 use Rattle.mls_treekem_model.specs.Seeds.{path_seed}
 use Rattle.mls_model.specs.Commit.{Edits, Change, apply_proposals, node_keys, cipher_counts, due_counts, apply_update_path, apply_path_if, change_of_commit}
-use Rattle.mls_model.specs.Member.{Member, first_own_key, named_proposals, with_keys, follow_edits}
+use Rattle.mls_model.specs.Member.{Member, with_keys, follow_edits, keys_after_edits}
 use Rattle.mls_model.specs.Make.{MadePath, committed_leaf, no_path}
 use Rattle.mls_model.specs.Verdict.{open_path_secret}
 use Rattle.mls_wire.proofs.CheckLaws.{require_ok, then_ok, bind_ok}
@@ -97,7 +97,7 @@ unfolding open_path_secret follow_edits with_keys path_seed
 climbs_path c laws maker m list e seed path change new same context stays =
     let start : List ℕ = path_seed seed in
     let i : ℕ = maker.keys.leaf in
-    let keys : PrivateKeys = follow_edits (first_own_key (named_proposals m.kept list)) change.edits.tree m.keys in
+    let keys : PrivateKeys = keys_after_edits m list change.edits.tree in
     let spelled : List ℕ = group_context.spell change.provisional in
     let sealed0 : sealed_path c spelled e.added (seal_seed seed) e.tree i start ≡ Ok new.nodes = ap (λ (x : GroupContext). sealed_path c (group_context.spell x) e.added (seal_seed seed) e.tree i start) context ∙ new.nodes_are in
     let sealed : sealed_path c spelled change.edits.added (seal_seed seed) change.edits.tree i start ≡ Ok new.nodes =
@@ -117,7 +117,7 @@ climbs_path c laws maker m list e seed path change new same context stays =
 climbs_alone : (c : Crypto) (m maker : Member) (list : List ProposalOrRef) (e : Edits) (path : MadePath) (change : Change) → path ≡ no_path maker e → Climbs c m maker.keys.leaf list path change
 unfolding open_path_secret no_path
 climbs_alone c m maker list e path change is =
-    let keys : PrivateKeys = follow_edits (first_own_key (named_proposals m.kept list)) change.edits.tree m.keys in
+    let keys : PrivateKeys = keys_after_edits m list change.edits.tree in
     record {
       climb = record { secret = replicate 32 0; keys = all_keys keys };
       is = ap (λ (x : MadePath). open_path_secret c m maker.keys.leaf change keys x.path) is;

@@ -13,7 +13,7 @@ use Rattle.mls_tree_model.specs.Sets.{has}
 use Rattle.mls_model.specs.PublicState.{Used}
 use Rattle.mls_model.specs.Proposals.{update_in, updates}
 use Rattle.mls_model.specs.Member.{KeptProposal, Member, kept_under, find_proposal, find_proposals, named_proposal, named_proposals, first_key, first_own_key}
-use Rattle.mls_model.specs.Agreement.{HasOwnKey, IsGoodKept}
+use Rattle.mls_model.specs.MemberInvariant.{HasOwnKey, IsGoodKept}
 use Rattle.mls_theorems.specs.CommitLaws.{HasPassed, AllHavePassed}
 use Rattle.mls_theorems.specs.KeyLaws.{OwnsUpdate, UsedHavePassed, UsedAreOwned}
 use Rattle.mls_wire.proofs.CheckLaws.{bind_ok, given_ok}

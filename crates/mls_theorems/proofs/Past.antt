@@ -3,10 +3,10 @@ use Rattle.std.proofs.Common.{◌≡◌, ℕ, List, [], ◌∷◌, Some, ap, sym
 use Rattle.mls_suite.specs.Crypto.{Crypto}
 use Rattle.mls_model.specs.declared.origin.Origin.{Origin}
 use Rattle.mls_model.specs.declared.origin.Origin.TheVariants.{Creation, GroupInfo as JoinedBy}
-use Rattle.mls_model.specs.Agreement.{IsGoodMember}
+use Rattle.mls_model.specs.MemberInvariant.{IsGoodMember}
 use Rattle.mls_model.specs.Invariant.{IsSeated}
-use Rattle.mls_model.specs.Journal.{Entry, Journal, CommitMade, names_in}
-use Rattle.mls_model.specs.Lineage.{IsSameState, Begins, MadeHere, IsReachedOver, IsReached}
+use Rattle.mls_model.specs.Journal.{Entry, Journal, CommitMade, MadeHere, names_in}
+use Rattle.mls_model.specs.Lineage.{IsSameState, Begins, IsReachedOver, IsReached}
 use Rattle.mls_model.specs.Member.{Member}
 use Rattle.mls_model.specs.JournalState.{Creations}
 use Rattle.mls_model.specs.World.{World, Seat}

@@ -23,7 +23,7 @@ use Rattle.mls_model.specs.Commit.{Edits, apply_path_if, public_with, next_publi
 use Rattle.mls_model.specs.Member.{Member, with_keys, follow_edits}
 use Rattle.mls_model.specs.Messages.{decode_message}
 use Rattle.mls_model.specs.Make.{MadePath, Made, committed_leaf, no_path}
-use Rattle.mls_model.specs.Agreement.{IsGoodMember, IsGoodPending}
+use Rattle.mls_model.specs.MemberInvariant.{IsGoodMember, IsGoodPending}
 use Rattle.mls_model.specs.Claims.{IsMade}
 use Rattle.mls_wire.proofs.CheckLaws.{then_ok}
 use Rattle.mls_model.proofs.KeyLaws.{with_all_keys}

@@ -28,7 +28,7 @@ use Rattle.mls_suite.specs.Crypto.{Crypto}
 use Rattle.mls_tree_model.specs.Good.{is_within}
 use Rattle.mls_tree_model.specs.Term.{width, leaf_of}
 use Rattle.mls_tree.specs.Tree.{member_at}
-use Rattle.mls_model.specs.Agreement.{HasOwnKey, IsGoodKept, IsGoodMember}
+use Rattle.mls_model.specs.MemberInvariant.{HasOwnKey, IsGoodKept, IsGoodMember}
 use Rattle.mls_model.specs.Candidate.{leaf_key_of, unsigned_leaf, signed_leaf}
 use Rattle.mls_model.specs.Member.{KeptProposal, Member, kept_under}
 use Rattle.mls_model.specs.Messages.{decode_message, is_within_limit, content_by, content_tag, message_by, reference_of}

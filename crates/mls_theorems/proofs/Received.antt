@@ -21,11 +21,12 @@ use Rattle.mls_model.specs.declared.effect.Effect.TheVariants.{Advanced, Removed
 use Rattle.mls_model.specs.PublicState.{PublicState, Used}
 use Rattle.mls_model.specs.Proposals.{removed_leaves}
 use Rattle.mls_model.specs.Commit.{Change, apply_proposals, change_of_commit, public_with}
-use Rattle.mls_model.specs.Member.{Pending, Member, find_proposals, named_proposals, first_own_key, with_keys, follow_edits, with_epoch, after_removal}
+use Rattle.mls_model.specs.Member.{Pending, Member, find_proposals, with_keys, keys_after_edits, with_epoch, after_removal}
 use Rattle.mls_model.specs.Messages.{decode_message, sender_leaf}
 use Rattle.mls_model.specs.Make.{MadePath, Made}
 use Rattle.mls_model.specs.Verdict.{framing_checks, open_path_secret, enter_epoch, commit_verdict, content_verdict, bytes_verdict, own_pending, verdict}
-use Rattle.mls_model.specs.Agreement.{Agree, AgreeSecret, Keeps, IsGoodMember, IsGoodPending, IsGoodIfPending}
+use Rattle.mls_model.specs.Agreement.{Agree, AgreeSecret, Keeps}
+use Rattle.mls_model.specs.MemberInvariant.{IsGoodMember, IsGoodPending, IsGoodIfPending}
 use Rattle.mls_model.specs.Journal.{names_in, removes_in}
 use Rattle.mls_model.specs.Claims.{IsMade, Receives}
 use Rattle.mls_theorems.proofs.Used.{used_alike, removes_in_lem}
@@ -80,7 +81,7 @@ removed_by c m v commit tag used change e1 e2 e3 e4 = rw (e1, e2, e3, e4) refl
 
 advanced_by : (c : Crypto) (m : Member) (v : SignedContent) (commit : Commit) (tag : List ℕ) (used : List Used) (change : Change) (climb : Climb) → nat_lt m.public.context.epoch (2 ^ 64 - 1) ≡ true →
     find_proposals m.kept (sender_leaf v.sender) commit.proposals ≡ Ok used → change_of_commit c m.public (sender_leaf v.sender) used commit (framed v) v.signature ≡ Ok change → has (removed_leaves used) m.keys.leaf ≡ false →
-    open_path_secret c m (sender_leaf v.sender) change (follow_edits (first_own_key (named_proposals m.kept commit.proposals)) change.edits.tree m.keys) commit.path ≡ Ok climb →
+    open_path_secret c m (sender_leaf v.sender) change (keys_after_edits m commit.proposals change.edits.tree) commit.path ≡ Ok climb →
     bytes_eq tag (confirmation_tag (reached_epoch m change climb) change.context.confirmed_transcript_hash) ≡ true →
     commit_verdict c m v commit tag ≡ Ok (Advanced change.context.epoch, with_epoch m (public_with change tag) (reached_epoch m change climb) (with_keys m.keys climb.keys))
 unfolding commit_verdict enter_epoch reached_epoch

@@ -9,7 +9,8 @@ use Rattle.mls_treekem_model.specs.Keys.{PrivateKeys}
 use Rattle.mls_model.specs.declared.event.Event.TheVariants as event
 use Rattle.mls_model.specs.declared.event.Reply.TheVariants as reply
 use Rattle.mls_model.specs.declared.event.Source.{Source}
-use Rattle.mls_model.specs.Agreement.{Agree, IsGoodMember}
+use Rattle.mls_model.specs.Agreement.{Agree}
+use Rattle.mls_model.specs.MemberInvariant.{IsGoodMember}
 use Rattle.mls_model.specs.WorldCalls.{deliver_answer}
 use Rattle.mls_model.specs.Headline.{RefusesOwn, epoch_of_message}
 use Rattle.mls_model.specs.Invariant.{IsRecorded, IsGoodBy}

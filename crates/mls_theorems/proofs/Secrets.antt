@@ -14,10 +14,12 @@ use Rattle.mls_model.specs.declared.effect.Effect.{Effect}
 use Rattle.mls_model.specs.declared.effect.Effect.TheVariants.{Advanced}
 use Rattle.mls_model.specs.declared.origin.Origin.{Origin}
 use Rattle.mls_model.specs.declared.origin.Origin.TheVariants.{Creation, GroupInfo as JoinedBy}
-use Rattle.mls_model.specs.Agreement.{Agree, AgreeSecret, Keeps, IsGoodMember, IsGoodPending}
+use Rattle.mls_model.specs.Agreement.{Agree, AgreeSecret, Keeps}
+use Rattle.mls_model.specs.MemberInvariant.{IsGoodMember, IsGoodPending}
 use Rattle.mls_model.specs.Claims.{IsMade, Receives, FollowsTo}
 use Rattle.mls_model.specs.Invariant.{IsRecorded}
-use Rattle.mls_model.specs.Journal.{Entry, Journal, CommitMade, names_in, removes_in, list_in, entry_of, is_homemade_from}
+use Rattle.mls_model.specs.HomemadeTest.{is_homemade_from}
+use Rattle.mls_model.specs.Journal.{Entry, Journal, CommitMade, names_in, removes_in, list_in, entry_of}
 use Rattle.mls_model.specs.Lineage.{FollowedOther, IsReachedOver, IsReached}
 use Rattle.mls_model.specs.Make.{Made}
 use Rattle.mls_model.specs.Member.{Member, after_removal}

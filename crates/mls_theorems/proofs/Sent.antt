@@ -37,7 +37,7 @@ use Rattle.mls_model.specs.Commit.{Edits, Change}
 use Rattle.mls_model.specs.Member.{Member}
 use Rattle.mls_model.specs.Messages.{decode_message, is_within_limit, content_by, content_tag, message_by}
 use Rattle.mls_model.specs.Make.{MadePath, Made, committed_leaf, new_path, no_path}
-use Rattle.mls_model.specs.Agreement.{IsGoodMember}
+use Rattle.mls_model.specs.MemberInvariant.{IsGoodMember}
 use Rattle.mls_wire.specs.CheckLaws.{required}
 use Rattle.mls_wire.proofs.CheckLaws.{then_ok, bind_ok, given_ok}
 use Rattle.mls_model.proofs.Receipts.{either_way}

@@ -25,7 +25,8 @@ use Rattle.mls_treekem_model.specs.Seeds.{seal_seed}
 use Rattle.mls_schedule.specs.Epoch.{nine_secrets}
 use Rattle.mls_model.specs.declared.effect.Effect.{Effect}
 use Rattle.mls_model.specs.declared.effect.Effect.TheVariants.{Proposed, Known, Advanced, Removed}
-use Rattle.mls_model.specs.Agreement.{Agree, AgreeSecret, Keeps, IsGoodPending, IsGoodIfPending, IsGoodMember, IsGoodCandidate}
+use Rattle.mls_model.specs.Agreement.{Agree, AgreeSecret, Keeps}
+use Rattle.mls_model.specs.MemberInvariant.{IsGoodPending, IsGoodIfPending, IsGoodMember, IsGoodCandidate}
 use Rattle.mls_model.specs.Candidate.{Candidate}
 use Rattle.mls_model.specs.Claims.{IsMade, FollowsTo, Receives}
 use Rattle.mls_model.specs.Commit.{Change, public_with}

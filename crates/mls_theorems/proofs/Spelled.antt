@@ -39,7 +39,7 @@ use Rattle.mls_model.specs.PublicState.{Used}
 use Rattle.mls_model.specs.Proposals.{update_in, add_in, updates, adds}
 use Rattle.mls_model.specs.Commit.{node_keys}
 use Rattle.mls_model.specs.Member.{KeptProposal, Member, kept_under, find_proposal, find_proposals}
-use Rattle.mls_model.specs.Agreement.{IsGoodKept}
+use Rattle.mls_model.specs.MemberInvariant.{IsGoodKept}
 use Rattle.mls_theorems.specs.NodeSpelling.{IsShort}
 use Rattle.mls_theorems.proofs.One.{all_both}
 use Rattle.mls_theorems.specs.UsedProposals.{AreGoodKept}

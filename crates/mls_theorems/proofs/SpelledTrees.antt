@@ -21,7 +21,7 @@ use Rattle.mls_tree_model.proofs.LengthLaws.{length-tree_hash}
 use Rattle.mls_tree_model.specs.Merge.{merge_path}
 use Rattle.mls_tree_model.specs.Term.{Term, width}
 use Rattle.mls_treekem_model.proofs.ListLaws.{right_are_below}
-use Rattle.mls_model.specs.Agreement.{NodeFits}
+use Rattle.mls_model.specs.MemberInvariant.{NodeFits}
 use Rattle.mls_model.specs.Commit.{Edits, Change, apply_proposals, node_keys, apply_path_if, change_of_commit}
 use Rattle.mls_model.specs.Proposals.{updates, removed_leaves, adds}
 use Rattle.mls_model.specs.PublicState.{PublicState, Used, provisional_context, confirmed_context}

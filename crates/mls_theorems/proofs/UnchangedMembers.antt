@@ -7,7 +7,7 @@ use Rattle.mls_wire.specs.Reading.{◌>>=◌}
 use Rattle.mls_types.specs.declared.commit.ProposalOrRef.{ProposalOrRef}
 use Rattle.mls_types.specs.declared.commit.ProposalOrRef.TheVariants as listed
 use Rattle.mls_suite.specs.Crypto.{Crypto}
-use Rattle.mls_model.specs.Agreement.{IsGoodKept, IsGoodPending, IsGoodIfPending, IsGoodMember}
+use Rattle.mls_model.specs.MemberInvariant.{IsGoodKept, IsGoodPending, IsGoodIfPending, IsGoodMember}
 use Rattle.mls_model.specs.Member.{KeptProposal, Pending, Member, kept_under, find_proposal, find_proposals, with_kept, after_removal, with_pending, without_pending}
 use Rattle.mls_model.specs.PublicState.{Used}
 use Rattle.mls_theorems.proofs.One.{all_both}

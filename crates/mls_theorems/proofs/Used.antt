@@ -8,7 +8,8 @@ use Rattle.mls_leaf.specs.declared.key_package.KeyPackage.{KeyPackage}
 use Rattle.mls_types.specs.declared.commit.ProposalOrRef.{ProposalOrRef}
 use Rattle.mls_types.specs.declared.commit.ProposalOrRef.TheVariants as listed
 use Rattle.mls_suite.specs.Crypto.{Crypto}
-use Rattle.mls_model.specs.Agreement.{Keeps, IsGoodKept}
+use Rattle.mls_model.specs.Agreement.{Keeps}
+use Rattle.mls_model.specs.MemberInvariant.{IsGoodKept}
 use Rattle.mls_model.proofs.CommitLaws.{names_in_order, by_option, keeps_more, found_good}
 use Rattle.mls_model.specs.Journal.{names_in, used_of, adds_in, removes_in}
 use Rattle.mls_model.specs.Member.{KeptProposal, Member, kept_under, find_proposal, find_proposals, named_proposals}

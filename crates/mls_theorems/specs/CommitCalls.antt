@@ -37,7 +37,7 @@ epoch_of m path change = epoch_secret (joiner_of m path change) (group_context.s
 unfoldable pub tag_of : Member → MadePath → Change → List ℕ
 tag_of m path change = confirmation_tag (epoch_of m path change) change.context.confirmed_transcript_hash
 
--- the content that is sent
+-- the signed content of a commit that is made
 unfoldable pub content_of : Crypto → Member → List ProposalOrRef → MadePath → Change → SignedContent
 content_of c m list path change = signed_with (said_of m list path) (signature_of c m list path) (tag_of m path change)
 
@@ -48,16 +48,23 @@ unfoldable pub made_of : Crypto → Member → List ProposalOrRef → MadePath �
 made_of c m list path change welcome = record {
   commit = message_of c m list path change;
   welcome = welcome;
-  pending = record { message = message_of c m list path change; public = public_with change (tag_of m path change); epoch = epoch_of m path change; keys = with_keys m.keys path.climb.keys };
+  pending = record {
+    message = message_of c m list path change;
+    public = public_with change (tag_of m path change);
+    epoch = epoch_of m path change;
+    keys = with_keys m.keys path.climb.keys;
+  };
 }
 
--- the path, where one is asked for
+-- the path of a commit that is made, where one is wanted or required
 unfoldable pub path_for : Crypto → Member → List Used → Edits → Bool → List ℕ → Result MadePath ℕ
-path_for c m used e wants_path seed = if wants_path || is_path_required used then new_path c m e seed else Ok (no_path m e)
+path_for c m used e wants_path seed =
+    if wants_path || is_path_required used then new_path c m e seed else Ok (no_path m e)
 
 -- ---- the steps of a call
 
-pub record Makes (c : Crypto) (m : Member) (list : List ProposalOrRef) (wants_path : Bool) (seed : List ℕ) (made : Made) : Type 0 where
+pub record Makes (c : Crypto) (m : Member) (list : List ProposalOrRef) (wants_path : Bool) (seed : List ℕ)
+    (made : Made) : Type 0 where
   pub active : not m.gone ≡ true
   pub free : is_none m.pending ≡ true
   pub below : nat_lt m.public.context.epoch (2 ^ 64 - 1) ≡ true
@@ -68,12 +75,15 @@ pub record Makes (c : Crypto) (m : Member) (list : List ProposalOrRef) (wants_pa
   pub path : MadePath
   pub path_is : path_for c m used edits wants_path seed ≡ Ok path
   pub change : Change
-  pub change_is : change_of_commit c m.public m.keys.leaf used (commit_of list path) (said_of m list path) (signature_of c m list path) ≡ Ok change
+  pub change_is : change_of_commit c m.public m.keys.leaf used (commit_of list path) (said_of m list path)
+      (signature_of c m list path) ≡ Ok change
   pub short : is_within_limit (message_of c m list path change) ≡ Ok passed
   pub welcome : Option (List ℕ)
-  pub welcome_is : welcome_if c m change path (joiner_of m path change) (tag_of m path change) seed (zip (adds used) edits.added) ≡ Ok welcome
+  pub welcome_is : welcome_if c m change path (joiner_of m path change)
+      (tag_of m path change) seed (zip (adds used) edits.added) ≡ Ok welcome
   pub made_is : made_of c m list path change welcome ≡ made
 
 -- a call that succeeded took these steps
 abbrev pub MakeDid : Type 0
-MakeDid = (c : Crypto) (m : Member) (list : List ProposalOrRef) (wants_path : Bool) (seed : List ℕ) (made : Made) → make c m list wants_path seed ≡ Ok made → Makes c m list wants_path seed made
+MakeDid = (c : Crypto) (m : Member) (list : List ProposalOrRef) (wants_path : Bool) (seed : List ℕ) (made : Made) →
+    make c m list wants_path seed ≡ Ok made → Makes c m list wants_path seed made

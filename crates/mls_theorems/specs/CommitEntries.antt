@@ -16,8 +16,8 @@ use Rattle.mls_theorems.specs.UsedProposals.{AreGoodKept}
 
 -- ---- a commit that was followed
 
--- a member that followed a commit, not its pending one, is in the public state that the entry leads to, in its next epoch,
--- with an epoch secret that fits the tag
+-- a member that followed a commit, not its pending one, is in the public state that the entry leads to, in its next
+-- epoch, with an epoch secret that fits the tag
 pub record FollowsEntry (c : Crypto) (m : Member) (bytes : List ℕ) (epoch : ℕ) (after : Member) : Type 0 where
   pub public : public_after c m.public (entry_of m bytes) ≡ Ok after.public
   pub epoch_is : epoch ≡ after.public.context.epoch
@@ -29,14 +29,18 @@ pub record FollowsEntry (c : Crypto) (m : Member) (bytes : List ℕ) (epoch : �
   pub active : after.gone ≡ m.gone
 
 abbrev pub ReceivedAlong : Type 0
-ReceivedAlong = (c : Crypto) (m : Member) (bytes : List ℕ) (epoch : ℕ) (after : Member) → AreGoodKept c m m.kept → bytes_verdict c m bytes ≡ Ok (Advanced epoch, after) → FollowsEntry c m bytes epoch after
+ReceivedAlong = (c : Crypto) (m : Member) (bytes : List ℕ) (epoch : ℕ) (after : Member) → AreGoodKept c m m.kept →
+    bytes_verdict c m bytes ≡ Ok (Advanced epoch, after) → FollowsEntry c m bytes epoch after
 
 -- ---- a commit that was made
 
 pub record MakesEntry (c : Crypto) (m : Member) (list : List ProposalOrRef) (made : Made) : Type 0 where
   pub lists : list_in made.commit ≡ list
-  pub public : public_after c m.public (record { commit = made.commit; names = names_in m.kept list }) ≡ Ok made.pending.public
-  pub is_tag : tag_of_message (decode_message made.commit) ≡ Some (confirmation_tag made.pending.epoch made.pending.public.context.confirmed_transcript_hash)
+  pub public : public_after c m.public (record { commit = made.commit; names = names_in m.kept list })
+      ≡ Ok made.pending.public
+  pub is_tag : tag_of_message (decode_message made.commit)
+      ≡ Some (confirmation_tag made.pending.epoch made.pending.public.context.confirmed_transcript_hash)
 
 abbrev pub MadeAlong : Type 0
-MadeAlong = (c : Crypto) (m : Member) (list : List ProposalOrRef) (made : Made) → IsMade c m list made → MakesEntry c m list made
+MadeAlong = (c : Crypto) (m : Member) (list : List ProposalOrRef) (made : Made) → IsMade c m list made →
+    MakesEntry c m list made

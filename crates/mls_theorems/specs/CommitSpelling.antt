@@ -10,8 +10,10 @@ use Rattle.mls_types.specs.declared.commit.Commit.{Commit}
 
 -- a path's leaf has a spelling, if it is short
 abbrev pub LeafFitsIfShort : Option UpdatePath → Type 0
-LeafFitsIfShort path = (p : UpdatePath) → path ≡ Some p → length (leaf_node.spell p.leaf_node) < 2 ^ 30 → leaf_node.Fits p.leaf_node
+LeafFitsIfShort path = (p : UpdatePath) → path ≡ Some p → length (leaf_node.spell p.leaf_node) < 2 ^ 30 →
+    leaf_node.Fits p.leaf_node
 
 -- a commit of written proposals has a spelling, if it is short
 abbrev pub CommitFits : Type 0
-CommitFits = (x : Commit) → AllByRecursion proposal_or_ref.Fits x.proposals → LeafFitsIfShort x.path → length (commit.spell x) < 2 ^ 30 → commit.Fits x
+CommitFits = (x : Commit) → AllByRecursion proposal_or_ref.Fits x.proposals → LeafFitsIfShort x.path →
+    length (commit.spell x) < 2 ^ 30 → commit.Fits x

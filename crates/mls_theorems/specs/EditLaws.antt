@@ -22,7 +22,7 @@ use Rattle.mls_model.specs.PublicState.{PublicState, Used, provisional_context, 
 use Rattle.mls_model.specs.Proposals.{full_checks, updates, updated_leaves, removed_leaves, adds, package_reference, is_path_required}
 use Rattle.mls_model.specs.Commit.{Edits, Change, apply_updates, apply_removes, apply_adds, apply_proposals, node_keys, cipher_counts, due_counts, apply_update_path, apply_path_if, change_of_commit}
 
--- the edits of a commit
+-- what each check of a commit's proposals found, and what each part of the edits answered
 pub record IsEdited (c : Crypto) (p : PublicState) (committer : ℕ) (used : List Used) (e : Edits) : Type 0 where
   pub full : full_checks c p used ≡ Ok passed
   pub not_updated : has (updated_leaves used) committer ≡ false
@@ -38,10 +38,12 @@ pub record IsEdited (c : Crypto) (p : PublicState) (committer : ℕ) (used : Lis
   pub keys : has_distinct_keys e.tree ≡ true
 
 abbrev pub EditedSteps : Type 0
-EditedSteps = (c : Crypto) (p : PublicState) (committer : ℕ) (used : List Used) (e : Edits) → apply_proposals c p committer used ≡ Ok e → IsEdited c p committer used e
+EditedSteps = (c : Crypto) (p : PublicState) (committer : ℕ) (used : List Used) (e : Edits) →
+    apply_proposals c p committer used ≡ Ok e → IsEdited c p committer used e
 
--- a path that was merged into the tree after them
-pub record IsWithPath (c : Crypto) (p : PublicState) (committer : ℕ) (e : Edits) (path : UpdatePath) (t : Term) : Type 0 where
+-- what each check of a path found that was merged into the tree after the edits
+pub record IsWithPath (c : Crypto) (p : PublicState) (committer : ℕ) (e : Edits) (path : UpdatePath)
+    (t : Term) : Type 0 where
   pub old : LeafNode
   pub is_old : leaf_of p.tree committer ≡ Some old
   pub replaced : replaced_checks c path.leaf_node old leaf_node_source.Commit p.context.group_id committer ≡ Ok passed
@@ -56,15 +58,20 @@ pub record IsWithPath (c : Crypto) (p : PublicState) (committer : ℕ) (e : Edit
   pub tree : t ≡ merge_path e.tree committer path.leaf_node (node_keys path)
 
 abbrev pub WithPathSteps : Type 0
-WithPathSteps = (c : Crypto) (p : PublicState) (committer : ℕ) (e : Edits) (path : UpdatePath) (t : Term) → apply_update_path c p committer e path ≡ Ok t → IsWithPath c p committer e path t
+WithPathSteps = (c : Crypto) (p : PublicState) (committer : ℕ) (e : Edits) (path : UpdatePath) (t : Term) →
+    apply_update_path c p committer e path ≡ Ok t → IsWithPath c p committer e path t
 
--- a whole commit
-pub record IsBody (c : Crypto) (p : PublicState) (committer : ℕ) (used : List Used) (commit : Commit) (said : FramedContent) (signature : List ℕ) (change : Change) : Type 0 where
+-- what each check of a whole commit found
+pub record IsBody (c : Crypto) (p : PublicState) (committer : ℕ) (used : List Used) (commit : Commit)
+    (said : FramedContent) (signature : List ℕ) (change : Change) : Type 0 where
   pub edits : apply_proposals c p committer used ≡ Ok change.edits
   pub path : (is_some commit.path || not (is_path_required used)) ≡ true
   pub path_merged : apply_path_if c p committer change.edits commit.path ≡ Ok change.tree
   pub provisional : change.provisional ≡ provisional_context p.context change.tree
-  pub context : change.context ≡ confirmed_context change.provisional (confirmed_hash p.interim 1 (framed_content.spell said) signature)
+  pub context : change.context ≡ confirmed_context change.provisional
+      (confirmed_hash p.interim 1 (framed_content.spell said) signature)
 
 abbrev pub BodySteps : Type 0
-BodySteps = (c : Crypto) (p : PublicState) (committer : ℕ) (used : List Used) (commit : Commit) (said : FramedContent) (signature : List ℕ) (change : Change) → change_of_commit c p committer used commit said signature ≡ Ok change → IsBody c p committer used commit said signature change
+BodySteps = (c : Crypto) (p : PublicState) (committer : ℕ) (used : List Used) (commit : Commit) (said : FramedContent)
+    (signature : List ℕ) (change : Change) → change_of_commit c p committer used commit said signature ≡ Ok change →
+    IsBody c p committer used commit said signature change

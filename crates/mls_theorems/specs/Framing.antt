@@ -7,12 +7,15 @@ use Rattle.mls_model.specs.Commit.{Change}
 use Rattle.mls_model.specs.Member.{Member}
 use Rattle.mls_model.specs.Make.{MadePath}
 use Rattle.mls_model.specs.Verdict.{framing_checks}
-use Rattle.mls_model.specs.Agreement.{Agree, AgreeSecret, IsGoodMember}
+use Rattle.mls_model.specs.Agreement.{Agree, AgreeSecret}
+use Rattle.mls_model.specs.MemberInvariant.{IsGoodMember}
 use Rattle.mls_theorems.specs.SentCommits.{sent_of}
 
 -- ---- the whole
 
--- 42 to 48 pass
+-- a made commit passes 42 to 48 at each other member that agrees with its maker
 abbrev pub MadeIsFramed : Type 0
-MadeIsFramed = (c : Crypto) → Lawful c → (maker m : Member) (list : List ProposalOrRef) (path : MadePath) (change : Change) (bytes : List ℕ) →
-    IsGoodMember c maker → maker.keys.leaf ≢ m.keys.leaf → Agree maker m → AgreeSecret maker m → framing_checks c m (sent_of c maker list path change) bytes ≡ Ok passed
+MadeIsFramed = (c : Crypto) → Lawful c →
+    (maker m : Member) (list : List ProposalOrRef) (path : MadePath) (change : Change) (bytes : List ℕ) →
+    IsGoodMember c maker → maker.keys.leaf ≢ m.keys.leaf → Agree maker m → AgreeSecret maker m →
+    framing_checks c m (sent_of c maker list path change) bytes ≡ Ok passed

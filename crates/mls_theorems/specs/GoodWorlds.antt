@@ -13,8 +13,10 @@ abbrev pub EmptyWorldGood : Type 0
 EmptyWorldGood = (c : Crypto) → IsGoodWorld c empty_world
 
 abbrev pub EventsKeepGood : Type 0
-EventsKeepGood = (c : Crypto) → Lawful c → (w : World) → IsGoodWorld c w → (e : Event) → IsInRange e → (x : Reply × World) → answer c w e ≡ Ok x → IsGoodWorld c x.1
+EventsKeepGood = (c : Crypto) → Lawful c → (w : World) → IsGoodWorld c w → (e : Event) → IsInRange e →
+    (x : Reply × World) → answer c w e ≡ Ok x → IsGoodWorld c x.1
 
 -- Each world that a list of events leaves is good, where the world before is.
 abbrev pub RunsKeepGood : Type 0
-RunsKeepGood = (c : Crypto) → Lawful c → (w : World) → IsGoodWorld c w → (events : List Event) → AllByRecursion IsInRange events → IsGoodWorld c (run c w events)
+RunsKeepGood = (c : Crypto) → Lawful c → (w : World) → IsGoodWorld c w → (events : List Event) →
+    AllByRecursion IsInRange events → IsGoodWorld c (run c w events)

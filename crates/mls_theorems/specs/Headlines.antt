@@ -4,6 +4,6 @@ use Rattle.mls_model.specs.Headline.{Headline}
 use Rattle.mls_model.specs.Invariant.{IsGoodWorld}
 use Rattle.mls_model.specs.World.{World}
 
--- it holds of each good world
+-- the headline holds of each good world
 abbrev pub HeadlineOfGood : Type 0
 HeadlineOfGood = (c : Crypto) → Lawful c → (w : World) → IsGoodWorld c w → Headline c w

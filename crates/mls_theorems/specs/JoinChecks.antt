@@ -25,26 +25,45 @@ info_of c signing p tag signer = signed_info c signing (unsigned_info p tag sign
 
 -- ---- the tree
 
--- 76, 20, 21, 77, and the checks of the whole tree pass, and it is the maker's
+-- the checks of the tree in a GroupInfo pass (76, 20, 21, 77 and those of a whole tree), and the tree is the maker's
 abbrev pub TreeIsTaken : Type 0
-TreeIsTaken = (c : Crypto) (signing : List ℕ) (p : PublicState) (tag : List ℕ) (signer : ℕ) → HasGood c p p.tree → p.context.tree_hash ≡ tree_hash 0 p.tree → joined_tree c (info_of c signing p tag signer) ≡ Ok p.tree
+TreeIsTaken = (c : Crypto) (signing : List ℕ) (p : PublicState) (tag : List ℕ) (signer : ℕ) → HasGood c p p.tree →
+    p.context.tree_hash ≡ tree_hash 0 p.tree → joined_tree c (info_of c signing p tag signer) ≡ Ok p.tree
 
 -- ---- the signer
 
--- 78 and 79 pass, where its leaf has the maker's signature key and not the candidate's
+-- the checks of the signer pass (78 and 79), where its leaf has the maker's signature key and not the candidate's
 abbrev pub SignerPasses : Type 0
-SignerPasses = (c : Crypto) → Lawful c → (k : Candidate) (signing : List ℕ) (p : PublicState) (tag : List ℕ) (signer : ℕ) (x : LeafNode) → leaf_of p.tree signer ≡ Some x → x.signature_key ≡ c.sig_public signing →
-    bytes_eq x.signature_key k.offered.leaf_node.signature_key ≡ false → signer_checks c k (info_of c signing p tag signer) p.tree ≡ Ok passed
+SignerPasses = (c : Crypto) → Lawful c →
+    (k : Candidate) (signing : List ℕ) (p : PublicState) (tag : List ℕ) (signer : ℕ) (x : LeafNode) →
+    leaf_of p.tree signer ≡ Some x → x.signature_key ≡ c.sig_public signing →
+    bytes_eq x.signature_key k.offered.leaf_node.signature_key ≡ false →
+    signer_checks c k (info_of c signing p tag signer) p.tree ≡ Ok passed
 
 -- ---- the new member
 
--- the member that joins, where its place and its keys are found
+-- a candidate joins, where its place and its keys are found
 abbrev pub JoinsAt : Type 0
-JoinsAt = (c : Crypto) (k : Candidate) (signing : List ℕ) (change : Change) (joiner tag : List ℕ) (signer : ℕ) (path_secret : Option (List ℕ)) (place : ℕ × LeafNode) (keys : PrivateKeys) →
+JoinsAt = (c : Crypto) (k : Candidate) (signing : List ℕ) (change : Change) (joiner tag : List ℕ) (signer : ℕ)
+    (path_secret : Option (List ℕ)) (place : ℕ × LeafNode) (keys : PrivateKeys) →
     let p : PublicState = public_with change tag in
     let info : GroupInfo = info_of c signing p tag signer in
     let epoch : List ℕ = epoch_secret joiner (group_context.spell change.context) in
-    let opened : Opened = record { joiner = joiner; path_secret = path_secret; bytes = group_info.spell info; info = info } in
-    let joined : JoinedMember = record { member = record { gone = false; public = p; epoch = epoch; keys = keys; signing = k.signing; kept = []; pending = None }; info = group_info.spell info } in
-    joined_tree c info ≡ Ok p.tree → signer_checks c k info p.tree ≡ Ok passed → place_of k.offered.leaf_node p.tree ≡ Some place →
-    joined_keys c p.tree signer (record { leaf = place.0; own = k.leaf; above = [] }) path_secret ≡ Ok keys → tag ≡ confirmation_tag epoch change.context.confirmed_transcript_hash → member_of c k opened ≡ Ok joined
+    let opened : Opened =
+        record { joiner = joiner; path_secret = path_secret; bytes = group_info.spell info; info = info } in
+    let joined : JoinedMember = record {
+      member = record {
+        gone = false;
+        public = p;
+        epoch = epoch;
+        keys = keys;
+        signing = k.signing;
+        kept = [];
+        pending = None;
+      };
+      info = group_info.spell info;
+    } in
+    joined_tree c info ≡ Ok p.tree → signer_checks c k info p.tree ≡ Ok passed →
+    place_of k.offered.leaf_node p.tree ≡ Some place →
+    joined_keys c p.tree signer (record { leaf = place.0; own = k.leaf; above = [] }) path_secret ≡ Ok keys →
+    tag ≡ confirmation_tag epoch change.context.confirmed_transcript_hash → member_of c k opened ≡ Ok joined

@@ -13,11 +13,15 @@ use Rattle.mls_model.specs.Make.{MadePath, no_path, path_secret_for}
 use Rattle.mls_model.specs.Join.{joined_keys}
 use Rattle.mls_theorems.specs.SentCommits.{IsNewPath}
 
--- a joiner's keys in a tree
+-- a joiner takes its keys in a tree
 abbrev pub TakesKeys : Crypto → Term → ℕ → ℕ → List ℕ → Option (List ℕ) → Type 0
-TakesKeys c t i j own secret = (keys : PrivateKeys) × (joined_keys c t i (record { leaf = j; own = own; above = [] }) secret ≡ Ok keys)
+TakesKeys c t i j own secret =
+    (keys : PrivateKeys) × (joined_keys c t i (record { leaf = j; own = own; above = [] }) secret ≡ Ok keys)
 
 -- a joiner that the parents over it list in the tree of the edits finds its keys in the maker's next tree
 abbrev pub KeysTaken : Type 0
-KeysTaken = (c : Crypto) (m : Member) (e : Edits) (seed : List ℕ) (path : MadePath) (t : Term) (j : ℕ) (y : LeafNode) (own : List ℕ) → IsNewPath c m e seed path ⊎ (path ≡ no_path m e) → apply_path_if c m.public m.keys.leaf e path.path ≡ Ok t →
-    AreTwo 0 e.tree m.keys.leaf j → leaf_at 0 e.tree j ≡ Some y → c.public own ≡ y.encryption_key → AllList j (way 0 e.tree j) → TakesKeys c t m.keys.leaf j own (path_secret_for path.path m e seed j)
+KeysTaken = (c : Crypto) (m : Member) (e : Edits) (seed : List ℕ) (path : MadePath) (t : Term) (j : ℕ) (y : LeafNode)
+    (own : List ℕ) → IsNewPath c m e seed path ⊎ (path ≡ no_path m e) →
+    apply_path_if c m.public m.keys.leaf e path.path ≡ Ok t →
+    AreTwo 0 e.tree m.keys.leaf j → leaf_at 0 e.tree j ≡ Some y → c.public own ≡ y.encryption_key →
+    AllList j (way 0 e.tree j) → TakesKeys c t m.keys.leaf j own (path_secret_for path.path m e seed j)

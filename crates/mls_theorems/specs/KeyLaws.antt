@@ -16,7 +16,7 @@ use Rattle.mls_model.specs.Proposals.{updates, removed_leaves}
 use Rattle.mls_model.specs.Commit.{Edits, Change, apply_proposals, change_of_commit}
 use Rattle.mls_model.specs.Member.{Member, find_proposals, named_proposals, first_own_key, with_keys, follow_edits}
 use Rattle.mls_model.specs.Verdict.{open_path_secret}
-use Rattle.mls_model.specs.Agreement.{IsGoodKept}
+use Rattle.mls_model.specs.MemberInvariant.{IsGoodKept}
 use Rattle.mls_theorems.specs.CommitLaws.{AllHavePassed}
 
 -- an update of leaf j whose new leaf has the public key of this private key
@@ -35,11 +35,14 @@ OwnsUpdate c j us (Some key) = IsOwnUpdate c j us key
 
 -- the proposals that a commit's list uses have passed their checks, if it names them by reference
 abbrev pub UsedHavePassed : Type 0
-UsedHavePassed = (c : Crypto) (m : Member) (committer : ℕ) (list : List ProposalOrRef) (used : List Used) → AllByRecursion (IsGoodKept c m) m.kept → find_proposals m.kept committer list ≡ Ok used → AllHavePassed c m.public used
+UsedHavePassed = (c : Crypto) (m : Member) (committer : ℕ) (list : List ProposalOrRef) (used : List Used) →
+    AllByRecursion (IsGoodKept c m) m.kept → find_proposals m.kept committer list ≡ Ok used →
+    AllHavePassed c m.public used
 
--- and of its own updates among them it has the private key, in a commit of another
+-- a member has the private key of its own update among the proposals that another's commit uses
 abbrev pub UsedAreOwned : Type 0
-UsedAreOwned = (c : Crypto) (m : Member) (committer : ℕ) (list : List ProposalOrRef) (used : List Used) → AllByRecursion (IsGoodKept c m) m.kept → committer ≢ m.keys.leaf → find_proposals m.kept committer list ≡ Ok used →
+UsedAreOwned = (c : Crypto) (m : Member) (committer : ℕ) (list : List ProposalOrRef) (used : List Used) →
+    AllByRecursion (IsGoodKept c m) m.kept → committer ≢ m.keys.leaf → find_proposals m.kept committer list ≡ Ok used →
     OwnsUpdate c m.keys.leaf (updates used) (first_own_key (named_proposals m.kept list))
 
 -- ---- where it stands
@@ -50,24 +53,32 @@ pub record IsStanding (j : ℕ) (e : Edits) : Type 0 where
   pub is_leaf : leaf_of e.tree j ≡ Some leaf
   pub old : has e.added j ≡ false
 
--- so does one that they don't remove
+-- a member that a commit doesn't remove has a leaf after the edits, and wasn't added
 abbrev pub MemberStands : Type 0
-MemberStands = (c : Crypto) (p : PublicState) (committer : ℕ) (used : List Used) (e : Edits) (own : Option (List ℕ)) (j : ℕ) → apply_proposals c p committer used ≡ Ok e →
+MemberStands = (c : Crypto) (p : PublicState) (committer : ℕ) (used : List Used) (e : Edits) (own : Option (List ℕ))
+    (j : ℕ) → apply_proposals c p committer used ≡ Ok e →
     IsSome (leaf_of p.tree j) → has (removed_leaves used) j ≡ false → OwnsUpdate c j (updates used) own → IsStanding j e
 
 -- ---- its private keys
 
--- all keys of a member, written into a member at its leaf, give that member's
+-- the keys of a member, written into another at its leaf, give that member's
 abbrev pub WithAllKeys : Type 0
 WithAllKeys = (old new : PrivateKeys) → new.leaf ≡ old.leaf → with_keys old (all_keys new) ≡ new
 
--- exact keys are exact after the edits
+-- exact keys are exact after the edits of a commit
 abbrev pub FollowedExact : Type 0
-FollowedExact = (c : Crypto) (p : PublicState) (committer : ℕ) (used : List Used) (e : Edits) (own : Option (List ℕ)) (old : PrivateKeys) → apply_proposals c p committer used ≡ Ok e →
-    IsSome (leaf_of p.tree old.leaf) → has (removed_leaves used) old.leaf ≡ false → OwnsUpdate c old.leaf (updates used) own → HasExact c p.tree old → HasExact c e.tree (follow_edits own e.tree old)
+FollowedExact = (c : Crypto) (p : PublicState) (committer : ℕ) (used : List Used) (e : Edits) (own : Option (List ℕ))
+    (old : PrivateKeys) → apply_proposals c p committer used ≡ Ok e →
+    IsSome (leaf_of p.tree old.leaf) → has (removed_leaves used) old.leaf ≡ false →
+    OwnsUpdate c old.leaf (updates used) own → HasExact c p.tree old → HasExact c e.tree (follow_edits own e.tree old)
 
--- and after the whole commit of another member, whatever its path is, where it is accepted
+-- exact keys are exact after the whole commit of another member, whatever its path is, where it is accepted
 abbrev pub KeysNext : Type 0
-KeysNext = (c : Crypto) (m : Member) (committer : ℕ) (used : List Used) (commit : Commit) (said : FramedContent) (signature : List ℕ) (change : Change) (own : Option (List ℕ)) (climb : Climb) →
-    change_of_commit c m.public committer used commit said signature ≡ Ok change → IsSome (leaf_of m.public.tree committer) → IsSome (leaf_of m.public.tree m.keys.leaf) → committer ≢ m.keys.leaf → has (removed_leaves used) m.keys.leaf ≡ false →
-    OwnsUpdate c m.keys.leaf (updates used) own → HasExact c m.public.tree m.keys → open_path_secret c m committer change (follow_edits own change.edits.tree m.keys) commit.path ≡ Ok climb → HasExact c change.tree (with_keys m.keys climb.keys)
+KeysNext = (c : Crypto) (m : Member) (committer : ℕ) (used : List Used) (commit : Commit) (said : FramedContent)
+    (signature : List ℕ) (change : Change) (own : Option (List ℕ)) (climb : Climb) →
+    change_of_commit c m.public committer used commit said signature ≡ Ok change →
+    IsSome (leaf_of m.public.tree committer) → IsSome (leaf_of m.public.tree m.keys.leaf) → committer ≢ m.keys.leaf →
+    has (removed_leaves used) m.keys.leaf ≡ false →
+    OwnsUpdate c m.keys.leaf (updates used) own → HasExact c m.public.tree m.keys →
+    open_path_secret c m committer change (follow_edits own change.edits.tree m.keys) commit.path ≡ Ok climb →
+    HasExact c change.tree (with_keys m.keys climb.keys)

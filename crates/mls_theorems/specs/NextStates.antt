@@ -11,7 +11,7 @@ use Rattle.mls_tree_model.specs.Good.{IsGood}
 use Rattle.mls_tree_model.specs.Hashes.{tree_hash}
 use Rattle.mls_tree_model.specs.Term.{leaf_of}
 use Rattle.mls_tree.specs.Rules.{rules_of}
-use Rattle.mls_model.specs.Agreement.{NodeFits, IsGoodMember}
+use Rattle.mls_model.specs.MemberInvariant.{NodeFits, IsGoodMember}
 use Rattle.mls_model.specs.Commit.{Change, change_of_commit}
 use Rattle.mls_model.specs.Member.{Member, find_proposals}
 use Rattle.mls_model.specs.PublicState.{Used}
@@ -19,7 +19,8 @@ use Rattle.mls_theorems.specs.NodeSpelling.{PartsFit}
 
 -- ---- the whole of it
 
--- its tree is good, its context is of that tree and of the suite, and all has a spelling
+-- a change leads to a good state: the tree is good, the context is of that tree and of the suite, and all has a
+-- spelling
 pub record IsNext (c : Crypto) (change : Change) : Type 0 where
   pub good : IsGood (rules_of c change.context.group_id) change.tree
   pub hash : change.context.tree_hash ≡ tree_hash 0 change.tree
@@ -28,7 +29,9 @@ pub record IsNext (c : Crypto) (change : Change) : Type 0 where
   pub parts : PartsFit change.tree
   pub nodes : AllByRecursion NodeFits (in_order change.tree)
 
--- so is that of each commit of a member that a good member finds to pass
+-- each commit of a member that a good member finds to pass leads to a good state
 abbrev pub NextStatesGood : Type 0
-NextStatesGood = (c : Crypto) (m : Member) (i : ℕ) (used : List Used) (x : Commit) (said : FramedContent) (signature : List ℕ) (change : Change) → IsGoodMember c m → IsSome (leaf_of m.public.tree i) →
-    nat_lt m.public.context.epoch (2 ^ 64 - 1) ≡ true → commit.Fits x → find_proposals m.kept i x.proposals ≡ Ok used → change_of_commit c m.public i used x said signature ≡ Ok change → IsNext c change
+NextStatesGood = (c : Crypto) (m : Member) (i : ℕ) (used : List Used) (x : Commit) (said : FramedContent)
+    (signature : List ℕ) (change : Change) → IsGoodMember c m → IsSome (leaf_of m.public.tree i) →
+    nat_lt m.public.context.epoch (2 ^ 64 - 1) ≡ true → commit.Fits x → find_proposals m.kept i x.proposals ≡ Ok used →
+    change_of_commit c m.public i used x said signature ≡ Ok change → IsNext c change

@@ -8,7 +8,7 @@ use Rattle.mls_model.specs.EventRange.{IsInRange}
 use Rattle.mls_model.specs.Run.{step, run}
 use Rattle.mls_model.specs.World.{World, empty_world}
 
--- events in range leave it
+-- a list of events in range leaves this world
 pub record IsReachable (c : Crypto) (w : World) : Type 0 where
   pub events : List Event
   pub range : AllByRecursion IsInRange events
@@ -17,14 +17,16 @@ pub record IsReachable (c : Crypto) (w : World) : Type 0 where
 abbrev pub EmptyIsReachable : Type 0
 EmptyIsReachable = (c : Crypto) → IsReachable c empty_world
 
--- a list of events leads on to such a world
+-- a list of events leads from such a world to such a world
 abbrev pub RunsReach : Type 0
-RunsReach = (c : Crypto) (w v : World) (events : List Event) → IsReachable c w → AllByRecursion IsInRange events → v ≡ run c w events → IsReachable c v
+RunsReach = (c : Crypto) (w v : World) (events : List Event) → IsReachable c w → AllByRecursion IsInRange events →
+    v ≡ run c w events → IsReachable c v
 
--- and so does one event
+-- one event leads from such a world to such a world
 abbrev pub StepsReach : Type 0
-StepsReach = (c : Crypto) (w v : World) (e : Event) → IsReachable c w → IsInRange e → v ≡ (step c w e).1 → IsReachable c v
+StepsReach = (c : Crypto) (w v : World) (e : Event) → IsReachable c w → IsInRange e → v ≡ (step c w e).1 →
+    IsReachable c v
 
--- of each of them the headline holds
+-- the headline holds of each such world
 abbrev pub HeadlineOfReachable : Type 0
 HeadlineOfReachable = (c : Crypto) → Lawful c → (w : World) → IsReachable c w → Headline c w

@@ -29,7 +29,7 @@ use Rattle.mls_model.specs.Commit.{Edits, Change}
 use Rattle.mls_model.specs.Member.{Member}
 use Rattle.mls_model.specs.Messages.{decode_message, content_tag}
 use Rattle.mls_model.specs.Make.{MadePath, Made, committed_leaf, no_path}
-use Rattle.mls_model.specs.Agreement.{IsGoodMember}
+use Rattle.mls_model.specs.MemberInvariant.{IsGoodMember}
 use Rattle.mls_theorems.specs.CommitCalls.{content_of, path_for, Makes}
 
 -- ---- the path of a made commit
@@ -37,21 +37,28 @@ use Rattle.mls_theorems.specs.CommitCalls.{content_of, path_for, Makes}
 pub record IsNewPath (c : Crypto) (m : Member) (e : Edits) (seed : List ℕ) (path : MadePath) : Type 0 where
   pub old : LeafNode
   pub is_old : leaf_of m.public.tree m.keys.leaf ≡ Some old
-  pub checks : replaced_checks c (committed_leaf c m e old seed) old replaced_for.Commit m.public.context.group_id m.keys.leaf ≡ Ok passed
+  pub checks : replaced_checks c
+      (committed_leaf c m e old seed) old replaced_for.Commit m.public.context.group_id m.keys.leaf ≡ Ok passed
   pub tree : Term
-  pub tree_is : merge_answer e.tree m.keys.leaf (committed_leaf c m e old seed) (keys_of_path c e.tree m.keys.leaf (path_seed seed)) ≡ Ok tree
+  pub tree_is : merge_answer e.tree m.keys.leaf (committed_leaf c m e old seed)
+      (keys_of_path c e.tree m.keys.leaf (path_seed seed)) ≡ Ok tree
   pub nodes : List UpdatePathNode
-  pub nodes_are : sealed_path c (group_context.spell (provisional_context m.public.context tree)) e.added (seal_seed seed) e.tree m.keys.leaf (path_seed seed) ≡ Ok nodes
+  pub nodes_are : sealed_path c (group_context.spell (provisional_context m.public.context tree)) e.added
+      (seal_seed seed) e.tree m.keys.leaf (path_seed seed) ≡ Ok nodes
   pub path_is : path.path ≡ Some (record { leaf_node = committed_leaf c m e old seed; nodes = nodes })
   pub climb_is : path.climb ≡ climb_make c (way 0 e.tree m.keys.leaf) (path_seed seed) (leaf_key_of c seed)
 
 abbrev pub PathDid : Type 0
-PathDid = (c : Crypto) (m : Member) (used : List Used) (e : Edits) (wants_path : Bool) (seed : List ℕ) (path : MadePath) → path_for c m used e wants_path seed ≡ Ok path →
+PathDid = (c : Crypto) (m : Member) (used : List Used) (e : Edits) (wants_path : Bool) (seed : List ℕ)
+    (path : MadePath) → path_for c m used e wants_path seed ≡ Ok path →
     IsNewPath c m e seed path ⊎ (path ≡ no_path m e)
 
 -- what a made commit is as a message
 unfoldable pub sent_of : Crypto → Member → List ProposalOrRef → MadePath → Change → PublicMessage
-sent_of c m list path change = record { content = content_of c m list path change; membership_tag = content_tag m.epoch (content_of c m list path change) m.public.context }
+sent_of c m list path change = record {
+  content = content_of c m list path change;
+  membership_tag = content_tag m.epoch (content_of c m list path change) m.public.context;
+}
 
 -- bytes are read as a message that has a spelling
 pub record ReadsBack (bytes : List ℕ) (said : PublicMessage) : Type 0 where
@@ -60,5 +67,7 @@ pub record ReadsBack (bytes : List ℕ) (said : PublicMessage) : Type 0 where
 
 -- the message that a good member's commit call made is read as what it is made of
 abbrev pub MadeFits : Type 0
-MadeFits = (c : Crypto) (m : Member) (list : List ProposalOrRef) (wants_path : Bool) (seed : List ℕ) (made : Made) (k : Makes c m list wants_path seed made) →
-    IsGoodMember c m → AllByRecursion proposal_or_ref.Fits list → ReadsBack made.commit (sent_of c m list k.path k.change)
+MadeFits = (c : Crypto) (m : Member) (list : List ProposalOrRef) (wants_path : Bool) (seed : List ℕ) (made : Made)
+    (k : Makes c m list wants_path seed made) →
+    IsGoodMember c m → AllByRecursion proposal_or_ref.Fits list →
+    ReadsBack made.commit (sent_of c m list k.path k.change)

@@ -3,7 +3,7 @@ use Rattle.mls_leaf.specs.Proposal.{proposal}
 use Rattle.mls_types.specs.declared.commit.ProposalOrRef.{ProposalOrRef}
 use Rattle.mls_types.specs.declared.commit.ProposalOrRef.TheVariants as listed
 
--- of a list, a proposal that is given in full has a spelling
+-- a proposal that a list gives in full has a spelling
 abbrev pub FullFits : ProposalOrRef → Type 0
 FullFits (listed.Proposal said) = proposal.Fits said
 FullFits (listed.Reference r) = Unit {0}

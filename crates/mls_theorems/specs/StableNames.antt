@@ -6,4 +6,5 @@ use Rattle.mls_model.specs.Member.{KeptProposal, find_proposals}
 use Rattle.mls_model.specs.PublicState.{Used}
 
 abbrev pub NamesStable : Type 0
-NamesStable = (kept more : List KeptProposal) (i : ℕ) (list : List ProposalOrRef) (used : List Used) → find_proposals kept i list ≡ Ok used → names_in (kept ++ more) list ≡ names_in kept list
+NamesStable = (kept more : List KeptProposal) (i : ℕ) (list : List ProposalOrRef) (used : List Used) →
+    find_proposals kept i list ≡ Ok used → names_in (kept ++ more) list ≡ names_in kept list

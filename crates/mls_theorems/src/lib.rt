@@ -1,5 +1,5 @@
-//! What is claimed of members and worlds, and proved of their definitions. Each function does nothing, and its contract is
-//! the laws of one subject.
+//! What is claimed of members and worlds, and proved of their definitions. Each function does nothing, and its contract
+//! is the laws of one subject.
 #![tactic(auto)]
 
 ghost use Rattle.mls_theorems.specs.EditLaws.{EditedSteps, WithPathSteps, BodySteps};
@@ -67,8 +67,8 @@ pub fn laws_of_added_leaves()
     ensures count { AddsCounted }
 {}
 
-/// What a member keeps, among the proposals that a commit uses: they have passed their checks, and of its own updates it
-/// has the private keys.
+/// What a member keeps, among the proposals that a commit uses: they have passed their checks, and of its own updates
+/// it has the private keys.
 pub fn laws_of_kept()
     ensures passed { UsedHavePassed }
     ensures owned { UsedAreOwned }
@@ -166,8 +166,9 @@ pub fn laws_of_journals()
     ensures calls { CallsKeepState }
 {}
 
-/// A journal is homemade just where it began with a creation and each of its entries was made by a commit call at the
-/// journal before it, and all calls that made one entry reached one epoch secret.
+/// The test for homemade journals says of each journal whether it is homemade: whether it began with a creation and
+/// each of its entries was made by a commit call at the journal before it, where all calls that made one entry reached
+/// one epoch secret.
 pub fn laws_of_homemade_journals()
     ensures made { HomemadeIsMade }
     ensures homemade { MadeIsHomemade }
@@ -200,8 +201,8 @@ pub fn headline()
     ensures runs { HoldsOnRuns }
 {}
 
-/// Worlds that a list of events leaves, as the invariant of a type: the empty one is, and each event and each list of events
-/// leads on to such a world.
+/// Worlds that a list of events leaves, as the invariant of a type: the empty one is, and each event and each list of
+/// events leads on to such a world.
 pub fn laws_of_reachable_worlds()
     ensures empty { EmptyIsReachable }
     ensures steps { StepsReach }

@@ -5,7 +5,6 @@ pub mod ClientLaws
 pub mod FitLaws
 pub mod KindLaws
 pub mod MergedKeyLaws
-pub mod Names
 pub mod Perfect
 pub mod RefusalLaws
 pub mod SentLemmas

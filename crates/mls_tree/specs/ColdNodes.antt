@@ -2,6 +2,7 @@
 use Rattle.std.specs.Prelude.{◌≡◌, ℕ, suc, ◌+◌, ◌-◌, ◌*◌, ◌<◌, ◌≤◌, nat_le, Bool, true, ◌||◌, List, [], ◌∷◌, length}
 use Rattle.mls_tree_model.specs.Sets.{has}
 use Rattle.mls_tree_model.specs.Term.{Term, size, height}
+use Rattle.mls_tree_model.specs.Edits.{first_blank, room_for}
 use Rattle.mls_tree_hash.specs.Counter.{counted}
 use Rattle.mls_tree_array.specs.KeptHashes.{is_cold_at, cold_places, nodes_upward}
 use Rattle.mls_tree.specs.Tree.{Tree, term}
@@ -27,13 +28,25 @@ pub record Warms (old new : Tree) : Type 0 where
   pub fewer : cold_nodes new ≤ cold_nodes old
   pub done : new.done ≡ counted old.done (cold_nodes old - cold_nodes new)
 
--- An edit of leaf i makes its node cold, the nodes over it in the tree t, and those that a doubling adds; nodes that are
--- cut off are counted no more. So it is settled which nodes are cold, and how many.
+-- An edit of leaf i makes its node cold, the nodes over it in the tree t, and those that a doubling adds; nodes that
+-- are cut off are counted no more. So it is settled which nodes are cold, and how many.
 pub record Chills (t : Term) (i : ℕ) (old new : Tree) : Type 0 where
   pub each : (n : ℕ) → n < size (term new) → is_cold new n ≡ (is_cold old n || (nat_le (size (term old)) n || has (nodes_upward 0 t i) n))
   pub whole : length new.kept ≡ size (term new)
   pub few : cold_nodes new ≤ cold_nodes old + suc (height t) + (size (term new) - size (term old))
   pub done : new.done ≡ old.done
+
+-- A call warms nodes of a tree, and then edits leaf i.
+abbrev pub WarmsThenChills : ℕ → Tree → Tree → Type 0
+WarmsThenChills i old new = (between : Tree) × Warms old between × (term between ≡ term old) × Chills (term old) i between new
+
+-- A call edits leaf i of a tree, and then warms nodes.
+abbrev pub ChillsThenWarms : ℕ → Tree → Tree → Type 0
+ChillsThenWarms i old new = (between : Tree) × Chills (term old) i old between × (term between ≡ term new) × Warms between new
+
+-- A call adds leaf i to a tree, which is doubled where it has no blank one.
+abbrev pub AddChills : Tree → Tree → ℕ → Type 0
+AddChills old new i = Chills (room_for (first_blank 0 (term old)) (term old)) i old new
 
 -- ---- what hashing costs
 

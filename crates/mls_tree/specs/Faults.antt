@@ -1,5 +1,5 @@
--- The numbers and names of what a tree refuses.
-use Rattle.std.specs.Prelude.{ℕ, List, codes}
+-- The numbers of what a tree refuses.
+use Rattle.std.specs.Prelude.{ℕ}
 use Rattle.mls_tree.specs.declared.error.TreeError.{TreeError}
 use Rattle.mls_tree.specs.declared.error.TreeError.TheVariants.{OutOfMemory, TreeShape, TreeFull, NoSuchLeaf, UnmergedWrong, ParentHashWrong, KeyRepeated, ClientRepeated, PathLength, BadKey, LeafSignature, LeafCapability}
 
@@ -17,18 +17,3 @@ number_of PathLength = 30
 number_of BadKey = 36
 number_of LeafSignature = 51
 number_of LeafCapability = 52
-
--- the name, as it is printed
-abbrev pub name_of : TreeError → List ℕ
-name_of OutOfMemory = codes "OutOfMemory"
-name_of TreeShape = codes "TreeShape"
-name_of TreeFull = codes "TreeFull"
-name_of NoSuchLeaf = codes "NoSuchLeaf"
-name_of UnmergedWrong = codes "UnmergedWrong"
-name_of ParentHashWrong = codes "ParentHashWrong"
-name_of KeyRepeated = codes "KeyRepeated"
-name_of ClientRepeated = codes "ClientRepeated"
-name_of PathLength = codes "PathLength"
-name_of BadKey = codes "BadKey"
-name_of LeafSignature = codes "LeafSignature"
-name_of LeafCapability = codes "LeafCapability"

@@ -8,6 +8,9 @@ use Rattle.mls_tree_index.specs.BlankedCells.{cells_without}
 use Rattle.mls_tree_index.specs.Keys.{key_in}
 use Rattle.mls_tree_index.specs.Indexes.{Indexes, SameIndex}
 use Rattle.mls_tree.specs.declared.key_indexes.KeyIndexes.{KeyIndexes}
+use Rattle.mls_tree_model.specs.Term.{Term}
+use Rattle.mls_tree_model.specs.Arrays.{term_of}
+use Rattle.mls_tree_array.specs.Standing.{Stands}
 
 -- both are of these cells
 pub record AreIndexes (cells : List (Option Node)) (t : KeyIndexes) : Type 0 where
@@ -43,3 +46,24 @@ pub record AreBeside (kept : Bool) (places : List ℕ) (cells : List (Option Nod
   pub signature : t.clients.kind ≡ Signature
   pub keys : Indexes (cells_without 0 places cells) t.keys
   pub clients : Indexes (cond kept cells (cells_without 0 places cells)) t.clients
+
+-- indexes of some cells have become those of others
+abbrev pub KeepsIndexes : List (Option Node) → List (Option Node) → KeyIndexes → KeyIndexes → Type 0
+KeepsIndexes before after old new = AreIndexes before old → AreIndexes after new
+
+-- a cell that was filled has entered the indexes
+abbrev pub EntersNode : ℕ → List (Option Node) → KeyIndexes → KeyIndexes → Type 0
+EntersNode x cells old new = (b : List (Option Node)) → Fills x b cells → AreIndexes b old → AreIndexes cells new
+
+-- the cells at some places have left the indexes
+abbrev pub LeavesNodes : List ℕ → List (Option Node) → KeyIndexes → KeyIndexes → Type 0
+LeavesNodes places cells old new = KeepsIndexes cells (cells_without 0 places cells) old new
+
+-- the cells at some places have entered the indexes
+abbrev pub EntersNodes : List ℕ → List (Option Node) → KeyIndexes → KeyIndexes → Type 0
+EntersNodes places cells old new = KeepsIndexes (cells_without 0 places cells) cells old new
+
+-- the indexes tell of a test of a tree how it ends for theirs
+abbrev pub AnswersTest : (Term → Bool) → KeyIndexes → Bool → Type 0
+AnswersTest test t answer =
+    (h : ℕ) (cells : List (Option Node)) → Stands h cells → AreIndexes cells t → answer ≡ test (term_of h cells)

@@ -1,6 +1,5 @@
 pub mod Tree
 pub mod Faults
-pub mod Names
 pub mod Paths
 pub mod Rules
 pub mod EditsKeepGood
@@ -12,3 +11,7 @@ pub mod Bounds
 pub mod Way
 pub mod IndexedKeys
 pub mod PreparedPath
+pub mod PathMerging
+pub mod ArrayEdits
+pub mod Checking
+pub mod TestTrees

@@ -12,7 +12,8 @@ use Rattle.mls_tree_model.specs.Keys.{encryption_keys}
 use Rattle.mls_tree_model.specs.Merge.{merge_path, path_parent_hash}
 use Rattle.mls_tree.specs.Tree.{member_at}
 
--- 22 where no member is at leaf i, then 30 where there aren't as many keys as its filtered path has parents
+-- `NoSuchLeaf` (22) where no member is at leaf i, then `PathLength` (30) where there aren't as many keys as its
+-- filtered path has parents
 unfoldable pub path_checks : Term → ℕ → ℕ → Result Passed ℕ
 path_checks t i n = member_at t i >>= λ v. require 30 (n == path_length 0 t i)
 
@@ -20,13 +21,14 @@ path_checks t i n = member_at t i >>= λ v. require 30 (n == path_length 0 t i)
 unfoldable pub path_hash_answer : Term → ℕ → List (List ℕ) → Result (List ℕ) ℕ
 path_hash_answer t i keys = path_checks t i (length keys) >> Ok (path_parent_hash t i keys)
 
--- how many ciphertexts each node of a member's path has, the lowest first, where these leaves were just added (RFC 9420,
--- 7.6 and 12.4.2); 22 where no member is at leaf i
+-- how many ciphertexts each node of a member's path has, the lowest first, where these leaves were just added (RFC
+-- 9420, 7.6 and 12.4.2); `NoSuchLeaf` (22) where no member is at leaf i
 unfoldable pub counts_answer : Term → ℕ → List ℕ → Result (List ℕ) ℕ
 counts_answer t i added = member_at t i >>= λ v. Ok (ciphertext_counts 0 t i added)
 
--- the same checks, then 25 where two nodes of the merged tree have one encryption key, and 24 where the leaf's source
--- isn't a commit with that parent hash (RFC 9420, 7.9.2 and 12.4.2)
+-- `NoSuchLeaf` (22) and `PathLength` (30), then `KeyRepeated` (25) where two nodes of the merged tree have one
+-- encryption key, and `ParentHashWrong` (24) where the leaf's source isn't a commit with the path's parent hash (RFC
+-- 9420, 7.9.2 and 12.4.2)
 unfoldable pub merge_checks : Term → ℕ → LeafNode → List (List ℕ) → Result Passed ℕ
 merge_checks t i x keys =
     path_checks t i (length keys)

@@ -9,6 +9,6 @@ numbers_from zero b i = (2 * b) ∷ []
 numbers_from (suc h) b i =
     (2 * b + nodes_in h) ∷ (if nat_lt i (b + 2 ^ h) then numbers_from h b i else numbers_from h (b + 2 ^ h) i)
 
--- the same in a whole tree
+-- the numbers of the nodes over leaf i of a whole tree, the highest first, and of that leaf
 abbrev pub way_numbers : ℕ → ℕ → List ℕ
 way_numbers h i = numbers_from h 0 i

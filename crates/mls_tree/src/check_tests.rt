@@ -1,9 +1,9 @@
-ghost use Rattle.std.specs.Prelude.{◌≡◌, ℕ, [], ◌∷◌, Some, None, IfOk, IfSome};
-ghost use Rattle.mls_leaf.specs.declared.node.Node.TheVariants.{Leaf as in_leaf, Parent as in_parent};
+ghost use Rattle.std.specs.Prelude.{◌≡◌, ℕ, IfOk, IfSome};
 ghost use Rattle.mls_leaf.specs.Leaf.{leaf_node};
 ghost use Rattle.mls_checks.specs.Short.{IsShort};
 ghost use Rattle.mls_tree_model.specs.Term.{leaf_of};
 ghost use Rattle.mls_tree.specs.Tree.{term};
+ghost use Rattle.mls_tree.specs.TestTrees.{half_empty_nodes};
 
 use crate::key_indexes::KeyIndexes;
 use crate::{PublicTree, TreeError};
@@ -113,7 +113,7 @@ fn halves(
     parent: SharedParent,
     right: SharedLeaf,
 ) -> Result<Vec<Slot>, AllocError>
-    ensures { IfOk result (λ v. v.items ≡ Some (in_leaf left) ∷ Some (in_parent parent) ∷ None ∷ None ∷ Some (in_leaf right) ∷ None ∷ None ∷ []) }
+    ensures { IfOk result (λ v. v.items ≡ half_empty_nodes left parent right) }
 {
     let left = left.into_slot();
     let parent = parent.into_slot();

@@ -1,29 +1,27 @@
 //! The checks of a whole tree (RFC 9420, 7.3, 7.9.2 and 12.4.3.1).
 
-ghost use Rattle.std.specs.Prelude.{◌≡◌, ℕ, ◌<◌, ◌≤◌, ◌^◌, true, List, length, IfOk, OnOk, IfSome};
+ghost use Rattle.std.specs.Prelude.{◌≡◌, ℕ, ◌<◌, ◌≤◌, ◌^◌, length, IfOk, OnOk, IfSome};
 ghost use Rattle.std.specs.Option.{option_copied};
 ghost use Rattle.std.specs.List.{list_all};
-ghost use Rattle.mls_wire.specs.Checks.{passed, require, Answers};
+ghost use Rattle.mls_wire.specs.Checks.{require};
 ghost use Rattle.mls_treemath.specs.Paths.{nodes_in};
 ghost use Rattle.mls_treemath.specs.Limits.{max_height};
-ghost use Rattle.mls_checks.specs.Leaf.{is_signed, is_capable};
+ghost use Rattle.mls_checks.specs.Leaf.{is_capable};
 ghost use Rattle.mls_checks.specs.Short.{IsShort};
 ghost use Rattle.mls_leaf.specs.Leaf.{leaf_node};
 ghost use Rattle.mls_tree_model.specs.Keys.{passes};
-ghost use Rattle.mls_tree_model.specs.Lists.{all_parents, rises_here};
-ghost use Rattle.mls_tree_model.specs.Good.{IsGood, has_good_shape, has_good_lists, has_distinct_keys, has_distinct_clients, is_all_signed, is_all_capable, is_all_fit, tree_checks};
+ghost use Rattle.mls_tree_model.specs.Good.{has_good_lists, has_distinct_keys, has_distinct_clients};
 ghost use Rattle.mls_tree_model.specs.Arrays.{term_of};
 ghost use Rattle.mls_tree_array.specs.KeptHashes.{hashes_of};
 ghost use Rattle.mls_tree_array.specs.Standing.{Stands};
 ghost use Rattle.mls_tree_array.specs.CellKeys.{cell_keys};
-ghost use Rattle.mls_suite.specs.Crypto.{Crypto};
+ghost use Rattle.mls_tree_array.specs.RightLists.{AllRise};
 ghost use Rattle.mls_tree.specs.ColdNodes.{Warms};
-ghost use Rattle.mls_tree.specs.Faults.{number_of};
 ghost use Rattle.mls_tree.specs.IndexedKeys.{AreIndexes};
-ghost use Rattle.mls_tree.specs.Refusals.{RefusesOutright};
-ghost use Rattle.mls_tree.specs.Rules.{rules_of};
+ghost use Rattle.mls_tree.specs.Refusals.{Refuses};
 ghost use Rattle.mls_tree.specs.ShortLeaves.{HasShortLeaves};
 ghost use Rattle.mls_tree.specs.Tree.{term};
+ghost use Rattle.mls_tree.specs.Checking.{AnswersCapable, AnswersSigned, AnswersAllSigned, AnswersAllFit, AnswersTreeChecks, IsGoodIfShaped};
 
 use crate::error::TreeError;
 use crate::key_indexes::KeyIndexes;
@@ -49,7 +47,7 @@ fn is_capable_or_blank(leaf: Option<&LeafNode>, suite: u16) -> bool
 fn are_all_capable(nodes: &[Slot], height: u32, suite: u16) -> bool
     requires shape { length nodes.now ≡ nodes_in height }
     requires fits { length nodes.now < 2 ^ 32 }
-    ensures { (c : Crypto) (group : List ℕ) → c.number ≡ suite → result ≡ is_all_capable (rules_of c group) (term_of height nodes.now) }
+    ensures { AnswersCapable suite (term_of height nodes.now) result }
 {
     let leaves = (nodes.len() / 2 + 1) as u32;
     for i in 0..leaves {
@@ -69,7 +67,7 @@ fn is_signed_or_blank<S: Suite>(
 ) -> Result<bool, AllocError>
     requires short { IfSome (option_copied leaf) (λ v. IsShort leaf_node v) }
     requires group { length group_id.now < 2 ^ 28 }
-    ensures { IfOk result (λ b. b ≡ passes (is_signed S.crypto group_id.now) index (option_copied leaf.entry)) }
+    ensures { IfOk result (AnswersSigned S.crypto group_id.now index (option_copied leaf.entry)) }
 {
     match leaf {
         Some(leaf) => leaf_signed::<S>(alloc, leaf, group_id, index),
@@ -88,7 +86,7 @@ fn are_all_signed<S: Suite>(
     requires fits { length nodes.now < 2 ^ 32 }
     requires group { length group_id.now < 2 ^ 28 }
     requires short { HasShortLeaves (term_of height nodes.now) }
-    ensures { IfOk result (λ b. b ≡ is_all_signed (rules_of S.crypto group_id.now) (term_of height nodes.now)) }
+    ensures { IfOk result (AnswersAllSigned S.crypto group_id.now (term_of height nodes.now)) }
 {
     let leaves = (nodes.len() / 2 + 1) as u32;
     for i in 0..leaves {
@@ -113,7 +111,7 @@ fn is_fit_or_blank<S: Suite>(node: &Slot) -> bool
 /// Whether each encryption key is fit for sealing. Takes no memory.
 fn are_all_fit<S: Suite>(nodes: &[Slot], height: u32) -> bool
     requires { Stands height nodes.now }
-    ensures { (group : List ℕ) → result ≡ is_all_fit (rules_of S.crypto group) (term_of height nodes.now) }
+    ensures { AnswersAllFit S.crypto (term_of height nodes.now) result }
 {
     for node in nodes {
         if !is_fit_or_blank::<S>(node) {
@@ -140,9 +138,9 @@ fn check<S: Suite>(
     requires long { length kept.now ≡ nodes_in height }
     requires hashed { kept.now ≡ hashes_of 0 (term_of height nodes.now) }
     requires indexed { AreIndexes nodes.now indexes.now }
-    ensures answer { Answers (λ _. passed) number_of (tree_checks (rules_of S.crypto group_id.now) (term_of height nodes.now)) result }
-    ensures lists { RefusesOutright number_of (require 23 (has_good_lists (term_of height nodes.now))) result }
-    ensures rising { OnOk result (all_parents rises_here 0 (term_of height nodes.now) ≡ true) }
+    ensures answer { AnswersTreeChecks S.crypto group_id.now (term_of height nodes.now) result }
+    ensures lists { Refuses (require 23 (has_good_lists (term_of height nodes.now))) result }
+    ensures rising { OnOk result (AllRise 0 (term_of height nodes.now)) }
 {
     if !array::has_good_lists(nodes, height) {
         return Err(TreeError::UnmergedWrong);
@@ -178,10 +176,10 @@ impl PublicTree {
     pub fn check<S: Suite>(&mut self, group_id: &[u8]) -> Result<(), TreeError>
         requires group { length group_id.now < 2 ^ 28 }
         requires short { HasShortLeaves (term self.old) }
-        ensures answer { Answers (λ _. passed) number_of (tree_checks (rules_of S.crypto group_id.now) (term self.old)) result }
-        // 23 comes whatever memory there is.
-        ensures outright { RefusesOutright number_of (require 23 (has_good_lists (term self.old))) result }
-        ensures good { OnOk result (has_good_shape (term self.old) ≡ true → IsGood (rules_of S.crypto group_id.now) (term self.old)) }
+        ensures answer { AnswersTreeChecks S.crypto group_id.now (term self.old) result }
+        // `UnmergedWrong` (23) comes whatever memory there is.
+        ensures outright { Refuses (require 23 (has_good_lists (term self.old))) result }
+        ensures good { OnOk result (IsGoodIfShaped S.crypto group_id.now (term self.old)) }
         ensures same { term self.new ≡ term self.old }
         ensures warms { Warms self.old self.new }
     {

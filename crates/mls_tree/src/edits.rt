@@ -1,15 +1,15 @@
 //! Edits of the array of a whole tree.
 
-ghost use Rattle.std.specs.Prelude.{◌≡◌, suc, ◌+◌, ◌^◌, ◌≤◌, ◌<◌, ◌++◌, None, replicate, OnOk, OnErr};
-ghost use Rattle.mls_treemath.specs.Paths.{nodes_in};
+ghost use Rattle.std.specs.Prelude.{◌≡◌, ◌≤◌, ◌<◌, OnOk, OnErr};
 ghost use Rattle.mls_treemath.specs.Limits.{max_height};
-ghost use Rattle.mls_tree_model.specs.Edits.{put, enter, grow, trim};
+ghost use Rattle.mls_tree_model.specs.Edits.{put, trim};
 ghost use Rattle.mls_tree_model.specs.Arrays.{term_of};
 ghost use Rattle.mls_tree_array.specs.EndOfMembers.{end_of_members};
-ghost use Rattle.mls_tree_array.specs.KeptHashes.{Keeps, drop_hashes};
+ghost use Rattle.mls_tree_array.specs.KeptHashes.{Keeps};
 ghost use Rattle.mls_tree_array.specs.Standing.{Stands};
 ghost use Rattle.mls_tree_array.specs.StandingLaws.{StandsFor};
-ghost use Rattle.mls_tree.specs.IndexedKeys.{AreIndexes};
+ghost use Rattle.mls_tree.specs.IndexedKeys.{KeepsIndexes};
+ghost use Rattle.mls_tree.specs.ArrayEdits.{StandsEntered, StandsAppended, KeepsAppended};
 
 use crate::key_indexes::KeyIndexes;
 use mls_tree_array::{self as array, Hashes};
@@ -34,7 +34,7 @@ pub(crate) fn enter(
 ) -> Result<(), AllocError>
     requires stands { Stands height nodes.old.items }
     requires low { height ≤ max_height }
-    ensures ok { OnOk result (StandsFor height nodes.new.items (enter 0 (term_of height nodes.old.items) i leaf)) }
+    ensures ok { OnOk result (StandsEntered height i leaf nodes.old.items nodes.new.items) }
     ensures err { OnErr result (nodes.new.items ≡ nodes.old.items) }
 {
     array::enter(nodes, height, 0, i, leaf)?;
@@ -51,8 +51,8 @@ pub(crate) fn append(
     requires stands { Stands height nodes.old.items }
     requires low { height < max_height }
     requires keeps { Keeps 0 (term_of height nodes.old.items) hashes.old.kept }
-    ensures ok { OnOk result (StandsFor (height + 1) nodes.new.items (enter 0 (grow (term_of height nodes.old.items)) (2 ^ height) leaf)) }
-    ensures kept { OnOk result (hashes.new.kept ≡ drop_hashes 0 (grow (term_of height nodes.old.items)) (2 ^ height) (hashes.old.kept ++ replicate (suc (nodes_in height)) None)) }
+    ensures ok { OnOk result (StandsAppended height leaf nodes.old.items nodes.new.items) }
+    ensures kept { OnOk result (KeepsAppended height nodes.old.items hashes.old hashes.new) }
     ensures done { OnOk result (hashes.new.done ≡ hashes.old.done) }
     ensures err { OnErr result (nodes.new.items ≡ nodes.old.items) }
     ensures err_kept { OnErr result (hashes.new ≡ hashes.old) }
@@ -71,15 +71,15 @@ pub(crate) fn append(
     Ok(())
 }
 
-/// Keeps the left half alone as long as the right half has no member, and answers the height, where `end` is one past the
-/// rightmost taken leaf. The cells that are cut off leave the indexes. Takes no memory.
+/// Keeps the left half alone as long as the right half has no member, and answers the height, where `end` is one past
+/// the rightmost taken leaf. The cells that are cut off leave the indexes. Takes no memory.
 pub(crate) fn trim(nodes: &mut Vec<Slot>, indexes: &mut KeyIndexes, height: u32, end: u32) -> u32
     requires stands { Stands height nodes.old.items }
     requires low { height ≤ max_height }
     requires end { end ≡ end_of_members 0 (term_of height nodes.old.items) }
     ensures order { StandsFor result nodes.new.items (trim (term_of height nodes.old.items)) }
     ensures low { result ≤ height }
-    ensures indexes { AreIndexes nodes.old.items indexes.old → AreIndexes nodes.new.items indexes.new }
+    ensures indexes { KeepsIndexes nodes.old.items nodes.new.items indexes.old indexes.new }
 {
     let low = array::trimmed_height(nodes, height, end);
     let count = (1 << (low + 1)) - 1;

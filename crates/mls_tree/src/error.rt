@@ -2,6 +2,7 @@
 
 ghost use Rattle.std.specs.Prelude.{◌≡◌};
 
+use mls_wire::refusal_name;
 use std::alloc::{AllocError, AllocFailed};
 use thiserror::Error;
 
@@ -49,7 +50,8 @@ pub enum TreeError {
 }
 
 impl TreeError {
-    ghost use Rattle.mls_tree.specs.Faults.{number_of, name_of};
+    ghost use Rattle.mls_wire.specs.Names.{refusal_name};
+    ghost use Rattle.mls_tree.specs.Faults.{number_of};
 
     /// The number of the refusal.
     pub fn number(self) -> u8
@@ -73,22 +75,9 @@ impl TreeError {
 
     /// The name of the refusal, as it is printed.
     pub fn name(self) -> &'static str
-        ensures { result.now ≡ name_of self }
+        ensures { result.now ≡ refusal_name (number_of self) }
     {
-        match self {
-            TreeError::OutOfMemory => "OutOfMemory",
-            TreeError::TreeShape => "TreeShape",
-            TreeError::TreeFull => "TreeFull",
-            TreeError::NoSuchLeaf => "NoSuchLeaf",
-            TreeError::UnmergedWrong => "UnmergedWrong",
-            TreeError::ParentHashWrong => "ParentHashWrong",
-            TreeError::KeyRepeated => "KeyRepeated",
-            TreeError::ClientRepeated => "ClientRepeated",
-            TreeError::PathLength => "PathLength",
-            TreeError::BadKey => "BadKey",
-            TreeError::LeafSignature => "LeafSignature",
-            TreeError::LeafCapability => "LeafCapability",
-        }
+        refusal_name(self.number())
     }
 }
 

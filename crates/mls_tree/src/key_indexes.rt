@@ -1,13 +1,9 @@
 //! The indexes that a tree keeps, so that no commit sorts its keys.
 
-ghost use Rattle.std.specs.Prelude.{◌≡◌, ℕ, ◌≤◌, ◌^◌, nat_eq, true, take, Option, List, length, IfOk, OnOk};
-ghost use Rattle.mls_leaf.specs.declared.node.Node.{Node};
+ghost use Rattle.std.specs.Prelude.{◌≡◌, ℕ, ◌≤◌, ◌^◌, nat_eq, true, take, length, IfOk, OnOk};
 ghost use Rattle.mls_tree_model.specs.Sets.{is_distinct};
 ghost use Rattle.mls_tree_model.specs.Good.{has_distinct_keys, has_distinct_clients};
-ghost use Rattle.mls_tree_model.specs.Arrays.{term_of};
-ghost use Rattle.mls_tree_array.specs.Standing.{Stands};
-ghost use Rattle.mls_tree_index.specs.BlankedCells.{cells_without};
-ghost use Rattle.mls_tree.specs.IndexedKeys.{AreIndexes, AreBeside, HaveRoom, AreSame, Fills};
+ghost use Rattle.mls_tree.specs.IndexedKeys.{AreIndexes, AreBeside, HaveRoom, AreSame, KeepsIndexes, EntersNode, LeavesNodes, EntersNodes, AnswersTest};
 
 use mls_tree_index::{Index, KeyKind};
 use mls_tree_slot::Slot;
@@ -45,7 +41,7 @@ impl KeyIndexes {
     /// Enters a cell: after it was filled, where it was blank.
     pub(crate) fn enter(&mut self, cells: &[Slot], x: u32)
         requires { HaveRoom 1 self.old }
-        ensures { (b : List (Option Node)) → Fills x b cells.now → AreIndexes b self.old → AreIndexes cells.now self.new }
+        ensures { EntersNode x cells.now self.old self.new }
     {
         self.keys.enter(cells, x);
         self.clients.enter(cells, x);
@@ -55,7 +51,7 @@ impl KeyIndexes {
     pub(crate) fn leave_all(&mut self, cells: &[Slot], places: &[u32])
         requires { is_distinct nat_eq places.now ≡ true }
         ensures room { (n : ℕ) → HaveRoom n self.old → HaveRoom n self.new }
-        ensures left { AreIndexes cells.now self.old → AreIndexes (cells_without 0 places.now cells.now) self.new }
+        ensures left { LeavesNodes places.now cells.now self.old self.new }
     {
         self.keys.leave_all(cells, places);
         self.clients.leave_all(cells, places);
@@ -65,7 +61,7 @@ impl KeyIndexes {
     pub(crate) fn enter_all(&mut self, cells: &[Slot], places: &[u32])
         requires distinct { is_distinct nat_eq places.now ≡ true }
         requires room { HaveRoom (length places.now) self.old }
-        ensures { AreIndexes (cells_without 0 places.now cells.now) self.old → AreIndexes cells.now self.new }
+        ensures { EntersNodes places.now cells.now self.old self.new }
     {
         self.keys.enter_all(cells, places);
         self.clients.enter_all(cells, places);
@@ -99,7 +95,7 @@ impl KeyIndexes {
     /// Takes out all cells from this number on: before they are cut off.
     pub(crate) fn leave_from(&mut self, cells: &[Slot], count: usize)
         requires { length cells.now ≤ 2 ^ 32 }
-        ensures { AreIndexes cells.now self.old → AreIndexes (take count cells.now) self.new }
+        ensures { KeepsIndexes cells.now (take count cells.now) self.old self.new }
     {
         self.keys.leave_from(cells, count);
         self.clients.leave_from(cells, count);
@@ -107,14 +103,14 @@ impl KeyIndexes {
 
     /// Whether no two nodes have one encryption key.
     pub(crate) fn has_distinct_keys(&self) -> bool
-        ensures { (h : ℕ) (cells : List (Option Node)) → Stands h cells → AreIndexes cells self.now → result ≡ has_distinct_keys (term_of h cells) }
+        ensures { AnswersTest has_distinct_keys self.now result }
     {
         self.keys.are_distinct()
     }
 
     /// Whether no two members have one signature key.
     pub(crate) fn has_distinct_clients(&self) -> bool
-        ensures { (h : ℕ) (cells : List (Option Node)) → Stands h cells → AreIndexes cells self.now → result ≡ has_distinct_clients (term_of h cells) }
+        ensures { AnswersTest has_distinct_clients self.now result }
     {
         self.clients.are_distinct()
     }

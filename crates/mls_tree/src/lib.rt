@@ -36,7 +36,7 @@ mod way;
 mod way_tests;
 
 pub use error::TreeError;
-pub use laws::{hashing_costs, laws_of_leaves, tree_names_by_number};
+pub use laws::{hashing_costs, laws_of_leaves};
 pub use mls_tree_array::Hash;
 pub use prepared::PreparedPath;
 pub use tree::PublicTree;

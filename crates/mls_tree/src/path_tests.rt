@@ -26,7 +26,8 @@ fn a_path_is_merged(rt: HostRuntime) -> Result<(), Fail> {
     Ok(())
 }
 
-/// Two members, with the keys 1 and 2. The path of each is prepared, then followed, one with the keys of the leaf before.
+/// Two members, with the keys 1 and 2. The path of each is prepared, then followed, one with the keys of the leaf
+/// before.
 const FOLLOWED: &[Row] = &[
     (Single(1), Done),
     (Add(2), Is(&[1])),

@@ -1,30 +1,26 @@
 //! A commit's path: the parent hash of its leaf, and its merge.
 
-ghost use Rattle.std.specs.Prelude.{◌≡◌, ℕ, ◌≤◌, List, [], reverse, length, None, Ok, IfOk, OnOk, OnErr};
+ghost use Rattle.std.specs.Prelude.{◌≡◌, ◌≤◌, length, Ok, IfOk, OnOk, OnErr};
 ghost use Rattle.std.specs.Bool.{OnTrue};
-ghost use Rattle.mls_wire.specs.Checks.{passed, Answers, AnswersOutright};
+ghost use Rattle.mls_wire.specs.Checks.{passed};
 ghost use Rattle.mls_treemath.specs.Limits.{max_height};
 ghost use Rattle.mls_tree_model.specs.Node.{source_hash};
 ghost use Rattle.mls_tree_model.specs.Term.{leaf_of};
-ghost use Rattle.mls_tree_model.specs.Sets.{same_bytes, is_distinct};
 ghost use Rattle.mls_tree_model.specs.Way.{path_length};
 ghost use Rattle.mls_tree_model.specs.Hashes.{is_some_bytes};
-ghost use Rattle.mls_tree_model.specs.Keys.{encryption_keys};
-ghost use Rattle.mls_tree_model.specs.Edits.{put};
-ghost use Rattle.mls_tree_model.specs.Merge.{merge_path, path_parent_hash};
-ghost use Rattle.mls_tree_model.specs.Good.{AreNew};
+ghost use Rattle.mls_tree_model.specs.Merge.{path_parent_hash};
 ghost use Rattle.mls_tree_model.specs.Arrays.{term_of};
 ghost use Rattle.mls_tree_array.specs.KeptHashes.{hashes_of};
 ghost use Rattle.mls_tree_array.specs.Standing.{Stands};
-ghost use Rattle.mls_tree_array.specs.StandingLaws.{StandsFor};
-ghost use Rattle.mls_tree_array.specs.Merging.{hash_bytes, path_parents};
-ghost use Rattle.mls_tree.specs.ColdNodes.{Warms, Chills};
-ghost use Rattle.mls_tree.specs.Faults.{number_of};
-ghost use Rattle.mls_tree.specs.IndexedKeys.{AreIndexes, AreSame, IsClient};
-ghost use Rattle.mls_tree.specs.EditsKeepGood.{KeepsGood, MergesGood};
-ghost use Rattle.mls_tree.specs.Refusals.{RefusesOutright};
-ghost use Rattle.mls_tree.specs.Tree.{Tree, term};
-ghost use Rattle.mls_tree.specs.Paths.{path_checks, path_hash_answer, counts_answer, merge_checks, merge_answer, ChangesWhole};
+ghost use Rattle.mls_tree_array.specs.Merging.{hash_bytes};
+ghost use Rattle.mls_tree_array.specs.PathParents.{HasParents};
+ghost use Rattle.mls_tree.specs.ColdNodes.{Warms, WarmsThenChills};
+ghost use Rattle.mls_tree.specs.IndexedKeys.{AreSame, IsClient};
+ghost use Rattle.mls_tree.specs.EditsKeepGood.{KeepsGoodAt, MakesGood};
+ghost use Rattle.mls_tree.specs.Refusals.{PassesOutright, AnswersChecks, AnswersList, Refuses, AnswersMerge};
+ghost use Rattle.mls_tree.specs.Tree.{term};
+ghost use Rattle.mls_tree.specs.Paths.{path_checks, path_hash_answer, counts_answer, merge_checks};
+ghost use Rattle.mls_tree.specs.PathMerging.{MergesParents, Follows, HasPathHash, keys_differ, ArePathParents};
 
 use crate::error::TreeError;
 use crate::key_indexes::KeyIndexes;
@@ -39,7 +35,7 @@ use std::alloc::AllocError;
 fn merge(nodes: &mut Vec<Slot>, height: u32, i: u32, leaf: SharedLeaf, parents: Vec<SharedParent>)
     requires stands { Stands height nodes.old.items }
     requires low { height ≤ max_height }
-    ensures { (keys : List (List ℕ)) → parents.items ≡ path_parents 0 (term_of height nodes.old.items) i (reverse keys) [] → StandsFor height nodes.new.items (merge_path (term_of height nodes.old.items) i leaf keys) }
+    ensures { MergesParents height i leaf parents nodes.old nodes.new }
 {
     let mut parents = parents.into_iter();
     array::merge(nodes, height, 0, i, &mut parents, leaf);
@@ -68,8 +64,8 @@ pub(crate) fn merge_with_indexes(
 ) -> Result<(), AllocError>
     requires stands { Stands height nodes.old.items }
     requires low { height ≤ max_height }
-    ensures merged { OnOk result ((keys : List (List ℕ)) → parents.items ≡ path_parents 0 (term_of height nodes.old.items) i (reverse keys) [] → StandsFor height nodes.new.items (merge_path (term_of height nodes.old.items) i leaf keys)) }
-    ensures indexed { OnOk result ((keys : List (List ℕ)) → parents.items ≡ path_parents 0 (term_of height nodes.old.items) i (reverse keys) [] → AreIndexes nodes.old.items indexes.old → AreIndexes nodes.new.items indexes.new) }
+    ensures merged { OnOk result (MergesParents height i leaf parents nodes.old nodes.new) }
+    ensures indexed { Follows height i parents nodes.old nodes.new indexes.old indexes.new result }
     ensures unchanged { OnErr result (nodes.new.items ≡ nodes.old.items) }
     ensures same { OnErr result (AreSame indexes.old indexes.new) }
 {
@@ -114,8 +110,8 @@ impl PublicTree {
     /// The parents over leaf i, the highest first, and the parent hash that reaches it.
     fn merged_path(&self, i: u32, keys: Vec<Bytes>) -> Result<MergedPath, AllocError>
         requires { self.now.kept ≡ hashes_of 0 (term self.now) }
-        ensures parents { IfOk result (λ p. p.parents.items ≡ path_parents 0 (term self.now) i (reverse keys.items) []) }
-        ensures hash { IfOk result (λ p. hash_bytes p.hash ≡ path_parent_hash (term self.now) i keys.items) }
+        ensures parents { IfOk result (HasParents 0 (term self.now) i keys.items) }
+        ensures hash { IfOk result (HasPathHash (term self.now) i keys.items) }
     {
         let alloc = *self.nodes.allocator();
         let kept = self.hashes.as_slice();
@@ -126,7 +122,7 @@ impl PublicTree {
     /// Whether the merged tree has no encryption key twice. Takes memory only where the tree has one twice.
     fn keys_differ(&self, i: u32, leaf: &LeafNode, keys: &[Bytes]) -> Result<bool, AllocError>
         requires { path_checks (term self.now) i (length keys.now) ≡ Ok passed }
-        ensures { IfOk result (λ b. b ≡ is_distinct same_bytes (encryption_keys (merge_path (term self.now) i leaf.now keys.now))) }
+        ensures { IfOk result (λ b. b ≡ keys_differ (term self.now) i leaf.now keys.now) }
     {
         let way = Way::over(self.height, i);
         let places = way.as_slice();
@@ -136,7 +132,7 @@ impl PublicTree {
 
     /// Refuses a leaf index at which no member is, and then a number of keys that isn't that of the filtered path.
     fn require_path(&self, i: u32, count: usize) -> Result<(), TreeError>
-        ensures { AnswersOutright (λ _. passed) number_of (path_checks (term self.now) i count) result }
+        ensures { PassesOutright (path_checks (term self.now) i count) result }
     {
         if self.leaf(i).is_none() {
             return Err(TreeError::NoSuchLeaf);
@@ -156,9 +152,9 @@ impl PublicTree {
         keys: Vec<Bytes>,
     ) -> Result<Vec<SharedParent>, TreeError>
         requires { self.now.kept ≡ hashes_of 0 (term self.now) }
-        ensures checks { Answers (λ _. passed) number_of (merge_checks (term self.now) i leaf.now keys.items) result }
-        ensures outright { RefusesOutright number_of (path_checks (term self.now) i (length keys.items)) result }
-        ensures parents { IfOk result (λ p. p.items ≡ path_parents 0 (term self.now) i (reverse keys.items) []) }
+        ensures checks { AnswersChecks (merge_checks (term self.now) i leaf.now keys.items) result }
+        ensures outright { Refuses (path_checks (term self.now) i (length keys.items)) result }
+        ensures parents { IfOk result (ArePathParents (term self.now) i keys.items) }
     {
         match self.require_path(i, keys.len()) {
             Err(error) => return Err(error),
@@ -176,12 +172,12 @@ impl PublicTree {
         Ok(path.parents)
     }
 
-    /// How many ciphertexts each node of a path of member i has, the lowest first, where these leaves were just added: one
-    /// for each node of the resolution of its child on the copath that isn't one of them (RFC 9420, 7.6). `NoSuchLeaf`
-    /// (22) where no member is at leaf i, whatever memory there is.
+    /// How many ciphertexts each node of a path of member i has, the lowest first, where these leaves were just added:
+    /// one for each node of the resolution of its child on the copath that isn't one of them (RFC 9420, 7.6).
+    /// `NoSuchLeaf` (22) where no member is at leaf i, whatever memory there is.
     pub fn ciphertext_counts(&self, i: u32, added: &[u32]) -> Result<Vec<usize>, TreeError>
-        ensures answer { Answers (λ v. v.items) number_of (counts_answer (term self.now) i added.now) result }
-        ensures outright { RefusesOutright number_of (counts_answer (term self.now) i added.now) result }
+        ensures answer { AnswersList (counts_answer (term self.now) i added.now) result }
+        ensures outright { Refuses (counts_answer (term self.now) i added.now) result }
     {
         match self.require_member(i) {
             Err(error) => return Err(error),
@@ -194,11 +190,11 @@ impl PublicTree {
     }
 
     /// The parent hash that the leaf of a path with these keys must have, the lowest first: empty where the filtered
-    /// path is (RFC 9420, 7.9). Refused with `NoSuchLeaf` (22) where no member is at leaf i, then with `PathLength` (30)
-    /// where there aren't as many keys as its filtered path has parents.
+    /// path is (RFC 9420, 7.9). Refused with `NoSuchLeaf` (22) where no member is at leaf i, then with `PathLength`
+    /// (30) where there aren't as many keys as its filtered path has parents.
     pub fn path_parent_hash(&mut self, i: u32, keys: &[Bytes]) -> Result<Vec<u8>, TreeError>
-        ensures answer { Answers (λ v. v.items) number_of (path_hash_answer (term self.old) i keys.now) result }
-        ensures outright { RefusesOutright number_of (path_checks (term self.old) i (length keys.now)) result }
+        ensures answer { AnswersList (path_hash_answer (term self.old) i keys.now) result }
+        ensures outright { Refuses (path_checks (term self.old) i (length keys.now)) result }
         ensures same { term self.new ≡ term self.old }
         ensures warms { Warms self.old self.new }
     {
@@ -215,20 +211,20 @@ impl PublicTree {
     /// lowest first, and blanks the others over it (RFC 9420, 7.5). Refused with `NoSuchLeaf` (22) where no member is
     /// there; then with `PathLength` (30) where there aren't as many keys as the filtered path has parents; then with
     /// `KeyRepeated` (25) where two nodes of the merged tree have one encryption key; then with `ParentHashWrong` (24)
-    /// where the leaf's source isn't a commit with the path's parent hash. After a refusal the tree is as before, but that
-    /// it may keep more hashes.
+    /// where the leaf's source isn't a commit with the path's parent hash. After a refusal the tree is as before, but
+    /// that it may keep more hashes.
     pub fn merge_path(&mut self, i: u32, leaf: LeafNode, keys: Vec<Bytes>) -> Result<(), TreeError>
-        ensures answer { ChangesWhole number_of (merge_answer (term self.old) i leaf keys.items) (term self.old) (term self.new) result }
-        // 22 and 30 come whatever memory there is.
-        ensures outright { RefusesOutright number_of (path_checks (term self.old) i (length keys.items)) result }
+        ensures answer { AnswersMerge i leaf keys.items self.old self.new result }
+        // `NoSuchLeaf` (22) and `PathLength` (30) come whatever memory there is.
+        ensures outright { Refuses (path_checks (term self.old) i (length keys.items)) result }
         // A good tree stays good where the leaf and the keys pass the checks.
-        ensures good { OnOk result (KeepsGood (λ rules. AreNew rules i leaf keys.items (put 0 (term self.old) i None)) (term self.old) (term self.new)) }
+        ensures good { OnOk result (KeepsGoodAt i leaf keys.items self.old self.new) }
         // It warms nodes, and then makes the leaf and the nodes over it cold.
-        ensures cold { OnOk result ((between : Tree) × Warms self.old between × (term between ≡ term self.old) × Chills (term self.old) i between self.new) }
+        ensures cold { OnOk result (WarmsThenChills i self.old self.new) }
         ensures warms { OnErr result (Warms self.old self.new) }
         // A sound tree becomes good, as keys are checked here, where no client repeats in it and the leaf keeps its
         // signature key.
-        ensures checked { OnOk result (MergesGood i leaf keys.items (term self.old) (term self.new)) }
+        ensures checked { OnOk result (MakesGood i leaf keys.items self.old self.new) }
     {
         let _tree_hash = self.tree_hash();
         let parents = match self.require_merge(i, &leaf, keys) {

@@ -1,24 +1,14 @@
 //! A commit's path that is checked against a tree and hashed while the tree stays as it is, and merged into it later.
 
-ghost use Rattle.std.specs.Prelude.{◌≡◌, [], reverse, length, None, Ok, IfOk, OnOk, OnErr};
-ghost use Rattle.mls_wire.specs.Checks.{passed, Answers};
+ghost use Rattle.std.specs.Prelude.{◌≡◌, length, IfOk, OnOk, OnErr};
 ghost use Rattle.mls_tree_model.specs.Term.{Term};
-ghost use Rattle.mls_tree_model.specs.Sets.{same_bytes, is_distinct};
 ghost use Rattle.mls_tree_model.specs.Hashes.{tree_hash};
-ghost use Rattle.mls_tree_model.specs.Keys.{encryption_keys};
-ghost use Rattle.mls_tree_model.specs.Edits.{put};
-ghost use Rattle.mls_tree_model.specs.Merge.{merge_path};
-ghost use Rattle.mls_tree_model.specs.Good.{AreNew};
 ghost use Rattle.mls_tree_array.specs.KeptHashes.{hashes_of};
-ghost use Rattle.mls_tree_array.specs.Merging.{path_parents};
-ghost use Rattle.mls_tree_array.specs.WayHashes.{HashesMerged};
-ghost use Rattle.mls_tree.specs.ColdNodes.{Warms, Chills};
-ghost use Rattle.mls_tree.specs.Faults.{number_of};
-ghost use Rattle.mls_tree.specs.EditsKeepGood.{KeepsGood, MergesGood};
-ghost use Rattle.mls_tree.specs.Paths.{path_checks, merge_checks, merge_answer};
-ghost use Rattle.mls_tree.specs.PreparedPath.{keys_of, merged_by, IsFor};
-ghost use Rattle.mls_tree.specs.Refusals.{RefusesOutright};
-ghost use Rattle.mls_tree.specs.Tree.{Tree, term};
+ghost use Rattle.mls_tree.specs.ColdNodes.{ChillsThenWarms};
+ghost use Rattle.mls_tree.specs.Paths.{path_checks};
+ghost use Rattle.mls_tree.specs.PreparedPath.{merged_by, IsFor, AreHashesOver, AnswersPrepared, IsPreparedFor, PathKeepsGood, PathMakesGood};
+ghost use Rattle.mls_tree.specs.Refusals.{Refuses};
+ghost use Rattle.mls_tree.specs.Tree.{term};
 
 use crate::error::TreeError;
 use crate::paths::merge_with_indexes;
@@ -59,8 +49,8 @@ impl PreparedPath {
 }
 
 impl PublicTree {
-    /// The tree hashes of leaf i and of the nodes over it once a path with these parents is merged, the lowest first, and
-    /// the tree hash.
+    /// The tree hashes of leaf i and of the nodes over it once a path with these parents is merged, the lowest first,
+    /// and the tree hash.
     fn hashes_over(
         &self,
         i: u32,
@@ -68,7 +58,7 @@ impl PublicTree {
         parents: &[SharedParent],
     ) -> Result<(Vec<Hash>, Hash), AllocError>
         requires { self.now.kept ≡ hashes_of 0 (term self.now) }
-        ensures { IfOk result (λ made. HashesMerged 0 (term self.now) i parents.now leaf.now made.1 [] made.0.items) }
+        ensures { IfOk result (AreHashesOver (term self.now) i parents.now leaf.now) }
     {
         let levels = self.height as usize + 1;
         let mut hashes = Vec::with_capacity(*self.nodes.allocator(), levels)?;
@@ -88,8 +78,8 @@ impl PublicTree {
         Ok((hashes, root))
     }
 
-    /// Checks a commit's path as `merge_path` does, and makes all that its merge makes of a tree in which no node is cold,
-    /// while the tree stays as it is. Refused with `NoSuchLeaf` (22), `PathLength` (30), `KeyRepeated` (25) and
+    /// Checks a commit's path as `merge_path` does, and makes all that its merge makes of a tree in which no node is
+    /// cold, while the tree stays as it is. Refused with `NoSuchLeaf` (22), `PathLength` (30), `KeyRepeated` (25) and
     /// `ParentHashWrong` (24), in this order.
     pub fn prepare_path(
         &self,
@@ -98,10 +88,10 @@ impl PublicTree {
         keys: Vec<Bytes>,
     ) -> Result<PreparedPath, TreeError>
         requires warm { self.now.kept ≡ hashes_of 0 (term self.now) }
-        ensures answer { Answers (λ _. merge_path (term self.now) i leaf keys.items) number_of (merge_answer (term self.now) i leaf keys.items) result }
-        // 22 and 30 come whatever memory there is.
-        ensures outright { RefusesOutright number_of (path_checks (term self.now) i (length keys.items)) result }
-        ensures prepared { IfOk result (λ p. IsFor (term self.now) p × (merged_by (term self.now) p ≡ merge_path (term self.now) i leaf keys.items)) }
+        ensures answer { AnswersPrepared (term self.now) i leaf keys.items result }
+        // `NoSuchLeaf` (22) and `PathLength` (30) come whatever memory there is.
+        ensures outright { Refuses (path_checks (term self.now) i (length keys.items)) result }
+        ensures prepared { IfOk result (IsPreparedFor (term self.now) i leaf keys.items) }
     {
         let parents = match self.require_merge(i, &leaf, keys) {
             Err(error) => return Err(error),
@@ -117,18 +107,19 @@ impl PublicTree {
         })
     }
 
-    /// Merges a path that was prepared for this tree, in which no node is cold before or after: nothing is checked again,
-    /// and no hash made. Without memory for the leaf or the indexes the tree is as before.
+    /// Merges a path that was prepared for this tree, in which no node is cold before or after: nothing is checked
+    /// again, and no hash made. Without memory for the leaf or the indexes the tree is as before.
     pub fn follow_path(&mut self, path: PreparedPath) -> Result<(), AllocError>
         requires warm { self.old.kept ≡ hashes_of 0 (term self.old) }
         requires prepared { IsFor (term self.old) path }
         ensures tree { OnOk result (term self.new ≡ merged_by (term self.old) path) }
         ensures warm { OnOk result (self.new.kept ≡ hashes_of 0 (term self.new)) }
-        // It makes the leaf and the nodes over it cold, and then warms them: the hashes that were made for it are counted.
-        ensures cold { OnOk result ((between : Tree) × Chills (term self.old) path.index self.old between × (term between ≡ term self.new) × Warms between self.new) }
+        // It makes the leaf and the nodes over it cold, and then warms them: the hashes that were made for it are
+        // counted.
+        ensures cold { OnOk result (ChillsThenWarms path.index self.old self.new) }
         // What a path keeps of a tree, as a merge does.
-        ensures good { OnOk result (KeepsGood (λ rules. AreNew rules path.index path.leaf (keys_of path) (put 0 (term self.old) path.index None)) (term self.old) (term self.new)) }
-        ensures checked { OnOk result (MergesGood path.index path.leaf (keys_of path) (term self.old) (term self.new)) }
+        ensures good { OnOk result (PathKeepsGood path self.old self.new) }
+        ensures checked { OnOk result (PathMakesGood path self.old self.new) }
         ensures unchanged { OnErr result (self.new ≡ self.old) }
     {
         let height = self.height;

@@ -35,13 +35,13 @@ pub(crate) enum Step {
     Remove(u32),
     /// Merges this member's path of one parent: the key of its leaf, and that of the parent.
     Merge(u32, u8, u8),
-    /// The same, but that the path is prepared, and then followed: whether the tree hash that it had is the tree's and that
+    /// Merges such a path that is prepared, and then followed: whether the tree hash that it had is the tree's and that
     /// of a copy which it was merged into, and how many hashes the tree counts for it.
     Follow(u32, u8, u8),
     /// A merge with the key 8, and one of 32 bytes; answers how long the leaf's parent hash is.
     MergeLong(u32),
-    /// Merges a path of this member with these keys, whose leaf has the key 3 and the parent hash of member 0's path with
-    /// the key 4.
+    /// Merges a path of this member with these keys, whose leaf has the key 3 and the parent hash of member 0's path
+    /// with the key 4.
     MergeCommitted(u32, &'static [u8]),
     /// Merges a path of member 0, whose leaf has the key 2 and this parent hash, with these keys.
     MergeGiven(&'static [u8], &'static [u8]),

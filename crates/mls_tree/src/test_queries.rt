@@ -41,7 +41,7 @@ pub(crate) fn is_reached(alloc: Global, tree: &PublicTree, x: u32) -> Result<Vec
     number(alloc, u64::from(tree.is_reached(x)))
 }
 
-/// The same numbers.
+/// Writes numbers in 64 bits.
 fn widen(alloc: Global, numbers: &[u32]) -> Result<Vec<u64>, AllocError> {
     let mut list = Vec::new(alloc);
     for number in numbers {
@@ -50,7 +50,7 @@ fn widen(alloc: Global, numbers: &[u32]) -> Result<Vec<u64>, AllocError> {
     Ok(list)
 }
 
-/// The same numbers.
+/// Writes numbers in 64 bits.
 fn widen_counts(alloc: Global, numbers: &[usize]) -> Result<Vec<u64>, AllocError> {
     let mut list = Vec::new(alloc);
     for number in numbers {

@@ -1,5 +1,5 @@
-//! Members and small trees, for the tests. They promise nothing: what a test expects is run, and a proof that carried the
-//! clauses of each call would take minutes.
+//! Members and small trees, for the tests. They promise nothing: what a test expects is run, and a proof that carried
+//! the clauses of each call would take minutes.
 
 use crate::{PublicTree, TreeError};
 use mls_leaf::{Bytes, Capabilities, Credential, Items, LeafNode, LeafSource, Node, ParentNode};
@@ -41,7 +41,8 @@ pub(crate) fn member(alloc: Global, key: u8) -> Result<LeafNode, AllocError> {
     leaf(alloc, key, LeafSource::Update)
 }
 
-/// A tree in a box, so that the proof of a test, which drops it at each call that may fail, goes into none of its parts.
+/// A tree in a box, so that the proof of a test, which drops it at each call that may fail, goes into none of its
+/// parts.
 fn boxed(alloc: Global, tree: PublicTree) -> Result<Box<PublicTree>, AllocError> {
     Ok(Box::new(alloc, tree)?)
 }

@@ -1,26 +1,23 @@
 //! The public tree.
 
-ghost use Rattle.std.specs.Prelude.{◌≡◌, ◌<◌, ◌≤◌, ◌&&◌, not, [], Some, None, is_some, true, IfOk, OnOk, OnErr, MatchResult, length};
+ghost use Rattle.std.specs.Prelude.{◌≡◌, ◌≤◌, not, [], Some, true, IfOk, OnOk, OnErr, length};
 ghost use Rattle.std.specs.Option.{option_copied};
-ghost use Rattle.mls_wire.specs.Checks.{Answers, DoesAs, require};
-ghost use Rattle.mls_tree_model.specs.Term.{Leaf, has_leaf, leaf_of, width};
+ghost use Rattle.mls_wire.specs.Checks.{Answers, require};
+ghost use Rattle.mls_tree_model.specs.Term.{Leaf, leaf_of, width};
 ghost use Rattle.mls_tree_model.specs.Places.{resolution_at};
 ghost use Rattle.mls_tree_model.specs.Resolution.{is_empty};
 ghost use Rattle.mls_tree_model.specs.Keys.{members};
 ghost use Rattle.mls_tree_model.specs.Hashes.{tree_hash};
-ghost use Rattle.mls_tree_model.specs.Arrays.{has_last, alternates, from_nodes, to_nodes, node_at};
-ghost use Rattle.mls_tree_model.specs.Edits.{first_blank, put, room_for, place_in};
-ghost use Rattle.mls_tree_model.specs.Good.{Rules, IsGood, AreNew, AreFit, has_good_shape};
+ghost use Rattle.mls_tree_model.specs.Arrays.{from_nodes, to_nodes, node_at};
+ghost use Rattle.mls_tree_model.specs.Good.{has_good_shape};
 ghost use Rattle.mls_tree_hash.specs.Counter.{counted};
 ghost use Rattle.mls_tree_array.specs.KeptHashes.{hashes_of, cold_places};
-ghost use Rattle.mls_tree.specs.ColdNodes.{IsNewTree, Chills};
+ghost use Rattle.mls_tree.specs.ColdNodes.{IsNewTree, Chills, AddChills};
 ghost use Rattle.mls_tree.specs.Faults.{number_of};
-ghost use Rattle.mls_tree.specs.declared.error.TreeError.TheVariants.{NoSuchLeaf};
-ghost use Rattle.mls_tree.specs.EditsKeepGood.{KeepsGood, KeepsSound};
-ghost use Rattle.mls_tree.specs.Refusals.{RefusesOutright};
+ghost use Rattle.mls_tree.specs.EditsKeepGood.{IsGoodIfNew, AddKeepsGood, AddKeepsSound, KeepsGoodAt, KeepsSoundAt, RemoveKeepsGood, RemoveKeepsSound};
+ghost use Rattle.mls_tree.specs.Refusals.{Refuses, AnswersMember, AnswersList, AnswersAdd, AnswersUpdate, AnswersRemove};
 ghost use Rattle.mls_tree.specs.ShortLeaves.{AreShort, HasShortLeaves};
-ghost use Rattle.mls_tree.specs.Paths.{ChangesWhole};
-ghost use Rattle.mls_tree.specs.Tree.{term, max_leaves, path_answer, add_answer, update_answer, remove_answer, Changes};
+ghost use Rattle.mls_tree.specs.Tree.{term, max_leaves, path_answer, add_answer, update_answer, may_be_sent};
 
 use crate::edits;
 use crate::error::TreeError;
@@ -70,7 +67,7 @@ impl PublicTree {
     pub fn single(alloc: Global, leaf: LeafNode) -> Result<PublicTree, AllocError>
         ensures tree { IfOk result (λ t. term t ≡ Leaf (Some leaf)) }
         // It is good where the leaf passes the checks.
-        ensures good { IfOk result (λ t. (rules : Rules) → 0 < rules.limit → AreNew rules 0 leaf [] (Leaf None) → IsGood rules (term t)) }
+        ensures good { IfOk result (IsGoodIfNew leaf) }
         ensures cold { IfOk result IsNewTree }
     {
         let mut nodes = Vec::with_capacity(alloc, 1)?;
@@ -89,13 +86,13 @@ impl PublicTree {
     }
 
     /// The tree of nodes in order, as it is sent (RFC 9420, 12.4.3.3): blank nodes follow up to the least tree that
-    /// holds them. Refused with `TreeShape` (20) where there are no nodes, the last one is blank, a leaf is at an odd or
-    /// a parent at an even place, or more than one leaf and no member in the right half; then with `TreeFull` (21)
+    /// holds them. Refused with `TreeShape` (20) where there are no nodes, the last one is blank, a leaf is at an odd
+    /// or a parent at an even place, or more than one leaf and no member in the right half; then with `TreeFull` (21)
     /// above 4,096 leaves.
     pub fn from_nodes(nodes: Vec<Slot>) -> Result<PublicTree, TreeError>
         ensures answer { Answers term number_of (from_nodes max_leaves nodes.items) result }
-        // 20 comes whatever memory there is, where the nodes alone show it.
-        ensures outright { RefusesOutright number_of (require 20 (has_last nodes.items && alternates true nodes.items)) result }
+        // `TreeShape` (20) comes whatever memory there is, where the nodes alone show it.
+        ensures outright { Refuses (require 20 (may_be_sent nodes.items)) result }
         ensures shape { IfOk result (λ t. has_good_shape (term t) ≡ true) }
         // Its leaves are short where the nodes are, as those of an input are.
         ensures short { IfOk result (λ t. AreShort nodes.items → HasShortLeaves (term t)) }
@@ -159,7 +156,7 @@ impl PublicTree {
 
     /// Refuses a leaf index at which no member is.
     pub(crate) fn require_member(&self, i: u32) -> Result<(), TreeError>
-        ensures { MatchResult result (λ _. is_some (leaf_of (term self.now) i) ≡ true) (λ e. (e ≡ NoSuchLeaf) × (leaf_of (term self.now) i ≡ None)) }
+        ensures { AnswersMember (term self.now) i result }
     {
         match self.leaf(i) {
             Some(_) => Ok(()),
@@ -194,8 +191,8 @@ impl PublicTree {
     /// The filtered direct path of member i as node indices, the lowest first (RFC 9420, 4.1.2); `NoSuchLeaf` (22)
     /// where no member is there.
     pub fn filtered_path(&self, i: u32) -> Result<Vec<u32>, TreeError>
-        ensures answer { Answers (λ v. v.items) number_of (path_answer (term self.now) i) result }
-        ensures outright { RefusesOutright number_of (path_answer (term self.now) i) result }
+        ensures answer { AnswersList (path_answer (term self.now) i) result }
+        ensures outright { Refuses (path_answer (term self.now) i) result }
     {
         match self.require_member(i) {
             Err(error) => return Err(error),
@@ -225,16 +222,16 @@ impl PublicTree {
         self.hashes.done()
     }
 
-    /// Adds a member at the leftmost blank leaf, in a tree of twice the leaves where none is blank, and answers its leaf
-    /// index (RFC 9420, 12.1.1). Refused with `TreeFull` (21) where that tree would have more than 4,096 leaves, whatever
-    /// memory there is.
+    /// Adds a member at the leftmost blank leaf, in a tree of twice the leaves where none is blank, and answers its
+    /// leaf index (RFC 9420, 12.1.1). Refused with `TreeFull` (21) where that tree would have more than 4,096 leaves,
+    /// whatever memory there is.
     pub fn add(&mut self, leaf: LeafNode) -> Result<u32, TreeError>
-        ensures answer { DoesAs (λ i. i) number_of (add_answer (term self.old) leaf) (term self.old) (term self.new) result }
-        ensures outright { RefusesOutright number_of (add_answer (term self.old) leaf) result }
+        ensures answer { AnswersAdd leaf self.old self.new result }
+        ensures outright { Refuses (add_answer (term self.old) leaf) result }
         // A good tree stays good where the leaf passes the checks, and a sound one sound.
-        ensures good { OnOk result (KeepsGood (λ rules. (max_leaves ≤ rules.limit) × AreNew rules (place_in (term self.old)) leaf [] (term self.old)) (term self.old) (term self.new)) }
-        ensures sound { OnOk result (KeepsSound (λ rules. (max_leaves ≤ rules.limit) × AreFit rules (place_in (term self.old)) leaf []) (term self.old) (term self.new)) }
-        ensures cold { IfOk result (λ i. Chills (room_for (first_blank 0 (term self.old)) (term self.old)) i self.old self.new) }
+        ensures good { OnOk result (AddKeepsGood leaf self.old self.new) }
+        ensures sound { OnOk result (AddKeepsSound leaf self.old self.new) }
+        ensures cold { IfOk result (AddChills self.old self.new) }
         ensures unchanged { OnErr result (self.new ≡ self.old) }
     {
         let height = self.height;
@@ -269,11 +266,11 @@ impl PublicTree {
     /// Replaces the leaf of member i and blanks the parents over it (RFC 9420, 12.1.2); `NoSuchLeaf` (22) where no
     /// member is there. After a refusal the tree is as before.
     pub fn update(&mut self, i: u32, leaf: LeafNode) -> Result<(), TreeError>
-        ensures answer { ChangesWhole number_of (update_answer (term self.old) i leaf) (term self.old) (term self.new) result }
-        ensures outright { RefusesOutright number_of (update_answer (term self.old) i leaf) result }
+        ensures answer { AnswersUpdate i leaf self.old self.new result }
+        ensures outright { Refuses (update_answer (term self.old) i leaf) result }
         // A good tree stays good where the leaf passes the checks, and a sound one sound.
-        ensures good { OnOk result (KeepsGood (λ rules. AreNew rules i leaf [] (put 0 (term self.old) i None)) (term self.old) (term self.new)) }
-        ensures sound { OnOk result (KeepsSound (λ rules. AreFit rules i leaf []) (term self.old) (term self.new)) }
+        ensures good { OnOk result (KeepsGoodAt i leaf [] self.old self.new) }
+        ensures sound { OnOk result (KeepsSoundAt i leaf self.old self.new) }
         ensures cold { OnOk result (Chills (term self.old) i self.old self.new) }
         ensures unchanged { OnErr result (self.new ≡ self.old) }
     {
@@ -296,10 +293,10 @@ impl PublicTree {
     /// Blanks the leaf of member i and the parents over it, and halves the tree as long as its right half has no member
     /// (RFC 9420, 12.1.3); `NoSuchLeaf` (22) where no member is there. Takes no memory.
     pub fn remove(&mut self, i: u32) -> Result<(), TreeError>
-        ensures answer { Changes number_of (remove_answer (term self.old) i) (term self.old) (term self.new) result }
+        ensures answer { AnswersRemove i self.old self.new result }
         // A good tree stays good where another member is left, and a sound one sound.
-        ensures good { OnOk result (KeepsGood (λ _. has_leaf (put 0 (term self.old) i None) ≡ true) (term self.old) (term self.new)) }
-        ensures sound { OnOk result (KeepsSound (λ _. has_leaf (put 0 (term self.old) i None) ≡ true) (term self.old) (term self.new)) }
+        ensures good { OnOk result (RemoveKeepsGood i self.old self.new) }
+        ensures sound { OnOk result (RemoveKeepsSound i self.old self.new) }
         ensures cold { OnOk result (Chills (term self.old) i self.old self.new) }
         ensures unchanged { OnErr result (self.new ≡ self.old) }
     {

@@ -8,3 +8,9 @@ pub mod KeptHashes
 pub mod EndOfMembers
 pub mod Splits
 pub mod WayHashes
+pub mod Additions
+pub mod Edits
+pub mod RightLists
+pub mod Originals
+pub mod Validity
+pub mod PathParents

@@ -1,10 +1,13 @@
 -- The tree hashes of a leaf and of the nodes over it, and what a merged path makes of them.
-use Rattle.std.specs.Prelude.{◌≡◌, ℕ, ◌+◌, nat_lt, true, if◌then◌else◌, List, [], ◌∷◌, ◌++◌, Option}
+use Rattle.std.specs.Prelude.{◌≡◌, ℕ, ◌+◌, nat_lt, true, if◌then◌else◌, List, [], ◌∷◌, ◌++◌, Option, Result, IfOk}
+use Rattle.std.specs.Global.{Vec}
 use Rattle.mls_leaf.specs.Parent.{Parent}
 use Rattle.mls_leaf.specs.declared.leaf.LeafNode.{LeafNode}
+use Rattle.mls_leaf.specs.declared.node.Node.{Node}
 use Rattle.mls_tree_model.specs.Term.{Term, Leaf, Branch, width, is_perfect}
 use Rattle.mls_tree_model.specs.Hashes.{tree_hash}
 use Rattle.mls_tree_model.specs.Merge.{merge}
+use Rattle.mls_tree_model.specs.Arrays.{term_of}
 use Rattle.mls_tree_array.specs.KeptHashes.{hashes_of}
 use Rattle.mls_tree_array.specs.Merging.{path_parents}
 
@@ -25,3 +28,9 @@ HashesMerged b t i ps x hash before after =
 abbrev pub PutsHashes : ℕ → ℕ → ℕ → List (List ℕ) → List (Option (List ℕ)) → List (Option (List ℕ)) → Type 0
 PutsHashes n b i hashes old new =
     (t : Term) (ks : List (List ℕ)) (h : List ℕ) (x : LeafNode) → is_perfect n t ≡ true → old ≡ hashes_of b t → hashes ≡ way_hashes b (merge b t i ks h x) i → new ≡ hashes_of b (merge b t i ks h x)
+
+-- where these are the parents that a merge makes over leaf i, the hashes on the way to the leaf were added, and the
+-- tree hash of the merged tree is answered, where no memory was missing
+abbrev pub AddsWay : {E : Type 0} → ℕ → ℕ → List (Option Node) → ℕ → List Parent → LeafNode → Vec (List ℕ) → Vec (List ℕ) → Result (List ℕ) E → Type 0
+AddsWay h b nodes i ps x old new result =
+    IfOk result (λ hash. HashesMerged b (term_of h nodes) i ps x hash old.items new.items)

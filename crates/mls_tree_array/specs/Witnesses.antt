@@ -1,5 +1,5 @@
 -- The node that ties a side to its parent (RFC 9420, 7.9.2).
-use Rattle.std.specs.Prelude.{ℕ, ◌-◌, ◌==◌, Bool, not, if◌then◌else◌, List, [], filter, Option, Some, None}
+use Rattle.std.specs.Prelude.{ℕ, ◌-◌, ◌==◌, Bool, not, if◌then◌else◌, ◌+◌, ◌*◌, ◌&&◌, ◌||◌, List, [], filter, Option, Some, None, nat_le, nat_lt}
 use Rattle.std.specs.List.{find}
 use Rattle.mls_leaf.specs.Parent.{Parent}
 use Rattle.mls_tree_model.specs.Term.{Term, width}
@@ -13,6 +13,14 @@ numbers_in b e us = leaf_numbers (within b (e - b) us)
 -- some nodes without one of them
 abbrev pub others : ℕ → List ℕ → List ℕ
 others d xs = filter (λ x. not (x == d)) xs
+
+-- whether a node is d, or one of a list's leaves from leaf b on, below leaf e
+abbrev pub is_or_among : List ℕ → ℕ → ℕ → ℕ → ℕ → Bool
+is_or_among us b e d x = (x == d) || has (numbers_in b e us) x
+
+-- whether leaf u is before leaf b or not below leaf e, or another node than d and among some nodes
+abbrev pub is_out_or_other : ℕ → ℕ → List ℕ → ℕ → ℕ → Bool
+is_out_or_other b e xs d u = not (nat_le b u && nat_lt u (b + (e - b))) || has (others d xs) (2 * u)
 
 -- the first node that a list doesn't have
 abbrev pub first_outside : List ℕ → List ℕ → Option ℕ

@@ -1,12 +1,12 @@
 //! How many ciphertexts the nodes of a path have.
 
-ghost use Rattle.std.specs.Prelude.{◌≡◌, true, ◌+◌, ◌*◌, ◌^◌, ◌≤◌, [], ◌∷◌, ◌++◌, length, if◌then◌else◌, IfOk, OnOk};
+ghost use Rattle.std.specs.Prelude.{◌≡◌, true, ◌+◌, ◌*◌, ◌^◌, ◌≤◌, length, OnOk};
 ghost use Rattle.mls_leaf.specs.Parent.{rises};
 ghost use Rattle.mls_treemath.specs.Paths.{nodes_in};
 ghost use Rattle.mls_tree_model.specs.Sets.{has, less, leaf_numbers};
-ghost use Rattle.mls_tree_model.specs.Resolution.{is_reached};
-ghost use Rattle.mls_tree_model.specs.Way.{target_count, ciphertext_counts};
+ghost use Rattle.mls_tree_model.specs.Way.{target_count};
 ghost use Rattle.mls_tree_model.specs.Arrays.{term_of};
+ghost use Rattle.mls_tree_array.specs.Additions.{AddsCount, AddsCounts};
 
 use crate::places::{leaf_in, middle_of, parent_in};
 use crate::resolutions::is_reached;
@@ -14,7 +14,7 @@ use mls_tree_slot::Slot;
 use std::alloc::AllocError;
 
 /// Whether a node is one of these leaves.
-fn is_leaf_among(leaves: &[u32], node: u64) -> bool
+pub fn is_leaf_among(leaves: &[u32], node: u64) -> bool
     ensures { result ≡ has (leaf_numbers leaves.now) node }
 {
     for leaf in leaves {
@@ -75,7 +75,7 @@ fn push_count(
 ) -> Result<(), AllocError>
     requires shape { length side.now ≡ nodes_in height }
     requires fits { first + 2 ^ height ≤ 2 ^ 31 }
-    ensures { OnOk result (out.new.items ≡ out.old.items ++ (if is_reached first (term_of height side.now) then target_count added.now first (term_of height side.now) ∷ [] else [])) }
+    ensures { OnOk result (AddsCount height first side.now added.now out.old out.new) }
 {
     if is_reached(side, height) {
         out.push(target_count(side, height, first, added))?;
@@ -83,8 +83,8 @@ fn push_count(
     Ok(())
 }
 
-/// Adds to `out` how many ciphertexts each node of a leaf's path has, the lowest first (RFC 9420, 7.6): one for each node
-/// of the resolution of its other side, without the leaves just added.
+/// Adds to `out` how many ciphertexts each node of a leaf's path has, the lowest first (RFC 9420, 7.6): one for each
+/// node of the resolution of its other side, without the leaves just added.
 #[tactic(auto, using(mls_treemath::proofs::Sizes::nodes_in_pos))]
 pub fn ciphertext_counts(
     nodes: &[Slot],
@@ -96,7 +96,7 @@ pub fn ciphertext_counts(
 ) -> Result<(), AllocError>
     requires shape { length nodes.now ≡ nodes_in height }
     requires fits { first + 2 ^ height ≤ 2 ^ 31 }
-    ensures { OnOk result (out.new.items ≡ out.old.items ++ ciphertext_counts first (term_of height nodes.now) leaf added.now) }
+    ensures { OnOk result (AddsCounts height first nodes.now leaf added.now out.old out.new) }
 {
     if height == 0 {
         return Ok(());

@@ -1,9 +1,10 @@
 //! Edits at a leaf: it is replaced, or filled and listed by the parents over it.
 
 ghost use Rattle.std.specs.Prelude.{◌≡◌, ◌+◌, ◌^◌, ◌≤◌, OnOk, OnErr};
-ghost use Rattle.mls_tree_model.specs.Edits.{put, enter, list_leaf};
+ghost use Rattle.mls_tree_model.specs.Edits.{put, list_leaf};
 ghost use Rattle.mls_tree_model.specs.Arrays.{parent_in, leaf_cell, parent_cell, term_of, in_order};
 ghost use Rattle.mls_tree_array.specs.Standing.{Stands};
+ghost use Rattle.mls_tree_array.specs.Edits.{EntersLeaf};
 
 use crate::places::middle_of;
 use mls_tree_slot::{NoParent, SharedLeaf, Slot};
@@ -39,8 +40,8 @@ pub fn put(nodes: &mut [Slot], height: u32, first: u32, i: u32, leaf: Option<Sha
     }
 }
 
-/// Fills leaf i, and enters it in the list of each parent over it that isn't blank (RFC 9420, 12.1.1). The leaf is filled
-/// once all lists have it; where one can't grow, those above are as they were.
+/// Fills leaf i, and enters it in the list of each parent over it that isn't blank (RFC 9420, 12.1.1). The leaf is
+/// filled once all lists have it; where one can't grow, those above are as they were.
 #[cycle(entering)]
 pub fn enter(
     nodes: &mut [Slot],
@@ -51,7 +52,7 @@ pub fn enter(
 ) -> Result<(), AllocError>
     requires stands { Stands height nodes.old }
     requires fits { first + 2 ^ height ≤ 2 ^ 31 }
-    ensures ok { OnOk result (nodes.new ≡ in_order (enter first (term_of height nodes.old) i leaf)) }
+    ensures ok { OnOk result (EntersLeaf height first i leaf nodes.old nodes.new) }
     ensures err { OnErr result (nodes.new ≡ nodes.old) }
 {
     if height == 0 {
@@ -69,8 +70,9 @@ pub fn enter(
     }
 }
 
-/// Enters leaf i in the list of the parent in a cell, where there is one, and in the side below it that the leaf is on. A
-/// parent that no other tree shares is not copied; where the side can't take the leaf, it is taken out of the list again.
+/// Enters leaf i in the list of the parent in a cell, where there is one, and in the side below it that the leaf is
+/// on. A parent that no other tree shares is not copied; where the side can't take the leaf, it is taken out of the
+/// list again.
 #[cycle(entering)]
 fn enter_below(
     root: &mut Slot,
@@ -84,7 +86,7 @@ fn enter_below(
     requires stands { Stands height side.old }
     requires fits { first + 2 ^ height ≤ 2 ^ 31 }
     ensures root { OnOk result (root.new ≡ parent_cell (list_leaf i (parent_in root.old))) }
-    ensures side { OnOk result (side.new ≡ in_order (enter first (term_of height side.old) i leaf)) }
+    ensures side { OnOk result (EntersLeaf height first i leaf side.old side.new) }
     ensures err { OnErr result ((root.new ≡ root.old) × (side.new ≡ side.old)) }
 {
     let parent = match root.parent_mut() {

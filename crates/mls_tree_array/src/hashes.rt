@@ -1,13 +1,11 @@
 //! Tree hashes, and those that are kept beside the nodes.
 
-ghost use Rattle.std.specs.Prelude.{◌≡◌, ◌+◌, ◌/◌, ◌^◌, ◌≤◌, ℕ, List, Option, Some, None, is_some, true, length, slice_index_or};
-ghost use Rattle.mls_leaf.specs.declared.node.Node.{Node as AnyNode};
+ghost use Rattle.std.specs.Prelude.{◌≡◌, ◌+◌, ◌/◌, ◌^◌, ◌≤◌, None, is_some, true, length, slice_index_or};
 ghost use Rattle.mls_treemath.specs.Paths.{nodes_in};
-ghost use Rattle.mls_tree_model.specs.Term.{Term, is_perfect};
 ghost use Rattle.mls_tree_model.specs.Hashes.{tree_hash};
 ghost use Rattle.mls_tree_model.specs.Arrays.{term_of};
 ghost use Rattle.mls_tree_hash.specs.Counter.{counted};
-ghost use Rattle.mls_tree_array.specs.KeptHashes.{hashes_of, Keeps, drop_hashes, cold_places};
+ghost use Rattle.mls_tree_array.specs.KeptHashes.{hashes_of, Keeps, cold_places, DropsHashes, IsRootHash};
 
 use crate::places::{leaf_in, middle_of, parent_in};
 use mls_tree_hash::{Hash, branch_hash, leaf_hash};
@@ -68,7 +66,7 @@ pub(crate) fn tree_hash(
 pub(crate) fn drop_hashes(kept: &mut [Option<Hash>], height: u32, first: u32, i: u32)
     requires shape { length kept.old ≡ nodes_in height }
     requires fits { first + 2 ^ height ≤ 2 ^ 31 }
-    ensures { (t : Term) → is_perfect height t ≡ true → kept.new ≡ drop_hashes first t i kept.old }
+    ensures { DropsHashes height first i kept.old kept.new }
 {
     if height == 0 {
         kept[0] = None;
@@ -87,7 +85,7 @@ pub(crate) fn drop_hashes(kept: &mut [Option<Hash>], height: u32, first: u32, i:
 /// The tree hash of a tree whose kept hashes are all there.
 pub(crate) fn root_hash(kept: &[Option<Hash>]) -> Hash
     requires { is_some (slice_index_or kept.now (length kept.now / 2) None) ≡ true }
-    ensures { (b h : ℕ) (xs : List (Option AnyNode)) → kept.now ≡ hashes_of b (term_of h xs) → result ≡ tree_hash b (term_of h xs) }
+    ensures { IsRootHash kept.now result }
 {
     match kept[kept.len() / 2] {
         Some(hash) => hash,

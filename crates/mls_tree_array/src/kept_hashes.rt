@@ -1,13 +1,12 @@
 //! The kept hashes of a whole tree, and how many hashes of nodes were made.
 
-ghost use Rattle.std.specs.Prelude.{◌≡◌, ◌≤◌, ◌++◌, Option, List, ℕ, suc, None, true, length, replicate, take, IfOk, OnOk, OnErr};
+ghost use Rattle.std.specs.Prelude.{◌≡◌, ◌≤◌, ◌++◌, suc, None, length, replicate, take, IfOk, OnOk, OnErr};
 ghost use Rattle.mls_treemath.specs.Limits.{max_height};
 ghost use Rattle.mls_treemath.specs.Paths.{nodes_in};
-ghost use Rattle.mls_tree_model.specs.Term.{Term, is_perfect};
 ghost use Rattle.mls_tree_model.specs.Hashes.{tree_hash};
 ghost use Rattle.mls_tree_model.specs.Arrays.{term_of};
 ghost use Rattle.mls_tree_hash.specs.Counter.{counted};
-ghost use Rattle.mls_tree_array.specs.KeptHashes.{hashes_of, Keeps, drop_hashes, cold_places};
+ghost use Rattle.mls_tree_array.specs.KeptHashes.{hashes_of, Keeps, cold_places, DropsHashes, AddsCold};
 ghost use Rattle.mls_tree_array.specs.WayHashes.{PutsHashes};
 
 use crate::hashes::{drop_hashes, tree_hash};
@@ -17,8 +16,8 @@ use mls_tree_slot::Slot;
 use std::alloc::{AllocError, Global};
 use std::marker::Model;
 
-/// The tree hashes that are kept beside the nodes of a tree, in their order: at a cold node there is none. It counts the
-/// hashes of nodes that were made.
+/// The tree hashes that are kept beside the nodes of a tree, in their order: at a cold node there is none. It counts
+/// the hashes of nodes that were made.
 #[derive(Drop)]
 pub struct Hashes {
     kept: Vec<Option<Hash>>,
@@ -72,14 +71,14 @@ impl Hashes {
     pub fn drop_way(&mut self, height: u32, i: u32)
         requires shape { length self.old.kept ≡ nodes_in height }
         requires low { height ≤ max_height }
-        ensures kept { (t : Term) → is_perfect height t ≡ true → self.new.kept ≡ drop_hashes 0 t i self.old.kept }
+        ensures kept { DropsHashes height 0 i self.old.kept self.new.kept }
         ensures done { self.new.done ≡ self.old.done }
     {
         drop_hashes(&mut self.kept, height, 0, i);
     }
 
-    /// Keeps those of leaf i and of the nodes over it that a merge of leaf i was found to make, the lowest first, and counts
-    /// them. Takes no memory.
+    /// Keeps those of leaf i and of the nodes over it that a merge of leaf i was found to make, the lowest first, and
+    /// counts them. Takes no memory.
     pub fn put_way(&mut self, height: u32, i: u32, hashes: &[Hash])
         requires shape { length self.old.kept ≡ nodes_in height }
         requires low { height ≤ max_height }
@@ -93,7 +92,7 @@ impl Hashes {
 
     /// Adds places of cold nodes. Without memory for it all stays as it was.
     pub fn add(&mut self, count: usize) -> Result<(), AllocError>
-        ensures ok { OnOk result (self.new ≡ record self.old { kept = self.old.kept ++ replicate count None }) }
+        ensures ok { OnOk result (AddsCold count self.old self.new) }
         ensures err { OnErr result (self.new ≡ self.old) }
     {
         add_cold(&mut self.kept, count)

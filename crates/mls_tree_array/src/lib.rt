@@ -1,8 +1,8 @@
 //! A ratchet tree as one array of its nodes in order (RFC 9420, appendix C).
 //!
 //! A tree of height h is a slice of its nodes: first those of its left side, then its root, then those of its right
-//! side. Most functions are a recursion over these two parts, and each contract speaks of the term that the slice stands
-//! for. `first` is the number of the tree's first leaf, which the definitions carry along in the same way.
+//! side. Most functions are a recursion over these two parts, and each contract speaks of the term that the slice
+//! stands for. `first` is the number of the tree's first leaf, which the definitions carry along in the same way.
 #![tactic(auto)]
 
 mod counts;
@@ -24,7 +24,7 @@ mod validity;
 mod way_hashes;
 mod witnesses;
 
-pub use counts::ciphertext_counts;
+pub use counts::{ciphertext_counts, is_leaf_among};
 pub use distinct::are_distinct;
 pub use edits::{enter, put};
 pub use kept_hashes::Hashes;

@@ -6,9 +6,10 @@ ghost use Rattle.mls_leaf.specs.Parent.{rises};
 ghost use Rattle.mls_treemath.specs.Paths.{nodes_in};
 ghost use Rattle.mls_treemath.specs.Limits.{max_height};
 ghost use Rattle.mls_tree_model.specs.Sets.{has};
-ghost use Rattle.mls_tree_model.specs.Lists.{may_list, is_listed, may_be_listed, lists_here, rises_here, parent_passes, all_parents};
+ghost use Rattle.mls_tree_model.specs.Lists.{may_list, is_listed, lists_here, rises_here, all_parents};
 ghost use Rattle.mls_tree_model.specs.Good.{has_good_lists};
-ghost use Rattle.mls_tree_model.specs.Arrays.{parent_in, term_of};
+ghost use Rattle.mls_tree_model.specs.Arrays.{term_of};
+ghost use Rattle.mls_tree_array.specs.RightLists.{may_list_over, passes_over, root_passes, AllRise};
 
 use crate::places::{leaf_in, middle_of, parent_in};
 use mls_leaf::ParentNode;
@@ -70,7 +71,7 @@ fn may_be_listed(
     requires right_shape { length right.now ≡ nodes_in height }
     requires middle { second ≡ first + 2 ^ height }
     requires fits { second + 2 ^ height ≤ 2 ^ 31 }
-    ensures { result ≡ may_be_listed first (term_of height left.now) (term_of height right.now) leaf }
+    ensures { result ≡ may_list_over height first left.now right.now leaf }
 {
     if leaf < first || leaf >= second + (second - first) {
         return false;
@@ -96,9 +97,9 @@ fn lists_here(
     requires right_shape { length right.now ≡ nodes_in height }
     requires middle { second ≡ first + 2 ^ height }
     requires fits { second + 2 ^ height ≤ 2 ^ 31 }
-    ensures right { result ≡ lists_here first parent.now (term_of height left.now) (term_of height right.now) }
+    ensures right { result ≡ passes_over lists_here height first parent.now left.now right.now }
     // Its list rises, as every parent's does.
-    ensures rising { rises_here first parent.now (term_of height left.now) (term_of height right.now) ≡ true }
+    ensures rising { passes_over rises_here height first parent.now left.now right.now ≡ true }
 {
     for leaf in parent.unmerged_leaves() {
         if !may_be_listed(left, right, height, first, second, *leaf) {
@@ -108,7 +109,7 @@ fn lists_here(
     true
 }
 
-/// The same of the root of a tree, which may be blank.
+/// Whether the root over these two sides lists only what it may list, where it isn't blank.
 fn is_root_list_right(
     root: &Slot,
     left: &[Slot],
@@ -121,8 +122,8 @@ fn is_root_list_right(
     requires right_shape { length right.now ≡ nodes_in height }
     requires middle { second ≡ first + 2 ^ height }
     requires fits { second + 2 ^ height ≤ 2 ^ 31 }
-    ensures right { result ≡ parent_passes lists_here first (parent_in root.now) (term_of height left.now) (term_of height right.now) }
-    ensures rising { parent_passes rises_here first (parent_in root.now) (term_of height left.now) (term_of height right.now) ≡ true }
+    ensures right { result ≡ root_passes lists_here height first root.now left.now right.now }
+    ensures rising { root_passes rises_here height first root.now left.now right.now ≡ true }
 {
     match parent_in(root) {
         Some(parent) => lists_here(parent, left, right, height, first, second),
@@ -136,7 +137,7 @@ fn are_lists_right(nodes: &[Slot], height: u32, first: u32) -> bool
     requires shape { length nodes.now ≡ nodes_in height }
     requires fits { first + 2 ^ height ≤ 2 ^ 31 }
     ensures right { result ≡ all_parents lists_here first (term_of height nodes.now) }
-    ensures rising { result ≡ true → all_parents rises_here first (term_of height nodes.now) ≡ true }
+    ensures rising { result ≡ true → AllRise first (term_of height nodes.now) }
 {
     if height == 0 {
         return true;
@@ -160,7 +161,7 @@ pub fn has_good_lists(nodes: &[Slot], height: u32) -> bool
     requires shape { length nodes.now ≡ nodes_in height }
     requires low { height ≤ max_height }
     ensures right { result ≡ has_good_lists (term_of height nodes.now) }
-    ensures rising { result ≡ true → all_parents rises_here 0 (term_of height nodes.now) ≡ true }
+    ensures rising { result ≡ true → AllRise 0 (term_of height nodes.now) }
 {
     are_lists_right(nodes, height, 0)
 }

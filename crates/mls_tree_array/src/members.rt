@@ -12,7 +12,8 @@ ghost use Rattle.mls_tree_array.specs.EndOfMembers.{end_of_members};
 use crate::places::{leaf_in, middle_of};
 use mls_tree_slot::Slot;
 
-/// The number of the leftmost blank leaf, where each leaf before `from` is taken: it looks at none of them but the last.
+/// The number of the leftmost blank leaf, where each leaf before `from` is taken: it looks at none of them but the
+/// last.
 #[tactic(auto, using(mls_treemath::proofs::Sizes::nodes_in_pos))]
 pub fn first_blank(nodes: &[Slot], height: u32, first: u32, from: u32) -> Option<u32>
     requires shape { length nodes.now ≡ nodes_in height }
@@ -37,8 +38,8 @@ pub fn first_blank(nodes: &[Slot], height: u32, first: u32, from: u32) -> Option
     }
 }
 
-/// One past the rightmost taken leaf, where each leaf from `end` on is blank: it looks at none of them but the first. It is
-/// `first` where no leaf is taken.
+/// One past the rightmost taken leaf, where each leaf from `end` on is blank: it looks at none of them but the first.
+/// It is `first` where no leaf is taken.
 #[tactic(auto, using(mls_treemath::proofs::Sizes::nodes_in_pos))]
 pub fn end_of_members(nodes: &[Slot], height: u32, first: u32, end: u32) -> u32
     requires shape { length nodes.now ≡ nodes_in height }

@@ -1,17 +1,16 @@
 //! A path that is merged into a tree: the parents that it makes, and their parent hashes.
 
-ghost use Rattle.std.specs.Prelude.{◌≡◌, ℕ, ◌+◌, ◌-◌, ◌^◌, ◌<◌, ◌≤◌, ◌++◌, List, [], length, take, drop, reverse, IfOk, OnOk};
-ghost use Rattle.std.specs.Option.{option_to_list};
+ghost use Rattle.std.specs.Prelude.{◌≡◌, ℕ, ◌+◌, ◌-◌, ◌^◌, ◌<◌, ◌≤◌, length, take, drop, IfOk, OnOk};
 ghost use Rattle.std.specs.Vec.Iter.{into_iter_items};
 ghost use Rattle.mls_treemath.specs.Paths.{nodes_in};
 ghost use Rattle.mls_tree_model.specs.Way.{path_length};
 ghost use Rattle.mls_tree_model.specs.Hashes.{tree_hash};
 ghost use Rattle.mls_tree_model.specs.Resolution.{is_reached};
-ghost use Rattle.mls_tree_model.specs.Merge.{merge, path_hash, parent_beside, keys_beside, hash_beside};
-ghost use Rattle.mls_tree_model.specs.Arrays.{term_of, in_order, parent_cell, HasMiddle};
+ghost use Rattle.mls_tree_model.specs.Arrays.{term_of, parent_cell, HasMiddle};
 ghost use Rattle.mls_tree_array.specs.Standing.{Stands};
 ghost use Rattle.mls_tree_array.specs.KeptHashes.{hashes_of};
-ghost use Rattle.mls_tree_array.specs.Merging.{path_parents, first_if, rest_if, hash_bytes};
+ghost use Rattle.mls_tree_array.specs.Merging.{first_if, rest_if, hash_bytes};
+ghost use Rattle.mls_tree_array.specs.PathParents.{merged_parent, AreKeysBelow, IsHashBelow, IsPathHash, AddsParent, AddsParents, HasParents, HasHash, MergesPath};
 
 use crate::hashes::root_hash;
 use crate::places::middle_of;
@@ -67,8 +66,8 @@ fn hand_down<'a>(
     requires shape { length side.now ≡ nodes_in height }
     requires fits { first + 2 ^ height ≤ 2 ^ 31 }
     requires hashed { sibling.now ≡ tree_hash first (term_of height side.now) }
-    ensures keys { reverse result.0.now ≡ keys_beside first (term_of height side.now) (reverse keys.now) }
-    ensures hash { hash_bytes result.1 ≡ hash_beside first (term_of height side.now) (reverse keys.now) (hash_bytes above) }
+    ensures keys { AreKeysBelow height first side.now keys.now result.0.now }
+    ensures hash { IsHashBelow height first side.now keys.now above result.1 }
 {
     if !is_reached(side, height) {
         return (keys, above);
@@ -98,7 +97,7 @@ pub fn path_hash(
     requires fits { first + 2 ^ height ≤ 2 ^ 31 }
     requires long { length kept.now ≡ nodes_in height }
     requires hashed { kept.now ≡ hashes_of first (term_of height nodes.now) }
-    ensures { hash_bytes result ≡ path_hash first (term_of height nodes.now) leaf (reverse keys.now) (hash_bytes hash) }
+    ensures { IsPathHash height first nodes.now leaf keys.now hash result }
 {
     if height == 0 {
         return hash;
@@ -122,7 +121,7 @@ pub fn path_hash(
 
 /// A parent that a merge makes: its list is empty.
 fn merged_parent(alloc: Global, key: Bytes, hash: &Option<Hash>) -> Result<SharedParent, AllocError>
-    ensures { IfOk result (λ p. p ≡ record { encryption_key = key; parent_hash = hash_bytes hash.now; unmerged_leaves = [] }) }
+    ensures { IfOk result (λ p. p ≡ merged_parent key hash.now) }
 {
     let parent_hash = Bytes::from_slice(alloc, bytes_of(hash))?;
     match ParentNode::new(key, parent_hash, Items::from_vec(Vec::new(alloc))) {
@@ -131,8 +130,8 @@ fn merged_parent(alloc: Global, key: Bytes, hash: &Option<Hash>) -> Result<Share
     }
 }
 
-/// Adds the parent that a merge makes, whose other side this is, where there is one, and answers the parent hash that it
-/// hands down. `sibling` is the side's tree hash. The parent's key is the last one, which is taken.
+/// Adds the parent that a merge makes, whose other side this is, where there is one, and answers the parent hash that
+/// it hands down. `sibling` is the side's tree hash. The parent's key is the last one, which is taken.
 fn add_parent(
     alloc: Global,
     side: &[Slot],
@@ -146,9 +145,9 @@ fn add_parent(
     requires shape { length side.now ≡ nodes_in height }
     requires fits { first + 2 ^ height ≤ 2 ^ 31 }
     requires hashed { sibling.now ≡ tree_hash first (term_of height side.now) }
-    ensures parent { OnOk result (out.new.items ≡ out.old.items ++ option_to_list (parent_beside first (term_of height side.now) (reverse keys.old.items) (hash_bytes above))) }
-    ensures keys { OnOk result (reverse keys.new.items ≡ keys_beside first (term_of height side.now) (reverse keys.old.items)) }
-    ensures hash { IfOk result (λ below. hash_bytes below ≡ hash_beside first (term_of height side.now) (reverse keys.old.items) (hash_bytes above)) }
+    ensures parent { OnOk result (AddsParent height first side.now keys.old above out.old out.new) }
+    ensures keys { OnOk result (AreKeysBelow height first side.now keys.old.items keys.new.items) }
+    ensures hash { IfOk result (IsHashBelow height first side.now keys.old.items above) }
 {
     if !is_reached(side, height) {
         return Ok(above);
@@ -163,8 +162,8 @@ fn add_parent(
     }
 }
 
-/// Adds the parents that a merge makes over a leaf to `out`, the highest first, and answers the parent hash that reaches
-/// the leaf. Their keys are the last ones, which are taken.
+/// Adds the parents that a merge makes over a leaf to `out`, the highest first, and answers the parent hash that
+/// reaches the leaf. Their keys are the last ones, which are taken.
 #[tactic(auto, using(mls_treemath::proofs::Sizes::nodes_in_pos))]
 fn add_parents(
     alloc: Global,
@@ -181,8 +180,8 @@ fn add_parents(
     requires fits { first + 2 ^ height ≤ 2 ^ 31 }
     requires long { length kept.now ≡ nodes_in height }
     requires hashed { kept.now ≡ hashes_of first (term_of height nodes.now) }
-    ensures parents { OnOk result (out.new.items ≡ out.old.items ++ path_parents first (term_of height nodes.now) leaf (reverse keys.old.items) (hash_bytes hash)) }
-    ensures hash { IfOk result (λ below. hash_bytes below ≡ path_hash first (term_of height nodes.now) leaf (reverse keys.old.items) (hash_bytes hash)) }
+    ensures parents { AddsParents height first nodes.now leaf keys.old hash out.old out.new result }
+    ensures hash { IfOk result (IsPathHash height first nodes.now leaf keys.old.items hash) }
 {
     if height == 0 {
         return Ok(hash);
@@ -248,8 +247,8 @@ pub fn path_parents(
     requires fits { first + 2 ^ height ≤ 2 ^ 31 }
     requires long { length kept.now ≡ nodes_in height }
     requires hashed { kept.now ≡ hashes_of first (term_of height nodes.now) }
-    ensures parents { IfOk result (λ p. p.parents.items ≡ path_parents first (term_of height nodes.now) leaf (reverse keys.items) []) }
-    ensures hash { IfOk result (λ p. hash_bytes p.hash ≡ path_hash first (term_of height nodes.now) leaf (reverse keys.items) []) }
+    ensures parents { IfOk result (HasParents first (term_of height nodes.now) leaf keys.items) }
+    ensures hash { IfOk result (HasHash first (term_of height nodes.now) leaf keys.items) }
 {
     let mut keys = keys;
     let mut parents = Vec::with_capacity(alloc, keys.len())?;
@@ -290,7 +289,7 @@ fn is_left_reached(nodes: &[Slot], height: u32, middle: usize) -> bool
     is_reached(&nodes[..middle], height - 1)
 }
 
-/// Whether its right side is.
+/// Whether the right side of the root is reached.
 fn is_right_reached(nodes: &[Slot], height: u32, middle: usize) -> bool
     requires above_leaf { 0 < height }
     requires middle { HasMiddle height (length nodes.now) middle }
@@ -299,8 +298,8 @@ fn is_right_reached(nodes: &[Slot], height: u32, middle: usize) -> bool
     is_reached(&nodes[middle + 1..], height - 1)
 }
 
-/// Merges a path: replaces leaf i and blanks the parents over it, but for those of the filtered path, which are replaced
-/// by the given ones (RFC 9420, 7.5). Takes no memory.
+/// Merges a path: replaces leaf i and blanks the parents over it, but for those of the filtered path, which are
+/// replaced by the given ones (RFC 9420, 7.5). Takes no memory.
 pub fn merge(
     nodes: &mut [Slot],
     height: u32,
@@ -311,7 +310,7 @@ pub fn merge(
 )
     requires stands { Stands height nodes.old }
     requires fits { first + 2 ^ height ≤ 2 ^ 31 }
-    ensures { (ks : List (List ℕ)) (h : List ℕ) → into_iter_items parents.old ≡ path_parents first (term_of height nodes.old) i ks h → nodes.new ≡ in_order (merge first (term_of height nodes.old) i ks h leaf) }
+    ensures { MergesPath height first i leaf (into_iter_items parents.old) nodes.old nodes.new }
 {
     if height == 0 {
         nodes[0] = leaf.into_slot();

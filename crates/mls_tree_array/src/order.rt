@@ -1,7 +1,8 @@
 //! Lists of nodes from outside, and as they are sent (RFC 9420, 12.4.3.3).
 
-ghost use Rattle.std.specs.Prelude.{◌≡◌, ◌-◌, ◌≤◌, true, ◌++◌, length, take, replicate, None, OnOk, OnErr, IfOk, IsOk};
+ghost use Rattle.std.specs.Prelude.{◌≡◌, ◌≤◌, true, length, take, OnOk, OnErr, IfOk, IsOk};
 ghost use Rattle.mls_tree_model.specs.Arrays.{cut, has_last, may_stand, alternates, height_for, padded};
+ghost use Rattle.mls_tree_array.specs.Additions.{PadsTo};
 
 use mls_leaf::Node;
 use mls_tree_slot::Slot;
@@ -55,7 +56,7 @@ pub fn height_for(len: usize) -> u32
 
 /// Adds blank nodes up to a length. Without memory for it all stays as it was.
 pub fn pad(nodes: &mut Vec<Slot>, to: usize) -> Result<(), AllocError>
-    ensures ok { OnOk result (nodes.new.items ≡ nodes.old.items ++ replicate (to - length nodes.old.items) None) }
+    ensures ok { OnOk result (PadsTo to nodes.old nodes.new) }
     ensures err { OnErr result (nodes.new.items ≡ nodes.old.items) }
     ensures there { to ≤ length nodes.old.items → IsOk result }
 {

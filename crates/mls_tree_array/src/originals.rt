@@ -1,18 +1,19 @@
 //! Tree hashes of trees as they were before some leaves were added (RFC 9420, 7.9).
 
-ghost use Rattle.std.specs.Prelude.{◌≡◌, ℕ, ◌+◌, ◌^◌, ◌<◌, ◌≤◌, ◌&&◌, true, not, length};
+ghost use Rattle.std.specs.Prelude.{◌≡◌, ◌+◌, ◌^◌, ◌≤◌, true, not, length};
 ghost use Rattle.std.specs.List.{list_all};
 ghost use Rattle.std.specs.Option.{option_copied};
 ghost use Rattle.mls_leaf.specs.Parent.{rises};
 ghost use Rattle.mls_treemath.specs.Paths.{nodes_in};
-ghost use Rattle.mls_tree_model.specs.Sets.{has, same_bytes};
+ghost use Rattle.mls_tree_model.specs.Sets.{has};
 ghost use Rattle.mls_tree_model.specs.Inputs.{branch_hash};
-ghost use Rattle.mls_tree_model.specs.Hashes.{tree_hash, unlist_leaves, original_tree};
 ghost use Rattle.mls_tree_model.specs.Lists.{lists_here, all_parents};
 ghost use Rattle.mls_tree_model.specs.Arrays.{term_of};
 ghost use Rattle.mls_tree_array.specs.KeptHashes.{hashes_of};
 ghost use Rattle.mls_tree_array.specs.Splits.{Splits};
 ghost use Rattle.mls_tree_array.specs.Witnesses.{unmerged_leaves_of};
+ghost use Rattle.mls_tree_array.specs.Originals.{original_hash, Stays};
+ghost use Rattle.mls_tree_hash.specs.Originals.{hash_without};
 
 use crate::hashes::root_hash;
 use crate::lists::has;
@@ -55,7 +56,7 @@ fn keeps_hash(
     old_right: &Hash,
 ) -> bool
     requires { rises unmerged.now ≡ true }
-    ensures { result ≡ (same_bytes left.now old_left.now && (same_bytes right.now old_right.now && list_all (λ u. not (has unmerged.now u)) (unmerged_leaves_of (option_copied parent.entry)))) }
+    ensures { Stays unmerged.now parent.entry left.now right.now old_left.now old_right.now result }
 {
     if !same_bytes(left, old_left) {
         return false;
@@ -66,8 +67,8 @@ fn keeps_hash(
     are_disjoint(unmerged_leaves_of(parent), unmerged)
 }
 
-/// The tree hash of an original by those of its sides. It is `own`, the tree hash of the tree, where its root lists none
-/// of the leaves and its sides have the hashes that they had, `old_left` and `old_right`.
+/// The tree hash of an original by those of its sides. It is `own`, the tree hash of the tree, where its root lists
+/// none of the leaves and its sides have the hashes that they had, `old_left` and `old_right`.
 fn original_root_hash(
     parent: Option<&ParentNode>,
     unmerged: &[u32],
@@ -79,7 +80,7 @@ fn original_root_hash(
 ) -> Hash
     requires rise { rises unmerged.now ≡ true }
     requires own { own.now ≡ branch_hash (option_copied parent) old_left.now old_right.now }
-    ensures { result ≡ branch_hash (unlist_leaves unmerged.now (option_copied parent.entry)) left.now right.now }
+    ensures { result ≡ hash_without unmerged.now (option_copied parent.entry) left.now right.now }
 {
     if keeps_hash(parent, unmerged, left, right, old_left, old_right) {
         return *own;
@@ -98,9 +99,9 @@ fn count_before(leaves: &[u32], end: u32) -> usize
     }
 }
 
-/// The tree hash of a side as it was before some leaves were added, where `hashes` are the tree hashes of its subtrees and
-/// its parents list leaves below them alone: only the subtrees that have one of the leaves are walked, and of these only
-/// those that they change are hashed.
+/// The tree hash of a side as it was before some leaves were added, where `hashes` are the tree hashes of its subtrees
+/// and its parents list leaves below them alone: only the subtrees that have one of the leaves are walked, and of
+/// these only those that they change are hashed.
 #[tactic(auto, using(mls_treemath::proofs::Sizes::nodes_in_pos))]
 pub(crate) fn original_hash(
     nodes: &[Slot],
@@ -115,7 +116,7 @@ pub(crate) fn original_hash(
     requires rise { rises unmerged.now ≡ true }
     requires hashed { hashes.now ≡ hashes_of first (term_of height nodes.now) }
     requires lists { all_parents lists_here first (term_of height nodes.now) ≡ true }
-    ensures { result ≡ tree_hash first (original_tree unmerged.now first (term_of height nodes.now)) }
+    ensures { result ≡ original_hash unmerged.now first (term_of height nodes.now) }
 {
     if unmerged.is_empty() {
         return root_hash(hashes);

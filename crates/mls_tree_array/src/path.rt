@@ -2,8 +2,7 @@
 
 ghost use Rattle.std.specs.Prelude.{◌≡◌, ◌+◌, ◌^◌, ◌≤◌, [], ◌∷◌, ◌++◌, length, if◌then◌else◌, OnOk};
 ghost use Rattle.mls_treemath.specs.Paths.{nodes_in};
-ghost use Rattle.mls_tree_model.specs.Way.{filtered_path};
-ghost use Rattle.mls_tree_model.specs.Arrays.{term_of};
+ghost use Rattle.mls_tree_array.specs.Additions.{AddsFilteredPath};
 
 use crate::places::middle_of;
 use crate::resolutions::is_reached;
@@ -31,7 +30,7 @@ pub fn filtered_path(
 ) -> Result<(), AllocError>
     requires shape { length nodes.now ≡ nodes_in height }
     requires fits { first + 2 ^ height ≤ 2 ^ 31 }
-    ensures { OnOk result (out.new.items ≡ out.old.items ++ filtered_path first (term_of height nodes.now) leaf) }
+    ensures { OnOk result (AddsFilteredPath height first nodes.now leaf out.old out.new) }
 {
     if height == 0 {
         return Ok(());

@@ -1,11 +1,11 @@
 //! Resolutions: the nodes that together reach all members of a tree.
 
-ghost use Rattle.std.specs.Prelude.{◌≡◌, ℕ, ◌+◌, ◌^◌, ◌≤◌, ◌++◌, not, length, OnOk};
+ghost use Rattle.std.specs.Prelude.{◌≡◌, ℕ, ◌+◌, ◌^◌, ◌≤◌, not, length, OnOk};
 ghost use Rattle.mls_treemath.specs.Paths.{nodes_in};
-ghost use Rattle.mls_tree_model.specs.Sets.{leaf_numbers};
-ghost use Rattle.mls_tree_model.specs.Resolution.{resolution, is_empty, is_reached};
+ghost use Rattle.mls_tree_model.specs.Resolution.{is_empty, is_reached};
 ghost use Rattle.mls_tree_model.specs.Places.{resolution_at};
 ghost use Rattle.mls_tree_model.specs.Arrays.{term_of};
+ghost use Rattle.mls_tree_array.specs.Additions.{AddsLeaves, AddsResolution, AddsResolutionAt};
 
 use crate::places::{leaf_in, middle_of, parent_in};
 use mls_leaf::ParentNode;
@@ -14,7 +14,7 @@ use std::alloc::AllocError;
 
 /// Adds the node numbers of a parent's unmerged leaves.
 fn push_unmerged(parent: &ParentNode, out: &mut Vec<u64>) -> Result<(), AllocError>
-    ensures { OnOk result (out.new.items ≡ out.old.items ++ leaf_numbers parent.now.unmerged_leaves) }
+    ensures { OnOk result (AddsLeaves parent.now.unmerged_leaves out.old out.new) }
 {
     for leaf in parent.unmerged_leaves() {
         out.push(2 * u64::from(*leaf))?;
@@ -32,7 +32,7 @@ pub fn resolution(
 ) -> Result<(), AllocError>
     requires shape { length nodes.now ≡ nodes_in height }
     requires fits { first + 2 ^ height ≤ 2 ^ 31 }
-    ensures { OnOk result (out.new.items ≡ out.old.items ++ resolution first (term_of height nodes.now)) }
+    ensures { OnOk result (AddsResolution height first nodes.now out.old out.new) }
 {
     if height == 0 {
         return match leaf_in(&nodes[0]) {
@@ -65,7 +65,7 @@ pub fn resolution_at(
 ) -> Result<(), AllocError>
     requires shape { length nodes.now ≡ nodes_in height }
     requires fits { first + 2 ^ height ≤ 2 ^ 31 }
-    ensures { OnOk result (out.new.items ≡ out.old.items ++ resolution_at first (term_of height nodes.now) x) }
+    ensures { OnOk result (AddsResolutionAt height first nodes.now x out.old out.new) }
 {
     if height == 0 {
         if x == 2 * first {

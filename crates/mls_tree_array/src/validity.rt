@@ -1,17 +1,16 @@
 //! Whether parents are parent-hash valid (RFC 9420, 7.9.2).
 
-ghost use Rattle.std.specs.Prelude.{◌≡◌, ◌+◌, ◌*◌, ◌^◌, ◌<◌, ◌≤◌, true, length, Option, IfOk};
-ghost use Rattle.mls_leaf.specs.Parent.{Parent};
+ghost use Rattle.std.specs.Prelude.{◌≡◌, ◌+◌, ◌^◌, ◌<◌, ◌≤◌, true, length, IfOk};
 ghost use Rattle.mls_treemath.specs.Paths.{nodes_in};
 ghost use Rattle.mls_treemath.specs.Limits.{max_height};
 ghost use Rattle.mls_tree_model.specs.Node.{leaf_parent_hash, own_parent_hash};
 ghost use Rattle.mls_tree_model.specs.Sets.{same_bytes};
-ghost use Rattle.mls_tree_model.specs.Term.{Term, Branch, width};
-ghost use Rattle.mls_tree_model.specs.Lists.{parent_passes, lists_here, all_parents};
-ghost use Rattle.mls_tree_model.specs.Hashes.{hash_at, is_some_bytes, has_witness, is_parent_hash_valid};
+ghost use Rattle.mls_tree_model.specs.Lists.{lists_here, all_parents};
+ghost use Rattle.mls_tree_model.specs.Hashes.{hash_at, is_some_bytes};
 ghost use Rattle.mls_tree_model.specs.Good.{has_good_lists, has_good_hashes};
 ghost use Rattle.mls_tree_model.specs.Arrays.{leaf_in, parent_in, term_of};
 ghost use Rattle.mls_tree_array.specs.KeptHashes.{hashes_of};
+ghost use Rattle.mls_tree_array.specs.Validity.{AnswersLeftWitness, AnswersRightWitness, AnswersRootValid, are_parents_valid};
 
 use crate::originals::original_hash;
 use crate::places::{leaf_in, middle_of, parent_in};
@@ -91,7 +90,7 @@ fn has_left_witness(
     requires fits { first + 2 ^ height ≤ 2 ^ 31 }
     requires hashed { hashes.now ≡ hashes_of first (term_of height nodes.now) }
     requires lists { all_parents lists_here first (term_of height nodes.now) ≡ true }
-    ensures { IfOk result (λ v. (c : Option Parent) (l r : Term) → term_of height nodes.now ≡ Branch c l r → v ≡ has_witness parent.now first l (first + width l) r) }
+    ensures { IfOk result (AnswersLeftWitness height first nodes.now parent.now) }
 {
     let middle = middle_of(nodes.len(), height);
     let second = first + (middle / 2 + 1) as u32;
@@ -109,7 +108,7 @@ fn has_left_witness(
     }
 }
 
-/// Whether the right side has one.
+/// Whether the right side has a node that ties it to its parent.
 fn has_right_witness(
     parent: &ParentNode,
     nodes: &[Slot],
@@ -124,7 +123,7 @@ fn has_right_witness(
     requires fits { first + 2 ^ height ≤ 2 ^ 31 }
     requires hashed { hashes.now ≡ hashes_of first (term_of height nodes.now) }
     requires lists { all_parents lists_here first (term_of height nodes.now) ≡ true }
-    ensures { IfOk result (λ v. (c : Option Parent) (l r : Term) → term_of height nodes.now ≡ Branch c l r → v ≡ has_witness parent.now (first + width l) r first l) }
+    ensures { IfOk result (AnswersRightWitness height first nodes.now parent.now) }
 {
     let middle = middle_of(nodes.len(), height);
     let second = first + (middle / 2 + 1) as u32;
@@ -157,7 +156,7 @@ fn is_root_valid(
     requires fits { first + 2 ^ height ≤ 2 ^ 31 }
     requires hashed { hashes.now ≡ hashes_of first (term_of height nodes.now) }
     requires lists { all_parents lists_here first (term_of height nodes.now) ≡ true }
-    ensures { IfOk result (λ v. (c : Option Parent) (l r : Term) → term_of height nodes.now ≡ Branch c l r → v ≡ parent_passes is_parent_hash_valid first c l r) }
+    ensures { IfOk result (AnswersRootValid height first nodes.now) }
 {
     let middle = middle_of(nodes.len(), height);
     match parent_in(&nodes[middle]) {
@@ -185,7 +184,7 @@ fn are_parents_valid(
     requires fits { first + 2 ^ height ≤ 2 ^ 31 }
     requires hashed { hashes.now ≡ hashes_of first (term_of height nodes.now) }
     requires lists { all_parents lists_here first (term_of height nodes.now) ≡ true }
-    ensures { IfOk result (λ v. v ≡ all_parents is_parent_hash_valid first (term_of height nodes.now)) }
+    ensures { IfOk result (λ v. v ≡ are_parents_valid first (term_of height nodes.now)) }
 {
     if height == 0 {
         return Ok(true);
@@ -208,8 +207,8 @@ fn are_parents_valid(
     are_parents_valid(right, &hashes[middle + 1..], height - 1, second, found)
 }
 
-/// Whether each parent is parent-hash valid, where the lists of unmerged leaves are right and `hashes` are the tree hashes
-/// of all subtrees.
+/// Whether each parent is parent-hash valid, where the lists of unmerged leaves are right and `hashes` are the tree
+/// hashes of all subtrees.
 pub fn has_good_hashes(
     alloc: Global,
     nodes: &[Slot],

@@ -1,13 +1,13 @@
 //! The hashes that a merged path makes on the way to its leaf: made before the merge, and kept after it.
 
-ghost use Rattle.std.specs.Prelude.{◌≡◌, suc, ◌+◌, ◌^◌, ◌≤◌, length, IfOk, OnOk};
+ghost use Rattle.std.specs.Prelude.{◌≡◌, suc, ◌+◌, ◌^◌, ◌≤◌, length, OnOk};
 ghost use Rattle.std.specs.Option.{option_copied};
 ghost use Rattle.mls_treemath.specs.Paths.{nodes_in};
 ghost use Rattle.mls_tree_model.specs.Arrays.{term_of};
 ghost use Rattle.mls_tree_hash.specs.Counter.{counted};
 ghost use Rattle.mls_tree_array.specs.KeptHashes.{hashes_of};
 ghost use Rattle.mls_tree_array.specs.Merging.{first_if, rest_if};
-ghost use Rattle.mls_tree_array.specs.WayHashes.{HashesMerged, PutsHashes};
+ghost use Rattle.mls_tree_array.specs.WayHashes.{PutsHashes, AddsWay};
 
 use crate::hashes::root_hash;
 use crate::places::middle_of;
@@ -50,7 +50,7 @@ pub fn merged_hashes(
     requires fits { first + 2 ^ height ≤ 2 ^ 31 }
     requires long { length kept.now ≡ nodes_in height }
     requires hashed { kept.now ≡ hashes_of first (term_of height nodes.now) }
-    ensures hashes { IfOk result (λ hash. HashesMerged first (term_of height nodes.now) i parents.now leaf.now hash out.old.items out.new.items) }
+    ensures hashes { AddsWay height first nodes.now i parents.now leaf.now out.old out.new result }
     ensures counted { OnOk result (done.new ≡ counted done.old (suc height)) }
 {
     if height == 0 {

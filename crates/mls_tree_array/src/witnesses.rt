@@ -1,13 +1,13 @@
 //! The nodes that tie the sides of a tree to its root (RFC 9420, 7.9.2).
 
-ghost use Rattle.std.specs.Prelude.{◌≡◌, ◌+◌, ◌-◌, ◌*◌, ◌^◌, ◌≤◌, ◌<◌, ◌==◌, ◌&&◌, ◌||◌, nat_le, nat_lt, not, true, length, IfOk};
+ghost use Rattle.std.specs.Prelude.{◌≡◌, ◌+◌, ◌^◌, ◌≤◌, true, length, IfOk};
 ghost use Rattle.std.specs.List.{list_all};
 ghost use Rattle.std.specs.List.Sorted.{IsNonDecreasing};
 ghost use Rattle.mls_leaf.specs.Parent.{rises};
 ghost use Rattle.mls_treemath.specs.Paths.{nodes_in};
 ghost use Rattle.mls_tree_model.specs.Sets.{has, is_same_set};
 ghost use Rattle.mls_tree_model.specs.Arrays.{term_of};
-ghost use Rattle.mls_tree_array.specs.Witnesses.{numbers_in, others, first_outside, candidate};
+ghost use Rattle.mls_tree_array.specs.Witnesses.{numbers_in, others, first_outside, candidate, is_or_among, is_out_or_other};
 
 use crate::lists::has;
 use crate::resolutions::resolution;
@@ -31,7 +31,7 @@ fn is_among(leaves: &[u32], first: u32, end: u32, node: u64) -> bool
     has(leaves, leaf as u32)
 }
 
-/// The first node that isn't.
+/// The first of some nodes that isn't one of the leaves of a rising list from `first` on, below `end`.
 fn first_outside(leaves: &[u32], first: u32, end: u32, nodes: &[u64]) -> Option<u64>
     requires rise { rises leaves.now ≡ true }
     requires order { first ≤ end }
@@ -49,7 +49,7 @@ fn first_outside(leaves: &[u32], first: u32, end: u32, nodes: &[u64]) -> Option<
 fn is_or_among(leaves: &[u32], first: u32, end: u32, other: u64, node: u64) -> bool
     requires rise { rises leaves.now ≡ true }
     requires order { first ≤ end }
-    ensures { result ≡ ((node == other) || has (numbers_in first end leaves.now) node) }
+    ensures { result ≡ is_or_among leaves.now first end other node }
 {
     node == other || is_among(leaves, first, end, node)
 }
@@ -58,7 +58,7 @@ fn is_or_among(leaves: &[u32], first: u32, end: u32, other: u64, node: u64) -> b
 fn others_among(leaves: &[u32], first: u32, end: u32, nodes: &[u64], node: u64) -> bool
     requires rise { rises leaves.now ≡ true }
     requires order { first ≤ end }
-    ensures { result ≡ list_all (λ x. (x == node) || has (numbers_in first end leaves.now) x) nodes.now }
+    ensures { result ≡ list_all (is_or_among leaves.now first end node) nodes.now }
 {
     for x in nodes {
         if !is_or_among(leaves, first, end, node, *x) {
@@ -72,7 +72,7 @@ fn others_among(leaves: &[u32], first: u32, end: u32, nodes: &[u64], node: u64) 
 fn is_out_or_other(leaf: u32, first: u32, end: u32, nodes: &[u64], node: u64) -> bool
     requires order { first ≤ end }
     requires sorted { IsNonDecreasing nodes.now }
-    ensures { result ≡ (not (nat_le first leaf && nat_lt leaf (first + (end - first))) || has (others node nodes.now) (2 * leaf)) }
+    ensures { result ≡ is_out_or_other first end nodes.now node leaf }
 {
     if leaf < first || leaf >= end {
         return true;
@@ -88,7 +88,7 @@ fn is_out_or_other(leaf: u32, first: u32, end: u32, nodes: &[u64], node: u64) ->
 fn leaves_among(leaves: &[u32], first: u32, end: u32, nodes: &[u64], node: u64) -> bool
     requires order { first ≤ end }
     requires sorted { IsNonDecreasing nodes.now }
-    ensures { result ≡ list_all (λ u. not (nat_le first u && nat_lt u (first + (end - first))) || has (others node nodes.now) (2 * u)) leaves.now }
+    ensures { result ≡ list_all (is_out_or_other first end nodes.now node) leaves.now }
 {
     for leaf in leaves {
         if !is_out_or_other(*leaf, first, end, nodes, node) {
@@ -112,8 +112,8 @@ fn are_others(leaves: &[u32], first: u32, end: u32, nodes: &mut [u64], node: u64
 }
 
 /// The only node that can tie a side, whose leaves are those from `first` on, below `end`, to a parent over it: its
-/// resolution is this node and the leaves that the parent lists below it. `found` is room for the resolution, and may hold
-/// it sorted. Besides the walk for it, n nodes and leaves take time in proportion to n log n.
+/// resolution is this node and the leaves that the parent lists below it. `found` is room for the resolution, and may
+/// hold it sorted. Besides the walk for it, n nodes and leaves take time in proportion to n log n.
 pub(crate) fn candidate(
     parent: &ParentNode,
     nodes: &[Slot],

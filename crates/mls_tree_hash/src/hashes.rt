@@ -4,10 +4,10 @@ ghost use Rattle.std.specs.Prelude.{◌≡◌, ℕ, List, None, true};
 ghost use Rattle.std.specs.Option.{option_copied};
 ghost use Rattle.sha2.specs.Sha256.{sha256};
 ghost use Rattle.mls_leaf.specs.Parent.{rises};
-ghost use Rattle.mls_tree_model.specs.Hashes.{unlist_leaves};
 ghost use Rattle.mls_tree_model.specs.Inputs.{leaf_hash, branch_hash, sibling_hash};
 ghost use Rattle.mls_tree_hash.specs.Counter.{counted};
 ghost use Rattle.mls_tree_hash.specs.Feeds.{Holds};
+ghost use Rattle.mls_tree_hash.specs.Originals.{hash_without};
 
 use crate::Hash;
 use crate::feed::Feed;
@@ -90,7 +90,7 @@ pub fn branch_hash_without(
     right: &Hash,
 ) -> Hash
     requires { rises unmerged.now ≡ true }
-    ensures { result ≡ branch_hash (unlist_leaves unmerged.now (option_copied parent.entry)) left.now right.now }
+    ensures { result ≡ hash_without unmerged.now (option_copied parent.entry) left.now right.now }
 {
     let mut feed = Feed::new();
     add_u8(&mut feed, 2);

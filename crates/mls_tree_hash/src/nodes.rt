@@ -4,8 +4,8 @@ ghost use Rattle.std.specs.Prelude.{◌≡◌, true};
 ghost use Rattle.mls_leaf.specs.Leaf.{capabilities as capabilities_format, credential as credential_format, leaf_node, leaf_source};
 ghost use Rattle.mls_leaf.specs.Parent.{rises};
 ghost use Rattle.mls_leaf.specs.ParentNode.{parent_node};
-ghost use Rattle.mls_tree_model.specs.Sets.{less};
 ghost use Rattle.mls_tree_hash.specs.Feeds.{Feeds};
+ghost use Rattle.mls_tree_hash.specs.Originals.{parent_without};
 
 use crate::feed::Feed;
 use crate::pieces::{
@@ -81,7 +81,7 @@ pub(crate) fn add_parent(feed: &mut Feed, parent: &ParentNode)
 #[tactic(auto, using(crate::proofs::Feeding::feeding), unfolding(mls_leaf::specs::ParentNode::parent_node))]
 pub(crate) fn add_parent_without(feed: &mut Feed, unmerged: &[u32], parent: &ParentNode)
     requires { rises unmerged.now ≡ true }
-    ensures { Feeds feed.old (parent_node.spell (record parent.now { unmerged_leaves = less unmerged.now parent.now.unmerged_leaves })) feed.new }
+    ensures { Feeds feed.old (parent_node.spell (parent_without unmerged.now parent.now)) feed.new }
 {
     add_vector(feed, parent.encryption_key());
     add_vector(feed, parent.parent_hash());

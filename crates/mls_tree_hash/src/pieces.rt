@@ -22,7 +22,7 @@ fn add_header(feed: &mut Feed, len: usize)
     }
 }
 
-/// The same, for a long content. None has 2^30 bytes or more; there the four bytes wrap.
+/// The header of a long content of so many bytes. None has 2^30 bytes or more; there the four bytes wrap.
 #[inline(never)]
 fn add_long_header(feed: &mut Feed, len: usize)
     ensures { Feeds feed.old (header len) feed.new }

@@ -6,8 +6,9 @@ use Rattle.mls_tree_model.specs.Sets.{has}
 use Rattle.mls_tree_index.specs.declared.kind.KeyKind.{KeyKind}
 use Rattle.mls_tree_index.specs.declared.gaps.Gap.{Gap}
 use Rattle.mls_tree_index.specs.Keys.{key_in}
-use Rattle.mls_tree_index.specs.Order.{IsGap}
-use Rattle.mls_tree_index.specs.BlankedCells.{cells_without}
+use Rattle.mls_tree_index.specs.Order.{IsGap, Entries}
+use Rattle.mls_tree_index.specs.BlankedCells.{cells_without, HasPlaces}
+use Rattle.mls_tree_index.specs.Indexes.{Listing}
 
 -- the gap at a place of a list
 abbrev pub gap_at : List Gap → ℕ → Gap
@@ -50,3 +51,9 @@ pub record IsNewGap (b c : ℕ → Option (List ℕ)) (ns : List ℕ) (g : Gap) 
 pub record Opens (kind : KeyKind) (places found : List ℕ) (c : List (Option Node)) (ns : List ℕ) (gs : List Gap) : Type 0 where
   pub each : (j : ℕ) → j < length gs → IsNewGap (key_in kind (cells_without 0 places c)) (key_in kind c) ns (gap_at gs j)
   pub all : (x : ℕ) → has found x ≡ true → is_some (key_in kind c x) ≡ true → (j : ℕ) × (j < length gs) × ((gap_at gs j).number ≡ x)
+
+-- the gaps are those of some cells, in an index of all others
+abbrev pub OpensCells : List ℕ → List (Option Node) → Listing → List Gap → Type 0
+OpensCells places cells t gs =
+    (c : List (Option Node)) → HasPlaces t.kind places cells c → Entries (key_in t.kind (cells_without 0 places c)) t.numbers →
+    Opens t.kind places places c t.numbers gs

@@ -1,12 +1,11 @@
 //! Several keys at once, beside some cells.
 
-ghost use Rattle.std.specs.Prelude.{◌≡◌, nat_eq, true, ◌∷◌, ◌++◌, IfOk, IsOk};
+ghost use Rattle.std.specs.Prelude.{◌≡◌, nat_eq, true, IsOk};
 ghost use Rattle.std.specs.List.{list_any};
 ghost use Rattle.std.specs.Cmp.Lexicographic.{pointwise};
-ghost use Rattle.mls_tree_model.specs.Sets.{same_bytes, is_distinct};
-ghost use Rattle.mls_tree_index.specs.Keys.{keys_of, is_held};
-ghost use Rattle.mls_tree_index.specs.Indexes.{Indexes};
-ghost use Rattle.mls_tree_index.specs.BlankedCells.{cells_without};
+ghost use Rattle.mls_tree_model.specs.Sets.{is_distinct};
+ghost use Rattle.mls_tree_index.specs.Indexes.{OnDistinct};
+ghost use Rattle.mls_tree_index.specs.BlankedCells.{AnswersHeldBeside, AnswersNewBeside, AcceptsBeside};
 
 use crate::index::Index;
 use crate::order::is_same;
@@ -25,7 +24,7 @@ fn is_among(key: &Bytes, keys: &[Bytes]) -> bool
 impl Index {
     /// Whether a cell that stands at none of these places has this key, where no two cells have one key.
     fn holds_beside(&self, cells: &[Slot], places: &[u32], key: &[u8]) -> bool
-        ensures { Indexes cells.now self.now → is_distinct same_bytes (keys_of self.now.kind cells.now) ≡ true → result ≡ is_held self.now.kind (cells_without 0 places.now cells.now) key.now }
+        ensures { AnswersHeldBeside self.now cells.now places.now key.now result }
     {
         match self.holder(cells, key) {
             Some(x) => !places.contains(&x),
@@ -36,7 +35,7 @@ impl Index {
     /// Whether no two of these keys and those of the cells at none of these places are one, where no two cells have one
     /// key.
     fn accepts_new(&self, cells: &[Slot], places: &[u32], key: &Bytes, keys: &[Bytes]) -> bool
-        ensures { Indexes cells.now self.now → is_distinct same_bytes (keys_of self.now.kind cells.now) ≡ true → result ≡ is_distinct same_bytes (key.now ∷ (keys.now ++ keys_of self.now.kind (cells_without 0 places.now cells.now))) }
+        ensures { AnswersNewBeside self.now cells.now places.now key.now keys.now result }
     {
         if is_among(key, keys) || self.holds_beside(cells, places, key.as_slice()) {
             return false;
@@ -47,8 +46,8 @@ impl Index {
         }
     }
 
-    /// Whether no two of these keys and those of the cells at none of these places, each given once, are one. Takes memory
-    /// only where two cells have one key.
+    /// Whether no two of these keys and those of the cells at none of these places, each given once, are one. Takes
+    /// memory only where two cells have one key.
     pub fn accepts_beside(
         &self,
         cells: &[Slot],
@@ -57,8 +56,8 @@ impl Index {
         keys: &[Bytes],
     ) -> Result<bool, AllocError>
         requires { is_distinct nat_eq places.now ≡ true }
-        ensures answer { Indexes cells.now self.now → IfOk result (λ b. b ≡ is_distinct same_bytes (key.now ∷ (keys.now ++ keys_of self.now.kind (cells_without 0 places.now cells.now)))) }
-        ensures outright { Indexes cells.now self.now → is_distinct same_bytes (keys_of self.now.kind cells.now) ≡ true → IsOk result }
+        ensures answer { AcceptsBeside self.now cells.now places.now key.now keys.now result }
+        ensures outright { OnDistinct cells.now self.now (IsOk result) }
     {
         if self.are_distinct() {
             return Ok(self.accepts_new(cells, places, key, keys));

@@ -1,13 +1,10 @@
 //! The index: numbers of cells in the order of their keys.
 
-ghost use Rattle.std.specs.Prelude.{◌≡◌, ℕ, ◌+◌, ◌<◌, ◌≤◌, ◌^◌, suc, Option, List, length, vec_len, IfOk, OnOk, OnErr};
+ghost use Rattle.std.specs.Prelude.{◌≡◌, ◌+◌, ◌<◌, ◌≤◌, ◌^◌, suc, length, vec_len, IfOk, OnOk};
 ghost use Rattle.std.specs.List.{remove};
 ghost use Rattle.std.specs.Vec.{vec_capacity};
-ghost use Rattle.mls_leaf.specs.declared.node.Node.{Node};
-ghost use Rattle.mls_tree_model.specs.Sets.{same_bytes, is_distinct};
-ghost use Rattle.mls_tree_index.specs.Keys.{key_in, keys_of, is_held, is_key_at, IsHolder};
-ghost use Rattle.mls_tree_index.specs.Order.{Entries, IsGap, IsPart};
-ghost use Rattle.mls_tree_index.specs.Indexes.{Indexes, Without, SameIndex};
+ghost use Rattle.mls_tree_index.specs.Keys.{is_key_at, IsHolder};
+ghost use Rattle.mls_tree_index.specs.Indexes.{Indexes, SameIndex, AnswersAround, AnswersHeld, EntersCell, LeavesCell, AnswersDistinct};
 
 use crate::kind::KeyKind;
 use mls_tree_slot::Slot;
@@ -83,17 +80,17 @@ impl Index {
         }
     }
 
-    /// Whether the entry at a place or that before it has this key. Where an entry with the key goes there, no other has
-    /// it if neither does.
+    /// Whether the entry at a place or that before it has this key. Where an entry with the key goes there, no other
+    /// has it if neither does.
     pub(crate) fn is_beside(&self, cells: &[Slot], place: usize, key: &[u8]) -> bool
-        ensures { (c : List (Option Node)) → IsPart (key_in self.now.kind c) (key_in self.now.kind cells.now) → Entries (key_in self.now.kind c) self.now.numbers → (x : ℕ) → IsGap (key_in self.now.kind c) self.now.numbers (key.now, x) place → result ≡ is_held self.now.kind c key.now }
+        ensures { AnswersAround self.now cells.now place key.now result }
     {
         self.is_key_at(cells, place, key) || place > 0 && self.is_key_at(cells, place - 1, key)
     }
 
     /// Whether some cell has this key. The cells may have more keys than those that the index is of.
     pub fn holds(&self, cells: &[Slot], key: &[u8]) -> bool
-        ensures { (c : List (Option Node)) → IsPart (key_in self.now.kind c) (key_in self.now.kind cells.now) → Indexes c self.now → result ≡ is_held self.now.kind c key.now }
+        ensures { AnswersHeld self.now cells.now key.now result }
     {
         self.is_key_at(cells, self.place(cells, key, 0), key)
     }
@@ -116,7 +113,7 @@ impl Index {
         requires { 0 < self.old.room }
         ensures kind { self.new.kind ≡ self.old.kind }
         ensures room { self.old.room ≤ suc self.new.room }
-        ensures entered { (b c : List (Option Node)) → Without self.old.kind x cells.now b c → Indexes b self.old → Indexes c self.new }
+        ensures entered { EntersCell x cells.now self.old self.new }
     {
         let Some(key) = self.kind.key_in(cells, x) else {
             return;
@@ -136,7 +133,7 @@ impl Index {
     pub fn leave(&mut self, cells: &[Slot], x: u32)
         ensures kind { self.new.kind ≡ self.old.kind }
         ensures room { self.old.room ≤ self.new.room }
-        ensures left { (b c : List (Option Node)) → Without self.old.kind x cells.now b c → Indexes c self.old → Indexes b self.new }
+        ensures left { LeavesCell x cells.now self.old self.new }
     {
         let Some(key) = self.kind.key_in(cells, x) else {
             return;
@@ -153,7 +150,7 @@ impl Index {
 
     /// Whether no two cells have one key.
     pub fn are_distinct(&self) -> bool
-        ensures { (c : List (Option Node)) → Indexes c self.now → result ≡ is_distinct same_bytes (keys_of self.now.kind c) }
+        ensures { AnswersDistinct self.now result }
     {
         self.repeats == 0
     }

@@ -1,11 +1,6 @@
 //! Several keys at once.
 
-ghost use Rattle.std.specs.Prelude.{◌≡◌, List, ◌∷◌, ◌++◌, Option};
-ghost use Rattle.mls_leaf.specs.declared.node.Node.{Node};
-ghost use Rattle.mls_tree_model.specs.Sets.{same_bytes, is_distinct};
-ghost use Rattle.mls_tree_index.specs.Keys.{key_in, keys_of};
-ghost use Rattle.mls_tree_index.specs.Order.{IsPart};
-ghost use Rattle.mls_tree_index.specs.Indexes.{Indexes};
+ghost use Rattle.mls_tree_index.specs.Indexes.{AnswersNew};
 
 use crate::index::Index;
 use mls_leaf::Bytes;
@@ -15,7 +10,7 @@ impl Index {
     /// Whether no two of these keys and those of the cells are one. The cells may have more keys than those that the
     /// index is of.
     pub fn accepts(&self, cells: &[Slot], key: &Bytes, keys: &[Bytes]) -> bool
-        ensures { (c : List (Option Node)) → IsPart (key_in self.now.kind c) (key_in self.now.kind cells.now) → Indexes c self.now → result ≡ is_distinct same_bytes (key.now ∷ (keys.now ++ keys_of self.now.kind c)) }
+        ensures { AnswersNew self.now cells.now key.now keys.now result }
     {
         if keys.contains(key) || self.holds(cells, key.as_slice()) {
             return false;

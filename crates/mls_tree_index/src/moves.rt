@@ -1,9 +1,9 @@
 //! Moves of many numbers in one pass.
 
 ghost use Rattle.std.specs.Prelude.{◌≡◌, ◌+◌, ◌-◌, ◌≤◌, length, vec_len};
-ghost use Rattle.std.specs.List.{CopiedTo, SameBelow, SameFrom, copy_within};
+ghost use Rattle.std.specs.List.{copy_within};
 ghost use Rattle.std.specs.Vec.{vec_capacity};
-ghost use Rattle.mls_tree_index.specs.Moves.{list_without};
+ghost use Rattle.mls_tree_index.specs.Moves.{list_without, MovesRun};
 ghost use Rattle.mls_tree_index.specs.Gaps.{Ascends, IsWithin, fill_gaps};
 
 use crate::gaps::Gap;
@@ -58,7 +58,7 @@ fn move_run(numbers: &mut Vec<u32>, start: usize, end: usize, dest: usize)
     ensures items { numbers.new.items ≡ copy_within numbers.old.items start end dest }
     ensures len { vec_len numbers.new ≡ vec_len numbers.old }
     ensures capacity { vec_capacity numbers.new ≡ vec_capacity numbers.old }
-    ensures by_index { CopiedTo numbers.old.items numbers.new.items start dest (end - start) × SameBelow numbers.old.items numbers.new.items dest × SameFrom numbers.old.items numbers.new.items (dest + (end - start)) }
+    ensures by_index { MovesRun numbers.old.items numbers.new.items start end dest }
 {
     if dest <= start {
         copy_down(numbers.as_mut_slice(), start, dest, end - start);

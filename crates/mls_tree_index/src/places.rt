@@ -1,14 +1,11 @@
 //! Several cells at once.
 
-ghost use Rattle.std.specs.Prelude.{◌≡◌, ℕ, ◌+◌, ◌≤◌, ◌^◌, nat_eq, true, Option, IfSome, List, length, take};
-ghost use Rattle.mls_leaf.specs.declared.node.Node.{Node};
+ghost use Rattle.std.specs.Prelude.{◌≡◌, ◌+◌, ◌≤◌, ◌^◌, nat_eq, true, IfSome, length, take};
 ghost use Rattle.mls_tree_model.specs.Sets.{is_distinct};
 ghost use Rattle.mls_tree_index.specs.Indexes.{Indexes};
-ghost use Rattle.mls_tree_index.specs.BlankedCells.{HasPlaces, cells_without};
-ghost use Rattle.mls_tree_index.specs.Keys.{key_in};
-ghost use Rattle.mls_tree_index.specs.Order.{Entries};
-ghost use Rattle.mls_tree_index.specs.Moves.{Marks};
-ghost use Rattle.mls_tree_index.specs.Gaps.{IsWithin, Opens};
+ghost use Rattle.mls_tree_index.specs.BlankedCells.{LeavesCells, EntersCells};
+ghost use Rattle.mls_tree_index.specs.Moves.{MarksCells};
+ghost use Rattle.mls_tree_index.specs.Gaps.{IsWithin, OpensCells};
 
 use crate::gaps::{Gap, Gaps};
 use crate::index::Index;
@@ -20,7 +17,7 @@ impl Index {
     /// Where the entries of some cells stand.
     fn positions(&self, cells: &[Slot], places: &[u32]) -> Positions
         requires { length places.now ≤ 32 }
-        ensures { (c : List (Option Node)) → HasPlaces self.now.kind places.now cells.now c → Entries (key_in self.now.kind c) self.now.numbers → Marks self.now.numbers places.now result }
+        ensures { MarksCells places.now cells.now self.now result }
     {
         let mut positions = Positions::new();
         for x in places {
@@ -36,7 +33,7 @@ impl Index {
         requires { is_distinct nat_eq places.now ≡ true }
         ensures kind { self.new.kind ≡ self.old.kind }
         ensures room { self.old.room ≤ self.new.room }
-        ensures left { (c : List (Option Node)) → HasPlaces self.old.kind places.now cells.now c → Indexes c self.old → Indexes (cells_without 0 places.now c) self.new }
+        ensures left { LeavesCells places.now cells.now self.old self.new }
     {
         if let Some((x, rest)) = places.split_first() {
             self.leave(cells, *x);
@@ -49,7 +46,7 @@ impl Index {
         requires { is_distinct nat_eq places.now ≡ true }
         ensures kind { self.new.kind ≡ self.old.kind }
         ensures room { self.old.room ≤ self.new.room }
-        ensures left { (c : List (Option Node)) → HasPlaces self.old.kind places.now cells.now c → Indexes c self.old → Indexes (cells_without 0 places.now c) self.new }
+        ensures left { LeavesCells places.now cells.now self.old self.new }
     {
         if self.repeats > 0 || places.len() > 32 {
             self.leave_each(cells, places);
@@ -78,7 +75,7 @@ impl Index {
         requires { length places.now ≤ 32 }
         ensures few { IfSome result (λ g. length g ≤ length places.now) }
         ensures within { IfSome result (λ g. IsWithin (length self.now.numbers) g) }
-        ensures opens { IfSome result (λ g. (c : List (Option Node)) → HasPlaces self.now.kind places.now cells.now c → Entries (key_in self.now.kind (cells_without 0 places.now c)) self.now.numbers → Opens self.now.kind places.now places.now c self.now.numbers g) }
+        ensures opens { IfSome result (OpensCells places.now cells.now self.now) }
     {
         let mut gaps = Gaps::new();
         for x in places {
@@ -98,7 +95,7 @@ impl Index {
         requires room { length places.now ≤ self.old.room }
         ensures kind { self.new.kind ≡ self.old.kind }
         ensures room { self.old.room ≤ self.new.room + length places.now }
-        ensures entered { (c : List (Option Node)) → HasPlaces self.old.kind places.now cells.now c → Indexes (cells_without 0 places.now c) self.old → Indexes c self.new }
+        ensures entered { EntersCells places.now cells.now self.old self.new }
     {
         if let Some((x, rest)) = places.split_first() {
             self.enter_each(cells, rest);
@@ -112,7 +109,7 @@ impl Index {
         requires room { length places.now ≤ self.old.room }
         ensures kind { self.new.kind ≡ self.old.kind }
         ensures room { self.old.room ≤ self.new.room + length places.now }
-        ensures entered { (c : List (Option Node)) → HasPlaces self.old.kind places.now cells.now c → Indexes (cells_without 0 places.now c) self.old → Indexes c self.new }
+        ensures entered { EntersCells places.now cells.now self.old self.new }
     {
         if self.repeats == 0 && places.len() <= 32 {
             if let Some(gaps) = self.gaps(cells, places) {

@@ -1,9 +1,7 @@
 //! Searches by halves, which begin where keys as good as random stand.
 
-ghost use Rattle.std.specs.Prelude.{◌≡◌, ℕ, ◌-◌, ◌<◌, ◌≤◌, true, false, Option, List, length, get_or};
-ghost use Rattle.std.specs.Ordering.{is_lt};
-ghost use Rattle.mls_tree_index.specs.Keys.{key_in};
-ghost use Rattle.mls_tree_index.specs.Order.{entry_at, entry_cmp, Entries, IsGap, IsPart};
+ghost use Rattle.std.specs.Prelude.{◌≡◌, ◌<◌, ◌≤◌, length};
+ghost use Rattle.mls_tree_index.specs.Indexes.{is_lower_at, IsLowStart, IsHighEnd, IsPlaceOf};
 
 use crate::index::Index;
 use crate::order::is_before;
@@ -29,7 +27,7 @@ impl Index {
     /// Whether the entry at a place comes before this key and number.
     fn is_before_at(&self, cells: &[Slot], place: usize, key: &[u8], x: u32) -> bool
         requires { place < length self.now.numbers }
-        ensures { result ≡ is_lt (entry_cmp (entry_at (key_in self.now.kind cells.now) (get_or self.now.numbers place 0)) (key.now, x)) }
+        ensures { result ≡ is_lower_at self.now cells.now place key.now x }
     {
         is_before(self.kind, cells, self.numbers[place], key, x)
     }
@@ -38,8 +36,8 @@ impl Index {
     fn part_of(&self, cells: &[Slot], key: &[u8], x: u32) -> (usize, usize)
         ensures order { result.0 ≤ result.1 }
         ensures within { result.1 ≤ length self.now.numbers }
-        ensures low { 0 < result.0 → is_lt (entry_cmp (entry_at (key_in self.now.kind cells.now) (get_or self.now.numbers (result.0 - 1) 0)) (key.now, x)) ≡ true }
-        ensures high { result.1 < length self.now.numbers → is_lt (entry_cmp (entry_at (key_in self.now.kind cells.now) (get_or self.now.numbers result.1 0)) (key.now, x)) ≡ false }
+        ensures low { IsLowStart self.now cells.now key.now x result.0 }
+        ensures high { IsHighEnd self.now cells.now key.now x result.1 }
     {
         let count = self.numbers.len();
         let middle = guess(key, count);
@@ -57,7 +55,7 @@ impl Index {
     /// How many entries come before this key and number.
     pub(crate) fn place(&self, cells: &[Slot], key: &[u8], x: u32) -> usize
         ensures bound { result ≤ length self.now.numbers }
-        ensures gap { (at : ℕ → Option (List ℕ)) → IsPart at (key_in self.now.kind cells.now) → Entries at self.now.numbers → IsGap at self.now.numbers (key.now, x) result }
+        ensures gap { IsPlaceOf self.now cells.now key.now x result }
     {
         let (mut start, mut end) = self.part_of(cells, key, x);
         while start < end {

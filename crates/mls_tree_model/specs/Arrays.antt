@@ -101,8 +101,9 @@ padded xs = xs ++ replicate (nodes_in (height_for (length xs)) - length xs) None
 unfoldable pub sent_term : List (Option Node) → Term
 sent_term xs = term_of (height_for (length xs)) (padded xs)
 
--- the same with the checks of its shape and size: 20 without a last node that isn't blank, with a leaf or a parent out
--- of its place, or without a member in the right half; 21 where it is too large
+-- the tree that nodes stand for, with the checks of its shape and size: `TreeShape` (20) without a last node that
+-- isn't blank, with a leaf or a parent out of its place, or without a member in the right half; `TreeFull` (21) where
+-- it is too large
 unfoldable pub from_nodes : ℕ → List (Option Node) → Result Term ℕ
 from_nodes limit xs =
     require 20 (has_last xs)

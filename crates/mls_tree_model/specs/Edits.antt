@@ -15,7 +15,7 @@ abbrev pub with_leaf : ℕ → Parent → Parent
 with_leaf i p =
     record { encryption_key = p.encryption_key; parent_hash = p.parent_hash; unmerged_leaves = rising_with i p.unmerged_leaves }
 
--- the same of a place that may be blank
+-- what stands in a place with leaf i in its list, where it isn't blank
 abbrev pub list_leaf : ℕ → Option Parent → Option Parent
 list_leaf i None = None
 list_leaf i (Some p) = Some (with_leaf i p)

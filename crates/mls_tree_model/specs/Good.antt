@@ -84,7 +84,8 @@ pub record IsGood (rules : Rules) (t : Term) : Type 0 where
   pub capable : is_all_capable rules t ≡ true
   pub fit : is_all_fit rules t ≡ true
 
--- a tree that is good but that keys and clients may repeat in it (25 and 26), as between two proposals of one commit
+-- a tree that is good but that keys (`KeyRepeated`, 25) and clients (`ClientRepeated`, 26) may repeat in it, as between
+-- two proposals of one commit
 pub record IsSound (rules : Rules) (t : Term) : Type 0 where
   pub perfect : is_perfect (height t) t ≡ true
   pub rising : all_parents rises_here 0 t ≡ true
@@ -102,7 +103,8 @@ pub record AreFit (rules : Rules) (i : ℕ) (x : LeafNode) (ks : List (List ℕ)
   pub capable : rules.is_capable x ≡ true
   pub fit : list_all rules.is_fit (x.encryption_key ∷ ks) ≡ true
 
--- and those beside a tree's too: no key of them and no client stands there or twice
+-- a new leaf for place i of a tree, and new parents' keys, pass the checks that are made of each alone; none of these
+-- keys, nor the client, stands in the tree or twice
 pub record AreNew (rules : Rules) (i : ℕ) (x : LeafNode) (ks : List (List ℕ)) (t : Term) : Type 0 where
   pub keys : is_distinct same_bytes (x.encryption_key ∷ (ks ++ encryption_keys t)) ≡ true
   pub clients : is_distinct same_bytes (x.signature_key ∷ signature_keys t) ≡ true

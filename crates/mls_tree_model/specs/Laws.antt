@@ -148,7 +148,8 @@ MembersTrim = (p : ℕ → LeafNode → Bool) (b : ℕ) (t : Term) → all_membe
 
 -- ---- clients
 
--- a merge keeps the list of signature keys where the leaf keeps its own; so clients repeat after it where they did before
+-- a merge keeps the list of signature keys where the leaf keeps its own; so clients repeat after it where they did
+-- before
 abbrev pub ClientsMerge : Type 0
 ClientsMerge = (b : ℕ) (t : Term) (i : ℕ) (ks : List (List ℕ)) (h : List ℕ) (x old : LeafNode) → leaf_at b t i ≡ Some old → x.signature_key ≡ old.signature_key → signature_keys (merge b t i ks h x) ≡ signature_keys t
 
@@ -202,7 +203,7 @@ ListsEnter = (b : ℕ) (t : Term) (i : ℕ) (x : LeafNode) → IsIn b t i → al
 abbrev pub RisesEnter : Type 0
 RisesEnter = (b : ℕ) (t : Term) (i : ℕ) (x : LeafNode) → all_parents rises_here b t ≡ true → all_parents rises_here b (enter b t i x) ≡ true
 
--- and so does a merge
+-- a merge keeps right lists right
 abbrev pub ListsMerge : Type 0
 ListsMerge = (b : ℕ) (t : Term) (i : ℕ) (ks : List (List ℕ)) (h : List ℕ) (x : LeafNode) → all_parents lists_here b t ≡ true → all_parents lists_here b (merge b t i ks h x) ≡ true
 
@@ -222,7 +223,7 @@ RightAdd = (t : Term) (x : LeafNode) → has_good_lists t ≡ true → has_good_
 abbrev pub RightMergePath : Type 0
 RightMergePath = (t : Term) (i : ℕ) (x : LeafNode) (keys : List (List ℕ)) → has_good_lists t ≡ true → has_good_lists (merge_path t i x keys) ≡ true
 
--- and rising
+-- an update keeps rising lists rising
 abbrev pub RisingUpdate : Type 0
 RisingUpdate = (t : Term) (i : ℕ) (x : LeafNode) → all_parents rises_here 0 t ≡ true → all_parents rises_here 0 (update t i x) ≡ true
 
@@ -245,7 +246,7 @@ MembersAreReached = (b : ℕ) (t : Term) → has_leaf t ≡ true → is_reached 
 abbrev pub ResolutionIsIn : Type 0
 ResolutionIsIn = (b : ℕ) (t : Term) (d : ℕ) → all_parents lists_here b t ≡ true → has (resolution b t) d ≡ true → (2 * b ≤ d) × (d < 2 * b + size t)
 
--- and none twice
+-- a resolution has no node twice
 abbrev pub ResolutionIsDistinct : Type 0
 ResolutionIsDistinct = (b : ℕ) (t : Term) → HasLists b t → is_distinct nat_eq (resolution b t) ≡ true
 
@@ -340,11 +341,12 @@ GoodRemove = (rules : Rules) (t : Term) (i : ℕ) → IsGood rules t → i < wid
 abbrev pub GoodAdd : Type 0
 GoodAdd = (rules : Rules) (t : Term) (x : LeafNode) → IsGood rules t → width (add t x) ≤ rules.limit → AreNew rules (place_in t) x [] t → IsGood rules (add t x)
 
--- a merge keeps a good tree, where the path has its keys, the leaf has its parent hash, and leaf and keys pass the checks
+-- a merge keeps a good tree, where the path has its keys, the leaf has its parent hash, and leaf and keys pass the
+-- checks
 abbrev pub GoodMerge : Type 0
 GoodMerge = (rules : Rules) (t : Term) (i : ℕ) (ks : List (List ℕ)) (h : List ℕ) (x : LeafNode) → IsGood rules t → i < width t → IsPath 0 t i ks h x → AreNew rules i x ks (put 0 t i None) → IsGood rules (merge 0 t i ks h x)
 
--- the same with the keys lowest first
+-- a path that is merged keeps a tree good, where its keys are given lowest first
 abbrev pub GoodMergePath : Type 0
 GoodMergePath = (rules : Rules) (t : Term) (i : ℕ) (x : LeafNode) (keys : List (List ℕ)) → IsGood rules t → i < width t → length keys ≡ path_length 0 t i → source_hash x.source ≡ Some (path_parent_hash t i keys) → AreNew rules i x keys (put 0 t i None) → IsGood rules (merge_path t i x keys)
 
@@ -372,7 +374,7 @@ SoundMergePath = (rules : Rules) (t : Term) (i : ℕ) (x : LeafNode) (keys : Lis
 abbrev pub GoodPasses : Type 0
 GoodPasses = (rules : Rules) (t : Term) → IsGood rules t → tree_checks rules t ≡ Ok passed
 
--- and a tree of good shape and size that passes them is good
+-- a tree of good shape and size that passes the checks is good
 abbrev pub GoodFromChecks : Type 0
 GoodFromChecks = (rules : Rules) (t : Term) → is_perfect (height t) t ≡ true → all_parents rises_here 0 t ≡ true → has_good_shape t ≡ true → is_within rules.limit t ≡ true → tree_checks rules t ≡ Ok passed → IsGood rules t
 
@@ -396,7 +398,7 @@ NodeInOrder = (b : ℕ) (t : Term) (n : ℕ) → node_at b t (2 * b + n) ≡ sli
 abbrev pub LeafIsNode : Type 0
 LeafIsNode = (b : ℕ) (t : Term) (i : ℕ) → IsIn b t i → leaf_in (node_at b t (2 * i)) ≡ leaf_at b t i
 
--- and it is the root of the subtree that the way to that index leads to
+-- the node at an index is the root of the subtree that the way to that index leads to
 abbrev pub NodeOfWay : Type 0
 NodeOfWay = (h b : ℕ) (t : Term) (x : ℕ) (p : Path) → is_perfect h t ≡ true → path_to h x ≡ Some p → at_node None (λ c u. Some u) b t (2 * b + x) ≡ under p t
 

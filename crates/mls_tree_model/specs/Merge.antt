@@ -26,7 +26,8 @@ abbrev pub hash_below : Option Parent → ℕ → Term → List ℕ → List ℕ
 hash_below None m s h = h
 hash_below (Some p) m s h = parent_hash p m s
 
--- the same by the other side s of the parent, whose first leaf is m: its resolution decides whether there is a new parent
+-- the new parent, where there is one, by its other side s, whose first leaf is m: the side's resolution decides whether
+-- there is one
 abbrev pub parent_beside : ℕ → Term → List (List ℕ) → List ℕ → Option Parent
 parent_beside m s ks h = new_parent (is_reached m s) ks h
 

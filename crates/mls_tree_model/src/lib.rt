@@ -28,8 +28,8 @@ pub fn laws_of_shape()
     ensures full_trim { FullTrim }
 {}
 
-/// Leaves under each edit: one changes, or none; an added leaf lands in its place, and makes a tree too large just where
-/// it is full; a removal cuts no other member.
+/// Leaves under each edit: one changes, or none; an added leaf lands in its place, and makes a tree too large just
+/// where it is full; a removal cuts no other member.
 pub fn laws_of_leaves()
     ensures put { LeavesOfPut }
     ensures enter { LeavesOfEnter }
@@ -106,8 +106,8 @@ pub fn laws_of_resolutions()
     ensures added { AddedJoins }
 {}
 
-/// Original siblings are blind to adds, each edit keeps parents parent-hash valid where lists are right, and hashes have
-/// 32 bytes.
+/// Original siblings are blind to adds, each edit keeps parents parent-hash valid where lists are right, and hashes
+/// have 32 bytes.
 pub fn laws_of_parent_hashes()
     ensures original_tree { OriginalOfNone }
     ensures original_enter { OriginalOfEnter }

@@ -3,7 +3,7 @@
 ghost use Rattle.std.specs.Prelude.{◌≡◌, Some, IfOk};
 ghost use Rattle.mls_leaf.specs.declared.node.Node.TheVariants.{Leaf as in_leaf, Parent as in_parent};
 
-use crate::slot::Slot;
+use crate::slot::{Slot, share_node};
 use mls_leaf::{LeafNode, Node, ParentNode};
 use std::alloc::{AllocError, Global};
 use std::marker::Model;
@@ -47,23 +47,12 @@ impl Model for SharedParent {
     ghost invariant = { λ s. s.node.value ≡ in_parent (parent_or_empty s.node.value) };
 }
 
-/// A node behind a pointer.
-fn shared(alloc: Global, node: Node) -> Result<Rc<Node>, AllocError>
-    ensures { IfOk result (λ r. r.value ≡ node) }
-{
-    match Rc::new(alloc, node) {
-        Ok(shared) => Ok(shared),
-        // Want of memory: the place behind the pointer, which fails for nothing else.
-        Err(_) => Err(AllocError),
-    }
-}
-
 impl SharedLeaf {
     /// Takes a leaf.
     pub fn new(alloc: Global, leaf: LeafNode) -> Result<SharedLeaf, AllocError>
         ensures { IfOk result (λ s. s ≡ leaf) }
     {
-        let node = shared(alloc, Node::Leaf(leaf))?;
+        let node = share_node(alloc, Node::Leaf(leaf))?;
         Ok(SharedLeaf { node })
     }
 
@@ -82,7 +71,7 @@ impl SharedParent {
     pub fn new(alloc: Global, parent: ParentNode) -> Result<SharedParent, AllocError>
         ensures { IfOk result (λ s. s ≡ parent) }
     {
-        let node = shared(alloc, Node::Parent(parent))?;
+        let node = share_node(alloc, Node::Parent(parent))?;
         Ok(SharedParent { node })
     }
 

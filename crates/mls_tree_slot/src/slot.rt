@@ -34,6 +34,17 @@ impl Model for Slot {
     ghost view = { λ s. option_map (λ shared. shared.value) s.node };
 }
 
+/// Puts a node behind a pointer that places share.
+pub(crate) fn share_node(alloc: Global, node: Node) -> Result<Rc<Node>, AllocError>
+    ensures { IfOk result (λ shared. shared.value ≡ node) }
+{
+    match Rc::new(alloc, node) {
+        Ok(shared) => Ok(shared),
+        // Want of memory: the place behind the pointer, which fails for nothing else.
+        Err(_) => Err(AllocError),
+    }
+}
+
 impl Slot {
     ghost use Rattle.std.specs.Borrow.{sem};
     ghost use Rattle.mls_leaf.specs.declared.node.Node.TheVariants.{Parent as in_parent};
@@ -50,11 +61,8 @@ impl Slot {
     pub fn of(alloc: Global, node: Node) -> Result<Slot, AllocError>
         ensures { IfOk result (λ s. s ≡ Some node) }
     {
-        match Rc::new(alloc, node) {
-            Ok(shared) => Ok(Slot { node: Some(shared) }),
-            // Want of memory: the place behind the pointer, which fails for nothing else.
-            Err(_) => Err(AllocError),
-        }
+        let shared = share_node(alloc, node)?;
+        Ok(Slot { node: Some(shared) })
     }
 
     /// The node in it.
@@ -85,8 +93,8 @@ impl Slot {
         }
     }
 
-    /// The parent in it, which is copied first where another place shares it. `Absent` is answered exactly when there is
-    /// none, also when an allocation fails; without memory for the copy all stays as it was.
+    /// The parent in it, which is copied first where another place shares it. `Absent` is answered exactly
+    /// when there is none, whatever memory there is. Without memory for the copy all stays as it was.
     pub fn parent_mut(&mut self) -> Result<&mut ParentNode, NoParent>
         ensures* writes_back { sem 𝓛 (lends_parent self.entry result) }
         ensures value { MatchResult result

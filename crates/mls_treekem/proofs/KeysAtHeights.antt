@@ -10,7 +10,7 @@ use Rattle.mls_treekem_model.specs.Keys.{Keys, PrivateKeys}
 use Rattle.mls_treekem_model.specs.Follow.{key_above, keys_on_way}
 use Rattle.mls_treekem_model.specs.Make.{one_if, filtered_count, secret_above, key_if, made_keys, HasMade}
 use Rattle.mls_treekem.specs.Secrets.{ArePairsOf}
-use Rattle.mls_treekem.specs.KeysAtHeights.{level_of, with_key_at, with_keys_at, HasKeysAtHeights}
+use Rattle.mls_treekem.specs.KeysAtHeights.{level_of, with_key_at, with_keys_at, HasKeysAt}
 use Rattle.mls_treekem_model.proofs.OnePassLaws.{no_key_above}
 use Rattle.mls_treekem_model.proofs.HeightLaws.{lower, way_height, above_take, above_pass, length-end, reverse-end}
 use Rattle.mls_treemath.specs.Paths.{Path, nodes_in, path_to, longer}
@@ -248,7 +248,7 @@ module _ (c : Crypto) (start : List ℕ) (filtered : List ℕ) (p q : PrivateKey
       raise ∙ ap₂ (λ ns ks. with_keys_at ns ks ys) path keys ∙ ap (with_keys_at (nodes_of c start p.own ss) (keys_of c start p.own (filtered_count ss))) none in
       subst (λ zs. Raises c start p.own ss zs) (sym is) m.raises
 
-  pub raised_is : q.leaf ≡ p.leaf → q.own ≡ p.own → q.above ≡ reverse xs → HasKeysAtHeights c start filtered p q
+  pub raised_is : q.leaf ≡ p.leaf → q.own ≡ p.own → q.above ≡ reverse xs → HasKeysAt c start filtered p q
   raised_is leaf own above =
       let keys : map (λ p. p.sk) qs ≡ map (node_key c) (path_secrets start (length filtered)) = ap (map (λ p. p.sk)) same ∙ are.private in
       record { leaf = leaf; own = own; above = above ∙ ap reverse (raise ∙ ap₂ (with_keys_at filtered) keys none) }

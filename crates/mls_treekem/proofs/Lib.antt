@@ -1,4 +1,3 @@
-pub mod Names
 pub mod Chains
 pub mod Levels
 pub mod Place

@@ -1,5 +1,5 @@
 -- A path that code seals.
-use Rattle.std.proofs.Common.{◌≡◌, ◌≢◌, ℕ, suc, ◌+◌, ◌*◌, ◌%◌, ◌^◌, ◌<◌, ◌≤◌, ◌==◌, not, ◌||◌, if◌then◌else◌, Bool, true, false, List, [], ◌∷◌, ◌++◌, length, map, reverse, get_or, drop, Option, Some, None, Result, Ok, Err, Bor, refl, sym, subst, ◌∙◌, ap, ap₂, arith, eq-eqb, ne_eqb, append-nil, append_assoc}
+use Rattle.std.proofs.Common.{◌≡◌, ◌≢◌, ℕ, suc, ◌+◌, ◌%◌, ◌^◌, ◌<◌, ◌≤◌, ◌==◌, not, if◌then◌else◌, Bool, true, false, List, [], ◌∷◌, ◌++◌, length, map, reverse, get_or, drop, Option, Some, None, Result, Ok, Err, Bor, refl, sym, subst, ◌∙◌, ap, ap₂, arith, eq-eqb, ne_eqb, append-nil, append_assoc}
 use Rattle.std.specs.Prelude.{codes}
 use Rattle.std.specs.List.{slice_get}
 use Rattle.std.specs.Option.{option_map, option_copied}
@@ -138,23 +138,6 @@ module _ (c : Crypto) (context secret : List ℕ) (b : ℕ) (t : Term) (seed us 
     seals_end ge =
         inv ∙ ap (λ ds. onto ys (seal_all c context secret b t (seal_seed seed) i (less (leaf_numbers us) ds))) (drop_all k xs ge)
         ∙ ap Some (append-nil ys)
-
--- ---- whether a node is one of some leaves, from place k on
-
-module _ (xs : List ℕ) (k n : ℕ) where
-  one_more : k < length xs → has (leaf_numbers (drop k xs)) n ≡ ((2 * get_or xs k 0 == n) || has (leaf_numbers (drop (k + 1) xs)) n)
-  unfolding has
-  one_more lt = ap (λ ys. has (leaf_numbers ys) n) (drop_more xs k 0 lt)
-
-  pub found_here : k < length xs → 2 * get_or xs k 0 ≡ n → has (leaf_numbers (drop k xs)) n ≡ has (leaf_numbers xs) n → true ≡ has (leaf_numbers xs) n
-  found_here lt is inv = sym (sym inv ∙ one_more lt ∙ ap (λ b. b || has (leaf_numbers (drop (k + 1) xs)) n) (eq-eqb (2 * get_or xs k 0) n is))
-
-  pub not_here : k < length xs → (2 * get_or xs k 0 ≡ n → ⊥) → has (leaf_numbers (drop k xs)) n ≡ has (leaf_numbers xs) n → has (leaf_numbers (drop (k + 1) xs)) n ≡ has (leaf_numbers xs) n
-  not_here lt other inv = sym (one_more lt ∙ ap (λ b. b || has (leaf_numbers (drop (k + 1) xs)) n) (ne_eqb (2 * get_or xs k 0) n other)) ∙ inv
-
-  pub none_there : length xs ≤ k → has (leaf_numbers (drop k xs)) n ≡ has (leaf_numbers xs) n → false ≡ has (leaf_numbers xs) n
-  unfolding has
-  none_there ge inv = sym (ap (λ ys. has (leaf_numbers ys) n) (drop_all k xs ge)) ∙ inv
 
 -- ---- how many seals there are
 

@@ -1,7 +1,8 @@
 -- Keys put at the heights of their nodes.
-use Rattle.std.specs.Prelude.{◌≡◌, ℕ, ◌-◌, nat_lt, if◌then◌else◌, List, [], ◌∷◌, ◌++◌, length, map, replicate, reverse, unwrap_or, Some, None}
+use Rattle.std.specs.Prelude.{◌≡◌, ℕ, ◌-◌, nat_lt, if◌then◌else◌, List, [], ◌∷◌, ◌++◌, length, map, replicate, reverse, unwrap_or, Some, None, Option}
 use Rattle.mls_treemath.specs.Steps.{level_in}
 use Rattle.mls_suite.specs.Crypto.{Crypto}
+use Rattle.mls_suite.specs.declared.KeyPair.{KeyPair}
 use Rattle.mls_treekem_model.specs.Chain.{path_secrets, node_key}
 use Rattle.mls_treekem_model.specs.Keys.{Keys, PrivateKeys}
 
@@ -20,7 +21,11 @@ with_keys_at (n ∷ ns) [] xs = xs
 with_keys_at (n ∷ ns) (k ∷ ks) xs = with_keys_at ns ks (with_key_at (level_of n) k xs)
 
 -- a member has the keys of these path secrets at the heights of these nodes, and none above its leaf but those
-pub record HasKeysAtHeights (c : Crypto) (start : List ℕ) (nodes : List ℕ) (old new : PrivateKeys) : Type 0 where
+pub record HasKeysAt (c : Crypto) (start : List ℕ) (nodes : List ℕ) (old new : PrivateKeys) : Type 0 where
   pub leaf : new.leaf ≡ old.leaf
   pub own : new.own ≡ old.own
   pub above : new.above ≡ reverse (with_keys_at nodes (map (node_key c) (path_secrets start (length nodes))) [])
+
+-- the key of each node was put at its height
+abbrev pub PutsKeys : List ℕ → List KeyPair → List (Option (List ℕ)) → List (Option (List ℕ)) → Type 0
+PutsKeys nodes pairs old new = new ≡ with_keys_at nodes (map (λ p. p.sk) pairs) old

@@ -1,9 +1,10 @@
 pub mod Secrets
 pub mod Faults
-pub mod Names
 pub mod Place
 pub mod KeysAtHeights
 pub mod Climbing
 pub mod Opening
 pub mod NodeKeys
 pub mod Sealing
+pub mod Following
+pub mod Taking

@@ -1,5 +1,5 @@
 -- What a member's climb along a committer's way is made of.
-use Rattle.std.specs.Prelude.{◌≡◌, ℕ, true, List, [], ◌∷◌, ◌++◌, length, reverse, Option, Some, Result}
+use Rattle.std.specs.Prelude.{◌≡◌, ℕ, true, List, [], ◌∷◌, ◌++◌, length, reverse, Option, Some, Result, Bool}
 use Rattle.mls_wire.specs.Checks.{Answers}
 use Rattle.mls_types.specs.declared.update_path.HpkeCiphertext.{HpkeCiphertext}
 use Rattle.mls_types.specs.declared.update_path.UpdatePathNode.{UpdatePathNode}
@@ -10,12 +10,14 @@ use Rattle.mls_tree_model.specs.Way.{Step, way}
 use Rattle.mls_treekem.specs.declared.error.TreeKemError.{TreeKemError}
 use Rattle.mls_treekem.specs.declared.places.Place.{Place}
 use Rattle.mls_treekem.specs.Climbing.{with_own}
-use Rattle.mls_treekem.specs.Faults.{number_of}
+use Rattle.mls_treekem.specs.Faults.{number_of, AnswersValue}
 use Rattle.mls_treekem_model.specs.Follow.{keys_on_way}
 use Rattle.mls_treekem_model.specs.Keys.{Keys, key_in, PrivateKeys, all_keys}
-use Rattle.mls_treekem_model.specs.Make.{Climb}
-use Rattle.mls_treekem_model.specs.Open.{open_first, open_at_ancestor, climb_open}
+use Rattle.mls_treekem_model.specs.Make.{Climb, climb_to}
+use Rattle.mls_treekem_model.specs.Open.{open_first, open_at_ancestor, climb_open, opened_path, climb_past_parent}
+use Rattle.mls_treekem_model.specs.Height.{keys_on}
 use Rattle.mls_treekem.specs.Place.{step_of}
+use Rattle.mls_tree.specs.Tree.{Tree, term}
 
 -- the key that a member has for a node of a tree whose first leaf is b
 abbrev pub key_of : ℕ → Term → PrivateKeys → ℕ → Option (List ℕ)
@@ -43,3 +45,12 @@ OpensAtAncestor c context added t h q p path result =
 abbrev pub OpensAlong : Crypto → List ℕ → List ℕ → List Step → PrivateKeys → List UpdatePathNode → Result Climb TreeKemError → Type 0
 OpensAlong c context added ss p path result =
     Answers (λ m. with_own p.own m) number_of (climb_open c context added ss p.leaf (keys_on_way ss (all_keys p)) (reverse path)) result
+
+-- a member takes the commit secret and its new keys of a path that leaf i made (RFC 9420, 7.5)
+abbrev pub OpensPath : Crypto → List ℕ → List ℕ → Tree → ℕ → List UpdatePathNode → PrivateKeys → PrivateKeys → Result (List ℕ) TreeKemError → Type 0
+OpensPath c context added tree i path old new result =
+    Answers (λ s. climb_to s new) number_of (opened_path c context added (term tree) i old.leaf (keys_on (term tree) old) path) result
+
+-- a member climbs past a parent, for which the last node of the path is made where it is filtered
+abbrev pub PassesParent : Crypto → Bool → List UpdatePathNode → Climb → Result Climb TreeKemError → Type 0
+PassesParent c filtered path climb result = AnswersValue (climb_past_parent c filtered (reverse path) climb) result

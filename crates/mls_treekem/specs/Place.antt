@@ -1,8 +1,8 @@
 -- The parents over a leaf by their numbers, as code goes over them.
-use Rattle.std.specs.Prelude.{◌≡◌, ℕ, zero, suc, ◌+◌, ◌-◌, ◌*◌, ◌^◌, ◌<◌, ◌≤◌, nat_lt, if◌then◌else◌, true, List, [], ◌∷◌, length, map, None}
+use Rattle.std.specs.Prelude.{◌≡◌, ℕ, zero, suc, ◌+◌, ◌-◌, ◌*◌, ◌^◌, ◌<◌, ◌≤◌, nat_lt, if◌then◌else◌, true, List, [], ◌∷◌, ◌&&◌, length, map, None, nat_le, Bool, Option}
 use Rattle.mls_tree_model.specs.Term.{Term, Leaf, size, is_perfect}
 use Rattle.mls_tree_model.specs.Arrays.{parent_in, node_at}
-use Rattle.mls_tree_model.specs.Places.{at_node, resolution_at}
+use Rattle.mls_tree_model.specs.Places.{at_node, resolution_at, key_at}
 use Rattle.mls_tree_model.specs.Resolution.{resolution}
 use Rattle.mls_tree_model.specs.Way.{Step, way}
 use Rattle.mls_treekem.specs.declared.places.Place.{Place}
@@ -41,3 +41,15 @@ pub record IsWay (t : Term) (i : ℕ) (ps : List Place) : Type 0 where
   pub steps : map (step_of t) ps ≡ way 0 t i
   pub placed : ArePlaced t ps
   pub low : length ps ≤ 31
+
+-- what stands at some places of a whole tree
+abbrev pub steps_at : Term → List Place → List Step
+steps_at t ps = map (step_of t) ps
+
+-- whether leaf i is below the child beside
+abbrev pub is_beside : Place → ℕ → Bool
+is_beside p i = nat_le p.first i && nat_lt i (p.first + p.leaves)
+
+-- the encryption key of node n, which is below the child beside or is that child: none where it is blank or elsewhere
+abbrev pub key_beside : Term → Place → ℕ → Option (List ℕ)
+key_beside t p n = key_at p.first (subtree_at t p.beside) n

@@ -1,9 +1,10 @@
 //! A climb over a leaf, from a path secret upwards (RFC 9420, 7.4).
 
-ghost use Rattle.std.specs.Prelude.{◌≡◌, ◌+◌, ◌&&◌, nat_le, nat_lt, IfOk};
+ghost use Rattle.std.specs.Prelude.{◌≡◌, IfOk};
 ghost use Rattle.mls_wire.specs.Checks.{Answers};
 ghost use Rattle.mls_treekem_model.specs.Make.{climb_past_key, climb_past_blank};
 ghost use Rattle.mls_treekem.specs.Faults.{number_of};
+ghost use Rattle.mls_treekem.specs.Place.{is_beside};
 
 use crate::TreeKemError;
 use crate::places::Place;
@@ -63,7 +64,7 @@ impl Climb {
 impl Place {
     /// Whether a leaf is below the child beside.
     pub(crate) fn is_beside(&self, leaf: u32) -> bool
-        ensures { result ≡ nat_le self.now.first leaf && nat_lt leaf (self.now.first + self.now.leaves) }
+        ensures { result ≡ is_beside self.now leaf }
     {
         self.first <= leaf && leaf - self.first < self.leaves
     }

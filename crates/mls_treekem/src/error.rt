@@ -2,6 +2,7 @@
 
 ghost use Rattle.std.specs.Prelude.{◌≡◌};
 
+use mls_wire::refusal_name;
 use std::alloc::{AllocError, AllocFailed};
 use thiserror::Error;
 
@@ -29,7 +30,8 @@ pub enum TreeKemError {
 }
 
 impl TreeKemError {
-    ghost use Rattle.mls_treekem.specs.Faults.{number_of, name_of};
+    ghost use Rattle.mls_wire.specs.Names.{refusal_name};
+    ghost use Rattle.mls_treekem.specs.Faults.{number_of};
 
     /// The number of the refusal.
     pub fn number(self) -> u8
@@ -47,16 +49,9 @@ impl TreeKemError {
 
     /// The name of the refusal, as it is printed.
     pub fn name(self) -> &'static str
-        ensures { result.now ≡ name_of self }
+        ensures { result.now ≡ refusal_name (number_of self) }
     {
-        match self {
-            TreeKemError::OutOfMemory => "OutOfMemory",
-            TreeKemError::OpenFailed => "OpenFailed",
-            TreeKemError::SecretLength => "SecretLength",
-            TreeKemError::PathKeyMismatch => "PathKeyMismatch",
-            TreeKemError::KeyMissing => "KeyMissing",
-            TreeKemError::BadKey => "BadKey",
-        }
+        refusal_name(self.number())
     }
 }
 

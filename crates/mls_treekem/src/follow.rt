@@ -1,12 +1,10 @@
 //! A member's keys after edits of the tree.
 
-ghost use Rattle.std.specs.Prelude.{◌≡◌, ◌≤◌, ◌++◌, if◌then◌else◌, None, length, map, reverse, unwrap_or, OnOk, OnErr};
+ghost use Rattle.std.specs.Prelude.{◌≡◌, ◌≤◌, if◌then◌else◌, None, length, unwrap_or, OnOk, OnErr};
 ghost use Rattle.std.specs.Option.{option_copied};
-ghost use Rattle.mls_tree.specs.Tree.{term};
 ghost use Rattle.mls_treekem_model.specs.Follow.{key_above};
-ghost use Rattle.mls_treekem_model.specs.Height.{follow_above, HasFollowed};
 ghost use Rattle.mls_treekem_model.specs.Keys.{all_keys};
-ghost use Rattle.mls_treekem.specs.Place.{step_of};
+ghost use Rattle.mls_treekem.specs.Following.{AddsKept, FollowsEdit};
 
 use crate::PrivatePath;
 use crate::places::{Place, parents_over};
@@ -40,7 +38,7 @@ impl PrivatePath {
         above: &mut Vec<Option<Secret>>,
     ) -> Result<(), OutOfMemory>
         requires { length places.now ≤ 31 }
-        ensures { OnOk result (reverse above.new.items ≡ follow_above (map (step_of (term tree.now)) places.now) (all_keys self.now) ++ reverse above.old.items) }
+        ensures { OnOk result (AddsKept tree.now places.now self.now above.old above.new) }
     {
         if let Some((place, below)) = places.split_first() {
             self.push_kept_keys(tree, below, above)?;
@@ -49,14 +47,14 @@ impl PrivatePath {
         Ok(())
     }
 
-    /// Drops the keys of nodes that are blank or cut off in the edited tree, and takes the leaf's new key where there is
-    /// one (RFC 9420, 7.7 and 12.1). Refused for want of memory alone, and then the keys are as before.
+    /// Drops the keys of nodes that are blank or cut off in the edited tree, and takes the leaf's new key where there
+    /// is one (RFC 9420, 7.7 and 12.1). Refused for want of memory alone, and then the keys are as before.
     pub fn follow_edit(
         &mut self,
         tree: &PublicTree,
         own_key: Option<&Secret>,
     ) -> Result<(), OutOfMemory>
-        ensures ok { OnOk result (HasFollowed (option_copied own_key.entry) (term tree.now) self.old self.new) }
+        ensures ok { OnOk result (FollowsEdit own_key.entry tree.now self.old self.new) }
         ensures err { OnErr result (self.new ≡ self.old) }
     {
         let alloc = *self.above.allocator();

@@ -1,13 +1,11 @@
 //! The path secret that a joiner is sent (RFC 9420, 12.4.3.1).
 
-ghost use Rattle.std.specs.Prelude.{◌≡◌, ◌≤◌, length, map, IfOk};
+ghost use Rattle.std.specs.Prelude.{◌≡◌, ◌≤◌, length, IfOk};
 ghost use Rattle.std.specs.Option.{option_copied};
-ghost use Rattle.mls_tree_model.specs.Way.{way};
 ghost use Rattle.mls_tree.specs.Tree.{term};
 ghost use Rattle.mls_treekem_model.specs.Make.{filtered_count};
-ghost use Rattle.mls_treekem_model.specs.Join.{secret_among};
-ghost use Rattle.mls_treekem.specs.Place.{step_of, ArePlaced};
-ghost use Rattle.mls_treekem.specs.Secrets.{IsSentOf};
+ghost use Rattle.mls_treekem.specs.Place.{ArePlaced, steps_at};
+ghost use Rattle.mls_treekem.specs.Secrets.{secret_over, AnswersSecret, AnswersSent};
 
 use crate::PathSecrets;
 use crate::open::is_filtered;
@@ -21,7 +19,7 @@ use std::alloc::Global;
 fn filtered_count(tree: &PublicTree, places: &[Place]) -> usize
     requires low { length places.now ≤ 31 }
     requires placed { ArePlaced (term tree.now) places.now }
-    ensures count { result ≡ filtered_count (map (step_of (term tree.now)) places.now) }
+    ensures count { result ≡ filtered_count (steps_at (term tree.now) places.now) }
     ensures few { result ≤ length places.now }
 {
     let Some((place, below)) = places.split_first() else {
@@ -40,7 +38,7 @@ impl PathSecrets {
     fn secret_over(&self, tree: &PublicTree, places: &[Place], joiner: u32) -> Option<&Secret>
         requires low { length places.now ≤ 31 }
         requires placed { ArePlaced (term tree.now) places.now }
-        ensures { option_copied result ≡ secret_among (map (step_of (term tree.now)) places.now) joiner self.now.secrets.items }
+        ensures { option_copied result ≡ secret_over self.now (term tree.now) places.now joiner }
     {
         let Some((place, below)) = places.split_first() else {
             return None;
@@ -62,8 +60,8 @@ impl PathSecrets {
         committer: u32,
         joiner: u32,
     ) -> Result<Option<&Secret>, OutOfMemory>
-        ensures answer { IfOk result (λ o. option_copied o ≡ secret_among (way 0 (term tree.now) committer) joiner self.now.secrets.items) }
-        ensures chain { IfOk result (λ o. IsSentOf (term tree.now) committer joiner self.now.secrets.items (option_copied o)) }
+        ensures answer { IfOk result (AnswersSecret (term tree.now) committer joiner self.now) }
+        ensures chain { IfOk result (AnswersSent (term tree.now) committer joiner self.now) }
     {
         let places = parents_over(alloc, tree, committer)?;
         Ok(self.secret_over(tree, &places, joiner))

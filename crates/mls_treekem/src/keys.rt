@@ -1,10 +1,11 @@
 //! Which keys a member has.
 
-ghost use Rattle.std.specs.Prelude.{◌≡◌, ◌+◌, ◌^◌, ◌≤◌, ◌++◌, None, slice_index_or, IfOk, OnOk};
+ghost use Rattle.std.specs.Prelude.{◌≡◌, ◌+◌, ◌^◌, ◌≤◌, None, slice_index_or, IfOk, OnOk};
 ghost use Rattle.mls_treekem_model.specs.Follow.{key_above};
-ghost use Rattle.mls_treekem_model.specs.Height.{pairs_from, as_pairs, ArePairs};
+ghost use Rattle.mls_treekem_model.specs.Height.{ArePairs};
 ghost use Rattle.mls_treekem_model.specs.Keys.{all_keys};
 ghost use Rattle.mls_treekem_model.specs.Pairs.{pair_of};
+ghost use Rattle.mls_treekem.specs.Following.{AddsPairs, AddsPairsFrom};
 
 use crate::PrivatePath;
 use crate::places::side_of;
@@ -31,7 +32,7 @@ fn push_pair(
     key: Option<Secret>,
     pairs: &mut Vec<(u64, Secret)>,
 ) -> Result<(), OutOfMemory>
-    ensures { OnOk result (as_pairs pairs.new.items ≡ as_pairs pairs.old.items ++ pair_of node key) }
+    ensures { OnOk result (AddsPairs (pair_of node key) pairs.old pairs.new) }
 {
     if let Some(secret) = key {
         pairs.push((node, secret))?;
@@ -59,7 +60,7 @@ impl PrivatePath {
     ) -> Result<(), OutOfMemory>
         requires low { height ≤ 32 }
         requires fits { first + 2 ^ height ≤ 2 ^ 32 }
-        ensures { OnOk result (as_pairs pairs.new.items ≡ as_pairs pairs.old.items ++ pairs_from height first self.now.leaf (all_keys self.now)) }
+        ensures { OnOk result (AddsPairsFrom height first self.now pairs.old pairs.new) }
     {
         let leaf = self.leaf() as u64;
         if height == 0 {

@@ -7,7 +7,6 @@ mod error;
 mod follow;
 mod joiner;
 mod keys;
-mod laws;
 mod make;
 mod open;
 mod places;
@@ -18,7 +17,6 @@ mod seeds;
 mod take;
 
 pub use error::TreeKemError;
-pub use laws::treekem_names_by_number;
 pub use private_path::PrivatePath;
 pub use seal::{seal_path, seal_count_of};
 pub use secrets::PathSecrets;

@@ -1,8 +1,8 @@
 //! A committer's new keys.
 
-ghost use Rattle.std.specs.Prelude.{◌≡◌, ◌++◌, None, length, map, replicate, IfOk, OnOk, OnErr};
+ghost use Rattle.std.specs.Prelude.{◌≡◌, ◌++◌, None, length, replicate, IfOk, OnOk, OnErr};
 ghost use Rattle.mls_treekem.specs.Secrets.{AreOfChain};
-ghost use Rattle.mls_treekem.specs.KeysAtHeights.{level_of, with_key_at, with_keys_at, HasKeysAtHeights};
+ghost use Rattle.mls_treekem.specs.KeysAtHeights.{level_of, with_key_at, HasKeysAt, PutsKeys};
 ghost use Rattle.mls_treekem_model.specs.Make.{HasMade};
 
 use crate::{PathSecrets, PrivatePath};
@@ -48,7 +48,7 @@ fn put_keys(
     pairs: &[KeyPair],
     above: &mut Vec<Option<Secret>>,
 ) -> Result<(), OutOfMemory>
-    ensures { OnOk result (above.new.items ≡ with_keys_at nodes.now (map (λ p. p.sk) pairs.now) above.old.items) }
+    ensures { OnOk result (PutsKeys nodes.now pairs.now above.old.items above.new.items) }
 {
     let Some((node, other_nodes)) = nodes.split_first() else {
         return Ok(());
@@ -62,15 +62,15 @@ fn put_keys(
 
 impl PrivatePath {
     /// Makes a path of the filtered direct path of the leaf, from its first path secret, and keeps its private keys in
-    /// place of those above the leaf (RFC 9420, 7.4 and 7.5). Refused for want of memory alone, and then the keys are as
-    /// before.
+    /// place of those above the leaf (RFC 9420, 7.4 and 7.5). Refused for want of memory alone, and then the keys are
+    /// as before.
     pub fn make_path<S: Suite>(
         &mut self,
         start: &Secret,
         filtered: &[u32],
     ) -> Result<PathSecrets, OutOfMemory>
         ensures made { IfOk result (AreOfChain S.crypto start.now (length filtered.now)) }
-        ensures pins { OnOk result (HasKeysAtHeights S.crypto start.now filtered.now self.old self.new) }
+        ensures pins { OnOk result (HasKeysAt S.crypto start.now filtered.now self.old self.new) }
         ensures keys { OnOk result (HasMade S.crypto start.now filtered.now self.old self.new) }
         ensures err { OnErr result (self.new ≡ self.old) }
     {

@@ -1,26 +1,24 @@
 //! What a member takes of a path that it receives (RFC 9420, 7.5 and 7.6).
 
-ghost use Rattle.std.specs.Prelude.{◌≡◌, ◌+◌, ◌*◌, ◌^◌, ◌<◌, ◌≤◌, ◌==◌, not, length, map, reverse, IfOk, OnErr};
-ghost use Rattle.mls_wire.specs.Checks.{Answers, AnswersOutright};
+ghost use Rattle.std.specs.Prelude.{◌≡◌, ◌+◌, ◌^◌, ◌<◌, ◌≤◌, not, length, reverse, IfOk, OnErr};
+ghost use Rattle.mls_wire.specs.Checks.{AnswersOutright};
 ghost use Rattle.mls_tree_model.specs.Places.{resolution_at};
 ghost use Rattle.mls_tree_model.specs.Resolution.{is_empty};
 ghost use Rattle.mls_tree.specs.Tree.{term};
-ghost use Rattle.mls_treekem_model.specs.Make.{climb_to};
-ghost use Rattle.mls_treekem.specs.Faults.{number_of};
-ghost use Rattle.mls_treekem_model.specs.Open.{secret_of, nodes_below, climb_past_parent, opened_path};
+ghost use Rattle.mls_treekem.specs.Faults.{number_of, AnswersValue};
+ghost use Rattle.mls_treekem_model.specs.Open.{secret_of, nodes_below};
 ghost use Rattle.mls_treekem_model.specs.Open.{secret_in};
-ghost use Rattle.mls_treekem_model.specs.Height.{keys_on};
-ghost use Rattle.mls_treekem.specs.Opening.{IsKeyOf, AreKeysUpTo, OpensFirst, OpensAtAncestor, OpensAlong};
-ghost use Rattle.mls_treekem.specs.Place.{step_of, IsPlaced, ArePlaced};
+ghost use Rattle.mls_treekem.specs.Opening.{IsKeyOf, AreKeysUpTo, OpensFirst, OpensAtAncestor, OpensAlong, OpensPath, PassesParent};
+ghost use Rattle.mls_treekem.specs.Place.{IsPlaced, ArePlaced, steps_at};
 
 use crate::climb::Climb;
 use crate::places::{Place, parents_over, side_of};
-use crate::seal::is_leaf_among;
 use crate::{PrivatePath, TreeKemError};
 use mls_types::{HpkeCiphertext, UpdatePathNode};
 use mls_kdf::Secret;
 use mls_suite::{OutOfMemory, Suite, decrypt_with_label};
 use mls_tree::PublicTree;
+use mls_tree_array::is_leaf_among;
 use std::alloc::Global;
 
 /// The path secret that these bytes are: `SecretLength` (33) unless there are 32.
@@ -41,7 +39,7 @@ fn open_secret<S: Suite>(
     context: &[u8],
 ) -> Result<Secret, TreeKemError>
     requires { length context.now < 2 ^ 30 }
-    ensures { Answers (λ s. s) number_of (secret_in S.crypto context.now key.now sealed.now) result }
+    ensures { AnswersValue (secret_in S.crypto context.now key.now sealed.now) result }
 {
     let opened = decrypt_with_label::<S>(
         alloc,
@@ -83,7 +81,7 @@ fn climb_past_parent<S: Suite>(
     path: &[UpdatePathNode],
     climb: Climb,
 ) -> Result<Climb, TreeKemError>
-    ensures { Answers (λ m. m) number_of (climb_past_parent S.crypto is_filtered (reverse path.now) climb) result }
+    ensures { PassesParent S.crypto is_filtered path.now climb result }
 {
     if !is_filtered {
         return Ok(climb.climb_past_blank()?);
@@ -132,7 +130,10 @@ impl PrivatePath {
     ) -> Result<Secret, TreeKemError>
         requires context { length context.now < 2 ^ 30 }
         requires low { height ≤ 31 }
-        ensures { OpensFirst S.crypto context.now height first self.now added.now nodes.now ciphertexts.now result }
+        ensures {
+            OpensFirst S.crypto context.now height first self.now added.now nodes.now
+            ciphertexts.now result
+        }
     {
         let alloc = *self.above.allocator();
         let mut sealed = ciphertexts;
@@ -175,7 +176,10 @@ impl PrivatePath {
         requires context { length context.now < 2 ^ 30 }
         requires low { height ≤ 31 }
         requires placed { IsPlaced (term tree.now) height place.now }
-        ensures { OpensAtAncestor S.crypto context.now added.now (term tree.now) height place.now self.now path.now result }
+        ensures {
+            OpensAtAncestor S.crypto context.now added.now (term tree.now) height place.now self.now
+            path.now result
+        }
     {
         let Some((node, _)) = path.split_last() else {
             return Err(TreeKemError::OpenFailed);
@@ -206,7 +210,10 @@ impl PrivatePath {
         requires context { length context.now < 2 ^ 30 }
         requires low { length places.now ≤ 31 }
         requires placed { ArePlaced (term tree.now) places.now }
-        ensures { OpensAlong S.crypto context.now added.now (map (step_of (term tree.now)) places.now) self.now path.now result }
+        ensures {
+            OpensAlong S.crypto context.now added.now (steps_at (term tree.now) places.now) self.now
+            path.now result
+        }
     {
         let Some((place, below)) = places.split_first() else {
             return Err(TreeKemError::OpenFailed);
@@ -222,12 +229,12 @@ impl PrivatePath {
         climb_past_parent::<S>(is_filtered, path, climb)
     }
 
-    /// Takes the commit secret and the new keys of a path that leaf `committer` made, whose nodes come the lowest first
-    /// (RFC 9420, 7.5). The tree is the one after the commit's edits, with the path merged or not, and `added` are the
-    /// leaves that the commit added. Keys of nodes that the path blanks are dropped. `OpenFailed` (32) where no
-    /// ciphertext is for the member or its own doesn't open, `SecretLength` (33) where what it holds hasn't 32 bytes,
-    /// `PathKeyMismatch` (34) where a derived public key isn't the one that the path gives. After a refusal the keys are
-    /// as before. A context has fewer than 2^30 bytes.
+    /// Takes the commit secret and the new keys of a path that leaf `committer` made, whose nodes come the lowest
+    /// first (RFC 9420, 7.5). The tree is the one after the commit's edits, with the path merged or not, and `added`
+    /// are the leaves that the commit added. Keys of nodes that the path blanks are dropped. `OpenFailed` (32) where
+    /// no ciphertext is for the member or its own doesn't open, `SecretLength` (33) where what it holds hasn't 32
+    /// bytes, `PathKeyMismatch` (34) where a derived public key isn't the one that the path gives. After a refusal the
+    /// keys are as before. A context has fewer than 2^30 bytes.
     pub fn open_path<S: Suite>(
         &mut self,
         tree: &PublicTree,
@@ -237,7 +244,10 @@ impl PrivatePath {
         context: &[u8],
     ) -> Result<Secret, TreeKemError>
         requires { length context.now < 2 ^ 30 }
-        ensures answer { Answers (λ s. climb_to s self.new) number_of (opened_path S.crypto context.now added.now (term tree.now) committer self.old.leaf (keys_on (term tree.now) self.old) path.now) result }
+        ensures answer {
+            OpensPath S.crypto context.now added.now tree.now committer path.now self.old self.new
+            result
+        }
         ensures leaf { self.new.leaf ≡ self.old.leaf }
         ensures err { OnErr result (self.new ≡ self.old) }
     {

@@ -1,20 +1,13 @@
 //! A commit's path, sealed to those who need it (RFC 9420, 7.5 and 7.6).
 
-ghost use Rattle.std.specs.Prelude.{◌≡◌, ℕ, ◌<◌, ◌≤◌, ◌^◌, ◌%◌, List, length, map, reverse, IfOk, IfErr};
+ghost use Rattle.std.specs.Prelude.{◌≡◌, ℕ, ◌<◌, ◌^◌, ◌%◌, length, IfOk, IfErr};
 ghost use Rattle.std.specs.Option.{option_copied};
-ghost use Rattle.mls_wire.specs.Checks.{require_some, Answers};
-ghost use Rattle.mls_tree_model.specs.Sets.{has, leaf_numbers, less};
-ghost use Rattle.mls_tree_model.specs.Places.{key_at};
-ghost use Rattle.mls_tree_model.specs.Way.{way, path_length};
 ghost use Rattle.mls_tree.specs.Tree.{term};
 ghost use Rattle.mls_treekem.specs.NodeKeys.{encryption_key_of};
-ghost use Rattle.mls_treekem.specs.Faults.{number_of, IsMemoryOrKey};
-ghost use Rattle.mls_treekem.specs.Secrets.{AreOfChain, public_keys};
-ghost use Rattle.mls_treekem.specs.Sealing.{sealed_beside, SealsNode, sealed_along};
-ghost use Rattle.mls_treekem_model.specs.Make.{filtered_count};
-ghost use Rattle.mls_treekem.specs.Place.{subtree_at, step_of, IsPlaced, ArePlaced};
-ghost use Rattle.mls_treekem_model.specs.Seal.{seal_to, seal_count, sealed_path, sealed_path_with};
-ghost use Rattle.mls_treekem_model.specs.Seeds.{seal_seed, seal_count_of};
+ghost use Rattle.mls_treekem.specs.Faults.{IsMemoryOrKey};
+ghost use Rattle.mls_treekem.specs.Sealing.{SealsTo, SealsBeside, SealsAt, HasSeals, SealsAlong, HasNodes, HasSealsAlong, HasSealCount, SealsPath, SealsChain};
+ghost use Rattle.mls_treekem.specs.Place.{IsPlaced, ArePlaced, key_beside};
+ghost use Rattle.mls_treekem_model.specs.Seeds.{seal_count_of};
 
 use crate::places::{Place, parents_over};
 use crate::{PathSecrets, TreeKemError, seal_seed};
@@ -23,6 +16,7 @@ use mls_kdf::Secret;
 use mls_leaf::{Bytes, Items, Node};
 use mls_suite::{Suite, encrypt_with_label};
 use mls_tree::PublicTree;
+use mls_tree_array::is_leaf_among;
 use std::alloc::Global;
 
 /// The low 32 bits of a number.
@@ -44,18 +38,6 @@ pub fn seal_count_of(nodes: &[UpdatePathNode]) -> u32
     count
 }
 
-/// Whether a node is one of these leaves.
-pub(crate) fn is_leaf_among(leaves: &[u32], node: u64) -> bool
-    ensures { result ≡ has (leaf_numbers leaves.now) node }
-{
-    for leaf in leaves {
-        if 2 * u64::from(*leaf) == node {
-            return true;
-        }
-    }
-    false
-}
-
 /// The encryption key of what stands at a node.
 fn encryption_key_of(node: Option<&Node>) -> Option<&[u8]>
     ensures { option_copied result ≡ encryption_key_of (option_copied node.entry) }
@@ -72,7 +54,7 @@ impl Place {
     /// elsewhere. An entry of a list of unmerged leaves may be anywhere.
     fn key_beside<'a>(&self, tree: &'a PublicTree, node: u64) -> Option<&'a [u8]>
         requires { (h : ℕ) × IsPlaced (term tree.now) h self.now }
-        ensures { option_copied result ≡ key_at self.now.first (subtree_at (term tree.now) self.now.beside) node }
+        ensures { option_copied result ≡ key_beside (term tree.now) self.now node }
     {
         let start = 2 * u64::from(self.first);
         let end = start + 2 * u64::from(self.leaves) - 1;
@@ -92,7 +74,7 @@ fn seal_to<S: Suite>(
     rnd: &Secret,
 ) -> Result<HpkeCiphertext, TreeKemError>
     requires { length context.now < 2 ^ 30 }
-    ensures { Answers (λ x. x) number_of (require_some 36 (seal_to S.crypto context.now secret.now (option_copied key.entry) rnd.now)) result }
+    ensures { SealsTo S.crypto context.now secret.now key.entry rnd.now result }
 {
     let Some(pk) = key else {
         return Err(TreeKemError::BadKey);
@@ -129,7 +111,7 @@ impl Sealer<'_> {
     ) -> Result<Vec<HpkeCiphertext>, TreeKemError>
         requires context { length self.now.context.now < 2 ^ 30 }
         requires placed { (h : ℕ) × IsPlaced (term self.now.tree.now) h place.now }
-        ensures { Answers (λ v. v.items) number_of (sealed_beside S.crypto self.now.context.now self.now.added.now self.now.seed.now (term self.now.tree.now) place.now reached.now secret.now first) result }
+        ensures { SealsBeside S.crypto self.now place.now reached.now secret.now first result }
     {
         let mut sealed = Vec::new(alloc);
         let mut number = first;
@@ -157,8 +139,8 @@ impl Sealer<'_> {
     ) -> Result<UpdatePathNode, TreeKemError>
         requires context { length self.now.context.now < 2 ^ 30 }
         requires placed { (h : ℕ) × IsPlaced (term self.now.tree.now) h place.now }
-        ensures answer { SealsNode S.crypto self.now.context.now self.now.added.now self.now.seed.now (term self.now.tree.now) place.now reached.now self.now.path.now count first result }
-        ensures seals { IfOk result (λ x. length x.ciphertexts ≡ length (less (leaf_numbers self.now.added.now) reached.now)) }
+        ensures answer { SealsAt S.crypto self.now place.now reached.now count first result }
+        ensures seals { IfOk result (HasSeals self.now reached.now) }
         ensures refused { IfErr result IsMemoryOrKey }
     {
         let Some(secret) = self.path.secrets.get(count) else {
@@ -183,9 +165,9 @@ impl Sealer<'_> {
     ) -> Result<Vec<UpdatePathNode>, TreeKemError>
         requires context { length self.now.context.now < 2 ^ 30 }
         requires placed { ArePlaced (term self.now.tree.now) places.now }
-        ensures answer { Answers (λ v. v.items) number_of (sealed_along S.crypto self.now.context.now self.now.added.now self.now.seed.now self.now.path.now.secrets.items (public_keys self.now.path.now) (map (step_of (term self.now.tree.now)) places.now)) result }
-        ensures count { IfOk result (λ v. length v.items ≡ filtered_count (map (step_of (term self.now.tree.now)) places.now)) }
-        ensures seals { IfOk result (λ v. seal_count_of v.items ≡ seal_count self.now.added.now (map (step_of (term self.now.tree.now)) places.now)) }
+        ensures answer { SealsAlong S.crypto self.now places.now result }
+        ensures count { IfOk result (HasNodes self.now places.now) }
+        ensures seals { IfOk result (HasSealsAlong self.now places.now) }
         ensures refused { IfErr result IsMemoryOrKey }
     {
         let Some((place, below)) = places.split_first() else {
@@ -206,11 +188,11 @@ impl Sealer<'_> {
 }
 
 /// The nodes of the path that a committer sends, the lowest first: the public key of each node of its filtered direct
-/// path, and its path secret sealed to the resolution of its child on the copath, without the leaves just added
-/// (RFC 9420, 7.5 and 7.6). The tree is the one after the edits, before the path is merged or after; `path` has a secret
-/// and a key pair for each node of the filtered direct path, the lowest first, and any more are left out; the context is
-/// the group's, below 2^30 bytes; `seed` is the commit's. Refused with `BadKey` (36) exactly where a node that a secret is
-/// sealed to has no key, or one that isn't fit, or `path` has too few secrets or key pairs.
+/// path, and its path secret sealed to the resolution of its child on the copath, without the leaves just added (RFC
+/// 9420, 7.5 and 7.6). The tree is the one after the edits, before the path is merged or after; `path` has a secret
+/// and a key pair for each node of the filtered direct path, the lowest first, and any more are left out; the context
+/// is the group's, below 2^30 bytes; `seed` is the commit's. Refused with `BadKey` (36) exactly where a node that a
+/// secret is sealed to has no key, or one that isn't fit, or `path` has too few secrets or key pairs.
 pub fn seal_path<S: Suite>(
     alloc: Global,
     tree: &PublicTree,
@@ -221,9 +203,13 @@ pub fn seal_path<S: Suite>(
     seed: &Secret,
 ) -> Result<Vec<UpdatePathNode>, TreeKemError>
     requires { length context.now < 2 ^ 30 }
-    ensures answer { Answers (λ v. v.items) number_of (sealed_path_with S.crypto context.now added.now (seal_seed seed.now) path.now.secrets.items (public_keys path.now) (term tree.now) committer) result }
-    ensures chain { (start : List ℕ) → AreOfChain S.crypto start (path_length 0 (term tree.now) committer) path.now → Answers (λ v. v.items) number_of (sealed_path S.crypto context.now added.now (seal_seed seed.now) (term tree.now) committer start) result }
-    ensures seals { IfOk result (λ v. seal_count_of v.items ≡ seal_count added.now (way 0 (term tree.now) committer)) }
+    ensures answer {
+        SealsPath S.crypto context.now added.now seed.now path.now tree.now committer result
+    }
+    ensures chain {
+        SealsChain S.crypto context.now added.now seed.now path.now tree.now committer result
+    }
+    ensures seals { IfOk result (HasSealCount added.now tree.now committer) }
     ensures refused { IfErr result IsMemoryOrKey }
 {
     let places = parents_over(alloc, tree, committer)?;

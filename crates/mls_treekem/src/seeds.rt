@@ -1,5 +1,5 @@
-//! What calls make of their seeds, by DeriveSecret and ExpandWithLabel (RFC 9420, 8) under labels of our own. Nothing here
-//! takes memory.
+//! What calls make of their seeds, by DeriveSecret and ExpandWithLabel (RFC 9420, 8) under labels of our own. Nothing
+//! here takes memory.
 
 ghost use Rattle.std.specs.Prelude.{◌≡◌};
 ghost use Rattle.mls_treekem_model.specs.Seeds.{init_seed, leaf_seed, sign_seed, path_seed, seal_seed};

@@ -1,17 +1,12 @@
 //! What a joiner takes from a path secret, and which keys it must have.
 
-ghost use Rattle.std.specs.Prelude.{◌≡◌, ◌+◌, ◌^◌, ◌≤◌, true, false, length, map, replicate, reverse, None, IfOk, OnErr, MatchResult};
+ghost use Rattle.std.specs.Prelude.{◌≡◌, ◌+◌, ◌^◌, ◌≤◌, length, IfOk, OnErr};
 ghost use Rattle.std.specs.Option.{option_copied};
-ghost use Rattle.mls_wire.specs.Checks.{Answers};
 ghost use Rattle.mls_tree_model.specs.Sets.{has};
 ghost use Rattle.mls_tree.specs.Tree.{term};
-ghost use Rattle.mls_treekem.specs.Climbing.{with_own};
-ghost use Rattle.mls_treekem_model.specs.Make.{climb_to};
-ghost use Rattle.mls_treekem.specs.Faults.{number_of};
-ghost use Rattle.mls_treekem_model.specs.Join.{climb_past_present, require_present, climb_take, is_due, is_complete, take_answer};
-ghost use Rattle.mls_treekem_model.specs.Join.{has_due_on, has_due};
-ghost use Rattle.mls_treekem.specs.Place.{places_from, step_of, ArePlaced};
-ghost use Rattle.mls_treekem.specs.declared.error.TreeKemError.TheVariants.{KeyMissing};
+ghost use Rattle.mls_treekem_model.specs.Join.{is_due};
+ghost use Rattle.mls_treekem.specs.Place.{ArePlaced};
+ghost use Rattle.mls_treekem.specs.Taking.{StartsClimb, ClimbsPast, TakesAlong, ClimbsFrom, TakesSecret, has_due_below, AnswersDue, is_complete_at};
 
 use crate::climb::Climb;
 use crate::make::push_none;
@@ -30,7 +25,8 @@ fn lists(parent: &ParentNode, leaf: u32) -> bool
     parent.unmerged_leaves().contains(&leaf)
 }
 
-/// The climb at the parent where the ways part, which is so far above the leaves: 34 where it is blank.
+/// The climb at the parent where the ways part, which is so far above the leaves: `PathKeyMismatch` (34) where it is
+/// blank.
 fn start_climb(
     alloc: Global,
     tree: &PublicTree,
@@ -38,7 +34,7 @@ fn start_climb(
     height: usize,
     secret: &Secret,
 ) -> Result<Climb, TreeKemError>
-    ensures { Answers (λ m. m) number_of (require_present (step_of (term tree.now) place.now).parent (record { secret = secret.now; keys = replicate height None })) result }
+    ensures { StartsClimb tree.now place.now height secret.now result }
 {
     if !place.has_parent(tree) {
         return Err(TreeKemError::PathKeyMismatch);
@@ -51,14 +47,15 @@ fn start_climb(
     })
 }
 
-/// The climb past a parent: a blank one takes no step; 34 where another one lists the joiner or hasn't the derived key.
+/// The climb past a parent: a blank one takes no step; `PathKeyMismatch` (34) where another one lists the joiner or
+/// hasn't the derived key.
 fn climb_past_parent<S: Suite>(
     tree: &PublicTree,
     place: &Place,
     joiner: u32,
     climb: Climb,
 ) -> Result<Climb, TreeKemError>
-    ensures { Answers (λ m. m) number_of (climb_past_present S.crypto joiner (step_of (term tree.now) place.now).parent climb) result }
+    ensures { ClimbsPast S.crypto joiner tree.now place.now climb result }
 {
     let Some(parent) = place.parent(tree) else {
         return Ok(climb.climb_past_blank()?);
@@ -69,7 +66,8 @@ fn climb_past_parent<S: Suite>(
     climb.climb_past_key::<S>(parent.encryption_key())
 }
 
-/// The joiner's climb over the parents above the signer, from the one where the ways part: 34 where there is none.
+/// The joiner's climb over the parents above the signer, from the one where the ways part: `PathKeyMismatch` (34) where
+/// there is none.
 fn climb_along<S: Suite>(
     alloc: Global,
     tree: &PublicTree,
@@ -78,7 +76,7 @@ fn climb_along<S: Suite>(
     secret: &Secret,
 ) -> Result<Climb, TreeKemError>
     requires { ArePlaced (term tree.now) places.now }
-    ensures { Answers (λ m. m) number_of (climb_take S.crypto (map (step_of (term tree.now)) places.now) joiner (replicate (length places.now) None) secret.now) result }
+    ensures { TakesAlong S.crypto tree.now places.now joiner secret.now result }
 {
     let Some((place, lower)) = places.split_first() else {
         return Err(TreeKemError::PathKeyMismatch);
@@ -101,9 +99,9 @@ fn is_due(parent: Option<&ParentNode>, joiner: u32, key: &Option<Secret>) -> boo
     }
 }
 
-/// Whether so is each of these parents; their keys come the lowest one's first.
+/// Whether each of these parents is blank, lists the joiner, or has a key; the keys come the lowest one's first.
 fn is_complete(tree: &PublicTree, places: &[Place], joiner: u32, above: &[Option<Secret>]) -> bool
-    ensures { result ≡ is_complete joiner (map (step_of (term tree.now)) places.now) (reverse above.now) }
+    ensures { result ≡ is_complete_at joiner tree.now places.now above.now }
 {
     let Some((place, lower)) = places.split_first() else {
         return true;
@@ -122,7 +120,7 @@ impl PrivatePath {
         signer: u32,
         secret: &Secret,
     ) -> Result<Climb, TreeKemError>
-        ensures answer { Answers (λ m. with_own self.now.own m) number_of (take_answer S.crypto (term tree.now) signer self.now.leaf self.now.own secret.now) result }
+        ensures answer { ClimbsFrom S.crypto tree.now signer self.now secret.now result }
         ensures low { IfOk result (λ m. length m.keys ≤ 31) }
     {
         if signer >= tree.leaf_count() {
@@ -139,19 +137,20 @@ impl PrivatePath {
         Ok(climb)
     }
 
-    /// Takes a path secret as a joiner, in a whole tree with the signer's path: the secret is that of the parent where the
-    /// ways of signer and joiner part, from there up each parent that isn't blank takes a step, and the keys that were
-    /// held above the leaf are dropped (RFC 9420, 12.4.3.1). Answers the commit secret. Refused with `PathKeyMismatch` (34)
-    /// where signer and joiner are not two leaves of the tree, the first of those parents is blank, or one lists the
-    /// joiner or has another public key than the derived one; then with `KeyMissing` (35) where a parent over the joiner
-    /// isn't blank, doesn't list it and got no key. After a refusal the keys are as before.
+    /// Takes a path secret as a joiner, in a whole tree with the signer's path: the secret is that of the parent where
+    /// the ways of signer and joiner part, from there up each parent that isn't blank takes a step, and the keys that
+    /// were held above the leaf are dropped (RFC 9420, 12.4.3.1). Answers the commit secret. Refused with
+    /// `PathKeyMismatch` (34) where signer and joiner are not two leaves of the tree, the first of those parents is
+    /// blank, or one lists the joiner or has another public key than the derived one; then with `KeyMissing` (35)
+    /// where a parent over the joiner isn't blank, doesn't list it and got no key. After a refusal the keys are as
+    /// before.
     pub fn take_secret<S: Suite>(
         &mut self,
         tree: &PublicTree,
         signer: u32,
         secret: &Secret,
     ) -> Result<Secret, TreeKemError>
-        ensures answer { Answers (λ s. climb_to s self.new) number_of (take_answer S.crypto (term tree.now) signer self.old.leaf self.old.own secret.now) result }
+        ensures answer { TakesSecret S.crypto tree.now signer secret.now self.old self.new result }
         ensures leaf { self.new.leaf ≡ self.old.leaf }
         ensures own { self.new.own ≡ self.old.own }
         ensures err { OnErr result (self.new ≡ self.old) }
@@ -165,7 +164,7 @@ impl PrivatePath {
     fn has_due_keys(&self, tree: &PublicTree, height: u32, first: u32) -> bool
         requires low { height ≤ 31 }
         requires fits { first + 2 ^ height ≤ 2 ^ 31 }
-        ensures { result ≡ has_due_on self.now (map (step_of (term tree.now)) (places_from height first self.now.leaf)) }
+        ensures { result ≡ has_due_below height first tree.now self.now }
     {
         if height == 0 {
             return true;
@@ -184,10 +183,10 @@ impl PrivatePath {
     }
 
     /// Checks the keys of a joiner that gets no path secret, in a whole tree (RFC 9420, 12.4.3.1). Refused with
-    /// `KeyMissing` (35) exactly where a parent over it isn't blank, doesn't list it and has no key here; the parents over
-    /// a leaf outside the tree are those over its last leaf. Takes no memory.
+    /// `KeyMissing` (35) exactly where a parent over it isn't blank, doesn't list it and has no key here; the parents
+    /// over a leaf outside the tree are those over its last leaf. Takes no memory.
     pub fn require_keys(&self, tree: &PublicTree) -> Result<(), TreeKemError>
-        ensures { MatchResult result (λ _. has_due (term tree.now) self.now ≡ true) (λ e. (e ≡ KeyMissing) × (has_due (term tree.now) self.now ≡ false)) }
+        ensures { AnswersDue tree.now self.now result }
     {
         if !self.has_due_keys(tree, tree.leaf_count().trailing_zeros(), 0) {
             return Err(TreeKemError::KeyMissing);

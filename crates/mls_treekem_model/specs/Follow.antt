@@ -20,7 +20,7 @@ TameAlong j [] (s ∷ ss) = ⊥
 TameAlong j (s ∷ ss) [] = ⊥
 TameAlong j (s ∷ ss) (s' ∷ ss') = TameAt j s.parent s'.parent × TameAlong j ss ss'
 
--- so it does at each parent over leaf j, and keeps the leaf
+-- an edit is tame at each parent over leaf j, and keeps the leaf
 pub record Tame (j b : ℕ) (t t' : Term) : Type 0 where
   pub along : TameAlong j (way b t j) (way b t' j)
   pub leaf : leaf_at b t j ≡ leaf_at b t' j

@@ -13,8 +13,8 @@ use Rattle.mls_treekem_model.specs.Keys.{Keys, rest, leaf_only, PrivateKeys, all
 use Rattle.mls_treekem_model.specs.Make.{Climb, climb_past_blank, climb_past_node, filtered_count, secret_above}
 use Rattle.mls_treekem_model.specs.Follow.{keys_on_way}
 
--- past a parent: a blank one takes no step, another one doesn't list the joiner and has the derived public key, else 34
--- (RFC 9420, 12.4.3.1)
+-- a climb past a parent: a blank one takes no step, another one doesn't list the joiner and has the derived public key,
+-- else `PathKeyMismatch` (34) (RFC 9420, 12.4.3.1)
 abbrev pub climb_past_present : Crypto → ℕ → Option Parent → Climb → Result Climb ℕ
 climb_past_present c j None m = Ok (climb_past_blank m)
 climb_past_present c j (Some p) m =
@@ -22,7 +22,7 @@ climb_past_present c j (Some p) m =
     then Ok (climb_past_node c m)
     else Err 34
 
--- the parent where the ways part isn't blank, else 34
+-- the parent where the ways part isn't blank, else `PathKeyMismatch` (34)
 abbrev pub require_present : Option Parent → Climb → Result Climb ℕ
 require_present None m = Err 34
 require_present (Some p) m = Ok m
@@ -40,7 +40,7 @@ abbrev pub is_due : ℕ → Option Parent → Option (List ℕ) → Bool
 is_due j None o = true
 is_due j (Some p) o = has p.unmerged_leaves j || is_some o
 
--- and so is each one of a way
+-- each parent of a way is blank, lists the joiner, or has a key
 unfoldable pub is_complete : ℕ → List Step → Keys → Bool
 is_complete j [] ks = true
 is_complete j (s ∷ ss) [] = false
@@ -52,7 +52,7 @@ unfoldable pub take_keys : Crypto → Term → ℕ → ℕ → List ℕ → List
 take_keys c t i j sk secret =
     climb_take c (way 0 t i) j (leaf_only (way 0 t j) sk) secret >>= λ m. if is_complete j (way 0 t j) m.keys then Ok m else Err 35
 
--- the same with any signer: 34 where it is outside the tree
+-- what joiner j takes with any signer: `PathKeyMismatch` (34) where it is outside the tree
 unfoldable pub take_answer : Crypto → Term → ℕ → ℕ → List ℕ → List ℕ → Result Climb ℕ
 take_answer c t i j sk secret = if nat_lt i (width t) then take_keys c t i j sk secret else Err 34
 

@@ -139,7 +139,7 @@ KeyWhereHeld = (c : Crypto) (b : ℕ) (t : Term) (j : ℕ) (ks : Keys) (d : ℕ)
 abbrev pub OneEntry : Type 0
 OneEntry = (c : Crypto) (added : List ℕ) (b : ℕ) (t : Term) (j : ℕ) (ks : Keys) → ListsBelow b t → IsIn b t j → Exact c b t j ks → has added j ≡ false → held_count (key_in b t j ks) (less (leaf_numbers added) (resolution b t)) ≡ 1
 
--- and among the targets of all nodes of a path
+-- of the targets of all nodes of a path, a member has the key of just one
 abbrev pub OneTarget : Type 0
 OneTarget = (c : Crypto) (added : List ℕ) (b : ℕ) (t : Term) (i j : ℕ) (ks : Keys) → AreTwo b t i j → ListsBelow b t → Exact c b t j ks → has added j ≡ false → held_count (key_in b t j ks) (flat_map (targets added) (filtered_way b t i)) ≡ 1
 
@@ -160,7 +160,7 @@ PairsFound = (b : ℕ) (t : Term) (j : ℕ) (ks : Keys) (d : ℕ) → IsIn b t j
 abbrev pub KeysAreChain : Type 0
 KeysAreChain = (c : Crypto) (ss : List Step) (start : List ℕ) → path_keys c ss start ≡ chain_keys c start (filtered_count ss)
 
--- the same with the lowest first
+-- the public keys of path secrets that are given lowest first are those of their chain
 abbrev pub KeysOfSecrets : Type 0
 KeysOfSecrets = (c : Crypto) (start : List ℕ) (k : ℕ) → reverse (map (node_public c) (path_secrets start k)) ≡ chain_keys c start k
 
@@ -252,7 +252,8 @@ LeafHasDue = (j : ℕ) (ss : List Step) (sk : List ℕ) → (is_complete j ss (k
 abbrev pub LeafExact : Type 0
 LeafExact = (c : Crypto) (t : Term) (j : ℕ) (x : LeafNode) (sk : List ℕ) → leaf_at 0 t j ≡ Some x → c.public sk ≡ x.encryption_key → is_complete j (way 0 t j) (keys_on_way (way 0 t j) (Some sk ∷ [])) ≡ true → Exact c 0 t j (keys_on_way (way 0 t j) (Some sk ∷ []))
 
--- in a tree with a path that was made, a joiner that the parents over it list takes the committer's commit secret and keys
+-- in a tree with a path that was made, a joiner that the parents over it list takes the committer's commit secret and
+-- keys
 abbrev pub TakeAgree : Type 0
 TakeAgree = (c : Crypto) (t : Term) (i j : ℕ) (h : List ℕ) (x y : LeafNode) (start sk own : List ℕ) → AreTwo 0 t i j → leaf_at 0 t j ≡ Some y → c.public own ≡ y.encryption_key → AllList j (way 0 t j) →
     take_keys c (merge 0 t i (path_keys c (way 0 t i) start) h x) i j own (secret_for (way 0 t i) j start)

@@ -45,15 +45,15 @@ climb_make c ss start sk = record { secret = secret_above ss start; keys = made_
 abbrev pub climb_past_node : Crypto → Climb → Climb
 climb_past_node c m = record { secret = next_secret m.secret; keys = Some (node_key c m.secret) ∷ m.keys }
 
--- past a node that has none
+-- a climb past a node that has no key
 abbrev pub climb_past_blank : Climb → Climb
 climb_past_blank m = record { secret = m.secret; keys = None ∷ m.keys }
 
--- past a node with this public key: 34 where the derived one differs (RFC 9420, 7.5)
+-- a climb past a node with this public key: `PathKeyMismatch` (34) where the derived one differs (RFC 9420, 7.5)
 abbrev pub climb_past_key : Crypto → List ℕ → Climb → Result Climb ℕ
 climb_past_key c k m = if bytes_eq (node_public c m.secret) k then Ok (climb_past_node c m) else Err 34
 
--- past a parent, where the filtered direct path takes it in and where it doesn't
+-- a climb past a parent, where the filtered direct path takes it in and where it doesn't
 abbrev pub climb_past : Crypto → Bool → Climb → Climb
 climb_past c true m = climb_past_node c m
 climb_past c false m = climb_past_blank m

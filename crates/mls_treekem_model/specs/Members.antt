@@ -75,7 +75,7 @@ pub record IsReceived (c : Crypto) (context added : List ℕ) (t : Term) (i : �
   pub secret : climb.secret ≡ chain start (path_length 0 t i)
   pub exact : Exact c 0 (with_nodes t i x path) p.leaf climb.keys
 
--- so does each member that wasn't just added, of a path that was made
+-- each member that wasn't just added receives a path that was made
 abbrev pub MadeReceived : Type 0
 MadeReceived = (c : Crypto) → Lawful c → (context : List ℕ) (added : List ℕ) (rnd : ℕ → List ℕ) (t : Term) (i : ℕ) (x : LeafNode) (start : List ℕ) (p : PrivateKeys) (path : List UpdatePathNode) →
     length start ≡ 32 → AreTwo 0 t i p.leaf → ListsBelow 0 t → HasExact c t p → has added p.leaf ≡ false → sealed_path c context added rnd t i start ≡ Ok path → IsReceived c context added t i x start p path

@@ -23,7 +23,7 @@ nodes_below true xs = rest xs
 unfoldable pub unseal_secret : Crypto → List ℕ → List ℕ → HpkeCiphertext → Option (List ℕ)
 unseal_secret c context sk x = decrypt_with_label c sk (codes "UpdatePathNode") context x.kem_output x.ciphertext
 
--- a path secret has 32 bytes, else 33
+-- a path secret has 32 bytes, else `SecretLength` (33)
 abbrev pub secret_of : List ℕ → Result (List ℕ) ℕ
 secret_of secret = if length secret == 32 then Ok secret else Err 33
 
@@ -31,7 +31,7 @@ secret_of secret = if length secret == 32 then Ok secret else Err 33
 abbrev pub secret_in : Crypto → List ℕ → List ℕ → HpkeCiphertext → Result (List ℕ) ℕ
 secret_in c context k x = require_some 32 (unseal_secret c context k x) >>= secret_of
 
--- the same by a key, where there is one
+-- the path secret in a ciphertext by a key, where there is one
 abbrev pub open_with : Crypto → List ℕ → Option (List ℕ) → HpkeCiphertext → Result (List ℕ) ℕ → Result (List ℕ) ℕ
 open_with c context (Some k) x later = secret_in c context k x
 open_with c context None x later = later
@@ -59,8 +59,9 @@ opened_along c context added (s ∷ ss) j ks ns =
     if is_beside s j then open_first c context (key_in s.first s.other j (rest ks)) (targets added s) (first_ciphertexts ns)
     else opened_along c context added ss j (rest ks) (nodes_below (is_filtered s) ns)
 
--- and of the path of leaf i in a whole tree, whose nodes come the lowest first: 32 where no ciphertext is for the member
--- or its own doesn't open, 33 where that isn't 32 bytes (RFC 9420, 7.6)
+-- the path secret that is opened of the path of leaf i in a whole tree, whose nodes come the lowest first: `OpenFailed`
+-- (32) where no ciphertext is for the member or its own doesn't open, `SecretLength` (33) where that isn't 32 bytes
+-- (RFC 9420, 7.6)
 unfoldable pub opened_secret : Crypto → List ℕ → List ℕ → Term → ℕ → ℕ → Keys → List UpdatePathNode → Result (List ℕ) ℕ
 opened_secret c context added t i j ks path = opened_along c context added (way 0 t i) j ks (reverse path)
 
@@ -71,7 +72,8 @@ filtered_from (s ∷ ss) j = one_if (is_filtered s) (if is_beside s j then 0 els
 
 -- ---- and above it
 
--- past a filtered parent: the derived public key is the one that the path gives, else 34 (RFC 9420, 7.5)
+-- a climb past a filtered parent: the derived public key is the one that the path gives, else `PathKeyMismatch` (34)
+-- (RFC 9420, 7.5)
 abbrev pub climb_past_filtered : Crypto → List UpdatePathNode → Climb → Result Climb ℕ
 climb_past_filtered c [] m = Err 34
 climb_past_filtered c (n ∷ ns) m = climb_past_key c n.encryption_key m

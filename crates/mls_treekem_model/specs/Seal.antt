@@ -46,7 +46,7 @@ pub record IsSealedTo (c : Crypto) (context secret : List ℕ) (key : Option (Li
   pub key_is : key ≡ Some pk
   pub seals : seal_secret c context secret pk rnd ≡ Some x
 
--- and so are some to the keys of some nodes of a tree, in order
+-- some ciphertexts are sealed to the keys of some nodes of a tree, in order
 unfoldable pub IsSealedToAll : Crypto → List ℕ → List ℕ → ℕ → Term → List ℕ → List HpkeCiphertext → Type 0
 IsSealedToAll c context secret b t [] [] = Unit {0}
 IsSealedToAll c context secret b t [] (x ∷ xs) = ⊥
@@ -102,8 +102,8 @@ seal_along c context added rnd (s ∷ ss) start =
     (with_ciphertexts (node_public c secret) (seal_all c context secret s.first s.other rnd (seal_count added ss) (targets added s)))
     (seal_along c context added rnd ss start)
 
--- the nodes of the path that leaf i of a whole tree sends, the lowest first; 36 where a key is missing or not fit
--- (RFC 9420, 7.5 and 7.6)
+-- the nodes of the path that leaf i of a whole tree sends, the lowest first; `BadKey` (36) where a key is missing or
+-- not fit (RFC 9420, 7.5 and 7.6)
 unfoldable pub sealed_path : Crypto → List ℕ → List ℕ → (ℕ → List ℕ) → Term → ℕ → List ℕ → Result (List UpdatePathNode) ℕ
 sealed_path c context added rnd t i start = require_some 36 (option_map reverse (seal_along c context added rnd (way 0 t i) start))
 
@@ -123,7 +123,7 @@ seal_path_with c context added rnd secrets keys (s ∷ ss) =
     (node_with c context s.first s.other rnd (seal_count added ss) (targets added s) (slice_get secrets (filtered_count ss)) (slice_get keys (filtered_count ss)))
     (seal_path_with c context added rnd secrets keys ss)
 
--- the nodes of the path of leaf i of a whole tree, the lowest first; 36 where there is none
+-- the nodes of the path of leaf i of a whole tree, the lowest first; `BadKey` (36) where there is none
 unfoldable pub sealed_path_with : Crypto → List ℕ → List ℕ → (ℕ → List ℕ) → List (List ℕ) → List (List ℕ) → Term → ℕ → Result (List UpdatePathNode) ℕ
 sealed_path_with c context added rnd secrets keys t i = require_some 36 (option_map reverse (seal_path_with c context added rnd secrets keys (way 0 t i)))
 

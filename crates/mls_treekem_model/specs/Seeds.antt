@@ -11,7 +11,7 @@ use Rattle.mls_types.specs.declared.update_path.UpdatePathNode.{UpdatePathNode}
 unfoldable pub init_seed : List ℕ → List ℕ
 init_seed seed = derive_secret seed (codes "seed init")
 
--- and of a leaf's key
+-- the input key material of a leaf's key
 unfoldable pub leaf_seed : List ℕ → List ℕ
 leaf_seed seed = derive_secret seed (codes "seed leaf")
 

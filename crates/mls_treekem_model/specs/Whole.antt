@@ -54,7 +54,7 @@ keys_of_path c t i start = map (node_public c) (path_secrets start (path_length 
 abbrev pub SealedKeys : Type 0
 SealedKeys = (c : Crypto) (context : List ℕ) (added : List ℕ) (rnd : ℕ → List ℕ) (t : Term) (i : ℕ) (start : List ℕ) (path : List UpdatePathNode) → sealed_path c context added rnd t i start ≡ Ok path → map (λ n. n.encryption_key) path ≡ keys_of_path c t i start
 
--- and each of its nodes a ciphertext for each node that its secret is sealed to
+-- each node of a sealed path has a ciphertext for each node that its secret is sealed to
 abbrev pub SealedLengths : Type 0
 SealedLengths = (c : Crypto) (context : List ℕ) (added : List ℕ) (rnd : ℕ → List ℕ) (t : Term) (i : ℕ) (start : List ℕ) (path : List UpdatePathNode) → sealed_path c context added rnd t i start ≡ Ok path → map (λ n. length n.ciphertexts) path ≡ reverse (map (λ s. length (targets added s)) (filtered_way 0 t i))
 
@@ -89,7 +89,7 @@ SecretMerged = (c : Crypto) (context : List ℕ) (added : List ℕ) (t : Term) (
 abbrev pub MadeExact : Type 0
 MadeExact = (c : Crypto) (t : Term) (i : ℕ) (x : LeafNode) (start sk : List ℕ) → c.public sk ≡ x.encryption_key → Exact c 0 (merge_path t i x (keys_of_path c t i start)) i (made_keys c (way 0 t i) start sk)
 
--- and they are the same read in that tree, as is the number of its secrets
+-- a committer's keys are the same read in the merged tree, as is the number of its secrets
 abbrev pub MadeMerged : Type 0
 MadeMerged = (c : Crypto) (t : Term) (i : ℕ) (x : LeafNode) (keys : List (List ℕ)) (start sk : List ℕ) → made_keys c (way 0 (merge_path t i x keys) i) start sk ≡ made_keys c (way 0 t i) start sk
 
@@ -146,7 +146,7 @@ abbrev pub SealedByNumber : Type 0
 SealedByNumber = (c : Crypto) (context : List ℕ) (added : List ℕ) (rnd : ℕ → List ℕ) (t : Term) (i : ℕ) (start : List ℕ) (path : List UpdatePathNode) → sealed_path c context added rnd t i start ≡ Ok path →
     (k : ℕ) (x : HpkeCiphertext) → slice_get (ciphertexts_in path) k ≡ Some x → IsSealedUnder c context rnd k x
 
--- and there are as many as are counted for the number of the first seal behind the path
+-- a path has as many ciphertexts as are counted for the number of the first seal behind it
 abbrev pub SealsAreCounted : Type 0
 SealsAreCounted = (path : List UpdatePathNode) → length (ciphertexts_in path) ≡ seal_count_of path
 
@@ -160,8 +160,8 @@ RefusedUnopened = (c : Crypto) (context : List ℕ) (added : List ℕ) (t : Term
 abbrev pub keys_from : Term → ℕ → ℕ → List UpdatePathNode → List (List ℕ)
 keys_from t i j path = take (filtered_from (way 0 t i) j) (map (λ n. n.encryption_key) (reverse path))
 
--- where a secret was opened, the path is accepted just where those keys are the public keys of the chain from it, and then
--- the commit secret is the chain's end; else 34
+-- where a secret was opened, the path is accepted just where those keys are the public keys of the chain from it, and
+-- then the commit secret is the chain's end; else 34
 pub record IsJudged (c : Crypto) (context added : List ℕ) (t : Term) (i j : ℕ) (ks : Keys) (path : List UpdatePathNode) (secret : List ℕ) : Type 0 where
   pub right : keys_from t i j path ≡ chain_keys c secret (filtered_from (way 0 t i) j) → (m : Climb) × (opened_path c context added t i j ks path ≡ Ok m) × (m.secret ≡ chain secret (filtered_from (way 0 t i) j))
   pub wrong : (keys_from t i j path ≡ chain_keys c secret (filtered_from (way 0 t i) j) → ⊥) → opened_path c context added t i j ks path ≡ Err 34
@@ -191,8 +191,8 @@ unfoldable pub parents_over : List Step → ℕ → List Parent
 parents_over [] j = []
 parents_over (s ∷ ss) j = with_parent s.parent (if is_beside s j then [] else parents_over ss j)
 
--- a path secret fits a way over leaf j (RFC 9420, 12.4.3.1): the parent where the ways part is there, it and those above
--- don't list j and have the public keys of the chain from this secret, and those below on j's way list j
+-- a path secret fits a way over leaf j (RFC 9420, 12.4.3.1): the parent where the ways part is there, it and those
+-- above don't list j and have the public keys of the chain from this secret, and those below on j's way list j
 pub record FitsOver (c : Crypto) (j : ℕ) (secret : List ℕ) (ss : List Step) : Type 0 where
   pub step : Step
   pub lowest : Parent

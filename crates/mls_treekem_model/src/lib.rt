@@ -1,5 +1,5 @@
-//! Private paths on ratchet trees as terms (RFC 9420, 7.4 to 7.7 and 12.4.3.1): definitions and their laws. Each function
-//! does nothing, and its contract is the laws of one subject.
+//! Private paths on ratchet trees as terms (RFC 9420, 7.4 to 7.7 and 12.4.3.1): definitions and their laws. Each
+//! function does nothing, and its contract is the laws of one subject.
 #![tactic(auto)]
 
 ghost use Rattle.mls_tree_model.specs.Laws.{MembersAreReached};
@@ -138,9 +138,9 @@ pub fn laws_of_paths()
     ensures counted { SealsAreCounted }
 {}
 
-/// In whole trees: any path, whoever made it, is accepted just where its keys are those of the secret that was opened, and
-/// a joiner takes any path secret just where the parents over it have the keys of its chain and don't list the joiner, and
-/// those on its own side list it.
+/// In whole trees: any path, whoever made it, is accepted just where its keys are those of the secret that was opened,
+/// and a joiner takes any path secret just where the parents over it have the keys of its chain and don't list the
+/// joiner, and those on its own side list it.
 pub fn laws_of_any_path()
     ensures unopened { RefusedUnopened }
     ensures judged { JudgedByKeys }

@@ -38,14 +38,14 @@ bit_on_left h q b i first from low =
     let first' : b ≡ q * (leaves_in h + leaves_in h) = first ∙ ap (λ n. q * n) two in
     bit_low (leaves_in h) q (i - b) i h (width_perfect h) (omega arith) (omega arith)
 
--- and the right side those whose bit h is 1
+-- of a tree of height h + 1 whose first leaf is b, the right side has the leaves whose bit h is 1
 pub bit_on_right : (h q b i : ℕ) → b ≡ q * leaves_in (suc h) → b + leaves_in h ≤ i → i < b + leaves_in (suc h) → bit_at i h ≡ 1
 bit_on_right h q b i first from low =
     let two : leaves_in (suc h) ≡ leaves_in h + leaves_in h = leaves_in-suc h in
     let first' : b ≡ q * (leaves_in h + leaves_in h) = first ∙ ap (λ n. q * n) two in
     bit_high (leaves_in h) q (i - (b + leaves_in h)) i h (width_perfect h) (omega arith) (omega arith)
 
--- so a leaf is on the left by comparison exactly where it is by its bit
+-- a leaf is on the left by comparison exactly where it is by its bit
 pub side_is_bit : (h q b i : ℕ) → b ≡ q * leaves_in (suc h) → b ≤ i → i < b + leaves_in (suc h) → nat_lt i (b + leaves_in h) ≡ not (bit_at i h == 1)
 side_is_bit h q b i first from within = elim (cases_lt i (b + leaves_in h)) [
   | inl low ↦ lt-ltb i (b + leaves_in h) low ∙ sym (ap (λ n. not (n == 1)) (bit_on_left h q b i first from low))
@@ -94,7 +94,7 @@ way_from-bits (suc h) q b i first from within =
           ∙ ap (λ n. (n == 1) ∷ leaf_path h i) (sym (bit_on_right h q b i first high within))
     ]
 
--- and it leads to leaf i, counted from the first node of the tree
+-- the way by bits leads to leaf i, counted from the first node of the tree
 pub index_of-way_from : (h b i : ℕ) → b ≤ i → i < b + leaves_in h → 2 * b + index_of h (way_from h b i) ≡ 2 * i
 unfolding way_from index_of leaves_in
 index_of-way_from zero b i from within = omega (arith, root_of-zero)

@@ -37,7 +37,7 @@ pair_then : {A T V : Type 0} (t : Format T) (k : (A × T) × List ℕ → Result
 pair_then t k (Ok x) = next_then x.0 k (t.read x.1)
 pair_then t k (Err e) = refl
 
--- behind the same field
+-- two readings that agree behind a field agree in front of it
 behind_alike : {A T C V : Type 0} (a : Format A) (t : Format T) (c : Format C) (k : (A × T) × List ℕ → Result V ℕ) (l : (A × C) × List ℕ → Result V ℕ)
     → ((x : A) (bytes : List ℕ) → (t.read bytes >>= λ y. k ((x, y.0), y.1)) ≡ (c.read bytes >>= λ y. l ((x, y.0), y.1)))
     → (bytes : List ℕ) → ((a ⨾ t).read bytes >>= k) ≡ ((a ⨾ c).read bytes >>= l)

@@ -35,7 +35,7 @@ pub sender_back : (x : Senders) → sender_parts (make_sender x) ≡ x
 sender_back (inl leaf) = refl
 sender_back (inr x) = absurd x
 
--- uint8 type, then 1 (member): uint32 leaf index; another type is 7
+-- uint8 type, then 1 (member): uint32 leaf index; another type is `BadTag` (7)
 unfoldable pub sender : Format Sender
 sender = seen (by_uint8 (case 1 uint32 (others 7))) make_sender sender_parts sender_there (λ x _. sender_back x)
 
@@ -71,7 +71,7 @@ content_back (inr (inl x)) = refl
 content_back (inr (inr (inl x))) = refl
 content_back (inr (inr (inr x))) = absurd x
 
--- uint8 content type, then 1: application data<V>; 2: Proposal; 3: Commit; another type is 7
+-- uint8 content type, then 1: application data<V>; 2: Proposal; 3: Commit; another type is `BadTag` (7)
 unfoldable pub content : Format contents.Content
 content = seen (by_uint8 (case 1 byte_string (case 2 proposal (case 3 commit (others 7))))) make_content content_parts content_there (λ x _. content_back x)
 

@@ -8,7 +8,7 @@ use Rattle.mls_leaf.specs.Nonempty.{behind_nonempty, mark_nonempty}
 use Rattle.mls_types.specs.declared.group_context.GroupContext.{GroupContext}
 
 -- GroupContext (RFC 9420, 8.1): uint16 version (1, else 7), uint16 cipher_suite, group_id<V>, uint64 epoch, tree_hash<V>,
--- confirmed_transcript_hash<V>, Extension<V> (empty, else 14)
+-- confirmed_transcript_hash<V>, Extension<V> (empty, else `ExtensionNotAllowed` (14))
 unfoldable pub group_context : Format GroupContext
 group_context = behind (mark 1 7 (lit< tt)) (seen (uint16 ⨾ byte_string ⨾ uint64 ⨾ byte_string ⨾ byte_string ⨾ behind (empty_vector 14) nothing)
     (λ x. record { cipher_suite = x.0; group_id = x.1.0; epoch = x.1.1.0; tree_hash = x.1.1.1.0; confirmed_transcript_hash = x.1.1.1.1.0 })

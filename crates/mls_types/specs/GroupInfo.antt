@@ -43,6 +43,6 @@ group_info_nonempty v fits = first_nonempty group_context (group_info_extensions
 abbrev pub group_info_tbs : GroupInfo → List ℕ
 group_info_tbs v = group_context.spell v.group_context ++ group_info_extensions.spell v.ratchet_tree ++ opaque v.confirmation_tag ++ uint w32 v.signer
 
--- no vector in it is too long
+-- no vector in the GroupInfoTBS is too long
 abbrev pub GroupInfoTbsFits : GroupInfo → Type 0
 GroupInfoTbsFits v = group_context.Fits v.group_context × (group_info_extensions.Fits v.ratchet_tree × ((length v.confirmation_tag < 2 ^ 30) × (v.signer < 2 ^ 32)))

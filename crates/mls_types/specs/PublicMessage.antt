@@ -43,7 +43,7 @@ wire_format_back (inr (inr (inl x))) = refl
 wire_format_back (inr (inr (inr (inl x)))) = refl
 wire_format_back (inr (inr (inr (inr x)))) = absurd x
 
--- uint16: 1 PublicMessage, 3 Welcome, 4 GroupInfo, 5 KeyPackage; another is 7
+-- uint16: 1 PublicMessage, 3 Welcome, 4 GroupInfo, 5 KeyPackage; another is `BadTag` (7)
 unfoldable pub wire_format : Format formats.WireFormat
 wire_format = seen (by_uint16 (case 1 nothing (case 3 nothing (case 4 nothing (case 5 nothing (others 7)))))) make_wire_format wire_format_parts wire_format_there (λ x _. wire_format_back x)
 

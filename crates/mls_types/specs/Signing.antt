@@ -1,4 +1,5 @@
--- The inputs that are signed and tagged (RFC 9420, 6.1 and 6.2): each a list of bytes, its parts in order, and when no vector in it is too long.
+-- The inputs that are signed and tagged (RFC 9420, 6.1 and 6.2): each is its parts in order.
+-- It fits where no vector in it is too long.
 use Rattle.std.specs.Prelude.{ℕ, List, ◌++◌}
 use Rattle.std.specs.Int.{w16}
 use Rattle.mls_wire.specs.Reading.{uint}
@@ -15,7 +16,7 @@ use Rattle.mls_types.specs.declared.group_context.GroupContext.{GroupContext}
 abbrev pub framed_content_tbs : WireFormat → FramedContent → GroupContext → List ℕ
 framed_content_tbs kind said context = uint w16 1 ++ wire_format.spell kind ++ framed_content.spell said ++ group_context.spell context
 
--- no vector in it is too long
+-- no vector in the FramedContentTBS is too long
 abbrev pub FramedContentTbsFits : WireFormat → FramedContent → GroupContext → Type 0
 FramedContentTbsFits kind said context = wire_format.Fits kind × (framed_content.Fits said × group_context.Fits context)
 
@@ -23,6 +24,6 @@ FramedContentTbsFits kind said context = wire_format.Fits kind × (framed_conten
 abbrev pub authenticated_content_tbm : WireFormat → SignedContent → GroupContext → List ℕ
 authenticated_content_tbm kind said context = framed_content_tbs kind (framed said) context ++ auth_data said
 
--- no vector in it is too long
+-- no vector in the AuthenticatedContentTBM is too long
 abbrev pub AuthenticatedContentTbmFits : WireFormat → SignedContent → GroupContext → Type 0
 AuthenticatedContentTbmFits kind said context = FramedContentTbsFits kind (framed said) context × AuthDataFits said

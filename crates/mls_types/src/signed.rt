@@ -44,7 +44,8 @@ pub struct SignedContent {
     pub signature: Bytes,
 }
 
-/// Reads a value and the signature or the tag behind it. It is generic, so that its proof goes into no parts of the value.
+/// Reads a value and the signature or the tag behind it. It is generic, so that its proof goes into no
+/// parts of the value.
 pub(crate) fn read_with_signature<T: Codec>(
     alloc: Global,
     reader: &mut Reader<'_>,
@@ -122,9 +123,10 @@ fn check_tail(reader: &mut Reader<'_>) -> Result<(), LeafError>
 
 impl SignedContent {
     ghost use Rattle.std.specs.Prelude.{◌≡◌};
-    ghost use Rattle.mls_leaf.specs.Faults.{AddsInput, AddsSpelling, Encodes};
+    ghost use Rattle.mls_leaf.specs.Faults.{AddsSpelling, Encodes};
     ghost use Rattle.mls_types.specs.Content.{framed_content};
-    ghost use Rattle.mls_types.specs.SignedParts.{framed, auth_data, AuthDataFits, signed_with};
+    ghost use Rattle.mls_types.specs.InputCalls.{AddsAuthData};
+    ghost use Rattle.mls_types.specs.SignedParts.{framed, signed_with};
 
     /// The content with this signature. A commit gets the confirmation tag too, and other contents leave it.
     pub fn new(content: FramedContent, signature: Bytes, confirmation_tag: Bytes) -> SignedContent
@@ -203,7 +205,7 @@ impl SignedContent {
     /// Adds the FramedContentAuthData: the signature, and for a commit the confirmation tag.
     #[tactic(auto, using(mls_leaf::proofs::Codecs::codecs))]
     pub(crate) fn add_auth_data(&self, alloc: Global, writer: &mut Writer) -> Result<(), LeafError>
-        ensures { AddsInput (AuthDataFits self.now) (auth_data self.now) writer.old result writer.new }
+        ensures { AddsAuthData self.now writer.old result writer.new }
     {
         self.signature.write(alloc, writer)?;
         match &self.body {

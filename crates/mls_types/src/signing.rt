@@ -9,8 +9,7 @@ use mls_wire::Writer;
 use std::alloc::Global;
 
 impl FramedContent {
-    ghost use Rattle.mls_types.specs.Signing.{framed_content_tbs, FramedContentTbsFits};
-    ghost use Rattle.mls_leaf.specs.Faults.{Writes};
+    ghost use Rattle.mls_types.specs.InputCalls.{WritesFramedContentTbs};
 
     /// The FramedContentTBS, which the sender signs (RFC 9420, 6.1).
     /// TooLong where a vector in it has 2^30 bytes or more, unless memory runs out before it.
@@ -21,7 +20,7 @@ impl FramedContent {
         wire_format: WireFormat,
         group_context: &GroupContext,
     ) -> Result<Vec<u8>, LeafError>
-        ensures { Writes (FramedContentTbsFits wire_format self.now group_context.now) (framed_content_tbs wire_format self.now group_context.now) result }
+        ensures { WritesFramedContentTbs wire_format self.now group_context.now result }
     {
         let mut writer = Writer::new(alloc);
         writer.u16(1)?;
@@ -34,8 +33,7 @@ impl FramedContent {
 
 impl SignedContent {
     ghost use Rattle.mls_types.specs.SignedParts.{framed};
-    ghost use Rattle.mls_types.specs.Signing.{framed_content_tbs, FramedContentTbsFits, authenticated_content_tbm, AuthenticatedContentTbmFits};
-    ghost use Rattle.mls_leaf.specs.Faults.{AddsInput, Writes};
+    ghost use Rattle.mls_types.specs.InputCalls.{WritesFramedContentTbs, WritesAuthenticatedContentTbm, AddsToSign};
 
     /// The FramedContentTBS, which the sender signed (RFC 9420, 6.1).
     /// TooLong where a vector in it has 2^30 bytes or more, unless memory runs out before it.
@@ -46,7 +44,7 @@ impl SignedContent {
         wire_format: WireFormat,
         group_context: &GroupContext,
     ) -> Result<Vec<u8>, LeafError>
-        ensures { Writes (FramedContentTbsFits wire_format (framed self.now) group_context.now) (framed_content_tbs wire_format (framed self.now) group_context.now) result }
+        ensures { WritesFramedContentTbs wire_format (framed self.now) group_context.now result }
     {
         let mut writer = Writer::new(alloc);
         self.add_to_be_signed(wire_format, group_context, alloc, &mut writer)?;
@@ -62,7 +60,7 @@ impl SignedContent {
         wire_format: WireFormat,
         group_context: &GroupContext,
     ) -> Result<Vec<u8>, LeafError>
-        ensures { Writes (AuthenticatedContentTbmFits wire_format self.now group_context.now) (authenticated_content_tbm wire_format self.now group_context.now) result }
+        ensures { WritesAuthenticatedContentTbm wire_format self.now group_context.now result }
     {
         let mut writer = Writer::new(alloc);
         self.add_to_be_signed(wire_format, group_context, alloc, &mut writer)?;
@@ -79,7 +77,7 @@ impl SignedContent {
         alloc: Global,
         writer: &mut Writer,
     ) -> Result<(), LeafError>
-        ensures { AddsInput (FramedContentTbsFits wire_format (framed self.now) group_context.now) (framed_content_tbs wire_format (framed self.now) group_context.now) writer.old result writer.new }
+        ensures { AddsToSign wire_format self.now group_context.now writer.old result writer.new }
     {
         writer.u16(1)?;
         wire_format.write(alloc, writer)?;

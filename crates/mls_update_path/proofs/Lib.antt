@@ -1,4 +1,3 @@
-pub mod Names
 pub mod Drafts
 pub mod Merges
 pub mod Leaves

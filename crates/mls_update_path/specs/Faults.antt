@@ -1,8 +1,8 @@
--- The numbers and names of these refusals.
-use Rattle.std.specs.Prelude.{ℕ, List}
-use Rattle.mls_tree.specs.Faults.{number_of as number_of_tree, name_of as name_of_tree}
-use Rattle.mls_checks.specs.Faults.{number_of as number_of_check, name_of as name_of_check}
-use Rattle.mls_treekem.specs.Faults.{number_of as number_of_keys, name_of as name_of_keys}
+-- The numbers of these refusals.
+use Rattle.std.specs.Prelude.{ℕ}
+use Rattle.mls_tree.specs.Faults.{number_of as number_of_tree}
+use Rattle.mls_checks.specs.Faults.{number_of as number_of_check}
+use Rattle.mls_treekem.specs.Faults.{number_of as number_of_keys}
 use Rattle.mls_update_path.specs.declared.error.PathError.{PathError}
 use Rattle.mls_update_path.specs.declared.error.PathError.TheVariants.{Tree, Check, Keys}
 
@@ -11,9 +11,3 @@ abbrev pub number_of : PathError → ℕ
 number_of (Tree e) = number_of_tree e
 number_of (Check e) = number_of_check e
 number_of (Keys e) = number_of_keys e
-
--- the name, as it is printed
-abbrev pub name_of : PathError → List ℕ
-name_of (Tree e) = name_of_tree e
-name_of (Check e) = name_of_check e
-name_of (Keys e) = name_of_keys e

@@ -1,13 +1,15 @@
 //! What a path isn't made for.
 
 ghost use Rattle.std.specs.Prelude.{◌≡◌};
-ghost use Rattle.mls_update_path.specs.Faults.{number_of, name_of};
+ghost use Rattle.mls_wire.specs.Names.{refusal_name};
+ghost use Rattle.mls_update_path.specs.Faults.{number_of};
 ghost use Rattle.mls_update_path.specs.declared.error.PathError.TheVariants.{Tree as in_tree, Check as in_check, Keys as in_keys};
 ghost use Rattle.mls_tree.specs.declared.error.TreeError.TheVariants.{OutOfMemory};
 
 use mls_checks::CheckError;
 use mls_tree::TreeError;
 use mls_treekem::TreeKemError;
+use mls_wire::refusal_name;
 use std::alloc::{AllocError, AllocFailed};
 use thiserror::Error;
 
@@ -79,12 +81,8 @@ impl PathError {
 
     /// The name of the refusal, as it is printed.
     pub fn name(self) -> &'static str
-        ensures { result.now ≡ name_of self }
+        ensures { result.now ≡ refusal_name (number_of self) }
     {
-        match self {
-            PathError::Tree(error) => error.name(),
-            PathError::Check(error) => error.name(),
-            PathError::Keys(error) => error.name(),
-        }
+        refusal_name(self.number())
     }
 }

@@ -4,9 +4,7 @@
 mod context;
 mod draft;
 mod error;
-mod laws;
 mod path;
 
 pub use error::PathError;
-pub use laws::path_names_by_number;
 pub use path::{NewPath, new_path};

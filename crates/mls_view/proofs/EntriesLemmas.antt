@@ -15,6 +15,6 @@ shown_of {V} {X} format Shows v bytes rest x spells lends =
     let same : lends.value ≡ v = ap (λ (y : V × List ℕ). y.0) (ok_is (lends.value, rest) (v, []) (sym lends.is_read ∙ spelling_read format v bytes spells)) in
     subst (λ (y : V). Shows x y) same lends.shows
 
--- and its reading has no fault
+-- the reading of a spelling has no fault
 pub no_fault_of : {V : Type 0} (format : Format V) (v : V) (bytes : List ℕ) (n : ℕ) → Spells format v bytes → format.read bytes ≡ Err n → ⊥
 no_fault_of format v bytes n spells e = let read = spelling_read format v bytes spells in cc

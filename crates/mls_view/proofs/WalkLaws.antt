@@ -36,7 +36,7 @@ next_item {V} format nonempty (v ∷ vs) old part new items lent =
     let same = ok_is (lent.value, new) (v, flat_map format.spell vs) (sym lent.is_read ∙ front_read format v vs old items) in
     (subst (λ (x : V). Spells format x part) (ap (λ (x : V × List ℕ). x.0) same) lent.spells, record { fit = items.fit.1; spelled = ap (λ (x : V × List ℕ). x.1) same })
 
--- and there is one where bytes are left
+-- where bytes are left, there is a next item
 pub no_fault : {V : Type 0} (format : Format V) (vs : List V) (bytes new : List ℕ) (n : ℕ) → AreItems format vs bytes → (bytes ≡ [] → ⊥) → format.read bytes ≡ Err n → LendsNextItem format vs None new
 no_fault format [] bytes new n items some e = absurd (some items.spelled)
 no_fault format (v ∷ vs) bytes new n items some e = let read = front_read format v vs bytes items in absurd cc

@@ -69,6 +69,10 @@ abbrev pub LendsAuthData : contents.Content → List ℕ → Result AuthDataView
 LendsAuthData said old (Ok view) new = LendsAuth said old view new
 LendsAuthData said old (Err e) new = auth_at said old ≡ Err (number_of e)
 
+-- A call on a reader lends the FramedContentAuthData behind the content that a view shows, or answers the first fault.
+abbrev pub LendsAuthBehind : ContentView → List ℕ → Result AuthDataView LeafError → List ℕ → Type 0
+LendsAuthBehind view old result new = (said : contents.Content) → ShowsContent view said → LendsAuthData said old result new
+
 -- ---- PublicMessage (RFC 9420, 6.2)
 
 abbrev pub ShowsBodyTag : Option (Bor (List ℕ)) → SignedBody → Type 0

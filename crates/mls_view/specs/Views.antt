@@ -2,6 +2,8 @@
 use Rattle.std.specs.Prelude.{◌≡◌, ℕ, List, [], ◌∷◌, Option, Some, None, Result, Ok, Err}
 use Rattle.std.specs.List.{flat_map, AllByRecursion}
 use Rattle.mls_wire.specs.Format.{Format}
+use Rattle.mls_wire.specs.Combine.{vector}
+use Rattle.mls_wire.specs.CombineLaws.{IsNonempty}
 use Rattle.mls_wire.specs.declared.WireError.TheVariants as wire
 use Rattle.mls_leaf.specs.declared.error.LeafError.{LeafError}
 use Rattle.mls_leaf.specs.declared.error.LeafError.TheVariants.{Wire}
@@ -27,6 +29,20 @@ Owns format bytes (Err e) = e ≡ Wire wire.OutOfMemory
 abbrev pub IsOwned : {V : Type 0} → V → Result V LeafError → Type 0
 IsOwned shown (Ok v) = v ≡ shown
 IsOwned shown (Err e) = e ≡ Wire wire.OutOfMemory
+
+-- ---- what is shown of any value
+
+-- Of whatever value the bytes spell, the view shows it.
+abbrev pub ShowsSpelled : {V X : Type 0} → Format V → (X → V → Type 0) → List ℕ → X → Type 0
+ShowsSpelled {V} format Shows bytes x = (v : V) → Spells format v bytes → Shows x v
+
+-- Whatever value was read in front of the bytes left, these bytes spell it.
+abbrev pub SpellsRead : {V : Type 0} → Format V → List ℕ → List ℕ → List ℕ → Type 0
+SpellsRead {V} format before behind bytes = (v : V) → format.read before ≡ Ok (v, behind) → Spells format v bytes
+
+-- Whatever value the view shows, a call returned it, or memory ran out.
+abbrev pub OwnsShown : {V X : Type 0} → (X → V → Type 0) → X → Result V LeafError → Type 0
+OwnsShown {V} Shows x result = (v : V) → Shows x v → IsOwned v result
 
 -- ---- whole inputs
 
@@ -54,3 +70,11 @@ LendsNextItem format [] None new = new ≡ []
 LendsNextItem format [] (Some part) new = ⊥
 LendsNextItem format (v ∷ vs) None new = ⊥
 LendsNextItem format (v ∷ vs) (Some part) new = Spells format v part × AreItems format vs new
+
+-- A walk begins with the items of a vector, whatever items the bytes of the vector spell.
+abbrev pub WalksItems : {V : Type 0} → (format : Format V) → IsNonempty format → List ℕ → List ℕ → Type 0
+WalksItems {V} format nonempty bytes walk = (vs : List V) → Spells (vector format nonempty) vs bytes → AreItems format vs walk
+
+-- A step of a walk lends the next item, whatever items are left.
+abbrev pub StepsItems : {V : Type 0} → Format V → List ℕ → Option (List ℕ) → List ℕ → Type 0
+StepsItems {V} format old result new = (vs : List V) → AreItems format vs old → LendsNextItem format vs result new

@@ -1,7 +1,6 @@
 //! Views of what vouches for a content (RFC 9420, 6.1).
 
-ghost use Rattle.mls_types.specs.declared.content.Content as contents;
-ghost use Rattle.mls_view.specs.Shown.{ShowsContent, LendsAuthData};
+ghost use Rattle.mls_view.specs.Shown.{LendsAuthBehind};
 
 use crate::content::ContentView;
 use mls_leaf::LeafError;
@@ -21,7 +20,7 @@ pub(crate) fn read_auth_data<'a>(
     content: &ContentView<'_>,
     reader: &mut Reader<'a>,
 ) -> Result<AuthDataView<'a>, LeafError>
-    ensures { (said : contents.Content) → ShowsContent content.now said → LendsAuthData said reader.old result reader.new }
+    ensures { LendsAuthBehind content.now reader.old result reader.new }
 {
     let signature = reader.opaque()?;
     match content {

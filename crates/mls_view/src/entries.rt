@@ -1,11 +1,8 @@
 //! Views of a welcome's entries and of a commit's proposals.
 
-ghost use Rattle.mls_leaf.specs.Faults.{Spells};
 ghost use Rattle.mls_types.specs.Welcome.{encrypted_group_secrets};
-ghost use Rattle.mls_types.specs.declared.welcome.EncryptedGroupSecrets as entries;
 ghost use Rattle.mls_types.specs.Commit.{proposal_or_ref};
-ghost use Rattle.mls_types.specs.declared.commit.ProposalOrRef as proposals;
-ghost use Rattle.mls_view.specs.Views.{LendsView};
+ghost use Rattle.mls_view.specs.Views.{LendsView, ShowsSpelled};
 ghost use Rattle.mls_view.specs.Entries.{ShowsSecrets, ShowsProposalOrRef};
 
 use crate::part::Part;
@@ -67,7 +64,7 @@ fn read_proposal_or_ref<'a>(reader: &mut Reader<'a>) -> Result<ProposalOrRefView
 impl<'a> EncryptedGroupSecretsView<'a> {
     /// The fields of an entry. It takes no memory.
     pub fn of(entry: &Part<'a, EncryptedGroupSecrets>) -> EncryptedGroupSecretsView<'a>
-        ensures { (shown : entries.EncryptedGroupSecrets) → Spells encrypted_group_secrets shown entry.now → ShowsSecrets result shown }
+        ensures { ShowsSpelled encrypted_group_secrets ShowsSecrets entry.now result }
     {
         let mut reader = Reader::new(entry.bytes());
         match read_secrets(&mut reader) {
@@ -84,7 +81,7 @@ impl<'a> EncryptedGroupSecretsView<'a> {
 impl<'a> ProposalOrRefView<'a> {
     /// The proposal, or the reference. It takes no memory.
     pub fn of(entry: &Part<'a, ProposalOrRef>) -> ProposalOrRefView<'a>
-        ensures { (shown : proposals.ProposalOrRef) → Spells proposal_or_ref shown entry.now → ShowsProposalOrRef result shown }
+        ensures { ShowsSpelled proposal_or_ref ShowsProposalOrRef entry.now result }
     {
         let mut reader = Reader::new(entry.bytes());
         match read_proposal_or_ref(&mut reader) {

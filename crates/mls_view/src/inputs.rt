@@ -1,29 +1,17 @@
 //! The inputs that are signed, tagged, referenced and hashed of a received message, fed from its slices.
 
-ghost use Rattle.std.specs.Prelude.{◌≡◌, ◌+◌, ◌<◌, ◌≤◌, ◌^◌, ◌++◌, ℕ, length, MatchResult};
-ghost use Rattle.std.specs.Int.{w16};
+ghost use Rattle.std.specs.Prelude.{◌≡◌, ◌+◌, ◌<◌, ◌≤◌, ◌^◌, length, IfOk};
 ghost use Rattle.mls_kdf.specs.Kdf.{hmac, ref_hash};
-ghost use Rattle.mls_types.specs.GroupContext.{group_context};
-ghost use Rattle.mls_types.specs.declared.group_context.GroupContext as contexts;
-ghost use Rattle.mls_schedule.specs.Transcript.{confirmed_hash};
-ghost use Rattle.mls_types.specs.Content.{framed_content};
-ghost use Rattle.mls_types.specs.SignedParts.{framed};
-ghost use Rattle.mls_types.specs.Signing.{framed_content_tbs, authenticated_content_tbm};
-ghost use Rattle.mls_types.specs.PublicMessage.{authenticated_content};
-ghost use Rattle.mls_types.specs.Reference.{proposal_reference};
-ghost use Rattle.mls_types.specs.declared.public_message.PublicMessage as messages;
-ghost use Rattle.mls_types.specs.declared.public_message.WireFormat.TheVariants.{PublicMessage as public_format};
-ghost use Rattle.mls_view.specs.Shown.{ShowsPublic};
-ghost use Rattle.mls_view.specs.SliceInputs.{signed_pieces, tagged_pieces, authenticated_pieces, authenticated_content_of};
+ghost use Rattle.mls_view.specs.SliceInputs.{signed_pieces, tagged_pieces, authenticated_pieces, IsSignedInput, IsMembershipTag, IsProposalReference, IsConfirmedHash};
 
 use crate::public_message::PublicMessageView;
 use mls_kdf::{Secret, content_header, hash, hmac};
 use mls_schedule::Transcript;
 use std::alloc::{AllocError, Global};
 
-/// Version 1 and wire format 1, then the slices.
+/// Joins version 1, wire format 1 and the slices.
 fn join_signed_pieces(alloc: Global, said: &[u8], context: &[u8]) -> Result<Vec<u8>, AllocError>
-    ensures { MatchResult result (λ v. v.items ≡ signed_pieces said.now context.now) (λ _. Unit {0}) }
+    ensures { IfOk result (λ v. v.items ≡ signed_pieces said.now context.now) }
 {
     let front = [0, 1, 0, 1];
     let room = said.len().saturating_add(context.len());
@@ -65,10 +53,7 @@ fn reference_of<'b>(label: &'b str, said: &'b [u8], auth: &'b [u8]) -> Secret
 impl<'a> PublicMessageView<'a> {
     /// The FramedContentTBS, which the sender signed (RFC 9420, 6.1), with the bytes of the epoch's GroupContext.
     pub fn to_be_signed(&self, alloc: Global, context: &[u8]) -> Result<Vec<u8>, AllocError>
-        ensures { MatchResult result
-            (λ v. (shown : messages.PublicMessage) (group : contexts.GroupContext) → ShowsPublic self.now shown → context.now ≡ group_context.spell group
-            → v.items ≡ framed_content_tbs public_format (framed shown.content) group)
-            (λ _. Unit {0}) }
+        ensures { IfOk result (λ v. IsSignedInput self.now context.now v.items) }
     {
         join_signed_pieces(alloc, self.framed_content, context)
     }
@@ -76,8 +61,7 @@ impl<'a> PublicMessageView<'a> {
     /// The tag of the AuthenticatedContentTBM under a membership key (RFC 9420, 6.2), with the bytes of the epoch's
     /// GroupContext. It takes no memory.
     pub fn membership_tag_under(&self, key: &[u8], context: &[u8]) -> Secret
-        ensures { (shown : messages.PublicMessage) (group : contexts.GroupContext) → ShowsPublic self.now shown → context.now ≡ group_context.spell group
-            → result ≡ hmac key.now (authenticated_content_tbm public_format shown.content group) }
+        ensures { IsMembershipTag self.now key.now context.now result }
     {
         tag_of(key, self.framed_content, context, self.auth_data)
     }
@@ -86,7 +70,7 @@ impl<'a> PublicMessageView<'a> {
     /// less than 2^30 bytes. It takes no memory.
     pub fn reference(&self) -> Secret
         requires { length self.now.framed_content.now + length self.now.auth_data.now + 2 < 2 ^ 30 }
-        ensures { (shown : messages.PublicMessage) → ShowsPublic self.now shown → result ≡ proposal_reference (authenticated_content.spell (authenticated_content_of shown)) }
+        ensures { IsProposalReference self.now result }
     {
         reference_of(
             "MLS 1.0 Proposal Reference",
@@ -98,8 +82,7 @@ impl<'a> PublicMessageView<'a> {
     /// The confirmed transcript hash of a commit sent after this transcript (RFC 9420, 8.2). It takes no memory.
     pub fn confirm(&self, transcript: &Transcript) -> Secret
         requires { length self.now.auth.signature.now < 2 ^ 30 }
-        ensures { (shown : messages.PublicMessage) → ShowsPublic self.now shown
-            → result ≡ confirmed_hash transcript.now 1 (framed_content.spell (framed shown.content)) shown.content.signature }
+        ensures { IsConfirmedHash self.now transcript.now result }
     {
         transcript.confirm(1, self.framed_content, self.auth.signature)
     }

@@ -4,8 +4,7 @@ ghost use Rattle.std.specs.Prelude.{◌≡◌, ◌≢◌, MatchResult};
 ghost use Rattle.mls_leaf.specs.Limits.{input_limit};
 ghost use Rattle.mls_leaf.specs.Faults.{number_of};
 ghost use Rattle.mls_types.specs.Message.{mls_message};
-ghost use Rattle.mls_types.specs.declared.message.MlsMessage as messages;
-ghost use Rattle.mls_view.specs.Views.{LendsView, LendsWhole, IsOwned};
+ghost use Rattle.mls_view.specs.Views.{LendsView, LendsWhole, OwnsShown};
 ghost use Rattle.mls_view.specs.Shown.{Shows};
 
 use crate::part::Part;
@@ -70,8 +69,8 @@ fn read_whole<'a>(bytes: &'a [u8]) -> Result<MessageView<'a>, LeafError>
 }
 
 impl<'a> MessageView<'a> {
-    /// The message that all of the bytes spell, with the answers of `decode`. It takes no memory, and so
-    /// never answers 1.
+    /// The message that all of the bytes spell, with the answers of `decode`. It takes no memory, and never
+    /// answers `OutOfMemory` (1).
     pub fn read(bytes: &'a [u8]) -> Result<MessageView<'a>, LeafError>
         ensures read { LendsWhole mls_message input_limit Shows bytes.now result }
         ensures no_memory { MatchResult result (λ _. Unit {0}) (λ e. number_of e ≢ 1) }
@@ -81,7 +80,7 @@ impl<'a> MessageView<'a> {
 
     /// The message itself, as `decode` gives it, or want of memory.
     pub fn to_owned(&self, alloc: Global) -> Result<MlsMessage, LeafError>
-        ensures { (shown : messages.MlsMessage) → Shows self.now shown → IsOwned shown result }
+        ensures { OwnsShown Shows self.now result }
     {
         match self {
             MessageView::PublicMessage(message) => {

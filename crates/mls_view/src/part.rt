@@ -1,17 +1,16 @@
 //! Parts of a message, and the items of its vectors.
 
 ghost use Rattle.std.specs.Prelude.{◌≡◌, ℕ, List, [], length, ◌<◌, Ok, Some, None, IsSome};
-ghost use Rattle.mls_wire.specs.Combine.{vector};
 ghost use Rattle.mls_wire.specs.Format.{IsBytes};
 ghost use Rattle.mls_leaf.specs.Faults.{LendsPart, Spells};
-ghost use Rattle.mls_view.specs.Views.{Owns, AreItems, LendsNextItem};
+ghost use Rattle.mls_view.specs.Views.{Owns, SpellsRead, StepsItems, WalksItems};
 
 use mls_leaf::{Codec, Items, LeafError, lend_part, lend_front};
 use mls_wire::Reader;
 use std::alloc::Global;
 use std::marker::{Model, PhantomData};
 
-/// The same bytes, each of which is one.
+/// Lends the bytes as they are. Each is below 2^8.
 fn lend_bytes<'a>(bytes: &'a [u8]) -> &'a [u8]
     ensures same { result.now ≡ bytes.now }
     ensures bytes { IsBytes bytes.now }
@@ -49,7 +48,7 @@ impl<'a, T: Codec> Part<'a, T> {
     /// What a reader has passed, where it read a value there.
     pub(crate) fn of(before: &'a [u8], behind: &[u8]) -> Part<'a, T>
         requires { (v : T) × (T.format.read before.now ≡ Ok (v, behind.now)) }
-        ensures { (v : T) → T.format.read before.now ≡ Ok (v, behind.now) → Spells T.format v result }
+        ensures { SpellsRead T.format before.now behind.now result }
     {
         Part {
             bytes: lend_front(before, behind),
@@ -77,7 +76,7 @@ impl<'a, T: Codec> Part<'a, T> {
 impl<'a, T: Codec> Part<'a, Items<T>> {
     /// A walk over the items of a vector, from the first one on.
     pub fn walk(&self) -> Walk<'a, T>
-        ensures { (vs : List T) → Spells (vector T.format T.nonempty) vs self.now → AreItems T.format vs result }
+        ensures { WalksItems T.format T.nonempty self.now result }
     {
         let mut reader = Reader::new(self.bytes);
         match reader.opaque() {
@@ -112,7 +111,7 @@ impl<'a, T: Codec> Walk<'a, T> {
 
     /// The next item, None behind the last one. It makes no value and takes no memory.
     pub fn next(&mut self) -> Option<Part<'a, T>>
-        ensures step { (vs : List T) → AreItems T.format vs self.old → LendsNextItem T.format vs result self.new }
+        ensures step { StepsItems T.format self.old result self.new }
         ensures shorter { IsSome result → length self.new < length self.old }
     {
         let mut reader = Reader::new(self.content);

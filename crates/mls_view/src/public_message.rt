@@ -1,9 +1,8 @@
 //! Views of public messages (RFC 9420, 6.2).
 
 ghost use Rattle.mls_types.specs.PublicMessage.{public_message};
-ghost use Rattle.mls_view.specs.Views.{LendsView, IsOwned};
+ghost use Rattle.mls_view.specs.Views.{LendsView, OwnsShown};
 ghost use Rattle.mls_view.specs.Shown.{ShowsPublic};
-ghost use Rattle.mls_types.specs.declared.public_message.PublicMessage as messages;
 
 use crate::auth::{AuthDataView, read_auth_data};
 use crate::content::{FramedContentView, read_framed_content};
@@ -56,7 +55,7 @@ pub(crate) fn read_public_message<'a>(reader: &mut Reader<'a>) -> Result<PublicM
 impl<'a> PublicMessageView<'a> {
     /// The message itself, or want of memory.
     pub fn to_owned(&self, alloc: Global) -> Result<PublicMessage, LeafError>
-        ensures { (shown : messages.PublicMessage) → ShowsPublic self.now shown → IsOwned shown result }
+        ensures { OwnsShown ShowsPublic self.now result }
     {
         self.whole.to_owned(alloc)
     }

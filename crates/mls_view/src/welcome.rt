@@ -1,8 +1,7 @@
 //! Views of welcomes (RFC 9420, 12.4.3.1).
 
 ghost use Rattle.mls_types.specs.Welcome.{welcome};
-ghost use Rattle.mls_types.specs.declared.welcome.Welcome as welcomes;
-ghost use Rattle.mls_view.specs.Views.{LendsView, IsOwned};
+ghost use Rattle.mls_view.specs.Views.{LendsView, OwnsShown};
 ghost use Rattle.mls_view.specs.Shown.{ShowsWelcome};
 
 use crate::part::Part;
@@ -45,7 +44,7 @@ pub(crate) fn read_welcome<'a>(reader: &mut Reader<'a>) -> Result<WelcomeView<'a
 impl<'a> WelcomeView<'a> {
     /// The welcome itself, or want of memory.
     pub fn to_owned(&self, alloc: Global) -> Result<Welcome, LeafError>
-        ensures { (shown : welcomes.Welcome) → ShowsWelcome self.now shown → IsOwned shown result }
+        ensures { OwnsShown ShowsWelcome self.now result }
     {
         self.whole.to_owned(alloc)
     }

@@ -1,4 +1,3 @@
-pub mod Names
 mod SealedEntries
 mod Fitting
 mod Measured

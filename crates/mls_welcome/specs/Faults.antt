@@ -1,9 +1,9 @@
--- The numbers and names of these refusals, and what calls promise by these numbers.
-use Rattle.std.specs.Prelude.{◌≡◌, ℕ, ◌<◌, ◌≤◌, List, length, Result, MatchResult, codes}
+-- The numbers of these refusals, and what calls promise by these numbers.
+use Rattle.std.specs.Prelude.{◌≡◌, ℕ, ◌<◌, ◌≤◌, List, length, Result, MatchResult}
 use Rattle.std.specs.Global.{Vec}
 use Rattle.mls_wire.specs.Checks.{Answers}
 use Rattle.mls_leaf.specs.Limits.{input_limit}
-use Rattle.mls_leaf.specs.Faults.{number_of as number_of_leaf, name_of as name_of_leaf}
+use Rattle.mls_leaf.specs.Faults.{number_of as number_of_leaf}
 use Rattle.mls_welcome.specs.declared.error.WelcomeError.{WelcomeError}
 use Rattle.mls_welcome.specs.declared.error.WelcomeError.TheVariants.{Leaf, BadKey}
 
@@ -11,11 +11,6 @@ use Rattle.mls_welcome.specs.declared.error.WelcomeError.TheVariants.{Leaf, BadK
 abbrev pub number_of : WelcomeError → ℕ
 number_of (Leaf e) = number_of_leaf e
 number_of BadKey = 36
-
--- the name, as it is printed
-abbrev pub name_of : WelcomeError → List ℕ
-name_of (Leaf e) = name_of_leaf e
-name_of BadKey = codes "BadKey"
 
 -- A call answers what the definition does, or refuses with its number. Where memory was refused it says nothing.
 abbrev pub Gives : {A : Type 0} → Result A ℕ → Result A WelcomeError → Type 0

@@ -1,5 +1,4 @@
 pub mod Faults
-pub mod Names
 pub mod Joiners
 pub mod WelcomeMessage
 pub mod Entries

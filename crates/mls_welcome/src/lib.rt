@@ -5,12 +5,10 @@ mod entries;
 mod error;
 mod info;
 mod joiners;
-mod laws;
 mod limits;
 mod ranges;
 mod welcome_message;
 
 pub use error::WelcomeError;
 pub use joiners::joiners_of;
-pub use laws::welcome_names_by_number;
 pub use welcome_message::{Joiner, welcome};

@@ -2,4 +2,4 @@ pub mod CheckLaws
 pub mod Combine
 pub mod CombineLaws
 pub mod LawsLemmas
-pub mod Names
+mod Names

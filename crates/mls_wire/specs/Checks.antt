@@ -20,12 +20,12 @@ require_some n (Some x) = Ok x
 require_some n None = Err n
 
 -- A call answers what the definition does: its value, or the number of its error. Where memory was
--- refused, number 1, it says nothing.
+-- refused, `OutOfMemory` (1), it says nothing.
 abbrev pub Answers : {A B E : Type 0} → (B → A) → (E → ℕ) → Result A ℕ → Result B E → Type 0
 Answers value number defined (Ok x) = defined ≡ Ok (value x)
 Answers value number defined (Err e) = number e ≢ 1 → defined ≡ Err (number e)
 
--- The same of a call that takes no memory.
+-- A call that takes no memory answers what the definition does: its value, or the number of its error.
 abbrev pub AnswersOutright : {A B E : Type 0} → (B → A) → (E → ℕ) → Result A ℕ → Result B E → Type 0
 AnswersOutright value number defined (Ok x) = defined ≡ Ok (value x)
 AnswersOutright value number defined (Err e) = defined ≡ Err (number e)

@@ -1,27 +1,25 @@
--- The name of each refusal, by its number: one table for all crates, of which each refusal's own name is an entry.
+-- The name of each refusal, by its number: one table for all crates.
 use Rattle.std.specs.Prelude.{◌≡◌, ℕ, ◌==◌, if◌then◌else◌, List, [], ◌∷◌, ◌++◌, codes}
-use Rattle.mls_wire.specs.Faults.{number_of, name_of}
-use Rattle.mls_wire.specs.declared.WireError.{WireError}
-use Rattle.mls_wire.specs.declared.WireError.TheVariants.{OutOfMemory, Truncated, Trailing, BadLength, NotMinimal, TooLong}
 
+-- the name of a number in a table; no bytes where it isn't there
 abbrev pub name_in : List (ℕ × List ℕ) → ℕ → List ℕ
 name_in [] n = []
 name_in (x ∷ xs) n = if x.0 == n then x.1 else name_in xs n
 
--- of bytes and texts
+-- the names of refusals of bytes and texts
 abbrev pub names_of_bytes : List (ℕ × List ℕ)
 names_of_bytes =
     (1, codes "OutOfMemory") ∷ (2, codes "Truncated") ∷ (3, codes "Trailing") ∷ (4, codes "BadLength") ∷ (5, codes "NotMinimal") ∷ (6, codes "TooLong") ∷ (7, codes "BadTag") ∷ (8, codes "NotHex") ∷ (9, codes "BadJson")
     ∷ (10, codes "OutputTooLong") ∷ (11, codes "UnsupportedCredential") ∷ (12, codes "UnsupportedProposal") ∷ (13, codes "NotRising") ∷ (14, codes "ExtensionNotAllowed") ∷ []
 
--- of trees and private paths
+-- the names of refusals of trees and private paths
 abbrev pub names_of_trees : List (ℕ × List ℕ)
 names_of_trees =
     (20, codes "TreeShape") ∷ (21, codes "TreeFull") ∷ (22, codes "NoSuchLeaf") ∷ (23, codes "UnmergedWrong") ∷ (24, codes "ParentHashWrong") ∷ (25, codes "KeyRepeated")
     ∷ (26, codes "ClientRepeated") ∷ (30, codes "PathLength") ∷ (31, codes "CipherCount") ∷ (32, codes "OpenFailed") ∷ (33, codes "SecretLength")
     ∷ (34, codes "PathKeyMismatch") ∷ (35, codes "KeyMissing") ∷ (36, codes "BadKey") ∷ []
 
--- of messages, leaves and commits
+-- the names of refusals of messages, leaves and commits
 abbrev pub names_of_members : List (ℕ × List ℕ)
 names_of_members =
     (40, codes "Gone") ∷ (41, codes "NotPublicMessage") ∷ (42, codes "WrongGroup") ∷ (43, codes "WrongEpoch") ∷ (44, codes "SenderNotMember") ∷ (45, codes "NotHandshake")
@@ -30,7 +28,7 @@ names_of_members =
     ∷ (56, codes "KeyPackageSignature") ∷ (57, codes "InitKeySame") ∷ (60, codes "UnknownReference") ∷ (61, codes "CommitterUpdate") ∷ (62, codes "CommitterRemoved")
     ∷ (63, codes "SameLeafTwice") ∷ (64, codes "PathMissing") ∷ (65, codes "BadConfirmationTag") ∷ (66, codes "EpochEnd") ∷ (67, codes "PendingCommit") ∷ []
 
--- of welcomes and of worlds
+-- the names of refusals of Welcomes and of worlds
 abbrev pub names_of_joins : List (ℕ × List ℕ)
 names_of_joins =
     (70, codes "NotWelcome") ∷ (71, codes "WrongSuite") ∷ (72, codes "NotForMe") ∷ (73, codes "SecretsUnreadable") ∷ (74, codes "PskPresent")
@@ -41,7 +39,3 @@ names_of_joins =
 -- the name, as it is printed; no bytes where no refusal has the number
 abbrev pub refusal_name : ℕ → List ℕ
 refusal_name n = name_in (names_of_bytes ++ names_of_trees ++ names_of_members ++ names_of_joins) n
-
--- each name stands in the table at its number
-abbrev pub NamesAreListed : Type 0
-NamesAreListed = (e : WireError) → name_of e ≡ refusal_name (number_of e)

@@ -7,8 +7,9 @@ use Rattle.mls_wire.specs.CombineLaws.{IsNonempty, next_read, seen_read, body_re
 use Rattle.mls_wire.specs.Combine.{◌⨾◌, Cases, case, others, left_format, right_format, make_left, make_right, by_uint8, by_uint16, behind, guarded, mark, empty_vector, nothing, byte_string, uint8, uint16, uint32, uint64, vector, optional, optional_body, make_some}
 use Rattle.mls_wire.specs.Stateful.{Rule, run_at, run_read, vector_from}
 
--- 2 Truncated, 3 Trailing, 4 BadLength, 5 NotMinimal, 7 BadTag, 11 UnsupportedCredential, 12 UnsupportedProposal,
--- 13 NotRising and 14 ExtensionNotAllowed: never 1, which is want of memory
+-- Whether the number is one of `Truncated` (2), `Trailing` (3), `BadLength` (4), `NotMinimal` (5), `BadTag` (7),
+-- `UnsupportedCredential` (11), `UnsupportedProposal` (12), `NotRising` (13) and `ExtensionNotAllowed` (14).
+-- `OutOfMemory` (1) is none of them.
 abbrev pub is_fault : ℕ → Bool
 is_fault n = (n == 2) || (n == 3) || (n == 4) || (n == 5) || (n == 7) || (n == 11) || (n == 12) || (n == 13) || (n == 14)
 
@@ -21,11 +22,11 @@ Answered (Err n) = is_fault n ≡ true
 pub record HasFaults {V : Type 0} (a : Format V) : Type 0 where
   pub answers : (bytes : List ℕ) → Answered (a.read bytes)
 
--- the same of what has no value
+-- reading past what has no value succeeds or gives one of these numbers, whatever the bytes are
 pub record PassesWith (s : Skip) : Type 0 where
   pub answers : (bytes : List ℕ) → Answered (s.read bytes)
 
--- the same of what stands behind each tag
+-- reading what stands behind any tag gives a value or one of these numbers, whatever the bytes are
 pub record HaveFaults {V : Type 0} (c : Cases V) : Type 0 where
   pub answers : (t : ℕ) (bytes : List ℕ) → Answered ((c.body t).read bytes)
 
@@ -113,7 +114,7 @@ behind_faults {V} {s} {a} h k = record { answers = λ bytes. answered_then (s.re
 pub behind_answered : {A : Type 0} {s : Skip} (read : List ℕ → Result A ℕ) → PassesWith s → ((bytes : List ℕ) → Answered (read bytes)) → (bytes : List ℕ) → Answered (s.read bytes >>= read)
 behind_answered {A} {s} read h k bytes = answered_then (s.read bytes) read (h.answers bytes) k
 
--- the same bytes, read as another type
+-- a value that is seen as another type is read with the same faults
 pub seen_answered : {A V : Type 0} {a : Format A} (make : A → V) → HasFaults a → (bytes : List ℕ) → Answered (a.read bytes >>= seen_read make)
 seen_answered {A} {V} {a} make h bytes = answered_then (a.read bytes) (seen_read make) (h.answers bytes) (λ x. tt)
 

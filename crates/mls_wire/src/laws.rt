@@ -3,7 +3,6 @@
 ghost use Rattle.std.specs.Prelude.{◌^◌, ◌<◌, length};
 ghost use Rattle.std.specs.Int.{w8, w16, w32, w64};
 ghost use Rattle.mls_wire.specs.Format.{IsLawful};
-ghost use Rattle.mls_wire.specs.Names.{NamesAreListed};
 ghost use Rattle.mls_wire.specs.Reading.{uint, uint_at, header, length_at, opaque, opaque_at};
 
 /// What is read is spelled so, and what is spelled so is read, whatever follows. So each number, each length
@@ -15,9 +14,4 @@ pub fn one_spelling()
     ensures uint64 { IsLawful (uint w64) (λ n. n < 2 ^ 64) (uint_at w64) }
     ensures lengths { IsLawful header (λ n. n < 2 ^ 30) length_at }
     ensures byte_strings { IsLawful opaque (λ text. length text < 2 ^ 30) opaque_at }
-{}
-
-/// The names of refusals stand in one table, each at its number.
-pub fn names_by_number()
-    ensures { NamesAreListed }
 {}

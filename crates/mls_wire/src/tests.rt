@@ -22,7 +22,6 @@ fn refusals(rt: HostRuntime) {
         assert_eq!(rt; error.number(), number, "{name}");
         assert_eq!(rt; error.name(), name);
     }
-    names_by_number();
 }
 
 #[test]

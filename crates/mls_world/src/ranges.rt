@@ -15,7 +15,7 @@ pub(crate) fn know_short(bytes: &[u8])
     let _length = bytes.len();
 }
 
-/// Nor more items.
+/// A slice has no more items than memory can.
 pub(crate) fn know_few(items: &[WorldItem])
     ensures { length items.now < 2 ^ 63 }
 {
@@ -27,6 +27,7 @@ fn know_bytes(bytes: &[u8])
     ensures { IsBytes bytes.now }
 {}
 
+/// Given bytes are bytes.
 pub(crate) fn know_source(source: &Source)
     ensures { IsSourceInRange source.now }
 {
@@ -36,6 +37,7 @@ pub(crate) fn know_source(source: &Source)
     }
 }
 
+/// The source of an item is in range, and its leaf has 32 bits.
 fn know_item(item: &WorldItem)
     ensures { IsItemInRange item.now }
 {
@@ -48,6 +50,7 @@ fn know_item(item: &WorldItem)
     }
 }
 
+/// All items of a list are in range.
 pub(crate) fn know_items(items: &[WorldItem])
     ensures { AllByRecursion IsItemInRange items.now }
 {
@@ -74,7 +77,7 @@ pub(crate) fn know_event(event: &Event)
     }
 }
 
-/// And so are all events of a list.
+/// All events of a list are in range.
 pub(crate) fn know_events(events: &[Event])
     ensures { AllByRecursion IsInRange events.now }
 {

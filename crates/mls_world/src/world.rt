@@ -1,19 +1,18 @@
 //! A world.
 
-ghost use Rattle.std.specs.Prelude.{◌≡◌, ℕ, Ok, Err, slice_get, option_map};
+ghost use Rattle.std.specs.Prelude.{◌≡◌, slice_get, option_map};
 ghost use Rattle.std.specs.Option.{option_copied};
-ghost use Rattle.mls_model.specs.declared.event.Reply.TheVariants as reply;
-ghost use Rattle.mls_model.specs.Answers.{Runs};
 ghost use Rattle.mls_model.specs.Headline.{Headline, HoldsAlong};
 ghost use Rattle.mls_model.specs.World as model;
-ghost use Rattle.mls_world_plain.specs.StepAnswer.{DoesStep};
-ghost use Rattle.mls_world_plain.specs.EarlyChecks.{early_checks};
+ghost use Rattle.mls_world.specs.Runs.{RunsAll};
+ghost use Rattle.mls_world_plain.specs.CallAnswers.{seated_member};
+ghost use Rattle.mls_world_plain.specs.StepAnswer.{DoesStep, RepliesEarly};
 
 use crate::ranges::{know_event, know_events};
 use crate::replies::push_replies;
-use mls_world_plain::{Journal, Member, PlainWorld};
 use mls_model::{Event, Reply};
 use mls_suite::{OutOfMemory, Suite};
+use mls_world_plain::{Journal, Member, PlainWorld};
 use std::alloc::Global;
 use std::marker::Model;
 
@@ -50,23 +49,23 @@ impl<S: Suite> World<S> {
         }
     }
 
-    /// One event: a refusal is the reply, but for want of memory, at which the world is as before. Of the world that it
-    /// leaves the headline holds.
+    /// Does what one event says: a refusal is the reply, but for want of memory, at which the world is as before. Of
+    /// the world that it leaves the headline holds.
     pub fn step(&mut self, event: &Event) -> Result<Reply, OutOfMemory>
         ensures does { DoesStep S.crypto event.now self.old self.new result }
         // What is decided before anything grows is the reply whatever memory there is.
-        ensures refused { (n : ℕ) → early_checks self.old event.now ≡ Err n → (result ≡ Ok (reply.Refused n)) × (self.new ≡ self.old) }
+        ensures refused { RepliesEarly event.now self.old self.new result }
         ensures headline { Headline S.crypto self.new }
     {
         know_event(event);
         self.world.step(event)
     }
 
-    /// The events in order, with a reply to each; a refusal is a reply. Where one finds no memory, the world and the replies
-    /// are those of the events before it. Of the world that it leaves the headline holds, and of that after each event of the
-    /// list: what members agree on, what they accept, and which keys they have.
+    /// Runs the events in order, with a reply to each; a refusal is a reply. Where one finds no memory, the world and
+    /// the replies are those of the events before it. Of the world that it leaves the headline holds, and of that
+    /// after each event of the list: what members agree on, what they accept, and which keys they have.
     pub fn run(&mut self, events: &[Event], replies: &mut Vec<Reply>) -> Result<(), OutOfMemory>
-        ensures run { Runs S.crypto events.now self.old self.new replies.old.items replies.new.items result }
+        ensures run { RunsAll S.crypto events.now self.old self.new replies.old replies.new result }
         ensures headline { Headline S.crypto self.new }
         ensures along { HoldsAlong S.crypto self.old events.now }
     {
@@ -74,8 +73,8 @@ impl<S: Suite> World<S> {
         push_replies(&mut self.world, events, replies)
     }
 
-    /// What holds of each such world: what members agree on, what they accept, and which keys they have. It does nothing
-    /// else.
+    /// Tells what holds of each such world, and does nothing: what members agree on, what they accept, and which keys
+    /// they have.
     pub fn headline(&self)
         ensures { Headline S.crypto self.now }
     {
@@ -84,7 +83,7 @@ impl<S: Suite> World<S> {
 
     /// Member k.
     pub fn member(&self, k: usize) -> Option<&Member<S>>
-        ensures { option_copied result ≡ option_map (λ (s : model.Seat). s.member) (slice_get self.now.seats k) }
+        ensures { option_copied result ≡ seated_member self.now k }
     {
         self.world.member(k)
     }

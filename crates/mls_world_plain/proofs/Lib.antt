@@ -1,4 +1,3 @@
-pub mod NamesLemmas
 pub mod JournalSteps
 pub mod Stores
 pub mod Readings

@@ -2,7 +2,7 @@
 use Rattle.std.specs.Prelude.{◌≡◌, ℕ, ◌+◌, ◌<◌, Bool, true, false, not, ◌&&◌, List, [], ◌∷◌, ◌++◌, length, map, slice_get, option_map, Option, Some, None, Result, Ok, IfSome}
 use Rattle.std.specs.List.{list_any}
 use Rattle.std.specs.Str.{bytes_eq}
-use Rattle.mls_wire.specs.Checks.{require, ◌>>◌}
+use Rattle.mls_wire.specs.Checks.{require, ◌>>◌, DoesAs}
 use Rattle.mls_wire.specs.Reading.{◌>>=◌}
 use Rattle.mls_leaf.specs.KeyPackage.{key_package}
 use Rattle.mls_types.specs.declared.commit.ProposalOrRef.{ProposalOrRef}
@@ -20,11 +20,17 @@ use Rattle.mls_model.specs.Make.{commit_call}
 use Rattle.mls_model.specs.Verdict.{verdict}
 use Rattle.mls_model.specs.WorldCalls.{journal_after}
 use Rattle.mls_model.specs.World.{World, Entrant, Seat, with_member, seat_at, has_source, commit_for_joiner}
-use Rattle.mls_world_plain.specs.StoredWorld.{Making, commit_made_of}
+use Rattle.mls_world_plain.specs.declared.error.WorldError.{WorldError}
+use Rattle.mls_world_plain.specs.Faults.{number_of}
+use Rattle.mls_world_plain.specs.StoredWorld.{Making, Seated, commit_made_of, seat_of}
 
 -- ---- candidates
 
--- a candidate: 93 another has its signature key
+-- whether a candidate has a signature key
+abbrev pub has_signature_key : World → List ℕ → Bool
+has_signature_key w key = list_any (λ (e : Entrant). bytes_eq e.candidate.offered.leaf_node.signature_key key) w.entrants
+
+-- a candidate that isn't yet in the world: `CandidateRepeated` (93) where another has its signature key
 unfoldable pub make_candidate : Crypto → World → List ℕ → List ℕ → Result Candidate ℕ
 make_candidate c w identity seed =
     require 93 (not (list_any (λ (e : Entrant). bytes_eq e.candidate.offered.leaf_node.signature_key (c.sig_public (sign_seed seed))) w.entrants))
@@ -47,6 +53,10 @@ is_advanced other = false
 -- what bytes do to a member and its journal
 unfoldable pub seat_verdict : Crypto → Seat → List ℕ → Result (Effect × Seat) ℕ
 seat_verdict c s bytes = verdict c s.member bytes >>= λ x. Ok (x.0, record { member = x.1; journal = journal_after s bytes x.0 })
+
+-- bytes are handed to the member in a seat, whose journal stands among these
+abbrev pub HandsOver : Crypto → List Journal → Seated → List Journal → Seated → List ℕ → Result Effect WorldError → Type 0
+HandsOver c js s ks t bytes result = DoesAs (λ (e : Effect). e) number_of (seat_verdict c (seat_of js s) bytes) (seat_of js s) (seat_of ks t) result
 
 -- ---- commits
 
@@ -85,10 +95,14 @@ abbrev pub commit_made_at : List CommitMade → Option ℕ → Option CommitMade
 commit_made_at made None = None
 commit_made_at made (Some i) = slice_get made i
 
--- and it is there
+-- a record has this number, where there is a number
 abbrev pub IsThere : List CommitMade → Option ℕ → Type 0
 IsThere made number = IfSome number (λ i. i < length made)
 
 -- the first record that has that Welcome and adds that KeyPackage, whatever the journals are
 abbrev pub FirstIs : List Making → Source → List ℕ → Option ℕ → Type 0
 FirstIs ds source offered found = (js : List Journal) (k : Candidate) → offered ≡ key_package.spell k.offered → commit_for_joiner (map (commit_made_of js) ds) source k ≡ commit_made_at (map (commit_made_of js) ds) found
+
+-- the first commit whose Welcome that is and which adds the candidate's own KeyPackage has this number
+abbrev pub IsForJoiner : List CommitMade → Source → Candidate → Option ℕ → Type 0
+IsForJoiner made source k found = commit_for_joiner made source k ≡ commit_made_at made found

@@ -3,38 +3,45 @@
 use Rattle.std.specs.Prelude.{ℕ, List, [], ◌∷◌, Result, Ok}
 use Rattle.mls_wire.specs.Checks.{Passed, passed}
 use Rattle.mls_wire.specs.Reading.{◌>>=◌}
+use Rattle.mls_tree.specs.Refusals.{RefusesOutright}
 use Rattle.mls_model.specs.declared.event.Event.{Event}
 use Rattle.mls_model.specs.declared.event.Event.TheVariants as event
 use Rattle.mls_model.specs.declared.event.Source.{Source}
 use Rattle.mls_model.specs.declared.event.WorldItem.{WorldItem}
 use Rattle.mls_model.specs.World.{World, seat_at, entrant_at, bytes_of, package_of, item_of}
+use Rattle.mls_world_plain.specs.declared.error.WorldError.{WorldError}
+use Rattle.mls_world_plain.specs.Faults.{number_of}
+
+-- Where these checks fail, the call is refused with the number of the first, whatever memory there is.
+abbrev pub RefusesEarly : {A B : Type 0} → Result A ℕ → Result B WorldError → Type 0
+RefusesEarly checks result = RefusesOutright number_of checks result
 
 -- a check by a definition's number, without its value
 abbrev pub check_of : {A : Type 0} → Result A ℕ → Result Passed ℕ
 check_of r = r >>= λ x. Ok passed
 
--- of an add: 90 no such member; then 94, decoding and 95 of the source
+-- the checks of an add: `NoSuchMember` (90), then `NoSuchMessage` (94), decoding and `WrongMessageKind` (95) of the source
 unfoldable pub early_add_checks : World → ℕ → Source → Result Passed ℕ
 early_add_checks w k source = seat_at w k >>= λ s. check_of (package_of w source)
 
--- of a list: the first's 94, decoding and 95
+-- the checks of a list: `NoSuchMessage` (94), decoding and `WrongMessageKind` (95) of its first item
 abbrev pub first_checks : World → List WorldItem → Result Passed ℕ
 first_checks w [] = Ok passed
 first_checks w (x ∷ xs) = check_of (item_of w x)
 
--- of a commit: 90 no such member; then those of its list
+-- the checks of a commit: `NoSuchMember` (90), then those of its list
 unfoldable pub early_commit_checks : World → ℕ → List WorldItem → Result Passed ℕ
 early_commit_checks w k items = seat_at w k >>= λ s. first_checks w items
 
--- of a delivery: 90 no such member, 94 no such message
+-- the checks of a delivery: `NoSuchMember` (90), `NoSuchMessage` (94)
 unfoldable pub early_delivery_checks : World → ℕ → Source → Result Passed ℕ
 early_delivery_checks w k source = seat_at w k >>= λ s. check_of (bytes_of w source)
 
--- of a join: 92 no such candidate, 91 a spent one, 94 no such message
+-- the checks of a join: `NoSuchCandidate` (92), `CandidateSpent` (91), `NoSuchMessage` (94)
 unfoldable pub early_join_checks : World → ℕ → Source → Result Passed ℕ
 early_join_checks w n source = entrant_at w n >>= λ e. check_of (bytes_of w source)
 
--- of an event; of a candidate none
+-- the checks of an event; a candidate has none
 unfoldable pub early_checks : World → Event → Result Passed ℕ
 early_checks w (event.Candidate identity seed) = Ok passed
 early_checks w (event.Create n group seed) = check_of (entrant_at w n)

@@ -1,5 +1,4 @@
 pub mod Faults
-pub mod Names
 pub mod StepAnswer
 pub mod StoredWorld
 pub mod JournalSteps
@@ -7,4 +6,7 @@ pub mod Codes
 pub mod Sources
 pub mod CommitItems
 pub mod CallParts
+pub mod CommitParts
+pub mod CallAnswers
+pub mod NewMembers
 pub mod EarlyChecks

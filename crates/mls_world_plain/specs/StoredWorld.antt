@@ -27,7 +27,7 @@ latest j = first_of j.entries
 abbrev pub IsWithin : List Journal → ℕ → Type 0
 IsWithin js n = n < length js
 
--- and has an entry
+-- journal n is there and has an entry
 pub record HasEntry (js : List Journal) (n : ℕ) : Type 0 where
   pub within : n < length js
   pub follows : with_entry (before (journal_at js n)) (latest (journal_at js n)) ≡ journal_at js n

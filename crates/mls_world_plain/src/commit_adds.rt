@@ -16,7 +16,7 @@ use mls_model::Item;
 use mls_suite::Suite;
 use std::alloc::{AllocError, Global};
 
-/// What one of a commit's list says, by what a member keeps.
+/// Finds what one of a commit's list says, by what a member keeps.
 fn proposal_for<'a, S: Suite>(member: &'a Member<S>, item: &'a Item) -> Option<&'a Proposal>
     requires { IsShortItem item.now }
     ensures said { option_copied result ≡ proposal_for member.now.kept (listed_of item.now) }
@@ -40,7 +40,7 @@ fn encode_key_package(alloc: Global, offered: &KeyPackage) -> Result<Bytes, Allo
     }
 }
 
-/// One more KeyPackage, where a proposal adds one.
+/// Adds the KeyPackage of a proposal, where it adds one.
 fn push_added(alloc: Global, adds: &mut Vec<Bytes>, proposal: &Proposal) -> Result<(), AllocError>
     requires { IsShortProposal proposal.now }
     ensures { OnOk result (adds.new.items ≡ with_package adds.old.items (add_in proposal.now)) }

@@ -1,12 +1,11 @@
 //! What the list of a commit names, by what a member keeps.
 
-ghost use Rattle.std.specs.Prelude.{◌≡◌, ◌++◌, map, option_map, IfOk, OnOk};
-ghost use Rattle.std.specs.Option.{option_copied, option_to_list};
+ghost use Rattle.std.specs.Prelude.{◌≡◌, map, IfOk, OnOk};
+ghost use Rattle.std.specs.Option.{option_copied};
 ghost use Rattle.mls_types.specs.declared.commit.ProposalOrRef as listings;
 ghost use Rattle.mls_model.specs.Make.{listed_of};
-ghost use Rattle.mls_model.specs.Member as model;
 ghost use Rattle.mls_model.specs.Journal.{names_in};
-ghost use Rattle.mls_world_plain.specs.CommitItems.{reference_listed};
+ghost use Rattle.mls_world_plain.specs.CommitItems.{name_of, reference_listed, with_name};
 
 use mls_leaf::Bytes;
 use mls_member::Member;
@@ -49,7 +48,7 @@ impl Listed for Item {
 
 /// The message of the kept proposal that one of a list names.
 fn name_of<'a, T: Listed, S: Suite>(member: &'a Member<S>, listed: &T) -> Option<&'a [u8]>
-    ensures { option_copied result ≡ option_map (λ (k : model.KeptProposal). k.message) (model.named_proposal member.now.kept (T.listed listed.now)) }
+    ensures { option_copied result ≡ name_of member.now.kept (T.listed listed.now) }
 {
     match listed.reference() {
         Some(reference) => member.kept(reference),
@@ -57,13 +56,13 @@ fn name_of<'a, T: Listed, S: Suite>(member: &'a Member<S>, listed: &T) -> Option
     }
 }
 
-/// One more message, where there is one.
+/// Adds a message, where there is one.
 fn push_some(
     alloc: Global,
     names: &mut Vec<Bytes>,
     message: Option<&[u8]>,
 ) -> Result<(), AllocError>
-    ensures { OnOk result (names.new.items ≡ names.old.items ++ option_to_list (option_copied message.entry)) }
+    ensures { OnOk result (names.new.items ≡ with_name names.old (option_copied message.entry)) }
 {
     match message {
         Some(bytes) => {

@@ -1,23 +1,17 @@
 //! Commits of members.
 
-ghost use Rattle.std.specs.Prelude.{◌≡◌, ◌<◌, ℕ, Some, None, Err, is_some, option_map, length, map, slice_get, IfOk, IfErr, OnErr};
-ghost use Rattle.std.specs.Global.{Vec};
-ghost use Rattle.mls_wire.specs.Checks.{DoesAs};
-ghost use Rattle.mls_tree.specs.Refusals.{RefusesOutright};
-ghost use Rattle.mls_member.specs.Answers.{messages_of, AreShortItems};
-ghost use Rattle.mls_model.specs.declared.event.Reply.TheVariants as reply;
-ghost use Rattle.mls_model.specs.WorldCalls.{commit_answer, drop_answer};
-ghost use Rattle.mls_model.specs.Make.{listed_of};
-ghost use Rattle.mls_model.specs.Member as members;
-ghost use Rattle.mls_model.specs.World as model;
+ghost use Rattle.std.specs.Prelude.{◌≡◌, ◌<◌, Err, length, IfOk, IfErr, OnErr};
+ghost use Rattle.mls_member.specs.Answers.{AreShortItems};
+ghost use Rattle.mls_model.specs.WorldCalls.{drop_answer};
 ghost use Rattle.mls_world_plain.specs.Faults.{number_of};
-ghost use Rattle.mls_world_plain.specs.EarlyChecks.{early_commit_checks};
-ghost use Rattle.mls_world_plain.specs.CallParts.{commit_by, record_commit, IsNamed};
+ghost use Rattle.mls_world_plain.specs.EarlyChecks.{early_commit_checks, RefusesEarly};
+ghost use Rattle.mls_world_plain.specs.CallAnswers.{Commits, DropsPending};
+ghost use Rattle.mls_world_plain.specs.CommitParts.{welcome_with_number, CommitsList, ForgetsPending, HasNothingPending, IsPendingEpoch, NamesList, RecordsCommit, TellsPending};
 
 use crate::commit_adds::added_by;
+use crate::commit_names::names_in;
 use crate::entry::Entry;
 use crate::error::WorldError;
-use crate::commit_names::names_in;
 use crate::seats::Making;
 use crate::world::PlainWorld;
 use mls_kdf::{Secret, Seed};
@@ -45,7 +39,7 @@ pub(crate) struct Named {
 
 /// The Welcome of a commit with the number of its message.
 fn welcome_with_number(alloc: Global, number: usize, made: &Made) -> Result<Option<(usize, Bytes)>, AllocError>
-    ensures { IfOk result (λ o. o ≡ option_map (λ (v : Vec ℕ). (number, v.items)) made.now.welcome) }
+    ensures { IfOk result (λ o. o ≡ welcome_with_number number made.now) }
 {
     match &made.welcome {
         Some(bytes) => Ok(Some((number, Bytes::from_vec(Vec::from_slice(alloc, bytes)?)))),
@@ -59,7 +53,7 @@ impl<S: Suite> PlainWorld<S> {
     fn named(&self, k: usize, list: &[Item]) -> Result<Named, WorldError>
         requires there { k < length self.now.seats }
         requires short { AreShortItems list.now }
-        ensures named { IfOk result (λ n. (s : model.Seat) → slice_get self.now.seats k ≡ Some s → IsNamed s.member.kept (map listed_of list.now) n.names.items n.adds.items) }
+        ensures named { IfOk result (λ n. NamesList self.now k list.now n) }
         ensures memory { IfErr result (λ e. number_of e ≡ 1) }
     {
         let seat = &self.seats[k];
@@ -78,8 +72,8 @@ impl<S: Suite> PlainWorld<S> {
     ) -> Result<Made, WorldError>
         requires there { k < length self.old.seats }
         requires short { AreShortItems list.now }
-        ensures does { DoesAs messages_of number_of (commit_by S.crypto self.old k (map listed_of list.now) path seed.now) self.old self.new result }
-        ensures free { IfOk result (λ _. (s : model.Seat) → slice_get self.old.seats k ≡ Some s → s.member.pending ≡ None) }
+        ensures does { CommitsList S.crypto self.old self.new k list.now path seed.now result }
+        ensures free { IfOk result (λ _. HasNothingPending self.old k) }
     {
         let seat = &mut self.seats[k];
         let made = match seat.member.commit(list, path, seed) {
@@ -92,7 +86,7 @@ impl<S: Suite> PlainWorld<S> {
     /// The epoch secret that the pending commit of member k leads to.
     fn pending_epoch(&self, k: usize) -> Secret
         requires { k < length self.now.seats }
-        ensures { (s : model.Seat) (p : members.Pending) → slice_get self.now.seats k ≡ Some s → s.member.pending ≡ Some p → result ≡ p.epoch }
+        ensures { IsPendingEpoch self.now k result }
     {
         let seat = &self.seats[k];
         match seat.member.pending_secret() {
@@ -101,22 +95,21 @@ impl<S: Suite> PlainWorld<S> {
         }
     }
 
-    /// Member k forgets its pending commit, and it is answered whether there was one.
+    /// Forgets the pending commit of member k, and answers whether there was one.
     #[tactic(auto, using(crate::proofs::Stores::seat_found))]
     fn forget(&mut self, k: usize) -> bool
         requires { k < length self.old.seats }
-        ensures had { (s : model.Seat) → slice_get self.old.seats k ≡ Some s → result ≡ is_some s.member.pending }
-        ensures none { (s : model.Seat) → slice_get self.old.seats k ≡ Some s → self.new ≡ model.with_member self.old k s (members.without_pending s.member) }
+        ensures had { TellsPending self.old k result }
+        ensures none { ForgetsPending self.old self.new k }
     {
         let seat = &mut self.seats[k];
         seat.member.drop_pending()
     }
 
-    /// The messages of a commit that member k made are added, and it is recorded with what it names and adds.
+    /// Adds the messages of a commit that member k made, and records it with what it names and adds.
     fn record(&mut self, k: usize, made: Made, named: Named) -> Result<NewCommit, WorldError>
         requires { k < length self.old.seats }
-        ensures ok { IfOk result (λ v. (s : model.Seat) (p : members.Pending) → slice_get self.old.seats k ≡ Some s → s.member.pending ≡ Some p
-            → record_commit self.old k s p.epoch (messages_of made) named.names.items named.adds.items ≡ (reply.Commit v.message v.welcome, self.new)) }
+        ensures ok { IfOk result (λ v. RecordsCommit self.old self.new k made named v) }
         ensures err { OnErr result (self.new ≡ self.old) }
         ensures memory { IfErr result (λ e. number_of e ≡ 1) }
     {
@@ -153,9 +146,9 @@ impl<S: Suite> PlainWorld<S> {
         }
     }
 
-    /// A member commits a list, with a path where `path` says so or one is required, and keeps the state that it leads to as
-    /// pending: 90 no such member, then in the list's order 94 no such message, decoding, 95 a message of another kind, then
-    /// the member's checks (RFC 9420, 12.4.1). It answers the numbers of the commit and of its Welcome.
+    /// Commits a list, with a path where `path` says so or one is required, and keeps the state that it leads to as
+    /// pending: `NoSuchMember` (90), then in the list's order `NoSuchMessage` (94), decoding, `WrongMessageKind`
+    /// (95), then the member's checks (RFC 9420, 12.4.1). It answers the numbers of the commit and of its Welcome.
     #[tactic(auto, using(crate::proofs::Committing::nobody))]
     pub fn commit(
         &mut self,
@@ -164,9 +157,10 @@ impl<S: Suite> PlainWorld<S> {
         path: bool,
         seed: &Seed,
     ) -> Result<NewCommit, WorldError>
-        ensures does { DoesAs (λ v. reply.Commit v.message v.welcome) number_of (commit_answer S.crypto self.old member items.now path seed.now) self.old self.new result }
-        // 90, and of the first item 94, decoding's and 95, come whatever memory there is.
-        ensures outright { RefusesOutright number_of (early_commit_checks self.old member items.now) result }
+        ensures does { Commits S.crypto self.old self.new member items.now path seed.now result }
+        // `NoSuchMember` (90), and of the first item `NoSuchMessage` (94), decoding's and `WrongMessageKind` (95), come
+        // whatever memory there is.
+        ensures outright { RefusesEarly (early_commit_checks self.old member items.now) result }
     {
         self.require_member(member)?;
         let list = match self.items_of(items) {
@@ -187,10 +181,10 @@ impl<S: Suite> PlainWorld<S> {
         }
     }
 
-    /// A member forgets its pending commit, and it is answered whether there was one: 90 no such member. It takes no memory.
+    /// Forgets a member's pending commit, and answers whether there was one: `NoSuchMember` (90). It takes no memory.
     #[tactic(auto, using(crate::proofs::Committing::drop_nobody))]
     pub fn drop_pending(&mut self, member: usize) -> Result<bool, WorldError>
-        ensures does { DoesAs (λ b. reply.Dropped b) number_of (drop_answer self.old member) self.old self.new result }
+        ensures does { DropsPending self.old self.new member result }
         // No want of memory.
         ensures outright { IfErr result (λ e. drop_answer self.old member ≡ Err (number_of e)) }
     {

@@ -1,23 +1,17 @@
 //! Deliveries to members.
 
-ghost use Rattle.std.specs.Prelude.{◌≡◌, ◌<◌, length, Ok, IfOk};
-ghost use Rattle.mls_wire.specs.Checks.{DoesAs};
-ghost use Rattle.mls_tree.specs.Refusals.{RefusesOutright};
-ghost use Rattle.mls_model.specs.declared.event.Reply.TheVariants as reply;
-ghost use Rattle.mls_model.specs.WorldCalls.{deliver_answer};
-ghost use Rattle.mls_model.specs.Journal.{list_in, list_of_body, list_of_message, entry_of};
-ghost use Rattle.mls_types.specs.declared.public_message.PublicMessage as messages;
-ghost use Rattle.mls_types.specs.declared.message.MlsMessage as sent;
-ghost use Rattle.mls_view.specs.Shown.{ShowsPublic, Shows};
-ghost use Rattle.mls_world_plain.specs.Faults.{number_of};
-ghost use Rattle.mls_world_plain.specs.EarlyChecks.{early_delivery_checks};
-ghost use Rattle.mls_world_plain.specs.CallParts.{seat_verdict, is_advanced};
-ghost use Rattle.mls_world_plain.specs.StoredWorld.{seat_of, AreMore};
+ghost use Rattle.std.specs.Prelude.{◌≡◌, ◌<◌, length, IfOk};
+ghost use Rattle.mls_model.specs.Journal.{list_in, entry_of};
+ghost use Rattle.mls_world_plain.specs.CallAnswers.{DeliversTo};
+ghost use Rattle.mls_world_plain.specs.CallParts.{is_advanced, HandsOver};
+ghost use Rattle.mls_world_plain.specs.CommitItems.{IsListOfMessage, IsListOfView};
+ghost use Rattle.mls_world_plain.specs.EarlyChecks.{early_delivery_checks, RefusesEarly};
+ghost use Rattle.mls_world_plain.specs.StoredWorld.{AreMore};
 
+use crate::commit_names::names_in;
 use crate::entry::Entry;
 use crate::error::WorldError;
 use crate::journal::Journals;
-use crate::commit_names::names_in;
 use crate::seats::Seat;
 use crate::sources::bytes_of;
 use crate::world::PlainWorld;
@@ -31,7 +25,7 @@ use std::alloc::{AllocError, Global};
 
 /// The list of the commit that a PublicMessage has, empty where it has none.
 fn list_of_body(alloc: Global, view: &PublicMessageView<'_>) -> Result<Vec<ProposalOrRef>, AllocError>
-    ensures { IfOk result (λ v. (shown : messages.PublicMessage) → ShowsPublic view.now shown → v.items ≡ list_of_body shown.content.body) }
+    ensures { IfOk result (λ v. IsListOfView view.now v.items) }
 {
     let ContentView::Commit { proposals, .. } = &view.content.content else {
         return Ok(Vec::new(alloc));
@@ -45,7 +39,7 @@ fn list_of_body(alloc: Global, view: &PublicMessageView<'_>) -> Result<Vec<Propo
 
 /// The list of the commit that a message has, empty where it has none.
 fn list_of_message(alloc: Global, message: &MessageView<'_>) -> Result<Vec<ProposalOrRef>, AllocError>
-    ensures { IfOk result (λ v. (value : sent.MlsMessage) → Shows message.now value → v.items ≡ list_of_message (Ok value)) }
+    ensures { IfOk result (λ v. IsListOfMessage message.now v.items) }
 {
     match message {
         MessageView::PublicMessage(view) => list_of_body(alloc, view),
@@ -95,7 +89,7 @@ fn hand_bytes<S: Suite>(
     bytes: &[u8],
 ) -> Result<Effect, WorldError>
     requires { seat.old.journal < length journals.old }
-    ensures does { DoesAs (λ e. e) number_of (seat_verdict S.crypto (seat_of journals.old seat.old) bytes.now) (seat_of journals.old seat.old) (seat_of journals.new seat.new) result }
+    ensures does { HandsOver S.crypto journals.old seat.old journals.new seat.new bytes.now result }
     ensures more { AreMore journals.old journals.new }
     ensures within { seat.new.journal < length journals.new }
 {
@@ -118,13 +112,14 @@ fn hand_bytes<S: Suite>(
 }
 
 impl<S: Suite> PlainWorld<S> {
-    /// Delivers a source to a member: 90 no such member, 94 no such message, then the member's checks. The world refuses
-    /// no bytes itself. A commit that is followed is a new entry of the member's journal (RFC 9420, 6, 12.1 and 12.4.2).
+    /// Delivers a source to a member: `NoSuchMember` (90), `NoSuchMessage` (94), then the member's checks. The world
+    /// refuses no bytes itself. A commit that is followed is a new entry of the member's journal (RFC 9420, 6, 12.1
+    /// and 12.4.2).
     #[tactic(auto, using(crate::proofs::Changing::no_member, crate::proofs::Stores::seat_missing, crate::proofs::Calling::stands_at, crate::proofs::EarlyChecks::delivery_nobody))]
     pub fn deliver(&mut self, member: usize, source: &Source) -> Result<Effect, WorldError>
-        ensures does { DoesAs (λ e. reply.Delivered e) number_of (deliver_answer S.crypto self.old member source.now) self.old self.new result }
-        // 90 and 94 come whatever memory there is.
-        ensures outright { RefusesOutright number_of (early_delivery_checks self.old member source.now) result }
+        ensures does { DeliversTo S.crypto self.old self.new member source.now result }
+        // `NoSuchMember` (90) and `NoSuchMessage` (94) come whatever memory there is.
+        ensures outright { RefusesEarly (early_delivery_checks self.old member source.now) result }
     {
         let Some(seat) = self.seats.get_mut(member) else {
             return Err(WorldError::NoSuchMember);

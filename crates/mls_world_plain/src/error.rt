@@ -1,7 +1,8 @@
 //! What a world refuses.
 
 ghost use Rattle.std.specs.Prelude.{◌≡◌};
-ghost use Rattle.mls_world_plain.specs.Faults.{number_of, name_of};
+ghost use Rattle.mls_wire.specs.Names.{refusal_name};
+ghost use Rattle.mls_world_plain.specs.Faults.{number_of};
 ghost use Rattle.mls_world_plain.specs.declared.error.WorldError.TheVariants.{Leaf as in_leaf, Candidate as in_candidate, Member as in_member};
 ghost use Rattle.mls_wire.specs.declared.WireError.TheVariants.{OutOfMemory};
 ghost use Rattle.mls_leaf.specs.declared.error.LeafError.TheVariants.{Wire as in_wire};
@@ -9,7 +10,7 @@ ghost use Rattle.mls_leaf.specs.declared.error.LeafError.TheVariants.{Wire as in
 use mls_candidate::CandidateError;
 use mls_leaf::LeafError;
 use mls_member::Refusal;
-use mls_wire::WireError;
+use mls_wire::{WireError, refusal_name};
 use std::alloc::{AllocError, AllocFailed};
 use thiserror::Error;
 
@@ -105,18 +106,8 @@ impl WorldError {
 
     /// The name of the refusal, as it is printed.
     pub fn name(self) -> &'static str
-        ensures { result.now ≡ name_of self }
+        ensures { result.now ≡ refusal_name (number_of self) }
     {
-        match self {
-            WorldError::Leaf(error) => error.name(),
-            WorldError::Candidate(error) => error.name(),
-            WorldError::Member(error) => error.name(),
-            WorldError::NoSuchMember => "NoSuchMember",
-            WorldError::CandidateSpent => "CandidateSpent",
-            WorldError::NoSuchCandidate => "NoSuchCandidate",
-            WorldError::CandidateRepeated => "CandidateRepeated",
-            WorldError::NoSuchMessage => "NoSuchMessage",
-            WorldError::WrongMessageKind => "WrongMessageKind",
-        }
+        refusal_name(self.number())
     }
 }

@@ -1,13 +1,8 @@
 //! Events.
 
-ghost use Rattle.std.specs.Prelude.{◌≡◌, ℕ, Ok, Err};
-ghost use Rattle.mls_wire.specs.Checks.{DoesAs};
-ghost use Rattle.mls_tree.specs.Refusals.{RefusesOutright};
-ghost use Rattle.mls_model.specs.declared.event.Reply.TheVariants as reply;
-ghost use Rattle.mls_model.specs.Run.{answer};
-ghost use Rattle.mls_world_plain.specs.StepAnswer.{DoesStep};
-ghost use Rattle.mls_world_plain.specs.Faults.{number_of};
-ghost use Rattle.mls_world_plain.specs.EarlyChecks.{early_checks};
+ghost use Rattle.mls_world_plain.specs.CallAnswers.{AnswersEvent};
+ghost use Rattle.mls_world_plain.specs.EarlyChecks.{early_checks, RefusesEarly};
+ghost use Rattle.mls_world_plain.specs.StepAnswer.{DoesStep, RepliesEarly};
 
 use crate::candidates::NewCandidate;
 use crate::commits::NewCommit;
@@ -19,12 +14,12 @@ use mls_suite::Suite;
 use std::alloc::AllocError;
 
 impl<S: Suite> PlainWorld<S> {
-    /// What an event does, or the first check that fails.
+    /// Does what an event says, or answers the first check that fails.
     #[tactic(auto, unfolding(mls_model::specs::Run::answer))]
     pub fn answer(&mut self, event: &Event) -> Result<Reply, WorldError>
-        ensures does { DoesAs (λ r. r) number_of (answer S.crypto self.old event.now) self.old self.new result }
+        ensures does { AnswersEvent S.crypto self.old self.new event.now result }
         // What is decided before anything grows comes whatever memory there is.
-        ensures outright { RefusesOutright number_of (early_checks self.old event.now) result }
+        ensures outright { RefusesEarly (early_checks self.old event.now) result }
     {
         match event {
             Event::Candidate { identity, seed } => {
@@ -78,12 +73,12 @@ impl<S: Suite> PlainWorld<S> {
         }
     }
 
-    /// One event: a refusal is the reply, but for want of memory, at which the world is as before.
+    /// Does what one event says: a refusal is the reply, but for want of memory, at which the world is as before.
     #[tactic(auto, unfolding(mls_model::specs::Run::step))]
     pub fn step(&mut self, event: &Event) -> Result<Reply, AllocError>
         ensures does { DoesStep S.crypto event.now self.old self.new result }
         // What is decided before anything grows is the reply whatever memory there is.
-        ensures refused { (n : ℕ) → early_checks self.old event.now ≡ Err n → (result ≡ Ok (reply.Refused n)) × (self.new ≡ self.old) }
+        ensures refused { RepliesEarly event.now self.old self.new result }
     {
         match self.answer(event) {
             Ok(reply) => Ok(reply),

@@ -3,15 +3,11 @@
 ghost use Rattle.std.specs.Prelude.{◌≡◌, ◌<◌, length, IfSome};
 ghost use Rattle.std.specs.List.{list_any};
 ghost use Rattle.std.specs.Str.{bytes_eq};
-ghost use Rattle.mls_wire.specs.Checks.{DoesAs};
-ghost use Rattle.mls_tree.specs.Refusals.{RefusesOutright};
 ghost use Rattle.mls_leaf.specs.KeyPackage.{key_package};
-ghost use Rattle.mls_model.specs.declared.event.Reply.TheVariants as reply;
-ghost use Rattle.mls_model.specs.WorldCalls.{join_answer};
 ghost use Rattle.mls_model.specs.World as model;
-ghost use Rattle.mls_world_plain.specs.Faults.{number_of};
-ghost use Rattle.mls_world_plain.specs.EarlyChecks.{early_join_checks};
-ghost use Rattle.mls_world_plain.specs.CallParts.{adds_for, commit_made_at, IsThere, FirstIs};
+ghost use Rattle.mls_world_plain.specs.CallAnswers.{JoinsBy};
+ghost use Rattle.mls_world_plain.specs.CallParts.{adds_for, FirstIs, IsForJoiner, IsThere};
+ghost use Rattle.mls_world_plain.specs.EarlyChecks.{early_join_checks, RefusesEarly};
 
 use crate::error::WorldError;
 use crate::seats::Making;
@@ -84,19 +80,19 @@ fn first_making_for(made: &[Making], source: &Source, offered: &[u8]) -> Option<
 impl<S: Suite> PlainWorld<S> {
     /// The number of the first commit whose Welcome that is and which adds the candidate's own KeyPackage.
     fn commit_for_joiner(&self, source: &Source, candidate: &Candidate<S>) -> Option<usize>
-        ensures first { model.commit_for_joiner self.now.made source.now candidate.now ≡ commit_made_at self.now.made result }
+        ensures first { IsForJoiner self.now.made source.now candidate.now result }
         ensures there { IsThere self.now.made result }
     {
         first_making_for(&self.made, source, package_of(candidate))
     }
 
-    /// A candidate joins by a Welcome: 92 no such candidate, 91 it became a member, 94 no such message, then the checks of a
+    /// Joins by a Welcome: `NoSuchCandidate` (92), `CandidateSpent` (91), `NoSuchMessage` (94), then the checks of a
     /// join (RFC 9420, 12.4.3.1). The world decodes nothing. Where the Welcome was made here and its commit adds the
     /// candidate's own KeyPackage, the journal is the maker's with that commit, else it begins with the GroupInfo.
     pub fn join(&mut self, candidate: usize, source: &Source) -> Result<NewMember, WorldError>
-        ensures does { DoesAs (λ v. reply.Joined v.member v.epoch) number_of (join_answer S.crypto self.old candidate source.now) self.old self.new result }
-        // 92, 91 and 94 come whatever memory there is.
-        ensures outright { RefusesOutright number_of (early_join_checks self.old candidate source.now) result }
+        ensures does { JoinsBy S.crypto self.old self.new candidate source.now result }
+        // `NoSuchCandidate` (92), `CandidateSpent` (91) and `NoSuchMessage` (94) come whatever memory there is.
+        ensures outright { RefusesEarly (early_join_checks self.old candidate source.now) result }
     {
         let alloc = self.alloc;
         let entrant = match self.unspent_candidate(candidate) {

@@ -1,10 +1,10 @@
 //! The journals of a world, in one store, where an entry costs no copy of what stands before it.
 
-ghost use Rattle.std.specs.Prelude.{◌≡◌, ◌<◌, List, [], ◌∷◌, ◌++◌, length, option_map, slice_get, IfOk, OnOk, OnErr};
+ghost use Rattle.std.specs.Prelude.{◌≡◌, ◌<◌, [], ◌∷◌, ◌++◌, length, option_map, slice_get, IfOk, OnOk, OnErr};
 ghost use Rattle.std.specs.Option.{option_copied};
 ghost use Rattle.mls_model.specs.Journal as model;
-ghost use Rattle.mls_world_plain.specs.StoredWorld.{before, journal_at};
-ghost use Rattle.mls_world_plain.specs.JournalSteps.{journal_of, GoesBack, HasStep, IsBefore};
+ghost use Rattle.mls_world_plain.specs.StoredWorld.{journal_at};
+ghost use Rattle.mls_world_plain.specs.JournalSteps.{earlier, journal_of, with_followed, GoesBack, HasStep, IsBefore, LosesLast};
 
 use crate::entry::{Entry, Step};
 use mls_model::Origin;
@@ -41,7 +41,7 @@ impl Journals {
         }
     }
 
-    /// One more, which begins here or goes on from one that is there.
+    /// Adds a journal, which begins here or goes on from one that is there.
     #[tactic(auto, using(crate::proofs::JournalSteps::one_more, crate::proofs::JournalSteps::as_many, crate::proofs::JournalSteps::goes_behind))]
     fn add(&mut self, step: Step) -> Result<usize, AllocError>
         requires { GoesBack (length self.old) step }
@@ -54,7 +54,7 @@ impl Journals {
         Ok(number)
     }
 
-    /// One more, which begins here.
+    /// Adds a journal, which begins here.
     pub(crate) fn begin(&mut self, origin: Origin) -> Result<usize, AllocError>
         ensures ok { OnOk result (self.new ≡ self.old ++ (model.new_journal origin ∷ [])) }
         ensures number { IfOk result (λ n. n ≡ length self.old) }
@@ -63,20 +63,20 @@ impl Journals {
         self.add(Step::Begun(origin))
     }
 
-    /// One more, which is journal `before` with an entry.
+    /// Adds a journal, which is journal `before` with an entry.
     pub(crate) fn follow(&mut self, before: usize, entry: Entry) -> Result<usize, AllocError>
         requires { before < length self.old }
-        ensures ok { OnOk result (self.new ≡ self.old ++ (model.with_entry (journal_at self.old before) entry ∷ [])) }
+        ensures ok { OnOk result (self.new ≡ with_followed self.old before entry) }
         ensures number { IfOk result (λ n. n ≡ length self.old) }
         ensures err { OnErr result (self.new ≡ self.old) }
     {
         self.add(Step::Followed { before, entry })
     }
 
-    /// Takes back the last one.
+    /// Takes back the last journal.
     #[tactic(auto, using(crate::proofs::JournalSteps::taken_back, crate::proofs::JournalSteps::goes_less))]
     pub(crate) fn take_back(&mut self)
-        ensures { (js : List model.Journal) (j : model.Journal) → self.old ≡ js ++ (j ∷ []) → self.new ≡ js }
+        ensures { LosesLast self.old self.new }
     {
         let number = self.steps.len();
         self.steps.truncate(number.saturating_sub(1));
@@ -173,7 +173,7 @@ impl<'a> Journal<'a> {
 
     /// The journal before the latest commit, where the member followed one.
     pub fn earlier(&self) -> Option<Journal<'a>>
-        ensures { result ≡ option_map (λ (e : model.Entry). before self.now) (slice_get self.now.entries 0) }
+        ensures { result ≡ earlier self.now }
     {
         match self.journals.number_before(self.number) {
             Some(number) => Some(Journal::of(self.journals, number)),

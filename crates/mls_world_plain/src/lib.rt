@@ -1,8 +1,9 @@
 //! What each event does in a world of members (RFC 9420, 11 and 12), whatever world that is.
 #![tactic(auto)]
 
-mod commit_adds;
 mod candidates;
+mod commit_adds;
+mod commit_names;
 mod commits;
 mod deliveries;
 mod entry;
@@ -10,9 +11,7 @@ mod error;
 mod events;
 mod joins;
 mod journal;
-mod laws;
 mod members;
-mod commit_names;
 mod proposals;
 mod seats;
 mod sources;
@@ -24,6 +23,5 @@ pub use entry::Entry;
 pub use error::WorldError;
 pub use joins::NewMember;
 pub use journal::Journal;
-pub use laws::world_names_by_number;
 pub use mls_member::{Candidate, Member};
 pub use world::PlainWorld;

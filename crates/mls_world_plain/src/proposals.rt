@@ -1,13 +1,9 @@
-//! Proposals of members. A KeyPackage is given to `drop`: that is one call, and the prover doesn't take it apart at each
-//! end.
+//! Proposals of members. A KeyPackage is given to `drop`: that is one call, and the prover doesn't take it apart at
+//! each end.
 
-ghost use Rattle.mls_wire.specs.Checks.{DoesAs};
-ghost use Rattle.mls_tree.specs.Refusals.{RefusesOutright};
-ghost use Rattle.mls_model.specs.declared.event.Reply.TheVariants as reply;
-ghost use Rattle.mls_model.specs.WorldCalls.{propose_add_answer, propose_update_answer, propose_remove_answer};
 ghost use Rattle.mls_model.specs.World as model;
-ghost use Rattle.mls_world_plain.specs.Faults.{number_of};
-ghost use Rattle.mls_world_plain.specs.EarlyChecks.{early_add_checks};
+ghost use Rattle.mls_world_plain.specs.CallAnswers.{ProposesAdd, ProposesRemove, ProposesUpdate};
+ghost use Rattle.mls_world_plain.specs.EarlyChecks.{early_add_checks, RefusesEarly};
 
 use crate::error::WorldError;
 use crate::world::PlainWorld;
@@ -17,13 +13,14 @@ use mls_model::Source;
 use mls_suite::Suite;
 
 impl<S: Suite> PlainWorld<S> {
-    /// Proposes to add the KeyPackage of a source, and answers the number of the message: 90 no such member, 94 no such
-    /// message, decoding, 95 a message of another kind, then the member's checks (RFC 9420, 12.1.1).
+    /// Proposes to add the KeyPackage of a source, and answers the number of the message: `NoSuchMember` (90),
+    /// `NoSuchMessage` (94), decoding, `WrongMessageKind` (95), then the member's checks (RFC 9420, 12.1.1).
     #[tactic(auto, using(crate::proofs::Stores::seat_found, crate::proofs::Stores::seat_missing, crate::proofs::Stores::seat_set, crate::proofs::Stores::unchanged, crate::proofs::Calling::member_changed, crate::proofs::Readings::wider), unfolding(mls_model::specs::WorldCalls::propose_add_answer))]
     pub fn propose_add(&mut self, member: usize, key_package: &Source) -> Result<usize, WorldError>
-        ensures does { DoesAs (λ n. reply.Proposal n) number_of (propose_add_answer S.crypto self.old member key_package.now) self.old self.new result }
-        // 90, 94, decoding's and 95 come whatever memory there is.
-        ensures outright { RefusesOutright number_of (early_add_checks self.old member key_package.now) result }
+        ensures does { ProposesAdd S.crypto self.old self.new member key_package.now result }
+        // `NoSuchMember` (90), `NoSuchMessage` (94), decoding's and `WrongMessageKind` (95) come whatever memory
+        // there is.
+        ensures outright { RefusesEarly (early_add_checks self.old member key_package.now) result }
     {
         self.require_member(member)?;
         let offered = self.package_of(key_package)?;
@@ -43,13 +40,13 @@ impl<S: Suite> PlainWorld<S> {
         Ok(message)
     }
 
-    /// Proposes a new key for the member's own leaf, and answers the number of the message: 90 no such member, then the
-    /// member's checks (RFC 9420, 12.1.2).
+    /// Proposes a new key for the member's own leaf, and answers the number of the message: `NoSuchMember` (90), then
+    /// the member's checks (RFC 9420, 12.1.2).
     #[tactic(auto, using(crate::proofs::Stores::seat_found, crate::proofs::Stores::seat_missing, crate::proofs::Stores::seat_set, crate::proofs::Stores::unchanged, crate::proofs::Calling::member_changed, crate::proofs::Readings::wider), unfolding(mls_model::specs::WorldCalls::propose_update_answer))]
     pub fn propose_update(&mut self, member: usize, seed: &Seed) -> Result<usize, WorldError>
-        ensures does { DoesAs (λ n. reply.Proposal n) number_of (propose_update_answer S.crypto self.old member seed.now) self.old self.new result }
-        // 90 comes whatever memory there is.
-        ensures outright { RefusesOutright number_of (model.seat_at self.old member) result }
+        ensures does { ProposesUpdate S.crypto self.old self.new member seed.now result }
+        // `NoSuchMember` (90) comes whatever memory there is.
+        ensures outright { RefusesEarly (model.seat_at self.old member) result }
     {
         self.require_member(member)?;
         self.messages.reserve(1)?;
@@ -62,13 +59,13 @@ impl<S: Suite> PlainWorld<S> {
         Ok(message)
     }
 
-    /// Proposes to remove the member at a leaf, and answers the number of the message: 90 no such member, then the member's
-    /// checks (RFC 9420, 12.1.3).
+    /// Proposes to remove the member at a leaf, and answers the number of the message: `NoSuchMember` (90), then the
+    /// member's checks (RFC 9420, 12.1.3).
     #[tactic(auto, using(crate::proofs::Stores::seat_found, crate::proofs::Stores::seat_missing, crate::proofs::Stores::seat_set, crate::proofs::Stores::unchanged, crate::proofs::Calling::member_changed, crate::proofs::Readings::wider), unfolding(mls_model::specs::WorldCalls::propose_remove_answer))]
     pub fn propose_remove(&mut self, member: usize, leaf: u32) -> Result<usize, WorldError>
-        ensures does { DoesAs (λ n. reply.Proposal n) number_of (propose_remove_answer S.crypto self.old member leaf) self.old self.new result }
-        // 90 comes whatever memory there is.
-        ensures outright { RefusesOutright number_of (model.seat_at self.old member) result }
+        ensures does { ProposesRemove S.crypto self.old self.new member leaf result }
+        // `NoSuchMember` (90) comes whatever memory there is.
+        ensures outright { RefusesEarly (model.seat_at self.old member) result }
     {
         self.require_member(member)?;
         self.messages.reserve(1)?;

@@ -1,8 +1,7 @@
 //! What the sources of a world's events stand for.
 
-ghost use Rattle.std.specs.Prelude.{◌≡◌, ◌^◌, ℕ, List, IfOk, map};
-ghost use Rattle.mls_wire.specs.Checks.{Answers, AnswersOutright};
-ghost use Rattle.mls_tree.specs.Refusals.{RefusesOutright};
+ghost use Rattle.std.specs.Prelude.{◌≡◌, ◌^◌, IfOk};
+ghost use Rattle.mls_wire.specs.Checks.{Answers};
 ghost use Rattle.mls_leaf.specs.KeyPackage.{key_package as key_package_format};
 ghost use Rattle.mls_public_group.specs.Short.{IsBelow};
 ghost use Rattle.mls_member.specs.Answers.{IsShortItem, AreShortItems};
@@ -11,11 +10,10 @@ ghost use Rattle.mls_model.specs.World as model;
 ghost use Rattle.mls_model.specs.declared.item.Item.TheVariants as item;
 ghost use Rattle.mls_leaf.specs.declared.proposal.Proposal.TheVariants as proposes;
 ghost use Rattle.mls_world_plain.specs.Faults.{number_of};
-ghost use Rattle.mls_world_plain.specs.EarlyChecks.{first_checks};
-ghost use Rattle.mls_types.specs.declared.public_message.PublicMessage as messages;
-ghost use Rattle.mls_view.specs.Shown.{ShowsPublic};
+ghost use Rattle.mls_world_plain.specs.CallAnswers.{AnswersBy, AnswersOutrightBy};
+ghost use Rattle.mls_world_plain.specs.EarlyChecks.{first_checks, RefusesEarly};
 ghost use Rattle.mls_member.specs.Process.{IsShortView};
-ghost use Rattle.mls_world_plain.specs.Sources.{read_package, read_reference, reference_in};
+ghost use Rattle.mls_world_plain.specs.Sources.{read_package, read_reference, AnswersBytesOf, AnswersItems, AnswersReference};
 
 use crate::error::WorldError;
 use crate::world::PlainWorld;
@@ -26,12 +24,12 @@ use mls_suite::Suite;
 use mls_view::{ContentView, MessageView, PublicMessageView};
 use std::alloc::Global;
 
-/// The bytes of a source: 94 no message has this number.
+/// Finds the bytes of a source: `NoSuchMessage` (94).
 pub(crate) fn bytes_of<'a>(
     messages: &'a [Bytes],
     source: &'a Source,
 ) -> Result<&'a [u8], WorldError>
-    ensures { (w : model.World) → w.messages ≡ messages.now → AnswersOutright (λ b. b.now) number_of (model.bytes_of w source.now) result }
+    ensures { AnswersBytesOf (λ b. b.now) messages.now source.now result }
 {
     match source {
         Source::Given(bytes) => Ok(bytes),
@@ -42,10 +40,10 @@ pub(crate) fn bytes_of<'a>(
     }
 }
 
-/// The KeyPackage that bytes are: decoding, 95 a message of another kind.
+/// Reads the KeyPackage that bytes are: decoding, `WrongMessageKind` (95).
 fn read_package(alloc: Global, bytes: &[u8]) -> Result<KeyPackage, WorldError>
-    ensures answer { Answers (λ k. k) number_of (read_package bytes.now) result }
-    ensures outright { RefusesOutright number_of (read_package bytes.now) result }
+    ensures answer { AnswersBy (read_package bytes.now) result }
+    ensures outright { RefusesEarly (read_package bytes.now) result }
     ensures below { IfOk result (λ k. IsBelow (2 ^ 27) key_package_format k) }
 {
     match MessageView::read(bytes)? {
@@ -54,10 +52,10 @@ fn read_package(alloc: Global, bytes: &[u8]) -> Result<KeyPackage, WorldError>
     }
 }
 
-/// The reference of the proposal that a PublicMessage has (RFC 9420, 5.2): 95 it has none.
+/// Finds the reference of the proposal that a PublicMessage has (RFC 9420, 5.2): `WrongMessageKind` (95).
 fn reference_in(view: &PublicMessageView<'_>) -> Result<Secret, WorldError>
     requires { IsShortView view.now }
-    ensures { (shown : messages.PublicMessage) → ShowsPublic view.now shown → AnswersOutright (λ r. r) number_of (reference_in shown.content) result }
+    ensures { AnswersReference view.now result }
 {
     match &view.content.content {
         ContentView::Proposal(_) => Ok(view.reference()),
@@ -65,9 +63,9 @@ fn reference_in(view: &PublicMessageView<'_>) -> Result<Secret, WorldError>
     }
 }
 
-/// The reference of the proposal whose message bytes are: decoding, 95 a message of another kind.
+/// Reads the reference of the proposal whose message bytes are: decoding, `WrongMessageKind` (95).
 fn read_reference(bytes: &[u8]) -> Result<Secret, WorldError>
-    ensures { AnswersOutright (λ r. r) number_of (read_reference bytes.now) result }
+    ensures { AnswersOutrightBy (λ r. r) (read_reference bytes.now) result }
 {
     match MessageView::read(bytes)? {
         MessageView::PublicMessage(view) => reference_in(&view),
@@ -84,28 +82,28 @@ fn removal(leaf: u32) -> Item
 }
 
 impl<S: Suite> PlainWorld<S> {
-    /// The bytes of a source: 94 no message has this number.
+    /// Finds the bytes of a source: `NoSuchMessage` (94).
     pub(crate) fn bytes_of<'a>(&'a self, source: &'a Source) -> Result<&'a [u8], WorldError>
-        ensures { AnswersOutright (λ b. b.now) number_of (model.bytes_of self.now source.now) result }
+        ensures { AnswersOutrightBy (λ b. b.now) (model.bytes_of self.now source.now) result }
     {
         bytes_of(&self.messages, source)
     }
 
-    /// The KeyPackage of a source: 94, decoding, 95 a message of another kind.
+    /// Reads the KeyPackage of a source: `NoSuchMessage` (94), decoding, `WrongMessageKind` (95).
     #[tactic(auto, unfolding(mls_model::specs::World::package_of, crate::specs::Sources::read_package))]
     pub(crate) fn package_of(&self, source: &Source) -> Result<KeyPackage, WorldError>
-        ensures answer { Answers (λ k. k) number_of (model.package_of self.now source.now) result }
-        ensures outright { RefusesOutright number_of (model.package_of self.now source.now) result }
+        ensures answer { AnswersBy (model.package_of self.now source.now) result }
+        ensures outright { RefusesEarly (model.package_of self.now source.now) result }
         ensures below { IfOk result (λ k. IsBelow (2 ^ 27) key_package_format k) }
     {
         let bytes = self.bytes_of(source)?;
         read_package(self.alloc, bytes)
     }
 
-    /// The proposal that a commit lists: 94, decoding, 95 a message of another kind.
+    /// Makes the proposal that a commit lists: `NoSuchMessage` (94), decoding, `WrongMessageKind` (95).
     fn item_of(&self, item: &WorldItem) -> Result<Item, WorldError>
         ensures answer { Answers listed_of number_of (model.item_of self.now item.now) result }
-        ensures outright { RefusesOutright number_of (model.item_of self.now item.now) result }
+        ensures outright { RefusesEarly (model.item_of self.now item.now) result }
         ensures short { IfOk result (λ i. IsShortItem i) }
     {
         match item {
@@ -132,11 +130,11 @@ impl<S: Suite> PlainWorld<S> {
         }
     }
 
-    /// The list of a commit: the first check that fails of the first of them that does.
+    /// Makes the list of a commit, or answers the first check that fails of the first item that has one.
     pub(crate) fn items_of(&self, items: &[WorldItem]) -> Result<Vec<Item>, WorldError>
-        ensures answer { Answers (λ v. map listed_of v.items) number_of (model.items_of self.now items.now) result }
-        // Of the first whatever memory there is.
-        ensures outright { RefusesOutright number_of (first_checks self.now items.now) result }
+        ensures answer { AnswersItems self.now items.now result }
+        // The checks of the first item come whatever memory there is.
+        ensures outright { RefusesEarly (first_checks self.now items.now) result }
         ensures short { IfOk result (λ v. AreShortItems v.items) }
     {
         let mut list = Vec::new(self.alloc);

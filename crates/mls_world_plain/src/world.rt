@@ -3,6 +3,7 @@
 ghost use Rattle.std.specs.Prelude.{◌≡◌, slice_get, option_map};
 ghost use Rattle.std.specs.Option.{option_copied};
 ghost use Rattle.mls_model.specs.World as model;
+ghost use Rattle.mls_world_plain.specs.CallAnswers.{seated_member};
 
 use crate::journal::{Journal, Journals};
 use crate::seats::{Entrant, Making, Seat};
@@ -55,7 +56,7 @@ impl<S: Suite> PlainWorld<S> {
 
     /// Member k.
     pub fn member(&self, k: usize) -> Option<&Member<S>>
-        ensures { option_copied result ≡ option_map (λ (s : model.Seat). s.member) (slice_get self.now.seats k) }
+        ensures { option_copied result ≡ seated_member self.now k }
     {
         match self.seats.get(k) {
             Some(seat) => Some(&seat.member),

@@ -1,4 +1,4 @@
-use Rattle.mls_theorems.proofs.laws_of_joiners.Goals as goal
+use Rattle.mls_theorems.proofs.laws_of_added_leaves.Goals as goal
 use Rattle.mls_theorems.proofs.Joining.{edits_add, adds_counted}
 
 pub returns : goal.returns

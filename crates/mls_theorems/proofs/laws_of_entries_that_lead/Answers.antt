@@ -1,4 +1,4 @@
-use Rattle.mls_theorems.proofs.laws_of_steps.Goals as goal
+use Rattle.mls_theorems.proofs.laws_of_entries_that_lead.Goals as goal
 use Rattle.mls_theorems.proofs.Makes.{make_did}
 
 pub returns : goal.returns

@@ -6,8 +6,8 @@ use Rattle.mls_checks.proofs.SignedLaws.{written_or_wanting, written_is}
 use Rattle.mls_candidate.proofs.LeafLaws.{tbs_fits, tbs_short, signed_below}
 use Rattle.mls_candidate.proofs.leaf.sign_leaf.Goals as goal
 
-pub memory_aside-requires : goal.memory_aside-requires
-memory_aside-requires g c =
+pub bytes_or_out_of_memory-requires : goal.bytes_or_out_of_memory-requires
+bytes_or_out_of_memory-requires g c =
     let v = c.args.leaf in
     let group = c.args.group_id.now in
     written_or_wanting (LeafNodeTbsFits v group) (leaf_node_tbs v group c.args.index) c.to_be_signed.result (tbs_fits v group c.requires.leaf c.requires.group) c.to_be_signed.ensures

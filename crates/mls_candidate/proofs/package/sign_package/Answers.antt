@@ -6,8 +6,8 @@ use Rattle.mls_checks.proofs.SignedLaws.{written_or_wanting, written_is}
 use Rattle.mls_candidate.proofs.Packages.{package_tbs_fits, package_tbs_short, package_fits}
 use Rattle.mls_candidate.proofs.package.sign_package.Goals as goal
 
-pub memory_aside-requires : goal.memory_aside-requires
-memory_aside-requires g c =
+pub bytes_or_out_of_memory-requires : goal.bytes_or_out_of_memory-requires
+bytes_or_out_of_memory-requires g c =
     let k = c.args.offered in
     written_or_wanting (KeyPackageTbsFits k) (key_package_tbs k) c.to_be_signed.result (package_tbs_fits k c.requires) c.to_be_signed.ensures
 

@@ -3,8 +3,8 @@ use Rattle.mls_checks.specs.Checks.{is_package_signed}
 use Rattle.mls_checks.proofs.SignedLaws.{written_or_wanting, written_is, package_tbs_fits, package_tbs_short}
 use Rattle.mls_checks.proofs.leaf.is_package_signed.Goals as goal
 
-pub memory_aside-requires : goal.memory_aside-requires
-memory_aside-requires g c =
+pub bytes_or_out_of_memory-requires : goal.bytes_or_out_of_memory-requires
+bytes_or_out_of_memory-requires g c =
     let p = c.args.offered.now in
     written_or_wanting (KeyPackageTbsFits p) (key_package_tbs p) c.to_be_signed.result (package_tbs_fits p c.requires) c.to_be_signed.ensures
 

@@ -3,8 +3,8 @@ use Rattle.mls_checks.specs.Leaf.{is_signed}
 use Rattle.mls_checks.proofs.SignedLaws.{written_or_wanting, written_is, leaf_tbs_fits, leaf_tbs_short}
 use Rattle.mls_checks.proofs.leaf.leaf_signed.Goals as goal
 
-pub memory_aside-requires : goal.memory_aside-requires
-memory_aside-requires g c =
+pub bytes_or_out_of_memory-requires : goal.bytes_or_out_of_memory-requires
+bytes_or_out_of_memory-requires g c =
     let v = c.args.leaf.now in
     let group = c.args.group_id.now in
     written_or_wanting (LeafNodeTbsFits v group) (leaf_node_tbs v group c.args.index) c.to_be_signed.result (leaf_tbs_fits v group c.requires.leaf c.requires.group) c.to_be_signed.ensures

@@ -1,7 +1,7 @@
 use Rattle.std.proofs.Common.{◌∙◌}
 use Rattle.mls_cli_recording.specs.Calls.{recorded_view}
 use Rattle.mls_cli_recording.specs.Recording.{recorded_in}
-use Rattle.mls_cli_recording.proofs.Steps.{grown}
+use Rattle.mls_cli_json.proofs.Lists.{grown}
 use Rattle.mls_cli_recording.proofs.reading.recorded_events_in.Goals as goal
 
 pub loop-value-preserved : goal.loop-value-preserved

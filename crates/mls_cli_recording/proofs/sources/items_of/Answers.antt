@@ -1,7 +1,7 @@
 use Rattle.std.proofs.Common.{◌∙◌}
 use Rattle.mls_cli_recording.specs.Calls.{item_view}
 use Rattle.mls_cli_recording.specs.Recording.{item_in}
-use Rattle.mls_cli_recording.proofs.Steps.{grown}
+use Rattle.mls_cli_json.proofs.Lists.{grown}
 use Rattle.mls_cli_recording.proofs.sources.items_of.Goals as goal
 
 pub loop-value-preserved : goal.loop-value-preserved

@@ -10,8 +10,8 @@ returns-in_err-met-clause-part g c =
     (played_part g.S.Suite.crypto c.args.world.now c.args.recorded.now _ _ _ c.loop-event.event c.loop-event.world c.loop-event.all_met c.index-recorded-event.result
     c.loop-event-test.true c.index-recorded-event.is c.loop-event.invariant.played c.in_err-met.ensures.part)
 
-pub returns-in_err-met-clause-stopped : goal.returns-in_err-met-clause-stopped
-returns-in_err-met-clause-stopped g c =
+pub returns-in_err-met-clause-cut : goal.returns-in_err-met-clause-cut
+returns-in_err-met-clause-cut g c =
     on_err c.from_residual.result
     (stops g.S.Suite.crypto c.args.world.now c.args.recorded.now _ _ _ c.loop-event.event c.loop-event.world c.play_event.new.world c.index-recorded-event.result
     c.loop-event-test.true c.index-recorded-event.is c.loop-event.invariant.reached c.in_err-met.ensures.part c.in_err-met.ensures.stopped)

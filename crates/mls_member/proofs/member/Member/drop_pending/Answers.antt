@@ -1,5 +1,5 @@
 use Rattle.std.proofs.Common.{sym, subst}
-use Rattle.mls_model.specs.Agreement.{IsGoodMember}
+use Rattle.mls_model.specs.MemberInvariant.{IsGoodMember}
 use Rattle.mls_member.proofs.Good.{drop_good}
 use Rattle.mls_member.proofs.member.Member.drop_pending.Goals as goal
 

@@ -1,0 +1,191 @@
+//! The scenarios: a state, and the call that is made in it.
+
+ghost use Rattle.mls_probe.specs.Calls.{IsShortCall};
+
+use crate::call::Call;
+use crate::group::{
+    Committed, Trio, Updated, additions, candidate, create_group, items_naming, reference_of,
+    welcome_of,
+};
+use crate::trial::{try_call, try_join};
+use crate::worlds::try_run;
+use anyhow::Result;
+use mls_kdf::Secret;
+use mls_suite::Glass;
+use std::alloc::Global;
+
+/// A scenario.
+#[derive(Clone, Copy)]
+pub(crate) enum Scenario {
+    /// A member alone commits an add, with a path and a Welcome.
+    CommitAdd,
+    /// One of three commits another's update by its reference, with a path.
+    CommitUpdate,
+    /// One of three gets that update.
+    ProcessUpdate,
+    /// The third gets that commit.
+    ProcessCommit,
+    /// The one whose update it was gets that commit.
+    ProcessCommitOfOwn,
+    /// The committer gets it.
+    ProcessPending,
+    ProposeAdd,
+    ProposeUpdate,
+    ProposeRemove,
+    Join,
+    /// The events of a creation, an add and a join.
+    Run,
+}
+
+/// All scenarios.
+pub(crate) const SCENARIOS: [Scenario; 11] = [
+    Scenario::CommitAdd,
+    Scenario::CommitUpdate,
+    Scenario::ProcessUpdate,
+    Scenario::ProcessCommit,
+    Scenario::ProcessCommitOfOwn,
+    Scenario::ProcessPending,
+    Scenario::ProposeAdd,
+    Scenario::ProposeUpdate,
+    Scenario::ProposeRemove,
+    Scenario::Join,
+    Scenario::Run,
+];
+
+/// The scenario of a name.
+pub(crate) fn scenario_named(name: &str) -> Option<Scenario> {
+    for scenario in SCENARIOS {
+        if scenario.name() == name {
+            return Some(scenario);
+        }
+    }
+    None
+}
+
+impl Scenario {
+    /// The word by which it is chosen.
+    pub(crate) fn name(self) -> &'static str {
+        match self {
+            Scenario::CommitAdd => "commit-add",
+            Scenario::CommitUpdate => "commit-update",
+            Scenario::ProcessUpdate => "process-update",
+            Scenario::ProcessCommit => "process-commit",
+            Scenario::ProcessCommitOfOwn => "process-commit-of-own",
+            Scenario::ProcessPending => "process-pending",
+            Scenario::ProposeAdd => "propose-add",
+            Scenario::ProposeUpdate => "propose-update",
+            Scenario::ProposeRemove => "propose-remove",
+            Scenario::Join => "join",
+            Scenario::Run => "run",
+        }
+    }
+
+    /// Plays it.
+    pub(crate) fn play(self, rt: &impl Print, alloc: Global) -> Result<()> {
+        println!(rt; "scenario: {}", self.name())?;
+        match self {
+            Scenario::CommitAdd => commit_add(rt, alloc),
+            Scenario::CommitUpdate => commit_update(rt, alloc),
+            Scenario::ProcessUpdate => process_update(rt, alloc),
+            Scenario::ProcessCommit => process_commit(rt, alloc),
+            Scenario::ProcessCommitOfOwn => process_commit_of_own(rt, alloc),
+            Scenario::ProcessPending => process_pending(rt, alloc),
+            Scenario::ProposeAdd => propose_add(rt, alloc),
+            Scenario::ProposeUpdate => propose_update(rt, alloc),
+            Scenario::ProposeRemove => propose_remove(rt, alloc),
+            Scenario::Join => join(rt, alloc),
+            Scenario::Run => try_run(rt, alloc),
+        }
+    }
+}
+
+fn commit_add(rt: &impl Print, alloc: Global) -> Result<()> {
+    let mut member = create_group(alloc)?;
+    let added = candidate(alloc, b'b', 3)?;
+    let call = Call::Commit(additions(alloc, &added)?, [4; 32]);
+    try_call(rt, alloc, &mut member, call, &[])
+}
+
+fn commit_update(rt: &impl Print, alloc: Global) -> Result<()> {
+    let Updated {
+        mut group,
+        update,
+        reference,
+    } = Updated::new(alloc)?;
+    group.first.process(&update)?;
+    let call = Call::Commit(items_naming(alloc, &reference)?, [7; 32]);
+    try_call(rt, alloc, &mut group.first, call, &reference)
+}
+
+fn process_update(rt: &impl Print, alloc: Global) -> Result<()> {
+    let Updated {
+        mut group,
+        update,
+        reference,
+    } = Updated::new(alloc)?;
+    let call = Call::Process(update);
+    try_call(rt, alloc, &mut group.first, call, &reference)
+}
+
+fn process_commit(rt: &impl Print, alloc: Global) -> Result<()> {
+    let Committed {
+        mut group,
+        commit,
+        reference,
+    } = Committed::new(alloc)?;
+    let call = Call::Process(commit);
+    try_call(rt, alloc, &mut group.third, call, &reference)
+}
+
+fn process_commit_of_own(rt: &impl Print, alloc: Global) -> Result<()> {
+    let Committed {
+        mut group,
+        commit,
+        reference,
+    } = Committed::new(alloc)?;
+    let call = Call::Process(commit);
+    try_call(rt, alloc, &mut group.second, call, &reference)
+}
+
+fn process_pending(rt: &impl Print, alloc: Global) -> Result<()> {
+    let Committed {
+        mut group,
+        commit,
+        reference,
+    } = Committed::new(alloc)?;
+    let call = Call::Process(commit);
+    try_call(rt, alloc, &mut group.first, call, &reference)
+}
+
+fn propose_add(rt: &impl Print, alloc: Global) -> Result<()> {
+    let call = Call::ProposeAdd(candidate(alloc, b'd', 8)?);
+    let reference = reference_of(alloc, &call)?;
+    propose(rt, alloc, call, &reference)
+}
+
+fn propose_update(rt: &impl Print, alloc: Global) -> Result<()> {
+    let call = Call::ProposeUpdate([8; 32]);
+    let reference = reference_of(alloc, &call)?;
+    propose(rt, alloc, call, &reference)
+}
+
+fn propose_remove(rt: &impl Print, alloc: Global) -> Result<()> {
+    let call = Call::ProposeRemove(2);
+    let reference = reference_of(alloc, &call)?;
+    propose(rt, alloc, call, &reference)
+}
+
+/// The second of three proposes, where the proposal will have this reference.
+fn propose(rt: &impl Print, alloc: Global, call: Call, reference: &Secret) -> Result<()>
+    requires { IsShortCall call }
+{
+    let mut group = Trio::new(alloc)?;
+    try_call(rt, alloc, &mut group.second, call, reference)
+}
+
+fn join(rt: &impl Print, alloc: Global) -> Result<()> {
+    let mut member = create_group(alloc)?;
+    let added = candidate(alloc, b'b', 3)?;
+    let made = member.commit(&additions(alloc, &added)?, true, &[4; 32])?;
+    try_join(rt, alloc, &added, &welcome_of(made)?)
+}

@@ -1,0 +1,54 @@
+-- What a merge makes over a leaf, as code has it (RFC 9420, 7.5 and 7.9).
+use Rattle.std.specs.Prelude.{◌≡◌, ℕ, List, [], reverse, Option, OnOk, Result}
+use Rattle.std.specs.Option.{option_to_list}
+use Rattle.std.specs.Global.{Vec}
+use Rattle.mls_leaf.specs.Parent.{Parent}
+use Rattle.mls_leaf.specs.declared.leaf.LeafNode.{LeafNode}
+use Rattle.mls_leaf.specs.declared.node.Node.{Node}
+use Rattle.mls_tree_model.specs.Term.{Term}
+use Rattle.mls_tree_model.specs.Merge.{merge, path_hash, parent_beside, keys_beside, hash_beside}
+use Rattle.mls_tree_model.specs.Arrays.{term_of, in_order}
+use Rattle.mls_tree_array.specs.declared.merging.MergedPath.{MergedPath}
+use Rattle.mls_tree_array.specs.Additions.{Adds}
+use Rattle.mls_tree_array.specs.Merging.{path_parents, hash_bytes}
+
+-- a parent that a merge makes: its list is empty
+abbrev pub merged_parent : List ℕ → Option (List ℕ) → Parent
+merged_parent key hash = record { encryption_key = key; parent_hash = hash_bytes hash; unmerged_leaves = [] }
+
+-- the keys, the lowest first, that are left below a parent with this other side
+abbrev pub AreKeysBelow : ℕ → ℕ → List (Option Node) → List (List ℕ) → List (List ℕ) → Type 0
+AreKeysBelow h b side keys below = reverse below ≡ keys_beside b (term_of h side) (reverse keys)
+
+-- the parent hash that is handed down below a parent with this other side
+abbrev pub IsHashBelow : ℕ → ℕ → List (Option Node) → List (List ℕ) → Option (List ℕ) → Option (List ℕ) → Type 0
+IsHashBelow h b side keys above below =
+    hash_bytes below ≡ hash_beside b (term_of h side) (reverse keys) (hash_bytes above)
+
+-- the parent hash that reaches leaf i, by the one above the tree
+abbrev pub IsPathHash : ℕ → ℕ → List (Option Node) → ℕ → List (List ℕ) → Option (List ℕ) → Option (List ℕ) → Type 0
+IsPathHash h b nodes i keys above below =
+    hash_bytes below ≡ path_hash b (term_of h nodes) i (reverse keys) (hash_bytes above)
+
+-- the parent with this other side was added, where there is one
+abbrev pub AddsParent : ℕ → ℕ → List (Option Node) → Vec (List ℕ) → Option (List ℕ) → Vec Parent → Vec Parent → Type 0
+AddsParent h b side keys above old new =
+    Adds (option_to_list (parent_beside b (term_of h side) (reverse keys.items) (hash_bytes above))) old new
+
+-- the parents over leaf i were added, the highest first, where no memory was missing
+abbrev pub AddsParents : {B E : Type 0} → ℕ → ℕ → List (Option Node) → ℕ → Vec (List ℕ) → Option (List ℕ) → Vec Parent → Vec Parent → Result B E → Type 0
+AddsParents h b nodes i keys above old new result =
+    OnOk result (Adds (path_parents b (term_of h nodes) i (reverse keys.items) (hash_bytes above)) old new)
+
+-- the parents of a merged path are those over leaf i of a tree, by their keys, the lowest first
+abbrev pub HasParents : ℕ → Term → ℕ → List (List ℕ) → MergedPath → Type 0
+HasParents b t i keys p = p.parents.items ≡ path_parents b t i (reverse keys) []
+
+-- the hash of a merged path is the one that reaches leaf i of a tree
+abbrev pub HasHash : ℕ → Term → ℕ → List (List ℕ) → MergedPath → Type 0
+HasHash b t i keys p = hash_bytes p.hash ≡ path_hash b t i (reverse keys) []
+
+-- where these are the parents that a merge makes over leaf i, the merge was made
+abbrev pub MergesPath : ℕ → ℕ → ℕ → LeafNode → List Parent → List (Option Node) → List (Option Node) → Type 0
+MergesPath h b i leaf ps old new =
+    (ks : List (List ℕ)) (above : List ℕ) → ps ≡ path_parents b (term_of h old) i ks above → new ≡ in_order (merge b (term_of h old) i ks above leaf)
