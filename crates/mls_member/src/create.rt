@@ -5,7 +5,6 @@ ghost use Rattle.mls_leaf.specs.Leaf.{leaf_node};
 ghost use Rattle.mls_public_group.specs.Short.{IsBelow, HasLeavesBelow, IsShortContext};
 ghost use Rattle.mls_member.specs.FirstEpoch.{first_public, context_with_leaf};
 ghost use Rattle.mls_wire.specs.Checks.{AnswersOutright, passed};
-ghost use Rattle.mls_wire.specs.Format.{IsBytes};
 ghost use Rattle.mls_model.specs.Messages.{is_within_limit};
 ghost use Rattle.mls_tree.specs.Tree.{term};
 ghost use Rattle.mls_leaf.specs.Limits.{input_limit};
@@ -19,7 +18,7 @@ use crate::member::Member;
 use mls_candidate::Candidate;
 use mls_kdf::Seed;
 use mls_leaf::{Bytes, INPUT_LIMIT, LeafError, LeafNode};
-use mls_public_group::{PublicGroup, context_spelling};
+use mls_public_group::{PublicGroup, context_spelling, know_bytes};
 use mls_schedule::{Epoch, Transcript};
 use mls_suite::{OutOfMemory, Suite};
 use mls_tree::PublicTree;
@@ -28,11 +27,6 @@ use mls_types::GroupContext;
 use mls_wire::WireError;
 use std::alloc::Global;
 use std::marker::PhantomData;
-
-/// Entries of a slice are bytes.
-fn know_bytes(bytes: &[u8])
-    ensures { IsBytes bytes.now }
-{}
 
 /// `TooLong` (6) where what was made is larger than a message may be.
 #[tactic(auto, unfolding(mls_model::specs::Messages::is_within_limit))]

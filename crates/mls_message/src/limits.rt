@@ -1,7 +1,6 @@
 //! How long texts are.
 
 ghost use Rattle.std.specs.Prelude.{◌≡◌, ◌+◌, ◌<◌, ◌≤◌, ◌^◌, length};
-ghost use Rattle.mls_wire.specs.Format.{IsBytes};
 ghost use Rattle.mls_wire.specs.Reading.{opaque};
 ghost use Rattle.mls_leaf.specs.Limits.{input_limit};
 ghost use Rattle.mls_public_group.specs.MessageLimit.{FitsIfShort};
@@ -11,11 +10,6 @@ use mls_kdf::content_header;
 use mls_leaf::{Codec, INPUT_LIMIT, LeafError};
 use mls_wire::WireError;
 use std::alloc::Global;
-
-/// A law: entries of a slice are bytes.
-pub(crate) fn know_bytes(bytes: &[u8])
-    ensures { IsBytes bytes.now }
-{}
 
 /// `TooLong` (6) where a text with so many bytes more behind it is larger than a message may be.
 pub(crate) fn require_room(text: &[u8], more: usize) -> Result<(), LeafError>

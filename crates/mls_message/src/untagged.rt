@@ -10,10 +10,11 @@ ghost use Rattle.mls_model.specs.Messages.{reference_of};
 ghost use Rattle.mls_message.specs.Pieces.{untagged, IsUntagged, IsTooLarge};
 ghost use Rattle.mls_message.specs.Sending.{IsMessageBy, IsTagBy};
 
-use crate::limits::{know_bytes, require_room, vector_length};
+use crate::limits::{require_room, vector_length};
 use crate::speaker::Speaker;
 use mls_kdf::{Secret, content_header};
 use mls_leaf::{Codec, LeafError};
+use mls_public_group::know_bytes;
 use mls_schedule::Epoch;
 use mls_suite::OutOfMemory;
 use mls_types::{SignedBody, SignedContent, proposal_reference};

@@ -2,6 +2,7 @@
 //! make of the tree (RFC 9420, 12.1 to 12.3).
 #![tactic(auto)]
 
+mod bytes;
 mod changed_leaves;
 mod contexts;
 mod distinct;
@@ -18,6 +19,7 @@ mod shared_tree;
 mod spelling;
 mod used_proposal;
 
+pub use bytes::know_bytes;
 pub use contexts::{context_spelling, provisional_context};
 pub use due_path::is_path_required;
 pub use edits::Edits;

@@ -1,6 +1,6 @@
 //! Spellings that aren't larger than a message may be.
 
-ghost use Rattle.std.specs.Prelude.{◌<◌, ℕ, slice_index, length};
+ghost use Rattle.std.specs.Prelude.{length};
 ghost use Rattle.mls_wire.specs.Checks.{AnswersOutright, passed};
 ghost use Rattle.mls_model.specs.Messages.{is_within_limit};
 ghost use Rattle.mls_welcome.specs.Faults.{number_of, GivesBytes, Measures};
@@ -8,13 +8,9 @@ ghost use Rattle.mls_public_group.specs.MessageLimit.{FitsIfShort, limited_text}
 
 use crate::error::WelcomeError;
 use mls_leaf::{Codec, INPUT_LIMIT, LeafError};
+use mls_public_group::know_bytes;
 use mls_wire::WireError;
 use std::alloc::Global;
-
-/// Numbers of 8 bits.
-fn know_bytes(bytes: &[u8])
-    ensures { (i : ℕ) → slice_index bytes.now i < 256 }
-{}
 
 /// Refuses a text with more bytes than a message may have (`TooLong` 6).
 pub(crate) fn is_within_limit(bytes: &[u8]) -> Result<(), WelcomeError>
