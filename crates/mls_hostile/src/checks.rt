@@ -67,7 +67,11 @@ fn leaf_key(stage: &Stage, member: usize) -> Result<&[u8]> {
 }
 
 /// The commit of the first of three, and what it knew.
-fn commit_of_first<'a>(before: &'a Stage, after: &'a Stage, seed: &'a Seed) -> Result<Committed<'a>> {
+fn commit_of_first<'a>(
+    before: &'a Stage,
+    after: &'a Stage,
+    seed: &'a Seed,
+) -> Result<Committed<'a>> {
     Ok(Committed {
         before: before.member(0)?,
         after: after.member(0)?,

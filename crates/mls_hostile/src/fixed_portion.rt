@@ -164,7 +164,10 @@ fn print_checks(rt: &impl Print, alloc: Global) -> Result<()> {
     let forged_answers = forged_answers(alloc)?;
     println!(rt;
         "zeros sealed to the second: made alike {}, the second {}, as before {}, the third {}",
-        forged_answers.is_made_alike, forged_answers.second, forged_answers.is_same, forged_answers.third
+        forged_answers.is_made_alike,
+        forged_answers.second,
+        forged_answers.is_same,
+        forged_answers.third
     )?;
     let welcome_answers = welcome_answers(alloc)?;
     println!(rt;

@@ -80,7 +80,9 @@ impl<'a> Committed<'a> {
         let sealed_secret = self.sealed_secret(alloc, public_key, secret)?;
         let place = place_of(content, &sealed_secret.kem)?;
         // The header of the ciphertext has two bytes.
-        let place = place.saturating_add(sealed_secret.kem.len()).saturating_add(2);
+        let place = place
+            .saturating_add(sealed_secret.kem.len())
+            .saturating_add(2);
         with_text(alloc, content, place, &sealed_secret.ct)
     }
 

@@ -6,12 +6,12 @@
 mod acts;
 mod changes;
 mod checks;
+mod fixed_portion;
 mod forgery;
 mod groups;
 mod large_portion;
 mod outcome;
 mod page;
-mod fixed_portion;
 mod pieces;
 mod recordings;
 mod shape;

@@ -86,7 +86,9 @@ pub fn make_commit<S: Suite>(
     requires used { AreShortUsed used.now }
     ensures { CommitsList S.crypto speaker.now keys.now list used.now wants_path seed.now result }
 {
-    let edits = speaker.group.apply_proposals::<S>(alloc, speaker.leaf, used)?;
+    let edits = speaker
+        .group
+        .apply_proposals::<S>(alloc, speaker.leaf, used)?;
     let own = own_path::<S>(alloc, speaker, keys, &edits, used, wants_path, seed)?;
     commit_from_path::<S>(alloc, speaker, list, used, edits, own, seed)
 }

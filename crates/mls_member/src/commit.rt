@@ -10,8 +10,8 @@ ghost use Rattle.mls_member.specs.Answers.{AreShortItems, Commits, CommitsItems,
 ghost use Rattle.mls_member.specs.Committing.{keep_pending};
 ghost use Rattle.mls_member.specs.declared.error.Refusal.TheVariants.{Gone};
 
-use crate::error::Refusal;
 use crate::commit_items::{list_items, used_of_items};
+use crate::error::Refusal;
 use crate::kept_and_pending::Pending;
 use crate::member::Member;
 use mls_kdf::Seed;

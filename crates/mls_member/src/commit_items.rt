@@ -63,7 +63,11 @@ fn know_short(proposal: &Proposal)
 
 /// One proposal that a commit call uses: of the committer where it is given in full, else a kept one, or
 /// `UnknownReference` (60).
-fn resolve_item<'a>(kept: &'a [KeptProposal], committer: u32, item: &'a Item) -> Result<Used<'a>, Refusal>
+fn resolve_item<'a>(
+    kept: &'a [KeptProposal],
+    committer: u32,
+    item: &'a Item,
+) -> Result<Used<'a>, Refusal>
     requires { IsShortItem item.now }
     ensures answer { Gives (find_proposal kept.now committer (listed_of item.now)) result }
     ensures short { IfOk result (λ u. IsShortUsed u) }

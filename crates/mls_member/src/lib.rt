@@ -1,21 +1,21 @@
 //! Members of groups: what they make, and what they do with messages (RFC 9420, 11 and 12).
 #![tactic(auto)]
 
-mod received_commit;
 mod commit;
+mod commit_items;
 mod create;
 mod error;
 mod framing;
-mod commit_items;
 mod join;
-mod sent_proposal;
 mod kept_and_pending;
 mod kept_proposal;
 mod member;
-mod process;
-mod received_proposal;
 mod own_proposal;
+mod process;
+mod received_commit;
 mod received_message;
+mod received_proposal;
+mod sent_proposal;
 mod speaker;
 mod used_proposals;
 

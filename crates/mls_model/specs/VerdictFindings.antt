@@ -68,8 +68,10 @@ pub record HasFollowed (c : Crypto) (m : Member) (v : SignedContent) (commit : C
       (keys_after_edits m commit.proposals change.edits.tree) commit.path ≡ Ok climb
   pub confirmed : bytes_eq tag
       (confirmation_tag (reached_epoch m change climb) change.context.confirmed_transcript_hash) ≡ true
-  pub is : (Advanced change.context.epoch,
-      with_epoch m (public_with change tag) (reached_epoch m change climb) (with_keys m.keys climb.keys)) ≡ x
+  pub is : (
+    Advanced change.context.epoch,
+    with_epoch m (public_with change tag) (reached_epoch m change climb) (with_keys m.keys climb.keys),
+  ) ≡ x
 
 -- a member followed its pending commit
 pub record DidPending (m : Member) (bytes : List ℕ) (x : Effect × Member) : Type 0 where

@@ -9,7 +9,7 @@ use crate::sole::sole;
 use mls_kdf::Secret;
 use mls_leaf::{Bytes, INPUT_LIMIT, LeafError, Proposal};
 use mls_member::{Member, Refusal};
-use mls_message::{Framed, SaidProposal, Speaker, sign_proposal, send, sign};
+use mls_message::{Framed, SaidProposal, Speaker, send, sign, sign_proposal};
 use mls_suite::Glass;
 use mls_types::{Content, SignedContent, proposal_reference};
 use std::alloc::{AllocError, Global};

@@ -1,11 +1,11 @@
 ghost use Rattle.std.specs.Prelude.{◌≡◌, IfOk, vec_len};
 ghost use Rattle.mls_treemath.specs.Paths.{nodes_in};
 
+use mls_leaf::{Codec, LeafError, LeafNode, Node, ParentNode};
 use mls_tree_array::{
     alternates, filtered_path, first_blank, has_last, has_leaf, height_for, is_reached,
     is_reached_at, leaf, member_count, pad, resolution, resolution_at, to_nodes,
 };
-use mls_leaf::{Codec, LeafError, LeafNode, Node, ParentNode};
 use mls_tree_slot::Slot;
 use std::alloc::Global;
 use std::test::*;

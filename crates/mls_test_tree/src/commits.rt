@@ -2,15 +2,17 @@
 //! is opened by members and taken by a joiner.
 
 use crate::small_trees::{
-    boxed, follow_edit, four, answers_with, has_nodes, holds, leaf, make_path, next, open_path, public,
-    sealed_path, take_secret, with_key,
+    answers_with, boxed, follow_edit, four, has_nodes, holds, leaf, make_path, next, open_path,
+    public, sealed_path, take_secret, with_key,
 };
-use mls_types::UpdatePathNode;
 use mls_kdf::Secret;
 use mls_leaf::{Bytes, LeafNode, LeafSource};
 use mls_suite::KeyPair;
 use mls_tree::PublicTree;
-use mls_treekem::{PathSecrets, PrivatePath, init_seed, leaf_seed, path_seed, seal_count_of, sign_seed};
+use mls_treekem::{
+    PathSecrets, PrivatePath, init_seed, leaf_seed, path_seed, seal_count_of, sign_seed,
+};
+use mls_types::UpdatePathNode;
 use std::alloc::Global;
 
 const SEED: Secret = [5; 32];
@@ -86,7 +88,11 @@ fn merge(alloc: Global, tree: &mut PublicTree, secrets: &PathSecrets) -> Option<
 }
 
 /// The commit's path, sealed.
-fn seal_path(alloc: Global, tree: &PublicTree, secrets: &PathSecrets) -> Option<Vec<UpdatePathNode>> {
+fn seal_path(
+    alloc: Global,
+    tree: &PublicTree,
+    secrets: &PathSecrets,
+) -> Option<Vec<UpdatePathNode>> {
     sealed_path(alloc, tree, &[3], secrets, &SEED).ok()
 }
 

@@ -1,7 +1,7 @@
+use mls_leaf::{Codec, LeafNode, ParentNode};
 use mls_tree_hash::{
     Hash, branch_hash, branch_hash_without, leaf_hash, leaf_hash_without, sibling_hash,
 };
-use mls_leaf::{Codec, LeafNode, ParentNode};
 use std::test::Fail;
 
 // Keys bb and cc, the identity "bob", version 1, suite f001, a lifetime of all times, and the signature dd.

@@ -3,8 +3,8 @@
 ghost use Rattle.std.specs.Prelude.{◌≡◌, ◌≤◌, nat_eq, true, IfOk};
 ghost use Rattle.mls_tree_model.specs.Sets.{is_distinct};
 
-use mls_tree_index::{Index, KeyKind};
 use mls_leaf::{Bytes, Capabilities, Credential, Items, LeafNode, LeafSource, Node, ParentNode};
+use mls_tree_index::{Index, KeyKind};
 use mls_tree_slot::Slot;
 use std::alloc::{AllocError, Global};
 use std::process::Abort;

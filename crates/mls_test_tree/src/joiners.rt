@@ -1,13 +1,13 @@
 //! What a joiner takes.
 
 use crate::small_trees::{
-    boxed, answers_with, has_key, has_nodes, holds, key_of, make_path, member, node_pair, number_of,
-    take_secret, with_key,
+    answers_with, boxed, has_key, has_nodes, holds, key_of, make_path, member, node_pair,
+    number_of, take_secret, with_key,
 };
 use mls_kdf::Secret;
 use mls_leaf::{Bytes, Items, Node, ParentNode};
-use mls_tree_slot::Slot;
 use mls_tree::PublicTree;
+use mls_tree_slot::Slot;
 use mls_treekem::{PrivatePath, TreeKemError};
 use std::alloc::Global;
 

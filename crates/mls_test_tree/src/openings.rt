@@ -3,10 +3,10 @@
 use crate::small_trees::{
     answers_with, has_nodes, holds, next, node_pair, number_of, of_four, path_secrets, public,
 };
-use mls_types::{HpkeCiphertext, UpdatePathNode};
 use mls_kdf::Secret;
 use mls_leaf::{Bytes, Items};
 use mls_suite::{Glass, Sealed, encrypt_with_label};
+use mls_types::{HpkeCiphertext, UpdatePathNode};
 use std::alloc::Global;
 
 /// The first path secret.

@@ -1,14 +1,14 @@
 //! Paths that are sealed in small trees.
 
 use crate::small_trees::{
-    four, answers_with, holds, leaf, next, number_of, of_four, path_secrets, sealed_path,
+    answers_with, four, holds, leaf, next, number_of, of_four, path_secrets, sealed_path,
 };
-use mls_types::{HpkeCiphertext, UpdatePathNode};
 use mls_kdf::Secret;
 use mls_leaf::LeafNode;
 use mls_suite::{Glass, decrypt_with_label};
 use mls_tree::PublicTree;
-use mls_treekem::{TreeKemError, seal_seed, seal_count_of};
+use mls_treekem::{TreeKemError, seal_count_of, seal_seed};
+use mls_types::{HpkeCiphertext, UpdatePathNode};
 use std::alloc::Global;
 
 // By Python's hmac and hashlib: ExpandWithLabel of 32 bytes 09, "seed seal" and the number 0x01020304.

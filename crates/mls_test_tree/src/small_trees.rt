@@ -3,12 +3,12 @@
 //! call is refused or memory runs out, and give what a test holds in a box, since a proof drops all that is held at
 //! each end.
 
-use mls_types::UpdatePathNode;
 use mls_kdf::{Secret, derive_secret};
 use mls_leaf::{Bytes, Capabilities, Credential, Items, LeafNode, LeafSource};
 use mls_suite::{Glass, KeyPair, Suite};
 use mls_tree::PublicTree;
 use mls_treekem::{PathSecrets, PrivatePath, TreeKemError, seal_path};
+use mls_types::UpdatePathNode;
 use std::alloc::Global;
 
 /// A value in a box.

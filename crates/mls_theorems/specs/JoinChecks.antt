@@ -50,7 +50,7 @@ JoinsAt = (c : Crypto) (k : Candidate) (signing : List ℕ) (change : Change) (j
     let info : GroupInfo = info_of c signing p tag signer in
     let epoch : List ℕ = epoch_secret joiner (group_context.spell change.context) in
     let opened : Opened =
-        record { joiner = joiner; path_secret = path_secret; bytes = group_info.spell info; info = info } in
+    record { joiner = joiner; path_secret = path_secret; bytes = group_info.spell info; info = info } in
     let joined : JoinedMember = record {
       member = record {
         gone = false;

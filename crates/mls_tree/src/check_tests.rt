@@ -7,10 +7,10 @@ ghost use Rattle.mls_tree.specs.TestTrees.{half_empty_nodes};
 
 use crate::key_indexes::KeyIndexes;
 use crate::{PublicTree, TreeError};
-use mls_tree_array::Hashes;
 use mls_leaf::{Bytes, Codec, Items, LeafNode, ParentNode};
-use mls_tree_slot::{SharedLeaf, SharedParent, Slot};
 use mls_suite::Glass;
+use mls_tree_array::Hashes;
+use mls_tree_slot::{SharedLeaf, SharedParent, Slot};
 use std::alloc::{AllocError, Global};
 use std::test::*;
 

@@ -26,11 +26,11 @@ ghost use Rattle.mls_tree.specs.Checking.{AnswersCapable, AnswersSigned, Answers
 use crate::error::TreeError;
 use crate::key_indexes::KeyIndexes;
 use crate::tree::PublicTree;
-use mls_tree_array::{self as array, Hash};
 use mls_checks::{leaf_capable, leaf_signed};
 use mls_leaf::{LeafNode, Node};
-use mls_tree_slot::Slot;
 use mls_suite::Suite;
+use mls_tree_array::{self as array, Hash};
+use mls_tree_slot::Slot;
 use std::alloc::{AllocError, Global};
 
 /// Whether a leaf has the capabilities, where it isn't blank.

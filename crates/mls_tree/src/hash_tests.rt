@@ -1,9 +1,9 @@
-use crate::test_queries::count_new_hashes;
-use crate::test_edits::{add_keys, update};
-use crate::test_trees::{copy_of, single};
 use crate::rows::Step::{Add, AddKeys, Counts, HashesMade, Remove, Single, Update};
 use crate::rows::Told::{Done, Is};
 use crate::rows::{Row, count_met};
+use crate::test_edits::{add_keys, update};
+use crate::test_queries::count_new_hashes;
+use crate::test_trees::{copy_of, single};
 use crate::{Hash, PublicTree, TreeError};
 use std::alloc::Global;
 use std::test::*;

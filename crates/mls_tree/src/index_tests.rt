@@ -99,6 +99,9 @@ const COPIED_TREE: &[Row] = &[(Distinct, Is(&[1, 1]))];
 #[test]
 fn copies_keep_their_keys(rt: HostRuntime) -> Result<(), Fail> {
     let count_met = count_met_by_both(rt.alloc(), THREE, CHANGED_COPY, COPIED_TREE)?;
-    assert_eq!(rt; count_met, [THREE.len(), CHANGED_COPY.len(), COPIED_TREE.len()]);
+    assert_eq!(rt;
+        count_met,
+        [THREE.len(), CHANGED_COPY.len(), COPIED_TREE.len()]
+    );
     Ok(())
 }

@@ -6,12 +6,8 @@
 #![tactic(auto)]
 
 #[cfg(test)]
-mod test_queries;
-#[cfg(test)]
 mod check_tests;
 mod checking;
-#[cfg(test)]
-mod test_edits;
 mod edits;
 mod error;
 #[cfg(test)]
@@ -21,13 +17,17 @@ mod index_tests;
 mod key_indexes;
 mod laws;
 #[cfg(test)]
-mod test_trees;
-#[cfg(test)]
 mod path_tests;
 mod paths;
 mod prepared;
 #[cfg(test)]
 mod rows;
+#[cfg(test)]
+mod test_edits;
+#[cfg(test)]
+mod test_queries;
+#[cfg(test)]
+mod test_trees;
 #[cfg(test)]
 mod tests;
 mod tree;

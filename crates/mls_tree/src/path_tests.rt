@@ -1,10 +1,10 @@
-use crate::test_trees::single;
 use crate::rows::Step::{
     Add, AddKeys, Counts, Distinct, FilteredPath, Follow, Good, IsBlank, Merge, MergeCommitted,
     MergeGiven, MergeLong, ParentHashLength, Remove, Resolution, Single,
 };
 use crate::rows::Told::{Done, Is, Refused};
 use crate::rows::{Row, count_met, count_met_rows};
+use crate::test_trees::single;
 use crate::{Hash, PublicTree};
 use mls_leaf::{LeafError, LeafSource, Node, parent_hash_input, tree_hash_input_of_leaf};
 use sha2::{Digest, Sha256};

@@ -26,8 +26,8 @@ use crate::error::TreeError;
 use crate::key_indexes::KeyIndexes;
 use crate::tree::PublicTree;
 use crate::way::Way;
-use mls_tree_array::{self as array, Hash, MergedPath};
 use mls_leaf::{Bytes, LeafNode, LeafSource};
+use mls_tree_array::{self as array, Hash, MergedPath};
 use mls_tree_slot::{SharedLeaf, SharedParent, Slot};
 use std::alloc::AllocError;
 

@@ -1,13 +1,13 @@
 //! Tests by rows. A row is a step, which does something with a tree or asks something of it, and what that answers. A
 //! test is one call over its rows, so that no proof of a test goes through many calls.
 
-use crate::test_queries::{
-    ciphertext_counts, counts, distinct, filtered_path, good, hashes_made, is_blank, is_reached,
-    parent_hash_length, resolution, sent_length,
-};
 use crate::test_edits::{
     add, add_keys, begin, fill, follow, merge, merge_committed, merge_given, merge_long, remove,
     update,
+};
+use crate::test_queries::{
+    ciphertext_counts, counts, distinct, filtered_path, good, hashes_made, is_blank, is_reached,
+    parent_hash_length, resolution, sent_length,
 };
 use crate::test_trees::{copy_of, odd_tree, single, taken_leaves, tree_with_unmerged};
 use crate::{PublicTree, TreeError};

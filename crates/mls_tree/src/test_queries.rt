@@ -2,8 +2,8 @@
 
 use crate::test_edits::number;
 use crate::{PublicTree, TreeError};
-use mls_tree_array as array;
 use mls_leaf::Node;
+use mls_tree_array as array;
 use std::alloc::{AllocError, Global};
 
 /// Two numbers.

@@ -17,7 +17,10 @@ const UNMERGED_LEAVES: &[Row] = &[
 
 #[test]
 fn unmerged_leaves_are_in_the_resolution(rt: HostRuntime) -> Result<(), Fail> {
-    assert_eq!(rt; count_met(rt.alloc(), UNMERGED_LEAVES)?, UNMERGED_LEAVES.len());
+    assert_eq!(rt;
+        count_met(rt.alloc(), UNMERGED_LEAVES)?,
+        UNMERGED_LEAVES.len()
+    );
     Ok(())
 }
 

@@ -30,7 +30,7 @@ pub use edits::{enter, put};
 pub use kept_hashes::Hashes;
 pub use lists::has_good_lists;
 pub use lookup::{leaf, node};
-pub use members::{first_blank, has_leaf, is_full_width, member_count, end_of_members};
+pub use members::{end_of_members, first_blank, has_leaf, is_full_width, member_count};
 pub use merging::{MergedPath, bytes_of, merge, path_hash, path_length, path_parents};
 pub use mls_tree_hash::Hash;
 pub use order::{alternates, has_last, height_for, pad, pad_tree, to_nodes};

@@ -15,8 +15,8 @@ ghost use Rattle.mls_tree_array.specs.PathParents.{merged_parent, AreKeysBelow, 
 use crate::hashes::root_hash;
 use crate::places::middle_of;
 use crate::resolutions::is_reached;
-use mls_tree_hash::{Hash, sibling_hash};
 use mls_leaf::{Bytes, Items, ParentNode};
+use mls_tree_hash::{Hash, sibling_hash};
 use mls_tree_slot::{SharedLeaf, SharedParent, Slot};
 use std::alloc::{AllocError, Global};
 use std::vec;

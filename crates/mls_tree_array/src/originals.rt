@@ -19,8 +19,8 @@ use crate::hashes::root_hash;
 use crate::lists::has;
 use crate::places::{middle_of, parent_in};
 use crate::validity::same_bytes;
-use mls_tree_hash::{Hash, branch_hash_without, leaf_hash_without};
 use mls_leaf::ParentNode;
+use mls_tree_hash::{Hash, branch_hash_without, leaf_hash_without};
 use mls_tree_slot::Slot;
 
 /// The unmerged leaves of a place that may be blank.

@@ -15,8 +15,8 @@ ghost use Rattle.mls_tree_array.specs.Validity.{AnswersLeftWitness, AnswersRight
 use crate::originals::original_hash;
 use crate::places::{leaf_in, middle_of, parent_in};
 use crate::witnesses::candidate;
-use mls_tree_hash::{Hash, sibling_hash};
 use mls_leaf::{LeafSource, ParentNode};
+use mls_tree_hash::{Hash, sibling_hash};
 use mls_tree_slot::Slot;
 use std::alloc::{AllocError, Global};
 

@@ -12,8 +12,8 @@ ghost use Rattle.mls_tree_array.specs.WayHashes.{PutsHashes, AddsWay};
 use crate::hashes::root_hash;
 use crate::places::middle_of;
 use crate::resolutions::is_reached;
-use mls_tree_hash::{Hash, branch_hash, leaf_hash};
 use mls_leaf::{LeafNode, ParentNode};
+use mls_tree_hash::{Hash, branch_hash, leaf_hash};
 use mls_tree_slot::{SharedParent, Slot};
 use std::alloc::AllocError;
 

@@ -18,6 +18,6 @@ mod take;
 
 pub use error::TreeKemError;
 pub use private_path::PrivatePath;
-pub use seal::{seal_path, seal_count_of};
+pub use seal::{seal_count_of, seal_path};
 pub use secrets::PathSecrets;
 pub use seeds::{init_seed, leaf_seed, path_seed, seal_seed, sign_seed};

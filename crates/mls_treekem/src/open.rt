@@ -14,11 +14,11 @@ ghost use Rattle.mls_treekem.specs.Place.{IsPlaced, ArePlaced, steps_at};
 use crate::climb::Climb;
 use crate::places::{Place, parents_over, side_of};
 use crate::{PrivatePath, TreeKemError};
-use mls_types::{HpkeCiphertext, UpdatePathNode};
 use mls_kdf::Secret;
 use mls_suite::{OutOfMemory, Suite, decrypt_with_label};
 use mls_tree::PublicTree;
 use mls_tree_array::is_leaf_among;
+use mls_types::{HpkeCiphertext, UpdatePathNode};
 use std::alloc::Global;
 
 /// The path secret that these bytes are: `SecretLength` (33) unless there are 32.
@@ -130,10 +130,8 @@ impl PrivatePath {
     ) -> Result<Secret, TreeKemError>
         requires context { length context.now < 2 ^ 30 }
         requires low { height ≤ 31 }
-        ensures {
-            OpensFirst S.crypto context.now height first self.now added.now nodes.now
-            ciphertexts.now result
-        }
+        ensures { OpensFirst S.crypto context.now height first self.now added.now nodes.now
+            ciphertexts.now result }
     {
         let alloc = *self.above.allocator();
         let mut sealed = ciphertexts;
@@ -176,10 +174,8 @@ impl PrivatePath {
         requires context { length context.now < 2 ^ 30 }
         requires low { height ≤ 31 }
         requires placed { IsPlaced (term tree.now) height place.now }
-        ensures {
-            OpensAtAncestor S.crypto context.now added.now (term tree.now) height place.now self.now
-            path.now result
-        }
+        ensures { OpensAtAncestor S.crypto context.now added.now (term tree.now) height place.now self.now
+            path.now result }
     {
         let Some((node, _)) = path.split_last() else {
             return Err(TreeKemError::OpenFailed);
@@ -210,10 +206,8 @@ impl PrivatePath {
         requires context { length context.now < 2 ^ 30 }
         requires low { length places.now ≤ 31 }
         requires placed { ArePlaced (term tree.now) places.now }
-        ensures {
-            OpensAlong S.crypto context.now added.now (steps_at (term tree.now) places.now) self.now
-            path.now result
-        }
+        ensures { OpensAlong S.crypto context.now added.now (steps_at (term tree.now) places.now) self.now
+            path.now result }
     {
         let Some((place, below)) = places.split_first() else {
             return Err(TreeKemError::OpenFailed);
@@ -244,10 +238,8 @@ impl PrivatePath {
         context: &[u8],
     ) -> Result<Secret, TreeKemError>
         requires { length context.now < 2 ^ 30 }
-        ensures answer {
-            OpensPath S.crypto context.now added.now tree.now committer path.now self.old self.new
-            result
-        }
+        ensures answer { OpensPath S.crypto context.now added.now tree.now committer path.now self.old self.new
+            result }
         ensures leaf { self.new.leaf ≡ self.old.leaf }
         ensures err { OnErr result (self.new ≡ self.old) }
     {

@@ -11,12 +11,12 @@ ghost use Rattle.mls_treekem_model.specs.Seeds.{seal_count_of};
 
 use crate::places::{Place, parents_over};
 use crate::{PathSecrets, TreeKemError, seal_seed};
-use mls_types::{HpkeCiphertext, UpdatePathNode};
 use mls_kdf::Secret;
 use mls_leaf::{Bytes, Items, Node};
 use mls_suite::{Suite, encrypt_with_label};
 use mls_tree::PublicTree;
 use mls_tree_array::is_leaf_among;
+use mls_types::{HpkeCiphertext, UpdatePathNode};
 use std::alloc::Global;
 
 /// The low 32 bits of a number.
@@ -203,12 +203,8 @@ pub fn seal_path<S: Suite>(
     seed: &Secret,
 ) -> Result<Vec<UpdatePathNode>, TreeKemError>
     requires { length context.now < 2 ^ 30 }
-    ensures answer {
-        SealsPath S.crypto context.now added.now seed.now path.now tree.now committer result
-    }
-    ensures chain {
-        SealsChain S.crypto context.now added.now seed.now path.now tree.now committer result
-    }
+    ensures answer { SealsPath S.crypto context.now added.now seed.now path.now tree.now committer result }
+    ensures chain { SealsChain S.crypto context.now added.now seed.now path.now tree.now committer result }
     ensures seals { IfOk result (HasSealCount added.now tree.now committer) }
     ensures refused { IfErr result IsMemoryOrKey }
 {

@@ -14,11 +14,11 @@ ghost use Rattle.mls_welcome.specs.Entries.{IsSecretsOf, SealsEntries, SpellsSec
 
 use crate::error::WelcomeError;
 use crate::welcome_message::Joiner;
-use mls_types::{EncryptedGroupSecrets, GroupSecrets, HpkeCiphertext};
 use mls_kdf::{Secret, Seed};
 use mls_leaf::{Bytes, Codec, KeyPackage, key_package_reference};
 use mls_suite::{Suite, encrypt_with_label};
 use mls_treekem::seal_seed;
+use mls_types::{EncryptedGroupSecrets, GroupSecrets, HpkeCiphertext};
 use std::alloc::{AllocError, Global};
 
 /// A byte string of a secret.

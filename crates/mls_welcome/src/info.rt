@@ -8,11 +8,11 @@ ghost use Rattle.mls_welcome.specs.Entries.{IsInfoRefused, SignsInfo, info_signa
 use crate::error::WelcomeError;
 use crate::limits::{is_within_limit, spell_within_limit};
 use crate::ranges::know_slots;
-use mls_types::{GroupContext, GroupInfo};
 use mls_kdf::Secret;
 use mls_leaf::{Bytes, Items};
 use mls_public_group::PublicGroup;
 use mls_suite::{Suite, sign_with_label};
+use mls_types::{GroupContext, GroupInfo};
 use std::alloc::{AllocError, Global};
 
 /// The GroupInfo of a group from the leaf of its signer, not yet signed.

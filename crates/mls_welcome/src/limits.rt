@@ -25,7 +25,10 @@ pub(crate) fn is_within_limit(bytes: &[u8]) -> Result<(), WelcomeError>
 }
 
 /// The spelling of a value whose numbers are in range: `TooLong` (6) where it is larger than a message may be.
-pub(crate) fn spell_within_limit<T: Codec>(alloc: Global, value: &T) -> Result<Vec<u8>, WelcomeError>
+pub(crate) fn spell_within_limit<T: Codec>(
+    alloc: Global,
+    value: &T,
+) -> Result<Vec<u8>, WelcomeError>
     requires { FitsIfShort T.format value.now }
     ensures { GivesBytes (limited_text (T.format.spell value.now)) result }
 {

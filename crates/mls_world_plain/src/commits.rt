@@ -38,7 +38,11 @@ pub(crate) struct Named {
 }
 
 /// The Welcome of a commit with the number of its message.
-fn welcome_with_number(alloc: Global, number: usize, made: &Made) -> Result<Option<(usize, Bytes)>, AllocError>
+fn welcome_with_number(
+    alloc: Global,
+    number: usize,
+    made: &Made,
+) -> Result<Option<(usize, Bytes)>, AllocError>
     ensures { IfOk result (λ o. o ≡ welcome_with_number number made.now) }
 {
     match &made.welcome {

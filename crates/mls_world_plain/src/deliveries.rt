@@ -24,7 +24,10 @@ use mls_view::{ContentView, MessageView, PublicMessageView};
 use std::alloc::{AllocError, Global};
 
 /// The list of the commit that a PublicMessage has, empty where it has none.
-fn list_of_body(alloc: Global, view: &PublicMessageView<'_>) -> Result<Vec<ProposalOrRef>, AllocError>
+fn list_of_body(
+    alloc: Global,
+    view: &PublicMessageView<'_>,
+) -> Result<Vec<ProposalOrRef>, AllocError>
     ensures { IfOk result (λ v. IsListOfView view.now v.items) }
 {
     let ContentView::Commit { proposals, .. } = &view.content.content else {
@@ -38,7 +41,10 @@ fn list_of_body(alloc: Global, view: &PublicMessageView<'_>) -> Result<Vec<Propo
 }
 
 /// The list of the commit that a message has, empty where it has none.
-fn list_of_message(alloc: Global, message: &MessageView<'_>) -> Result<Vec<ProposalOrRef>, AllocError>
+fn list_of_message(
+    alloc: Global,
+    message: &MessageView<'_>,
+) -> Result<Vec<ProposalOrRef>, AllocError>
     ensures { IfOk result (λ v. IsListOfMessage message.now v.items) }
 {
     match message {
