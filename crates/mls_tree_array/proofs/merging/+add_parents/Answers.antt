@@ -1,5 +1,6 @@
 use Rattle.std.proofs.Common.{arith, sym, reverse, append-nil, append_assoc}
 use Rattle.mls_tree_array.specs.Merging.{hash_bytes}
+use Rattle.mls_tree_array.specs.PathParents.{IsPathHash}
 use Rattle.mls_tree_array.proofs.Readings.{in_sides}
 use Rattle.mls_tree_array.proofs.Merged.{parents_no_more, parents_in_left, parents_in_right, hash_no_more, hash_in_left, hash_in_right}
 use Rattle.mls_tree_array.proofs.Ties.{left_shape, right_shape, left_count, right_count, left_hashes, right_hashes}
@@ -28,12 +29,12 @@ returns-in_ok-below-2-clause-parents t c =
 pub returns-in_ok-below-clause-hash : goal.returns-in_ok-below-clause-hash
 returns-in_ok-below-clause-hash t c =
     let parts = in_sides c.args.height c.middle_of-middle.result c.args.nodes.now c.middle_of-middle.ensures (omega arith) in
-    rw (hash_in_left c.args.first _ _ c.args.leaf _ _ parts (reverse c.args.keys.now.items) (hash_bytes c.args.hash) c.if-leaf-second.true, ← c.in_ok-below.ensures.keys, ← c.in_ok-below.ensures.hash) c.add_parents.ensures.hash
+    rw (hash_in_left c.args.first _ _ c.args.leaf _ _ parts (reverse c.args.keys.now.items) (hash_bytes c.args.hash) c.if-leaf-second.true, IsPathHash, ← c.in_ok-below.ensures.keys, ← c.in_ok-below.ensures.hash) c.add_parents.ensures.hash
 
 pub returns-in_ok-below-2-clause-hash : goal.returns-in_ok-below-2-clause-hash
 returns-in_ok-below-2-clause-hash t c =
     let parts = in_sides c.args.height c.middle_of-middle.result c.args.nodes.now c.middle_of-middle.ensures (omega arith) in
-    rw (hash_in_right c.args.first _ _ c.args.leaf _ _ parts (reverse c.args.keys.now.items) (hash_bytes c.args.hash) c.if-leaf-second.false, ← c.in_ok-below-2.ensures.keys, ← c.in_ok-below-2.ensures.hash) c.add_parents-else-leaf-second.ensures.hash
+    rw (hash_in_right c.args.first _ _ c.args.leaf _ _ parts (reverse c.args.keys.now.items) (hash_bytes c.args.hash) c.if-leaf-second.false, IsPathHash, ← c.in_ok-below-2.ensures.keys, ← c.in_ok-below-2.ensures.hash) c.add_parents-else-leaf-second.ensures.hash
 
 pub root_hash-sibling-requires : goal.root_hash-sibling-requires
 root_hash-sibling-requires t c = root_there _ _ _ _ (right_hashes c.args.first c.args.height c.middle_of-middle.result c.args.nodes.now c.args.kept.now c.middle_of-middle.ensures (omega arith) c.requires.shape c.requires.hashed)
