@@ -23,6 +23,7 @@ use Rattle.mls_model.specs.World.{World, Seat, seat_at, entrant_at, bytes_of, pa
 use Rattle.mls_model.specs.WorldCalls.{journal_after, candidate_answer, create_answer, propose_add_answer, propose_update_answer, propose_remove_answer, commit_answer, drop_answer, deliver_answer, join_answer}
 use Rattle.mls_model.specs.Run.{answer, step_by, step, run, replies}
 use Rattle.mls_model.specs.VerdictFindings.{DidPending}
+use Rattle.mls_model.specs.VerdictCases.{Taking.follows_own}
 use Rattle.mls_model.proofs.WayBackLaws.{so_taken}
 use Rattle.mls_model.proofs.UnchangedLaws.{get_here, DeliveryIs, delivery}
 use Rattle.mls_model.specs.RunLaws.{RunInParts, RepliesInParts, OneReplyEach, RefusedLeave, AnsweredStep, OwnIsFollowed}

@@ -30,7 +30,7 @@ use Rattle.mls_model.specs.Member.{KeptProposal, Member, kept_under, find_propos
 use Rattle.mls_model.specs.Messages.{decode_message, sender_leaf, is_handshake, is_content_signed, content_tag}
 use Rattle.mls_model.specs.Verdict.{is_kept, framing_checks, open_path_secret}
 use Rattle.mls_model.proofs.WayLaws.{refused_so}
-use Rattle.mls_model.specs.VerdictCases.{Refusing}
+use Rattle.mls_model.specs.VerdictCases.{Refusing, Refusing.gone, Refusing.unread, Refusing.no_public, Refusing.unframed, Refusing.unfit, Refusing.last_epoch, Refusing.unknown, Refusing.unsound, Refusing.closed, Refusing.untagged}
 use Rattle.mls_model.specs.Refusals.{proposal_numbers, body_numbers, verdict_numbers, VerdictNumbers}
 use Rattle.mls_model.proofs.RefusedSteps.{is_one, widen, bind_refused, test_refused, last_refused, given_refused, if_refused}
 use Rattle.mls_model.proofs.RefusalLaws.{proposal_refused, body_refused}

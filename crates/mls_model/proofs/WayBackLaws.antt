@@ -11,7 +11,7 @@ use Rattle.mls_model.specs.Member.{Pending, Member}
 use Rattle.mls_model.specs.Verdict.{proposal_verdict, enter_epoch, commit_verdict, content_verdict, bytes_verdict, own_pending, verdict}
 use Rattle.mls_model.specs.VerdictFindings.{DidPending, reached_epoch}
 use Rattle.mls_model.proofs.Receipts.{framing_passes}
-use Rattle.mls_model.specs.VerdictCases.{IsOther, IsTaken, IsProposal, IsCommit, SoTaken, SoRefused}
+use Rattle.mls_model.specs.VerdictCases.{IsOther, IsTaken, IsProposal, IsCommit, Taking.follows_own, Taking.knows, Taking.keeps, Taking.leaves, Taking.follows, SoTaken, Refusing.gone, Refusing.unread, Refusing.no_public, Refusing.unframed, Refusing.unfit, Refusing.last_epoch, Refusing.unknown, Refusing.unsound, Refusing.closed, Refusing.untagged, SoRefused}
 
 -- ---- down to the content
 

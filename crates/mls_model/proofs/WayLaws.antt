@@ -27,7 +27,7 @@ use Rattle.mls_model.specs.Verdict.{framing_checks, proposal_verdict, open_path_
 use Rattle.mls_model.specs.VerdictFindings.{WasRemoved, HasFollowed, DidPending, reached_epoch}
 use Rattle.mls_model.proofs.Found.{ProposalDid, ContentDid, DidOther}
 use Rattle.mls_model.proofs.Receipts.{framing_did, did_receive, did_take}
-use Rattle.mls_model.specs.VerdictCases.{IsOther, IsTaken, IsProposal, IsCommit, IsUsing, IsChanging, Taking, TakenSo, Refusing, RefusedSo}
+use Rattle.mls_model.specs.VerdictCases.{IsOther, IsTaken, IsProposal, IsCommit, IsUsing, IsChanging, Taking, Taking.follows_own, Taking.knows, Taking.keeps, Taking.leaves, Taking.follows, TakenSo, Refusing, Refusing.gone, Refusing.unread, Refusing.no_public, Refusing.unframed, Refusing.unfit, Refusing.last_epoch, Refusing.unknown, Refusing.unsound, Refusing.closed, Refusing.untagged, RefusedSo}
 
 -- ---- taken
 
