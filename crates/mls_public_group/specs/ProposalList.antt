@@ -1,7 +1,8 @@
 -- What a commit makes of a tree, in the parts in which it is worked out.
 use Rattle.std.specs.Prelude.{ℕ, nat_eq, not, List, [], ◌∷◌, ◌++◌, map, Result, Ok, Err}
 use Rattle.std.specs.Global.{Vec}
-use Rattle.mls_wire.specs.Checks.{Answers, Passed, require}
+use Rattle.mls_wire.specs.Checks.{Answers, Passed, require, ◌>>◌}
+use Rattle.mls_wire.specs.Reading.{◌>>=◌}
 use Rattle.mls_tree_model.specs.Term.{Term}
 use Rattle.mls_tree_model.specs.Sets.{has, same_bytes, is_distinct}
 use Rattle.mls_tree_model.specs.Good.{has_distinct_keys, has_distinct_clients}
