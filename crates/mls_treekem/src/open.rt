@@ -174,8 +174,8 @@ impl PrivatePath {
         requires context { length context.now < 2 ^ 30 }
         requires low { height ≤ 31 }
         requires placed { IsPlaced (term tree.now) height place.now }
-        ensures { OpensAtAncestor S.crypto context.now added.now (term tree.now) height place.now self.now
-            path.now result }
+        ensures { OpensAtAncestor S.crypto context.now added.now (term tree.now) height place.now
+            self.now path.now result }
     {
         let Some((node, _)) = path.split_last() else {
             return Err(TreeKemError::OpenFailed);
@@ -206,8 +206,8 @@ impl PrivatePath {
         requires context { length context.now < 2 ^ 30 }
         requires low { length places.now ≤ 31 }
         requires placed { ArePlaced (term tree.now) places.now }
-        ensures { OpensAlong S.crypto context.now added.now (steps_at (term tree.now) places.now) self.now
-            path.now result }
+        ensures { OpensAlong S.crypto context.now added.now (steps_at (term tree.now) places.now)
+            self.now path.now result }
     {
         let Some((place, below)) = places.split_first() else {
             return Err(TreeKemError::OpenFailed);
@@ -238,8 +238,8 @@ impl PrivatePath {
         context: &[u8],
     ) -> Result<Secret, TreeKemError>
         requires { length context.now < 2 ^ 30 }
-        ensures answer { OpensPath S.crypto context.now added.now tree.now committer path.now self.old self.new
-            result }
+        ensures answer { OpensPath S.crypto context.now added.now tree.now committer path.now
+            self.old self.new result }
         ensures leaf { self.new.leaf ≡ self.old.leaf }
         ensures err { OnErr result (self.new ≡ self.old) }
     {

@@ -203,8 +203,10 @@ pub fn seal_path<S: Suite>(
     seed: &Secret,
 ) -> Result<Vec<UpdatePathNode>, TreeKemError>
     requires { length context.now < 2 ^ 30 }
-    ensures answer { SealsPath S.crypto context.now added.now seed.now path.now tree.now committer result }
-    ensures chain { SealsChain S.crypto context.now added.now seed.now path.now tree.now committer result }
+    ensures answer { SealsPath S.crypto context.now added.now seed.now path.now tree.now
+        committer result }
+    ensures chain { SealsChain S.crypto context.now added.now seed.now path.now tree.now
+        committer result }
     ensures seals { IfOk result (HasSealCount added.now tree.now committer) }
     ensures refused { IfErr result IsMemoryOrKey }
 {
