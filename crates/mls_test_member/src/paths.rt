@@ -20,7 +20,7 @@ fn has_no_parent(member: &Member<Glass>) -> bool {
     }
 }
 
-/// The same of a sole member behind its own path.
+/// Whether the leaf of a sole member was made by its own path, with an empty parent hash.
 fn path_has_no_nodes(alloc: Global) -> Result<bool, Refusal> {
     let member = sole(alloc)?;
     Ok(has_no_parent(&member))
