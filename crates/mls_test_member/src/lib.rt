@@ -1,5 +1,5 @@
-//! Worked candidates, messages, joins and paths of members: tests alone, above the crates that they use. All of them run
-//! under the practice suite.
+//! Callers of members: two members that share each epoch, by what the calls of candidates and members promise; and worked
+//! candidates, messages, joins and paths, which run under the practice suite.
 #![tactic(auto)]
 
 #[cfg(test)]
@@ -10,7 +10,12 @@ mod creations;
 mod joins;
 #[cfg(test)]
 mod messages;
+mod pair;
 #[cfg(test)]
 mod paths;
 #[cfg(test)]
+mod shared;
+#[cfg(test)]
 mod sole;
+
+pub use pair::{Pair, Seeds, admit, renew, share};

@@ -1,0 +1,29 @@
+//! The two members that share each epoch: their calls succeed.
+
+use crate::pair::{Pair, Seeds, share};
+use mls_member::Refusal;
+use mls_suite::Glass;
+use std::alloc::Global;
+use std::test::Fail;
+
+const SEEDS: Seeds = Seeds {
+    alice: [1; 32],
+    bob: [2; 32],
+    group: [3; 32],
+    addition: [4; 32],
+    renewal: [5; 32],
+};
+
+/// The epochs of both, and whether they hold one epoch secret.
+fn epochs(alloc: Global) -> Result<(u64, u64, bool), Refusal> {
+    let pair: Pair<Glass> = share(alloc, b"g", &SEEDS)?;
+    let (first, second) = (&pair.first, &pair.second);
+    let is_one = first.epoch().epoch_secret() == second.epoch().epoch_secret();
+    Ok((first.epoch_number(), second.epoch_number(), is_one))
+}
+
+#[test]
+fn a_pair(rt: HostRuntime) -> Result<(), Fail> {
+    assert_eq!(rt; epochs(rt.alloc())?, (2, 2, true));
+    Ok(())
+}
