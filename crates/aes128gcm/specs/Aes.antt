@@ -1,4 +1,5 @@
--- AES-128 on lists of bytes (FIPS 197). Bit i of a byte is the coefficient of x^i; a state or a key is 16 bytes, column by column.
+-- AES-128 on lists of bytes (FIPS 197). Bit i of a byte is the coefficient of x^i; a state or a key is 16 bytes, column
+-- by column.
 use Rattle.std.specs.Prelude.{ℕ, zero, suc, ◌+◌, ◌*◌, ◌%◌, ◌/◌, List, [], ◌∷◌, ◌++◌, map, take, drop, bit_xor, slice_index}
 use Rattle.std.specs.Int.{bit_at}
 
@@ -22,7 +23,8 @@ multiples_sum b c (suc i) = bit_xor (multiples_sum b c i) (bit_at c i * multiple
 unfoldable pub times : ℕ → ℕ → ℕ
 times b c = multiples_sum b c 8
 
--- the multiplicative inverse: b to the power of 254 = 2 + 4 + 8 + 16 + 32 + 64 + 128, so 0 for 0 (FIPS 197, 4.4 and 5.1.1)
+-- the multiplicative inverse: b to the power of 254 = 2 + 4 + 8 + 16 + 32 + 64 + 128, so 0 for 0 (FIPS 197, 4.4 and
+-- 5.1.1)
 unfoldable pub inverse : ℕ → ℕ
 inverse b =
     let b2 = times b b in
@@ -36,12 +38,15 @@ inverse b =
 
 -- bit i of the affine transformation (FIPS 197, 5.1.1)
 unfoldable pub affine_bit : ℕ → ℕ → ℕ
-affine_bit b i = (bit_at b i + bit_at b ((i + 4) % 8) + bit_at b ((i + 5) % 8) + bit_at b ((i + 6) % 8) + bit_at b ((i + 7) % 8) + bit_at 0x63 i) % 2
+affine_bit b i =
+    (bit_at b i + bit_at b ((i + 4) % 8) + bit_at b ((i + 5) % 8) + bit_at b ((i + 6) % 8)
+    + bit_at b ((i + 7) % 8) + bit_at 0x63 i) % 2
 
 -- the affine transformation (FIPS 197, 5.1.1)
 unfoldable pub affine : ℕ → ℕ
 affine b =
-    affine_bit b 0 + 2 * affine_bit b 1 + 4 * affine_bit b 2 + 8 * affine_bit b 3 + 16 * affine_bit b 4 + 32 * affine_bit b 5 + 64 * affine_bit b 6 + 128 * affine_bit b 7
+    affine_bit b 0 + 2 * affine_bit b 1 + 4 * affine_bit b 2 + 8 * affine_bit b 3
+    + 16 * affine_bit b 4 + 32 * affine_bit b 5 + 64 * affine_bit b 6 + 128 * affine_bit b 7
 
 -- SBOX (FIPS 197, 5.1.1)
 unfoldable pub s_box : ℕ → ℕ
@@ -55,7 +60,11 @@ at s r c = slice_index s (4 * c + r)
 
 -- the state of these bytes, each given by its row and column (FIPS 197, 3.4)
 abbrev pub state : (ℕ → ℕ → ℕ) → List ℕ
-state f = f 0 0 ∷ f 1 0 ∷ f 2 0 ∷ f 3 0 ∷ f 0 1 ∷ f 1 1 ∷ f 2 1 ∷ f 3 1 ∷ f 0 2 ∷ f 1 2 ∷ f 2 2 ∷ f 3 2 ∷ f 0 3 ∷ f 1 3 ∷ f 2 3 ∷ f 3 3 ∷ []
+state f =
+    f 0 0 ∷ f 1 0 ∷ f 2 0 ∷ f 3 0
+    ∷ f 0 1 ∷ f 1 1 ∷ f 2 1 ∷ f 3 1
+    ∷ f 0 2 ∷ f 1 2 ∷ f 2 2 ∷ f 3 2
+    ∷ f 0 3 ∷ f 1 3 ∷ f 2 3 ∷ f 3 3 ∷ []
 
 -- SUBBYTES (FIPS 197, 5.1.1)
 unfoldable pub sub_bytes : List ℕ → List ℕ
@@ -71,7 +80,8 @@ mix a b c d = bit_xor (bit_xor (bit_xor (xtimes a) (bit_xor (xtimes b) b)) c) d
 
 -- MIXCOLUMNS (FIPS 197, 5.1.3)
 unfoldable pub mix_columns : List ℕ → List ℕ
-mix_columns s = state (λ r c. mix (at s r c) (at s ((r + 1) % 4) c) (at s ((r + 2) % 4) c) (at s ((r + 3) % 4) c))
+mix_columns s =
+    state (λ r c. mix (at s r c) (at s ((r + 1) % 4) c) (at s ((r + 2) % 4) c) (at s ((r + 3) % 4) c))
 
 -- each byte of the first list, added to the byte of the second at its place, if there is one (FIPS 197, 4.1)
 abbrev pub xor_with : List ℕ → List ℕ → List ℕ
@@ -105,7 +115,8 @@ rcon i = round_constant i ∷ 0 ∷ 0 ∷ 0 ∷ []
 abbrev pub word : List ℕ → ℕ → List ℕ
 word k i = take 4 (drop (4 * i) k)
 
--- temp of KEYEXPANSION at a word whose number is divisible by 4: SUBWORD(ROTWORD(w[4i + 3])) and Rcon[i + 1], added (FIPS 197, 5.2)
+-- temp of KEYEXPANSION at a word whose number is divisible by 4: SUBWORD(ROTWORD(w[4i + 3])) and Rcon[i + 1], added
+-- (FIPS 197, 5.2)
 unfoldable pub temp : List ℕ → ℕ → List ℕ
 temp k i = xor_with (sub_word (rot_word (word k 3))) (rcon i)
 

@@ -1,4 +1,5 @@
--- The S-box as 32 ands and 87 exclusive ors (Boyar and Peralta), over bits of any kind: words, whose bits are apart, or single bits.
+-- The S-box as 32 ands and 87 exclusive ors (Boyar and Peralta), over bits of any kind: words, whose bits are apart, or
+-- single bits.
 use Rattle.std.specs.Prelude.{ℕ, List, [], ◌∷◌, bit_xor, bit_and, slice_index}
 
 -- from the lowest bit of the byte to the highest
@@ -127,4 +128,7 @@ circuit xor and ones x7 x6 x5 x4 x3 x2 x1 x0 =
 
 -- on 64 lanes at once
 unfoldable pub sub_words : List ℕ → List ℕ
-sub_words q = circuit bit_xor bit_and 0xFFFFFFFFFFFFFFFF (slice_index q 0) (slice_index q 1) (slice_index q 2) (slice_index q 3) (slice_index q 4) (slice_index q 5) (slice_index q 6) (slice_index q 7)
+sub_words q =
+    circuit bit_xor bit_and 0xFFFFFFFFFFFFFFFF
+    (slice_index q 0) (slice_index q 1) (slice_index q 2) (slice_index q 3)
+    (slice_index q 4) (slice_index q 5) (slice_index q 6) (slice_index q 7)

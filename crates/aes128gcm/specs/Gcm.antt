@@ -89,8 +89,8 @@ tag key nonce aad ct = gctr key (first_block nonce) (to_be_bytes w128 (ghash (ha
 unfoldable pub crypt : List ℕ → List ℕ → List ℕ → List ℕ
 crypt key nonce text = gctr key (inc32 (first_block nonce)) text
 
--- GCM-AE: the ciphertext and its tag (SP 800-38D, 7.1; RFC 5116, 5.1). It is defined for texts of every length; callers keep
--- them below 2^36 - 31 bytes, and additional data below 2^61, as the standard asks (SP 800-38D, 5.2.1.1).
+-- GCM-AE: the ciphertext and its tag (SP 800-38D, 7.1; RFC 5116, 5.1). It is defined for texts of every length; callers
+-- keep them below 2^36 - 31 bytes, and additional data below 2^61, as the standard asks (SP 800-38D, 5.2.1.1).
 unfoldable pub gcm_ae : List ℕ → List ℕ → List ℕ → List ℕ → List ℕ
 gcm_ae key nonce aad pt = crypt key nonce pt ++ tag key nonce aad (crypt key nonce pt)
 

@@ -13,4 +13,5 @@ key_of keys = held (slice_index_or keys 0 [])
 
 -- each block is ciphered under the key of these round keys
 abbrev pub EncryptsBlocks : List (List ℕ) → List ℕ → List ℕ → Type 0
-EncryptsBlocks keys q r = (b : ℕ) (key s : List ℕ) → b < 4 → AreSlicedKeys key keys → Holds q b s → Holds r b (cipher key s)
+EncryptsBlocks keys q r =
+    (b : ℕ) (key s : List ℕ) → b < 4 → AreSlicedKeys key keys → Holds q b s → Holds r b (cipher key s)

@@ -26,7 +26,11 @@ Holds q b s = (length s ≡ 16) × ((k : ℕ) → k < 16 → lane q (place b k) 
 
 -- the block that slices hold as block 0
 unfoldable pub held : List ℕ → List ℕ
-held q = lane q (place 0 0) ∷ lane q (place 0 1) ∷ lane q (place 0 2) ∷ lane q (place 0 3) ∷ lane q (place 0 4) ∷ lane q (place 0 5) ∷ lane q (place 0 6) ∷ lane q (place 0 7) ∷ lane q (place 0 8) ∷ lane q (place 0 9) ∷ lane q (place 0 10) ∷ lane q (place 0 11) ∷ lane q (place 0 12) ∷ lane q (place 0 13) ∷ lane q (place 0 14) ∷ lane q (place 0 15) ∷ []
+held q =
+    lane q (place 0 0) ∷ lane q (place 0 1) ∷ lane q (place 0 2) ∷ lane q (place 0 3)
+    ∷ lane q (place 0 4) ∷ lane q (place 0 5) ∷ lane q (place 0 6) ∷ lane q (place 0 7)
+    ∷ lane q (place 0 8) ∷ lane q (place 0 9) ∷ lane q (place 0 10) ∷ lane q (place 0 11)
+    ∷ lane q (place 0 12) ∷ lane q (place 0 13) ∷ lane q (place 0 14) ∷ lane q (place 0 15) ∷ []
 
 -- a word has the bytes of columns 0 and 2 of a block in turn
 abbrev pub IsEvenWord : ℕ → List ℕ → Type 0
@@ -38,11 +42,15 @@ IsOddWord w s = (m : ℕ) → m < 8 → w / 2 ^ (8 * m) % 256 ≡ slice_index s 
 
 -- the squares of eight by eight bits are turned over
 abbrev pub IsTransposed : List ℕ → List ℕ → Type 0
-IsTransposed q r = (k i : ℕ) → k < 8 → i < 64 → bit_at (slice_index r k) i ≡ bit_at (slice_index q (i % 8)) (8 * (i / 8) + k)
+IsTransposed q r =
+    (k i : ℕ) → k < 8 → i < 64
+    → bit_at (slice_index r k) i ≡ bit_at (slice_index q (i % 8)) (8 * (i / 8) + k)
 
 -- each lane is mixed from those of the four rows, from its own on
 abbrev pub MixesRows : List ℕ → List ℕ → Type 0
-MixesRows q r = (i : ℕ) → i < 64 → lane r i ≡ mix (lane q i) (lane q ((i + 16) % 64)) (lane q ((i + 32) % 64)) (lane q ((i + 48) % 64))
+MixesRows q r =
+    (i : ℕ) → i < 64
+    → lane r i ≡ mix (lane q i) (lane q ((i + 16) % 64)) (lane q ((i + 32) % 64)) (lane q ((i + 48) % 64))
 
 -- each block becomes f of itself and of a key's block
 abbrev pub MapsBlocks : (List ℕ → List ℕ → List ℕ) → List ℕ → List ℕ → List ℕ → Type 0

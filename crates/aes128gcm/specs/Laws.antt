@@ -17,8 +17,10 @@ sent sealed = drop (length sealed - 16) sealed
 -- an input opens exactly where it has a tag, and this is the tag of what is before it (SP 800-38D, 7.2)
 abbrev pub OpensWhereTagged : Type 0
 OpensWhereTagged = record {
-  opens : (key nonce aad sealed : List ℕ) → 16 ≤ length sealed → tag key nonce aad (body sealed) ≡ sent sealed → gcm_ad key nonce aad sealed ≡ Some (crypt key nonce (body sealed));
-  differs : (key nonce aad sealed : List ℕ) → tag key nonce aad (body sealed) ≢ sent sealed → gcm_ad key nonce aad sealed ≡ None;
+  opens : (key nonce aad sealed : List ℕ) → 16 ≤ length sealed → tag key nonce aad (body sealed) ≡ sent sealed
+      → gcm_ad key nonce aad sealed ≡ Some (crypt key nonce (body sealed));
+  differs : (key nonce aad sealed : List ℕ) → tag key nonce aad (body sealed) ≢ sent sealed
+      → gcm_ad key nonce aad sealed ≡ None;
   short : (key nonce aad sealed : List ℕ) → length sealed < 16 → gcm_ad key nonce aad sealed ≡ None;
 }
 

@@ -6,3 +6,4 @@ pub mod Lanes
 pub mod Nets
 pub mod Keys
 pub mod Parts
+pub mod Opening

@@ -20,10 +20,15 @@ rotation_32 or and up down x = or (down 32 (and 0xFFFFFFFF00000000 x)) (up 32 (a
 
 -- each row turned by its number
 unfoldable pub row_shift : {A : Type 0} → (A → A → A) → (ℕ → A → A) → (ℕ → A → A) → (ℕ → A → A) → A → A
-row_shift or and up down x = or (or (or (or (or (or (and 0x000000000000FFFF x) (down 4 (and 0x00000000FFF00000 x))) (up 12 (and 0x00000000000F0000 x))) (down 8 (and 0x0000FF0000000000 x))) (up 8 (and 0x000000FF00000000 x))) (down 12 (and 0xF000000000000000 x))) (up 4 (and 0x0FFF000000000000 x))
+row_shift or and up down x =
+    or (or (or (or (or (or (and 0x000000000000FFFF x)
+    (down 4 (and 0x00000000FFF00000 x))) (up 12 (and 0x00000000000F0000 x)))
+    (down 8 (and 0x0000FF0000000000 x))) (up 8 (and 0x000000FF00000000 x)))
+    (down 12 (and 0xF000000000000000 x))) (up 4 (and 0x0FFF000000000000 x))
 
 -- eight words of eight bytes, each of whose bytes m form a square of bits, which is turned over
-unfoldable pub transposition : {A : Type 0} → (A → A → A) → (ℕ → A → A) → (ℕ → A → A) → (ℕ → A → A) → A → A → A → A → A → A → A → A → List A
+unfoldable pub transposition : {A : Type 0} → (A → A → A) → (ℕ → A → A) → (ℕ → A → A) → (ℕ → A → A)
+    → A → A → A → A → A → A → A → A → List A
 transposition or and up down a0 b0 c0 d0 e0 f0 g0 h0 =
     let a1 = or (and 0x5555555555555555 a0) (up 1 (and 0x5555555555555555 b0)) in
     let b1 = or (down 1 (and 0xAAAAAAAAAAAAAAAA a0)) (and 0xAAAAAAAAAAAAAAAA b0) in
@@ -61,4 +66,7 @@ unfoldable pub shift_rows_word : ℕ → ℕ
 shift_rows_word x = row_shift bit_or masked up down x
 
 unfoldable pub transpose_words : List ℕ → List ℕ
-transpose_words q = transposition bit_or masked up down (slice_index q 0) (slice_index q 1) (slice_index q 2) (slice_index q 3) (slice_index q 4) (slice_index q 5) (slice_index q 6) (slice_index q 7)
+transpose_words q =
+    transposition bit_or masked up down
+    (slice_index q 0) (slice_index q 1) (slice_index q 2) (slice_index q 3)
+    (slice_index q 4) (slice_index q 5) (slice_index q 6) (slice_index q 7)

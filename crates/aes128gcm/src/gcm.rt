@@ -1,9 +1,9 @@
 //! GCM with AES-128, nonces of 96 bits and tags of 128 (SP 800-38D).
 
 ghost use Rattle.std.specs.Prelude.{◌≡◌, ℕ, ◌+◌, ◌-◌, ◌*◌, ◌/◌, ◌%◌, ◌^◌, ◌<◌, ◌≤◌, ◌++◌, [], ◌∷◌, Some, None, length, take, drop, IfOk, Ok, slice_index_or};
-ghost use Rattle.std.specs.Option.{option_map};
 ghost use Rattle.std.specs.Str.{bytes_eq};
 ghost use Rattle.aes128gcm.specs.Aes.{xor_with, cipher};
+ghost use Rattle.aes128gcm.specs.Opening.{Opens};
 ghost use Rattle.aes128gcm.specs.Gcm.{crypt, hash_input, ghash, tag, gcm_ae, gcm_ad};
 ghost use Rattle.aes128gcm.specs.Parts.{count_block, block_number, absorb_padded};
 
@@ -170,7 +170,7 @@ pub fn open(
     aad: &[u8],
     ct: &[u8],
 ) -> Result<Option<Vec<u8>>, AllocError>
-    ensures answer { IfOk result (λ pt. option_map (λ v. v.items) pt ≡ gcm_ad key.now nonce.now aad.now ct.now) }
+    ensures answer { Opens result (gcm_ad key.now nonce.now aad.now ct.now) }
     ensures refused { gcm_ad key.now nonce.now aad.now ct.now ≡ None → result ≡ Ok None }
 {
     if ct.len() < 16 {

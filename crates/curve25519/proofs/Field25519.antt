@@ -4,7 +4,7 @@ use Rattle.std.proofs.Common.{sym, ap, ◌∙◌, ltb-true, arith}
 use Rattle.std.proofs.lemmas.Nat.{mul-mod}
 use Rattle.curve25519.specs.Modular.{of, modulo}
 use Rattle.curve25519.specs.Powers.{power}
-use Rattle.curve25519.specs.Field25519.{prime, positive, field, residue, least, raise}
+use Rattle.curve25519.specs.Field25519.{prime, below, field, residue, least, raise}
 use Rattle.curve25519.proofs.Ring.{Ring, IsRing}
 use Rattle.curve25519.proofs.Field.{Field}
 use Rattle.curve25519.proofs.Powers.{power_mod_self, power-add, power-mul, power-one}
@@ -19,22 +19,22 @@ fermat = p_field.fermat
 
 pub laws : IsRing field
 unfolding field
-laws = modular prime positive odd
+laws = modular prime below odd
 
 abbrev pub ring : Ring
 ring = record { numbers = field; laws = laws }
 
 pub mul-inv : (x : field.Of) → x ≢ field.nil → field.mul x (field.inv x) ≡ field.one
 unfolding field modulo
-mul-inv = inverse_is prime positive odd fermat
+mul-inv = inverse_is prime below odd fermat
 
 pub decide : (x y : field.Of) → (x ≡ y) ⊎ (x ≢ y)
 unfolding field modulo
-decide = decided prime positive odd
+decide = decided prime below odd
 
 pub two≢nil : field.add field.one field.one ≢ field.nil
 unfolding field modulo
-two≢nil = two_is prime positive odd
+two≢nil = two_is prime below odd
 
 abbrev pub field25519 : Field
 field25519 = record { over = ring; mul-inv = mul-inv; decide = decide; two≢nil = two≢nil }
@@ -43,7 +43,7 @@ field25519 = record { over = ring; mul-inv = mul-inv; decide = decide; two≢nil
 
 pub residue_same : (m n : ℕ) → m % prime ≡ n % prime → residue m ≡ residue n
 unfolding residue field modulo of
-residue_same m n e = of_same prime positive odd m n e
+residue_same m n e = of_same prime below odd m n e
 
 pub least_residue : (n : ℕ) → least (residue n) ≡ n % prime
 unfolding residue least field modulo of
@@ -55,15 +55,15 @@ least_below x = x.1
 
 pub residue-mul : (n a b : ℕ) → n % prime ≡ a * b % prime → residue n ≡ field.mul (residue a) (residue b)
 unfolding residue field modulo of
-residue-mul n a b e = of_same prime positive odd n (a % prime * (b % prime)) (e ∙ mul-mod a b prime)
+residue-mul n a b e = of_same prime below odd n (a % prime * (b % prime)) (e ∙ mul-mod a b prime)
 
 pub residue-add : (n a b : ℕ) → n % prime ≡ (a + b) % prime → residue n ≡ field.add (residue a) (residue b)
 unfolding residue field modulo of
-residue-add n a b e = of_same prime positive odd n (a % prime + b % prime) (omega (arith, e))
+residue-add n a b e = of_same prime below odd n (a % prime + b % prime) (omega (arith, e))
 
 pub residue-sub : (n a b : ℕ) → (n + b) % prime ≡ a % prime → residue n ≡ field.add (residue a) (field.neg (residue b))
 unfolding residue field modulo of
-residue-sub n a b e = of_same prime positive odd n (a % prime + (prime - b % prime) % prime) (omega (arith, e))
+residue-sub n a b e = of_same prime below odd n (a % prime + (prime - b % prime) % prime) (omega (arith, e))
 
 pub residue-zero : residue 0 ≡ field.nil
 unfolding residue field modulo of
@@ -77,17 +77,17 @@ residue-one = refl
 
 pub raise-one : (x : field.Of) → raise x 1 ≡ x
 unfolding raise field modulo of
-raise-one x = of_same prime positive odd (power prime x.0 1) x.0 (power_mod_self prime x.0 1 ∙ power-one prime x.0) ∙ of_self prime positive odd x
+raise-one x = of_same prime below odd (power prime x.0 1) x.0 (power_mod_self prime x.0 1 ∙ power-one prime x.0) ∙ of_self prime below odd x
 
 pub raise-add : (x : field.Of) (i j : ℕ) → field.mul (raise x i) (raise x j) ≡ raise x (i + j)
 unfolding raise field modulo of
 raise-add x i j =
-    of_same prime positive odd (power prime x.0 i % prime * (power prime x.0 j % prime)) (power prime x.0 (i + j))
+    of_same prime below odd (power prime x.0 i % prime * (power prime x.0 j % prime)) (power prime x.0 (i + j))
     (sym (mul-mod (power prime x.0 i) (power prime x.0 j) prime) ∙ sym (power-add prime x.0 i j) ∙ sym (power_mod_self prime x.0 (i + j)))
 
 pub raise-mul : (x : field.Of) (i j : ℕ) → raise (raise x i) j ≡ raise x (i * j)
 unfolding raise field modulo of
-raise-mul x i j = ap (of prime positive) (ap (λ t. power prime t j) (power_mod_self prime x.0 i) ∙ power-mul prime x.0 i j)
+raise-mul x i j = ap (of prime below) (ap (λ t. power prime t j) (power_mod_self prime x.0 i) ∙ power-mul prime x.0 i j)
 
 -- the inverse, as a power
 pub raise_inverse : (x : field.Of) → raise x (prime - 2) ≡ field.inv x

@@ -1,4 +1,5 @@
 pub mod Certificates
+pub mod Coded
 pub mod Curve25519
 pub mod Edwards
 pub mod Evaluation

@@ -10,9 +10,12 @@ use Rattle.curve25519.proofs.Ring.{IsRing}
 use Rattle.curve25519.specs.Powers.{power}
 use Rattle.curve25519.proofs.Powers.{power-suc}
 
-module _ (p : ℕ) (above : 0 < p) (odd : 2 < p) where
+module _ (p : ℕ) (below : (n : ℕ) → n % p < p) (odd : 2 < p) where
+  above : 0 < p
+  above = omega (arith, odd)
+
   abbrev of : ℕ → Fin p
-  of = residue p above
+  of = residue p below
 
   pub of_val : (n : ℕ) → (of n).0 ≡ n % p
   unfolding residue
@@ -26,7 +29,7 @@ module _ (p : ℕ) (above : 0 < p) (odd : 2 < p) where
   unfolding residue
   of_self x = val_path (mod-eq_of_lt x.1)
 
-  pub modular : IsRing (modulo p above)
+  pub modular : IsRing (modulo p below)
   unfolding residue modulo
   modular = record {
     add-comm = λ x y. ap of (add_comm x.0 y.0);

@@ -6,7 +6,8 @@ use Rattle.std.proofs.lemmas.Nat.{mul-mod_second}
 use Rattle.std.proofs.lemmas.Bool.{eq-eqb, ne_eqb, lt-ltb, cases_eq}
 use Rattle.curve25519.specs.Modular.{of, modulo}
 use Rattle.curve25519.specs.Powers.{power}
-use Rattle.curve25519.specs.Field25519.{prime, positive, field, residue, least, raise, residue_least}
+use Rattle.curve25519.specs.Field25519.{prime, below, field, residue, least, raise}
+use Rattle.curve25519.proofs.Coded.{residue_least}
 use Rattle.curve25519.specs.Curve25519.{d, root_of_minus_one, Point, On}
 use Rattle.curve25519.proofs.Identities.{Term, v, i, o, ◌⊕◌, ◌⊗◌, -◌, ◌⊖◌, lookup, ring, follows}
 use Rattle.curve25519.proofs.Powers.{power-zero, power-suc}
@@ -39,12 +40,12 @@ nil_least x e = least_same x nil (e ∙ sym least_nil)
 
 raise-zero : (x : Of) → raise x 0 ≡ one
 unfolding raise field modulo of
-raise-zero x = of_same prime positive odd (power prime x.0 0) 1 (ap (λ t. t % prime) (power-zero prime x.0) ∙ mod-mod 1 prime)
+raise-zero x = of_same prime below odd (power prime x.0 0) 1 (ap (λ t. t % prime) (power-zero prime x.0) ∙ mod-mod 1 prime)
 
 raise-suc : (x : Of) (n : ℕ) → raise x (suc n) ≡ mul x (raise x n)
 unfolding raise field modulo of
 raise-suc x n =
-    of_same prime positive odd (power prime x.0 (suc n)) (x.0 * (power prime x.0 n % prime))
+    of_same prime below odd (power prime x.0 (suc n)) (x.0 * (power prime x.0 n % prime))
     (ap (λ t. t % prime) (power-suc prime x.0 n) ∙ mod-mod (x.0 * power prime x.0 n) prime ∙ sym (mul-mod_second x.0 (power prime x.0 n) prime))
 
 raise_is : (x : Of) (n : ℕ) → raise x n ≡ pow curve.field x n
@@ -57,7 +58,7 @@ eighth = 2 ^ 252 - 3
 
 raise_whole : (x : Of) → x ≢ nil → raise x (8 * eighth + 4) ≡ one
 unfolding raise field modulo of
-raise_whole x h = ap (of prime positive) (fermat x.0 (λ e. h (sym (of_self prime positive odd x) ∙ of_same prime positive odd x.0 0 e)))
+raise_whole x h = ap (of prime below) (fermat x.0 (λ e. h (sym (of_self prime below odd x) ∙ of_same prime below odd x.0 0 e)))
 
 fermat_here : (x : Of) → x ≢ nil → pow curve.field x (8 * eighth + 4) ≡ one
 fermat_here x h = sym (raise_is x (8 * eighth + 4)) ∙ raise_whole x h

@@ -4,7 +4,9 @@ use Rattle.hpke.specs.Rfc9180.{public, is_fit, seal_base, open_base}
 
 -- what is sealed to the public key of sk is opened by sk, under the same info and additional data
 abbrev pub OpensSealed : Type 0
-OpensSealed = (sk info aad pt ikm : List ℕ) (s : List ℕ × List ℕ) → seal_base (public sk) info aad pt ikm ≡ Some s → open_base s.0 sk info aad s.1 ≡ Some pt
+OpensSealed =
+    (sk info aad pt ikm : List ℕ) (s : List ℕ × List ℕ) → seal_base (public sk) info aad pt ikm ≡ Some s
+    → open_base s.0 sk info aad s.1 ≡ Some pt
 
 -- a key takes a sealing exactly where it is fit
 abbrev pub SealsWhereFit : Type 0

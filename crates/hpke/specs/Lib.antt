@@ -1,3 +1,3 @@
 pub mod Rfc9180
 pub mod Laws
-pub mod Made
+pub mod Sealing

@@ -22,7 +22,8 @@ labeled_extract suite_id salt label ikm = extract salt (codes "HPKE-v1" ++ suite
 
 -- LabeledExpand(prk, label, info, L) under a suite_id (RFC 9180, 4)
 unfoldable pub labeled_expand : List ℕ → List ℕ → List ℕ → List ℕ → ℕ → List ℕ
-labeled_expand suite_id prk label info n = expand prk (to_be_bytes w16 n ++ codes "HPKE-v1" ++ suite_id ++ label ++ info) n
+labeled_expand suite_id prk label info n =
+    expand prk (to_be_bytes w16 n ++ codes "HPKE-v1" ++ suite_id ++ label ++ info) n
 
 -- ---- the KEM
 
@@ -37,7 +38,8 @@ public sk = x25519_bytes sk nine_bytes
 -- ExtractAndExpand(dh, kem_context) (RFC 9180, 4.1)
 unfoldable pub extract_and_expand : List ℕ → List ℕ → List ℕ
 extract_and_expand dh kem_context =
-    labeled_expand kem_suite_id (labeled_extract kem_suite_id [] (codes "eae_prk") dh) (codes "shared_secret") kem_context 32
+    labeled_expand kem_suite_id (labeled_extract kem_suite_id [] (codes "eae_prk") dh)
+    (codes "shared_secret") kem_context 32
 
 -- the private key of DeriveKeyPair(ikm), for X25519; the other key is its public one (RFC 9180, 7.1.3)
 unfoldable pub derive : List ℕ → List ℕ
@@ -53,8 +55,8 @@ eight_times pk = clear_cofactor_bytes pk
 
 -- A public key is fit where it has 32 bytes, and eight times it isn't 0.
 -- RFC 9180 (7.1.4) asks the sender for another test: that DH(skE, pkR) isn't the all-zero value. A clamped scalar is a
--- multiple of 8, so it brings an unfit key to that value. That it brings no fit key there rests on the numbers of points of
--- the curve and its twist, and isn't proved here, except for keys that are `public sk`.
+-- multiple of 8, so it brings an unfit key to that value. That it brings no fit key there rests on the numbers of points
+-- of the curve and its twist, and isn't proved here, except for keys that are `public sk`.
 unfoldable pub is_fit : List ℕ → Bool
 is_fit pk = (if nat_eq (length pk) 32 then not (is_zero (eight_times pk)) else false)
 
@@ -75,7 +77,8 @@ decap enc sk = extract_and_expand (dh sk enc) (enc ++ public sk)
 -- key_schedule_context (RFC 9180, 5.1)
 unfoldable pub key_schedule_context : List ℕ → List ℕ
 key_schedule_context info =
-    0 ∷ [] ++ labeled_extract hpke_suite_id [] (codes "psk_id_hash") [] ++ labeled_extract hpke_suite_id [] (codes "info_hash") info
+    0 ∷ [] ++ labeled_extract hpke_suite_id [] (codes "psk_id_hash") []
+    ++ labeled_extract hpke_suite_id [] (codes "info_hash") info
 
 -- secret (RFC 9180, 5.1)
 unfoldable pub secret : List ℕ → List ℕ
@@ -83,11 +86,13 @@ secret shared_secret = labeled_extract hpke_suite_id shared_secret (codes "secre
 
 -- key (RFC 9180, 5.1)
 unfoldable pub key : List ℕ → List ℕ → List ℕ
-key shared_secret info = labeled_expand hpke_suite_id (secret shared_secret) (codes "key") (key_schedule_context info) 16
+key shared_secret info =
+    labeled_expand hpke_suite_id (secret shared_secret) (codes "key") (key_schedule_context info) 16
 
 -- base_nonce, which is the nonce of the first message, whose sequence number is 0 (RFC 9180, 5.1 and 5.2)
 unfoldable pub base_nonce : List ℕ → List ℕ → List ℕ
-base_nonce shared_secret info = labeled_expand hpke_suite_id (secret shared_secret) (codes "base_nonce") (key_schedule_context info) 12
+base_nonce shared_secret info =
+    labeled_expand hpke_suite_id (secret shared_secret) (codes "base_nonce") (key_schedule_context info) 12
 
 -- ---- one shot
 
@@ -101,10 +106,11 @@ context_open shared_secret info aad ct = gcm_ad (key shared_secret info) (base_n
 
 -- SealBase(pkR, info, aad, pt): enc and ct, with the ephemeral key pair of ikm (RFC 9180, 6.1)
 unfoldable pub seal_base : List ℕ → List ℕ → List ℕ → List ℕ → List ℕ → Option (List ℕ × List ℕ)
-seal_base pk info aad pt ikm = (if is_fit pk then Some (encapsulated_key ikm, context_seal (encap pk ikm) info aad pt) else None)
+seal_base pk info aad pt ikm =
+    (if is_fit pk then Some (encapsulated_key ikm, context_seal (encap pk ikm) info aad pt) else None)
 
--- OpenBase(enc, skR, info, aad, ct); an encapsulated key of another length (RFC 9180, 7.1.1) and the all-zero value (7.1.4)
--- are refused (RFC 9180, 6.1)
+-- OpenBase(enc, skR, info, aad, ct); an encapsulated key of another length (RFC 9180, 7.1.1) and the all-zero value
+-- (7.1.4) are refused (RFC 9180, 6.1)
 unfoldable pub open_base : List ℕ → List ℕ → List ℕ → List ℕ → List ℕ → Option (List ℕ)
 open_base enc sk info aad ct =
     (if nat_eq (length enc) 32

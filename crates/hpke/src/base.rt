@@ -1,8 +1,8 @@
 //! The key schedule, and sealing and opening in one shot, in base mode (RFC 9180, 5.1, 5.2 and 6.1).
 
-ghost use Rattle.std.specs.Prelude.{◌≡◌, ◌++◌, [], ◌∷◌, codes, None, Ok, IfOk};
-ghost use Rattle.std.specs.Option.{option_map};
-ghost use Rattle.hpke.specs.Made.{sealing_of};
+ghost use Rattle.std.specs.Prelude.{◌≡◌, ◌++◌, [], ◌∷◌, codes, None, Ok};
+ghost use Rattle.aes128gcm.specs.Opening.{Opens};
+ghost use Rattle.hpke.specs.Sealing.{Seals};
 ghost use Rattle.hpke.specs.Rfc9180.{hpke_suite_id, key, base_nonce, encap, encapsulated_key, decap, seal_base, open_base};
 
 use crate::kem::{derive, dh, extract_and_expand, is_fit, is_zero, public_key};
@@ -79,7 +79,7 @@ pub fn seal(
     pt: &[u8],
     ikm: &[u8; 32],
 ) -> Result<Option<Sealed>, AllocError>
-    ensures answer { IfOk result (λ s. sealing_of s ≡ seal_base pk.now info.now aad.now pt.now ikm.now) }
+    ensures answer { Seals result (seal_base pk.now info.now aad.now pt.now ikm.now) }
     ensures refused { seal_base pk.now info.now aad.now pt.now ikm.now ≡ None → result ≡ Ok None }
 {
     if !is_fit(pk) {
@@ -107,8 +107,7 @@ pub fn open(
     aad: &[u8],
     ct: &[u8],
 ) -> Result<Option<Vec<u8>>, AllocError>
-    ensures answer { IfOk result (λ pt. option_map (λ v. v.items) pt
-        ≡ open_base enc.now sk.now info.now aad.now ct.now) }
+    ensures answer { Opens result (open_base enc.now sk.now info.now aad.now ct.now) }
     ensures refused { open_base enc.now sk.now info.now aad.now ct.now ≡ None → result ≡ Ok None }
 {
     if enc.len() != 32 {

@@ -28,8 +28,8 @@ pub(crate) fn labeled_expand<'a>(
     out: &mut [u8],
 )
     requires { length out.old ≤ max_output }
-    ensures { out.new ≡ labeled_expand suite_id.now prk.now label.now (first.now ++ second.now ++ third.now)
-        (length out.old) }
+    ensures { out.new ≡ labeled_expand suite_id.now prk.now label.now
+        (first.now ++ second.now ++ third.now) (length out.old) }
 {
     let length = (out.len() as u16).to_be_bytes();
     let pieces: [&[u8]; 7] = [&length, VERSION, suite_id, label, first, second, third];

@@ -1,6 +1,7 @@
 -- The cipher suite MLS_128_DHKEMX25519_AES128GCM_SHA256_Ed25519 (RFC 9420, 17.1) as a record: each answer is what the
--- standard of its primitive says. These definitions keep the laws on all lists, so nothing is brought into range here: an
--- X25519 key is read as 32 bytes, 0 where the list ends before, and public keys have 32 bytes and signatures 64 always.
+-- standard of its primitive says. These definitions keep the laws on all lists, so nothing is brought into range here:
+-- an X25519 key is read as 32 bytes, 0 where the list ends before, and public keys have 32 bytes and signatures 64
+-- always.
 use Rattle.std.specs.Prelude.{ℕ, List, [], Option}
 use Rattle.std.specs.Option.{option_map}
 use Rattle.mls_suite.specs.Crypto.{Crypto, Sealing}

@@ -1,3 +1,2 @@
 pub mod Rfc7748
 pub mod Laws
-pub mod States
