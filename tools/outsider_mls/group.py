@@ -20,6 +20,9 @@ from .wire import (FROM_COMMIT, FROM_KEY_PACKAGE, FROM_UPDATE, LONGEST_LIFE, RAT
                    signed, uint, write_message)
 
 
+LAST_EPOCH = 2**64 - 1
+
+
 @dataclass(frozen=True)
 class State:
     """What a member holds in one epoch. `privates` are private keys by the nodes that they belong to."""
@@ -90,6 +93,8 @@ def check_new_leaf(state, leaf_node, source, index):
     old = state.tree.leaf(index)
     if old is None or old.encryption_key == leaf_node.encryption_key:
         raise Refused("a leaf has the same key, or there is none to be replaced")
+    if (old.signature_key, old.identity) != (leaf_node.signature_key, leaf_node.identity):
+        raise Unsupported("a leaf of another identity, which an authentication service would judge")
 
 
 def check_proposal(state, kept):
@@ -123,6 +128,8 @@ def check_list(proposals, committer):
 
 def edit(state, proposals, committer):
     """The state with the proposals applied: extensions, updates, removes, adds (section 12.3)."""
+    if state.context.epoch == LAST_EPOCH:
+        raise Refused("no epoch comes after this one")
     for kept in proposals:
         check_proposal(state, kept)
     check_list(proposals, committer)
@@ -201,6 +208,14 @@ def take_key(tree, privates, x, secret):
     privates[x] = private
 
 
+def check_held(tree, privates, leaf):
+    """Whether a joiner has the key of each node above it that doesn't list it as unmerged, and of no other (4.2)."""
+    for x in tree.direct_path(leaf):
+        node = tree.nodes[x]
+        if node is not None and (x in privates) == (leaf in node.unmerged_leaves):
+            raise Refused("a joiner lacks a key, or has one that isn't due to it")
+
+
 def next_state(state, edited, content, signature, commit_secret):
     """The state that a commit leads to. It has the confirmation tag that the commit has to have."""
     confirmed = confirmed_hash(state.interim, content, signature)
@@ -275,6 +290,7 @@ class Outsider:
         privates = {2 * leaf: self.leaf_private}
         if secrets.path_secret is not None:
             self.take_path_secret(tree, privates, leaf, info.signer, secrets.path_secret)
+        check_held(tree, privates, leaf)
         epoch = Epoch.of_joiner(secrets.joiner_secret, info.context)
         if not same(info.confirmation_tag, epoch.confirmation_tag(info.context.confirmed_transcript_hash)):
             raise Refused("the confirmation tag is wrong")
@@ -288,6 +304,8 @@ class Outsider:
             raise Refused("the Welcome isn't for this client")
         opened = decrypt_with_label(self.init_private, b"Welcome", sealed_info, entry.encrypted_group_secrets)
         secrets = read_whole(GroupSecrets.read, opened)
+        if any(len(it) != len(ZERO) for it in (secrets.joiner_secret, secrets.path_secret) if it is not None):
+            raise Refused("a secret has another length")
         key, nonce = welcome_key_and_nonce(secrets.joiner_secret)
         return secrets, read_whole(GroupInfo.read, aead_open(key, nonce, sealed_info))
 
