@@ -1,4 +1,4 @@
-"""The primitives of cipher suite 0x0001, and the labelled uses of them (RFC 9420, sections 5.1, 5.2 and 8; RFC 9180)."""
+"""The primitives of cipher suite 0x0001, and their labelled uses (RFC 9420, sections 5.1, 5.2 and 8; RFC 9180)."""
 import hashlib
 import hmac
 

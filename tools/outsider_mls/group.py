@@ -1,8 +1,9 @@
 """An outsider as a member of a group: proposals, commits, Welcomes, and what it makes of those of others (RFC 9420,
 sections 6, 7.5, 10 to 12).
 
-Each call takes all its randomness from a seed of 32 bytes, so a call can be made again. The seed's labels are those that
-docs/FORMATS.md gives ("Labels"); the standard leaves them open.
+Each call takes all its randomness from a seed of 32 bytes, so a call can be made again. What is drawn from a seed
+under which label is as docs/FORMATS.md says ("Labels"), for the standard leaves it open. So an outsider and a member of
+the engine that make the same calls with the same seeds are to make the same bytes.
 """
 from dataclasses import dataclass, field, replace
 from itertools import count

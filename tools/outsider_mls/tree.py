@@ -5,8 +5,7 @@ Leaf i is node 2i. A node of level k has k one bits at its end, and stands over 
 from dataclasses import replace
 
 from .crypto import check_encryption_key, derive_key_pair, derive_secret, hash_of, verify_with_label
-from .wire import (BASIC, FROM_COMMIT, MLS10, SUITE, LeafNode, Node, ParentNode, Reader, Refused, opaque, optional,
-                   read_whole, uint, vector)
+from .wire import BASIC, MLS10, SUITE, LeafNode, Node, ParentNode, Refused, opaque, optional, read_whole, uint
 
 DEFAULT_EXTENSIONS = range(1, 6)
 
@@ -45,6 +44,10 @@ def check_leaf(leaf, source, group_id, index):
     if any(it.kind not in able.extensions and it.kind not in DEFAULT_EXTENSIONS for it in leaf.extensions):
         raise Refused("a leaf has an extension that it doesn't list")
     check_encryption_key(leaf.encryption_key)
+
+
+def read_nodes(reader):
+    return reader.items(lambda inner: inner.optional(Node.read))
 
 
 class RatchetTree:
@@ -86,7 +89,7 @@ class RatchetTree:
         return [] if level(x) == 0 else self.resolution(left(x)) + self.resolution(right(x))
 
     def filtered_direct_path(self, leaf):
-        """Pairs of a node above the leaf and its child on the copath, without pairs whose child resolves to nothing."""
+        """Pairs of a node above the leaf and its child on the copath, where that child resolves to something."""
         pairs = []
         for x in self.direct_path(leaf):
             child = right(x) if 2 * leaf < x else left(x)
@@ -153,7 +156,8 @@ class RatchetTree:
             expected, resolution = self.parent_hash(x, sibling), self.resolution(child)
             unmerged = {2 * leaf for leaf in node.unmerged_leaves if is_over(child, leaf)}
             for below in resolution:
-                if getattr(self.nodes[below], "parent_hash", None) == expected and set(resolution) - {below} == unmerged:
+                found = getattr(self.nodes[below], "parent_hash", None)
+                if found == expected and set(resolution) - {below} == unmerged:
                     return True
         return False
 
@@ -211,7 +215,7 @@ class RatchetTree:
 
     @staticmethod
     def read(content):
-        nodes = [it and it.node for it in read_whole(lambda r: r.items(lambda i: i.optional(Node.read)), content)]
+        nodes = [it and it.node for it in read_whole(read_nodes, content)]
         if not nodes or nodes[-1] is None:
             raise Refused("a tree ends with a blank node")
         if any(node is not None and isinstance(node, LeafNode) != (x % 2 == 0) for x, node in enumerate(nodes)):

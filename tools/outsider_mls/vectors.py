@@ -1,7 +1,8 @@
 """Holds the outsider against test vectors of the MLS working group's kind, for suite 1: key-schedule.json and
 passive-client-*.json. No such file came with this repository, and this code was never run on a real one.
 
-What a vector asks for beyond the profile (pre-shared keys, PrivateMessages, other proposals or credentials) is skipped.
+A vector that asks for more than the profile (pre-shared keys, PrivateMessages, other proposals or credentials) is
+skipped.
 """
 import json
 import pathlib
@@ -51,13 +52,13 @@ def passive_client(vector):
     client = Outsider.of_keys(key_package, *privates)
     tree = vector.get("ratchet_tree")
     client.join(unhex(vector["welcome"]), unhex(tree) if tree else None)
-    expect("initial_epoch_authenticator", client.state.epoch.epoch_authenticator, vector["initial_epoch_authenticator"])
+    expect("authenticator", client.secrets()["epoch_authenticator"], vector["initial_epoch_authenticator"])
     for it in vector["epochs"]:
         for message in it["proposals"]:
             client.process(unhex(message))
         if client.process(unhex(it["commit"])) != "advanced":
             raise Refused("a commit doesn't advance")
-        expect("epoch_authenticator", client.state.epoch.epoch_authenticator, it["epoch_authenticator"])
+        expect("authenticator", client.secrets()["epoch_authenticator"], it["epoch_authenticator"])
 
 
 def check_file(path, check):

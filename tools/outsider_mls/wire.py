@@ -1,6 +1,6 @@
 """The structures of RFC 9420 that the outsider reads and writes, field by field.
 
-Each class has `write()`, which answers bytes, and `read(reader)`. The order of a class's fields is the order on the wire.
+Each class has `write()`, which answers bytes, and `read(reader)`. A class's fields stand in the order of the wire.
 Values are never changed: a changed one is a new one (`dataclasses.replace`).
 """
 from dataclasses import dataclass, replace
@@ -129,13 +129,13 @@ class Extension:
         return uint(2, self.kind) + opaque(self.content)
 
     @staticmethod
-    def read(r):
-        return Extension(r.uint(2), r.opaque())
+    def read(reader):
+        return Extension(reader.uint(2), reader.opaque())
 
 
-def read_extensions(r):
+def read_extensions(reader):
     """A list of extensions, which has each type once at most (section 13)."""
-    extensions = r.items(Extension.read)
+    extensions = reader.items(Extension.read)
     if len({it.kind for it in extensions}) < len(extensions):
         raise Refused("an extension stands twice")
     return extensions
@@ -154,8 +154,8 @@ class Capabilities:
         return b"".join(numbers(2, it) for it in lists)
 
     @staticmethod
-    def read(r):
-        return Capabilities(*(r.numbers(2) for _ in range(5)))
+    def read(reader):
+        return Capabilities(*(reader.numbers(2) for _ in range(5)))
 
 
 @dataclass(frozen=True)
@@ -191,14 +191,14 @@ class LeafNode:
         return self.write_unsigned() + place
 
     @staticmethod
-    def read(r):
-        encryption_key, signature_key = r.opaque(), r.opaque()
-        r.constant(2, BASIC, what="a credential of type")
-        identity, capabilities = r.opaque(), Capabilities.read(r)
-        source = r.constant(1, FROM_KEY_PACKAGE, FROM_UPDATE, FROM_COMMIT, what="a leaf's source")
-        lifetime = (r.uint(8), r.uint(8)) if source == FROM_KEY_PACKAGE else None
-        parent_hash = r.opaque() if source == FROM_COMMIT else None
-        rest = read_extensions(r), r.opaque()
+    def read(reader):
+        encryption_key, signature_key = reader.opaque(), reader.opaque()
+        reader.constant(2, BASIC, what="a credential of type")
+        identity, capabilities = reader.opaque(), Capabilities.read(reader)
+        source = reader.constant(1, FROM_KEY_PACKAGE, FROM_UPDATE, FROM_COMMIT, what="a leaf's source")
+        lifetime = (reader.uint(8), reader.uint(8)) if source == FROM_KEY_PACKAGE else None
+        parent_hash = reader.opaque() if source == FROM_COMMIT else None
+        rest = read_extensions(reader), reader.opaque()
         return LeafNode(encryption_key, signature_key, identity, capabilities, source, lifetime, parent_hash, *rest)
 
 
@@ -212,8 +212,8 @@ class ParentNode:
         return opaque(self.encryption_key) + opaque(self.parent_hash) + numbers(4, self.unmerged_leaves)
 
     @staticmethod
-    def read(r):
-        node = ParentNode(r.opaque(), r.opaque(), r.numbers(4))
+    def read(reader):
+        node = ParentNode(reader.opaque(), reader.opaque(), reader.numbers(4))
         if any(a >= b for a, b in zip(node.unmerged_leaves, node.unmerged_leaves[1:])):
             raise Refused("unmerged leaves do not rise")
         return node
@@ -229,9 +229,9 @@ class Node:
         return uint(1, LEAF if isinstance(self.node, LeafNode) else PARENT) + self.node.write()
 
     @staticmethod
-    def read(r):
-        kind = r.constant(1, LEAF, PARENT, what="a node of type")
-        return Node(LeafNode.read(r) if kind == LEAF else ParentNode.read(r))
+    def read(reader):
+        kind = reader.constant(1, LEAF, PARENT, what="a node of type")
+        return Node(LeafNode.read(reader) if kind == LEAF else ParentNode.read(reader))
 
 
 @dataclass(frozen=True)
@@ -249,10 +249,10 @@ class KeyPackage:
         return self.write_unsigned() + opaque(self.signature)
 
     @staticmethod
-    def read(r):
-        r.constant(2, MLS10, what="a version")
-        r.constant(2, SUITE, what="a cipher suite")
-        return KeyPackage(r.opaque(), LeafNode.read(r), read_extensions(r), r.opaque())
+    def read(reader):
+        reader.constant(2, MLS10, what="a version")
+        reader.constant(2, SUITE, what="a cipher suite")
+        return KeyPackage(reader.opaque(), LeafNode.read(reader), read_extensions(reader), reader.opaque())
 
 
 # ---- proposals and commits (sections 7.6, 12.1, 12.4)
@@ -294,15 +294,15 @@ class GroupContextExtensions:
         return uint(2, self.number) + vector(self.extensions)
 
 
-def read_proposal(r):
-    number = r.constant(2, 1, 2, 3, 7, what="a proposal of type")
+def read_proposal(reader):
+    number = reader.constant(2, 1, 2, 3, 7, what="a proposal of type")
     if number == Add.number:
-        return Add(KeyPackage.read(r))
+        return Add(KeyPackage.read(reader))
     if number == Update.number:
-        return Update(LeafNode.read(r))
+        return Update(LeafNode.read(reader))
     if number == Remove.number:
-        return Remove(r.uint(4))
-    return GroupContextExtensions(read_extensions(r))
+        return Remove(reader.uint(4))
+    return GroupContextExtensions(read_extensions(reader))
 
 
 @dataclass(frozen=True)
@@ -325,9 +325,9 @@ class ByReference:
         return b"\2" + opaque(self.reference)
 
 
-def read_proposal_or_ref(r):
-    kind = r.constant(1, 1, 2, what="a ProposalOrRef of type")
-    return InFull(read_proposal(r)) if kind == 1 else ByReference(r.opaque())
+def read_proposal_or_ref(reader):
+    kind = reader.constant(1, 1, 2, what="a ProposalOrRef of type")
+    return InFull(read_proposal(reader)) if kind == 1 else ByReference(reader.opaque())
 
 
 @dataclass(frozen=True)
@@ -341,8 +341,8 @@ class Ciphertext:
         return opaque(self.kem_output) + opaque(self.ciphertext)
 
     @staticmethod
-    def read(r):
-        return Ciphertext(r.opaque(), r.opaque())
+    def read(reader):
+        return Ciphertext(reader.opaque(), reader.opaque())
 
 
 @dataclass(frozen=True)
@@ -354,8 +354,8 @@ class UpdatePathNode:
         return opaque(self.encryption_key) + vector(self.encrypted_path_secret)
 
     @staticmethod
-    def read(r):
-        return UpdatePathNode(r.opaque(), r.items(Ciphertext.read))
+    def read(reader):
+        return UpdatePathNode(reader.opaque(), reader.items(Ciphertext.read))
 
 
 @dataclass(frozen=True)
@@ -367,8 +367,8 @@ class UpdatePath:
         return self.leaf_node.write() + vector(self.nodes)
 
     @staticmethod
-    def read(r):
-        return UpdatePath(LeafNode.read(r), r.items(UpdatePathNode.read))
+    def read(reader):
+        return UpdatePath(LeafNode.read(reader), reader.items(UpdatePathNode.read))
 
 
 @dataclass(frozen=True)
@@ -380,8 +380,8 @@ class Commit:
         return vector(self.proposals) + optional(self.path)
 
     @staticmethod
-    def read(r):
-        return Commit(r.items(read_proposal_or_ref), r.optional(UpdatePath.read))
+    def read(reader):
+        return Commit(reader.items(read_proposal_or_ref), reader.optional(UpdatePath.read))
 
 
 # ---- framing (sections 6.1, 6.2, 8.1)
@@ -400,10 +400,10 @@ class GroupContext:
         return head + opaque(self.tree_hash) + opaque(self.confirmed_transcript_hash) + vector(self.extensions)
 
     @staticmethod
-    def read(r):
-        r.constant(2, MLS10, what="a version")
-        r.constant(2, SUITE, what="a cipher suite")
-        return GroupContext(r.opaque(), r.uint(8), r.opaque(), r.opaque(), read_extensions(r))
+    def read(reader):
+        reader.constant(2, MLS10, what="a version")
+        reader.constant(2, SUITE, what="a cipher suite")
+        return GroupContext(reader.opaque(), reader.uint(8), reader.opaque(), reader.opaque(), read_extensions(reader))
 
 
 @dataclass(frozen=True)
@@ -429,12 +429,12 @@ class FramedContent:
         return uint(2, MLS10) + uint(2, PUBLIC_MESSAGE) + self.write() + context.write()
 
     @staticmethod
-    def read(r):
-        group_id, epoch = r.opaque(), r.uint(8)
-        r.constant(1, MEMBER, what="a sender of type")
-        sender, authenticated_data = r.uint(4), r.opaque()
-        kind = r.constant(1, APPLICATION, PROPOSAL, COMMIT, what="a content of type")
-        body = {APPLICATION: Reader.opaque, PROPOSAL: read_proposal, COMMIT: Commit.read}[kind](r)
+    def read(reader):
+        group_id, epoch = reader.opaque(), reader.uint(8)
+        reader.constant(1, MEMBER, what="a sender of type")
+        sender, authenticated_data = reader.uint(4), reader.opaque()
+        kind = reader.constant(1, APPLICATION, PROPOSAL, COMMIT, what="a content of type")
+        body = {APPLICATION: Reader.opaque, PROPOSAL: read_proposal, COMMIT: Commit.read}[kind](reader)
         return FramedContent(group_id, epoch, sender, authenticated_data, body)
 
 
@@ -464,11 +464,11 @@ class PublicMessage:
         return uint(2, PUBLIC_MESSAGE) + self.content.write() + self.auth.write()
 
     @staticmethod
-    def read(r):
-        content = FramedContent.read(r)
-        signature = r.opaque()
-        tag = r.opaque() if isinstance(content.body, Commit) else None
-        return PublicMessage(content, AuthData(signature, tag), r.opaque())
+    def read(reader):
+        content = FramedContent.read(reader)
+        signature = reader.opaque()
+        tag = reader.opaque() if isinstance(content.body, Commit) else None
+        return PublicMessage(content, AuthData(signature, tag), reader.opaque())
 
 
 # ---- welcomes (sections 12.4.3, 12.4.3.1)
@@ -490,8 +490,9 @@ class GroupInfo:
         return self.write_unsigned() + opaque(self.signature)
 
     @staticmethod
-    def read(r):
-        return GroupInfo(GroupContext.read(r), read_extensions(r), r.opaque(), r.uint(4), r.opaque())
+    def read(reader):
+        context, extensions, tag = GroupContext.read(reader), read_extensions(reader), reader.opaque()
+        return GroupInfo(context, extensions, tag, reader.uint(4), reader.opaque())
 
 
 @dataclass(frozen=True)
@@ -504,9 +505,9 @@ class GroupSecrets:
         return opaque(self.joiner_secret) + path + opaque(b"")
 
     @staticmethod
-    def read(r):
-        secrets = GroupSecrets(r.opaque(), r.optional(Reader.opaque))
-        if r.opaque():
+    def read(reader):
+        secrets = GroupSecrets(reader.opaque(), reader.optional(Reader.opaque))
+        if reader.opaque():
             raise Unsupported("pre-shared keys")
         return secrets
 
@@ -520,8 +521,8 @@ class EncryptedGroupSecrets:
         return opaque(self.new_member) + self.encrypted_group_secrets.write()
 
     @staticmethod
-    def read(r):
-        return EncryptedGroupSecrets(r.opaque(), Ciphertext.read(r))
+    def read(reader):
+        return EncryptedGroupSecrets(reader.opaque(), Ciphertext.read(reader))
 
 
 @dataclass(frozen=True)
@@ -533,9 +534,9 @@ class Welcome:
         return uint(2, SUITE) + vector(self.secrets) + opaque(self.encrypted_group_info)
 
     @staticmethod
-    def read(r):
-        r.constant(2, SUITE, what="a cipher suite")
-        return Welcome(r.items(EncryptedGroupSecrets.read), r.opaque())
+    def read(reader):
+        reader.constant(2, SUITE, what="a cipher suite")
+        return Welcome(reader.items(EncryptedGroupSecrets.read), reader.opaque())
 
 
 # ---- messages (section 6)
@@ -551,9 +552,9 @@ def write_message(body):
 
 def read_message(content, kind):
     """The body of an MLSMessage of that kind."""
-    r = Reader(content)
-    r.constant(2, MLS10, what="a version")
-    found = KINDS[r.constant(2, *KINDS, what="a wire format")]
+    reader = Reader(content)
+    reader.constant(2, MLS10, what="a version")
+    found = KINDS[reader.constant(2, *KINDS, what="a wire format")]
     if found is not kind:
         raise Refused(f"no {kind.__name__}, but a {found.__name__}")
     return read_whole(kind.read, content[4:])
