@@ -2,8 +2,8 @@
 sections 6, 7.5, 10 to 12).
 
 Each call takes all its randomness from a seed of 32 bytes, so a call can be made again. What is drawn from a seed
-under which label is as docs/FORMATS.md says ("Labels"), for the standard leaves it open. So an outsider and a member of
-the engine that make the same calls with the same seeds are to make the same bytes.
+under which label is as docs/FORMATS.md says ("Labels"), for the standard leaves it open. So an outsider and a member
+of the engine that make the same calls with the same seeds are to make the same bytes.
 """
 from dataclasses import dataclass, field, replace
 from itertools import count
@@ -14,8 +14,8 @@ from .crypto import (ZERO, aead_open, aead_seal, check_encryption_key, decrypt_w
                      sign_with_label, signature_public, verify_with_label)
 from .schedule import Epoch, confirmed_hash, interim_hash, welcome_key_and_nonce
 from .tree import RatchetTree, check_leaf, is_over, node_key_pair, path_secrets
-from .wire import (FROM_COMMIT, FROM_KEY_PACKAGE, FROM_UPDATE, LONGEST_LIFE, RATCHET_TREE, Add, AuthData, ByReference,
-                   Capabilities, Commit, EncryptedGroupSecrets, Extension, FramedContent, GroupContext,
+from .wire import (FROM_COMMIT, FROM_KEY_PACKAGE, FROM_UPDATE, LONGEST_LIFE, RATCHET_TREE, Add, AuthData, Capabilities,
+                   Commit, EncryptedGroupSecrets, Extension, FramedContent, GroupContext,
                    GroupContextExtensions, GroupInfo, GroupSecrets, InFull, KeyPackage, LeafNode, PublicMessage,
                    Refused, Remove, Unsupported, Update, UpdatePath, UpdatePathNode, Welcome, read_message, read_whole,
                    signed, uint, write_message)
@@ -99,6 +99,7 @@ def check_new_leaf(state, leaf_node, source, index):
 
 
 def check_proposal(state, kept):
+    """What a proposal must be by itself (section 12.1). No leaf need list the types of a group's extensions."""
     proposal = kept.proposal
     if isinstance(proposal, Add):
         check_key_package(proposal.key_package)
