@@ -15,11 +15,10 @@ from .crypto import (ZERO, aead_open, aead_seal, check_encryption_key, decrypt_w
 from .schedule import Epoch, confirmed_hash, interim_hash, welcome_key_and_nonce
 from .tree import RatchetTree, check_leaf, is_over, node_key_pair, path_secrets
 from .wire import (FROM_COMMIT, FROM_KEY_PACKAGE, FROM_UPDATE, LONGEST_LIFE, RATCHET_TREE, Add, AuthData, Capabilities,
-                   Commit, EncryptedGroupSecrets, Extension, FramedContent, GroupContext,
-                   GroupContextExtensions, GroupInfo, GroupSecrets, InFull, KeyPackage, LeafNode, PublicMessage,
+                   Commit, EncryptedGroupSecrets, Extension, FramedContent, GroupContext, GroupContextExtensions,
+                   GroupInfo, GroupSecrets, InFull, KeyPackage, LeafNode, PublicMessage,
                    Refused, Remove, Unsupported, Update, UpdatePath, UpdatePathNode, Welcome, read_message, read_whole,
                    signed, uint, write_message)
-
 
 LAST_EPOCH = 2**64 - 1
 
