@@ -1,6 +1,6 @@
 -- What `mls replay` prints of a recording: a line for each reply, one where it isn't what is expected, and at the end a line
 -- for each member.
-use Rattle.std.specs.Prelude.{◌≡◌, ◌⊎◌, MatchResult, ℕ, ◌+◌, Bool, true, ◌&&◌, if◌then◌else◌, List, [], ◌∷◌, ◌++◌, codes, map, take, slice_get, Option, Some, None, option_map, Result, Ok, Err, OnErr, string_bytes}
+use Rattle.std.specs.Prelude.{◌≡◌, ◌⊎◌, MatchResult, ℕ, ◌+◌, Bool, true, ◌&&◌, if◌then◌else◌, List, [], ◌∷◌, ◌++◌, codes, map, take, slice_get, Option, Some, None, option_map, Result, Ok, Err, IfOk, OnErr, string_bytes}
 use Rattle.std.specs.Borrow.{Bor}
 use Rattle.std.specs.Fmt.{decimal}
 use Rattle.std.specs.List.{flat_map}
@@ -172,9 +172,9 @@ told event reply expect = flat_map entry_text (event_entries event reply (option
 abbrev pub members_text : List Seat → List ℕ
 members_text seats = flat_map entry_text (member_entries 0 seats)
 
--- what is printed of a member that wasn't removed
-abbrev pub member_text : ℕ → ℕ → ℕ → Bor (List ℕ) → Bor (List ℕ) → List ℕ
-member_text member leaf epoch tree authenticator = entry_text (present member leaf epoch tree.now authenticator.now)
+-- Where there is memory for it, a call makes a line's text; the first argument is what a text's bytes are.
+abbrev pub HasText : {Z E : Type 0} → (Z → List ℕ) → ReplayEntry → Result Z E → Type 0
+HasText {Z} bytes entry result = IfOk result (λ (z : Z). bytes z ≡ entry_text entry)
 
 -- ---- of an event that runs
 

@@ -4,7 +4,7 @@ ghost use Rattle.std.specs.Prelude.{◌≡◌, IfOk, string_bytes};
 ghost use Rattle.hex.specs.Hex.{encode_lower};
 ghost use Rattle.mls_cli_text.specs.Text.{or_dash};
 ghost use Rattle.mls_cli_replay.specs.ReplayLaws.{replay_line_nonempty};
-ghost use Rattle.mls_cli_replay.specs.Replay.{entry_of, entry_text, expected, gone, member_text, replied};
+ghost use Rattle.mls_cli_replay.specs.Replay.{entry_of, entry_text, expected, gone, present, replied, HasText};
 
 use crate::reply::reply_text;
 use mls_cli_text::Printed;
@@ -67,7 +67,7 @@ fn present_line(
     tree: &[u8],
     authenticator: &Secret,
 ) -> Result<String, AllocError>
-    ensures { IfOk result (λ t. string_bytes t ≡ member_text member leaf epoch tree authenticator) }
+    ensures { HasText string_bytes (present member leaf epoch tree.now authenticator.now) result }
 {
     let tree = hex_text(alloc, tree)?;
     let authenticator = hex_text(alloc, authenticator)?;
