@@ -5,6 +5,7 @@ use Rattle.mls_types.specs.declared.group_info.GroupInfo.{GroupInfo}
 use Rattle.mls_types.specs.declared.welcome.EncryptedGroupSecrets.{EncryptedGroupSecrets}
 use Rattle.mls_types.specs.declared.welcome.Welcome.{Welcome}
 use Rattle.mls_cli_text.specs.Text.{Entry, entry, bytes, digits, number}
+use Rattle.mls_cli_show.specs.Extensions.{extension_entries}
 use Rattle.mls_cli_show.specs.Public.{shown_count}
 
 -- RFC 9420, section 12.4.3.1: the reference of a new member's KeyPackage
@@ -31,7 +32,8 @@ group_info_entries v =
     ∷ entry [] (codes "epoch") (number v.group_context.epoch)
     ∷ entry [] (codes "tree_hash") (bytes v.group_context.tree_hash)
     ∷ entry [] (codes "confirmed_transcript_hash") (bytes v.group_context.confirmed_transcript_hash)
-    ∷ entry [] (codes "tree_nodes") (shown_count (tree_nodes v.ratchet_tree))
+    ∷ (extension_entries v.group_context.extensions
+    ++ entry [] (codes "tree_nodes") (shown_count (tree_nodes v.ratchet_tree))
     ∷ entry [] (codes "confirmation_tag") (bytes v.confirmation_tag)
     ∷ entry [] (codes "signer") (number v.signer)
-    ∷ entry [] (codes "signature") (bytes v.signature) ∷ []
+    ∷ entry [] (codes "signature") (bytes v.signature) ∷ [])

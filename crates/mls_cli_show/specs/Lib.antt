@@ -1,4 +1,5 @@
 pub mod Package
+pub mod Extensions
 pub mod Public
 pub mod Group
 pub mod Message

@@ -13,6 +13,7 @@ use Rattle.mls_types.specs.declared.signed.SignedBody.TheVariants as body
 use Rattle.mls_types.specs.declared.public_message.PublicMessage.{PublicMessage}
 use Rattle.mls_cli_text.specs.Text.{Entry, Shown, entries_of, entry, bytes, number, word}
 use Rattle.mls_cli_text.specs.declared.text.Line.{Line}
+use Rattle.mls_cli_show.specs.Extensions.{extension_entries}
 use Rattle.mls_cli_show.specs.Package.{key_package_entries, leaf_entries}
 
 -- a count, or `none`
@@ -30,6 +31,8 @@ proposal_entries (proposal.Add v) = entry [] (codes "proposal") (word (codes "ad
 proposal_entries (proposal.Update v) = entry [] (codes "proposal") (word (codes "update")) ∷ leaf_entries [] v
 proposal_entries (proposal.Remove removed) =
     entry [] (codes "proposal") (word (codes "remove")) ∷ entry [] (codes "removed") (number removed) ∷ []
+proposal_entries (proposal.GroupContextExtensions vs) =
+    entry [] (codes "proposal") (word (codes "group_context_extensions")) ∷ extension_entries vs
 
 -- RFC 9420, section 7.6: how many nodes the path of a commit has, if it is there
 abbrev pub path_nodes : Commit → Option ℕ

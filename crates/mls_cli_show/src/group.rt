@@ -2,9 +2,11 @@
 
 ghost use Rattle.std.specs.Prelude.{◌≡◌, ◌++◌, ◌∷◌, [], codes, map, length, option_map, IfOk};
 ghost use Rattle.mls_cli_text.specs.Text.{bytes, digits, entry, entry_of, number};
+ghost use Rattle.mls_cli_show.specs.Extensions.{extension_entries};
 ghost use Rattle.mls_cli_show.specs.Public.{shown_count};
 ghost use Rattle.mls_cli_show.specs.Group.{group_info_entries, member_entry, tree_nodes, welcome_entries};
 
+use crate::extensions::extension_lines;
 use crate::public::count_field;
 use mls_cli_text::{Field, Line, append_line, append_lines, line_of};
 use mls_leaf::Bytes;
@@ -55,21 +57,21 @@ pub fn welcome_lines(alloc: Global, welcome: &Welcome) -> Result<Vec<Line>, Allo
     Ok(lines)
 }
 
-fn context_lines(alloc: Global, context: GroupContext) -> Result<Vec<Line>, AllocError>
+fn epoch_lines(
+    alloc: Global,
+    cipher_suite: u16,
+    group_id: Bytes,
+    epoch: u64,
+    tree_hash: Bytes,
+    confirmed_transcript_hash: Bytes,
+) -> Result<Vec<Line>, AllocError>
     ensures { IfOk result (λ lines. map entry_of lines.items
-        ≡ entry [] (codes "cipher_suite") (digits context.cipher_suite)
-        ∷ entry [] (codes "group_id") (bytes context.group_id)
-        ∷ entry [] (codes "epoch") (number context.epoch)
-        ∷ entry [] (codes "tree_hash") (bytes context.tree_hash)
-        ∷ entry [] (codes "confirmed_transcript_hash") (bytes context.confirmed_transcript_hash) ∷ []) }
+        ≡ entry [] (codes "cipher_suite") (digits cipher_suite)
+        ∷ entry [] (codes "group_id") (bytes group_id)
+        ∷ entry [] (codes "epoch") (number epoch)
+        ∷ entry [] (codes "tree_hash") (bytes tree_hash)
+        ∷ entry [] (codes "confirmed_transcript_hash") (bytes confirmed_transcript_hash) ∷ []) }
 {
-    let GroupContext {
-        cipher_suite,
-        group_id,
-        epoch,
-        tree_hash,
-        confirmed_transcript_hash,
-    } = context;
     Ok(vec![in alloc;
         line_of("", "cipher_suite", Field::Digits(cipher_suite)),
         line_of("", "group_id", Field::Bytes(group_id)),
@@ -81,6 +83,28 @@ fn context_lines(alloc: Global, context: GroupContext) -> Result<Vec<Line>, Allo
             Field::Bytes(confirmed_transcript_hash)
         ),
     ]?)
+}
+
+fn context_lines(alloc: Global, context: GroupContext) -> Result<Vec<Line>, AllocError>
+    ensures { IfOk result (λ lines. map entry_of lines.items
+        ≡ entry [] (codes "cipher_suite") (digits context.cipher_suite)
+        ∷ entry [] (codes "group_id") (bytes context.group_id)
+        ∷ entry [] (codes "epoch") (number context.epoch)
+        ∷ entry [] (codes "tree_hash") (bytes context.tree_hash)
+        ∷ entry [] (codes "confirmed_transcript_hash") (bytes context.confirmed_transcript_hash)
+        ∷ extension_entries context.extensions) }
+{
+    let GroupContext {
+        cipher_suite,
+        group_id,
+        epoch,
+        tree_hash,
+        confirmed_transcript_hash: confirmed,
+        extensions,
+    } = context;
+    let more = extension_lines(alloc, extensions.as_slice())?;
+    let lines = epoch_lines(alloc, cipher_suite, group_id, epoch, tree_hash, confirmed)?;
+    append_lines(lines, more)
 }
 
 fn tree_count(tree: &Option<RatchetTree>) -> Option<usize>

@@ -13,6 +13,7 @@ use mls_leaf::LeafError;
 use mls_wire::WireError;
 use std::alloc::{AllocError, Global};
 
+mod extensions;
 mod group;
 mod message;
 mod package;

@@ -4,6 +4,7 @@ ghost use Rattle.std.specs.Prelude.{◌≡◌, ◌++◌, ◌∷◌, [], codes, m
 ghost use Rattle.mls_cli_text.specs.Text.{bytes, entries_of, entry, entry_of, number, shown_by, word};
 ghost use Rattle.mls_cli_show.specs.Public.{body_entries, shown_count, leaf_index, path_nodes, proposal_entries, public_message_entries, with_word_line};
 
+use crate::extensions::extension_lines;
 use crate::package::{key_package_lines, leaf_lines};
 use mls_cli_text::{Field, Line, append_line, append_lines, line_of};
 use mls_leaf::{Bytes, Proposal};
@@ -88,6 +89,10 @@ pub fn proposal_lines(alloc: Global, proposal: Proposal) -> Result<Vec<Line>, Al
             with_word_line(alloc, "proposal", "update", lines)
         }
         Proposal::Remove(removed) => remove_lines(alloc, removed),
+        Proposal::GroupContextExtensions(extensions) => {
+            let lines = extension_lines(alloc, extensions.as_slice())?;
+            with_word_line(alloc, "proposal", "group_context_extensions", lines)
+        }
     }
 }
 

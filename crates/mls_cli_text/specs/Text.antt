@@ -9,8 +9,8 @@ use Rattle.mls_cli_text.specs.declared.text.Field.{Field}
 use Rattle.mls_cli_text.specs.declared.text.Field.TheVariants as field
 use Rattle.mls_cli_text.specs.declared.text.Line.{Line}
 
--- what stands behind a name: bytes, a list of uint16, a uint16 in hex, a number, a word, or a
--- refusal, by its number
+-- what stands behind a name: bytes, a list of uint16, a uint16 in hex, a number, a word, a
+-- refusal, by its number, or an extension, by its type and its data
 pub data Shown : Type 0 where
   bytes : List ℕ → Shown
   numbers : List ℕ → Shown
@@ -18,6 +18,7 @@ pub data Shown : Type 0 where
   number : ℕ → Shown
   word : List ℕ → Shown
   refusal : ℕ → Shown
+  extension : ℕ → List ℕ → Shown
 
 -- a line: its name, and what stands behind it
 pub record Entry : Type 0 where
@@ -52,6 +53,10 @@ number_with_name n name = decimal n ++ codes " " ++ name
 abbrev pub refusal_text : ℕ → List ℕ
 refusal_text n = number_with_name n (refusal_name n)
 
+-- an extension's type in four digits, a space, and its data in hex
+abbrev pub extension_text : ℕ → List ℕ → List ℕ
+extension_text kind content = four_digits kind ++ codes " " ++ or_dash encode_lower content
+
 -- byte strings in lower-case hex, lists of uint16 as four digits each with commas between them
 abbrev pub shown_text : Shown → List ℕ
 shown_text (bytes bs) = or_dash encode_lower bs
@@ -60,6 +65,7 @@ shown_text (digits n) = four_digits n
 shown_text (number n) = decimal n
 shown_text (word w) = w
 shown_text (refusal n) = refusal_text n
+shown_text (extension kind content) = extension_text kind content
 
 -- a name, a colon and a space, what stands behind, and a line feed
 abbrev pub line_text : Entry → List ℕ
@@ -74,6 +80,7 @@ shown_by (field.Digits n) = digits n
 shown_by (field.Number n) = number n
 shown_by (field.Word w) = word w.now
 shown_by (field.Refusal n) = refusal n
+shown_by (field.Extension kind content) = extension kind content
 
 unfoldable pub entry_of : Line → Entry
 entry_of l = record { name = l.prefix.now ++ l.name.now; shown = shown_by l.field }

@@ -4,7 +4,7 @@ ghost use Rattle.std.specs.Prelude.{◌≡◌, ◌++◌, ◌∷◌, [], IfOk, On
 ghost use Rattle.std.specs.Fmt.{decimal};
 ghost use Rattle.hex.specs.Hex.{encode_lower};
 ghost use Rattle.mls_cli_text.specs.TextLaws.{line_nonempty};
-ghost use Rattle.mls_cli_text.specs.Text.{entries_of, entry, entry_of, four_digits, number_with_name, numbers_text, or_dash, line_text, refusal_text, shown_by, shown_text, with_commas};
+ghost use Rattle.mls_cli_text.specs.Text.{entries_of, entry, entry_of, extension_text, four_digits, number_with_name, numbers_text, or_dash, line_text, refusal_text, shown_by, shown_text, with_commas};
 
 use crate::printing::Printed;
 use mls_leaf::{Bytes, Items};
@@ -26,6 +26,8 @@ pub enum Field {
     Word(&'static str),
     /// A refusal's number in decimal, a space, and its name.
     Refusal(u8),
+    /// An extension's type in four hex digits, a space, and its data in hex digits, `-` where there are none.
+    Extension(u16, Bytes),
 }
 
 /// A name, which may have a front of its own, and what stands behind it.
@@ -95,6 +97,7 @@ fn push_field(alloc: Global, text: &mut Vec<u8>, field: &Field) -> Result<(), Al
         Field::Number(number) => push_number(alloc, text, *number),
         Field::Word(word) => text.extend_from_slice(word.as_bytes()),
         Field::Refusal(number) => push_refusal(alloc, text, *number),
+        Field::Extension(kind, content) => push_extension(alloc, text, *kind, content.as_slice()),
     }
 }
 
@@ -138,6 +141,20 @@ fn push_digits(alloc: Global, text: &mut Vec<u8>, number: u16) -> Result<(), All
     let pair = [(number / 256) as u8, (number % 256) as u8];
     let digits = hex::encode(alloc, pair.as_slice())?;
     text.extend_from_slice(digits.as_bytes())
+}
+
+/// Adds an extension's type, a space and its data.
+fn push_extension(
+    alloc: Global,
+    text: &mut Vec<u8>,
+    kind: u16,
+    content: &[u8],
+) -> Result<(), AllocError>
+    ensures { OnOk result (text.new.items ≡ text.old.items ++ extension_text kind content.now) }
+{
+    push_digits(alloc, text, kind)?;
+    text.push(b' ')?;
+    push_hex(alloc, text, content)
 }
 
 /// Adds four hex digits for each number, joined by commas, `-` where there are none.

@@ -6,6 +6,7 @@ use Rattle.mls_wire.specs.ReadFaults.{HasFaults, mark_faults, empty_faults, pair
 use Rattle.mls_leaf.specs.Nonempty.{uint16_nonempty}
 use Rattle.mls_leaf.specs.Leaf.{uint16s, credential, capabilities, leaf_source, leaf_node}
 use Rattle.mls_leaf.specs.KeyPackage.{key_package}
+use Rattle.mls_leaf.specs.GroupExtensions.{group_extensions_faults}
 use Rattle.mls_leaf.specs.Proposal.{proposal}
 use Rattle.mls_leaf.specs.ParentNode.{parent_node_faults}
 use Rattle.mls_leaf.specs.Node.{node}
@@ -45,7 +46,7 @@ key_package_faults =
 pub proposal_faults : HasFaults proposal
 unfolding proposal
 proposal_faults =
-    let cases = by_uint16_faults (case_faults 1 key_package_faults (case_faults 2 leaf_node_faults (case_faults 3 uint32_faults (others_faults 12 refl)))) in
+    let cases = by_uint16_faults (case_faults 1 key_package_faults (case_faults 2 leaf_node_faults (case_faults 3 uint32_faults (case_faults 7 group_extensions_faults (others_faults 12 refl))))) in
     record { answers = seen_answered _ cases }
 
 pub node_faults : HasFaults node

@@ -1,5 +1,6 @@
 //! Extensions.
 
+ghost use Rattle.std.specs.Prelude.{◌≡◌};
 ghost use Rattle.mls_leaf.specs.Extension.{extension, extension_nonempty};
 ghost use Rattle.mls_leaf.specs.ReadFaults.{extension_faults};
 
@@ -7,15 +8,26 @@ use crate::bytes::Bytes;
 use crate::codec::Codec;
 use crate::error::LeafError;
 use mls_wire::{Reader, Writer};
-use std::alloc::Global;
+use std::alloc::{AllocError, Global};
 
 /// An extension, whose data this crate doesn't look into (RFC 9420, section 13.4).
-#[derive(Debug, Clone, PartialEq, Eq, Drop)]
+#[derive(Debug, PartialEq, Eq, Drop)]
 pub struct Extension {
     /// The number of its type (RFC 9420, section 17.3).
     pub kind: u16,
     /// What it says.
     pub content: Bytes,
+}
+
+impl Clone for Extension {
+    ghost is_clone = { λ v w. w ≡ v };
+
+    fn clone(&self) -> Result<Extension, AllocError> {
+        Ok(Extension {
+            kind: self.kind,
+            content: self.content.clone()?,
+        })
+    }
 }
 
 impl Codec for Extension {

@@ -6,17 +6,20 @@ ghost use Rattle.mls_leaf.specs.ReadFaults.{proposal_faults};
 
 use crate::codec::Codec;
 use crate::error::LeafError;
+use crate::group_extensions::GroupExtensions;
 use crate::key_package::KeyPackage;
 use crate::leaf::LeafNode;
 use mls_wire::{Reader, Writer};
 use std::alloc::{AllocError, Global};
 
-/// A change that is put forward (RFC 9420, section 12.1). `Remove` names a leaf index.
+/// A change that is put forward (RFC 9420, section 12.1). `Remove` names a leaf index, and `GroupContextExtensions` the
+/// extensions that the group is to carry.
 #[derive(Debug, Drop)]
 pub enum Proposal {
     Add(KeyPackage),
     Update(LeafNode),
     Remove(u32),
+    GroupContextExtensions(GroupExtensions),
 }
 
 impl Clone for Proposal {
@@ -27,6 +30,9 @@ impl Clone for Proposal {
             Proposal::Add(key_package) => Ok(Proposal::Add(key_package.clone()?)),
             Proposal::Update(leaf_node) => Ok(Proposal::Update(leaf_node.clone()?)),
             Proposal::Remove(removed) => Ok(Proposal::Remove(*removed)),
+            Proposal::GroupContextExtensions(extensions) => {
+                Ok(Proposal::GroupContextExtensions(extensions.clone()?))
+            }
         }
     }
 }
@@ -53,6 +59,10 @@ impl Codec for Proposal {
                 let removed = u32::read(alloc, reader)?;
                 Ok(Proposal::Remove(removed))
             }
+            7 => {
+                let extensions = GroupExtensions::read(alloc, reader)?;
+                Ok(Proposal::GroupContextExtensions(extensions))
+            }
             _ => Err(LeafError::UnsupportedProposal),
         }
     }
@@ -70,6 +80,10 @@ impl Codec for Proposal {
             }
             3 => {
                 u32::check(reader)?;
+                Ok(())
+            }
+            7 => {
+                GroupExtensions::check(reader)?;
                 Ok(())
             }
             _ => Err(LeafError::UnsupportedProposal),
@@ -92,6 +106,11 @@ impl Codec for Proposal {
             Proposal::Remove(removed) => {
                 writer.u16(3)?;
                 removed.write(alloc, writer)?;
+                Ok(())
+            }
+            Proposal::GroupContextExtensions(extensions) => {
+                writer.u16(7)?;
+                extensions.write(alloc, writer)?;
                 Ok(())
             }
         }

@@ -5,6 +5,10 @@ use mls_types::*;
 use std::alloc::Global;
 use std::test::Fail;
 
+/// The `GROUP_CONTEXT` with an extension of type f001 and the data 6869.
+const EXTENDED_CONTEXT: &str =
+    "0001f001016700000000000000002011111111111111111111111111111111111111111111111111111111111111110005f001026869";
+
 /// The group context, no extension, a confirmation tag, signer 0 and a signature.
 const GROUP_INFO: &str =
     "0001f0010167000000000000000020111111111111111111111111111111111111111111111111111111111111111100000001cc0000000001dd";
@@ -23,11 +27,19 @@ fn context_lengths(rt: HostRuntime) -> Result<(), Fail> {
 }
 
 #[test]
+fn extended_context_lengths(rt: HostRuntime) -> Result<(), Fail> {
+    holds(&rt, has_length(rt.alloc(), EXTENDED_CONTEXT, 54), "54 bytes")
+}
+
+#[test]
 fn contexts(rt: HostRuntime) -> Result<(), Fail> {
     let rows = [
         (GROUP_CONTEXT, 0),
-        // with an extension
-        ("0001f0010167000000000000000000000100", 14),
+        (EXTENDED_CONTEXT, 0),
+        // with half a type, a type of another range, and one type twice
+        ("0001f0010167000000000000000000000100", 2),
+        ("0001f001016700000000000000000000050003026869", 14),
+        ("0001f00101670000000000000000000006f00100f00100", 14),
         ("0002", 7),
     ];
     answers::<GroupContext>(&rt, rt.alloc(), &rows)

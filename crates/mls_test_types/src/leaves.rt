@@ -147,7 +147,13 @@ fn proposals_refused(rt: HostRuntime) -> Result<(), Fail> {
         ("000300000005", 0),
         ("0003000000", 2),
         ("0004", 12),
-        ("0007", 12),
+        ("0007", 2),
+        // the extensions of a group: one, none, a type of another range, one type twice, and data that run over the list
+        ("000705f001026869", 0),
+        ("000700", 0),
+        ("0007050003026869", 14),
+        ("000706f00100f00100", 14),
+        ("000704f00105aa", 2),
     ];
     answers::<Proposal>(&rt, rt.alloc(), &rows)
 }

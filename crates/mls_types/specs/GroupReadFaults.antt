@@ -6,6 +6,7 @@ use Rattle.mls_wire.specs.Reading.{◌>>=◌, uint_at, opaque_at}
 use Rattle.mls_wire.specs.Format.{Format}
 use Rattle.mls_wire.specs.CombineLaws.{ended}
 use Rattle.mls_wire.specs.ReadFaults.{is_fault, Answered, HasFaults, answered_then, answered_if, uint_answered, opaque_answered, ended_answered, mark_faults, empty_faults, pair_faults, behind_faults, behind_answered, seen_answered, vector_faults, optional_faults, byte_string_faults, nothing_faults, uint16_faults, uint32_faults, uint64_faults}
+use Rattle.mls_leaf.specs.GroupExtensions.{group_extensions_faults}
 use Rattle.mls_leaf.specs.Node.{node}
 use Rattle.mls_leaf.specs.Nonempty.{optional_nonempty}
 use Rattle.mls_leaf.specs.ReadFaults.{leaf_node_faults, node_faults}
@@ -55,7 +56,7 @@ update_path_faults =
 pub group_context_faults : HasFaults group_context
 unfolding group_context
 group_context_faults =
-    let parts = pair_faults uint16_faults (pair_faults byte_string_faults (pair_faults uint64_faults (pair_faults byte_string_faults (pair_faults byte_string_faults (behind_faults (empty_faults 14 refl) nothing_faults))))) in
+    let parts = pair_faults uint16_faults (pair_faults byte_string_faults (pair_faults uint64_faults (pair_faults byte_string_faults (pair_faults byte_string_faults group_extensions_faults)))) in
     record { answers = behind_answered _ (mark_faults 1 7 (lit< tt) refl) (seen_answered _ parts) }
 
 ratchet_tree_faults : HasFaults ratchet_tree

@@ -3,11 +3,11 @@
 ghost use Rattle.mls_types.specs.GroupContext.{group_context, group_context_nonempty};
 ghost use Rattle.mls_types.specs.GroupReadFaults.{group_context_faults};
 
-use mls_leaf::{Bytes, Codec, LeafError, pass_empty, pass_mark};
+use mls_leaf::{Bytes, Codec, GroupExtensions, LeafError, pass_mark};
 use mls_wire::{Reader, Writer};
 use std::alloc::Global;
 
-/// What the members of an epoch agree on (RFC 9420, 8.1). Its version is mls10, and it has no extensions.
+/// What the members of an epoch agree on (RFC 9420, 8.1). Its version is mls10.
 #[derive(Debug, Clone, Drop)]
 pub struct GroupContext {
     /// The cipher suite's number.
@@ -20,6 +20,8 @@ pub struct GroupContext {
     pub tree_hash: Bytes,
     /// The confirmed transcript hash; empty at epoch 0.
     pub confirmed_transcript_hash: Bytes,
+    /// The extensions of the group.
+    pub extensions: GroupExtensions,
 }
 
 impl Codec for GroupContext {
@@ -37,13 +39,14 @@ impl Codec for GroupContext {
         let epoch = u64::read(alloc, reader)?;
         let tree_hash = Bytes::read(alloc, reader)?;
         let confirmed_transcript_hash = Bytes::read(alloc, reader)?;
-        pass_empty(reader, LeafError::ExtensionNotAllowed)?;
+        let extensions = GroupExtensions::read(alloc, reader)?;
         Ok(GroupContext {
             cipher_suite,
             group_id,
             epoch,
             tree_hash,
             confirmed_transcript_hash,
+            extensions,
         })
     }
 
@@ -55,7 +58,7 @@ impl Codec for GroupContext {
         u64::check(reader)?;
         Bytes::check(reader)?;
         Bytes::check(reader)?;
-        pass_empty(reader, LeafError::ExtensionNotAllowed)?;
+        GroupExtensions::check(reader)?;
         Ok(())
     }
 
@@ -67,7 +70,7 @@ impl Codec for GroupContext {
         self.epoch.write(alloc, writer)?;
         self.tree_hash.write(alloc, writer)?;
         self.confirmed_transcript_hash.write(alloc, writer)?;
-        writer.opaque(&[])?;
+        self.extensions.write(alloc, writer)?;
         Ok(())
     }
 }
