@@ -13,4 +13,5 @@ short_confirmed old hash short long =
       group_id = short.group_id;
       tree_hash = short.tree_hash;
       confirmed = omega (arith, long);
+      extensions = short.extensions;
     }

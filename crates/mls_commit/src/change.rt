@@ -59,6 +59,7 @@ pub(crate) fn confirmed_context(
         epoch: provisional.epoch,
         tree_hash: provisional.tree_hash.clone()?,
         confirmed_transcript_hash: Bytes::from_slice(alloc, confirmed)?,
+        extensions: provisional.extensions.clone()?,
     })
 }
 

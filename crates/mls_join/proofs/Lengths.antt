@@ -5,6 +5,7 @@ use Rattle.std.specs.Int.{w16, w32, w64}
 use Rattle.mls_wire.specs.Reading.{uint, header, opaque}
 use Rattle.mls_wire.specs.Format.{Format}
 use Rattle.mls_leaf.specs.Faults.{Spells, whole}
+use Rattle.mls_leaf.specs.GroupExtensions.{group_extensions}
 use Rattle.mls_leaf.specs.Limits.{input_limit}
 use Rattle.mls_leaf.specs.declared.node.Node.{Node}
 use Rattle.mls_types.specs.GroupContext.{group_context}
@@ -54,7 +55,7 @@ parts_below n v is =
       below = signed;
     }
 
--- a short context's texts are short
+-- a short context's texts and extensions are short
 pub short_context : (g : GroupContext) → IsBelow (2 ^ 27) group_context g → IsShortContext g
 unfolding group_context
 short_context g is =
@@ -62,15 +63,17 @@ short_context g is =
     let h : List ℕ = g.tree_hash in
     let t : List ℕ = g.confirmed_transcript_hash in
     let e : List ℕ = uint w64 g.epoch in
-    let end : List ℕ = opaque t ++ (opaque [] ++ []) in
-    let lengths : length (uint w16 1) + (length (uint w16 g.cipher_suite) + (length (opaque i) + (length e + (length (opaque h) + (length (opaque t) + length (opaque [] ++ [])))))) < 2 ^ 27 =
-    subst (λ (k : ℕ). k < 2 ^ 27) (length-append (uint w16 1) (uint w16 g.cipher_suite ++ (opaque i ++ (e ++ (opaque h ++ end)))) ∙ ap (λ (k : ℕ). length (uint w16 1) + k) (length-append (uint w16 g.cipher_suite) (opaque i ++ (e ++ (opaque h ++ end))) ∙ ap (λ (k : ℕ). length (uint w16 g.cipher_suite) + k) (length-append (opaque i) (e ++ (opaque h ++ end)) ∙ ap (λ (k : ℕ). length (opaque i) + k) (length-append e (opaque h ++ end) ∙ ap (λ (k : ℕ). length e + k) (length-append (opaque h) end ∙ ap (λ (k : ℕ). length (opaque h) + k) (length-append (opaque t) (opaque [] ++ []))))))) is.below in
+    let list : List ℕ = group_extensions.spell g.extensions in
+    let end : List ℕ = opaque t ++ list in
+    let lengths : length (uint w16 1) + (length (uint w16 g.cipher_suite) + (length (opaque i) + (length e + (length (opaque h) + (length (opaque t) + length list))))) < 2 ^ 27 =
+    subst (λ (k : ℕ). k < 2 ^ 27) (length-append (uint w16 1) (uint w16 g.cipher_suite ++ (opaque i ++ (e ++ (opaque h ++ end)))) ∙ ap (λ (k : ℕ). length (uint w16 1) + k) (length-append (uint w16 g.cipher_suite) (opaque i ++ (e ++ (opaque h ++ end))) ∙ ap (λ (k : ℕ). length (uint w16 g.cipher_suite) + k) (length-append (opaque i) (e ++ (opaque h ++ end)) ∙ ap (λ (k : ℕ). length (opaque i) + k) (length-append e (opaque h ++ end) ∙ ap (λ (k : ℕ). length e + k) (length-append (opaque h) end ∙ ap (λ (k : ℕ). length (opaque h) + k) (length-append (opaque t) list)))))) is.below in
     record {
       suite = is.fits.0;
       epoch = is.fits.1.1.0;
       group_id = omega (arith, length-append (header (length i)) i);
       tree_hash = omega (arith, length-append (header (length h)) h);
       confirmed = omega (arith, length-append (header (length t)) t);
+      extensions = record { fits = is.fits.1.1.1.1.1; below = omega arith };
     }
 
 -- what is read whole is short

@@ -150,6 +150,8 @@ entries_fit types (v ∷ vs) new lt =
     ((omega arith, omega arith), entries_fit (v.kind ∷ types) vs both.1 (omega arith))
 
 -- a list that may be carried has a spelling, unless it is too long
-pub group_extensions-fits : (vs : List Extension) → are_allowed vs ≡ true → length (flat_map extension.spell vs) < 2 ^ 30 → group_extensions.Fits vs
+pub group_extensions-fits : (vs : List Extension) → are_allowed vs ≡ true → length (group_extensions.spell vs) < 2 ^ 30 → group_extensions.Fits vs
 unfolding group_extensions
-group_extensions-fits vs may lt = (RunFits-once [] vs may (entries_fit [] vs may lt), subst (λ (l : List ℕ). length l < 2 ^ 30) (sym (run_spelling-once [] vs)) lt)
+group_extensions-fits vs may lt =
+    let content : length (run_spelling each_once [] vs) < 2 ^ 30 = omega (arith, content_within (run_spelling each_once [] vs)) in
+    (RunFits-once [] vs may (entries_fit [] vs may (subst (λ (l : List ℕ). length l < 2 ^ 30) (run_spelling-once [] vs) content)), content)

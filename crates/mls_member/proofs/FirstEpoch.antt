@@ -3,6 +3,7 @@ use Rattle.std.proofs.Common.{◌≡◌, ℕ, ◌<◌, ◌≤◌, ◌^◌, nat_l
 use Rattle.std.specs.Prelude.{IfSome}
 use Rattle.std.specs.Int.{w16}
 use Rattle.mls_wire.specs.Reading.{uint, header, opaque}
+use Rattle.mls_leaf.specs.GroupExtensions.{group_extensions}
 use Rattle.mls_leaf.specs.Leaf.{leaf_node}
 use Rattle.mls_leaf.specs.Limits.{input_limit}
 use Rattle.mls_leaf.specs.declared.leaf.LeafNode.{LeafNode}
@@ -25,10 +26,15 @@ use Rattle.mls_model.specs.Messages.{is_within_limit}
 use Rattle.mls_public_group.proofs.Lengths.{first_within, last_within}
 use Rattle.mls_public_group.proofs.Limits.{past_limit}
 
+-- no extensions are short
+none_below : IsBelow (2 ^ 27) group_extensions []
+unfolding group_extensions header
+none_below = record { fits = (tt, omega arith); below = omega arith }
+
 -- its context is short where its identifier is within the limit
 pub first_short : (c : Crypto) (group : List ℕ) (t : Term) → c.number < 2 ^ 16 → length group ≤ input_limit → IsShortContext (first_context c group t)
 unfolding first_context
-first_short c group t n le = record { suite = n; epoch = omega arith; group_id = omega (arith, le); tree_hash = omega (arith, length-tree_hash 0 t); confirmed = omega arith }
+first_short c group t n le = record { suite = n; epoch = omega arith; group_id = omega (arith, le); tree_hash = omega (arith, length-tree_hash 0 t); confirmed = omega arith; extensions = none_below }
 
 -- and larger than a message may be where its identifier alone is
 first_spelled : (c : Crypto) (group : List ℕ) (t : Term) → (rest : List ℕ) × (group_context.spell (first_context c group t) ≡ uint w16 1 ++ (uint w16 c.number ++ (opaque group ++ rest)))

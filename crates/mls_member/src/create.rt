@@ -17,7 +17,7 @@ use crate::error::Refusal;
 use crate::member::Member;
 use mls_candidate::Candidate;
 use mls_kdf::Seed;
-use mls_leaf::{Bytes, INPUT_LIMIT, LeafError, LeafNode};
+use mls_leaf::{Bytes, GroupExtensions, INPUT_LIMIT, LeafError, LeafNode};
 use mls_public_group::{PublicGroup, context_spelling, know_bytes};
 use mls_schedule::{Epoch, Transcript};
 use mls_suite::{OutOfMemory, Suite};
@@ -57,6 +57,7 @@ fn first_context<S: Suite>(
         epoch: 0,
         tree_hash: Bytes::from_slice(alloc, &hash)?,
         confirmed_transcript_hash: Bytes::from_vec(Vec::new(alloc)),
+        extensions: GroupExtensions::empty(alloc),
     })
 }
 

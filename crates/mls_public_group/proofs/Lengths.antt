@@ -3,6 +3,7 @@ use Rattle.std.proofs.Common.{◌≡◌, ℕ, ◌+◌, ◌<◌, ◌≤◌, ◌^�
 use Rattle.std.specs.Int.{w16, w32, w64, to_be_bytes}
 use Rattle.mls_wire.specs.Laws.{wide16, wide64}
 use Rattle.mls_wire.specs.Reading.{uint, header, opaque}
+use Rattle.mls_leaf.specs.GroupExtensions.{group_extensions}
 use Rattle.mls_types.specs.GroupContext.{group_context}
 use Rattle.mls_types.specs.declared.group_context.GroupContext.{GroupContext}
 
@@ -42,25 +43,25 @@ opaque_least text = omega (arith, length-append (header (length text)) text)
 
 -- ---- contexts
 
--- seven parts in a row, each but three of few bytes
-row_length : (a b c d e f g : List ℕ) → length a ≡ 2 → length b ≡ 2 → length d ≡ 8 → length g ≤ 4 → length c < 2 ^ 28 + 4 → length e < 2 ^ 28 + 4 → length f < 2 ^ 28 + 4
-    → length (a ++ (b ++ (c ++ (d ++ (e ++ (f ++ (g ++ []))))))) < 2 ^ 29 + 2 ^ 28 + 28
-row_length a b c d e f g ha hb hd hg hc he hf =
+-- seven parts in a row, each but four of few bytes
+row_length : (a b c d e f g : List ℕ) → length a ≡ 2 → length b ≡ 2 → length d ≡ 8 → length c < 2 ^ 28 + 4 → length e < 2 ^ 27 + 4 → length f < 2 ^ 28 + 4 → length g < 2 ^ 27
+    → length (a ++ (b ++ (c ++ (d ++ (e ++ (f ++ g)))))) < 2 ^ 29 + 2 ^ 28 + 28
+row_length a b c d e f g ha hb hd hc he hf hg =
     omega (
       arith,
-      length-append a (b ++ (c ++ (d ++ (e ++ (f ++ (g ++ [])))))),
-      length-append b (c ++ (d ++ (e ++ (f ++ (g ++ []))))),
-      length-append c (d ++ (e ++ (f ++ (g ++ [])))),
-      length-append d (e ++ (f ++ (g ++ []))),
-      length-append e (f ++ (g ++ [])),
-      length-append f (g ++ []),
-      length-append g [],
+      length-append a (b ++ (c ++ (d ++ (e ++ (f ++ g))))),
+      length-append b (c ++ (d ++ (e ++ (f ++ g)))),
+      length-append c (d ++ (e ++ (f ++ g))),
+      length-append d (e ++ (f ++ g)),
+      length-append e (f ++ g),
+      length-append f g,
     )
 
--- a context of short texts
-pub context_length : (v : GroupContext) → length v.group_id < 2 ^ 28 → length v.tree_hash < 2 ^ 28 → length v.confirmed_transcript_hash < 2 ^ 28 → length (group_context.spell v) < 2 ^ 29 + 2 ^ 28 + 28
+-- a context of short texts and extensions
+pub context_length : (v : GroupContext) → length v.group_id < 2 ^ 28 → length v.tree_hash < 2 ^ 27 → length v.confirmed_transcript_hash < 2 ^ 28 → length (group_extensions.spell v.extensions) < 2 ^ 27
+    → length (group_context.spell v) < 2 ^ 29 + 2 ^ 28 + 28
 unfolding group_context
-context_length v group tree confirmed =
-    row_length (uint w16 1) (uint w16 v.cipher_suite) (opaque v.group_id) (uint w64 v.epoch) (opaque v.tree_hash) (opaque v.confirmed_transcript_hash) (opaque [])
-    (length-uint16 1) (length-uint16 v.cipher_suite) (length-uint64 v.epoch) (opaque_most [])
-    (omega (arith, opaque_most v.group_id)) (omega (arith, opaque_most v.tree_hash)) (omega (arith, opaque_most v.confirmed_transcript_hash))
+context_length v group tree confirmed list =
+    row_length (uint w16 1) (uint w16 v.cipher_suite) (opaque v.group_id) (uint w64 v.epoch) (opaque v.tree_hash) (opaque v.confirmed_transcript_hash) (group_extensions.spell v.extensions)
+    (length-uint16 1) (length-uint16 v.cipher_suite) (length-uint64 v.epoch)
+    (omega (arith, opaque_most v.group_id)) (omega (arith, opaque_most v.tree_hash)) (omega (arith, opaque_most v.confirmed_transcript_hash)) list

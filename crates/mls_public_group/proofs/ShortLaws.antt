@@ -12,7 +12,7 @@ use Rattle.mls_leaf.specs.Proposal.{proposal as proposal_format}
 use Rattle.mls_leaf.specs.declared.key_package.KeyPackage.{KeyPackage}
 use Rattle.mls_leaf.specs.declared.leaf.LeafNode.{LeafNode}
 use Rattle.mls_leaf.specs.declared.proposal.Proposal.{Proposal}
-use Rattle.mls_leaf.specs.declared.proposal.Proposal.TheVariants.{Add, Update, Remove}
+use Rattle.mls_leaf.specs.declared.proposal.Proposal.TheVariants.{Add, Update, Remove, GroupContextExtensions}
 use Rattle.mls_types.specs.GroupContext.{group_context}
 use Rattle.mls_types.specs.declared.group_context.GroupContext.{GroupContext}
 use Rattle.mls_tree_model.proofs.LengthLaws.{length-tree_hash}
@@ -26,11 +26,11 @@ use Rattle.mls_public_group.proofs.Lengths.{context_length}
 -- a short context has a spelling
 pub context_fits : (context : GroupContext) → IsShortContext context → group_context.Fits context
 unfolding group_context
-context_fits context s = (s.suite, (omega (arith, s.group_id), (s.epoch, (omega (arith, s.tree_hash), (omega (arith, s.confirmed), tt)))))
+context_fits context s = (s.suite, (omega (arith, s.group_id), (s.epoch, (omega (arith, s.tree_hash), (omega (arith, s.confirmed), s.extensions.fits)))))
 
 -- and it is short
 pub context_short : (context : GroupContext) → IsShortContext context → length (group_context.spell context) < 2 ^ 30
-context_short context s = omega (arith, context_length context s.group_id s.tree_hash s.confirmed)
+context_short context s = omega (arith, context_length context s.group_id s.tree_hash s.confirmed s.extensions.below)
 
 -- so is the next epoch's, as long as its transcript is the old one
 pub short_provisional : (old : GroupContext) (t : Term) → IsShortContext old → old.epoch + 1 < 2 ^ 64 → IsShortContext (provisional_context old t)
@@ -42,6 +42,7 @@ short_provisional old t short low =
       group_id = short.group_id;
       tree_hash = omega (arith, length-tree_hash 0 t);
       confirmed = short.confirmed;
+      extensions = short.extensions;
     }
 
 -- ---- bounds
@@ -84,6 +85,7 @@ module _ (n : ℕ) where
   update_here u (Add x) ys b h = h
   update_here u (Update x) ys b h = (update_below n x b, h)
   update_here u (Remove i) ys b h = h
+  update_here u (GroupContextExtensions list) ys b h = h
 
   pub updates_below : (used : List Used) → AreBelow n used → AllByRecursion (λ (v : ℕ × LeafNode). IsBelow n leaf_node v.1) (updates used)
   unfolding updates
@@ -94,6 +96,7 @@ module _ (n : ℕ) where
   add_here (Add x) ys b h = (package_below n x (add_below n x b), h)
   add_here (Update x) ys b h = h
   add_here (Remove i) ys b h = h
+  add_here (GroupContextExtensions list) ys b h = h
 
   pub adds_below : (used : List Used) → AreBelow n used → AllByRecursion (λ (x : KeyPackage). IsBelow n leaf_node x.leaf_node) (adds used)
   unfolding adds

@@ -5,6 +5,7 @@ use Rattle.std.specs.Coded.{Coded, code_by, coded×, coded⊎, coded_ℕ, coded_
 use mathlib.Core.Logic.{inl, inr}
 use base.Stored.{Gv, gcons, gnil, gnum}
 use Rattle.mls_leaf.specs.Parent.{Parent}
+use Rattle.mls_leaf.specs.declared.extension.Extension.{Extension}
 use Rattle.mls_leaf.specs.declared.key_package.KeyPackage.{KeyPackage}
 use Rattle.mls_leaf.specs.declared.proposal.Proposal.{Proposal}
 use Rattle.mls_leaf.specs.declared.proposal.Proposal.TheVariants as proposal
@@ -63,23 +64,29 @@ coded_package =
     (λ v. (v.cipher_suite, (v.init_key, (v.leaf_node, v.signature))))
     (λ p. record { cipher_suite = p.0; init_key = p.1.0; leaf_node = p.1.1.0; signature = p.1.1.1 }) (λ _. refl)
 
-abbrev proposal_cases : Proposal → KeyPackage ⊎ (LeafNode ⊎ ℕ)
+abbrev pub coded_extensions : Coded (List Extension)
+coded_extensions = coded_list (code_by (ℕ × List ℕ) (coded× coded_ℕ coded_bytes) (λ v. (v.kind, v.content)) (λ p. record { kind = p.0; content = p.1 }) (λ _. refl))
+
+abbrev proposal_cases : Proposal → KeyPackage ⊎ (LeafNode ⊎ (ℕ ⊎ List Extension))
 proposal_cases (proposal.Add offered) = inl offered
 proposal_cases (proposal.Update leaf) = inr (inl leaf)
-proposal_cases (proposal.Remove leaf) = inr (inr leaf)
+proposal_cases (proposal.Remove leaf) = inr (inr (inl leaf))
+proposal_cases (proposal.GroupContextExtensions list) = inr (inr (inr list))
 
-abbrev proposal_of : KeyPackage ⊎ (LeafNode ⊎ ℕ) → Proposal
+abbrev proposal_of : KeyPackage ⊎ (LeafNode ⊎ (ℕ ⊎ List Extension)) → Proposal
 proposal_of (inl offered) = proposal.Add offered
 proposal_of (inr (inl leaf)) = proposal.Update leaf
-proposal_of (inr (inr leaf)) = proposal.Remove leaf
+proposal_of (inr (inr (inl leaf))) = proposal.Remove leaf
+proposal_of (inr (inr (inr list))) = proposal.GroupContextExtensions list
 
 pub proposal_again : (p : Proposal) → proposal_of (proposal_cases p) ≡ p
 proposal_again (proposal.Add offered) = refl
 proposal_again (proposal.Update leaf) = refl
 proposal_again (proposal.Remove leaf) = refl
+proposal_again (proposal.GroupContextExtensions list) = refl
 
 abbrev pub coded_proposal : Coded Proposal
-coded_proposal = code_by (KeyPackage ⊎ (LeafNode ⊎ ℕ)) (coded⊎ coded_package (coded⊎ coded_leaf coded_ℕ)) proposal_cases proposal_of proposal_again
+coded_proposal = code_by (KeyPackage ⊎ (LeafNode ⊎ (ℕ ⊎ List Extension))) (coded⊎ coded_package (coded⊎ coded_leaf (coded⊎ coded_ℕ coded_extensions))) proposal_cases proposal_of proposal_again
 
 -- ---- trees
 

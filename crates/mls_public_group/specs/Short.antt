@@ -2,6 +2,7 @@
 use Rattle.std.specs.Prelude.{ℕ, ◌<◌, ◌≤◌, ◌^◌, List, length, IfSome}
 use Rattle.std.specs.List.{AllByRecursion}
 use Rattle.mls_wire.specs.Format.{Format}
+use Rattle.mls_leaf.specs.GroupExtensions.{group_extensions}
 use Rattle.mls_leaf.specs.Leaf.{leaf_node}
 use Rattle.mls_leaf.specs.Proposal.{proposal}
 use Rattle.mls_leaf.specs.declared.leaf.LeafNode.{LeafNode}
@@ -36,11 +37,12 @@ abbrev pub PathsKeepLeavesShort : Type 0
 PathsKeepLeavesShort = (n : ℕ) (t : Term) (i : ℕ) (x : LeafNode) (keys : List (List ℕ)) →
     IsBelow n leaf_node x → HasLeavesBelow n t → HasLeavesBelow n (merge_path t i x keys)
 
--- a context each of whose texts has fewer than 2^28 bytes, and whose numbers have 16 and 64 bits: it has a spelling, of
--- fewer than 2^30 bytes
+-- a context of texts and extensions that are short, and whose numbers have 16 and 64 bits: it has a spelling, of fewer than
+-- 2^30 bytes, since 2^28 + 2^27 + 2^28 + 2^27 is 2^29 + 2^28
 pub record IsShortContext (context : GroupContext) : Type 0 where
   pub suite : context.cipher_suite < 2 ^ 16
   pub epoch : context.epoch < 2 ^ 64
   pub group_id : length context.group_id < 2 ^ 28
-  pub tree_hash : length context.tree_hash < 2 ^ 28
+  pub tree_hash : length context.tree_hash < 2 ^ 27
   pub confirmed : length context.confirmed_transcript_hash < 2 ^ 28
+  pub extensions : IsBelow (2 ^ 27) group_extensions context.extensions

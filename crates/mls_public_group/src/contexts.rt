@@ -27,10 +27,11 @@ pub fn provisional_context(
         epoch: old.epoch + 1,
         tree_hash: Bytes::from_slice(alloc, hash)?,
         confirmed_transcript_hash: old.confirmed_transcript_hash.clone()?,
+        extensions: old.extensions.clone()?,
     })
 }
 
-/// The spelling of a context whose texts are short (RFC 9420, 8.1), of fewer than 2^30 bytes.
+/// The spelling of a context whose texts and extensions are short (RFC 9420, 8.1), of fewer than 2^30 bytes.
 pub fn context_spelling(alloc: Global, context: &GroupContext) -> Result<Vec<u8>, AllocError>
     requires { IsShortContext context.now }
     ensures spelled { IfOk result (λ v. v.items ≡ group_context.spell context.now) }

@@ -7,12 +7,14 @@ use Rattle.std.specs.Int.{w16, w32}
 use Rattle.mls_wire.specs.Reading.{uint, header, opaque}
 use Rattle.mls_wire.specs.Format.{Format, Skip}
 use Rattle.mls_wire.specs.CombineLaws.{IsNonempty}
-use Rattle.mls_wire.specs.Combine.{◌⨾◌, behind, mark, empty_vector, nothing, vector, optional, byte_string, uint16, uint32, uint64}
+use Rattle.mls_wire.specs.Combine.{◌⨾◌, behind, mark, empty_vector, vector, optional, byte_string, uint16, uint32, uint64}
 use Rattle.mls_wire.specs.Stateful.{run_spelling, vector_from}
 use Rattle.mls_leaf.specs.Nonempty.{optional_nonempty}
 use Rattle.mls_leaf.specs.Leaf.{credential, uint16s, capabilities, leaf_source, leaf_node}
 use Rattle.mls_leaf.specs.Parent.{Parent, rises}
 use Rattle.mls_leaf.specs.ParentNode.{rising, parent_node}
+use Rattle.mls_leaf.specs.GroupExtensions.{are_allowed, group_extensions}
+use Rattle.mls_leaf.proofs.GroupExtensionsLaws.{group_extensions-fits}
 use Rattle.mls_leaf.proofs.ParentLaws.{RunFits-rising}
 use Rattle.mls_leaf.specs.Node.{node}
 use Rattle.mls_leaf.specs.declared.leaf.Capabilities.{Capabilities}
@@ -156,21 +158,20 @@ taken_fits v h lt = (lit< tt, h (short_last _ _ _ lt))
 
 -- ---- GroupInfos
 
-context_fit : (v : GroupContext) → v.cipher_suite < 2 ^ 16 → v.epoch < 2 ^ 64 → FitsIfShort group_context v
+context_fit : (v : GroupContext) → v.cipher_suite < 2 ^ 16 → v.epoch < 2 ^ 64 → are_allowed v.extensions ≡ true → FitsIfShort group_context v
 unfolding group_context
-context_fit v suite epoch =
-    let t6 = behind (empty_vector 14) nothing in
-    let t5 = byte_string ⨾ t6 in
+context_fit v suite epoch may =
+    let t5 = byte_string ⨾ group_extensions in
     let t4 = byte_string ⨾ t5 in
     let t3 = uint64 ⨾ t4 in
     let t2 = byte_string ⨾ t3 in
     let t1 = uint16 ⨾ t2 in
-    behind_fit (mark 1 7 (lit< tt)) t1 (v.cipher_suite, (v.group_id, (v.epoch, (v.tree_hash, (v.confirmed_transcript_hash, tt)))))
-    (pair_fit uint16 t2 v.cipher_suite (v.group_id, (v.epoch, (v.tree_hash, (v.confirmed_transcript_hash, tt)))) (λ _. suite)
-    (pair_fit byte_string t3 v.group_id (v.epoch, (v.tree_hash, (v.confirmed_transcript_hash, tt))) (text_fit v.group_id)
-    (pair_fit uint64 t4 v.epoch (v.tree_hash, (v.confirmed_transcript_hash, tt)) (λ _. epoch)
-    (pair_fit byte_string t5 v.tree_hash (v.confirmed_transcript_hash, tt) (text_fit v.tree_hash)
-    (pair_fit byte_string t6 v.confirmed_transcript_hash tt (text_fit v.confirmed_transcript_hash) (λ _. tt))))))
+    behind_fit (mark 1 7 (lit< tt)) t1 (v.cipher_suite, (v.group_id, (v.epoch, (v.tree_hash, (v.confirmed_transcript_hash, v.extensions)))))
+    (pair_fit uint16 t2 v.cipher_suite (v.group_id, (v.epoch, (v.tree_hash, (v.confirmed_transcript_hash, v.extensions)))) (λ _. suite)
+    (pair_fit byte_string t3 v.group_id (v.epoch, (v.tree_hash, (v.confirmed_transcript_hash, v.extensions))) (text_fit v.group_id)
+    (pair_fit uint64 t4 v.epoch (v.tree_hash, (v.confirmed_transcript_hash, v.extensions)) (λ _. epoch)
+    (pair_fit byte_string t5 v.tree_hash (v.confirmed_transcript_hash, v.extensions) (text_fit v.tree_hash)
+    (pair_fit byte_string group_extensions v.confirmed_transcript_hash v.extensions (text_fit v.confirmed_transcript_hash) (group_extensions-fits v.extensions may))))))
 
 tree_fit : (xs : List (Option Node)) → AllByRecursion (FitsIfShort (optional node)) xs → FitsIfShort tree_extension xs
 tree_fit xs h = behind_fit (mark 2 14 (lit< tt)) (enclosed (entire ratchet_tree)) xs (enclosed_fit (entire ratchet_tree) xs (vector_fit (optional node) (optional_nonempty node) xs h))
@@ -187,7 +188,7 @@ pub tbs_fit : (v : GroupInfo) → IsRanged v → length (group_info_tbs v) < 2 ^
 tbs_fit v r lt =
     let t2 = byte_string ⨾ uint32 in
     let t1 = group_info_extensions ⨾ t2 in
-    pair_fit group_context t1 v.group_context (v.ratchet_tree, (v.confirmation_tag, v.signer)) (context_fit v.group_context r.suite r.epoch)
+    pair_fit group_context t1 v.group_context (v.ratchet_tree, (v.confirmation_tag, v.signer)) (context_fit v.group_context r.suite r.epoch r.allowed)
     (pair_fit group_info_extensions t2 v.ratchet_tree (v.confirmation_tag, v.signer) (extensions_fit v.ratchet_tree r.nodes)
     (pair_fit byte_string uint32 v.confirmation_tag v.signer (text_fit v.confirmation_tag) (λ _. r.signer)))
     (subst (λ (l : List ℕ). length l < 2 ^ 30) (sym (regroup (group_context.spell v.group_context) (group_info_extensions.spell v.ratchet_tree) (opaque v.confirmation_tag) (uint w32 v.signer))) lt)
@@ -198,7 +199,7 @@ info_fit v r =
     let t3 = uint32 ⨾ byte_string in
     let t2 = byte_string ⨾ t3 in
     let t1 = group_info_extensions ⨾ t2 in
-    pair_fit group_context t1 v.group_context (v.ratchet_tree, (v.confirmation_tag, (v.signer, v.signature))) (context_fit v.group_context r.suite r.epoch)
+    pair_fit group_context t1 v.group_context (v.ratchet_tree, (v.confirmation_tag, (v.signer, v.signature))) (context_fit v.group_context r.suite r.epoch r.allowed)
     (pair_fit group_info_extensions t2 v.ratchet_tree (v.confirmation_tag, (v.signer, v.signature)) (extensions_fit v.ratchet_tree r.nodes)
     (pair_fit byte_string t3 v.confirmation_tag (v.signer, v.signature) (text_fit v.confirmation_tag)
     (pair_fit uint32 byte_string v.signer v.signature (λ _. r.signer) (text_fit v.signature))))

@@ -30,6 +30,7 @@ fn unsigned_info(
     // Their types bound them, for the proof.
     let _suite = context.cipher_suite;
     let _epoch = context.epoch;
+    let _extensions = context.extensions.as_slice();
     let group_context = context.clone()?;
     let nodes = group.tree().to_nodes()?;
     know_slots(&nodes);
