@@ -58,6 +58,7 @@ fn know_short(proposal: &Proposal)
         Proposal::Add(_) => {}
         Proposal::Update(_) => {}
         Proposal::Remove(leaf) => know_removal(*leaf),
+        Proposal::GroupContextExtensions(_) => {}
     }
 }
 

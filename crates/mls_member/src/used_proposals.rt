@@ -92,6 +92,7 @@ fn removes_leaf(used: &Used<'_>, leaf: u32) -> bool
         Proposal::Add(_) => false,
         Proposal::Update(_) => false,
         Proposal::Remove(removed) => *removed == leaf,
+        Proposal::GroupContextExtensions(_) => false,
     }
 }
 

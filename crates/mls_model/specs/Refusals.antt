@@ -28,7 +28,7 @@ remove_numbers = 22 ∷ []
 
 -- the checks of a proposal of any kind answer these numbers
 abbrev pub proposal_numbers : List ℕ
-proposal_numbers = 22 ∷ 36 ∷ 50 ∷ 51 ∷ 52 ∷ 53 ∷ 54 ∷ 55 ∷ 56 ∷ 57 ∷ []
+proposal_numbers = 12 ∷ 22 ∷ 36 ∷ 50 ∷ 51 ∷ 52 ∷ 53 ∷ 54 ∷ 55 ∷ 56 ∷ 57 ∷ []
 
 -- the checks of all that is public of a commit answer these numbers (RFC 9420, 12.4.2)
 abbrev pub body_numbers : List ℕ

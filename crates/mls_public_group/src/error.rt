@@ -21,6 +21,9 @@ pub enum GroupError {
     /// A leaf or a KeyPackage fails its checks.
     #[error("{0}")]
     Check(CheckError),
+    /// A proposal that members do not take.
+    #[error("an unsupported proposal")]
+    UnsupportedProposal,
     /// A commit updates its committer.
     #[error("the committer is updated")]
     CommitterUpdate,
@@ -72,6 +75,7 @@ impl GroupError {
         match self {
             GroupError::Tree(error) => error.number(),
             GroupError::Check(error) => error.number(),
+            GroupError::UnsupportedProposal => 12,
             GroupError::CommitterUpdate => 61,
             GroupError::CommitterRemoved => 62,
             GroupError::SameLeafTwice => 63,

@@ -24,6 +24,7 @@ impl PublicGroup {
     /// The checks of a proposal of the member at leaf `sender`: of an add those of its KeyPackage (RFC 9420, 12.1.1),
     /// of an update `NoSuchLeaf` (22) where no member is there, and those of its leaf (12.1.2), of a remove
     /// `NoSuchLeaf` (22) where there is no member (12.1.3). `NoSuchLeaf` (22) and what a remove answers take no memory.
+    /// `UnsupportedProposal` (12) of extensions, which members do not take yet (12.1.7).
     pub fn require_proposal<S: Suite>(
         &self,
         alloc: Global,
@@ -39,6 +40,7 @@ impl PublicGroup {
             Proposal::Add(offered) => Ok(key_package::<S>(alloc, offered)?),
             Proposal::Update(leaf) => self.require_update::<S>(alloc, sender, leaf),
             Proposal::Remove(leaf) => self.require_member(*leaf),
+            Proposal::GroupContextExtensions(_) => Err(GroupError::UnsupportedProposal),
         }
     }
 

@@ -53,6 +53,7 @@ fn push_added(alloc: Global, adds: &mut Vec<Bytes>, proposal: &Proposal) -> Resu
         }
         Proposal::Update(_) => Ok(()),
         Proposal::Remove(_) => Ok(()),
+        Proposal::GroupContextExtensions(_) => Ok(()),
     }
 }
 
