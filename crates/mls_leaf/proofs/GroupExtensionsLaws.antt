@@ -1,5 +1,6 @@
 -- The laws of the extensions that a group carries.
-use Rattle.std.proofs.Common.{◌≡◌, ℕ, zero, suc, ◌+◌, ◌<◌, ◌≤◌, ◌^◌, Bool, true, false, cond, ◌&&◌, ltb, List, [], ◌∷◌, ◌++◌, length, Result, Ok, Err, refl, sym, ap, subst, ◌∙◌, arith}
+use Rattle.std.proofs.Common.{◌≡◌, ℕ, zero, suc, ◌+◌, ◌<◌, ◌≤◌, ◌^◌, Bool, true, false, ◌&&◌, List, [], ◌∷◌, ◌++◌, length, Result, Ok, Err, refl, sym, ap, subst, ◌∙◌, arith}
+use Rattle.std.specs.Prelude.{nat_le, nat_lt, not}
 use Rattle.std.specs.List.{flat_map, AllByRecursion}
 use Rattle.std.proofs.lemmas.Bool.{and_parts, ltb-true, leb-true}
 use Rattle.std.proofs.lemmas.List.{length-append}
@@ -39,8 +40,8 @@ are_new-stops types v vs old = are_new-cons types v vs ∙ ap (λ (b : Bool). b 
 -- a type for private use is one of f000 to ffff
 pub private_within : (kind : ℕ) → is_private kind ≡ true → (61440 ≤ kind) × (kind < 65536)
 private_within kind is =
-    let both = and_parts _ _ is in
-    (leb-true _ _ both.0, ltb-true _ _ both.1)
+    let both = and_parts (nat_le 61440 kind) (nat_lt kind 65536) is in
+    (leb-true 61440 kind both.0, ltb-true kind 65536 both.1)
 
 -- ---- what is read passes its test
 
@@ -54,12 +55,12 @@ abbrev pub seen_put : (ℕ × List ℕ) × List ℕ → Result (Extension × Lis
 seen_put x = seen_read extension_of x
 
 abbrev pub item_read : Result (ℕ × List ℕ) ℕ → Result (Extension × List ℕ) ℕ
-item_read kind = (kind >>= next_read (λ _. byte_string)) >>= seen_read extension_of
+item_read kind = (kind >>= next_read (λ (k : ℕ). byte_string)) >>= seen_put
 
 -- an extension is read as its type and its data are
-pub where_read : (allowed : ℕ → Bool) (bytes mid rest data : List ℕ) (kind : ℕ) → (type_where allowed).read bytes ≡ Ok (kind, mid) → byte_string.read mid ≡ Ok (data, rest) → (extension_where allowed).read bytes ≡ Ok (extension_of (kind, data), rest)
-where_read allowed bytes mid rest data kind first second =
-    ap item_read first ∙ ap (λ (r : Result (List ℕ × List ℕ) ℕ). (r >>= λ y. Ok ((kind, y.0), y.1)) >>= seen_read extension_of) second
+pub where_read : (allowed : ℕ → Bool) (bytes mid rest content : List ℕ) (kind : ℕ) → (type_where allowed).read bytes ≡ Ok (kind, mid) → byte_string.read mid ≡ Ok (content, rest) → (extension_where allowed).read bytes ≡ Ok (extension_of (kind, content), rest)
+where_read allowed bytes mid rest content kind first second =
+    ap item_read first ∙ ap (λ (r : Result (List ℕ × List ℕ) ℕ). (r >>= data_put kind) >>= seen_put) second
 
 pub type_passes : (allowed : ℕ → Bool) (bytes rest : List ℕ) (kind : ℕ) → (type_where allowed).read bytes ≡ Ok (kind, rest) → allowed kind ≡ true
 type_passes allowed bytes rest kind e =
@@ -69,10 +70,10 @@ type_passes allowed bytes rest kind e =
 
 pub where_passes : (allowed : ℕ → Bool) (bytes rest : List ℕ) (v : Extension) → (extension_where allowed).read bytes ≡ Ok (v, rest) → allowed v.kind ≡ true
 where_passes allowed bytes rest v e =
-    let whole = bind_ok ((type_where allowed).read bytes >>= next_read (λ _. byte_string)) (seen_read extension_of) (v, rest) e in
-    let parts = bind_ok ((type_where allowed).read bytes) (next_read (λ _. byte_string)) whole.0 whole.1 in
-    let data = bind_ok (byte_string.read parts.0.1) (λ y. Ok ((parts.0.0, y.0), y.1)) whole.0 parts.2 in
-    let second : parts.0.0 ≡ whole.0.0.0 = ap (λ (x : (ℕ × List ℕ) × List ℕ). x.0.0) (ok_is ((parts.0.0, data.0.0), data.0.1) whole.0 data.2) in
+    let whole = bind_ok ((type_where allowed).read bytes >>= next_read (λ (k : ℕ). byte_string)) seen_put (v, rest) e in
+    let parts = bind_ok ((type_where allowed).read bytes) (next_read (λ (k : ℕ). byte_string)) whole.0 whole.1 in
+    let content = bind_ok (byte_string.read parts.0.1) (data_put parts.0.0) whole.0 parts.2 in
+    let second : parts.0.0 ≡ whole.0.0.0 = ap (λ (x : (ℕ × List ℕ) × List ℕ). x.0.0) (ok_is ((parts.0.0, content.0.0), content.0.1) whole.0 content.2) in
     let third : whole.0.0.0 ≡ v.kind = ap (λ (x : Extension × List ℕ). x.0.kind) (ok_is (extension_of whole.0.0, whole.0.1) (v, rest) whole.2) in
     subst (λ (k : ℕ). allowed k ≡ true) (second ∙ third) (type_passes allowed bytes parts.0.1 parts.0.0 parts.1)
 
@@ -143,10 +144,11 @@ unfolding extension
 entries_fit types [] new lt = tt
 entries_fit types (v ∷ vs) new lt =
     let both = and_parts (is_new types v.kind) (are_new (v.kind ∷ types) vs) (sym (are_new-cons types v vs) ∙ new) in
-    let within = private_within v.kind (and_parts _ _ both.0).0 in
+    let within = private_within v.kind (and_parts (is_private v.kind) (not (is_among types v.kind)) both.0).0 in
+    let below : v.kind < 65536 = within.1 in
     let parts = length-append (uint16.spell v.kind ++ byte_string.spell v.content) (flat_map extension.spell vs) in
     let first = length-append (uint16.spell v.kind) (byte_string.spell v.content) in
-    let data = content_within v.content in
+    let inside = content_within v.content in
     ((omega arith, omega arith), entries_fit (v.kind ∷ types) vs both.1 (omega arith))
 
 -- a list that may be carried has a spelling, unless it is too long

@@ -1,6 +1,6 @@
 -- The laws of the marks of types, and the loops that read extensions with them.
 use Rattle.std.proofs.Common.{◌≡◌, ◌≢◌, ℕ, ◌+◌, ◌-◌, ◌<◌, ◌≤◌, ◌==◌, Bool, true, false, not, cond, ◌&&◌, ◌||◌, List, [], ◌∷◌, ◌++◌, length, get_or, set, drop, Result, Ok, Err, refl, sym, ap, subst, ◌∙◌, arith, inl, inr}
-use Rattle.std.proofs.lemmas.Bool.{and_parts, cases_eq, eq-eqb, ne_eqb, not-true}
+use Rattle.std.proofs.lemmas.Bool.{and_parts, cases_eq, eq-eqb, ne_eqb}
 use Rattle.std.proofs.lemmas.List.{length-set, get_or-set_same, get_or-set_other}
 use Rattle.mls_wire.specs.Reading.{◌>>=◌}
 use Rattle.mls_wire.specs.Format.{IsBytes}
@@ -23,11 +23,11 @@ use Rattle.mls_leaf.proofs.GroupExtensionsLaws.{is_among-nil, are_new-nil, are_n
 
 -- The types that have a mark are these.
 pub record AreMarks (marks : List Bool) (types : List ℕ) : Type 0 where
-  pub length : length marks ≡ private_types
+  pub wide : length marks ≡ private_types
   pub marked : (k : ℕ) → k < private_types → get_or marks k false ≡ is_among types (61440 + k)
 
 pub clear_marks : (marks : List Bool) → AreClear marks → AreMarks marks []
-clear_marks marks clear = record { length = clear.0; marked = λ k lt. clear.1 k ∙ sym (is_among-nil (61440 + k)) }
+clear_marks marks clear = record { wide = clear.0; marked = λ k lt. clear.1 k ∙ sym (is_among-nil (61440 + k)) }
 
 pub is_among-cons : (x kind : ℕ) (xs : List ℕ) → is_among (x ∷ xs) kind ≡ ((x == kind) || is_among xs kind)
 unfolding is_among
@@ -38,21 +38,25 @@ pub new_unmarked : (marks : List Bool) (types : List ℕ) → AreMarks marks typ
 new_unmarked marks types are kind = by_private (is_private kind) refl
   where
     by_private : (b : Bool) → is_private kind ≡ b → is_unmarked marks kind ≡ is_new types kind
-    by_private false is = rw is refl
+    by_private false is = ap (λ (b : Bool). b && not (get_or marks (kind - 61440) false)) is ∙ sym (ap (λ (b : Bool). b && not (is_among types kind)) is)
     by_private true is =
         let within = private_within kind is in
+        let low : 61440 ≤ kind = within.0 in
+        let high : kind < 65536 = within.1 in
         let place : 61440 + (kind - 61440) ≡ kind = omega arith in
         let there = are.marked (kind - 61440) (omega arith) ∙ ap (is_among types) place in
         ap (λ (b : Bool). is_private kind && not b) there
 
 -- a mark more is a type more
 pub marks_more : (marks : List Bool) (types : List ℕ) (kind : ℕ) → AreMarks marks types → is_private kind ≡ true → AreMarks (with_mark marks kind) (kind ∷ types)
-marks_more marks types kind are is = record { length = length-set marks (kind - 61440) true ∙ are.length; marked = more }
+marks_more marks types kind are is = record { wide = length-set marks (kind - 61440) true ∙ are.wide; marked = more }
   where
     more : (k : ℕ) → k < private_types → get_or (set marks (kind - 61440) true) k false ≡ is_among (kind ∷ types) (61440 + k)
     more k lt =
         let within = private_within kind is in
-        let long = are.length in
+        let low : 61440 ≤ kind = within.0 in
+        let high : kind < 65536 = within.1 in
+        let wide : length marks ≡ private_types = are.wide in
         elim (cases_eq (kind - 61440) k) [
           | inl here ↦
               (let at : kind ≡ 61440 + k = omega arith in
@@ -63,6 +67,10 @@ marks_more marks types kind are is = record { length = length-set marks (kind - 
               get_or-set_other marks (kind - 61440) k true false apart ∙ are.marked k lt
               ∙ sym (is_among-cons kind (61440 + k) types ∙ ap (λ (b : Bool). b || is_among types (61440 + k)) (ne_eqb kind (61440 + k) (λ e. other (omega arith)))))
         ]
+
+-- a new type is for private use
+new_private : (types : List ℕ) (kind : ℕ) → is_new types kind ≡ true → is_private kind ≡ true
+new_private types kind new = (and_parts (is_private kind) (not (is_among types kind)) new).0
 
 -- ---- whether a list may be carried, as the loop goes
 
@@ -78,7 +86,7 @@ allowed_begins marks vs clear = record { types = []; are = clear_marks marks cle
 pub allowed_goes_on : (total : Bool) (marks : List Bool) (v : Extension) (vs : List Extension) → is_unmarked marks v.kind ≡ true → AllowedFrom total marks (v ∷ vs) → AllowedFrom total (with_mark marks v.kind) vs
 allowed_goes_on total marks v vs new h =
     let is : is_new h.types v.kind ≡ true = sym (new_unmarked marks h.types h.are v.kind) ∙ new in
-    record { types = v.kind ∷ h.types; are = marks_more marks h.types v.kind h.are (and_parts _ _ is).0; so_far = sym (are_new-more h.types v vs is) ∙ h.so_far }
+    record { types = v.kind ∷ h.types; are = marks_more marks h.types v.kind h.are (new_private h.types v.kind is); so_far = sym (are_new-more h.types v vs is) ∙ h.so_far }
 
 pub allowed_stops : (total : Bool) (marks : List Bool) (v : Extension) (vs : List Extension) → is_unmarked marks v.kind ≡ false → AllowedFrom total marks (v ∷ vs) → total ≡ false
 allowed_stops total marks v vs old h = sym h.so_far ∙ are_new-stops h.types v vs (sym (new_unmarked marks h.types h.are v.kind) ∙ old)
@@ -129,25 +137,25 @@ reads_begin marks bytes clear = record { types = []; are = clear_marks marks cle
 type_read : (marks : List Bool) (types bytes : List ℕ) → AreMarks marks types → (type_where (is_new types)).read bytes ≡ (type_where (is_unmarked marks)).read bytes
 type_read marks types bytes are = types_alike (is_new types) (is_unmarked marks) (λ k. sym (new_unmarked marks types are k)) bytes
 
-where_is : (marks : List Bool) (types bytes mid rest data : List ℕ) (kind : ℕ) → AreMarks marks types → (type_where (is_unmarked marks)).read bytes ≡ Ok (kind, mid) → byte_string.read mid ≡ Ok (data, rest)
-    → (each_once.item types).read bytes ≡ Ok (extension_of (kind, data), rest)
-where_is marks types bytes mid rest data kind are first second = where_read (is_new types) bytes mid rest data kind (type_read marks types bytes are ∙ first) second
+where_is : (marks : List Bool) (types bytes mid rest content : List ℕ) (kind : ℕ) → AreMarks marks types → (type_where (is_unmarked marks)).read bytes ≡ Ok (kind, mid) → byte_string.read mid ≡ Ok (content, rest)
+    → (each_once.item types).read bytes ≡ Ok (extension_of (kind, content), rest)
+where_is marks types bytes mid rest content kind are first second = where_read (is_new types) bytes mid rest content kind (type_read marks types bytes are ∙ first) second
 
 -- the type that was read is marked
 marks_read : (marks : List Bool) (types bytes mid : List ℕ) (kind : ℕ) → AreMarks marks types → (type_where (is_unmarked marks)).read bytes ≡ Ok (kind, mid) → AreMarks (with_mark marks kind) (kind ∷ types)
-marks_read marks types bytes mid kind are first = marks_more marks types kind are (and_parts _ _ (type_passes (is_unmarked marks) bytes mid kind first)).0
+marks_read marks types bytes mid kind are first = marks_more marks types kind are (and_parts (is_private kind) (not (get_or marks (kind - 61440) false)) (type_passes (is_unmarked marks) bytes mid kind first)).0
 
-pub reads_on : (total : Result (List Extension) ℕ) (front : List Extension) (marks : List Bool) (bytes mid rest data : List ℕ) (kind : ℕ) → IsBytes bytes → (type_where (is_unmarked marks)).read bytes ≡ Ok (kind, mid) → byte_string.read mid ≡ Ok (data, rest)
-    → ReadsOn total front marks bytes → ReadsOn total (front ++ extension_of (kind, data) ∷ []) (with_mark marks kind) rest
-reads_on total front marks bytes mid rest data kind fits first second h = record {
+pub reads_on : (total : Result (List Extension) ℕ) (front : List Extension) (marks : List Bool) (bytes mid rest content : List ℕ) (kind : ℕ) → IsBytes bytes → (type_where (is_unmarked marks)).read bytes ≡ Ok (kind, mid) → byte_string.read mid ≡ Ok (content, rest)
+    → ReadsOn total front marks bytes → ReadsOn total (front ++ extension_of (kind, content) ∷ []) (with_mark marks kind) rest
+reads_on total front marks bytes mid rest content kind fits first second h = record {
   types = kind ∷ h.types;
   are = marks_read marks h.types bytes mid kind h.are first;
-  goes_on = goes_on_from each_once total front h.types bytes rest (extension_of (kind, data)) fits (where_is marks h.types bytes mid rest data kind h.are first second) h.goes_on;
+  goes_on = goes_on_from each_once total front h.types bytes rest (extension_of (kind, content)) fits (where_is marks h.types bytes mid rest content kind h.are first second) h.goes_on;
 }
 
-pub reads_shorter : (marks : List Bool) (bytes mid rest data : List ℕ) (kind : ℕ) → IsBytes bytes → (type_where (is_unmarked marks)).read bytes ≡ Ok (kind, mid) → byte_string.read mid ≡ Ok (data, rest) → length rest < length bytes
-reads_shorter marks bytes mid rest data kind fits first second =
-    is_shorter (extension_where (is_unmarked marks)) (extension_where_nonempty (is_unmarked marks)) bytes rest (extension_of (kind, data)) fits (where_read (is_unmarked marks) bytes mid rest data kind first second)
+pub reads_shorter : (marks : List Bool) (bytes mid rest content : List ℕ) (kind : ℕ) → IsBytes bytes → (type_where (is_unmarked marks)).read bytes ≡ Ok (kind, mid) → byte_string.read mid ≡ Ok (content, rest) → length rest < length bytes
+reads_shorter marks bytes mid rest content kind fits first second =
+    is_shorter (extension_where (is_unmarked marks)) (extension_where_nonempty (is_unmarked marks)) bytes rest (extension_of (kind, content)) fits (where_read (is_unmarked marks) bytes mid rest content kind first second)
 
 -- the type's fault is the fault of all
 pub type_ends : (total : Result (List Extension) ℕ) (front : List Extension) (marks : List Bool) (bytes : List ℕ) (e : LeafError) → 0 < length bytes → (type_where (is_unmarked marks)).read bytes ≡ Err (number_of e)
@@ -179,12 +187,12 @@ pub record PassesOn (total : Result (Unit {0}) ℕ) (marks : List Bool) (bytes :
 pub passes_begin : (marks : List Bool) (bytes : List ℕ) → AreClear marks → PassesOn (forgotten (allowed_extensions bytes)) marks bytes
 passes_begin marks bytes clear = record { types = []; are = clear_marks marks clear; goes_on = past_begins_from each_once [] bytes }
 
-pub passes_on : (total : Result (Unit {0}) ℕ) (marks : List Bool) (bytes mid rest data : List ℕ) (kind : ℕ) → IsBytes bytes → (type_where (is_unmarked marks)).read bytes ≡ Ok (kind, mid) → byte_string.read mid ≡ Ok (data, rest)
+pub passes_on : (total : Result (Unit {0}) ℕ) (marks : List Bool) (bytes mid rest content : List ℕ) (kind : ℕ) → IsBytes bytes → (type_where (is_unmarked marks)).read bytes ≡ Ok (kind, mid) → byte_string.read mid ≡ Ok (content, rest)
     → PassesOn total marks bytes → PassesOn total (with_mark marks kind) rest
-passes_on total marks bytes mid rest data kind fits first second h = record {
+passes_on total marks bytes mid rest content kind fits first second h = record {
   types = kind ∷ h.types;
   are = marks_read marks h.types bytes mid kind h.are first;
-  goes_on = past_goes_on_from each_once total h.types bytes rest (extension_of (kind, data)) fits (where_is marks h.types bytes mid rest data kind h.are first second) h.goes_on;
+  goes_on = past_goes_on_from each_once total h.types bytes rest (extension_of (kind, content)) fits (where_is marks h.types bytes mid rest content kind h.are first second) h.goes_on;
 }
 
 pub type_past_ends : (total : Result (Unit {0}) ℕ) (marks : List Bool) (bytes : List ℕ) (f : ℕ) → 0 < length bytes → (type_where (is_unmarked marks)).read bytes ≡ Err f → PassesOn total marks bytes → total ≡ Err f

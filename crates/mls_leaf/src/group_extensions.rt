@@ -1,6 +1,6 @@
 //! The extensions that a group carries.
 
-ghost use Rattle.std.specs.Prelude.{◌≡◌, [], List, length, true, false, MatchResult, IfOk};
+ghost use Rattle.std.specs.Prelude.{◌≡◌, ◌≤◌, [], List, length, true, false, MatchResult, IfOk};
 ghost use Rattle.std.specs.Cmp.Lexicographic.{pointwise, lists_per, lists_equiv};
 ghost use Rattle.mls_wire.specs.CombineLaws.{forgotten};
 ghost use Rattle.mls_wire.specs.Reading.{header};
@@ -9,7 +9,7 @@ ghost use Rattle.mls_leaf.specs.Faults.{Gives, AddsSpelling, ReadsAllPast};
 ghost use Rattle.mls_leaf.specs.GroupExtensions.{are_allowed, AreAllowed, allowed_extensions, group_extensions, group_extensions_nonempty, group_extensions_faults, is_short};
 
 use crate::bytes::Bytes;
-use crate::codec::Codec;
+use crate::codec::{Codec, INPUT_LIMIT};
 use crate::error::LeafError;
 use crate::extension::Extension;
 use crate::type_marks::{mark_type, no_marks, read_type};
@@ -42,10 +42,10 @@ fn extensions_of(alloc: Global, mut content: Reader<'_>) -> Result<Vec<Extension
     let mut marks = no_marks();
     while !content.is_empty() {
         let kind = read_type(&mut content, &mut marks)?;
-        let data = Bytes::read(alloc, &mut content)?;
+        let carried = Bytes::read(alloc, &mut content)?;
         entries.push(Extension {
             kind,
-            content: data,
+            content: carried,
         })?;
     }
     Ok(entries)
@@ -58,7 +58,7 @@ fn check_extensions(mut content: Reader<'_>) -> Result<(), LeafError>
     let mut marks = no_marks();
     while !content.is_empty() {
         let _kind = read_type(&mut content, &mut marks)?;
-        let _data = content.opaque()?;
+        let _carried = content.opaque()?;
     }
     Ok(())
 }
@@ -74,6 +74,41 @@ fn add_extensions(
     ensures { AddsSpelling group_extensions entries.now writer.old result writer.new }
 {
     add_vector(alloc, entries, writer)
+}
+
+/// How many bytes the header of a vector has, by how many its content has.
+#[tactic(auto, unfolding(mls_wire::specs::Reading::header))]
+fn header_length(size: usize) -> usize
+    ensures exact { result ≡ length (header size) }
+    ensures few { result ≤ 4 }
+{
+    if size < 64 {
+        1
+    } else if size < 16384 {
+        2
+    } else {
+        4
+    }
+}
+
+/// Whether the list of these extensions fits into an input. It takes no memory.
+fn is_short(entries: &[Extension]) -> bool
+    ensures { result ≡ is_short entries.now }
+{
+    let mut content = 0;
+    for entry in entries {
+        let carried = entry.content.as_slice().len();
+        if carried > INPUT_LIMIT {
+            return false;
+        }
+        let front = header_length(carried);
+        content += 2 + front + carried;
+        if content > INPUT_LIMIT {
+            return false;
+        }
+    }
+    let first = header_length(content);
+    first + content <= INPUT_LIMIT
 }
 
 impl GroupExtensions {
@@ -97,6 +132,13 @@ impl GroupExtensions {
             }
         }
         true
+    }
+
+    /// Whether the list of them fits into an input. It takes no memory.
+    pub fn is_short(&self) -> bool
+        ensures { result ≡ is_short self.now }
+    {
+        is_short(&self.entries)
     }
 
     /// These extensions, which takes no memory. Those that a group may not carry are refused.
