@@ -1,13 +1,16 @@
--- That `==` of leaves decides whether they are the same.
+-- That `==` of leaves, and of the extensions of a group, decides whether they are the same.
 use Rattle.std.proofs.Common.{◌≡◌, ℕ, Bool, true, ◌&&◌, List, refl, ap, ◌∙◌}
 use Rattle.std.specs.Bool.{Decides}
 use Rattle.std.proofs.lemmas.Bool.{and_parts}
 use Rattle.std.proofs.lemmas.Bool.Decides.{Decides-eqb}
-use Rattle.std.proofs.lemmas.Slice.Eq.{bytes_eq-Decides}
+use Rattle.std.proofs.lemmas.Slice.Eq.{bytes_eq-Decides, slice_eq-Decides}
+use Rattle.std.specs.Cmp.Lexicographic.{pointwise}
+use Rattle.mls_leaf.specs.declared.extension.Extension.{Extension}
 use Rattle.mls_leaf.specs.declared.leaf.Capabilities.{Capabilities}
 use Rattle.mls_leaf.specs.declared.leaf.LeafSource.{LeafSource}
 use Rattle.mls_leaf.specs.declared.leaf.LeafSource.TheVariants.{KeyPackage, Update, Commit}
 use Rattle.mls_leaf.specs.declared.leaf.LeafNode.{LeafNode}
+use Rattle.mls_leaf.specs.contracts.extension.ExtensionPartialEq.TheImpl as entries
 use Rattle.mls_leaf.specs.contracts.leaf.LeafSourcePartialEq.TheImpl as sources
 use Rattle.mls_leaf.specs.contracts.leaf.CapabilitiesPartialEq.TheImpl as capables
 use Rattle.mls_leaf.specs.contracts.leaf.LeafNodePartialEq.TheImpl as leaves
@@ -68,3 +71,15 @@ leaves_decide v w = decides_as (same_leaf v w)
     (λ e. (ap (λ (x : LeafNode). x.encryption_key) e, (ap (λ (x : LeafNode). x.signature_key) e, (ap (λ (x : LeafNode). x.credential.identity) e, (ap (λ (x : LeafNode). x.capabilities) e, (ap (λ (x : LeafNode). x.source) e, ap (λ (x : LeafNode). x.signature) e))))))
     (both_decide (bytes_eq-Decides v.encryption_key w.encryption_key) (both_decide (bytes_eq-Decides v.signature_key w.signature_key) (both_decide (bytes_eq-Decides v.credential.identity w.credential.identity)
     (both_decide (capabilities_decide v.capabilities w.capabilities) (both_decide (sources_decide v.source w.source) (bytes_eq-Decides v.signature w.signature))))))
+
+abbrev entry : ℕ → List ℕ → Extension
+entry kind content = record { kind = kind; content = content }
+
+same_extension : (v w : Extension) → (v.kind ≡ w.kind) × (v.content ≡ w.content) → v ≡ w
+same_extension v w e = ap (λ (x : ℕ). entry x v.content) e.0 ∙ ap (λ (x : List ℕ). entry w.kind x) e.1
+
+extensions_decide : (v w : Extension) → Decides ((entries.ghosts).eq v w) (v ≡ w)
+extensions_decide v w = decides_as (same_extension v w) (λ e. (ap (λ (x : Extension). x.kind) e, ap (λ (x : Extension). x.content) e)) (both_decide (Decides-eqb v.kind w.kind) (bytes_eq-Decides v.content w.content))
+
+pub lists_decide : (v w : List Extension) → Decides (pointwise (entries.ghosts).eq v w) (v ≡ w)
+lists_decide v w = slice_eq-Decides extensions_decide v w (pointwise (entries.ghosts).eq v w) refl

@@ -2,9 +2,8 @@
 use Rattle.std.proofs.Common.{◌≡◌, ℕ, ◌+◌, ◌<◌, ◌≤◌, Bool, true, false, List, ◌++◌, length, get_or, take, refl, sym, ap, ◌∙◌, arith}
 use Rattle.std.specs.List.{flat_map}
 use Rattle.std.proofs.lemmas.Bool.{lt-leb}
-use Rattle.std.proofs.lemmas.List.{length-append}
+use Rattle.std.proofs.lemmas.List.{length-append, take_all}
 use Rattle.std.proofs.lemmas.List.Folds.{length-flat_map-take}
-use Rattle.std.proofs.Math.Seq.{take-length}
 use Rattle.mls_wire.specs.Reading.{uint, header}
 use Rattle.mls_wire.specs.Combine.{uint16, byte_string}
 use Rattle.mls_leaf.specs.Limits.{input_limit}
@@ -25,8 +24,8 @@ spell_length v = omega (arith, length-append (uint16.spell v.kind) (byte_string.
 pub content_more : (vs : List Extension) (i : ℕ) (v : Extension) → i < length vs → v ≡ get_or vs i v → content_length (take (i + 1) vs) ≡ content_length (take i vs) + length (extension.spell v)
 content_more vs i v lt is = ap length (flat_map-more extension.spell vs i v lt is) ∙ length-append (flat_map extension.spell (take i vs)) (extension.spell v)
 
-pub content_all : (vs : List Extension) (n : ℕ) → n ≡ length vs → content_length (take n vs) ≡ content_length vs
-content_all vs n e = ap (λ (k : ℕ). content_length (take k vs)) e ∙ ap content_length (take-length vs)
+pub content_all : (vs : List Extension) (n : ℕ) → length vs ≤ n → content_length (take n vs) ≡ content_length vs
+content_all vs n le = ap content_length (take_all n vs le)
 
 -- the list is its content behind a header
 pub list_length : (vs : List Extension) → length (group_extensions.spell vs) ≡ length (header (content_length vs)) + content_length vs
