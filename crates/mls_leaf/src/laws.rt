@@ -20,5 +20,6 @@ pub fn laws_of_signed_parts()
 pub fn laws_of_equality()
     ensures byte_strings { (x y : List ℕ) → Decides (⟦<Bytes as PartialEq>⟧.eq x y) (x ≡ y) }
     ensures leaves { (v w : LeafNode) → Decides (⟦<LeafNode as PartialEq>⟧.eq v w) (v ≡ w) }
-    ensures extensions { (v w : List Extension) → Decides (⟦<GroupExtensions as PartialEq>⟧.eq v w) (v ≡ w) }
+    ensures extensions { (v w : List Extension)
+        → Decides (⟦<GroupExtensions as PartialEq>⟧.eq v w) (v ≡ w) }
 {}

@@ -148,7 +148,7 @@ fn proposals_refused(rt: HostRuntime) -> Result<(), Fail> {
         ("0003000000", 2),
         ("0004", 12),
         ("0007", 2),
-        // the extensions of a group: one, none, a type of another range, one type twice, and data that run over the list
+        // the extensions of a group: one, none, a type of another range, one type twice, data that run over the list
         ("000705f001026869", 0),
         ("000700", 0),
         ("0007050003026869", 14),

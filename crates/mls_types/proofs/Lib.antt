@@ -1,4 +1,3 @@
-pub mod Cases
 pub mod SignedLaws
 pub mod SignedParts
 pub mod GroupInfoLaws

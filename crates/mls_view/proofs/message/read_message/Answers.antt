@@ -6,7 +6,7 @@ use Rattle.mls_wire.specs.Combine.{case, others}
 use Rattle.mls_leaf.specs.KeyPackage.{key_package}
 use Rattle.mls_types.specs.GroupInfo.{group_info}
 use Rattle.mls_types.specs.Welcome.{welcome}
-use Rattle.mls_types.proofs.Cases.{read_other}
+use Rattle.mls_leaf.proofs.Cases.{read_other}
 use Rattle.mls_types.specs.Message.{mls_message, Bodies, make_message}
 use Rattle.mls_types.specs.PublicMessage.{public_message}
 use Rattle.mls_types.specs.declared.message.MlsMessage.TheVariants as sent

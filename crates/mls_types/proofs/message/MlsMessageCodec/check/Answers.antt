@@ -6,7 +6,7 @@ use Rattle.mls_types.specs.GroupInfo.{group_info}
 use Rattle.mls_types.specs.Welcome.{welcome}
 use Rattle.mls_types.specs.Message.{mls_message}
 use Rattle.mls_types.specs.PublicMessage.{public_message}
-use Rattle.mls_types.proofs.Cases.{pass_other}
+use Rattle.mls_leaf.proofs.Cases.{pass_other}
 use Rattle.mls_types.proofs.message.MlsMessageCodec.check.Goals as goal
 
 pub returns-in_err-check-in-5 : goal.returns-in_err-check-in-5

@@ -9,7 +9,7 @@ use Rattle.mls_types.specs.GroupInfo.{group_info}
 use Rattle.mls_types.specs.Welcome.{welcome}
 use Rattle.mls_types.specs.Message.{mls_message, Bodies, make_message}
 use Rattle.mls_types.specs.PublicMessage.{public_message}
-use Rattle.mls_types.proofs.Cases.{read_other}
+use Rattle.mls_leaf.proofs.Cases.{read_other}
 use Rattle.mls_types.proofs.message.MlsMessageCodec.read.Goals as goal
 
 pub returns-in_err-key_package-in-5 : goal.returns-in_err-key_package-in-5

@@ -1,7 +1,7 @@
 use Rattle.std.proofs.Common.{refl, arith}
 use Rattle.mls_wire.specs.Combine.{case, others, nothing}
 use Rattle.mls_types.specs.PublicMessage.{wire_format}
-use Rattle.mls_types.proofs.Cases.{pass_other}
+use Rattle.mls_leaf.proofs.Cases.{pass_other}
 use Rattle.mls_types.proofs.public_message.WireFormatCodec.check.Goals as goal
 
 pub returns-in-5 : goal.returns-in-5

@@ -3,7 +3,7 @@ use Rattle.mls_wire.specs.Reading.{◌>>=◌}
 use Rattle.mls_wire.specs.CombineLaws.{seen_read}
 use Rattle.mls_wire.specs.Combine.{case, others, nothing}
 use Rattle.mls_types.specs.PublicMessage.{wire_format, WireFormats, make_wire_format}
-use Rattle.mls_types.proofs.Cases.{read_other}
+use Rattle.mls_leaf.proofs.Cases.{read_other}
 use Rattle.mls_types.proofs.public_message.WireFormatCodec.read.Goals as goal
 
 pub returns-in-5 : goal.returns-in-5
