@@ -6,7 +6,7 @@ use Rattle.mls_leaf.specs.KeyPackage.{key_package}
 use Rattle.mls_leaf.specs.Proposal.{proposal as proposal_format}
 use Rattle.mls_leaf.specs.declared.key_package.KeyPackage.{KeyPackage}
 use Rattle.mls_leaf.specs.declared.proposal.Proposal.{Proposal}
-use Rattle.mls_leaf.specs.declared.proposal.Proposal.TheVariants.{Add, Update, Remove}
+use Rattle.mls_leaf.specs.declared.proposal.Proposal.TheVariants.{Add, Update, Remove, GroupContextExtensions}
 use Rattle.mls_model.specs.PublicState.{Used}
 use Rattle.mls_model.specs.Proposals.{adds, add_in}
 use Rattle.mls_public_group.specs.Short.{IsBelow, AreBelow}
@@ -27,6 +27,7 @@ module _ (n : ℕ) where
   add_here (Add x) ys b h = (add_below n x b, h)
   add_here (Update x) ys b h = h
   add_here (Remove i) ys b h = h
+  add_here (GroupContextExtensions list) ys b h = h
 
   packages_below : (used : List Used) → AreBelow n used → AllByRecursion (λ (x : KeyPackage). IsBelow n key_package x) (adds used)
   unfolding adds

@@ -7,6 +7,7 @@ use Rattle.mls_leaf.specs.declared.leaf.LeafNode.{LeafNode}
 use Rattle.mls_leaf.specs.declared.key_package.KeyPackage.{KeyPackage}
 use Rattle.mls_leaf.specs.declared.proposal.Proposal.{Proposal}
 use Rattle.mls_leaf.specs.declared.proposal.Proposal.TheVariants as proposal
+use Rattle.mls_leaf.specs.declared.extension.Extension.{Extension}
 use Rattle.mls_types.specs.declared.update_path.UpdatePath.{UpdatePath}
 use Rattle.mls_types.specs.declared.commit.Commit.{Commit}
 use Rattle.mls_types.specs.declared.content.FramedContent.{FramedContent}
@@ -69,11 +70,16 @@ pub remove_refused : (c : Crypto) (p : PublicState) (sender leaf n : ℕ) → pr
 unfolding proposal_checks has
 remove_refused c p sender leaf n h = is_one remove_numbers 22 n refl (last_refused 22 (is_some (leaf_of p.tree leaf)) n h)
 
+pub extensions_refused : (c : Crypto) (p : PublicState) (sender : ℕ) (list : List Extension) (n : ℕ) → proposal_checks c p sender (proposal.GroupContextExtensions list) ≡ Err n → has proposal_numbers n ≡ true
+unfolding proposal_checks has
+extensions_refused c p sender list n h = is_one proposal_numbers 12 n refl (last_refused 12 false n h)
+
 pub proposal_refused : (c : Crypto) (p : PublicState) (sender : ℕ) (said : Proposal) (n : ℕ) → proposal_checks c p sender said ≡ Err n → has proposal_numbers n ≡ true
 unfolding has
 proposal_refused c p sender (proposal.Add offered) n h = widen add_numbers proposal_numbers n refl (add_refused c p sender offered n h)
 proposal_refused c p sender (proposal.Update leaf) n h = widen update_numbers proposal_numbers n refl (update_refused c p sender leaf n h)
 proposal_refused c p sender (proposal.Remove leaf) n h = widen remove_numbers proposal_numbers n refl (remove_refused c p sender leaf n h)
+proposal_refused c p sender (proposal.GroupContextExtensions list) n h = extensions_refused c p sender list n h
 
 -- ---- all that is public of a commit
 

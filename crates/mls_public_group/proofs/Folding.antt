@@ -10,7 +10,7 @@ use Rattle.mls_wire.specs.Laws.{ok_is}
 use Rattle.mls_leaf.specs.declared.leaf.LeafNode.{LeafNode}
 use Rattle.mls_leaf.specs.declared.key_package.KeyPackage.{KeyPackage}
 use Rattle.mls_leaf.specs.declared.proposal.Proposal.{Proposal}
-use Rattle.mls_leaf.specs.declared.proposal.Proposal.TheVariants.{Add, Update, Remove}
+use Rattle.mls_leaf.specs.declared.proposal.Proposal.TheVariants.{Add, Update, Remove, GroupContextExtensions}
 use Rattle.mls_tree_model.specs.Term.{Term}
 use Rattle.mls_tree.specs.Tree.{add_answer, update_answer, remove_answer}
 use Rattle.mls_model.specs.PublicState.{PublicState, Used}
@@ -25,16 +25,19 @@ no_update : (u : Used) (p : Proposal) → ((x : LeafNode) → p ≡ Update x →
 no_update u (Add x) other = refl
 no_update u (Update x) other = absurd (other x refl)
 no_update u (Remove i) other = refl
+no_update u (GroupContextExtensions list) other = refl
 
 no_remove : (p : Proposal) → ((i : ℕ) → p ≡ Remove i → ⊥) → remove_in p ≡ None
 no_remove (Add x) other = refl
 no_remove (Update x) other = refl
 no_remove (Remove i) other = absurd (other i refl)
+no_remove (GroupContextExtensions list) other = refl
 
 no_add : (p : Proposal) → ((x : KeyPackage) → p ≡ Add x → ⊥) → add_in p ≡ None
 no_add (Add x) other = absurd (other x refl)
 no_add (Update x) other = refl
 no_add (Remove i) other = refl
+no_add (GroupContextExtensions list) other = refl
 
 pub update_is : (u : Used) (x : LeafNode) → u.proposal ≡ Update x → updates (u ∷ []) ≡ (u.sender, x) ∷ []
 unfolding updates

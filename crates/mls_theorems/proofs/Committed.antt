@@ -11,7 +11,7 @@ use Rattle.mls_leaf.specs.declared.key_package.KeyPackage.{KeyPackage}
 use Rattle.mls_leaf.specs.declared.leaf.LeafNode.{LeafNode}
 use Rattle.mls_types.specs.GroupContext.{group_context}
 use Rattle.mls_leaf.specs.Node.{node}
-use Rattle.mls_wire.specs.Combine.{empty_vector}
+use Rattle.mls_leaf.specs.GroupExtensions.{group_extensions}
 use Rattle.mls_types.specs.Commit.{proposal_or_ref}
 use Rattle.mls_types.specs.declared.commit.ProposalOrRef.{ProposalOrRef}
 use Rattle.mls_suite.specs.Crypto.{Crypto}
@@ -57,16 +57,16 @@ committed_good c m list wants_path seed x good fits h =
 -- ---- a new group
 
 first_context_fits : (c : Crypto) (group : List ℕ) (t : Term) → c.number < 2 ^ 16 → length (group_context.spell (first_context c group t)) < 2 ^ 30 → group_context.Fits (first_context c group t)
-unfolding group_context first_context
+unfolding group_context first_context group_extensions
 first_context_fits c group t n lt =
-    let t4 : List ℕ = opaque [] ++ ((empty_vector 14).spell ++ []) in
+    let t4 : List ℕ = opaque [] ++ group_extensions.spell [] in
     let t3 : List ℕ = opaque (tree_hash 0 t) ++ t4 in
     let t2 : List ℕ = uint w64 0 ++ t3 in
     let t1 : List ℕ = opaque group ++ t2 in
     let t0 : List ℕ = uint w16 c.number ++ t1 in
     let l0 : length t0 < 2 ^ 30 = short_last (uint w16 1) t0 _ lt in
     let l1 : length t1 < 2 ^ 30 = short_last (uint w16 c.number) t1 _ l0 in
-    (n, (short_text group _ (short_first (opaque group) t2 _ l1), (lit< tt, (omega (arith, length-tree_hash 0 t), (lit< tt, tt)))))
+    (n, (short_text group _ (short_first (opaque group) t2 _ l1), (lit< tt, (omega (arith, length-tree_hash 0 t), (lit< tt, (tt, lit< tt))))))
 
 suite_fits : (k : KeyPackage) → key_package.Fits k → k.cipher_suite < 2 ^ 16
 unfolding key_package

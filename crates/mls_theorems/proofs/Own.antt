@@ -103,12 +103,14 @@ module _ (c : Crypto) (j : ℕ) where
   owns_other u (proposal.Add offered) us own ne h = h
   owns_other u (proposal.Update leaf) us own ne h = owns_later (u.sender, leaf) us own ne h
   owns_other u (proposal.Remove leaf) us own ne h = h
+  owns_other u (proposal.GroupContextExtensions list) us own ne h = h
 
   owns_own : (u : Used) (said : Proposal) (us : List (ℕ × LeafNode)) (key own : Option (List ℕ)) → u.sender ≡ j → HasOwnKey c said key → OwnsUpdate c j us own → OwnsUpdate c j (cons_option (update_in u said) us) (first_key key own)
   owns_own u (proposal.Add offered) us key own is has_key h = subst (λ k. OwnsUpdate c j us (first_key k own)) (sym has_key) h
   owns_own u (proposal.Update leaf) us key own is has_key h =
       subst (λ k. OwnsUpdate c j ((u.sender, leaf) ∷ us) (first_key k own)) (sym has_key.1) (subst (λ i. OwnsUpdate c j ((i, leaf) ∷ us) (Some has_key.0)) (sym is) (owns_first leaf us has_key.0 has_key.2))
   owns_own u (proposal.Remove leaf) us key own is has_key h = subst (λ k. OwnsUpdate c j us (first_key k own)) (sym has_key) h
+  owns_own u (proposal.GroupContextExtensions list) us key own is has_key h = subst (λ k. OwnsUpdate c j us (first_key k own)) (sym has_key) h
 
 updates_first_is : (u : Used) (us : List Used) → updates (u ∷ us) ≡ cons_option (update_in u u.proposal) (updates us)
 unfolding updates

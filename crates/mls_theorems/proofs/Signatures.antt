@@ -43,6 +43,7 @@ module _ (c : Crypto) (p : PublicState) where
   identity_at u (proposal.Add offered) y is h = absurd cc
   identity_at u (proposal.Update leaf) y is h = let same : Path (ℕ × LeafNode) (u.sender, leaf) y = cc in subst (HasIdentity p) same (update_identity u.sender leaf h)
   identity_at u (proposal.Remove leaf) y is h = absurd cc
+  identity_at u (proposal.GroupContextExtensions list) y is h = absurd cc
 
   identities : (used : List Used) → AllByRecursion (HasPassedChecks c p) used → AllByRecursion (HasIdentity p) (updates used)
   unfolding updates

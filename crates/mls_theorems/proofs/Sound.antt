@@ -73,6 +73,7 @@ module _ (c : Crypto) (p : PublicState) where
       let same : (u.sender, leaf) ≡ y = cc in
       subst (λ (z : ℕ × LeafNode). AreFit (rules_of c p.context.group_id) z.0 z.1 []) same (update_fit c p u.sender leaf h)
   update_at u (proposal.Remove leaf) y is h = absurd cc
+  update_at u (proposal.GroupContextExtensions list) y is h = absurd cc
 
   add_at : (u : Used) (q : Proposal) (y : KeyPackage) → add_in q ≡ Some y → proposal_checks c p u.sender q ≡ Ok passed → (j : ℕ) → AreFit (rules_of c p.context.group_id) j y.leaf_node []
   unfolding proposal_checks
@@ -81,6 +82,7 @@ module _ (c : Crypto) (p : PublicState) where
       subst (λ (z : KeyPackage). AreFit (rules_of c p.context.group_id) j z.leaf_node []) same (package_fit c p.context.group_id offered h j)
   add_at u (proposal.Update leaf) y is h j = absurd cc
   add_at u (proposal.Remove leaf) y is h j = absurd cc
+  add_at u (proposal.GroupContextExtensions list) y is h j = absurd cc
 
   updates_fit : (used : List Used) → AllByRecursion (HasPassedChecks c p) used → AllByRecursion (λ (u : ℕ × LeafNode). AreFit (rules_of c p.context.group_id) u.0 u.1 []) (updates used)
   unfolding updates

@@ -160,6 +160,7 @@ update_here : (u : Used) (x : Proposal) (us : List (ℕ × LeafNode)) → propos
 update_here u (proposes.Add y) us f h = h
 update_here u (proposes.Update y) us f h = (proposal_update y f, h)
 update_here u (proposes.Remove i) us f h = h
+update_here u (proposes.GroupContextExtensions list) us f h = h
 
 pub updates_fit : (used : List Used) → AllByRecursion UsedFits used → AllByRecursion (λ (y : ℕ × LeafNode). leaf_node.Fits y.1) (updates used)
 unfolding updates
@@ -170,6 +171,7 @@ add_here : (x : Proposal) (ks : List KeyPackage) → proposal.Fits x → AllByRe
 add_here (proposes.Add y) ks f h = (proposal_add y f, h)
 add_here (proposes.Update y) ks f h = h
 add_here (proposes.Remove i) ks f h = h
+add_here (proposes.GroupContextExtensions list) ks f h = h
 
 pub adds_fit : (used : List Used) → AllByRecursion UsedFits used → AllByRecursion key_package.Fits (adds used)
 unfolding adds
