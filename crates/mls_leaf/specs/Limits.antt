@@ -3,4 +3,4 @@ use Rattle.std.specs.Prelude.{ℕ}
 
 -- how many bytes an input may have; INPUT_LIMIT in the code
 abbrev pub input_limit : ℕ
-input_limit = 4194304
+input_limit = 67108864

@@ -183,17 +183,17 @@ below_all b high n (u ∷ us) le l =
     let lt : nat_lt u high ≡ true = lt-ltb u high (omega arith) in
     rw lt (below_all b high n us le q.1)
 
-parent_fits : (b : ℕ) (c : Option Parent) (l r : Term) → b + (width l + width r) ≤ 4096 → ParentShort c → parent_passes below_here b c l r ≡ true → parent_passes rises_here b c l r ≡ true → NodeFits (parent_cell c)
+parent_fits : (b : ℕ) (c : Option Parent) (l r : Term) → b + (width l + width r) ≤ max_leaves → ParentShort c → parent_passes below_here b c l r ≡ true → parent_passes rises_here b c l r ≡ true → NodeFits (parent_cell c)
 unfolding node parent_node below_here rises_here
 parent_fits b None l r le short low rise = tt
 parent_fits b (Some p) l r le short low rise =
     let us : List ℕ = p.unmerged_leaves in
-    let all : list_all (λ u. nat_lt u 4096) us ≡ true = below_all b 4096 (b + (width l + width r)) us le low in
-    let n = few 0 4096 us rise all (omega arith) in
+    let all : list_all (λ u. nat_lt u max_leaves) us ≡ true = below_all b max_leaves (b + (width l + width r)) us le low in
+    let n = few 0 max_leaves us rise all (omega arith) in
     let long = ap length (run_spelling-rising 0 us) ∙ four_each us in
-    (lit< tt, (short.0, (short.1, (RunFits-rising 0 us rise (entries_fit 4096 us (lit< tt) all), omega arith))))
+    (lit< tt, (short.0, (short.1, (RunFits-rising 0 us rise (entries_fit max_leaves us (lit< tt) all), omega arith))))
 
-pub nodes_fit : (b : ℕ) (t : Term) → b + width t ≤ 4096 → PartsFit t → all_parents below_here b t ≡ true → all_parents rises_here b t ≡ true → AllByRecursion NodeFits (in_order t)
+pub nodes_fit : (b : ℕ) (t : Term) → b + width t ≤ max_leaves → PartsFit t → all_parents below_here b t ≡ true → all_parents rises_here b t ≡ true → AllByRecursion NodeFits (in_order t)
 unfolding in_order PartsFit all_parents width
 nodes_fit b (Leaf v) le h low rise = (leaf_fits v h, tt)
 nodes_fit b (Branch c l r) le h low rise =

@@ -172,7 +172,7 @@ unfolding is_within
 low_leaf c m i good there =
     let x = some_at (leaf_of m.public.tree i) there in
     let inside = (leaf_is_in m.public.tree i x.0 x.1).0 in
-    let within : width m.public.tree ≤ 4096 = leb-true _ _ good.tree.within in
+    let within : width m.public.tree ≤ max_leaves = leb-true _ _ good.tree.within in
     omega arith
 
 was_checked : (c : Crypto) (m : Member) (x : Proposal) (own : Option (List ℕ)) (y : List ℕ × Member) → make_proposal c m x own ≡ Ok y → proposal_checks c m.public m.keys.leaf x ≡ Ok passed

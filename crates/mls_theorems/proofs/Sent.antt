@@ -152,7 +152,7 @@ pub leaf_short : (c : Crypto) (m : Member) → IsGoodMember c m → m.keys.leaf 
 unfolding Rattle.mls_tree_model.specs.Good.is_within
 leaf_short c m good =
     let inside = (leaf_is_in m.public.tree m.keys.leaf good.own good.is_own).0 in
-    let within : width m.public.tree ≤ 4096 = leb-true _ _ good.tree.within in
+    let within : width m.public.tree ≤ max_leaves = leb-true _ _ good.tree.within in
     omega arith
 
 pub record ContextFits (c : Crypto) (m : Member) : Type 0 where

@@ -62,7 +62,7 @@ parts_next c p i used commit said signature change h fits path parts =
 pub good_nodes_fit : (c : Crypto) (p : PublicState) (t : Term) → HasGood c p t → PartsFit t → AllByRecursion NodeFits (in_order t)
 unfolding is_within has_good_lists
 good_nodes_fit c p t good parts =
-    let low : width t ≤ 4096 = leb-true _ _ good.within in
+    let low : width t ≤ max_leaves = leb-true _ _ good.within in
     let lists = right_are_below 0 t (record { right = good.lists; rising = good.rising }) in
     nodes_fit 0 t (omega arith) parts lists.below lists.rising
 

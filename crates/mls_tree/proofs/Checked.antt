@@ -17,8 +17,8 @@ use Rattle.mls_tree.specs.Faults.{number_of}
 pub size_fits : (h : ℕ) (xs : List (Option Node)) → Stands h xs → h ≤ max_height → length xs < 2 ^ 32
 size_fits h xs stands low =
     let size = stands.size in
-    let up : nodes_in h ≤ nodes_in 12 = nodes_in_up h 12 low in
-    let top = nodes_in-pow 12 in
+    let up : nodes_in h ≤ nodes_in max_height = nodes_in_up h max_height low in
+    let top = nodes_in-pow max_height in
     omega arith
 
 -- a tree of good shape that its checks accept is good, as its lists rise

@@ -3,4 +3,4 @@ use Rattle.std.specs.Prelude.{ℕ}
 
 -- the most levels below a root; MAX_HEIGHT in the code
 abbrev pub max_height : ℕ
-max_height = 12
+max_height = 16

@@ -20,16 +20,16 @@ fn copath_nodes(alloc: Global, x: u32, n: u32) -> Result<Vec<u32>, AllocError>
 
 #[test]
 fn steps(rt: HostRuntime) {
-    for (node, below) in [(0, 0), (6, 0), (5, 1), (3, 2), (7, 3), (4095, 12)] {
+    for (node, below) in [(0, 0), (6, 0), (5, 1), (3, 2), (7, 3), (65535, 16)] {
         assert_eq!(rt; level(node), below, "at {node}");
     }
     for (leaves, node) in [
         (1, Some(0)),
         (8, Some(7)),
-        (4096, Some(4095)),
+        (65536, Some(65535)),
         (0, None),
         (6, None),
-        (8192, None),
+        (131072, None),
     ] {
         assert_eq!(rt; root(leaves), node, "at {leaves}");
     }
@@ -37,7 +37,7 @@ fn steps(rt: HostRuntime) {
         (7, (Some(3), Some(11))),
         (5, (Some(4), Some(6))),
         (6, (None, None)),
-        (8191, (None, None)),
+        (131071, (None, None)),
     ] {
         assert_eq!(rt; (left(node), right(node)), children, "at {node}");
     }

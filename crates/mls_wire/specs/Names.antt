@@ -26,7 +26,8 @@ names_of_members =
     ∷ (46, codes "BadMembershipTag") ∷ (47, codes "BadSignature") ∷ (48, codes "OwnUnknown") ∷ (49, codes "ReferenceTaken") ∷ (50, codes "LeafSource")
     ∷ (51, codes "LeafSignature") ∷ (52, codes "LeafCapability") ∷ (53, codes "LeafIdentityChanged") ∷ (54, codes "LeafKeySame") ∷ (55, codes "KeyPackageSuite")
     ∷ (56, codes "KeyPackageSignature") ∷ (57, codes "InitKeySame") ∷ (60, codes "UnknownReference") ∷ (61, codes "CommitterUpdate") ∷ (62, codes "CommitterRemoved")
-    ∷ (63, codes "SameLeafTwice") ∷ (64, codes "PathMissing") ∷ (65, codes "BadConfirmationTag") ∷ (66, codes "EpochEnd") ∷ (67, codes "PendingCommit") ∷ []
+    ∷ (63, codes "SameLeafTwice") ∷ (64, codes "PathMissing") ∷ (65, codes "BadConfirmationTag") ∷ (66, codes "EpochEnd") ∷ (67, codes "PendingCommit")
+    ∷ (68, codes "SecondExtensions") ∷ []
 
 -- the names of refusals of Welcomes and of worlds
 abbrev pub names_of_joins : List (ℕ × List ℕ)

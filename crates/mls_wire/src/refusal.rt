@@ -61,7 +61,7 @@ fn name_of_trees(number: u8) -> &'static str
     }
 }
 
-/// The name of a refusal of messages, leaves and commits (40 to 67), or nothing.
+/// The name of a refusal of messages, leaves and commits (40 to 68), or nothing.
 fn name_of_members(number: u8) -> &'static str
     ensures { result.now ≡ name_in names_of_members number }
 {
@@ -92,6 +92,7 @@ fn name_of_members(number: u8) -> &'static str
         65 => "BadConfirmationTag",
         66 => "EpochEnd",
         67 => "PendingCommit",
+        68 => "SecondExtensions",
         _ => "",
     }
 }
