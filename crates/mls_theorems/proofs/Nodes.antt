@@ -14,6 +14,7 @@ use Rattle.mls_leaf.specs.ParentNode.{parent_node}
 use Rattle.mls_leaf.proofs.ParentLaws.{rises_from-cons, run_spelling-rising, RunFits-rising}
 use Rattle.mls_leaf.specs.declared.leaf.LeafNode.{LeafNode}
 use Rattle.mls_leaf.specs.declared.node.Node.{Node}
+use Rattle.mls_tree.specs.Tree.{max_leaves}
 use Rattle.mls_tree_model.specs.Arrays.{leaf_cell, parent_cell, in_order, before, cut, to_nodes}
 use Rattle.mls_tree_model.specs.Edits.{put, enter, list_leaf, grow, trim, first_blank, room_for, place_in, add, remove}
 use Rattle.mls_tree_model.proofs.Equations.{put_left, put_right, enter_left, enter_right, merge_left, merge_right, trim_full, trim_empty, add_is, remove_is}

@@ -25,6 +25,7 @@ use Rattle.mls_types.specs.declared.content.Sender.TheVariants as by
 use Rattle.mls_types.specs.declared.message.MlsMessage.TheVariants as message
 use Rattle.mls_types.specs.declared.public_message.PublicMessage.{PublicMessage}
 use Rattle.mls_suite.specs.Crypto.{Crypto}
+use Rattle.mls_tree.specs.Tree.{max_leaves}
 use Rattle.mls_tree_model.specs.Good.{is_within}
 use Rattle.mls_tree_model.specs.Term.{width, leaf_of}
 use Rattle.mls_tree.specs.Tree.{member_at}

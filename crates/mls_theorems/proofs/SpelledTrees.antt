@@ -15,6 +15,7 @@ use Rattle.mls_suite.specs.Crypto.{Crypto}
 use Rattle.mls_schedule.proofs.Lengths.{length-confirmed_hash}
 use Rattle.mls_schedule.specs.Transcript.{confirmed_hash}
 use Rattle.mls_types.specs.Content.{framed_content}
+use Rattle.mls_tree.specs.Tree.{max_leaves}
 use Rattle.mls_tree_model.specs.Arrays.{in_order}
 use Rattle.mls_tree_model.specs.Good.{is_within, has_good_lists}
 use Rattle.mls_tree_model.proofs.LengthLaws.{length-tree_hash}
