@@ -5,6 +5,7 @@ ghost use Rattle.std.specs.Cmp.Lexicographic.{pointwise, lists_per, lists_equiv}
 ghost use Rattle.mls_wire.specs.CombineLaws.{forgotten};
 ghost use Rattle.mls_wire.specs.Reading.{header};
 ghost use Rattle.mls_leaf.specs.declared.error.LeafError.TheVariants.{ExtensionNotAllowed};
+ghost use Rattle.mls_leaf.specs.declared.extension.Extension.{Extension};
 ghost use Rattle.mls_leaf.specs.Faults.{Gives, AddsSpelling, ReadsAllPast};
 ghost use Rattle.mls_leaf.specs.GroupExtensions.{are_allowed, AreAllowed, allowed_extensions, group_extensions, group_extensions_nonempty, group_extensions_faults, is_short};
 
@@ -113,6 +114,7 @@ fn is_short(entries: &[Extension]) -> bool
 
 impl GroupExtensions {
     /// No extensions.
+    #[tactic(auto, unfolding(crate::specs::GroupExtensions::are_new))]
     pub fn empty(alloc: Global) -> GroupExtensions
         ensures { result ≡ [] }
     {
