@@ -9,6 +9,7 @@ mod distinct;
 mod due_path;
 mod edits;
 mod error;
+mod extensions;
 mod group;
 mod laws;
 mod next_tree;

@@ -3,6 +3,7 @@ use Rattle.std.specs.Prelude.{◌≡◌, ℕ, Bool, List, Some, Ok, ◌⊎◌}
 use Rattle.std.specs.List.{AllByRecursion}
 use Rattle.mls_wire.specs.Checks.{passed}
 use Rattle.mls_leaf.specs.Leaf.{leaf_node}
+use Rattle.mls_leaf.specs.declared.extension.Extension.{Extension}
 use Rattle.mls_leaf.specs.declared.leaf.LeafNode.{LeafNode}
 use Rattle.mls_types.specs.GroupContext.{group_context}
 use Rattle.mls_types.specs.declared.update_path.UpdatePathNode.{UpdatePathNode}
@@ -23,6 +24,7 @@ use Rattle.mls_treekem_model.specs.Seal.{sealed_path}
 use Rattle.mls_treekem_model.specs.Seeds.{seal_seed}
 use Rattle.mls_treekem_model.specs.Whole.{keys_of_path}
 use Rattle.mls_model.specs.PublicState.{Used, provisional_context}
+use Rattle.mls_model.specs.Proposals.{extended}
 use Rattle.mls_model.specs.Candidate.{leaf_key_of}
 use Rattle.mls_treekem_model.specs.Seeds.{path_seed}
 use Rattle.mls_model.specs.Commit.{Edits, Change}
@@ -34,7 +36,8 @@ use Rattle.mls_theorems.specs.CommitCalls.{content_of, path_for, Makes}
 
 -- ---- the path of a made commit
 
-pub record IsNewPath (c : Crypto) (m : Member) (e : Edits) (seed : List ℕ) (path : MadePath) : Type 0 where
+pub record IsNewPath (c : Crypto) (m : Member) (list : List Extension) (e : Edits) (seed : List ℕ) (path : MadePath) :
+    Type 0 where
   pub old : LeafNode
   pub is_old : leaf_of m.public.tree m.keys.leaf ≡ Some old
   pub checks : replaced_checks c
@@ -43,7 +46,7 @@ pub record IsNewPath (c : Crypto) (m : Member) (e : Edits) (seed : List ℕ) (pa
   pub tree_is : merge_answer e.tree m.keys.leaf (committed_leaf c m e old seed)
       (keys_of_path c e.tree m.keys.leaf (path_seed seed)) ≡ Ok tree
   pub nodes : List UpdatePathNode
-  pub nodes_are : sealed_path c (group_context.spell (provisional_context m.public.context tree)) e.added
+  pub nodes_are : sealed_path c (group_context.spell (provisional_context m.public.context list tree)) e.added
       (seal_seed seed) e.tree m.keys.leaf (path_seed seed) ≡ Ok nodes
   pub path_is : path.path ≡ Some (record { leaf_node = committed_leaf c m e old seed; nodes = nodes })
   pub climb_is : path.climb ≡ climb_make c (way 0 e.tree m.keys.leaf) (path_seed seed) (leaf_key_of c seed)
@@ -51,7 +54,7 @@ pub record IsNewPath (c : Crypto) (m : Member) (e : Edits) (seed : List ℕ) (pa
 abbrev pub PathDid : Type 0
 PathDid = (c : Crypto) (m : Member) (used : List Used) (e : Edits) (wants_path : Bool) (seed : List ℕ)
     (path : MadePath) → path_for c m used e wants_path seed ≡ Ok path →
-    IsNewPath c m e seed path ⊎ (path ≡ no_path m e)
+    IsNewPath c m (extended m.public.context.extensions used) e seed path ⊎ (path ≡ no_path m e)
 
 -- what a made commit is as a message
 unfoldable pub sent_of : Crypto → Member → List ProposalOrRef → MadePath → Change → PublicMessage
