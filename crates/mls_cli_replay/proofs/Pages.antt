@@ -41,4 +41,4 @@ module _ (same_run : SameRun) (same_replies : SameReplies) where
   one_page c (Err n) p q e f = e ∙ sym f
 
   pub one_replay : OneReplay
-  one_replay c file p q (a, is, e) (b, are, f) = e ∙ ap (printout entry_text) (one_page c (recording file) a b is are) ∙ sym f
+  one_replay c file p q (a, is, e) (b, are, f) = e ∙ ap (printout entry_text) (one_page c (recording c.number file) a b is are) ∙ sym f

@@ -6,9 +6,13 @@ mod line;
 mod members;
 mod reply;
 
-ghost use Rattle.std.specs.Prelude.{◌≡◌, ◌≢◌, ◌≤◌, IfOk, IfErr};
+ghost use Rattle.std.specs.Prelude.{◌≡◌, ◌≢◌, ◌≤◌, map, IfOk, IfErr};
+ghost use Rattle.mls_wire.specs.Checks.{Answers};
 ghost use Rattle.mls_cli_text.specs.InputOutput.{write_failed};
 ghost use Rattle.mls_cli_text.specs.Page.{ending_status};
+ghost use Rattle.mls_cli_json.specs.Faults.{number_of};
+ghost use Rattle.mls_cli_recording.specs.Calls.{recorded_view};
+ghost use Rattle.mls_cli_recording.specs.Recording.{recording};
 ghost use Rattle.mls_cli_replay.specs.OneReplay.{OneReplay};
 ghost use Rattle.mls_cli_replay.specs.Replay.{IsRefusal, PrintsOne, PrintsPlay, PrintsRefusal, PrintsReplay, ending_by};
 
@@ -69,8 +73,15 @@ fn print_error<O: Output>(alloc: Global, error: JsonError, out: &mut O) -> Resul
     }
 }
 
-/// Prints the replay of a recording, or the refusal of the file (`BadJson` (9), `NotHex` (8)), and answers the exit
-/// status. The whole file is read before the first event runs, and each event's lines are printed before the next one
+/// Reads a recording for the suite: `BadJson` (9), `NotHex` (8).
+fn recording_for<S: Suite>(alloc: Global, file: &[u8]) -> Result<Vec<Recorded>, JsonError>
+    ensures { Answers (λ v. map recorded_view v.items) number_of (recording S.crypto.number file.now) result }
+{
+    recording(alloc, S::NUMBER, file)
+}
+
+/// Prints the replay of a recording for the suite, or the refusal of the file (`BadJson` (9), `NotHex` (8)), and answers
+/// the exit status. The whole file is read before the first event runs, and each event's lines are printed before the next one
 /// runs, so that after a failed write no further event does.
 pub fn replay<S: Suite, O: Output>(alloc: Global, file: &[u8], out: &mut O) -> Result<u8, Fault>
     // The output grows by the replay's text, or on a fault by less than that.
@@ -80,7 +91,7 @@ pub fn replay<S: Suite, O: Output>(alloc: Global, file: &[u8], out: &mut O) -> R
     ensures fault { O.failed out.new ≡ write_failed (O.failed out.old) result }
     ensures written { IfErr result (λ e. e ≢ Fault.Read) }
 {
-    match recording(alloc, file) {
+    match recording_for::<S>(alloc, file) {
         Ok(recorded) => play::<S, O>(alloc, recorded.as_slice(), out),
         Err(error) => print_error(alloc, error, out),
     }
