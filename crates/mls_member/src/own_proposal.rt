@@ -7,7 +7,6 @@ ghost use Rattle.mls_leaf.specs.KeyPackage.{key_package as key_package_format};
 ghost use Rattle.mls_leaf.specs.Proposal.{proposal as proposal_format};
 ghost use Rattle.mls_leaf.specs.declared.proposal.Proposal.TheVariants.{Update};
 ghost use Rattle.mls_checks.specs.Checks.{key_package_checks};
-ghost use Rattle.mls_checks.specs.Short.{IsShort};
 ghost use Rattle.mls_public_group.specs.Faults.{number_of as number_of_group, Gives, Passes};
 ghost use Rattle.mls_public_group.specs.Short.{IsBelow};
 ghost use Rattle.mls_model.specs.MemberInvariant.{IsGoodMember};
@@ -36,7 +35,7 @@ impl<S: Suite> Member<S> {
     /// The leaf of an update: `NoSuchLeaf` (22) where the member has none (RFC 9420, 7.2).
     fn updated_leaf(&self, seed: &Seed) -> Result<LeafNode, GroupError>
         ensures leaf { Gives (updated_answer S.crypto self.now seed.now) result }
-        ensures short { IfOk result (λ v. IsShort proposal_format (Update v)) }
+        ensures short { IfOk result (λ v. IsBelow (2 ^ 28) proposal_format (Update v)) }
     {
         let speaker = self.speaker();
         let group = speaker.group;
@@ -140,6 +139,7 @@ impl<S: Suite> Member<S> {
         if self.gone {
             return Err(Refusal::Gone);
         }
+        let _entries = extensions.as_slice(); // They may be carried, for the proof.
         let proposal = Proposal::GroupContextExtensions(extensions);
         self.send_and_keep(proposal, None)
     }
