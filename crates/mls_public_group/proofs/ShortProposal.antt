@@ -25,7 +25,7 @@ pub removal_short : (leaf : ℕ) → leaf < 2 ^ 32 → IsBelow (2 ^ 28) proposal
 unfolding proposal_format uint
 removal_short leaf lt = record { fits = (lit< tt, lt); below = lit< tt }
 
--- and only there, of all but extensions
+-- and only there
 pub short_parts : (x : Proposal) → IsBelow (2 ^ 28) proposal_format x → IsShortProposal x
 unfolding proposal_format
 short_parts (Add x) h = record { fits = h.fits.1; below = omega (arith, h.below, length-append (uint w16 1) (key_package.spell x), length-uint16 1) }

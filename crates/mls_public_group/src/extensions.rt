@@ -1,7 +1,9 @@
 //! The extensions that a group carries after the proposals of a commit (RFC 9420, 12.1.7).
 
-ghost use Rattle.std.specs.Prelude.{◌≡◌, ◌≤◌, [], ◌∷◌, length};
+ghost use Rattle.std.specs.Prelude.{◌≡◌, ◌≤◌, ◌^◌, [], ◌∷◌, true, length};
+ghost use Rattle.mls_leaf.specs.GroupExtensions.{group_extensions, is_short};
 ghost use Rattle.mls_model.specs.Proposals.{extended, extension_lists};
+ghost use Rattle.mls_public_group.specs.Short.{IsBelow};
 
 use crate::group::PublicGroup;
 use crate::used_proposal::Used;
@@ -42,4 +44,12 @@ impl PublicGroup {
         }
         &self.context.extensions
     }
+}
+
+/// A law: a list that fits into an input has a spelling, of fewer than 2^27 bytes.
+pub fn know_short_list(list: &GroupExtensions)
+    requires { is_short list.now ≡ true }
+    ensures { IsBelow (2 ^ 27) group_extensions list.now }
+{
+    let _entries = list.as_slice();
 }

@@ -25,6 +25,7 @@ pub use contexts::{context_spelling, provisional_context};
 pub use due_path::is_path_required;
 pub use edits::Edits;
 pub use error::GroupError;
+pub use extensions::know_short_list;
 pub use group::PublicGroup;
 pub use laws::short_leaves_after_path;
 pub use next_tree::NextTree;

@@ -1,5 +1,5 @@
 -- A commit that a good member makes reads back.
-use Rattle.std.specs.Prelude.{◌≡◌, ℕ, Bool, List, Some, Ok, ◌⊎◌}
+use Rattle.std.specs.Prelude.{◌≡◌, ℕ, ◌<◌, ◌^◌, Bool, List, length, Some, Ok, ◌⊎◌}
 use Rattle.std.specs.List.{AllByRecursion}
 use Rattle.mls_wire.specs.Checks.{passed}
 use Rattle.mls_leaf.specs.Leaf.{leaf_node}
@@ -30,7 +30,7 @@ use Rattle.mls_treekem_model.specs.Seeds.{path_seed}
 use Rattle.mls_model.specs.Commit.{Edits, Change}
 use Rattle.mls_model.specs.Member.{Member}
 use Rattle.mls_model.specs.Messages.{decode_message, content_tag}
-use Rattle.mls_model.specs.Make.{MadePath, Made, committed_leaf, no_path}
+use Rattle.mls_model.specs.Make.{MadePath, Made, committed_leaf, no_path, make}
 use Rattle.mls_model.specs.MemberInvariant.{IsGoodMember}
 use Rattle.mls_theorems.specs.CommitCalls.{content_of, path_for, Makes}
 
@@ -74,3 +74,15 @@ MadeFits = (c : Crypto) (m : Member) (list : List ProposalOrRef) (wants_path : B
     (k : Makes c m list wants_path seed made) →
     IsGoodMember c m → AllByRecursion proposal_or_ref.Fits list →
     ReadsBack made.commit (sent_of c m list k.path k.change)
+
+-- ---- what is listed in full
+
+-- what a list has has a spelling, if it is short
+abbrev pub ListedFitsIfShort : ProposalOrRef → Type 0
+ListedFitsIfShort x = length (proposal_or_ref.spell x) < 2 ^ 30 → proposal_or_ref.Fits x
+
+-- where a commit call made a message of a list, which is within the limit, all that the list has has a spelling
+abbrev pub MadeListsFit : Type 0
+MadeListsFit = (c : Crypto) (m : Member) (list : List ProposalOrRef) (wants_path : Bool) (seed : List ℕ) (made : Made) →
+    AllByRecursion ListedFitsIfShort list → make c m list wants_path seed ≡ Ok made →
+    AllByRecursion proposal_or_ref.Fits list
