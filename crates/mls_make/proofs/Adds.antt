@@ -9,11 +9,10 @@ use Rattle.mls_leaf.specs.declared.proposal.Proposal.TheVariants.{Add, Update, R
 use Rattle.mls_model.specs.PublicState.{Used}
 use Rattle.mls_model.specs.Proposals.{adds, add_in}
 use Rattle.mls_public_group.specs.Short.{IsBelow, IsProposalBelow, AreBelow}
-use Rattle.mls_public_group.proofs.ShortLaws.{add_below}
+use Rattle.mls_public_group.proofs.ShortLaws.{add_below, proposal_below}
 use Rattle.mls_welcome.specs.Joiners.{package_and_leaf_of, AreShortJoiners}
 use Rattle.mls_welcome.specs.declared.welcome_message.Joiner.{Joiner}
 use Rattle.mls_make.specs.CommitCall.{AreShortUsed}
-use Rattle.mls_make.proofs.Lengths.{proposal_below}
 
 -- each proposal that is used is short
 pub used_short : (used : List Used) → AreShortUsed used → AreBelow (2 ^ 28) used

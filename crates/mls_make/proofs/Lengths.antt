@@ -15,7 +15,6 @@ use Rattle.mls_leaf.specs.Nonempty.{header_nonempty}
 use Rattle.mls_leaf.specs.Proposal.{proposal}
 use Rattle.mls_leaf.specs.declared.key_package.KeyPackage.{KeyPackage}
 use Rattle.mls_leaf.specs.declared.proposal.Proposal as proposals
-use Rattle.mls_leaf.specs.declared.proposal.Proposal.TheVariants as proposes
 use Rattle.mls_types.specs.UpdatePath.{hpke_ciphertext, update_path_node, update_path}
 use Rattle.mls_types.specs.declared.update_path.HpkeCiphertext.{HpkeCiphertext}
 use Rattle.mls_types.specs.declared.update_path.UpdatePath.{UpdatePath}
@@ -38,7 +37,8 @@ use Rattle.mls_model.specs.Messages.{content_by}
 use Rattle.mls_model.specs.Make.{path_seals}
 use Rattle.mls_public_group.specs.ProposalList.{edit_tree}
 use Rattle.mls_public_group.proofs.Leaves.{below_applied}
-use Rattle.mls_public_group.specs.Short.{IsBelow, IsProposalBelow, AreBelow, HasLeavesBelow}
+use Rattle.mls_public_group.proofs.ShortLaws.{proposal_below}
+use Rattle.mls_public_group.specs.Short.{IsBelow, AreBelow, HasLeavesBelow}
 use Rattle.mls_commit.proofs.Below.{below_merged}
 use Rattle.mls_theorems.proofs.Inversion.{edited_steps}
 use Rattle.mls_make.specs.CommitCall.{IsShortUsed, AreShortUsed}
@@ -90,13 +90,6 @@ items_inside k n h = inside (flat_map proposal_or_ref.spell k.proposals) n (list
 pub listed_inside : (p : proposals.Proposal) (n : ℕ) → length (proposal_or_ref.spell (listed.Proposal p)) ≤ n → length (proposal.spell p) ≤ n
 unfolding proposal_or_ref
 listed_inside p n h = back (uint w8 1) (proposal.spell p) n h
-
--- extensions aside, nothing less is asked of a proposal than a bound
-pub proposal_below : (n : ℕ) (p : proposals.Proposal) → IsBelow n proposal p → IsProposalBelow n p
-proposal_below n (proposes.Add x) b = b
-proposal_below n (proposes.Update x) b = b
-proposal_below n (proposes.Remove i) b = b
-proposal_below n (proposes.GroupContextExtensions list) b = tt
 
 -- one that is named is a kept one
 pub named_kept : (kept : List KeptProposal) (leaf : ℕ) (r : List ℕ) (u : Used) → find_proposal kept leaf (listed.Reference r) ≡ Ok u → u.is_full ≡ false

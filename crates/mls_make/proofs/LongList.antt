@@ -30,6 +30,7 @@ use Rattle.mls_model.specs.Member.{KeptProposal, Member, find_proposal, find_pro
 use Rattle.mls_model.specs.Messages.{is_within_limit, message_by}
 use Rattle.mls_model.specs.Make.{MadePath, new_path, no_path}
 use Rattle.mls_public_group.specs.Short.{IsBelow, IsProposalBelow, AreBelow}
+use Rattle.mls_public_group.proofs.ShortLaws.{below_more, list_below}
 use Rattle.mls_message.proofs.Refusals.{refused_long}
 use Rattle.mls_update_path.proofs.OtherExtensions.{AreAlike, new_path_alike, new_path_merges}
 use Rattle.mls_make.specs.CommitCall.{HasShortParts, IsShortUsed, AreShortUsed, IsUsable, AreUsable}
@@ -161,18 +162,11 @@ extensions_below true list fits kept none =
     record { fits = (lit< tt, fits (omega arith)); below = omega (arith, length-append (uint w16 7) (group_extensions.spell list)) }
 extensions_below false list fits kept none = kept refl
 
-list_below : (list : List Extension) → IsBelow (2 ^ 27) proposal (GroupContextExtensions list) → IsBelow (2 ^ 27) group_extensions list
-unfolding proposal
-list_below list h = record { fits = h.fits.1; below = omega (arith, h.below, length-append (uint w16 7) (group_extensions.spell list)) }
-
-wider : (p : proposals.Proposal) → IsBelow (2 ^ 27) proposal p → IsBelow (2 ^ 28) proposal p
-wider p h = record { fits = h.fits; below = omega (arith, h.below) }
-
 one_short : (full : Bool) (p : proposals.Proposal) → HasShortParts p → (full ≡ false → IsBelow (2 ^ 27) proposal p) → (full && has_long_list p) ≡ false → IsBelow (2 ^ 28) proposal p
 one_short full (Add x) h kept none = h
 one_short full (Update x) h kept none = h
 one_short full (Remove i) h kept none = h
-one_short full (GroupContextExtensions list) h kept none = wider (GroupContextExtensions list) (extensions_below full list h kept none)
+one_short full (GroupContextExtensions list) h kept none = below_more proposal (2 ^ 27) (2 ^ 28) (GroupContextExtensions list) (omega arith) (extensions_below full list h kept none)
 
 pub usable_short : (used : List Used) → AreUsable used → give_long_list used ≡ false → AreShortUsed used
 usable_short [] h none = tt
@@ -197,7 +191,7 @@ first_below : (old : List Extension) (p : proposals.Proposal) (full : Bool) (lis
 first_below old (Add x) full lists h kept none rest = rest
 first_below old (Update x) full lists h kept none rest = rest
 first_below old (Remove i) full lists h kept none rest = rest
-first_below old (GroupContextExtensions list) full lists h kept none rest = list_below list (extensions_below full list h kept none)
+first_below old (GroupContextExtensions list) full lists h kept none rest = list_below (2 ^ 27) list (extensions_below full list h kept none)
 
 pub carried_below : (old : List Extension) (used : List Used) → IsBelow (2 ^ 27) group_extensions old → AreUsable used → give_long_list used ≡ false → IsBelow (2 ^ 27) group_extensions (extended old used)
 unfolding extended extension_lists

@@ -1,24 +1,21 @@
 -- How the proposals that a commit uses come about, one after the other.
-use Rattle.std.proofs.Common.{◌≡◌, ℕ, ◌+◌, ◌<◌, ◌≤◌, ◌^◌, List, [], ◌∷◌, ◌++◌, length, drop, Option, Some, None, Result, Ok, Err, refl, sym, ap, subst, ◌∙◌, arith, append_assoc, get_or, ◌||◌, false, length-append}
+use Rattle.std.proofs.Common.{◌≡◌, ℕ, ◌+◌, ◌<◌, ◌≤◌, ◌^◌, List, [], ◌∷◌, ◌++◌, length, drop, Option, Some, None, Result, Ok, Err, refl, sym, ap, subst, ◌∙◌, arith, append_assoc, get_or, ◌||◌, false}
 use Rattle.std.specs.List.{AllByRecursion, list_any, cons_option}
 use Rattle.std.proofs.lemmas.List.{append-nil, drop_all}
-use Rattle.std.specs.Int.{w16}
-use Rattle.mls_wire.specs.Reading.{◌>>=◌, uint}
-use Rattle.mls_leaf.specs.GroupExtensions.{group_extensions}
+use Rattle.mls_wire.specs.Reading.{◌>>=◌}
 use Rattle.mls_leaf.specs.Proposal.{proposal as proposal_format}
-use Rattle.mls_leaf.specs.declared.extension.Extension.{Extension}
 use Rattle.mls_leaf.specs.declared.proposal.Proposal.{Proposal}
 use Rattle.mls_leaf.specs.declared.proposal.Proposal.TheVariants.{Add, Update, Remove, GroupContextExtensions}
 use Rattle.mls_types.specs.declared.commit.ProposalOrRef.{ProposalOrRef}
 use Rattle.mls_tree_model.specs.Sets.{has}
 use Rattle.mls_model.specs.PublicState.{Used}
 use Rattle.mls_model.specs.Member.{KeptProposal, find_proposal, find_proposals, named_proposal, named_proposals, first_own_key, first_key}
-use Rattle.mls_model.specs.Proposals.{extended, extension_lists, extensions_in, first_list, removed_leaves, remove_in}
+use Rattle.mls_model.specs.Proposals.{removed_leaves, remove_in}
 use Rattle.mls_public_group.specs.Short.{IsBelow, IsProposalBelow, AreBelow}
 use Rattle.mls_public_group.proofs.Rest.{here, all_behind}
+use Rattle.mls_public_group.proofs.ShortLaws.{below_more, proposal_below}
 use Rattle.mls_make.specs.CommitCall.{HasShortParts, IsUsable}
-use Rattle.mls_make.proofs.Lengths.{proposal_below}
-use Rattle.mls_member.specs.Process.{IsListedBelow, KeepExtensionsShort, key_of, is_leaf, removes_leaf}
+use Rattle.mls_member.specs.Process.{IsListedBelow, key_of, is_leaf, removes_leaf}
 
 -- a proposal that is used encodes to fewer than 2^27 bytes, extensions too
 abbrev pub IsSpelledBelow : Used → Type 0
@@ -66,36 +63,15 @@ used_all kept committer list used h = sym h.answer ∙ ap (λ (l : List Used). a
 -- ---- wider limits
 
 wider : (p : Proposal) → IsBelow (2 ^ 27) proposal_format p → IsBelow (2 ^ 28) proposal_format p
-wider p h = record { fits = h.fits; below = omega (arith, h.below) }
+wider p h = below_more proposal_format (2 ^ 27) (2 ^ 28) p (omega arith) h
 
 -- a proposal below 2^27 is below 2^28, extensions aside
 pub checked_below : (p : Proposal) → IsBelow (2 ^ 27) proposal_format p → IsProposalBelow (2 ^ 28) p
 checked_below p h = proposal_below (2 ^ 28) p (wider p h)
 
-pub used_below : (us : List Used) → AllByRecursion IsSpelledBelow us → AreBelow (2 ^ 27) us
-used_below [] h = tt
-used_below (u ∷ us) h = (proposal_below (2 ^ 27) u.proposal h.0, used_below us h.1)
-
 pub used_wider : (us : List Used) → AllByRecursion IsSpelledBelow us → AreBelow (2 ^ 28) us
 used_wider [] h = tt
 used_wider (u ∷ us) h = (checked_below u.proposal h.0, used_wider us h.1)
-
--- ---- extensions
-
-list_below : (list : List Extension) → IsBelow (2 ^ 27) proposal_format (GroupContextExtensions list) → IsBelow (2 ^ 27) group_extensions list
-unfolding proposal_format
-list_below list h = record { fits = h.fits.1; below = omega (arith, h.below, length-append (uint w16 7) (group_extensions.spell list)) }
-
-first_below : (old : List Extension) (p : Proposal) (lists : List (List Extension)) → IsBelow (2 ^ 27) proposal_format p → IsBelow (2 ^ 27) group_extensions (first_list old lists) → IsBelow (2 ^ 27) group_extensions (first_list old (cons_option (extensions_in p) lists))
-first_below old (Add x) lists h rest = rest
-first_below old (Update x) lists h rest = rest
-first_below old (Remove i) lists h rest = rest
-first_below old (GroupContextExtensions list) lists h rest = list_below list h
-
-pub used_extended : (us : List Used) → AllByRecursion IsSpelledBelow us → KeepExtensionsShort us
-unfolding extended extension_lists
-used_extended [] h old short = short
-used_extended (u ∷ us) h old short = first_below old u.proposal (extension_lists us) h.0 (used_extended us h.1 old short)
 
 -- a kept proposal can be used, whatever it says
 short_parts : (p : Proposal) → IsBelow (2 ^ 27) proposal_format p → HasShortParts p
