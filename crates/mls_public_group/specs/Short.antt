@@ -22,8 +22,8 @@ pub record IsBelow {V : Type 0} (n : ℕ) (format : Format V) (v : V) : Type 0 w
 abbrev pub HasLeavesBelow : ℕ → Term → Type 0
 HasLeavesBelow n t = (i : ℕ) → IfSome (leaf_of t i) (λ v. IsBelow n leaf_node v)
 
--- the proposal encodes to fewer than n bytes; of a list of extensions nothing is asked, since no check and no edit speaks
--- of its length
+-- the proposal encodes to fewer than n bytes; of a list of extensions nothing is asked, since no check and no edit
+-- speaks of its length
 abbrev pub IsProposalBelow : ℕ → Proposal → Type 0
 IsProposalBelow n (proposes.Add offered) = IsBelow n proposal (proposes.Add offered)
 IsProposalBelow n (proposes.Update leaf) = IsBelow n proposal (proposes.Update leaf)
@@ -47,8 +47,8 @@ abbrev pub PathsKeepLeavesShort : Type 0
 PathsKeepLeavesShort = (n : ℕ) (t : Term) (i : ℕ) (x : LeafNode) (keys : List (List ℕ)) →
     IsBelow n leaf_node x → HasLeavesBelow n t → HasLeavesBelow n (merge_path t i x keys)
 
--- a context of texts and extensions that are short, and whose numbers have 16 and 64 bits: it has a spelling, of fewer than
--- 2^30 bytes, since 2^28 + 2^27 + 2^28 + 2^27 is 2^29 + 2^28
+-- a context of texts and extensions that are short, and whose numbers have 16 and 64 bits: it has a spelling, of fewer
+-- than 2^30 bytes, since 2^28 + 2^27 + 2^28 + 2^27 is 2^29 + 2^28
 pub record IsShortContext (context : GroupContext) : Type 0 where
   pub suite : context.cipher_suite < 2 ^ 16
   pub epoch : context.epoch < 2 ^ 64

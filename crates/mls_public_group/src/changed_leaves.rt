@@ -60,8 +60,8 @@ pub(crate) fn removed_leaves(alloc: Global, used: &[Used<'_>]) -> Result<Vec<u32
     Ok(leaves)
 }
 
-/// Refuses an update of the committer (`CommitterUpdate` 61), its removal (`CommitterRemoved` 62), two updates or removes
-/// of one leaf (`SameLeafTwice` 63), and two lists of extensions (`SecondExtensions` 68).
+/// Refuses an update of the committer (`CommitterUpdate` 61), its removal (`CommitterRemoved` 62), two updates or
+/// removes of one leaf (`SameLeafTwice` 63), and two lists of extensions (`SecondExtensions` 68).
 pub(crate) fn check_proposal_list(
     alloc: Global,
     committer: u32,

@@ -63,8 +63,8 @@ impl PublicGroup {
     /// proposal in full; `CommitterUpdate` (61) an update of the committer, `CommitterRemoved` (62) its removal,
     /// `SameLeafTwice` (63) two updates or removes of one leaf, `SecondExtensions` (68) two lists of extensions;
     /// `NoSuchLeaf` (22) no member is where one is updated or removed; `TreeFull` (21) the tree is too large;
-    /// `ClientRepeated` (26) two members have one signature key, or two adds one reference; `KeyRepeated` (25) two nodes
-    /// have one encryption key (RFC 9420, 12.2, 12.3 and 7.3). The group stays as it is.
+    /// `ClientRepeated` (26) two members have one signature key, or two adds one reference; `KeyRepeated` (25) two
+    /// nodes have one encryption key (RFC 9420, 12.2, 12.3 and 7.3). The group stays as it is.
     pub fn apply_proposals<S: Suite>(
         &self,
         alloc: Global,

@@ -32,8 +32,8 @@ pub(crate) fn count_lists(used: &[Used<'_>]) -> usize
 }
 
 impl PublicGroup {
-    /// The extensions that the group carries after these proposals: those of the first list among them, or its own where
-    /// there is none (RFC 9420, 12.1.7).
+    /// The extensions that the group carries after these proposals: those of the first list among them, or its own
+    /// where there is none (RFC 9420, 12.1.7).
     pub fn extensions_after<'a>(&'a self, used: &[Used<'a>]) -> &'a GroupExtensions
         ensures { result.now ≡ extended self.now.context.extensions used.now }
     {

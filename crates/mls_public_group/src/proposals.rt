@@ -22,8 +22,8 @@ use std::alloc::Global;
 impl PublicGroup {
     /// The checks of a proposal of the member at leaf `sender`: of an add those of its KeyPackage (RFC 9420, 12.1.1),
     /// of an update `NoSuchLeaf` (22) where no member is there, and those of its leaf (12.1.2), of a remove
-    /// `NoSuchLeaf` (22) where there is no member (12.1.3), of extensions none (12.1.7). `NoSuchLeaf` (22), what a remove
-    /// answers and what extensions are answered take no memory.
+    /// `NoSuchLeaf` (22) where there is no member (12.1.3), of extensions none (12.1.7). `NoSuchLeaf` (22), what a
+    /// remove answers and what extensions are answered take no memory.
     pub fn require_proposal<S: Suite>(
         &self,
         alloc: Global,
