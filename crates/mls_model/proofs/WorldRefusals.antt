@@ -1,5 +1,5 @@
 -- Each call on a world is refused with one of its numbers.
-use Rattle.std.proofs.Common.{◌≡◌, ℕ, true, false, ◌||◌, not, List, [], ◌∷◌, Err, refl}
+use Rattle.std.proofs.Common.{◌≡◌, ℕ, true, false, ◌||◌, not, List, [], ◌∷◌, Err, refl, sym, ap}
 use Rattle.std.specs.Prelude.{Bool, slice_get}
 use Rattle.std.specs.List.{list_any, list_all}
 use Rattle.std.specs.Str.{bytes_eq}
