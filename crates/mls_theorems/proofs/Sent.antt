@@ -12,6 +12,7 @@ use Rattle.mls_leaf.specs.Limits.{input_limit}
 use Rattle.mls_leaf.proofs.WholeLaws.{whole_again}
 use Rattle.mls_leaf.specs.declared.extension.Extension.{Extension}
 use Rattle.mls_leaf.specs.declared.leaf.LeafNode.{LeafNode}
+use Rattle.mls_tree.specs.Tree.{max_leaves}
 use Rattle.mls_types.specs.GroupContext.{group_context}
 use Rattle.mls_types.specs.declared.group_context.GroupContext.{GroupContext}
 use Rattle.mls_types.specs.declared.update_path.UpdatePath.{UpdatePath}
