@@ -216,12 +216,11 @@ fn check_on<'a>(
 fn replay_on<'a>(suite: Option<&str>, message: Option<&str>, file: &'a str) -> Option<Job<'a>>
     ensures { maybe_task result ≡ replay_on (given suite.entry) (given message.entry) file.entry.now }
 {
-    let suite = suite_of(suite?)?;
-    let message = message_in(message);
+    let chosen = suite_of(suite?)?;
     Some(Job::Replay {
         file,
-        suite,
-        message,
+        suite: chosen,
+        message: message_in(message),
     })
 }
 

@@ -118,7 +118,11 @@ fn print_text<O: Output>(
             signatures,
             group,
             ..
-        } => print_made_page(alloc, check_file(alloc, *suite, *signatures, text, group), out),
+        } => print_made_page(
+            alloc,
+            check_file(alloc, *suite, *signatures, text, group),
+            out,
+        ),
         Job::Replay { suite, message, .. } => {
             print_recording(alloc, *suite, *message, text, out)
         }

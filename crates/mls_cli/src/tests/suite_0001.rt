@@ -85,9 +85,19 @@ const NO_NUMBER: &str =
 fn replays_under_both_suites(rt: HostRuntime) -> Result<(), Fail> {
     let alloc = rt.alloc();
     let table: [(&[&str], &str, u8, &str); 8] = [
-        (&["mls", "replay", "FILE", "--suite", "0001"], GROUP, 0, GROUP_TEXT),
+        (
+            &["mls", "replay", "FILE", "--suite", "0001"],
+            GROUP,
+            0,
+            GROUP_TEXT,
+        ),
         (&["mls", "replay", "FILE"], GROUP, 1, BAD_JSON),
-        (&["mls", "replay", "FILE", "--suite", "0001"], JOIN, 1, BAD_JSON),
+        (
+            &["mls", "replay", "FILE", "--suite", "0001"],
+            JOIN,
+            1,
+            BAD_JSON,
+        ),
         (
             &["mls", "replay", "FILE", "--suite=0001", "--message", "0"],
             GROUP,
@@ -106,7 +116,12 @@ fn replays_under_both_suites(rt: HostRuntime) -> Result<(), Fail> {
             1,
             BAD_JSON,
         ),
-        (&["mls", "replay", "FILE", "--suite=f002"], "", 2, OTHER_SUITE),
+        (
+            &["mls", "replay", "FILE", "--suite=f002"],
+            "",
+            2,
+            OTHER_SUITE,
+        ),
         (&["mls", "replay", "FILE", "--message=x"], "", 2, NO_NUMBER),
     ];
     for (words, file, status, text) in table {
