@@ -246,9 +246,7 @@ fn pathless(alloc: Global) -> Result<Content, LeafError>
     let extensions = extensions(alloc, 2)?;
     let _entries = extensions.as_slice(); // They may be carried, for the proof.
     let mut proposals = Vec::new(alloc);
-    proposals.push(ProposalOrRef::Proposal(
-        Proposal::GroupContextExtensions(extensions),
-    ))?;
+    proposals.push(ProposalOrRef::Proposal(Proposal::GroupContextExtensions(extensions)))?;
     Ok(Content::Commit(Commit {
         proposals: Items::from_vec(proposals),
         path: None,
