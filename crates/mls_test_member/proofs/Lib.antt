@@ -1,1 +1,2 @@
 mod Sharing
+mod Pathless
