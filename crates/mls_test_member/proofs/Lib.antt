@@ -1,2 +1,1 @@
-mod Sharing
 mod Pathless
