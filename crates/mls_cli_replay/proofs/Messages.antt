@@ -1,15 +1,10 @@
 -- The text of a message of a file.
-use Rattle.std.proofs.Common.{◌≡◌, ◌≢◌, ◌∙◌, ℕ, List, Option, Result, Ok, Err, IsErr, inl, inr, map, arith, refl, ap, sym, subst}
-use Rattle.std.specs.Prelude.{IfOk, slice_get}
-use Rattle.std.specs.declared.alloc.AllocError.{AllocError}
-use Rattle.std.proofs.KnownBytes.{Keeps-refl}
+use Rattle.std.proofs.Common.{◌≡◌, ◌≢◌, ◌∙◌, ℕ, List, Option, Result, Ok, Err, inl, inr, map, arith, refl, ap, sym, subst}
 use Rattle.mls_suite.specs.Crypto.{Crypto}
 use Rattle.mls_model.specs.World.{World, empty_world}
 use Rattle.mls_model.specs.Run.{run}
-use Rattle.mls_cli_text.specs.Page.{Page, Printout, Prints, page_of, printout, refused}
-use Rattle.mls_cli_text.specs.MadePage.{PrintsMade}
-use Rattle.mls_cli_text.specs.declared.page.Page as code
-use Rattle.mls_cli_text.proofs.Pages.{made_prints}
+use Rattle.std.specs.Prelude.{slice_get}
+use Rattle.mls_cli_text.specs.Page.{Page, Printout, printout, refused}
 use Rattle.mls_cli_text.specs.declared.fault.Fault.{Fault}
 use Rattle.mls_cli_json.specs.Faults.{number_of}
 use Rattle.mls_cli_json.specs.declared.error.JsonError.{JsonError}
@@ -20,40 +15,19 @@ use Rattle.mls_cli_recording.specs.Recording.{recording}
 use Rattle.mls_cli_recording.specs.declared.reading.Recorded.{Recorded}
 use Rattle.mls_cli_replay.specs.Message.{IsMessage, IsPageOn, digits_text, message_page, page_on}
 use Rattle.mls_cli_replay.specs.OneMessage.{OneMessage}
-use Rattle.mls_cli_replay.specs.declared.message.Digits.{Digits}
 use Rattle.mls_cli_replay.specs.Replay.{IsRefusal, PrintsOne, events_of}
 use Rattle.mls_cli_replay.proofs.Pages.{calls_of}
 
-abbrev bytes_of : Digits → List ℕ
-bytes_of d = d.message.now
-
 -- message n of the world that the events leave
-page_is : (c : Crypto) (n : ℕ) (rs : List Recorded) → message_page c n rs ≡ page_on (slice_get (run c empty_world (events_of rs)).messages n)
+pub page_is : (c : Crypto) (n : ℕ) (rs : List Recorded) → message_page c n rs ≡ page_on (slice_get (run c empty_world (events_of rs)).messages n)
 unfolding message_page
 page_is c n rs = refl
 
 -- from a world that is the empty one, to one that the events leave
-page_from : (c : Crypto) (n : ℕ) (rs : List Recorded) (w v : World) → w ≡ empty_world → v ≡ run c w (events_of rs) → page_on (slice_get v.messages n) ≡ message_page c n rs
+pub page_from : (c : Crypto) (n : ℕ) (rs : List Recorded) (w v : World) → w ≡ empty_world → v ≡ run c w (events_of rs) → page_on (slice_get v.messages n) ≡ message_page c n rs
 page_from c n rs w v begun is =
     ap (λ (x : World). page_on (slice_get x.messages n)) (is ∙ ap (λ (x : World). run c x (events_of rs)) begun)
     ∙ sym (page_is c n rs)
-
--- the page of a message that was found, or not, is that of the events
-found_page : (c : Crypto) (n : ℕ) (rs : List Recorded) (w v : World) (found : Option (List ℕ)) → w ≡ empty_world → v ≡ run c w (events_of rs) → found ≡ slice_get v.messages n
-    → page_on found ≡ message_page c n rs
-found_page c n rs w v found begun is e = ap page_on e ∙ page_from c n rs w v begun is
-
-pub found_prints : (c : Crypto) (n : ℕ) (rs : List Recorded) (w v : World) {found : Option (List ℕ)} (made : Result (code.Page Digits) AllocError) (old new : Option (List ℕ)) (r : Result ℕ Fault)
-    → w ≡ empty_world → v ≡ run c w (events_of rs) → found ≡ slice_get v.messages n → IfOk made (λ (p : code.Page Digits). page_of bytes_of p ≡ page_on found)
-    → PrintsMade (λ (d : Digits). digits_text (bytes_of d)) old new made r → Prints old new r (printout digits_text (message_page c n rs))
-found_prints c n rs w v {found} made old new r begun is e page prints =
-    made_prints digits_text bytes_of old new made r (message_page c n rs)
-    (subst (λ (q : Page (List ℕ)). IfOk made (λ (p : code.Page Digits). page_of bytes_of p ≡ q)) (found_page c n rs w v found begun is e) page) prints
-
--- where nothing is written, any page is cut
-pub nothing_prints : (r : Result ℕ Fault) (a : Option (List ℕ)) (p : Printout) → IsErr r → Prints a a r p
-nothing_prints (Ok x) a p err = cc
-nothing_prints (Err e) a p err = inl (Keeps-refl a)
 
 pub is_message : (c : Crypto) (n : ℕ) (file : List ℕ) (rs : List Recorded) → recording c.number file ≡ Ok (map recorded_view rs) → IsMessage c n file (printout digits_text (message_page c n rs))
 is_message c n file rs e = (message_page c n rs, rw e (rs, refl, refl), refl)
