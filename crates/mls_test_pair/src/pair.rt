@@ -9,7 +9,7 @@ ghost use Rattle.mls_model.specs.MemberInvariant.{IsGoodCandidate, IsGoodMember}
 ghost use Rattle.mls_model.specs.Make.{listed_of};
 ghost use Rattle.mls_model.specs.Sharing.{ShareEpoch};
 ghost use Rattle.mls_member.specs.Answers.{AreShortItems, IsShortItem};
-ghost use Rattle.mls_test_member.specs.Pair.{AdditionReaches, Enters, IsRefusedAddition, IsRefusedRenewal, addition_of};
+ghost use Rattle.mls_test_pair.specs.Pair.{AdditionReaches, Enters, IsRefusedAddition, IsRefusedRenewal, addition_of};
 
 use mls_candidate::Candidate;
 use mls_kdf::Seed;
