@@ -43,16 +43,31 @@ fn event_line(alloc: Global, event: &Event) -> Result<String, AllocError> {
     }
 }
 
-/// The lines of events, each with the text that is expected, if any.
-fn lines(alloc: Global, list: &[Recorded]) -> Result<String, AllocError> {
+/// An action as a line.
+fn action_line(alloc: Global, action: &Action) -> Result<String, AllocError> {
+    match action {
+        Action::Event(event) => event_line(alloc, event),
+        Action::DeliverAll(bytes) => format!(in alloc; "deliver_all {bytes:?}"),
+    }
+}
+
+/// The lines of actions, each with the text that is expected, if any, and of what is expected in the end.
+fn lines(alloc: Global, parts: &RecordedRun) -> Result<String, AllocError> {
     let mut text = String::new(alloc);
-    for recorded in list {
-        text.push_str(event_line(alloc, &recorded.event)?.as_str())?;
+    for recorded in &parts.actions {
+        text.push_str(action_line(alloc, &recorded.action)?.as_str())?;
         if let Some(expect) = &recorded.expect {
             text.push_str(" = ")?;
             text.push_str(expect.as_str())?;
         }
         text.push_str("\n")?;
+    }
+    if let Some(lines) = &parts.final_lines {
+        text.push_str("in the end\n")?;
+        for line in lines {
+            text.push_str(line.as_str())?;
+            text.push_str("\n")?;
+        }
     }
     Ok(text)
 }
@@ -60,7 +75,7 @@ fn lines(alloc: Global, list: &[Recorded]) -> Result<String, AllocError> {
 /// The lines of a recording, or the number of its refusal. Want of memory is passed on.
 fn answer(alloc: Global, file: &[u8]) -> Result<String, AllocError> {
     match recording(alloc, file) {
-        Ok(list) => lines(alloc, list.as_slice()),
+        Ok(parts) => lines(alloc, &parts),
         Err(JsonError::OutOfMemory) => Err(AllocError),
         Err(error) => format!(in alloc; "{}", error.number()),
     }
@@ -217,7 +232,12 @@ fn refuses_files(rt: HostRuntime) -> Result<(), Fail> {
         ("[", BAD_JSON),
         ("[]", BAD_JSON),
         (r#"{"version":1,"suite":"f001"}"#, BAD_JSON),
-        (r#"{"version":2,"suite":"f001","events":[]}"#, BAD_JSON),
+        (r#"{"version":0,"suite":"f001","events":[]}"#, BAD_JSON),
+        (r#"{"version":3,"suite":"f001","events":[]}"#, BAD_JSON),
+        (
+            r#"{"version":3,"suite":"f001","events":[],"final":[]}"#,
+            BAD_JSON,
+        ),
         (r#"{"version":1.0,"suite":"f001","events":[]}"#, BAD_JSON),
         (r#"{"version":1,"suite":"0001","events":[]}"#, BAD_JSON),
         (r#"{"version":1,"suite":"F001","events":[]}"#, BAD_JSON),
@@ -228,7 +248,11 @@ fn refuses_files(rt: HostRuntime) -> Result<(), Fail> {
             BAD_JSON,
         ),
         (
-            r#"{"version":2,"suite":"f001","events":[{"op":"deliver","member":0,"bytes":"0"}]}"#,
+            r#"{"version":3,"suite":"f001","events":[{"op":"deliver","member":0,"bytes":"0"}]}"#,
+            BAD_JSON,
+        ),
+        (
+            r#"{"version":1,"suite":"f001","events":[{"op":"deliver_all","bytes":"00"}]}"#,
             BAD_JSON,
         ),
         (
@@ -245,5 +269,67 @@ fn refuses_files(rt: HostRuntime) -> Result<(), Fail> {
         b"{\"version\":1,\"suite\":\"f001\",\"events\":[],\"\xff\":1}",
     )?;
     assert_eq!(rt; text.as_str(), BAD_JSON);
+    Ok(())
+}
+
+#[test]
+fn reads_version_2(rt: HostRuntime) -> Result<(), Fail> {
+    let alloc = rt.alloc();
+    let table = [
+        (r#"{"version":2,"suite":"f001","events":[]}"#, ""),
+        (
+            r#"{"version":2,"suite":"f001","events":[{"op":"drop_pending","member":7}]}"#,
+            "drop_pending 7\n",
+        ),
+        (
+            r#"{"version":2,"suite":"f001","events":[{"op":"deliver_all","bytes":"00fF"},{"op":"deliver_all","bytes":{"message":7},"expect":"x"}]}"#,
+            "deliver_all Given([0, 255])\ndeliver_all Message(7) = x\n",
+        ),
+        (
+            r#"{"final":[],"events":[],"suite":"f001","version":2}"#,
+            "in the end\n",
+        ),
+        (
+            r#"{"version":2,"suite":"f001","events":[],"final":["member 0: gone",""]}"#,
+            "in the end\nmember 0: gone\n\n",
+        ),
+        (
+            r#"{"version":2,"suite":"f001","events":[],"final":null}"#,
+            BAD_JSON,
+        ),
+        (
+            r#"{"version":2,"suite":"f001","events":[],"final":"member 0: gone"}"#,
+            BAD_JSON,
+        ),
+        (
+            r#"{"version":2,"suite":"f001","events":[],"final":["member 0: gone",0]}"#,
+            BAD_JSON,
+        ),
+        (
+            r#"{"version":2,"suite":"f001","events":[],"last":[]}"#,
+            BAD_JSON,
+        ),
+        (r#"{"version":2,"suite":"f001","final":[]}"#, BAD_JSON),
+        (
+            r#"{"version":2,"suite":"f001","events":[{"op":"deliver_all","bytes":"0"}],"final":[]}"#,
+            NOT_HEX,
+        ),
+        (
+            r#"{"version":2,"suite":"f001","events":[{"op":"deliver_all","bytes":"0"}],"final":[0]}"#,
+            BAD_JSON,
+        ),
+        (
+            r#"{"version":2,"suite":"f001","events":[{"op":"deliver_all","bytes":"00","member":0}]}"#,
+            BAD_JSON,
+        ),
+        (
+            r#"{"version":2,"suite":"f001","events":[{"op":"deliver_all"}]}"#,
+            BAD_JSON,
+        ),
+    ];
+    for (file, wanted) in table {
+        let text = answer(alloc, file.as_bytes())?;
+        assert_eq!(rt; text.as_str(), wanted, "for {file}");
+    }
     Ok(())
 }
