@@ -1,7 +1,7 @@
 -- Texts, read one by one.
 use Rattle.std.proofs.Common.{◌≡◌, ◌∙◌, ◌<◌, ◌++◌, ◌∷◌, [], ◌+◌, ℕ, suc, List, Option, Some, None, option_map, map, drop, length, get_or, string_bytes, refl, ap, sym, append_assoc, drop-cons, add-one}
 use Rattle.std.specs.Global.{Global, Vec}
-use Rattle.std_alloc.specs.declared.string.String.{String}
+use Rattle.std.specs.declared.string.String.{String}
 use Rattle.std.proofs.lemmas.List.{map-append}
 use Rattle.serde_json.specs.Data.{Data, Items, item}
 use Rattle.serde_json.specs.Find.{as_str}

@@ -1,7 +1,7 @@
 -- Calls on a world as a recording has them, and how the code's values stand for them.
 use Rattle.std.specs.Prelude.{ℕ, Bool, List, map, Option, option_map, string_bytes}
 use Rattle.std.specs.Global.{Global, Vec}
-use Rattle.std_alloc.specs.declared.string.String.{String}
+use Rattle.std.specs.declared.string.String.{String}
 use Rattle.mls_model.specs.declared.event.Source.{Source}
 use Rattle.mls_model.specs.declared.event.Source.TheVariants as source
 use Rattle.mls_model.specs.declared.event.WorldItem.{WorldItem}

@@ -7,7 +7,7 @@ use Rattle.std.specs.Global.{Global, Vec}
 use Rattle.std.specs.List.{flat_map}
 use Rattle.std.specs.Str.{bytes_eq}
 use Rattle.std.specs.Io.KnownBytes.{Appends, Keeps}
-use Rattle.std_alloc.specs.declared.string.String.{String}
+use Rattle.std.specs.declared.string.String.{String}
 use Rattle.hex.specs.Hex.{encode_lower}
 use Rattle.mls_suite.specs.Crypto.{Crypto}
 use Rattle.mls_schedule.specs.Epoch.{epoch_authenticator}

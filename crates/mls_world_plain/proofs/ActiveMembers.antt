@@ -51,16 +51,16 @@ pub finds : (w : World) (k : ℕ) → is_active w k ≡ true → active_behind w
 finds w k is = by (split w.seats k)
   where
     by : IsSplit w.seats k → active_behind w k ≡ k ∷ active_behind w (k + 1)
-    by (inl (s, split, at)) =
-        rw split (first_stays k s.member (members (drop (k + 1) w.seats)) (is_here s.member.gone (sym (ap (λ (x : Option Seat). stays (option_map (λ (y : Seat). y.member) x)) at) ∙ is)))
-    by (inr (no, none, at)) = absurd cc
+    by (inl (s, first, at)) =
+        rw first (first_stays k s.member (members (drop (k + 1) w.seats)) (is_here s.member.gone (sym (ap (λ (x : Option Seat). stays (option_map (λ (y : Seat). y.member) x)) at) ∙ is)))
+    by (inr (here, behind, at)) = absurd cc
 
 pub passes : (w : World) (k : ℕ) → is_active w k ≡ false → active_behind w k ≡ active_behind w (k + 1)
 passes w k is = by (split w.seats k)
   where
     by : IsSplit w.seats k → active_behind w k ≡ active_behind w (k + 1)
-    by (inl (s, split, at)) = rw split (first_gone k s.member (members (drop (k + 1) w.seats)) (is_not_here s.member.gone (sym (ap (λ (x : Option Seat). stays (option_map (λ (y : Seat). y.member) x)) at) ∙ is)))
-    by (inr (no, none, at)) = rw (no, none) (none_active k ∙ sym (none_active (k + 1)))
+    by (inl (s, first, at)) = rw first (first_gone k s.member (members (drop (k + 1) w.seats)) (is_not_here s.member.gone (sym (ap (λ (x : Option Seat). stays (option_map (λ (y : Seat). y.member) x)) at) ∙ is)))
+    by (inr (here, behind, at)) = rw (here, behind) (none_active k ∙ sym (none_active (k + 1)))
 
 pub none_left : (w : World) (k : ℕ) → length w.seats ≤ k → active_behind w k ≡ []
 none_left w k le = rw (drop_all k w.seats le) (none_active k)
