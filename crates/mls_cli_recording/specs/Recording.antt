@@ -1,7 +1,8 @@
 -- What a recording is. Its shape is a fault before a text that isn't hex: such a text is kept, and a call with one is
 -- nothing, where the shape is right.
-use Rattle.std.specs.Prelude.{ℕ, ◌+◌, ◌==◌, ◌&&◌, ◌||◌, Bool, List, [], ◌∷◌, codes, if◌then◌else◌, Option, Some, None, option_map, is_some, Result}
+use Rattle.std.specs.Prelude.{ℕ, ◌+◌, ◌/◌, ◌%◌, ◌==◌, ◌&&◌, ◌||◌, Bool, List, [], ◌∷◌, codes, if◌then◌else◌, Option, Some, None, option_map, is_some, Result}
 use Rattle.std.specs.Str.{bytes_eq}
+use Rattle.hex.specs.Hex.{encode_lower}
 use Rattle.serde_json.specs.Data.{Data, Items, no_items, item}
 use Rattle.serde_json.specs.Find.{get, as_array, as_str}
 use Rattle.mls_cli_json.specs.HexText.{bytes_of, hex_at, seed_at}
@@ -185,17 +186,21 @@ has_parts version d = is_object_of (if (version == 2) && is_some (get (codes "fi
 abbrev pub recording_with : Option (List (List ℕ)) → List RecordedAction → Recording
 recording_with lines actions = record { actions = actions; final_lines = lines }
 
--- for the suite f001
-abbrev pub parts_in : Data → Option (Option Recording)
-parts_in d = do
+-- a suite's number in four hex digits
+abbrev pub suite_text : ℕ → List ℕ
+suite_text n = encode_lower (n / 256 ∷ n % 256 ∷ [])
+
+-- for the suite of this number
+abbrev pub parts_in : ℕ → Data → Option (Option Recording)
+parts_in number d = do
   version ← number_at (codes "version") d
   suite ← text_at (codes "suite") d
   events ← items_at (codes "events") d
-  require ((is_version version && bytes_eq suite (codes "f001")) && has_parts version d) (do
+  require ((is_version version && bytes_eq suite (suite_text number)) && has_parts version d) (do
     lines ← final_lines_in d
     actions ← each_of (recorded_in version) events
     Some (option_map (recording_with lines) actions))
 
--- What a recording has, or the number of its refusal.
-unfoldable pub recording : List ℕ → Result Recording ℕ
-recording text = value_or_number (data_in text >>= parts_in)
+-- What a recording for the suite of this number has, or the number of its refusal.
+unfoldable pub recording : ℕ → List ℕ → Result Recording ℕ
+recording number text = value_or_number (data_in text >>= parts_in number)

@@ -1,6 +1,6 @@
 //! All of a recording, read in one pass.
 
-ghost use Rattle.std.specs.Prelude.{◌≡◌, Err, option_map};
+ghost use Rattle.std.specs.Prelude.{◌≡◌, Err, IfOk, option_map, string_bytes};
 ghost use Rattle.std.specs.Str.{IsUtf8};
 ghost use Rattle.serde_json.specs.View.{view, items_view};
 ghost use Rattle.mls_wire.specs.Checks.{Answers};
@@ -8,16 +8,13 @@ ghost use Rattle.mls_cli_json.specs.Faults.{Finds, number_of};
 ghost use Rattle.mls_cli_json.specs.declared.error.JsonError.TheVariants.{BadJson};
 ghost use Rattle.mls_cli_json.specs.Lists.{each_of};
 ghost use Rattle.mls_cli_recording.specs.Calls.{recorded_view, recorded_views, recording_view, texts_view};
-ghost use Rattle.mls_cli_recording.specs.Recording.{final_lines_in, has_parts, is_version, parts_in, recorded_in, recording, texts_in};
+ghost use Rattle.mls_cli_recording.specs.Recording.{final_lines_in, has_parts, is_version, parts_in, recorded_in, recording, suite_text, texts_in};
 
 use crate::actions::{Action, action_by};
 use crate::lookup::copy_text_at;
 use mls_cli_json::{JsonError, has_members, items_at, push_found, text_at, u64_at, value_in};
 use serde_json::Value;
-use std::alloc::Global;
-
-/// The suite of recordings.
-pub const SUITE: &str = "f001";
+use std::alloc::{AllocError, Global};
 
 /// An action, and the text that its reply should have, if one is recorded.
 #[derive(Debug, Drop)]
@@ -116,9 +113,18 @@ fn has_parts(value: &Value, version: u64) -> bool
     }
 }
 
-/// Reads the parts of a recording of version 1 or 2 for the suite f001; None where a text that should be hex isn't.
-fn parts_in(alloc: Global, value: &Value) -> Result<Option<RecordedRun>, JsonError>
-    ensures { Finds (option_map recording_view) result (parts_in (view value.now)) }
+/// A suite's number in four hex digits.
+fn suite_text(alloc: Global, number: u16) -> Result<String, AllocError>
+    ensures { IfOk result (λ text. string_bytes text ≡ suite_text number) }
+{
+    let pair = [(number / 256) as u8, (number % 256) as u8];
+    hex::encode(alloc, pair.as_slice())
+}
+
+/// Reads the parts of a recording of version 1 or 2 for the suite of this number; None where a text that should be hex
+/// isn't.
+fn parts_in(alloc: Global, number: u16, value: &Value) -> Result<Option<RecordedRun>, JsonError>
+    ensures { Finds (option_map recording_view) result (parts_in number (view value.now)) }
 {
     let Some(version) = u64_at(value, "version") else {
         return Err(JsonError::BadJson);
@@ -129,7 +135,8 @@ fn parts_in(alloc: Global, value: &Value) -> Result<Option<RecordedRun>, JsonErr
     let Some(values) = items_at(value, "events") else {
         return Err(JsonError::BadJson);
     };
-    if !(is_version(version) && suite == SUITE && has_parts(value, version)) {
+    let wanted = suite_text(alloc, number)?;
+    if !(is_version(version) && suite == wanted.as_str() && has_parts(value, version)) {
         return Err(JsonError::BadJson);
     }
     let final_lines = final_lines_in(alloc, value)?;
@@ -142,17 +149,17 @@ fn parts_in(alloc: Global, value: &Value) -> Result<Option<RecordedRun>, JsonErr
     }
 }
 
-/// Reads a recording: its actions, each with the text that its reply should have, if one is recorded, and the lines
-/// that members should have in the end, if they are; or answers the fault of its shape (`BadJson` (9)), or else that a
-/// text in it isn't hex (`NotHex` (8)).
+/// Reads a recording for the suite of this number: its actions, each with the text that its reply should have, if one is recorded, and the lines
+/// that members should have in the end, if they are; or answers the fault of its shape (`BadJson` (9)), also where it is
+/// for another suite, or else that a text in it isn't hex (`NotHex` (8)).
 #[tactic(auto, unfolding(crate::specs::Recording::recording))]
-pub fn recording(alloc: Global, text: &[u8]) -> Result<RecordedRun, JsonError>
-    ensures parts { Answers recording_view number_of (recording text.now) result }
+pub fn recording(alloc: Global, number: u16, text: &[u8]) -> Result<RecordedRun, JsonError>
+    ensures parts { Answers recording_view number_of (recording number text.now) result }
     // A file that is no text is refused even when an allocation fails.
     ensures no_text { ¬ (IsUtf8 text.now) → result ≡ Err BadJson }
 {
     let value = value_in(alloc, text)?;
-    match parts_in(alloc, &value)? {
+    match parts_in(alloc, number, &value)? {
         Some(parts) => Ok(parts),
         None => Err(JsonError::NotHex),
     }

@@ -74,7 +74,7 @@ fn lines(alloc: Global, parts: &RecordedRun) -> Result<String, AllocError> {
 
 /// The lines of a recording, or the number of its refusal. Want of memory is passed on.
 fn answer(alloc: Global, file: &[u8]) -> Result<String, AllocError> {
-    match recording(alloc, file) {
+    match recording(alloc, 0xF001, file) {
         Ok(parts) => lines(alloc, &parts),
         Err(JsonError::OutOfMemory) => Err(AllocError),
         Err(error) => format!(in alloc; "{}", error.number()),

@@ -6,3 +6,4 @@ mod Ending
 mod Pages
 mod Closing
 mod Stopping
+mod Messages

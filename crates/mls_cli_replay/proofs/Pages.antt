@@ -64,7 +64,7 @@ module _ (same_run : SameRun) (same_replies : SameReplies) where
 
   -- ---- of all actions
 
-  same_actions : (c : Crypto) (w : World) (rs ss : List Recorded) → map recorded_view rs ≡ map recorded_view ss
+  pub same_actions : (c : Crypto) (w : World) (rs ss : List Recorded) → map recorded_view rs ≡ map recorded_view ss
       → (outcomes c w (actions_of rs) ≡ outcomes c w (actions_of ss)) × (run_all c w (actions_of rs) ≡ run_all c w (actions_of ss))
   unfolding outcomes run_all
   same_actions c w [] [] p = (refl, refl)
@@ -102,4 +102,4 @@ module _ (same_run : SameRun) (same_replies : SameReplies) where
   one_page c (Err n) p q e f = e ∙ sym f
 
   pub one_replay : OneReplay
-  one_replay c file p q (a, is, e) (b, are, f) = e ∙ ap (printout entry_text) (one_page c (recording file) a b is are) ∙ sym f
+  one_replay c file p q (a, is, e) (b, are, f) = e ∙ ap (printout entry_text) (one_page c (recording c.number file) a b is are) ∙ sym f

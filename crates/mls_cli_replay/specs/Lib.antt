@@ -3,3 +3,6 @@ pub mod Actions
 pub mod Replay
 pub mod ReplayLaws
 pub mod OneReplay
+pub mod Message
+pub mod DigitsLaws
+pub mod OneMessage

@@ -185,9 +185,9 @@ abbrev pub IsPageOn : Crypto → Result Recording ℕ → Page ReplayEntry → T
 IsPageOn c (Ok parts) page = (recorded : RecordedRun) × (recording_view recorded ≡ parts) × (page ≡ page_of_run c recorded)
 IsPageOn c (Err n) page = page ≡ refused n
 
--- what is printed for a file
+-- what is printed for a file, which has to be a recording for the suite
 abbrev pub IsReplay : Crypto → List ℕ → Printout → Type 0
-IsReplay c file p = (page : Page ReplayEntry) × IsPageOn c (recording file) page × (p ≡ printout entry_text page)
+IsReplay c file p = (page : Page ReplayEntry) × IsPageOn c (recording c.number file) page × (p ≡ printout entry_text page)
 
 -- the printout of a file that isn't read; there is none where memory was refused
 abbrev pub IsRefusal : JsonError → Printout → Type 0

@@ -6,11 +6,18 @@ mod deliveries;
 mod ends;
 mod line;
 mod members;
+mod message;
 mod reply;
 
 ghost use Rattle.std.specs.Prelude.{◌≡◌, ◌≢◌, ◌≤◌, ◌&&◌, IfOk, IfErr};
+ghost use Rattle.mls_wire.specs.Checks.{Answers};
 ghost use Rattle.mls_cli_text.specs.InputOutput.{write_failed};
 ghost use Rattle.mls_cli_text.specs.Page.{ending_status};
+ghost use Rattle.mls_cli_json.specs.Faults.{number_of};
+ghost use Rattle.mls_cli_recording.specs.Calls.{recording_view};
+ghost use Rattle.mls_cli_recording.specs.Recording.{recording};
+ghost use Rattle.mls_cli_replay.specs.Message.{PrintsMessage};
+ghost use Rattle.mls_cli_replay.specs.OneMessage.{OneMessage};
 ghost use Rattle.mls_cli_replay.specs.OneReplay.{OneReplay};
 ghost use Rattle.mls_cli_replay.specs.Replay.{IsRefusal, PrintsOne, PrintsPlay, PrintsRefusal, PrintsReplay, ending_by};
 
@@ -18,6 +25,7 @@ use actions::play_actions;
 pub use deliveries::Tally;
 use ends::print_end;
 pub use line::ReplayLine;
+use message::print_message;
 use mls_cli_json::JsonError;
 use mls_cli_recording::{RecordedRun, laws_of_calls, recording};
 use mls_cli_text::{Fault, Output, Page, print_page, refused_page};
@@ -79,7 +87,14 @@ fn print_error<O: Output>(alloc: Global, error: JsonError, out: &mut O) -> Resul
     }
 }
 
-/// Prints the replay of a recording, or the refusal of the file (`BadJson` (9), `NotHex` (8)), and answers the exit
+/// Reads a recording for the suite: `BadJson` (9), `NotHex` (8).
+fn recording_for<S: Suite>(alloc: Global, file: &[u8]) -> Result<RecordedRun, JsonError>
+    ensures { Answers recording_view number_of (recording S.crypto.number file.now) result }
+{
+    recording(alloc, S::NUMBER, file)
+}
+
+/// Prints the replay of a recording for the suite, or the refusal of the file (`BadJson` (9), `NotHex` (8)), and answers the exit
 /// status. The whole file is read before the first action begins, and each action's lines are printed before the next one
 /// begins, so that after a failed write no further one does.
 pub fn replay<S: Suite, O: Output>(alloc: Global, file: &[u8], out: &mut O) -> Result<u8, Fault>
@@ -90,15 +105,39 @@ pub fn replay<S: Suite, O: Output>(alloc: Global, file: &[u8], out: &mut O) -> R
     ensures fault { O.failed out.new ≡ write_failed (O.failed out.old) result }
     ensures written { IfErr result (λ e. e ≢ Fault.Read) }
 {
-    match recording(alloc, file) {
+    match recording_for::<S>(alloc, file) {
         Ok(recorded) => play::<S, O>(alloc, &recorded, out),
         Err(error) => print_error(alloc, error, out),
     }
 }
 
-/// A file has one replay at most, so the one that `replay` prints is the one that it has. The function does nothing.
+/// Prints the message that has this number when all actions of a recording for the suite are done, in hex digits, and
+/// answers the exit status; or the refusal of the file (`BadJson` (9), `NotHex` (8)), or that there is no such message
+/// (`NoSuchMessage` (94)). Nothing is compared with what is expected.
+pub fn replay_message<S: Suite, O: Output>(
+    alloc: Global,
+    file: &[u8],
+    number: usize,
+    out: &mut O,
+) -> Result<u8, Fault>
+    // The output grows by the message's text, or on a fault by less than that.
+    ensures prints { PrintsMessage O.contents out.old out.new S.crypto number file.now result }
+    ensures status { IfOk result (λ status. status ≤ 1) }
+    // A fault of the output comes just where a write fails.
+    ensures fault { O.failed out.new ≡ write_failed (O.failed out.old) result }
+    ensures written { IfErr result (λ e. e ≢ Fault.Read) }
+{
+    match recording_for::<S>(alloc, file) {
+        Ok(recorded) => print_message::<S, O>(alloc, recorded.actions.as_slice(), number, out),
+        Err(error) => print_error(alloc, error, out),
+    }
+}
+
+/// A file has one replay at most, so the one that `replay` prints is the one that it has, and so has each of its
+/// messages. The function does nothing.
 pub fn laws_of_replays()
     ensures one { OneReplay }
+    ensures message { OneMessage }
 {
     laws_of_calls();
 }
