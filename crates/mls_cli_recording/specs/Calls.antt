@@ -2,6 +2,7 @@
 use Rattle.std.specs.Prelude.{ℕ, Bool, List, map, Option, option_map, string_bytes}
 use Rattle.std.specs.Global.{Global, Vec}
 use Rattle.std.specs.declared.string.String.{String}
+use Rattle.mls_leaf.specs.declared.extension.Extension.{Extension}
 use Rattle.mls_model.specs.declared.event.Source.{Source}
 use Rattle.mls_model.specs.declared.event.Source.TheVariants as source
 use Rattle.mls_model.specs.declared.event.WorldItem.{WorldItem}
@@ -28,6 +29,8 @@ pub data CommitItem : Type 0 where
   add : MessageSource → CommitItem
   -- the leaf that is removed
   remove : ℕ → CommitItem
+  -- the types and the data of the extensions that the group is to carry
+  extensions : List (ℕ × List ℕ) → CommitItem
 
 pub data Call : Type 0 where
   -- an identity and a seed
@@ -40,6 +43,8 @@ pub data Call : Type 0 where
   propose_update : ℕ → List ℕ → Call
   -- a member and a leaf
   propose_remove : ℕ → ℕ → Call
+  -- a member, and the types and the data of extensions
+  propose_extensions : ℕ → List (ℕ × List ℕ) → Call
   -- a member, what it commits, whether a path is forced, and a seed
   commit : ℕ → List CommitItem → Bool → List ℕ → Call
   -- a member
@@ -72,10 +77,14 @@ abbrev pub source_view : Source → MessageSource
 source_view (source.Given bytes) = given bytes.items
 source_view (source.Message n) = message n
 
+abbrev pub extension_view : Extension → ℕ × List ℕ
+extension_view e = (e.kind, e.content)
+
 abbrev pub item_view : WorldItem → CommitItem
 item_view (item.RefOf s) = ref (source_view s)
 item_view (item.Add s) = add (source_view s)
 item_view (item.Remove leaf) = remove leaf
+item_view (item.Extensions list) = extensions (map extension_view list.items)
 
 abbrev pub call_view : Event → Call
 call_view (event.Candidate identity seed) = candidate identity.items seed
@@ -83,6 +92,7 @@ call_view (event.Create n group seed) = create n group.items seed
 call_view (event.ProposeAdd k s) = propose_add k (source_view s)
 call_view (event.ProposeUpdate k seed) = propose_update k seed
 call_view (event.ProposeRemove k leaf) = propose_remove k leaf
+call_view (event.ProposeExtensions k list) = propose_extensions k (map extension_view list.items)
 call_view (event.Commit k items path seed) = commit k (map item_view items.items) path seed
 call_view (event.DropPending k) = drop_pending k
 call_view (event.Deliver k s) = deliver k (source_view s)
@@ -111,3 +121,7 @@ recording_view r = record {
 -- the items of a list that was read, where all of its texts are hex
 abbrev pub item_views : Option (Vec WorldItem) → Option (List CommitItem)
 item_views found = option_map (λ (v : Vec WorldItem). map item_view v.items) found
+
+-- the extensions of a list that was read, where all of its texts are hex
+abbrev pub extension_views : Option (Vec Extension) → Option (List (ℕ × List ℕ))
+extension_views found = option_map (λ (v : Vec Extension). map extension_view v.items) found

@@ -7,8 +7,8 @@ use Rattle.serde_json.specs.Data.{Data, Items, no_items, item}
 use Rattle.serde_json.specs.Find.{get, as_array, as_str}
 use Rattle.mls_cli_json.specs.HexText.{bytes_of, hex_at, seed_at}
 use Rattle.mls_cli_json.specs.Lists.{each_of, value_or_number}
-use Rattle.mls_cli_json.specs.Json.{◌>>=◌, data_in, require, is_object_of, if_any, text_at, text_if_any, number_at, bool_at, max_u32, whole_at, items_at}
-use Rattle.mls_cli_recording.specs.Calls.{MessageSource, given, message, CommitItem, ref, add, remove, Call, candidate, create, propose_add, propose_update, propose_remove, commit, drop_pending, deliver, join, Action, call, deliver_all, RecordedAction, Recording}
+use Rattle.mls_cli_json.specs.Json.{◌>>=◌, data_in, require, is_object_of, if_any, text_at, text_if_any, number_at, bool_at, max_u16, max_u32, whole_at, items_at}
+use Rattle.mls_cli_recording.specs.Calls.{MessageSource, given, message, CommitItem, ref, add, remove, extensions, Call, candidate, create, propose_add, propose_update, propose_remove, propose_extensions, commit, drop_pending, deliver, join, Action, call, deliver_all, RecordedAction, Recording}
 
 -- ---- sources and items
 
@@ -47,14 +47,29 @@ removal_in d = do
   leaf ← whole_at max_u32 (codes "remove") d
   Some (Some (remove leaf))
 
+-- an extension, whose type may be any number of 16 bits
+abbrev pub extension_in : Data → Option (Option (ℕ × List ℕ))
+extension_in d = require (is_object_of 2 d) (do
+  kind ← whole_at max_u16 (codes "type") d
+  content ← hex_at (codes "data") d
+  Some (option_map (λ content. (kind, content)) content))
+
+abbrev pub extensions_at : List ℕ → Data → Option (Option (List (ℕ × List ℕ)))
+extensions_at key d = items_at key d >>= each_of extension_in
+
+-- the extensions that the group is to carry
+abbrev pub extensions_in : Data → Option (Option CommitItem)
+extensions_in d = option_map (option_map extensions) (extensions_at (codes "extensions") d)
+
 -- by which key is there
-abbrev pub item_by : Option Data → Option Data → Data → Option (Option CommitItem)
-item_by (Some source) added d = reference_in source
-item_by None (Some source) d = addition_in source
-item_by None None d = removal_in d
+abbrev pub item_by : Option Data → Option Data → Option Data → Data → Option (Option CommitItem)
+item_by (Some source) added listed d = reference_in source
+item_by None (Some source) listed d = addition_in source
+item_by None None (Some list) d = extensions_in d
+item_by None None None d = removal_in d
 
 abbrev pub item_in : Data → Option (Option CommitItem)
-item_in d = require (is_object_of 1 d) (item_by (get (codes "ref") d) (get (codes "add") d) d)
+item_in d = require (is_object_of 1 d) (item_by (get (codes "ref") d) (get (codes "add") d) (get (codes "extensions") d) d)
 
 abbrev pub commit_items_at : List ℕ → Data → Option (Option (List CommitItem))
 commit_items_at key d = items_at key d >>= each_of item_in
@@ -96,6 +111,12 @@ propose_remove_in d = require (has_keys 3 d) (do
   leaf ← whole_at max_u32 (codes "leaf") d
   Some (Some (propose_remove k leaf)))
 
+abbrev pub propose_extensions_in : Data → Option (Option Call)
+propose_extensions_in d = require (has_keys 3 d) (do
+  k ← number_at (codes "member") d
+  list ← extensions_at (codes "extensions") d
+  Some (option_map (propose_extensions k) list))
+
 abbrev pub commit_in : Data → Option (Option Call)
 commit_in d = require (has_keys 5 d) (do
   k ← number_at (codes "member") d
@@ -128,6 +149,7 @@ call_by op d =
     else if bytes_eq op (codes "propose_add") then propose_add_in d
     else if bytes_eq op (codes "propose_update") then propose_update_in d
     else if bytes_eq op (codes "propose_remove") then propose_remove_in d
+    else if bytes_eq op (codes "propose_extensions") then propose_extensions_in d
     else if bytes_eq op (codes "commit") then commit_in d
     else if bytes_eq op (codes "drop_pending") then drop_pending_in d
     else if bytes_eq op (codes "deliver") then deliver_in d

@@ -5,6 +5,7 @@
 
 mod actions;
 mod calls;
+mod extensions;
 mod lookup;
 mod reading;
 mod sources;

@@ -2,6 +2,7 @@
 
 use super::*;
 use mls_cli_json::JsonError;
+use mls_leaf::Extension;
 use mls_model::Event;
 use std::alloc::{AllocError, Global};
 use std::test::Fail;
@@ -9,6 +10,17 @@ use std::test::Fail;
 const BAD_JSON: &str = "9";
 
 const NOT_HEX: &str = "8";
+
+/// Extensions by their types and data.
+fn list_text(alloc: Global, list: &[Extension]) -> Result<String, AllocError> {
+    let mut text = String::new(alloc);
+    for extension in list {
+        let kind = extension.kind;
+        let data = extension.content.as_slice();
+        text.push_str(format!(in alloc; " {kind} {data:?}")?.as_str())?;
+    }
+    Ok(text)
+}
 
 /// An event as a line: its numbers, its bytes, and its seed by the first and the last byte.
 fn event_line(alloc: Global, event: &Event) -> Result<String, AllocError> {
@@ -30,6 +42,10 @@ fn event_line(alloc: Global, event: &Event) -> Result<String, AllocError> {
         }
         Event::ProposeRemove { member, leaf } => {
             format!(in alloc; "propose_remove {member} {leaf}")
+        }
+        Event::ProposeExtensions { member, extensions } => {
+            let list = list_text(alloc, extensions.as_slice())?;
+            format!(in alloc; "propose_extensions {member}{list}")
         }
         Event::Commit {
             member,
@@ -131,6 +147,14 @@ fn reads_events(rt: HostRuntime) -> Result<(), Fail> {
             "propose_remove 0 4294967295\n",
         ),
         (
+            r#"{"op":"propose_extensions","member":7,"extensions":[]}"#,
+            "propose_extensions 7\n",
+        ),
+        (
+            r#"{"op":"propose_extensions","member":7,"extensions":[{"type":61441,"data":"6869"},{"data":"","type":65535},{"type":0,"data":"fF"}]}"#,
+            "propose_extensions 7 61441 [104, 105] 65535 [] 0 [255]\n",
+        ),
+        (
             r#"{"op":"commit","member":3,"items":[{"ref":{"message":1}},{"ref":""},{"add":"aa"},{"remove":5}],"path":false,"seed":"0102030405060708090a0b0c0d0e0f101112131415161718191a1b1c1d1e1f20"}"#,
             "commit 3 [RefOf(Message(1)), RefOf(Given([])), Add(Given([170])), Remove(5)] false 1-32\n",
         ),
@@ -179,6 +203,38 @@ fn refuses_events(rt: HostRuntime) -> Result<(), Fail> {
             BAD_JSON,
         ),
         (
+            r#"{"op":"propose_extensions","member":0,"extensions":[{"type":65536,"data":""}]}"#,
+            BAD_JSON,
+        ),
+        (
+            r#"{"op":"propose_extensions","member":0,"extensions":[{"type":1.0,"data":""}]}"#,
+            BAD_JSON,
+        ),
+        (
+            r#"{"op":"propose_extensions","member":0,"extensions":[{"type":"f001","data":""}]}"#,
+            BAD_JSON,
+        ),
+        (
+            r#"{"op":"propose_extensions","member":0,"extensions":[{"type":61441}]}"#,
+            BAD_JSON,
+        ),
+        (
+            r#"{"op":"propose_extensions","member":0,"extensions":[{"type":61441,"data":"","name":""}]}"#,
+            BAD_JSON,
+        ),
+        (
+            r#"{"op":"propose_extensions","member":0,"extensions":{"type":61441,"data":""}}"#,
+            BAD_JSON,
+        ),
+        (
+            r#"{"op":"propose_extensions","member":0,"extensions":[{"type":61441,"data":"0"}]}"#,
+            NOT_HEX,
+        ),
+        (
+            r#"{"op":"propose_extensions","member":0,"extensions":[{"type":61441,"data":"0"},{"type":65536,"data":""}]}"#,
+            BAD_JSON,
+        ),
+        (
             r#"{"op":"propose_update","member":0,"seed":"01"}"#,
             BAD_JSON,
         ),
@@ -192,6 +248,14 @@ fn refuses_events(rt: HostRuntime) -> Result<(), Fail> {
         ),
         (
             r#"{"op":"commit","member":0,"items":[{"remove":1,"add":""}],"path":true,"seed":"0101010101010101010101010101010101010101010101010101010101010101"}"#,
+            BAD_JSON,
+        ),
+        (
+            r#"{"op":"commit","member":0,"items":[{"extensions":[{"type":61441,"data":"0"}]}],"path":true,"seed":"0101010101010101010101010101010101010101010101010101010101010101"}"#,
+            NOT_HEX,
+        ),
+        (
+            r#"{"op":"commit","member":0,"items":[{"extensions":[],"remove":1}],"path":true,"seed":"0101010101010101010101010101010101010101010101010101010101010101"}"#,
             BAD_JSON,
         ),
         (

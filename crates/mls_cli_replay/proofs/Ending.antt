@@ -1,9 +1,17 @@
 -- The lines of members, compared with those that are expected, one by one.
-use Rattle.std.proofs.Common.{◌≡◌, ◌∙◌, ◌<◌, ◌≤◌, ◌+◌, ◌-◌, ◌++◌, ℕ, zero, suc, List, [], ◌∷◌, Bool, true, false, Option, Some, None, option_map, option_to_list, map, max, length, slice_get, refl, ap, sym, subst, arith, append_assoc, append-nil, add-one}
+use Rattle.std.proofs.Common.{◌≡◌, ◌∙◌, ◌<◌, ◌≤◌, ◌+◌, ◌-◌, ◌==◌, ◌++◌, ℕ, zero, suc, List, [], ◌∷◌, Bool, true, false, Option, Some, None, option_map, option_to_list, map, max, length, slice_get, string_bytes, Result, Ok, Err, refl, ap, sym, subst, arith, append_assoc, append-nil, add-one}
+use Rattle.std.proofs.lemmas.Grind.{flat_map-append}
 use Rattle.std.proofs.lemmas.List.{map-append}
+use Rattle.std.proofs.lemmas.List.Folds.{flat_map-map}
+use Rattle.std.specs.Borrow.{Bor}
+use Rattle.std.specs.Global.{Global, Vec}
 use Rattle.std.specs.List.{flat_map}
+use Rattle.std.specs.Prelude.{IfErr}
+use Rattle.std.specs.declared.string.String.{String}
+use Rattle.mls_model.specs.Member.{Member}
 use Rattle.mls_model.specs.World.{Seat}
-use Rattle.mls_cli_replay.specs.Replay.{ReplayEntry, closing_entries, closing_text, difference, differences, entry_of, entry_text, final_entries, is_silent, line_at, member_entries, member_entry, missing}
+use Rattle.mls_cli_recording.specs.Calls.{texts_view}
+use Rattle.mls_cli_replay.specs.Replay.{ReplayEntry, closing_entries, closing_text, difference, differences, entry_of, entry_text, entry_words, final_entries, is_silent, line_at, member_entries, member_entry, members_text, missing, texts_of}
 use Rattle.mls_cli_replay.specs.declared.line.ReplayLine.{ReplayLine}
 use Rattle.mls_cli_replay.proofs.Playing.{entry_nonempty}
 
@@ -57,3 +65,36 @@ something_said (s ∷ ss) texts lt = entry_nonempty (member_entry 0 s.member) (f
 something_said [] [] lt = absurd (omega arith)
 something_said [] (t ∷ ts) lt =
     rw (said_first [] (t ∷ ts) (length ts) (max 0 (suc (length ts))) (omega arith)) (entry_nonempty (missing 0 t) (flat_map entry_text (differences [] (t ∷ ts) 1 (length ts))))
+
+pub if_err : {T E : Type 0} {P Q : Type 0} (r : Result T E) → (P → Q) → IfErr r (λ _. P) → IfErr r (λ _. Q)
+if_err (Ok x) f p = tt
+if_err (Err e) f p = f p
+
+-- ---- what is printed
+
+-- the line of member k by the member that is there
+pub line_by : (seats : List Seat) (k : ℕ) → line_at seats k ≡ option_map (λ (m : Member). entry_words (member_entry k m)) (option_map (λ (s : Seat). s.member) (slice_get seats k))
+line_by seats k = by (slice_get seats k)
+  where
+    by : (o : Option Seat) → option_map (λ (s : Seat). entry_words (member_entry k s.member)) o ≡ option_map (λ (m : Member). entry_words (member_entry k m)) (option_map (λ (s : Seat). s.member) o)
+    by None = refl
+    by (Some s) = refl
+
+pub closing_is : (seats : List Seat) (texts : Option (List (List ℕ))) → closing_text seats texts ≡ members_text seats ++ flat_map entry_text (final_entries seats texts)
+closing_is seats texts = flat_map-append entry_text (member_entries 0 seats) (final_entries seats texts)
+
+-- lines that say the differences have their text
+pub lines_say : (lines : List ReplayLine) (entries : List ReplayEntry) → map entry_of lines ≡ entries → flat_map (λ (l : ReplayLine). entry_text (entry_of l)) lines ≡ flat_map entry_text entries
+lines_say lines entries is = sym (flat_map-map entry_text entry_of lines) ∙ ap (flat_map entry_text) is
+
+pub silent : (lines : List ReplayLine) (entries : List ReplayEntry) (b : Bool) → map entry_of lines ≡ entries → b ≡ (length lines == 0) → b ≡ is_silent entries
+silent [] entries b is no = rw (no, ← is) refl
+silent (l ∷ ls) entries b is no = rw (no, ← is) refl
+
+-- the texts that are expected, by what is lent of them
+pub texts_lent : (lent : Option (Bor (List (String Global)))) (own : Option (Vec (String Global)))
+    → option_map (λ (t : Bor (List (String Global))). t.now) lent ≡ option_map (λ (v : Vec (String Global)). v.items) own → texts_of lent ≡ option_map texts_view own
+texts_lent None None e = refl
+texts_lent None (Some v) e = absurd cc
+texts_lent (Some t) None e = absurd cc
+texts_lent (Some t) (Some v) e = let same : t.now ≡ v.items = cc in ap (λ (xs : List (String Global)). Some (map string_bytes xs)) same

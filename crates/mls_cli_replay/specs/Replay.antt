@@ -117,10 +117,14 @@ member_entries k (s ∷ ss) = member_entry k s.member ∷ member_entries (k + 1)
 abbrev pub line_at : List Seat → ℕ → Option (List ℕ)
 line_at seats k = option_map (λ (s : Seat). entry_words (member_entry k s.member)) (slice_get seats k)
 
+-- whether this line, if there is one, is the text
+abbrev pub is_line : Option (List ℕ) → List ℕ → Bool
+is_line (Some line) text = bytes_eq line text
+is_line None text = false
+
 -- what is said where this line, if there is one, isn't the one that is expected, if one is
 abbrev pub difference : ℕ → Option (List ℕ) → Option (List ℕ) → Option ReplayEntry
-difference k (Some line) (Some text) = if bytes_eq line text then None else Some (missing k text)
-difference k None (Some text) = Some (missing k text)
+difference k line (Some text) = if is_line line text then None else Some (missing k text)
 difference k (Some line) None = Some (not_expected k)
 difference k None None = None
 

@@ -1,8 +1,8 @@
 //! What is printed in the end: a line for each member, and where these lines aren't those that are expected.
 
-ghost use Rattle.std.specs.Prelude.{◌≡◌, ◌≢◌, ◌<◌, length, map, max, slice_get, IfOk, Some, IfErr, option_map, string_bytes};
+ghost use Rattle.std.specs.Prelude.{◌≡◌, ◌≢◌, ◌<◌, ◌++◌, length, map, max, slice_get, IfOk, IfErr, OnOk, Some, option_map, option_to_list, string_bytes};
 ghost use Rattle.mls_cli_text.specs.InputOutput.{write_failed, Writes, WritesPart};
-ghost use Rattle.mls_cli_replay.specs.Replay.{closing_text, difference_by, entry_of, final_entries, is_silent, line_at, texts_of, DiffersAt, SayDifferences};
+ghost use Rattle.mls_cli_replay.specs.Replay.{closing_text, difference_by, entry_of, final_entries, is_line, is_silent, line_at, texts_of, DiffersAt, SayDifferences};
 
 use crate::line::{ReplayLine, line_words};
 use crate::members::{member_line, print_members};
@@ -29,6 +29,16 @@ fn words_at<S: Suite>(
     }
 }
 
+/// Whether these words, if there are any, are the text.
+fn is_line(words: Option<&str>, text: &str) -> bool
+    ensures { result ≡ is_line (option_map (λ t. t.now) words.entry) text.now }
+{
+    match words {
+        Some(words) => words.as_bytes() == text.as_bytes(),
+        None => false,
+    }
+}
+
 /// The line where these words of member k, if it is there, aren't those that are expected, if any are.
 fn difference_line<'a>(
     number: usize,
@@ -37,23 +47,20 @@ fn difference_line<'a>(
 ) -> Option<ReplayLine<'a>>
     ensures { option_map entry_of result ≡ difference_by number words.entry text.entry }
 {
-    match (words, text) {
-        (Some(words), Some(text)) => {
-            if words.as_bytes() == text.as_bytes() {
-                None
-            } else {
-                Some(ReplayLine::Missing {
-                    member: number,
-                    text,
-                })
+    match text {
+        Some(text) => {
+            if is_line(words, text) {
+                return None;
             }
+            Some(ReplayLine::Missing {
+                member: number,
+                text,
+            })
         }
-        (None, Some(text)) => Some(ReplayLine::Missing {
-            member: number,
-            text,
-        }),
-        (Some(_), None) => Some(ReplayLine::NotExpected { member: number }),
-        (None, None) => None,
+        None => {
+            words?;
+            Some(ReplayLine::NotExpected { member: number })
+        }
     }
 }
 
@@ -80,6 +87,34 @@ fn difference_at<'a, S: Suite>(
     Ok(difference_line(number, words.as_deref(), text_at(texts, number)))
 }
 
+/// How many numbers a member or a text has.
+fn count<S: Suite>(world: &World<S>, texts: &[String]) -> usize
+    ensures { result ≡ max (length world.now.seats) (length texts.now) }
+{
+    let members = world.member_count();
+    if members < texts.len() {
+        texts.len()
+    } else {
+        members
+    }
+}
+
+/// Adds a line, if there is one.
+fn add_line<'a>(
+    lines: &mut Vec<ReplayLine<'a>>,
+    found: Option<ReplayLine<'a>>,
+) -> Result<(), AllocError>
+    ensures { OnOk result (lines.new.items ≡ lines.old.items ++ option_to_list found) }
+{
+    match found {
+        Some(line) => {
+            lines.push(line)?;
+            Ok(())
+        }
+        None => Ok(()),
+    }
+}
+
 /// Makes a line for each number at which the lines of members aren't these texts.
 fn differences_of<'a, S: Suite>(
     alloc: Global,
@@ -91,11 +126,9 @@ fn differences_of<'a, S: Suite>(
     ensures some { IfErr result (λ _. 0 < max (length world.now.seats) (length texts.now)) }
 {
     let mut lines = Vec::new(alloc);
-    for number in 0..world.member_count().max(texts.len()) {
-        let difference = difference_at(alloc, world, number, texts)?;
-        if let Some(line) = difference {
-            lines.push(line)?;
-        }
+    for number in 0..count(world, texts) {
+        let found = difference_at(alloc, world, number, texts)?;
+        add_line(&mut lines, found)?;
     }
     Ok(lines)
 }
