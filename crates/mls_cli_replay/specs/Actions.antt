@@ -8,8 +8,9 @@ use Rattle.mls_model.specs.declared.event.Event.TheVariants as event
 use Rattle.mls_model.specs.declared.event.Reply.{Reply}
 use Rattle.mls_model.specs.declared.event.Reply.TheVariants as reply
 use Rattle.mls_model.specs.declared.event.Source.{Source}
-use Rattle.mls_model.specs.World.{World, active}
+use Rattle.mls_model.specs.World.{World}
 use Rattle.mls_model.specs.Run.{run, replies, step}
+use Rattle.mls_world_plain.specs.ActiveMembers.{active}
 use Rattle.mls_cli_recording.specs.declared.actions.Action.{Action}
 use Rattle.mls_cli_recording.specs.declared.actions.Action.TheVariants as action
 use Rattle.mls_cli_replay.specs.declared.deliveries.Tally.{Tally}

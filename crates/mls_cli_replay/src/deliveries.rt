@@ -2,7 +2,7 @@
 
 ghost use Rattle.std.specs.Prelude.{◌≡◌, IfOk, OnOk, OnErr};
 ghost use Rattle.mls_model.specs.Run.{replies, run};
-ghost use Rattle.mls_model.specs.World.{active};
+ghost use Rattle.mls_world_plain.specs.ActiveMembers.{active};
 ghost use Rattle.mls_cli_replay.specs.Actions.{counted, counted_effect, deliveries, no_deliveries, tally_of, DeliversOnce, HasRoom, HasRunPart};
 
 use mls_model::{Effect, Reply, Source};

@@ -7,6 +7,7 @@ ghost use Rattle.mls_model.specs.World as model;
 ghost use Rattle.mls_world.specs.Runs.{RunsAll};
 ghost use Rattle.mls_world_plain.specs.CallAnswers.{seated_member};
 ghost use Rattle.mls_world_plain.specs.StepAnswer.{DoesStep, RepliesEarly};
+ghost use Rattle.mls_world_plain.specs.ActiveMembers.{active};
 
 use crate::ranges::{know_event, know_events};
 use crate::replies::push_replies;
@@ -97,7 +98,7 @@ impl<S: Suite> World<S> {
 
     /// The numbers of the members that weren't removed, in order. It takes no memory.
     pub fn active(&self) -> Active<'_, S>
-        ensures { result ≡ model.active self.now.seats }
+        ensures { result ≡ active self.now.seats }
     {
         self.world.active()
     }

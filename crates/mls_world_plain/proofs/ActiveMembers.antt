@@ -3,8 +3,8 @@ use Rattle.std.proofs.Common.{◌≡◌, ◌∙◌, ◌≤◌, ◌<◌, ◌⊎�
 use Rattle.std.proofs.lemmas.Option.{slice_get_cases}
 use Rattle.std.proofs.lemmas.List.{drop_all}
 use Rattle.mls_model.specs.Member.{Member}
-use Rattle.mls_model.specs.World.{World, Seat, active_from}
-use Rattle.mls_world_plain.specs.ActiveMembers.{active_behind, is_active, stays}
+use Rattle.mls_model.specs.World.{World, Seat}
+use Rattle.mls_world_plain.specs.ActiveMembers.{active_from, active_behind, is_active, stays}
 use Rattle.mls_world_plain.specs.CallAnswers.{seated_member}
 
 abbrev members : List Seat → List Member

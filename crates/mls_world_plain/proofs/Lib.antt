@@ -13,5 +13,5 @@ pub mod Recording
 pub mod Items
 pub mod Welcomed
 pub mod EarlyChecks
-pub mod ActiveMembers
 pub mod Stepping
+pub mod ActiveMembers

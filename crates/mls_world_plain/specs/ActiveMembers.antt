@@ -1,8 +1,17 @@
 -- The members of a world that weren't removed, one by one.
-use Rattle.std.specs.Prelude.{◌≡◌, ℕ, ◌+◌, Bool, false, not, List, [], ◌∷◌, map, drop, Option, Some, None}
+use Rattle.std.specs.Prelude.{◌≡◌, ℕ, ◌+◌, Bool, false, not, if◌then◌else◌, List, [], ◌∷◌, map, drop, Option, Some, None}
 use Rattle.mls_model.specs.Member.{Member}
-use Rattle.mls_model.specs.World.{World, Seat, active_from}
+use Rattle.mls_model.specs.World.{World, Seat}
 use Rattle.mls_world_plain.specs.CallAnswers.{seated_member}
+
+-- the numbers of those of these members that weren't removed, the first of whom has number k
+unfoldable pub active_from : ℕ → List Member → List ℕ
+active_from k [] = []
+active_from k (m ∷ ms) = if m.gone then active_from (k + 1) ms else k ∷ active_from (k + 1) ms
+
+-- the numbers of the members that weren't removed, in order
+abbrev pub active : List Seat → List ℕ
+active seats = active_from 0 (map (λ (s : Seat). s.member) seats)
 
 -- the numbers of those from number k on
 abbrev pub active_behind : World → ℕ → List ℕ

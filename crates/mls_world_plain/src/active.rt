@@ -2,8 +2,7 @@
 
 ghost use Rattle.std.specs.Prelude.{◌≡◌, ◌+◌, ◌<◌, ◌^◌, length, IfSome};
 ghost use Rattle.std.specs.Iterator.{YieldsFirst, item_count};
-ghost use Rattle.mls_model.specs.World as model;
-ghost use Rattle.mls_world_plain.specs.ActiveMembers.{IsNextActive, is_active};
+ghost use Rattle.mls_world_plain.specs.ActiveMembers.{IsNextActive, active, is_active};
 
 use crate::world::PlainWorld;
 use mls_suite::Suite;
@@ -77,7 +76,7 @@ impl<S: Suite> PlainWorld<S> {
 
     /// The numbers of the members that weren't removed, in order.
     pub fn active(&self) -> Active<'_, S>
-        ensures { result ≡ model.active self.now.seats }
+        ensures { result ≡ active self.now.seats }
     {
         Active {
             world: self,

@@ -1,11 +1,11 @@
 use Rattle.std.proofs.lemmas.Result.{err_from_is_err_and}
-use Rattle.mls_test_member.proofs.Sharing.{refused_still, refused_at_end, added_follows, added_is_welcome, added_enters, added_shares_at_end}
+use Rattle.mls_test_pair.proofs.Sharing.{refused_still, refused_at_end, added_follows, added_is_welcome, added_enters, added_shares_at_end}
 use Rattle.mls_member.specs.Faults.{number_of}
 use Rattle.mls_model.specs.Verdict.{verdict}
 use Rattle.mls_model.specs.Make.{commit_call}
 use Rattle.std.proofs.Common.{true}
-use Rattle.mls_test_member.specs.Pair.{addition_of, member_by_welcome}
-use Rattle.mls_test_member.proofs.pair.admit.Goals as goal
+use Rattle.mls_test_pair.specs.Pair.{addition_of, member_by_welcome}
+use Rattle.mls_test_pair.proofs.pair.admit.Goals as goal
 
 pub returns-in_err-process-clause-refused : goal.returns-in_err-process-clause-refused
 returns-in_err-process-clause-refused g c =

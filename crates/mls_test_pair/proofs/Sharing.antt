@@ -25,7 +25,7 @@ use Rattle.mls_member.specs.declared.commit.Made.{Made}
 use Rattle.mls_member.specs.declared.error.Refusal.{Refusal}
 use Rattle.mls_member.specs.Answers.{HasMade}
 use Rattle.mls_member.specs.Faults.{number_of}
-use Rattle.mls_test_member.specs.Pair.{addition_of, member_by_welcome, IsRefusedAs}
+use Rattle.mls_test_pair.specs.Pair.{addition_of, member_by_welcome, IsRefusedAs}
 
 -- what is never refused is refused as anything
 unrefused : {A B : Type 0} (defined : Result A ℕ) (other : Result B ℕ) (e : Refusal) → ((n : ℕ) → defined ≡ Err n → ⊥) → IsRefusedAs defined e → IsRefusedAs other e

@@ -1,9 +1,9 @@
 use Rattle.std.proofs.lemmas.Result.{err_from_is_err_and}
-use Rattle.mls_test_member.proofs.Sharing.{refused_still, none_taken, none_shares}
+use Rattle.mls_test_pair.proofs.Sharing.{refused_still, none_taken, none_shares}
 use Rattle.mls_model.specs.Verdict.{verdict}
 use Rattle.mls_model.specs.Make.{commit_call}
 use Rattle.std.proofs.Common.{[], true}
-use Rattle.mls_test_member.proofs.pair.renew.Goals as goal
+use Rattle.mls_test_pair.proofs.pair.renew.Goals as goal
 
 pub returns-in_err-process-clause-refused : goal.returns-in_err-process-clause-refused
 returns-in_err-process-clause-refused g c =
