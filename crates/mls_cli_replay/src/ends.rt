@@ -66,7 +66,7 @@ fn difference_line<'a>(
 
 /// The text of that number, if there is one.
 fn text_at(texts: &[String], number: usize) -> Option<&str>
-    ensures { option_map (λ t. t.now) result ≡ slice_get (map string_bytes texts.now) number }
+    ensures { option_map (λ t. t.now) result ≡ option_map string_bytes (slice_get texts.now number) }
 {
     match texts.get(number) {
         Some(text) => Some(text.as_str()),
@@ -162,8 +162,9 @@ pub fn print_end<S: Suite, O: Output>(
     ensures fault { O.failed out.new ≡ write_failed (O.failed out.old) result }
     ensures written { IfErr result (λ e. e ≢ Fault.Read) }
 {
-    let lines = differences(alloc, world, texts)?;
+    let found = differences(alloc, world, texts)?;
     print_members(alloc, world, out)?;
-    print_lines(alloc, lines.as_slice(), out)?;
+    let lines = found.as_slice();
+    print_lines(alloc, lines, out)?;
     Ok(lines.is_empty())
 }
