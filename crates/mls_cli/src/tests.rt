@@ -6,6 +6,7 @@ mod replay;
 mod rows;
 mod suite_0001;
 mod vectors;
+mod version_2;
 
 ghost use Rattle.std.specs.Prelude.{Some};
 
