@@ -7,3 +7,4 @@ mod Pages
 mod Closing
 mod Stopping
 mod Messages
+mod FoundMessages
