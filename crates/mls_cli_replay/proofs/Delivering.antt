@@ -67,6 +67,13 @@ run_one : (c : Crypto) (w : World) (e : Event) → run c w (e ∷ []) ≡ (step 
 unfolding run
 run_one c w e = refl
 
+-- one event, and none
+pub one_run : (c : Crypto) (w v : World) (e : Event) (r : Reply) → step c w e ≡ (r, v) → v ≡ run c w (e ∷ [])
+one_run c w v e r h = sym (run_one c w e ∙ ap (λ (x : Reply × World). x.1) h)
+
+pub nothing_run : (c : Crypto) (w v : World) (es : List Event) → v ≡ w → HasRunPart c w v es
+nothing_run c w v es same = record { count = 0; world = same ∙ sym (run_nothing c w) }
+
 run_first : (c : Crypto) (w : World) (e : Event) (es : List Event) → run c w (e ∷ es) ≡ run c (step c w e).1 es
 unfolding run
 run_first c w e es = refl
