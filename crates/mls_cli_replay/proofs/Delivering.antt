@@ -1,5 +1,5 @@
 -- Deliveries, one by one: which world was reached, what was counted, and what is left.
-use Rattle.std.proofs.Common.{◌≡◌, ◌∙◌, ◌≤◌, ◌<◌, ◌^◌, ◌+◌, ℕ, suc, List, [], ◌∷◌, ◌++◌, length, map, take, drop, drop-cons, get_or, add-one, arith, refl, ap, sym, subst}
+use Rattle.std.proofs.Common.{◌≡◌, ◌∙◌, ◌≤◌, ◌<◌, ◌^◌, ◌+◌, ℕ, zero, suc, List, [], ◌∷◌, ◌++◌, length, map, take, drop, drop-cons, get_or, add-one, arith, refl, ap, sym, subst}
 use Rattle.std.proofs.Math.Seq.{take-suc}
 use Rattle.std.proofs.lemmas.List.{drop_all, map-append}
 use Rattle.mls_suite.specs.Crypto.{Crypto}
@@ -122,7 +122,7 @@ module _ (c : Crypto) (w : World) (source : Source) (all : List ℕ) (i : ℕ) (
 
 -- where it stops, those before have happened
 map_take : {X Y : Type 0} (f : X → Y) (xs : List X) (n : ℕ) → map f (take n xs) ≡ take n (map f xs)
-map_take f xs 0 = refl
+map_take f xs zero = refl
 map_take f [] (suc n) = refl
 map_take f (x ∷ xs) (suc n) = ap (λ ys. f x ∷ ys) (map_take f xs n)
 
