@@ -65,7 +65,7 @@ pub something_said : (seats : List Seat) (texts : List (List ℕ)) → 0 < max (
 unfolding member_entries
 something_said (s ∷ ss) texts lt = entry_nonempty (member_entry 0 s.member) (flat_map entry_text (member_entries 1 ss ++ final_entries (s ∷ ss) (Some texts)))
 something_said [] [] lt = absurd (omega arith)
-something_said [] (t ∷ ts) lt = first_missing t ts (max (length []) (length (t ∷ ts))) lt
+something_said [] (t ∷ ts) lt = let none : List Seat = [] in first_missing t ts (max (length none) (length (t ∷ ts))) lt
 
 pub if_err : {T E : Type 0} {P Q : Type 0} (r : Result T E) → (P → Q) → IfErr r (λ _. P) → IfErr r (λ _. Q)
 if_err (Ok x) f p = tt
