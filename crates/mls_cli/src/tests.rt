@@ -2,6 +2,7 @@
 
 mod check;
 mod ends;
+mod extensions;
 mod replay;
 mod rows;
 mod suite_0001;
