@@ -6,3 +6,4 @@ mod Pages
 mod Closing
 mod Stopping
 mod Messages
+mod FoundMessages

@@ -170,6 +170,36 @@ fn admit_and_renew<S: Suite>(
     Ok(Pair { first, second })
 }
 
+/// A candidate creates a group and admits another, and then commits with a path, which both follow.
+fn share_between<S: Suite>(
+    alloc: Global,
+    alice: &Candidate<S>,
+    bob: &Candidate<S>,
+    group_id: &[u8],
+    seeds: &Seeds,
+) -> Result<Pair<S>, Refusal>
+    requires alice { IsGoodCandidate S.crypto alice.now }
+    requires bob { IsGoodCandidate S.crypto bob.now }
+    ensures { IfOk result (λ p. ShareEpoch S.crypto p.first.value p.second.value) }
+{
+    let first = create(alloc, alice, group_id, &seeds.group)?;
+    admit_and_renew(alloc, first, bob, seeds)
+}
+
+/// A candidate creates a group and admits "bob", and then commits with a path, which both follow.
+fn share_with_bob<S: Suite>(
+    alloc: Global,
+    alice: &Candidate<S>,
+    group_id: &[u8],
+    seeds: &Seeds,
+) -> Result<Pair<S>, Refusal>
+    requires { IsGoodCandidate S.crypto alice.now }
+    ensures { IfOk result (λ p. ShareEpoch S.crypto p.first.value p.second.value) }
+{
+    let bob = candidate(alloc, b"bob", &seeds.bob)?;
+    share_between(alloc, alice, &bob, group_id, seeds)
+}
+
 /// A candidate creates a group and adds another, who joins; then the first commits, and both follow. The two hold one public
 /// state and one secret.
 pub fn share<S: Suite>(alloc: Global, group_id: &[u8], seeds: &Seeds) -> Result<Pair<S>, Refusal>
@@ -177,7 +207,5 @@ pub fn share<S: Suite>(alloc: Global, group_id: &[u8], seeds: &Seeds) -> Result<
     ensures secret { IfOk result (λ p. AgreeSecret p.first.value p.second.value) }
 {
     let alice = candidate(alloc, b"alice", &seeds.alice)?;
-    let bob = candidate(alloc, b"bob", &seeds.bob)?;
-    let first = create(alloc, &alice, group_id, &seeds.group)?;
-    admit_and_renew(alloc, first, &bob, seeds)
+    share_with_bob(alloc, &alice, group_id, seeds)
 }
