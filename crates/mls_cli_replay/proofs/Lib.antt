@@ -1,7 +1,8 @@
 pub mod PrintLaws
 mod Playing
 mod Naming
-mod Growing
+mod Delivering
+mod Ending
 mod Pages
 mod Closing
 mod Stopping
