@@ -4,15 +4,18 @@ ghost use Rattle.std.specs.Prelude.{is_some, ◌≡◌, ◌≢◌, ◌≤◌, []
 ghost use Rattle.std.specs.Io.KnownBytes.{Keeps};
 ghost use Rattle.mls_cli_text.specs.InputOutput.{out_failed, out_writer, read_failed, write_failed};
 ghost use Rattle.mls_cli_text.specs.Page.{MakesPage};
+ghost use Rattle.mls_cli_show.specs.Show.{page_of as show_page};
 ghost use Rattle.mls_cli_check.specs.Check.{check_page};
 ghost use Rattle.mls_cli.specs.Arguments.{file_of};
-ghost use Rattle.mls_cli.specs.Serving.{BeginsError, EndsWith, EndsWithoutJob, KeepsUnread, PrintsFile, PrintsRead, PrintsText, Says, ShowsHelp, WritesError, checks_of, crypto_of, fault_text, out_of_memory as memory_text, unread, unreadable};
+ghost use Rattle.mls_cli.specs.Serving.{BeginsError, EndsWith, EndsWithoutJob, KeepsUnread, PrintsFile, PrintsRead, PrintsText, ReadsFile, Says, ShowsHelp, WritesError, checks_of, crypto_of, fault_text, hex_file_page, out_of_memory as memory_text, unread, unreadable};
 
 use crate::tasks::{Job, NoJob, SuiteChoice};
 use mls_cli_check::{SuiteChecks, Unchecked, check_page};
 use mls_cli_replay::replay;
 use mls_cli_show::show_page;
-use mls_cli_text::{Fault, Input, Line, Out, Output, Page, print_made_page};
+use mls_cli_text::{
+    Fault, HEX_FILE_LIMIT, Input, Line, Out, Output, Page, print_made_page, refused_page,
+};
 use mls_cli_vectors::vectors_page;
 use mls_suite::Glass;
 use std::alloc::{AllocError, Global};
@@ -93,8 +96,20 @@ fn print_job<I: Input, O: Output>(
     ensures read { I.failed file.new ≡ read_failed (I.failed file.old) result }
     ensures unread { result ≡ Err Fault.Read → Keeps (O.contents out.old) (O.contents out.new) }
 {
-    let text = file.read_all(alloc)?;
+    let text = read_file(alloc, job, file)?;
     print_text(alloc, job, text.as_slice(), out)
+}
+
+/// Reads the file: whole, but no more of a hex file than shows that it is too long.
+fn read_file<I: Input>(alloc: Global, job: &Job<'_>, file: &mut I) -> Result<Vec<u8>, Fault>
+    ensures text { IfOk result (λ v. ReadsFile I.remaining job.now file.old v.items) }
+    ensures fault { I.failed file.new ≡ read_failed (I.failed file.old) result }
+    ensures read { IfErr result (λ e. e ≢ Fault.Write) }
+{
+    match job {
+        Job::Show { .. } | Job::Check { .. } => file.read_front(alloc, HEX_FILE_LIMIT as u64 + 1),
+        Job::Replay { .. } | Job::Vectors { .. } => file.read_all(alloc),
+    }
 }
 
 /// Prints what the job asks for of a file's text.
@@ -110,7 +125,7 @@ fn print_text<O: Output>(
     ensures written { IfErr result (λ e. e ≢ Fault.Read) }
 {
     match job {
-        Job::Show { .. } => print_made_page(alloc, show_page(alloc, text), out),
+        Job::Show { .. } => print_made_page(alloc, show_file(alloc, text), out),
         Job::Check { suite, group, .. } => {
             print_made_page(alloc, check_file(alloc, *suite, text, group), out)
         }
@@ -119,15 +134,29 @@ fn print_text<O: Output>(
     }
 }
 
-/// What is printed of a tree's file under the chosen suite.
+/// What is printed of a message's file: `TooLong` (6) alone where its text is too long.
+fn show_file(alloc: Global, text: &[u8]) -> Result<Page<Line>, AllocError>
+    ensures { MakesPage result (hex_file_page text.now (show_page text.now)) }
+{
+    if text.len() > HEX_FILE_LIMIT {
+        return Ok(refused_page(alloc, 6));
+    }
+    show_page(alloc, text)
+}
+
+/// What is printed of a tree's file under the chosen suite: `TooLong` (6) alone where its text is too long.
 fn check_file(
     alloc: Global,
     suite: SuiteChoice,
     text: &[u8],
     group: &str,
 ) -> Result<Page<Line>, AllocError>
-    ensures { MakesPage result (check_page (crypto_of suite) (checks_of suite) text.now group.now) }
+    ensures { MakesPage result (hex_file_page text.now
+        (check_page (crypto_of suite) (checks_of suite) text.now group.now)) }
 {
+    if text.len() > HEX_FILE_LIMIT {
+        return Ok(refused_page(alloc, 6));
+    }
     match suite {
         SuiteChoice::Glass => check_page::<Glass>(alloc, SuiteChecks::Made, text, group),
         SuiteChoice::Unchecked => check_page::<Unchecked>(alloc, SuiteChecks::Left, text, group),

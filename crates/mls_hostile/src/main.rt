@@ -4,6 +4,7 @@
 #![tactic(auto)]
 
 mod acts;
+mod built;
 mod changes;
 mod checks;
 mod fixed_portion;

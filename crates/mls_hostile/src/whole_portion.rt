@@ -1,8 +1,8 @@
 //! Each change of each message, to each state of each member and candidate.
 
 use crate::acts::Act;
+use crate::built::try_full_tree;
 use crate::changes::all_changes;
-use crate::checks::try_full_tree;
 use crate::groups;
 use crate::outcome::Tally;
 use crate::states::{Group, State, states_of};
@@ -62,7 +62,9 @@ pub fn run(rt: &impl Print, alloc: Global) -> Result<()> {
     print_group(rt, alloc, "an update among three", groups::update(alloc)?)?;
     print_group(rt, alloc, "a removal among three", groups::removal(alloc)?)?;
     print_group(rt, alloc, "four adds", groups::four_adds(alloc)?)?;
-    let (members, number) = try_full_tree(alloc)?;
-    println!(rt; "one more to {members} members: {number}")?;
+    let (last, members, more) = try_full_tree(alloc)?;
+    println!(rt;
+        "the last leaf of a tree is filled: {last}; one more to {members} members: {more}"
+    )?;
     Ok(())
 }

@@ -108,8 +108,8 @@ fn long_inputs(rt: HostRuntime) -> Result<(), Fail> {
     let alloc = rt.alloc();
     let long = answers_for_zeros(alloc, 4_194_305);
     gives(&rt, long, (7, 7), "4,194,305 zeros")?;
-    let longest = answers_for_zeros(alloc, 67_108_864);
-    gives(&rt, longest, (7, 7), "67,108,864 zeros")?;
-    let longer = answers_for_zeros(alloc, 67_108_865);
-    gives(&rt, longer, (6, 6), "67,108,865 zeros")
+    let longest = answers_for_zeros(alloc, INPUT_LIMIT);
+    gives(&rt, longest, (7, 7), "the longest input of zeros")?;
+    let longer = answers_for_zeros(alloc, INPUT_LIMIT + 1);
+    gives(&rt, longer, (6, 6), "a zero more")
 }

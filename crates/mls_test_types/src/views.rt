@@ -173,16 +173,16 @@ fn messages_refused(rt: HostRuntime) -> Result<(), Fail> {
     agree(&rt, rt.alloc(), &messages)
 }
 
-/// A message of 67,108,864 bytes: these in front, then a byte string of zeros that fills it up, and these behind it.
+/// A message as long as an input may be: these in front, then a byte string of zeros that fills it up, and these behind it.
 fn fill_message(alloc: Global, front: &str, behind: &str) -> Result<Vec<u8>, AllocError> {
     let mut bytes = bytes_of(alloc, front)?;
     let behind = bytes_of(alloc, behind)?;
-    let content = 67_108_860usize
+    let content = (INPUT_LIMIT - 4)
         .saturating_sub(bytes.len())
         .saturating_sub(behind.len());
     let header = (0x8000_0000 + content as u32).to_be_bytes();
     bytes.extend_from_slice(&header)?;
-    bytes.resize(67_108_864usize.saturating_sub(behind.len()), 0)?;
+    bytes.resize(INPUT_LIMIT.saturating_sub(behind.len()), 0)?;
     bytes.extend_from_slice(&behind)?;
     Ok(bytes)
 }
