@@ -17,6 +17,7 @@ use mls_types::{
 };
 use mls_world::{Candidate, Member};
 use std::alloc::Global;
+use std::io::Print;
 
 /// The joiner secret.
 const JOINER: Secret = [5; 32];
@@ -173,18 +174,12 @@ fn nearly_full(alloc: Global) -> Result<Box<Member<Glass>>> {
     Ok(Box::new(alloc, joined.member)?)
 }
 
-/// The proposal that adds a candidate.
-fn addition(alloc: Global, number: u32) -> Result<Item> {
-    let candidate = candidate(alloc, number)?;
-    let proposal = candidate.addition()?;
-    drop(candidate);
-    Ok(Item::Full(proposal))
-}
-
 /// Commits the addition of a candidate and follows that: the number of the refusal, or 0.
 fn add(alloc: Global, member: &mut Member<Glass>, number: u32) -> Result<u8> {
-    let item = addition(alloc, number)?;
-    let made = member.commit(&[item], false, &[9; 32]);
+    let candidate = candidate(alloc, number)?;
+    let addition = Item::Full(candidate.addition()?);
+    drop(candidate);
+    let made = member.commit(&[addition], false, &[9; 32]);
     match made {
         Ok(made) => {
             member.process(&made.commit)?;
@@ -196,12 +191,19 @@ fn add(alloc: Global, member: &mut Member<Glass>, number: u32) -> Result<u8> {
 
 /// What the commit is answered that fills the last leaf of a tree, how many members the tree then has, and what the
 /// commit of one more is answered.
-pub fn try_full_tree(alloc: Global) -> Result<(u8, u32, u8)> {
+fn try_full_tree(alloc: Global) -> Result<(u8, u32, u8)> {
     let mut member = nearly_full(alloc)?;
     let last = add(alloc, &mut member, MAX_LEAVES - 1)?;
     let members = member.group().tree().member_count();
     let more = add(alloc, &mut member, MAX_LEAVES)?;
     Ok((last, members, more))
+}
+
+/// Fills a tree, and prints that and what one more is answered.
+pub fn run(rt: &impl Print, alloc: Global) -> Result<()> {
+    let (last, members, more) = try_full_tree(alloc)?;
+    println!(rt; "the last leaf: {last}, one more to {members} members: {more}")?;
+    Ok(())
 }
 
 /// What a Welcome is answered whose tree has a leaf more than a tree may have, the last, which alone isn't blank; the

@@ -1,7 +1,6 @@
 //! Each change of each message, to each state of each member and candidate.
 
 use crate::acts::Act;
-use crate::built::try_full_tree;
 use crate::changes::all_changes;
 use crate::groups;
 use crate::outcome::Tally;
@@ -61,10 +60,5 @@ pub fn run(rt: &impl Print, alloc: Global) -> Result<()> {
     print_group(rt, alloc, "a pair", groups::pair(alloc)?)?;
     print_group(rt, alloc, "an update among three", groups::update(alloc)?)?;
     print_group(rt, alloc, "a removal among three", groups::removal(alloc)?)?;
-    print_group(rt, alloc, "four adds", groups::four_adds(alloc)?)?;
-    let (last, members, more) = try_full_tree(alloc)?;
-    println!(rt;
-        "the last leaf of a tree is filled: {last}; one more to {members} members: {more}"
-    )?;
-    Ok(())
+    print_group(rt, alloc, "four adds", groups::four_adds(alloc)?)
 }
