@@ -146,7 +146,7 @@ fn read_up_to<R: Read>(alloc: Global, reader: &mut R, most: u64) -> Result<Vec<u
     ensures read { IfErr result (λ e. e ≢ Fault.Write) }
 {
     let mut bytes = Vec::new(alloc);
-    let mut front = reader.by_ref().take(most);
+    let mut front = reader.take(most);
     match front.read_to_end(&mut bytes) {
         Ok(_) => Ok(bytes),
         Err(error) => Err(read_fault(&error)),

@@ -91,7 +91,7 @@ fn stops_reading_at_the_limit(rt: HostRuntime) -> Result<(), Fail> {
     for words in [["mls", "show", "FILE"], ["mls", "check", "FILE"]] {
         let (status, out) = serve_endless(rt.alloc(), words.as_slice())?;
         assert_eq!(rt; status, 1);
-        assert!(rt; out.as_slice() == b"refused: 6 TooLong\n");
+        assert!(rt; out.as_slice() == b"refused: 6 TooLong\n".as_slice());
     }
     Ok(())
 }
