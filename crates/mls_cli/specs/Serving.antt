@@ -10,7 +10,7 @@ use Rattle.mls_cli.specs.declared.tasks.SuiteChoice.TheVariants as choice
 use Rattle.mls_cli.specs.declared.tasks.Job.{Job}
 use Rattle.mls_cli.specs.declared.tasks.Job.TheVariants as job
 use Rattle.mls_cli_text.specs.InputOutput.{AppendsPart, out_failed, out_writer}
-use Rattle.mls_cli_text.specs.HexFile.{hex_file_limit}
+use Rattle.mls_cli_text.specs.HexFileLimit.{hex_file_limit}
 use Rattle.mls_cli_text.specs.Page.{Page, Printout, printout, refused}
 use Rattle.mls_cli_text.specs.Text.{Entry, line_text}
 use Rattle.mls_cli_text.specs.declared.fault.Fault.{Fault}

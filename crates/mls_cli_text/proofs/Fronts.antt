@@ -3,7 +3,7 @@ use Rattle.std.proofs.Common.{◌≡◌, ℕ, List, [], ◌++◌, take, Option, 
 use Rattle.std.specs.Option.{option_map}
 use Rattle.std.specs.Io.Take.{take_limit, take_inner, take_remaining}
 use Rattle.std.specs.declared.io.traits.Take.{Take}
-use Rattle.mls_cli_text.specs.InputOutput.{AreFront}
+use Rattle.mls_cli_text.specs.InputFront.{AreFront}
 
 front_of : (left : Option (List ℕ)) (most : ℕ) (old bs : List ℕ) → old ≡ [] → IfSome (option_map (take most) left) (λ (xs : List ℕ). bs ≡ old ++ xs) → AreFront most left bs
 front_of None most old bs none read = tt

@@ -1,12 +1,6 @@
 -- What a hex file holds: its text without the blanks at both ends, as bytes.
-use Rattle.std.specs.Prelude.{◌==◌, ◌||◌, ℕ, ◌+◌, ◌*◌, Bool, List, [], ◌∷◌, if◌then◌else◌, reverse, Option, Some, None, is_some, Result, Ok, Err}
+use Rattle.std.specs.Prelude.{◌==◌, ◌||◌, ℕ, Bool, List, [], ◌∷◌, if◌then◌else◌, reverse, Option, Some, None, is_some, Result, Ok, Err}
 use Rattle.hex.specs.Hex.{decode_of}
-use Rattle.mls_leaf.specs.Limits.{input_limit}
-
--- how many bytes the text of a hex file may have, two digits for each byte of an input and room for blanks;
--- HEX_FILE_LIMIT in the code
-abbrev pub hex_file_limit : ℕ
-hex_file_limit = 2 * input_limit + 1024
 
 -- a space, a tab, a carriage return or a line feed
 abbrev pub is_blank : ℕ → Bool

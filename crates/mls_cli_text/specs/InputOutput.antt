@@ -1,5 +1,5 @@
 -- What is written, and whether an end has failed.
-use Rattle.std.specs.Prelude.{◌≡◌, ◌⊎◌, ◌<◌, ℕ, List, ◌++◌, length, take, Bool, true, false, Option, Result, Ok, Err, IfSome, OnOk, OnErr}
+use Rattle.std.specs.Prelude.{◌≡◌, ◌⊎◌, ◌<◌, ℕ, List, ◌++◌, length, Bool, true, false, Option, Result, Ok, Err, IfSome, OnOk, OnErr}
 use Rattle.std.specs.Io.KnownBytes.{Appends, Keeps}
 use Rattle.mls_cli_text.specs.declared.fault.Fault.{Fault}
 use Rattle.mls_cli_text.specs.declared.fault.Fault.TheVariants as fault
@@ -30,10 +30,6 @@ WritesPart contents old new bs result = OnErr result (AppendsPart (contents old)
 -- these are all of the bytes that are left, where those are known
 abbrev pub AreAll : Option (List ℕ) → List ℕ → Type 0
 AreAll remaining bs = IfSome remaining (λ (all : List ℕ). bs ≡ all)
-
--- these are the bytes that are left, up to so many, where those are known
-abbrev pub AreFront : ℕ → Option (List ℕ) → List ℕ → Type 0
-AreFront most remaining bs = IfSome remaining (λ (all : List ℕ). bs ≡ take most all)
 
 -- ---- failures
 

@@ -2,7 +2,8 @@
 
 ghost use Rattle.std.specs.Prelude.{ℕ, List, Bool, Option, Some, true, false, ◌≡◌, IfOk, IfErr, ◌≢◌};
 ghost use Rattle.std.specs.IoError.{error_kind};
-ghost use Rattle.mls_cli_text.specs.InputOutput.{AreAll, AreFront, read_failed};
+ghost use Rattle.mls_cli_text.specs.InputOutput.{AreAll, read_failed};
+ghost use Rattle.mls_cli_text.specs.InputFront.{AreFront};
 
 use crate::fault::Fault;
 use std::alloc::Global;
