@@ -81,7 +81,7 @@ impl<R: Read> Input for In<R> {
                 self.failed = true;
                 Err(Fault::Read)
             }
-            other => other,
+            read => read,
         }
     }
 }
@@ -149,7 +149,7 @@ fn read_up_to<R: Read>(alloc: Global, reader: &mut R, most: u64) -> Result<Vec<u
     let mut bytes = Vec::new(alloc);
     let mut front = reader.take(most);
     match front.read_to_end(&mut bytes) {
-        Ok(_) => Ok(bytes),
+        Ok(_count) => Ok(bytes),
         Err(error) => Err(read_fault(&error)),
     }
 }
