@@ -11,7 +11,7 @@ use Rattle.mls_cli_check.specs.Check.{check_page}
 use Rattle.mls_cli_replay.specs.Replay.{PrintsOne}
 use Rattle.mls_cli.specs.declared.tasks.Job.{Job}
 use Rattle.mls_cli.specs.declared.tasks.Job.TheVariants as job
-use Rattle.mls_cli.specs.Serving.{IsPrintout, checks_of, crypto_of, hex_file_page, read_of}
+use Rattle.mls_cli.specs.Serving.{IsPrintout, checking, checks_of, hex_file_page, read_of}
 
 pub long_page : (text : List ℕ) (page : Page Entry) → hex_file_limit < length text → hex_file_page text page ≡ refused 6
 long_page text page long = cond-true (nat_lt hex_file_limit (length text)) _ _ (lt-ltb hex_file_limit (length text) long)
@@ -30,8 +30,8 @@ page_of_front text page =
 
 same_printout : (j : Job) (text : List ℕ) (p : Printout) → IsPrintout j (read_of j text) p → IsPrintout j text p
 same_printout (job.Show file) text p is = is ∙ ap (printout line_text) (page_of_front text show_page)
-same_printout (job.Check file suite group) text p is = is ∙ ap (printout line_text) (page_of_front text (λ own. check_page (crypto_of suite) (checks_of suite) own group.now))
-same_printout (job.Replay file) text p is = is
+same_printout (job.Check file suite signatures group) text p is = is ∙ ap (printout line_text) (page_of_front text (λ own. check_page (checking suite signatures) (checks_of suite signatures) own group.now))
+same_printout (job.Replay file suite message) text p is = is
 same_printout (job.Vectors file) text p is = is
 
 prints_all : (j : Job) (text : List ℕ) (old new : Option (List ℕ)) (r : Result ℕ Fault) → PrintsOne (IsPrintout j (read_of j text)) old new r → PrintsOne (IsPrintout j text) old new r

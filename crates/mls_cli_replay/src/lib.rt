@@ -4,6 +4,7 @@
 mod events;
 mod line;
 mod members;
+mod message;
 mod reply;
 
 ghost use Rattle.std.specs.Prelude.{◌≡◌, ◌≢◌, ◌≤◌, map, IfOk, IfErr};
@@ -13,12 +14,15 @@ ghost use Rattle.mls_cli_text.specs.Page.{ending_status};
 ghost use Rattle.mls_cli_json.specs.Faults.{number_of};
 ghost use Rattle.mls_cli_recording.specs.Calls.{recorded_view};
 ghost use Rattle.mls_cli_recording.specs.Recording.{recording};
+ghost use Rattle.mls_cli_replay.specs.Message.{PrintsMessage};
+ghost use Rattle.mls_cli_replay.specs.OneMessage.{OneMessage};
 ghost use Rattle.mls_cli_replay.specs.OneReplay.{OneReplay};
 ghost use Rattle.mls_cli_replay.specs.Replay.{IsRefusal, PrintsOne, PrintsPlay, PrintsRefusal, PrintsReplay, ending_by};
 
 use events::play_events;
 pub use line::ReplayLine;
 use members::print_members;
+use message::print_message;
 use mls_cli_json::JsonError;
 use mls_cli_recording::{Recorded, laws_of_calls, recording};
 use mls_cli_text::{Fault, Output, Page, print_page, refused_page};
@@ -97,9 +101,33 @@ pub fn replay<S: Suite, O: Output>(alloc: Global, file: &[u8], out: &mut O) -> R
     }
 }
 
-/// A file has one replay at most, so the one that `replay` prints is the one that it has. The function does nothing.
+/// Prints the message that has this number when all events of a recording for the suite have run, in hex digits, and
+/// answers the exit status; or the refusal of the file (`BadJson` (9), `NotHex` (8)), or that there is no such message
+/// (`NoSuchMessage` (94)). Replies aren't compared with what is expected of them.
+pub fn replay_message<S: Suite, O: Output>(
+    alloc: Global,
+    file: &[u8],
+    number: usize,
+    out: &mut O,
+) -> Result<u8, Fault>
+    // The output grows by the message's text, or on a fault by less than that.
+    ensures prints { PrintsMessage O.contents out.old out.new S.crypto number file.now result }
+    ensures status { IfOk result (λ status. status ≤ 1) }
+    // A fault of the output comes just where a write fails.
+    ensures fault { O.failed out.new ≡ write_failed (O.failed out.old) result }
+    ensures written { IfErr result (λ e. e ≢ Fault.Read) }
+{
+    match recording_for::<S>(alloc, file) {
+        Ok(recorded) => print_message::<S, O>(alloc, recorded.as_slice(), number, out),
+        Err(error) => print_error(alloc, error, out),
+    }
+}
+
+/// A file has one replay at most, so the one that `replay` prints is the one that it has, and so has each of its
+/// messages. The function does nothing.
 pub fn laws_of_replays()
     ensures one { OneReplay }
+    ensures message { OneMessage }
 {
     laws_of_calls();
 }

@@ -8,6 +8,7 @@ use Rattle.mls_wire.specs.Laws.{ok_is}
 use Rattle.mls_wire.specs.Reading.{uint}
 use Rattle.mls_wire.proofs.CheckLaws.{bind_ok}
 use Rattle.mls_wire.specs.declared.WireError.TheVariants as wire
+use Rattle.mls_leaf.specs.Faults.{number_of}
 use Rattle.mls_leaf.specs.GroupExtensions.{group_extensions, is_short}
 use Rattle.mls_leaf.specs.Limits.{input_limit}
 use Rattle.mls_leaf.specs.Proposal.{proposal}
@@ -127,7 +128,7 @@ said_long m list used made found long =
           absurd (never (give_long_list used) long (all_within m.kept m.keys.leaf list used found (items_inside k input_limit (commit_within m k le))))
     ]
 
-six_is : 6 ≢ 1
+six_is : number_of (Wire wire.TooLong) ≢ 1
 six_is e = absurd cc
 
 -- whatever its signature and its tag are

@@ -27,7 +27,7 @@ use Rattle.mls_message.specs.Speaks.{Speaks}
 use Rattle.mls_message.specs.declared.speaker.Speaker.{Speaker}
 use Rattle.mls_theorems.specs.CommitCalls.{joiner_of, epoch_of, tag_of}
 use Rattle.mls_make.proofs.Bodies.{body_is, path_due}
-use Rattle.mls_make.specs.CommitSteps.{carried_after, path_if_needed, commit_from_change, commit_from_path, commit_from_proposals}
+use Rattle.mls_make.specs.CommitSteps.{carried_after, path_if_needed, path_with, commit_from_change, commit_from_path, commit_from_proposals}
 
 -- ---- the checks before them (RFC 9420, 12.4.1)
 

@@ -141,7 +141,7 @@ struct Two {
 }
 
 /// "a" commits extensions and adds "b", who joins.
-fn two(alloc: Global) -> Result<Two, Refusal> {
+fn make_two(alloc: Global) -> Result<Two, Refusal> {
     let mut a = create_first(alloc, 1)?;
     let candidate = second(alloc)?;
     let Made { commit, welcome } = commit_both(alloc, &mut a, &candidate)?;
@@ -161,7 +161,7 @@ fn two(alloc: Global) -> Result<Two, Refusal> {
 
 /// How many bytes the commit and the Welcome have, and whether both members hold one context.
 fn sizes(alloc: Global) -> Result<(usize, usize, bool), Refusal> {
-    let two = two(alloc)?;
+    let two = make_two(alloc)?;
     let is_one = two.a.context_bytes() == two.b.context_bytes();
     Ok((two.commit, two.welcome, is_one))
 }
@@ -283,7 +283,7 @@ fn say_pathless(alloc: Global, a: &Member<Glass>) -> Result<Vec<u8>, Refusal> {
 
 /// The number that "b" refuses it with, 0 where it follows.
 fn pathless_refusal(alloc: Global) -> Result<u8, Refusal> {
-    let mut two = two(alloc)?;
+    let mut two = make_two(alloc)?;
     let message = say_pathless(alloc, &two.a)?;
     match two.b.process(&message) {
         Ok(_) => Ok(0),

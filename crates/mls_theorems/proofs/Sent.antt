@@ -32,6 +32,7 @@ use Rattle.mls_types.specs.declared.message.MlsMessage.TheVariants as message
 use Rattle.mls_types.specs.declared.public_message.PublicMessage.{PublicMessage}
 use Rattle.mls_types.specs.declared.signed.SignedContent.{SignedContent}
 use Rattle.mls_suite.specs.Crypto.{Crypto}
+use Rattle.mls_tree.specs.Tree.{max_leaves}
 use Rattle.mls_tree_model.specs.Term.{Term, width, leaf_at, leaf_of}
 use Rattle.mls_model.specs.Candidate.{unsigned_leaf, signed_leaf}
 use Rattle.mls_model.specs.Commit.{Edits, Change}

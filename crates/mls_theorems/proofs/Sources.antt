@@ -5,7 +5,7 @@ use Rattle.std.specs.Int.{w8, w16}
 use Rattle.std.specs.List.{AllByRecursion}
 use Rattle.std.proofs.lemmas.Bool.{and_parts}
 use Rattle.mls_wire.specs.CheckLaws.{required}
-use Rattle.mls_wire.proofs.CheckLaws.{bind_ok, given_ok}
+use Rattle.mls_wire.proofs.CheckLaws.{bind_ok, given_ok, require_ok}
 use Rattle.mls_wire.specs.Checks.{passed, require_some}
 use Rattle.mls_wire.specs.Format.{IsBytes}
 use Rattle.mls_wire.specs.Laws.{ok_is}
@@ -31,7 +31,7 @@ use Rattle.mls_types.specs.declared.signed.SignedContent.{SignedContent}
 use Rattle.mls_model.specs.declared.event.Source.{Source}
 use Rattle.mls_model.specs.declared.event.Source.TheVariants.{Given, Message}
 use Rattle.mls_model.specs.declared.event.WorldItem.{WorldItem}
-use Rattle.mls_model.specs.declared.event.WorldItem.TheVariants.{RefOf, Add, Remove}
+use Rattle.mls_model.specs.declared.event.WorldItem.TheVariants.{RefOf, Add, Remove, Extensions}
 use Rattle.mls_model.specs.Messages.{decode_message, is_within_limit, reference_of}
 use Rattle.mls_model.specs.EventRange.{IsSourceInRange, IsItemInRange}
 use Rattle.mls_model.specs.World.{World, bytes_of, package_in, package_of, proposal_of, item_of, items_of}
@@ -107,6 +107,9 @@ item_fits w (Add source) y all range h =
     let s = bind_ok (package_of w source) _ _ h in
     λ _. subst proposal_or_ref.Fits (ok_is _ y s.2) (add_fits s.0 (package_fits w source s.0 all range s.1))
 item_fits w (Remove leaf) y all range h = λ _. subst proposal_or_ref.Fits (ok_is _ y h) (remove_fits leaf range)
+item_fits w (Extensions list) y all range h =
+    let s = require_ok 14 (are_allowed list.items) _ _ h in
+    subst ListedFitsIfShort (ok_is _ y s.1) (extensions_fit list.items s.0)
 
 pub items_fit : (w : World) (xs : List WorldItem) (list : List ProposalOrRef) → AllBytes w → AllByRecursion IsItemInRange xs → items_of w xs ≡ Ok list → AllByRecursion ListedFitsIfShort list
 unfolding items_of

@@ -7,7 +7,7 @@ ghost use Rattle.mls_theorems.specs.CommitLaws.{EditsSound, EditsGood, EditsWith
 ghost use Rattle.mls_theorems.specs.CommitLaws.{EditsFollow, EditsFollowCommitter, EditsRenew, EditsAdd, AddsCounted};
 ghost use Rattle.mls_theorems.specs.KeyLaws.{UsedHavePassed, UsedAreOwned, MemberStands, WithAllKeys, FollowedExact, KeysNext};
 ghost use Rattle.mls_model.specs.Claims.{ReceiversClaim, JoinersClaim};
-ghost use Rattle.mls_theorems.specs.GoodMembers.{CandidatesGood, CreatorsGood, JoinersGood, AddsKeepGood, UpdatesKeepGood, RemovesKeepGood, CommitsKeepGood, DropsKeepGood, DeliveriesKeepGood};
+ghost use Rattle.mls_theorems.specs.GoodMembers.{CandidatesGood, CreatorsGood, JoinersGood, AddsKeepGood, UpdatesKeepGood, RemovesKeepGood, ExtensionsKeepGood, CommitsKeepGood, DropsKeepGood, DeliveriesKeepGood};
 ghost use Rattle.mls_theorems.specs.Journals.{PublicAgreement, SecretAgreement, CreationsAlong, JoinsAlong, JoinsHereAlong, DeliveriesAlong, StatesAlong, CallsKeepState};
 ghost use Rattle.mls_theorems.specs.CommitCalls.{MakeDid};
 ghost use Rattle.mls_theorems.specs.CommitSpelling.{CommitFits};
@@ -148,6 +148,7 @@ pub fn laws_of_good_members()
     ensures adds { AddsKeepGood }
     ensures updates { UpdatesKeepGood }
     ensures removes { RemovesKeepGood }
+    ensures extensions { ExtensionsKeepGood }
     ensures commits { CommitsKeepGood }
     ensures drops { DropsKeepGood }
     ensures deliveries { DeliveriesKeepGood }

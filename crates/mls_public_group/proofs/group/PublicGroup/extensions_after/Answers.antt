@@ -5,12 +5,12 @@ use Rattle.mls_public_group.proofs.group.PublicGroup.extensions_after.Goals as g
 
 pub returns-in-GroupContextExtensions : goal.returns-in-GroupContextExtensions
 returns-in-GroupContextExtensions c =
-    sym (list_found c.args.self.now.context.extensions c.args.used.now c.loop-one.one-index c.one-item.result _ c.loop-one-test.true c.one-item.is c.one-item.view_is _ c.in-GroupContextExtensions.is)
+    sym (list_found c.args.self.now.context.extensions c.args.used.now c.loop-one.one-index c.one-item.result _ c.loop-one-test.true c.one-item.is c.one.view_is _ c.in-GroupContextExtensions.is)
     ∙ c.loop-one.invariant
 
 pub loop-one-preserved : goal.loop-one-preserved
 loop-one-preserved c =
-    sym (list_passed c.args.self.now.context.extensions c.args.used.now c.loop-one.one-index c.one-item.result _ c.loop-one-test.true c.one-item.is c.one-item.view_is c.in_default.not-GroupContextExtensions)
+    sym (list_passed c.args.self.now.context.extensions c.args.used.now c.loop-one.one-index c.one-item.result _ c.loop-one-test.true c.one-item.is c.one.view_is c.in_default.not-GroupContextExtensions)
     ∙ c.loop-one.invariant
 
 pub returns : goal.returns
