@@ -39,6 +39,6 @@ prints_all j text old new (Ok status) (p, is, grew, same) = (p, same_printout j 
 prints_all j text old new (Err e) (inl kept) = inl kept
 prints_all j text old new (Err e) (inr (p, is, part)) = inr (p, same_printout j text p is, part)
 
-pub prints_read : (remaining : Option (List ℕ)) (j : Job) (front : List ℕ) (old new : Option (List ℕ)) (r : Result ℕ Fault) → IfSome remaining (λ (all : List ℕ). front ≡ read_of j all) → PrintsOne (IsPrintout j front) old new r → IfSome remaining (λ (all : List ℕ). PrintsOne (IsPrintout j all) old new r)
-prints_read None j front old new r is prints = tt
-prints_read (Some all) j front old new r is prints = prints_all j all old new r (subst (λ text. PrintsOne (IsPrintout j text) old new r) is prints)
+pub prints_read : (remaining : Option (List ℕ)) (j : Job) (front text : List ℕ) (old new : Option (List ℕ)) (r : Result ℕ Fault) → front ≡ text → IfSome remaining (λ (all : List ℕ). text ≡ read_of j all) → PrintsOne (IsPrintout j front) old new r → IfSome remaining (λ (all : List ℕ). PrintsOne (IsPrintout j all) old new r)
+prints_read None j front text old new r same is prints = tt
+prints_read (Some all) j front text old new r same is prints = prints_all j all old new r (subst (λ (own : List ℕ). PrintsOne (IsPrintout j own) old new r) (same ∙ is) prints)
