@@ -1,5 +1,5 @@
 -- Deliveries, one by one: which world was reached, what was counted, and what is left.
-use Rattle.std.proofs.Common.{◌≡◌, ◌∙◌, ◌≤◌, ◌<◌, ◌^◌, ◌+◌, ℕ, suc, List, [], ◌∷◌, ◌++◌, length, map, take, drop, drop-cons, get_or, add-one, arith, refl, ap, sym, subst}
+use Rattle.std.proofs.Common.{◌≡◌, ◌∙◌, ◌≤◌, ◌<◌, ◌^◌, ◌+◌, ℕ, zero, suc, List, [], ◌∷◌, ◌++◌, length, map, take, drop, drop-cons, get_or, add-one, arith, refl, ap, sym, subst}
 use Rattle.std.proofs.Math.Seq.{take-suc}
 use Rattle.std.proofs.lemmas.List.{drop_all, map-append}
 use Rattle.mls_suite.specs.Crypto.{Crypto}
@@ -67,6 +67,13 @@ run_one : (c : Crypto) (w : World) (e : Event) → run c w (e ∷ []) ≡ (step 
 unfolding run
 run_one c w e = refl
 
+-- one event, and none
+pub one_run : (c : Crypto) (w v : World) (e : Event) (r : Reply) → step c w e ≡ (r, v) → v ≡ run c w (e ∷ [])
+one_run c w v e r h = sym (run_one c w e ∙ ap (λ (x : Reply × World). x.1) h)
+
+pub nothing_run : (c : Crypto) (w v : World) (es : List Event) → v ≡ w → HasRunPart c w v es
+nothing_run c w v es same = record { count = 0; world = same ∙ sym (run_nothing c w) }
+
 run_first : (c : Crypto) (w : World) (e : Event) (es : List Event) → run c w (e ∷ es) ≡ run c (step c w e).1 es
 unfolding run
 run_first c w e es = refl
@@ -115,7 +122,7 @@ module _ (c : Crypto) (w : World) (source : Source) (all : List ℕ) (i : ℕ) (
 
 -- where it stops, those before have happened
 map_take : {X Y : Type 0} (f : X → Y) (xs : List X) (n : ℕ) → map f (take n xs) ≡ take n (map f xs)
-map_take f xs 0 = refl
+map_take f xs zero = refl
 map_take f [] (suc n) = refl
 map_take f (x ∷ xs) (suc n) = ap (λ ys. f x ∷ ys) (map_take f xs n)
 

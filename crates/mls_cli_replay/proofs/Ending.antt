@@ -56,15 +56,16 @@ compared_all seats texts most k lines le so =
 
 -- ---- something is said in the end, where there is a member or a text
 
-said_first : (seats : List Seat) (texts : List (List ℕ)) (n m : ℕ) → m ≡ suc n → differences seats texts 0 m ≡ option_to_list (difference 0 (line_at seats 0) (slice_get texts 0)) ++ differences seats texts 1 n
-said_first seats texts n m is = rw is (one_more seats texts 0 n)
+first_missing : (t : List ℕ) (ts : List (List ℕ)) (m : ℕ) → 0 < m → 0 < length (flat_map entry_text (differences [] (t ∷ ts) 0 m))
+unfolding differences
+first_missing t ts zero lt = absurd (omega arith)
+first_missing t ts (suc n) lt = entry_nonempty (missing 0 t) (flat_map entry_text (differences [] (t ∷ ts) 1 n))
 
 pub something_said : (seats : List Seat) (texts : List (List ℕ)) → 0 < max (length seats) (length texts) → 0 < length (closing_text seats (Some texts))
 unfolding member_entries
 something_said (s ∷ ss) texts lt = entry_nonempty (member_entry 0 s.member) (flat_map entry_text (member_entries 1 ss ++ final_entries (s ∷ ss) (Some texts)))
 something_said [] [] lt = absurd (omega arith)
-something_said [] (t ∷ ts) lt =
-    rw (said_first [] (t ∷ ts) (length ts) (max 0 (suc (length ts))) (omega arith)) (entry_nonempty (missing 0 t) (flat_map entry_text (differences [] (t ∷ ts) 1 (length ts))))
+something_said [] (t ∷ ts) lt = let none : List Seat = [] in first_missing t ts (max (length none) (length (t ∷ ts))) lt
 
 pub if_err : {T E : Type 0} {P Q : Type 0} (r : Result T E) → (P → Q) → IfErr r (λ _. P) → IfErr r (λ _. Q)
 if_err (Ok x) f p = tt

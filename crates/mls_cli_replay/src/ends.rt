@@ -57,10 +57,10 @@ fn difference_line<'a>(
                 text,
             })
         }
-        None => {
-            words?;
-            Some(ReplayLine::NotExpected { member: number })
-        }
+        None => match words {
+            Some(_) => Some(ReplayLine::NotExpected { member: number }),
+            None => None,
+        },
     }
 }
 
