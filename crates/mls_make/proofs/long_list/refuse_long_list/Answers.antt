@@ -6,8 +6,8 @@ use Rattle.mls_make.specs.Faults.{number_of}
 use Rattle.mls_make.proofs.LongList.{path_refused, path_made}
 use Rattle.mls_make.proofs.long_list.refuse_long_list.Goals as goal
 
-pub returns-in-Ok : goal.returns-in-Ok
-returns-in-Ok g c = λ m speaks keys other carried.
+pub returns : goal.returns
+returns g c = λ m speaks keys other carried.
     path_made g.S.Suite.crypto g.met.S.Suite.lawful m _ carried c.args.edits.now c.args.used.now c.args.wants_path c.args.seed.now _ (c.in-Ok.ensures.answer m speaks keys)
 
 pub returns-in-Err : goal.returns-in-Err
