@@ -1,5 +1,5 @@
 -- The lines of members, compared with those that are expected, one by one.
-use Rattle.std.proofs.Common.{◌≡◌, ◌∙◌, ◌<◌, ◌≤◌, ◌+◌, ◌-◌, ◌==◌, ◌++◌, ℕ, zero, suc, List, [], ◌∷◌, Bool, true, false, Option, Some, None, option_map, option_to_list, map, max, length, slice_get, string_bytes, Result, Ok, Err, refl, ap, sym, subst, arith, append_assoc, append-nil, add-one}
+use Rattle.std.proofs.Common.{◌≡◌, ◌∙◌, ◌<◌, ◌≤◌, ◌+◌, ◌-◌, ◌==◌, ◌++◌, ℕ, zero, suc, List, [], ◌∷◌, Bool, true, false, Option, Some, None, option_map, option_to_list, map, max, length, slice_get, string_bytes, Result, Ok, Err, refl, ap, sym, subst, arith, append_assoc, append-nil, add-one, ne_eqb}
 use Rattle.std.proofs.lemmas.Grind.{flat_map-append}
 use Rattle.std.proofs.lemmas.List.{map-append}
 use Rattle.std.proofs.lemmas.List.Folds.{flat_map-map}
@@ -90,7 +90,7 @@ lines_say lines entries is = sym (flat_map-map entry_text entry_of lines) ∙ ap
 
 pub silent : (lines : List ReplayLine) (entries : List ReplayEntry) (b : Bool) → map entry_of lines ≡ entries → b ≡ (length lines == 0) → b ≡ is_silent entries
 silent [] entries b is none = rw (none, ← is) refl
-silent (l ∷ ls) entries b is some = rw (some, ← is) refl
+silent (l ∷ ls) entries b is some = rw (some, ne_eqb (length (l ∷ ls)) 0 (λ e. omega (arith, e)), ← is) refl
 
 -- the texts that are expected, by what is lent of them
 pub texts_lent : (lent : Option (Bor (List (String Global)))) (own : Option (Vec (String Global)))

@@ -1,11 +1,14 @@
-use Rattle.std.proofs.Common.{◌≡◌, ◌∙◌, ap, sym, arith, map, max, length, string_bytes}
+use Rattle.std.proofs.Common.{◌≡◌, ◌∙◌, ap, sym, subst, List, arith, map, max, length, string_bytes}
 use Rattle.std.proofs.lemmas.List.{length-map}
+use Rattle.mls_cli_replay.specs.declared.line.ReplayLine.{ReplayLine}
 use Rattle.mls_cli_replay.specs.Replay.{differences}
-use Rattle.mls_cli_replay.proofs.Ending.{compared_all, compared_next, compared_none}
+use Rattle.mls_cli_replay.proofs.Ending.{Compared, compared_all, compared_next, compared_none}
 use Rattle.mls_cli_replay.proofs.ends.differences_of.Goals as goal
 
 pub loop-number-init : goal.loop-number-init
-loop-number-init g c = compared_none c.args.world.now.seats (map string_bytes c.args.texts.now) c.count-number-end.result
+loop-number-init g c =
+    subst (λ (ls : List ReplayLine). Compared c.args.world.now.seats (map string_bytes c.args.texts.now) c.count-number-end.result 0 ls) (sym c.new-lines.ensures.items)
+    (compared_none c.args.world.now.seats (map string_bytes c.args.texts.now) c.count-number-end.result)
 
 pub loop-number-preserved : goal.loop-number-preserved
 loop-number-preserved g c =

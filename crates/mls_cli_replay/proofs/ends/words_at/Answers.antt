@@ -4,9 +4,9 @@ use Rattle.mls_cli_replay.specs.Replay.{entry_words, member_entry}
 use Rattle.mls_cli_replay.proofs.Ending.{line_by}
 use Rattle.mls_cli_replay.proofs.ends.words_at.Goals as goal
 
-pub returns-in-Some : goal.returns-in-Some
-returns-in-Some g c =
-    ap Some (c.in_ok-words.ensures ∙ ap entry_words c.member_line-line.ensures)
+pub returns-in_ok-words-in-Some : goal.returns-in_ok-words-in-Some
+returns-in_ok-words-in-Some g c =
+    ap Some (c.in_ok-words-in-Some.ensures ∙ ap entry_words c.member_line-line.ensures)
     ∙ ap (option_map (λ (m : Member). entry_words (member_entry c.args.number m))) c.in-Some.ensures
     ∙ sym (line_by c.args.world.now.seats c.args.number)
 
