@@ -14,8 +14,8 @@ accepted true x e = refl
 accepted false x e = absurd cc
 
 refused : (b : Bool) (x : ℕ) → ¬ (b ≡ true) → None ≡ (if b then Some x else None)
-refused true x no = absurd (no refl)
-refused false x no = refl
+refused true x other = absurd (other refl)
+refused false x other = refl
 
 least : (n : ℕ) → n < 2 ^ 64 → n ≤ 18446744073709551615
 least n lt = omega arith
@@ -26,5 +26,5 @@ read text n short e =
     ∙ accepted (accepts false number_parser text) _ (Accepts-accepts false number_parser text (short.0, short.1, omega arith, least _ short.1))
 
 pub unread : (text : List ℕ) → ¬ (IsShort text) → None ≡ number_in text
-unread text no =
-    refused (accepts false number_parser text) _ (λ e. let passed = accepts-Accepts false number_parser text e in no (passed.0, passed.1))
+unread text other =
+    refused (accepts false number_parser text) _ (λ e. let passed = accepts-Accepts false number_parser text e in other (passed.0, passed.1))
