@@ -1,9 +1,14 @@
 -- What the command line of `mls` is, and which job the matches of its words name.
-use Rattle.std.specs.Prelude.{◌≡◌, ◌≢◌, ◌⊎◌, List, [], ◌∷◌, codes, map, Option, Some, None, option_and_then, option_map, unwrap_or, if◌then◌else◌, true}
+use Rattle.std.specs.Prelude.{◌≡◌, ◌≢◌, ◌⊎◌, ℕ, Bool, List, [], ◌∷◌, codes, map, Option, Some, None, option_and_then, option_map, unwrap_or, if◌then◌else◌, true, false}
 use Rattle.std.specs.Borrow.{Bor}
 use Rattle.std.specs.Str.{bytes_eq}
+use Rattle.std.specs.Str.Parse.{digits_value, without_leading_plus}
 use Rattle.clap.specs.Words.{App, Row, fault_of, subcommand_of, Rule, Text, first_of, new_app, new_rule, with_rule, with_subcommand}
 use Rattle.clap.specs.Kinds.{IsAmong, Kinds}
+use Rattle.clap.specs.ValueTests.{accepts}
+use Rattle.clap.specs.declared.builder.action.ArgAction.TheVariants.{SetTrue}
+use Rattle.clap.specs.declared.builder.value_parser.ValueParser.{ValueParser}
+use Rattle.clap.specs.declared.builder.value_parser.ValueParser.TheVariants as parser
 use Rattle.clap.specs.declared.error.kind.ErrorKind.{ErrorKind}
 use Rattle.clap.specs.declared.error.kind.ErrorKind.TheVariants as kind
 use Rattle.mls_cli.specs.declared.tasks.NoJob.{NoJob}
@@ -11,7 +16,7 @@ use Rattle.mls_cli.specs.declared.tasks.NoJob.TheVariants as no_job
 use Rattle.mls_cli.specs.declared.tasks.Job.{Job}
 use Rattle.mls_cli.specs.declared.tasks.Job.TheVariants.{Show, Check, Replay, Vectors}
 use Rattle.mls_cli.specs.declared.tasks.SuiteChoice.{SuiteChoice}
-use Rattle.mls_cli.specs.declared.tasks.SuiteChoice.TheVariants.{Glass, Unchecked}
+use Rattle.mls_cli.specs.declared.tasks.SuiteChoice.TheVariants.{Glass, Suite0001}
 
 -- a required FILE
 abbrev pub file_rule : Rule
@@ -28,9 +33,24 @@ suite_rule = record (new_rule (codes "SUITE")) { long = Some (codes "suite"); de
 abbrev pub group_rule : Rule
 group_rule = record (new_rule (codes "HEX")) { long = Some (codes "group") }
 
--- `check`, which takes a FILE and both options
+-- a flag --signatures
+abbrev pub signatures_rule : Rule
+signatures_rule = record (new_rule (codes "signatures")) { long = Some (codes "signatures"); action = Some SetTrue }
+
+-- an optional --message N, a number below 2^64
+abbrev pub number_parser : ValueParser
+number_parser = parser.Unsigned 0 18446744073709551615
+
+abbrev pub message_rule : Rule
+message_rule = record (new_rule (codes "N")) { long = Some (codes "message"); parser = Some number_parser }
+
+-- `check`, which takes a FILE and three options
 abbrev pub check_app : App
-check_app = with_rule (with_rule (file_app (codes "check")) suite_rule) group_rule
+check_app = with_rule (with_rule (with_rule (file_app (codes "check")) suite_rule) group_rule) signatures_rule
+
+-- `replay`, which takes a FILE and two options
+abbrev pub replay_app : App
+replay_app = with_rule (with_rule (file_app (codes "replay")) suite_rule) message_rule
 
 -- one of the subcommands is required, but for `--version`
 abbrev pub needing_subcommand : App → App
@@ -42,7 +62,7 @@ mls = needing_subcommand
     (with_subcommand
     (with_subcommand
     (with_subcommand (with_subcommand (new_app (codes "mls")) (file_app (codes "show")).top) check_app.top)
-    (file_app (codes "replay")).top)
+    replay_app.top)
     (file_app (codes "vectors")).top)
 
 -- the words with the program's name as the first
@@ -53,32 +73,46 @@ name_program (first ∷ rest) = codes "mls" ∷ rest
 -- a job without where it lies in memory
 pub data Task : Type 0 where
   show : Text → Task
-  check : Text → SuiteChoice → Text → Task
-  replay : Text → Task
+  check : Text → SuiteChoice → Bool → Text → Task
+  replay : Text → SuiteChoice → Option ℕ → Task
   vectors : Text → Task
 
 abbrev pub task_view : Job → Task
 task_view (Show file) = show file.now
-task_view (Check file suite group) = check file.now suite group.now
-task_view (Replay file) = replay file.now
+task_view (Check file suite signatures group) = check file.now suite signatures group.now
+task_view (Replay file suite message) = replay file.now suite message
 task_view (Vectors file) = vectors file.now
 
 -- a suite is named by its number in hex
 abbrev pub suite_of : Text → Option SuiteChoice
 suite_of text =
     if bytes_eq text (codes "f001") then Some Glass
-    else if bytes_eq text (codes "0001") then Some Unchecked
+    else if bytes_eq text (codes "0001") then Some Suite0001
     else None
 
+-- a flag is given where its value is the text true
+abbrev pub is_given : Option Text → Bool
+is_given None = false
+is_given (Some text) = bytes_eq text (codes "true")
+
+-- the number that decimal digits write, with a plus before them or none
+abbrev pub number_in : Text → Option ℕ
+number_in text = if accepts false number_parser text then Some (digits_value 10 (without_leading_plus text)) else None
+
 -- there is no such job where the suite has another name
-abbrev pub check_on : Option Text → Option Text → Text → Option Task
-check_on suite group file = option_map (λ s. check file s (unwrap_or group [])) (option_and_then suite_of suite)
+abbrev pub check_on : Option Text → Option Text → Option Text → Text → Option Task
+check_on suite signatures group file =
+    option_map (λ s. check file s (is_given signatures) (unwrap_or group [])) (option_and_then suite_of suite)
+
+abbrev pub replay_on : Option Text → Option Text → Text → Option Task
+replay_on suite message file =
+    option_map (λ s. replay file s (option_and_then number_in message)) (option_and_then suite_of suite)
 
 abbrev pub task_on : Text → List Row → Text → Option Task
 task_on name rows file =
     if bytes_eq name (codes "show") then Some (show file)
-    else if bytes_eq name (codes "check") then check_on (first_of (codes "SUITE") rows) (first_of (codes "HEX") rows) file
-    else if bytes_eq name (codes "replay") then Some (replay file)
+    else if bytes_eq name (codes "check") then check_on (first_of (codes "SUITE") rows) (first_of (codes "signatures") rows) (first_of (codes "HEX") rows) file
+    else if bytes_eq name (codes "replay") then replay_on (first_of (codes "SUITE") rows) (first_of (codes "N") rows) file
     else if bytes_eq name (codes "vectors") then Some (vectors file)
     else None
 
@@ -89,8 +123,8 @@ task_of found = option_and_then
 
 abbrev pub file_of : Job → Text
 file_of (Show file) = file.now
-file_of (Check file suite group) = file.now
-file_of (Replay file) = file.now
+file_of (Check file suite signatures group) = file.now
+file_of (Replay file suite message) = file.now
 file_of (Vectors file) = file.now
 
 -- ---- where there is no job
@@ -157,10 +191,20 @@ faults_behind words = fault_of mls (codes "mls" ∷ words)
 abbrev pub task_behind : List Text → Option Task
 task_behind words = task_in (codes "mls" ∷ words)
 
--- a check with the suite and the group that stand where none is given
+-- a check and a replay with what stands where no option is given
 abbrev pub plain_check : Text → Task
-plain_check file = check file Glass []
+plain_check file = check file Glass false []
 
--- a check with both options
-abbrev pub words_with_options : List Text
-words_with_options = codes "check" ∷ codes "a" ∷ codes "--suite" ∷ codes "0001" ∷ codes "--group=67" ∷ []
+abbrev pub plain_replay : Text → Task
+plain_replay file = replay file Glass None
+
+-- a check and a replay with all options
+abbrev pub words_of_check : List Text
+words_of_check = codes "check" ∷ codes "a" ∷ codes "--suite" ∷ codes "0001" ∷ codes "--signatures" ∷ codes "--group=67" ∷ []
+
+abbrev pub words_of_replay : List Text
+words_of_replay = codes "replay" ∷ codes "--message" ∷ codes "12" ∷ codes "--suite=0001" ∷ codes "a" ∷ []
+
+-- a replay whose message is no number
+abbrev pub words_of_no_number : List Text
+words_of_no_number = codes "replay" ∷ codes "a" ∷ codes "--message=x" ∷ []

@@ -17,26 +17,42 @@ use Rattle.mls_cli_text.specs.declared.fault.Fault.TheVariants as fault
 use Rattle.mls_cli_show.specs.Show.{page_of as show_page}
 use Rattle.mls_cli_check.specs.Check.{check_page}
 use Rattle.mls_cli_check.specs.Unchecked.{unchecked}
+use Rattle.mls_suite_0001.specs.Suite0001.{suite_0001}
 use Rattle.mls_cli_check.specs.declared.report.SuiteChecks.{SuiteChecks}
 use Rattle.mls_cli_check.specs.declared.report.SuiteChecks.TheVariants.{Made, Left}
 use Rattle.mls_cli_vectors.specs.VectorsReport.{entry_text, vectors_page}
 use Rattle.mls_cli_text.specs.declared.output.Out.{Out}
+use Rattle.mls_cli_replay.specs.Message.{IsMessage}
 use Rattle.mls_cli_replay.specs.Replay.{IsReplay, PrintsOne}
 
--- the suite by which a tree is checked, and whether it makes the checks that are its own functions
+-- the suite of a group
 abbrev pub crypto_of : SuiteChoice → Crypto
 crypto_of choice.Glass = glass
-crypto_of choice.Unchecked = unchecked
+crypto_of choice.Suite0001 = suite_0001
 
-abbrev pub checks_of : SuiteChoice → SuiteChecks
-checks_of choice.Glass = Made
-checks_of choice.Unchecked = Left
+-- by which suite a tree is checked, and whether that makes the checks that are its own functions: signatures under suite
+-- 0001 are checked only where that is asked for
+abbrev pub checking : SuiteChoice → Bool → Crypto
+checking choice.Glass signatures = glass
+checking choice.Suite0001 true = suite_0001
+checking choice.Suite0001 false = unchecked
+
+abbrev pub checks_of : SuiteChoice → Bool → SuiteChecks
+checks_of choice.Glass signatures = Made
+checks_of choice.Suite0001 true = Made
+checks_of choice.Suite0001 false = Left
+
+-- what is printed of a recording, or of one of its messages
+abbrev pub IsReplayOrMessage : Crypto → Option ℕ → List ℕ → Printout → Type 0
+IsReplayOrMessage c None text p = IsReplay c text p
+IsReplayOrMessage c (Some n) text p = IsMessage c n text p
 
 -- what a job prints for a file of this text
 abbrev pub IsPrintout : Job → List ℕ → Printout → Type 0
 IsPrintout (job.Show file) text p = p ≡ printout line_text (show_page text)
-IsPrintout (job.Check file suite group) text p = p ≡ printout line_text (check_page (crypto_of suite) (checks_of suite) text group.now)
-IsPrintout (job.Replay file) text p = IsReplay glass text p
+IsPrintout (job.Check file suite signatures group) text p =
+    p ≡ printout line_text (check_page (checking suite signatures) (checks_of suite signatures) text group.now)
+IsPrintout (job.Replay file suite message) text p = IsReplayOrMessage (crypto_of suite) message text p
 IsPrintout (job.Vectors file) text p = p ≡ printout entry_text (vectors_page text)
 
 -- the output grows by the text of such a printout, with its status; or the status is 3, and it grows by less than such a
@@ -117,6 +133,10 @@ PrintsRead remaining contents j reader old new result =
 abbrev pub PrintsFile : {I O : Type 0} → (I → Option (List ℕ)) → (O → Option (List ℕ)) → Job → Option I → O → O → ℕ → Type 0
 PrintsFile {I} {O} remaining contents j file old new status =
     IfSome file (λ (reader : I). IfSome (remaining reader) (λ (text : List ℕ). PrintsOrFails (IsPrintout j text) (contents old) (contents new) status))
+
+-- what is printed of a recording's text, or of one of its messages, is printed
+abbrev pub PrintsRecording : {O : Type 0} → (O → Option (List ℕ)) → SuiteChoice → Option ℕ → List ℕ → O → O → Result ℕ Fault → Type 0
+PrintsRecording contents suite message text old new result = PrintsOne (IsReplayOrMessage (crypto_of suite) message text) (contents old) (contents new) result
 
 -- a file that can't be read leaves the output as it was
 abbrev pub KeepsUnread : {I O : Type 0} → (I → Bool) → (O → Option (List ℕ)) → Option I → O → O → Type 0

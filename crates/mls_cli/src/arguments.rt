@@ -1,13 +1,13 @@
 //! The command line of `mls`, read with `clap`.
 
-ghost use Rattle.std.specs.Prelude.{◌≡◌, map, true, false, codes, Ok, Err, Some, None, IfOk, IfErr, IsSome, OnOk, ◌⊎◌, ◌∷◌, [], option_map};
+ghost use Rattle.std.specs.Prelude.{◌≡◌, map, true, false, codes, Ok, Err, Some, None, IfOk, IfErr, IsSome, OnOk, ◌⊎◌, ◌∷◌, [], option_and_then, option_map};
 ghost use Rattle.clap.specs.Words.{app_of, shape_of, first_of, found_of, kind_of, rows_of, rule_of, subcommand_of, subcommand_rows_of, takes, fault_of, FailsBy, HasKind};
 ghost use Rattle.clap.specs.declared.Command.TheViews.{out-Command as fields_of};
-ghost use Rattle.mls_cli.specs.Arguments.{ComesOf, ExplainsWords, check, check_app, check_on, faults_behind, file_app, file_rule, found_in, found_rows, given, group_rule, maybe_task, mls, needing_subcommand, plain_check, replay, show, suite_of, suite_rule, task_behind, task_in, task_of, task_on, task_view, vectors, words_with_options};
+ghost use Rattle.mls_cli.specs.Arguments.{ComesOf, ExplainsWords, check, check_app, check_on, faults_behind, file_app, file_rule, found_in, found_rows, given, group_rule, is_given, maybe_task, message_rule, mls, needing_subcommand, number_in, plain_check, plain_replay, replay, replay_app, replay_on, show, signatures_rule, suite_of, suite_rule, task_behind, task_in, task_of, task_on, task_view, vectors, words_of_check, words_of_no_number, words_of_replay};
 
 use crate::tasks::{Job, NoJob, SuiteChoice};
 use clap::error::ErrorKind;
-use clap::{Arg, ArgMatches, Command, Error};
+use clap::{Arg, ArgAction, ArgMatches, Command, Error};
 use std::alloc::{AllocError, Global};
 use std::convert::AsStr;
 
@@ -49,6 +49,26 @@ fn suite_arg<'a>(alloc: Global) -> Arg<'a>
         .help("The group's cipher suite, f001 or 0001")
 }
 
+fn signatures_arg<'a>(alloc: Global) -> Arg<'a>
+    ensures rule { rule_of result ≡ signatures_rule }
+    ensures local { result.global ≡ false }
+{
+    Arg::new(alloc, "signatures")
+        .long("signatures")
+        .action(ArgAction::SetTrue)
+        .help("Checks signatures and keys under suite 0001 too")
+}
+
+fn message_arg<'a>(alloc: Global) -> Arg<'a>
+    ensures rule { rule_of result ≡ message_rule }
+    ensures local { result.global ≡ false }
+{
+    Arg::new(alloc, "N")
+        .long("message")
+        .value_parser(clap::value_parser!(u64))
+        .help("Prints this message in hex, in place of the replies")
+}
+
 fn group_arg<'a>(alloc: Global) -> Arg<'a>
     ensures rule { rule_of result ≡ group_rule }
     ensures local { result.global ≡ false }
@@ -69,7 +89,22 @@ fn check_command<'a>(alloc: Global) -> Result<Command<'a>, AllocError>
         "A ratchet tree in hex, or - for the standard input",
     )?;
     let with_suite = command.arg(suite_arg(alloc))?;
-    with_suite.arg(group_arg(alloc))
+    let with_group = with_suite.arg(group_arg(alloc))?;
+    with_group.arg(signatures_arg(alloc))
+}
+
+fn replay_command<'a>(alloc: Global) -> Result<Command<'a>, AllocError>
+    ensures app { IfOk result (λ c. app_of c ≡ replay_app) }
+    ensures local { IfOk result (λ c. (fields_of c).has_globals ≡ false) }
+{
+    let command = file_command(
+        alloc,
+        "replay",
+        "Replays a recording of groups",
+        "A recording in JSON, or - for the standard input",
+    )?;
+    let with_suite = command.arg(suite_arg(alloc))?;
+    with_suite.arg(message_arg(alloc))
 }
 
 /// What help says of the whole, and that a subcommand is required.
@@ -94,12 +129,7 @@ fn command<'a>(alloc: Global) -> Result<Command<'a>, AllocError>
         "An MLSMessage in hex, or - for the standard input",
     )?;
     let check = check_command(alloc)?;
-    let replay = file_command(
-        alloc,
-        "replay",
-        "Replays a recording of groups",
-        "A recording in JSON, or - for the standard input",
-    )?;
+    let replay = replay_command(alloc)?;
     let vectors = file_command(
         alloc,
         "vectors",
@@ -119,24 +149,79 @@ fn suite_of(text: &str) -> Option<SuiteChoice>
 {
     match text {
         "f001" => Some(SuiteChoice::Glass),
-        "0001" => Some(SuiteChoice::Unchecked),
+        "0001" => Some(SuiteChoice::Suite0001),
         _ => None,
     }
 }
 
+/// Whether a flag with this value is given.
+fn is_given(value: Option<&str>) -> bool
+    ensures { result ≡ is_given (given value.entry) }
+{
+    match value {
+        Some(text) => text == "true",
+        None => false,
+    }
+}
+
+/// The number that a text of decimal digits writes, with a plus before them or none.
+fn number_in(text: &str) -> Option<usize>
+    ensures { result ≡ number_in text.now }
+{
+    match text.parse::<usize>() {
+        Ok(number) => Some(number),
+        Err(_) => None,
+    }
+}
+
+/// The number of a message, where a text is given that writes one.
+fn message_in(text: Option<&str>) -> Option<usize>
+    ensures { result ≡ option_and_then number_in (given text.entry) }
+{
+    match text {
+        Some(text) => number_in(text),
+        None => None,
+    }
+}
+
 /// The check that the options and FILE stand for, or None where no suite has that name.
-fn check_on<'a>(suite: Option<&str>, group: Option<&'a str>, file: &'a str) -> Option<Job<'a>>
-    ensures { maybe_task result ≡ check_on (given suite.entry) (given group.entry) file.entry.now }
+fn check_on<'a>(
+    suite: Option<&str>,
+    signatures: Option<&str>,
+    group: Option<&'a str>,
+    file: &'a str,
+) -> Option<Job<'a>>
+    ensures { maybe_task result
+        ≡ check_on (given suite.entry) (given signatures.entry) (given group.entry) file.entry.now }
 {
     let suite = suite_of(suite?)?;
+    let signatures = is_given(signatures);
     match group {
-        Some(group) => Some(Job::Check { file, suite, group }),
+        Some(group) => Some(Job::Check {
+            file,
+            suite,
+            signatures,
+            group,
+        }),
         None => Some(Job::Check {
             file,
             suite,
+            signatures,
             group: "",
         }),
     }
+}
+
+/// The replay that the options and FILE stand for, or None where no suite has that name.
+fn replay_on<'a>(suite: Option<&str>, message: Option<&str>, file: &'a str) -> Option<Job<'a>>
+    ensures { maybe_task result ≡ replay_on (given suite.entry) (given message.entry) file.entry.now }
+{
+    let chosen = suite_of(suite?)?;
+    Some(Job::Replay {
+        file,
+        suite: chosen,
+        message: message_in(message),
+    })
 }
 
 /// The job that a subcommand's name, its matches and FILE stand for, or None where no subcommand has that name.
@@ -145,8 +230,13 @@ fn job_on<'a>(name: &str, matches: &ArgMatches<'a>, file: &'a str) -> Option<Job
 {
     match name {
         "show" => Some(Job::Show { file }),
-        "check" => check_on(value_of(matches, "SUITE"), value_of(matches, "HEX"), file),
-        "replay" => Some(Job::Replay { file }),
+        "check" => check_on(
+            value_of(matches, "SUITE"),
+            value_of(matches, "signatures"),
+            value_of(matches, "HEX"),
+            file,
+        ),
+        "replay" => replay_on(value_of(matches, "SUITE"), value_of(matches, "N"), file),
         "vectors" => Some(Job::Vectors { file }),
         _ => None,
     }
@@ -165,7 +255,7 @@ pub fn job<'a, S: AsStr>(alloc: Global, words: &'a [S]) -> Result<Job<'a>, NoJob
     match parse_words(alloc, words) {
         Ok(matches) => match job_in(&matches) {
             Some(job) => Ok(job),
-            None => Err(refuse_suite(alloc, suite_in(&matches))),
+            None => Err(refuse_suite(alloc, name_in(&matches), suite_in(&matches))),
         },
         Err(error) => Err(no_job(alloc, &error)),
     }
@@ -199,26 +289,42 @@ fn no_job(alloc: Global, error: &Error) -> NoJob
     }
 }
 
-/// That no suite has the name.
-fn refuse_suite(alloc: Global, suite: &str) -> NoJob
+/// That no suite has the name that a subcommand is given.
+fn refuse_suite(alloc: Global, subcommand: &str, suite: &str) -> NoJob
     ensures { ComesOf result ErrorKind.InvalidValue }
 {
-    match suite_error(alloc, suite) {
+    match suite_error(alloc, subcommand, suite) {
         Ok(error) => no_job(alloc, &error),
         // Want of memory: the error is an `AllocError`.
         Err(_) => NoJob::OutOfMemory,
     }
 }
 
-/// As clap says it of a value that isn't among those that are possible, with the usage of `mls check`.
-fn suite_error(alloc: Global, suite: &str) -> Result<Error, AllocError>
+/// A subcommand that takes a suite, named as usage texts name it.
+fn command_with_suite<'a>(alloc: Global, subcommand: &str) -> Result<Command<'a>, AllocError> {
+    match subcommand {
+        "replay" => replay_command(alloc)?.bin_name("mls replay"),
+        _ => check_command(alloc)?.bin_name("mls check"),
+    }
+}
+
+/// As clap says it of a value that isn't among those that are possible, with the usage of the subcommand.
+fn suite_error(alloc: Global, subcommand: &str, suite: &str) -> Result<Error, AllocError>
     ensures { IfOk result (λ e. kind_of e ≡ ErrorKind.InvalidValue) }
 {
     let message = format!(in alloc;
         "invalid value '{suite}' for '--suite <SUITE>'\n  [possible values: f001, 0001]"
     )?;
-    let mut check = check_command(alloc)?.bin_name("mls check")?;
-    check.error(ErrorKind::InvalidValue, message.as_str())
+    let mut command = command_with_suite(alloc, subcommand)?;
+    command.error(ErrorKind::InvalidValue, message.as_str())
+}
+
+/// The name of the subcommand that the words have.
+fn name_in<'a>(matches: &ArgMatches<'a>) -> &'a str {
+    match matches.subcommand() {
+        Some((name, _)) => name,
+        None => "",
+    }
 }
 
 /// The suite that the words name.
@@ -275,11 +381,14 @@ pub fn examples()
     ensures version { faults_behind (codes "--version" ∷ []) ≡ ErrorKind.DisplayVersion ∷ [] }
     ensures missing { faults_behind (codes "show" ∷ []) ≡ ErrorKind.MissingRequiredArgument ∷ [] }
     ensures shows { task_behind (codes "show" ∷ codes "a" ∷ []) ≡ Some (show (codes "a")) }
-    ensures replays { task_behind (codes "replay" ∷ codes "a" ∷ []) ≡ Some (replay (codes "a")) }
+    ensures replays { task_behind (codes "replay" ∷ codes "a" ∷ []) ≡ Some (plain_replay (codes "a")) }
     ensures judges { task_behind (codes "vectors" ∷ codes "a" ∷ []) ≡ Some (vectors (codes "a")) }
     ensures checks { task_behind (codes "check" ∷ codes "a" ∷ []) ≡ Some (plain_check (codes "a")) }
-    ensures chosen { task_behind words_with_options
-        ≡ Some (check (codes "a") SuiteChoice.Unchecked (codes "67")) }
+    ensures chosen { task_behind words_of_check
+        ≡ Some (check (codes "a") SuiteChoice.Suite0001 true (codes "67")) }
+    ensures message { task_behind words_of_replay
+        ≡ Some (replay (codes "a") SuiteChoice.Suite0001 (Some 12)) }
+    ensures number { faults_behind words_of_no_number ≡ ErrorKind.ValueValidation ∷ [] }
     ensures other { task_behind (codes "check" ∷ codes "a" ∷ codes "--suite=f002" ∷ []) ≡ None }
     ensures taken { faults_behind (codes "show" ∷ codes "a" ∷ []) ≡ [] }
 {}

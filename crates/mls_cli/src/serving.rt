@@ -5,16 +5,18 @@ ghost use Rattle.std.specs.Io.KnownBytes.{Keeps};
 ghost use Rattle.mls_cli_text.specs.InputOutput.{out_failed, out_writer, read_failed, write_failed};
 ghost use Rattle.mls_cli_text.specs.Page.{MakesPage};
 ghost use Rattle.mls_cli_check.specs.Check.{check_page};
+ghost use Rattle.mls_cli_replay.specs.Replay.{PrintsOne};
 ghost use Rattle.mls_cli.specs.Arguments.{file_of};
-ghost use Rattle.mls_cli.specs.Serving.{BeginsError, EndsWith, EndsWithoutJob, KeepsUnread, PrintsFile, PrintsRead, PrintsText, Says, ShowsHelp, WritesError, checks_of, crypto_of, fault_text, out_of_memory as memory_text, unread, unreadable};
+ghost use Rattle.mls_cli.specs.Serving.{BeginsError, EndsWith, EndsWithoutJob, IsReplayOrMessage, KeepsUnread, PrintsFile, PrintsRead, PrintsRecording, PrintsText, Says, ShowsHelp, WritesError, checking, checks_of, fault_text, out_of_memory as memory_text, unread, unreadable};
 
 use crate::tasks::{Job, NoJob, SuiteChoice};
 use mls_cli_check::{SuiteChecks, Unchecked, check_page};
-use mls_cli_replay::replay;
+use mls_cli_replay::{replay, replay_message};
 use mls_cli_show::show_page;
 use mls_cli_text::{Fault, Input, Line, Out, Output, Page, print_made_page};
 use mls_cli_vectors::vectors_page;
-use mls_suite::Glass;
+use mls_suite::{Glass, Suite};
+use mls_suite_0001::Suite0001;
 use std::alloc::{AllocError, Global};
 use std::io::Write;
 
@@ -111,10 +113,19 @@ fn print_text<O: Output>(
 {
     match job {
         Job::Show { .. } => print_made_page(alloc, show_page(alloc, text), out),
-        Job::Check { suite, group, .. } => {
-            print_made_page(alloc, check_file(alloc, *suite, text, group), out)
+        Job::Check {
+            suite,
+            signatures,
+            group,
+            ..
+        } => print_made_page(
+            alloc,
+            check_file(alloc, *suite, *signatures, text, group),
+            out,
+        ),
+        Job::Replay { suite, message, .. } => {
+            print_recording(alloc, *suite, *message, text, out)
         }
-        Job::Replay { .. } => replay::<Glass, O>(alloc, text, out),
         Job::Vectors { .. } => print_made_page(alloc, vectors_page(alloc, text), out),
     }
 }
@@ -123,14 +134,59 @@ fn print_text<O: Output>(
 fn check_file(
     alloc: Global,
     suite: SuiteChoice,
+    signatures: bool,
     text: &[u8],
     group: &str,
 ) -> Result<Page<Line>, AllocError>
-    ensures { MakesPage result (check_page (crypto_of suite) (checks_of suite) text.now group.now) }
+    ensures { MakesPage result
+        (check_page (checking suite signatures) (checks_of suite signatures) text.now group.now) }
 {
     match suite {
         SuiteChoice::Glass => check_page::<Glass>(alloc, SuiteChecks::Made, text, group),
-        SuiteChoice::Unchecked => check_page::<Unchecked>(alloc, SuiteChecks::Left, text, group),
+        SuiteChoice::Suite0001 => {
+            if signatures {
+                check_page::<Suite0001>(alloc, SuiteChecks::Made, text, group)
+            } else {
+                check_page::<Unchecked>(alloc, SuiteChecks::Left, text, group)
+            }
+        }
+    }
+}
+
+/// Prints the replay of a recording for the suite, or one of its messages.
+fn print_recording<O: Output>(
+    alloc: Global,
+    suite: SuiteChoice,
+    message: Option<usize>,
+    text: &[u8],
+    out: &mut O,
+) -> Result<u8, Fault>
+    ensures prints { PrintsRecording O.contents suite message text.now out.old out.new result }
+    ensures status { IfOk result (λ status. status ≤ 1) }
+    ensures write { O.failed out.new ≡ write_failed (O.failed out.old) result }
+    ensures written { IfErr result (λ e. e ≢ Fault.Read) }
+{
+    match suite {
+        SuiteChoice::Glass => print_under::<Glass, O>(alloc, message, text, out),
+        SuiteChoice::Suite0001 => print_under::<Suite0001, O>(alloc, message, text, out),
+    }
+}
+
+fn print_under<S: Suite, O: Output>(
+    alloc: Global,
+    message: Option<usize>,
+    text: &[u8],
+    out: &mut O,
+) -> Result<u8, Fault>
+    ensures prints { PrintsOne (IsReplayOrMessage S.crypto message text.now)
+        (O.contents out.old) (O.contents out.new) result }
+    ensures status { IfOk result (λ status. status ≤ 1) }
+    ensures write { O.failed out.new ≡ write_failed (O.failed out.old) result }
+    ensures written { IfErr result (λ e. e ≢ Fault.Read) }
+{
+    match message {
+        Some(number) => replay_message::<S, O>(alloc, text, number, out),
+        None => replay::<S, O>(alloc, text, out),
     }
 }
 

@@ -2,13 +2,13 @@
 
 use std::alloc::AllocError;
 
-/// A cipher suite under which a tree can be checked.
+/// A group's cipher suite.
 #[derive(Clone, Copy, Debug, PartialEq, Eq)]
 pub enum SuiteChoice {
     /// 0xF001, the practice suite.
     Glass,
-    /// 0x0001, by a suite that checks no signature and no form of a key.
-    Unchecked,
+    /// 0x0001: X25519, AES-128-GCM, SHA-256 and Ed25519 (RFC 9420, 17.1).
+    Suite0001,
 }
 
 /// What the program is asked to do, as the words of its command line name it.
@@ -25,6 +25,8 @@ pub enum Job<'a> {
         file: &'a str,
         /// The group's cipher suite.
         suite: SuiteChoice,
+        /// Whether signatures and forms of keys are checked under 0x0001 too. Under the practice suite they always are.
+        signatures: bool,
         /// The group's id, as hex digits.
         group: &'a str,
     },
@@ -32,6 +34,10 @@ pub enum Job<'a> {
     Replay {
         /// The file's path, `-` for the standard input.
         file: &'a str,
+        /// The cipher suite that the recording is for.
+        suite: SuiteChoice,
+        /// The number of the one message that is printed, in place of all else.
+        message: Option<usize>,
     },
     /// Judge the test vectors that stand as JSON in a file.
     Vectors {
@@ -51,7 +57,7 @@ impl<'a> Job<'a> {
         match self {
             Job::Show { file }
             | Job::Check { file, .. }
-            | Job::Replay { file }
+            | Job::Replay { file, .. }
             | Job::Vectors { file } => file,
         }
     }

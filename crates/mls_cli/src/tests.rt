@@ -4,6 +4,7 @@ mod check;
 mod ends;
 mod replay;
 mod rows;
+mod suite_0001;
 mod vectors;
 
 ghost use Rattle.std.specs.Prelude.{Some};
@@ -37,10 +38,10 @@ const SHOW_HELP: &str =
     "Prints a message field by field\n\nUsage: mls show <FILE>\n\nArguments:\n  <FILE>  An MLSMessage in hex, or - for the standard input\n\nOptions:\n  -h, --help  Print help\n";
 
 const CHECK_HELP: &str =
-    "Checks a ratchet tree\n\nUsage: mls check [OPTIONS] <FILE>\n\nArguments:\n  <FILE>  A ratchet tree in hex, or - for the standard input\n\nOptions:\n      --suite <SUITE>  The group's cipher suite, f001 or 0001 [default: f001]\n      --group <HEX>    The group's id, empty by default\n  -h, --help           Print help\n";
+    "Checks a ratchet tree\n\nUsage: mls check [OPTIONS] <FILE>\n\nArguments:\n  <FILE>  A ratchet tree in hex, or - for the standard input\n\nOptions:\n      --suite <SUITE>  The group's cipher suite, f001 or 0001 [default: f001]\n      --group <HEX>    The group's id, empty by default\n      --signatures     Checks signatures and keys under suite 0001 too\n  -h, --help           Print help\n";
 
 const REPLAY_HELP: &str =
-    "Replays a recording of groups\n\nUsage: mls replay <FILE>\n\nArguments:\n  <FILE>  A recording in JSON, or - for the standard input\n\nOptions:\n  -h, --help  Print help\n";
+    "Replays a recording of groups\n\nUsage: mls replay [OPTIONS] <FILE>\n\nArguments:\n  <FILE>  A recording in JSON, or - for the standard input\n\nOptions:\n      --suite <SUITE>  The group's cipher suite, f001 or 0001 [default: f001]\n      --message <N>    Prints this message in hex, in place of the replies\n  -h, --help           Print help\n";
 
 const VECTORS_HELP: &str =
     "Judges test vectors\n\nUsage: mls vectors <FILE>\n\nArguments:\n  <FILE>  A JSON array of vectors, or - for the standard input\n\nOptions:\n  -h, --help  Print help\n";

@@ -1,7 +1,8 @@
 -- What a recording is. Its shape is a fault before a text that isn't hex: such a text is kept, and a call with one is
 -- nothing, where the shape is right.
-use Rattle.std.specs.Prelude.{ℕ, ◌+◌, ◌==◌, ◌&&◌, Bool, List, codes, if◌then◌else◌, Option, Some, None, option_map, is_some, Result}
+use Rattle.std.specs.Prelude.{ℕ, ◌+◌, ◌/◌, ◌%◌, ◌==◌, ◌&&◌, Bool, List, [], ◌∷◌, codes, if◌then◌else◌, Option, Some, None, option_map, is_some, Result}
 use Rattle.std.specs.Str.{bytes_eq}
+use Rattle.hex.specs.Hex.{encode_lower}
 use Rattle.serde_json.specs.Data.{Data}
 use Rattle.serde_json.specs.Find.{get, as_str}
 use Rattle.mls_cli_json.specs.HexText.{bytes_of, hex_at, seed_at}
@@ -145,14 +146,19 @@ recorded_in d = do
   call ← call_by op d
   Some (option_map (recorded_with expect) call)
 
--- of version 1, for the suite f001
-abbrev pub events_in : Data → Option (Option (List RecordedCall))
-events_in d = require (is_object_of 3 d) (do
+-- a suite's number in four hex digits
+abbrev pub suite_text : ℕ → List ℕ
+suite_text n = encode_lower (n / 256 ∷ n % 256 ∷ [])
+
+-- of version 1, for the suite of this number
+abbrev pub events_in : ℕ → Data → Option (Option (List RecordedCall))
+events_in number d = require (is_object_of 3 d) (do
   version ← number_at (codes "version") d
   suite ← text_at (codes "suite") d
   events ← items_at (codes "events") d
-  require ((version == 1) && bytes_eq suite (codes "f001")) (each_of recorded_in events))
+  require ((version == 1) && bytes_eq suite (suite_text number)) (each_of recorded_in events))
 
--- The calls that a recording has, each with the reply that it should have, or the number of its refusal.
-unfoldable pub recording : List ℕ → Result (List RecordedCall) ℕ
-recording text = value_or_number (data_in text >>= events_in)
+-- The calls that a recording for the suite of this number has, each with the reply that it should have, or the number of
+-- its refusal.
+unfoldable pub recording : ℕ → List ℕ → Result (List RecordedCall) ℕ
+recording number text = value_or_number (data_in text >>= events_in number)

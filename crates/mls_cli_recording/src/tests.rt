@@ -59,7 +59,7 @@ fn lines(alloc: Global, list: &[Recorded]) -> Result<String, AllocError> {
 
 /// The lines of a recording, or the number of its refusal. Want of memory is passed on.
 fn answer(alloc: Global, file: &[u8]) -> Result<String, AllocError> {
-    match recording(alloc, file) {
+    match recording(alloc, 0xF001, file) {
         Ok(list) => lines(alloc, list.as_slice()),
         Err(JsonError::OutOfMemory) => Err(AllocError),
         Err(error) => format!(in alloc; "{}", error.number()),

@@ -52,18 +52,18 @@ closing c rs old new now w v met status begun is meets answers first second = (
 
 -- ---- a file's replay
 
-pub is_replay : (c : Crypto) (file : List ℕ) (rs : List Recorded) → recording file ≡ Ok (map recorded_view rs) → IsReplay c file (printout entry_text (played_page c rs))
+pub is_replay : (c : Crypto) (file : List ℕ) (rs : List Recorded) → recording c.number file ≡ Ok (map recorded_view rs) → IsReplay c file (printout entry_text (played_page c rs))
 is_replay c file rs e = (played_page c rs, rw e (rs, refl, refl), refl)
 
-is_refused : (c : Crypto) (file : List ℕ) (n : ℕ) → recording file ≡ Err n → IsReplay c file (printout entry_text (refused n))
+is_refused : (c : Crypto) (file : List ℕ) (n : ℕ) → recording c.number file ≡ Err n → IsReplay c file (printout entry_text (refused n))
 is_refused c file n e = (refused n, rw e refl, refl)
 
-refusal_is : (c : Crypto) (file : List ℕ) (e : JsonError) → (number_of e ≢ 1 → recording file ≡ Err (number_of e)) → (p : Printout) → IsRefusal e p → IsReplay c file p
+refusal_is : (c : Crypto) (file : List ℕ) (e : JsonError) → (number_of e ≢ 1 → recording c.number file ≡ Err (number_of e)) → (p : Printout) → IsRefusal e p → IsReplay c file p
 refusal_is c file error.OutOfMemory is p never = absurd never
 refusal_is c file error.NotHex is p same = subst (IsReplay c file) (sym same) (is_refused c file 8 (is (λ q. omega arith)))
 refusal_is c file error.BadJson is p same = subst (IsReplay c file) (sym same) (is_refused c file 9 (is (λ q. omega arith)))
 
-pub refusal_prints : (c : Crypto) (file : List ℕ) (e : JsonError) (old new : Option (List ℕ)) (r : Result ℕ Fault) → (number_of e ≢ 1 → recording file ≡ Err (number_of e))
+pub refusal_prints : (c : Crypto) (file : List ℕ) (e : JsonError) (old new : Option (List ℕ)) (r : Result ℕ Fault) → (number_of e ≢ 1 → recording c.number file ≡ Err (number_of e))
     → PrintsOne (IsRefusal e) old new r → PrintsOne (IsReplay c file) old new r
 refusal_prints c file e old new (Ok status) is (p, same, grew, answers) = (p, refusal_is c file e is p same, grew, answers)
 refusal_prints c file e old new (Err f) is (inl kept) = inl kept

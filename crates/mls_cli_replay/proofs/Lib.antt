@@ -5,3 +5,4 @@ mod Growing
 mod Pages
 mod Closing
 mod Stopping
+mod Messages

@@ -12,7 +12,7 @@ use Rattle.mls_cli_recording.specs.declared.reading.Recorded.{Recorded}
 use Rattle.mls_cli_replay.specs.Replay.{IsPageOn, ReplayEntry, all_met, ending_by, entry_text, events_of, expectation, expectations_of, member_entries, played_entries, played_page, reply_entries}
 use Rattle.mls_cli_replay.specs.OneReplay.{OneReplay}
 
-calls_of : (rs : List Recorded) → map call_view (events_of rs) ≡ map (λ (x : RecordedCall). x.call) (map recorded_view rs)
+pub calls_of : (rs : List Recorded) → map call_view (events_of rs) ≡ map (λ (x : RecordedCall). x.call) (map recorded_view rs)
 calls_of [] = refl
 calls_of (r ∷ rs) = ap (λ (xs : List Call). call_view r.event ∷ xs) (calls_of rs)
 
@@ -41,4 +41,4 @@ module _ (same_run : SameRun) (same_replies : SameReplies) where
   one_page c (Err n) p q e f = e ∙ sym f
 
   pub one_replay : OneReplay
-  one_replay c file p q (a, is, e) (b, are, f) = e ∙ ap (printout entry_text) (one_page c (recording file) a b is are) ∙ sym f
+  one_replay c file p q (a, is, e) (b, are, f) = e ∙ ap (printout entry_text) (one_page c (recording c.number file) a b is are) ∙ sym f

@@ -2,3 +2,6 @@ pub mod Reply
 pub mod Replay
 pub mod ReplayLaws
 pub mod OneReplay
+pub mod Message
+pub mod DigitsLaws
+pub mod OneMessage

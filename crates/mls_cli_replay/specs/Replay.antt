@@ -124,9 +124,9 @@ abbrev pub IsPageOn : Crypto → Result (List RecordedCall) ℕ → Page ReplayE
 IsPageOn c (Ok calls) page = (recorded : List Recorded) × (map recorded_view recorded ≡ calls) × (page ≡ played_page c recorded)
 IsPageOn c (Err n) page = page ≡ refused n
 
--- what is printed for a file
+-- what is printed for a file, which has to be a recording for the suite
 abbrev pub IsReplay : Crypto → List ℕ → Printout → Type 0
-IsReplay c file p = (page : Page ReplayEntry) × IsPageOn c (recording file) page × (p ≡ printout entry_text page)
+IsReplay c file p = (page : Page ReplayEntry) × IsPageOn c (recording c.number file) page × (p ≡ printout entry_text page)
 
 -- the printout of a file that isn't read; there is none where memory was refused
 abbrev pub IsRefusal : JsonError → Printout → Type 0

@@ -4,17 +4,25 @@
 mod events;
 mod line;
 mod members;
+mod message;
 mod reply;
 
-ghost use Rattle.std.specs.Prelude.{◌≡◌, ◌≢◌, ◌≤◌, IfOk, IfErr};
+ghost use Rattle.std.specs.Prelude.{◌≡◌, ◌≢◌, ◌≤◌, map, IfOk, IfErr};
+ghost use Rattle.mls_wire.specs.Checks.{Answers};
 ghost use Rattle.mls_cli_text.specs.InputOutput.{write_failed};
 ghost use Rattle.mls_cli_text.specs.Page.{ending_status};
+ghost use Rattle.mls_cli_json.specs.Faults.{number_of};
+ghost use Rattle.mls_cli_recording.specs.Calls.{recorded_view};
+ghost use Rattle.mls_cli_recording.specs.Recording.{recording};
+ghost use Rattle.mls_cli_replay.specs.Message.{PrintsMessage};
+ghost use Rattle.mls_cli_replay.specs.OneMessage.{OneMessage};
 ghost use Rattle.mls_cli_replay.specs.OneReplay.{OneReplay};
 ghost use Rattle.mls_cli_replay.specs.Replay.{IsRefusal, PrintsOne, PrintsPlay, PrintsRefusal, PrintsReplay, ending_by};
 
 use events::play_events;
 pub use line::ReplayLine;
 use members::print_members;
+use message::print_message;
 use mls_cli_json::JsonError;
 use mls_cli_recording::{Recorded, laws_of_calls, recording};
 use mls_cli_text::{Fault, Output, Page, print_page, refused_page};
@@ -69,8 +77,15 @@ fn print_error<O: Output>(alloc: Global, error: JsonError, out: &mut O) -> Resul
     }
 }
 
-/// Prints the replay of a recording, or the refusal of the file (`BadJson` (9), `NotHex` (8)), and answers the exit
-/// status. The whole file is read before the first event runs, and each event's lines are printed before the next one
+/// Reads a recording for the suite: `BadJson` (9), `NotHex` (8).
+fn recording_for<S: Suite>(alloc: Global, file: &[u8]) -> Result<Vec<Recorded>, JsonError>
+    ensures { Answers (λ v. map recorded_view v.items) number_of (recording S.crypto.number file.now) result }
+{
+    recording(alloc, S::NUMBER, file)
+}
+
+/// Prints the replay of a recording for the suite, or the refusal of the file (`BadJson` (9), `NotHex` (8)), and answers
+/// the exit status. The whole file is read before the first event runs, and each event's lines are printed before the next one
 /// runs, so that after a failed write no further event does.
 pub fn replay<S: Suite, O: Output>(alloc: Global, file: &[u8], out: &mut O) -> Result<u8, Fault>
     // The output grows by the replay's text, or on a fault by less than that.
@@ -80,15 +95,39 @@ pub fn replay<S: Suite, O: Output>(alloc: Global, file: &[u8], out: &mut O) -> R
     ensures fault { O.failed out.new ≡ write_failed (O.failed out.old) result }
     ensures written { IfErr result (λ e. e ≢ Fault.Read) }
 {
-    match recording(alloc, file) {
+    match recording_for::<S>(alloc, file) {
         Ok(recorded) => play::<S, O>(alloc, recorded.as_slice(), out),
         Err(error) => print_error(alloc, error, out),
     }
 }
 
-/// A file has one replay at most, so the one that `replay` prints is the one that it has. The function does nothing.
+/// Prints the message that has this number when all events of a recording for the suite have run, in hex digits, and
+/// answers the exit status; or the refusal of the file (`BadJson` (9), `NotHex` (8)), or that there is no such message
+/// (`NoSuchMessage` (94)). Replies aren't compared with what is expected of them.
+pub fn replay_message<S: Suite, O: Output>(
+    alloc: Global,
+    file: &[u8],
+    number: usize,
+    out: &mut O,
+) -> Result<u8, Fault>
+    // The output grows by the message's text, or on a fault by less than that.
+    ensures prints { PrintsMessage O.contents out.old out.new S.crypto number file.now result }
+    ensures status { IfOk result (λ status. status ≤ 1) }
+    // A fault of the output comes just where a write fails.
+    ensures fault { O.failed out.new ≡ write_failed (O.failed out.old) result }
+    ensures written { IfErr result (λ e. e ≢ Fault.Read) }
+{
+    match recording_for::<S>(alloc, file) {
+        Ok(recorded) => print_message::<S, O>(alloc, recorded.as_slice(), number, out),
+        Err(error) => print_error(alloc, error, out),
+    }
+}
+
+/// A file has one replay at most, so the one that `replay` prints is the one that it has, and so has each of its
+/// messages. The function does nothing.
 pub fn laws_of_replays()
     ensures one { OneReplay }
+    ensures message { OneMessage }
 {
     laws_of_calls();
 }

@@ -1,6 +1,7 @@
 -- A received commit's tree: the group's own with a path, or the edited one, with a path or without.
 use Rattle.std.proofs.Common.{◌≡◌, ℕ, ◌==◌, true, List, [], ◌∷◌, length, Option, None, Ok, refl, sym, ◌∙◌, ap, subst, arith, eqb-true}
 use Rattle.mls_wire.specs.Laws.{ok_is}
+use Rattle.mls_leaf.specs.declared.extension.Extension.{Extension}
 use Rattle.mls_leaf.specs.declared.leaf.LeafNode.{LeafNode}
 use Rattle.mls_suite.specs.Crypto.{Crypto}
 use Rattle.mls_tree_model.specs.Merge.{merge_path}
@@ -69,9 +70,9 @@ none_merged c p i e path u none is = rw none (ap Ok (sym is))
 
 -- ---- the next state
 
-pub edits_of_change : (p : PublicState) (e : Edits) (t : Term) (said signature : List ℕ) (change : Change) → change ≡ change_of p e t said signature → change.edits.tree ≡ e.tree
+pub edits_of_change : (p : PublicState) (list : List Extension) (e : Edits) (t : Term) (said signature : List ℕ) (change : Change) → change ≡ change_of p list e t said signature → change.edits.tree ≡ e.tree
 unfolding change_of
-edits_of_change p e t said signature change made = ap (λ (x : Change). x.edits.tree) made
+edits_of_change p list e t said signature change made = ap (λ (x : Change). x.edits.tree) made
 
 pub public_next : (p : PublicState) (change : Change) (tag : List ℕ) (x : GroupContext) (t : Term) (interim : List ℕ) → p ≡ record { context = x; tree = t; interim = interim } → x ≡ change.context → t ≡ change.tree → interim ≡ interim_hash change.context.confirmed_transcript_hash tag → p ≡ public_with change tag
 unfolding public_with

@@ -2,6 +2,7 @@
 use Rattle.std.specs.Prelude.{◌≡◌, ◌≤◌, ◌^◌, ℕ, Bool, true, List, Option, IfSome, Result}
 use Rattle.mls_wire.specs.Checks.{Answers}
 use Rattle.mls_leaf.specs.Leaf.{leaf_node}
+use Rattle.mls_leaf.specs.declared.extension.Extension.{Extension}
 use Rattle.mls_types.specs.Content.{framed_content}
 use Rattle.mls_types.specs.declared.commit.Commit.{Commit}
 use Rattle.mls_types.specs.declared.content.FramedContent.{FramedContent}
@@ -26,9 +27,9 @@ pub record Received : Type 0 where
 abbrev pub KeepsOwnTree : Term → Received → Type 0
 KeepsOwnTree t r = r.on_own ≡ true → r.change.edits.tree ≡ t
 
--- its change has these edits, and the tree that they lead to with the path merged
-abbrev pub HasChange : PublicState → Edits → NextTree → List ℕ → List ℕ → Received → Type 0
-HasChange p e next said signature r = r.change ≡ change_of p e (next_term e.tree next) said signature
+-- its change has these extensions, these edits, and the tree that they lead to with the path merged
+abbrev pub HasChange : PublicState → List Extension → Edits → NextTree → List ℕ → List ℕ → Received → Type 0
+HasChange p list e next said signature r = r.change ≡ change_of p list e (next_term e.tree next) said signature
 
 -- The call answers the change that a commit makes whose FramedContent is spelled so, or refuses with the number of the
 -- first check that fails, memory aside (RFC 9420, 12.4.2).

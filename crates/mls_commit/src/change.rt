@@ -2,12 +2,13 @@
 
 ghost use Rattle.std.specs.Prelude.{◌≡◌, ◌+◌, ◌<◌, ◌^◌, length, IfOk};
 ghost use Rattle.mls_commit.specs.Change.{IsChange};
+ghost use Rattle.mls_leaf.specs.GroupExtensions.{group_extensions};
 ghost use Rattle.mls_model.specs.Commit.{public_with};
 ghost use Rattle.mls_model.specs.PublicState as model;
-ghost use Rattle.mls_public_group.specs.Short.{HasLeavesBelow};
+ghost use Rattle.mls_public_group.specs.Short.{HasLeavesBelow, IsBelow};
 ghost use Rattle.mls_tree.specs.Tree.{term};
 
-use mls_leaf::Bytes;
+use mls_leaf::{Bytes, GroupExtensions};
 use mls_public_group::{Edits, PublicGroup, provisional_context};
 use mls_schedule::Transcript;
 use mls_tree::PublicTree;
@@ -64,25 +65,29 @@ pub(crate) fn confirmed_context(
 }
 
 impl Change {
-    /// The change with these edits and this tree, its path merged: nothing is checked. `said` is the spelling of the
-    /// commit's FramedContent, and `signature` its signature, of less than 2^30 bytes (RFC 9420, 8.1, 8.2 and 12.4.1).
+    /// The change with these extensions, these edits and this tree, its path merged: nothing is checked. `said` is the
+    /// spelling of the commit's FramedContent, and `signature` its signature, of less than 2^30 bytes (RFC 9420, 8.1,
+    /// 8.2 and 12.4.1).
     #[tactic(auto, unfolding(crate::specs::Change::change_of))]
     pub fn new(
         alloc: Global,
         group: &PublicGroup,
+        extensions: &GroupExtensions,
         edits: Edits,
         tree: PublicTree,
         said: &[u8],
         signature: &[u8],
     ) -> Result<Change, AllocError>
         requires epoch { group.now.context.epoch + 1 < 2 ^ 64 }
+        requires extensions { IsBelow (2 ^ 27) group_extensions extensions.now }
         requires signature { length signature.now < 2 ^ 30 }
-        ensures { IfOk result (IsChange group.now edits (term tree) said.now signature.now) }
+        ensures { IfOk result
+            (IsChange group.now extensions.now edits (term tree) said.now signature.now) }
     {
         group.is_short();
         let mut tree = tree;
         let hash = tree.tree_hash();
-        let provisional = provisional_context(alloc, group.context(), &hash)?;
+        let provisional = provisional_context(alloc, group.context(), extensions, &hash)?;
         let confirmed = group.transcript().confirm(1, said, signature);
         let context = confirmed_context(alloc, &provisional, &confirmed)?;
         Ok(Change {

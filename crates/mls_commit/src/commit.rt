@@ -1,6 +1,7 @@
 //! The checks of a commit, and where it leads.
 
 ghost use Rattle.std.specs.Prelude.{◌≡◌, ◌<◌, ◌^◌, ◌+◌, ◌||◌, true, not, is_some, length, IfOk, IfSome};
+ghost use Rattle.mls_leaf.specs.GroupExtensions.{group_extensions};
 ghost use Rattle.mls_leaf.specs.Leaf.{leaf_node};
 ghost use Rattle.mls_model.specs.Proposals as proposals;
 ghost use Rattle.mls_public_group.specs.NextTree.{is_merged, IsPreparedFor};
@@ -64,6 +65,8 @@ pub fn change_of_commit<S: Suite>(
 ) -> Result<Received, CommitError>
     requires epoch { group.now.context.epoch + 1 < 2 ^ 64 }
     requires used { AreBelow (2 ^ 28) used.now }
+    requires extensions { IsBelow (2 ^ 27) group_extensions
+        (proposals.extended group.now.context.extensions used.now) }
     requires path { IfSome commit.now.path (λ p. IsBelow (2 ^ 28) leaf_node p.leaf_node) }
     requires signature { length signature.now < 2 ^ 30 }
     ensures answer { Changes S.crypto group.now committer used.now commit.now
@@ -80,6 +83,7 @@ pub fn change_of_commit<S: Suite>(
     }
     let is_own = used.is_empty();
     let tree = apply_path_if::<S>(alloc, group, committer, &edits, &commit.path, is_own)?;
-    let received = Received::new(alloc, group, edits, tree, said, signature)?;
+    let extensions = group.extensions_after(used);
+    let received = Received::new(alloc, group, extensions, edits, tree, said, signature)?;
     Ok(received)
 }

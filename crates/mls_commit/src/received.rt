@@ -2,11 +2,13 @@
 
 ghost use Rattle.std.specs.Prelude.{◌≡◌, ◌+◌, ◌<◌, ◌^◌, length, IfOk, OnOk, OnErr};
 ghost use Rattle.mls_commit.specs.Received.{KeepsOwnTree, HasChange};
+ghost use Rattle.mls_leaf.specs.GroupExtensions.{group_extensions};
 ghost use Rattle.mls_model.specs.Commit.{public_with};
 ghost use Rattle.mls_public_group.specs.NextTree.{next_term, is_merged, IsPreparedFor};
-ghost use Rattle.mls_public_group.specs.Short.{HasLeavesBelow};
+ghost use Rattle.mls_public_group.specs.Short.{HasLeavesBelow, IsBelow};
 
 use crate::change::confirmed_context;
+use mls_leaf::GroupExtensions;
 use mls_public_group::{Edits, NextTree, PublicGroup, provisional_context};
 use mls_schedule::Transcript;
 use mls_types::GroupContext;
@@ -43,26 +45,29 @@ impl Model for Received {
 }
 
 impl Received {
-    /// The change with these edits and this tree, its path merged: nothing is checked. `said` is the spelling of the
-    /// commit's FramedContent, and `signature` its signature (RFC 9420, 8.1, 8.2 and 12.4.1).
+    /// The change with these extensions, these edits and this tree, its path merged: nothing is checked. `said` is the
+    /// spelling of the commit's FramedContent, and `signature` its signature (RFC 9420, 8.1, 8.2 and 12.4.1).
     #[tactic(auto, unfolding(crate::specs::Change::change_of))]
     pub(crate) fn new(
         alloc: Global,
         group: &PublicGroup,
+        extensions: &GroupExtensions,
         edits: Edits,
         tree: NextTree,
         said: &[u8],
         signature: &[u8],
     ) -> Result<Received, AllocError>
         requires epoch { group.now.context.epoch + 1 < 2 ^ 64 }
+        requires extensions { IsBelow (2 ^ 27) group_extensions extensions.now }
         requires signature { length signature.now < 2 ^ 30 }
         requires follows { IsPreparedFor edits.tree tree }
-        ensures change { IfOk result (HasChange group.now edits tree said.now signature.now) }
+        ensures change { IfOk result
+            (HasChange group.now extensions.now edits tree said.now signature.now) }
         ensures own { IfOk result (λ r. r.on_own ≡ is_merged tree) }
     {
         group.is_short();
         let hash = tree.tree_hash();
-        let provisional = provisional_context(alloc, group.context(), &hash)?;
+        let provisional = provisional_context(alloc, group.context(), extensions, &hash)?;
         let confirmed = group.transcript().confirm(1, said, signature);
         let context = confirmed_context(alloc, &provisional, &confirmed)?;
         Ok(Received {

@@ -4,11 +4,11 @@
 use anyhow::{Result, bail};
 use mls_leaf::Proposal;
 use mls_member::{Candidate, Effect, Item, Made, Member};
-use mls_suite::Glass;
+use mls_suite_0001::Suite0001;
 use std::alloc::Global;
 
 /// A key that all members of the epoch can make (RFC 9420, 8.5).
-fn export_key(member: &Member<Glass>) -> Result<[u8; 16]> {
+fn export_key(member: &Member<Suite0001>) -> Result<[u8; 16]> {
     let mut key = [0; 16];
     member.epoch().export("example", b"file", &mut key)?;
     Ok(key)
@@ -18,7 +18,7 @@ fn run(rt: &impl Print, alloc: Global) -> Result<()> {
     // Alice creates a group, and adds Bob, who joins by the Welcome.
     let alice = Candidate::new(alloc, b"alice", &[1; 32])?;
     let bob = Candidate::new(alloc, b"bob", &[2; 32])?;
-    let mut alice: Member<Glass> = Member::create(alloc, &alice, b"group", &[3; 32])?;
+    let mut alice: Member<Suite0001> = Member::create(alloc, &alice, b"group", &[3; 32])?;
     let addition = Item::Full(bob.addition()?);
     let Made { commit, welcome } = alice.commit(&[addition], true, &[4; 32])?;
     let Some(welcome) = welcome else {
@@ -40,8 +40,9 @@ fn run(rt: &impl Print, alloc: Global) -> Result<()> {
     bob.process(&made.commit)?;
     let (hers, his) = (alice.epoch_number(), bob.epoch_number());
     println!(rt; "both are in epoch {hers} and {his}")?;
-    let same = export_key(&alice)? == export_key(&bob)?;
-    println!(rt; "both export the same key: {same}")?;
+    let (her_key, his_key) = (export_key(&alice)?, export_key(&bob)?);
+    println!(rt; "alice exports the key {}", hex::encode(alloc, her_key)?)?;
+    println!(rt; "bob exports the key {}", hex::encode(alloc, his_key)?)?;
 
     // Alice removes Bob.
     let removal = Item::Full(Proposal::Remove(bob.leaf_index()));

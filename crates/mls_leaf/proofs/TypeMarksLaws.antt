@@ -1,12 +1,11 @@
 -- The laws of the marks of types, and the loops that read extensions with them.
-use Rattle.std.proofs.Common.{◌≡◌, ◌≢◌, ℕ, ◌+◌, ◌-◌, ◌<◌, ◌≤◌, ◌==◌, Bool, true, false, not, cond, ◌&&◌, ◌||◌, List, [], ◌∷◌, ◌++◌, length, get_or, set, drop, Result, Ok, Err, refl, sym, ap, subst, ◌∙◌, arith, inl, inr}
+use Rattle.std.proofs.Common.{◌≡◌, ◌≢◌, ℕ, ◌+◌, ◌-◌, ◌<◌, ◌≤◌, ◌==◌, Bool, true, false, not, ◌&&◌, ◌||◌, List, [], ◌∷◌, ◌++◌, length, get_or, set, Result, Ok, Err, refl, sym, ap, subst, ◌∙◌, arith, inl, inr}
 use Rattle.std.proofs.lemmas.Bool.{and_parts, cases_eq, eq-eqb, ne_eqb}
 use Rattle.std.proofs.lemmas.List.{length-set, get_or-set_same, get_or-set_other}
 use Rattle.mls_wire.specs.Reading.{◌>>=◌}
 use Rattle.mls_wire.specs.Format.{IsBytes}
 use Rattle.mls_wire.specs.CombineLaws.{forgotten}
 use Rattle.mls_wire.specs.Combine.{byte_string}
-use Rattle.mls_wire.specs.Stateful.{run_at}
 use Rattle.mls_wire.specs.declared.WireError.TheVariants as wire
 use Rattle.mls_leaf.specs.declared.error.LeafError.{LeafError}
 use Rattle.mls_leaf.specs.declared.error.LeafError.TheVariants.{Wire, BadTag, UnsupportedCredential, UnsupportedProposal, NotRising, ExtensionNotAllowed}
@@ -15,7 +14,6 @@ use Rattle.mls_leaf.specs.Faults.{Fails, number_of}
 use Rattle.mls_leaf.specs.GroupExtensions.{is_private, is_among, is_new, are_new, are_allowed, extension_where, extension_where_nonempty, each_once, allowed_extensions}
 use Rattle.mls_leaf.specs.TypeMarks.{private_types, is_unmarked, with_mark, AreClear, type_where}
 use Rattle.mls_leaf.proofs.Codecs.{Fails-then}
-use Rattle.mls_leaf.proofs.Loops.{some_left}
 use Rattle.mls_leaf.proofs.RunLoops.{GoesOnFrom, begins_from, goes_on_from, ends_from, is_done_from, is_shorter, PastFrom, past_begins_from, past_goes_on_from, past_ends_from, past_is_done_from}
 use Rattle.mls_leaf.proofs.GroupExtensionsLaws.{is_among-nil, are_new-nil, are_new-more, are_new-stops, private_within, extension_of, data_put, seen_put, item_read, where_read, type_passes, types_alike}
 

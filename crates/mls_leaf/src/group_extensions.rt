@@ -1,10 +1,12 @@
 //! The extensions that a group carries.
 
 ghost use Rattle.std.specs.Prelude.{◌≡◌, ◌≤◌, [], List, length, true, false, MatchResult, IfOk};
-ghost use Rattle.std.specs.Cmp.Lexicographic.{pointwise, lists_per, lists_equiv};
+ghost use Rattle.std.specs.Cmp.{and_equiv, on_equiv, nat_eq_equiv, partial_equiv_from_equiv};
+ghost use Rattle.std.specs.Cmp.Lexicographic.{pointwise, lists_equiv, nat_list_eq_equiv};
 ghost use Rattle.mls_wire.specs.CombineLaws.{forgotten};
 ghost use Rattle.mls_wire.specs.Reading.{header};
 ghost use Rattle.mls_leaf.specs.declared.error.LeafError.TheVariants.{ExtensionNotAllowed};
+ghost use Rattle.mls_leaf.specs.declared.extension.Extension.{Extension};
 ghost use Rattle.mls_leaf.specs.Faults.{Gives, AddsSpelling, ReadsAllPast};
 ghost use Rattle.mls_leaf.specs.GroupExtensions.{are_allowed, AreAllowed, allowed_extensions, group_extensions, group_extensions_nonempty, group_extensions_faults, is_short};
 
@@ -113,6 +115,7 @@ fn is_short(entries: &[Extension]) -> bool
 
 impl GroupExtensions {
     /// No extensions.
+    #[tactic(auto, unfolding(crate::specs::GroupExtensions::are_new))]
     pub fn empty(alloc: Global) -> GroupExtensions
         ensures { result ≡ [] }
     {
@@ -189,7 +192,9 @@ impl Clone for GroupExtensions {
 impl PartialEq for GroupExtensions {
     ghost eq = { pointwise ⟦<Extension as PartialEq>⟧.eq };
 
-    ghost laws = { lists_per ⟦<Extension as PartialEq>⟧.laws };
+    ghost laws = { partial_equiv_from_equiv (lists_equiv (and_equiv
+        (on_equiv (λ (v : Extension). v.kind) nat_eq_equiv)
+        (on_equiv (λ (v : Extension). v.content) nat_list_eq_equiv))) };
 
     fn eq(&self, other: &GroupExtensions) -> bool {
         self.entries == other.entries
@@ -197,7 +202,9 @@ impl PartialEq for GroupExtensions {
 }
 
 impl Eq for GroupExtensions {
-    ghost laws = { lists_equiv ⟦<Extension as Eq>⟧.laws };
+    ghost laws = { lists_equiv (and_equiv
+        (on_equiv (λ (v : Extension). v.kind) nat_eq_equiv)
+        (on_equiv (λ (v : Extension). v.content) nat_list_eq_equiv)) };
 }
 
 impl Codec for GroupExtensions {

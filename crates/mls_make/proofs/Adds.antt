@@ -3,14 +3,13 @@ use Rattle.std.proofs.Common.{◌≡◌, ℕ, ◌+◌, ◌<◌, ◌^◌, List, [
 use Rattle.std.specs.List.{AllByRecursion, zip, cons_option}
 use Rattle.std.proofs.lemmas.List.{length-map}
 use Rattle.mls_leaf.specs.KeyPackage.{key_package}
-use Rattle.mls_leaf.specs.Proposal.{proposal as proposal_format}
 use Rattle.mls_leaf.specs.declared.key_package.KeyPackage.{KeyPackage}
 use Rattle.mls_leaf.specs.declared.proposal.Proposal.{Proposal}
 use Rattle.mls_leaf.specs.declared.proposal.Proposal.TheVariants.{Add, Update, Remove, GroupContextExtensions}
 use Rattle.mls_model.specs.PublicState.{Used}
 use Rattle.mls_model.specs.Proposals.{adds, add_in}
-use Rattle.mls_public_group.specs.Short.{IsBelow, AreBelow}
-use Rattle.mls_public_group.proofs.ShortLaws.{add_below}
+use Rattle.mls_public_group.specs.Short.{IsBelow, IsProposalBelow, AreBelow}
+use Rattle.mls_public_group.proofs.ShortLaws.{add_below, proposal_below}
 use Rattle.mls_welcome.specs.Joiners.{package_and_leaf_of, AreShortJoiners}
 use Rattle.mls_welcome.specs.declared.welcome_message.Joiner.{Joiner}
 use Rattle.mls_make.specs.CommitCall.{AreShortUsed}
@@ -18,12 +17,12 @@ use Rattle.mls_make.specs.CommitCall.{AreShortUsed}
 -- each proposal that is used is short
 pub used_short : (used : List Used) → AreShortUsed used → AreBelow (2 ^ 28) used
 used_short [] h = tt
-used_short (u ∷ us) h = (h.0.0, used_short us h.1)
+used_short (u ∷ us) h = (proposal_below (2 ^ 28) u.proposal h.0.0, used_short us h.1)
 
 -- ---- KeyPackages
 
 module _ (n : ℕ) where
-  add_here : (p : Proposal) (ys : List KeyPackage) → IsBelow n proposal_format p → AllByRecursion (λ (x : KeyPackage). IsBelow n key_package x) ys → AllByRecursion (λ (x : KeyPackage). IsBelow n key_package x) (cons_option (add_in p) ys)
+  add_here : (p : Proposal) (ys : List KeyPackage) → IsProposalBelow n p → AllByRecursion (λ (x : KeyPackage). IsBelow n key_package x) ys → AllByRecursion (λ (x : KeyPackage). IsBelow n key_package x) (cons_option (add_in p) ys)
   add_here (Add x) ys b h = (add_below n x b, h)
   add_here (Update x) ys b h = h
   add_here (Remove i) ys b h = h

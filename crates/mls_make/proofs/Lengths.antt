@@ -37,6 +37,7 @@ use Rattle.mls_model.specs.Messages.{content_by}
 use Rattle.mls_model.specs.Make.{path_seals}
 use Rattle.mls_public_group.specs.ProposalList.{edit_tree}
 use Rattle.mls_public_group.proofs.Leaves.{below_applied}
+use Rattle.mls_public_group.proofs.ShortLaws.{proposal_below}
 use Rattle.mls_public_group.specs.Short.{IsBelow, AreBelow, HasLeavesBelow}
 use Rattle.mls_commit.proofs.Below.{below_merged}
 use Rattle.mls_theorems.proofs.Inversion.{edited_steps}
@@ -81,17 +82,17 @@ pub path_inside : (k : Commit) (n : ℕ) → length (commit.spell k) ≤ n → l
 unfolding commit
 path_inside k n h = back _ ((optional update_path).spell k.path) n h
 
-items_inside : (k : Commit) (n : ℕ) → length (commit.spell k) ≤ n → length (flat_map proposal_or_ref.spell k.proposals) ≤ n
+pub items_inside : (k : Commit) (n : ℕ) → length (commit.spell k) ≤ n → length (flat_map proposal_or_ref.spell k.proposals) ≤ n
 items_inside k n h = inside (flat_map proposal_or_ref.spell k.proposals) n (list_inside k n h)
 
 -- ---- the proposals that it uses
 
-listed_inside : (p : proposals.Proposal) (n : ℕ) → length (proposal_or_ref.spell (listed.Proposal p)) ≤ n → length (proposal.spell p) ≤ n
+pub listed_inside : (p : proposals.Proposal) (n : ℕ) → length (proposal_or_ref.spell (listed.Proposal p)) ≤ n → length (proposal.spell p) ≤ n
 unfolding proposal_or_ref
 listed_inside p n h = back (uint w8 1) (proposal.spell p) n h
 
 -- one that is named is a kept one
-named_kept : (kept : List KeptProposal) (leaf : ℕ) (r : List ℕ) (u : Used) → find_proposal kept leaf (listed.Reference r) ≡ Ok u → u.is_full ≡ false
+pub named_kept : (kept : List KeptProposal) (leaf : ℕ) (r : List ℕ) (u : Used) → find_proposal kept leaf (listed.Reference r) ≡ Ok u → u.is_full ≡ false
 named_kept kept leaf r u h =
     let k = bind_ok (require_some 60 (kept_under kept r)) _ u h in
     let made : Used = record { proposal = k.0.proposal; sender = k.0.sender; is_full = false } in
@@ -114,7 +115,7 @@ all_below kept leaf (x ∷ xs) used h short le =
     let is : one.0 ∷ more.0 ≡ used = ok_is _ _ more.2 in
     let parts : AreShortUsed (one.0 ∷ more.0) = subst AreShortUsed (sym is) short in
     subst (AreBelow (2 ^ 27)) is (
-      one_below kept leaf x one.0 one.1 parts.0 (front (proposal_or_ref.spell x) (flat_map proposal_or_ref.spell xs) input_limit le),
+      proposal_below (2 ^ 27) one.0.proposal (one_below kept leaf x one.0 one.1 parts.0 (front (proposal_or_ref.spell x) (flat_map proposal_or_ref.spell xs) input_limit le)),
       all_below kept leaf xs more.0 more.1 parts.1 (back (proposal_or_ref.spell x) (flat_map proposal_or_ref.spell xs) input_limit le),
     )
 

@@ -5,6 +5,7 @@ use Rattle.std.specs.List.{AllByRecursion, zip}
 use Rattle.std.specs.Option.{option_copied}
 use Rattle.mls_wire.specs.Checks.{require_some}
 use Rattle.mls_wire.proofs.CheckLaws.{bind_ok}
+use Rattle.mls_leaf.specs.declared.extension.Extension.{Extension}
 use Rattle.mls_leaf.specs.declared.leaf.LeafNode.{LeafNode}
 use Rattle.mls_leaf.specs.declared.key_package.KeyPackage.{KeyPackage}
 use Rattle.mls_types.specs.declared.update_path.UpdatePath.{UpdatePath}
@@ -29,7 +30,7 @@ use Rattle.mls_theorems.specs.CommitLaws.{IsJoiner}
 use Rattle.mls_welcome.specs.Joiners.{package_and_leaf_of, AreSecretsOf}
 use Rattle.mls_welcome.specs.SentSecrets.{AreSentTo}
 use Rattle.mls_welcome.specs.declared.welcome_message.Joiner.{Joiner}
-use Rattle.mls_make.specs.CommitSteps.{path_if_needed}
+use Rattle.mls_make.specs.CommitSteps.{carried_after, path_if_needed, path_with}
 use Rattle.mls_make.specs.OwnPath.{HaveSecrets}
 
 -- ---- the committer has a leaf, where it made a path
@@ -44,18 +45,18 @@ some_given (Some y) x h = refl
 member_is : (t : Term) (i : ℕ) (x : LeafNode) → member_at t i ≡ Ok x → IsSome (leaf_of t i)
 member_is t i x h = some_given (leaf_of t i) x h
 
-with_path_own : (c : Crypto) (m : Member) (e : Edits) (seed : List ℕ) (made : MadePath) → new_path c m e seed ≡ Ok made → IsSome (leaf_of m.public.tree m.keys.leaf)
+with_path_own : (c : Crypto) (m : Member) (carried : List Extension) (e : Edits) (seed : List ℕ) (made : MadePath) → new_path c m carried e seed ≡ Ok made → IsSome (leaf_of m.public.tree m.keys.leaf)
 unfolding new_path
-with_path_own c m e seed made h = let s = bind_ok _ _ _ h in member_is m.public.tree m.keys.leaf s.0 s.1
+with_path_own c m carried e seed made h = let s = bind_ok _ _ _ h in member_is m.public.tree m.keys.leaf s.0 s.1
 
-either_own : (b : Bool) (c : Crypto) (m : Member) (e : Edits) (seed : List ℕ) (made : MadePath) (path : UpdatePath) → made.path ≡ Some path → (if b then new_path c m e seed else Ok (no_path m e)) ≡ Ok made → IsSome (leaf_of m.public.tree m.keys.leaf)
+either_own : (b : Bool) (c : Crypto) (m : Member) (carried : List Extension) (e : Edits) (seed : List ℕ) (made : MadePath) (path : UpdatePath) → made.path ≡ Some path → (if b then new_path c m carried e seed else Ok (no_path m e)) ≡ Ok made → IsSome (leaf_of m.public.tree m.keys.leaf)
 unfolding no_path
-either_own true c m e seed made path is h = with_path_own c m e seed made h
-either_own false c m e seed made path is h = cc
+either_own true c m carried e seed made path is h = with_path_own c m carried e seed made h
+either_own false c m carried e seed made path is h = cc
 
 pub own_taken : (c : Crypto) (m : Member) (e : Edits) (used : List Used) (wants : Bool) (seed : List ℕ) (made : MadePath) (path : UpdatePath) → made.path ≡ Some path → path_if_needed c m e used wants seed ≡ Ok made → IsSome (leaf_of m.public.tree m.keys.leaf)
-unfolding path_if_needed
-own_taken c m e used wants seed made path is h = either_own (wants || is_path_required used) c m e seed made path is h
+unfolding path_with
+own_taken c m e used wants seed made path is h = either_own (wants || is_path_required used) c m (carried_after m used) e seed made path is h
 
 -- ---- each is sent what it is due
 

@@ -2,6 +2,7 @@
 use Rattle.std.proofs.Common.{◌≡◌, ℕ, ◌-◌, ◌<◌, ◌^◌, nat_lt, Bool, not, List, [], ◌∷◌, length, zip, Option, Some, None, is_none, Result, Ok, Err, refl, ap, ◌∙◌, arith}
 use Rattle.mls_wire.specs.Checks.{Passed, require, ◌>>◌}
 use Rattle.mls_wire.specs.Reading.{◌>>=◌}
+use Rattle.mls_leaf.specs.declared.extension.Extension.{Extension}
 use Rattle.mls_leaf.specs.declared.key_package.KeyPackage.{KeyPackage}
 use Rattle.mls_types.specs.declared.update_path.UpdatePath.{UpdatePath}
 use Rattle.mls_types.specs.Content.{framed_content}
@@ -26,14 +27,14 @@ use Rattle.mls_message.specs.Speaks.{Speaks}
 use Rattle.mls_message.specs.declared.speaker.Speaker.{Speaker}
 use Rattle.mls_theorems.specs.CommitCalls.{joiner_of, epoch_of, tag_of}
 use Rattle.mls_make.proofs.Bodies.{body_is, path_due}
-use Rattle.mls_make.specs.CommitSteps.{path_if_needed, commit_from_change, commit_from_path, commit_from_proposals}
+use Rattle.mls_make.specs.CommitSteps.{carried_after, path_if_needed, path_with, commit_from_change, commit_from_path, commit_from_proposals}
 
 -- ---- the checks before them (RFC 9420, 12.4.1)
 
 -- 40 the member was removed, 67 it has a pending commit, 66 no epoch is left, 60, and then what stands behind its list
 pub make_is : (c : Crypto) (m : Member) (list : List ProposalOrRef) (wants_path : Bool) (seed : List ℕ) →
     make c m list wants_path seed ≡ (require 40 (not m.gone) >> (require 67 (is_none m.pending) >> (require 66 (nat_lt m.public.context.epoch (2 ^ 64 - 1)) >> (find_proposals m.kept m.keys.leaf list >>= λ used. commit_from_proposals c m list used wants_path seed))))
-unfolding make commit_from_proposals commit_from_path commit_from_change path_if_needed
+unfolding make commit_from_proposals commit_from_path commit_from_change path_with
 make_is c m list wants_path seed = refl
 
 -- ---- what a commit says, and where it leads
@@ -47,8 +48,8 @@ said_in m list made = content_by m (says.Commit (commit_in list made))
 abbrev pub signature_in : Crypto → Member → List ProposalOrRef → MadePath → List ℕ
 signature_in c m list made = content_signature c m.signing (said_in m list made) m.public.context
 
-abbrev pub change_in : Crypto → Member → List ProposalOrRef → Edits → MadePath → Term → Change
-change_in c m list e made t = change_of m.public e t (framed_content.spell (said_in m list made)) (signature_in c m list made)
+abbrev pub change_in : Crypto → Member → List ProposalOrRef → List Extension → Edits → MadePath → Term → Change
+change_in c m list carried e made t = change_of m.public carried e t (framed_content.spell (said_in m list made)) (signature_in c m list made)
 
 -- ---- the edits, the path, the tree with it
 
@@ -68,13 +69,13 @@ module _ (c : Crypto) (m : Member) (list : List ProposalOrRef) (used : List Used
       made_by_is = rw (edits, path) refl
 
       module _ (t : Term) (tree : apply_path_if c m.public m.keys.leaf e made.path ≡ Ok t) where
-        pub made_with_is : commit_from_path c m list used e made seed ≡ commit_from_change c m (said_in m list made) (signature_in c m list made) used e made seed (change_in c m list e made t)
+        pub made_with_is : commit_from_path c m list used e made seed ≡ commit_from_change c m (said_in m list made) (signature_in c m list made) used e made seed (change_in c m list (carried_after m used) e made t)
         unfolding commit_from_path
         made_with_is =
             rw (body_is c m used e (commit_in list made) t (said_in m list made) (signature_in c m list made) (path_due c m e used wants_path seed made path) tree) refl
 
         -- all of it in one
-        pub made_is : commit_from_proposals c m list used wants_path seed ≡ commit_from_change c m (said_in m list made) (signature_in c m list made) used e made seed (change_in c m list e made t)
+        pub made_is : commit_from_proposals c m list used wants_path seed ≡ commit_from_change c m (said_in m list made) (signature_in c m list made) used e made seed (change_in c m list (carried_after m used) e made t)
         made_is = made_by_is ∙ made_with_is
 
         -- a content alone is too large

@@ -6,6 +6,7 @@ use Rattle.std.proofs.Math.Nat.{mod-eq_of_lt}
 use Rattle.std.proofs.lemmas.Bool.{eqb-true}
 use Rattle.mls_wire.proofs.CheckLaws.{then_ok}
 use Rattle.mls_wire.specs.Reading.{◌>>=◌}
+use Rattle.mls_leaf.specs.declared.extension.Extension.{Extension}
 use Rattle.mls_leaf.specs.declared.key_package.KeyPackage.{KeyPackage}
 use Rattle.mls_types.specs.GroupContext.{group_context}
 use Rattle.mls_leaf.specs.Limits.{input_limit}
@@ -39,7 +40,8 @@ use Rattle.mls_welcome.specs.SentSecrets.{AreSentTo}
 use Rattle.mls_welcome.specs.declared.welcome_message.Joiner.{Joiner}
 use Rattle.mls_make.proofs.Bodies.{body_is, path_due}
 use Rattle.mls_make.proofs.Lengths.{commit_within}
-use Rattle.mls_make.specs.CommitSteps.{path_if_needed, commit_from_change, commit_from_path}
+use Rattle.mls_make.specs.CommitSteps.{carried_after, path_if_needed, commit_from_change, commit_from_path}
+use Rattle.mls_make.specs.CommitCall.{AreCarriedBy}
 use Rattle.mls_make.specs.OwnPath.{IsOwn}
 use Rattle.mls_make.specs.TwoSteps.{SentCommit, send_commit, welcome_from, with_welcome}
 use Rattle.mls_make.proofs.Sent.{secrets_sent}
@@ -57,42 +59,42 @@ refused_through bytes x n h = through (is_within_limit bytes) h
     through (Err k) e = cc
 
 -- a content alone is too large
-pub content_refused : (c : Crypto) (m : Member) (commit : Commit) (e : Edits) (t : Term) (secret : List ℕ) (n : ℕ) → ((signature tag : List ℕ) → is_within_limit (message_by m (signed_with (content_by m (says.Commit commit)) signature tag)) ≡ Err n) → send_commit c m commit e t secret ≡ Err n
+pub content_refused : (c : Crypto) (m : Member) (carried : List Extension) (commit : Commit) (e : Edits) (t : Term) (secret : List ℕ) (n : ℕ) → ((signature tag : List ℕ) → is_within_limit (message_by m (signed_with (content_by m (says.Commit commit)) signature tag)) ≡ Err n) → send_commit c m carried commit e t secret ≡ Err n
 unfolding send_commit
-content_refused c m commit e t secret n h = rw (h _ _) refl
+content_refused c m carried commit e t secret n h = rw (h _ _) refl
 
 abbrev sent_parts : List ℕ → Change → List ℕ → List ℕ → List ℕ → SentCommit
 sent_parts message change joiner epoch tag = record { message = message; change = change; joiner = joiner; epoch = epoch; tag = tag }
 
 -- its parts, one after the other, as a speaker makes them
-module _ (c : Crypto) (m : Member) (s : Speaker) (commit : Commit) (e : Edits) (t : Term) (secret : List ℕ) (speaks : Speaks m s) (said : FramedContent) (said_is : said ≡ content_by m (says.Commit commit))
+module _ (c : Crypto) (m : Member) (s : Speaker) (carried : List Extension) (commit : Commit) (e : Edits) (t : Term) (secret : List ℕ) (speaks : Speaks m s) (said : FramedContent) (said_is : said ≡ content_by m (says.Commit commit))
     (signature : List ℕ) (signature_is : signature ≡ content_signature c m.signing said m.public.context) (bytes signed : List ℕ) (bytes_are : bytes ≡ framed_content.spell said) (signed_is : signed ≡ signature)
-    (change : Change) (change_is : change ≡ change_of s.group.now e t bytes signed) (joiner epoch tag : List ℕ) (joiner_is : joiner ≡ joiner_secret (init_secret s.epoch.now) secret (group_context.spell change.context))
+    (change : Change) (change_is : change ≡ change_of s.group.now carried e t bytes signed) (joiner epoch tag : List ℕ) (joiner_is : joiner ≡ joiner_secret (init_secret s.epoch.now) secret (group_context.spell change.context))
     (epoch_is : epoch ≡ epoch_secret joiner (group_context.spell change.context)) (tag_is : tag ≡ confirmation_tag epoch change.context.confirmed_transcript_hash) where
   abbrev message_of : List ℕ
   message_of = message_by m (signed_with said signature tag)
 
-  change_as : change ≡ change_of m.public e t (framed_content.spell said) signature
+  change_as : change ≡ change_of m.public carried e t (framed_content.spell said) signature
   change_as = change_is ∙ (rw (bytes_are, signed_is, ← speaks.public) refl)
 
   joiner_as : joiner ≡ joiner_secret (init_secret m.epoch) secret (group_context.spell change.context)
   joiner_as = joiner_is ∙ ap (λ (l : List ℕ). joiner_secret (init_secret l) secret (group_context.spell change.context)) (sym speaks.epoch)
 
-  sent_is : send_commit c m commit e t secret ≡ (is_within_limit message_of >> Ok (sent_parts message_of change joiner epoch tag))
+  sent_is : send_commit c m carried commit e t secret ≡ (is_within_limit message_of >> Ok (sent_parts message_of change joiner epoch tag))
   unfolding send_commit
   sent_is = let a = change_as in let b = joiner_as in cc
 
-  pub sent_fails : (n : ℕ) → limited_text message_of ≡ Err n → send_commit c m commit e t secret ≡ Err n
+  pub sent_fails : (n : ℕ) → limited_text message_of ≡ Err n → send_commit c m carried commit e t secret ≡ Err n
   sent_fails n h = sent_is ∙ refused_through message_of (sent_parts message_of change joiner epoch tag) n h
 
-  pub sent_done : (message : List ℕ) → limited_text message_of ≡ Ok message → send_commit c m commit e t secret ≡ Ok (sent_parts message change joiner epoch tag)
+  pub sent_done : (message : List ℕ) → limited_text message_of ≡ Ok message → send_commit c m carried commit e t secret ≡ Ok (sent_parts message change joiner epoch tag)
   sent_done message h =
       let two = then_ok (is_within_limit message_of) (Ok message_of) message h in
       let same : message_of ≡ message = cc in
       sent_is ∙ ap (λ (r : Result Passed ℕ). r >> Ok (sent_parts message_of change joiner epoch tag)) two.0 ∙ ap (λ (l : List ℕ). Ok (sent_parts l change joiner epoch tag)) same
 
 -- what a change has of its parts
-module _ (p : PublicState) (e : Edits) (t : Term) (said signature : List ℕ) (change : Change) (is : change ≡ change_of p e t said signature) where
+module _ (p : PublicState) (carried : List Extension) (e : Edits) (t : Term) (said signature : List ℕ) (change : Change) (is : change ≡ change_of p carried e t said signature) where
   pub edits_are : change.edits ≡ e
   unfolding change_of
   edits_are = ap (λ (x : Change). x.edits) is
@@ -126,27 +128,35 @@ module _ (c : Crypto) (m : Member) (list : List ProposalOrRef) (used : List Used
   signature = content_signature c m.signing said m.public.context
 
   abbrev change : Change
-  change = change_of m.public e t (framed_content.spell said) signature
+  change = change_of m.public (carried_after m used) e t (framed_content.spell said) signature
 
-  of_change : commit_from_change c m said signature used e made seed change ≡ (send_commit c m (commit_of list made) e t made.climb.secret >>= with_welcome c m used made seed)
+  of_change : commit_from_change c m said signature used e made seed change ≡ (send_commit c m (carried_after m used) (commit_of list made) e t made.climb.secret >>= with_welcome c m used made seed)
   unfolding commit_from_change send_commit with_welcome change_of
   of_change = sym (in_two (is_within_limit _) _ _)
 
-  in_steps : change_after_edits c m.public m.keys.leaf used (commit_of list made) said signature e ≡ Ok change → commit_from_path c m list used e made seed ≡ (send_commit c m (commit_of list made) e t made.climb.secret >>= with_welcome c m used made seed)
+  in_steps : change_after_edits c m.public m.keys.leaf used (commit_of list made) said signature e ≡ Ok change → commit_from_path c m list used e made seed ≡ (send_commit c m (carried_after m used) (commit_of list made) e t made.climb.secret >>= with_welcome c m used made seed)
   unfolding commit_from_path
   in_steps is = ap (λ (r : Result Change ℕ). r >>= commit_from_change c m said signature used e made seed) is ∙ of_change
 
   pub with_steps : (wants : Bool) → apply_proposals c m.public m.keys.leaf used ≡ Ok e → path_if_needed c m e used wants seed ≡ Ok made → apply_path_if c m.public m.keys.leaf e made.path ≡ Ok t
-      → commit_from_path c m list used e made seed ≡ (send_commit c m (commit_of list made) e t made.climb.secret >>= with_welcome c m used made seed)
+      → commit_from_path c m list used e made seed ≡ (send_commit c m (carried_after m used) (commit_of list made) e t made.climb.secret >>= with_welcome c m used made seed)
   with_steps wants edits path merges = in_steps (body_is c m used e (commit_of list made) t said signature (path_due c m e used wants seed made path) merges)
 
-  pub sending_fails : (wants : Bool) (n : ℕ) → apply_proposals c m.public m.keys.leaf used ≡ Ok e → path_if_needed c m e used wants seed ≡ Ok made → apply_path_if c m.public m.keys.leaf e made.path ≡ Ok t
-      → send_commit c m (commit_of list made) e t made.climb.secret ≡ Err n → commit_from_path c m list used e made seed ≡ Err n
-  sending_fails wants n edits path merges h = with_steps wants edits path merges ∙ ap (λ (r : Result SentCommit ℕ). r >>= with_welcome c m used made seed) h
+  -- by the extensions that code has
+  sent_of : (carried : List Extension) → carried ≡ carried_after m used → send_commit c m (carried_after m used) (commit_of list made) e t made.climb.secret ≡ send_commit c m carried (commit_of list made) e t made.climb.secret
+  sent_of carried same = ap (λ (l : List Extension). send_commit c m l (commit_of list made) e t made.climb.secret) (sym same)
 
-  pub sending_goes : (wants : Bool) (sent : SentCommit) → apply_proposals c m.public m.keys.leaf used ≡ Ok e → path_if_needed c m e used wants seed ≡ Ok made → apply_path_if c m.public m.keys.leaf e made.path ≡ Ok t
-      → send_commit c m (commit_of list made) e t made.climb.secret ≡ Ok sent → commit_from_path c m list used e made seed ≡ with_welcome c m used made seed sent
-  sending_goes wants sent edits path merges h = with_steps wants edits path merges ∙ ap (λ (r : Result SentCommit ℕ). r >>= with_welcome c m used made seed) h
+  pub sending_fails : (wants : Bool) (n : ℕ) (carried : List Extension) → carried ≡ carried_after m used → apply_proposals c m.public m.keys.leaf used ≡ Ok e → path_if_needed c m e used wants seed ≡ Ok made → apply_path_if c m.public m.keys.leaf e made.path ≡ Ok t
+      → send_commit c m carried (commit_of list made) e t made.climb.secret ≡ Err n → commit_from_path c m list used e made seed ≡ Err n
+  sending_fails wants n carried same edits path merges h = with_steps wants edits path merges ∙ ap (λ (r : Result SentCommit ℕ). r >>= with_welcome c m used made seed) (sent_of carried same ∙ h)
+
+  pub sending_goes : (wants : Bool) (sent : SentCommit) (carried : List Extension) → carried ≡ carried_after m used → apply_proposals c m.public m.keys.leaf used ≡ Ok e → path_if_needed c m e used wants seed ≡ Ok made → apply_path_if c m.public m.keys.leaf e made.path ≡ Ok t
+      → send_commit c m carried (commit_of list made) e t made.climb.secret ≡ Ok sent → commit_from_path c m list used e made seed ≡ with_welcome c m used made seed sent
+  sending_goes wants sent carried same edits path merges h = with_steps wants edits path merges ∙ ap (λ (r : Result SentCommit ℕ). r >>= with_welcome c m used made seed) (sent_of carried same ∙ h)
+
+-- the extensions that a speaker's group carries are its member's
+pub carried_as : (m : Member) (s : Speaker) (used : List Used) (carried : List Extension) → Speaks m s → AreCarriedBy s used carried → carried ≡ carried_after m used
+carried_as m s used carried speaks h = h ∙ rw speaks.public refl
 
 -- ---- the second step
 

@@ -4,7 +4,11 @@ use Rattle.std.specs.Borrow.{Bor}
 use Rattle.std.specs.List.{AllByRecursion}
 use Rattle.std.specs.Option.{option_copied}
 use Rattle.mls_wire.specs.Checks.{Answers}
+use Rattle.mls_leaf.specs.GroupExtensions.{group_extensions}
 use Rattle.mls_leaf.specs.Proposal.{proposal}
+use Rattle.mls_leaf.specs.declared.extension.Extension.{Extension}
+use Rattle.mls_leaf.specs.declared.proposal.Proposal.{Proposal}
+use Rattle.mls_leaf.specs.declared.proposal.Proposal.TheVariants.{Add, Update, Remove, GroupContextExtensions}
 use Rattle.mls_types.specs.declared.commit.ProposalOrRef.{ProposalOrRef}
 use Rattle.mls_suite.specs.Crypto.{Crypto}
 use Rattle.mls_treekem_model.specs.Keys.{PrivateKeys}
@@ -12,7 +16,9 @@ use Rattle.mls_treekem.specs.declared.secrets.PathSecrets.{PathSecrets}
 use Rattle.mls_model.specs.Commit.{Edits}
 use Rattle.mls_model.specs.Make.{Made, MadePath, path_seals}
 use Rattle.mls_model.specs.Member.{KeptProposal, Member, find_proposals}
+use Rattle.mls_model.specs.Proposals.{extended}
 use Rattle.mls_model.specs.PublicState.{Used}
+use Rattle.mls_public_group.specs.MessageLimit.{FitsIfShort}
 use Rattle.mls_public_group.specs.Short.{IsBelow}
 use Rattle.mls_message.specs.Speaks.{Speaks}
 use Rattle.mls_message.specs.declared.speaker.Speaker.{Speaker}
@@ -36,6 +42,26 @@ IsShortUsed u = IsBelow (2 ^ 28) proposal u.proposal × (u.is_full ≡ false →
 -- each of the proposals that a commit uses is so short
 abbrev pub AreShortUsed : List Used → Type 0
 AreShortUsed used = AllByRecursion IsShortUsed used
+
+-- a proposal encodes to fewer than 2^28 bytes; of a list of extensions, which may be longer, only that it has a spelling if
+-- that would be short
+abbrev pub HasShortParts : Proposal → Type 0
+HasShortParts (Add offered) = IsBelow (2 ^ 28) proposal (Add offered)
+HasShortParts (Update leaf) = IsBelow (2 ^ 28) proposal (Update leaf)
+HasShortParts (Remove leaf) = IsBelow (2 ^ 28) proposal (Remove leaf)
+HasShortParts (GroupContextExtensions list) = FitsIfShort group_extensions list
+
+-- it is such a proposal, and one that is kept encodes to fewer than 2^27 bytes
+abbrev pub IsUsable : Used → Type 0
+IsUsable u = HasShortParts u.proposal × (u.is_full ≡ false → IsBelow (2 ^ 27) proposal u.proposal)
+
+-- each of the proposals that a commit uses is so
+abbrev pub AreUsable : List Used → Type 0
+AreUsable used = AllByRecursion IsUsable used
+
+-- the speaker's group carries these extensions after the proposals
+abbrev pub AreCarriedBy : Speaker → List Used → List Extension → Type 0
+AreCarriedBy s used carried = carried ≡ extended s.group.now.context.extensions used
 
 -- a list uses these, by what somebody keeps and of some committer
 abbrev pub AreUsedBy : List ProposalOrRef → List Used → Type 0

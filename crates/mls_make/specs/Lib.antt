@@ -2,4 +2,5 @@ pub mod Faults
 pub mod CommitSteps
 pub mod TwoSteps
 pub mod OwnPath
+pub mod LongList
 pub mod CommitCall

@@ -2,6 +2,7 @@
 use Rattle.std.specs.Prelude.{◌≡◌, ℕ, ◌^◌, Bool, List, Option, Some, None, Result, Ok, IfSome}
 use Rattle.mls_wire.specs.Checks.{Answers}
 use Rattle.mls_leaf.specs.Leaf.{leaf_node}
+use Rattle.mls_leaf.specs.declared.extension.Extension.{Extension}
 use Rattle.mls_types.specs.declared.update_path.UpdatePath.{UpdatePath}
 use Rattle.mls_suite.specs.Crypto.{Crypto}
 use Rattle.mls_tree_model.specs.Term.{Term}
@@ -18,7 +19,7 @@ use Rattle.mls_model.specs.Member.{Member}
 use Rattle.mls_public_group.specs.Short.{AreBelow, HasLeavesBelow, IsBelow}
 use Rattle.mls_message.specs.Speaks.{Speaks}
 use Rattle.mls_message.specs.declared.speaker.Speaker.{Speaker}
-use Rattle.mls_make.specs.CommitSteps.{path_if_needed}
+use Rattle.mls_make.specs.CommitSteps.{path_if_needed, path_with}
 use Rattle.mls_make.specs.Faults.{number_of}
 use Rattle.mls_make.specs.declared.error.MakeError.{MakeError}
 use Rattle.mls_make.specs.declared.own_path.OwnPath.{OwnPath}
@@ -51,11 +52,11 @@ pub record IsOwnPath (c : Crypto) (m : Member) (used : List Used) (e : Edits) (w
 abbrev pub IsNoPath : PrivateKeys → Edits → OwnPath → Type 0
 IsNoPath keys e o = (m : Member) → m.keys ≡ keys → made_own_path o ≡ no_path m e
 
--- The call makes a path of the speaker where one is wanted or required, or refuses with the number of the first check that
--- fails, memory aside.
-abbrev pub MakesPath : Crypto → Speaker → PrivateKeys → Edits → List Used → Bool → List ℕ → Result OwnPath MakeError → Type 0
-MakesPath c s keys e used wants seed result =
-    (m : Member) → Speaks m s → m.keys ≡ keys → Answers made_own_path number_of (path_if_needed c m e used wants seed) result
+-- The call makes a path of the speaker for a commit with these extensions, where one is wanted or required, or refuses
+-- with the number of the first check that fails, memory aside.
+abbrev pub MakesPath : Crypto → Speaker → PrivateKeys → List Extension → Edits → List Used → Bool → List ℕ → Result OwnPath MakeError → Type 0
+MakesPath c s keys carried e used wants seed result =
+    (m : Member) → Speaks m s → m.keys ≡ keys → Answers made_own_path number_of (path_with c m carried e used wants seed) result
 
 -- the keys are of the speaker's leaf, if those before were
 abbrev pub KeepsLeaf : Speaker → PrivateKeys → OwnPath → Type 0

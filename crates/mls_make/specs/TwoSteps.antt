@@ -4,6 +4,7 @@ use Rattle.std.specs.Global.{Vec}
 use Rattle.mls_wire.specs.Checks.{Answers, ◌>>◌}
 use Rattle.mls_wire.specs.Reading.{◌>>=◌}
 use Rattle.mls_leaf.specs.Limits.{input_limit}
+use Rattle.mls_leaf.specs.declared.extension.Extension.{Extension}
 use Rattle.mls_leaf.specs.declared.key_package.KeyPackage.{KeyPackage}
 use Rattle.mls_types.specs.Commit.{commit as commit_format}
 use Rattle.mls_types.specs.GroupContext.{group_context}
@@ -49,13 +50,13 @@ pub record SentCommit : Type 0 where
 abbrev pub sent_as : declared.SentCommit → SentCommit
 sent_as s = record { message = s.message.items; change = s.change; joiner = s.joiner; epoch = s.epoch; tag = s.tag }
 
--- a commit that passes its checks, by its edits, the tree with its path and its commit secret (RFC 9420, 12.4.1); 6 its
--- message is too large
-unfoldable pub send_commit : Crypto → Member → Commit → Edits → Term → List ℕ → Result SentCommit ℕ
-send_commit c m commit e t secret = do
+-- a commit that passes its checks, by the extensions that the group then carries, its edits, the tree with its path and
+-- its commit secret (RFC 9420, 12.4.1); 6 its message is too large
+unfoldable pub send_commit : Crypto → Member → List Extension → Commit → Edits → Term → List ℕ → Result SentCommit ℕ
+send_commit c m carried commit e t secret = do
   let said = content_by m (says.Commit commit)
   let signature = content_signature c m.signing said m.public.context
-  let change = change_of m.public e t (framed_content.spell said) signature
+  let change = change_of m.public carried e t (framed_content.spell said) signature
   let joiner = joiner_secret (init_secret m.epoch) secret (group_context.spell change.context)
   let epoch = epoch_secret joiner (group_context.spell change.context)
   let tag = confirmation_tag epoch change.context.confirmed_transcript_hash
@@ -94,21 +95,21 @@ epoch_of joiner change = epoch_secret joiner (group_context.spell change.context
 abbrev pub tag_of : List ℕ → Change → List ℕ
 tag_of epoch change = confirmation_tag epoch change.context.confirmed_transcript_hash
 
--- the change is what the speaker's content makes with these edits and this tree
-abbrev pub HasChange : Speaker → Edits → Tree → FramedContent → Draft → Type 0
-HasChange s e tree said d =
-    d.change ≡ change_of s.group.now e (term tree) (framed_content.spell said) d.signature.items
+-- the change is what the speaker's content makes with these extensions, these edits and this tree
+abbrev pub HasChange : Speaker → List Extension → Edits → Tree → FramedContent → Draft → Type 0
+HasChange s carried e tree said d =
+    d.change ≡ change_of s.group.now carried e (term tree) (framed_content.spell said) d.signature.items
 
 -- the commit whose content this is, if it is of one, is no larger than a message may be
 abbrev pub IsShortCommit : Speaker → FramedContent → Type 0
 IsShortCommit s said =
     (commit : Commit) → IsSaidBy s (says.Commit commit) said → length (commit_format.spell commit) ≤ input_limit
 
--- The call sends the speaker's commit with these edits, this tree and this commit secret, or refuses with 6 where its
--- message is too large, memory aside.
-abbrev pub SendsCommit : Crypto → Speaker → Commit → Edits → Tree → List ℕ → Result declared.SentCommit MakeError → Type 0
-SendsCommit c s commit e tree secret result =
-    (m : Member) → Speaks m s → Answers sent_as number_of (send_commit c m commit e (term tree) secret) result
+-- The call sends the speaker's commit with these extensions, these edits, this tree and this commit secret, or refuses
+-- with 6 where its message is too large, memory aside.
+abbrev pub SendsCommit : Crypto → Speaker → List Extension → Commit → Edits → Tree → List ℕ → Result declared.SentCommit MakeError → Type 0
+SendsCommit c s carried commit e tree secret result =
+    (m : Member) → Speaks m s → Answers sent_as number_of (send_commit c m carried commit e (term tree) secret) result
 
 -- The call makes the Welcome of a group for its joiners, where there are any, from the speaker, or refuses with the number
 -- of what fails, memory aside.

@@ -3,6 +3,7 @@
 
 mod commit_welcome;
 mod error;
+mod long_list;
 mod new_commit;
 mod own_path;
 mod send_commit;

@@ -1,6 +1,7 @@
 //! The path of a commit that a member makes, or none.
 
 ghost use Rattle.std.specs.Prelude.{◌≡◌, ◌<◌, ◌+◌, ◌^◌, None, IfOk, IfSome};
+ghost use Rattle.mls_leaf.specs.GroupExtensions.{group_extensions};
 ghost use Rattle.mls_leaf.specs.Leaf.{leaf_node};
 ghost use Rattle.mls_tree.specs.Tree.{term};
 ghost use Rattle.mls_model.specs.Commit.{apply_path_if};
@@ -9,6 +10,7 @@ ghost use Rattle.mls_make.specs.OwnPath.{HasSecrets, IsMerged, IsNoPath, KeepsLe
 
 use crate::error::MakeError;
 use mls_kdf::{Secret, Seed};
+use mls_leaf::GroupExtensions;
 use mls_message::Speaker;
 use mls_public_group::{Edits, Used, is_path_required};
 use mls_suite::{OutOfMemory, Suite};
@@ -53,19 +55,21 @@ fn no_path(keys: &PrivatePath, edits: &Edits) -> Result<OwnPath, OutOfMemory>
     })
 }
 
-/// A path where one is wanted or required, else none (RFC 9420, 12.4.1).
-#[tactic(auto, unfolding(crate::specs::CommitSteps::path_if_needed, mls_model::specs::Commit::apply_path_if))]
+/// A path for a commit with these extensions, where one is wanted or required, else none (RFC 9420, 12.4.1).
+#[tactic(auto, unfolding(crate::specs::CommitSteps::path_with, mls_model::specs::Commit::apply_path_if))]
 pub(crate) fn own_path<S: Suite>(
     alloc: Global,
     speaker: &Speaker<'_>,
     keys: &PrivatePath,
+    extensions: &GroupExtensions,
     edits: &Edits,
     used: &[Used<'_>],
     wants_path: bool,
     seed: &Seed,
 ) -> Result<OwnPath, MakeError>
     requires epoch { speaker.now.group.now.context.epoch + 1 < 2 ^ 64 }
-    ensures answer { MakesPath S.crypto speaker.now keys.now edits.now used.now
+    requires extensions { IsBelow (2 ^ 27) group_extensions extensions.now }
+    ensures answer { MakesPath S.crypto speaker.now keys.now extensions.now edits.now used.now
         wants_path seed.now result }
     ensures leaf { IfOk result (KeepsLeaf speaker.now keys.now) }
     ensures below { IfOk result (λ o. IfSome o.path (λ p. IsBelow (2 ^ 28) leaf_node p.leaf_node)) }
@@ -89,6 +93,7 @@ pub(crate) fn own_path<S: Suite>(
         speaker.group,
         speaker.signing,
         speaker.leaf,
+        extensions,
         edits,
         seed,
     )?;

@@ -1,6 +1,7 @@
 //! A commit that is sent, and the epoch that it begins.
 
 ghost use Rattle.std.specs.Prelude.{◌≡◌, ◌+◌, ◌<◌, ◌≤◌, ◌^◌, length, IfOk};
+ghost use Rattle.mls_leaf.specs.GroupExtensions.{group_extensions};
 ghost use Rattle.mls_leaf.specs.Limits.{input_limit};
 ghost use Rattle.mls_types.specs.Commit.{commit as commit_format};
 ghost use Rattle.mls_types.specs.Content.{content as content_format};
@@ -8,13 +9,14 @@ ghost use Rattle.mls_types.specs.SignedParts.{signed_with};
 ghost use Rattle.mls_types.specs.declared.content.Content.TheVariants as says;
 ghost use Rattle.mls_tree.specs.Tree.{term};
 ghost use Rattle.mls_public_group.specs.MessageLimit.{FitsIfShort};
+ghost use Rattle.mls_public_group.specs.Short.{IsBelow};
 ghost use Rattle.mls_make.specs.TwoSteps.{HasChange, HasJoiner, IsShortCommit, SendsCommit, epoch_of, tag_of};
 ghost use Rattle.mls_message.specs.Sending.{Sends, Signs};
 
 use crate::error::MakeError;
 use mls_commit::Change;
 use mls_kdf::Secret;
-use mls_leaf::LeafError;
+use mls_leaf::{GroupExtensions, LeafError};
 use mls_message::{Framed, Speaker, send, sign};
 use mls_public_group::{Edits, context_spelling};
 use mls_schedule::{Epoch, Start};
@@ -94,19 +96,22 @@ struct Draft {
     begun: Begun,
 }
 
-/// The signature of a content, the change that it makes with these edits and this tree, and the epoch that it begins.
+/// The signature of a content, the change that it makes with these extensions, these edits and this tree, and the epoch
+/// that it begins.
 fn draft_commit<S: Suite>(
     alloc: Global,
     speaker: &Speaker<'_>,
     framed: &Framed,
+    extensions: &GroupExtensions,
     edits: Edits,
     tree: PublicTree,
     commit_secret: &Secret,
 ) -> Result<Draft, OutOfMemory>
     requires epoch { speaker.now.group.now.context.epoch + 1 < 2 ^ 64 }
+    requires extensions { IsBelow (2 ^ 27) group_extensions extensions.now }
     ensures signature { IfOk result (λ d. Signs S.crypto speaker.now framed.now d.signature.items) }
     ensures short { IfOk result (λ d. length d.signature.items < 2 ^ 16) }
-    ensures change { IfOk result (HasChange speaker.now edits tree framed.now) }
+    ensures change { IfOk result (HasChange speaker.now extensions.now edits tree framed.now) }
     ensures joiner { IfOk result (λ d. HasJoiner speaker.now commit_secret.now d.change d.begun) }
     ensures epoch { IfOk result (λ d. d.begun.epoch ≡ epoch_of d.begun.joiner d.change) }
     ensures tag { IfOk result (λ d. d.begun.tag ≡ tag_of d.begun.epoch d.change) }
@@ -115,6 +120,7 @@ fn draft_commit<S: Suite>(
     let change = Change::new(
         alloc,
         speaker.group,
+        extensions,
         edits,
         tree,
         framed.bytes(),
@@ -136,26 +142,37 @@ fn know_short_commit(framed: &Framed, speaker: &Speaker<'_>)
     let _length = bytes.len();
 }
 
-/// Sends a commit that passes its checks, with these edits, this tree with its path merged and this commit secret:
-/// `TooLong` (6) its message is too large (RFC 9420, 12.4.1).
+/// Sends a commit that passes its checks, with the extensions that the group then carries, these edits, this tree with
+/// its path merged and this commit secret: `TooLong` (6) its message is too large (RFC 9420, 12.4.1).
 pub(crate) fn send_commit<S: Suite>(
     alloc: Global,
     speaker: &Speaker<'_>,
+    extensions: &GroupExtensions,
     commit: Commit,
     edits: Edits,
     tree: PublicTree,
     commit_secret: &Secret,
 ) -> Result<SentCommit, MakeError>
     requires epoch { speaker.now.group.now.context.epoch + 1 < 2 ^ 64 }
+    requires extensions { IsBelow (2 ^ 27) group_extensions extensions.now }
     requires fits { FitsIfShort content_format (says.Commit commit) }
-    ensures answer { SendsCommit S.crypto speaker.now commit edits tree commit_secret.now result }
+    ensures answer { SendsCommit S.crypto speaker.now extensions.now commit edits tree
+        commit_secret.now result }
     ensures short { IfOk result (λ _. length (commit_format.spell commit) ≤ input_limit) }
     ensures edits { IfOk result (λ s. s.change.edits ≡ edits) }
     ensures tree { IfOk result (λ s. s.change.tree ≡ term tree) }
 {
     let framed = Framed::new(alloc, speaker, Content::Commit(commit))?;
     know_short_commit(&framed, speaker);
-    let draft = draft_commit::<S>(alloc, speaker, &framed, edits, tree, commit_secret)?;
+    let draft = draft_commit::<S>(
+        alloc,
+        speaker,
+        &framed,
+        extensions,
+        edits,
+        tree,
+        commit_secret,
+    )?;
     let Draft {
         signature,
         change,

@@ -8,14 +8,14 @@ use Rattle.mls_suite.specs.Crypto.{Crypto}
 use Rattle.mls_model.specs.Make.{Made, make, commit_call}
 use Rattle.mls_model.specs.PublicState.{Used}
 use Rattle.mls_model.specs.Member.{Member, find_proposals}
-use Rattle.mls_make.specs.CommitSteps.{path_if_needed, commit_from_change, commit_from_path, commit_from_proposals}
+use Rattle.mls_make.specs.CommitSteps.{path_with, commit_from_change, commit_from_path, commit_from_proposals}
 use Rattle.mls_member.specs.declared.error.Refusal.{Refusal}
 use Rattle.mls_member.specs.Faults.{number_of}
 use Rattle.mls_member.specs.Committing.{made_of_list, keep_pending}
 
 -- 40, 67 and 66 come first
 make_is : (c : Crypto) (m : Member) (list : List ProposalOrRef) (wants : Bool) (seed : List ℕ) → make c m list wants seed ≡ (require 40 (not m.gone) >> (require 67 (is_none m.pending) >> (require 66 (nat_lt m.public.context.epoch (2 ^ 64 - 1)) >> made_of_list c m list wants seed)))
-unfolding make commit_from_proposals path_if_needed commit_from_path commit_from_change
+unfolding make commit_from_proposals path_with commit_from_path commit_from_change
 make_is c m list wants seed = refl
 
 -- ---- what fails

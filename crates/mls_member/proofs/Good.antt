@@ -7,7 +7,9 @@ use Rattle.mls_wire.specs.Checks.{passed, DoesAs}
 use Rattle.mls_wire.specs.Format.{IsBytes}
 use Rattle.mls_wire.specs.Laws.{bind_ok, ok_is}
 use Rattle.mls_wire.specs.Reading.{◌>>=◌}
+use Rattle.mls_leaf.specs.GroupExtensions.{are_allowed}
 use Rattle.mls_leaf.specs.KeyPackage.{key_package}
+use Rattle.mls_leaf.specs.declared.extension.Extension.{Extension}
 use Rattle.mls_leaf.specs.declared.key_package.KeyPackage.{KeyPackage}
 use Rattle.mls_leaf.specs.declared.leaf.LeafNode.{LeafNode}
 use Rattle.mls_leaf.specs.declared.proposal.Proposal.{Proposal}
@@ -25,7 +27,7 @@ use Rattle.mls_model.specs.Join.{join_verdict}
 use Rattle.mls_model.specs.Make.{commit_call}
 use Rattle.mls_model.specs.Member.{KeptProposal, Pending, Member, find_proposal, find_proposals, with_epoch, without_pending}
 use Rattle.mls_model.specs.Proposals.{proposal_checks}
-use Rattle.mls_model.specs.Propose.{make_proposal, propose_add, updated_leaf, propose_update, propose_remove}
+use Rattle.mls_model.specs.Propose.{make_proposal, propose_add, updated_leaf, propose_update, propose_remove, propose_extensions}
 use Rattle.mls_model.specs.PublicState.{PublicState, Used}
 use Rattle.mls_treekem_model.specs.Keys.{PrivateKeys, all_keys}
 use Rattle.mls_model.specs.Verdict.{own_pending, bytes_verdict, verdict}
@@ -33,7 +35,7 @@ use Rattle.mls_theorems.proofs.Sharing.{commits_reach}
 use Rattle.mls_theorems.proofs.Committed.{created_good}
 use Rattle.mls_theorems.proofs.Delivered.{delivered_good}
 use Rattle.mls_theorems.proofs.Entered.{joined_good}
-use Rattle.mls_theorems.proofs.Proposing.{added_good, updated_good, removed_good}
+use Rattle.mls_theorems.proofs.Proposing.{added_good, updated_good, removed_good, extended_good}
 use Rattle.mls_theorems.specs.SpelledParts.{FullFits}
 use Rattle.mls_theorems.proofs.UnchangedMembers.{good_still}
 use Rattle.mls_make.specs.CommitCall.{AreShortUsed}
@@ -135,6 +137,16 @@ pub remove_good : (c : Crypto) (m n : Member) (leaf : ℕ) (r : Result (Vec ℕ)
 unfolding propose_remove
 remove_good c m n leaf r good gone checks does =
     good_after c (λ (v : Vec ℕ). v.items) (send_and_keep c m (proposes.Remove leaf) None) m n r good (λ x h. removed_good c m leaf x good (proposed_is c m (proposes.Remove leaf) None gone checks ∙ h)) does
+
+extensions_pass : (c : Crypto) (m : Member) (list : List Extension) → proposal_checks c m.public m.keys.leaf (proposes.GroupContextExtensions list) ≡ Ok passed
+unfolding proposal_checks
+extensions_pass c m list = refl
+
+pub extensions_good : (c : Crypto) (m n : Member) (list : List Extension) (r : Result (Vec ℕ) Refusal) → IsGoodMember c m → are_allowed list ≡ true → m.gone ≡ false → HasSent c m n (proposes.GroupContextExtensions list) None r → IsGoodMember c n
+unfolding propose_extensions
+extensions_good c m n list r good may gone does =
+    good_after c (λ (v : Vec ℕ). v.items) (send_and_keep c m (proposes.GroupContextExtensions list) None) m n r good
+    (λ x h. extended_good c m list x good may (proposed_is c m (proposes.GroupContextExtensions list) None gone (extensions_pass c m list) ∙ h)) does
 
 -- ---- commits
 

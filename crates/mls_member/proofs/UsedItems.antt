@@ -6,24 +6,24 @@ use Rattle.mls_model.specs.Make.{listed_of}
 use Rattle.mls_model.specs.PublicState.{Used}
 use Rattle.mls_model.specs.Member.{KeptProposal, find_proposal, find_proposals}
 use Rattle.mls_public_group.proofs.Rest.{all_behind, here}
-use Rattle.mls_make.specs.CommitCall.{IsShortUsed, AreShortUsed}
+use Rattle.mls_make.specs.CommitCall.{IsUsable, AreUsable}
 use Rattle.mls_member.specs.Answers.{IsShortItem, AreShortItems}
 use Rattle.mls_member.proofs.Uses.{with_rest, all_ok, nothing_first, one_more}
 
 pub record AreTaken (kept : List KeptProposal) (committer : ℕ) (items rest : List Item) (used : List Used) : Type 0 where
   pub answer : with_rest used (find_proposals kept committer (map listed_of rest)) ≡ find_proposals kept committer (map listed_of items)
-  pub short : AreShortUsed used
+  pub short : AreUsable used
   pub left : AreShortItems rest
 
 pub taken_first : (kept : List KeptProposal) (committer : ℕ) (items : List Item) → AreShortItems items → AreTaken kept committer items items []
 taken_first kept committer items h = record { answer = nothing_first (find_proposals kept committer (map listed_of items)); short = tt; left = h }
 
-taken_next : (kept : List KeptProposal) (committer : ℕ) (items rest : List Item) (x : Item) (used : List Used) (u : Used) → AreTaken kept committer items (x ∷ rest) used → find_proposal kept committer (listed_of x) ≡ Ok u → IsShortUsed u
+taken_next : (kept : List KeptProposal) (committer : ℕ) (items rest : List Item) (x : Item) (used : List Used) (u : Used) → AreTaken kept committer items (x ∷ rest) used → find_proposal kept committer (listed_of x) ≡ Ok u → IsUsable u
     → AreTaken kept committer items rest (used ++ u ∷ [])
 unfolding find_proposals
 taken_next kept committer items rest x used u h e short = record {
   answer = sym (one_more used u (find_proposals kept committer (map listed_of rest))) ∙ (rw e at h.answer);
-  short = all_behind IsShortUsed used u h.short short;
+  short = all_behind IsUsable used u h.short short;
   left = h.left.1;
 }
 
@@ -38,7 +38,7 @@ pub left_short : (kept : List KeptProposal) (committer : ℕ) (items : List Item
 left_short kept committer items i x used lt e h = (subst (λ (l : List Item). AreTaken kept committer items l used) (here items i x lt e) h).left.0
 
 pub taken_step : (kept : List KeptProposal) (committer : ℕ) (items : List Item) (i : ℕ) (x : Item) (used : List Used) (u : Used) → i < length items → x ≡ get_or items i x → AreTaken kept committer items (drop i items) used
-    → find_proposal kept committer (listed_of x) ≡ Ok u → IsShortUsed u → AreTaken kept committer items (drop (i + 1) items) (used ++ u ∷ [])
+    → find_proposal kept committer (listed_of x) ≡ Ok u → IsUsable u → AreTaken kept committer items (drop (i + 1) items) (used ++ u ∷ [])
 taken_step kept committer items i x used u lt e h one short =
     taken_next kept committer items (drop (i + 1) items) x used u (subst (λ (l : List Item). AreTaken kept committer items l used) (here items i x lt e) h) one short
 

@@ -1,17 +1,25 @@
 -- How the proposals that a commit uses come about, one after the other.
-use Rattle.std.proofs.Common.{◌≡◌, ℕ, ◌+◌, ◌<◌, ◌≤◌, ◌^◌, List, [], ◌∷◌, ◌++◌, length, drop, Option, Some, None, Result, Ok, Err, refl, sym, ap, subst, ◌∙◌, arith, append_assoc, get_or, ◌||◌}
+use Rattle.std.proofs.Common.{◌≡◌, ℕ, ◌+◌, ◌<◌, ◌≤◌, ◌^◌, List, [], ◌∷◌, ◌++◌, length, drop, Option, Some, None, Result, Ok, Err, refl, sym, ap, subst, ◌∙◌, arith, append_assoc, get_or, ◌||◌, false}
 use Rattle.std.specs.List.{AllByRecursion, list_any, cons_option}
 use Rattle.std.proofs.lemmas.List.{append-nil, drop_all}
 use Rattle.mls_wire.specs.Reading.{◌>>=◌}
 use Rattle.mls_leaf.specs.Proposal.{proposal as proposal_format}
+use Rattle.mls_leaf.specs.declared.proposal.Proposal.{Proposal}
+use Rattle.mls_leaf.specs.declared.proposal.Proposal.TheVariants.{Add, Update, Remove, GroupContextExtensions}
 use Rattle.mls_types.specs.declared.commit.ProposalOrRef.{ProposalOrRef}
 use Rattle.mls_tree_model.specs.Sets.{has}
 use Rattle.mls_model.specs.PublicState.{Used}
 use Rattle.mls_model.specs.Member.{KeptProposal, find_proposal, find_proposals, named_proposal, named_proposals, first_own_key, first_key}
 use Rattle.mls_model.specs.Proposals.{removed_leaves, remove_in}
-use Rattle.mls_public_group.specs.Short.{IsBelow, AreBelow}
+use Rattle.mls_public_group.specs.Short.{IsBelow, IsProposalBelow, AreBelow}
 use Rattle.mls_public_group.proofs.Rest.{here, all_behind}
+use Rattle.mls_public_group.proofs.ShortLaws.{below_more, proposal_below}
+use Rattle.mls_make.specs.CommitCall.{HasShortParts, IsUsable}
 use Rattle.mls_member.specs.Process.{IsListedBelow, key_of, is_leaf, removes_leaf}
+
+-- a proposal that is used encodes to fewer than 2^27 bytes, extensions too
+abbrev pub IsSpelledBelow : Used → Type 0
+IsSpelledBelow u = IsBelow (2 ^ 27) proposal_format u.proposal
 
 -- what is used so far, and then the rest of the list
 abbrev pub with_rest : List Used → Result (List Used) ℕ → Result (List Used) ℕ
@@ -19,7 +27,7 @@ with_rest used rest = rest >>= λ us. Ok (used ++ us)
 
 pub record AreUsed (kept : List KeptProposal) (committer : ℕ) (list rest : List ProposalOrRef) (used : List Used) : Type 0 where
   pub answer : with_rest used (find_proposals kept committer rest) ≡ find_proposals kept committer list
-  pub below : AreBelow (2 ^ 27) used
+  pub below : AllByRecursion IsSpelledBelow used
   pub short : AllByRecursion (IsListedBelow (2 ^ 27)) rest
 
 abbrev pub all_ok : List Used → Result (List Used) ℕ
@@ -40,7 +48,7 @@ pub used_next : (kept : List KeptProposal) (committer : ℕ) (list rest : List P
 unfolding find_proposals
 used_next kept committer list rest x used u h e below = record {
   answer = sym (one_more used u (find_proposals kept committer rest)) ∙ (rw e at h.answer);
-  below = all_behind (λ (v : Used). IsBelow (2 ^ 27) proposal_format v.proposal) used u h.below below;
+  below = all_behind IsSpelledBelow used u h.below below;
   short = h.short.1;
 }
 
@@ -54,9 +62,27 @@ used_all kept committer list used h = sym h.answer ∙ ap (λ (l : List Used). a
 
 -- ---- wider limits
 
-pub used_wider : (us : List Used) → AreBelow (2 ^ 27) us → AreBelow (2 ^ 28) us
+wider : (p : Proposal) → IsBelow (2 ^ 27) proposal_format p → IsBelow (2 ^ 28) proposal_format p
+wider p h = below_more proposal_format (2 ^ 27) (2 ^ 28) p (omega arith) h
+
+-- a proposal below 2^27 is below 2^28, extensions aside
+pub checked_below : (p : Proposal) → IsBelow (2 ^ 27) proposal_format p → IsProposalBelow (2 ^ 28) p
+checked_below p h = proposal_below (2 ^ 28) p (wider p h)
+
+pub used_wider : (us : List Used) → AllByRecursion IsSpelledBelow us → AreBelow (2 ^ 28) us
 used_wider [] h = tt
-used_wider (u ∷ us) h = (record { fits = h.0.fits; below = omega (arith, h.0.below) }, used_wider us h.1)
+used_wider (u ∷ us) h = (checked_below u.proposal h.0, used_wider us h.1)
+
+-- a kept proposal can be used, whatever it says
+short_parts : (p : Proposal) → IsBelow (2 ^ 27) proposal_format p → HasShortParts p
+unfolding proposal_format
+short_parts (Add x) h = wider (Add x) h
+short_parts (Update x) h = wider (Update x) h
+short_parts (Remove i) h = wider (Remove i) h
+short_parts (GroupContextExtensions list) h = λ lt. h.fits.1
+
+pub kept_usable : (p : Proposal) (sender : ℕ) → IsBelow (2 ^ 27) proposal_format p → let u : Used = record { proposal = p; sender = sender; is_full = false } in IsUsable u
+kept_usable p sender h = (short_parts p h, λ full. h)
 
 -- ---- lists
 

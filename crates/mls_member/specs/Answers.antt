@@ -39,7 +39,7 @@ HasMade c maker after list made = ReachesGroup c maker after list made.commit.it
 abbrev pub joined_as : {S : Type 0} → Joined S → model.JoinedMember
 joined_as j = record { member = j.member; info = j.group_info.items }
 
--- a proposal in full is short; of a reference nothing is asked
+-- a proposal in full is short; of a reference nothing is asked, nor of extensions
 abbrev pub IsShortItem : Item → Type 0
 IsShortItem (item.Ref reference) = Unit {0}
 IsShortItem (item.Full p) = IsShortProposal p

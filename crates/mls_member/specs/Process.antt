@@ -4,9 +4,11 @@ use Rattle.std.specs.List.{AllByRecursion, list_any}
 use Rattle.std.specs.Str.{bytes_eq}
 use Rattle.mls_wire.specs.Checks.{Passed, require, require_some, ◌>>◌}
 use Rattle.mls_wire.specs.Reading.{◌>>=◌}
+use Rattle.mls_leaf.specs.GroupExtensions.{group_extensions}
 use Rattle.mls_leaf.specs.Limits.{input_limit}
 use Rattle.mls_leaf.specs.Leaf.{leaf_node}
 use Rattle.mls_leaf.specs.Proposal.{proposal as proposal_format}
+use Rattle.mls_leaf.specs.declared.extension.Extension.{Extension}
 use Rattle.mls_leaf.specs.declared.leaf.LeafNode.{LeafNode}
 use Rattle.mls_leaf.specs.declared.proposal.Proposal.{Proposal}
 use Rattle.mls_types.specs.GroupContext.{group_context}
@@ -25,7 +27,7 @@ use Rattle.mls_treekem_model.specs.Keys.{PrivateKeys}
 use Rattle.mls_schedule.specs.Epoch.{init_secret, next_epoch_secret, confirmation_tag}
 use Rattle.mls_model.specs.declared.effect.Effect.{Effect}
 use Rattle.mls_model.specs.declared.effect.Effect.TheVariants.{Proposed, Advanced, Removed}
-use Rattle.mls_model.specs.Proposals.{proposal_checks, remove_in}
+use Rattle.mls_model.specs.Proposals.{extended, proposal_checks, remove_in}
 use Rattle.mls_model.specs.PublicState.{Used}
 use Rattle.mls_model.specs.Commit.{Change, change_of_commit, public_with}
 use Rattle.mls_model.specs.Member.{KeptProposal, Member, find_proposals, keys_after_edits, with_kept, with_epoch, after_removal}
@@ -151,6 +153,11 @@ pub record IsShortView (view : PublicMessageView) : Type 0 where
 abbrev pub IsListedBelow : ℕ → ProposalOrRef → Type 0
 IsListedBelow n (listed.Proposal p) = IsBelow n proposal_format p
 IsListedBelow n (listed.Reference reference) = Unit {0}
+
+-- where a group's extensions encode to fewer than 2^27 bytes, those that it carries after these proposals do
+abbrev pub KeepExtensionsShort : List Used → Type 0
+KeepExtensionsShort used =
+    (old : List Extension) → IsBelow (2 ^ 27) group_extensions old → IsBelow (2 ^ 27) group_extensions (extended old used)
 
 -- each proposal in full, and the path's leaf, encode to fewer than n bytes
 pub record IsShortCommit (n : ℕ) (commit : Commit) : Type 0 where

@@ -4,6 +4,7 @@ use Rattle.std.specs.Global.{Vec}
 use Rattle.std.specs.Str.{bytes_eq}
 use Rattle.mls_wire.specs.Checks.{AnswersOutright, DoesAs, Passed, require, ◌>>◌}
 use Rattle.mls_wire.specs.Reading.{◌>>=◌}
+use Rattle.mls_leaf.specs.declared.extension.Extension.{Extension}
 use Rattle.mls_leaf.specs.declared.key_package.KeyPackage.{KeyPackage}
 use Rattle.mls_leaf.specs.declared.leaf.LeafNode.{LeafNode}
 use Rattle.mls_leaf.specs.declared.proposal.Proposal.{Proposal}
@@ -11,7 +12,7 @@ use Rattle.mls_suite.specs.Crypto.{Crypto}
 use Rattle.mls_tree.specs.Tree.{member_at}
 use Rattle.mls_model.specs.Member.{KeptProposal, Member, kept_under, with_kept}
 use Rattle.mls_model.specs.Messages.{is_within_limit, message_by, reference_of}
-use Rattle.mls_model.specs.Propose.{proposal_by, keep_once, updated_leaf, propose_add, propose_update, propose_remove}
+use Rattle.mls_model.specs.Propose.{proposal_by, keep_once, updated_leaf, propose_add, propose_update, propose_remove, propose_extensions}
 use Rattle.mls_public_group.specs.ProposalChecks.{member_check}
 use Rattle.mls_message.specs.declared.said_proposal.SaidProposal.{SaidProposal}
 use Rattle.mls_tree.specs.Refusals.{RefusesOutright}
@@ -63,6 +64,10 @@ ProposesUpdate c seed old new result = Proposes (propose_update c old seed) old 
 -- The call proposes to remove the member at a leaf, or refuses with the number of what fails, memory aside.
 abbrev pub ProposesRemove : Crypto → ℕ → Member → Member → Result (Vec ℕ) Refusal → Type 0
 ProposesRemove c leaf old new result = Proposes (propose_remove c old leaf) old new result
+
+-- The call proposes that the group carry these extensions, or refuses with the number of what fails, memory aside.
+abbrev pub ProposesExtensions : Crypto → List Extension → Member → Member → Result (Vec ℕ) Refusal → Type 0
+ProposesExtensions c list old new result = Proposes (propose_extensions c old list) old new result
 
 -- The call answers whether the same message is kept under its reference, or refuses with 49. It takes no memory.
 abbrev pub TellsKnown : Member → SaidProposal → Result Bool Refusal → Type 0

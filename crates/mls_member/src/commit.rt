@@ -3,7 +3,7 @@
 ghost use Rattle.std.specs.Prelude.{◌≡◌, ◌+◌, ◌<◌, ◌^◌, true, Err, is_some, IfOk, map};
 ghost use Rattle.std.specs.List.{AllByRecursion};
 ghost use Rattle.mls_theorems.specs.SpelledParts.{FullFits};
-ghost use Rattle.mls_make.specs.CommitCall.{made_as, AreShortUsed};
+ghost use Rattle.mls_make.specs.CommitCall.{made_as, AreUsable};
 ghost use Rattle.mls_model.specs.MemberInvariant.{IsGoodMember};
 ghost use Rattle.mls_model.specs.Make.{listed_of};
 ghost use Rattle.mls_member.specs.Answers.{AreShortItems, Commits, CommitsItems, Finds, MadeReaches, MakesCommit, RefusesLast, RefusesPending};
@@ -41,7 +41,7 @@ impl<S: Suite> Member<S> {
     fn resolve_items<'a>(&'a self, items: &'a [Item]) -> Result<Vec<Used<'a>>, Refusal>
         requires { AreShortItems items.now }
         ensures answer { Finds self.now.kept self.now.keys.leaf (map listed_of items.now) result }
-        ensures short { IfOk result (λ v. AreShortUsed v.items) }
+        ensures short { IfOk result (λ v. AreUsable v.items) }
     {
         used_of_items(self.alloc, &self.kept, self.keys.leaf(), items)
     }

@@ -1,20 +1,22 @@
 //! The proposals of a commit call (RFC 9420, 12.4).
 
 ghost use Rattle.std.specs.Prelude.{◌≡◌, ◌^◌, map, IfOk};
+ghost use Rattle.mls_leaf.specs.GroupExtensions.{group_extensions};
 ghost use Rattle.mls_leaf.specs.Proposal.{proposal as proposal_format};
 ghost use Rattle.mls_leaf.specs.declared.proposal.Proposal.TheVariants.{Remove};
 ghost use Rattle.mls_model.specs.Make.{listed_of};
 ghost use Rattle.mls_model.specs.Member.{find_proposal};
+ghost use Rattle.mls_public_group.specs.MessageLimit.{FitsIfShort};
 ghost use Rattle.mls_public_group.specs.Short.{IsBelow};
 ghost use Rattle.mls_public_group.specs.ShortProposal.{IsShortProposal};
-ghost use Rattle.mls_make.specs.CommitCall.{IsShortUsed, AreShortUsed};
+ghost use Rattle.mls_make.specs.CommitCall.{HasShortParts, IsUsable, AreUsable};
 ghost use Rattle.mls_member.specs.Answers.{IsShortItem, AreShortItems, Finds};
 ghost use Rattle.mls_member.specs.Faults.{Gives};
 
 use crate::error::Refusal;
 use crate::kept_and_pending::KeptProposal;
 use crate::used_proposals::{kept_under, used_kept};
-use mls_leaf::{Bytes, Items, Proposal};
+use mls_leaf::{Bytes, GroupExtensions, Items, Proposal};
 use mls_model::Item;
 use mls_public_group::Used;
 use mls_types::ProposalOrRef;
@@ -49,16 +51,24 @@ fn know_removal(leaf: u32)
     ensures { IsBelow (2 ^ 28) proposal_format (Remove leaf) }
 {}
 
-/// A law: a proposal whose KeyPackage or leaf is short has a spelling, of fewer than 2^28 bytes.
+/// A law: the extensions of a group have a spelling, if that would be short.
+fn know_extensions(extensions: &GroupExtensions)
+    ensures { FitsIfShort group_extensions extensions.now }
+{
+    let _entries = extensions.as_slice();
+}
+
+/// A law: a proposal whose KeyPackage or leaf is short has a spelling, of fewer than 2^28 bytes; one of extensions has
+/// one, if that would be short.
 fn know_short(proposal: &Proposal)
     requires { IsShortProposal proposal.now }
-    ensures { IsBelow (2 ^ 28) proposal_format proposal.now }
+    ensures { HasShortParts proposal.now }
 {
     match proposal {
         Proposal::Add(_) => {}
         Proposal::Update(_) => {}
         Proposal::Remove(leaf) => know_removal(*leaf),
-        Proposal::GroupContextExtensions(_) => {}
+        Proposal::GroupContextExtensions(extensions) => know_extensions(extensions),
     }
 }
 
@@ -71,7 +81,7 @@ fn resolve_item<'a>(
 ) -> Result<Used<'a>, Refusal>
     requires { IsShortItem item.now }
     ensures answer { Gives (find_proposal kept.now committer (listed_of item.now)) result }
-    ensures short { IfOk result (λ u. IsShortUsed u) }
+    ensures short { IfOk result (λ u. IsUsable u) }
 {
     match item {
         Item::Full(proposal) => {
@@ -98,7 +108,7 @@ pub(crate) fn used_of_items<'a>(
 ) -> Result<Vec<Used<'a>>, Refusal>
     requires { AreShortItems items.now }
     ensures answer { Finds kept.now committer (map listed_of items.now) result }
-    ensures short { IfOk result (λ v. AreShortUsed v.items) }
+    ensures short { IfOk result (λ v. AreUsable v.items) }
 {
     let mut used = Vec::new(alloc);
     for item in items {

@@ -7,18 +7,17 @@ ghost use Rattle.mls_leaf.specs.KeyPackage.{key_package as key_package_format};
 ghost use Rattle.mls_leaf.specs.Proposal.{proposal as proposal_format};
 ghost use Rattle.mls_leaf.specs.declared.proposal.Proposal.TheVariants.{Update};
 ghost use Rattle.mls_checks.specs.Checks.{key_package_checks};
-ghost use Rattle.mls_checks.specs.Short.{IsShort};
 ghost use Rattle.mls_public_group.specs.Faults.{number_of as number_of_group, Gives, Passes};
 ghost use Rattle.mls_public_group.specs.Short.{IsBelow};
 ghost use Rattle.mls_model.specs.MemberInvariant.{IsGoodMember};
-ghost use Rattle.mls_member.specs.Proposing.{updated_answer, ProposesAdd, ProposesRemove, ProposesUpdate, RefusesNonMember, own_leaf_check};
+ghost use Rattle.mls_member.specs.Proposing.{updated_answer, ProposesAdd, ProposesExtensions, ProposesRemove, ProposesUpdate, RefusesNonMember, own_leaf_check};
 ghost use Rattle.mls_member.specs.declared.error.Refusal.TheVariants.{Gone};
 
 use crate::error::Refusal;
 use crate::member::Member;
 use mls_candidate::{leaf_key, renewed_leaf};
 use mls_kdf::Seed;
-use mls_leaf::{KeyPackage, LeafNode, LeafSource, Proposal};
+use mls_leaf::{GroupExtensions, KeyPackage, LeafNode, LeafSource, Proposal};
 use mls_public_group::GroupError;
 use mls_suite::Suite;
 use mls_tree::TreeError;
@@ -36,7 +35,7 @@ impl<S: Suite> Member<S> {
     /// The leaf of an update: `NoSuchLeaf` (22) where the member has none (RFC 9420, 7.2).
     fn updated_leaf(&self, seed: &Seed) -> Result<LeafNode, GroupError>
         ensures leaf { Gives (updated_answer S.crypto self.now seed.now) result }
-        ensures short { IfOk result (λ v. IsShort proposal_format (Update v)) }
+        ensures short { IfOk result (λ v. IsBelow (2 ^ 28) proposal_format (Update v)) }
     {
         let speaker = self.speaker();
         let group = speaker.group;
@@ -126,6 +125,22 @@ impl<S: Suite> Member<S> {
         let sender = self.keys.leaf();
         self.group
             .require_proposal::<S>(self.alloc, sender, &proposal)?;
+        self.send_and_keep(proposal, None)
+    }
+    /// Proposes that the group carry these extensions in place of its own: the message, which the member keeps. `Gone`
+    /// (40) the member was removed, `TooLong` (6) and `ReferenceTaken` (49) as of an addition (RFC 9420, 12.1.7).
+    #[tactic(auto, unfolding(mls_model::specs::Propose::propose_extensions, mls_model::specs::Propose::make_proposal, mls_model::specs::Proposals::proposal_checks))]
+    pub fn propose_extensions(&mut self, extensions: GroupExtensions) -> Result<Vec<u8>, Refusal>
+        ensures answer { ProposesExtensions S.crypto extensions self.old self.new result }
+        ensures good { IsGoodMember S.crypto self.old → IsGoodMember S.crypto self.new }
+        // It takes no memory.
+        ensures gone { self.old.gone ≡ true → result ≡ Err Gone }
+    {
+        if self.gone {
+            return Err(Refusal::Gone);
+        }
+        let _entries = extensions.as_slice(); // They may be carried, for the proof.
+        let proposal = Proposal::GroupContextExtensions(extensions);
         self.send_and_keep(proposal, None)
     }
 }

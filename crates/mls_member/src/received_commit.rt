@@ -165,6 +165,7 @@ impl<S: Suite> Member<S> {
         let used = find_proposals(self.alloc, &self.kept, committer, list)?;
         let proposals = used.as_slice();
         let group = &self.group;
+        group.is_short();
         let received = change_of_commit::<S>(
             self.alloc, group, committer, proposals, commit, said, signature,
         )?;

@@ -3,6 +3,7 @@
 
 ghost use Rattle.std.specs.Prelude.{◌^◌};
 ghost use Rattle.mls_leaf.specs.Proposal.{proposal as proposal_format};
+ghost use Rattle.mls_public_group.specs.MessageLimit.{FitsIfShort};
 ghost use Rattle.mls_public_group.specs.Short.{IsBelow};
 ghost use Rattle.mls_member.specs.Proposing.{KeepsSent, SendsAndKeeps, TellsKnown};
 
@@ -69,7 +70,7 @@ impl<S: Suite> Member<S> {
         proposal: Proposal,
         own_key: Option<Secret>,
     ) -> Result<Vec<u8>, Refusal>
-        requires { proposal_format.Fits proposal }
+        requires { FitsIfShort proposal_format proposal }
         ensures { SendsAndKeeps S.crypto proposal own_key self.old self.new result }
     {
         let said = match mls_message::sign_proposal::<S>(self.alloc, &self.speaker(), &proposal) {

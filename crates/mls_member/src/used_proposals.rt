@@ -7,7 +7,8 @@ ghost use Rattle.mls_leaf.specs.Proposal.{proposal as proposal_format};
 ghost use Rattle.mls_model.specs.Member.{kept_under, find_proposal, named_proposal, named_proposals, first_own_key};
 ghost use Rattle.mls_public_group.specs.Short.{IsBelow, AreBelow};
 ghost use Rattle.mls_member.specs.Faults.{Gives};
-ghost use Rattle.mls_member.specs.Process.{IsListedBelow, key_of, removes_leaf};
+ghost use Rattle.mls_make.specs.CommitCall.{IsUsable};
+ghost use Rattle.mls_member.specs.Process.{IsListedBelow, KeepExtensionsShort, key_of, removes_leaf};
 ghost use Rattle.mls_member.specs.Answers.{Finds, used_kept};
 
 use crate::error::Refusal;
@@ -30,6 +31,7 @@ pub(crate) fn kept_under<'a>(kept: &'a [KeptProposal], reference: &[u8]) -> Opti
 pub(crate) fn used_kept<'a>(kept: &'a KeptProposal) -> Used<'a>
     ensures used { result ≡ used_kept kept.now }
     ensures below { IsBelow (2 ^ 27) proposal_format result.proposal }
+    ensures usable { IsUsable result }
 {
     Used {
         proposal: &kept.proposal,
@@ -73,6 +75,7 @@ pub(crate) fn find_proposals<'a>(
     ensures answer { Finds kept.now committer list.now result }
     ensures below { IfOk result (λ v. AreBelow (2 ^ 27) v.items) }
     ensures wide { IfOk result (λ v. AreBelow (2 ^ 28) v.items) }
+    ensures extensions { IfOk result (λ v. KeepExtensionsShort v.items) }
 {
     let mut used = Vec::new(alloc);
     for listed in list {

@@ -1,6 +1,6 @@
 -- How long a member's texts are.
 use Rattle.std.proofs.Common.{◌≡◌, ℕ, ◌<◌, ◌≤◌, ◌^◌, List, ◌++◌, length, Ok, refl, sym, subst, arith, lit<, length-append}
-use Rattle.std.specs.Int.{w16, w64}
+use Rattle.std.specs.Int.{w8, w16, w64}
 use Rattle.mls_wire.specs.Format.{IsBytes}
 use Rattle.mls_wire.specs.Reading.{uint, header, opaque}
 use Rattle.mls_leaf.specs.Limits.{input_limit}
@@ -69,7 +69,7 @@ said_fits group at leaf more x a l fits lt =
     let c : length (content.spell x) < 2 ^ 30 = omega (arith, d, last_within (opaque more) (content.spell x)) in
     (g, (a, ((lit< tt, l), (b, fits c))))
 
--- a proposal as a content has one, if it has
-pub proposal_fits : (x : Proposal) → proposal.Fits x → FitsIfShort content (says.Proposal x)
+-- a proposal as a content has one, if it has one where it is short
+pub proposal_fits : (x : Proposal) → FitsIfShort proposal x → FitsIfShort content (says.Proposal x)
 unfolding content
-proposal_fits x f = λ short. (lit< tt, f)
+proposal_fits x fits lt = (lit< tt, fits (omega (arith, lt, last_within (uint w8 2) (proposal.spell x))))

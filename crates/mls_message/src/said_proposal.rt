@@ -5,6 +5,7 @@ ghost use Rattle.mls_leaf.specs.Proposal.{proposal as proposal_format};
 ghost use Rattle.mls_types.specs.Signed.{signed_content};
 ghost use Rattle.mls_types.specs.declared.content.Content.TheVariants as says;
 ghost use Rattle.mls_model.specs.Messages.{reference_of};
+ghost use Rattle.mls_public_group.specs.MessageLimit.{FitsIfShort};
 ghost use Rattle.mls_message.specs.Sending.{Frames, HasReference, IsSignedBy, Sends, SendsProposal};
 
 use crate::framed::{Framed, sign};
@@ -31,7 +32,7 @@ fn framed_proposal(
     speaker: &Speaker<'_>,
     proposal: &Proposal,
 ) -> Result<Framed, LeafError>
-    requires { proposal_format.Fits proposal.now }
+    requires { FitsIfShort proposal_format proposal.now }
     ensures { Frames speaker.now (says.Proposal proposal.now) result }
 {
     let content = Content::Proposal(proposal.clone()?);
@@ -74,7 +75,7 @@ pub fn sign_proposal<S: Suite>(
     speaker: &Speaker<'_>,
     proposal: &Proposal,
 ) -> Result<SaidProposal, LeafError>
-    requires { proposal_format.Fits proposal.now }
+    requires { FitsIfShort proposal_format proposal.now }
     ensures message { SendsProposal S.crypto speaker.now proposal.now result }
     ensures reference { IfOk result (HasReference S.crypto speaker.now proposal.now) }
 {

@@ -4,6 +4,7 @@ use Rattle.std.specs.Prelude.{codes, option_map, zip, is_none}
 use Rattle.std.specs.Str.{bytes_eq}
 use Rattle.mls_wire.specs.Checks.{require_some}
 use Rattle.mls_leaf.specs.Limits.{input_limit}
+use Rattle.mls_leaf.specs.declared.extension.Extension.{Extension}
 use Rattle.mls_leaf.specs.declared.key_package.KeyPackage.{KeyPackage}
 use Rattle.mls_leaf.specs.declared.proposal.Proposal.{Proposal}
 use Rattle.mls_leaf.specs.declared.proposal.Proposal.TheVariants as proposal
@@ -29,17 +30,17 @@ use Rattle.mls_treekem_model.specs.Whole.{keys_of_path}
 use Rattle.mls_schedule.specs.Epoch.{init_secret, joiner_secret, epoch_secret, confirmation_tag, welcome_key, welcome_nonce}
 use Rattle.mls_tree.specs.Paths.{merge_answer}
 use Rattle.mls_model.specs.PublicState.{provisional_context}
-use Rattle.mls_model.specs.Proposals.{proposal_checks, adds, is_path_required}
+use Rattle.mls_model.specs.Proposals.{proposal_checks, adds, extended, is_path_required}
 use Rattle.mls_model.specs.Commit.{Edits, Change, apply_proposals, change_after_edits, public_with}
 use Rattle.mls_model.specs.Member.{KeptProposal, Member, kept_under, find_proposals}
 use Rattle.mls_model.specs.Messages.{are_bytes, is_within_limit, content_by, content_signature, message_by, reference_of}
 use Rattle.mls_model.specs.Candidate.{leaf_key_of, unsigned_package, signed_package, package_message, first_context, new_candidate, create_group}
-use Rattle.mls_model.specs.Propose.{proposal_by, keep_once, updated_leaf, make_proposal, propose_add, propose_update, propose_remove}
+use Rattle.mls_model.specs.Propose.{proposal_by, keep_once, updated_leaf, make_proposal, propose_add, propose_update, propose_remove, propose_extensions}
 use Rattle.mls_model.specs.Welcome.{unsigned_info, signed_info, secrets_with, entry_for, entries_for, welcome_message}
 use Rattle.mls_model.specs.Make.{MadePath, committed_leaf, new_path, no_path, path_secret_for, path_seals, welcome_if, make}
-use Rattle.mls_model.specs.Refusals.{add_numbers, update_numbers, remove_numbers, body_numbers, propose_add_numbers, propose_update_numbers, propose_remove_numbers, make_numbers, AddNumbers, UpdateNumbers, RemoveNumbers, MakeNumbers, CandidateNumbers, CreateNumbers}
+use Rattle.mls_model.specs.Refusals.{add_numbers, update_numbers, remove_numbers, body_numbers, propose_add_numbers, propose_update_numbers, propose_remove_numbers, propose_extensions_numbers, make_numbers, AddNumbers, UpdateNumbers, RemoveNumbers, ExtensionsNumbers, MakeNumbers, CandidateNumbers, CreateNumbers}
 use Rattle.mls_model.proofs.RefusedSteps.{is_one, widen, bind_refused, then_refused, test_refused, last_refused, given_refused, if_refused}
-use Rattle.mls_model.proofs.RefusalLaws.{add_refused, update_refused, remove_refused, replaced_refused, merge_refused, edited_refused, after_edits_refused}
+use Rattle.mls_model.proofs.RefusalLaws.{add_refused, update_refused, remove_refused, extensions_pass, replaced_refused, merge_refused, edited_refused, after_edits_refused}
 use Rattle.mls_model.proofs.VerdictRefusals.{used_refused}
 
 limit_refused : (bytes : List ℕ) (n : ℕ) → is_within_limit bytes ≡ Err n → 6 ≡ n
@@ -82,6 +83,11 @@ unfolding propose_remove has
 propose_remove_refused c m leaf n h =
     proposed_refused c m (proposal.Remove leaf) None propose_remove_numbers n refl refl refl (λ e. widen remove_numbers propose_remove_numbers n refl (remove_refused c m.public m.keys.leaf leaf n e)) h
 
+pub propose_extensions_refused : ExtensionsNumbers
+unfolding propose_extensions has
+propose_extensions_refused c m list n h =
+    proposed_refused c m (proposal.GroupContextExtensions list) None propose_extensions_numbers n refl refl refl (extensions_pass c m.public m.keys.leaf list n) h
+
 -- ---- candidates and groups
 
 pub candidate_refused : CandidateNumbers
@@ -103,15 +109,15 @@ sealed_refused : (c : Crypto) (context added : List ℕ) (rnd : ℕ → List ℕ
 unfolding sealed_path
 sealed_refused c context added rnd t i start n h = given_refused 36 (option_map reverse (seal_along c context added rnd (way 0 t i) start)) n h
 
-path_refused : (c : Crypto) (m : Member) (e : Edits) (seed : List ℕ) (n : ℕ) → new_path c m e seed ≡ Err n → has body_numbers n ≡ true
+path_refused : (c : Crypto) (m : Member) (list : List Extension) (e : Edits) (seed : List ℕ) (n : ℕ) → new_path c m list e seed ≡ Err n → has body_numbers n ≡ true
 unfolding new_path has
-path_refused c m e seed n h =
+path_refused c m list e seed n h =
     let keys = keys_of_path c e.tree m.keys.leaf (path_seed seed) in
     bind_refused (member_at m.public.tree m.keys.leaf) _ n h (λ g. is_one body_numbers 22 n refl (given_refused 22 (leaf_of m.public.tree m.keys.leaf) n g)) (λ old h1.
     then_refused (replaced_checks c (committed_leaf c m e old seed) old replaced_for.Commit m.public.context.group_id m.keys.leaf) _ n h1
     (λ g. widen update_numbers body_numbers n refl (replaced_refused c (committed_leaf c m e old seed) old replaced_for.Commit m.public.context.group_id m.keys.leaf n g)) (λ h2.
     bind_refused (merge_answer e.tree m.keys.leaf (committed_leaf c m e old seed) keys) _ n h2 (merge_refused e.tree m.keys.leaf (committed_leaf c m e old seed) keys n) (λ tree h3.
-    let context = group_context.spell (provisional_context m.public.context tree) in
+    let context = group_context.spell (provisional_context m.public.context list tree) in
     bind_refused (sealed_path c context e.added (seal_seed seed) e.tree m.keys.leaf (path_seed seed)) _ n h3
     (λ g. is_one body_numbers 36 n refl (sealed_refused c context e.added (seal_seed seed) e.tree m.keys.leaf (path_seed seed) n g)) (λ nodes never. absurd cc))))
 
@@ -148,8 +154,9 @@ make_refused c m list wants_path seed n h =
     test_refused 66 (nat_lt m.public.context.epoch (2 ^ 64 - 1)) _ n h2 (is_one make_numbers 66 n refl) (λ h3.
     bind_refused (find_proposals m.kept m.keys.leaf list) _ n h3 (λ g. is_one make_numbers 60 n refl (used_refused m.kept m.keys.leaf list n g)) (λ used h4.
     bind_refused (apply_proposals c m.public m.keys.leaf used) _ n h4 (λ g. widen body_numbers make_numbers n refl (edited_refused c m.public m.keys.leaf used n g)) (λ e h5.
-    bind_refused (cond (wants_path || is_path_required used) (new_path c m e seed) (Ok (no_path m e))) _ n h5
-    (λ g. if_refused (wants_path || is_path_required used) (new_path c m e seed) (Ok (no_path m e)) n g (λ f. widen body_numbers make_numbers n refl (path_refused c m e seed n f)) (λ never. absurd cc)) (λ made h6.
+    let carried = extended m.public.context.extensions used in
+    bind_refused (cond (wants_path || is_path_required used) (new_path c m carried e seed) (Ok (no_path m e))) _ n h5
+    (λ g. if_refused (wants_path || is_path_required used) (new_path c m carried e seed) (Ok (no_path m e)) n g (λ f. widen body_numbers make_numbers n refl (path_refused c m carried e seed n f)) (λ never. absurd cc)) (λ made h6.
     let commit : Commit = record { proposals = list; path = made.path } in
     let said = content_by m (says.Commit commit) in
     let signature = content_signature c m.signing said m.public.context in

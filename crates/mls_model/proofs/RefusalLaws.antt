@@ -1,5 +1,5 @@
 -- With which numbers a proposal, and all that is public of a commit, can be refused.
-use Rattle.std.proofs.Common.{◌≡◌, ℕ, ◌==◌, nat_eq, true, cond, ◌||◌, ◌&&◌, not, List, [], ◌∷◌, ◌++◌, length, map, Option, Some, None, is_some, Ok, Err, refl}
+use Rattle.std.proofs.Common.{◌≡◌, ℕ, ◌==◌, nat_eq, nat_le, true, cond, ◌||◌, ◌&&◌, not, List, [], ◌∷◌, ◌++◌, length, map, Option, Some, None, is_some, Ok, Err, refl}
 use Rattle.std.specs.Str.{bytes_eq}
 use Rattle.std.specs.List.{list_all}
 use Rattle.mls_wire.specs.Checks.{passed}
@@ -28,7 +28,7 @@ use Rattle.mls_tree_model.specs.Merge.{merge_path, path_parent_hash}
 use Rattle.mls_tree.specs.Tree.{max_leaves, member_at, add_answer, update_answer, remove_answer}
 use Rattle.mls_tree.specs.Paths.{path_checks, merge_checks, merge_answer}
 use Rattle.mls_model.specs.PublicState.{PublicState, Used}
-use Rattle.mls_model.specs.Proposals.{update_checks, proposal_checks, full_checks, updates, updated_leaves, removed_leaves, adds, package_reference, is_path_required}
+use Rattle.mls_model.specs.Proposals.{update_checks, proposal_checks, full_checks, updates, updated_leaves, removed_leaves, adds, extension_lists, package_reference, is_path_required}
 use Rattle.mls_model.specs.Commit.{Edits, apply_updates, apply_removes, apply_adds, apply_proposals, node_keys, cipher_counts, due_counts, apply_update_path, apply_path_if, change_after_edits, change_of_commit}
 use Rattle.mls_model.specs.Refusals.{add_numbers, update_numbers, remove_numbers, proposal_numbers, body_numbers}
 use Rattle.mls_model.proofs.RefusedSteps.{is_one, widen, bind_refused, then_refused, test_refused, last_refused, given_refused, if_refused}
@@ -70,16 +70,17 @@ pub remove_refused : (c : Crypto) (p : PublicState) (sender leaf n : ℕ) → pr
 unfolding proposal_checks has
 remove_refused c p sender leaf n h = is_one remove_numbers 22 n refl (last_refused 22 (is_some (leaf_of p.tree leaf)) n h)
 
-pub extensions_refused : (c : Crypto) (p : PublicState) (sender : ℕ) (list : List Extension) (n : ℕ) → proposal_checks c p sender (proposal.GroupContextExtensions list) ≡ Err n → has proposal_numbers n ≡ true
-unfolding proposal_checks has
-extensions_refused c p sender list n h = is_one proposal_numbers 12 n refl (last_refused 12 false n h)
+-- extensions pass
+pub extensions_pass : {P : Type 0} (c : Crypto) (p : PublicState) (sender : ℕ) (list : List Extension) (n : ℕ) → proposal_checks c p sender (proposal.GroupContextExtensions list) ≡ Err n → P
+unfolding proposal_checks
+extensions_pass c p sender list n h = absurd cc
 
 pub proposal_refused : (c : Crypto) (p : PublicState) (sender : ℕ) (said : Proposal) (n : ℕ) → proposal_checks c p sender said ≡ Err n → has proposal_numbers n ≡ true
 unfolding has
 proposal_refused c p sender (proposal.Add offered) n h = widen add_numbers proposal_numbers n refl (add_refused c p sender offered n h)
 proposal_refused c p sender (proposal.Update leaf) n h = widen update_numbers proposal_numbers n refl (update_refused c p sender leaf n h)
 proposal_refused c p sender (proposal.Remove leaf) n h = widen remove_numbers proposal_numbers n refl (remove_refused c p sender leaf n h)
-proposal_refused c p sender (proposal.GroupContextExtensions list) n h = extensions_refused c p sender list n h
+proposal_refused c p sender (proposal.GroupContextExtensions list) n h = extensions_pass c p sender list n h
 
 -- ---- all that is public of a commit
 
@@ -121,12 +122,13 @@ edited_refused c p committer used n h =
     test_refused 61 (not (has (updated_leaves used) committer)) _ n h1 (is_one body_numbers 61 n refl) (λ h2.
     test_refused 62 (not (has (removed_leaves used) committer)) _ n h2 (is_one body_numbers 62 n refl) (λ h3.
     test_refused 63 (is_distinct nat_eq (updated_leaves used ++ removed_leaves used)) _ n h3 (is_one body_numbers 63 n refl) (λ h4.
-    bind_refused (apply_updates p.tree (updates used)) _ n h4 (λ e. is_one body_numbers 22 n refl (updated_refused p.tree (updates used) n e)) (λ s h5.
+    test_refused 68 (nat_le (length (extension_lists used)) 1) _ n h4 (is_one body_numbers 68 n refl) (λ few.
+    bind_refused (apply_updates p.tree (updates used)) _ n few (λ e. is_one body_numbers 22 n refl (updated_refused p.tree (updates used) n e)) (λ s h5.
     bind_refused (apply_removes s (removed_leaves used)) _ n h5 (λ e. is_one body_numbers 22 n refl (removed_refused s (removed_leaves used) n e)) (λ t h6.
     bind_refused (apply_adds t (adds used)) _ n h6 (λ e. is_one body_numbers 21 n refl (added_refused t (adds used) n e)) (λ e h7.
     test_refused 26 (has_distinct_clients e.tree) _ n h7 (is_one body_numbers 26 n refl) (λ h8.
     test_refused 26 (is_distinct same_bytes (map package_reference (adds used))) _ n h8 (is_one body_numbers 26 n refl) (λ h9.
-    test_refused 25 (has_distinct_keys e.tree) _ n h9 (is_one body_numbers 25 n refl) (λ never. absurd cc))))))))))
+    test_refused 25 (has_distinct_keys e.tree) _ n h9 (is_one body_numbers 25 n refl) (λ never. absurd cc)))))))))))
 
 pub merge_refused : (t : Term) (i : ℕ) (x : LeafNode) (keys : List (List ℕ)) (n : ℕ) → merge_answer t i x keys ≡ Err n → has body_numbers n ≡ true
 unfolding merge_answer merge_checks path_checks has

@@ -1,6 +1,8 @@
 -- What holds of runs by their definition alone.
 use Rattle.std.proofs.Common.{◌≡◌, ℕ, suc, Bool, true, false, List, [], ◌∷◌, slice_get, Result, Ok, Err, refl, ap, sym, ◌∙◌}
 use Rattle.std.proofs.lemmas.Slice.Eq.{bytes_eq-Decides}
+use Rattle.mls_leaf.specs.declared.extension.Extension.{Extension}
+use Rattle.mls_leaf.specs.GroupExtensions.{are_allowed}
 use Rattle.mls_wire.specs.Laws.{ok_is}
 use Rattle.mls_wire.proofs.CheckLaws.{bind_ok, then_ok}
 use Rattle.mls_wire.specs.Checks.{require}
@@ -16,11 +18,11 @@ use Rattle.mls_model.specs.declared.event.Reply.TheVariants as reply
 use Rattle.mls_model.specs.Member.{Member, with_epoch}
 use Rattle.mls_model.specs.Verdict.{verdict}
 use Rattle.mls_model.specs.Candidate.{new_candidate, create_group}
-use Rattle.mls_model.specs.Propose.{propose_add, propose_update, propose_remove}
+use Rattle.mls_model.specs.Propose.{propose_add, propose_update, propose_remove, propose_extensions}
 use Rattle.mls_model.specs.Make.{make}
 use Rattle.mls_model.specs.Join.{join_verdict}
 use Rattle.mls_model.specs.World.{World, Seat, seat_at, entrant_at, bytes_of, package_of, items_of}
-use Rattle.mls_model.specs.WorldCalls.{journal_after, candidate_answer, create_answer, propose_add_answer, propose_update_answer, propose_remove_answer, commit_answer, drop_answer, deliver_answer, join_answer}
+use Rattle.mls_model.specs.WorldCalls.{journal_after, candidate_answer, create_answer, propose_add_answer, propose_update_answer, propose_remove_answer, propose_extensions_answer, commit_answer, drop_answer, deliver_answer, join_answer}
 use Rattle.mls_model.specs.Run.{answer, step_by, step, run, replies}
 use Rattle.mls_model.specs.VerdictFindings.{DidPending}
 use Rattle.mls_model.specs.VerdictCases.{Taking.follows_own}
@@ -76,6 +78,10 @@ of_propose_remove : (c : Crypto) (w : World) (k leaf : ℕ) (x : Reply × World)
 unfolding propose_remove_answer
 of_propose_remove c w k leaf x h = let s1 = bind_ok (seat_at w k) _ x h in let s2 = bind_ok (propose_remove c s1.0.member leaf) _ x s1.2 in answers_no_refusal _ _ x refl s2.2
 
+of_propose_extensions : (c : Crypto) (w : World) (k : ℕ) (list : List Extension) (x : Reply × World) → propose_extensions_answer c w k list ≡ Ok x → is_refusal x.0 ≡ false
+unfolding propose_extensions_answer
+of_propose_extensions c w k list x h = let s1 = bind_ok (seat_at w k) _ x h in let s2 = then_ok (require 14 _) _ x s1.2 in let s3 = bind_ok (propose_extensions c s1.0.member list) _ x s2.1 in answers_no_refusal _ _ x refl s3.2
+
 of_commit : (c : Crypto) (w : World) (k : ℕ) (items : List WorldItem) (path : Bool) (seed : List ℕ) (x : Reply × World) → commit_answer c w k items path seed ≡ Ok x → is_refusal x.0 ≡ false
 unfolding commit_answer
 of_commit c w k items path seed x h = let s1 = bind_ok (seat_at w k) _ x h in let s2 = bind_ok (items_of w items) _ x s1.2 in let s3 = bind_ok (make c s1.0.member s2.0 path seed) _ x s2.2 in answers_no_refusal _ _ x refl s3.2
@@ -99,6 +105,7 @@ of_event c w (event.Create n group seed) x h = of_create c w n group.items seed 
 of_event c w (event.ProposeAdd k source) x h = of_propose_add c w k source x h
 of_event c w (event.ProposeUpdate k seed) x h = of_propose_update c w k seed x h
 of_event c w (event.ProposeRemove k leaf) x h = of_propose_remove c w k leaf x h
+of_event c w (event.ProposeExtensions k list) x h = of_propose_extensions c w k list.items x h
 of_event c w (event.Commit k items path seed) x h = of_commit c w k items.items path seed x h
 of_event c w (event.DropPending k) x h = of_drop w k x h
 of_event c w (event.Deliver k source) x h = of_deliver c w k source x h

@@ -1,10 +1,11 @@
 -- Each call on a world is refused with one of its numbers.
-use Rattle.std.proofs.Common.{◌≡◌, ℕ, true, false, ◌||◌, not, List, [], ◌∷◌, Err, refl}
+use Rattle.std.proofs.Common.{◌≡◌, ℕ, true, false, ◌||◌, not, List, [], ◌∷◌, Err, refl, sym, ap}
 use Rattle.std.specs.Prelude.{Bool, slice_get}
 use Rattle.std.specs.List.{list_any, list_all}
 use Rattle.std.specs.Str.{bytes_eq}
 use Rattle.std.proofs.lemmas.Bool.{or_left, or_right}
 use Rattle.mls_wire.specs.Checks.{require_some}
+use Rattle.mls_leaf.specs.GroupExtensions.{are_allowed}
 use Rattle.mls_leaf.specs.Limits.{input_limit}
 use Rattle.mls_leaf.specs.WholeLaws.{is_input_fault}
 use Rattle.mls_leaf.proofs.WholeLaws.{is_input_answered}
@@ -15,21 +16,21 @@ use Rattle.mls_treekem_model.specs.Seeds.{sign_seed}
 use Rattle.mls_model.specs.declared.event.Source.{Source}
 use Rattle.mls_model.specs.declared.event.Source.TheVariants.{Given, Message}
 use Rattle.mls_model.specs.declared.event.WorldItem.{WorldItem}
-use Rattle.mls_model.specs.declared.event.WorldItem.TheVariants.{RefOf, Add, Remove}
+use Rattle.mls_model.specs.declared.event.WorldItem.TheVariants.{RefOf, Add, Remove, Extensions}
 use Rattle.mls_model.specs.declared.event.Event.TheVariants as event
 use Rattle.mls_model.specs.Messages.{decode_message}
 use Rattle.mls_model.specs.Verdict.{verdict}
 use Rattle.mls_model.specs.Candidate.{new_candidate, create_group}
-use Rattle.mls_model.specs.Propose.{propose_add, propose_update, propose_remove}
+use Rattle.mls_model.specs.Propose.{propose_add, propose_update, propose_remove, propose_extensions}
 use Rattle.mls_model.specs.Make.{make}
 use Rattle.mls_model.specs.Join.{join_verdict}
 use Rattle.mls_model.specs.World.{World, Entrant, seat_at, entrant_at, bytes_of, package_in, proposal_in, package_of, proposal_of, item_of, items_of}
-use Rattle.mls_model.specs.WorldCalls.{candidate_answer, create_answer, propose_add_answer, propose_update_answer, propose_remove_answer, commit_answer, drop_answer, deliver_answer, join_answer}
+use Rattle.mls_model.specs.WorldCalls.{candidate_answer, create_answer, propose_add_answer, propose_update_answer, propose_remove_answer, propose_extensions_answer, commit_answer, drop_answer, deliver_answer, join_answer}
 use Rattle.mls_model.specs.Run.{answer}
-use Rattle.mls_model.specs.Refusals.{verdict_numbers, propose_add_numbers, propose_update_numbers, propose_remove_numbers, make_numbers, join_numbers}
+use Rattle.mls_model.specs.Refusals.{verdict_numbers, propose_add_numbers, propose_update_numbers, propose_remove_numbers, propose_extensions_numbers, make_numbers, join_numbers}
 use Rattle.mls_model.proofs.RefusedSteps.{is_one, widen, bind_refused, test_refused, given_refused}
 use Rattle.mls_model.proofs.VerdictRefusals.{verdict_refused}
-use Rattle.mls_model.proofs.CallRefusals.{propose_add_refused, propose_update_refused, propose_remove_refused, make_refused, candidate_refused, create_refused}
+use Rattle.mls_model.proofs.CallRefusals.{propose_add_refused, propose_update_refused, propose_remove_refused, propose_extensions_refused, make_refused, candidate_refused, create_refused}
 use Rattle.mls_model.proofs.JoinRefusals.{join_refused}
 use Rattle.mls_model.specs.WorldRefusals.{EventNumbers}
 
@@ -72,6 +73,8 @@ item_refused : (ns : List ℕ) (w : World) (item : WorldItem) (n : ℕ) → has 
 item_refused ns w (RefOf source) n a b h = bind_refused (proposal_of w source) _ n h (proposal_refused ns w source n a b) (λ v never. absurd cc)
 item_refused ns w (Add source) n a b h = bind_refused (package_of w source) _ n h (package_refused ns w source n a b) (λ v never. absurd cc)
 item_refused ns w (Remove leaf) n a b h = absurd cc
+item_refused ns w (Extensions list) n a b h =
+    test_refused 14 (are_allowed list.items) _ n h (λ e. or_left (is_input_fault n) (has ns n) (sym (ap is_input_fault e))) (λ never. absurd cc)
 
 items_refused : (ns : List ℕ) (w : World) (items : List WorldItem) (n : ℕ) → has ns 94 ≡ true → has ns 95 ≡ true → items_of w items ≡ Err n → (is_input_fault n || has ns n) ≡ true
 unfolding items_of
@@ -92,7 +95,7 @@ among_read ms ns n false e a h = widen ms ns n a h
 -- ---- events
 
 pub event_refused : EventNumbers
-unfolding answer candidate_answer create_answer propose_add_answer propose_update_answer propose_remove_answer commit_answer drop_answer deliver_answer join_answer has
+unfolding answer candidate_answer create_answer propose_add_answer propose_update_answer propose_remove_answer propose_extensions_answer commit_answer drop_answer deliver_answer join_answer has
 event_refused c w (event.Candidate identity seed) n h =
     let ns : List ℕ = 6 ∷ 57 ∷ 93 ∷ [] in
     test_refused 93 (not (list_any (λ (e : Entrant). bytes_eq e.candidate.offered.leaf_node.signature_key (c.sig_public (sign_seed seed))) w.entrants)) _ n h (is_one ns 93 n refl) (λ h1.
@@ -114,6 +117,11 @@ event_refused c w (event.ProposeRemove k leaf) n h =
     let ns : List ℕ = 90 ∷ propose_remove_numbers in
     bind_refused (seat_at w k) _ n h (λ e. is_one ns 90 n refl (seat_refused w k n e)) (λ s h1.
     bind_refused (propose_remove c s.member leaf) _ n h1 (λ e. widen propose_remove_numbers ns n refl (propose_remove_refused c s.member leaf n e)) (λ x never. absurd cc))
+event_refused c w (event.ProposeExtensions k list) n h =
+    let ns : List ℕ = 14 ∷ 90 ∷ propose_extensions_numbers in
+    bind_refused (seat_at w k) _ n h (λ e. is_one ns 90 n refl (seat_refused w k n e)) (λ s h1.
+    test_refused 14 (are_allowed list.items) _ n h1 (is_one ns 14 n refl) (λ h2.
+    bind_refused (propose_extensions c s.member list.items) _ n h2 (λ e. widen propose_extensions_numbers ns n refl (propose_extensions_refused c s.member list.items n e)) (λ x never. absurd cc)))
 event_refused c w (event.Commit k items path seed) n h =
     let ns : List ℕ = 90 ∷ 94 ∷ 95 ∷ make_numbers in
     bind_refused (seat_at w k) _ n h (λ e. or_read ns 90 n refl (seat_refused w k n e)) (λ s h1.

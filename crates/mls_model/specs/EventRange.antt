@@ -5,7 +5,7 @@ use Rattle.mls_wire.specs.Format.{IsBytes}
 use Rattle.mls_model.specs.declared.event.Source.{Source}
 use Rattle.mls_model.specs.declared.event.Source.TheVariants.{Given, Message}
 use Rattle.mls_model.specs.declared.event.WorldItem.{WorldItem}
-use Rattle.mls_model.specs.declared.event.WorldItem.TheVariants.{RefOf, Add, Remove}
+use Rattle.mls_model.specs.declared.event.WorldItem.TheVariants.{RefOf, Add, Remove, Extensions}
 use Rattle.mls_model.specs.declared.event.Event.{Event}
 use Rattle.mls_model.specs.declared.event.Event.TheVariants as event
 
@@ -19,6 +19,7 @@ abbrev pub IsItemInRange : WorldItem → Type 0
 IsItemInRange (RefOf source) = IsSourceInRange source
 IsItemInRange (Add source) = IsSourceInRange source
 IsItemInRange (Remove leaf) = leaf < 2 ^ 32
+IsItemInRange (Extensions list) = Unit {0}
 
 -- the given bytes of an event are bytes, and its leaves have 32 bits
 unfoldable pub IsInRange : Event → Type 0

@@ -1,6 +1,7 @@
 -- Small states, worked out: what commits make of trees and keys, which journals are homemade, and what worlds answer.
 -- The suite and all that a statement doesn't look at are variables.
-use Rattle.std.specs.Prelude.{◌≡◌, ℕ, true, false, List, [], ◌∷◌, Some, None, Ok, Err}
+use Rattle.std.specs.Prelude.{◌≡◌, ℕ, ◌+◌, true, false, List, [], ◌∷◌, Some, None, Ok, Err}
+use Rattle.mls_leaf.specs.declared.extension.Extension.{Extension}
 use Rattle.mls_leaf.specs.declared.leaf.LeafNode.{LeafNode}
 use Rattle.mls_leaf.specs.declared.leaf.LeafSource.TheVariants as leaf_node_source
 use Rattle.mls_leaf.specs.declared.key_package.KeyPackage.{KeyPackage}
@@ -8,13 +9,15 @@ use Rattle.mls_leaf.specs.declared.proposal.Proposal.{Proposal}
 use Rattle.mls_leaf.specs.declared.proposal.Proposal.TheVariants as proposal
 use Rattle.mls_types.specs.declared.group_context.GroupContext.{GroupContext}
 use Rattle.mls_types.specs.declared.commit.ProposalOrRef.TheVariants as listed
+use Rattle.mls_types.specs.declared.content.FramedContent.{FramedContent}
 use Rattle.mls_suite.specs.Crypto.{Crypto}
 use Rattle.mls_tree_model.specs.Term.{Term, Branch}
+use Rattle.mls_tree_model.specs.Hashes.{tree_hash}
 use Rattle.mls_tree_model.specs.Sets.{has}
 use Rattle.mls_tree_model.specs.Examples.{member, blank, over, listing_these}
-use Rattle.mls_model.specs.PublicState.{PublicState, Used}
-use Rattle.mls_model.specs.Proposals.{removed_leaves}
-use Rattle.mls_model.specs.Commit.{apply_proposals}
+use Rattle.mls_model.specs.PublicState.{PublicState, Used, provisional_context}
+use Rattle.mls_model.specs.Proposals.{removed_leaves, extended}
+use Rattle.mls_model.specs.Commit.{Edits, apply_proposals, change_after_edits}
 use Rattle.mls_model.specs.Member.{KeptProposal, find_proposals, follow_edits}
 
 -- ---- what a commit makes of a tree
@@ -107,6 +110,62 @@ abbrev pub CommitterRemoved : Type 0
 CommitterRemoved = (c : Crypto) (context : GroupContext) (interim : List ℕ) →
     apply_proposals c (state_with context interim four_members) 1
     (use_of 2 (proposal.Remove 1) ∷ use_of 2 (proposal.Remove 1) ∷ []) ≡ Err 62
+
+-- ---- extensions of the group
+
+-- one extension of type f000, with this byte as its data
+abbrev pub list_with : ℕ → List Extension
+list_with n = record { kind = 61440; content = n ∷ [] } ∷ []
+
+abbrev pub use_of_list : ℕ → List Extension → Used
+use_of_list sender list = use_of sender (proposal.GroupContextExtensions list)
+
+-- two lists are refused, of two members or of one, and where they are the same list too; two updates of one leaf are
+-- refused before that
+abbrev pub TwoLists : Type 0
+TwoLists = (c : Crypto) (context : GroupContext) (interim : List ℕ) →
+    apply_proposals c (state_with context interim four_members) 0
+    (use_of_list 1 (list_with 5) ∷ use_of 2 (proposal.Remove 3) ∷ use_of_list 2 (list_with 6) ∷ []) ≡ Err 68
+
+abbrev pub OneListTwice : Type 0
+OneListTwice = (c : Crypto) (context : GroupContext) (interim : List ℕ) →
+    apply_proposals c (state_with context interim four_members) 0
+    (use_of_list 0 (list_with 5) ∷ use_of_list 0 (list_with 5) ∷ []) ≡ Err 68
+
+abbrev pub LeafBeforeLists : Type 0
+LeafBeforeLists = (c : Crypto) (context : GroupContext) (interim : List ℕ) →
+    apply_proposals c (state_with context interim four_members) 0
+    (use_of_list 1 [] ∷ use_of_list 1 [] ∷ use_of 2 (proposal.Remove 1) ∷ use_of 3 (proposal.Remove 1) ∷ []) ≡ Err 63
+
+-- one list leaves the tree, even where the commit removes its sender
+abbrev pub ListOfRemoved : Type 0
+ListOfRemoved = (c : Crypto) (context : GroupContext) (interim : List ℕ) →
+    apply_proposals c (state_with context interim four_members) 0
+    (use_of_list 3 (list_with 5) ∷ use_of 2 (proposal.Remove 3) ∷ [])
+    ≡ Ok (record { tree = over (over (member_with 1) (member_with 2)) (over (member_with 3) blank); added = [] })
+
+-- a commit of a list has to have a path
+abbrev pub ListAsksForPath : Type 0
+ListAsksForPath = (c : Crypto) (p : PublicState) (said : FramedContent) (signature : List ℕ) (e : Edits) →
+    change_after_edits c p 0 (use_of_list 1 (list_with 5) ∷ [])
+    (record { proposals = listed.Reference (7 ∷ []) ∷ []; path = None }) said signature e ≡ Err 64
+
+-- the list replaces what the group carried, whatever that was; the empty list clears it, and without a list it stays
+abbrev pub ListReplaces : Type 0
+ListReplaces = (context : GroupContext) (t : Term) →
+    provisional_context context (extended context.extensions
+    (use_of 2 (proposal.Remove 3) ∷ use_of_list 1 (list_with 5) ∷ [])) t
+    ≡ record context { epoch = context.epoch + 1; tree_hash = tree_hash 0 t; extensions = list_with 5 }
+
+abbrev pub ListClears : Type 0
+ListClears = (context : GroupContext) (t : Term) →
+    provisional_context context (extended context.extensions (use_of_list 1 [] ∷ [])) t
+    ≡ record context { epoch = context.epoch + 1; tree_hash = tree_hash 0 t; extensions = [] }
+
+abbrev pub ListStays : Type 0
+ListStays = (context : GroupContext) (t : Term) →
+    provisional_context context (extended context.extensions (use_of 2 (proposal.Remove 3) ∷ [])) t
+    ≡ record context { epoch = context.epoch + 1; tree_hash = tree_hash 0 t }
 
 -- ---- which proposals it uses
 

@@ -1,6 +1,7 @@
 -- Which numbers each call of a member and of a candidate can be refused with, want of memory aside.
 use Rattle.std.specs.Prelude.{◌≡◌, ℕ, ◌||◌, Bool, true, List, [], ◌∷◌, ◌++◌, Err}
 use Rattle.mls_leaf.specs.WholeLaws.{is_input_fault}
+use Rattle.mls_leaf.specs.declared.extension.Extension.{Extension}
 use Rattle.mls_leaf.specs.declared.key_package.KeyPackage.{KeyPackage}
 use Rattle.mls_types.specs.declared.commit.ProposalOrRef.{ProposalOrRef}
 use Rattle.mls_suite.specs.Crypto.{Crypto}
@@ -8,7 +9,7 @@ use Rattle.mls_tree_model.specs.Sets.{has}
 use Rattle.mls_model.specs.Member.{Member}
 use Rattle.mls_model.specs.Verdict.{verdict}
 use Rattle.mls_model.specs.Candidate.{Candidate, new_candidate, create_group}
-use Rattle.mls_model.specs.Propose.{propose_add, propose_update, propose_remove}
+use Rattle.mls_model.specs.Propose.{propose_add, propose_update, propose_remove, propose_extensions}
 use Rattle.mls_model.specs.Make.{make}
 use Rattle.mls_model.specs.Join.{join_verdict}
 
@@ -28,11 +29,11 @@ remove_numbers = 22 ∷ []
 
 -- the checks of a proposal of any kind answer these numbers
 abbrev pub proposal_numbers : List ℕ
-proposal_numbers = 12 ∷ 22 ∷ 36 ∷ 50 ∷ 51 ∷ 52 ∷ 53 ∷ 54 ∷ 55 ∷ 56 ∷ 57 ∷ []
+proposal_numbers = 22 ∷ 36 ∷ 50 ∷ 51 ∷ 52 ∷ 53 ∷ 54 ∷ 55 ∷ 56 ∷ 57 ∷ []
 
 -- the checks of all that is public of a commit answer these numbers (RFC 9420, 12.4.2)
 abbrev pub body_numbers : List ℕ
-body_numbers = 21 ∷ 24 ∷ 25 ∷ 26 ∷ 30 ∷ 31 ∷ 61 ∷ 62 ∷ 63 ∷ 64 ∷ proposal_numbers
+body_numbers = 21 ∷ 24 ∷ 25 ∷ 26 ∷ 30 ∷ 31 ∷ 61 ∷ 62 ∷ 63 ∷ 64 ∷ 68 ∷ proposal_numbers
 
 -- the checks of a message's framing answer these numbers (RFC 9420, 6)
 abbrev pub framing_numbers : List ℕ
@@ -71,6 +72,14 @@ propose_remove_numbers = 6 ∷ 40 ∷ 49 ∷ remove_numbers
 abbrev pub RemoveNumbers : Type 0
 RemoveNumbers = (c : Crypto) (m : Member) (leaf : ℕ) (n : ℕ) →
     propose_remove c m leaf ≡ Err n → has propose_remove_numbers n ≡ true
+
+-- a call that proposes extensions is refused with these numbers
+abbrev pub propose_extensions_numbers : List ℕ
+propose_extensions_numbers = 6 ∷ 40 ∷ 49 ∷ []
+
+abbrev pub ExtensionsNumbers : Type 0
+ExtensionsNumbers = (c : Crypto) (m : Member) (list : List Extension) (n : ℕ) →
+    propose_extensions c m list ≡ Err n → has propose_extensions_numbers n ≡ true
 
 -- a commit call is refused with these numbers
 abbrev pub make_numbers : List ℕ

@@ -4,6 +4,8 @@ use Rattle.std.specs.List.{list_any}
 use Rattle.std.specs.Str.{bytes_eq}
 use Rattle.mls_wire.specs.Checks.{require, ◌>>◌}
 use Rattle.mls_wire.specs.Reading.{◌>>=◌}
+use Rattle.mls_leaf.specs.declared.extension.Extension.{Extension}
+use Rattle.mls_leaf.specs.GroupExtensions.{are_allowed}
 use Rattle.mls_types.specs.declared.commit.ProposalOrRef.{ProposalOrRef}
 use Rattle.mls_suite.specs.Crypto.{Crypto}
 use Rattle.mls_treekem_model.specs.Seeds.{sign_seed}
@@ -17,7 +19,7 @@ use Rattle.mls_model.specs.declared.origin.Origin.TheVariants as from
 use Rattle.mls_model.specs.Member.{Member, with_pending, without_pending}
 use Rattle.mls_model.specs.Verdict.{verdict}
 use Rattle.mls_model.specs.Candidate.{new_candidate, package_message, create_group}
-use Rattle.mls_model.specs.Propose.{propose_add, propose_update, propose_remove}
+use Rattle.mls_model.specs.Propose.{propose_add, propose_update, propose_remove, propose_extensions}
 use Rattle.mls_model.specs.Make.{Made, make}
 use Rattle.mls_model.specs.Join.{join_verdict}
 use Rattle.mls_model.specs.Journal.{Journal, CommitMade, new_journal, with_entry, names_in, adds_in, entry_of}
@@ -82,6 +84,15 @@ propose_remove_answer c w k leaf = do
   x ← propose_remove c s.member leaf
   Ok (proposal_answer w k s x)
 
+-- a member proposes the extensions that its group is to carry (RFC 9420, 12.1.7): 90 no such member; 14 no group may
+-- carry them
+unfoldable pub propose_extensions_answer : Crypto → World → ℕ → List Extension → Result (Reply × World) ℕ
+propose_extensions_answer c w k list = do
+  s ← seat_at w k
+  require 14 (are_allowed list)
+  x ← propose_extensions c s.member list
+  Ok (proposal_answer w k s x)
+
 -- ---- commits
 
 -- what a commit call of member k made; the message of its Welcome comes behind that of its commit
@@ -101,7 +112,7 @@ commit_messages made None = made.commit ∷ []
 commit_messages made (Some welcome) = made.commit ∷ (welcome ∷ [])
 
 -- a member makes a commit of what its list stands for (RFC 9420, 12.4.1) and has it as pending, and the world has the
--- messages and the record: 90 no such member; 94, decoding and 95 of each source
+-- messages and the record: 90 no such member; 94, decoding and 95 of each source, 14 of extensions
 unfoldable pub commit_answer : Crypto → World → ℕ → List WorldItem → Bool → List ℕ → Result (Reply × World) ℕ
 commit_answer c w k items path seed = do
   s ← seat_at w k

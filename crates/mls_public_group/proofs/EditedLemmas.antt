@@ -1,5 +1,5 @@
 -- What a commit makes of a tree, in the parts in which it is worked out.
-use Rattle.std.specs.Prelude.{◌≡◌, ℕ, nat_eq, not, List, ◌++◌, map, Result, Ok, Err}
+use Rattle.std.specs.Prelude.{◌≡◌, ℕ, nat_eq, nat_le, not, List, ◌++◌, length, map, Result, Ok, Err}
 use Rattle.std.proofs.Common.{refl, sym, ap, ◌∙◌}
 use Rattle.mls_wire.specs.Checks.{Passed, passed, require, ◌>>◌}
 use Rattle.mls_wire.specs.Reading.{◌>>=◌}
@@ -8,7 +8,7 @@ use Rattle.mls_tree_model.specs.Term.{Term}
 use Rattle.mls_tree_model.specs.Sets.{has, same_bytes, is_distinct}
 use Rattle.mls_tree_model.specs.Good.{has_distinct_keys, has_distinct_clients}
 use Rattle.mls_model.specs.PublicState.{PublicState, Used}
-use Rattle.mls_model.specs.Proposals.{full_checks, updates, updated_leaves, removed_leaves, adds, package_reference}
+use Rattle.mls_model.specs.Proposals.{full_checks, updates, updated_leaves, removed_leaves, adds, extension_lists, package_reference}
 use Rattle.mls_model.specs.Commit.{Edits, apply_updates, apply_removes, apply_adds, apply_proposals}
 use Rattle.mls_public_group.specs.ProposalList.{proposal_list_checks, edit_tree, edited_tree_checks}
 
@@ -18,6 +18,12 @@ regroup : {B : Type 0} (a b c : Result Passed ℕ) (rest : Result B ℕ) → (a 
 regroup (Ok passed) (Ok passed) c rest = refl
 regroup (Ok passed) (Err n) c rest = refl
 regroup (Err n) b c rest = refl
+
+regroup_four : {B : Type 0} (a b c d : Result Passed ℕ) (rest : Result B ℕ) → (a >> (b >> (c >> (d >> rest)))) ≡ ((a >> (b >> (c >> d))) >> rest)
+regroup_four (Ok passed) (Ok passed) (Ok passed) d rest = refl
+regroup_four (Ok passed) (Ok passed) (Err n) d rest = refl
+regroup_four (Ok passed) (Err n) c d rest = refl
+regroup_four (Err n) b c d rest = refl
 
 bound : {A B C : Type 0} (r : Result A ℕ) (f : A → Result B ℕ) (g : B → Result C ℕ) → (r >>= λ x. f x >>= g) ≡ ((r >>= f) >>= g)
 bound (Ok x) f g = refl
@@ -45,7 +51,7 @@ module _ (c : Crypto) (p : PublicState) (committer : ℕ) (used : List Used) whe
   unfolding apply_proposals proposal_list_checks
   edited_is =
       ap (λ (r : Result Edits ℕ). full_checks c p used >> r)
-      (regroup (require 61 (not (has (updated_leaves used) committer))) (require 62 (not (has (removed_leaves used) committer))) (require 63 (is_distinct nat_eq (updated_leaves used ++ removed_leaves used))) _
+      (regroup_four (require 61 (not (has (updated_leaves used) committer))) (require 62 (not (has (removed_leaves used) committer))) (require 63 (is_distinct nat_eq (updated_leaves used ++ removed_leaves used))) (require 68 (nat_le (length (extension_lists used)) 1)) _
       ∙ ap (λ (r : Result Edits ℕ). proposal_list_checks committer used >> r) (sym rest_is))
 
   module _ (full : full_checks c p used ≡ Ok passed) where

@@ -1,5 +1,6 @@
 -- The updates, removes and adds of a commit, one proposal after the other.
-use Rattle.std.proofs.Common.{◌≡◌, ℕ, ◌+◌, ◌<◌, ◌≤◌, ◌==◌, nat_eq, Bool, true, false, ◌||◌, List, [], ◌∷◌, ◌++◌, length, get_or, drop, Option, Some, None, Result, Ok, Err, refl, sym, ap, ◌∙◌, append-nil, append_assoc}
+use Rattle.std.proofs.Common.{◌≡◌, ℕ, ◌+◌, ◌<◌, ◌≤◌, ◌==◌, nat_eq, nat_le, Bool, true, false, ◌||◌, List, [], ◌∷◌, ◌++◌, length, get_or, drop, Option, Some, None, Result, Ok, Err, refl, sym, ap, ◌∙◌, arith, append-nil, append_assoc, length-append}
+use Rattle.std.proofs.lemmas.Bool.{le-leb, lt-leb}
 use Rattle.std.specs.Prelude.{map, if◌then◌else◌}
 use Rattle.std.specs.List.{cons_option, list_any}
 use Rattle.mls_wire.specs.Checks.{Passed, passed, ◌>>◌}
@@ -7,6 +8,7 @@ use Rattle.mls_suite.specs.Crypto.{Crypto}
 use Rattle.mls_tree_model.specs.Sets.{has, is_distinct}
 use Rattle.mls_wire.specs.Reading.{◌>>=◌}
 use Rattle.mls_wire.specs.Laws.{ok_is}
+use Rattle.mls_leaf.specs.declared.extension.Extension.{Extension}
 use Rattle.mls_leaf.specs.declared.leaf.LeafNode.{LeafNode}
 use Rattle.mls_leaf.specs.declared.key_package.KeyPackage.{KeyPackage}
 use Rattle.mls_leaf.specs.declared.proposal.Proposal.{Proposal}
@@ -14,7 +16,7 @@ use Rattle.mls_leaf.specs.declared.proposal.Proposal.TheVariants.{Add, Update, R
 use Rattle.mls_tree_model.specs.Term.{Term}
 use Rattle.mls_tree.specs.Tree.{add_answer, update_answer, remove_answer}
 use Rattle.mls_model.specs.PublicState.{PublicState, Used}
-use Rattle.mls_model.specs.Proposals.{update_in, remove_in, add_in, updates, updated_leaves, removed_leaves, adds, package_reference, proposal_checks, full_checks}
+use Rattle.mls_model.specs.Proposals.{update_in, remove_in, add_in, extensions_in, updates, updated_leaves, removed_leaves, adds, extension_lists, first_list, extended, package_reference, proposal_checks, full_checks}
 use Rattle.mls_model.specs.Commit.{Edits, apply_updates, apply_removes, apply_adds}
 use Rattle.mls_public_group.specs.ProposalList.{proposal_list_checks, edit_tree, prepend_added}
 use Rattle.mls_public_group.proofs.Rest.{here, over}
@@ -38,6 +40,12 @@ no_add (Add x) other = absurd (other x refl)
 no_add (Update x) other = refl
 no_add (Remove i) other = refl
 no_add (GroupContextExtensions list) other = refl
+
+no_list : (p : Proposal) → ((list : List Extension) → p ≡ GroupContextExtensions list → ⊥) → extensions_in p ≡ None
+no_list (Add x) other = refl
+no_list (Update x) other = refl
+no_list (Remove i) other = refl
+no_list (GroupContextExtensions list) other = absurd (other list refl)
 
 pub update_is : (u : Used) (x : LeafNode) → u.proposal ≡ Update x → updates (u ∷ []) ≡ (u.sender, x) ∷ []
 unfolding updates
@@ -71,6 +79,14 @@ pub add_isnt : (u : Used) → ((x : KeyPackage) → u.proposal ≡ Add x → ⊥
 unfolding adds
 add_isnt u other = rw (no_add u.proposal other) refl
 
+pub list_is : (u : Used) (list : List Extension) → u.proposal ≡ GroupContextExtensions list → extension_lists (u ∷ []) ≡ list ∷ []
+unfolding extension_lists
+list_is u list e = rw e refl
+
+pub list_isnt : (u : Used) → ((list : List Extension) → u.proposal ≡ GroupContextExtensions list → ⊥) → extension_lists (u ∷ []) ≡ []
+unfolding extension_lists
+list_isnt u other = rw (no_list u.proposal other) refl
+
 -- ---- the first of several, and the others
 
 one_more : {A : Type 0} (o : Option A) (ys : List A) → cons_option o ys ≡ cons_option o [] ++ ys
@@ -96,6 +112,10 @@ removed_split u us = one_more (remove_in u.proposal) _
 pub adds_split : (u : Used) (us : List Used) → adds (u ∷ us) ≡ adds (u ∷ []) ++ adds us
 unfolding adds
 adds_split u us = one_more (add_in u.proposal) _
+
+pub lists_split : (u : Used) (us : List Used) → extension_lists (u ∷ us) ≡ extension_lists (u ∷ []) ++ extension_lists us
+unfolding extension_lists
+lists_split u us = one_more (extensions_in u.proposal) _
 
 references : (o : Option KeyPackage) (ys : List KeyPackage) → map package_reference (cons_option o ys) ≡ map package_reference (cons_option o []) ++ map package_reference ys
 references None ys = refl
@@ -192,9 +212,67 @@ module _ (committer : ℕ) (used : List Used) (ys : List ℕ) (found : Bool) (sa
       unfolding proposal_list_checks
       apart_twice told = rw (has_found (updated_leaves used) ys committer found false same is no, has_found (removed_leaves used) zs committer other false alike tells nor, differ_is, told) refl
 
-      pub apart_fine : r ≡ true → proposal_list_checks committer used ≡ Ok passed
-      unfolding proposal_list_checks
-      apart_fine told = rw (has_found (updated_leaves used) ys committer found false same is no, has_found (removed_leaves used) zs committer other false alike tells nor, differ_is, told) refl
+      module _ (differ : r ≡ true) (n : ℕ) (counted : n ≡ length (extension_lists used)) where
+        few_is : (b : Bool) → nat_le n 1 ≡ b → nat_le (length (extension_lists used)) 1 ≡ b
+        few_is b h = ap (λ (k : ℕ). nat_le k 1) (sym counted) ∙ h
+
+        pub apart_second : 1 < n → proposal_list_checks committer used ≡ Err 68
+        unfolding proposal_list_checks
+        apart_second more = rw (has_found (updated_leaves used) ys committer found false same is no, has_found (removed_leaves used) zs committer other false alike tells nor, differ_is, differ, few_is false (lt-leb n 1 more)) refl
+
+        pub apart_fine : n ≤ 1 → proposal_list_checks committer used ≡ Ok passed
+        unfolding proposal_list_checks
+        apart_fine few = rw (has_found (updated_leaves used) ys committer found false same is no, has_found (removed_leaves used) zs committer other false alike tells nor, differ_is, differ, few_is true (le-leb n 1 few)) refl
+
+-- ---- lists of extensions
+
+-- what one proposal has
+module _ (u v : Used) (seen : v ≡ u) where
+  pub one_list : (list : List Extension) → v.proposal ≡ GroupContextExtensions list → length (extension_lists (u ∷ [])) ≡ 1
+  one_list list is = ap (λ (w : Used). length (extension_lists (w ∷ []))) (sym seen) ∙ ap length (list_is v list is)
+
+  pub no_lists : ((list : List Extension) → v.proposal ≡ GroupContextExtensions list → ⊥) → length (extension_lists (u ∷ [])) ≡ 0
+  no_lists other = ap (λ (w : Used). length (extension_lists (w ∷ []))) (sym seen) ∙ ap length (list_isnt v other)
+
+-- those that are counted, and those to come
+pub lists_more : (us : List Used) (k : ℕ) (u : Used) → k < length us → u ≡ get_or us k u → length (extension_lists (drop k us)) ≡ length (extension_lists (u ∷ [])) + length (extension_lists (drop (k + 1) us))
+lists_more us k u lt at =
+    ap (λ (l : List Used). length (extension_lists l)) (here us k u lt at)
+    ∙ ap length (lists_split u (drop (k + 1) us))
+    ∙ length-append (extension_lists (u ∷ [])) (extension_lists (drop (k + 1) us))
+
+lists_none : length (extension_lists []) ≡ 0
+unfolding extension_lists
+lists_none = refl
+
+pub lists_over : (us : List Used) (k : ℕ) → length us ≤ k → length (extension_lists (drop k us)) ≡ 0
+lists_over us k le = ap (λ (l : List Used). length (extension_lists l)) (over us k le) ∙ lists_none
+
+first_of : (old : List Extension) (o : Option (List Extension)) (list : List Extension) (lists : List (List Extension)) → o ≡ Some list → first_list old (cons_option o lists) ≡ list
+first_of old o list lists is = rw is refl
+
+later_of : (old : List Extension) (o : Option (List Extension)) (lists : List (List Extension)) → o ≡ None → first_list old (cons_option o lists) ≡ first_list old lists
+later_of old o lists is = rw is refl
+
+listed : (p : Proposal) (list : List Extension) → p ≡ GroupContextExtensions list → extensions_in p ≡ Some list
+listed p list is = rw is refl
+
+module _ (old : List Extension) (us : List Used) (k : ℕ) (u v : Used) (lt : k < length us) (at : u ≡ get_or us k u) (seen : v ≡ u) where
+  from_here : extended old (drop k us) ≡ extended old (v ∷ drop (k + 1) us)
+  from_here = ap (extended old) (here us k u lt at) ∙ ap (λ (w : Used). extended old (w ∷ drop (k + 1) us)) (sym seen)
+
+  -- the first list that is found
+  pub list_found : (list : List Extension) → v.proposal ≡ GroupContextExtensions list → extended old (drop k us) ≡ list
+  unfolding extended extension_lists
+  list_found list is = from_here ∙ first_of old (extensions_in v.proposal) list (extension_lists (drop (k + 1) us)) (listed v.proposal list is)
+
+  pub list_passed : ((list : List Extension) → v.proposal ≡ GroupContextExtensions list → ⊥) → extended old (drop k us) ≡ extended old (drop (k + 1) us)
+  unfolding extended extension_lists
+  list_passed other = from_here ∙ later_of old (extensions_in v.proposal) (extension_lists (drop (k + 1) us)) (no_list v.proposal other)
+
+pub extended_over : (old : List Extension) (us : List Used) (k : ℕ) → length us ≤ k → extended old (drop k us) ≡ old
+unfolding extended extension_lists
+extended_over old us k le = ap (extended old) (over us k le)
 
 -- ---- updates
 

@@ -1,12 +1,10 @@
--- A proposal is short where its KeyPackage, its leaf or its extensions are.
+-- A proposal is short where its KeyPackage or its leaf is.
 use Rattle.std.proofs.Common.{ℕ, ◌-◌, ◌<◌, ◌^◌, List, arith, lit<, length-append}
 use Rattle.std.specs.Int.{w16}
 use Rattle.mls_wire.specs.Reading.{uint}
-use Rattle.mls_leaf.specs.GroupExtensions.{group_extensions}
 use Rattle.mls_leaf.specs.KeyPackage.{key_package}
 use Rattle.mls_leaf.specs.Leaf.{leaf_node}
 use Rattle.mls_leaf.specs.Proposal.{proposal as proposal_format}
-use Rattle.mls_leaf.specs.declared.extension.Extension.{Extension}
 use Rattle.mls_leaf.specs.declared.key_package.KeyPackage.{KeyPackage}
 use Rattle.mls_leaf.specs.declared.leaf.LeafNode.{LeafNode}
 use Rattle.mls_leaf.specs.declared.proposal.Proposal.{Proposal}
@@ -27,14 +25,10 @@ pub removal_short : (leaf : ℕ) → leaf < 2 ^ 32 → IsBelow (2 ^ 28) proposal
 unfolding proposal_format uint
 removal_short leaf lt = record { fits = (lit< tt, lt); below = lit< tt }
 
-pub extensions_short : (x : List Extension) → IsBelow (2 ^ 28 - 2) group_extensions x → IsBelow (2 ^ 28) proposal_format (GroupContextExtensions x)
-unfolding proposal_format
-extensions_short x h = record { fits = (lit< tt, h.fits); below = omega (arith, h.below, length-append (uint w16 7) (group_extensions.spell x), length-uint16 7) }
-
 -- and only there
 pub short_parts : (x : Proposal) → IsBelow (2 ^ 28) proposal_format x → IsShortProposal x
 unfolding proposal_format
 short_parts (Add x) h = record { fits = h.fits.1; below = omega (arith, h.below, length-append (uint w16 1) (key_package.spell x), length-uint16 1) }
 short_parts (Update x) h = record { fits = h.fits.1; below = omega (arith, h.below, length-append (uint w16 2) (leaf_node.spell x), length-uint16 2) }
 short_parts (Remove leaf) h = tt
-short_parts (GroupContextExtensions x) h = record { fits = h.fits.1; below = omega (arith, h.below, length-append (uint w16 7) (group_extensions.spell x), length-uint16 7) }
+short_parts (GroupContextExtensions x) h = tt

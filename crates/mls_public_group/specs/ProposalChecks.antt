@@ -1,9 +1,10 @@
 -- The checks of a proposal, by what it proposes.
-use Rattle.std.specs.Prelude.{◌≡◌, ℕ, if◌then◌else◌, is_some, Result, Ok}
+use Rattle.std.specs.Prelude.{◌≡◌, ℕ, if◌then◌else◌, List, is_some, Result, Ok, IsOk}
 use Rattle.mls_wire.specs.Checks.{AnswersOutright, Passed, passed, require}
+use Rattle.mls_leaf.specs.declared.extension.Extension.{Extension}
 use Rattle.mls_leaf.specs.declared.leaf.LeafNode.{LeafNode}
 use Rattle.mls_leaf.specs.declared.proposal.Proposal.{Proposal}
-use Rattle.mls_leaf.specs.declared.proposal.Proposal.TheVariants.{Update, Remove}
+use Rattle.mls_leaf.specs.declared.proposal.Proposal.TheVariants.{Update, Remove, GroupContextExtensions}
 use Rattle.mls_suite.specs.Crypto.{Crypto}
 use Rattle.mls_tree_model.specs.Term.{Term, leaf_of}
 use Rattle.mls_tree.specs.Refusals.{RefusesOutright}
@@ -25,6 +26,10 @@ RefusesUpdate t sender p result =
 abbrev pub AnswersRemove : {A : Type 0} → Term → Proposal → Result A GroupError → Type 0
 AnswersRemove t p result =
     (i : ℕ) → p ≡ Remove i → AnswersOutright (λ _. passed) number_of (member_check t i) result
+
+-- of extensions, the call answers that they pass, whatever memory there is
+abbrev pub AnswersExtensions : {A : Type 0} → Proposal → Result A GroupError → Type 0
+AnswersExtensions p result = (list : List Extension) → p ≡ GroupContextExtensions list → IsOk result
 
 -- the checks of a proposal that a commit uses, where the commit gives it in full (RFC 9420, 12.4.2)
 abbrev pub used_checks : Crypto → PublicState → Used → Result Passed ℕ

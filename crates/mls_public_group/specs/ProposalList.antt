@@ -1,5 +1,5 @@
 -- What a commit makes of a tree, in the parts in which it is worked out.
-use Rattle.std.specs.Prelude.{ℕ, nat_eq, not, List, [], ◌∷◌, ◌++◌, map, Result, Ok, Err}
+use Rattle.std.specs.Prelude.{ℕ, nat_eq, nat_le, not, List, [], ◌∷◌, ◌++◌, length, map, Result, Ok, Err}
 use Rattle.std.specs.Global.{Vec}
 use Rattle.mls_wire.specs.Checks.{Answers, Passed, require, ◌>>◌}
 use Rattle.mls_wire.specs.Reading.{◌>>=◌}
@@ -7,18 +7,20 @@ use Rattle.mls_tree_model.specs.Term.{Term}
 use Rattle.mls_tree_model.specs.Sets.{has, same_bytes, is_distinct}
 use Rattle.mls_tree_model.specs.Good.{has_distinct_keys, has_distinct_clients}
 use Rattle.mls_model.specs.PublicState.{Used}
-use Rattle.mls_model.specs.Proposals.{updates, updated_leaves, removed_leaves, adds, package_reference}
+use Rattle.mls_model.specs.Proposals.{updates, updated_leaves, removed_leaves, adds, extension_lists, package_reference}
 use Rattle.mls_model.specs.Commit.{Edits, apply_updates, apply_removes, apply_adds}
 use Rattle.mls_tree.specs.Tree.{Tree, term}
 use Rattle.mls_public_group.specs.declared.error.GroupError.{GroupError}
 use Rattle.mls_public_group.specs.Faults.{number_of}
 
--- 61 an update of the committer, 62 its removal, 63 two updates or removes of one leaf (RFC 9420, 12.2)
+-- 61 an update of the committer, 62 its removal, 63 two updates or removes of one leaf, 68 two lists of extensions (RFC
+-- 9420, 12.2)
 unfoldable pub proposal_list_checks : ℕ → List Used → Result Passed ℕ
 proposal_list_checks committer used = do
   require 61 (not (has (updated_leaves used) committer))
   require 62 (not (has (removed_leaves used) committer))
   require 63 (is_distinct nat_eq (updated_leaves used ++ removed_leaves used))
+  require 68 (nat_le (length (extension_lists used)) 1)
 
 -- a tree after the updates, the removes and the adds (RFC 9420, 12.3)
 unfoldable pub edit_tree : Term → List Used → Result Edits ℕ

@@ -6,6 +6,8 @@ use Rattle.mls_leaf.specs.GroupExtensions.{group_extensions}
 use Rattle.mls_leaf.specs.Leaf.{leaf_node}
 use Rattle.mls_leaf.specs.Proposal.{proposal}
 use Rattle.mls_leaf.specs.declared.leaf.LeafNode.{LeafNode}
+use Rattle.mls_leaf.specs.declared.proposal.Proposal.{Proposal}
+use Rattle.mls_leaf.specs.declared.proposal.Proposal.TheVariants as proposes
 use Rattle.mls_types.specs.declared.group_context.GroupContext.{GroupContext}
 use Rattle.mls_tree_model.specs.Merge.{merge_path}
 use Rattle.mls_tree_model.specs.Term.{Term, leaf_of}
@@ -20,9 +22,17 @@ pub record IsBelow {V : Type 0} (n : ℕ) (format : Format V) (v : V) : Type 0 w
 abbrev pub HasLeavesBelow : ℕ → Term → Type 0
 HasLeavesBelow n t = (i : ℕ) → IfSome (leaf_of t i) (λ v. IsBelow n leaf_node v)
 
--- each proposal encodes to fewer than n bytes
+-- the proposal encodes to fewer than n bytes; of a list of extensions nothing is asked, since no check and no edit
+-- speaks of its length
+abbrev pub IsProposalBelow : ℕ → Proposal → Type 0
+IsProposalBelow n (proposes.Add offered) = IsBelow n proposal (proposes.Add offered)
+IsProposalBelow n (proposes.Update leaf) = IsBelow n proposal (proposes.Update leaf)
+IsProposalBelow n (proposes.Remove leaf) = IsBelow n proposal (proposes.Remove leaf)
+IsProposalBelow n (proposes.GroupContextExtensions list) = Unit {0}
+
+-- each proposal encodes to fewer than n bytes, lists of extensions aside
 abbrev pub AreBelow : ℕ → List Used → Type 0
-AreBelow n used = AllByRecursion (λ (u : Used). IsBelow n proposal u.proposal) used
+AreBelow n used = AllByRecursion (λ (u : Used). IsProposalBelow n u.proposal) used
 
 -- the tree's leaves are below each bound, from that of a group's leaves on, that the proposals are below
 abbrev pub HasLeavesShortAs : List Used → Term → Type 0
@@ -37,8 +47,8 @@ abbrev pub PathsKeepLeavesShort : Type 0
 PathsKeepLeavesShort = (n : ℕ) (t : Term) (i : ℕ) (x : LeafNode) (keys : List (List ℕ)) →
     IsBelow n leaf_node x → HasLeavesBelow n t → HasLeavesBelow n (merge_path t i x keys)
 
--- a context of texts and extensions that are short, and whose numbers have 16 and 64 bits: it has a spelling, of fewer than
--- 2^30 bytes, since 2^28 + 2^27 + 2^28 + 2^27 is 2^29 + 2^28
+-- a context of texts and extensions that are short, and whose numbers have 16 and 64 bits: it has a spelling, of fewer
+-- than 2^30 bytes, since 2^28 + 2^27 + 2^28 + 2^27 is 2^29 + 2^28
 pub record IsShortContext (context : GroupContext) : Type 0 where
   pub suite : context.cipher_suite < 2 ^ 16
   pub epoch : context.epoch < 2 ^ 64

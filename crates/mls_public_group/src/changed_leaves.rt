@@ -7,6 +7,7 @@ ghost use Rattle.mls_public_group.specs.Faults.{Passes};
 
 use crate::distinct::are_distinct;
 use crate::error::GroupError;
+use crate::extensions::count_lists;
 use crate::used_proposal::Used;
 use mls_leaf::Proposal;
 use std::alloc::{AllocError, Global};
@@ -59,8 +60,8 @@ pub(crate) fn removed_leaves(alloc: Global, used: &[Used<'_>]) -> Result<Vec<u32
     Ok(leaves)
 }
 
-/// Refuses an update of the committer (`CommitterUpdate` 61), its removal (`CommitterRemoved` 62), and two updates or
-/// removes of one leaf (`SameLeafTwice` 63).
+/// Refuses an update of the committer (`CommitterUpdate` 61), its removal (`CommitterRemoved` 62), two updates or
+/// removes of one leaf (`SameLeafTwice` 63), and two lists of extensions (`SecondExtensions` 68).
 pub(crate) fn check_proposal_list(
     alloc: Global,
     committer: u32,
@@ -79,6 +80,9 @@ pub(crate) fn check_proposal_list(
     changed.extend_from_slice(&leaving)?;
     if !are_distinct(changed) {
         return Err(GroupError::SameLeafTwice);
+    }
+    if count_lists(used) > 1 {
+        return Err(GroupError::SecondExtensions);
     }
     Ok(())
 }

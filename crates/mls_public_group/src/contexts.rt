@@ -6,20 +6,22 @@ ghost use Rattle.mls_public_group.specs.Short.{IsShortContext};
 ghost use Rattle.mls_public_group.specs.PublicState.{IsProvisional};
 
 use crate::spelling::spelling;
-use mls_leaf::Bytes;
+use mls_leaf::{Bytes, GroupExtensions};
 use mls_tree::Hash;
 use mls_types::GroupContext;
 use std::alloc::{AllocError, Global};
 
-/// The next epoch's context with the new tree's hash, and as yet the old transcript (RFC 9420, 12.4.1).
+/// The next epoch's context with the new extensions and the new tree's hash, and as yet the old transcript (RFC 9420,
+/// 12.4.1).
 #[tactic(auto, unfolding(mls_model::specs::PublicState::provisional_context))]
 pub fn provisional_context(
     alloc: Global,
     old: &GroupContext,
+    extensions: &GroupExtensions,
     hash: &Hash,
 ) -> Result<GroupContext, AllocError>
     requires { old.now.epoch + 1 < 2 ^ 64 }
-    ensures { IsProvisional old.now hash.now result }
+    ensures { IsProvisional old.now extensions.now hash.now result }
 {
     Ok(GroupContext {
         cipher_suite: old.cipher_suite,
@@ -27,7 +29,7 @@ pub fn provisional_context(
         epoch: old.epoch + 1,
         tree_hash: Bytes::from_slice(alloc, hash)?,
         confirmed_transcript_hash: old.confirmed_transcript_hash.clone()?,
-        extensions: old.extensions.clone()?,
+        extensions: extensions.clone()?,
     })
 }
 

@@ -61,10 +61,10 @@ fn require_distinct(alloc: Global, edits: &Edits, used: &[Used<'_>]) -> Result<(
 impl PublicGroup {
     /// The tree after the proposals of a commit, where they and the tree pass these checks in this order: those of each
     /// proposal in full; `CommitterUpdate` (61) an update of the committer, `CommitterRemoved` (62) its removal,
-    /// `SameLeafTwice` (63) two updates or removes of one leaf; `NoSuchLeaf` (22) no member is where one is updated or
-    /// removed; `TreeFull` (21) the tree is too large; `ClientRepeated` (26) two members have one signature key, or two
-    /// adds one reference; `KeyRepeated` (25) two nodes have one encryption key (RFC 9420, 12.2, 12.3 and 7.3). The
-    /// group stays as it is.
+    /// `SameLeafTwice` (63) two updates or removes of one leaf, `SecondExtensions` (68) two lists of extensions;
+    /// `NoSuchLeaf` (22) no member is where one is updated or removed; `TreeFull` (21) the tree is too large;
+    /// `ClientRepeated` (26) two members have one signature key, or two adds one reference; `KeyRepeated` (25) two
+    /// nodes have one encryption key (RFC 9420, 12.2, 12.3 and 7.3). The group stays as it is.
     pub fn apply_proposals<S: Suite>(
         &self,
         alloc: Global,

@@ -21,9 +21,6 @@ pub enum GroupError {
     /// A leaf or a KeyPackage fails its checks.
     #[error("{0}")]
     Check(CheckError),
-    /// A proposal that members do not take.
-    #[error("an unsupported proposal")]
-    UnsupportedProposal,
     /// A commit updates its committer.
     #[error("the committer is updated")]
     CommitterUpdate,
@@ -33,6 +30,9 @@ pub enum GroupError {
     /// Two updates or removes concern one leaf.
     #[error("one leaf is changed twice")]
     SameLeafTwice,
+    /// Two proposals have extensions for the group.
+    #[error("two lists of extensions")]
+    SecondExtensions,
 }
 
 impl From<TreeError> for GroupError {
@@ -75,10 +75,10 @@ impl GroupError {
         match self {
             GroupError::Tree(error) => error.number(),
             GroupError::Check(error) => error.number(),
-            GroupError::UnsupportedProposal => 12,
             GroupError::CommitterUpdate => 61,
             GroupError::CommitterRemoved => 62,
             GroupError::SameLeafTwice => 63,
+            GroupError::SecondExtensions => 68,
         }
     }
 

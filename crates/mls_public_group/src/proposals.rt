@@ -3,13 +3,12 @@
 ghost use Rattle.std.specs.Prelude.{◌^◌};
 ghost use Rattle.mls_wire.specs.Checks.{AnswersOutright, passed};
 ghost use Rattle.mls_leaf.specs.Leaf.{leaf_node};
-ghost use Rattle.mls_leaf.specs.Proposal.{proposal as proposal_format};
 ghost use Rattle.mls_checks.specs.Short.{IsShort};
 ghost use Rattle.mls_tree.specs.Refusals.{RefusesOutright};
 ghost use Rattle.mls_model.specs.Proposals.{full_checks, proposal_checks, update_checks};
 ghost use Rattle.mls_public_group.specs.Faults.{number_of, Passes};
-ghost use Rattle.mls_public_group.specs.Short.{AreBelow, IsBelow};
-ghost use Rattle.mls_public_group.specs.ProposalChecks.{AnswersRemove, RefusesUpdate, member_check, used_checks};
+ghost use Rattle.mls_public_group.specs.Short.{AreBelow, IsProposalBelow};
+ghost use Rattle.mls_public_group.specs.ProposalChecks.{AnswersExtensions, AnswersRemove, RefusesUpdate, member_check, used_checks};
 
 use crate::error::GroupError;
 use crate::group::PublicGroup;
@@ -23,24 +22,25 @@ use std::alloc::Global;
 impl PublicGroup {
     /// The checks of a proposal of the member at leaf `sender`: of an add those of its KeyPackage (RFC 9420, 12.1.1),
     /// of an update `NoSuchLeaf` (22) where no member is there, and those of its leaf (12.1.2), of a remove
-    /// `NoSuchLeaf` (22) where there is no member (12.1.3). `NoSuchLeaf` (22) and what a remove answers take no memory.
-    /// `UnsupportedProposal` (12) of extensions, which members do not take yet (12.1.7).
+    /// `NoSuchLeaf` (22) where there is no member (12.1.3), of extensions none (12.1.7). `NoSuchLeaf` (22), what a
+    /// remove answers and what extensions are answered take no memory.
     pub fn require_proposal<S: Suite>(
         &self,
         alloc: Global,
         sender: u32,
         proposal: &Proposal,
     ) -> Result<(), GroupError>
-        requires { IsShort proposal_format proposal.now }
+        requires { IsProposalBelow (2 ^ 28) proposal.now }
         ensures answer { Passes (proposal_checks S.crypto self.now sender proposal.now) result }
         ensures update { RefusesUpdate self.now.tree sender proposal.now result }
         ensures remove { AnswersRemove self.now.tree proposal.now result }
+        ensures extensions { AnswersExtensions proposal.now result }
     {
         match proposal {
             Proposal::Add(offered) => Ok(key_package::<S>(alloc, offered)?),
             Proposal::Update(leaf) => self.require_update::<S>(alloc, sender, leaf),
             Proposal::Remove(leaf) => self.require_member(*leaf),
-            Proposal::GroupContextExtensions(_) => Err(GroupError::UnsupportedProposal),
+            Proposal::GroupContextExtensions(_) => Ok(()),
         }
     }
 
@@ -80,7 +80,7 @@ impl PublicGroup {
 
     /// The checks of a proposal where the commit gives it in full.
     fn require_used<S: Suite>(&self, alloc: Global, used: &Used<'_>) -> Result<(), GroupError>
-        requires { IsBelow (2 ^ 28) proposal_format used.now.proposal }
+        requires { IsProposalBelow (2 ^ 28) used.now.proposal }
         ensures { Passes (used_checks S.crypto self.now used.now) result }
     {
         if !used.is_full {

@@ -1,10 +1,9 @@
 //! The references of the KeyPackages that a commit adds (RFC 9420, 5.2).
 
 ghost use Rattle.std.specs.Prelude.{◌≡◌, ◌^◌, IfOk, OnOk};
-ghost use Rattle.mls_leaf.specs.Proposal.{proposal as proposal_format};
 ghost use Rattle.mls_tree_array.specs.DistinctStrings.{bytes_in};
 ghost use Rattle.mls_tree_model.specs.Sets.{is_distinct, same_bytes};
-ghost use Rattle.mls_public_group.specs.Short.{AreBelow, IsBelow};
+ghost use Rattle.mls_public_group.specs.Short.{AreBelow, IsProposalBelow};
 ghost use Rattle.mls_public_group.specs.ProposalList.{added_references, with_reference};
 
 use crate::spelling::spelling;
@@ -20,7 +19,7 @@ fn push_reference(
     used: &Used<'_>,
     references: &mut Vec<Secret>,
 ) -> Result<(), AllocError>
-    requires { IsBelow (2 ^ 28) proposal_format used.now.proposal }
+    requires { IsProposalBelow (2 ^ 28) used.now.proposal }
     ensures { OnOk result (references.new.items ≡ with_reference references.old.items used.now) }
 {
     match used.proposal {

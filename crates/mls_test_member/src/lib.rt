@@ -7,6 +7,8 @@ mod candidates;
 #[cfg(test)]
 mod creations;
 #[cfg(test)]
+mod extensions;
+#[cfg(test)]
 mod joins;
 #[cfg(test)]
 mod messages;

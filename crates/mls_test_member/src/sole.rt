@@ -15,9 +15,9 @@ pub(crate) fn candidate(
     Ok(Box::new(alloc, candidate)?)
 }
 
-/// The only member of the group "g" in epoch 0.
-fn create_first(alloc: Global) -> Result<Box<Member<Glass>>, Refusal> {
-    let candidate = candidate(alloc, 3)?;
+/// The only member of the group "g" in epoch 0, with an identity of so many bytes.
+pub(crate) fn create_first(alloc: Global, length: usize) -> Result<Box<Member<Glass>>, Refusal> {
+    let candidate = candidate(alloc, length)?;
     let member = Member::create(alloc, &candidate, b"g", &[2; 32])?;
     Ok(Box::new(alloc, member)?)
 }
@@ -36,7 +36,7 @@ fn advance(member: &mut Member<Glass>) -> Result<(), Refusal> {
 
 /// The only member of the group "g" in epoch 1, behind a commit of its own with a path.
 pub(crate) fn sole(alloc: Global) -> Result<Box<Member<Glass>>, Refusal> {
-    let mut member = create_first(alloc)?;
+    let mut member = create_first(alloc, 3)?;
     advance(&mut member)?;
     Ok(member)
 }

@@ -17,6 +17,14 @@ const GROUP_INFO: &str =
 const GROUP_INFO_TBS: &str =
     "0001f0010167000000000000000020111111111111111111111111111111111111111111111111111111111111111100000001cc00000000";
 
+/// The `GROUP_INFO` with an extension of its group, of type f001 and the data 6869.
+const EXTENDED_INFO: &str =
+    "0001f001016700000000000000002011111111111111111111111111111111111111111111111111111111111111110005f0010268690001cc0000000001dd";
+
+/// The `EXTENDED_INFO` without the signature.
+const EXTENDED_INFO_TBS: &str =
+    "0001f001016700000000000000002011111111111111111111111111111111111111111111111111111111111111110005f0010268690001cc00000000";
+
 fn has_length(alloc: Global, digits: &str, count: usize) -> Result<bool, LeafError> {
     Ok(bytes_of(alloc, digits)?.len() == count)
 }
@@ -49,6 +57,7 @@ fn contexts(rt: HostRuntime) -> Result<(), Fail> {
 fn infos(rt: HostRuntime) -> Result<(), Fail> {
     let rows = [
         (GROUP_INFO, 0),
+        (EXTENDED_INFO, 0),
         // with a tree
         (
             "0001f0010167000000000000000020111111111111111111111111111111111111111111111111111111111111111100001f00021c1b010101bb01cc000103626f6202000102f0010000020001020001dd01cc0000000001dd",
@@ -73,15 +82,18 @@ fn infos(rt: HostRuntime) -> Result<(), Fail> {
     answers::<GroupInfo>(&rt, rt.alloc(), &rows)
 }
 
-fn signed_of_info(alloc: Global) -> Result<Vec<u8>, LeafError> {
-    let info = value_of::<GroupInfo>(alloc, GROUP_INFO)?;
+fn signed_of_info(alloc: Global, digits: &str) -> Result<Vec<u8>, LeafError> {
+    let info = value_of::<GroupInfo>(alloc, digits)?;
     info.to_be_signed(alloc)
 }
 
 #[test]
 fn signed_infos(rt: HostRuntime) -> Result<(), Fail> {
     laws_of_group_infos();
-    spells(&rt, rt.alloc(), signed_of_info(rt.alloc()), GROUP_INFO_TBS)
+    let made = signed_of_info(rt.alloc(), GROUP_INFO);
+    spells(&rt, rt.alloc(), made, GROUP_INFO_TBS)?;
+    let extended = signed_of_info(rt.alloc(), EXTENDED_INFO);
+    spells(&rt, rt.alloc(), extended, EXTENDED_INFO_TBS)
 }
 
 #[test]

@@ -106,8 +106,10 @@ fn answers_for_zeros(alloc: Global, count: usize) -> Result<(u8, u8), LeafError>
 #[test]
 fn long_inputs(rt: HostRuntime) -> Result<(), Fail> {
     let alloc = rt.alloc();
-    let longest = answers_for_zeros(alloc, 4_194_304);
-    gives(&rt, longest, (7, 7), "4,194,304 zeros")?;
-    let longer = answers_for_zeros(alloc, 4_194_305);
-    gives(&rt, longer, (6, 6), "4,194,305 zeros")
+    let long = answers_for_zeros(alloc, 4_194_305);
+    gives(&rt, long, (7, 7), "4,194,305 zeros")?;
+    let longest = answers_for_zeros(alloc, INPUT_LIMIT);
+    gives(&rt, longest, (7, 7), "the longest input of zeros")?;
+    let longer = answers_for_zeros(alloc, INPUT_LIMIT + 1);
+    gives(&rt, longer, (6, 6), "a zero more")
 }

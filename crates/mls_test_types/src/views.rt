@@ -14,6 +14,10 @@ const KEY_PACKAGE_MESSAGE: &str =
 /// The removal of leaf 5, sent by leaf 2 in the group "g" at epoch 0.
 const PUBLIC_MESSAGE: &str = "00010001016700000000000000000100000002000200030000000501aa01bb";
 
+/// The proposal of an extension of type f001 with the data 6869, sent so too.
+const EXTENSIONS_MESSAGE: &str =
+    "000100010167000000000000000001000000020002000705f00102686901aa01bb";
+
 /// A welcome for the two KeyPackages with the references aa and ab.
 const WELCOME: &str = "00010003f0010c01aa01bb01cc01ab01bb01cc01dd";
 
@@ -67,7 +71,12 @@ fn are_owned(rt: &impl Abort, alloc: Global, messages: &[&str]) -> Result<(), Fa
 
 #[test]
 fn owned_messages(rt: HostRuntime) -> Result<(), Fail> {
-    let messages = [PUBLIC_MESSAGE, KEY_PACKAGE_MESSAGE, WELCOME];
+    let messages = [
+        PUBLIC_MESSAGE,
+        KEY_PACKAGE_MESSAGE,
+        EXTENSIONS_MESSAGE,
+        WELCOME,
+    ];
     are_owned(&rt, rt.alloc(), &messages)
 }
 
@@ -154,22 +163,26 @@ fn messages_refused(rt: HostRuntime) -> Result<(), Fail> {
         "00010001016700000000000000000200000002000200030000000501aa01bb",
         // cut behind another wire format
         "00010002",
+        // extensions of one type twice, cut behind the second type, and with data that run over the list
+        "000100010167000000000000000001000000020002000706f00100f0010001aa01bb",
+        "000100010167000000000000000001000000020002000706f00100f001",
+        "000100010167000000000000000001000000020002000704f00105aa01aa01bb",
         // a welcome that is cut
         "00010003f0010801aa01bb01cc01dd",
     ];
     agree(&rt, rt.alloc(), &messages)
 }
 
-/// A message of 4,194,304 bytes: these in front, then a byte string of zeros that fills it up, and these behind it.
+/// A message as long as an input may be: these in front, then a byte string of zeros that fills it up, and these behind it.
 fn fill_message(alloc: Global, front: &str, behind: &str) -> Result<Vec<u8>, AllocError> {
     let mut bytes = bytes_of(alloc, front)?;
     let behind = bytes_of(alloc, behind)?;
-    let content = 4_194_300usize
+    let content = (INPUT_LIMIT - 4)
         .saturating_sub(bytes.len())
         .saturating_sub(behind.len());
     let header = (0x8000_0000 + content as u32).to_be_bytes();
     bytes.extend_from_slice(&header)?;
-    bytes.resize(4_194_304usize.saturating_sub(behind.len()), 0)?;
+    bytes.resize(INPUT_LIMIT.saturating_sub(behind.len()), 0)?;
     bytes.extend_from_slice(&behind)?;
     Ok(bytes)
 }

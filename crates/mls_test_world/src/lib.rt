@@ -1,4 +1,5 @@
-//! Callers of worlds: two that need no more than what `run` promises, and worked rows with worlds.
+//! Callers of worlds: two that need no more than what `run` promises, the same under suite 0x0001, and worked rows with
+//! worlds.
 #![tactic(auto)]
 
 ghost use Rattle.std.specs.Prelude.{◌≡◌, IfOk};
@@ -14,12 +15,14 @@ mod numbers;
 mod rows;
 #[cfg(test)]
 mod script;
+mod suite_0001;
 
 pub use deliveries::deliver_commit;
 use mls_model::{Event, Reply};
 use mls_suite::{OutOfMemory, Suite};
 use mls_world::World;
 use std::alloc::Global;
+pub use suite_0001::{deliver_commit_under_suite_0001, run_under_suite_0001};
 
 /// Makes the world that a list of events leaves, with a reply to each. Two of its members that weren't removed, and
 /// whose journals are one homemade journal, hold one epoch secret and the nine secrets that it gives: what `run`

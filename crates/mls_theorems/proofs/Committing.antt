@@ -43,6 +43,7 @@ use Rattle.mls_theorems.proofs.Changes.{KeepsOn, keeps_same, AreMessages, one_me
 use Rattle.mls_theorems.proofs.Lists.{some, grows_none, get_append, get_length, get_below, get_second}
 use Rattle.mls_theorems.proofs.Past.{past_grows, reached_same}
 use Rattle.mls_theorems.proofs.Secrets.{pending_message}
+use Rattle.mls_theorems.proofs.SentLists.{lists_fit}
 use Rattle.mls_theorems.proofs.Sources.{bytes_within, items_fit}
 
 -- ---- its messages
@@ -195,4 +196,4 @@ commit_kept c creations w g k items path seed x range h =
     let s2 = bind_ok (items_of w items) _ _ s1.2 in
     let s3 = bind_ok (make c s1.0.member s2.0 path seed) _ _ s2.2 in
     subst (λ (y : Reply × World). IsGoodWorld c y.1) (ok_is _ x s3.2)
-    (creations, commits c creations w k s1.0 s2.0 path seed s3.0 g (given_ok 90 (slice_get w.seats k) s1.0 s1.1) (items_fit w items s2.0 g.messages range s2.1) s3.1)
+    (creations, commits c creations w k s1.0 s2.0 path seed s3.0 g (given_ok 90 (slice_get w.seats k) s1.0 s1.1) (lists_fit c s1.0.member s2.0 path seed s3.0 (items_fit w items s2.0 g.messages range s2.1) s3.1) s3.1)

@@ -1,9 +1,10 @@
 -- The steps of edits, of a path and of a commit.
-use Rattle.std.proofs.Common.{◌≡◌, ℕ, ◌==◌, not, nat_eq, ◌||◌, true, List, ◌∷◌, ◌++◌, length, map, Option, Some, None, is_some, Ok, refl, eqb-true, sym, ◌∙◌, ap, subst}
+use Rattle.std.proofs.Common.{◌≡◌, ℕ, ◌==◌, not, nat_eq, nat_le, ◌||◌, true, List, ◌∷◌, ◌++◌, length, map, Option, Some, None, is_some, Ok, refl, eqb-true, sym, ◌∙◌, ap, subst}
 use Rattle.std.specs.List.{list_all}
 use Rattle.std.specs.Str.{bytes_eq}
 use Rattle.std.proofs.lemmas.Bool.{not-true}
 use Rattle.mls_wire.specs.Checks.{passed}
+use Rattle.mls_leaf.specs.declared.extension.Extension.{Extension}
 use Rattle.mls_leaf.specs.declared.leaf.LeafNode.{LeafNode}
 use Rattle.mls_tree_model.specs.Term.{Term}
 use Rattle.mls_tree_model.specs.Sets.{has, same_bytes, is_distinct}
@@ -22,7 +23,7 @@ use Rattle.mls_types.specs.Content.{framed_content}
 use Rattle.mls_schedule.specs.Transcript.{confirmed_hash}
 use Rattle.mls_tree_model.specs.Good.{has_distinct_keys, has_distinct_clients}
 use Rattle.mls_model.specs.PublicState.{provisional_context, confirmed_context}
-use Rattle.mls_model.specs.Proposals.{full_checks, updates, updated_leaves, removed_leaves, adds, package_reference, is_path_required}
+use Rattle.mls_model.specs.Proposals.{full_checks, updates, updated_leaves, removed_leaves, adds, extension_lists, extended, package_reference, is_path_required}
 use Rattle.mls_model.specs.Commit.{Edits, Change, apply_updates, apply_removes, apply_adds, apply_proposals, node_keys, cipher_counts, due_counts, apply_update_path, apply_path_if, change_of_commit}
 use Rattle.mls_theorems.specs.EditLaws.{EditedSteps, WithPathSteps, IsBody, BodySteps}
 use Rattle.mls_wire.specs.CheckLaws.{required}
@@ -35,7 +36,8 @@ edited_steps c p committer used e h =
     let one = require_ok 61 (not (has (updated_leaves used) committer)) _ e full.1 in
     let two = require_ok 62 (not (has (removed_leaves used) committer)) _ e one.1 in
     let three = require_ok 63 (is_distinct nat_eq (updated_leaves used ++ removed_leaves used)) _ e two.1 in
-    let four = bind_ok (apply_updates p.tree (updates used)) _ e three.1 in
+    let list = require_ok 68 (nat_le (length (extension_lists used)) 1) _ e three.1 in
+    let four = bind_ok (apply_updates p.tree (updates used)) _ e list.1 in
     let five = bind_ok (apply_removes four.0 (removed_leaves used)) _ e four.2 in
     let six = bind_ok (apply_adds five.0 (adds used)) _ e five.2 in
     let seven = require_ok 26 (has_distinct_clients six.0.tree) _ e six.2 in
@@ -47,6 +49,7 @@ edited_steps c p committer used e h =
       not_updated = not-true (has (updated_leaves used) committer) one.0;
       not_removed = not-true (has (removed_leaves used) committer) two.0;
       apart = three.0;
+      single = list.0;
       after_updates = four.0;
       updating = four.1;
       after_removes = five.0;
@@ -103,7 +106,8 @@ body_steps c p committer used commit said signature change h =
     let edits = bind_ok (apply_proposals c p committer used) _ change h in
     let path = require_ok 64 (is_some commit.path || not (is_path_required used)) _ change edits.2 in
     let tree = bind_ok (apply_path_if c p committer edits.0 commit.path) _ change path.1 in
-    let made : Change = record { edits = edits.0; tree = tree.0; provisional = provisional_context p.context tree.0; context = confirmed_context (provisional_context p.context tree.0) (confirmed_hash p.interim 1 (framed_content.spell said) signature) } in
+    let carried : List Extension = extended p.context.extensions used in
+    let made : Change = record { edits = edits.0; tree = tree.0; provisional = provisional_context p.context carried tree.0; context = confirmed_context (provisional_context p.context carried tree.0) (confirmed_hash p.interim 1 (framed_content.spell said) signature) } in
     let is : made ≡ change = cc in
     subst (IsBody c p committer used commit said signature) is (record {
       edits = edits.1;

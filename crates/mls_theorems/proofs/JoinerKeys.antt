@@ -39,17 +39,17 @@ merged_inside t i x keys here = let high : i < 0 + width t = here.high in record
 
 pub keys_taken : KeysTaken
 unfolding no_path
-keys_taken c m e seed path t j y own (inl new) h two leaf public lists =
+keys_taken c m carried e seed path t j y own (inl new) h two leaf public lists =
     let i : ℕ = m.keys.leaf in
     let start : List ℕ = path_seed seed in
     let x : LeafNode = committed_leaf c m e new.old seed in
     let u : Term = merge_path e.tree i x (keys_of_path c e.tree i start) in
-    let tree : u ≡ t = merge_is e.tree i x (keys_of_path c e.tree i start) new.tree new.tree_is ∙ sym (one_tree c m e seed path t new h) in
+    let tree : u ≡ t = merge_is e.tree i x (keys_of_path c e.tree i start) new.tree new.tree_is ∙ sym (one_tree c m carried e seed path t new h) in
     let k = taken_agrees c e.tree i j x y start own two leaf public lists in
     let answer : take_answer c u i j own (secret_for (way 0 e.tree i) j start) ≡ Ok k.0 = take_inside c u i j own (secret_for (way 0 e.tree i) j start) (merged_inside e.tree i x (keys_of_path c e.tree i start) two.first) ∙ k.1 in
     subst (λ (s : Term). TakesKeys c s i j own (path_secret_for path.path m e seed j)) tree
     (rw new.path_is (by_secret c u i j own (secret_for (way 0 e.tree i) j start) k.0 answer))
-keys_taken c m e seed path t j y own (inr none) h two leaf public lists =
+keys_taken c m carried e seed path t j y own (inr none) h two leaf public lists =
     let i : ℕ = m.keys.leaf in
     let tree : e.tree ≡ t = merged_alone c m.public i e t (sym (ap (λ (x : MadePath). apply_path_if c m.public i e x.path) none) ∙ h) in
     let due : has_due e.tree (alone j own) ≡ true = (leaf_due j (way 0 e.tree j) own).1 lists in

@@ -30,7 +30,7 @@ use Rattle.mls_model.proofs.KeyLaws.{leaf_stays}
 use Rattle.mls_model.specs.Make.{MadePath, Made, path_secret_for, path_seals}
 use Rattle.mls_model.specs.Member.{Member}
 use Rattle.mls_model.specs.OpenedWelcome.{Opened, opened_welcome}
-use Rattle.mls_model.specs.Proposals.{adds}
+use Rattle.mls_model.specs.Proposals.{adds, extended}
 use Rattle.mls_model.specs.Welcome.{unsigned_info, signed_info}
 use Rattle.mls_treekem_model.specs.Seeds.{seal_seed}
 use Rattle.mls_theorems.proofs.Staying.{edits_follow_committer}
@@ -153,7 +153,7 @@ module _ (c : Crypto) (laws : Lawful c) (m : Member) (list : List ProposalOrRef)
       } in
       let public : c.public k.leaf ≡ j.entry.offered.leaf_node.encryption_key = sym (ap (λ (x : KeyPackage). x.leaf_node.encryption_key) j.offered ∙ good.leaf) in
       subst (λ (e : Edits). TakesKeys c s.change.tree m.keys.leaf j.entry.leaf k.leaf (path_secret_for s.path.path m e is.seed j.entry.leaf)) (sym same)
-      (keys_taken c m s.edits is.seed s.path s.change.tree j.entry.leaf j.entry.offered.leaf_node k.leaf (path_did c m s.used s.edits is.wants_path is.seed s.path s.path_is) merges two
+      (keys_taken c m (extended m.public.context.extensions s.used) s.edits is.seed s.path s.change.tree j.entry.leaf j.entry.offered.leaf_node k.leaf (path_did c m s.used s.edits is.wants_path is.seed s.path s.path_is) merges two
       (leaf_is_in s.edits.tree j.entry.leaf j.entry.offered.leaf_node j.joins.leaf).1 public j.joins.listed)
 
   -- 65, and the whole

@@ -6,6 +6,8 @@ use Rattle.std.proofs.lemmas.Bool.{not-true}
 use Rattle.mls_wire.proofs.CheckLaws.{require_ok, then_ok, bind_ok, given_ok}
 use Rattle.mls_wire.specs.Checks.{passed}
 use Rattle.mls_wire.specs.Laws.{ok_is}
+use Rattle.mls_leaf.specs.GroupExtensions.{are_allowed}
+use Rattle.mls_leaf.specs.declared.extension.Extension.{Extension}
 use Rattle.mls_leaf.specs.declared.proposal.Proposal.{Proposal}
 use Rattle.mls_leaf.specs.declared.proposal.Proposal.TheVariants as proposes
 use Rattle.mls_suite.specs.Crypto.{Crypto}
@@ -14,19 +16,19 @@ use Rattle.mls_model.specs.declared.event.Reply.{Reply}
 use Rattle.mls_model.specs.declared.event.Source.{Source}
 use Rattle.mls_model.specs.MemberInvariant.{IsGoodPending, IsGoodIfPending, IsGoodMember}
 use Rattle.mls_model.specs.Candidate.{leaf_key_of}
-use Rattle.mls_model.specs.WorldCalls.{proposal_answer, propose_add_answer, propose_update_answer, propose_remove_answer, drop_answer}
+use Rattle.mls_model.specs.WorldCalls.{proposal_answer, propose_add_answer, propose_update_answer, propose_remove_answer, propose_extensions_answer, drop_answer}
 use Rattle.mls_model.specs.Headline.{IsPendingOf}
 use Rattle.mls_model.specs.Invariant.{IsGoodBy, IsGoodWorld}
 use Rattle.mls_model.specs.Journal.{names_in, list_in}
 use Rattle.mls_model.specs.Lineage.{IsSameState}
 use Rattle.mls_model.specs.Member.{KeptProposal, Pending, Member, kept_under, with_kept, without_pending}
 use Rattle.mls_model.specs.Messages.{is_within_limit, reference_of}
-use Rattle.mls_model.specs.Propose.{proposal_by, keep_once, make_proposal, propose_add, updated_leaf, propose_update, propose_remove}
+use Rattle.mls_model.specs.Propose.{proposal_by, keep_once, make_proposal, propose_add, updated_leaf, propose_update, propose_remove, propose_extensions}
 use Rattle.mls_model.specs.JournalState.{Creations}
 use Rattle.mls_model.specs.EventRange.{IsSourceInRange}
 use Rattle.mls_model.specs.World.{World, Seat, with_member, seat_at, package_of}
 use Rattle.mls_theorems.proofs.CommitEntries.{list_at}
-use Rattle.mls_theorems.proofs.Proposing.{added_good, updated_good, removed_good}
+use Rattle.mls_theorems.proofs.Proposing.{added_good, updated_good, removed_good, extended_good}
 use Rattle.mls_theorems.proofs.UnchangedMembers.{dropped_good}
 use Rattle.mls_theorems.proofs.Journals.{same_itself}
 use Rattle.mls_theorems.proofs.Changes.{KeepsOn, keeps_same, more_messages, one_message, change_member}
@@ -138,6 +140,17 @@ propose_remove_kept c creations w g k leaf x h =
     let at : slice_get w.seats k ≡ Some s1.0 = given_ok 90 (slice_get w.seats k) s1.0 s1.1 in
     let did : ProposedDid s1.0.member s3.0 = proposed_did c s1.0.member _ None s3.0 s3.1 in
     let good = removed_good c s1.0.member leaf s3.0 (member_good c creations w k s1.0 g at did.active) s3.1 in
+    to_world c x (proposal_answer w k s1.0 s3.0) s3.2 (sent_kept c creations w k s1.0 s3.0 g at did good)
+
+pub propose_extensions_kept : (c : Crypto) (creations : Creations) (w : World) → IsGoodBy c creations w → (k : ℕ) (list : List Extension) (x : Reply × World) → propose_extensions_answer c w k list ≡ Ok x → IsGoodWorld c x.1
+unfolding propose_extensions_answer propose_extensions
+propose_extensions_kept c creations w g k list x h =
+    let s1 = bind_ok (seat_at w k) _ _ h in
+    let s2 = require_ok 14 (are_allowed list) _ _ s1.2 in
+    let s3 = bind_ok (propose_extensions c s1.0.member list) _ _ s2.1 in
+    let at : slice_get w.seats k ≡ Some s1.0 = given_ok 90 (slice_get w.seats k) s1.0 s1.1 in
+    let did : ProposedDid s1.0.member s3.0 = proposed_did c s1.0.member _ None s3.0 s3.1 in
+    let good = extended_good c s1.0.member list s3.0 (member_good c creations w k s1.0 g at did.active) s2.0 s3.1 in
     to_world c x (proposal_answer w k s1.0 s3.0) s3.2 (sent_kept c creations w k s1.0 s3.0 g at did good)
 
 -- ---- drops

@@ -32,6 +32,7 @@ pub mod Pends
 pub mod Proposing
 pub mod Received
 pub mod Sent
+pub mod SentLists
 pub mod Spelled
 pub mod Stays
 pub mod UnchangedMembers

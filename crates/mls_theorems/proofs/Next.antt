@@ -24,12 +24,13 @@ pub is_next : NextStatesGood
 is_next c m i used x said signature change good there below fits uses h =
     let tree = good_next c m.public i used x said signature change good.tree (used_have_passed c m i x.proposals used good.kept uses) there h in
     let context = context_of_tree c m.public i used x said signature change h in
-    let parts = parts_next c m.public i used x said signature change h (used_fit c m i x.proposals used good.kept (list_of x fits) uses) (path_of x fits) (parts_of m.public.tree good.nodes) in
+    let used_fits = used_fit c m i x.proposals used good.kept (list_of x fits) uses in
+    let parts = parts_next c m.public i used x said signature change h used_fits (path_of x fits) (parts_of m.public.tree good.nodes) in
     record {
       good = subst (λ (g : List ℕ). IsGood (rules_of c g) change.tree) (sym context.1) tree;
       hash = context.0;
       suite = context.2 ∙ good.suite;
-      context = context_next c m.public i used x said signature change h below good.context;
+      context = context_next c m.public i used x said signature change h below used_fits good.context;
       parts = parts;
       nodes = good_nodes_fit c m.public change.tree tree parts;
     }

@@ -2,6 +2,7 @@
 use Rattle.std.proofs.Common.{◌≡◌, ℕ, ◌==◌, true, List, ◌∷◌, length, Option, Some, Result, Ok, sym, ap, subst, ◌∙◌, inl, inr, replicate}
 use Rattle.std.specs.List.{list_all}
 use Rattle.std.specs.Str.{bytes_eq}
+use Rattle.mls_leaf.specs.declared.extension.Extension.{Extension}
 use Rattle.mls_leaf.specs.declared.leaf.LeafNode.{LeafNode}
 use Rattle.mls_wire.specs.Checks.{passed}
 use Rattle.mls_wire.specs.Laws.{ok_is}
@@ -27,6 +28,7 @@ use Rattle.mls_treekem_model.specs.Seeds.{seal_seed}
 use Rattle.mls_treekem_model.specs.Whole.{keys_of_path}
 use Rattle.mls_treekem_model.proofs.WholeLaws.{sealed_keys, opened_agrees}
 use Rattle.mls_model.specs.PublicState.{PublicState, Used, provisional_context, confirmed_context}
+use Rattle.mls_model.specs.Proposals.{extended}
 use Rattle.mls_treekem_model.specs.Seeds.{path_seed}
 use Rattle.mls_model.specs.Commit.{Edits, Change, apply_proposals, node_keys, cipher_counts, due_counts, apply_update_path, apply_path_if, change_of_commit}
 use Rattle.mls_model.specs.Member.{Member, with_keys, follow_edits, keys_after_edits}
@@ -58,7 +60,7 @@ body_did c p committer used commit said signature change h =
       edits_are = s1.1 ∙ ap (λ (x : Edits). good_edits x) e;
       path_there = s2.0;
       merges = sym (ap (λ (x : Edits). apply_path_if c p committer x commit.path) e) ∙ s3.1 ∙ ap (λ (x : Term). good_tree x) t;
-      provisional_is = sym (ap (λ (x : Change). x.provisional) is) ∙ ap (λ (x : Term). provisional_context p.context x) t;
+      provisional_is = sym (ap (λ (x : Change). x.provisional) is) ∙ ap (λ (x : Term). provisional_context p.context (extended p.context.extensions used) x) t;
       epoch_is = sym (ap (λ (x : Change). x.context.epoch) is);
     }
 
@@ -91,10 +93,10 @@ unfolding apply_path_if
 merged_did c p committer e path t h = (with_path_did c p committer e path t h).merges
 
 -- with a path
-climbs_path : (c : Crypto) → Lawful c → (maker m : Member) (list : List ProposalOrRef) (e : Edits) (seed : List ℕ) (path : MadePath) (change : Change) (new : IsNewPath c maker e seed path) →
-    change.edits ≡ e → change.provisional ≡ provisional_context maker.public.context new.tree → Stays c m maker.keys.leaf list change.edits → Climbs c m maker.keys.leaf list path change
+climbs_path : (c : Crypto) → Lawful c → (maker m : Member) (list : List ProposalOrRef) (carried : List Extension) (e : Edits) (seed : List ℕ) (path : MadePath) (change : Change) (new : IsNewPath c maker carried e seed path) →
+    change.edits ≡ e → change.provisional ≡ provisional_context maker.public.context carried new.tree → Stays c m maker.keys.leaf list change.edits → Climbs c m maker.keys.leaf list path change
 unfolding open_path_secret follow_edits with_keys path_seed
-climbs_path c laws maker m list e seed path change new same context stays =
+climbs_path c laws maker m list carried e seed path change new same context stays =
     let start : List ℕ = path_seed seed in
     let i : ℕ = maker.keys.leaf in
     let keys : PrivateKeys = keys_after_edits m list change.edits.tree in
@@ -125,8 +127,8 @@ climbs_alone c m maker list e path change is =
     }
 
 -- the path that was sealed is the one that is merged, under one context
-pub one_tree : (c : Crypto) (maker : Member) (e : Edits) (seed : List ℕ) (path : MadePath) (t : Term) (new : IsNewPath c maker e seed path) → apply_path_if c maker.public maker.keys.leaf e path.path ≡ Ok t → t ≡ new.tree
-one_tree c maker e seed path t new h =
+pub one_tree : (c : Crypto) (maker : Member) (carried : List Extension) (e : Edits) (seed : List ℕ) (path : MadePath) (t : Term) (new : IsNewPath c maker carried e seed path) → apply_path_if c maker.public maker.keys.leaf e path.path ≡ Ok t → t ≡ new.tree
+one_tree c maker carried e seed path t new h =
     let made : UpdatePath = record { leaf_node = committed_leaf c maker e new.old seed; nodes = new.nodes } in
     let done : merge_answer e.tree maker.keys.leaf made.leaf_node (node_keys made) ≡ Ok t =
     merged_did c maker.public maker.keys.leaf e made t (sym (ap (λ (x : Option UpdatePath). apply_path_if c maker.public maker.keys.leaf e x) new.path_is) ∙ h) in
@@ -136,8 +138,9 @@ one_tree c maker e seed path t new h =
 pub receiver_climbs : ReceiverClimbs
 unfolding commit_of
 receiver_climbs c laws maker m list used e seed path change (inl new) edits is stays =
+    let carried : List Extension = extended maker.public.context.extensions used in
     let same : change.edits ≡ e = same_edits c maker.public maker.keys.leaf used change.edits e is.edits_are edits in
-    let tree : change.tree ≡ new.tree = one_tree c maker e seed path change.tree new (sym (ap (λ (x : Edits). apply_path_if c maker.public maker.keys.leaf x path.path) same) ∙ is.merges) in
-    climbs_path c laws maker m list e seed path change new same (is.provisional_is ∙ ap (λ (t : Term). provisional_context maker.public.context t) tree)
+    let tree : change.tree ≡ new.tree = one_tree c maker carried e seed path change.tree new (sym (ap (λ (x : Edits). apply_path_if c maker.public maker.keys.leaf x path.path) same) ∙ is.merges) in
+    climbs_path c laws maker m list carried e seed path change new same (is.provisional_is ∙ ap (λ (t : Term). provisional_context maker.public.context carried t) tree)
     (subst (λ (x : Edits). Stays c m maker.keys.leaf list x) (sym same) stays)
 receiver_climbs c laws maker m list used e seed path change (inr none) edits is stays = climbs_alone c m maker list e path change none

@@ -3,6 +3,7 @@ use Rattle.std.proofs.Common.{◌≡◌, ℕ, List, [], ◌∷◌, ◌++◌, Som
 use Rattle.mls_wire.specs.Laws.{ok_is}
 use Rattle.mls_types.specs.SignedParts.{framed}
 use Rattle.mls_types.specs.declared.commit.ProposalOrRef.{ProposalOrRef}
+use Rattle.mls_leaf.specs.declared.extension.Extension.{Extension}
 use Rattle.mls_leaf.specs.declared.leaf.LeafNode.{LeafNode}
 use Rattle.mls_suite.specs.Crypto.{Crypto}
 use Rattle.mls_tree_model.specs.Term.{Term}
@@ -17,6 +18,7 @@ use Rattle.mls_treekem_model.specs.Members.{HasExact}
 use Rattle.mls_treekem_model.specs.Whole.{keys_of_path}
 use Rattle.mls_treekem_model.proofs.WholeLaws.{made_exact}
 use Rattle.mls_model.specs.PublicState.{PublicState}
+use Rattle.mls_model.specs.Proposals.{extended}
 use Rattle.mls_model.specs.Candidate.{leaf_key_of, unsigned_leaf, signed_leaf}
 use Rattle.mls_treekem_model.specs.Seeds.{path_seed}
 use Rattle.mls_model.specs.Commit.{Edits, apply_path_if, public_with, next_public}
@@ -63,9 +65,9 @@ leaf_key_is : (c : Crypto) (m : Member) (e : Edits) (old : LeafNode) (seed : Lis
 unfolding committed_leaf signed_leaf unsigned_leaf
 leaf_key_is c m e old seed = refl
 
-keys_with_path : (c : Crypto) (m : Member) (e : Edits) (seed : List ℕ) (path : MadePath) (new : IsNewPath c m e seed path) → HasExact c new.tree (with_keys m.keys path.climb.keys)
+keys_with_path : (c : Crypto) (m : Member) (carried : List Extension) (e : Edits) (seed : List ℕ) (path : MadePath) (new : IsNewPath c m carried e seed path) → HasExact c new.tree (with_keys m.keys path.climb.keys)
 unfolding with_keys
-keys_with_path c m e seed path new =
+keys_with_path c m carried e seed path new =
     let i : ℕ = m.keys.leaf in
     let start : List ℕ = path_seed seed in
     let sk : List ℕ = leaf_key_of c seed in
@@ -88,13 +90,13 @@ unfolding apply_path_if
 merged_alone c p i e t h = ok_is _ _ h
 
 made_keys_exact : (c : Crypto) (m : Member) (list : List ProposalOrRef) (wants_path : Bool) (seed : List ℕ) (made : Made) (k : Makes c m list wants_path seed made) → IsGoodMember c m →
-    IsNewPath c m k.edits seed k.path ⊎ (k.path ≡ no_path m k.edits) → HasExact c k.change.tree (with_keys m.keys k.path.climb.keys)
+    IsNewPath c m (extended m.public.context.extensions k.used) k.edits seed k.path ⊎ (k.path ≡ no_path m k.edits) → HasExact c k.change.tree (with_keys m.keys k.path.climb.keys)
 unfolding commit_of no_path
 made_keys_exact c m list wants_path seed made k good (inl new) =
     let d : IsChange c m.public m.keys.leaf k.used (commit_of list k.path) k.change = body_did c m.public m.keys.leaf k.used (commit_of list k.path) _ _ k.change k.change_is in
     let same : k.change.edits ≡ k.edits = same_edits c m.public m.keys.leaf k.used k.change.edits k.edits d.edits_are k.edits_are in
-    let tree : k.change.tree ≡ new.tree = one_tree c m k.edits seed k.path k.change.tree new (sym (ap (λ (x : Edits). apply_path_if c m.public m.keys.leaf x k.path.path) same) ∙ d.merges) in
-    subst (λ (t : Term). HasExact c t (with_keys m.keys k.path.climb.keys)) (sym tree) (keys_with_path c m k.edits seed k.path new)
+    let tree : k.change.tree ≡ new.tree = one_tree c m _ k.edits seed k.path k.change.tree new (sym (ap (λ (x : Edits). apply_path_if c m.public m.keys.leaf x k.path.path) same) ∙ d.merges) in
+    subst (λ (t : Term). HasExact c t (with_keys m.keys k.path.climb.keys)) (sym tree) (keys_with_path c m _ k.edits seed k.path new)
 made_keys_exact c m list wants_path seed made k good (inr none) =
     let d : IsChange c m.public m.keys.leaf k.used (commit_of list k.path) k.change = body_did c m.public m.keys.leaf k.used (commit_of list k.path) _ _ k.change k.change_is in
     let same : k.change.edits ≡ k.edits = same_edits c m.public m.keys.leaf k.used k.change.edits k.edits d.edits_are k.edits_are in

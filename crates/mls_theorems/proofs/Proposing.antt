@@ -1,15 +1,18 @@
 -- A good member stays good over the proposals that it makes.
-use Rattle.std.proofs.Common.{◌≡◌, ℕ, ◌<◌, ◌≤◌, ◌^◌, not, List, [], ◌++◌, length, Option, Some, None, IsSome, Ok, refl, subst, arith, lit<}
+use Rattle.std.proofs.Common.{◌≡◌, ℕ, ◌<◌, ◌≤◌, ◌^◌, true, not, List, [], ◌++◌, length, Option, Some, None, IsSome, Ok, refl, subst, arith, lit<}
 use Rattle.std.specs.Int.{w8, w16, w64}
 use Rattle.std.proofs.lemmas.Bool.{leb-true}
 use Rattle.mls_wire.specs.Checks.{passed}
 use Rattle.mls_wire.specs.Laws.{ok_is}
 use Rattle.mls_wire.specs.Reading.{uint, opaque}
+use Rattle.mls_leaf.specs.GroupExtensions.{are_allowed, group_extensions}
+use Rattle.mls_leaf.proofs.GroupExtensionsLaws.{group_extensions-fits}
 use Rattle.mls_leaf.specs.KeyPackage.{key_package}
 use Rattle.mls_leaf.specs.Leaf.{leaf_node}
 use Rattle.mls_leaf.specs.Limits.{input_limit}
 use Rattle.mls_leaf.specs.Proposal.{proposal}
 use Rattle.mls_leaf.proofs.WholeLaws.{whole_again}
+use Rattle.mls_leaf.specs.declared.extension.Extension.{Extension}
 use Rattle.mls_leaf.specs.declared.key_package.KeyPackage.{KeyPackage}
 use Rattle.mls_leaf.specs.declared.leaf.LeafNode.{LeafNode}
 use Rattle.mls_leaf.specs.declared.proposal.Proposal.{Proposal}
@@ -34,7 +37,7 @@ use Rattle.mls_model.specs.Candidate.{leaf_key_of, unsigned_leaf, signed_leaf}
 use Rattle.mls_model.specs.Member.{KeptProposal, Member, kept_under}
 use Rattle.mls_model.specs.Messages.{decode_message, is_within_limit, content_by, content_tag, message_by, reference_of}
 use Rattle.mls_model.specs.Proposals.{proposal_checks}
-use Rattle.mls_model.specs.Propose.{proposal_by, keep_once, make_proposal, propose_add, updated_leaf, propose_update, propose_remove}
+use Rattle.mls_model.specs.Propose.{proposal_by, keep_once, make_proposal, propose_add, updated_leaf, propose_update, propose_remove, propose_extensions}
 use Rattle.mls_theorems.proofs.Fit.{short_first, short_last, short_text, made_leaf_fits, update_source_fits}
 use Rattle.mls_theorems.specs.SentCommits.{ReadsBack}
 use Rattle.mls_theorems.proofs.Sent.{message_fits, leaf_short, leaf_is_in, context_fits, within_is}
@@ -130,7 +133,7 @@ proposed_good c m x own y good fits key h =
     let s3 = then_ok _ _ _ s2.1 in
     once_good c m (kept_as c m x own) (kept_under m.kept (reference_of (proposal_by c m x))) y good (kept_good c m x own good (key s2.0) s2.0 (proposal_reads c m x good fits s3.0)) s3.1
 
--- ---- the three proposals
+-- ---- the four proposals
 
 add_fits : (x : KeyPackage) → key_package.Fits x → FitsIfShort (proposes.Add x)
 unfolding proposal
@@ -183,3 +186,11 @@ was_checked c m x own y h = (then_ok _ _ _ (require_ok _ _ _ _ h).1).0
 pub removed_good : (c : Crypto) (m : Member) (i : ℕ) (y : List ℕ × Member) → IsGoodMember c m → propose_remove c m i ≡ Ok y → IsGoodMember c y.1
 unfolding propose_remove
 removed_good c m i y good h = proposed_good c m (proposes.Remove i) None y good (remove_fits i (low_leaf c m i good (is_member_at c m i (was_checked c m (proposes.Remove i) None y h)))) (λ _. refl) h
+
+extensions_fit : (list : List Extension) → are_allowed list ≡ true → FitsIfShort (proposes.GroupContextExtensions list)
+unfolding proposal
+extensions_fit list may lt = (lit< tt, group_extensions-fits list may (short_last (uint w16 7) (group_extensions.spell list) _ lt))
+
+pub extended_good : (c : Crypto) (m : Member) (list : List Extension) (y : List ℕ × Member) → IsGoodMember c m → are_allowed list ≡ true → propose_extensions c m list ≡ Ok y → IsGoodMember c y.1
+unfolding propose_extensions
+extended_good c m list y good may h = proposed_good c m (proposes.GroupContextExtensions list) None y good (extensions_fit list may) (λ _. refl) h

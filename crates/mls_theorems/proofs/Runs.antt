@@ -12,7 +12,7 @@ use Rattle.mls_theorems.proofs.Beginning.{candidate_kept, create_kept}
 use Rattle.mls_theorems.proofs.Committing.{commit_kept}
 use Rattle.mls_theorems.proofs.Delivering.{deliver_kept}
 use Rattle.mls_theorems.proofs.WorldJoins.{join_kept}
-use Rattle.mls_theorems.proofs.Keeping.{propose_add_kept, propose_update_kept, propose_remove_kept, drop_kept}
+use Rattle.mls_theorems.proofs.Keeping.{propose_add_kept, propose_update_kept, propose_remove_kept, propose_extensions_kept, drop_kept}
 use Rattle.mls_theorems.specs.GoodWorlds.{EmptyWorldGood, EventsKeepGood, RunsKeepGood}
 
 pub empty_good : EmptyWorldGood
@@ -40,6 +40,7 @@ events_keep_good c laws w g (event.Create n group seed) range x h = create_kept 
 events_keep_good c laws w g (event.ProposeAdd k source) range x h = propose_add_kept c g.0 w g.1 k source x range h
 events_keep_good c laws w g (event.ProposeUpdate k seed) range x h = propose_update_kept c g.0 w g.1 k seed x h
 events_keep_good c laws w g (event.ProposeRemove k leaf) range x h = propose_remove_kept c g.0 w g.1 k leaf x h
+events_keep_good c laws w g (event.ProposeExtensions k list) range x h = propose_extensions_kept c g.0 w g.1 k list.items x h
 events_keep_good c laws w g (event.Commit k items path seed) range x h = commit_kept c g.0 w g.1 k items.items path seed x range h
 events_keep_good c laws w g (event.DropPending k) range x h = drop_kept c g.0 w g.1 k x h
 events_keep_good c laws w g (event.Deliver k source) range x h = deliver_kept c g.0 w g.1 k source x range h

@@ -10,6 +10,7 @@ use Rattle.mls_leaf.specs.Faults.{whole}
 use Rattle.mls_leaf.specs.Leaf.{leaf_node}
 use Rattle.mls_leaf.specs.Limits.{input_limit}
 use Rattle.mls_leaf.proofs.WholeLaws.{whole_again}
+use Rattle.mls_leaf.specs.declared.extension.Extension.{Extension}
 use Rattle.mls_leaf.specs.declared.leaf.LeafNode.{LeafNode}
 use Rattle.mls_types.specs.GroupContext.{group_context}
 use Rattle.mls_types.specs.declared.group_context.GroupContext.{GroupContext}
@@ -31,6 +32,7 @@ use Rattle.mls_types.specs.declared.message.MlsMessage.TheVariants as message
 use Rattle.mls_types.specs.declared.public_message.PublicMessage.{PublicMessage}
 use Rattle.mls_types.specs.declared.signed.SignedContent.{SignedContent}
 use Rattle.mls_suite.specs.Crypto.{Crypto}
+use Rattle.mls_tree.specs.Tree.{max_leaves}
 use Rattle.mls_tree_model.specs.Term.{Term, width, leaf_at, leaf_of}
 use Rattle.mls_model.specs.Candidate.{unsigned_leaf, signed_leaf}
 use Rattle.mls_model.specs.Commit.{Edits, Change}
@@ -47,9 +49,9 @@ use Rattle.mls_theorems.proofs.Fit.{short_first, short_last, short_text, made_le
 use Rattle.mls_theorems.specs.CommitCalls.{commit_of, said_of, signature_of, tag_of, content_of, message_of, made_of, path_for}
 use Rattle.mls_theorems.specs.SentCommits.{IsNewPath, PathDid, sent_of, MadeFits}
 
-new_path_did : (c : Crypto) (m : Member) (e : Edits) (seed : List ℕ) (path : MadePath) → new_path c m e seed ≡ Ok path → IsNewPath c m e seed path
+new_path_did : (c : Crypto) (m : Member) (carried : List Extension) (e : Edits) (seed : List ℕ) (path : MadePath) → new_path c m carried e seed ≡ Ok path → IsNewPath c m carried e seed path
 unfolding new_path
-new_path_did c m e seed path h =
+new_path_did c m carried e seed path h =
     let s1 = bind_ok _ _ _ h in
     let s2 = then_ok _ _ _ s1.2 in
     let s3 = bind_ok _ _ _ s2.1 in
@@ -71,7 +73,7 @@ new_path_did c m e seed path h =
 
 pub path_did : PathDid
 unfolding path_for
-path_did c m used e wants_path seed path h = either_way _ _ _ _ h (λ t f. new_path_did c m e seed path f) (λ t f. sym (ok_is _ _ f))
+path_did c m used e wants_path seed path h = either_way _ _ _ _ h (λ t f. new_path_did c m _ e seed path f) (λ t f. sym (ok_is _ _ f))
 
 -- its leaf has a spelling, if it is short
 abbrev some_path : UpdatePath → Option UpdatePath
@@ -90,11 +92,11 @@ new_leaf_fits : (c : Crypto) (m : Member) (e : Edits) (old : LeafNode) (seed : L
 unfolding committed_leaf signed_leaf unsigned_leaf
 new_leaf_fits c m e old seed n lt = made_leaf_fits _ _ _ _ _ _ (capabilities_fit c n) (commit_source_fits _) lt
 
-pub path_leaf_fits : (c : Crypto) (m : Member) (e : Edits) (seed : List ℕ) (path : MadePath) → c.number < 2 ^ 16 → IsNewPath c m e seed path ⊎ (path ≡ no_path m e) → LeafFitsIfShort path.path
+pub path_leaf_fits : (c : Crypto) (m : Member) (carried : List Extension) (e : Edits) (seed : List ℕ) (path : MadePath) → c.number < 2 ^ 16 → IsNewPath c m carried e seed path ⊎ (path ≡ no_path m e) → LeafFitsIfShort path.path
 unfolding no_path
-path_leaf_fits c m e seed path n (inl new) p is =
+path_leaf_fits c m carried e seed path n (inl new) p is =
     subst (λ (q : UpdatePath). length (leaf_node.spell q.leaf_node) < 2 ^ 30 → leaf_node.Fits q.leaf_node) (same_path _ p (sym new.path_is ∙ is)) (new_leaf_fits c m e new.old seed n)
-path_leaf_fits c m e seed path n (inr none) p is = absurd (no_some p (sym (ap (λ (q : MadePath). q.path) none) ∙ is))
+path_leaf_fits c m carried e seed path n (inr none) p is = absurd (no_some p (sym (ap (λ (q : MadePath). q.path) none) ∙ is))
 
 -- ---- the content
 
@@ -192,7 +194,7 @@ sent_fits c m list path change good listed leaf lt =
 pub made_fits : MadeFits
 unfolding decode_message made_of
 made_fits c m list wants_path seed made k good listed =
-    let leaf : LeafFitsIfShort k.path.path = path_leaf_fits c m k.edits seed k.path (context_fits c m good).suite (path_did c m k.used k.edits wants_path seed k.path k.path_is) in
+    let leaf : LeafFitsIfShort k.path.path = path_leaf_fits c m _ k.edits seed k.path (context_fits c m good).suite (path_did c m k.used k.edits wants_path seed k.path k.path_is) in
     let p : MlsMessage = message.PublicMessage (sent_of c m list k.path k.change) in
     let short : length (mls_message.spell p) ≤ input_limit = subst (λ (b : List ℕ). length b ≤ input_limit) (message_is c m list k.path k.change) (within_is (message_of c m list k.path k.change) k.short) in
     let fits : mls_message.Fits p = sent_fits c m list k.path k.change good listed leaf (omega arith) in

@@ -7,9 +7,11 @@ use Rattle.mls_wire.specs.Checks.{require_some}
 use Rattle.mls_wire.specs.Reading.{◌>>=◌}
 use Rattle.mls_wire.specs.Combine.{optional}
 use Rattle.mls_wire.specs.Laws.{bind_ok, ok_is}
+use Rattle.mls_leaf.specs.GroupExtensions.{group_extensions}
 use Rattle.mls_leaf.specs.KeyPackage.{key_package}
 use Rattle.mls_leaf.specs.Leaf.{leaf_node}
 use Rattle.mls_leaf.specs.Proposal.{proposal}
+use Rattle.mls_leaf.specs.declared.extension.Extension.{Extension}
 use Rattle.mls_leaf.specs.declared.key_package.KeyPackage.{KeyPackage}
 use Rattle.mls_leaf.specs.declared.leaf.LeafNode.{LeafNode}
 use Rattle.mls_leaf.specs.declared.proposal.Proposal.{Proposal}
@@ -36,7 +38,7 @@ use Rattle.mls_types.specs.declared.signed.SignedContent.{SignedContent}
 use Rattle.mls_suite.specs.Crypto.{Crypto}
 use Rattle.mls_tree_model.proofs.PathLaws.{reverse-cons}
 use Rattle.mls_model.specs.PublicState.{Used}
-use Rattle.mls_model.specs.Proposals.{update_in, add_in, updates, adds}
+use Rattle.mls_model.specs.Proposals.{update_in, add_in, extensions_in, updates, adds, extension_lists, first_list, extended}
 use Rattle.mls_model.specs.Commit.{node_keys}
 use Rattle.mls_model.specs.Member.{KeptProposal, Member, kept_under, find_proposal, find_proposals}
 use Rattle.mls_model.specs.MemberInvariant.{IsGoodKept}
@@ -177,3 +179,19 @@ pub adds_fit : (used : List Used) → AllByRecursion UsedFits used → AllByRecu
 unfolding adds
 adds_fit [] h = tt
 adds_fit (u ∷ us) h = add_here u.proposal (adds us) h.0 (adds_fit us h.1)
+
+-- and the extensions that the group carries after them
+proposal_list : (x : List Extension) → proposal.Fits (proposes.GroupContextExtensions x) → group_extensions.Fits x
+unfolding proposal
+proposal_list x f = f.1
+
+list_here : (old : List Extension) (x : Proposal) (lists : List (List Extension)) → proposal.Fits x → group_extensions.Fits (first_list old lists) → group_extensions.Fits (first_list old (cons_option (extensions_in x) lists))
+list_here old (proposes.Add y) lists f h = h
+list_here old (proposes.Update y) lists f h = h
+list_here old (proposes.Remove i) lists f h = h
+list_here old (proposes.GroupContextExtensions list) lists f h = proposal_list list f
+
+pub extended_fits : (old : List Extension) (used : List Used) → group_extensions.Fits old → AllByRecursion UsedFits used → group_extensions.Fits (extended old used)
+unfolding extended extension_lists
+extended_fits old [] f h = f
+extended_fits old (u ∷ us) f h = list_here old u.proposal (extension_lists us) h.0 (extended_fits old us f h.1)

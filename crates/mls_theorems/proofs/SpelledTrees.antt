@@ -3,8 +3,10 @@ use Rattle.std.proofs.Common.{◌≡◌, ℕ, ◌+◌, ◌-◌, ◌<◌, ◌≤�
 use Rattle.std.specs.List.{AllByRecursion}
 use Rattle.std.proofs.lemmas.Bool.{ltb-true, leb-true}
 use Rattle.mls_wire.specs.Laws.{ok_is}
+use Rattle.mls_leaf.specs.GroupExtensions.{group_extensions}
 use Rattle.mls_leaf.specs.KeyPackage.{key_package}
 use Rattle.mls_leaf.specs.Leaf.{leaf_node}
+use Rattle.mls_leaf.specs.declared.extension.Extension.{Extension}
 use Rattle.mls_leaf.specs.declared.leaf.LeafNode.{LeafNode}
 use Rattle.mls_types.specs.GroupContext.{group_context}
 use Rattle.mls_types.specs.declared.group_context.GroupContext.{GroupContext}
@@ -24,14 +26,14 @@ use Rattle.mls_tree_model.specs.Term.{Term, width}
 use Rattle.mls_treekem_model.proofs.ListLaws.{right_are_below}
 use Rattle.mls_model.specs.MemberInvariant.{NodeFits}
 use Rattle.mls_model.specs.Commit.{Edits, Change, apply_proposals, node_keys, apply_path_if, change_of_commit}
-use Rattle.mls_model.specs.Proposals.{updates, removed_leaves, adds}
+use Rattle.mls_model.specs.Proposals.{updates, removed_leaves, adds, extended}
 use Rattle.mls_model.specs.PublicState.{PublicState, Used, provisional_context, confirmed_context}
 use Rattle.mls_theorems.specs.CommitLaws.{HasGood}
 use Rattle.mls_theorems.proofs.Folds.{updates_keep, removes_keep, adds_keep, all_any}
 use Rattle.mls_theorems.proofs.Inversion.{edited_steps, with_path_steps, body_steps}
 use Rattle.mls_theorems.specs.NodeSpelling.{IsShort, PartsFit}
 use Rattle.mls_theorems.proofs.Nodes.{parts_put, parts_remove, parts_add, parts_merge, nodes_fit}
-use Rattle.mls_theorems.proofs.Spelled.{PathFits, UsedFits, all_reversed, updates_fit, adds_fit, package_leaf}
+use Rattle.mls_theorems.proofs.Spelled.{PathFits, UsedFits, all_reversed, updates_fit, adds_fit, extended_fits, package_leaf}
 
 -- ---- the tree
 
@@ -69,15 +71,19 @@ good_nodes_fit c p t good parts =
 
 -- ---- the context
 
-next_context_fits : (old : GroupContext) (t : Term) (hash : List ℕ) → group_context.Fits old → old.epoch + 1 < 2 ^ 64 → length hash ≡ 32 → group_context.Fits (confirmed_context (provisional_context old t) hash)
+next_context_fits : (old : GroupContext) (carried : List Extension) (t : Term) (hash : List ℕ) → group_context.Fits old → group_extensions.Fits carried → old.epoch + 1 < 2 ^ 64 → length hash ≡ 32 → group_context.Fits (confirmed_context (provisional_context old carried t) hash)
 unfolding group_context provisional_context confirmed_context
-next_context_fits old t hash f low long = (f.0, (f.1.0, (low, (omega (arith, length-tree_hash 0 t), (omega arith, f.1.1.1.1.1)))))
+next_context_fits old carried t hash f list low long = (f.0, (f.1.0, (low, (omega (arith, length-tree_hash 0 t), (omega arith, list)))))
+
+context_list : (x : GroupContext) → group_context.Fits x → group_extensions.Fits x.extensions
+unfolding group_context
+context_list x f = f.1.1.1.1.1
 
 pub context_next : (c : Crypto) (p : PublicState) (i : ℕ) (used : List Used) (commit : Commit) (said : FramedContent) (signature : List ℕ) (change : Change) → change_of_commit c p i used commit said signature ≡ Ok change →
-    nat_lt p.context.epoch (2 ^ 64 - 1) ≡ true → group_context.Fits p.context → group_context.Fits change.context
-context_next c p i used commit said signature change h below fits =
+    nat_lt p.context.epoch (2 ^ 64 - 1) ≡ true → AllByRecursion UsedFits used → group_context.Fits p.context → group_context.Fits change.context
+context_next c p i used commit said signature change h below used_fit fits =
     let b = body_steps c p i used commit said signature change h in
     let low : p.context.epoch < 2 ^ 64 - 1 = ltb-true _ _ below in
     let hash : List ℕ = confirmed_hash p.interim 1 (framed_content.spell said) signature in
     subst group_context.Fits (sym (b.context ∙ ap (λ (x : GroupContext). confirmed_context x hash) b.provisional))
-    (next_context_fits p.context change.tree hash fits (omega arith) (length-confirmed_hash _ _ _ _))
+    (next_context_fits p.context (extended p.context.extensions used) change.tree hash fits (extended_fits p.context.extensions used (context_list p.context fits) used_fit) (omega arith) (length-confirmed_hash _ _ _ _))

@@ -11,7 +11,7 @@ use Rattle.mls_types.specs.declared.signed.SignedContent.{SignedContent}
 use Rattle.mls_suite.specs.Crypto.{Crypto}
 use Rattle.mls_schedule.specs.Epoch.{init_secret, joiner_secret, epoch_secret, confirmation_tag}
 use Rattle.mls_model.specs.PublicState.{Used}
-use Rattle.mls_model.specs.Proposals.{adds, is_path_required}
+use Rattle.mls_model.specs.Proposals.{adds, extended, is_path_required}
 use Rattle.mls_model.specs.Commit.{Edits, Change, apply_proposals, change_of_commit, public_with}
 use Rattle.mls_model.specs.Member.{Member, find_proposals, with_keys}
 use Rattle.mls_model.specs.Messages.{is_within_limit, content_by, content_signature, message_by}
@@ -59,7 +59,8 @@ made_of c m list path change welcome = record {
 -- the path of a commit that is made, where one is wanted or required
 unfoldable pub path_for : Crypto → Member → List Used → Edits → Bool → List ℕ → Result MadePath ℕ
 path_for c m used e wants_path seed =
-    if wants_path || is_path_required used then new_path c m e seed else Ok (no_path m e)
+    if wants_path || is_path_required used then new_path c m (extended m.public.context.extensions used) e seed
+    else Ok (no_path m e)
 
 -- ---- the steps of a call
 

@@ -1,5 +1,5 @@
 -- The steps of a call that succeeded: what each check found, and what each part answered.
-use Rattle.std.specs.Prelude.{◌≡◌, ℕ, not, nat_eq, ◌||◌, true, false, List, ◌∷◌, ◌++◌, length, map, Some, is_some, Ok}
+use Rattle.std.specs.Prelude.{◌≡◌, ℕ, not, nat_eq, nat_le, ◌||◌, true, false, List, ◌∷◌, ◌++◌, length, map, Some, is_some, Ok}
 use Rattle.std.specs.List.{list_all}
 use Rattle.std.specs.Str.{bytes_eq}
 use Rattle.mls_wire.specs.Checks.{passed}
@@ -19,7 +19,7 @@ use Rattle.mls_tree_model.specs.Merge.{merge_path, path_parent_hash}
 use Rattle.mls_tree_model.specs.Good.{has_distinct_keys, has_distinct_clients}
 use Rattle.mls_schedule.specs.Transcript.{confirmed_hash}
 use Rattle.mls_model.specs.PublicState.{PublicState, Used, provisional_context, confirmed_context}
-use Rattle.mls_model.specs.Proposals.{full_checks, updates, updated_leaves, removed_leaves, adds, package_reference, is_path_required}
+use Rattle.mls_model.specs.Proposals.{full_checks, updates, updated_leaves, removed_leaves, adds, extension_lists, extended, package_reference, is_path_required}
 use Rattle.mls_model.specs.Commit.{Edits, Change, apply_updates, apply_removes, apply_adds, apply_proposals, node_keys, cipher_counts, due_counts, apply_update_path, apply_path_if, change_of_commit}
 
 -- what each check of a commit's proposals found, and what each part of the edits answered
@@ -28,6 +28,7 @@ pub record IsEdited (c : Crypto) (p : PublicState) (committer : ℕ) (used : Lis
   pub not_updated : has (updated_leaves used) committer ≡ false
   pub not_removed : has (removed_leaves used) committer ≡ false
   pub apart : is_distinct nat_eq (updated_leaves used ++ removed_leaves used) ≡ true
+  pub single : nat_le (length (extension_lists used)) 1 ≡ true
   pub after_updates : Term
   pub updating : apply_updates p.tree (updates used) ≡ Ok after_updates
   pub after_removes : Term
@@ -67,7 +68,8 @@ pub record IsBody (c : Crypto) (p : PublicState) (committer : ℕ) (used : List 
   pub edits : apply_proposals c p committer used ≡ Ok change.edits
   pub path : (is_some commit.path || not (is_path_required used)) ≡ true
   pub path_merged : apply_path_if c p committer change.edits commit.path ≡ Ok change.tree
-  pub provisional : change.provisional ≡ provisional_context p.context change.tree
+  pub provisional : change.provisional
+      ≡ provisional_context p.context (extended p.context.extensions used) change.tree
   pub context : change.context ≡ confirmed_context change.provisional
       (confirmed_hash p.interim 1 (framed_content.spell said) signature)
 

@@ -1,8 +1,10 @@
 -- Good members are kept: by creation, proposals, commits, drops, deliveries and joins, whatever bytes they meet.
-use Rattle.std.specs.Prelude.{◌≡◌, ℕ, Bool, List, Option, Ok}
+use Rattle.std.specs.Prelude.{◌≡◌, ℕ, Bool, true, List, Option, Ok}
 use Rattle.std.specs.List.{AllByRecursion}
 use Rattle.mls_wire.specs.Format.{IsBytes}
+use Rattle.mls_leaf.specs.GroupExtensions.{are_allowed}
 use Rattle.mls_leaf.specs.KeyPackage.{key_package}
+use Rattle.mls_leaf.specs.declared.extension.Extension.{Extension}
 use Rattle.mls_leaf.specs.declared.key_package.KeyPackage.{KeyPackage}
 use Rattle.mls_types.specs.Commit.{proposal_or_ref}
 use Rattle.mls_types.specs.declared.commit.ProposalOrRef.{ProposalOrRef}
@@ -13,7 +15,7 @@ use Rattle.mls_model.specs.Candidate.{Candidate, new_candidate, create_group}
 use Rattle.mls_model.specs.Join.{JoinedMember, join_verdict}
 use Rattle.mls_model.specs.Make.{commit_call}
 use Rattle.mls_model.specs.Member.{Member, without_pending}
-use Rattle.mls_model.specs.Propose.{propose_add, propose_update, propose_remove}
+use Rattle.mls_model.specs.Propose.{propose_add, propose_update, propose_remove, propose_extensions}
 use Rattle.mls_model.specs.Verdict.{verdict}
 
 -- ---- candidates and groups
@@ -47,6 +49,10 @@ UpdatesKeepGood = (c : Crypto) (m : Member) (seed : List ℕ) (x : List ℕ × M
 abbrev pub RemovesKeepGood : Type 0
 RemovesKeepGood = (c : Crypto) (m : Member) (leaf : ℕ) (x : List ℕ × Member) → IsGoodMember c m →
     propose_remove c m leaf ≡ Ok x → IsGoodMember c x.1
+
+abbrev pub ExtensionsKeepGood : Type 0
+ExtensionsKeepGood = (c : Crypto) (m : Member) (list : List Extension) (x : List ℕ × Member) → IsGoodMember c m →
+    are_allowed list ≡ true → propose_extensions c m list ≡ Ok x → IsGoodMember c x.1
 
 -- a good member is good after each commit that it makes, with that as its pending one
 abbrev pub CommitsKeepGood : Type 0

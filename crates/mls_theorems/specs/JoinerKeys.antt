@@ -1,5 +1,6 @@
 -- The keys that a joiner of a made commit takes.
 use Rattle.std.specs.Prelude.{◌≡◌, ℕ, List, [], Option, Some, Ok, ◌⊎◌}
+use Rattle.mls_leaf.specs.declared.extension.Extension.{Extension}
 use Rattle.mls_leaf.specs.declared.leaf.LeafNode.{LeafNode}
 use Rattle.mls_suite.specs.Crypto.{Crypto}
 use Rattle.mls_tree_model.specs.Term.{Term, leaf_at}
@@ -20,8 +21,8 @@ TakesKeys c t i j own secret =
 
 -- a joiner that the parents over it list in the tree of the edits finds its keys in the maker's next tree
 abbrev pub KeysTaken : Type 0
-KeysTaken = (c : Crypto) (m : Member) (e : Edits) (seed : List ℕ) (path : MadePath) (t : Term) (j : ℕ) (y : LeafNode)
-    (own : List ℕ) → IsNewPath c m e seed path ⊎ (path ≡ no_path m e) →
+KeysTaken = (c : Crypto) (m : Member) (list : List Extension) (e : Edits) (seed : List ℕ) (path : MadePath) (t : Term)
+    (j : ℕ) (y : LeafNode) (own : List ℕ) → IsNewPath c m list e seed path ⊎ (path ≡ no_path m e) →
     apply_path_if c m.public m.keys.leaf e path.path ≡ Ok t →
     AreTwo 0 e.tree m.keys.leaf j → leaf_at 0 e.tree j ≡ Some y → c.public own ≡ y.encryption_key →
     AllList j (way 0 e.tree j) → TakesKeys c t m.keys.leaf j own (path_secret_for path.path m e seed j)

@@ -10,7 +10,7 @@ use Rattle.mls_treekem_model.specs.Lists.{ListsBelow}
 use Rattle.mls_treekem_model.specs.Make.{Climb}
 use Rattle.mls_treekem_model.specs.Members.{HasExact}
 use Rattle.mls_model.specs.PublicState.{PublicState, Used, provisional_context}
-use Rattle.mls_model.specs.Proposals.{is_path_required}
+use Rattle.mls_model.specs.Proposals.{extended, is_path_required}
 use Rattle.mls_model.specs.Commit.{Edits, Change, apply_proposals, apply_path_if, change_of_commit}
 use Rattle.mls_model.specs.Member.{Member, keys_after_edits}
 use Rattle.mls_model.specs.Make.{MadePath, no_path}
@@ -23,7 +23,8 @@ pub record IsChange (c : Crypto) (p : PublicState) (committer : ℕ) (used : Lis
   pub edits_are : apply_proposals c p committer used ≡ Ok change.edits
   pub path_there : (is_some commit.path || not (is_path_required used)) ≡ true
   pub merges : apply_path_if c p committer change.edits commit.path ≡ Ok change.tree
-  pub provisional_is : change.provisional ≡ provisional_context p.context change.tree
+  pub provisional_is : change.provisional
+      ≡ provisional_context p.context (extended p.context.extensions used) change.tree
   pub epoch_is : change.context.epoch ≡ p.context.epoch + 1
 
 abbrev pub BodyDid : Type 0
@@ -54,7 +55,7 @@ abbrev pub ReceiverClimbs : Type 0
 ReceiverClimbs = (c : Crypto) → Lawful c →
     (maker m : Member) (list : List ProposalOrRef) (used : List Used) (e : Edits) (seed : List ℕ) (path : MadePath)
     (change : Change) →
-    IsNewPath c maker e seed path ⊎ (path ≡ no_path maker e) →
+    IsNewPath c maker (extended maker.public.context.extensions used) e seed path ⊎ (path ≡ no_path maker e) →
     apply_proposals c maker.public maker.keys.leaf used ≡ Ok e →
     IsChange c maker.public maker.keys.leaf used (commit_of list path) change →
     Stays c m maker.keys.leaf list e → Climbs c m maker.keys.leaf list path change

@@ -7,11 +7,11 @@ ghost use Rattle.mls_theorems.specs.CommitLaws.{EditsSound, EditsGood, EditsWith
 ghost use Rattle.mls_theorems.specs.CommitLaws.{EditsFollow, EditsFollowCommitter, EditsRenew, EditsAdd, AddsCounted};
 ghost use Rattle.mls_theorems.specs.KeyLaws.{UsedHavePassed, UsedAreOwned, MemberStands, WithAllKeys, FollowedExact, KeysNext};
 ghost use Rattle.mls_model.specs.Claims.{ReceiversClaim, JoinersClaim};
-ghost use Rattle.mls_theorems.specs.GoodMembers.{CandidatesGood, CreatorsGood, JoinersGood, AddsKeepGood, UpdatesKeepGood, RemovesKeepGood, CommitsKeepGood, DropsKeepGood, DeliveriesKeepGood};
+ghost use Rattle.mls_theorems.specs.GoodMembers.{CandidatesGood, CreatorsGood, JoinersGood, AddsKeepGood, UpdatesKeepGood, RemovesKeepGood, ExtensionsKeepGood, CommitsKeepGood, DropsKeepGood, DeliveriesKeepGood};
 ghost use Rattle.mls_theorems.specs.Journals.{PublicAgreement, SecretAgreement, CreationsAlong, JoinsAlong, JoinsHereAlong, DeliveriesAlong, StatesAlong, CallsKeepState};
 ghost use Rattle.mls_theorems.specs.CommitCalls.{MakeDid};
 ghost use Rattle.mls_theorems.specs.CommitSpelling.{CommitFits};
-ghost use Rattle.mls_theorems.specs.SentCommits.{PathDid, MadeFits};
+ghost use Rattle.mls_theorems.specs.SentCommits.{PathDid, MadeFits, MadeListsFit};
 ghost use Rattle.mls_theorems.specs.Framing.{MadeIsFramed};
 ghost use Rattle.mls_theorems.specs.NextStates.{NextStatesGood};
 ghost use Rattle.mls_theorems.specs.OpenedPaths.{BodyDid, ReceiverClimbs};
@@ -97,11 +97,12 @@ pub fn laws_of_entries_that_lead()
     ensures made { MakeDid }
 {}
 
-/// A commit that is made reads back.
+/// A commit that is made reads back, and what it lists in full has a spelling.
 pub fn laws_of_messages()
     ensures commit { CommitFits }
     ensures path { PathDid }
     ensures made { MadeFits }
+    ensures lists { MadeListsFit }
     ensures framed { MadeIsFramed }
 {}
 
@@ -147,6 +148,7 @@ pub fn laws_of_good_members()
     ensures adds { AddsKeepGood }
     ensures updates { UpdatesKeepGood }
     ensures removes { RemovesKeepGood }
+    ensures extensions { ExtensionsKeepGood }
     ensures commits { CommitsKeepGood }
     ensures drops { DropsKeepGood }
     ensures deliveries { DeliveriesKeepGood }

@@ -1,5 +1,5 @@
 -- A public tree as a value, and what its calls answer.
-use Rattle.std.specs.Prelude.{◌≡◌, ℕ, ◌^◌, ◌&&◌, List, Option, Result, Ok, Err, Bool, true}
+use Rattle.std.specs.Prelude.{◌≡◌, ℕ, ◌^◌, List, Option, Result, Ok, Err}
 use Rattle.mls_wire.specs.Checks.{require, require_some, ◌>>◌}
 use Rattle.mls_wire.specs.Reading.{◌>>=◌}
 use Rattle.mls_leaf.specs.declared.node.Node.{Node}
@@ -9,7 +9,7 @@ use Rattle.mls_tree_model.specs.Term.{Term, leaf_of}
 use Rattle.mls_tree_model.specs.Edits.{add, update, remove, place_in}
 use Rattle.mls_tree_model.specs.Way.{filtered_path}
 use Rattle.mls_tree_model.specs.Good.{is_within}
-use Rattle.mls_tree_model.specs.Arrays.{term_of, has_last, alternates}
+use Rattle.mls_tree_model.specs.Arrays.{term_of}
 
 -- the nodes in order, and the height; the kept hashes beside the nodes, and how many hashes of nodes were made
 pub record Tree : Type 0 where
@@ -29,11 +29,6 @@ max_leaves = 2 ^ max_height
 -- the leaf in a place, where `NoSuchLeaf` (22) says that there is none
 abbrev pub member_at : Term → ℕ → Result LeafNode ℕ
 member_at t i = require_some 22 (leaf_of t i)
-
--- whether nodes may be those of a tree as it is sent: the last one isn't blank, and leaves stand at even places alone,
--- and parents at odd ones
-abbrev pub may_be_sent : List (Option Node) → Bool
-may_be_sent nodes = has_last nodes && alternates true nodes
 
 -- the filtered direct path of a member (RFC 9420, 4.1.2)
 unfoldable pub path_answer : Term → ℕ → Result (List ℕ) ℕ

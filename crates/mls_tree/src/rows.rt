@@ -2,14 +2,13 @@
 //! test is one call over its rows, so that no proof of a test goes through many calls.
 
 use crate::test_edits::{
-    add, add_keys, begin, fill, follow, merge, merge_committed, merge_given, merge_long, remove,
-    update,
+    add, add_keys, begin, follow, merge, merge_committed, merge_given, merge_long, remove, update,
 };
 use crate::test_queries::{
     ciphertext_counts, counts, distinct, filtered_path, good, hashes_made, is_blank, is_reached,
     parent_hash_length, resolution, sent_length,
 };
-use crate::test_trees::{copy_of, odd_tree, single, taken_leaves, tree_with_unmerged};
+use crate::test_trees::{all_taken, copy_of, odd_tree, single, taken_leaves, tree_with_unmerged};
 use crate::{PublicTree, TreeError};
 use std::alloc::Global;
 
@@ -20,6 +19,8 @@ pub(crate) enum Step {
     Single(u8),
     /// Begins anew with a tree of nodes: its leaves, taken by a member with the key 1 or blank.
     Leaves(&'static [bool]),
+    /// Begins anew with a tree of nodes: so many leaves, all of one member with the key 0.
+    AllTaken(u32),
     /// Begins anew with leaves 0, 2 and 3 of four, of which leaf 3 is unmerged at its parent.
     Unmerged,
     /// Begins anew with five members of eight leaves, and a parent over leaves 6 and 7.
@@ -28,8 +29,6 @@ pub(crate) enum Step {
     Add(u8),
     /// Adds members with the keys from this one up to below that one.
     AddKeys(u8, u8),
-    /// Adds so many members with the key 0.
-    Fill(u32),
     /// Replaces this member by one with this key.
     Update(u32, u8),
     Remove(u32),
@@ -85,11 +84,11 @@ fn answer(alloc: Global, tree: &mut Box<PublicTree>, step: Step) -> Result<Vec<u
     match step {
         Step::Single(key) => begin(alloc, tree, single(alloc, key)),
         Step::Leaves(taken) => begin(alloc, tree, taken_leaves(alloc, taken)),
+        Step::AllTaken(count) => begin(alloc, tree, all_taken(alloc, count)),
         Step::Unmerged => begin(alloc, tree, tree_with_unmerged(alloc)),
         Step::Odd => begin(alloc, tree, odd_tree(alloc)),
         Step::Add(key) => add(alloc, tree, key),
         Step::AddKeys(from, to) => add_keys(alloc, tree, from, to),
-        Step::Fill(count) => fill(alloc, tree, count),
         Step::Update(i, key) => update(alloc, tree, i, key),
         Step::Remove(i) => remove(alloc, tree, i),
         Step::Merge(i, own, key) => merge(alloc, tree, i, own, key),

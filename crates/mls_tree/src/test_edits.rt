@@ -45,17 +45,6 @@ pub(crate) fn add_keys(
     Ok(Vec::new(alloc))
 }
 
-pub(crate) fn fill(
-    alloc: Global,
-    tree: &mut PublicTree,
-    count: u32,
-) -> Result<Vec<u64>, TreeError> {
-    for _ in 0..count {
-        add(alloc, tree, 0)?;
-    }
-    Ok(Vec::new(alloc))
-}
-
 pub(crate) fn update(
     alloc: Global,
     tree: &mut PublicTree,

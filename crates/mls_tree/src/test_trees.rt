@@ -86,6 +86,24 @@ pub(crate) fn taken_leaves(alloc: Global, leaves: &[bool]) -> Result<Box<PublicT
     tree_of(alloc, nodes_of(alloc, leaves)?)
 }
 
+/// The nodes of a tree of so many leaves, all of one member with the key 0, and blank parents.
+fn shared_nodes(alloc: Global, leaves: u32) -> Result<Vec<Slot>, AllocError> {
+    let leaf = member_slot(alloc, 0)?;
+    let mut nodes = Vec::new(alloc);
+    for i in 0..leaves {
+        if i > 0 {
+            nodes.push(Slot::blank())?;
+        }
+        nodes.push(leaf.clone()?)?;
+    }
+    Ok(nodes)
+}
+
+/// The tree of so many leaves, all of one member with the key 0.
+pub(crate) fn all_taken(alloc: Global, leaves: u32) -> Result<Box<PublicTree>, TreeError> {
+    tree_of(alloc, shared_nodes(alloc, leaves)?)
+}
+
 /// A parent with the key 9 that lists these leaves.
 fn parent(alloc: Global, hash: Bytes, leaves: Vec<u32>) -> Result<Slot, AllocError> {
     match ParentNode::new(byte(alloc, 9)?, hash, Items::from_vec(leaves)) {

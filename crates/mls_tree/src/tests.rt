@@ -1,9 +1,10 @@
 use crate::rows::Step::{
-    Add, Ciphertexts, Counts, Distinct, Fill, FilteredPath, IsReached, Leaves, Remove, Resolution,
-    Sent, Single, Unmerged,
+    Add, AllTaken, Ciphertexts, Counts, Distinct, FilteredPath, IsReached, Leaves, Remove,
+    Resolution, Sent, Single, Unmerged,
 };
 use crate::rows::Told::{Done, Is, Refused};
 use crate::rows::{Row, count_met};
+use mls_treemath::MAX_LEAVES;
 use std::test::*;
 
 const UNMERGED_LEAVES: &[Row] = &[
@@ -71,12 +72,15 @@ fn shapes_that_no_tree_has(rt: HostRuntime) -> Result<(), Fail> {
 }
 
 const FULL: &[Row] = &[
-    (Single(0), Done),
-    (Fill(4095), Done),
-    (Counts, Is(&[4096, 4096])),
+    (AllTaken(MAX_LEAVES), Done),
+    (Counts, Is(&[MAX_LEAVES as u64, MAX_LEAVES as u64])),
     (Add(0), Refused(21)),
-    (Counts, Is(&[4096, 4096])),
-    (Sent, Is(&[8191])),
+    (Counts, Is(&[MAX_LEAVES as u64, MAX_LEAVES as u64])),
+    (Sent, Is(&[2 * MAX_LEAVES as u64 - 1])),
+    (AllTaken(MAX_LEAVES + 1), Refused(21)),
+    (AllTaken(4096), Done),
+    (Add(1), Is(&[4096])),
+    (Counts, Is(&[8192, 4097])),
 ];
 
 #[test]

@@ -2,7 +2,7 @@
 
 ghost use Rattle.std.specs.Prelude.{◌≡◌, ◌≤◌, not, [], Some, true, IfOk, OnOk, OnErr, length};
 ghost use Rattle.std.specs.Option.{option_copied};
-ghost use Rattle.mls_wire.specs.Checks.{Answers, require};
+ghost use Rattle.mls_wire.specs.Checks.{Answers};
 ghost use Rattle.mls_tree_model.specs.Term.{Leaf, leaf_of, width};
 ghost use Rattle.mls_tree_model.specs.Places.{resolution_at};
 ghost use Rattle.mls_tree_model.specs.Resolution.{is_empty};
@@ -17,7 +17,7 @@ ghost use Rattle.mls_tree.specs.Faults.{number_of};
 ghost use Rattle.mls_tree.specs.EditsKeepGood.{IsGoodIfNew, AddKeepsGood, AddKeepsSound, KeepsGoodAt, KeepsSoundAt, RemoveKeepsGood, RemoveKeepsSound};
 ghost use Rattle.mls_tree.specs.Refusals.{Refuses, AnswersMember, AnswersList, AnswersAdd, AnswersUpdate, AnswersRemove};
 ghost use Rattle.mls_tree.specs.ShortLeaves.{AreShort, HasShortLeaves};
-ghost use Rattle.mls_tree.specs.Tree.{term, max_leaves, path_answer, add_answer, update_answer, may_be_sent};
+ghost use Rattle.mls_tree.specs.Tree.{term, max_leaves, path_answer, add_answer, update_answer};
 
 use crate::edits;
 use crate::error::TreeError;
@@ -30,9 +30,9 @@ use mls_treemath::MAX_HEIGHT;
 use std::alloc::{AllocError, Global};
 use std::marker::Model;
 
-/// The public tree of a group: at most 4,096 leaves, a power of two, each a member or blank, and the parents over them.
-/// Its methods use the allocator that it was made with. A copy shares the nodes, and an edit copies only those that it
-/// changes.
+/// The public tree of a group: at most `MAX_LEAVES` leaves, a power of two, each a member or blank, and the parents
+/// over them. Its methods use the allocator that it was made with. A copy shares the nodes, and an edit copies only
+/// those that it changes.
 #[derive(Drop)]
 pub struct PublicTree {
     pub(crate) nodes: Vec<Slot>,
@@ -88,11 +88,10 @@ impl PublicTree {
     /// The tree of nodes in order, as it is sent (RFC 9420, 12.4.3.3): blank nodes follow up to the least tree that
     /// holds them. Refused with `TreeShape` (20) where there are no nodes, the last one is blank, a leaf is at an odd
     /// or a parent at an even place, or more than one leaf and no member in the right half; then with `TreeFull` (21)
-    /// above 4,096 leaves.
+    /// above `MAX_LEAVES` leaves. Both are decided before memory is taken.
     pub fn from_nodes(nodes: Vec<Slot>) -> Result<PublicTree, TreeError>
         ensures answer { Answers term number_of (from_nodes max_leaves nodes.items) result }
-        // `TreeShape` (20) comes whatever memory there is, where the nodes alone show it.
-        ensures outright { Refuses (require 20 (may_be_sent nodes.items)) result }
+        ensures outright { Refuses (from_nodes max_leaves nodes.items) result }
         ensures shape { IfOk result (λ t. has_good_shape (term t) ≡ true) }
         // Its leaves are short where the nodes are, as those of an input are.
         ensures short { IfOk result (λ t. AreShort nodes.items → HasShortLeaves (term t)) }
@@ -104,14 +103,15 @@ impl PublicTree {
         if !array::alternates(&nodes) {
             return Err(TreeError::TreeShape);
         }
-        let mut nodes = nodes;
-        let height = array::pad_tree(&mut nodes)?;
+        let height = array::height_for(nodes.len());
         if !array::is_full_width(&nodes, height) {
             return Err(TreeError::TreeShape);
         }
         if height > MAX_HEIGHT {
             return Err(TreeError::TreeFull);
         }
+        let mut nodes = nodes;
+        array::pad_tree(&mut nodes, height)?;
         let hashes = Hashes::new_cold(*nodes.allocator(), nodes.len())?;
         let indexes = KeyIndexes::build(*nodes.allocator(), &nodes)?;
         Ok(PublicTree {
@@ -223,8 +223,8 @@ impl PublicTree {
     }
 
     /// Adds a member at the leftmost blank leaf, in a tree of twice the leaves where none is blank, and answers its
-    /// leaf index (RFC 9420, 12.1.1). Refused with `TreeFull` (21) where that tree would have more than 4,096 leaves,
-    /// whatever memory there is.
+    /// leaf index (RFC 9420, 12.1.1). Refused with `TreeFull` (21) where that tree would have more than `MAX_LEAVES`
+    /// leaves, whatever memory there is.
     pub fn add(&mut self, leaf: LeafNode) -> Result<u32, TreeError>
         ensures answer { AnswersAdd leaf self.old self.new result }
         ensures outright { Refuses (add_answer (term self.old) leaf) result }

@@ -31,3 +31,4 @@ pub mod Pieces
 pub mod KeptOrDropped
 pub mod Splitting
 pub mod WayHashes
+pub mod Blanks

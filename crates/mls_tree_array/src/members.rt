@@ -1,6 +1,6 @@
 //! Which leaves of a tree are taken.
 
-ghost use Rattle.std.specs.Prelude.{◌≡◌, ℕ, ◌+◌, ◌^◌, ◌≤◌, Some, length};
+ghost use Rattle.std.specs.Prelude.{◌≡◌, ℕ, ◌+◌, ◌^◌, ◌<◌, ◌≤◌, Some, length};
 ghost use Rattle.mls_treemath.specs.Paths.{nodes_in};
 ghost use Rattle.mls_treemath.specs.Limits.{max_height};
 ghost use Rattle.mls_tree_model.specs.Term.{has_leaf, is_full_width};
@@ -65,38 +65,49 @@ pub fn end_of_members(nodes: &[Slot], height: u32, first: u32, end: u32) -> u32
     end_of_members(&nodes[..middle], height - 1, first, second)
 }
 
-/// Whether the tree has a member.
-#[tactic(auto, using(mls_treemath::proofs::Sizes::nodes_in_pos))]
+/// Whether the first place has a leaf, where blank ones follow.
+fn begins_with_leaf(nodes: &[Slot]) -> bool
+    ensures { result ≡ has_leaf (term_of 0 nodes.now) }
+{
+    match nodes.first() {
+        Some(node) => match leaf_in(node) {
+            Some(_) => true,
+            None => false,
+        },
+        None => false,
+    }
+}
+
+/// Whether the tree has a member. Blank nodes follow those that are given, up to the tree's end.
 pub fn has_leaf(nodes: &[Slot], height: u32) -> bool
-    requires shape { length nodes.now ≡ nodes_in height }
+    requires { height < 64 }
     ensures { result ≡ has_leaf (term_of height nodes.now) }
 {
     if height == 0 {
-        return match leaf_in(&nodes[0]) {
-            Some(_) => true,
-            None => false,
-        };
+        return begins_with_leaf(nodes);
     }
-    let middle = middle_of(nodes.len(), height);
+    let middle = (1usize << height) - 1;
+    if nodes.len() <= middle {
+        return has_leaf(nodes, height - 1);
+    }
     let left = has_leaf(&nodes[..middle], height - 1);
     left || has_leaf(&nodes[middle + 1..], height - 1)
 }
 
-/// Whether no smaller tree would do: the right half has a member, or the only leaf is one.
-#[tactic(auto, using(mls_treemath::proofs::Sizes::nodes_in_pos))]
+/// Whether no smaller tree would do: the right half has a member, or the only leaf is one. Blank nodes follow those
+/// that are given, up to the tree's end.
 pub fn is_full_width(nodes: &[Slot], height: u32) -> bool
-    requires shape { length nodes.now ≡ nodes_in height }
+    requires { height < 64 }
     ensures { result ≡ is_full_width (term_of height nodes.now) }
 {
     if height == 0 {
-        return match leaf_in(&nodes[0]) {
-            Some(_) => true,
-            None => false,
-        };
+        return begins_with_leaf(nodes);
     }
-    let middle = middle_of(nodes.len(), height);
-    let right = &nodes[middle + 1..];
-    has_leaf(right, height - 1)
+    let middle = (1usize << height) - 1;
+    if nodes.len() <= middle {
+        return false;
+    }
+    has_leaf(&nodes[middle + 1..], height - 1)
 }
 
 /// How many members the tree has.

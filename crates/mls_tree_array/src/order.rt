@@ -1,6 +1,6 @@
 //! Lists of nodes from outside, and as they are sent (RFC 9420, 12.4.3.3).
 
-ghost use Rattle.std.specs.Prelude.{◌≡◌, ◌≤◌, true, length, take, OnOk, OnErr, IfOk, IsOk};
+ghost use Rattle.std.specs.Prelude.{◌≡◌, ◌<◌, ◌≤◌, true, length, take, OnOk, OnErr, IfOk, IsOk};
 ghost use Rattle.mls_tree_model.specs.Arrays.{cut, has_last, may_stand, alternates, height_for, padded};
 ghost use Rattle.mls_tree_array.specs.Additions.{PadsTo};
 
@@ -68,17 +68,17 @@ pub fn pad(nodes: &mut Vec<Slot>, to: usize) -> Result<(), AllocError>
     Ok(())
 }
 
-/// Adds blank nodes up to the least tree that holds all, and answers its height. Without memory for it all stays as it
+/// Adds blank nodes up to the least tree that holds all, whose height is given. Without memory for them all stays as it
 /// was.
-pub fn pad_tree(nodes: &mut Vec<Slot>) -> Result<u32, AllocError>
-    ensures height { IfOk result (λ h. h ≡ height_for (length nodes.old.items)) }
+pub fn pad_tree(nodes: &mut Vec<Slot>, height: u32) -> Result<(), AllocError>
+    requires holds { height ≡ height_for (length nodes.old.items) }
+    requires low { height < 64 }
     ensures ok { OnOk result (nodes.new.items ≡ padded nodes.old.items) }
     ensures err { OnErr result (nodes.new.items ≡ nodes.old.items) }
 {
-    let height = height_for(nodes.as_slice().len());
     let leaves = 1usize << height;
     pad(nodes, leaves - 1 + leaves)?;
-    Ok(height)
+    Ok(())
 }
 
 /// How many nodes there are up to the last one that isn't blank.

@@ -20,16 +20,23 @@ fn copath_nodes(alloc: Global, x: u32, n: u32) -> Result<Vec<u32>, AllocError>
 
 #[test]
 fn steps(rt: HostRuntime) {
-    for (node, below) in [(0, 0), (6, 0), (5, 1), (3, 2), (7, 3), (65535, 16)] {
+    for (node, below) in [
+        (0, 0),
+        (6, 0),
+        (5, 1),
+        (3, 2),
+        (7, 3),
+        (MAX_LEAVES - 1, MAX_HEIGHT),
+    ] {
         assert_eq!(rt; level(node), below, "at {node}");
     }
     for (leaves, node) in [
         (1, Some(0)),
         (8, Some(7)),
-        (65536, Some(65535)),
+        (MAX_LEAVES, Some(MAX_LEAVES - 1)),
         (0, None),
         (6, None),
-        (131072, None),
+        (2 * MAX_LEAVES, None),
     ] {
         assert_eq!(rt; root(leaves), node, "at {leaves}");
     }
@@ -37,7 +44,7 @@ fn steps(rt: HostRuntime) {
         (7, (Some(3), Some(11))),
         (5, (Some(4), Some(6))),
         (6, (None, None)),
-        (131071, (None, None)),
+        (2 * MAX_LEAVES - 1, (None, None)),
     ] {
         assert_eq!(rt; (left(node), right(node)), children, "at {node}");
     }
@@ -85,5 +92,18 @@ fn walks(rt: HostRuntime) -> Result<(), Fail> {
         assert_eq!(rt; direct_path(node, leaves).next(), None, "at {node}");
         assert_eq!(rt; copath(node, leaves).next(), None, "at {node}");
     }
+    Ok(())
+}
+
+#[test]
+fn last_leaf_of_the_largest_tree(rt: HostRuntime) -> Result<(), Fail> {
+    let last = 2 * MAX_LEAVES - 2;
+    let path = direct_path_nodes(rt.alloc(), last, MAX_LEAVES)?;
+    assert_eq!(rt; path.len(), MAX_HEIGHT as usize);
+    assert_eq!(rt;
+        path.get(..3),
+        Some([last - 1, last - 3, last - 7].as_slice())
+    );
+    assert_eq!(rt; path.last(), Some(&(MAX_LEAVES - 1)));
     Ok(())
 }

@@ -2,4 +2,5 @@ pub mod Drafts
 pub mod Merges
 pub mod Leaves
 pub mod Seals
+pub mod OtherExtensions
 pub mod Outcomes

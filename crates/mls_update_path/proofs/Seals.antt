@@ -7,8 +7,8 @@ use Rattle.std.proofs.lemmas.List.{length-map}
 use Rattle.mls_wire.specs.Checks.{Passed, passed, ◌>>◌}
 use Rattle.mls_wire.proofs.CheckLaws.{bind_ok, then_ok}
 use Rattle.mls_wire.specs.Reading.{◌>>=◌}
+use Rattle.mls_leaf.specs.declared.extension.Extension.{Extension}
 use Rattle.mls_leaf.specs.declared.leaf.LeafNode.{LeafNode}
-use Rattle.mls_types.specs.GroupContext.{group_context}
 use Rattle.mls_types.specs.declared.update_path.UpdatePath.{UpdatePath}
 use Rattle.mls_types.specs.declared.update_path.UpdatePathNode.{UpdatePathNode}
 use Rattle.mls_suite.specs.Crypto.{Crypto, Lawful}
@@ -28,12 +28,12 @@ use Rattle.mls_treekem_model.specs.Whole.{keys_of_path}
 use Rattle.mls_treekem_model.proofs.WholeLaws.{sealed_keys, sealed_lengths}
 use Rattle.mls_treekem.specs.Secrets.{AreOfChain}
 use Rattle.mls_treekem.specs.declared.secrets.PathSecrets.{PathSecrets}
-use Rattle.mls_model.specs.PublicState.{PublicState, provisional_context}
+use Rattle.mls_model.specs.PublicState.{PublicState}
 use Rattle.mls_model.specs.Commit.{Edits, node_keys, cipher_counts, due_counts, apply_update_path}
 use Rattle.mls_model.specs.Candidate.{leaf_key_of}
 use Rattle.mls_model.specs.Member.{Member}
 use Rattle.mls_model.specs.Make.{MadePath, committed_leaf, new_path}
-use Rattle.mls_update_path.specs.Parts.{path_public_keys, leaf_with, leaf_and_tree_of, path_of}
+use Rattle.mls_update_path.specs.Parts.{path_public_keys, provisional_bytes, leaf_with, leaf_and_tree_of, path_of}
 use Rattle.mls_update_path.proofs.Merges.{leaf_key_is}
 
 -- ---- checks one after another
@@ -55,49 +55,49 @@ bind_same (Err n) f g h = refl
 abbrev leaf_of_member : Crypto → Member → Edits → List ℕ → LeafNode → LeafNode
 leaf_of_member c m e seed old = leaf_with c m.signing m.public.context.group_id m.keys.leaf e.tree old seed
 
-abbrev sealed_with_leaf : Crypto → PublicState → ℕ → Edits → List ℕ → LeafNode × Term → Result MadePath ℕ
-sealed_with_leaf c p i e seed x =
-    sealed_path c (group_context.spell (provisional_context p.context x.1)) e.added (seal_seed seed) e.tree i (path_seed seed)
+abbrev sealed_with_leaf : Crypto → PublicState → ℕ → List Extension → Edits → List ℕ → LeafNode × Term → Result MadePath ℕ
+sealed_with_leaf c p i list e seed x =
+    sealed_path c (provisional_bytes p.context list x.1) e.added (seal_seed seed) e.tree i (path_seed seed)
     >>= λ nodes. Ok (record { path = Some (record { leaf_node = x.0; nodes = nodes }); climb = climb_make c (way 0 e.tree i) (path_seed seed) (leaf_key_of c seed) })
 
-by_parts : (c : Crypto) (m : Member) (e : Edits) (seed : List ℕ) → new_path c m e seed ≡ path_of c m.public m.signing m.keys.leaf e seed
+pub by_parts : (c : Crypto) (m : Member) (list : List Extension) (e : Edits) (seed : List ℕ) → new_path c m list e seed ≡ path_of c m.public m.signing m.keys.leaf list e seed
 unfolding new_path path_of leaf_and_tree_of committed_leaf leaf_with
-by_parts c m e seed =
+by_parts c m list e seed =
     let r = member_at m.public.tree m.keys.leaf in
     let check = λ (old : LeafNode). replaced_checks c (leaf_of_member c m e seed old) old replaced_for.Commit m.public.context.group_id m.keys.leaf in
     let merge = λ (old : LeafNode). merge_answer e.tree m.keys.leaf (leaf_of_member c m e seed old) (path_public_keys c m.keys.leaf e.tree seed) in
     let pair = λ (old : LeafNode). merge old >>= λ (tree : Term). Ok (leaf_of_member c m e seed old, tree) in
-    let last = sealed_with_leaf c m.public m.keys.leaf e seed in
+    let last = sealed_with_leaf c m.public m.keys.leaf list e seed in
     sym
     (bind_assoc r (λ old. check old >> pair old) last
     ∙ bind_same r (λ old. (check old >> pair old) >>= last) (λ old. check old >> (merge old >>= λ tree. last (leaf_of_member c m e seed old, tree)))
     (λ old. then_assoc (check old) (pair old) last ∙ ap (λ z. check old >> z) (bind_assoc (merge old) (λ tree. Ok (leaf_of_member c m e seed old, tree)) last)))
 
-pub is_path_of : (c : Crypto) (m : Member) (e d : Edits) (p : PublicState) (signing : List ℕ) (i : ℕ) (seed : List ℕ) → e ≡ d → m.public ≡ p → m.signing ≡ signing → m.keys.leaf ≡ i → new_path c m d seed ≡ path_of c p signing i e seed
-is_path_of c m e d p signing i seed same public signs at =
-    by_parts c m d seed
-    ∙ ap₂ (λ q s. path_of c q s m.keys.leaf d seed) public signs
-    ∙ ap₂ (λ j f. path_of c p signing j f seed) at (sym same)
+pub is_path_of : (c : Crypto) (m : Member) (list : List Extension) (e d : Edits) (p : PublicState) (signing : List ℕ) (i : ℕ) (seed : List ℕ) → e ≡ d → m.public ≡ p → m.signing ≡ signing → m.keys.leaf ≡ i → new_path c m list d seed ≡ path_of c p signing i list e seed
+is_path_of c m list e d p signing i seed same public signs at =
+    by_parts c m list d seed
+    ∙ ap₂ (λ q s. path_of c q s m.keys.leaf list d seed) public signs
+    ∙ ap₂ (λ j f. path_of c p signing j list f seed) at (sym same)
 
 -- ---- the chain of checks
 
-module _ (c : Crypto) (p : PublicState) (signing : List ℕ) (i : ℕ) (e : Edits) (seed : List ℕ) where
-  pub path_fails : (n : ℕ) → leaf_and_tree_of c p signing i e.tree seed ≡ Err n → path_of c p signing i e seed ≡ Err n
+module _ (c : Crypto) (p : PublicState) (signing : List ℕ) (i : ℕ) (list : List Extension) (e : Edits) (seed : List ℕ) where
+  pub path_fails : (n : ℕ) → leaf_and_tree_of c p signing i e.tree seed ≡ Err n → path_of c p signing i list e seed ≡ Err n
   unfolding path_of
   path_fails n h = rw h refl
 
   -- what was sealed under the context that code spelled
-  module _ (x : LeafNode) (u : Term) (merged : leaf_and_tree_of c p signing i e.tree seed ≡ Ok (x, u)) (context added : List ℕ) (is : context ≡ group_context.spell (provisional_context p.context u)) (as_added : added ≡ e.added) where
+  module _ (x : LeafNode) (u : Term) (merged : leaf_and_tree_of c p signing i e.tree seed ≡ Ok (x, u)) (context added : List ℕ) (is : context ≡ provisional_bytes p.context list u) (as_added : added ≡ e.added) where
     sealed_is : (r : Result (List UpdatePathNode) ℕ) → sealed_path c context added (seal_seed seed) e.tree i (path_seed seed) ≡ r
-        → sealed_path c (group_context.spell (provisional_context p.context u)) e.added (seal_seed seed) e.tree i (path_seed seed) ≡ r
+        → sealed_path c (provisional_bytes p.context list u) e.added (seal_seed seed) e.tree i (path_seed seed) ≡ r
     sealed_is r h = ap₂ (λ a b. sealed_path c a b (seal_seed seed) e.tree i (path_seed seed)) (sym is) (sym as_added) ∙ h
 
-    pub seals_fail : (n : ℕ) → sealed_path c context added (seal_seed seed) e.tree i (path_seed seed) ≡ Err n → path_of c p signing i e seed ≡ Err n
+    pub seals_fail : (n : ℕ) → sealed_path c context added (seal_seed seed) e.tree i (path_seed seed) ≡ Err n → path_of c p signing i list e seed ≡ Err n
     unfolding path_of
     seals_fail n h = rw (merged, sealed_is (Err n) h) refl
 
     pub seals : (nodes nodes' : List UpdatePathNode) (climb : Climb) → sealed_path c context added (seal_seed seed) e.tree i (path_seed seed) ≡ Ok nodes → nodes' ≡ nodes → climb ≡ climb_make c (way 0 e.tree i) (path_seed seed) (leaf_key_of c seed)
-        → path_of c p signing i e seed ≡ Ok (record { path = Some (record { leaf_node = x; nodes = nodes' }); climb = climb })
+        → path_of c p signing i list e seed ≡ Ok (record { path = Some (record { leaf_node = x; nodes = nodes' }); climb = climb })
     unfolding path_of
     seals nodes nodes' climb h same is_climb = rw (merged, sealed_is (Ok nodes) h, same, is_climb) refl
 

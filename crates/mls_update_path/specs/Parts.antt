@@ -2,6 +2,7 @@
 use Rattle.std.specs.Prelude.{◌≡◌, ℕ, List, Some, Result, Ok, IfOk}
 use Rattle.mls_wire.specs.Checks.{Answers, Passed, passed, ◌>>◌}
 use Rattle.mls_wire.specs.Reading.{◌>>=◌}
+use Rattle.mls_leaf.specs.declared.extension.Extension.{Extension}
 use Rattle.mls_leaf.specs.declared.leaf.LeafNode.{LeafNode}
 use Rattle.mls_leaf.specs.declared.leaf.LeafSource.TheVariants as leaf_node_source
 use Rattle.mls_types.specs.GroupContext.{group_context}
@@ -34,9 +35,10 @@ use Rattle.mls_update_path.specs.declared.path.Merged.{Merged}
 abbrev pub path_public_keys : Crypto → ℕ → Term → List ℕ → List (List ℕ)
 path_public_keys c i t seed = keys_of_path c t i (path_seed seed)
 
--- the spelling of the next epoch's context with this tree, and as yet the old transcript (RFC 9420, 12.4.1)
-abbrev pub provisional_bytes : GroupContext → Term → List ℕ
-provisional_bytes old t = group_context.spell (provisional_context old t)
+-- the spelling of the next epoch's context with these extensions and this tree, and as yet the old transcript (RFC 9420,
+-- 12.4.1)
+abbrev pub provisional_bytes : GroupContext → List Extension → Term → List ℕ
+provisional_bytes old list t = group_context.spell (provisional_context old list t)
 
 -- the path secrets are those of leaf i's path in a tree, made of a seed (RFC 9420, 7.4)
 abbrev pub IsChain : Crypto → Term → ℕ → List ℕ → PathSecrets → Type 0
@@ -77,11 +79,11 @@ leaf_and_tree_of c p signing i t seed = do
   tree ← merge_answer t i leaf (path_public_keys c i t seed)
   Ok (leaf, tree)
 
--- the path, whose secrets are sealed under the context with that tree (RFC 9420, 12.4.1)
-unfoldable pub path_of : Crypto → PublicState → List ℕ → ℕ → Edits → List ℕ → Result MadePath ℕ
-path_of c p signing i e seed = do
+-- the path, whose secrets are sealed under the context with these extensions and that tree (RFC 9420, 12.4.1)
+unfoldable pub path_of : Crypto → PublicState → List ℕ → ℕ → List Extension → Edits → List ℕ → Result MadePath ℕ
+path_of c p signing i list e seed = do
   x ← leaf_and_tree_of c p signing i e.tree seed
-  nodes ← sealed_path c (group_context.spell (provisional_context p.context x.1)) e.added (seal_seed seed) e.tree i (path_seed seed)
+  nodes ← sealed_path c (provisional_bytes p.context list x.1) e.added (seal_seed seed) e.tree i (path_seed seed)
   Ok (record {
     path = Some (record { leaf_node = x.0; nodes = nodes });
     climb = climb_make c (way 0 e.tree i) (path_seed seed) (leaf_key_of c seed);

@@ -1,6 +1,7 @@
 //! Making a path.
 
 ghost use Rattle.std.specs.Prelude.{◌≡◌, ◌+◌, ◌<◌, ◌≤◌, ◌^◌, length, None, IfOk};
+ghost use Rattle.mls_leaf.specs.GroupExtensions.{group_extensions};
 ghost use Rattle.mls_leaf.specs.Leaf.{leaf_node};
 ghost use Rattle.mls_tree.specs.Tree.{term};
 ghost use Rattle.mls_public_group.specs.Short.{IsBelow, HasLeavesBelow, IsShortContext, StaysShort};
@@ -14,7 +15,7 @@ use crate::error::PathError;
 use mls_candidate::renewed_leaf;
 use mls_checks::{Source, replaced};
 use mls_kdf::{Secret, Seed};
-use mls_leaf::{Bytes, Items, LeafNode, LeafSource};
+use mls_leaf::{Bytes, GroupExtensions, Items, LeafNode, LeafSource};
 use mls_public_group::{Edits, PublicGroup};
 use mls_suite::Suite;
 use mls_tree::{PublicTree, TreeError};
@@ -125,20 +126,23 @@ fn merge_new_path<S: Suite>(
     merge_leaf_and_keys(index, tree, leaf, public, made)
 }
 
-/// The path of the member at leaf `index` for a commit with these edits: a member is there (`NoSuchLeaf` 22), its new
-/// leaf and the merge of its keys pass their checks (50 to 54, `KeyRepeated` (25), `ParentHashWrong` (24)), and its
-/// secrets are sealed under the context with the merged tree, where each key can be sealed to (`BadKey` 36) (RFC 9420,
-/// 12.4.1).
+/// The path of the member at leaf `index` for a commit with these extensions and edits: a member is there (`NoSuchLeaf`
+/// 22), its new leaf and the merge of its keys pass their checks (50 to 54, `KeyRepeated` (25), `ParentHashWrong`
+/// (24)), and its secrets are sealed under the context with the extensions and the merged tree, where each key can be
+/// sealed to (`BadKey` 36) (RFC 9420, 12.4.1).
 pub fn new_path<S: Suite>(
     alloc: Global,
     group: &PublicGroup,
     signing: &Secret,
     index: u32,
+    extensions: &GroupExtensions,
     edits: &Edits,
     seed: &Seed,
 ) -> Result<NewPath, PathError>
     requires epoch { group.now.context.epoch + 1 < 2 ^ 64 }
-    ensures answer { MakesPath S.crypto group.now signing.now index edits.now seed.now result }
+    requires extensions { IsBelow (2 ^ 27) group_extensions extensions.now }
+    ensures answer { MakesPath S.crypto group.now signing.now index extensions.now edits.now
+        seed.now result }
     ensures leaf { IfOk result (λ p. p.keys.leaf ≡ index) }
     ensures below { IfOk result (λ p. IsBelow (2 ^ 28) leaf_node p.path.leaf_node) }
     ensures chain { IfOk result (λ p. IsChain S.crypto edits.now.tree index seed.now p.secrets) }
@@ -150,7 +154,7 @@ pub fn new_path<S: Suite>(
     group.is_short();
     let edited = edits.tree.as_tree();
     let mut made = merge_new_path::<S>(alloc, group, signing, index, edited, seed)?;
-    let context = provisional_bytes(alloc, group.context(), &mut made.tree)?;
+    let context = provisional_bytes(alloc, group.context(), extensions, &mut made.tree)?;
     let nodes = seal_path::<S>(
         alloc,
         edited,

@@ -3,6 +3,7 @@ use Rattle.std.proofs.Common.{ℕ, ◌<◌, ◌^◌, Bool, List, length, Result,
 use Rattle.std.specs.Global.{Global, Vec}
 use Rattle.std.specs.List.{AllByRecursion}
 use denote.RawPtr.{null_ptr}
+use Rattle.mls_leaf.specs.declared.extension.Extension.{Extension}
 use Rattle.mls_wire.specs.Checks.{DoesAs}
 use Rattle.mls_suite.specs.Crypto.{Crypto}
 use Rattle.mls_model.specs.declared.event.Source.{Source}
@@ -10,7 +11,7 @@ use Rattle.mls_model.specs.declared.event.WorldItem.{WorldItem}
 use Rattle.mls_model.specs.declared.event.Event.{Event}
 use Rattle.mls_model.specs.declared.event.Event.TheVariants as event
 use Rattle.mls_model.specs.declared.event.Reply.{Reply}
-use Rattle.mls_model.specs.WorldCalls.{candidate_answer, create_answer, propose_add_answer, propose_update_answer, propose_remove_answer, commit_answer, drop_answer, deliver_answer, join_answer}
+use Rattle.mls_model.specs.WorldCalls.{candidate_answer, create_answer, propose_add_answer, propose_update_answer, propose_remove_answer, propose_extensions_answer, commit_answer, drop_answer, deliver_answer, join_answer}
 use Rattle.mls_model.specs.EventRange.{IsSourceInRange, IsItemInRange, IsInRange}
 use Rattle.mls_model.specs.Run.{answer}
 use Rattle.mls_model.proofs.RunLaws.{answered_step}
@@ -46,6 +47,10 @@ module _ {B E : Type 0} (c : Crypto) (value : B → Reply) (number : E → ℕ) 
   pub by_propose_remove : (k leaf : ℕ) → DoesAs value number (propose_remove_answer c w k leaf) w v r → IsReachable c v
   unfolding answer IsInRange
   by_propose_remove k leaf h = by_event r (event.ProposeRemove k leaf) tt h
+
+  pub by_propose_extensions : (k : ℕ) (list : Vec Extension) → DoesAs value number (propose_extensions_answer c w k list.items) w v r → IsReachable c v
+  unfolding answer IsInRange
+  by_propose_extensions k list h = by_event r (event.ProposeExtensions k list) tt h
 
   pub by_commit : (alloc : Global) (k : ℕ) (items : List WorldItem) (path : Bool) (seed : List ℕ) → length items < 2 ^ 63 → AllByRecursion IsItemInRange items →
       DoesAs value number (commit_answer c w k items path seed) w v r → IsReachable c v

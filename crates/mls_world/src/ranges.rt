@@ -47,6 +47,7 @@ fn know_item(item: &WorldItem)
         WorldItem::Remove(leaf) => {
             let _leaf = *leaf;
         }
+        WorldItem::Extensions(_) => {}
     }
 }
 
@@ -73,6 +74,7 @@ pub(crate) fn know_event(event: &Event)
         Event::Create { .. } => {}
         Event::ProposeUpdate { .. } => {}
         Event::ProposeRemove { .. } => {}
+        Event::ProposeExtensions { .. } => {}
         Event::DropPending { .. } => {}
     }
 }

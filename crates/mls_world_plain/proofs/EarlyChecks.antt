@@ -1,10 +1,12 @@
 -- Refusals of calls on a world that come before anything grows: what the checks refuse is refused by what they consist of.
-use Rattle.std.proofs.Common.{◌≡◌, ℕ, zero, suc, ◌+◌, ◌<◌, List, [], ◌∷◌, length, Some, None, Result, Ok, Err, refl, sym, ap, subst, arith, get_or, slice_get}
-use Rattle.mls_wire.specs.Checks.{passed, require_some}
+use Rattle.std.proofs.Common.{◌≡◌, ℕ, Bool, true, false, zero, suc, ◌+◌, ◌<◌, List, [], ◌∷◌, length, Some, None, Result, Ok, Err, refl, sym, ap, subst, arith, get_or, slice_get}
+use Rattle.mls_wire.specs.Checks.{Passed, passed, require, require_some, ◌>>◌}
 use Rattle.mls_wire.proofs.CheckLaws.{bind_ok}
 use Rattle.mls_wire.specs.Reading.{◌>>=◌}
 use Rattle.mls_types.specs.declared.commit.ProposalOrRef.{ProposalOrRef}
 use Rattle.mls_types.specs.declared.commit.ProposalOrRef.TheVariants as listed
+use Rattle.mls_leaf.specs.GroupExtensions.{are_allowed}
+use Rattle.mls_leaf.specs.declared.extension.Extension.{Extension}
 use Rattle.mls_leaf.specs.declared.proposal.Proposal.TheVariants as proposal
 use Rattle.mls_leaf.specs.declared.key_package.KeyPackage.{KeyPackage}
 use Rattle.mls_tree.proofs.RefusalLaws.{one_number, not_refused}
@@ -13,8 +15,8 @@ use Rattle.mls_model.specs.declared.event.WorldItem.{WorldItem}
 use Rattle.mls_model.specs.declared.event.WorldItem.TheVariants.{Add}
 use Rattle.mls_model.specs.World.{Entrant, Seat, World, seat_at, entrant_at, bytes_of, package_in, package_of, item_of, items_of}
 use Rattle.mls_model.specs.Messages.{decode_message}
-use Rattle.mls_world_plain.specs.Sources.{read_package}
-use Rattle.mls_world_plain.specs.EarlyChecks.{check_of, early_add_checks, first_checks, early_commit_checks, early_delivery_checks, early_join_checks}
+use Rattle.mls_world_plain.specs.Sources.{read_package, allowed_list}
+use Rattle.mls_world_plain.specs.EarlyChecks.{check_of, early_add_checks, early_extensions_checks, first_checks, early_commit_checks, early_delivery_checks, early_join_checks}
 
 -- ---- steps
 
@@ -24,6 +26,11 @@ error n = Err n
 pub unchecked : {A : Type 0} (r : Result A ℕ) (n : ℕ) → check_of r ≡ Err n → r ≡ Err n
 unchecked (Ok x) n h = absurd cc
 unchecked {A} (Err m) n h = let same : m ≡ n = cc in ap (λ (k : ℕ). error {A = A} k) same
+
+-- a check that failed
+pub required_is : (m : ℕ) (b : Bool) (n : ℕ) → require m b ≡ Err n → m ≡ n
+required_is m true n h = absurd cc
+required_is m false n h = cc
 
 -- behind a step with a value
 pub behind : {A B : Type 0} (r : Result A ℕ) (f : A → Result B ℕ) (x : A) (n : ℕ) → r ≡ Ok x → (r >>= f) ≡ Err n → f x ≡ Err n
@@ -74,6 +81,33 @@ unfolding early_add_checks
 add_refused w k source n lt h =
     let s = there w.seats k lt in
     unchecked (package_of w source) n (behind (seat_at w k) (λ s. check_of (package_of w source)) s.0 n (somebody w k s.0 s.1) h)
+
+-- ---- extensions
+
+pub extensions_nobody : (w : World) (k : ℕ) (list : List Extension) (n : ℕ) → slice_get w.seats k ≡ None → early_extensions_checks w k list ≡ Err n → 90 ≡ n
+unfolding early_extensions_checks
+extensions_nobody w k list n e h = at_first (seat_at w k) (λ s. require 14 (are_allowed list)) 90 n (nobody w k e) h
+
+extensions_judged : (w : World) (k : ℕ) (list : List Extension) (n : ℕ) → k < length w.seats → early_extensions_checks w k list ≡ Err n → require 14 (are_allowed list) ≡ Err n
+unfolding early_extensions_checks
+extensions_judged w k list n lt h =
+    let s = there w.seats k lt in
+    behind (seat_at w k) (λ s. require 14 (are_allowed list)) s.0 n (somebody w k s.0 s.1) h
+
+pub extensions_refused : (w : World) (k : ℕ) (list : List Extension) (n : ℕ) → k < length w.seats → early_extensions_checks w k list ≡ Err n → 14 ≡ n
+extensions_refused w k list n lt h = required_is 14 (are_allowed list) n (extensions_judged w k list n lt h)
+
+pub extensions_pass : (w : World) (k : ℕ) (list : List Extension) (n : ℕ) → k < length w.seats → are_allowed list ≡ true → early_extensions_checks w k list ≡ Err n → ⊥
+extensions_pass w k list n lt may h = not_refused (require 14 (are_allowed list)) passed (rw may refl) n (extensions_judged w k list n lt h)
+
+-- a list that is copied
+pub list_refused : (w : World) (k : ℕ) (list : List Extension) (n : ℕ) → k < length w.seats → early_extensions_checks w k list ≡ Err n → allowed_list list ≡ Err n
+unfolding allowed_list
+list_refused w k list n lt h = of_check (require 14 (are_allowed list)) (extensions_judged w k list n lt h)
+  where
+    of_check : (r : Result Passed ℕ) → r ≡ Err n → (r >> Ok list) ≡ Err n
+    of_check (Ok x) e = absurd cc
+    of_check (Err m) e = let same : m ≡ n = cc in ap (λ (i : ℕ). error {A = List Extension} i) same
 
 -- ---- lists of commits
 

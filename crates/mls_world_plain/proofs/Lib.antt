@@ -6,6 +6,7 @@ pub mod Committing
 pub mod Listing
 pub mod Changing
 pub mod Entering
+pub mod Extending
 pub mod Delivering
 pub mod Beginning
 pub mod Recording

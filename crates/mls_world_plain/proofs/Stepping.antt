@@ -2,6 +2,8 @@
 use Rattle.std.proofs.Common.{◌≡◌, ℕ, Bool, true, not, List, [], ◌∷◌, Err, refl, subst, slice_get, arith}
 use Rattle.std.specs.Global.{Vec}
 use Rattle.mls_wire.specs.Checks.{require_some}
+use Rattle.mls_leaf.specs.GroupExtensions.{are_allowed}
+use Rattle.mls_leaf.specs.declared.extension.Extension.{Extension}
 use Rattle.mls_leaf.specs.Limits.{input_limit}
 use Rattle.mls_leaf.specs.WholeLaws.{is_input_fault}
 use Rattle.mls_leaf.proofs.WholeLaws.{is_input_answered}
@@ -10,15 +12,15 @@ use Rattle.mls_types.specs.Message.{mls_message}
 use Rattle.mls_model.specs.declared.event.Source.{Source}
 use Rattle.mls_model.specs.declared.event.Source.TheVariants.{Given, Message}
 use Rattle.mls_model.specs.declared.event.WorldItem.{WorldItem}
-use Rattle.mls_model.specs.declared.event.WorldItem.TheVariants.{RefOf, Add, Remove}
+use Rattle.mls_model.specs.declared.event.WorldItem.TheVariants.{RefOf, Add, Remove, Extensions}
 use Rattle.mls_model.specs.declared.event.Event.{Event}
 use Rattle.mls_model.specs.declared.event.Event.TheVariants as event
 use Rattle.mls_model.specs.Messages.{decode_message}
 use Rattle.mls_model.proofs.RefusedSteps.{bind_refused, test_refused, given_refused}
 use Rattle.mls_model.specs.World.{World, seat_at, entrant_at, bytes_of, package_in, proposal_in, package_of, proposal_of, item_of}
-use Rattle.mls_world_plain.specs.EarlyChecks.{early_add_checks, first_checks, early_commit_checks, early_delivery_checks, early_join_checks, early_checks}
+use Rattle.mls_world_plain.specs.EarlyChecks.{early_add_checks, early_extensions_checks, first_checks, early_commit_checks, early_delivery_checks, early_join_checks, early_checks}
 use Rattle.mls_model.specs.WorldCalls.{drop_answer}
-use Rattle.mls_world_plain.proofs.EarlyChecks.{unchecked}
+use Rattle.mls_world_plain.proofs.EarlyChecks.{unchecked, required_is}
 
 decoded_so : (bytes : List ℕ) → decode_message bytes ≡ Err 1 → ⊥
 unfolding decode_message
@@ -53,18 +55,20 @@ item_so : (w : World) (item : WorldItem) → item_of w item ≡ Err 1 → ⊥
 item_so w (RefOf source) h = bind_refused (proposal_of w source) _ 1 h (proposal_so w source) (λ v never. absurd cc)
 item_so w (Add source) h = bind_refused (package_of w source) _ 1 h (package_so w source) (λ v never. absurd cc)
 item_so w (Remove leaf) h = absurd cc
+item_so w (Extensions list) h = test_refused 14 (are_allowed list.items) _ 1 h (λ e. omega (arith, e)) (λ never. absurd cc)
 
 first_so : (w : World) (items : List WorldItem) → first_checks w items ≡ Err 1 → ⊥
 first_so w [] h = absurd cc
 first_so w (x ∷ xs) h = item_so w x (unchecked (item_of w x) 1 h)
 
 pub never_memory : (w : World) (e : Event) → early_checks w e ≡ Err 1 → ⊥
-unfolding early_checks early_add_checks early_commit_checks early_delivery_checks early_join_checks
+unfolding early_checks early_add_checks early_extensions_checks early_commit_checks early_delivery_checks early_join_checks
 never_memory w (event.Candidate identity seed) h = absurd cc
 never_memory w (event.Create k group seed) h = entrant_so w k (unchecked (entrant_at w k) 1 h)
 never_memory w (event.ProposeAdd k source) h = bind_refused (seat_at w k) _ 1 h (seat_so w k) (λ s h1. package_so w source (unchecked (package_of w source) 1 h1))
 never_memory w (event.ProposeUpdate k seed) h = seat_so w k (unchecked (seat_at w k) 1 h)
 never_memory w (event.ProposeRemove k leaf) h = seat_so w k (unchecked (seat_at w k) 1 h)
+never_memory w (event.ProposeExtensions k list) h = bind_refused (seat_at w k) _ 1 h (seat_so w k) (λ s h1. let e = required_is 14 (are_allowed list.items) 1 h1 in omega (arith, e))
 never_memory w (event.Commit k items path seed) h = bind_refused (seat_at w k) _ 1 h (seat_so w k) (λ s h1. first_so w items.items h1)
 never_memory w (event.DropPending k) h = seat_so w k (unchecked (seat_at w k) 1 h)
 never_memory w (event.Deliver k source) h = bind_refused (seat_at w k) _ 1 h (seat_so w k) (λ s h1. bytes_so w source (unchecked (bytes_of w source) 1 h1))
@@ -93,6 +97,10 @@ module _ (w : World) (e : Event) (n : ℕ) where
   pub of_remove : (k leaf : ℕ) → e ≡ event.ProposeRemove k leaf → early_checks w e ≡ Err n → seat_at w k ≡ Err n
   unfolding early_checks
   of_remove k leaf is h = unchecked (seat_at w k) n (subst (λ (x : Event). early_checks w x ≡ Err n) is h)
+
+  pub of_extensions : (k : ℕ) (list : Vec Extension) → e ≡ event.ProposeExtensions k list → early_checks w e ≡ Err n → early_extensions_checks w k list.items ≡ Err n
+  unfolding early_checks
+  of_extensions k list is h = subst (λ (x : Event). early_checks w x ≡ Err n) is h
 
   pub of_commit : (k : ℕ) (items : Vec WorldItem) (path : Bool) (seed : List ℕ) → e ≡ event.Commit k items path seed → early_checks w e ≡ Err n → early_commit_checks w k items.items ≡ Err n
   unfolding early_checks

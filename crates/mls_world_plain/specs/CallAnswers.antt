@@ -2,6 +2,7 @@
 -- world is as it was. Where memory was refused, the world is as it was, and nothing is said of the number.
 use Rattle.std.specs.Prelude.{ℕ, Bool, List, Option, option_map, Result, slice_get}
 use Rattle.mls_wire.specs.Checks.{Answers, AnswersOutright, DoesAs}
+use Rattle.mls_leaf.specs.declared.extension.Extension.{Extension}
 use Rattle.mls_suite.specs.Crypto.{Crypto}
 use Rattle.mls_model.specs.declared.effect.Effect.{Effect}
 use Rattle.mls_model.specs.declared.event.Event.{Event}
@@ -13,13 +14,13 @@ use Rattle.mls_model.specs.Candidate.{Candidate}
 use Rattle.mls_model.specs.Member.{Member}
 use Rattle.mls_model.specs.Run.{answer}
 use Rattle.mls_model.specs.World.{World, Seat}
-use Rattle.mls_model.specs.WorldCalls.{candidate_answer, create_answer, propose_add_answer, propose_update_answer, propose_remove_answer, commit_answer, drop_answer, deliver_answer, join_answer}
+use Rattle.mls_model.specs.WorldCalls.{candidate_answer, create_answer, propose_add_answer, propose_update_answer, propose_remove_answer, propose_extensions_answer, commit_answer, drop_answer, deliver_answer, join_answer}
 use Rattle.mls_world_plain.specs.declared.candidates.NewCandidate.{NewCandidate}
 use Rattle.mls_world_plain.specs.declared.commits.NewCommit.{NewCommit}
 use Rattle.mls_world_plain.specs.declared.joins.NewMember.{NewMember}
 use Rattle.mls_world_plain.specs.declared.error.WorldError.{WorldError}
 use Rattle.mls_world_plain.specs.Faults.{number_of}
-use Rattle.mls_world_plain.specs.CallParts.{add_candidate}
+use Rattle.mls_world_plain.specs.CallParts.{add_candidate, propose_allowed}
 
 -- ---- look-ups
 
@@ -62,6 +63,14 @@ ProposesUpdate c old new k seed result = DoesAs (λ (n : ℕ). reply.Proposal n)
 -- member k proposes to remove a leaf
 abbrev pub ProposesRemove : Crypto → World → World → ℕ → ℕ → Result ℕ WorldError → Type 0
 ProposesRemove c old new k leaf result = DoesAs (λ (n : ℕ). reply.Proposal n) number_of (propose_remove_answer c old k leaf) old new result
+
+-- member k proposes extensions
+abbrev pub ProposesExtensions : Crypto → World → World → ℕ → List Extension → Result ℕ WorldError → Type 0
+ProposesExtensions c old new k list result = DoesAs (λ (n : ℕ). reply.Proposal n) number_of (propose_extensions_answer c old k list) old new result
+
+-- member k proposes extensions that a group may carry
+abbrev pub ProposesAllowed : Crypto → World → World → ℕ → List Extension → Result ℕ WorldError → Type 0
+ProposesAllowed c old new k list result = DoesAs (λ (n : ℕ). reply.Proposal n) number_of (propose_allowed c old k list) old new result
 
 -- ---- commits
 

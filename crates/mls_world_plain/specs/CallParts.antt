@@ -5,6 +5,7 @@ use Rattle.std.specs.Str.{bytes_eq}
 use Rattle.mls_wire.specs.Checks.{require, ◌>>◌, DoesAs}
 use Rattle.mls_wire.specs.Reading.{◌>>=◌}
 use Rattle.mls_leaf.specs.KeyPackage.{key_package}
+use Rattle.mls_leaf.specs.declared.extension.Extension.{Extension}
 use Rattle.mls_types.specs.declared.commit.ProposalOrRef.{ProposalOrRef}
 use Rattle.mls_suite.specs.Crypto.{Crypto}
 use Rattle.mls_treekem_model.specs.Seeds.{sign_seed}
@@ -18,7 +19,8 @@ use Rattle.mls_model.specs.Member.{KeptProposal}
 use Rattle.mls_model.specs.Journal.{Journal, CommitMade, names_in, adds_in}
 use Rattle.mls_model.specs.Make.{commit_call}
 use Rattle.mls_model.specs.Verdict.{verdict}
-use Rattle.mls_model.specs.WorldCalls.{journal_after}
+use Rattle.mls_model.specs.Propose.{propose_extensions}
+use Rattle.mls_model.specs.WorldCalls.{journal_after, proposal_answer}
 use Rattle.mls_model.specs.World.{World, Entrant, Seat, with_member, seat_at, has_source, commit_for_joiner}
 use Rattle.mls_world_plain.specs.declared.error.WorldError.{WorldError}
 use Rattle.mls_world_plain.specs.Faults.{number_of}
@@ -42,6 +44,12 @@ add_candidate w k = Ok (
   reply.Candidate (length w.entrants) (length w.messages),
   record w { entrants = w.entrants ++ (record { candidate = k; is_spent = false } ∷ []); messages = w.messages ++ (package_message k.offered ∷ []) },
 )
+
+-- ---- proposals
+
+-- member k proposes extensions that a group may carry: `NoSuchMember` (90)
+unfoldable pub propose_allowed : Crypto → World → ℕ → List Extension → Result (Reply × World) ℕ
+propose_allowed c w k list = seat_at w k >>= λ s. propose_extensions c s.member list >>= λ x. Ok (proposal_answer w k s x)
 
 -- ---- deliveries
 

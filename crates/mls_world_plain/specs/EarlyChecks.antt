@@ -1,8 +1,10 @@
 -- The checks of calls on a world that come before anything grows: the number of the first that fails is the call's, whatever
 -- memory there is.
 use Rattle.std.specs.Prelude.{ℕ, List, [], ◌∷◌, Result, Ok}
-use Rattle.mls_wire.specs.Checks.{Passed, passed}
+use Rattle.mls_wire.specs.Checks.{Passed, passed, require}
 use Rattle.mls_wire.specs.Reading.{◌>>=◌}
+use Rattle.mls_leaf.specs.GroupExtensions.{are_allowed}
+use Rattle.mls_leaf.specs.declared.extension.Extension.{Extension}
 use Rattle.mls_tree.specs.Refusals.{RefusesOutright}
 use Rattle.mls_model.specs.declared.event.Event.{Event}
 use Rattle.mls_model.specs.declared.event.Event.TheVariants as event
@@ -24,7 +26,12 @@ check_of r = r >>= λ x. Ok passed
 unfoldable pub early_add_checks : World → ℕ → Source → Result Passed ℕ
 early_add_checks w k source = seat_at w k >>= λ s. check_of (package_of w source)
 
--- the checks of a list: `NoSuchMessage` (94), decoding and `WrongMessageKind` (95) of its first item
+-- the checks of extensions that are proposed: `NoSuchMember` (90), then `ExtensionNotAllowed` (14)
+unfoldable pub early_extensions_checks : World → ℕ → List Extension → Result Passed ℕ
+early_extensions_checks w k list = seat_at w k >>= λ s. require 14 (are_allowed list)
+
+-- the checks of a list: `NoSuchMessage` (94), decoding and `WrongMessageKind` (95) of its first item, or
+-- `ExtensionNotAllowed` (14)
 abbrev pub first_checks : World → List WorldItem → Result Passed ℕ
 first_checks w [] = Ok passed
 first_checks w (x ∷ xs) = check_of (item_of w x)
@@ -48,6 +55,7 @@ early_checks w (event.Create n group seed) = check_of (entrant_at w n)
 early_checks w (event.ProposeAdd k source) = early_add_checks w k source
 early_checks w (event.ProposeUpdate k seed) = check_of (seat_at w k)
 early_checks w (event.ProposeRemove k leaf) = check_of (seat_at w k)
+early_checks w (event.ProposeExtensions k list) = early_extensions_checks w k list.items
 early_checks w (event.Commit k items path seed) = early_commit_checks w k items.items
 early_checks w (event.DropPending k) = check_of (seat_at w k)
 early_checks w (event.Deliver k source) = early_delivery_checks w k source

@@ -1,8 +1,10 @@
 -- What bytes stand for where a world's event names them.
 use Rattle.std.specs.Prelude.{◌≡◌, ℕ, List, map, Result, Ok}
 use Rattle.std.specs.Global.{Vec}
-use Rattle.mls_wire.specs.Checks.{require_some, Answers, AnswersOutright}
+use Rattle.mls_wire.specs.Checks.{require, require_some, ◌>>◌, Answers, AnswersOutright}
 use Rattle.mls_wire.specs.Reading.{◌>>=◌}
+use Rattle.mls_leaf.specs.GroupExtensions.{are_allowed}
+use Rattle.mls_leaf.specs.declared.extension.Extension.{Extension}
 use Rattle.mls_leaf.specs.declared.key_package.KeyPackage.{KeyPackage}
 use Rattle.mls_types.specs.declared.public_message.PublicMessage.{PublicMessage}
 use Rattle.mls_types.specs.declared.signed.SignedContent.{SignedContent}
@@ -30,6 +32,10 @@ reference_in v = require_some 95 (if_proposal v v.body) >>= λ x. Ok (reference_
 -- the reference of the proposal whose message bytes are: decoding, `WrongMessageKind` (95) (RFC 9420, 5.2)
 unfoldable pub read_reference : List ℕ → Result (List ℕ) ℕ
 read_reference bytes = decode_message bytes >>= λ m. require_some 95 (proposal_in m) >>= λ v. Ok (reference_of v)
+
+-- extensions that a group may carry: `ExtensionNotAllowed` (14) (RFC 9420, 8.1)
+unfoldable pub allowed_list : List Extension → Result (List Extension) ℕ
+allowed_list list = require 14 (are_allowed list) >> Ok list
 
 -- ---- what calls answer
 

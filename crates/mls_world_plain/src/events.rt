@@ -49,6 +49,10 @@ impl<S: Suite> PlainWorld<S> {
                 let message = self.propose_remove(*member, *leaf)?;
                 Ok(Reply::Proposal { message })
             }
+            Event::ProposeExtensions { member, extensions } => {
+                let message = self.propose_copy(*member, extensions)?;
+                Ok(Reply::Proposal { message })
+            }
             Event::Commit {
                 member,
                 items,

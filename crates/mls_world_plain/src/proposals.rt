@@ -2,13 +2,14 @@
 //! each end.
 
 ghost use Rattle.mls_model.specs.World as model;
-ghost use Rattle.mls_world_plain.specs.CallAnswers.{ProposesAdd, ProposesRemove, ProposesUpdate};
-ghost use Rattle.mls_world_plain.specs.EarlyChecks.{early_add_checks, RefusesEarly};
+ghost use Rattle.mls_world_plain.specs.CallAnswers.{ProposesAdd, ProposesAllowed, ProposesExtensions, ProposesRemove, ProposesUpdate};
+ghost use Rattle.mls_world_plain.specs.EarlyChecks.{early_add_checks, early_extensions_checks, RefusesEarly};
 
 use crate::error::WorldError;
+use crate::sources::copy_extensions;
 use crate::world::PlainWorld;
 use mls_kdf::Seed;
-use mls_leaf::Bytes;
+use mls_leaf::{Bytes, Extension, GroupExtensions};
 use mls_model::Source;
 use mls_suite::Suite;
 
@@ -74,6 +75,60 @@ impl<S: Suite> PlainWorld<S> {
             return Err(WorldError::NoSuchMember);
         };
         let bytes = seat.member.propose_remove(leaf)?;
+        self.messages.push_reserved(Bytes::from_vec(bytes));
+        Ok(message)
+    }
+
+    /// Proposes that the group carry these extensions, and answers the number of the message: `NoSuchMember` (90),
+    /// `ExtensionNotAllowed` (14), then the member's checks (RFC 9420, 12.1.7).
+    pub fn propose_extensions(
+        &mut self,
+        member: usize,
+        extensions: Vec<Extension>,
+    ) -> Result<usize, WorldError>
+        ensures does { ProposesExtensions S.crypto self.old self.new member extensions.items result }
+        // `NoSuchMember` (90) and `ExtensionNotAllowed` (14) come whatever memory there is.
+        ensures outright { RefusesEarly (early_extensions_checks self.old member extensions.items) result }
+    {
+        self.require_member(member)?;
+        let allowed = GroupExtensions::new(extensions)?;
+        self.propose_allowed(member, allowed)
+    }
+
+    /// Proposes a copy of these extensions, as [`PlainWorld::propose_extensions`] does: they are judged before they are
+    /// copied.
+    pub(crate) fn propose_copy(
+        &mut self,
+        member: usize,
+        extensions: &[Extension],
+    ) -> Result<usize, WorldError>
+        ensures does { ProposesExtensions S.crypto self.old self.new member extensions.now result }
+        ensures outright { RefusesEarly (early_extensions_checks self.old member extensions.now) result }
+    {
+        self.require_member(member)?;
+        let copy = copy_extensions(self.alloc, extensions)?;
+        self.propose_allowed(member, copy)
+    }
+
+    /// Proposes extensions that a group may carry: `NoSuchMember` (90), then the member's checks (RFC 9420, 12.1.7).
+    #[tactic(auto, using(crate::proofs::Stores::seat_found, crate::proofs::Stores::seat_missing, crate::proofs::Stores::seat_set, crate::proofs::Stores::unchanged, crate::proofs::Calling::member_changed, crate::proofs::Readings::wider), unfolding(crate::specs::CallParts::propose_allowed))]
+    fn propose_allowed(
+        &mut self,
+        member: usize,
+        extensions: GroupExtensions,
+    ) -> Result<usize, WorldError>
+        ensures does { ProposesAllowed S.crypto self.old self.new member extensions result }
+    {
+        if let Err(error) = self.messages.reserve(1) {
+            drop(extensions);
+            return Err(error.into());
+        }
+        let message = self.messages.len();
+        let Some(seat) = self.seats.get_mut(member) else {
+            drop(extensions);
+            return Err(WorldError::NoSuchMember);
+        };
+        let bytes = seat.member.propose_extensions(extensions)?;
         self.messages.push_reserved(Bytes::from_vec(bytes));
         Ok(message)
     }

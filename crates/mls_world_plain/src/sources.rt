@@ -13,12 +13,12 @@ ghost use Rattle.mls_world_plain.specs.Faults.{number_of};
 ghost use Rattle.mls_world_plain.specs.CallAnswers.{AnswersBy, AnswersOutrightBy};
 ghost use Rattle.mls_world_plain.specs.EarlyChecks.{first_checks, RefusesEarly};
 ghost use Rattle.mls_member.specs.Process.{IsShortView};
-ghost use Rattle.mls_world_plain.specs.Sources.{read_package, read_reference, AnswersBytesOf, AnswersItems, AnswersReference};
+ghost use Rattle.mls_world_plain.specs.Sources.{read_package, read_reference, allowed_list, AnswersBytesOf, AnswersItems, AnswersReference};
 
 use crate::error::WorldError;
 use crate::world::PlainWorld;
 use mls_kdf::Secret;
-use mls_leaf::{Bytes, KeyPackage, Proposal};
+use mls_leaf::{Bytes, Extension, GroupExtensions, KeyPackage, LeafError, Proposal};
 use mls_model::{Item, Source, WorldItem};
 use mls_suite::Suite;
 use mls_view::{ContentView, MessageView, PublicMessageView};
@@ -73,6 +73,21 @@ fn read_reference(bytes: &[u8]) -> Result<Secret, WorldError>
     }
 }
 
+/// Copies extensions that a group may carry: `ExtensionNotAllowed` (14), before anything is copied (RFC 9420, 8.1).
+pub(crate) fn copy_extensions(
+    alloc: Global,
+    entries: &[Extension],
+) -> Result<GroupExtensions, WorldError>
+    ensures answer { AnswersBy (allowed_list entries.now) result }
+    ensures outright { RefusesEarly (allowed_list entries.now) result }
+{
+    if !GroupExtensions::is_allowed(entries) {
+        return Err(WorldError::Leaf(LeafError::ExtensionNotAllowed));
+    }
+    let copy = Vec::from_clones(alloc, entries)?;
+    Ok(GroupExtensions::new(copy)?)
+}
+
 /// The proposal that a commit lists for a leaf's removal.
 fn removal(leaf: u32) -> Item
     ensures same { result ≡ item.Full (proposes.Remove leaf) }
@@ -100,7 +115,8 @@ impl<S: Suite> PlainWorld<S> {
         read_package(self.alloc, bytes)
     }
 
-    /// Makes the proposal that a commit lists: `NoSuchMessage` (94), decoding, `WrongMessageKind` (95).
+    /// Makes the proposal that a commit lists: `NoSuchMessage` (94), decoding, `WrongMessageKind` (95), and of extensions
+    /// `ExtensionNotAllowed` (14).
     fn item_of(&self, item: &WorldItem) -> Result<Item, WorldError>
         ensures answer { Answers listed_of number_of (model.item_of self.now item.now) result }
         ensures outright { RefusesEarly (model.item_of self.now item.now) result }
@@ -127,6 +143,13 @@ impl<S: Suite> PlainWorld<S> {
                 Ok(Item::Full(Proposal::Add(offered)))
             }
             WorldItem::Remove(leaf) => Ok(removal(*leaf)),
+            WorldItem::Extensions(entries) => {
+                let extensions = match copy_extensions(self.alloc, entries) {
+                    Ok(extensions) => extensions,
+                    Err(error) => return Err(error),
+                };
+                Ok(Item::Full(Proposal::GroupContextExtensions(extensions)))
+            }
         }
     }
 

@@ -1,6 +1,6 @@
 use Rattle.std.proofs.Common.{ap, ap₂, ◌∙◌, ◌≡◌, codes}
 use Rattle.clap.specs.Words.{App, app_of, new_app, with_subcommand}
-use Rattle.mls_cli.specs.Arguments.{check_app, needing_subcommand, file_app}
+use Rattle.mls_cli.specs.Arguments.{check_app, needing_subcommand, file_app, replay_app}
 use Rattle.mls_cli.proofs.arguments.command.Goals as goal
 
 pub returns : goal.returns
@@ -11,10 +11,10 @@ returns c =
     let two : app_of c.in_ok-second.second ≡ with_subcommand (with_subcommand (new_app (codes "mls")) (file_app (codes "show")).top) check_app.top =
     c.in_ok-second.ensures.shape c.in_ok-check.ensures.local
     ∙ ap₂ with_subcommand one (ap (λ (a : App). a.top) c.in_ok-check.ensures.app) in
-    let three : app_of c.in_ok-third.third ≡ with_subcommand (with_subcommand (with_subcommand (new_app (codes "mls")) (file_app (codes "show")).top) check_app.top) (file_app (codes "replay")).top =
+    let three : app_of c.in_ok-third.third ≡ with_subcommand (with_subcommand (with_subcommand (new_app (codes "mls")) (file_app (codes "show")).top) check_app.top) replay_app.top =
     c.in_ok-third.ensures.shape c.in_ok-replay.ensures.local
     ∙ ap₂ with_subcommand two (ap (λ (a : App). a.top) c.in_ok-replay.ensures.app) in
-    let four : app_of c.in_ok-all.all ≡ with_subcommand (with_subcommand (with_subcommand (with_subcommand (new_app (codes "mls")) (file_app (codes "show")).top) check_app.top) (file_app (codes "replay")).top) (file_app (codes "vectors")).top =
+    let four : app_of c.in_ok-all.all ≡ with_subcommand (with_subcommand (with_subcommand (with_subcommand (new_app (codes "mls")) (file_app (codes "show")).top) check_app.top) replay_app.top) (file_app (codes "vectors")).top =
     c.in_ok-all.ensures.shape c.in_ok-vectors.ensures.local
     ∙ ap₂ with_subcommand three (ap (λ (a : App). a.top) c.in_ok-vectors.ensures.app) in
     c.describe.ensures ∙ ap needing_subcommand four

@@ -7,7 +7,7 @@ use Rattle.mls_leaf.proofs.TypeMarksLaws.{reads_begin, reads_on, reads_shorter, 
 use Rattle.mls_leaf.proofs.group_extensions.extensions_of.Goals as goal
 
 pub loop-content-init : goal.loop-content-init
-loop-content-init c = reads_begin c.no_marks-marks.result c.args.content c.no_marks-marks.ensures
+loop-content-init c = rw c.new-entries.ensures.items (reads_begin c.no_marks-marks.result c.args.content c.no_marks-marks.ensures)
 
 pub returns-in_err-kind-clause-read : goal.returns-in_err-kind-clause-read
 returns-in_err-kind-clause-read c =

@@ -2,7 +2,6 @@ use Rattle.std.proofs.Common.{◌≡◌, ℕ, ◌+◌, length, sym, ap, ◌∙�
 use Rattle.std.specs.Prelude.{nat_le}
 use Rattle.mls_wire.specs.Reading.{header}
 use Rattle.mls_leaf.specs.Limits.{input_limit}
-use Rattle.mls_leaf.specs.GroupExtensions.{group_extensions}
 use Rattle.mls_leaf.proofs.ShortLaws.{content_length, spell_length, content_more, content_all, list_length, front_too_long}
 use Rattle.mls_leaf.proofs.group_extensions.is_short.Goals as goal
 

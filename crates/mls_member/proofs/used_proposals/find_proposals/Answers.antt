@@ -1,4 +1,5 @@
-use Rattle.std.proofs.Common.{sym, subst, List, drop, ◌+◌}
+use Rattle.std.proofs.Common.{sym, subst, List, drop, ◌+◌, ◌^◌}
+use Rattle.mls_public_group.proofs.ShortLaws.{extended_below, used_below}
 use Rattle.mls_model.specs.PublicState.{Used}
 use Rattle.mls_member.proofs.Uses.{AreUsed, used_wider, used_step, used_stops, used_end}
 use Rattle.mls_member.proofs.used_proposals.find_proposals.Goals as goal
@@ -13,6 +14,12 @@ loop-listed-preserved c =
 
 pub returns-clause-answer : goal.returns-clause-answer
 returns-clause-answer c = used_end c.args.kept.now c.args.committer c.args.list.now c.loop-listed.listed-index c.loop-listed.used.items c.loop-listed-test.false c.loop-listed.invariant
+
+pub returns-clause-below : goal.returns-clause-below
+returns-clause-below c = used_below (2 ^ 27) c.loop-listed.used.items c.loop-listed.invariant.below
+
+pub returns-clause-extensions : goal.returns-clause-extensions
+returns-clause-extensions c = λ old short. extended_below (2 ^ 27) old c.loop-listed.used.items short c.loop-listed.invariant.below
 
 pub returns-clause-wide : goal.returns-clause-wide
 returns-clause-wide c = used_wider c.loop-listed.used.items c.loop-listed.invariant.below

@@ -1,13 +1,22 @@
-use Rattle.std.proofs.Common.{arith, ◌∙◌, sym}
-use Rattle.mls_tree_array.proofs.Readings.{in_sides}
-use Rattle.mls_tree_array.proofs.MembersAndBlanks.{full_leaf, empty_leaf, full_sides}
+use Rattle.std.proofs.Common.{arith, ◌∙◌, sym, ap}
+use Rattle.std.proofs.lemmas.Nat.{one_shl}
+use Rattle.mls_tree_array.proofs.Blanks.{side_nodes, full_leaf, full_sides, half_blank}
+use Rattle.mls_tree_model.specs.Term.{is_full_width}
+use Rattle.mls_tree_model.specs.Arrays.{term_of}
 use Rattle.mls_tree_array.proofs.members.is_full_width.Goals as goal
 
-pub returns-in-Some : goal.returns-in-Some
-returns-in-Some c = sym (full_leaf _ _ _ c.if-height-eq0.true c.requires.shape c.index-nodes-0.is _ c.in-Some.ensures)
+pub returns-then-height-eq0 : goal.returns-then-height-eq0
+returns-then-height-eq0 c =
+    c.begins_with_leaf.ensures ∙ full_leaf c.args.nodes.now ∙ ap (λ h. is_full_width (term_of h c.args.nodes.now)) (sym c.if-height-eq0.true)
 
-pub returns-in-None : goal.returns-in-None
-returns-in-None c = sym (empty_leaf _ _ _ c.if-height-eq0.true c.requires.shape c.index-nodes-0.is c.in-None.ensures)
+pub returns-then-nodes-middle : goal.returns-then-nodes-middle
+returns-then-nodes-middle c =
+    let power = one_shl c.args.height 64 (omega arith) in
+    let side = side_nodes c.args.height _ (omega arith) power in
+    sym (half_blank c.args.height _ c.args.nodes.now (omega arith) side c.if-nodes-middle.true)
 
 pub returns : goal.returns
-returns c = c.has_leaf.ensures ∙ sym (full_sides _ _ _ _ (in_sides _ _ c.args.nodes.now c.middle_of-middle.ensures (omega arith)))
+returns c =
+    let power = one_shl c.args.height 64 (omega arith) in
+    let side = side_nodes c.args.height _ (omega arith) power in
+    c.has_leaf.ensures ∙ sym (full_sides c.args.height _ c.args.nodes.now (omega arith) side)

@@ -1,4 +1,4 @@
-use Rattle.std.proofs.Common.{◌≡◌, ℕ, ◌^◌, ◌+◌, ◌-◌, ◌++◌, length, replicate, None, ◌∙◌, ap, arith}
+use Rattle.std.proofs.Common.{◌≡◌, ℕ, ◌^◌, ◌+◌, ◌-◌, ◌++◌, length, replicate, None, Ok, ◌∙◌, ap, arith}
 use Rattle.std.proofs.lemmas.Nat.{one_shl, pow_pos}
 use Rattle.mls_treemath.specs.Paths.{nodes_in}
 use Rattle.mls_tree_model.specs.Arrays.{height_for, padded}
@@ -11,9 +11,6 @@ tree_len leaves height power = omega (arith, nodes_in-leaves height, pow_pos hei
 pub returns-clause-ok : goal.returns-clause-ok
 unfolding padded
 returns-clause-ok c =
-    let height = c.height_for-height.result in
-    let same = c.height_for-height.ensures.value ∙ ap (λ xs. height_for (length xs)) c.as_slice.ensures.value in
-    let low = c.height_for-height.ensures.low in
-    let power = one_shl height 64 (omega arith) in
+    let power = one_shl c.args.height 64 (omega arith) in
     c.in_ok-pad.ensures.ok
-    ∙ ap (λ k. c.args.nodes.now.items ++ replicate (k - length c.args.nodes.now.items) None) (tree_len _ height power ∙ ap nodes_in same)
+    ∙ ap (λ k. c.args.nodes.now.items ++ replicate (k - length c.args.nodes.now.items) None) (tree_len _ c.args.height power ∙ ap nodes_in c.requires.holds)

@@ -7,7 +7,7 @@ use Rattle.mls_update_path.proofs.context.provisional_bytes.Goals as goal
 
 pub context_spelling-requires : goal.context_spelling-requires
 context_spelling-requires c =
-    subst IsShortContext (sym (c.in_ok-context.ensures (term c.args.tree.now) c.tree_hash-hash.ensures.value)) (short_provisional c.args.old.now (term c.args.tree.now) c.requires.short c.requires.epoch)
+    subst IsShortContext (sym (c.in_ok-context.ensures (term c.args.tree.now) c.tree_hash-hash.ensures.value)) (short_provisional c.args.old.now c.args.extensions.now (term c.args.tree.now) c.requires.short c.requires.extensions c.requires.epoch)
 
 pub returns-clause-bytes : goal.returns-clause-bytes
 returns-clause-bytes c =

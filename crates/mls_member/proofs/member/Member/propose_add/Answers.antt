@@ -5,7 +5,7 @@ use Rattle.mls_member.proofs.Own.{add_fits}
 use Rattle.mls_member.proofs.member.Member.propose_add.Goals as goal
 
 pub send_and_keep-requires : goal.send_and_keep-requires
-send_and_keep-requires g c = add_fits c.in_ok-clone.field-0 (subst key_package_format.Fits (sym c.in_ok-clone.ensures.cases) c.requires.fits)
+send_and_keep-requires g c = λ _. add_fits c.in_ok-clone.field-0 (subst key_package_format.Fits (sym c.in_ok-clone.ensures.cases) c.requires.fits)
 
 pub returns-clause-good : goal.returns-clause-good
 returns-clause-good g c = λ good.

@@ -1,15 +1,16 @@
 use Rattle.std.proofs.Common.{refl, arith}
 use Rattle.std.proofs.lemmas.Result.{err_from_is_err_and}
 use Rattle.mls_tree.proofs.RefusalLaws.{one_number, not_refused}
+use Rattle.mls_public_group.proofs.ShortProposal.{removal_short}
 use Rattle.mls_member.proofs.Good.{not_gone, checks_at, remove_good}
-use Rattle.mls_member.proofs.Own.{remove_fits, remove_short, no_leaf_at}
+use Rattle.mls_member.proofs.Own.{remove_fits, no_leaf_at}
 use Rattle.mls_member.proofs.member.Member.propose_remove.Goals as goal
 
 pub require_proposal-requires : goal.require_proposal-requires
-require_proposal-requires g c = remove_short c.args.leaf (omega (arith, c.ranges.leaf.fits))
+require_proposal-requires g c = removal_short c.args.leaf (omega (arith, c.ranges.leaf.fits))
 
 pub send_and_keep-requires : goal.send_and_keep-requires
-send_and_keep-requires g c = remove_fits c.args.leaf (omega (arith, c.ranges.leaf.fits))
+send_and_keep-requires g c = λ _. remove_fits c.args.leaf (omega (arith, c.ranges.leaf.fits))
 
 pub returns-clause-good : goal.returns-clause-good
 returns-clause-good g c = λ good.

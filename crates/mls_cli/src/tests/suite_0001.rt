@@ -1,0 +1,133 @@
+//! Checks and replays under suite 0x0001. Trees, hashes, messages and authenticators are those of `tools/outsider`, which
+//! is written from RFC 9420 in Python.
+
+use crate::tests::rows::JOIN;
+use crate::tests::serve_file;
+use std::test::Fail;
+
+/// A tree of one member, whose leaf is that of its KeyPackage.
+const TREE: &str =
+    "40a7010120c5f059e7ec0a74622d2f71a74d40e4c50a434384fbc0eccb3d7c89dfa576595620c2b95b328f34afe182b8d3e80054b9727280b681eeea78f90515fbcee11787ec000101610200010200010000020001010000000000000000ffffffffffffffff004040014dc9c3457505d59687398c8bc0ab426cfac087dc656d23517e91a055c190c2440b4771d9be81064ece0b65c25747b99d6cc758e57130b708e826a555b0160c";
+
+/// The same with another last byte of the signature.
+const FORGED: &str =
+    "40a7010120c5f059e7ec0a74622d2f71a74d40e4c50a434384fbc0eccb3d7c89dfa576595620c2b95b328f34afe182b8d3e80054b9727280b681eeea78f90515fbcee11787ec000101610200010200010000020001010000000000000000ffffffffffffffff004040014dc9c3457505d59687398c8bc0ab426cfac087dc656d23517e91a055c190c2440b4771d9be81064ece0b65c25747b99d6cc758e57130b708e826a555b01600";
+
+/// The same with a key of 33 bytes, rightly signed.
+const LONG_KEY: &str =
+    "40a8010121c5f059e7ec0a74622d2f71a74d40e4c50a434384fbc0eccb3d7c89dfa57659560020c2b95b328f34afe182b8d3e80054b9727280b681eeea78f90515fbcee11787ec000101610200010200010000020001010000000000000000ffffffffffffffff0040407840f2db4769168a2d21b8e786ddcd6d3d8e64c6bc421b076eef03ec2f6c5a8dbd9513146720c6e42a11feeca82b6eb77458ac043c008fd35bb49cca13ca2708";
+
+const GOOD_LINES: &str =
+    "leaves: 1\nmembers: 1\ntree_hash: 01123541e51f8307ac9ece849ae194ccf65ba54be8aae2fa7d6e5910ca0237a9\nunmerged: ok\nparent_hashes: ok\nkeys: ok\nclients: ok\nsignatures: ok\ncapabilities: ok\nkey_forms: ok\n";
+
+const UNCHECKED_LINES: &str =
+    "leaves: 1\nmembers: 1\ntree_hash: 01123541e51f8307ac9ece849ae194ccf65ba54be8aae2fa7d6e5910ca0237a9\nunmerged: ok\nparent_hashes: ok\nkeys: ok\nclients: ok\nsignatures: not checked\ncapabilities: ok\nkey_forms: not checked\n";
+
+const FORGED_LINES: &str =
+    "leaves: 1\nmembers: 1\ntree_hash: 2228503fdc2e2966a250e2e0fe953f315532cc215e4fcf2378bc7fceee2cb526\nunmerged: ok\nparent_hashes: ok\nkeys: ok\nclients: ok\nrefused: 51 LeafSignature\n";
+
+const LONG_KEY_LINES: &str =
+    "leaves: 1\nmembers: 1\ntree_hash: 6e6248d43aef1c9c887b226c60d628ee710d482df64978986d61349eb52926c3\nunmerged: ok\nparent_hashes: ok\nkeys: ok\nclients: ok\nsignatures: ok\ncapabilities: ok\nrefused: 36 BadKey\n";
+
+#[test]
+fn checks_signatures_and_keys(rt: HostRuntime) -> Result<(), Fail> {
+    let alloc = rt.alloc();
+    let checked = ["mls", "check", "FILE", "--suite=0001", "--signatures"];
+    let unchecked = ["mls", "check", "FILE", "--suite=0001"];
+    let table: [(&[&str], &str, u8, &str); 4] = [
+        (checked.as_slice(), TREE, 0, GOOD_LINES),
+        (unchecked.as_slice(), TREE, 0, UNCHECKED_LINES),
+        (checked.as_slice(), FORGED, 1, FORGED_LINES),
+        (checked.as_slice(), LONG_KEY, 1, LONG_KEY_LINES),
+    ];
+    for (words, file, status, text) in table {
+        let (answer, out) = serve_file(alloc, words, file.as_bytes())?;
+        assert_eq!(rt; answer, status);
+        assert!(rt; out.as_slice() == text.as_bytes());
+    }
+    Ok(())
+}
+
+/// A group of one adds another candidate, who joins.
+const GROUP: &str = r#"{"version":1,"suite":"0001","events":[
+  {"op":"candidate","identity":"61","seed":"0101010101010101010101010101010101010101010101010101010101010101"},
+  {"op":"create","candidate":0,"group":"67","seed":"0202020202020202020202020202020202020202020202020202020202020202"},
+  {"op":"candidate","identity":"62","seed":"0303030303030303030303030303030303030303030303030303030303030303"},
+  {"op":"commit","member":0,"items":[{"add":{"message":1}}],"path":true,"seed":"0404040404040404040404040404040404040404040404040404040404040404"},
+  {"op":"deliver","member":0,"bytes":{"message":2},"expect":"advanced to 1"},
+  {"op":"join","candidate":1,"bytes":{"message":3}}
+]}
+"#;
+
+const GROUP_TEXT: &str = r#"0: candidate 0, message 0
+1: member 0
+2: candidate 1, message 1
+3: message 2, welcome 3
+4: advanced to 1
+5: member 1 at epoch 1
+member 0: leaf 0, epoch 1, tree 3ccb4cf415849daeab79c51c6ced57244b71422a7aad78864d7ef42c8b995bf0, authenticator 3cfb3bc258f8ab81c93688084fe1f17bb35f80bdb33f576a16286ab8743de27b
+member 1: leaf 1, epoch 1, tree 3ccb4cf415849daeab79c51c6ced57244b71422a7aad78864d7ef42c8b995bf0, authenticator 3cfb3bc258f8ab81c93688084fe1f17bb35f80bdb33f576a16286ab8743de27b
+"#;
+
+/// The first candidate's KeyPackage.
+const MESSAGE_TEXT: &str =
+    "0001000500010001209efbbd1e1ae11cd20583566e3cfa2665476356246754ed121168daae02960a3920c5f059e7ec0a74622d2f71a74d40e4c50a434384fbc0eccb3d7c89dfa576595620c2b95b328f34afe182b8d3e80054b9727280b681eeea78f90515fbcee11787ec000101610200010200010000020001010000000000000000ffffffffffffffff004040014dc9c3457505d59687398c8bc0ab426cfac087dc656d23517e91a055c190c2440b4771d9be81064ece0b65c25747b99d6cc758e57130b708e826a555b0160c00404091f285bead54d46eb39c868ec76f23407c3fcff795d67d70b30ac5c5c4f0822f2c10c40b6336dacb074bc06e7a49f952efe755cfa42e0635a5e944c043a65400\n";
+
+const BAD_JSON: &str = "refused: 9 BadJson\n";
+
+const OTHER_SUITE: &str =
+    "error: invalid value 'f002' for '--suite <SUITE>'\n  [possible values: f001, 0001]\n\nUsage: mls replay [OPTIONS] <FILE>\n\nFor more information, try '--help'.\n";
+
+const NO_NUMBER: &str =
+    "error: invalid value 'x' for '--message <N>': invalid digit found in string\n\nFor more information, try '--help'.\n";
+
+#[test]
+fn replays_under_both_suites(rt: HostRuntime) -> Result<(), Fail> {
+    let alloc = rt.alloc();
+    let table: [(&[&str], &str, u8, &str); 8] = [
+        (
+            &["mls", "replay", "FILE", "--suite", "0001"],
+            GROUP,
+            0,
+            GROUP_TEXT,
+        ),
+        (&["mls", "replay", "FILE"], GROUP, 1, BAD_JSON),
+        (
+            &["mls", "replay", "FILE", "--suite", "0001"],
+            JOIN,
+            1,
+            BAD_JSON,
+        ),
+        (
+            &["mls", "replay", "FILE", "--suite=0001", "--message", "0"],
+            GROUP,
+            0,
+            MESSAGE_TEXT,
+        ),
+        (
+            &["mls", "replay", "FILE", "--suite=0001", "--message=4"],
+            GROUP,
+            1,
+            "refused: 94 NoSuchMessage\n",
+        ),
+        (
+            &["mls", "replay", "FILE", "--message=0"],
+            GROUP,
+            1,
+            BAD_JSON,
+        ),
+        (
+            &["mls", "replay", "FILE", "--suite=f002"],
+            "",
+            2,
+            OTHER_SUITE,
+        ),
+        (&["mls", "replay", "FILE", "--message=x"], "", 2, NO_NUMBER),
+    ];
+    for (words, file, status, text) in table {
+        let (answer, out) = serve_file(alloc, words, file.as_bytes())?;
+        assert_eq!(rt; answer, status);
+        assert!(rt; out.as_slice() == text.as_bytes());
+    }
+    Ok(())
+}

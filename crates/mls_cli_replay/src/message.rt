@@ -1,0 +1,95 @@
+//! One message of a world, printed in hex digits.
+
+ghost use Rattle.std.specs.Prelude.{◌≡◌, ◌≢◌, ◌≤◌, IfOk, IfErr, OnOk, option_copied};
+ghost use Rattle.mls_model.specs.Run.{run};
+ghost use Rattle.mls_cli_text.specs.InputOutput.{write_failed};
+ghost use Rattle.mls_cli_text.specs.Page.{page_of};
+ghost use Rattle.mls_cli_replay.specs.DigitsLaws.{digits_nonempty};
+ghost use Rattle.mls_cli_replay.specs.Message.{PrintsFound, digits_text, page_on};
+ghost use Rattle.mls_cli_replay.specs.Replay.{events_of};
+
+use crate::events::play_events;
+use mls_cli_recording::Recorded;
+use mls_cli_text::{Ending, Fault, Output, Page, Printed, print_made_page, refused_page};
+use mls_suite::Suite;
+use mls_world::World;
+use std::alloc::{AllocError, Global};
+
+/// A message, which is printed in lower-case hex digits.
+#[derive(Clone, Copy, Debug)]
+pub struct Digits<'a> {
+    message: &'a [u8],
+}
+
+impl Printed for Digits<'_> {
+    ghost text = { λ d. digits_text d.message.now };
+
+    ghost nonempty = { digits_nonempty };
+
+    fn text_bytes(&self, alloc: Global) -> Result<Vec<u8>, AllocError> {
+        let mut text = hex::encode(alloc, self.message)?.into_bytes();
+        text.push(b'\n')?;
+        Ok(text)
+    }
+}
+
+/// What takes each text and keeps none.
+#[derive(Drop)]
+struct Nowhere;
+
+impl Output for Nowhere {
+    ghost contents = { λ _. None };
+
+    ghost failed = { λ _. false };
+
+    fn put(&mut self, _bytes: &[u8]) -> Result<(), Fault> {
+        Ok(())
+    }
+}
+
+/// Runs the events and prints nothing.
+fn run_events<S: Suite>(
+    alloc: Global,
+    world: &mut World<S>,
+    recorded: &[Recorded],
+) -> Result<(), Fault>
+    ensures world { OnOk result (world.new ≡ run S.crypto world.old (events_of recorded.now)) }
+    ensures fault { IfErr result (λ e. e ≡ Fault.OutOfMemory) }
+{
+    match play_events(alloc, world, recorded, &mut Nowhere) {
+        Ok(_) => Ok(()),
+        // Want of memory: `Nowhere` takes all that is put.
+        Err(_) => Err(Fault::OutOfMemory),
+    }
+}
+
+/// The page of a message, or of the refusal where there is none (`NoSuchMessage` (94)).
+fn message_page(alloc: Global, found: Option<&[u8]>) -> Result<Page<Digits<'_>>, AllocError>
+    ensures { IfOk result (λ page. page_of (λ d. d.message.now) page ≡ page_on (option_copied found.entry)) }
+{
+    match found {
+        Some(message) => Ok(Page {
+            lines: vec![in alloc; Digits { message }]?,
+            ending: Ending::Good,
+        }),
+        None => Ok(refused_page(alloc, 94)),
+    }
+}
+
+/// Runs the events in a new world, and prints the message of this number, or that there is none (`NoSuchMessage`
+/// (94)). It answers the exit status.
+pub fn print_message<S: Suite, O: Output>(
+    alloc: Global,
+    recorded: &[Recorded],
+    number: usize,
+    out: &mut O,
+) -> Result<u8, Fault>
+    ensures prints { PrintsFound O.contents out.old out.new S.crypto number recorded.now result }
+    ensures status { IfOk result (λ status. status ≤ 1) }
+    ensures fault { O.failed out.new ≡ write_failed (O.failed out.old) result }
+    ensures written { IfErr result (λ e. e ≢ Fault.Read) }
+{
+    let mut world = World::<S>::new(alloc);
+    run_events(alloc, &mut world, recorded)?;
+    print_made_page(alloc, message_page(alloc, world.message(number)), out)
+}
