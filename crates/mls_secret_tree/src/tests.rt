@@ -162,7 +162,10 @@ fn keys_by_hand(rt: HostRuntime) -> Result<(), Fail> {
         let made = take(rt.alloc(), &mut tree, row.leaf, row.generation)?;
         assert_eq!(rt; made.key, row.key);
         assert_eq!(rt; made.nonce, row.nonce);
-        assert_eq!(rt; tree.next_generation(row.leaf), Some(row.generation + 1));
+        assert_eq!(rt;
+            tree.next_generation(row.leaf),
+            Some(row.generation.saturating_add(1))
+        );
     }
     Ok(())
 }
