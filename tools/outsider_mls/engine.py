@@ -9,7 +9,7 @@ import subprocess
 
 from .crypto import derive_secret, proposal_ref
 from .group import Outsider
-from .wire import Add, ByReference, PublicMessage, Refused, read_message, write_message
+from .wire import Add, ByReference, GroupContextExtensions, PublicMessage, Refused, read_message, write_message
 
 REPLY = re.compile(r"(\d+): (.*)")
 PRESENT = re.compile(r"member (\d+): leaf (\d+), epoch (\d+), tree (\S+), authenticator (\S+)")
@@ -24,6 +24,11 @@ class Differs(Exception):
 def require(holds, what):
     if not holds:
         raise Differs(what)
+
+
+def listed(extensions):
+    """Extensions as a recording has them."""
+    return [{"type": it.kind, "data": it.content.hex()} for it in extensions]
 
 
 class World:
@@ -137,6 +142,8 @@ class EngineMember(Outsider):
             return own
         if isinstance(proposal, Add):
             return self.proposed(own, "propose_add", key_package=write_message(proposal.key_package))
+        if isinstance(proposal, GroupContextExtensions):
+            return self.proposed(own, "propose_extensions", extensions=listed(proposal.extensions))
         return self.proposed(own, "propose_remove", leaf=proposal.removed)
 
     def propose_update(self, seed):
@@ -148,6 +155,8 @@ class EngineMember(Outsider):
             return {"ref": self.references[item.reference].hex()}
         if isinstance(item.proposal, Add):
             return {"add": write_message(item.proposal.key_package).hex()}
+        if isinstance(item.proposal, GroupContextExtensions):
+            return {"extensions": listed(item.proposal.extensions)}
         return {"remove": item.proposal.removed}
 
     def commit(self, items, path, seed, authenticated_data=b""):

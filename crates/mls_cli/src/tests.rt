@@ -2,10 +2,12 @@
 
 mod check;
 mod ends;
+mod extensions;
 mod replay;
 mod rows;
 mod suite_0001;
 mod vectors;
+mod version_2;
 
 ghost use Rattle.std.specs.Prelude.{Some};
 

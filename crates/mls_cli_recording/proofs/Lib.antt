@@ -1,2 +1,3 @@
 mod SameCalls
 mod SameSources
+mod TextSteps

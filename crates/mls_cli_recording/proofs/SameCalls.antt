@@ -2,19 +2,20 @@
 use Rattle.std.proofs.Common.{◌≡◌, ℕ, Bool, List, [], ◌∷◌, Result, Ok, Err, map, refl, ap, sym, subst}
 use Rattle.mls_wire.specs.Reading.{◌>>=◌}
 use Rattle.mls_suite.specs.Crypto.{Crypto}
+use Rattle.mls_leaf.specs.declared.extension.Extension.{Extension}
 use Rattle.mls_model.specs.declared.event.Source.{Source}
 use Rattle.mls_model.specs.declared.event.WorldItem.{WorldItem}
 use Rattle.mls_model.specs.declared.event.Event.{Event}
 use Rattle.mls_model.specs.declared.event.Event.TheVariants as event
 use Rattle.mls_model.specs.declared.event.Reply.{Reply}
-use Rattle.mls_model.specs.WorldCalls.{candidate_answer, create_answer, propose_add_answer, propose_update_answer, propose_remove_answer, commit_answer, drop_answer, deliver_answer, join_answer}
+use Rattle.mls_model.specs.WorldCalls.{candidate_answer, create_answer, propose_add_answer, propose_update_answer, propose_remove_answer, propose_extensions_answer, commit_answer, drop_answer, deliver_answer, join_answer}
 use Rattle.mls_model.specs.Join.{join_verdict}
 use Rattle.mls_model.specs.World.{World, entrant_at, bytes_of}
 use Rattle.mls_model.specs.Run.{answer, step, run, replies}
-use Rattle.mls_cli_recording.specs.Calls.{Call, source_view, item_view, call_view}
+use Rattle.mls_cli_recording.specs.Calls.{Call, source_view, extension_view, item_view, call_view}
 use Rattle.mls_cli_recording.specs.Calls as call
 use Rattle.mls_cli_recording.specs.CallLaws.{SameRun, SameReplies}
-use Rattle.mls_cli_recording.proofs.SameSources.{same_bytes, same_package, same_items, same_made}
+use Rattle.mls_cli_recording.proofs.SameSources.{same_bytes, same_extensions, same_package, same_items, same_made}
 
 -- ---- the calls that have sources
 
@@ -50,6 +51,7 @@ IsAnswer c w r (call.create n group seed) = r ≡ create_answer c w n group seed
 IsAnswer c w r (call.propose_add k s) = (x : Source) → source_view x ≡ s → r ≡ propose_add_answer c w k x
 IsAnswer c w r (call.propose_update k seed) = r ≡ propose_update_answer c w k seed
 IsAnswer c w r (call.propose_remove k leaf) = r ≡ propose_remove_answer c w k leaf
+IsAnswer c w r (call.propose_extensions k list) = (xs : List Extension) → map extension_view xs ≡ list → r ≡ propose_extensions_answer c w k xs
 IsAnswer c w r (call.commit k items path seed) = (xs : List WorldItem) → map item_view xs ≡ items → r ≡ commit_answer c w k xs path seed
 IsAnswer c w r (call.drop_pending k) = r ≡ drop_answer w k
 IsAnswer c w r (call.deliver k s) = (x : Source) → source_view x ≡ s → r ≡ deliver_answer c w k x
@@ -62,6 +64,7 @@ is_answer c w (event.Create n group seed) = refl
 is_answer c w (event.ProposeAdd k s) = λ x p. same_add c w k s x (sym p)
 is_answer c w (event.ProposeUpdate k seed) = refl
 is_answer c w (event.ProposeRemove k leaf) = refl
+is_answer c w (event.ProposeExtensions k list) = λ xs p. ap (propose_extensions_answer c w k) (same_extensions list.items xs (sym p))
 is_answer c w (event.Commit k items path seed) = λ xs p. same_commit c w k items.items xs path seed (sym p)
 is_answer c w (event.DropPending k) = refl
 is_answer c w (event.Deliver k s) = λ x p. same_delivery c w k s x (sym p)
@@ -74,6 +77,7 @@ of_call c w r (event.Create n group seed) h = h
 of_call c w r (event.ProposeAdd k s) h = h s refl
 of_call c w r (event.ProposeUpdate k seed) h = h
 of_call c w r (event.ProposeRemove k leaf) h = h
+of_call c w r (event.ProposeExtensions k list) h = h list.items refl
 of_call c w r (event.Commit k items path seed) h = h items.items refl
 of_call c w r (event.DropPending k) h = h
 of_call c w r (event.Deliver k s) h = h s refl

@@ -1,7 +1,9 @@
 -- What a world makes of a source follows from its bytes or its number.
 use Rattle.std.proofs.Common.{◌≡◌, ◌∙◌, ◌==◌, ℕ, Bool, List, [], ◌∷◌, Option, Some, None, Result, Ok, map, find, slice_get, refl, ap, sym, subst}
 use Rattle.std.specs.Str.{bytes_eq}
+use Rattle.std.specs.Global.{Vec}
 use Rattle.mls_wire.specs.Checks as checks
+use Rattle.mls_leaf.specs.declared.extension.Extension.{Extension}
 use Rattle.mls_types.specs.declared.commit.ProposalOrRef.{ProposalOrRef}
 use Rattle.mls_model.specs.declared.event.Source.{Source}
 use Rattle.mls_model.specs.declared.event.Source.TheVariants as source
@@ -10,7 +12,7 @@ use Rattle.mls_model.specs.declared.event.WorldItem.TheVariants as item
 use Rattle.mls_model.specs.Candidate.{Candidate}
 use Rattle.mls_model.specs.Journal.{CommitMade}
 use Rattle.mls_model.specs.World.{World, bytes_of, package_of, proposal_of, item_of, items_of, is_source, has_source, commit_for_joiner}
-use Rattle.mls_cli_recording.specs.Calls.{MessageSource, CommitItem, source_view, item_view}
+use Rattle.mls_cli_recording.specs.Calls.{MessageSource, CommitItem, source_view, extension_view, item_view}
 use Rattle.mls_cli_recording.specs.Calls as call
 
 -- ---- bytes
@@ -34,6 +36,18 @@ same_proposal : (w : World) (s t : Source) → source_view s ≡ source_view t �
 unfolding proposal_of
 same_proposal w s t e = rw (same_bytes w s t e) refl
 
+-- ---- extensions
+
+abbrev extension_of : ℕ × List ℕ → Extension
+extension_of e = record { kind = e.0; content = e.1 }
+
+given_back : (xs : List Extension) → map extension_of (map extension_view xs) ≡ xs
+given_back [] = refl
+given_back (x ∷ xs) = ap (λ (ys : List Extension). x ∷ ys) (given_back xs)
+
+pub same_extensions : (xs ys : List Extension) → map extension_view xs ≡ map extension_view ys → xs ≡ ys
+same_extensions xs ys e = sym (given_back xs) ∙ ap (map extension_of) e ∙ given_back ys
+
 -- ---- items
 
 -- it is what each item of that view stands for
@@ -41,16 +55,19 @@ abbrev IsItem : World → Result ProposalOrRef ℕ → CommitItem → Type 0
 IsItem w r (call.ref s) = (x : Source) → source_view x ≡ s → r ≡ item_of w (item.RefOf x)
 IsItem w r (call.add s) = (x : Source) → source_view x ≡ s → r ≡ item_of w (item.Add x)
 IsItem w r (call.remove leaf) = r ≡ item_of w (item.Remove leaf)
+IsItem w r (call.extensions list) = (xs : Vec Extension) → map extension_view xs.items ≡ list → r ≡ item_of w (item.Extensions xs)
 
 is_item : (w : World) (x : WorldItem) → IsItem w (item_of w x) (item_view x)
 is_item w (item.RefOf s) = λ t e. rw (same_proposal w t s e) refl
 is_item w (item.Add s) = λ t e. rw (same_package w t s e) refl
 is_item w (item.Remove leaf) = refl
+is_item w (item.Extensions list) = λ xs e. rw (same_extensions xs.items list.items e) refl
 
 of_item : (w : World) (r : Result ProposalOrRef ℕ) (x : WorldItem) → IsItem w r (item_view x) → r ≡ item_of w x
 of_item w r (item.RefOf s) h = h s refl
 of_item w r (item.Add s) h = h s refl
 of_item w r (item.Remove leaf) h = h
+of_item w r (item.Extensions list) h = h list refl
 
 same_item : (w : World) (x y : WorldItem) → item_view x ≡ item_view y → item_of w x ≡ item_of w y
 same_item w x y e = let P : CommitItem → Type 0 = IsItem w (item_of w x) in of_item w (item_of w x) y (subst P e (is_item w x))

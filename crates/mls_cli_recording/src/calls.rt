@@ -6,8 +6,9 @@ ghost use Rattle.serde_json.specs.View.{view};
 ghost use Rattle.mls_cli_json.specs.Faults.{Finds};
 ghost use Rattle.mls_cli_json.specs.declared.error.JsonError.TheVariants.{BadJson};
 ghost use Rattle.mls_cli_recording.specs.Calls.{call_view};
-ghost use Rattle.mls_cli_recording.specs.Recording.{candidate_in, create_in, propose_add_in, propose_update_in, propose_remove_in, commit_in, drop_pending_in, deliver_in, join_in, call_by};
+ghost use Rattle.mls_cli_recording.specs.Recording.{candidate_in, create_in, propose_add_in, propose_update_in, propose_remove_in, propose_extensions_in, commit_in, drop_pending_in, deliver_in, join_in, call_by};
 
+use crate::extensions::extensions_at;
 use crate::lookup::{has_keys, index_at};
 use crate::sources::{commit_items_at, source_at};
 use mls_cli_json::{JsonError, bool_at, hex_at, seed_at, u32_at};
@@ -102,6 +103,21 @@ fn propose_remove_in(value: &Value) -> Result<Option<Event>, JsonError>
     }
 }
 
+fn propose_extensions_in(alloc: Global, value: &Value) -> Result<Option<Event>, JsonError>
+    ensures { Finds (option_map call_view) result (propose_extensions_in (view value.now)) }
+{
+    if !has_keys(value, 3) {
+        return Err(JsonError::BadJson);
+    }
+    let Some(member) = index_at(value, "member") else {
+        return Err(JsonError::BadJson);
+    };
+    match extensions_at(alloc, value, "extensions")? {
+        Some(extensions) => Ok(Some(Event::ProposeExtensions { member, extensions })),
+        None => Ok(None),
+    }
+}
+
 fn commit_in(alloc: Global, value: &Value) -> Result<Option<Event>, JsonError>
     ensures { Finds (option_map call_view) result (commit_in (view value.now)) }
 {
@@ -181,6 +197,7 @@ pub fn call_by(alloc: Global, op: &str, value: &Value) -> Result<Option<Event>, 
         "propose_add" => propose_add_in(alloc, value),
         "propose_update" => propose_update_in(value),
         "propose_remove" => propose_remove_in(value),
+        "propose_extensions" => propose_extensions_in(alloc, value),
         "commit" => commit_in(alloc, value),
         "drop_pending" => drop_pending_in(value),
         "deliver" => deliver_in(alloc, value),

@@ -1,8 +1,11 @@
 //! Recordings of groups, as they are read from JSON: the calls on a world, in order, each with the text that its reply
-//! should have, if one is recorded. The format is this project's own.
+//! should have, if one is recorded, and the lines that members should have in the end, if they are. The format is this
+//! project's own.
 #![tactic(auto)]
 
+mod actions;
 mod calls;
+mod extensions;
 mod lookup;
 mod reading;
 mod sources;
@@ -11,7 +14,8 @@ mod tests;
 
 ghost use Rattle.mls_cli_recording.specs.CallLaws.{SameReplies, SameRun};
 
-pub use reading::{Recorded, recording};
+pub use actions::Action;
+pub use reading::{Recorded, RecordedRun, recording};
 
 /// Events that stand for the same calls leave the same world and have the same replies, so what a recording does
 /// follows from its text. The function does nothing.

@@ -6,8 +6,9 @@ ghost use Rattle.mls_cli_json.specs.Faults.{Finds};
 ghost use Rattle.mls_cli_json.specs.declared.error.JsonError.TheVariants.{BadJson};
 ghost use Rattle.mls_cli_json.specs.Lists.{each_of};
 ghost use Rattle.mls_cli_recording.specs.Calls.{item_view, item_views, source_view};
-ghost use Rattle.mls_cli_recording.specs.Recording.{addition_in, commit_items_at, given_in, item_in, reference_in, removal_in, source_at, source_in};
+ghost use Rattle.mls_cli_recording.specs.Recording.{addition_in, commit_items_at, given_in, extensions_in, item_in, reference_in, removal_in, source_at, source_in};
 
+use crate::extensions::extensions_at;
 use crate::lookup::index_at;
 use mls_cli_json::{JsonError, bytes_of_hex, has_members, items_at, push_found, u32_at};
 use mls_model::{Source, WorldItem};
@@ -78,6 +79,15 @@ fn addition_in(alloc: Global, value: &Value) -> Result<Option<WorldItem>, JsonEr
     }
 }
 
+fn extensions_in(alloc: Global, value: &Value) -> Result<Option<WorldItem>, JsonError>
+    ensures { Finds (option_map item_view) result (extensions_in (view value.now)) }
+{
+    match extensions_at(alloc, value, "extensions")? {
+        Some(list) => Ok(Some(WorldItem::Extensions(list))),
+        None => Ok(None),
+    }
+}
+
 /// Reads one item of a commit, an object of one member.
 fn item_in(alloc: Global, value: &Value) -> Result<Option<WorldItem>, JsonError>
     ensures { Finds (option_map item_view) result (item_in (view value.now)) }
@@ -88,9 +98,13 @@ fn item_in(alloc: Global, value: &Value) -> Result<Option<WorldItem>, JsonError>
     if let Some(member) = value.get("ref") {
         return reference_in(alloc, member);
     }
-    match value.get("add") {
-        Some(member) => addition_in(alloc, member),
-        None => removal_in(value),
+    if let Some(member) = value.get("add") {
+        return addition_in(alloc, member);
+    }
+    if value.get("extensions").is_some() {
+        extensions_in(alloc, value)
+    } else {
+        removal_in(value)
     }
 }
 

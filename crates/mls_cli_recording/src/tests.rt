@@ -2,6 +2,7 @@
 
 use super::*;
 use mls_cli_json::JsonError;
+use mls_leaf::Extension;
 use mls_model::Event;
 use std::alloc::{AllocError, Global};
 use std::test::Fail;
@@ -9,6 +10,17 @@ use std::test::Fail;
 const BAD_JSON: &str = "9";
 
 const NOT_HEX: &str = "8";
+
+/// Extensions by their types and data.
+fn list_text(alloc: Global, list: &[Extension]) -> Result<String, AllocError> {
+    let mut text = String::new(alloc);
+    for extension in list {
+        let kind = extension.kind;
+        let data = extension.content.as_slice();
+        text.push_str(format!(in alloc; " {kind} {data:?}")?.as_str())?;
+    }
+    Ok(text)
+}
 
 /// An event as a line: its numbers, its bytes, and its seed by the first and the last byte.
 fn event_line(alloc: Global, event: &Event) -> Result<String, AllocError> {
@@ -31,6 +43,10 @@ fn event_line(alloc: Global, event: &Event) -> Result<String, AllocError> {
         Event::ProposeRemove { member, leaf } => {
             format!(in alloc; "propose_remove {member} {leaf}")
         }
+        Event::ProposeExtensions { member, extensions } => {
+            let list = list_text(alloc, extensions.as_slice())?;
+            format!(in alloc; "propose_extensions {member}{list}")
+        }
         Event::Commit {
             member,
             items,
@@ -43,16 +59,31 @@ fn event_line(alloc: Global, event: &Event) -> Result<String, AllocError> {
     }
 }
 
-/// The lines of events, each with the text that is expected, if any.
-fn lines(alloc: Global, list: &[Recorded]) -> Result<String, AllocError> {
+/// An action as a line.
+fn action_line(alloc: Global, action: &Action) -> Result<String, AllocError> {
+    match action {
+        Action::Event(event) => event_line(alloc, event),
+        Action::DeliverAll(bytes) => format!(in alloc; "deliver_all {bytes:?}"),
+    }
+}
+
+/// The lines of actions, each with the text that is expected, if any, and of what is expected in the end.
+fn lines(alloc: Global, parts: &RecordedRun) -> Result<String, AllocError> {
     let mut text = String::new(alloc);
-    for recorded in list {
-        text.push_str(event_line(alloc, &recorded.event)?.as_str())?;
+    for recorded in &parts.actions {
+        text.push_str(action_line(alloc, &recorded.action)?.as_str())?;
         if let Some(expect) = &recorded.expect {
             text.push_str(" = ")?;
             text.push_str(expect.as_str())?;
         }
         text.push_str("\n")?;
+    }
+    if let Some(lines) = &parts.final_lines {
+        text.push_str("in the end\n")?;
+        for line in lines {
+            text.push_str(line.as_str())?;
+            text.push_str("\n")?;
+        }
     }
     Ok(text)
 }
@@ -60,7 +91,7 @@ fn lines(alloc: Global, list: &[Recorded]) -> Result<String, AllocError> {
 /// The lines of a recording, or the number of its refusal. Want of memory is passed on.
 fn answer(alloc: Global, file: &[u8]) -> Result<String, AllocError> {
     match recording(alloc, 0xF001, file) {
-        Ok(list) => lines(alloc, list.as_slice()),
+        Ok(parts) => lines(alloc, &parts),
         Err(JsonError::OutOfMemory) => Err(AllocError),
         Err(error) => format!(in alloc; "{}", error.number()),
     }
@@ -116,6 +147,14 @@ fn reads_events(rt: HostRuntime) -> Result<(), Fail> {
             "propose_remove 0 4294967295\n",
         ),
         (
+            r#"{"op":"propose_extensions","member":7,"extensions":[]}"#,
+            "propose_extensions 7\n",
+        ),
+        (
+            r#"{"op":"propose_extensions","member":7,"extensions":[{"type":61441,"data":"6869"},{"data":"","type":65535},{"type":0,"data":"fF"}]}"#,
+            "propose_extensions 7 61441 [104, 105] 65535 [] 0 [255]\n",
+        ),
+        (
             r#"{"op":"commit","member":3,"items":[{"ref":{"message":1}},{"ref":""},{"add":"aa"},{"remove":5}],"path":false,"seed":"0102030405060708090a0b0c0d0e0f101112131415161718191a1b1c1d1e1f20"}"#,
             "commit 3 [RefOf(Message(1)), RefOf(Given([])), Add(Given([170])), Remove(5)] false 1-32\n",
         ),
@@ -164,6 +203,38 @@ fn refuses_events(rt: HostRuntime) -> Result<(), Fail> {
             BAD_JSON,
         ),
         (
+            r#"{"op":"propose_extensions","member":0,"extensions":[{"type":65536,"data":""}]}"#,
+            BAD_JSON,
+        ),
+        (
+            r#"{"op":"propose_extensions","member":0,"extensions":[{"type":1.0,"data":""}]}"#,
+            BAD_JSON,
+        ),
+        (
+            r#"{"op":"propose_extensions","member":0,"extensions":[{"type":"f001","data":""}]}"#,
+            BAD_JSON,
+        ),
+        (
+            r#"{"op":"propose_extensions","member":0,"extensions":[{"type":61441}]}"#,
+            BAD_JSON,
+        ),
+        (
+            r#"{"op":"propose_extensions","member":0,"extensions":[{"type":61441,"data":"","name":""}]}"#,
+            BAD_JSON,
+        ),
+        (
+            r#"{"op":"propose_extensions","member":0,"extensions":{"type":61441,"data":""}}"#,
+            BAD_JSON,
+        ),
+        (
+            r#"{"op":"propose_extensions","member":0,"extensions":[{"type":61441,"data":"0"}]}"#,
+            NOT_HEX,
+        ),
+        (
+            r#"{"op":"propose_extensions","member":0,"extensions":[{"type":61441,"data":"0"},{"type":65536,"data":""}]}"#,
+            BAD_JSON,
+        ),
+        (
             r#"{"op":"propose_update","member":0,"seed":"01"}"#,
             BAD_JSON,
         ),
@@ -177,6 +248,14 @@ fn refuses_events(rt: HostRuntime) -> Result<(), Fail> {
         ),
         (
             r#"{"op":"commit","member":0,"items":[{"remove":1,"add":""}],"path":true,"seed":"0101010101010101010101010101010101010101010101010101010101010101"}"#,
+            BAD_JSON,
+        ),
+        (
+            r#"{"op":"commit","member":0,"items":[{"extensions":[{"type":61441,"data":"0"}]}],"path":true,"seed":"0101010101010101010101010101010101010101010101010101010101010101"}"#,
+            NOT_HEX,
+        ),
+        (
+            r#"{"op":"commit","member":0,"items":[{"extensions":[],"remove":1}],"path":true,"seed":"0101010101010101010101010101010101010101010101010101010101010101"}"#,
             BAD_JSON,
         ),
         (
@@ -217,7 +296,12 @@ fn refuses_files(rt: HostRuntime) -> Result<(), Fail> {
         ("[", BAD_JSON),
         ("[]", BAD_JSON),
         (r#"{"version":1,"suite":"f001"}"#, BAD_JSON),
-        (r#"{"version":2,"suite":"f001","events":[]}"#, BAD_JSON),
+        (r#"{"version":0,"suite":"f001","events":[]}"#, BAD_JSON),
+        (r#"{"version":3,"suite":"f001","events":[]}"#, BAD_JSON),
+        (
+            r#"{"version":3,"suite":"f001","events":[],"final":[]}"#,
+            BAD_JSON,
+        ),
         (r#"{"version":1.0,"suite":"f001","events":[]}"#, BAD_JSON),
         (r#"{"version":1,"suite":"0001","events":[]}"#, BAD_JSON),
         (r#"{"version":1,"suite":"F001","events":[]}"#, BAD_JSON),
@@ -228,7 +312,11 @@ fn refuses_files(rt: HostRuntime) -> Result<(), Fail> {
             BAD_JSON,
         ),
         (
-            r#"{"version":2,"suite":"f001","events":[{"op":"deliver","member":0,"bytes":"0"}]}"#,
+            r#"{"version":3,"suite":"f001","events":[{"op":"deliver","member":0,"bytes":"0"}]}"#,
+            BAD_JSON,
+        ),
+        (
+            r#"{"version":1,"suite":"f001","events":[{"op":"deliver_all","bytes":"00"}]}"#,
             BAD_JSON,
         ),
         (
@@ -245,5 +333,67 @@ fn refuses_files(rt: HostRuntime) -> Result<(), Fail> {
         b"{\"version\":1,\"suite\":\"f001\",\"events\":[],\"\xff\":1}",
     )?;
     assert_eq!(rt; text.as_str(), BAD_JSON);
+    Ok(())
+}
+
+#[test]
+fn reads_version_2(rt: HostRuntime) -> Result<(), Fail> {
+    let alloc = rt.alloc();
+    let table = [
+        (r#"{"version":2,"suite":"f001","events":[]}"#, ""),
+        (
+            r#"{"version":2,"suite":"f001","events":[{"op":"drop_pending","member":7}]}"#,
+            "drop_pending 7\n",
+        ),
+        (
+            r#"{"version":2,"suite":"f001","events":[{"op":"deliver_all","bytes":"00fF"},{"op":"deliver_all","bytes":{"message":7},"expect":"x"}]}"#,
+            "deliver_all Given([0, 255])\ndeliver_all Message(7) = x\n",
+        ),
+        (
+            r#"{"final":[],"events":[],"suite":"f001","version":2}"#,
+            "in the end\n",
+        ),
+        (
+            r#"{"version":2,"suite":"f001","events":[],"final":["member 0: gone",""]}"#,
+            "in the end\nmember 0: gone\n\n",
+        ),
+        (
+            r#"{"version":2,"suite":"f001","events":[],"final":null}"#,
+            BAD_JSON,
+        ),
+        (
+            r#"{"version":2,"suite":"f001","events":[],"final":"member 0: gone"}"#,
+            BAD_JSON,
+        ),
+        (
+            r#"{"version":2,"suite":"f001","events":[],"final":["member 0: gone",0]}"#,
+            BAD_JSON,
+        ),
+        (
+            r#"{"version":2,"suite":"f001","events":[],"last":[]}"#,
+            BAD_JSON,
+        ),
+        (r#"{"version":2,"suite":"f001","final":[]}"#, BAD_JSON),
+        (
+            r#"{"version":2,"suite":"f001","events":[{"op":"deliver_all","bytes":"0"}],"final":[]}"#,
+            NOT_HEX,
+        ),
+        (
+            r#"{"version":2,"suite":"f001","events":[{"op":"deliver_all","bytes":"0"}],"final":[0]}"#,
+            BAD_JSON,
+        ),
+        (
+            r#"{"version":2,"suite":"f001","events":[{"op":"deliver_all","bytes":"00","member":0}]}"#,
+            BAD_JSON,
+        ),
+        (
+            r#"{"version":2,"suite":"f001","events":[{"op":"deliver_all"}]}"#,
+            BAD_JSON,
+        ),
+    ];
+    for (file, wanted) in table {
+        let text = answer(alloc, file.as_bytes())?;
+        assert_eq!(rt; text.as_str(), wanted, "for {file}");
+    }
     Ok(())
 }

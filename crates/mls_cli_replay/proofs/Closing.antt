@@ -1,59 +1,67 @@
--- The whole of a replay: what is said of events, and then of members.
-use Rattle.std.proofs.Common.{◌≡◌, ◌≢◌, inl, inr, map, arith, ◌∙◌, ◌++◌, [], ℕ, Bool, true, false, List, Option, Result, Ok, Err, refl, ap, sym, subst, append-nil}
+-- The whole of a replay: what is said of actions, and then in the end.
+use Rattle.std.proofs.Common.{◌≡◌, ◌≢◌, inl, inr, arith, ◌∙◌, ◌++◌, ◌&&◌, [], ℕ, Bool, true, false, List, Option, Result, Ok, Err, refl, ap, sym, subst, append-nil}
 use Rattle.std.proofs.lemmas.Grind.{flat_map-append}
 use Rattle.std.proofs.KnownBytes.{Appends-trans}
 use Rattle.std.specs.List.{flat_map}
 use Rattle.std.specs.Io.KnownBytes.{Appends}
 use Rattle.mls_suite.specs.Crypto.{Crypto}
 use Rattle.mls_model.specs.World.{World, empty_world}
-use Rattle.mls_model.specs.Run.{run, replies}
 use Rattle.mls_cli_text.specs.Page.{Printout, ending_status, ending_text, printout, refused}
 use Rattle.mls_cli_json.specs.Faults.{number_of}
 use Rattle.mls_cli_json.specs.declared.error.JsonError.{JsonError}
 use Rattle.mls_cli_json.specs.declared.error.JsonError.TheVariants as error
 use Rattle.mls_cli_text.specs.declared.fault.Fault.{Fault}
-use Rattle.mls_cli_recording.specs.Calls.{recorded_view}
+use Rattle.mls_cli_recording.specs.Calls.{recording_view}
 use Rattle.mls_cli_recording.specs.Recording.{recording}
 use Rattle.mls_cli_recording.specs.declared.reading.Recorded.{Recorded}
-use Rattle.mls_cli_replay.specs.Replay.{IsRefusal, IsReplay, PrintsOne, all_met, ending_by, entry_text, events_of, expectations_of, member_entries, played_entries, played_page, reply_entries}
-use Rattle.mls_cli_replay.proofs.Naming.{named}
+use Rattle.mls_cli_recording.specs.declared.reading.RecordedRun.{RecordedRun}
+use Rattle.mls_cli_replay.specs.Actions.{outcomes, run_all}
+use Rattle.mls_cli_replay.specs.Replay.{IsRefusal, IsReplay, PrintsOne, actions_of, closing_entries, closing_text, ending_by, entry_text, expectations_of, final_entries, is_as_expected, is_silent, outcome_entries, page_of_run, played_entries, played_page}
 use Rattle.mls_cli_replay.proofs.Playing.{meet, said}
 
 no_more_said : (met : Bool) → ending_text (ending_by met) ≡ []
 no_more_said true = refl
 no_more_said false = refl
 
-text_is : (c : Crypto) (rs : List Recorded) → (printout entry_text (played_page c rs)).text ≡ said c empty_world 0 rs ++ named 0 (run c empty_world (events_of rs)).seats
-unfolding played_page played_entries
-text_is c rs =
-    ap (λ (t : List ℕ). flat_map entry_text (reply_entries 0 (replies c empty_world (events_of rs)) (expectations_of rs) ++ member_entries 0 (run c empty_world (events_of rs)).seats) ++ t)
-    (no_more_said (all_met (replies c empty_world (events_of rs)) (expectations_of rs)))
-    ∙ append-nil _
-    ∙ flat_map-append entry_text (reply_entries 0 (replies c empty_world (events_of rs)) (expectations_of rs)) (member_entries 0 (run c empty_world (events_of rs)).seats)
+module _ (c : Crypto) (rs : List Recorded) (lines : Option (List (List ℕ))) where
+  text_is : (printout entry_text (played_page c rs lines)).text ≡ said c empty_world 0 rs ++ closing_text (run_all c empty_world (actions_of rs)).seats lines
+  unfolding played_page played_entries
+  text_is =
+      ap (λ (t : List ℕ). flat_map entry_text (outcome_entries 0 (outcomes c empty_world (actions_of rs)) (expectations_of rs) ++ closing_entries (run_all c empty_world (actions_of rs)).seats lines) ++ t)
+      (no_more_said (is_as_expected c rs lines))
+      ∙ append-nil _
+      ∙ flat_map-append entry_text (outcome_entries 0 (outcomes c empty_world (actions_of rs)) (expectations_of rs)) (closing_entries (run_all c empty_world (actions_of rs)).seats lines)
 
-status_is : (c : Crypto) (rs : List Recorded) → (printout entry_text (played_page c rs)).status ≡ ending_status (ending_by (meet c empty_world rs))
-unfolding played_page
-status_is c rs = refl
+  status_is : (printout entry_text (played_page c rs lines)).status ≡ ending_status (ending_by (is_as_expected c rs lines))
+  unfolding played_page
+  status_is = refl
 
--- from a world that is the empty one, to one that the events leave
-pub text_from : (c : Crypto) (rs : List Recorded) (w v : World) → w ≡ empty_world → v ≡ run c w (events_of rs) → (printout entry_text (played_page c rs)).text ≡ said c w 0 rs ++ named 0 v.seats
-text_from c rs w v begun is =
-    text_is c rs
-    ∙ ap (λ (x : World). said c x 0 rs ++ named 0 (run c x (events_of rs)).seats) (sym begun)
-    ∙ ap (λ (x : World). said c w 0 rs ++ named 0 x.seats) (sym is)
+  -- from a world that is the empty one, to one that the actions leave
+  pub text_from : (w v : World) → w ≡ empty_world → v ≡ run_all c w (actions_of rs) → (printout entry_text (played_page c rs lines)).text ≡ said c w 0 rs ++ closing_text v.seats lines
+  text_from w v begun is =
+      text_is
+      ∙ ap (λ (x : World). said c x 0 rs ++ closing_text (run_all c x (actions_of rs)).seats lines) (sym begun)
+      ∙ ap (λ (x : World). said c w 0 rs ++ closing_text x.seats lines) (sym is)
 
-pub closing : (c : Crypto) (rs : List Recorded) (old new now : Option (List ℕ)) (w v : World) (met : Bool) (status : ℕ) → w ≡ empty_world → v ≡ run c w (events_of rs) → met ≡ meet c w rs
-    → status ≡ ending_status (ending_by met) → Appends old new (said c w 0 rs) → Appends new now (named 0 v.seats)
-    → Appends old now (printout entry_text (played_page c rs)).text × (status ≡ (printout entry_text (played_page c rs)).status)
-closing c rs old new now w v met status begun is meets answers first second = (
-  subst (Appends old now) (sym (text_from c rs w v begun is)) (Appends-trans old new now (said c w 0 rs) (named 0 v.seats) first second),
-  answers ∙ ap (λ b. ending_status (ending_by b)) (meets ∙ ap (λ (x : World). meet c x rs) begun) ∙ sym (status_is c rs),
-)
+  met_from : (w v : World) (met same : Bool) → w ≡ empty_world → v ≡ run_all c w (actions_of rs) → met ≡ meet c w rs → same ≡ is_silent (final_entries v.seats lines) → (met && same) ≡ is_as_expected c rs lines
+  unfolding is_as_expected
+  met_from w v met same begun is meets ends =
+      ap (λ (b : Bool). b && same) (meets ∙ ap (λ (x : World). meet c x rs) begun)
+      ∙ ap (λ (b : Bool). meet c empty_world rs && b)
+      (ends ∙ ap (λ (x : World). is_silent (final_entries x.seats lines)) (is ∙ ap (λ (x : World). run_all c x (actions_of rs)) begun))
+
+  pub closing : (old new now : Option (List ℕ)) (w v : World) (met same : Bool) (status : ℕ) → w ≡ empty_world → v ≡ run_all c w (actions_of rs) → met ≡ meet c w rs
+      → same ≡ is_silent (final_entries v.seats lines) → status ≡ ending_status (ending_by (met && same)) → Appends old new (said c w 0 rs) → Appends new now (closing_text v.seats lines)
+      → Appends old now (printout entry_text (played_page c rs lines)).text × (status ≡ (printout entry_text (played_page c rs lines)).status)
+  closing old new now w v met same status begun is meets ends answers first second = (
+    subst (Appends old now) (sym (text_from w v begun is)) (Appends-trans old new now (said c w 0 rs) (closing_text v.seats lines) first second),
+    answers ∙ ap (λ b. ending_status (ending_by b)) (met_from w v met same begun is meets ends) ∙ sym status_is,
+  )
 
 -- ---- a file's replay
 
-pub is_replay : (c : Crypto) (file : List ℕ) (rs : List Recorded) → recording c.number file ≡ Ok (map recorded_view rs) → IsReplay c file (printout entry_text (played_page c rs))
-is_replay c file rs e = (played_page c rs, rw e (rs, refl, refl), refl)
+pub is_replay : (c : Crypto) (file : List ℕ) (r : RecordedRun) → recording c.number file ≡ Ok (recording_view r) → IsReplay c file (printout entry_text (page_of_run c r))
+is_replay c file r e = (page_of_run c r, rw e (r, refl, refl), refl)
 
 is_refused : (c : Crypto) (file : List ℕ) (n : ℕ) → recording c.number file ≡ Err n → IsReplay c file (printout entry_text (refused n))
 is_refused c file n e = (refused n, rw e refl, refl)

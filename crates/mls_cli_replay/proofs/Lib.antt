@@ -1,8 +1,10 @@
 pub mod PrintLaws
 mod Playing
 mod Naming
-mod Growing
+mod Delivering
+mod Ending
 mod Pages
 mod Closing
 mod Stopping
 mod Messages
+mod FoundMessages

@@ -1,68 +1,66 @@
--- Events, played one by one: what is out, and what is left to play.
+-- Actions, played one by one: what is out, and what is left to play.
 use Rattle.std.proofs.Common.{◌≡◌, ◌∙◌, ◌≤◌, ◌<◌, ◌++◌, ◌∷◌, [], ◌+◌, ◌&&◌, ℕ, suc, Bool, true, false, List, Option, Result, Ok, Err, OnErr, length, drop, drop-cons, get_or, add-one, arith, length-append, refl, ap, sym, subst, append_assoc, append-nil}
 use Rattle.std.proofs.Math.Bool.{and_assoc, and-true}
 use Rattle.std.proofs.lemmas.Grind.{flat_map-append}
 use Rattle.std.proofs.lemmas.List.{drop_all}
 use Rattle.std.proofs.KnownBytes.{Appends-nil, Appends-trans}
 use Rattle.std.specs.Prelude.{codes}
-use Rattle.std.specs.Fmt.{decimal}
 use Rattle.std.specs.List.{flat_map}
 use Rattle.std.specs.Io.KnownBytes.{Appends}
 use Rattle.mls_suite.specs.Crypto.{Crypto}
-use Rattle.mls_model.specs.declared.event.Reply.{Reply}
 use Rattle.mls_model.specs.World.{World}
-use Rattle.mls_model.specs.Run.{step, run, replies}
 use Rattle.mls_cli_text.specs.InputOutput.{AppendsPart}
 use Rattle.mls_cli_text.proofs.Pieces.{part_behind, part_of_front}
 use Rattle.mls_cli_recording.specs.declared.reading.Recorded.{Recorded}
-use Rattle.mls_cli_replay.specs.Reply.{reply_text}
-use Rattle.mls_cli_replay.specs.Replay.{all_met, entry_text, event_entries, events_of, expectation, expectations_of, expected_entries, is_met, replied, reply_entries, unmet_entries}
+use Rattle.mls_cli_replay.specs.Actions.{outcome_in, outcomes, run_all, world_after}
+use Rattle.mls_cli_replay.specs.Replay.{action_entries, actions_of, all_met, entry_text, entry_words, expectation, expectations_of, expected_entries, is_met, outcome_entries, replied, unmet_entries, ReplayEntry}
+use Rattle.mls_cli_replay.specs.declared.reply.Outcome.{Outcome}
 
--- ---- the text of events from a world on, and whether they meet what is expected
+-- ---- the text of actions from a world on, and whether they meet what is expected
 
 abbrev pub said : Crypto → World → ℕ → List Recorded → List ℕ
-said c w i rs = flat_map entry_text (reply_entries i (replies c w (events_of rs)) (expectations_of rs))
+said c w i rs = flat_map entry_text (outcome_entries i (outcomes c w (actions_of rs)) (expectations_of rs))
 
 abbrev pub said_of : Crypto → World → ℕ → Recorded → List ℕ
-said_of c w i r = flat_map entry_text (event_entries i (step c w r.event).0 (expectation r))
+said_of c w i r = flat_map entry_text (action_entries i (outcome_in c w r.action) (expectation r))
 
 abbrev pub meet : Crypto → World → List Recorded → Bool
-meet c w rs = all_met (replies c w (events_of rs)) (expectations_of rs)
+meet c w rs = all_met (outcomes c w (actions_of rs)) (expectations_of rs)
 
-pub said_first : (c : Crypto) (w : World) (i : ℕ) (r : Recorded) (rs : List Recorded) → said c w i (r ∷ rs) ≡ said_of c w i r ++ said c (step c w r.event).1 (i + 1) rs
-unfolding reply_entries replies
+pub said_first : (c : Crypto) (w : World) (i : ℕ) (r : Recorded) (rs : List Recorded) → said c w i (r ∷ rs) ≡ said_of c w i r ++ said c (world_after c w r.action) (i + 1) rs
+unfolding outcome_entries outcomes
 said_first c w i r rs =
-    flat_map-append entry_text (event_entries i (step c w r.event).0 (expectation r))
-    (reply_entries (i + 1) (replies c (step c w r.event).1 (events_of rs)) (expectations_of rs))
+    flat_map-append entry_text (action_entries i (outcome_in c w r.action) (expectation r))
+    (outcome_entries (i + 1) (outcomes c (world_after c w r.action) (actions_of rs)) (expectations_of rs))
 
 pub said_none : (c : Crypto) (w : World) (i : ℕ) → said c w i [] ≡ []
-unfolding reply_entries replies
+unfolding outcome_entries outcomes
 said_none c w i = refl
 
-meet_first : (c : Crypto) (w : World) (r : Recorded) (rs : List Recorded) → meet c w (r ∷ rs) ≡ (is_met (step c w r.event).0 (expectation r) && meet c (step c w r.event).1 rs)
-unfolding all_met replies
+meet_first : (c : Crypto) (w : World) (r : Recorded) (rs : List Recorded) → meet c w (r ∷ rs) ≡ (is_met (outcome_in c w r.action) (expectation r) && meet c (world_after c w r.action) rs)
+unfolding all_met outcomes
 meet_first c w r rs = refl
 
 meet_none : (c : Crypto) (w : World) → meet c w [] ≡ true
-unfolding all_met replies
+unfolding all_met outcomes
 meet_none c w = refl
 
-pub run_first : (c : Crypto) (w : World) (r : Recorded) (rs : List Recorded) → run c w (events_of (r ∷ rs)) ≡ run c (step c w r.event).1 (events_of rs)
-unfolding run
+pub run_first : (c : Crypto) (w : World) (r : Recorded) (rs : List Recorded) → run_all c w (actions_of (r ∷ rs)) ≡ run_all c (world_after c w r.action) (actions_of rs)
+unfolding run_all
 run_first c w r rs = refl
 
-pub run_none : (c : Crypto) (w : World) → run c w (events_of []) ≡ w
-unfolding run
+pub run_none : (c : Crypto) (w : World) → run_all c w (actions_of []) ≡ w
+unfolding run_all
 run_none c w = refl
 
--- ---- before the event of number i
+-- ---- before the action of number i
 
--- what is out, which world was reached, and whether all was met, where these events are left of all
+-- what is out, which world was reached, and whether all was met, where these actions are left of all
 pub record Played (c : Crypto) (w : World) (all : List Recorded) (old new : Option (List ℕ)) (i : ℕ) (v : World) (met : Bool) (rest : List Recorded) : Type 0 where
   pub done : List ℕ
   pub grown : Appends old new done
   pub text : said c w 0 all ≡ done ++ said c v i rest
-  pub world : run c w (events_of all) ≡ run c v (events_of rest)
+  pub world : run_all c w (actions_of all) ≡ run_all c v (actions_of rest)
   pub meets : meet c w all ≡ (met && meet c v rest)
 
 pub played_nothing : (c : Crypto) (w : World) (all : List Recorded) (old : Option (List ℕ)) → Played c w all old old 0 w true all
@@ -70,28 +68,28 @@ played_nothing c w all old = record { done = []; grown = Appends-nil old; text =
 
 pub played_on : (c : Crypto) (w : World) (all : List Recorded) (old new now : Option (List ℕ)) (i : ℕ) (v : World) (met : Bool) (r : Recorded) (rest : List Recorded)
     → Played c w all old new i v met (r ∷ rest) → Appends new now (said_of c v i r)
-    → Played c w all old now (i + 1) (step c v r.event).1 (met && is_met (step c v r.event).0 (expectation r)) rest
+    → Played c w all old now (i + 1) (world_after c v r.action) (met && is_met (outcome_in c v r.action) (expectation r)) rest
 played_on c w all old new now i v met r rest p grew = record {
   done = p.done ++ said_of c v i r;
   grown = Appends-trans old new now p.done (said_of c v i r) p.grown grew;
-  text = p.text ∙ ap (λ t. p.done ++ t) (said_first c v i r rest) ∙ sym (append_assoc p.done (said_of c v i r) (said c (step c v r.event).1 (i + 1) rest));
+  text = p.text ∙ ap (λ t. p.done ++ t) (said_first c v i r rest) ∙ sym (append_assoc p.done (said_of c v i r) (said c (world_after c v r.action) (i + 1) rest));
   world = p.world ∙ run_first c v r rest;
-  meets = p.meets ∙ ap (λ b. met && b) (meet_first c v r rest) ∙ sym (and_assoc met (is_met (step c v r.event).0 (expectation r)) (meet c (step c v r.event).1 rest));
+  meets = p.meets ∙ ap (λ b. met && b) (meet_first c v r rest) ∙ sym (and_assoc met (is_met (outcome_in c v r.action) (expectation r)) (meet c (world_after c v r.action) rest));
 }
 
--- where an event's text is cut, so is that of all
+-- where an action's text is cut, so is that of all
 pub played_cut : (c : Crypto) (w : World) (all : List Recorded) (old new now : Option (List ℕ)) (i : ℕ) (v : World) (met : Bool) (r : Recorded) (rest : List Recorded)
     → Played c w all old new i v met (r ∷ rest) → AppendsPart new now (said_of c v i r) → AppendsPart old now (said c w 0 all)
 played_cut c w all old new now i v met r rest p part =
-    let first = part_of_front new now (said_of c v i r) (said c (step c v r.event).1 (i + 1) rest) part in
+    let first = part_of_front new now (said_of c v i r) (said c (world_after c v r.action) (i + 1) rest) part in
     let left : AppendsPart new now (said c v i (r ∷ rest)) = subst (AppendsPart new now) (sym (said_first c v i r rest)) first in
     subst (AppendsPart old now) (sym p.text) (part_behind old new now p.done (said c v i (r ∷ rest)) p.grown left)
 
--- ---- behind the last event
+-- ---- behind the last action
 
 pub record PlayedAll (c : Crypto) (w : World) (all : List Recorded) (old new : Option (List ℕ)) (v : World) (met : Bool) : Type 0 where
   pub grown : Appends old new (said c w 0 all)
-  pub world : v ≡ run c w (events_of all)
+  pub world : v ≡ run_all c w (actions_of all)
   pub meets : met ≡ meet c w all
 
 pub played_all : (c : Crypto) (w : World) (all : List Recorded) (old new : Option (List ℕ)) (i : ℕ) (v : World) (met : Bool) → Played c w all old new i v met [] → PlayedAll c w all old new v met
@@ -103,21 +101,21 @@ played_all c w all old new i v met p =
       meets = sym (p.meets ∙ ap (λ b. met && b) (meet_none c v) ∙ and-true met);
     }
 
--- ---- the same, of the event of number i
+-- ---- the same, of the action of number i
 
 next_of : (all : List Recorded) (i : ℕ) (r : Recorded) → i < length all → r ≡ get_or all i r → drop i all ≡ r ∷ drop (i + 1) all
 next_of all i r lt is = rw (add-one i) (drop-cons all i r lt ∙ ap (λ (x : Recorded). x ∷ drop (suc i) all) (sym is))
 
 pub played_step : (c : Crypto) (w : World) (all : List Recorded) (old new now : Option (List ℕ)) (i : ℕ) (v u : World) (met b and_met : Bool) (r : Recorded)
     → i < length all → r ≡ get_or all i r → Played c w all old new i v met (drop i all) → Appends new now (said_of c v i r)
-    → u ≡ (step c v r.event).1 → b ≡ is_met (step c v r.event).0 (expectation r) → and_met ≡ (met && b)
+    → u ≡ (world_after c v r.action) → b ≡ is_met (outcome_in c v r.action) (expectation r) → and_met ≡ (met && b)
     → Played c w all old now (i + 1) u and_met (drop (i + 1) all)
 played_step c w all old new now i v u met b and_met r lt is p grew stepped same both =
     let before : Played c w all old new i v met (r ∷ drop (i + 1) all) = subst (Played c w all old new i v met) (next_of all i r lt is) p in
     let behind = played_on c w all old new now i v met r (drop (i + 1) all) before grew in
-    let all_of : and_met ≡ (met && is_met (step c v r.event).0 (expectation r)) = both ∙ ap (λ x. met && x) same in
+    let all_of : and_met ≡ (met && is_met (outcome_in c v r.action) (expectation r)) = both ∙ ap (λ x. met && x) same in
     subst (λ (x : World). Played c w all old now (i + 1) x and_met (drop (i + 1) all)) (sym stepped)
-    (subst (λ (x : Bool). Played c w all old now (i + 1) (step c v r.event).1 x (drop (i + 1) all)) (sym all_of) behind)
+    (subst (λ (x : Bool). Played c w all old now (i + 1) (world_after c v r.action) x (drop (i + 1) all)) (sym all_of) behind)
 
 pub played_part : (c : Crypto) (w : World) (all : List Recorded) (old new now : Option (List ℕ)) (i : ℕ) (v : World) (met : Bool) (r : Recorded)
     → i < length all → r ≡ get_or all i r → Played c w all old new i v met (drop i all) → AppendsPart new now (said_of c v i r) → AppendsPart old now (said c w 0 all)
@@ -143,20 +141,17 @@ pub on_err : {T E : Type 0} {P : Type 0} (r : Result T E) → P → OnErr r P
 on_err (Ok x) p = tt
 on_err (Err e) p = p
 
--- ---- the text of one event
+-- ---- the text of one action
 
-pub said_nonempty : (i : ℕ) (reply : Reply) (expect : Option (List ℕ)) → 0 < length (flat_map entry_text (event_entries i reply expect))
-said_nonempty i reply expect =
-    omega (
-      arith,
-      length-append (entry_text (replied i reply)) (flat_map entry_text (unmet_entries i reply expect)),
-      length-append (decimal i) (codes ": " ++ (reply_text reply ++ codes "\n")),
-      length-append (codes ": ") (reply_text reply ++ codes "\n"),
-    )
+pub entry_nonempty : (e : ReplayEntry) (more : List ℕ) → 0 < length (entry_text e ++ more)
+entry_nonempty e more = omega (arith, length-append (entry_text e) more, length-append (entry_words e) (codes "\n"))
 
-pub said_met : (i : ℕ) (reply : Reply) (expect : Option (List ℕ)) → is_met reply expect ≡ true → flat_map entry_text (event_entries i reply expect) ≡ entry_text (replied i reply)
-said_met i reply expect met = rw met (append-nil (entry_text (replied i reply)))
+pub said_nonempty : (i : ℕ) (outcome : Outcome) (expect : Option (List ℕ)) → 0 < length (flat_map entry_text (action_entries i outcome expect))
+said_nonempty i outcome expect = entry_nonempty (replied i outcome) (flat_map entry_text (unmet_entries i outcome expect))
 
-pub said_unmet : (i : ℕ) (reply : Reply) (expect : Option (List ℕ)) → is_met reply expect ≡ false
-    → flat_map entry_text (event_entries i reply expect) ≡ entry_text (replied i reply) ++ flat_map entry_text (expected_entries i expect)
-said_unmet i reply expect unmet_entries = rw unmet_entries refl
+pub said_met : (i : ℕ) (outcome : Outcome) (expect : Option (List ℕ)) → is_met outcome expect ≡ true → flat_map entry_text (action_entries i outcome expect) ≡ entry_text (replied i outcome)
+said_met i outcome expect met = rw met (append-nil (entry_text (replied i outcome)))
+
+pub said_unmet : (i : ℕ) (outcome : Outcome) (expect : Option (List ℕ)) → is_met outcome expect ≡ false
+    → flat_map entry_text (action_entries i outcome expect) ≡ entry_text (replied i outcome) ++ flat_map entry_text (expected_entries i expect)
+said_unmet i outcome expect unmet = rw unmet refl

@@ -1,4 +1,5 @@
 pub mod Reply
+pub mod Actions
 pub mod Replay
 pub mod ReplayLaws
 pub mod OneReplay

@@ -1,15 +1,16 @@
--- What `mls replay --message N` prints: the message that has this number when all events have run, in hex digits.
-use Rattle.std.specs.Prelude.{◌≡◌, ℕ, List, [], ◌∷◌, ◌++◌, codes, map, slice_get, Option, Some, None, Result, Ok, Err}
+-- What `mls replay --message N` prints: the message that has this number when all actions are done, in hex digits.
+use Rattle.std.specs.Prelude.{◌≡◌, ℕ, List, [], ◌∷◌, ◌++◌, codes, slice_get, Option, Some, None, Result, Ok, Err}
 use Rattle.hex.specs.Hex.{encode_lower}
 use Rattle.mls_suite.specs.Crypto.{Crypto}
 use Rattle.mls_model.specs.World.{empty_world}
-use Rattle.mls_model.specs.Run.{run}
 use Rattle.mls_cli_text.specs.Page.{Page, Printout, Prints, good, printout, refused}
 use Rattle.mls_cli_text.specs.declared.fault.Fault.{Fault}
-use Rattle.mls_cli_recording.specs.Calls.{RecordedCall, recorded_view}
+use Rattle.mls_cli_recording.specs.Calls.{Recording, recording_view}
 use Rattle.mls_cli_recording.specs.Recording.{recording}
 use Rattle.mls_cli_recording.specs.declared.reading.Recorded.{Recorded}
-use Rattle.mls_cli_replay.specs.Replay.{PrintsOne, events_of}
+use Rattle.mls_cli_recording.specs.declared.reading.RecordedRun.{RecordedRun}
+use Rattle.mls_cli_replay.specs.Actions.{run_all}
+use Rattle.mls_cli_replay.specs.Replay.{PrintsOne, actions_of}
 
 -- the digits of a message, and a line feed
 abbrev pub digits_text : List ℕ → List ℕ
@@ -20,13 +21,13 @@ abbrev pub page_on : Option (List ℕ) → Page (List ℕ)
 page_on (Some message) = good (message ∷ [])
 page_on None = refused 94
 
--- message n of the world that the events leave from the empty one on
+-- message n of the world that the actions leave from the empty one on
 unfoldable pub message_page : Crypto → ℕ → List Recorded → Page (List ℕ)
-message_page c n rs = page_on (slice_get (run c empty_world (events_of rs)).messages n)
+message_page c n rs = page_on (slice_get (run_all c empty_world (actions_of rs)).messages n)
 
--- the page of a recording: of events that are its calls; or its refusal
-abbrev pub IsPageOn : Crypto → ℕ → Result (List RecordedCall) ℕ → Page (List ℕ) → Type 0
-IsPageOn c n (Ok calls) page = (recorded : List Recorded) × (map recorded_view recorded ≡ calls) × (page ≡ message_page c n recorded)
+-- the page of a recording: of what was read of it; or its refusal
+abbrev pub IsPageOn : Crypto → ℕ → Result Recording ℕ → Page (List ℕ) → Type 0
+IsPageOn c n (Ok parts) page = (recorded : RecordedRun) × (recording_view recorded ≡ parts) × (page ≡ message_page c n recorded.actions.items)
 IsPageOn c n (Err number) page = page ≡ refused number
 
 -- what is printed of message n of a file, which has to be a recording for the suite
@@ -35,7 +36,7 @@ IsMessage c n file p = (page : Page (List ℕ)) × IsPageOn c n (recording c.num
 
 -- ---- of the code's ends
 
--- message n of the world that these events leave is printed
+-- message n of the world that these actions leave is printed
 abbrev pub PrintsFound : {O : Type 0} → (O → Option (List ℕ)) → O → O → Crypto → ℕ → List Recorded → Result ℕ Fault → Type 0
 PrintsFound contents old new c n rs result = Prints (contents old) (contents new) result (printout digits_text (message_page c n rs))
 

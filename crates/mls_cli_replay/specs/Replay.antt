@@ -1,19 +1,20 @@
--- What `mls replay` prints of a recording: a line for each reply, one where it isn't what is expected, and at the end a line
--- for each member.
-use Rattle.std.specs.Prelude.{◌≡◌, ◌⊎◌, MatchResult, ℕ, ◌+◌, Bool, true, ◌&&◌, if◌then◌else◌, List, [], ◌∷◌, ◌++◌, codes, map, take, slice_get, Option, Some, None, option_map, Result, Ok, Err, IfOk, OnErr, string_bytes}
+-- What `mls replay` prints of a recording: a line for what each action came to, one where another text is expected, at the end a
+-- line for each member, and one for each number at which these lines aren't those that are expected.
+use Rattle.std.specs.Prelude.{◌≡◌, ◌⊎◌, MatchResult, ℕ, zero, suc, ◌+◌, max, Bool, true, false, ◌&&◌, if◌then◌else◌, List, [], ◌∷◌, ◌++◌, codes, length, map, take, slice_get, Option, Some, None, option_map, option_to_list, Result, Ok, Err, IfOk, OnErr, string_bytes}
 use Rattle.std.specs.Borrow.{Bor}
 use Rattle.std.specs.Fmt.{decimal}
+use Rattle.std.specs.Global.{Global, Vec}
 use Rattle.std.specs.List.{flat_map}
 use Rattle.std.specs.Str.{bytes_eq}
+use Rattle.std.specs.Io.KnownBytes.{Appends, Keeps}
+use Rattle.std.specs.declared.string.String.{String}
 use Rattle.hex.specs.Hex.{encode_lower}
 use Rattle.mls_suite.specs.Crypto.{Crypto}
 use Rattle.mls_schedule.specs.Epoch.{epoch_authenticator}
 use Rattle.mls_model.specs.declared.event.Event.{Event}
-use Rattle.mls_model.specs.declared.event.Reply.{Reply}
 use Rattle.mls_model.specs.Member.{Member}
 use Rattle.mls_model.specs.World.{World, Seat, empty_world}
-use Rattle.mls_model.specs.Run.{run, replies, step}
-use Rattle.std.specs.Io.KnownBytes.{Appends, Keeps}
+use Rattle.mls_model.specs.Run.{run}
 use Rattle.mls_cli_text.specs.InputOutput.{AppendsPart, Writes, WritesPart}
 use Rattle.mls_cli_text.specs.Page.{Page, Printout, Prints, printout, refused}
 use Rattle.mls_cli_text.specs.declared.fault.Fault.{Fault}
@@ -22,66 +23,80 @@ use Rattle.mls_cli_text.specs.declared.page.Ending.{Ending}
 use Rattle.mls_cli_text.specs.declared.page.Ending.TheVariants.{Good, Failed}
 use Rattle.mls_cli_json.specs.declared.error.JsonError.{JsonError}
 use Rattle.mls_cli_json.specs.declared.error.JsonError.TheVariants as error
-use Rattle.mls_cli_recording.specs.Calls.{RecordedCall, recorded_view}
+use Rattle.mls_cli_recording.specs.Calls.{Recording, recording_view, texts_view}
 use Rattle.mls_cli_recording.specs.Recording.{recording}
+use Rattle.mls_cli_recording.specs.declared.actions.Action.{Action}
 use Rattle.mls_cli_recording.specs.declared.reading.Recorded.{Recorded}
-use Rattle.mls_cli_replay.specs.Reply.{reply_text}
+use Rattle.mls_cli_recording.specs.declared.reading.RecordedRun.{RecordedRun}
+use Rattle.mls_cli_replay.specs.Actions.{events_in, outcome_in, outcomes, run_all, world_after}
+use Rattle.mls_cli_replay.specs.Reply.{outcome_text}
 use Rattle.mls_cli_replay.specs.declared.line.ReplayLine.{ReplayLine}
 use Rattle.mls_cli_replay.specs.declared.line.ReplayLine.TheVariants as code
+use Rattle.mls_cli_replay.specs.declared.reply.Outcome.{Outcome}
 
 -- ---- lines
 
 pub data ReplayEntry : Type 0 where
-  -- the number of an event, and its reply
-  replied : ℕ → Reply → ReplayEntry
-  -- the number of an event, and the text that another reply has
+  -- the number of an action, and what it came to
+  replied : ℕ → Outcome → ReplayEntry
+  -- the number of an action, and the text that is expected in place of its own
   expected : ℕ → List ℕ → ReplayEntry
   -- the number of a member that was removed
   gone : ℕ → ReplayEntry
   -- the number of a member, its leaf and epoch, its tree hash and its epoch authenticator
   present : ℕ → ℕ → ℕ → List ℕ → List ℕ → ReplayEntry
+  -- the number of a member, and the line that is expected in place of its own, or where it isn't there
+  missing : ℕ → List ℕ → ReplayEntry
+  -- the number of a member for which no line is expected
+  not_expected : ℕ → ReplayEntry
+
+-- a line without its line feed
+abbrev pub entry_words : ReplayEntry → List ℕ
+entry_words (replied action outcome) = decimal action ++ (codes ": " ++ outcome_text outcome)
+entry_words (expected action text) = decimal action ++ (codes ": expected " ++ text)
+entry_words (gone member) = codes "member " ++ (decimal member ++ codes ": gone")
+entry_words (present member leaf epoch tree authenticator) =
+    codes "member " ++ (decimal member ++ (codes ": leaf " ++ (decimal leaf ++ (codes ", epoch " ++ (decimal epoch
+    ++ (codes ", tree " ++ (or_dash encode_lower tree ++ (codes ", authenticator " ++ or_dash encode_lower authenticator))))))))
+entry_words (missing member text) = codes "final " ++ (decimal member ++ (codes ": expected " ++ text))
+entry_words (not_expected member) = codes "final " ++ (decimal member ++ codes ": expected nothing")
 
 abbrev pub entry_text : ReplayEntry → List ℕ
-entry_text (replied event reply) = decimal event ++ (codes ": " ++ (reply_text reply ++ codes "\n"))
-entry_text (expected event text) = decimal event ++ (codes ": expected " ++ (text ++ codes "\n"))
-entry_text (gone member) = codes "member " ++ (decimal member ++ codes ": gone\n")
-entry_text (present member leaf epoch tree authenticator) =
-    codes "member " ++ (decimal member ++ (codes ": leaf " ++ (decimal leaf ++ (codes ", epoch " ++ (decimal epoch
-    ++ (codes ", tree " ++ (or_dash encode_lower tree ++ (codes ", authenticator " ++ (or_dash encode_lower authenticator ++ codes "\n")))))))))
+entry_text entry = entry_words entry ++ codes "\n"
 
--- ---- what is said of an event
+-- ---- what is said of an action
 
--- the text of the reply that a recording expects of an event, if it expects one
+-- the text that a recording expects of an action, if it expects one
 abbrev pub expectation : Recorded → Option (List ℕ)
 expectation r = option_map string_bytes r.expect
 
--- whether the reply is as expected
-abbrev pub is_met : Reply → Option (List ℕ) → Bool
-is_met reply None = true
-is_met reply (Some text) = bytes_eq text (reply_text reply)
+-- whether the text is as expected
+abbrev pub is_met : Outcome → Option (List ℕ) → Bool
+is_met outcome None = true
+is_met outcome (Some text) = bytes_eq text (outcome_text outcome)
 
 -- the text that was expected
 abbrev pub expected_entries : ℕ → Option (List ℕ) → List ReplayEntry
-expected_entries event None = []
-expected_entries event (Some text) = expected event text ∷ []
+expected_entries action None = []
+expected_entries action (Some text) = expected action text ∷ []
 
--- the text that was expected is said where the reply has another
-abbrev pub unmet_entries : ℕ → Reply → Option (List ℕ) → List ReplayEntry
-unmet_entries event reply expect = if is_met reply expect then [] else expected_entries event expect
+-- the text that was expected is said where it is another
+abbrev pub unmet_entries : ℕ → Outcome → Option (List ℕ) → List ReplayEntry
+unmet_entries action outcome expect = if is_met outcome expect then [] else expected_entries action expect
 
-abbrev pub event_entries : ℕ → Reply → Option (List ℕ) → List ReplayEntry
-event_entries event reply expect = replied event reply ∷ unmet_entries event reply expect
+abbrev pub action_entries : ℕ → Outcome → Option (List ℕ) → List ReplayEntry
+action_entries action outcome expect = replied action outcome ∷ unmet_entries action outcome expect
 
--- ---- what is said of all events, numbered from here on
+-- ---- what is said of all actions, numbered from here on
 
-unfoldable pub reply_entries : ℕ → List Reply → List (Option (List ℕ)) → List ReplayEntry
-reply_entries event (r ∷ rs) (e ∷ es) = event_entries event r e ++ reply_entries (event + 1) rs es
-reply_entries event rs es = []
+unfoldable pub outcome_entries : ℕ → List Outcome → List (Option (List ℕ)) → List ReplayEntry
+outcome_entries action (o ∷ os) (e ∷ es) = action_entries action o e ++ outcome_entries (action + 1) os es
+outcome_entries action os es = []
 
--- whether all replies are as expected
-unfoldable pub all_met : List Reply → List (Option (List ℕ)) → Bool
-all_met (r ∷ rs) (e ∷ es) = is_met r e && all_met rs es
-all_met rs es = true
+-- whether all texts are as expected
+unfoldable pub all_met : List Outcome → List (Option (List ℕ)) → Bool
+all_met (o ∷ os) (e ∷ es) = is_met o e && all_met os es
+all_met os es = true
 
 -- ---- what is said of members in the end
 
@@ -96,32 +111,82 @@ unfoldable pub member_entries : ℕ → List Seat → List ReplayEntry
 member_entries k [] = []
 member_entries k (s ∷ ss) = member_entry k s.member ∷ member_entries (k + 1) ss
 
+-- ---- what is said of the lines of members that are expected
+
+-- the line of the member of that number without its line feed, if there is one
+abbrev pub line_at : List Seat → ℕ → Option (List ℕ)
+line_at seats k = option_map (λ (s : Seat). entry_words (member_entry k s.member)) (slice_get seats k)
+
+-- whether this line, if there is one, is the text
+abbrev pub is_line : Option (List ℕ) → List ℕ → Bool
+is_line (Some line) text = bytes_eq line text
+is_line None text = false
+
+-- what is said where this line, if there is one, isn't the one that is expected, if one is
+abbrev pub difference : ℕ → Option (List ℕ) → Option (List ℕ) → Option ReplayEntry
+difference k line (Some text) = if is_line line text then None else Some (missing k text)
+difference k (Some line) None = Some (not_expected k)
+difference k None None = None
+
+-- at so many numbers, from number k on
+unfoldable pub differences : List Seat → List (List ℕ) → ℕ → ℕ → List ReplayEntry
+differences seats texts k zero = []
+differences seats texts k (suc n) = option_to_list (difference k (line_at seats k) (slice_get texts k)) ++ differences seats texts (k + 1) n
+
+-- at each number that a member or a text has; nothing where no lines are recorded
+abbrev pub final_entries : List Seat → Option (List (List ℕ)) → List ReplayEntry
+final_entries seats None = []
+final_entries seats (Some texts) = differences seats texts 0 (max (length seats) (length texts))
+
+-- whether nothing is said
+abbrev pub is_silent : List ReplayEntry → Bool
+is_silent [] = true
+is_silent (entry ∷ entries) = false
+
 -- ---- the page
 
-abbrev pub events_of : List Recorded → List Event
-events_of rs = map (λ (r : Recorded). r.event) rs
+abbrev pub actions_of : List Recorded → List Action
+actions_of rs = map (λ (r : Recorded). r.action) rs
 
 abbrev pub expectations_of : List Recorded → List (Option (List ℕ))
 expectations_of rs = map expectation rs
 
--- the replies of the events from the empty world on, and the members of the world that they leave
-unfoldable pub played_entries : Crypto → List Recorded → List ReplayEntry
-played_entries c rs =
-    reply_entries 0 (replies c empty_world (events_of rs)) (expectations_of rs) ++ member_entries 0 (run c empty_world (events_of rs)).seats
+abbrev pub lines_of : RecordedRun → Option (List (List ℕ))
+lines_of r = option_map texts_view r.final_lines
 
--- good where all replies are as expected
+-- what is said in the end: the members, and where their lines aren't those that are expected
+abbrev pub closing_entries : List Seat → Option (List (List ℕ)) → List ReplayEntry
+closing_entries seats lines = member_entries 0 seats ++ final_entries seats lines
+
+-- what the actions come to from the empty world on, and the members of the world that they leave
+unfoldable pub played_entries : Crypto → List Recorded → Option (List (List ℕ)) → List ReplayEntry
+played_entries c rs lines =
+    outcome_entries 0 (outcomes c empty_world (actions_of rs)) (expectations_of rs)
+    ++ closing_entries (run_all c empty_world (actions_of rs)).seats lines
+
+-- whether all is as expected
+unfoldable pub is_as_expected : Crypto → List Recorded → Option (List (List ℕ)) → Bool
+is_as_expected c rs lines =
+    all_met (outcomes c empty_world (actions_of rs)) (expectations_of rs)
+    && is_silent (final_entries (run_all c empty_world (actions_of rs)).seats lines)
+
+-- good where all is as expected
 abbrev pub ending_by : Bool → Ending
 ending_by met = if met then Good else Failed
 
-unfoldable pub played_page : Crypto → List Recorded → Page ReplayEntry
-played_page c rs = record {
-  entries = played_entries c rs;
-  ending = ending_by (all_met (replies c empty_world (events_of rs)) (expectations_of rs));
+unfoldable pub played_page : Crypto → List Recorded → Option (List (List ℕ)) → Page ReplayEntry
+played_page c rs lines = record {
+  entries = played_entries c rs lines;
+  ending = ending_by (is_as_expected c rs lines);
 }
 
--- the page of a recording: of events that are its calls; or its refusal
-abbrev pub IsPageOn : Crypto → Result (List RecordedCall) ℕ → Page ReplayEntry → Type 0
-IsPageOn c (Ok calls) page = (recorded : List Recorded) × (map recorded_view recorded ≡ calls) × (page ≡ played_page c recorded)
+-- the page of what was read
+abbrev pub page_of_run : Crypto → RecordedRun → Page ReplayEntry
+page_of_run c r = played_page c r.actions.items (lines_of r)
+
+-- the page of a recording: of what was read of it; or its refusal
+abbrev pub IsPageOn : Crypto → Result Recording ℕ → Page ReplayEntry → Type 0
+IsPageOn c (Ok parts) page = (recorded : RecordedRun) × (recording_view recorded ≡ parts) × (page ≡ page_of_run c recorded)
 IsPageOn c (Err n) page = page ≡ refused n
 
 -- what is printed for a file, which has to be a recording for the suite
@@ -141,86 +206,114 @@ PrintsOne Is old new r = MatchResult r
     (λ status. (p : Printout) × Is p × Appends old new p.text × (status ≡ p.status))
     (λ _. Keeps old new ⊎ ((p : Printout) × Is p × AppendsPart old new p.text))
 
--- Where playing stops at a fault: all of what is said of the events before one is out, and a part of what is said of it; the
--- world is that before it, or after it, so none behind it has run.
+-- Where an action stops at a fault: some of its events have happened and nothing is said of it, or all of them have.
+abbrev pub StopsWithin : Crypto → World → World → List Event → Option (List ℕ) → Option (List ℕ) → Type 0
+StopsWithin c w v events old new = ((count : ℕ) × (v ≡ run c w (take count events)) × (new ≡ old)) ⊎ (v ≡ run c w events)
+
+-- Where playing stops at a fault: all of what is said of the actions before one is out, and a part of what is said of it; none
+-- behind it has begun.
 pub record StopsAt (c : Crypto) (w : World) (rs : List Recorded) (old new : Option (List ℕ)) (v : World) : Type 0 where
   pub count : ℕ
   pub one : Recorded
   pub is : slice_get rs count ≡ Some one
+  pub reached : World
+  pub before : reached ≡ run_all c w (actions_of (take count rs))
   pub between : Option (List ℕ)
-  pub said : Appends old between (flat_map entry_text (reply_entries 0 (replies c w (events_of (take count rs))) (expectations_of (take count rs))))
-  pub part : AppendsPart between new (flat_map entry_text (event_entries count (step c (run c w (events_of (take count rs))) one.event).0 (expectation one)))
-  pub world : (v ≡ run c w (events_of (take count rs))) ⊎ (v ≡ (step c (run c w (events_of (take count rs))) one.event).1)
+  pub said : Appends old between (flat_map entry_text (outcome_entries 0 (outcomes c w (actions_of (take count rs))) (expectations_of (take count rs))))
+  pub part : AppendsPart between new (flat_map entry_text (action_entries count (outcome_in c reached one.action) (expectation one)))
+  pub world : StopsWithin c reached v (events_in reached one.action) between new
 
 -- ---- of the code's values
 
 abbrev pub entry_of : ReplayLine → ReplayEntry
-entry_of (code.Reply event reply) = replied event reply
-entry_of (code.Expected event text) = expected event text.now
+entry_of (code.Outcome action outcome) = replied action outcome
+entry_of (code.Expected action text) = expected action text.now
 entry_of (code.Gone member) = gone member
 entry_of (code.Present member leaf epoch tree authenticator) = present member leaf epoch tree.now authenticator.now
+entry_of (code.Missing member text) = missing member text.now
+entry_of (code.NotExpected member) = not_expected member
 
 -- what is printed of the text that was expected
 abbrev pub expected_text : ℕ → Option (Bor (List ℕ)) → List ℕ
-expected_text event expect = flat_map entry_text (expected_entries event (option_map (λ (t : Bor (List ℕ)). t.now) expect))
+expected_text action expect = flat_map entry_text (expected_entries action (option_map (λ (t : Bor (List ℕ)). t.now) expect))
 
--- what is printed of an event
-abbrev pub told : ℕ → Reply → Option (Bor (List ℕ)) → List ℕ
-told event reply expect = flat_map entry_text (event_entries event reply (option_map (λ (t : Bor (List ℕ)). t.now) expect))
+-- what is printed of an action
+abbrev pub told : ℕ → Outcome → Option (Bor (List ℕ)) → List ℕ
+told action outcome expect = flat_map entry_text (action_entries action outcome (option_map (λ (t : Bor (List ℕ)). t.now) expect))
 
 -- what is printed of members
 abbrev pub members_text : List Seat → List ℕ
 members_text seats = flat_map entry_text (member_entries 0 seats)
 
--- Where there is memory for it, a call makes a line's text; the first argument is what a text's bytes are.
-abbrev pub HasText : {Z E : Type 0} → (Z → List ℕ) → ReplayEntry → Result Z E → Type 0
-HasText {Z} bytes entry result = IfOk result (λ (z : Z). bytes z ≡ entry_text entry)
+-- the lines that are expected
+abbrev pub texts_of : Option (Bor (List (String Global))) → Option (List (List ℕ))
+texts_of lines = option_map (λ (ts : Bor (List (String Global))). map string_bytes ts.now) lines
 
--- ---- of an event that runs
+-- the same of borrowed words and a borrowed text
+abbrev pub difference_by : ℕ → Option (Bor (List ℕ)) → Option (Bor (List ℕ)) → Option ReplayEntry
+difference_by k words text = difference k (option_map (λ (t : Bor (List ℕ)). t.now) words) (option_map (λ (t : Bor (List ℕ)). t.now) text)
 
--- whether its reply is as expected
+-- the line for a number, where that of the member isn't the text
+abbrev pub DiffersAt : {E : Type 0} → List Seat → List (List ℕ) → ℕ → Result (Option ReplayLine) E → Type 0
+DiffersAt seats texts k result = IfOk result (λ (line : Option ReplayLine). option_map entry_of line ≡ difference k (line_at seats k) (slice_get texts k))
+
+-- the lines say where those of members aren't these texts
+abbrev pub SayDifferences : {E : Type 0} → List Seat → Option (List (List ℕ)) → Result (Vec ReplayLine) E → Type 0
+SayDifferences seats texts result = IfOk result (λ (v : Vec ReplayLine). map entry_of v.items ≡ final_entries seats texts)
+
+-- what is printed in the end
+abbrev pub closing_text : List Seat → Option (List (List ℕ)) → List ℕ
+closing_text seats lines = flat_map entry_text (closing_entries seats lines)
+
+-- Where there is memory for it, a call makes the words of a line; the first argument is what a text's bytes are.
+abbrev pub HasWords : {Z E : Type 0} → (Z → List ℕ) → ReplayEntry → Result Z E → Type 0
+HasWords {Z} bytes entry result = IfOk result (λ (z : Z). bytes z ≡ entry_words entry)
+
+-- ---- of an action
+
+-- whether its text is as expected
 abbrev pub meets : Crypto → World → Recorded → Bool
-meets c w r = is_met (step c w r.event).0 (expectation r)
+meets c w r = is_met (outcome_in c w r.action) (expectation r)
 
--- Where it succeeds, a call writes what is said of the event.
+-- Where it succeeds, a call writes what is said of the action.
 abbrev pub Says : {O T E : Type 0} → (O → Option (List ℕ)) → O → O → Crypto → World → ℕ → Recorded → Result T E → Type 0
-Says contents old new c w event r result = Writes contents old new (flat_map entry_text (event_entries event (step c w r.event).0 (expectation r))) result
+Says contents old new c w action r result = Writes contents old new (flat_map entry_text (action_entries action (outcome_in c w r.action) (expectation r))) result
 
--- Where it fails, a call writes a beginning of what is said of the event.
+-- Where it fails, a call writes a beginning of what is said of the action.
 abbrev pub Begins : {O T E : Type 0} → (O → Option (List ℕ)) → O → O → Crypto → World → ℕ → Recorded → Result T E → Type 0
-Begins contents old new c w event r result = WritesPart contents old new (flat_map entry_text (event_entries event (step c w r.event).0 (expectation r))) result
+Begins contents old new c w action r result = WritesPart contents old new (flat_map entry_text (action_entries action (outcome_in c w r.action) (expectation r))) result
 
--- the event has run, or it has not
-abbrev pub HasRunOrNot : Crypto → World → World → Event → Type 0
-HasRunOrNot c old new event = (new ≡ old) ⊎ (new ≡ (step c old event).1)
+-- Where it fails, the action stopped.
+abbrev pub Stops : {O T E : Type 0} → (O → Option (List ℕ)) → O → O → Crypto → World → World → Action → Result T E → Type 0
+Stops contents old new c w v action result = OnErr result (StopsWithin c w v (events_in w action) (contents old) (contents new))
 
--- ---- of all events
+-- ---- of all actions
 
--- whether all replies are as expected
+-- whether all texts are as expected
 abbrev pub all_meet : Crypto → World → List Recorded → Bool
-all_meet c w rs = all_met (replies c w (events_of rs)) (expectations_of rs)
+all_meet c w rs = all_met (outcomes c w (actions_of rs)) (expectations_of rs)
 
--- what is printed of all events
-abbrev pub replies_text : Crypto → World → List Recorded → List ℕ
-replies_text c w rs = flat_map entry_text (reply_entries 0 (replies c w (events_of rs)) (expectations_of rs))
+-- what is printed of all actions
+abbrev pub outcomes_text : Crypto → World → List Recorded → List ℕ
+outcomes_text c w rs = flat_map entry_text (outcome_entries 0 (outcomes c w (actions_of rs)) (expectations_of rs))
 
--- Where it succeeds, a call writes what is said of all events.
+-- Where it succeeds, a call writes what is said of all actions.
 abbrev pub SaysAll : {O T E : Type 0} → (O → Option (List ℕ)) → O → O → Crypto → World → List Recorded → Result T E → Type 0
-SaysAll contents old new c w rs result = Writes contents old new (replies_text c w rs) result
+SaysAll contents old new c w rs result = Writes contents old new (outcomes_text c w rs) result
 
--- Where it fails, a call writes a beginning of what is said of all events.
+-- Where it fails, a call writes a beginning of what is said of all actions.
 abbrev pub BeginsAll : {O T E : Type 0} → (O → Option (List ℕ)) → O → O → Crypto → World → List Recorded → Result T E → Type 0
-BeginsAll contents old new c w rs result = WritesPart contents old new (replies_text c w rs) result
+BeginsAll contents old new c w rs result = WritesPart contents old new (outcomes_text c w rs) result
 
--- Where it fails, a call ends at an event.
+-- Where it fails, a call ends at an action.
 abbrev pub Ends : {O T E : Type 0} → (O → Option (List ℕ)) → O → O → Crypto → World → World → List Recorded → Result T E → Type 0
 Ends contents old new c w v rs result = OnErr result (StopsAt c w rs (contents old) (contents new) v)
 
 -- ---- of a recording
 
--- the page of these events is printed
-abbrev pub PrintsPlay : {O : Type 0} → (O → Option (List ℕ)) → O → O → Crypto → List Recorded → Result ℕ Fault → Type 0
-PrintsPlay contents old new c rs result = Prints (contents old) (contents new) result (printout entry_text (played_page c rs))
+-- the page of what was read is printed
+abbrev pub PrintsPlay : {O : Type 0} → (O → Option (List ℕ)) → O → O → Crypto → RecordedRun → Result ℕ Fault → Type 0
+PrintsPlay contents old new c r result = Prints (contents old) (contents new) result (printout entry_text (page_of_run c r))
 
 -- the page of a refusal is printed
 abbrev pub PrintsRefusal : {O : Type 0} → (O → Option (List ℕ)) → O → O → ℕ → Result ℕ Fault → Type 0

@@ -6,6 +6,9 @@ use Rattle.mls_model.specs.declared.effect.Effect.{Effect}
 use Rattle.mls_model.specs.declared.effect.Effect.TheVariants as effect
 use Rattle.mls_model.specs.declared.event.Reply.{Reply}
 use Rattle.mls_model.specs.declared.event.Reply.TheVariants as reply
+use Rattle.mls_cli_replay.specs.declared.deliveries.Tally.{Tally}
+use Rattle.mls_cli_replay.specs.declared.reply.Outcome.{Outcome}
+use Rattle.mls_cli_replay.specs.declared.reply.Outcome.TheVariants as outcome
 
 -- what a delivered message did to the member
 abbrev pub effect_text : Effect → List ℕ
@@ -30,3 +33,14 @@ reply_text (reply.Dropped false) = codes "nothing pending"
 reply_text (reply.Delivered done) = effect_text done
 reply_text (reply.Joined member epoch) = codes "member " ++ (decimal member ++ (codes " at epoch " ++ decimal epoch))
 reply_text (reply.Refused number) = refused_text number (refusal_name number)
+
+-- how many deliveries had each kind of reply
+abbrev pub tally_text : Tally → List ℕ
+tally_text t =
+    codes "proposed " ++ (decimal t.proposed ++ (codes ", known " ++ (decimal t.known ++ (codes ", advanced " ++ (decimal t.advanced
+    ++ (codes ", removed " ++ (decimal t.removed ++ (codes ", refused " ++ decimal t.refused))))))))
+
+-- the text of what an action came to
+abbrev pub outcome_text : Outcome → List ℕ
+outcome_text (outcome.Reply r) = reply_text r
+outcome_text (outcome.Tally t) = tally_text t

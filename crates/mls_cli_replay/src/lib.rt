@@ -1,55 +1,65 @@
-//! Recordings of groups, run event by event: what `mls replay` prints of a file.
+//! Recordings of groups, run action by action: what `mls replay` prints of a file.
 #![tactic(auto)]
 
-mod events;
+mod actions;
+mod deliveries;
+mod ends;
 mod line;
 mod members;
 mod message;
 mod reply;
 
-ghost use Rattle.std.specs.Prelude.{◌≡◌, ◌≢◌, ◌≤◌, map, IfOk, IfErr};
+ghost use Rattle.std.specs.Prelude.{◌≡◌, ◌≢◌, ◌≤◌, ◌&&◌, IfOk, IfErr};
 ghost use Rattle.mls_wire.specs.Checks.{Answers};
 ghost use Rattle.mls_cli_text.specs.InputOutput.{write_failed};
 ghost use Rattle.mls_cli_text.specs.Page.{ending_status};
 ghost use Rattle.mls_cli_json.specs.Faults.{number_of};
-ghost use Rattle.mls_cli_recording.specs.Calls.{recorded_view};
+ghost use Rattle.mls_cli_recording.specs.Calls.{recording_view};
 ghost use Rattle.mls_cli_recording.specs.Recording.{recording};
 ghost use Rattle.mls_cli_replay.specs.Message.{PrintsMessage};
 ghost use Rattle.mls_cli_replay.specs.OneMessage.{OneMessage};
 ghost use Rattle.mls_cli_replay.specs.OneReplay.{OneReplay};
 ghost use Rattle.mls_cli_replay.specs.Replay.{IsRefusal, PrintsOne, PrintsPlay, PrintsRefusal, PrintsReplay, ending_by};
 
-use events::play_events;
+use actions::play_actions;
+pub use deliveries::Tally;
+use ends::print_end;
 pub use line::ReplayLine;
-use members::print_members;
 use message::print_message;
 use mls_cli_json::JsonError;
-use mls_cli_recording::{Recorded, laws_of_calls, recording};
+use mls_cli_recording::{RecordedRun, laws_of_calls, recording};
 use mls_cli_text::{Fault, Output, Page, print_page, refused_page};
 use mls_suite::Suite;
 use mls_world::World;
+pub use reply::Outcome;
 use std::alloc::Global;
 
-/// The exit status, by whether all replies are as expected.
-fn status_of(met: bool) -> u8
-    ensures status { result ≡ ending_status (ending_by met) }
+/// The exit status, by whether the texts and the lines in the end are as expected.
+fn status_of(met: bool, same: bool) -> u8
+    ensures status { result ≡ ending_status (ending_by (met && same)) }
     ensures small { result ≤ 1 }
 {
-    if met { 0 } else { 1 }
+    if met && same { 0 } else { 1 }
 }
 
-/// Runs the events in a new world, prints the lines of each before the next one runs, and in the end a line for each
-/// member. It answers the exit status: 1 where a reply isn't as expected, else 0.
-fn play<S: Suite, O: Output>(alloc: Global, recorded: &[Recorded], out: &mut O) -> Result<u8, Fault>
+/// Does the actions in a new world, prints the lines of each before the next one begins, and in the end a line for each
+/// member and where these lines aren't those that are expected. It answers the exit status: 1 where a text or a line
+/// isn't as expected, else 0.
+fn play<S: Suite, O: Output>(
+    alloc: Global,
+    recorded: &RecordedRun,
+    out: &mut O,
+) -> Result<u8, Fault>
     ensures prints { PrintsPlay O.contents out.old out.new S.crypto recorded.now result }
     ensures status { IfOk result (λ status. status ≤ 1) }
     ensures fault { O.failed out.new ≡ write_failed (O.failed out.old) result }
     ensures written { IfErr result (λ e. e ≢ Fault.Read) }
 {
     let mut world = World::<S>::new(alloc);
-    let met = play_events(alloc, &mut world, recorded, out)?;
-    print_members(alloc, &world, recorded.len(), out)?;
-    Ok(status_of(met))
+    let met = play_actions(alloc, &mut world, recorded.actions.as_slice(), out)?;
+    let texts = recorded.final_lines.as_deref();
+    let same = print_end(alloc, &world, texts, out)?;
+    Ok(status_of(met, same))
 }
 
 /// Prints that a file is refused, and answers the exit status.
@@ -78,15 +88,15 @@ fn print_error<O: Output>(alloc: Global, error: JsonError, out: &mut O) -> Resul
 }
 
 /// Reads a recording for the suite: `BadJson` (9), `NotHex` (8).
-fn recording_for<S: Suite>(alloc: Global, file: &[u8]) -> Result<Vec<Recorded>, JsonError>
-    ensures { Answers (λ v. map recorded_view v.items) number_of (recording S.crypto.number file.now) result }
+fn recording_for<S: Suite>(alloc: Global, file: &[u8]) -> Result<RecordedRun, JsonError>
+    ensures { Answers recording_view number_of (recording S.crypto.number file.now) result }
 {
     recording(alloc, S::NUMBER, file)
 }
 
-/// Prints the replay of a recording for the suite, or the refusal of the file (`BadJson` (9), `NotHex` (8)), and answers
-/// the exit status. The whole file is read before the first event runs, and each event's lines are printed before the next one
-/// runs, so that after a failed write no further event does.
+/// Prints the replay of a recording for the suite, or the refusal of the file (`BadJson` (9), `NotHex` (8)), and answers the exit
+/// status. The whole file is read before the first action begins, and each action's lines are printed before the next one
+/// begins, so that after a failed write no further one does.
 pub fn replay<S: Suite, O: Output>(alloc: Global, file: &[u8], out: &mut O) -> Result<u8, Fault>
     // The output grows by the replay's text, or on a fault by less than that.
     ensures prints { PrintsReplay O.contents out.old out.new S.crypto file.now result }
@@ -96,14 +106,14 @@ pub fn replay<S: Suite, O: Output>(alloc: Global, file: &[u8], out: &mut O) -> R
     ensures written { IfErr result (λ e. e ≢ Fault.Read) }
 {
     match recording_for::<S>(alloc, file) {
-        Ok(recorded) => play::<S, O>(alloc, recorded.as_slice(), out),
+        Ok(recorded) => play::<S, O>(alloc, &recorded, out),
         Err(error) => print_error(alloc, error, out),
     }
 }
 
-/// Prints the message that has this number when all events of a recording for the suite have run, in hex digits, and
+/// Prints the message that has this number when all actions of a recording for the suite are done, in hex digits, and
 /// answers the exit status; or the refusal of the file (`BadJson` (9), `NotHex` (8)), or that there is no such message
-/// (`NoSuchMessage` (94)). Replies aren't compared with what is expected of them.
+/// (`NoSuchMessage` (94)). Nothing is compared with what is expected.
 pub fn replay_message<S: Suite, O: Output>(
     alloc: Global,
     file: &[u8],
@@ -118,7 +128,7 @@ pub fn replay_message<S: Suite, O: Output>(
     ensures written { IfErr result (λ e. e ≢ Fault.Read) }
 {
     match recording_for::<S>(alloc, file) {
-        Ok(recorded) => print_message::<S, O>(alloc, recorded.as_slice(), number, out),
+        Ok(recorded) => print_message::<S, O>(alloc, recorded.actions.as_slice(), number, out),
         Err(error) => print_error(alloc, error, out),
     }
 }

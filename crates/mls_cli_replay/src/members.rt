@@ -1,6 +1,6 @@
-//! What is printed of members in the end.
+//! The lines of members.
 
-ghost use Rattle.std.specs.Prelude.{◌≡◌, ◌≢◌, ◌≤◌, length, IfErr};
+ghost use Rattle.std.specs.Prelude.{◌≡◌, ◌≢◌, IfErr};
 ghost use Rattle.mls_cli_text.specs.InputOutput.{write_failed, Writes, WritesPart};
 ghost use Rattle.mls_cli_replay.specs.Replay.{entry_of, member_entry, members_text};
 
@@ -11,7 +11,7 @@ use mls_world::{Member, World};
 use std::alloc::Global;
 
 /// Makes the line of a member.
-fn member_line<S: Suite>(number: usize, member: &Member<S>) -> ReplayLine<'_>
+pub fn member_line<S: Suite>(number: usize, member: &Member<S>) -> ReplayLine<'_>
     ensures { entry_of result ≡ member_entry number member.now }
 {
     if member.is_gone() {
@@ -26,20 +26,18 @@ fn member_line<S: Suite>(number: usize, member: &Member<S>) -> ReplayLine<'_>
     }
 }
 
-/// Prints a line for each member, of whom there are at most so many.
+/// Prints a line for each member.
 pub fn print_members<S: Suite, O: Output>(
     alloc: Global,
     world: &World<S>,
-    most: usize,
     out: &mut O,
 ) -> Result<(), Fault>
-    requires { length world.now.seats ≤ most }
     ensures whole { Writes O.contents out.old out.new (members_text world.now.seats) result }
     ensures part { WritesPart O.contents out.old out.new (members_text world.now.seats) result }
     ensures fault { O.failed out.new ≡ write_failed (O.failed out.old) result }
     ensures written { IfErr result (λ e. e ≢ Fault.Read) }
 {
-    for number in 0..most {
+    for number in 0..world.member_count() {
         match world.member(number) {
             Some(member) => print(alloc, &member_line(number, member), out)?,
             None => return Ok(()),

@@ -1,14 +1,14 @@
 //! One message of a world, printed in hex digits.
 
 ghost use Rattle.std.specs.Prelude.{◌≡◌, ◌≢◌, ◌≤◌, IfOk, IfErr, OnOk, option_copied};
-ghost use Rattle.mls_model.specs.Run.{run};
+ghost use Rattle.mls_cli_replay.specs.Actions.{run_all};
 ghost use Rattle.mls_cli_text.specs.InputOutput.{write_failed};
 ghost use Rattle.mls_cli_text.specs.Page.{page_of};
 ghost use Rattle.mls_cli_replay.specs.DigitsLaws.{digits_nonempty};
 ghost use Rattle.mls_cli_replay.specs.Message.{PrintsFound, digits_text, page_on};
-ghost use Rattle.mls_cli_replay.specs.Replay.{events_of};
+ghost use Rattle.mls_cli_replay.specs.Replay.{actions_of};
 
-use crate::events::play_events;
+use crate::actions::play_actions;
 use mls_cli_recording::Recorded;
 use mls_cli_text::{Ending, Fault, Output, Page, Printed, print_made_page, refused_page};
 use mls_suite::Suite;
@@ -47,16 +47,16 @@ impl Output for Nowhere {
     }
 }
 
-/// Runs the events and prints nothing.
-fn run_events<S: Suite>(
+/// Does the actions and prints nothing.
+fn do_actions<S: Suite>(
     alloc: Global,
     world: &mut World<S>,
     recorded: &[Recorded],
 ) -> Result<(), Fault>
-    ensures world { OnOk result (world.new ≡ run S.crypto world.old (events_of recorded.now)) }
+    ensures world { OnOk result (world.new ≡ run_all S.crypto world.old (actions_of recorded.now)) }
     ensures fault { IfErr result (λ e. e ≡ Fault.OutOfMemory) }
 {
-    match play_events(alloc, world, recorded, &mut Nowhere) {
+    match play_actions(alloc, world, recorded, &mut Nowhere) {
         Ok(_) => Ok(()),
         // Want of memory: `Nowhere` takes all that is put.
         Err(_) => Err(Fault::OutOfMemory),
@@ -76,7 +76,7 @@ fn message_page(alloc: Global, found: Option<&[u8]>) -> Result<Page<Digits<'_>>,
     }
 }
 
-/// Runs the events in a new world, and prints the message of this number, or that there is none (`NoSuchMessage`
+/// Does the actions in a new world, and prints the message of this number, or that there is none (`NoSuchMessage`
 /// (94)). It answers the exit status.
 pub fn print_message<S: Suite, O: Output>(
     alloc: Global,
@@ -90,6 +90,6 @@ pub fn print_message<S: Suite, O: Output>(
     ensures written { IfErr result (λ e. e ≢ Fault.Read) }
 {
     let mut world = World::<S>::new(alloc);
-    run_events(alloc, &mut world, recorded)?;
+    do_actions(alloc, &mut world, recorded)?;
     print_made_page(alloc, message_page(alloc, world.message(number)), out)
 }

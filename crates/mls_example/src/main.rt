@@ -41,8 +41,8 @@ fn run(rt: &impl Print, alloc: Global) -> Result<()> {
     let (hers, his) = (alice.epoch_number(), bob.epoch_number());
     println!(rt; "both are in epoch {hers} and {his}")?;
     let (her_key, his_key) = (export_key(&alice)?, export_key(&bob)?);
-    println!(rt; "alice exports the key {}", hex::encode(alloc, her_key)?)?;
-    println!(rt; "bob exports the key {}", hex::encode(alloc, his_key)?)?;
+    println!(rt; "alice exports the key {}", hex::encode(alloc, her_key.as_slice())?)?;
+    println!(rt; "bob exports the key {}", hex::encode(alloc, his_key.as_slice())?)?;
 
     // Alice removes Bob.
     let removal = Item::Full(Proposal::Remove(bob.leaf_index()));

@@ -58,10 +58,12 @@ pub(crate) fn refuse_long_list<S: Suite>(
 {
     speaker.group.is_short();
     let stand_in = &speaker.group.context().extensions;
-    match own_path::<S>(
+    let own = match own_path::<S>(
         alloc, speaker, keys, stand_in, edits, used, wants_path, seed,
     ) {
-        Ok(_) => MakeError::Leaf(LeafError::Wire(WireError::TooLong)),
-        Err(error) => error,
-    }
+        Ok(own) => own,
+        Err(error) => return error,
+    };
+    drop(own);
+    MakeError::Leaf(LeafError::Wire(WireError::TooLong))
 }

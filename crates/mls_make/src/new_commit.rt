@@ -106,8 +106,7 @@ pub fn make_commit<S: Suite>(
         .group
         .apply_proposals::<S>(alloc, speaker.leaf, used)?;
     if give_long_list(used) {
-        let refusal =
-            refuse_long_list::<S>(alloc, speaker, keys, &edits, used, wants_path, seed);
+        let refusal = refuse_long_list::<S>(alloc, speaker, keys, &edits, used, wants_path, seed);
         return Err(refusal);
     }
     speaker.group.is_short();

@@ -1,1 +1,1 @@
-mod Sharing
+mod Pathless

@@ -245,12 +245,10 @@ fn pathless(alloc: Global) -> Result<Content, LeafError>
 {
     let extensions = extensions(alloc, 2)?;
     let _entries = extensions.as_slice(); // They may be carried, for the proof.
-    let mut proposals = Vec::new(alloc);
-    proposals.push(ProposalOrRef::Proposal(
-        Proposal::GroupContextExtensions(extensions),
-    ))?;
+    let listed = ProposalOrRef::Proposal(Proposal::GroupContextExtensions(extensions));
+    let proposals = Items::from_vec(Vec::from_array(alloc, [listed])?);
     Ok(Content::Commit(Commit {
-        proposals: Items::from_vec(proposals),
+        proposals,
         path: None,
     }))
 }

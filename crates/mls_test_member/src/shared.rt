@@ -1,8 +1,8 @@
 //! The two members that share each epoch: their calls succeed.
 
-use crate::pair::{Pair, Seeds, share};
 use mls_member::Refusal;
 use mls_suite::Glass;
+use mls_test_pair::{Pair, Seeds, share};
 use std::alloc::Global;
 use std::test::Fail;
 

@@ -36,7 +36,11 @@ fn context_lengths(rt: HostRuntime) -> Result<(), Fail> {
 
 #[test]
 fn extended_context_lengths(rt: HostRuntime) -> Result<(), Fail> {
-    holds(&rt, has_length(rt.alloc(), EXTENDED_CONTEXT, 54), "54 bytes")
+    holds(
+        &rt,
+        has_length(rt.alloc(), EXTENDED_CONTEXT, 54),
+        "54 bytes",
+    )
 }
 
 #[test]

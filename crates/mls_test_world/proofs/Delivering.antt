@@ -75,6 +75,7 @@ delivery_on w v d k source o (event.Create n group seed) x apart = absurd x
 delivery_on w v d k source o (event.ProposeAdd l given) x apart = absurd x
 delivery_on w v d k source o (event.ProposeUpdate l seed) x apart = absurd x
 delivery_on w v d k source o (event.ProposeRemove l leaf) x apart = absurd x
+delivery_on w v d k source o (event.ProposeExtensions l list) x apart = absurd x
 delivery_on w v d k source o (event.Commit l items path seed) x apart = absurd x
 delivery_on w v d k source o (event.DropPending l) x apart = absurd x
 
@@ -88,6 +89,7 @@ join_on w v d m source o (event.Create n group seed) x apart = absurd x
 join_on w v d m source o (event.ProposeAdd l given) x apart = absurd x
 join_on w v d m source o (event.ProposeUpdate l seed) x apart = absurd x
 join_on w v d m source o (event.ProposeRemove l leaf) x apart = absurd x
+join_on w v d m source o (event.ProposeExtensions l list) x apart = absurd x
 join_on w v d m source o (event.Commit l items path seed) x apart = absurd x
 join_on w v d m source o (event.DropPending l) x apart = absurd x
 
@@ -106,6 +108,7 @@ apart_other k source (event.Create n group seed) apart = tt
 apart_other k source (event.ProposeAdd l given) apart = tt
 apart_other k source (event.ProposeUpdate l seed) apart = tt
 apart_other k source (event.ProposeRemove l leaf) apart = tt
+apart_other k source (event.ProposeExtensions l list) apart = tt
 apart_other k source (event.Commit l items path seed) apart = tt
 apart_other k source (event.DropPending l) apart = tt
 
@@ -118,6 +121,7 @@ there_other w d (event.Create n group seed) x = absurd x
 there_other w d (event.ProposeAdd l given) x = absurd x
 there_other w d (event.ProposeUpdate l seed) x = absurd x
 there_other w d (event.ProposeRemove l leaf) x = absurd x
+there_other w d (event.ProposeExtensions l list) x = absurd x
 there_other w d (event.Commit l items path seed) x = absurd x
 there_other w d (event.DropPending l) x = absurd x
 
@@ -283,6 +287,7 @@ progress c d place (event.Create n group seed ∷ es) w made home h each once = 
 progress c d place (event.ProposeAdd l given ∷ es) w made home h each once = absurd each.0
 progress c d place (event.ProposeUpdate l seed ∷ es) w made home h each once = absurd each.0
 progress c d place (event.ProposeRemove l leaf ∷ es) w made home h each once = absurd each.0
+progress c d place (event.ProposeExtensions l list ∷ es) w made home h each once = absurd each.0
 progress c d place (event.Commit l items path seed ∷ es) w made home h each once = absurd each.0
 progress c d place (event.DropPending l ∷ es) w made home h each once = absurd each.0
 

@@ -41,6 +41,9 @@ fn members(rt: HostRuntime) -> Result<(), Fail> {
         (Act::Deliver(0, Sent::Cut), Said::Refused(2)),
         (Act::Update(1, 3), Said::Refused(90)),
         (Act::Remove(1, 0), Said::Refused(90)),
+        (Act::Extend(1, 3), Said::Refused(90)),
+        // No group carries a type below f000.
+        (Act::Extend(0, 3), Said::Refused(14)),
         (Act::Drop(1), Said::Refused(90)),
         (Act::Drop(0), Said::Dropped(false)),
     ];
@@ -54,6 +57,8 @@ fn sources(rt: HostRuntime) -> Result<(), Fail> {
     let package = Parts::One(Part::Ref(0));
     let welcome = Parts::One(Part::Add(Sent::Welcome));
     let both = Parts::Two(Part::Add(Sent::Cut), Part::Ref(9));
+    let forbidden = Parts::Two(Part::Extension(3), Part::Ref(9));
+    let behind = Parts::Two(Part::Ref(9), Part::Extension(3));
     let acts = [
         (Act::Candidate(b'a', 1), Said::Candidate(0, 0)),
         (Act::Create(0, 2), Said::Created(0)),
@@ -68,6 +73,8 @@ fn sources(rt: HostRuntime) -> Result<(), Fail> {
         (Act::Commit(0, welcome, true, 3), Said::Refused(95)),
         // The first source decides.
         (Act::Commit(0, both, true, 3), Said::Refused(2)),
+        (Act::Commit(0, forbidden, true, 3), Said::Refused(14)),
+        (Act::Commit(0, behind, true, 3), Said::Refused(94)),
     ];
     let _world = run_both_ways(&rt, rt.alloc(), &acts)?;
     Ok(())

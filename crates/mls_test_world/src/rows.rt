@@ -150,3 +150,31 @@ fn crossing_commits(rt: HostRuntime) -> Result<(), Fail> {
     assert!(rt; !agree(&world, 0, 1));
     Ok(())
 }
+
+#[test]
+fn extensions_of_a_group(rt: HostRuntime) -> Result<(), Fail> {
+    let first = Parts::Two(Part::Extension(0xf001), Part::Add(Sent::Made(1)));
+    let second = Parts::Two(Part::Ref(4), Part::Extension(0xf001));
+    let by_reference = Parts::One(Part::Ref(4));
+    let acts = [
+        (Act::Candidate(b'a', 1), Said::Candidate(0, 0)),
+        (Act::Create(0, 2), Said::Created(0)),
+        (Act::Candidate(b'b', 3), Said::Candidate(1, 1)),
+        (Act::Commit(0, first, true, 4), Said::Welcome(2, 3)),
+        (Act::Deliver(0, Sent::Made(2)), Said::Advanced(1)),
+        (Act::Join(1, Sent::Made(3)), Said::Joined(1, 1)),
+        (Act::Extend(1, 0xf002), Said::Proposal(4)),
+        (Act::Deliver(0, Sent::Made(4)), Said::Proposed),
+        // Two lists for one group.
+        (Act::Commit(0, second, true, 5), Said::Refused(68)),
+        (Act::Commit(0, by_reference, true, 5), Said::Commit(5)),
+        (Act::Deliver(1, Sent::Made(5)), Said::Advanced(2)),
+        (Act::Deliver(0, Sent::Made(5)), Said::Advanced(2)),
+    ];
+    let world = run_both_ways(&rt, rt.alloc(), &acts)?;
+    let length = |n| world.message(n).map(|message| message.len());
+    assert_eq!(rt; length(2), Some(522));
+    assert_eq!(rt; length(3), Some(696));
+    assert!(rt; agree(&world, 0, 1));
+    Ok(())
+}

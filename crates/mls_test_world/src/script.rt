@@ -1,5 +1,6 @@
 //! Events and replies in short forms.
 
+use mls_leaf::{Bytes, Extension};
 use mls_model::{Effect, Event, Reply, Source, WorldItem};
 use mls_suite::{Glass, OutOfMemory};
 use mls_world::{World, WorldError};
@@ -23,6 +24,8 @@ pub enum Part {
     Ref(usize),
     Add(Sent),
     Remove(u32),
+    /// One extension, of this type, with the data "hi".
+    Extension(u16),
 }
 
 /// The proposals of a commit.
@@ -41,6 +44,8 @@ pub enum Act {
     Add(usize, Sent),
     Update(usize, u8),
     Remove(usize, u32),
+    /// Of a member, with the type of one extension, whose data are "hi".
+    Extend(usize, u16),
     /// Of a member, with whether a path is wanted.
     Commit(usize, Parts, bool, u8),
     Drop(usize),
@@ -73,11 +78,19 @@ fn source_of(alloc: Global, from: Sent) -> Result<Source, OutOfMemory> {
     }
 }
 
+fn extensions_of(alloc: Global, kind: u16) -> Result<Vec<Extension>, OutOfMemory> {
+    let content = Bytes::from_vec(b"hi".to_vec(alloc)?);
+    let mut list = Vec::new(alloc);
+    list.push(Extension { kind, content })?;
+    Ok(list)
+}
+
 fn item_of(alloc: Global, part: Part) -> Result<WorldItem, OutOfMemory> {
     match part {
         Part::Ref(number) => Ok(WorldItem::RefOf(Source::Message(number))),
         Part::Add(from) => Ok(WorldItem::Add(source_of(alloc, from)?)),
         Part::Remove(leaf) => Ok(WorldItem::Remove(leaf)),
+        Part::Extension(kind) => Ok(WorldItem::Extensions(extensions_of(alloc, kind)?)),
     }
 }
 
@@ -141,6 +154,10 @@ fn event_of(alloc: Global, act: Act) -> Result<Event, OutOfMemory> {
             seed: [seed; 32],
         }),
         Act::Remove(member, leaf) => Ok(Event::ProposeRemove { member, leaf }),
+        Act::Extend(member, kind) => Ok(Event::ProposeExtensions {
+            member,
+            extensions: extensions_of(alloc, kind)?,
+        }),
         Act::Commit(member, parts, path, seed) => commit_event(alloc, member, parts, path, seed),
         Act::Drop(member) => Ok(Event::DropPending { member }),
         Act::Deliver(member, from) => Ok(Event::Deliver {
@@ -204,7 +221,7 @@ pub fn run(
 }
 
 /// What the call that an event is answers: candidates, groups and joins.
-fn call_event(world: &mut World<Glass>, event: &Event) -> Result<Said, WorldError> {
+fn call_event(alloc: Global, world: &mut World<Glass>, event: &Event) -> Result<Said, WorldError> {
     match event {
         Event::Candidate { identity, seed } => {
             let new = world.candidate(identity, seed)?;
@@ -219,12 +236,16 @@ fn call_event(world: &mut World<Glass>, event: &Event) -> Result<Said, WorldErro
             let new = world.join(*candidate, bytes)?;
             Ok(Said::Joined(new.member, new.epoch))
         }
-        _ => call_proposal(world, event),
+        _ => call_proposal(alloc, world, event),
     }
 }
 
 /// What members propose.
-fn call_proposal(world: &mut World<Glass>, event: &Event) -> Result<Said, WorldError> {
+fn call_proposal(
+    alloc: Global,
+    world: &mut World<Glass>,
+    event: &Event,
+) -> Result<Said, WorldError> {
     match event {
         Event::ProposeAdd {
             member,
@@ -235,6 +256,10 @@ fn call_proposal(world: &mut World<Glass>, event: &Event) -> Result<Said, WorldE
         }
         Event::ProposeRemove { member, leaf } => {
             Ok(Said::Proposal(world.propose_remove(*member, *leaf)?))
+        }
+        Event::ProposeExtensions { member, extensions } => {
+            let copy = Vec::from_clones(alloc, extensions)?;
+            Ok(Said::Proposal(world.propose_extensions(*member, copy)?))
         }
         _ => call_commit_or_delivery(world, event),
     }
@@ -270,7 +295,7 @@ pub fn call_each(
 ) -> Result<(), OutOfMemory> {
     for (act, wanted) in acts {
         let event = event_of(alloc, *act)?;
-        let said = match call_event(world, &event) {
+        let said = match call_event(alloc, world, &event) {
             Ok(said) => said,
             Err(error) => Said::Refused(error.number()),
         };

@@ -87,7 +87,7 @@ merges_of c laws p signing i list e seed made h =
     let is : Some (record { leaf_node = merged.0.0; nodes = sealed.0 }) ≡ made.path = ap (λ (x : MadePath). x.path) (ok_is (path_with c i e seed merged.0.0 sealed.0) made sealed.2) in (
       merged.0.1,
       ap (λ (o : Option UpdatePath). apply_path_if c p i e o) (sym is)
-      ∙ received c laws p signing i e e seed merged.0.0 merged.0.1 merged.0.1 (provisional_bytes p.context list merged.0.1) e.added sealed.0 sealed.0 refl merged.1 refl refl sealed.1 refl,
+          ∙ received c laws p signing i e e seed merged.0.0 merged.0.1 merged.0.1 (provisional_bytes p.context list merged.0.1) e.added sealed.0 sealed.0 refl merged.1 refl refl sealed.1 refl,
     )
 
 -- each member merges a path that was made

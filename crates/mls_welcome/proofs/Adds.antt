@@ -23,6 +23,7 @@ unfolding adds
 other_at (proposal.Add k) u us is other = absurd (other k refl)
 other_at (proposal.Update x) u us is other = rw is refl
 other_at (proposal.Remove i) u us is other = rw is refl
+other_at (proposal.GroupContextExtensions vs) u us is other = rw is refl
 
 pub places_kept : (u : Used) (us : List Used) (ks : List (KeyPackage × ℕ)) (leaves : List ℕ) → ((k : KeyPackage) → u.proposal ≡ proposal.Add k → ⊥) → ks ++ zip (adds us) leaves ≡ ks ++ zip (adds (u ∷ us)) leaves
 places_kept u us ks leaves other = ap (λ (xs : List KeyPackage). ks ++ zip xs leaves) (sym (other_at u.proposal u us refl other))

@@ -94,4 +94,4 @@ unfolding signed_info
 signed_is c signing u v s same signature = ap (signed_info c signing) (sym same) ∙ ap (λ (t : List ℕ). let w : GroupInfo = record v { signature = t } in w) (sym signature)
 
 pub ranged_by : (v : GroupInfo) (s : List ℕ) → IsRanged v → IsRanged (record v { signature = s })
-ranged_by v s r = record { suite = r.suite; epoch = r.epoch; signer = r.signer; nodes = r.nodes }
+ranged_by v s r = record { suite = r.suite; epoch = r.epoch; allowed = r.allowed; signer = r.signer; nodes = r.nodes }

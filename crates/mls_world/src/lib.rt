@@ -8,6 +8,6 @@ mod world;
 
 pub use mls_model::{Effect, Event, Origin, Reply, Source, WorldItem};
 pub use mls_world_plain::{
-    Candidate, Entry, Journal, Member, NewCandidate, NewCommit, NewMember, WorldError,
+    Active, Candidate, Entry, Journal, Member, NewCandidate, NewCommit, NewMember, WorldError,
 };
 pub use world::World;

@@ -1,18 +1,19 @@
 //! A world.
 
-ghost use Rattle.std.specs.Prelude.{◌≡◌, slice_get, option_map};
+ghost use Rattle.std.specs.Prelude.{◌≡◌, length, slice_get, option_map};
 ghost use Rattle.std.specs.Option.{option_copied};
 ghost use Rattle.mls_model.specs.Headline.{Headline, HoldsAlong};
 ghost use Rattle.mls_model.specs.World as model;
 ghost use Rattle.mls_world.specs.Runs.{RunsAll};
 ghost use Rattle.mls_world_plain.specs.CallAnswers.{seated_member};
 ghost use Rattle.mls_world_plain.specs.StepAnswer.{DoesStep, RepliesEarly};
+ghost use Rattle.mls_world_plain.specs.ActiveMembers.{active};
 
 use crate::ranges::{know_event, know_events};
 use crate::replies::push_replies;
 use mls_model::{Event, Reply};
 use mls_suite::{OutOfMemory, Suite};
-use mls_world_plain::{Journal, Member, PlainWorld};
+use mls_world_plain::{Active, Journal, Member, PlainWorld};
 use std::alloc::Global;
 use std::marker::Model;
 
@@ -86,6 +87,20 @@ impl<S: Suite> World<S> {
         ensures { option_copied result ≡ seated_member self.now k }
     {
         self.world.member(k)
+    }
+
+    /// How many members there are, removed ones among them.
+    pub fn member_count(&self) -> usize
+        ensures { result ≡ length self.now.seats }
+    {
+        self.world.member_count()
+    }
+
+    /// The numbers of the members that weren't removed, in order. It takes no memory.
+    pub fn active(&self) -> Active<'_, S>
+        ensures { result ≡ active self.now.seats }
+    {
+        self.world.active()
     }
 
     /// The journal of member k: where it began, and the commits that it followed since.

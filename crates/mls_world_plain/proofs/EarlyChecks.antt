@@ -20,7 +20,7 @@ use Rattle.mls_world_plain.specs.EarlyChecks.{check_of, early_add_checks, early_
 
 -- ---- steps
 
-abbrev error : {A : Type 0} → ℕ → Result A ℕ
+abbrev pub error : {A : Type 0} → ℕ → Result A ℕ
 error n = Err n
 
 pub unchecked : {A : Type 0} (r : Result A ℕ) (n : ℕ) → check_of r ≡ Err n → r ≡ Err n

@@ -14,3 +14,4 @@ pub mod Items
 pub mod Welcomed
 pub mod EarlyChecks
 pub mod Stepping
+pub mod ActiveMembers

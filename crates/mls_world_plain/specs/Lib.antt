@@ -7,6 +7,7 @@ pub mod Sources
 pub mod CommitItems
 pub mod CallParts
 pub mod CommitParts
+pub mod ActiveMembers
 pub mod CallAnswers
 pub mod NewMembers
 pub mod EarlyChecks

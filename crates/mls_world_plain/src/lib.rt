@@ -1,6 +1,7 @@
 //! What each event does in a world of members (RFC 9420, 11 and 12), whatever world that is.
 #![tactic(auto)]
 
+mod active;
 mod candidates;
 mod commit_adds;
 mod commit_names;
@@ -17,6 +18,7 @@ mod seats;
 mod sources;
 mod world;
 
+pub use active::Active;
 pub use candidates::NewCandidate;
 pub use commits::NewCommit;
 pub use entry::Entry;

@@ -22,7 +22,7 @@ use mls_leaf::{Bytes, Extension, GroupExtensions, KeyPackage, LeafError, Proposa
 use mls_model::{Item, Source, WorldItem};
 use mls_suite::Suite;
 use mls_view::{ContentView, MessageView, PublicMessageView};
-use std::alloc::Global;
+use std::alloc::{AllocError, Global};
 
 /// Finds the bytes of a source: `NoSuchMessage` (94).
 pub(crate) fn bytes_of<'a>(
@@ -73,6 +73,13 @@ fn read_reference(bytes: &[u8]) -> Result<Secret, WorldError>
     }
 }
 
+/// Copies extensions.
+fn copy_entries(alloc: Global, entries: &[Extension]) -> Result<Vec<Extension>, AllocError>
+    ensures { IfOk result (λ v. v.items ≡ entries.now) }
+{
+    Vec::from_clones(alloc, entries)
+}
+
 /// Copies extensions that a group may carry: `ExtensionNotAllowed` (14), before anything is copied (RFC 9420, 8.1).
 pub(crate) fn copy_extensions(
     alloc: Global,
@@ -84,7 +91,7 @@ pub(crate) fn copy_extensions(
     if !GroupExtensions::is_allowed(entries) {
         return Err(WorldError::Leaf(LeafError::ExtensionNotAllowed));
     }
-    let copy = Vec::from_clones(alloc, entries)?;
+    let copy = copy_entries(alloc, entries)?;
     Ok(GroupExtensions::new(copy)?)
 }
 

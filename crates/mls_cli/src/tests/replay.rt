@@ -15,15 +15,15 @@ const NOT_HEX: &str = "refused: 8 NotHex\n";
 const WORDS: &[&str] = &["mls", "replay", "FILE"];
 
 /// A candidate creates a group.
-const ALONE: &str = r#"
+pub const ALONE: &str = r#"
   {"op":"candidate","identity":"616461","seed":"0101010101010101010101010101010101010101010101010101010101010101"},
   {"op":"create","candidate":0,"group":"67","seed":"0202020202020202020202020202020202020202020202020202020202020202"}"#;
 
 /// Its replies.
-const BEGUN: &str = "0: candidate 0, message 0\n1: member 0\n";
+pub const BEGUN: &str = "0: candidate 0, message 0\n1: member 0\n";
 
 /// And its member, by Python's `hashlib` and `hmac`.
-const ADA: &str =
+pub const ADA: &str =
     "member 0: leaf 0, epoch 0, tree 6d04bbe92956f8aaace7df23bf42d358eb52ae0da37628bca2ca496218c89d74, authenticator cf7049122b111143d42a88e2226a9e73e67126f458adcbb70165483465a5699a\n";
 
 /// A recording of these events.
@@ -161,7 +161,7 @@ fn refuses_recordings(rt: HostRuntime) -> Result<(), Fail> {
         ("", BAD_JSON),
         ("zz", BAD_JSON),
         ("[]", BAD_JSON),
-        (r#"{"version":2,"suite":"f001","events":[]}"#, BAD_JSON),
+        (r#"{"version":3,"suite":"f001","events":[]}"#, BAD_JSON),
         (r#"{"version":1,"suite":"0001","events":[]}"#, BAD_JSON),
         (r#"{"version":1,"suite":"f001"}"#, BAD_JSON),
         (

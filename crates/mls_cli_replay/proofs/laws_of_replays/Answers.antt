@@ -5,5 +5,5 @@ use Rattle.mls_cli_replay.proofs.laws_of_replays.Goals as goal
 pub returns : goal.returns
 returns c = record {
   one = one_replay c.laws_of_calls.ensures.run c.laws_of_calls.ensures.replies;
-  message = one_message c.laws_of_calls.ensures.run;
+  message = one_message c.laws_of_calls.ensures.run c.laws_of_calls.ensures.replies;
 }

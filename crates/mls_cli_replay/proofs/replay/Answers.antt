@@ -4,7 +4,7 @@ use Rattle.mls_cli_replay.proofs.replay.Goals as goal
 
 pub returns-in-Ok-clause-prints : goal.returns-in-Ok-clause-prints
 returns-in-Ok-clause-prints g c =
-    prints_it _ _ _ c.play.result _ (is_replay g.S.Suite.crypto c.args.file.now c.in-Ok.recorded.items c.in-Ok.ensures) (rw c.as_slice.ensures.value at c.play.ensures.prints)
+    prints_it _ _ _ c.play.result _ (is_replay g.S.Suite.crypto c.args.file.now c.in-Ok.recorded c.in-Ok.ensures) c.play.ensures.prints
 
 pub returns-in-Err-clause-prints : goal.returns-in-Err-clause-prints
 returns-in-Err-clause-prints g c =

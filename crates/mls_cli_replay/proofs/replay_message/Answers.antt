@@ -4,7 +4,7 @@ use Rattle.mls_cli_replay.proofs.replay_message.Goals as goal
 
 pub returns-in-Ok-clause-prints : goal.returns-in-Ok-clause-prints
 returns-in-Ok-clause-prints g c =
-    prints_it _ _ _ c.print_message.result _ (is_message g.S.Suite.crypto c.args.number c.args.file.now c.in-Ok.recorded.items c.in-Ok.ensures)
+    prints_it _ _ _ c.print_message.result _ (is_message g.S.Suite.crypto c.args.number c.args.file.now c.in-Ok.recorded c.in-Ok.ensures)
     (rw c.as_slice.ensures.value at c.print_message.ensures.prints)
 
 pub returns-in-Err-clause-prints : goal.returns-in-Err-clause-prints

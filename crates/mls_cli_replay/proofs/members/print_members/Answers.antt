@@ -20,4 +20,4 @@ loop-number-preserved g c = record {
 
 pub returns-clause-whole : goal.returns-clause-whole
 returns-clause-whole g c =
-    named_all c.args.world.now.seats _ _ c.loop-number.number (omega (arith, c.requires)) c.loop-number.invariant.named
+    named_all c.args.world.now.seats _ _ c.loop-number.number (omega (arith, c.member_count-number-end.ensures)) c.loop-number.invariant.named

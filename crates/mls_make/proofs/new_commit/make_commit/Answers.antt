@@ -43,7 +43,8 @@ pub commit_from_path-requires-clause-used : goal.commit_from_path-requires-claus
 commit_from_path-requires-clause-used g c = usable_short c.args.used.now c.requires.used (sym c.give_long_list.ensures ∙ c.if-give_long_list.false)
 
 pub commit_from_path-requires-clause-extensions : goal.commit_from_path-requires-clause-extensions
-commit_from_path-requires-clause-extensions g c = own_path-requires-clause-extensions g c
+commit_from_path-requires-clause-extensions g c =
+    subst (IsBelow (2 ^ 27) group_extensions) (sym c.extensions_after-extensions.ensures) (carried_below c.args.speaker.now.group.now.context.extensions c.args.used.now c.is_short.ensures.context.extensions c.requires.used (sym c.give_long_list.ensures ∙ c.if-give_long_list.false))
 
 pub commit_from_path-requires-clause-leaves : goal.commit_from_path-requires-clause-leaves
 commit_from_path-requires-clause-leaves g c = λ used path. c.in_ok-own.ensures.leaves (2 ^ 27) (c.in_ok-edits.ensures.below (2 ^ 27) (omega arith) used) path
@@ -60,4 +61,4 @@ returns-clause-answer g c = λ m speaks keys used.
     }))
 
 pub returns-clause-short : goal.returns-clause-short
-returns-clause-short g c = of_any (AreShortUsed c.args.used.now) c.commit_from_path.result (commit_from_path-requires-clause-used g c)
+returns-clause-short g c = of_any (AreShortUsed c.args.used.now) c.commit_from_path.result (usable_short c.args.used.now c.requires.used (sym c.give_long_list.ensures ∙ c.if-give_long_list.false))

@@ -1,10 +1,11 @@
 use Rattle.std.proofs.Common.{◌≡◌, List, Err, sym, subst}
 use Rattle.std.proofs.lemmas.Result.{err_from_is_err_and}
 use Rattle.mls_tree.proofs.RefusalLaws.{one_number, not_refused}
+use Rattle.mls_leaf.specs.declared.extension.Extension.{Extension}
 use Rattle.mls_model.specs.declared.event.WorldItem.{WorldItem}
 use Rattle.mls_model.specs.WorldCalls.{drop_answer}
-use Rattle.mls_world_plain.specs.EarlyChecks.{early_commit_checks}
-use Rattle.mls_world_plain.proofs.Stepping.{of_candidate, of_create, of_add, of_update, of_remove, of_commit, of_drop, of_delivery, of_join}
+use Rattle.mls_world_plain.specs.EarlyChecks.{early_commit_checks, early_extensions_checks}
+use Rattle.mls_world_plain.proofs.Stepping.{of_candidate, of_create, of_add, of_update, of_remove, of_extensions, of_commit, of_drop, of_delivery, of_join}
 use Rattle.mls_world_plain.proofs.world.PlainWorld.answer.Goals as goal
 
 pub returns-in_err-candidate-in-Candidate-clause-outright : goal.returns-in_err-candidate-in-Candidate-clause-outright
@@ -44,6 +45,16 @@ returns-in_err-message-in-ProposeRemove-clause-outright g c = λ n h.
 
 pub returns-in_ok-message-in-ProposeRemove-clause-outright : goal.returns-in_ok-message-in-ProposeRemove-clause-outright
 returns-in_ok-message-in-ProposeRemove-clause-outright g c = λ n h. c.in_ok-message-in-ProposeRemove.ensures.outright n (of_remove c.args.self.now c.args.event.now n _ _ c.in-ProposeRemove.is h)
+
+pub returns-in_err-message-in-ProposeExtensions-clause-outright : goal.returns-in_err-message-in-ProposeExtensions-clause-outright
+returns-in_err-message-in-ProposeExtensions-clause-outright g c = λ n h.
+    let p = err_from_is_err_and c.from_residual-in_err-message-in-ProposeExtensions.result c.from_residual-in_err-message-in-ProposeExtensions.ensures.1 in
+    rw (p.1, p.2) (c.in_err-message-in-ProposeExtensions.ensures.outright n
+    (subst (λ (l : List Extension). early_extensions_checks c.args.self.now c.in-ProposeExtensions.member l ≡ Err n) (sym c.deref-in-ProposeExtensions.ensures.value) (of_extensions c.args.self.now c.args.event.now n _ _ c.in-ProposeExtensions.is h)))
+
+pub returns-in_ok-message-in-ProposeExtensions-clause-outright : goal.returns-in_ok-message-in-ProposeExtensions-clause-outright
+returns-in_ok-message-in-ProposeExtensions-clause-outright g c = λ n h.
+    c.in_ok-message-in-ProposeExtensions.ensures.outright n (subst (λ (l : List Extension). early_extensions_checks c.args.self.now c.in-ProposeExtensions.member l ≡ Err n) (sym c.deref-in-ProposeExtensions.ensures.value) (of_extensions c.args.self.now c.args.event.now n _ _ c.in-ProposeExtensions.is h))
 
 pub returns-in_err-message-in-Commit-clause-outright : goal.returns-in_err-message-in-Commit-clause-outright
 returns-in_err-message-in-Commit-clause-outright g c = λ n h.

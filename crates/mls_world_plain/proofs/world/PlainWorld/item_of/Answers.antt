@@ -1,10 +1,14 @@
-use Rattle.std.proofs.Common.{sym, ap, ◌∙◌, List, ℕ}
+use Rattle.std.proofs.Common.{◌≡◌, sym, ap, subst, ◌∙◌, List, ℕ, Ok, Err}
+use Rattle.mls_leaf.specs.declared.extension.Extension.{Extension}
 use Rattle.mls_model.specs.declared.event.WorldItem.{WorldItem}
 use Rattle.mls_tree.proofs.RefusalLaws.{one_number, not_refused}
 use Rattle.mls_model.specs.World.{item_of, package_of}
 use Rattle.mls_world_plain.proofs.Readings.{item_added}
 use Rattle.mls_world_plain.proofs.EarlyChecks.{item_refused}
 use Rattle.mls_world_plain.proofs.Items.{the_reference, item_referred, item_unread, item_absent}
+use Rattle.mls_world_plain.specs.Faults.{number_of}
+use Rattle.mls_world_plain.specs.Sources.{allowed_list}
+use Rattle.mls_world_plain.proofs.Extending.{item_extended, item_not_extended, extended_refused}
 use Rattle.mls_world_plain.proofs.world.PlainWorld.item_of.Goals as goal
 
 pub returns-in-Err-clause-answer : goal.returns-in-Err-clause-answer
@@ -52,3 +56,24 @@ pub returns-in-Remove-clause-outright : goal.returns-in-Remove-clause-outright
 returns-in-Remove-clause-outright g c = λ n h.
     let e = sym (ap (λ (x : WorldItem). item_of c.args.self.now x) c.in-Remove.is) ∙ h in
     absurd cc
+
+pub returns-in-Err-copy_extensions-clause-answer : goal.returns-in-Err-copy_extensions-clause-answer
+returns-in-Err-copy_extensions-clause-answer g c = λ other.
+    ap (λ (x : WorldItem). item_of c.args.self.now x) c.in-Extensions.is
+    ∙ item_not_extended c.args.self.now c.in-Extensions.entries (number_of c.in-Err-copy_extensions.error)
+    (subst (λ (l : List Extension). allowed_list l ≡ Err (number_of c.in-Err-copy_extensions.error)) c.deref.ensures.value (c.in-Err-copy_extensions.ensures.answer other))
+
+pub returns-in-Err-copy_extensions-clause-outright : goal.returns-in-Err-copy_extensions-clause-outright
+returns-in-Err-copy_extensions-clause-outright g c = λ n h.
+    c.in-Err-copy_extensions.ensures.outright n
+    (subst (λ (l : List Extension). allowed_list l ≡ Err n) (sym c.deref.ensures.value)
+    (extended_refused c.args.self.now c.in-Extensions.entries n (sym (ap (λ (x : WorldItem). item_of c.args.self.now x) c.in-Extensions.is) ∙ h)))
+
+pub returns-in-Ok-copy_extensions-clause-answer : goal.returns-in-Ok-copy_extensions-clause-answer
+returns-in-Ok-copy_extensions-clause-answer g c =
+    ap (λ (x : WorldItem). item_of c.args.self.now x) c.in-Extensions.is
+    ∙ item_extended c.args.self.now c.in-Extensions.entries c.in-Ok-copy_extensions.extensions
+    (subst (λ (l : List Extension). allowed_list l ≡ Ok c.in-Ok-copy_extensions.extensions) c.deref.ensures.value c.in-Ok-copy_extensions.ensures.answer)
+
+pub returns-in-Ok-copy_extensions-clause-outright : goal.returns-in-Ok-copy_extensions-clause-outright
+returns-in-Ok-copy_extensions-clause-outright g c = λ n h. not_refused (item_of c.args.self.now c.args.item.now) _ (returns-in-Ok-copy_extensions-clause-answer g c) n h

@@ -1,0 +1,12 @@
+use Rattle.mls_cli_replay.proofs.FoundMessages.{found_prints, nothing_prints}
+use Rattle.mls_cli_replay.proofs.Messages.{page_from}
+use Rattle.mls_cli_replay.proofs.message.print_message.Goals as goal
+
+pub returns-in_err-do_actions-clause-prints : goal.returns-in_err-do_actions-clause-prints
+returns-in_err-do_actions-clause-prints g c = nothing_prints c.from_residual.result _ _ c.from_residual.ensures.0
+
+pub returns-clause-prints : goal.returns-clause-prints
+returns-clause-prints g c =
+    found_prints g.S.Suite.crypto c.args.number c.args.recorded.now c.do_actions.new.world c.message_page.result _ _ c.print_made_page.result
+    (page_from g.S.Suite.crypto c.args.number c.args.recorded.now c.new-world.result c.do_actions.new.world c.new-world.ensures c.in_ok-do_actions.ensures.world)
+    c.message.ensures c.message_page.ensures c.print_made_page.ensures.prints

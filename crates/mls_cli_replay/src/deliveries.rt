@@ -1,0 +1,132 @@
+//! A message, delivered to each active member.
+
+ghost use Rattle.std.specs.Prelude.{◌≡◌, IfOk, OnOk, OnErr};
+ghost use Rattle.mls_model.specs.Run.{replies, run};
+ghost use Rattle.mls_world_plain.specs.ActiveMembers.{active};
+ghost use Rattle.mls_cli_replay.specs.Actions.{counted, counted_effect, deliveries, no_deliveries, tally_of, DeliversOnce, HasRoom, HasRunPart};
+
+use mls_model::{Effect, Reply, Source};
+use mls_suite::{OutOfMemory, Suite};
+use mls_world::World;
+use std::alloc::{AllocError, Global};
+
+/// How many deliveries had each kind of reply.
+#[derive(Clone, Copy, Debug, PartialEq, Eq)]
+pub struct Tally {
+    pub proposed: usize,
+    pub known: usize,
+    pub advanced: usize,
+    pub removed: usize,
+    pub refused: usize,
+}
+
+/// Of no deliveries.
+fn no_deliveries() -> Tally
+    ensures { result ≡ no_deliveries }
+{
+    Tally {
+        proposed: 0,
+        known: 0,
+        advanced: 0,
+        removed: 0,
+        refused: 0,
+    }
+}
+
+/// Counts one more delivery, which did this.
+fn counted_effect(tally: Tally, effect: Effect) -> Tally
+    requires { HasRoom tally }
+    ensures { result ≡ counted_effect tally effect }
+{
+    match effect {
+        Effect::Proposed { .. } => Tally {
+            proposed: tally.proposed + 1,
+            ..tally
+        },
+        Effect::Known { .. } => Tally {
+            known: tally.known + 1,
+            ..tally
+        },
+        Effect::Advanced { .. } => Tally {
+            advanced: tally.advanced + 1,
+            ..tally
+        },
+        Effect::Removed => Tally {
+            removed: tally.removed + 1,
+            ..tally
+        },
+    }
+}
+
+/// Counts one more reply to a delivery.
+fn counted(tally: Tally, reply: Reply) -> Tally
+    requires { HasRoom tally }
+    ensures { result ≡ counted tally reply }
+{
+    match reply {
+        Reply::Delivered { effect } => counted_effect(tally, effect),
+        Reply::Candidate { .. }
+        | Reply::Created { .. }
+        | Reply::Proposal { .. }
+        | Reply::Commit { .. }
+        | Reply::Dropped { .. }
+        | Reply::Joined { .. }
+        | Reply::Refused { .. } => Tally {
+            refused: tally.refused + 1,
+            ..tally
+        },
+    }
+}
+
+/// Delivers a source to a member: a refusal is the reply, but for want of memory, at which the world is as before.
+#[tactic(auto, unfolding(mls_model::specs::Run::step, mls_model::specs::Run::answer))]
+fn deliver<S: Suite>(
+    world: &mut World<S>,
+    member: usize,
+    source: &Source,
+) -> Result<Reply, OutOfMemory>
+    ensures { DeliversOnce S.crypto world.old world.new member source.now result }
+{
+    match world.deliver(member, source) {
+        Ok(effect) => Ok(Reply::Delivered { effect }),
+        Err(error) => match error.number() {
+            // Want of memory: 1 is its number, and that of no other refusal.
+            1 => Err(AllocError),
+            number => Ok(Reply::Refused { number }),
+        },
+    }
+}
+
+/// Delivers a source to these members in order, and counts the replies. Where memory is wanting, those before are
+/// delivered.
+fn deliver_to<S: Suite>(
+    world: &mut World<S>,
+    members: &[usize],
+    source: &Source,
+) -> Result<Tally, OutOfMemory>
+    ensures world { OnOk result (world.new ≡ run S.crypto world.old (deliveries source.now members.now)) }
+    ensures tally { IfOk result (λ t. t ≡ tally_of (replies S.crypto world.old (deliveries source.now members.now))) }
+    ensures part { OnErr result (HasRunPart S.crypto world.old world.new (deliveries source.now members.now)) }
+{
+    let mut tally = no_deliveries();
+    for member in members {
+        let reply = deliver(world, *member, source)?;
+        tally = counted(tally, reply);
+    }
+    Ok(tally)
+}
+
+/// Delivers a source to each member that is active now, in order of their numbers, and counts the replies. Where memory
+/// is wanting, some are delivered.
+pub fn deliver_to_all<S: Suite>(
+    alloc: Global,
+    world: &mut World<S>,
+    source: &Source,
+) -> Result<Tally, OutOfMemory>
+    ensures world { OnOk result (world.new ≡ run S.crypto world.old (deliveries source.now (active world.old.seats))) }
+    ensures tally { IfOk result (λ t. t ≡ tally_of (replies S.crypto world.old (deliveries source.now (active world.old.seats)))) }
+    ensures part { OnErr result (HasRunPart S.crypto world.old world.new (deliveries source.now (active world.old.seats))) }
+{
+    let members: Vec<usize> = world.active().collect(alloc)?;
+    deliver_to(world, members.as_slice(), source)
+}
