@@ -1,2 +1,3 @@
 pub mod Saying
+mod Reading
 mod Numbers

@@ -1,5 +1,5 @@
 -- What a served job leaves.
-use Rattle.std.specs.Prelude.{◌≡◌, ◌≤◌, ◌⊎◌, ◌++◌, ℕ, Bool, true, false, List, [], codes, Option, Some, None, Result, Ok, Err, IfOk, IfErr, IfSome, OnOk, OnErr, string_bytes}
+use Rattle.std.specs.Prelude.{◌≡◌, ◌≤◌, ◌⊎◌, ◌++◌, ℕ, suc, nat_lt, Bool, true, false, if◌then◌else◌, List, [], length, take, codes, Option, Some, None, Result, Ok, Err, IfOk, IfErr, IfSome, OnOk, OnErr, string_bytes}
 use Rattle.std.specs.Io.KnownBytes.{Appends, Keeps}
 use Rattle.mls_suite.specs.Crypto.{Crypto}
 use Rattle.mls_suite.specs.Glass.{glass}
@@ -10,8 +10,9 @@ use Rattle.mls_cli.specs.declared.tasks.SuiteChoice.TheVariants as choice
 use Rattle.mls_cli.specs.declared.tasks.Job.{Job}
 use Rattle.mls_cli.specs.declared.tasks.Job.TheVariants as job
 use Rattle.mls_cli_text.specs.InputOutput.{AppendsPart, out_failed, out_writer}
-use Rattle.mls_cli_text.specs.Page.{Printout, printout}
-use Rattle.mls_cli_text.specs.Text.{line_text}
+use Rattle.mls_cli_text.specs.HexFileLimit.{hex_file_limit}
+use Rattle.mls_cli_text.specs.Page.{Page, Printout, printout, refused}
+use Rattle.mls_cli_text.specs.Text.{Entry, line_text}
 use Rattle.mls_cli_text.specs.declared.fault.Fault.{Fault}
 use Rattle.mls_cli_text.specs.declared.fault.Fault.TheVariants as fault
 use Rattle.mls_cli_show.specs.Show.{page_of as show_page}
@@ -47,11 +48,15 @@ abbrev pub IsReplayOrMessage : Crypto → Option ℕ → List ℕ → Printout �
 IsReplayOrMessage c None text p = IsReplay c text p
 IsReplayOrMessage c (Some n) text p = IsMessage c n text p
 
+-- what is printed of a hex file whose page is this: the refusal `TooLong` (6) alone, where the text is too long
+abbrev pub hex_file_page : List ℕ → Page Entry → Page Entry
+hex_file_page text page = if nat_lt hex_file_limit (length text) then refused 6 else page
+
 -- what a job prints for a file of this text
 abbrev pub IsPrintout : Job → List ℕ → Printout → Type 0
-IsPrintout (job.Show file) text p = p ≡ printout line_text (show_page text)
+IsPrintout (job.Show file) text p = p ≡ printout line_text (hex_file_page text (show_page text))
 IsPrintout (job.Check file suite signatures group) text p =
-    p ≡ printout line_text (check_page (checking suite signatures) (checks_of suite signatures) text group.now)
+    p ≡ printout line_text (hex_file_page text (check_page (checking suite signatures) (checks_of suite signatures) text group.now))
 IsPrintout (job.Replay file suite message) text p = IsReplayOrMessage (crypto_of suite) message text p
 IsPrintout (job.Vectors file) text p = p ≡ printout entry_text (vectors_page text)
 
@@ -119,6 +124,17 @@ EndsWithoutJob no_job.OutOfMemory status out_old out_new written old new failed 
     (status ≡ 3) × Keeps out_old out_new × SaysOrFails old new failed out_of_memory
 
 -- ---- of the code's ends
+
+-- what a job reads of a file of this text: no more of a hex file than shows that it is too long
+abbrev pub read_of : Job → List ℕ → List ℕ
+read_of (job.Show file) text = take (suc hex_file_limit) text
+read_of (job.Check file suite signatures group) text = take (suc hex_file_limit) text
+read_of (job.Replay file suite message) text = text
+read_of (job.Vectors file) text = text
+
+-- this is what a job reads of all that a reader has left, where that is known
+abbrev pub ReadsFile : {I : Type 0} → (I → Option (List ℕ)) → Job → I → List ℕ → Type 0
+ReadsFile remaining j reader text = IfSome (remaining reader) (λ (all : List ℕ). text ≡ read_of j all)
 
 -- what a job prints of a text is printed
 abbrev pub PrintsText : {O : Type 0} → (O → Option (List ℕ)) → Job → List ℕ → O → O → Result ℕ Fault → Type 0

@@ -4,16 +4,19 @@ ghost use Rattle.std.specs.Prelude.{is_some, ◌≡◌, ◌≢◌, ◌≤◌, []
 ghost use Rattle.std.specs.Io.KnownBytes.{Keeps};
 ghost use Rattle.mls_cli_text.specs.InputOutput.{out_failed, out_writer, read_failed, write_failed};
 ghost use Rattle.mls_cli_text.specs.Page.{MakesPage};
+ghost use Rattle.mls_cli_show.specs.Show.{page_of as show_page};
 ghost use Rattle.mls_cli_check.specs.Check.{check_page};
 ghost use Rattle.mls_cli_replay.specs.Replay.{PrintsOne};
 ghost use Rattle.mls_cli.specs.Arguments.{file_of};
-ghost use Rattle.mls_cli.specs.Serving.{BeginsError, EndsWith, EndsWithoutJob, IsReplayOrMessage, KeepsUnread, PrintsFile, PrintsRead, PrintsRecording, PrintsText, Says, ShowsHelp, WritesError, checking, checks_of, fault_text, out_of_memory as memory_text, unread, unreadable};
+ghost use Rattle.mls_cli.specs.Serving.{BeginsError, EndsWith, EndsWithoutJob, IsReplayOrMessage, KeepsUnread, PrintsFile, PrintsRead, PrintsRecording, PrintsText, ReadsFile, Says, ShowsHelp, WritesError, checking, checks_of, fault_text, hex_file_page, out_of_memory as memory_text, unread, unreadable};
 
 use crate::tasks::{Job, NoJob, SuiteChoice};
 use mls_cli_check::{SuiteChecks, Unchecked, check_page};
 use mls_cli_replay::{replay, replay_message};
 use mls_cli_show::show_page;
-use mls_cli_text::{Fault, Input, Line, Out, Output, Page, print_made_page};
+use mls_cli_text::{
+    Fault, HEX_FILE_LIMIT, Input, Line, Out, Output, Page, print_made_page, refused_page,
+};
 use mls_cli_vectors::vectors_page;
 use mls_suite::{Glass, Suite};
 use mls_suite_0001::Suite0001;
@@ -95,8 +98,20 @@ fn print_job<I: Input, O: Output>(
     ensures read { I.failed file.new ≡ read_failed (I.failed file.old) result }
     ensures unread { result ≡ Err Fault.Read → Keeps (O.contents out.old) (O.contents out.new) }
 {
-    let text = file.read_all(alloc)?;
+    let text = read_file(alloc, job, file)?;
     print_text(alloc, job, text.as_slice(), out)
+}
+
+/// Reads the file: whole, but no more of a hex file than shows that it is too long.
+fn read_file<I: Input>(alloc: Global, job: &Job<'_>, file: &mut I) -> Result<Vec<u8>, Fault>
+    ensures text { IfOk result (λ v. ReadsFile I.remaining job.now file.old v.items) }
+    ensures fault { I.failed file.new ≡ read_failed (I.failed file.old) result }
+    ensures read { IfErr result (λ e. e ≢ Fault.Write) }
+{
+    match job {
+        Job::Show { .. } | Job::Check { .. } => file.read_front(alloc, HEX_FILE_LIMIT as u64 + 1),
+        Job::Replay { .. } | Job::Vectors { .. } => file.read_all(alloc),
+    }
 }
 
 /// Prints what the job asks for of a file's text.
@@ -112,7 +127,7 @@ fn print_text<O: Output>(
     ensures written { IfErr result (λ e. e ≢ Fault.Read) }
 {
     match job {
-        Job::Show { .. } => print_made_page(alloc, show_page(alloc, text), out),
+        Job::Show { .. } => print_made_page(alloc, show_file(alloc, text), out),
         Job::Check {
             suite,
             signatures,
@@ -120,7 +135,7 @@ fn print_text<O: Output>(
             ..
         } => print_made_page(
             alloc,
-            check_file(alloc, *suite, *signatures, text, group),
+            tree_file(alloc, *suite, *signatures, text, group),
             out,
         ),
         Job::Replay { suite, message, .. } => {
@@ -130,7 +145,34 @@ fn print_text<O: Output>(
     }
 }
 
-/// What is printed of a tree's file under the chosen suite.
+/// What is printed of a message's file: `TooLong` (6) alone where its text is too long.
+fn show_file(alloc: Global, text: &[u8]) -> Result<Page<Line>, AllocError>
+    ensures { MakesPage result (hex_file_page text.now (show_page text.now)) }
+{
+    if text.len() > HEX_FILE_LIMIT {
+        return Ok(refused_page(alloc, 6));
+    }
+    show_page(alloc, text)
+}
+
+/// What is printed of a tree's file under the chosen suite: `TooLong` (6) alone where its text is too long.
+fn tree_file(
+    alloc: Global,
+    suite: SuiteChoice,
+    signatures: bool,
+    text: &[u8],
+    group: &str,
+) -> Result<Page<Line>, AllocError>
+    ensures { MakesPage result (hex_file_page text.now
+        (check_page (checking suite signatures) (checks_of suite signatures) text.now group.now)) }
+{
+    if text.len() > HEX_FILE_LIMIT {
+        return Ok(refused_page(alloc, 6));
+    }
+    check_file(alloc, suite, signatures, text, group)
+}
+
+/// What is printed of a tree's file of this text under the chosen suite.
 fn check_file(
     alloc: Global,
     suite: SuiteChoice,

@@ -89,8 +89,8 @@ pub lines_say : (lines : List ReplayLine) (entries : List ReplayEntry) → map e
 lines_say lines entries is = sym (flat_map-map entry_text entry_of lines) ∙ ap (flat_map entry_text) is
 
 pub silent : (lines : List ReplayLine) (entries : List ReplayEntry) (b : Bool) → map entry_of lines ≡ entries → b ≡ (length lines == 0) → b ≡ is_silent entries
-silent [] entries b is no = rw (no, ← is) refl
-silent (l ∷ ls) entries b is no = rw (no, ← is) refl
+silent [] entries b is none = rw (none, ← is) refl
+silent (l ∷ ls) entries b is some = rw (some, ← is) refl
 
 -- the texts that are expected, by what is lent of them
 pub texts_lent : (lent : Option (Bor (List (String Global)))) (own : Option (Vec (String Global)))

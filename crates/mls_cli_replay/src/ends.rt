@@ -104,7 +104,7 @@ fn add_line<'a>(
     lines: &mut Vec<ReplayLine<'a>>,
     found: Option<ReplayLine<'a>>,
 ) -> Result<(), AllocError>
-    ensures { OnOk result (lines.new.items ≡ lines.old.items ++ option_to_list found) }
+    ensures { OnOk result (lines.new.items ≡ lines.old.items ++ option_to_list found.entry) }
 {
     match found {
         Some(line) => {

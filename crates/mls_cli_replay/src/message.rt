@@ -1,6 +1,6 @@
 //! One message of a world, printed in hex digits.
 
-ghost use Rattle.std.specs.Prelude.{◌≡◌, ◌≢◌, ◌≤◌, IfOk, IfErr, OnOk, option_copied};
+ghost use Rattle.std.specs.Prelude.{◌≡◌, ◌≢◌, ◌≤◌, false, IfOk, IfErr, None, OnOk, option_copied};
 ghost use Rattle.mls_cli_replay.specs.Actions.{run_all};
 ghost use Rattle.mls_cli_text.specs.InputOutput.{write_failed};
 ghost use Rattle.mls_cli_text.specs.Page.{page_of};

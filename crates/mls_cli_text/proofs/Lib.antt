@@ -2,3 +2,4 @@ pub mod Pages
 pub mod Pieces
 mod Digits
 mod Trims
+mod Fronts

@@ -1,6 +1,8 @@
 pub mod Text
 pub mod InputOutput
+pub mod InputFront
 pub mod HexFile
+pub mod HexFileLimit
 pub mod Faults
 pub mod Page
 pub mod TextLaws

@@ -8,9 +8,13 @@ ghost use Rattle.mls_cli_text.specs.HexFile.{bytes_in, is_blank, is_hex, before_
 ghost use Rattle.mls_cli_text.specs.Faults.{number_of};
 
 use hex::FromHexError;
+use mls_leaf::INPUT_LIMIT;
 use mls_wire::refusal_name;
 use std::alloc::Global;
 use thiserror::Error;
+
+/// How many bytes the text of a hex file may have: two digits for each byte of an input, and room for blanks.
+pub const HEX_FILE_LIMIT: usize = 2 * INPUT_LIMIT + 1024;
 
 /// Why a file has no bytes.
 #[derive(Clone, Copy, Debug, PartialEq, Eq, Error)]

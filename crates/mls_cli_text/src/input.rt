@@ -3,6 +3,7 @@
 ghost use Rattle.std.specs.Prelude.{ℕ, List, Bool, Option, Some, true, false, ◌≡◌, IfOk, IfErr, ◌≢◌};
 ghost use Rattle.std.specs.IoError.{error_kind};
 ghost use Rattle.mls_cli_text.specs.InputOutput.{AreAll, read_failed};
+ghost use Rattle.mls_cli_text.specs.InputFront.{AreFront};
 
 use crate::fault::Fault;
 use std::alloc::Global;
@@ -20,6 +21,12 @@ pub trait Input {
     /// Reads all bytes that are left.
     fn read_all(&mut self, alloc: Global) -> Result<Vec<u8>, Fault>
         ensures whole { IfOk result (λ bytes. AreAll (remaining self.old) bytes.items) }
+        ensures fault { failed self.new ≡ read_failed (failed self.old) result }
+        ensures read { IfErr result (λ e. e ≢ Fault.Write) };
+
+    /// Reads the bytes that are left, but no more than so many.
+    fn read_front(&mut self, alloc: Global, most: u64) -> Result<Vec<u8>, Fault>
+        ensures front { IfOk result (λ bytes. AreFront most (remaining self.old) bytes.items) }
         ensures fault { failed self.new ≡ read_failed (failed self.old) result }
         ensures read { IfErr result (λ e. e ≢ Fault.Write) };
 }
@@ -67,6 +74,16 @@ impl<R: Read> Input for In<R> {
             other => other,
         }
     }
+
+    fn read_front(&mut self, alloc: Global, most: u64) -> Result<Vec<u8>, Fault> {
+        match read_up_to(alloc, &mut self.reader, most) {
+            Err(Fault::Read) => {
+                self.failed = true;
+                Err(Fault::Read)
+            }
+            read => read,
+        }
+    }
 }
 
 /// A slice fails for want of memory alone.
@@ -80,6 +97,19 @@ impl Input for &[u8] {
         match Vec::from_slice(alloc, all) {
             Ok(bytes) => {
                 *self = &[];
+                Ok(bytes)
+            }
+            // Want of memory: the error is an `AllocError`.
+            Err(_) => Err(Fault::OutOfMemory),
+        }
+    }
+
+    fn read_front(&mut self, alloc: Global, most: u64) -> Result<Vec<u8>, Fault> {
+        let all: &[u8] = *self;
+        let (front, rest) = all.split_at(all.len().min(most as usize));
+        match Vec::from_slice(alloc, front) {
+            Ok(bytes) => {
+                *self = rest;
                 Ok(bytes)
             }
             // Want of memory: the error is an `AllocError`.
@@ -107,6 +137,19 @@ fn read_whole<R: Read>(alloc: Global, reader: &mut R) -> Result<Vec<u8>, Fault>
     let mut bytes = Vec::new(alloc);
     match reader.read_to_end(&mut bytes) {
         Ok(_) => Ok(bytes),
+        Err(error) => Err(read_fault(&error)),
+    }
+}
+
+/// Reads the bytes that the reader has left, but no more than so many.
+fn read_up_to<R: Read>(alloc: Global, reader: &mut R, most: u64) -> Result<Vec<u8>, Fault>
+    ensures front { IfOk result (λ bytes. AreFront most (R.remaining reader.old) bytes.items) }
+    ensures read { IfErr result (λ e. e ≢ Fault.Write) }
+{
+    let mut bytes = Vec::new(alloc);
+    let mut front = reader.take(most);
+    match front.read_to_end(&mut bytes) {
+        Ok(_count) => Ok(bytes),
         Err(error) => Err(read_fault(&error)),
     }
 }

@@ -11,7 +11,7 @@ mod printing;
 mod text;
 
 pub use fault::Fault;
-pub use hex_file::{FileError, file_bytes, is_hex, is_hex_file};
+pub use hex_file::{FileError, HEX_FILE_LIMIT, file_bytes, is_hex, is_hex_file};
 pub use input::{In, Input};
 pub use output::{Out, Output};
 pub use page::{Ending, Page, print_made_page, print_page, refused_page};

@@ -1,6 +1,6 @@
 //! Single messages that no honest member sends, or that are sent to the wrong one.
 
-use crate::acts::{Act, Parts, additions};
+use crate::acts::{Act, Parts};
 use crate::changes::turn_bits;
 use crate::forgery::{Committed, path_secret};
 use crate::groups;
@@ -8,12 +8,12 @@ use crate::outcome::Outcome;
 use crate::pieces::{check_limit, joined, replace_text, without_last};
 use crate::stage::{Receiver, Stage};
 use anyhow::{Result, bail};
-use mls_kdf::{Secret, Seed, hash};
+use mls_kdf::{Secret, Seed};
 use mls_leaf::Codec;
 use mls_model::{Event, Origin, Source, WorldItem};
 use mls_suite::{Glass, sign_with_label};
 use mls_world::{Candidate, Member, World};
-use std::alloc::{AllocError, Global};
+use std::alloc::Global;
 
 /// What a commit that seals zeros to the second of three is answered.
 #[derive(Drop)]
@@ -269,55 +269,4 @@ pub fn wrong_adds(alloc: Global, in_order: bool) -> Result<u8> {
     let mut stage = three_after(alloc, 4)?;
     let items = wrong_items(alloc, &stage, in_order)?;
     Ok(commit_number(stage.world_mut(), &items))
-}
-
-/// The members that a tree of 4,096 leaves holds besides the first.
-const OTHERS: usize = 4095;
-
-/// A candidate, named by its number, none of whose keys is another's.
-fn candidate(alloc: Global, number: usize) -> Result<Event, AllocError> {
-    let name = number.to_be_bytes();
-    let seed = hash(&[&name]);
-    let identity = Vec::from_slice(alloc, &name)?;
-    Ok(Event::Candidate { identity, seed })
-}
-
-fn many_candidates(alloc: Global, stage: &mut Stage) -> Result<()> {
-    for number in 0..=OTHERS {
-        let event = candidate(alloc, number)?;
-        let answered = stage.event(alloc, &event);
-        drop(event);
-        answered?;
-    }
-    Ok(())
-}
-
-/// The first adds so many that its tree is full: message 0 is its KeyPackage, and those of the others follow.
-fn fill(alloc: Global, stage: &mut Stage) -> Result<()> {
-    many_candidates(alloc, stage)?;
-    let parts = Parts::Added {
-        first: 1,
-        count: OTHERS,
-    };
-    let commit = Act::Commit {
-        member: 0,
-        parts,
-        path: false,
-        seed: 8,
-    };
-    let deliver = Act::Deliver {
-        member: 0,
-        message: OTHERS + 2,
-    };
-    stage.acts(alloc, &[commit, deliver])
-}
-
-/// How many members a full tree has, and what the commit is answered that would add one more.
-pub fn try_full_tree(alloc: Global) -> Result<(u32, u8)> {
-    let mut stage = three_after(alloc, 2)?;
-    fill(alloc, &mut stage)?;
-    let items = additions(alloc, OTHERS + 1, 1)?;
-    let number = commit_number(stage.world_mut(), &items);
-    let members = stage.member(0)?.group().tree().member_count();
-    Ok((members, number))
 }

@@ -1,6 +1,7 @@
 //! The part that is fixed: each message as it is to each state, some changes, and single wrong messages.
 
 use crate::acts::Act;
+use crate::built::try_large_tree;
 use crate::changes::{lengths, lowest_bits};
 use crate::checks::{answer_elsewhere, forged_answers, welcome_answers, wrong_adds};
 use crate::groups;
@@ -181,6 +182,8 @@ fn print_checks(rt: &impl Print, alloc: Global) -> Result<()> {
     println!(rt;
         "an add without a capability before one without a signature: {first}, behind it: {last}"
     )?;
+    let number = try_large_tree(alloc)?;
+    println!(rt; "a Welcome whose tree has a leaf too many: {number}")?;
     Ok(())
 }
 

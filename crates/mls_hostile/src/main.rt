@@ -1,9 +1,11 @@
 //! Hostile use: messages that are changed, cut, repeated and out of order, given to the members and candidates of
 //! small groups, with what these answer. Without words a fixed part, a group of forty, and the recordings that lie
-//! where it runs; with the word `large` or `recordings` one of these, with `whole` each change of each message.
+//! where it runs; with the word `large` or `recordings` one of these, with `whole` each change of each message, with
+//! `full` a group with as many members as a tree may have.
 #![tactic(auto)]
 
 mod acts;
+mod built;
 mod changes;
 mod checks;
 mod fixed_portion;
@@ -33,6 +35,8 @@ enum Portion {
     Recordings,
     /// Each change of each message.
     Whole,
+    /// A group whose tree is full.
+    Full,
 }
 
 /// The portion that the first word asks for.
@@ -45,6 +49,7 @@ fn portion_from_words(rt: &HostRuntime) -> Result<Portion> {
         "large" => Ok(Portion::Large),
         "recordings" => Ok(Portion::Recordings),
         "whole" => Ok(Portion::Whole),
+        "full" => Ok(Portion::Full),
         _ => bail!("no portion of that name"),
     }
 }
@@ -60,5 +65,6 @@ fn main(rt: HostRuntime) -> Result<()> {
         Portion::Large => large_portion::run(&rt, alloc),
         Portion::Recordings => recordings::run(&rt),
         Portion::Whole => whole_portion::run(&rt, alloc),
+        Portion::Full => built::run(&rt, alloc),
     }
 }

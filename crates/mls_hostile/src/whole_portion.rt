@@ -2,7 +2,6 @@
 
 use crate::acts::Act;
 use crate::changes::all_changes;
-use crate::checks::try_full_tree;
 use crate::groups;
 use crate::outcome::Tally;
 use crate::states::{Group, State, states_of};
@@ -61,8 +60,5 @@ pub fn run(rt: &impl Print, alloc: Global) -> Result<()> {
     print_group(rt, alloc, "a pair", groups::pair(alloc)?)?;
     print_group(rt, alloc, "an update among three", groups::update(alloc)?)?;
     print_group(rt, alloc, "a removal among three", groups::removal(alloc)?)?;
-    print_group(rt, alloc, "four adds", groups::four_adds(alloc)?)?;
-    let (members, number) = try_full_tree(alloc)?;
-    println!(rt; "one more to {members} members: {number}")?;
-    Ok(())
+    print_group(rt, alloc, "four adds", groups::four_adds(alloc)?)
 }

@@ -7,9 +7,10 @@ use crate::open_source;
 use crate::serving::serve;
 use crate::tests::rows::{JOIN, JOIN_TEXT};
 use crate::tests::{KEY_PACKAGE, OUT_OF_MEMORY, TEXT, unless_out_of_memory};
-use mls_cli_text::{Fault, Out, Output};
+use mls_cli_text::{Fault, In, Out, Output};
+use std::alloc::{AllocError, Global};
 use std::io;
-use std::io::{ErrorKind, Write};
+use std::io::{ErrorKind, Read, Write};
 use std::test::Fail;
 
 /// Takes one byte at each second write, and is interrupted at the others.
@@ -60,6 +61,38 @@ fn goes_on_after_interrupted_writes(rt: HostRuntime) -> Result<(), Fail> {
     assert_eq!(rt; status, 0);
     assert!(rt; halting.held.as_slice() == TEXT.as_bytes());
     assert!(rt; errors.is_empty());
+    Ok(())
+}
+
+/// Gives zeros without an end.
+#[derive(Drop)]
+struct Endless;
+
+impl Read for Endless {
+    fn read(&mut self, bytes: &mut [u8]) -> io::Result<usize> {
+        bytes.fill(0);
+        Ok(bytes.len())
+    }
+}
+
+/// The status for these words and a FILE without an end, and what is printed.
+fn serve_endless(alloc: Global, words: &[&str]) -> Result<(u8, Vec<u8>), AllocError> {
+    let mut file = Some(In::new(Endless));
+    let mut out = Vec::new(alloc);
+    let mut errors = Vec::new(alloc);
+    let job = job(alloc, words);
+    let status = serve(alloc, &job, &mut file, &mut out, &mut Out::new(&mut errors));
+    unless_out_of_memory(status, errors.as_slice())?;
+    Ok((status, out))
+}
+
+#[test]
+fn stops_reading_at_the_limit(rt: HostRuntime) -> Result<(), Fail> {
+    for words in [["mls", "show", "FILE"], ["mls", "check", "FILE"]] {
+        let (status, out) = serve_endless(rt.alloc(), words.as_slice())?;
+        assert_eq!(rt; status, 1);
+        assert!(rt; out.as_slice() == b"refused: 6 TooLong\n".as_slice());
+    }
     Ok(())
 }
 

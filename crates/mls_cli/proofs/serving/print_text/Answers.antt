@@ -8,11 +8,11 @@ use Rattle.mls_cli.proofs.serving.print_text.Goals as goal
 
 pub returns-in-Show-clause-prints : goal.returns-in-Show-clause-prints
 returns-in-Show-clause-prints g c =
-    rw c.in-Show.is (prints_it _ _ _ _ _ refl (made_prints line_text entry_of _ _ c.show_page.result _ _ c.show_page.ensures.page c.print_made_page.ensures.prints))
+    rw c.in-Show.is (prints_it _ _ _ _ _ refl (made_prints line_text entry_of _ _ c.show_file.result _ _ c.show_file.ensures c.print_made_page.ensures.prints))
 
 pub returns-in-Check-clause-prints : goal.returns-in-Check-clause-prints
 returns-in-Check-clause-prints g c =
-    rw c.in-Check.is (prints_it _ _ _ _ _ refl (made_prints line_text entry_of _ _ c.check_file.result _ _ c.check_file.ensures c.print_made_page-in-Check.ensures.prints))
+    rw c.in-Check.is (prints_it _ _ _ _ _ refl (made_prints line_text entry_of _ _ c.tree_file.result _ _ c.tree_file.ensures c.print_made_page-in-Check.ensures.prints))
 
 pub returns-in-Vectors-clause-prints : goal.returns-in-Vectors-clause-prints
 returns-in-Vectors-clause-prints g c =

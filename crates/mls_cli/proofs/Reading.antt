@@ -1,0 +1,44 @@
+-- What a job reads of a file is enough for what it prints.
+use Rattle.std.proofs.Common.{◌≡◌, ℕ, suc, ◌<◌, ◌≤◌, nat_lt, true, false, List, length, take, Option, Some, None, Result, Ok, Err, IfSome, inl, inr, refl, sym, ◌∙◌, ap, subst, arith}
+use Rattle.std.proofs.lemmas.Bool.{cases_lt, cond-true, cond-false, lt-ltb, le-ltb}
+use Rattle.std.proofs.lemmas.List.{length-take-le, take_all}
+use Rattle.mls_cli_text.specs.HexFileLimit.{hex_file_limit}
+use Rattle.mls_cli_text.specs.Page.{Page, Printout, printout, refused}
+use Rattle.mls_cli_text.specs.Text.{Entry, line_text}
+use Rattle.mls_cli_text.specs.declared.fault.Fault.{Fault}
+use Rattle.mls_cli_show.specs.Show.{page_of as show_page}
+use Rattle.mls_cli_check.specs.Check.{check_page}
+use Rattle.mls_cli_replay.specs.Replay.{PrintsOne}
+use Rattle.mls_cli.specs.declared.tasks.Job.{Job}
+use Rattle.mls_cli.specs.declared.tasks.Job.TheVariants as job
+use Rattle.mls_cli.specs.Serving.{IsPrintout, checking, checks_of, hex_file_page, read_of}
+
+pub long_page : (text : List ℕ) (page : Page Entry) → hex_file_limit < length text → hex_file_page text page ≡ refused 6
+long_page text page long = cond-true (nat_lt hex_file_limit (length text)) _ _ (lt-ltb hex_file_limit (length text) long)
+
+pub short_page : (text : List ℕ) (page : Page Entry) → length text ≤ hex_file_limit → hex_file_page text page ≡ page
+short_page text page short = cond-false (nat_lt hex_file_limit (length text)) _ _ (le-ltb hex_file_limit (length text) short)
+
+page_of_front : (text : List ℕ) (page : List ℕ → Page Entry) → hex_file_page (take (suc hex_file_limit) text) (page (take (suc hex_file_limit) text)) ≡ hex_file_page text (page text)
+page_of_front text page =
+    elim (cases_lt hex_file_limit (length text)) [
+      | inl long ↦
+          let most = length-take-le (suc hex_file_limit) text (omega arith) in
+          long_page (take (suc hex_file_limit) text) _ (omega arith) ∙ sym (long_page text _ long)
+      | inr short ↦ ap (λ front. hex_file_page front (page front)) (take_all (suc hex_file_limit) text (omega arith))
+    ]
+
+same_printout : (j : Job) (text : List ℕ) (p : Printout) → IsPrintout j (read_of j text) p → IsPrintout j text p
+same_printout (job.Show file) text p is = is ∙ ap (printout line_text) (page_of_front text show_page)
+same_printout (job.Check file suite signatures group) text p is = is ∙ ap (printout line_text) (page_of_front text (λ own. check_page (checking suite signatures) (checks_of suite signatures) own group.now))
+same_printout (job.Replay file suite message) text p is = is
+same_printout (job.Vectors file) text p is = is
+
+prints_all : (j : Job) (text : List ℕ) (old new : Option (List ℕ)) (r : Result ℕ Fault) → PrintsOne (IsPrintout j (read_of j text)) old new r → PrintsOne (IsPrintout j text) old new r
+prints_all j text old new (Ok status) (p, is, grew, same) = (p, same_printout j text p is, grew, same)
+prints_all j text old new (Err e) (inl kept) = inl kept
+prints_all j text old new (Err e) (inr (p, is, part)) = inr (p, same_printout j text p is, part)
+
+pub prints_read : (remaining : Option (List ℕ)) (j : Job) (front text : List ℕ) (old new : Option (List ℕ)) (r : Result ℕ Fault) → front ≡ text → IfSome remaining (λ (all : List ℕ). text ≡ read_of j all) → PrintsOne (IsPrintout j front) old new r → IfSome remaining (λ (all : List ℕ). PrintsOne (IsPrintout j all) old new r)
+prints_read None j front text old new r same is prints = tt
+prints_read (Some all) j front text old new r same is prints = prints_all j all old new r (subst (λ (own : List ℕ). PrintsOne (IsPrintout j own) old new r) (same ∙ is) prints)
