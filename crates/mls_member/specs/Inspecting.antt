@@ -1,5 +1,5 @@
 -- What a message would do to a member, and who sent it.
-use Rattle.std.specs.Prelude.{◌≡◌, ℕ, List, Option, None, option_map, Result, Ok, Err, IfOk}
+use Rattle.std.specs.Prelude.{ℕ, Option, None, option_map, Result, Ok, Err, IfOk}
 use Rattle.mls_wire.specs.Checks.{Answers}
 use Rattle.mls_types.specs.declared.message.MlsMessage.{MlsMessage}
 use Rattle.mls_types.specs.declared.public_message.PublicMessage.{PublicMessage}

@@ -1,4 +1,4 @@
-use Rattle.std.proofs.Common.{◌≡◌, ◌<◌, ◌∙◌, sym, arith}
+use Rattle.std.proofs.Common.{◌<◌, ◌∙◌, sym, arith}
 use Rattle.mls_tree_model.specs.Term.{width}
 use Rattle.mls_tree.specs.Tree.{term}
 use Rattle.mls_member.proofs.MemberWalk.{finds, none_left, passes}
