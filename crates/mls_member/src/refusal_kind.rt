@@ -54,6 +54,7 @@ fn kind_of(number: u8) -> RefusalKind
     ensures { result ≡ kind_of number }
 {
     match number {
+        // Want of memory: the kind of a refusal with its number, 1.
         1 => RefusalKind::OutOfMemory,
         2 | 3 | 4 | 5 | 7 | 13 => RefusalKind::Malformed,
         6 => RefusalKind::TooLong,
