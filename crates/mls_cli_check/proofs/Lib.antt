@@ -1,5 +1,6 @@
 pub mod Reports
 mod GoodTrees
+mod LongLists
 mod Orders
 mod SentTrees
 mod ShortLeaves
