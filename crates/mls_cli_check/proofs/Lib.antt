@@ -1,7 +1,9 @@
 pub mod Reports
 mod GoodTrees
 mod LongLists
+mod LongRefusals
 mod Orders
 mod SentTrees
 mod ShortLeaves
 mod Texts
+mod Walks

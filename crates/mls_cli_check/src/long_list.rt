@@ -99,13 +99,16 @@ impl Passed {
     }
 }
 
-/// What stands in a place.
+/// What stands in a place: its first byte says whether it is blank, the second of which kind its node is.
 fn kind_in(place: &Part<'_, Slot>) -> Kind
     ensures { SpellsKind place.now result }
 {
-    match place.bytes() {
-        [1, 1, ..] => Kind::Leaf,
-        [1, ..] => Kind::Parent,
+    let mut reader = Reader::new(place.bytes());
+    match reader.u8() {
+        Ok(1) => match reader.u8() {
+            Ok(1) => Kind::Leaf,
+            _ => Kind::Parent,
+        },
         _ => Kind::Blank,
     }
 }

@@ -1,24 +1,15 @@
-use Rattle.std.proofs.Common.{rules, ◌≡◌, List, Option, IfOk, IfErr, ℕ, ◌+◌, ◌-◌, ◌*◌, ◌<◌, ◌≤◌, length, ◌/◌, ◌%◌, Bool, true, false, nat_eq, nat_lt, [], ◌∷◌, ◌++◌, slice_index_or, slice_set, bit_and, bit_or, Fits, w8, w32, w64, Bor, MutBor}
-use Rattle.mls_leaf.specs.declared.node.Node.{Node}
-use Rattle.mls_leaf.specs.Faults.{Spells}
-use Rattle.mls_types.specs.GroupInfo.{ratchet_tree}
-use Rattle.mls_tree.specs.Faults.{number_of}
-use Rattle.mls_tree_model.specs.Arrays.{height_for}
-use Rattle.mls_cli_check.specs.LongList.{behind, next, nothing_passed, refusal_of, FindsPlaces, HasFewNodes, RefusesTree, SpellsKind}
+use Rattle.mls_cli_check.proofs.Walks.{begun, step_on, all_passed}
 use Rattle.mls_cli_check.proofs.long_list.pass_all.Goals as goal
 
--- src/long_list.rt:119:5
 pub loop-place-init : goal.loop-place-init
-loop-place-init c = ?
+loop-place-init c = λ cells items. begun cells c.walk-walk.result c.nothing-passed.result c.nothing-passed.ensures items
 
--- src/long_list.rt:119:5
-pub loop-place-smaller : goal.loop-place-smaller
-loop-place-smaller c = ?
-
--- src/long_list.rt:119:5
 pub loop-place-preserved : goal.loop-place-preserved
-loop-place-preserved c = ?
+loop-place-preserved c = λ cells items.
+    step_on cells c.loop-place.walk c.next.new.self c.in-Some.place c.next.result c.loop-place.passed c.pass-passed.result c.kind_in.result
+    (c.loop-place.invariant cells items) c.next.ensures.step c.in-Some.is c.kind_in.ensures c.pass-passed.ensures
 
--- src/long_list.rt:114:1
 pub returns : goal.returns
-returns c = ?
+returns c = λ cells spells.
+    all_passed cells c.loop-place.walk c.next.new.self c.next.result c.loop-place.passed
+    (c.loop-place.invariant cells (c.walk-walk.ensures cells spells)) c.next.ensures.step c.in_default.is

@@ -1,14 +1,13 @@
-use Rattle.std.proofs.Common.{◌≡◌, List, Option, IfOk, IfErr, ℕ, ◌+◌, ◌-◌, ◌*◌, ◌<◌, ◌≤◌, length}
+use Rattle.std.proofs.Common.{◌≡◌, List, Option, length}
+use Rattle.mls_wire.specs.Combine.{optional}
+use Rattle.mls_leaf.specs.Node.{node}
 use Rattle.mls_leaf.specs.declared.node.Node.{Node}
-use Rattle.mls_leaf.specs.Faults.{Spells}
-use Rattle.mls_types.specs.GroupInfo.{ratchet_tree}
-use Rattle.mls_tree.specs.Faults.{number_of}
-use Rattle.mls_tree_model.specs.Arrays.{height_for}
-use Rattle.mls_cli_check.specs.LongList.{behind, next, nothing_passed, refusal_of, FindsPlaces, HasFewNodes, RefusesTree, SpellsKind}
+use Rattle.mls_view.specs.Views.{AreItems}
+use Rattle.mls_cli_check.proofs.Walks.{Reaches}
 use Rattle.mls_cli_check.proofs.long_list.pass_all.Given as goal
 
 abbrev pub invariant-loop-place : goal.invariant-loop-place
-invariant-loop-place l = ?
+invariant-loop-place l = (cells : List (Option Node)) → AreItems (optional node) cells l.initial.walk → Reaches cells l.walk l.passed
 
 abbrev pub decreases-loop-place : goal.decreases-loop-place
-decreases-loop-place l = ?
+decreases-loop-place l = length l.walk
