@@ -1,5 +1,5 @@
 -- Lists of more nodes than a tree has are refused for what is seen of their nodes.
-use Rattle.std.proofs.Common.{◌≡◌, ℕ, ◌+◌, ◌^◌, ◌<◌, ◌≤◌, Bool, true, false, ◌&&◌, nat_lt, List, [], ◌∷◌, ◌++◌, length, Option, Result, Ok, Err, refl, sym, ◌∙◌, ap, subst, arith, length-append}
+use Rattle.std.proofs.Common.{◌≡◌, ◌≢◌, ℕ, ◌+◌, ◌^◌, ◌<◌, ◌≤◌, Bool, true, false, ◌&&◌, nat_lt, List, [], ◌∷◌, ◌++◌, length, Option, Result, Ok, Err, refl, sym, ◌∙◌, ap, subst, arith, length-append}
 use Rattle.std.specs.Prelude.{if◌then◌else◌}
 use Rattle.std.specs.List.{flat_map, AllByRecursion}
 use Rattle.mls_wire.specs.Combine.{optional}
@@ -65,6 +65,15 @@ long_tree bytes part p h n found is at high number =
     let refused = by_cases (has_last cells) (alternates true cells) (is_full_width (term_of h cells)) cells h at-cells high refl refl refl in
     of_nodes bytes cells cells (Err n) found.is_read refl
         (refused ∙ ap (λ (k : ℕ). Err k) (seen_as cells h at-cells (omega (arith, high)) few ∙ ap (λ (q : Passed). refusal_of q h) (sym is) ∙ sym number))
+
+refused_so : (last are full : Bool) → (if last && are && full then 21 else 20) ≢ 1
+refused_so false are full = λ e. absurd (omega arith)
+refused_so true false full = λ e. absurd (omega arith)
+refused_so true true false = λ e. absurd (omega arith)
+refused_so true true true = λ e. absurd (omega arith)
+
+pub no_want : (p : Passed) (h n : ℕ) → n ≡ refusal_of p h → n ≢ 1
+no_want p h n is = λ e. refused_so p.is_last_taken p.is_placed (nat_lt (2 ^ h) p.leaf_end) (sym is ∙ e)
 
 -- a tree of a height that a tree may have has few nodes
 pub few_nodes : (bytes part : List ℕ) (p : Passed) (h : ℕ) (found : AreNodes bytes part)

@@ -1,18 +1,20 @@
 -- A walk over the nodes of a list, and what is known of those that it has passed.
-use Rattle.std.proofs.Common.{◌≡◌, ℕ, ◌<◌, ◌^◌, List, [], ◌∷◌, ◌++◌, Option, Some, None, Ok, Err, Result, refl, sym, ◌∙◌, ap, subst, lit<}
+use Rattle.std.proofs.Common.{◌≡◌, ℕ, ◌<◌, ◌≤◌, List, [], ◌∷◌, ◌++◌, length, get_or, Option, Some, None, refl, sym, ◌∙◌, ap, subst, arith}
 use Rattle.std.specs.Int.{w8}
-use Rattle.mls_wire.specs.Combine.{optional, uint8}
-use Rattle.mls_wire.specs.Reading.{uint, uint_at}
-use Rattle.mls_wire.specs.Laws.{ok_is}
+use Rattle.mls_wire.specs.Combine.{optional}
+use Rattle.mls_wire.specs.Reading.{uint}
 use Rattle.mls_leaf.specs.Faults.{Spells}
 use Rattle.mls_leaf.specs.Leaf.{leaf_node}
+use Rattle.mls_leaf.specs.Parent.{Parent}
 use Rattle.mls_leaf.specs.ParentNode.{parent_node}
+use Rattle.mls_leaf.specs.declared.leaf.LeafNode.{LeafNode}
 use Rattle.mls_leaf.specs.Node.{node}
 use Rattle.mls_leaf.specs.declared.node.Node.{Node}
 use Rattle.mls_leaf.specs.declared.node.Node.TheVariants.{Leaf as in_leaf, Parent as in_parent}
 use Rattle.mls_view.specs.Views.{AreItems, LendsNextItem}
-use Rattle.mls_cli_check.specs.LongList.{behind, next, kind_of, nothing_passed, SpellsKind}
+use Rattle.mls_cli_check.specs.LongList.{behind, next, kind_of, kind_numbered, nothing_passed, SpellsKind}
 use Rattle.mls_cli_check.specs.declared.long_list.Kind.{Kind}
+use Rattle.mls_cli_check.specs.declared.long_list.Kind.TheVariants.{Blank}
 use Rattle.mls_cli_check.specs.declared.long_list.Passed.{Passed}
 
 -- The walk has some cells left, and with them all would be known that is known of all.
@@ -51,27 +53,59 @@ all_passed cells old new lent p at lends is =
 
 -- ---- the first two bytes of a place
 
--- a number that is spelled at the front is the one that is read there
-pub record Front (n : ℕ) (new : List ℕ) (t : ℕ) (body : List ℕ) : Type 0 where
-  pub number : n ≡ t
-  pub rest : new ≡ body
+zero_byte : uint w8 0 ≡ 0 ∷ []
+unfolding uint
+zero_byte = refl
 
-front : (bytes body new : List ℕ) (n t : ℕ) → t < 2 ^ 8 → bytes ≡ uint w8 t ++ body → uint_at w8 bytes ≡ Ok (n, new) → Front n new t body
-front bytes body new n t low is read =
-    let again : uint_at w8 bytes ≡ Ok (t, body) = ap (uint_at w8) is ∙ uint8.lawful.again t body low in
-    let same : (n, new) ≡ (t, body) = ok_is (n, new) (t, body) (sym read ∙ again) in
-    record { number = ap (λ (x : ℕ × List ℕ). x.0) same; rest = ap (λ (x : ℕ × List ℕ). x.1) same }
+one_byte : uint w8 1 ≡ 1 ∷ []
+unfolding uint
+one_byte = refl
 
-blank_first : (bytes : List ℕ) → Spells (optional node) None bytes → bytes ≡ uint w8 0 ++ []
-blank_first bytes spells = spells.spelled
+two_byte : uint w8 2 ≡ 2 ∷ []
+unfolding uint
+two_byte = refl
 
-node_first : (v : Node) (bytes : List ℕ) → Spells (optional node) (Some v) bytes → bytes ≡ uint w8 1 ++ node.spell v
-node_first v bytes spells = spells.spelled
-
-leaf_second : (v : _) → node.spell (in_leaf v) ≡ uint w8 1 ++ leaf_node.spell v
+leaf_second : (v : LeafNode) → node.spell (in_leaf v) ≡ uint w8 1 ++ leaf_node.spell v
 unfolding node
 leaf_second v = refl
 
-parent_second : (p : _) → node.spell (in_parent p) ≡ uint w8 2 ++ parent_node.spell p
+parent_second : (p : Parent) → node.spell (in_parent p) ≡ uint w8 2 ++ parent_node.spell p
 unfolding node
 parent_second p = refl
+
+blank_is : (bytes : List ℕ) → Spells (optional node) None bytes → bytes ≡ 0 ∷ []
+blank_is bytes spells = spells.spelled ∙ ap (λ (b : List ℕ). b ++ []) zero_byte
+
+leaf_is : (v : LeafNode) (bytes : List ℕ) → Spells (optional node) (Some (in_leaf v)) bytes → bytes ≡ 1 ∷ 1 ∷ leaf_node.spell v
+leaf_is v bytes spells =
+    spells.spelled
+    ∙ ap (λ (b : List ℕ). b ++ node.spell (in_leaf v)) one_byte
+    ∙ ap (λ (b : List ℕ). 1 ∷ b) (leaf_second v ∙ ap (λ (b : List ℕ). b ++ leaf_node.spell v) one_byte)
+
+parent_is : (p : Parent) (bytes : List ℕ) → Spells (optional node) (Some (in_parent p)) bytes → bytes ≡ 1 ∷ 2 ∷ parent_node.spell p
+parent_is p bytes spells =
+    spells.spelled
+    ∙ ap (λ (b : List ℕ). b ++ node.spell (in_parent p)) one_byte
+    ∙ ap (λ (b : List ℕ). 1 ∷ b) (parent_second p ∙ ap (λ (b : List ℕ). b ++ parent_node.spell p) two_byte)
+
+-- the second byte of a place that has two is the kind of its node
+pub long_place : (bytes : List ℕ) (number : ℕ) (kind : Kind) → 1 < length bytes → number ≡ get_or bytes 1 0 → kind ≡ kind_numbered number → SpellsKind bytes kind
+long_place bytes number kind long is e = by_cell
+  where
+    by_cell : (cell : Option Node) → Spells (optional node) cell bytes → kind ≡ kind_of cell
+    by_cell None spells = let one = ap length (blank_is bytes spells) in absurd (omega (arith, one, long))
+    by_cell (Some (in_leaf v)) spells =
+        let second : number ≡ 1 = is ∙ ap (λ (b : List ℕ). get_or b 1 0) (leaf_is v bytes spells) in
+        e ∙ ap kind_numbered second
+    by_cell (Some (in_parent p)) spells =
+        let second : number ≡ 2 = is ∙ ap (λ (b : List ℕ). get_or b 1 0) (parent_is p bytes spells) in
+        e ∙ ap kind_numbered second
+
+-- a place with one byte is blank
+pub short_place : (bytes : List ℕ) → length bytes ≤ 1 → SpellsKind bytes Blank
+short_place bytes short = by_cell
+  where
+    by_cell : (cell : Option Node) → Spells (optional node) cell bytes → Blank ≡ kind_of cell
+    by_cell None spells = refl
+    by_cell (Some (in_leaf v)) spells = let two = ap length (leaf_is v bytes spells) in absurd (omega (arith, two, short))
+    by_cell (Some (in_parent p)) spells = let two = ap length (parent_is p bytes spells) in absurd (omega (arith, two, short))

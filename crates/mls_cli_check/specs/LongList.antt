@@ -1,5 +1,5 @@
 -- What is seen of the nodes of a tree while they are read past, one after the other.
-use Rattle.std.specs.Prelude.{◌≡◌, ◌≢◌, ℕ, ◌+◌, ◌-◌, ◌^◌, ◌<◌, ◌≤◌, nat_lt, Bool, true, false, not, ◌&&◌, if◌then◌else◌, List, [], ◌∷◌, length, min, Option, Some, None, Result, Ok, Err, IfErr}
+use Rattle.std.specs.Prelude.{◌≡◌, ◌≢◌, ℕ, ◌+◌, ◌-◌, ◌^◌, ◌<◌, ◌≤◌, nat_lt, ◌==◌, Bool, true, false, not, ◌&&◌, if◌then◌else◌, List, [], ◌∷◌, length, min, Option, Some, None, Result, Ok, Err, IfErr}
 use Rattle.mls_leaf.specs.Faults.{Spells, whole}
 use Rattle.mls_leaf.specs.Limits.{input_limit}
 use Rattle.mls_leaf.specs.Node.{node}
@@ -23,6 +23,10 @@ abbrev pub kind_of : Option Node → Kind
 kind_of None = Blank
 kind_of (Some (in_leaf v)) = Leaf
 kind_of (Some (in_parent p)) = Parent
+
+-- the kind of node that a number stands for (RFC 9420, section 12.4.3.3)
+abbrev pub kind_numbered : ℕ → Kind
+kind_numbered number = if number == 1 then Leaf else Parent
 
 -- Whatever the bytes of a place spell, this is its kind.
 abbrev pub SpellsKind : List ℕ → Kind → Type 0
@@ -60,9 +64,9 @@ abbrev pub FindsPlaces : List ℕ → Option (List ℕ) → Type 0
 FindsPlaces bytes None = (cells : List (Option Node)) → whole ratchet_tree input_limit bytes ≡ Ok cells → ⊥
 FindsPlaces bytes (Some part) = AreNodes bytes part
 
--- The tree that the bytes spell is refused so.
+-- The tree that the bytes spell is refused so, and not for want of memory.
 abbrev pub RefusesTree : List ℕ → TreeError → Type 0
-RefusesTree bytes e = tree_in bytes ≡ Err (number_of e)
+RefusesTree bytes e = (tree_in bytes ≡ Err (number_of e)) × (number_of e ≢ 1)
 
 -- The bytes spell no more nodes than a tree has.
 abbrev pub HasFewNodes : List ℕ → Type 0

@@ -1,13 +1,13 @@
 //! Lists of more nodes than a tree has. What is wrong with them is seen in their bytes, and no list is made of them:
 //! 64 MiB of blank nodes would be a list of a gigabyte.
 
-ghost use Rattle.std.specs.Prelude.{◌≡◌, List, Option, IfOk, IfErr};
+ghost use Rattle.std.specs.Prelude.{◌≡◌, ◌<◌, List, Option, IfOk, IfErr};
 ghost use Rattle.mls_leaf.specs.declared.node.Node.{Node};
 ghost use Rattle.mls_leaf.specs.Faults.{Spells};
 ghost use Rattle.mls_types.specs.GroupInfo.{ratchet_tree};
 ghost use Rattle.mls_tree.specs.Faults.{number_of};
 ghost use Rattle.mls_tree_model.specs.Arrays.{height_for};
-ghost use Rattle.mls_cli_check.specs.LongList.{behind, next, nothing_passed, refusal_of, FindsPlaces, HasFewNodes, RefusesTree, SpellsKind};
+ghost use Rattle.mls_cli_check.specs.LongList.{behind, kind_numbered, next, nothing_passed, refusal_of, FindsPlaces, HasFewNodes, RefusesTree, SpellsKind};
 
 use mls_leaf::INPUT_LIMIT;
 use mls_tree::TreeError;
@@ -99,16 +99,23 @@ impl Passed {
     }
 }
 
-/// What stands in a place: its first byte says whether it is blank, the second of which kind its node is.
+/// The kind of node that a number stands for.
+fn kind_numbered(number: u8) -> Kind
+    ensures { result ≡ kind_numbered number }
+{
+    if number == 1 {
+        Kind::Leaf
+    } else {
+        Kind::Parent
+    }
+}
+
+/// What stands in a place: a blank one has one byte, and the second byte of another is the kind of its node.
 fn kind_in(place: &Part<'_, Slot>) -> Kind
     ensures { SpellsKind place.now result }
 {
-    let mut reader = Reader::new(place.bytes());
-    match reader.u8() {
-        Ok(1) => match reader.u8() {
-            Ok(1) => Kind::Leaf,
-            _ => Kind::Parent,
-        },
+    match place.bytes() {
+        [_, number, ..] => kind_numbered(*number),
         _ => Kind::Blank,
     }
 }
