@@ -1,9 +1,11 @@
 -- What is seen of nodes that are read past is what their list shows.
-use Rattle.std.proofs.Common.{◌≡◌, ℕ, zero, suc, ◌+◌, ◌-◌, ◌*◌, ◌^◌, ◌<◌, ◌≤◌, Bool, true, false, not, ◌&&◌, ◌||◌, nat_lt, List, [], ◌∷◌, ◌++◌, length, get_or, take, drop, Option, Some, None, is_some, refl, sym, ◌∙◌, ap, arith, lt-ltb, pow-suc}
+use Rattle.std.proofs.Common.{◌≡◌, ℕ, zero, suc, ◌+◌, ◌-◌, ◌*◌, ◌^◌, ◌<◌, ◌≤◌, Bool, true, false, not, ◌&&◌, ◌||◌, nat_lt, List, [], ◌∷◌, ◌++◌, length, get_or, take, drop, Option, Some, None, is_some, ◌⊎◌, inl, inr, refl, sym, ◌∙◌, ap, arith, lt-ltb, pow-suc}
 use Rattle.std.proofs.lemmas.List.{drop_all, length-drop, length-take-le, take_all}
 use Rattle.std.proofs.Math.Bool.{or-false}
 use Rattle.std.proofs.lemmas.Bool.{le-ltb}
 use Rattle.std.specs.Prelude.{if◌then◌else◌, min}
+use Rattle.mls_leaf.specs.Parent.{Parent}
+use Rattle.mls_leaf.specs.declared.leaf.LeafNode.{LeafNode}
 use Rattle.mls_leaf.specs.declared.node.Node.{Node}
 use Rattle.mls_leaf.specs.declared.node.Node.TheVariants.{Leaf as in_leaf, Parent as in_parent}
 use Rattle.mls_treemath.specs.Paths.{nodes_in}
@@ -94,68 +96,95 @@ placed cs = placed_is nothing_passed cs
 -- ---- leaves at even places
 
 -- whether there is a leaf at an even place, where the first place is even or odd
-unfoldable any_leaf : Bool → List (Option Node) → Bool
+unfoldable pub any_leaf : Bool → List (Option Node) → Bool
 any_leaf even [] = false
 any_leaf even (c ∷ cs) = (even && is_some (leaf_in c)) || any_leaf (not even) cs
 
 -- even or odd, so many places on
-unfoldable flips : ℕ → Bool → Bool
+unfoldable pub flips : ℕ → Bool → Bool
 flips zero b = b
 flips (suc n) b = flips n (not b)
 
-leaf_at_end : (p : Passed) (c : Option Node) → (p.is_even && is_some (leaf_in c)) ≡ true → (next p (kind_of c)).leaf_end ≡ one_more p.count
-unfolding next
-leaf_at_end p None e = let no : (p.is_even && false) ≡ false = and_false p.is_even in absurd cc
-  where
-    and_false : (b : Bool) → (b && false) ≡ false
-    and_false true = refl
-    and_false false = refl
-leaf_at_end p (Some (in_leaf v)) e = let even : p.is_even ≡ true = sym (and_true p.is_even) ∙ e in rw even refl
-leaf_at_end p (Some (in_parent q)) e = let no : (p.is_even && false) ≡ false = and_no p.is_even in absurd cc
-  where
-    and_no : (b : Bool) → (b && false) ≡ false
-    and_no true = refl
-    and_no false = refl
+-- whether this is a leaf at an even place
+abbrev is_here : Passed → Option Node → Bool
+is_here p c = p.is_even && is_some (leaf_in c)
 
-same_end : (p : Passed) (c : Option Node) → (p.is_even && is_some (leaf_in c)) ≡ false → (next p (kind_of c)).leaf_end ≡ p.leaf_end
+record EndsHere (p : Passed) (c : Option Node) : Type 0 where
+  here : is_here p c ≡ true
+  end : (next p (kind_of c)).leaf_end ≡ suc p.count
+
+record EndsBefore (p : Passed) (c : Option Node) : Type 0 where
+  there : is_here p c ≡ false
+  end : (next p (kind_of c)).leaf_end ≡ p.leaf_end
+
+and_false : (b : Bool) → (b && false) ≡ false
+and_false true = refl
+and_false false = refl
+
+even_leaf : (p : Passed) (v : LeafNode) → p.is_even ≡ true → (next p (kind_of (Some (in_leaf v)))).leaf_end ≡ one_more p.count
 unfolding next
-same_end p None e = refl
-same_end p (Some (in_leaf v)) e = let odd : p.is_even ≡ false = and_true p.is_even ∙ e in rw odd refl
-same_end p (Some (in_parent q)) e = refl
+even_leaf p v e = rw e refl
+
+odd_leaf : (p : Passed) (v : LeafNode) → p.is_even ≡ false → (next p (kind_of (Some (in_leaf v)))).leaf_end ≡ p.leaf_end
+unfolding next
+odd_leaf p v e = rw e refl
+
+blank_end : (p : Passed) → (next p (kind_of None)).leaf_end ≡ p.leaf_end
+unfolding next
+blank_end p = refl
+
+parent_end : (p : Passed) (q : Parent) → (next p (kind_of (Some (in_parent q)))).leaf_end ≡ p.leaf_end
+unfolding next
+parent_end p q = refl
+
+at_leaf : (p : Passed) (v : LeafNode) (b : Bool) → p.is_even ≡ b → p.count < 2 ^ 63 → EndsHere p (Some (in_leaf v)) ⊎ EndsBefore p (Some (in_leaf v))
+at_leaf p v true e low = inl (record { here = sym (and_true p.is_even) ∙ e; end = even_leaf p v e ∙ grown p.count low })
+at_leaf p v false e low = inr (record { there = sym (and_true p.is_even) ∙ e; end = odd_leaf p v e })
+
+next_end : (p : Passed) (c : Option Node) → p.count < 2 ^ 63 → EndsHere p c ⊎ EndsBefore p c
+next_end p None low = inr (record { there = and_false p.is_even; end = blank_end p })
+next_end p (Some (in_leaf v)) low = at_leaf p v p.is_even refl low
+next_end p (Some (in_parent q)) low = inr (record { there = and_false p.is_even; end = parent_end p q })
+
+next_is : (p : Passed) (c : Option Node) → p.count < 2 ^ 63 → (next p (kind_of c)).count ≡ suc p.count
+next_is p c low = next_count p c ∙ grown p.count low
 
 -- the end never comes back below what it passed
 stays : (p : Passed) (cs : List (Option Node)) (k : ℕ) → p.count + length cs < 2 ^ 63 → k < p.leaf_end → p.leaf_end ≤ p.count → k < (behind p cs).leaf_end
 unfolding behind
 stays p [] k low above within = above
 stays p (c ∷ cs) k low above within =
-    let one : (next p (kind_of c)).count ≡ suc p.count = next_count p c ∙ grown p.count (omega arith) in
-    by_case (p.is_even && is_some (leaf_in c)) refl one
-  where
-    by_case : (b : Bool) → (p.is_even && is_some (leaf_in c)) ≡ b → (next p (kind_of c)).count ≡ suc p.count → k < (behind (next p (kind_of c)) cs).leaf_end
-    by_case true e one =
-        let is = leaf_at_end p c e in let more = grown p.count (omega arith) in
-        stays (next p (kind_of c)) cs k (omega (arith, one)) (omega (arith, is, more)) (omega (arith, is, more, one))
-    by_case false e one =
-        let is = same_end p c e in
-        stays (next p (kind_of c)) cs k (omega (arith, one)) (omega (arith, is)) (omega (arith, is, one))
+    let one = next_is p c (omega arith) in
+    elim (next_end p c (omega arith)) [
+      | inl yes ↦ (let end = yes.end in stays (next p (kind_of c)) cs k (omega (arith, one)) (omega (arith, end)) (omega (arith, end, one)))
+      | inr no ↦ (let end = no.end in stays (next p (kind_of c)) cs k (omega (arith, one)) (omega (arith, end)) (omega (arith, end, one)))
+    ]
 
 -- a leaf among these nodes, and none before, comes behind place k
 from_here : (p : Passed) (cs : List (Option Node)) (k : ℕ) → p.count + length cs < 2 ^ 63 → p.leaf_end ≤ k → k ≤ p.count → nat_lt k (behind p cs).leaf_end ≡ any_leaf p.is_even cs
 unfolding behind any_leaf
 from_here p [] k low over under = le-ltb k p.leaf_end over
 from_here p (c ∷ cs) k low over under =
-    let one : (next p (kind_of c)).count ≡ suc p.count = next_count p c ∙ grown p.count (omega arith) in
-    by_case (p.is_even && is_some (leaf_in c)) refl one
-  where
-    by_case : (b : Bool) → (p.is_even && is_some (leaf_in c)) ≡ b → (next p (kind_of c)).count ≡ suc p.count
-        → nat_lt k (behind (next p (kind_of c)) cs).leaf_end ≡ ((p.is_even && is_some (leaf_in c)) || any_leaf (not p.is_even) cs)
-    by_case true e one =
-        let is = leaf_at_end p c e in let more = grown p.count (omega arith) in
-        let above = stays (next p (kind_of c)) cs k (omega (arith, one)) (omega (arith, is, more)) (omega (arith, is, more, one)) in
-        rw e (lt-ltb k _ above)
-    by_case false e one =
-        let is = same_end p c e in
-        rw e (from_here (next p (kind_of c)) cs k (omega (arith, one)) (omega (arith, is)) (omega (arith, one)) ∙ ap (λ b. any_leaf b cs) (next_even p c))
+    let one = next_is p c (omega arith) in
+    elim (next_end p c (omega arith)) [
+      | inl yes ↦
+          (let end = yes.end in
+          lt-ltb k (behind (next p (kind_of c)) cs).leaf_end (stays (next p (kind_of c)) cs k (omega (arith, one)) (omega (arith, end)) (omega (arith, end, one)))
+          ∙ sym (ap (λ b. b || any_leaf (not p.is_even) cs) yes.here))
+      | inr no ↦
+          (let end = no.end in
+          from_here (next p (kind_of c)) cs k (omega (arith, one)) (omega (arith, end)) (omega (arith, one))
+          ∙ ap (λ b. any_leaf b cs) (next_even p c)
+          ∙ sym (ap (λ b. b || any_leaf (not p.is_even) cs) no.there))
+    ]
+
+held : (p : Passed) (c : Option Node) → p.count < 2 ^ 63 → p.leaf_end ≤ p.count → (next p (kind_of c)).leaf_end ≤ (next p (kind_of c)).count
+held p c low within =
+    let one = next_is p c low in
+    elim (next_end p c low) [
+      | inl yes ↦ (let end = yes.end in omega (arith, end, one))
+      | inr no ↦ (let end = no.end in omega (arith, end, one))
+    ]
 
 no_leaves : (even : Bool) → any_leaf even [] ≡ false
 unfolding any_leaf
@@ -169,15 +198,11 @@ further_on p zero cs low within =
     ap (λ k. nat_lt k (behind p cs).leaf_end) same ∙ from_here p cs p.count low within (omega arith)
 further_on p (suc j) [] low within = le-ltb (p.count + suc j) p.leaf_end (omega arith) ∙ sym (no_leaves (flips j (not p.is_even)))
 further_on p (suc j) (c ∷ cs) low within =
-    let one : (next p (kind_of c)).count ≡ suc p.count = next_count p c ∙ grown p.count (omega arith) in
+    let one = next_is p c (omega arith) in
     let same : p.count + suc j ≡ (next p (kind_of c)).count + j = omega (arith, one) in
     ap (λ k. nat_lt k (behind (next p (kind_of c)) cs).leaf_end) same
-    ∙ further_on (next p (kind_of c)) j cs (omega (arith, one)) (held (p.is_even && is_some (leaf_in c)) refl one)
+    ∙ further_on (next p (kind_of c)) j cs (omega (arith, one)) (held p c (omega arith) within)
     ∙ ap (λ b. any_leaf (flips j b) (drop j cs)) (next_even p c)
-  where
-    held : (b : Bool) → (p.is_even && is_some (leaf_in c)) ≡ b → (next p (kind_of c)).count ≡ suc p.count → (next p (kind_of c)).leaf_end ≤ (next p (kind_of c)).count
-    held true e one = let is = leaf_at_end p c e in let more = grown p.count (omega arith) in omega (arith, is, more, one)
-    held false e one = let is = same_end p c e in omega (arith, is, one)
 
 -- ---- a tree has a leaf where there is one at an even place
 
@@ -201,8 +226,8 @@ twice : (n : ℕ) (b : Bool) → flips (n + n) b ≡ b
 unfolding flips
 twice zero b = refl
 twice (suc n) b =
-    let on : n + suc n ≡ suc (n + n) = omega arith in
-    ap (λ k. flips k (not b)) on ∙ twice n (not (not b)) ∙ not_twice b
+    let on : suc n + suc n ≡ suc (suc (n + n)) = omega arith in
+    ap (λ k. flips k b) on ∙ twice n (not (not b)) ∙ not_twice b
 
 -- a place behind an odd one
 behind_odd : (m : ℕ) (cs : List (Option Node)) → any_leaf false (drop m cs) ≡ any_leaf true (drop (suc m) cs)
@@ -212,6 +237,10 @@ behind_odd zero (c ∷ cs) = refl
 behind_odd (suc m) [] = no_leaves false ∙ sym (no_leaves true)
 behind_odd (suc m) (c ∷ cs) = behind_odd m cs
 
+pow-positive : (n : ℕ) → 0 < 2 ^ n
+pow-positive zero = omega arith
+pow-positive (suc n) = let rest = pow-positive n in omega (arith, pow-suc 2 n, rest)
+
 odd_width : (h : ℕ) → flips (nodes_in h) true ≡ false
 unfolding flips
 odd_width h =
@@ -219,10 +248,6 @@ odd_width h =
     let positive : 0 < 2 ^ h = pow-positive h in
     let is : nodes_in h ≡ suc (half + half) = omega (arith, nodes_in-leaves h, positive) in
     ap (λ k. flips k true) is ∙ twice half false
-  where
-    pow-positive : (n : ℕ) → 0 < 2 ^ n
-    pow-positive zero = omega arith
-    pow-positive (suc n) = let rest = pow-positive n in omega (arith, pow-suc 2 n, rest)
 
 pub leaf_among : (h : ℕ) (cs : List (Option Node)) → length cs ≤ nodes_in h → has_leaf (term_of h cs) ≡ any_leaf true cs
 unfolding any_leaf nodes_in
@@ -240,8 +265,8 @@ leaf_among (suc h) cs short =
 -- ---- the right half
 
 pub right_half : (h : ℕ) (cs : List (Option Node)) → 0 < h → length cs < 2 ^ 62 → length cs ≤ nodes_in h → nat_lt (2 ^ h) (behind nothing_passed cs).leaf_end ≡ is_full_width (term_of h cs)
-right_half zero cs above low short = absurd (omega arith)
 unfolding nodes_in
+right_half zero cs above low short = absurd (omega arith)
 right_half (suc g) cs above low short =
     let at : 2 ^ suc g ≡ suc (nodes_in g) = pow-suc 2 g ∙ sym (nodes_in-leaves g) in
     let even : flips (2 ^ suc g) true ≡ true = (let is : 2 ^ suc g ≡ 2 ^ g + 2 ^ g = omega (arith, pow-suc 2 g) in ap (λ k. flips k true) is ∙ twice (2 ^ g) true) in

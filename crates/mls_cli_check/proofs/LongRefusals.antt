@@ -38,7 +38,8 @@ few_cells cells part spells = let few = few_items cells spells.fits.0 in let sho
 pub counted : (cells : List (Option Node)) (part : List ℕ) (p : Passed) → Spells ratchet_tree cells part → p ≡ behind nothing_passed cells → p.count ≡ length cells
 counted cells part p spells is =
     let few = few_cells cells part spells in
-    ap (λ (q : Passed). q.count) is ∙ count_behind nothing_passed cells (omega (arith, few))
+    let all : 0 + length cells ≡ length cells = omega arith in
+    ap (λ (q : Passed). q.count) is ∙ count_behind nothing_passed cells (omega (arith, few)) ∙ all
 
 by_cases : (last are full : Bool) (cells : List (Option Node)) (h : ℕ) → h ≡ height_for (length cells) → max_height < h
     → has_last cells ≡ last → alternates true cells ≡ are → is_full_width (term_of h cells) ≡ full
@@ -66,7 +67,7 @@ long_tree bytes part p h n found is at high number =
     of_nodes bytes cells cells (Err n) found.is_read refl
         (refused ∙ ap (λ (k : ℕ). Err k) (seen_as cells h at-cells (omega (arith, high)) few ∙ ap (λ (q : Passed). refusal_of q h) (sym is) ∙ sym number))
 
-refused_so : (last are full : Bool) → (if last && are && full then 21 else 20) ≢ 1
+refused_so : (last are full : Bool) → ◌≢◌ {A = ℕ} (if last && are && full then 21 else 20) 1
 refused_so false are full = λ e. absurd (omega arith)
 refused_so true false full = λ e. absurd (omega arith)
 refused_so true true false = λ e. absurd (omega arith)
@@ -75,22 +76,26 @@ refused_so true true true = λ e. absurd (omega arith)
 pub no_want : (p : Passed) (h n : ℕ) → n ≡ refusal_of p h → n ≢ 1
 no_want p h n is = λ e. refused_so p.is_last_taken p.is_placed (nat_lt (2 ^ h) p.leaf_end) (sym is ∙ e)
 
+the_cells : Result (List (Option Node)) ℕ → List (Option Node)
+the_cells (Ok xs) = xs
+the_cells (Err n) = []
+
+abbrev okay : List (Option Node) → Result (List (Option Node)) ℕ
+okay xs = Ok xs
+
+ok_same : (xs ys : List (Option Node)) → okay xs ≡ okay ys → xs ≡ ys
+ok_same xs ys e = ap the_cells e
+
 -- a tree of a height that a tree may have has few nodes
 pub few_nodes : (bytes part : List ℕ) (p : Passed) (h : ℕ) (found : AreNodes bytes part)
     → p ≡ behind nothing_passed found.cells → h ≡ height_for p.count → h ≤ max_height
     → (cells : List (Option Node)) → whole ratchet_tree input_limit bytes ≡ Ok cells → length cells ≤ nodes_in max_height
 few_nodes bytes part p h found is at low cells read =
-    let same : found.cells ≡ cells = ok_same (sym found.is_read ∙ read) in
+    let same : found.cells ≡ cells = ok_same found.cells cells (sym found.is_read ∙ read) in
     let at-cells : h ≡ height_for (length found.cells) = at ∙ ap height_for (counted found.cells part p found.spells is) in
     let holds : length found.cells ≤ nodes_in h = subst (λ (k : ℕ). length found.cells ≤ nodes_in k) (sym at-cells) (height_for-holds (length found.cells)) in
     let up = nodes_in_up h max_height low in
     subst (λ (xs : List (Option Node)). length xs ≤ nodes_in max_height) same (omega (arith, holds, up))
-  where
-    the_cells : Result (List (Option Node)) ℕ → List (Option Node)
-    the_cells (Ok xs) = xs
-    the_cells (Err n) = []
-    ok_same : {xs ys : List (Option Node)} → Ok xs ≡ Ok ys → xs ≡ ys
-    ok_same e = ap the_cells e
 
 -- bytes that spell no nodes spell not many
 pub none_are_few : (bytes : List ℕ) → ((cells : List (Option Node)) → whole ratchet_tree input_limit bytes ≡ Ok cells → ⊥)

@@ -30,11 +30,11 @@ pub step_on : (cells : List (Option Node)) (old new part : List ℕ) (lent : Opt
     → Reaches cells old p
     → ((vs : List (Option Node)) → AreItems (optional node) vs old → LendsNextItem (optional node) vs lent new)
     → lent ≡ Some part → SpellsKind part kind → q ≡ next p kind → Reaches cells new q
+unfolding behind
 step_on cells old new part lent p q kind at lends is spells more =
     by_left at.left (subst (λ (o : Option (List ℕ)). LendsNextItem (optional node) at.left o new) is (lends at.left at.items)) at.same
   where
     by_left : (left : List (Option Node)) → LendsNextItem (optional node) left (Some part) new → behind p left ≡ behind nothing_passed cells → Reaches cells new q
-    unfolding behind
     by_left [] no same = absurd no
     by_left (c ∷ cs) found same =
         record { left = cs; items = found.1; same = ap (λ (k : Passed). behind k cs) (more ∙ ap (next p) (spells c found.0)) ∙ same }
@@ -43,11 +43,11 @@ pub all_passed : (cells : List (Option Node)) (old new : List ℕ) (lent : Optio
     → Reaches cells old p
     → ((vs : List (Option Node)) → AreItems (optional node) vs old → LendsNextItem (optional node) vs lent new)
     → lent ≡ None → p ≡ behind nothing_passed cells
+unfolding behind
 all_passed cells old new lent p at lends is =
     by_left at.left (subst (λ (o : Option (List ℕ)). LendsNextItem (optional node) at.left o new) is (lends at.left at.items)) at.same
   where
     by_left : (left : List (Option Node)) → LendsNextItem (optional node) left None new → behind p left ≡ behind nothing_passed cells → p ≡ behind nothing_passed cells
-    unfolding behind
     by_left [] nil same = same
     by_left (c ∷ cs) no same = absurd no
 
