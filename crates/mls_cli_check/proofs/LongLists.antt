@@ -1,6 +1,6 @@
 -- What is seen of nodes that are read past is what their list shows.
 use Rattle.std.proofs.Common.{◌≡◌, ℕ, zero, suc, ◌+◌, ◌-◌, ◌*◌, ◌^◌, ◌<◌, ◌≤◌, Bool, true, false, not, ◌&&◌, ◌||◌, nat_lt, List, [], ◌∷◌, ◌++◌, length, get_or, take, drop, Option, Some, None, is_some, ◌⊎◌, inl, inr, refl, sym, ◌∙◌, ap, arith, lt-ltb, pow-suc}
-use Rattle.std.proofs.lemmas.List.{drop_all, length-drop, length-take-le, take_all}
+use Rattle.std.proofs.lemmas.List.{length-drop}
 use Rattle.std.proofs.Math.Bool.{or-false}
 use Rattle.std.proofs.lemmas.Bool.{le-ltb}
 use Rattle.std.specs.Prelude.{if◌then◌else◌, min}
@@ -156,8 +156,8 @@ stays p [] k low above within = above
 stays p (c ∷ cs) k low above within =
     let one = next_is p c (omega arith) in
     elim (next_end p c (omega arith)) [
-      | inl yes ↦ (let end = yes.end in stays (next p (kind_of c)) cs k (omega (arith, one)) (omega (arith, end)) (omega (arith, end, one)))
-      | inr no ↦ (let end = no.end in stays (next p (kind_of c)) cs k (omega (arith, one)) (omega (arith, end)) (omega (arith, end, one)))
+      | inl at ↦ (let end = at.end in stays (next p (kind_of c)) cs k (omega (arith, one)) (omega (arith, end)) (omega (arith, end, one)))
+      | inr off ↦ (let end = off.end in stays (next p (kind_of c)) cs k (omega (arith, one)) (omega (arith, end)) (omega (arith, end, one)))
     ]
 
 -- a leaf among these nodes, and none before, comes behind place k
@@ -167,23 +167,23 @@ from_here p [] k low over under = le-ltb k p.leaf_end over
 from_here p (c ∷ cs) k low over under =
     let one = next_is p c (omega arith) in
     elim (next_end p c (omega arith)) [
-      | inl yes ↦
-          (let end = yes.end in
+      | inl at ↦
+          (let end = at.end in
           lt-ltb k (behind (next p (kind_of c)) cs).leaf_end (stays (next p (kind_of c)) cs k (omega (arith, one)) (omega (arith, end)) (omega (arith, end, one)))
-          ∙ sym (ap (λ b. b || any_leaf (not p.is_even) cs) yes.here))
-      | inr no ↦
-          (let end = no.end in
+          ∙ sym (ap (λ b. b || any_leaf (not p.is_even) cs) at.here))
+      | inr off ↦
+          (let end = off.end in
           from_here (next p (kind_of c)) cs k (omega (arith, one)) (omega (arith, end)) (omega (arith, one))
           ∙ ap (λ b. any_leaf b cs) (next_even p c)
-          ∙ sym (ap (λ b. b || any_leaf (not p.is_even) cs) no.there))
+          ∙ sym (ap (λ b. b || any_leaf (not p.is_even) cs) off.there))
     ]
 
 held : (p : Passed) (c : Option Node) → p.count < 2 ^ 63 → p.leaf_end ≤ p.count → (next p (kind_of c)).leaf_end ≤ (next p (kind_of c)).count
 held p c low within =
     let one = next_is p c low in
     elim (next_end p c low) [
-      | inl yes ↦ (let end = yes.end in omega (arith, end, one))
-      | inr no ↦ (let end = no.end in omega (arith, end, one))
+      | inl at ↦ (let end = at.end in omega (arith, end, one))
+      | inr off ↦ (let end = off.end in omega (arith, end, one))
     ]
 
 no_leaves : (even : Bool) → any_leaf even [] ≡ false
@@ -249,6 +249,11 @@ odd_width h =
     let is : nodes_in h ≡ suc (half + half) = omega (arith, nodes_in-leaves h, positive) in
     ap (λ k. flips k true) is ∙ twice half false
 
+front_short : (m : ℕ) (cs : List (Option Node)) → length (take m cs) ≤ m
+front_short zero cs = omega arith
+front_short (suc m) [] = omega arith
+front_short (suc m) (c ∷ cs) = let rest = front_short m cs in omega (arith, rest)
+
 pub leaf_among : (h : ℕ) (cs : List (Option Node)) → length cs ≤ nodes_in h → has_leaf (term_of h cs) ≡ any_leaf true cs
 unfolding any_leaf nodes_in
 leaf_among zero [] short = ap has_leaf (term_of-zero []) ∙ has_leaf_leaf None
@@ -258,7 +263,7 @@ leaf_among (suc h) cs short =
     let m : ℕ = nodes_in h in
     ap has_leaf (term_of-suc h cs)
     ∙ has_leaf_branch _ _ _
-    ∙ ap (λ b. b || has_leaf (term_of h (drop (suc m) cs))) (leaf_among h (take m cs) (length-take-le m cs))
+    ∙ ap (λ b. b || has_leaf (term_of h (drop (suc m) cs))) (leaf_among h (take m cs) (front_short m cs))
     ∙ ap (λ b. any_leaf true (take m cs) || b) (leaf_among h (drop (suc m) cs) (let len = length-drop (suc m) cs in omega arith))
     ∙ sym (in_parts m true cs ∙ ap (λ b. any_leaf true (take m cs) || b) (ap (λ b. any_leaf b (drop m cs)) (odd_width h) ∙ behind_odd m cs))
 
@@ -268,7 +273,7 @@ pub right_half : (h : ℕ) (cs : List (Option Node)) → 0 < h → length cs < 2
 unfolding nodes_in
 right_half zero cs above low short = absurd (omega arith)
 right_half (suc g) cs above low short =
-    let at : 2 ^ suc g ≡ suc (nodes_in g) = pow-suc 2 g ∙ sym (nodes_in-leaves g) in
+    let at : 2 ^ suc g ≡ suc (nodes_in g) = omega (arith, pow-suc 2 g, nodes_in-leaves g) in
     let even : flips (2 ^ suc g) true ≡ true = (let is : 2 ^ suc g ≡ 2 ^ g + 2 ^ g = omega (arith, pow-suc 2 g) in ap (λ k. flips k true) is ∙ twice (2 ^ g) true) in
     further_on nothing_passed (2 ^ suc g) cs (omega arith) (omega arith)
     ∙ ap (λ b. any_leaf b (drop (2 ^ suc g) cs)) even

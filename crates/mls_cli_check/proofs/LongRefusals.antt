@@ -84,6 +84,7 @@ abbrev okay : List (Option Node) → Result (List (Option Node)) ℕ
 okay xs = Ok xs
 
 ok_same : (xs ys : List (Option Node)) → okay xs ≡ okay ys → xs ≡ ys
+unfolding the_cells
 ok_same xs ys e = ap the_cells e
 
 -- a tree of a height that a tree may have has few nodes

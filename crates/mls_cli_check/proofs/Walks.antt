@@ -35,7 +35,7 @@ step_on cells old new part lent p q kind at lends is spells more =
     by_left at.left (subst (λ (o : Option (List ℕ)). LendsNextItem (optional node) at.left o new) is (lends at.left at.items)) at.same
   where
     by_left : (left : List (Option Node)) → LendsNextItem (optional node) left (Some part) new → behind p left ≡ behind nothing_passed cells → Reaches cells new q
-    by_left [] no same = absurd no
+    by_left [] found same = absurd found
     by_left (c ∷ cs) found same =
         record { left = cs; items = found.1; same = ap (λ (k : Passed). behind k cs) (more ∙ ap (next p) (spells c found.0)) ∙ same }
 
@@ -49,7 +49,7 @@ all_passed cells old new lent p at lends is =
   where
     by_left : (left : List (Option Node)) → LendsNextItem (optional node) left None new → behind p left ≡ behind nothing_passed cells → p ≡ behind nothing_passed cells
     by_left [] nil same = same
-    by_left (c ∷ cs) no same = absurd no
+    by_left (c ∷ cs) found same = absurd found
 
 -- ---- the first two bytes of a place
 
