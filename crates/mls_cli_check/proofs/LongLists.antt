@@ -275,7 +275,9 @@ right_half zero cs above low short = absurd (omega arith)
 right_half (suc g) cs above low short =
     let at : 2 ^ suc g ≡ suc (nodes_in g) = omega (arith, pow-suc 2 g, nodes_in-leaves g) in
     let even : flips (2 ^ suc g) true ≡ true = (let is : 2 ^ suc g ≡ 2 ^ g + 2 ^ g = omega (arith, pow-suc 2 g) in ap (λ k. flips k true) is ∙ twice (2 ^ g) true) in
-    further_on nothing_passed (2 ^ suc g) cs (omega arith) (omega arith)
+    let start : 2 ^ suc g ≡ 0 + 2 ^ suc g = omega arith in
+    ap (λ k. nat_lt k (behind nothing_passed cs).leaf_end) start
+    ∙ further_on nothing_passed (2 ^ suc g) cs (omega arith) (omega arith)
     ∙ ap (λ b. any_leaf b (drop (2 ^ suc g) cs)) even
     ∙ ap (λ k. any_leaf true (drop k cs)) at
     ∙ sym (leaf_among g (drop (suc (nodes_in g)) cs) (let len = length-drop (suc (nodes_in g)) cs in omega arith))
