@@ -1,5 +1,5 @@
 -- Lists of more nodes than a tree has are refused for what is seen of their nodes.
-use Rattle.std.proofs.Common.{◌≡◌, ◌≢◌, ℕ, ◌+◌, ◌^◌, ◌<◌, ◌≤◌, Bool, true, false, ◌&&◌, nat_lt, List, [], ◌∷◌, ◌++◌, length, Option, Result, Ok, Err, refl, sym, ◌∙◌, ap, subst, arith, length-append}
+use Rattle.std.proofs.Common.{◌≡◌, ◌≢◌, ℕ, ◌+◌, ◌^◌, ◌<◌, ◌≤◌, Bool, true, false, ◌&&◌, nat_lt, List, [], ◌∷◌, length, Option, Result, Ok, Err, refl, sym, ◌∙◌, ap, subst, arith, length-append}
 use Rattle.std.specs.Prelude.{if◌then◌else◌}
 use Rattle.std.specs.List.{flat_map, AllByRecursion}
 use Rattle.mls_wire.specs.Combine.{optional}
@@ -65,7 +65,7 @@ long_tree bytes part p h n found is at high number =
     let at-cells : h ≡ height_for (length cells) = at ∙ ap height_for (counted cells part p found.spells is) in
     let refused = by_cases (has_last cells) (alternates true cells) (is_full_width (term_of h cells)) cells h at-cells high refl refl refl in
     of_nodes bytes cells cells (Err n) found.is_read refl
-        (refused ∙ ap (λ (k : ℕ). Err k) (seen_as cells h at-cells (omega (arith, high)) few ∙ ap (λ (q : Passed). refusal_of q h) (sym is) ∙ sym number))
+    (refused ∙ ap (λ (k : ℕ). Err k) (seen_as cells h at-cells (omega (arith, high)) few ∙ ap (λ (q : Passed). refusal_of q h) (sym is) ∙ sym number))
 
 refused_so : (last are full : Bool) → ◌≢◌ {A = ℕ} (if last && are && full then 21 else 20) 1
 refused_so false are full = λ e. absurd (omega arith)

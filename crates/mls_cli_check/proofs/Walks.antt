@@ -1,5 +1,5 @@
 -- A walk over the nodes of a list, and what is known of those that it has passed.
-use Rattle.std.proofs.Common.{◌≡◌, ℕ, ◌<◌, ◌≤◌, List, [], ◌∷◌, ◌++◌, length, get_or, Option, Some, None, refl, sym, ◌∙◌, ap, subst, arith}
+use Rattle.std.proofs.Common.{◌≡◌, ℕ, ◌<◌, ◌≤◌, List, [], ◌∷◌, ◌++◌, length, get_or, Option, Some, None, refl, ◌∙◌, ap, subst, arith}
 use Rattle.std.specs.Int.{w8}
 use Rattle.mls_wire.specs.Combine.{optional}
 use Rattle.mls_wire.specs.Reading.{uint}

@@ -1,4 +1,4 @@
-use Rattle.std.proofs.Common.{◌≡◌, List, Option, length}
+use Rattle.std.proofs.Common.{List, Option, length}
 use Rattle.mls_wire.specs.Combine.{optional}
 use Rattle.mls_leaf.specs.Node.{node}
 use Rattle.mls_leaf.specs.declared.node.Node.{Node}

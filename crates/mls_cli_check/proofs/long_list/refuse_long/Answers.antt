@@ -12,7 +12,8 @@ returns-then-height-le-MAX_HEIGHT-clause-few c =
 
 pub returns-clause-refused : goal.returns-clause-refused
 returns-clause-refused c =
-    let found = c.in-Some.ensures in
-    (long_tree c.args.bytes.now c.in-Some.nodes c.pass_all-passed.result c.height_for-height.result (number_of c.refusal.result) found
-        (c.pass_all-passed.ensures found.cells found.spells) c.height_for-height.ensures.value (let high = c.if-height-le-MAX_HEIGHT.false in omega arith) c.refusal.ensures,
-    no_want c.pass_all-passed.result c.height_for-height.result (number_of c.refusal.result) c.refusal.ensures)
+    let found = c.in-Some.ensures in (
+      long_tree c.args.bytes.now c.in-Some.nodes c.pass_all-passed.result c.height_for-height.result (number_of c.refusal.result) found
+          (c.pass_all-passed.ensures found.cells found.spells) c.height_for-height.ensures.value (let high = c.if-height-le-MAX_HEIGHT.false in omega arith) c.refusal.ensures,
+      no_want c.pass_all-passed.result c.height_for-height.result (number_of c.refusal.result) c.refusal.ensures,
+    )
