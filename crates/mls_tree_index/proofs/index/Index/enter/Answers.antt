@@ -8,8 +8,8 @@ returns-in_default-clause-entered c = λ b d without is.
     let none = ap (λ j. key_in j c.args.cells.now c.args.x) (sym (ap (λ t. t.kind) c.self.view_is)) ∙ sym c.in_default.ensures in
     nothing_entered c.args.x c.args.cells.now b d c.args.self.now without none is
 
-pub returns-in-Some-clause-entered : goal.returns-in-Some-clause-entered
-returns-in-Some-clause-entered c = λ b d without is.
+pub returns-clause-entered : goal.returns-clause-entered
+returns-clause-entered c = λ b d without is.
     let kinds = ap (λ t. t.kind) c.self.view_is in
     let key = ap (λ j. key_in j c.args.cells.now c.args.x) (sym kinds) ∙ sym c.in-Some.ensures in
     let part = part_before c.args.x c.args.cells.now b d c.args.self.now without in
