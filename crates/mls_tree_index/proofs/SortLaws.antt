@@ -1,24 +1,22 @@
 -- Laws of entries that are sorted, and of an index that is built of them.
-use Rattle.std.proofs.Common.{◌≡◌, ℕ, zero, suc, ◌+◌, ◌<◌, ◌≤◌, ◌==◌, nat_eq, Bool, true, false, cond, List, [], ◌∷◌, ◌++◌, length, get_or, take, drop, map, Option, Some, None, is_some, refl, sym, ◌∙◌, ap, subst, arith, inl, inr, eq-eqb, ne_eqb, eqb-true}
-use Rattle.std.proofs.lemmas.Bool.{true≢false, cases_Bool, cases_lt, cases_eq}
+use Rattle.std.proofs.Common.{◌≡◌, ℕ, zero, suc, ◌+◌, ◌<◌, ◌≤◌, nat_eq, true, cond, List, [], ◌∷◌, ◌++◌, length, get_or, take, drop, Option, Some, None, is_some, refl, sym, ◌∙◌, ap, subst, arith, inl, inr, eq-eqb, ne_eqb}
+use Rattle.std.proofs.lemmas.Bool.{cases_Bool, cases_lt, cases_eq}
 use Rattle.std.proofs.lemmas.List.{get_or_past, get_or-map, get_or-take, length-take, map-append, take_more, drop_more, drop_all}
 use Rattle.std.proofs.lemmas.List.Edits.{insert_end}
 use Rattle.std.proofs.lemmas.List.Elements.{All-nil, All-push}
 use Rattle.std.proofs.lemmas.List.MinMax.{ranks_by}
 use Rattle.std.proofs.lemmas.List.Sorted.{sum_by-IsPermutation, IsPermutation-map, All-permutation, sorted_far}
 use Rattle.std.proofs.lemmas.List.Sums.{sum_by-cons}
-use Rattle.std.specs.Cmp.{IsStrictWeakOrder}
 use Rattle.std.specs.List.{All, sum_by, insert}
 use Rattle.std.specs.List.Sorted.{IsPermutation, IsSortedBy}
 use Rattle.std.specs.Option.{unwrap_or}
 use Rattle.std.specs.Ordering.{is_lt}
-use Rattle.std.specs.declared.cmp.Ordering.TheVariants.{Less}
 use Rattle.mls_leaf.specs.declared.node.Node.{Node}
 use Rattle.mls_tree_model.specs.Sets.{has, count, is_distinct}
 use Rattle.mls_tree_model.proofs.CountLaws.{count-append, count_none, distinct_from}
 use Rattle.mls_tree_index.specs.declared.entries.Entry.{Entry}
 use Rattle.mls_tree_index.specs.declared.kind.KeyKind.{KeyKind}
-use Rattle.mls_tree_index.specs.Keys.{key_of, key_in, repeats_in}
+use Rattle.mls_tree_index.specs.Keys.{key_of, key_in}
 use Rattle.mls_tree_index.specs.Order.{Entries, IsGap, entry_at, entry_cmp}
 use Rattle.mls_tree_index.specs.Indexes.{Listing, Indexes, Without, PutsCell}
 use Rattle.mls_tree_index.specs.Entries.{entry_of, numbers_of, AreEntries, EntriesAscend}

@@ -1,7 +1,6 @@
-use Rattle.std.proofs.Common.{ap, subst, sym, rules}
+use Rattle.std.proofs.Common.{rules}
 use Rattle.std.proofs.lemmas.List.MinMax.{ranks_by}
 use Rattle.std.proofs.lemmas.List.Sorted.{answers_always}
-use Rattle.std.specs.Ordering.{is_lt}
 use Rattle.mls_tree_index.specs.Keys.{key_in}
 use Rattle.mls_tree_index.specs.Entries.{entry_of}
 use Rattle.mls_tree_index.proofs.OrderLaws.{entry_total}

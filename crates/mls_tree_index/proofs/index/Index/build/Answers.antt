@@ -1,4 +1,4 @@
-use Rattle.std.proofs.Common.{◌≡◌, ◌+◌, ◌<◌, length, refl, ◌∙◌, ap, arith}
+use Rattle.std.proofs.Common.{◌<◌, length, refl, ◌∙◌, ap, arith}
 use Rattle.std.specs.List.{insert}
 use Rattle.mls_tree_index.proofs.SortLaws.{built_none, built_all, built_length, built_numbers, built_put}
 use Rattle.mls_tree_index.proofs.index.Index.build.Goals as goal

@@ -1,4 +1,4 @@
-use Rattle.std.proofs.Common.{◌≡◌, sym, ◌∙◌, ap}
+use Rattle.std.proofs.Common.{sym, ◌∙◌, ap}
 use Rattle.mls_tree_index.specs.Keys.{key_in}
 use Rattle.mls_tree_index.proofs.StepLaws.{nothing_entered, part_before}
 use Rattle.mls_tree_index.proofs.index.Index.enter.Goals as goal

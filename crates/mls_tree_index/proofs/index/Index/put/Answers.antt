@@ -1,6 +1,6 @@
 use Rattle.std.proofs.Common.{◌≡◌, sym, ◌∙◌, ap, arith}
 use Rattle.std.specs.List.{insert}
-use Rattle.mls_tree_index.specs.Keys.{key_in, keys_of, repeats_in}
+use Rattle.mls_tree_index.specs.Keys.{keys_of, repeats_in}
 use Rattle.mls_tree_index.proofs.StepLaws.{one_held, none_held, entered, few}
 use Rattle.mls_tree_index.proofs.StepLaws.{part_before, indexes_from}
 use Rattle.mls_tree_index.proofs.index.Index.put.Goals as goal
