@@ -34,7 +34,8 @@ fn group_info_in(alloc: Global, bytes: &[u8]) -> Result<GroupInfo, CheckError>
     ensures outright { RefusesMessage bytes.now result }
     ensures short { IfOk result (λ info. IsShort group_info info) }
 {
-    match MlsMessage::decode(alloc, bytes)? {
+    let message = MlsMessage::decode(alloc, bytes)?;
+    match message {
         MlsMessage::GroupInfo(info) => Ok(info),
         MlsMessage::PublicMessage(_) | MlsMessage::Welcome(_) | MlsMessage::KeyPackage(_) => {
             Err(CheckError::WrongMessageKind)

@@ -102,10 +102,11 @@ fn commit_body_lines(
         ++ entry [] (codes "signature") (bytes signature)
         ∷ entry [] (codes "confirmation_tag") (bytes confirmation_tag) ∷ [])) }
 {
-    let lines = commit_lines(alloc, detail, commit)?;
-    let lines = append_line(lines, line_of("signature", Field::Bytes(signature)))?;
-    let tag = line_of("confirmation_tag", Field::Bytes(confirmation_tag));
-    let lines = append_line(lines, tag)?;
+    let end = vec![in alloc;
+        line_of("signature", Field::Bytes(signature)),
+        line_of("confirmation_tag", Field::Bytes(confirmation_tag)),
+    ]?;
+    let lines = append_lines(commit_lines(alloc, detail, commit)?, end)?;
     with_word_line(alloc, "content", "commit", lines)
 }
 

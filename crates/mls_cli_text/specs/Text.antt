@@ -96,11 +96,11 @@ shown_by (field.Extension kind content) = extension kind content
 
 -- the prefix of an item: a word, and the item's number with a dot behind it
 abbrev pub item_text : List ℕ → ℕ → List ℕ
-item_text word n = word ++ (decimal n ++ codes ".")
+item_text front n = front ++ (decimal n ++ codes ".")
 
 abbrev pub prefix_on : List ℕ → Option ℕ → List ℕ
-prefix_on word None = word
-prefix_on word (Some n) = item_text word n
+prefix_on front None = front
+prefix_on front (Some n) = item_text front n
 
 abbrev pub prefix_text : Prefix → List ℕ
 prefix_text p = prefix_on p.word.now p.item
