@@ -163,7 +163,8 @@ fn show_file(
 ) -> Result<Page<Line>, AllocError>
     ensures { MakesPage result (file_page form text.now (show_page detail form text.now)) }
 {
-    if text.len() > form.file_limit() {
+    let limit = form.file_limit();
+    if text.len() > limit {
         return Ok(refused_page(alloc, 6));
     }
     show_page(alloc, detail, form, text)
@@ -181,7 +182,8 @@ fn tree_file(
     ensures { MakesPage result (file_page form text.now
         (check_page (checking suite signatures) form text.now group.now)) }
 {
-    if text.len() > form.file_limit() {
+    let limit = form.file_limit();
+    if text.len() > limit {
         return Ok(refused_page(alloc, 6));
     }
     check_file(alloc, form, suite, signatures, text, group)
@@ -220,7 +222,8 @@ fn info_file(
     ensures { MakesPage result (file_page form text.now
         (group_info_page glass (checking SuiteChoice.Suite0001 signatures) form text.now)) }
 {
-    if text.len() > form.file_limit() {
+    let limit = form.file_limit();
+    if text.len() > limit {
         return Ok(refused_page(alloc, 6));
     }
     check_info(alloc, form, signatures, text)

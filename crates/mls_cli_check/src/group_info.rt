@@ -1,6 +1,7 @@
 //! GroupInfos with their trees (RFC 9420, 12.4.3), as an auditor of a group has them.
 
 ghost use Rattle.std.specs.Prelude.{◌≡◌, ◌<◌, ◌^◌, ℕ, length, IfOk, IsOk, Err};
+ghost use Rattle.std.specs.Str.{bytes_eq};
 ghost use Rattle.mls_wire.specs.Checks.{Answers, passed};
 ghost use Rattle.mls_leaf.specs.Faults.{whole};
 ghost use Rattle.mls_leaf.specs.Limits.{input_limit};
@@ -8,13 +9,14 @@ ghost use Rattle.mls_types.specs.GroupInfo.{group_info, group_info_tbs, ratchet_
 ghost use Rattle.mls_types.specs.Message.{mls_message};
 ghost use Rattle.mls_checks.specs.Short.{IsShort};
 ghost use Rattle.mls_tree_model.specs.Arrays.{from_nodes};
+ghost use Rattle.mls_tree_model.specs.Hashes.{tree_hash};
 ghost use Rattle.mls_tree.specs.ShortLeaves.{HasShortLeaves};
 ghost use Rattle.mls_tree.specs.Tree.{max_leaves, term};
 ghost use Rattle.mls_cli_text.specs.Page.{MakesPage};
 ghost use Rattle.mls_cli_text.specs.Text.{entries_of};
 ghost use Rattle.mls_cli_check.specs.Check.{page_behind};
 ghost use Rattle.mls_cli_check.specs.CheckFaults.{number_of, RefusesMessage};
-ghost use Rattle.mls_cli_check.specs.GroupInfo.{group_info_in, group_info_text, info_checks, info_report, sent_tree, signer_checks, signer_report, suite_among, suite_or_refusal, tree_or_refusal};
+ghost use Rattle.mls_cli_check.specs.GroupInfo.{group_info_in, group_info_of, group_info_text, info_checks, info_report, sent_tree, signer_checks, signer_report, suite_among, suite_or_refusal, tree_or_refusal};
 
 use crate::check_error::CheckError;
 use crate::report::{refused, signature_word, tree_page};
@@ -25,16 +27,10 @@ use mls_tree::PublicTree;
 use mls_types::{GroupInfo, MlsMessage, RatchetTree};
 use std::alloc::{AllocError, Global};
 
-/// Reads the GroupInfo that the bytes spell: refused with the fault of decoding (2 to 7, 11 to 14), and else with
-/// `WrongMessageKind` (95).
-#[tactic(auto, unfolding(crate::specs::GroupInfo::group_info_in))]
-fn group_info_in(alloc: Global, bytes: &[u8]) -> Result<GroupInfo, CheckError>
-    ensures info { Answers (λ info. info) number_of (group_info_in bytes.now) result }
-    // Bytes that spell no message are refused whatever memory there is.
-    ensures outright { RefusesMessage bytes.now result }
-    ensures short { IfOk result (λ info. IsShort group_info info) }
+/// The GroupInfo that a message is, or `WrongMessageKind` (95).
+fn group_info_of(message: MlsMessage) -> Result<GroupInfo, CheckError>
+    ensures { Answers (λ info. info) number_of (group_info_of message) result }
 {
-    let message = MlsMessage::decode(alloc, bytes)?;
     match message {
         MlsMessage::GroupInfo(info) => Ok(info),
         MlsMessage::PublicMessage(_) | MlsMessage::Welcome(_) | MlsMessage::KeyPackage(_) => {
@@ -43,14 +39,26 @@ fn group_info_in(alloc: Global, bytes: &[u8]) -> Result<GroupInfo, CheckError>
     }
 }
 
+/// Reads the GroupInfo that the bytes spell: refused with the fault of decoding (2 to 7, 11 to 14), and else with
+/// `WrongMessageKind` (95).
+fn group_info_in(alloc: Global, bytes: &[u8]) -> Result<GroupInfo, CheckError>
+    ensures info { Answers (λ info. info) number_of (group_info_in bytes.now) result }
+    // Bytes that spell no message are refused whatever memory there is.
+    ensures outright { RefusesMessage bytes.now result }
+    ensures short { IfOk result (λ info. IsShort group_info info) }
+{
+    let message = MlsMessage::decode(alloc, bytes)?;
+    group_info_of(message)
+}
+
 /// The tree of nodes that were sent, which shares them: `TreeShape` (20), `TreeFull` (21).
 fn tree_of(nodes: &RatchetTree) -> Result<PublicTree, CheckError>
     requires { IsShort ratchet_tree nodes.now }
     ensures tree { Answers term number_of (from_nodes max_leaves nodes.now) result }
     ensures short { IfOk result (λ tree. HasShortLeaves (term tree)) }
 {
-    let nodes = nodes.clone()?;
-    let tree = PublicTree::from_nodes(nodes.into_vec())?;
+    let shared = nodes.clone()?;
+    let tree = PublicTree::from_nodes(shared.into_vec())?;
     Ok(tree)
 }
 
@@ -121,8 +129,16 @@ fn with_signer<S: Suite>(
     }
 }
 
+/// Whether the tree hash of a GroupInfo's context is that of the tree.
+fn has_tree_hash(info: &GroupInfo, tree: &mut PublicTree) -> bool
+    ensures value { result ≡ bytes_eq info.now.group_context.tree_hash (tree_hash 0 (term tree.old)) }
+    ensures same { term tree.new ≡ term tree.old }
+{
+    let hash = tree.tree_hash();
+    info.group_context.tree_hash.as_slice() == hash.as_slice()
+}
+
 /// The lines, and behind them those of a GroupInfo's own checks: `TreeHashWrong` (77), then its signer's.
-#[tactic(auto, unfolding(crate::specs::GroupInfo::info_checks))]
 fn with_info_checks<S: Suite>(
     alloc: Global,
     lines: Vec<Line>,
@@ -133,7 +149,7 @@ fn with_info_checks<S: Suite>(
     ensures { MakesPage result (page_behind (entries_of lines)
         (info_checks S.crypto info.now (term tree.old))) }
 {
-    if info.group_context.tree_hash.as_slice() != tree.tree_hash().as_slice() {
+    if !has_tree_hash(info, tree) {
         return refused(lines, CheckError::TreeHashWrong);
     }
     let lines = append_line(lines, line_of("tree_hash matches", Field::Word("ok")))?;
@@ -151,10 +167,11 @@ fn tree_and_info_page<S: Suite>(
     ensures { MakesPage result (info_report S.crypto info.now (term tree.old)) }
 {
     let group_id = info.group_context.group_id.as_slice();
-    let page = tree_page::<S>(alloc, tree, group_id)?;
-    match page.ending {
-        Ending::Good => with_info_checks::<S>(alloc, page.lines, info, tree),
-        Ending::Failed | Ending::Refused(_) => Ok(page),
+    let Page { lines, ending } = tree_page::<S>(alloc, tree, group_id)?;
+    match ending {
+        Ending::Good => with_info_checks::<S>(alloc, lines, info, tree),
+        Ending::Failed => Ok(Page { lines, ending }),
+        Ending::Refused(_) => Ok(Page { lines, ending }),
     }
 }
 

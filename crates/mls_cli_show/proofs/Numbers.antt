@@ -20,7 +20,8 @@ more_from lines n (y ∷ ys) (suc i) x lt is =
     ∙ sym (append_assoc (lines n y) (from lines (n + 1) (take i ys)) (lines (n + suc i) x))
 
 pub one_more : {X : Type 0} (lines : ℕ → X → List Entry) (xs : List X) (i : ℕ) (x : X) → i < length xs → x ≡ get_or xs i x
-    → numbered lines (take (suc i) xs) ≡ numbered lines (take i xs) ++ lines i x
+    → numbered lines (take (i + 1) xs) ≡ numbered lines (take i xs) ++ lines i x
 one_more lines xs i x lt is =
     let same : 0 + i ≡ i = omega arith in
-    more_from lines 0 xs i x lt is ∙ ap (λ k. numbered lines (take i xs) ++ lines k x) same
+    let next : i + 1 ≡ suc i = omega arith in
+    ap (λ k. numbered lines (take k xs)) next ∙ (more_from lines 0 xs i x lt is ∙ ap (λ k. numbered lines (take i xs) ++ lines k x) same)
