@@ -115,11 +115,7 @@ fn job_on<'a>(name: &str, matches: &ArgMatches<'a>, file: &'a str) -> Option<Job
     ensures { maybe_task result ≡ task_on name.now (rows_of (found_of matches.now)) file.entry.now }
 {
     match name {
-        "show" => Some(show_on(
-            value_of(matches, "full"),
-            value_of(matches, "raw"),
-            file,
-        )),
+        "show" => Some(show_on(value_of(matches, "full"), value_of(matches, "raw"), file)),
         "check" => check_on(
             value_of(matches, "group-info"),
             value_of(matches, "raw"),

@@ -16,9 +16,7 @@ use crate::tasks::{Job, NoJob, SuiteChoice};
 use mls_cli_check::{Unchecked, check_page, group_info_page};
 use mls_cli_replay::{replay, replay_message};
 use mls_cli_show::{Detail, show_page};
-use mls_cli_text::{
-    Fault, Form, Input, Line, Out, Output, Page, print_made_page, refused_page,
-};
+use mls_cli_text::{Fault, Form, Input, Line, Out, Output, Page, print_made_page, refused_page};
 use mls_cli_vectors::vectors_page;
 use mls_suite::{Glass, Suite};
 use mls_suite_0001::Suite0001;
@@ -140,12 +138,15 @@ fn print_text<O: Output>(
             signatures,
             group,
             ..
-        } => {
-            let page = tree_file(alloc, *form, *suite, *signatures, text, group);
-            print_made_page(alloc, page, out)
-        }
+        } => print_made_page(
+            alloc,
+            tree_file(alloc, *form, *suite, *signatures, text, group),
+            out,
+        ),
         Job::CheckGroupInfo {
-            form, signatures, ..
+            form,
+            signatures,
+            ..
         } => print_made_page(alloc, info_file(alloc, *form, *signatures, text), out),
         Job::Replay { suite, message, .. } => {
             print_recording(alloc, *suite, *message, text, out)

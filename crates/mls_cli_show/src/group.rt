@@ -139,11 +139,7 @@ fn tree_count(tree: &Option<RatchetTree>) -> Option<usize>
 }
 
 /// The lines of a parent.
-fn parent_lines(
-    alloc: Global,
-    prefix: Prefix,
-    parent: &ParentNode,
-) -> Result<Vec<Line>, AllocError>
+fn parent_lines(alloc: Global, prefix: Prefix, parent: &ParentNode) -> Result<Vec<Line>, AllocError>
     ensures { IfOk result (λ v. entries_of v
         ≡ entry (prefix_text prefix) (codes "encryption_key") (bytes parent.now.encryption_key)
         ∷ entry (prefix_text prefix) (codes "parent_hash") (bytes parent.now.parent_hash)
@@ -234,7 +230,10 @@ pub fn group_info_lines(
         signature,
     } = info;
     let nodes = nodes_lines(alloc, detail, &ratchet_tree)?;
-    let rest = append_lines(nodes, signer_lines(alloc, confirmation_tag, signer, signature)?)?;
+    let rest = append_lines(
+        nodes,
+        signer_lines(alloc, confirmation_tag, signer, signature)?,
+    )?;
     let rest = append_lines(count_lines(alloc, tree_count(&ratchet_tree))?, rest)?;
     append_lines(context_lines(alloc, group_context)?, rest)
 }

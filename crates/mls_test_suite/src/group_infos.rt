@@ -69,16 +69,8 @@ fn checks_tree_and_signature(rt: HostRuntime) -> Result<(), Fail> {
             1,
             "refused: 95 WrongMessageKind\n",
         ),
-        (
-            "00010004",
-            1,
-            "refused: 2 Truncated\n",
-        ),
-        (
-            "0",
-            1,
-            "refused: 8 NotHex\n",
-        ),
+        ("00010004", 1, "refused: 2 Truncated\n"),
+        ("0", 1, "refused: 8 NotHex\n"),
         (
             "000100040001000101670000000000000001206d5fdbd73a1a876c9a35d91ed4824530d9494fe94c2832035340099694936230201111111111111111111111111111111111111111111111111111111111111111002f00022c2b010101bb01cc000103626f620200010200010000020001010000000000000000ffffffffffffffff0001dd20cccccccccccccccccccccccccccccccccccccccccccccccccccccccccccccccc0000000001dd",
             0,
