@@ -31,7 +31,7 @@ page_of_front text page =
 same_printout : (j : Job) (text : List ℕ) (p : Printout) → IsPrintout j (read_of j text) p → IsPrintout j text p
 same_printout (job.Show file) text p is = is ∙ ap (printout line_text) (page_of_front text show_page)
 same_printout (job.Check file suite signatures group) text p is = is ∙ ap (printout line_text) (page_of_front text (λ own. check_page (checking suite signatures) (checks_of suite signatures) own group.now))
-same_printout (job.Replay file suite message) text p is = is
+same_printout (job.Replay file suite view) text p is = is
 same_printout (job.Vectors file) text p is = is
 
 prints_all : (j : Job) (text : List ℕ) (old new : Option (List ℕ)) (r : Result ℕ Fault) → PrintsOne (IsPrintout j (read_of j text)) old new r → PrintsOne (IsPrintout j text) old new r

@@ -7,10 +7,11 @@ use Rattle.clap.specs.Words.{App, Row, fault_of, subcommand_of, Rule, Text, firs
 use Rattle.clap.specs.Kinds.{IsAmong, Kinds}
 use Rattle.clap.specs.ValueTests.{accepts}
 use Rattle.clap.specs.declared.builder.action.ArgAction.TheVariants.{SetTrue}
-use Rattle.clap.specs.declared.builder.value_parser.ValueParser.{ValueParser}
-use Rattle.clap.specs.declared.builder.value_parser.ValueParser.TheVariants as parser
 use Rattle.clap.specs.declared.error.kind.ErrorKind.{ErrorKind}
 use Rattle.clap.specs.declared.error.kind.ErrorKind.TheVariants as kind
+use Rattle.mls_cli_replay.specs.declared.view.ReplayView.{ReplayView}
+use Rattle.mls_cli_replay.specs.declared.view.ReplayView.TheVariants.{Replies}
+use Rattle.mls_cli.specs.ReplayArguments.{number_parser, view_by, with_view_rules}
 use Rattle.mls_cli.specs.declared.tasks.NoJob.{NoJob}
 use Rattle.mls_cli.specs.declared.tasks.NoJob.TheVariants as no_job
 use Rattle.mls_cli.specs.declared.tasks.Job.{Job}
@@ -37,20 +38,13 @@ group_rule = record (new_rule (codes "HEX")) { long = Some (codes "group") }
 abbrev pub signatures_rule : Rule
 signatures_rule = record (new_rule (codes "signatures")) { long = Some (codes "signatures"); action = Some SetTrue }
 
--- an optional --message N, a number below 2^64
-abbrev pub number_parser : ValueParser
-number_parser = parser.Unsigned 0 18446744073709551615
-
-abbrev pub message_rule : Rule
-message_rule = record (new_rule (codes "N")) { long = Some (codes "message"); parser = Some number_parser }
-
 -- `check`, which takes a FILE and three options
 abbrev pub check_app : App
 check_app = with_rule (with_rule (with_rule (file_app (codes "check")) suite_rule) group_rule) signatures_rule
 
--- `replay`, which takes a FILE and two options
+-- `replay`, which takes a FILE, a suite and what is asked for
 abbrev pub replay_app : App
-replay_app = with_rule (with_rule (file_app (codes "replay")) suite_rule) message_rule
+replay_app = with_view_rules (with_rule (file_app (codes "replay")) suite_rule)
 
 -- one of the subcommands is required, but for `--version`
 abbrev pub needing_subcommand : App → App
@@ -74,13 +68,13 @@ name_program (first ∷ rest) = codes "mls" ∷ rest
 pub data Task : Type 0 where
   show : Text → Task
   check : Text → SuiteChoice → Bool → Text → Task
-  replay : Text → SuiteChoice → Option ℕ → Task
+  replay : Text → SuiteChoice → ReplayView → Task
   vectors : Text → Task
 
 abbrev pub task_view : Job → Task
 task_view (Show file) = show file.now
 task_view (Check file suite signatures group) = check file.now suite signatures group.now
-task_view (Replay file suite message) = replay file.now suite message
+task_view (Replay file suite view) = replay file.now suite view
 task_view (Vectors file) = vectors file.now
 
 -- a suite is named by its number in hex
@@ -104,15 +98,21 @@ abbrev pub check_on : Option Text → Option Text → Option Text → Text → O
 check_on suite signatures group file =
     option_map (λ s. check file s (is_given signatures) (unwrap_or group [])) (option_and_then suite_of suite)
 
-abbrev pub replay_on : Option Text → Option Text → Text → Option Task
-replay_on suite message file =
-    option_map (λ s. replay file s (option_and_then number_in message)) (option_and_then suite_of suite)
+-- what is asked for of a recording, by the values of its options
+abbrev pub view_on : List Row → Option ReplayView
+view_on rows = view_by (option_and_then number_in (first_of (codes "N") rows)) (option_and_then number_in (first_of (codes "K") rows))
+    (is_given (first_of (codes "quiet") rows)) (is_given (first_of (codes "record") rows))
+
+-- there is no such job either where two things are asked for
+abbrev pub replay_on : Option Text → Option ReplayView → Text → Option Task
+replay_on suite view file =
+    option_and_then (λ s. option_map (λ v. replay file s v) view) (option_and_then suite_of suite)
 
 abbrev pub task_on : Text → List Row → Text → Option Task
 task_on name rows file =
     if bytes_eq name (codes "show") then Some (show file)
     else if bytes_eq name (codes "check") then check_on (first_of (codes "SUITE") rows) (first_of (codes "signatures") rows) (first_of (codes "HEX") rows) file
-    else if bytes_eq name (codes "replay") then replay_on (first_of (codes "SUITE") rows) (first_of (codes "N") rows) file
+    else if bytes_eq name (codes "replay") then replay_on (first_of (codes "SUITE") rows) (view_on rows) file
     else if bytes_eq name (codes "vectors") then Some (vectors file)
     else None
 
@@ -124,7 +124,7 @@ task_of found = option_and_then
 abbrev pub file_of : Job → Text
 file_of (Show file) = file.now
 file_of (Check file suite signatures group) = file.now
-file_of (Replay file suite message) = file.now
+file_of (Replay file suite view) = file.now
 file_of (Vectors file) = file.now
 
 -- ---- where there is no job
@@ -196,7 +196,7 @@ abbrev pub plain_check : Text → Task
 plain_check file = check file Glass false []
 
 abbrev pub plain_replay : Text → Task
-plain_replay file = replay file Glass None
+plain_replay file = replay file Glass Replies
 
 -- a check and a replay with all options
 abbrev pub words_of_check : List Text
@@ -204,6 +204,20 @@ words_of_check = codes "check" ∷ codes "a" ∷ codes "--suite" ∷ codes "0001
 
 abbrev pub words_of_replay : List Text
 words_of_replay = codes "replay" ∷ codes "--message" ∷ codes "12" ∷ codes "--suite=0001" ∷ codes "a" ∷ []
+
+-- a replay that asks for a member's tree, a quiet one, and one that records
+abbrev pub words_of_tree : List Text
+words_of_tree = codes "replay" ∷ codes "a" ∷ codes "--tree=3" ∷ []
+
+abbrev pub words_of_quiet : List Text
+words_of_quiet = codes "replay" ∷ codes "--quiet" ∷ codes "a" ∷ []
+
+abbrev pub words_of_record : List Text
+words_of_record = codes "replay" ∷ codes "--record" ∷ codes "a" ∷ []
+
+-- a replay that asks for two things
+abbrev pub words_of_two_views : List Text
+words_of_two_views = codes "replay" ∷ codes "a" ∷ codes "--quiet" ∷ codes "--message=0" ∷ []
 
 -- a replay whose message is no number
 abbrev pub words_of_no_number : List Text

@@ -1,2 +1,3 @@
+pub mod ReplayArguments
 pub mod Arguments
 pub mod Serving

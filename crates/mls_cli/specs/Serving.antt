@@ -23,8 +23,9 @@ use Rattle.mls_cli_check.specs.declared.report.SuiteChecks.{SuiteChecks}
 use Rattle.mls_cli_check.specs.declared.report.SuiteChecks.TheVariants.{Made, Left}
 use Rattle.mls_cli_vectors.specs.VectorsReport.{entry_text, vectors_page}
 use Rattle.mls_cli_text.specs.declared.output.Out.{Out}
-use Rattle.mls_cli_replay.specs.Message.{IsMessage}
-use Rattle.mls_cli_replay.specs.Replay.{IsReplay, PrintsOne}
+use Rattle.mls_cli_replay.specs.Replay.{PrintsOne}
+use Rattle.mls_cli_replay.specs.Views.{IsView}
+use Rattle.mls_cli_replay.specs.declared.view.ReplayView.{ReplayView}
 
 -- the suite of a group
 abbrev pub crypto_of : SuiteChoice → Crypto
@@ -43,11 +44,6 @@ checks_of choice.Glass signatures = Made
 checks_of choice.Suite0001 true = Made
 checks_of choice.Suite0001 false = Left
 
--- what is printed of a recording, or of one of its messages
-abbrev pub IsReplayOrMessage : Crypto → Option ℕ → List ℕ → Printout → Type 0
-IsReplayOrMessage c None text p = IsReplay c text p
-IsReplayOrMessage c (Some n) text p = IsMessage c n text p
-
 -- what is printed of a hex file whose page is this: the refusal `TooLong` (6) alone, where the text is too long
 abbrev pub hex_file_page : List ℕ → Page Entry → Page Entry
 hex_file_page text page = if nat_lt hex_file_limit (length text) then refused 6 else page
@@ -57,7 +53,7 @@ abbrev pub IsPrintout : Job → List ℕ → Printout → Type 0
 IsPrintout (job.Show file) text p = p ≡ printout line_text (hex_file_page text (show_page text))
 IsPrintout (job.Check file suite signatures group) text p =
     p ≡ printout line_text (hex_file_page text (check_page (checking suite signatures) (checks_of suite signatures) text group.now))
-IsPrintout (job.Replay file suite message) text p = IsReplayOrMessage (crypto_of suite) message text p
+IsPrintout (job.Replay file suite view) text p = IsView (crypto_of suite) view text p
 IsPrintout (job.Vectors file) text p = p ≡ printout entry_text (vectors_page text)
 
 -- the output grows by the text of such a printout, with its status; or the status is 3, and it grows by less than such a
@@ -129,7 +125,7 @@ EndsWithoutJob no_job.OutOfMemory status out_old out_new written old new failed 
 abbrev pub read_of : Job → List ℕ → List ℕ
 read_of (job.Show file) text = take (suc hex_file_limit) text
 read_of (job.Check file suite signatures group) text = take (suc hex_file_limit) text
-read_of (job.Replay file suite message) text = text
+read_of (job.Replay file suite view) text = text
 read_of (job.Vectors file) text = text
 
 -- this is what a job reads of all that a reader has left, where that is known
@@ -150,9 +146,9 @@ abbrev pub PrintsFile : {I O : Type 0} → (I → Option (List ℕ)) → (O → 
 PrintsFile {I} {O} remaining contents j file old new status =
     IfSome file (λ (reader : I). IfSome (remaining reader) (λ (text : List ℕ). PrintsOrFails (IsPrintout j text) (contents old) (contents new) status))
 
--- what is printed of a recording's text, or of one of its messages, is printed
-abbrev pub PrintsRecording : {O : Type 0} → (O → Option (List ℕ)) → SuiteChoice → Option ℕ → List ℕ → O → O → Result ℕ Fault → Type 0
-PrintsRecording contents suite message text old new result = PrintsOne (IsReplayOrMessage (crypto_of suite) message text) (contents old) (contents new) result
+-- a view of a recording's text is printed
+abbrev pub PrintsRecording : {O : Type 0} → (O → Option (List ℕ)) → SuiteChoice → ReplayView → List ℕ → O → O → Result ℕ Fault → Type 0
+PrintsRecording contents suite view text old new result = PrintsOne (IsView (crypto_of suite) view text) (contents old) (contents new) result
 
 -- a file that can't be read leaves the output as it was
 abbrev pub KeepsUnread : {I O : Type 0} → (I → Bool) → (O → Option (List ℕ)) → Option I → O → O → Type 0

@@ -3,11 +3,13 @@
 ghost use Rattle.std.specs.Prelude.{◌≡◌, map, true, false, codes, Ok, Err, Some, None, IfOk, IfErr, IsSome, OnOk, ◌⊎◌, ◌∷◌, [], option_and_then, option_map};
 ghost use Rattle.clap.specs.Words.{app_of, shape_of, first_of, found_of, kind_of, rows_of, rule_of, subcommand_of, subcommand_rows_of, takes, fault_of, FailsBy, HasKind};
 ghost use Rattle.clap.specs.declared.Command.TheViews.{out-Command as fields_of};
-ghost use Rattle.mls_cli.specs.Arguments.{ComesOf, ExplainsWords, check, check_app, check_on, faults_behind, file_app, file_rule, found_in, found_rows, given, group_rule, is_given, maybe_task, message_rule, mls, needing_subcommand, number_in, plain_check, plain_replay, replay, replay_app, replay_on, show, signatures_rule, suite_of, suite_rule, task_behind, task_in, task_of, task_on, task_view, vectors, words_of_check, words_of_no_number, words_of_replay};
+ghost use Rattle.mls_cli.specs.Arguments.{ComesOf, ExplainsWords, check, check_app, check_on, faults_behind, file_app, file_rule, found_in, found_rows, given, group_rule, is_given, maybe_task, mls, needing_subcommand, number_in, plain_check, plain_replay, replay, replay_app, replay_on, show, signatures_rule, suite_of, suite_rule, task_behind, task_in, task_of, task_on, task_view, vectors, view_on, words_of_check, words_of_no_number, words_of_quiet, words_of_record, words_of_replay, words_of_tree, words_of_two_views};
 
+use crate::replay_arguments::{view_by, with_views};
 use crate::tasks::{Job, NoJob, SuiteChoice};
 use clap::error::ErrorKind;
 use clap::{Arg, ArgAction, ArgMatches, Command, Error};
+use mls_cli_replay::ReplayView;
 use std::alloc::{AllocError, Global};
 use std::convert::AsStr;
 
@@ -59,16 +61,6 @@ fn signatures_arg<'a>(alloc: Global) -> Arg<'a>
         .help("Checks signatures and keys under suite 0001 too")
 }
 
-fn message_arg<'a>(alloc: Global) -> Arg<'a>
-    ensures rule { rule_of result ≡ message_rule }
-    ensures local { result.global ≡ false }
-{
-    Arg::new(alloc, "N")
-        .long("message")
-        .value_parser(clap::value_parser!(u64))
-        .help("Prints this message in hex, in place of the replies")
-}
-
 fn group_arg<'a>(alloc: Global) -> Arg<'a>
     ensures rule { rule_of result ≡ group_rule }
     ensures local { result.global ≡ false }
@@ -104,7 +96,7 @@ fn replay_command<'a>(alloc: Global) -> Result<Command<'a>, AllocError>
         "A recording in JSON, or - for the standard input",
     )?;
     let with_suite = command.arg(suite_arg(alloc))?;
-    with_suite.arg(message_arg(alloc))
+    with_views(alloc, with_suite)
 }
 
 /// What help says of the whole, and that a subcommand is required.
@@ -174,8 +166,8 @@ fn number_in(text: &str) -> Option<usize>
     }
 }
 
-/// The number of a message, where a text is given that writes one.
-fn message_in(text: Option<&str>) -> Option<usize>
+/// The number that a text writes, where a text is given that writes one.
+fn number_if_any(text: Option<&str>) -> Option<usize>
     ensures { result ≡ option_and_then number_in (given text.entry) }
 {
     match text {
@@ -212,16 +204,29 @@ fn check_on<'a>(
     }
 }
 
-/// The replay that the options and FILE stand for, or None where no suite has that name.
-fn replay_on<'a>(suite: Option<&str>, message: Option<&str>, file: &'a str) -> Option<Job<'a>>
-    ensures { maybe_task result ≡ replay_on (given suite.entry) (given message.entry) file.entry.now }
+/// What is asked for of a recording, or None where it is two things.
+fn view_on(matches: &ArgMatches<'_>) -> Option<ReplayView>
+    ensures { result ≡ view_on (rows_of (found_of matches.now)) }
 {
-    let chosen = suite_of(suite?)?;
-    Some(Job::Replay {
-        file,
-        suite: chosen,
-        message: message_in(message),
-    })
+    view_by(
+        number_if_any(value_of(matches, "N")),
+        number_if_any(value_of(matches, "K")),
+        is_given(value_of(matches, "quiet")),
+        is_given(value_of(matches, "record")),
+    )
+}
+
+/// The replay that the options and FILE stand for, or None where no suite has that name, or two things are asked for.
+fn replay_on<'a>(
+    suite: Option<&str>,
+    view: Option<ReplayView>,
+    file: &'a str,
+) -> Option<Job<'a>>
+    ensures { maybe_task result ≡ replay_on (given suite.entry) view file.entry.now }
+{
+    let suite = suite_of(suite?)?;
+    let view = view?;
+    Some(Job::Replay { file, suite, view })
 }
 
 /// The job that a subcommand's name, its matches and FILE stand for, or None where no subcommand has that name.
@@ -236,7 +241,7 @@ fn job_on<'a>(name: &str, matches: &ArgMatches<'a>, file: &'a str) -> Option<Job
             value_of(matches, "HEX"),
             file,
         ),
-        "replay" => replay_on(value_of(matches, "SUITE"), value_of(matches, "N"), file),
+        "replay" => replay_on(value_of(matches, "SUITE"), view_on(matches), file),
         "vectors" => Some(Job::Vectors { file }),
         _ => None,
     }
@@ -255,7 +260,7 @@ pub fn job<'a, S: AsStr>(alloc: Global, words: &'a [S]) -> Result<Job<'a>, NoJob
     match parse_words(alloc, words) {
         Ok(matches) => match job_in(&matches) {
             Some(job) => Ok(job),
-            None => Err(refuse_suite(alloc, name_in(&matches), suite_in(&matches))),
+            None => Err(refuse_values(alloc, name_in(&matches), suite_in(&matches))),
         },
         Err(error) => Err(no_job(alloc, &error)),
     }
@@ -289,11 +294,11 @@ fn no_job(alloc: Global, error: &Error) -> NoJob
     }
 }
 
-/// That no suite has the name that a subcommand is given.
-fn refuse_suite(alloc: Global, subcommand: &str, suite: &str) -> NoJob
+/// That no suite has the name that a subcommand is given, or that two things are asked for of a recording.
+fn refuse_values(alloc: Global, subcommand: &str, suite: &str) -> NoJob
     ensures { ComesOf result ErrorKind.InvalidValue }
 {
-    match suite_error(alloc, subcommand, suite) {
+    match value_error(alloc, subcommand, suite) {
         Ok(error) => no_job(alloc, &error),
         // Want of memory: the error is an `AllocError`.
         Err(_) => NoJob::OutOfMemory,
@@ -305,6 +310,19 @@ fn command_with_suite<'a>(alloc: Global, subcommand: &str) -> Result<Command<'a>
     match subcommand {
         "replay" => replay_command(alloc)?.bin_name("mls replay"),
         _ => check_command(alloc)?.bin_name("mls check"),
+    }
+}
+
+/// What clap would say of options that exclude one another.
+const TWO_VIEWS: &str = "only one of --message, --tree, --quiet and --record can be used";
+
+/// The error of values that name no job, with the usage of the subcommand.
+fn value_error(alloc: Global, subcommand: &str, suite: &str) -> Result<Error, AllocError>
+    ensures { IfOk result (λ e. kind_of e ≡ ErrorKind.InvalidValue) }
+{
+    match suite_of(suite) {
+        Some(_) => command_with_suite(alloc, subcommand)?.error(ErrorKind::InvalidValue, TWO_VIEWS),
+        None => suite_error(alloc, subcommand, suite),
     }
 }
 
@@ -387,7 +405,14 @@ pub fn examples()
     ensures chosen { task_behind words_of_check
         ≡ Some (check (codes "a") SuiteChoice.Suite0001 true (codes "67")) }
     ensures message { task_behind words_of_replay
-        ≡ Some (replay (codes "a") SuiteChoice.Suite0001 (Some 12)) }
+        ≡ Some (replay (codes "a") SuiteChoice.Suite0001 (ReplayView.Message 12)) }
+    ensures tree { task_behind words_of_tree
+        ≡ Some (replay (codes "a") SuiteChoice.Glass (ReplayView.Tree 3)) }
+    ensures quiet { task_behind words_of_quiet
+        ≡ Some (replay (codes "a") SuiteChoice.Glass ReplayView.Unmet) }
+    ensures record { task_behind words_of_record
+        ≡ Some (replay (codes "a") SuiteChoice.Glass ReplayView.Recording) }
+    ensures two { task_behind words_of_two_views ≡ None }
     ensures number { faults_behind words_of_no_number ≡ ErrorKind.ValueValidation ∷ [] }
     ensures other { task_behind (codes "check" ∷ codes "a" ∷ codes "--suite=f002" ∷ []) ≡ None }
     ensures taken { faults_behind (codes "show" ∷ codes "a" ∷ []) ≡ [] }

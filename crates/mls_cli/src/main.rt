@@ -6,6 +6,7 @@ ghost use Rattle.mls_cli_text.specs.InputOutput.{in_failed};
 ghost use Rattle.mls_cli.specs.Arguments.{NamesProgram};
 
 mod arguments;
+mod replay_arguments;
 mod serving;
 mod source;
 mod tasks;

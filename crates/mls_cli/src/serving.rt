@@ -6,19 +6,18 @@ ghost use Rattle.mls_cli_text.specs.InputOutput.{out_failed, out_writer, read_fa
 ghost use Rattle.mls_cli_text.specs.Page.{MakesPage};
 ghost use Rattle.mls_cli_show.specs.Show.{page_of as show_page};
 ghost use Rattle.mls_cli_check.specs.Check.{check_page};
-ghost use Rattle.mls_cli_replay.specs.Replay.{PrintsOne};
 ghost use Rattle.mls_cli.specs.Arguments.{file_of};
-ghost use Rattle.mls_cli.specs.Serving.{BeginsError, EndsWith, EndsWithoutJob, IsReplayOrMessage, KeepsUnread, PrintsFile, PrintsRead, PrintsRecording, PrintsText, ReadsFile, Says, ShowsHelp, WritesError, checking, checks_of, fault_text, hex_file_page, out_of_memory as memory_text, unread, unreadable};
+ghost use Rattle.mls_cli.specs.Serving.{BeginsError, EndsWith, EndsWithoutJob, KeepsUnread, PrintsFile, PrintsRead, PrintsRecording, PrintsText, ReadsFile, Says, ShowsHelp, WritesError, checking, checks_of, fault_text, hex_file_page, out_of_memory as memory_text, unread, unreadable};
 
 use crate::tasks::{Job, NoJob, SuiteChoice};
 use mls_cli_check::{SuiteChecks, Unchecked, check_page};
-use mls_cli_replay::{replay, replay_message};
+use mls_cli_replay::{ReplayView, print_view};
 use mls_cli_show::show_page;
 use mls_cli_text::{
     Fault, HEX_FILE_LIMIT, Input, Line, Out, Output, Page, print_made_page, refused_page,
 };
 use mls_cli_vectors::vectors_page;
-use mls_suite::{Glass, Suite};
+use mls_suite::Glass;
 use mls_suite_0001::Suite0001;
 use std::alloc::{AllocError, Global};
 use std::io::Write;
@@ -138,9 +137,7 @@ fn print_text<O: Output>(
             tree_file(alloc, *suite, *signatures, text, group),
             out,
         ),
-        Job::Replay { suite, message, .. } => {
-            print_recording(alloc, *suite, *message, text, out)
-        }
+        Job::Replay { suite, view, .. } => print_recording(alloc, *suite, *view, text, out),
         Job::Vectors { .. } => print_made_page(alloc, vectors_page(alloc, text), out),
     }
 }
@@ -195,40 +192,22 @@ fn check_file(
     }
 }
 
-/// Prints the replay of a recording for the suite, or one of its messages.
+/// Prints what is asked for of a recording for the suite.
 fn print_recording<O: Output>(
     alloc: Global,
     suite: SuiteChoice,
-    message: Option<usize>,
+    view: ReplayView,
     text: &[u8],
     out: &mut O,
 ) -> Result<u8, Fault>
-    ensures prints { PrintsRecording O.contents suite message text.now out.old out.new result }
+    ensures prints { PrintsRecording O.contents suite view text.now out.old out.new result }
     ensures status { IfOk result (λ status. status ≤ 1) }
     ensures write { O.failed out.new ≡ write_failed (O.failed out.old) result }
     ensures written { IfErr result (λ e. e ≢ Fault.Read) }
 {
     match suite {
-        SuiteChoice::Glass => print_under::<Glass, O>(alloc, message, text, out),
-        SuiteChoice::Suite0001 => print_under::<Suite0001, O>(alloc, message, text, out),
-    }
-}
-
-fn print_under<S: Suite, O: Output>(
-    alloc: Global,
-    message: Option<usize>,
-    text: &[u8],
-    out: &mut O,
-) -> Result<u8, Fault>
-    ensures prints { PrintsOne (IsReplayOrMessage S.crypto message text.now)
-        (O.contents out.old) (O.contents out.new) result }
-    ensures status { IfOk result (λ status. status ≤ 1) }
-    ensures write { O.failed out.new ≡ write_failed (O.failed out.old) result }
-    ensures written { IfErr result (λ e. e ≢ Fault.Read) }
-{
-    match message {
-        Some(number) => replay_message::<S, O>(alloc, text, number, out),
-        None => replay::<S, O>(alloc, text, out),
+        SuiteChoice::Glass => print_view::<Glass, O>(alloc, text, view, out),
+        SuiteChoice::Suite0001 => print_view::<Suite0001, O>(alloc, text, view, out),
     }
 }
 

@@ -1,5 +1,6 @@
 //! What the program can be asked to do.
 
+use mls_cli_replay::ReplayView;
 use std::alloc::AllocError;
 
 /// A group's cipher suite.
@@ -36,8 +37,8 @@ pub enum Job<'a> {
         file: &'a str,
         /// The cipher suite that the recording is for.
         suite: SuiteChoice,
-        /// The number of the one message that is printed, in place of all else.
-        message: Option<usize>,
+        /// What is printed of it.
+        view: ReplayView,
     },
     /// Judge the test vectors that stand as JSON in a file.
     Vectors {

@@ -8,6 +8,7 @@ mod rows;
 mod suite_0001;
 mod vectors;
 mod version_2;
+mod views;
 
 ghost use Rattle.std.specs.Prelude.{Some};
 
@@ -43,7 +44,7 @@ const CHECK_HELP: &str =
     "Checks a ratchet tree\n\nUsage: mls check [OPTIONS] <FILE>\n\nArguments:\n  <FILE>  A ratchet tree in hex, or - for the standard input\n\nOptions:\n      --suite <SUITE>  The group's cipher suite, f001 or 0001 [default: f001]\n      --group <HEX>    The group's id, empty by default\n      --signatures     Checks signatures and keys under suite 0001 too\n  -h, --help           Print help\n";
 
 const REPLAY_HELP: &str =
-    "Replays a recording of groups\n\nUsage: mls replay [OPTIONS] <FILE>\n\nArguments:\n  <FILE>  A recording in JSON, or - for the standard input\n\nOptions:\n      --suite <SUITE>  The group's cipher suite, f001 or 0001 [default: f001]\n      --message <N>    Prints this message in hex, in place of the replies\n  -h, --help           Print help\n";
+    "Replays a recording of groups\n\nUsage: mls replay [OPTIONS] <FILE>\n\nArguments:\n  <FILE>  A recording in JSON, or - for the standard input\n\nOptions:\n      --suite <SUITE>  The group's cipher suite, f001 or 0001 [default: f001]\n      --message <N>    Prints this message in hex, in place of the replies\n      --tree <K>       Prints this member's ratchet tree in hex, in place of the replies\n      --quiet          Leaves out replies that are as expected\n      --record         Prints the recording with these replies as those that it expects\n  -h, --help           Print help\n";
 
 const VECTORS_HELP: &str =
     "Judges test vectors\n\nUsage: mls vectors <FILE>\n\nArguments:\n  <FILE>  A JSON array of vectors, or - for the standard input\n\nOptions:\n  -h, --help  Print help\n";

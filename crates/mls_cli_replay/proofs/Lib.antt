@@ -8,3 +8,6 @@ mod Closing
 mod Stopping
 mod Messages
 mod FoundMessages
+mod Quietly
+mod Wording
+mod Viewing
