@@ -217,16 +217,15 @@ fn view_on(matches: &ArgMatches<'_>) -> Option<ReplayView>
 }
 
 /// The replay that the options and FILE stand for, or None where no suite has that name, or two things are asked for.
-fn replay_on<'a>(
-    suite: Option<&str>,
-    view: Option<ReplayView>,
-    file: &'a str,
-) -> Option<Job<'a>>
+fn replay_on<'a>(suite: Option<&str>, view: Option<ReplayView>, file: &'a str) -> Option<Job<'a>>
     ensures { maybe_task result ≡ replay_on (given suite.entry) view file.entry.now }
 {
-    let suite = suite_of(suite?)?;
-    let view = view?;
-    Some(Job::Replay { file, suite, view })
+    let chosen = suite_of(suite?)?;
+    Some(Job::Replay {
+        file,
+        suite: chosen,
+        view: view?,
+    })
 }
 
 /// The job that a subcommand's name, its matches and FILE stand for, or None where no subcommand has that name.
@@ -410,7 +409,7 @@ pub fn examples()
         ≡ Some (replay (codes "a") SuiteChoice.Glass (ReplayView.Tree 3)) }
     ensures quiet { task_behind words_of_quiet
         ≡ Some (replay (codes "a") SuiteChoice.Glass ReplayView.Unmet) }
-    ensures record { task_behind words_of_record
+    ensures recorded { task_behind words_of_record
         ≡ Some (replay (codes "a") SuiteChoice.Glass ReplayView.Recording) }
     ensures two { task_behind words_of_two_views ≡ None }
     ensures number { faults_behind words_of_no_number ≡ ErrorKind.ValueValidation ∷ [] }

@@ -33,10 +33,7 @@ impl Printed for TreeDigits {
 }
 
 /// Makes the page of a member's tree: `Gone` (40) where it was removed, `TooLong` (6) where the tree has no spelling.
-fn tree_page<S: Suite>(
-    alloc: Global,
-    member: &Member<S>,
-) -> Result<Page<TreeDigits>, AllocError>
+fn tree_page<S: Suite>(alloc: Global, member: &Member<S>) -> Result<Page<TreeDigits>, AllocError>
     ensures { MakesTree (IsTreeOf member.now) result }
 {
     if member.is_gone() {

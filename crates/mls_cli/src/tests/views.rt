@@ -125,9 +125,11 @@ fn prints_a_tree_to_check(rt: HostRuntime) -> Result<(), Fail> {
     let (checked, out) = serve_file(alloc, CHECK, tree.as_slice())?;
     assert_eq!(rt; checked, 0);
     let said = from_utf8(out.as_slice()).unwrap_or("");
-    assert!(rt; said.contains(
-        "tree_hash: 6d04bbe92956f8aaace7df23bf42d358eb52ae0da37628bca2ca496218c89d74\n"
-    ));
+    assert!(rt;
+        said.contains(
+            "tree_hash: 6d04bbe92956f8aaace7df23bf42d358eb52ae0da37628bca2ca496218c89d74\n"
+        )
+    );
     Ok(())
 }
 
