@@ -6,16 +6,20 @@ use Rattle.std.specs.Str.Parse.{digits_value, without_leading_plus}
 use Rattle.clap.specs.Words.{App, Row, fault_of, subcommand_of, Rule, Text, first_of, new_app, new_rule, with_rule, with_subcommand}
 use Rattle.clap.specs.Kinds.{IsAmong, Kinds}
 use Rattle.clap.specs.ValueTests.{accepts}
-use Rattle.clap.specs.declared.builder.action.ArgAction.TheVariants.{SetTrue}
 use Rattle.clap.specs.declared.error.kind.ErrorKind.{ErrorKind}
 use Rattle.clap.specs.declared.error.kind.ErrorKind.TheVariants as kind
+use Rattle.mls_cli_show.specs.declared.numbered.Detail.{Detail}
+use Rattle.mls_cli_show.specs.declared.numbered.Detail.TheVariants.{Brief, Full}
+use Rattle.mls_cli_text.specs.declared.form.Form.{Form}
+use Rattle.mls_cli_text.specs.declared.form.Form.TheVariants.{Hex, Raw}
 use Rattle.mls_cli_replay.specs.declared.view.ReplayView.{ReplayView}
 use Rattle.mls_cli_replay.specs.declared.view.ReplayView.TheVariants.{Replies}
-use Rattle.mls_cli.specs.ReplayArguments.{number_parser, view_by, with_view_rules}
+use Rattle.mls_cli.specs.Options.{flag_rule, number_parser}
+use Rattle.mls_cli.specs.ReplayArguments.{view_by, with_view_rules}
 use Rattle.mls_cli.specs.declared.tasks.NoJob.{NoJob}
 use Rattle.mls_cli.specs.declared.tasks.NoJob.TheVariants as no_job
 use Rattle.mls_cli.specs.declared.tasks.Job.{Job}
-use Rattle.mls_cli.specs.declared.tasks.Job.TheVariants.{Show, Check, Replay, Vectors}
+use Rattle.mls_cli.specs.declared.tasks.Job.TheVariants.{Show, Check, CheckGroupInfo, Replay, Vectors}
 use Rattle.mls_cli.specs.declared.tasks.SuiteChoice.{SuiteChoice}
 use Rattle.mls_cli.specs.declared.tasks.SuiteChoice.TheVariants.{Glass, Suite0001}
 
@@ -34,13 +38,18 @@ suite_rule = record (new_rule (codes "SUITE")) { long = Some (codes "suite"); de
 abbrev pub group_rule : Rule
 group_rule = record (new_rule (codes "HEX")) { long = Some (codes "group") }
 
--- a flag --signatures
-abbrev pub signatures_rule : Rule
-signatures_rule = record (new_rule (codes "signatures")) { long = Some (codes "signatures"); action = Some SetTrue }
+-- `show`, which takes a FILE and two flags
+abbrev pub show_app : App
+show_app = with_rule (with_rule (file_app (codes "show")) (flag_rule (codes "full"))) (flag_rule (codes "raw"))
 
--- `check`, which takes a FILE and three options
+-- `check`, which takes a FILE, two options and three flags
 abbrev pub check_app : App
-check_app = with_rule (with_rule (with_rule (file_app (codes "check")) suite_rule) group_rule) signatures_rule
+check_app =
+    with_rule
+    (with_rule
+    (with_rule (with_rule (with_rule (file_app (codes "check")) suite_rule) group_rule) (flag_rule (codes "signatures")))
+    (flag_rule (codes "group-info")))
+    (flag_rule (codes "raw"))
 
 -- `replay`, which takes a FILE, a suite and what is asked for
 abbrev pub replay_app : App
@@ -55,7 +64,7 @@ abbrev pub mls : App
 mls = needing_subcommand
     (with_subcommand
     (with_subcommand
-    (with_subcommand (with_subcommand (new_app (codes "mls")) (file_app (codes "show")).top) check_app.top)
+    (with_subcommand (with_subcommand (new_app (codes "mls")) show_app.top) check_app.top)
     replay_app.top)
     (file_app (codes "vectors")).top)
 
@@ -66,14 +75,16 @@ name_program (first ∷ rest) = codes "mls" ∷ rest
 
 -- a job without where it lies in memory
 pub data Task : Type 0 where
-  show : Text → Task
-  check : Text → SuiteChoice → Bool → Text → Task
+  show : Text → Form → Detail → Task
+  check : Text → Form → SuiteChoice → Bool → Text → Task
+  check_group_info : Text → Form → Bool → Task
   replay : Text → SuiteChoice → ReplayView → Task
   vectors : Text → Task
 
 abbrev pub task_view : Job → Task
-task_view (Show file) = show file.now
-task_view (Check file suite signatures group) = check file.now suite signatures group.now
+task_view (Show file form detail) = show file.now form detail
+task_view (Check file form suite signatures group) = check file.now form suite signatures group.now
+task_view (CheckGroupInfo file form signatures) = check_group_info file.now form signatures
 task_view (Replay file suite view) = replay file.now suite view
 task_view (Vectors file) = vectors file.now
 
@@ -93,10 +104,29 @@ is_given (Some text) = bytes_eq text (codes "true")
 abbrev pub number_in : Text → Option ℕ
 number_in text = if accepts false number_parser text then Some (digits_value 10 (without_leading_plus text)) else None
 
+-- a file has its bytes as they are where --raw is given
+abbrev pub form_of : Option Text → Form
+form_of raw = if is_given raw then Raw else Hex
+
+-- all is shown where --full is given
+abbrev pub detail_of : Option Text → Detail
+detail_of full = if is_given full then Full else Brief
+
+abbrev pub show_on : Option Text → Option Text → Text → Task
+show_on full raw file = show file (form_of raw) (detail_of full)
+
+-- a tree's group has the empty id where --group isn't given
+abbrev pub tree_task : Form → SuiteChoice → Bool → Option Text → Text → Task
+tree_task form suite signatures group file = check file form suite signatures (unwrap_or group [])
+
+abbrev pub check_task : Bool → Form → SuiteChoice → Bool → Option Text → Text → Task
+check_task info form suite signatures group file =
+    if info then check_group_info file form signatures else tree_task form suite signatures group file
+
 -- there is no such job where the suite has another name
-abbrev pub check_on : Option Text → Option Text → Option Text → Text → Option Task
-check_on suite signatures group file =
-    option_map (λ s. check file s (is_given signatures) (unwrap_or group [])) (option_and_then suite_of suite)
+abbrev pub check_on : Option Text → Option Text → Option Text → Option Text → Option Text → Text → Option Task
+check_on info raw suite signatures group file =
+    option_map (λ s. check_task (is_given info) (form_of raw) s (is_given signatures) group file) (option_and_then suite_of suite)
 
 -- what is asked for of a recording, by the values of its options
 abbrev pub view_on : List Row → Option ReplayView
@@ -110,8 +140,8 @@ replay_on suite view file =
 
 abbrev pub task_on : Text → List Row → Text → Option Task
 task_on name rows file =
-    if bytes_eq name (codes "show") then Some (show file)
-    else if bytes_eq name (codes "check") then check_on (first_of (codes "SUITE") rows) (first_of (codes "signatures") rows) (first_of (codes "HEX") rows) file
+    if bytes_eq name (codes "show") then Some (show_on (first_of (codes "full") rows) (first_of (codes "raw") rows) file)
+    else if bytes_eq name (codes "check") then check_on (first_of (codes "group-info") rows) (first_of (codes "raw") rows) (first_of (codes "SUITE") rows) (first_of (codes "signatures") rows) (first_of (codes "HEX") rows) file
     else if bytes_eq name (codes "replay") then replay_on (first_of (codes "SUITE") rows) (view_on rows) file
     else if bytes_eq name (codes "vectors") then Some (vectors file)
     else None
@@ -122,8 +152,9 @@ task_of found = option_and_then
     (λ p. option_and_then (task_on p.0 p.1) (first_of (codes "FILE") p.1)) found
 
 abbrev pub file_of : Job → Text
-file_of (Show file) = file.now
-file_of (Check file suite signatures group) = file.now
+file_of (Show file form detail) = file.now
+file_of (Check file form suite signatures group) = file.now
+file_of (CheckGroupInfo file form signatures) = file.now
 file_of (Replay file suite view) = file.now
 file_of (Vectors file) = file.now
 
@@ -191,9 +222,12 @@ faults_behind words = fault_of mls (codes "mls" ∷ words)
 abbrev pub task_behind : List Text → Option Task
 task_behind words = task_in (codes "mls" ∷ words)
 
--- a check and a replay with what stands where no option is given
+-- a show, a check and a replay with what stands where no option is given
+abbrev pub plain_show : Text → Task
+plain_show file = show file Hex Brief
+
 abbrev pub plain_check : Text → Task
-plain_check file = check file Glass false []
+plain_check file = check file Hex Glass false []
 
 abbrev pub plain_replay : Text → Task
 plain_replay file = replay file Glass Replies
@@ -201,6 +235,9 @@ plain_replay file = replay file Glass Replies
 -- a check and a replay with all options
 abbrev pub words_of_check : List Text
 words_of_check = codes "check" ∷ codes "a" ∷ codes "--suite" ∷ codes "0001" ∷ codes "--signatures" ∷ codes "--group=67" ∷ []
+
+abbrev pub words_of_info : List Text
+words_of_info = codes "check" ∷ codes "--group-info" ∷ codes "--raw" ∷ codes "a" ∷ []
 
 abbrev pub words_of_replay : List Text
 words_of_replay = codes "replay" ∷ codes "--message" ∷ codes "12" ∷ codes "--suite=0001" ∷ codes "a" ∷ []

@@ -1,3 +1,4 @@
+pub mod Options
 pub mod ReplayArguments
 pub mod Arguments
 pub mod Serving

@@ -1,31 +1,18 @@
 -- The options of `mls replay`, and what of a recording they ask for.
 use Rattle.std.specs.Prelude.{ℕ, Bool, true, false, ◌||◌, is_some, codes, Option, Some, None, if◌then◌else◌}
-use Rattle.clap.specs.Words.{App, Rule, Text, new_rule, with_rule}
-use Rattle.clap.specs.declared.builder.action.ArgAction.TheVariants.{SetTrue}
-use Rattle.clap.specs.declared.builder.value_parser.ValueParser.{ValueParser}
-use Rattle.clap.specs.declared.builder.value_parser.ValueParser.TheVariants as parser
+use Rattle.clap.specs.Words.{App, with_rule}
 use Rattle.mls_cli_replay.specs.declared.view.ReplayView.{ReplayView}
 use Rattle.mls_cli_replay.specs.declared.view.ReplayView.TheVariants.{Replies, Unmet, Message, Tree, Recording}
+use Rattle.mls_cli.specs.Options.{flag_rule, number_rule}
 
--- numbers below 2^64
-abbrev pub number_parser : ValueParser
-number_parser = parser.Unsigned 0 18446744073709551615
-
--- an optional --message N, an optional --tree K, and the flags --quiet and --record
-abbrev pub message_rule : Rule
-message_rule = record (new_rule (codes "N")) { long = Some (codes "message"); parser = Some number_parser }
-
-abbrev pub tree_rule : Rule
-tree_rule = record (new_rule (codes "K")) { long = Some (codes "tree"); parser = Some number_parser }
-
-abbrev pub quiet_rule : Rule
-quiet_rule = record (new_rule (codes "quiet")) { long = Some (codes "quiet"); action = Some SetTrue }
-
-abbrev pub record_rule : Rule
-record_rule = record (new_rule (codes "record")) { long = Some (codes "record"); action = Some SetTrue }
-
+-- an optional --message N and an optional --tree K, both numbers, and the flags --quiet and --record
 abbrev pub with_view_rules : App → App
-with_view_rules app = with_rule (with_rule (with_rule (with_rule app message_rule) tree_rule) quiet_rule) record_rule
+with_view_rules app =
+    with_rule
+    (with_rule
+    (with_rule (with_rule app (number_rule (codes "N") (codes "message"))) (number_rule (codes "K") (codes "tree")))
+    (flag_rule (codes "quiet")))
+    (flag_rule (codes "record"))
 
 -- this view, unless another is asked for too
 abbrev pub unless : ReplayView → Bool → Option ReplayView

@@ -3,13 +3,18 @@
 ghost use Rattle.std.specs.Prelude.{◌≡◌, map, true, false, codes, Ok, Err, Some, None, IfOk, IfErr, IsSome, OnOk, ◌⊎◌, ◌∷◌, [], option_and_then, option_map};
 ghost use Rattle.clap.specs.Words.{app_of, shape_of, first_of, found_of, kind_of, rows_of, rule_of, subcommand_of, subcommand_rows_of, takes, fault_of, FailsBy, HasKind};
 ghost use Rattle.clap.specs.declared.Command.TheViews.{out-Command as fields_of};
-ghost use Rattle.mls_cli.specs.Arguments.{ComesOf, ExplainsWords, check, check_app, check_on, faults_behind, file_app, file_rule, found_in, found_rows, given, group_rule, is_given, maybe_task, mls, needing_subcommand, number_in, plain_check, plain_replay, replay, replay_app, replay_on, show, signatures_rule, suite_of, suite_rule, task_behind, task_in, task_of, task_on, task_view, vectors, view_on, words_of_check, words_of_no_number, words_of_quiet, words_of_record, words_of_replay, words_of_tree, words_of_two_views};
+ghost use Rattle.mls_cli.specs.Arguments.{ComesOf, ExplainsWords, check, check_group_info, faults_behind, found_in, found_rows, given, maybe_task, mls, needing_subcommand, number_in, plain_check, plain_replay, plain_show, replay, replay_on, show, task_behind, task_in, task_of, task_on, task_view, vectors, view_on, words_of_check, words_of_info, words_of_no_number, words_of_quiet, words_of_record, words_of_replay, words_of_tree, words_of_two_views};
 
-use crate::replay_arguments::{view_by, with_views};
+use crate::check_options::{check_command, check_on};
+use crate::options::{file_command, is_given, suite_of};
+use crate::replay_arguments::{replay_command, view_by};
+use crate::show_options::{show_command, show_on};
 use crate::tasks::{Job, NoJob, SuiteChoice};
 use clap::error::ErrorKind;
-use clap::{Arg, ArgAction, ArgMatches, Command, Error};
+use clap::{ArgMatches, Command, Error};
 use mls_cli_replay::ReplayView;
+use mls_cli_show::Detail;
+use mls_cli_text::Form;
 use std::alloc::{AllocError, Global};
 use std::convert::AsStr;
 
@@ -19,85 +24,6 @@ const VERSION: &str = "0.1.0";
 /// What stands below the usage.
 const EXIT_STATUS: &str =
     "Exit status:\n  0  the content is good\n  1  it is refused, or vectors or expectations fail\n  2  the command line is wrong\n  3  a file, the output or memory failed";
-
-fn file_arg<'a>(alloc: Global, help: &'a str) -> Arg<'a>
-    ensures rule { rule_of result ≡ file_rule }
-    ensures local { result.global ≡ false }
-{
-    Arg::new(alloc, "FILE").required(true).help(help)
-}
-
-/// A subcommand that takes a FILE, with what help says of both.
-fn file_command<'a>(
-    alloc: Global,
-    name: &'a str,
-    about: &'a str,
-    file: &'a str,
-) -> Result<Command<'a>, AllocError>
-    ensures app { IfOk result (λ c. app_of c ≡ file_app name.entry.now) }
-    ensures local { IfOk result (λ c. (fields_of c).has_globals ≡ false) }
-{
-    let file = file_arg(alloc, file);
-    Command::new(alloc, name).about(about).arg(file)
-}
-
-fn suite_arg<'a>(alloc: Global) -> Arg<'a>
-    ensures rule { rule_of result ≡ suite_rule }
-    ensures local { result.global ≡ false }
-{
-    Arg::new(alloc, "SUITE")
-        .long("suite")
-        .default_value("f001")
-        .help("The group's cipher suite, f001 or 0001")
-}
-
-fn signatures_arg<'a>(alloc: Global) -> Arg<'a>
-    ensures rule { rule_of result ≡ signatures_rule }
-    ensures local { result.global ≡ false }
-{
-    Arg::new(alloc, "signatures")
-        .long("signatures")
-        .action(ArgAction::SetTrue)
-        .help("Checks signatures and keys under suite 0001 too")
-}
-
-fn group_arg<'a>(alloc: Global) -> Arg<'a>
-    ensures rule { rule_of result ≡ group_rule }
-    ensures local { result.global ≡ false }
-{
-    Arg::new(alloc, "HEX")
-        .long("group")
-        .help("The group's id, empty by default")
-}
-
-fn check_command<'a>(alloc: Global) -> Result<Command<'a>, AllocError>
-    ensures app { IfOk result (λ c. app_of c ≡ check_app) }
-    ensures local { IfOk result (λ c. (fields_of c).has_globals ≡ false) }
-{
-    let command = file_command(
-        alloc,
-        "check",
-        "Checks a ratchet tree",
-        "A ratchet tree in hex, or - for the standard input",
-    )?;
-    let with_suite = command.arg(suite_arg(alloc))?;
-    let with_group = with_suite.arg(group_arg(alloc))?;
-    with_group.arg(signatures_arg(alloc))
-}
-
-fn replay_command<'a>(alloc: Global) -> Result<Command<'a>, AllocError>
-    ensures app { IfOk result (λ c. app_of c ≡ replay_app) }
-    ensures local { IfOk result (λ c. (fields_of c).has_globals ≡ false) }
-{
-    let command = file_command(
-        alloc,
-        "replay",
-        "Replays a recording of groups",
-        "A recording in JSON, or - for the standard input",
-    )?;
-    let with_suite = command.arg(suite_arg(alloc))?;
-    with_views(alloc, with_suite)
-}
 
 /// What help says of the whole, and that a subcommand is required.
 fn describe<'a>(command: Command<'a>) -> Command<'a>
@@ -114,12 +40,7 @@ fn describe<'a>(command: Command<'a>) -> Command<'a>
 fn command<'a>(alloc: Global) -> Result<Command<'a>, AllocError>
     ensures { IfOk result (λ c. app_of c ≡ mls) }
 {
-    let show = file_command(
-        alloc,
-        "show",
-        "Prints a message field by field",
-        "An MLSMessage in hex, or - for the standard input",
-    )?;
+    let show = show_command(alloc)?;
     let check = check_command(alloc)?;
     let replay = replay_command(alloc)?;
     let vectors = file_command(
@@ -133,27 +54,6 @@ fn command<'a>(alloc: Global) -> Result<Command<'a>, AllocError>
     let third = second.subcommand(replay)?;
     let all = third.subcommand(vectors)?;
     Ok(describe(all))
-}
-
-/// The suite that a text names.
-fn suite_of(text: &str) -> Option<SuiteChoice>
-    ensures { result ≡ suite_of text.now }
-{
-    match text {
-        "f001" => Some(SuiteChoice::Glass),
-        "0001" => Some(SuiteChoice::Suite0001),
-        _ => None,
-    }
-}
-
-/// Whether a flag with this value is given.
-fn is_given(value: Option<&str>) -> bool
-    ensures { result ≡ is_given (given value.entry) }
-{
-    match value {
-        Some(text) => text == "true",
-        None => false,
-    }
 }
 
 /// The number that a text of decimal digits writes, with a plus before them or none.
@@ -173,34 +73,6 @@ fn number_if_any(text: Option<&str>) -> Option<usize>
     match text {
         Some(text) => number_in(text),
         None => None,
-    }
-}
-
-/// The check that the options and FILE stand for, or None where no suite has that name.
-fn check_on<'a>(
-    suite: Option<&str>,
-    signatures: Option<&str>,
-    group: Option<&'a str>,
-    file: &'a str,
-) -> Option<Job<'a>>
-    ensures { maybe_task result
-        ≡ check_on (given suite.entry) (given signatures.entry) (given group.entry) file.entry.now }
-{
-    let suite = suite_of(suite?)?;
-    let signatures = is_given(signatures);
-    match group {
-        Some(group) => Some(Job::Check {
-            file,
-            suite,
-            signatures,
-            group,
-        }),
-        None => Some(Job::Check {
-            file,
-            suite,
-            signatures,
-            group: "",
-        }),
     }
 }
 
@@ -233,8 +105,10 @@ fn job_on<'a>(name: &str, matches: &ArgMatches<'a>, file: &'a str) -> Option<Job
     ensures { maybe_task result ≡ task_on name.now (rows_of (found_of matches.now)) file.entry.now }
 {
     match name {
-        "show" => Some(Job::Show { file }),
+        "show" => Some(show_on(value_of(matches, "full"), value_of(matches, "raw"), file)),
         "check" => check_on(
+            value_of(matches, "group-info"),
+            value_of(matches, "raw"),
             value_of(matches, "SUITE"),
             value_of(matches, "signatures"),
             value_of(matches, "HEX"),
@@ -397,12 +271,15 @@ pub fn examples()
     ensures help { faults_behind (codes "show" ∷ codes "--help" ∷ []) ≡ ErrorKind.DisplayHelp ∷ [] }
     ensures version { faults_behind (codes "--version" ∷ []) ≡ ErrorKind.DisplayVersion ∷ [] }
     ensures missing { faults_behind (codes "show" ∷ []) ≡ ErrorKind.MissingRequiredArgument ∷ [] }
-    ensures shows { task_behind (codes "show" ∷ codes "a" ∷ []) ≡ Some (show (codes "a")) }
+    ensures shows { task_behind (codes "show" ∷ codes "a" ∷ []) ≡ Some (plain_show (codes "a")) }
+    ensures shows_all { task_behind (codes "show" ∷ codes "--raw" ∷ codes "a" ∷ codes "--full" ∷ [])
+        ≡ Some (show (codes "a") Form.Raw Detail.Full) }
     ensures replays { task_behind (codes "replay" ∷ codes "a" ∷ []) ≡ Some (plain_replay (codes "a")) }
     ensures judges { task_behind (codes "vectors" ∷ codes "a" ∷ []) ≡ Some (vectors (codes "a")) }
     ensures checks { task_behind (codes "check" ∷ codes "a" ∷ []) ≡ Some (plain_check (codes "a")) }
     ensures chosen { task_behind words_of_check
-        ≡ Some (check (codes "a") SuiteChoice.Suite0001 true (codes "67")) }
+        ≡ Some (check (codes "a") Form.Hex SuiteChoice.Suite0001 true (codes "67")) }
+    ensures info { task_behind words_of_info ≡ Some (check_group_info (codes "a") Form.Raw false) }
     ensures message { task_behind words_of_replay
         ≡ Some (replay (codes "a") SuiteChoice.Suite0001 (ReplayView.Message 12)) }
     ensures tree { task_behind words_of_tree

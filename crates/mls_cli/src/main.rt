@@ -6,8 +6,11 @@ ghost use Rattle.mls_cli_text.specs.InputOutput.{in_failed};
 ghost use Rattle.mls_cli.specs.Arguments.{NamesProgram};
 
 mod arguments;
+mod check_options;
+mod options;
 mod replay_arguments;
 mod serving;
+mod show_options;
 mod source;
 mod tasks;
 

@@ -1,64 +1,50 @@
-//! The options of `mls replay` that say what is printed of a recording.
+//! The options of `mls replay`.
 
 ghost use Rattle.std.specs.Prelude.{◌≡◌, false, IfOk};
-ghost use Rattle.clap.specs.Words.{app_of, rule_of};
+ghost use Rattle.clap.specs.Words.{app_of};
 ghost use Rattle.clap.specs.declared.Command.TheViews.{out-Command as fields_of};
-ghost use Rattle.mls_cli.specs.ReplayArguments.{message_rule, quiet_rule, record_rule, tree_rule, unless, view_by, view_by_flags, view_by_tree, with_view_rules};
+ghost use Rattle.mls_cli.specs.Arguments.{replay_app};
+ghost use Rattle.mls_cli.specs.ReplayArguments.{unless, view_by, view_by_flags, view_by_tree};
 
-use clap::{Arg, ArgAction, Command};
+use crate::options::{file_command, flag_arg, number_arg, suite_arg};
+use clap::Command;
 use mls_cli_replay::ReplayView;
 use std::alloc::{AllocError, Global};
 
-fn message_arg<'a>(alloc: Global) -> Arg<'a>
-    ensures rule { rule_of result ≡ message_rule }
-    ensures local { result.global ≡ false }
-{
-    Arg::new(alloc, "N")
-        .long("message")
-        .value_parser(clap::value_parser!(u64))
-        .help("Prints this message in hex, in place of the replies")
-}
-
-fn tree_arg<'a>(alloc: Global) -> Arg<'a>
-    ensures rule { rule_of result ≡ tree_rule }
-    ensures local { result.global ≡ false }
-{
-    Arg::new(alloc, "K")
-        .long("tree")
-        .value_parser(clap::value_parser!(u64))
-        .help("Prints this member's ratchet tree in hex, in place of the replies")
-}
-
-fn quiet_arg<'a>(alloc: Global) -> Arg<'a>
-    ensures rule { rule_of result ≡ quiet_rule }
-    ensures local { result.global ≡ false }
-{
-    Arg::new(alloc, "quiet")
-        .long("quiet")
-        .action(ArgAction::SetTrue)
-        .help("Leaves out replies that are as expected")
-}
-
-fn record_arg<'a>(alloc: Global) -> Arg<'a>
-    ensures rule { rule_of result ≡ record_rule }
-    ensures local { result.global ≡ false }
-{
-    Arg::new(alloc, "record")
-        .long("record")
-        .action(ArgAction::SetTrue)
-        .help("Prints the recording with these replies as those that it expects")
-}
-
-/// The command with what can be asked for of a recording.
-pub fn with_views<'a>(alloc: Global, command: Command<'a>) -> Result<Command<'a>, AllocError>
-    requires { (fields_of command).has_globals ≡ false }
-    ensures app { IfOk result (λ c. app_of c ≡ with_view_rules (app_of command.entry)) }
+/// The subcommand `replay`.
+pub fn replay_command<'a>(alloc: Global) -> Result<Command<'a>, AllocError>
+    ensures app { IfOk result (λ c. app_of c ≡ replay_app) }
     ensures local { IfOk result (λ c. (fields_of c).has_globals ≡ false) }
 {
-    let with_message = command.arg(message_arg(alloc))?;
-    let with_tree = with_message.arg(tree_arg(alloc))?;
-    let with_quiet = with_tree.arg(quiet_arg(alloc))?;
-    with_quiet.arg(record_arg(alloc))
+    let command = file_command(
+        alloc,
+        "replay",
+        "Replays a recording of groups",
+        "A recording in JSON, or - for the standard input",
+    )?;
+    let message = number_arg(
+        alloc,
+        "N",
+        "message",
+        "Prints this message in hex, in place of the replies",
+    );
+    let tree = number_arg(
+        alloc,
+        "K",
+        "tree",
+        "Prints this member's ratchet tree in hex, in place of the replies",
+    );
+    let quiet = flag_arg(alloc, "quiet", "Leaves out replies that are as expected");
+    let record = flag_arg(
+        alloc,
+        "record",
+        "Prints the recording with these replies as those that it expects",
+    );
+    let with_suite = command.arg(suite_arg(alloc))?;
+    let with_message = with_suite.arg(message)?;
+    let with_tree = with_message.arg(tree)?;
+    let with_quiet = with_tree.arg(quiet)?;
+    with_quiet.arg(record)
 }
 
 /// This view, unless another is asked for too.

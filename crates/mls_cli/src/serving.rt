@@ -6,16 +6,16 @@ ghost use Rattle.mls_cli_text.specs.InputOutput.{out_failed, out_writer, read_fa
 ghost use Rattle.mls_cli_text.specs.Page.{MakesPage};
 ghost use Rattle.mls_cli_show.specs.Show.{page_of as show_page};
 ghost use Rattle.mls_cli_check.specs.Check.{check_page};
+ghost use Rattle.mls_cli_check.specs.GroupInfo.{group_info_page};
+ghost use Rattle.mls_suite.specs.Glass.{glass};
 ghost use Rattle.mls_cli.specs.Arguments.{file_of};
-ghost use Rattle.mls_cli.specs.Serving.{BeginsError, EndsWith, EndsWithoutJob, KeepsUnread, PrintsFile, PrintsRead, PrintsRecording, PrintsText, ReadsFile, Says, ShowsHelp, WritesError, checking, checks_of, fault_text, hex_file_page, out_of_memory as memory_text, unread, unreadable};
+ghost use Rattle.mls_cli.specs.Serving.{BeginsError, EndsWith, EndsWithoutJob, KeepsUnread, PrintsFile, PrintsRead, PrintsRecording, PrintsText, ReadsFile, Says, ShowsHelp, WritesError, checking, fault_text, file_page, out_of_memory as memory_text, unread, unreadable};
 
 use crate::tasks::{Job, NoJob, SuiteChoice};
-use mls_cli_check::{SuiteChecks, Unchecked, check_page};
+use mls_cli_check::{Unchecked, check_page, group_info_page};
 use mls_cli_replay::{ReplayView, print_view};
-use mls_cli_show::show_page;
-use mls_cli_text::{
-    Fault, HEX_FILE_LIMIT, Input, Line, Out, Output, Page, print_made_page, refused_page,
-};
+use mls_cli_show::{Detail, show_page};
+use mls_cli_text::{Fault, Form, Input, Line, Out, Output, Page, print_made_page, refused_page};
 use mls_cli_vectors::vectors_page;
 use mls_suite::Glass;
 use mls_suite_0001::Suite0001;
@@ -101,14 +101,16 @@ fn print_job<I: Input, O: Output>(
     print_text(alloc, job, text.as_slice(), out)
 }
 
-/// Reads the file: whole, but no more of a hex file than shows that it is too long.
+/// Reads the file: whole, but no more of a file of bytes than shows that it is too long.
 fn read_file<I: Input>(alloc: Global, job: &Job<'_>, file: &mut I) -> Result<Vec<u8>, Fault>
     ensures text { IfOk result (λ v. ReadsFile I.remaining job.now file.old v.items) }
     ensures fault { I.failed file.new ≡ read_failed (I.failed file.old) result }
     ensures read { IfErr result (λ e. e ≢ Fault.Write) }
 {
     match job {
-        Job::Show { .. } | Job::Check { .. } => file.read_front(alloc, HEX_FILE_LIMIT as u64 + 1),
+        Job::Show { form, .. } | Job::Check { form, .. } | Job::CheckGroupInfo { form, .. } => {
+            file.read_front(alloc, form.file_limit() as u64 + 1)
+        }
         Job::Replay { .. } | Job::Vectors { .. } => file.read_all(alloc),
     }
 }
@@ -126,69 +128,118 @@ fn print_text<O: Output>(
     ensures written { IfErr result (λ e. e ≢ Fault.Read) }
 {
     match job {
-        Job::Show { .. } => print_made_page(alloc, show_file(alloc, text), out),
+        Job::Show { form, detail, .. } => {
+            print_made_page(alloc, show_file(alloc, *detail, *form, text), out)
+        }
         Job::Check {
+            form,
             suite,
             signatures,
             group,
             ..
-        } => print_made_page(
-            alloc,
-            tree_file(alloc, *suite, *signatures, text, group),
-            out,
-        ),
+        } => {
+            let page = tree_file(alloc, *form, *suite, *signatures, text, group);
+            print_made_page(alloc, page, out)
+        }
+        Job::CheckGroupInfo {
+            form,
+            signatures,
+            ..
+        } => print_made_page(alloc, info_file(alloc, *form, *signatures, text), out),
         Job::Replay { suite, view, .. } => print_recording(alloc, *suite, *view, text, out),
         Job::Vectors { .. } => print_made_page(alloc, vectors_page(alloc, text), out),
     }
 }
 
 /// What is printed of a message's file: `TooLong` (6) alone where its text is too long.
-fn show_file(alloc: Global, text: &[u8]) -> Result<Page<Line>, AllocError>
-    ensures { MakesPage result (hex_file_page text.now (show_page text.now)) }
+fn show_file(
+    alloc: Global,
+    detail: Detail,
+    form: Form,
+    text: &[u8],
+) -> Result<Page<Line>, AllocError>
+    ensures { MakesPage result (file_page form text.now (show_page detail form text.now)) }
 {
-    if text.len() > HEX_FILE_LIMIT {
+    let limit = form.file_limit();
+    if text.len() > limit {
         return Ok(refused_page(alloc, 6));
     }
-    show_page(alloc, text)
+    show_page(alloc, detail, form, text)
 }
 
 /// What is printed of a tree's file under the chosen suite: `TooLong` (6) alone where its text is too long.
 fn tree_file(
     alloc: Global,
+    form: Form,
     suite: SuiteChoice,
     signatures: bool,
     text: &[u8],
     group: &str,
 ) -> Result<Page<Line>, AllocError>
-    ensures { MakesPage result (hex_file_page text.now
-        (check_page (checking suite signatures) (checks_of suite signatures) text.now group.now)) }
+    ensures { MakesPage result (file_page form text.now
+        (check_page (checking suite signatures) form text.now group.now)) }
 {
-    if text.len() > HEX_FILE_LIMIT {
+    let limit = form.file_limit();
+    if text.len() > limit {
         return Ok(refused_page(alloc, 6));
     }
-    check_file(alloc, suite, signatures, text, group)
+    check_file(alloc, form, suite, signatures, text, group)
 }
 
 /// What is printed of a tree's file of this text under the chosen suite.
 fn check_file(
     alloc: Global,
+    form: Form,
     suite: SuiteChoice,
     signatures: bool,
     text: &[u8],
     group: &str,
 ) -> Result<Page<Line>, AllocError>
-    ensures { MakesPage result
-        (check_page (checking suite signatures) (checks_of suite signatures) text.now group.now) }
+    ensures { MakesPage result (check_page (checking suite signatures) form text.now group.now) }
 {
     match suite {
-        SuiteChoice::Glass => check_page::<Glass>(alloc, SuiteChecks::Made, text, group),
+        SuiteChoice::Glass => check_page::<Glass>(alloc, form, text, group),
         SuiteChoice::Suite0001 => {
             if signatures {
-                check_page::<Suite0001>(alloc, SuiteChecks::Made, text, group)
+                check_page::<Suite0001>(alloc, form, text, group)
             } else {
-                check_page::<Unchecked>(alloc, SuiteChecks::Left, text, group)
+                check_page::<Unchecked>(alloc, form, text, group)
             }
         }
+    }
+}
+
+/// What is printed of a GroupInfo's file: `TooLong` (6) alone where its text is too long.
+fn info_file(
+    alloc: Global,
+    form: Form,
+    signatures: bool,
+    text: &[u8],
+) -> Result<Page<Line>, AllocError>
+    ensures { MakesPage result (file_page form text.now
+        (group_info_page glass (checking SuiteChoice.Suite0001 signatures) form text.now)) }
+{
+    let limit = form.file_limit();
+    if text.len() > limit {
+        return Ok(refused_page(alloc, 6));
+    }
+    check_info(alloc, form, signatures, text)
+}
+
+/// What is printed of a GroupInfo's file of this text, under the suite that it names.
+fn check_info(
+    alloc: Global,
+    form: Form,
+    signatures: bool,
+    text: &[u8],
+) -> Result<Page<Line>, AllocError>
+    ensures { MakesPage result
+        (group_info_page glass (checking SuiteChoice.Suite0001 signatures) form text.now) }
+{
+    if signatures {
+        group_info_page::<Glass, Suite0001>(alloc, form, text)
+    } else {
+        group_info_page::<Glass, Unchecked>(alloc, form, text)
     }
 }
 

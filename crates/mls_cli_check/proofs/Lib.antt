@@ -1,5 +1,7 @@
 pub mod Reports
 mod GoodTrees
+mod GroupInfos
+mod InfoLengths
 mod Orders
 mod SentTrees
 mod ShortLeaves

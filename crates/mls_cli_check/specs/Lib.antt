@@ -1,4 +1,5 @@
 pub mod Check
 pub mod CheckFaults
 pub mod RuleLines
+pub mod GroupInfo
 pub mod Unchecked

@@ -40,8 +40,8 @@ pub fn tree_lines(alloc: Global, tree: &mut PublicTree) -> Result<Vec<Line>, All
     let leaves = u64::from(tree.leaf_count());
     let members = u64::from(tree.member_count());
     Ok(vec![in alloc;
-        line_of("", "leaves", Field::Number(leaves)),
-        line_of("", "members", Field::Number(members)),
-        line_of("", "tree_hash", Field::Bytes(Bytes::from_vec(hash))),
+        line_of("leaves", Field::Number(leaves)),
+        line_of("members", Field::Number(members)),
+        line_of("tree_hash", Field::Bytes(Bytes::from_vec(hash))),
     ]?)
 }
