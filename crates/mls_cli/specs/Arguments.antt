@@ -1,11 +1,9 @@
 -- What the command line of `mls` is, and which job the matches of its words name.
-use Rattle.std.specs.Prelude.{◌≡◌, ◌≢◌, ◌⊎◌, ℕ, Bool, List, [], ◌∷◌, codes, map, Option, Some, None, option_and_then, option_map, unwrap_or, if◌then◌else◌, true, false}
+use Rattle.std.specs.Prelude.{◌≡◌, ◌≢◌, ◌⊎◌, ⊥, ℕ, Bool, List, [], ◌∷◌, codes, map, Option, Some, None, option_and_then, option_map, unwrap_or, if◌then◌else◌, true, false}
 use Rattle.std.specs.Borrow.{Bor}
 use Rattle.std.specs.Str.{bytes_eq}
-use Rattle.std.specs.Str.Parse.{digits_value, without_leading_plus}
-use Rattle.clap.specs.Words.{App, Row, fault_of, subcommand_of, Rule, Text, first_of, new_app, new_rule, with_rule, with_subcommand}
+use Rattle.clap.specs.Words.{App, Row, fault_of, matches_of, subcommand_of, Rule, Text, first_of, new_app, new_rule, with_rule, with_subcommand}
 use Rattle.clap.specs.Kinds.{IsAmong, Kinds}
-use Rattle.clap.specs.ValueTests.{accepts}
 use Rattle.clap.specs.declared.error.kind.ErrorKind.{ErrorKind}
 use Rattle.clap.specs.declared.error.kind.ErrorKind.TheVariants as kind
 use Rattle.mls_cli_show.specs.declared.numbered.Detail.{Detail}
@@ -14,7 +12,9 @@ use Rattle.mls_cli_text.specs.declared.form.Form.{Form}
 use Rattle.mls_cli_text.specs.declared.form.Form.TheVariants.{Hex, Raw}
 use Rattle.mls_cli_replay.specs.declared.view.ReplayView.{ReplayView}
 use Rattle.mls_cli_replay.specs.declared.view.ReplayView.TheVariants.{Replies}
-use Rattle.mls_cli.specs.Options.{flag_rule, number_parser}
+use Rattle.mls_cli_explain.specs.Explanations.{explanation_view}
+use Rattle.mls_cli.specs.ExplainArguments.{explain_rule, lacking, told_on, unless_asked}
+use Rattle.mls_cli.specs.Options.{flag_rule, number_in}
 use Rattle.mls_cli.specs.ReplayArguments.{view_by, with_view_rules}
 use Rattle.mls_cli.specs.declared.tasks.NoJob.{NoJob}
 use Rattle.mls_cli.specs.declared.tasks.NoJob.TheVariants as no_job
@@ -55,18 +55,20 @@ check_app =
 abbrev pub replay_app : App
 replay_app = with_view_rules (with_rule (file_app (codes "replay")) suite_rule)
 
--- one of the subcommands is required, but for `--version`
-abbrev pub needing_subcommand : App → App
-needing_subcommand a = record a { top = record a.top { has_version = true; subcommand_required = true } }
+-- with `--version`
+abbrev pub with_version : App → App
+with_version a = record a { top = record a.top { has_version = true } }
 
--- the command line
+-- the command line: one of the subcommands, or `--explain`
 abbrev pub mls : App
-mls = needing_subcommand
+mls = with_version
+    (with_rule
     (with_subcommand
     (with_subcommand
     (with_subcommand (with_subcommand (new_app (codes "mls")) show_app.top) check_app.top)
     replay_app.top)
     (file_app (codes "vectors")).top)
+    explain_rule)
 
 -- the words with the program's name as the first
 abbrev pub name_program : List Text → List Text
@@ -99,10 +101,6 @@ suite_of text =
 abbrev pub is_given : Option Text → Bool
 is_given None = false
 is_given (Some text) = bytes_eq text (codes "true")
-
--- the number that decimal digits write, with a plus before them or none
-abbrev pub number_in : Text → Option ℕ
-number_in text = if accepts false number_parser text then Some (digits_value 10 (without_leading_plus text)) else None
 
 -- a file has its bytes as they are where --raw is given
 abbrev pub form_of : Option Text → Form
@@ -170,15 +168,23 @@ IsMistake k = (k ≢ kind.DisplayHelp) × (k ≢ kind.DisplayVersion) × (k ≢ 
 abbrev pub ComesOf : NoJob → ErrorKind → Type 0
 ComesOf (no_job.Shown text) k = IsHelp k
 ComesOf (no_job.Mistaken text) k = IsMistake k
+ComesOf (no_job.Explained n told) k = ⊥
 ComesOf no_job.OutOfMemory k = Unit {0}
 
--- a kind that clap finds in the words, or that of a value that clap lets through
-abbrev pub IsFault : Kinds → Option Task → ErrorKind → Type 0
-IsFault kinds task k =
-    (k ≡ kind.OutOfMemory) ⊎ IsAmong k kinds ⊎ ((kinds ≡ []) × (task ≡ None) × (k ≡ kind.InvalidValue))
+-- what there is where clap finds no fault and there is no job: what is told of the refusal that is asked for, or a mistake,
+-- unless memory runs out; by the word behind --explain and the subcommand
+abbrev pub Lacks : Option Text → Option (Text × List Row) → NoJob → Type 0
+Lacks asked found (no_job.Explained n told) = told_on asked found ≡ Some (n, explanation_view told)
+Lacks asked found (no_job.Shown text) = ⊥
+Lacks asked found (no_job.Mistaken text) = (told_on asked found ≡ None) × IsMistake (lacking asked found)
+Lacks asked found no_job.OutOfMemory = Unit {0}
 
-abbrev pub Explains : Kinds → Option Task → NoJob → Type 0
-Explains kinds task e = (k : ErrorKind) × ComesOf e k × IsFault kinds task k
+-- of a kind that clap finds in the words
+abbrev pub IsFault : Kinds → NoJob → Type 0
+IsFault kinds e = (k : ErrorKind) × ComesOf e k × ((k ≡ kind.OutOfMemory) ⊎ IsAmong k kinds)
+
+abbrev pub Explains : Kinds → Option Task → Option Text → Option (Text × List Row) → NoJob → Type 0
+Explains kinds task asked found e = IsFault kinds e ⊎ ((kinds ≡ []) × (task ≡ None) × Lacks asked found e)
 
 -- ---- of the code's values
 
@@ -204,13 +210,17 @@ maybe_task job = option_map task_view job
 abbrev pub found_in : List Text → Option (Text × List Row)
 found_in words = subcommand_of mls words
 
+-- the word behind --explain
+abbrev pub asked_in : List Text → Option Text
+asked_in words = first_of (codes "REFUSAL") (matches_of mls words)
+
 -- the job that the words name
 abbrev pub task_in : List Text → Option Task
-task_in words = task_of (found_in words)
+task_in words = unless_asked (asked_in words) (task_of (found_in words))
 
 -- why the words name no job
 abbrev pub ExplainsWords : List Text → NoJob → Type 0
-ExplainsWords words e = Explains (fault_of mls words) (task_in words) e
+ExplainsWords words e = Explains (fault_of mls words) (task_in words) (asked_in words) (found_in words) e
 
 -- ---- of the words behind the program's own name
 

@@ -9,7 +9,9 @@ use Rattle.mls_cli.specs.declared.tasks.SuiteChoice.{SuiteChoice}
 use Rattle.mls_cli.specs.declared.tasks.SuiteChoice.TheVariants as choice
 use Rattle.mls_cli.specs.declared.tasks.Job.{Job}
 use Rattle.mls_cli.specs.declared.tasks.Job.TheVariants as job
-use Rattle.mls_cli_text.specs.InputOutput.{AppendsPart, out_failed, out_writer}
+use Rattle.mls_cli_text.specs.InputOutput.{AppendsPart, KeepsOrAppendsPart, out_failed, out_writer}
+use Rattle.mls_cli_explain.specs.Explain.{told_page}
+use Rattle.mls_cli_explain.specs.Explanations.{Told, explanation_view}
 use Rattle.mls_cli_text.specs.Form.{file_limit}
 use Rattle.mls_cli_text.specs.declared.form.Form.{Form}
 use Rattle.mls_cli_text.specs.Page.{Page, Printout, printout, refused}
@@ -105,11 +107,19 @@ ShowsHelp text status out_old out_new written old new failed =
     ((status ≡ 0) × Appends out_old out_new text × (written ≡ false) × Keeps old new)
     ⊎ ((status ≡ 3) × AppendsPart out_old out_new text × SaysOrFails old new failed (fault_text [] (cause false written)))
 
--- Without a job: help is written. A mistake is said, with status 2, and
+-- the page of what is told of a refusal is written, with status 0; or it can't be, with status 3
+abbrev pub ShowsTold : ℕ → Told → ℕ → Option (List ℕ) → Option (List ℕ) → Bool → Option (List ℕ) → Option (List ℕ) → Bool → Type 0
+ShowsTold n told status out_old out_new written old new failed =
+    ((status ≡ 0) × Appends out_old out_new (printout line_text (told_page n told)).text × (written ≡ false) × Keeps old new)
+    ⊎ ((status ≡ 3) × KeepsOrAppendsPart out_old out_new (printout line_text (told_page n told)).text × SaysOrFails old new failed (fault_text [] (cause false written)))
+
+-- Without a job: help is written, and so is what is told of a refusal. A mistake is said, with status 2, and
 -- so is want of memory, with 3; the output stays as it was.
 abbrev pub EndsWithoutJob : NoJob → ℕ → Option (List ℕ) → Option (List ℕ) → Bool → Option (List ℕ) → Option (List ℕ) → Bool → Type 0
 EndsWithoutJob (no_job.Shown text) status out_old out_new written old new failed =
     ShowsHelp (string_bytes text) status out_old out_new written old new failed
+EndsWithoutJob (no_job.Explained n told) status out_old out_new written old new failed =
+    ShowsTold n (explanation_view told) status out_old out_new written old new failed
 EndsWithoutJob (no_job.Mistaken text) status out_old out_new written old new failed =
     (status ≡ 2) × Keeps out_old out_new × SaysOrFails old new failed (string_bytes text)
 EndsWithoutJob no_job.OutOfMemory status out_old out_new written old new failed =

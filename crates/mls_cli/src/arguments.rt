@@ -1,12 +1,15 @@
 //! The command line of `mls`, read with `clap`.
 
 ghost use Rattle.std.specs.Prelude.{◌≡◌, map, true, false, codes, Ok, Err, Some, None, IfOk, IfErr, IsSome, OnOk, ◌⊎◌, ◌∷◌, [], option_and_then, option_map};
-ghost use Rattle.clap.specs.Words.{app_of, shape_of, first_of, found_of, kind_of, rows_of, rule_of, subcommand_of, subcommand_rows_of, takes, fault_of, FailsBy, HasKind};
+ghost use Rattle.clap.specs.Words.{app_of, shape_of, first_of, found_of, kind_of, matches_of, rows_of, rule_of, subcommand_of, subcommand_rows_of, takes, fault_of, FailsBy, HasKind};
 ghost use Rattle.clap.specs.declared.Command.TheViews.{out-Command as fields_of};
-ghost use Rattle.mls_cli.specs.Arguments.{ComesOf, ExplainsWords, check, check_group_info, faults_behind, found_in, found_rows, given, maybe_task, mls, needing_subcommand, number_in, plain_check, plain_replay, plain_show, replay, replay_on, show, task_behind, task_in, task_of, task_on, task_view, vectors, view_on, words_of_check, words_of_info, words_of_no_number, words_of_quiet, words_of_record, words_of_replay, words_of_tree, words_of_two_views};
+ghost use Rattle.mls_cli.specs.Arguments.{ComesOf, ExplainsWords, check, check_group_info, faults_behind, found_in, found_rows, given, maybe_task, mls, plain_check, plain_replay, plain_show, replay, replay_on, show, task_behind, task_in, task_of, task_on, task_view, vectors, view_on, with_version, words_of_check, words_of_info, words_of_no_number, words_of_quiet, words_of_record, words_of_replay, words_of_tree, words_of_two_views};
+ghost use Rattle.mls_cli.specs.ExplainArguments.{unless_asked};
+ghost use Rattle.mls_cli.specs.Options.{number_in};
 
 use crate::check_options::{check_command, check_on};
-use crate::options::{file_command, is_given, suite_of};
+use crate::explain_arguments::{explain_arg, without_job};
+use crate::options::{file_command, is_given, number_in, suite_of};
 use crate::replay_arguments::{replay_command, view_by};
 use crate::show_options::{show_command, show_on};
 use crate::tasks::{Job, NoJob, SuiteChoice};
@@ -25,19 +28,19 @@ const VERSION: &str = "0.1.0";
 const EXIT_STATUS: &str =
     "Exit status:\n  0  the content is good\n  1  it is refused, or vectors or expectations fail\n  2  the command line is wrong\n  3  a file, the output or memory failed";
 
-/// What help says of the whole, and that a subcommand is required.
+/// What help says of the whole.
 fn describe<'a>(command: Command<'a>) -> Command<'a>
-    ensures { app_of result ≡ needing_subcommand (app_of command.entry) }
+    ensures { app_of result ≡ with_version (app_of command.entry) }
 {
     command
         .about("Shows and checks messages of Messaging Layer Security (RFC 9420)")
         .after_help(EXIT_STATUS)
         .version(VERSION)
-        .subcommand_required(true)
+        .override_usage("mls <COMMAND>\n       mls --explain <REFUSAL>")
 }
 
-/// The command line: one of the subcommands, each with a FILE.
-fn command<'a>(alloc: Global) -> Result<Command<'a>, AllocError>
+/// The command line: one of the subcommands, each with a FILE, or a refusal that is to be explained.
+pub fn command<'a>(alloc: Global) -> Result<Command<'a>, AllocError>
     ensures { IfOk result (λ c. app_of c ≡ mls) }
 {
     let show = show_command(alloc)?;
@@ -48,22 +51,14 @@ fn command<'a>(alloc: Global) -> Result<Command<'a>, AllocError>
         "vectors",
         "Judges test vectors",
         "A JSON array of vectors, or - for the standard input",
+        "Example:\n  mls vectors examples/vectors.json",
     )?;
     let first = Command::new(alloc, "mls").subcommand(show)?;
     let second = first.subcommand(check)?;
     let third = second.subcommand(replay)?;
     let all = third.subcommand(vectors)?;
-    Ok(describe(all))
-}
-
-/// The number that a text of decimal digits writes, with a plus before them or none.
-fn number_in(text: &str) -> Option<usize>
-    ensures { result ≡ number_in text.now }
-{
-    match text.parse::<usize>() {
-        Ok(number) => Some(number),
-        Err(_) => None,
-    }
+    let whole = all.arg(explain_arg(alloc))?;
+    Ok(describe(whole))
 }
 
 /// The number that a text writes, where a text is given that writes one.
@@ -133,7 +128,7 @@ pub fn job<'a, S: AsStr>(alloc: Global, words: &'a [S]) -> Result<Job<'a>, NoJob
     match parse_words(alloc, words) {
         Ok(matches) => match job_in(&matches) {
             Some(job) => Ok(job),
-            None => Err(refuse_values(alloc, name_in(&matches), suite_in(&matches))),
+            None => Err(without_job(alloc, &matches)),
         },
         Err(error) => Err(no_job(alloc, &error)),
     }
@@ -142,13 +137,14 @@ pub fn job<'a, S: AsStr>(alloc: Global, words: &'a [S]) -> Result<Job<'a>, NoJob
 /// What clap makes of the words.
 fn parse_words<'a, S: AsStr>(alloc: Global, words: &'a [S]) -> Result<ArgMatches<'a>, Error>
     ensures rows { IfOk result (λ m. subcommand_rows_of m ≡ found_in (map S.text words.entry.now)) }
+    ensures top { IfOk result (λ m. rows_of (found_of m) ≡ matches_of mls (map S.text words.entry.now)) }
     ensures faults { FailsBy (fault_of mls (map S.text words.entry.now)) result }
 {
     command(alloc)?.try_get_matches_from(words)
 }
 
 /// The text of clap's error, and where it goes.
-fn no_job(alloc: Global, error: &Error) -> NoJob
+pub fn no_job(alloc: Global, error: &Error) -> NoJob
     ensures { ComesOf result (kind_of error.now) }
 {
     if error.kind() == ErrorKind::OutOfMemory {
@@ -168,10 +164,10 @@ fn no_job(alloc: Global, error: &Error) -> NoJob
 }
 
 /// That no suite has the name that a subcommand is given, or that two things are asked for of a recording.
-fn refuse_values(alloc: Global, subcommand: &str, suite: &str) -> NoJob
+pub fn refuse_values(alloc: Global, matches: &ArgMatches<'_>) -> NoJob
     ensures { ComesOf result ErrorKind.InvalidValue }
 {
-    match value_error(alloc, subcommand, suite) {
+    match value_error(alloc, name_in(matches), suite_in(matches)) {
         Ok(error) => no_job(alloc, &error),
         // Want of memory: the error is an `AllocError`.
         Err(_) => NoJob::OutOfMemory,
@@ -211,7 +207,7 @@ fn suite_error(alloc: Global, subcommand: &str, suite: &str) -> Result<Error, Al
 }
 
 /// The name of the subcommand that the words have.
-fn name_in<'a>(matches: &ArgMatches<'a>) -> &'a str {
+pub fn name_in<'a>(matches: &ArgMatches<'a>) -> &'a str {
     match matches.subcommand() {
         Some((name, _)) => name,
         None => "",
@@ -246,19 +242,34 @@ fn no_text_error(alloc: Global) -> Result<Error, AllocError>
     )
 }
 
-fn value_of<'a>(matches: &ArgMatches<'a>, id: &str) -> Option<&'a str>
+/// The first value of the argument with this id.
+pub fn value_of<'a>(matches: &ArgMatches<'a>, id: &str) -> Option<&'a str>
     ensures { option_map (λ s. s.now) result ≡ first_of id.now (rows_of (found_of matches.now)) }
 {
     matches.get_str(id)
 }
 
-fn matched_subcommand<'a, 'b>(matches: &'b ArgMatches<'a>) -> Option<(&'a str, &'b ArgMatches<'a>)>
+/// The subcommand that was met, and its matches.
+pub fn matched_subcommand<'a, 'b>(
+    matches: &'b ArgMatches<'a>,
+) -> Option<(&'a str, &'b ArgMatches<'a>)>
     ensures { found_rows (λ m. rows_of (found_of m)) result ≡ subcommand_rows_of matches.now }
 {
     matches.subcommand()
 }
 
+/// The job that the matches stand for: none where a refusal is asked for.
 fn job_in<'a>(matches: &ArgMatches<'a>) -> Option<Job<'a>>
+    ensures { maybe_task result ≡ unless_asked (first_of (codes "REFUSAL") (rows_of (found_of matches.now)))
+        (task_of (subcommand_rows_of matches.now)) }
+{
+    match value_of(matches, "REFUSAL") {
+        Some(_) => None,
+        None => subcommand_job(matches),
+    }
+}
+
+fn subcommand_job<'a>(matches: &ArgMatches<'a>) -> Option<Job<'a>>
     ensures { maybe_task result ≡ task_of (subcommand_rows_of matches.now) }
 {
     let (name, inner) = matched_subcommand(matches)?;

@@ -4,7 +4,7 @@ ghost use Rattle.std.specs.Prelude.{◌≡◌, false, IfOk};
 ghost use Rattle.clap.specs.Words.{app_of, rule_of};
 ghost use Rattle.clap.specs.declared.Command.TheViews.{out-Command as fields_of};
 ghost use Rattle.mls_cli.specs.Arguments.{file_app, file_rule, given, is_given, suite_of, suite_rule};
-ghost use Rattle.mls_cli.specs.Options.{flag_rule, number_rule};
+ghost use Rattle.mls_cli.specs.Options.{flag_rule, number_in, number_rule};
 
 use crate::tasks::SuiteChoice;
 use clap::{Arg, ArgAction, Command};
@@ -17,18 +17,22 @@ fn file_arg<'a>(alloc: Global, help: &'a str) -> Arg<'a>
     Arg::new(alloc, "FILE").required(true).help(help)
 }
 
-/// A subcommand that takes a FILE, with what help says of both.
+/// A subcommand that takes a FILE, with what help says of both, and an example.
 pub fn file_command<'a>(
     alloc: Global,
     name: &'a str,
     about: &'a str,
     file: &'a str,
+    example: &'a str,
 ) -> Result<Command<'a>, AllocError>
     ensures app { IfOk result (λ c. app_of c ≡ file_app name.entry.now) }
     ensures local { IfOk result (λ c. (fields_of c).has_globals ≡ false) }
 {
     let file = file_arg(alloc, file);
-    Command::new(alloc, name).about(about).arg(file)
+    Command::new(alloc, name)
+        .about(about)
+        .after_help(example)
+        .arg(file)
 }
 
 /// The option of a group's cipher suite.
@@ -72,6 +76,16 @@ pub fn suite_of(text: &str) -> Option<SuiteChoice>
         "f001" => Some(SuiteChoice::Glass),
         "0001" => Some(SuiteChoice::Suite0001),
         _ => None,
+    }
+}
+
+/// The number that a text of decimal digits writes, with a plus before them or none.
+pub fn number_in(text: &str) -> Option<usize>
+    ensures { result ≡ number_in text.now }
+{
+    match text.parse::<usize>() {
+        Ok(number) => Some(number),
+        Err(_) => None,
     }
 }
 

@@ -21,6 +21,7 @@ pub fn replay_command<'a>(alloc: Global) -> Result<Command<'a>, AllocError>
         "replay",
         "Replays a recording of groups",
         "A recording in JSON, or - for the standard input",
+        "Example:\n  mls replay examples/group.json --quiet",
     )?;
     let message = number_arg(
         alloc,

@@ -8,11 +8,13 @@ ghost use Rattle.mls_cli_show.specs.Show.{page_of as show_page};
 ghost use Rattle.mls_cli_check.specs.Check.{check_page};
 ghost use Rattle.mls_cli_check.specs.GroupInfo.{group_info_page};
 ghost use Rattle.mls_suite.specs.Glass.{glass};
+ghost use Rattle.mls_cli_explain.specs.Explanations.{explanation_view};
 ghost use Rattle.mls_cli.specs.Arguments.{file_of};
-ghost use Rattle.mls_cli.specs.Serving.{BeginsError, EndsWith, EndsWithoutJob, KeepsUnread, PrintsFile, PrintsRead, PrintsRecording, PrintsText, ReadsFile, Says, ShowsHelp, WritesError, checking, fault_text, file_page, out_of_memory as memory_text, unread, unreadable};
+ghost use Rattle.mls_cli.specs.Serving.{BeginsError, EndsWith, EndsWithoutJob, KeepsUnread, PrintsFile, PrintsRead, PrintsRecording, PrintsText, ReadsFile, Says, ShowsHelp, ShowsTold, WritesError, checking, fault_text, file_page, out_of_memory as memory_text, unread, unreadable};
 
 use crate::tasks::{Job, NoJob, SuiteChoice};
 use mls_cli_check::{Unchecked, check_page, group_info_page};
+use mls_cli_explain::{Explanation, told_page};
 use mls_cli_replay::{ReplayView, print_view};
 use mls_cli_show::{Detail, show_page};
 use mls_cli_text::{Fault, Form, Input, Line, Out, Output, Page, print_made_page, refused_page};
@@ -49,7 +51,7 @@ pub fn serve<I: Input, O: Output, E: Write>(
 {
     match job {
         Ok(job) => serve_job(alloc, job, file, out, err),
-        Err(no_job) => answer_without_job(no_job, out, err),
+        Err(no_job) => answer_without_job(alloc, no_job, out, err),
     }
 }
 
@@ -296,8 +298,13 @@ fn put_unreadable<E: Write>(file: &str, err: &mut Out<E>) -> Result<(), Fault>
     err.put(b"\n")
 }
 
-/// Help goes to the output with status 0, a mistake to the errors with status 2.
-fn answer_without_job<O: Output, E: Write>(no_job: &NoJob, out: &mut O, err: &mut Out<E>) -> u8
+/// Help goes to the output with status 0, and so does what is told of a refusal; a mistake goes to the errors with status 2.
+fn answer_without_job<O: Output, E: Write>(
+    alloc: Global,
+    no_job: &NoJob,
+    out: &mut O,
+    err: &mut Out<E>,
+) -> u8
     requires { O.failed out.old ≡ false }
     ensures { EndsWithoutJob no_job.now result
         (O.contents out.old) (O.contents out.new) (O.failed out.new)
@@ -305,6 +312,7 @@ fn answer_without_job<O: Output, E: Write>(no_job: &NoJob, out: &mut O, err: &mu
 {
     match no_job {
         NoJob::Shown(text) => show_help(text.as_str(), out, err),
+        NoJob::Explained { number, told } => tell(alloc, *number, told, out, err),
         NoJob::Mistaken(text) => {
             let _ = err.put(text.as_bytes());
             2
@@ -323,6 +331,28 @@ fn show_help<O: Output, E: Write>(text: &str, out: &mut O, err: &mut Out<E>) -> 
 {
     match out.put(text.as_bytes()) {
         Ok(()) => 0,
+        Err(fault) => {
+            say_fault(fault, "", err);
+            3
+        }
+    }
+}
+
+/// Prints what is told of a refusal.
+fn tell<O: Output, E: Write>(
+    alloc: Global,
+    number: u8,
+    told: &Explanation,
+    out: &mut O,
+    err: &mut Out<E>,
+) -> u8
+    requires { O.failed out.old ≡ false }
+    ensures { ShowsTold number (explanation_view told.now) result
+        (O.contents out.old) (O.contents out.new) (O.failed out.new)
+        (E.contents (out_writer err.old)) (E.contents (out_writer err.new)) (out_failed err.new) }
+{
+    match print_made_page(alloc, told_page(alloc, number, told), out) {
+        Ok(status) => status,
         Err(fault) => {
             say_fault(fault, "", err);
             3

@@ -1,5 +1,6 @@
 //! What the program can be asked to do.
 
+use mls_cli_explain::Explanation;
 use mls_cli_replay::ReplayView;
 use mls_cli_show::Detail;
 use mls_cli_text::Form;
@@ -87,6 +88,13 @@ impl<'a> Job<'a> {
 pub enum NoJob {
     /// Help or the version is asked for, with this text.
     Shown(String),
+    /// A refusal is to be explained.
+    Explained {
+        /// Its number.
+        number: u8,
+        /// What is told of it.
+        told: Explanation,
+    },
     /// The words are a mistake, of which this is said.
     Mistaken(String),
     /// A growth was refused.

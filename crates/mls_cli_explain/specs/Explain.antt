@@ -1,5 +1,5 @@
 -- What `mls --explain` prints of a refusal that is named by its number or its name.
-use Rattle.std.specs.Prelude.{ℕ, zero, suc, ◌+◌, ◌^◌, nat_lt, if◌then◌else◌, List, [], ◌∷◌, codes, Option, Some, None, option_and_then, option_map}
+use Rattle.std.specs.Prelude.{ℕ, zero, suc, ◌+◌, nat_lt, if◌then◌else◌, List, [], ◌∷◌, codes, Option, Some, None, option_and_then, option_map}
 use Rattle.std.specs.Str.{bytes_eq}
 use Rattle.mls_wire.specs.Names.{refusal_name}
 use Rattle.mls_cli_text.specs.Page.{Page, good}
@@ -24,6 +24,15 @@ told_entries n told =
     entry [] (codes "refusal") (refusal n) ∷ entry [] (codes "text") (word told.sentence)
     ∷ entry [] (codes "check") (word told.check) ∷ entry [] (codes "advice") (word told.advice) ∷ []
 
--- the page of a refusal, where one has this number
-abbrev pub explain_page : ℕ → Option (Page Entry)
-explain_page n = option_map (λ (told : Told). good (told_entries n told)) (explanation n)
+-- the page of a refusal of which this is told
+abbrev pub told_page : ℕ → Told → Page Entry
+told_page n told = good (told_entries n told)
+
+-- a refusal by its number, and what is told of it
+abbrev pub told_by_number : ℕ → Option (ℕ × Told)
+told_by_number n = option_map (λ (told : Told). (n, told)) (explanation n)
+
+-- by a number, or else by a name; numbers of refusals are below 256
+abbrev pub told_by : Option ℕ → List ℕ → Option (ℕ × Told)
+told_by (Some n) name = if nat_lt n 256 then told_by_number n else None
+told_by None name = option_and_then told_by_number (named name)

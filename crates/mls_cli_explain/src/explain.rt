@@ -1,11 +1,11 @@
-//! The page of a refusal, and its number by its name.
+//! The refusal that a number or a name stands for, and the page of what is told of it.
 
-ghost use Rattle.std.specs.Prelude.{◌≡◌, option_map, IfOk};
-ghost use Rattle.mls_cli_text.specs.Page.{page_of};
-ghost use Rattle.mls_cli_text.specs.Text.{entry_of};
-ghost use Rattle.mls_cli_explain.specs.Explain.{explain_page, named};
+ghost use Rattle.std.specs.Prelude.{◌≡◌, option_map};
+ghost use Rattle.mls_cli_text.specs.Page.{MakesPage};
+ghost use Rattle.mls_cli_explain.specs.Explain.{named, told_by, told_by_number, told_page};
+ghost use Rattle.mls_cli_explain.specs.Explanations.{explanation_view};
 
-use crate::explanations::explanation;
+use crate::explanations::{Explanation, explanation};
 use mls_cli_text::{Ending, Field, Line, Page, line_of};
 use mls_wire::refusal_name;
 use std::alloc::{AllocError, Global};
@@ -15,7 +15,7 @@ const END_OF_NUMBERS: u8 = 96;
 
 /// The number of the refusal with this name, or None where none has it.
 #[tactic(auto, unfolding(crate::specs::Explain::named_from))]
-pub fn named(name: &str) -> Option<u8>
+fn named(name: &str) -> Option<u8>
     ensures { result ≡ named name.now }
 {
     for number in 0..END_OF_NUMBERS {
@@ -26,24 +26,43 @@ pub fn named(name: &str) -> Option<u8>
     None
 }
 
-/// Makes the page of what is told of the refusal of this number: the refusal, its sentence, what is checked, and what
-/// can be done. There is none where no refusal has the number.
-pub fn explain_page(alloc: Global, number: u8) -> Result<Option<Page<Line>>, AllocError>
-    ensures { IfOk result (λ page. option_map (page_of entry_of) page ≡ explain_page number) }
+/// What is told of the refusal of this number, with the number.
+fn told_by_number(number: u8) -> Option<(u8, Explanation)>
+    ensures { option_map (λ p. (p.0, explanation_view p.1)) result ≡ told_by_number number }
 {
     match explanation(number) {
-        Some(told) => {
-            let lines = vec![in alloc;
-                line_of("", "refusal", Field::Refusal(number)),
-                line_of("", "text", Field::Word(told.sentence)),
-                line_of("", "check", Field::Word(told.check)),
-                line_of("", "advice", Field::Word(told.advice)),
-            ]?;
-            Ok(Some(Page {
-                lines,
-                ending: Ending::Good,
-            }))
-        }
-        None => Ok(None),
+        Some(told) => Some((number, told)),
+        None => None,
     }
+}
+
+/// The refusal of this number, or else of this name, and what is told of it.
+pub fn told_by(number: Option<usize>, name: &str) -> Option<(u8, Explanation)>
+    ensures { option_map (λ p. (p.0, explanation_view p.1)) result ≡ told_by number name.now }
+{
+    match number {
+        Some(number) => {
+            if number < 256 {
+                told_by_number(number as u8)
+            } else {
+                None
+            }
+        }
+        None => told_by_number(named(name)?),
+    }
+}
+
+/// Makes the page of what is told of a refusal: the refusal, its sentence, what is checked, and what can be done.
+pub fn told_page(alloc: Global, number: u8, told: &Explanation) -> Result<Page<Line>, AllocError>
+    ensures { MakesPage result (told_page number (explanation_view told.now)) }
+{
+    Ok(Page {
+        lines: vec![in alloc;
+            line_of("", "refusal", Field::Refusal(number)),
+            line_of("", "text", Field::Word(told.sentence)),
+            line_of("", "check", Field::Word(told.check)),
+            line_of("", "advice", Field::Word(told.advice)),
+        ]?,
+        ending: Ending::Good,
+    })
 }

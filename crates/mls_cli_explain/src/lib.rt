@@ -4,5 +4,5 @@
 mod explain;
 mod explanations;
 
-pub use explain::{explain_page, named};
+pub use explain::{told_by, told_page};
 pub use explanations::{Explanation, explanation};
