@@ -11,3 +11,4 @@ mod FoundMessages
 mod Quietly
 mod Wording
 mod Viewing
+mod OneViews

@@ -12,3 +12,4 @@ pub mod TreeLaws
 pub mod RecordedReplies
 pub mod RecordLaws
 pub mod Views
+pub mod OneView

@@ -23,6 +23,7 @@ ghost use Rattle.mls_cli_recording.specs.Recording.{recording};
 ghost use Rattle.mls_cli_replay.specs.Message.{PrintsMessage};
 ghost use Rattle.mls_cli_replay.specs.OneMessage.{OneMessage};
 ghost use Rattle.mls_cli_replay.specs.OneReplay.{OneReplay};
+ghost use Rattle.mls_cli_replay.specs.OneView.{OneQuiet, OneTree};
 ghost use Rattle.mls_cli_replay.specs.RecordedReplies.{IsRecord};
 ghost use Rattle.mls_cli_replay.specs.Views.{IsMemberTree, IsQuiet, IsRecorded, IsView};
 ghost use Rattle.mls_cli_replay.specs.Replay.{IsRefusal, PrintsOne, PrintsPlay, PrintsRefusal, PrintsReplay, ending_by};
@@ -246,10 +247,12 @@ pub fn print_view<S: Suite, O: Output>(
 }
 
 /// A file has one replay at most, so the one that `replay` prints is the one that it has, and so has each of its
-/// messages. The function does nothing.
+/// messages, its quiet replay and each member's tree. The function does nothing.
 pub fn laws_of_replays()
     ensures one { OneReplay }
     ensures message { OneMessage }
+    ensures quiet { OneQuiet }
+    ensures tree { OneTree }
 {
     laws_of_calls();
 }
