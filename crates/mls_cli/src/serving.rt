@@ -353,8 +353,8 @@ fn tell<O: Output, E: Write>(
 {
     match print_made_page(alloc, told_page(alloc, number, told), out) {
         Ok(status) => status,
-        Err(fault) => {
-            say_fault(fault, "", err);
+        Err(stopped) => {
+            say_fault(stopped, "", err);
             3
         }
     }

@@ -58,10 +58,10 @@ pub fn told_page(alloc: Global, number: u8, told: &Explanation) -> Result<Page<L
 {
     Ok(Page {
         lines: vec![in alloc;
-            line_of("", "refusal", Field::Refusal(number)),
-            line_of("", "text", Field::Word(told.sentence)),
-            line_of("", "check", Field::Word(told.check)),
-            line_of("", "advice", Field::Word(told.advice)),
+            line_of("refusal", Field::Refusal(number)),
+            line_of("text", Field::Word(told.sentence)),
+            line_of("check", Field::Word(told.check)),
+            line_of("advice", Field::Word(told.advice)),
         ]?,
         ending: Ending::Good,
     })

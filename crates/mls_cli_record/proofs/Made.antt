@@ -1,13 +1,17 @@
 -- Events and texts, made value by value.
-use Rattle.std.proofs.Common.{◌≡◌, ◌∙◌, ◌<◌, ◌≤◌, ◌++◌, ◌∷◌, [], ◌+◌, ℕ, suc, List, map, drop, length, get_or, string_bytes, refl, ap, sym, drop-cons, add-one}
-use Rattle.std.specs.Prelude.{slice_get}
-use Rattle.std.specs.Global.{Global}
+use Rattle.std.proofs.Common.{◌≡◌, ◌∙◌, ◌<◌, ◌≤◌, ◌++◌, ◌∷◌, [], ◌+◌, ℕ, suc, List, map, drop, length, get_or, string_bytes, Some, Result, Ok, Err, refl, ap, sym, subst, drop-cons, add-one}
+use Rattle.std.specs.Prelude.{IfOk, slice_get}
+use Rattle.std.specs.Global.{Global, Vec}
 use Rattle.std.specs.declared.string.String.{String}
 use Rattle.std.proofs.lemmas.List.{drop_all, map-append}
-use Rattle.serde_json.specs.Data.{Data, Items, no_items, item, string}
+use Rattle.json.specs.Layout.{pretty}
+use Rattle.json.specs.Lex.{tokens}
+use Rattle.serde_json.specs.Data.{Data, Items, depth, no_items, item, string}
+use Rattle.serde_json.specs.Read.{max_depth, read}
+use Rattle.serde_json.specs.Written.{IsInOrder}
 use Rattle.serde_json.specs.View.{view, items_of, items_view}
 use Rattle.serde_json.specs.declared.value.Value.{Value}
-use Rattle.mls_cli_record.specs.Record.{expecting, expecting_each, text_items}
+use Rattle.mls_cli_record.specs.Record.{IsTextOf, expecting, expecting_each, text_items}
 
 -- items before others
 abbrev pub joined : List Data → Items → Items
@@ -89,3 +93,10 @@ texts_all texts k list le so =
     ∙ ap (joined (map view list)) none_left
     ∙ none_behind (map view list))
     ∙ so
+
+-- ---- the text
+
+pub text_of : {X : Type 0} (r : Result (Vec ℕ) X) (d e : Data) → d ≡ e → IfOk r (λ (b : Vec ℕ). b.items ≡ pretty (tokens b.items)) → IfOk r (λ (b : Vec ℕ). IsInOrder b.items d)
+    → IfOk r (λ (b : Vec ℕ). depth d ≤ max_depth → read b.items ≡ Some d) → IfOk r (λ (b : Vec ℕ). IsTextOf b.items e)
+text_of (Ok b) d e same laid ordered reads = subst (IsTextOf b.items) same (record { order = ordered; layout = laid; reads = reads })
+text_of (Err x) d e same laid ordered reads = tt

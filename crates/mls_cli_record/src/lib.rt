@@ -1,7 +1,8 @@
 //! Recordings, written again with what a replay of them came to.
 #![tactic(auto)]
 
-ghost use Rattle.std.specs.Prelude.{◌≡◌, codes, option_map, map, string_bytes, IfOk};
+ghost use Rattle.std.specs.Prelude.{◌≡◌, codes, option_map, map, slice_get, string_bytes, IfOk};
+ghost use Rattle.serde_json.specs.Data.{string};
 ghost use Rattle.serde_json.specs.View.{view, items_view};
 ghost use Rattle.mls_cli_json.specs.Json.{number_at};
 ghost use Rattle.mls_cli_record.specs.Record.{IsTextOf, expecting, expecting_each, has_version, record_of, text_items, with_lines, with_member, with_replies};
@@ -23,15 +24,25 @@ fn put_member(alloc: Global, value: Value, key: &str, member: Value) -> Result<V
     }
 }
 
+/// The reply of that number, if there is one.
+fn reply_at(replies: &[String], number: usize) -> Option<&str>
+    ensures { option_map (λ t. t.now) result ≡ option_map string_bytes (slice_get replies.now number) }
+{
+    match replies.get(number) {
+        Some(reply) => Some(reply.as_str()),
+        None => None,
+    }
+}
+
 /// Copies an event, with the reply that it should have, where there is one.
-fn expecting(alloc: Global, event: &Value, reply: Option<&String>) -> Result<Value, AllocError>
+fn expecting(alloc: Global, event: &Value, reply: Option<&str>) -> Result<Value, AllocError>
     ensures { IfOk result (λ v. view v
-        ≡ expecting (option_map (λ t. string_bytes t.now) reply.entry) (view event.now)) }
+        ≡ expecting (option_map (λ t. t.now) reply.entry) (view event.now)) }
 {
     let copy = event.clone()?;
     match reply {
         Some(reply) => {
-            let text = Value::try_from_str(alloc, reply.as_str())?;
+            let text = Value::try_from_str(alloc, reply)?;
             put_member(alloc, copy, "expect", text)
         }
         None => Ok(copy),
@@ -50,7 +61,7 @@ fn expecting_each(
 {
     let mut list = Vec::new(alloc);
     for (number, event) in events.iter().enumerate() {
-        list.push(expecting(alloc, event, replies.get(number))?)?;
+        list.push(expecting(alloc, event, reply_at(replies, number))?)?;
     }
     Ok(list)
 }
@@ -66,6 +77,13 @@ fn put_replies(alloc: Global, value: Value, replies: &[String]) -> Result<Value,
     put_member(alloc, value, "events", Value::Array(events))
 }
 
+/// Makes a value of a text.
+fn text_value(alloc: Global, text: &String) -> Result<Value, AllocError>
+    ensures { IfOk result (λ v. view v ≡ string (string_bytes text.now)) }
+{
+    Value::try_from_str(alloc, text.as_str())
+}
+
 /// Makes a value of each text.
 #[tactic(auto, unfolding(crate::specs::Record::text_items))]
 fn text_values(alloc: Global, texts: &[String]) -> Result<Vec<Value>, AllocError>
@@ -73,7 +91,7 @@ fn text_values(alloc: Global, texts: &[String]) -> Result<Vec<Value>, AllocError
 {
     let mut list = Vec::new(alloc);
     for text in texts {
-        list.push(Value::try_from_str(alloc, text.as_str())?)?;
+        list.push(text_value(alloc, text)?)?;
     }
     Ok(list)
 }
