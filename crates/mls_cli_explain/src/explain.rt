@@ -5,7 +5,7 @@ ghost use Rattle.mls_cli_text.specs.Page.{MakesPage};
 ghost use Rattle.mls_cli_explain.specs.Explain.{named, told_by, told_by_number, told_page};
 ghost use Rattle.mls_cli_explain.specs.Explanations.{explanation_view};
 
-use crate::explanations::{Explanation, explanation};
+use crate::explanations::{Explanation, explanation_of};
 use mls_cli_text::{Ending, Field, Line, Page, line_of};
 use mls_wire::refusal_name;
 use std::alloc::{AllocError, Global};
@@ -30,7 +30,7 @@ fn named(name: &str) -> Option<u8>
 fn told_by_number(number: u8) -> Option<(u8, Explanation)>
     ensures { option_map (λ p. (p.0, explanation_view p.1)) result ≡ told_by_number number }
 {
-    match explanation(number) {
+    match explanation_of(number) {
         Some(told) => Some((number, told)),
         None => None,
     }

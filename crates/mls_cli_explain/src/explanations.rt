@@ -26,7 +26,7 @@ fn told(sentence: &'static str, check: &'static str, advice: &'static str) -> Op
 }
 
 /// What is told of the refusal of this number, or None where no refusal has it.
-pub fn explanation(number: u8) -> Option<Explanation>
+pub fn explanation_of(number: u8) -> Option<Explanation>
     ensures { option_map explanation_view result ≡ explanation number }
 {
     match number {

@@ -5,4 +5,4 @@ mod explain;
 mod explanations;
 
 pub use explain::{told_by, told_page};
-pub use explanations::{Explanation, explanation};
+pub use explanations::{Explanation, explanation_of};

@@ -55,7 +55,7 @@ expecting_next replies events k event made list new lt is made_is grew so =
 
 pub expecting_all : (replies : List (List ℕ)) (events : List Value) (k : ℕ) (list : List Value) → length events ≤ k → Expecting replies events k list → items_view list ≡ expecting_each 0 replies (items_view events)
 expecting_all replies events k list le so =
-    sym (ap (λ (vs : List Value). joined (map view list) (expecting_each k replies (items_view vs))) (drop_all events k le)
+    sym (ap (λ (vs : List Value). joined (map view list) (expecting_each k replies (items_view vs))) (drop_all k events le)
     ∙ ap (joined (map view list)) (none_expected k replies)
     ∙ none_behind (map view list))
     ∙ so
@@ -89,7 +89,7 @@ texts_next texts k text made list new lt is made_is grew so =
 
 pub texts_all : (texts : List (String Global)) (k : ℕ) (list : List Value) → length texts ≤ k → Texts texts k list → items_view list ≡ text_items (map string_bytes texts)
 texts_all texts k list le so =
-    sym (ap (λ (ss : List (String Global)). joined (map view list) (text_items (map string_bytes ss))) (drop_all texts k le)
+    sym (ap (λ (ss : List (String Global)). joined (map view list) (text_items (map string_bytes ss))) (drop_all k texts le)
     ∙ ap (joined (map view list)) none_left
     ∙ none_behind (map view list))
     ∙ so

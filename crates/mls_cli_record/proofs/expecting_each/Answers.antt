@@ -11,7 +11,7 @@ loop-number-preserved c =
     c.loop-number-test.true c.index-events-number.is
     (c.in_ok-expecting.ensures
     ∙ ap (λ (r : Option (List ℕ)). expecting r (view c.index-events-number.result)) (c.reply_at.ensures ∙ sym (slice_get-map string_bytes c.args.replies.now c.loop-number.number)))
-    c.in_ok-push.ensures c.loop-number.invariant
+    c.in_ok-push.ensures.items c.loop-number.invariant
 
 pub returns : goal.returns
 returns c = expecting_all (map string_bytes c.args.replies.now) c.args.events.now c.loop-number.number c.loop-number.list.items (omega arith) c.loop-number.invariant

@@ -9,7 +9,7 @@ pub loop-one-preserved : goal.loop-one-preserved
 loop-one-preserved g c =
     replied_step g.S.Suite.crypto c.args.world.now c.args.recorded.now c.loop-one.one-index c.loop-one.world c.do_action.new.world c.loop-one.texts.items c.push.new.self.items
     c.in_ok-outcome_text.field-0 c.in_ok-outcome.outcome c.one-item.result c.loop-one-test.true c.one-item.is c.loop-one.invariant
-    c.in_ok-outcome.ensures.world c.in_ok-outcome.ensures.outcome c.in_ok-outcome_text.ensures c.in_ok-push.ensures
+    c.in_ok-outcome.ensures.world c.in_ok-outcome.ensures.outcome c.in_ok-outcome_text.ensures c.in_ok-push.ensures.items
 
 pub returns-clause-world : goal.returns-clause-world
 returns-clause-world g c =

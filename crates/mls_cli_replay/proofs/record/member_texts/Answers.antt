@@ -11,7 +11,7 @@ returns-in-None g c =
 pub loop-number-preserved : goal.loop-number-preserved
 loop-number-preserved g c =
     worded_next c.args.world.now.seats c.loop-number.number c.in-Some.member.now c.in_ok-line_words-in-Some.field-0 c.loop-number.texts.items c.push.new.self.items (sym c.in-Some.ensures)
-    (c.in_ok-line_words-in-Some.ensures ∙ ap entry_words c.member_line.ensures) c.in_ok-push-in-Some.ensures c.loop-number.invariant
+    (c.in_ok-line_words-in-Some.ensures ∙ ap entry_words c.member_line.ensures) c.in_ok-push-in-Some.ensures.items c.loop-number.invariant
 
 pub returns : goal.returns
 returns g c =
