@@ -1,3 +1,4 @@
 pub mod Saying
 mod Reading
 mod Numbers
+mod Lacking

@@ -38,7 +38,7 @@ same_printout (job.Check file form suite signatures group) text p is =
     is ∙ ap (printout line_text) (page_of_front form text (λ own. check_page (checking suite signatures) form own group.now))
 same_printout (job.CheckGroupInfo file form signatures) text p is =
     is ∙ ap (printout line_text) (page_of_front form text (group_info_page glass (checking choice.Suite0001 signatures) form))
-same_printout (job.Replay file suite message) text p is = is
+same_printout (job.Replay file suite view) text p is = is
 same_printout (job.Vectors file) text p is = is
 
 prints_all : (j : Job) (text : List ℕ) (old new : Option (List ℕ)) (r : Result ℕ Fault) → PrintsOne (IsPrintout j (read_of j text)) old new r → PrintsOne (IsPrintout j text) old new r

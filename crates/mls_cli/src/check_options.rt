@@ -31,6 +31,7 @@ pub fn check_command<'a>(alloc: Global) -> Result<Command<'a>, AllocError>
         "check",
         "Checks a ratchet tree",
         "A ratchet tree in hex, or - for the standard input",
+        "Example:\n  mls check examples/group_tree.hex --group 67",
     )?;
     let info = flag_arg(
         alloc,

@@ -7,7 +7,9 @@ ghost use Rattle.mls_cli.specs.Arguments.{NamesProgram};
 
 mod arguments;
 mod check_options;
+mod explain_arguments;
 mod options;
+mod replay_arguments;
 mod serving;
 mod show_options;
 mod source;

@@ -8,17 +8,18 @@ ghost use Rattle.mls_cli_show.specs.Show.{page_of as show_page};
 ghost use Rattle.mls_cli_check.specs.Check.{check_page};
 ghost use Rattle.mls_cli_check.specs.GroupInfo.{group_info_page};
 ghost use Rattle.mls_suite.specs.Glass.{glass};
-ghost use Rattle.mls_cli_replay.specs.Replay.{PrintsOne};
+ghost use Rattle.mls_cli_explain.specs.Explanations.{explanation_view};
 ghost use Rattle.mls_cli.specs.Arguments.{file_of};
-ghost use Rattle.mls_cli.specs.Serving.{BeginsError, EndsWith, EndsWithoutJob, IsReplayOrMessage, KeepsUnread, PrintsFile, PrintsRead, PrintsRecording, PrintsText, ReadsFile, Says, ShowsHelp, WritesError, checking, fault_text, file_page, out_of_memory as memory_text, unread, unreadable};
+ghost use Rattle.mls_cli.specs.Serving.{BeginsError, EndsWith, EndsWithoutJob, KeepsUnread, PrintsFile, PrintsRead, PrintsRecording, PrintsText, ReadsFile, Says, ShowsHelp, ShowsTold, WritesError, checking, fault_text, file_page, out_of_memory as memory_text, unread, unreadable};
 
 use crate::tasks::{Job, NoJob, SuiteChoice};
 use mls_cli_check::{Unchecked, check_page, group_info_page};
-use mls_cli_replay::{replay, replay_message};
+use mls_cli_explain::{Explanation, told_page};
+use mls_cli_replay::{ReplayView, print_view};
 use mls_cli_show::{Detail, show_page};
 use mls_cli_text::{Fault, Form, Input, Line, Out, Output, Page, print_made_page, refused_page};
 use mls_cli_vectors::vectors_page;
-use mls_suite::{Glass, Suite};
+use mls_suite::Glass;
 use mls_suite_0001::Suite0001;
 use std::alloc::{AllocError, Global};
 use std::io::Write;
@@ -50,7 +51,7 @@ pub fn serve<I: Input, O: Output, E: Write>(
 {
     match job {
         Ok(job) => serve_job(alloc, job, file, out, err),
-        Err(no_job) => answer_without_job(no_job, out, err),
+        Err(no_job) => answer_without_job(alloc, no_job, out, err),
     }
 }
 
@@ -148,9 +149,7 @@ fn print_text<O: Output>(
             signatures,
             ..
         } => print_made_page(alloc, info_file(alloc, *form, *signatures, text), out),
-        Job::Replay { suite, message, .. } => {
-            print_recording(alloc, *suite, *message, text, out)
-        }
+        Job::Replay { suite, view, .. } => print_recording(alloc, *suite, *view, text, out),
         Job::Vectors { .. } => print_made_page(alloc, vectors_page(alloc, text), out),
     }
 }
@@ -247,40 +246,22 @@ fn check_info(
     }
 }
 
-/// Prints the replay of a recording for the suite, or one of its messages.
+/// Prints what is asked for of a recording for the suite.
 fn print_recording<O: Output>(
     alloc: Global,
     suite: SuiteChoice,
-    message: Option<usize>,
+    view: ReplayView,
     text: &[u8],
     out: &mut O,
 ) -> Result<u8, Fault>
-    ensures prints { PrintsRecording O.contents suite message text.now out.old out.new result }
+    ensures prints { PrintsRecording O.contents suite view text.now out.old out.new result }
     ensures status { IfOk result (λ status. status ≤ 1) }
     ensures write { O.failed out.new ≡ write_failed (O.failed out.old) result }
     ensures written { IfErr result (λ e. e ≢ Fault.Read) }
 {
     match suite {
-        SuiteChoice::Glass => print_under::<Glass, O>(alloc, message, text, out),
-        SuiteChoice::Suite0001 => print_under::<Suite0001, O>(alloc, message, text, out),
-    }
-}
-
-fn print_under<S: Suite, O: Output>(
-    alloc: Global,
-    message: Option<usize>,
-    text: &[u8],
-    out: &mut O,
-) -> Result<u8, Fault>
-    ensures prints { PrintsOne (IsReplayOrMessage S.crypto message text.now)
-        (O.contents out.old) (O.contents out.new) result }
-    ensures status { IfOk result (λ status. status ≤ 1) }
-    ensures write { O.failed out.new ≡ write_failed (O.failed out.old) result }
-    ensures written { IfErr result (λ e. e ≢ Fault.Read) }
-{
-    match message {
-        Some(number) => replay_message::<S, O>(alloc, text, number, out),
-        None => replay::<S, O>(alloc, text, out),
+        SuiteChoice::Glass => print_view::<Glass, O>(alloc, text, view, out),
+        SuiteChoice::Suite0001 => print_view::<Suite0001, O>(alloc, text, view, out),
     }
 }
 
@@ -318,8 +299,13 @@ fn put_unreadable<E: Write>(file: &str, err: &mut Out<E>) -> Result<(), Fault>
     err.put(b"\n")
 }
 
-/// Help goes to the output with status 0, a mistake to the errors with status 2.
-fn answer_without_job<O: Output, E: Write>(no_job: &NoJob, out: &mut O, err: &mut Out<E>) -> u8
+/// Help goes to the output with status 0, and so does what is told of a refusal; a mistake goes to the errors with status 2.
+fn answer_without_job<O: Output, E: Write>(
+    alloc: Global,
+    no_job: &NoJob,
+    out: &mut O,
+    err: &mut Out<E>,
+) -> u8
     requires { O.failed out.old ≡ false }
     ensures { EndsWithoutJob no_job.now result
         (O.contents out.old) (O.contents out.new) (O.failed out.new)
@@ -327,6 +313,7 @@ fn answer_without_job<O: Output, E: Write>(no_job: &NoJob, out: &mut O, err: &mu
 {
     match no_job {
         NoJob::Shown(text) => show_help(text.as_str(), out, err),
+        NoJob::Explained { number, told } => tell(alloc, *number, told, out, err),
         NoJob::Mistaken(text) => {
             let _ = err.put(text.as_bytes());
             2
@@ -347,6 +334,28 @@ fn show_help<O: Output, E: Write>(text: &str, out: &mut O, err: &mut Out<E>) -> 
         Ok(()) => 0,
         Err(fault) => {
             say_fault(fault, "", err);
+            3
+        }
+    }
+}
+
+/// Prints what is told of a refusal.
+fn tell<O: Output, E: Write>(
+    alloc: Global,
+    number: u8,
+    told: &Explanation,
+    out: &mut O,
+    err: &mut Out<E>,
+) -> u8
+    requires { O.failed out.old ≡ false }
+    ensures { ShowsTold number (explanation_view told.now) result
+        (O.contents out.old) (O.contents out.new) (O.failed out.new)
+        (E.contents (out_writer err.old)) (E.contents (out_writer err.new)) (out_failed err.new) }
+{
+    match print_made_page(alloc, told_page(alloc, number, told), out) {
+        Ok(status) => status,
+        Err(stopped) => {
+            say_fault(stopped, "", err);
             3
         }
     }

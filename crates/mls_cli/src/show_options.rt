@@ -22,6 +22,7 @@ pub fn show_command<'a>(alloc: Global) -> Result<Command<'a>, AllocError>
         "show",
         "Prints a message field by field",
         "An MLSMessage in hex, or - for the standard input",
+        "Example:\n  mls show examples/key_package.hex",
     )?;
     let full = flag_arg(
         alloc,

@@ -1,5 +1,7 @@
 //! What the program can be asked to do.
 
+use mls_cli_explain::Explanation;
+use mls_cli_replay::ReplayView;
 use mls_cli_show::Detail;
 use mls_cli_text::Form;
 use std::alloc::AllocError;
@@ -53,8 +55,8 @@ pub enum Job<'a> {
         file: &'a str,
         /// The cipher suite that the recording is for.
         suite: SuiteChoice,
-        /// The number of the one message that is printed, in place of all else.
-        message: Option<usize>,
+        /// What is printed of it.
+        view: ReplayView,
     },
     /// Judge the test vectors that stand as JSON in a file.
     Vectors {
@@ -86,6 +88,13 @@ impl<'a> Job<'a> {
 pub enum NoJob {
     /// Help or the version is asked for, with this text.
     Shown(String),
+    /// A refusal is to be explained.
+    Explained {
+        /// Its number.
+        number: u8,
+        /// What is told of it.
+        told: Explanation,
+    },
     /// The words are a mistake, of which this is said.
     Mistaken(String),
     /// A growth was refused.

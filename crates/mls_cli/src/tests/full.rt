@@ -46,7 +46,7 @@ fn shows_raw_bytes(rt: HostRuntime) -> Result<(), Fail> {
         assert!(rt; status == 0 && out.as_slice() == text.as_bytes());
     }
     let (status, out) = serve_file(alloc, words.as_slice(), KEY_PACKAGE.as_bytes())?;
-    assert!(rt; status == 1 && out.as_slice() == b"refused: 7 BadTag\n");
+    assert!(rt; status == 1 && out.as_slice() == b"refused: 7 BadTag\n".as_slice());
     Ok(())
 }
 

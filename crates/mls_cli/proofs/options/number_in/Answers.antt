@@ -1,5 +1,5 @@
 use Rattle.mls_cli.proofs.Numbers.{read, unread}
-use Rattle.mls_cli.proofs.arguments.number_in.Goals as goal
+use Rattle.mls_cli.proofs.options.number_in.Goals as goal
 
 pub returns-in-Ok : goal.returns-in-Ok
 returns-in-Ok c = read c.args.text.now c.in-Ok.number c.in-Ok.ensures.value.0.0 c.in-Ok.ensures.value.0.1
