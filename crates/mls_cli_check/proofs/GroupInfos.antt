@@ -88,6 +88,10 @@ good_goes_on page second (Err e) good h = tt
 pub other_stays : (page : code.Page Line) (second : Page Entry) → page.ending ≢ Good → page_of entry_of page ≡ page_then (page_of entry_of page) second
 other_stays page second ne = stays page.ending (page_of entry_of page) second ne
 
+pub page_same : (r : Result (code.Page Line) AllocError) (a b : Page Entry) → a ≡ b → IfOk r (λ p. page_of entry_of p ≡ a) → IfOk r (λ p. page_of entry_of p ≡ b)
+page_same (Ok p) a b e h = h ∙ e
+page_same (Err n) a b e h = tt
+
 pub then_same : (r : Result (code.Page Line) AllocError) (a b x y : Page Entry) → a ≡ b → x ≡ y
     → IfOk r (λ p. page_of entry_of p ≡ page_then a x) → IfOk r (λ p. page_of entry_of p ≡ page_then b y)
 then_same (Ok p) a b x y e f h = h ∙ ap₂ page_then e f

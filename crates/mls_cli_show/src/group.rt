@@ -183,9 +183,12 @@ fn nodes_lines(
 ) -> Result<Vec<Line>, AllocError>
     ensures { IfOk result (λ v. entries_of v ≡ in_full detail (nodes_entries tree.now)) }
 {
-    match (detail, tree) {
-        (Detail::Full, Some(tree)) => list_lines(alloc, tree.as_slice()),
-        (Detail::Full, None) | (Detail::Brief, _) => Ok(Vec::new(alloc)),
+    match detail {
+        Detail::Brief => Ok(Vec::new(alloc)),
+        Detail::Full => match tree {
+            Some(tree) => list_lines(alloc, tree.as_slice()),
+            None => Ok(Vec::new(alloc)),
+        },
     }
 }
 
