@@ -10,4 +10,4 @@ tree_page-requires-clause-group g c =
 
 pub returns : goal.returns
 returns g c =
-    then_same c.with_info_if_good.result _ _ _ _ c.in_ok-page.ensures.page (ap (info_checks g.S.Suite.crypto c.args.info.now) c.in_ok-page.ensures.same) c.with_info_if_good.ensures
+    then_same c.with_info_if_good.result _ _ _ _ (rw c.as_slice-group_id.ensures at c.in_ok-page.ensures.page) (ap (info_checks g.S.Suite.crypto c.args.info.now) c.in_ok-page.ensures.same) c.with_info_if_good.ensures

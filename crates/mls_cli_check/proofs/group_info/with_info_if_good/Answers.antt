@@ -6,6 +6,3 @@ returns-in-Good g c = good_goes_on c.args.page _ c.with_info_checks.result c.in-
 
 pub returns-in-Failed : goal.returns-in-Failed
 returns-in-Failed g c = let is = c.in-Failed.is in other_stays c.args.page _ (λ e. cc)
-
-pub returns : goal.returns
-returns g c = let is = c.in-Refused.is in other_stays c.args.page _ (λ e. cc)
