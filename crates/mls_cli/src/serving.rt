@@ -139,10 +139,11 @@ fn print_text<O: Output>(
             signatures,
             group,
             ..
-        } => {
-            let page = tree_file(alloc, *form, *suite, *signatures, text, group);
-            print_made_page(alloc, page, out)
-        }
+        } => print_made_page(
+            alloc,
+            tree_file(alloc, *form, *suite, *signatures, text, group),
+            out,
+        ),
         Job::CheckGroupInfo {
             form,
             signatures,

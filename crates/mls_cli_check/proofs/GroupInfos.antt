@@ -1,5 +1,5 @@
 -- What is said of a GroupInfo follows from its parts.
-use Rattle.std.proofs.Common.{◌≡◌, ◌≢◌, ◌∙◌, ◌<◌, ◌^◌, ℕ, true, false, List, [], ◌∷◌, ◌++◌, codes, Result, Ok, Err, length, ap, arith, map, refl, subst, sym, append_assoc}
+use Rattle.std.proofs.Common.{◌≡◌, ◌≢◌, ◌∙◌, ◌<◌, ◌^◌, ℕ, true, false, List, [], ◌∷◌, ◌++◌, codes, Result, Ok, Err, length, ap, ap₂, arith, map, refl, subst, sym, append_assoc}
 use Rattle.std.specs.Prelude.{IfOk, IsErr, MatchResult}
 use Rattle.std.specs.Global.{Vec}
 use Rattle.std.specs.declared.alloc.AllocError.{AllocError}
@@ -75,19 +75,27 @@ goes_on Good first second e = refl
 goes_on Failed first second e = absurd cc
 goes_on (Refused n) first second e = absurd cc
 
-pub behind_good : (page : code.Page Line) (first second : Page Entry) (r : Result (code.Page Line) AllocError) → page.ending ≡ Good → page_of entry_of page ≡ first
-    → IfOk r (λ p. page_of entry_of p ≡ page_behind (map entry_of page.lines.items) second) → IfOk r (λ p. page_of entry_of p ≡ page_then first second)
-behind_good page first second (Err e) good is h = tt
-behind_good page first second (Ok p) good is h =
-    h ∙ (ap (λ (f : Page Entry). page_behind f.entries second) is ∙ goes_on first.ending first second (ap (λ (f : Page Entry). f.ending) (sym is) ∙ good))
-
 stays : (ending : Ending) (first second : Page Entry) → ending ≢ Good → first ≡ page_if ending first second
 stays Good first second ne = absurd (ne refl)
 stays Failed first second ne = refl
 stays (Refused n) first second ne = refl
 
-pub all_said : (page : code.Page Line) (first second : Page Entry) → page.ending ≢ Good → page_of entry_of page ≡ first → page_of entry_of page ≡ page_then first second
-all_said page first second ne is = is ∙ stays first.ending first second (λ e. ne (ap (λ (f : Page Entry). f.ending) is ∙ e))
+pub good_goes_on : (page : code.Page Line) (second : Page Entry) (r : Result (code.Page Line) AllocError) → page.ending ≡ Good
+    → IfOk r (λ p. page_of entry_of p ≡ page_behind (map entry_of page.lines.items) second) → IfOk r (λ p. page_of entry_of p ≡ page_then (page_of entry_of page) second)
+good_goes_on page second (Ok p) good h = h ∙ goes_on page.ending (page_of entry_of page) second good
+good_goes_on page second (Err e) good h = tt
+
+pub other_stays : (page : code.Page Line) (second : Page Entry) → page.ending ≢ Good → page_of entry_of page ≡ page_then (page_of entry_of page) second
+other_stays page second ne = stays page.ending (page_of entry_of page) second ne
+
+pub page_same : (r : Result (code.Page Line) AllocError) (a b : Page Entry) → a ≡ b → IfOk r (λ p. page_of entry_of p ≡ a) → IfOk r (λ p. page_of entry_of p ≡ b)
+page_same (Ok p) a b e h = h ∙ e
+page_same (Err n) a b e h = tt
+
+pub then_same : (r : Result (code.Page Line) AllocError) (a b x y : Page Entry) → a ≡ b → x ≡ y
+    → IfOk r (λ p. page_of entry_of p ≡ page_then a x) → IfOk r (λ p. page_of entry_of p ≡ page_then b y)
+then_same (Ok p) a b x y e f h = h ∙ ap₂ page_then e f
+then_same (Err n) a b x y e f h = tt
 
 -- ---- the GroupInfo's own lines
 

@@ -12,11 +12,11 @@ ghost use Rattle.mls_tree_model.specs.Arrays.{from_nodes};
 ghost use Rattle.mls_tree_model.specs.Hashes.{tree_hash};
 ghost use Rattle.mls_tree.specs.ShortLeaves.{HasShortLeaves};
 ghost use Rattle.mls_tree.specs.Tree.{max_leaves, term};
-ghost use Rattle.mls_cli_text.specs.Page.{MakesPage};
-ghost use Rattle.mls_cli_text.specs.Text.{entries_of};
+ghost use Rattle.mls_cli_text.specs.Page.{MakesPage, page_of};
+ghost use Rattle.mls_cli_text.specs.Text.{entries_of, entry_of};
 ghost use Rattle.mls_cli_check.specs.Check.{page_behind};
 ghost use Rattle.mls_cli_check.specs.CheckFaults.{number_of, RefusesMessage};
-ghost use Rattle.mls_cli_check.specs.GroupInfo.{group_info_in, group_info_of, group_info_text, info_checks, info_report, sent_tree, signer_checks, signer_report, suite_among, suite_or_refusal, tree_or_refusal};
+ghost use Rattle.mls_cli_check.specs.GroupInfo.{group_info_in, group_info_of, group_info_text, info_checks, info_report, page_then, sent_tree, signer_checks, signer_report, suite_among, suite_or_refusal, tree_or_refusal};
 
 use crate::check_error::CheckError;
 use crate::report::{refused, signature_word, tree_page};
@@ -156,6 +156,27 @@ fn with_info_checks<S: Suite>(
     with_signer::<S>(alloc, lines, info, tree)
 }
 
+/// A page, and behind it the lines of a GroupInfo's own checks where it ends good.
+fn with_info_if_good<S: Suite>(
+    alloc: Global,
+    page: Page<Line>,
+    info: &GroupInfo,
+    tree: &mut PublicTree,
+) -> Result<Page<Line>, AllocError>
+    requires { IsShort group_info info.now }
+    ensures { MakesPage result (page_then (page_of entry_of page)
+        (info_checks S.crypto info.now (term tree.old))) }
+{
+    match page.ending {
+        Ending::Good => {
+            let Page { lines, ending: _ } = page;
+            with_info_checks::<S>(alloc, lines, info, tree)
+        }
+        Ending::Failed => Ok(page),
+        Ending::Refused(_) => Ok(page),
+    }
+}
+
 /// What is printed of a GroupInfo's tree and then of itself.
 fn tree_and_info_page<S: Suite>(
     alloc: Global,
@@ -167,12 +188,8 @@ fn tree_and_info_page<S: Suite>(
     ensures { MakesPage result (info_report S.crypto info.now (term tree.old)) }
 {
     let group_id = info.group_context.group_id.as_slice();
-    let Page { lines, ending } = tree_page::<S>(alloc, tree, group_id)?;
-    match ending {
-        Ending::Good => with_info_checks::<S>(alloc, lines, info, tree),
-        Ending::Failed => Ok(Page { lines, ending }),
-        Ending::Refused(_) => Ok(Page { lines, ending }),
-    }
+    let page = tree_page::<S>(alloc, tree, group_id)?;
+    with_info_if_good::<S>(alloc, page, info, tree)
 }
 
 /// What is printed of a GroupInfo under its suite.

@@ -17,12 +17,12 @@ ghost use Rattle.mls_cli_check.specs.GroupInfo.{group_info_page};
 ghost use Rattle.mls_cli_check.specs.CheckFaults.{number_of, ChecksOutright};
 
 pub use check_error::CheckError;
+pub use group_info::group_info_text;
 use hex::FromHexError;
 use mls_cli_text::{FileError, Form, Line, Page, file_bytes, is_hex, is_hex_file, refused_page};
 use mls_leaf::{INPUT_LIMIT, LeafError};
 use mls_suite::Suite;
 use mls_wire::WireError;
-pub use group_info::group_info_text;
 pub use report::check_text;
 use std::alloc::{AllocError, Global};
 pub use tree::{tree_in, tree_lines};
@@ -47,11 +47,7 @@ fn group_bytes(alloc: Global, text: &str) -> Result<Vec<u8>, CheckError>
 }
 
 /// What is printed of a tree's bytes for a group's id in hex.
-fn bytes_page<S: Suite>(
-    alloc: Global,
-    bytes: &[u8],
-    group: &str,
-) -> Result<Page<Line>, AllocError>
+fn bytes_page<S: Suite>(alloc: Global, bytes: &[u8], group: &str) -> Result<Page<Line>, AllocError>
     ensures { MakesPage result (check_page_on S.crypto bytes.now (group_in group.now)) }
 {
     match group_bytes(alloc, group) {

@@ -139,11 +139,7 @@ fn tree_count(tree: &Option<RatchetTree>) -> Option<usize>
 }
 
 /// The lines of a parent.
-fn parent_lines(
-    alloc: Global,
-    prefix: Prefix,
-    parent: &ParentNode,
-) -> Result<Vec<Line>, AllocError>
+fn parent_lines(alloc: Global, prefix: Prefix, parent: &ParentNode) -> Result<Vec<Line>, AllocError>
     ensures { IfOk result (λ v. entries_of v
         ≡ entry (prefix_text prefix) (codes "encryption_key") (bytes parent.now.encryption_key)
         ∷ entry (prefix_text prefix) (codes "parent_hash") (bytes parent.now.parent_hash)
@@ -187,9 +183,12 @@ fn nodes_lines(
 ) -> Result<Vec<Line>, AllocError>
     ensures { IfOk result (λ v. entries_of v ≡ in_full detail (nodes_entries tree.now)) }
 {
-    match (detail, tree) {
-        (Detail::Full, Some(tree)) => list_lines(alloc, tree.as_slice()),
-        (Detail::Full, None) | (Detail::Brief, _) => Ok(Vec::new(alloc)),
+    match detail {
+        Detail::Brief => Ok(Vec::new(alloc)),
+        Detail::Full => match tree {
+            Some(tree) => list_lines(alloc, tree.as_slice()),
+            None => Ok(Vec::new(alloc)),
+        },
     }
 }
 
@@ -234,7 +233,10 @@ pub fn group_info_lines(
         signature,
     } = info;
     let nodes = nodes_lines(alloc, detail, &ratchet_tree)?;
-    let rest = append_lines(nodes, signer_lines(alloc, confirmation_tag, signer, signature)?)?;
+    let rest = append_lines(
+        nodes,
+        signer_lines(alloc, confirmation_tag, signer, signature)?,
+    )?;
     let rest = append_lines(count_lines(alloc, tree_count(&ratchet_tree))?, rest)?;
     append_lines(context_lines(alloc, group_context)?, rest)
 }

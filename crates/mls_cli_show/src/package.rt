@@ -56,11 +56,7 @@ fn capability_lines(
     ]?)
 }
 
-fn source_lines(
-    alloc: Global,
-    prefix: Prefix,
-    source: LeafSource,
-) -> Result<Vec<Line>, AllocError>
+fn source_lines(alloc: Global, prefix: Prefix, source: LeafSource) -> Result<Vec<Line>, AllocError>
     ensures { IfOk result (λ lines. entries_of lines ≡ source_entries (prefix_text prefix) source) }
 {
     match source {
@@ -84,11 +80,7 @@ fn source_lines(
 
 /// The lines of a leaf, each with the prefix.
 #[tactic(auto, unfolding(crate::specs::Package::leaf_entries))]
-pub fn leaf_lines(
-    alloc: Global,
-    prefix: Prefix,
-    leaf: LeafNode,
-) -> Result<Vec<Line>, AllocError>
+pub fn leaf_lines(alloc: Global, prefix: Prefix, leaf: LeafNode) -> Result<Vec<Line>, AllocError>
     ensures { IfOk result (λ lines. map entry_of lines.items ≡ leaf_entries (prefix_text prefix) leaf) }
 {
     let LeafNode {
@@ -141,5 +133,8 @@ pub fn key_package_lines(
     } = key_package;
     let leaf = leaf_lines(alloc, prefix, leaf_node)?;
     let lines = append_lines(front_lines(alloc, prefix, cipher_suite, init_key)?, leaf)?;
-    append_line(lines, line_with(prefix, "signature", Field::Bytes(signature)))
+    append_line(
+        lines,
+        line_with(prefix, "signature", Field::Bytes(signature)),
+    )
 }

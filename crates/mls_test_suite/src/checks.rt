@@ -34,10 +34,7 @@ fn print_checks<S: Suite>(
 }
 
 /// Whether each file brings its status and its text under a suite. A row is file, group, status and text.
-fn agrees<S: Suite>(
-    alloc: Global,
-    rows: &[(&str, &str, u8, &str)],
-) -> Result<bool, AllocError> {
+fn agrees<S: Suite>(alloc: Global, rows: &[(&str, &str, u8, &str)]) -> Result<bool, AllocError> {
     for (file, group, status, text) in rows {
         let (answer, out) = print_checks::<S>(alloc, file, group)?;
         if answer != *status || out.as_slice() != text.as_bytes() {
