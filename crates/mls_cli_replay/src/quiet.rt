@@ -1,6 +1,6 @@
 //! The actions whose texts aren't as expected, and the end of a replay.
 
-ghost use Rattle.std.specs.Prelude.{◌≡◌, ◌≢◌, ◌++◌, map, option_map, IfOk, IfErr, OnOk, OnErr};
+ghost use Rattle.std.specs.Prelude.{◌≡◌, ◌≢◌, ◌≤◌, ◌++◌, map, option_map, IfOk, IfErr, OnOk};
 ghost use Rattle.mls_cli_text.specs.InputOutput.{write_failed};
 ghost use Rattle.mls_cli_replay.specs.Actions.{outcomes, run_all};
 ghost use Rattle.mls_cli_replay.specs.Quiet.{PrintsQuiet, quiet_action, quiet_actions};
