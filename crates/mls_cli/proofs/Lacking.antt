@@ -1,5 +1,5 @@
 -- Words that name neither a job nor a refusal, though clap finds no fault in them, are a mistake.
-use Rattle.std.proofs.Common.{◌≡◌, ⊥, List, Option, Some, None, inl, inr}
+use Rattle.std.proofs.Common.{◌≡◌, List, Option, Some, None, inl, inr}
 use Rattle.clap.specs.Words.{Row, Text}
 use Rattle.mls_cli.specs.Arguments.{ComesOf, IsHelp, Lacks}
 use Rattle.mls_cli.specs.ExplainArguments.{lacking, told_on}

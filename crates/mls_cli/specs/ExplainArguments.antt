@@ -1,5 +1,5 @@
 -- The option `--explain REFUSAL`, which stands for no job: what it asks for, and why words name no job.
-use Rattle.std.specs.Prelude.{◌≡◌, ℕ, codes, option_map, Option, Some, None}
+use Rattle.std.specs.Prelude.{ℕ, List, codes, Option, Some, None}
 use Rattle.clap.specs.Words.{Row, Rule, Text, new_rule}
 use Rattle.clap.specs.declared.error.kind.ErrorKind.{ErrorKind}
 use Rattle.clap.specs.declared.error.kind.ErrorKind.TheVariants as kind
