@@ -3,3 +3,4 @@ pub mod CheckFaults
 pub mod RuleLines
 pub mod GroupInfo
 pub mod Unchecked
+pub mod LongList

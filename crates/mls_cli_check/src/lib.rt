@@ -3,6 +3,7 @@
 
 mod check_error;
 mod group_info;
+mod long_list;
 mod report;
 mod tree;
 mod unchecked;

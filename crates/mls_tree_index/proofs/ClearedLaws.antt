@@ -143,6 +143,20 @@ module _ (x : ℕ) (ns : List ℕ) (distinct : is_distinct nat_eq (x ∷ ns) ≡
         first_here : (y : ℕ) → (x == y) ≡ true → has (x ∷ ns) y ≡ true
         first_here y same = ap (has (x ∷ ns)) (sym (eqb-true x y same)) ∙ first_has
 
+  -- the first comes back before the rest
+  pub back_without : (k : KeyKind) (cs : List (Option Node)) → Without k x cs (cells_without 0 (x ∷ ns) cs) (cells_without 0 ns cs)
+  back_without k cs = record {
+    wide = length_cleared 0 ns cs;
+    long = length_cleared 0 (x ∷ ns) cs ∙ sym (length_cleared 0 ns cs);
+    part = cleared_part k ns cs;
+    here = key_left k ns cs x first_once;
+    blank = key_cleared k (x ∷ ns) cs x first_has;
+    others = λ y other. elim (cases_Bool (has ns y)) [
+      | inl on ↦ key_cleared k (x ∷ ns) cs y (rest_has y on) ∙ sym (key_cleared k ns cs y on)
+      | inr out ↦ key_left k (x ∷ ns) cs y (more_has y (ne_eqb x y (λ e. other (sym e))) ∙ out) ∙ sym (key_left k ns cs y out)
+    ];
+  }
+
 pub all_left : (x : ℕ) (ns : List ℕ) (distinct : is_distinct nat_eq (x ∷ ns) ≡ true) (t : Listing) (cells c : List (Option Node)) → HasPlaces t.kind (x ∷ ns) cells c → Indexes (cells_without 0 ns (cells_without 0 (x ∷ []) c)) t → Indexes (cells_without 0 (x ∷ ns) c) t
 all_left x ns distinct t cells c places = indexes_alike t _ _ (both_cleared x ns distinct t.kind cells c places)
 

@@ -73,21 +73,18 @@ module _ (kind : KeyKind) where
   }
 
   -- none of the cells
-  pub front_none : (cs : List (Option Node)) (s : Listing) → s.kind ≡ kind → s.numbers ≡ [] → s.repeats ≡ 0 → Indexes (front 0 cs) s
+  pub none_indexed : (c : List (Option Node)) (s : Listing) → s.kind ≡ kind → s.numbers ≡ [] → s.repeats ≡ 0 → ((y : ℕ) → key_in kind c y ≡ None) → Indexes c s
   unfolding repeats_in
-  front_none cs s same numbers repeats =
-      indexes_alike s [] (front 0 cs) (λ y. ap (λ j. key_of j None) same ∙ none_blank kind ∙ sym (none_above 0 cs y (omega arith)) ∙ ap (λ j. key_in j (front 0 cs) y) (sym same))
+  none_indexed c s same numbers repeats blank =
+      indexes_alike s [] c (λ y. ap (λ j. key_of j None) same ∙ none_blank kind ∙ sym (blank y) ∙ ap (λ j. key_in j c y) (sym same))
       (indexes_from kind [] [] s same numbers none_listed repeats)
 
--- and all of them
+-- all of them
 whole : (k : KeyKind) (n : ℕ) (cs : List (Option Node)) → length cs ≤ n → (y : ℕ) → key_in k (front n cs) y ≡ key_in k cs y
 whole k n cs wide y = elim (cases_lt y n) [
   | inl lt ↦ same_below k n cs y lt
   | inr ge ↦ none_above k n cs y ge ∙ sym (ap (key_of k) (get_or_past cs y None (omega arith)) ∙ none_blank k)
 ]
-
-pub front_all : (n : ℕ) (cs : List (Option Node)) (t : Listing) → length cs ≤ n → Indexes (front n cs) t → Indexes cs t
-front_all n cs t wide = indexes_alike t (front n cs) cs (whole t.kind n cs wide)
 
 pub front_whole : (n : ℕ) (cs : List (Option Node)) (t : Listing) → length cs ≤ n → Indexes cs t → Indexes (front n cs) t
 front_whole n cs t wide = indexes_alike t cs (front n cs) (λ y. sym (whole t.kind n cs wide y))

@@ -10,7 +10,7 @@ use Rattle.std.specs.Cmp.Lexicographic.{slice_cmp, texts_ties, same_text}
 use Rattle.mls_tree_index.specs.Keys.{is_key}
 use Rattle.mls_tree_index.specs.Order.{entry_cmp}
 
-entry_total : IsTotalOrder entry_cmp
+pub entry_total : IsTotalOrder entry_cmp
 entry_total = then_total (on_total (λ e. e.0) nat_list_cmp_total) (on_total (λ e. e.1) nat_cmp_total)
 
 pub is_less : (r : Ordering) → is_lt r ≡ true → r ≡ Less

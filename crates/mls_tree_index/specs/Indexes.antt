@@ -1,5 +1,5 @@
 -- What an index is of some cells.
-use Rattle.std.specs.Prelude.{◌≡◌, ◌<◌, ◌-◌, ◌∷◌, ◌++◌, ℕ, List, length, Option, None, true, false, Bool, get_or}
+use Rattle.std.specs.Prelude.{◌≡◌, ◌<◌, ◌-◌, ◌∷◌, ◌++◌, ℕ, List, length, Option, None, Some, true, false, Bool, get_or}
 use Rattle.std.specs.Ordering.{is_lt}
 use Rattle.mls_leaf.specs.declared.node.Node.{Node}
 use Rattle.mls_tree_index.specs.declared.kind.KeyKind.{KeyKind}
@@ -76,6 +76,12 @@ IsLowStart t cells key x start = 0 < start → is_lower_at t cells (start - 1) k
 -- the entry at an end doesn't come before a key with a number
 abbrev pub IsHighEnd : Listing → List (Option Node) → List ℕ → ℕ → ℕ → Type 0
 IsHighEnd t cells key x end = end < length t.numbers → is_lower_at t cells end key x ≡ false
+
+-- from one index to the other the entry of cell x, with this key, went to its place
+abbrev pub PutsCell : ℕ → List ℕ → ℕ → List (Option Node) → Listing → Listing → Type 0
+PutsCell place key x cells old new =
+    (b c : List (Option Node)) → Without old.kind x cells b c → key_in old.kind cells x ≡ Some key →
+    IsGap (key_in old.kind b) old.numbers (key, x) place → Indexes b old → Indexes c new
 
 -- from one index to the other cell x was entered
 abbrev pub EntersCell : ℕ → List (Option Node) → Listing → Listing → Type 0

@@ -2,5 +2,6 @@ pub mod Keys
 pub mod Order
 pub mod Indexes
 pub mod BlankedCells
+pub mod Entries
 pub mod Moves
 pub mod Gaps

@@ -1,11 +1,12 @@
 //! The index: numbers of cells in the order of their keys.
 
 ghost use Rattle.std.specs.Prelude.{◌≡◌, ◌+◌, ◌<◌, ◌≤◌, ◌^◌, suc, length, vec_len, IfOk, OnOk};
-ghost use Rattle.std.specs.List.{remove};
+ghost use Rattle.std.specs.List.{insert, remove};
 ghost use Rattle.std.specs.Vec.{vec_capacity};
 ghost use Rattle.mls_tree_index.specs.Keys.{is_key_at, IsHolder};
-ghost use Rattle.mls_tree_index.specs.Indexes.{Indexes, SameIndex, AnswersAround, AnswersHeld, EntersCell, LeavesCell, AnswersDistinct};
+ghost use Rattle.mls_tree_index.specs.Indexes.{Indexes, SameIndex, AnswersAround, AnswersHeld, PutsCell, EntersCell, LeavesCell, AnswersDistinct};
 
+use crate::entries::sort_entries;
 use crate::kind::KeyKind;
 use mls_tree_slot::Slot;
 use std::alloc::{AllocError, Global};
@@ -43,20 +44,21 @@ fn take_out(numbers: &mut Vec<u32>, place: usize)
 }
 
 impl Index {
-    /// The index of these cells. The cells are entered one by one, so that in the worst case the numbers that are moved
-    /// grow with the square of how many there are.
+    /// The index of these cells. Their entries are sorted, and each is put behind those before it.
     pub fn build(alloc: Global, kind: KeyKind, cells: &[Slot]) -> Result<Index, AllocError>
         requires { length cells.now ≤ 2 ^ 32 }
         ensures kind { IfOk result (λ t. t.kind ≡ kind) }
         ensures built { IfOk result (λ t. Indexes cells.now t) }
     {
+        let entries = sort_entries(alloc, kind, cells)?;
         let mut index = Index {
             kind,
-            numbers: Vec::with_capacity(alloc, cells.len())?,
+            numbers: Vec::with_capacity(alloc, entries.len())?,
             repeats: 0,
         };
-        for x in 0..cells.len() {
-            index.enter(cells, x as u32);
+        for place in 0..entries.len() {
+            let entry = entries[place];
+            index.put(cells, place, entry.key, entry.number);
         }
         Ok(index)
     }
@@ -108,6 +110,25 @@ impl Index {
         }
     }
 
+    /// Puts the entry of a cell, with this key, at its place.
+    fn put(&mut self, cells: &[Slot], place: usize, key: &[u8], x: u32)
+        requires room { 0 < self.old.room }
+        requires place { place ≤ length self.old.numbers }
+        ensures kind { self.new.kind ≡ self.old.kind }
+        ensures room { self.old.room ≤ suc self.new.room }
+        ensures numbers { self.new.numbers ≡ insert self.old.numbers place x }
+        ensures put { PutsCell place key.now x cells.now self.old self.new }
+    {
+        let repeats = self.is_beside(cells, place, key);
+        // There is room, so this isn't refused.
+        let Ok(()) = self.numbers.insert(place, x) else {
+            return;
+        };
+        if repeats {
+            self.repeats = self.repeats.saturating_add(1);
+        }
+    }
+
     /// Enters a cell: after it was filled, where it was blank. Where the cell has no key, all stays.
     pub fn enter(&mut self, cells: &[Slot], x: u32)
         requires { 0 < self.old.room }
@@ -119,14 +140,7 @@ impl Index {
             return;
         };
         let place = self.place(cells, key, x);
-        let repeats = self.is_beside(cells, place, key);
-        // There is room, so this isn't refused.
-        let Ok(()) = self.numbers.insert(place, x) else {
-            return;
-        };
-        if repeats {
-            self.repeats = self.repeats.saturating_add(1);
-        }
+        self.put(cells, place, key, x);
     }
 
     /// Takes a cell out: before it is blanked or replaced. Where the cell has no key, all stays.

@@ -2,6 +2,7 @@
 #![tactic(auto)]
 
 mod beside;
+mod entries;
 mod gaps;
 mod index;
 mod keys;

@@ -11,7 +11,7 @@ use mls_tree_slot::Slot;
 use std::cmp::Ordering;
 
 /// The order of two keys. Most differ in one of their first bytes, and a comparison of slices begins with more.
-fn compare(own: &[u8], key: &[u8]) -> Ordering
+pub(crate) fn compare(own: &[u8], key: &[u8]) -> Ordering
     ensures { result ≡ slice_cmp nat_cmp own.now key.now }
 {
     let both = own.len().min(key.len());

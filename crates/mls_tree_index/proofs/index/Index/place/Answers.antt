@@ -1,8 +1,5 @@
-use Rattle.std.proofs.Common.{◌≡◌, arith, sym, subst, ap}
-use Rattle.std.specs.Ordering.{is_lt}
-use Rattle.std.specs.Prelude.{◌<◌, false, length, get_or}
+use Rattle.std.proofs.Common.{◌≡◌, arith}
 use Rattle.mls_tree_index.specs.Keys.{key_in}
-use Rattle.mls_tree_index.specs.Order.{entry_at, entry_cmp}
 use Rattle.mls_tree_index.proofs.EntryLaws.{gap_between}
 use Rattle.mls_tree_index.proofs.index.Index.place.Goals as goal
 

@@ -1,0 +1,278 @@
+-- Laws of entries that are sorted, and of an index that is built of them.
+use Rattle.std.proofs.Common.{◌≡◌, ℕ, zero, suc, ◌+◌, ◌<◌, ◌≤◌, nat_eq, true, cond, List, [], ◌∷◌, ◌++◌, length, get_or, take, drop, Option, Some, None, is_some, refl, sym, ◌∙◌, ap, subst, arith, inl, inr, eq-eqb, ne_eqb}
+use Rattle.std.proofs.lemmas.Bool.{cases_Bool, cases_lt, cases_eq}
+use Rattle.std.proofs.lemmas.List.{get_or_past, get_or-map, get_or-take, length-take, map-append, take_more, drop_more, drop_all}
+use Rattle.std.proofs.lemmas.List.Edits.{insert_end}
+use Rattle.std.proofs.lemmas.List.Elements.{All-nil, All-push}
+use Rattle.std.proofs.lemmas.List.MinMax.{ranks_by}
+use Rattle.std.proofs.lemmas.List.Sorted.{sum_by-IsPermutation, IsPermutation-map, All-permutation, sorted_far}
+use Rattle.std.proofs.lemmas.List.Sums.{sum_by-cons}
+use Rattle.std.specs.List.{All, sum_by, insert}
+use Rattle.std.specs.List.Sorted.{IsPermutation, IsSortedBy}
+use Rattle.std.specs.Option.{unwrap_or}
+use Rattle.std.specs.Ordering.{is_lt}
+use Rattle.mls_leaf.specs.declared.node.Node.{Node}
+use Rattle.mls_tree_model.specs.Sets.{has, count, is_distinct}
+use Rattle.mls_tree_model.proofs.CountLaws.{count-append, count_none, distinct_from}
+use Rattle.mls_tree_index.specs.declared.entries.Entry.{Entry}
+use Rattle.mls_tree_index.specs.declared.kind.KeyKind.{KeyKind}
+use Rattle.mls_tree_index.specs.Keys.{key_of, key_in}
+use Rattle.mls_tree_index.specs.Order.{Entries, IsGap, entry_at, entry_cmp}
+use Rattle.mls_tree_index.specs.Indexes.{Listing, Indexes, Without, PutsCell}
+use Rattle.mls_tree_index.specs.Entries.{entry_of, numbers_of, AreEntries, EntriesAscend}
+use Rattle.mls_tree_index.specs.BlankedCells.{cells_without}
+use Rattle.mls_tree_index.proofs.OrderLaws.{entry_total, is_above}
+use Rattle.mls_tree_index.proofs.CountLaws.{none_blank}
+use Rattle.mls_tree_index.proofs.FrontLaws.{none_indexed}
+use Rattle.mls_tree_index.proofs.ClearedLaws.{key_cleared, key_left, cleared_part, cleared_none, rest_distinct, back_without}
+
+-- ---- how often a list has a number
+
+count_cons : (x y : ℕ) (ys : List ℕ) → count nat_eq x (y ∷ ys) ≡ cond (nat_eq y x) 1 0 + count nat_eq x ys
+unfolding count
+count_cons x y ys = refl
+
+count_nil : (x : ℕ) → count nat_eq x [] ≡ 0
+unfolding count
+count_nil x = refl
+
+-- 1 for each that is the same
+hit : ℕ → ℕ → ℕ
+hit x y = cond (nat_eq y x) 1 0
+
+count_sum : (x : ℕ) (ys : List ℕ) → count nat_eq x ys ≡ sum_by (hit x) ys
+unfolding count hit
+count_sum x [] = refl
+count_sum x (y ∷ ys) = ap (λ n. cond (nat_eq y x) 1 0 + n) (count_sum x ys) ∙ sym (sum_by-cons (hit x) y ys)
+
+-- it doesn't depend on the order
+count_moved : (x : ℕ) (xs ys : List ℕ) → IsPermutation xs ys → count nat_eq x ys ≡ count nat_eq x xs
+count_moved x xs ys moved = count_sum x ys ∙ sum_by-IsPermutation (hit x) xs ys moved ∙ sym (count_sum x xs)
+
+count_first : (x y : ℕ) (ys : List ℕ) → y ≡ x → count nat_eq x (y ∷ ys) ≡ 1 + count nat_eq x ys
+count_first x y ys same = count_cons x y ys ∙ ap (λ v. cond v 1 0 + count nat_eq x ys) (eq-eqb y x same)
+
+count_later : (x y : ℕ) (ys : List ℕ) → (y ≡ x → ⊥) → count nat_eq x (y ∷ ys) ≡ count nat_eq x ys
+count_later x y ys other = count_cons x y ys ∙ ap (λ v. cond v 1 0 + count nat_eq x ys) (ne_eqb y x other) ∙ plain (count nat_eq x ys)
+  where
+    plain : (n : ℕ) → 0 + n ≡ n
+    plain n = omega arith
+
+count_grows : (x y : ℕ) (ys : List ℕ) → count nat_eq x ys ≤ count nat_eq x (y ∷ ys)
+count_grows x y ys = elim (cases_eq y x) [
+  | inl same ↦ let one = count_first x y ys same in omega arith
+  | inr other ↦ let none = count_later x y ys other in omega arith
+]
+
+counted_there : (ns : List ℕ) (x j : ℕ) → j < length ns → get_or ns j 0 ≡ x → 1 ≤ count nat_eq x ns
+counted_there [] x j lt is = absurd (omega arith)
+counted_there (n ∷ ns) x zero lt is = let one = count_first x n ns is in omega arith
+counted_there (n ∷ ns) x (suc j) lt is = let more = count_grows x n ns in let rest = counted_there ns x j (omega arith) is in omega arith
+
+counted_twice : (ns : List ℕ) (x i j : ℕ) → i < j → j < length ns → get_or ns i 0 ≡ x → get_or ns j 0 ≡ x → 2 ≤ count nat_eq x ns
+counted_twice [] x i j less lt one two = absurd (omega arith)
+counted_twice (n ∷ ns) x i zero less lt one two = absurd (omega arith)
+counted_twice (n ∷ ns) x zero (suc j) less lt one two =
+    let first = count_first x n ns one in
+    let rest = counted_there ns x j (omega arith) two in
+    omega arith
+counted_twice (n ∷ ns) x (suc i) (suc j) less lt one two =
+    let more = count_grows x n ns in
+    let rest = counted_twice ns x i j (omega arith) (omega arith) one two in
+    omega arith
+
+-- ---- entries in another order
+
+module _ (at : ℕ → Option (List ℕ)) where
+  few : (o : Option (List ℕ)) → cond (is_some o) 1 0 ≤ 1
+  few None = omega arith
+  few (Some k) = omega arith
+
+  number_at : (es : List Entry) (i : ℕ) (d : Entry) → i < length es → get_or (numbers_of es) i 0 ≡ (get_or es i d).number
+  number_at es i d lt = get_or-map (λ e. e.number) es i d 0 lt
+
+  pub entries_moved : (es fs : List Entry) → IsPermutation es fs → AreEntries at es → AreEntries at fs
+  entries_moved es fs moved are = record {
+    keyed = All-permutation (λ e. at e.number ≡ Some e.key.now) es fs moved are.keyed;
+    once = λ x. count_moved x (numbers_of es) (numbers_of fs) (IsPermutation-map (λ e. e.number) es fs moved) ∙ are.once x;
+  }
+
+  length_numbers : (es : List Entry) → length (numbers_of es) ≡ length es
+  length_numbers [] = refl
+  length_numbers (e ∷ es) = ap suc (length_numbers es)
+
+  apart : (es : List Entry) → AreEntries at es → (i j : ℕ) (d : Entry) → i < j → j < length es → (get_or es j d).number ≡ (get_or es i d).number → ⊥
+  apart es are i j d less lt same =
+      let wide = length_numbers es in
+      let twice = counted_twice (numbers_of es) (get_or es i d).number i j less (omega arith) (number_at es i d (omega arith)) (number_at es j d lt ∙ same) in
+      let once = are.once (get_or es i d).number in
+      let low = few (at (get_or es i d).number) in
+      absurd (omega arith)
+
+  pub ascends : (es : List Entry) → AreEntries at es → IsSortedBy (λ x y. is_lt (entry_cmp (entry_of x) (entry_of y))) es → EntriesAscend es
+  ascends es are sorted = λ i j d less lt.
+      is_above (entry_of (get_or es j d)) (entry_of (get_or es i d))
+      (sorted_far (λ x y. is_lt (entry_cmp (entry_of x) (entry_of y))) (ranks_by entry_total entry_of) es sorted i j d (omega arith) lt)
+      (apart es are i j d less lt)
+
+-- ---- entries of the first cells
+
+-- the entries of all numbers below n
+pub record AreBelow (at : ℕ → Option (List ℕ)) (n : ℕ) (es : List Entry) : Type 0 where
+  pub keyed : All (λ e. at e.number ≡ Some e.key.now) es
+  pub once : (x : ℕ) → x < n → count nat_eq x (numbers_of es) ≡ cond (is_some (at x)) 1 0
+  pub none : (x : ℕ) → n ≤ x → count nat_eq x (numbers_of es) ≡ 0
+
+module _ (at : ℕ → Option (List ℕ)) where
+  pub below_none : AreBelow at 0 []
+  below_none = record { keyed = All-nil _; once = λ x lt. absurd (omega arith); none = λ x ge. count_nil x }
+
+  pub below_same : (n : ℕ) (es : List Entry) → at n ≡ None → AreBelow at n es → AreBelow at (n + 1) es
+  below_same n es blank are = record {
+    keyed = are.keyed;
+    once = λ x lt. elim (cases_lt x n) [
+      | inl less ↦ are.once x less
+      | inr ge ↦ let same : n ≡ x = omega arith in are.none x ge ∙ sym (ap (λ o. cond (is_some o) 1 0) (ap at (sym same) ∙ blank))
+    ];
+    none = λ x ge. are.none x (omega arith);
+  }
+
+  module _ (n : ℕ) (es : List Entry) (e : Entry) (here : at n ≡ Some e.key.now) (is : e.number ≡ n) (are : AreBelow at n es) where
+    counts : (x : ℕ) → count nat_eq x (numbers_of (es ++ e ∷ [])) ≡ count nat_eq x (numbers_of es) + count nat_eq x (e.number ∷ [])
+    counts x = ap (count nat_eq x) (map-append (λ e. e.number) es (e ∷ [])) ∙ count-append nat_eq x (numbers_of es) (e.number ∷ [])
+
+    other : (x : ℕ) → (n ≡ x → ⊥) → count nat_eq x (numbers_of (es ++ e ∷ [])) ≡ count nat_eq x (numbers_of es)
+    other x apart =
+        let more = counts x in
+        let none = count_later x e.number [] (λ same. apart (sym is ∙ same)) in
+        let nil = count_nil x in
+        omega arith
+
+    pub below_more : AreBelow at (n + 1) (es ++ e ∷ [])
+    below_more = record {
+      keyed = All-push (λ e. at e.number ≡ Some e.key.now) es e are.keyed (ap at is ∙ here);
+      once = λ x lt. elim (cases_lt x n) [
+        | inl less ↦ other x (λ same. absurd (omega arith)) ∙ are.once x less
+        | inr ge ↦
+            let same : n ≡ x = omega arith in
+            let more = counts x in
+            let before = are.none x ge in
+            let one = count_first x e.number [] (is ∙ same) in
+            let nil = count_nil x in
+            let all : count nat_eq x (numbers_of (es ++ e ∷ [])) ≡ 1 = omega arith in
+            all ∙ sym (ap (λ o. cond (is_some o) 1 0) (ap at (sym same) ∙ here))
+      ];
+      none = λ x ge. other x (λ same. absurd (omega arith)) ∙ are.none x (omega arith);
+    }
+
+  pub below_all : (n : ℕ) (es : List Entry) → ((x : ℕ) → n ≤ x → at x ≡ None) → AreBelow at n es → AreEntries at es
+  below_all n es blank are = record {
+    keyed = are.keyed;
+    once = λ x. elim (cases_lt x n) [
+      | inl less ↦ are.once x less
+      | inr ge ↦ are.none x ge ∙ sym (ap (λ o. cond (is_some o) 1 0) (blank x ge))
+    ];
+  }
+
+-- cells past the end have no keys
+pub past_cells : (kind : KeyKind) (cells : List (Option Node)) (n : ℕ) → length cells ≤ n → (x : ℕ) → n ≤ x → key_in kind cells x ≡ None
+past_cells kind cells n wide x ge = ap (key_of kind) (get_or_past cells x None (omega arith)) ∙ none_blank kind
+
+-- ---- an index that is built of entries in their order
+
+number_same : (a : ℕ) → nat_eq a a ≡ true
+number_same a = eq-eqb a a refl
+
+dropped_distinct : (i : ℕ) (ns : List ℕ) → is_distinct nat_eq ns ≡ true → is_distinct nat_eq (drop i ns) ≡ true
+unfolding is_distinct
+dropped_distinct zero ns h = h
+dropped_distinct (suc i) [] h = refl
+dropped_distinct (suc i) (n ∷ ns) h = dropped_distinct i ns (rest_distinct n ns h)
+
+module _ (kind : KeyKind) (cells : List (Option Node)) (es : List Entry) (are : AreEntries (key_in kind cells) es) where
+  distinct : is_distinct nat_eq (numbers_of es) ≡ true
+  distinct = distinct_from nat_eq number_same (numbers_of es) (λ x. let once = are.once x in let low = few (key_in kind cells) (key_in kind cells x) in omega arith)
+
+  -- the cells without those of the entries from place i on
+  abbrev pub built : ℕ → List (Option Node)
+  built i = cells_without 0 (drop i (numbers_of es)) cells
+
+  all_blank : (y : ℕ) → key_in kind (built 0) y ≡ None
+  all_blank y = elim (cases_Bool (has (numbers_of es) y)) [
+    | inl on ↦ key_cleared kind (numbers_of es) cells y on
+    | inr out ↦ key_left kind (numbers_of es) cells y out ∙ keyless (key_in kind cells y) (sym (are.once y) ∙ count_none (numbers_of es) y out)
+  ]
+    where
+      keyless : (o : Option (List ℕ)) → ◌≡◌ {A = ℕ} (cond (is_some o) 1 0) 0 → o ≡ None
+      keyless None h = refl
+      keyless (Some k) h = absurd (omega arith)
+
+  pub built_none : (s : Listing) → s.kind ≡ kind → s.numbers ≡ [] → s.repeats ≡ 0 → Indexes (built 0) s
+  built_none s same numbers repeats = none_indexed kind (built 0) s same numbers repeats all_blank
+
+  pub built_all : (i : ℕ) (t : Listing) → length es ≤ i → Indexes (built i) t → Indexes cells t
+  built_all i t all is =
+      let wide = length_numbers (key_in kind cells) es in
+      cleared_none t cells (subst (λ ns. Indexes (cells_without 0 ns cells) t) (drop_all i (numbers_of es) (omega arith)) is)
+
+  module _ (i : ℕ) (d : Entry) (lt : i < length es) where
+    parts : drop i (numbers_of es) ≡ (get_or es i d).number ∷ drop (i + 1) (numbers_of es)
+    parts =
+        let wide = length_numbers (key_in kind cells) es in
+        drop_more (numbers_of es) i 0 (omega arith) ∙ ap (λ n. n ∷ drop (i + 1) (numbers_of es)) (number_at (key_in kind cells) es i d lt)
+
+    pub built_without : Without kind (get_or es i d).number cells (built i) (built (i + 1))
+    built_without =
+        subst (λ ns. Without kind (get_or es i d).number cells (cells_without 0 ns cells) (built (i + 1))) (sym parts)
+        (back_without (get_or es i d).number (drop (i + 1) (numbers_of es)) (subst (λ ns. is_distinct nat_eq ns ≡ true) parts (dropped_distinct i (numbers_of es) distinct)) kind cells)
+
+    pub built_key : key_in kind cells (get_or es i d).number ≡ Some (get_or es i d).key.now
+    built_key = are.keyed i d lt
+
+    pub built_length : (ns : List ℕ) → ns ≡ take i (numbers_of es) → length ns ≡ i
+    built_length ns is =
+        let wide = length_numbers (key_in kind cells) es in
+        let few = length-take i (numbers_of es) in
+        let same = ap length is in
+        omega arith
+
+    -- the numbers so far, with the next one
+    pub built_numbers : (ns : List ℕ) → ns ≡ take i (numbers_of es) → insert ns i (get_or es i d).number ≡ take (i + 1) (numbers_of es)
+    built_numbers ns is =
+        let wide = length_numbers (key_in kind cells) es in
+        ap (λ p. insert ns p (get_or es i d).number) (sym (built_length ns is))
+        ∙ insert_end ns (get_or es i d).number
+        ∙ ap (λ xs. xs ++ (get_or es i d).number ∷ []) is
+        ∙ ap (λ n. take i (numbers_of es) ++ n ∷ []) (sym (number_at (key_in kind cells) es i d lt))
+        ∙ sym (take_more (numbers_of es) i 0 (omega arith))
+
+    -- the next entry goes behind them
+    pub built_gap : EntriesAscend es → (ns : List ℕ) → ns ≡ take i (numbers_of es) → Entries (key_in kind (built i)) ns → IsGap (key_in kind (built i)) ns (entry_of (get_or es i d)) i
+    built_gap up ns is entries = record {
+      within = let all = built_length ns is in omega arith;
+      below = λ k less. let all = built_length ns is in ap (λ e. entry_cmp e (entry_of (get_or es i d))) (before k (omega arith)) ∙ up k i d less lt;
+      above = λ k ge less. let all = built_length ns is in absurd (omega arith);
+    }
+      where
+        low : (k : ℕ) → k < length ns → k < i
+        low k less = let wide = ap length is in let few = length-take i (numbers_of es) in omega arith
+
+        number : (k : ℕ) → k < length ns → get_or ns k 0 ≡ (get_or es k d).number
+        number k less =
+            let at = low k less in
+            ap (λ xs. get_or xs k 0) is ∙ get_or-take i (numbers_of es) k 0 at ∙ number_at (key_in kind cells) es k d (omega arith)
+
+        before : (k : ℕ) → k < length ns → entry_at (key_in kind (built i)) (get_or ns k 0) ≡ entry_of (get_or es k d)
+        before k less =
+            let at = low k less in
+            let key : key_in kind (built i) (get_or ns k 0) ≡ Some (get_or es k d).key.now = sym (cleared_part kind (drop i (numbers_of es)) cells (get_or ns k 0) (entries.keyed k less)) ∙ ap (key_in kind cells) (number k less) ∙ are.keyed k d (omega arith) in
+            ap (λ o. (unwrap_or o [], get_or ns k 0)) key ∙ ap (λ n. ((get_or es k d).key.now, n)) (number k less)
+
+    -- and there it is put
+    pub built_put : EntriesAscend es → (e : Entry) → e ≡ get_or es i d → (old new : Listing) → old.kind ≡ kind → old.numbers ≡ take i (numbers_of es) → PutsCell i e.key.now e.number cells old new → Indexes (built i) old → Indexes (built (i + 1)) new
+    built_put up e here old new same numbers puts is =
+        subst (λ x. PutsCell i x.key.now x.number cells old new) here puts (built i) (built (i + 1))
+        (subst (λ k. Without k (get_or es i d).number cells (built i) (built (i + 1))) (sym same) built_without)
+        (ap (λ k. key_in k cells (get_or es i d).number) same ∙ built_key)
+        (subst (λ k. IsGap (key_in k (built i)) old.numbers (entry_of (get_or es i d)) i) (sym same) (built_gap up old.numbers numbers (subst (λ k. Entries (key_in k (built i)) old.numbers) same is.entries)))
+        is
