@@ -2,3 +2,5 @@ pub mod Saying
 mod Reading
 mod Numbers
 mod Lacking
+mod Adding
+mod Matching
