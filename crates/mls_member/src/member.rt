@@ -79,6 +79,13 @@ impl<S: Suite> Member<S> {
         &self.keys
     }
 
+    /// The private key of its signatures.
+    pub fn signing_key(&self) -> &Secret
+        ensures { result.now ≡ self.now.signing }
+    {
+        &self.signing
+    }
+
     /// The index of its leaf.
     pub fn leaf_index(&self) -> u32
         ensures { result ≡ self.now.keys.leaf }
