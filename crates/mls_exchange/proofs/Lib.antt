@@ -1,0 +1,6 @@
+pub mod Texts
+pub mod Spelled
+pub mod Genuine
+pub mod Sealed
+pub mod Uses
+pub mod Arriving
