@@ -1,0 +1,6 @@
+pub mod Nodes
+pub mod Passing
+pub mod KeptKeys
+pub mod RatchetLaws
+pub mod HeldLaws
+pub mod TreeLaws
