@@ -1,0 +1,4 @@
+pub mod Contents
+pub mod Sealed
+pub mod Guards
+pub mod Opening
