@@ -31,7 +31,7 @@ use Rattle.mls_exchange.specs.State.{State, member_at, after_draft}
 use Rattle.mls_exchange.specs.Contents.{application_content, signed_text, within_limit}
 use Rattle.mls_exchange.specs.Sealing.{own_sender_data, seal_message}
 use Rattle.mls_exchange.specs.Opening.{place_checks, signature_check, data_of, opened, open_read, open_message}
-use Rattle.mls_exchange.specs.Laws.{IsInRange, ShareEpoch, IsOwnLeaf, CanOpen, Arrives}
+use Rattle.mls_exchange.specs.Laws.{IsInRange, OfOneEpoch, IsOwnLeaf, CanOpen, Arrives}
 use Rattle.mls_exchange.proofs.Texts.{within}
 use Rattle.mls_exchange.proofs.Spelled.{message_fits, content_fits, guard_small, sender_fits}
 use Rattle.mls_exchange.proofs.Sealed.{own_text, signature_of, message_of, IsSealing, is_sealing, next_small, some_is}
@@ -81,7 +81,7 @@ record HasKey (r : State) (leaf g : ℕ) (key : MessageKey) : Type 0 where
   drafted : draft_key r.keys leaf g ≡ Ok draft
   same : key ≡ draft.key
 
-has_key : (secret : List ℕ) (s r : State) (leaf g : ℕ) (d : Drafted) → ShareEpoch secret s r → draft_key s.keys leaf g ≡ Ok d → CanOpen r leaf g → HasKey r leaf g d.key
+has_key : (secret : List ℕ) (s r : State) (leaf g : ℕ) (d : Drafted) → OfOneEpoch secret s r → draft_key s.keys leaf g ≡ Ok d → CanOpen r leaf g → HasKey r leaf g d.key
 has_key secret s r leaf g d share e can =
     let x = (each_is_answered secret r.keys leaf g share.other_of).drafted (held_inside r.keys leaf g can.held) can.near can.held in
     let own = (keys_are_derived secret s.keys leaf g d share.of e).key in
@@ -102,7 +102,7 @@ verified c laws s leaf d a own =
 -- ---- arriving
 
 arrived : (c : Crypto) → Lawful c → (secret : List ℕ) (s after r : State) (leaf : LeafNode) (application_data authenticated_data : List ℕ) (padding : ℕ) (seed bytes : List ℕ)
-    → IsInRange s → ShareEpoch secret s r → IsOwnLeaf c s leaf
+    → IsInRange s → OfOneEpoch secret s r → IsOwnLeaf c s leaf
     → (x : IsSealing c s application_data authenticated_data padding seed bytes after) → CanOpen r s.leaf x.generation
     → Arrives c s r leaf x.generation application_data authenticated_data bytes
 unfolding opened
@@ -140,7 +140,7 @@ arrived c laws secret s after r leaf d a padding seed bytes range share own x ca
 
 pub sealed_arrives : (c : Crypto) → Lawful c → (secret : List ℕ) (s after r : State) (leaf : LeafNode) (application_data authenticated_data : List ℕ) (padding : ℕ)
     (seed bytes : List ℕ) (generation : ℕ)
-    → IsInRange s → ShareEpoch secret s r → IsOwnLeaf c s leaf
+    → IsInRange s → OfOneEpoch secret s r → IsOwnLeaf c s leaf
     → seal_message c s application_data authenticated_data padding seed ≡ Ok (bytes, after)
     → next_generation s.keys s.leaf ≡ Some generation → CanOpen r s.leaf generation
     → Arrives c s r leaf generation application_data authenticated_data bytes

@@ -11,7 +11,7 @@ use Rattle.mls_exchange.specs.declared.open.Opened.{Opened}
 use Rattle.mls_exchange.specs.State.{State, after_draft}
 use Rattle.mls_exchange.specs.Sealing.{seal_message}
 use Rattle.mls_exchange.specs.Opening.{open_message}
-use Rattle.mls_exchange.specs.Laws.{UsesKey, Call, Seal, Open, kept_state, after_call, after_calls, IsGone, StaysGone}
+use Rattle.mls_exchange.specs.Laws.{OfOneEpoch, UsesKey, Call, Seal, Open, kept_state, after_call, after_calls, StaysInEpoch, IsGone, StaysGone}
 use Rattle.mls_exchange.proofs.Genuine.{IsOpening, is_opening}
 use Rattle.mls_exchange.proofs.Sealed.{IsSealing, is_sealing, some_is}
 
@@ -69,6 +69,61 @@ not_drafted secret t leaf g d of gone e =
       | inl low ↦ (let wrong = sym (a.used low gone) ∙ e in cc)
       | inr high ↦ (let wrong = sym (a.outside high) ∙ e in cc)
     ]
+
+-- ---- the epoch stays
+
+stays_here : (secret : List ℕ) (s : State) → IsTreeOf secret s.keys → StaysInEpoch secret s s
+stays_here secret s of = record {
+  share = record { group_id = refl; epoch = refl; context = refl; sender_data_secret = refl; nodes = refl; height = refl; of = of; other_of = of };
+  own_leaf = refl;
+  own_key = refl;
+}
+
+stays_on : (secret : List ℕ) (s r u : State) → StaysInEpoch secret s r → StaysInEpoch secret r u → StaysInEpoch secret s u
+stays_on secret s r u a b = record {
+  share = record {
+    group_id = b.share.group_id ∙ a.share.group_id;
+    epoch = b.share.epoch ∙ a.share.epoch;
+    context = b.share.context ∙ a.share.context;
+    sender_data_secret = b.share.sender_data_secret ∙ a.share.sender_data_secret;
+    nodes = b.share.nodes ∙ a.share.nodes;
+    height = b.share.height ∙ a.share.height;
+    of = a.share.of;
+    other_of = b.share.other_of;
+  };
+  own_leaf = b.own_leaf ∙ a.own_leaf;
+  own_key = b.own_key ∙ a.own_key;
+}
+
+use_stays : (secret : List ℕ) (leaf g : ℕ) (s after : State) → IsTreeOf secret s.keys → UsesKey s leaf g after → StaysInEpoch secret s after
+use_stays secret leaf g s after of u = record { share = u.share secret of; own_leaf = u.own_leaf; own_key = u.own_key }
+
+sealing_stays : (c : Crypto) (secret : List ℕ) (s : State) (application_data authenticated_data : List ℕ) (padding : ℕ) (seed : List ℕ)
+    (r : Result (List ℕ × State) ℕ) → seal_message c s application_data authenticated_data padding seed ≡ r → IsTreeOf secret s.keys
+    → StaysInEpoch secret s (kept_state s r)
+sealing_stays c secret s application_data authenticated_data padding seed (Ok x) e of =
+    let u = sealing_uses c secret s x.1 application_data authenticated_data padding seed x.0 of e in
+    use_stays secret s.leaf u.0 s x.1 of u.2
+sealing_stays c secret s application_data authenticated_data padding seed (Err n) e of = stays_here secret s of
+
+opening_stays : (c : Crypto) (secret : List ℕ) (s : State) (bytes : List ℕ) (r : Result (Opened × State) ℕ) → open_message c s bytes ≡ r
+    → IsTreeOf secret s.keys → StaysInEpoch secret s (kept_state s r)
+opening_stays c secret s bytes (Ok x) e of =
+    use_stays secret x.0.leaf_index x.0.generation s x.1 of (opening_uses c secret s x.1 bytes x.0 of e)
+opening_stays c secret s bytes (Err n) e of = stays_here secret s of
+
+call_stays : (c : Crypto) (secret : List ℕ) (s : State) (call : Call) → IsTreeOf secret s.keys → StaysInEpoch secret s (after_call c s call)
+call_stays c secret s (Seal application_data authenticated_data padding seed) of =
+    sealing_stays c secret s application_data authenticated_data padding seed _ refl of
+call_stays c secret s (Open bytes) of = opening_stays c secret s bytes _ refl of
+
+pub calls_stay : (c : Crypto) (secret : List ℕ) (s : State) (calls : List Call) → IsTreeOf secret s.keys → StaysInEpoch secret s (after_calls c s calls)
+calls_stay c secret s [] of = stays_here secret s of
+calls_stay c secret s (call ∷ calls) of =
+    let one = call_stays c secret s call of in
+    stays_on secret s (after_call c s call) _ one (calls_stay c secret (after_call c s call) calls one.share.other_of)
+
+-- ---- what is gone stays so
 
 -- a state of an encryption secret, at which a key is gone
 record Lacks (secret : List ℕ) (leaf g : ℕ) (s : State) : Type 0 where

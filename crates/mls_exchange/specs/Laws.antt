@@ -33,7 +33,7 @@ pub record IsInRange (s : State) : Type 0 where
 
 -- one place, one sender data secret, one ratchet tree, and secret trees of one encryption secret, whichever of their
 -- keys were used
-pub record ShareEpoch (encryption_secret : List ℕ) (s r : State) : Type 0 where
+pub record OfOneEpoch (encryption_secret : List ℕ) (s r : State) : Type 0 where
   pub group_id : r.group_id ≡ s.group_id
   pub epoch : r.epoch ≡ s.epoch
   pub context : r.context ≡ s.context
@@ -53,7 +53,7 @@ pub record IsOwnLeaf (c : Crypto) (s : State) (leaf : LeafNode) : Type 0 where
 -- the key of a leaf in a generation was used: it is gone, with all that it is derived from; the other keys within the
 -- window are not, no other key can be derived that couldn't before, and nothing else changed (RFC 9420, 9.2)
 pub record UsesKey (s : State) (leaf generation : ℕ) (after : State) : Type 0 where
-  pub share : (encryption_secret : List ℕ) → IsTreeOf encryption_secret s.keys → ShareEpoch encryption_secret s after
+  pub share : (encryption_secret : List ℕ) → IsTreeOf encryption_secret s.keys → OfOneEpoch encryption_secret s after
   pub own_leaf : after.leaf ≡ s.leaf
   pub own_key : after.signing ≡ s.signing
   pub keys : LosesOne s.keys leaf generation after.keys
@@ -129,7 +129,7 @@ pub record Arrives (c : Crypto) (s r : State) (leaf : LeafNode) (generation : �
 abbrev pub SealedArrives : Crypto → Type 0
 SealedArrives c = (encryption_secret : List ℕ) (s after r : State) (leaf : LeafNode) (application_data authenticated_data : List ℕ) (padding : ℕ)
     (seed bytes : List ℕ) (generation : ℕ)
-    → IsInRange s → ShareEpoch encryption_secret s r → IsOwnLeaf c s leaf
+    → IsInRange s → OfOneEpoch encryption_secret s r → IsOwnLeaf c s leaf
     → seal_message c s application_data authenticated_data padding seed ≡ Ok (bytes, after)
     → next_generation s.keys s.leaf ≡ Some generation → CanOpen r s.leaf generation
     → Arrives c s r leaf generation application_data authenticated_data bytes
@@ -154,6 +154,16 @@ after_call c s (Open bytes) = kept_state s (open_message c s bytes)
 abbrev pub after_calls : Crypto → State → List Call → State
 after_calls c s [] = s
 after_calls c s (call ∷ calls) = after_calls c (after_call c s call) calls
+
+-- whatever is called, the epoch stays, and the own leaf and signature key
+pub record StaysInEpoch (encryption_secret : List ℕ) (s after : State) : Type 0 where
+  pub share : OfOneEpoch encryption_secret s after
+  pub own_leaf : after.leaf ≡ s.leaf
+  pub own_key : after.signing ≡ s.signing
+
+abbrev pub CallsStayInEpoch : Crypto → Type 0
+CallsStayInEpoch c = (encryption_secret : List ℕ) (s : State) (calls : List Call) → IsTreeOf encryption_secret s.keys
+    → StaysInEpoch encryption_secret s (after_calls c s calls)
 
 -- a state holds nothing that the key of a leaf in a generation is derived from
 abbrev pub IsGone : State → ℕ → ℕ → Type 0

@@ -2,6 +2,7 @@
 
 ghost use Rattle.std.specs.Prelude.{◌≡◌};
 ghost use Rattle.std.specs.Option.{option_copied};
+ghost use Rattle.mls_tree_model.specs.Arrays.{leaf_in};
 ghost use Rattle.mls_exchange.specs.State.{member_at};
 ghost use Rattle.mls_exchange.specs.Contents.{within_limit};
 ghost use Rattle.mls_exchange.specs.Calls.{GivesBytes};
@@ -67,15 +68,25 @@ impl<S: Suite> Model for Exchange<S> {
     ghost view = { λ x. x.parts };
 }
 
-/// The leaf of a member among the nodes of a tree, which stands at an even place: none where it is blank or outside.
-#[tactic(auto, unfolding(crate::specs::State::member_at))]
+/// The leaf in a place: None where it is blank or holds a parent.
+fn leaf_in(slot: &Slot) -> Option<&LeafNode>
+    ensures { option_copied result ≡ leaf_in slot.now }
+{
+    match slot.node() {
+        Some(Node::Leaf(leaf)) => Some(leaf),
+        _ => None,
+    }
+}
+
+/// The leaf of a member among the nodes of a tree, where it stands at an even place: None where it is blank or outside.
 pub(crate) fn member_at(nodes: &[Slot], leaf: u32) -> Option<&LeafNode>
     ensures { option_copied result ≡ member_at nodes.now leaf }
 {
-    match nodes.get(2 * leaf as usize)?.node()? {
-        Node::Leaf(leaf) => Some(leaf),
-        Node::Parent(_) => None,
+    let place = 2 * leaf as usize;
+    if place >= nodes.len() {
+        return None;
     }
+    leaf_in(&nodes[place])
 }
 
 /// The bytes: `TooLong` (6) where there are more than an input may have.

@@ -1,6 +1,6 @@
 //! Laws of exchanges. Each function does nothing, and its contract is the laws of one subject.
 
-ghost use Rattle.mls_exchange.specs.Laws.{SealedArrives, OpenedIsGenuine, SealingUsesKey, OpeningUsesKey, GoneStaysGone};
+ghost use Rattle.mls_exchange.specs.Laws.{SealedArrives, OpenedIsGenuine, SealingUsesKey, OpeningUsesKey, CallsStayInEpoch, GoneStaysGone};
 
 use mls_suite::Suite;
 
@@ -22,4 +22,9 @@ pub fn used_keys_are_gone<S: Suite>()
     ensures sealing { SealingUsesKey S.crypto }
     ensures opening { OpeningUsesKey S.crypto }
     ensures stays { GoneStaysGone S.crypto }
+{}
+
+/// A law: whatever is called, an exchange stays in its epoch, with its own leaf and signature key.
+pub fn calls_stay_in_epoch<S: Suite>()
+    ensures { CallsStayInEpoch S.crypto }
 {}

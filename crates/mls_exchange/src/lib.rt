@@ -15,5 +15,5 @@ mod tests;
 
 pub use error::ExchangeError;
 pub use exchange::{Exchange, Parts};
-pub use laws::{opened_is_genuine, sealed_arrives, used_keys_are_gone};
+pub use laws::{calls_stay_in_epoch, opened_is_genuine, sealed_arrives, used_keys_are_gone};
 pub use open::Opened;
