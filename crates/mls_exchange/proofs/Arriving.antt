@@ -113,24 +113,24 @@ arrived c laws secret s after r leaf d a padding seed bytes range share own x ca
     let k : HasKey r s.leaf g x.draft.key = has_key secret s r s.leaf g x.draft share x.drafted can in
     let fits = sender_fits sender range.leaf (next_small s.keys s.leaf g x.next) (guard_small seed) in
     let o : OpensAsSealed c s.sender_data_secret x.draft.key sender x.content m =
-        opens c laws s.sender_data_secret x.draft.key sender s.group_id s.epoch a x.content fits in
+    opens c laws s.sender_data_secret x.draft.key sender s.group_id s.epoch a x.content fits in
     let short : length (private_message.spell m) ≤ input_limit = subst (λ (b : List ℕ). length b ≤ input_limit) (sym x.spelled) x.short in
     let spells : Spells private_message m bytes = record { fits = message_fits m range.epoch (omega (arith, short)); spelled = sym x.spelled } in
     let read : whole private_message input_limit bytes ≡ Ok m = whole_again private_message input_limit bytes m spells x.short in
     let content_short : length (private_content d (signature_of c s d a) padding) ≤ input_limit =
-        subst (λ (b : List ℕ). length b ≤ input_limit) (sym x.has.content) x.has.short in
+    subst (λ (b : List ℕ). length b ≤ input_limit) (sym x.has.content) x.has.short in
     let written : private_content_at x.content ≡ Ok (d, signature_of c s d a) =
-        ap private_content_at (sym x.has.content)
-        ∙ (is_read_as_written d (signature_of c s d a)).read padding (content_fits d (signature_of c s d a) padding (omega (arith, content_short))) in
+    ap private_content_at (sym x.has.content)
+    ∙ (is_read_as_written d (signature_of c s d a)).read padding (content_fits d (signature_of c s d a) padding (omega (arith, content_short))) in
     let text : signed_text (application_content s.group_id s.epoch s.leaf a d) r.context ≡ Ok (own_text s d a) =
-        ap (λ (z : List ℕ). signed_text (application_content s.group_id s.epoch s.leaf a d) z) share.context ∙ x.has.signed in
+    ap (λ (z : List ℕ). signed_text (application_content s.group_id s.epoch s.leaf a d) z) share.context ∙ x.has.signed in
     let said = says c r m s.leaf leaf x.content d (signature_of c s d a) (within x.content x.has.short) written
-        (signed c r m s.leaf leaf d (signature_of c s d a) (own_text s d a) text (verified c laws s leaf d a own)) in
+    (signed c r m s.leaf leaf d (signature_of c s d a) (own_text s d a) text (verified c laws s leaf d a own)) in
     let sent : open_sender_data c r.sender_data_secret m ≡ Ok sender =
-        ap (λ (z : List ℕ). open_sender_data c z m) share.sender_data_secret ∙ o.sender_data in
+    ap (λ (z : List ℕ). open_sender_data c z m) share.sender_data_secret ∙ o.sender_data in
     let stands : member_at r.nodes s.leaf ≡ Some leaf = ap (λ n. member_at n s.leaf) share.nodes ∙ own.stands in
     let content : open_content c k.draft.key sender.reuse_guard m ≡ Ok x.content =
-        ap (λ (z : MessageKey). open_content c z sender.reuse_guard m) (sym k.same) ∙ o.content in
+    ap (λ (z : MessageKey). open_content c z sender.reuse_guard m) (sym k.same) ∙ o.content in
     let all = opens_read c r m sender leaf k.draft x.content d (here r m (sym share.group_id) (sym share.epoch)) sent stands k.drafted content said in
     record {
       after = after_draft r k.draft;

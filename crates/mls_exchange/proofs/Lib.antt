@@ -4,3 +4,5 @@ pub mod Genuine
 pub mod Sealed
 pub mod Uses
 pub mod Arriving
+pub mod Refused
+pub mod Steps

@@ -64,10 +64,10 @@ has_content c s application_data authenticated_data padding content e =
     let t = bind_ok (signed_text said s.context) _ _ a.1 in
     let same = signed_is said s.context t.0 t.1 in
     let signature : signature_of c s application_data authenticated_data ≡ a.0 =
-        ap (λ (x : List ℕ). sign_with_label c s.signing (codes "FramedContentTBS") x) same ∙ ok_is _ _ t.2 in
+    ap (λ (x : List ℕ). sign_with_label c s.signing (codes "FramedContentTBS") x) same ∙ ok_is _ _ t.2 in
     let w : IsWithin (private_content application_data a.0 padding) content = is_within _ _ a.2 in
     let is : private_content application_data (signature_of c s application_data authenticated_data) padding ≡ content =
-        ap (λ (x : List ℕ). private_content application_data x padding) signature ∙ w.same in
+    ap (λ (x : List ℕ). private_content application_data x padding) signature ∙ w.same in
     record {
       signed = t.1 ∙ ap (λ (x : List ℕ). let ok : List ℕ → Result (List ℕ) ℕ = λ z. Ok z in ok x) (sym same);
       content = is;
@@ -99,7 +99,7 @@ is_sealing c s application_data authenticated_data padding seed bytes after e =
     let short = require_ok 6 (are_short application_data authenticated_data padding) _ _ next.2 in
     let same = ok_is next.0 checks.0 short.1 in
     let found : next_generation s.keys s.leaf ≡ Some checks.0 =
-        given_ok 110 (next_generation s.keys s.leaf) next.0 next.1 ∙ ap (λ (x : ℕ). let some : ℕ → Option ℕ = λ z. Some z in some x) same in
+    given_ok 110 (next_generation s.keys s.leaf) next.0 next.1 ∙ ap (λ (x : ℕ). let some : ℕ → Option ℕ = λ z. Some z in some x) same in
     let drafted = bind_ok (draft_key s.keys s.leaf checks.0) _ _ checks.2 in
     let content = bind_ok (own_content c s application_data authenticated_data padding) _ _ drafted.2 in
     let message = bind_ok (message_under c s drafted.0.key (own_sender_data s checks.0 seed) authenticated_data content.0) _ _ content.2 in

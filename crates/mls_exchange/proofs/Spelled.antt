@@ -36,17 +36,17 @@ message_fits m e lt =
     let b : length t5 < 2 ^ 30 = omega (arith, a, last_within (opaque m.group_id) t3, last_within (uint w64 m.epoch) t4, last_within (uint w8 1) t5) in
     let d : length m.authenticated_data < 2 ^ 30 = omega (arith, b, first_within (opaque m.authenticated_data) t6, text_within m.authenticated_data) in
     let f : length m.encrypted_sender_data < 2 ^ 30 =
-        omega (arith, b, last_within (opaque m.authenticated_data) t6, first_within (opaque m.encrypted_sender_data) (opaque m.ciphertext), text_within m.encrypted_sender_data) in
+    omega (arith, b, last_within (opaque m.authenticated_data) t6, first_within (opaque m.encrypted_sender_data) (opaque m.ciphertext), text_within m.encrypted_sender_data) in
     let h : length m.ciphertext < 2 ^ 30 =
-        omega (arith, b, last_within (opaque m.authenticated_data) t6, last_within (opaque m.encrypted_sender_data) (opaque m.ciphertext), text_within m.ciphertext) in
+    omega (arith, b, last_within (opaque m.authenticated_data) t6, last_within (opaque m.encrypted_sender_data) (opaque m.ciphertext), text_within m.ciphertext) in
     (g, (e, (d, (f, h))))
 
 pub content_fits : (application_data signature : List ℕ) (padding : ℕ) → length (private_content application_data signature padding) < 2 ^ 30
     → PrivateContentFits application_data signature
 unfolding private_content
 content_fits d s n lt = (
-    omega (arith, lt, first_within (opaque d ++ opaque s) (replicate n 0), first_within (opaque d) (opaque s), text_within d),
-    omega (arith, lt, first_within (opaque d ++ opaque s) (replicate n 0), last_within (opaque d) (opaque s), text_within s),
+  omega (arith, lt, first_within (opaque d ++ opaque s) (replicate n 0), first_within (opaque d) (opaque s), text_within d),
+  omega (arith, lt, first_within (opaque d ++ opaque s) (replicate n 0), last_within (opaque d) (opaque s), text_within s),
 )
 
 pub record AreShort (group_id authenticated_data application_data : List ℕ) : Type 0 where

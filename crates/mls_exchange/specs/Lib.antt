@@ -1,4 +1,5 @@
 pub mod State
+pub mod Parts
 pub mod Contents
 pub mod Said
 pub mod Sealing

@@ -4,6 +4,7 @@ ghost use Rattle.std.specs.Prelude.{◌≡◌};
 ghost use Rattle.std.specs.Option.{option_copied};
 ghost use Rattle.mls_tree_model.specs.Arrays.{leaf_in};
 ghost use Rattle.mls_exchange.specs.State.{member_at};
+ghost use Rattle.mls_exchange.specs.Parts.{state_of};
 ghost use Rattle.mls_exchange.specs.Contents.{within_limit};
 ghost use Rattle.mls_exchange.specs.Calls.{GivesBytes};
 
@@ -52,20 +53,13 @@ pub struct Exchange<S: Suite> {
     pub(crate) suite: PhantomData<S>,
 }
 
-impl Model for Parts {
-    ghost use Rattle.mls_exchange.specs.State.{State};
-
-    ghost Value = { State };
-
-    ghost view = { λ p. record { group_id = p.group_id; epoch = p.epoch; context = p.context.items; sender_data_secret = p.sender_data_secret; keys = p.keys; nodes = p.nodes.items; leaf = p.leaf; signing = p.signing } };
-}
-
 impl<S: Suite> Model for Exchange<S> {
     ghost use Rattle.mls_exchange.specs.State.{State};
+    ghost use Rattle.mls_exchange.specs.Parts.{state_of};
 
     ghost Value = { State };
 
-    ghost view = { λ x. x.parts };
+    ghost view = { λ x. state_of x.parts };
 }
 
 /// The leaf in a place: None where it is blank or holds a parent.
@@ -103,7 +97,7 @@ pub(crate) fn within_limit(bytes: Vec<u8>) -> Result<Vec<u8>, ExchangeError>
 impl<S: Suite> Exchange<S> {
     /// The exchange of these parts.
     pub fn new(alloc: Global, parts: Parts) -> Exchange<S>
-        ensures { result ≡ parts }
+        ensures { result ≡ state_of parts }
     {
         Exchange {
             parts,

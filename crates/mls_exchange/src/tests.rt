@@ -185,7 +185,10 @@ fn each_bit(rt: HostRuntime) -> Result<(), Fail> {
             message[at] ^= 1 << bit;
         }
     }
-    assert_eq!(rt; receiver.open(&message)?.application_data.as_slice(), b"x".as_slice());
+    assert_eq!(rt;
+        receiver.open(&message)?.application_data.as_slice(),
+        b"x".as_slice()
+    );
     Ok(())
 }
 
