@@ -5,7 +5,7 @@ use Rattle.std.specs.List.{list_all}
 use Rattle.std.proofs.lemmas.Bool.{cases_Bool, cond-true, cond-false, eqb-true}
 use Rattle.mls_wire.specs.Reading.{◌>>=◌, opaque, opaque_at}
 use Rattle.mls_wire.specs.Format.{IsBytes}
-use Rattle.mls_wire.specs.Laws.{bind_ok, bound, chosen, opaque_again, opaque_takes}
+use Rattle.mls_wire.specs.Laws.{bind_ok, bound, guard_is, opaque_again, opaque_takes}
 use Rattle.mls_private_message.specs.PrivateContent.{private_content, PrivateContentFits, is_padding, private_content_at}
 use Rattle.mls_private_message.specs.Laws.{IsReadAsWritten}
 
@@ -34,29 +34,22 @@ read_again d s n fits =
     ∙ bound (opaque_at (opaque s ++ replicate n 0)) (s, replicate n 0) (λ y. cond (is_padding y.1) (Ok (d, y.0)) (Err 118)) (opaque_again s (replicate n 0) fits.1)
     ∙ cond-true _ _ _ (zeros_pass n)
 
+abbrev IsWritten : List ℕ → List ℕ × List ℕ → Type 0
+IsWritten bytes p = (padding : ℕ) × PrivateContentFits p.0 p.1 × (bytes ≡ private_content p.0 p.1 padding)
+
 written_so : (application_data signature bytes : List ℕ) → IsBytes bytes → private_content_at bytes ≡ Ok (application_data, signature)
-    → (padding : ℕ) × PrivateContentFits application_data signature × (bytes ≡ private_content application_data signature padding)
+    → IsWritten bytes (application_data, signature)
 unfolding private_content private_content_at
 written_so d s bytes fits e =
     let a = bind_ok (opaque_at bytes) (λ x. opaque_at x.1 >>= λ y. cond (is_padding y.1) (Ok (x.0, y.0)) (Err 118)) (d, s) e in
     let b = bind_ok (opaque_at a.0.1) (λ y. cond (is_padding y.1) (Ok (a.0.0, y.0)) (Err 118)) (d, s) a.2 in
     let first = opaque_takes bytes a.0.0 a.0.1 fits a.1 in
     let second = opaque_takes a.0.1 b.0.0 b.0.1 first.0.rest_fits b.1 in
-    elim (chosen (is_padding b.0.1) (Ok (a.0.0, b.0.0)) (Err 118) (Ok (d, s)) b.2) [
-      | inr wrong ↦ (let impossible = wrong.1 in absurd cc)
-      | inl right ↦
-          let value = right.1 in
-          let data_is : a.0.0 ≡ d = cc in
-          let signature_is : b.0.0 ≡ s = cc in
-          let zeros = zeros_only b.0.1 right.0 in
-          let parts =
-          first.0.parts ∙ ap (λ (x : List ℕ). opaque a.0.0 ++ x) (second.0.parts ∙ ap (λ (x : List ℕ). opaque b.0.0 ++ x) zeros)
-          ∙ sym (append_assoc (opaque a.0.0) (opaque b.0.0) (replicate (length b.0.1) 0)) in (
-            length b.0.1,
-            (subst (λ (x : List ℕ). length x < 2 ^ 30) data_is first.1, subst (λ (x : List ℕ). length x < 2 ^ 30) signature_is second.1),
-            parts ∙ ap (λ (x : List ℕ). opaque x ++ opaque b.0.0 ++ replicate (length b.0.1) 0) data_is ∙ ap (λ (x : List ℕ). opaque d ++ opaque x ++ replicate (length b.0.1) 0) signature_is,
-          )
-    ]
+    let g = guard_is (is_padding b.0.1) 118 (a.0.0, b.0.0) (d, s) b.2 in
+    let parts : bytes ≡ private_content a.0.0 b.0.0 (length b.0.1) =
+        first.0.parts ∙ ap (λ (x : List ℕ). opaque a.0.0 ++ x) (second.0.parts ∙ ap (λ (x : List ℕ). opaque b.0.0 ++ x) (zeros_only b.0.1 g.0))
+        ∙ sym (append_assoc (opaque a.0.0) (opaque b.0.0) (replicate (length b.0.1) 0)) in
+    subst (IsWritten bytes) g.1 (length b.0.1, (first.1, second.1), parts)
 
 pub is_read_as_written : (application_data signature : List ℕ) → IsReadAsWritten application_data signature
 is_read_as_written d s = record { read = read_again d s; written = written_so d s }

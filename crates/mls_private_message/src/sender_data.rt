@@ -1,6 +1,6 @@
 //! Sender data (RFC 9420, 6.3.2).
 
-ghost use Rattle.std.specs.Prelude.{◌≡◌, Unit};
+ghost use Rattle.std.specs.Prelude.{◌≡◌};
 ghost use Rattle.mls_leaf.specs.Faults.{ReadsFrontNow, Writes};
 ghost use Rattle.mls_private_message.specs.SenderData.{sender_data, sender_data_nonempty, whole_sender_data};
 ghost use Rattle.mls_private_message.specs.ReadFaults.{sender_data_faults};
