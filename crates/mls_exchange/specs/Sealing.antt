@@ -18,7 +18,7 @@ use Rattle.mls_exchange.specs.Contents.{application_content, signed_text, within
 
 -- the reuse guard of a call (RFC 9420, 6.3.1): 32 bits of its seed, by ExpandWithLabel (8) under a label of our own
 unfoldable pub reuse_guard : List ℕ → ℕ
-reuse_guard seed = from_be_bytes w32 (expand_with_label seed (codes "reuse guard") [] 4) % 2 ^ 32
+reuse_guard seed = from_be_bytes w32 (expand_with_label seed (codes "seed guard") [] 4) % 2 ^ 32
 
 -- the own sender data (RFC 9420, 6.3.2)
 abbrev pub own_sender_data : State → ℕ → List ℕ → SenderData

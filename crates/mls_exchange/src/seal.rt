@@ -21,7 +21,7 @@ fn reuse_guard(seed: &Seed) -> u32
     ensures { result ≡ reuse_guard seed.now }
 {
     let mut guard = [0; 4];
-    expand_with_label(seed, "reuse guard", &[], &mut guard).unwrap();
+    expand_with_label(seed, "seed guard", &[], &mut guard).unwrap();
     u32::from_be_bytes(guard)
 }
 
