@@ -8,6 +8,7 @@ use std::process::Abort;
 use std::test::Fail;
 
 // Three members of one epoch.
+#[derive(Drop)]
 struct Group {
     alice: Member<Glass>,
     bob: Member<Glass>,

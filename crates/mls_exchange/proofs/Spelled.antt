@@ -1,9 +1,10 @@
 -- Messages whose numbers are in range have a spelling, unless a vector in them is too long.
 use Rattle.std.proofs.Common.{◌≡◌, ℕ, ◌+◌, ◌%◌, ◌<◌, ◌≤◌, ◌^◌, List, ◌++◌, length, arith, lit<, length-append}
 use Rattle.std.specs.Prelude.{replicate}
-use Rattle.std.specs.Int.{w8, w16, w32, w64}
+use Rattle.std.specs.Int.{w8, w16, w64}
 use Rattle.mls_wire.specs.Reading.{uint, header, opaque}
 use Rattle.mls_types.specs.Content.{sender, content, framed_content}
+use Rattle.mls_types.specs.declared.content.Sender.TheVariants.{Member}
 use Rattle.mls_private_message.specs.declared.private_message.PrivateMessage.{PrivateMessage}
 use Rattle.mls_private_message.specs.declared.sender_data.SenderData.{SenderData}
 use Rattle.mls_private_message.specs.PrivateMessage.{private_fields, private_message}
@@ -62,11 +63,11 @@ unfolding application_content framed_content sender content
 are_short group_id epoch leaf a d context lt =
     let t5 : List ℕ = uint w8 1 ++ opaque d in
     let t4 : List ℕ = opaque a ++ t5 in
-    let t3 : List ℕ = (uint w8 1 ++ uint w32 leaf) ++ t4 in
+    let t3 : List ℕ = sender.spell (Member leaf) ++ t4 in
     let t2 : List ℕ = uint w64 epoch ++ t3 in
     let t1 : List ℕ = opaque group_id ++ t2 in
     let w : length t1 < 2 ^ 30 = omega (arith, lt, first_within ((uint w16 1 ++ uint w16 2) ++ t1) context, last_within (uint w16 1 ++ uint w16 2) t1) in
-    let x : length t4 < 2 ^ 30 = omega (arith, w, last_within (opaque group_id) t2, last_within (uint w64 epoch) t3, last_within (uint w8 1 ++ uint w32 leaf) t4) in
+    let x : length t4 < 2 ^ 30 = omega (arith, w, last_within (opaque group_id) t2, last_within (uint w64 epoch) t3, last_within (sender.spell (Member leaf)) t4) in
     record {
       group = omega (arith, w, first_within (opaque group_id) t2, text_within group_id);
       added = omega (arith, x, first_within (opaque a) t5, text_within a);
