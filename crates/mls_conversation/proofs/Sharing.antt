@@ -46,8 +46,8 @@ unfolding group_context
 epoch_fits v fits = fits.1.1.0
 
 -- a tree that isn't too large is no higher than a tree may be
-low : (d : ℕ) → 2 ^ d ≤ 2 ^ max_height → d ≤ max_height
-low d le = elim (cases_lt max_height d) [
+not_higher : (d : ℕ) → 2 ^ d ≤ 2 ^ max_height → d ≤ max_height
+not_higher d le = elim (cases_lt max_height d) [
   | inr within ↦ within
   | inl past ↦ (let more : 2 ^ suc max_height ≤ 2 ^ d = pow_mono past in absurd (omega arith))
 ]
@@ -63,7 +63,7 @@ has_height c m good =
     let t = m.public.tree in
     let w : width t ≡ 2 ^ height t = width-perfect (height t) t good.tree.perfect in
     let le : width t ≤ 2 ^ max_height = leb-true (width t) (2 ^ max_height) good.tree.within in
-    let h : height t ≤ max_height = low (height t) (subst (λ (n : ℕ). n ≤ 2 ^ max_height) w le) in
+    let h : height t ≤ max_height = not_higher (height t) (subst (λ (n : ℕ). n ≤ 2 ^ max_height) w le) in
     record { is = ap height_of w ∙ height_of-pow (height t) h; leaves = w; low = h }
 
 is_made : (m : Member) (h : ℕ) → m.gone ≡ false → height_of (width m.public.tree) ≡ Some h → conversation_of m ≡ Ok (state_of m h)

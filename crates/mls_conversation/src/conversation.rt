@@ -22,8 +22,12 @@ pub struct Conversation<S: Suite> {
 
 impl<S: Suite> Model for Conversation<S> {
     ghost use Rattle.mls_exchange.specs.State.{State};
+    ghost use Rattle.mls_secret_tree.specs.TreeCodes.{coded_tree};
+    ghost use Rattle.std.specs.Coded.{codes};
 
     ghost Value = { State };
+
+    ghost coded = { Prim.hlevel (codes, coded_tree) };
 
     ghost view = { λ c. c.exchange };
 }

@@ -118,9 +118,9 @@ arrived c laws secret s after r leaf d a padding seed bytes range share own x ca
     let spells : Spells private_message m bytes = record { fits = message_fits m range.epoch (omega (arith, short)); spelled = sym x.spelled } in
     let read : whole private_message input_limit bytes ≡ Ok m = whole_again private_message input_limit bytes m spells x.short in
     let content_short : length (private_content d (signature_of c s d a) padding) ≤ input_limit =
-    subst (λ (b : List ℕ). length b ≤ input_limit) (sym x.has.content) x.has.short in
+    subst (λ (b : List ℕ). length b ≤ input_limit) (sym x.has.is) x.has.short in
     let written : private_content_at x.content ≡ Ok (d, signature_of c s d a) =
-    ap private_content_at (sym x.has.content)
+    ap private_content_at (sym x.has.is)
     ∙ (is_read_as_written d (signature_of c s d a)).read padding (content_fits d (signature_of c s d a) padding (omega (arith, content_short))) in
     let text : signed_text (application_content s.group_id s.epoch s.leaf a d) r.context ≡ Ok (own_text s d a) =
     ap (λ (z : List ℕ). signed_text (application_content s.group_id s.epoch s.leaf a d) z) share.context ∙ x.has.signed in

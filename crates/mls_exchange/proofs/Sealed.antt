@@ -52,7 +52,7 @@ signature_of c s application_data authenticated_data = sign_with_label c s.signi
 
 pub record HasContent (c : Crypto) (s : State) (application_data authenticated_data : List ℕ) (padding : ℕ) (content : List ℕ) : Type 0 where
   pub signed : signed_text (application_content s.group_id s.epoch s.leaf authenticated_data application_data) s.context ≡ Ok (own_text s application_data authenticated_data)
-  pub content : private_content application_data (signature_of c s application_data authenticated_data) padding ≡ content
+  pub is : private_content application_data (signature_of c s application_data authenticated_data) padding ≡ content
   pub short : length content ≤ input_limit
 
 pub has_content : (c : Crypto) (s : State) (application_data authenticated_data : List ℕ) (padding : ℕ) (content : List ℕ)
@@ -70,7 +70,7 @@ has_content c s application_data authenticated_data padding content e =
     ap (λ (x : List ℕ). private_content application_data x padding) signature ∙ w.same in
     record {
       signed = t.1 ∙ ap (λ (x : List ℕ). let ok : List ℕ → Result (List ℕ) ℕ = λ z. Ok z in ok x) (sym same);
-      content = is;
+      is = is;
       short = subst (λ (x : List ℕ). length x ≤ input_limit) w.same w.short;
     }
 

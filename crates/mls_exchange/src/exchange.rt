@@ -56,8 +56,12 @@ pub struct Exchange<S: Suite> {
 impl<S: Suite> Model for Exchange<S> {
     ghost use Rattle.mls_exchange.specs.State.{State};
     ghost use Rattle.mls_exchange.specs.Parts.{state_of};
+    ghost use Rattle.mls_secret_tree.specs.TreeCodes.{coded_tree};
+    ghost use Rattle.std.specs.Coded.{codes};
 
     ghost Value = { State };
+
+    ghost coded = { Prim.hlevel (codes, coded_tree) };
 
     ghost view = { λ x. state_of x.parts };
 }
