@@ -43,7 +43,8 @@ pub fn open_sender_data<S: Suite>(
     requires { private_message.Fits message.now }
     ensures { OpensSenderData S.crypto sender_data_secret.now message.now result }
 {
-    let aad = sender_data_aad(alloc, message.group_id.as_slice(), message.epoch)?;
+    let group_id = message.group_id.as_slice();
+    let aad = sender_data_aad(alloc, group_id, message.epoch)?;
     let key = sender_data_key(sender_data_secret, message.ciphertext.as_slice());
     let sealed = message.encrypted_sender_data.as_slice();
     let Some(text) = S::aead_open(alloc, &key.key, &key.nonce, &aad, sealed)? else {
