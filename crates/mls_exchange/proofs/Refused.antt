@@ -11,11 +11,19 @@ use Rattle.mls_private_message.specs.declared.private_message.PrivateMessage.{Pr
 use Rattle.mls_private_message.specs.PrivateContent.{private_content, PrivateContentFits}
 use Rattle.mls_private_message.specs.PrivateMessage.{private_message}
 use Rattle.mls_private_message.specs.Signing.{private_content_tbs}
+use Rattle.mls_suite.specs.Crypto.{Crypto}
+use Rattle.mls_secret_tree.specs.declared.secrets.MessageKey.{MessageKey}
+use Rattle.mls_private_message.specs.declared.sender_data.SenderData.{SenderData}
+use Rattle.mls_private_message.specs.PrivateMessage.{PrivateContentAadFits}
+use Rattle.mls_private_message.specs.Sealing.{seal_sender_data, seal_content}
+use Rattle.mls_private_message.specs.Laws.{sealed_message}
+use Rattle.mls_exchange.specs.State.{State}
+use Rattle.mls_exchange.specs.Sealing.{message_under}
 use Rattle.mls_exchange.specs.declared.said.Said.{Said}
 use Rattle.mls_exchange.specs.Said.{AreVectors, said_by}
 use Rattle.mls_exchange.specs.Contents.{signed_text, within_limit}
 use Rattle.mls_exchange.proofs.Texts.{past_limit, signed_long}
-use Rattle.mls_exchange.proofs.Spelled.{are_short, content_fits, message_fits}
+use Rattle.mls_exchange.proofs.Spelled.{are_short, content_fits, vectors_fit, message_fits}
 
 pub record IsTooLong (P : Type 0) (e : LeafError) : Type 0 where
   pub lacks : P → ⊥
@@ -69,3 +77,38 @@ message_refused m e low r ne =
       | inr le ↦ absurd (t.lacks (message_fits m low (omega (arith, le))))
     ] in
     past_limit text lt ∙ ap (λ (n : ℕ). let err : ℕ → Result (List ℕ) ℕ = λ k. Err k in err n) t.number
+
+pub aad_refused : (c : Crypto) (s : State) (key : MessageKey) (sender : SenderData) (a content : List ℕ) (e : LeafError)
+    → Refuses (PrivateContentAadFits s.group_id a) e → number_of e ≢ 1 → message_under c s key sender a content ≡ Err (number_of e)
+unfolding message_under
+aad_refused c s key sender a content e r ne =
+    let t = too_long (PrivateContentAadFits s.group_id a) e r ne in
+    let m : PrivateMessage = sealed_message c s.sender_data_secret key sender s.group_id s.epoch a content in
+    let text : List ℕ = private_message.spell m in
+    let lt : input_limit < length text = elim (cases_lt input_limit (length text)) [
+      | inl lt ↦ lt
+      | inr le ↦ (let v = vectors_fit m (omega (arith, le)) in absurd (t.lacks (v.group, v.added)))
+    ] in
+    past_limit text lt ∙ ap (λ (n : ℕ). let err : ℕ → Result (List ℕ) ℕ = λ k. Err k in err n) t.number
+
+-- the message of parts that were sealed
+abbrev pub parts_of : State → List ℕ → List ℕ → List ℕ → List ℕ → PrivateMessage
+parts_of s group added sealed ciphertext =
+    record { group_id = group; epoch = s.epoch; authenticated_data = added; encrypted_sender_data = sealed; ciphertext = ciphertext }
+
+pub message_is : (c : Crypto) (s : State) (key : MessageKey) (sender : SenderData) (a content group added sealed ciphertext : List ℕ)
+    → group ≡ s.group_id → added ≡ a → sealed ≡ seal_sender_data c s.sender_data_secret s.group_id s.epoch ciphertext sender
+    → ciphertext ≡ seal_content c key sender.reuse_guard s.group_id s.epoch a content
+    → parts_of s group added sealed ciphertext ≡ sealed_message c s.sender_data_secret key sender s.group_id s.epoch a content
+message_is c s key sender a content group added sealed ciphertext e f h i = rw (e, f, h, i) refl
+
+pub under_is : (c : Crypto) (s : State) (key : MessageKey) (sender : SenderData) (a content : List ℕ) (m : PrivateMessage) (bytes : List ℕ)
+    → m ≡ sealed_message c s.sender_data_secret key sender s.group_id s.epoch a content → bytes ≡ private_message.spell m
+    → within_limit bytes ≡ message_under c s key sender a content
+unfolding message_under
+under_is c s key sender a content m bytes e f = ap within_limit (f ∙ ap private_message.spell e)
+
+pub not_encoded : (c : Crypto) (s : State) (key : MessageKey) (sender : SenderData) (a content : List ℕ) (m : PrivateMessage) (e : LeafError) → m.epoch < 2 ^ 64
+    → m ≡ sealed_message c s.sender_data_secret key sender s.group_id s.epoch a content → Refuses (private_message.Fits m) e → number_of e ≢ 1
+    → message_under c s key sender a content ≡ Err (number_of e)
+not_encoded c s key sender a content m e low is r ne = sym (under_is c s key sender a content m (private_message.spell m) is refl) ∙ message_refused m e low r ne

@@ -1,5 +1,5 @@
 -- Messages whose numbers are in range have a spelling, unless a vector in them is too long.
-use Rattle.std.proofs.Common.{◌≡◌, ℕ, ◌+◌, ◌%◌, ◌<◌, ◌≤◌, ◌^◌, List, ◌++◌, length, arith, lit<, length-append}
+use Rattle.std.proofs.Common.{◌≡◌, ℕ, ◌+◌, ◌%◌, ◌<◌, ◌≤◌, ◌^◌, List, ◌++◌, length, arith, lit<, length-append, append_assoc}
 use Rattle.std.specs.Prelude.{replicate}
 use Rattle.std.specs.Int.{w8, w16, w64}
 use Rattle.mls_wire.specs.Reading.{uint, header, opaque}
@@ -23,9 +23,15 @@ last_within xs ys = omega (arith, length-append xs ys)
 text_within : (xs : List ℕ) → length xs ≤ length (opaque xs)
 text_within xs = last_within (header (length xs)) xs
 
-pub message_fits : (m : PrivateMessage) → m.epoch < 2 ^ 64 → length (private_message.spell m) < 2 ^ 30 → private_message.Fits m
+pub record HasVectors (m : PrivateMessage) : Type 0 where
+  pub group : length m.group_id < 2 ^ 30
+  pub added : length m.authenticated_data < 2 ^ 30
+  pub sender : length m.encrypted_sender_data < 2 ^ 30
+  pub text : length m.ciphertext < 2 ^ 30
+
+pub vectors_fit : (m : PrivateMessage) → length (private_message.spell m) < 2 ^ 30 → HasVectors m
 unfolding private_message private_fields
-message_fits m e lt =
+vectors_fit m lt =
     let t6 : List ℕ = opaque m.encrypted_sender_data ++ opaque m.ciphertext in
     let t5 : List ℕ = opaque m.authenticated_data ++ t6 in
     let t4 : List ℕ = uint w8 1 ++ t5 in
@@ -40,7 +46,11 @@ message_fits m e lt =
     omega (arith, b, last_within (opaque m.authenticated_data) t6, first_within (opaque m.encrypted_sender_data) (opaque m.ciphertext), text_within m.encrypted_sender_data) in
     let h : length m.ciphertext < 2 ^ 30 =
     omega (arith, b, last_within (opaque m.authenticated_data) t6, last_within (opaque m.encrypted_sender_data) (opaque m.ciphertext), text_within m.ciphertext) in
-    (g, (e, (d, (f, h))))
+    record { group = g; added = d; sender = f; text = h }
+
+pub message_fits : (m : PrivateMessage) → m.epoch < 2 ^ 64 → length (private_message.spell m) < 2 ^ 30 → private_message.Fits m
+unfolding private_message private_fields
+message_fits m e lt = let v = vectors_fit m lt in (v.group, (e, (v.added, (v.sender, v.text))))
 
 pub content_fits : (application_data signature : List ℕ) (padding : ℕ) → length (private_content application_data signature padding) < 2 ^ 30
     → PrivateContentFits application_data signature
@@ -81,3 +91,7 @@ guard_small seed = omega arith
 pub sender_fits : (v : SenderData) → v.leaf_index < 2 ^ 32 → v.generation < 2 ^ 32 → v.reuse_guard < 2 ^ 32 → sender_data.Fits v
 unfolding sender_data
 sender_fits v a b c = (a, (b, c))
+
+-- the FramedContentTBS as it is written
+pub regrouped : (p q g e t l a k d c : List ℕ) → p ++ q ++ g ++ e ++ t ++ l ++ a ++ k ++ d ++ c ≡ (p ++ q) ++ (g ++ (e ++ ((t ++ l) ++ (a ++ (k ++ d))))) ++ c
+regrouped p q g e t l a k d c = simp append_assoc

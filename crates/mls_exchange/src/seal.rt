@@ -1,6 +1,6 @@
 //! Sealing.
 
-ghost use Rattle.std.specs.Prelude.{◌≡◌};
+ghost use Rattle.std.specs.Prelude.{◌≡◌, ◌<◌, ◌^◌};
 ghost use Rattle.mls_exchange.specs.Sealing.{are_short, reuse_guard, own_signature, own_content, message_under, sealing_checks};
 ghost use Rattle.mls_exchange.specs.Calls.{GivesGeneration, GivesBytes, Seals, RefusesSealing};
 
@@ -34,6 +34,11 @@ fn are_short(application_data: &[u8], authenticated_data: &[u8], padding: usize)
         && authenticated_data.len() <= INPUT_LIMIT
         && padding <= INPUT_LIMIT
 }
+
+/// A law: a number of 64 bits.
+fn know_epoch(epoch: u64)
+    ensures { epoch < 2 ^ 64 }
+{}
 
 impl<S: Suite> Exchange<S> {
     /// The generation that the next message takes: `RatchetSpent` (110) after the last, `TooLong` (6) an argument is longer
@@ -103,6 +108,7 @@ impl<S: Suite> Exchange<S> {
     {
         let group_id = self.parts.group_id.as_slice();
         let epoch = self.parts.epoch;
+        know_epoch(epoch);
         let guard = sender.reuse_guard;
         let secret = &self.parts.sender_data_secret;
         let ciphertext = seal_content::<S>(
