@@ -47,8 +47,8 @@ written_so d s bytes fits e =
     let second = opaque_takes a.0.1 b.0.0 b.0.1 first.0.rest_fits b.1 in
     let g = guard_is (is_padding b.0.1) 118 (a.0.0, b.0.0) (d, s) b.2 in
     let parts : bytes ≡ private_content a.0.0 b.0.0 (length b.0.1) =
-        first.0.parts ∙ ap (λ (x : List ℕ). opaque a.0.0 ++ x) (second.0.parts ∙ ap (λ (x : List ℕ). opaque b.0.0 ++ x) (zeros_only b.0.1 g.0))
-        ∙ sym (append_assoc (opaque a.0.0) (opaque b.0.0) (replicate (length b.0.1) 0)) in
+    first.0.parts ∙ ap (λ (x : List ℕ). opaque a.0.0 ++ x) (second.0.parts ∙ ap (λ (x : List ℕ). opaque b.0.0 ++ x) (zeros_only b.0.1 g.0))
+    ∙ sym (append_assoc (opaque a.0.0) (opaque b.0.0) (replicate (length b.0.1) 0)) in
     subst (IsWritten bytes) g.1 (length b.0.1, (first.1, second.1), parts)
 
 pub is_read_as_written : (application_data signature : List ℕ) → IsReadAsWritten application_data signature
