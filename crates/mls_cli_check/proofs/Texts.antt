@@ -1,5 +1,5 @@
 -- Which texts of a file and of a group are refused.
-use Rattle.std.proofs.Common.{◌≡◌, ℕ, ◌<◌, ◌≤◌, ◌/◌, Bool, true, false, List, length, Option, Some, None, Result, Ok, Err, is_some, refl, arith, ◌∙◌}
+use Rattle.std.proofs.Common.{◌≡◌, ℕ, ◌<◌, ◌≤◌, ◌/◌, true, false, List, length, Option, Some, None, Result, Ok, Err, is_some, refl, arith}
 use Rattle.std.specs.Prelude.{IsOk, MatchResult}
 use Rattle.hex.specs.Hex.{decode_of}
 use Rattle.hex.specs.declared.error.FromHexError.{FromHexError}
@@ -9,12 +9,11 @@ use Rattle.mls_wire.specs.Reading.{◌>>=◌}
 use Rattle.mls_leaf.specs.Limits.{input_limit}
 use Rattle.mls_suite.specs.Crypto.{Crypto}
 use Rattle.mls_cli_text.specs.HexFile.{bytes_in, decoded_bytes, is_hex}
-use Rattle.mls_cli_text.specs.Text.{Entry}
-use Rattle.mls_cli_text.specs.Page.{Page, refused}
+use Rattle.mls_cli_text.specs.Page.{refused}
 use Rattle.mls_cli_check.specs.declared.report.SuiteChecks.{SuiteChecks}
 use Rattle.mls_cli_check.specs.CheckFaults.{number_of}
 use Rattle.mls_cli_check.specs.declared.check_error.CheckError.{CheckError}
-use Rattle.mls_cli_check.specs.Check.{group_in, within_limit, both_texts, texts_in, check_page, check_page_in, check_page_on}
+use Rattle.mls_cli_check.specs.Check.{group_in, within_limit, both_texts, texts_in, check_page, check_page_in}
 
 -- ---- a group's text
 

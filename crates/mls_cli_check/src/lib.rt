@@ -2,6 +2,7 @@
 #![tactic(auto)]
 
 mod check_error;
+mod long_list;
 mod report;
 mod tree;
 mod unchecked;

@@ -6,9 +6,11 @@ ghost use Rattle.mls_tree.specs.Tree.{term};
 ghost use Rattle.mls_cli_text.specs.Text.{entry_of};
 ghost use Rattle.mls_cli_check.specs.Check.{tree_entries, tree_in};
 ghost use Rattle.mls_cli_check.specs.CheckFaults.{number_of, RefusesNodes};
+ghost use Rattle.mls_cli_check.specs.LongList.{RefusesMany};
 ghost use Rattle.mls_tree.specs.ShortLeaves.{HasShortLeaves};
 
 use crate::check_error::CheckError;
+use crate::long_list::refuse_long;
 use mls_cli_text::{Field, Line, line_of};
 use mls_leaf::{Bytes, Codec};
 use mls_tree::PublicTree;
@@ -19,11 +21,13 @@ use std::alloc::{AllocError, Global};
 /// its shape (`TreeShape` (20)) or its size (`TreeFull` (21)).
 pub fn tree_in(alloc: Global, bytes: &[u8]) -> Result<PublicTree, CheckError>
     ensures tree { Answers term number_of (tree_in bytes.now) result }
-    // Bytes that spell no nodes are refused whatever memory there is.
+    // Bytes that spell no nodes, or more than a tree has, are refused whatever memory there is.
     ensures outright { RefusesNodes bytes.now result }
+    ensures long { RefusesMany bytes.now result }
     // The leaves of an input are short, as it is itself.
     ensures short { IfOk result (λ tree. HasShortLeaves (term tree)) }
 {
+    refuse_long(bytes)?;
     let nodes = RatchetTree::decode(alloc, bytes)?;
     let tree = PublicTree::from_nodes(nodes.into_vec())?;
     Ok(tree)

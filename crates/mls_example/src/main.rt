@@ -2,16 +2,14 @@
 #![tactic(auto)]
 
 use anyhow::{Result, bail};
-use mls_leaf::Proposal;
-use mls_member::{Candidate, Effect, Item, Made, Member};
-use mls_suite_0001::Suite0001;
+use mls::{Candidate, Item, Made, Member, Proposal, Suite0001};
 use std::alloc::Global;
 
-/// A key that all members of the epoch can make (RFC 9420, 8.5).
-fn export_key(member: &Member<Suite0001>) -> Result<[u8; 16]> {
+/// A key that all members of the epoch can make (RFC 9420, 8.5), in hex digits.
+fn export_key(alloc: Global, member: &Member<Suite0001>) -> Result<String> {
     let mut key = [0; 16];
     member.epoch().export("example", b"file", &mut key)?;
-    Ok(key)
+    Ok(hex::encode(alloc, key.as_slice())?)
 }
 
 fn run(rt: &impl Print, alloc: Global) -> Result<()> {
@@ -29,32 +27,22 @@ fn run(rt: &impl Print, alloc: Global) -> Result<()> {
     let (leaf, epoch) = (bob.leaf_index(), bob.epoch_number());
     println!(rt; "bob joins at leaf {leaf} in epoch {epoch}")?;
 
-    // Bob proposes a new key for his leaf, and Alice commits that by its reference.
+    // Bob proposes a new key for his leaf, and Alice commits all that she keeps.
     let update = bob.propose_update(&[5; 32])?;
-    let Effect::Proposed { reference } = alice.process(&update)? else {
-        bail!("the update isn't kept");
-    };
-    let named = Item::Ref(Vec::from_slice(alloc, &reference)?);
-    let made = alice.commit(&[named], true, &[6; 32])?;
-    alice.process(&made.commit)?;
-    bob.process(&made.commit)?;
+    alice.process(&update)?;
+    let commit = alice.commit_kept(true, &[6; 32])?.made.commit;
+    alice.process(&commit)?;
+    bob.process(&commit)?;
     let (hers, his) = (alice.epoch_number(), bob.epoch_number());
     println!(rt; "both are in epoch {hers} and {his}")?;
-    let (her_key, his_key) = (export_key(&alice)?, export_key(&bob)?);
-    println!(rt;
-        "alice exports the key {}",
-        hex::encode(alloc, her_key.as_slice())?
-    )?;
-    println!(rt;
-        "bob exports the key {}",
-        hex::encode(alloc, his_key.as_slice())?
-    )?;
+    println!(rt; "alice exports the key {}", export_key(alloc, &alice)?)?;
+    println!(rt; "bob exports the key {}", export_key(alloc, &bob)?)?;
 
     // Alice removes Bob.
     let removal = Item::Full(Proposal::Remove(bob.leaf_index()));
-    let made = alice.commit(&[removal], true, &[7; 32])?;
-    alice.process(&made.commit)?;
-    bob.process(&made.commit)?;
+    let commit = alice.commit(&[removal], true, &[7; 32])?.commit;
+    alice.process(&commit)?;
+    bob.process(&commit)?;
     println!(rt; "bob is gone: {}", bob.is_gone())?;
     println!(rt; "alice is in epoch {}", alice.epoch_number())?;
     Ok(())

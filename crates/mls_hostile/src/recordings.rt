@@ -7,8 +7,17 @@ use mls_suite::Glass;
 use std::alloc::Global;
 use std::fs;
 
-const NAMES: [&str; 9] = [
-    "framing", "lists", "others", "paths", "readds", "secrets", "splits", "trees", "welcomes",
+const NAMES: [&str; 10] = [
+    "extensions",
+    "framing",
+    "lists",
+    "others",
+    "paths",
+    "readds",
+    "secrets",
+    "splits",
+    "trees",
+    "welcomes",
 ];
 
 /// What a recording prints, and its status.

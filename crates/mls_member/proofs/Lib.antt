@@ -12,3 +12,8 @@ pub mod UsedItems
 pub mod Keeps
 pub mod Commits
 pub mod Good
+pub mod MemberWalk
+pub mod ShortPackages
+pub mod Inspecting
+pub mod KeptTogether
+pub mod KeptCommits

@@ -6,3 +6,9 @@ pub mod Process
 pub mod Received
 pub mod FirstEpoch
 pub mod Proposing
+pub mod GroupMembers
+pub mod KeptProposals
+pub mod RefusalKinds
+pub mod Inspecting
+pub mod ShortPackages
+pub mod KeptTogether

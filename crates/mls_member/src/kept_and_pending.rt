@@ -9,7 +9,7 @@ use std::marker::Model;
 
 /// A proposal that a member keeps for a commit of its epoch (RFC 9420, 12.1).
 #[derive(Drop)]
-pub(crate) struct KeptProposal {
+pub struct KeptProposal {
     /// Its reference.
     pub(crate) reference: Secret,
     /// Its message.

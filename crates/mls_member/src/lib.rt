@@ -3,25 +3,38 @@
 
 mod commit;
 mod commit_items;
+mod commit_kept;
+mod copy;
 mod create;
 mod error;
 mod framing;
+mod group_members;
+mod inspect;
 mod join;
 mod kept_and_pending;
 mod kept_proposal;
+mod kept_proposals;
 mod member;
 mod own_proposal;
 mod process;
 mod received_commit;
 mod received_message;
 mod received_proposal;
+mod refusal_kind;
 mod sent_proposal;
+mod short_package;
 mod speaker;
 mod used_proposals;
 
 pub use commit::Made;
+pub use commit_kept::KeptCommit;
 pub use error::Refusal;
+pub use group_members::{GroupMember, GroupMembers};
+pub use inspect::{Inspection, message_sender};
 pub use join::Joined;
+pub use kept_and_pending::KeptProposal;
 pub use member::Member;
 pub use mls_candidate::Candidate;
 pub use mls_model::{Effect, Item};
+pub use refusal_kind::RefusalKind;
+pub use short_package::ShortKeyPackage;

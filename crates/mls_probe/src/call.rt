@@ -6,6 +6,7 @@ ghost use Rattle.mls_probe.specs.Calls.{IsShortCall};
 
 use anyhow::Result;
 use mls_kdf::Seed;
+use mls_leaf::GroupExtensions;
 use mls_member::{Candidate, Effect, Item, Made, Member, Refusal};
 use mls_suite::Glass;
 
@@ -18,6 +19,7 @@ pub(crate) enum Call {
     ProposeAdd(Box<Candidate<Glass>>),
     ProposeUpdate(Seed),
     ProposeRemove(u32),
+    ProposeExtensions(GroupExtensions),
 }
 
 /// What a call answers.
@@ -54,5 +56,8 @@ pub(crate) fn answer_of(member: &mut Member<Glass>, call: &Call) -> Result<Answe
         Call::ProposeAdd(candidate) => Ok(Answer::Message(propose_candidate(member, candidate)?)),
         Call::ProposeUpdate(seed) => Ok(Answer::Message(member.propose_update(seed)?)),
         Call::ProposeRemove(leaf) => Ok(Answer::Message(member.propose_remove(*leaf)?)),
+        Call::ProposeExtensions(list) => {
+            Ok(Answer::Message(member.propose_extensions(list.clone()?)?))
+        }
     }
 }

@@ -128,7 +128,7 @@ impl Trio {
 }
 
 /// The reference under which a member keeps a proposal from now on.
-fn keep_proposal(member: &mut Member<Glass>, message: &[u8]) -> Result<Secret> {
+pub(crate) fn keep_proposal(member: &mut Member<Glass>, message: &[u8]) -> Result<Secret> {
     match member.process(message)? {
         Effect::Proposed { reference } => Ok(reference),
         _ => bail!("the proposal isn't kept"),

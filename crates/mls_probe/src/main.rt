@@ -13,6 +13,7 @@ ghost use Rattle.mls_probe.specs.Calls.{IsShortCall};
 
 mod bench;
 mod call;
+mod extended;
 mod group;
 mod page;
 mod scenario;

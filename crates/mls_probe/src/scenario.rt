@@ -3,6 +3,7 @@
 ghost use Rattle.mls_probe.specs.Calls.{IsShortCall};
 
 use crate::call::Call;
+use crate::extended::{Extended, ExtendedCommit, extensions, items_naming_and_adding};
 use crate::group::{
     Committed, Trio, Updated, additions, candidate, create_group, items_naming, reference_of,
     welcome_of,
@@ -11,6 +12,7 @@ use crate::trial::{try_call, try_join};
 use crate::worlds::try_run;
 use anyhow::Result;
 use mls_kdf::Secret;
+use mls_member::Made;
 use mls_suite::Glass;
 use std::alloc::Global;
 
@@ -33,12 +35,20 @@ pub(crate) enum Scenario {
     ProposeUpdate,
     ProposeRemove,
     Join,
+    /// The second of three proposes extensions for the group.
+    ProposeExtensions,
+    /// The first commits them by their reference and an add, with a path and a Welcome.
+    CommitExtensions,
+    /// The third gets that commit.
+    ProcessExtensions,
+    /// The one who is added joins by that Welcome.
+    JoinExtensions,
     /// The events of a creation, an add and a join.
     Run,
 }
 
 /// All scenarios.
-pub(crate) const SCENARIOS: [Scenario; 11] = [
+pub(crate) const SCENARIOS: [Scenario; 15] = [
     Scenario::CommitAdd,
     Scenario::CommitUpdate,
     Scenario::ProcessUpdate,
@@ -49,6 +59,10 @@ pub(crate) const SCENARIOS: [Scenario; 11] = [
     Scenario::ProposeUpdate,
     Scenario::ProposeRemove,
     Scenario::Join,
+    Scenario::ProposeExtensions,
+    Scenario::CommitExtensions,
+    Scenario::ProcessExtensions,
+    Scenario::JoinExtensions,
     Scenario::Run,
 ];
 
@@ -76,6 +90,10 @@ impl Scenario {
             Scenario::ProposeUpdate => "propose-update",
             Scenario::ProposeRemove => "propose-remove",
             Scenario::Join => "join",
+            Scenario::ProposeExtensions => "propose-extensions",
+            Scenario::CommitExtensions => "commit-extensions",
+            Scenario::ProcessExtensions => "process-extensions",
+            Scenario::JoinExtensions => "join-extensions",
             Scenario::Run => "run",
         }
     }
@@ -94,6 +112,10 @@ impl Scenario {
             Scenario::ProposeUpdate => propose_update(rt, alloc),
             Scenario::ProposeRemove => propose_remove(rt, alloc),
             Scenario::Join => join(rt, alloc),
+            Scenario::ProposeExtensions => propose_extensions(rt, alloc),
+            Scenario::CommitExtensions => commit_extensions(rt, alloc),
+            Scenario::ProcessExtensions => process_extensions(rt, alloc),
+            Scenario::JoinExtensions => join_extensions(rt, alloc),
             Scenario::Run => try_run(rt, alloc),
         }
     }
@@ -187,5 +209,39 @@ fn join(rt: &impl Print, alloc: Global) -> Result<()> {
     let mut member = create_group(alloc)?;
     let added = candidate(alloc, b'b', 3)?;
     let made = member.commit(&additions(alloc, &added)?, true, &[4; 32])?;
+    try_join(rt, alloc, &added, &welcome_of(made)?)
+}
+
+fn propose_extensions(rt: &impl Print, alloc: Global) -> Result<()> {
+    let call = Call::ProposeExtensions(extensions(alloc)?);
+    let reference = reference_of(alloc, &call)?;
+    propose(rt, alloc, call, &reference)
+}
+
+fn commit_extensions(rt: &impl Print, alloc: Global) -> Result<()> {
+    let Extended {
+        mut group,
+        reference,
+    } = Extended::new(alloc)?;
+    let added = candidate(alloc, b'd', 8)?;
+    let items = items_naming_and_adding(alloc, &reference, &added)?;
+    let call = Call::Commit(items, [7; 32]);
+    try_call(rt, alloc, &mut group.first, call, &reference)
+}
+
+fn process_extensions(rt: &impl Print, alloc: Global) -> Result<()> {
+    let ExtendedCommit {
+        mut group,
+        made,
+        reference,
+        ..
+    } = ExtendedCommit::new(alloc)?;
+    let Made { commit, .. } = made;
+    let call = Call::Process(commit);
+    try_call(rt, alloc, &mut group.third, call, &reference)
+}
+
+fn join_extensions(rt: &impl Print, alloc: Global) -> Result<()> {
+    let ExtendedCommit { added, made, .. } = ExtendedCommit::new(alloc)?;
     try_join(rt, alloc, &added, &welcome_of(made)?)
 }

@@ -17,3 +17,5 @@ mod paths;
 mod shared;
 #[cfg(test)]
 mod sole;
+#[cfg(test)]
+mod views;

@@ -1,3 +1,4 @@
+use Rattle.std.proofs.Common.{arith}
 use Rattle.std.proofs.lemmas.Result.{err_from_is_err_and}
 use Rattle.mls_cli_check.proofs.SentTrees.{no_memory, no_nodes, of_nodes, read_twice}
 use Rattle.mls_cli_check.proofs.ShortLeaves.{input_short}
@@ -5,7 +6,7 @@ use Rattle.mls_cli_check.proofs.tree.tree_in.Goals as goal
 
 pub returns-in_err-nodes-clause-tree : goal.returns-in_err-nodes-clause-tree
 returns-in_err-nodes-clause-tree c =
-    let p = err_from_is_err_and c.from_residual.result c.from_residual.ensures.1 in
+    let p = err_from_is_err_and c.from_residual-in_err-nodes.result c.from_residual-in_err-nodes.ensures.1 in
     rw (p.1, p.2) (no_nodes c.args.bytes.now c.in_err-nodes.field-0.0 c.in_err-nodes.ensures.exact)
 
 pub returns-in_err-tree-clause-tree : goal.returns-in_err-tree-clause-tree
@@ -23,7 +24,7 @@ returns-clause-short c =
 
 pub returns-in_err-nodes-clause-outright : goal.returns-in_err-nodes-clause-outright
 returns-in_err-nodes-clause-outright c =
-    let p = err_from_is_err_and c.from_residual.result c.from_residual.ensures.1 in
+    let p = err_from_is_err_and c.from_residual-in_err-nodes.result c.from_residual-in_err-nodes.ensures.1 in
     λ n h. rw (p.1, p.2) (no_memory c.in_err-nodes.field-0.0 _ n c.in_err-nodes.ensures.outright h)
 
 pub returns-in_err-tree-clause-outright : goal.returns-in_err-tree-clause-outright
@@ -32,3 +33,31 @@ returns-in_err-tree-clause-outright c =
 
 pub returns-clause-outright : goal.returns-clause-outright
 returns-clause-outright c = λ n h. tt
+
+-- ---- more nodes than a tree has
+
+pub returns-in_err-refuse_long-clause-tree : goal.returns-in_err-refuse_long-clause-tree
+returns-in_err-refuse_long-clause-tree c =
+    let p = err_from_is_err_and c.from_residual.result c.from_residual.ensures.1 in
+    rw (p.1, p.2) (λ ne. c.in_err-refuse_long.ensures.refused.0)
+
+pub returns-in_err-refuse_long-clause-outright : goal.returns-in_err-refuse_long-clause-outright
+returns-in_err-refuse_long-clause-outright c =
+    let p = err_from_is_err_and c.from_residual.result c.from_residual.ensures.1 in
+    λ n h. rw (p.1, p.2) c.in_err-refuse_long.ensures.refused.1
+
+pub returns-in_err-refuse_long-clause-long : goal.returns-in_err-refuse_long-clause-long
+returns-in_err-refuse_long-clause-long c =
+    let p = err_from_is_err_and c.from_residual.result c.from_residual.ensures.1 in
+    λ cells read many. rw (p.1, p.2) c.in_err-refuse_long.ensures.refused.1
+
+pub returns-in_err-nodes-clause-long : goal.returns-in_err-nodes-clause-long
+returns-in_err-nodes-clause-long c =
+    λ cells read many. let few = c.in_ok-refuse_long.ensures.few cells read in absurd (omega (arith, few, many))
+
+pub returns-in_err-tree-clause-long : goal.returns-in_err-tree-clause-long
+returns-in_err-tree-clause-long c =
+    λ cells read many. let few = c.in_ok-refuse_long.ensures.few cells read in absurd (omega (arith, few, many))
+
+pub returns-clause-long : goal.returns-clause-long
+returns-clause-long c = λ cells read many. tt

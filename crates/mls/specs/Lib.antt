@@ -1,0 +1,16 @@
+pub use Rattle.mls_suite.specs.Crypto
+pub use Rattle.mls_model.specs.Agreement
+pub use Rattle.mls_model.specs.Candidate
+pub use Rattle.mls_model.specs.Make
+pub use Rattle.mls_model.specs.Member
+pub use Rattle.mls_model.specs.MemberInvariant
+pub use Rattle.mls_model.specs.Sharing
+pub use Rattle.mls_model.specs.Verdict
+pub use Rattle.mls_member.specs.Answers
+pub use Rattle.mls_member.specs.Faults
+pub use Rattle.mls_member.specs.GroupMembers
+pub use Rattle.mls_member.specs.Inspecting
+pub use Rattle.mls_member.specs.KeptProposals
+pub use Rattle.mls_member.specs.KeptTogether
+pub use Rattle.mls_member.specs.RefusalKinds
+pub use Rattle.mls_member.specs.ShortPackages

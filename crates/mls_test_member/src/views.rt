@@ -1,0 +1,166 @@
+//! What a member shows to an application: who is in the group, what it keeps, and kinds of refusals.
+
+use mls_leaf::Proposal;
+use mls_member::{KeptCommit, KeptProposal, Member, Refusal, RefusalKind, message_sender};
+use mls_suite::Glass;
+use mls_test_pair::{Pair, Seeds, share};
+use std::alloc::Global;
+use std::test::Fail;
+
+const SEEDS: Seeds = Seeds {
+    alice: [1; 32],
+    bob: [2; 32],
+    group: [3; 32],
+    addition: [4; 32],
+    renewal: [5; 32],
+};
+
+/// Whether the member's group is that of "alice" at leaf 0 and "bob" at leaf 1.
+fn has_both(member: &Member<Glass>) -> bool {
+    let mut members = member.members();
+    let (first, second) = (members.next(), members.next());
+    match (first, second, members.next()) {
+        (Some(first), Some(second), None) => {
+            (first.leaf, first.identity) == (0, b"alice".as_slice())
+                && (second.leaf, second.identity) == (1, b"bob".as_slice())
+        }
+        _ => false,
+    }
+}
+
+/// The identity of the member at a leaf.
+fn identity_at<'a>(member: &'a Member<Glass>, leaf: u32) -> &'a [u8] {
+    match member.member_at(leaf) {
+        Some(found) => found.identity,
+        None => b"",
+    }
+}
+
+#[test]
+fn who_is_in_the_group(rt: HostRuntime) -> Result<(), Fail> {
+    let pair: Pair<Glass> = share(rt.alloc(), b"g", &SEEDS)?;
+    assert!(rt; has_both(&pair.first) && has_both(&pair.second));
+    assert_eq!(rt; pair.second.own_identity(), Some(b"bob".as_slice()));
+    assert_eq!(rt; identity_at(&pair.second, 0), b"alice".as_slice());
+    assert_eq!(rt; identity_at(&pair.second, 2), b"".as_slice());
+    Ok(())
+}
+
+/// Whether it is an update of leaf 1 with this message.
+fn is_update(kept: &KeptProposal, message: &[u8]) -> bool {
+    let is_update = match kept.proposal() {
+        Proposal::Update(_) => true,
+        _ => false,
+    };
+    is_update && kept.sender() == 1 && kept.message() == message
+}
+
+/// Whether a member keeps one proposal, the update of leaf 1 with this message, and knows its reference.
+fn keeps_update(member: &Member<Glass>, message: &[u8]) -> bool {
+    match (member.kept_proposals(), member.reference_of(message)) {
+        ([kept], Some(reference)) => is_update(kept, message) && kept.reference() == reference,
+        _ => false,
+    }
+}
+
+/// The second proposes an update, and the first takes it. Whether both keep it then.
+fn propose(pair: &mut Pair<Glass>) -> Result<bool, Refusal> {
+    let update = pair.second.propose_update(&[6; 32])?;
+    let is_none = pair.first.reference_of(&update).is_none();
+    pair.first.process(&update)?;
+    Ok(is_none && keeps_update(&pair.first, &update) && keeps_update(&pair.second, &update))
+}
+
+#[test]
+fn what_is_kept(rt: HostRuntime) -> Result<(), Fail> {
+    let mut pair: Pair<Glass> = share(rt.alloc(), b"g", &SEEDS)?;
+    assert!(rt; propose(&mut pair)?);
+    Ok(())
+}
+
+/// Whether a commit is pending before a commit call, behind it, and once the commit is followed.
+fn pending(member: &mut Member<Glass>) -> Result<(bool, bool, bool), Refusal> {
+    let before = member.is_commit_pending();
+    let made = member.commit(&[], true, &[7; 32])?;
+    let behind = member.is_commit_pending();
+    member.process(&made.commit)?;
+    Ok((before, behind, member.is_commit_pending()))
+}
+
+#[test]
+fn what_is_pending(rt: HostRuntime) -> Result<(), Fail> {
+    let mut pair: Pair<Glass> = share(rt.alloc(), b"g", &SEEDS)?;
+    assert_eq!(rt; pending(&mut pair.first)?, (false, true, false));
+    Ok(())
+}
+
+/// The kind that a member refuses these bytes with.
+fn kind(member: &mut Member<Glass>, bytes: &[u8]) -> Option<RefusalKind> {
+    match member.process(bytes) {
+        Ok(_) => None,
+        Err(error) => Some(error.kind()),
+    }
+}
+
+#[test]
+fn kinds(rt: HostRuntime) -> Result<(), Fail> {
+    let mut pair: Pair<Glass> = share(rt.alloc(), b"g", &SEEDS)?;
+    // No bytes; a Welcome of no secrets; its version cut.
+    assert_eq!(rt; kind(&mut pair.first, &[]), Some(RefusalKind::Malformed));
+    assert_eq!(rt;
+        kind(&mut pair.first, &[0, 1, 0, 3, 0, 1, 0, 0]),
+        Some(RefusalKind::WrongMessage)
+    );
+    Ok(())
+}
+
+/// Whether a member's inspection of bytes shows what it then does with them.
+fn does_as_inspected(member: &mut Member<Glass>, bytes: &[u8]) -> bool {
+    let shown = member.inspect(bytes);
+    let done = member.process(bytes);
+    match (shown, done) {
+        (Ok(shown), Ok(_)) => shown.member.epoch_number() == member.epoch_number(),
+        (Err(shown), Err(error)) => shown.number() == error.number(),
+        _ => false,
+    }
+}
+
+/// The first commits with a path, and the second inspects the commit, its first half, and the commit again.
+fn inspect(pair: &mut Pair<Glass>) -> Result<(bool, bool, bool), Refusal> {
+    let made = pair.first.commit(&[], true, &[7; 32])?;
+    let commit = made.commit.as_slice();
+    let half = does_as_inspected(&mut pair.second, &commit[..commit.len() / 2]);
+    let whole = does_as_inspected(&mut pair.second, commit);
+    let again = does_as_inspected(&mut pair.second, commit);
+    Ok((half, whole, again))
+}
+
+#[test]
+fn what_a_message_would_do(rt: HostRuntime) -> Result<(), Fail> {
+    let mut pair: Pair<Glass> = share(rt.alloc(), b"g", &SEEDS)?;
+    assert_eq!(rt; inspect(&mut pair)?, (true, true, true));
+    assert_eq!(rt; message_sender(&[]), None);
+    Ok(())
+}
+
+/// Both propose updates, and the first commits what it keeps. Whether it leaves out its own alone, and the second follows.
+fn commit_kept(pair: &mut Pair<Glass>) -> Result<bool, Refusal> {
+    let own = pair.first.propose_update(&[6; 32])?;
+    let update = pair.second.propose_update(&[7; 32])?;
+    pair.first.process(&update)?;
+    let KeptCommit { made, left_out } = pair.first.commit_kept(false, &[8; 32])?;
+    let is_own = match pair.first.reference_of(&own) {
+        Some(reference) => left_out.as_slice() == [*reference].as_slice(),
+        None => false,
+    };
+    pair.second.process(&made.commit)?;
+    Ok(is_own && message_sender(&made.commit) == Some(0))
+}
+
+#[test]
+fn what_goes_together(rt: HostRuntime) -> Result<(), Fail> {
+    let mut pair: Pair<Glass> = share(rt.alloc(), b"g", &SEEDS)?;
+    assert!(rt; commit_kept(&mut pair)?);
+    assert_eq!(rt; pair.second.epoch_number(), 3);
+    Ok(())
+}
