@@ -25,7 +25,8 @@ pub fn seal_sender_data<S: Suite>(
     ciphertext: &[u8],
     sender_data: &SenderData,
 ) -> Result<Vec<u8>, LeafError>
-    ensures { SealsSenderData S.crypto sender_data_secret.now group_id.now epoch ciphertext.now sender_data.now result }
+    ensures { SealsSenderData S.crypto sender_data_secret.now group_id.now epoch
+        ciphertext.now sender_data.now result }
 {
     let aad = sender_data_aad(alloc, group_id, epoch)?;
     let text = spell_sender_data(alloc, sender_data)?;
@@ -68,7 +69,8 @@ pub fn seal_content<S: Suite>(
     authenticated_data: &[u8],
     content: &[u8],
 ) -> Result<Vec<u8>, LeafError>
-    ensures { SealsContent S.crypto key.now reuse_guard group_id.now epoch authenticated_data.now content.now result }
+    ensures { SealsContent S.crypto key.now reuse_guard group_id.now epoch
+        authenticated_data.now content.now result }
 {
     let aad = private_content_aad(alloc, group_id, epoch, authenticated_data)?;
     let nonce = guarded_nonce(&key.nonce, reuse_guard);
