@@ -12,7 +12,7 @@ use Rattle.mls_leaf.specs.Node.{node}
 use Rattle.mls_leaf.specs.declared.node.Node.{Node}
 use Rattle.mls_leaf.specs.declared.node.Node.TheVariants.{Leaf as in_leaf, Parent as in_parent}
 use Rattle.mls_view.specs.Views.{AreItems, LendsNextItem}
-use Rattle.mls_cli_check.specs.LongList.{behind, next, kind_of, kind_numbered, nothing_passed, SpellsKind}
+use Rattle.mls_cli_check.specs.LongList.{behind, next, kind_of, kind_of_number, nothing_passed, SpellsKind}
 use Rattle.mls_cli_check.specs.declared.long_list.Kind.{Kind}
 use Rattle.mls_cli_check.specs.declared.long_list.Kind.TheVariants.{Blank}
 use Rattle.mls_cli_check.specs.declared.long_list.Passed.{Passed}
@@ -89,17 +89,17 @@ parent_is p bytes spells =
     ∙ ap (λ (b : List ℕ). 1 ∷ b) (parent_second p ∙ ap (λ (b : List ℕ). b ++ parent_node.spell p) two_byte)
 
 -- the second byte of a place that has two is the kind of its node
-pub long_place : (bytes : List ℕ) (number : ℕ) (kind : Kind) → 1 < length bytes → number ≡ get_or bytes 1 0 → kind ≡ kind_numbered number → SpellsKind bytes kind
+pub long_place : (bytes : List ℕ) (number : ℕ) (kind : Kind) → 1 < length bytes → number ≡ get_or bytes 1 0 → kind ≡ kind_of_number number → SpellsKind bytes kind
 long_place bytes number kind long is e = by_cell
   where
     by_cell : (cell : Option Node) → Spells (optional node) cell bytes → kind ≡ kind_of cell
     by_cell None spells = let one = ap length (blank_is bytes spells) in absurd (omega (arith, one, long))
     by_cell (Some (in_leaf v)) spells =
         let second : number ≡ 1 = is ∙ ap (λ (b : List ℕ). get_or b 1 0) (leaf_is v bytes spells) in
-        e ∙ ap kind_numbered second
+        e ∙ ap kind_of_number second
     by_cell (Some (in_parent p)) spells =
         let second : number ≡ 2 = is ∙ ap (λ (b : List ℕ). get_or b 1 0) (parent_is p bytes spells) in
-        e ∙ ap kind_numbered second
+        e ∙ ap kind_of_number second
 
 -- a place with one byte is blank
 pub short_place : (bytes : List ℕ) → length bytes ≤ 1 → SpellsKind bytes Blank

@@ -25,8 +25,8 @@ kind_of (Some (in_leaf v)) = Leaf
 kind_of (Some (in_parent p)) = Parent
 
 -- the kind of node that a number stands for (RFC 9420, section 12.4.3.3)
-abbrev pub kind_numbered : ℕ → Kind
-kind_numbered number = if number == 1 then Leaf else Parent
+abbrev pub kind_of_number : ℕ → Kind
+kind_of_number number = if number == 1 then Leaf else Parent
 
 -- Whatever the bytes of a place spell, this is its kind.
 abbrev pub SpellsKind : List ℕ → Kind → Type 0
@@ -49,6 +49,10 @@ next p Parent = record { count = one_more p.count; is_even = not p.is_even; is_p
 unfoldable pub behind : Passed → List (Option Node) → Passed
 behind p [] = p
 behind p (c ∷ cs) = behind (next p (kind_of c)) cs
+
+-- Whatever nodes the bytes of a list spell, this is known behind all of them.
+abbrev pub PassesAll : List ℕ → Passed → Type 0
+PassesAll bytes p = (cells : List (Option Node)) → Spells ratchet_tree cells bytes → p ≡ behind nothing_passed cells
 
 -- what more nodes than a tree has are refused with, where the tree of that height holds them
 abbrev pub refusal_of : Passed → ℕ → ℕ

@@ -1,13 +1,10 @@
 //! Lists of more nodes than a tree has. What is wrong with them is seen in their bytes, and no list is made of them:
 //! 64 MiB of blank nodes would be a list of a gigabyte.
 
-ghost use Rattle.std.specs.Prelude.{◌≡◌, ◌<◌, List, Option, IfOk, IfErr};
-ghost use Rattle.mls_leaf.specs.declared.node.Node.{Node};
-ghost use Rattle.mls_leaf.specs.Faults.{Spells};
-ghost use Rattle.mls_types.specs.GroupInfo.{ratchet_tree};
+ghost use Rattle.std.specs.Prelude.{◌≡◌, ◌<◌, IfOk, IfErr};
 ghost use Rattle.mls_tree.specs.Faults.{number_of};
 ghost use Rattle.mls_tree_model.specs.Arrays.{height_for};
-ghost use Rattle.mls_cli_check.specs.LongList.{behind, kind_numbered, next, nothing_passed, refusal_of, FindsPlaces, HasFewNodes, RefusesTree, SpellsKind};
+ghost use Rattle.mls_cli_check.specs.LongList.{kind_of_number, next, nothing_passed, refusal_of, FindsPlaces, HasFewNodes, PassesAll, RefusesTree, SpellsKind};
 
 use mls_leaf::INPUT_LIMIT;
 use mls_tree::TreeError;
@@ -100,8 +97,8 @@ impl Passed {
 }
 
 /// The kind of node that a number stands for.
-fn kind_numbered(number: u8) -> Kind
-    ensures { result ≡ kind_numbered number }
+fn kind_of_number(number: u8) -> Kind
+    ensures { result ≡ kind_of_number number }
 {
     if number == 1 {
         Kind::Leaf
@@ -115,14 +112,14 @@ fn kind_in(place: &Part<'_, Slot>) -> Kind
     ensures { SpellsKind place.now result }
 {
     match place.bytes() {
-        [_, number, ..] => kind_numbered(*number),
+        [_, number, ..] => kind_of_number(*number),
         _ => Kind::Blank,
     }
 }
 
 /// What is known of all nodes of a list.
 fn pass_all(nodes: &Part<'_, RatchetTree>) -> Passed
-    ensures { (cells : List (Option Node)) → Spells ratchet_tree cells nodes.now → result ≡ behind nothing_passed cells }
+    ensures { PassesAll nodes.now result }
 {
     let mut passed = Passed::nothing();
     let mut walk = nodes.walk();

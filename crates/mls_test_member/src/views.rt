@@ -115,7 +115,7 @@ fn kinds(rt: HostRuntime) -> Result<(), Fail> {
 }
 
 /// Whether a member's inspection of bytes shows what it then does with them.
-fn does_as_inspected(member: &mut Member<Glass>, bytes: &[u8]) -> bool {
+fn follows_inspection(member: &mut Member<Glass>, bytes: &[u8]) -> bool {
     let shown = member.inspect(bytes);
     let done = member.process(bytes);
     match (shown, done) {
@@ -129,9 +129,9 @@ fn does_as_inspected(member: &mut Member<Glass>, bytes: &[u8]) -> bool {
 fn inspect(pair: &mut Pair<Glass>) -> Result<(bool, bool, bool), Refusal> {
     let made = pair.first.commit(&[], true, &[7; 32])?;
     let commit = made.commit.as_slice();
-    let half = does_as_inspected(&mut pair.second, &commit[..commit.len() / 2]);
-    let whole = does_as_inspected(&mut pair.second, commit);
-    let again = does_as_inspected(&mut pair.second, commit);
+    let half = follows_inspection(&mut pair.second, &commit[..commit.len() / 2]);
+    let whole = follows_inspection(&mut pair.second, commit);
+    let again = follows_inspection(&mut pair.second, commit);
     Ok((half, whole, again))
 }
 

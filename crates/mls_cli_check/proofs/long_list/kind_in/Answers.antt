@@ -12,4 +12,4 @@ pub returns-in-len2-up : goal.returns-in-len2-up
 returns-in-len2-up c =
     let above = c.in-len2-up.len_at_least in
     let same = ap length c.bytes.ensures.same in
-    long_place c.args.place.now _ c.kind_numbered.result (omega (arith, above, same)) (ap (λ b. get_or b 1 0) c.bytes.ensures.same) c.kind_numbered.ensures
+    long_place c.args.place.now _ c.kind_of_number.result (omega (arith, above, same)) (ap (λ b. get_or b 1 0) c.bytes.ensures.same) c.kind_of_number.ensures
