@@ -1,16 +1,17 @@
-//! What an application imports: a candidate, a member and their calls, the suites, and all that the calls take and
-//! answer (RFC 9420). The crates below have the code and its contracts.
+//! What an application imports: a candidate, a member, a conversation and their calls, the suites, and all that the calls
+//! take and answer (RFC 9420). The crates below have the code and its contracts.
 #![tactic(auto)]
 
 pub use mls_candidate::{Candidate, CandidateError};
+pub use mls_conversation::{Conversation, ConversationError, ExchangeError, Opened};
 pub use mls_kdf::{Secret, Seed};
 pub use mls_leaf::{
     Bytes, Credential, Extension, GroupExtensions, INPUT_LIMIT, KeyPackage, LeafError, LeafNode,
     Proposal,
 };
 pub use mls_member::{
-    Effect, GroupMember, GroupMembers, Inspection, Item, Joined, KeptCommit, KeptProposal, Made,
-    Member, Refusal, RefusalKind, ShortKeyPackage, message_sender,
+    Effect, GroupMember, GroupMembers, Inspection, Item, Joined, KeptCommit, KeptProposal,
+    ListedProposal, Made, Member, Refusal, RefusalKind, ShortKeyPackage, message_sender,
 };
 pub use mls_public_group::PublicGroup;
 pub use mls_schedule::{Epoch, ScheduleError};

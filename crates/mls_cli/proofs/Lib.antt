@@ -1,3 +1,7 @@
 pub mod Saying
 mod Reading
 mod Numbers
+mod Lacking
+mod Adding
+mod Matching
+mod Telling

@@ -2,7 +2,8 @@
 use Rattle.std.proofs.Common.{◌≡◌, ℕ, suc, ◌<◌, ◌≤◌, nat_lt, true, false, List, length, take, Option, Some, None, Result, Ok, Err, IfSome, inl, inr, refl, sym, ◌∙◌, ap, subst, arith}
 use Rattle.std.proofs.lemmas.Bool.{cases_lt, cond-true, cond-false, lt-ltb, le-ltb}
 use Rattle.std.proofs.lemmas.List.{length-take-le, take_all}
-use Rattle.mls_cli_text.specs.HexFileLimit.{hex_file_limit}
+use Rattle.mls_cli_text.specs.Form.{file_limit}
+use Rattle.mls_cli_text.specs.declared.form.Form.{Form}
 use Rattle.mls_cli_text.specs.Page.{Page, Printout, printout, refused}
 use Rattle.mls_cli_text.specs.Text.{Entry, line_text}
 use Rattle.mls_cli_text.specs.declared.fault.Fault.{Fault}
@@ -11,27 +12,33 @@ use Rattle.mls_cli_check.specs.Check.{check_page}
 use Rattle.mls_cli_replay.specs.Replay.{PrintsOne}
 use Rattle.mls_cli.specs.declared.tasks.Job.{Job}
 use Rattle.mls_cli.specs.declared.tasks.Job.TheVariants as job
-use Rattle.mls_cli.specs.Serving.{IsPrintout, checking, checks_of, hex_file_page, read_of}
+use Rattle.mls_cli_check.specs.GroupInfo.{group_info_page}
+use Rattle.mls_suite.specs.Glass.{glass}
+use Rattle.mls_cli.specs.declared.tasks.SuiteChoice.TheVariants as choice
+use Rattle.mls_cli.specs.Serving.{IsPrintout, checking, file_page, read_of}
 
-pub long_page : (text : List ℕ) (page : Page Entry) → hex_file_limit < length text → hex_file_page text page ≡ refused 6
-long_page text page long = cond-true (nat_lt hex_file_limit (length text)) _ _ (lt-ltb hex_file_limit (length text) long)
+pub long_page : (form : Form) (text : List ℕ) (page : Page Entry) → file_limit form < length text → file_page form text page ≡ refused 6
+long_page form text page long = cond-true (nat_lt (file_limit form) (length text)) _ _ (lt-ltb (file_limit form) (length text) long)
 
-pub short_page : (text : List ℕ) (page : Page Entry) → length text ≤ hex_file_limit → hex_file_page text page ≡ page
-short_page text page short = cond-false (nat_lt hex_file_limit (length text)) _ _ (le-ltb hex_file_limit (length text) short)
+pub short_page : (form : Form) (text : List ℕ) (page : Page Entry) → length text ≤ file_limit form → file_page form text page ≡ page
+short_page form text page short = cond-false (nat_lt (file_limit form) (length text)) _ _ (le-ltb (file_limit form) (length text) short)
 
-page_of_front : (text : List ℕ) (page : List ℕ → Page Entry) → hex_file_page (take (suc hex_file_limit) text) (page (take (suc hex_file_limit) text)) ≡ hex_file_page text (page text)
-page_of_front text page =
-    elim (cases_lt hex_file_limit (length text)) [
+page_of_front : (form : Form) (text : List ℕ) (page : List ℕ → Page Entry) → file_page form (take (suc (file_limit form)) text) (page (take (suc (file_limit form)) text)) ≡ file_page form text (page text)
+page_of_front form text page =
+    elim (cases_lt (file_limit form) (length text)) [
       | inl long ↦
-          let most = length-take-le (suc hex_file_limit) text (omega arith) in
-          long_page (take (suc hex_file_limit) text) _ (omega arith) ∙ sym (long_page text _ long)
-      | inr short ↦ ap (λ front. hex_file_page front (page front)) (take_all (suc hex_file_limit) text (omega arith))
+          let most = length-take-le (suc (file_limit form)) text (omega arith) in
+          long_page form (take (suc (file_limit form)) text) _ (omega arith) ∙ sym (long_page form text _ long)
+      | inr short ↦ ap (λ front. file_page form front (page front)) (take_all (suc (file_limit form)) text (omega arith))
     ]
 
 same_printout : (j : Job) (text : List ℕ) (p : Printout) → IsPrintout j (read_of j text) p → IsPrintout j text p
-same_printout (job.Show file) text p is = is ∙ ap (printout line_text) (page_of_front text show_page)
-same_printout (job.Check file suite signatures group) text p is = is ∙ ap (printout line_text) (page_of_front text (λ own. check_page (checking suite signatures) (checks_of suite signatures) own group.now))
-same_printout (job.Replay file suite message) text p is = is
+same_printout (job.Show file form detail) text p is = is ∙ ap (printout line_text) (page_of_front form text (show_page detail form))
+same_printout (job.Check file form suite signatures group) text p is =
+    is ∙ ap (printout line_text) (page_of_front form text (λ own. check_page (checking suite signatures) form own group.now))
+same_printout (job.CheckGroupInfo file form signatures) text p is =
+    is ∙ ap (printout line_text) (page_of_front form text (group_info_page glass (checking choice.Suite0001 signatures) form))
+same_printout (job.Replay file suite view) text p is = is
 same_printout (job.Vectors file) text p is = is
 
 prints_all : (j : Job) (text : List ℕ) (old new : Option (List ℕ)) (r : Result ℕ Fault) → PrintsOne (IsPrintout j (read_of j text)) old new r → PrintsOne (IsPrintout j text) old new r

@@ -2,19 +2,24 @@
 use Rattle.std.specs.Prelude.{◌≡◌, ◌≢◌, ◌⊎◌, ℕ, Bool, List, [], ◌∷◌, codes, map, Option, Some, None, option_and_then, option_map, unwrap_or, if◌then◌else◌, true, false}
 use Rattle.std.specs.Borrow.{Bor}
 use Rattle.std.specs.Str.{bytes_eq}
-use Rattle.std.specs.Str.Parse.{digits_value, without_leading_plus}
-use Rattle.clap.specs.Words.{App, Row, fault_of, subcommand_of, Rule, Text, first_of, new_app, new_rule, with_rule, with_subcommand}
+use Rattle.clap.specs.Words.{App, Row, fault_of, matches_of, subcommand_of, Rule, Text, first_of, new_app, new_rule, with_rule, with_subcommand}
 use Rattle.clap.specs.Kinds.{IsAmong, Kinds}
-use Rattle.clap.specs.ValueTests.{accepts}
-use Rattle.clap.specs.declared.builder.action.ArgAction.TheVariants.{SetTrue}
-use Rattle.clap.specs.declared.builder.value_parser.ValueParser.{ValueParser}
-use Rattle.clap.specs.declared.builder.value_parser.ValueParser.TheVariants as parser
 use Rattle.clap.specs.declared.error.kind.ErrorKind.{ErrorKind}
 use Rattle.clap.specs.declared.error.kind.ErrorKind.TheVariants as kind
+use Rattle.mls_cli_show.specs.declared.numbered.Detail.{Detail}
+use Rattle.mls_cli_show.specs.declared.numbered.Detail.TheVariants.{Brief, Full}
+use Rattle.mls_cli_text.specs.declared.form.Form.{Form}
+use Rattle.mls_cli_text.specs.declared.form.Form.TheVariants.{Hex, Raw}
+use Rattle.mls_cli_replay.specs.declared.view.ReplayView.{ReplayView}
+use Rattle.mls_cli_replay.specs.declared.view.ReplayView.TheVariants.{Replies}
+use Rattle.mls_cli_explain.specs.Explanations.{explanation_view}
+use Rattle.mls_cli.specs.ExplainArguments.{explain_rule, lacking, told_on, unless_asked}
+use Rattle.mls_cli.specs.Options.{flag_rule, number_in}
+use Rattle.mls_cli.specs.ReplayArguments.{view_by, with_view_rules}
 use Rattle.mls_cli.specs.declared.tasks.NoJob.{NoJob}
 use Rattle.mls_cli.specs.declared.tasks.NoJob.TheVariants as no_job
 use Rattle.mls_cli.specs.declared.tasks.Job.{Job}
-use Rattle.mls_cli.specs.declared.tasks.Job.TheVariants.{Show, Check, Replay, Vectors}
+use Rattle.mls_cli.specs.declared.tasks.Job.TheVariants.{Show, Check, CheckGroupInfo, Replay, Vectors}
 use Rattle.mls_cli.specs.declared.tasks.SuiteChoice.{SuiteChoice}
 use Rattle.mls_cli.specs.declared.tasks.SuiteChoice.TheVariants.{Glass, Suite0001}
 
@@ -33,37 +38,37 @@ suite_rule = record (new_rule (codes "SUITE")) { long = Some (codes "suite"); de
 abbrev pub group_rule : Rule
 group_rule = record (new_rule (codes "HEX")) { long = Some (codes "group") }
 
--- a flag --signatures
-abbrev pub signatures_rule : Rule
-signatures_rule = record (new_rule (codes "signatures")) { long = Some (codes "signatures"); action = Some SetTrue }
+-- `show`, which takes a FILE and two flags
+abbrev pub show_app : App
+show_app = with_rule (with_rule (file_app (codes "show")) (flag_rule (codes "full"))) (flag_rule (codes "raw"))
 
--- an optional --message N, a number below 2^64
-abbrev pub number_parser : ValueParser
-number_parser = parser.Unsigned 0 18446744073709551615
-
-abbrev pub message_rule : Rule
-message_rule = record (new_rule (codes "N")) { long = Some (codes "message"); parser = Some number_parser }
-
--- `check`, which takes a FILE and three options
+-- `check`, which takes a FILE, two options and three flags
 abbrev pub check_app : App
-check_app = with_rule (with_rule (with_rule (file_app (codes "check")) suite_rule) group_rule) signatures_rule
+check_app =
+    with_rule
+    (with_rule
+    (with_rule (with_rule (with_rule (file_app (codes "check")) suite_rule) group_rule) (flag_rule (codes "signatures")))
+    (flag_rule (codes "group-info")))
+    (flag_rule (codes "raw"))
 
--- `replay`, which takes a FILE and two options
+-- `replay`, which takes a FILE, a suite and what is asked for
 abbrev pub replay_app : App
-replay_app = with_rule (with_rule (file_app (codes "replay")) suite_rule) message_rule
+replay_app = with_view_rules (with_rule (file_app (codes "replay")) suite_rule)
 
--- one of the subcommands is required, but for `--version`
-abbrev pub needing_subcommand : App → App
-needing_subcommand a = record a { top = record a.top { has_version = true; subcommand_required = true } }
+-- with `--version`
+abbrev pub with_version : App → App
+with_version a = record a { top = record a.top { has_version = true } }
 
--- the command line
+-- the command line: one of the subcommands, or `--explain`
 abbrev pub mls : App
-mls = needing_subcommand
+mls = with_version
+    (with_rule
     (with_subcommand
     (with_subcommand
-    (with_subcommand (with_subcommand (new_app (codes "mls")) (file_app (codes "show")).top) check_app.top)
+    (with_subcommand (with_subcommand (new_app (codes "mls")) show_app.top) check_app.top)
     replay_app.top)
     (file_app (codes "vectors")).top)
+    explain_rule)
 
 -- the words with the program's name as the first
 abbrev pub name_program : List Text → List Text
@@ -72,15 +77,17 @@ name_program (first ∷ rest) = codes "mls" ∷ rest
 
 -- a job without where it lies in memory
 pub data Task : Type 0 where
-  show : Text → Task
-  check : Text → SuiteChoice → Bool → Text → Task
-  replay : Text → SuiteChoice → Option ℕ → Task
+  show : Text → Form → Detail → Task
+  check : Text → Form → SuiteChoice → Bool → Text → Task
+  check_group_info : Text → Form → Bool → Task
+  replay : Text → SuiteChoice → ReplayView → Task
   vectors : Text → Task
 
 abbrev pub task_view : Job → Task
-task_view (Show file) = show file.now
-task_view (Check file suite signatures group) = check file.now suite signatures group.now
-task_view (Replay file suite message) = replay file.now suite message
+task_view (Show file form detail) = show file.now form detail
+task_view (Check file form suite signatures group) = check file.now form suite signatures group.now
+task_view (CheckGroupInfo file form signatures) = check_group_info file.now form signatures
+task_view (Replay file suite view) = replay file.now suite view
 task_view (Vectors file) = vectors file.now
 
 -- a suite is named by its number in hex
@@ -95,24 +102,45 @@ abbrev pub is_given : Option Text → Bool
 is_given None = false
 is_given (Some text) = bytes_eq text (codes "true")
 
--- the number that decimal digits write, with a plus before them or none
-abbrev pub number_in : Text → Option ℕ
-number_in text = if accepts false number_parser text then Some (digits_value 10 (without_leading_plus text)) else None
+-- a file has its bytes as they are where --raw is given
+abbrev pub form_of : Option Text → Form
+form_of raw = if is_given raw then Raw else Hex
+
+-- all is shown where --full is given
+abbrev pub detail_of : Option Text → Detail
+detail_of full = if is_given full then Full else Brief
+
+abbrev pub show_on : Option Text → Option Text → Text → Task
+show_on full raw file = show file (form_of raw) (detail_of full)
+
+-- a tree's group has the empty id where --group isn't given
+abbrev pub tree_task : Form → SuiteChoice → Bool → Option Text → Text → Task
+tree_task form suite signatures group file = check file form suite signatures (unwrap_or group [])
+
+abbrev pub check_task : Bool → Form → SuiteChoice → Bool → Option Text → Text → Task
+check_task info form suite signatures group file =
+    if info then check_group_info file form signatures else tree_task form suite signatures group file
 
 -- there is no such job where the suite has another name
-abbrev pub check_on : Option Text → Option Text → Option Text → Text → Option Task
-check_on suite signatures group file =
-    option_map (λ s. check file s (is_given signatures) (unwrap_or group [])) (option_and_then suite_of suite)
+abbrev pub check_on : Option Text → Option Text → Option Text → Option Text → Option Text → Text → Option Task
+check_on info raw suite signatures group file =
+    option_map (λ s. check_task (is_given info) (form_of raw) s (is_given signatures) group file) (option_and_then suite_of suite)
 
-abbrev pub replay_on : Option Text → Option Text → Text → Option Task
-replay_on suite message file =
-    option_map (λ s. replay file s (option_and_then number_in message)) (option_and_then suite_of suite)
+-- what is asked for of a recording, by the values of its options
+abbrev pub view_on : List Row → Option ReplayView
+view_on rows = view_by (option_and_then number_in (first_of (codes "N") rows)) (option_and_then number_in (first_of (codes "K") rows))
+    (is_given (first_of (codes "quiet") rows)) (is_given (first_of (codes "record") rows))
+
+-- there is no such job either where two things are asked for
+abbrev pub replay_on : Option Text → Option ReplayView → Text → Option Task
+replay_on suite view file =
+    option_and_then (λ s. option_map (λ v. replay file s v) view) (option_and_then suite_of suite)
 
 abbrev pub task_on : Text → List Row → Text → Option Task
 task_on name rows file =
-    if bytes_eq name (codes "show") then Some (show file)
-    else if bytes_eq name (codes "check") then check_on (first_of (codes "SUITE") rows) (first_of (codes "signatures") rows) (first_of (codes "HEX") rows) file
-    else if bytes_eq name (codes "replay") then replay_on (first_of (codes "SUITE") rows) (first_of (codes "N") rows) file
+    if bytes_eq name (codes "show") then Some (show_on (first_of (codes "full") rows) (first_of (codes "raw") rows) file)
+    else if bytes_eq name (codes "check") then check_on (first_of (codes "group-info") rows) (first_of (codes "raw") rows) (first_of (codes "SUITE") rows) (first_of (codes "signatures") rows) (first_of (codes "HEX") rows) file
+    else if bytes_eq name (codes "replay") then replay_on (first_of (codes "SUITE") rows) (view_on rows) file
     else if bytes_eq name (codes "vectors") then Some (vectors file)
     else None
 
@@ -122,9 +150,10 @@ task_of found = option_and_then
     (λ p. option_and_then (task_on p.0 p.1) (first_of (codes "FILE") p.1)) found
 
 abbrev pub file_of : Job → Text
-file_of (Show file) = file.now
-file_of (Check file suite signatures group) = file.now
-file_of (Replay file suite message) = file.now
+file_of (Show file form detail) = file.now
+file_of (Check file form suite signatures group) = file.now
+file_of (CheckGroupInfo file form signatures) = file.now
+file_of (Replay file suite view) = file.now
 file_of (Vectors file) = file.now
 
 -- ---- where there is no job
@@ -139,15 +168,23 @@ IsMistake k = (k ≢ kind.DisplayHelp) × (k ≢ kind.DisplayVersion) × (k ≢ 
 abbrev pub ComesOf : NoJob → ErrorKind → Type 0
 ComesOf (no_job.Shown text) k = IsHelp k
 ComesOf (no_job.Mistaken text) k = IsMistake k
+ComesOf (no_job.Explained n told) k = ⊥
 ComesOf no_job.OutOfMemory k = Unit {0}
 
--- a kind that clap finds in the words, or that of a value that clap lets through
-abbrev pub IsFault : Kinds → Option Task → ErrorKind → Type 0
-IsFault kinds task k =
-    (k ≡ kind.OutOfMemory) ⊎ IsAmong k kinds ⊎ ((kinds ≡ []) × (task ≡ None) × (k ≡ kind.InvalidValue))
+-- what there is where clap finds no fault and there is no job: what is told of the refusal that is asked for, or a mistake,
+-- unless memory runs out; by the word behind --explain and the subcommand
+abbrev pub Lacks : Option Text → Option (Text × List Row) → NoJob → Type 0
+Lacks asked found (no_job.Explained n told) = told_on asked found ≡ Some (n, explanation_view told)
+Lacks asked found (no_job.Shown text) = ⊥
+Lacks asked found (no_job.Mistaken text) = (told_on asked found ≡ None) × IsMistake (lacking asked found)
+Lacks asked found no_job.OutOfMemory = Unit {0}
 
-abbrev pub Explains : Kinds → Option Task → NoJob → Type 0
-Explains kinds task e = (k : ErrorKind) × ComesOf e k × IsFault kinds task k
+-- of a kind that clap finds in the words
+abbrev pub IsFault : Kinds → NoJob → Type 0
+IsFault kinds e = (k : ErrorKind) × ComesOf e k × ((k ≡ kind.OutOfMemory) ⊎ IsAmong k kinds)
+
+abbrev pub Explains : Kinds → Option Task → Option Text → Option (Text × List Row) → NoJob → Type 0
+Explains kinds task asked found e = IsFault kinds e ⊎ ((kinds ≡ []) × (task ≡ None) × Lacks asked found e)
 
 -- ---- of the code's values
 
@@ -173,13 +210,17 @@ maybe_task job = option_map task_view job
 abbrev pub found_in : List Text → Option (Text × List Row)
 found_in words = subcommand_of mls words
 
+-- the word behind --explain
+abbrev pub asked_in : List Text → Option Text
+asked_in words = first_of (codes "REFUSAL") (matches_of mls words)
+
 -- the job that the words name
 abbrev pub task_in : List Text → Option Task
-task_in words = task_of (found_in words)
+task_in words = unless_asked (asked_in words) (task_of (found_in words))
 
 -- why the words name no job
 abbrev pub ExplainsWords : List Text → NoJob → Type 0
-ExplainsWords words e = Explains (fault_of mls words) (task_in words) e
+ExplainsWords words e = Explains (fault_of mls words) (task_in words) (asked_in words) (found_in words) e
 
 -- ---- of the words behind the program's own name
 
@@ -191,19 +232,39 @@ faults_behind words = fault_of mls (codes "mls" ∷ words)
 abbrev pub task_behind : List Text → Option Task
 task_behind words = task_in (codes "mls" ∷ words)
 
--- a check and a replay with what stands where no option is given
+-- a show, a check and a replay with what stands where no option is given
+abbrev pub plain_show : Text → Task
+plain_show file = show file Hex Brief
+
 abbrev pub plain_check : Text → Task
-plain_check file = check file Glass false []
+plain_check file = check file Hex Glass false []
 
 abbrev pub plain_replay : Text → Task
-plain_replay file = replay file Glass None
+plain_replay file = replay file Glass Replies
 
 -- a check and a replay with all options
 abbrev pub words_of_check : List Text
 words_of_check = codes "check" ∷ codes "a" ∷ codes "--suite" ∷ codes "0001" ∷ codes "--signatures" ∷ codes "--group=67" ∷ []
 
+abbrev pub words_of_info : List Text
+words_of_info = codes "check" ∷ codes "--group-info" ∷ codes "--raw" ∷ codes "a" ∷ []
+
 abbrev pub words_of_replay : List Text
 words_of_replay = codes "replay" ∷ codes "--message" ∷ codes "12" ∷ codes "--suite=0001" ∷ codes "a" ∷ []
+
+-- a replay that asks for a member's tree, a quiet one, and one that records
+abbrev pub words_of_tree : List Text
+words_of_tree = codes "replay" ∷ codes "a" ∷ codes "--tree=3" ∷ []
+
+abbrev pub words_of_quiet : List Text
+words_of_quiet = codes "replay" ∷ codes "--quiet" ∷ codes "a" ∷ []
+
+abbrev pub words_of_record : List Text
+words_of_record = codes "replay" ∷ codes "--record" ∷ codes "a" ∷ []
+
+-- a replay that asks for two things
+abbrev pub words_of_two_views : List Text
+words_of_two_views = codes "replay" ∷ codes "a" ∷ codes "--quiet" ∷ codes "--message=0" ∷ []
 
 -- a replay whose message is no number
 abbrev pub words_of_no_number : List Text

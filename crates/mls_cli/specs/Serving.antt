@@ -9,8 +9,11 @@ use Rattle.mls_cli.specs.declared.tasks.SuiteChoice.{SuiteChoice}
 use Rattle.mls_cli.specs.declared.tasks.SuiteChoice.TheVariants as choice
 use Rattle.mls_cli.specs.declared.tasks.Job.{Job}
 use Rattle.mls_cli.specs.declared.tasks.Job.TheVariants as job
-use Rattle.mls_cli_text.specs.InputOutput.{AppendsPart, out_failed, out_writer}
-use Rattle.mls_cli_text.specs.HexFileLimit.{hex_file_limit}
+use Rattle.mls_cli_text.specs.InputOutput.{AppendsPart, KeepsOrAppendsPart, out_failed, out_writer}
+use Rattle.mls_cli_explain.specs.Explain.{told_page}
+use Rattle.mls_cli_explain.specs.Explanations.{Told, explanation_view}
+use Rattle.mls_cli_text.specs.Form.{file_limit}
+use Rattle.mls_cli_text.specs.declared.form.Form.{Form}
 use Rattle.mls_cli_text.specs.Page.{Page, Printout, printout, refused}
 use Rattle.mls_cli_text.specs.Text.{Entry, line_text}
 use Rattle.mls_cli_text.specs.declared.fault.Fault.{Fault}
@@ -19,45 +22,36 @@ use Rattle.mls_cli_show.specs.Show.{page_of as show_page}
 use Rattle.mls_cli_check.specs.Check.{check_page}
 use Rattle.mls_cli_check.specs.Unchecked.{unchecked}
 use Rattle.mls_suite_0001.specs.Suite0001.{suite_0001}
-use Rattle.mls_cli_check.specs.declared.report.SuiteChecks.{SuiteChecks}
-use Rattle.mls_cli_check.specs.declared.report.SuiteChecks.TheVariants.{Made, Left}
+use Rattle.mls_cli_check.specs.GroupInfo.{group_info_page}
 use Rattle.mls_cli_vectors.specs.VectorsReport.{entry_text, vectors_page}
 use Rattle.mls_cli_text.specs.declared.output.Out.{Out}
-use Rattle.mls_cli_replay.specs.Message.{IsMessage}
-use Rattle.mls_cli_replay.specs.Replay.{IsReplay, PrintsOne}
+use Rattle.mls_cli_replay.specs.Replay.{PrintsOne}
+use Rattle.mls_cli_replay.specs.Views.{IsView}
+use Rattle.mls_cli_replay.specs.declared.view.ReplayView.{ReplayView}
 
 -- the suite of a group
 abbrev pub crypto_of : SuiteChoice → Crypto
 crypto_of choice.Glass = glass
 crypto_of choice.Suite0001 = suite_0001
 
--- by which suite a tree is checked, and whether that makes the checks that are its own functions: signatures under suite
--- 0001 are checked only where that is asked for
+-- by which suite a tree is checked: signatures under suite 0001 are checked only where that is asked for
 abbrev pub checking : SuiteChoice → Bool → Crypto
 checking choice.Glass signatures = glass
 checking choice.Suite0001 true = suite_0001
 checking choice.Suite0001 false = unchecked
 
-abbrev pub checks_of : SuiteChoice → Bool → SuiteChecks
-checks_of choice.Glass signatures = Made
-checks_of choice.Suite0001 true = Made
-checks_of choice.Suite0001 false = Left
-
--- what is printed of a recording, or of one of its messages
-abbrev pub IsReplayOrMessage : Crypto → Option ℕ → List ℕ → Printout → Type 0
-IsReplayOrMessage c None text p = IsReplay c text p
-IsReplayOrMessage c (Some n) text p = IsMessage c n text p
-
--- what is printed of a hex file whose page is this: the refusal `TooLong` (6) alone, where the text is too long
-abbrev pub hex_file_page : List ℕ → Page Entry → Page Entry
-hex_file_page text page = if nat_lt hex_file_limit (length text) then refused 6 else page
+-- what is printed of a file whose page is this: the refusal `TooLong` (6) alone, where its text is too long
+abbrev pub file_page : Form → List ℕ → Page Entry → Page Entry
+file_page form text page = if nat_lt (file_limit form) (length text) then refused 6 else page
 
 -- what a job prints for a file of this text
 abbrev pub IsPrintout : Job → List ℕ → Printout → Type 0
-IsPrintout (job.Show file) text p = p ≡ printout line_text (hex_file_page text (show_page text))
-IsPrintout (job.Check file suite signatures group) text p =
-    p ≡ printout line_text (hex_file_page text (check_page (checking suite signatures) (checks_of suite signatures) text group.now))
-IsPrintout (job.Replay file suite message) text p = IsReplayOrMessage (crypto_of suite) message text p
+IsPrintout (job.Show file form detail) text p = p ≡ printout line_text (file_page form text (show_page detail form text))
+IsPrintout (job.Check file form suite signatures group) text p =
+    p ≡ printout line_text (file_page form text (check_page (checking suite signatures) form text group.now))
+IsPrintout (job.CheckGroupInfo file form signatures) text p =
+    p ≡ printout line_text (file_page form text (group_info_page glass (checking choice.Suite0001 signatures) form text))
+IsPrintout (job.Replay file suite view) text p = IsView (crypto_of suite) view text p
 IsPrintout (job.Vectors file) text p = p ≡ printout entry_text (vectors_page text)
 
 -- the output grows by the text of such a printout, with its status; or the status is 3, and it grows by less than such a
@@ -113,11 +107,19 @@ ShowsHelp text status out_old out_new written old new failed =
     ((status ≡ 0) × Appends out_old out_new text × (written ≡ false) × Keeps old new)
     ⊎ ((status ≡ 3) × AppendsPart out_old out_new text × SaysOrFails old new failed (fault_text [] (cause false written)))
 
--- Without a job: help is written. A mistake is said, with status 2, and
+-- the page of what is told of a refusal is written, with status 0; or it can't be, with status 3
+abbrev pub ShowsTold : ℕ → Told → ℕ → Option (List ℕ) → Option (List ℕ) → Bool → Option (List ℕ) → Option (List ℕ) → Bool → Type 0
+ShowsTold n told status out_old out_new written old new failed =
+    ((status ≡ 0) × Appends out_old out_new (printout line_text (told_page n told)).text × (written ≡ false) × Keeps old new)
+    ⊎ ((status ≡ 3) × KeepsOrAppendsPart out_old out_new (printout line_text (told_page n told)).text × SaysOrFails old new failed (fault_text [] (cause false written)))
+
+-- Without a job: help is written, and so is what is told of a refusal. A mistake is said, with status 2, and
 -- so is want of memory, with 3; the output stays as it was.
 abbrev pub EndsWithoutJob : NoJob → ℕ → Option (List ℕ) → Option (List ℕ) → Bool → Option (List ℕ) → Option (List ℕ) → Bool → Type 0
 EndsWithoutJob (no_job.Shown text) status out_old out_new written old new failed =
     ShowsHelp (string_bytes text) status out_old out_new written old new failed
+EndsWithoutJob (no_job.Explained n told) status out_old out_new written old new failed =
+    ShowsTold n (explanation_view told) status out_old out_new written old new failed
 EndsWithoutJob (no_job.Mistaken text) status out_old out_new written old new failed =
     (status ≡ 2) × Keeps out_old out_new × SaysOrFails old new failed (string_bytes text)
 EndsWithoutJob no_job.OutOfMemory status out_old out_new written old new failed =
@@ -125,11 +127,12 @@ EndsWithoutJob no_job.OutOfMemory status out_old out_new written old new failed 
 
 -- ---- of the code's ends
 
--- what a job reads of a file of this text: no more of a hex file than shows that it is too long
+-- what a job reads of a file of this text: no more of a file of bytes than shows that it is too long
 abbrev pub read_of : Job → List ℕ → List ℕ
-read_of (job.Show file) text = take (suc hex_file_limit) text
-read_of (job.Check file suite signatures group) text = take (suc hex_file_limit) text
-read_of (job.Replay file suite message) text = text
+read_of (job.Show file form detail) text = take (suc (file_limit form)) text
+read_of (job.Check file form suite signatures group) text = take (suc (file_limit form)) text
+read_of (job.CheckGroupInfo file form signatures) text = take (suc (file_limit form)) text
+read_of (job.Replay file suite view) text = text
 read_of (job.Vectors file) text = text
 
 -- this is what a job reads of all that a reader has left, where that is known
@@ -150,9 +153,9 @@ abbrev pub PrintsFile : {I O : Type 0} → (I → Option (List ℕ)) → (O → 
 PrintsFile {I} {O} remaining contents j file old new status =
     IfSome file (λ (reader : I). IfSome (remaining reader) (λ (text : List ℕ). PrintsOrFails (IsPrintout j text) (contents old) (contents new) status))
 
--- what is printed of a recording's text, or of one of its messages, is printed
-abbrev pub PrintsRecording : {O : Type 0} → (O → Option (List ℕ)) → SuiteChoice → Option ℕ → List ℕ → O → O → Result ℕ Fault → Type 0
-PrintsRecording contents suite message text old new result = PrintsOne (IsReplayOrMessage (crypto_of suite) message text) (contents old) (contents new) result
+-- a view of a recording's text is printed
+abbrev pub PrintsRecording : {O : Type 0} → (O → Option (List ℕ)) → SuiteChoice → ReplayView → List ℕ → O → O → Result ℕ Fault → Type 0
+PrintsRecording contents suite view text old new result = PrintsOne (IsView (crypto_of suite) view text) (contents old) (contents new) result
 
 -- a file that can't be read leaves the output as it was
 abbrev pub KeepsUnread : {I O : Type 0} → (I → Bool) → (O → Option (List ℕ)) → Option I → O → O → Type 0

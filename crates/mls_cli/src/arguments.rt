@@ -1,13 +1,23 @@
 //! The command line of `mls`, read with `clap`.
 
 ghost use Rattle.std.specs.Prelude.{◌≡◌, map, true, false, codes, Ok, Err, Some, None, IfOk, IfErr, IsSome, OnOk, ◌⊎◌, ◌∷◌, [], option_and_then, option_map};
-ghost use Rattle.clap.specs.Words.{app_of, shape_of, first_of, found_of, kind_of, rows_of, rule_of, subcommand_of, subcommand_rows_of, takes, fault_of, FailsBy, HasKind};
+ghost use Rattle.clap.specs.Words.{app_of, shape_of, first_of, found_of, kind_of, matches_of, rows_of, rule_of, subcommand_of, subcommand_rows_of, takes, fault_of, FailsBy, HasKind};
 ghost use Rattle.clap.specs.declared.Command.TheViews.{out-Command as fields_of};
-ghost use Rattle.mls_cli.specs.Arguments.{ComesOf, ExplainsWords, check, check_app, check_on, faults_behind, file_app, file_rule, found_in, found_rows, given, group_rule, is_given, maybe_task, message_rule, mls, needing_subcommand, number_in, plain_check, plain_replay, replay, replay_app, replay_on, show, signatures_rule, suite_of, suite_rule, task_behind, task_in, task_of, task_on, task_view, vectors, words_of_check, words_of_no_number, words_of_replay};
+ghost use Rattle.mls_cli.specs.Arguments.{ComesOf, ExplainsWords, check, check_group_info, faults_behind, found_in, found_rows, given, maybe_task, mls, plain_check, plain_replay, plain_show, replay, replay_on, show, task_behind, task_in, task_of, task_on, task_view, vectors, view_on, with_version, words_of_check, words_of_info, words_of_no_number, words_of_quiet, words_of_record, words_of_replay, words_of_tree, words_of_two_views};
+ghost use Rattle.mls_cli.specs.ExplainArguments.{unless_asked};
+ghost use Rattle.mls_cli.specs.Options.{number_in};
 
+use crate::check_options::{check_command, check_on};
+use crate::explain_arguments::{explain_arg, without_job};
+use crate::options::{file_command, is_given, number_in, suite_of};
+use crate::replay_arguments::{replay_command, view_by};
+use crate::show_options::{show_command, show_on};
 use crate::tasks::{Job, NoJob, SuiteChoice};
 use clap::error::ErrorKind;
-use clap::{Arg, ArgAction, ArgMatches, Command, Error};
+use clap::{ArgMatches, Command, Error};
+use mls_cli_replay::ReplayView;
+use mls_cli_show::Detail;
+use mls_cli_text::Form;
 use std::alloc::{AllocError, Global};
 use std::convert::AsStr;
 
@@ -18,116 +28,22 @@ const VERSION: &str = "0.1.0";
 const EXIT_STATUS: &str =
     "Exit status:\n  0  the content is good\n  1  it is refused, or vectors or expectations fail\n  2  the command line is wrong\n  3  a file, the output or memory failed";
 
-fn file_arg<'a>(alloc: Global, help: &'a str) -> Arg<'a>
-    ensures rule { rule_of result ≡ file_rule }
-    ensures local { result.global ≡ false }
-{
-    Arg::new(alloc, "FILE").required(true).help(help)
-}
-
-/// A subcommand that takes a FILE, with what help says of both.
-fn file_command<'a>(
-    alloc: Global,
-    name: &'a str,
-    about: &'a str,
-    file: &'a str,
-) -> Result<Command<'a>, AllocError>
-    ensures app { IfOk result (λ c. app_of c ≡ file_app name.entry.now) }
-    ensures local { IfOk result (λ c. (fields_of c).has_globals ≡ false) }
-{
-    let file = file_arg(alloc, file);
-    Command::new(alloc, name).about(about).arg(file)
-}
-
-fn suite_arg<'a>(alloc: Global) -> Arg<'a>
-    ensures rule { rule_of result ≡ suite_rule }
-    ensures local { result.global ≡ false }
-{
-    Arg::new(alloc, "SUITE")
-        .long("suite")
-        .default_value("f001")
-        .help("The group's cipher suite, f001 or 0001")
-}
-
-fn signatures_arg<'a>(alloc: Global) -> Arg<'a>
-    ensures rule { rule_of result ≡ signatures_rule }
-    ensures local { result.global ≡ false }
-{
-    Arg::new(alloc, "signatures")
-        .long("signatures")
-        .action(ArgAction::SetTrue)
-        .help("Checks signatures and keys under suite 0001 too")
-}
-
-fn message_arg<'a>(alloc: Global) -> Arg<'a>
-    ensures rule { rule_of result ≡ message_rule }
-    ensures local { result.global ≡ false }
-{
-    Arg::new(alloc, "N")
-        .long("message")
-        .value_parser(clap::value_parser!(u64))
-        .help("Prints this message in hex, in place of the replies")
-}
-
-fn group_arg<'a>(alloc: Global) -> Arg<'a>
-    ensures rule { rule_of result ≡ group_rule }
-    ensures local { result.global ≡ false }
-{
-    Arg::new(alloc, "HEX")
-        .long("group")
-        .help("The group's id, empty by default")
-}
-
-fn check_command<'a>(alloc: Global) -> Result<Command<'a>, AllocError>
-    ensures app { IfOk result (λ c. app_of c ≡ check_app) }
-    ensures local { IfOk result (λ c. (fields_of c).has_globals ≡ false) }
-{
-    let command = file_command(
-        alloc,
-        "check",
-        "Checks a ratchet tree",
-        "A ratchet tree in hex, or - for the standard input",
-    )?;
-    let with_suite = command.arg(suite_arg(alloc))?;
-    let with_group = with_suite.arg(group_arg(alloc))?;
-    with_group.arg(signatures_arg(alloc))
-}
-
-fn replay_command<'a>(alloc: Global) -> Result<Command<'a>, AllocError>
-    ensures app { IfOk result (λ c. app_of c ≡ replay_app) }
-    ensures local { IfOk result (λ c. (fields_of c).has_globals ≡ false) }
-{
-    let command = file_command(
-        alloc,
-        "replay",
-        "Replays a recording of groups",
-        "A recording in JSON, or - for the standard input",
-    )?;
-    let with_suite = command.arg(suite_arg(alloc))?;
-    with_suite.arg(message_arg(alloc))
-}
-
-/// What help says of the whole, and that a subcommand is required.
+/// What help says of the whole.
 fn describe<'a>(command: Command<'a>) -> Command<'a>
-    ensures { app_of result ≡ needing_subcommand (app_of command.entry) }
+    ensures { app_of result ≡ with_version (app_of command.entry) }
 {
     command
         .about("Shows and checks messages of Messaging Layer Security (RFC 9420)")
         .after_help(EXIT_STATUS)
         .version(VERSION)
-        .subcommand_required(true)
+        .override_usage("mls <COMMAND>\n       mls --explain <REFUSAL>")
 }
 
-/// The command line: one of the subcommands, each with a FILE.
-fn command<'a>(alloc: Global) -> Result<Command<'a>, AllocError>
+/// The command line: one of the subcommands, each with a FILE, or a refusal that is to be explained.
+pub fn command<'a>(alloc: Global) -> Result<Command<'a>, AllocError>
     ensures { IfOk result (λ c. app_of c ≡ mls) }
 {
-    let show = file_command(
-        alloc,
-        "show",
-        "Prints a message field by field",
-        "An MLSMessage in hex, or - for the standard input",
-    )?;
+    let show = show_command(alloc)?;
     let check = check_command(alloc)?;
     let replay = replay_command(alloc)?;
     let vectors = file_command(
@@ -135,47 +51,18 @@ fn command<'a>(alloc: Global) -> Result<Command<'a>, AllocError>
         "vectors",
         "Judges test vectors",
         "A JSON array of vectors, or - for the standard input",
+        "Example:\n  mls vectors examples/vectors.json",
     )?;
     let first = Command::new(alloc, "mls").subcommand(show)?;
     let second = first.subcommand(check)?;
     let third = second.subcommand(replay)?;
     let all = third.subcommand(vectors)?;
-    Ok(describe(all))
+    let whole = all.arg(explain_arg(alloc))?;
+    Ok(describe(whole))
 }
 
-/// The suite that a text names.
-fn suite_of(text: &str) -> Option<SuiteChoice>
-    ensures { result ≡ suite_of text.now }
-{
-    match text {
-        "f001" => Some(SuiteChoice::Glass),
-        "0001" => Some(SuiteChoice::Suite0001),
-        _ => None,
-    }
-}
-
-/// Whether a flag with this value is given.
-fn is_given(value: Option<&str>) -> bool
-    ensures { result ≡ is_given (given value.entry) }
-{
-    match value {
-        Some(text) => text == "true",
-        None => false,
-    }
-}
-
-/// The number that a text of decimal digits writes, with a plus before them or none.
-fn number_in(text: &str) -> Option<usize>
-    ensures { result ≡ number_in text.now }
-{
-    match text.parse::<usize>() {
-        Ok(number) => Some(number),
-        Err(_) => None,
-    }
-}
-
-/// The number of a message, where a text is given that writes one.
-fn message_in(text: Option<&str>) -> Option<usize>
+/// The number that a text writes, where a text is given that writes one.
+fn number_if_any(text: Option<&str>) -> Option<usize>
     ensures { result ≡ option_and_then number_in (given text.entry) }
 {
     match text {
@@ -184,43 +71,27 @@ fn message_in(text: Option<&str>) -> Option<usize>
     }
 }
 
-/// The check that the options and FILE stand for, or None where no suite has that name.
-fn check_on<'a>(
-    suite: Option<&str>,
-    signatures: Option<&str>,
-    group: Option<&'a str>,
-    file: &'a str,
-) -> Option<Job<'a>>
-    ensures { maybe_task result
-        ≡ check_on (given suite.entry) (given signatures.entry) (given group.entry) file.entry.now }
+/// What is asked for of a recording, or None where it is two things.
+fn view_on(matches: &ArgMatches<'_>) -> Option<ReplayView>
+    ensures { result ≡ view_on (rows_of (found_of matches.now)) }
 {
-    let suite = suite_of(suite?)?;
-    let signatures = is_given(signatures);
-    match group {
-        Some(group) => Some(Job::Check {
-            file,
-            suite,
-            signatures,
-            group,
-        }),
-        None => Some(Job::Check {
-            file,
-            suite,
-            signatures,
-            group: "",
-        }),
-    }
+    view_by(
+        number_if_any(value_of(matches, "N")),
+        number_if_any(value_of(matches, "K")),
+        is_given(value_of(matches, "quiet")),
+        is_given(value_of(matches, "record")),
+    )
 }
 
-/// The replay that the options and FILE stand for, or None where no suite has that name.
-fn replay_on<'a>(suite: Option<&str>, message: Option<&str>, file: &'a str) -> Option<Job<'a>>
-    ensures { maybe_task result ≡ replay_on (given suite.entry) (given message.entry) file.entry.now }
+/// The replay that the options and FILE stand for, or None where no suite has that name, or two things are asked for.
+fn replay_on<'a>(suite: Option<&str>, view: Option<ReplayView>, file: &'a str) -> Option<Job<'a>>
+    ensures { maybe_task result ≡ replay_on (given suite.entry) view file.entry.now }
 {
     let chosen = suite_of(suite?)?;
     Some(Job::Replay {
         file,
         suite: chosen,
-        message: message_in(message),
+        view: view?,
     })
 }
 
@@ -229,14 +100,16 @@ fn job_on<'a>(name: &str, matches: &ArgMatches<'a>, file: &'a str) -> Option<Job
     ensures { maybe_task result ≡ task_on name.now (rows_of (found_of matches.now)) file.entry.now }
 {
     match name {
-        "show" => Some(Job::Show { file }),
+        "show" => Some(show_on(value_of(matches, "full"), value_of(matches, "raw"), file)),
         "check" => check_on(
+            value_of(matches, "group-info"),
+            value_of(matches, "raw"),
             value_of(matches, "SUITE"),
             value_of(matches, "signatures"),
             value_of(matches, "HEX"),
             file,
         ),
-        "replay" => replay_on(value_of(matches, "SUITE"), value_of(matches, "N"), file),
+        "replay" => replay_on(value_of(matches, "SUITE"), view_on(matches), file),
         "vectors" => Some(Job::Vectors { file }),
         _ => None,
     }
@@ -255,7 +128,7 @@ pub fn job<'a, S: AsStr>(alloc: Global, words: &'a [S]) -> Result<Job<'a>, NoJob
     match parse_words(alloc, words) {
         Ok(matches) => match job_in(&matches) {
             Some(job) => Ok(job),
-            None => Err(refuse_suite(alloc, name_in(&matches), suite_in(&matches))),
+            None => Err(without_job(alloc, &matches)),
         },
         Err(error) => Err(no_job(alloc, &error)),
     }
@@ -264,13 +137,14 @@ pub fn job<'a, S: AsStr>(alloc: Global, words: &'a [S]) -> Result<Job<'a>, NoJob
 /// What clap makes of the words.
 fn parse_words<'a, S: AsStr>(alloc: Global, words: &'a [S]) -> Result<ArgMatches<'a>, Error>
     ensures rows { IfOk result (λ m. subcommand_rows_of m ≡ found_in (map S.text words.entry.now)) }
+    ensures top { IfOk result (λ m. rows_of (found_of m) ≡ matches_of mls (map S.text words.entry.now)) }
     ensures faults { FailsBy (fault_of mls (map S.text words.entry.now)) result }
 {
     command(alloc)?.try_get_matches_from(words)
 }
 
 /// The text of clap's error, and where it goes.
-fn no_job(alloc: Global, error: &Error) -> NoJob
+pub fn no_job(alloc: Global, error: &Error) -> NoJob
     ensures { ComesOf result (kind_of error.now) }
 {
     if error.kind() == ErrorKind::OutOfMemory {
@@ -289,11 +163,11 @@ fn no_job(alloc: Global, error: &Error) -> NoJob
     }
 }
 
-/// That no suite has the name that a subcommand is given.
-fn refuse_suite(alloc: Global, subcommand: &str, suite: &str) -> NoJob
+/// That no suite has the name that a subcommand is given, or that two things are asked for of a recording.
+pub fn refuse_values(alloc: Global, matches: &ArgMatches<'_>) -> NoJob
     ensures { ComesOf result ErrorKind.InvalidValue }
 {
-    match suite_error(alloc, subcommand, suite) {
+    match value_error(alloc, name_in(matches), suite_in(matches)) {
         Ok(error) => no_job(alloc, &error),
         // Want of memory: the error is an `AllocError`.
         Err(_) => NoJob::OutOfMemory,
@@ -305,6 +179,19 @@ fn command_with_suite<'a>(alloc: Global, subcommand: &str) -> Result<Command<'a>
     match subcommand {
         "replay" => replay_command(alloc)?.bin_name("mls replay"),
         _ => check_command(alloc)?.bin_name("mls check"),
+    }
+}
+
+/// What clap would say of options that exclude one another.
+const TWO_VIEWS: &str = "only one of --message, --tree, --quiet and --record can be used";
+
+/// The error of values that name no job, with the usage of the subcommand.
+fn value_error(alloc: Global, subcommand: &str, suite: &str) -> Result<Error, AllocError>
+    ensures { IfOk result (λ e. kind_of e ≡ ErrorKind.InvalidValue) }
+{
+    match suite_of(suite) {
+        Some(_) => command_with_suite(alloc, subcommand)?.error(ErrorKind::InvalidValue, TWO_VIEWS),
+        None => suite_error(alloc, subcommand, suite),
     }
 }
 
@@ -320,7 +207,7 @@ fn suite_error(alloc: Global, subcommand: &str, suite: &str) -> Result<Error, Al
 }
 
 /// The name of the subcommand that the words have.
-fn name_in<'a>(matches: &ArgMatches<'a>) -> &'a str {
+pub fn name_in<'a>(matches: &ArgMatches<'a>) -> &'a str {
     match matches.subcommand() {
         Some((name, _)) => name,
         None => "",
@@ -355,19 +242,34 @@ fn no_text_error(alloc: Global) -> Result<Error, AllocError>
     )
 }
 
-fn value_of<'a>(matches: &ArgMatches<'a>, id: &str) -> Option<&'a str>
+/// The first value of the argument with this id.
+pub fn value_of<'a>(matches: &ArgMatches<'a>, id: &str) -> Option<&'a str>
     ensures { option_map (λ s. s.now) result ≡ first_of id.now (rows_of (found_of matches.now)) }
 {
     matches.get_str(id)
 }
 
-fn matched_subcommand<'a, 'b>(matches: &'b ArgMatches<'a>) -> Option<(&'a str, &'b ArgMatches<'a>)>
+/// The subcommand that was met, and its matches.
+pub fn matched_subcommand<'a, 'b>(
+    matches: &'b ArgMatches<'a>,
+) -> Option<(&'a str, &'b ArgMatches<'a>)>
     ensures { found_rows (λ m. rows_of (found_of m)) result ≡ subcommand_rows_of matches.now }
 {
     matches.subcommand()
 }
 
+/// The job that the matches stand for: none where a refusal is asked for.
 fn job_in<'a>(matches: &ArgMatches<'a>) -> Option<Job<'a>>
+    ensures { maybe_task result ≡ unless_asked (first_of (codes "REFUSAL") (rows_of (found_of matches.now)))
+        (task_of (subcommand_rows_of matches.now)) }
+{
+    match value_of(matches, "REFUSAL") {
+        Some(_) => None,
+        None => subcommand_job(matches),
+    }
+}
+
+fn subcommand_job<'a>(matches: &ArgMatches<'a>) -> Option<Job<'a>>
     ensures { maybe_task result ≡ task_of (subcommand_rows_of matches.now) }
 {
     let (name, inner) = matched_subcommand(matches)?;
@@ -380,14 +282,24 @@ pub fn examples()
     ensures help { faults_behind (codes "show" ∷ codes "--help" ∷ []) ≡ ErrorKind.DisplayHelp ∷ [] }
     ensures version { faults_behind (codes "--version" ∷ []) ≡ ErrorKind.DisplayVersion ∷ [] }
     ensures missing { faults_behind (codes "show" ∷ []) ≡ ErrorKind.MissingRequiredArgument ∷ [] }
-    ensures shows { task_behind (codes "show" ∷ codes "a" ∷ []) ≡ Some (show (codes "a")) }
+    ensures shows { task_behind (codes "show" ∷ codes "a" ∷ []) ≡ Some (plain_show (codes "a")) }
+    ensures shows_all { task_behind (codes "show" ∷ codes "--raw" ∷ codes "a" ∷ codes "--full" ∷ [])
+        ≡ Some (show (codes "a") Form.Raw Detail.Full) }
     ensures replays { task_behind (codes "replay" ∷ codes "a" ∷ []) ≡ Some (plain_replay (codes "a")) }
     ensures judges { task_behind (codes "vectors" ∷ codes "a" ∷ []) ≡ Some (vectors (codes "a")) }
     ensures checks { task_behind (codes "check" ∷ codes "a" ∷ []) ≡ Some (plain_check (codes "a")) }
     ensures chosen { task_behind words_of_check
-        ≡ Some (check (codes "a") SuiteChoice.Suite0001 true (codes "67")) }
+        ≡ Some (check (codes "a") Form.Hex SuiteChoice.Suite0001 true (codes "67")) }
+    ensures info { task_behind words_of_info ≡ Some (check_group_info (codes "a") Form.Raw false) }
     ensures message { task_behind words_of_replay
-        ≡ Some (replay (codes "a") SuiteChoice.Suite0001 (Some 12)) }
+        ≡ Some (replay (codes "a") SuiteChoice.Suite0001 (ReplayView.Message 12)) }
+    ensures tree { task_behind words_of_tree
+        ≡ Some (replay (codes "a") SuiteChoice.Glass (ReplayView.Tree 3)) }
+    ensures quiet { task_behind words_of_quiet
+        ≡ Some (replay (codes "a") SuiteChoice.Glass ReplayView.Unmet) }
+    ensures recorded { task_behind words_of_record
+        ≡ Some (replay (codes "a") SuiteChoice.Glass ReplayView.Recording) }
+    ensures two { task_behind words_of_two_views ≡ None }
     ensures number { faults_behind words_of_no_number ≡ ErrorKind.ValueValidation ∷ [] }
     ensures other { task_behind (codes "check" ∷ codes "a" ∷ codes "--suite=f002" ∷ []) ≡ None }
     ensures taken { faults_behind (codes "show" ∷ codes "a" ∷ []) ≡ [] }

@@ -6,7 +6,12 @@ ghost use Rattle.mls_cli_text.specs.InputOutput.{in_failed};
 ghost use Rattle.mls_cli.specs.Arguments.{NamesProgram};
 
 mod arguments;
+mod check_options;
+mod explain_arguments;
+mod options;
+mod replay_arguments;
 mod serving;
+mod show_options;
 mod source;
 mod tasks;
 

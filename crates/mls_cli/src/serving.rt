@@ -6,19 +6,20 @@ ghost use Rattle.mls_cli_text.specs.InputOutput.{out_failed, out_writer, read_fa
 ghost use Rattle.mls_cli_text.specs.Page.{MakesPage};
 ghost use Rattle.mls_cli_show.specs.Show.{page_of as show_page};
 ghost use Rattle.mls_cli_check.specs.Check.{check_page};
-ghost use Rattle.mls_cli_replay.specs.Replay.{PrintsOne};
+ghost use Rattle.mls_cli_check.specs.GroupInfo.{group_info_page};
+ghost use Rattle.mls_suite.specs.Glass.{glass};
+ghost use Rattle.mls_cli_explain.specs.Explanations.{explanation_view};
 ghost use Rattle.mls_cli.specs.Arguments.{file_of};
-ghost use Rattle.mls_cli.specs.Serving.{BeginsError, EndsWith, EndsWithoutJob, IsReplayOrMessage, KeepsUnread, PrintsFile, PrintsRead, PrintsRecording, PrintsText, ReadsFile, Says, ShowsHelp, WritesError, checking, checks_of, fault_text, hex_file_page, out_of_memory as memory_text, unread, unreadable};
+ghost use Rattle.mls_cli.specs.Serving.{BeginsError, EndsWith, EndsWithoutJob, KeepsUnread, PrintsFile, PrintsRead, PrintsRecording, PrintsText, ReadsFile, Says, ShowsHelp, ShowsTold, WritesError, checking, fault_text, file_page, out_of_memory as memory_text, unread, unreadable};
 
 use crate::tasks::{Job, NoJob, SuiteChoice};
-use mls_cli_check::{SuiteChecks, Unchecked, check_page};
-use mls_cli_replay::{replay, replay_message};
-use mls_cli_show::show_page;
-use mls_cli_text::{
-    Fault, HEX_FILE_LIMIT, Input, Line, Out, Output, Page, print_made_page, refused_page,
-};
+use mls_cli_check::{Unchecked, check_page, group_info_page};
+use mls_cli_explain::{Explanation, told_page};
+use mls_cli_replay::{ReplayView, print_view};
+use mls_cli_show::{Detail, show_page};
+use mls_cli_text::{Fault, Form, Input, Line, Out, Output, Page, print_made_page, refused_page};
 use mls_cli_vectors::vectors_page;
-use mls_suite::{Glass, Suite};
+use mls_suite::Glass;
 use mls_suite_0001::Suite0001;
 use std::alloc::{AllocError, Global};
 use std::io::Write;
@@ -50,7 +51,7 @@ pub fn serve<I: Input, O: Output, E: Write>(
 {
     match job {
         Ok(job) => serve_job(alloc, job, file, out, err),
-        Err(no_job) => answer_without_job(no_job, out, err),
+        Err(no_job) => answer_without_job(alloc, no_job, out, err),
     }
 }
 
@@ -102,14 +103,16 @@ fn print_job<I: Input, O: Output>(
     print_text(alloc, job, text.as_slice(), out)
 }
 
-/// Reads the file: whole, but no more of a hex file than shows that it is too long.
+/// Reads the file: whole, but no more of a file of bytes than shows that it is too long.
 fn read_file<I: Input>(alloc: Global, job: &Job<'_>, file: &mut I) -> Result<Vec<u8>, Fault>
     ensures text { IfOk result (λ v. ReadsFile I.remaining job.now file.old v.items) }
     ensures fault { I.failed file.new ≡ read_failed (I.failed file.old) result }
     ensures read { IfErr result (λ e. e ≢ Fault.Write) }
 {
     match job {
-        Job::Show { .. } | Job::Check { .. } => file.read_front(alloc, HEX_FILE_LIMIT as u64 + 1),
+        Job::Show { form, .. } | Job::Check { form, .. } | Job::CheckGroupInfo { form, .. } => {
+            file.read_front(alloc, form.file_limit() as u64 + 1)
+        }
         Job::Replay { .. } | Job::Vectors { .. } => file.read_all(alloc),
     }
 }
@@ -127,108 +130,138 @@ fn print_text<O: Output>(
     ensures written { IfErr result (λ e. e ≢ Fault.Read) }
 {
     match job {
-        Job::Show { .. } => print_made_page(alloc, show_file(alloc, text), out),
+        Job::Show { form, detail, .. } => {
+            print_made_page(alloc, show_file(alloc, *detail, *form, text), out)
+        }
         Job::Check {
+            form,
             suite,
             signatures,
             group,
             ..
         } => print_made_page(
             alloc,
-            tree_file(alloc, *suite, *signatures, text, group),
+            tree_file(alloc, *form, *suite, *signatures, text, group),
             out,
         ),
-        Job::Replay { suite, message, .. } => {
-            print_recording(alloc, *suite, *message, text, out)
-        }
+        Job::CheckGroupInfo {
+            form,
+            signatures,
+            ..
+        } => print_made_page(alloc, info_file(alloc, *form, *signatures, text), out),
+        Job::Replay { suite, view, .. } => print_recording(alloc, *suite, *view, text, out),
         Job::Vectors { .. } => print_made_page(alloc, vectors_page(alloc, text), out),
     }
 }
 
 /// What is printed of a message's file: `TooLong` (6) alone where its text is too long.
-fn show_file(alloc: Global, text: &[u8]) -> Result<Page<Line>, AllocError>
-    ensures { MakesPage result (hex_file_page text.now (show_page text.now)) }
+fn show_file(
+    alloc: Global,
+    detail: Detail,
+    form: Form,
+    text: &[u8],
+) -> Result<Page<Line>, AllocError>
+    ensures { MakesPage result (file_page form text.now (show_page detail form text.now)) }
 {
-    if text.len() > HEX_FILE_LIMIT {
+    let limit = form.file_limit();
+    if text.len() > limit {
         return Ok(refused_page(alloc, 6));
     }
-    show_page(alloc, text)
+    show_page(alloc, detail, form, text)
 }
 
 /// What is printed of a tree's file under the chosen suite: `TooLong` (6) alone where its text is too long.
 fn tree_file(
     alloc: Global,
+    form: Form,
     suite: SuiteChoice,
     signatures: bool,
     text: &[u8],
     group: &str,
 ) -> Result<Page<Line>, AllocError>
-    ensures { MakesPage result (hex_file_page text.now
-        (check_page (checking suite signatures) (checks_of suite signatures) text.now group.now)) }
+    ensures { MakesPage result (file_page form text.now
+        (check_page (checking suite signatures) form text.now group.now)) }
 {
-    if text.len() > HEX_FILE_LIMIT {
+    let limit = form.file_limit();
+    if text.len() > limit {
         return Ok(refused_page(alloc, 6));
     }
-    check_file(alloc, suite, signatures, text, group)
+    check_file(alloc, form, suite, signatures, text, group)
 }
 
 /// What is printed of a tree's file of this text under the chosen suite.
 fn check_file(
     alloc: Global,
+    form: Form,
     suite: SuiteChoice,
     signatures: bool,
     text: &[u8],
     group: &str,
 ) -> Result<Page<Line>, AllocError>
-    ensures { MakesPage result
-        (check_page (checking suite signatures) (checks_of suite signatures) text.now group.now) }
+    ensures { MakesPage result (check_page (checking suite signatures) form text.now group.now) }
 {
     match suite {
-        SuiteChoice::Glass => check_page::<Glass>(alloc, SuiteChecks::Made, text, group),
+        SuiteChoice::Glass => check_page::<Glass>(alloc, form, text, group),
         SuiteChoice::Suite0001 => {
             if signatures {
-                check_page::<Suite0001>(alloc, SuiteChecks::Made, text, group)
+                check_page::<Suite0001>(alloc, form, text, group)
             } else {
-                check_page::<Unchecked>(alloc, SuiteChecks::Left, text, group)
+                check_page::<Unchecked>(alloc, form, text, group)
             }
         }
     }
 }
 
-/// Prints the replay of a recording for the suite, or one of its messages.
+/// What is printed of a GroupInfo's file: `TooLong` (6) alone where its text is too long.
+fn info_file(
+    alloc: Global,
+    form: Form,
+    signatures: bool,
+    text: &[u8],
+) -> Result<Page<Line>, AllocError>
+    ensures { MakesPage result (file_page form text.now
+        (group_info_page glass (checking SuiteChoice.Suite0001 signatures) form text.now)) }
+{
+    let limit = form.file_limit();
+    if text.len() > limit {
+        return Ok(refused_page(alloc, 6));
+    }
+    check_info(alloc, form, signatures, text)
+}
+
+/// What is printed of a GroupInfo's file of this text, under the suite that it names.
+fn check_info(
+    alloc: Global,
+    form: Form,
+    signatures: bool,
+    text: &[u8],
+) -> Result<Page<Line>, AllocError>
+    ensures { MakesPage result
+        (group_info_page glass (checking SuiteChoice.Suite0001 signatures) form text.now) }
+{
+    if signatures {
+        group_info_page::<Glass, Suite0001>(alloc, form, text)
+    } else {
+        group_info_page::<Glass, Unchecked>(alloc, form, text)
+    }
+}
+
+/// Prints what is asked for of a recording for the suite.
 fn print_recording<O: Output>(
     alloc: Global,
     suite: SuiteChoice,
-    message: Option<usize>,
+    view: ReplayView,
     text: &[u8],
     out: &mut O,
 ) -> Result<u8, Fault>
-    ensures prints { PrintsRecording O.contents suite message text.now out.old out.new result }
+    ensures prints { PrintsRecording O.contents suite view text.now out.old out.new result }
     ensures status { IfOk result (λ status. status ≤ 1) }
     ensures write { O.failed out.new ≡ write_failed (O.failed out.old) result }
     ensures written { IfErr result (λ e. e ≢ Fault.Read) }
 {
     match suite {
-        SuiteChoice::Glass => print_under::<Glass, O>(alloc, message, text, out),
-        SuiteChoice::Suite0001 => print_under::<Suite0001, O>(alloc, message, text, out),
-    }
-}
-
-fn print_under<S: Suite, O: Output>(
-    alloc: Global,
-    message: Option<usize>,
-    text: &[u8],
-    out: &mut O,
-) -> Result<u8, Fault>
-    ensures prints { PrintsOne (IsReplayOrMessage S.crypto message text.now)
-        (O.contents out.old) (O.contents out.new) result }
-    ensures status { IfOk result (λ status. status ≤ 1) }
-    ensures write { O.failed out.new ≡ write_failed (O.failed out.old) result }
-    ensures written { IfErr result (λ e. e ≢ Fault.Read) }
-{
-    match message {
-        Some(number) => replay_message::<S, O>(alloc, text, number, out),
-        None => replay::<S, O>(alloc, text, out),
+        SuiteChoice::Glass => print_view::<Glass, O>(alloc, text, view, out),
+        SuiteChoice::Suite0001 => print_view::<Suite0001, O>(alloc, text, view, out),
     }
 }
 
@@ -266,8 +299,13 @@ fn put_unreadable<E: Write>(file: &str, err: &mut Out<E>) -> Result<(), Fault>
     err.put(b"\n")
 }
 
-/// Help goes to the output with status 0, a mistake to the errors with status 2.
-fn answer_without_job<O: Output, E: Write>(no_job: &NoJob, out: &mut O, err: &mut Out<E>) -> u8
+/// Help goes to the output with status 0, and so does what is told of a refusal; a mistake goes to the errors with status 2.
+fn answer_without_job<O: Output, E: Write>(
+    alloc: Global,
+    no_job: &NoJob,
+    out: &mut O,
+    err: &mut Out<E>,
+) -> u8
     requires { O.failed out.old ≡ false }
     ensures { EndsWithoutJob no_job.now result
         (O.contents out.old) (O.contents out.new) (O.failed out.new)
@@ -275,6 +313,7 @@ fn answer_without_job<O: Output, E: Write>(no_job: &NoJob, out: &mut O, err: &mu
 {
     match no_job {
         NoJob::Shown(text) => show_help(text.as_str(), out, err),
+        NoJob::Explained { number, told } => tell(alloc, *number, told, out, err),
         NoJob::Mistaken(text) => {
             let _ = err.put(text.as_bytes());
             2
@@ -295,6 +334,28 @@ fn show_help<O: Output, E: Write>(text: &str, out: &mut O, err: &mut Out<E>) -> 
         Ok(()) => 0,
         Err(fault) => {
             say_fault(fault, "", err);
+            3
+        }
+    }
+}
+
+/// Prints what is told of a refusal.
+fn tell<O: Output, E: Write>(
+    alloc: Global,
+    number: u8,
+    told: &Explanation,
+    out: &mut O,
+    err: &mut Out<E>,
+) -> u8
+    requires { O.failed out.old ≡ false }
+    ensures { ShowsTold number (explanation_view told.now) result
+        (O.contents out.old) (O.contents out.new) (O.failed out.new)
+        (E.contents (out_writer err.old)) (E.contents (out_writer err.new)) (out_failed err.new) }
+{
+    match print_made_page(alloc, told_page(alloc, number, told), out) {
+        Ok(status) => status,
+        Err(stopped) => {
+            say_fault(stopped, "", err);
             3
         }
     }

@@ -1,5 +1,9 @@
 //! What the program can be asked to do.
 
+use mls_cli_explain::Explanation;
+use mls_cli_replay::ReplayView;
+use mls_cli_show::Detail;
+use mls_cli_text::Form;
 use std::alloc::AllocError;
 
 /// A group's cipher suite.
@@ -14,15 +18,21 @@ pub enum SuiteChoice {
 /// What the program is asked to do, as the words of its command line name it.
 #[derive(Clone, Copy, Debug)]
 pub enum Job<'a> {
-    /// Print the MLSMessage that stands as hex digits in a file.
+    /// Print the MLSMessage that a file has.
     Show {
         /// The file's path, `-` for the standard input.
         file: &'a str,
+        /// How the file has its bytes.
+        form: Form,
+        /// How much of the message is shown.
+        detail: Detail,
     },
-    /// Check the ratchet tree that stands as hex digits in a file.
+    /// Check the ratchet tree that a file has.
     Check {
         /// The file's path, `-` for the standard input.
         file: &'a str,
+        /// How the file has its bytes.
+        form: Form,
         /// The group's cipher suite.
         suite: SuiteChoice,
         /// Whether signatures and forms of keys are checked under 0x0001 too. Under the practice suite they always are.
@@ -30,14 +40,23 @@ pub enum Job<'a> {
         /// The group's id, as hex digits.
         group: &'a str,
     },
+    /// Check the GroupInfo that a file has, and the ratchet tree in it.
+    CheckGroupInfo {
+        /// The file's path, `-` for the standard input.
+        file: &'a str,
+        /// How the file has its bytes.
+        form: Form,
+        /// Whether signatures and forms of keys are checked under 0x0001 too. Under the practice suite they always are.
+        signatures: bool,
+    },
     /// Replay the recording that stands as JSON in a file.
     Replay {
         /// The file's path, `-` for the standard input.
         file: &'a str,
         /// The cipher suite that the recording is for.
         suite: SuiteChoice,
-        /// The number of the one message that is printed, in place of all else.
-        message: Option<usize>,
+        /// What is printed of it.
+        view: ReplayView,
     },
     /// Judge the test vectors that stand as JSON in a file.
     Vectors {
@@ -55,8 +74,9 @@ impl<'a> Job<'a> {
         ensures { result.now ≡ file_of self.now }
     {
         match self {
-            Job::Show { file }
+            Job::Show { file, .. }
             | Job::Check { file, .. }
+            | Job::CheckGroupInfo { file, .. }
             | Job::Replay { file, .. }
             | Job::Vectors { file } => file,
         }
@@ -68,6 +88,13 @@ impl<'a> Job<'a> {
 pub enum NoJob {
     /// Help or the version is asked for, with this text.
     Shown(String),
+    /// A refusal is to be explained.
+    Explained {
+        /// Its number.
+        number: u8,
+        /// What is told of it.
+        told: Explanation,
+    },
     /// The words are a mistake, of which this is said.
     Mistaken(String),
     /// A growth was refused.

@@ -31,25 +31,25 @@ const USAGE: &str =
     "error: the following required arguments were not provided:\n  <FILE>\n\nUsage: mls show <FILE>\n\nFor more information, try '--help'.\n";
 
 const UNKNOWN: &str =
-    "error: unrecognized subcommand 'export'\n\nUsage: mls <COMMAND>\n\nFor more information, try '--help'.\n";
+    "error: unrecognized subcommand 'export'\n\nUsage: mls <COMMAND>\n       mls --explain <REFUSAL>\n\nFor more information, try '--help'.\n";
 
 const HELP: &str =
-    "Shows and checks messages of Messaging Layer Security (RFC 9420)\n\nUsage: mls <COMMAND>\n\nCommands:\n  show     Prints a message field by field\n  check    Checks a ratchet tree\n  replay   Replays a recording of groups\n  vectors  Judges test vectors\n  help     Print this message or the help of the given subcommand(s)\n\nOptions:\n  -h, --help     Print help\n  -V, --version  Print version\n\nExit status:\n  0  the content is good\n  1  it is refused, or vectors or expectations fail\n  2  the command line is wrong\n  3  a file, the output or memory failed\n";
+    "Shows and checks messages of Messaging Layer Security (RFC 9420)\n\nUsage: mls <COMMAND>\n       mls --explain <REFUSAL>\n\nCommands:\n  show     Prints a message field by field\n  check    Checks a ratchet tree\n  replay   Replays a recording of groups\n  vectors  Judges test vectors\n  help     Print this message or the help of the given subcommand(s)\n\nOptions:\n      --explain <REFUSAL>  Tells what a refusal is, by its number or name\n  -h, --help               Print help\n  -V, --version            Print version\n\nExit status:\n  0  the content is good\n  1  it is refused, or vectors or expectations fail\n  2  the command line is wrong\n  3  a file, the output or memory failed\n";
 
 const SHOW_HELP: &str =
-    "Prints a message field by field\n\nUsage: mls show <FILE>\n\nArguments:\n  <FILE>  An MLSMessage in hex, or - for the standard input\n\nOptions:\n  -h, --help  Print help\n";
+    "Prints a message field by field\n\nUsage: mls show [OPTIONS] <FILE>\n\nArguments:\n  <FILE>  An MLSMessage in hex, or - for the standard input\n\nOptions:\n      --full  Prints each item of a commit, a Welcome and a tree too\n      --raw   Reads bytes as they are, and not hex\n  -h, --help  Print help\n\nExample:\n  mls show examples/key_package.hex\n";
 
 const CHECK_HELP: &str =
-    "Checks a ratchet tree\n\nUsage: mls check [OPTIONS] <FILE>\n\nArguments:\n  <FILE>  A ratchet tree in hex, or - for the standard input\n\nOptions:\n      --suite <SUITE>  The group's cipher suite, f001 or 0001 [default: f001]\n      --group <HEX>    The group's id, empty by default\n      --signatures     Checks signatures and keys under suite 0001 too\n  -h, --help           Print help\n";
+    "Checks a ratchet tree\n\nUsage: mls check [OPTIONS] <FILE>\n\nArguments:\n  <FILE>  A ratchet tree in hex, or - for the standard input\n\nOptions:\n      --suite <SUITE>  The group's cipher suite, f001 or 0001 [default: f001]\n      --group <HEX>    The group's id, empty by default\n      --signatures     Checks signatures and keys under suite 0001 too\n      --group-info     Checks a GroupInfo message, which has suite, id and tree\n      --raw            Reads bytes as they are, and not hex\n  -h, --help           Print help\n\nExample:\n  mls check examples/group_tree.hex --group 67\n";
 
 const REPLAY_HELP: &str =
-    "Replays a recording of groups\n\nUsage: mls replay [OPTIONS] <FILE>\n\nArguments:\n  <FILE>  A recording in JSON, or - for the standard input\n\nOptions:\n      --suite <SUITE>  The group's cipher suite, f001 or 0001 [default: f001]\n      --message <N>    Prints this message in hex, in place of the replies\n  -h, --help           Print help\n";
+    "Replays a recording of groups\n\nUsage: mls replay [OPTIONS] <FILE>\n\nArguments:\n  <FILE>  A recording in JSON, or - for the standard input\n\nOptions:\n      --suite <SUITE>  The group's cipher suite, f001 or 0001 [default: f001]\n      --message <N>    Prints this message in hex, in place of the replies\n      --tree <K>       Prints this member's ratchet tree in hex, in place of the replies\n      --quiet          Leaves out replies that are as expected\n      --record         Prints the recording with these replies as those that it expects\n  -h, --help           Print help\n\nExample:\n  mls replay examples/group.json --quiet\n";
 
 const VECTORS_HELP: &str =
-    "Judges test vectors\n\nUsage: mls vectors <FILE>\n\nArguments:\n  <FILE>  A JSON array of vectors, or - for the standard input\n\nOptions:\n  -h, --help  Print help\n";
+    "Judges test vectors\n\nUsage: mls vectors <FILE>\n\nArguments:\n  <FILE>  A JSON array of vectors, or - for the standard input\n\nOptions:\n  -h, --help  Print help\n\nExample:\n  mls vectors examples/vectors.json\n";
 
 const NO_TEXT: &str =
-    "error: invalid UTF-8 was detected in one or more arguments\n\nUsage: mls <COMMAND>\n\nFor more information, try '--help'.\n";
+    "error: invalid UTF-8 was detected in one or more arguments\n\nUsage: mls <COMMAND>\n       mls --explain <REFUSAL>\n\nFor more information, try '--help'.\n";
 
 const OUT_OF_MEMORY: &str = "mls: out of memory\n";
 

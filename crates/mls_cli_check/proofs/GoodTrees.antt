@@ -37,7 +37,6 @@ use Rattle.mls_cli_text.specs.declared.page.Page as code
 use Rattle.mls_cli_text.specs.declared.text.Line.{Line}
 use Rattle.mls_cli_check.specs.Check.{SpellsGoodTree, check_text, report_on, tree_in}
 use Rattle.mls_cli_check.proofs.Reports.{report_by}
-use Rattle.mls_cli_check.specs.declared.report.SuiteChecks.{SuiteChecks}
 use Rattle.mls_tree.proofs.Cells.{Cells, of_front, of_back, of_padded}
 use Rattle.mls_cli_check.proofs.Orders.{rules-by_order}
 use Rattle.mls_tree.proofs.SentLemmas.{sent_is}
@@ -106,33 +105,33 @@ good_read c group spelled t are_bytes e checks =
 
 -- ---- what a report refuses
 
-none_failed : (own : SuiteChecks) (r : Result Passed ℕ) → (report_by own r).ending ≡ Good → r ≡ Ok passed
-none_failed own (Ok passed) e = refl
-none_failed own (Err n) e = absurd cc
+none_failed : (c : Crypto) (r : Result Passed ℕ) → (report_by c r).ending ≡ Good → r ≡ Ok passed
+none_failed c (Ok passed) e = refl
+none_failed c (Err n) e = absurd cc
 
-unrefused : (c : Crypto) (own : SuiteChecks) (group spelled : List ℕ) (r : Result Term ℕ) → IsBytes spelled → tree_in spelled ≡ r → (report_on c own group r).ending ≡ Good → SpellsGoodTree c group spelled
-unrefused c own group spelled (Ok t) are_bytes is e =
+unrefused : (c : Crypto) (group spelled : List ℕ) (r : Result Term ℕ) → IsBytes spelled → tree_in spelled ≡ r → (report_on c group r).ending ≡ Good → SpellsGoodTree c group spelled
+unrefused c group spelled (Ok t) are_bytes is e =
     record {
       tree = t;
       is_read = is;
-      good = good_read c group spelled t are_bytes is (none_failed own (tree_checks (rules_of c group) t) (ap (λ p. p.ending) (sym (rules-by_order c own group t)) ∙ e));
+      good = good_read c group spelled t are_bytes is (none_failed c (tree_checks (rules_of c group) t) (ap (λ p. p.ending) (sym (rules-by_order c group t)) ∙ e));
     }
-unrefused c own group spelled (Err n) are_bytes is e = absurd cc
+unrefused c group spelled (Err n) are_bytes is e = absurd cc
 
-refuses_none : (c : Crypto) (own : SuiteChecks) (group : List ℕ) (t : Term) → IsGood (rules_of c group) t → (report_on c own group (Ok t)).ending ≡ Good
-refuses_none c own group t good = ap (λ p. p.ending) (rules-by_order c own group t ∙ ap (report_by own) (good_passes (rules_of c group) t good))
+refuses_none : (c : Crypto) (group : List ℕ) (t : Term) → IsGood (rules_of c group) t → (report_on c group (Ok t)).ending ≡ Good
+refuses_none c group t good = ap (λ p. p.ending) (rules-by_order c group t ∙ ap (report_by c) (good_passes (rules_of c group) t good))
 
-refused_unless_good : (c : Crypto) (own : SuiteChecks) (group spelled : List ℕ) → IsBytes spelled → ((check_text c own spelled group).ending ≡ Good) ↔ SpellsGoodTree c group spelled
+refused_unless_good : (c : Crypto) (group spelled : List ℕ) → IsBytes spelled → ((check_text c spelled group).ending ≡ Good) ↔ SpellsGoodTree c group spelled
 unfolding check_text
-refused_unless_good c own group spelled are_bytes = (
-  λ e. unrefused c own group spelled (tree_in spelled) are_bytes refl e,
-  λ good. ap (λ r. (report_on c own group r).ending) good.is_read ∙ refuses_none c own group good.tree good.good,
+refused_unless_good c group spelled are_bytes = (
+  λ e. unrefused c group spelled (tree_in spelled) are_bytes refl e,
+  λ good. ap (λ r. (report_on c group r).ending) good.is_read ∙ refuses_none c group good.tree good.good,
 )
 
-pub good_or_refused : (c : Crypto) (own : SuiteChecks) (group spelled : List ℕ) (r : Result (code.Page Line) AllocError) → IsBytes spelled
-    → IfOk r (λ page. page_of entry_of page ≡ check_text c own spelled group) → IfOk r (λ page. (page.ending ≡ Good) ↔ SpellsGoodTree c group spelled)
-good_or_refused c own group spelled (Ok page) are_bytes is =
+pub good_or_refused : (c : Crypto) (group spelled : List ℕ) (r : Result (code.Page Line) AllocError) → IsBytes spelled
+    → IfOk r (λ page. page_of entry_of page ≡ check_text c spelled group) → IfOk r (λ page. (page.ending ≡ Good) ↔ SpellsGoodTree c group spelled)
+good_or_refused c group spelled (Ok page) are_bytes is =
     let same = ap (λ p. p.ending) is in
-    let both = refused_unless_good c own group spelled are_bytes in
+    let both = refused_unless_good c group spelled are_bytes in
     (λ e. both.0 (sym same ∙ e), λ good. same ∙ both.1 good)
-good_or_refused c own group spelled (Err e) are_bytes is = tt
+good_or_refused c group spelled (Err e) are_bytes is = tt

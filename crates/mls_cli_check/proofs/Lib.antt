@@ -1,9 +1,8 @@
 pub mod Reports
 mod GoodTrees
-mod LongLists
-mod LongRefusals
+mod GroupInfos
+mod InfoLengths
 mod Orders
 mod SentTrees
 mod ShortLeaves
 mod Texts
-mod Walks

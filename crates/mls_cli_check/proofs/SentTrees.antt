@@ -14,7 +14,7 @@ use Rattle.mls_tree.specs.Tree.{max_leaves}
 use Rattle.mls_cli_check.specs.Check.{tree_in}
 
 -- a fault of the first part is the fault of the whole
-fault_then : {A B : Type 0} (e : LeafError) (r : Result A ℕ) (f : A → Result B ℕ) → Fails e r → number_of e ≢ 1 → (r >>= f) ≡ Err (number_of e)
+pub fault_then : {A B : Type 0} (e : LeafError) (r : Result A ℕ) (f : A → Result B ℕ) → Fails e r → number_of e ≢ 1 → (r >>= f) ≡ Err (number_of e)
 fault_then (Wire wire.OutOfMemory) r f h ne = absurd (ne refl)
 fault_then {A} {B} (Wire wire.Truncated) r f h ne = ap (λ (x : Result A ℕ). x >>= f) h
 fault_then {A} {B} (Wire wire.Trailing) r f h ne = ap (λ (x : Result A ℕ). x >>= f) h

@@ -8,12 +8,13 @@ use Rattle.mls_wire.specs.Checks.{require_some}
 use Rattle.mls_wire.specs.Reading.{◌>>=◌}
 use Rattle.mls_leaf.specs.Limits.{input_limit}
 use Rattle.mls_suite.specs.Crypto.{Crypto}
-use Rattle.mls_cli_text.specs.HexFile.{bytes_in, decoded_bytes, is_hex}
+use Rattle.mls_cli_text.specs.Form.{bytes_of_file}
+use Rattle.mls_cli_text.specs.HexFile.{decoded_bytes, is_hex}
+use Rattle.mls_cli_text.specs.declared.form.Form.{Form}
 use Rattle.mls_cli_text.specs.Page.{refused}
-use Rattle.mls_cli_check.specs.declared.report.SuiteChecks.{SuiteChecks}
 use Rattle.mls_cli_check.specs.CheckFaults.{number_of}
 use Rattle.mls_cli_check.specs.declared.check_error.CheckError.{CheckError}
-use Rattle.mls_cli_check.specs.Check.{group_in, within_limit, both_texts, texts_in, check_page, check_page_in}
+use Rattle.mls_cli_check.specs.Check.{group_in, within_limit, both_texts, texts_in, check_page, check_page_on, page_of_bytes}
 
 -- ---- a group's text
 
@@ -56,38 +57,38 @@ no_file_by : (o : Option (List ℕ)) (g : Result (List ℕ) ℕ) → is_some o �
 no_file_by None g h = refl
 no_file_by (Some spelled) g h = cc h
 
-pub texts_no_file : (text group : List ℕ) → is_some (bytes_in text) ≡ false → texts_in text group ≡ Err 8
+pub texts_no_file : (form : Form) (text group : List ℕ) → is_some (bytes_of_file form text) ≡ false → texts_in form text group ≡ Err 8
 unfolding texts_in
-texts_no_file text group h = no_file_by (bytes_in text) (group_in group) h
+texts_no_file form text group h = no_file_by (bytes_of_file form text) (group_in group) h
 
 no_group_by : (o : Option (List ℕ)) (g : Result (List ℕ) ℕ) (n : ℕ) → is_some o ≡ true → g ≡ Err n → (require_some 8 o >>= λ spelled. g >>= λ id. both_texts spelled id) ≡ Err n
 no_group_by (Some spelled) g n h e = rw e refl
 no_group_by None g n h e = cc h
 
-pub texts_no_group : (text group : List ℕ) (n : ℕ) → is_some (bytes_in text) ≡ true → group_in group ≡ Err n → texts_in text group ≡ Err n
+pub texts_no_group : (form : Form) (text group : List ℕ) (n : ℕ) → is_some (bytes_of_file form text) ≡ true → group_in group ≡ Err n → texts_in form text group ≡ Err n
 unfolding texts_in
-texts_no_group text group n h e = no_group_by (bytes_in text) (group_in group) n h e
+texts_no_group form text group n h e = no_group_by (bytes_of_file form text) (group_in group) n h e
 
 both_by : (o : Option (List ℕ)) (g : Result (List ℕ) ℕ) → is_some o ≡ true → IsOk g → IsOk (require_some 8 o >>= λ spelled. g >>= λ id. both_texts spelled id)
 both_by (Some spelled) (Ok id) h ok = ok
 both_by (Some spelled) (Err n) h ok = cc ok
 both_by None g h ok = cc h
 
-pub texts_are : (text group : List ℕ) → is_some (bytes_in text) ≡ true → IsOk (group_in group) → IsOk (texts_in text group)
+pub texts_are : (form : Form) (text group : List ℕ) → is_some (bytes_of_file form text) ≡ true → IsOk (group_in group) → IsOk (texts_in form text group)
 unfolding texts_in
-texts_are text group h ok = both_by (bytes_in text) (group_in group) h ok
+texts_are form text group h ok = both_by (bytes_of_file form text) (group_in group) h ok
 
 -- what the group's text is answered is what both are
-pub handed_on : (text group : List ℕ) (r : Result (Unit {0}) CheckError) → is_some (bytes_in text) ≡ true → MatchResult r (λ _. IsOk (group_in group)) (λ e. group_in group ≡ Err (number_of e)) → MatchResult r (λ _. IsOk (texts_in text group)) (λ e. texts_in text group ≡ Err (number_of e))
-handed_on text group (Ok x) file h = texts_are text group file h
-handed_on text group (Err e) file h = texts_no_group text group (number_of e) file h
+pub handed_on : (form : Form) (text group : List ℕ) (r : Result (Unit {0}) CheckError) → is_some (bytes_of_file form text) ≡ true → MatchResult r (λ _. IsOk (group_in group)) (λ e. group_in group ≡ Err (number_of e)) → MatchResult r (λ _. IsOk (texts_in form text group)) (λ e. texts_in form text group ≡ Err (number_of e))
+handed_on form text group (Ok x) file h = texts_are form text group file h
+handed_on form text group (Err e) file h = texts_no_group form text group (number_of e) file h
 
 -- a text that is refused is all that is printed
-page_by : (c : Crypto) (own : SuiteChecks) (o : Option (List ℕ)) (group : List ℕ) (g : Result (List ℕ) ℕ) (n : ℕ) → g ≡ group_in group → (require_some 8 o >>= λ spelled. g >>= λ id. both_texts spelled id) ≡ Err n → check_page_in c own o group ≡ refused n
-page_by c own None group g n is e = let same : n ≡ 8 = cc e in rw same refl
-page_by c own (Some spelled) group (Ok id) n is e = cc e
-page_by c own (Some spelled) group (Err k) n is e = let same : n ≡ k = cc e in rw (← is, same) refl
+page_by : (c : Crypto) (o : Option (List ℕ)) (group : List ℕ) (g : Result (List ℕ) ℕ) (n : ℕ) → g ≡ group_in group → (require_some 8 o >>= λ spelled. g >>= λ id. both_texts spelled id) ≡ Err n → page_of_bytes (λ spelled. check_page_on c spelled (group_in group)) o ≡ refused n
+page_by c None group g n is e = let same : n ≡ 8 = cc e in rw same refl
+page_by c (Some spelled) group (Ok id) n is e = cc e
+page_by c (Some spelled) group (Err k) n is e = let same : n ≡ k = cc e in rw (← is, same) refl
 
-pub refused_texts : (c : Crypto) (own : SuiteChecks) (text group : List ℕ) (n : ℕ) → texts_in text group ≡ Err n → check_page c own text group ≡ refused n
+pub refused_texts : (c : Crypto) (form : Form) (text group : List ℕ) (n : ℕ) → texts_in form text group ≡ Err n → check_page c form text group ≡ refused n
 unfolding check_page texts_in
-refused_texts c own text group n e = page_by c own (bytes_in text) group (group_in group) n refl e
+refused_texts c form text group n e = page_by c (bytes_of_file form text) group (group_in group) n refl e

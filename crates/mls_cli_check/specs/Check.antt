@@ -14,14 +14,14 @@ use Rattle.mls_tree_model.specs.Arrays.{from_nodes}
 use Rattle.mls_suite.specs.Crypto.{Crypto}
 use Rattle.mls_tree.specs.Tree.{max_leaves}
 use Rattle.mls_tree.specs.Rules.{rules_of}
-use Rattle.mls_cli_text.specs.HexFile.{bytes_in, decoded_bytes}
+use Rattle.mls_cli_text.specs.Form.{bytes_of_file}
+use Rattle.mls_cli_text.specs.HexFile.{decoded_bytes}
+use Rattle.mls_cli_text.specs.declared.form.Form.{Form}
 use Rattle.mls_cli_text.specs.Text.{Entry, entry, bytes, number, word}
 use Rattle.mls_cli_text.specs.Page.{Page, good, refused}
 use Rattle.mls_cli_text.specs.declared.page.Ending.TheVariants.{Good}
 use Rattle.mls_cli_text.specs.declared.page.Page as code
 use Rattle.mls_cli_text.specs.declared.text.Line.{Line}
-use Rattle.mls_cli_check.specs.declared.report.SuiteChecks.{SuiteChecks}
-use Rattle.mls_cli_check.specs.declared.report.SuiteChecks.TheVariants.{Made, Left}
 
 -- RFC 9420, section 12.4.3.3: the tree that the bytes spell, or the number of the first fault
 unfoldable pub tree_in : List ℕ → Result Term ℕ
@@ -46,9 +46,9 @@ abbrev pub both_texts : List ℕ → List ℕ → Result (List ℕ × List ℕ) 
 both_texts spelled id = Ok (spelled, id)
 
 -- the bytes of a file's text and of a group's: 8 the file's isn't hex, then 8 and 6 of the group's
-unfoldable pub texts_in : List ℕ → List ℕ → Result (List ℕ × List ℕ) ℕ
-texts_in text group = do
-  spelled ← require_some 8 (bytes_in text)
+unfoldable pub texts_in : Form → List ℕ → List ℕ → Result (List ℕ × List ℕ) ℕ
+texts_in form text group = do
+  spelled ← require_some 8 (bytes_of_file form text)
   id ← group_in group
   both_texts spelled id
 
@@ -70,36 +70,44 @@ check_step n holds line others = if holds then page_behind (line ∷ []) others 
 abbrev pub ok_line : List ℕ → Entry
 ok_line name = entry [] name (word (codes "ok"))
 
--- the line of a check by the suite's own functions, which a suite that checks nothing leaves out
-abbrev pub suite_word : SuiteChecks → List ℕ
-suite_word Made = codes "ok"
-suite_word Left = codes "not checked"
+-- what is said of a check by a function of the suite's own that passed: a function that passes nothing at all checks
+-- nothing
+abbrev pub suite_word : Bool → List ℕ
+suite_word passes_nothing = if passes_nothing then codes "not checked" else codes "ok"
 
-abbrev pub suite_line : SuiteChecks → List ℕ → Entry
-suite_line own name = entry [] name (word (suite_word own))
+-- of signatures: whether no bytes are a signature of no bytes by an empty key
+abbrev pub signature_word : Crypto → List ℕ
+signature_word c = suite_word (c.verify [] [] [])
+
+-- of the forms of keys: whether an empty key is fit
+abbrev pub key_word : Crypto → List ℕ
+key_word c = suite_word (c.key_ok [])
+
+abbrev pub word_line : List ℕ → List ℕ → Entry
+word_line name said = entry [] name (word said)
 
 -- the checks of a good tree in their order (RFC 9420, 7.3, 7.9.2 and 12.4.3.1), each with its line
-unfoldable pub rules_report : Crypto → SuiteChecks → List ℕ → Term → Page Entry
-rules_report c own group t =
+unfoldable pub rules_report : Crypto → List ℕ → Term → Page Entry
+rules_report c group t =
     check_step 23 (has_good_lists t) (ok_line (codes "unmerged"))
     (check_step 24 (has_good_hashes t) (ok_line (codes "parent_hashes"))
     (check_step 25 (has_distinct_keys t) (ok_line (codes "keys"))
     (check_step 26 (has_distinct_clients t) (ok_line (codes "clients"))
-    (check_step 51 (is_all_signed (rules_of c group) t) (suite_line own (codes "signatures"))
+    (check_step 51 (is_all_signed (rules_of c group) t) (word_line (codes "signatures") (signature_word c))
     (check_step 52 (is_all_capable (rules_of c group) t) (ok_line (codes "capabilities"))
-    (check_step 36 (is_all_fit (rules_of c group) t) (suite_line own (codes "key_forms"))
+    (check_step 36 (is_all_fit (rules_of c group) t) (word_line (codes "key_forms") (key_word c))
     all_passed))))))
 
-abbrev pub tree_report : Crypto → SuiteChecks → List ℕ → Term → Page Entry
-tree_report c own group t = page_behind (tree_entries t) (rules_report c own group t)
+abbrev pub tree_report : Crypto → List ℕ → Term → Page Entry
+tree_report c group t = page_behind (tree_entries t) (rules_report c group t)
 
-abbrev pub report_on : Crypto → SuiteChecks → List ℕ → Result Term ℕ → Page Entry
-report_on c own group (Ok t) = tree_report c own group t
-report_on c own group (Err n) = refused n
+abbrev pub report_on : Crypto → List ℕ → Result Term ℕ → Page Entry
+report_on c group (Ok t) = tree_report c group t
+report_on c group (Err n) = refused n
 
--- what is printed of the tree's bytes under a suite, for the group with that id, and what of the suite's own checks
-unfoldable pub check_text : Crypto → SuiteChecks → List ℕ → List ℕ → Page Entry
-check_text c own spelled group = report_on c own group (tree_in spelled)
+-- what is printed of the tree's bytes under a suite, for the group with that id
+unfoldable pub check_text : Crypto → List ℕ → List ℕ → Page Entry
+check_text c spelled group = report_on c group (tree_in spelled)
 
 -- the bytes spell a good tree of the group under a suite (RFC 9420, 7.3, 7.9.2, 12.4.3.1 and 12.4.3.3)
 pub record SpellsGoodTree (c : Crypto) (group spelled : List ℕ) : Type 0 where
@@ -114,15 +122,15 @@ JudgesTree c group spelled page = (page.ending ≡ Good) ↔ SpellsGoodTree c gr
 -- ---- pages
 
 -- a group's text that is no group's id is refused before the tree is looked at
-abbrev pub check_page_on : Crypto → SuiteChecks → List ℕ → Result (List ℕ) ℕ → Page Entry
-check_page_on c own spelled (Ok group) = check_text c own spelled group
-check_page_on c own spelled (Err n) = refused n
+abbrev pub check_page_on : Crypto → List ℕ → Result (List ℕ) ℕ → Page Entry
+check_page_on c spelled (Ok group) = check_text c spelled group
+check_page_on c spelled (Err n) = refused n
 
--- a file that is no hex text is refused with 8, before the group's text is looked at
-abbrev pub check_page_in : Crypto → SuiteChecks → Option (List ℕ) → List ℕ → Page Entry
-check_page_in c own None group = refused 8
-check_page_in c own (Some spelled) group = check_page_on c own spelled (group_in group)
+-- what is printed of the bytes of a file, if it has some; a file without bytes, since it is no hex text, is refused with 8
+abbrev pub page_of_bytes : (List ℕ → Page Entry) → Option (List ℕ) → Page Entry
+page_of_bytes page None = refused 8
+page_of_bytes page (Some spelled) = page spelled
 
 -- what is printed under a suite for a file's text and a group's
-unfoldable pub check_page : Crypto → SuiteChecks → List ℕ → List ℕ → Page Entry
-check_page c own text group = check_page_in c own (bytes_in text) group
+unfoldable pub check_page : Crypto → Form → List ℕ → List ℕ → Page Entry
+check_page c form text group = page_of_bytes (λ spelled. check_page_on c spelled (group_in group)) (bytes_of_file form text)

@@ -1,5 +1,6 @@
 pub mod Check
 pub mod CheckFaults
 pub mod RuleLines
+pub mod GroupInfo
 pub mod Unchecked
 pub mod LongList

@@ -1,14 +1,15 @@
 -- The lines of the checks, and what the first that fails leaves of them.
 use Rattle.std.specs.Prelude.{◌==◌, ℕ, List, [], ◌∷◌, codes, if◌then◌else◌}
 use Rattle.mls_cli_text.specs.Text.{Entry}
-use Rattle.mls_cli_check.specs.Check.{ok_line, suite_line}
-use Rattle.mls_cli_check.specs.declared.report.SuiteChecks.{SuiteChecks}
+use Rattle.mls_suite.specs.Crypto.{Crypto}
+use Rattle.mls_cli_check.specs.Check.{key_word, ok_line, signature_word, word_line}
 
 -- the lines of all checks of a good tree
-unfoldable pub rule_entries : SuiteChecks → List Entry
-rule_entries own =
+unfoldable pub rule_entries : Crypto → List Entry
+rule_entries c =
     ok_line (codes "unmerged") ∷ ok_line (codes "parent_hashes") ∷ ok_line (codes "keys") ∷ ok_line (codes "clients")
-    ∷ suite_line own (codes "signatures") ∷ ok_line (codes "capabilities") ∷ suite_line own (codes "key_forms") ∷ []
+    ∷ word_line (codes "signatures") (signature_word c) ∷ ok_line (codes "capabilities")
+    ∷ word_line (codes "key_forms") (key_word c) ∷ []
 
 -- how many of them come before the check of that number
 unfoldable pub lines_before : ℕ → ℕ

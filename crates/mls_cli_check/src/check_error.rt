@@ -23,6 +23,24 @@ pub enum CheckError {
     /// The nodes are no tree of a group.
     #[error("{0}")]
     Tree(TreeError),
+    /// The group's suite is none of those that are asked for.
+    #[error("another suite")]
+    WrongSuite,
+    /// The GroupInfo has no ratchet tree.
+    #[error("no ratchet tree")]
+    NoTree,
+    /// The GroupInfo's tree hash isn't that of its tree.
+    #[error("a wrong tree hash")]
+    TreeHashWrong,
+    /// The GroupInfo's signer is no member.
+    #[error("a wrong signer")]
+    SignerWrong,
+    /// The GroupInfo's signature doesn't verify.
+    #[error("the GroupInfo's signature doesn't verify")]
+    GroupInfoSignature,
+    /// The message is no GroupInfo.
+    #[error("another kind of message")]
+    WrongMessageKind,
 }
 
 impl CheckError {
@@ -38,6 +56,12 @@ impl CheckError {
             CheckError::NotHex => 8,
             CheckError::Decoding(error) => error.number(),
             CheckError::Tree(error) => error.number(),
+            CheckError::WrongSuite => 71,
+            CheckError::NoTree => 76,
+            CheckError::TreeHashWrong => 77,
+            CheckError::SignerWrong => 78,
+            CheckError::GroupInfoSignature => 79,
+            CheckError::WrongMessageKind => 95,
         }
     }
 

@@ -8,7 +8,7 @@ ghost use Rattle.mls_tree.specs.Faults.{number_of as tree_number_of};
 ghost use Rattle.mls_tree.specs.Tree.{term};
 ghost use Rattle.mls_cli_text.specs.Page.{MakesPage, refused};
 ghost use Rattle.mls_cli_text.specs.Text.{entries_of, entry_of};
-ghost use Rattle.mls_cli_check.specs.Check.{JudgesTree, page_behind, check_text, suite_word, tree_report};
+ghost use Rattle.mls_cli_check.specs.Check.{JudgesTree, page_behind, check_text, key_word, signature_word, suite_word, tree_report};
 ghost use Rattle.mls_cli_check.specs.CheckFaults.{number_of};
 ghost use Rattle.mls_cli_check.specs.RuleLines.{lines_before, rule_entries};
 ghost use Rattle.mls_tree.specs.ShortLeaves.{HasShortLeaves};
@@ -20,17 +20,8 @@ use mls_suite::Suite;
 use mls_tree::{PublicTree, TreeError};
 use std::alloc::{AllocError, Global};
 
-/// What becomes of the checks that are the suite's own functions: of signatures, and of the forms of keys.
-#[derive(Clone, Copy, Debug, PartialEq, Eq)]
-pub enum SuiteChecks {
-    /// They are made.
-    Made,
-    /// The suite checks nothing there, and their lines say so.
-    Left,
-}
-
 /// The lines, and the refusal behind them; where it is want of memory, that.
-fn refused(lines: Vec<Line>, error: CheckError) -> Result<Page<Line>, AllocError>
+pub(crate) fn refused(lines: Vec<Line>, error: CheckError) -> Result<Page<Line>, AllocError>
     ensures memory { IfOk result (λ page. number_of error ≢ 1) }
     ensures page { MakesPage result (page_behind (entries_of lines) (refused (number_of error))) }
     ensures outright { number_of error ≢ 1 → IsOk result }
@@ -44,38 +35,50 @@ fn refused(lines: Vec<Line>, error: CheckError) -> Result<Page<Line>, AllocError
     })
 }
 
-/// What stands behind the name of a check that is left to the suite.
-fn suite_word(own: SuiteChecks) -> &'static str
-    ensures { result.now ≡ suite_word own }
+/// What is said of a check by the suite's own function that passed, by whether that function passes nothing at all.
+fn suite_word(passes_nothing: bool) -> &'static str
+    ensures { result.now ≡ suite_word passes_nothing }
 {
-    match own {
-        SuiteChecks::Made => "ok",
-        SuiteChecks::Left => "not checked",
-    }
+    if passes_nothing { "not checked" } else { "ok" }
+}
+
+/// What is said of signatures: a suite that takes no bytes for a signature of no bytes by an empty key checks none.
+pub(crate) fn signature_word<S: Suite>() -> &'static str
+    ensures { result.now ≡ signature_word S.crypto }
+{
+    suite_word(S::verify(&[], &[], &[]))
+}
+
+/// What is said of the forms of keys: a suite that an empty key is fit for checks none.
+fn key_word<S: Suite>() -> &'static str
+    ensures { result.now ≡ key_word S.crypto }
+{
+    suite_word(S::key_ok(&[]))
 }
 
 /// The lines of all checks of a good tree.
 #[tactic(auto, unfolding(crate::specs::RuleLines::rule_entries))]
-fn all_rule_lines(alloc: Global, own: SuiteChecks) -> Result<Vec<Line>, AllocError>
-    ensures { IfOk result (λ lines. map entry_of lines.items ≡ rule_entries own) }
+fn all_rule_lines<S: Suite>(alloc: Global) -> Result<Vec<Line>, AllocError>
+    ensures { IfOk result (λ lines. map entry_of lines.items ≡ rule_entries S.crypto) }
 {
-    let own = suite_word(own);
+    let signatures = signature_word::<S>();
+    let keys = key_word::<S>();
     Ok(vec![in alloc;
-        line_of("", "unmerged", Field::Word("ok")),
-        line_of("", "parent_hashes", Field::Word("ok")),
-        line_of("", "keys", Field::Word("ok")),
-        line_of("", "clients", Field::Word("ok")),
-        line_of("", "signatures", Field::Word(own)),
-        line_of("", "capabilities", Field::Word("ok")),
-        line_of("", "key_forms", Field::Word(own)),
+        line_of("unmerged", Field::Word("ok")),
+        line_of("parent_hashes", Field::Word("ok")),
+        line_of("keys", Field::Word("ok")),
+        line_of("clients", Field::Word("ok")),
+        line_of("signatures", Field::Word(signatures)),
+        line_of("capabilities", Field::Word("ok")),
+        line_of("key_forms", Field::Word(keys)),
     ]?)
 }
 
 /// The lines of the first of the checks of a good tree.
-fn rule_lines(alloc: Global, own: SuiteChecks, passed: usize) -> Result<Vec<Line>, AllocError>
-    ensures { IfOk result (λ lines. map entry_of lines.items ≡ take passed (rule_entries own)) }
+fn rule_lines<S: Suite>(alloc: Global, passed: usize) -> Result<Vec<Line>, AllocError>
+    ensures { IfOk result (λ lines. map entry_of lines.items ≡ take passed (rule_entries S.crypto)) }
 {
-    let mut lines = all_rule_lines(alloc, own)?;
+    let mut lines = all_rule_lines::<S>(alloc)?;
     lines.truncate(passed);
     Ok(lines)
 }
@@ -97,27 +100,27 @@ fn lines_before(error: TreeError) -> usize
 }
 
 /// What is printed of a tree.
-fn tree_page<S: Suite>(
+pub(crate) fn tree_page<S: Suite>(
     alloc: Global,
-    own: SuiteChecks,
-    mut tree: PublicTree,
+    tree: &mut PublicTree,
     group_id: &[u8],
 ) -> Result<Page<Line>, AllocError>
     requires group { length group_id.now < 2 ^ 28 }
-    requires short { HasShortLeaves (term tree) }
-    ensures { MakesPage result (tree_report S.crypto own group_id.now (term tree)) }
+    requires short { HasShortLeaves (term tree.old) }
+    ensures page { MakesPage result (tree_report S.crypto group_id.now (term tree.old)) }
+    ensures same { term tree.new ≡ term tree.old }
 {
-    let lines = tree_lines(alloc, &mut tree)?;
+    let lines = tree_lines(alloc, tree)?;
     match tree.check::<S>(group_id) {
         Ok(()) => {
-            let more = all_rule_lines(alloc, own)?;
+            let more = all_rule_lines::<S>(alloc)?;
             Ok(Page {
                 lines: append_lines(lines, more)?,
                 ending: Ending::Good,
             })
         }
         Err(error) => {
-            let more = rule_lines(alloc, own, lines_before(error))?;
+            let more = rule_lines::<S>(alloc, lines_before(error))?;
             refused(append_lines(lines, more)?, CheckError::Tree(error))
         }
     }
@@ -127,16 +130,15 @@ fn tree_page<S: Suite>(
 #[tactic(auto, unfolding(crate::specs::Check::check_text))]
 fn bytes_page<S: Suite>(
     alloc: Global,
-    own: SuiteChecks,
     bytes: &[u8],
     group_id: &[u8],
 ) -> Result<Page<Line>, AllocError>
     requires { length group_id.now ≤ input_limit }
-    ensures page { MakesPage result (check_text S.crypto own bytes.now group_id.now) }
+    ensures page { MakesPage result (check_text S.crypto bytes.now group_id.now) }
     ensures outright { (n : ℕ) → whole ratchet_tree input_limit bytes.now ≡ Err n → IsOk result }
 {
     match tree_in(alloc, bytes) {
-        Ok(tree) => tree_page::<S>(alloc, own, tree, group_id),
+        Ok(mut tree) => tree_page::<S>(alloc, &mut tree, group_id),
         Err(error) => refused(Vec::new(alloc), error),
     }
 }
@@ -149,16 +151,15 @@ fn bytes_page<S: Suite>(
 /// `BadKey` (36)).
 pub fn check_text<S: Suite>(
     alloc: Global,
-    own: SuiteChecks,
     bytes: &[u8],
     group_id: &[u8],
 ) -> Result<Page<Line>, AllocError>
     requires { length group_id.now ≤ input_limit }
-    ensures page { MakesPage result (check_text S.crypto own bytes.now group_id.now) }
+    ensures page { MakesPage result (check_text S.crypto bytes.now group_id.now) }
     // Bytes that spell no nodes are refused whatever memory there is.
     ensures outright { (n : ℕ) → whole ratchet_tree input_limit bytes.now ≡ Err n → IsOk result }
     // Nothing is refused just where the bytes spell a good tree of the group.
     ensures good { IfOk result (λ page. JudgesTree S.crypto group_id.now bytes.now page) }
 {
-    bytes_page::<S>(alloc, own, bytes, group_id)
+    bytes_page::<S>(alloc, bytes, group_id)
 }

@@ -10,10 +10,10 @@ ghost use Rattle.mls_cli_check.specs.LongList.{RefusesMany};
 ghost use Rattle.mls_tree.specs.ShortLeaves.{HasShortLeaves};
 
 use crate::check_error::CheckError;
-use crate::long_list::refuse_long;
 use mls_cli_text::{Field, Line, line_of};
 use mls_leaf::{Bytes, Codec};
 use mls_tree::PublicTree;
+use mls_tree_view::refuse_long;
 use mls_types::RatchetTree;
 use std::alloc::{AllocError, Global};
 
@@ -44,8 +44,8 @@ pub fn tree_lines(alloc: Global, tree: &mut PublicTree) -> Result<Vec<Line>, All
     let leaves = u64::from(tree.leaf_count());
     let members = u64::from(tree.member_count());
     Ok(vec![in alloc;
-        line_of("", "leaves", Field::Number(leaves)),
-        line_of("", "members", Field::Number(members)),
-        line_of("", "tree_hash", Field::Bytes(Bytes::from_vec(hash))),
+        line_of("leaves", Field::Number(leaves)),
+        line_of("members", Field::Number(members)),
+        line_of("tree_hash", Field::Bytes(Bytes::from_vec(hash))),
     ]?)
 }

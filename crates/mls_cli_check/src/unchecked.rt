@@ -1,5 +1,5 @@
 //! A suite that checks nothing: every key is fit, every signature holds, and what is sealed lies open. `mls check`
-//! takes it for suite 0x0001, whose own cryptography the program doesn't have.
+//! takes it for suite 0x0001 where signatures aren't to be checked.
 
 ghost use Rattle.std.specs.Prelude.{refl};
 ghost use Rattle.mls_cli_check.specs.Unchecked.{unchecked, unchecked_lawful};

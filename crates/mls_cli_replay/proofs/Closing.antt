@@ -19,7 +19,7 @@ use Rattle.mls_cli_replay.specs.Actions.{outcomes, run_all}
 use Rattle.mls_cli_replay.specs.Replay.{IsRefusal, IsReplay, PrintsOne, actions_of, closing_entries, closing_text, ending_by, entry_text, expectations_of, final_entries, is_as_expected, is_silent, outcome_entries, page_of_run, played_entries, played_page}
 use Rattle.mls_cli_replay.proofs.Playing.{meet, said}
 
-no_more_said : (met : Bool) → ending_text (ending_by met) ≡ []
+pub no_more_said : (met : Bool) → ending_text (ending_by met) ≡ []
 no_more_said true = refl
 no_more_said false = refl
 
@@ -43,7 +43,7 @@ module _ (c : Crypto) (rs : List Recorded) (lines : Option (List (List ℕ))) wh
       ∙ ap (λ (x : World). said c x 0 rs ++ closing_text (run_all c x (actions_of rs)).seats lines) (sym begun)
       ∙ ap (λ (x : World). said c w 0 rs ++ closing_text x.seats lines) (sym is)
 
-  met_from : (w v : World) (met same : Bool) → w ≡ empty_world → v ≡ run_all c w (actions_of rs) → met ≡ meet c w rs → same ≡ is_silent (final_entries v.seats lines) → (met && same) ≡ is_as_expected c rs lines
+  pub met_from : (w v : World) (met same : Bool) → w ≡ empty_world → v ≡ run_all c w (actions_of rs) → met ≡ meet c w rs → same ≡ is_silent (final_entries v.seats lines) → (met && same) ≡ is_as_expected c rs lines
   unfolding is_as_expected
   met_from w v met same begun is meets ends =
       ap (λ (b : Bool). b && same) (meets ∙ ap (λ (x : World). meet c x rs) begun)

@@ -8,3 +8,7 @@ mod Closing
 mod Stopping
 mod Messages
 mod FoundMessages
+mod Quietly
+mod Wording
+mod Viewing
+mod OneViews

@@ -37,7 +37,7 @@ split_by seats k m is (inl (x, lt, at, same)) =
     (x, rw add-one (drop-cons seats k x lt ∙ ap (λ (y : Seat). y ∷ drop (suc k) seats) same), cc (ap (option_map (λ (s : Seat). s.member)) at))
 split_by seats k m is (inr (le, none)) = absurd (cc (ap (option_map (λ (s : Seat). s.member)) none))
 
-split_at : (seats : List Seat) (k : ℕ) (m : Member) → member_at seats k ≡ Some m → (s : Seat) × (drop k seats ≡ s ∷ drop (k + 1) seats) × (s.member ≡ m)
+pub split_at : (seats : List Seat) (k : ℕ) (m : Member) → member_at seats k ≡ Some m → (s : Seat) × (drop k seats ≡ s ∷ drop (k + 1) seats) × (s.member ≡ m)
 split_at seats k m is = split_by seats k m is (slice_get_cases seats k).1
 
 past_by : (seats : List Seat) (k : ℕ) → member_at seats k ≡ None
@@ -80,10 +80,10 @@ named_cut seats old new now k m is p part =
     subst (AppendsPart old now) (sym p.text) (part_behind old new now p.done (named k (drop k seats)) p.grown left)
 
 -- behind the last member
-none_left : (seats : List Seat) (k : ℕ) → length seats ≤ k → drop k seats ≡ []
-none_left seats k le = drop_all k seats le
+pub nobody_left : (seats : List Seat) (k : ℕ) → length seats ≤ k → drop k seats ≡ []
+nobody_left seats k le = drop_all k seats le
 
 pub named_all : (seats : List Seat) (old new : Option (List ℕ)) (k : ℕ) → length seats ≤ k → Named seats old new k → Appends old new (named 0 seats)
 named_all seats old new k le p =
-    let text : named 0 seats ≡ p.done = p.text ∙ ap (λ t. p.done ++ t) (ap (named k) (none_left seats k le) ∙ named_none k) ∙ append-nil p.done in
+    let text : named 0 seats ≡ p.done = p.text ∙ ap (λ t. p.done ++ t) (ap (named k) (nobody_left seats k le) ∙ named_none k) ∙ append-nil p.done in
     subst (Appends old new) (sym text) p.grown

@@ -20,7 +20,7 @@ use Rattle.mls_cli_replay.specs.declared.reply.Outcome.{Outcome}
 use Rattle.mls_cli_replay.specs.declared.reply.Outcome.TheVariants as outcome
 use Rattle.mls_cli_replay.specs.OneReplay.{OneReplay}
 
-expects_of : (rs : List Recorded) → expectations_of rs ≡ map (λ (x : RecordedAction). x.expect) (map recorded_view rs)
+pub expects_of : (rs : List Recorded) → expectations_of rs ≡ map (λ (x : RecordedAction). x.expect) (map recorded_view rs)
 expects_of [] = refl
 expects_of (r ∷ rs) = ap (λ (xs : List (Option (List ℕ))). expectation r ∷ xs) (expects_of rs)
 

@@ -37,11 +37,11 @@ pub said_none : (c : Crypto) (w : World) (i : ℕ) → said c w i [] ≡ []
 unfolding outcome_entries outcomes
 said_none c w i = refl
 
-meet_first : (c : Crypto) (w : World) (r : Recorded) (rs : List Recorded) → meet c w (r ∷ rs) ≡ (is_met (outcome_in c w r.action) (expectation r) && meet c (world_after c w r.action) rs)
+pub meet_first : (c : Crypto) (w : World) (r : Recorded) (rs : List Recorded) → meet c w (r ∷ rs) ≡ (is_met (outcome_in c w r.action) (expectation r) && meet c (world_after c w r.action) rs)
 unfolding all_met outcomes
 meet_first c w r rs = refl
 
-meet_none : (c : Crypto) (w : World) → meet c w [] ≡ true
+pub meet_none : (c : Crypto) (w : World) → meet c w [] ≡ true
 unfolding all_met outcomes
 meet_none c w = refl
 
@@ -103,7 +103,7 @@ played_all c w all old new i v met p =
 
 -- ---- the same, of the action of number i
 
-next_of : (all : List Recorded) (i : ℕ) (r : Recorded) → i < length all → r ≡ get_or all i r → drop i all ≡ r ∷ drop (i + 1) all
+pub next_of : (all : List Recorded) (i : ℕ) (r : Recorded) → i < length all → r ≡ get_or all i r → drop i all ≡ r ∷ drop (i + 1) all
 next_of all i r lt is = rw (add-one i) (drop-cons all i r lt ∙ ap (λ (x : Recorded). x ∷ drop (suc i) all) (sym is))
 
 pub played_step : (c : Crypto) (w : World) (all : List Recorded) (old new now : Option (List ℕ)) (i : ℕ) (v u : World) (met b and_met : Bool) (r : Recorded)
@@ -122,7 +122,7 @@ pub played_part : (c : Crypto) (w : World) (all : List Recorded) (old new now : 
 played_part c w all old new now i v met r lt is p part =
     played_cut c w all old new now i v met r (drop (i + 1) all) (subst (Played c w all old new i v met) (next_of all i r lt is) p) part
 
-none_left : (all : List Recorded) (i : ℕ) → length all ≤ i → drop i all ≡ []
+pub none_left : (all : List Recorded) (i : ℕ) → length all ≤ i → drop i all ≡ []
 none_left all i le = drop_all i all le
 
 pub played_end : (c : Crypto) (w : World) (all : List Recorded) (old new : Option (List ℕ)) (i : ℕ) (v : World) (met : Bool) → length all ≤ i

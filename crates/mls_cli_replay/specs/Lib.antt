@@ -6,3 +6,10 @@ pub mod OneReplay
 pub mod Message
 pub mod DigitsLaws
 pub mod OneMessage
+pub mod Quiet
+pub mod MemberTree
+pub mod TreeLaws
+pub mod RecordedReplies
+pub mod RecordLaws
+pub mod Views
+pub mod OneView

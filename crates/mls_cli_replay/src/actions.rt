@@ -15,7 +15,7 @@ use mls_world::World;
 use std::alloc::{AllocError, Global};
 
 /// Whether the text of what an action came to is as expected.
-fn is_met(alloc: Global, outcome: Outcome, expect: Option<&str>) -> Result<bool, AllocError>
+pub fn is_met(alloc: Global, outcome: Outcome, expect: Option<&str>) -> Result<bool, AllocError>
     ensures { IfOk result (λ met. met ≡ is_met outcome (option_map (λ t. t.now) expect.entry)) }
 {
     match expect {
@@ -69,7 +69,7 @@ fn print_outcome<O: Output>(
 }
 
 /// Does an action. Where memory is wanting, some of its events have happened.
-fn do_action<S: Suite>(
+pub fn do_action<S: Suite>(
     alloc: Global,
     world: &mut World<S>,
     action: &Action,

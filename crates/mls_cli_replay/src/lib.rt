@@ -5,9 +5,13 @@ mod actions;
 mod deliveries;
 mod ends;
 mod line;
+mod member_tree;
 mod members;
 mod message;
+mod quiet;
+mod record;
 mod reply;
+mod view;
 
 ghost use Rattle.std.specs.Prelude.{◌≡◌, ◌≢◌, ◌≤◌, ◌&&◌, IfOk, IfErr};
 ghost use Rattle.mls_wire.specs.Checks.{Answers};
@@ -19,20 +23,27 @@ ghost use Rattle.mls_cli_recording.specs.Recording.{recording};
 ghost use Rattle.mls_cli_replay.specs.Message.{PrintsMessage};
 ghost use Rattle.mls_cli_replay.specs.OneMessage.{OneMessage};
 ghost use Rattle.mls_cli_replay.specs.OneReplay.{OneReplay};
+ghost use Rattle.mls_cli_replay.specs.OneView.{OneQuiet, OneTree};
+ghost use Rattle.mls_cli_replay.specs.RecordedReplies.{IsRecord};
+ghost use Rattle.mls_cli_replay.specs.Views.{IsMemberTree, IsQuiet, IsRecorded, IsView};
 ghost use Rattle.mls_cli_replay.specs.Replay.{IsRefusal, PrintsOne, PrintsPlay, PrintsRefusal, PrintsReplay, ending_by};
 
 use actions::play_actions;
 pub use deliveries::Tally;
 use ends::print_end;
 pub use line::ReplayLine;
+use member_tree::print_tree;
 use message::print_message;
-use mls_cli_json::JsonError;
+use mls_cli_json::{JsonError, value_in};
 use mls_cli_recording::{RecordedRun, laws_of_calls, recording};
 use mls_cli_text::{Fault, Output, Page, print_page, refused_page};
 use mls_suite::Suite;
 use mls_world::World;
+use quiet::play_quietly;
+use record::print_record;
 pub use reply::Outcome;
 use std::alloc::Global;
+pub use view::ReplayView;
 
 /// The exit status, by whether the texts and the lines in the end are as expected.
 fn status_of(met: bool, same: bool) -> u8
@@ -133,11 +144,115 @@ pub fn replay_message<S: Suite, O: Output>(
     }
 }
 
+/// Prints what of the replay of a recording for the suite isn't as expected: each action whose text is another, then
+/// all that the replay ends with; or the refusal of the file (`BadJson` (9), `NotHex` (8)). It answers the exit status,
+/// which is that of the replay. All actions are done before anything is printed.
+pub fn replay_quietly<S: Suite, O: Output>(
+    alloc: Global,
+    file: &[u8],
+    out: &mut O,
+) -> Result<u8, Fault>
+    ensures prints { PrintsOne (IsQuiet S.crypto file.now) (O.contents out.old) (O.contents out.new) result }
+    ensures status { IfOk result (λ status. status ≤ 1) }
+    ensures fault { O.failed out.new ≡ write_failed (O.failed out.old) result }
+    ensures written { IfErr result (λ e. e ≢ Fault.Read) }
+{
+    match recording_for::<S>(alloc, file) {
+        Ok(recorded) => play_quietly::<S, O>(alloc, &recorded, out),
+        Err(error) => print_error(alloc, error, out),
+    }
+}
+
+/// Prints the ratchet tree of the member that has this number when all actions of a recording for the suite are done,
+/// in hex digits, and answers the exit status; or the refusal of the file (`BadJson` (9), `NotHex` (8)), or that there
+/// is no such member (`NoSuchMember` (90)), that it was removed (`Gone` (40)), or that the tree is too long (`TooLong`
+/// (6)). Nothing is compared with what is expected.
+pub fn replay_tree<S: Suite, O: Output>(
+    alloc: Global,
+    file: &[u8],
+    number: usize,
+    out: &mut O,
+) -> Result<u8, Fault>
+    ensures prints { PrintsOne (IsMemberTree S.crypto number file.now) (O.contents out.old) (O.contents out.new) result }
+    ensures status { IfOk result (λ status. status ≤ 1) }
+    ensures fault { O.failed out.new ≡ write_failed (O.failed out.old) result }
+    ensures written { IfErr result (λ e. e ≢ Fault.Read) }
+{
+    match recording_for::<S>(alloc, file) {
+        Ok(recorded) => print_tree::<S, O>(alloc, recorded.actions.as_slice(), number, out),
+        Err(error) => print_error(alloc, error, out),
+    }
+}
+
+/// Prints a recording for the suite again, where each action expects the reply that it has now, and in version 2 the
+/// lines of members in the end are those of now; or the refusal of the file (`BadJson` (9), `NotHex` (8)). It answers
+/// the exit status. All actions are done before anything is printed.
+pub fn replay_record<S: Suite, O: Output>(
+    alloc: Global,
+    file: &[u8],
+    out: &mut O,
+) -> Result<u8, Fault>
+    ensures prints { PrintsOne (IsRecorded S.crypto file.now) (O.contents out.old) (O.contents out.new) result }
+    ensures status { IfOk result (λ status. status ≤ 1) }
+    ensures fault { O.failed out.new ≡ write_failed (O.failed out.old) result }
+    ensures written { IfErr result (λ e. e ≢ Fault.Read) }
+{
+    match recording_for::<S>(alloc, file) {
+        Ok(recorded) => record_again::<S, O>(alloc, file, &recorded, out),
+        Err(error) => print_error(alloc, error, out),
+    }
+}
+
+/// Prints a recording again, of which this was read.
+fn record_again<S: Suite, O: Output>(
+    alloc: Global,
+    file: &[u8],
+    recorded: &RecordedRun,
+    out: &mut O,
+) -> Result<u8, Fault>
+    ensures prints { PrintsOne (IsRecord S.crypto file.now recorded.now.actions.items)
+        (O.contents out.old) (O.contents out.new) result }
+    ensures status { IfOk result (λ status. status ≤ 1) }
+    ensures fault { O.failed out.new ≡ write_failed (O.failed out.old) result }
+    ensures written { IfErr result (λ e. e ≢ Fault.Read) }
+{
+    match value_in(alloc, file) {
+        Ok(value) => print_record::<S, O>(alloc, value, recorded.actions.as_slice(), out),
+        // Want of memory: the file is JSON, since it was read as a recording.
+        Err(_) => Err(Fault::OutOfMemory),
+    }
+}
+
+/// Prints such a view of a recording for the suite, and answers the exit status.
+pub fn print_view<S: Suite, O: Output>(
+    alloc: Global,
+    file: &[u8],
+    view: ReplayView,
+    out: &mut O,
+) -> Result<u8, Fault>
+    // The output grows by the view's text, or on a fault by less than that.
+    ensures prints { PrintsOne (IsView S.crypto view file.now) (O.contents out.old) (O.contents out.new) result }
+    ensures status { IfOk result (λ status. status ≤ 1) }
+    // A fault of the output comes just where a write fails.
+    ensures fault { O.failed out.new ≡ write_failed (O.failed out.old) result }
+    ensures written { IfErr result (λ e. e ≢ Fault.Read) }
+{
+    match view {
+        ReplayView::Replies => replay::<S, O>(alloc, file, out),
+        ReplayView::Unmet => replay_quietly::<S, O>(alloc, file, out),
+        ReplayView::Message(number) => replay_message::<S, O>(alloc, file, number, out),
+        ReplayView::Tree(number) => replay_tree::<S, O>(alloc, file, number, out),
+        ReplayView::Recording => replay_record::<S, O>(alloc, file, out),
+    }
+}
+
 /// A file has one replay at most, so the one that `replay` prints is the one that it has, and so has each of its
-/// messages. The function does nothing.
+/// messages, its quiet replay and each member's tree. The function does nothing.
 pub fn laws_of_replays()
     ensures one { OneReplay }
     ensures message { OneMessage }
+    ensures quiet { OneQuiet }
+    ensures tree { OneTree }
 {
     laws_of_calls();
 }

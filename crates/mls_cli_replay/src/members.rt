@@ -20,9 +20,9 @@ pub fn member_line<S: Suite>(number: usize, member: &Member<S>) -> ReplayLine<'_
     ReplayLine::Present {
         member: number,
         leaf: member.leaf_index(),
-        epoch: member.epoch_number(),
+        epoch: member.epoch(),
         tree: member.group().context().tree_hash.as_slice(),
-        authenticator: member.epoch().epoch_authenticator(),
+        authenticator: member.secrets().epoch_authenticator(),
     }
 }
 

@@ -48,7 +48,7 @@ impl Output for Nowhere {
 }
 
 /// Does the actions and prints nothing.
-fn do_actions<S: Suite>(
+pub fn do_actions<S: Suite>(
     alloc: Global,
     world: &mut World<S>,
     recorded: &[Recorded],

@@ -1,5 +1,7 @@
 pub mod Package
 pub mod Extensions
+pub mod Numbered
+pub mod Commit
 pub mod Public
 pub mod Group
 pub mod Message

@@ -6,9 +6,10 @@ ghost use Rattle.mls_cli_text.specs.Text.{entries_of, entry_of};
 ghost use Rattle.mls_cli_show.specs.Message.{with_head, message_entries, text_of};
 
 use crate::group::{group_info_lines, welcome_lines};
+use crate::numbered::Detail;
 use crate::package::key_package_lines;
 use crate::public::public_message_lines;
-use mls_cli_text::{Field, Line, append_lines, line_of};
+use mls_cli_text::{Field, Line, Prefix, append_lines, line_of};
 use mls_leaf::{Codec, LeafError};
 use mls_types::MlsMessage;
 use std::alloc::{AllocError, Global};
@@ -23,8 +24,8 @@ fn with_head(
     ensures { IfOk result (λ v. entries_of v ≡ with_head kind.entry.now size (entries_of lines)) }
 {
     let head = vec![in alloc;
-        line_of("", "message", Field::Word(kind)),
-        line_of("", "bytes", Field::Number(size as u64)),
+        line_of("message", Field::Word(kind)),
+        line_of("bytes", Field::Number(size as u64)),
     ]?;
     append_lines(head, lines)
 }
@@ -33,38 +34,39 @@ fn with_head(
 #[tactic(auto, unfolding(crate::specs::Message::message_entries))]
 pub fn message_lines(
     alloc: Global,
+    detail: Detail,
     size: usize,
     message: MlsMessage,
 ) -> Result<Vec<Line>, AllocError>
-    ensures { IfOk result (λ lines. map entry_of lines.items ≡ message_entries size message) }
+    ensures { IfOk result (λ lines. map entry_of lines.items ≡ message_entries detail size message) }
 {
     match message {
         MlsMessage::KeyPackage(key_package) => {
-            let lines = key_package_lines(alloc, "", key_package)?;
+            let lines = key_package_lines(alloc, Prefix::of(""), key_package)?;
             with_head(alloc, "key_package", size, lines)
         }
         MlsMessage::PublicMessage(message) => {
-            let lines = public_message_lines(alloc, message)?;
+            let lines = public_message_lines(alloc, detail, message)?;
             with_head(alloc, "public_message", size, lines)
         }
         MlsMessage::Welcome(welcome) => {
-            let lines = welcome_lines(alloc, &welcome)?;
+            let lines = welcome_lines(alloc, detail, &welcome)?;
             with_head(alloc, "welcome", size, lines)
         }
         MlsMessage::GroupInfo(info) => {
-            let lines = group_info_lines(alloc, info)?;
+            let lines = group_info_lines(alloc, detail, info)?;
             with_head(alloc, "group_info", size, lines)
         }
     }
 }
 
 /// The lines of the MLSMessage that the bytes spell, or its first fault (2 to 7, 11 to 14).
-pub fn show_text(alloc: Global, bytes: &[u8]) -> Result<Vec<Line>, LeafError>
-    ensures lines { Gives (λ lines. map entry_of lines.items) result (text_of bytes.now) }
+pub fn show_text(alloc: Global, detail: Detail, bytes: &[u8]) -> Result<Vec<Line>, LeafError>
+    ensures lines { Gives (λ lines. map entry_of lines.items) result (text_of detail bytes.now) }
     // A fault is answered whatever memory there is.
-    ensures outright { FaultsOutright (text_of bytes.now) result }
+    ensures outright { FaultsOutright (text_of detail bytes.now) result }
 {
     let message = MlsMessage::decode(alloc, bytes)?;
-    let lines = message_lines(alloc, bytes.len(), message)?;
+    let lines = message_lines(alloc, detail, bytes.len(), message)?;
     Ok(lines)
 }

@@ -1,44 +1,44 @@
 //! The lines of leaves and KeyPackages.
 
 ghost use Rattle.std.specs.Prelude.{◌≡◌, ◌∷◌, [], codes, map, IfOk};
-ghost use Rattle.mls_cli_text.specs.Text.{bytes, digits, entries_of, entry, entry_of, numbers};
+ghost use Rattle.mls_cli_text.specs.Text.{bytes, digits, entries_of, entry, entry_of, numbers, prefix_text};
 ghost use Rattle.mls_cli_show.specs.Package.{key_package_entries, leaf_entries, source_entries};
 
-use mls_cli_text::{Field, Line, append_line, append_lines, line_of};
+use mls_cli_text::{Field, Line, Prefix, append_line, append_lines, line_with};
 use mls_leaf::{Bytes, Capabilities, Credential, KeyPackage, LeafNode, LeafSource};
 use std::alloc::{AllocError, Global};
 
 fn identity_lines(
     alloc: Global,
-    prefix: &'static str,
+    prefix: Prefix,
     encryption_key: Bytes,
     signature_key: Bytes,
     credential: Credential,
 ) -> Result<Vec<Line>, AllocError>
     ensures { IfOk result (λ lines. map entry_of lines.items
-        ≡ entry prefix.entry.now (codes "leaf.encryption_key") (bytes encryption_key)
-        ∷ entry prefix.entry.now (codes "leaf.signature_key") (bytes signature_key)
-        ∷ entry prefix.entry.now (codes "leaf.identity") (bytes credential.identity) ∷ []) }
+        ≡ entry (prefix_text prefix) (codes "leaf.encryption_key") (bytes encryption_key)
+        ∷ entry (prefix_text prefix) (codes "leaf.signature_key") (bytes signature_key)
+        ∷ entry (prefix_text prefix) (codes "leaf.identity") (bytes credential.identity) ∷ []) }
 {
     let Credential { identity } = credential;
     Ok(vec![in alloc;
-        line_of(prefix, "leaf.encryption_key", Field::Bytes(encryption_key)),
-        line_of(prefix, "leaf.signature_key", Field::Bytes(signature_key)),
-        line_of(prefix, "leaf.identity", Field::Bytes(identity)),
+        line_with(prefix, "leaf.encryption_key", Field::Bytes(encryption_key)),
+        line_with(prefix, "leaf.signature_key", Field::Bytes(signature_key)),
+        line_with(prefix, "leaf.identity", Field::Bytes(identity)),
     ]?)
 }
 
 fn capability_lines(
     alloc: Global,
-    prefix: &'static str,
+    prefix: Prefix,
     capabilities: Capabilities,
 ) -> Result<Vec<Line>, AllocError>
     ensures { IfOk result (λ lines. map entry_of lines.items
-        ≡ entry prefix.entry.now (codes "leaf.versions") (numbers capabilities.versions)
-        ∷ entry prefix.entry.now (codes "leaf.cipher_suites") (numbers capabilities.cipher_suites)
-        ∷ entry prefix.entry.now (codes "leaf.extensions") (numbers capabilities.extensions)
-        ∷ entry prefix.entry.now (codes "leaf.proposals") (numbers capabilities.proposals)
-        ∷ entry prefix.entry.now (codes "leaf.credentials") (numbers capabilities.credentials) ∷ []) }
+        ≡ entry (prefix_text prefix) (codes "leaf.versions") (numbers capabilities.versions)
+        ∷ entry (prefix_text prefix) (codes "leaf.cipher_suites") (numbers capabilities.cipher_suites)
+        ∷ entry (prefix_text prefix) (codes "leaf.extensions") (numbers capabilities.extensions)
+        ∷ entry (prefix_text prefix) (codes "leaf.proposals") (numbers capabilities.proposals)
+        ∷ entry (prefix_text prefix) (codes "leaf.credentials") (numbers capabilities.credentials) ∷ []) }
 {
     let Capabilities {
         versions,
@@ -48,48 +48,40 @@ fn capability_lines(
         credentials,
     } = capabilities;
     Ok(vec![in alloc;
-        line_of(prefix, "leaf.versions", Field::Numbers(versions)),
-        line_of(prefix, "leaf.cipher_suites", Field::Numbers(cipher_suites)),
-        line_of(prefix, "leaf.extensions", Field::Numbers(extensions)),
-        line_of(prefix, "leaf.proposals", Field::Numbers(proposals)),
-        line_of(prefix, "leaf.credentials", Field::Numbers(credentials)),
+        line_with(prefix, "leaf.versions", Field::Numbers(versions)),
+        line_with(prefix, "leaf.cipher_suites", Field::Numbers(cipher_suites)),
+        line_with(prefix, "leaf.extensions", Field::Numbers(extensions)),
+        line_with(prefix, "leaf.proposals", Field::Numbers(proposals)),
+        line_with(prefix, "leaf.credentials", Field::Numbers(credentials)),
     ]?)
 }
 
-fn source_lines(
-    alloc: Global,
-    prefix: &'static str,
-    source: LeafSource,
-) -> Result<Vec<Line>, AllocError>
-    ensures { IfOk result (λ lines. entries_of lines ≡ source_entries prefix.entry.now source) }
+fn source_lines(alloc: Global, prefix: Prefix, source: LeafSource) -> Result<Vec<Line>, AllocError>
+    ensures { IfOk result (λ lines. entries_of lines ≡ source_entries (prefix_text prefix) source) }
 {
     match source {
         LeafSource::KeyPackage {
             not_before,
             not_after,
         } => Ok(vec![in alloc;
-            line_of(prefix, "leaf.source", Field::Word("key_package")),
-            line_of(prefix, "leaf.not_before", Field::Number(not_before)),
-            line_of(prefix, "leaf.not_after", Field::Number(not_after)),
+            line_with(prefix, "leaf.source", Field::Word("key_package")),
+            line_with(prefix, "leaf.not_before", Field::Number(not_before)),
+            line_with(prefix, "leaf.not_after", Field::Number(not_after)),
         ]?),
         LeafSource::Update => Ok(vec![in alloc;
-            line_of(prefix, "leaf.source", Field::Word("update")),
+            line_with(prefix, "leaf.source", Field::Word("update")),
         ]?),
         LeafSource::Commit { parent_hash } => Ok(vec![in alloc;
-            line_of(prefix, "leaf.source", Field::Word("commit")),
-            line_of(prefix, "leaf.parent_hash", Field::Bytes(parent_hash)),
+            line_with(prefix, "leaf.source", Field::Word("commit")),
+            line_with(prefix, "leaf.parent_hash", Field::Bytes(parent_hash)),
         ]?),
     }
 }
 
 /// The lines of a leaf, each with the prefix.
 #[tactic(auto, unfolding(crate::specs::Package::leaf_entries))]
-pub fn leaf_lines(
-    alloc: Global,
-    prefix: &'static str,
-    leaf: LeafNode,
-) -> Result<Vec<Line>, AllocError>
-    ensures { IfOk result (λ lines. map entry_of lines.items ≡ leaf_entries prefix.entry.now leaf) }
+pub fn leaf_lines(alloc: Global, prefix: Prefix, leaf: LeafNode) -> Result<Vec<Line>, AllocError>
+    ensures { IfOk result (λ lines. map entry_of lines.items ≡ leaf_entries (prefix_text prefix) leaf) }
 {
     let LeafNode {
         encryption_key,
@@ -104,23 +96,23 @@ pub fn leaf_lines(
     let lines = append_lines(lines, source_lines(alloc, prefix, source)?)?;
     append_line(
         lines,
-        line_of(prefix, "leaf.signature", Field::Bytes(signature)),
+        line_with(prefix, "leaf.signature", Field::Bytes(signature)),
     )
 }
 
 fn front_lines(
     alloc: Global,
-    prefix: &'static str,
+    prefix: Prefix,
     cipher_suite: u16,
     init_key: Bytes,
 ) -> Result<Vec<Line>, AllocError>
     ensures { IfOk result (λ lines. map entry_of lines.items
-        ≡ entry prefix.entry.now (codes "cipher_suite") (digits cipher_suite)
-        ∷ entry prefix.entry.now (codes "init_key") (bytes init_key) ∷ []) }
+        ≡ entry (prefix_text prefix) (codes "cipher_suite") (digits cipher_suite)
+        ∷ entry (prefix_text prefix) (codes "init_key") (bytes init_key) ∷ []) }
 {
     Ok(vec![in alloc;
-        line_of(prefix, "cipher_suite", Field::Digits(cipher_suite)),
-        line_of(prefix, "init_key", Field::Bytes(init_key)),
+        line_with(prefix, "cipher_suite", Field::Digits(cipher_suite)),
+        line_with(prefix, "init_key", Field::Bytes(init_key)),
     ]?)
 }
 
@@ -128,10 +120,10 @@ fn front_lines(
 #[tactic(auto, unfolding(crate::specs::Package::key_package_entries))]
 pub fn key_package_lines(
     alloc: Global,
-    prefix: &'static str,
+    prefix: Prefix,
     key_package: KeyPackage,
 ) -> Result<Vec<Line>, AllocError>
-    ensures { IfOk result (λ v. entries_of v ≡ key_package_entries prefix.entry.now key_package) }
+    ensures { IfOk result (λ v. entries_of v ≡ key_package_entries (prefix_text prefix) key_package) }
 {
     let KeyPackage {
         cipher_suite,
@@ -141,5 +133,8 @@ pub fn key_package_lines(
     } = key_package;
     let leaf = leaf_lines(alloc, prefix, leaf_node)?;
     let lines = append_lines(front_lines(alloc, prefix, cipher_suite, init_key)?, leaf)?;
-    append_line(lines, line_of(prefix, "signature", Field::Bytes(signature)))
+    append_line(
+        lines,
+        line_with(prefix, "signature", Field::Bytes(signature)),
+    )
 }

@@ -1,25 +1,18 @@
 //! The lines of public messages.
 
-ghost use Rattle.std.specs.Prelude.{◌≡◌, ◌++◌, ◌∷◌, [], codes, map, length, option_map, IfOk};
-ghost use Rattle.mls_cli_text.specs.Text.{bytes, entries_of, entry, entry_of, number, shown_by, word};
-ghost use Rattle.mls_cli_show.specs.Public.{body_entries, shown_count, leaf_index, path_nodes, proposal_entries, public_message_entries, with_word_line};
+ghost use Rattle.std.specs.Prelude.{◌≡◌, ◌++◌, ◌∷◌, [], codes, map, IfOk};
+ghost use Rattle.mls_cli_text.specs.Text.{bytes, entries_of, entry, entry_of, number, word};
+ghost use Rattle.mls_cli_show.specs.Commit.{commit_entries};
+ghost use Rattle.mls_cli_show.specs.Public.{body_entries, leaf_index, proposal_entries, public_message_entries, with_word_line};
 
+use crate::commit::commit_lines;
 use crate::extensions::extension_lines;
+use crate::numbered::Detail;
 use crate::package::{key_package_lines, leaf_lines};
-use mls_cli_text::{Field, Line, append_line, append_lines, line_of};
+use mls_cli_text::{Field, Line, Prefix, append_line, append_lines, line_of};
 use mls_leaf::{Bytes, Proposal};
 use mls_types::{Commit, PublicMessage, Sender, SignedBody, SignedContent};
 use std::alloc::{AllocError, Global};
-
-/// A count, or `none`.
-pub fn count_field(count: Option<usize>) -> Field
-    ensures { shown_by result ≡ shown_count count }
-{
-    match count {
-        Some(count) => Field::Number(count as u64),
-        None => Field::Word("none"),
-    }
-}
 
 fn index_of(sender: &Sender) -> u32
     ensures { result ≡ leaf_index sender.now }
@@ -44,10 +37,10 @@ fn frame_lines(
 {
     let sender = index_of(&sender);
     Ok(vec![in alloc;
-        line_of("", "group_id", Field::Bytes(group_id)),
-        line_of("", "epoch", Field::Number(epoch)),
-        line_of("", "sender", Field::Number(u64::from(sender))),
-        line_of("", "authenticated_data", Field::Bytes(authenticated_data)),
+        line_of("group_id", Field::Bytes(group_id)),
+        line_of("epoch", Field::Number(epoch)),
+        line_of("sender", Field::Number(u64::from(sender))),
+        line_of("authenticated_data", Field::Bytes(authenticated_data)),
     ]?)
 }
 
@@ -60,7 +53,7 @@ fn with_word_line(
 ) -> Result<Vec<Line>, AllocError>
     ensures { IfOk result (λ all. entries_of all ≡ with_word_line name.entry value.entry lines) }
 {
-    let front = vec![in alloc; line_of("", name, Field::Word(value))]?;
+    let front = vec![in alloc; line_of(name, Field::Word(value))]?;
     append_lines(front, lines)
 }
 
@@ -69,8 +62,8 @@ fn remove_lines(alloc: Global, removed: u32) -> Result<Vec<Line>, AllocError>
         ≡ entry [] (codes "proposal") (word (codes "remove")) ∷ entry [] (codes "removed") (number removed) ∷ []) }
 {
     Ok(vec![in alloc;
-        line_of("", "proposal", Field::Word("remove")),
-        line_of("", "removed", Field::Number(u64::from(removed))),
+        line_of("proposal", Field::Word("remove")),
+        line_of("removed", Field::Number(u64::from(removed))),
     ]?)
 }
 
@@ -81,51 +74,40 @@ pub fn proposal_lines(alloc: Global, proposal: Proposal) -> Result<Vec<Line>, Al
 {
     match proposal {
         Proposal::Add(key_package) => {
-            let lines = key_package_lines(alloc, "add.", key_package)?;
+            let lines = key_package_lines(alloc, Prefix::of("add."), key_package)?;
             with_word_line(alloc, "proposal", "add", lines)
         }
         Proposal::Update(leaf_node) => {
-            let lines = leaf_lines(alloc, "", leaf_node)?;
+            let lines = leaf_lines(alloc, Prefix::of(""), leaf_node)?;
             with_word_line(alloc, "proposal", "update", lines)
         }
         Proposal::Remove(removed) => remove_lines(alloc, removed),
         Proposal::GroupContextExtensions(extensions) => {
-            let lines = extension_lines(alloc, extensions.as_slice())?;
+            let lines = extension_lines(alloc, Prefix::of(""), extensions.as_slice())?;
             with_word_line(alloc, "proposal", "group_context_extensions", lines)
         }
     }
 }
 
-fn path_count(commit: &Commit) -> Option<usize>
-    ensures { result ≡ path_nodes commit.now }
-{
-    match &commit.path {
-        Some(path) => Some(path.nodes.as_slice().len()),
-        None => None,
-    }
-}
-
-fn commit_lines(
+fn commit_body_lines(
     alloc: Global,
-    proposals: usize,
-    nodes: Option<usize>,
+    detail: Detail,
+    commit: Commit,
     signature: Bytes,
     confirmation_tag: Bytes,
 ) -> Result<Vec<Line>, AllocError>
     ensures { IfOk result (λ lines. map entry_of lines.items
         ≡ entry [] (codes "content") (word (codes "commit"))
-        ∷ entry [] (codes "proposals") (number proposals)
-        ∷ entry [] (codes "path_nodes") (shown_count nodes)
-        ∷ entry [] (codes "signature") (bytes signature)
-        ∷ entry [] (codes "confirmation_tag") (bytes confirmation_tag) ∷ []) }
+        ∷ (commit_entries detail commit
+        ++ entry [] (codes "signature") (bytes signature)
+        ∷ entry [] (codes "confirmation_tag") (bytes confirmation_tag) ∷ [])) }
 {
-    Ok(vec![in alloc;
-        line_of("", "content", Field::Word("commit")),
-        line_of("", "proposals", Field::Number(proposals as u64)),
-        line_of("", "path_nodes", count_field(nodes)),
-        line_of("", "signature", Field::Bytes(signature)),
-        line_of("", "confirmation_tag", Field::Bytes(confirmation_tag)),
-    ]?)
+    let end = vec![in alloc;
+        line_of("signature", Field::Bytes(signature)),
+        line_of("confirmation_tag", Field::Bytes(confirmation_tag)),
+    ]?;
+    let lines = append_lines(commit_lines(alloc, detail, commit)?, end)?;
+    with_word_line(alloc, "content", "commit", lines)
 }
 
 fn application_lines(
@@ -139,9 +121,9 @@ fn application_lines(
         ∷ entry [] (codes "signature") (bytes signature) ∷ []) }
 {
     Ok(vec![in alloc;
-        line_of("", "content", Field::Word("application")),
-        line_of("", "data", Field::Bytes(content)),
-        line_of("", "signature", Field::Bytes(signature)),
+        line_of("content", Field::Word("application")),
+        line_of("data", Field::Bytes(content)),
+        line_of("signature", Field::Bytes(signature)),
     ]?)
 }
 
@@ -156,11 +138,16 @@ fn proposed_lines(
 {
     let lines = proposal_lines(alloc, proposal)?;
     let lines = with_word_line(alloc, "content", "proposal", lines)?;
-    append_line(lines, line_of("", "signature", Field::Bytes(signature)))
+    append_line(lines, line_of("signature", Field::Bytes(signature)))
 }
 
-fn body_lines(alloc: Global, body: SignedBody, signature: Bytes) -> Result<Vec<Line>, AllocError>
-    ensures { IfOk result (λ lines. map entry_of lines.items ≡ body_entries body signature) }
+fn body_lines(
+    alloc: Global,
+    detail: Detail,
+    body: SignedBody,
+    signature: Bytes,
+) -> Result<Vec<Line>, AllocError>
+    ensures { IfOk result (λ lines. map entry_of lines.items ≡ body_entries detail body signature) }
 {
     match body {
         SignedBody::Application(content) => application_lines(alloc, content, signature),
@@ -168,26 +155,21 @@ fn body_lines(alloc: Global, body: SignedBody, signature: Bytes) -> Result<Vec<L
         SignedBody::Commit {
             commit,
             confirmation_tag,
-        } => {
-            let proposals = commit.proposals.as_slice().len();
-            commit_lines(
-                alloc,
-                proposals,
-                path_count(&commit),
-                signature,
-                confirmation_tag,
-            )
-        }
+        } => commit_body_lines(alloc, detail, commit, signature, confirmation_tag),
     }
 }
 
-fn content_lines(alloc: Global, content: SignedContent) -> Result<Vec<Line>, AllocError>
+fn content_lines(
+    alloc: Global,
+    detail: Detail,
+    content: SignedContent,
+) -> Result<Vec<Line>, AllocError>
     ensures { IfOk result (λ lines. map entry_of lines.items
         ≡ entry [] (codes "group_id") (bytes content.group_id)
         ∷ entry [] (codes "epoch") (number content.epoch)
         ∷ entry [] (codes "sender") (number (leaf_index content.sender))
         ∷ entry [] (codes "authenticated_data") (bytes content.authenticated_data)
-        ∷ body_entries content.body content.signature) }
+        ∷ body_entries detail content.body content.signature) }
 {
     let SignedContent {
         group_id,
@@ -197,23 +179,27 @@ fn content_lines(alloc: Global, content: SignedContent) -> Result<Vec<Line>, All
         body,
         signature,
     } = content;
-    let body = body_lines(alloc, body, signature)?;
+    let body = body_lines(alloc, detail, body, signature)?;
     let frame = frame_lines(alloc, group_id, epoch, sender, authenticated_data)?;
     append_lines(frame, body)
 }
 
 /// The lines of a public message, from its group's identifier on.
 #[tactic(auto, unfolding(crate::specs::Public::public_message_entries))]
-pub fn public_message_lines(alloc: Global, message: PublicMessage) -> Result<Vec<Line>, AllocError>
-    ensures { IfOk result (λ lines. map entry_of lines.items ≡ public_message_entries message) }
+pub fn public_message_lines(
+    alloc: Global,
+    detail: Detail,
+    message: PublicMessage,
+) -> Result<Vec<Line>, AllocError>
+    ensures { IfOk result (λ lines. map entry_of lines.items ≡ public_message_entries detail message) }
 {
     let PublicMessage {
         content,
         membership_tag,
     } = message;
-    let lines = content_lines(alloc, content)?;
+    let lines = content_lines(alloc, detail, content)?;
     append_line(
         lines,
-        line_of("", "membership_tag", Field::Bytes(membership_tag)),
+        line_of("membership_tag", Field::Bytes(membership_tag)),
     )
 }

@@ -3,6 +3,7 @@ pub mod InputOutput
 pub mod InputFront
 pub mod HexFile
 pub mod HexFileLimit
+pub mod Form
 pub mod Faults
 pub mod Page
 pub mod TextLaws

@@ -51,13 +51,6 @@ impl<R: Read> In<R> {
             failed: false,
         }
     }
-
-    /// Whether a read has failed.
-    pub fn has_failed(&self) -> bool
-        ensures { result ≡ in_failed self.now }
-    {
-        self.failed
-    }
 }
 
 impl<R: Read> Input for In<R> {

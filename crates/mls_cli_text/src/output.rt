@@ -42,13 +42,6 @@ impl<W: Write> Out<W> {
             failed: false,
         }
     }
-
-    /// Whether a write has failed.
-    pub fn has_failed(&self) -> bool
-        ensures { result ≡ out_failed self.now }
-    {
-        self.failed
-    }
 }
 
 impl<W: Write> Output for Out<W> {

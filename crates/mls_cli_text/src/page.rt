@@ -64,7 +64,7 @@ fn print_ending<O: Output>(alloc: Global, ending: Ending, out: &mut O) -> Result
     match ending {
         Ending::Good | Ending::Failed => Ok(()),
         Ending::Refused(number) => {
-            let line = line_of("", "refused", Field::Refusal(number));
+            let line = line_of("refused", Field::Refusal(number));
             print(alloc, &line, out)
         }
     }

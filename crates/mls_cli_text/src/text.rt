@@ -4,7 +4,7 @@ ghost use Rattle.std.specs.Prelude.{◌≡◌, ◌++◌, ◌∷◌, [], IfOk, On
 ghost use Rattle.std.specs.Fmt.{decimal};
 ghost use Rattle.hex.specs.Hex.{encode_lower};
 ghost use Rattle.mls_cli_text.specs.TextLaws.{line_nonempty};
-ghost use Rattle.mls_cli_text.specs.Text.{entries_of, entry, entry_of, extension_text, four_digits, number_with_name, numbers_text, or_dash, line_text, refusal_text, shown_by, shown_text, with_commas};
+ghost use Rattle.mls_cli_text.specs.Text.{entries_of, entry, entry_of, extension_text, four_digits, indexes_text, item_text, number_with_name, numbers_text, or_dash, line_text, prefix_text, refusal_text, shown_by, shown_text, with_commas, with_more_indexes};
 
 use crate::printing::Printed;
 use mls_leaf::{Bytes, Items};
@@ -22,6 +22,8 @@ pub enum Field {
     Digits(u16),
     /// A number in decimal.
     Number(u64),
+    /// Numbers in decimal, joined by commas, `-` where there are none.
+    Indexes(Vec<u32>),
     /// A word as it stands.
     Word(&'static str),
     /// A refusal's number in decimal, a space, and its name.
@@ -30,21 +32,64 @@ pub enum Field {
     Extension(u16, Bytes),
 }
 
+/// What stands before a name: a word, and behind it the number of an item and a dot, where the name is of one of many.
+#[derive(Clone, Copy, Debug)]
+pub struct Prefix {
+    /// The word, which may be empty.
+    pub word: &'static str,
+    /// The number of the item, from 0 on.
+    pub item: Option<u64>,
+}
+
+impl Prefix {
+    /// The prefix of this word alone.
+    pub fn of(word: &'static str) -> Prefix
+        ensures { prefix_text result ≡ word.entry.now }
+    {
+        Prefix { word, item: None }
+    }
+
+    /// The prefix of an item.
+    pub fn of_item(word: &'static str, item: u64) -> Prefix
+        ensures { prefix_text result ≡ item_text word.entry.now item }
+    {
+        Prefix {
+            word,
+            item: Some(item),
+        }
+    }
+}
+
 /// A name, which may have a front of its own, and what stands behind it.
 #[derive(Debug, Drop)]
 pub struct Line {
     /// What stands before the name.
-    pub prefix: &'static str,
+    pub prefix: Prefix,
     /// The name.
     pub name: &'static str,
     /// What stands behind it.
     pub field: Field,
 }
 
+/// Makes a line of a name without a prefix, and of what stands behind it.
+#[tactic(auto, unfolding(crate::specs::Text::entry_of))]
+pub fn line_of(name: &'static str, field: Field) -> Line
+    ensures { entry_of result ≡ entry [] name.entry.now (shown_by field) }
+{
+    Line {
+        prefix: Prefix {
+            word: "",
+            item: None,
+        },
+        name,
+        field,
+    }
+}
+
 /// Makes a line of these parts.
 #[tactic(auto, unfolding(crate::specs::Text::entry_of))]
-pub fn line_of(prefix: &'static str, name: &'static str, field: Field) -> Line
-    ensures { entry_of result ≡ entry prefix.entry.now name.entry.now (shown_by field) }
+pub fn line_with(prefix: Prefix, name: &'static str, field: Field) -> Line
+    ensures { entry_of result ≡ entry (prefix_text prefix) name.entry.now (shown_by field) }
 {
     Line {
         prefix,
@@ -77,12 +122,27 @@ impl Printed for Line {
     #[tactic(auto, unfolding(crate::specs::Text::entry_of))]
     fn text_bytes(&self, alloc: Global) -> Result<Vec<u8>, AllocError> {
         let mut text = Vec::new(alloc);
-        text.extend_from_slice(self.prefix.as_bytes())?;
+        push_prefix(alloc, &mut text, self.prefix)?;
         text.extend_from_slice(self.name.as_bytes())?;
         text.extend_from_slice(b": ")?;
         push_field(alloc, &mut text, &self.field)?;
         text.push(b'\n')?;
         Ok(text)
+    }
+}
+
+/// Adds what stands before a name.
+fn push_prefix(alloc: Global, text: &mut Vec<u8>, prefix: Prefix) -> Result<(), AllocError>
+    ensures { OnOk result (text.new.items ≡ text.old.items ++ prefix_text prefix) }
+{
+    text.extend_from_slice(prefix.word.as_bytes())?;
+    match prefix.item {
+        Some(item) => {
+            push_number(alloc, text, item)?;
+            text.push(b'.')?;
+            Ok(())
+        }
+        None => Ok(()),
     }
 }
 
@@ -95,6 +155,7 @@ fn push_field(alloc: Global, text: &mut Vec<u8>, field: &Field) -> Result<(), Al
         Field::Numbers(numbers) => push_numbers(alloc, text, numbers.as_slice()),
         Field::Digits(number) => push_digits(alloc, text, *number),
         Field::Number(number) => push_number(alloc, text, *number),
+        Field::Indexes(numbers) => push_indexes(alloc, text, numbers.as_slice()),
         Field::Word(word) => text.extend_from_slice(word.as_bytes()),
         Field::Refusal(number) => push_refusal(alloc, text, *number),
         Field::Extension(kind, content) => push_extension(alloc, text, *kind, content.as_slice()),
@@ -177,6 +238,30 @@ fn push_more(alloc: Global, text: &mut Vec<u8>, numbers: &[u16]) -> Result<(), A
     for number in numbers {
         text.push(b',')?;
         push_digits(alloc, text, *number)?;
+    }
+    Ok(())
+}
+
+/// Adds each number in decimal, joined by commas, `-` where there are none.
+fn push_indexes(alloc: Global, text: &mut Vec<u8>, numbers: &[u32]) -> Result<(), AllocError>
+    ensures { OnOk result (text.new.items ≡ text.old.items ++ indexes_text numbers.now) }
+{
+    match numbers {
+        [] => text.extend_from_slice(b"-"),
+        [first, more @ ..] => {
+            push_number(alloc, text, u64::from(*first))?;
+            push_more_indexes(alloc, text, more)
+        }
+    }
+}
+
+/// Adds each number in decimal behind a comma.
+fn push_more_indexes(alloc: Global, text: &mut Vec<u8>, numbers: &[u32]) -> Result<(), AllocError>
+    ensures { OnOk result (text.new.items ≡ text.old.items ++ with_more_indexes numbers.now) }
+{
+    for number in numbers {
+        text.push(b',')?;
+        push_number(alloc, text, u64::from(*number))?;
     }
     Ok(())
 }

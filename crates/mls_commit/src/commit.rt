@@ -9,9 +9,10 @@ ghost use Rattle.mls_public_group.specs.Short.{IsBelow, AreBelow, IsShortContext
 ghost use Rattle.mls_commit.specs.Received.{KeepsOwnTree, Changes, HasTreesShortAs};
 ghost use Rattle.mls_commit.specs.PathChecks.{StaysMember};
 ghost use Rattle.mls_commit.specs.PathMerge.{AppliesPathIf};
+ghost use Rattle.mls_commit.specs.declared.path.PathBase.TheVariants.{GroupTree};
 
 use crate::error::CommitError;
-use crate::path::apply_update_path;
+use crate::path::{PathBase, apply_update_path};
 use crate::received::Received;
 use mls_public_group::{Edits, NextTree, PublicGroup, Used, is_path_required};
 use mls_suite::Suite;
@@ -25,8 +26,7 @@ pub(crate) fn has_due_path(commit: &Commit, used: &[Used<'_>]) -> bool
     commit.path.is_some() || !is_path_required(used)
 }
 
-/// The tree after the edits, with the path merged where there is one. `is_own` says that there are no edits: the tree
-/// is the group's own.
+/// The tree after the edits, with the path merged where there is one.
 #[tactic(auto, unfolding(mls_model::specs::Commit::apply_path_if))]
 fn apply_path_if<S: Suite>(
     alloc: Global,
@@ -34,18 +34,18 @@ fn apply_path_if<S: Suite>(
     committer: u32,
     edits: &Edits,
     path: &Option<UpdatePath>,
-    is_own: bool,
+    base: PathBase,
 ) -> Result<NextTree, CommitError>
     requires context { IsShortContext group.now.context }
     requires stays { StaysMember committer group.now.tree edits.now.tree }
     requires path { IfSome path.now (λ p. IsBelow (2 ^ 28) leaf_node p.leaf_node) }
     ensures answer { AppliesPathIf S.crypto group.now committer edits.now path.now result }
     ensures follows { IfOk result (IsPreparedFor edits.now.tree) }
-    ensures own { IfOk result (λ t. is_merged t ≡ true → is_own ≡ true) }
+    ensures own { IfOk result (λ t. is_merged t ≡ true → base ≡ GroupTree) }
 {
     match path {
         None => Ok(NextTree::Edited(edits.tree.clone()?)),
-        Some(path) => apply_update_path::<S>(alloc, group, committer, edits, path, is_own),
+        Some(path) => apply_update_path::<S>(alloc, group, committer, edits, path, base),
     }
 }
 
@@ -81,8 +81,8 @@ pub fn change_of_commit<S: Suite>(
     if !has_due_path(commit, used) {
         return Err(CommitError::PathMissing);
     }
-    let is_own = used.is_empty();
-    let tree = apply_path_if::<S>(alloc, group, committer, &edits, &commit.path, is_own)?;
+    let base = PathBase::of(used);
+    let tree = apply_path_if::<S>(alloc, group, committer, &edits, &commit.path, base)?;
     let extensions = group.extensions_after(used);
     let received = Received::new(alloc, group, extensions, edits, tree, said, signature)?;
     Ok(received)

@@ -1,6 +1,6 @@
 //! The checks of a commit's path, and its merge.
 
-ghost use Rattle.std.specs.Prelude.{◌≡◌, ◌^◌, true, length, IfOk, IsSome};
+ghost use Rattle.std.specs.Prelude.{◌≡◌, ◌==◌, ◌^◌, true, length, IfOk, IsSome};
 ghost use Rattle.std.specs.List.{list_all};
 ghost use Rattle.std.specs.Str.{bytes_eq};
 ghost use Rattle.mls_wire.specs.Checks.{Answers, passed};
@@ -14,15 +14,37 @@ ghost use Rattle.mls_commit.specs.Faults.{number_of};
 ghost use Rattle.mls_commit.specs.PathChecks.{StaysMember, count_checks, counts_in, public_keys};
 ghost use Rattle.mls_commit.specs.PathMerge.{AppliesPath, MergesPath};
 ghost use Rattle.mls_public_group.specs.ProposalChecks.{member_check};
+ghost use Rattle.mls_commit.specs.declared.path.PathBase.TheVariants.{GroupTree};
 
 use crate::error::CommitError;
 use mls_checks::{CheckError, Source, replaced};
 use mls_leaf::{Bytes, LeafNode};
-use mls_public_group::{Edits, NextTree, PublicGroup};
+use mls_public_group::{Edits, NextTree, PublicGroup, Used};
 use mls_suite::Suite;
 use mls_tree::TreeError;
 use mls_types::{UpdatePath, UpdatePathNode};
 use std::alloc::{AllocError, Global};
+
+/// The tree that a commit's path is merged into.
+#[derive(Clone, Copy)]
+pub(crate) enum PathBase {
+    /// The group's own, which no proposal changes.
+    GroupTree,
+    /// The one after the proposals.
+    EditedTree,
+}
+
+impl PathBase {
+    /// That of a commit that uses these proposals.
+    pub(crate) fn of(used: &[Used<'_>]) -> PathBase
+        ensures { result ≡ GroupTree → (length used.now == 0) ≡ true }
+    {
+        if used.is_empty() {
+            return PathBase::GroupTree;
+        }
+        PathBase::EditedTree
+    }
+}
 
 /// The public key of a node.
 fn node_key(node: &UpdatePathNode) -> Result<Bytes, AllocError>
@@ -87,18 +109,18 @@ fn merge_into(
     committer: u32,
     leaf: LeafNode,
     keys: Vec<Bytes>,
-    is_own: bool,
+    base: PathBase,
 ) -> Result<NextTree, TreeError>
     ensures answer { MergesPath edits.now.tree committer leaf keys.items result }
     ensures follows { IfOk result (IsPreparedFor edits.now.tree) }
-    ensures own { IfOk result (λ t. is_merged t ≡ true → is_own ≡ true) }
+    ensures own { IfOk result (λ t. is_merged t ≡ true → base ≡ GroupTree) }
 {
     let tree = edits.tree.as_tree();
     let path = tree.prepare_path(committer, leaf, keys)?;
-    if is_own {
-        return Ok(NextTree::Merged(path));
+    match base {
+        PathBase::GroupTree => Ok(NextTree::Merged(path)),
+        PathBase::EditedTree => Ok(NextTree::EditedMerged(edits.tree.clone()?, path)),
     }
-    Ok(NextTree::EditedMerged(edits.tree.clone()?, path))
 }
 
 /// The tree after the edits with the committer's path merged, where these checks pass in this order: `NoSuchLeaf` (22)
@@ -112,14 +134,14 @@ pub(crate) fn apply_update_path<S: Suite>(
     committer: u32,
     edits: &Edits,
     path: &UpdatePath,
-    is_own: bool,
+    base: PathBase,
 ) -> Result<NextTree, CommitError>
     requires context { IsShortContext group.now.context }
     requires stays { StaysMember committer group.now.tree edits.now.tree }
     requires path { IsBelow (2 ^ 28) leaf_node path.now.leaf_node }
     ensures answer { AppliesPath S.crypto group.now committer edits.now path.now result }
     ensures follows { IfOk result (IsPreparedFor edits.now.tree) }
-    ensures own { IfOk result (λ t. is_merged t ≡ true → is_own ≡ true) }
+    ensures own { IfOk result (λ t. is_merged t ≡ true → base ≡ GroupTree) }
     ensures outright { RefusesOutright number_of (member_check group.now.tree committer) result }
 {
     let Some(old) = group.tree().leaf(committer) else {
@@ -140,6 +162,6 @@ pub(crate) fn apply_update_path<S: Suite>(
     }
     let keys = node_keys(alloc, path)?;
     let leaf = path.leaf_node.clone()?;
-    let tree = merge_into(edits, committer, leaf, keys, is_own)?;
+    let tree = merge_into(edits, committer, leaf, keys, base)?;
     Ok(tree)
 }

@@ -2,13 +2,14 @@
 #![tactic(auto)]
 
 use anyhow::{Result, bail};
-use mls::{Candidate, Item, Made, Member, Proposal, Suite0001};
+use mls::{Candidate, Conversation, Item, Made, Member, Proposal, Suite0001};
 use std::alloc::Global;
+use std::str::from_utf8;
 
 /// A key that all members of the epoch can make (RFC 9420, 8.5), in hex digits.
 fn export_key(alloc: Global, member: &Member<Suite0001>) -> Result<String> {
     let mut key = [0; 16];
-    member.epoch().export("example", b"file", &mut key)?;
+    member.secrets().export("example", b"file", &mut key)?;
     Ok(hex::encode(alloc, key.as_slice())?)
 }
 
@@ -24,8 +25,16 @@ fn run(rt: &impl Print, alloc: Global) -> Result<()> {
     };
     alice.process(&commit)?;
     let mut bob = Member::join(alloc, &bob, &welcome)?.member;
-    let (leaf, epoch) = (bob.leaf_index(), bob.epoch_number());
-    println!(rt; "bob joins at leaf {leaf} in epoch {epoch}")?;
+    println!(rt; "bob joins at leaf {}", bob.leaf_index())?;
+
+    // They speak to each other.
+    let mut hers = Conversation::of(alloc, &alice)?;
+    let mut his = Conversation::of(alloc, &bob)?;
+    let heard = his.open(&hers.seal(b"hello", &[], 0, &[8; 32])?)?;
+    let answer = hers.open(&his.seal(b"hi", &[], 0, &[9; 32])?)?;
+    let (hello, hi) = (heard.application_data, answer.application_data);
+    println!(rt; "bob hears {}", from_utf8(hello.as_slice())?)?;
+    println!(rt; "alice hears {}", from_utf8(hi.as_slice())?)?;
 
     // Bob proposes a new key for his leaf, and Alice commits all that she keeps.
     let update = bob.propose_update(&[5; 32])?;
@@ -33,8 +42,7 @@ fn run(rt: &impl Print, alloc: Global) -> Result<()> {
     let commit = alice.commit_kept(true, &[6; 32])?.made.commit;
     alice.process(&commit)?;
     bob.process(&commit)?;
-    let (hers, his) = (alice.epoch_number(), bob.epoch_number());
-    println!(rt; "both are in epoch {hers} and {his}")?;
+    println!(rt; "both are in epoch {}", bob.epoch())?;
     println!(rt; "alice exports the key {}", export_key(alloc, &alice)?)?;
     println!(rt; "bob exports the key {}", export_key(alloc, &bob)?)?;
 
@@ -44,11 +52,9 @@ fn run(rt: &impl Print, alloc: Global) -> Result<()> {
     alice.process(&commit)?;
     bob.process(&commit)?;
     println!(rt; "bob is gone: {}", bob.is_gone())?;
-    println!(rt; "alice is in epoch {}", alice.epoch_number())?;
     Ok(())
 }
 
 fn main(rt: HostRuntime) -> Result<()> {
-    let alloc = rt.alloc();
-    run(&rt, alloc)
+    run(&rt, rt.alloc())
 }

@@ -95,7 +95,7 @@ impl<'a> Committed<'a> {
     fn confirmation_tag(&self, alloc: Global, confirmed: &Secret) -> Result<Secret> {
         let front = without_last(self.after.context_bytes(), HASH);
         let context = joined(alloc, &[front, &[32], confirmed, &[0]])?;
-        let init = self.before.epoch().init_secret();
+        let init = self.before.secrets().init_secret();
         let commit_secret = path_secret(self.seed, self.nodes);
         let start = Epoch::next(init, &commit_secret, &context);
         Ok(start.epoch.confirmation_tag(confirmed))
@@ -118,7 +118,7 @@ impl<'a> Committed<'a> {
         let context = self.before.context_bytes();
         let membership = self
             .before
-            .epoch()
+            .secrets()
             .membership_tag(&[&FRONT, &content, context, &auth]);
         joined(alloc, &[&FRONT, &content, &auth, &[32], &membership])
     }

@@ -55,7 +55,7 @@ fn stand_together(stage: &Stage, one: usize, other: usize) -> Result<bool> {
     let one = stage.member(one)?;
     let other = stage.member(other)?;
     let is_public = one.context_bytes() == other.context_bytes();
-    Ok(is_public && one.epoch().epoch_secret() == other.epoch().epoch_secret())
+    Ok(is_public && one.secrets().epoch_secret() == other.secrets().epoch_secret())
 }
 
 /// How many of the members from one on and before another stand where a member does.
@@ -83,7 +83,7 @@ fn print_standing(
     }
     let member = stage.member(with)?;
     let all = member.group().tree().member_count();
-    let epoch = member.epoch_number();
+    let epoch = member.epoch();
     println!(rt; "  {what}: {count} of {all} members in one state, epoch {epoch}")?;
     Ok(())
 }

@@ -48,7 +48,7 @@ impl Page {
 
     fn numbers(&mut self, member: &Member<Glass>) -> Result<(), AllocError> {
         self.entry(&[u8::from(member.is_gone())])?;
-        self.entry(&member.epoch_number().to_be_bytes())?;
+        self.entry(&member.epoch().to_be_bytes())?;
         self.entry(&member.leaf_index().to_be_bytes())
     }
 
@@ -87,7 +87,7 @@ pub fn page_of(alloc: Global, member: &Member<Glass>, references: &[Secret]) -> 
     };
     page.numbers(member)?;
     page.public_state(member)?;
-    page.secrets(member.epoch())?;
+    page.secrets(member.secrets())?;
     page.keys(member)?;
     page.kept(member, references)?;
     Ok(page.bytes)

@@ -214,7 +214,7 @@ impl Stage {
         let candidate = self.candidate(candidate)?;
         match Member::join(alloc, candidate, bytes) {
             Ok(joined) => {
-                let epoch = joined.member.epoch_number();
+                let epoch = joined.member.epoch();
                 drop(joined);
                 Ok(Outcome::Joined(epoch))
             }

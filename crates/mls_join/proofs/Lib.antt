@@ -3,3 +3,4 @@ pub mod LeavesBelow
 pub mod Welcomes
 pub mod Places
 pub mod Joining
+mod FewNodes

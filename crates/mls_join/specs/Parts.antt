@@ -1,7 +1,10 @@
 -- The values that the stages of a join hand on, as the definitions have them.
-use Rattle.std.specs.Prelude.{ℕ, Result}
+use Rattle.std.specs.Prelude.{◌≡◌, ◌≢◌, ℕ, Result, Ok, Err}
 use Rattle.mls_wire.specs.Checks.{Answers}
+use Rattle.mls_wire.specs.Reading.{◌>>=◌}
 use Rattle.mls_types.specs.declared.welcome.GroupSecrets.{GroupSecrets}
+use Rattle.mls_suite.specs.Crypto.{Crypto}
+use Rattle.mls_model.specs.Join.{joined_tree}
 use Rattle.mls_model.specs.OpenedWelcome as model
 use Rattle.mls_join.specs.Faults.{number_of}
 use Rattle.mls_join.specs.declared.error.JoinError.{JoinError}
@@ -16,9 +19,11 @@ secrets_by s = record { joiner_secret = s.joiner; path_secret = s.path_secret; p
 abbrev pub opened_by : Opened → model.Opened
 opened_by o = record { joiner = o.joiner; path_secret = o.path_secret; bytes = o.bytes.items; info = o.info }
 
--- A call opens what the definition does, or refuses with its number. Where memory was refused it says nothing.
-abbrev pub Opens : Result model.Opened ℕ → Result Opened JoinError → Type 0
-Opens defined result = Answers opened_by number_of defined result
+-- A call opens what the definition does, or refuses with its number, or with that of the tree in what it opens. Where
+-- memory was refused it says nothing.
+abbrev pub Opens : Crypto → Result model.Opened ℕ → Result Opened JoinError → Type 0
+Opens c defined (Ok o) = defined ≡ Ok (opened_by o)
+Opens c defined (Err e) = number_of e ≢ 1 → (defined >>= λ o. joined_tree c o.info) ≡ Err (number_of e)
 
 -- A call opens the secrets that the definition does, or refuses with its number. Where memory was refused it says nothing.
 abbrev pub OpensSecrets : Result GroupSecrets ℕ → Result Secrets JoinError → Type 0

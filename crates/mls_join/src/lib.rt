@@ -3,6 +3,7 @@
 
 mod entrance;
 mod error;
+mod few_nodes;
 mod keys;
 mod opening;
 mod secrets;

@@ -1,6 +1,6 @@
 //! What a candidate finds in a Welcome (RFC 9420, 12.4.3.1).
 
-ghost use Rattle.std.specs.Prelude.{◌≡◌, ◌<◌, ◌^◌, length, true, IfOk, MatchResult};
+ghost use Rattle.std.specs.Prelude.{◌≡◌, ◌<◌, ◌^◌, length, true, Ok, IfOk, MatchResult};
 ghost use Rattle.std.specs.Option.{option_copied};
 ghost use Rattle.mls_leaf.specs.Faults.{whole};
 ghost use Rattle.mls_leaf.specs.KeyPackage.{key_package};
@@ -13,10 +13,12 @@ ghost use Rattle.mls_model.specs.OpenedWelcome.{or_fault, opened_welcome};
 ghost use Rattle.mls_model.specs.Proposals.{package_reference};
 ghost use Rattle.mls_join.specs.Entrance.{outer_checks};
 ghost use Rattle.mls_join.specs.Faults.{number_of, Gives, GivesBytes, IsMemory};
+ghost use Rattle.mls_join.specs.FewNodes.{HasFewNodes, RefusesTree};
 ghost use Rattle.mls_join.specs.Parts.{secrets_by, Opens};
 ghost use Rattle.mls_join.specs.Stages.{LendsWelcome, read_welcome_of_suite, entry_of, plain_info, open_group_info, open_for_candidate};
 
 use crate::error::JoinError;
+use crate::few_nodes::refuse_long_tree;
 use crate::secrets::{Secrets, opened_secrets};
 use mls_candidate::Candidate;
 use mls_kdf::Secret;
@@ -84,12 +86,16 @@ fn entry_of<'a>(
     entries.iter().find(|entry| entry.new_member.as_slice() == reference.as_slice())
 }
 
-/// The GroupInfo that opened bytes are: `GroupInfoUnreadable` (75).
-fn info_in(alloc: Global, plain: &[u8]) -> Result<GroupInfo, JoinError>
-    ensures answer { Gives (or_fault 75 (whole group_info input_limit plain.now)) result }
+/// The GroupInfo that opened bytes are: `GroupInfoUnreadable` (75). One with more nodes than a tree has is refused before
+/// it is owned: with `WrongSuite` (71) where it is of another suite, else with `TreeShape` (20) or `TreeFull` (21).
+fn info_in<S: Suite>(alloc: Global, plain: &[u8]) -> Result<GroupInfo, JoinError>
+    ensures info { IfOk result (λ v. or_fault 75 (whole group_info input_limit plain.now) ≡ Ok v) }
+    ensures refused { RefusesTree S.crypto plain.now result }
     ensures bytes { are_bytes plain.now ≡ true }
     ensures below { IfOk result (λ v. IsBelow (2 ^ 27) group_info v) }
+    ensures few { IfOk result HasFewNodes }
 {
+    refuse_long_tree::<S>(alloc, plain)?;
     match GroupInfo::decode(alloc, plain) {
         Ok(info) => Ok(info),
         Err(LeafError::Wire(WireError::OutOfMemory)) => {
@@ -110,18 +116,19 @@ fn plain_info<S: Suite>(alloc: Global, joiner: &Secret, sealed: &[u8]) -> Result
     }
 }
 
-/// What the secrets of an entry open: `GroupInfoUnreadable` (75), `WrongSuite` (71) the GroupInfo is of another suite.
+/// What the secrets of an entry open: `GroupInfoUnreadable` (75), `WrongSuite` (71) the GroupInfo is of another suite;
+/// `TreeShape` (20) and `TreeFull` (21) where it has more nodes than a tree.
 #[tactic(auto, unfolding(crate::specs::Stages::open_group_info))]
 fn open_group_info<S: Suite>(
     alloc: Global,
     secrets: Secrets,
     sealed: &[u8],
 ) -> Result<Opened, JoinError>
-    ensures answer { Opens (open_group_info S.crypto (secrets_by secrets) sealed.now) result }
+    ensures answer { Opens S.crypto (open_group_info S.crypto (secrets_by secrets) sealed.now) result }
     ensures below { IfOk result (λ o. IsBelow (2 ^ 27) group_info o.info) }
 {
     let bytes = plain_info::<S>(alloc, &secrets.joiner, sealed)?;
-    let info = info_in(alloc, &bytes)?;
+    let info = info_in::<S>(alloc, &bytes)?;
     if info.group_context.cipher_suite != S::NUMBER {
         return Err(JoinError::WrongSuite);
     }
@@ -133,7 +140,8 @@ fn open_group_info<S: Suite>(
     })
 }
 
-/// What a Welcome of the suite gives to a candidate: 72 to 75, `WrongSuite` (71) the GroupInfo is of another suite.
+/// What a Welcome of the suite gives to a candidate: 72 to 75, `WrongSuite` (71) the GroupInfo is of another suite,
+/// `TreeShape` (20) and `TreeFull` (21) where it has more nodes than a tree.
 #[tactic(auto, unfolding(crate::specs::Stages::open_for_candidate))]
 fn open_for_candidate<S: Suite>(
     alloc: Global,
@@ -142,7 +150,7 @@ fn open_for_candidate<S: Suite>(
 ) -> Result<Opened, JoinError>
     requires offered { IsBelow (2 ^ 27) key_package candidate.now.offered }
     requires short { length welcome.now.encrypted_group_info < 2 ^ 30 }
-    ensures answer { Opens (open_for_candidate S.crypto candidate.now welcome.now) result }
+    ensures answer { Opens S.crypto (open_for_candidate S.crypto candidate.now welcome.now) result }
     ensures below { IfOk result (λ o. IsBelow (2 ^ 27) group_info o.info) }
 {
     let reference = package_reference(alloc, candidate.key_package())?;
@@ -156,14 +164,15 @@ fn open_for_candidate<S: Suite>(
     open_group_info::<S>(alloc, secrets, welcome.encrypted_group_info.as_slice())
 }
 
-/// What a candidate finds in a Welcome: decoding, 70 to 75.
+/// What a candidate finds in a Welcome: decoding, 70 to 75, `TreeShape` (20) and `TreeFull` (21) of more nodes than a tree
+/// has.
 pub(crate) fn opened_welcome<S: Suite>(
     alloc: Global,
     candidate: &Candidate<S>,
     bytes: &[u8],
 ) -> Result<Opened, JoinError>
     requires offered { IsBelow (2 ^ 27) key_package candidate.now.offered }
-    ensures answer { Opens (opened_welcome S.crypto candidate.now bytes.now) result }
+    ensures answer { Opens S.crypto (opened_welcome S.crypto candidate.now bytes.now) result }
     ensures outright { RefusesOutright number_of (outer_checks S.crypto.number bytes.now) result }
     ensures below { IfOk result (λ o. IsBelow (2 ^ 27) group_info o.info) }
 {

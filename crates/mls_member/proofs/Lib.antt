@@ -17,3 +17,4 @@ pub mod ShortPackages
 pub mod Inspecting
 pub mod KeptTogether
 pub mod KeptCommits
+pub mod ListedProposals

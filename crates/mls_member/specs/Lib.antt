@@ -12,3 +12,4 @@ pub mod RefusalKinds
 pub mod Inspecting
 pub mod ShortPackages
 pub mod KeptTogether
+pub mod ListedProposals

@@ -1,5 +1,5 @@
 -- What the calls of a member do with messages that it receives.
-use Rattle.std.specs.Prelude.{◌≡◌, ℕ, Bool, false, List, Option, None, IsOk, IsSome, MatchOption, Result, Ok, IfOk}
+use Rattle.std.specs.Prelude.{◌≡◌, ℕ, Bool, false, List, Option, None, IsOk, IsSome, MatchOption, Result}
 use Rattle.std.specs.Borrow.{Bor}
 use Rattle.std.specs.Option.{option_copied}
 use Rattle.std.specs.Str.{bytes_eq}

@@ -66,7 +66,7 @@ impl<S: Suite> Member<S> {
     }
 
     /// The secrets of the epoch.
-    pub fn epoch(&self) -> &Epoch
+    pub fn secrets(&self) -> &Epoch
         ensures { result.now ≡ self.now.epoch }
     {
         &self.epoch
@@ -94,7 +94,7 @@ impl<S: Suite> Member<S> {
     }
 
     /// The number of the epoch.
-    pub fn epoch_number(&self) -> u64
+    pub fn epoch(&self) -> u64
         ensures { result ≡ self.now.public.context.epoch }
     {
         self.group.context().epoch

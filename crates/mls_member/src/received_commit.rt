@@ -17,6 +17,7 @@ ghost use Rattle.mls_member.specs.Received.{ChecksCommit, EntersEpoch, FollowsCo
 
 use crate::error::Refusal;
 use crate::framing::sender_leaf;
+use crate::listed_proposal::read_list;
 use crate::member::Member;
 use crate::used_proposals::{find_proposals, own_key, removes};
 use mls_commit::{Received, change_of_commit};
@@ -52,7 +53,7 @@ fn read_commit(
     ensures short { IfOk result (λ k. IsShortCommit (2 ^ 27) k) }
     ensures memory { IfErr result (λ e. e ≡ in_wire OutOfMemory) }
 {
-    let proposals = proposals.to_owned(alloc)?;
+    let proposals = read_list(alloc, proposals)?;
     let path = path.to_owned(alloc)?;
     Ok(Commit { proposals, path })
 }

@@ -92,9 +92,9 @@ fn call_member(rt: &impl Print, member: &mut Member<Glass>, number: u32, far: &[
     let made = member.commit(&[], true, &seed(Purpose::Renewal, number))?;
     println!(rt; "commit: {} bytes", made.commit.len())?;
     member.process(&made.commit)?;
-    println!(rt; "own commit: epoch {}", member.epoch_number())?;
+    println!(rt; "own commit: epoch {}", member.epoch())?;
     member.process(far)?;
-    println!(rt; "far commit: epoch {}", member.epoch_number())?;
+    println!(rt; "far commit: epoch {}", member.epoch())?;
     Ok(())
 }
 
@@ -117,7 +117,7 @@ fn call_joiner(
     println!(rt;
         "join by that: leaf {} in epoch {}",
         joiner.leaf_index(),
-        joiner.epoch_number()
+        joiner.epoch()
     )?;
     Ok(())
 }

@@ -90,9 +90,9 @@ pub(crate) fn print_member(
 ) -> Result<()> {
     println!(rt; "{part}: gone: {}", member.is_gone())?;
     println!(rt; "{part}: leaf_index: {}", member.leaf_index())?;
-    println!(rt; "{part}: epoch: {}", member.epoch_number())?;
+    println!(rt; "{part}: epoch: {}", member.epoch())?;
     print_group(rt, alloc, part, member)?;
-    print_epoch(rt, alloc, part, member.epoch())?;
+    print_epoch(rt, alloc, part, member.secrets())?;
     print_keys(rt, alloc, part, member)?;
     print_found(rt, alloc, part, "kept", member.kept(reference))?;
     match member.pending_secret() {

@@ -272,7 +272,7 @@ fn say_pathless(alloc: Global, a: &Member<Glass>) -> Result<Vec<u8>, Refusal> {
     let candidate = candidate(alloc, 1)?;
     let speaker = Speaker {
         group: a.group(),
-        epoch: a.epoch(),
+        epoch: a.secrets(),
         leaf: 0,
         signing: candidate.signing_key(),
     };

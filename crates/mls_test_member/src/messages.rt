@@ -21,7 +21,7 @@ const KEY: Secret = [3; 32];
 fn speaker(member: &Member<Glass>) -> Speaker<'_> {
     Speaker {
         group: member.group(),
-        epoch: member.epoch(),
+        epoch: member.secrets(),
         leaf: 2,
         signing: &KEY,
     }

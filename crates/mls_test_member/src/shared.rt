@@ -18,8 +18,8 @@ const SEEDS: Seeds = Seeds {
 fn epochs(alloc: Global) -> Result<(u64, u64, bool), Refusal> {
     let pair: Pair<Glass> = share(alloc, b"g", &SEEDS)?;
     let (first, second) = (&pair.first, &pair.second);
-    let is_one = first.epoch().epoch_secret() == second.epoch().epoch_secret();
-    Ok((first.epoch_number(), second.epoch_number(), is_one))
+    let is_one = first.secrets().epoch_secret() == second.secrets().epoch_secret();
+    Ok((first.epoch(), second.epoch(), is_one))
 }
 
 #[test]

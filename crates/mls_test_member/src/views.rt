@@ -119,7 +119,7 @@ fn follows_inspection(member: &mut Member<Glass>, bytes: &[u8]) -> bool {
     let shown = member.inspect(bytes);
     let done = member.process(bytes);
     match (shown, done) {
-        (Ok(shown), Ok(_)) => shown.member.epoch_number() == member.epoch_number(),
+        (Ok(shown), Ok(_)) => shown.member.epoch() == member.epoch(),
         (Err(shown), Err(error)) => shown.number() == error.number(),
         _ => false,
     }
@@ -161,6 +161,6 @@ fn commit_kept(pair: &mut Pair<Glass>) -> Result<bool, Refusal> {
 fn what_goes_together(rt: HostRuntime) -> Result<(), Fail> {
     let mut pair: Pair<Glass> = share(rt.alloc(), b"g", &SEEDS)?;
     assert!(rt; commit_kept(&mut pair)?);
-    assert_eq!(rt; pair.second.epoch_number(), 3);
+    assert_eq!(rt; pair.second.epoch(), 3);
     Ok(())
 }

@@ -1,7 +1,7 @@
 //! What is printed of trees. Their hashes and signatures, and the texts with them, are another program's.
 
-use mls_cli_check::{SuiteChecks, Unchecked, check_page};
-use mls_cli_text::print_page;
+use mls_cli_check::{Unchecked, check_page};
+use mls_cli_text::{Ending, Form, print_page};
 use mls_suite::{Glass, Suite};
 use std::alloc::{AllocError, Global};
 use std::test::Fail;
@@ -21,11 +21,10 @@ const ODD: &str =
 /// The status and the text for a file and a group's id in hex, under a suite.
 fn print_checks<S: Suite>(
     alloc: Global,
-    own: SuiteChecks,
     file: &str,
     group: &str,
 ) -> Result<(u8, Vec<u8>), AllocError> {
-    let page = check_page::<S>(alloc, own, file.as_bytes(), group)?;
+    let page = check_page::<S>(alloc, Form::Hex, file.as_bytes(), group)?;
     let mut out = Vec::new(alloc);
     match print_page(alloc, &page, &mut out) {
         Ok(status) => Ok((status, out)),
@@ -35,13 +34,9 @@ fn print_checks<S: Suite>(
 }
 
 /// Whether each file brings its status and its text under a suite. A row is file, group, status and text.
-fn agrees<S: Suite>(
-    alloc: Global,
-    own: SuiteChecks,
-    rows: &[(&str, &str, u8, &str)],
-) -> Result<bool, AllocError> {
+fn agrees<S: Suite>(alloc: Global, rows: &[(&str, &str, u8, &str)]) -> Result<bool, AllocError> {
     for (file, group, status, text) in rows {
-        let (answer, out) = print_checks::<S>(alloc, own, file, group)?;
+        let (answer, out) = print_checks::<S>(alloc, file, group)?;
         if answer != *status || out.as_slice() != text.as_bytes() {
             return Ok(false);
         }
@@ -65,7 +60,7 @@ fn prints_a_line_of_each_check(rt: HostRuntime) -> Result<(), Fail> {
             "leaves: 4\nmembers: 2\ntree_hash: 072fda648df0dc804580e7a2556644a8c15e7b4f8dc259b7bfe501508862e3bf\nunmerged: ok\nparent_hashes: ok\nkeys: ok\nclients: ok\nsignatures: ok\ncapabilities: ok\nkey_forms: ok\n",
         ),
     ];
-    assert!(rt; agrees::<Glass>(rt.alloc(), SuiteChecks::Made, &rows)?);
+    assert!(rt; agrees::<Glass>(rt.alloc(), &rows)?);
     Ok(())
 }
 
@@ -90,7 +85,7 @@ fn ends_with_the_refusal(rt: HostRuntime) -> Result<(), Fail> {
         ("02", "6", 1, "refused: 8 NotHex\n"),
         ("0", "67", 1, "refused: 8 NotHex\n"),
     ];
-    assert!(rt; agrees::<Glass>(rt.alloc(), SuiteChecks::Made, &rows)?);
+    assert!(rt; agrees::<Glass>(rt.alloc(), &rows)?);
     Ok(())
 }
 
@@ -134,7 +129,7 @@ fn refuses_at_each_check(rt: HostRuntime) -> Result<(), Fail> {
             "leaves: 1\nmembers: 1\ntree_hash: d4fac541696ac974865150d2e1121e5b52e787c6f3f2c353e21901b13c0ea2a9\nunmerged: ok\nparent_hashes: ok\nkeys: ok\nclients: ok\nsignatures: ok\ncapabilities: ok\nrefused: 36 BadKey\n",
         ),
     ];
-    assert!(rt; agrees::<Glass>(rt.alloc(), SuiteChecks::Made, &rows)?);
+    assert!(rt; agrees::<Glass>(rt.alloc(), &rows)?);
     Ok(())
 }
 
@@ -154,19 +149,18 @@ fn checks_no_signature_of_suite_1(rt: HostRuntime) -> Result<(), Fail> {
             "leaves: 1\nmembers: 1\ntree_hash: 6d5fdbd73a1a876c9a35d91ed4824530d9494fe94c2832035340099694936230\nunmerged: ok\nparent_hashes: ok\nkeys: ok\nclients: ok\nsignatures: not checked\ncapabilities: ok\nkey_forms: not checked\n",
         ),
     ];
-    assert!(rt; agrees::<Unchecked>(rt.alloc(), SuiteChecks::Left, &rows)?);
+    assert!(rt; agrees::<Unchecked>(rt.alloc(), &rows)?);
     Ok(())
 }
 
+/// A file of bytes is read as it is.
 #[test]
-fn says_what_is_checked(rt: HostRuntime) -> Result<(), Fail> {
-    let rows: [(&str, &str, u8, &str); 1] = [(
-        "2b010101bb01cc000103626f620200010200010000020001010000000000000000ffffffffffffffff0001dd",
-        "",
-        0,
-        "leaves: 1\nmembers: 1\ntree_hash: 6d5fdbd73a1a876c9a35d91ed4824530d9494fe94c2832035340099694936230\nunmerged: ok\nparent_hashes: ok\nkeys: ok\nclients: ok\nsignatures: ok\ncapabilities: ok\nkey_forms: ok\n",
-    )];
-    // The word goes by what the caller says of the suite, not by the suite's number.
-    assert!(rt; agrees::<Unchecked>(rt.alloc(), SuiteChecks::Made, &rows)?);
+fn reads_raw_bytes(rt: HostRuntime) -> Result<(), Fail> {
+    let alloc = rt.alloc();
+    let bytes = hex::decode(alloc, GOOD)?;
+    let page = check_page::<Glass>(alloc, Form::Raw, &bytes, "67")?;
+    assert!(rt; page.ending == Ending::Good);
+    let page = check_page::<Glass>(alloc, Form::Raw, b"00", "67")?;
+    assert!(rt; page.ending == Ending::Refused(2));
     Ok(())
 }

@@ -8,6 +8,8 @@ mod bare;
 #[cfg(test)]
 mod checks;
 #[cfg(test)]
+mod group_infos;
+#[cfg(test)]
 mod tests;
 mod trees;
 

@@ -13,7 +13,7 @@ fn agree(world: &World<Glass>, i: usize, j: usize) -> bool {
     match (world.member(i), world.member(j)) {
         (Some(m), Some(n)) => {
             m.context_bytes() == n.context_bytes()
-                && m.epoch().epoch_secret() == n.epoch().epoch_secret()
+                && m.secrets().epoch_secret() == n.secrets().epoch_secret()
         }
         _ => false,
     }

@@ -6,7 +6,7 @@ ghost use Rattle.mls_model.specs.Headline.{Headline};
 ghost use Rattle.mls_model.specs.World as model;
 ghost use Rattle.mls_world_plain.specs.Faults.{number_of};
 ghost use Rattle.mls_world_plain.specs.CallAnswers.{Commits, CreatesGroup, DeliversTo, DropsPending, JoinsBy, MakesCandidate, ProposesAdd, ProposesExtensions, ProposesRemove, ProposesUpdate};
-ghost use Rattle.mls_world_plain.specs.EarlyChecks.{early_add_checks, early_commit_checks, early_delivery_checks, early_extensions_checks, early_join_checks, RefusesEarly};
+ghost use Rattle.mls_world_plain.specs.EarlyChecks.{early_add_checks, early_commit_checks, early_delivery_checks, early_join_checks, RefusesEarly, RefusesExtensionsEarly};
 
 use crate::ranges::{know_few, know_items, know_short, know_source};
 use crate::world::World;
@@ -84,19 +84,20 @@ impl<S: Suite> World<S> {
     pub fn propose_extensions(
         &mut self,
         member: usize,
-        extensions: Vec<Extension>,
+        list: Vec<Extension>,
     ) -> Result<usize, WorldError>
-        ensures does { ProposesExtensions S.crypto self.old self.new member extensions.items result }
+        ensures does { ProposesExtensions S.crypto self.old self.new member list.items result }
         // `NoSuchMember` (90) and `ExtensionNotAllowed` (14) come whatever memory there is.
-        ensures outright { RefusesEarly (early_extensions_checks self.old member extensions.items) result }
+        ensures outright { RefusesExtensionsEarly self.old member list.items result }
         ensures headline { Headline S.crypto self.new }
     {
-        self.world.propose_extensions(member, extensions)
+        self.world.propose_extensions(member, list)
     }
 
     /// Commits a list, with a path where `path` says so or one is required, and keeps the state that it leads to as
     /// pending: `NoSuchMember` (90), then in the list's order `NoSuchMessage` (94), decoding, `WrongMessageKind`
-    /// (95), and of extensions `ExtensionNotAllowed` (14), then the member's checks (RFC 9420, 12.4.1). It answers the numbers of the commit and of its Welcome.
+    /// (95), and of extensions `ExtensionNotAllowed` (14), then the member's checks (RFC 9420, 12.4.1). It answers the
+    /// numbers of the commit and of its Welcome.
     pub fn commit(
         &mut self,
         member: usize,

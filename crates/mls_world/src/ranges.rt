@@ -3,10 +3,10 @@
 
 ghost use Rattle.std.specs.Prelude.{◌<◌, ◌^◌, length};
 ghost use Rattle.std.specs.List.{AllByRecursion};
-ghost use Rattle.mls_wire.specs.Format.{IsBytes};
 ghost use Rattle.mls_model.specs.EventRange.{IsSourceInRange, IsItemInRange, IsInRange};
 
 use mls_model::{Event, Source, WorldItem};
+use mls_public_group::know_bytes;
 
 /// A slice has no more bytes than memory can.
 pub(crate) fn know_short(bytes: &[u8])
@@ -21,11 +21,6 @@ pub(crate) fn know_few(items: &[WorldItem])
 {
     let _length = items.len();
 }
-
-/// Entries of a slice are bytes.
-fn know_bytes(bytes: &[u8])
-    ensures { IsBytes bytes.now }
-{}
 
 /// Given bytes are bytes.
 pub(crate) fn know_source(source: &Source)

@@ -30,6 +30,10 @@ early_add_checks w k source = seat_at w k >>= λ s. check_of (package_of w sourc
 unfoldable pub early_extensions_checks : World → ℕ → List Extension → Result Passed ℕ
 early_extensions_checks w k list = seat_at w k >>= λ s. require 14 (are_allowed list)
 
+-- Where these checks of extensions fail, the call is refused with the number of the first, whatever memory there is.
+abbrev pub RefusesExtensionsEarly : {B : Type 0} → World → ℕ → List Extension → Result B WorldError → Type 0
+RefusesExtensionsEarly w k list result = RefusesEarly (early_extensions_checks w k list) result
+
 -- the checks of a list: `NoSuchMessage` (94), decoding and `WrongMessageKind` (95) of its first item, or
 -- `ExtensionNotAllowed` (14)
 abbrev pub first_checks : World → List WorldItem → Result Passed ℕ

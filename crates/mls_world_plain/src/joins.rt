@@ -108,7 +108,7 @@ impl<S: Suite> PlainWorld<S> {
             Ok(joined) => joined,
             Err(refusal) => return Err(WorldError::Member(refusal)),
         };
-        let epoch = joined.member.epoch_number();
+        let epoch = joined.member.epoch();
         match self.commit_for_joiner(source, own) {
             Some(made) => {
                 let member = self.follow_member(candidate, joined.member, made)?;

@@ -3,7 +3,7 @@
 
 ghost use Rattle.mls_model.specs.World as model;
 ghost use Rattle.mls_world_plain.specs.CallAnswers.{ProposesAdd, ProposesAllowed, ProposesExtensions, ProposesRemove, ProposesUpdate};
-ghost use Rattle.mls_world_plain.specs.EarlyChecks.{early_add_checks, early_extensions_checks, RefusesEarly};
+ghost use Rattle.mls_world_plain.specs.EarlyChecks.{early_add_checks, RefusesEarly, RefusesExtensionsEarly};
 
 use crate::error::WorldError;
 use crate::sources::copy_extensions;
@@ -84,14 +84,14 @@ impl<S: Suite> PlainWorld<S> {
     pub fn propose_extensions(
         &mut self,
         member: usize,
-        extensions: Vec<Extension>,
+        list: Vec<Extension>,
     ) -> Result<usize, WorldError>
-        ensures does { ProposesExtensions S.crypto self.old self.new member extensions.items result }
+        ensures does { ProposesExtensions S.crypto self.old self.new member list.items result }
         // `NoSuchMember` (90) and `ExtensionNotAllowed` (14) come whatever memory there is.
-        ensures outright { RefusesEarly (early_extensions_checks self.old member extensions.items) result }
+        ensures outright { RefusesExtensionsEarly self.old member list.items result }
     {
         self.require_member(member)?;
-        let allowed = GroupExtensions::new(extensions)?;
+        let allowed = GroupExtensions::new(list)?;
         self.propose_allowed(member, allowed)
     }
 
@@ -103,7 +103,7 @@ impl<S: Suite> PlainWorld<S> {
         extensions: &[Extension],
     ) -> Result<usize, WorldError>
         ensures does { ProposesExtensions S.crypto self.old self.new member extensions.now result }
-        ensures outright { RefusesEarly (early_extensions_checks self.old member extensions.now) result }
+        ensures outright { RefusesExtensionsEarly self.old member extensions.now result }
     {
         self.require_member(member)?;
         let copy = copy_extensions(self.alloc, extensions)?;

@@ -32,7 +32,7 @@ fn recording_of(alloc: Global, events: &str) -> Result<String, AllocError> {
 }
 
 /// A recording of both.
-fn recording_of_both(alloc: Global, front: &str, behind: &str) -> Result<String, AllocError> {
+pub fn recording_of_both(alloc: Global, front: &str, behind: &str) -> Result<String, AllocError> {
     let events = format!(in alloc; "{front},{behind}")?;
     recording_of(alloc, events.as_str())
 }

@@ -5,7 +5,7 @@ use Rattle.mls_cli.proofs.arguments.describe.Goals as goal
 
 pub returns : goal.returns
 returns c =
-    ap app_of_fields c.subcommand_required.ensures
-    ∙ (ap (λ (a : App). record a { top = record a.top { subcommand_required = true } }) (ap app_of_fields c.version.ensures)
-    ∙ (ap (λ (a : App). record a { top = record a.top { has_version = true; subcommand_required = true } }) (ap app_of_fields c.after_help.ensures)
-    ∙ ap (λ (a : App). record a { top = record a.top { has_version = true; subcommand_required = true } }) (ap app_of_fields c.about.ensures)))
+    ap app_of_fields c.override_usage.ensures
+    ∙ (ap app_of_fields c.version.ensures
+    ∙ (ap (λ (a : App). record a { top = record a.top { has_version = true } }) (ap app_of_fields c.after_help.ensures)
+    ∙ ap (λ (a : App). record a { top = record a.top { has_version = true } }) (ap app_of_fields c.about.ensures)))

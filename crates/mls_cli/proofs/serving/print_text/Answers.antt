@@ -14,6 +14,10 @@ pub returns-in-Check-clause-prints : goal.returns-in-Check-clause-prints
 returns-in-Check-clause-prints g c =
     rw c.in-Check.is (prints_it _ _ _ _ _ refl (made_prints line_text entry_of _ _ c.tree_file.result _ _ c.tree_file.ensures c.print_made_page-in-Check.ensures.prints))
 
+pub returns-in-CheckGroupInfo-clause-prints : goal.returns-in-CheckGroupInfo-clause-prints
+returns-in-CheckGroupInfo-clause-prints g c =
+    rw c.in-CheckGroupInfo.is (prints_it _ _ _ _ _ refl (made_prints line_text entry_of _ _ c.info_file.result _ _ c.info_file.ensures c.print_made_page-in-CheckGroupInfo.ensures.prints))
+
 pub returns-in-Vectors-clause-prints : goal.returns-in-Vectors-clause-prints
 returns-in-Vectors-clause-prints g c =
     rw c.in-Vectors.is (prints_it _ _ _ _ _ refl (made_prints entry_text report_entry_of _ _ c.vectors_page.result _ _ c.vectors_page.ensures.page c.print_made_page-in-Vectors.ensures.prints))

@@ -3,10 +3,10 @@ use Rattle.mls_cli_check.specs.RuleLines.{rule_entries}
 use Rattle.mls_cli_check.proofs.Orders.{all_lines, lines_or_wanting}
 use Rattle.mls_cli_check.proofs.report.tree_page.Goals as goal
 
-pub returns-in-Ok : goal.returns-in-Ok
-returns-in-Ok g c =
-    all_lines g.S.Suite.crypto c.args.own _ _ _ _ _ _ c.in-Ok.ensures.answer c.in_ok-lines.ensures.same c.in_ok-append_lines-in-Ok.ensures c.in_ok-lines.ensures.lines c.in_ok-more-in-Ok.ensures
+pub returns-in_ok-append_lines-in-Ok-clause-page : goal.returns-in_ok-append_lines-in-Ok-clause-page
+returns-in_ok-append_lines-in-Ok-clause-page g c =
+    all_lines g.S.Suite.crypto _ _ _ _ _ _ c.in-Ok.ensures.answer c.in_ok-lines.ensures.same c.in_ok-append_lines-in-Ok.ensures c.in_ok-lines.ensures.lines c.in_ok-more-in-Ok.ensures
 
-pub returns : goal.returns
-returns g c =
-    lines_or_wanting g.S.Suite.crypto c.args.own _ _ _ _ _ _ _ _ c.refused.ensures.memory c.refused.ensures.page c.in-Err.ensures.answer c.in_ok-lines.ensures.same c.in_ok-append_lines-in-Err.ensures c.in_ok-lines.ensures.lines (c.in_ok-more-in-Err.ensures ∙ ap (λ k. take k (rule_entries c.args.own)) c.lines_before.ensures)
+pub returns-in_ok-append_lines-in-Err-clause-page : goal.returns-in_ok-append_lines-in-Err-clause-page
+returns-in_ok-append_lines-in-Err-clause-page g c =
+    lines_or_wanting g.S.Suite.crypto _ _ _ _ _ _ _ _ c.refused.ensures.memory c.refused.ensures.page c.in-Err.ensures.answer c.in_ok-lines.ensures.same c.in_ok-append_lines-in-Err.ensures c.in_ok-lines.ensures.lines (c.in_ok-more-in-Err.ensures ∙ ap (λ k. take k (rule_entries g.S.Suite.crypto)) c.lines_before.ensures)

@@ -1,5 +1,6 @@
 use Rattle.std.proofs.Common.{arith}
 use Rattle.std.proofs.lemmas.Result.{err_from_is_err_and}
+use Rattle.mls_cli_check.specs.Check.{tree_in}
 use Rattle.mls_cli_check.proofs.SentTrees.{no_memory, no_nodes, of_nodes, read_twice}
 use Rattle.mls_cli_check.proofs.ShortLeaves.{input_short}
 use Rattle.mls_cli_check.proofs.tree.tree_in.Goals as goal
@@ -37,6 +38,7 @@ returns-clause-outright c = λ n h. tt
 -- ---- more nodes than a tree has
 
 pub returns-in_err-refuse_long-clause-tree : goal.returns-in_err-refuse_long-clause-tree
+unfolding tree_in
 returns-in_err-refuse_long-clause-tree c =
     let p = err_from_is_err_and c.from_residual.result c.from_residual.ensures.1 in
     rw (p.1, p.2) (λ ne. c.in_err-refuse_long.ensures.refused.0)

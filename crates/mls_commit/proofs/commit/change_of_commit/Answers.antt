@@ -28,6 +28,6 @@ returns-clause-below g c = λ n le used path.
 
 pub returns-clause-own : goal.returns-clause-own
 returns-clause-own g c = λ on.
-    let none = sym c.is_empty-is_own.ensures ∙ c.in_ok-tree.ensures.own (sym c.in_ok-received.ensures.own ∙ on) in
+    let none = c.of-base.ensures (c.in_ok-tree.ensures.own (sym c.in_ok-received.ensures.own ∙ on)) in
     edits_of_change c.args.group.now c.extensions_after-extensions.result.now c.in_ok-edits.edits _ c.args.said.now c.args.signature.now c.in_ok-received.received.change c.in_ok-received.ensures.change
     ∙ no_edits g.S.Suite.crypto c.args.group.now c.args.committer c.args.used.now c.in_ok-edits.edits none c.in_ok-edits.ensures.answer

@@ -39,9 +39,9 @@ returns-in_ok-member-in-Some-clause-does g c =
     let made : commit_for_joiner w.made c.args.source.now c.in-Ok.entrant.now.candidate ≡ slice_get w.made c.in-Some.made =
     ap (λ (x : Candidate). commit_for_joiner w.made c.args.source.now x) (sym same) ∙ c.commit_for_joiner.ensures.first ∙ ap (λ (o : Option ℕ). commit_made_at w.made o) c.in-Some.is in
     let there : c.in-Some.made < length w.made = subst (λ (o : Option ℕ). IsThere w.made o) c.in-Some.is c.commit_for_joiner.ensures.there in
-    join_made g.S.Suite.crypto w c.follow_member.new.self c.args.candidate c.in_ok-member-in-Some.member c.epoch_number-epoch.result c.in-Some.made c.args.source.now c.in-Ok-bytes_of.bytes.now c.in-Ok.entrant.now j c.in-Ok.ensures c.in-Ok-bytes_of.ensures
+    join_made g.S.Suite.crypto w c.follow_member.new.self c.args.candidate c.in_ok-member-in-Some.member c.epoch-epoch.result c.in-Some.made c.args.source.now c.in-Ok-bytes_of.bytes.now c.in-Ok.entrant.now j c.in-Ok.ensures c.in-Ok-bytes_of.ensures
     (ap (λ (x : Candidate). join_verdict g.S.Suite.crypto x c.in-Ok-bytes_of.bytes.now) (sym same) ∙ c.in-Ok-join.ensures.answer)
-    made there c.in_ok-member-in-Some.ensures.number c.epoch_number-epoch.ensures
+    made there c.in_ok-member-in-Some.ensures.number c.epoch-epoch.ensures
     (λ x d q r. c.in_ok-member-in-Some.ensures.ok x d q r)
 
 pub returns-in_ok-member-in-None-clause-does : goal.returns-in_ok-member-in-None-clause-does
@@ -49,10 +49,10 @@ returns-in_ok-member-in-None-clause-does g c =
     let w : World = c.args.self.now in
     let j : JoinedMember = record { member = c.in-Ok-join.joined.member; info = c.in-Ok-join.joined.group_info.items } in
     let same : c.entrant.inside.candidate ≡ c.in-Ok.entrant.now.candidate = ap (λ (x : Entrant). x.candidate) c.entrant.view_is in
-    join_begun g.S.Suite.crypto w c.begin_member.new.self c.args.candidate c.in_ok-member-in-None.member c.epoch_number-epoch.result c.args.source.now c.in-Ok-bytes_of.bytes.now c.in-Ok.entrant.now j c.in-Ok.ensures c.in-Ok-bytes_of.ensures
+    join_begun g.S.Suite.crypto w c.begin_member.new.self c.args.candidate c.in_ok-member-in-None.member c.epoch-epoch.result c.args.source.now c.in-Ok-bytes_of.bytes.now c.in-Ok.entrant.now j c.in-Ok.ensures c.in-Ok-bytes_of.ensures
     (ap (λ (x : Candidate). join_verdict g.S.Suite.crypto x c.in-Ok-bytes_of.bytes.now) (sym same) ∙ c.in-Ok-join.ensures.answer)
     (ap (λ (x : Candidate). commit_for_joiner w.made c.args.source.now x) (sym same) ∙ c.commit_for_joiner.ensures.first ∙ ap (λ (o : Option ℕ). commit_made_at w.made o) c.in-None.is)
-    c.in_ok-member-in-None.ensures.number c.epoch_number-epoch.ensures
+    c.in_ok-member-in-None.ensures.number c.epoch-epoch.ensures
     (λ x q. subst (λ (l : List ℕ). c.begin_member.new.self ≡ with_new_member w c.args.candidate x (record { member = j.member; journal = new_journal (from.GroupInfo l) })) c.from_vec.ensures (c.in_ok-member-in-None.ensures.ok x q))
 
 pub returns-in-Err-clause-outright : goal.returns-in-Err-clause-outright

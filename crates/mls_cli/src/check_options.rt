@@ -1,0 +1,104 @@
+//! The options of `mls check`.
+
+ghost use Rattle.std.specs.Prelude.{◌≡◌, false, IfOk};
+ghost use Rattle.clap.specs.Words.{app_of, rule_of};
+ghost use Rattle.clap.specs.declared.Command.TheViews.{out-Command as fields_of};
+ghost use Rattle.mls_cli.specs.Arguments.{check_app, check_on, given, group_rule, maybe_task, task_view, tree_task};
+
+use crate::options::{file_command, flag_arg, is_given, suite_arg, suite_of};
+use crate::show_options::form_of;
+use crate::tasks::{Job, SuiteChoice};
+use clap::{Arg, Command};
+use mls_cli_text::Form;
+use std::alloc::{AllocError, Global};
+
+fn group_arg<'a>(alloc: Global) -> Arg<'a>
+    ensures rule { rule_of result ≡ group_rule }
+    ensures local { result.global ≡ false }
+{
+    Arg::new(alloc, "HEX")
+        .long("group")
+        .help("The group's id, empty by default")
+}
+
+/// The subcommand `check`.
+pub fn check_command<'a>(alloc: Global) -> Result<Command<'a>, AllocError>
+    ensures app { IfOk result (λ c. app_of c ≡ check_app) }
+    ensures local { IfOk result (λ c. (fields_of c).has_globals ≡ false) }
+{
+    let command = file_command(
+        alloc,
+        "check",
+        "Checks a ratchet tree",
+        "A ratchet tree in hex, or - for the standard input",
+        "Example:\n  mls check examples/group_tree.hex --group 67",
+    )?;
+    let info = flag_arg(
+        alloc,
+        "group-info",
+        "Checks a GroupInfo message, which has suite, id and tree",
+    );
+    let signatures = flag_arg(
+        alloc,
+        "signatures",
+        "Checks signatures and keys under suite 0001 too",
+    );
+    let with_suite = command.arg(suite_arg(alloc))?;
+    let with_group = with_suite.arg(group_arg(alloc))?;
+    let with_signatures = with_group.arg(signatures)?;
+    let with_info = with_signatures.arg(info)?;
+    with_info.arg(flag_arg(alloc, "raw", "Reads bytes as they are, and not hex"))
+}
+
+/// The check of a tree that these stand for.
+fn tree_job<'a>(
+    form: Form,
+    suite: SuiteChoice,
+    signatures: bool,
+    group: Option<&'a str>,
+    file: &'a str,
+) -> Job<'a>
+    ensures { task_view result ≡ tree_task form suite signatures (given group.entry) file.entry.now }
+{
+    match group {
+        Some(group) => Job::Check {
+            file,
+            form,
+            suite,
+            signatures,
+            group,
+        },
+        None => Job::Check {
+            file,
+            form,
+            suite,
+            signatures,
+            group: "",
+        },
+    }
+}
+
+/// The check that the options and FILE stand for, or None where no suite has that name.
+pub fn check_on<'a>(
+    info: Option<&str>,
+    raw: Option<&str>,
+    suite: Option<&str>,
+    signatures: Option<&str>,
+    group: Option<&'a str>,
+    file: &'a str,
+) -> Option<Job<'a>>
+    ensures { maybe_task result ≡ check_on (given info.entry) (given raw.entry)
+        (given suite.entry) (given signatures.entry) (given group.entry) file.entry.now }
+{
+    let suite = suite_of(suite?)?;
+    let form = form_of(raw);
+    let signatures = is_given(signatures);
+    if is_given(info) {
+        return Some(Job::CheckGroupInfo {
+            file,
+            form,
+            signatures,
+        });
+    }
+    Some(tree_job(form, suite, signatures, group, file))
+}

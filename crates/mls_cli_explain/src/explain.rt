@@ -1,0 +1,68 @@
+//! The refusal that a number or a name stands for, and the page of what is told of it.
+
+ghost use Rattle.std.specs.Prelude.{◌≡◌, option_map};
+ghost use Rattle.mls_cli_text.specs.Page.{MakesPage};
+ghost use Rattle.mls_cli_explain.specs.Explain.{named, told_by, told_by_number, told_page};
+ghost use Rattle.mls_cli_explain.specs.Explanations.{explanation_view};
+
+use crate::explanations::{Explanation, explanation_of};
+use mls_cli_text::{Ending, Field, Line, Page, line_of};
+use mls_wire::refusal_name;
+use std::alloc::{AllocError, Global};
+
+/// The numbers of refusals are below this.
+const END_OF_NUMBERS: u8 = 96;
+
+/// The number of the refusal with this name, or None where none has it.
+#[tactic(auto, unfolding(crate::specs::Explain::named_from))]
+fn named(name: &str) -> Option<u8>
+    ensures { result ≡ named name.now }
+{
+    for number in 0..END_OF_NUMBERS {
+        if name == refusal_name(number) {
+            return Some(number);
+        }
+    }
+    None
+}
+
+/// What is told of the refusal of this number, with the number.
+fn told_by_number(number: u8) -> Option<(u8, Explanation)>
+    ensures { option_map (λ p. (p.0, explanation_view p.1)) result ≡ told_by_number number }
+{
+    match explanation_of(number) {
+        Some(told) => Some((number, told)),
+        None => None,
+    }
+}
+
+/// The refusal of this number, or else of this name, and what is told of it.
+pub fn told_by(number: Option<usize>, name: &str) -> Option<(u8, Explanation)>
+    ensures { option_map (λ p. (p.0, explanation_view p.1)) result ≡ told_by number name.now }
+{
+    match number {
+        Some(number) => {
+            if number < 256 {
+                told_by_number(number as u8)
+            } else {
+                None
+            }
+        }
+        None => told_by_number(named(name)?),
+    }
+}
+
+/// Makes the page of what is told of a refusal: the refusal, its sentence, what is checked, and what can be done.
+pub fn told_page(alloc: Global, number: u8, told: &Explanation) -> Result<Page<Line>, AllocError>
+    ensures { MakesPage result (told_page number (explanation_view told.now)) }
+{
+    Ok(Page {
+        lines: vec![in alloc;
+            line_of("refusal", Field::Refusal(number)),
+            line_of("text", Field::Word(told.sentence)),
+            line_of("check", Field::Word(told.check)),
+            line_of("advice", Field::Word(told.advice)),
+        ]?,
+        ending: Ending::Good,
+    })
+}

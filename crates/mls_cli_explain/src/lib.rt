@@ -1,0 +1,8 @@
+//! What `mls --explain` tells of a refusal.
+#![tactic(auto)]
+
+mod explain;
+mod explanations;
+
+pub use explain::{told_by, told_page};
+pub use explanations::{Explanation, explanation_of};

@@ -1,0 +1,15 @@
+use Rattle.std.proofs.Common.{◌∙◌, ap}
+use Rattle.mls_model.specs.World.{World}
+use Rattle.mls_cli_replay.specs.Actions.{run_all}
+use Rattle.mls_cli_replay.specs.Replay.{actions_of}
+use Rattle.mls_cli_replay.proofs.Viewing.{kept_one, tree_printed}
+use Rattle.mls_cli_replay.proofs.member_tree.print_tree.Goals as goal
+
+pub returns-in_err-do_actions-clause-prints : goal.returns-in_err-do_actions-clause-prints
+returns-in_err-do_actions-clause-prints g c = kept_one _ c.from_residual.result _ c.from_residual.ensures.0
+
+pub returns-clause-prints : goal.returns-clause-prints
+returns-clause-prints g c =
+    tree_printed g.S.Suite.crypto c.args.number c.args.recorded.now c.do_actions.new.world c.found_page.result _ _ c.print_made_page.result
+    (c.in_ok-do_actions.ensures.world ∙ ap (λ (w : World). run_all g.S.Suite.crypto w (actions_of c.args.recorded.now)) c.new-world.ensures)
+    c.member.ensures c.found_page.ensures c.print_made_page.ensures.prints

@@ -1,0 +1,19 @@
+use Rattle.std.proofs.Common.{◌≡◌, refl}
+use Rattle.mls_cli_text.specs.Page.{Printout, printout}
+use Rattle.mls_cli_recording.specs.declared.reading.RecordedRun.{RecordedRun}
+use Rattle.mls_cli_replay.specs.Quiet.{quiet_page_of}
+use Rattle.mls_cli_replay.specs.Replay.{entry_text}
+use Rattle.mls_cli_replay.proofs.PrintLaws.{prints_it}
+use Rattle.mls_cli_replay.proofs.Viewing.{of_recording, refusal_printed}
+use Rattle.mls_cli_replay.proofs.replay_quietly.Goals as goal
+
+pub returns-in-Ok-clause-prints : goal.returns-in-Ok-clause-prints
+returns-in-Ok-clause-prints g c =
+    prints_it _ _ _ c.play_quietly.result (printout entry_text (quiet_page_of g.S.Suite.crypto c.in-Ok.recorded))
+    (of_recording (λ (r : RecordedRun) (p : Printout). p ≡ printout entry_text (quiet_page_of g.S.Suite.crypto r)) g.S.Suite.crypto c.args.file.now c.in-Ok.recorded _ c.in-Ok.ensures refl)
+    c.play_quietly.ensures.prints
+
+pub returns-in-Err-clause-prints : goal.returns-in-Err-clause-prints
+returns-in-Err-clause-prints g c =
+    refusal_printed (λ (r : RecordedRun) (p : Printout). p ≡ printout entry_text (quiet_page_of g.S.Suite.crypto r)) g.S.Suite.crypto c.args.file.now c.in-Err.error _ _ c.print_error.result
+    c.in-Err.ensures c.print_error.ensures.prints

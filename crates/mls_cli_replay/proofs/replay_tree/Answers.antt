@@ -1,0 +1,16 @@
+use Rattle.mls_cli_text.specs.Page.{Printout}
+use Rattle.mls_cli_recording.specs.declared.reading.RecordedRun.{RecordedRun}
+use Rattle.mls_cli_replay.specs.MemberTree.{IsTree}
+use Rattle.mls_cli_replay.proofs.Viewing.{of_recording, prints_as, refusal_printed}
+use Rattle.mls_cli_replay.proofs.replay_tree.Goals as goal
+
+pub returns-in-Ok-clause-prints : goal.returns-in-Ok-clause-prints
+returns-in-Ok-clause-prints g c =
+    prints_as (IsTree g.S.Suite.crypto c.args.number c.in-Ok.recorded.actions.items) _ _ _ c.print_tree.result
+    (λ (p : Printout). of_recording (λ (r : RecordedRun) (q : Printout). IsTree g.S.Suite.crypto c.args.number r.actions.items q) g.S.Suite.crypto c.args.file.now c.in-Ok.recorded p c.in-Ok.ensures)
+    (rw c.as_slice.ensures.value at c.print_tree.ensures.prints)
+
+pub returns-in-Err-clause-prints : goal.returns-in-Err-clause-prints
+returns-in-Err-clause-prints g c =
+    refusal_printed (λ (r : RecordedRun) (q : Printout). IsTree g.S.Suite.crypto c.args.number r.actions.items q) g.S.Suite.crypto c.args.file.now c.in-Err.error _ _ c.print_error.result
+    c.in-Err.ensures c.print_error.ensures.prints

@@ -1,5 +1,0 @@
-use Rattle.std.proofs.Common.{refl}
-use Rattle.mls_cli_show.proofs.public.commit_lines.Goals as goal
-
-pub returns : goal.returns
-returns c = rw (c.in_ok-vec.ensures.items, c.line_of.ensures, c.line_of-2.ensures, c.line_of-3.ensures, c.line_of-4.ensures, c.line_of-5.ensures, c.count_field.ensures) refl

@@ -1,0 +1,5 @@
+pub mod Made
+pub mod Nodes
+pub mod Sharing
+pub mod Order
+pub mod Conversing

@@ -1,0 +1,5 @@
+pub mod Faults
+pub mod Conversation
+pub mod Laws
+pub mod Order
+pub mod Together

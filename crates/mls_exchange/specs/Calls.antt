@@ -1,0 +1,64 @@
+-- What the calls of an exchange promise.
+use Rattle.std.specs.Prelude.{◌≡◌, ℕ, List, Option, Result, Err, IsErrAnd}
+use Rattle.std.specs.Global.{Vec}
+use Rattle.mls_wire.specs.Checks.{Answers, AnswersOutright, DoesAs, Passed, passed}
+use Rattle.mls_leaf.specs.Faults.{whole}
+use Rattle.mls_leaf.specs.Limits.{input_limit}
+use Rattle.mls_leaf.specs.declared.leaf.LeafNode.{LeafNode}
+use Rattle.mls_suite.specs.Crypto.{Crypto}
+use Rattle.mls_secret_tree.specs.SecretTree.{Drafted}
+use Rattle.mls_private_message.specs.declared.private_message.PrivateMessage.{PrivateMessage}
+use Rattle.mls_private_message.specs.PrivateMessage.{private_message}
+use Rattle.mls_exchange.specs.declared.error.ExchangeError.{ExchangeError}
+use Rattle.mls_exchange.specs.declared.open.Opened.{Opened}
+use Rattle.mls_exchange.specs.State.{State, after_draft}
+use Rattle.mls_exchange.specs.Sealing.{seal_message, sealing_checks}
+use Rattle.mls_exchange.specs.Opening.{open_read, open_message}
+use Rattle.mls_exchange.specs.Faults.{number_of}
+
+-- A call answers what the definition does, or refuses with its number. Where memory was refused it says nothing.
+abbrev pub Gives : {A : Type 0} → Result A ℕ → Result A ExchangeError → Type 0
+Gives defined result = Answers (λ x. x) number_of defined result
+
+-- It answers the bytes that the definition does.
+abbrev pub GivesBytes : Result (List ℕ) ℕ → Result (Vec ℕ) ExchangeError → Type 0
+GivesBytes defined result = Answers (λ v. v.items) number_of defined result
+
+-- These checks pass, or it refuses with the number of the first that fails.
+abbrev pub Passes : {A : Type 0} → Result Passed ℕ → Result A ExchangeError → Type 0
+Passes defined result = Answers (λ _. passed) number_of defined result
+
+-- The same of a call that takes no memory.
+abbrev pub PassesOutright : {A : Type 0} → Result Passed ℕ → Result A ExchangeError → Type 0
+PassesOutright defined result = AnswersOutright (λ _. passed) number_of defined result
+
+-- What the definition refuses, the call refuses with that number, whatever memory there is.
+abbrev pub RefusesOutright : {A B : Type 0} → Result A ℕ → Result B ExchangeError → Type 0
+RefusesOutright defined result = (n : ℕ) → defined ≡ Err n → IsErrAnd result (λ e. number_of e ≡ n)
+
+-- ---- sealing and opening
+
+-- the generation that a message takes: data, authenticated data, padding
+abbrev pub GivesGeneration : State → List ℕ → List ℕ → ℕ → Result ℕ ExchangeError → Type 0
+GivesGeneration s application_data authenticated_data padding result =
+    AnswersOutright (λ g. g) number_of (sealing_checks s application_data authenticated_data padding) result
+
+-- sealing: data, authenticated data, padding, seed
+abbrev pub Seals : Crypto → List ℕ → List ℕ → ℕ → List ℕ → State → State → Result (Vec ℕ) ExchangeError → Type 0
+Seals c application_data authenticated_data padding seed old new result =
+    DoesAs (λ v. v.items) number_of (seal_message c old application_data authenticated_data padding seed) old new result
+
+abbrev pub RefusesSealing : State → List ℕ → List ℕ → ℕ → Result (Vec ℕ) ExchangeError → Type 0
+RefusesSealing s application_data authenticated_data padding result =
+    RefusesOutright (sealing_checks s application_data authenticated_data padding) result
+
+-- what a message says, with the draft of its key
+abbrev pub OpensRead : Crypto → State → PrivateMessage → Result (Opened × Drafted) ExchangeError → Type 0
+OpensRead c s m result = Answers (λ x. (x.0, after_draft s x.1)) number_of (open_read c s m) result
+
+-- opening: the message's bytes
+abbrev pub Opens : Crypto → List ℕ → State → State → Result Opened ExchangeError → Type 0
+Opens c bytes old new result = DoesAs (λ o. o) number_of (open_message c old bytes) old new result
+
+abbrev pub RefusesFaults : List ℕ → Result Opened ExchangeError → Type 0
+RefusesFaults bytes result = RefusesOutright (whole private_message input_limit bytes) result

@@ -1,0 +1,10 @@
+pub mod State
+pub mod Parts
+pub mod Contents
+pub mod Said
+pub mod Sealing
+pub mod Opening
+pub mod Faults
+pub mod Calls
+pub mod Laws
+pub mod Generations

@@ -1,0 +1,5 @@
+pub mod Contents
+pub mod WholeSenderData
+pub mod Sealed
+pub mod Guards
+pub mod Opening

@@ -1,0 +1,10 @@
+pub mod SenderData
+pub mod PrivateMessage
+pub mod ReadFaults
+pub mod PrivateContent
+pub mod Keys
+pub mod Sealing
+pub mod Calls
+pub mod Signing
+pub mod Faults
+pub mod Laws

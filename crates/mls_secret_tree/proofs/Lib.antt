@@ -1,0 +1,7 @@
+pub mod Nodes
+pub mod Passing
+pub mod KeptKeys
+pub mod RatchetLaws
+pub mod HeldLaws
+pub mod TreeLaws
+pub mod Generations

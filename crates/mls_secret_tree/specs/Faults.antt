@@ -1,0 +1,18 @@
+-- The numbers and names of what a secret tree refuses.
+use Rattle.std.specs.Prelude.{ℕ, List, codes}
+use Rattle.mls_secret_tree.specs.declared.error.SecretTreeError.{SecretTreeError}
+use Rattle.mls_secret_tree.specs.declared.error.SecretTreeError.TheVariants.{OutOfMemory, SenderWithoutLeaf, GenerationTooFar, KeyUsed}
+
+-- the number that the program answers
+abbrev pub number_of : SecretTreeError → ℕ
+number_of OutOfMemory = 1
+number_of SenderWithoutLeaf = 114
+number_of GenerationTooFar = 115
+number_of KeyUsed = 116
+
+-- the name, as it is printed
+abbrev pub name_of : SecretTreeError → List ℕ
+name_of OutOfMemory = codes "OutOfMemory"
+name_of SenderWithoutLeaf = codes "SenderWithoutLeaf"
+name_of GenerationTooFar = codes "GenerationTooFar"
+name_of KeyUsed = codes "KeyUsed"

@@ -1,0 +1,12 @@
+pub mod Secrets
+pub mod Ratchet
+pub mod Held
+pub mod HeldFields
+pub mod HeldDepth
+pub mod SecretTree
+pub mod Holding
+pub mod Laws
+pub mod Generations
+pub mod Codes
+pub mod TreeCodes
+pub mod Faults

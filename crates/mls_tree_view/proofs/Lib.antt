@@ -1,0 +1,4 @@
+mod LongLists
+mod LongRefusals
+mod SentTrees
+mod Walks

@@ -1,0 +1,2 @@
+pub mod LongList
+pub mod SentTree

@@ -1,0 +1,26 @@
+# bash's completions of `mls`: `source` this file
+_mls() {
+    local word="${COMP_WORDS[COMP_CWORD]}" options=""
+    case "${COMP_WORDS[1]}" in
+        show)
+            options="--full --raw --help"
+            ;;
+        check)
+            options="--suite --group --signatures --group-info --raw --help"
+            ;;
+        replay)
+            options="--suite --message --tree --quiet --record --help"
+            ;;
+        vectors)
+            options="--help"
+            ;;
+    esac
+    if [ "$COMP_CWORD" -eq 1 ]; then
+        COMPREPLY=($(compgen -W "show check replay vectors help --explain --help --version" -- "$word"))
+    elif [[ "$word" == -* ]]; then
+        COMPREPLY=($(compgen -W "$options" -- "$word"))
+    else
+        COMPREPLY=($(compgen -f -- "$word"))
+    fi
+}
+complete -o filenames -F _mls mls
