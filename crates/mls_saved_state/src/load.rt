@@ -1,0 +1,56 @@
+//! Loading what a member knows of an epoch.
+
+ghost use Rattle.std.specs.Prelude.{◌^◌};
+ghost use Rattle.mls_saved.specs.State.{saved_state};
+ghost use Rattle.mls_public_group.specs.Short.{IsBelow};
+ghost use Rattle.mls_saved_state.specs.Faults.{Gives};
+ghost use Rattle.mls_saved_state.specs.State.{load_state};
+
+use crate::error::LoadError;
+use crate::keys::{check_keys, saved_keys};
+use crate::secrets::secret_of;
+use crate::tree::saved_tree;
+use mls_public_group::PublicGroup;
+use mls_saved::SavedState;
+use mls_schedule::{Epoch, Transcript};
+use mls_suite::Suite;
+use mls_treekem::PrivatePath;
+use std::alloc::Global;
+
+/// What a member knows of an epoch.
+#[derive(Drop)]
+pub struct EpochState {
+    /// The public state of its group.
+    pub group: PublicGroup,
+    /// The epoch's secrets.
+    pub epoch: Epoch,
+    /// Its leaf and its private keys.
+    pub keys: PrivatePath,
+}
+
+/// What was saved of an epoch, or the first check that fails: `OtherSuite` (100) another suite, `BadSecret` (101) what is
+/// no secret, `TreeShape` (20) and `TreeFull` (21) the tree's shape and size, `BadTreeHash` (103) its hash, then 23 to
+/// 26, `LeafSignature` (51), `LeafCapability` (52) and `BadKey` (36) the tree, `NotAMember` (102) no member is at the
+/// leaf, `OtherKey` (104) it hasn't exactly the private keys that are due.
+#[tactic(auto, unfolding(crate::specs::State::load_state))]
+pub fn load_state<S: Suite>(alloc: Global, saved: SavedState) -> Result<EpochState, LoadError>
+    requires { IsBelow (2 ^ 27) saved_state saved }
+    ensures { Gives (load_state S.crypto saved) result }
+{
+    if saved.context.cipher_suite != S::NUMBER {
+        return Err(LoadError::OtherSuite);
+    }
+    let interim = secret_of(&saved.interim)?;
+    let epoch = secret_of(&saved.epoch)?;
+    let keys = saved_keys(alloc, &saved)?;
+    let SavedState { context, tree, .. } = saved;
+    let tree = saved_tree::<S>(&context, tree)?;
+    check_keys::<S>(&tree, &keys)?;
+    let transcript = Transcript::from_interim_hash(&interim);
+    let group = PublicGroup::new(alloc, context, tree, transcript)?;
+    Ok(EpochState {
+        group,
+        epoch: Epoch::first(&epoch),
+        keys,
+    })
+}
