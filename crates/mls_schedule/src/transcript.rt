@@ -76,6 +76,13 @@ impl Transcript {
         }
     }
 
+    /// The transcript with this interim hash, as one that was kept.
+    pub fn from_interim_hash(interim: &Secret) -> Transcript
+        ensures { result ≡ interim.now }
+    {
+        Transcript { interim: *interim }
+    }
+
     /// The interim hash, of 32 bytes.
     pub fn interim_hash(&self) -> &Secret
         ensures { result.now ≡ self.now }

@@ -6,6 +6,7 @@ pub mod FitLaws
 pub mod FollowLaws
 pub mod ForkLaws
 pub mod HeightLaws
+pub mod HoldingLaws
 pub mod JoinLaws
 pub mod ListLaws
 pub mod MakeLaws

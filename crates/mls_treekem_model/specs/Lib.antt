@@ -12,4 +12,5 @@ pub mod Lists
 pub mod Laws
 pub mod Whole
 pub mod Members
+pub mod Holding
 pub mod Examples

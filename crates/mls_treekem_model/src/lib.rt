@@ -12,6 +12,7 @@ ghost use Rattle.mls_treekem_model.specs.Laws.{OpenMerged, ClimbExact, ClimbAgre
 ghost use Rattle.mls_treekem_model.specs.Laws.{TakeExact, TakeInside, LeafHasDue, LeafExact, TakeAgree, JoinAgree, EnteredLists, TameLists};
 ghost use Rattle.mls_treekem_model.specs.Whole.{FollowsUpdate, FollowsRemove, FollowsAdd, AddedIsListed, AddKeepsListed};
 ghost use Rattle.mls_treekem_model.specs.Examples.{SecretOfOne, SecretOfFour, PathOfFour, TargetsOfFour, KeysOfMaker, KeysBeside, KeysAcross, TargetsBesideAdded};
+ghost use Rattle.mls_treekem_model.specs.Holding.{ExactIsHeld, HeldIsExact};
 ghost use Rattle.mls_treekem_model.specs.Members.{ExactWhole, ExactMade, ExactFollowed, ExactUpdated, ExactOpened, KeysMerged, ExactReceived, MadeReceived, ShownAreDue, ExactTaken, ExactAlone};
 ghost use Rattle.mls_treekem_model.specs.Whole.{SealedKeys, SealedLengths, SealedOfChain, SealedWhereFit, RefusedWhereUnfit, FitTargets, SealedMerged, OpenedMerged, SecretMerged, MadeExact, MadeMerged, LengthMerged, FilteredMerged, OpenedExact, OpenedAgrees, OpenedIsSent, SecretIsAmong, SecretAtAncestor, TakenAgrees, SecretForMerged};
 ghost use Rattle.mls_treekem_model.specs.Whole.{SealedByNumber, SealsAreCounted, RefusedUnopened, JudgedByKeys, TakenFits, FitIsTaken};
@@ -161,6 +162,12 @@ pub fn laws_of_members()
     ensures shown { ShownAreDue }
     ensures taken { ExactTaken }
     ensures alone { ExactAlone }
+{}
+
+/// A test of private keys holds exactly where a member's keys are exact.
+pub fn laws_of_holding()
+    ensures held { ExactIsHeld }
+    ensures exact { HeldIsExact }
 {}
 
 /// Small trees, worked out: paths of one and of four members, and of four where one was just added.
