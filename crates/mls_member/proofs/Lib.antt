@@ -18,3 +18,6 @@ pub mod Inspecting
 pub mod KeptTogether
 pub mod KeptCommits
 pub mod ListedProposals
+pub mod Saving
+pub mod LoadedKept
+pub mod SavedLengths

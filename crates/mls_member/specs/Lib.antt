@@ -13,3 +13,4 @@ pub mod Inspecting
 pub mod ShortPackages
 pub mod KeptTogether
 pub mod ListedProposals
+pub mod Saved

@@ -86,7 +86,7 @@ pub record IsGoodState (c : Crypto) (public : PublicState) (keys : PrivateKeys) 
   pub tree : IsGood (rules_of c public.context.group_id) public.tree
   pub hash : public.context.tree_hash ≡ tree_hash 0 public.tree
   pub own : IsSome (leaf_of public.tree keys.leaf)
-  pub keys : HasExact c public.tree keys
+  pub exact : HasExact c public.tree keys
 
 -- what was saved of a good member's epoch is loaded, and is what it was
 abbrev pub LoadsWhatWasSaved : Type 0

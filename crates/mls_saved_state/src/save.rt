@@ -43,7 +43,8 @@ fn saved_each(alloc: Global, keys: &[Option<Secret>]) -> Result<Vec<Option<Bytes
 {
     let mut saved = Vec::new(alloc);
     for one in keys {
-        saved.push(optional_saved_secret(alloc, one)?)?;
+        let secret = optional_saved_secret(alloc, one)?;
+        saved.push(secret)?;
     }
     Ok(saved)
 }

@@ -1,0 +1,3 @@
+mod Copies
+mod Loading
+pub mod Lengths

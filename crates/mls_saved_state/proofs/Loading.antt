@@ -1,0 +1,64 @@
+-- What was saved of a good member's epoch is loaded.
+use Rattle.std.proofs.Common.{◌≡◌, ℕ, nat_le, ◌==◌, true, List, Option, Some, None, Ok, is_some, reverse, length, refl, sym, ap}
+use Rattle.std.specs.Prelude.{IsSome}
+use Rattle.std.specs.Str.{bytes_eq}
+use Rattle.std.proofs.lemmas.Bool.{leb-true, le-leb}
+use Rattle.std.proofs.lemmas.List.{reverse-reverse}
+use Rattle.mls_tree_model.proofs.SetLaws.{eqb_refl}
+use Rattle.std.proofs.lemmas.Slice.Eq.{bytes_eq-Decides}
+use Rattle.mls_wire.specs.Checks.{passed}
+use Rattle.mls_leaf.specs.declared.leaf.LeafNode.{LeafNode}
+use Rattle.mls_suite.specs.Crypto.{Crypto}
+use Rattle.mls_tree_model.specs.Term.{leaf_of, height}
+use Rattle.mls_tree_model.specs.Arrays.{to_nodes, from_nodes}
+use Rattle.mls_tree_model.proofs.ArrayLaws.{from_to_nodes}
+use Rattle.mls_tree_model.specs.Good.{tree_checks, has_good_shape, is_within}
+use Rattle.mls_tree_model.proofs.GoodLaws.{good_passes}
+use Rattle.mls_tree_model.specs.Hashes.{tree_hash}
+use Rattle.mls_tree.specs.Rules.{rules_of}
+use Rattle.mls_tree.specs.Tree.{max_leaves}
+use Rattle.mls_treekem_model.specs.Keys.{PrivateKeys}
+use Rattle.mls_treekem_model.specs.Holding.{holds_exact}
+use Rattle.mls_treekem_model.proofs.HoldingLaws.{exact_is_held}
+use Rattle.mls_model.specs.PublicState.{PublicState}
+use Rattle.mls_saved_state.specs.Secrets.{keys_in, max_keys, AreKeys}
+use Rattle.mls_saved_state.specs.State.{saved_state_of, HasSecrets, saved_tree, saved_keys, key_checks, load_state, IsGoodState, LoadsWhatWasSaved}
+
+nodes_back : (c : Crypto) (p : PublicState) (k : PrivateKeys) → IsGoodState c p k → from_nodes max_leaves (to_nodes p.tree) ≡ Ok p.tree
+unfolding has_good_shape is_within
+nodes_back c p k good = from_to_nodes max_leaves (height p.tree) p.tree good.tree.perfect good.tree.shape (leb-true _ _ good.tree.within)
+
+tree_back : (c : Crypto) (p : PublicState) (k : PrivateKeys) → IsGoodState c p k → saved_tree c p.context (to_nodes p.tree) ≡ Ok p.tree
+unfolding saved_tree
+tree_back c p k good =
+    let e1 : from_nodes max_leaves (to_nodes p.tree) ≡ Ok p.tree = nodes_back c p k good in
+    let e2 : bytes_eq p.context.tree_hash (tree_hash 0 p.tree) ≡ true = (bytes_eq-Decides _ _).1 good.hash in
+    let e3 : tree_checks (rules_of c p.context.group_id) p.tree ≡ Ok passed = good_passes (rules_of c p.context.group_id) p.tree good.tree in
+    rw (e1, e2, e3) refl
+
+some_is : {A : Type 0} (o : Option A) → IsSome o → is_some o ≡ true
+some_is None h = absurd h
+some_is (Some x) h = refl
+
+keys_pass : (c : Crypto) (p : PublicState) (k : PrivateKeys) → IsGoodState c p k → key_checks c p.tree k ≡ Ok passed
+unfolding key_checks
+keys_pass c p k good =
+    let e1 : is_some (leaf_of p.tree k.leaf) ≡ true = some_is (leaf_of p.tree k.leaf) good.own in
+    let e2 : holds_exact c p.tree k ≡ true = exact_is_held c p.tree k good.exact in
+    rw (e1, e2) refl
+
+keys_back : (p : PublicState) (epoch : List ℕ) (k : PrivateKeys) → HasSecrets (saved_state_of p epoch k) → saved_keys (saved_state_of p epoch k) ≡ Ok k
+unfolding saved_keys keys_in saved_state_of
+keys_back p epoch k secrets =
+    let e1 : nat_le (length (reverse k.above)) max_keys ≡ true = le-leb _ _ secrets.above.few in
+    let e2 : reverse (reverse k.above) ≡ k.above = reverse-reverse k.above in
+    rw (secrets.own, e1, secrets.above.secrets, e2) refl
+
+pub loads_what_was_saved : LoadsWhatWasSaved
+unfolding load_state saved_state_of
+loads_what_was_saved c p epoch k good secrets =
+    let e1 : (p.context.cipher_suite == c.number) ≡ true = rw good.suite (eqb_refl c.number) in
+    let e2 = keys_back p epoch k secrets in
+    let e3 = tree_back c p k good in
+    let e4 = keys_pass c p k good in
+    rw (e1, secrets.interim, secrets.epoch, e2, e3, e4) refl
