@@ -11,7 +11,7 @@ pub use mls_leaf::{
 };
 pub use mls_member::{
     Effect, GroupMember, GroupMembers, Inspection, Item, Joined, KeptCommit, KeptProposal,
-    ListedProposal, Made, Member, Refusal, RefusalKind, ShortKeyPackage, message_sender,
+    ListedProposal, LoadError, Made, Member, Refusal, RefusalKind, ShortKeyPackage, message_sender,
 };
 pub use mls_public_group::PublicGroup;
 pub use mls_schedule::{Epoch, ScheduleError};

@@ -1,3 +1,3 @@
 mod Copies
-mod Loading
+pub mod Loading
 pub mod Lengths

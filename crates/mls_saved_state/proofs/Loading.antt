@@ -1,15 +1,16 @@
 -- What was saved of a good member's epoch is loaded.
-use Rattle.std.proofs.Common.{◌≡◌, ℕ, nat_le, ◌==◌, true, List, Option, Some, None, Ok, is_some, reverse, length, refl, sym, ap}
+use Rattle.std.proofs.Common.{◌≡◌, ℕ, ◌≤◌, nat_le, ◌==◌, Bool, true, false, List, Option, Some, None, Result, Ok, Err, is_some, reverse, length, refl, sym, ap, subst}
 use Rattle.std.specs.Prelude.{IsSome}
 use Rattle.std.specs.Str.{bytes_eq}
 use Rattle.std.proofs.lemmas.Bool.{leb-true, le-leb}
 use Rattle.std.proofs.lemmas.List.{reverse-reverse}
 use Rattle.mls_tree_model.proofs.SetLaws.{eqb_refl}
 use Rattle.std.proofs.lemmas.Slice.Eq.{bytes_eq-Decides}
-use Rattle.mls_wire.specs.Checks.{passed}
+use Rattle.std.specs.List.{list_all}
+use Rattle.mls_wire.specs.Checks.{passed, require, ◌>>◌}
 use Rattle.mls_leaf.specs.declared.leaf.LeafNode.{LeafNode}
 use Rattle.mls_suite.specs.Crypto.{Crypto}
-use Rattle.mls_tree_model.specs.Term.{leaf_of, height}
+use Rattle.mls_tree_model.specs.Term.{Term, leaf_of, height}
 use Rattle.mls_tree_model.specs.Arrays.{to_nodes, from_nodes}
 use Rattle.mls_tree_model.proofs.ArrayLaws.{from_to_nodes}
 use Rattle.mls_tree_model.specs.Good.{tree_checks, has_good_shape, is_within}
@@ -21,8 +22,9 @@ use Rattle.mls_treekem_model.specs.Keys.{PrivateKeys}
 use Rattle.mls_treekem_model.specs.Holding.{holds_exact}
 use Rattle.mls_treekem_model.proofs.HoldingLaws.{exact_is_held}
 use Rattle.mls_model.specs.PublicState.{PublicState}
-use Rattle.mls_saved_state.specs.Secrets.{keys_in, max_keys, AreKeys}
-use Rattle.mls_saved_state.specs.State.{saved_state_of, HasSecrets, saved_tree, saved_keys, key_checks, load_state, IsGoodState, LoadsWhatWasSaved}
+use Rattle.mls_saved.specs.declared.state.SavedState.{SavedState}
+use Rattle.mls_saved_state.specs.Secrets.{keys_in, max_keys, is_none_or_secret, secret_in}
+use Rattle.mls_saved_state.specs.State.{saved_state_of, HasSecrets, saved_tree, saved_keys, key_checks, state_with, load_state, IsGoodState, LoadsWhatWasSaved}
 
 nodes_back : (c : Crypto) (p : PublicState) (k : PrivateKeys) → IsGoodState c p k → from_nodes max_leaves (to_nodes p.tree) ≡ Ok p.tree
 unfolding has_good_shape is_within
@@ -62,3 +64,28 @@ loads_what_was_saved c p epoch k good secrets =
     let e3 = tree_back c p k good in
     let e4 = keys_pass c p k good in
     rw (e1, secrets.interim, secrets.epoch, e2, e3, e4) refl
+
+-- ---- what is loaded
+
+abbrev keys_are : List (Option (List ℕ)) → Result (List (Option (List ℕ))) ℕ
+keys_are ks = Ok ks
+
+few_by : (a b : Bool) (ks vs : List (Option (List ℕ))) → a ≡ nat_le (length ks) max_keys → (require 101 a >> (require 101 b >> keys_are ks)) ≡ Ok vs → length vs ≤ max_keys
+few_by true true ks vs is e = let same : ks ≡ vs = cc in subst (λ (l : List (Option (List ℕ))). length l ≤ max_keys) same (leb-true _ _ (sym is))
+few_by true false ks vs is e = absurd cc
+few_by false b ks vs is e = absurd cc
+
+-- keys that are found are no more than a path has
+pub are_few : (ks vs : List (Option (List ℕ))) → keys_in ks ≡ Ok vs → length vs ≤ max_keys
+unfolding keys_in
+are_few ks vs e = few_by (nat_le (length ks) max_keys) (list_all is_none_or_secret ks) ks vs refl e
+
+pub state_is : (c : Crypto) (s : SavedState) (interim epoch : List ℕ) (keys : PrivateKeys) (t : Term) → (s.context.cipher_suite == c.number) ≡ true → secret_in s.interim ≡ Ok interim → secret_in s.epoch ≡ Ok epoch → saved_keys s ≡ Ok keys → saved_tree c s.context s.tree ≡ Ok t → key_checks c t keys ≡ Ok passed
+    → load_state c s ≡ Ok (state_with s.context t interim epoch keys)
+unfolding load_state
+state_is c s interim epoch keys t e1 e2 e3 e4 e5 e6 = rw (e1, e2, e3, e4, e5, e6) refl
+
+pub keys_refused : (c : Crypto) (s : SavedState) (interim epoch : List ℕ) (keys : PrivateKeys) (t : Term) (n : ℕ) → (s.context.cipher_suite == c.number) ≡ true → secret_in s.interim ≡ Ok interim → secret_in s.epoch ≡ Ok epoch → saved_keys s ≡ Ok keys → saved_tree c s.context s.tree ≡ Ok t → key_checks c t keys ≡ Err n
+    → load_state c s ≡ Err n
+unfolding load_state
+keys_refused c s interim epoch keys t n e1 e2 e3 e4 e5 e6 = rw (e1, e2, e3, e4, e5, e6) refl

@@ -67,6 +67,11 @@ key_checks c t keys = do
   require 102 (is_some (leaf_of t keys.leaf))
   require 104 (holds_exact c t keys)
 
+-- what a member knows of an epoch, of its parts
+abbrev pub state_with : GroupContext → Term → List ℕ → List ℕ → PrivateKeys → EpochState
+state_with context t interim epoch keys =
+    record { group = record { context = context; tree = t; interim = interim }; epoch = epoch; keys = keys }
+
 -- what was saved of an epoch: 100 another suite, 101 the secrets, then the tree and the keys
 unfoldable pub load_state : Crypto → SavedState → Result EpochState ℕ
 load_state c s = do
@@ -76,7 +81,7 @@ load_state c s = do
   keys ← saved_keys s
   t ← saved_tree c s.context s.tree
   key_checks c t keys
-  Ok (record { group = record { context = s.context; tree = t; interim = interim }; epoch = epoch; keys = keys })
+  Ok (state_with s.context t interim epoch keys)
 
 -- ---- what was saved is loaded
 

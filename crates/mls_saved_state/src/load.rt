@@ -1,21 +1,25 @@
 //! Loading what a member knows of an epoch.
 
-ghost use Rattle.std.specs.Prelude.{◌^◌};
+ghost use Rattle.std.specs.Prelude.{◌≡◌, ◌^◌, IfOk};
 ghost use Rattle.mls_saved.specs.State.{saved_state};
-ghost use Rattle.mls_public_group.specs.Short.{IsBelow};
+ghost use Rattle.mls_tree.specs.Tree.{term};
+ghost use Rattle.mls_public_group.specs.Short.{IsBelow, IsShortContext, HasLeavesBelow};
 ghost use Rattle.mls_saved_state.specs.Faults.{Gives};
-ghost use Rattle.mls_saved_state.specs.State.{load_state};
+ghost use Rattle.mls_saved_state.specs.State.{load_state, state_with};
 
 use crate::error::LoadError;
 use crate::keys::{check_keys, saved_keys};
 use crate::secrets::secret_of;
 use crate::tree::saved_tree;
+use mls_kdf::Secret;
 use mls_public_group::PublicGroup;
 use mls_saved::SavedState;
 use mls_schedule::{Epoch, Transcript};
 use mls_suite::Suite;
+use mls_tree::PublicTree;
 use mls_treekem::PrivatePath;
-use std::alloc::Global;
+use mls_types::GroupContext;
+use std::alloc::{AllocError, Global};
 
 /// What a member knows of an epoch.
 #[derive(Drop)]
@@ -26,6 +30,28 @@ pub struct EpochState {
     pub epoch: Epoch,
     /// Its leaf and its private keys.
     pub keys: PrivatePath,
+}
+
+/// What a member knows of an epoch, of its parts.
+fn state_of(
+    alloc: Global,
+    context: GroupContext,
+    tree: PublicTree,
+    interim: &Secret,
+    epoch: &Secret,
+    keys: PrivatePath,
+) -> Result<EpochState, AllocError>
+    requires context { IsShortContext context }
+    requires leaves { HasLeavesBelow (2 ^ 27) (term tree) }
+    ensures { IfOk result (λ s. s ≡ state_with context (term tree) interim.now epoch.now keys) }
+{
+    let transcript = Transcript::from_interim_hash(interim);
+    let group = PublicGroup::new(alloc, context, tree, transcript)?;
+    Ok(EpochState {
+        group,
+        epoch: Epoch::first(epoch),
+        keys,
+    })
 }
 
 /// What was saved of an epoch, or the first check that fails: `OtherSuite` (100) another suite, `BadSecret` (101) what is
@@ -46,11 +72,6 @@ pub fn load_state<S: Suite>(alloc: Global, saved: SavedState) -> Result<EpochSta
     let SavedState { context, tree, .. } = saved;
     let tree = saved_tree::<S>(&context, tree)?;
     check_keys::<S>(&tree, &keys)?;
-    let transcript = Transcript::from_interim_hash(&interim);
-    let group = PublicGroup::new(alloc, context, tree, transcript)?;
-    Ok(EpochState {
-        group,
-        epoch: Epoch::first(&epoch),
-        keys,
-    })
+    let state = state_of(alloc, context, tree, &interim, &epoch, keys)?;
+    Ok(state)
 }

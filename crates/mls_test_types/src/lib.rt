@@ -11,6 +11,8 @@ mod leaves;
 #[cfg(test)]
 mod messages;
 #[cfg(test)]
+mod saved;
+#[cfg(test)]
 mod signing;
 #[cfg(test)]
 mod views;
