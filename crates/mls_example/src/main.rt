@@ -4,7 +4,6 @@
 use anyhow::{Result, bail};
 use mls::{Candidate, Conversation, Item, Made, Member, Proposal, Suite0001};
 use std::alloc::Global;
-use std::str::from_utf8;
 
 /// A key that all members of the epoch can make (RFC 9420, 8.5), in hex digits.
 fn export_key(alloc: Global, member: &Member<Suite0001>) -> Result<String> {
@@ -24,21 +23,30 @@ fn run(rt: &impl Print, alloc: Global) -> Result<()> {
         bail!("nobody is welcome");
     };
     alice.process(&commit)?;
-    let mut bob = Member::join(alloc, &bob, &welcome)?.member;
-    println!(rt; "bob joins at leaf {}", bob.leaf_index())?;
+    let saved = Member::<Suite0001>::join(alloc, &bob, &welcome)?
+        .member
+        .save()?;
+
+    // Bob's program ended, and goes on with what it saved.
+    let mut bob: Member<Suite0001> = Member::load(alloc, &saved)?;
+    println!(rt; "bob is back at leaf {}", bob.leaf_index())?;
 
     // They speak to each other.
     let mut hers = Conversation::of(alloc, &alice)?;
     let mut his = Conversation::of(alloc, &bob)?;
     let heard = his.open(&hers.seal(b"hello", &[], 0, &[8; 32])?)?;
     let answer = hers.open(&his.seal(b"hi", &[], 0, &[9; 32])?)?;
-    let (hello, hi) = (heard.application_data, answer.application_data);
-    println!(rt; "bob hears {}", from_utf8(hello.as_slice())?)?;
-    println!(rt; "alice hears {}", from_utf8(hi.as_slice())?)?;
+    println!(rt;
+        "bob hears {}",
+        std::str::from_utf8(heard.application_data.as_slice())?
+    )?;
+    println!(rt;
+        "alice hears {}",
+        std::str::from_utf8(answer.application_data.as_slice())?
+    )?;
 
     // Bob proposes a new key for his leaf, and Alice commits all that she keeps.
-    let update = bob.propose_update(&[5; 32])?;
-    alice.process(&update)?;
+    alice.process(&bob.propose_update(&[5; 32])?)?;
     let commit = alice.commit_kept(true, &[6; 32])?.made.commit;
     alice.process(&commit)?;
     bob.process(&commit)?;
