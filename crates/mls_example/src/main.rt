@@ -1,9 +1,10 @@
 //! The life of a small group, as a caller of the library writes it.
 #![tactic(auto)]
 
-use anyhow::{Result, bail};
+use anyhow::{Context, Result};
 use mls::{Candidate, Conversation, Item, Made, Member, Proposal, Suite0001};
 use std::alloc::Global;
+use std::str::from_utf8;
 
 /// A key that all members of the epoch can make (RFC 9420, 8.5), in hex digits.
 fn export_key(alloc: Global, member: &Member<Suite0001>) -> Result<String> {
@@ -17,33 +18,24 @@ fn run(rt: &impl Print, alloc: Global) -> Result<()> {
     let alice = Candidate::new(alloc, b"alice", &[1; 32])?;
     let bob = Candidate::new(alloc, b"bob", &[2; 32])?;
     let mut alice: Member<Suite0001> = Member::create(alloc, &alice, b"group", &[3; 32])?;
-    let addition = Item::Full(bob.addition()?);
-    let Made { commit, welcome } = alice.commit(&[addition], true, &[4; 32])?;
-    let Some(welcome) = welcome else {
-        bail!("nobody is welcome");
-    };
+    let Made { commit, welcome } = alice.commit(&[Item::Full(bob.addition()?)], true, &[4; 32])?;
+    let welcome = welcome.context("nobody is welcome")?;
     alice.process(&commit)?;
-    let saved = Member::<Suite0001>::join(alloc, &bob, &welcome)?
-        .member
-        .save()?;
+    let bob: Member<Suite0001> = Member::join(alloc, &bob, &welcome)?.member;
 
-    // Bob's program ended, and goes on with what it saved.
+    // Bob's program saves him, ends, and goes on with what it saved.
+    let saved = bob.save()?;
+    drop(bob);
     let mut bob: Member<Suite0001> = Member::load(alloc, &saved)?;
-    println!(rt; "bob is back at leaf {}", bob.leaf_index())?;
 
     // They speak to each other.
     let mut hers = Conversation::of(alloc, &alice)?;
     let mut his = Conversation::of(alloc, &bob)?;
     let heard = his.open(&hers.seal(b"hello", &[], 0, &[8; 32])?)?;
     let answer = hers.open(&his.seal(b"hi", &[], 0, &[9; 32])?)?;
-    println!(rt;
-        "bob hears {}",
-        std::str::from_utf8(heard.application_data.as_slice())?
-    )?;
-    println!(rt;
-        "alice hears {}",
-        std::str::from_utf8(answer.application_data.as_slice())?
-    )?;
+    let (hello, hi) = (heard.application_data, answer.application_data);
+    println!(rt; "bob hears {}", from_utf8(hello.as_slice())?)?;
+    println!(rt; "alice hears {}", from_utf8(hi.as_slice())?)?;
 
     // Bob proposes a new key for his leaf, and Alice commits all that she keeps.
     alice.process(&bob.propose_update(&[5; 32])?)?;
