@@ -1,5 +1,5 @@
 -- Saved candidates are loaded as they were, and what is loaded is good.
-use Rattle.std.proofs.Common.{◌≡◌, ℕ, ◌+◌, ◌<◌, ◌≤◌, ◌^◌, ◌==◌, Bool, true, false, List, ◌++◌, length, Result, Ok, Err, refl, ap, sym, ◌∙◌, subst, arith, inl, inr, eq-eqb, lt-ltb}
+use Rattle.std.proofs.Common.{◌≡◌, ℕ, ◌+◌, ◌≤◌, ◌^◌, ◌==◌, Bool, true, false, List, ◌++◌, length, Result, Ok, Err, refl, ap, sym, ◌∙◌, subst, arith, inl, inr, eq-eqb, lt-ltb}
 use Rattle.std.specs.Int.{w16}
 use Rattle.std.specs.Str.{bytes_eq}
 use Rattle.std.proofs.lemmas.Bool.{cases_lt, cond-true}
@@ -24,7 +24,7 @@ use Rattle.mls_model.specs.MemberInvariant.{IsGoodCandidate}
 use Rattle.mls_model.specs.Messages.{is_within_limit}
 use Rattle.mls_public_group.proofs.Limits.{length_within}
 use Rattle.mls_public_group.specs.Short.{IsBelow}
-use Rattle.mls_candidate.specs.Saved.{saved_parts, saved_bytes, save_candidate, candidate_of, saved_of_suite, own_key_checks, load_candidate, HasSecrets, LoadsAsSaved, GoodIsLoaded, LoadedIsGood}
+use Rattle.mls_candidate.specs.Saved.{saved_parts, saved_bytes, save_candidate, candidate_of, saved_of_suite, own_key_checks, load_candidate, GoodIsLoaded, LoadedIsGood}
 
 -- ---- how long it is
 
