@@ -27,7 +27,7 @@ use Rattle.mls_member.specs.Saved.{standing_of, saved_proposal_of, saved_pending
 -- ---- the state
 
 state_of_good : (c : Crypto) (m : Member) → IsGoodMember c m → IsGoodState c m.public m.keys
-state_of_good c m good = record { suite = good.suite; tree = good.tree; hash = good.hash; own = subst IsSome (sym good.is_own) tt; exact = good.keys }
+state_of_good c m good = record { suite = good.suite; tree = good.tree; hash = good.hash; own = subst IsSome (sym good.is_own) refl; exact = good.keys }
 
 -- ---- kept proposals
 

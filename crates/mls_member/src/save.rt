@@ -96,6 +96,7 @@ impl<S: Suite> Member<S> {
 
     /// The member as bytes, which `load` makes it of again: its public state, secrets, keys, kept proposals and pending
     /// commit. `TooLong` (6) where there are more bytes than an input has. The bytes hold its secrets.
+    #[tactic(auto, using(crate::proofs::Saving::unfit, crate::proofs::Saving::too_long, crate::proofs::Saving::bytes_loaded))]
     pub fn save(&self) -> Result<Vec<u8>, LeafError>
         ensures saved { Saves (saved_of self.now) result }
         // A good member is loaded as it was.

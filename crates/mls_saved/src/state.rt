@@ -23,7 +23,7 @@ pub struct SavedState {
     pub leaf: u32,
     /// The private key of its leaf.
     pub own: Bytes,
-    /// The private keys of the nodes over its leaf, from the one right over it on.
+    /// The private keys of the nodes over its leaf, the highest first.
     pub above: Items<Option<Bytes>>,
 }
 

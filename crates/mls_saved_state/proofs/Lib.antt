@@ -1,3 +1,4 @@
 mod Copies
 pub mod Loading
-pub mod Lengths
+mod Lengths
+mod LeavesBelow

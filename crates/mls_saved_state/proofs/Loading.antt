@@ -1,6 +1,5 @@
 -- What was saved of a good member's epoch is loaded.
-use Rattle.std.proofs.Common.{◌≡◌, ℕ, ◌≤◌, nat_le, ◌==◌, Bool, true, false, List, Option, Some, None, Result, Ok, Err, is_some, reverse, length, refl, sym, ap, subst}
-use Rattle.std.specs.Prelude.{IsSome}
+use Rattle.std.proofs.Common.{◌≡◌, ℕ, ◌≤◌, nat_le, ◌==◌, Bool, true, false, List, Option, Result, Ok, Err, is_some, reverse, length, refl, sym, ap, subst}
 use Rattle.std.specs.Str.{bytes_eq}
 use Rattle.std.proofs.lemmas.Bool.{leb-true, le-leb}
 use Rattle.std.proofs.lemmas.List.{reverse-reverse}
@@ -38,14 +37,10 @@ tree_back c p k good =
     let e3 : tree_checks (rules_of c p.context.group_id) p.tree ≡ Ok passed = good_passes (rules_of c p.context.group_id) p.tree good.tree in
     rw (e1, e2, e3) refl
 
-some_is : {A : Type 0} (o : Option A) → IsSome o → is_some o ≡ true
-some_is None h = absurd h
-some_is (Some x) h = refl
-
 keys_pass : (c : Crypto) (p : PublicState) (k : PrivateKeys) → IsGoodState c p k → key_checks c p.tree k ≡ Ok passed
 unfolding key_checks
 keys_pass c p k good =
-    let e1 : is_some (leaf_of p.tree k.leaf) ≡ true = some_is (leaf_of p.tree k.leaf) good.own in
+    let e1 : is_some (leaf_of p.tree k.leaf) ≡ true = good.own in
     let e2 : holds_exact c p.tree k ≡ true = exact_is_held c p.tree k good.exact in
     rw (e1, e2) refl
 
@@ -79,6 +74,11 @@ few_by false b ks vs is e = absurd cc
 pub are_few : (ks vs : List (Option (List ℕ))) → keys_in ks ≡ Ok vs → length vs ≤ max_keys
 unfolding keys_in
 are_few ks vs e = few_by (nat_le (length ks) max_keys) (list_all is_none_or_secret ks) ks vs refl e
+
+-- a check that passed
+pub is_so : (n : ℕ) (test : Bool) → require n test ≡ Ok passed → test ≡ true
+is_so n true e = refl
+is_so n false e = absurd cc
 
 pub state_is : (c : Crypto) (s : SavedState) (interim epoch : List ℕ) (keys : PrivateKeys) (t : Term) → (s.context.cipher_suite == c.number) ≡ true → secret_in s.interim ≡ Ok interim → secret_in s.epoch ≡ Ok epoch → saved_keys s ≡ Ok keys → saved_tree c s.context s.tree ≡ Ok t → key_checks c t keys ≡ Ok passed
     → load_state c s ≡ Ok (state_with s.context t interim epoch keys)

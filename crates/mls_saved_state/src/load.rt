@@ -1,10 +1,11 @@
 //! Loading what a member knows of an epoch.
 
-ghost use Rattle.std.specs.Prelude.{◌≡◌, ◌^◌, IfOk};
+ghost use Rattle.std.specs.Prelude.{◌≡◌, ◌==◌, ◌^◌, IfOk};
+ghost use Rattle.mls_wire.specs.Checks.{require};
 ghost use Rattle.mls_saved.specs.State.{saved_state};
 ghost use Rattle.mls_tree.specs.Tree.{term};
 ghost use Rattle.mls_public_group.specs.Short.{IsBelow, IsShortContext, HasLeavesBelow};
-ghost use Rattle.mls_saved_state.specs.Faults.{Gives};
+ghost use Rattle.mls_saved_state.specs.Faults.{Gives, Passes};
 ghost use Rattle.mls_saved_state.specs.State.{load_state, state_with};
 
 use crate::error::LoadError;
@@ -54,6 +55,17 @@ fn state_of(
     })
 }
 
+/// Refuses a context of another suite (`OtherSuite` 100).
+fn check_suite<S: Suite>(context: &GroupContext) -> Result<(), LoadError>
+    ensures { Passes (require 100 (context.now.cipher_suite == S.crypto.number)) result }
+{
+    if context.cipher_suite == S::NUMBER {
+        Ok(())
+    } else {
+        Err(LoadError::OtherSuite)
+    }
+}
+
 /// What was saved of an epoch, or the first check that fails: `OtherSuite` (100) another suite, `BadSecret` (101) what is
 /// no secret, `TreeShape` (20) and `TreeFull` (21) the tree's shape and size, `BadTreeHash` (103) its hash, then 23 to
 /// 26, `LeafSignature` (51), `LeafCapability` (52) and `BadKey` (36) the tree, `NotAMember` (102) no member is at the
@@ -63,9 +75,7 @@ pub fn load_state<S: Suite>(alloc: Global, saved: SavedState) -> Result<EpochSta
     requires { IsBelow (2 ^ 27) saved_state saved }
     ensures { Gives (load_state S.crypto saved) result }
 {
-    if saved.context.cipher_suite != S::NUMBER {
-        return Err(LoadError::OtherSuite);
-    }
+    check_suite::<S>(&saved.context)?;
     let interim = secret_of(&saved.interim)?;
     let epoch = secret_of(&saved.epoch)?;
     let keys = saved_keys(alloc, &saved)?;

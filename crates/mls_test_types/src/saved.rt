@@ -23,9 +23,9 @@ const CANDIDATE: &str =
 /// Whether these are the parts of the state.
 fn has_state(state: &SavedState) -> bool {
     state.leaf == 2
-        && state.interim.as_slice() == [0xaa]
-        && state.epoch.as_slice() == [0xbb]
-        && state.own.as_slice() == [0xcc]
+        && state.interim.as_slice() == [0xaa].as_slice()
+        && state.epoch.as_slice() == [0xbb].as_slice()
+        && state.own.as_slice() == [0xcc].as_slice()
         && state.above.as_slice().len() == 2
         && state.above.as_slice()[0].is_none()
 }
@@ -39,8 +39,8 @@ fn is_full(alloc: Global) -> Result<bool, LeafError> {
     Ok(member.standing == Standing::Present
         && has_state(&member.state)
         && has_state(&pending.state)
-        && member.signing.as_slice() == [0xee]
-        && pending.message.as_slice() == [0xff]
+        && member.signing.as_slice() == [0xee].as_slice()
+        && pending.message.as_slice() == [0xff].as_slice()
         && member.kept.as_slice().len() == 2)
 }
 
