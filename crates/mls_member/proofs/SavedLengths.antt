@@ -15,12 +15,8 @@ use Rattle.mls_public_group.specs.Short.{IsBelow}
 use Rattle.mls_member.specs.Saved.{AreSavedBelow, IsBelowIfPending}
 
 -- the spelling of the kept proposals
-kept_text : SavedMember → List ℕ
+abbrev kept_text : SavedMember → List ℕ
 kept_text v = flat_map saved_proposal.spell v.kept
-
--- what stands before a member's state, and what stands behind it
-before_state : SavedMember → List ℕ
-before_state v = uint w16 1 ++ standing.spell v.standing
 
 -- the lengths of its parts
 lengths : (n : ℕ) (v : SavedMember) → IsBelow n saved_member v → length (saved_state.spell v.state) + (length (kept_text v) + length ((optional saved_pending).spell v.pending)) < n

@@ -1,8 +1,7 @@
 -- A good member is loaded as it was saved.
-use Rattle.std.proofs.Common.{◌≡◌, ℕ, ◌<◌, ◌≤◌, Bool, true, false, List, [], ◌∷◌, ◌++◌, length, take, map, get_or, Option, Some, None, Ok, refl, sym, ap, ap₂, subst, ◌∙◌, arith}
+use Rattle.std.proofs.Common.{◌≡◌, ℕ, ◌+◌, ◌<◌, ◌≤◌, Bool, true, false, List, [], ◌∷◌, ◌++◌, length, take, map, get_or, Option, Some, None, Ok, refl, sym, ap, ap₂, subst, ◌∙◌, arith}
 use Rattle.std.specs.Prelude.{IsSome, option_map}
 use Rattle.std.specs.List.{AllByRecursion}
-use Rattle.std.specs.Str.{bytes_eq}
 use Rattle.std.proofs.lemmas.List.{take_more, take_all, map-append}
 use Rattle.std.proofs.lemmas.Slice.Eq.{bytes_eq-Decides}
 use Rattle.mls_leaf.specs.Faults.{Refuses, Spells, whole}
@@ -14,7 +13,7 @@ use Rattle.mls_saved.specs.Member.{saved_member}
 use Rattle.mls_saved.specs.declared.member.SavedMember.{SavedMember}
 use Rattle.mls_saved.specs.declared.proposal.SavedProposal.{SavedProposal}
 use Rattle.mls_saved_state.specs.Secrets.{is_secret}
-use Rattle.mls_saved_state.specs.State.{saved_state_of, load_state, HasSecrets, IsGoodState}
+use Rattle.mls_saved_state.specs.State.{saved_state_of, HasSecrets, IsGoodState}
 use Rattle.mls_saved_state.proofs.Loading.{loads_what_was_saved}
 use Rattle.mls_suite.specs.Crypto.{Crypto}
 use Rattle.mls_tree_model.specs.Term.{leaf_of}

@@ -17,9 +17,12 @@ use Rattle.mls_saved.specs.declared.member.SavedPending.{SavedPending}
 use Rattle.mls_saved.specs.declared.member.Standing.{Standing}
 use Rattle.mls_saved.specs.declared.member.Standing.TheVariants.{Present, Removed}
 use Rattle.mls_saved.specs.declared.proposal.SavedProposal.{SavedProposal}
+use Rattle.mls_saved_state.specs.Faults.{number_of}
 use Rattle.mls_saved_state.specs.Secrets.{secret_in, optional_secret_in}
 use Rattle.mls_saved_state.specs.State.{saved_state_of, load_state, HasSecrets}
+use Rattle.mls_saved_state.specs.declared.error.LoadError.{LoadError}
 use Rattle.mls_suite.specs.Crypto.{Crypto}
+use Rattle.mls_tree.specs.Refusals.{RefusesOutright}
 use Rattle.mls_tree_model.specs.Term.{leaf_of}
 use Rattle.mls_public_group.specs.Short.{IsBelow}
 use Rattle.mls_model.specs.Member.{KeptProposal, Pending, Member}
@@ -119,6 +122,10 @@ load_member c v = do
 -- the member that bytes are: decoding, then what is checked of it
 unfoldable pub load : Crypto → List ℕ → Result Member ℕ
 load c bytes = whole saved_member input_limit bytes >>= load_member c
+
+-- faults of decoding are answered whatever memory there is
+abbrev pub RefusesUndecoded : {A : Type 0} → List ℕ → Result A LoadError → Type 0
+RefusesUndecoded bytes result = RefusesOutright number_of (whole saved_member input_limit bytes) result
 
 -- ---- what was saved is loaded
 

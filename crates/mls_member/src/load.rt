@@ -1,16 +1,13 @@
 //! Loading a member that was saved.
 
 ghost use Rattle.std.specs.Prelude.{◌≡◌, ◌^◌};
-ghost use Rattle.mls_wire.specs.Checks.{Answers, passed, require};
-ghost use Rattle.mls_leaf.specs.Faults.{whole};
-ghost use Rattle.mls_leaf.specs.Limits.{input_limit};
+ghost use Rattle.mls_wire.specs.Checks.{Answers, require};
 ghost use Rattle.mls_leaf.specs.Proposal.{proposal as proposal_format};
-ghost use Rattle.mls_saved.specs.Member.{saved_member, saved_pending};
+ghost use Rattle.mls_saved.specs.Member.{saved_member};
 ghost use Rattle.mls_saved_state.specs.Faults.{number_of, Gives, Passes};
-ghost use Rattle.mls_tree.specs.Refusals.{RefusesOutright};
 ghost use Rattle.mls_tree_model.specs.Term.{leaf_of};
 ghost use Rattle.mls_public_group.specs.Short.{IsBelow};
-ghost use Rattle.mls_member.specs.Saved.{is_removed, signs_as, load, load_kept, load_all_kept, load_if_pending, load_member, AreSavedBelow, IsBelowIfPending};
+ghost use Rattle.mls_member.specs.Saved.{is_removed, signs_as, load, load_kept, load_all_kept, load_if_pending, load_member, AreSavedBelow, IsBelowIfPending, RefusesUndecoded};
 
 use crate::kept_and_pending::{KeptProposal, Pending};
 use crate::member::Member;
@@ -52,10 +49,7 @@ fn load_kept(alloc: Global, saved: &SavedProposal) -> Result<KeptProposal, LoadE
 }
 
 /// Kept proposals, in their order: `BadSecret` (101) a reference or a key is no secret.
-fn load_all_kept(
-    alloc: Global,
-    saved: &[SavedProposal],
-) -> Result<Vec<KeptProposal>, LoadError>
+fn load_all_kept(alloc: Global, saved: &[SavedProposal]) -> Result<Vec<KeptProposal>, LoadError>
     requires { AreSavedBelow (2 ^ 27) saved.now }
     ensures { Answers (λ v. v.items) number_of (load_all_kept saved.now) result }
 {
@@ -150,7 +144,7 @@ impl<S: Suite> Member<S> {
     pub fn load(alloc: Global, bytes: &[u8]) -> Result<Member<S>, LoadError>
         ensures answer { Gives (load S.crypto bytes.now) result }
         // Faults of decoding come also when an allocation fails.
-        ensures outright { RefusesOutright number_of (whole saved_member input_limit bytes.now) result }
+        ensures outright { RefusesUndecoded bytes.now result }
     {
         let saved = SavedMember::decode(alloc, bytes)?;
         Member::of_saved(alloc, saved)

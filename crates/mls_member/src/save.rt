@@ -43,10 +43,7 @@ fn saved_proposal(alloc: Global, kept: &KeptProposal) -> Result<SavedProposal, A
 }
 
 /// Kept proposals as they are saved, which are loaded as they were.
-fn saved_proposals(
-    alloc: Global,
-    kept: &[KeptProposal],
-) -> Result<Vec<SavedProposal>, AllocError>
+fn saved_proposals(alloc: Global, kept: &[KeptProposal]) -> Result<Vec<SavedProposal>, AllocError>
     ensures same { IfOk result (λ v. v.items ≡ map saved_proposal_of kept.now) }
     ensures loads { IfOk result (λ v. load_all_kept v.items ≡ Ok kept.now) }
 {

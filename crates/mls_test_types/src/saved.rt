@@ -36,12 +36,14 @@ fn is_full(alloc: Global) -> Result<bool, LeafError> {
     let Some(pending) = &member.pending else {
         return Ok(false);
     };
-    Ok(member.standing == Standing::Present
-        && has_state(&member.state)
-        && has_state(&pending.state)
-        && member.signing.as_slice() == [0xee].as_slice()
-        && pending.message.as_slice() == [0xff].as_slice()
-        && member.kept.as_slice().len() == 2)
+    Ok(
+        member.standing == Standing::Present
+            && has_state(&member.state)
+            && has_state(&pending.state)
+            && member.signing.as_slice() == [0xee].as_slice()
+            && pending.message.as_slice() == [0xff].as_slice()
+            && member.kept.as_slice().len() == 2,
+    )
 }
 
 #[test]

@@ -1,4 +1,4 @@
-use Rattle.std.proofs.Common.{◌≡◌, ◌+◌, List, drop, sym, subst}
+use Rattle.std.proofs.Common.{◌+◌, List, drop, sym, subst}
 use Rattle.mls_model.specs.Member.{KeptProposal}
 use Rattle.mls_member.proofs.LoadedKept.{AreLoaded, loaded_step, loaded_stops, loaded_end}
 use Rattle.mls_member.proofs.load.load_all_kept.Goals as goal

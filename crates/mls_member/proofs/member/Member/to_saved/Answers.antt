@@ -1,9 +1,7 @@
-use Rattle.std.proofs.Common.{subst, sym, ap, ◌∙◌, List, Option}
-use Rattle.mls_saved.specs.declared.member.SavedPending.{SavedPending}
-use Rattle.mls_saved.specs.declared.proposal.SavedProposal.{SavedProposal}
+use Rattle.std.proofs.Common.{subst}
 use Rattle.mls_saved_state.specs.State.{HasSecrets}
 use Rattle.mls_model.specs.Member.{Member}
-use Rattle.mls_member.specs.Saved.{load_all_kept, HasSecretsIfPending}
+use Rattle.mls_member.specs.Saved.{HasSecretsIfPending}
 use Rattle.mls_member.proofs.Saving.{member_loaded}
 use Rattle.mls_member.proofs.member.Member.to_saved.Goals as goal
 
@@ -11,7 +9,6 @@ pub returns-clause-loads : goal.returns-clause-loads
 returns-clause-loads g c =
     let i = c.self.inside in
     let m : Member = record { gone = i.gone; public = i.group; epoch = i.epoch; keys = i.keys; signing = i.signing; kept = i.kept.items; pending = i.pending } in
-    rw c.self.view_is
-    (member_loaded g.S.Suite.crypto m (subst HasSecrets c.in_ok-state.ensures.state c.in_ok-state.ensures.secrets) c.in_ok-signing.ensures.secret
+    member_loaded g.S.Suite.crypto m (subst HasSecrets c.in_ok-state.ensures.state c.in_ok-state.ensures.secrets) c.in_ok-signing.ensures.secret
     (rw c.in_ok-kept.ensures.same at c.in_ok-kept.ensures.loads)
-    (subst HasSecretsIfPending c.in_ok-pending.ensures.same c.in_ok-pending.ensures.secrets))
+    (subst HasSecretsIfPending c.in_ok-pending.ensures.same c.in_ok-pending.ensures.secrets)
