@@ -6,6 +6,7 @@ pub mod Followed
 pub mod Opening
 pub mod Taking
 pub mod Due
+pub mod Holding
 pub mod Beside
 pub mod Sealing
 pub mod Joiners

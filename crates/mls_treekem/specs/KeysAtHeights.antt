@@ -6,6 +6,10 @@ use Rattle.mls_suite.specs.declared.KeyPair.{KeyPair}
 use Rattle.mls_treekem_model.specs.Chain.{path_secrets, node_key}
 use Rattle.mls_treekem_model.specs.Keys.{Keys, PrivateKeys}
 
+-- a member's keys, where those above its leaf are given by their height, the lowest first
+abbrev pub keys_by_height : ℕ → List ℕ → Keys → PrivateKeys
+keys_by_height leaf own above = record { leaf = leaf; own = own; above = reverse above }
+
 -- how far above the leaves a node is
 abbrev pub level_of : ℕ → ℕ
 level_of n = unwrap_or (level_in 32 n) 0

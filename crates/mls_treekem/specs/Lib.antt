@@ -8,3 +8,4 @@ pub mod NodeKeys
 pub mod Sealing
 pub mod Following
 pub mod Taking
+pub mod Holding

@@ -5,6 +5,7 @@
 mod climb;
 mod error;
 mod follow;
+mod hold;
 mod joiner;
 mod keys;
 mod make;
@@ -17,6 +18,7 @@ mod seeds;
 mod take;
 
 pub use error::TreeKemError;
+pub use hold::HeldKeys;
 pub use private_path::PrivatePath;
 pub use seal::{seal_count_of, seal_path};
 pub use secrets::PathSecrets;

@@ -1,7 +1,8 @@
 //! The private keys of a member.
 
-ghost use Rattle.std.specs.Prelude.{◌≡◌, ◌∷◌, [], Some};
+ghost use Rattle.std.specs.Prelude.{◌≡◌, ◌≤◌, ◌∷◌, [], Some, length, reverse};
 ghost use Rattle.mls_treekem_model.specs.Keys.{all_keys};
+ghost use Rattle.mls_treekem.specs.KeysAtHeights.{keys_by_height};
 
 use mls_kdf::Secret;
 use std::alloc::{AllocError, Global};
@@ -52,6 +53,30 @@ impl PrivatePath {
             own: sk,
             above: Vec::new(alloc),
         }
+    }
+
+    /// The keys of a member as they were kept: that of its leaf, and those above it by their height above the leaf,
+    /// from the node right over it on, None where it has none. Takes no memory.
+    pub fn from_keys(leaf: u32, own: Secret, above: Vec<Option<Secret>>) -> PrivatePath
+        requires { length above.items ≤ 32 }
+        ensures { result ≡ keys_by_height leaf own above.items }
+    {
+        PrivatePath { leaf, own, above }
+    }
+
+    /// The private key of its leaf.
+    pub fn own(&self) -> &Secret
+        ensures { result.now ≡ self.now.own }
+    {
+        &self.own
+    }
+
+    /// The keys above its leaf by their height, from the node right over the leaf on, at most 32 of them.
+    pub fn above(&self) -> &[Option<Secret>]
+        ensures keys { result.now ≡ reverse self.now.above }
+        ensures low { length result.now ≤ 32 }
+    {
+        &self.above
     }
 
     /// The member's leaf.

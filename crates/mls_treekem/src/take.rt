@@ -19,7 +19,7 @@ use mls_tree::PublicTree;
 use std::alloc::Global;
 
 /// Whether a parent lists a leaf as unmerged.
-fn lists(parent: &ParentNode, leaf: u32) -> bool
+pub(crate) fn lists(parent: &ParentNode, leaf: u32) -> bool
     ensures { result ≡ has parent.now.unmerged_leaves leaf }
 {
     parent.unmerged_leaves().contains(&leaf)
