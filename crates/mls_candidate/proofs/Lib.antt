@@ -3,3 +3,4 @@ pub mod LengthLaws
 pub mod Written
 pub mod Packages
 pub mod New
+pub mod Saving

@@ -1,3 +1,5 @@
 pub mod Faults
+pub mod Saved
+pub mod LoadFaults
 pub mod Leaves
 pub mod Short

@@ -8,14 +8,19 @@ ghost use Rattle.mls_public_group.specs.Short.{IsBelow};
 ghost use Rattle.mls_public_group.specs.ShortProposal.{IsShortProposal};
 ghost use Rattle.mls_model.specs.MemberInvariant.{IsGoodCandidate};
 ghost use Rattle.mls_model.specs.Candidate.{new_candidate, package_message};
-ghost use Rattle.mls_candidate.specs.Faults.{Gives};
+ghost use Rattle.mls_candidate.specs.Faults.{Gives, GivesBytes};
+ghost use Rattle.mls_candidate.specs.LoadFaults.{Loads};
+ghost use Rattle.mls_candidate.specs.Saved.{save_candidate, load_candidate, LoadsAsSaved};
 
 use crate::error::CandidateError;
 use crate::leaf::leaf_pair;
+use crate::load::{has_32_bytes, load_parts, saved_spelling, secret_bytes};
+use crate::load_error::CandidateLoadError;
 use crate::package::{init_pair, offered_package, package_message};
 use crate::texts::within_limit;
 use mls_kdf::{Secret, Seed};
 use mls_leaf::{INPUT_LIMIT, KeyPackage, LeafError, LeafNode, Proposal};
+use mls_saved::SavedCandidate;
 use mls_suite::{OutOfMemory, Suite};
 use mls_treekem::sign_seed;
 use mls_wire::WireError;
@@ -79,6 +84,54 @@ impl<S: Suite> Candidate<S> {
             signing: sign_seed(seed),
             suite: PhantomData,
         })
+    }
+
+    /// The bytes that the candidate is saved as, which hold its private keys. `TooLong` (6) where they are more than an
+    /// input may have.
+    #[tactic(auto, unfolding(crate::specs::Saved::save_candidate, crate::specs::Saved::saved_parts))]
+    pub fn save(&self, alloc: Global) -> Result<Vec<u8>, CandidateError>
+        ensures { GivesBytes (save_candidate self.now) result }
+    {
+        let saved = SavedCandidate {
+            key_package: self.offered.clone()?,
+            init: secret_bytes(alloc, &self.init)?,
+            leaf: secret_bytes(alloc, &self.leaf)?,
+            signing: secret_bytes(alloc, &self.signing)?,
+        };
+        let bytes = saved_spelling(alloc, &saved)?;
+        if !within_limit(&bytes) {
+            return Err(TOO_LONG);
+        }
+        Ok(bytes)
+    }
+
+    /// The candidate that was saved as these bytes: decoding, `OtherSuite` (100) another suite, `BadSecret` (101) a secret
+    /// that hasn't 32 bytes, 50 to 57 and `BadKey` (36) the checks of its KeyPackage, `OtherKey` (104) a private key that
+    /// isn't that of the public key that is offered.
+    pub fn load(alloc: Global, bytes: &[u8]) -> Result<Candidate<S>, CandidateLoadError>
+        ensures answer { Loads (load_candidate S.crypto bytes.now) result }
+        ensures good { IfOk result (IsGoodCandidate S.crypto) }
+    {
+        let parts = load_parts::<S>(alloc, bytes)?;
+        let message = package_message(alloc, &parts.offered)?;
+        Ok(Candidate {
+            offered: parts.offered,
+            message,
+            init: parts.init,
+            leaf: parts.leaf,
+            signing: parts.signing,
+            suite: PhantomData,
+        })
+    }
+
+    /// A law: what a good candidate is saved as is loaded as that candidate.
+    pub fn loaded_as_saved(&self)
+        requires { IsGoodCandidate S.crypto self.now }
+        ensures { LoadsAsSaved S.crypto self.now }
+    {
+        has_32_bytes(&self.init);
+        has_32_bytes(&self.leaf);
+        has_32_bytes(&self.signing);
     }
 
     /// The message of its KeyPackage (RFC 9420, 6).

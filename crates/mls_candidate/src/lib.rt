@@ -4,9 +4,12 @@
 mod candidate;
 mod error;
 mod leaf;
+mod load;
+mod load_error;
 mod package;
 mod texts;
 
 pub use candidate::Candidate;
 pub use error::CandidateError;
 pub use leaf::{leaf_key, renewed_leaf};
+pub use load_error::CandidateLoadError;

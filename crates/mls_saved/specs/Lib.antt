@@ -1,0 +1,5 @@
+pub mod State
+pub mod Kept
+pub mod Member
+pub mod Candidate
+pub mod ReadFaults
