@@ -45,7 +45,7 @@ fn ten_messages<S: Suite>(
     let mut leaf = 0;
     for data in DATA {
         add(&mut messages, speakers.say(leaf, &text_of(data))?)?;
-        leaf = 1 - leaf;
+        leaf = if leaf == 0 { 1 } else { 0 };
     }
     Ok(messages)
 }
