@@ -1,8 +1,7 @@
 //! Each bit of a message changed, and each end cut off.
 
-use crate::speakers::{Text, bytes_of, converse_all, hears, number_of_hearing};
-use crate::trio::create_trio;
-use mls_conversation::Conversation;
+use crate::speakers::{Speakers, Text, bytes_of, hears, new_speakers, number_of_hearing};
+use mls_conversation::{Conversation, ExchangeError};
 use mls_suite::{Glass, Suite};
 use std::alloc::{AllocError, Global};
 use std::test::Fail;
@@ -207,18 +206,29 @@ fn count_prefixes<S: Suite>(conversation: &mut Conversation<S>, message: &[u8]) 
     count
 }
 
+/// What Alice's first message is answered by Bob, with each bit changed, and each end cut off; and whether it is the one by
+/// hand and opens then.
+fn answers_of<S: Suite>(
+    alloc: Global,
+    speakers: &mut Speakers<S>,
+) -> Result<((u32, u32), usize, bool, bool), ExchangeError> {
+    let message = speakers.say(0, &HELLO)?;
+    let counts = count_parts(alloc, &mut speakers.bob, &message)?;
+    let prefixes = count_prefixes(&mut speakers.bob, &message);
+    let is_by_hand = message.as_slice() == bytes_of(alloc, MESSAGE)?.as_slice();
+    let opens = hears(&mut speakers.bob, &message, 0, 0, b"hello")?;
+    Ok((counts, prefixes, is_by_hand, opens))
+}
+
+/// The same, of the group of three.
+fn answers(alloc: Global) -> Result<((u32, u32), usize, bool, bool), Fail> {
+    let mut speakers = new_speakers::<Glass>(alloc, b"group")?;
+    Ok(answers_of(alloc, &mut speakers)?)
+}
+
 #[test]
 fn each_bit_and_each_prefix(rt: HostRuntime) -> Result<(), Fail> {
-    let alloc = rt.alloc();
-    let members = create_trio::<Glass>(alloc, b"group")?;
-    let mut speakers = converse_all(alloc, &members)?;
-    let message = speakers.say(0, &HELLO)?;
-    assert_eq!(rt; message.as_slice(), bytes_of(alloc, MESSAGE)?.as_slice());
-    // All bits of the 144 bytes are told.
-    let counts = count_parts(alloc, &mut speakers.bob, &message)?;
-    assert_eq!(rt; counts, (18, 1152));
-    assert_eq!(rt; count_prefixes(&mut speakers.bob, &message), 144);
-    // Nothing was changed by all that.
-    assert!(rt; hears(&mut speakers.bob, &message, 0, 0, b"hello")?);
+    // All bits of the 144 bytes are told, and nothing is changed by the refusals.
+    assert_eq!(rt; answers(rt.alloc())?, ((18, 1152), 144, true, true));
     Ok(())
 }

@@ -1,7 +1,9 @@
 //! Messages in whatever order, each once.
 
-use crate::speakers::{Speakers, Text, converse, converse_all, hears, number_of_hearing, say};
-use crate::trio::create_trio;
+use crate::speakers::{
+    Speakers, Text, converse, converse_all, hears, new_speakers, number_of_hearing, say,
+};
+use crate::trio::{Trio, create_trio};
 use mls_conversation::{Conversation, ExchangeError};
 use mls_member::Member;
 use mls_suite::{Glass, Suite};
@@ -103,18 +105,38 @@ fn heard_and_used<S: Suite>(
     Ok((heard, count_used(&mut conversation, messages)))
 }
 
+/// How many orders are heard whole, and then used up.
+fn count_orders<S: Suite>(
+    alloc: Global,
+    carol: &Member<S>,
+    messages: &[Vec<u8>],
+) -> Result<u32, Fail> {
+    let mut count: u32 = 0;
+    for order in ORDERS {
+        if heard_and_used(alloc, carol, messages, &order)? == (10, 10) {
+            count = count.saturating_add(1);
+        }
+    }
+    Ok(count)
+}
+
+/// How many orders are heard whole by Carol, and how many of the ten Alice, who sealed five of them, has used.
+fn answers_of<S: Suite>(alloc: Global, members: &Trio<S>) -> Result<(u32, u32), Fail> {
+    let mut speakers = converse_all(alloc, members)?;
+    let messages = ten_messages(alloc, &mut speakers)?;
+    let own = count_used(&mut speakers.alice, &messages);
+    Ok((count_orders(alloc, &members.carol, &messages)?, own))
+}
+
+/// The same of a new group.
+fn answers(alloc: Global) -> Result<(u32, u32), Fail> {
+    let members = create_trio::<Glass>(alloc, b"group")?;
+    answers_of(alloc, &members)
+}
+
 #[test]
 fn ten_messages_in_six_orders(rt: HostRuntime) -> Result<(), Fail> {
-    let alloc = rt.alloc();
-    let members = create_trio::<Glass>(alloc, b"group")?;
-    let mut speakers = converse_all(alloc, &members)?;
-    let messages = ten_messages(alloc, &mut speakers)?;
-    for order in ORDERS {
-        let counts = heard_and_used(alloc, &members.carol, &messages, &order)?;
-        assert_eq!(rt; counts, (10, 10));
-    }
-    // A sender's own messages are used too, when it has sealed them.
-    assert_eq!(rt; count_used(&mut speakers.alice, &messages), 5);
+    assert_eq!(rt; answers(rt.alloc())?, (6, 5));
     Ok(())
 }
 
@@ -169,13 +191,25 @@ fn right_steps<S: Suite>(
     count
 }
 
+/// How many steps of both readers answer as they should.
+fn window_steps<S: Suite>(
+    alloc: Global,
+    speakers: &mut Speakers<S>,
+) -> Result<(u32, u32), ExchangeError> {
+    let kept = kept_messages(alloc, &mut speakers.alice)?;
+    let at = right_steps(&mut speakers.bob, &kept, &AT_WINDOW);
+    let behind = right_steps(&mut speakers.carol, &kept, &BEHIND_WINDOW);
+    Ok((at, behind))
+}
+
+/// The same of a new group.
+fn window_answers(alloc: Global) -> Result<(u32, u32), Fail> {
+    let mut speakers = new_speakers::<Glass>(alloc, b"group")?;
+    Ok(window_steps(alloc, &mut speakers)?)
+}
+
 #[test]
 fn ends_of_the_window(rt: HostRuntime) -> Result<(), Fail> {
-    let alloc = rt.alloc();
-    let members = create_trio::<Glass>(alloc, b"group")?;
-    let mut speakers = converse_all(alloc, &members)?;
-    let kept = kept_messages(alloc, &mut speakers.alice)?;
-    assert_eq!(rt; right_steps(&mut speakers.bob, &kept, &AT_WINDOW), 8);
-    assert_eq!(rt; right_steps(&mut speakers.carol, &kept, &BEHIND_WINDOW), 4);
+    assert_eq!(rt; window_answers(rt.alloc())?, (8, 4));
     Ok(())
 }

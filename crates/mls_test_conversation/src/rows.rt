@@ -1,7 +1,7 @@
 //! Keys and messages by RFC 9420, 6.3 and 9, and by Python alone: tools/application-messages prints them.
 
 use crate::speakers::{Speakers, Text, bytes_of, converse_all, is_said};
-use crate::trio::create_trio;
+use crate::trio::{Trio, create_trio};
 use mls_conversation::{ExchangeError, Opened};
 use mls_member::Member;
 use mls_secret_tree::{SecretTree, SecretTreeError};
@@ -233,20 +233,27 @@ fn rows_by_hand<S: Suite>(alloc: Global, speakers: &mut Speakers<S>) -> Result<u
     Ok(count)
 }
 
+/// How many keys and rows of a group of three are those by hand.
+fn counts_of<S: Suite>(alloc: Global, members: &Trio<S>) -> Result<(u32, u32), Fail> {
+    let keys = keys_by_hand(alloc, &members.alice)?;
+    let mut speakers = converse_all(alloc, members)?;
+    Ok((keys, rows_by_hand(alloc, &mut speakers)?))
+}
+
+/// The same of a new group.
+fn counts<S: Suite>(alloc: Global) -> Result<(u32, u32), Fail> {
+    let members = create_trio::<S>(alloc, b"group")?;
+    counts_of(alloc, &members)
+}
+
 #[test]
 fn keys_and_messages_under_glass(rt: HostRuntime) -> Result<(), Fail> {
-    let members = create_trio::<Glass>(rt.alloc(), b"group")?;
-    assert_eq!(rt; keys_by_hand(rt.alloc(), &members.alice)?, 6);
-    let mut speakers = converse_all(rt.alloc(), &members)?;
-    assert_eq!(rt; rows_by_hand(rt.alloc(), &mut speakers)?, 5);
+    assert_eq!(rt; counts::<Glass>(rt.alloc())?, (6, 5));
     Ok(())
 }
 
 #[test]
 fn keys_and_messages_under_suite_0001(rt: HostRuntime) -> Result<(), Fail> {
-    let members = create_trio::<Suite0001>(rt.alloc(), b"group")?;
-    assert_eq!(rt; keys_by_hand(rt.alloc(), &members.bob)?, 6);
-    let mut speakers = converse_all(rt.alloc(), &members)?;
-    assert_eq!(rt; rows_by_hand(rt.alloc(), &mut speakers)?, 5);
+    assert_eq!(rt; counts::<Suite0001>(rt.alloc())?, (6, 5));
     Ok(())
 }

@@ -1,10 +1,11 @@
 //! The conversations of the three in their epoch, and what they are called with.
 
-use crate::trio::Trio;
+use crate::trio::{Trio, create_trio};
 use mls_conversation::{Conversation, ConversationError, ExchangeError, Opened};
 use mls_member::Member;
 use mls_suite::Suite;
 use std::alloc::{AllocError, Global};
+use std::test::Fail;
 
 /// The conversations of Alice, Bob and Carol.
 #[derive(Drop)]
@@ -110,6 +111,12 @@ pub(crate) fn converse_all<S: Suite>(
     let bob = converse(alloc, &members.bob)?;
     let carol = converse(alloc, &members.carol)?;
     Ok(Speakers { alice, bob, carol })
+}
+
+/// The conversations of three members of a new group of this name.
+pub(crate) fn new_speakers<S: Suite>(alloc: Global, group_id: &[u8]) -> Result<Speakers<S>, Fail> {
+    let members = create_trio::<S>(alloc, group_id)?;
+    Ok(converse_all(alloc, &members)?)
 }
 
 impl<S: Suite> Speakers<S> {

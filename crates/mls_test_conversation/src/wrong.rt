@@ -1,7 +1,6 @@
 //! Messages that are wrong in one point, by Python alone: tools/application-messages prints them.
 
-use crate::speakers::{Speakers, Text, bytes_of, converse_all, hears, number_of_hearing};
-use crate::trio::create_trio;
+use crate::speakers::{Speakers, Text, bytes_of, hears, new_speakers, number_of_hearing};
 use mls_conversation::{Conversation, ExchangeError};
 use mls_suite::{Glass, Suite};
 use std::alloc::{AllocError, Global};
@@ -183,13 +182,25 @@ fn true_one_opens<S: Suite>(speakers: &mut Speakers<S>, leaf: u32) -> Result<boo
     hears(&mut speakers.carol, &message, leaf, 0, b"hello")
 }
 
+/// How many wrong messages Carol refuses, and whether the true ones of Alice and Bob open then.
+fn answers_of<S: Suite>(
+    alloc: Global,
+    speakers: &mut Speakers<S>,
+) -> Result<(u32, bool, bool), ExchangeError> {
+    let count = refused_by_number(alloc, &mut speakers.carol)?;
+    let of_alice = true_one_opens(speakers, 0)?;
+    let of_bob = true_one_opens(speakers, 1)?;
+    Ok((count, of_alice, of_bob))
+}
+
+/// The same, of the group of three.
+fn answers(alloc: Global) -> Result<(u32, bool, bool), Fail> {
+    let mut speakers = new_speakers::<Glass>(alloc, b"group")?;
+    Ok(answers_of(alloc, &mut speakers)?)
+}
+
 #[test]
 fn wrong_messages(rt: HostRuntime) -> Result<(), Fail> {
-    let members = create_trio::<Glass>(rt.alloc(), b"group")?;
-    let mut speakers = converse_all(rt.alloc(), &members)?;
-    assert_eq!(rt; refused_by_number(rt.alloc(), &mut speakers.carol)?, 27);
-    // No key was used by them.
-    assert!(rt; true_one_opens(&mut speakers, 0)?);
-    assert!(rt; true_one_opens(&mut speakers, 1)?);
+    assert_eq!(rt; answers(rt.alloc())?, (27, true, true));
     Ok(())
 }
