@@ -15,12 +15,14 @@ use Rattle.mls_cli_explain.specs.Explanations.{Told, explanation_view}
 use Rattle.mls_cli_text.specs.Form.{file_limit}
 use Rattle.mls_cli_text.specs.declared.form.Form.{Form}
 use Rattle.mls_cli_text.specs.Page.{Page, Printout, printout, refused}
-use Rattle.mls_cli_text.specs.Text.{Entry, line_text}
+use Rattle.mls_cli_text.specs.Text.{line_text}
 use Rattle.mls_cli_text.specs.declared.fault.Fault.{Fault}
 use Rattle.mls_cli_text.specs.declared.fault.Fault.TheVariants as fault
 use Rattle.mls_cli_show.specs.Show.{page_of as show_page}
 use Rattle.mls_cli_check.specs.Check.{check_page}
+use Rattle.mls_cli_check.specs.Drawing.{draw_page}
 use Rattle.mls_cli_check.specs.Unchecked.{unchecked}
+use Rattle.mls_cli_draw.specs.Picture.{row_text}
 use Rattle.mls_suite_0001.specs.Suite0001.{suite_0001}
 use Rattle.mls_cli_check.specs.GroupInfo.{group_info_page}
 use Rattle.mls_cli_vectors.specs.VectorsReport.{entry_text, vectors_page}
@@ -41,7 +43,7 @@ checking choice.Suite0001 true = suite_0001
 checking choice.Suite0001 false = unchecked
 
 -- what is printed of a file whose page is this: the refusal `TooLong` (6) alone, where its text is too long
-abbrev pub file_page : Form → List ℕ → Page Entry → Page Entry
+abbrev pub file_page : {E : Type 0} → Form → List ℕ → Page E → Page E
 file_page form text page = if nat_lt (file_limit form) (length text) then refused 6 else page
 
 -- what a job prints for a file of this text
@@ -51,6 +53,8 @@ IsPrintout (job.Check file form suite signatures group) text p =
     p ≡ printout line_text (file_page form text (check_page (checking suite signatures) form text group.now))
 IsPrintout (job.CheckGroupInfo file form signatures) text p =
     p ≡ printout line_text (file_page form text (group_info_page glass (checking choice.Suite0001 signatures) form text))
+IsPrintout (job.Draw file form source columns) text p =
+    p ≡ printout row_text (file_page form text (draw_page source columns form text))
 IsPrintout (job.Replay file suite view) text p = IsView (crypto_of suite) view text p
 IsPrintout (job.Vectors file) text p = p ≡ printout entry_text (vectors_page text)
 
@@ -132,6 +136,7 @@ abbrev pub read_of : Job → List ℕ → List ℕ
 read_of (job.Show file form detail) text = take (suc (file_limit form)) text
 read_of (job.Check file form suite signatures group) text = take (suc (file_limit form)) text
 read_of (job.CheckGroupInfo file form signatures) text = take (suc (file_limit form)) text
+read_of (job.Draw file form source columns) text = take (suc (file_limit form)) text
 read_of (job.Replay file suite view) text = text
 read_of (job.Vectors file) text = text
 

@@ -6,14 +6,17 @@ ghost use Rattle.mls_cli_text.specs.InputOutput.{out_failed, out_writer, read_fa
 ghost use Rattle.mls_cli_text.specs.Page.{MakesPage};
 ghost use Rattle.mls_cli_show.specs.Show.{page_of as show_page};
 ghost use Rattle.mls_cli_check.specs.Check.{check_page};
+ghost use Rattle.mls_cli_check.specs.Drawing.{draw_page};
 ghost use Rattle.mls_cli_check.specs.GroupInfo.{group_info_page};
+ghost use Rattle.mls_cli_draw.specs.Picture.{DrawsPage};
 ghost use Rattle.mls_suite.specs.Glass.{glass};
 ghost use Rattle.mls_cli_explain.specs.Explanations.{explanation_view};
 ghost use Rattle.mls_cli.specs.Arguments.{file_of};
 ghost use Rattle.mls_cli.specs.Serving.{BeginsError, EndsWith, EndsWithoutJob, KeepsUnread, PrintsFile, PrintsRead, PrintsRecording, PrintsText, ReadsFile, Says, ShowsHelp, ShowsTold, WritesError, checking, fault_text, file_page, out_of_memory as memory_text, unread, unreadable};
 
 use crate::tasks::{Job, NoJob, SuiteChoice};
-use mls_cli_check::{Unchecked, check_page, group_info_page};
+use mls_cli_check::{TreeSource, Unchecked, check_page, draw_page, group_info_page};
+use mls_cli_draw::Row;
 use mls_cli_explain::{Explanation, told_page};
 use mls_cli_replay::{ReplayView, print_view};
 use mls_cli_show::{Detail, show_page};
@@ -110,9 +113,10 @@ fn read_file<I: Input>(alloc: Global, job: &Job<'_>, file: &mut I) -> Result<Vec
     ensures read { IfErr result (λ e. e ≢ Fault.Write) }
 {
     match job {
-        Job::Show { form, .. } | Job::Check { form, .. } | Job::CheckGroupInfo { form, .. } => {
-            file.read_front(alloc, form.file_limit() as u64 + 1)
-        }
+        Job::Show { form, .. }
+        | Job::Check { form, .. }
+        | Job::CheckGroupInfo { form, .. }
+        | Job::Draw { form, .. } => file.read_front(alloc, form.file_limit() as u64 + 1),
         Job::Replay { .. } | Job::Vectors { .. } => file.read_all(alloc),
     }
 }
@@ -149,6 +153,16 @@ fn print_text<O: Output>(
             signatures,
             ..
         } => print_made_page(alloc, info_file(alloc, *form, *signatures, text), out),
+        Job::Draw {
+            form,
+            source,
+            columns,
+            ..
+        } => print_made_page(
+            alloc,
+            drawing_file(alloc, *form, *source, *columns, text),
+            out,
+        ),
         Job::Replay { suite, view, .. } => print_recording(alloc, *suite, *view, text, out),
         Job::Vectors { .. } => print_made_page(alloc, vectors_page(alloc, text), out),
     }
@@ -244,6 +258,23 @@ fn check_info(
     } else {
         group_info_page::<Glass, Unchecked>(alloc, form, text)
     }
+}
+
+/// The drawing of the tree of a file: `TooLong` (6) alone where its text is too long.
+fn drawing_file(
+    alloc: Global,
+    form: Form,
+    source: TreeSource,
+    columns: Option<usize>,
+    text: &[u8],
+) -> Result<Page<Row>, AllocError>
+    ensures { DrawsPage result (file_page form text.now (draw_page source columns form text.now)) }
+{
+    let limit = form.file_limit();
+    if text.len() > limit {
+        return Ok(refused_page(alloc, 6));
+    }
+    draw_page(alloc, source, columns, form, text)
 }
 
 /// Prints what is asked for of a recording for the suite.
