@@ -1,6 +1,6 @@
 //! Pictures of the trees that files have.
 
-ghost use Rattle.std.specs.Prelude.{◌≡◌, IfOk, IsOk, None};
+ghost use Rattle.std.specs.Prelude.{◌≡◌, ◌≢◌, IfOk, IsOk, None};
 ghost use Rattle.mls_wire.specs.Checks.{Answers};
 ghost use Rattle.mls_tree.specs.Tree.{term};
 ghost use Rattle.mls_cli_text.specs.Form.{bytes_of_file};
@@ -50,7 +50,8 @@ fn tree_from(alloc: Global, source: TreeSource, bytes: &[u8]) -> Result<PublicTr
 
 /// The page of a refusal; where it is want of memory, that.
 fn refused_picture(alloc: Global, error: CheckError) -> Result<Page<Row>, AllocError>
-    ensures { DrawsPage result (refused (number_of error)) }
+    ensures memory { IfOk result (λ _. number_of error ≢ 1) }
+    ensures page { DrawsPage result (refused (number_of error)) }
 {
     if error.is_memory() {
         return Err(AllocError);
