@@ -1,24 +1,32 @@
 //! What is said of a file that is no hex text, and has bytes as they are or JSON.
 
-ghost use Rattle.std.specs.Prelude.{◌≡◌, is_some};
+ghost use Rattle.std.specs.Prelude.{◌≡◌, is_some, slice_get};
 ghost use Rattle.std.specs.List.{list_any};
 ghost use Rattle.mls_cli_text.specs.Form.{bytes_of_file};
+ghost use Rattle.mls_cli_text.specs.HexFile.{is_blank};
 ghost use Rattle.mls_cli.specs.Hints.{hint, hint_of_text, is_binary, opens_json};
-ghost use Rattle.std.specs.Prelude.{slice_get};
 
 use mls_cli_text::{Form, is_hex_file};
 
-/// What is said of a file that has bytes as they are.
-const BINARY_HINT: &str = "mls: the file has bytes as they are: give --raw\n";
+/// Whether a byte is a space, a tab, a carriage return or a line feed.
+fn is_blank(byte: u8) -> bool
+    ensures { result ≡ is_blank byte }
+{
+    byte == b' ' || byte == b'\t' || byte == b'\r' || byte == b'\n'
+}
 
-/// What is said of a file that has JSON.
-const JSON_HINT: &str = "mls: the file is JSON: see `mls replay` and `mls vectors`\n";
+/// Whether no ASCII text has a byte.
+fn is_binary(byte: u8) -> bool
+    ensures { result ≡ is_binary byte }
+{
+    byte > 126 || (byte < 32 && !is_blank(byte))
+}
 
 /// Whether some byte is none of an ASCII text.
 fn has_binary(text: &[u8]) -> bool
     ensures { result ≡ list_any is_binary text.now }
 {
-    text.iter().any(|b| *b > 126 || *b < 32 && !(*b == b'\t' || *b == b'\r' || *b == b'\n'))
+    text.iter().any(|byte| is_binary(*byte))
 }
 
 /// Whether an object or an array begins.
@@ -35,9 +43,9 @@ fn hint_of_text(text: &[u8]) -> &'static str
     ensures { result.now ≡ hint_of_text text.now }
 {
     if has_binary(text) {
-        BINARY_HINT
+        "mls: the file has bytes as they are: give --raw\n"
     } else if opens_json(text) {
-        JSON_HINT
+        "mls: the file is JSON: see `mls replay` and `mls vectors`\n"
     } else {
         ""
     }
