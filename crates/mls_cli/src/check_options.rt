@@ -49,14 +49,15 @@ pub fn check_command<'a>(alloc: Global) -> Result<Command<'a>, AllocError>
     let with_signatures = with_group.arg(signatures)?;
     let with_info = with_signatures.arg(info)?;
     let raw = flag_arg(alloc, "raw", "Reads bytes as they are, and not hex");
-    with_drawing(alloc, with_info.arg(raw)?)
+    let with_raw = with_info.arg(raw)?;
+    with_drawing(alloc, with_raw)
 }
 
 /// The command with the options of drawings.
 fn with_drawing<'a>(alloc: Global, command: Command<'a>) -> Result<Command<'a>, AllocError>
-    requires { (fields_of command).has_globals ≡ false }
-    ensures app { IfOk result (λ c. app_of c ≡ with_drawing_rules (app_of command)) }
-    ensures local { IfOk result (λ c. (fields_of c).has_globals ≡ false) }
+    ensures app { IfOk result (λ c. app_of c ≡ with_drawing_rules (app_of command.entry)) }
+    ensures local { (fields_of command.entry).has_globals ≡ false
+        → IfOk result (λ c. (fields_of c).has_globals ≡ false) }
 {
     let draw = flag_arg(alloc, "draw", "Draws the tree, and checks nothing of it");
     let width = number_arg(
@@ -124,7 +125,7 @@ pub fn check_on<'a>(
 
 /// A drawing in place of a tree's check, and any other job as it is.
 fn drawn<'a>(columns: Option<usize>, job: Job<'a>) -> Job<'a>
-    ensures { task_view result ≡ drawn columns (task_view job) }
+    ensures { task_view result ≡ drawn columns (task_view job.entry) }
 {
     match job {
         Job::Check { file, form, .. } => Job::Draw {
@@ -145,7 +146,7 @@ fn drawn<'a>(columns: Option<usize>, job: Job<'a>) -> Job<'a>
 
 /// A drawing in place of a tree's check where it is asked for.
 pub fn drawn_if<'a>(asked: bool, columns: Option<usize>, job: Option<Job<'a>>) -> Option<Job<'a>>
-    ensures { maybe_task result ≡ drawn_if asked columns (maybe_task job) }
+    ensures { maybe_task result ≡ drawn_if asked columns (maybe_task job.entry) }
 {
     if !asked {
         return job;

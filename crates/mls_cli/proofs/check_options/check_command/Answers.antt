@@ -1,15 +1,6 @@
-use Rattle.std.proofs.Common.{ap}
 use Rattle.mls_cli.specs.Arguments.{with_drawing_rules}
 use Rattle.mls_cli.proofs.Adding.{app_is, local_is, then_app}
 use Rattle.mls_cli.proofs.check_options.check_command.Goals as goal
-
-pub pre-with_drawing : goal.pre-with_drawing
-pre-with_drawing c =
-    let one = local_is c.in_ok-with_suite.ensures c.suite_arg.ensures.local c.in_ok-command.ensures.local in
-    let two = local_is c.in_ok-with_group.ensures c.group_arg.ensures.local one in
-    let three = local_is c.in_ok-with_signatures.ensures c.flag_arg-signatures.ensures.local two in
-    let four = local_is c.in_ok-with_info.ensures c.flag_arg-info.ensures.local three in
-    local_is c.in_ok-arg.ensures c.flag_arg-raw.ensures.local four
 
 pub returns-clause-app : goal.returns-clause-app
 returns-clause-app c =
@@ -17,5 +8,13 @@ returns-clause-app c =
     let two = app_is c.in_ok-with_group.ensures c.group_arg.ensures.local one c.group_arg.ensures.rule in
     let three = app_is c.in_ok-with_signatures.ensures c.flag_arg-signatures.ensures.local two c.flag_arg-signatures.ensures.rule in
     let four = app_is c.in_ok-with_info.ensures c.flag_arg-info.ensures.local three c.flag_arg-info.ensures.rule in
-    let five = app_is c.in_ok-arg.ensures c.flag_arg-raw.ensures.local four c.flag_arg-raw.ensures.rule in
+    let five = app_is c.in_ok-with_raw.ensures c.flag_arg-raw.ensures.local four c.flag_arg-raw.ensures.rule in
     then_app c.with_drawing.result with_drawing_rules c.with_drawing.ensures.app five
+
+pub returns-clause-local : goal.returns-clause-local
+returns-clause-local c =
+    let one = local_is c.in_ok-with_suite.ensures c.suite_arg.ensures.local c.in_ok-command.ensures.local in
+    let two = local_is c.in_ok-with_group.ensures c.group_arg.ensures.local one in
+    let three = local_is c.in_ok-with_signatures.ensures c.flag_arg-signatures.ensures.local two in
+    let four = local_is c.in_ok-with_info.ensures c.flag_arg-info.ensures.local three in
+    c.with_drawing.ensures.local (local_is c.in_ok-with_raw.ensures c.flag_arg-raw.ensures.local four)

@@ -8,6 +8,6 @@ returns-clause-app c =
     last_app c.arg-2.result c.in_ok-with_draw.with_draw c.number_arg-width.result c.arg-2.ensures c.number_arg-width.ensures.local one c.number_arg-width.ensures.rule
 
 pub returns-clause-local : goal.returns-clause-local
-returns-clause-local c =
-    let one = local_is c.in_ok-with_draw.ensures c.flag_arg-draw.ensures.local c.requires in
+returns-clause-local c = λ none.
+    let one = local_is c.in_ok-with_draw.ensures c.flag_arg-draw.ensures.local none in
     last_local c.arg-2.result c.in_ok-with_draw.with_draw c.number_arg-width.result c.arg-2.ensures c.number_arg-width.ensures.local one
