@@ -7,7 +7,7 @@ use Rattle.mls_cli_draw.proofs.stem.+push_stem_below.Goals.{then-leaves-le1-via-
 pub returns-then-leaves-le1 : goal.returns-then-leaves-le1
 returns-then-leaves-le1 t c = λ h u p wide.
     let at_root : corner c.args.side ≡ stem_below c.args.side u c.args.node = elim c.then-leaves-le1.branch [
-        then-leaves-le1-via-then-leaves-le1 w ↦ pushed_one c.args.side c.args.leaves c.args.node w.if-leaves-le1.true h u p wide
+      | then-leaves-le1-via-then-leaves-le1 w ↦ pushed_one c.args.side c.args.leaves c.args.node w.if-leaves-le1.true h u p wide
       | then-leaves-le1-via-else-leaves-le1+then-node-leaves w ↦ pushed_root c.args.side c.args.leaves c.args.node w.if-node-leaves.true h u p wide
     ] in
     pushed_if c.extend_from_slice.result _ _ _ _ c.extend_from_slice.ensures.items (c.as_slice.ensures ∙ c.corner.ensures ∙ at_root)

@@ -7,7 +7,7 @@ use Rattle.mls_cli_draw.proofs.stem.push_stem.Goals.{then-leaves-le1-via-then-le
 pub returns-then-leaves-le1 : goal.returns-then-leaves-le1
 returns-then-leaves-le1 c = λ h u p wide.
     let none : stem u c.args.node ≡ [] = elim c.then-leaves-le1.branch [
-        then-leaves-le1-via-then-leaves-le1 w ↦ whole_one c.args.leaves c.args.node w.if-leaves-le1.true h u p wide
+      | then-leaves-le1-via-then-leaves-le1 w ↦ whole_one c.args.leaves c.args.node w.if-leaves-le1.true h u p wide
       | then-leaves-le1-via-else-leaves-le1+then-node-leaves w ↦ whole_root c.args.leaves c.args.node w.if-node-leaves.true h u p wide
     ] in
     sym (ap (λ cs. c.args.characters.now.items ++ cs) none ∙ append-nil c.args.characters.now.items)
