@@ -1,7 +1,6 @@
 //! Options of the subcommands, and `--explain`, by way of `serve`.
 
 use crate::tests::serve_file;
-use std::alloc::{AllocError, Global};
 use std::test::Fail;
 
 /// Trees of one and two leaves, of five of which one is blank, and of seven. Their leaves are named in the pictures.
@@ -69,17 +68,6 @@ const PICTURE_OF_SEVEN: &str = r#"    ┌─■ 0 "ann"
     └─■ 7 "gus"
 "#;
 
-/// What a table of words and files is to leave.
-fn leaves(alloc: Global, table: &[(&[&str], &str, u8, &str)]) -> Result<bool, AllocError> {
-    for (words, file, status, text) in table {
-        let (answer, out) = serve_file(alloc, words, file.as_bytes())?;
-        if answer != *status || out.as_slice() != text.as_bytes() {
-            return Ok(false);
-        }
-    }
-    Ok(true)
-}
-
 #[test]
 fn draws_trees(rt: HostRuntime) -> Result<(), Fail> {
     let alloc = rt.alloc();
@@ -98,7 +86,11 @@ fn draws_trees(rt: HostRuntime) -> Result<(), Fail> {
         (info, WITHOUT_TREE, 1, "refused: 76 NoTree\n"),
         (info, ONE, 1, "refused: 7 BadTag\n"),
     ];
-    assert!(rt; leaves(alloc, table.as_slice())?);
+    for (words, file, status, text) in table {
+        let (answer, out) = serve_file(alloc, words, file.as_bytes())?;
+        assert_eq!(rt; answer, status, "for {file}");
+        assert!(rt; out.as_slice() == text.as_bytes(), "for {file}");
+    }
     Ok(())
 }
 
@@ -129,7 +121,11 @@ fn shows_and_checks_more(rt: HostRuntime) -> Result<(), Fail> {
         ),
         (raw, "\u{1}\u{0}", 1, "refused: 7 BadTag\n"),
     ];
-    assert!(rt; leaves(alloc, table.as_slice())?);
+    for (words, file, status, text) in table {
+        let (answer, out) = serve_file(alloc, words, file.as_bytes())?;
+        assert_eq!(rt; answer, status, "for {file}");
+        assert!(rt; out.as_slice() == text.as_bytes(), "for {file}");
+    }
     Ok(())
 }
 
@@ -149,7 +145,11 @@ fn explains_refusals(rt: HostRuntime) -> Result<(), Fail> {
         (&["mls", "--explain", "Truncated"], "", 0, early),
         (&["mls", "--explain", "120"], "", 2, unknown),
     ];
-    assert!(rt; leaves(alloc, table.as_slice())?);
+    for (words, file, status, text) in table {
+        let (answer, out) = serve_file(alloc, words, file.as_bytes())?;
+        assert_eq!(rt; answer, status, "for {file}");
+        assert!(rt; out.as_slice() == text.as_bytes(), "for {file}");
+    }
     Ok(())
 }
 
@@ -198,6 +198,10 @@ fn views_recordings(rt: HostRuntime) -> Result<(), Fail> {
             "refused: 90 NoSuchMember\n",
         ),
     ];
-    assert!(rt; leaves(alloc, table.as_slice())?);
+    for (words, file, status, text) in table {
+        let (answer, out) = serve_file(alloc, words, file.as_bytes())?;
+        assert_eq!(rt; answer, status, "for {file}");
+        assert!(rt; out.as_slice() == text.as_bytes(), "for {file}");
+    }
     Ok(())
 }
