@@ -109,9 +109,13 @@ fn print_job<I: Input, O: Output, E: Write>(
     ensures silent { OnErr result (err.new ≡ err.old) }
 {
     let text = read_file(alloc, job, file)?;
-    let status = print_text(alloc, job, text.as_slice(), out)?;
-    say(remark(job, text.as_slice()), err);
-    Ok(status)
+    match print_text(alloc, job, text.as_slice(), out) {
+        Ok(status) => {
+            say(remark(job, text.as_slice()), err);
+            Ok(status)
+        }
+        Err(fault) => Err(fault),
+    }
 }
 
 /// What is said of a file's text, though nothing failed.
