@@ -96,13 +96,13 @@ def verify_with_label(public, label, content, signature):
 # ---- AES-128-GCM
 
 
-def aead_seal(key, nonce, plaintext):
-    return AESGCM(key).encrypt(nonce, plaintext, b"")
+def aead_seal(key, nonce, plaintext, additional=b""):
+    return AESGCM(key).encrypt(nonce, plaintext, additional)
 
 
-def aead_open(key, nonce, ciphertext):
+def aead_open(key, nonce, ciphertext, additional=b""):
     try:
-        return AESGCM(key).decrypt(nonce, ciphertext, b"")
+        return AESGCM(key).decrypt(nonce, ciphertext, additional)
     except (InvalidTag, ValueError):
         raise Refused("a ciphertext doesn't open") from None
 

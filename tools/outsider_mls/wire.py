@@ -424,9 +424,9 @@ class FramedContent:
             body = uint(1, COMMIT if isinstance(self.body, Commit) else PROPOSAL) + self.body.write()
         return head + opaque(self.authenticated_data) + body
 
-    def signed_input(self, context):
+    def signed_input(self, context, wire_format=PUBLIC_MESSAGE):
         """FramedContentTBS, under the GroupContext of the epoch that the content is sent in."""
-        return uint(2, MLS10) + uint(2, PUBLIC_MESSAGE) + self.write() + context.write()
+        return uint(2, MLS10) + uint(2, wire_format) + self.write() + context.write()
 
     @staticmethod
     def read(reader):

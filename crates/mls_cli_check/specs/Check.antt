@@ -127,7 +127,7 @@ check_page_on c spelled (Ok group) = check_text c spelled group
 check_page_on c spelled (Err n) = refused n
 
 -- what is printed of the bytes of a file, if it has some; a file without bytes, since it is no hex text, is refused with 8
-abbrev pub page_of_bytes : (List ℕ → Page Entry) → Option (List ℕ) → Page Entry
+abbrev pub page_of_bytes : {E : Type 0} → (List ℕ → Page E) → Option (List ℕ) → Page E
 page_of_bytes page None = refused 8
 page_of_bytes page (Some spelled) = page spelled
 

@@ -41,7 +41,7 @@ fn group_info_of(message: MlsMessage) -> Result<GroupInfo, CheckError>
 
 /// Reads the GroupInfo that the bytes spell: refused with the fault of decoding (2 to 7, 11 to 14), and else with
 /// `WrongMessageKind` (95).
-fn group_info_in(alloc: Global, bytes: &[u8]) -> Result<GroupInfo, CheckError>
+pub(crate) fn group_info_in(alloc: Global, bytes: &[u8]) -> Result<GroupInfo, CheckError>
     ensures info { Answers (λ info. info) number_of (group_info_in bytes.now) result }
     // Bytes that spell no message are refused whatever memory there is.
     ensures outright { RefusesMessage bytes.now result }
@@ -64,7 +64,7 @@ fn tree_of(nodes: &RatchetTree) -> Result<PublicTree, CheckError>
 
 /// The tree of a GroupInfo: `NoTree` (76), `TreeShape` (20), `TreeFull` (21).
 #[tactic(auto, unfolding(crate::specs::GroupInfo::sent_tree))]
-fn sent_tree(info: &GroupInfo) -> Result<PublicTree, CheckError>
+pub(crate) fn sent_tree(info: &GroupInfo) -> Result<PublicTree, CheckError>
     requires { IsShort group_info info.now }
     ensures tree { Answers term number_of (sent_tree info.now) result }
     ensures short { IfOk result (λ tree. HasShortLeaves (term tree)) }

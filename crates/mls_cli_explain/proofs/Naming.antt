@@ -1,8 +1,7 @@
 -- The names of refusals, looked at one by one.
 use Rattle.std.proofs.Common.{◌≡◌, ◌∙◌, ◌<◌, ◌≤◌, ◌+◌, ◌-◌, ℕ, zero, suc, Bool, true, false, List, Option, Some, None, refl, ap, sym, arith}
 use Rattle.std.specs.Str.{bytes_eq}
-use Rattle.mls_wire.specs.Names.{refusal_name}
-use Rattle.mls_cli_explain.specs.Explain.{end_of_numbers, named, named_from}
+use Rattle.mls_cli_explain.specs.Explain.{name_told, end_of_numbers, named, named_from}
 
 -- those before number k have other names
 abbrev pub LeftFrom : List ℕ → ℕ → Type 0
@@ -12,20 +11,20 @@ none_left : (k : ℕ) (name : List ℕ) → named_from zero k name ≡ None
 unfolding named_from
 none_left k name = refl
 
-hit : (n k : ℕ) (name : List ℕ) → bytes_eq name (refusal_name k) ≡ true → named_from (suc n) k name ≡ Some k
+hit : (n k : ℕ) (name : List ℕ) → bytes_eq name (name_told k) ≡ true → named_from (suc n) k name ≡ Some k
 unfolding named_from
 hit n k name e = rw e refl
 
-miss : (n k : ℕ) (name : List ℕ) → bytes_eq name (refusal_name k) ≡ false → named_from (suc n) k name ≡ named_from n (k + 1) name
+miss : (n k : ℕ) (name : List ℕ) → bytes_eq name (name_told k) ≡ false → named_from (suc n) k name ≡ named_from n (k + 1) name
 unfolding named_from
 miss n k name e = rw e refl
 
-pub here : (name : List ℕ) (k : ℕ) → k < end_of_numbers → bytes_eq name (refusal_name k) ≡ true → LeftFrom name k → named name ≡ Some k
+pub here : (name : List ℕ) (k : ℕ) → k < end_of_numbers → bytes_eq name (name_told k) ≡ true → LeftFrom name k → named name ≡ Some k
 here name k lt e so =
     let more : end_of_numbers - k ≡ suc (end_of_numbers - (k + 1)) = omega arith in
     so ∙ ap (λ (n : ℕ). named_from n k name) more ∙ hit (end_of_numbers - (k + 1)) k name e
 
-pub further : (name : List ℕ) (k : ℕ) → k < end_of_numbers → bytes_eq name (refusal_name k) ≡ false → LeftFrom name k → LeftFrom name (k + 1)
+pub further : (name : List ℕ) (k : ℕ) → k < end_of_numbers → bytes_eq name (name_told k) ≡ false → LeftFrom name k → LeftFrom name (k + 1)
 further name k lt e so =
     let more : end_of_numbers - k ≡ suc (end_of_numbers - (k + 1)) = omega arith in
     so ∙ ap (λ (n : ℕ). named_from n k name) more ∙ miss (end_of_numbers - (k + 1)) k name e

@@ -147,6 +147,34 @@ about_worlds =
     ∷ (95, told (codes "another kind of message") (codes "the bytes are a message of the kind that the event takes") (codes "give the message of a KeyPackage to propose_add, of a proposal to a ref"))
     ∷ []
 
+-- refusals of application messages, with their names
+abbrev pub names_of_application_messages : List (ℕ × List ℕ)
+names_of_application_messages =
+    (110, codes "RatchetSpent")
+    ∷ (111, codes "OtherGroup")
+    ∷ (112, codes "OtherEpoch")
+    ∷ (113, codes "SenderDataUnreadable")
+    ∷ (114, codes "SenderWithoutLeaf")
+    ∷ (115, codes "GenerationTooFar")
+    ∷ (116, codes "KeyUsed")
+    ∷ (117, codes "ContentUnreadable")
+    ∷ (118, codes "PaddingNotZero")
+    ∷ (119, codes "BadMessageSignature") ∷ []
+
+abbrev pub about_application_messages : List (ℕ × Told)
+about_application_messages =
+    (110, told (codes "no generation is left") (codes "the sender hasn't sent its generation 2^32 - 1 (RFC 9420, 9.1)") (codes "commit, and seal in the next epoch"))
+    ∷ (111, told (codes "a message of another group") (codes "the message has the group's id") (codes "open the message in its own group"))
+    ∷ (112, told (codes "a message of another epoch") (codes "the message is of the conversation's epoch") (codes "open the message with the conversation of its epoch"))
+    ∷ (113, told (codes "the sender data can't be read") (codes "the sender data open, and are a leaf, a generation and a reuse guard (RFC 9420, 6.3.2)") (codes "the receiver drops the message"))
+    ∷ (114, told (codes "the sender has no leaf") (codes "a member is at the sender's leaf (RFC 9420, 6.3.2)") (codes "the receiver drops the message"))
+    ∷ (115, told (codes "the generation is too far ahead") (codes "at most 1000 generations of the sender's ratchet are passed over") (codes "open the messages between first"))
+    ∷ (116, told (codes "the key was used") (codes "the generation's key wasn't used, and lies at most 1000 generations before the last one that was") (codes "open each message once, and none long after later ones"))
+    ∷ (117, told (codes "the content doesn't open") (codes "the content opens under the key of its generation (RFC 9420, 6.3.1)") (codes "the receiver drops the message"))
+    ∷ (118, told (codes "the padding isn't zero") (codes "each byte of the padding is 0 (RFC 9420, 6.3.1)") (codes "the receiver drops the message; the sender pads with zeros"))
+    ∷ (119, told (codes "the message's signature doesn't verify") (codes "the content is signed by the sender's leaf (RFC 9420, 6.1)") (codes "the receiver drops the message; the sender signs with the key of its leaf"))
+    ∷ []
+
 -- each number is looked for in the table of its range
 abbrev pub explanation : ℕ → Option Told
 explanation n =
@@ -161,7 +189,8 @@ explanation n =
     else if nat_lt n 70 then found_in about_epochs n
     else if nat_lt n 76 then found_in about_welcomes n
     else if nat_lt n 90 then found_in about_joined_groups n
-    else found_in about_worlds n
+    else if nat_lt n 110 then found_in about_worlds n
+    else found_in about_application_messages n
 
 -- of the code's value
 abbrev pub explanation_view : code.Explanation → Told

@@ -2,16 +2,27 @@
 
 ghost use Rattle.std.specs.Prelude.{◌≡◌, option_map};
 ghost use Rattle.mls_cli_text.specs.Page.{MakesPage};
-ghost use Rattle.mls_cli_explain.specs.Explain.{named, told_by, told_by_number, told_page};
+ghost use Rattle.mls_cli_explain.specs.Explain.{named, name_told, told_by, told_by_number, told_page};
 ghost use Rattle.mls_cli_explain.specs.Explanations.{explanation_view};
 
+use crate::application_messages::name_of_application_message;
 use crate::explanations::{Explanation, explanation_of};
 use mls_cli_text::{Ending, Field, Line, Page, line_of};
 use mls_wire::refusal_name;
 use std::alloc::{AllocError, Global};
 
 /// The numbers of refusals are below this.
-const END_OF_NUMBERS: u8 = 96;
+const END_OF_NUMBERS: u8 = 120;
+
+/// The name of the refusal with this number, or nothing where no refusal has it.
+fn name_told(number: u8) -> &'static str
+    ensures { result.now ≡ name_told number }
+{
+    match number {
+        0..=109 => refusal_name(number),
+        _ => name_of_application_message(number),
+    }
+}
 
 /// The number of the refusal with this name, or None where none has it.
 #[tactic(auto, unfolding(crate::specs::Explain::named_from))]
@@ -19,7 +30,7 @@ fn named(name: &str) -> Option<u8>
     ensures { result ≡ named name.now }
 {
     for number in 0..END_OF_NUMBERS {
-        if name == refusal_name(number) {
+        if name == name_told(number) {
             return Some(number);
         }
     }
@@ -58,7 +69,7 @@ pub fn told_page(alloc: Global, number: u8, told: &Explanation) -> Result<Page<L
 {
     Ok(Page {
         lines: vec![in alloc;
-            line_of("refusal", Field::Refusal(number)),
+            line_of("refusal", Field::Named(number, name_told(number))),
             line_of("text", Field::Word(told.sentence)),
             line_of("check", Field::Word(told.check)),
             line_of("advice", Field::Word(told.advice)),

@@ -3,6 +3,8 @@
 ghost use Rattle.std.specs.Prelude.{◌≡◌, Some, option_map};
 ghost use Rattle.mls_cli_explain.specs.Explanations.{explanation, explanation_view, found_in, told, about_bytes, about_commits, about_epochs, about_joined_groups, about_key_packages, about_messages, about_paths, about_references, about_texts, about_trees, about_welcomes, about_worlds};
 
+use crate::application_messages::about_application_messages;
+
 /// What is told of a refusal.
 #[derive(Clone, Copy, Debug, PartialEq, Eq)]
 pub struct Explanation {
@@ -14,7 +16,12 @@ pub struct Explanation {
     pub advice: &'static str,
 }
 
-fn told(sentence: &'static str, check: &'static str, advice: &'static str) -> Option<Explanation>
+/// What is told by these texts.
+pub fn told(
+    sentence: &'static str,
+    check: &'static str,
+    advice: &'static str,
+) -> Option<Explanation>
     ensures { option_map explanation_view result
         ≡ Some (told sentence.entry.now check.entry.now advice.entry.now) }
 {
@@ -41,7 +48,8 @@ pub fn explanation_of(number: u8) -> Option<Explanation>
         66..=69 => about_epochs(number),
         70..=75 => about_welcomes(number),
         76..=89 => about_joined_groups(number),
-        _ => about_worlds(number),
+        90..=109 => about_worlds(number),
+        _ => about_application_messages(number),
     }
 }
 

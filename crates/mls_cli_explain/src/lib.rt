@@ -1,6 +1,7 @@
 //! What `mls --explain` tells of a refusal.
 #![tactic(auto)]
 
+mod application_messages;
 mod explain;
 mod explanations;
 

@@ -11,7 +11,7 @@ use Rattle.mls_cli_text.specs.declared.text.Line.{Line}
 use Rattle.mls_cli_text.specs.declared.text.Prefix.{Prefix}
 
 -- what stands behind a name: bytes, a list of uint16, a uint16 in hex, a number, a list of numbers, a word,
--- a refusal, by its number, or an extension, by its type and its data
+-- a refusal, by its number, a number with a name, or an extension, by its type and its data
 pub data Shown : Type 0 where
   bytes : List ℕ → Shown
   numbers : List ℕ → Shown
@@ -20,6 +20,7 @@ pub data Shown : Type 0 where
   indexes : List ℕ → Shown
   word : List ℕ → Shown
   refusal : ℕ → Shown
+  named : ℕ → List ℕ → Shown
   extension : ℕ → List ℕ → Shown
 
 -- a line: its name, and what stands behind it
@@ -76,6 +77,7 @@ shown_text (number n) = decimal n
 shown_text (indexes ns) = indexes_text ns
 shown_text (word w) = w
 shown_text (refusal n) = refusal_text n
+shown_text (named n name) = number_with_name n name
 shown_text (extension kind content) = extension_text kind content
 
 -- a name, a colon and a space, what stands behind, and a line feed
@@ -92,6 +94,7 @@ shown_by (field.Number n) = number n
 shown_by (field.Indexes ns) = indexes ns.items
 shown_by (field.Word w) = word w.now
 shown_by (field.Refusal n) = refusal n
+shown_by (field.Named n name) = named n name.now
 shown_by (field.Extension kind content) = extension kind content
 
 -- the prefix of an item: a word, and the item's number with a dot behind it

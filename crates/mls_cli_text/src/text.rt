@@ -28,6 +28,8 @@ pub enum Field {
     Word(&'static str),
     /// A refusal's number in decimal, a space, and its name.
     Refusal(u8),
+    /// A number in decimal, a space, and the name that it is given.
+    Named(u8, &'static str),
     /// An extension's type in four hex digits, a space, and its data in hex digits, `-` where there are none.
     Extension(u16, Bytes),
 }
@@ -158,6 +160,7 @@ fn push_field(alloc: Global, text: &mut Vec<u8>, field: &Field) -> Result<(), Al
         Field::Indexes(numbers) => push_indexes(alloc, text, numbers.as_slice()),
         Field::Word(word) => text.extend_from_slice(word.as_bytes()),
         Field::Refusal(number) => push_refusal(alloc, text, *number),
+        Field::Named(number, name) => push_named(alloc, text, *number, name),
         Field::Extension(kind, content) => push_extension(alloc, text, *kind, content.as_slice()),
     }
 }

@@ -17,6 +17,7 @@ mod extended;
 mod group;
 mod page;
 mod scenario;
+mod talk;
 mod trial;
 mod worlds;
 

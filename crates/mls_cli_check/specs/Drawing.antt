@@ -1,0 +1,33 @@
+-- What `mls check --draw` prints.
+use Rattle.std.specs.Prelude.{ℕ, List, Option, Result, Ok, Err}
+use Rattle.mls_wire.specs.Reading.{◌>>=◌}
+use Rattle.mls_tree_model.specs.Term.{Term}
+use Rattle.mls_cli_text.specs.Form.{bytes_of_file}
+use Rattle.mls_cli_text.specs.Page.{Page, refused}
+use Rattle.mls_cli_text.specs.declared.form.Form.{Form}
+use Rattle.mls_cli_draw.specs.Picture.{picture}
+use Rattle.mls_cli_check.specs.Check.{page_of_bytes, tree_in}
+use Rattle.mls_cli_check.specs.GroupInfo.{group_info_in, sent_tree}
+use Rattle.mls_cli_check.specs.declared.drawing.TreeSource.{TreeSource}
+use Rattle.mls_cli_check.specs.declared.drawing.TreeSource.TheVariants as source
+
+-- the tree of the GroupInfo that the bytes spell (RFC 9420, 12.4.3.3), or the number of the first fault
+unfoldable pub info_tree_in : List ℕ → Result Term ℕ
+info_tree_in spelled = group_info_in spelled >>= sent_tree
+
+-- the tree that the bytes have
+abbrev pub tree_from : TreeSource → List ℕ → Result Term ℕ
+tree_from source.Tree spelled = tree_in spelled
+tree_from source.GroupInfo spelled = info_tree_in spelled
+
+-- its picture, or the refusal
+abbrev pub picture_on : Option ℕ → Result Term ℕ → Page (List ℕ)
+picture_on columns (Ok t) = picture columns t
+picture_on columns (Err n) = refused n
+
+abbrev pub picture_from : TreeSource → Option ℕ → List ℕ → Page (List ℕ)
+picture_from source columns spelled = picture_on columns (tree_from source spelled)
+
+-- what is printed of a file's text
+abbrev pub draw_page : TreeSource → Option ℕ → Form → List ℕ → Page (List ℕ)
+draw_page source columns form text = page_of_bytes (picture_from source columns) (bytes_of_file form text)

@@ -1,0 +1,98 @@
+//! Pictures of the trees that files have.
+
+ghost use Rattle.std.specs.Prelude.{◌≡◌, ◌≢◌, IfOk, IsOk, None};
+ghost use Rattle.mls_wire.specs.Checks.{Answers};
+ghost use Rattle.mls_tree.specs.Tree.{term};
+ghost use Rattle.mls_cli_text.specs.Form.{bytes_of_file};
+ghost use Rattle.mls_cli_text.specs.Page.{refused};
+ghost use Rattle.mls_cli_draw.specs.Picture.{DrawsPage};
+ghost use Rattle.mls_cli_check.specs.CheckFaults.{number_of};
+ghost use Rattle.mls_cli_check.specs.Drawing.{draw_page, info_tree_in, picture_from, picture_on, tree_from};
+
+use crate::check_error::CheckError;
+use crate::group_info::{group_info_in, sent_tree};
+use crate::tree::tree_in;
+use mls_cli_draw::{Row, picture};
+use mls_cli_text::{FileError, Form, Page, file_bytes, refused_page};
+use mls_tree::PublicTree;
+use std::alloc::{AllocError, Global};
+
+/// What a file has whose tree is drawn.
+#[derive(Clone, Copy, Debug, PartialEq, Eq)]
+pub enum TreeSource {
+    /// A ratchet tree.
+    Tree,
+    /// A GroupInfo message with its ratchet tree.
+    GroupInfo,
+}
+
+/// Reads the tree of the GroupInfo that the bytes spell: refused with the fault of decoding (2 to 7, 11 to 14),
+/// `WrongMessageKind` (95), `NoTree` (76), `TreeShape` (20) and `TreeFull` (21).
+#[tactic(auto, unfolding(crate::specs::Drawing::info_tree_in))]
+fn info_tree_in(alloc: Global, bytes: &[u8]) -> Result<PublicTree, CheckError>
+    ensures { Answers term number_of (info_tree_in bytes.now) result }
+{
+    match group_info_in(alloc, bytes) {
+        Ok(info) => sent_tree(&info),
+        Err(error) => Err(error),
+    }
+}
+
+/// Reads the tree that the bytes have.
+fn tree_from(alloc: Global, source: TreeSource, bytes: &[u8]) -> Result<PublicTree, CheckError>
+    ensures { Answers term number_of (tree_from source bytes.now) result }
+{
+    match source {
+        TreeSource::Tree => tree_in(alloc, bytes),
+        TreeSource::GroupInfo => info_tree_in(alloc, bytes),
+    }
+}
+
+/// The page of a refusal; where it is want of memory, that.
+fn refused_picture(alloc: Global, error: CheckError) -> Result<Page<Row>, AllocError>
+    ensures memory { IfOk result (λ _. number_of error ≢ 1) }
+    ensures page { DrawsPage result (refused (number_of error)) }
+{
+    if error.is_memory() {
+        return Err(AllocError);
+    }
+    Ok(refused_page(alloc, error.number()))
+}
+
+/// The picture of the tree that the bytes have, or its refusal.
+fn picture_from(
+    alloc: Global,
+    source: TreeSource,
+    columns: Option<usize>,
+    bytes: &[u8],
+) -> Result<Page<Row>, AllocError>
+    ensures { DrawsPage result (picture_from source columns bytes.now) }
+{
+    match tree_from(alloc, source, bytes) {
+        Ok(tree) => picture(alloc, &tree, columns),
+        Err(error) => refused_picture(alloc, error),
+    }
+}
+
+/// What is printed of a file's text: the picture of the tree that the file has, each row cut to as many columns as are
+/// given, or the refusal of the file (`NotHex` (8)), even when an allocation fails, then that of decoding (2 to 7, 11
+/// to 14), `WrongMessageKind` (95) and `NoTree` (76) of a GroupInfo, `TreeShape` (20) and `TreeFull` (21).
+pub fn draw_page(
+    alloc: Global,
+    source: TreeSource,
+    columns: Option<usize>,
+    form: Form,
+    text: &[u8],
+) -> Result<Page<Row>, AllocError>
+    ensures page { DrawsPage result (draw_page source columns form text.now) }
+    ensures not_hex { bytes_of_file form text.now ≡ None → IsOk result }
+{
+    match form {
+        Form::Raw => picture_from(alloc, source, columns, text),
+        Form::Hex => match file_bytes(alloc, text) {
+            Ok(bytes) => picture_from(alloc, source, columns, bytes.as_slice()),
+            Err(FileError::NotHex) => Ok(refused_page(alloc, 8)),
+            Err(FileError::OutOfMemory) => Err(AllocError),
+        },
+    }
+}

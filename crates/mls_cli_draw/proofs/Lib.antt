@@ -1,0 +1,2 @@
+mod Stems
+mod Drawn

@@ -1,0 +1,3 @@
+pub mod Picture
+pub mod RowLaws
+pub mod Stems
