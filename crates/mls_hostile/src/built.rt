@@ -1,10 +1,10 @@
 //! Groups whose trees are built of their leaves, and not grown by commits: each is a Welcome that was made by hand.
 //! Large values are given to `drop` where they aren't needed any more.
 
-use crate::pieces::{check_limit, joined};
+use crate::pieces::check_limit;
 use anyhow::{Result, bail};
 use mls_kdf::{Secret, Seed, hash};
-use mls_leaf::{Bytes, Codec, GroupExtensions, INPUT_LIMIT, Items, Node, key_package_reference};
+use mls_leaf::{Bytes, Codec, GroupExtensions, Items, Node, key_package_reference};
 use mls_model::Item;
 use mls_schedule::Epoch;
 use mls_suite::{Glass, Suite, encrypt_with_label, sign_with_label};
@@ -27,8 +27,6 @@ const CONFIRMED: Secret = [6; 32];
 const SEAL: Seed = [7; 32];
 /// The leaf of the member who signs the GroupInfo.
 const SIGNER: u32 = 1;
-/// How many blank nodes a Welcome has room for: what stands beside them has less than 1,024 bytes.
-const BLANK_NODES: usize = INPUT_LIMIT - 1024;
 
 /// A candidate, named by its number, none of whose keys is another's.
 fn candidate(alloc: Global, number: u32) -> Result<Box<Candidate<Glass>>> {
@@ -213,35 +211,6 @@ pub fn run(rt: &impl Print, alloc: Global) -> Result<()> {
 pub fn try_large_tree(alloc: Global) -> Result<u8> {
     let nodes = blank_nodes(alloc, 2 * MAX_LEAVES + 1)?;
     let info = group_info(alloc, &CONFIRMED, nodes)?;
-    let first = candidate(alloc, 0)?;
-    let bytes = welcome(alloc, &first, &info)?;
-    match Member::join(alloc, &first, &bytes) {
-        Ok(_) => Ok(0),
-        Err(error) => Ok(error.number()),
-    }
-}
-
-/// The ratchet_tree extension (RFC 9420, 12.4.3.3) of so many blank nodes, each of which is a zero.
-fn blank_tree(alloc: Global, count: usize) -> Result<Vec<u8>> {
-    let nodes = Bytes::from_vec(vec![in alloc; 0; count]?).encode(alloc)?;
-    let content = Bytes::from_vec(nodes).encode(alloc)?;
-    joined(alloc, &[&[0, 2], &content])
-}
-
-/// The bytes of a GroupInfo with this extension, without its signature; the tree hash is none of it.
-fn info_with(alloc: Global, extension: Vec<u8>) -> Result<Vec<u8>> {
-    let context = context(alloc, &CONFIRMED)?.encode(alloc)?;
-    let extensions = Bytes::from_vec(extension).encode(alloc)?;
-    let signer = SIGNER.to_be_bytes();
-    joined(
-        alloc,
-        &[&context, &extensions, &[32], &CONFIRMED, &signer, &[0]],
-    )
-}
-
-/// What a Welcome is answered whose tree is as many blank nodes as it has room for.
-pub fn try_blank_tree(alloc: Global) -> Result<u8> {
-    let info = info_with(alloc, blank_tree(alloc, BLANK_NODES)?)?;
     let first = candidate(alloc, 0)?;
     let bytes = welcome(alloc, &first, &info)?;
     match Member::join(alloc, &first, &bytes) {

@@ -1,7 +1,7 @@
 //! The part that is fixed: each message as it is to each state, some changes, and single wrong messages.
 
 use crate::acts::Act;
-use crate::built::{try_blank_tree, try_large_tree};
+use crate::built::try_large_tree;
 use crate::changes::{lengths, lowest_bits};
 use crate::checks::{answer_elsewhere, forged_answers, welcome_answers, wrong_adds};
 use crate::groups;
@@ -184,8 +184,6 @@ fn print_checks(rt: &impl Print, alloc: Global) -> Result<()> {
     )?;
     let number = try_large_tree(alloc)?;
     println!(rt; "a Welcome whose tree has a leaf too many: {number}")?;
-    let number = try_blank_tree(alloc)?;
-    println!(rt; "a Welcome whose tree is 64 MiB of blank nodes: {number}")?;
     Ok(())
 }
 

@@ -17,7 +17,6 @@ mod extended;
 mod group;
 mod page;
 mod scenario;
-mod talk;
 mod trial;
 mod worlds;
 

@@ -8,7 +8,6 @@ use crate::group::{
     Committed, Trio, Updated, additions, candidate, create_group, items_naming, reference_of,
     welcome_of,
 };
-use crate::talk::{try_converse, try_open, try_seal};
 use crate::trial::{try_call, try_join};
 use crate::worlds::try_run;
 use anyhow::Result;
@@ -44,18 +43,12 @@ pub(crate) enum Scenario {
     ProcessExtensions,
     /// The one who is added joins by that Welcome.
     JoinExtensions,
-    /// The second of three begins a conversation.
-    Converse,
-    /// The first of three seals a message.
-    Seal,
-    /// The third of three opens the third message of the first.
-    Open,
     /// The events of a creation, an add and a join.
     Run,
 }
 
 /// All scenarios.
-pub(crate) const SCENARIOS: [Scenario; 18] = [
+pub(crate) const SCENARIOS: [Scenario; 15] = [
     Scenario::CommitAdd,
     Scenario::CommitUpdate,
     Scenario::ProcessUpdate,
@@ -70,9 +63,6 @@ pub(crate) const SCENARIOS: [Scenario; 18] = [
     Scenario::CommitExtensions,
     Scenario::ProcessExtensions,
     Scenario::JoinExtensions,
-    Scenario::Converse,
-    Scenario::Seal,
-    Scenario::Open,
     Scenario::Run,
 ];
 
@@ -104,9 +94,6 @@ impl Scenario {
             Scenario::CommitExtensions => "commit-extensions",
             Scenario::ProcessExtensions => "process-extensions",
             Scenario::JoinExtensions => "join-extensions",
-            Scenario::Converse => "converse",
-            Scenario::Seal => "seal",
-            Scenario::Open => "open",
             Scenario::Run => "run",
         }
     }
@@ -129,9 +116,6 @@ impl Scenario {
             Scenario::CommitExtensions => commit_extensions(rt, alloc),
             Scenario::ProcessExtensions => process_extensions(rt, alloc),
             Scenario::JoinExtensions => join_extensions(rt, alloc),
-            Scenario::Converse => try_converse(rt, alloc),
-            Scenario::Seal => try_seal(rt, alloc),
-            Scenario::Open => try_open(rt, alloc),
             Scenario::Run => try_run(rt, alloc),
         }
     }

@@ -33,10 +33,7 @@ pub fn optional_secret_of(bytes: &Option<Bytes>) -> Result<Option<Secret>, LoadE
 }
 
 /// Keys, each of 32 bytes: `BadSecret` (101).
-fn each_secret_of(
-    alloc: Global,
-    saved: &[Option<Bytes>],
-) -> Result<Vec<Option<Secret>>, LoadError>
+fn each_secret_of(alloc: Global, saved: &[Option<Bytes>]) -> Result<Vec<Option<Secret>>, LoadError>
     ensures { Answers (λ v. v.items) number_of (each_secret_in saved.now) result }
 {
     let mut keys = Vec::new(alloc);
