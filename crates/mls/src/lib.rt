@@ -2,7 +2,7 @@
 //! take and answer (RFC 9420). The crates below have the code and its contracts.
 #![tactic(auto)]
 
-pub use mls_candidate::{Candidate, CandidateError};
+pub use mls_candidate::{Candidate, CandidateError, CandidateLoadError};
 pub use mls_conversation::{Conversation, ConversationError, ExchangeError, Opened};
 pub use mls_kdf::{Secret, Seed};
 pub use mls_leaf::{
