@@ -4,11 +4,15 @@ use Rattle.std.specs.Str.{bytes_eq}
 use Rattle.mls_wire.specs.Names.{name_in, refusal_name}
 use Rattle.mls_cli_text.specs.Page.{Page, good}
 use Rattle.mls_cli_text.specs.Text.{Entry, entry, named as number_named, word}
-use Rattle.mls_cli_explain.specs.Explanations.{Told, explanation, names_of_application_messages}
+use Rattle.mls_cli_explain.specs.Explanations.{Told, explanation, names_of_application_messages, names_of_saved_forms}
 
--- the name of a refusal, those of application messages among them; no bytes where no refusal has the number
+-- the name of a refusal, those of saved forms and of application messages among them; no bytes where no refusal has the
+-- number
 abbrev pub name_told : ℕ → List ℕ
-name_told n = if nat_lt n 110 then refusal_name n else name_in names_of_application_messages n
+name_told n =
+    if nat_lt n 100 then refusal_name n
+    else if nat_lt n 110 then name_in names_of_saved_forms n
+    else name_in names_of_application_messages n
 
 -- the first of so many numbers, from k on, that has this name
 unfoldable pub named_from : ℕ → ℕ → List ℕ → Option ℕ

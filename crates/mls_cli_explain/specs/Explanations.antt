@@ -147,6 +147,24 @@ about_worlds =
     ∷ (95, told (codes "another kind of message") (codes "the bytes are a message of the kind that the event takes") (codes "give the message of a KeyPackage to propose_add, of a proposal to a ref"))
     ∷ []
 
+-- refusals of saved forms, with their names
+abbrev pub names_of_saved_forms : List (ℕ × List ℕ)
+names_of_saved_forms =
+    (100, codes "OtherSuite")
+    ∷ (101, codes "BadSecret")
+    ∷ (102, codes "NotAMember")
+    ∷ (103, codes "BadTreeHash")
+    ∷ (104, codes "OtherKey") ∷ []
+
+abbrev pub about_saved_forms : List (ℕ × Told)
+about_saved_forms =
+    (100, told (codes "saved of another suite") (codes "what was saved is of the suite that it is loaded under") (codes "load it under its own suite"))
+    ∷ (101, told (codes "no saved secret") (codes "saved secrets and keys have 32 bytes, and no more keys are saved than a path has") (codes "load the bytes as they were saved"))
+    ∷ (102, told (codes "no member at the saved leaf") (codes "a member is at the leaf of the one that was saved") (codes "load the bytes as they were saved"))
+    ∷ (103, told (codes "a wrong hash of the saved tree") (codes "the tree's hash is that of the GroupContext") (codes "load the bytes as they were saved"))
+    ∷ (104, told (codes "a wrong saved key") (codes "each private key that is due is there, no other is, and each is that of its public key (RFC 9420, 7.1)") (codes "load the bytes as they were saved"))
+    ∷ []
+
 -- refusals of application messages, with their names
 abbrev pub names_of_application_messages : List (ℕ × List ℕ)
 names_of_application_messages =
@@ -189,7 +207,8 @@ explanation n =
     else if nat_lt n 70 then found_in about_epochs n
     else if nat_lt n 76 then found_in about_welcomes n
     else if nat_lt n 90 then found_in about_joined_groups n
-    else if nat_lt n 110 then found_in about_worlds n
+    else if nat_lt n 100 then found_in about_worlds n
+    else if nat_lt n 110 then found_in about_saved_forms n
     else found_in about_application_messages n
 
 -- of the code's value

@@ -7,6 +7,7 @@ ghost use Rattle.mls_cli_explain.specs.Explanations.{explanation_view};
 
 use crate::application_messages::name_of_application_message;
 use crate::explanations::{Explanation, explanation_of};
+use crate::saved_forms::name_of_saved_form;
 use mls_cli_text::{Ending, Field, Line, Page, line_of};
 use mls_wire::refusal_name;
 use std::alloc::{AllocError, Global};
@@ -19,7 +20,8 @@ fn name_told(number: u8) -> &'static str
     ensures { result.now ≡ name_told number }
 {
     match number {
-        0..=109 => refusal_name(number),
+        0..=99 => refusal_name(number),
+        100..=109 => name_of_saved_form(number),
         _ => name_of_application_message(number),
     }
 }

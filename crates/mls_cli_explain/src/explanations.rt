@@ -4,6 +4,7 @@ ghost use Rattle.std.specs.Prelude.{◌≡◌, Some, option_map};
 ghost use Rattle.mls_cli_explain.specs.Explanations.{explanation, explanation_view, found_in, told, about_bytes, about_commits, about_epochs, about_joined_groups, about_key_packages, about_messages, about_paths, about_references, about_texts, about_trees, about_welcomes, about_worlds};
 
 use crate::application_messages::about_application_messages;
+use crate::saved_forms::about_saved_forms;
 
 /// What is told of a refusal.
 #[derive(Clone, Copy, Debug, PartialEq, Eq)]
@@ -48,7 +49,8 @@ pub fn explanation_of(number: u8) -> Option<Explanation>
         66..=69 => about_epochs(number),
         70..=75 => about_welcomes(number),
         76..=89 => about_joined_groups(number),
-        90..=109 => about_worlds(number),
+        90..=99 => about_worlds(number),
+        100..=109 => about_saved_forms(number),
         _ => about_application_messages(number),
     }
 }

@@ -4,6 +4,7 @@
 mod application_messages;
 mod explain;
 mod explanations;
+mod saved_forms;
 
 pub use explain::{told_by, told_page};
 pub use explanations::{Explanation, explanation_of};
