@@ -1,5 +1,9 @@
-//! Candidates that are saved and loaded, and bytes of theirs that were changed, under the practice suite.
+//! Candidates and members that are saved and loaded, and saved bytes that were changed, under the practice suite.
 #![tactic(auto)]
 
 #[cfg(test)]
 mod candidates;
+#[cfg(test)]
+mod group;
+#[cfg(test)]
+mod members;
