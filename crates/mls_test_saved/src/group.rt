@@ -157,13 +157,23 @@ fn speak(alloc: Global, keeping: Keeping, group: Group, said: &mut Vec<u8>) -> R
     let mut group = deliver(alloc, keeping, keep_all(alloc, keeping, group)?, &update)?;
     let made = group.alice.commit_kept(true, &[8; 32])?.made;
     said.extend_from_slice(&made.commit)?;
-    let mut group = deliver(alloc, keeping, keep_all(alloc, keeping, group)?, &made.commit)?;
+    let mut group = deliver(
+        alloc,
+        keeping,
+        keep_all(alloc, keeping, group)?,
+        &made.commit,
+    )?;
     let removal = group.carol.propose_remove(1)?;
     said.extend_from_slice(&removal)?;
     let mut group = deliver(alloc, keeping, keep_all(alloc, keeping, group)?, &removal)?;
     let made = group.alice.commit_kept(true, &[9; 32])?.made;
     said.extend_from_slice(&made.commit)?;
-    deliver(alloc, keeping, keep_all(alloc, keeping, group)?, &made.commit)
+    deliver(
+        alloc,
+        keeping,
+        keep_all(alloc, keeping, group)?,
+        &made.commit,
+    )
 }
 
 /// What three members say, and then what each is saved as.
