@@ -2,4 +2,3 @@ mod Reaching
 mod Replying
 mod Ranging
 mod Calling
-pub mod Reloading

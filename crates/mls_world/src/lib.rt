@@ -4,7 +4,6 @@
 mod calls;
 mod history;
 mod ranges;
-mod reload;
 mod replies;
 mod world;
 
