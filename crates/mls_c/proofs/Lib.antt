@@ -1,0 +1,6 @@
+pub mod Apart
+pub mod CallRows
+pub mod Exits
+pub mod Loosened
+pub mod Named
+pub mod Rows

@@ -1,0 +1,85 @@
+-- Each name of a call is made of nothing. Assumes `Logic`.
+use Rattle.std.proofs.Common.{List, [], ◌∷◌, refl}
+use seplogic.Ra.Ura.{Ura}
+use mir.Val.{Val, of_list}
+use base.Logic.{ent, emp}
+use types.Logic.{Logic, sem}
+use types.Kit.{◌$◌, ◌∵◌, !, qed, fjoin, fpack, feq_i, done}
+use types.Match.{live}
+use denote.RattleType.{Valss, owns}
+use denote.Steps.{nothing}
+use denote.Enum.Row.{tagged_with}
+use denote.Enum.Enum.{form_of, in_a_row}
+use denote.Enum.Declared.{shape}
+use Rattle.mls_c.specs.declared.call.Call.TheVariants.{BytesLength, CandidateNew, CandidateKeyPackage, MemberCreate, MemberJoin, MemberEpoch, MemberGroupId, MemberProcess, MemberProposeAdd, MemberProposeUpdate, MemberCommitKept, MemberProposeRemove, MemberDropPending, MemberLeafIndex}
+use Rattle.mls_c.specs.contracts.call.Call as call
+
+pub made_BytesLength : {M : Type 1} {𝓤 : Ura M} (𝓛 : Logic 𝓤) → ent 𝓤 (emp 𝓤) (sem 𝓛 (call.the_row.own_val BytesLength (live 0 (of_list []) ∷ [])))
+made_BytesLength 𝓛 = let v : Val = live 0 (of_list []) in
+    qed 𝓛 [] ∵ nothing ! $ feq_i ! (List Val) [] [] refl $ fjoin ! $ fpack ! (Valss []) (in_a_row [] (owns [] tt) []) tt $ feq_i ! (List Val) (v ∷ []) (v ∷ []) refl $ fjoin ! $
+    fpack ! (List Val) (tagged_with (form_of (shape call.the_type)) (form_of (shape call.the_type)).payload (call.the_type.to BytesLength) (v ∷ [])) [] $ done !
+
+pub made_CandidateNew : {M : Type 1} {𝓤 : Ura M} (𝓛 : Logic 𝓤) → ent 𝓤 (emp 𝓤) (sem 𝓛 (call.the_row.own_val CandidateNew (live 1 (of_list []) ∷ [])))
+made_CandidateNew 𝓛 = let v : Val = live 1 (of_list []) in
+    qed 𝓛 [] ∵ nothing ! $ feq_i ! (List Val) [] [] refl $ fjoin ! $ fpack ! (Valss []) (in_a_row [] (owns [] tt) []) tt $ feq_i ! (List Val) (v ∷ []) (v ∷ []) refl $ fjoin ! $
+    fpack ! (List Val) (tagged_with (form_of (shape call.the_type)) (form_of (shape call.the_type)).payload (call.the_type.to CandidateNew) (v ∷ [])) [] $ done !
+
+pub made_CandidateKeyPackage : {M : Type 1} {𝓤 : Ura M} (𝓛 : Logic 𝓤) → ent 𝓤 (emp 𝓤) (sem 𝓛 (call.the_row.own_val CandidateKeyPackage (live 2 (of_list []) ∷ [])))
+made_CandidateKeyPackage 𝓛 = let v : Val = live 2 (of_list []) in
+    qed 𝓛 [] ∵ nothing ! $ feq_i ! (List Val) [] [] refl $ fjoin ! $ fpack ! (Valss []) (in_a_row [] (owns [] tt) []) tt $ feq_i ! (List Val) (v ∷ []) (v ∷ []) refl $ fjoin ! $
+    fpack ! (List Val) (tagged_with (form_of (shape call.the_type)) (form_of (shape call.the_type)).payload (call.the_type.to CandidateKeyPackage) (v ∷ [])) [] $ done !
+
+pub made_MemberCreate : {M : Type 1} {𝓤 : Ura M} (𝓛 : Logic 𝓤) → ent 𝓤 (emp 𝓤) (sem 𝓛 (call.the_row.own_val MemberCreate (live 3 (of_list []) ∷ [])))
+made_MemberCreate 𝓛 = let v : Val = live 3 (of_list []) in
+    qed 𝓛 [] ∵ nothing ! $ feq_i ! (List Val) [] [] refl $ fjoin ! $ fpack ! (Valss []) (in_a_row [] (owns [] tt) []) tt $ feq_i ! (List Val) (v ∷ []) (v ∷ []) refl $ fjoin ! $
+    fpack ! (List Val) (tagged_with (form_of (shape call.the_type)) (form_of (shape call.the_type)).payload (call.the_type.to MemberCreate) (v ∷ [])) [] $ done !
+
+pub made_MemberJoin : {M : Type 1} {𝓤 : Ura M} (𝓛 : Logic 𝓤) → ent 𝓤 (emp 𝓤) (sem 𝓛 (call.the_row.own_val MemberJoin (live 4 (of_list []) ∷ [])))
+made_MemberJoin 𝓛 = let v : Val = live 4 (of_list []) in
+    qed 𝓛 [] ∵ nothing ! $ feq_i ! (List Val) [] [] refl $ fjoin ! $ fpack ! (Valss []) (in_a_row [] (owns [] tt) []) tt $ feq_i ! (List Val) (v ∷ []) (v ∷ []) refl $ fjoin ! $
+    fpack ! (List Val) (tagged_with (form_of (shape call.the_type)) (form_of (shape call.the_type)).payload (call.the_type.to MemberJoin) (v ∷ [])) [] $ done !
+
+pub made_MemberEpoch : {M : Type 1} {𝓤 : Ura M} (𝓛 : Logic 𝓤) → ent 𝓤 (emp 𝓤) (sem 𝓛 (call.the_row.own_val MemberEpoch (live 5 (of_list []) ∷ [])))
+made_MemberEpoch 𝓛 = let v : Val = live 5 (of_list []) in
+    qed 𝓛 [] ∵ nothing ! $ feq_i ! (List Val) [] [] refl $ fjoin ! $ fpack ! (Valss []) (in_a_row [] (owns [] tt) []) tt $ feq_i ! (List Val) (v ∷ []) (v ∷ []) refl $ fjoin ! $
+    fpack ! (List Val) (tagged_with (form_of (shape call.the_type)) (form_of (shape call.the_type)).payload (call.the_type.to MemberEpoch) (v ∷ [])) [] $ done !
+
+pub made_MemberGroupId : {M : Type 1} {𝓤 : Ura M} (𝓛 : Logic 𝓤) → ent 𝓤 (emp 𝓤) (sem 𝓛 (call.the_row.own_val MemberGroupId (live 6 (of_list []) ∷ [])))
+made_MemberGroupId 𝓛 = let v : Val = live 6 (of_list []) in
+    qed 𝓛 [] ∵ nothing ! $ feq_i ! (List Val) [] [] refl $ fjoin ! $ fpack ! (Valss []) (in_a_row [] (owns [] tt) []) tt $ feq_i ! (List Val) (v ∷ []) (v ∷ []) refl $ fjoin ! $
+    fpack ! (List Val) (tagged_with (form_of (shape call.the_type)) (form_of (shape call.the_type)).payload (call.the_type.to MemberGroupId) (v ∷ [])) [] $ done !
+
+pub made_MemberProcess : {M : Type 1} {𝓤 : Ura M} (𝓛 : Logic 𝓤) → ent 𝓤 (emp 𝓤) (sem 𝓛 (call.the_row.own_val MemberProcess (live 7 (of_list []) ∷ [])))
+made_MemberProcess 𝓛 = let v : Val = live 7 (of_list []) in
+    qed 𝓛 [] ∵ nothing ! $ feq_i ! (List Val) [] [] refl $ fjoin ! $ fpack ! (Valss []) (in_a_row [] (owns [] tt) []) tt $ feq_i ! (List Val) (v ∷ []) (v ∷ []) refl $ fjoin ! $
+    fpack ! (List Val) (tagged_with (form_of (shape call.the_type)) (form_of (shape call.the_type)).payload (call.the_type.to MemberProcess) (v ∷ [])) [] $ done !
+
+pub made_MemberProposeAdd : {M : Type 1} {𝓤 : Ura M} (𝓛 : Logic 𝓤) → ent 𝓤 (emp 𝓤) (sem 𝓛 (call.the_row.own_val MemberProposeAdd (live 8 (of_list []) ∷ [])))
+made_MemberProposeAdd 𝓛 = let v : Val = live 8 (of_list []) in
+    qed 𝓛 [] ∵ nothing ! $ feq_i ! (List Val) [] [] refl $ fjoin ! $ fpack ! (Valss []) (in_a_row [] (owns [] tt) []) tt $ feq_i ! (List Val) (v ∷ []) (v ∷ []) refl $ fjoin ! $
+    fpack ! (List Val) (tagged_with (form_of (shape call.the_type)) (form_of (shape call.the_type)).payload (call.the_type.to MemberProposeAdd) (v ∷ [])) [] $ done !
+
+pub made_MemberProposeUpdate : {M : Type 1} {𝓤 : Ura M} (𝓛 : Logic 𝓤) → ent 𝓤 (emp 𝓤) (sem 𝓛 (call.the_row.own_val MemberProposeUpdate (live 9 (of_list []) ∷ [])))
+made_MemberProposeUpdate 𝓛 = let v : Val = live 9 (of_list []) in
+    qed 𝓛 [] ∵ nothing ! $ feq_i ! (List Val) [] [] refl $ fjoin ! $ fpack ! (Valss []) (in_a_row [] (owns [] tt) []) tt $ feq_i ! (List Val) (v ∷ []) (v ∷ []) refl $ fjoin ! $
+    fpack ! (List Val) (tagged_with (form_of (shape call.the_type)) (form_of (shape call.the_type)).payload (call.the_type.to MemberProposeUpdate) (v ∷ [])) [] $ done !
+
+pub made_MemberCommitKept : {M : Type 1} {𝓤 : Ura M} (𝓛 : Logic 𝓤) → ent 𝓤 (emp 𝓤) (sem 𝓛 (call.the_row.own_val MemberCommitKept (live 10 (of_list []) ∷ [])))
+made_MemberCommitKept 𝓛 = let v : Val = live 10 (of_list []) in
+    qed 𝓛 [] ∵ nothing ! $ feq_i ! (List Val) [] [] refl $ fjoin ! $ fpack ! (Valss []) (in_a_row [] (owns [] tt) []) tt $ feq_i ! (List Val) (v ∷ []) (v ∷ []) refl $ fjoin ! $
+    fpack ! (List Val) (tagged_with (form_of (shape call.the_type)) (form_of (shape call.the_type)).payload (call.the_type.to MemberCommitKept) (v ∷ [])) [] $ done !
+
+pub made_MemberProposeRemove : {M : Type 1} {𝓤 : Ura M} (𝓛 : Logic 𝓤) → ent 𝓤 (emp 𝓤) (sem 𝓛 (call.the_row.own_val MemberProposeRemove (live 11 (of_list []) ∷ [])))
+made_MemberProposeRemove 𝓛 = let v : Val = live 11 (of_list []) in
+    qed 𝓛 [] ∵ nothing ! $ feq_i ! (List Val) [] [] refl $ fjoin ! $ fpack ! (Valss []) (in_a_row [] (owns [] tt) []) tt $ feq_i ! (List Val) (v ∷ []) (v ∷ []) refl $ fjoin ! $
+    fpack ! (List Val) (tagged_with (form_of (shape call.the_type)) (form_of (shape call.the_type)).payload (call.the_type.to MemberProposeRemove) (v ∷ [])) [] $ done !
+
+pub made_MemberDropPending : {M : Type 1} {𝓤 : Ura M} (𝓛 : Logic 𝓤) → ent 𝓤 (emp 𝓤) (sem 𝓛 (call.the_row.own_val MemberDropPending (live 12 (of_list []) ∷ [])))
+made_MemberDropPending 𝓛 = let v : Val = live 12 (of_list []) in
+    qed 𝓛 [] ∵ nothing ! $ feq_i ! (List Val) [] [] refl $ fjoin ! $ fpack ! (Valss []) (in_a_row [] (owns [] tt) []) tt $ feq_i ! (List Val) (v ∷ []) (v ∷ []) refl $ fjoin ! $
+    fpack ! (List Val) (tagged_with (form_of (shape call.the_type)) (form_of (shape call.the_type)).payload (call.the_type.to MemberDropPending) (v ∷ [])) [] $ done !
+
+pub made_MemberLeafIndex : {M : Type 1} {𝓤 : Ura M} (𝓛 : Logic 𝓤) → ent 𝓤 (emp 𝓤) (sem 𝓛 (call.the_row.own_val MemberLeafIndex (live 13 (of_list []) ∷ [])))
+made_MemberLeafIndex 𝓛 = let v : Val = live 13 (of_list []) in
+    qed 𝓛 [] ∵ nothing ! $ feq_i ! (List Val) [] [] refl $ fjoin ! $ fpack ! (Valss []) (in_a_row [] (owns [] tt) []) tt $ feq_i ! (List Val) (v ∷ []) (v ∷ []) refl $ fjoin ! $
+    fpack ! (List Val) (tagged_with (form_of (shape call.the_type)) (form_of (shape call.the_type)).payload (call.the_type.to MemberLeafIndex) (v ∷ [])) [] $ done !

@@ -1,0 +1,7 @@
+pub mod Answers
+pub mod Calls
+pub mod Faults
+pub mod Given
+pub mod Loose
+pub mod Memory
+pub mod Shown
