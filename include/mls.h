@@ -36,6 +36,9 @@ uint32_t mls_free(void *handle);
 /* The length of bytes. */
 uint32_t mls_bytes_length(mls_bytes *bytes, uint64_t *length);
 
+/* The byte at an index of bytes, or 135 where there is none. */
+uint32_t mls_bytes_at(mls_bytes *bytes, uint64_t index, uint64_t *byte);
+
 /* Copies bytes into a buffer of their length; one of another length answers 135, and stays as it is. */
 uint32_t mls_bytes_copy(mls_bytes *bytes, uint8_t *buffer, size_t buffer_length);
 

@@ -11,7 +11,7 @@ use denote.Steps.{nothing}
 use denote.Enum.Row.{tagged_with}
 use denote.Enum.Enum.{form_of, in_a_row}
 use denote.Enum.Declared.{shape}
-use Rattle.mls_c.specs.declared.call.Call.TheVariants.{BytesLength, CandidateNew, CandidateKeyPackage, MemberCreate, MemberJoin, MemberEpoch, MemberGroupId, MemberProcess, MemberProposeAdd, MemberProposeUpdate, MemberCommitKept, MemberProposeRemove, MemberDropPending, MemberLeafIndex}
+use Rattle.mls_c.specs.declared.call.Call.TheVariants.{BytesLength, CandidateNew, CandidateKeyPackage, MemberCreate, MemberJoin, MemberEpoch, MemberGroupId, MemberProcess, MemberProposeAdd, MemberProposeUpdate, MemberCommitKept, MemberProposeRemove, MemberDropPending, MemberLeafIndex, BytesAt}
 use Rattle.mls_c.specs.contracts.call.Call as call
 
 pub made_BytesLength : {M : Type 1} {𝓤 : Ura M} (𝓛 : Logic 𝓤) → ent 𝓤 (emp 𝓤) (sem 𝓛 (call.the_row.own_val BytesLength (live 0 (of_list []) ∷ [])))
@@ -83,3 +83,8 @@ pub made_MemberLeafIndex : {M : Type 1} {𝓤 : Ura M} (𝓛 : Logic 𝓤) → e
 made_MemberLeafIndex 𝓛 = let v : Val = live 13 (of_list []) in
     qed 𝓛 [] ∵ nothing ! $ feq_i ! (List Val) [] [] refl $ fjoin ! $ fpack ! (Valss []) (in_a_row [] (owns [] tt) []) tt $ feq_i ! (List Val) (v ∷ []) (v ∷ []) refl $ fjoin ! $
     fpack ! (List Val) (tagged_with (form_of (shape call.the_type)) (form_of (shape call.the_type)).payload (call.the_type.to MemberLeafIndex) (v ∷ [])) [] $ done !
+
+pub made_BytesAt : {M : Type 1} {𝓤 : Ura M} (𝓛 : Logic 𝓤) → ent 𝓤 (emp 𝓤) (sem 𝓛 (call.the_row.own_val BytesAt (live 14 (of_list []) ∷ [])))
+made_BytesAt 𝓛 = let v : Val = live 14 (of_list []) in
+    qed 𝓛 [] ∵ nothing ! $ feq_i ! (List Val) [] [] refl $ fjoin ! $ fpack ! (Valss []) (in_a_row [] (owns [] tt) []) tt $ feq_i ! (List Val) (v ∷ []) (v ∷ []) refl $ fjoin ! $
+    fpack ! (List Val) (tagged_with (form_of (shape call.the_type)) (form_of (shape call.the_type)).payload (call.the_type.to BytesAt) (v ∷ [])) [] $ done !

@@ -1,5 +1,5 @@
 -- What each call of the library for C does: what it makes, with what its handle holds then.
-use Rattle.std.specs.Prelude.{◌≡◌, ℕ, Bool, List, length, Option, None, Some, option_map, Result, Ok, Err, MatchResult, if◌then◌else◌, nat_eq, nat_lt, not, is_some, ◌^◌}
+use Rattle.std.specs.Prelude.{◌≡◌, ℕ, Bool, List, length, Option, None, Some, option_map, Result, Ok, Err, MatchResult, if◌then◌else◌, nat_eq, nat_lt, not, get_or, is_some, ◌^◌}
 use Rattle.std.specs.Global.{Vec}
 use Rattle.mls_wire.specs.Checks.{DoesAs, Answers}
 use Rattle.mls_wire.specs.Reading.{◌>>=◌}
@@ -108,6 +108,11 @@ on_member held call = a_member held >>= λ m. call m >>= λ r. Ok (r.0, member r
 -- the length of bytes
 unfoldable pub bytes_length : Shown → Answer
 bytes_length held = some_bytes held >>= λ xs. Ok (tells (length xs), held)
+
+-- the byte at an index: 135 where there is none
+unfoldable pub bytes_at : Shown → ℕ → Answer
+bytes_at held index =
+    some_bytes held >>= λ xs. if nat_lt index (length xs) then Ok (tells (get_or xs index 0), held) else Err (number_of BufferLength)
 
 -- bytes that are copied into a buffer of just their length
 unfoldable pub copied_bytes : Shown → List ℕ → Result (List ℕ) ℕ

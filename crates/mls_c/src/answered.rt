@@ -42,5 +42,6 @@ pub(crate) fn answered(
         Call::MemberProposeRemove => members::member_propose_remove(alloc, held, number),
         Call::MemberDropPending => members::member_drop_pending(held),
         Call::MemberLeafIndex => candidates::member_leaf_index(held),
+        Call::BytesAt => candidates::bytes_at(held, number),
     }
 }

@@ -31,4 +31,6 @@ pub enum Call {
     MemberDropPending,
     /// The index of a member's leaf.
     MemberLeafIndex,
+    /// The byte at an index.
+    BytesAt,
 }

@@ -1,12 +1,13 @@
 //! Calls on bytes, and calls that make candidates and members.
 
 ghost use Rattle.std.specs.Prelude.{◌≡◌};
-ghost use Rattle.mls_c.specs.Calls.{Does, Makes, bytes_length, candidate_new, candidate_key_package, made_candidate, made_group, made_group_id, made_joined, made_package, member_create, member_epoch, member_group_id, member_join, member_leaf_index};
+ghost use Rattle.mls_c.specs.Calls.{Does, Makes, bytes_at, bytes_length, candidate_new, candidate_key_package, made_candidate, made_group, made_group_id, made_joined, made_package, member_create, member_epoch, member_group_id, member_join, member_leaf_index};
 ghost use Rattle.mls_c.specs.Given.{given_bytes};
 ghost use Rattle.mls_c.specs.Shown.{shown};
 ghost use Rattle.mls_c.specs.declared.held.Held.TheVariants.{Nothing};
 
 use crate::done::{Done, Fruit};
+use crate::error::MisuseError;
 use crate::given::{Given, OUT_OF_MEMORY};
 use crate::held::Held;
 use crate::make::{fill, number, room};
@@ -167,6 +168,26 @@ pub(crate) fn member_leaf_index(held: Held) -> Done
 {
     let outcome = match member_of(&held) {
         Ok(member) => Ok(number(member.leaf_index() as u64)),
+        Err(number) => Err(number),
+    };
+    Done { held, outcome }
+}
+
+/// The byte at an index, or `BufferLength` (135).
+#[tactic(auto, unfolding(crate::specs::Calls::bytes_at))]
+pub(crate) fn bytes_at(held: Held, index: u64) -> Done
+    ensures does { Does (bytes_at (shown held) index) (shown held) result }
+    ensures stays { held ≡ Nothing → result.held ≡ Nothing }
+{
+    let outcome = match bytes_of(&held) {
+        Ok(bytes) => {
+            let at = index as usize;
+            if at < bytes.len() {
+                Ok(number(bytes[at] as u64))
+            } else {
+                Err(MisuseError::BufferLength.number())
+            }
+        }
         Err(number) => Err(number),
     };
     Done { held, outcome }

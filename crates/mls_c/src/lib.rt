@@ -23,7 +23,7 @@ ghost use Rattle.mls_c.specs.Calls.{Copies};
 ghost use Rattle.mls_c.specs.Shown.{shown};
 ghost use Rattle.mls_c.specs.Memory.{Asked, asked_at, answered_at, freed_number, held_at, nowhere};
 ghost use Rattle.mls_c.specs.declared.held.Held.{Held};
-ghost use Rattle.mls_c.specs.declared.call.Call.TheVariants.{BytesLength, CandidateNew, CandidateKeyPackage, MemberCreate, MemberJoin, MemberEpoch, MemberGroupId, MemberProcess, MemberProposeAdd, MemberProposeUpdate, MemberCommitKept, MemberProposeRemove, MemberDropPending, MemberLeafIndex};
+ghost use Rattle.mls_c.specs.declared.call.Call.TheVariants.{BytesLength, BytesAt, CandidateNew, CandidateKeyPackage, MemberCreate, MemberJoin, MemberEpoch, MemberGroupId, MemberProcess, MemberProposeAdd, MemberProposeUpdate, MemberCommitKept, MemberProposeRemove, MemberDropPending, MemberLeafIndex};
 
 use call::Call;
 use copying::copy_bytes;
@@ -79,6 +79,35 @@ pub unsafe extern "C" fn mls_bytes_length(
         null_mut(),
         null_mut(),
         length,
+    )
+}
+
+/// The byte at an index of bytes, or `BufferLength` (135).
+#[unsafe(no_mangle)]
+pub unsafe extern "C" fn mls_bytes_at(
+    alloc: Global,
+    bytes: *mut Handle,
+    index: u64,
+    byte: *mut u64,
+) -> u32
+    ghost asked: { Asked }
+    requires* memory { sem 𝓛 (asked_at (record nowhere { handle = bytes; value = byte }) asked) }
+    ensures* memory { sem 𝓛 (answered_at BytesAt index (record nowhere { handle = bytes; value = byte }) asked result) }
+{
+    run(
+        alloc,
+        Call::BytesAt,
+        index,
+        bytes,
+        null(),
+        0,
+        null(),
+        0,
+        null(),
+        0,
+        null_mut(),
+        null_mut(),
+        byte,
     )
 }
 

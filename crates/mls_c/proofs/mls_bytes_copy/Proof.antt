@@ -8,8 +8,9 @@ use prog.Wp.{WpFn}
 use contract.Monad.{fact}
 use contract.Running.{tables}
 use types.Kit.{‵, raw, ◌⊛◌, some, later, ◌$◌, ◌∵◌, !, qed, by, move, drop, use1, split, split3, join, pick, await, fsplit, fjoin, feq_l}
-use types.Run.{enter, of_opd, no_more, and_then, returns}
-use types.ByLocal.{alloc_all, pass_all, free_all, look_at, get, sets, lands_as}
+use types.Run.{addr, from, hop, stop, fld, enter, of_opd, no_more, and_then, returns}
+use types.ByLocal.{look_in_at, alloc_all, pass_all, free_all, look_at, get, get_in, sets, lands_as}
+use types.Part.{agg, sub, whole}
 use denote.Builtin.{u8, u32}
 use denote.Exit.{yes}
 use denote.Plain.{uint_Lawful}
@@ -48,7 +49,7 @@ mls_bytes_copy_spec 𝓤 𝓛 𝓜 𝓡 wired =
     let y : W.Ghost = ((κs, qs, bounds, args, (ptr_val at ∷ [], (slice ∷ [], tt))), x) in
     let Outs = triple_of 𝓛 copies.signature (copies.spec 𝓛 𝓜.mem 𝓡.returns) in let z : Outs.Ghost = y in
     qed 𝓛 (raw (Outs.pre z) ∷ []) ∵ enter ! 𝓣.C 𝓣.Λ code.function (ptr_val at ∷ slice ∷ []) (W.post y) $ alloc_all ! (λ l. pass_all ! refl (ptr_ok, ((tt, (tt, (record { fits = count }, tt))), tt)) $
-    sets ! (of_opd ! (get ! refl)) refl (tt, (tt, (record { fits = count }, tt))) $
+    sets ! (addr ! (from ! (fld ! refl (hop ! (look_in_at ! 2 (sub ! 0 refl (whole !))) (stop !))))) refl (tt, tt) $ sets ! (agg ! (and_then ! (get ! refl) (and_then ! (get_in ! (fld ! refl (stop !)) (sub ! 1 refl (whole !))) (no_more !)))) refl (tt, (tt, (record { fits = count }, tt))) $
     calls_at ! (framed 𝓤 H 𝓜 𝓣) Outs (copies_thm.met 𝓤 𝓛 𝓜 𝓡 (code.calls-mls_c::copying::copy_bytes 𝓡.env wired)) z (and_then ! (get ! refl) (and_then ! (get ! refl) (no_more !))) (λ v.
     use1 𝓛 (later (some (λ (r : ℕ). ((‵ (flft κ q) ⊛ ‵ ftrue) ⊛ ‵ (u32.own_val r (v ∷ []))) ⊛ some (λ (ws : Lasts copies.ended (κ, tt) (at, (buf, tt))). ‵ (lasts copies.ended (κ, tt) (at, (buf, tt)) ws) ⊛ raw (fact 𝓤 (Copies (shown x) buf.now ws.1.0 r)) ⊛ ‵ (held_at at x))))) (id⊢ 𝓤 _) $
     await ! tt $ pick ! (λ r. split ! $ split ! $ move ! (1 ∷ []) $ typed u32 (uint_Lawful 𝓛 w32) ! r v (λ ok. lands_as ! refl refl ok.0 $ returns ! (look_at ! 0 refl) $ free_all ! refl $

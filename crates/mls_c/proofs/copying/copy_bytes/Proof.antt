@@ -8,9 +8,9 @@ use prog.Wp.{WpFn}
 use contract.Monad.{fact}
 use contract.Running.{tables}
 use types.Kit.{‵, raw, ◌⊛◌, some, later, ◌$◌, ◌∵◌, !, qed, by, move, keep, drop, use1, split, split3, join, pick, await, fsplit, fjoin, feq_l, rewrite}
-use types.Run.{enter, of_opd, stop, fld, no_more, and_then, returns}
-use types.ByLocal.{alloc_all, pass_all, free_all, look_at, get, get_in, sets, lands_as}
-use types.Part.{sub, whole}
+use types.Run.{addr, from, hop, enter, of_opd, stop, fld, no_more, and_then, returns}
+use types.ByLocal.{look_in_at, alloc_all, pass_all, free_all, look_at, get, get_in, sets, lands_as}
+use types.Part.{agg, sub, whole}
 use denote.Builtin.{unit, u8, u32}
 use denote.Exit.{yes}
 use denote.Laws.{Is, Typed}
@@ -81,7 +81,7 @@ copy_bytes_spec 𝓤 𝓛 𝓜 𝓡 wired =
     use1 𝓛 (raw (fact 𝓤 (h₀ ≡ x)) ⊛ raw (fact 𝓤 (IfNull at (x ≡ Nothing))) ⊛ ‵ (held_at at x₀)) (id⊢ 𝓤 _) $ split3 ! $ heard ! (h₀ ≡ x) (λ same. heard ! (IfNull at (x ≡ Nothing)) (λ was. move ! (1 ∷ []) $
     rewrite ! 0 (λ (k : Held). ‵ (R.own_val k (v₂ ∷ []))) same refl $ typed R (held_laws.the_row_laws.lawful 𝓛) ! x v₂ (λ ok₂. lands_as ! refl refl ok₂.0 $
     -- [the value; the handle; the buffer; the token]
-    sets ! (of_opd ! (get ! refl)) refl ok₂.0 $ sets ! (of_opd ! (get ! refl)) refl (tt, (tt, (record { fits = count }, tt))) $
+    sets ! (of_opd ! (get ! refl)) refl ok₂.0 $ sets ! (addr ! (from ! (fld ! refl (hop ! (look_in_at ! 2 (sub ! 0 refl (whole !))) (stop !))))) refl (tt, tt) $ sets ! (agg ! (and_then ! (get ! refl) (and_then ! (get_in ! (fld ! refl (stop !)) (sub ! 1 refl (whole !))) (no_more !)))) refl (tt, (tt, (record { fits = count }, tt))) $
     let Outs = triple_of 𝓛 out.signature (out.spec 𝓛 𝓜.mem 𝓡.returns) in
     let z₃ : Outs.Ghost = (((κ, tt), (q, tt), tt, (x, (buf, tt)), (v₂ ∷ [], (slice ∷ [], tt))), tt) in
     move ! (2 ∷ []) $ nothing ! $ move ! (1 ∷ 0 ∷ []) $ fjoin ! $ move ! (1 ∷ 0 ∷ []) $ fjoin ! $ nothing ! $ move ! (3 ∷ 0 ∷ []) $ join ! $ join ! $ nothing ! $ move ! (1 ∷ 0 ∷ []) $ join ! $ use1 𝓛 (raw (Outs.pre z₃)) (id⊢ 𝓤 _) $
