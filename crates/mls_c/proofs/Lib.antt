@@ -1,5 +1,6 @@
 pub mod Apart
 pub mod CallRows
+pub mod Decoded
 pub mod Exits
 pub mod Loosened
 pub mod Named

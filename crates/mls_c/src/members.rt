@@ -3,13 +3,14 @@
 ghost use Rattle.std.specs.Prelude.{◌≡◌, not, nat_eq};
 ghost use Rattle.mls_wire.specs.Checks.{Answers, AnswersOutright};
 ghost use Rattle.mls_c.specs.Calls.{Changes, Does, a_package, added, committed, effect_number, member_commit_kept, member_process, member_propose_add, member_propose_update, IsTwo, on_member, package_in, processed, updated, a_leaf, removed, member_propose_remove, dropped, member_drop_pending};
+ghost use Rattle.mls_model.specs.Messages.{decode_message};
 ghost use Rattle.mls_c.specs.Given.{given_bytes};
 ghost use Rattle.mls_c.specs.Shown.{fruits, shown};
 ghost use Rattle.mls_c.specs.declared.held.Held.TheVariants.{Nothing};
 
 use crate::done::{Done, Fruit};
 use crate::error::MisuseError;
-use crate::given::Given;
+use crate::given::{Given, OUT_OF_MEMORY};
 use crate::held::Held;
 use crate::make::{fill, number, room};
 use crate::taken::{given, seed_of, take_member};
@@ -178,20 +179,28 @@ pub(crate) fn member_commit_kept(alloc: Global, held: Held, path: u64, seed: &Gi
     }
 }
 
-/// The KeyPackage in bytes.
+/// The message that bytes spell.
+#[tactic(auto, using(crate::proofs::Decoded::not_decoded, crate::proofs::Decoded::decoded))]
+fn message_of(alloc: Global, bytes: &[u8]) -> Result<MlsMessage, u32>
+    ensures { Answers (λ m. m) (λ n. n) (decode_message bytes.now) result }
+{
+    match MlsMessage::decode(alloc, bytes) {
+        Ok(message) => Ok(message),
+        Err(error) => Err(error.number() as u32),
+    }
+}
+
+/// The KeyPackage in bytes. One that was decoded is short, so what refuses it then is memory alone.
 #[tactic(auto, unfolding(crate::specs::Calls::a_package))]
 fn package_of(alloc: Global, bytes: &Given) -> Result<ShortKeyPackage, u32>
     ensures { Answers (λ k. k) (λ n. n) (a_package (given_bytes bytes.now.bytes)) result }
 {
     let bytes = given(bytes)?;
-    let message = match MlsMessage::decode(alloc, bytes) {
-        Ok(message) => message,
-        Err(error) => return Err(error.number() as u32),
-    };
+    let message = message_of(alloc, bytes)?;
     let key_package = package_in(message)?;
     match ShortKeyPackage::new(alloc, key_package) {
         Ok(short) => Ok(short),
-        Err(error) => Err(error.number() as u32),
+        Err(_) => Err(OUT_OF_MEMORY),
     }
 }
 

@@ -97,7 +97,7 @@ put_handle_spec 𝓤 𝓛 𝓜 𝓡 wired =
     feq_i ! (List Val) (ptr_val p ∷ []) (ptr_val p ∷ []) refl $ move ! (2 ∷ 0 ∷ []) $ use2 𝓛 (‵ (lies_at RawPtr full_share s p)) (part_in 𝓛 RawPtr refl full_share p b o (ptr_val p)) $
     move ! (1 ∷ []) $ rewrite ! 0 (λ (made : Option Held). ‵ (loose_owns (ghosts.dealloc_token r.alloc) held.the_row p made)) is refl $ move ! (1 ∷ 0 ∷ []) $ fjoin ! $
     fpack ! (Ptr × Global) (λ k. fsep (lies_at RawPtr full_share s k.0) (loose_owns (ghosts.dealloc_token k.1) held.the_row k.0 (boxed x))) (p, r.alloc) $
-    feq_i ! (List Val) (vunit ∷ []) (vunit ∷ []) refl $ nothing ! $ nothing ! $ fjoin ! $ nothing ! $ fjoin ! $ nothing ! $ fjoin ! $ nothing ! $ by ! (leaves 𝓛 f.ended stayed c Z vunit tt (tt, (tt, (rest (Made.exit yes) x, tt))) (tt, (tt, (tt, tt)))))))))))
+    feq_i ! (List Val) (vunit ∷ []) (vunit ∷ []) refl $ nothing ! $ nothing ! $ fjoin ! $ nothing ! $ fjoin ! $ nothing ! $ fjoin ! $ nothing ! $ by ! (leaves 𝓛 f.ended stayed c Z vunit tt (tt, (tt, (rest (Made.exit yes) x, tt))) (tt, (tt, (tt, tt))))))))))))
     (let Z = y null_ptr in
     qed 𝓛 ((‵ ftrue ⊛ ‵ (owns (heap.the_row ∷ RawPtr ∷ Made ∷ []) (a, (null_ptr, (x, tt))) Z.0.4)) ∷ ‵ (room_if RawPtr null_ptr) ∷ []) ∵
     split ! $ drop ! $ fsplit ! $ drop ! $ fsplit ! $ drop ! $ fsplit ! $ keep ! (0 ∷ []) $
@@ -115,4 +115,4 @@ put_handle_spec 𝓤 𝓛 𝓜 𝓡 wired =
     sets ! (of_opd ! (unit_lit !)) refl (tt, tt) $
     returns_within ! (W.post Z) refl (look_at ! 0 refl) $ free_all ! refl $ drop ! $
     nothing ! $ feq_i ! (List Val) (vunit ∷ []) (vunit ∷ []) refl $ nothing ! $ nothing ! $ fjoin ! $ nothing ! $ fjoin ! $ nothing ! $ fjoin ! $ nothing ! $ by ! (leaves 𝓛 f.ended stayed c Z vunit tt (tt, (tt, (rest (Made.exit yes) x, tt))) (tt, (tt, (tt, tt))))))))
-    (λ t. absurd t))))))))
+    (λ t. absurd t)))))))
