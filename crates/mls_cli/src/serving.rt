@@ -145,10 +145,10 @@ fn read_file<I: Input>(alloc: Global, job: &Job<'_>, file: &mut I) -> Result<Vec
     ensures read { IfErr result (λ e. e ≢ Fault.Write) }
 {
     match job {
-        Job::Show { form, .. }
-        | Job::Check { form, .. }
-        | Job::CheckGroupInfo { form, .. }
-        | Job::Draw { form, .. } => file.read_front(alloc, form.file_limit() as u64 + 1),
+        Job::Show { form, .. } | Job::Check { form, .. } | Job::CheckGroupInfo { form, .. } => {
+            file.read_front(alloc, form.file_limit() as u64 + 1)
+        }
+        Job::Draw { form, .. } => file.read_front(alloc, form.file_limit() as u64 + 1),
         Job::Replay { .. } | Job::Vectors { .. } => file.read_all(alloc),
     }
 }
