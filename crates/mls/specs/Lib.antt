@@ -1,4 +1,5 @@
 pub use Rattle.mls_suite.specs.Crypto
+pub use Rattle.mls_refusal_kind.specs.RefusalKinds
 pub use Rattle.mls_model.specs.Agreement
 pub use Rattle.mls_model.specs.Candidate
 pub use Rattle.mls_model.specs.Make
@@ -12,5 +13,4 @@ pub use Rattle.mls_member.specs.GroupMembers
 pub use Rattle.mls_member.specs.Inspecting
 pub use Rattle.mls_member.specs.KeptProposals
 pub use Rattle.mls_member.specs.KeptTogether
-pub use Rattle.mls_member.specs.RefusalKinds
 pub use Rattle.mls_member.specs.ShortPackages

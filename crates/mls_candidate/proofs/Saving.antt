@@ -1,13 +1,11 @@
 -- Saved candidates are loaded as they were, and what is loaded is good.
-use Rattle.std.proofs.Common.{◌≡◌, ℕ, ◌+◌, ◌≤◌, ◌^◌, ◌==◌, Bool, true, false, List, ◌++◌, length, Result, Ok, Err, refl, ap, sym, ◌∙◌, subst, arith, inl, inr, eq-eqb, lt-ltb}
+use Rattle.std.proofs.Common.{◌≡◌, ℕ, ◌+◌, ◌≤◌, ◌^◌, ◌==◌, Bool, true, false, List, ◌++◌, length, Ok, refl, ap, sym, subst, arith, eq-eqb}
 use Rattle.std.specs.Int.{w16}
 use Rattle.std.specs.Str.{bytes_eq}
-use Rattle.std.proofs.lemmas.Bool.{cases_lt, cond-true}
 use Rattle.std.proofs.lemmas.List.{length-append}
 use Rattle.std.proofs.lemmas.Slice.Eq.{bytes_eq-Decides}
 use Rattle.mls_wire.proofs.CheckLaws.{bind_ok, then_ok, require_ok}
 use Rattle.mls_wire.specs.Checks.{passed, require}
-use Rattle.mls_wire.specs.Format.{Format}
 use Rattle.mls_wire.specs.Laws.{ok_is}
 use Rattle.mls_wire.specs.Reading.{opaque, uint}
 use Rattle.mls_leaf.proofs.WholeLaws.{whole_again}
@@ -22,25 +20,11 @@ use Rattle.mls_saved.specs.declared.candidate.SavedCandidate.{SavedCandidate}
 use Rattle.mls_model.specs.Candidate.{Candidate}
 use Rattle.mls_model.specs.MemberInvariant.{IsGoodCandidate}
 use Rattle.mls_model.specs.Messages.{is_within_limit}
-use Rattle.mls_public_group.proofs.Limits.{length_within}
+use Rattle.mls_public_group.proofs.Limits.{length_within, read_within}
 use Rattle.mls_public_group.specs.Short.{IsBelow}
 use Rattle.mls_candidate.specs.Saved.{saved_parts, saved_bytes, save_candidate, candidate_of, saved_of_suite, own_key_checks, load_candidate, GoodIsLoaded, LoadedIsGood}
 
 -- ---- how long it is
-
-abbrev too_long : {V : Type 0} → Result V ℕ
-too_long = Err 6
-
-read_within : {V : Type 0} (format : Format V) (bytes : List ℕ) (v : V) → whole format input_limit bytes ≡ Ok v → length bytes ≤ input_limit
-unfolding whole
-read_within {V} format bytes v e =
-    elim (cases_lt input_limit (length bytes)) [
-      | inl over ↦ absurd (differ (sym (cond-true _ _ _ (lt-ltb input_limit (length bytes) over)) ∙ e))
-      | inr within ↦ within
-    ]
-  where
-    differ : too_long {V = V} ≡ Ok v → ⊥
-    differ h = absurd cc
 
 package_in : (v : SavedCandidate) → length (key_package.spell v.key_package) ≤ length (saved_candidate.spell v)
 unfolding saved_candidate

@@ -1,9 +1,11 @@
--- The numbers of what loading refuses, and what calls promise by these numbers.
+-- The numbers and names of what loading refuses, and what is refused whatever memory there is.
 use Rattle.std.specs.Prelude.{ℕ, List, Result, codes}
-use Rattle.mls_wire.specs.Checks.{Answers, AnswersOutright, Passed, passed}
 use Rattle.mls_wire.specs.Names.{refusal_name}
-use Rattle.mls_leaf.specs.Faults.{number_of as number_of_leaf}
+use Rattle.mls_leaf.specs.Faults.{number_of as number_of_leaf, whole}
+use Rattle.mls_leaf.specs.Limits.{input_limit}
 use Rattle.mls_checks.specs.Faults.{number_of as number_of_check}
+use Rattle.mls_saved.specs.Candidate.{saved_candidate}
+use Rattle.mls_tree.specs.Refusals.{RefusesOutright}
 use Rattle.mls_model.specs.Candidate.{Candidate}
 use Rattle.mls_candidate.specs.declared.load.Parts.{Parts}
 use Rattle.mls_candidate.specs.declared.load_error.CandidateLoadError.{CandidateLoadError}
@@ -25,18 +27,10 @@ name_of OtherSuite = codes "OtherSuite"
 name_of BadSecret = codes "BadSecret"
 name_of OtherKey = codes "OtherKey"
 
--- A call answers what the definition does, or refuses with its number. Where memory was refused it says nothing.
-abbrev pub Loads : {A : Type 0} → Result A ℕ → Result A CandidateLoadError → Type 0
-Loads defined result = Answers (λ x. x) number_of defined result
-
--- These checks pass, or the call refuses with the number of the first that fails. Where memory was refused it says nothing.
-abbrev pub Passes : Result Passed ℕ → Result (Unit {0}) CandidateLoadError → Type 0
-Passes checks result = Answers (λ _. passed) number_of checks result
-
--- The same of a call that takes no memory.
-abbrev pub PassesOutright : Result Passed ℕ → Result (Unit {0}) CandidateLoadError → Type 0
-PassesOutright checks result = AnswersOutright (λ _. passed) number_of checks result
-
 -- the candidate that parts make
 abbrev pub candidate_by : Parts → Candidate
 candidate_by p = record { offered = p.offered; init = p.init; leaf = p.leaf; signing = p.signing }
+
+-- faults of decoding are answered whatever memory there is
+abbrev pub RefusesUndecoded : {A : Type 0} → List ℕ → Result A CandidateLoadError → Type 0
+RefusesUndecoded bytes result = RefusesOutright number_of (whole saved_candidate input_limit bytes) result

@@ -4,12 +4,13 @@ ghost use Rattle.std.specs.Prelude.{◌≡◌, ◌^◌, IfOk};
 ghost use Rattle.mls_leaf.specs.KeyPackage.{key_package as key_package_format};
 ghost use Rattle.mls_leaf.specs.Leaf.{leaf_node as leaf_format};
 ghost use Rattle.mls_leaf.specs.declared.proposal.Proposal.TheVariants.{Add};
+ghost use Rattle.mls_saved.specs.Loading.{Loads};
 ghost use Rattle.mls_public_group.specs.Short.{IsBelow};
 ghost use Rattle.mls_public_group.specs.ShortProposal.{IsShortProposal};
 ghost use Rattle.mls_model.specs.MemberInvariant.{IsGoodCandidate};
 ghost use Rattle.mls_model.specs.Candidate.{new_candidate, package_message};
 ghost use Rattle.mls_candidate.specs.Faults.{Gives, GivesBytes};
-ghost use Rattle.mls_candidate.specs.LoadFaults.{Loads};
+ghost use Rattle.mls_candidate.specs.LoadFaults.{number_of, RefusesUndecoded};
 ghost use Rattle.mls_candidate.specs.Saved.{save_candidate, load_candidate, LoadsAsSaved};
 
 use crate::error::CandidateError;
@@ -109,8 +110,10 @@ impl<S: Suite> Candidate<S> {
     /// that hasn't 32 bytes, 50 to 57 and `BadKey` (36) the checks of its KeyPackage, `OtherKey` (104) a private key that
     /// isn't that of the public key that is offered.
     pub fn load(alloc: Global, bytes: &[u8]) -> Result<Candidate<S>, CandidateLoadError>
-        ensures answer { Loads (load_candidate S.crypto bytes.now) result }
+        ensures answer { Loads number_of (load_candidate S.crypto bytes.now) result }
         ensures good { IfOk result (IsGoodCandidate S.crypto) }
+        // Faults of decoding come also when an allocation fails.
+        ensures outright { RefusesUndecoded bytes.now result }
     {
         let parts = load_parts::<S>(alloc, bytes)?;
         let message = package_message(alloc, &parts.offered)?;

@@ -7,7 +7,8 @@ ghost use Rattle.mls_leaf.specs.KeyPackage.{key_package};
 ghost use Rattle.mls_checks.specs.Checks.{key_package_checks};
 ghost use Rattle.mls_public_group.specs.Short.{IsBelow};
 ghost use Rattle.mls_saved.specs.Candidate.{saved_candidate};
-ghost use Rattle.mls_candidate.specs.LoadFaults.{number_of, Loads, Passes, PassesOutright, candidate_by};
+ghost use Rattle.mls_saved.specs.Loading.{Loads, Passes, PassesOutright};
+ghost use Rattle.mls_candidate.specs.LoadFaults.{number_of, candidate_by, RefusesUndecoded};
 ghost use Rattle.mls_candidate.specs.Saved.{secret_of_32, candidate_of, saved_of_suite, own_key_checks, load_candidate};
 
 use crate::load_error::CandidateLoadError;
@@ -56,7 +57,8 @@ pub(crate) fn saved_spelling(alloc: Global, saved: &SavedCandidate) -> Result<Ve
 /// The saved candidate of the suite that the bytes are: decoding, `OtherSuite` (100).
 #[tactic(auto, unfolding(crate::specs::Saved::saved_of_suite))]
 fn read_saved<S: Suite>(alloc: Global, bytes: &[u8]) -> Result<SavedCandidate, CandidateLoadError>
-    ensures answer { Loads (saved_of_suite S.crypto bytes.now) result }
+    ensures answer { Loads number_of (saved_of_suite S.crypto bytes.now) result }
+    ensures outright { RefusesUndecoded bytes.now result }
     ensures below { IfOk result (λ v. IsBelow (2 ^ 27) key_package v.key_package) }
 {
     let saved = SavedCandidate::decode(alloc, bytes)?;
@@ -96,7 +98,7 @@ fn parts_of(saved: SavedCandidate) -> Result<Parts, CandidateLoadError>
 /// The checks of a KeyPackage (RFC 9420, 10.1).
 fn check_package<S: Suite>(alloc: Global, offered: &KeyPackage) -> Result<(), CandidateLoadError>
     requires { IsBelow (2 ^ 27) key_package offered.now }
-    ensures { Passes (key_package_checks S.crypto offered.now) result }
+    ensures { Passes number_of (key_package_checks S.crypto offered.now) result }
 {
     mls_checks::key_package::<S>(alloc, offered)?;
     Ok(())
@@ -104,7 +106,7 @@ fn check_package<S: Suite>(alloc: Global, offered: &KeyPackage) -> Result<(), Ca
 
 /// A public key is the one that is offered: `OtherKey` (104).
 fn require_same(key: &[u8], offered: &Bytes) -> Result<(), CandidateLoadError>
-    ensures { PassesOutright (require 104 (bytes_eq key.now offered.now)) result }
+    ensures { PassesOutright number_of (require 104 (bytes_eq key.now offered.now)) result }
 {
     if key != offered.as_slice() {
         return Err(CandidateLoadError::OtherKey);
@@ -115,7 +117,7 @@ fn require_same(key: &[u8], offered: &Bytes) -> Result<(), CandidateLoadError>
 /// The private keys are those of the public keys that are offered: `OtherKey` (104).
 #[tactic(auto, unfolding(crate::specs::Saved::own_key_checks))]
 fn check_own_keys<S: Suite>(alloc: Global, parts: &Parts) -> Result<(), CandidateLoadError>
-    ensures { Passes (own_key_checks S.crypto (candidate_by parts.now)) result }
+    ensures { Passes number_of (own_key_checks S.crypto (candidate_by parts.now)) result }
 {
     let leaf = &parts.offered.leaf_node;
     let init_key = S::public(alloc, &parts.init)?;
@@ -131,6 +133,7 @@ fn check_own_keys<S: Suite>(alloc: Global, parts: &Parts) -> Result<(), Candidat
 #[tactic(auto, unfolding(crate::specs::Saved::load_candidate))]
 pub(crate) fn load_parts<S: Suite>(alloc: Global, bytes: &[u8]) -> Result<Parts, CandidateLoadError>
     ensures answer { Answers candidate_by number_of (load_candidate S.crypto bytes.now) result }
+    ensures outright { RefusesUndecoded bytes.now result }
     ensures below { IfOk result (λ p. IsBelow (2 ^ 27) key_package p.offered) }
 {
     let saved = read_saved::<S>(alloc, bytes)?;

@@ -1,6 +1,7 @@
 //! What a saved candidate is refused for.
 
 ghost use Rattle.std.specs.Prelude.{◌≡◌};
+ghost use Rattle.mls_refusal_kind.specs.RefusalKinds.{kind_of};
 ghost use Rattle.mls_candidate.specs.LoadFaults.{number_of, name_of};
 ghost use Rattle.mls_candidate.specs.declared.load_error.CandidateLoadError.TheVariants.{Leaf as in_leaf, Check as in_check};
 ghost use Rattle.mls_wire.specs.declared.WireError.TheVariants.{OutOfMemory};
@@ -8,6 +9,7 @@ ghost use Rattle.mls_leaf.specs.declared.error.LeafError.TheVariants.{Wire as in
 
 use mls_checks::CheckError;
 use mls_leaf::LeafError;
+use mls_refusal_kind::{RefusalKind, kind_of};
 use mls_wire::WireError;
 use std::alloc::{AllocError, AllocFailed};
 use thiserror::Error;
@@ -89,5 +91,12 @@ impl CandidateLoadError {
             CandidateLoadError::BadSecret => "BadSecret",
             CandidateLoadError::OtherKey => "OtherKey",
         }
+    }
+
+    /// What a caller may do about it, by its number.
+    pub fn kind(self) -> RefusalKind
+        ensures { result ≡ kind_of (number_of self) }
+    {
+        kind_of(self.number())
     }
 }

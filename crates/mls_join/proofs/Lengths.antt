@@ -1,21 +1,12 @@
 -- How long the parts of a GroupInfo are.
-use Rattle.std.proofs.Common.{◌≡◌, ℕ, ◌+◌, ◌<◌, ◌^◌, List, [], ◌++◌, length, Option, Some, None, sym, ap, subst, ◌∙◌, arith, length-append, inl, inr, lt-ltb, Result, Ok, Err}
-use Rattle.std.proofs.lemmas.Bool.{cases_lt, cond-true}
-use Rattle.std.specs.Int.{w16, w32, w64}
+use Rattle.std.proofs.Common.{◌≡◌, ℕ, ◌+◌, ◌<◌, List, ◌++◌, length, Option, Some, None, ap, subst, ◌∙◌, arith, length-append}
+use Rattle.std.specs.Int.{w16, w32}
 use Rattle.mls_wire.specs.Reading.{uint, header, opaque}
-use Rattle.mls_wire.specs.Format.{Format}
-use Rattle.mls_leaf.specs.Faults.{Spells, whole}
-use Rattle.mls_leaf.specs.GroupExtensions.{group_extensions}
-use Rattle.mls_leaf.specs.Limits.{input_limit}
 use Rattle.mls_leaf.specs.declared.node.Node.{Node}
 use Rattle.mls_types.specs.GroupContext.{group_context}
 use Rattle.mls_types.specs.GroupInfo.{group_info, group_info_extensions, group_info_tbs, GroupInfoTbsFits, ratchet_tree}
-use Rattle.mls_types.specs.declared.group_context.GroupContext.{GroupContext}
 use Rattle.mls_types.specs.declared.group_info.GroupInfo.{GroupInfo}
-use Rattle.mls_public_group.specs.Short.{IsBelow, IsShortContext}
-
-abbrev too_long : {V : Type 0} → Result V ℕ
-too_long = Err 6
+use Rattle.mls_public_group.specs.Short.{IsBelow}
 
 -- the parts of a GroupInfo are as short as it
 pub record HasParts (n : ℕ) (v : GroupInfo) : Type 0 where
@@ -54,36 +45,3 @@ parts_below n v is =
       fits = (is.fits.0, (is.fits.1.0, (is.fits.1.1.0, is.fits.1.1.1.0)));
       below = signed;
     }
-
--- a short context's texts and extensions are short
-pub short_context : (g : GroupContext) → IsBelow (2 ^ 27) group_context g → IsShortContext g
-unfolding group_context
-short_context g is =
-    let i : List ℕ = g.group_id in
-    let h : List ℕ = g.tree_hash in
-    let t : List ℕ = g.confirmed_transcript_hash in
-    let e : List ℕ = uint w64 g.epoch in
-    let list : List ℕ = group_extensions.spell g.extensions in
-    let end : List ℕ = opaque t ++ list in
-    let lengths : length (uint w16 1) + (length (uint w16 g.cipher_suite) + (length (opaque i) + (length e + (length (opaque h) + (length (opaque t) + length list))))) < 2 ^ 27 =
-    subst (λ (k : ℕ). k < 2 ^ 27) (length-append (uint w16 1) (uint w16 g.cipher_suite ++ (opaque i ++ (e ++ (opaque h ++ end)))) ∙ ap (λ (k : ℕ). length (uint w16 1) + k) (length-append (uint w16 g.cipher_suite) (opaque i ++ (e ++ (opaque h ++ end))) ∙ ap (λ (k : ℕ). length (uint w16 g.cipher_suite) + k) (length-append (opaque i) (e ++ (opaque h ++ end)) ∙ ap (λ (k : ℕ). length (opaque i) + k) (length-append e (opaque h ++ end) ∙ ap (λ (k : ℕ). length e + k) (length-append (opaque h) end ∙ ap (λ (k : ℕ). length (opaque h) + k) (length-append (opaque t) list)))))) is.below in
-    record {
-      suite = is.fits.0;
-      epoch = is.fits.1.1.0;
-      group_id = omega (arith, length-append (header (length i)) i);
-      tree_hash = omega (arith, length-append (header (length h)) h);
-      confirmed = omega (arith, length-append (header (length t)) t);
-      extensions = record { fits = is.fits.1.1.1.1.1; below = omega arith };
-    }
-
--- what is read whole is short
-pub read_below : {V : Type 0} (format : Format V) (bytes : List ℕ) (v : V) → Spells format v bytes → whole format input_limit bytes ≡ Ok v → IsBelow (2 ^ 27) format v
-unfolding whole
-read_below {V} format bytes v spells e =
-    elim (cases_lt input_limit (length bytes)) [
-      | inl over ↦ absurd (differ (sym (cond-true _ _ _ (lt-ltb input_limit (length bytes) over)) ∙ e))
-      | inr within ↦ record { fits = spells.fits; below = omega (arith, ap length spells.spelled) }
-    ]
-  where
-    differ : too_long {V = V} ≡ Ok v → ⊥
-    differ h = absurd cc

@@ -1,5 +1,4 @@
 pub mod Lengths
-pub mod LeavesBelow
 pub mod Welcomes
 pub mod Places
 pub mod Joining

@@ -1,11 +1,7 @@
--- How kept proposals are loaded, one after the other, and what is refused of bytes.
+-- How kept proposals are loaded, one after the other.
 use Rattle.std.proofs.Common.{◌≡◌, ℕ, ◌+◌, ◌<◌, ◌≤◌, List, [], ◌∷◌, ◌++◌, length, drop, Result, Ok, Err, refl, sym, ap, subst, ◌∙◌, append_assoc, get_or}
 use Rattle.std.proofs.lemmas.List.{append-nil, drop_all}
 use Rattle.mls_wire.specs.Reading.{◌>>=◌}
-use Rattle.mls_wire.specs.declared.WireError.TheVariants as wire
-use Rattle.mls_leaf.specs.Faults.{Fails, Outright, number_of}
-use Rattle.mls_leaf.specs.declared.error.LeafError.{LeafError}
-use Rattle.mls_leaf.specs.declared.error.LeafError.TheVariants.{Wire, BadTag, UnsupportedCredential, UnsupportedProposal, NotRising, ExtensionNotAllowed}
 use Rattle.mls_saved.specs.declared.proposal.SavedProposal.{SavedProposal}
 use Rattle.mls_public_group.proofs.Rest.{here}
 use Rattle.mls_model.specs.Member.{KeptProposal}
@@ -52,29 +48,3 @@ loaded_stops all i x kept n lt e h one = loaded_fails all (drop (i + 1) all) x k
 
 pub loaded_end : (all : List SavedProposal) (i : ℕ) (kept : List KeptProposal) → length all ≤ i → AreLoaded all (drop i all) kept → load_all_kept all ≡ Ok kept
 loaded_end all i kept le h = loaded_all all kept (subst (λ (l : List SavedProposal). AreLoaded all l kept) (drop_all i all le) h)
-
--- ---- faults of decoding
-
-same_error : {V : Type 0} (r : Result V ℕ) (m n : ℕ) → r ≡ Err m → r ≡ Err n → m ≡ n
-same_error (Ok v) m n e f = absurd cc
-same_error (Err k) m n e f = cc
-
-no_value : {V : Type 0} (r : Result V ℕ) (v : V) (n : ℕ) → r ≡ Ok v → r ≡ Err n → ⊥
-no_value (Ok w) v n e f = absurd cc
-no_value (Err k) v n e f = absurd cc
-
-pub fault_outright : {V : Type 0} (e : LeafError) (r : Result V ℕ) (n : ℕ) → Fails e r → Outright r e → r ≡ Err n → number_of e ≡ n
-fault_outright (Wire wire.OutOfMemory) r n h o is = absurd (no_value r o.0 n o.1 is)
-fault_outright (Wire wire.Truncated) r n h o is = same_error r 2 n h is
-fault_outright (Wire wire.Trailing) r n h o is = same_error r 3 n h is
-fault_outright (Wire wire.BadLength) r n h o is = same_error r 4 n h is
-fault_outright (Wire wire.NotMinimal) r n h o is = same_error r 5 n h is
-fault_outright (Wire wire.TooLong) r n h o is = same_error r 6 n h is
-fault_outright BadTag r n h o is = same_error r 7 n h is
-fault_outright UnsupportedCredential r n h o is = same_error r 11 n h is
-fault_outright UnsupportedProposal r n h o is = same_error r 12 n h is
-fault_outright NotRising r n h o is = same_error r 13 n h is
-fault_outright ExtensionNotAllowed r n h o is = same_error r 14 n h is
-
-pub no_fault : {V : Type 0} (r : Result V ℕ) (v : V) (n : ℕ) → r ≡ Ok v → r ≡ Err n → ⊥
-no_fault r v n e f = no_value r v n e f

@@ -8,7 +8,6 @@ pub mod FirstEpoch
 pub mod Proposing
 pub mod GroupMembers
 pub mod KeptProposals
-pub mod RefusalKinds
 pub mod Inspecting
 pub mod ShortPackages
 pub mod KeptTogether

@@ -1,6 +1,7 @@
 //! What a member refuses.
 
 ghost use Rattle.std.specs.Prelude.{◌≡◌};
+ghost use Rattle.mls_refusal_kind.specs.RefusalKinds.{kind_of};
 ghost use Rattle.mls_wire.specs.Names.{refusal_name};
 ghost use Rattle.mls_member.specs.Faults.{number_of};
 ghost use Rattle.mls_member.specs.declared.error.Refusal.TheVariants.{Leaf as in_leaf, Group as in_group, Commit as in_commit, Keys as in_keys, Candidate as in_candidate, Join as in_join, Make as in_make};
@@ -13,6 +14,7 @@ use mls_join::JoinError;
 use mls_leaf::LeafError;
 use mls_make::MakeError;
 use mls_public_group::GroupError;
+use mls_refusal_kind::{RefusalKind, kind_of};
 use mls_treekem::TreeKemError;
 use mls_wire::{WireError, refusal_name};
 use std::alloc::{AllocError, AllocFailed};
@@ -193,5 +195,12 @@ impl Refusal {
         ensures { result.now ≡ refusal_name (number_of self) }
     {
         refusal_name(self.number())
+    }
+
+    /// What a caller may do about it, by its number.
+    pub fn kind(self) -> RefusalKind
+        ensures { result ≡ kind_of (number_of self) }
+    {
+        kind_of(self.number())
     }
 }

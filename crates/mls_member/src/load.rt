@@ -3,8 +3,9 @@
 ghost use Rattle.std.specs.Prelude.{◌≡◌, ◌^◌};
 ghost use Rattle.mls_wire.specs.Checks.{Answers, require};
 ghost use Rattle.mls_leaf.specs.Proposal.{proposal as proposal_format};
+ghost use Rattle.mls_saved.specs.Loading.{Loads, Passes};
 ghost use Rattle.mls_saved.specs.Member.{saved_member};
-ghost use Rattle.mls_saved_state.specs.Faults.{number_of, Gives, Passes};
+ghost use Rattle.mls_saved_state.specs.Faults.{number_of};
 ghost use Rattle.mls_tree_model.specs.Term.{leaf_of};
 ghost use Rattle.mls_public_group.specs.Short.{IsBelow};
 ghost use Rattle.mls_member.specs.Saved.{is_removed, signs_as, load, load_kept, load_all_kept, load_if_pending, load_member, AreSavedBelow, IsBelowIfPending, RefusesUndecoded};
@@ -33,7 +34,7 @@ fn is_removed(standing: Standing) -> bool
 #[tactic(auto, unfolding(crate::specs::Saved::load_kept))]
 fn load_kept(alloc: Global, saved: &SavedProposal) -> Result<KeptProposal, LoadError>
     requires { IsBelow (2 ^ 27) proposal_format saved.now.proposal }
-    ensures { Gives (load_kept saved.now) result }
+    ensures { Loads number_of (load_kept saved.now) result }
 {
     let reference = secret_of(&saved.reference)?;
     let own_key = optional_secret_of(&saved.own_key)?;
@@ -70,7 +71,7 @@ fn load_if_pending<S: Suite>(
     saved: Option<SavedPending>,
 ) -> Result<Option<Pending>, LoadError>
     requires { IsBelowIfPending (2 ^ 27) saved }
-    ensures { Gives (load_if_pending S.crypto saved) result }
+    ensures { Loads number_of (load_if_pending S.crypto saved) result }
 {
     let Some(SavedPending { message, state }) = saved else {
         return Ok(None);
@@ -90,7 +91,7 @@ fn check_signing<S: Suite>(
     now: &EpochState,
     signing: &Secret,
 ) -> Result<(), LoadError>
-    ensures { Passes (require 104 (signs_as S.crypto
+    ensures { Passes number_of (require 104 (signs_as S.crypto
         (leaf_of now.now.group.tree now.now.keys.leaf) signing.now)) result }
 {
     let Some(leaf) = now.group.tree().leaf(now.keys.leaf()) else {
@@ -108,7 +109,7 @@ impl<S: Suite> Member<S> {
     #[tactic(auto, unfolding(crate::specs::Saved::load_member))]
     fn of_saved(alloc: Global, saved: SavedMember) -> Result<Member<S>, LoadError>
         requires { IsBelow (2 ^ 27) saved_member saved }
-        ensures { Gives (load_member S.crypto saved) result }
+        ensures { Loads number_of (load_member S.crypto saved) result }
     {
         let SavedMember {
             standing,
@@ -142,7 +143,7 @@ impl<S: Suite> Member<S> {
     /// of its public key; the same of the state that a pending commit leads to.
     #[tactic(auto, unfolding(crate::specs::Saved::load))]
     pub fn load(alloc: Global, bytes: &[u8]) -> Result<Member<S>, LoadError>
-        ensures answer { Gives (load S.crypto bytes.now) result }
+        ensures answer { Loads number_of (load S.crypto bytes.now) result }
         // Faults of decoding come also when an allocation fails.
         ensures outright { RefusesUndecoded bytes.now result }
     {

@@ -1,11 +1,12 @@
 -- How long headers are, texts behind them, parts of a text, and contexts.
-use Rattle.std.proofs.Common.{◌≡◌, ℕ, ◌+◌, ◌<◌, ◌≤◌, ◌^◌, Bool, true, false, cond, ltb, List, [], ◌∷◌, ◌++◌, length, arith, length-append}
+use Rattle.std.proofs.Common.{◌≡◌, ℕ, ◌+◌, ◌<◌, ◌≤◌, ◌^◌, Bool, true, false, cond, ltb, List, [], ◌∷◌, ◌++◌, length, ap, subst, ◌∙◌, arith, length-append}
 use Rattle.std.specs.Int.{w16, w32, w64, to_be_bytes}
 use Rattle.mls_wire.specs.Laws.{wide16, wide64}
 use Rattle.mls_wire.specs.Reading.{uint, header, opaque}
 use Rattle.mls_leaf.specs.GroupExtensions.{group_extensions}
 use Rattle.mls_types.specs.GroupContext.{group_context}
 use Rattle.mls_types.specs.declared.group_context.GroupContext.{GroupContext}
+use Rattle.mls_public_group.specs.Short.{IsBelow, IsShortContext}
 
 -- ---- parts
 
@@ -65,3 +66,24 @@ context_length v group tree confirmed list =
     row_length (uint w16 1) (uint w16 v.cipher_suite) (opaque v.group_id) (uint w64 v.epoch) (opaque v.tree_hash) (opaque v.confirmed_transcript_hash) (group_extensions.spell v.extensions)
     (length-uint16 1) (length-uint16 v.cipher_suite) (length-uint64 v.epoch)
     (omega (arith, opaque_most v.group_id)) (omega (arith, opaque_most v.tree_hash)) (omega (arith, opaque_most v.confirmed_transcript_hash)) list
+
+-- a short context's texts and extensions are short
+pub short_context : (g : GroupContext) → IsBelow (2 ^ 27) group_context g → IsShortContext g
+unfolding group_context
+short_context g is =
+    let i : List ℕ = g.group_id in
+    let h : List ℕ = g.tree_hash in
+    let t : List ℕ = g.confirmed_transcript_hash in
+    let e : List ℕ = uint w64 g.epoch in
+    let list : List ℕ = group_extensions.spell g.extensions in
+    let end : List ℕ = opaque t ++ list in
+    let lengths : length (uint w16 1) + (length (uint w16 g.cipher_suite) + (length (opaque i) + (length e + (length (opaque h) + (length (opaque t) + length list))))) < 2 ^ 27 =
+    subst (λ (k : ℕ). k < 2 ^ 27) (length-append (uint w16 1) (uint w16 g.cipher_suite ++ (opaque i ++ (e ++ (opaque h ++ end)))) ∙ ap (λ (k : ℕ). length (uint w16 1) + k) (length-append (uint w16 g.cipher_suite) (opaque i ++ (e ++ (opaque h ++ end))) ∙ ap (λ (k : ℕ). length (uint w16 g.cipher_suite) + k) (length-append (opaque i) (e ++ (opaque h ++ end)) ∙ ap (λ (k : ℕ). length (opaque i) + k) (length-append e (opaque h ++ end) ∙ ap (λ (k : ℕ). length e + k) (length-append (opaque h) end ∙ ap (λ (k : ℕ). length (opaque h) + k) (length-append (opaque t) list)))))) is.below in
+    record {
+      suite = is.fits.0;
+      epoch = is.fits.1.1.0;
+      group_id = omega (arith, length-append (header (length i)) i);
+      tree_hash = omega (arith, length-append (header (length h)) h);
+      confirmed = omega (arith, length-append (header (length t)) t);
+      extensions = record { fits = is.fits.1.1.1.1.1; below = omega arith };
+    }

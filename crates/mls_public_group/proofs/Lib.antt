@@ -1,5 +1,6 @@
 pub mod EditedLemmas
 pub mod Leaves
+pub mod LeavesBelow
 pub mod Lengths
 pub mod Limits
 pub mod Memory

@@ -1,11 +1,13 @@
--- Texts within the limit of messages, and beyond it.
-use Rattle.std.proofs.Common.{◌≡◌, ℕ, zero, suc, ◌<◌, ◌≤◌, nat_lt, nat_le, ◌&&◌, Bool, true, false, List, [], ◌∷◌, length, Ok, Err, refl}
+-- Texts within the limit of messages, and beyond it; and what is read whole.
+use Rattle.std.proofs.Common.{◌≡◌, ℕ, zero, suc, ◌<◌, ◌≤◌, ◌^◌, nat_lt, nat_le, ◌&&◌, Bool, true, false, List, [], ◌∷◌, length, Result, Ok, Err, refl, sym, ap, ◌∙◌, arith, inl, inr}
 use Rattle.std.specs.List.{list_all}
-use Rattle.std.proofs.lemmas.Bool.{lt-ltb, le-leb, lt-leb, leb-true, and_from, and_left}
+use Rattle.std.proofs.lemmas.Bool.{lt-ltb, le-leb, lt-leb, leb-true, and_from, and_left, cases_lt, cond-true}
 use Rattle.mls_wire.specs.Checks.{passed, require}
-use Rattle.mls_wire.specs.Format.{IsBytes}
+use Rattle.mls_wire.specs.Format.{Format, IsBytes}
+use Rattle.mls_leaf.specs.Faults.{Spells, whole}
 use Rattle.mls_leaf.specs.Limits.{input_limit}
 use Rattle.mls_model.specs.Messages.{are_bytes, is_within_limit}
+use Rattle.mls_public_group.specs.Short.{IsBelow}
 
 pub all_bytes : (bytes : List ℕ) → IsBytes bytes → list_all (λ (b : ℕ). nat_lt b 256) bytes ≡ true
 all_bytes [] h = refl
@@ -39,3 +41,29 @@ past_limit bytes lt = fails 6 _ (and_left (nat_le (length bytes) input_limit) (a
 pub length_within : (bytes : List ℕ) → is_within_limit bytes ≡ Ok passed → length bytes ≤ input_limit
 unfolding is_within_limit
 length_within bytes h = leb-true _ _ (first_of 6 _ _ h)
+
+-- ---- what is read whole
+
+abbrev too_long : {V : Type 0} → Result V ℕ
+too_long = Err 6
+
+-- what is read whole is within the limit
+pub read_within : {V : Type 0} (format : Format V) (bytes : List ℕ) (v : V) → whole format input_limit bytes ≡ Ok v → length bytes ≤ input_limit
+unfolding whole
+read_within {V} format bytes v e =
+    elim (cases_lt input_limit (length bytes)) [
+      | inl over ↦ absurd (differ (sym (cond-true _ _ _ (lt-ltb input_limit (length bytes) over)) ∙ e))
+      | inr within ↦ within
+    ]
+  where
+    differ : too_long {V = V} ≡ Ok v → ⊥
+    differ h = absurd cc
+
+-- and so it is short
+pub read_below : {V : Type 0} (format : Format V) (bytes : List ℕ) (v : V) → Spells format v bytes → whole format input_limit bytes ≡ Ok v → IsBelow (2 ^ 27) format v
+read_below format bytes v spells e = record { fits = spells.fits; below = omega (arith, read_within format bytes v e, ap length spells.spelled) }
+
+-- what has a value has no fault
+pub no_fault : {V : Type 0} (r : Result V ℕ) (v : V) (n : ℕ) → r ≡ Ok v → r ≡ Err n → ⊥
+no_fault (Ok w) v n e f = absurd cc
+no_fault (Err k) v n e f = absurd cc

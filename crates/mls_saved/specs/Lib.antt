@@ -3,3 +3,4 @@ pub mod Kept
 pub mod Member
 pub mod Candidate
 pub mod ReadFaults
+pub mod Loading

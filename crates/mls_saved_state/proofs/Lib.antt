@@ -1,4 +1,3 @@
 mod Copies
 pub mod Loading
 mod Lengths
-mod LeavesBelow

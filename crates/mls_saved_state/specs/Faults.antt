@@ -1,6 +1,5 @@
 -- The numbers and names of what is refused of a saved form.
-use Rattle.std.specs.Prelude.{ℕ, List, Result, codes}
-use Rattle.mls_wire.specs.Checks.{Answers, Passed, passed}
+use Rattle.std.specs.Prelude.{ℕ, List, codes}
 use Rattle.mls_wire.specs.Names.{refusal_name}
 use Rattle.mls_leaf.specs.Faults.{number_of as number_of_leaf}
 use Rattle.mls_tree.specs.Faults.{number_of as number_of_tree}
@@ -26,11 +25,3 @@ name_of BadSecret = codes "BadSecret"
 name_of NotAMember = codes "NotAMember"
 name_of BadTreeHash = codes "BadTreeHash"
 name_of OtherKey = codes "OtherKey"
-
--- A call answers what the definition does, or refuses with its number. Where memory was refused it says nothing.
-abbrev pub Gives : {A : Type 0} → Result A ℕ → Result A LoadError → Type 0
-Gives defined result = Answers (λ x. x) number_of defined result
-
--- These checks pass, or the call refuses with the number of the first that fails. Where memory was refused it says nothing.
-abbrev pub Passes : {A : Type 0} → Result Passed ℕ → Result A LoadError → Type 0
-Passes checks result = Answers (λ _. passed) number_of checks result

@@ -1,12 +1,14 @@
 //! What is refused of a saved form.
 
 ghost use Rattle.std.specs.Prelude.{◌≡◌};
+ghost use Rattle.mls_refusal_kind.specs.RefusalKinds.{kind_of};
 ghost use Rattle.mls_saved_state.specs.Faults.{number_of, name_of};
 ghost use Rattle.mls_saved_state.specs.declared.error.LoadError.TheVariants.{Leaf as in_leaf, Tree as in_tree};
 ghost use Rattle.mls_wire.specs.declared.WireError.TheVariants.{OutOfMemory};
 ghost use Rattle.mls_leaf.specs.declared.error.LeafError.TheVariants.{Wire as in_wire};
 
 use mls_leaf::LeafError;
+use mls_refusal_kind::{RefusalKind, kind_of};
 use mls_tree::TreeError;
 use mls_wire::WireError;
 use std::alloc::{AllocError, AllocFailed};
@@ -99,5 +101,12 @@ impl LoadError {
             LoadError::BadTreeHash => "BadTreeHash",
             LoadError::OtherKey => "OtherKey",
         }
+    }
+
+    /// What a caller may do about it, by its number.
+    pub fn kind(self) -> RefusalKind
+        ensures { result ≡ kind_of (number_of self) }
+    {
+        kind_of(self.number())
     }
 }

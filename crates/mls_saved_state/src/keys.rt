@@ -1,7 +1,8 @@
 //! The leaf and the private keys of a saved state.
 
+ghost use Rattle.mls_saved.specs.Loading.{Loads, Passes};
 ghost use Rattle.mls_tree.specs.Tree.{term};
-ghost use Rattle.mls_saved_state.specs.Faults.{Gives, Passes};
+ghost use Rattle.mls_saved_state.specs.Faults.{number_of};
 ghost use Rattle.mls_saved_state.specs.State.{saved_keys, key_checks};
 
 use crate::error::LoadError;
@@ -15,7 +16,7 @@ use std::alloc::Global;
 /// The leaf with its private keys: `BadSecret` (101) where one isn't a secret.
 #[tactic(auto, unfolding(crate::specs::State::saved_keys))]
 pub(crate) fn saved_keys(alloc: Global, saved: &SavedState) -> Result<PrivatePath, LoadError>
-    ensures { Gives (saved_keys saved.now) result }
+    ensures { Loads number_of (saved_keys saved.now) result }
 {
     let own = secret_of(&saved.own)?;
     let above = keys_of(alloc, saved.above.as_slice())?;
@@ -26,7 +27,7 @@ pub(crate) fn saved_keys(alloc: Global, saved: &SavedState) -> Result<PrivatePat
 /// 104).
 #[tactic(auto, unfolding(crate::specs::State::key_checks))]
 pub(crate) fn check_keys<S: Suite>(tree: &PublicTree, keys: &PrivatePath) -> Result<(), LoadError>
-    ensures { Passes (key_checks S.crypto (term tree.now) keys.now) result }
+    ensures { Passes number_of (key_checks S.crypto (term tree.now) keys.now) result }
 {
     if tree.leaf(keys.leaf()).is_none() {
         return Err(LoadError::NotAMember);

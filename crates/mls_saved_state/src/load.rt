@@ -2,10 +2,11 @@
 
 ghost use Rattle.std.specs.Prelude.{◌≡◌, ◌==◌, ◌^◌, IfOk};
 ghost use Rattle.mls_wire.specs.Checks.{require};
+ghost use Rattle.mls_saved.specs.Loading.{Loads, Passes};
 ghost use Rattle.mls_saved.specs.State.{saved_state};
 ghost use Rattle.mls_tree.specs.Tree.{term};
 ghost use Rattle.mls_public_group.specs.Short.{IsBelow, IsShortContext, HasLeavesBelow};
-ghost use Rattle.mls_saved_state.specs.Faults.{Gives, Passes};
+ghost use Rattle.mls_saved_state.specs.Faults.{number_of};
 ghost use Rattle.mls_saved_state.specs.State.{load_state, state_with};
 
 use crate::error::LoadError;
@@ -57,7 +58,7 @@ fn state_of(
 
 /// Refuses a context of another suite (`OtherSuite` 100).
 fn check_suite<S: Suite>(context: &GroupContext) -> Result<(), LoadError>
-    ensures { Passes (require 100 (context.now.cipher_suite == S.crypto.number)) result }
+    ensures { Passes number_of (require 100 (context.now.cipher_suite == S.crypto.number)) result }
 {
     if context.cipher_suite == S::NUMBER {
         Ok(())
@@ -73,7 +74,7 @@ fn check_suite<S: Suite>(context: &GroupContext) -> Result<(), LoadError>
 #[tactic(auto, unfolding(crate::specs::State::load_state))]
 pub fn load_state<S: Suite>(alloc: Global, saved: SavedState) -> Result<EpochState, LoadError>
     requires { IsBelow (2 ^ 27) saved_state saved }
-    ensures { Gives (load_state S.crypto saved) result }
+    ensures { Loads number_of (load_state S.crypto saved) result }
 {
     check_suite::<S>(&saved.context)?;
     let interim = secret_of(&saved.interim)?;

@@ -1,5 +1,6 @@
 use Rattle.std.proofs.Common.{◌^◌, arith, ap, length}
-use Rattle.mls_join.proofs.Lengths.{parts_below, short_context}
+use Rattle.mls_public_group.proofs.Lengths.{short_context}
+use Rattle.mls_join.proofs.Lengths.{parts_below}
 use Rattle.mls_join.proofs.entrance.enter_group.Goals as goal
 
 pub context_spelling-requires : goal.context_spelling-requires

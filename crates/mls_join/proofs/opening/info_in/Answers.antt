@@ -1,5 +1,5 @@
 use Rattle.std.proofs.Common.{arith}
-use Rattle.mls_join.proofs.Lengths.{read_below}
+use Rattle.mls_public_group.proofs.Limits.{read_below}
 use Rattle.mls_join.proofs.Welcomes.{bytes_are}
 use Rattle.mls_types.specs.GroupInfo.{group_info}
 use Rattle.mls_join.proofs.opening.info_in.Goals as goal

@@ -1,5 +1,6 @@
 use Rattle.std.proofs.Common.{◌^◌}
-use Rattle.mls_join.proofs.Lengths.{parts_below, short_context}
+use Rattle.mls_public_group.proofs.Lengths.{short_context}
+use Rattle.mls_join.proofs.Lengths.{parts_below}
 use Rattle.mls_join.proofs.tree.joined_tree.Goals as goal
 
 pub tree_of-requires : goal.tree_of-requires

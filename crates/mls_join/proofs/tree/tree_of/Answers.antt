@@ -1,6 +1,6 @@
 use Rattle.std.proofs.Common.{◌≡◌, ◌^◌, sym, ◌∙◌}
 use Rattle.std.specs.List.{each_same}
-use Rattle.mls_join.proofs.LeavesBelow.{leaves_below}
+use Rattle.mls_public_group.proofs.LeavesBelow.{leaves_below}
 use Rattle.mls_join.proofs.tree.tree_of.Goals as goal
 
 pub returns-clause-below : goal.returns-clause-below

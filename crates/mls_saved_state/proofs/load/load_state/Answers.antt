@@ -1,7 +1,8 @@
 use Rattle.std.proofs.Common.{◌≡◌, ◌^◌, ◌==◌, true}
 use Rattle.std.proofs.lemmas.Result.{err_from_is_err_and}
 use Rattle.mls_tree.specs.Tree.{term}
-use Rattle.mls_saved_state.proofs.Lengths.{context_below, tree_below, short_context}
+use Rattle.mls_public_group.proofs.Lengths.{short_context}
+use Rattle.mls_saved_state.proofs.Lengths.{context_below, tree_below}
 use Rattle.mls_saved_state.proofs.Loading.{is_so, state_is, keys_refused}
 use Rattle.mls_saved_state.proofs.load.load_state.Goals as goal
 

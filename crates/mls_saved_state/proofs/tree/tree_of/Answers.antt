@@ -1,5 +1,5 @@
 use Rattle.std.proofs.Common.{◌^◌}
-use Rattle.mls_saved_state.proofs.LeavesBelow.{leaves_below}
+use Rattle.mls_public_group.proofs.LeavesBelow.{leaves_below}
 use Rattle.mls_saved_state.proofs.tree.tree_of.Goals as goal
 
 pub returns-clause-below : goal.returns-clause-below

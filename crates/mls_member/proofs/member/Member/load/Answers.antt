@@ -1,6 +1,5 @@
 use Rattle.mls_saved.specs.Member.{saved_member}
-use Rattle.mls_join.proofs.Lengths.{read_below}
-use Rattle.mls_member.proofs.LoadedKept.{no_fault}
+use Rattle.mls_public_group.proofs.Limits.{no_fault, read_below}
 use Rattle.mls_member.proofs.member.Member.load.Goals as goal
 
 pub of_saved-requires : goal.of_saved-requires

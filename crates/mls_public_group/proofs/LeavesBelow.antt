@@ -10,13 +10,11 @@ use Rattle.mls_leaf.specs.Node.{node}
 use Rattle.mls_leaf.specs.declared.leaf.LeafNode.{LeafNode}
 use Rattle.mls_leaf.specs.declared.node.Node.{Node}
 use Rattle.mls_leaf.specs.declared.node.Node.TheVariants.{Leaf as in_leaf, Parent as in_parent}
-use Rattle.mls_checks.specs.Short.{IsShort}
 use Rattle.mls_types.specs.GroupInfo.{ratchet_tree}
 use Rattle.mls_treemath.specs.Paths.{nodes_in}
 use Rattle.mls_tree_model.specs.Term.{Term, leaf_at, leaf_of, width}
 use Rattle.mls_tree_model.specs.Arrays.{leaf_in, term_of, padded, height_for, sent_term, from_nodes}
 use Rattle.mls_tree.specs.Tree.{max_leaves}
-use Rattle.mls_tree.specs.ShortLeaves.{HasShortLeaves}
 use Rattle.mls_tree.proofs.Cells.{Cells, of_front, of_back, of_padded}
 use Rattle.mls_tree.proofs.SentLemmas.{sent_is}
 use Rattle.mls_public_group.specs.Short.{IsBelow, HasLeavesBelow}
@@ -69,11 +67,3 @@ leaves_below n xs items t is same e =
     let text : List ℕ = flat_map (optional node).spell xs in
     let sent = sent_is xs t (subst (λ (ys : List (Option Node)). from_nodes max_leaves ys ≡ Ok t) same e) in
     subst (HasLeavesBelow n) sent.0 (of_sent n xs (of_spelled n xs is.fits.0 (omega (arith, length-append (header (length text)) text, is.below))))
-
--- as trees want it
-short_if : (o : Option LeafNode) → IfSome o (λ v. IsBelow (2 ^ 27) leaf_node v) → IfSome o (λ v. IsShort leaf_node v)
-short_if None is = tt
-short_if (Some v) is = record { fits = is.fits; short = omega (arith, is.below) }
-
-pub short_leaves : (t : Term) → HasLeavesBelow (2 ^ 27) t → HasShortLeaves t
-short_leaves t all i = short_if (leaf_of t i) (all i)

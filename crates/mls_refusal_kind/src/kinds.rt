@@ -1,17 +1,14 @@
-//! What a caller may do about a refusal.
+//! Kinds of refusals.
 
 ghost use Rattle.std.specs.Prelude.{◌≡◌};
-ghost use Rattle.mls_member.specs.Faults.{number_of};
-ghost use Rattle.mls_member.specs.RefusalKinds.{kind_of};
-
-use crate::error::Refusal;
+ghost use Rattle.mls_refusal_kind.specs.RefusalKinds.{kind_of};
 
 /// What a caller may do about a refusal. Each number of a refusal has one kind.
 #[derive(Clone, Copy, Debug, PartialEq, Eq)]
 pub enum RefusalKind {
     /// A growth was refused (1): call again once there is memory. Nothing has changed.
     OutOfMemory,
-    /// The bytes are no message (2 to 5, 7, 13): drop them.
+    /// The bytes are no message, or no saved form (2 to 5, 7, 13, 101): drop them.
     Malformed,
     /// An input or what would be made is too long (6).
     TooLong,
@@ -23,11 +20,11 @@ pub enum RefusalKind {
     OtherGroup,
     /// The message is of another epoch (43): drop an old one, keep a later one until that epoch.
     OtherEpoch,
-    /// The KeyPackage, or the group of the Welcome, is of another suite (55, 71).
+    /// The KeyPackage, the group of the Welcome, or what was saved is of another suite (55, 71, 100).
     OtherSuite,
     /// The Welcome is for others (72): try it with another candidate.
     NotForMe,
-    /// No member is at the leaf (22, 44).
+    /// No member is at the leaf (22, 44, 102).
     NotAMember,
     /// The message is one's own, and isn't kept (48): there is nothing to do.
     OwnMessage,
@@ -35,7 +32,8 @@ pub enum RefusalKind {
     BadTag,
     /// A signature doesn't verify (47, 51, 56, 79): drop the message.
     BadSignature,
-    /// A secret doesn't open, or leads to other keys (32 to 35, 73, 75): the member can't follow this message.
+    /// A secret doesn't open, or keys aren't those that are due (32 to 35, 73, 75, 104): the member can't follow this
+    /// message, or what was saved isn't a member's or a candidate's own.
     Unreadable,
     /// The commit names a proposal that isn't kept (60): process that proposal first.
     MissingProposal,
@@ -45,43 +43,34 @@ pub enum RefusalKind {
     Gone,
     /// The group has no room for another leaf or another epoch (21, 66): begin another group.
     GroupFull,
-    /// The message, or what would be made, breaks a rule of the standard (all other numbers).
+    /// The message, what was saved, or what would be made breaks a rule of the standard (all other numbers).
     Forbidden,
 }
 
 /// The kind of a refusal with this number.
-fn kind_of(number: u8) -> RefusalKind
+pub fn kind_of(number: u8) -> RefusalKind
     ensures { result ≡ kind_of number }
 {
     match number {
         // Want of memory: the kind of a refusal with its number, 1.
         1 => RefusalKind::OutOfMemory,
-        2 | 3 | 4 | 5 | 7 | 13 => RefusalKind::Malformed,
+        2 | 3 | 4 | 5 | 7 | 13 | 101 => RefusalKind::Malformed,
         6 => RefusalKind::TooLong,
         11 | 12 | 14 | 74 | 76 => RefusalKind::Unsupported,
         41 | 45 | 70 => RefusalKind::WrongMessage,
         42 => RefusalKind::OtherGroup,
         43 => RefusalKind::OtherEpoch,
-        55 | 71 => RefusalKind::OtherSuite,
+        55 | 71 | 100 => RefusalKind::OtherSuite,
         72 => RefusalKind::NotForMe,
-        22 | 44 => RefusalKind::NotAMember,
+        22 | 44 | 102 => RefusalKind::NotAMember,
         48 => RefusalKind::OwnMessage,
         46 | 65 => RefusalKind::BadTag,
         47 | 51 | 56 | 79 => RefusalKind::BadSignature,
-        32 | 33 | 34 | 35 | 73 | 75 => RefusalKind::Unreadable,
+        32 | 33 | 34 | 35 | 73 | 75 | 104 => RefusalKind::Unreadable,
         60 => RefusalKind::MissingProposal,
         67 => RefusalKind::CommitPending,
         40 => RefusalKind::Gone,
         21 | 66 => RefusalKind::GroupFull,
         _ => RefusalKind::Forbidden,
-    }
-}
-
-impl Refusal {
-    /// What a caller may do about it, by its number.
-    pub fn kind(self) -> RefusalKind
-        ensures { result ≡ kind_of (number_of self) }
-    {
-        kind_of(self.number())
     }
 }

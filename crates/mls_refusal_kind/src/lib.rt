@@ -1,0 +1,6 @@
+//! What a caller may do about a refusal, by its number.
+#![tactic(auto)]
+
+mod kinds;
+
+pub use kinds::{RefusalKind, kind_of};
