@@ -33,7 +33,7 @@ pub struct ListedProposal {
 }
 
 /// A copy of a proposal that a commit uses.
-fn copy_used(used: &Used<'_>) -> Result<ListedProposal, AllocError>
+fn copy_used_proposal(used: &Used<'_>) -> Result<ListedProposal, AllocError>
     ensures { IfOk result (λ x. x ≡ listed_as used.now) }
 {
     Ok(ListedProposal {
@@ -43,12 +43,12 @@ fn copy_used(used: &Used<'_>) -> Result<ListedProposal, AllocError>
 }
 
 /// Copies of the proposals that a commit uses.
-fn copy_all_used(alloc: Global, used: &[Used<'_>]) -> Result<Vec<ListedProposal>, AllocError>
+fn copy_used_proposals(alloc: Global, used: &[Used<'_>]) -> Result<Vec<ListedProposal>, AllocError>
     ensures { IfOk result (λ v. v.items ≡ map listed_as used.now) }
 {
     let mut copies = Vec::new(alloc);
     for one in used {
-        copies.push(copy_used(one)?)?;
+        copies.push(copy_used_proposal(one)?)?;
     }
     Ok(copies)
 }
@@ -69,7 +69,7 @@ pub(crate) fn read_list(
 
 /// The proposals of a commit's list, each with its sender; `UnknownReference` (60) where one that is named isn't kept.
 #[tactic(auto, unfolding(crate::specs::ListedProposals::proposals_listed))]
-fn list_used(
+fn list_used_proposals(
     alloc: Global,
     kept: &[KeptProposal],
     committer: u32,
@@ -79,7 +79,7 @@ fn list_used(
     ensures { Lists (proposals_listed kept.now committer list.now) result }
 {
     let used = find_proposals(alloc, kept, committer, list)?;
-    let copies = copy_all_used(alloc, &used)?;
+    let copies = copy_used_proposals(alloc, &used)?;
     Ok(copies)
 }
 
@@ -97,7 +97,7 @@ impl<S: Suite> Member<S> {
     {
         let committer = sender_leaf(&view.content.sender);
         let list = read_list(self.alloc, proposals)?;
-        list_used(self.alloc, &self.kept, committer, list.as_slice())
+        list_used_proposals(self.alloc, &self.kept, committer, list.as_slice())
     }
 
     /// The proposals that a message shows, by its content.
