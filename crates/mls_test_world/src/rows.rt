@@ -1,6 +1,8 @@
 //! Groups of two and three members, and what crosses between them.
 
-use crate::script::{Act, Part, Parts, Said, Sent, reload_members, run_in_each_way, run_with_reloads};
+use crate::script::{
+    Act, Part, Parts, Said, Sent, reload_members, run_in_each_way, run_with_reloads,
+};
 use mls_model::{Effect, Event, Origin, Reply, Source};
 use mls_suite::{Glass, OutOfMemory};
 use mls_world::World;
