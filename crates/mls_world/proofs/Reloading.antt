@@ -1,13 +1,8 @@
 -- Active members of a world that events led to are good, so each is loaded as it was saved.
 use Rattle.std.proofs.Common.{◌≡◌, ◌≢◌, ℕ, Bool, true, false, List, Option, Some, None, Result, Ok, Err, slice_get, refl, sym, ap, subst, ◌∙◌}
 use Rattle.std.specs.Prelude.{if◌then◌else◌, option_map}
-use Rattle.mls_leaf.specs.Faults.{Refuses}
-use Rattle.mls_leaf.specs.declared.error.LeafError.{LeafError}
-use Rattle.mls_leaf.specs.declared.error.LeafError.TheVariants.{Wire}
-use Rattle.mls_wire.specs.declared.WireError.TheVariants as wire
 use Rattle.mls_saved_state.specs.Faults.{number_of, Gives}
 use Rattle.mls_saved_state.specs.declared.error.LoadError.{LoadError}
-use Rattle.mls_saved_state.specs.declared.error.LoadError.TheVariants.{Leaf as in_leaf}
 use Rattle.mls_suite.specs.Crypto.{Crypto, Lawful}
 use Rattle.mls_model.specs.Headline.{IsActive}
 use Rattle.mls_model.specs.Invariant.{IsGoodWorld, IsSeated}
@@ -16,8 +11,8 @@ use Rattle.mls_model.specs.MemberInvariant.{IsGoodMember}
 use Rattle.mls_model.specs.World.{World, Seat, empty_world}
 use Rattle.mls_theorems.specs.Reachable.{IsReachable}
 use Rattle.mls_theorems.proofs.Runs.{empty_good, runs_keep_good}
-use Rattle.mls_member.specs.Saved.{saved_of, load, FitsInput, LoadsAsWas}
-use Rattle.mls_world.specs.Reload.{present, active_member, IsTooLong}
+use Rattle.mls_member.specs.Saved.{load, LoadsAsWas}
+use Rattle.mls_world.specs.Reload.{present, active_member, IsTooLong, Reloads}
 use Rattle.mls_world_plain.specs.CallAnswers.{seated_member}
 
 -- a world that events led to is good
@@ -48,21 +43,23 @@ active_good c laws w reach k m at =
     let found : IsSeated c good.0 w s.0 = good.1.members k s.0 seated in
     subst (IsGoodMember c) s.1.1 found.good
 
--- an active member's bytes are loaded as the member
-pub active_loaded : (c : Crypto) → Lawful c → (w : World) → IsReachable c w → (k : ℕ) (m : Member) → active_member w k ≡ Some m → (bytes : List ℕ) → LoadsAsWas c m bytes →
-    load c bytes ≡ Ok m
-active_loaded c laws w reach k m at bytes loads = loads (active_good c laws w reach k m at)
-
--- what is refused where a member is saved
-pub save_refused : (m : Member) (e : LeafError) → Refuses (FitsInput (saved_of m)) e → number_of (in_leaf e) ≢ 1 → (number_of (in_leaf e) ≡ 6) × IsTooLong m
-save_refused m (Wire wire.OutOfMemory) h other = absurd (other refl)
-save_refused m (Wire wire.TooLong) h other = (refl, h)
-save_refused m e h other = absurd h
+-- what the bytes of an active member are loaded as is the member
+pub loaded_same : (c : Crypto) → Lawful c → (w : World) → IsReachable c w → (k : ℕ) (m n : Member) (bytes slice : List ℕ) → active_member w k ≡ Some m → LoadsAsWas c m bytes →
+    slice ≡ bytes → load c slice ≡ Ok n → seated_member w k ≡ Some n
+loaded_same c laws w reach k m n bytes slice at loads is h =
+    let as_was : load c slice ≡ Ok m = subst (λ (x : List ℕ). load c x ≡ Ok m) (sym is) (loads (active_good c laws w reach k m at)) in
+    let same : Ok m ≡ Ok n = sym as_was ∙ h in
+    let equal : m ≡ n = cc in
+    (present_in (seated_member w k) m at).0 ∙ ap (λ (x : Member). Some x) equal
 
 -- bytes that are loaded are refused for want of memory alone
-pub load_refused : (c : Crypto) (m : Member) (bytes : List ℕ) (e : LoadError) → load c bytes ≡ Ok m → Gives (load c bytes) (Err e) → number_of e ≢ 1 → (number_of e ≡ 6) × IsTooLong m
-load_refused c m bytes e is h other = let wrong : Err (number_of e) ≡ Ok m = sym (h other) ∙ is in absurd cc
+refused : (c : Crypto) (m : Member) (bytes : List ℕ) (e : LoadError) → load c bytes ≡ Ok m → Gives (load c bytes) (Err e) → number_of e ≢ 1 → (number_of e ≡ 6) × IsTooLong m
+refused c m bytes e is h other = let wrong : Err (number_of e) ≡ Ok m = sym (h other) ∙ is in absurd cc
 
--- what was loaded is the member
-pub loaded_same : (c : Crypto) (m n : Member) (bytes : List ℕ) → load c bytes ≡ Ok m → load c bytes ≡ Ok n → m ≡ n
-loaded_same c m n bytes is h = let same : Ok m ≡ Ok n = sym is ∙ h in cc
+-- the bytes of an active member are refused for want of memory alone
+pub load_refused : (c : Crypto) → Lawful c → (w : World) → IsReachable c w → (k : ℕ) (m : Member) (bytes slice : List ℕ) (e : LoadError) →
+    active_member w k ≡ Some m → LoadsAsWas c m bytes → slice ≡ bytes → Gives (load c slice) (Err e) → Reloads (active_member w k) (Err e)
+load_refused c laws w reach k m bytes slice e at loads is h =
+    let as_was : load c slice ≡ Ok m = subst (λ (x : List ℕ). load c x ≡ Ok m) (sym is) (loads (active_good c laws w reach k m at)) in
+    let short : Reloads (Some m) (Err e) = refused c m slice e as_was h in
+    subst (λ (o : Option Member). Reloads o (Err e)) (sym at) short
