@@ -2,3 +2,4 @@ mod Reaching
 mod Replying
 mod Ranging
 mod Calling
+pub mod Reloading

@@ -4,6 +4,7 @@
 mod calls;
 mod history;
 mod ranges;
+mod reload;
 mod replies;
 mod world;
 
