@@ -44,8 +44,10 @@ MakesConversation m result = Answers (λ s. s) number_of (conversation_of m) res
 
 -- it refuses so whatever memory there is
 abbrev pub RefusesConversation : Member → Result State ConversationError → Type 0
-RefusesConversation m result = (n : ℕ) → conversation_of m ≡ Err n → IsErrAnd result (λ e. number_of e ≡ n)
+RefusesConversation m result = (n : ℕ) → conversation_of m ≡ Err n
+    → IsErrAnd result (λ e. number_of e ≡ n)
 
 -- a call takes out of a member what it exchanges messages with, or finds no memory
 abbrev pub TakesParts : Member → Tree → Result Parts ConversationError → Type 0
-TakesParts m keys result = MatchResult result (λ p. state_of_parts p ≡ state_with m keys) (λ e. e ≡ OutOfMemory)
+TakesParts m keys result =
+    MatchResult result (λ p. state_of_parts p ≡ state_with m keys) (λ e. e ≡ OutOfMemory)

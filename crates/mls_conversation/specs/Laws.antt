@@ -37,13 +37,16 @@ IsLaterThan c first s = (calls : List Call) × (s ≡ after_calls c first calls)
 
 -- a conversation at first can open each generation up to the window
 abbrev pub FreshCanOpen : Type 0
-FreshCanOpen = (m : Member) (s : State) (leaf generation : ℕ) → conversation_of m ≡ Ok s → leaf < 2 ^ s.keys.height → generation ≤ window
+FreshCanOpen = (m : Member) (s : State) (leaf generation : ℕ) → conversation_of m ≡ Ok s
+    → leaf < 2 ^ s.keys.height → generation ≤ window
     → CanOpen s leaf generation
 
 -- what a member seals in an epoch opens at each member that shares the epoch: with the sender's leaf and identity, the
 -- generation and the very data, in whatever states their conversations are, as long as the key can be derived there
 abbrev pub ArrivesAtMembers : Crypto → Type 0
-ArrivesAtMembers c = (m n : Member) (shared : ConversationsShare c m n) (s after r : State) (application_data authenticated_data : List ℕ)
+ArrivesAtMembers c =
+    (m n : Member) (shared : ConversationsShare c m n) (s after r : State)
+    (application_data authenticated_data : List ℕ)
     (padding : ℕ) (seed bytes : List ℕ) (generation : ℕ)
     → IsLaterThan c shared.first.state s → IsLaterThan c shared.second.state r
     → seal_message c s application_data authenticated_data padding seed ≡ Ok (bytes, after)

@@ -20,7 +20,8 @@ pub record AreTogether (w : World) (i j : ℕ) (s t : Seat) : Type 0 where
 
 -- two such members share an epoch, whatever events led to the world
 abbrev pub TogetherShare : Crypto → Type 0
-TogetherShare c = (w : World) → IsReachable c w → (i j : ℕ) (s t : Seat) → AreTogether w i j s t → ShareEpoch c s.member t.member
+TogetherShare c = (w : World) → IsReachable c w → (i j : ℕ) (s t : Seat) → AreTogether w i j s t
+    → ShareEpoch c s.member t.member
 
 -- two members converse: they have conversations of one epoch, and what the first seals arrives at the second, once, in
 -- whatever order

@@ -103,9 +103,11 @@ impl<S: Suite> Conversation<S> {
         padding: usize,
         seed: &Seed,
     ) -> Result<Vec<u8>, ExchangeError>
-        ensures answer { Seals S.crypto application_data.now authenticated_data.now padding seed.now self.old self.new result }
+        ensures answer { Seals S.crypto application_data.now authenticated_data.now padding seed.now
+            self.old self.new result }
         // 110, and 6 of the arguments, come also when an allocation fails.
-        ensures outright { RefusesSealing self.old application_data.now authenticated_data.now padding result }
+        ensures outright { RefusesSealing self.old application_data.now authenticated_data.now
+            padding result }
     {
         self.exchange
             .seal(application_data, authenticated_data, padding, seed)

@@ -6,14 +6,18 @@ use Rattle.mls_leaf.specs.Faults.{whole}
 use Rattle.mls_leaf.specs.Limits.{input_limit}
 use Rattle.mls_leaf.specs.declared.leaf.LeafNode.{LeafNode}
 use Rattle.mls_suite.specs.Crypto.{Crypto}
+use Rattle.mls_secret_tree.specs.declared.secrets.MessageKey.{MessageKey}
 use Rattle.mls_secret_tree.specs.SecretTree.{Drafted}
+use Rattle.mls_private_message.specs.declared.content.ReadContent.{ReadContent}
 use Rattle.mls_private_message.specs.declared.private_message.PrivateMessage.{PrivateMessage}
+use Rattle.mls_private_message.specs.declared.sender_data.SenderData.{SenderData}
 use Rattle.mls_private_message.specs.PrivateMessage.{private_message}
 use Rattle.mls_exchange.specs.declared.error.ExchangeError.{ExchangeError}
 use Rattle.mls_exchange.specs.declared.open.Opened.{Opened}
+use Rattle.mls_exchange.specs.declared.seal.Plain.{Plain}
 use Rattle.mls_exchange.specs.State.{State, after_draft}
-use Rattle.mls_exchange.specs.Sealing.{seal_message, sealing_checks}
-use Rattle.mls_exchange.specs.Opening.{open_read, open_message}
+use Rattle.mls_exchange.specs.Sealing.{own_signature, own_content, message_under, seal_message, sealing_checks}
+use Rattle.mls_exchange.specs.Opening.{signature_check, data_of, open_read, open_message}
 use Rattle.mls_exchange.specs.Faults.{number_of}
 
 -- A call answers what the definition does, or refuses with its number. Where memory was refused it says nothing.
@@ -38,22 +42,55 @@ RefusesOutright defined result = (n : ℕ) → defined ≡ Err n → IsErrAnd re
 
 -- ---- sealing and opening
 
--- the generation that a message takes: data, authenticated data, padding
-abbrev pub GivesGeneration : State → List ℕ → List ℕ → ℕ → Result ℕ ExchangeError → Type 0
-GivesGeneration s application_data authenticated_data padding result =
-    AnswersOutright (λ g. g) number_of (sealing_checks s application_data authenticated_data padding) result
+-- the generation that a message takes
+abbrev pub GivesGeneration : State → Plain → Result ℕ ExchangeError → Type 0
+GivesGeneration s plain result =
+    AnswersOutright (λ g. g) number_of
+    (sealing_checks s plain.application_data.now plain.authenticated_data.now plain.padding) result
+
+-- the own signature of the data
+abbrev pub Signs : Crypto → State → Plain → Result (Vec ℕ) ExchangeError → Type 0
+Signs c s plain result =
+    GivesBytes (own_signature c s plain.application_data.now plain.authenticated_data.now) result
+
+-- the content of the data, with the own signature and the padding
+abbrev pub GivesContent : Crypto → State → Plain → Result (Vec ℕ) ExchangeError → Type 0
+GivesContent c s plain result =
+    GivesBytes
+    (own_content c s plain.application_data.now plain.authenticated_data.now plain.padding) result
+
+-- the message of a content under a key, with sender data and the authenticated data
+abbrev pub GivesMessage : Crypto → State → MessageKey → SenderData → Plain → List ℕ →
+    Result (Vec ℕ) ExchangeError → Type 0
+GivesMessage c s key sender plain content result =
+    GivesBytes (message_under c s key sender plain.authenticated_data.now content) result
 
 -- sealing: data, authenticated data, padding, seed
-abbrev pub Seals : Crypto → List ℕ → List ℕ → ℕ → List ℕ → State → State → Result (Vec ℕ) ExchangeError → Type 0
+abbrev pub Seals : Crypto → List ℕ → List ℕ → ℕ → List ℕ → State → State →
+    Result (Vec ℕ) ExchangeError → Type 0
 Seals c application_data authenticated_data padding seed old new result =
-    DoesAs (λ v. v.items) number_of (seal_message c old application_data authenticated_data padding seed) old new result
+    DoesAs (λ v. v.items) number_of
+    (seal_message c old application_data authenticated_data padding seed) old new result
 
 abbrev pub RefusesSealing : State → List ℕ → List ℕ → ℕ → Result (Vec ℕ) ExchangeError → Type 0
 RefusesSealing s application_data authenticated_data padding result =
     RefusesOutright (sealing_checks s application_data authenticated_data padding) result
 
+-- the signature of a content that was read verifies by the sender's leaf
+abbrev pub ChecksSignature : Crypto → State → PrivateMessage → ℕ → LeafNode → ReadContent →
+    Result (Unit {0}) ExchangeError → Type 0
+ChecksSignature c s m sender leaf content result =
+    Passes (signature_check c s m sender leaf content.application_data.now content.signature.now)
+    result
+
+-- the data of a content
+abbrev pub GivesData : Crypto → State → PrivateMessage → ℕ → LeafNode → List ℕ →
+    Result (List ℕ) ExchangeError → Type 0
+GivesData c s m sender leaf content result = Gives (data_of c s m sender leaf content) result
+
 -- what a message says, with the draft of its key
-abbrev pub OpensRead : Crypto → State → PrivateMessage → Result (Opened × Drafted) ExchangeError → Type 0
+abbrev pub OpensRead : Crypto → State → PrivateMessage → Result (Opened × Drafted) ExchangeError →
+    Type 0
 OpensRead c s m result = Answers (λ x. (x.0, after_draft s x.1)) number_of (open_read c s m) result
 
 -- opening: the message's bytes

@@ -53,23 +53,36 @@ pub record IsOwnLeaf (c : Crypto) (s : State) (leaf : LeafNode) : Type 0 where
 -- the key of a leaf in a generation was used: it is gone, with all that it is derived from; the other keys within the
 -- window are not, no other key can be derived that couldn't before, and nothing else changed (RFC 9420, 9.2)
 pub record UsesKey (s : State) (leaf generation : ℕ) (after : State) : Type 0 where
-  pub share : (encryption_secret : List ℕ) → IsTreeOf encryption_secret s.keys → OfOneEpoch encryption_secret s after
+  pub share : (encryption_secret : List ℕ) → IsTreeOf encryption_secret s.keys
+      → OfOneEpoch encryption_secret s after
   pub own_leaf : after.leaf ≡ s.leaf
   pub own_key : after.signing ≡ s.signing
   pub keys : LosesOne s.keys leaf generation after.keys
 
 -- sealing uses the own key of the next generation
 abbrev pub SealingUsesKey : Crypto → Type 0
-SealingUsesKey c = (encryption_secret : List ℕ) (s after : State) (application_data authenticated_data : List ℕ) (padding : ℕ) (seed bytes : List ℕ)
-    → IsTreeOf encryption_secret s.keys → seal_message c s application_data authenticated_data padding seed ≡ Ok (bytes, after)
-    → (generation : ℕ) × (next_generation s.keys s.leaf ≡ Some generation) × UsesKey s s.leaf generation after
+SealingUsesKey c =
+    (encryption_secret : List ℕ) (s after : State) (application_data authenticated_data : List ℕ)
+    (padding : ℕ) (seed bytes : List ℕ)
+    → IsTreeOf encryption_secret s.keys
+    → seal_message c s application_data authenticated_data padding seed ≡ Ok (bytes, after)
+    → (generation : ℕ) × (next_generation s.keys s.leaf ≡ Some generation)
+    × UsesKey s s.leaf generation after
 
 -- opening uses the key of the sender in the message's generation
 abbrev pub OpeningUsesKey : Crypto → Type 0
 OpeningUsesKey c = (encryption_secret : List ℕ) (s after : State) (bytes : List ℕ) (o : Opened)
-    → IsTreeOf encryption_secret s.keys → open_message c s bytes ≡ Ok (o, after) → UsesKey s o.leaf_index o.generation after
+    → IsTreeOf encryption_secret s.keys → open_message c s bytes ≡ Ok (o, after)
+    → UsesKey s o.leaf_index o.generation after
 
 -- ---- what opens is genuine
+
+-- what the sender of opened data signed: a FramedContentTBS of the state's epoch (RFC 9420, 6.1)
+abbrev pub opened_text : State → Opened → List ℕ
+opened_text s o =
+    private_content_tbs
+    (application_content s.group_id s.epoch o.leaf_index o.authenticated_data o.application_data)
+    s.context
 
 -- the message is one of the state's group and epoch; its sender data says leaf and generation; its content opens under
 -- the key of that leaf in that generation, which the encryption secret gives; the content says the data, and its
@@ -96,11 +109,11 @@ pub record IsGenuine (c : Crypto) (s : State) (bytes : List ℕ) (o : Opened) : 
   pub says : private_content_at content ≡ Ok (o.application_data, signature)
   pub adds : o.authenticated_data ≡ message.authenticated_data
   pub verifies : verify_with_label c leaf.signature_key (codes "FramedContentTBS")
-      (private_content_tbs (application_content s.group_id s.epoch o.leaf_index o.authenticated_data o.application_data) s.context) signature
-      ≡ true
+      (opened_text s o) signature ≡ true
 
 abbrev pub OpenedIsGenuine : Crypto → Type 0
-OpenedIsGenuine c = (s after : State) (bytes : List ℕ) (o : Opened) → open_message c s bytes ≡ Ok (o, after) → IsGenuine c s bytes o
+OpenedIsGenuine c = (s after : State) (bytes : List ℕ) (o : Opened)
+    → open_message c s bytes ≡ Ok (o, after) → IsGenuine c s bytes o
 
 -- ---- what is sealed arrives
 
@@ -110,7 +123,8 @@ pub record CanOpen (s : State) (leaf generation : ℕ) : Type 0 where
   pub near : generation ≤ next_below s.keys.root (leaf_path s.keys.height leaf) + window
 
 -- what a member of a leaf sealed opens as that, and uses that key
-pub record Arrives (c : Crypto) (s r : State) (leaf : LeafNode) (generation : ℕ) (application_data authenticated_data bytes : List ℕ) : Type 0 where
+pub record Arrives (c : Crypto) (s r : State) (leaf : LeafNode) (generation : ℕ)
+    (application_data authenticated_data bytes : List ℕ) : Type 0 where
   pub after : State
   pub opens : open_message c r bytes ≡ Ok (
     record {
@@ -127,7 +141,9 @@ pub record Arrives (c : Crypto) (s r : State) (leaf : LeafNode) (generation : �
 -- what a member seals opens at each state that shares its epoch, whatever that opened and sealed before, as long as the
 -- key of the message's generation can be derived there within the window
 abbrev pub SealedArrives : Crypto → Type 0
-SealedArrives c = (encryption_secret : List ℕ) (s after r : State) (leaf : LeafNode) (application_data authenticated_data : List ℕ) (padding : ℕ)
+SealedArrives c =
+    (encryption_secret : List ℕ) (s after r : State) (leaf : LeafNode)
+    (application_data authenticated_data : List ℕ) (padding : ℕ)
     (seed bytes : List ℕ) (generation : ℕ)
     → IsInRange s → OfOneEpoch encryption_secret s r → IsOwnLeaf c s leaf
     → seal_message c s application_data authenticated_data padding seed ≡ Ok (bytes, after)
@@ -147,7 +163,8 @@ kept_state s (Ok x) = x.1
 kept_state s (Err n) = s
 
 abbrev pub after_call : Crypto → State → Call → State
-after_call c s (Seal application_data authenticated_data padding seed) = kept_state s (seal_message c s application_data authenticated_data padding seed)
+after_call c s (Seal application_data authenticated_data padding seed) =
+    kept_state s (seal_message c s application_data authenticated_data padding seed)
 after_call c s (Open bytes) = kept_state s (open_message c s bytes)
 
 -- the state that calls leave, one after another
@@ -162,7 +179,8 @@ pub record StaysInEpoch (encryption_secret : List ℕ) (s after : State) : Type 
   pub own_key : after.signing ≡ s.signing
 
 abbrev pub CallsStayInEpoch : Crypto → Type 0
-CallsStayInEpoch c = (encryption_secret : List ℕ) (s : State) (calls : List Call) → IsTreeOf encryption_secret s.keys
+CallsStayInEpoch c = (encryption_secret : List ℕ) (s : State) (calls : List Call)
+    → IsTreeOf encryption_secret s.keys
     → StaysInEpoch encryption_secret s (after_calls c s calls)
 
 -- a state holds nothing that the key of a leaf in a generation is derived from
@@ -172,11 +190,14 @@ IsGone s leaf generation = holds s.keys leaf generation ≡ false
 -- whatever is called later, a key that is gone stays so, and no message opens under it
 pub record StaysGone (c : Crypto) (s : State) (leaf generation : ℕ) : Type 0 where
   pub gone : IsGone s leaf generation
-  pub never_opens : (bytes : List ℕ) (o : Opened) (after : State) → open_message c s bytes ≡ Ok (o, after) → o.leaf_index ≡ leaf → o.generation ≡ generation → ⊥
-  pub never_seals : (application_data authenticated_data : List ℕ) (padding : ℕ) (seed bytes : List ℕ) (after : State)
+  pub never_opens : (bytes : List ℕ) (o : Opened) (after : State)
+      → open_message c s bytes ≡ Ok (o, after) → o.leaf_index ≡ leaf → o.generation ≡ generation → ⊥
+  pub never_seals : (application_data authenticated_data : List ℕ) (padding : ℕ)
+      (seed bytes : List ℕ) (after : State)
       → seal_message c s application_data authenticated_data padding seed ≡ Ok (bytes, after)
       → s.leaf ≡ leaf → next_generation s.keys s.leaf ≡ Some generation → ⊥
 
 abbrev pub GoneStaysGone : Crypto → Type 0
 GoneStaysGone c = (encryption_secret : List ℕ) (s : State) (calls : List Call) (leaf generation : ℕ)
-    → IsTreeOf encryption_secret s.keys → IsGone s leaf generation → StaysGone c (after_calls c s calls) leaf generation
+    → IsTreeOf encryption_secret s.keys → IsGone s leaf generation
+    → StaysGone c (after_calls c s calls) leaf generation

@@ -23,9 +23,12 @@ unfoldable pub place_checks : State → PrivateMessage → Result Passed ℕ
 place_checks s m = require 111 (bytes_eq m.group_id s.group_id) >> require 112 (m.epoch == s.epoch)
 
 -- `BadMessageSignature` (119) where the signature of a content doesn't verify by the sender's leaf (RFC 9420, 6.1)
-unfoldable pub signature_check : Crypto → State → PrivateMessage → ℕ → LeafNode → List ℕ → List ℕ → Result Passed ℕ
+unfoldable pub signature_check : Crypto → State → PrivateMessage → ℕ → LeafNode → List ℕ → List ℕ →
+    Result Passed ℕ
 signature_check c s m sender leaf application_data signature = do
-  text ← signed_text (application_content m.group_id m.epoch sender m.authenticated_data application_data) s.context
+  text ← signed_text
+      (application_content m.group_id m.epoch sender m.authenticated_data application_data)
+      s.context
   require 119 (verify_with_label c leaf.signature_key (codes "FramedContentTBS") text signature)
 
 -- the data of a PrivateMessageContent: `TooLong` (6) where that is longer than an input may be, its first fault,

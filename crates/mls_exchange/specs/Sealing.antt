@@ -22,12 +22,14 @@ reuse_guard seed = from_be_bytes w32 (expand_with_label seed (codes "seed guard"
 
 -- the own sender data (RFC 9420, 6.3.2)
 abbrev pub own_sender_data : State → ℕ → List ℕ → SenderData
-own_sender_data s generation seed = record { leaf_index = s.leaf; generation = generation; reuse_guard = reuse_guard seed }
+own_sender_data s generation seed =
+    record { leaf_index = s.leaf; generation = generation; reuse_guard = reuse_guard seed }
 
 -- the own signature of data and authenticated data (RFC 9420, 6.1)
 unfoldable pub own_signature : Crypto → State → List ℕ → List ℕ → Result (List ℕ) ℕ
 own_signature c s application_data authenticated_data = do
-  text ← signed_text (application_content s.group_id s.epoch s.leaf authenticated_data application_data) s.context
+  text ← signed_text
+      (application_content s.group_id s.epoch s.leaf authenticated_data application_data) s.context
   Ok (sign_with_label c s.signing (codes "FramedContentTBS") text)
 
 -- the PrivateMessageContent of signed data with so many bytes of padding, or 6 where it is longer than an input may be
@@ -38,14 +40,19 @@ own_content c s application_data authenticated_data padding = do
   within_limit (private_content application_data signature padding)
 
 -- the message of a content under a key, or 6 where it is longer than an input may be (RFC 9420, 6.3)
-unfoldable pub message_under : Crypto → State → MessageKey → SenderData → List ℕ → List ℕ → Result (List ℕ) ℕ
+unfoldable pub message_under : Crypto → State → MessageKey → SenderData → List ℕ → List ℕ →
+    Result (List ℕ) ℕ
 message_under c s key sender authenticated_data content =
-    within_limit (private_message.spell (sealed_message c s.sender_data_secret key sender s.group_id s.epoch authenticated_data content))
+    let secret = s.sender_data_secret in
+    within_limit
+    (private_message.spell
+    (sealed_message c secret key sender s.group_id s.epoch authenticated_data content))
 
 -- whether there are no more bytes than an input may have, of data, of authenticated data, and of padding
 unfoldable pub are_short : List ℕ → List ℕ → ℕ → Bool
 are_short application_data authenticated_data padding =
-    nat_le (length application_data) input_limit && nat_le (length authenticated_data) input_limit && nat_le padding input_limit
+    nat_le (length application_data) input_limit && nat_le (length authenticated_data) input_limit
+    && nat_le padding input_limit
 
 -- the generation that a message takes: `RatchetSpent` (110) after the last; then `TooLong` (6) where an argument is
 -- longer than an input may be
@@ -57,7 +64,8 @@ sealing_checks s application_data authenticated_data padding = do
 
 -- the message of data with authenticated data, so many bytes of padding and a seed, and the state once its key was used
 -- (RFC 9420, 6.3 and 9.1)
-unfoldable pub seal_message : Crypto → State → List ℕ → List ℕ → ℕ → List ℕ → Result (List ℕ × State) ℕ
+unfoldable pub seal_message : Crypto → State → List ℕ → List ℕ → ℕ → List ℕ →
+    Result (List ℕ × State) ℕ
 seal_message c s application_data authenticated_data padding seed = do
   generation ← sealing_checks s application_data authenticated_data padding
   draft ← draft_key s.keys s.leaf generation

@@ -1,14 +1,16 @@
 //! Opening.
 
 ghost use Rattle.mls_private_message.specs.PrivateMessage.{private_message};
-ghost use Rattle.mls_exchange.specs.Opening.{place_checks, signature_check, data_of, open_read};
-ghost use Rattle.mls_exchange.specs.Calls.{Gives, Passes, PassesOutright, OpensRead, Opens, RefusesFaults};
+ghost use Rattle.mls_exchange.specs.Opening.{place_checks};
+ghost use Rattle.mls_exchange.specs.Calls.{ChecksSignature, GivesData, PassesOutright, OpensRead, Opens, RefusesFaults};
 
 use crate::ExchangeError;
 use crate::exchange::{Exchange, member_at, within_limit};
 use crate::said::{Said, signed_text};
 use mls_leaf::{Bytes, Codec, LeafNode};
-use mls_private_message::{PrivateMessage, open_content, open_sender_data, read_content};
+use mls_private_message::{
+    PrivateMessage, ReadContent, open_content, open_sender_data, read_content,
+};
 use mls_secret_tree::{Draft, SecretTreeError};
 use mls_suite::{Suite, verify_with_label};
 
@@ -49,20 +51,20 @@ impl<S: Suite> Exchange<S> {
         message: &PrivateMessage,
         sender: u32,
         leaf: &LeafNode,
-        application_data: &[u8],
-        signature: &[u8],
+        content: &ReadContent<'_>,
     ) -> Result<(), ExchangeError>
-        ensures { Passes (signature_check S.crypto self.now message.now sender leaf.now application_data.now signature.now) result }
+        ensures { ChecksSignature S.crypto self.now message.now sender leaf.now content.now result }
     {
         let said = Said {
             group_id: message.group_id.as_slice(),
             epoch: message.epoch,
             leaf: sender,
             authenticated_data: message.authenticated_data.as_slice(),
-            application_data,
+            application_data: content.application_data,
         };
         let text = signed_text(self.alloc, &said, &self.parts.context)?;
         let key = leaf.signature_key.as_slice();
+        let signature = content.signature;
         if verify_with_label::<S>(self.alloc, key, "FramedContentTBS", &text, signature)? {
             Ok(())
         } else {
@@ -80,13 +82,12 @@ impl<S: Suite> Exchange<S> {
         leaf: &LeafNode,
         content: Vec<u8>,
     ) -> Result<Bytes, ExchangeError>
-        ensures { Gives (data_of S.crypto self.now message.now sender leaf.now content.items) result }
+        ensures { GivesData S.crypto self.now message.now sender leaf.now content.items result }
     {
         let content = within_limit(content)?;
         let said = read_content(&content)?;
-        let application_data = said.application_data;
-        self.check_signature(message, sender, leaf, application_data, said.signature)?;
-        Ok(Bytes::from_slice(self.alloc, application_data)?)
+        self.check_signature(message, sender, leaf, &said)?;
+        Ok(Bytes::from_slice(self.alloc, said.application_data)?)
     }
 
     /// What a message says, and the draft of its key (RFC 9420, 6.3).

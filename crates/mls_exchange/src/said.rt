@@ -1,9 +1,7 @@
 //! What the sender of application data signs (RFC 9420, 6.1).
 
 ghost use Rattle.std.specs.Prelude.{◌<◌, ◌^◌, length, IfOk};
-ghost use Rattle.mls_leaf.specs.Faults.{Writes};
-ghost use Rattle.mls_private_message.specs.Signing.{private_content_tbs};
-ghost use Rattle.mls_exchange.specs.Said.{AreVectors, said_by, AddsPlace, AddsData};
+ghost use Rattle.mls_exchange.specs.Said.{said_by, AddsPlace, AddsData, WritesSigned};
 ghost use Rattle.mls_exchange.specs.Contents.{signed_text};
 ghost use Rattle.mls_exchange.specs.Calls.{GivesBytes};
 
@@ -52,7 +50,7 @@ fn add_data(writer: &mut Writer, said: &Said<'_>) -> Result<(), LeafError>
 /// bytes or more, unless memory runs out before it.
 #[tactic(auto, using(mls_leaf::proofs::Codecs::codecs), unfolding(mls_types::specs::Content::framed_content, mls_types::specs::Content::sender, mls_types::specs::Content::content, crate::specs::Contents::application_content))]
 fn write_signed(alloc: Global, said: &Said<'_>, context: &[u8]) -> Result<Vec<u8>, LeafError>
-    ensures { Writes (AreVectors said.now) (private_content_tbs (said_by said.now) context.now) result }
+    ensures { WritesSigned said.now context.now result }
 {
     let mut writer = Writer::new(alloc);
     add_place(&mut writer, said)?;

@@ -1,8 +1,8 @@
 //! Sealing.
 
 ghost use Rattle.std.specs.Prelude.{◌≡◌, ◌<◌, ◌^◌};
-ghost use Rattle.mls_exchange.specs.Sealing.{are_short, reuse_guard, own_signature, own_content, message_under, sealing_checks};
-ghost use Rattle.mls_exchange.specs.Calls.{GivesGeneration, GivesBytes, Seals, RefusesSealing};
+ghost use Rattle.mls_exchange.specs.Sealing.{are_short, reuse_guard};
+ghost use Rattle.mls_exchange.specs.Calls.{GivesGeneration, Signs, GivesContent, GivesMessage, Seals, RefusesSealing};
 
 use crate::ExchangeError;
 use crate::exchange::{Exchange, TOO_LONG, within_limit};
@@ -14,6 +14,16 @@ use mls_private_message::{
 };
 use mls_secret_tree::MessageKey;
 use mls_suite::{Suite, sign_with_label};
+
+/// What is to be sealed, lent.
+#[derive(Clone, Copy)]
+struct Plain<'a> {
+    application_data: &'a [u8],
+    // It is authenticated, and not encrypted.
+    authenticated_data: &'a [u8],
+    // How many bytes of padding.
+    padding: usize,
+}
 
 /// The reuse guard of a call's seed (RFC 9420, 6.3.1). Takes no memory.
 #[tactic(auto, unfolding(crate::specs::Sealing::reuse_guard))]
@@ -44,37 +54,32 @@ impl<S: Suite> Exchange<S> {
     /// The generation that the next message takes: `RatchetSpent` (110) after the last, `TooLong` (6) an argument is longer
     /// than an input may be. Takes no memory.
     #[tactic(auto, unfolding(crate::specs::Sealing::sealing_checks))]
-    fn next_generation(
-        &self,
-        application_data: &[u8],
-        authenticated_data: &[u8],
-        padding: usize,
-    ) -> Result<u32, ExchangeError>
-        ensures { GivesGeneration self.now application_data.now authenticated_data.now padding result }
+    fn next_generation(&self, plain: &Plain<'_>) -> Result<u32, ExchangeError>
+        ensures { GivesGeneration self.now plain.now result }
     {
         let Some(generation) = self.parts.keys.next_generation(self.parts.leaf) else {
             return Err(ExchangeError::RatchetSpent);
         };
-        if !are_short(application_data, authenticated_data, padding) {
+        if !are_short(
+            plain.application_data,
+            plain.authenticated_data,
+            plain.padding,
+        ) {
             return Err(TOO_LONG);
         }
         Ok(generation)
     }
 
     /// The own signature of data and authenticated data (RFC 9420, 6.1).
-    fn sign(
-        &self,
-        application_data: &[u8],
-        authenticated_data: &[u8],
-    ) -> Result<Vec<u8>, ExchangeError>
-        ensures { GivesBytes (own_signature S.crypto self.now application_data.now authenticated_data.now) result }
+    fn sign(&self, plain: &Plain<'_>) -> Result<Vec<u8>, ExchangeError>
+        ensures { Signs S.crypto self.now plain.now result }
     {
         let said = Said {
             group_id: self.parts.group_id.as_slice(),
             epoch: self.parts.epoch,
             leaf: self.parts.leaf,
-            authenticated_data,
-            application_data,
+            authenticated_data: plain.authenticated_data,
+            application_data: plain.application_data,
         };
         let text = signed_text(self.alloc, &said, &self.parts.context)?;
         let key = &self.parts.signing;
@@ -83,16 +88,16 @@ impl<S: Suite> Exchange<S> {
 
     /// The PrivateMessageContent of data, with the own signature and padding (RFC 9420, 6.3.1): `TooLong` (6) where it is
     /// longer than an input may be.
-    fn content(
-        &self,
-        application_data: &[u8],
-        authenticated_data: &[u8],
-        padding: usize,
-    ) -> Result<Vec<u8>, ExchangeError>
-        ensures { GivesBytes (own_content S.crypto self.now application_data.now authenticated_data.now padding) result }
+    fn content(&self, plain: &Plain<'_>) -> Result<Vec<u8>, ExchangeError>
+        ensures { GivesContent S.crypto self.now plain.now result }
     {
-        let signature = self.sign(application_data, authenticated_data)?;
-        let content = write_content(self.alloc, application_data, &signature, padding)?;
+        let signature = self.sign(plain)?;
+        let content = write_content(
+            self.alloc,
+            plain.application_data,
+            &signature,
+            plain.padding,
+        )?;
         within_limit(content)
     }
 
@@ -101,11 +106,12 @@ impl<S: Suite> Exchange<S> {
         &self,
         key: &MessageKey,
         sender: &SenderData,
-        authenticated_data: &[u8],
+        plain: &Plain<'_>,
         content: &[u8],
     ) -> Result<Vec<u8>, ExchangeError>
-        ensures { GivesBytes (message_under S.crypto self.now key.now sender.now authenticated_data.now content.now) result }
+        ensures { GivesMessage S.crypto self.now key.now sender.now plain.now content.now result }
     {
+        let authenticated_data = plain.authenticated_data;
         let group_id = self.parts.group_id.as_slice();
         let epoch = self.parts.epoch;
         know_epoch(epoch);
@@ -149,22 +155,29 @@ impl<S: Suite> Exchange<S> {
         padding: usize,
         seed: &Seed,
     ) -> Result<Vec<u8>, ExchangeError>
-        ensures answer { Seals S.crypto application_data.now authenticated_data.now padding seed.now self.old self.new result }
+        ensures answer { Seals S.crypto application_data.now authenticated_data.now padding seed.now
+            self.old self.new result }
         // 110, and 6 of the arguments, come also when an allocation fails.
-        ensures outright { RefusesSealing self.old application_data.now authenticated_data.now padding result }
+        ensures outright { RefusesSealing self.old application_data.now authenticated_data.now
+            padding result }
     {
-        let generation = self.next_generation(application_data, authenticated_data, padding)?;
+        let plain = Plain {
+            application_data,
+            authenticated_data,
+            padding,
+        };
+        let generation = self.next_generation(&plain)?;
         let draft = self
             .parts
             .keys
             .draft_key(self.alloc, self.parts.leaf, generation)?;
-        let content = self.content(application_data, authenticated_data, padding)?;
+        let content = self.content(&plain)?;
         let sender = SenderData {
             leaf_index: self.parts.leaf,
             generation,
             reuse_guard: reuse_guard(seed),
         };
-        let message = self.message(draft.key(), &sender, authenticated_data, &content)?;
+        let message = self.message(draft.key(), &sender, &plain, &content)?;
         self.parts.keys.keep(draft);
         Ok(message)
     }

@@ -9,11 +9,13 @@ ciphertext_sample ciphertext = take 32 ciphertext
 
 -- sender_data_key (RFC 9420, 6.3.2): from the sender data secret and the ciphertext; AEAD.Nk is 16 bytes
 unfoldable pub sender_data_key : List ℕ → List ℕ → List ℕ
-sender_data_key secret ciphertext = expand_with_label secret (codes "key") (ciphertext_sample ciphertext) 16
+sender_data_key secret ciphertext =
+    expand_with_label secret (codes "key") (ciphertext_sample ciphertext) 16
 
 -- sender_data_nonce (RFC 9420, 6.3.2): from the sender data secret and the ciphertext; AEAD.Nn is 12 bytes
 unfoldable pub sender_data_nonce : List ℕ → List ℕ → List ℕ
-sender_data_nonce secret ciphertext = expand_with_label secret (codes "nonce") (ciphertext_sample ciphertext) 12
+sender_data_nonce secret ciphertext =
+    expand_with_label secret (codes "nonce") (ciphertext_sample ciphertext) 12
 
 -- each byte of the first combined by exclusive or with the byte of the second at its place, if there is one
 abbrev pub xor_front : List ℕ → List ℕ → List ℕ

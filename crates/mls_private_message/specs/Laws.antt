@@ -12,17 +12,23 @@ use Rattle.mls_private_message.specs.Sealing.{seal_sender_data, open_sender_data
 -- a content is read as it was written, and nothing else is read so
 pub record IsReadAsWritten (application_data signature : List ℕ) : Type 0 where
   pub read : (padding : ℕ) → PrivateContentFits application_data signature
-      → private_content_at (private_content application_data signature padding) ≡ Ok (application_data, signature)
-  pub written : (bytes : List ℕ) → IsBytes bytes → private_content_at bytes ≡ Ok (application_data, signature)
-      → (padding : ℕ) × PrivateContentFits application_data signature × (bytes ≡ private_content application_data signature padding)
+      → private_content_at (private_content application_data signature padding)
+      ≡ Ok (application_data, signature)
+  pub written : (bytes : List ℕ) → IsBytes bytes
+      → private_content_at bytes ≡ Ok (application_data, signature)
+      → (padding : ℕ) × PrivateContentFits application_data signature
+      × (bytes ≡ private_content application_data signature padding)
 
 abbrev pub ContentsAreExact : Type 0
-ContentsAreExact = (application_data signature : List ℕ) → IsReadAsWritten application_data signature
+ContentsAreExact = (application_data signature : List ℕ)
+    → IsReadAsWritten application_data signature
 
 -- the message whose parts were sealed with this sender data, key and content
-abbrev pub sealed_message : Crypto → List ℕ → MessageKey → SenderData → List ℕ → ℕ → List ℕ → List ℕ → PrivateMessage
+abbrev pub sealed_message : Crypto → List ℕ → MessageKey → SenderData → List ℕ → ℕ → List ℕ →
+    List ℕ → PrivateMessage
 sealed_message c secret key sender group_id epoch authenticated_data content =
-    let ciphertext = seal_content c key sender.reuse_guard group_id epoch authenticated_data content in
+    let guard = sender.reuse_guard in
+    let ciphertext = seal_content c key guard group_id epoch authenticated_data content in
     record {
       group_id = group_id;
       epoch = epoch;
@@ -32,11 +38,15 @@ sealed_message c secret key sender group_id epoch authenticated_data content =
     }
 
 -- both parts of it open
-pub record OpensAsSealed (c : Crypto) (secret : List ℕ) (key : MessageKey) (sender : SenderData) (text : List ℕ) (m : PrivateMessage) : Type 0 where
+pub record OpensAsSealed (c : Crypto) (secret : List ℕ) (key : MessageKey) (sender : SenderData)
+    (text : List ℕ) (m : PrivateMessage) : Type 0 where
   pub sender_data : open_sender_data c secret m ≡ Ok sender
   pub content : open_content c key sender.reuse_guard m ≡ Ok text
 
 abbrev pub SealedOpens : Crypto → Type 0
-SealedOpens c = (secret : List ℕ) (key : MessageKey) (sender : SenderData) (group_id : List ℕ) (epoch : ℕ) (authenticated_data content : List ℕ)
+SealedOpens c =
+    (secret : List ℕ) (key : MessageKey) (sender : SenderData) (group_id : List ℕ) (epoch : ℕ)
+    (authenticated_data content : List ℕ)
     → sender_data.Fits sender
-    → OpensAsSealed c secret key sender content (sealed_message c secret key sender group_id epoch authenticated_data content)
+    → OpensAsSealed c secret key sender content
+    (sealed_message c secret key sender group_id epoch authenticated_data content)

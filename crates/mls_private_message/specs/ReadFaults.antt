@@ -16,16 +16,22 @@ sender_data_faults =
 application_type_faults : PassesWith application_type
 unfolding mark_at
 application_type_faults = record {
-  answers = λ bytes. answered_then (uint_at w8 bytes) (λ n. if n.0 == 1 then Ok n.1 else Err 7) (uint_answered w8 bytes) (λ n. answered_if (n.0 == 1) (Ok n.1) (Err 7) tt refl);
+  answers = λ bytes. answered_then (uint_at w8 bytes) (λ n. if n.0 == 1 then Ok n.1 else Err 7)
+      (uint_answered w8 bytes) (λ n. answered_if (n.0 == 1) (Ok n.1) (Err 7) tt refl);
 }
 
 private_fields_faults : HasFaults private_fields
 unfolding private_fields
 private_fields_faults =
-    let sealed = pair_faults byte_string_faults (pair_faults byte_string_faults byte_string_faults) in
-    let parts = pair_faults byte_string_faults (pair_faults uint64_faults (behind_faults application_type_faults sealed)) in
+    let sealed =
+    pair_faults byte_string_faults (pair_faults byte_string_faults byte_string_faults) in
+    let parts =
+    pair_faults byte_string_faults
+    (pair_faults uint64_faults (behind_faults application_type_faults sealed)) in
     record { answers = seen_answered _ parts }
 
 pub private_message_faults : HasFaults private_message
 unfolding private_message
-private_message_faults = behind_faults (mark_faults 1 7 (lit< tt) refl) (behind_faults (mark_faults 2 7 (lit< tt) refl) private_fields_faults)
+private_message_faults =
+    behind_faults (mark_faults 1 7 (lit< tt) refl)
+    (behind_faults (mark_faults 2 7 (lit< tt) refl) private_fields_faults)

@@ -15,7 +15,9 @@ sender_data = seen (uint32 ⨾ uint32 ⨾ uint32)
 
 pub sender_data_nonempty : IsNonempty sender_data
 unfolding sender_data
-sender_data_nonempty v fits = first_nonempty uint32 (uint32 ⨾ uint32) uint32_nonempty (v.leaf_index, (v.generation, v.reuse_guard)) fits
+sender_data_nonempty v fits =
+    first_nonempty uint32 (uint32 ⨾ uint32) uint32_nonempty
+    (v.leaf_index, (v.generation, v.reuse_guard)) fits
 
 -- the value, where no byte is left behind it
 abbrev pub only_value : Result (SenderData × List ℕ) ℕ → Option SenderData

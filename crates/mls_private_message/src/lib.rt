@@ -12,7 +12,7 @@ mod sender_data;
 #[cfg(test)]
 mod tests;
 
-pub use content::{read_content, write_content};
+pub use content::{ReadContent, read_content, write_content};
 pub use error::PrivateMessageError;
 pub use laws::{contents_are_exact, sealed_opens};
 pub use private_message::PrivateMessage;

@@ -12,16 +12,21 @@ abbrev coded_bytes : Coded (List ℕ)
 coded_bytes = coded_list coded_ℕ
 
 abbrev pub coded_key : Coded MessageKey
-coded_key = code_by (List ℕ × List ℕ) (coded× coded_bytes coded_bytes) (λ k. (k.key, k.nonce)) (λ x. record { key = x.0; nonce = x.1 }) (λ _. refl)
+coded_key =
+    code_by (List ℕ × List ℕ) (coded× coded_bytes coded_bytes) (λ k. (k.key, k.nonce))
+    (λ x. record { key = x.0; nonce = x.1 }) (λ _. refl)
 
 abbrev pub coded_kept : Coded KeptKey
 coded_kept =
-    code_by (ℕ × MessageKey) (coded× coded_ℕ coded_key) (λ k. (k.generation, k.key)) (λ x. record { generation = x.0; key = x.1 }) (λ _. refl)
+    code_by (ℕ × MessageKey) (coded× coded_ℕ coded_key) (λ k. (k.generation, k.key))
+    (λ x. record { generation = x.0; key = x.1 }) (λ _. refl)
 
 abbrev pub coded_ratchet : Coded Ratcheting
 coded_ratchet =
-    code_by (ℕ × (List ℕ × List KeptKey)) (coded× coded_ℕ (coded× coded_bytes (coded_list coded_kept)))
-    (λ r. (r.next, (r.secret, r.kept))) (λ x. record { next = x.0; secret = x.1.0; kept = x.1.1 }) (λ _. refl)
+    code_by (ℕ × (List ℕ × List KeptKey))
+    (coded× coded_ℕ (coded× coded_bytes (coded_list coded_kept)))
+    (λ r. (r.next, (r.secret, r.kept))) (λ x. record { next = x.0; secret = x.1.0; kept = x.1.1 })
+    (λ _. refl)
 
 -- ---- what is held
 
@@ -51,9 +56,11 @@ spelled_once (Whole s) (LeafRatchet r) e = let n : 0 ≡ 1 = ap (λ (g : Gv). nu
 spelled_once (Whole s) (Parted l r) e = let n : 0 ≡ 2 = ap (λ (g : Gv). number (front g)) e in cc
 spelled_once (LeafRatchet r) (Whole s) e = let n : 1 ≡ 0 = ap (λ (g : Gv). number (front g)) e in cc
 spelled_once (LeafRatchet r) (LeafRatchet q) e = ap LeafRatchet (coded_ratchet.inj r q (ap back e))
-spelled_once (LeafRatchet r) (Parted l m) e = let n : 1 ≡ 2 = ap (λ (g : Gv). number (front g)) e in cc
+spelled_once (LeafRatchet r) (Parted l m) e =
+    let n : 1 ≡ 2 = ap (λ (g : Gv). number (front g)) e in cc
 spelled_once (Parted l r) (Whole s) e = let n : 2 ≡ 0 = ap (λ (g : Gv). number (front g)) e in cc
-spelled_once (Parted l m) (LeafRatchet r) e = let n : 2 ≡ 1 = ap (λ (g : Gv). number (front g)) e in cc
+spelled_once (Parted l m) (LeafRatchet r) e =
+    let n : 2 ≡ 1 = ap (λ (g : Gv). number (front g)) e in cc
 spelled_once (Parted l r) (Parted m s) e =
     let a : l ≡ m = spelled_once l m (ap (λ (g : Gv). front (back g)) e) in
     let b : r ≡ s = spelled_once r s (ap (λ (g : Gv). back (back g)) e) in

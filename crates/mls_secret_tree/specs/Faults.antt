@@ -1,5 +1,6 @@
--- The numbers and names of what a secret tree refuses.
-use Rattle.std.specs.Prelude.{ℕ, List, codes}
+-- The numbers and names of what a secret tree refuses, and what calls promise by these numbers.
+use Rattle.std.specs.Prelude.{ℕ, List, Result, codes}
+use Rattle.mls_wire.specs.Checks.{Answers}
 use Rattle.mls_secret_tree.specs.declared.error.SecretTreeError.{SecretTreeError}
 use Rattle.mls_secret_tree.specs.declared.error.SecretTreeError.TheVariants.{OutOfMemory, SenderWithoutLeaf, GenerationTooFar, KeyUsed}
 
@@ -16,3 +17,7 @@ name_of OutOfMemory = codes "OutOfMemory"
 name_of SenderWithoutLeaf = codes "SenderWithoutLeaf"
 name_of GenerationTooFar = codes "GenerationTooFar"
 name_of KeyUsed = codes "KeyUsed"
+
+-- A call answers what the definition does, or refuses with its number. Where memory was refused it says nothing.
+abbrev pub Gives : {A : Type 0} → Result A ℕ → Result A SecretTreeError → Type 0
+Gives defined result = Answers (λ x. x) number_of defined result

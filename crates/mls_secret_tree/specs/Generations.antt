@@ -17,10 +17,12 @@ pub record MovesOn (t : Tree) (leaf generation : ℕ) (u : Tree) : Type 0 where
   pub others : (other : ℕ) → other < 2 ^ t.height → other ≢ leaf → next_of u other ≡ next_of t other
 
 abbrev pub UseMovesOn : Type 0
-UseMovesOn = (encryption_secret : List ℕ) (t : Tree) (leaf generation : ℕ) (d : Drafted) → IsTreeOf encryption_secret t
+UseMovesOn = (encryption_secret : List ℕ) (t : Tree) (leaf generation : ℕ) (d : Drafted)
+    → IsTreeOf encryption_secret t
     → draft_key t leaf generation ≡ Ok d → MovesOn t leaf generation (keep_draft t d)
 
 -- whatever keys are used, no next generation falls
 abbrev pub NextNeverFalls : Type 0
-NextNeverFalls = (encryption_secret : List ℕ) (t u : Tree) (used : List (ℕ × ℕ)) (leaf : ℕ) → IsTreeOf encryption_secret t
+NextNeverFalls = (encryption_secret : List ℕ) (t u : Tree) (used : List (ℕ × ℕ)) (leaf : ℕ)
+    → IsTreeOf encryption_secret t
     → use_keys t used ≡ Ok u → leaf < 2 ^ t.height → next_of t leaf ≤ next_of u leaf

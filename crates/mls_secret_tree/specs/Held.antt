@@ -34,7 +34,8 @@ take_from_ratchet r generation = take_key r generation >>= λ t. Ok (t.0, LeafRa
 unfoldable pub take_whole : List ℕ → Path → ℕ → Result Taken ℕ
 take_whole secret [] generation = take_from_ratchet (first_ratchet secret) generation
 take_whole secret (side ∷ way) generation =
-    take_whole (child_secret side secret) way generation >>= λ t. Ok (beside side (Whole (child_secret (not side) secret)) t)
+    take_whole (child_secret side secret) way generation
+    >>= λ t. Ok (beside side (Whole (child_secret (not side) secret)) t)
 
 -- the key of a generation, taken from what is held at the end of a way, or above it; `SenderWithoutLeaf` (114) where
 -- the way is too short to lead to a leaf

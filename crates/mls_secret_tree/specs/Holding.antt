@@ -26,7 +26,8 @@ holds_below (Parted left right) (true ∷ way) generation = holds_below right wa
 
 -- whether a tree holds anything that the key of a leaf in a generation is derived from
 unfoldable pub holds : Tree → ℕ → ℕ → Bool
-holds t leaf generation = nat_lt leaf (2 ^ t.height) && holds_below t.root (leaf_path t.height leaf) generation
+holds t leaf generation =
+    nat_lt leaf (2 ^ t.height) && holds_below t.root (leaf_path t.height leaf) generation
 
 -- ---- what is held where
 
@@ -43,7 +44,9 @@ IsHeldOf (Whole held) height secret = held ≡ secret
 IsHeldOf (LeafRatchet r) zero secret = IsRatchetOf (application_secret secret) r
 IsHeldOf (LeafRatchet r) (suc height) secret = ⊥
 IsHeldOf (Parted left right) zero secret = ⊥
-IsHeldOf (Parted left right) (suc height) secret = IsHeldOf left height (child_secret false secret) × IsHeldOf right height (child_secret true secret)
+IsHeldOf (Parted left right) (suc height) secret =
+    IsHeldOf left height (child_secret false secret)
+    × IsHeldOf right height (child_secret true secret)
 
 -- a tree is one of an encryption secret, whichever keys were used
 abbrev pub IsTreeOf : List ℕ → Tree → Type 0

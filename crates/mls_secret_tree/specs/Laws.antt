@@ -16,29 +16,38 @@ pub record IsFresh (encryption_secret : List ℕ) (t : Tree) : Type 0 where
   pub all : (leaf generation : ℕ) → leaf < 2 ^ t.height → holds t leaf generation ≡ true
 
 abbrev pub FirstIsFresh : Type 0
-FirstIsFresh = (encryption_secret : List ℕ) (height : ℕ) → IsFresh encryption_secret (first_tree encryption_secret height)
+FirstIsFresh = (encryption_secret : List ℕ) (height : ℕ)
+    → IsFresh encryption_secret (first_tree encryption_secret height)
 
 -- ---- one key
 
 -- the draft of a key has the key that the encryption secret gives, and leaves a tree of the same secret behind
-pub record IsDraftOf (encryption_secret : List ℕ) (t : Tree) (leaf generation : ℕ) (d : Drafted) : Type 0 where
+pub record IsDraftOf (encryption_secret : List ℕ) (t : Tree) (leaf generation : ℕ)
+    (d : Drafted) : Type 0 where
   pub key : d.key ≡ application_key encryption_secret t.height leaf generation
   pub behind : IsTreeOf encryption_secret (keep_draft t d)
 
 abbrev pub KeysAreDerived : Type 0
-KeysAreDerived = (encryption_secret : List ℕ) (t : Tree) (leaf generation : ℕ) (d : Drafted) → IsTreeOf encryption_secret t
+KeysAreDerived = (encryption_secret : List ℕ) (t : Tree) (leaf generation : ℕ) (d : Drafted)
+    → IsTreeOf encryption_secret t
     → draft_key t leaf generation ≡ Ok d → IsDraftOf encryption_secret t leaf generation d
 
 -- when a key is drafted, and when it is refused
 pub record IsAnswered (t : Tree) (leaf generation : ℕ) : Type 0 where
   pub outside : 2 ^ t.height ≤ leaf → draft_key t leaf generation ≡ Err 114
-  pub too_far : leaf < 2 ^ t.height → next_below t.root (leaf_path t.height leaf) + window < generation → draft_key t leaf generation ≡ Err 115
-  pub used : leaf < 2 ^ t.height → holds t leaf generation ≡ false → draft_key t leaf generation ≡ Err 116
-  pub drafted : leaf < 2 ^ t.height → generation ≤ next_below t.root (leaf_path t.height leaf) + window → holds t leaf generation ≡ true
+  pub too_far : leaf < 2 ^ t.height
+      → next_below t.root (leaf_path t.height leaf) + window < generation
+      → draft_key t leaf generation ≡ Err 115
+  pub used : leaf < 2 ^ t.height → holds t leaf generation ≡ false
+      → draft_key t leaf generation ≡ Err 116
+  pub drafted : leaf < 2 ^ t.height
+      → generation ≤ next_below t.root (leaf_path t.height leaf) + window
+      → holds t leaf generation ≡ true
       → (d : Drafted) × (draft_key t leaf generation ≡ Ok d)
 
 abbrev pub EachIsAnswered : Type 0
-EachIsAnswered = (encryption_secret : List ℕ) (t : Tree) (leaf generation : ℕ) → IsTreeOf encryption_secret t → IsAnswered t leaf generation
+EachIsAnswered = (encryption_secret : List ℕ) (t : Tree) (leaf generation : ℕ)
+    → IsTreeOf encryption_secret t → IsAnswered t leaf generation
 
 -- ---- what stays, and what is gone
 
@@ -51,7 +60,8 @@ pub record LosesOne (t : Tree) (leaf generation : ℕ) (u : Tree) : Type 0 where
   pub no_more : (other k : ℕ) → holds u other k ≡ true → holds t other k ≡ true
 
 abbrev pub UsedIsGone : Type 0
-UsedIsGone = (encryption_secret : List ℕ) (t : Tree) (leaf generation : ℕ) (d : Drafted) → IsTreeOf encryption_secret t
+UsedIsGone = (encryption_secret : List ℕ) (t : Tree) (leaf generation : ℕ) (d : Drafted)
+    → IsTreeOf encryption_secret t
     → draft_key t leaf generation ≡ Ok d → LosesOne t leaf generation (keep_draft t d)
 
 -- ---- many keys
@@ -67,8 +77,11 @@ use_keys t (u ∷ us) = use_key t u >>= λ v. use_keys v us
 
 -- whatever keys were used before, in whatever order, a key is the one that the encryption secret gives
 abbrev pub WhateverOrder : Type 0
-WhateverOrder = (encryption_secret : List ℕ) (height : ℕ) (before : List (ℕ × ℕ)) (t : Tree) (leaf generation : ℕ) (d : Drafted)
-    → use_keys (first_tree encryption_secret height) before ≡ Ok t → draft_key t leaf generation ≡ Ok d
+WhateverOrder =
+    (encryption_secret : List ℕ) (height : ℕ) (before : List (ℕ × ℕ)) (t : Tree)
+    (leaf generation : ℕ) (d : Drafted)
+    → use_keys (first_tree encryption_secret height) before ≡ Ok t
+    → draft_key t leaf generation ≡ Ok d
     → d.key ≡ application_key encryption_secret height leaf generation
 
 -- whatever keys are used after it, a used key is refused, and nothing is held that it is derived from
@@ -77,6 +90,9 @@ pub record IsSpent (t : Tree) (leaf generation : ℕ) : Type 0 where
   pub gone : holds t leaf generation ≡ false
 
 abbrev pub NeverTwice : Type 0
-NeverTwice = (encryption_secret : List ℕ) (height : ℕ) (before after : List (ℕ × ℕ)) (leaf generation : ℕ) (t u v : Tree)
-    → use_keys (first_tree encryption_secret height) before ≡ Ok t → use_key t (leaf, generation) ≡ Ok u → use_keys u after ≡ Ok v
+NeverTwice =
+    (encryption_secret : List ℕ) (height : ℕ) (before after : List (ℕ × ℕ)) (leaf generation : ℕ)
+    (t u v : Tree)
+    → use_keys (first_tree encryption_secret height) before ≡ Ok t
+    → use_key t (leaf, generation) ≡ Ok u → use_keys u after ≡ Ok v
     → IsSpent v leaf generation

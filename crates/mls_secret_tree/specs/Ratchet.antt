@@ -1,5 +1,5 @@
 -- A ratchet for application data: what it holds, and what it holds after a key was taken (RFC 9420, 9.1 and 9.2).
-use Rattle.std.specs.Prelude.{ℕ, zero, suc, ◌+◌, ◌-◌, ◌==◌, nat_lt, not, if◌then◌else◌, List, [], ◌∷◌, ◌++◌, filter, Option, Some, None, Result, Ok, Err}
+use Rattle.std.specs.Prelude.{◌≡◌, ℕ, zero, suc, ◌+◌, ◌-◌, ◌==◌, nat_lt, not, if◌then◌else◌, List, [], ◌∷◌, ◌++◌, filter, Option, Some, None, Result, Ok, Err, IfOk}
 use Rattle.mls_secret_tree.specs.declared.secrets.MessageKey.{MessageKey}
 use Rattle.mls_secret_tree.specs.declared.ratchet.KeptKey.{KeptKey}
 use Rattle.mls_secret_tree.specs.Secrets.{application_secret, message_key, next_ratchet_secret}
@@ -28,19 +28,29 @@ kept_key secret generation = record { generation = generation; key = message_key
 -- the keys of n generations from this one on, from its ratchet secret (RFC 9420, 9.1)
 unfoldable pub passed_keys : List ℕ → ℕ → ℕ → List KeptKey
 passed_keys secret generation zero = []
-passed_keys secret generation (suc n) = kept_key secret generation ∷ passed_keys (next_ratchet_secret secret generation) (suc generation) n
+passed_keys secret generation (suc n) =
+    kept_key secret generation
+    ∷ passed_keys (next_ratchet_secret secret generation) (suc generation) n
 
 -- the ratchet secret n generations after this one, from its ratchet secret (RFC 9420, 9.1)
 unfoldable pub passed_secret : List ℕ → ℕ → ℕ → List ℕ
 passed_secret secret generation zero = secret
-passed_secret secret generation (suc n) = passed_secret (next_ratchet_secret secret generation) (suc generation) n
+passed_secret secret generation (suc n) =
+    passed_secret (next_ratchet_secret secret generation) (suc generation) n
+
+-- a call adds the keys of the generations from `first` to the one before `end` to those that are kept
+abbrev pub AddsKeys : {A E : Type 0} → List ℕ → ℕ → ℕ → List KeptKey → List KeptKey →
+    Result A E → Type 0
+AddsKeys secret first end old new result =
+    IfOk result (λ _. new ≡ old ++ passed_keys secret first (end - first))
 
 -- ---- kept keys
 
 -- the kept key of a generation, if there is one
 unfoldable pub find_key : ℕ → List KeptKey → Option MessageKey
 find_key generation [] = None
-find_key generation (k ∷ ks) = if k.generation == generation then Some k.key else find_key generation ks
+find_key generation (k ∷ ks) =
+    if k.generation == generation then Some k.key else find_key generation ks
 
 -- the kept keys of other generations
 unfoldable pub other_keys : ℕ → List KeptKey → List KeptKey
@@ -55,12 +65,19 @@ near_keys generation keys = filter (λ k. not (nat_lt (k.generation + window) ge
 -- the key of a generation before the next, and the ratchet without it; `KeyUsed` (116) where it isn't kept
 unfoldable pub take_kept : Ratcheting → ℕ → Option MessageKey → Result (MessageKey × Ratcheting) ℕ
 take_kept r generation None = Err 116
-take_kept r generation (Some key) = Ok (key, record { next = r.next; secret = r.secret; kept = other_keys generation r.kept })
+take_kept r generation (Some key) =
+    Ok (key, record { next = r.next; secret = r.secret; kept = other_keys generation r.kept })
 
 -- the key of a generation, from its ratchet secret, and the ratchet behind it, which keeps these keys
 unfoldable pub take_new : List ℕ → ℕ → List KeptKey → MessageKey × Ratcheting
-take_new secret generation keys =
-    (message_key secret generation, record { next = suc generation; secret = next_ratchet_secret secret generation; kept = keys })
+take_new secret generation keys = (
+  message_key secret generation,
+  record {
+    next = suc generation;
+    secret = next_ratchet_secret secret generation;
+    kept = keys;
+  },
+)
 
 -- the key of a generation from the next on, and the ratchet behind it: it keeps the keys that are passed over, and of
 -- the others those within the window

@@ -25,12 +25,14 @@ first_tree encryption_secret height = record { height = height; root = Whole enc
 unfoldable pub draft_key : Tree → ℕ → ℕ → Result Drafted ℕ
 draft_key t leaf generation =
     if nat_lt leaf (2 ^ t.height)
-    then (take_below t.root (leaf_path t.height leaf) generation >>= λ taken. Ok (record { leaf = leaf; key = taken.0; held = taken.1 }))
+    then (take_below t.root (leaf_path t.height leaf) generation
+    >>= λ taken. Ok (record { leaf = leaf; key = taken.0; held = taken.1 }))
     else Err 114
 
 -- the tree after a drafted key was used: what the key was derived from is replaced
 unfoldable pub keep_draft : Tree → Drafted → Tree
-keep_draft t d = record { height = t.height; root = put_below t.root (leaf_path t.height d.leaf) d.held }
+keep_draft t d =
+    record { height = t.height; root = put_below t.root (leaf_path t.height d.leaf) d.held }
 
 -- the generation, where 32 bits suffice for it
 unfoldable pub in_32_bits : ℕ → Option ℕ
@@ -38,9 +40,12 @@ in_32_bits generation = if nat_lt generation (2 ^ 32) then Some generation else 
 
 -- the first generation of a leaf of which no key was made yet: none outside the tree, and none after the last
 unfoldable pub next_generation : Tree → ℕ → Option ℕ
-next_generation t leaf = if nat_lt leaf (2 ^ t.height) then in_32_bits (next_below t.root (leaf_path t.height leaf)) else None
+next_generation t leaf =
+    if nat_lt leaf (2 ^ t.height) then in_32_bits (next_below t.root (leaf_path t.height leaf))
+    else None
 
 -- a call answers the tree at first, where its leaves make a tree of some height
 abbrev pub IsFirstTree : List ℕ → Option ℕ → Option Tree → Type 0
 IsFirstTree encryption_secret None result = result ≡ None
-IsFirstTree encryption_secret (Some height) result = result ≡ Some (first_tree encryption_secret height)
+IsFirstTree encryption_secret (Some height) result =
+    result ≡ Some (first_tree encryption_secret height)

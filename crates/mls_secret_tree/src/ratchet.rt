@@ -1,10 +1,9 @@
 //! The ratchet of one leaf (RFC 9420, 9.1): the secret of its next generation, and the keys of earlier ones that were
 //! passed over.
 
-ghost use Rattle.std.specs.Prelude.{◌≡◌, ◌+◌, ◌-◌, ◌<◌, ◌≤◌, ◌^◌, ◌++◌, IfOk, option_copied};
-ghost use Rattle.mls_wire.specs.Checks.{Answers};
-ghost use Rattle.mls_secret_tree.specs.Faults.{number_of};
-ghost use Rattle.mls_secret_tree.specs.Ratchet.{window, first_ratchet, find_key, other_keys, near_keys, passed_keys, passed_secret, take_new, take_ahead, take_key};
+ghost use Rattle.std.specs.Prelude.{◌≡◌, ◌+◌, ◌-◌, ◌<◌, ◌≤◌, ◌^◌, IfOk, option_copied};
+ghost use Rattle.mls_secret_tree.specs.Faults.{Gives};
+ghost use Rattle.mls_secret_tree.specs.Ratchet.{window, first_ratchet, find_key, other_keys, near_keys, passed_secret, AddsKeys, take_new, take_ahead, take_key};
 
 use crate::SecretTreeError;
 use crate::secrets::{MessageKey, application_secret, message_key, next_ratchet_secret};
@@ -85,7 +84,7 @@ fn pass_over(
     end: u32,
 ) -> Result<Secret, AllocError>
     requires { first ≤ end }
-    ensures kept { IfOk result (λ _. kept.new.items ≡ kept.old.items ++ passed_keys secret.now first (end - first)) }
+    ensures kept { AddsKeys secret.now first end kept.old.items kept.new.items result }
     ensures secret { IfOk result (λ s. s ≡ passed_secret secret.now first (end - first)) }
 {
     let mut passing = *secret;
@@ -154,7 +153,7 @@ impl Ratchet {
         alloc: Global,
         generation: u32,
     ) -> Result<(MessageKey, Ratchet), SecretTreeError>
-        ensures { Answers (λ t. t) number_of (take_key self.now generation) result }
+        ensures { Gives (take_key self.now generation) result }
     {
         if u64::from(generation) < self.next {
             let Some(key) = find_key(&self.kept, generation) else {

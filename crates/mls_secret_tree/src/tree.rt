@@ -1,9 +1,8 @@
 //! The secret tree of an epoch, and keys that are drafted from it.
 
 ghost use Rattle.std.specs.Prelude.{◌≡◌};
-ghost use Rattle.mls_wire.specs.Checks.{Answers};
 ghost use Rattle.mls_treemath.specs.Steps.{height_of};
-ghost use Rattle.mls_secret_tree.specs.Faults.{number_of};
+ghost use Rattle.mls_secret_tree.specs.Faults.{Gives};
 ghost use Rattle.mls_secret_tree.specs.SecretTree.{IsFirstTree, draft_key, keep_draft, next_generation};
 
 use crate::SecretTreeError;
@@ -118,7 +117,7 @@ impl SecretTree {
         leaf: u32,
         generation: u32,
     ) -> Result<Draft, SecretTreeError>
-        ensures { Answers (λ d. d) number_of (draft_key self.now leaf generation) result }
+        ensures { Gives (draft_key self.now leaf generation) result }
     {
         if leaf >= 1 << self.height {
             return Err(SecretTreeError::SenderWithoutLeaf);

@@ -12,24 +12,24 @@ pub returns-in_err-signature : goal.returns-in_err-signature
 returns-in_err-signature g c =
     let p = err_from_is_err_and c.from_residual.result c.from_residual.ensures.1 in
     rw (p.1, p.2) (λ memory.
-    content_unsigned g.S.Suite.crypto c.args.self.now c.args.application_data.now c.args.authenticated_data.now c.args.padding _ (c.in_err-signature.ensures memory))
+    content_unsigned g.S.Suite.crypto c.args.self.now c.args.plain.now.application_data.now c.args.plain.now.authenticated_data.now c.args.plain.now.padding _ (c.in_err-signature.ensures memory))
 
 pub returns-in_err-content : goal.returns-in_err-content
 returns-in_err-content g c =
     let signed =
-    content_signed g.S.Suite.crypto c.args.self.now c.args.application_data.now c.args.authenticated_data.now c.args.padding c.in_ok-signature.signature.items c.in_ok-signature.ensures in
+    content_signed g.S.Suite.crypto c.args.self.now c.args.plain.now.application_data.now c.args.plain.now.authenticated_data.now c.args.plain.now.padding c.in_ok-signature.signature.items c.in_ok-signature.ensures in
     let p = err_from_is_err_and c.from_residual-in_err-content.result c.from_residual-in_err-content.ensures.1 in
     rw (p.1, p.2) (λ memory.
     signed
-    ∙ content_refused c.args.application_data.now c.in_ok-signature.signature.items c.args.padding c.in_err-content.field-0.0
+    ∙ content_refused c.args.plain.now.application_data.now c.in_ok-signature.signature.items c.args.plain.now.padding c.in_err-content.field-0.0
     (rw c.deref.ensures.value at c.in_err-content.ensures) memory)
 
 pub returns : goal.returns
 returns g c =
     let signed =
-    content_signed g.S.Suite.crypto c.args.self.now c.args.application_data.now c.args.authenticated_data.now c.args.padding c.in_ok-signature.signature.items c.in_ok-signature.ensures in
-    let is : c.in_ok-content.content.items ≡ private_content c.args.application_data.now c.in_ok-signature.signature.items c.args.padding =
-    c.in_ok-content.ensures.1 ∙ ap (λ (x : List ℕ). private_content c.args.application_data.now x c.args.padding) c.deref.ensures.value in
-    let same : within_limit c.in_ok-content.content.items ≡ own_content g.S.Suite.crypto c.args.self.now c.args.application_data.now c.args.authenticated_data.now c.args.padding =
+    content_signed g.S.Suite.crypto c.args.self.now c.args.plain.now.application_data.now c.args.plain.now.authenticated_data.now c.args.plain.now.padding c.in_ok-signature.signature.items c.in_ok-signature.ensures in
+    let is : c.in_ok-content.content.items ≡ private_content c.args.plain.now.application_data.now c.in_ok-signature.signature.items c.args.plain.now.padding =
+    c.in_ok-content.ensures.1 ∙ ap (λ (x : List ℕ). private_content c.args.plain.now.application_data.now x c.args.plain.now.padding) c.deref.ensures.value in
+    let same : within_limit c.in_ok-content.content.items ≡ own_content g.S.Suite.crypto c.args.self.now c.args.plain.now.application_data.now c.args.plain.now.authenticated_data.now c.args.plain.now.padding =
     ap within_limit is ∙ sym signed in
     subst (λ (r : Result (List ℕ) ℕ). GivesBytes r c.within_limit.result) same c.within_limit.ensures
