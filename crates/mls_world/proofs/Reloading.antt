@@ -1,7 +1,8 @@
 -- Active members of a world that events led to are good, so each is loaded as it was saved.
 use Rattle.std.proofs.Common.{◌≡◌, ◌≢◌, ℕ, Bool, true, false, List, Option, Some, None, Result, Ok, Err, slice_get, refl, sym, ap, subst, ◌∙◌}
 use Rattle.std.specs.Prelude.{if◌then◌else◌, option_map}
-use Rattle.mls_saved_state.specs.Faults.{number_of, Gives}
+use Rattle.mls_saved.specs.Loading.{Loads}
+use Rattle.mls_saved_state.specs.Faults.{number_of}
 use Rattle.mls_saved_state.specs.declared.error.LoadError.{LoadError}
 use Rattle.mls_suite.specs.Crypto.{Crypto, Lawful}
 use Rattle.mls_model.specs.Headline.{IsActive}
@@ -53,12 +54,12 @@ loaded_same c laws w reach k m n bytes slice at loads is h =
     (present_in (seated_member w k) m at).0 ∙ ap (λ (x : Member). Some x) equal
 
 -- bytes that are loaded are refused for want of memory alone
-refused : (c : Crypto) (m : Member) (bytes : List ℕ) (e : LoadError) → load c bytes ≡ Ok m → Gives (load c bytes) (Err e) → number_of e ≢ 1 → (number_of e ≡ 6) × IsTooLong m
+refused : (c : Crypto) (m : Member) (bytes : List ℕ) (e : LoadError) → load c bytes ≡ Ok m → Loads number_of (load c bytes) (Err e) → number_of e ≢ 1 → (number_of e ≡ 6) × IsTooLong m
 refused c m bytes e is h other = let wrong : Err (number_of e) ≡ Ok m = sym (h other) ∙ is in absurd cc
 
 -- the bytes of an active member are refused for want of memory alone
 pub load_refused : (c : Crypto) → Lawful c → (w : World) → IsReachable c w → (k : ℕ) (m : Member) (bytes slice : List ℕ) (e : LoadError) →
-    active_member w k ≡ Some m → LoadsAsWas c m bytes → slice ≡ bytes → Gives (load c slice) (Err e) → Reloads (active_member w k) (Err e)
+    active_member w k ≡ Some m → LoadsAsWas c m bytes → slice ≡ bytes → Loads number_of (load c slice) (Err e) → Reloads (active_member w k) (Err e)
 load_refused c laws w reach k m bytes slice e at loads is h =
     let as_was : load c slice ≡ Ok m = subst (λ (x : List ℕ). load c x ≡ Ok m) (sym is) (loads (active_good c laws w reach k m at)) in
     let short : Reloads (Some m) (Err e) = refused c m slice e as_was h in
