@@ -9,7 +9,7 @@ use crate::group::{
     welcome_of,
 };
 use crate::saved::{try_load, try_load_candidate, try_save, try_save_candidate};
-use crate::talk::{try_converse, try_open, try_seal};
+use crate::talk::{try_converse, try_open, try_open_passed, try_seal};
 use crate::trial::{Joining, try_call, try_twice};
 use crate::worlds::try_run;
 use anyhow::Result;
@@ -51,6 +51,8 @@ pub(crate) enum Scenario {
     Seal,
     /// The third of three opens the third message of the first.
     Open,
+    /// It opens the first message behind the third.
+    OpenPassed,
     /// A member is saved that keeps proposals and has a pending commit.
     SaveMember,
     /// It is loaded.
@@ -62,7 +64,7 @@ pub(crate) enum Scenario {
 }
 
 /// All scenarios.
-pub(crate) const SCENARIOS: [Scenario; 22] = [
+pub(crate) const SCENARIOS: [Scenario; 23] = [
     Scenario::CommitAdd,
     Scenario::CommitUpdate,
     Scenario::ProcessUpdate,
@@ -80,6 +82,7 @@ pub(crate) const SCENARIOS: [Scenario; 22] = [
     Scenario::Converse,
     Scenario::Seal,
     Scenario::Open,
+    Scenario::OpenPassed,
     Scenario::SaveMember,
     Scenario::LoadMember,
     Scenario::SaveCandidate,
@@ -118,6 +121,7 @@ impl Scenario {
             Scenario::Converse => "converse",
             Scenario::Seal => "seal",
             Scenario::Open => "open",
+            Scenario::OpenPassed => "open-passed",
             Scenario::SaveMember => "save-member",
             Scenario::LoadMember => "load-member",
             Scenario::SaveCandidate => "save-candidate",
@@ -147,6 +151,7 @@ impl Scenario {
             Scenario::Converse => try_converse(rt, alloc),
             Scenario::Seal => try_seal(rt, alloc),
             Scenario::Open => try_open(rt, alloc),
+            Scenario::OpenPassed => try_open_passed(rt, alloc),
             Scenario::SaveMember => try_save(rt, alloc),
             Scenario::LoadMember => try_load(rt, alloc),
             Scenario::SaveCandidate => try_save_candidate(rt, alloc),

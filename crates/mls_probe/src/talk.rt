@@ -222,8 +222,20 @@ impl Trial for Opening {
     }
 }
 
-/// The third of three opens the third message of the first. Then it opens the two that it passed over and one of the
-/// second, and seals.
+/// A message is opened, and then others. Then the conversation seals.
+fn open_and_go_on(
+    rt: &impl Print,
+    alloc: Global,
+    opening: Opening,
+    others: &[Vec<u8>],
+) -> Result<()> {
+    let mut opening = opening;
+    try_twice(rt, alloc, &mut opening)?;
+    print_openings(rt, alloc, &mut opening.conversation, others)?;
+    print_sealed(rt, alloc, THEN, say(&mut opening.conversation))
+}
+
+/// The third of three opens the third message of the first, and then the two that it passed over and one of the second.
 pub(crate) fn try_open(rt: &impl Print, alloc: Global) -> Result<()> {
     let Talk {
         mut first,
@@ -232,11 +244,27 @@ pub(crate) fn try_open(rt: &impl Print, alloc: Global) -> Result<()> {
     } = Talk::new(alloc)?;
     let others = [say(&mut first)?, say(&mut first)?, say(&mut second)?];
     let message = say(&mut first)?;
-    let mut opening = Opening {
+    let opening = Opening {
         conversation,
         message,
     };
-    try_twice(rt, alloc, &mut opening)?;
-    print_openings(rt, alloc, &mut opening.conversation, &others)?;
-    print_sealed(rt, alloc, THEN, say(&mut opening.conversation))
+    open_and_go_on(rt, alloc, opening, &others)
+}
+
+/// The third of three, which opened the third message of the first, opens the first one, and then the second and one of
+/// the second member.
+pub(crate) fn try_open_passed(rt: &impl Print, alloc: Global) -> Result<()> {
+    let Talk {
+        mut first,
+        mut second,
+        third: mut conversation,
+    } = Talk::new(alloc)?;
+    let message = say(&mut first)?;
+    let others = [say(&mut first)?, say(&mut second)?];
+    conversation.open(&say(&mut first)?)?;
+    let opening = Opening {
+        conversation,
+        message,
+    };
+    open_and_go_on(rt, alloc, opening, &others)
 }
