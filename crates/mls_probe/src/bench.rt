@@ -1,9 +1,9 @@
 //! Calls on large groups, to count what they cost: `tools/count-work` runs this program under callgrind.
 //!
 //! Standard input is a number of members, and then the program grows a group of so many and prints its last stage; or
-//! such a stage, and then it makes the calls, with a line behind each. A stage has five lines: the number of
-//! members, and in hex the Welcome of the last joiner, a commit of member 0 behind the joiner's first commit, and two
-//! messages with application data of member 0 behind that.
+//! such a stage, and then it makes the calls, with a line behind each. A stage has six lines: the number of
+//! members, and in hex the Welcome of the last joiner, a commit of member 0 behind the joiner's first commit, and of
+//! the application messages of member 0 behind that the first, the second and the fourth.
 
 use crate::group::{additions, box_candidate, group_of, join_group};
 use crate::talk::converse;
@@ -79,12 +79,14 @@ fn say(conversation: &mut Conversation<Glass>) -> Result<Vec<u8>> {
     Ok(conversation.seal(&[1; 16], &[], 0, &[6; 32])?)
 }
 
-/// Prints two messages of a member.
+/// Prints the first, the second and the fourth message of a member.
 fn print_messages(rt: &impl Print, alloc: Global, member: &Member<Glass>) -> Result<()> {
     let mut conversation = converse(alloc, member)?;
-    for _ in 0..2 {
+    for number in 0..4 {
         let message = say(&mut conversation)?;
-        println!(rt; "{}", hex::encode(alloc, &message)?)?;
+        if number != 2 {
+            println!(rt; "{}", hex::encode(alloc, &message)?)?;
+        }
     }
     Ok(())
 }
@@ -117,29 +119,44 @@ fn call_member(rt: &impl Print, member: &mut Member<Glass>, number: u32, far: &[
     Ok(())
 }
 
-/// A member begins a conversation, seals two messages and opens two of a far member.
+/// A message is sealed.
+fn seal_once(rt: &impl Print, conversation: &mut Conversation<Glass>, what: &str) -> Result<()> {
+    let message = say(conversation)?;
+    println!(rt; "{what}: {} bytes", message.len())?;
+    Ok(())
+}
+
+/// A message is opened.
+fn open_once(
+    rt: &impl Print,
+    conversation: &mut Conversation<Glass>,
+    what: &str,
+    message: &[u8],
+) -> Result<()> {
+    let generation = conversation.open(message)?.generation;
+    println!(rt; "{what}: generation {generation}")?;
+    Ok(())
+}
+
+/// A member begins a conversation, seals two messages and opens three of a far member, the last one behind a generation
+/// that it passes over.
 fn call_conversation(
     rt: &impl Print,
     alloc: Global,
     member: &Member<Glass>,
-    messages: &[&str; 2],
+    messages: &[&str; 3],
 ) -> Result<()> {
     let first = hex::decode(alloc, messages[0])?;
     let later = hex::decode(alloc, messages[1])?;
+    let last = hex::decode(alloc, messages[2])?;
     println!(rt; "before: messages")?;
     let mut conversation = converse(alloc, member)?;
     println!(rt; "conversation: epoch {}", conversation.epoch())?;
-    println!(rt; "first seal: {} bytes", say(&mut conversation)?.len())?;
-    println!(rt; "later seal: {} bytes", say(&mut conversation)?.len())?;
-    println!(rt;
-        "first open: generation {}",
-        conversation.open(&first)?.generation
-    )?;
-    println!(rt;
-        "later open: generation {}",
-        conversation.open(&later)?.generation
-    )?;
-    Ok(())
+    seal_once(rt, &mut conversation, "first seal")?;
+    seal_once(rt, &mut conversation, "later seal")?;
+    open_once(rt, &mut conversation, "first open", &first)?;
+    open_once(rt, &mut conversation, "later open", &later)?;
+    open_once(rt, &mut conversation, "open past one", &last)
 }
 
 /// A member adds one more, who joins.
@@ -168,7 +185,7 @@ fn call_joiner(
 
 /// Makes the calls as the last joiner, of whose stage the lines are the rest. One more member is added, and joins,
 /// where the tree has a leaf for it.
-fn call(rt: &impl Print, alloc: Global, number: u32, lines: &[&str; 4]) -> Result<()> {
+fn call(rt: &impl Print, alloc: Global, number: u32, lines: &[&str; 5]) -> Result<()> {
     let welcome = hex::decode(alloc, lines[0])?;
     let far = hex::decode(alloc, lines[1])?;
     let candidate = candidate(alloc, number)?;
@@ -176,7 +193,7 @@ fn call(rt: &impl Print, alloc: Global, number: u32, lines: &[&str; 4]) -> Resul
     let mut member = join_group(alloc, &candidate, &welcome)?;
     println!(rt; "join: leaf {}", member.leaf_index())?;
     call_member(rt, &mut member, number, &far)?;
-    call_conversation(rt, alloc, &member, &[lines[2], lines[3]])?;
+    call_conversation(rt, alloc, &member, &[lines[2], lines[3], lines[4]])?;
     let next = number.saturating_add(1);
     if next.is_power_of_two() {
         return Ok(());
@@ -194,7 +211,7 @@ fn serve(rt: &impl Print, alloc: Global, text: &str) -> Result<()> {
     let Some(second) = lines.next() else {
         return grow(rt, alloc, members);
     };
-    let mut rest = [second; 4];
+    let mut rest = [second; 5];
     for line in &mut rest[1..] {
         let Some(next) = lines.next() else {
             bail!("the stage ends too early");
