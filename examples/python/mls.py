@@ -1,13 +1,13 @@
 """Messaging Layer Security (RFC 9420) under cipher suite 0x0001, over the shared library that tools/build-library makes.
 
-    python3 examples/python/mls.py [LIBRARY]         the life of a group of two
+    python3 examples/python/mls.py         the life of a group of two
 
-A call that the library refuses raises Refused, whose `number` docs/REFUSALS.md explains; the member or candidate is then as
-it was. A seed is 32 random bytes, used once. One thread at a time uses an object.
+The environment's MLS_LIBRARY may name another library. A call that the library refuses raises Refused, whose `number`
+docs/REFUSALS.md explains; the member or candidate is then as it was. A seed is 32 random bytes, used once. One thread at
+a time uses an object.
 """
 import ctypes
 import os
-import sys
 
 TOP = os.path.dirname(os.path.dirname(os.path.dirname(os.path.realpath(__file__))))
 LIBRARY = f"{TOP}/crates/mls_c/out/libmls.so"
@@ -243,6 +243,4 @@ def main():
 
 
 if __name__ == "__main__":
-    if len(sys.argv) > 1:
-        library = Library(sys.argv[1])
     main()
