@@ -31,7 +31,7 @@ pub(crate) fn member_leaf_count(held: Held) -> Done
 
 /// The identity and the signature key of a member of a group, in handles, or `OutOfMemory` (1).
 fn told(alloc: Global, found: GroupMember<'_>) -> Result<Fruit, u32>
-    ensures { MatchResult result (λ f. fruits f ≡ (Some (shown_bytes found.identity), Some (shown_bytes found.signature_key), 0)) (λ n. n ≡ 1) }
+    ensures { MatchResult result (λ f. fruits f ≡ (Some (shown_bytes found.entry.identity), Some (shown_bytes found.entry.signature_key), 0)) (λ n. n ≡ 1) }
 {
     let identity_room = room(alloc)?;
     let key_room = room(alloc)?;
