@@ -24,9 +24,9 @@ impl<S: Suite> World<S> {
         }
     }
 
-    /// Saves member k, loads it of these bytes, and puts what was loaded in its place: the bytes, or None where it isn't there or
-    /// was removed. The world is as before, so whatever is called next is answered as without this call. Without memory (1), or
-    /// where the bytes are more than an input has (6), nothing was replaced.
+    /// Saves member k, loads it of these bytes, and puts what was loaded in its place: the bytes, or None where it
+    /// isn't there or was removed. The world is as before, so whatever is called next is answered as without this
+    /// call. Without memory (1), or where the bytes are more than an input has (6), nothing was replaced.
     pub fn reload(&mut self, k: usize) -> Result<Option<Vec<u8>>, LoadError>
         ensures same { self.new ≡ self.old }
         ensures saved { Reloads (active_member self.old k) result }

@@ -15,7 +15,7 @@ returns-in_err-member-clause-saved g c =
     let slice : c.deref.result.now ≡ c.in_ok-bytes.bytes.items = cc in
     let p = err_from_is_err_and c.from_residual-in_err-member.result c.from_residual-in_err-member.ensures.1 in
     rw (p.1, p.2) (load_refused g.S.Suite.crypto g.met.S.Suite.lawful c.args.self.now reach c.args.k c.in-Some.member.now c.in_ok-bytes.bytes.items c.deref.result.now
-        _ there c.in_ok-bytes.ensures.loads slice c.in_err-member.ensures.answer)
+    _ there c.in_ok-bytes.ensures.loads slice c.in_err-member.ensures.answer)
 
 pub replace_member-requires : goal.replace_member-requires
 replace_member-requires g c =
