@@ -10,8 +10,6 @@ mod extensions;
 #[cfg(test)]
 mod joins;
 #[cfg(test)]
-mod loads;
-#[cfg(test)]
 mod messages;
 #[cfg(test)]
 mod paths;
