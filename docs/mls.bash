@@ -6,7 +6,7 @@ _mls() {
             options="--full --raw --help"
             ;;
         check)
-            options="--suite --group --signatures --group-info --raw --help"
+            options="--suite --group --signatures --group-info --raw --draw --width --help"
             ;;
         replay)
             options="--suite --message --tree --quiet --record --help"

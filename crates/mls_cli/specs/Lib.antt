@@ -2,4 +2,5 @@ pub mod Options
 pub mod ExplainArguments
 pub mod ReplayArguments
 pub mod Arguments
+pub mod Hints
 pub mod Serving

@@ -3,11 +3,11 @@
 ghost use Rattle.std.specs.Prelude.{◌≡◌, map, true, false, codes, Ok, Err, Some, None, IfOk, IfErr, IsSome, OnOk, ◌⊎◌, ◌∷◌, [], option_and_then, option_map};
 ghost use Rattle.clap.specs.Words.{app_of, shape_of, first_of, found_of, kind_of, matches_of, rows_of, rule_of, subcommand_of, subcommand_rows_of, takes, fault_of, FailsBy, HasKind};
 ghost use Rattle.clap.specs.declared.Command.TheViews.{out-Command as fields_of};
-ghost use Rattle.mls_cli.specs.Arguments.{ComesOf, ExplainsWords, check, check_group_info, faults_behind, found_in, found_rows, given, maybe_task, mls, plain_check, plain_replay, plain_show, replay, replay_on, show, task_behind, task_in, task_of, task_on, task_view, vectors, view_on, with_version, words_of_check, words_of_info, words_of_no_number, words_of_quiet, words_of_record, words_of_replay, words_of_tree, words_of_two_views};
+ghost use Rattle.mls_cli.specs.Arguments.{ComesOf, ExplainsWords, check, check_group_info, draw, faults_behind, found_in, found_rows, given, maybe_task, mls, plain_check, plain_replay, plain_show, replay, replay_on, show, task_behind, task_in, task_of, task_on, task_view, vectors, view_on, with_version, words_of_check, words_of_draw, words_of_draw_info, words_of_info, words_of_no_number, words_of_quiet, words_of_record, words_of_replay, words_of_tree, words_of_two_views};
 ghost use Rattle.mls_cli.specs.ExplainArguments.{unless_asked};
 ghost use Rattle.mls_cli.specs.Options.{number_in};
 
-use crate::check_options::{check_command, check_on};
+use crate::check_options::{check_command, check_on, drawn_if};
 use crate::explain_arguments::{explain_arg, without_job};
 use crate::options::{file_command, is_given, number_in, suite_of};
 use crate::replay_arguments::{replay_command, view_by};
@@ -15,6 +15,7 @@ use crate::show_options::{show_command, show_on};
 use crate::tasks::{Job, NoJob, SuiteChoice};
 use clap::error::ErrorKind;
 use clap::{ArgMatches, Command, Error};
+use mls_cli_check::TreeSource;
 use mls_cli_replay::ReplayView;
 use mls_cli_show::Detail;
 use mls_cli_text::Form;
@@ -101,13 +102,17 @@ fn job_on<'a>(name: &str, matches: &ArgMatches<'a>, file: &'a str) -> Option<Job
 {
     match name {
         "show" => Some(show_on(value_of(matches, "full"), value_of(matches, "raw"), file)),
-        "check" => check_on(
-            value_of(matches, "group-info"),
-            value_of(matches, "raw"),
-            value_of(matches, "SUITE"),
-            value_of(matches, "signatures"),
-            value_of(matches, "HEX"),
-            file,
+        "check" => drawn_if(
+            is_given(value_of(matches, "draw")),
+            number_if_any(value_of(matches, "WIDTH")),
+            check_on(
+                value_of(matches, "group-info"),
+                value_of(matches, "raw"),
+                value_of(matches, "SUITE"),
+                value_of(matches, "signatures"),
+                value_of(matches, "HEX"),
+                file,
+            ),
         ),
         "replay" => replay_on(value_of(matches, "SUITE"), view_on(matches), file),
         "vectors" => Some(Job::Vectors { file }),
@@ -291,6 +296,10 @@ pub fn examples()
     ensures chosen { task_behind words_of_check
         ≡ Some (check (codes "a") Form.Hex SuiteChoice.Suite0001 true (codes "67")) }
     ensures info { task_behind words_of_info ≡ Some (check_group_info (codes "a") Form.Raw false) }
+    ensures draws { task_behind words_of_draw
+        ≡ Some (draw (codes "a") Form.Hex TreeSource.Tree None) }
+    ensures draws_info { task_behind words_of_draw_info
+        ≡ Some (draw (codes "a") Form.Hex TreeSource.GroupInfo (Some 40)) }
     ensures message { task_behind words_of_replay
         ≡ Some (replay (codes "a") SuiteChoice.Suite0001 (ReplayView.Message 12)) }
     ensures tree { task_behind words_of_tree
