@@ -9,7 +9,7 @@ _mls() {
             options="--suite --group --signatures --group-info --raw --draw --width --help"
             ;;
         replay)
-            options="--suite --message --tree --quiet --record --help"
+            options="--suite --message --tree --quiet --record --draw --width --help"
             ;;
         vectors)
             options="--help"

@@ -3,4 +3,5 @@ pub mod ExplainArguments
 pub mod ReplayArguments
 pub mod Arguments
 pub mod Hints
+pub mod MemberPicture
 pub mod Serving

@@ -28,6 +28,7 @@ use Rattle.mls_cli_check.specs.GroupInfo.{group_info_page}
 use Rattle.mls_cli.specs.Hints.{hint}
 use Rattle.mls_cli_vectors.specs.VectorsReport.{entry_text, vectors_page}
 use Rattle.mls_cli_text.specs.declared.output.Out.{Out}
+use Rattle.mls_cli.specs.MemberPicture.{IsMemberPicture}
 use Rattle.mls_cli_replay.specs.Replay.{PrintsOne}
 use Rattle.mls_cli_replay.specs.Views.{IsView}
 use Rattle.mls_cli_replay.specs.declared.view.ReplayView.{ReplayView}
@@ -57,6 +58,7 @@ IsPrintout (job.CheckGroupInfo file form signatures) text p =
 IsPrintout (job.Draw file form source columns) text p =
     p ≡ printout row_text (file_page form text (draw_page source columns form text))
 IsPrintout (job.Replay file suite view) text p = IsView (crypto_of suite) view text p
+IsPrintout (job.DrawMember file suite member columns) text p = IsMemberPicture (crypto_of suite) member columns text p
 IsPrintout (job.Vectors file) text p = p ≡ printout entry_text (vectors_page text)
 
 -- what is said on the errors of a file's text, though nothing failed
@@ -66,6 +68,7 @@ remark (job.Check file form suite signatures group) text = hint form text
 remark (job.CheckGroupInfo file form signatures) text = hint form text
 remark (job.Draw file form source columns) text = hint form text
 remark (job.Replay file suite view) text = []
+remark (job.DrawMember file suite member columns) text = []
 remark (job.Vectors file) text = []
 
 -- the output grows by the text of such a printout, with its status; or the status is 3, and it grows by less than such a
@@ -148,6 +151,7 @@ read_of (job.Check file form suite signatures group) text = take (suc (file_limi
 read_of (job.CheckGroupInfo file form signatures) text = take (suc (file_limit form)) text
 read_of (job.Draw file form source columns) text = take (suc (file_limit form)) text
 read_of (job.Replay file suite view) text = text
+read_of (job.DrawMember file suite member columns) text = text
 read_of (job.Vectors file) text = text
 
 -- this is what a job reads of all that a reader has left, where that is known
@@ -167,6 +171,11 @@ PrintsRead remaining contents j reader old new result =
 abbrev pub PrintsFile : {I O : Type 0} → (I → Option (List ℕ)) → (O → Option (List ℕ)) → Job → Option I → O → O → ℕ → Type 0
 PrintsFile {I} {O} remaining contents j file old new status =
     IfSome file (λ (reader : I). IfSome (remaining reader) (λ (text : List ℕ). PrintsOrFails (IsPrintout j text) (contents old) (contents new) status))
+
+-- the picture of a member's tree in a recording's text is printed
+abbrev pub PrintsMemberPicture : {O : Type 0} → (O → Option (List ℕ)) → SuiteChoice → ℕ → Option ℕ → List ℕ → O → O → Result ℕ Fault → Type 0
+PrintsMemberPicture contents suite member columns text old new result =
+    PrintsOne (IsMemberPicture (crypto_of suite) member columns text) (contents old) (contents new) result
 
 -- a view of a recording's text is printed
 abbrev pub PrintsRecording : {O : Type 0} → (O → Option (List ℕ)) → SuiteChoice → ReplayView → List ℕ → O → O → Result ℕ Fault → Type 0

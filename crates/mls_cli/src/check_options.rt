@@ -140,7 +140,11 @@ fn drawn<'a>(columns: Option<usize>, job: Job<'a>) -> Job<'a>
             source: TreeSource::GroupInfo,
             columns,
         },
-        Job::Show { .. } | Job::Draw { .. } | Job::Replay { .. } | Job::Vectors { .. } => job,
+        Job::Show { .. }
+        | Job::Draw { .. }
+        | Job::Replay { .. }
+        | Job::DrawMember { .. }
+        | Job::Vectors { .. } => job,
     }
 }
 

@@ -9,6 +9,7 @@ mod arguments;
 mod check_options;
 mod explain_arguments;
 mod hints;
+mod member_picture;
 mod options;
 mod replay_arguments;
 mod serving;

@@ -12,9 +12,10 @@ ghost use Rattle.mls_cli_draw.specs.Picture.{DrawsPage};
 ghost use Rattle.mls_suite.specs.Glass.{glass};
 ghost use Rattle.mls_cli_explain.specs.Explanations.{explanation_view};
 ghost use Rattle.mls_cli.specs.Arguments.{file_of};
-ghost use Rattle.mls_cli.specs.Serving.{BeginsError, EndsWith, EndsWithoutJob, KeepsUnread, PrintsFile, PrintsRead, PrintsRecording, PrintsText, ReadsFile, Remarks, RemarksOn, Says, ShowsHelp, ShowsTold, WritesError, checking, fault_text, file_page, out_of_memory as memory_text, remark, unread, unreadable};
+ghost use Rattle.mls_cli.specs.Serving.{BeginsError, EndsWith, EndsWithoutJob, KeepsUnread, PrintsFile, PrintsMemberPicture, PrintsRead, PrintsRecording, PrintsText, ReadsFile, Remarks, RemarksOn, Says, ShowsHelp, ShowsTold, WritesError, checking, fault_text, file_page, out_of_memory as memory_text, remark, unread, unreadable};
 
 use crate::hints::hint;
+use crate::member_picture::print_member;
 use crate::tasks::{Job, NoJob, SuiteChoice};
 use mls_cli_check::{TreeSource, Unchecked, check_page, draw_page, group_info_page};
 use mls_cli_draw::Row;
@@ -127,7 +128,7 @@ fn remark(job: &Job<'_>, text: &[u8]) -> &'static str
         | Job::Check { form, .. }
         | Job::CheckGroupInfo { form, .. }
         | Job::Draw { form, .. } => hint(*form, text),
-        Job::Replay { .. } | Job::Vectors { .. } => "",
+        Job::Replay { .. } | Job::DrawMember { .. } | Job::Vectors { .. } => "",
     }
 }
 
@@ -149,7 +150,7 @@ fn read_file<I: Input>(alloc: Global, job: &Job<'_>, file: &mut I) -> Result<Vec
             file.read_front(alloc, form.file_limit() as u64 + 1)
         }
         Job::Draw { form, .. } => file.read_front(alloc, form.file_limit() as u64 + 1),
-        Job::Replay { .. } | Job::Vectors { .. } => file.read_all(alloc),
+        Job::Replay { .. } | Job::DrawMember { .. } | Job::Vectors { .. } => file.read_all(alloc),
     }
 }
 
@@ -196,6 +197,12 @@ fn print_text<O: Output>(
             out,
         ),
         Job::Replay { suite, view, .. } => print_recording(alloc, *suite, *view, text, out),
+        Job::DrawMember {
+            suite,
+            member,
+            columns,
+            ..
+        } => print_picture(alloc, *suite, *member, *columns, text, out),
         Job::Vectors { .. } => print_made_page(alloc, vectors_page(alloc, text), out),
     }
 }
@@ -325,6 +332,26 @@ fn print_recording<O: Output>(
     match suite {
         SuiteChoice::Glass => print_view::<Glass, O>(alloc, text, view, out),
         SuiteChoice::Suite0001 => print_view::<Suite0001, O>(alloc, text, view, out),
+    }
+}
+
+/// Prints the picture of the tree of a recording's member for the suite.
+fn print_picture<O: Output>(
+    alloc: Global,
+    suite: SuiteChoice,
+    member: usize,
+    columns: Option<usize>,
+    text: &[u8],
+    out: &mut O,
+) -> Result<u8, Fault>
+    ensures prints { PrintsMemberPicture O.contents suite member columns text.now out.old out.new result }
+    ensures status { IfOk result (λ status. status ≤ 1) }
+    ensures write { O.failed out.new ≡ write_failed (O.failed out.old) result }
+    ensures written { IfErr result (λ e. e ≢ Fault.Read) }
+{
+    match suite {
+        SuiteChoice::Glass => print_member::<Glass, O>(alloc, text, member, columns, out),
+        SuiteChoice::Suite0001 => print_member::<Suite0001, O>(alloc, text, member, columns, out),
     }
 }
 

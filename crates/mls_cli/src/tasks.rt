@@ -70,6 +70,17 @@ pub enum Job<'a> {
         /// What is printed of it.
         view: ReplayView,
     },
+    /// Draw the ratchet tree that a member of a recording has in the end.
+    DrawMember {
+        /// The file's path, `-` for the standard input.
+        file: &'a str,
+        /// The cipher suite that the recording is for.
+        suite: SuiteChoice,
+        /// The member's number.
+        member: usize,
+        /// How many columns a row has at most, where it is cut.
+        columns: Option<usize>,
+    },
     /// Judge the test vectors that stand as JSON in a file.
     Vectors {
         /// The file's path, `-` for the standard input.
@@ -91,6 +102,7 @@ impl<'a> Job<'a> {
             | Job::CheckGroupInfo { file, .. }
             | Job::Draw { file, .. }
             | Job::Replay { file, .. }
+            | Job::DrawMember { file, .. }
             | Job::Vectors { file } => file,
         }
     }

@@ -41,7 +41,7 @@ const MEMBERS: &str =
 const BAD_JSON: &str = "refused: 9 BadJson\n";
 
 const TWO_VIEWS: &str =
-    "error: only one of --message, --tree, --quiet and --record can be used\n\nUsage: mls replay [OPTIONS] <FILE>\n\nFor more information, try '--help'.\n";
+    "error: only one of --message, --tree, --draw, --quiet and --record can be used\n\nUsage: mls replay [OPTIONS] <FILE>\n\nFor more information, try '--help'.\n";
 
 const NO_MEMBER: &str =
     "error: invalid value 'x' for '--tree <K>': invalid digit found in string\n\nFor more information, try '--help'.\n";
@@ -136,10 +136,56 @@ fn prints_trees_of_members(rt: HostRuntime) -> Result<(), Fail> {
         assert!(rt; out.as_slice() == "┌─■ 0 \"a\"\n●\n└─■ 1 \"b\"\n".as_bytes());
     }
     let gone = group_with(alloc, "")?;
-    let words = ["mls", "replay", "FILE", "--tree=2"];
-    let (status, out) = serve_file(alloc, words.as_slice(), gone.as_bytes())?;
-    assert_eq!(rt; status, 1);
-    assert!(rt; out.as_slice() == b"refused: 40 Gone\n".as_slice());
+    for option in ["--tree=2", "--draw=2"] {
+        let words = ["mls", "replay", "FILE", option];
+        let (status, out) = serve_file(alloc, words.as_slice(), gone.as_bytes())?;
+        assert_eq!(rt; status, 1);
+        assert!(rt; out.as_slice() == b"refused: 40 Gone\n".as_slice());
+    }
+    Ok(())
+}
+
+#[test]
+fn draws_trees_of_members(rt: HostRuntime) -> Result<(), Fail> {
+    let alloc = rt.alloc();
+    let draw: &[&str] = &["mls", "replay", "FILE", "--draw", "1"];
+    let table: [(&[&str], &str, u8, &str); 8] = [
+        (draw, JOIN, 0, "┌─■ 0 \"a\"\n●\n└─■ 1 \"b\"\n"),
+        // What is expected doesn't count.
+        (draw, EXPECTED, 0, "┌─■ 0 \"a\"\n●\n└─■ 1 \"b\"\n"),
+        (
+            &["mls", "replay", "--width=4", "FILE", "--draw=0"],
+            JOIN,
+            0,
+            "┌─■…\n●\n└─■…\n",
+        ),
+        (draw, NOTHING, 1, "refused: 90 NoSuchMember\n"),
+        (draw, "{}", 1, BAD_JSON),
+        (
+            &["mls", "replay", "FILE", "--suite=0001", "--draw=0"],
+            JOIN,
+            1,
+            BAD_JSON,
+        ),
+        (
+            &["mls", "replay", "--draw=0", "FILE", "--tree=0"],
+            "",
+            2,
+            TWO_VIEWS,
+        ),
+        // Replies aren't cut.
+        (
+            &["mls", "replay", "FILE", "--width=4"],
+            NOTHING,
+            1,
+            "final 0: expected x\n",
+        ),
+    ];
+    for (words, file, status, text) in table {
+        let (answer, out) = serve_file(alloc, words, file.as_bytes())?;
+        assert_eq!(rt; answer, status, "for {file}");
+        assert!(rt; out.as_slice() == text.as_bytes(), "for {file}");
+    }
     Ok(())
 }
 
