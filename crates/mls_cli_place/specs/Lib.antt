@@ -1,0 +1,12 @@
+pub mod Walk
+pub mod Leaf
+pub mod Tree
+pub mod Group
+pub mod Message
+pub mod Place
+pub mod Text
+pub mod Finding
+pub mod LeafFinding
+pub mod TreeFinding
+pub mod GroupFinding
+pub mod MessageFinding
