@@ -1,6 +1,7 @@
 -- Whole inputs: the first fault is the one that reading answers.
 use Rattle.std.proofs.Common.{◌≡◌, ◌==◌, ◌≤◌, ℕ, Bool, true, false, cond, if◌then◌else◌, nat_lt, List, length, Option, Some, None, Result, Ok, Err, refl, sym, ap, subst, ◌∙◌, arith}
 use Rattle.std.specs.Option.{option_map}
+use Rattle.std.specs.Prelude.{IfSome}
 use Rattle.mls_wire.specs.Format.{Format, IsBytes}
 use Rattle.mls_wire.specs.Reading.{◌>>=◌, rest_of}
 use Rattle.mls_leaf.specs.Faults.{whole}
@@ -45,3 +46,7 @@ limit_within false bytes w f h e = whole_within bytes w f h e
 
 pub fault_within : {walk : Walk} {pass : List ℕ → Result (List ℕ) ℕ} → Finds walk pass → (bytes : List ℕ) (f : Found) → IsBytes bytes → first_fault walk bytes ≡ Some f → f.left ≤ length bytes
 fault_within {walk} {pass} h bytes f fits e = limit_within (nat_lt input_limit (length bytes)) bytes (walk bytes) f (h.within bytes fits) e
+
+pub left_within : {walk : Walk} {pass : List ℕ → Result (List ℕ) ℕ} → Finds walk pass → (bytes : List ℕ) (o : Option Found) → IsBytes bytes → o ≡ first_fault walk bytes → IfSome o (λ (f : Found). f.left ≤ length bytes)
+left_within h bytes None fits e = tt
+left_within h bytes (Some f) fits e = fault_within h bytes f fits (sym e)

@@ -33,8 +33,8 @@ is_shorter a nonempty h bytes rest fits e = is_shorter_past a nonempty bytes res
 
 pub goes_on : (walk : Walk) (whole : List ℕ) (i : ℕ) (bytes rest : List ℕ) → length rest < length bytes → walk bytes ≡ Ok rest → GoesOn walk whole i bytes → GoesOn walk whole (i + 1) rest
 goes_on walk whole i bytes rest lt e before =
-    let next = step walk (all_items walk whole) i before.0 bytes rest lt before.1 e before.2.1 in
-    let small : i + 1 + length rest ≤ length whole = omega (arith, lt, before.2.0) in
+    let next = step walk (all_items walk whole) i before.0 bytes rest lt before.1 e before.3 in
+    let small : i + 1 + length rest ≤ length whole = omega (arith, lt, before.2) in
     (next.0, next.1, small, next.2)
 
 some_left : (bytes : List ℕ) → (bytes ≡ [] → ⊥) → 0 < length bytes
@@ -47,15 +47,15 @@ stop walk total i zero (b ∷ bytes) f some enough e so_far = absurd (omega arit
 stop walk total i (suc fuel) (b ∷ bytes) f some enough e so_far = sym so_far ∙ ap (λ (r : Result (List ℕ) Found). followed (inside (Item i) r) (items walk (i + 1) fuel)) e
 
 pub stops : (walk : Walk) (whole : List ℕ) (i : ℕ) (bytes : List ℕ) (f : Found) → (bytes ≡ [] → ⊥) → walk bytes ≡ Err f → GoesOn walk whole i bytes → all_items walk whole ≡ Err (enclosed_by (Item i) f)
-stops walk whole i bytes f some e before = stop walk (all_items walk whole) i before.0 bytes f (some_left bytes some) before.1 e before.2.1
+stops walk whole i bytes f some e before = stop walk (all_items walk whole) i before.0 bytes f (some_left bytes some) before.1 e before.3
 
 -- nothing is left
 pub is_done : (walk : Walk) (whole : List ℕ) (i : ℕ) (bytes : List ℕ) → bytes ≡ [] → GoesOn walk whole i bytes → all_items walk whole ≡ Ok tt
-is_done walk whole i bytes nil before = sym before.2.1 ∙ ap (λ (bs : List ℕ). items walk i before.0 bs) nil
+is_done walk whole i bytes nil before = sym before.3 ∙ ap (λ (bs : List ℕ). items walk i before.0 bs) nil
 
 -- the next item's number is small
 pub next_fits : (walk : Walk) (whole : List ℕ) (i : ℕ) (bytes : List ℕ) → length whole < 2 ^ 64 → (bytes ≡ [] → ⊥) → GoesOn walk whole i bytes → i + 1 < 2 ^ 64
-next_fits walk whole i bytes size some before = omega (arith, size, some_left bytes some, before.2.0)
+next_fits walk whole i bytes size some before = omega (arith, size, some_left bytes some, before.2)
 
 -- ---- contents of vectors
 

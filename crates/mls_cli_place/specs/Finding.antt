@@ -127,7 +127,7 @@ pub record Chooses {V : Type 0} (fault : ℕ) (cases : ℕ → Option Walk) (bod
 pub chooses_none : (fault : ℕ) → Chooses fault no_case (others fault).body
 chooses_none fault = record {
   same = λ t unknown rest e. ap (λ (n : ℕ). no_rest n) e;
-  within = λ t unknown bytes rest le shorter fits. le;
+  within = λ t unknown bytes rest le less fits. le;
 }
 
 this_same : {A B : Type 0} (b : Bool) (walk : Walk) (other : Option Walk) (a : Format A) (c : Format B) (unknown : Found) (rest : List ℕ) → Finds walk a.pass → number_in (chosen unknown rest other) ≡ c.pass rest
@@ -139,11 +139,11 @@ this_within : (b : Bool) (walk : Walk) (other : Option Walk) (unknown : Found) (
 this_within true walk other unknown bytes rest h k = h
 this_within false walk other unknown bytes rest h k = k
 
-pub chooses_case : {A B : Type 0} {walk : Walk} {cases : ℕ → Option Walk} {a : Format A} {c : Cases B} {fault : ℕ} (k : ℕ) → Finds walk a.pass → Chooses fault cases c.body → Chooses fault (case_of k walk cases) (case k a c).body
-chooses_case {A} {B} {walk} {cases} {a} {c} {fault} k h more = record {
+pub chooses_case : {A B : Type 0} {walk : Walk} {cases : ℕ → Option Walk} {fault : ℕ} (k : ℕ) (a : Format A) (c : Cases B) → Finds walk a.pass → Chooses fault cases c.body → Chooses fault (case_of k walk cases) (case k a c).body
+chooses_case {A} {B} {walk} {cases} {fault} k a c h more = record {
   same = λ t unknown rest e. this_same (t == k) walk (cases t) a (c.body t) unknown rest h (more.same t unknown rest e);
-  within = λ t unknown bytes rest le shorter fits.
-      this_within (t == k) walk (cases t) unknown bytes rest (longer_within bytes rest (walk rest) shorter (h.within rest fits)) (more.within t unknown bytes rest le shorter fits);
+  within = λ t unknown bytes rest le less fits.
+      this_within (t == k) walk (cases t) unknown bytes rest (longer_within bytes rest (walk rest) less (h.within rest fits)) (more.within t unknown bytes rest le less fits);
 }
 
 number_by_tag : {V : Type 0} {cases : ℕ → Option Walk} {body : ℕ → Format V} (in_tag : Found → Found) (fault : ℕ) (bytes : List ℕ) (r : Result (ℕ × List ℕ) ℕ) → IsPlacing in_tag → Chooses fault cases body
@@ -176,9 +176,9 @@ presence_same a h (suc zero) unknown rest e = h.same rest
 presence_same a h (suc (suc t)) unknown rest e = ap (λ (n : ℕ). no_rest n) e
 
 presence_within : {V : Type 0} {walk : Walk} (a : Format V) → Finds walk a.pass → (t : ℕ) (unknown : Found) (bytes rest : List ℕ) → unknown.left ≤ length bytes → length rest ≤ length bytes → IsBytes rest → Within bytes (chosen unknown rest (presences walk t))
-presence_within a h zero unknown bytes rest le shorter fits = (shorter, fits)
-presence_within {V} {walk} a h (suc zero) unknown bytes rest le shorter fits = longer_within bytes rest (walk rest) shorter (h.within rest fits)
-presence_within a h (suc (suc t)) unknown bytes rest le shorter fits = le
+presence_within a h zero unknown bytes rest le less fits = (less, fits)
+presence_within {V} {walk} a h (suc zero) unknown bytes rest le less fits = longer_within bytes rest (walk rest) less (h.within rest fits)
+presence_within a h (suc (suc t)) unknown bytes rest le less fits = le
 
 chooses_optional : {V : Type 0} {walk : Walk} (a : Format V) → Finds walk a.pass → Chooses 7 (presences walk) (optional_body a)
 chooses_optional a h = record { same = presence_same a h; within = presence_within a h }

@@ -28,11 +28,17 @@ group_context_finds =
 
 -- ---- the data of the extension
 
-ended_same : (bytes : List ℕ) (b : Bool) → number_in (if b then Ok tt else Err (record { left = length bytes; path = []; fault = 3 })) ≡ (if b then Ok tt else Err 3)
+abbrev end_at : List ℕ → Bool → Result (Unit {0}) Found
+end_at bytes b = if b then Ok tt else Err (at_front bytes 3)
+
+abbrev end_past : Bool → Result (Unit {0}) ℕ
+end_past b = if b then Ok tt else Err 3
+
+ended_same : (bytes : List ℕ) (b : Bool) → number_in (end_at bytes b) ≡ end_past b
 ended_same bytes true = refl
 ended_same bytes false = refl
 
-ended_within : (bytes : List ℕ) (b : Bool) → AllWithin bytes (if b then Ok tt else Err (record { left = length bytes; path = []; fault = 3 }))
+ended_within : (bytes : List ℕ) (b : Bool) → AllWithin bytes (end_at bytes b)
 ended_within bytes true = tt
 ended_within bytes false = omega arith
 
@@ -64,7 +70,10 @@ second_same : (bytes : List ℕ) (r : Result (ℕ × List ℕ) ℕ) → number_i
 second_same bytes (Ok x) = refl
 second_same bytes (Err n) = refl
 
-if_same : (b : Bool) (r : Result (Unit {0}) Found) (s : Result (Unit {0}) ℕ) → number_in r ≡ s → number_in (if b then Ok tt else r) ≡ (if b then Ok tt else s)
+abbrev empty_or : {E : Type 0} → Bool → Result (Unit {0}) E → Result (Unit {0}) E
+empty_or b r = if b then Ok tt else r
+
+if_same : (b : Bool) (r : Result (Unit {0}) Found) (s : Result (Unit {0}) ℕ) → number_in r ≡ s → number_in (empty_or b r) ≡ empty_or b s
 if_same true r s e = refl
 if_same false r s e = e
 
@@ -72,7 +81,7 @@ second_within : (bytes : List ℕ) (r : Result (ℕ × List ℕ) ℕ) → AllWit
 second_within bytes (Ok x) = omega arith
 second_within bytes (Err n) = omega arith
 
-if_within : (bytes : List ℕ) (b : Bool) (r : Result (Unit {0}) Found) → AllWithin bytes r → AllWithin bytes (if b then Ok tt else r)
+if_within : (bytes : List ℕ) (b : Bool) (r : Result (Unit {0}) Found) → AllWithin bytes r → AllWithin bytes (empty_or b r)
 if_within bytes true r h = tt
 if_within bytes false r h = h
 

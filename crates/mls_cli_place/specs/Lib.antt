@@ -5,6 +5,8 @@ pub mod Group
 pub mod Message
 pub mod Place
 pub mod Text
+pub mod TextLaws
+pub mod TreePlace
 pub mod Finding
 pub mod LeafFinding
 pub mod TreeFinding

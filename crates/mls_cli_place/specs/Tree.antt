@@ -1,5 +1,5 @@
 -- The fields of a ratchet tree, in their order (RFC 9420, 7.1 and 12.4.3.3).
-use Rattle.std.specs.Prelude.{ℕ, List, Option, Result}
+use Rattle.std.specs.Prelude.{ℕ, zero, suc, List, Option, None, Some}
 use Rattle.std.specs.Int.{w8}
 use Rattle.mls_wire.specs.Reading.{uint_at}
 use Rattle.mls_wire.specs.Combine.{byte_string}
@@ -30,7 +30,9 @@ abbrev pub in_no_field : Found → Found
 in_no_field f = f
 
 abbrev pub presences : Walk → ℕ → Option Walk
-presences walk t = case_of 0 no_field (case_of 1 walk no_case) t
+presences walk zero = Some no_field
+presences walk (suc zero) = Some walk
+presences walk (suc (suc t)) = None
 
 abbrev pub optional_of : Walk → Walk
 optional_of walk bytes = by_tag in_no_field 7 (presences walk) bytes (uint_at w8 bytes)

@@ -15,15 +15,15 @@ use mls_wire::Reader;
 
 /// What can be read past with the place of its first fault. After a fault it is left open how far the reader has come.
 pub(crate) trait Located: Codec {
-    /// The fields in their order.
+    // The fields in their order.
     ghost walk: { Walk };
-
-    /// The fault that is found is the one that reading past answers.
-    ghost finds: { Finds walk Self.format.pass };
 
     /// Reads past a value at the front. It takes no memory.
     fn locate(reader: &mut Reader<'_>) -> Result<(), Found>
         ensures { Walks walk reader.old result reader.new };
+
+    // The fault that is found is the one that reading past answers.
+    ghost finds: { Finds walk Self.Codec.format.pass };
 }
 
 /// Reads past a value at the front as one.

@@ -18,7 +18,7 @@ use mls_wire::Reader;
 /// The place of a fault of a parent: where its keys are read past, it is in the unmerged leaves.
 #[tactic(auto, unfolding(crate::specs::Tree::parent_node_walk, mls_leaf::specs::ParentNode::parent_node))]
 fn locate_in_parent(mut reader: Reader<'_>, error: LeafError) -> Found
-    requires { parent_node.pass reader.entry ≡ Err (number_of error) }
+    requires { parent_node.pass reader ≡ Err (number_of error) }
     ensures { parent_node_walk reader.entry ≡ Err result }
 {
     if let Err(found) = pass_field::<Bytes>(&mut reader, Step::Leaf(LeafField::EncryptionKey)) {
