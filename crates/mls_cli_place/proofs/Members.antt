@@ -32,11 +32,11 @@ one_fails p b (Leaf v) i low lt h =
 one_fails p b (Branch c l r) i low lt h =
     elim (cases_lt i (b + width l)) [
       | inl s ↦
-        let left = one_fails p b l i low s (ap (passes p i) (sym (leaf_at_left b c l r i s)) ∙ h) in
-        all_members_branch b c l r p ∙ ap (λ (x : Bool). x && all_members p (b + width l) r) left
+          let left = one_fails p b l i low s (ap (passes p i) (sym (leaf_at_left b c l r i s)) ∙ h) in
+          all_members_branch b c l r p ∙ ap (λ (x : Bool). x && all_members p (b + width l) r) left
       | inr ge ↦
-        let right = one_fails p (b + width l) r i ge (omega (arith, lt, width_branch c l r)) (ap (passes p i) (sym (leaf_at_right b c l r i ge)) ∙ h) in
-        all_members_branch b c l r p ∙ ap (λ (x : Bool). all_members p b l && x) right ∙ no_and (all_members p b l)
+          let right = one_fails p (b + width l) r i ge (omega (arith, lt, width_branch c l r)) (ap (passes p i) (sym (leaf_at_right b c l r i ge)) ∙ h) in
+          all_members_branch b c l r p ∙ ap (λ (x : Bool). all_members p b l && x) right ∙ no_and (all_members p b l)
     ]
 
 told : (p : ℕ → LeafNode → Bool) (t : Term) (found : Option ℕ) → IsFirstFailing (λ i. passes p i (leaf_of t i)) (width t) found → TellsRule (all_members p 0 t) found

@@ -7,7 +7,7 @@ use Rattle.mls_cli_place.specs.declared.step.Step.TheVariants.{Item}
 
 -- ---- a fault that was found
 
--- how many steps of a path are kept: no message has a field that lies deeper
+-- how many steps of a path are kept; the deepest field of a message has ten
 abbrev pub most_steps : ℕ
 most_steps = 16
 

@@ -12,7 +12,9 @@ use crate::place::Found;
 use crate::step::{GroupField, LeafField, MessageField, Step};
 use crate::vectors::content_of;
 use mls_leaf::{Bytes, GroupExtensions, Items, LeafError};
-use mls_types::{EncryptedGroupSecrets, GroupContext, GroupInfo, HpkeCiphertext, RatchetTree, Welcome};
+use mls_types::{
+    EncryptedGroupSecrets, GroupContext, GroupInfo, HpkeCiphertext, RatchetTree, Welcome,
+};
 use mls_wire::{Reader, WireError};
 
 /// Nothing is left, or `Trailing` (3) is answered.
