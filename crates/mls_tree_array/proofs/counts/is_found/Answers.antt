@@ -1,5 +1,4 @@
-use Rattle.std.proofs.Common.{◌≡◌, ◌+◌, ◌-◌, ◌*◌, ◌/◌, ◌≤◌, true, length, sym, arith}
-use Rattle.mls_tree_model.specs.Sets.{has, leaf_numbers}
+use Rattle.std.proofs.Common.{◌≡◌, ◌+◌, ◌-◌, ◌/◌, sym, arith}
 use Rattle.mls_tree_array.proofs.Halves.{found_at, none_between}
 use Rattle.mls_tree_array.proofs.counts.is_found.Goals as goal
 
