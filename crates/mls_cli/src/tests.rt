@@ -3,14 +3,11 @@
 mod check;
 mod ends;
 mod extensions;
-mod options;
 mod replay;
 mod rows;
-mod shown;
 mod suite_0001;
 mod vectors;
 mod version_2;
-mod views;
 
 ghost use Rattle.std.specs.Prelude.{Some};
 
