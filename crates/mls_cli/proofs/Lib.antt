@@ -1,6 +1,5 @@
 pub mod Saying
 mod Reading
-mod MemberPicture
 mod Numbers
 mod Lacking
 mod Adding

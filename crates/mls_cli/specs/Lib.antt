@@ -2,6 +2,4 @@ pub mod Options
 pub mod ExplainArguments
 pub mod ReplayArguments
 pub mod Arguments
-pub mod Hints
-pub mod MemberPicture
 pub mod Serving

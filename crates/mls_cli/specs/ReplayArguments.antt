@@ -14,11 +14,6 @@ with_view_rules app =
     (flag_rule (codes "quiet")))
     (flag_rule (codes "record"))
 
--- an optional --draw MEMBER and an optional --width WIDTH, both numbers
-abbrev pub with_picture_rules : App → App
-with_picture_rules app =
-    with_rule (with_rule app (number_rule (codes "MEMBER") (codes "draw"))) (number_rule (codes "WIDTH") (codes "width"))
-
 -- this view, unless another is asked for too
 abbrev pub unless : ReplayView → Bool → Option ReplayView
 unless view true = None

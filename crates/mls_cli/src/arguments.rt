@@ -3,11 +3,11 @@
 ghost use Rattle.std.specs.Prelude.{◌≡◌, map, true, false, codes, Ok, Err, Some, None, IfOk, IfErr, IsSome, OnOk, ◌⊎◌, ◌∷◌, [], option_and_then, option_map};
 ghost use Rattle.clap.specs.Words.{app_of, shape_of, first_of, found_of, kind_of, matches_of, rows_of, rule_of, subcommand_of, subcommand_rows_of, takes, fault_of, FailsBy, HasKind};
 ghost use Rattle.clap.specs.declared.Command.TheViews.{out-Command as fields_of};
-ghost use Rattle.mls_cli.specs.Arguments.{ComesOf, ExplainsWords, check, check_group_info, draw, draw_member, faults_behind, found_in, found_rows, given, maybe_task, mls, plain_check, plain_replay, plain_show, recording_task, replay, replay_on, show, task_behind, task_in, task_of, task_on, task_view, vectors, view_on, with_version, words_of_check, words_of_draw, words_of_draw_info, words_of_info, words_of_no_number, words_of_picture, words_of_picture_and_message, words_of_quiet, words_of_record, words_of_replay, words_of_tree, words_of_two_views};
+ghost use Rattle.mls_cli.specs.Arguments.{ComesOf, ExplainsWords, check, check_group_info, faults_behind, found_in, found_rows, given, maybe_task, mls, plain_check, plain_replay, plain_show, replay, replay_on, show, task_behind, task_in, task_of, task_on, task_view, vectors, view_on, with_version, words_of_check, words_of_info, words_of_no_number, words_of_quiet, words_of_record, words_of_replay, words_of_tree, words_of_two_views};
 ghost use Rattle.mls_cli.specs.ExplainArguments.{unless_asked};
 ghost use Rattle.mls_cli.specs.Options.{number_in};
 
-use crate::check_options::{check_command, check_on, drawn_if};
+use crate::check_options::{check_command, check_on};
 use crate::explain_arguments::{explain_arg, without_job};
 use crate::options::{file_command, is_given, number_in, suite_of};
 use crate::replay_arguments::{replay_command, view_by};
@@ -15,7 +15,6 @@ use crate::show_options::{show_command, show_on};
 use crate::tasks::{Job, NoJob, SuiteChoice};
 use clap::error::ErrorKind;
 use clap::{ArgMatches, Command, Error};
-use mls_cli_check::TreeSource;
 use mls_cli_replay::ReplayView;
 use mls_cli_show::Detail;
 use mls_cli_text::Form;
@@ -84,46 +83,16 @@ fn view_on(matches: &ArgMatches<'_>) -> Option<ReplayView>
     )
 }
 
-/// The replay of a recording or, in place of its replies, the drawing of a member's tree; None where another thing is
-/// asked for too.
-fn recording_job<'a>(
-    file: &'a str,
-    suite: SuiteChoice,
-    member: Option<usize>,
-    columns: Option<usize>,
-    view: ReplayView,
-) -> Option<Job<'a>>
-    ensures { maybe_task result ≡ recording_task file.entry.now suite member columns view }
-{
-    match member {
-        None => Some(Job::Replay { file, suite, view }),
-        Some(member) => match view {
-            ReplayView::Replies => Some(Job::DrawMember {
-                file,
-                suite,
-                member,
-                columns,
-            }),
-            ReplayView::Unmet
-            | ReplayView::Message(_)
-            | ReplayView::Tree(_)
-            | ReplayView::Recording => None,
-        },
-    }
-}
-
-/// The job that the options and FILE stand for, or None where no suite has that name, or two things are asked for.
-fn replay_on<'a>(
-    suite: Option<&str>,
-    member: Option<usize>,
-    columns: Option<usize>,
-    view: Option<ReplayView>,
-    file: &'a str,
-) -> Option<Job<'a>>
-    ensures { maybe_task result ≡ replay_on (given suite.entry) member columns view file.entry.now }
+/// The replay that the options and FILE stand for, or None where no suite has that name, or two things are asked for.
+fn replay_on<'a>(suite: Option<&str>, view: Option<ReplayView>, file: &'a str) -> Option<Job<'a>>
+    ensures { maybe_task result ≡ replay_on (given suite.entry) view file.entry.now }
 {
     let chosen = suite_of(suite?)?;
-    recording_job(file, chosen, member, columns, view?)
+    Some(Job::Replay {
+        file,
+        suite: chosen,
+        view: view?,
+    })
 }
 
 /// The job that a subcommand's name, its matches and FILE stand for, or None where no subcommand has that name.
@@ -132,25 +101,15 @@ fn job_on<'a>(name: &str, matches: &ArgMatches<'a>, file: &'a str) -> Option<Job
 {
     match name {
         "show" => Some(show_on(value_of(matches, "full"), value_of(matches, "raw"), file)),
-        "check" => drawn_if(
-            is_given(value_of(matches, "draw")),
-            number_if_any(value_of(matches, "WIDTH")),
-            check_on(
-                value_of(matches, "group-info"),
-                value_of(matches, "raw"),
-                value_of(matches, "SUITE"),
-                value_of(matches, "signatures"),
-                value_of(matches, "HEX"),
-                file,
-            ),
-        ),
-        "replay" => replay_on(
+        "check" => check_on(
+            value_of(matches, "group-info"),
+            value_of(matches, "raw"),
             value_of(matches, "SUITE"),
-            number_if_any(value_of(matches, "MEMBER")),
-            number_if_any(value_of(matches, "WIDTH")),
-            view_on(matches),
+            value_of(matches, "signatures"),
+            value_of(matches, "HEX"),
             file,
         ),
+        "replay" => replay_on(value_of(matches, "SUITE"), view_on(matches), file),
         "vectors" => Some(Job::Vectors { file }),
         _ => None,
     }
@@ -224,7 +183,7 @@ fn command_with_suite<'a>(alloc: Global, subcommand: &str) -> Result<Command<'a>
 }
 
 /// What clap would say of options that exclude one another.
-const TWO_VIEWS: &str = "only one of --message, --tree, --draw, --quiet and --record can be used";
+const TWO_VIEWS: &str = "only one of --message, --tree, --quiet and --record can be used";
 
 /// The error of values that name no job, with the usage of the subcommand.
 fn value_error(alloc: Global, subcommand: &str, suite: &str) -> Result<Error, AllocError>
@@ -332,10 +291,6 @@ pub fn examples()
     ensures chosen { task_behind words_of_check
         ≡ Some (check (codes "a") Form.Hex SuiteChoice.Suite0001 true (codes "67")) }
     ensures info { task_behind words_of_info ≡ Some (check_group_info (codes "a") Form.Raw false) }
-    ensures draws { task_behind words_of_draw
-        ≡ Some (draw (codes "a") Form.Hex TreeSource.Tree None) }
-    ensures draws_info { task_behind words_of_draw_info
-        ≡ Some (draw (codes "a") Form.Hex TreeSource.GroupInfo (Some 40)) }
     ensures message { task_behind words_of_replay
         ≡ Some (replay (codes "a") SuiteChoice.Suite0001 (ReplayView.Message 12)) }
     ensures tree { task_behind words_of_tree
@@ -344,9 +299,6 @@ pub fn examples()
         ≡ Some (replay (codes "a") SuiteChoice.Glass ReplayView.Unmet) }
     ensures recorded { task_behind words_of_record
         ≡ Some (replay (codes "a") SuiteChoice.Glass ReplayView.Recording) }
-    ensures picture { task_behind words_of_picture
-        ≡ Some (draw_member (codes "a") SuiteChoice.Glass 3 (Some 40)) }
-    ensures picture_and_message { task_behind words_of_picture_and_message ≡ None }
     ensures two { task_behind words_of_two_views ≡ None }
     ensures number { faults_behind words_of_no_number ≡ ErrorKind.ValueValidation ∷ [] }
     ensures other { task_behind (codes "check" ∷ codes "a" ∷ codes "--suite=f002" ∷ []) ≡ None }

@@ -3,13 +3,12 @@
 ghost use Rattle.std.specs.Prelude.{◌≡◌, false, IfOk};
 ghost use Rattle.clap.specs.Words.{app_of, rule_of};
 ghost use Rattle.clap.specs.declared.Command.TheViews.{out-Command as fields_of};
-ghost use Rattle.mls_cli.specs.Arguments.{check_app, check_on, drawn, drawn_if, given, group_rule, maybe_task, task_view, tree_task, with_drawing_rules};
+ghost use Rattle.mls_cli.specs.Arguments.{check_app, check_on, given, group_rule, maybe_task, task_view, tree_task};
 
-use crate::options::{file_command, flag_arg, is_given, number_arg, suite_arg, suite_of};
+use crate::options::{file_command, flag_arg, is_given, suite_arg, suite_of};
 use crate::show_options::form_of;
 use crate::tasks::{Job, SuiteChoice};
 use clap::{Arg, Command};
-use mls_cli_check::TreeSource;
 use mls_cli_text::Form;
 use std::alloc::{AllocError, Global};
 
@@ -48,26 +47,7 @@ pub fn check_command<'a>(alloc: Global) -> Result<Command<'a>, AllocError>
     let with_group = with_suite.arg(group_arg(alloc))?;
     let with_signatures = with_group.arg(signatures)?;
     let with_info = with_signatures.arg(info)?;
-    let raw = flag_arg(alloc, "raw", "Reads bytes as they are, and not hex");
-    let with_raw = with_info.arg(raw)?;
-    with_drawing(alloc, with_raw)
-}
-
-/// The command with the options of drawings.
-fn with_drawing<'a>(alloc: Global, command: Command<'a>) -> Result<Command<'a>, AllocError>
-    ensures app { IfOk result (λ c. app_of c ≡ with_drawing_rules (app_of command.entry)) }
-    ensures local { (fields_of command.entry).has_globals ≡ false
-        → IfOk result (λ c. (fields_of c).has_globals ≡ false) }
-{
-    let draw = flag_arg(alloc, "draw", "Draws the tree, and checks nothing of it");
-    let width = number_arg(
-        alloc,
-        "WIDTH",
-        "width",
-        "Cuts each row of a drawing to so many columns",
-    );
-    let with_draw = command.arg(draw)?;
-    with_draw.arg(width)
+    with_info.arg(flag_arg(alloc, "raw", "Reads bytes as they are, and not hex"))
 }
 
 /// The check of a tree that these stand for.
@@ -121,42 +101,4 @@ pub fn check_on<'a>(
         });
     }
     Some(tree_job(form, suite, signatures, group, file))
-}
-
-/// A drawing in place of a tree's check, and any other job as it is.
-fn drawn<'a>(columns: Option<usize>, job: Job<'a>) -> Job<'a>
-    ensures { task_view result ≡ drawn columns (task_view job.entry) }
-{
-    match job {
-        Job::Check { file, form, .. } => Job::Draw {
-            file,
-            form,
-            source: TreeSource::Tree,
-            columns,
-        },
-        Job::CheckGroupInfo { file, form, .. } => Job::Draw {
-            file,
-            form,
-            source: TreeSource::GroupInfo,
-            columns,
-        },
-        Job::Show { .. }
-        | Job::Draw { .. }
-        | Job::Replay { .. }
-        | Job::DrawMember { .. }
-        | Job::Vectors { .. } => job,
-    }
-}
-
-/// A drawing in place of a tree's check where it is asked for.
-pub fn drawn_if<'a>(asked: bool, columns: Option<usize>, job: Option<Job<'a>>) -> Option<Job<'a>>
-    ensures { maybe_task result ≡ drawn_if asked columns (maybe_task job.entry) }
-{
-    if !asked {
-        return job;
-    }
-    match job {
-        Some(job) => Some(drawn(columns, job)),
-        None => None,
-    }
 }
