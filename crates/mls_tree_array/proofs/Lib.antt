@@ -11,6 +11,7 @@ pub mod Readings
 pub mod Resolving
 pub mod Filtered
 pub mod Targets
+pub mod Halves
 pub mod MembersAndBlanks
 pub mod Numbered
 pub mod Sent

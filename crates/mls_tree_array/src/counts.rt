@@ -1,6 +1,7 @@
 //! How many ciphertexts the nodes of a path have.
 
 ghost use Rattle.std.specs.Prelude.{◌≡◌, true, ◌+◌, ◌*◌, ◌^◌, ◌≤◌, length, OnOk};
+ghost use Rattle.std.specs.Bool.{OnTrue};
 ghost use Rattle.mls_leaf.specs.Parent.{rises};
 ghost use Rattle.mls_treemath.specs.Paths.{nodes_in};
 ghost use Rattle.mls_tree_model.specs.Sets.{has, less, leaf_numbers};
@@ -13,10 +14,36 @@ use crate::resolutions::is_reached;
 use mls_tree_slot::Slot;
 use std::alloc::AllocError;
 
-/// Whether a node is one of these leaves.
+/// Whether a search by halves finds a node among these leaves. Where they rise, it misses none.
+fn is_found(leaves: &[u32], node: u64) -> bool
+    ensures found { OnTrue result (has (leaf_numbers leaves.now) node ≡ true) }
+    ensures rising { rises leaves.now ≡ true → result ≡ has (leaf_numbers leaves.now) node }
+{
+    let mut start = 0;
+    let mut end = leaves.len();
+    while start < end {
+        let middle = start + (end - start) / 2;
+        let number = 2 * u64::from(leaves[middle]);
+        if number == node {
+            return true;
+        }
+        if number < node {
+            start = middle + 1;
+        } else {
+            end = middle;
+        }
+    }
+    false
+}
+
+/// Whether a node is one of these leaves. Leaves just added rise, so that one of them is found by halves; if none is,
+/// all are gone through, since a list of leaves may have any order.
 pub fn is_leaf_among(leaves: &[u32], node: u64) -> bool
     ensures { result ≡ has (leaf_numbers leaves.now) node }
 {
+    if is_found(leaves, node) {
+        return true;
+    }
     for leaf in leaves {
         if 2 * u64::from(*leaf) == node {
             return true;

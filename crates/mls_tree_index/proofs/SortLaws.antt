@@ -1,6 +1,6 @@
 -- Laws of entries that are sorted, and of an index that is built of them.
-use Rattle.std.proofs.Common.{◌≡◌, ℕ, zero, suc, ◌+◌, ◌<◌, ◌≤◌, nat_eq, true, cond, List, [], ◌∷◌, ◌++◌, length, get_or, take, drop, Option, Some, None, is_some, refl, sym, ◌∙◌, ap, subst, arith, inl, inr, eq-eqb, ne_eqb}
-use Rattle.std.proofs.lemmas.Bool.{cases_Bool, cases_lt, cases_eq}
+use Rattle.std.proofs.Common.{◌≡◌, ℕ, zero, suc, ◌+◌, ◌-◌, ◌<◌, ◌≤◌, nat_eq, nat_lt, Bool, true, false, ◌&&◌, cond, List, [], ◌∷◌, ◌++◌, length, get_or, take, drop, Option, Some, None, is_some, refl, sym, ◌∙◌, ap, subst, arith, inl, inr, eq-eqb, ne_eqb, ltb-true, lt-ltb, le-ltb}
+use Rattle.std.proofs.lemmas.Bool.{and_parts, cases_Bool, cases_lt, cases_eq}
 use Rattle.std.proofs.lemmas.List.{get_or_past, get_or-map, get_or-take, length-take, map-append, take_more, drop_more, drop_all}
 use Rattle.std.proofs.lemmas.List.Edits.{insert_end}
 use Rattle.std.proofs.lemmas.List.Elements.{All-nil, All-push}
@@ -9,20 +9,23 @@ use Rattle.std.proofs.lemmas.List.Sorted.{sum_by-IsPermutation, IsPermutation-ma
 use Rattle.std.proofs.lemmas.List.Sums.{sum_by-cons}
 use Rattle.std.specs.List.{All, sum_by, insert}
 use Rattle.std.specs.List.Sorted.{IsPermutation, IsSortedBy}
+use Rattle.std.specs.Cmp.Lexicographic.{pointwise}
 use Rattle.std.specs.Option.{unwrap_or}
 use Rattle.std.specs.Ordering.{is_lt}
+use mir.Val.{bool_byte}
 use Rattle.mls_leaf.specs.declared.node.Node.{Node}
 use Rattle.mls_tree_model.specs.Sets.{has, count, is_distinct}
 use Rattle.mls_tree_model.proofs.CountLaws.{count-append, count_none, distinct_from}
 use Rattle.mls_tree_index.specs.declared.entries.Entry.{Entry}
 use Rattle.mls_tree_index.specs.declared.kind.KeyKind.{KeyKind}
-use Rattle.mls_tree_index.specs.Keys.{key_of, key_in}
+use Rattle.mls_tree_index.specs.Keys.{key_of, key_in, keys_of, repeats_in, is_key, is_key_at, is_held}
 use Rattle.mls_tree_index.specs.Order.{Entries, IsGap, entry_at, entry_cmp}
-use Rattle.mls_tree_index.specs.Indexes.{Listing, Indexes, Without, PutsCell}
-use Rattle.mls_tree_index.specs.Entries.{entry_of, numbers_of, AreEntries, EntriesAscend}
+use Rattle.mls_tree_index.specs.Indexes.{Listing, Indexes, Without}
+use Rattle.mls_tree_index.specs.Entries.{numbers_of, IsEntry, AreEntries, EntriesAscend, fronted, front_cmp, key_at, is_again}
 use Rattle.mls_tree_index.specs.BlankedCells.{cells_without}
-use Rattle.mls_tree_index.proofs.OrderLaws.{entry_total, is_above}
+use Rattle.mls_tree_index.proofs.KeyFronts.{front_total, entry_below, other_keys}
 use Rattle.mls_tree_index.proofs.CountLaws.{none_blank}
+use Rattle.mls_tree_index.proofs.StepLaws.{held_here, held_not_beside, indexes_from, same_index, entered, one_held, none_held}
 use Rattle.mls_tree_index.proofs.FrontLaws.{none_indexed}
 use Rattle.mls_tree_index.proofs.ClearedLaws.{key_cleared, key_left, cleared_part, cleared_none, rest_distinct, back_without}
 
@@ -93,7 +96,7 @@ module _ (at : ℕ → Option (List ℕ)) where
 
   pub entries_moved : (es fs : List Entry) → IsPermutation es fs → AreEntries at es → AreEntries at fs
   entries_moved es fs moved are = record {
-    keyed = All-permutation (λ e. at e.number ≡ Some e.key.now) es fs moved are.keyed;
+    keyed = All-permutation (IsEntry at) es fs moved are.keyed;
     once = λ x. count_moved x (numbers_of es) (numbers_of fs) (IsPermutation-map (λ e. e.number) es fs moved) ∙ are.once x;
   }
 
@@ -109,17 +112,35 @@ module _ (at : ℕ → Option (List ℕ)) where
       let low = few (at (get_or es i d).number) in
       absurd (omega arith)
 
-  pub ascends : (es : List Entry) → AreEntries at es → IsSortedBy (λ x y. is_lt (entry_cmp (entry_of x) (entry_of y))) es → EntriesAscend es
+  pub ascends : (es : List Entry) → AreEntries at es → IsSortedBy (λ x y. is_lt (front_cmp (fronted at x) (fronted at y))) es → EntriesAscend at es
   ascends es are sorted = λ i j d less lt.
-      is_above (entry_of (get_or es j d)) (entry_of (get_or es i d))
-      (sorted_far (λ x y. is_lt (entry_cmp (entry_of x) (entry_of y))) (ranks_by entry_total entry_of) es sorted i j d (omega arith) lt)
+      entry_below at (get_or es i d) (get_or es j d) (are.keyed i d (omega arith)) (are.keyed j d lt)
+      (sorted_far (λ x y. is_lt (front_cmp (fronted at x) (fronted at y))) (ranks_by front_total (fronted at)) es sorted i j d (omega arith) lt)
       (apart es are i j d less lt)
+
+-- whether an entry has the key of that before it
+module _ (at : ℕ → Option (List ℕ)) (es : List Entry) (are : AreEntries at es) (p : ℕ) (some : 0 < p) (lt : p < length es) (d e : Entry) where
+  key_last : key_at at es (p - 1) ≡ unwrap_or (at (get_or es (p - 1) d).number) []
+  key_last = ap (λ n. unwrap_or (at n) []) (number_at at es (p - 1) d (omega arith))
+
+  key_next : key_at at es p ≡ unwrap_or (at (get_or es p e).number) []
+  key_next = ap (λ n. unwrap_or (at n) []) (number_at at es p e lt)
+
+  again_by_keys : pointwise nat_eq (unwrap_or (at (get_or es (p - 1) d).number) []) (unwrap_or (at (get_or es p e).number) []) ≡ is_again at es p
+  again_by_keys =
+      ap (λ k. pointwise nat_eq k (unwrap_or (at (get_or es p e).number) [])) (sym key_last)
+      ∙ ap (pointwise nat_eq (key_at at es (p - 1))) (sym key_next)
+      ∙ sym (ap (λ v. v && pointwise nat_eq (key_at at es (p - 1)) (key_at at es p)) (lt-ltb 0 p some))
+
+  pub new_by_fronts : ((get_or es (p - 1) d).front ≡ (get_or es p e).front → ⊥) → false ≡ is_again at es p
+  new_by_fronts other =
+      sym (other_keys at (get_or es (p - 1) d) (get_or es p e) (are.keyed (p - 1) d (omega arith)) (are.keyed p e lt) other) ∙ again_by_keys
 
 -- ---- entries of the first cells
 
 -- the entries of all numbers below n
 pub record AreBelow (at : ℕ → Option (List ℕ)) (n : ℕ) (es : List Entry) : Type 0 where
-  pub keyed : All (λ e. at e.number ≡ Some e.key.now) es
+  pub keyed : All (IsEntry at) es
   pub once : (x : ℕ) → x < n → count nat_eq x (numbers_of es) ≡ cond (is_some (at x)) 1 0
   pub none : (x : ℕ) → n ≤ x → count nat_eq x (numbers_of es) ≡ 0
 
@@ -137,7 +158,7 @@ module _ (at : ℕ → Option (List ℕ)) where
     none = λ x ge. are.none x (omega arith);
   }
 
-  module _ (n : ℕ) (es : List Entry) (e : Entry) (here : at n ≡ Some e.key.now) (is : e.number ≡ n) (are : AreBelow at n es) where
+  module _ (n : ℕ) (es : List Entry) (e : Entry) (entry : IsEntry at e) (is : e.number ≡ n) (are : AreBelow at n es) where
     counts : (x : ℕ) → count nat_eq x (numbers_of (es ++ e ∷ [])) ≡ count nat_eq x (numbers_of es) + count nat_eq x (e.number ∷ [])
     counts x = ap (count nat_eq x) (map-append (λ e. e.number) es (e ∷ [])) ∙ count-append nat_eq x (numbers_of es) (e.number ∷ [])
 
@@ -150,7 +171,7 @@ module _ (at : ℕ → Option (List ℕ)) where
 
     pub below_more : AreBelow at (n + 1) (es ++ e ∷ [])
     below_more = record {
-      keyed = All-push (λ e. at e.number ≡ Some e.key.now) es e are.keyed (ap at is ∙ here);
+      keyed = All-push (IsEntry at) es e are.keyed entry;
       once = λ x lt. elim (cases_lt x n) [
         | inl less ↦ other x (λ same. absurd (omega arith)) ∙ are.once x less
         | inr ge ↦
@@ -160,7 +181,7 @@ module _ (at : ℕ → Option (List ℕ)) where
             let one = count_first x e.number [] (is ∙ same) in
             let nil = count_nil x in
             let all : count nat_eq x (numbers_of (es ++ e ∷ [])) ≡ 1 = omega arith in
-            all ∙ sym (ap (λ o. cond (is_some o) 1 0) (ap at (sym same) ∙ here))
+            all ∙ sym (ap (λ o. cond (is_some o) 1 0) (ap at (sym (is ∙ same)) ∙ entry.here))
       ];
       none = λ x ge. other x (λ same. absurd (omega arith)) ∙ are.none x (omega arith);
     }
@@ -179,6 +200,10 @@ pub past_cells : (kind : KeyKind) (cells : List (Option Node)) (n : ℕ) → len
 past_cells kind cells n wide x ge = ap (key_of kind) (get_or_past cells x None (omega arith)) ∙ none_blank kind
 
 -- ---- an index that is built of entries in their order
+
+pub bit_low : (n : ℕ) (b : Bool) → n ≡ bool_byte b → n ≤ 1
+bit_low n true is = let one : n ≡ 1 = is in omega arith
+bit_low n false is = let none : n ≡ 0 = is in omega arith
 
 number_same : (a : ℕ) → nat_eq a a ≡ true
 number_same a = eq-eqb a a refl
@@ -207,12 +232,17 @@ module _ (kind : KeyKind) (cells : List (Option Node)) (es : List Entry) (are : 
       keyless None h = refl
       keyless (Some k) h = absurd (omega arith)
 
+  -- a listing with no room
+  abbrev pub listing : List ℕ → ℕ → Listing
+  listing ns r = record { kind = kind; numbers = ns; repeats = r; room = 0 }
+
   pub built_none : (s : Listing) → s.kind ≡ kind → s.numbers ≡ [] → s.repeats ≡ 0 → Indexes (built 0) s
   built_none s same numbers repeats = none_indexed kind (built 0) s same numbers repeats all_blank
 
-  pub built_all : (i : ℕ) (t : Listing) → length es ≤ i → Indexes (built i) t → Indexes cells t
-  built_all i t all is =
+  pub built_all : (i : ℕ) (t : Listing) → length es ≤ i → t.kind ≡ kind → Indexes (built i) (listing t.numbers t.repeats) → Indexes cells t
+  built_all i t all same so_far =
       let wide = length_numbers (key_in kind cells) es in
+      let is = same_index (built i) (listing t.numbers t.repeats) t (record { kind = same; numbers = refl; repeats = refl }) so_far in
       cleared_none t cells (subst (λ ns. Indexes (cells_without 0 ns cells) t) (drop_all i (numbers_of es) (omega arith)) is)
 
   module _ (i : ℕ) (d : Entry) (lt : i < length es) where
@@ -226,8 +256,9 @@ module _ (kind : KeyKind) (cells : List (Option Node)) (es : List Entry) (are : 
         subst (λ ns. Without kind (get_or es i d).number cells (cells_without 0 ns cells) (built (i + 1))) (sym parts)
         (back_without (get_or es i d).number (drop (i + 1) (numbers_of es)) (subst (λ ns. is_distinct nat_eq ns ≡ true) parts (dropped_distinct i (numbers_of es) distinct)) kind cells)
 
-    pub built_key : key_in kind cells (get_or es i d).number ≡ Some (get_or es i d).key.now
-    built_key = are.keyed i d lt
+    -- its entry
+    own : IsEntry (key_in kind cells) (get_or es i d)
+    own = are.keyed i d lt
 
     pub built_length : (ns : List ℕ) → ns ≡ take i (numbers_of es) → length ns ≡ i
     built_length ns is =
@@ -236,43 +267,94 @@ module _ (kind : KeyKind) (cells : List (Option Node)) (es : List Entry) (are : 
         let same = ap length is in
         omega arith
 
-    -- the numbers so far, with the next one
-    pub built_numbers : (ns : List ℕ) → ns ≡ take i (numbers_of es) → insert ns i (get_or es i d).number ≡ take (i + 1) (numbers_of es)
-    built_numbers ns is =
-        let wide = length_numbers (key_in kind cells) es in
-        ap (λ p. insert ns p (get_or es i d).number) (sym (built_length ns is))
-        ∙ insert_end ns (get_or es i d).number
-        ∙ ap (λ xs. xs ++ (get_or es i d).number ∷ []) is
-        ∙ ap (λ n. take i (numbers_of es) ++ n ∷ []) (sym (number_at (key_in kind cells) es i d lt))
-        ∙ sym (take_more (numbers_of es) i 0 (omega arith))
+    module _ (ns : List ℕ) (is : ns ≡ take i (numbers_of es)) where
+      -- the numbers so far, with the next one
+      pub built_numbers : ns ++ (get_or es i d).number ∷ [] ≡ take (i + 1) (numbers_of es)
+      built_numbers =
+          let wide = length_numbers (key_in kind cells) es in
+          ap (λ xs. xs ++ (get_or es i d).number ∷ []) is
+          ∙ ap (λ n. take i (numbers_of es) ++ n ∷ []) (sym (number_at (key_in kind cells) es i d lt))
+          ∙ sym (take_more (numbers_of es) i 0 (omega arith))
 
-    -- the next entry goes behind them
-    pub built_gap : EntriesAscend es → (ns : List ℕ) → ns ≡ take i (numbers_of es) → Entries (key_in kind (built i)) ns → IsGap (key_in kind (built i)) ns (entry_of (get_or es i d)) i
-    built_gap up ns is entries = record {
-      within = let all = built_length ns is in omega arith;
-      below = λ k less. let all = built_length ns is in ap (λ e. entry_cmp e (entry_of (get_or es i d))) (before k (omega arith)) ∙ up k i d less lt;
-      above = λ k ge less. let all = built_length ns is in absurd (omega arith);
-    }
-      where
-        low : (k : ℕ) → k < length ns → k < i
-        low k less = let wide = ap length is in let few = length-take i (numbers_of es) in omega arith
+      low : (k : ℕ) → k < length ns → k < i
+      low k less = let all = built_length ns is in omega arith
 
-        number : (k : ℕ) → k < length ns → get_or ns k 0 ≡ (get_or es k d).number
-        number k less =
-            let at = low k less in
-            ap (λ xs. get_or xs k 0) is ∙ get_or-take i (numbers_of es) k 0 at ∙ number_at (key_in kind cells) es k d (omega arith)
+      number : (k : ℕ) → k < length ns → get_or ns k 0 ≡ get_or (numbers_of es) k 0
+      number k less = ap (λ xs. get_or xs k 0) is ∙ get_or-take i (numbers_of es) k 0 (low k less)
 
-        before : (k : ℕ) → k < length ns → entry_at (key_in kind (built i)) (get_or ns k 0) ≡ entry_of (get_or es k d)
+      module _ (entries : Entries (key_in kind (built i)) ns) where
+        before : (k : ℕ) → k < length ns → entry_at (key_in kind (built i)) (get_or ns k 0) ≡ entry_at (key_in kind cells) (get_or es k d).number
         before k less =
             let at = low k less in
-            let key : key_in kind (built i) (get_or ns k 0) ≡ Some (get_or es k d).key.now = sym (cleared_part kind (drop i (numbers_of es)) cells (get_or ns k 0) (entries.keyed k less)) ∙ ap (key_in kind cells) (number k less) ∙ are.keyed k d (omega arith) in
-            ap (λ o. (unwrap_or o [], get_or ns k 0)) key ∙ ap (λ n. ((get_or es k d).key.now, n)) (number k less)
+            ap (λ o. (unwrap_or o [], get_or ns k 0)) (sym (cleared_part kind (drop i (numbers_of es)) cells (get_or ns k 0) (entries.keyed k less)))
+            ∙ ap (λ n. entry_at (key_in kind cells) n) (number k less ∙ number_at (key_in kind cells) es k d (omega arith))
 
-    -- and there it is put
-    pub built_put : EntriesAscend es → (e : Entry) → e ≡ get_or es i d → (old new : Listing) → old.kind ≡ kind → old.numbers ≡ take i (numbers_of es) → PutsCell i e.key.now e.number cells old new → Indexes (built i) old → Indexes (built (i + 1)) new
-    built_put up e here old new same numbers puts is =
-        subst (λ x. PutsCell i x.key.now x.number cells old new) here puts (built i) (built (i + 1))
-        (subst (λ k. Without k (get_or es i d).number cells (built i) (built (i + 1))) (sym same) built_without)
-        (ap (λ k. key_in k cells (get_or es i d).number) same ∙ built_key)
-        (subst (λ k. IsGap (key_in k (built i)) old.numbers (entry_of (get_or es i d)) i) (sym same) (built_gap up old.numbers numbers (subst (λ k. Entries (key_in k (built i)) old.numbers) same is.entries)))
-        is
+        -- the next entry goes behind them
+        built_gap : EntriesAscend (key_in kind cells) es → IsGap (key_in kind (built i)) ns (own.key, (get_or es i d).number) i
+        built_gap up = record {
+          within = let all = built_length ns is in omega arith;
+          below = λ k less. let all = built_length ns is in
+              ap (λ e. entry_cmp e (own.key, (get_or es i d).number)) (before k (omega arith))
+              ∙ ap (λ o. entry_cmp (entry_at (key_in kind cells) (get_or es k d).number) (unwrap_or o [], (get_or es i d).number)) (sym own.here)
+              ∙ up k i d less lt;
+          above = λ k ge less. let all = built_length ns is in absurd (omega arith);
+        }
+
+        -- whether that before it has its key
+        again_at : 0 < i → is_key_at kind cells ns (i - 1) own.key ≡ is_again (key_in kind cells) es i
+        again_at some =
+            let all = built_length ns is in
+            let last = are.keyed (i - 1) d (omega arith) in
+            let key : key_in kind cells (get_or (numbers_of es) (i - 1) 0) ≡ Some last.key = ap (key_in kind cells) (number_at (key_in kind cells) es (i - 1) d (omega arith)) ∙ last.here in
+            let next : key_at (key_in kind cells) es i ≡ own.key = ap (λ n. unwrap_or (key_in kind cells n) []) (number_at (key_in kind cells) es i d lt) ∙ ap (λ o. unwrap_or o []) own.here in
+            ap (λ v. v && is_key own.key (key_in kind cells (get_or ns (i - 1) 0))) (lt-ltb (i - 1) (length ns) (omega arith))
+            ∙ ap (λ n. is_key own.key (key_in kind cells n)) (number (i - 1) (omega arith))
+            ∙ ap (is_key own.key) key
+            ∙ sym (by_keys ∙ ap (λ k. pointwise nat_eq k (key_at (key_in kind cells) es i)) (ap (λ o. unwrap_or o []) key) ∙ ap (pointwise nat_eq last.key) next)
+          where
+            by_keys : is_again (key_in kind cells) es i ≡ pointwise nat_eq (key_at (key_in kind cells) es (i - 1)) (key_at (key_in kind cells) es i)
+            by_keys = ap (λ v. v && pointwise nat_eq (key_at (key_in kind cells) es (i - 1)) (key_at (key_in kind cells) es i)) (lt-ltb 0 i some)
+
+        -- nothing stands at the place itself
+        none_at : is_key_at kind cells ns i own.key ≡ false
+        none_at =
+            let all = built_length ns is in
+            ap (λ v. v && is_key own.key (key_in kind cells (get_or ns i 0))) (le-ltb i (length ns) (omega arith))
+
+        again_held : EntriesAscend (key_in kind cells) es → is_again (key_in kind cells) es i ≡ is_held kind (built i) own.key
+        again_held up = elim (cases_Bool (is_again (key_in kind cells) es i)) [
+          | inl on ↦
+              let some : 0 < i = ltb-true 0 i (and_parts (nat_lt 0 i) (pointwise nat_eq (key_at (key_in kind cells) es (i - 1)) (key_at (key_in kind cells) es i)) on).0 in
+              on ∙ held_here kind (built i) cells (cleared_part kind (drop i (numbers_of es)) cells) ns entries own.key (i - 1) (sym (again_at some ∙ on))
+          | inr out ↦
+              out ∙ held_not_beside kind (built i) cells (cleared_part kind (drop i (numbers_of es)) cells) ns entries own.key (get_or es i d).number i (built_gap up) (sym none_at) (λ some. sym (again_at (omega arith) ∙ out))
+        ]
+
+      -- the index so far, with the next entry
+      pub built_more : EntriesAscend (key_in kind cells) es → (r m : ℕ) → Indexes (built i) (listing ns r) → m ≡ r + bool_byte (is_again (key_in kind cells) es i) → Indexes (built (i + 1)) (listing (ns ++ (get_or es i d).number ∷ []) m)
+      built_more up r m so_far sum =
+          let entries : Entries (key_in kind (built i)) ns = so_far.entries in
+          let key : key_in kind cells (get_or es i d).number ≡ Some own.key = own.here in
+          let more = entered (get_or es i d).number cells (built i) (built (i + 1)) (listing ns r) built_without own.key key i entries (built_gap entries up) in
+          let all = built_length ns is in
+          indexes_from kind (insert ns i (get_or es i d).number) (built (i + 1)) (listing (ns ++ (get_or es i d).number ∷ []) m) refl
+          (sym (ap (λ p. insert ns p (get_or es i d).number) (sym all) ∙ insert_end ns (get_or es i d).number)) more
+          (sum ∙ counted_more (is_again (key_in kind cells) es i) refl)
+        where
+          more_again : is_again (key_in kind cells) es i ≡ true → r + 1 ≡ repeats_in (keys_of kind (built (i + 1)))
+          more_again on =
+              let held = sym on ∙ again_held so_far.entries up in
+              let count : repeats_in (keys_of kind (built (i + 1))) ≡ repeats_in (keys_of kind (built i)) + 1 = one_held (get_or es i d).number cells (built i) (built (i + 1)) (listing ns r) built_without own.key own.here held in
+              let before : r ≡ repeats_in (keys_of kind (built i)) = so_far.repeats in
+              omega arith
+
+          more_new : is_again (key_in kind cells) es i ≡ false → r + 0 ≡ repeats_in (keys_of kind (built (i + 1)))
+          more_new out =
+              let held = sym out ∙ again_held so_far.entries up in
+              let count : repeats_in (keys_of kind (built (i + 1))) ≡ repeats_in (keys_of kind (built i)) = none_held (get_or es i d).number cells (built i) (built (i + 1)) (listing ns r) built_without own.key own.here held in
+              let before : r ≡ repeats_in (keys_of kind (built i)) = so_far.repeats in
+              omega arith
+
+          counted_more : (again : Bool) → is_again (key_in kind cells) es i ≡ again → r + bool_byte again ≡ repeats_in (keys_of kind (built (i + 1)))
+          counted_more true on = more_again on
+          counted_more false out = more_new out

@@ -1,36 +1,69 @@
-//! The entries of all cells, in their order.
+//! The entries of all cells, in the order of their keys.
 
-ghost use Rattle.std.specs.Prelude.{◌≡◌, ◌≤◌, ◌^◌, length, IfOk};
+ghost use Rattle.std.specs.Prelude.{◌≡◌, ◌<◌, ◌≤◌, ◌^◌, [], length, get_or, IfOk};
+ghost use Rattle.std.specs.Option.{unwrap_or};
 ghost use Rattle.mls_tree_index.specs.Keys.{key_in};
-ghost use Rattle.mls_tree_index.specs.Order.{entry_cmp};
-ghost use Rattle.mls_tree_index.specs.Entries.{entry_of, AreEntries, EntriesAscend};
+ghost use Rattle.mls_tree_index.specs.Entries.{front_of, BeginsWithBytes, fronted, front_cmp, AreEntries, EntriesAscend, is_again};
 
 use crate::kind::KeyKind;
-use crate::order::compare;
+use crate::order::{compare, is_same};
 use mls_tree_slot::Slot;
 use std::alloc::{AllocError, Global};
 use std::cmp::Ordering;
 
-/// A key of a cell, and the cell's number.
+/// A cell with a key: its number, and the front of its key, by which most keys differ.
 #[derive(Clone, Copy)]
-pub(crate) struct Entry<'a> {
-    pub(crate) key: &'a [u8],
+pub(crate) struct Entry {
+    pub(crate) front: u32,
     pub(crate) number: u32,
 }
 
-/// The order of two entries.
-fn compare_entries(one: &Entry<'_>, other: &Entry<'_>) -> Ordering
-    ensures { result ≡ entry_cmp (entry_of one.now) (entry_of other.now) }
+/// The byte of a key at a place: 0 past its end.
+fn byte_at(key: &[u8], place: usize) -> u8
+    ensures { result ≡ get_or key.now place 0 }
 {
-    compare(one.key, other.key).then(one.number.cmp(&other.number))
+    match key.get(place) {
+        Some(byte) => *byte,
+        None => 0,
+    }
+}
+
+/// Reads a key's first four bytes as a number, the first one the highest. Keys whose fronts differ have their order.
+fn read_front(key: &[u8]) -> u32
+    ensures value { result ≡ front_of key.now }
+    ensures bytes { BeginsWithBytes key.now }
+{
+    let first = byte_at(key, 0);
+    let second = byte_at(key, 1);
+    let third = byte_at(key, 2);
+    let fourth = byte_at(key, 3);
+    let high = 256 * u32::from(first) + u32::from(second);
+    65536 * high + (256 * u32::from(third) + u32::from(fourth))
+}
+
+impl Entry {
+    /// Its key.
+    fn key(self, kind: KeyKind, cells: &[Slot]) -> &[u8]
+        ensures { result.now ≡ unwrap_or (key_in kind cells.now self.number) [] }
+    {
+        kind.key_in(cells, self.number).unwrap_or(&[])
+    }
+}
+
+/// The order of two entries.
+#[tactic(auto, using(crate::proofs::KeyFronts::then_other, crate::proofs::KeyFronts::then_same))]
+fn compare_entries(kind: KeyKind, cells: &[Slot], one: &Entry, other: &Entry) -> Ordering
+    ensures { result ≡ front_cmp (fronted (key_in kind cells.now) one.now)
+        (fronted (key_in kind cells.now) other.now) }
+{
+    if one.front != other.front {
+        return one.front.cmp(&other.front);
+    }
+    compare(one.key(kind, cells), other.key(kind, cells)).then(one.number.cmp(&other.number))
 }
 
 /// The entries of these cells, by number.
-fn list_entries<'a>(
-    alloc: Global,
-    kind: KeyKind,
-    cells: &'a [Slot],
-) -> Result<Vec<Entry<'a>>, AllocError>
+fn list_entries(alloc: Global, kind: KeyKind, cells: &[Slot]) -> Result<Vec<Entry>, AllocError>
     requires { length cells.now ≤ 2 ^ 32 }
     ensures { IfOk result (λ v. AreEntries (key_in kind cells.now) v.items) }
 {
@@ -38,23 +71,42 @@ fn list_entries<'a>(
     for x in 0..cells.len() {
         let number = x as u32;
         if let Some(key) = kind.key_in(cells, number) {
-            entries.push_reserved(Entry { key, number });
+            let front = read_front(key);
+            entries.push_reserved(Entry { front, number });
         }
     }
     Ok(entries)
 }
 
-/// The entries of these cells, in their order.
-pub(crate) fn sort_entries<'a>(
+/// The entries of these cells, in the order of their keys, and those with one key by number.
+pub(crate) fn sort_entries(
     alloc: Global,
     kind: KeyKind,
-    cells: &'a [Slot],
-) -> Result<Vec<Entry<'a>>, AllocError>
+    cells: &[Slot],
+) -> Result<Vec<Entry>, AllocError>
     requires { length cells.now ≤ 2 ^ 32 }
     ensures entries { IfOk result (λ v. AreEntries (key_in kind cells.now) v.items) }
-    ensures ascend { IfOk result (λ v. EntriesAscend v.items) }
+    ensures ascend { IfOk result (λ v. EntriesAscend (key_in kind cells.now) v.items) }
 {
     let mut entries = list_entries(alloc, kind, cells)?;
-    entries.sort_unstable_by(|one, other| compare_entries(one, other));
+    entries.sort_unstable_by(|one, other| compare_entries(kind, cells, one, other));
     Ok(entries)
+}
+
+/// Whether the entry before a place has the key of that at the place. Keys are read only where their fronts are the
+/// same.
+pub(crate) fn is_again(kind: KeyKind, cells: &[Slot], entries: &[Entry], place: usize) -> bool
+    requires listed { AreEntries (key_in kind cells.now) entries.now }
+    requires within { place < length entries.now }
+    ensures { result ≡ is_again (key_in kind cells.now) entries.now place }
+{
+    if place == 0 {
+        return false;
+    }
+    let last = entries[place - 1];
+    let next = entries[place];
+    if last.front != next.front {
+        return false;
+    }
+    is_same(last.key(kind, cells), next.key(kind, cells))
 }

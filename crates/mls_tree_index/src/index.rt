@@ -6,7 +6,7 @@ ghost use Rattle.std.specs.Vec.{vec_capacity};
 ghost use Rattle.mls_tree_index.specs.Keys.{is_key_at, IsHolder};
 ghost use Rattle.mls_tree_index.specs.Indexes.{Indexes, SameIndex, AnswersAround, AnswersHeld, PutsCell, EntersCell, LeavesCell, AnswersDistinct};
 
-use crate::entries::sort_entries;
+use crate::entries::{is_again, sort_entries};
 use crate::kind::KeyKind;
 use mls_tree_slot::Slot;
 use std::alloc::{AllocError, Global};
@@ -44,23 +44,26 @@ fn take_out(numbers: &mut Vec<u32>, place: usize)
 }
 
 impl Index {
-    /// The index of these cells. Their entries are sorted, and each is put behind those before it.
+    /// The index of these cells. Their entries are sorted, and each that has the key of the one before it is counted.
     pub fn build(alloc: Global, kind: KeyKind, cells: &[Slot]) -> Result<Index, AllocError>
         requires { length cells.now ≤ 2 ^ 32 }
         ensures kind { IfOk result (λ t. t.kind ≡ kind) }
         ensures built { IfOk result (λ t. Indexes cells.now t) }
     {
         let entries = sort_entries(alloc, kind, cells)?;
-        let mut index = Index {
-            kind,
-            numbers: Vec::with_capacity(alloc, entries.len())?,
-            repeats: 0,
-        };
+        let mut numbers = Vec::with_capacity(alloc, entries.len())?;
+        let mut repeats = 0usize;
         for place in 0..entries.len() {
+            let again = is_again(kind, cells, &entries, place);
+            repeats += usize::from(again);
             let entry = entries[place];
-            index.put(cells, place, entry.key, entry.number);
+            numbers.push_reserved(entry.number);
         }
-        Ok(index)
+        Ok(Index {
+            kind,
+            numbers,
+            repeats,
+        })
     }
 
     /// Makes room for so many more cells, so that entering them takes no memory. Without memory for it all stays.

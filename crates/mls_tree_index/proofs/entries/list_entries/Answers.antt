@@ -30,7 +30,7 @@ loop-x-preserved c =
           record {
             few = omega arith;
             room = omega arith;
-            below = subst (λ v. AreBelow at (c.loop-x.x + 1) v.items) (sym w.entries-is) (subst (AreBelow at (c.loop-x.x + 1)) (sym w.push_reserved.ensures.items) (below_more at c.loop-x.x c.loop-x.entries.items _ (sym w.in-Some.ensures) refl before.below));
+            below = subst (λ v. AreBelow at (c.loop-x.x + 1) v.items) (sym w.entries-is) (subst (AreBelow at (c.loop-x.x + 1)) (sym w.push_reserved.ensures.items) (below_more at c.loop-x.x c.loop-x.entries.items _ (record { key = _; here = sym w.in-Some.ensures; front = w.read_front-front.ensures.value; bytes = w.read_front-front.ensures.bytes }) refl before.below));
           }
       | in_default w ↦
           let wide = ap vec_len w.entries-is in

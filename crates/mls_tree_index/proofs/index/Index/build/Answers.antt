@@ -1,51 +1,55 @@
-use Rattle.std.proofs.Common.{◌<◌, length, refl, ◌∙◌, ap, arith}
-use Rattle.std.specs.List.{insert}
-use Rattle.mls_tree_index.proofs.SortLaws.{built_none, built_all, built_length, built_numbers, built_put}
+use Rattle.std.proofs.Common.{◌+◌, ◌<◌, ◌++◌, ◌∷◌, [], length, refl, sym, ◌∙◌, ap, subst, arith}
+use mir.Val.{bool_byte}
+use Rattle.mls_tree_index.specs.Keys.{key_in}
+use Rattle.mls_tree_index.specs.Entries.{is_again}
+use Rattle.mls_tree_index.specs.Indexes.{Indexes}
+use Rattle.mls_tree_index.proofs.SortLaws.{built, listing, built_none, built_all, built_numbers, built_more, bit_low}
 use Rattle.mls_tree_index.proofs.index.Index.build.Goals as goal
 
 pub loop-place-init : goal.loop-place-init
 loop-place-init c =
-    let capacity = c.in_ok-with_capacity.ensures.capacity in
-    let len = c.in_ok-with_capacity.ensures.len in
+    let capacity = c.in_ok-numbers.ensures.capacity in
+    let len = c.in_ok-numbers.ensures.len in
     record {
-      kind = refl;
-      numbers = c.in_ok-with_capacity.ensures.items;
-      built = built_none c.args.kind c.args.cells.now c.in_ok-entries.entries.items c.in_ok-entries.ensures.entries _ refl c.in_ok-with_capacity.ensures.items refl;
+      numbers = c.in_ok-numbers.ensures.items;
+      built = built_none c.args.kind c.args.cells.now c.in_ok-entries.entries.items c.in_ok-entries.ensures.entries _ refl c.in_ok-numbers.ensures.items refl;
+      few = omega arith;
       room = omega arith;
+      low = omega arith;
     }
-
-pub put-requires : goal.put-requires
-put-requires c =
-    let before = c.loop-place.invariant in
-    let room = before.room in
-    let test = c.loop-place-test.true in
-    let end = c.len-place-end.ensures in
-    let inside : c.loop-place.place < length c.in_ok-entries.entries.items = omega arith in
-    let all = built_length c.args.kind c.args.cells.now c.in_ok-entries.entries.items c.in_ok-entries.ensures.entries c.loop-place.place c.index-entry.result.now inside c.loop-place.index.numbers before.numbers in
-    record { room = omega arith; place = omega arith }
 
 pub loop-place-preserved : goal.loop-place-preserved
 loop-place-preserved c =
     let before = c.loop-place.invariant in
+    let few = before.few in
+    let room = before.room in
+    let low = before.low in
     let kind = c.args.kind in
     let cells = c.args.cells.now in
     let es = c.in_ok-entries.entries.items in
     let are = c.in_ok-entries.ensures.entries in
     let i = c.loop-place.place in
+    let ns = c.loop-place.numbers.items in
+    let d = c.index-entry.result.now in
     let test = c.loop-place-test.true in
     let end = c.len-place-end.ensures in
     let inside : c.loop-place.place < length c.in_ok-entries.entries.items = omega arith in
-    let room = c.put.ensures.room in
-    let more = before.room in
+    let len = c.push_reserved.ensures.len in
+    let capacity = c.push_reserved.ensures.capacity in
+    let items = c.push_reserved.ensures.items ∙ ap (λ e. ns ++ e.number ∷ []) c.index-entry.ensures in
+    let again = c.is_again-again.ensures ∙ ap (λ xs. is_again (key_in kind cells) xs i) c.deref.ensures.value in
+    let sum = ap (λ n. c.loop-place.repeats + n) (c.from-repeats.ensures ∙ ap bool_byte again) in
+    let bit = bit_low c.from-repeats.result c.is_again-again.result c.from-repeats.ensures in
     record {
-      kind = c.put.ensures.kind ∙ before.kind;
-      numbers = c.put.ensures.numbers ∙ ap (λ x. insert c.loop-place.index.numbers i x.number) c.index-entry.ensures ∙ built_numbers kind cells es are i c.index-entry.result.now inside c.loop-place.index.numbers before.numbers;
-      built = built_put kind cells es are i c.index-entry.result.now inside c.in_ok-entries.ensures.ascend c.index-entry.result.now c.index-entry.ensures c.loop-place.index _ before.kind before.numbers c.put.ensures.put before.built;
+      numbers = items ∙ built_numbers kind cells es are i d inside ns before.numbers;
+      built = subst (λ xs. Indexes (built kind cells es are (i + 1)) (listing kind cells es are xs (c.loop-place.repeats + c.from-repeats.result))) (sym items) (built_more kind cells es are i d inside ns before.numbers c.in_ok-entries.ensures.ascend c.loop-place.repeats (c.loop-place.repeats + c.from-repeats.result) before.built sum);
+      few = omega arith;
       room = omega arith;
+      low = omega arith;
     }
 
-pub returns-clause-kind : goal.returns-clause-kind
-returns-clause-kind c = c.loop-place.invariant.kind
-
 pub returns-clause-built : goal.returns-clause-built
-returns-clause-built c = built_all c.args.kind c.args.cells.now c.in_ok-entries.entries.items c.in_ok-entries.ensures.entries c.loop-place.place c.loop-place.index (omega arith) c.loop-place.invariant.built
+returns-clause-built c =
+    let past = c.loop-place-test.false in
+    let end = c.len-place-end.ensures in
+    built_all c.args.kind c.args.cells.now c.in_ok-entries.entries.items c.in_ok-entries.ensures.entries c.loop-place.place _ (omega arith) refl c.loop-place.invariant.built
