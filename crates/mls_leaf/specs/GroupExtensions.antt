@@ -22,7 +22,7 @@ is_among (x ∷ xs) kind = (x == kind) || is_among xs kind
 abbrev pub is_new : List ℕ → ℕ → Bool
 is_new types kind = is_private kind && not (is_among types kind)
 
--- Whether extensions may stand behind some of these types.
+-- Whether extensions may stand behind others of these types.
 unfoldable pub are_new : List ℕ → List Extension → Bool
 are_new types [] = true
 are_new types (v ∷ vs) = is_new types v.kind && are_new (v.kind ∷ types) vs
@@ -35,7 +35,7 @@ are_allowed vs = are_new [] vs
 abbrev pub AreAllowed : List Extension → List Extension → Type 0
 AreAllowed vs value = (value ≡ vs) × (are_allowed vs ≡ true)
 
--- ---- (RFC 9420, section 13.4) uint16 type, data<V>
+-- ---- (RFC 9420, sections 7.2 and 13.4) uint16 type, data<V>
 
 -- an extension whose type passes a test, else `ExtensionNotAllowed` (14), before its data are read
 abbrev pub extension_where : (ℕ → Bool) → Format Extension

@@ -1,7 +1,8 @@
 -- Parents, and lists of leaf indices that rise.
 use Rattle.std.specs.Prelude.{◌≡◌, ℕ, ◌+◌, ◌==◌, nat_lt, nat_le, Bool, true, not, ◌&&◌, if◌then◌else◌, List, [], ◌∷◌, length, filter, insert, ◌≤◌}
 
--- What a parent holds (RFC 9420, section 7.1): its public key, its parent hash, and the unmerged leaves, those below it that do not know its secret key.
+-- What a parent holds (RFC 9420, section 7.1): its public key, its parent hash, and the unmerged leaves, which are those
+-- below it that do not know its private key.
 pub record Parent : Type 0 where
   pub encryption_key : List ℕ
   pub parent_hash : List ℕ

@@ -1,4 +1,5 @@
--- The key schedule (RFC 9420, 8) as functions on lists of bytes. A context is the bytes of a GroupContext.
+-- The key schedule (RFC 9420, 8) as functions on lists of bytes. A context is the bytes of a GroupContext, and `epoch`
+-- stands for an epoch secret.
 use Rattle.std.specs.Prelude.{ℕ, List, [], replicate, codes}
 use Rattle.sha2.specs.Sha256.{sha256}
 use Rattle.mls_kdf.specs.Kdf.{hmac, extract, expand_with_label, derive_secret}
@@ -9,7 +10,7 @@ use Rattle.mls_kdf.specs.Kdf.{hmac, extract, expand_with_label, derive_secret}
 unfoldable pub joiner_secret : List ℕ → List ℕ → List ℕ → List ℕ
 joiner_secret init commit_secret context = expand_with_label (extract init commit_secret) (codes "joiner") context 32
 
--- the joiner secret with the pre-shared key, which is zeros here (RFC 9420, 8)
+-- what the joiner secret and the psk_secret give, which is zeros where no pre-shared key is used (RFC 9420, 8 and 8.4)
 unfoldable pub intermediate_secret : List ℕ → List ℕ
 intermediate_secret joiner = extract joiner (replicate 32 0)
 
@@ -105,11 +106,11 @@ nine_secrets epoch = record {
 
 -- ---- what is made of them
 
--- the tag over a confirmed transcript hash (RFC 9420, 6.1)
+-- confirmation_tag: by the epoch secret, over a confirmed transcript hash (RFC 9420, 6.1)
 unfoldable pub confirmation_tag : List ℕ → List ℕ → List ℕ
 confirmation_tag epoch confirmed = hmac (confirmation_key epoch) confirmed
 
--- the tag over what a member says, as AuthenticatedContentTBM (RFC 9420, 6.2)
+-- membership_tag: by the epoch secret, over the AuthenticatedContentTBM of a message (RFC 9420, 6.2)
 unfoldable pub membership_tag : List ℕ → List ℕ → List ℕ
 membership_tag epoch said = hmac (membership_key epoch) said
 

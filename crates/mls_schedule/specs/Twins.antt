@@ -1,4 +1,5 @@
--- When one confirmation tag stands for two epochs.
+-- When one confirmation tag stands for two epoch secrets (RFC 9420, 6.1 and 8): whether there are such is a question on
+-- HMAC, which no proof answers.
 use Rattle.std.specs.Prelude.{◌≡◌, ◌≢◌, ℕ, List, codes}
 use Rattle.mls_kdf.specs.Kdf.{hmac, derive_secret}
 

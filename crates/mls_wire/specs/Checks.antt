@@ -10,11 +10,11 @@ abbrev pub ◌>>◌ : {A : Type 0} → Result Passed ℕ → Result A ℕ → Re
 (Ok x) >> rest = rest
 (Err n) >> rest = Err n
 
--- the check of that number
+-- a check that a test passes, or else fails with this number
 abbrev pub require : ℕ → Bool → Result Passed ℕ
 require n test = if test then Ok passed else Err n
 
--- the value, or the check of that number fails
+-- the value where there is one; else the check fails with this number
 abbrev pub require_some : {A : Type 0} → ℕ → Option A → Result A ℕ
 require_some n (Some x) = Ok x
 require_some n None = Err n
