@@ -10,7 +10,7 @@ use Rattle.mls_suite.specs.Labels.{verify_with_label}
 use Rattle.mls_checks.specs.declared.checks.Source.{Source}
 use Rattle.mls_checks.specs.Leaf.{is_signed, is_capable, is_of_key_package, is_of_source, has_identity_of}
 
--- whether the key package's signature is its own, by the leaf's signature key (RFC 9420, 10)
+-- whether the key package's signature verifies by its leaf's signature key (RFC 9420, 10)
 unfoldable pub is_package_signed : Crypto → KeyPackage → Bool
 is_package_signed c p = verify_with_label c p.leaf_node.signature_key (codes "KeyPackageTBS") (key_package_tbs p) p.signature
 
@@ -25,7 +25,8 @@ key_package_checks c p = do
   require 57 (not (bytes_eq p.init_key p.leaf_node.encryption_key))
   require 36 (c.key_ok p.init_key && c.key_ok p.leaf_node.encryption_key)
 
--- the checks of a leaf that was made for an update or a commit, and of the leaf that it replaces (RFC 9420, 7.3)
+-- the checks of a new leaf, which is made for an update or a commit, in place of an old one, in a group and at a leaf
+-- index (RFC 9420, 7.3)
 unfoldable pub replaced_checks : Crypto → LeafNode → LeafNode → Source → List ℕ → ℕ → Result Passed ℕ
 replaced_checks c new old source group index = do
   require 50 (is_of_source source new.source)

@@ -11,8 +11,8 @@ use Rattle.mls_suite.specs.Labels.{verify_with_label}
 use Rattle.mls_checks.specs.declared.checks.Source.{Source}
 use Rattle.mls_checks.specs.declared.checks.Source.TheVariants.{Update, Commit}
 
--- whether the leaf's signature is its own, in a group and at a leaf index (RFC 9420, 7.2); for a leaf of a key package
--- these two do not count
+-- whether the leaf's signature verifies by its own signature key, in a group and at a leaf index (RFC 9420, 7.2); for a
+-- leaf of a key package neither group nor index is signed
 unfoldable pub is_signed : Crypto → List ℕ → ℕ → LeafNode → Bool
 is_signed c group index v = verify_with_label c v.signature_key (codes "LeafNodeTBS") (leaf_node_tbs v group index) v.signature
 
@@ -20,7 +20,8 @@ is_signed c group index v = verify_with_label c v.signature_key (codes "LeafNode
 abbrev pub lists : List ℕ → ℕ → Bool
 lists entries x = list_any (λ y. y == x) entries
 
--- whether the leaf lists version 1, the suite and credential 1 (RFC 9420, 7.2)
+-- whether the leaf lists version 1 (mls10), the suite and credential type 1 (basic), which is all that a group of this
+-- project needs (RFC 9420, 7.2 and 7.3)
 unfoldable pub is_capable : ℕ → LeafNode → Bool
 is_capable suite v = lists v.capabilities.versions 1 && lists v.capabilities.cipher_suites suite && lists v.capabilities.credentials 1
 
@@ -39,6 +40,7 @@ is_of_source Commit (by_key_package before after) = false
 is_of_source Commit by_update = false
 is_of_source Commit (by_commit hash) = true
 
--- whether both leaves have one signature key and one credential (RFC 9420, 7.3)
+-- whether both leaves have one signature key and one credential, which this project asks; the standard leaves it to an
+-- application what may follow a credential (RFC 9420, 5.3.1)
 unfoldable pub has_identity_of : LeafNode → LeafNode → Bool
 has_identity_of old new = bytes_eq new.signature_key old.signature_key && bytes_eq new.credential.identity old.credential.identity

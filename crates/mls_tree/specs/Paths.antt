@@ -35,7 +35,7 @@ merge_checks t i x keys =
     >> (require 25 (is_distinct same_bytes (encryption_keys (merge_path t i x keys)))
     >> require 24 (is_some_bytes (source_hash x.source) (path_parent_hash t i keys)))
 
--- a path merged (RFC 9420, 7.5)
+-- the tree after a path is merged, where `merge_checks` pass (RFC 9420, 7.5)
 unfoldable pub merge_answer : Term → ℕ → LeafNode → List (List ℕ) → Result Term ℕ
 merge_answer t i x keys = merge_checks t i x keys >> Ok (merge_path t i x keys)
 

@@ -26,7 +26,7 @@ term t = term_of t.levels t.listing
 abbrev pub max_leaves : ℕ
 max_leaves = 2 ^ max_height
 
--- the leaf in a place, where `NoSuchLeaf` (22) says that there is none
+-- the leaf of the member at leaf i, or `NoSuchLeaf` (22) where none is there
 abbrev pub member_at : Term → ℕ → Result LeafNode ℕ
 member_at t i = require_some 22 (leaf_of t i)
 
@@ -34,15 +34,16 @@ member_at t i = require_some 22 (leaf_of t i)
 unfoldable pub path_answer : Term → ℕ → Result (List ℕ) ℕ
 path_answer t i = member_at t i >>= λ v. Ok (filtered_path 0 t i)
 
--- what adding a leaf answers, and the tree after it (RFC 9420, 12.1.1): 21 where that tree would be too large
+-- a leaf added: its place and the tree after it, or `TreeFull` (21) where that tree would be too large (RFC 9420,
+-- 12.1.1)
 unfoldable pub add_answer : Term → LeafNode → Result (ℕ × Term) ℕ
 add_answer t x = require 21 (is_within max_leaves (add t x)) >> Ok (place_in t, add t x)
 
--- an update of a member's leaf (RFC 9420, 12.1.2)
+-- the tree after an update of a member's leaf, or `NoSuchLeaf` (22) (RFC 9420, 12.1.2)
 unfoldable pub update_answer : Term → ℕ → LeafNode → Result Term ℕ
 update_answer t i x = member_at t i >>= λ v. Ok (update t i x)
 
--- a removal of a member (RFC 9420, 12.1.3)
+-- the tree after the removal of a member, or `NoSuchLeaf` (22) (RFC 9420, 12.1.3)
 unfoldable pub remove_answer : Term → ℕ → Result Term ℕ
 remove_answer t i = member_at t i >>= λ v. Ok (remove t i)
 

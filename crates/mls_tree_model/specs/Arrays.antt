@@ -10,22 +10,24 @@ use Rattle.mls_tree_model.specs.Term.{Term, Leaf, Branch, is_full_width}
 use Rattle.mls_tree_model.specs.Places.{at_node}
 use Rattle.mls_tree_model.specs.Good.{is_within}
 
--- the leaf and the parent in a cell: none where it is blank or holds the other
+-- the leaf in a cell: none where the cell is blank or holds a parent
 abbrev pub leaf_in : Option Node → Option LeafNode
 leaf_in None = None
 leaf_in (Some (in_leaf v)) = Some v
 leaf_in (Some (in_parent p)) = None
 
+-- the parent in a cell: none where the cell is blank or holds a leaf
 abbrev pub parent_in : Option Node → Option Parent
 parent_in None = None
 parent_in (Some (in_leaf v)) = None
 parent_in (Some (in_parent p)) = Some p
 
--- the cell that holds a leaf, or a parent
+-- the cell that holds a leaf, or is blank
 abbrev pub leaf_cell : Option LeafNode → Option Node
 leaf_cell None = None
 leaf_cell (Some v) = Some (in_leaf v)
 
+-- the cell that holds a parent, or is blank
 abbrev pub parent_cell : Option Parent → Option Node
 parent_cell None = None
 parent_cell (Some p) = Some (in_parent p)
@@ -85,15 +87,16 @@ unfoldable pub alternates : Bool → List (Option Node) → Bool
 alternates even [] = true
 alternates even (c ∷ cs) = may_stand even c && alternates (not even) cs
 
--- the least height, from h on, of a tree with at least n nodes, where no more than so many are passed by
+-- the least height, from h on, of a tree with at least n nodes, where no more than so many heights are tried
 unfoldable pub height_from : ℕ → ℕ → ℕ → ℕ
 height_from zero h n = h
 height_from (suc more) h n = if nat_le n (nodes_in h) then h else height_from more (suc h) n
 
+-- the least height of a tree with at least n nodes (RFC 9420, 12.4.3.3)
 unfoldable pub height_for : ℕ → ℕ
 height_for n = height_from n 0 n
 
--- a list of nodes with blank ones behind it, up to the least tree that holds them
+-- a list of nodes with blank ones behind it, up to the least tree that holds them (RFC 9420, 12.4.3.3)
 unfoldable pub padded : List (Option Node) → List (Option Node)
 padded xs = xs ++ replicate (nodes_in (height_for (length xs)) - length xs) None
 

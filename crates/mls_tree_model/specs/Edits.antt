@@ -10,12 +10,12 @@ put b (Leaf v) i x = Leaf x
 put b (Branch c l r) i x =
     if nat_lt i (b + width l) then Branch None (put b l i x) r else Branch None l (put (b + width l) r i x)
 
--- a parent whose list has leaf i too; the list is a set, and i isn't entered twice
+-- a parent whose list has leaf i too, once (RFC 9420, 12.1.1)
 abbrev pub with_leaf : ℕ → Parent → Parent
 with_leaf i p =
     record { encryption_key = p.encryption_key; parent_hash = p.parent_hash; unmerged_leaves = rising_with i p.unmerged_leaves }
 
--- what stands in a place with leaf i in its list, where it isn't blank
+-- a parent that may be blank, with leaf i in its list where it isn't
 abbrev pub list_leaf : ℕ → Option Parent → Option Parent
 list_leaf i None = None
 list_leaf i (Some p) = Some (with_leaf i p)
@@ -46,17 +46,18 @@ first_blank b (Leaf None) = Some b
 first_blank b (Leaf (Some v)) = None
 first_blank b (Branch c l r) = or_else (first_blank b l) (first_blank (b + width l) r)
 
--- where a leaf is added: at the leftmost blank leaf, or beside a full tree
+-- where a leaf is added: at the leftmost blank leaf, and where there is none at the first leaf of the half that doubling
+-- adds (RFC 9420, 7.7 and 12.1.1)
 abbrev pub place_for : Option ℕ → Term → ℕ
 place_for None t = width t
 place_for (Some i) t = i
 
--- the tree that it is added in: the same, or the doubled one
+-- the tree that a leaf is added in: the doubled one where no leaf is blank, else the same
 abbrev pub room_for : Option ℕ → Term → Term
 room_for None t = grow t
 room_for (Some i) t = t
 
--- where a leaf is added in a tree
+-- where a leaf is added in a whole tree
 abbrev pub place_in : Term → ℕ
 place_in t = place_for (first_blank 0 t) t
 

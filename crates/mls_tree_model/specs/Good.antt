@@ -21,7 +21,7 @@ pub record Rules : Type 0 where
 
 -- ---- the checks of a whole tree, each a test
 
--- 20: the right half has a member (RFC 9420, 12.4.3.3)
+-- 20: the right half has a member, so that the tree is no larger than its members need (RFC 9420, 7.7)
 unfoldable pub has_good_shape : Term → Bool
 has_good_shape t = is_full_width t
 
@@ -37,7 +37,7 @@ has_good_lists t = all_parents lists_here 0 t
 unfoldable pub has_good_hashes : Term → Bool
 has_good_hashes t = all_parents is_parent_hash_valid 0 t
 
--- 25: no two nodes have one encryption key (RFC 9420, 7.3)
+-- 25: no two nodes have one encryption key (RFC 9420, 7.3 and 12.4.3.1)
 unfoldable pub has_distinct_keys : Term → Bool
 has_distinct_keys t = is_distinct same_bytes (encryption_keys t)
 
@@ -68,12 +68,12 @@ tree_checks rules t =
     >> (require 52 (is_all_capable rules t)
     >> require 36 (is_all_fit rules t))))))
 
--- a good tree
+-- a good tree: all leaves are at one depth, and it passes the checks that a joiner makes (RFC 9420, 12.4.3.1)
 pub record IsGood (rules : Rules) (t : Term) : Type 0 where
   -- as every tree of a group: all leaves are at one depth, and each list of unmerged leaves rises
   pub perfect : is_perfect (height t) t ≡ true
   pub rising : all_parents rises_here 0 t ≡ true
-  -- the checks
+  -- the checks, from 20 to 36
   pub shape : has_good_shape t ≡ true
   pub within : is_within rules.limit t ≡ true
   pub lists : has_good_lists t ≡ true

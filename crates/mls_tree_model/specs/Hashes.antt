@@ -24,12 +24,12 @@ unfoldable pub original_tree : List ℕ → ℕ → Term → Term
 original_tree us b (Leaf v) = Leaf (if has us b then None else v)
 original_tree us b (Branch c l r) = Branch (unlist_leaves us c) (original_tree us b l) (original_tree us (b + width l) r)
 
--- the parent hash of a parent with the side s, whose first leaf is m: it ties what is below the other side to the
--- parent (RFC 9420, 7.9)
+-- the parent hash of a parent with its side s as the copath child, whose first leaf is m: it ties what is below the
+-- other side to the parent (RFC 9420, 7.9)
 unfoldable pub parent_hash : Parent → ℕ → Term → List ℕ
 parent_hash p m s = sibling_hash p.encryption_key p.parent_hash (tree_hash m (original_tree p.unmerged_leaves m s))
 
--- the field parent_hash of node d: of a parent, or of a leaf whose source is a commit
+-- the field parent_hash of node d: of a parent, or of a leaf whose source is a commit (RFC 9420, 7.1 and 7.2)
 unfoldable pub hash_at : ℕ → Term → ℕ → Option (List ℕ)
 hash_at b (Leaf v) d = if d == 2 * b then leaf_parent_hash v else None
 hash_at b (Branch c l r) d =
@@ -40,17 +40,17 @@ abbrev pub is_some_bytes : Option (List ℕ) → List ℕ → Bool
 is_some_bytes None h = false
 is_some_bytes (Some g) h = same_bytes g h
 
--- whether node d of the side c, whose first leaf is b, has the parent's parent hash with the other side s, and the
--- leaves that the parent lists below c are the rest of c's resolution
+-- whether node d of the side c, whose first leaf is b, is a witness of the parent: it has the parent's parent hash with
+-- the other side s, and the leaves that the parent lists below c are c's resolution without d (RFC 9420, 7.9.2)
 unfoldable pub is_witness : Parent → ℕ → Term → ℕ → Term → ℕ → Bool
 is_witness p b c m s d =
     is_some_bytes (hash_at b c d) (parent_hash p m s)
     && is_same_set (leaf_numbers (within b (width c) p.unmerged_leaves)) (filter (λ x. not (x == d)) (resolution b c))
 
--- whether some node of the side's resolution is such a node
+-- whether some node of the resolution of the side c is a witness of the parent (RFC 9420, 7.9.2)
 unfoldable pub has_witness : Parent → ℕ → Term → ℕ → Term → Bool
 has_witness p b c m s = list_any (is_witness p b c m s) (resolution b c)
 
--- whether a parent is parent-hash valid: it has such a node on one of its sides (RFC 9420, 7.9.2)
+-- whether a parent is parent-hash valid: it has a witness on one of its sides (RFC 9420, 7.9.2)
 unfoldable pub is_parent_hash_valid : ℕ → Parent → Term → Term → Bool
 is_parent_hash_valid b p l r = has_witness p b l (b + width l) r || has_witness p (b + width l) r b l

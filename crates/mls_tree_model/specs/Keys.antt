@@ -38,7 +38,7 @@ members b (Leaf None) = []
 members b (Leaf (Some v)) = (b, v) ∷ []
 members b (Branch c l r) = members b l ++ members (b + width l) r
 
--- what a test asks of a leaf that may be blank
+-- whether a leaf that may be blank passes a test: a blank one does
 abbrev pub passes : (ℕ → LeafNode → Bool) → ℕ → Option LeafNode → Bool
 passes p i None = true
 passes p i (Some v) = p i v

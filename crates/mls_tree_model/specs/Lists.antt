@@ -5,7 +5,7 @@ use Rattle.mls_leaf.specs.Parent.{Parent, rises_from}
 use Rattle.mls_tree_model.specs.Term.{Term, Leaf, Branch, width}
 use Rattle.mls_tree_model.specs.Sets.{has}
 
--- what a test asks of a place that may be blank
+-- whether a parent that may be blank passes a test: a blank one does
 abbrev pub parent_passes : (ℕ → Parent → Term → Term → Bool) → ℕ → Option Parent → Term → Term → Bool
 parent_passes q b None l r = true
 parent_passes q b (Some p) l r = q b p l r
@@ -15,18 +15,19 @@ unfoldable pub all_parents : (ℕ → Parent → Term → Term → Bool) → ℕ
 all_parents q b (Leaf v) = true
 all_parents q b (Branch c l r) = parent_passes q b c l r && (all_parents q b l && all_parents q (b + width l) r)
 
--- whether a place that isn't blank lists leaf u
+-- whether a parent that may be blank lists leaf u: a blank one needn't
 abbrev pub may_list : Option Parent → ℕ → Bool
 may_list None u = true
 may_list (Some p) u = has p.unmerged_leaves u
 
--- whether leaf u is taken, and each parent over it lists it
+-- whether leaf u is a member, and each parent over it that isn't blank lists it
 unfoldable pub is_listed : ℕ → Term → ℕ → Bool
 is_listed b (Leaf v) u = is_some v
 is_listed b (Branch c l r) u =
     may_list c u && (if nat_lt u (b + width l) then is_listed b l u else is_listed (b + width l) r u)
 
--- whether a parent may list leaf u: it is below the parent, and each parent between lists it
+-- whether a parent may list leaf u: it is a member below the parent, and each parent between that isn't blank lists it
+-- (RFC 9420, 12.4.3.1)
 unfoldable pub may_be_listed : ℕ → Term → Term → ℕ → Bool
 may_be_listed b l r u =
     nat_le b u && (nat_lt u (b + (width l + width r)) && (if nat_lt u (b + width l) then is_listed b l u else is_listed (b + width l) r u))

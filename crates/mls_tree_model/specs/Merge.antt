@@ -8,20 +8,20 @@ use Rattle.mls_tree_model.specs.Resolution.{resolution, is_reached}
 use Rattle.mls_tree_model.specs.Way.{path_length}
 use Rattle.mls_tree_model.specs.Hashes.{parent_hash, hash_at}
 
--- the new parent, where there is one, of the highest key and a parent hash
+-- the new parent of the highest of some keys and a parent hash, where the filtered direct path takes it in
 abbrev pub new_parent : Bool → List (List ℕ) → List ℕ → Option Parent
 new_parent false ks h = None
 new_parent true [] h = None
 new_parent true (key ∷ ks) h = Some (record { encryption_key = key; parent_hash = h; unmerged_leaves = [] })
 
--- the keys below it
+-- the keys that are left for the parents below: all but the highest, where the filtered direct path takes this one in
 abbrev pub keys_below : Bool → List (List ℕ) → List (List ℕ)
 keys_below false ks = ks
 keys_below true [] = []
 keys_below true (key ∷ ks) = ks
 
--- the parent hash that is handed down below it, where m is the first leaf of the other side s: a blank parent hands
--- down the one that it was given
+-- the parent hash for the next node below a parent, where m is the first leaf of the other side s: that of the parent
+-- with s; where it is blank, the one that it was given
 abbrev pub hash_below : Option Parent → ℕ → Term → List ℕ → List ℕ
 hash_below None m s h = h
 hash_below (Some p) m s h = parent_hash p m s
@@ -31,9 +31,11 @@ hash_below (Some p) m s h = parent_hash p m s
 abbrev pub parent_beside : ℕ → Term → List (List ℕ) → List ℕ → Option Parent
 parent_beside m s ks h = new_parent (is_reached m s) ks h
 
+-- the keys that are left for the parents below, by the other side s
 abbrev pub keys_beside : ℕ → Term → List (List ℕ) → List (List ℕ)
 keys_beside m s ks = keys_below (is_reached m s) ks
 
+-- the parent hash for the next node below, by the other side s
 abbrev pub hash_beside : ℕ → Term → List (List ℕ) → List ℕ → List ℕ
 hash_beside m s ks h = hash_below (parent_beside m s ks h) m s h
 
@@ -46,7 +48,7 @@ merge b (Branch c l r) i ks h x =
     then Branch (parent_beside (b + width l) r ks h) (merge b l i (keys_beside (b + width l) r ks) (hash_beside (b + width l) r ks h) x) r
     else Branch (parent_beside b l ks h) l (merge (b + width l) r i (keys_beside b l ks) (hash_beside b l ks h) x)
 
--- the parent hash that reaches the leaf (RFC 9420, 7.9)
+-- the parent hash that a merged path hands down to its leaf, from h on (RFC 9420, 7.9)
 unfoldable pub path_hash : ℕ → Term → ℕ → List (List ℕ) → List ℕ → List ℕ
 path_hash b (Leaf v) i ks h = h
 path_hash b (Branch c l r) i ks h =
@@ -54,11 +56,12 @@ path_hash b (Branch c l r) i ks h =
     then path_hash b l i (keys_beside (b + width l) r ks) (hash_beside (b + width l) r ks h)
     else path_hash (b + width l) r i (keys_beside b l ks) (hash_beside b l ks h)
 
--- a whole tree with a path merged, whose keys are given lowest first: the highest node's parent hash is empty
+-- a whole tree with a path merged, whose keys are given lowest first: the parent hash of its highest node is empty,
+-- also where that isn't the root (RFC 9420, 7.5 and 7.9)
 unfoldable pub merge_path : Term → ℕ → LeafNode → List (List ℕ) → Term
 merge_path t i x keys = merge 0 t i (reverse keys) [] x
 
--- the parent hash that its leaf must have: empty where the filtered path is
+-- the parent hash that the leaf of a merged path must have: empty where the filtered direct path is (RFC 9420, 7.9)
 unfoldable pub path_parent_hash : Term → ℕ → List (List ℕ) → List ℕ
 path_parent_hash t i keys = path_hash 0 t i (reverse keys) []
 

@@ -32,7 +32,7 @@ is_perfect (suc h) (Leaf v) = false
 is_perfect zero (Branch c l r) = false
 is_perfect (suc h) (Branch c l r) = is_perfect h l && is_perfect h r
 
--- blank nodes alone
+-- the tree of this height whose nodes are all blank
 unfoldable pub blanks : ℕ → Term
 blanks zero = Leaf None
 blanks (suc h) = Branch None (blanks h) (blanks h)
@@ -42,7 +42,7 @@ unfoldable pub has_leaf : Term → Bool
 has_leaf (Leaf v) = is_some v
 has_leaf (Branch c l r) = has_leaf l || has_leaf r
 
--- whether its right half has a member, so that no smaller tree would do (RFC 9420, 7.7)
+-- whether its right half has a member, or its only leaf is one, so that no smaller tree would do (RFC 9420, 7.7)
 unfoldable pub is_full_width : Term → Bool
 is_full_width (Leaf v) = is_some v
 is_full_width (Branch c l r) = has_leaf r

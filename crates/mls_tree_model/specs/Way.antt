@@ -5,7 +5,7 @@ use Rattle.mls_tree_model.specs.Term.{Term, Leaf, Branch, width, size}
 use Rattle.mls_tree_model.specs.Sets.{less, leaf_numbers}
 use Rattle.mls_tree_model.specs.Resolution.{resolution, is_reached}
 
--- a node of the way: what it holds, its number, and its other side with that side's first leaf
+-- a parent over a leaf: what it holds, its number, and the side of it that the leaf isn't on, with that side's first leaf
 pub record Step : Type 0 where
   pub parent : Option Parent
   pub node : ℕ
@@ -39,7 +39,7 @@ filtered_way b t i = filter is_filtered (way b t i)
 unfoldable pub filtered_path : ℕ → Term → ℕ → List ℕ
 filtered_path b t i = reverse (map (λ s. s.node) (filtered_way b t i))
 
--- how many parents it takes in
+-- how many parents the filtered direct path of leaf i takes in
 unfoldable pub path_length : ℕ → Term → ℕ → ℕ
 path_length b t i = length (filtered_way b t i)
 

@@ -21,7 +21,7 @@ path_secrets start (suc k) = path_secrets start k ++ (chain start k ∷ [])
 unfoldable pub node_key : Crypto → List ℕ → List ℕ
 node_key c secret = c.derive (derive_secret secret (codes "node"))
 
--- its public key (RFC 9420, 7.4)
+-- the public key of the node with a path secret (RFC 9420, 7.4)
 abbrev pub node_public : Crypto → List ℕ → List ℕ
 node_public c secret = c.public (node_key c secret)
 

@@ -32,6 +32,6 @@ pub record HasFollowed (own : Option (List ℕ)) (t : Term) (old new : PrivateKe
   pub leaf : new.leaf ≡ old.leaf
   pub keys : all_keys new ≡ follow_edit own (way 0 t old.leaf) (all_keys old)
 
--- a member's keys on its way in a whole tree, by their height
+-- a member's keys, one for each parent over its leaf in a whole tree: the key that it holds at that height, or none
 abbrev pub keys_on : Term → PrivateKeys → Keys
 keys_on t p = keys_on_way (way 0 t p.leaf) (all_keys p)

@@ -35,12 +35,12 @@ climb_take c (s ∷ ss) j ks secret =
     (if is_beside s j then require_present s.parent (record { secret = secret; keys = rest ks }) else climb_take c ss j (rest ks) secret)
     >>= λ m. climb_past_present c j s.parent m
 
--- a parent is blank, lists the joiner, or has a key
+-- whether the key at a parent isn't missing: the parent is blank or lists the joiner, or there is a key
 abbrev pub is_due : ℕ → Option Parent → Option (List ℕ) → Bool
 is_due j None o = true
 is_due j (Some p) o = has p.unmerged_leaves j || is_some o
 
--- each parent of a way is blank, lists the joiner, or has a key
+-- whether at no parent of a way the joiner's key is missing
 unfoldable pub is_complete : ℕ → List Step → Keys → Bool
 is_complete j [] ks = true
 is_complete j (s ∷ ss) [] = false
@@ -79,9 +79,10 @@ secret_among (s ∷ ss) j secrets = if is_beside s j then slice_get secrets (fil
 
 -- ---- the keys that are due
 
--- whether a member has each key that is due on a way, and on its own in a whole tree (RFC 9420, 12.4.3.1)
+-- whether a member has each key that is due on a way (RFC 9420, 12.4.3.1)
 abbrev pub has_due_on : PrivateKeys → List Step → Bool
 has_due_on p ss = is_complete p.leaf ss (keys_on_way ss (all_keys p))
 
+-- whether a member has each key that is due at the parents over its leaf in a whole tree (RFC 9420, 12.4.3.1)
 abbrev pub has_due : Term → PrivateKeys → Bool
 has_due t p = has_due_on p (way 0 t p.leaf)

@@ -8,23 +8,25 @@ use Rattle.mls_tree_model.specs.Sets.{has}
 use Rattle.mls_tree_model.specs.Term.{Term, leaf_at}
 use Rattle.mls_tree_model.specs.Way.{Step, way}
 
+-- private keys by their places: none where no key is held
 abbrev pub Keys : Type 0
 Keys = List (Option (List ℕ))
 
--- the key that is held at a parent, by whether it lists the member: none, or its private key (RFC 9420, 7.5 and 7.6)
+-- the key that is held at a parent is as it must be, by whether the parent lists the member as unmerged: then none is
+-- held, else its private key is (RFC 9420, 7.5 and 7.6)
 abbrev pub HoldsKey : Crypto → Bool → Parent → Option (List ℕ) → Type 0
 HoldsKey c true p None = Unit {0}
 HoldsKey c true p (Some k) = ⊥
 HoldsKey c false p None = ⊥
 HoldsKey c false p (Some k) = c.public k ≡ p.encryption_key
 
--- the same at a place that may be blank, where none is held
+-- the key that is held by member j at a parent that may be blank is as it must be: at a blank one none is
 abbrev pub Fits : Crypto → ℕ → Option Parent → Option (List ℕ) → Type 0
 Fits c j None None = Unit {0}
 Fits c j None (Some k) = ⊥
 Fits c j (Some p) o = HoldsKey c (has p.unmerged_leaves j) p o
 
--- the leaf's private key is the only one left
+-- what is left of the keys at a leaf is its private key alone
 abbrev pub IsOwnKey : Crypto → Option LeafNode → Keys → Type 0
 IsOwnKey c (Some x) (Some k ∷ []) = c.public k ≡ x.encryption_key
 IsOwnKey c (Some x) (Some k ∷ o ∷ ks) = ⊥
@@ -32,12 +34,13 @@ IsOwnKey c (Some x) (None ∷ ks) = ⊥
 IsOwnKey c (Some x) [] = ⊥
 IsOwnKey c None ks = ⊥
 
--- along a way each key stands to its parent as F says, and the last one is the leaf's
+-- along a way each key stands to its parent as F says, and the last key is that of the leaf x
 unfoldable pub AreKeysAlong : Crypto → (Option Parent → Option (List ℕ) → Type 0) → List Step → Option LeafNode → Keys → Type 0
 AreKeysAlong c F [] x ks = IsOwnKey c x ks
 AreKeysAlong c F (s ∷ ss) x [] = ⊥
 AreKeysAlong c F (s ∷ ss) x (o ∷ ks) = F s.parent o × AreKeysAlong c F ss x ks
 
+-- the keys of member j of a tree whose first leaf is b stand to the parents over it as F says, and to its leaf
 abbrev pub AreKeysOnWay : Crypto → (Option Parent → Option (List ℕ) → Type 0) → ℕ → Term → ℕ → Keys → Type 0
 AreKeysOnWay c F b t j ks = AreKeysAlong c F (way b t j) (leaf_at b t j) ks
 
@@ -46,12 +49,12 @@ AreKeysOnWay c F b t j ks = AreKeysAlong c F (way b t j) (leaf_at b t j) ks
 abbrev pub Exact : Crypto → ℕ → Term → ℕ → Keys → Type 0
 Exact c b t j ks = AreKeysOnWay c (Fits c j) b t j ks
 
--- all but the first
+-- all but the first of a list
 abbrev pub rest : {A : Type 0} → List A → List A
 rest [] = []
 rest (x ∷ xs) = xs
 
--- the leaf's key alone
+-- the keys of a member that has its leaf's private key alone, along a way
 unfoldable pub leaf_only : List Step → List ℕ → Keys
 leaf_only [] k = Some k ∷ []
 leaf_only (s ∷ ss) k = None ∷ leaf_only ss k
@@ -63,6 +66,7 @@ key_for [] j (o ∷ ks) n = if n == 2 * j then o else None
 key_for (s ∷ ss) j [] n = None
 key_for (s ∷ ss) j (o ∷ ks) n = if n == s.node then o else key_for ss j ks n
 
+-- the private key that leaf j of a tree whose first leaf is b has for node n, by its keys
 abbrev pub key_in : ℕ → Term → ℕ → Keys → ℕ → Option (List ℕ)
 key_in b t j ks n = key_for (way b t j) j ks n
 

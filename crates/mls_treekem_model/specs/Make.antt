@@ -8,11 +8,13 @@ use Rattle.mls_treekem_model.specs.Keys.{Keys, PrivateKeys, all_keys}
 use Rattle.mls_tree_model.specs.Term.{Term, is_perfect}
 use Rattle.mls_treekem_model.specs.Follow.{keys_on_way}
 
--- where a climb along a way stands: the path secret of the next node above, and the private keys from there down
+-- A climb goes from a node up to the root, and derives the path secret and the private key of each node on the way (RFC
+-- 9420, 7.4). Where it stands: the path secret of the next node above, and the private keys from there down.
 pub record Climb : Type 0 where
   pub secret : List ℕ
   pub keys : Keys
 
+-- one more, where this is so
 abbrev pub one_if : Bool → ℕ → ℕ
 one_if true n = suc n
 one_if false n = n
@@ -22,11 +24,12 @@ unfoldable pub filtered_count : List Step → ℕ
 filtered_count [] = 0
 filtered_count (s ∷ ss) = one_if (is_filtered s) (filtered_count ss)
 
--- the path secret above a way, and above a whole one the commit secret: a step on for each filtered parent
--- (RFC 9420, 7.4)
+-- the path secret above the parents of a way, from the first one: one step on for each filtered parent; above all
+-- parents over a leaf it is the commit secret (RFC 9420, 7.4 and 8)
 abbrev pub secret_above : List Step → List ℕ → List ℕ
 secret_above ss start = chain start (filtered_count ss)
 
+-- the key, where this is so
 abbrev pub key_if : Bool → List ℕ → Option (List ℕ)
 key_if true k = Some k
 key_if false k = None
@@ -37,7 +40,7 @@ unfoldable pub made_keys : Crypto → List Step → List ℕ → List ℕ → Ke
 made_keys c [] start sk = Some sk ∷ []
 made_keys c (s ∷ ss) start sk = key_if (is_filtered s) (node_key c (secret_above ss start)) ∷ made_keys c ss start sk
 
--- the committer's climb (RFC 9420, 7.5)
+-- what the committer's climb ends with: the commit secret and its private keys (RFC 9420, 7.5)
 abbrev pub climb_make : Crypto → List Step → List ℕ → List ℕ → Climb
 climb_make c ss start sk = record { secret = secret_above ss start; keys = made_keys c ss start sk }
 

@@ -12,12 +12,13 @@ use Rattle.mls_treekem_model.specs.Keys.{Keys, rest, key_in}
 use Rattle.mls_treekem_model.specs.Make.{Climb, one_if, climb_past_blank, climb_past_key}
 use Rattle.mls_treekem_model.specs.Seal.{targets}
 
--- what a parent of a way leaves of a list with an item for each filtered one
+-- of a list with an item for each filtered parent of a way, those for the parents below: all but the first where this
+-- parent is filtered
 abbrev pub nodes_below : {A : Type 0} → Bool → List A → List A
 nodes_below false xs = xs
 nodes_below true xs = rest xs
 
--- ---- at the parent where the ways part
+-- ---- at the lowest parent over both the committer and the receiver
 
 -- what is sealed in a ciphertext (RFC 9420, 7.6)
 unfoldable pub unseal_secret : Crypto → List ℕ → List ℕ → HpkeCiphertext → Option (List ℕ)
@@ -31,12 +32,12 @@ secret_of secret = if length secret == 32 then Ok secret else Err 33
 abbrev pub secret_in : Crypto → List ℕ → List ℕ → HpkeCiphertext → Result (List ℕ) ℕ
 secret_in c context k x = require_some 32 (unseal_secret c context k x) >>= secret_of
 
--- the path secret in a ciphertext by a key, where there is one
+-- the path secret in a ciphertext where its key is held, else what comes later
 abbrev pub open_with : Crypto → List ℕ → Option (List ℕ) → HpkeCiphertext → Result (List ℕ) ℕ → Result (List ℕ) ℕ
 open_with c context (Some k) x later = secret_in c context k x
 open_with c context None x later = later
 
--- the path secret that is sealed to the first node whose key is held: 32 where none is (RFC 9420, 7.6)
+-- the path secret in the ciphertext of the first node whose key is held: 32 where none is held (RFC 9420, 7.5)
 unfoldable pub open_first : Crypto → List ℕ → (ℕ → Option (List ℕ)) → List ℕ → List HpkeCiphertext → Result (List ℕ) ℕ
 open_first c context keys [] xs = Err 32
 open_first c context keys (d ∷ ds) [] = Err 32
@@ -47,7 +48,8 @@ abbrev pub first_ciphertexts : List UpdatePathNode → List HpkeCiphertext
 first_ciphertexts [] = []
 first_ciphertexts (n ∷ ns) = n.ciphertexts
 
--- what is opened there, with the keys below
+-- the climb of member j begins at the lowest parent over it and the committer: with the path secret that it opens of the
+-- parent's ciphertexts, and its keys below the parent
 abbrev pub open_at_ancestor : Crypto → List ℕ → List ℕ → Step → ℕ → Keys → List UpdatePathNode → Result Climb ℕ
 open_at_ancestor c context added s j ks ns =
     open_first c context (key_in s.first s.other j ks) (targets added s) (first_ciphertexts ns) >>= λ secret. Ok (record { secret = secret; keys = ks })
@@ -70,7 +72,7 @@ unfoldable pub filtered_from : List Step → ℕ → ℕ
 filtered_from [] j = 0
 filtered_from (s ∷ ss) j = one_if (is_filtered s) (if is_beside s j then 0 else filtered_from ss j)
 
--- ---- and above it
+-- ---- above that parent
 
 -- a climb past a filtered parent: the derived public key is the one that the path gives, else `PathKeyMismatch` (34)
 -- (RFC 9420, 7.5)
@@ -78,6 +80,7 @@ abbrev pub climb_past_filtered : Crypto → List UpdatePathNode → Climb → Re
 climb_past_filtered c [] m = Err 34
 climb_past_filtered c (n ∷ ns) m = climb_past_key c n.encryption_key m
 
+-- a climb past a parent, which it checks where the filtered direct path takes it in
 abbrev pub climb_past_parent : Crypto → Bool → List UpdatePathNode → Climb → Result Climb ℕ
 climb_past_parent c true ns m = climb_past_filtered c ns m
 climb_past_parent c false ns m = Ok (climb_past_blank m)

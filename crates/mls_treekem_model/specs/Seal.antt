@@ -21,7 +21,7 @@ Choose true P Q = P
 Choose false P Q = Q
 
 -- the nodes that the path secret of a parent is sealed to: the resolution of its other side, without the leaves just
--- added (RFC 9420, 7.5)
+-- added (RFC 9420, 7.5 and 7.6)
 unfoldable pub targets : List ℕ → Step → List ℕ
 targets added s = less (leaf_numbers added) (resolution s.first s.other)
 
@@ -32,6 +32,7 @@ seal_count added (s ∷ ss) = (if is_filtered s then length (targets added s) el
 
 -- ---- what a path has to be
 
+-- what is sealed, as an HPKECiphertext (RFC 9420, 7.6)
 abbrev pub ciphertext_of : Sealing → HpkeCiphertext
 ciphertext_of s = record { kem_output = s.kem; ciphertext = s.ct }
 
@@ -69,10 +70,12 @@ IsPathOf c context added (s ∷ ss) start ns =
 
 -- ---- the path itself
 
+-- a path secret sealed to a key, where it is there and fit
 abbrev pub seal_to : Crypto → List ℕ → List ℕ → Option (List ℕ) → List ℕ → Option HpkeCiphertext
 seal_to c context secret (Some pk) rnd = seal_secret c context secret pk rnd
 seal_to c context secret None rnd = None
 
+-- an item before others, where both are there
 abbrev pub cons_both : {A : Type 0} → Option A → Option (List A) → Option (List A)
 cons_both (Some x) (Some xs) = Some (x ∷ xs)
 cons_both (Some x) None = None
@@ -85,10 +88,12 @@ seal_all c context secret b t rnd i [] = Some []
 seal_all c context secret b t rnd i (d ∷ ds) =
     cons_both (seal_to c context secret (key_at b t d) (rnd i)) (seal_all c context secret b t rnd (suc i) ds)
 
+-- a node of a path with its public key and its ciphertexts, where these are there (RFC 9420, 7.6)
 abbrev pub with_ciphertexts : List ℕ → Option (List HpkeCiphertext) → Option UpdatePathNode
 with_ciphertexts k (Some xs) = Some (record { encryption_key = k; ciphertexts = xs })
 with_ciphertexts k None = None
 
+-- the nodes of a path past a parent: one more where the filtered direct path takes it in
 abbrev pub path_past : Bool → Option UpdatePathNode → Option (List UpdatePathNode) → Option (List UpdatePathNode)
 path_past true n ns = cons_both n ns
 path_past false n ns = ns
