@@ -20,13 +20,13 @@ pub record AgreeSecret (m n : Member) : Type 0 where
   pub epoch : m.epoch ≡ n.epoch
   pub nine : nine_secrets m.epoch ≡ nine_secrets n.epoch
 
--- two members hold one epoch secret, or two that give one confirmation tag (RFC 9420, 8.1)
+-- two members hold one epoch secret, or two that give one confirmation tag (RFC 9420, 6.1)
 abbrev pub AgreeOrTwins : Member → Member → Type 0
 AgreeOrTwins m n = AgreeSecret m n ⊎ Twins m.epoch n.epoch m.public.context.confirmed_transcript_hash
 
 -- ---- what members keep
 
--- under each reference that a list names, in its order, these very messages are kept (RFC 9420, 12.4)
+-- under the references that a list names these very messages are kept, in the list's order (RFC 9420, 12.4)
 unfoldable pub Keeps : List KeptProposal → List ProposalOrRef → List (List ℕ) → Type 0
 Keeps kept [] [] = Unit {0}
 Keeps kept [] (b ∷ bs) = ⊥

@@ -1,4 +1,5 @@
--- What holds of each world that a list of events leaves.
+-- What holds of each world that a list of events leaves. `step` says what an event does where there is memory; where
+-- there is none, code answers 1 and leaves all as before.
 use Rattle.std.specs.Prelude.{◌≡◌, ◌≢◌, ℕ, ◌+◌, ◌<◌, Bool, true, false, List, length, take, slice_get, Option, Some, None, Result, Ok, Err}
 use Rattle.std.specs.List.{AllByRecursion, list_any}
 use Rattle.std.specs.Str.{bytes_eq}
@@ -253,7 +254,8 @@ pub record Headline (c : Crypto) (w : World) : Type 0 where
   pub own : FollowsOwn c w
   pub own_refused : RefusesOwn c w
 
--- the headline holds for every lawful suite and every list of events
+-- the headline holds of the world that events leave, for every lawful suite and every list of events that code can
+-- have: given bytes are bytes, and leaves have 32 bits
 abbrev pub HoldsOnRuns : Type 0
 HoldsOnRuns = (c : Crypto) → Lawful c → (events : List Event) → AllByRecursion IsInRange events →
     Headline c (run c empty_world events)

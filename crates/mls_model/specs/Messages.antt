@@ -36,7 +36,7 @@ decode_message bytes = whole mls_message input_limit bytes
 unfoldable pub are_bytes : List ℕ → Bool
 are_bytes bytes = list_all (λ (b : ℕ). nat_lt b 256) bytes
 
--- the check of what was made: 6 where it is larger than a message may be, or no bytes
+-- the check of bytes that were made: `TooLong` (6) they are more than a message may have, or not bytes
 unfoldable pub is_within_limit : List ℕ → Result Passed ℕ
 is_within_limit bytes = require 6 (nat_le (length bytes) input_limit && are_bytes bytes)
 
@@ -77,7 +77,7 @@ unfoldable pub is_content_signed : Crypto → List ℕ → SignedContent → Gro
 is_content_signed c key v context = verify_with_label c key (codes "FramedContentTBS")
     (framed_content_tbs format.PublicMessage (framed v) context) v.signature
 
--- the membership tag of a signed content, by the epoch secret (RFC 9420, 6.2)
+-- the membership tag of a signed content, by the epoch secret and the context of the epoch (RFC 9420, 6.2)
 unfoldable pub content_tag : List ℕ → SignedContent → GroupContext → List ℕ
 content_tag epoch v context = membership_tag epoch (authenticated_content_tbm format.PublicMessage v context)
 

@@ -26,7 +26,7 @@ abbrev pub welcome_in : MlsMessage → Option Welcome
 welcome_in (message.Welcome w) = Some w
 welcome_in other = None
 
--- a value that was read, or this number for any fault
+-- a value that was read, and this number where there was any fault
 abbrev pub or_fault : {A : Type 0} → ℕ → Result A ℕ → Result A ℕ
 or_fault n (Ok x) = Ok x
 or_fault n (Err e) = Err n
@@ -56,8 +56,8 @@ pub record Opened : Type 0 where
   pub info : GroupInfo
 
 -- the secrets and the GroupInfo of a candidate's Welcome: decoding; 70 no Welcome, 71 of another suite, 72 no entry for
--- the candidate's KeyPackage, 73, 74 a pre-shared key is asked for, 75 the GroupInfo doesn't open or is none, 71 it is
--- of another suite (RFC 9420, 12.4.3.1)
+-- the candidate's KeyPackage, 73 that entry can't be read, 74 a pre-shared key is asked for, 75 the GroupInfo doesn't
+-- open or is none, 71 it is of another suite (RFC 9420, 12.4.3.1)
 unfoldable pub opened_welcome : Crypto → Candidate → List ℕ → Result Opened ℕ
 opened_welcome c k bytes = do
   outer ← decode_message bytes

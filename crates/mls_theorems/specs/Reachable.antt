@@ -14,19 +14,20 @@ pub record IsReachable (c : Crypto) (w : World) : Type 0 where
   pub range : AllByRecursion IsInRange events
   pub is : w ≡ run c empty_world events
 
+-- no event leaves the empty world
 abbrev pub EmptyIsReachable : Type 0
 EmptyIsReachable = (c : Crypto) → IsReachable c empty_world
 
--- a list of events leads from such a world to such a world
+-- a list of events leads from a reachable world to a reachable one
 abbrev pub RunsReach : Type 0
 RunsReach = (c : Crypto) (w v : World) (events : List Event) → IsReachable c w → AllByRecursion IsInRange events →
     v ≡ run c w events → IsReachable c v
 
--- one event leads from such a world to such a world
+-- one event leads from a reachable world to a reachable one
 abbrev pub StepsReach : Type 0
 StepsReach = (c : Crypto) (w v : World) (e : Event) → IsReachable c w → IsInRange e → v ≡ (step c w e).1 →
     IsReachable c v
 
--- the headline holds of each such world
+-- the headline holds of each reachable world
 abbrev pub HeadlineOfReachable : Type 0
 HeadlineOfReachable = (c : Crypto) → Lawful c → (w : World) → IsReachable c w → Headline c w

@@ -46,8 +46,8 @@ first_blank b (Leaf None) = Some b
 first_blank b (Leaf (Some v)) = None
 first_blank b (Branch c l r) = or_else (first_blank b l) (first_blank (b + width l) r)
 
--- where a leaf is added: at the leftmost blank leaf, and where there is none at the first leaf of the half that doubling
--- adds (RFC 9420, 7.7 and 12.1.1)
+-- where a leaf is added: at the leftmost blank leaf, and where there is none at the first leaf of the half that
+-- doubling adds (RFC 9420, 7.7 and 12.1.1)
 abbrev pub place_for : Option ℕ → Term → ℕ
 place_for None t = width t
 place_for (Some i) t = i

@@ -5,7 +5,7 @@ use Rattle.mls_tree_model.specs.Term.{Term, Leaf, Branch, width, size}
 use Rattle.mls_tree_model.specs.Sets.{less, leaf_numbers}
 use Rattle.mls_tree_model.specs.Resolution.{resolution, is_reached}
 
--- a parent over a leaf: what it holds, its number, and the side of it that the leaf isn't on, with that side's first leaf
+-- a parent over a leaf: what it holds, its number, and its side where the leaf isn't, with the first leaf of that side
 pub record Step : Type 0 where
   pub parent : Option Parent
   pub node : ℕ

@@ -48,8 +48,8 @@ abbrev pub first_ciphertexts : List UpdatePathNode → List HpkeCiphertext
 first_ciphertexts [] = []
 first_ciphertexts (n ∷ ns) = n.ciphertexts
 
--- the climb of member j begins at the lowest parent over it and the committer: with the path secret that it opens of the
--- parent's ciphertexts, and its keys below the parent
+-- the climb of member j begins at the lowest parent over it and the committer, with the path secret that it opens there
+-- and its keys below
 abbrev pub open_at_ancestor : Crypto → List ℕ → List ℕ → Step → ℕ → Keys → List UpdatePathNode → Result Climb ℕ
 open_at_ancestor c context added s j ks ns =
     open_first c context (key_in s.first s.other j ks) (targets added s) (first_ciphertexts ns) >>= λ secret. Ok (record { secret = secret; keys = ks })
