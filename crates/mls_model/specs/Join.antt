@@ -29,8 +29,8 @@ use Rattle.mls_model.specs.OpenedWelcome.{Opened, opened_welcome}
 
 -- ---- the group that it tells of
 
--- the tree of a GroupInfo: 76 there is none, 20 and 21 its shape and size, 77 its hash, then the checks of a whole tree
--- (RFC 9420, 12.4.3.1 and 12.4.3.3)
+-- the tree of a GroupInfo: `NoTree` (76) there is none, `TreeShape` (20) and `TreeFull` (21), `TreeHashWrong` (77), then
+-- the checks of a whole tree (RFC 9420, 12.4.3.1 and 12.4.3.3)
 unfoldable pub joined_tree : Crypto → GroupInfo → Result Term ℕ
 joined_tree c info = do
   nodes ← require_some 76 info.ratchet_tree
@@ -55,8 +55,8 @@ is_same_leaf x y = bytes_eq (leaf_node.spell x) (leaf_node.spell y)
 unfoldable pub place_of : LeafNode → Term → Option (ℕ × LeafNode)
 place_of leaf t = find (λ (x : ℕ × LeafNode). is_same_leaf x.1 leaf) (members 0 t)
 
--- the joiner's keys (RFC 9420, 12.4.3.1): with a path secret those that the secret gives, else its leaf's alone; 34 a
--- key differs, and 35 one that is due is missing
+-- the joiner's keys (RFC 9420, 12.4.3.1): with a path secret those that the secret gives, else its leaf's alone;
+-- `PathKeyMismatch` (34) a key differs, and `KeyMissing` (35) one that is due is missing
 unfoldable pub joined_keys : Crypto → Term → ℕ → PrivateKeys → Option (List ℕ) → Result PrivateKeys ℕ
 joined_keys c t signer alone None = require 35 (has_due t alone) >> Ok alone
 joined_keys c t signer alone (Some secret) =
@@ -69,8 +69,8 @@ pub record JoinedMember : Type 0 where
   pub member : Member
   pub info : List ℕ
 
--- the new member of an opened Welcome (RFC 9420, 12.4.3.1): the checks of tree and signer, 80 no leaf is the
--- candidate's, 34 and 35, 65 the confirmation tag
+-- the new member of an opened Welcome (RFC 9420, 12.4.3.1): the checks of tree and signer, `NotInTree` (80) no leaf is
+-- the candidate's, the checks of its keys, `BadConfirmationTag` (65)
 unfoldable pub member_of : Crypto → Candidate → Opened → Result JoinedMember ℕ
 member_of c k o = do
   t ← joined_tree c o.info

@@ -27,7 +27,7 @@ use Rattle.mls_model.specs.World.{World, Entrant, Seat, with_member, with_new_me
 
 -- ---- candidates and groups
 
--- a new candidate: 93 a candidate has the signature key already
+-- a new candidate: `CandidateRepeated` (93) a candidate has the signature key already
 unfoldable pub candidate_answer : Crypto → World → List ℕ → List ℕ → Result (Reply × World) ℕ
 candidate_answer c w identity seed = do
   require 93 (not (list_any (λ (e : Entrant).
@@ -61,8 +61,8 @@ proposal_answer w k s x = (
   record (with_member w k s x.1) { messages = w.messages ++ (x.0 ∷ []) },
 )
 
--- a member proposes to add the KeyPackage of a source (RFC 9420, 12.1.1): 90 no such member; 94, decoding and 95 of the
--- source
+-- a member proposes to add the KeyPackage of a source (RFC 9420, 12.1.1): 90 no such member, then the refusals of
+-- `package_of`
 unfoldable pub propose_add_answer : Crypto → World → ℕ → Source → Result (Reply × World) ℕ
 propose_add_answer c w k source = do
   s ← seat_at w k
@@ -112,7 +112,7 @@ commit_messages made None = made.commit ∷ []
 commit_messages made (Some welcome) = made.commit ∷ (welcome ∷ [])
 
 -- a member makes a commit of what its list stands for (RFC 9420, 12.4.1) and has it as pending, and the world has the
--- messages and the record: 90 no such member; 94, decoding and 95 of each source, 14 of extensions
+-- messages and the record: 90 no such member, then the refusals of `items_of`
 unfoldable pub commit_answer : Crypto → World → ℕ → List WorldItem → Bool → List ℕ → Result (Reply × World) ℕ
 commit_answer c w k items path seed = do
   s ← seat_at w k

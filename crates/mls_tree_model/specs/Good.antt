@@ -21,39 +21,40 @@ pub record Rules : Type 0 where
 
 -- ---- the checks of a whole tree, each a test
 
--- 20: the right half has a member, so that the tree is no larger than its members need (RFC 9420, 7.7)
+-- `TreeShape` (20): the right half has a member, so that the tree is no larger than its members need (RFC 9420, 7.7)
 unfoldable pub has_good_shape : Term → Bool
 has_good_shape t = is_full_width t
 
--- 21: the tree isn't too large
+-- `TreeFull` (21): the tree isn't too large
 unfoldable pub is_within : ℕ → Term → Bool
 is_within limit t = nat_le (width t) limit
 
--- 23: each unmerged leaf is a member below its parent, and each parent between lists it too (RFC 9420, 12.4.3.1)
+-- `UnmergedWrong` (23): each unmerged leaf is a member below its parent, and each parent between that isn't blank lists
+-- it too (RFC 9420, 12.4.3.1)
 unfoldable pub has_good_lists : Term → Bool
 has_good_lists t = all_parents lists_here 0 t
 
--- 24: each parent is parent-hash valid (RFC 9420, 7.9.2)
+-- `ParentHashWrong` (24): each parent is parent-hash valid (RFC 9420, 7.9.2)
 unfoldable pub has_good_hashes : Term → Bool
 has_good_hashes t = all_parents is_parent_hash_valid 0 t
 
--- 25: no two nodes have one encryption key (RFC 9420, 7.3 and 12.4.3.1)
+-- `KeyRepeated` (25): no two nodes have one encryption key (RFC 9420, 7.3 and 12.4.3.1)
 unfoldable pub has_distinct_keys : Term → Bool
 has_distinct_keys t = is_distinct same_bytes (encryption_keys t)
 
--- 26: no two members have one signature key (RFC 9420, 7.3)
+-- `ClientRepeated` (26): no two members have one signature key (RFC 9420, 7.3)
 unfoldable pub has_distinct_clients : Term → Bool
 has_distinct_clients t = is_distinct same_bytes (signature_keys t)
 
--- 51: each leaf's signature verifies (RFC 9420, 7.3)
+-- `LeafSignature` (51): each leaf's signature verifies (RFC 9420, 7.3)
 unfoldable pub is_all_signed : Rules → Term → Bool
 is_all_signed rules t = all_members rules.is_signed 0 t
 
--- 52: each leaf has the capabilities (RFC 9420, 7.3)
+-- `LeafCapability` (52): each leaf has the capabilities that the group needs (RFC 9420, 7.3)
 unfoldable pub is_all_capable : Rules → Term → Bool
 is_all_capable rules t = all_members (λ i x. rules.is_capable x) 0 t
 
--- 36: each encryption key is fit
+-- `BadKey` (36): each encryption key is fit for sealing
 unfoldable pub is_all_fit : Rules → Term → Bool
 is_all_fit rules t = list_all rules.is_fit (encryption_keys t)
 
