@@ -36,14 +36,14 @@ ParentHashInputFits encryption_key parent_hash sibling = byte_string.Fits encryp
 
 -- ---- signed leaves (RFC 9420, section 7.2)
 
--- the leaf without its signature
+-- the leaf's fields before its signature, with no extensions
 unfoldable pub leaf_content : LeafNode → List ℕ
 leaf_content v = opaque v.encryption_key ++ opaque v.signature_key ++ credential.spell v.credential ++ capabilities.spell v.capabilities ++ leaf_source.spell v.source ++ opaque []
 
 abbrev pub LeafContentFits : LeafNode → Type 0
 LeafContentFits v = byte_string.Fits v.encryption_key × (byte_string.Fits v.signature_key × (credential.Fits v.credential × (capabilities.Fits v.capabilities × leaf_source.Fits v.source)))
 
--- where the leaf stands, for those that are made in a group: group_id<V>, uint32 leaf_index
+-- where the leaf stands, for the sources update and commit: group_id<V>, uint32 leaf_index
 abbrev pub leaf_place : LeafSource → List ℕ → ℕ → List ℕ
 leaf_place (by_key_package before after) group index = []
 leaf_place by_update group index = opaque group ++ uint w32 index

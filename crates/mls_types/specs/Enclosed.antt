@@ -8,7 +8,8 @@ use Rattle.mls_wire.specs.Format.{IsBytes, Takes, IsLawful, Format}
 use Rattle.mls_wire.specs.Laws.{bind_ok, bound, ok_is, opaque_takes, opaque_again, opaque_bytes}
 use Rattle.mls_wire.specs.CombineLaws.{IsNonempty, forgotten, ended, ended_past, entire_takes, entire_again, entire_passes}
 
--- The spelling of each value that has one, and reading all of the bytes, which gives a value or the number of the first fault.
+-- How a value is spelled, which values have a spelling (`Fits`), and reading all of the bytes, which gives a value or the
+-- number of the first fault.
 pub record Whole (V : Type 0) : Type 1 where
   pub spell : V → List ℕ
   pub Fits : V → Type 0
@@ -21,7 +22,7 @@ pub record Whole (V : Type 0) : Type 1 where
 
 -- ---- one value, and no byte behind it
 
--- one value; bytes left behind it are 3
+-- one value; bytes left behind it are `Trailing` (3)
 abbrev pub entire : {V : Type 0} → Format V → Whole V
 entire a = record {
   spell = a.spell;
@@ -35,13 +36,14 @@ entire a = record {
 
 -- ---- no value or one
 
--- what follows a value has a type of two bytes, and then is the fault
+-- a value that was read with no byte left behind it; else the type of two bytes that follows is read, and is the fault
 abbrev pub alone : {V : Type 0} → ℕ → V × List ℕ → Result (Option V) ℕ
 alone fault x = if length x.1 == 0 then Ok (Some x.0) else (uint_at w16 x.1 >>= λ _. Err fault)
 
 abbrev pub alone_past : ℕ → List ℕ → Result (Unit {0}) ℕ
 alone_past fault rest = if length rest == 0 then Ok tt else (uint_at w16 rest >>= λ _. Err fault)
 
+-- no bytes where there is no value, else its spelling
 abbrev pub one_spelling_of : {V : Type 0} → Format V → Option V → List ℕ
 one_spelling_of a None = []
 one_spelling_of a (Some v) = a.spell v
@@ -50,6 +52,7 @@ abbrev pub OneFits : {V : Type 0} → Format V → Option V → Type 0
 OneFits a None = Unit {0}
 OneFits a (Some v) = a.Fits v
 
+-- no value where there are no bytes, else one alone
 abbrev pub one_at : {V : Type 0} → Format V → ℕ → List ℕ → Result (Option V) ℕ
 one_at a fault bytes = if length bytes == 0 then Ok None else (a.read bytes >>= alone fault)
 
@@ -124,6 +127,7 @@ at_most_one a nonempty fault = record {
 abbrev pub with_rest : {V : Type 0} → List ℕ → V → Result (V × List ℕ) ℕ
 with_rest rest v = Ok (v, rest)
 
+-- the value that the content of a vector spells, and the bytes after the vector
 abbrev pub all_at : {V : Type 0} → Whole V → List ℕ × List ℕ → Result (V × List ℕ) ℕ
 all_at w x = w.read x.0 >>= λ v. with_rest x.1 v
 
