@@ -8,8 +8,8 @@ use Rattle.mls_wire.specs.Format.{IsBytes, Takes, IsLawful, Format}
 use Rattle.mls_wire.specs.Laws.{bind_ok, bound, ok_is, opaque_takes, opaque_again, opaque_bytes}
 use Rattle.mls_wire.specs.CombineLaws.{IsNonempty, forgotten, ended, ended_past, entire_takes, entire_again, entire_passes}
 
--- How a value is spelled, which values have a spelling (`Fits`), and reading all of the bytes, which gives a value or the
--- number of the first fault.
+-- How a value is spelled, which values have a spelling (`Fits`), and reading all of the bytes, which gives a value or
+-- the number of the first fault.
 pub record Whole (V : Type 0) : Type 1 where
   pub spell : V → List ℕ
   pub Fits : V → Type 0
