@@ -37,7 +37,7 @@ follow_trim (Leaf v) ks = ks
 follow_trim (Branch c l r) ks = if has_leaf r then ks else follow_trim l (rest ks)
 
 -- ---- all edits in one pass over the edited tree
--- Doubling and halving change how many parents are over a leaf, but of none how high it is above the leaf: so keys are
+-- Doubling and halving change how many parents are over a leaf, but not how high each of them is above it: so keys are
 -- found by their height.
 
 -- the key that is held n nodes above the leaf
