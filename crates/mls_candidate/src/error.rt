@@ -3,11 +3,13 @@
 ghost use Rattle.std.specs.Prelude.{◌≡◌};
 ghost use Rattle.mls_wire.specs.Names.{refusal_name};
 ghost use Rattle.mls_candidate.specs.Faults.{number_of};
+ghost use Rattle.mls_refusal_kind.specs.RefusalKinds.{kind_of};
 ghost use Rattle.mls_candidate.specs.declared.error.CandidateError.TheVariants.{Leaf as in_leaf};
 ghost use Rattle.mls_wire.specs.declared.WireError.TheVariants.{OutOfMemory};
 ghost use Rattle.mls_leaf.specs.declared.error.LeafError.TheVariants.{Wire as in_wire};
 
 use mls_leaf::LeafError;
+use mls_refusal_kind::{RefusalKind, kind_of};
 use mls_wire::{WireError, refusal_name};
 use std::alloc::{AllocError, AllocFailed};
 use thiserror::Error;
@@ -63,5 +65,12 @@ impl CandidateError {
         ensures { result.now ≡ refusal_name (number_of self) }
     {
         refusal_name(self.number())
+    }
+
+    /// What a caller may do about it, by its number.
+    pub fn kind(self) -> RefusalKind
+        ensures { result ≡ kind_of (number_of self) }
+    {
+        kind_of(self.number())
     }
 }

@@ -3,8 +3,10 @@
 ghost use Rattle.std.specs.Prelude.{◌≡◌};
 ghost use Rattle.mls_wire.specs.Names.{refusal_name};
 ghost use Rattle.mls_conversation.specs.Faults.{number_of};
+ghost use Rattle.mls_refusal_kind.specs.RefusalKinds.{kind_of};
 ghost use Rattle.mls_conversation.specs.declared.error.ConversationError.TheVariants.{OutOfMemory};
 
+use mls_refusal_kind::{RefusalKind, kind_of};
 use mls_wire::refusal_name;
 use std::alloc::AllocError;
 use thiserror::Error;
@@ -40,6 +42,13 @@ impl ConversationError {
         ensures { result.now ≡ refusal_name (number_of self) }
     {
         refusal_name(self.number())
+    }
+
+    /// What a caller may do about it, by its number.
+    pub fn kind(self) -> RefusalKind
+        ensures { result ≡ kind_of (number_of self) }
+    {
+        kind_of(self.number())
     }
 }
 

@@ -2,6 +2,7 @@
 
 ghost use Rattle.std.specs.Prelude.{◌≡◌};
 ghost use Rattle.mls_exchange.specs.Faults.{number_of, name_of};
+ghost use Rattle.mls_refusal_kind.specs.RefusalKinds.{kind_of};
 ghost use Rattle.mls_exchange.specs.declared.error.ExchangeError.TheVariants.{Message as in_message, Key as in_key};
 ghost use Rattle.mls_private_message.specs.declared.error.PrivateMessageError.TheVariants.{Leaf as in_leaf};
 ghost use Rattle.mls_leaf.specs.declared.error.LeafError.TheVariants.{Wire as in_wire};
@@ -9,6 +10,7 @@ ghost use Rattle.mls_wire.specs.declared.WireError.TheVariants.{OutOfMemory};
 
 use mls_leaf::LeafError;
 use mls_private_message::PrivateMessageError;
+use mls_refusal_kind::{RefusalKind, kind_of};
 use mls_secret_tree::SecretTreeError;
 use mls_wire::WireError;
 use std::alloc::AllocError;
@@ -64,6 +66,13 @@ impl ExchangeError {
             ExchangeError::OtherEpoch => "OtherEpoch",
             ExchangeError::BadMessageSignature => "BadMessageSignature",
         }
+    }
+
+    /// What a caller may do about it, by its number.
+    pub fn kind(self) -> RefusalKind
+        ensures { result ≡ kind_of (number_of self) }
+    {
+        kind_of(self.number())
     }
 }
 

@@ -16,25 +16,31 @@ pub enum RefusalKind {
     Unsupported,
     /// The message is of another kind (41, 45, 70): hand it to the call that takes it.
     WrongMessage,
-    /// The message is of another group (42): hand it to the member there.
+    /// The message is of another group (42, 111): hand it to the member there.
     OtherGroup,
-    /// The message is of another epoch (43): drop an old one, keep a later one until that epoch.
+    /// The message is of another epoch (43, 112): drop an old one, keep a later one until that epoch.
     OtherEpoch,
     /// The KeyPackage, the group of the Welcome, or what was saved is of another suite (55, 71, 100).
     OtherSuite,
     /// The Welcome is for others (72): try it with another candidate.
     NotForMe,
-    /// No member is at the leaf (22, 44, 102).
+    /// No member is at the leaf (22, 44, 102, 114).
     NotAMember,
     /// The message is one's own, and isn't kept (48): there is nothing to do.
     OwnMessage,
     /// A membership tag or a confirmation tag is wrong (46, 65): drop the message.
     BadTag,
-    /// A signature doesn't verify (47, 51, 56, 79): drop the message.
+    /// A signature doesn't verify (47, 51, 56, 79, 119): drop the message.
     BadSignature,
-    /// A secret doesn't open, or keys aren't those that are due (32 to 35, 73, 75, 104): the member can't follow this
-    /// message, or what was saved isn't a member's or a candidate's own.
+    /// A secret or a sealed part doesn't open, or keys aren't those that are due (32 to 35, 73, 75, 104, 113, 117): the
+    /// member can't follow this message, or what was saved isn't a member's or a candidate's own.
     Unreadable,
+    /// The message's key was used, or is too old to be kept (116): drop the message.
+    KeyUsed,
+    /// The message lies too far ahead of its sender's others (115): open those before it first.
+    TooFarAhead,
+    /// The sender has no generation left in the epoch (110): go on in the next epoch.
+    EpochSpent,
     /// The commit names a proposal that isn't kept (60): process that proposal first.
     MissingProposal,
     /// A commit is pending (67): process it, or drop it.
@@ -58,15 +64,18 @@ pub fn kind_of(number: u8) -> RefusalKind
         6 => RefusalKind::TooLong,
         11 | 12 | 14 | 74 | 76 => RefusalKind::Unsupported,
         41 | 45 | 70 => RefusalKind::WrongMessage,
-        42 => RefusalKind::OtherGroup,
-        43 => RefusalKind::OtherEpoch,
+        42 | 111 => RefusalKind::OtherGroup,
+        43 | 112 => RefusalKind::OtherEpoch,
         55 | 71 | 100 => RefusalKind::OtherSuite,
         72 => RefusalKind::NotForMe,
-        22 | 44 | 102 => RefusalKind::NotAMember,
+        22 | 44 | 102 | 114 => RefusalKind::NotAMember,
         48 => RefusalKind::OwnMessage,
         46 | 65 => RefusalKind::BadTag,
-        47 | 51 | 56 | 79 => RefusalKind::BadSignature,
-        32 | 33 | 34 | 35 | 73 | 75 | 104 => RefusalKind::Unreadable,
+        47 | 51 | 56 | 79 | 119 => RefusalKind::BadSignature,
+        32 | 33 | 34 | 35 | 73 | 75 | 104 | 113 | 117 => RefusalKind::Unreadable,
+        116 => RefusalKind::KeyUsed,
+        115 => RefusalKind::TooFarAhead,
+        110 => RefusalKind::EpochSpent,
         60 => RefusalKind::MissingProposal,
         67 => RefusalKind::CommitPending,
         40 => RefusalKind::Gone,
