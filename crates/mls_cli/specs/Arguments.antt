@@ -159,18 +159,22 @@ drawn_or_not false drawing task = undrawn drawing task
 
 -- nor where two ways to draw are asked for
 abbrev pub drawn_if : Bool → Option Drawing → Option Task → Option Task
-drawn_if asked drawing task = option_and_then (λ d. option_and_then (λ t. drawn_or_not asked d t) task) drawing
+drawn_if asked drawing task =
+    option_and_then (λ d. option_and_then (λ t. drawn_or_not asked d t) task) drawing
 
 -- how a tree is drawn, by the values of the options
 abbrev pub drawing_on : List Row → Option Drawing
-drawing_on rows = drawing_by (option_and_then number_in (first_of (codes "WIDTH") rows)) (is_given (first_of (codes "svg") rows))
+drawing_on rows =
+    drawing_by (option_and_then number_in (first_of (codes "WIDTH") rows))
+    (is_given (first_of (codes "svg") rows))
 
 -- what is asked for of a recording, by the values of its options
 abbrev pub view_on : List Row → Option ReplayView
 view_on rows = view_by (option_and_then number_in (first_of (codes "N") rows)) (option_and_then number_in (first_of (codes "K") rows))
     (is_given (first_of (codes "quiet") rows)) (is_given (first_of (codes "record") rows))
 
--- a member's tree is drawn in place of the replies; there is no such job where another thing is asked for too
+-- a member's tree is drawn in place of the replies; there is no such job where another thing is
+-- asked for too
 abbrev pub draw_in_place : Text → SuiteChoice → ℕ → Drawing → ReplayView → Option Task
 draw_in_place file suite member drawing Replies = Some (draw_member file suite member drawing)
 draw_in_place file suite member drawing Unmet = None
@@ -183,16 +187,24 @@ recording_task file suite None drawing view = undrawn drawing (replay file suite
 recording_task file suite (Some member) drawing view = draw_in_place file suite member drawing view
 
 -- there is no such job either where two things are asked for, or two ways to draw
-abbrev pub replay_on : Option Text → Option ℕ → Option Drawing → Option ReplayView → Text → Option Task
+abbrev pub replay_on : Option Text → Option ℕ → Option Drawing → Option ReplayView → Text
+    → Option Task
 replay_on suite member drawing view file =
-    option_and_then (λ s. option_and_then (λ d. option_and_then (λ v. recording_task file s member d v) view) drawing) (option_and_then suite_of suite)
+    option_and_then (λ s. option_and_then (λ d.
+    option_and_then (λ v. recording_task file s member d v) view) drawing)
+    (option_and_then suite_of suite)
 
 abbrev pub task_on : Text → List Row → Text → Option Task
 task_on name rows file =
     if bytes_eq name (codes "show") then Some (show_on (first_of (codes "full") rows) (first_of (codes "raw") rows) file)
-    else if bytes_eq name (codes "check") then drawn_if (is_given (first_of (codes "draw") rows)) (drawing_on rows)
-    (check_on (first_of (codes "group-info") rows) (first_of (codes "raw") rows) (first_of (codes "SUITE") rows) (first_of (codes "signatures") rows) (first_of (codes "HEX") rows) file)
-    else if bytes_eq name (codes "replay") then replay_on (first_of (codes "SUITE") rows) (option_and_then number_in (first_of (codes "MEMBER") rows)) (drawing_on rows) (view_on rows) file
+    else if bytes_eq name (codes "check")
+    then drawn_if (is_given (first_of (codes "draw") rows)) (drawing_on rows)
+    (check_on (first_of (codes "group-info") rows) (first_of (codes "raw") rows)
+    (first_of (codes "SUITE") rows) (first_of (codes "signatures") rows)
+    (first_of (codes "HEX") rows) file)
+    else if bytes_eq name (codes "replay")
+    then replay_on (first_of (codes "SUITE") rows)
+    (option_and_then number_in (first_of (codes "MEMBER") rows)) (drawing_on rows) (view_on rows) file
     else if bytes_eq name (codes "vectors") then Some (vectors file)
     else None
 
@@ -308,7 +320,8 @@ abbrev pub words_of_draw : List Text
 words_of_draw = codes "check" ∷ codes "--draw" ∷ codes "a" ∷ []
 
 abbrev pub words_of_draw_info : List Text
-words_of_draw_info = codes "check" ∷ codes "a" ∷ codes "--draw" ∷ codes "--group-info" ∷ codes "--width=40" ∷ []
+words_of_draw_info =
+    codes "check" ∷ codes "a" ∷ codes "--draw" ∷ codes "--group-info" ∷ codes "--width=40" ∷ []
 
 abbrev pub words_of_replay : List Text
 words_of_replay = codes "replay" ∷ codes "--message" ∷ codes "12" ∷ codes "--suite=0001" ∷ codes "a" ∷ []
@@ -328,14 +341,17 @@ abbrev pub words_of_picture : List Text
 words_of_picture = codes "replay" ∷ codes "a" ∷ codes "--draw" ∷ codes "3" ∷ codes "--width=40" ∷ []
 
 abbrev pub words_of_picture_and_message : List Text
-words_of_picture_and_message = codes "replay" ∷ codes "a" ∷ codes "--draw=3" ∷ codes "--message=0" ∷ []
+words_of_picture_and_message =
+    codes "replay" ∷ codes "a" ∷ codes "--draw=3" ∷ codes "--message=0" ∷ []
 
--- a replay that draws it as an SVG file, one that cuts such a file's rows, and one that doesn't say whose tree is drawn
+-- a replay that draws it as an SVG file, one that cuts such a file's rows, and one that doesn't
+-- say whose tree is drawn
 abbrev pub words_of_svg : List Text
 words_of_svg = codes "replay" ∷ codes "a" ∷ codes "--svg" ∷ codes "--draw=3" ∷ []
 
 abbrev pub words_of_svg_width : List Text
-words_of_svg_width = codes "replay" ∷ codes "a" ∷ codes "--svg" ∷ codes "--draw=3" ∷ codes "--width=40" ∷ []
+words_of_svg_width =
+    codes "replay" ∷ codes "a" ∷ codes "--svg" ∷ codes "--draw=3" ∷ codes "--width=40" ∷ []
 
 abbrev pub words_of_no_drawing : List Text
 words_of_no_drawing = codes "replay" ∷ codes "a" ∷ codes "--svg" ∷ []

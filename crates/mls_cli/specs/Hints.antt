@@ -39,4 +39,5 @@ hint_on None text = hint_of_text text
 
 -- a file that is too long gets none
 unfoldable pub hint : Form → List ℕ → List ℕ
-hint form text = if nat_lt (file_limit form) (length text) then [] else hint_on (bytes_of_file form text) text
+hint form text =
+    if nat_lt (file_limit form) (length text) then [] else hint_on (bytes_of_file form text) text

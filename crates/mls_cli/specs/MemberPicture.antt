@@ -13,7 +13,8 @@ use Rattle.mls_cli_replay.specs.declared.view.ReplayView.TheVariants as view
 -- the picture of a tree that was printed in hex digits, with status 0; a refusal as it was
 abbrev pub picture_printout : Drawing → Printout → Printout
 picture_printout drawing tree =
-    if tree.status == 0 then printout row_text (draw_page source.Tree drawing Hex tree.text) else tree
+    if tree.status == 0 then printout row_text (draw_page source.Tree drawing Hex tree.text)
+    else tree
 
 -- the picture of what is printed of a file as the tree of that member (RFC 9420, 7.1)
 abbrev pub IsMemberPicture : Crypto → ℕ → Drawing → List ℕ → Printout → Type 0

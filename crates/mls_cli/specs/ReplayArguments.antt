@@ -17,7 +17,8 @@ with_view_rules app =
 
 -- an optional --draw MEMBER, a number, and the options of drawings
 abbrev pub with_picture_rules : App → App
-with_picture_rules app = with_drawing_rules (with_rule app (number_rule (codes "MEMBER") (codes "draw")))
+with_picture_rules app =
+    with_drawing_rules (with_rule app (number_rule (codes "MEMBER") (codes "draw")))
 
 -- this view, unless another is asked for too
 abbrev pub unless : ReplayView → Bool → Option ReplayView

@@ -59,7 +59,8 @@ IsPrintout (job.CheckGroupInfo file form signatures) text p =
 IsPrintout (job.Draw file form source drawing) text p =
     p ≡ printout row_text (file_page form text (draw_page source drawing form text))
 IsPrintout (job.Replay file suite view) text p = IsView (crypto_of suite) view text p
-IsPrintout (job.DrawMember file suite member drawing) text p = IsMemberPicture (crypto_of suite) member drawing text p
+IsPrintout (job.DrawMember file suite member drawing) text p =
+    IsMemberPicture (crypto_of suite) member drawing text p
 IsPrintout (job.Vectors file) text p = p ≡ printout entry_text (vectors_page text)
 
 -- what is said on the errors of a file's text, though nothing failed
@@ -114,7 +115,8 @@ cause false false = fault.OutOfMemory
 
 -- A job's end, by whether its file can't be read and whether its output has failed: a status of the job, where nothing
 -- has failed and no more than this is said; or 3, and what has failed is said.
-abbrev pub Ends : Type 0 → List ℕ → ℕ → Bool → Bool → Option (List ℕ) → Option (List ℕ) → Bool → Type 0
+abbrev pub Ends : Type 0 → List ℕ → ℕ → Bool → Bool → Option (List ℕ) → Option (List ℕ) → Bool
+    → Type 0
 Ends Remarked file status unreadable written old new failed =
     ((status ≤ 1) × (unreadable ≡ false) × (written ≡ false) × Remarked)
     ⊎ ((status ≡ 3) × SaysOrFails old new failed (fault_text file (cause unreadable written)))
@@ -174,9 +176,11 @@ PrintsFile {I} {O} remaining contents j file old new status =
     IfSome file (λ (reader : I). IfSome (remaining reader) (λ (text : List ℕ). PrintsOrFails (IsPrintout j text) (contents old) (contents new) status))
 
 -- the picture of a member's tree in a recording's text is printed
-abbrev pub PrintsMemberPicture : {O : Type 0} → (O → Option (List ℕ)) → SuiteChoice → ℕ → Drawing → List ℕ → O → O → Result ℕ Fault → Type 0
-PrintsMemberPicture contents suite member drawing text old new result =
-    PrintsOne (IsMemberPicture (crypto_of suite) member drawing text) (contents old) (contents new) result
+abbrev pub PrintsPicture : {O : Type 0} → (O → Option (List ℕ)) → SuiteChoice → ℕ → Drawing → List ℕ
+    → O → O → Result ℕ Fault → Type 0
+PrintsPicture contents suite member drawing text old new result =
+    PrintsOne (IsMemberPicture (crypto_of suite) member drawing text)
+    (contents old) (contents new) result
 
 -- a view of a recording's text is printed
 abbrev pub PrintsRecording : {O : Type 0} → (O → Option (List ℕ)) → SuiteChoice → ReplayView → List ℕ → O → O → Result ℕ Fault → Type 0
@@ -199,13 +203,19 @@ abbrev pub BeginsError : {E T X : Type 0} → (E → Option (List ℕ)) → Out 
 BeginsError contents old new text result = OnErr result (AppendsPart (contents (out_writer old)) (contents (out_writer new)) text)
 
 -- what a job remarks of all that a reader has left is said, and no more
-abbrev pub Remarks : {I E : Type 0} → (I → Option (List ℕ)) → (E → Option (List ℕ)) → Job → I → Out E → Out E → Type 0
-Remarks remaining contents j reader old new = (text : List ℕ) × ReadsFile remaining j reader text × Says contents old new (remark j text)
+abbrev pub Remarks : {I E : Type 0} → (I → Option (List ℕ)) → (E → Option (List ℕ)) → Job → I
+    → Out E → Out E → Type 0
+Remarks remaining contents j reader old new =
+    (text : List ℕ) × ReadsFile remaining j reader text × Says contents old new (remark j text)
 
-abbrev pub RemarksOn : {I E : Type 0} → (I → Option (List ℕ)) → (E → Option (List ℕ)) → Job → Option I → Out E → Out E → Type 0
-RemarksOn {I} remaining contents j file old new = IfSome file (λ (reader : I). Remarks remaining contents j reader old new)
+abbrev pub RemarksOn : {I E : Type 0} → (I → Option (List ℕ)) → (E → Option (List ℕ)) → Job
+    → Option I → Out E → Out E → Type 0
+RemarksOn {I} remaining contents j file old new =
+    IfSome file (λ (reader : I). Remarks remaining contents j reader old new)
 
 -- a job's end, with what the errors hold
-abbrev pub EndsWith : {E : Type 0} → (E → Option (List ℕ)) → Out E → Out E → Type 0 → List ℕ → ℕ → Bool → Bool → Type 0
+abbrev pub EndsWith : {E : Type 0} → (E → Option (List ℕ)) → Out E → Out E → Type 0 → List ℕ → ℕ
+    → Bool → Bool → Type 0
 EndsWith contents old new Remarked file status unreadable written =
-    Ends Remarked file status unreadable written (contents (out_writer old)) (contents (out_writer new)) (out_failed new)
+    Ends Remarked file status unreadable written
+    (contents (out_writer old)) (contents (out_writer new)) (out_failed new)

@@ -220,7 +220,12 @@ pub fn no_job(alloc: Global, error: &Error) -> NoJob
 pub fn refuse_values(alloc: Global, matches: &ArgMatches<'_>) -> NoJob
     ensures { ComesOf result ErrorKind.InvalidValue }
 {
-    match value_error(alloc, name_in(matches), suite_in(matches), misuse_in(matches)) {
+    match value_error(
+        alloc,
+        name_in(matches),
+        suite_in(matches),
+        misuse_in(matches),
+    ) {
         Ok(error) => no_job(alloc, &error),
         // Want of memory: the error is an `AllocError`.
         Err(_) => NoJob::OutOfMemory,

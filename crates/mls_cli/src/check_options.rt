@@ -151,11 +151,7 @@ pub fn undrawn<'a>(drawing: Drawing, job: Job<'a>) -> Option<Job<'a>>
 }
 
 /// A drawing in place of a tree's check where it is asked for; None too where it isn't, and yet it is said how.
-pub fn drawn_if<'a>(
-    asked: bool,
-    drawing: Option<Drawing>,
-    job: Option<Job<'a>>,
-) -> Option<Job<'a>>
+pub fn drawn_if<'a>(asked: bool, drawing: Option<Drawing>, job: Option<Job<'a>>) -> Option<Job<'a>>
     ensures { maybe_task result ≡ drawn_if asked drawing (maybe_task job.entry) }
 {
     let drawing = drawing?;

@@ -12,7 +12,7 @@ ghost use Rattle.mls_cli_draw.specs.Picture.{DrawsPage};
 ghost use Rattle.mls_suite.specs.Glass.{glass};
 ghost use Rattle.mls_cli_explain.specs.Explanations.{explanation_view};
 ghost use Rattle.mls_cli.specs.Arguments.{file_of};
-ghost use Rattle.mls_cli.specs.Serving.{BeginsError, EndsWith, EndsWithoutJob, KeepsUnread, PrintsFile, PrintsMemberPicture, PrintsRead, PrintsRecording, PrintsText, ReadsFile, Remarks, RemarksOn, Says, ShowsHelp, ShowsTold, WritesError, checking, fault_text, file_page, out_of_memory as memory_text, remark, unread, unreadable};
+ghost use Rattle.mls_cli.specs.Serving.{BeginsError, EndsWith, EndsWithoutJob, KeepsUnread, PrintsFile, PrintsPicture, PrintsRead, PrintsRecording, PrintsText, ReadsFile, Remarks, RemarksOn, Says, ShowsHelp, ShowsTold, WritesError, checking, fault_text, file_page, out_of_memory as memory_text, remark, unread, unreadable};
 
 use crate::hints::hint;
 use crate::member_picture::print_member;
@@ -344,7 +344,7 @@ fn print_picture<O: Output>(
     text: &[u8],
     out: &mut O,
 ) -> Result<u8, Fault>
-    ensures prints { PrintsMemberPicture O.contents suite member drawing text.now out.old out.new result }
+    ensures prints { PrintsPicture O.contents suite member drawing text.now out.old out.new result }
     ensures status { IfOk result (λ status. status ≤ 1) }
     ensures write { O.failed out.new ≡ write_failed (O.failed out.old) result }
     ensures written { IfErr result (λ e. e ≢ Fault.Read) }

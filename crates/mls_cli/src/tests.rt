@@ -1,6 +1,7 @@
 //! What `mls show` prints, and what the program says of faults.
 
 mod check;
+mod drawings;
 mod ends;
 mod extensions;
 mod options;

@@ -37,4 +37,5 @@ picture_from source drawing spelled = picture_on drawing (tree_from source spell
 
 -- what is printed of a file's text
 abbrev pub draw_page : TreeSource → Drawing → Form → List ℕ → Page (List ℕ)
-draw_page source drawing form text = page_of_bytes (picture_from source drawing) (bytes_of_file form text)
+draw_page source drawing form text =
+    page_of_bytes (picture_from source drawing) (bytes_of_file form text)

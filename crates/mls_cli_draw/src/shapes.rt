@@ -18,7 +18,8 @@ pub(crate) fn push_numbered(
     text: &[u8],
     number: u64,
 ) -> Result<(), AllocError>
-    ensures { OnOk result (characters.new.items ≡ characters.old.items ++ numbered text.now number) }
+    ensures { OnOk result (characters.new.items
+        ≡ characters.old.items ++ numbered text.now number) }
 {
     push_ascii(characters, text)?;
     push_decimal(alloc, characters, number)
@@ -168,7 +169,8 @@ pub(crate) fn push_unmerged(
     characters: &mut Vec<char>,
     leaves: &[u32],
 ) -> Result<(), AllocError>
-    ensures { OnOk result (characters.new.items ≡ characters.old.items ++ unmerged_marks leaves.now) }
+    ensures { OnOk result (characters.new.items
+        ≡ characters.old.items ++ unmerged_marks leaves.now) }
 {
     if leaves.is_empty() {
         return Ok(());

@@ -25,7 +25,8 @@ pub(crate) fn push_text_row(
 
 /// Adds the rows that say how nodes look.
 pub(crate) fn push_style(alloc: Global, rows: &mut Vec<Row>) -> Result<(), AllocError>
-    ensures { OnOk result (map characters_of rows.new.items ≡ map characters_of rows.old.items ++ style) }
+    ensures { OnOk result (map characters_of rows.new.items
+        ≡ map characters_of rows.old.items ++ style) }
 {
     push_text_row(alloc, rows, b"<style>")?;
     push_text_row(

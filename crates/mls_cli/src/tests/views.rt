@@ -177,12 +177,7 @@ fn draws_trees_of_members(rt: HostRuntime) -> Result<(), Fail> {
             TWO_VIEWS,
         ),
         // It is said how a tree is drawn, but not whose.
-        (
-            &["mls", "replay", "FILE", "--width=4"],
-            "",
-            2,
-            NO_DRAWING,
-        ),
+        (&["mls", "replay", "FILE", "--width=4"], "", 2, NO_DRAWING),
         (&["mls", "replay", "FILE", "--svg"], "", 2, NO_DRAWING),
         (
             &["mls", "replay", "FILE", "--svg", "--draw=0", "--width=4"],
