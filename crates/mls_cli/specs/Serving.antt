@@ -23,6 +23,7 @@ use Rattle.mls_cli_check.specs.Check.{check_page}
 use Rattle.mls_cli_check.specs.Drawing.{draw_page}
 use Rattle.mls_cli_check.specs.Unchecked.{unchecked}
 use Rattle.mls_cli_check.specs.declared.drawing.Drawing.{Drawing}
+use Rattle.mls_cli_check.specs.declared.drawing.TreeSource.{TreeSource}
 use Rattle.mls_cli_draw.specs.Picture.{row_text}
 use Rattle.mls_suite_0001.specs.Suite0001.{suite_0001}
 use Rattle.mls_cli_check.specs.GroupInfo.{group_info_page}
@@ -49,6 +50,11 @@ checking choice.Suite0001 false = unchecked
 abbrev pub file_page : {E : Type 0} → Form → List ℕ → Page E → Page E
 file_page form text page = if nat_lt (file_limit form) (length text) then refused 6 else page
 
+-- what is printed of the drawing of a file of this text
+abbrev pub drawing_printout : Form → TreeSource → Drawing → List ℕ → Printout
+drawing_printout form source drawing text =
+    printout row_text (file_page form text (draw_page source drawing form text))
+
 -- what a job prints for a file of this text
 abbrev pub IsPrintout : Job → List ℕ → Printout → Type 0
 IsPrintout (job.Show file form detail) text p = p ≡ printout line_text (file_page form text (show_page detail form text))
@@ -57,7 +63,7 @@ IsPrintout (job.Check file form suite signatures group) text p =
 IsPrintout (job.CheckGroupInfo file form signatures) text p =
     p ≡ printout line_text (file_page form text (group_info_page glass (checking choice.Suite0001 signatures) form text))
 IsPrintout (job.Draw file form source drawing) text p =
-    p ≡ printout row_text (file_page form text (draw_page source drawing form text))
+    p ≡ drawing_printout form source drawing text
 IsPrintout (job.Replay file suite view) text p = IsView (crypto_of suite) view text p
 IsPrintout (job.DrawMember file suite member drawing) text p =
     IsMemberPicture (crypto_of suite) member drawing text p

@@ -3,7 +3,7 @@
 ghost use Rattle.std.specs.Prelude.{is_some, ◌≡◌, ◌≢◌, ◌≤◌, [], true, false, Ok, Err, Some, None, IfOk, IfErr, IfSome, OnOk, OnErr};
 ghost use Rattle.std.specs.Io.KnownBytes.{Keeps};
 ghost use Rattle.mls_cli_text.specs.InputOutput.{out_failed, out_writer, read_failed, write_failed};
-ghost use Rattle.mls_cli_text.specs.Page.{MakesPage};
+ghost use Rattle.mls_cli_text.specs.Page.{MakesPage, Prints};
 ghost use Rattle.mls_cli_show.specs.Show.{page_of as show_page};
 ghost use Rattle.mls_cli_check.specs.Check.{check_page};
 ghost use Rattle.mls_cli_check.specs.Drawing.{draw_page};
@@ -12,7 +12,7 @@ ghost use Rattle.mls_cli_draw.specs.Picture.{DrawsPage};
 ghost use Rattle.mls_suite.specs.Glass.{glass};
 ghost use Rattle.mls_cli_explain.specs.Explanations.{explanation_view};
 ghost use Rattle.mls_cli.specs.Arguments.{file_of};
-ghost use Rattle.mls_cli.specs.Serving.{BeginsError, EndsWith, EndsWithoutJob, KeepsUnread, PrintsFile, PrintsPicture, PrintsRead, PrintsRecording, PrintsText, ReadsFile, Remarks, RemarksOn, Says, ShowsHelp, ShowsTold, WritesError, checking, fault_text, file_page, out_of_memory as memory_text, remark, unread, unreadable};
+ghost use Rattle.mls_cli.specs.Serving.{BeginsError, EndsWith, EndsWithoutJob, KeepsUnread, PrintsFile, PrintsPicture, PrintsRead, PrintsRecording, PrintsText, ReadsFile, Remarks, RemarksOn, Says, ShowsHelp, ShowsTold, WritesError, checking, drawing_printout, fault_text, file_page, out_of_memory as memory_text, remark, unread, unreadable};
 
 use crate::hints::hint;
 use crate::member_picture::print_member;
@@ -191,11 +191,7 @@ fn print_text<O: Output>(
             source,
             drawing,
             ..
-        } => print_made_page(
-            alloc,
-            drawing_file(alloc, *form, *source, *drawing, text),
-            out,
-        ),
+        } => print_drawing(alloc, *form, *source, *drawing, text, out),
         Job::Replay { suite, view, .. } => print_recording(alloc, *suite, *view, text, out),
         Job::DrawMember {
             suite,
@@ -314,6 +310,25 @@ fn drawing_file(
         return Ok(refused_page(alloc, 6));
     }
     draw_page(alloc, source, drawing, form, text)
+}
+
+/// Prints the drawing of the tree of a file.
+fn print_drawing<O: Output>(
+    alloc: Global,
+    form: Form,
+    source: TreeSource,
+    drawing: Drawing,
+    text: &[u8],
+    out: &mut O,
+) -> Result<u8, Fault>
+    ensures prints { Prints (O.contents out.old) (O.contents out.new) result
+        (drawing_printout form source drawing text.now) }
+    ensures status { IfOk result (λ status. status ≤ 1) }
+    ensures write { O.failed out.new ≡ write_failed (O.failed out.old) result }
+    ensures written { IfErr result (λ e. e ≢ Fault.Read) }
+{
+    let page = drawing_file(alloc, form, source, drawing, text);
+    print_made_page(alloc, page, out)
 }
 
 /// Prints what is asked for of a recording for the suite.

@@ -2,7 +2,7 @@
 
 ghost use Rattle.std.specs.Prelude.{◌≡◌, ◌++◌, ◌∷◌, [], OnOk, map};
 ghost use Rattle.mls_cli_draw.specs.Picture.{characters_of};
-ghost use Rattle.mls_cli_draw.specs.SvgStyle.{style};
+ghost use Rattle.mls_cli_draw.specs.SvgStyle.{shape_style, style, text_style};
 
 use crate::characters::push_ascii;
 use crate::row::Row;
@@ -23,18 +23,28 @@ pub(crate) fn push_text_row(
     Ok(())
 }
 
-/// Adds the rows that say how nodes look.
-pub(crate) fn push_style(alloc: Global, rows: &mut Vec<Row>) -> Result<(), AllocError>
+/// Adds the rows that say how texts look.
+fn push_text_style(alloc: Global, rows: &mut Vec<Row>) -> Result<(), AllocError>
     ensures { OnOk result (map characters_of rows.new.items
-        ≡ map characters_of rows.old.items ++ style) }
+        ≡ map characters_of rows.old.items ++ text_style) }
 {
-    push_text_row(alloc, rows, b"<style>")?;
     push_text_row(
         alloc,
         rows,
         b"text{font:12px DejaVu Sans Mono,Menlo,Consolas,monospace}",
     )?;
     push_text_row(alloc, rows, b"text{text-anchor:middle;fill:#334155}")?;
+    push_text_row(alloc, rows, b".blank text,.leaf .index{fill:#64748b}")?;
+    push_text_row(alloc, rows, b".identity{font-size:11px}")?;
+    push_text_row(alloc, rows, b".index,.unmerged{font-size:10px}")?;
+    push_text_row(alloc, rows, b".unmerged{fill:#b45309}")
+}
+
+/// Adds the rows that say how shapes look.
+fn push_shape_style(alloc: Global, rows: &mut Vec<Row>) -> Result<(), AllocError>
+    ensures { OnOk result (map characters_of rows.new.items
+        ≡ map characters_of rows.old.items ++ shape_style) }
+{
     push_text_row(
         alloc,
         rows,
@@ -54,11 +64,17 @@ pub(crate) fn push_style(alloc: Global, rows: &mut Vec<Row>) -> Result<(), Alloc
         alloc,
         rows,
         b".blank rect,.blank circle{fill:#fff;stroke:#94a3b8;stroke-dasharray:4 3}",
-    )?;
-    push_text_row(alloc, rows, b".blank text,.leaf .index{fill:#64748b}")?;
-    push_text_row(alloc, rows, b".identity{font-size:11px}")?;
-    push_text_row(alloc, rows, b".index,.unmerged{font-size:10px}")?;
-    push_text_row(alloc, rows, b".unmerged{fill:#b45309}")?;
+    )
+}
+
+/// Adds the rows that say how nodes look, and a white ground.
+pub(crate) fn push_style(alloc: Global, rows: &mut Vec<Row>) -> Result<(), AllocError>
+    ensures { OnOk result (map characters_of rows.new.items
+        ≡ map characters_of rows.old.items ++ style) }
+{
+    push_text_row(alloc, rows, b"<style>")?;
+    push_text_style(alloc, rows)?;
+    push_shape_style(alloc, rows)?;
     push_text_row(alloc, rows, b"</style>")?;
     push_text_row(
         alloc,

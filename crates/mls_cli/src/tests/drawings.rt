@@ -17,14 +17,14 @@ const LONG: &str =
 const STYLE: &str = r##"<style>
 text{font:12px DejaVu Sans Mono,Menlo,Consolas,monospace}
 text{text-anchor:middle;fill:#334155}
-path{fill:none;stroke:#cbd5e1;stroke-width:2}
-.leaf rect{fill:#dcefe6;stroke:#5f9f83;stroke-width:1.5}
-.parent circle{fill:#dbe7f5;stroke:#6b8fc0;stroke-width:1.5}
-.blank rect,.blank circle{fill:#fff;stroke:#94a3b8;stroke-dasharray:4 3}
 .blank text,.leaf .index{fill:#64748b}
 .identity{font-size:11px}
 .index,.unmerged{font-size:10px}
 .unmerged{fill:#b45309}
+path{fill:none;stroke:#cbd5e1;stroke-width:2}
+.leaf rect{fill:#dcefe6;stroke:#5f9f83;stroke-width:1.5}
+.parent circle{fill:#dbe7f5;stroke:#6b8fc0;stroke-width:1.5}
+.blank rect,.blank circle{fill:#fff;stroke:#94a3b8;stroke-dasharray:4 3}
 </style>
 <rect x="-16" y="-40" width="100%" height="100%" fill="#fff"/>
 "##;

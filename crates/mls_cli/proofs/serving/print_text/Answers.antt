@@ -2,7 +2,6 @@ use Rattle.std.proofs.Common.{refl}
 use Rattle.mls_cli_text.proofs.Pages.{made_prints}
 use Rattle.mls_cli_text.specs.Text.{entry_of, line_text}
 use Rattle.mls_cli_vectors.specs.VectorsReport.{entry_of as report_entry_of, entry_text}
-use Rattle.mls_cli_draw.specs.Picture.{characters_of, row_text}
 use Rattle.mls_cli_replay.proofs.PrintLaws.{prints_it}
 use Rattle.mls_cli.specs.Serving.{IsPrintout}
 use Rattle.mls_cli.proofs.serving.print_text.Goals as goal
@@ -25,4 +24,4 @@ returns-in-Vectors-clause-prints g c =
 
 pub returns-in-Draw-clause-prints : goal.returns-in-Draw-clause-prints
 returns-in-Draw-clause-prints g c =
-    rw c.in-Draw.is (prints_it _ _ _ _ _ refl (made_prints row_text characters_of _ _ c.drawing_file.result _ _ c.drawing_file.ensures c.print_made_page-in-Draw.ensures.prints))
+    rw c.in-Draw.is (prints_it _ _ _ _ _ refl c.print_drawing.ensures.prints)
