@@ -4,7 +4,7 @@ use crate::tests::serve_file;
 use std::test::Fail;
 
 /// `examples/tree.hex`. The tree hash is Python's SHA-256 of `01 00000000 01` and the leaf.
-const TREE: &str =
+pub const TREE: &str =
     "2b010101bb01cc000103626f6202000102f0010000020001010000000000000000ffffffffffffffff0001dd";
 
 const MISSING: &str =
@@ -13,7 +13,7 @@ const MISSING: &str =
 const OTHER: &str =
     "error: invalid value 'f002' for '--suite <SUITE>'\n  [possible values: f001, 0001]\n\nUsage: mls check [OPTIONS] <FILE>\n\nFor more information, try '--help'.\n";
 
-const LINES: &str =
+pub const LINES: &str =
     "leaves: 1\nmembers: 1\ntree_hash: 754879a771f78780e3bedb21d618103a3fa605220876b0115cf607c73d05b74c\nunmerged: ok\nparent_hashes: ok\nkeys: ok\nclients: ok\nrefused: 51 LeafSignature\n";
 
 const LINES_OF_SUITE_1: &str =
