@@ -4,7 +4,7 @@ use crate::tests::serve_file;
 use std::test::Fail;
 
 /// `examples/tree.hex`. The tree hash is Python's SHA-256 of `01 00000000 01` and the leaf.
-pub const TREE: &str =
+const TREE: &str =
     "2b010101bb01cc000103626f6202000102f0010000020001010000000000000000ffffffffffffffff0001dd";
 
 const MISSING: &str =
