@@ -1,5 +1,5 @@
 -- The picture of what was printed as a tree.
-use Rattle.std.proofs.Common.{◌≡◌, ◌∙◌, ◌==◌, ℕ, List, [], ◌++◌, Option, Some, Result, Ok, Err, inl, inr, refl, sym, ap, ap₂}
+use Rattle.std.proofs.Common.{◌≡◌, ◌∙◌, ◌==◌, ℕ, List, [], ◌++◌, Option, Some, Result, Ok, Err, inl, inr, sym, ap, ap₂}
 use Rattle.std.proofs.lemmas.Bool.{cond-true}
 use Rattle.mls_suite.specs.Crypto.{Crypto}
 use Rattle.mls_cli_text.specs.Page.{Printout, printout}

@@ -6,6 +6,7 @@ ghost use Rattle.clap.specs.declared.Command.TheViews.{out-Command as fields_of}
 ghost use Rattle.mls_cli.specs.Arguments.{ComesOf, ExplainsWords, check, check_group_info, draw, draw_member, drawing_on, faults_behind, found_in, found_rows, given, maybe_task, mls, plain_check, plain_replay, plain_show, recording_task, replay, replay_on, show, task_behind, task_in, task_of, task_on, task_view, vectors, view_on, with_version, words_of_check, words_of_draw, words_of_draw_info, words_of_info, words_of_no_drawing, words_of_no_number, words_of_picture, words_of_picture_and_message, words_of_quiet, words_of_record, words_of_replay, words_of_svg, words_of_svg_width, words_of_tree, words_of_two_views};
 ghost use Rattle.mls_cli.specs.ExplainArguments.{unless_asked};
 ghost use Rattle.mls_cli.specs.Options.{number_in};
+ghost use Rattle.mls_cli.specs.TreeJobs.{tree_check_on, tree_job_on};
 
 use crate::check_options::{check_command, check_on, drawn_if, undrawn};
 use crate::drawing_options::drawing_by;
@@ -138,24 +139,38 @@ fn replay_on<'a>(
     recording_job(file, chosen, member, drawing?, view?)
 }
 
+/// The check of a tree that the options and FILE stand for, or None where no suite has that name.
+fn tree_check_on<'a>(matches: &ArgMatches<'a>, file: &'a str) -> Option<Job<'a>>
+    ensures { maybe_task result ≡ tree_check_on (rows_of (found_of matches.now)) file.entry.now }
+{
+    check_on(
+        value_of(matches, "group-info"),
+        value_of(matches, "raw"),
+        value_of(matches, "SUITE"),
+        value_of(matches, "signatures"),
+        value_of(matches, "HEX"),
+        file,
+    )
+}
+
+/// The check of a tree, or its drawing where that is asked for.
+fn tree_job_on<'a>(matches: &ArgMatches<'a>, file: &'a str) -> Option<Job<'a>>
+    ensures { maybe_task result ≡ tree_job_on (rows_of (found_of matches.now)) file.entry.now }
+{
+    drawn_if(
+        is_given(value_of(matches, "draw")),
+        drawing_on(matches),
+        tree_check_on(matches, file),
+    )
+}
+
 /// The job that a subcommand's name, its matches and FILE stand for, or None where no subcommand has that name.
 fn job_on<'a>(name: &str, matches: &ArgMatches<'a>, file: &'a str) -> Option<Job<'a>>
     ensures { maybe_task result ≡ task_on name.now (rows_of (found_of matches.now)) file.entry.now }
 {
     match name {
         "show" => Some(show_on(value_of(matches, "full"), value_of(matches, "raw"), file)),
-        "check" => drawn_if(
-            is_given(value_of(matches, "draw")),
-            drawing_on(matches),
-            check_on(
-                value_of(matches, "group-info"),
-                value_of(matches, "raw"),
-                value_of(matches, "SUITE"),
-                value_of(matches, "signatures"),
-                value_of(matches, "HEX"),
-                file,
-            ),
-        ),
+        "check" => tree_job_on(matches, file),
         "replay" => replay_on(
             value_of(matches, "SUITE"),
             number_if_any(value_of(matches, "MEMBER")),

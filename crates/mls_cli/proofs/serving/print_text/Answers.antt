@@ -3,7 +3,6 @@ use Rattle.mls_cli_text.proofs.Pages.{made_prints}
 use Rattle.mls_cli_text.specs.Text.{entry_of, line_text}
 use Rattle.mls_cli_vectors.specs.VectorsReport.{entry_of as report_entry_of, entry_text}
 use Rattle.mls_cli_replay.proofs.PrintLaws.{prints_it}
-use Rattle.mls_cli.specs.Serving.{IsPrintout}
 use Rattle.mls_cli.proofs.serving.print_text.Goals as goal
 
 pub returns-in-Show-clause-prints : goal.returns-in-Show-clause-prints
