@@ -6,10 +6,10 @@ _mls() {
             options="--full --raw --help"
             ;;
         check)
-            options="--suite --group --signatures --group-info --raw --help"
+            options="--suite --group --signatures --group-info --raw --draw --width --svg --help"
             ;;
         replay)
-            options="--suite --message --tree --quiet --record --help"
+            options="--suite --message --tree --quiet --record --draw --width --svg --help"
             ;;
         vectors)
             options="--help"

@@ -1,5 +1,5 @@
 -- What a command is behind one more argument.
-use Rattle.std.proofs.Common.{◌≡◌, ◌∙◌, ◌||◌, Bool, true, false, Result, Ok, Err, refl, ap₂}
+use Rattle.std.proofs.Common.{◌≡◌, ◌∙◌, ◌||◌, Bool, true, false, Result, Ok, Err, refl, ap, ap₂}
 use Rattle.std.specs.Prelude.{IfOk}
 use Rattle.clap.specs.Words.{AddsArg, App, Rule, app_of, rule_of, with_rule}
 use Rattle.clap.specs.declared.builder.arg.Arg.{Arg}
@@ -24,3 +24,8 @@ pub last_local : {E : Type 0} (r : Result Command E) (old : Command) (a : Arg) �
     → IfOk r (λ (new : Command). (out-Command new).has_globals ≡ false)
 last_local (Ok new) old a adds local none = local_is {old = old} {new = new} {a = a} adds local none
 last_local (Err e) old a adds local none = tt
+
+-- behind further arguments
+pub then_app : {E : Type 0} (r : Result Command E) (more : App → App) {from app : App} → IfOk r (λ (new : Command). app_of new ≡ more from) → from ≡ app → IfOk r (λ (new : Command). app_of new ≡ more app)
+then_app (Ok new) more is same = is ∙ ap more same
+then_app (Err e) more is same = tt

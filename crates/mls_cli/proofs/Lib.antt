@@ -1,5 +1,6 @@
 pub mod Saying
 mod Reading
+mod MemberPicture
 mod Numbers
 mod Lacking
 mod Adding

@@ -5,25 +5,27 @@ use Rattle.std.proofs.lemmas.List.{length-take-le, take_all}
 use Rattle.mls_cli_text.specs.Form.{file_limit}
 use Rattle.mls_cli_text.specs.declared.form.Form.{Form}
 use Rattle.mls_cli_text.specs.Page.{Page, Printout, printout, refused}
-use Rattle.mls_cli_text.specs.Text.{Entry, line_text}
+use Rattle.mls_cli_text.specs.Text.{line_text}
 use Rattle.mls_cli_text.specs.declared.fault.Fault.{Fault}
 use Rattle.mls_cli_show.specs.Show.{page_of as show_page}
 use Rattle.mls_cli_check.specs.Check.{check_page}
 use Rattle.mls_cli_replay.specs.Replay.{PrintsOne}
 use Rattle.mls_cli.specs.declared.tasks.Job.{Job}
 use Rattle.mls_cli.specs.declared.tasks.Job.TheVariants as job
+use Rattle.mls_cli_check.specs.Drawing.{draw_page}
 use Rattle.mls_cli_check.specs.GroupInfo.{group_info_page}
+use Rattle.mls_cli_draw.specs.Picture.{row_text}
 use Rattle.mls_suite.specs.Glass.{glass}
 use Rattle.mls_cli.specs.declared.tasks.SuiteChoice.TheVariants as choice
 use Rattle.mls_cli.specs.Serving.{IsPrintout, checking, file_page, read_of}
 
-pub long_page : (form : Form) (text : List ℕ) (page : Page Entry) → file_limit form < length text → file_page form text page ≡ refused 6
+pub long_page : {E : Type 0} (form : Form) (text : List ℕ) (page : Page E) → file_limit form < length text → file_page form text page ≡ refused 6
 long_page form text page long = cond-true (nat_lt (file_limit form) (length text)) _ _ (lt-ltb (file_limit form) (length text) long)
 
-pub short_page : (form : Form) (text : List ℕ) (page : Page Entry) → length text ≤ file_limit form → file_page form text page ≡ page
+pub short_page : {E : Type 0} (form : Form) (text : List ℕ) (page : Page E) → length text ≤ file_limit form → file_page form text page ≡ page
 short_page form text page short = cond-false (nat_lt (file_limit form) (length text)) _ _ (le-ltb (file_limit form) (length text) short)
 
-page_of_front : (form : Form) (text : List ℕ) (page : List ℕ → Page Entry) → file_page form (take (suc (file_limit form)) text) (page (take (suc (file_limit form)) text)) ≡ file_page form text (page text)
+page_of_front : {E : Type 0} (form : Form) (text : List ℕ) (page : List ℕ → Page E) → file_page form (take (suc (file_limit form)) text) (page (take (suc (file_limit form)) text)) ≡ file_page form text (page text)
 page_of_front form text page =
     elim (cases_lt (file_limit form) (length text)) [
       | inl long ↦
@@ -38,7 +40,10 @@ same_printout (job.Check file form suite signatures group) text p is =
     is ∙ ap (printout line_text) (page_of_front form text (λ own. check_page (checking suite signatures) form own group.now))
 same_printout (job.CheckGroupInfo file form signatures) text p is =
     is ∙ ap (printout line_text) (page_of_front form text (group_info_page glass (checking choice.Suite0001 signatures) form))
+same_printout (job.Draw file form source drawing) text p is =
+    is ∙ ap (printout row_text) (page_of_front form text (draw_page source drawing form))
 same_printout (job.Replay file suite view) text p is = is
+same_printout (job.DrawMember file suite member drawing) text p is = is
 same_printout (job.Vectors file) text p is = is
 
 prints_all : (j : Job) (text : List ℕ) (old new : Option (List ℕ)) (r : Result ℕ Fault) → PrintsOne (IsPrintout j (read_of j text)) old new r → PrintsOne (IsPrintout j text) old new r

@@ -11,15 +11,19 @@ use Rattle.mls_cli_show.specs.declared.numbered.Detail.TheVariants.{Brief, Full}
 use Rattle.mls_cli_text.specs.declared.form.Form.{Form}
 use Rattle.mls_cli_text.specs.declared.form.Form.TheVariants.{Hex, Raw}
 use Rattle.mls_cli_replay.specs.declared.view.ReplayView.{ReplayView}
-use Rattle.mls_cli_replay.specs.declared.view.ReplayView.TheVariants.{Replies}
+use Rattle.mls_cli_replay.specs.declared.view.ReplayView.TheVariants.{Message, Recording, Replies, Tree, Unmet}
+use Rattle.mls_cli_check.specs.declared.drawing.Drawing.{Drawing}
+use Rattle.mls_cli_check.specs.declared.drawing.TreeSource.{TreeSource}
+use Rattle.mls_cli_check.specs.declared.drawing.TreeSource.TheVariants as source
 use Rattle.mls_cli_explain.specs.Explanations.{explanation_view}
 use Rattle.mls_cli.specs.ExplainArguments.{explain_rule, lacking, told_on, unless_asked}
-use Rattle.mls_cli.specs.Options.{flag_rule, number_in}
-use Rattle.mls_cli.specs.ReplayArguments.{view_by, with_view_rules}
+use Rattle.mls_cli.specs.Options.{flag_rule, number_in, number_rule}
+use Rattle.mls_cli.specs.Drawings.{drawing_by, is_plain, with_drawing_rules}
+use Rattle.mls_cli.specs.ReplayArguments.{view_by, with_picture_rules, with_view_rules}
 use Rattle.mls_cli.specs.declared.tasks.NoJob.{NoJob}
 use Rattle.mls_cli.specs.declared.tasks.NoJob.TheVariants as no_job
 use Rattle.mls_cli.specs.declared.tasks.Job.{Job}
-use Rattle.mls_cli.specs.declared.tasks.Job.TheVariants.{Show, Check, CheckGroupInfo, Replay, Vectors}
+use Rattle.mls_cli.specs.declared.tasks.Job.TheVariants.{Show, Check, CheckGroupInfo, Draw, Replay, DrawMember, Vectors}
 use Rattle.mls_cli.specs.declared.tasks.SuiteChoice.{SuiteChoice}
 use Rattle.mls_cli.specs.declared.tasks.SuiteChoice.TheVariants.{Glass, Suite0001}
 
@@ -42,18 +46,23 @@ group_rule = record (new_rule (codes "HEX")) { long = Some (codes "group") }
 abbrev pub show_app : App
 show_app = with_rule (with_rule (file_app (codes "show")) (flag_rule (codes "full"))) (flag_rule (codes "raw"))
 
--- `check`, which takes a FILE, two options and three flags
+-- a flag --draw, and the options of drawings
+abbrev pub with_draw_rules : App → App
+with_draw_rules app = with_drawing_rules (with_rule app (flag_rule (codes "draw")))
+
+-- `check`, which takes a FILE, two options and three flags, and those of drawings
 abbrev pub check_app : App
 check_app =
-    with_rule
+    with_draw_rules
+    (with_rule
     (with_rule
     (with_rule (with_rule (with_rule (file_app (codes "check")) suite_rule) group_rule) (flag_rule (codes "signatures")))
     (flag_rule (codes "group-info")))
-    (flag_rule (codes "raw"))
+    (flag_rule (codes "raw")))
 
 -- `replay`, which takes a FILE, a suite and what is asked for
 abbrev pub replay_app : App
-replay_app = with_view_rules (with_rule (file_app (codes "replay")) suite_rule)
+replay_app = with_picture_rules (with_view_rules (with_rule (file_app (codes "replay")) suite_rule))
 
 -- with `--version`
 abbrev pub with_version : App → App
@@ -80,14 +89,18 @@ pub data Task : Type 0 where
   show : Text → Form → Detail → Task
   check : Text → Form → SuiteChoice → Bool → Text → Task
   check_group_info : Text → Form → Bool → Task
+  draw : Text → Form → TreeSource → Drawing → Task
   replay : Text → SuiteChoice → ReplayView → Task
+  draw_member : Text → SuiteChoice → ℕ → Drawing → Task
   vectors : Text → Task
 
 abbrev pub task_view : Job → Task
 task_view (Show file form detail) = show file.now form detail
 task_view (Check file form suite signatures group) = check file.now form suite signatures group.now
 task_view (CheckGroupInfo file form signatures) = check_group_info file.now form signatures
+task_view (Draw file form source drawing) = draw file.now form source drawing
 task_view (Replay file suite view) = replay file.now suite view
+task_view (DrawMember file suite member drawing) = draw_member file.now suite member drawing
 task_view (Vectors file) = vectors file.now
 
 -- a suite is named by its number in hex
@@ -126,21 +139,72 @@ abbrev pub check_on : Option Text → Option Text → Option Text → Option Tex
 check_on info raw suite signatures group file =
     option_map (λ s. check_task (is_given info) (form_of raw) s (is_given signatures) group file) (option_and_then suite_of suite)
 
+-- a tree is drawn in place of its check
+abbrev pub drawn : Drawing → Task → Task
+drawn drawing (check file form suite signatures group) = draw file form source.Tree drawing
+drawn drawing (check_group_info file form signatures) = draw file form source.GroupInfo drawing
+drawn drawing (show file form detail) = show file form detail
+drawn drawing (draw file form source old) = draw file form source old
+drawn drawing (replay file suite view) = replay file suite view
+drawn drawing (draw_member file suite member old) = draw_member file suite member old
+drawn drawing (vectors file) = vectors file
+
+-- there is no such job where it is said how a tree is drawn, and none is
+abbrev pub undrawn : Drawing → Task → Option Task
+undrawn drawing task = if is_plain drawing then Some task else None
+
+abbrev pub drawn_or_not : Bool → Drawing → Task → Option Task
+drawn_or_not true drawing task = Some (drawn drawing task)
+drawn_or_not false drawing task = undrawn drawing task
+
+-- nor where two ways to draw are asked for
+abbrev pub drawn_if : Bool → Option Drawing → Option Task → Option Task
+drawn_if asked drawing task =
+    option_and_then (λ d. option_and_then (λ t. drawn_or_not asked d t) task) drawing
+
+-- how a tree is drawn, by the values of the options
+abbrev pub drawing_on : List Row → Option Drawing
+drawing_on rows =
+    drawing_by (option_and_then number_in (first_of (codes "WIDTH") rows))
+    (is_given (first_of (codes "svg") rows))
+
 -- what is asked for of a recording, by the values of its options
 abbrev pub view_on : List Row → Option ReplayView
 view_on rows = view_by (option_and_then number_in (first_of (codes "N") rows)) (option_and_then number_in (first_of (codes "K") rows))
     (is_given (first_of (codes "quiet") rows)) (is_given (first_of (codes "record") rows))
 
--- there is no such job either where two things are asked for
-abbrev pub replay_on : Option Text → Option ReplayView → Text → Option Task
-replay_on suite view file =
-    option_and_then (λ s. option_map (λ v. replay file s v) view) (option_and_then suite_of suite)
+-- a member's tree is drawn in place of the replies; there is no such job where another thing is
+-- asked for too
+abbrev pub draw_in_place : Text → SuiteChoice → ℕ → Drawing → ReplayView → Option Task
+draw_in_place file suite member drawing Replies = Some (draw_member file suite member drawing)
+draw_in_place file suite member drawing Unmet = None
+draw_in_place file suite member drawing (Message n) = None
+draw_in_place file suite member drawing (Tree k) = None
+draw_in_place file suite member drawing Recording = None
+
+abbrev pub recording_task : Text → SuiteChoice → Option ℕ → Drawing → ReplayView → Option Task
+recording_task file suite None drawing view = undrawn drawing (replay file suite view)
+recording_task file suite (Some member) drawing view = draw_in_place file suite member drawing view
+
+-- there is no such job either where two things are asked for, or two ways to draw
+abbrev pub replay_on : Option Text → Option ℕ → Option Drawing → Option ReplayView → Text
+    → Option Task
+replay_on suite member drawing view file =
+    option_and_then (λ s. option_and_then (λ d.
+    option_and_then (λ v. recording_task file s member d v) view) drawing)
+    (option_and_then suite_of suite)
 
 abbrev pub task_on : Text → List Row → Text → Option Task
 task_on name rows file =
     if bytes_eq name (codes "show") then Some (show_on (first_of (codes "full") rows) (first_of (codes "raw") rows) file)
-    else if bytes_eq name (codes "check") then check_on (first_of (codes "group-info") rows) (first_of (codes "raw") rows) (first_of (codes "SUITE") rows) (first_of (codes "signatures") rows) (first_of (codes "HEX") rows) file
-    else if bytes_eq name (codes "replay") then replay_on (first_of (codes "SUITE") rows) (view_on rows) file
+    else if bytes_eq name (codes "check")
+    then drawn_if (is_given (first_of (codes "draw") rows)) (drawing_on rows)
+    (check_on (first_of (codes "group-info") rows) (first_of (codes "raw") rows)
+    (first_of (codes "SUITE") rows) (first_of (codes "signatures") rows)
+    (first_of (codes "HEX") rows) file)
+    else if bytes_eq name (codes "replay")
+    then replay_on (first_of (codes "SUITE") rows)
+    (option_and_then number_in (first_of (codes "MEMBER") rows)) (drawing_on rows) (view_on rows) file
     else if bytes_eq name (codes "vectors") then Some (vectors file)
     else None
 
@@ -153,7 +217,9 @@ abbrev pub file_of : Job → Text
 file_of (Show file form detail) = file.now
 file_of (Check file form suite signatures group) = file.now
 file_of (CheckGroupInfo file form signatures) = file.now
+file_of (Draw file form source drawing) = file.now
 file_of (Replay file suite view) = file.now
+file_of (DrawMember file suite member drawing) = file.now
 file_of (Vectors file) = file.now
 
 -- ---- where there is no job
@@ -249,6 +315,14 @@ words_of_check = codes "check" ∷ codes "a" ∷ codes "--suite" ∷ codes "0001
 abbrev pub words_of_info : List Text
 words_of_info = codes "check" ∷ codes "--group-info" ∷ codes "--raw" ∷ codes "a" ∷ []
 
+-- a drawing of a tree, and one of a GroupInfo's
+abbrev pub words_of_draw : List Text
+words_of_draw = codes "check" ∷ codes "--draw" ∷ codes "a" ∷ []
+
+abbrev pub words_of_draw_info : List Text
+words_of_draw_info =
+    codes "check" ∷ codes "a" ∷ codes "--draw" ∷ codes "--group-info" ∷ codes "--width=40" ∷ []
+
 abbrev pub words_of_replay : List Text
 words_of_replay = codes "replay" ∷ codes "--message" ∷ codes "12" ∷ codes "--suite=0001" ∷ codes "a" ∷ []
 
@@ -261,6 +335,26 @@ words_of_quiet = codes "replay" ∷ codes "--quiet" ∷ codes "a" ∷ []
 
 abbrev pub words_of_record : List Text
 words_of_record = codes "replay" ∷ codes "--record" ∷ codes "a" ∷ []
+
+-- a replay that draws a member's tree, and one that asks for a message too
+abbrev pub words_of_picture : List Text
+words_of_picture = codes "replay" ∷ codes "a" ∷ codes "--draw" ∷ codes "3" ∷ codes "--width=40" ∷ []
+
+abbrev pub words_of_picture_and_message : List Text
+words_of_picture_and_message =
+    codes "replay" ∷ codes "a" ∷ codes "--draw=3" ∷ codes "--message=0" ∷ []
+
+-- a replay that draws it as an SVG file, one that cuts such a file's rows, and one that doesn't
+-- say whose tree is drawn
+abbrev pub words_of_svg : List Text
+words_of_svg = codes "replay" ∷ codes "a" ∷ codes "--svg" ∷ codes "--draw=3" ∷ []
+
+abbrev pub words_of_svg_width : List Text
+words_of_svg_width =
+    codes "replay" ∷ codes "a" ∷ codes "--svg" ∷ codes "--draw=3" ∷ codes "--width=40" ∷ []
+
+abbrev pub words_of_no_drawing : List Text
+words_of_no_drawing = codes "replay" ∷ codes "a" ∷ codes "--svg" ∷ []
 
 -- a replay that asks for two things
 abbrev pub words_of_two_views : List Text

@@ -1,5 +1,9 @@
 pub mod Options
 pub mod ExplainArguments
+pub mod Drawings
 pub mod ReplayArguments
 pub mod Arguments
+pub mod TreeJobs
+pub mod Hints
+pub mod MemberPicture
 pub mod Serving

@@ -3,6 +3,7 @@ use Rattle.std.specs.Prelude.{ℕ, Bool, true, false, ◌||◌, is_some, codes, 
 use Rattle.clap.specs.Words.{App, with_rule}
 use Rattle.mls_cli_replay.specs.declared.view.ReplayView.{ReplayView}
 use Rattle.mls_cli_replay.specs.declared.view.ReplayView.TheVariants.{Replies, Unmet, Message, Tree, Recording}
+use Rattle.mls_cli.specs.Drawings.{with_drawing_rules}
 use Rattle.mls_cli.specs.Options.{flag_rule, number_rule}
 
 -- an optional --message N and an optional --tree K, both numbers, and the flags --quiet and --record
@@ -13,6 +14,11 @@ with_view_rules app =
     (with_rule (with_rule app (number_rule (codes "N") (codes "message"))) (number_rule (codes "K") (codes "tree")))
     (flag_rule (codes "quiet")))
     (flag_rule (codes "record"))
+
+-- an optional --draw MEMBER, a number, and the options of drawings
+abbrev pub with_picture_rules : App → App
+with_picture_rules app =
+    with_drawing_rules (with_rule app (number_rule (codes "MEMBER") (codes "draw")))
 
 -- this view, unless another is asked for too
 abbrev pub unless : ReplayView → Bool → Option ReplayView

@@ -15,16 +15,22 @@ use Rattle.mls_cli_explain.specs.Explanations.{Told, explanation_view}
 use Rattle.mls_cli_text.specs.Form.{file_limit}
 use Rattle.mls_cli_text.specs.declared.form.Form.{Form}
 use Rattle.mls_cli_text.specs.Page.{Page, Printout, printout, refused}
-use Rattle.mls_cli_text.specs.Text.{Entry, line_text}
+use Rattle.mls_cli_text.specs.Text.{line_text}
 use Rattle.mls_cli_text.specs.declared.fault.Fault.{Fault}
 use Rattle.mls_cli_text.specs.declared.fault.Fault.TheVariants as fault
 use Rattle.mls_cli_show.specs.Show.{page_of as show_page}
 use Rattle.mls_cli_check.specs.Check.{check_page}
+use Rattle.mls_cli_check.specs.Drawing.{draw_page}
 use Rattle.mls_cli_check.specs.Unchecked.{unchecked}
+use Rattle.mls_cli_check.specs.declared.drawing.Drawing.{Drawing}
+use Rattle.mls_cli_check.specs.declared.drawing.TreeSource.{TreeSource}
+use Rattle.mls_cli_draw.specs.Picture.{row_text}
 use Rattle.mls_suite_0001.specs.Suite0001.{suite_0001}
 use Rattle.mls_cli_check.specs.GroupInfo.{group_info_page}
+use Rattle.mls_cli.specs.Hints.{hint}
 use Rattle.mls_cli_vectors.specs.VectorsReport.{entry_text, vectors_page}
 use Rattle.mls_cli_text.specs.declared.output.Out.{Out}
+use Rattle.mls_cli.specs.MemberPicture.{IsMemberPicture}
 use Rattle.mls_cli_replay.specs.Replay.{PrintsOne}
 use Rattle.mls_cli_replay.specs.Views.{IsView}
 use Rattle.mls_cli_replay.specs.declared.view.ReplayView.{ReplayView}
@@ -41,8 +47,13 @@ checking choice.Suite0001 true = suite_0001
 checking choice.Suite0001 false = unchecked
 
 -- what is printed of a file whose page is this: the refusal `TooLong` (6) alone, where its text is too long
-abbrev pub file_page : Form → List ℕ → Page Entry → Page Entry
+abbrev pub file_page : {E : Type 0} → Form → List ℕ → Page E → Page E
 file_page form text page = if nat_lt (file_limit form) (length text) then refused 6 else page
+
+-- what is printed of the drawing of a file of this text
+abbrev pub drawing_printout : Form → TreeSource → Drawing → List ℕ → Printout
+drawing_printout form source drawing text =
+    printout row_text (file_page form text (draw_page source drawing form text))
 
 -- what a job prints for a file of this text
 abbrev pub IsPrintout : Job → List ℕ → Printout → Type 0
@@ -51,8 +62,22 @@ IsPrintout (job.Check file form suite signatures group) text p =
     p ≡ printout line_text (file_page form text (check_page (checking suite signatures) form text group.now))
 IsPrintout (job.CheckGroupInfo file form signatures) text p =
     p ≡ printout line_text (file_page form text (group_info_page glass (checking choice.Suite0001 signatures) form text))
+IsPrintout (job.Draw file form source drawing) text p =
+    p ≡ drawing_printout form source drawing text
 IsPrintout (job.Replay file suite view) text p = IsView (crypto_of suite) view text p
+IsPrintout (job.DrawMember file suite member drawing) text p =
+    IsMemberPicture (crypto_of suite) member drawing text p
 IsPrintout (job.Vectors file) text p = p ≡ printout entry_text (vectors_page text)
+
+-- what is said on the errors of a file's text, though nothing failed
+abbrev pub remark : Job → List ℕ → List ℕ
+remark (job.Show file form detail) text = hint form text
+remark (job.Check file form suite signatures group) text = hint form text
+remark (job.CheckGroupInfo file form signatures) text = hint form text
+remark (job.Draw file form source drawing) text = hint form text
+remark (job.Replay file suite view) text = []
+remark (job.DrawMember file suite member drawing) text = []
+remark (job.Vectors file) text = []
 
 -- the output grows by the text of such a printout, with its status; or the status is 3, and it grows by less than such a
 -- text or stays as it was
@@ -95,10 +120,11 @@ cause false false = fault.OutOfMemory
 -- ---- how the program ends
 
 -- A job's end, by whether its file can't be read and whether its output has failed: a status of the job, where nothing
--- has failed and nothing is said; or 3, and what has failed is said.
-abbrev pub Ends : List ℕ → ℕ → Bool → Bool → Option (List ℕ) → Option (List ℕ) → Bool → Type 0
-Ends file status unreadable written old new failed =
-    ((status ≤ 1) × (unreadable ≡ false) × (written ≡ false) × Keeps old new)
+-- has failed and no more than this is said; or 3, and what has failed is said.
+abbrev pub Ends : Type 0 → List ℕ → ℕ → Bool → Bool → Option (List ℕ) → Option (List ℕ) → Bool
+    → Type 0
+Ends Remarked file status unreadable written old new failed =
+    ((status ≤ 1) × (unreadable ≡ false) × (written ≡ false) × Remarked)
     ⊎ ((status ≡ 3) × SaysOrFails old new failed (fault_text file (cause unreadable written)))
 
 -- a text is written, with status 0; or it can't be, with status 3
@@ -132,7 +158,9 @@ abbrev pub read_of : Job → List ℕ → List ℕ
 read_of (job.Show file form detail) text = take (suc (file_limit form)) text
 read_of (job.Check file form suite signatures group) text = take (suc (file_limit form)) text
 read_of (job.CheckGroupInfo file form signatures) text = take (suc (file_limit form)) text
+read_of (job.Draw file form source drawing) text = take (suc (file_limit form)) text
 read_of (job.Replay file suite view) text = text
+read_of (job.DrawMember file suite member drawing) text = text
 read_of (job.Vectors file) text = text
 
 -- this is what a job reads of all that a reader has left, where that is known
@@ -152,6 +180,13 @@ PrintsRead remaining contents j reader old new result =
 abbrev pub PrintsFile : {I O : Type 0} → (I → Option (List ℕ)) → (O → Option (List ℕ)) → Job → Option I → O → O → ℕ → Type 0
 PrintsFile {I} {O} remaining contents j file old new status =
     IfSome file (λ (reader : I). IfSome (remaining reader) (λ (text : List ℕ). PrintsOrFails (IsPrintout j text) (contents old) (contents new) status))
+
+-- the picture of a member's tree in a recording's text is printed
+abbrev pub PrintsPicture : {O : Type 0} → (O → Option (List ℕ)) → SuiteChoice → ℕ → Drawing → List ℕ
+    → O → O → Result ℕ Fault → Type 0
+PrintsPicture contents suite member drawing text old new result =
+    PrintsOne (IsMemberPicture (crypto_of suite) member drawing text)
+    (contents old) (contents new) result
 
 -- a view of a recording's text is printed
 abbrev pub PrintsRecording : {O : Type 0} → (O → Option (List ℕ)) → SuiteChoice → ReplayView → List ℕ → O → O → Result ℕ Fault → Type 0
@@ -173,7 +208,20 @@ WritesError contents old new text result = OnOk result (Appends (contents (out_w
 abbrev pub BeginsError : {E T X : Type 0} → (E → Option (List ℕ)) → Out E → Out E → List ℕ → Result T X → Type 0
 BeginsError contents old new text result = OnErr result (AppendsPart (contents (out_writer old)) (contents (out_writer new)) text)
 
+-- what a job remarks of all that a reader has left is said, and no more
+abbrev pub Remarks : {I E : Type 0} → (I → Option (List ℕ)) → (E → Option (List ℕ)) → Job → I
+    → Out E → Out E → Type 0
+Remarks remaining contents j reader old new =
+    (text : List ℕ) × ReadsFile remaining j reader text × Says contents old new (remark j text)
+
+abbrev pub RemarksOn : {I E : Type 0} → (I → Option (List ℕ)) → (E → Option (List ℕ)) → Job
+    → Option I → Out E → Out E → Type 0
+RemarksOn {I} remaining contents j file old new =
+    IfSome file (λ (reader : I). Remarks remaining contents j reader old new)
+
 -- a job's end, with what the errors hold
-abbrev pub EndsWith : {E : Type 0} → (E → Option (List ℕ)) → Out E → Out E → List ℕ → ℕ → Bool → Bool → Type 0
-EndsWith contents old new file status unreadable written =
-    Ends file status unreadable written (contents (out_writer old)) (contents (out_writer new)) (out_failed new)
+abbrev pub EndsWith : {E : Type 0} → (E → Option (List ℕ)) → Out E → Out E → Type 0 → List ℕ → ℕ
+    → Bool → Bool → Type 0
+EndsWith contents old new Remarked file status unreadable written =
+    Ends Remarked file status unreadable written
+    (contents (out_writer old)) (contents (out_writer new)) (out_failed new)

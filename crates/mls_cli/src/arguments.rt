@@ -3,11 +3,13 @@
 ghost use Rattle.std.specs.Prelude.{◌≡◌, map, true, false, codes, Ok, Err, Some, None, IfOk, IfErr, IsSome, OnOk, ◌⊎◌, ◌∷◌, [], option_and_then, option_map};
 ghost use Rattle.clap.specs.Words.{app_of, shape_of, first_of, found_of, kind_of, matches_of, rows_of, rule_of, subcommand_of, subcommand_rows_of, takes, fault_of, FailsBy, HasKind};
 ghost use Rattle.clap.specs.declared.Command.TheViews.{out-Command as fields_of};
-ghost use Rattle.mls_cli.specs.Arguments.{ComesOf, ExplainsWords, check, check_group_info, faults_behind, found_in, found_rows, given, maybe_task, mls, plain_check, plain_replay, plain_show, replay, replay_on, show, task_behind, task_in, task_of, task_on, task_view, vectors, view_on, with_version, words_of_check, words_of_info, words_of_no_number, words_of_quiet, words_of_record, words_of_replay, words_of_tree, words_of_two_views};
+ghost use Rattle.mls_cli.specs.Arguments.{ComesOf, ExplainsWords, check, check_group_info, draw, draw_member, drawing_on, faults_behind, found_in, found_rows, given, maybe_task, mls, plain_check, plain_replay, plain_show, recording_task, replay, replay_on, show, task_behind, task_in, task_of, task_on, task_view, vectors, view_on, with_version, words_of_check, words_of_draw, words_of_draw_info, words_of_info, words_of_no_drawing, words_of_no_number, words_of_picture, words_of_picture_and_message, words_of_quiet, words_of_record, words_of_replay, words_of_svg, words_of_svg_width, words_of_tree, words_of_two_views};
 ghost use Rattle.mls_cli.specs.ExplainArguments.{unless_asked};
 ghost use Rattle.mls_cli.specs.Options.{number_in};
+ghost use Rattle.mls_cli.specs.TreeJobs.{tree_check_on, tree_job_on};
 
-use crate::check_options::{check_command, check_on};
+use crate::check_options::{check_command, check_on, drawn_if, undrawn};
+use crate::drawing_options::drawing_by;
 use crate::explain_arguments::{explain_arg, without_job};
 use crate::options::{file_command, is_given, number_in, suite_of};
 use crate::replay_arguments::{replay_command, view_by};
@@ -15,6 +17,7 @@ use crate::show_options::{show_command, show_on};
 use crate::tasks::{Job, NoJob, SuiteChoice};
 use clap::error::ErrorKind;
 use clap::{ArgMatches, Command, Error};
+use mls_cli_check::{Drawing, TreeSource};
 use mls_cli_replay::ReplayView;
 use mls_cli_show::Detail;
 use mls_cli_text::Form;
@@ -83,16 +86,82 @@ fn view_on(matches: &ArgMatches<'_>) -> Option<ReplayView>
     )
 }
 
-/// The replay that the options and FILE stand for, or None where no suite has that name, or two things are asked for.
-fn replay_on<'a>(suite: Option<&str>, view: Option<ReplayView>, file: &'a str) -> Option<Job<'a>>
-    ensures { maybe_task result ≡ replay_on (given suite.entry) view file.entry.now }
+/// How a tree is drawn, or None where two ways are asked for.
+fn drawing_on(matches: &ArgMatches<'_>) -> Option<Drawing>
+    ensures { result ≡ drawing_on (rows_of (found_of matches.now)) }
+{
+    drawing_by(
+        number_if_any(value_of(matches, "WIDTH")),
+        is_given(value_of(matches, "svg")),
+    )
+}
+
+/// The replay of a recording or, in place of its replies, the drawing of a member's tree; None where another thing is
+/// asked for too, or where it is said how a tree is drawn and none is.
+fn recording_job<'a>(
+    file: &'a str,
+    suite: SuiteChoice,
+    member: Option<usize>,
+    drawing: Drawing,
+    view: ReplayView,
+) -> Option<Job<'a>>
+    ensures { maybe_task result ≡ recording_task file.entry.now suite member drawing view }
+{
+    match member {
+        None => undrawn(drawing, Job::Replay { file, suite, view }),
+        Some(member) => match view {
+            ReplayView::Replies => Some(Job::DrawMember {
+                file,
+                suite,
+                member,
+                drawing,
+            }),
+            ReplayView::Unmet
+            | ReplayView::Message(_)
+            | ReplayView::Tree(_)
+            | ReplayView::Recording => None,
+        },
+    }
+}
+
+/// The job that the options and FILE stand for, or None where no suite has that name, two things are asked for, or it is
+/// said how a tree is drawn and none is.
+fn replay_on<'a>(
+    suite: Option<&str>,
+    member: Option<usize>,
+    drawing: Option<Drawing>,
+    view: Option<ReplayView>,
+    file: &'a str,
+) -> Option<Job<'a>>
+    ensures { maybe_task result ≡ replay_on (given suite.entry) member drawing view file.entry.now }
 {
     let chosen = suite_of(suite?)?;
-    Some(Job::Replay {
+    recording_job(file, chosen, member, drawing?, view?)
+}
+
+/// The check of a tree that the options and FILE stand for, or None where no suite has that name.
+fn tree_check_on<'a>(matches: &ArgMatches<'a>, file: &'a str) -> Option<Job<'a>>
+    ensures { maybe_task result ≡ tree_check_on (rows_of (found_of matches.now)) file.entry.now }
+{
+    check_on(
+        value_of(matches, "group-info"),
+        value_of(matches, "raw"),
+        value_of(matches, "SUITE"),
+        value_of(matches, "signatures"),
+        value_of(matches, "HEX"),
         file,
-        suite: chosen,
-        view: view?,
-    })
+    )
+}
+
+/// The check of a tree, or its drawing where that is asked for.
+fn tree_job_on<'a>(matches: &ArgMatches<'a>, file: &'a str) -> Option<Job<'a>>
+    ensures { maybe_task result ≡ tree_job_on (rows_of (found_of matches.now)) file.entry.now }
+{
+    drawn_if(
+        is_given(value_of(matches, "draw")),
+        drawing_on(matches),
+        tree_check_on(matches, file),
+    )
 }
 
 /// The job that a subcommand's name, its matches and FILE stand for, or None where no subcommand has that name.
@@ -101,15 +170,14 @@ fn job_on<'a>(name: &str, matches: &ArgMatches<'a>, file: &'a str) -> Option<Job
 {
     match name {
         "show" => Some(show_on(value_of(matches, "full"), value_of(matches, "raw"), file)),
-        "check" => check_on(
-            value_of(matches, "group-info"),
-            value_of(matches, "raw"),
+        "check" => tree_job_on(matches, file),
+        "replay" => replay_on(
             value_of(matches, "SUITE"),
-            value_of(matches, "signatures"),
-            value_of(matches, "HEX"),
+            number_if_any(value_of(matches, "MEMBER")),
+            drawing_on(matches),
+            view_on(matches),
             file,
         ),
-        "replay" => replay_on(value_of(matches, "SUITE"), view_on(matches), file),
         "vectors" => Some(Job::Vectors { file }),
         _ => None,
     }
@@ -163,11 +231,16 @@ pub fn no_job(alloc: Global, error: &Error) -> NoJob
     }
 }
 
-/// That no suite has the name that a subcommand is given, or that two things are asked for of a recording.
+/// That no suite has the name that a subcommand is given, or that its options exclude one another.
 pub fn refuse_values(alloc: Global, matches: &ArgMatches<'_>) -> NoJob
     ensures { ComesOf result ErrorKind.InvalidValue }
 {
-    match value_error(alloc, name_in(matches), suite_in(matches)) {
+    match value_error(
+        alloc,
+        name_in(matches),
+        suite_in(matches),
+        misuse_in(matches),
+    ) {
         Ok(error) => no_job(alloc, &error),
         // Want of memory: the error is an `AllocError`.
         Err(_) => NoJob::OutOfMemory,
@@ -183,14 +256,45 @@ fn command_with_suite<'a>(alloc: Global, subcommand: &str) -> Result<Command<'a>
 }
 
 /// What clap would say of options that exclude one another.
-const TWO_VIEWS: &str = "only one of --message, --tree, --quiet and --record can be used";
+const TWO_VIEWS: &str = "only one of --message, --tree, --draw, --quiet and --record can be used";
+
+/// What it would say of options that go with another one, and exclude one another.
+const NO_DRAWING: &str = "only one of --width and --svg can be used, and only with --draw";
+
+/// Whether two things are asked for of a recording.
+fn asks_for_two(matches: &ArgMatches<'_>) -> bool {
+    match view_on(matches) {
+        Some(ReplayView::Replies) => false,
+        Some(_) => value_of(matches, "MEMBER").is_some(),
+        None => true,
+    }
+}
+
+/// What clap would say of options that name no job.
+fn misuse_in(matches: &ArgMatches<'_>) -> &'static str {
+    match matches.subcommand() {
+        Some((_, inner)) => {
+            if asks_for_two(inner) {
+                TWO_VIEWS
+            } else {
+                NO_DRAWING
+            }
+        }
+        None => NO_DRAWING,
+    }
+}
 
 /// The error of values that name no job, with the usage of the subcommand.
-fn value_error(alloc: Global, subcommand: &str, suite: &str) -> Result<Error, AllocError>
+fn value_error(
+    alloc: Global,
+    subcommand: &str,
+    suite: &str,
+    misuse: &str,
+) -> Result<Error, AllocError>
     ensures { IfOk result (λ e. kind_of e ≡ ErrorKind.InvalidValue) }
 {
     match suite_of(suite) {
-        Some(_) => command_with_suite(alloc, subcommand)?.error(ErrorKind::InvalidValue, TWO_VIEWS),
+        Some(_) => command_with_suite(alloc, subcommand)?.error(ErrorKind::InvalidValue, misuse),
         None => suite_error(alloc, subcommand, suite),
     }
 }
@@ -291,6 +395,10 @@ pub fn examples()
     ensures chosen { task_behind words_of_check
         ≡ Some (check (codes "a") Form.Hex SuiteChoice.Suite0001 true (codes "67")) }
     ensures info { task_behind words_of_info ≡ Some (check_group_info (codes "a") Form.Raw false) }
+    ensures draws { task_behind words_of_draw
+        ≡ Some (draw (codes "a") Form.Hex TreeSource.Tree (Drawing.Text None)) }
+    ensures draws_info { task_behind words_of_draw_info
+        ≡ Some (draw (codes "a") Form.Hex TreeSource.GroupInfo (Drawing.Text (Some 40))) }
     ensures message { task_behind words_of_replay
         ≡ Some (replay (codes "a") SuiteChoice.Suite0001 (ReplayView.Message 12)) }
     ensures tree { task_behind words_of_tree
@@ -299,6 +407,13 @@ pub fn examples()
         ≡ Some (replay (codes "a") SuiteChoice.Glass ReplayView.Unmet) }
     ensures recorded { task_behind words_of_record
         ≡ Some (replay (codes "a") SuiteChoice.Glass ReplayView.Recording) }
+    ensures picture { task_behind words_of_picture
+        ≡ Some (draw_member (codes "a") SuiteChoice.Glass 3 (Drawing.Text (Some 40))) }
+    ensures svg { task_behind words_of_svg
+        ≡ Some (draw_member (codes "a") SuiteChoice.Glass 3 Drawing.Svg) }
+    ensures svg_width { task_behind words_of_svg_width ≡ None }
+    ensures no_drawing { task_behind words_of_no_drawing ≡ None }
+    ensures picture_and_message { task_behind words_of_picture_and_message ≡ None }
     ensures two { task_behind words_of_two_views ≡ None }
     ensures number { faults_behind words_of_no_number ≡ ErrorKind.ValueValidation ∷ [] }
     ensures other { task_behind (codes "check" ∷ codes "a" ∷ codes "--suite=f002" ∷ []) ≡ None }

@@ -3,12 +3,14 @@
 ghost use Rattle.std.specs.Prelude.{◌≡◌, false, IfOk};
 ghost use Rattle.clap.specs.Words.{app_of, rule_of};
 ghost use Rattle.clap.specs.declared.Command.TheViews.{out-Command as fields_of};
-ghost use Rattle.mls_cli.specs.Arguments.{check_app, check_on, given, group_rule, maybe_task, task_view, tree_task};
+ghost use Rattle.mls_cli.specs.Arguments.{check_app, check_on, drawn, drawn_if, given, group_rule, maybe_task, task_view, tree_task, undrawn, with_draw_rules};
 
+use crate::drawing_options::{is_plain, with_drawing_options};
 use crate::options::{file_command, flag_arg, is_given, suite_arg, suite_of};
 use crate::show_options::form_of;
 use crate::tasks::{Job, SuiteChoice};
 use clap::{Arg, Command};
+use mls_cli_check::{Drawing, TreeSource};
 use mls_cli_text::Form;
 use std::alloc::{AllocError, Global};
 
@@ -47,7 +49,20 @@ pub fn check_command<'a>(alloc: Global) -> Result<Command<'a>, AllocError>
     let with_group = with_suite.arg(group_arg(alloc))?;
     let with_signatures = with_group.arg(signatures)?;
     let with_info = with_signatures.arg(info)?;
-    with_info.arg(flag_arg(alloc, "raw", "Reads bytes as they are, and not hex"))
+    let raw = flag_arg(alloc, "raw", "Reads bytes as they are, and not hex");
+    let with_raw = with_info.arg(raw)?;
+    with_draw(alloc, with_raw)
+}
+
+/// The command with a flag to draw, and the options of drawings.
+fn with_draw<'a>(alloc: Global, command: Command<'a>) -> Result<Command<'a>, AllocError>
+    ensures app { IfOk result (λ c. app_of c ≡ with_draw_rules (app_of command.entry)) }
+    ensures local { (fields_of command.entry).has_globals ≡ false
+        → IfOk result (λ c. (fields_of c).has_globals ≡ false) }
+{
+    let draw = flag_arg(alloc, "draw", "Draws the tree, and checks nothing of it");
+    let drawn = command.arg(draw)?;
+    with_drawing_options(alloc, drawn)
 }
 
 /// The check of a tree that these stand for.
@@ -101,4 +116,49 @@ pub fn check_on<'a>(
         });
     }
     Some(tree_job(form, suite, signatures, group, file))
+}
+
+/// A drawing in place of a tree's check, and any other job as it is.
+fn drawn<'a>(drawing: Drawing, job: Job<'a>) -> Job<'a>
+    ensures { task_view result ≡ drawn drawing (task_view job.entry) }
+{
+    match job {
+        Job::Check { file, form, .. } => Job::Draw {
+            file,
+            form,
+            source: TreeSource::Tree,
+            drawing,
+        },
+        Job::CheckGroupInfo { file, form, .. } => Job::Draw {
+            file,
+            form,
+            source: TreeSource::GroupInfo,
+            drawing,
+        },
+        Job::Show { .. }
+        | Job::Draw { .. }
+        | Job::Replay { .. }
+        | Job::DrawMember { .. }
+        | Job::Vectors { .. } => job,
+    }
+}
+
+/// This job, unless it is said how a tree is drawn.
+pub fn undrawn<'a>(drawing: Drawing, job: Job<'a>) -> Option<Job<'a>>
+    ensures { maybe_task result ≡ undrawn drawing (task_view job.entry) }
+{
+    if is_plain(drawing) { Some(job) } else { None }
+}
+
+/// A drawing in place of a tree's check where it is asked for; None too where it isn't, and yet it is said how.
+pub fn drawn_if<'a>(asked: bool, drawing: Option<Drawing>, job: Option<Job<'a>>) -> Option<Job<'a>>
+    ensures { maybe_task result ≡ drawn_if asked drawing (maybe_task job.entry) }
+{
+    let drawing = drawing?;
+    let job = job?;
+    if asked {
+        Some(drawn(drawing, job))
+    } else {
+        undrawn(drawing, job)
+    }
 }

@@ -7,7 +7,10 @@ ghost use Rattle.mls_cli.specs.Arguments.{NamesProgram};
 
 mod arguments;
 mod check_options;
+mod drawing_options;
 mod explain_arguments;
+mod hints;
+mod member_picture;
 mod options;
 mod replay_arguments;
 mod serving;

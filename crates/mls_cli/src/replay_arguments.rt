@@ -4,8 +4,9 @@ ghost use Rattle.std.specs.Prelude.{◌≡◌, false, IfOk};
 ghost use Rattle.clap.specs.Words.{app_of};
 ghost use Rattle.clap.specs.declared.Command.TheViews.{out-Command as fields_of};
 ghost use Rattle.mls_cli.specs.Arguments.{replay_app};
-ghost use Rattle.mls_cli.specs.ReplayArguments.{unless, view_by, view_by_flags, view_by_tree};
+ghost use Rattle.mls_cli.specs.ReplayArguments.{unless, view_by, view_by_flags, view_by_tree, with_picture_rules};
 
+use crate::drawing_options::with_drawing_options;
 use crate::options::{file_command, flag_arg, number_arg, suite_arg};
 use clap::Command;
 use mls_cli_replay::ReplayView;
@@ -45,7 +46,24 @@ pub fn replay_command<'a>(alloc: Global) -> Result<Command<'a>, AllocError>
     let with_message = with_suite.arg(message)?;
     let with_tree = with_message.arg(tree)?;
     let with_quiet = with_tree.arg(quiet)?;
-    with_quiet.arg(record)
+    let with_record = with_quiet.arg(record)?;
+    with_picture(alloc, with_record)
+}
+
+/// The command with the options of a member's picture.
+fn with_picture<'a>(alloc: Global, command: Command<'a>) -> Result<Command<'a>, AllocError>
+    ensures app { IfOk result (λ c. app_of c ≡ with_picture_rules (app_of command.entry)) }
+    ensures local { (fields_of command.entry).has_globals ≡ false
+        → IfOk result (λ c. (fields_of c).has_globals ≡ false) }
+{
+    let draw = number_arg(
+        alloc,
+        "MEMBER",
+        "draw",
+        "Draws this member's ratchet tree, in place of the replies",
+    );
+    let with_draw = command.arg(draw)?;
+    with_drawing_options(alloc, with_draw)
 }
 
 /// This view, unless another is asked for too.

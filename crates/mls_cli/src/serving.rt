@@ -3,17 +3,22 @@
 ghost use Rattle.std.specs.Prelude.{is_some, ◌≡◌, ◌≢◌, ◌≤◌, [], true, false, Ok, Err, Some, None, IfOk, IfErr, IfSome, OnOk, OnErr};
 ghost use Rattle.std.specs.Io.KnownBytes.{Keeps};
 ghost use Rattle.mls_cli_text.specs.InputOutput.{out_failed, out_writer, read_failed, write_failed};
-ghost use Rattle.mls_cli_text.specs.Page.{MakesPage};
+ghost use Rattle.mls_cli_text.specs.Page.{MakesPage, Prints};
 ghost use Rattle.mls_cli_show.specs.Show.{page_of as show_page};
 ghost use Rattle.mls_cli_check.specs.Check.{check_page};
+ghost use Rattle.mls_cli_check.specs.Drawing.{draw_page};
 ghost use Rattle.mls_cli_check.specs.GroupInfo.{group_info_page};
+ghost use Rattle.mls_cli_draw.specs.Picture.{DrawsPage};
 ghost use Rattle.mls_suite.specs.Glass.{glass};
 ghost use Rattle.mls_cli_explain.specs.Explanations.{explanation_view};
 ghost use Rattle.mls_cli.specs.Arguments.{file_of};
-ghost use Rattle.mls_cli.specs.Serving.{BeginsError, EndsWith, EndsWithoutJob, KeepsUnread, PrintsFile, PrintsRead, PrintsRecording, PrintsText, ReadsFile, Says, ShowsHelp, ShowsTold, WritesError, checking, fault_text, file_page, out_of_memory as memory_text, unread, unreadable};
+ghost use Rattle.mls_cli.specs.Serving.{BeginsError, EndsWith, EndsWithoutJob, KeepsUnread, PrintsFile, PrintsPicture, PrintsRead, PrintsRecording, PrintsText, ReadsFile, Remarks, RemarksOn, Says, ShowsHelp, ShowsTold, WritesError, checking, drawing_printout, fault_text, file_page, out_of_memory as memory_text, remark, unread, unreadable};
 
+use crate::hints::hint;
+use crate::member_picture::print_member;
 use crate::tasks::{Job, NoJob, SuiteChoice};
-use mls_cli_check::{Unchecked, check_page, group_info_page};
+use mls_cli_check::{Drawing, TreeSource, Unchecked, check_page, draw_page, group_info_page};
+use mls_cli_draw::Row;
 use mls_cli_explain::{Explanation, told_page};
 use mls_cli_replay::{ReplayView, print_view};
 use mls_cli_show::{Detail, show_page};
@@ -38,8 +43,9 @@ pub fn serve<I: Input, O: Output, E: Write>(
     // The output grows by what the job prints for the text that the reader had.
     ensures prints { IfOk job.now (λ j.
         PrintsFile I.remaining O.contents j file.old out.old out.new result) }
-    // Either nothing failed and nothing is said, or the status is 3 and what failed is said.
-    ensures ends { IfOk job.now (λ j. EndsWith E.contents err.old err.new (file_of j) result
+    // Either nothing failed and no more is said than a hint, or the status is 3 and what failed is said.
+    ensures ends { IfOk job.now (λ j. EndsWith E.contents err.old err.new
+        (RemarksOn I.remaining E.contents j file.old err.old err.new) (file_of j) result
         (unread I.failed file.new) (O.failed out.new)) }
     // A file that can't be read leaves the output as it was.
     ensures unread { IfOk job.now (λ _. KeepsUnread I.failed O.contents file.new out.old out.new) }
@@ -65,7 +71,8 @@ fn serve_job<I: Input, O: Output, E: Write>(
     requires fresh_file { IfSome file.old (λ reader. I.failed reader ≡ false) }
     requires fresh_out { O.failed out.old ≡ false }
     ensures prints { PrintsFile I.remaining O.contents job.now file.old out.old out.new result }
-    ensures ends { EndsWith E.contents err.old err.new (file_of job.now) result
+    ensures ends { EndsWith E.contents err.old err.new
+        (RemarksOn I.remaining E.contents job.now file.old err.old err.new) (file_of job.now) result
         (unread I.failed file.new) (O.failed out.new) }
     ensures unread { KeepsUnread I.failed O.contents file.new out.old out.new }
     ensures same { is_some file.new ≡ is_some file.old }
@@ -75,7 +82,7 @@ fn serve_job<I: Input, O: Output, E: Write>(
             say_fault(Fault::Read, job.file(), err);
             3
         }
-        Some(reader) => match print_job(alloc, job, reader, out) {
+        Some(reader) => match print_job(alloc, job, reader, out, err) {
             Ok(status) => status,
             Err(fault) => {
                 say_fault(fault, job.file(), err);
@@ -85,12 +92,13 @@ fn serve_job<I: Input, O: Output, E: Write>(
     }
 }
 
-/// Prints what the job asks for, and answers the exit status.
-fn print_job<I: Input, O: Output>(
+/// Prints what the job asks for, says what is remarked of the file, and answers the exit status.
+fn print_job<I: Input, O: Output, E: Write>(
     alloc: Global,
     job: &Job<'_>,
     file: &mut I,
     out: &mut O,
+    err: &mut Out<E>,
 ) -> Result<u8, Fault>
     ensures prints { PrintsRead I.remaining O.contents job.now file.old out.old out.new result }
     ensures status { IfOk result (λ status. status ≤ 1) }
@@ -98,9 +106,37 @@ fn print_job<I: Input, O: Output>(
     ensures write { O.failed out.new ≡ write_failed (O.failed out.old) result }
     ensures read { I.failed file.new ≡ read_failed (I.failed file.old) result }
     ensures unread { result ≡ Err Fault.Read → Keeps (O.contents out.old) (O.contents out.new) }
+    ensures said { OnOk result (Remarks I.remaining E.contents job.now file.old err.old err.new) }
+    ensures silent { OnErr result (err.new ≡ err.old) }
 {
     let text = read_file(alloc, job, file)?;
-    print_text(alloc, job, text.as_slice(), out)
+    match print_text(alloc, job, text.as_slice(), out) {
+        Ok(status) => {
+            say(remark(job, text.as_slice()), err);
+            Ok(status)
+        }
+        Err(fault) => Err(fault),
+    }
+}
+
+/// What is said of a file's text, though nothing failed.
+fn remark(job: &Job<'_>, text: &[u8]) -> &'static str
+    ensures { result.now ≡ remark job.now text.now }
+{
+    match job {
+        Job::Show { form, .. }
+        | Job::Check { form, .. }
+        | Job::CheckGroupInfo { form, .. }
+        | Job::Draw { form, .. } => hint(*form, text),
+        Job::Replay { .. } | Job::DrawMember { .. } | Job::Vectors { .. } => "",
+    }
+}
+
+/// Says a text on the errors.
+fn say<E: Write>(text: &str, err: &mut Out<E>)
+    ensures { Says E.contents err.old err.new text.now }
+{
+    let _ = err.put(text.as_bytes());
 }
 
 /// Reads the file: whole, but no more of a file of bytes than shows that it is too long.
@@ -113,7 +149,8 @@ fn read_file<I: Input>(alloc: Global, job: &Job<'_>, file: &mut I) -> Result<Vec
         Job::Show { form, .. } | Job::Check { form, .. } | Job::CheckGroupInfo { form, .. } => {
             file.read_front(alloc, form.file_limit() as u64 + 1)
         }
-        Job::Replay { .. } | Job::Vectors { .. } => file.read_all(alloc),
+        Job::Draw { form, .. } => file.read_front(alloc, form.file_limit() as u64 + 1),
+        Job::Replay { .. } | Job::DrawMember { .. } | Job::Vectors { .. } => file.read_all(alloc),
     }
 }
 
@@ -149,7 +186,19 @@ fn print_text<O: Output>(
             signatures,
             ..
         } => print_made_page(alloc, info_file(alloc, *form, *signatures, text), out),
+        Job::Draw {
+            form,
+            source,
+            drawing,
+            ..
+        } => print_drawing(alloc, *form, *source, *drawing, text, out),
         Job::Replay { suite, view, .. } => print_recording(alloc, *suite, *view, text, out),
+        Job::DrawMember {
+            suite,
+            member,
+            drawing,
+            ..
+        } => print_picture(alloc, *suite, *member, *drawing, text, out),
         Job::Vectors { .. } => print_made_page(alloc, vectors_page(alloc, text), out),
     }
 }
@@ -246,6 +295,42 @@ fn check_info(
     }
 }
 
+/// The drawing of the tree of a file: `TooLong` (6) alone where its text is too long.
+fn drawing_file(
+    alloc: Global,
+    form: Form,
+    source: TreeSource,
+    drawing: Drawing,
+    text: &[u8],
+) -> Result<Page<Row>, AllocError>
+    ensures { DrawsPage result (file_page form text.now (draw_page source drawing form text.now)) }
+{
+    let limit = form.file_limit();
+    if text.len() > limit {
+        return Ok(refused_page(alloc, 6));
+    }
+    draw_page(alloc, source, drawing, form, text)
+}
+
+/// Prints the drawing of the tree of a file.
+fn print_drawing<O: Output>(
+    alloc: Global,
+    form: Form,
+    source: TreeSource,
+    drawing: Drawing,
+    text: &[u8],
+    out: &mut O,
+) -> Result<u8, Fault>
+    ensures prints { Prints (O.contents out.old) (O.contents out.new) result
+        (drawing_printout form source drawing text.now) }
+    ensures status { IfOk result (λ status. status ≤ 1) }
+    ensures write { O.failed out.new ≡ write_failed (O.failed out.old) result }
+    ensures written { IfErr result (λ e. e ≢ Fault.Read) }
+{
+    let page = drawing_file(alloc, form, source, drawing, text);
+    print_made_page(alloc, page, out)
+}
+
 /// Prints what is asked for of a recording for the suite.
 fn print_recording<O: Output>(
     alloc: Global,
@@ -262,6 +347,26 @@ fn print_recording<O: Output>(
     match suite {
         SuiteChoice::Glass => print_view::<Glass, O>(alloc, text, view, out),
         SuiteChoice::Suite0001 => print_view::<Suite0001, O>(alloc, text, view, out),
+    }
+}
+
+/// Prints the picture of the tree of a recording's member for the suite.
+fn print_picture<O: Output>(
+    alloc: Global,
+    suite: SuiteChoice,
+    member: usize,
+    drawing: Drawing,
+    text: &[u8],
+    out: &mut O,
+) -> Result<u8, Fault>
+    ensures prints { PrintsPicture O.contents suite member drawing text.now out.old out.new result }
+    ensures status { IfOk result (λ status. status ≤ 1) }
+    ensures write { O.failed out.new ≡ write_failed (O.failed out.old) result }
+    ensures written { IfErr result (λ e. e ≢ Fault.Read) }
+{
+    match suite {
+        SuiteChoice::Glass => print_member::<Glass, O>(alloc, text, member, drawing, out),
+        SuiteChoice::Suite0001 => print_member::<Suite0001, O>(alloc, text, member, drawing, out),
     }
 }
 

@@ -1,5 +1,6 @@
 //! What the program can be asked to do.
 
+use mls_cli_check::{Drawing, TreeSource};
 use mls_cli_explain::Explanation;
 use mls_cli_replay::ReplayView;
 use mls_cli_show::Detail;
@@ -49,6 +50,17 @@ pub enum Job<'a> {
         /// Whether signatures and forms of keys are checked under 0x0001 too. Under the practice suite they always are.
         signatures: bool,
     },
+    /// Draw the ratchet tree that a file has.
+    Draw {
+        /// The file's path, `-` for the standard input.
+        file: &'a str,
+        /// How the file has its bytes.
+        form: Form,
+        /// What the file has.
+        source: TreeSource,
+        /// How it is drawn.
+        drawing: Drawing,
+    },
     /// Replay the recording that stands as JSON in a file.
     Replay {
         /// The file's path, `-` for the standard input.
@@ -57,6 +69,17 @@ pub enum Job<'a> {
         suite: SuiteChoice,
         /// What is printed of it.
         view: ReplayView,
+    },
+    /// Draw the ratchet tree that a member of a recording has in the end.
+    DrawMember {
+        /// The file's path, `-` for the standard input.
+        file: &'a str,
+        /// The cipher suite that the recording is for.
+        suite: SuiteChoice,
+        /// The member's number.
+        member: usize,
+        /// How it is drawn.
+        drawing: Drawing,
     },
     /// Judge the test vectors that stand as JSON in a file.
     Vectors {
@@ -77,7 +100,9 @@ impl<'a> Job<'a> {
             Job::Show { file, .. }
             | Job::Check { file, .. }
             | Job::CheckGroupInfo { file, .. }
+            | Job::Draw { file, .. }
             | Job::Replay { file, .. }
+            | Job::DrawMember { file, .. }
             | Job::Vectors { file } => file,
         }
     }

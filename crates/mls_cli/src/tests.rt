@@ -1,13 +1,17 @@
 //! What `mls show` prints, and what the program says of faults.
 
 mod check;
+mod drawings;
 mod ends;
 mod extensions;
+mod options;
 mod replay;
 mod rows;
+mod shown;
 mod suite_0001;
 mod vectors;
 mod version_2;
+mod views;
 
 ghost use Rattle.std.specs.Prelude.{Some};
 
@@ -40,10 +44,10 @@ const SHOW_HELP: &str =
     "Prints a message field by field\n\nUsage: mls show [OPTIONS] <FILE>\n\nArguments:\n  <FILE>  An MLSMessage in hex, or - for the standard input\n\nOptions:\n      --full  Prints each item of a commit, a Welcome and a tree too\n      --raw   Reads bytes as they are, and not hex\n  -h, --help  Print help\n\nExample:\n  mls show examples/key_package.hex\n";
 
 const CHECK_HELP: &str =
-    "Checks a ratchet tree\n\nUsage: mls check [OPTIONS] <FILE>\n\nArguments:\n  <FILE>  A ratchet tree in hex, or - for the standard input\n\nOptions:\n      --suite <SUITE>  The group's cipher suite, f001 or 0001 [default: f001]\n      --group <HEX>    The group's id, empty by default\n      --signatures     Checks signatures and keys under suite 0001 too\n      --group-info     Checks a GroupInfo message, which has suite, id and tree\n      --raw            Reads bytes as they are, and not hex\n  -h, --help           Print help\n\nExample:\n  mls check examples/group_tree.hex --group 67\n";
+    "Checks a ratchet tree\n\nUsage: mls check [OPTIONS] <FILE>\n\nArguments:\n  <FILE>  A ratchet tree in hex, or - for the standard input\n\nOptions:\n      --suite <SUITE>  The group's cipher suite, f001 or 0001 [default: f001]\n      --group <HEX>    The group's id, empty by default\n      --signatures     Checks signatures and keys under suite 0001 too\n      --group-info     Checks a GroupInfo message, which has suite, id and tree\n      --raw            Reads bytes as they are, and not hex\n      --draw           Draws the tree, and checks nothing of it\n      --width <WIDTH>  Cuts each row of a drawing to so many columns\n      --svg            Makes a drawing an SVG file\n  -h, --help           Print help\n\nExample:\n  mls check examples/group_tree.hex --group 67\n";
 
 const REPLAY_HELP: &str =
-    "Replays a recording of groups\n\nUsage: mls replay [OPTIONS] <FILE>\n\nArguments:\n  <FILE>  A recording in JSON, or - for the standard input\n\nOptions:\n      --suite <SUITE>  The group's cipher suite, f001 or 0001 [default: f001]\n      --message <N>    Prints this message in hex, in place of the replies\n      --tree <K>       Prints this member's ratchet tree in hex, in place of the replies\n      --quiet          Leaves out replies that are as expected\n      --record         Prints the recording with these replies as those that it expects\n  -h, --help           Print help\n\nExample:\n  mls replay examples/group.json --quiet\n";
+    "Replays a recording of groups\n\nUsage: mls replay [OPTIONS] <FILE>\n\nArguments:\n  <FILE>  A recording in JSON, or - for the standard input\n\nOptions:\n      --suite <SUITE>  The group's cipher suite, f001 or 0001 [default: f001]\n      --message <N>    Prints this message in hex, in place of the replies\n      --tree <K>       Prints this member's ratchet tree in hex, in place of the replies\n      --quiet          Leaves out replies that are as expected\n      --record         Prints the recording with these replies as those that it expects\n      --draw <MEMBER>  Draws this member's ratchet tree, in place of the replies\n      --width <WIDTH>  Cuts each row of a drawing to so many columns\n      --svg            Makes a drawing an SVG file\n  -h, --help           Print help\n\nExample:\n  mls replay examples/group.json --quiet\n";
 
 const VECTORS_HELP: &str =
     "Judges test vectors\n\nUsage: mls vectors <FILE>\n\nArguments:\n  <FILE>  A JSON array of vectors, or - for the standard input\n\nOptions:\n  -h, --help  Print help\n\nExample:\n  mls vectors examples/vectors.json\n";

@@ -1,4 +1,4 @@
--- What `mls check --draw` prints.
+-- What `mls check --draw` prints, as text and with `--svg`.
 use Rattle.std.specs.Prelude.{ℕ, List, Option, Result, Ok, Err}
 use Rattle.mls_wire.specs.Reading.{◌>>=◌}
 use Rattle.mls_tree_model.specs.Term.{Term}
@@ -6,8 +6,11 @@ use Rattle.mls_cli_text.specs.Form.{bytes_of_file}
 use Rattle.mls_cli_text.specs.Page.{Page, refused}
 use Rattle.mls_cli_text.specs.declared.form.Form.{Form}
 use Rattle.mls_cli_draw.specs.Picture.{picture}
+use Rattle.mls_cli_draw.specs.Svg.{svg_picture}
 use Rattle.mls_cli_check.specs.Check.{page_of_bytes, tree_in}
 use Rattle.mls_cli_check.specs.GroupInfo.{group_info_in, sent_tree}
+use Rattle.mls_cli_check.specs.declared.drawing.Drawing.{Drawing}
+use Rattle.mls_cli_check.specs.declared.drawing.Drawing.TheVariants.{Text, Svg}
 use Rattle.mls_cli_check.specs.declared.drawing.TreeSource.{TreeSource}
 use Rattle.mls_cli_check.specs.declared.drawing.TreeSource.TheVariants as source
 
@@ -21,13 +24,18 @@ tree_from source.Tree spelled = tree_in spelled
 tree_from source.GroupInfo spelled = info_tree_in spelled
 
 -- its picture, or the refusal
-abbrev pub picture_on : Option ℕ → Result Term ℕ → Page (List ℕ)
-picture_on columns (Ok t) = picture columns t
-picture_on columns (Err n) = refused n
+abbrev pub picture_by : Drawing → Term → Page (List ℕ)
+picture_by (Text columns) t = picture columns t
+picture_by Svg t = svg_picture t
 
-abbrev pub picture_from : TreeSource → Option ℕ → List ℕ → Page (List ℕ)
-picture_from source columns spelled = picture_on columns (tree_from source spelled)
+abbrev pub picture_on : Drawing → Result Term ℕ → Page (List ℕ)
+picture_on drawing (Ok t) = picture_by drawing t
+picture_on drawing (Err n) = refused n
+
+abbrev pub picture_from : TreeSource → Drawing → List ℕ → Page (List ℕ)
+picture_from source drawing spelled = picture_on drawing (tree_from source spelled)
 
 -- what is printed of a file's text
-abbrev pub draw_page : TreeSource → Option ℕ → Form → List ℕ → Page (List ℕ)
-draw_page source columns form text = page_of_bytes (picture_from source columns) (bytes_of_file form text)
+abbrev pub draw_page : TreeSource → Drawing → Form → List ℕ → Page (List ℕ)
+draw_page source drawing form text =
+    page_of_bytes (picture_from source drawing) (bytes_of_file form text)

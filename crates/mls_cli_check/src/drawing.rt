@@ -7,12 +7,12 @@ ghost use Rattle.mls_cli_text.specs.Form.{bytes_of_file};
 ghost use Rattle.mls_cli_text.specs.Page.{refused};
 ghost use Rattle.mls_cli_draw.specs.Picture.{DrawsPage};
 ghost use Rattle.mls_cli_check.specs.CheckFaults.{number_of};
-ghost use Rattle.mls_cli_check.specs.Drawing.{draw_page, info_tree_in, picture_from, picture_on, tree_from};
+ghost use Rattle.mls_cli_check.specs.Drawing.{draw_page, info_tree_in, picture_by, picture_from, picture_on, tree_from};
 
 use crate::check_error::CheckError;
 use crate::group_info::{group_info_in, sent_tree};
 use crate::tree::tree_in;
-use mls_cli_draw::{Row, picture};
+use mls_cli_draw::{Row, picture, svg_picture};
 use mls_cli_text::{FileError, Form, Page, file_bytes, refused_page};
 use mls_tree::PublicTree;
 use std::alloc::{AllocError, Global};
@@ -24,6 +24,15 @@ pub enum TreeSource {
     Tree,
     /// A GroupInfo message with its ratchet tree.
     GroupInfo,
+}
+
+/// How a tree is drawn.
+#[derive(Clone, Copy, Debug, PartialEq, Eq)]
+pub enum Drawing {
+    /// As text, each row cut to as many columns as are given.
+    Text(Option<usize>),
+    /// As an SVG file.
+    Svg,
 }
 
 /// Reads the tree of the GroupInfo that the bytes spell: refused with the fault of decoding (2 to 7, 11 to 14),
@@ -59,38 +68,48 @@ fn refused_picture(alloc: Global, error: CheckError) -> Result<Page<Row>, AllocE
     Ok(refused_page(alloc, error.number()))
 }
 
+/// The picture of a tree.
+fn picture_by(alloc: Global, drawing: Drawing, tree: &PublicTree) -> Result<Page<Row>, AllocError>
+    ensures { DrawsPage result (picture_by drawing (term tree.now)) }
+{
+    match drawing {
+        Drawing::Text(columns) => picture(alloc, tree, columns),
+        Drawing::Svg => svg_picture(alloc, tree),
+    }
+}
+
 /// The picture of the tree that the bytes have, or its refusal.
 fn picture_from(
     alloc: Global,
     source: TreeSource,
-    columns: Option<usize>,
+    drawing: Drawing,
     bytes: &[u8],
 ) -> Result<Page<Row>, AllocError>
-    ensures { DrawsPage result (picture_from source columns bytes.now) }
+    ensures { DrawsPage result (picture_from source drawing bytes.now) }
 {
     match tree_from(alloc, source, bytes) {
-        Ok(tree) => picture(alloc, &tree, columns),
+        Ok(tree) => picture_by(alloc, drawing, &tree),
         Err(error) => refused_picture(alloc, error),
     }
 }
 
-/// What is printed of a file's text: the picture of the tree that the file has, each row cut to as many columns as are
-/// given, or the refusal of the file (`NotHex` (8)), even when an allocation fails, then that of decoding (2 to 7, 11
-/// to 14), `WrongMessageKind` (95) and `NoTree` (76) of a GroupInfo, `TreeShape` (20) and `TreeFull` (21).
+/// What is printed of a file's text: the picture of the tree that the file has, drawn as is asked for, or the refusal of
+/// the file (`NotHex` (8)), even when an allocation fails, then that of decoding (2 to 7, 11 to 14), `WrongMessageKind`
+/// (95) and `NoTree` (76) of a GroupInfo, `TreeShape` (20) and `TreeFull` (21).
 pub fn draw_page(
     alloc: Global,
     source: TreeSource,
-    columns: Option<usize>,
+    drawing: Drawing,
     form: Form,
     text: &[u8],
 ) -> Result<Page<Row>, AllocError>
-    ensures page { DrawsPage result (draw_page source columns form text.now) }
+    ensures page { DrawsPage result (draw_page source drawing form text.now) }
     ensures not_hex { bytes_of_file form text.now ≡ None → IsOk result }
 {
     match form {
-        Form::Raw => picture_from(alloc, source, columns, text),
+        Form::Raw => picture_from(alloc, source, drawing, text),
         Form::Hex => match file_bytes(alloc, text) {
-            Ok(bytes) => picture_from(alloc, source, columns, bytes.as_slice()),
+            Ok(bytes) => picture_from(alloc, source, drawing, bytes.as_slice()),
             Err(FileError::NotHex) => Ok(refused_page(alloc, 8)),
             Err(FileError::OutOfMemory) => Err(AllocError),
         },

@@ -18,7 +18,7 @@ ghost use Rattle.mls_cli_check.specs.GroupInfo.{group_info_page};
 ghost use Rattle.mls_cli_check.specs.CheckFaults.{number_of, ChecksOutright};
 
 pub use check_error::CheckError;
-pub use drawing::{TreeSource, draw_page};
+pub use drawing::{Drawing, TreeSource, draw_page};
 pub use group_info::group_info_text;
 use hex::FromHexError;
 use mls_cli_text::{FileError, Form, Line, Page, file_bytes, is_hex, is_hex_file, refused_page};

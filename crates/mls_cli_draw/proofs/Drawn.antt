@@ -35,7 +35,7 @@ unfolding cut_nodes
 look_cut [] x = refl
 look_cut (c ∷ cs) x = look_before c (cut_nodes cs) cs x (look_cut cs)
 
-sent_node : (t : Term) (x : ℕ) → get_or (to_nodes t) x None ≡ node_at 0 t x
+pub sent_node : (t : Term) (x : ℕ) → get_or (to_nodes t) x None ≡ node_at 0 t x
 unfolding to_nodes
 sent_node t x =
     let here : 2 * 0 + x ≡ x = omega arith in

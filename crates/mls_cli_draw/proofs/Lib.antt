@@ -1,2 +1,4 @@
 mod Stems
 mod Drawn
+mod Subtrees
+mod Texts

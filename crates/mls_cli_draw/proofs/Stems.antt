@@ -1,5 +1,5 @@
 -- What stands before a node, where the number of leaves is known.
-use Rattle.std.proofs.Common.{◌≡◌, ◌∙◌, ◌<◌, ◌≤◌, ◌+◌, ◌-◌, ◌*◌, ◌/◌, ◌^◌, ◌==◌, ◌&&◌, ◌++◌, ℕ, zero, suc, nat_lt, Bool, true, false, List, [], Option, Result, Ok, Err, OnOk, if◌then◌else◌, is_ok, refl, ap, sym, true≢false, arith, append_assoc}
+use Rattle.std.proofs.Common.{◌≡◌, ◌∙◌, ◌<◌, ◌≤◌, ◌+◌, ◌-◌, ◌*◌, ◌/◌, ◌^◌, ◌&&◌, ◌++◌, ℕ, zero, suc, Bool, true, false, List, [], Option, Result, Ok, Err, OnOk, if◌then◌else◌, is_ok, refl, ap, sym, true≢false, arith, append_assoc}
 use Rattle.std.proofs.lemmas.Bool.{cond-true, cond-false, eq-eqb, ne_eqb, lt-ltb, le-ltb}
 use Rattle.mls_leaf.specs.Parent.{Parent}
 use Rattle.mls_tree_model.specs.Term.{Term, Leaf, Branch, is_perfect, size, width}
@@ -10,22 +10,22 @@ use Rattle.mls_cli_draw.specs.declared.stem.Side.TheVariants.{Over, Under}
 
 -- the halves of a perfect tree
 pub record Halves (l r : Term) (leaves : ℕ) : Type 0 where
-  below : ℕ
-  left : is_perfect below l ≡ true
-  right : is_perfect below r ≡ true
-  left_leaves : width l ≡ leaves / 2
-  right_leaves : width r ≡ leaves / 2
-  left_nodes : size l + 1 ≡ leaves
-  some : 1 < leaves
+  pub below : ℕ
+  pub left : is_perfect below l ≡ true
+  pub right : is_perfect below r ≡ true
+  pub left_leaves : width l ≡ leaves / 2
+  pub right_leaves : width r ≡ leaves / 2
+  pub left_nodes : size l + 1 ≡ leaves
+  pub some : 1 < leaves
 
-sides : (a b : Bool) → (a && b) ≡ true → (a ≡ true) × (b ≡ true)
+pub sides : (a b : Bool) → (a && b) ≡ true → (a ≡ true) × (b ≡ true)
 sides true b e = (refl, e)
 sides false b e = absurd (true≢false (sym e))
 
 half : (a b m s leaves : ℕ) → a ≡ m → b ≡ m → a + b ≡ leaves → s + 1 ≡ 2 * a → (a ≡ leaves / 2) × (b ≡ leaves / 2) × (s + 1 ≡ leaves) × (1 < leaves)
 half a b m s leaves e f w n = (omega arith, omega arith, omega arith, omega arith)
 
-halves : (h leaves : ℕ) (c : Option Parent) (l r : Term) → is_perfect h (Branch c l r) ≡ true → width (Branch c l r) ≡ leaves → Halves l r leaves
+pub halves : (h leaves : ℕ) (c : Option Parent) (l r : Term) → is_perfect h (Branch c l r) ≡ true → width (Branch c l r) ≡ leaves → Halves l r leaves
 unfolding is_perfect width
 halves zero leaves c l r p w = absurd (true≢false (sym p))
 halves (suc h) leaves c l r p w =
@@ -76,7 +76,7 @@ unfolding stem_below
 pushed_root side leaves x e h (Leaf v) p w = refl
 pushed_root side leaves x e h (Branch c l r) p w = sym (on_root side c l r leaves x (halves h leaves c l r p w).left_nodes e)
 
-one_leaf : (v : ℕ) (leaves : ℕ) → v ≡ leaves → v ≡ 1 → 1 < leaves → ⊥
+pub one_leaf : (v : ℕ) (leaves : ℕ) → v ≡ leaves → v ≡ 1 → 1 < leaves → ⊥
 one_leaf v leaves w e lt = omega (arith, w, e, lt)
 
 pub pushed_over : {T X : Type 0} (side : Side) (leaves x : ℕ) (old mid new : List ℕ) (q : Result T X) → 1 < leaves → x < leaves - 1 → mid ≡ old ++ beside side Over → ((h : ℕ) (t : Term) → is_perfect h t ≡ true → width t ≡ leaves / 2 → OnOk q (new ≡ mid ++ stem_below Over t x)) → (h : ℕ) (t : Term) → is_perfect h t ≡ true → width t ≡ leaves → OnOk q (new ≡ old ++ stem_below side t x)

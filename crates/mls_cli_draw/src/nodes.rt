@@ -29,7 +29,7 @@ fn is_readable(text: &[u8]) -> bool
 }
 
 /// Adds an identity: between quotes where all of its bytes are printable, else in hex.
-fn push_identity(
+pub(crate) fn push_identity(
     alloc: Global,
     characters: &mut Vec<char>,
     identity: &[u8],
@@ -63,7 +63,11 @@ fn push_leaf(
 }
 
 /// Adds each number behind a space.
-fn push_spaced(alloc: Global, characters: &mut Vec<char>, numbers: &[u32]) -> Result<(), AllocError>
+pub(crate) fn push_spaced(
+    alloc: Global,
+    characters: &mut Vec<char>,
+    numbers: &[u32],
+) -> Result<(), AllocError>
     ensures { OnOk result (characters.new.items ≡ characters.old.items ++ spaced_numbers numbers.now) }
 {
     for number in numbers {

@@ -30,7 +30,7 @@ impl Printed for Row {
 
 /// Cuts characters to so many columns: where there are more, the last column is dots.
 #[tactic(auto, unfolding(crate::specs::Picture::cut))]
-fn cut(mut characters: Vec<char>, columns: usize) -> Result<Vec<char>, AllocError>
+pub(crate) fn cut(mut characters: Vec<char>, columns: usize) -> Result<Vec<char>, AllocError>
     ensures { IfOk result (λ v. v.items ≡ cut columns characters.items) }
 {
     if columns == 0 {

@@ -13,7 +13,7 @@ const MISSING: &str =
 const OTHER: &str =
     "error: invalid value 'f002' for '--suite <SUITE>'\n  [possible values: f001, 0001]\n\nUsage: mls check [OPTIONS] <FILE>\n\nFor more information, try '--help'.\n";
 
-const LINES: &str =
+pub const LINES: &str =
     "leaves: 1\nmembers: 1\ntree_hash: 754879a771f78780e3bedb21d618103a3fa605220876b0115cf607c73d05b74c\nunmerged: ok\nparent_hashes: ok\nkeys: ok\nclients: ok\nrefused: 51 LeafSignature\n";
 
 const LINES_OF_SUITE_1: &str =

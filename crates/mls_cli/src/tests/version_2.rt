@@ -69,7 +69,7 @@ const MEMBERS: [&str; 3] = [
 ];
 
 /// The group with these texts as its lines in the end.
-fn group_with(alloc: Global, texts: &str) -> Result<String, AllocError> {
+pub fn group_with(alloc: Global, texts: &str) -> Result<String, AllocError> {
     format!(in alloc; "{GROUP}{texts}]}}")
 }
 

@@ -1,4 +1,5 @@
-use Rattle.mls_cli.proofs.Adding.{app_is, last_app, last_local, local_is}
+use Rattle.mls_cli.specs.Arguments.{with_draw_rules}
+use Rattle.mls_cli.proofs.Adding.{app_is, local_is, then_app}
 use Rattle.mls_cli.proofs.check_options.check_command.Goals as goal
 
 pub returns-clause-app : goal.returns-clause-app
@@ -7,7 +8,8 @@ returns-clause-app c =
     let two = app_is c.in_ok-with_group.ensures c.group_arg.ensures.local one c.group_arg.ensures.rule in
     let three = app_is c.in_ok-with_signatures.ensures c.flag_arg-signatures.ensures.local two c.flag_arg-signatures.ensures.rule in
     let four = app_is c.in_ok-with_info.ensures c.flag_arg-info.ensures.local three c.flag_arg-info.ensures.rule in
-    last_app c.arg-5.result c.in_ok-with_info.with_info c.flag_arg.result c.arg-5.ensures c.flag_arg.ensures.local four c.flag_arg.ensures.rule
+    let five = app_is c.in_ok-with_raw.ensures c.flag_arg-raw.ensures.local four c.flag_arg-raw.ensures.rule in
+    then_app c.with_draw.result with_draw_rules c.with_draw.ensures.app five
 
 pub returns-clause-local : goal.returns-clause-local
 returns-clause-local c =
@@ -15,4 +17,4 @@ returns-clause-local c =
     let two = local_is c.in_ok-with_group.ensures c.group_arg.ensures.local one in
     let three = local_is c.in_ok-with_signatures.ensures c.flag_arg-signatures.ensures.local two in
     let four = local_is c.in_ok-with_info.ensures c.flag_arg-info.ensures.local three in
-    last_local c.arg-5.result c.in_ok-with_info.with_info c.flag_arg.result c.arg-5.ensures c.flag_arg.ensures.local four
+    c.with_draw.ensures.local (local_is c.in_ok-with_raw.ensures c.flag_arg-raw.ensures.local four)

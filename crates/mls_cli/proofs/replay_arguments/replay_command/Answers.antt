@@ -1,4 +1,5 @@
-use Rattle.mls_cli.proofs.Adding.{app_is, last_app, last_local, local_is}
+use Rattle.mls_cli.specs.ReplayArguments.{with_picture_rules}
+use Rattle.mls_cli.proofs.Adding.{app_is, local_is, then_app}
 use Rattle.mls_cli.proofs.replay_arguments.replay_command.Goals as goal
 
 pub returns-clause-app : goal.returns-clause-app
@@ -7,7 +8,8 @@ returns-clause-app c =
     let two = app_is c.in_ok-with_message.ensures c.number_arg-message.ensures.local one c.number_arg-message.ensures.rule in
     let three = app_is c.in_ok-with_tree.ensures c.number_arg-tree.ensures.local two c.number_arg-tree.ensures.rule in
     let four = app_is c.in_ok-with_quiet.ensures c.flag_arg-quiet.ensures.local three c.flag_arg-quiet.ensures.rule in
-    last_app c.arg-5.result c.in_ok-with_quiet.with_quiet c.flag_arg-record.result c.arg-5.ensures c.flag_arg-record.ensures.local four c.flag_arg-record.ensures.rule
+    let five = app_is c.in_ok-with_record.ensures c.flag_arg-record.ensures.local four c.flag_arg-record.ensures.rule in
+    then_app c.with_picture.result with_picture_rules c.with_picture.ensures.app five
 
 pub returns-clause-local : goal.returns-clause-local
 returns-clause-local c =
@@ -15,4 +17,4 @@ returns-clause-local c =
     let two = local_is c.in_ok-with_message.ensures c.number_arg-message.ensures.local one in
     let three = local_is c.in_ok-with_tree.ensures c.number_arg-tree.ensures.local two in
     let four = local_is c.in_ok-with_quiet.ensures c.flag_arg-quiet.ensures.local three in
-    last_local c.arg-5.result c.in_ok-with_quiet.with_quiet c.flag_arg-record.result c.arg-5.ensures c.flag_arg-record.ensures.local four
+    c.with_picture.ensures.local (local_is c.in_ok-with_record.ensures c.flag_arg-record.ensures.local four)

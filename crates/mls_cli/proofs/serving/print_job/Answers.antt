@@ -1,6 +1,7 @@
+use Rattle.std.proofs.Common.{Ok}
 use Rattle.mls_cli.proofs.Reading.{prints_read}
 use Rattle.mls_cli.proofs.serving.print_job.Goals as goal
 
-pub returns-clause-prints : goal.returns-clause-prints
-returns-clause-prints g c =
-    prints_read _ c.args.job.now _ _ _ _ c.print_text.result c.as_slice.ensures.value c.in_ok-text.ensures.text c.print_text.ensures.prints
+pub returns-in-Ok-clause-prints : goal.returns-in-Ok-clause-prints
+returns-in-Ok-clause-prints g c =
+    prints_read _ c.args.job.now _ _ _ _ (Ok c.in-Ok.status) c.as_slice.ensures.value c.in_ok-text.ensures.text c.in-Ok.ensures.prints

@@ -3,7 +3,6 @@ use Rattle.mls_cli_text.proofs.Pages.{made_prints}
 use Rattle.mls_cli_text.specs.Text.{entry_of, line_text}
 use Rattle.mls_cli_vectors.specs.VectorsReport.{entry_of as report_entry_of, entry_text}
 use Rattle.mls_cli_replay.proofs.PrintLaws.{prints_it}
-use Rattle.mls_cli.specs.Serving.{IsPrintout}
 use Rattle.mls_cli.proofs.serving.print_text.Goals as goal
 
 pub returns-in-Show-clause-prints : goal.returns-in-Show-clause-prints
@@ -21,3 +20,7 @@ returns-in-CheckGroupInfo-clause-prints g c =
 pub returns-in-Vectors-clause-prints : goal.returns-in-Vectors-clause-prints
 returns-in-Vectors-clause-prints g c =
     rw c.in-Vectors.is (prints_it _ _ _ _ _ refl (made_prints entry_text report_entry_of _ _ c.vectors_page.result _ _ c.vectors_page.ensures.page c.print_made_page-in-Vectors.ensures.prints))
+
+pub returns-in-Draw-clause-prints : goal.returns-in-Draw-clause-prints
+returns-in-Draw-clause-prints g c =
+    rw c.in-Draw.is (prints_it _ _ _ _ _ refl c.print_drawing.ensures.prints)

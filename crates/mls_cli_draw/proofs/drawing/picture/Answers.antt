@@ -2,7 +2,6 @@ use Rattle.std.proofs.Common.{◌≡◌, ◌∙◌, ◌-◌, ◌*◌, ap, sym, m
 use Rattle.std.specs.List.{range_with_len}
 use Rattle.mls_tree.specs.Tree.{term}
 use Rattle.mls_tree.proofs.Perfect.{perfect_levels}
-use Rattle.mls_tree_model.specs.Term.{size}
 use Rattle.mls_cli_text.specs.Page.{good}
 use Rattle.mls_cli_draw.specs.Picture.{picture, row}
 use Rattle.mls_cli_draw.proofs.Drawn.{all_nodes, one_row, some_leaf}

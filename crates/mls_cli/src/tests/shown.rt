@@ -1,0 +1,187 @@
+//! What `mls show --full` prints, and what `--raw` reads, by way of `serve`.
+
+use crate::tests::check::LINES;
+use crate::tests::serve_file;
+use std::test::Fail;
+
+/// A commit of a remove, a reference and a list of extensions, with a path of two nodes.
+const COMMIT: &str =
+    "00010001016700000000000000000100000000000314010003000000020202abcd01000705f0010268690101aa01cc000103626f6202000102f00100000200010302abcd0001dd0e01bb0801ee01ff01e001f001ba0001aa01cc01bb";
+
+const COMMIT_LINES: &str = "message: public_message
+bytes: 92
+group_id: 67
+epoch: 0
+sender: 0
+authenticated_data: -
+content: commit
+proposals: 3
+path_nodes: 2
+signature: aa
+confirmation_tag: cc
+membership_tag: bb
+";
+
+const FULL_COMMIT_LINES: &str = "message: public_message
+bytes: 92
+group_id: 67
+epoch: 0
+sender: 0
+authenticated_data: -
+content: commit
+proposals: 3
+proposal.0.kind: remove
+proposal.0.removed: 2
+proposal.1.kind: reference
+proposal.1.reference: abcd
+proposal.2.kind: group_context_extensions
+proposal.2.extension: f001 6869
+path_nodes: 2
+path.leaf.encryption_key: aa
+path.leaf.signature_key: cc
+path.leaf.identity: 626f62
+path.leaf.versions: 0001
+path.leaf.cipher_suites: f001
+path.leaf.extensions: -
+path.leaf.proposals: -
+path.leaf.credentials: 0001
+path.leaf.source: commit
+path.leaf.parent_hash: abcd
+path.leaf.signature: dd
+path.0.encryption_key: bb
+path.0.ciphertexts: 2
+path.1.encryption_key: ba
+path.1.ciphertexts: 0
+signature: aa
+confirmation_tag: cc
+membership_tag: bb
+";
+
+/// A GroupInfo with an extension, whose tree has a leaf, a parent and a blank place.
+const GROUP_INFO: &str =
+    "000100040001f0010167000000000000000001110005f0010268692f00022c2b010101aa01cc000103626f6202000102f00100000200010302abcd0001dd010201b002abcd04000000010001cc0000000301dd";
+
+const FULL_GROUP_INFO_LINES: &str = "message: group_info
+bytes: 83
+cipher_suite: f001
+group_id: 67
+epoch: 0
+tree_hash: 11
+confirmed_transcript_hash: -
+extension: f001 6869
+tree_nodes: 3
+node.0.kind: leaf
+node.0.leaf.encryption_key: aa
+node.0.leaf.signature_key: cc
+node.0.leaf.identity: 626f62
+node.0.leaf.versions: 0001
+node.0.leaf.cipher_suites: f001
+node.0.leaf.extensions: -
+node.0.leaf.proposals: -
+node.0.leaf.credentials: 0001
+node.0.leaf.source: commit
+node.0.leaf.parent_hash: abcd
+node.0.leaf.signature: dd
+node.1.kind: parent
+node.1.encryption_key: b0
+node.1.parent_hash: abcd
+node.1.unmerged_leaves: 1
+node.2.kind: blank
+confirmation_tag: cc
+signer: 3
+signature: dd
+";
+
+const WELCOME: &str = "00010003f0010702abcd01ee01ff03010203";
+
+const FULL_WELCOME_LINES: &str = "message: welcome
+bytes: 18
+cipher_suite: f001
+new_members: 1
+new_member: abcd
+new_member.0.kem_output: ee
+new_member.0.ciphertext: ff
+group_info_bytes: 3
+";
+
+#[test]
+fn shows_in_full(rt: HostRuntime) -> Result<(), Fail> {
+    let alloc = rt.alloc();
+    let full: &[&str] = &["mls", "show", "FILE", "--full"];
+    let table: [(&[&str], &str, u8, &str); 6] = [
+        (&["mls", "show", "FILE"], COMMIT, 0, COMMIT_LINES),
+        (full, COMMIT, 0, FULL_COMMIT_LINES),
+        (full, GROUP_INFO, 0, FULL_GROUP_INFO_LINES),
+        (full, WELCOME, 0, FULL_WELCOME_LINES),
+        (full, "00010003f001", 1, "refused: 2 Truncated\n"),
+        (full, "0", 1, "refused: 8 NotHex\n"),
+    ];
+    for (words, file, status, text) in table {
+        let (answer, out) = serve_file(alloc, words, file.as_bytes())?;
+        assert_eq!(rt; answer, status, "for {file}");
+        assert!(rt; out.as_slice() == text.as_bytes(), "for {file}");
+    }
+    Ok(())
+}
+
+/// The bytes of the Welcome.
+const WELCOME_BYTES: &[u8] =
+    b"\x00\x01\x00\x03\xf0\x01\x07\x02\xab\xcd\x01\xee\x01\xff\x03\x01\x02\x03";
+
+/// Those of `examples/tree.hex`.
+const TREE_BYTES: &[u8] =
+    b"\x2b\x01\x01\x01\xbb\x01\xcc\x00\x01\x03bob\x02\x00\x01\x02\xf0\x01\x00\x00\x02\x00\x01\x01\x00\x00\x00\x00\x00\x00\x00\x00\xff\xff\xff\xff\xff\xff\xff\xff\x00\x01\xdd";
+
+#[test]
+fn reads_bytes(rt: HostRuntime) -> Result<(), Fail> {
+    let alloc = rt.alloc();
+    let show: &[&str] = &["mls", "show", "FILE", "--raw"];
+    let check: &[&str] = &["mls", "check", "--raw", "FILE"];
+    let table: [(&[&str], &[u8], u8, &str); 8] = [
+        (
+            &["mls", "show", "--raw", "FILE", "--full"],
+            WELCOME_BYTES,
+            0,
+            FULL_WELCOME_LINES,
+        ),
+        (
+            show,
+            b"\x00\x01\x00\x03\xf0\x01".as_slice(),
+            1,
+            "refused: 2 Truncated\n",
+        ),
+        // Hex digits are bytes like others, and so are blanks.
+        (
+            show,
+            b"00010003f0010000".as_slice(),
+            1,
+            "refused: 7 BadTag\n",
+        ),
+        (
+            show,
+            b"\x00\x01\x00\x03\xf0\x01\x00\x00\n".as_slice(),
+            1,
+            "refused: 3 Trailing\n",
+        ),
+        (check, TREE_BYTES, 1, LINES),
+        (check, b"\x00".as_slice(), 1, "refused: 20 TreeShape\n"),
+        (
+            &["mls", "check", "--raw", "--draw", "FILE"],
+            TREE_BYTES,
+            0,
+            "■ 0 \"bob\"\n",
+        ),
+        (
+            &["mls", "check", "--raw", "--group-info", "FILE"],
+            WELCOME_BYTES,
+            1,
+            "refused: 95 WrongMessageKind\n",
+        ),
+    ];
+    for (words, file, status, text) in table {
+        let (answer, out) = serve_file(alloc, words, file)?;
+        assert_eq!(rt; answer, status, "for {text}");
+        assert!(rt; out.as_slice() == text.as_bytes(), "for {text}");
+    }
+    Ok(())
+}
