@@ -35,7 +35,8 @@ says P = fex P (λ _. ftrue)
 -- the handle at p holds x: its box, or nothing at null
 abbrev pub held_at : Ptr → Held → Fml
 held_at null_ptr x = says (x ≡ Nothing)
-held_at (block_ptr b o) x = fex Global (λ a. box_owns (ghosts.dealloc_token a) the_row (block_ptr b o) x)
+held_at (block_ptr b o) x =
+    fex Global (λ a. box_owns (ghosts.dealloc_token a) the_row (block_ptr b o) x)
 
 -- what freeing a handle answers
 abbrev pub freed_number : Ptr → ℕ
@@ -46,7 +47,8 @@ freed_number (block_ptr b o) = 0
 abbrev pub bytes_at : Share → Ptr → ℕ → List ℕ → Fml
 bytes_at q null_ptr length xs = says (xs ≡ [])
 bytes_at q (block_ptr b o) length xs =
-    fsep (says (Testable (block_ptr b o) × (length < 2 ^ 63))) (lies_at (Array u8 length) q (block_ptr b o) xs)
+    fsep (says (Testable (block_ptr b o) × (length < 2 ^ 63)))
+    (lies_at (Array u8 length) q (block_ptr b o) xs)
 
 -- room for an R at p, or p is null
 abbrev pub room_if : RattleType → Ptr → Fml
@@ -62,7 +64,8 @@ number_put (block_ptr b o) n = lies_at u64 full_share (block_ptr b o) n
 abbrev pub handle_put : Ptr → Option Held → Fml
 handle_put null_ptr made = ftrue
 handle_put (block_ptr b o) made = fex (Ptr × Global) (λ s.
-    fsep (lies_at RawPtr full_share (block_ptr b o) s.0) (loose_owns (ghosts.dealloc_token s.1) the_row s.0 made))
+    fsep (lies_at RawPtr full_share (block_ptr b o) s.0)
+    (loose_owns (ghosts.dealloc_token s.1) the_row s.0 made))
 
 -- ---- what a call leaves
 abbrev pub made_of : Result Fruit ℕ → Option Held
@@ -84,8 +87,8 @@ number_answered (Err n) = n
 
 abbrev pub IsParted : Result Fruit ℕ → Parts → Type 0
 IsParted outcome p =
-    (boxed p.made ≡ made_of outcome) × (boxed p.other ≡ other_of outcome) × (p.value ≡ value_of outcome)
-    × (p.answer ≡ number_answered outcome)
+    (boxed p.made ≡ made_of outcome) × (boxed p.other ≡ other_of outcome)
+    × (p.value ≡ value_of outcome) × (p.answer ≡ number_answered outcome)
 
 -- ---- a whole call
 
@@ -104,7 +107,18 @@ pub record Passed : Type 0 where
 
 -- nowhere
 abbrev pub nowhere : Passed
-nowhere = record { handle = null_ptr; first = null_ptr; first_length = 0; second = null_ptr; second_length = 0; third = null_ptr; third_length = 0; made = null_ptr; other = null_ptr; value = null_ptr }
+nowhere = record {
+  handle = null_ptr;
+  first = null_ptr;
+  first_length = 0;
+  second = null_ptr;
+  second_length = 0;
+  third = null_ptr;
+  third_length = 0;
+  made = null_ptr;
+  other = null_ptr;
+  value = null_ptr;
+}
 
 -- what lies there before
 pub record Asked : Type 0 where
@@ -122,7 +136,8 @@ texts_at at asked =
 abbrev pub asked_at : Passed → Asked → Fml
 asked_at at asked =
     fsep (held_at at.handle asked.held)
-    (fsep (texts_at at asked) (fsep (room_if RawPtr at.made) (fsep (room_if RawPtr at.other) (room_if u64 at.value))))
+    (fsep (texts_at at asked)
+    (fsep (room_if RawPtr at.made) (fsep (room_if RawPtr at.other) (room_if u64 at.value))))
 
 -- the copies of the bytes, and what the call did with them
 abbrev pub Outcome : Type 0
@@ -130,9 +145,11 @@ Outcome = Result (Vec ℕ) ℕ × Result (Vec ℕ) ℕ × Result (Vec ℕ) ℕ �
 
 abbrev pub HasAnswered : Call → ℕ → Passed → Asked → ℕ → Outcome → Type 0
 HasAnswered call number at asked answer o =
-    IsGiven at.first at.first_length asked.first.1 o.0 × IsGiven at.second at.second_length asked.second.1 o.1
+    IsGiven at.first at.first_length asked.first.1 o.0
+    × IsGiven at.second at.second_length asked.second.1 o.1
     × IsGiven at.third at.third_length asked.third.1 o.2
-    × DoesCall call number (shown asked.held) (given_bytes o.0) (given_bytes o.1) (given_bytes o.2) o.3
+    × DoesCall call number (shown asked.held)
+    (given_bytes o.0) (given_bytes o.1) (given_bytes o.2) o.3
     × (answer ≡ number_answered o.3.outcome)
 
 abbrev pub left_at : Passed → Asked → Done → Fml
@@ -140,8 +157,10 @@ left_at at asked done =
     fsep (held_at at.handle done.held)
     (fsep (texts_at at asked)
     (fsep (handle_put at.made (made_of done.outcome))
-    (fsep (handle_put at.other (other_of done.outcome)) (number_put at.value (value_of done.outcome)))))
+    (fsep (handle_put at.other (other_of done.outcome))
+    (number_put at.value (value_of done.outcome)))))
 
 abbrev pub answered_at : Call → ℕ → Passed → Asked → ℕ → Fml
 answered_at call number at asked answer =
-    fex Outcome (λ o. fsep (says (HasAnswered call number at asked answer o)) (left_at at asked o.3))
+    fex Outcome (λ o.
+    fsep (says (HasAnswered call number at asked answer o)) (left_at at asked o.3))
