@@ -51,20 +51,20 @@ taken_more [] i rest = refl
 taken_more (x ∷ xs) i rest = ap (λ (l : List ProposalOrRef). listed_of x ∷ l) (taken_more xs i rest)
 
 -- the items and the rest are all of the list
-pub record AreTaken (list rest : List ProposalOrRef) (items : List Item) : Type 0 where
-  pub list : lists items ++ rest ≡ list
+pub record AreTaken (all rest : List ProposalOrRef) (items : List Item) : Type 0 where
+  pub list : lists items ++ rest ≡ all
   pub short : AreShortItems items
   pub left : AreShortListed rest
 
-pub taken_first : (list : List ProposalOrRef) → AreShortListed list → AreTaken list list []
-taken_first list short = record { list = refl; short = tt; left = short }
+pub taken_first : (all : List ProposalOrRef) → AreShortListed all → AreTaken all all []
+taken_first all short = record { list = refl; short = tt; left = short }
 
-pub taken_step : (list rest : List ProposalOrRef) (x : ProposalOrRef) (items : List Item) (i : Item) → listed_of i ≡ x → IsShortItem i → AreTaken list (x ∷ rest) items → AreTaken list rest (items ++ i ∷ [])
-taken_step list rest x items i is short b = record {
+pub taken_step : (all rest : List ProposalOrRef) (x : ProposalOrRef) (items : List Item) (i : Item) → listed_of i ≡ x → IsShortItem i → AreTaken all (x ∷ rest) items → AreTaken all rest (items ++ i ∷ [])
+taken_step all rest x items i is short b = record {
   list = taken_more items i rest ∙ ap (λ (p : ProposalOrRef). lists items ++ (p ∷ rest)) is ∙ b.list;
   short = all_behind IsShortItem items i b.short short;
   left = b.left.1;
 }
 
-pub taken_end : (list : List ProposalOrRef) (items : List Item) → AreTaken list [] items → lists items ≡ list
-taken_end list items b = sym (append-nil (lists items)) ∙ b.list
+pub taken_end : (all : List ProposalOrRef) (items : List Item) → AreTaken all [] items → lists items ≡ all
+taken_end all items b = sym (append-nil (lists items)) ∙ b.list
