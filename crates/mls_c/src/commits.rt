@@ -1,24 +1,24 @@
 //! Calls that commit.
 
-ghost use Rattle.std.specs.Prelude.{◌≡◌, not, nat_eq, option_map, map, IfOk, MatchResult};
+ghost use Rattle.std.specs.Prelude.{◌≡◌, option_map, map, IfOk};
 ghost use Rattle.mls_wire.specs.Checks.{Answers};
 ghost use Rattle.mls_model.specs.Make.{listed_of};
 ghost use Rattle.mls_member.specs.Answers.{IsShortItem, AreShortItems};
 ghost use Rattle.mls_c.specs.Calls.{Changes, Does, committed, committed_list, member_commit, member_commit_kept, on_member, some_proposals};
 ghost use Rattle.mls_c.specs.Given.{text};
-ghost use Rattle.mls_c.specs.Listing.{IsShortListed, AreShortListed};
+ghost use Rattle.mls_c.specs.Listing.{IsShortListed, AreShortListed, ListsItems};
 ghost use Rattle.mls_c.specs.Shown.{shown};
 ghost use Rattle.mls_c.specs.declared.held.Held.TheVariants.{Nothing};
 
 use crate::done::{Done, Fruit};
-use crate::given::{Given, OUT_OF_MEMORY, copy_of};
+use crate::given::{Given, OUT_OF_MEMORY};
 use crate::held::Held;
 use crate::make::{room, two};
 use crate::taken::{given, seed_of, take_member};
 use mls::{Bytes, Item, Member, Suite0001};
 use mls_leaf::{Codec, Items};
 use mls_types::ProposalOrRef;
-use std::alloc::Global;
+use std::alloc::{AllocError, Global};
 
 /// A Welcome, if there is one, as a byte string.
 fn text_of(welcome: Option<Vec<u8>>) -> Option<Bytes>
@@ -87,27 +87,24 @@ fn list_of(alloc: Global, proposals: &Given) -> Result<Items<ProposalOrRef>, u32
     }
 }
 
-/// A proposal of a commit's list, as a commit call takes it, or `OutOfMemory` (1).
-fn item_of(alloc: Global, listed: &ProposalOrRef) -> Result<Item, u32>
+/// A proposal of a commit's list, as a commit call takes it.
+fn item_of(alloc: Global, listed: &ProposalOrRef) -> Result<Item, AllocError>
     requires { IsShortListed listed.now }
-    ensures item { MatchResult result (λ i. listed_of i ≡ listed.now) (λ n. n ≡ 1) }
+    ensures item { IfOk result (λ i. listed_of i ≡ listed.now) }
     ensures short { IfOk result IsShortItem }
 {
     match listed {
-        ProposalOrRef::Proposal(proposal) => match proposal.clone() {
-            Ok(proposal) => Ok(Item::Full(proposal)),
-            Err(_) => Err(OUT_OF_MEMORY),
-        },
+        ProposalOrRef::Proposal(proposal) => Ok(Item::Full(proposal.clone()?)),
         ProposalOrRef::Reference(reference) => {
-            Ok(Item::Ref(copy_of(alloc, reference.as_slice())?))
+            Ok(Item::Ref(Vec::from_slice(alloc, reference.as_slice())?))
         }
     }
 }
 
-/// A commit's list, as a commit call takes it, or `OutOfMemory` (1).
-fn items_of(alloc: Global, list: &[ProposalOrRef]) -> Result<Vec<Item>, u32>
+/// A commit's list, as a commit call takes it.
+fn items_of(alloc: Global, list: &[ProposalOrRef]) -> Result<Vec<Item>, AllocError>
     requires { AreShortListed list.now }
-    ensures items { MatchResult result (λ v. map listed_of v.items ≡ list.now) (λ n. n ≡ 1) }
+    ensures items { IfOk result (λ v. map listed_of v.items ≡ list.now) }
     ensures short { IfOk result (λ v. AreShortItems v.items) }
 {
     let mut items = Vec::new(alloc);
@@ -115,11 +112,21 @@ fn items_of(alloc: Global, list: &[ProposalOrRef]) -> Result<Vec<Item>, u32>
     while let Some((listed, later)) = rest.split_first() {
         rest = later;
         let item = item_of(alloc, listed)?;
-        if items.push(item).is_err() {
-            return Err(OUT_OF_MEMORY);
-        }
+        items.push(item)?;
     }
     Ok(items)
+}
+
+/// The list of a commit in bytes, as a commit call takes it.
+fn given_items(alloc: Global, proposals: &Given) -> Result<Vec<Item>, u32>
+    ensures items { ListsItems (some_proposals (text proposals.now)) result }
+    ensures short { IfOk result (λ v. AreShortItems v.items) }
+{
+    let list = list_of(alloc, proposals)?;
+    match items_of(alloc, list.as_slice()) {
+        Ok(items) => Ok(items),
+        Err(_) => Err(OUT_OF_MEMORY),
+    }
 }
 
 /// A commit of a list.
@@ -133,8 +140,7 @@ fn committed_list(
 ) -> Result<Fruit, u32>
     ensures { Changes (committed_list (text proposals.now) path (text seed.now) member.old) member.old member.new result }
 {
-    let list = list_of(alloc, proposals)?;
-    let items = items_of(alloc, list.as_slice())?;
+    let items = given_items(alloc, proposals)?;
     let seed = seed_of(seed)?;
     let commit_room = room(alloc)?;
     let welcome_room = room(alloc)?;

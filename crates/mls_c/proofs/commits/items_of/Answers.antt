@@ -14,7 +14,7 @@ item_of-requires c =
 
 pub loop-listed-preserved : goal.loop-listed-preserved
 loop-listed-preserved c =
-    subst (λ (l : List Item). AreTaken c.args.list.now c.in-Some.later.now l) (sym c.push.ensures.items)
+    subst (λ (l : List Item). AreTaken c.args.list.now c.in-Some.later.now l) (sym c.in_ok-push.ensures.items)
     (taken_step c.args.list.now c.in-Some.later.now c.in-Some.listed.now c.loop-listed.items.items c.in_ok-item.item c.in_ok-item.ensures.item c.in_ok-item.ensures.short
     (subst (λ (l : List ProposalOrRef). AreTaken c.args.list.now l c.loop-listed.items.items) c.in-Some.ensures.cases.0 c.loop-listed.invariant))
 
