@@ -3,7 +3,8 @@
  *     random COUNT [SEED [CHANCE]]
  *
  * It makes COUNT calls, frees what is left, and prints how many calls were good, how many were refused, and of these how
- * many for want of memory. Messages that calls made are passed on, some with a bit turned. Where CHANCE isn't 0, each
+ * many for want of memory. Messages that calls made are passed on, some with a bit turned; now and then a candidate is
+ * added and joins, a message goes to all members, and what is sealed to all conversations. Where CHANCE isn't 0, each
  * allocation of the library fails with a chance of 1 in CHANCE. The program ends with status 1 where a call answers 0 and
  * makes no handle that is due, or makes one where it is refused; where a handle is null or of another kind, and the answer
  * isn't 130 or 131, or 1; or where a member that refused a call isn't saved as before.
@@ -122,6 +123,26 @@ static struct text list(void) {
     return next(2) == 0 ? (struct text){removal, sizeof removal} : given();
 }
 
+/* The list of a commit that adds the client of a KeyPackage's message in full. */
+static struct text addition(struct text message) {
+    static uint8_t room[ROOM];
+    if (message.length >= 1 << 14) {
+        return message;
+    }
+    size_t length = message.length - 4 + 3;
+    const uint8_t head[] = {(uint8_t)(0x40 | length >> 8), (uint8_t)length, 1, 0, 1};
+    memcpy(room, head, sizeof head);
+    memcpy(room + sizeof head, message.bytes + 4, message.length - 4);
+    return (struct text){room, length + 2};
+}
+
+/* Extensions of a group, or any bytes. */
+static struct text extensions(void) {
+    static uint8_t one[] = {4, 0xf0, 1, 1, 0};
+    one[4] = (uint8_t)next(256);
+    return next(2) == 0 ? (struct text){one, sizeof one} : given();
+}
+
 /* A number: mostly a small one. */
 static uint64_t number(uint64_t below) { return next(16) == 0 ? UINT64_MAX - next(3) : next(below); }
 
@@ -217,7 +238,7 @@ static uint32_t ask_member(struct slot on, struct made *made) {
 }
 
 static uint32_t change_member(struct slot on, struct made *made) {
-    struct text a = given(), l = list(), s = seed();
+    struct text a = given(), l = list(), e = extensions(), s = seed();
     uint64_t told = 0;
     switch (next(10)) {
     case 0:
@@ -227,7 +248,7 @@ static uint32_t change_member(struct slot on, struct made *made) {
     case 2:
         return mls_member_propose_remove(on.handle, number(4), &made->bytes);
     case 3:
-        return mls_member_propose_extensions(on.handle, a.bytes, a.length, &made->bytes);
+        return mls_member_propose_extensions(on.handle, e.bytes, e.length, &made->bytes);
     case 4:
         return mls_member_commit(on.handle, l.bytes, l.length, next(2), s.bytes, s.length, &made->bytes, &made->other);
     case 5:
@@ -283,14 +304,22 @@ static bool is_same(struct text a, struct text b) {
     return a.length == b.length && (a.length == 0 || memcmp(a.bytes, b.bytes, a.length) == 0);
 }
 
+/* Counts a call, and answers whether it was good. */
+static bool is_good(uint32_t answer) {
+    is_refusing = false;
+    *(answer == 0 ? &good : &refused) += 1;
+    without_memory += answer == 1;
+    return answer == 0;
+}
+
 /* A call on a handle, whose refusal changes nothing. */
-static uint32_t call_on(struct slot on, enum kind wanted, uint32_t (*call)(struct slot, struct made *)) {
+static void call_on(struct slot on, enum kind wanted, uint32_t (*call)(struct slot, struct made *)) {
     struct made made = {{NULL, NOTHING}, NULL, NULL};
     bool compares = next(8) == 0;
     struct text before = compares ? saved(on) : (struct text){NULL, 0};
     is_refusing = true;
     uint32_t answer = call(on, &made);
-    is_refusing = false;
+    is_good(answer);
     if (answer != 0 && (made.slot.handle != NULL || made.bytes != NULL || made.other != NULL)) {
         fail("something was made", answer);
     }
@@ -313,27 +342,128 @@ static uint32_t call_on(struct slot on, enum kind wanted, uint32_t (*call)(struc
     }
     keep_bytes(made.bytes);
     keep_bytes(made.other);
-    return answer;
 }
 
-static uint32_t call_any(void) {
-    switch (next(12)) {
+/* ---- several calls */
+
+/* What a call made is kept as one of the texts, which it answers. */
+static struct text put(mls_bytes *made) {
+    struct text *text = &texts[next(TEXTS)];
+    free(text->bytes);
+    return *text = taken(made);
+}
+
+/* A member adds a candidate, which joins. */
+static void grow(void) {
+    struct slot maker = one(MEMBER), joiner = one(CANDIDATE);
+    mls_bytes *package = NULL, *commit = NULL, *welcome = NULL;
+    mls_member *joined = NULL;
+    struct text s = seed();
+    uint64_t told = 0;
+    is_refusing = true;
+    if (!is_good(mls_candidate_key_package(joiner.handle, &package))) {
+        return;
+    }
+    struct text list = addition(put(package));
+    is_refusing = true;
+    if (!is_good(mls_member_commit(maker.handle, list.bytes, list.length, next(2), s.bytes, s.length, &commit, &welcome))) {
+        return;
+    }
+    struct text message = taken(commit), invitation = taken(welcome);
+    is_refusing = true;
+    is_good(mls_member_process(maker.handle, message.bytes, message.length, &told));
+    is_refusing = true;
+    is_good(mls_member_join(joiner.handle, invitation.bytes, invitation.length, &joined));
+    free(message.bytes);
+    free(invitation.bytes);
+    if (joined != NULL) {
+        keep((struct slot){joined, MEMBER});
+    }
+}
+
+/* A message goes to all members. */
+static void spread(void) {
+    struct text message = given();
+    uint64_t told = 0;
+    for (size_t i = 0; i < SLOTS; i++) {
+        if (slots[i].kind == MEMBER) {
+            is_refusing = true;
+            is_good(mls_member_process(slots[i].handle, message.bytes, message.length, &told));
+        }
+    }
+}
+
+/* A conversation for each member, then what one seals goes to all. */
+static void talk(void) {
+    struct text data = given(), s = seed();
+    mls_bytes *made = NULL;
+    mls_conversation *all[SLOTS] = {NULL};
+    size_t speaker = next(SLOTS);
+    for (size_t i = 0; i < SLOTS; i++) {
+        if (slots[i].kind == MEMBER) {
+            is_refusing = true;
+            is_good(mls_conversation_new(slots[i].handle, &all[i]));
+        }
+    }
+    for (size_t i = 0; i < SLOTS && all[speaker] == NULL; i++) {
+        speaker = (speaker + 1) % SLOTS;
+    }
+    is_refusing = true;
+    if (is_good(mls_conversation_seal(all[speaker], data.bytes, data.length, NULL, 0, next(9), s.bytes, s.length, &made))) {
+        struct text message = put(made);
+        for (size_t i = 0; i < SLOTS; i++) {
+            if (i == speaker) {
+                continue;
+            }
+            uint64_t sender = 0;
+            made = NULL;
+            is_refusing = true;
+            is_good(mls_conversation_open(all[i], message.bytes, message.length, &made, NULL, &sender));
+            if (made != NULL) {
+                struct text heard = taken(made);
+                if (!is_same(heard, data)) {
+                    fail("something else was heard", 0);
+                }
+                free(heard.bytes);
+            }
+        }
+    }
+    for (size_t i = 0; i < SLOTS; i++) {
+        mls_free(all[i]);
+    }
+}
+
+static void call_any(void) {
+    switch (next(40) == 0 ? 12 + next(3) : next(12)) {
+    case 12:
+        grow();
+        return;
+    case 13:
+        spread();
+        return;
+    case 14:
+        talk();
+        return;
     case 0:
     case 1:
-        return call_on(one(CANDIDATE), NOTHING, call_candidate);
+        call_on(one(CANDIDATE), NOTHING, call_candidate);
+        return;
     case 2:
     case 3:
     case 4:
-        return call_on(one(MEMBER), MEMBER, ask_member);
+        call_on(one(MEMBER), MEMBER, ask_member);
+        return;
     case 5:
     case 6:
     case 7:
     case 8:
-        return call_on(one(MEMBER), MEMBER, change_member);
+        call_on(one(MEMBER), MEMBER, change_member);
+        return;
     case 9:
-        return call_on(one(CONVERSATION), CONVERSATION, call_conversation);
+        call_on(one(CONVERSATION), CONVERSATION, call_conversation);
+        return;
     default:
-        return call_on(any(), NOTHING, call_other);
+        call_on(any(), NOTHING, call_other);
     }
 }
 
@@ -341,10 +471,8 @@ int main(int count, char **words) {
     uint64_t calls = count > 1 ? strtoull(words[1], NULL, 10) : 1000;
     state = (count > 2 ? strtoull(words[2], NULL, 10) : 1) * 2654435761u | 1;
     chance = count > 3 ? strtoull(words[3], NULL, 10) : 0;
-    for (uint64_t i = 0; i < calls; i++) {
-        uint32_t answer = call_any();
-        *(answer == 0 ? &good : &refused) += 1;
-        without_memory += answer == 1;
+    while (good + refused < calls) {
+        call_any();
     }
     for (size_t i = 0; i < SLOTS; i++) {
         if (slots[i].handle != NULL) {
