@@ -4,7 +4,9 @@
                   write, read: write and read
                   cut: write, of which the Nth moves one byte, and the one after it fails
    REFUSE_NUMBER  N, from 1
-   REFUSE_FILE    a file of 16 bytes, two counts: the calls that were counted, and of these those that failed
+   REFUSE_FILE    a file of 16 or 24 bytes, two or three counts: the calls that were counted, of these those that failed,
+                  and the blocks that were taken and aren't freed
+   REFUSE_OBJECT  where it is set, the loaded file whose name ends so, which stands for the program's file
    REFUSE_BEGIN, REFUSE_END
                   where they are set, calls count only behind a write that begins with the first text and before one
                   that begins with the second
@@ -27,6 +29,7 @@ void *__libc_malloc(size_t size);
 void *__libc_calloc(size_t count, size_t size);
 void *__libc_realloc(void *block, size_t size);
 void *__libc_memalign(size_t alignment, size_t size);
+void __libc_free(void *block);
 ssize_t __write(int file, const void *bytes, size_t size);
 ssize_t __read(int file, void *bytes, size_t size);
 
@@ -34,15 +37,21 @@ enum kind { NOTHING, GROWTH, WRITE, CUT, READ };
 
 static enum kind kind = NOTHING;
 static uint64_t number;
-/* The calls that were counted, and those that failed. */
+/* The calls that were counted, those that failed, and the blocks that are held. */
 static uint64_t *counts;
-static const char *begin_text, *end_text;
+static const char *begin_text, *end_text, *object;
 static int counting;
 /* Where the program's code begins and ends. */
 static uintptr_t first_address, last_address;
 
+static int ends_with(const char *name, const char *end) {
+  size_t length = strlen(name), tail = strlen(end);
+  return length >= tail && !strcmp(name + length - tail, end);
+}
+
 static int keep_program(struct dl_phdr_info *info, size_t size, void *data) {
   (void)size, (void)data;
+  if (object && !ends_with(info->dlpi_name, object)) return 0;
   for (int i = 0; i < info->dlpi_phnum; i++) {
     const ElfW(Phdr) *part = &info->dlpi_phdr[i];
     if (part->p_type != PT_LOAD || !(part->p_flags & PF_X)) continue;
@@ -50,7 +59,7 @@ static int keep_program(struct dl_phdr_info *info, size_t size, void *data) {
     if (!last_address || begin < first_address) first_address = begin;
     if (end > last_address) last_address = end;
   }
-  return 1; /* The first object is the program, and the others aren't looked at. */
+  return 1; /* The first object is the program, and the others aren't looked at, unless one is named. */
 }
 
 static enum kind kind_of(const char *word) {
@@ -64,9 +73,10 @@ __attribute__((constructor)) static void prepare(void) {
   const char *word = getenv("REFUSE_KIND"), *nth = getenv("REFUSE_NUMBER"), *path = getenv("REFUSE_FILE");
   if (!word || !nth || !path) return;
   int file = open(path, O_RDWR);
-  void *place = mmap(NULL, 2 * sizeof *counts, PROT_READ | PROT_WRITE, MAP_SHARED, file, 0);
+  void *place = mmap(NULL, 3 * sizeof *counts, PROT_READ | PROT_WRITE, MAP_SHARED, file, 0);
   if (file < 0 || place == MAP_FAILED) _exit(125);
   close(file);
+  object = getenv("REFUSE_OBJECT");
   dl_iterate_phdr(keep_program, NULL);
   begin_text = getenv("REFUSE_BEGIN");
   end_text = getenv("REFUSE_END");
@@ -77,6 +87,7 @@ __attribute__((constructor)) static void prepare(void) {
 }
 
 static int is_ours(const void *address) {
+  if (object && !last_address) dl_iterate_phdr(keep_program, NULL); /* It may be loaded later. */
   return first_address <= (uintptr_t)address && (uintptr_t)address < last_address;
 }
 
@@ -93,16 +104,31 @@ static void *no_memory(void) {
   return NULL;
 }
 
+/* Counts a block that code at this address took, and answers it. */
+static void *taken(void *block, const void *address) {
+  if (block && kind == GROWTH && is_ours(address)) counts[2]++;
+  return block;
+}
+
 void *malloc(size_t size) {
-  return fails(GROWTH, __builtin_return_address(0)) ? no_memory() : __libc_malloc(size);
+  const void *address = __builtin_return_address(0);
+  return fails(GROWTH, address) ? no_memory() : taken(__libc_malloc(size), address);
 }
 
 void *calloc(size_t count, size_t size) {
-  return fails(GROWTH, __builtin_return_address(0)) ? no_memory() : __libc_calloc(count, size);
+  const void *address = __builtin_return_address(0);
+  return fails(GROWTH, address) ? no_memory() : taken(__libc_calloc(count, size), address);
 }
 
 void *realloc(void *block, size_t size) {
-  return fails(GROWTH, __builtin_return_address(0)) ? no_memory() : __libc_realloc(block, size);
+  const void *address = __builtin_return_address(0);
+  if (fails(GROWTH, address)) return no_memory();
+  return block ? __libc_realloc(block, size) : taken(__libc_realloc(block, size), address);
+}
+
+void free(void *block) {
+  if (block && kind == GROWTH && is_ours(__builtin_return_address(0))) counts[2]--;
+  __libc_free(block);
 }
 
 void *aligned_alloc(size_t alignment, size_t size) {

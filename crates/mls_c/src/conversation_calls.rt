@@ -1,0 +1,108 @@
+//! Exports of the calls on conversations.
+
+ghost use types.Logic.{sem};
+ghost use Rattle.mls_c.specs.Memory.{Asked, asked_at, answered_at};
+ghost use Rattle.mls_c.specs.Passing.{makes_at, opens_at, seals_at};
+ghost use Rattle.mls_c.specs.declared.call.Call.TheVariants.{ConversationNew, ConversationSeal, ConversationOpen};
+
+use crate::call::Call;
+use crate::held::Handle;
+use crate::run::run;
+use std::alloc::Global;
+use std::ptr::{null, null_mut};
+
+/// The conversation of a member in its epoch, in which no key was used yet (RFC 9420, 9).
+#[unsafe(no_mangle)]
+pub unsafe extern "C" fn mls_conversation_new(
+    alloc: Global,
+    member: *mut Handle,
+    conversation: *mut *mut Handle,
+) -> u32
+    ghost asked: { Asked }
+    requires* memory { sem 𝓛 (asked_at (makes_at member conversation) asked) }
+    ensures* memory { sem 𝓛 (answered_at ConversationNew 0 (makes_at member conversation) asked result) }
+{
+    run(
+        alloc,
+        Call::ConversationNew,
+        0,
+        member,
+        null(),
+        0,
+        null(),
+        0,
+        null(),
+        0,
+        conversation,
+        null_mut(),
+        null_mut(),
+    )
+}
+
+/// A sealed message of application data, with authenticated data that isn't encrypted and so many bytes of padding
+/// (RFC 9420, 6.3).
+#[unsafe(no_mangle)]
+pub unsafe extern "C" fn mls_conversation_seal(
+    alloc: Global,
+    conversation: *mut Handle,
+    application_data: *const u8,
+    application_data_length: usize,
+    authenticated_data: *const u8,
+    authenticated_data_length: usize,
+    padding: u64,
+    seed: *const u8,
+    seed_length: usize,
+    message: *mut *mut Handle,
+) -> u32
+    ghost asked: { Asked }
+    requires* memory { sem 𝓛 (asked_at (seals_at conversation application_data application_data_length authenticated_data authenticated_data_length seed seed_length message) asked) }
+    ensures* memory { sem 𝓛 (answered_at ConversationSeal padding (seals_at conversation application_data application_data_length authenticated_data authenticated_data_length seed seed_length message) asked result) }
+{
+    run(
+        alloc,
+        Call::ConversationSeal,
+        padding,
+        conversation,
+        application_data,
+        application_data_length,
+        authenticated_data,
+        authenticated_data_length,
+        seed,
+        seed_length,
+        message,
+        null_mut(),
+        null_mut(),
+    )
+}
+
+/// The data and the authenticated data of a message, and its sender's leaf (RFC 9420, 6.3).
+#[unsafe(no_mangle)]
+pub unsafe extern "C" fn mls_conversation_open(
+    alloc: Global,
+    conversation: *mut Handle,
+    message: *const u8,
+    message_length: usize,
+    application_data: *mut *mut Handle,
+    authenticated_data: *mut *mut Handle,
+    sender: *mut u64,
+) -> u32
+    ghost asked: { Asked }
+    requires* memory { sem 𝓛 (asked_at (opens_at conversation message message_length application_data authenticated_data sender) asked) }
+    ensures* memory { sem 𝓛 (answered_at ConversationOpen 0 (opens_at conversation message message_length application_data authenticated_data sender) asked result) }
+{
+    run(
+        alloc,
+        Call::ConversationOpen,
+        0,
+        conversation,
+        message,
+        message_length,
+        null(),
+        0,
+        null(),
+        0,
+        application_data,
+        authenticated_data,
+        sender,
+    )
+}

@@ -1,0 +1,145 @@
+//! Calls on conversations.
+
+ghost use Rattle.std.specs.Prelude.{◌≡◌};
+ghost use Rattle.mls_c.specs.Calls.{Changes, Does, Makes, a_seed, conversation_new, conversation_open, conversation_seal, made_conversation, on_conversation, opened, sealed};
+ghost use Rattle.mls_c.specs.Given.{text};
+ghost use Rattle.mls_c.specs.Shown.{shown};
+ghost use Rattle.mls_c.specs.declared.held.Held.TheVariants.{Nothing};
+
+use crate::done::{Done, Fruit};
+use crate::given::Given;
+use crate::held::Held;
+use crate::make::{fill, fill_bytes, room, two};
+use crate::taken::{given, member_of, seed_of, take_conversation};
+use mls::{Conversation, Suite0001};
+use std::alloc::Global;
+
+/// The conversation of a member, in a handle.
+#[tactic(auto, unfolding(crate::specs::Calls::made_conversation))]
+fn made_conversation(alloc: Global, held: &Held) -> Result<Fruit, u32>
+    ensures { Makes (made_conversation (shown held.now)) result }
+{
+    let member = member_of(held)?;
+    let room = room(alloc)?;
+    match Conversation::<Suite0001>::of(alloc, member) {
+        Ok(conversation) => Ok(fill(room, Held::Conversation(conversation))),
+        Err(error) => Err(error.number() as u32),
+    }
+}
+
+/// The conversation of a member.
+#[tactic(auto, unfolding(crate::specs::Calls::conversation_new))]
+pub(crate) fn conversation_new(alloc: Global, held: Held) -> Done
+    ensures does { Does (conversation_new (shown held)) (shown held) result }
+    ensures stays { held ≡ Nothing → result.held ≡ Nothing }
+{
+    let outcome = made_conversation(alloc, &held);
+    Done { held, outcome }
+}
+
+/// A sealed message of a conversation.
+#[tactic(auto, unfolding(crate::specs::Calls::sealed))]
+fn sealed(
+    alloc: Global,
+    conversation: &mut Conversation<Suite0001>,
+    padding: u64,
+    application_data: &Given,
+    authenticated_data: &Given,
+    seed: &Given,
+) -> Result<Fruit, u32>
+    ensures { Changes (sealed (text application_data.now) (text authenticated_data.now) padding (text seed.now) conversation.old) conversation.old conversation.new result }
+{
+    let application_data = given(application_data)?;
+    let authenticated_data = given(authenticated_data)?;
+    let seed = seed_of(seed)?;
+    let room = room(alloc)?;
+    match conversation.seal(
+        application_data,
+        authenticated_data,
+        padding as usize,
+        &seed,
+    ) {
+        Ok(message) => Ok(fill_bytes(room, message)),
+        Err(error) => Err(error.number() as u32),
+    }
+}
+
+/// A sealed message of a handle's conversation.
+#[tactic(auto, unfolding(crate::specs::Calls::conversation_seal, crate::specs::Calls::on_conversation, crate::specs::Calls::a_conversation))]
+pub(crate) fn conversation_seal(
+    alloc: Global,
+    held: Held,
+    padding: u64,
+    application_data: &Given,
+    authenticated_data: &Given,
+    seed: &Given,
+) -> Done
+    ensures does { Does (conversation_seal (shown held) padding (text application_data.now) (text authenticated_data.now) (text seed.now)) (shown held) result }
+    ensures stays { held ≡ Nothing → result.held ≡ Nothing }
+{
+    match take_conversation(held) {
+        Ok(mut conversation) => {
+            let outcome = sealed(
+                alloc,
+                &mut conversation,
+                padding,
+                application_data,
+                authenticated_data,
+                seed,
+            );
+            Done {
+                held: Held::Conversation(conversation),
+                outcome,
+            }
+        }
+        Err((held, number)) => Done {
+            held,
+            outcome: Err(number),
+        },
+    }
+}
+
+/// What a conversation opens of a message. All memory is taken before it is opened, so that no key is lost.
+#[tactic(auto, unfolding(crate::specs::Calls::opened))]
+fn opened(
+    alloc: Global,
+    conversation: &mut Conversation<Suite0001>,
+    message: &Given,
+) -> Result<Fruit, u32>
+    ensures { Changes (opened (text message.now) conversation.old) conversation.old conversation.new result }
+{
+    let message = given(message)?;
+    let data_room = room(alloc)?;
+    let authenticated_room = room(alloc)?;
+    match conversation.open(message) {
+        Ok(opened) => Ok(two(
+            data_room,
+            authenticated_room,
+            opened.application_data,
+            Some(opened.authenticated_data),
+            opened.leaf_index as u64,
+        )),
+        Err(error) => Err(error.number() as u32),
+    }
+}
+
+/// What the conversation of a handle opens of a message.
+#[tactic(auto, unfolding(crate::specs::Calls::conversation_open, crate::specs::Calls::on_conversation, crate::specs::Calls::a_conversation))]
+pub(crate) fn conversation_open(alloc: Global, held: Held, message: &Given) -> Done
+    ensures does { Does (conversation_open (shown held) (text message.now)) (shown held) result }
+    ensures stays { held ≡ Nothing → result.held ≡ Nothing }
+{
+    match take_conversation(held) {
+        Ok(mut conversation) => {
+            let outcome = opened(alloc, &mut conversation, message);
+            Done {
+                held: Held::Conversation(conversation),
+                outcome,
+            }
+        }
+        Err((held, number)) => Done {
+            held,
+            outcome: Err(number),
+        },
+    }
+}

@@ -1,0 +1,61 @@
+//! Bytes into a buffer of C's.
+
+ghost use Rattle.std.specs.Prelude.{◌≡◌};
+ghost use types.Logic.{sem};
+ghost use Rattle.mls_c.specs.Calls.{Copies, copied_bytes};
+ghost use Rattle.mls_c.specs.Memory.{held_at};
+ghost use Rattle.mls_c.specs.Shown.{shown};
+ghost use Rattle.mls_c.specs.declared.held.Held.{Held};
+
+use crate::error::MisuseError;
+use crate::held::{Handle, Held};
+use crate::pointer::{let_go, nothing, swapped};
+use crate::taken::bytes_of;
+
+/// What the handle holds after a copy, and what the call answers.
+#[derive(Drop)]
+pub struct Copied {
+    /// What the handle holds.
+    pub held: Held,
+    /// What the call answers.
+    pub answer: u32,
+}
+
+/// Copies bytes into a buffer of just their length.
+#[tactic(auto, unfolding(crate::specs::Calls::copied_bytes))]
+fn filled(held: &Held, buffer: &mut [u8]) -> u32
+    ensures { Copies (shown held.now) buffer.old buffer.new result }
+{
+    match bytes_of(held) {
+        Ok(bytes) => {
+            if bytes.len() != buffer.len() {
+                return MisuseError::BufferLength.number();
+            }
+            buffer.copy_from_slice(bytes);
+            0
+        }
+        Err(number) => number,
+    }
+}
+
+/// Copies what is held into a buffer of just its length.
+pub(crate) fn copy_out(held: Held, buffer: &mut [u8]) -> Copied
+    ensures held { result.held ≡ held }
+    ensures value { Copies (shown held) buffer.old buffer.new result.answer }
+{
+    let answer = filled(&held, buffer);
+    Copied { held, answer }
+}
+
+/// Copies the bytes of a handle into a buffer of just their length.
+pub(crate) unsafe fn copy_bytes(at: *mut Handle, buffer: &mut [u8]) -> u32
+    ghost held: { Held }
+    requires* memory { sem 𝓛 (held_at at held) }
+    ensures value { Copies (shown held) buffer.old buffer.new result }
+    ensures* memory { sem 𝓛 (held_at at held) }
+{
+    let held = swapped(at, nothing());
+    let Copied { held, answer } = copy_out(held, buffer);
+    let_go(swapped(at, held));
+    answer
+}

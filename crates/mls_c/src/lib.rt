@@ -1,0 +1,145 @@
+//! The library for C under suite 0x0001: an export for each call of an application. Each answers the number of a refusal,
+//! 0 where it is good; after a refusal its handle is as before.
+#![tactic(auto)]
+
+mod answered;
+mod call;
+mod candidate_calls;
+mod candidates;
+mod commits;
+mod conversation_calls;
+mod conversations;
+mod copying;
+mod done;
+mod error;
+mod given;
+mod held;
+mod loose;
+mod make;
+mod member_calls;
+mod members;
+mod names;
+mod pointer;
+mod run;
+mod saved;
+mod seen;
+mod taken;
+
+ghost use Rattle.std.specs.Prelude.{◌≡◌};
+ghost use types.Logic.{sem};
+ghost use Rattle.mls_c.specs.Calls.{Copies};
+ghost use Rattle.mls_c.specs.Shown.{shown};
+ghost use Rattle.mls_c.specs.Memory.{Asked, asked_at, answered_at, freed_number, held_at};
+ghost use Rattle.mls_c.specs.Passing.{names_at, tells_at};
+ghost use Rattle.mls_c.specs.declared.held.Held.{Held};
+ghost use Rattle.mls_c.specs.declared.call.Call.TheVariants.{BytesLength, BytesAt, RefusalName};
+
+use call::Call;
+use copying::copy_bytes;
+pub use held::Handle;
+use pointer::freed;
+use run::run;
+use std::alloc::Global;
+use std::ptr::{null, null_mut};
+
+/// Frees a handle, and answers 0, or `NullHandle` (130).
+#[unsafe(no_mangle)]
+pub unsafe extern "C" fn mls_free(alloc: Global, handle: *mut Handle) -> u32
+    ghost held: { Held }
+    requires* memory { sem 𝓛 (held_at handle held) }
+    ensures { result ≡ freed_number handle }
+{
+    freed(alloc, handle)
+}
+
+/// Copies bytes into a buffer of just their length: `BufferLength` (135) where it has another, and is as it was.
+#[unsafe(no_mangle)]
+pub unsafe extern "C" fn mls_bytes_copy(bytes: *mut Handle, buffer: &mut [u8]) -> u32
+    ghost held: { Held }
+    requires* memory { sem 𝓛 (held_at bytes held) }
+    ensures value { Copies (shown held) buffer.old buffer.new result }
+    ensures* memory { sem 𝓛 (held_at bytes held) }
+{
+    copy_bytes(bytes, buffer)
+}
+
+/// The length of bytes.
+#[unsafe(no_mangle)]
+pub unsafe extern "C" fn mls_bytes_length(
+    alloc: Global,
+    bytes: *mut Handle,
+    length: *mut u64,
+) -> u32
+    ghost asked: { Asked }
+    requires* memory { sem 𝓛 (asked_at (tells_at bytes length) asked) }
+    ensures* memory { sem 𝓛 (answered_at BytesLength 0 (tells_at bytes length) asked result) }
+{
+    run(
+        alloc,
+        Call::BytesLength,
+        0,
+        bytes,
+        null(),
+        0,
+        null(),
+        0,
+        null(),
+        0,
+        null_mut(),
+        null_mut(),
+        length,
+    )
+}
+
+/// The byte at an index of bytes, or `BufferLength` (135).
+#[unsafe(no_mangle)]
+pub unsafe extern "C" fn mls_bytes_at(
+    alloc: Global,
+    bytes: *mut Handle,
+    index: u64,
+    byte: *mut u64,
+) -> u32
+    ghost asked: { Asked }
+    requires* memory { sem 𝓛 (asked_at (tells_at bytes byte) asked) }
+    ensures* memory { sem 𝓛 (answered_at BytesAt index (tells_at bytes byte) asked result) }
+{
+    run(
+        alloc,
+        Call::BytesAt,
+        index,
+        bytes,
+        null(),
+        0,
+        null(),
+        0,
+        null(),
+        0,
+        null_mut(),
+        null_mut(),
+        byte,
+    )
+}
+
+/// The name of a refusal, by its number; no bytes where no refusal has it.
+#[unsafe(no_mangle)]
+pub unsafe extern "C" fn mls_refusal_name(alloc: Global, number: u64, name: *mut *mut Handle) -> u32
+    ghost asked: { Asked }
+    requires* memory { sem 𝓛 (asked_at (names_at name) asked) }
+    ensures* memory { sem 𝓛 (answered_at RefusalName number (names_at name) asked result) }
+{
+    run(
+        alloc,
+        Call::RefusalName,
+        number,
+        null_mut(),
+        null(),
+        0,
+        null(),
+        0,
+        null(),
+        0,
+        name,
+        null_mut(),
+        null_mut(),
+    )
+}

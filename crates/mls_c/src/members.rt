@@ -1,0 +1,271 @@
+//! Calls that change a member.
+
+ghost use Rattle.std.specs.Prelude.{◌≡◌};
+ghost use Rattle.mls_wire.specs.Checks.{Answers, AnswersOutright};
+ghost use Rattle.mls_c.specs.Calls.{Changes, Does, a_package, added, effect_number, member_process, member_propose_add, member_propose_update, on_member, package_in, processed, updated, removed, member_propose_remove, dropped, member_drop_pending, extended, some_extensions, member_propose_extensions};
+ghost use Rattle.mls_model.specs.Messages.{decode_message};
+ghost use Rattle.mls_c.specs.Given.{text};
+ghost use Rattle.mls_c.specs.Shown.{fruits, shown};
+ghost use Rattle.mls_c.specs.declared.held.Held.TheVariants.{Nothing};
+
+use crate::done::{Done, Fruit};
+use crate::error::MisuseError;
+use crate::given::{Given, OUT_OF_MEMORY};
+use crate::held::Held;
+use crate::make::{fill_bytes, number, room};
+use crate::taken::{given, leaf_of, seed_of, take_member};
+use mls::{Effect, GroupExtensions, KeyPackage, Member, MlsMessage, ShortKeyPackage, Suite0001};
+use mls_leaf::Codec;
+use std::alloc::Global;
+
+/// What a message did, as a number.
+fn effect_number(effect: Effect) -> u64
+    ensures { result ≡ effect_number effect }
+{
+    match effect {
+        Effect::Proposed { reference: _ } => 1,
+        Effect::Known { reference: _ } => 2,
+        Effect::Advanced { epoch: _ } => 3,
+        Effect::Removed => 4,
+    }
+}
+
+/// What a message does to a member.
+#[tactic(auto, unfolding(crate::specs::Calls::processed))]
+fn processed(member: &mut Member<Suite0001>, message: &Given) -> Result<Fruit, u32>
+    ensures { Changes (processed (text message.now) member.old) member.old member.new result }
+{
+    let message = given(message)?;
+    match member.process(message) {
+        Ok(effect) => Ok(number(effect_number(effect))),
+        Err(error) => Err(error.number() as u32),
+    }
+}
+
+/// What a message does to the member of a handle.
+#[tactic(auto, unfolding(crate::specs::Calls::member_process, crate::specs::Calls::on_member, crate::specs::Calls::a_member))]
+pub(crate) fn member_process(held: Held, message: &Given) -> Done
+    ensures does { Does (member_process (shown held) (text message.now)) (shown held) result }
+    ensures stays { held ≡ Nothing → result.held ≡ Nothing }
+{
+    match take_member(held) {
+        Ok(mut member) => {
+            let outcome = processed(&mut member, message);
+            Done {
+                held: Held::Member(member),
+                outcome,
+            }
+        }
+        Err((held, number)) => Done {
+            held,
+            outcome: Err(number),
+        },
+    }
+}
+
+/// The KeyPackage in a message.
+#[tactic(auto, unfolding(crate::specs::Calls::package_in))]
+fn package_in(message: MlsMessage) -> Result<KeyPackage, u32>
+    ensures { Answers (λ k. k) (λ n. n) (package_in message) result }
+{
+    match message {
+        MlsMessage::KeyPackage(key_package) => Ok(key_package),
+        MlsMessage::PublicMessage(_) => Err(MisuseError::NotKeyPackage.number()),
+        MlsMessage::Welcome(_) => Err(MisuseError::NotKeyPackage.number()),
+        MlsMessage::GroupInfo(_) => Err(MisuseError::NotKeyPackage.number()),
+    }
+}
+
+/// A proposal of a new key for a member's leaf.
+#[tactic(auto, unfolding(crate::specs::Calls::updated))]
+fn updated(alloc: Global, member: &mut Member<Suite0001>, seed: &Given) -> Result<Fruit, u32>
+    ensures { Changes (updated (text seed.now) member.old) member.old member.new result }
+{
+    let seed = seed_of(seed)?;
+    let room = room(alloc)?;
+    match member.propose_update(&seed) {
+        Ok(message) => Ok(fill_bytes(room, message)),
+        Err(error) => Err(error.number() as u32),
+    }
+}
+
+/// A proposal of a new key for the leaf of a handle's member.
+#[tactic(auto, unfolding(crate::specs::Calls::member_propose_update, crate::specs::Calls::on_member, crate::specs::Calls::a_member))]
+pub(crate) fn member_propose_update(alloc: Global, held: Held, seed: &Given) -> Done
+    ensures does { Does (member_propose_update (shown held) (text seed.now)) (shown held) result }
+    ensures stays { held ≡ Nothing → result.held ≡ Nothing }
+{
+    match take_member(held) {
+        Ok(mut member) => {
+            let outcome = updated(alloc, &mut member, seed);
+            Done {
+                held: Held::Member(member),
+                outcome,
+            }
+        }
+        Err((held, number)) => Done {
+            held,
+            outcome: Err(number),
+        },
+    }
+}
+
+/// The message that bytes spell.
+#[tactic(auto, using(crate::proofs::Decoded::not_decoded, crate::proofs::Decoded::decoded))]
+fn message_of(alloc: Global, bytes: &[u8]) -> Result<MlsMessage, u32>
+    ensures { Answers (λ m. m) (λ n. n) (decode_message bytes.now) result }
+{
+    match MlsMessage::decode(alloc, bytes) {
+        Ok(message) => Ok(message),
+        Err(error) => Err(error.number() as u32),
+    }
+}
+
+/// The KeyPackage in bytes. One that was decoded is short, so what refuses it then is memory alone.
+#[tactic(auto, unfolding(crate::specs::Calls::a_package))]
+fn package_of(alloc: Global, bytes: &Given) -> Result<ShortKeyPackage, u32>
+    ensures { Answers (λ k. k) (λ n. n) (a_package (text bytes.now)) result }
+{
+    let bytes = given(bytes)?;
+    let message = message_of(alloc, bytes)?;
+    let key_package = package_in(message)?;
+    match ShortKeyPackage::new(alloc, key_package) {
+        Ok(short) => Ok(short),
+        Err(_) => Err(OUT_OF_MEMORY),
+    }
+}
+
+/// A proposal to add a KeyPackage.
+#[tactic(auto, unfolding(crate::specs::Calls::added))]
+fn added(alloc: Global, member: &mut Member<Suite0001>, key_package: &Given) -> Result<Fruit, u32>
+    ensures { Changes (added (text key_package.now) member.old) member.old member.new result }
+{
+    let key_package = package_of(alloc, key_package)?;
+    let room = room(alloc)?;
+    match member.propose_add(key_package.as_key_package()) {
+        Ok(message) => Ok(fill_bytes(room, message)),
+        Err(error) => Err(error.number() as u32),
+    }
+}
+
+/// A proposal to add a KeyPackage, of a handle's member.
+#[tactic(auto, unfolding(crate::specs::Calls::member_propose_add, crate::specs::Calls::on_member, crate::specs::Calls::a_member))]
+pub(crate) fn member_propose_add(alloc: Global, held: Held, key_package: &Given) -> Done
+    ensures does { Does (member_propose_add (shown held) (text key_package.now)) (shown held) result }
+    ensures stays { held ≡ Nothing → result.held ≡ Nothing }
+{
+    match take_member(held) {
+        Ok(mut member) => {
+            let outcome = added(alloc, &mut member, key_package);
+            Done {
+                held: Held::Member(member),
+                outcome,
+            }
+        }
+        Err((held, number)) => Done {
+            held,
+            outcome: Err(number),
+        },
+    }
+}
+
+/// A proposal to remove a leaf.
+#[tactic(auto, unfolding(crate::specs::Calls::removed))]
+fn removed(alloc: Global, member: &mut Member<Suite0001>, leaf: u64) -> Result<Fruit, u32>
+    ensures { Changes (removed leaf member.old) member.old member.new result }
+{
+    let leaf = leaf_of(leaf)?;
+    let room = room(alloc)?;
+    match member.propose_remove(leaf) {
+        Ok(message) => Ok(fill_bytes(room, message)),
+        Err(error) => Err(error.number() as u32),
+    }
+}
+
+/// A proposal to remove a leaf, of a handle's member.
+#[tactic(auto, unfolding(crate::specs::Calls::member_propose_remove, crate::specs::Calls::on_member, crate::specs::Calls::a_member))]
+pub(crate) fn member_propose_remove(alloc: Global, held: Held, leaf: u64) -> Done
+    ensures does { Does (member_propose_remove (shown held) leaf) (shown held) result }
+    ensures stays { held ≡ Nothing → result.held ≡ Nothing }
+{
+    match take_member(held) {
+        Ok(mut member) => {
+            let outcome = removed(alloc, &mut member, leaf);
+            Done {
+                held: Held::Member(member),
+                outcome,
+            }
+        }
+        Err((held, number)) => Done {
+            held,
+            outcome: Err(number),
+        },
+    }
+}
+
+/// The pending commit of a handle's member is forgotten.
+#[tactic(auto, unfolding(crate::specs::Calls::member_drop_pending, crate::specs::Calls::on_member, crate::specs::Calls::a_member, crate::specs::Calls::dropped))]
+pub(crate) fn member_drop_pending(held: Held) -> Done
+    ensures does { Does (member_drop_pending (shown held)) (shown held) result }
+    ensures stays { held ≡ Nothing → result.held ≡ Nothing }
+{
+    match take_member(held) {
+        Ok(mut member) => {
+            let had = if member.drop_pending() { 1 } else { 0 };
+            Done {
+                held: Held::Member(member),
+                outcome: Ok(number(had)),
+            }
+        }
+        Err((held, number)) => Done {
+            held,
+            outcome: Err(number),
+        },
+    }
+}
+
+/// The extensions in bytes.
+#[tactic(auto, using(crate::proofs::Decoded::fault_of), unfolding(crate::specs::Calls::some_extensions))]
+fn extensions_of(alloc: Global, extensions: &Given) -> Result<GroupExtensions, u32>
+    ensures { Answers (λ xs. xs) (λ n. n) (some_extensions (text extensions.now)) result }
+{
+    let bytes = given(extensions)?;
+    match GroupExtensions::decode(alloc, bytes) {
+        Ok(extensions) => Ok(extensions),
+        Err(error) => Err(error.number() as u32),
+    }
+}
+
+/// A proposal that the group carry extensions.
+#[tactic(auto, unfolding(crate::specs::Calls::extended))]
+fn extended(alloc: Global, member: &mut Member<Suite0001>, extensions: &Given) -> Result<Fruit, u32>
+    ensures { Changes (extended (text extensions.now) member.old) member.old member.new result }
+{
+    let room = room(alloc)?;
+    let extensions = extensions_of(alloc, extensions)?;
+    match member.propose_extensions(extensions) {
+        Ok(message) => Ok(fill_bytes(room, message)),
+        Err(error) => Err(error.number() as u32),
+    }
+}
+
+/// A proposal that the group carry extensions, of a handle's member.
+#[tactic(auto, unfolding(crate::specs::Calls::member_propose_extensions, crate::specs::Calls::on_member, crate::specs::Calls::a_member))]
+pub(crate) fn member_propose_extensions(alloc: Global, held: Held, extensions: &Given) -> Done
+    ensures does { Does (member_propose_extensions (shown held) (text extensions.now)) (shown held) result }
+    ensures stays { held ≡ Nothing → result.held ≡ Nothing }
+{
+    match take_member(held) {
+        Ok(mut member) => {
+            let outcome = extended(alloc, &mut member, extensions);
+            Done {
+                held: Held::Member(member),
+                outcome,
+            }
+        }
+        Err((held, number)) => Done {
+            held,
+            outcome: Err(number),
+        },
+    }
+}

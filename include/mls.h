@@ -1,0 +1,143 @@
+/* A library for Messaging Layer Security (RFC 9420) under cipher suite 0x0001.
+ *
+ * A handle points to what the library made; only the library looks into it, and mls_free frees it. One thread at a time
+ * uses a handle, and none after its free. Bytes go in as a pointer and a length, and the library copies them; they come
+ * out as a handle of bytes. A seed is 32 random bytes, used once.
+ *
+ * Each call answers 0, or the number of a refusal, as docs/REFUSALS.md lists them: then its handle holds what it held
+ * before, and the handles that it would write are null, the number 0. A place to write to may be null, where what comes
+ * there isn't wanted. Whatever bytes come, no call ends the process.
+ */
+#ifndef MLS_H
+#define MLS_H
+
+#include <stddef.h>
+#include <stdint.h>
+
+#ifdef __cplusplus
+extern "C" {
+#endif
+
+typedef struct mls_bytes mls_bytes;
+typedef struct mls_candidate mls_candidate;
+typedef struct mls_member mls_member;
+typedef struct mls_conversation mls_conversation;
+
+/* What mls_member_process did. */
+enum mls_effect {
+    MLS_PROPOSED = 1, /* A proposal is kept. */
+    MLS_KNOWN = 2,    /* The proposal was kept already. */
+    MLS_ADVANCED = 3, /* A commit was followed into the next epoch. */
+    MLS_REMOVED = 4   /* A commit removed the member. */
+};
+
+/* Frees a handle of any kind; a null one answers 130. */
+uint32_t mls_free(void *handle);
+
+/* The name of a refusal, by its number; no bytes where no refusal has it. */
+uint32_t mls_refusal_name(uint64_t number, mls_bytes **name);
+
+/* The length of bytes. */
+uint32_t mls_bytes_length(mls_bytes *bytes, uint64_t *length);
+
+/* The byte at an index of bytes, or 135 where there is none. */
+uint32_t mls_bytes_at(mls_bytes *bytes, uint64_t index, uint64_t *byte);
+
+/* Copies bytes into a buffer of their length; one of another length answers 135, and stays as it is. */
+uint32_t mls_bytes_copy(mls_bytes *bytes, uint8_t *buffer, size_t buffer_length);
+
+/* Makes a candidate for membership, of an identity and a seed. */
+uint32_t mls_candidate_new(const uint8_t *identity, size_t identity_length, const uint8_t *seed, size_t seed_length,
+                           mls_candidate **candidate);
+
+/* The message of a candidate's KeyPackage, for those who are to add it. */
+uint32_t mls_candidate_key_package(mls_candidate *candidate, mls_bytes **message);
+
+/* Saves a candidate as bytes, which hold its secrets. */
+uint32_t mls_candidate_save(mls_candidate *candidate, mls_bytes **saved);
+
+/* Makes the candidate that was saved so. */
+uint32_t mls_candidate_load(const uint8_t *saved, size_t saved_length, mls_candidate **candidate);
+
+/* Makes a group of a candidate alone; the seed is its first secret. */
+uint32_t mls_member_create(mls_candidate *candidate, const uint8_t *group_id, size_t group_id_length,
+                           const uint8_t *seed, size_t seed_length, mls_member **member);
+
+/* Makes the member that a Welcome makes of a candidate. */
+uint32_t mls_member_join(mls_candidate *candidate, const uint8_t *welcome, size_t welcome_length, mls_member **member);
+
+/* Saves a member as bytes, which hold its secrets: its group, its keys, the proposals that it keeps, its pending commit. */
+uint32_t mls_member_save(mls_member *member, mls_bytes **saved);
+
+/* Makes the member that was saved so. */
+uint32_t mls_member_load(const uint8_t *saved, size_t saved_length, mls_member **member);
+
+/* The number of a member's epoch. */
+uint32_t mls_member_epoch(mls_member *member, uint64_t *epoch);
+
+/* The identifier of a member's group. */
+uint32_t mls_member_group_id(mls_member *member, mls_bytes **group_id);
+
+/* The index of the member's leaf, which others remove it by. */
+uint32_t mls_member_leaf_index(mls_member *member, uint64_t *leaf);
+
+/* The number of leaves of the group's tree, in which a leaf may be blank. */
+uint32_t mls_member_leaf_count(mls_member *member, uint64_t *count);
+
+/* The identity and the signature key of the member at a leaf, or 22 where there is none. */
+uint32_t mls_member_at(mls_member *member, uint64_t leaf, mls_bytes **identity, mls_bytes **signature_key);
+
+/* Exports a secret of the epoch, of at most 8,160 bytes, under a label, a text of at most 200 bytes, and a context. */
+uint32_t mls_member_export(mls_member *member, const uint8_t *label, size_t label_length, const uint8_t *context,
+                           size_t context_length, uint64_t secret_length, mls_bytes **secret);
+
+/* Takes a message of the group, and says what it did, as an mls_effect. */
+uint32_t mls_member_process(mls_member *member, const uint8_t *message, size_t message_length, uint64_t *effect);
+
+/* Proposes to add the client of a KeyPackage's message, keeps the proposal, and makes its message for the others. */
+uint32_t mls_member_propose_add(mls_member *member, const uint8_t *key_package, size_t key_package_length,
+                                mls_bytes **message);
+
+/* Proposes a new key for the member's own leaf, keeps the proposal, and makes its message for the others. */
+uint32_t mls_member_propose_update(mls_member *member, const uint8_t *seed, size_t seed_length, mls_bytes **message);
+
+/* Proposes to remove a leaf, keeps the proposal, and makes its message for the others. */
+uint32_t mls_member_propose_remove(mls_member *member, uint64_t leaf, mls_bytes **message);
+
+/* Proposes that the group carry the extensions that bytes spell, keeps the proposal, and makes its message for the
+ * others. */
+uint32_t mls_member_propose_extensions(mls_member *member, const uint8_t *extensions, size_t extensions_length,
+                                       mls_bytes **message);
+
+/* Commits the proposals that the member keeps, with a path where that isn't 0; the Welcome is null where nobody is
+ * added. The member follows its commit once it processes it. */
+uint32_t mls_member_commit_kept(mls_member *member, uint64_t path, const uint8_t *seed, size_t seed_length,
+                                mls_bytes **commit, mls_bytes **welcome);
+
+/* Commits a list of proposals, kept ones by reference and others in full, spelled as a Commit lists them (RFC 9420,
+ * 12.4); else it does what mls_member_commit_kept does. */
+uint32_t mls_member_commit(mls_member *member, const uint8_t *proposals, size_t proposals_length, uint64_t path,
+                           const uint8_t *seed, size_t seed_length, mls_bytes **commit, mls_bytes **welcome);
+
+/* Forgets the member's pending commit: 1 there was one, 0 there was none. */
+uint32_t mls_member_drop_pending(mls_member *member, uint64_t *had);
+
+/* Makes the conversation of a member in its epoch, with which it seals and opens application messages. Of one member
+ * only one conversation an epoch may seal: two begin with the same keys. */
+uint32_t mls_conversation_new(mls_member *member, mls_conversation **conversation);
+
+/* Seals application data, with authenticated data that isn't encrypted and so many bytes of padding. */
+uint32_t mls_conversation_seal(mls_conversation *conversation, const uint8_t *application_data,
+                               size_t application_data_length, const uint8_t *authenticated_data,
+                               size_t authenticated_data_length, uint64_t padding, const uint8_t *seed,
+                               size_t seed_length, mls_bytes **message);
+
+/* Opens a message of the epoch: its data, its authenticated data and its sender's leaf. */
+uint32_t mls_conversation_open(mls_conversation *conversation, const uint8_t *message, size_t message_length,
+                               mls_bytes **application_data, mls_bytes **authenticated_data, uint64_t *sender);
+
+#ifdef __cplusplus
+}
+#endif
+
+#endif
