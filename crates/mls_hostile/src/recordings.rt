@@ -7,7 +7,8 @@ use mls_suite::Glass;
 use std::alloc::Global;
 use std::fs;
 
-const NAMES: [&str; 10] = [
+/// Their names.
+pub const NAMES: [&str; 10] = [
     "extensions",
     "framing",
     "lists",
@@ -41,7 +42,7 @@ fn lines(page: &[u8]) -> usize {
 }
 
 /// A file that lies where the program runs.
-fn file(rt: &HostRuntime, name: &str, ending: &str) -> Result<Vec<u8>> {
+pub fn file(rt: &HostRuntime, name: &str, ending: &str) -> Result<Vec<u8>> {
     let path = format!(in rt.alloc(); "{name}.{ending}")?;
     Ok(fs::read(rt, path.as_str())?)
 }

@@ -1,11 +1,14 @@
 //! Calls on large groups, to count what they cost: `tools/count-work` runs this program under callgrind.
 //!
 //! Standard input is a number of members, and then the program grows a group of so many and prints its last stage; or
-//! such a stage, and then it makes the calls, with a line behind each. A stage has three lines: the number of
-//! members, and in hex the Welcome of the last joiner and a commit of member 0 behind the joiner's first commit.
+//! such a stage, and then it makes the calls, with a line behind each. A stage has six lines: the number of
+//! members, and in hex the Welcome of the last joiner, a commit of member 0 behind the joiner's first commit, and of
+//! the application messages of member 0 behind that the first, the second and the fourth.
 
 use crate::group::{additions, box_candidate, group_of, join_group};
+use crate::talk::converse;
 use anyhow::{Result, bail};
+use mls_conversation::Conversation;
 use mls_member::{Candidate, Made, Member};
 use mls_suite::Glass;
 use std::alloc::Global;
@@ -71,6 +74,23 @@ fn add(alloc: Global, first: &mut Member<Glass>, number: u32) -> Result<Vec<u8>>
     Ok(welcome)
 }
 
+/// Seals 16 bytes.
+fn say(conversation: &mut Conversation<Glass>) -> Result<Vec<u8>> {
+    Ok(conversation.seal(&[1; 16], &[], 0, &[6; 32])?)
+}
+
+/// Prints the first, the second and the fourth message of a member.
+fn print_messages(rt: &impl Print, alloc: Global, member: &Member<Glass>) -> Result<()> {
+    let mut conversation = converse(alloc, member)?;
+    for number in 0..4 {
+        let message = say(&mut conversation)?;
+        if number != 2 {
+            println!(rt; "{}", hex::encode(alloc, &message)?)?;
+        }
+    }
+    Ok(())
+}
+
 /// Grows a group, and prints its last stage. Member 0 adds each of the others, so that in the end each leaf has
 /// committed and no parent node is blank.
 fn grow(rt: &impl Print, alloc: Global, members: u32) -> Result<()> {
@@ -84,7 +104,8 @@ fn grow(rt: &impl Print, alloc: Global, members: u32) -> Result<()> {
     }
     let made = first.commit(&[], true, &seed(Purpose::LastRenewal, members))?;
     println!(rt; "{}", hex::encode(alloc, &made.commit)?)?;
-    Ok(())
+    first.process(&made.commit)?;
+    print_messages(rt, alloc, &first)
 }
 
 /// A member commits with a path and follows that, and then the commit of a far member.
@@ -96,6 +117,46 @@ fn call_member(rt: &impl Print, member: &mut Member<Glass>, number: u32, far: &[
     member.process(far)?;
     println!(rt; "far commit: epoch {}", member.epoch())?;
     Ok(())
+}
+
+/// A message is sealed.
+fn seal_once(rt: &impl Print, conversation: &mut Conversation<Glass>, what: &str) -> Result<()> {
+    let message = say(conversation)?;
+    println!(rt; "{what}: {} bytes", message.len())?;
+    Ok(())
+}
+
+/// A message is opened.
+fn open_once(
+    rt: &impl Print,
+    conversation: &mut Conversation<Glass>,
+    what: &str,
+    message: &[u8],
+) -> Result<()> {
+    let generation = conversation.open(message)?.generation;
+    println!(rt; "{what}: generation {generation}")?;
+    Ok(())
+}
+
+/// A member begins a conversation, seals two messages and opens three of a far member, the last one behind a generation
+/// that it passes over.
+fn call_conversation(
+    rt: &impl Print,
+    alloc: Global,
+    member: &Member<Glass>,
+    messages: &[&str; 3],
+) -> Result<()> {
+    let first = hex::decode(alloc, messages[0])?;
+    let later = hex::decode(alloc, messages[1])?;
+    let last = hex::decode(alloc, messages[2])?;
+    println!(rt; "before: messages")?;
+    let mut conversation = converse(alloc, member)?;
+    println!(rt; "conversation: epoch {}", conversation.epoch())?;
+    seal_once(rt, &mut conversation, "first seal")?;
+    seal_once(rt, &mut conversation, "later seal")?;
+    open_once(rt, &mut conversation, "first open", &first)?;
+    open_once(rt, &mut conversation, "later open", &later)?;
+    open_once(rt, &mut conversation, "open past one", &last)
 }
 
 /// A member adds one more, who joins.
@@ -122,13 +183,17 @@ fn call_joiner(
     Ok(())
 }
 
-/// Makes the calls as the last joiner. One more member is added, and joins, where the tree has a leaf for it.
-fn call(rt: &impl Print, alloc: Global, number: u32, welcome: &[u8], far: &[u8]) -> Result<()> {
+/// Makes the calls as the last joiner, of whose stage the lines are the rest. One more member is added, and joins,
+/// where the tree has a leaf for it.
+fn call(rt: &impl Print, alloc: Global, number: u32, lines: &[&str; 5]) -> Result<()> {
+    let welcome = hex::decode(alloc, lines[0])?;
+    let far = hex::decode(alloc, lines[1])?;
     let candidate = candidate(alloc, number)?;
     println!(rt; "before: member {number}")?;
-    let mut member = join_group(alloc, &candidate, welcome)?;
+    let mut member = join_group(alloc, &candidate, &welcome)?;
     println!(rt; "join: leaf {}", member.leaf_index())?;
-    call_member(rt, &mut member, number, far)?;
+    call_member(rt, &mut member, number, &far)?;
+    call_conversation(rt, alloc, &member, &[lines[2], lines[3], lines[4]])?;
     let next = number.saturating_add(1);
     if next.is_power_of_two() {
         return Ok(());
@@ -146,12 +211,14 @@ fn serve(rt: &impl Print, alloc: Global, text: &str) -> Result<()> {
     let Some(second) = lines.next() else {
         return grow(rt, alloc, members);
     };
-    let Some(third) = lines.next() else {
-        bail!("no commit");
-    };
-    let welcome = hex::decode(alloc, second)?;
-    let far = hex::decode(alloc, third)?;
-    call(rt, alloc, members.saturating_sub(1), &welcome, &far)
+    let mut rest = [second; 5];
+    for line in &mut rest[1..] {
+        let Some(next) = lines.next() else {
+            bail!("the stage ends too early");
+        };
+        *line = next;
+    }
+    call(rt, alloc, members.saturating_sub(1), &rest)
 }
 
 /// Does what standard input asks for.

@@ -167,7 +167,7 @@ pub(crate) fn items_naming(alloc: Global, reference: &Secret) -> Result<Vec<Item
 }
 
 /// The commit of a proposal, by a member that gets it first.
-fn commit_of(
+pub(crate) fn commit_of(
     alloc: Global,
     member: &mut Member<Glass>,
     message: &[u8],

@@ -16,7 +16,9 @@ mod call;
 mod extended;
 mod group;
 mod page;
+mod saved;
 mod scenario;
+mod talk;
 mod trial;
 mod worlds;
 

@@ -80,6 +80,11 @@ fn print_group(rt: &impl Print, alloc: Global, part: &str, member: &Member<Glass
     print_bytes(rt, alloc, part, "interim_transcript_hash", interim)
 }
 
+/// A digest of what a member is saved as.
+fn print_saved(rt: &impl Print, alloc: Global, part: &str, member: &Member<Glass>) -> Result<()> {
+    print_bytes(rt, alloc, part, "saved", &hash(&[&member.save()?]))
+}
+
 /// All that a member shows, of its proposals the one of a reference.
 pub(crate) fn print_member(
     rt: &impl Print,
@@ -94,6 +99,7 @@ pub(crate) fn print_member(
     print_group(rt, alloc, part, member)?;
     print_epoch(rt, alloc, part, member.secrets())?;
     print_keys(rt, alloc, part, member)?;
+    print_saved(rt, alloc, part, member)?;
     print_found(rt, alloc, part, "kept", member.kept(reference))?;
     match member.pending_secret() {
         Some(secret) => print_bytes(rt, alloc, part, "pending_secret", secret),
@@ -115,8 +121,8 @@ pub(crate) fn print_candidate(
 }
 
 /// A refusal.
-fn print_refusal(rt: &impl Print, part: &str, refusal: Refusal) -> Result<()> {
-    println!(rt; "{part}: refused: {} {}", refusal.number(), refusal.name())?;
+pub(crate) fn print_refusal(rt: &impl Print, part: &str, number: u8, name: &str) -> Result<()> {
+    println!(rt; "{part}: refused: {number} {name}")?;
     Ok(())
 }
 
@@ -155,7 +161,7 @@ pub(crate) fn print_answer(
         Ok(Answer::Made(made)) => print_made(rt, alloc, part, &made),
         Ok(Answer::Did(effect)) => print_effect(rt, alloc, part, effect),
         Ok(Answer::Message(message)) => print_bytes(rt, alloc, part, "message", &message),
-        Err(refusal) => print_refusal(rt, part, refusal),
+        Err(refusal) => print_refusal(rt, part, refusal.number(), refusal.name()),
     }
 }
 
@@ -174,6 +180,6 @@ pub(crate) fn print_joined(
 ) -> Result<()> {
     match answer {
         Ok(joined) => print_entered(rt, alloc, part, &joined),
-        Err(refusal) => print_refusal(rt, part, refusal),
+        Err(refusal) => print_refusal(rt, part, refusal.number(), refusal.name()),
     }
 }

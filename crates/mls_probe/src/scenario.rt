@@ -8,11 +8,13 @@ use crate::group::{
     Committed, Trio, Updated, additions, candidate, create_group, items_naming, reference_of,
     welcome_of,
 };
-use crate::trial::{try_call, try_join};
+use crate::saved::{try_load, try_load_candidate, try_save, try_save_candidate};
+use crate::talk::{try_converse, try_open, try_open_passed, try_seal};
+use crate::trial::{Joining, try_call, try_twice};
 use crate::worlds::try_run;
 use anyhow::Result;
 use mls_kdf::Secret;
-use mls_member::Made;
+use mls_member::{Candidate, Made};
 use mls_suite::Glass;
 use std::alloc::Global;
 
@@ -43,12 +45,26 @@ pub(crate) enum Scenario {
     ProcessExtensions,
     /// The one who is added joins by that Welcome.
     JoinExtensions,
+    /// The second of three begins a conversation.
+    Converse,
+    /// The first of three seals a message.
+    Seal,
+    /// The third of three opens the third message of the first.
+    Open,
+    /// It opens the first message behind the third.
+    OpenPassed,
+    /// A member is saved that keeps proposals and has a pending commit.
+    SaveMember,
+    /// It is loaded.
+    LoadMember,
+    SaveCandidate,
+    LoadCandidate,
     /// The events of a creation, an add and a join.
     Run,
 }
 
 /// All scenarios.
-pub(crate) const SCENARIOS: [Scenario; 15] = [
+pub(crate) const SCENARIOS: [Scenario; 23] = [
     Scenario::CommitAdd,
     Scenario::CommitUpdate,
     Scenario::ProcessUpdate,
@@ -63,6 +79,14 @@ pub(crate) const SCENARIOS: [Scenario; 15] = [
     Scenario::CommitExtensions,
     Scenario::ProcessExtensions,
     Scenario::JoinExtensions,
+    Scenario::Converse,
+    Scenario::Seal,
+    Scenario::Open,
+    Scenario::OpenPassed,
+    Scenario::SaveMember,
+    Scenario::LoadMember,
+    Scenario::SaveCandidate,
+    Scenario::LoadCandidate,
     Scenario::Run,
 ];
 
@@ -94,6 +118,14 @@ impl Scenario {
             Scenario::CommitExtensions => "commit-extensions",
             Scenario::ProcessExtensions => "process-extensions",
             Scenario::JoinExtensions => "join-extensions",
+            Scenario::Converse => "converse",
+            Scenario::Seal => "seal",
+            Scenario::Open => "open",
+            Scenario::OpenPassed => "open-passed",
+            Scenario::SaveMember => "save-member",
+            Scenario::LoadMember => "load-member",
+            Scenario::SaveCandidate => "save-candidate",
+            Scenario::LoadCandidate => "load-candidate",
             Scenario::Run => "run",
         }
     }
@@ -116,6 +148,14 @@ impl Scenario {
             Scenario::CommitExtensions => commit_extensions(rt, alloc),
             Scenario::ProcessExtensions => process_extensions(rt, alloc),
             Scenario::JoinExtensions => join_extensions(rt, alloc),
+            Scenario::Converse => try_converse(rt, alloc),
+            Scenario::Seal => try_seal(rt, alloc),
+            Scenario::Open => try_open(rt, alloc),
+            Scenario::OpenPassed => try_open_passed(rt, alloc),
+            Scenario::SaveMember => try_save(rt, alloc),
+            Scenario::LoadMember => try_load(rt, alloc),
+            Scenario::SaveCandidate => try_save_candidate(rt, alloc),
+            Scenario::LoadCandidate => try_load_candidate(rt, alloc),
             Scenario::Run => try_run(rt, alloc),
         }
     }
@@ -209,7 +249,19 @@ fn join(rt: &impl Print, alloc: Global) -> Result<()> {
     let mut member = create_group(alloc)?;
     let added = candidate(alloc, b'b', 3)?;
     let made = member.commit(&additions(alloc, &added)?, true, &[4; 32])?;
-    try_join(rt, alloc, &added, &welcome_of(made)?)
+    join_by(rt, alloc, added, made)
+}
+
+/// A candidate joins by the Welcome of the commit that added it.
+fn join_by(
+    rt: &impl Print,
+    alloc: Global,
+    candidate: Box<Candidate<Glass>>,
+    made: Made,
+) -> Result<()> {
+    let welcome = welcome_of(made)?;
+    let mut joining = Joining { candidate, welcome };
+    try_twice(rt, alloc, &mut joining)
 }
 
 fn propose_extensions(rt: &impl Print, alloc: Global) -> Result<()> {
@@ -243,5 +295,5 @@ fn process_extensions(rt: &impl Print, alloc: Global) -> Result<()> {
 
 fn join_extensions(rt: &impl Print, alloc: Global) -> Result<()> {
     let ExtendedCommit { added, made, .. } = ExtendedCommit::new(alloc)?;
-    try_join(rt, alloc, &added, &welcome_of(made)?)
+    join_by(rt, alloc, added, made)
 }

@@ -52,7 +52,7 @@ fn propose(alloc: Global, member: &mut Member<Glass>) -> Result<Vec<u8>, Refusal
 }
 
 /// How many bytes the message has, and whether a second call gives the same.
-fn proposed(alloc: Global) -> Result<(usize, bool), Refusal> {
+fn propose_twice(alloc: Global) -> Result<(usize, bool), Refusal> {
     let mut member = create_first(alloc, 1)?;
     let message = propose(alloc, &mut member)?;
     let again = propose(alloc, &mut member)?;
@@ -61,7 +61,7 @@ fn proposed(alloc: Global) -> Result<(usize, bool), Refusal> {
 
 #[test]
 fn a_proposal_of_extensions(rt: HostRuntime) -> Result<(), Fail> {
-    assert_eq!(rt; proposed(rt.alloc())?, (95, true));
+    assert_eq!(rt; propose_twice(rt.alloc())?, (95, true));
     Ok(())
 }
 
@@ -74,7 +74,7 @@ fn commit(alloc: Global, member: &mut Member<Glass>, length: usize) -> Result<Ma
 }
 
 /// How many bytes the commit of a sole member has, and the context that it leads to.
-fn committed(alloc: Global) -> Result<(usize, usize), Refusal> {
+fn commit_alone(alloc: Global) -> Result<(usize, usize), Refusal> {
     let mut member = create_first(alloc, 1)?;
     let made = commit(alloc, &mut member, 2)?;
     member.process(&made.commit)?;
@@ -83,7 +83,7 @@ fn committed(alloc: Global) -> Result<(usize, usize), Refusal> {
 
 #[test]
 fn a_commit_of_extensions(rt: HostRuntime) -> Result<(), Fail> {
-    assert_eq!(rt; committed(rt.alloc())?, (249, 86));
+    assert_eq!(rt; commit_alone(rt.alloc())?, (249, 86));
     Ok(())
 }
 

@@ -10,6 +10,8 @@ mod extensions;
 #[cfg(test)]
 mod joins;
 #[cfg(test)]
+mod loads;
+#[cfg(test)]
 mod messages;
 #[cfg(test)]
 mod paths;

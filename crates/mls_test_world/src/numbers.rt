@@ -1,6 +1,6 @@
 //! The numbers that a world answers before its members do.
 
-use crate::script::{Act, Part, Parts, Said, Sent, run_both_ways};
+use crate::script::{Act, Part, Parts, Said, Sent, run_in_each_way};
 use std::test::Fail;
 
 #[test]
@@ -24,7 +24,7 @@ fn candidates(rt: HostRuntime) -> Result<(), Fail> {
         (Act::Join(1, Sent::Cut), Said::Refused(2)),
         (Act::Create(1, 3), Said::Created(1)),
     ];
-    let _world = run_both_ways(&rt, rt.alloc(), &acts)?;
+    let _world = run_in_each_way(&rt, rt.alloc(), &acts)?;
     Ok(())
 }
 
@@ -47,7 +47,7 @@ fn members(rt: HostRuntime) -> Result<(), Fail> {
         (Act::Drop(1), Said::Refused(90)),
         (Act::Drop(0), Said::Dropped(false)),
     ];
-    let _world = run_both_ways(&rt, rt.alloc(), &acts)?;
+    let _world = run_in_each_way(&rt, rt.alloc(), &acts)?;
     Ok(())
 }
 
@@ -76,6 +76,6 @@ fn sources(rt: HostRuntime) -> Result<(), Fail> {
         (Act::Commit(0, forbidden, true, 3), Said::Refused(14)),
         (Act::Commit(0, behind, true, 3), Said::Refused(94)),
     ];
-    let _world = run_both_ways(&rt, rt.alloc(), &acts)?;
+    let _world = run_in_each_way(&rt, rt.alloc(), &acts)?;
     Ok(())
 }

@@ -1,6 +1,8 @@
 //! Groups of two and three members, and what crosses between them.
 
-use crate::script::{Act, Part, Parts, Said, Sent, run, run_both_ways};
+use crate::script::{
+    Act, Part, Parts, Said, Sent, reload_members, run_in_each_way, run_with_reloads,
+};
 use mls_model::{Effect, Event, Origin, Reply, Source};
 use mls_suite::{Glass, OutOfMemory};
 use mls_world::World;
@@ -30,7 +32,7 @@ fn two_members(rt: &impl Abort, alloc: Global) -> Result<World<Glass>, OutOfMemo
         (Act::Deliver(0, Sent::Made(2)), Said::Advanced(1)),
         (Act::Join(1, Sent::Made(3)), Said::Joined(1, 1)),
     ];
-    run_both_ways(rt, alloc, &acts)
+    run_in_each_way(rt, alloc, &acts)
 }
 
 /// Whether the journal of member k begins with a creation by the first member, and has that message as its one commit.
@@ -65,7 +67,7 @@ fn one_is_added(rt: HostRuntime) -> Result<(), Fail> {
     assert!(rt; follows_one(&world, 1, 2));
     assert!(rt; world.journal(2).is_none());
     world.headline();
-    run(&rt, rt.alloc(), &mut world, &acts)?;
+    run_with_reloads(&rt, rt.alloc(), &mut world, &acts)?;
     assert!(rt; !agree(&world, 0, 1));
     Ok(())
 }
@@ -94,7 +96,7 @@ fn an_update_by_reference(rt: HostRuntime) -> Result<(), Fail> {
         (Act::Deliver(2, Sent::Made(9)), Said::Advanced(3)),
         (Act::Deliver(2, Sent::Made(9)), Said::Refused(43)),
     ];
-    run(&rt, rt.alloc(), &mut world, &acts)?;
+    run_with_reloads(&rt, rt.alloc(), &mut world, &acts)?;
     assert!(rt; agree(&world, 0, 1));
     assert!(rt; agree(&world, 0, 2));
     Ok(())
@@ -106,7 +108,7 @@ fn followed_before_it_is_made(rt: HostRuntime) -> Result<(), Fail> {
     let alloc = rt.alloc();
     let commit = [(Act::Commit(0, Parts::Nothing, true, 6), Said::Commit(4))];
     let mut twin = two_members(&rt, alloc)?;
-    run(&rt, alloc, &mut twin, &commit)?;
+    run_with_reloads(&rt, alloc, &mut twin, &commit)?;
     let Some(message) = twin.message(4) else {
         return Err("no commit".into());
     };
@@ -117,8 +119,9 @@ fn followed_before_it_is_made(rt: HostRuntime) -> Result<(), Fail> {
     let mut world = two_members(&rt, alloc)?;
     let effect = Effect::Advanced { epoch: 2 };
     assert_eq!(rt; world.step(&event)?, Reply::Delivered { effect });
-    run(&rt, alloc, &mut world, &commit)?;
-    run(
+    reload_members(&rt, &mut world);
+    run_with_reloads(&rt, alloc, &mut world, &commit)?;
+    run_with_reloads(
         &rt,
         alloc,
         &mut world,
@@ -146,7 +149,7 @@ fn crossing_commits(rt: HostRuntime) -> Result<(), Fail> {
         (Act::Drop(1), Said::Dropped(true)),
         (Act::Deliver(1, Sent::Made(6)), Said::Refused(48)),
     ];
-    run(&rt, rt.alloc(), &mut world, &acts)?;
+    run_with_reloads(&rt, rt.alloc(), &mut world, &acts)?;
     assert!(rt; !agree(&world, 0, 1));
     Ok(())
 }
@@ -171,7 +174,7 @@ fn extensions_of_a_group(rt: HostRuntime) -> Result<(), Fail> {
         (Act::Deliver(1, Sent::Made(5)), Said::Advanced(2)),
         (Act::Deliver(0, Sent::Made(5)), Said::Advanced(2)),
     ];
-    let world = run_both_ways(&rt, rt.alloc(), &acts)?;
+    let world = run_in_each_way(&rt, rt.alloc(), &acts)?;
     let length = |n| world.message(n).map(|message| message.len());
     assert_eq!(rt; length(2), Some(522));
     assert_eq!(rt; length(3), Some(696));

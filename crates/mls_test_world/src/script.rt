@@ -201,7 +201,7 @@ fn said_of_reply(reply: Reply) -> Said {
 }
 
 /// Runs acts in a world, each of which has its reply.
-pub fn run(
+fn run(
     rt: &impl Abort,
     alloc: Global,
     world: &mut World<Glass>,
@@ -287,7 +287,7 @@ fn call_commit_or_delivery(world: &mut World<Glass>, event: &Event) -> Result<Sa
 }
 
 /// Calls what each act is, which answers its reply.
-pub fn call_each(
+fn call_each(
     rt: &impl Abort,
     alloc: Global,
     world: &mut World<Glass>,
@@ -304,15 +304,48 @@ pub fn call_each(
     Ok(())
 }
 
-/// Runs acts in one world, and calls them in another.
-pub fn run_both_ways(
+/// Saves each member of a world that wasn't removed, and loads it of these bytes.
+pub fn reload_members(rt: &impl Abort, world: &mut World<Glass>) {
+    for k in 0..world.member_count() {
+        assert!(rt; world.reload(k).is_ok());
+    }
+}
+
+/// Runs acts one by one in a world, each of which has its reply, and after each saves the members and loads them.
+pub fn run_with_reloads(
+    rt: &impl Abort,
+    alloc: Global,
+    world: &mut World<Glass>,
+    acts: &[(Act, Said)],
+) -> Result<(), OutOfMemory> {
+    for act in acts {
+        run(rt, alloc, world, &[*act])?;
+        reload_members(rt, world);
+    }
+    Ok(())
+}
+
+/// Runs acts in a new world.
+fn run_anew(rt: &impl Abort, alloc: Global, acts: &[(Act, Said)]) -> Result<(), OutOfMemory> {
+    let mut world = World::new(alloc);
+    run(rt, alloc, &mut world, acts)
+}
+
+/// Calls acts in a new world.
+fn call_anew(rt: &impl Abort, alloc: Global, acts: &[(Act, Said)]) -> Result<(), OutOfMemory> {
+    let mut world = World::new(alloc);
+    call_each(rt, alloc, &mut world, acts)
+}
+
+/// Runs acts in one world, calls them in another, and runs them with reloads in a third, which it answers.
+pub fn run_in_each_way(
     rt: &impl Abort,
     alloc: Global,
     acts: &[(Act, Said)],
 ) -> Result<World<Glass>, OutOfMemory> {
+    run_anew(rt, alloc, acts)?;
+    call_anew(rt, alloc, acts)?;
     let mut world = World::new(alloc);
-    run(rt, alloc, &mut world, acts)?;
-    let mut other = World::new(alloc);
-    call_each(rt, alloc, &mut other, acts)?;
+    run_with_reloads(rt, alloc, &mut world, acts)?;
     Ok(world)
 }
