@@ -19,3 +19,6 @@ pub use message::{place_of_message, place_of_tree};
 pub use place::{Path, Place};
 pub use rules::{first_incapable, first_misplaced, first_unfit, first_unsigned};
 pub use step::{GroupField, LeafField, MessageField, Step};
+
+#[cfg(test)]
+mod tests;
