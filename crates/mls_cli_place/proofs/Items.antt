@@ -24,6 +24,17 @@ step walk total i zero (b ∷ bytes) rest lt enough e so_far = absurd (omega ari
 step walk total i (suc fuel) (b ∷ bytes) rest lt enough e so_far =
     (fuel, omega arith, sym (ap (λ (r : Result (List ℕ) Found). followed (inside (Item i) r) (items walk (i + 1) fuel)) e) ∙ so_far)
 
+abbrev at_rest : List ℕ → Result (List ℕ) Found
+at_rest rest = Ok rest
+
+walk_ok : (w : Result (List ℕ) Found) (rest : List ℕ) → number_in w ≡ Ok rest → w ≡ Ok rest
+walk_ok (Ok x) rest e = let same : x ≡ rest = cc in ap (λ (l : List ℕ). at_rest l) same
+walk_ok (Err f) rest e = absurd cc
+
+-- what is read past is walked past
+pub passed_walk : {walk : Walk} {pass : List ℕ → Result (List ℕ) ℕ} → Finds walk pass → (bytes rest : List ℕ) → pass bytes ≡ Ok rest → walk bytes ≡ Ok rest
+passed_walk {walk} h bytes rest e = walk_ok (walk bytes) rest (h.same bytes ∙ e)
+
 -- what is walked past is read past
 pub walked_past : {walk : Walk} {pass : List ℕ → Result (List ℕ) ℕ} → Finds walk pass → (bytes rest : List ℕ) → walk bytes ≡ Ok rest → pass bytes ≡ Ok rest
 walked_past h bytes rest e = sym (h.same bytes) ∙ ap (λ (r : Result (List ℕ) Found). number_in r) e

@@ -7,7 +7,7 @@ use Rattle.mls_wire.specs.Reading.{◌>>=◌, rest_of, uint, uint_at, mark_at, e
 use Rattle.mls_wire.specs.Format.{IsBytes, Takes, Format, Skip}
 use Rattle.mls_wire.specs.Laws.{IsWide, ok_is, uint_lawful, opaque_takes, opaque_bytes, wide8, wide16}
 use Rattle.mls_wire.specs.CombineLaws.{IsNonempty, body_past, good, items_past}
-use Rattle.mls_wire.specs.Combine.{Cases, case, left_format, mark, empty_vector, optional, optional_body, others, right_format, vector}
+use Rattle.mls_wire.specs.Combine.{Cases, case, left_format, mark, empty_vector, is_optional_tag, optional, optional_body, optional_tag_of, others, right_format, vector}
 use Rattle.mls_cli_place.specs.declared.place.Found.{Found}
 use Rattle.mls_cli_place.specs.declared.step.Step.{Step}
 use Rattle.mls_cli_place.specs.declared.step.Step.TheVariants.{Item}
@@ -120,11 +120,11 @@ abbrev no_rest : ℕ → Result (List ℕ) ℕ
 no_rest n = Err n
 
 -- what stands behind each tag, else the fault
-pub record Chooses {V : Type 0} (fault : ℕ) (cases : ℕ → Option Walk) (body : ℕ → Format V) : Type 0 where
-  pub same : (t : ℕ) (unknown : Found) (rest : List ℕ) → unknown.fault ≡ fault → number_in (chosen unknown rest (cases t)) ≡ (body t).pass rest
+pub record Chooses {V : Type 0} (fault : ℕ) (cases : ℕ → Option Walk) (these : Cases V) : Type 0 where
+  pub same : (t : ℕ) (unknown : Found) (rest : List ℕ) → unknown.fault ≡ fault → number_in (chosen unknown rest (cases t)) ≡ (these.body t).pass rest
   pub within : (t : ℕ) (unknown : Found) (bytes rest : List ℕ) → unknown.left ≤ length bytes → length rest ≤ length bytes → IsBytes rest → Within bytes (chosen unknown rest (cases t))
 
-pub chooses_none : (fault : ℕ) → Chooses fault no_case (others fault).body
+pub chooses_none : (fault : ℕ) → Chooses fault no_case (others fault)
 chooses_none fault = record {
   same = λ t unknown rest e. ap (λ (n : ℕ). no_rest n) e;
   within = λ t unknown bytes rest le less fits. le;
@@ -139,19 +139,19 @@ this_within : (b : Bool) (walk : Walk) (other : Option Walk) (unknown : Found) (
 this_within true walk other unknown bytes rest h k = h
 this_within false walk other unknown bytes rest h k = k
 
-pub chooses_case : {A B : Type 0} {walk : Walk} {cases : ℕ → Option Walk} {fault : ℕ} (k : ℕ) (a : Format A) (c : Cases B) → Finds walk a.pass → Chooses fault cases c.body → Chooses fault (case_of k walk cases) (case k a c).body
-chooses_case {A} {B} {walk} {cases} {fault} k a c h more = record {
+pub chooses_case : {A B : Type 0} {walk : Walk} {cases : ℕ → Option Walk} {fault : ℕ} {c : Cases B} (k : ℕ) (a : Format A) → Finds walk a.pass → Chooses fault cases c → Chooses fault (case_of k walk cases) (case k a c)
+chooses_case {A} {B} {walk} {cases} {fault} {c} k a h more = record {
   same = λ t unknown rest e. this_same (t == k) walk (cases t) a (c.body t) unknown rest h (more.same t unknown rest e);
   within = λ t unknown bytes rest le less fits.
       this_within (t == k) walk (cases t) unknown bytes rest (longer_within bytes rest (walk rest) less (h.within rest fits)) (more.within t unknown bytes rest le less fits);
 }
 
-number_by_tag : {V : Type 0} {cases : ℕ → Option Walk} {body : ℕ → Format V} (in_tag : Found → Found) (fault : ℕ) (bytes : List ℕ) (r : Result (ℕ × List ℕ) ℕ) → IsPlacing in_tag → Chooses fault cases body
-    → number_in (by_tag in_tag fault cases bytes r) ≡ (r >>= body_past body)
+number_by_tag : {V : Type 0} {cases : ℕ → Option Walk} {these : Cases V} (in_tag : Found → Found) (fault : ℕ) (bytes : List ℕ) (r : Result (ℕ × List ℕ) ℕ) → IsPlacing in_tag → Chooses fault cases these
+    → number_in (by_tag in_tag fault cases bytes r) ≡ (r >>= body_past these.body)
 number_by_tag in_tag fault bytes (Ok t) placing h = h.same t.0 (in_tag (at_front bytes fault)) t.1 (placing.fault (at_front bytes fault))
 number_by_tag in_tag fault bytes (Err n) placing h = ap (λ (m : ℕ). no_rest m) (placing.fault (at_front bytes n))
 
-by_tag_within : {V : Type 0} {cases : ℕ → Option Walk} {body : ℕ → Format V} (in_tag : Found → Found) (fault : ℕ) (bytes : List ℕ) (r : Result (ℕ × List ℕ) ℕ) → IsPlacing in_tag → Chooses fault cases body
+by_tag_within : {V : Type 0} {cases : ℕ → Option Walk} {these : Cases V} (in_tag : Found → Found) (fault : ℕ) (bytes : List ℕ) (r : Result (ℕ × List ℕ) ℕ) → IsPlacing in_tag → Chooses fault cases these
     → ((t : ℕ × List ℕ) → r ≡ Ok t → (length t.1 ≤ length bytes) × IsBytes t.1) → Within bytes (by_tag in_tag fault cases bytes r)
 by_tag_within in_tag fault bytes (Ok t) placing h tag =
     let read = tag t refl in
@@ -161,9 +161,9 @@ by_tag_within in_tag fault bytes (Err n) placing h tag = omega (arith, placing.l
 uint_shorter : (w : Width) (limit : ℕ) (wide : IsWide w limit) (bytes : List ℕ) → IsBytes bytes → (t : ℕ × List ℕ) → uint_at w bytes ≡ Ok t → (length t.1 ≤ length bytes) × IsBytes t.1
 uint_shorter w limit wide bytes fits t e = let read = (uint_lawful w limit wide).takes bytes t.0 t.1 fits e in (shorter bytes (uint w t.0) t.1 read.0, read.0.rest_fits)
 
-pub finds_tagged : {V : Type 0} {cases : ℕ → Option Walk} {body : ℕ → Format V} {in_tag : Found → Found} {fault : ℕ} (w : Width) (limit : ℕ) → IsWide w limit → IsPlacing in_tag → Chooses fault cases body
-    → Finds (λ bytes. by_tag in_tag fault cases bytes (uint_at w bytes)) (λ bytes. uint_at w bytes >>= body_past body)
-finds_tagged {V} {cases} {body} {in_tag} {fault} w limit wide placing h = record {
+pub finds_tagged : {V : Type 0} {cases : ℕ → Option Walk} {these : Cases V} {in_tag : Found → Found} {fault : ℕ} (w : Width) (limit : ℕ) → IsWide w limit → IsPlacing in_tag → Chooses fault cases these
+    → Finds (λ bytes. by_tag in_tag fault cases bytes (uint_at w bytes)) (λ bytes. uint_at w bytes >>= body_past these.body)
+finds_tagged {V} {cases} {these} {in_tag} {fault} w limit wide placing h = record {
   same = λ bytes. number_by_tag in_tag fault bytes (uint_at w bytes) placing h;
   within = λ bytes fits. by_tag_within in_tag fault bytes (uint_at w bytes) placing h (uint_shorter w limit wide bytes fits);
 }
@@ -180,7 +180,10 @@ presence_within a h zero unknown bytes rest le less fits = (less, fits)
 presence_within {V} {walk} a h (suc zero) unknown bytes rest le less fits = longer_within bytes rest (walk rest) less (h.within rest fits)
 presence_within a h (suc (suc t)) unknown bytes rest le less fits = le
 
-chooses_optional : {V : Type 0} {walk : Walk} (a : Format V) → Finds walk a.pass → Chooses 7 (presences walk) (optional_body a)
+abbrev optional_cases : {V : Type 0} → Format V → Cases (Option V)
+optional_cases a = record { tag_of = optional_tag_of; body = optional_body a; is_tag = is_optional_tag a }
+
+chooses_optional : {V : Type 0} {walk : Walk} (a : Format V) → Finds walk a.pass → Chooses 7 (presences walk) (optional_cases a)
 chooses_optional a h = record { same = presence_same a h; within = presence_within a h }
 
 pub finds_optional : {V : Type 0} {walk : Walk} (a : Format V) → Finds walk a.pass → Finds (optional_of walk) (optional a).pass

@@ -54,9 +54,12 @@ finds_behind {walk} {pass} {more} {more_past} step h k = record {
 finds_end : FindsAll ended ended_past
 finds_end = record { same = λ bytes. ended_same bytes (length bytes == 0); within = λ bytes fits. ended_within bytes (length bytes == 0) }
 
+pub finds_tree_data : FindsAll tree_data (λ bytes. ratchet_tree.pass bytes >>= ended_past)
+finds_tree_data = finds_behind _ ratchet_tree_finds finds_end
+
 tree_extension_finds : Finds tree_extension_walk tree_extension.pass
 unfolding tree_extension_walk
-tree_extension_finds = finds_then (finds_field _ (finds_skip (mark 2 14 (lit< tt)))) (finds_field _ (finds_enclosed (finds_behind _ ratchet_tree_finds finds_end)))
+tree_extension_finds = finds_then (finds_field _ (finds_skip (mark 2 14 (lit< tt)))) (finds_field _ (finds_enclosed finds_tree_data))
 
 -- ---- at most one extension
 
@@ -91,7 +94,7 @@ finds_no_second = record {
   within = λ bytes fits. if_within bytes (length bytes == 0) (second_on bytes (uint_at w16 bytes)) (second_within bytes (uint_at w16 bytes));
 }
 
-finds_tree_extensions : FindsAll tree_extensions (one_past tree_extension 14)
+pub finds_tree_extensions : FindsAll tree_extensions (one_past tree_extension 14)
 finds_tree_extensions =
     let all = finds_behind (Item 0) tree_extension_finds finds_no_second in
     record {

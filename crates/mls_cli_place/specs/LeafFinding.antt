@@ -26,7 +26,7 @@ unfolding leaf_source_walk leaf_source
 leaf_source_finds =
     let lifetime = finds_then (finds_field _ (finds_one uint64)) (finds_field _ (finds_one uint64)) in
     finds_tagged w8 (2 ^ 8) wide8 (places_in _)
-    (chooses_case 1 (uint64 ⨾ uint64) _ (finds_field _ lifetime) (chooses_case 2 nothing _ finds_nothing (chooses_case 3 byte_string (others 7) (finds_field _ (finds_one byte_string)) (chooses_none 7))))
+    (chooses_case 1 (uint64 ⨾ uint64) (finds_field _ lifetime) (chooses_case 2 nothing finds_nothing (chooses_case 3 byte_string (finds_field _ (finds_one byte_string)) (chooses_none 7))))
 
 pub leaf_node_finds : Finds leaf_node_walk leaf_node.pass
 unfolding leaf_node_walk leaf_node
@@ -45,5 +45,5 @@ pub proposal_finds : Finds proposal_walk proposal.pass
 unfolding proposal_walk proposal
 proposal_finds =
     finds_tagged w16 (2 ^ 16) wide16 (places_in _)
-    (chooses_case 1 key_package _ (finds_field _ key_package_finds) (chooses_case 2 leaf_node _ (finds_field _ leaf_node_finds)
-    (chooses_case 3 uint32 _ (finds_field _ (finds_one uint32)) (chooses_case 7 group_extensions (others 12) (finds_field _ (finds_one group_extensions)) (chooses_none 12)))))
+    (chooses_case 1 key_package (finds_field _ key_package_finds) (chooses_case 2 leaf_node (finds_field _ leaf_node_finds)
+    (chooses_case 3 uint32 (finds_field _ (finds_one uint32)) (chooses_case 7 group_extensions (finds_field _ (finds_one group_extensions)) (chooses_none 12)))))

@@ -33,7 +33,7 @@ update_path_finds = finds_then (finds_field _ leaf_node_finds) (finds_field _ (f
 
 pub proposal_or_ref_finds : Finds proposal_or_ref_walk proposal_or_ref.pass
 unfolding proposal_or_ref_walk proposal_or_ref
-proposal_or_ref_finds = finds_tagged w8 (2 ^ 8) wide8 (places_in _) (chooses_case 1 proposal _ (finds_field _ proposal_finds) (chooses_case 2 byte_string (others 7) (finds_field _ (finds_one byte_string)) (chooses_none 7)))
+proposal_or_ref_finds = finds_tagged w8 (2 ^ 8) wide8 (places_in _) (chooses_case 1 proposal (finds_field _ proposal_finds) (chooses_case 2 byte_string (finds_field _ (finds_one byte_string)) (chooses_none 7)))
 
 pub commit_finds : Finds commit_walk commit.pass
 unfolding commit_walk commit
@@ -41,7 +41,7 @@ commit_finds = finds_then (finds_field _ (finds_vector proposal_or_ref proposal_
 
 pub sender_finds : Finds sender_walk sender.pass
 unfolding sender_walk sender
-sender_finds = finds_tagged w8 (2 ^ 8) wide8 (places_in _) (chooses_case 1 uint32 (others 7) (finds_field _ (finds_one uint32)) (chooses_none 7))
+sender_finds = finds_tagged w8 (2 ^ 8) wide8 (places_in _) (chooses_case 1 uint32 (finds_field _ (finds_one uint32)) (chooses_none 7))
 
 signature_finds : Finds signature_walk byte_string.pass
 signature_finds = finds_field _ (finds_field _ (finds_one byte_string))
@@ -53,9 +53,9 @@ signed_tail_finds : Finds signed_tail_walk signed_tail.pass
 unfolding signed_tail_walk signed_tail
 signed_tail_finds =
     finds_tagged w8 (2 ^ 8) wide8 (places_in_both _ _)
-    (chooses_case 1 (byte_string ⨾ byte_string) _ (finds_then (finds_field _ (finds_field _ (finds_one byte_string))) signature_finds)
-    (chooses_case 2 (proposal ⨾ byte_string) _ (finds_then (finds_field _ (finds_field _ proposal_finds)) signature_finds)
-    (chooses_case 3 (commit ⨾ byte_string ⨾ byte_string) (others 7) (finds_then (finds_field _ (finds_field _ commit_finds)) (finds_then signature_finds tag_finds)) (chooses_none 7))))
+    (chooses_case 1 (byte_string ⨾ byte_string) (finds_then (finds_field _ (finds_field _ (finds_one byte_string))) signature_finds)
+    (chooses_case 2 (proposal ⨾ byte_string) (finds_then (finds_field _ (finds_field _ proposal_finds)) signature_finds)
+    (chooses_case 3 (commit ⨾ byte_string ⨾ byte_string) (finds_then (finds_field _ (finds_field _ commit_finds)) (finds_then signature_finds tag_finds)) (chooses_none 7))))
 
 pub signed_content_finds : Finds signed_content_walk signed_content.pass
 unfolding signed_content_walk signed_content
@@ -81,5 +81,5 @@ unfolding mls_message_walk body_walk mls_message
 mls_message_finds =
     finds_then (finds_field _ (finds_skip (mark 1 7 (lit< tt))))
     (finds_tagged w16 (2 ^ 16) wide16 (places_in _)
-    (chooses_case 1 public_message _ (finds_field _ public_message_finds) (chooses_case 3 welcome _ (finds_field _ welcome_finds)
-    (chooses_case 4 group_info _ (finds_field _ group_info_finds) (chooses_case 5 key_package (others 7) (finds_field _ key_package_finds) (chooses_none 7))))))
+    (chooses_case 1 public_message (finds_field _ public_message_finds) (chooses_case 3 welcome (finds_field _ welcome_finds)
+    (chooses_case 4 group_info (finds_field _ group_info_finds) (chooses_case 5 key_package (finds_field _ key_package_finds) (chooses_none 7))))))

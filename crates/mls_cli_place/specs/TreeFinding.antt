@@ -20,7 +20,7 @@ parent_node_finds =
 
 pub node_finds : Finds node_walk node.pass
 unfolding node_walk node
-node_finds = finds_tagged w8 (2 ^ 8) wide8 (places_in _) (chooses_case 1 leaf_node _ (finds_field _ leaf_node_finds) (chooses_case 2 parent_node (others 7) (finds_field _ parent_node_finds) (chooses_none 7)))
+node_finds = finds_tagged w8 (2 ^ 8) wide8 (places_in _) (chooses_case 1 leaf_node (finds_field _ leaf_node_finds) (chooses_case 2 parent_node (finds_field _ parent_node_finds) (chooses_none 7)))
 
 pub ratchet_tree_finds : Finds ratchet_tree_walk ratchet_tree.pass
 ratchet_tree_finds = finds_vector _ (optional_nonempty node) (finds_optional node node_finds)
