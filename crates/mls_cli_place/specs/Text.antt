@@ -1,4 +1,4 @@
--- How a place is printed: the offset, and the path of fields.
+-- How a place is printed: the offset and the path of fields, or the node or the leaf of a tree.
 use Rattle.std.specs.Prelude.{ℕ, ◌==◌, Bool, true, false, if◌then◌else◌, List, [], ◌∷◌, ◌++◌, codes, length}
 use Rattle.std.specs.Fmt.{decimal}
 use Rattle.mls_cli_place.specs.declared.place.Place.{Place}
@@ -10,6 +10,8 @@ use Rattle.mls_cli_place.specs.declared.step.MessageField.{MessageField}
 use Rattle.mls_cli_place.specs.declared.step.MessageField.TheVariants as message
 use Rattle.mls_cli_place.specs.declared.step.Step.{Step}
 use Rattle.mls_cli_place.specs.declared.step.Step.TheVariants.{Group, Item, Leaf, Message}
+use Rattle.mls_cli_place.specs.declared.tree_place.TreePlace.{TreePlace}
+use Rattle.mls_cli_place.specs.declared.tree_place.TreePlace.TheVariants as tree
 
 -- ---- the names of fields
 
@@ -107,3 +109,8 @@ path_text (step ∷ outer) = path_text outer ++ step_text (length outer == 0) st
 -- a place: a line of the offset, and one of the path
 abbrev pub place_text : Place → List ℕ
 place_text p = codes "offset: " ++ decimal p.offset ++ codes "\nfield: " ++ path_text p.path ++ codes "\n"
+
+-- a place in a tree: a line of its node or of its leaf
+abbrev pub tree_place_text : TreePlace → List ℕ
+tree_place_text (tree.Node x) = codes "node: " ++ decimal x ++ codes "\n"
+tree_place_text (tree.Leaf i) = codes "leaf: " ++ decimal i ++ codes "\n"

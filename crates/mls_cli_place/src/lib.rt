@@ -13,12 +13,16 @@ mod rules;
 mod step;
 mod text;
 mod tree;
+mod tree_place;
 mod vectors;
 
 pub use message::{place_of_message, place_of_tree};
 pub use place::{Path, Place};
 pub use rules::{first_incapable, first_misplaced, first_unfit, first_unsigned};
 pub use step::{GroupField, LeafField, MessageField, Step};
+pub use tree_place::TreePlace;
 
+#[cfg(test)]
+mod rule_tests;
 #[cfg(test)]
 mod tests;
