@@ -4,6 +4,7 @@ pub mod Tree
 pub mod Group
 pub mod Message
 pub mod Place
+pub mod File
 pub mod Text
 pub mod TextLaws
 pub mod TreePlace

@@ -26,15 +26,20 @@ whole_end (Err f) = Some f
 
 -- the first fault of an input, of which there is one just where it is refused: `TooLong` (6) is one of the whole
 abbrev pub first_fault : Walk → List ℕ → Option Found
-first_fault walk bytes = if nat_lt input_limit (length bytes) then Some (at_front bytes 6) else whole_end (walk bytes)
+first_fault walk bytes =
+    if nat_lt input_limit (length bytes) then Some (at_front bytes 6) else whole_end (walk bytes)
 
 -- of an MLSMessage (RFC 9420, 6)
 unfoldable pub place_in_message : List ℕ → Option Place
-place_in_message bytes = option_map (λ f. place_of (length bytes) (of_whole (Message message.MlsMessage) f)) (first_fault mls_message_walk bytes)
+place_in_message bytes =
+    option_map (λ f. place_of (length bytes) (of_whole (Message message.MlsMessage) f))
+    (first_fault mls_message_walk bytes)
 
 -- of a ratchet tree as it is sent (RFC 9420, 12.4.3.3): each fault is inside the tree
 unfoldable pub place_in_tree : List ℕ → Option Place
-place_in_tree bytes = option_map (λ f. place_of (length bytes) (enclosed_by (Group group.RatchetTree) f)) (first_fault ratchet_tree_walk bytes)
+place_in_tree bytes =
+    option_map (λ f. place_of (length bytes) (enclosed_by (Group group.RatchetTree) f))
+    (first_fault ratchet_tree_walk bytes)
 
 -- ---- what it has to do with decoding
 

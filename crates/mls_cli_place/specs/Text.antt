@@ -108,7 +108,8 @@ path_text (step ∷ outer) = path_text outer ++ step_text (length outer == 0) st
 
 -- a place: a line of the offset, and one of the path
 abbrev pub place_text : Place → List ℕ
-place_text p = codes "offset: " ++ decimal p.offset ++ codes "\nfield: " ++ path_text p.path ++ codes "\n"
+place_text p =
+    codes "offset: " ++ decimal p.offset ++ codes "\nfield: " ++ path_text p.path ++ codes "\n"
 
 -- a place in a tree: a line of its node or of its leaf
 abbrev pub tree_place_text : TreePlace → List ℕ

@@ -2,7 +2,6 @@
 use Rattle.std.specs.Prelude.{ℕ, zero, suc, List, Option, None, Some}
 use Rattle.std.specs.Int.{w8}
 use Rattle.mls_wire.specs.Reading.{uint_at}
-use Rattle.mls_wire.specs.Combine.{byte_string}
 use Rattle.mls_wire.specs.Stateful.{vector_from}
 use Rattle.mls_leaf.specs.ParentNode.{rising}
 use Rattle.mls_cli_place.specs.declared.place.Found.{Found}
@@ -10,17 +9,19 @@ use Rattle.mls_cli_place.specs.declared.step.GroupField.TheVariants as group
 use Rattle.mls_cli_place.specs.declared.step.LeafField.TheVariants as leaf
 use Rattle.mls_cli_place.specs.declared.step.Step.TheVariants.{Group, Leaf}
 use Rattle.mls_cli_place.specs.Leaf.{leaf_node_walk}
-use Rattle.mls_cli_place.specs.Walk.{◌▷◌, Walk, by_tag, case_of, enclosed_by, field, no_case, no_field, one, vector_of}
+use Rattle.mls_cli_place.specs.Walk.{◌▷◌, Walk, by_tag, case_of, enclosed_by, field, no_case, no_field, single, string_field, vector_of}
 
 -- (RFC 9420, 7.1) the unmerged leaves rise, else 13
 unfoldable pub parent_node_walk : Walk
 parent_node_walk =
-    field (Leaf leaf.EncryptionKey) (one byte_string.pass) ▷ field (Leaf leaf.ParentHash) (one byte_string.pass)
-    ▷ field (Group group.UnmergedLeaves) (one (vector_from rising 0).pass)
+    string_field (Leaf leaf.EncryptionKey) ▷ string_field (Leaf leaf.ParentHash)
+    ▷ single (Group group.UnmergedLeaves) (vector_from rising 0).pass
 
 -- (RFC 9420, 12.4.3.3) node_type: 1 leaf, 2 parent, else 7
 abbrev pub nodes : ℕ → Option Walk
-nodes t = case_of 1 (field (Leaf leaf.LeafNode) leaf_node_walk) (case_of 2 (field (Group group.ParentNode) parent_node_walk) no_case) t
+nodes t =
+    case_of 1 (field (Leaf leaf.LeafNode) leaf_node_walk)
+    (case_of 2 (field (Group group.ParentNode) parent_node_walk) no_case) t
 
 unfoldable pub node_walk : Walk
 node_walk bytes = by_tag (enclosed_by (Group group.NodeType)) 7 nodes bytes (uint_at w8 bytes)

@@ -15,7 +15,8 @@ AllBelow test n = (j : ℕ) → j < n → test j ≡ true
 
 -- the first number below n that fails a test: it fails, and none before it does; or none below n fails
 abbrev pub IsFirstFailing : (ℕ → Bool) → ℕ → Option ℕ → Type 0
-IsFirstFailing test n found = MatchOption found (AllBelow test n) (λ i. (i < n) × (test i ≡ false) × AllBelow test i)
+IsFirstFailing test n found =
+    MatchOption found (AllBelow test n) (λ i. (i < n) × (test i ≡ false) × AllBelow test i)
 
 -- ---- the tests, by the number of a leaf or of a node
 

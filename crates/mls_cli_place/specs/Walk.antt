@@ -1,5 +1,6 @@
 -- Where bytes that are refused have their first fault: how fields are read past, one behind the other (RFC 9420, 2.1).
 use Rattle.std.specs.Prelude.{◌≡◌, ℕ, zero, suc, ◌+◌, ◌==◌, nat_lt, if◌then◌else◌, List, [], ◌∷◌, ◌++◌, length, Option, Some, None, Result, Ok, Err}
+use Rattle.mls_wire.specs.Combine.{byte_string}
 use Rattle.mls_wire.specs.Reading.{opaque_at}
 use Rattle.mls_cli_place.specs.declared.place.Found.{Found}
 use Rattle.mls_cli_place.specs.declared.step.Step.{Step}
@@ -49,6 +50,14 @@ inside step (Err f) = Err (enclosed_by step f)
 abbrev pub field : Step → Walk → Walk
 field step walk bytes = inside step (walk bytes)
 
+-- a field that is read as one
+abbrev pub single : Step → (List ℕ → Result (List ℕ) ℕ) → Walk
+single step pass = field step (one pass)
+
+-- a byte string
+abbrev pub string_field : Step → Walk
+string_field step = single step byte_string.pass
+
 -- one behind the other: the first fault is answered
 abbrev pub followed : {A B : Type 0} → Result A Found → (A → Result B Found) → Result B Found
 followed (Ok x) walk = walk x
@@ -76,7 +85,8 @@ chosen unknown rest (Some walk) = walk rest
 chosen unknown rest None = Err unknown
 
 -- a tag, and what it calls for: a tag that isn't listed is this fault, where the tag begins
-abbrev pub by_tag : (Found → Found) → ℕ → (ℕ → Option Walk) → List ℕ → Result (ℕ × List ℕ) ℕ → Result (List ℕ) Found
+abbrev pub by_tag : (Found → Found) → ℕ → (ℕ → Option Walk) → List ℕ → Result (ℕ × List ℕ) ℕ
+    → Result (List ℕ) Found
 by_tag in_tag fault cases bytes (Ok t) = chosen (in_tag (at_front bytes fault)) t.1 (cases t.0)
 by_tag in_tag fault cases bytes (Err n) = Err (in_tag (at_front bytes n))
 
@@ -95,7 +105,8 @@ enclosed all bytes = followed (located bytes (opaque_at bytes)) (λ x. content_b
 abbrev pub items : Walk → ℕ → ℕ → List ℕ → Result (Unit {0}) Found
 items walk i fuel [] = Ok tt
 items walk i zero (b ∷ bytes) = Err (enclosed_by (Item i) (at_front (b ∷ bytes) 2))
-items walk i (suc fuel) (b ∷ bytes) = followed (inside (Item i) (walk (b ∷ bytes))) (items walk (i + 1) fuel)
+items walk i (suc fuel) (b ∷ bytes) =
+    followed (inside (Item i) (walk (b ∷ bytes))) (items walk (i + 1) fuel)
 
 abbrev pub all_items : Walk → List ℕ → Result (Unit {0}) Found
 all_items walk bytes = items walk 0 (length bytes) bytes

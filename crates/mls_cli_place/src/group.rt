@@ -121,7 +121,8 @@ impl Located for GroupContext {
 
 /// Reads past the extensions of a group info as a field.
 fn pass_extensions_field(reader: &mut Reader<'_>) -> Result<(), Found>
-    ensures { Walks (field (Step.Leaf LeafField.Extensions) group_info_extensions_walk) reader.old result reader.new }
+    ensures { Walks (field (Step.Leaf LeafField.Extensions) group_info_extensions_walk)
+        reader.old result reader.new }
 {
     match pass_info_extensions(reader) {
         Ok(()) => Ok(()),

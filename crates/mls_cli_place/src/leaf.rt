@@ -3,7 +3,7 @@
 ghost use Rattle.mls_leaf.specs.Leaf.{uint16s};
 ghost use Rattle.mls_cli_place.specs.Leaf.{capabilities_walk, credential_walk, key_package_walk, leaf_node_walk, leaf_source_walk, lifetime_walk, proposal_walk};
 ghost use Rattle.mls_cli_place.specs.LeafFinding.{capabilities_finds, credential_finds, key_package_finds, leaf_node_finds, leaf_source_finds, proposal_finds};
-ghost use Rattle.mls_cli_place.specs.Walk.{Walks, field, one};
+ghost use Rattle.mls_cli_place.specs.Walk.{Walks, single};
 
 use crate::located::{Located, pass_field, pass_mark_field, pass_no_extensions, pass_one};
 use crate::place::Found;
@@ -29,7 +29,7 @@ impl Located for Credential {
 
 /// Reads past a list of numbers as one field.
 fn pass_numbers(reader: &mut Reader<'_>, name: LeafField) -> Result<(), Found>
-    ensures { Walks (field (Step.Leaf name) (one uint16s.pass)) reader.old result reader.new }
+    ensures { Walks (single (Step.Leaf name) uint16s.pass) reader.old result reader.new }
 {
     match pass_one::<Items<u16>>(reader) {
         Ok(()) => Ok(()),

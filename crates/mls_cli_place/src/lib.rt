@@ -3,6 +3,7 @@
 #![tactic(auto)]
 
 mod commit;
+mod file;
 mod group;
 mod leaf;
 mod located;
@@ -16,6 +17,7 @@ mod tree;
 mod tree_place;
 mod vectors;
 
+pub use file::{Whole, place_of_file};
 pub use message::{place_of_message, place_of_tree};
 pub use place::{Path, Place};
 pub use rules::{first_incapable, first_misplaced, first_unfit, first_unsigned};

@@ -6,7 +6,7 @@ ghost use Rattle.mls_wire.specs.Reading.{empty_at, mark_at};
 ghost use Rattle.mls_leaf.specs.Faults.{number_of};
 ghost use Rattle.mls_leaf.specs.GroupExtensions.{group_extensions};
 ghost use Rattle.mls_cli_place.specs.Finding.{Finds, finds_one};
-ghost use Rattle.mls_cli_place.specs.Walk.{Walk, Walks, field, one};
+ghost use Rattle.mls_cli_place.specs.Walk.{Walk, Walks, field, one, single};
 
 use crate::place::Found;
 use crate::step::Step;
@@ -54,7 +54,8 @@ pub(crate) fn pass_mark_field(
     mark: u16,
     error: LeafError,
 ) -> Result<(), Found>
-    ensures { Walks (field step (one (mark_at w16 mark (number_of error)))) reader.old result reader.new }
+    ensures { Walks (single step (mark_at w16 mark (number_of error)))
+        reader.old result reader.new }
 {
     let left = reader.rest().len();
     match pass_mark(reader, mark, error) {
@@ -65,7 +66,7 @@ pub(crate) fn pass_mark_field(
 
 /// Reads past a list of extensions that is empty, else `ExtensionNotAllowed` (14) is answered.
 pub(crate) fn pass_no_extensions(reader: &mut Reader<'_>, step: Step) -> Result<(), Found>
-    ensures { Walks (field step (one (empty_at 14))) reader.old result reader.new }
+    ensures { Walks (single step (empty_at 14)) reader.old result reader.new }
 {
     let left = reader.rest().len();
     match pass_empty(reader, LeafError::ExtensionNotAllowed) {

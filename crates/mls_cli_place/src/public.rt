@@ -62,7 +62,8 @@ fn pass_tag(reader: &mut Reader<'_>) -> Result<(), Found>
 
 /// Reads past a content and its signature.
 fn pass_signed<T: Located>(reader: &mut Reader<'_>, name: MessageField) -> Result<(), Found>
-    ensures { Walks (in_content (field (Step.Message name) T.walk) ▷ signature_walk) reader.old result reader.new }
+    ensures { Walks (in_content (field (Step.Message name) T.walk) ▷ signature_walk)
+        reader.old result reader.new }
 {
     pass_in_content::<T>(reader, name)?;
     pass_signature(reader)
@@ -70,7 +71,8 @@ fn pass_signed<T: Located>(reader: &mut Reader<'_>, name: MessageField) -> Resul
 
 /// Reads past a commit, its signature and its confirmation tag.
 fn pass_commit(reader: &mut Reader<'_>) -> Result<(), Found>
-    ensures { Walks (in_content (field (Step.Message MessageField.Commit) commit_walk) ▷ signature_walk ▷ tag_walk) reader.old result reader.new }
+    ensures { Walks (in_content (field (Step.Message MessageField.Commit) commit_walk)
+        ▷ signature_walk ▷ tag_walk) reader.old result reader.new }
 {
     pass_in_content::<Commit>(reader, MessageField::Commit)?;
     pass_signature(reader)?;
@@ -94,7 +96,8 @@ fn pass_tail(reader: &mut Reader<'_>) -> Result<(), Found>
 
 /// A fault of the content's type, where so many bytes are left.
 fn unknown_content(left: usize, error: LeafError) -> Found
-    ensures { result ≡ in_content_type (record { left = left; path = []; fault = number_of error }) }
+    ensures { result
+        ≡ in_content_type (record { left = left; path = []; fault = number_of error }) }
 {
     let found = Found::at(left, error).inside(Step::Message(MessageField::ContentType));
     found.inside(Step::Message(MessageField::Content))

@@ -32,7 +32,8 @@ fn is_signed_or_blank<S: Suite>(
 ) -> Result<bool, AllocError>
     requires short { IfSome (option_copied leaf) (λ v. IsShort leaf_node v) }
     requires group { length group_id.now < 2 ^ 28 }
-    ensures { IfOk result (λ b. b ≡ passes (is_signed S.crypto group_id.now) index (option_copied leaf.entry)) }
+    ensures { IfOk result (λ b. b
+        ≡ passes (is_signed S.crypto group_id.now) index (option_copied leaf.entry)) }
 {
     match leaf {
         Some(leaf) => leaf_signed::<S>(alloc, leaf, group_id, index),
@@ -91,7 +92,8 @@ fn is_capable_or_blank(leaf: Option<&LeafNode>, suite: u16, index: u32) -> bool
 /// The first leaf that lacks a capability.
 #[tactic(auto, using(crate::proofs::Firsts::firsts))]
 fn incapable_leaf(tree: &PublicTree, suite: u16) -> Option<u32>
-    ensures { IsFirstFailing (leaf_is_capable suite (term tree.now)) (width (term tree.now)) result }
+    ensures { IsFirstFailing
+        (leaf_is_capable suite (term tree.now)) (width (term tree.now)) result }
 {
     for i in 0..tree.leaf_count() {
         if !is_capable_or_blank(tree.leaf(i), suite, i) {

@@ -1,16 +1,9 @@
 //! Where changed and cut inputs have their first fault.
 
 use super::*;
-use mls_cli_text::Printed;
+use mls_cli_text::{Form, Printed};
 use std::alloc::{AllocError, Global};
 use std::test::Fail;
-
-/// What the bytes of a text in hex spell.
-#[derive(Clone, Copy, Debug, PartialEq, Eq)]
-enum Whole {
-    Message,
-    Tree,
-}
 
 /// A public message with a commit: an add, a reference, an update, a removal, extensions, and a path of two nodes.
 const COMMIT: &str =
@@ -440,6 +433,24 @@ fn places_at_the_ends(rt: HostRuntime) -> Result<(), Fail> {
         let bytes = hex::decode(alloc, input)?;
         let text = place_line(alloc, whole, bytes.as_slice())?;
         assert_eq!(rt; text.as_str(), wanted, "for {input}");
+    }
+    Ok(())
+}
+
+#[test]
+fn finds_places_in_files(rt: HostRuntime) -> Result<(), Fail> {
+    let alloc = rt.alloc();
+    let table = [
+        (Form::Hex, b" 0001\n".as_slice(), "Some(2)"),
+        (Form::Hex, b"00 01".as_slice(), "None"),
+        (Form::Raw, b"\0\x01\0".as_slice(), "Some(2)"),
+        (Form::Raw, b"0001".as_slice(), "Some(0)"),
+    ];
+    for (form, file, wanted) in table {
+        let place = place_of_file(alloc, Whole::Message, form, file)?;
+        let offset = place.map(|found| found.offset);
+        let text = format!(in alloc; "{offset:?}")?;
+        assert_eq!(rt; text.as_str(), wanted);
     }
     Ok(())
 }
