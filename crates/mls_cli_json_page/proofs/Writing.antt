@@ -1,5 +1,5 @@
 -- Tokens that are written behind others.
-use Rattle.std.proofs.Common.{◌≡◌, ◌∙◌, ◌+◌, ◌++◌, ℕ, List, [], ◌∷◌, None, Unit, Result, Ok, Err, ap, subst, slice_get, append_assoc}
+use Rattle.std.proofs.Common.{◌≡◌, ◌∙◌, ◌+◌, ◌++◌, ℕ, List, [], ◌∷◌, None, Result, Ok, Err, ap, subst, slice_get, append_assoc}
 use Rattle.json.specs.Token.{Token}
 use Rattle.json.specs.Written.{Writes, Written}
 use Rattle.mls_cli_text.specs.Text.{Entry}
