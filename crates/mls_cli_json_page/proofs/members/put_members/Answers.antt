@@ -21,5 +21,5 @@ pub returns : goal.returns
 unfolding members
 returns c =
     let es = map entry_of c.args.lines.now in
-    let end : c.loop-number.number ≡ length es = omega (arith, length-map entry_of c.args.lines.now, c.loop-number-test.false, c.loop-number.auto.number-end) in
+    let end : c.loop-number.number ≡ length es = omega (arith, length-map c.args.lines.now entry_of, c.loop-number-test.false, c.loop-number.auto.number-end) in
     (c.loop-number.invariant.0 ∙ ap (λ (n : ℕ). c.args.writer.now.tokens ++ flat_map (member_at es) (range_with_len 0 n)) end, c.loop-number.invariant.1)
