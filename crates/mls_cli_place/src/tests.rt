@@ -339,7 +339,9 @@ fn changed_places(alloc: Global, whole: Whole, hex_text: &str) -> Result<String,
     let mut last = String::new(alloc);
     for index in 0..bytes.len() {
         let mut changed = Vec::from_slice(alloc, bytes.as_slice())?;
-        changed[index] = 0xFF;
+        if let Some(byte) = changed.get_mut(index) {
+            *byte = 0xFF;
+        }
         let line = place_line(alloc, whole, changed.as_slice())?;
         add_line(alloc, &mut text, &mut last, index, line)?;
     }
