@@ -14,13 +14,13 @@ fn byte(alloc: Global, b: u8) -> Result<Bytes, AllocError> {
     Ok(Bytes::from_slice(alloc, &[b])?)
 }
 
-/// A leaf with these bytes as its keys.
-fn leaf(alloc: Global, key: u8, signature_key: u8) -> Result<Slot, AllocError> {
+/// A leaf with these keys.
+fn leaf_of(alloc: Global, key: &[u8], signature_key: u8) -> Result<Slot, AllocError> {
     let leaf = LeafNode {
-        encryption_key: byte(alloc, key)?,
+        encryption_key: Bytes::from_slice(alloc, key)?,
         signature_key: byte(alloc, signature_key)?,
         credential: Credential {
-            identity: byte(alloc, key)?,
+            identity: Bytes::from_slice(alloc, key)?,
         },
         capabilities: Capabilities {
             versions: Items::from_vec(Vec::new(alloc)),
@@ -30,9 +30,14 @@ fn leaf(alloc: Global, key: u8, signature_key: u8) -> Result<Slot, AllocError> {
             credentials: Items::from_vec(Vec::new(alloc)),
         },
         source: LeafSource::Update,
-        signature: byte(alloc, key)?,
+        signature: byte(alloc, signature_key)?,
     };
     Slot::of(alloc, Node::Leaf(leaf))
+}
+
+/// A leaf with these bytes as its keys.
+fn leaf(alloc: Global, key: u8, signature_key: u8) -> Result<Slot, AllocError> {
+    leaf_of(alloc, &[key], signature_key)
 }
 
 /// A parent with this byte as its key.
@@ -55,14 +60,14 @@ fn cells(alloc: Global) -> Result<Vec<Slot>, AllocError> {
     Ok(cells)
 }
 
-/// The index of a hundred cells at most.
+/// The index of two thousand cells at most.
 fn index(
     rt: &impl Abort,
     alloc: Global,
     kind: KeyKind,
     cells: &[Slot],
 ) -> Result<Index, AllocError> {
-    assert!(rt; cells.len() <= 100);
+    assert!(rt; cells.len() <= 2000);
     Index::build(alloc, kind, cells)
 }
 
@@ -349,5 +354,70 @@ fn enters_many_of_one_key(rt: HostRuntime) -> Result<(), Fail> {
     index.leave_all(&cells, &at(7));
     assert!(rt; finds(&index, &cells, &[10, 20, 30, 50, 60, 70]));
     assert!(rt; index.are_distinct());
+    Ok(())
+}
+
+/// So many leaves, each with a key of two bytes.
+fn many(alloc: Global, count: u16) -> Result<Vec<Slot>, AllocError> {
+    let mut cells = Vec::new(alloc);
+    for k in 0..count {
+        cells.push(leaf_of(alloc, &k.wrapping_mul(7919).to_be_bytes(), 1)?)?;
+    }
+    Ok(cells)
+}
+
+/// How many of so many leaves an index finds.
+fn count_found(index: &Index, cells: &[Slot], count: u16) -> usize {
+    let mut found = 0;
+    for k in 0..count {
+        if index.holds(cells, &k.wrapping_mul(7919).to_be_bytes()) {
+            found += 1;
+        }
+    }
+    found
+}
+
+#[test]
+fn keeps_many_in_blocks(rt: HostRuntime) -> Result<(), Fail> {
+    let alloc = rt.alloc();
+    let cells = many(alloc, 1500)?;
+    let mut index = index(&rt, alloc, KeyKind::Encryption, &cells)?;
+    assert_eq!(rt; count_found(&index, &cells, 1500), 1500);
+    let copy = index.clone()?;
+    for x in 0..1400 {
+        index.leave(&cells, x);
+    }
+    assert_eq!(rt; count_found(&index, &cells, 1500), 100);
+    for x in 0..1400 {
+        index.reserve(1)?;
+        index.enter(&cells, x);
+    }
+    assert_eq!(rt; count_found(&index, &cells, 1500), 1500);
+    assert!(rt; index.are_distinct());
+    for x in 0..1500 {
+        index.leave(&cells, x);
+    }
+    assert_eq!(rt; count_found(&index, &cells, 1500), 0);
+    assert_eq!(rt; count_found(&copy, &cells, 1500), 1500);
+    Ok(())
+}
+
+#[test]
+fn counts_a_key_in_many_blocks(rt: HostRuntime) -> Result<(), Fail> {
+    let alloc = rt.alloc();
+    let mut cells = Vec::new(alloc);
+    for _ in 0..1100 {
+        cells.push(leaf(alloc, 9, 1)?)?;
+    }
+    let mut index = index(&rt, alloc, KeyKind::Encryption, &cells)?;
+    for x in 0..1099 {
+        assert!(rt; !index.are_distinct());
+        index.leave(&cells, x);
+    }
+    assert!(rt; index.are_distinct());
+    assert!(rt; index.holds(&cells, &[9]));
+    index.reserve(1)?;
+    index.enter(&cells, 0);
+    assert!(rt; !index.are_distinct());
     Ok(())
 }
