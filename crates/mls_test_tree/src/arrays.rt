@@ -3,7 +3,7 @@ ghost use Rattle.mls_treemath.specs.Paths.{nodes_in};
 
 use mls_leaf::{Codec, LeafError, LeafNode, Node, ParentNode};
 use mls_tree_array::{
-    alternates, filtered_path, first_blank, has_last, has_leaf, height_for, is_reached,
+    Subtree, alternates, filtered_path, first_blank, has_last, has_leaf, height_for, is_reached,
     is_reached_at, leaf, member_count, pad, resolution, resolution_at, to_nodes,
 };
 use mls_tree_slot::Slot;
@@ -47,26 +47,28 @@ fn example(alloc: Global) -> Result<Vec<Slot>, LeafError>
 #[test]
 fn resolutions_of_the_example(rt: HostRuntime) -> Result<(), Fail> {
     let nodes = example(rt.alloc())?;
+    let tree = Subtree::of(&nodes, 3);
     let mut out = Vec::new(rt.alloc());
-    resolution(&nodes, 3, 0, &mut out)?;
+    resolution(&tree, &mut out)?;
     assert_eq!(rt; out.as_slice(), [3, 2, 9, 14].as_slice());
     out.clear();
-    resolution_at(&nodes, 3, 0, 3, &mut out)?;
-    resolution_at(&nodes, 3, 0, 4, &mut out)?;
-    resolution_at(&nodes, 3, 0, 15, &mut out)?;
+    resolution_at(&tree, 3, &mut out)?;
+    resolution_at(&tree, 4, &mut out)?;
+    resolution_at(&tree, 15, &mut out)?;
     assert_eq!(rt; out.as_slice(), [3, 2].as_slice());
-    assert!(rt; is_reached_at(&nodes, 3, 0, 3));
-    assert!(rt; !is_reached_at(&nodes, 3, 0, 4));
-    assert!(rt; !is_reached_at(&nodes, 3, 0, 15));
+    assert!(rt; is_reached_at(&tree, 3));
+    assert!(rt; !is_reached_at(&tree, 4));
+    assert!(rt; !is_reached_at(&tree, 15));
     Ok(())
 }
 
 #[test]
 fn paths_of_the_example(rt: HostRuntime) -> Result<(), Fail> {
     let nodes = example(rt.alloc())?;
+    let tree = Subtree::of(&nodes, 3);
     let mut out = Vec::new(rt.alloc());
     for leaf in [0, 3, 7] {
-        filtered_path(&nodes, 3, 0, leaf, &mut out)?;
+        filtered_path(&tree, leaf, &mut out)?;
     }
     assert_eq!(rt; out.as_slice(), [1, 3, 7, 3, 7, 11, 7].as_slice());
     Ok(())
@@ -75,10 +77,11 @@ fn paths_of_the_example(rt: HostRuntime) -> Result<(), Fail> {
 #[test]
 fn members_of_the_example(rt: HostRuntime) -> Result<(), Fail> {
     let nodes = example(rt.alloc())?;
-    assert_eq!(rt; first_blank(&nodes, 3, 0, 0), Some(2));
+    let tree = Subtree::of(&nodes, 3);
+    assert_eq!(rt; first_blank(&tree, 0), Some(2));
     assert!(rt; has_leaf(&nodes, 3));
-    assert!(rt; is_reached(&nodes, 3));
-    assert_eq!(rt; member_count(&nodes, 3), 6);
+    assert!(rt; is_reached(&tree));
+    assert_eq!(rt; member_count(&tree), 6);
     for (i, taken) in [(0, true), (2, false), (7, true), (8, false)] {
         assert_eq!(rt; leaf(&nodes, 3, i).is_some(), taken, "at {i}");
     }
