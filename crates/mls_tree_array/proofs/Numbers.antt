@@ -1,5 +1,5 @@
 -- The subtree whose root has a number, and what is read of it.
-use Rattle.std.proofs.Common.{◌≡◌, ℕ, ◌+◌, ◌*◌, ◌==◌, ◌<◌, nat_lt, Bool, true, false, cond, List, [], Option, Some, None, refl, sym, ◌∙◌, ap}
+use Rattle.std.proofs.Common.{◌≡◌, ℕ, ◌+◌, ◌*◌, ◌==◌, ◌<◌, nat_lt, Bool, true, false, cond, List, [], Option, Some, None, refl, sym, ◌∙◌, ap, arith}
 use Rattle.mls_leaf.specs.Parent.{Parent}
 use Rattle.mls_leaf.specs.declared.leaf.LeafNode.{LeafNode}
 use Rattle.mls_tree_model.specs.Node.{leaf_parent_hash, own_parent_hash}
@@ -14,14 +14,14 @@ abbrev found : ℕ → Term → Option Subtree
 found b t = Some (record { first = b; term = t })
 
 at_root : (b : ℕ) (t : Term) → at_node None found b t (root_number b t) ≡ found b t
-at_root b (Leaf v) = at_node_leaf b v None found (2 * b) refl
+at_root b (Leaf v) = let own : 2 * b + 0 ≡ 2 * b = omega arith in at_node_leaf b v None found (2 * b + 0) own
 at_root b (Branch c l r) = at_node_here None found b c l r (2 * b + size l) refl
 
 pub at_own : (t : Subtree) (x : ℕ) → x ≡ root_number t.first t.term → Some t ≡ subtree_at t.first t.term x
 at_own t x is = sym (ap (at_node None found t.first t.term) is ∙ at_root t.first t.term)
 
 pub at_no_leaf : (t : Subtree) (v : Option LeafNode) (x : ℕ) → t.term ≡ Leaf v → (x ≡ root_number t.first t.term → ⊥) → None ≡ subtree_at t.first t.term x
-at_no_leaf t v x is off = rw is (sym (at_node_no_leaf t.first v None found x (λ e. off (rw is e))))
+at_no_leaf t v x is off = rw is (sym (at_node_no_leaf t.first v None found x (λ e. off (rw is (let own : x ≡ 2 * t.first + 0 = omega arith in own)))))
 
 module _ (t l : Subtree) (c : Option Parent) (r : Subtree) (over : IsOver t l c r) (x : ℕ) where
   pub at_left : x < root_number t.first t.term → subtree_at t.first t.term x ≡ subtree_at l.first l.term x

@@ -15,7 +15,7 @@ returns-then-leaf-first-2 c =
     rw (in_left c.args.left.now.first c.args.leaf c.args.left.now.term c.args.right.now.term (omega arith) (omega arith))
     c.is_listed.ensures
 
-pub returns-else-leaf-first-2 : goal.returns-else-leaf-first-2
-returns-else-leaf-first-2 c =
+pub returns : goal.returns
+returns c =
     rw (in_right c.args.left.now.first c.args.leaf c.args.left.now.term c.args.right.now.term (omega arith) (omega arith), ← c.requires)
     c.is_listed-2.ensures

@@ -6,8 +6,8 @@ use Rattle.mls_tree_array.proofs.validity.is_valid.Goals as goal
 pub returns-then-branch : goal.returns-then-branch
 returns-then-branch c = rw (valid_by c.args.parent.now c.args.left.now c.args.right.now c.requires.middle, ← c.in_ok-has_witness.ensures, c.if-branch.true) refl
 
-pub returns-else-branch : goal.returns-else-branch
-returns-else-branch c =
+pub returns : goal.returns
+returns c =
     ok_map
     (λ v. v ≡ has_witness c.args.parent.now c.args.right.now.first c.args.right.now.term c.args.left.now.first c.args.left.now.term)
     (λ v. v ≡ is_parent_hash_valid c.args.left.now.first c.args.parent.now c.args.left.now.term c.args.right.now.term)

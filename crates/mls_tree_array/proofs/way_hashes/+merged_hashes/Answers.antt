@@ -2,7 +2,7 @@ use Rattle.std.proofs.Common.{ap, ◌∙◌, ◌++◌, ◌∷◌, []}
 use Rattle.mls_tree_model.proofs.Equations.{height_leaf}
 use Rattle.mls_tree_array.proofs.WayHashes.{made_one, made_in_left, made_in_right}
 use Rattle.mls_tree_array.proofs.way_hashes.+merged_hashes.Goals as goal
-use Rattle.mls_tree_array.proofs.way_hashes.+merged_hashes.Goals.{then-i-first+in_ok-side, else-i-first+in_ok-side-2}
+use Rattle.mls_tree_array.proofs.way_hashes.+merged_hashes.Goals.{then-i-first+in_ok-side-in-Branch, else-i-first+in_ok-side-in-Branch-2}
 
 pub returns-in_ok-push-in-Leaf-clause-hashes : goal.returns-in_ok-push-in-Leaf-clause-hashes
 returns-in_ok-push-in-Leaf-clause-hashes t c =
@@ -11,8 +11,8 @@ returns-in_ok-push-in-Leaf-clause-hashes t c =
 pub returns-in_ok-push-in-Branch-clause-hashes : goal.returns-in_ok-push-in-Branch-clause-hashes
 returns-in_ok-push-in-Branch-clause-hashes t c =
     elim c.if-i-first.branch [
-      | then-i-first+in_ok-side w ↦ made_in_left c.args.tree.now c.in-Branch.left _ c.in-Branch.right c.in-Branch.ensures c.args.i c.args.parents.now _ c.args.leaf.now _ _ _ _ _ _ _ _ w.next_parent.ensures.parent w.next_parent.ensures.rest (c.in_ok-push-in-Branch.ensures.items ∙ ap (λ v. v.items ++ (c.if-i-first.hash ∷ [])) w.out-is) (rw c.first-in-Branch.ensures at w.if-i-first.true) w.is_reached.ensures w.hash.ensures w.in_ok-side.ensures.hashes (w.hash-is ∙ w.branch_hash-hash.ensures.hash)
-      | else-i-first+in_ok-side-2 w ↦ made_in_right c.args.tree.now c.in-Branch.left _ c.in-Branch.right c.in-Branch.ensures c.args.i c.args.parents.now _ c.args.leaf.now _ _ _ _ _ _ _ _ w.next_parent-else-i-first.ensures.parent w.next_parent-else-i-first.ensures.rest (c.in_ok-push-in-Branch.ensures.items ∙ ap (λ v. v.items ++ (c.if-i-first.hash ∷ [])) w.out-is) (rw c.first-in-Branch.ensures at w.if-i-first.false) w.is_reached-else-i-first.ensures w.hash-else-i-first.ensures w.in_ok-side-2.ensures.hashes (w.hash-is ∙ w.branch_hash-hash-else-i-first.ensures.hash)
+      | then-i-first+in_ok-side-in-Branch w ↦ made_in_left c.args.tree.now c.in-Branch.left _ c.in-Branch.right c.in-Branch.ensures c.args.i c.args.parents.now _ c.args.leaf.now _ _ _ _ _ _ _ _ w.next_parent.ensures.parent w.next_parent.ensures.rest (c.in_ok-push-in-Branch.ensures.items ∙ ap (λ v. v.items ++ (c.if-i-first.hash ∷ [])) w.out-is) (rw c.first-in-Branch.ensures at w.if-i-first.true) w.is_reached.ensures w.hash.ensures w.in_ok-side-in-Branch.ensures.hashes (w.hash-is ∙ w.branch_hash-hash.ensures.hash)
+      | else-i-first+in_ok-side-in-Branch-2 w ↦ made_in_right c.args.tree.now c.in-Branch.left _ c.in-Branch.right c.in-Branch.ensures c.args.i c.args.parents.now _ c.args.leaf.now _ _ _ _ _ _ _ _ w.next_parent-else-i-first.ensures.parent w.next_parent-else-i-first.ensures.rest (c.in_ok-push-in-Branch.ensures.items ∙ ap (λ v. v.items ++ (c.if-i-first.hash ∷ [])) w.out-is) (rw c.first-in-Branch.ensures at w.if-i-first.false) w.is_reached-else-i-first.ensures w.hash-else-i-first.ensures w.in_ok-side-in-Branch-2.ensures.hashes (w.hash-is ∙ w.branch_hash-hash-else-i-first.ensures.hash)
     ]
 
 pub returns-in_ok-push-in-Leaf-clause-counted : goal.returns-in_ok-push-in-Leaf-clause-counted
